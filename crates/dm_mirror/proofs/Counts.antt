@@ -9,7 +9,7 @@ use Rattle.dm_rule.proofs.Names.{Part}
 use Rattle.dm_rule.specs.Migrating.{tells_asker}
 use Rattle.dm_mirror.proofs.Counts.AtEnds.{BearEnds, Ends, PutsOne, Under, bear_ends, ends, ends_before, own_puts, routes_next, under_more, under_within, Bears, FrontRestarts, Pays, Restarts, Sort, SortIf, outcome_sort}
 use Rattle.dm_mirror.proofs.Counts.Pairs.{within_group, OwnFew, PairsWithin, own_group, line_still, CountsFew}
-use Rattle.dm_mirror.proofs.Counts.Waiting.{Routed, routed_group, routed_start, waiting_few, first_count, moves_start, own_start, pairs_start, under_start, MovesFew, moves_put, moves_restart, moves_still}
+use Rattle.dm_mirror.proofs.Counts.Waiting.{Routed, routed_group, routed_start, waiting_few, first_count, moves_start, pairs_start, under_start, MovesFew, moves_put, moves_restart, moves_still}
 use Rattle.dm_mirror.proofs.Machines.{few_machines, machines_group, some_machine}
 use Rattle.dm_mirror.proofs.Raises.{sent_of}
 use Rattle.dm_mirror.proofs.RaisesMade.{move_answered_raises}
@@ -136,7 +136,8 @@ few_group b pt d w n some machines fit is run after h =
     record { within = within; own = own_group n b pt d w is h.own; under = r.under; moves = r.moves; routed = routed_group b pt d w is h.routed }
 
 few_start : (b : Boot) (n : ℕ) → IsValid b → Few n (first_point b)
-few_start b n valid = record { within = pairs_start b n; own = own_start b n; under = under_start b n valid; moves = moves_start b n; routed = routed_start b }
+few_start b n valid =
+    record { within = pairs_start b n; own = λ within m. omega arith; under = under_start b n valid; moves = moves_start b n; routed = routed_start b }
 
 few_on : RunGoes → (b : Boot) (es : List Step) (pt end : Point) (n : ℕ) → IsValid b → 0 < n → pt.kernel.machines ≡ n → Leads b pt es end → Both b pt → Few n pt → Few n end
 few_on goes b [] pt end n valid some machines leads both h = subst (Few n) leads h
@@ -155,18 +156,16 @@ pending_few from [] to e = grind (arith, nat_tests)
 pending_few from (r ∷ rs) to e =
     let k = both (nat_le from r.n) (ascends (r.n + 1) rs to) e in
     let le : from ≤ r.n = (let t = k.0 in grind (arith, nat_tests)) in
-    let rest = pending_few (r.n + 1) rs to k.1 in
-    omega (arith, le, rest)
+    omega (arith, le, pending_few (r.n + 1) rs to k.1)
 
 -- where no pair counts more messages than it may, no count is too great
 pub counts_by : (b : Boot) (pt : Point) → IsValid b → Run b pt → Few (length b.machines) pt → ((a c : ℕ) → length (pt.view.pair a c).ids ≤ b.numbers) → CountsFew pt
 counts_by b pt valid run h counts =
     let n = length b.machines in
     let under = h.under in
-    let few = few_machines b valid in
     let numbers = valid.most_numbers in
     let most : b.numbers ≤ 1048576 = grind (arith, nat_tests) in
-    let all = total_most pt.view n few (λ a c. let k = counts a c in omega (arith, k, most)) in
+    let all = total_most pt.view n (few_machines b valid) (λ a c. let k = counts a c in omega (arith, k, most)) in
     let board = under.board in
     let manager = under.manager in
     let children = under.children in

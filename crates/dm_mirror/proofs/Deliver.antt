@@ -10,15 +10,15 @@ use Rattle.dm_mirror.proofs.Names.{Spelled, spelled, Point, moved, behind, kept_
 use Rattle.dm_mirror.proofs.Names.{load_of, GoesOn, IsNet, arrives_net}
 use Rattle.dm_rule.proofs.Names.{Part}
 use Rattle.dm_stream.specs.Packets.{Load}
+use Rattle.dm_mirror.proofs.Deliver.Moves.{back_pair, there_pair}
+use Rattle.dm_mirror.proofs.Deliver.Goes.{Comes, acked_comes, early_comes, old_comes, taken_comes, IsReadAs, ReadsAs, bytes_are, bytes_for, lines_are, load_is, reads_ack, Same, arrives_sent, counts_on, net_same, few}
+use Rattle.dm_mirror.proofs.Deliver.Events.{PairIs, ends_of, stream_with}
+use Rattle.dm_mirror.proofs.Deliver.Outs.{begun, nothing_stands}
 use Rattle.dm_stream.specs.Packets as stream
 use Rattle.dm_line.specs.declared.line.Load.TheVariants as load
 use Rattle.dm_rule.specs.Rule as group
 use Rattle.dm_node.specs.Acts as node
 use Rattle.dm_node.specs.Out as out
-use Rattle.dm_mirror.proofs.Deliver.Moves.{back_pair, there_pair}
-use Rattle.dm_mirror.proofs.Deliver.Goes.{Comes, acked_comes, early_comes, old_comes, taken_comes, IsReadAs, ReadsAs, bytes_are, bytes_for, lines_are, load_is, reads_ack, Same, arrives_sent, counts_on, net_same, few}
-use Rattle.dm_mirror.proofs.Deliver.Events.{PairIs, ends_of, stream_with}
-use Rattle.dm_mirror.proofs.Deliver.Outs.{begun, nothing_stands}
 
 module _ (b : Boot) (w : WorldState) (pt : Point) (l : Placed) (h : History) (a c k : ℕ) (s : StandsWith b w pt l h) (counted : CountsStand w pt) (a_in : a < pt.kernel.machines) (c_in : c < pt.kernel.machines) (apart : a ≢ c) where
   there : PairIs b l a c (ends_of w h a c) (w.wires a c) (pt.view.pair a c)
@@ -166,11 +166,7 @@ module _ (b : Boot) (w : WorldState) (pt : Point) (l : Placed) (h : History) (a 
       may_read p (Data n m) (Packet.Data a c n x.message) is loads x.read (
         refl,
         (
-          record {
-            acts = acts;
-            from = (low_a, λ same. apart (same ∙ (s.nodes c c_in).kernel.here));
-            fits = (come.in_window k n m e, come.numbered k n m e);
-          },
+          record { acts = acts; from = (low_a, λ same. apart (same ∙ (s.nodes c c_in).kernel.here)); fits = (come.in_window k n m e, come.numbered k n m e) },
           sym (s.nodes c c_in).kernel.here,
         ),
       )
@@ -180,11 +176,7 @@ module _ (b : Boot) (w : WorldState) (pt : Point) (l : Placed) (h : History) (a 
       may_read p (Ack n) (Packet.Ack a c n) is loads (reads_ack a c n low_a low_c apart (small_ack b w pt l h a c k s counted a_in c_in apart n e)) (
         refl,
         (
-          record {
-            acts = acts;
-            from = (low_a, λ same. apart (same ∙ (s.nodes c c_in).kernel.here));
-            fits = come.ack k n e;
-          },
+          record { acts = acts; from = (low_a, λ same. apart (same ∙ (s.nodes c c_in).kernel.here)); fits = come.ack k n e },
           sym (s.nodes c c_in).kernel.here,
         ),
       )

@@ -29,15 +29,7 @@ leads_last b (d ∷ ds) pt mid e v (w, first, group, rest) fit is = (w, first, g
 
 pub run_last : (b : Boot) (gs : List (List Line)) (pt end : Point) (t left : Todo) (n : Next) (v : Spelled) (g : List Line) → IsRun b pt t gs end left → next_step end.kernel.machines end.view left ≡ Some n → group_of b end n.step ≡ Some v → v.lines ≡ g → IsKept b v.point
     → IsRun b pt t (gs ++ g ∷ []) v.point n.left
-run_last b [] pt end t left n v g (e, f) next is lines kept = (
-  n,
-  v,
-  ap (λ (q : Point). next_step q.kernel.machines q.view t) e ∙ (ap (next_step end.kernel.machines end.view) f ∙ next),
-  ap (λ (q : Point). group_of b q n.step) e ∙ is,
-  lines,
-  kept,
-  (refl, refl),
-)
+run_last b [] pt end t left n v g (e, f) next is lines kept = grind (arith, nat_tests, end.kernel.machines, end.view, n.step)
 run_last b (h ∷ hs) pt end t left n v g (m, w, first, group, said, stands, rest) next is lines kept = (m, w, first, group, said, stands, run_last b hs w.point end m.left left n v g rest next is lines kept)
 
 joined_last : (gs : List (List Line)) (g : List Line) → joined (gs ++ g ∷ []) ≡ joined gs ++ g

@@ -16,9 +16,6 @@ use Rattle.dm_mirror.proofs.Outs.{IsFrom, ActsFrom, acts_from, tick_from, arrive
 abbrev pub KernelStays : Type 0
 KernelStays = (b : Boot) (k : KernelState) (t : Turned) → kernel.turn b k ≡ Some t → t.state.here ≡ k.here
 
-says_same : (s t : Said) → Some (Says s) ≡ Some (Says t) → s ≡ t
-says_same s t e = cc
-
 -- what an event of machine m gives to the world
 acted_puts : (w : WorldState) (e : Step) (m : ℕ) (d : Acted) → IsFrom m d → PutsFrom m (λ c. packets_to c d.outs) w (acted w e m d).state
 acted_puts w e m d h = record {
@@ -44,7 +41,7 @@ record Turns (e : Step) (m : ℕ) (w : WorldState) (o : Option Acts) (s : Said) 
   said : s ≡ acted w e m acted_
 
 turned_is : (e : Step) (m : ℕ) (w : WorldState) (o : Option Acts) (s : Said) → ActsSome m o → turned w e m o ≡ Some (Says s) → Turns e m w o s
-turned_is e m w (Some (Goes d)) s h is = record { acted_ = d; is = refl; from = h; said = says_same s (acted w e m d) (sym is) }
+turned_is e m w (Some (Goes d)) s h is = record { acted_ = d; is = refl; from = h; said = cc }
 turned_is e m w _ s h is = cc
 
 turns_from : (n : NodeState) (m : ℕ) (o : Option Turned) → here n ≡ m → ((t : Turned) → o ≡ Some t → t.state.here ≡ n.kernel.here) → ActsSome m (machine.turns n o)
@@ -72,8 +69,8 @@ record Comes (w : WorldState) (e : Step) (a c : ℕ) (r : Result Packet PacketEr
   said : s ≡ acted w e c (machine.arrives (w.nodes c) a load)
 
 comes : (w : WorldState) (e : Step) (a c : ℕ) (r : Result Packet PacketError) (s : Said) → reads w e a c r ≡ Some (Says s) → Comes w e a c r s
-comes w e a c (Ok (Packet.Data from to k m)) s is = record { load = Data k m; is = λ u. refl; said = says_same s (acted w e c (machine.arrives (w.nodes c) a (Data k m))) (sym is) }
-comes w e a c (Ok (Packet.Ack from to k)) s is = record { load = Ack k; is = λ u. refl; said = says_same s (acted w e c (machine.arrives (w.nodes c) a (Ack k))) (sym is) }
+comes w e a c (Ok (Packet.Data from to k m)) s is = record { load = Data k m; is = λ u. refl; said = cc }
+comes w e a c (Ok (Packet.Ack from to k)) s is = record { load = Ack k; is = λ u. refl; said = cc }
 comes w e a c (Err bad) s is = cc
 
 -- where no such packet is to be delivered, there is none to mark
@@ -103,7 +100,7 @@ delivers_same : (b : Boot) (w u : WorldState) (a c k : ℕ) (s : Said) (o : Opti
 delivers_same b w u a c k s None here_is there_is is node happens =
     let e = Step.Deliver a c k in
     let x : Said = record { state = record w { groups = w.groups + 1 }; lines = Line.Head e ∷ Line.Nothing ∷ [] } in
-    let same : s ≡ x = says_same s x (sym happens) in
+    let same : s ≡ x = cc in
     record {
       said = record { state = record u { groups = u.groups + 1 }; lines = Line.Head e ∷ Line.Nothing ∷ [] };
       happens = nothing_comes b u a c k there_is;
@@ -138,7 +135,7 @@ tick_same b w u m s is node happens =
     let e = Step.Tick m in
     let d = machine.tick (w.nodes m) in
     let from = tick_from m (w.nodes m) is in
-    let said : s ≡ acted w e m d = says_same s (acted w e m d) (sym happens) in
+    let said : s ≡ acted w e m d = cc in
     record {
       said = acted u e m d;
       happens = ap (λ (n : NodeState). Some (Says (acted u e m (machine.tick n)))) node;

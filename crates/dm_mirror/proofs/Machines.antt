@@ -78,10 +78,7 @@ makes_stands s t k h = record {
 
 -- each step, and each group
 pub made_step : (s t : OneKernel) (l : Label) → kernel.step s l ≡ Some t → MadeStands s → MadeStands t
-made_step s t l is h = elim (step_makes s t l is) [
-  | inl k ↦ stays_stands s t k h
-  | inr k ↦ makes_stands s t k h
-]
+made_step s t l is h = elim (step_makes s t l is) [ inl k ↦ stays_stands s t k h | inr k ↦ makes_stands s t k h ]
 
 pub made_replay : (ls : List Label) (s t : OneKernel) → replay s ls ≡ Some t → MadeStands s → MadeStands t
 made_replay [] s t is h = let k : s ≡ t = cc in subst MadeStands k h

@@ -35,9 +35,8 @@ stand_of b w pt l h m run told made counts st sent within = record {
 -- a turn
 pub may_turn : (b : Boot) (es : List Step) (w : WorldState) (pt : Point) (m : ℕ) → IsValid b → Leads b (first_point b) es pt → Run b pt → OwnTold pt → CountsFew pt → Stands b w pt → AllMayAct b w → m < length b.machines → MayTurn b (w.nodes m) × IsLawfulState (w.nodes m).kernel
 may_turn b es w pt m valid leads run told counts ((l, h, st), sent) acts lt =
-    let are = machines_are b es pt leads in
     let few = few_machines b valid in
-    let within : m < pt.kernel.machines = omega (arith, lt, are) in
+    let within : m < pt.kernel.machines = omega (arith, lt, machines_are b es pt leads) in
     let node = st.nodes m within in (
       record {
         acts = acts.each m lt;
@@ -51,15 +50,13 @@ may_step_turn b es w pt m valid leads run told counts stands acts lt = let k = m
 
 pub may_step_migrate : (b : Boot) (es : List Step) (w : WorldState) (pt : Point) (p : Pid) (m : ℕ) → IsValid b → Leads b (first_point b) es pt → CountsFew pt → Stands b w pt → AllMayAct b w → m < length b.machines → MayStep b w (Step.Migrate p m)
 may_step_migrate b es w pt p m valid leads counts ((l, h, st), sent) acts lt =
-    let are = machines_are b es pt leads in
     let some = some_machine b valid in
-    let within : 0 < pt.kernel.machines = omega (arith, some, are) in
+    let within : 0 < pt.kernel.machines = omega (arith, some, machines_are b es pt leads) in
     let node = st.nodes 0 within in
     let here = node.kernel.here in
-    let same = sent 0 within in
     let few = counts.own 0 in (
       lt,
-      (search (acts.each 0 (omega (arith, some)), arith, same, few, subst (λ (o : Option Servers). IsSome o) (sym node.kernel.servers) refl)),
+      (search (acts.each 0 (omega (arith, some)), arith, sent 0 within, few, subst (λ (o : Option Servers). IsSome o) (sym node.kernel.servers) refl)),
       node.lawful,
     )
 
@@ -103,12 +100,8 @@ turn_stays b w m (Some t) s stays valid e is may lawful acts =
     let fit = turn_lawful b (w.nodes m).kernel t valid.images may.kernel lawful e in
     turned_may b w (Step.Turn m) m (node.acts (record (w.nodes m) { kernel = t.state }) t.parts) s is (turn_may (w.nodes m) t (stays b (w.nodes m).kernel t e) fit.parts.each may.acts) acts
 
--- and where it asks a process to move
-told_here : (s : KernelState) (p : Pid) (r : Result Message MoveError) (t : Turned) → told_to_move s p r ≡ Some t → t.state.here ≡ s.here
-told_here s p r t e = grind (arith, nat_tests)
-
 manager_here : (s : KernelState) (p : Pid) (m : ℕ) (o : Option Servers) (t : Turned) → asks_manager s p m o ≡ Some t → t.state.here ≡ s.here
-manager_here s p m o t e = grind (arith, nat_tests, told_here)
+manager_here s p m o t e = grind (arith, nat_tests)
 
 ask_stays : (b : Boot) (w : WorldState) (p : Pid) (m : ℕ) (o : Option Turned) (s : Said) → asks_move (w.nodes 0).kernel p m ≡ o → turned w (Step.Migrate p m) 0 (node.turns (w.nodes 0) o) ≡ Some (Says s) → m < 16 → MayAskMove (w.nodes 0) → IsLawfulState (w.nodes 0).kernel → AllMayAct b w → AllMayAct b s.state
 ask_stays b w p m None s e is to may lawful acts = cc
@@ -139,6 +132,4 @@ acts_step stays b w (Step.Turn m) s valid may is acts = turn_stays b w m (kernel
 acts_step stays b w (Step.Tick m) s valid may is acts = acted_may b w (Step.Tick m) m (node.tick (w.nodes m)) s (let f : acted w (Step.Tick m) m (node.tick (w.nodes m)) ≡ s = cc in f) may.1 acts
 acts_step stays b w (Step.Deliver a c k) s valid may is acts = delivered_may b w (Step.Deliver a c k) a c k (bytes_at (w.wires a c) k) s is may.3 acts
 acts_step stays b w (Step.Migrate p m) s valid may is acts =
-    let few = few_machines b valid in
-    let lt = may.0 in
-    ask_stays b w p m (asks_move (w.nodes 0).kernel p m) s refl is (omega (arith, lt, few)) may.1 may.2 acts
+    ask_stays b w p m (asks_move (w.nodes 0).kernel p m) s refl is (omega (arith, may.0, few_machines b valid)) may.1 may.2 acts

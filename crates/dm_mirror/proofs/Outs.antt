@@ -154,21 +154,17 @@ all_fresh c [] = All-nil IsFresh
 all_fresh c (Says l ∷ outs) = all_fresh c outs
 all_fresh c (Sends p ∷ outs) = All-append IsFresh (if to_of p == c then just_put (spelling p) ∷ [] else []) (packets_to c outs) (fresh_one (to_of p == c) (spelling p)) (all_fresh c outs)
 
-put_by : (packets : ℕ → ℕ → List Sent) (a b : ℕ) (bytes : List ℕ) (y : ℕ) (c : Bool) → (if c then packets a y ++ just_put bytes ∷ [] else packets a y) ≡ packets a y ++ (if c then just_put bytes ∷ [] else [])
-put_by packets a b bytes y c = grind (arith, nat_tests, append-nil)
-
 packet_off : (wires : ℕ → ℕ → List Sent) (p : Packet) (x y : ℕ) → x ≢ from_of p → with_packet wires p x y ≡ wires x y
 packet_off wires p x y apart = grind (arith, nat_tests)
 
 packet_on : (wires : ℕ → ℕ → List Sent) (p : Packet) (y : ℕ) → with_packet wires p (from_of p) y ≡ wires (from_of p) y ++ (if to_of p == y then just_put (spelling p) ∷ [] else [])
-packet_on wires p y = grind (arith, nat_tests, put_by)
+packet_on wires p y = grind (arith, nat_tests, append-nil)
 
 -- the wires behind what a machine gives
 pub spoken_off : (m : ℕ) (outs : List Out) (wires : ℕ → ℕ → List Sent) (x y : ℕ) → AreFrom m outs → x ≢ m → (spoken wires outs).wires x y ≡ wires x y
 spoken_off m [] wires x y h apart = refl
 spoken_off m (Says l ∷ outs) wires x y h apart = spoken_off m outs wires x y h apart
-spoken_off m (Sends p ∷ outs) wires x y h apart =
-    spoken_off m outs (with_packet wires p) x y h.1 apart ∙ packet_off wires p x y (λ e. apart (e ∙ h.0))
+spoken_off m (Sends p ∷ outs) wires x y h apart = spoken_off m outs (with_packet wires p) x y h.1 apart ∙ packet_off wires p x y (λ e. apart (e ∙ h.0))
 
 pub spoken_on : (m : ℕ) (outs : List Out) (wires : ℕ → ℕ → List Sent) (y : ℕ) → AreFrom m outs → (spoken wires outs).wires m y ≡ wires m y ++ packets_to y outs
 spoken_on m [] wires y h = sym (append-nil (wires m y))

@@ -80,15 +80,7 @@ receives_paid s p x None = tt
 receives_paid s p x (Some i) = received_paid s p i x (s.bag i)
 
 status_paid : (quantum : ℕ) (s : OneKernel) (p : Pid) (queue : List MsgId) (x : PlainProcess) (st : PlainStatus) → PaidIf s (rule.serves_status quantum s p queue x st)
-status_paid quantum s p queue x Ready =
-    let r = rule.ran quantum (kernel.machine_of x) in (
-      refl,
-      λ t e. inl (
-        (ran_raises s t p r.count e).within,
-        unless_paid t (r.count == quantum) (rule.stops p queue (kernel.next_row p (kernel.with_machine x r.machine) (instruction r.machine.regs r.machine.bytes)))
-            (stops_paid t p queue (kernel.next_row p (kernel.with_machine x r.machine) (instruction r.machine.regs r.machine.bytes))),
-      ),
-    )
+status_paid quantum s p queue x Ready = grind (arith, nat_tests, ran_raises, unless_paid, stops_paid)
 status_paid quantum s p queue x (Waiting mask base size) = receives_paid s p x (rule.first_awaited s mask queue)
 status_paid quantum s p queue x (Moving dir owner base own left pending) = tt
 
@@ -120,7 +112,6 @@ took_paid s i m o has there is = (refl, λ t e. by o is t (within t e))
     within : (t : OneKernel) → kernel.step s (Label.Took i) ≡ Some t → Within (took_raise s m) s t
     within t e =
         let k = took_raises s t i e in
-        let f : Some k.m ≡ Some m = sym k.there ∙ there in
         let g : k.m ≡ m = cc in
         subst (λ (v : PlainMessage). Within (took_raise s v) s t) g (k.raises (subst (λ (v : PlainMessage). HasAnswer s.manager v.id.n v.what) (sym g) has)).within
 
@@ -140,9 +131,7 @@ manager_paid s i m (Some k) has there is = took_paid s i m k.message has there i
 serves_paid : (s : OneKernel) (i : MsgId) (m : PlainMessage) (x : PlainProcess) (t : OneKernel) → s.bag i ≡ Some m → kernel.alive (s.processes m.to) ≡ Some x → kernel.step s (Label.Served i) ≡ Some t → Within (served_raise m x m.what) s t
 serves_paid s i m x t there alive e =
     let k = served_raises s t i e in
-    let f : Some k.m ≡ Some m = sym k.there ∙ there in
     let g : k.m ≡ m = cc in
-    let life : Some (Alive k.x) ≡ Some (Alive x) = sym k.alive ∙ ap (λ (v : PlainMessage). s.processes v.to) g ∙ alive-is (s.processes m.to) x alive in
     let h : k.x ≡ x = cc in
     subst (λ (v : PlainProcess). Within (served_raise m v m.what) s t) h (subst (λ (v : PlainMessage). Within (served_raise v k.x v.what) s t) g k.raises.within)
 

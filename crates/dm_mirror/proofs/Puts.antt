@@ -90,15 +90,8 @@ pairs_put b pt l w h m c nodes s ld apart senders there back =
       wire = grind (arith, nat_tests, wires_put, eq-eqb);
       pair = pair_here pt.view.pair m c _;
     }) there)
-    (pair_stands b (point_put pt m c ld) l (world_put w m c nodes ld) (with_put h m c ld) c m (with_back (stream_of w h c m) ld) (w.wires c m) (pt.view.pair c m) (record {
-      sender = senders.others c m off;
-      receiver = senders.receivers c m;
-      given = refl;
-      out = pair_other h.packets m c _ c m off;
-      back = pair_here h.packets m c _;
-      wire = wire_other w.wires m c ld c m off;
-      pair = pair_other pt.view.pair m c _ c m off;
-    }) back)
+    (pair_stands b (point_put pt m c ld) l (world_put w m c nodes ld) (with_put h m c ld) c m (with_back (stream_of w h c m) ld) (w.wires c m) (pt.view.pair c m)
+    (search (senders.others, senders.receivers, pair_other, pair_here, wire_other, off)) back)
     (λ a d e f. record {
       sender = senders.others a d e;
       receiver = senders.receivers a d;

@@ -26,8 +26,7 @@ quiet_same b es w pt valid leads ((l, h, s), counts) =
     all_same n (λ a. not (world.world_has_mail w a) && all_below n (world.all_heard w a)) (λ a. not (has_mail pt.view a) && all_below n (λ c. pair_is_quiet (a == c) (pt.view.pair a c)))
     (λ a small.
     ap (λ (t : Bool). not t && all_below n (world.all_heard w a)) (mail_same b w pt l h a (omega (arith, small, machines)) s)
-    ∙ ap (λ (t : Bool). not (has_mail pt.view a) && t)
-    (all_same n (world.all_heard w a) (λ c. pair_is_quiet (a == c) (pt.view.pair a c))
+    ∙ ap (λ (t : Bool). not (has_mail pt.view a) && t) (all_same n (world.all_heard w a) (λ c. pair_is_quiet (a == c) (pt.view.pair a c))
     (λ c also. heard_same b w pt l h a c (a == c) refl (λ same. is_home pt.view.pair a c same (home a))
     (λ apart. s.pairs a c (omega (arith, small, machines)) (omega (arith, also, machines)) (not_same a c apart)))))
 

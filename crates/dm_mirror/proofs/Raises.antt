@@ -63,10 +63,9 @@ set_raises s t p x life k is le processes made board manager machines =
     let manager_ = ap (λ (v : Manager). v.sent) manager in
     let children = ap (λ (v : Manager). length v.children) manager in
     let mine : sent_of (s.processes p) ≡ x.sent = ap sent_of is in
-    let less : sent_of (Some life) ≤ sent_of (s.processes p) + k = omega (arith, mine, le) in
     record {
       within = record {
-        sent = λ q. let e = ap sent_of (processes q) in let f = set_sent s p q life k (pid_eq p q) refl less in omega (arith, e, f);
+        sent = λ q. let e = ap sent_of (processes q) in let f = set_sent s p q life k (pid_eq p q) refl (omega (arith, mine, le)) in omega (arith, e, f);
         board = omega (arith, board_);
         names = omega (arith, names_);
         manager = omega (arith, manager_);
@@ -79,11 +78,8 @@ set_raises s t p x life k is le processes made board manager machines =
 goes_raises : (s t : OneKernel) (p : Pid) (x y : PlainProcess) → step.goes_on s p y ≡ t → s.processes p ≡ Some (Alive x) → y.sent ≡ x.sent → Raises 0 s t
 goes_raises s t p x y e is sent = subst (Raises 0 s) e (set_raises s (step.goes_on s p y) p x (Alive y) 0 is (omega (arith, sent)) (λ q. refl) (λ h. refl) refl refl refl)
 
-ready_is : (y : PlainProcess) (st : PlainStatus) (x : PlainProcess) → step.if_ready y st ≡ Some x → y ≡ x
-ready_is y st x e = grind (arith, nat_tests)
-
 runs : (s : OneKernel) (p : Pid) (x : PlainProcess) → step.running s p ≡ Some x → s.processes p ≡ Some (Alive x)
-runs s p x e = grind (arith, nat_tests, at_hand-is, ready_is)
+runs s p x e = grind (arith, nat_tests, at_hand-is)
 
 pub ran_raises : (s t : OneKernel) (p : Pid) (k : ℕ) → step.step s (Label.Ran p k) ≡ Some t → Raises 0 s t
 ran_raises s t p k is =
@@ -144,8 +140,7 @@ end_raises s t p y is = let (x, next, rest) = bind-is (step.next_trap s p) (step
 receives_raise : (s t : OneKernel) (p : Pid) (id : MsgId) (c : receiving.Completed) → Completing s p id c → step.receives s p id c ≡ Some t → Raises 0 s t
 receives_raise s t p id (receiving.Receives y) w is =
     let v = step.goes_on (without_message s id) p y in
-    let e : v ≡ t = cc in
-    subst (Raises 0 s) e (set_raises s v p w.x (Alive y) 0 w.alive (omega (arith, w.is.0)) (λ q. refl) (λ h. refl) refl refl refl)
+    subst (Raises 0 s) (cc) (set_raises s v p w.x (Alive y) 0 w.alive (omega (arith, w.is.0)) (λ q. refl) (λ h. refl) refl refl refl)
 receives_raise s t p id (receiving.Refuses reply y) w is = cc
 
 refuses_raise : (s t : OneKernel) (p : Pid) (id : MsgId) (reply : Reply) (c : receiving.Completed) → Completing s p id c → step.refuses s p reply c ≡ Some t → Raises 0 s t

@@ -26,15 +26,13 @@ gone_raises s t id is =
     let (y, gone, says) = bind-is (step.why_ended (s.processes m.to)) (step.says_gone s id m) t rest in
     let (w, what, last) = bind-is (service.gone_what m.what) (λ v. Some (with_sent (without_message s id) (Some (answer_to m v)))) t says in
     let u = with_sent (without_message s id) (Some (answer_to m w)) in
-    let e : u ≡ t = cc in
-    subst (Raises 0 s) e (bag_raises s u (λ p. refl) (λ h. refl) refl refl refl)
+    subst (Raises 0 s) (cc) (bag_raises s u (λ p. refl) (λ h. refl) refl refl refl)
 
 -- requests to move
 follows_raises : (s t : OneKernel) (id : MsgId) (m : PlainMessage) (w : PlainWhat) → service.follows_request s id m w ≡ Some t → Raises 0 s t
 follows_raises s t id m (PlainWhat.Move machine) is =
     let u = with_note (without_message s id) m.to (record { id = id; asker = m.sender }) in
-    let e : u ≡ t = cc in
-    subst (Raises 0 s) e (bag_raises s u (λ p. refl) (λ h. refl) refl refl refl)
+    subst (Raises 0 s) (cc) (bag_raises s u (λ p. refl) (λ h. refl) refl refl refl)
 follows_raises s t id m _ is = cc
 
 pub asked_raises : (s t : OneKernel) (id : MsgId) → step.step s (Label.Asked id) ≡ Some t → Raises 0 s t
@@ -86,26 +84,22 @@ landed_raises s t id m x (pieces.Done reply y) e is so = changed_raises s t id m
 lands_raises : (s t : OneKernel) (id : MsgId) (m : PlainMessage) (x : PlainProcess) → s.processes m.to ≡ Some (Alive x) → bind (pieces.lands m.to x m x.status) (λ c. Some (service.landed s id m c)) ≡ Some t → Raises (landed_raise (pieces.lands m.to x m x.status)) s t
 lands_raises s t id m x is e =
     let (c, lands, last) = bind-is (pieces.lands m.to x m x.status) (λ v. Some (service.landed s id m v)) t e in
-    let k : service.landed s id m c ≡ t = cc in
-    subst (λ (o : Option pieces.Landed). Raises (landed_raise o) s t) (sym lands) (landed_raises s t id m x c k is (lands-is m.to x m x.status c lands))
+    subst (λ (o : Option pieces.Landed). Raises (landed_raise o) s t) (sym lands) (landed_raises s t id m x c (cc) is (lands-is m.to x m x.status c lands))
 
 pub serves_raises : (s t : OneKernel) (id : MsgId) (m : PlainMessage) (x : PlainProcess) (w : PlainWhat) → s.processes m.to ≡ Some (Alive x) → service.serves s id m x w ≡ Some t → Raises (served_raise m x w) s t
 serves_raises s t id m x PlainWhat.Stop is e = changed_raises s t id m x (record x { stopped = true }) (let k : service.changed s id m (record x { stopped = true }) ≡ t = cc in k) is refl
 serves_raises s t id m x PlainWhat.Resume is e = changed_raises s t id m x (record x { stopped = false }) (let k : service.changed s id m (record x { stopped = false }) ≡ t = cc in k) is refl
 serves_raises s t id m x PlainWhat.Kill is e =
     let v = with_process (without_message s id) m.to (Ended Why.Killed) in
-    let k : v ≡ t = cc in
-    subst (Raises 0 s) k (set_raises s v m.to x (Ended Why.Killed) 0 is (omega arith) (λ q. refl) (λ h. refl) refl refl refl)
+    subst (Raises 0 s) (cc) (set_raises s v m.to x (Ended Why.Killed) 0 is (omega arith) (λ q. refl) (λ h. refl) refl refl refl)
 serves_raises s t id m x (PlainWhat.Read base len) is e =
     let (c, served, last) = bind-is (pieces.reads x m base len) (λ v. Some (service.answered s id m v)) t e in
     let k = if_some-is _ (record { process = x; answer = answer_to m (PlainWhat.Block (take len (drop base x.memory))) }) c served in
-    let f : service.answered s id m c ≡ t = cc in
-    answered_raises s t id m x c f is (sym (ap (λ (v : pieces.Served). v.process.sent) k))
+    answered_raises s t id m x c (cc) is (sym (ap (λ (v : pieces.Served). v.process.sent) k))
 serves_raises s t id m x (PlainWhat.Write base bytes) is e =
     let (c, served, last) = bind-is (pieces.writes x m base bytes) (λ v. Some (service.answered s id m v)) t e in
     let k = if_some-is _ (record { process = record x { memory = pieces.written_at x.memory base bytes }; answer = answer_to m PlainWhat.Written }) c served in
-    let f : service.answered s id m c ≡ t = cc in
-    answered_raises s t id m x c f is (sym (ap (λ (v : pieces.Served). v.process.sent) k))
+    answered_raises s t id m x c (cc) is (sym (ap (λ (v : pieces.Served). v.process.sent) k))
 serves_raises s t id m x (PlainWhat.Block bytes) is e = lands_raises s t id m x is e
 serves_raises s t id m x PlainWhat.Written is e = lands_raises s t id m x is e
 serves_raises s t id m x PlainWhat.Gone is e = lands_raises s t id m x is e
@@ -136,17 +130,11 @@ pub append-longer : {A : Type 0} (xs : List A) (y : A) → length (xs ++ y ∷ [
 append-longer [] y = refl
 append-longer (x ∷ xs) y = omega (arith, append-longer xs y)
 
-names_if : (names : List NamedLink) (c : Bool) (x y : board.Asked) → length x.names ≤ length names + 1 → length y.names ≤ length names + 1 → length (if c then x else y).names ≤ length names + 1
-names_if names c x y h k = grind (arith, nat_tests)
-
 names_registered : (names : List NamedLink) (name : List ℕ) (others : List PlainLink) → length (board.asks_to_register names name others).names ≤ length names + 1
-names_registered names name others = grind (arith, nat_tests, names_if, append-longer)
+names_registered names name others = grind (arith, nat_tests, append-longer)
 
 names_asked : (names : List NamedLink) (body : List ℕ) (others : List PlainLink) → length (board.asks names body others).names ≤ length names + 1
-names_asked names body others = grind (arith, nat_tests, names_if, names_registered)
-
-names_took : (b : Switchboard) (m : PlainMessage) (w : PlainWhat) (k : board.BoardTook) → board.board_takes b m w ≡ Some k → length k.switchboard.names ≤ length b.names + sent_raise k.answer
-names_took b m w k e = grind (arith, nat_tests, names_asked)
+names_asked names body others = grind (arith, nat_tests, names_registered)
 
 board_raises_of : (s : OneKernel) (id : MsgId) (b : Switchboard) (o : Option PlainMessage) (k : ℕ) → b.sent ≡ s.switchboard.sent + k → length b.names ≤ length s.switchboard.names + k → Raises k s (with_sent (record (without_message s id) { switchboard = b }) o)
 board_raises_of s id b None k e n = record {
@@ -161,7 +149,7 @@ board_raises_of s id b (Some m) k e n = record {
 pub board_raises : (s : OneKernel) (id : MsgId) (m : PlainMessage) (k : board.BoardTook) → board.board_takes s.switchboard m m.what ≡ Some k → Raises (sent_raise k.answer) s (service.switchboard_took s id k)
 board_raises s id m k took =
     let (memory, piece, sends) = board_takes_lem s.switchboard m m.what k took in
-    board_raises_of s id k.switchboard k.answer (sent_raise k.answer) (grind (arith, nat_tests)) (names_took s.switchboard m m.what k took)
+    board_raises_of s id k.switchboard k.answer (sent_raise k.answer) (grind (arith, nat_tests)) (grind (arith, nat_tests, names_asked))
 
 -- How much a step raises counts: what the manager says, and a process that is made.
 
@@ -194,8 +182,7 @@ paid_if g false x y h k = k
 
 paid_wants : (g : Manager) (machines images machine image : ℕ) (links : List PlainLink) → Paid g (manage.wants_child g machines images machine image links)
 paid_wants g machines images machine image [] = paid_bad g []
-paid_wants g machines images machine image (l ∷ ls) =
-    paid_if g (nat_lt machine machines && nat_lt image images) (manage.asks_for g machine image l ls) (manage.bad_request g (l ∷ ls)) (omega arith) (paid_bad g (l ∷ ls))
+paid_wants g machines images machine image (l ∷ ls) = grind (arith, nat_tests, paid_if, paid_bad)
 
 paid_requests : (g : Manager) (machines images : ℕ) (body : List ℕ) (links : List PlainLink) → Paid g (manage.requests_child g machines images body links)
 paid_requests g machines images (a ∷ b ∷ c ∷ d ∷ []) links = search (paid_if, paid_wants, paid_bad)
@@ -207,39 +194,24 @@ paid_control g child (Some w) links = omega arith
 
 paid_controls : (g : Manager) (machines : ℕ) (child : Option Pid) (body : List ℕ) (links : List PlainLink) → Paid g (manage.controls g machines child body links)
 paid_controls g machines (Some child) (a ∷ []) links = paid_control g child (manage.control_of a) links
-paid_controls g machines (Some child) (a ∷ machine ∷ []) links =
-    let bad = paid_bad g links in
-    paid_if g (a == 5) (manage.moves_child g machines child machine links) (manage.bad_request g links)
-    (paid_if g (nat_lt machine machines) (manage.sends_request g PendingKind.Move child (PlainWhat.Move machine) (manage.first_link links)) (manage.bad_request g links) (omega arith) bad) bad
+paid_controls g machines (Some child) (a ∷ machine ∷ []) links = grind (arith, nat_tests, paid_bad, paid_if)
 paid_controls g machines None (a ∷ []) links = paid_bad g links
 paid_controls g machines _ _ links = paid_bad g links
 
 paid_created : (g : Manager) (n : ℕ) (child : Pid) (o : Option Pending) (k : manage.ManagerTook) → ((r : Pending) → o ≡ Some r → is_some r.answer ≡ true) → manage.takes_created g n child o ≡ Some k → Paid g k
 paid_created g n child None k has e = cc
-paid_created g n child (Some r) k has e =
-    let h = record g { children = g.children ++ child ∷ []; pending = manage.without_pending n g.pending } in
-    let f : manage.answers_over h r.answer 0 (manage.control_link (length g.children + 1) ∷ []) ≡ k = cc in
-    subst (Paid g) f (paid_made g h r.answer 0 (manage.control_link (length g.children + 1) ∷ []) (has r refl) refl (let z = append-longer g.children child in omega (arith, z)))
+paid_created g n child (Some r) k has e = grind (arith, nat_tests, paid_made, append-longer, g.children, g.pending, r.answer)
 
 paid_no_room : (g : Manager) (n : ℕ) (o : Option Pending) (k : manage.ManagerTook) → manage.takes_no_room g n o ≡ Some k → Paid g k
 paid_no_room g n None k e = cc
-paid_no_room g n (Some r) k e =
-    let h = record g { pending = manage.without_pending n g.pending } in
-    let f : manage.answers_over h r.answer 1 [] ≡ k = cc in
-    subst (Paid g) f (paid_over g h r.answer 1 [] refl (omega arith))
+paid_no_room g n (Some r) k e = grind (arith, nat_tests, paid_over, g.pending, r.answer)
 
 paid_moved : (g : Manager) (n : ℕ) (outcome : Outcome) (o : Option Pending) (k : manage.ManagerTook) → manage.takes_moved g n outcome o ≡ Some k → Paid g k
 paid_moved g n outcome None k e = cc
-paid_moved g n outcome (Some r) k e =
-    let h = record g { pending = manage.without_pending n g.pending } in
-    let f : manage.answers_over h r.answer (code_of_outcome outcome) [] ≡ k = cc in
-    subst (Paid g) f (paid_over g h r.answer (code_of_outcome outcome) [] refl (omega arith))
+paid_moved g n outcome (Some r) k e = grind (arith, nat_tests, paid_over, g.pending, r.answer)
 
 paid_takes : (g : Manager) (machines images : ℕ) (m : PlainMessage) (w : PlainWhat) (k : manage.ManagerTook) → HasAnswer g m.id.n w → manage.manager_takes g machines images m w ≡ Some k → Paid g k
-paid_takes g machines images m (PlainWhat.User code channel body links) k has e =
-    let f : manage.takes_user g machines images code body links ≡ k = cc in
-    subst (Paid g) f (paid_if g (code == 0) (manage.requests_child g machines images body links) (manage.controls g machines (manage.child_numbered g.children code) body links)
-    (paid_requests g machines images body links) (paid_controls g machines (manage.child_numbered g.children code) body links))
+paid_takes g machines images m (PlainWhat.User code channel body links) k has e = grind (arith, nat_tests, paid_if, paid_requests, paid_controls, g.children)
 paid_takes g machines images m (PlainWhat.Created child) k has e = paid_created g m.id.n child (manage.pending_numbered m.id.n g.pending) k (λ r there. has child r refl there) e
 paid_takes g machines images m PlainWhat.NoRoom k has e = paid_no_room g m.id.n (manage.pending_numbered m.id.n g.pending) k e
 paid_takes g machines images m (PlainWhat.Moved outcome) k has e = paid_moved g m.id.n outcome (manage.pending_numbered m.id.n g.pending) k e
@@ -287,8 +259,7 @@ took_raises_of : (s t : OneKernel) (id : MsgId) (m : PlainMessage) (c d : Bool) 
     → Raises (if c then board_raise (board.board_takes s.switchboard m m.what) else manager_raise (manage.manager_takes s.manager s.machines (length s.images) m m.what)) s t
 took_raises_of s t id m true d has is =
     let (k, took, last) = bind-is (board.board_takes s.switchboard m m.what) (λ v. Some (service.switchboard_took s id v)) t is in
-    let f : service.switchboard_took s id k ≡ t = cc in
-    subst (λ (o : Option board.BoardTook). Raises (board_raise o) s t) (sym took) (subst (Raises (sent_raise k.answer) s) f (board_raises s id m k took))
+    subst (λ (o : Option board.BoardTook). Raises (board_raise o) s t) (sym took) (subst (Raises (sent_raise k.answer) s) (cc) (board_raises s id m k took))
 took_raises_of s t id m false true has is =
     let (k, took, last) = bind-is (manage.manager_takes s.manager s.machines (length s.images) m m.what) (λ v. Some (service.manager_took s id v)) t is in
     let f : service.manager_took s id k ≡ t = cc in
@@ -305,10 +276,7 @@ took_stays : (s t : OneKernel) (id : MsgId) (m : PlainMessage) (c d : Bool)
     else if d then bind (manage.manager_takes s.manager s.machines (length s.images) m m.what) (λ k. Some (service.manager_took s id k))
     else None) ≡ Some t
     → Stays s t
-took_stays s t id m true d is =
-    let (k, took, last) = bind-is (board.board_takes s.switchboard m m.what) (λ v. Some (service.switchboard_took s id v)) t is in
-    let f : service.switchboard_took s id k ≡ t = cc in
-    subst (Stays s) f (stays_sent s (record (without_message s id) { switchboard = k.switchboard }) k.answer (record { machines = refl; made = λ h. refl; lives = λ p. refl }))
+took_stays s t id m true d is = grind (arith, nat_tests, stays_sent, s.switchboard)
 took_stays s t id m false true is =
     let (k, took, last) = bind-is (manage.manager_takes s.manager s.machines (length s.images) m m.what) (λ v. Some (service.manager_took s id v)) t is in
     let f : service.manager_took s id k ≡ t = cc in

@@ -7,9 +7,6 @@ use Rattle.dm_mirror.proofs.Names.{nat_le, routed_on, Act, act_of, seen}
 use Rattle.dm_node.proofs.Names.{behind}
 use Rattle.dm_stream.specs.Packets.{Load}
 use Rattle.dm_node.specs.declared.out.Out.TheVariants.{Says}
-use Rattle.dm_line.specs.declared.line.Load.TheVariants as load
-use Rattle.dm_rule.specs.Acts as act
-use Rattle.dm_rule.specs.Parts as rule
 use Rattle.dm_mirror.proofs.Puts.{point_put, wire_length, with_put}
 use Rattle.dm_mirror.proofs.Giving.{with_gift, count_given, node_gave, node_went, same_records, stands_gave, stands_went, world_gave}
 use Rattle.dm_mirror.proofs.Turning.{Route, MayPut, message_of, rule_part_of}
@@ -19,6 +16,9 @@ use Rattle.dm_mirror.proofs.Streams.{apart_is}
 use Rattle.dm_mirror.proofs.Counts.Pairs.{line_ids}
 use Rattle.dm_mirror.proofs.Join.{line_put, lines_put, part_is, put_end, put_point}
 use Rattle.dm_mirror.proofs.Route.Parts.{Next, next_of}
+use Rattle.dm_line.specs.declared.line.Load.TheVariants as load
+use Rattle.dm_rule.specs.Acts as act
+use Rattle.dm_rule.specs.Parts as rule
 
 -- what the machine does, by its tests
 route_if : (n : NodeState) (x : Message) (t : Bool) → (x.to.at == here n) ≡ t → routes n x ≡ (if t then routes_home n x (n.home == n.numbers) else routes_away n x.to.at x (n.senders x.to.at))
@@ -101,23 +101,12 @@ module _ (b : Boot) (w : WorldState) (pt : Point) (l : Placed) (h : History) (m 
   worn_on : (home : Bool) → (m == x.to.at) ≡ home → (from to : ℕ) → from ≡ m → to ≡ x.to.at → routes (w.nodes m) x ≡ Worn from to → b.numbers ≤ length (pt.view.pair m x.to.at).ids → RouteWorn b w pt m r
   worn_on home same from to e t is full =
       let out : Bool = goes_out (pt.view.pair m x.to.at) in
-      record {
-        from = from;
-        to = to;
-        worn = is;
-        home = home;
-        out = out;
-        part = part home out same refl;
-        from_is = e;
-        to_is = t;
-        full = full;
-      }
+      record { from = from; to = to; worn = is; home = home; out = out; part = part home out same refl; from_is = e; to_is = t; full = full }
 
   -- into the inbox
   goes_home : x.to.at ≡ m → routes (w.nodes m) x ≡ routes_home (w.nodes m) x false → (w.nodes m).home ≢ b.numbers → RouteOn b w pt l m r
   goes_home at_ is fresh =
       let count : (w.nodes m).home ≡ length (pt.view.pair m m).ids = (f.stands.nodes m f.here).home in
-      let open_ : is_full b.numbers pt.view m m ≡ false = not_full b.numbers pt m m (f.stands.counts m m) (omega (arith, count, fresh)) in
       let k : (record placed { view = after_put pt.view m m x.id (kind_of x.what) x.to.pid }) ≡ put_point pt m x.to.at x = (λ i. record { kernel = pt.kernel; view = after_put pt.view m (sym at_ i) x.id (kind_of x.what) x.to.pid; addresses = (put_point pt m x.to.at x).addresses }) in
       let after : WorldState = record w { nodes = at_machine w.nodes m (node_home (w.nodes m) x) } in
       record {
@@ -127,7 +116,7 @@ module _ (b : Boot) (w : WorldState) (pt : Point) (l : Placed) (h : History) (m 
         out = goes_out (pt.view.pair m x.to.at);
         part = part true (goes_out (pt.view.pair m x.to.at)) (let e : (m == x.to.at) ≡ true = grind (arith, nat_tests, at_) in e) refl;
         spoken = λ i. Line.Put (own_place i) x.to.at x.id (kind_of x.what) x.to.pid ∷ [];
-        room = ap (λ (c : ℕ). is_full b.numbers pt.view m c) at_ ∙ open_;
+        room = ap (λ (c : ℕ). is_full b.numbers pt.view m c) at_ ∙ (not_full b.numbers pt m m (f.stands.counts m m) (omega (arith, count, fresh)));
         history = h;
         stands = stood after h (λ d. same_records w m (node_home (w.nodes m) x) d (m == d) refl refl)
             (subst (λ (q : Point). CoreStands b after q u h) k (stands_home b placed u w h m x (kind_of x.what) x.to.pid f.here fresh there_ f.lawful core));
@@ -139,10 +128,7 @@ module _ (b : Boot) (w : WorldState) (pt : Point) (l : Placed) (h : History) (m 
     open_pair : is_full b.numbers pt.view m x.to.at ≡ false
     open_pair =
         let pair : PairStands b pt l w h m x.to.at = f.stands.pairs m x.to.at f.here f.there apart in
-        let full : length (pt.view.pair m x.to.at).ids ≢ b.numbers =
-        let e : given_count ((w.nodes m).senders x.to.at) ≡ length (pt.view.pair m x.to.at).ids = count_given b pt l w h m x.to.at pair in
-        let n : ((w.nodes m).senders x.to.at).numbers ≡ b.numbers = pair.numbers in
-        grind (arith, nat_tests, e, n, fresh) in
+        let full : length (pt.view.pair m x.to.at).ids ≢ b.numbers = grind (arith, nat_tests, count_given b pt l w h m x.to.at pair, pair.numbers, fresh) in
         not_full b.numbers pt m x.to.at (f.stands.counts m x.to.at) full
 
     -- the message is given to the stream
@@ -218,29 +204,20 @@ module _ (b : Boot) (w : WorldState) (pt : Point) (l : Placed) (h : History) (m 
   at_home : (t : Bool) → x.to.at ≡ m → (x.to.at == here (w.nodes m)) ≡ true → ((w.nodes m).home == (w.nodes m).numbers) ≡ t → RouteGoes b w pt l m r
   at_home true at_ e g =
       let count = (f.stands.nodes m f.here).home in
-      let numbers = (f.stands.nodes m f.here).numbers in
-      let full : b.numbers ≤ length (pt.view.pair m m).ids = grind (arith, nat_tests, count, numbers, g) in
+      let full : b.numbers ≤ length (pt.view.pair m m).ids = grind (arith, nat_tests, count, (f.stands.nodes m f.here).numbers, g) in
       inr (worn_on true (let k : (m == x.to.at) ≡ true = grind (arith, nat_tests, at_) in k) (here (w.nodes m)) (here (w.nodes m)) own_place (own_place ∙ sym at_) (home_if (w.nodes m) x true e g) (subst (λ (c : ℕ). b.numbers ≤ length (pt.view.pair m c).ids) (sym at_) full))
-  at_home false at_ e g =
-      let numbers = (f.stands.nodes m f.here).numbers in
-      let fresh : (w.nodes m).home ≢ b.numbers = grind (arith, nat_tests, numbers, g) in
-      inl (goes_home at_ (home_if (w.nodes m) x false e g) fresh)
+  at_home false at_ e g = inl (goes_home at_ (home_if (w.nodes m) x false e g) (grind (arith, nat_tests, (f.stands.nodes m f.here).numbers, g)))
 
   elsewhere : (t : Bool) → m ≢ x.to.at → (x.to.at == here (w.nodes m)) ≡ false → is_worn ((w.nodes m).senders x.to.at) ≡ t → RouteGoes b w pt l m r
   elsewhere true apart e g =
       let pair : PairStands b pt l w h m x.to.at = f.stands.pairs m x.to.at f.here f.there apart in
-      let count : given_count ((w.nodes m).senders x.to.at) ≡ length (pt.view.pair m x.to.at).ids = count_given b pt l w h m x.to.at pair in
-      let numbers : ((w.nodes m).senders x.to.at).numbers ≡ b.numbers = pair.numbers in
-      let full : b.numbers ≤ length (pt.view.pair m x.to.at).ids = grind (arith, nat_tests, count, numbers, g) in
+      let full : b.numbers ≤ length (pt.view.pair m x.to.at).ids = grind (arith, nat_tests, count_given b pt l w h m x.to.at pair, pair.numbers, g) in
       inr (worn_on false (apart_is m x.to.at apart) (here (w.nodes m)) x.to.at own_place refl (away_if (w.nodes m) x true e g) full)
   elsewhere false apart e g = inl (away apart g e)
 
   route_by : (t : Bool) → (x.to.at == here (w.nodes m)) ≡ t → RouteGoes b w pt l m r
   route_by true e = at_home ((w.nodes m).home == (w.nodes m).numbers) (eqb-true x.to.at (here (w.nodes m)) e ∙ own_place) e refl
-  route_by false e =
-      let own : here (w.nodes m) ≡ m = own_place in
-      let apart : m ≢ x.to.at = grind (arith, nat_tests, own, e) in
-      elsewhere (is_worn ((w.nodes m).senders x.to.at)) apart e refl
+  route_by false e = elsewhere (is_worn ((w.nodes m).senders x.to.at)) (grind (arith, nat_tests, own_place, e)) e refl
 
   -- a message that machine m routes, the machine that acts
   pub route_goes : RouteGoes b w pt l m r
@@ -296,8 +273,7 @@ worn_behind numbers (l ∷ ls) pt next ms ps fits comes =
     let same : moved pt l s ≡ n = cc in
     ap (λ (o : Option Two). or o (worn_in numbers (view_after pt.view l) (ls ++ ms))) (no_put numbers pt.view l fits.0)
     ∙ worn_alike numbers (ls ++ ms) (seen pt.kernel pt.view l) (view_after pt.view l) (λ a c. refl)
-    ∙ ap (λ (k : Point). worn_in numbers k.view (ls ++ ms)) same
-    ∙ worn_behind numbers ls n next ms ps fits.1 more
+    ∙ ap (λ (k : Point). worn_in numbers k.view (ls ++ ms)) same ∙ worn_behind numbers ls n next ms ps fits.1 more
 
 -- and leave what was told as it was
 pub says_sane : (ls : List Line) (pt next : Point) (ps : List rule.Part) → AllSayable (map rule.Says ls ++ ps) → after pt ls ≡ Some next → Sane pt → Sane next

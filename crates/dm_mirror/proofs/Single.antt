@@ -35,8 +35,7 @@ run_before b es gs pt e run =
 single_on : (b : Boot) (es : List Step) (gs : List (List Line)) (pt : Point) (w : WorldState) (e : Step) → IsValid b → Ran b es gs pt w → IsStep (length b.machines) e → MayStep b w e → (g : GoesOn b w pt e) → AreReadBack (gave b w e)
     → Ran b (es ++ e ∷ []) (gs ++ g.said.lines ∷ []) g.group.point g.said.state
 single_on b es gs pt w e valid r fits may g again =
-    let machines = machines_stay b es pt valid r.leads in
-    let on = leads_last b es (first_point b) pt e g.group r.leads (subst (λ (k : ℕ). IsStep k e) (sym machines) fits) g.due in
+    let on = leads_last b es (first_point b) pt e g.group r.leads (subst (λ (k : ℕ). IsStep k e) (sym (machines_stay b es pt valid r.leads)) fits) g.due in
     let lines = sym g.lines in
     let replays = replays_last b gs pt e g.group g.said.lines r.good.replays g.due lines in
     let ((l, h, stands), count) = g.stands in

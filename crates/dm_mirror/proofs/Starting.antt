@@ -120,18 +120,10 @@ known_named b m q (Some p) on e valid =
 apart_record : (b : Boot) (m : ℕ) (q : Pid) (o : Option BootProcess) → (q.home == m) ≡ false → first_record b m q o None ≡ None
 apart_record b m q o off = grind (arith, nat_tests)
 
-abbrev known_if : Boot → Pid → Bool → Bool → Known
-known_if b q c d = if c then (if d then Known.Here else first_said b (process_named q b.processes)) else Known.Unknown
-
 known_first : (b : Boot) (m : ℕ) (q : Pid) (c : Bool) → (q.home == m) ≡ c → is_server q ≡ false → IsValid b
     → KnownStands (first_point b) (placed_start b) q [] [] ((first_point b).view.known m q) (first_record b m q (process_named q b.processes) None)
-known_first b m q true on server valid =
-    let k : (first_point b).view.known m q ≡ first_said b (process_named q b.processes) = first_known b m q valid ∙ ap (λ (c : Bool). known_if b q c (is_server q)) on ∙ ap (known_if b q true) server in
-    subst (λ k. KnownStands (first_point b) (placed_start b) q [] [] k (first_record b m q (process_named q b.processes) None)) (sym k) (known_named b m q (process_named q b.processes) on refl valid)
-known_first b m q false off server valid =
-    let k : (first_point b).view.known m q ≡ Known.Unknown = first_known b m q valid ∙ ap (λ (c : Bool). known_if b q c (is_server q)) off in
-    subst (λ k. KnownStands (first_point b) (placed_start b) q [] [] k (first_record b m q (process_named q b.processes) None)) (sym k)
-    (subst (λ r. KnownStands (first_point b) (placed_start b) q [] [] Known.Unknown r) (sym (apart_record b m q (process_named q b.processes) off)) tt)
+known_first b m q true on server valid = grind (arith, nat_tests, first_known, known_named, b.processes)
+known_first b m q false off server valid = grind (arith, nat_tests, first_known, apart_record, b.processes)
 
 -- servers aren't named
 server_low : (q : Pid) → is_server q ≡ true → q.num < 3

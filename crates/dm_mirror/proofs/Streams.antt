@@ -101,12 +101,8 @@ is_given b bag a c s sent p x fresh there lawful j = search (
   All-push IsLawfulMessage s.given x j.lawful lawful,
 )
 
--- the message that is due goes out, with the next number
-numbered_is : (n k : ℕ) (o : Option Message) (x : Message) → numbered k o ≡ Some (n, x) → n ≡ k
-numbered_is n k o x e = grind (arith, nat_tests)
-
 due_if : (n k : ℕ) (o : Option Message) (x : Message) (t : Bool) → (if t then numbered k o else None) ≡ Some (n, x) → (t ≡ true) × (n ≡ k)
-due_if n k o x t e = grind (arith, nat_tests, numbered_is)
+due_if n k o x t e = grind (arith, nat_tests)
 
 pub gone_next : (n g : ℕ) → n ≡ g → g + 1 ≡ gone_after (Load.Data n) g
 gone_next n g e = grind (arith, nat_tests)

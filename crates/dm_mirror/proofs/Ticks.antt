@@ -5,13 +5,13 @@ use Rattle.dm_mirror.proofs.Names.{spoken, Line, View, NothingElse, after_packet
 use Rattle.dm_mirror.proofs.Names.{StandsWith, stream_of, GoesOn, packet_of_load}
 use Rattle.dm_rule.proofs.Names.{Part}
 use Rattle.std.proofs.lemmas.List.{append_assoc}
-use Rattle.dm_stream.specs.Order as order
-use Rattle.dm_rule.specs.Parts as rule
-use Rattle.dm_rule.specs.Rule as rules
 use Rattle.dm_mirror.proofs.Streams.{joined, put_back, went_again, at_same, node_same}
 use Rattle.dm_mirror.proofs.Puts.{ids_same, line_put, same_senders, spelled_on, spoken-append, stands_begins, stands_put, wire_length}
 use Rattle.dm_mirror.proofs.Deliver.Moves.{given_at as get_there}
 use Rattle.dm_mirror.proofs.QuietSaid.{not_same as apart_of}
+use Rattle.dm_stream.specs.Order as order
+use Rattle.dm_rule.specs.Parts as rule
+use Rattle.dm_rule.specs.Rule as rules
 
 pub stands_begun : (b : Boot) (w : WorldState) (pt : Point) (l : Placed) (h : History) (m : ℕ) → StandsWith b w pt l h → StandsWith b (record w { groups = w.groups + 1 }) (record pt { view = begins pt.view m NothingElse }) l h
 stands_begun b w pt l h m st = stands_begins b w pt l h m NothingElse st
@@ -83,9 +83,6 @@ out_there s k st few =
       ap (λ (t : Bool). if t then numbered (s.sender.acked + k) (slice_get s.sender.unacked k) else None) test ∙ ap (numbered (s.sender.acked + k)) is,
     )
 
-repeats_next : (a c n k : ℕ) → repeats a c (numbers_from n (suc k)) ≡ repeats a c (numbers_from n k) ++ Transmits a c (Load.Data (n + k)) ∷ []
-repeats_next a c n k = ap (repeats a c) (numbers_next n k) ∙ map-append (λ (z : ℕ). Transmits a c (Load.Data z)) (numbers_from n k) ((n + k) ∷ [])
-
 module _ (b : Boot) (l : Placed) (w : WorldState) (m : ℕ) where
   first_then : (pt : Point) (h : History) (c k : ℕ) → m ≢ c → m < pt.kernel.machines → c < pt.kernel.machines → StandsWith b w pt l h → suc k ≤ count_out ((w.nodes m).senders c)
       → Again b l w pt (first_out (w.nodes m) c k) (repeats m c (numbers_from ((w.nodes m).senders c).acked k)) → Again b l w pt (first_out (w.nodes m) c (suc k)) (repeats m c (numbers_from ((w.nodes m).senders c).acked (suc k)))
@@ -96,7 +93,8 @@ module _ (b : Boot) (l : Placed) (w : WorldState) (m : ℕ) where
       let one : Again b l (spoke w outs) a.next (sends (w.nodes m) c (Data (s.acked + k) x) ∷ []) (Transmits m c (Load.Data (s.acked + k)) ∷ []) =
       again_one b l (spoke w outs) a.next a.history m c k (s.acked + k) x apart (omega (arith, small, a.machines)) (omega (arith, less, a.machines)) is a.stands in
       let both = again_then b l w pt outs (sends (w.nodes m) c (Data (s.acked + k) x) ∷ []) (repeats m c (numbers_from s.acked k)) (Transmits m c (Load.Data (s.acked + k)) ∷ []) a one in
-      subst (λ (ps : List Part). Again b l w pt (first_out (w.nodes m) c (suc k)) ps) (sym (repeats_next m c s.acked k))
+      subst (λ (ps : List Part). Again b l w pt (first_out (w.nodes m) c (suc k)) ps)
+      (sym (ap (repeats m c) (numbers_next s.acked k) ∙ map-append (λ (z : ℕ). Transmits m c (Load.Data z)) (numbers_from s.acked k) ((s.acked + k) ∷ [])))
       (subst (λ (o : Option (ℕ × Message)). Again b l w pt (outs ++ again (w.nodes m) c o) (repeats m c (numbers_from s.acked k) ++ Transmits m c (Load.Data (s.acked + k)) ∷ [])) (sym is) both)
 
   -- the first k of what is out to machine c

@@ -1,8 +1,7 @@
 -- The count of an address that a process or a server has doesn't fall until a step gives it a new one.
 use Rattle.dm_movelaws.proofs.Names.{◌≡◌, ℕ, ◌≤◌, ◌||◌, Bool, true, false, List, [], ◌∷◌, refl, ap, ◌∙◌, sym, subst, arith, nat_tests, Option, Some, Pid, Place, MsgId, MessageKind, OneKernel, bind-is, Line, Addresses, Holder, Receiver}
-use Rattle.dm_movelaws.proofs.Names.{Gets, holder_eq, given, gives, belongs_to, leads_to, forwards, all_follow, own_given, first_gives, addresses_after, Point, label_of, kernel_after, moved, after_line, after, View, Told, is_owned}
-use Rattle.dm_movelaws.proofs.Names.{gives_to, is_filled, in_next, refilled, CountsStay, CountsKept, Updated, sort_of}
-use Rattle.dm_rule.specs.View as view
+use Rattle.dm_movelaws.proofs.Names.{Gets, holder_eq, gives, forwards, all_follow, own_given, first_gives, addresses_after, Point, label_of, kernel_after, moved, after_line, after, View, Told, is_owned, gives_to, is_filled, in_next}
+use Rattle.dm_movelaws.proofs.Names.{refilled, CountsStay, CountsKept, sort_of}
 use Rattle.dm_movelaws.proofs.After.{group_after}
 use Rattle.dm_movelaws.proofs.Updates.Always.{updates_always}
 use Rattle.dm_movelaws.proofs.Promise.Slots.{neither as either, not_given}
@@ -32,12 +31,7 @@ first_none h o gs e = grind (arith, nat_tests)
 
 -- each line
 by_line : (pt : Point) (l : Line) (h : Holder) → is_owned h ≡ true → is_filled pt (label_of l) h ≡ false → count_of pt.addresses h ≤ count_of (addresses_after pt.kernel pt.view pt.addresses l) h
-by_line pt (Line.Label l) h mine e = same_count pt.addresses (given pt.addresses (gives pt.kernel pt.view pt.addresses l)) h (not_given pt.addresses h (gives pt.kernel pt.view pt.addresses l) e)
-by_line pt (Line.Forwarded id m) h mine e = search (same_count, not_given, forwards_none)
-by_line pt (Line.SentOn p n) h mine e = search (same_count, not_given, follows_none)
-by_line pt (Line.Put from to id x r) h mine e = search (same_count, not_given, first_none, own_none)
-by_line pt (Line.Updated id n) h mine e = grind (arith, nat_tests)
-by_line pt _ h mine e = omega arith
+by_line pt l h h1 h2 = search (arith, same_count, pt.addresses, pt.kernel, pt.view, not_given, forwards_none, follows_none, first_none, own_none)
 
 by_lines : (ls : List Line) (pt end : Point) (h : Holder) → is_owned h ≡ true → after pt ls ≡ Some end → refilled h pt ls ≡ false → count_of pt.addresses h ≤ count_of end.addresses h
 by_lines [] pt end h mine is e = let f : pt ≡ end = cc in same_count pt.addresses end.addresses h (sym (ap (λ (x : Point). x.addresses h) f))
@@ -56,11 +50,6 @@ counts_stay b (d ∷ ds) pt end h mine (w, fit, is, unfilled, more) =
     let one = by_lines w.lines pt w.point h mine (group_after b pt d w is) unfilled in
     grind (arith, nat_tests, counts_stay b ds w.point end h mine more)
 
--- what an update told stays
-kept_by : (pt next end : Point) (id : MsgId) (n : ℕ) (t : Told) (p : Pid) (c : Place) (h : Holder) → Updated pt next id n → pt.view.told id ≡ Some t → t.about ≡ view.Place p c.at c.moves → belongs_to t.receiver h ≡ true → leads_to pt.kernel h ≡ Some p
-    → count_of next.addresses h ≤ count_of end.addresses h → c.moves ≤ count_of end.addresses h
-kept_by pt next end id n t p c h u told about mine leads stay = grind (arith, nat_tests)
-
 pub counts_kept : CountsKept
 counts_kept b es more pt end d w id n t p c h earlier later valid leads is lines told about mine slot unfilled =
-    kept_by pt w.point end id n t p c h (updates_always b es pt d w id n earlier later valid leads is lines).1 told about mine slot (counts_stay b more w.point end h (grind (arith, nat_tests)) unfilled)
+    search (arith, (updates_always b es pt d w id n earlier later valid leads is lines).1, counts_stay b more w.point end h (grind (arith, nat_tests)) unfilled)

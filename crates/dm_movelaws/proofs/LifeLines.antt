@@ -3,13 +3,13 @@ use Rattle.dm_movelaws.proofs.Names.{◌≡◌, ◌≢◌, ◌⊎◌, ℕ, zero,
 use Rattle.dm_movelaws.proofs.Names.{nat_tests, append-nil, filter-append, Pid, pid_of, pid_eq, PlainLink, MsgId, Boot, first_number, switchboard, manager, PlainProcess, Life, Alive, NamedLink, Pending, pid_eq-is, pid_eq-same, EndLine}
 use Rattle.dm_movelaws.proofs.Names.{block_line, memory_lines, home_with, each_machine, list_line, Addresses, Stood, standing_of, first_with, stood, doing_of, slot_line, link_lines, state_lines, alive_lines, process_lines, homes_with}
 use Rattle.dm_movelaws.proofs.Names.{each_process, name_lines, child_lines, pending_lines, queue_at, queue_lines, holding_lines, inbox_lines, stream_lines, server_lines, end_lines, Point, View, is_server, Run, run_always, tells_life}
-use Rattle.dm_movelaws.proofs.Names.{life_lines, IsSaid, LivesAreSaid, not, ◌&&◌, false≢true, MessageKind, Standing, or, Phase, Nowhere, Rests, Over, Moves, IsIn, knows, is_here, is_restart, is_early, Known, Unknown, Frozen, Forward}
-use Rattle.dm_movelaws.proofs.Names.{agrees, living, stands_by, IsPlace}
+use Rattle.dm_movelaws.proofs.Names.{life_lines, IsSaid, LivesAreSaid, not, ◌&&◌, false≢true, MessageKind, Standing, or, Phase, Nowhere, Rests, Over, Moves, IsIn, knows, is_here, is_restart, is_early, Known, Unknown, agrees, living}
+use Rattle.dm_movelaws.proofs.Names.{stands_by, IsPlace, awaits}
 use Rattle.dm_rule.specs.Ends.{awaits}
-use Rattle.dm_onekernel.specs.Step as kernel
-use Rattle.dm_rule.specs.Phases as phases
 use Rattle.dm_movelaws.proofs.At.RestAlways.{is_unknown_is as unknown_by}
 use Rattle.dm_movelaws.proofs.Stages.Spares.{restart_late}
+use Rattle.dm_onekernel.specs.Step as kernel
+use Rattle.dm_rule.specs.Phases as phases
 
 -- the first of so many machines that is looked for
 record Finds (f : Known → Option Standing) (v : View) (p : Pid) (n : ℕ) : Type 0 where
@@ -50,11 +50,7 @@ placed pt p m x less some =
         place = record { machine = found.within; stands = has_stands (pt.view.known found.at.at p) found.at.standing found.stands };
       }
       | inr none ↦ elim (first_or awaits pt.view p n) [
-        | inl found ↦ record {
-          at = found.at;
-          is = ap (λ (y : Option Stood). or y (first_with awaits pt.view p n)) none.is ∙ found.is;
-          place = record { machine = found.within; stands = awaits_stands (pt.view.known found.at.at p) found.at.standing found.stands };
-        }
+        | inl found ↦ (search (arith, pt.view, awaits_stands, pt.view.known))
         | inr nor ↦ absurd (grind (arith, nat_tests, (none.none m less), (nor.none m less)))
       ]
     ]
@@ -75,13 +71,7 @@ rests_stands v p at e =
 
 -- a process that moves is frozen at its source, or comes to its destination
 leaves_or : (k : MessageKind) (d : ℕ) (x : Known) → phases.kind_leaves k d x ≡ true → (stands_by x ≡ Some Standing.Leaving) ⊎ (is_restart k ≡ true)
-leaves_or k d (Frozen m) e = inl refl
-leaves_or k d (Forward m moves) e = inr (first (is_restart k) (d == m) e)
-  where
-    first : (a b : Bool) → (a && b) ≡ true → a ≡ true
-    first true b e = refl
-    first false b e = absurd (false≢true e)
-leaves_or k d _ e = absurd (false≢true e)
+leaves_or k d x h1 = search arith
 
 comes_stands : (k : MessageKind) (s : ℕ) (x : Known) → is_early k ≡ false → phases.kind_comes k s x ≡ true → stands_by x ≡ Some Standing.Arriving
 comes_stands k s x late e = grind (arith, nat_tests)

@@ -1,8 +1,7 @@
 -- A point determines the kernel with places, but for the queues: what is a process or a message without places, and has the
 -- places of the addresses, is the one that stands there.
-use Rattle.dm_places.proofs.Names.{◌≡◌, ℕ, zero, suc, List, [], ◌∷◌, map, refl, ap, ◌∙◌, sym, option_map, slice_get, Option, None, Some, ArrayVec, Pid, Addr, Link, place_of, plain_link, link_at, plain_slot, MsgId, Message, What, arith, nat_tests}
+use Rattle.dm_places.proofs.Names.{◌≡◌, ℕ, zero, suc, List, [], ◌∷◌, map, refl, ap, ◌∙◌, sym, option_map, slice_get, Option, Some, ArrayVec, Pid, Addr, Link, place_of, plain_link, link_at, plain_slot, MsgId, Message, What, arith, nat_tests}
 use Rattle.dm_places.proofs.Names.{PlainMessage, PlainWhat, plain_message, plain_what, Process, Status, plain_process, plain_status, PlainProcess, View, Addresses, MirrorsMessage, MirrorsProcess, enclosed, owner_at, PointDetermines}
-use Rattle.dm_onekernel.specs.Step as kernel
 use Rattle.dm_places.proofs.Keeps.{parts, there_of}
 use Rattle.dm_places.proofs.Queues.{with_queue}
 use Rattle.dm_places.proofs.Whats.{user_what, create_what, read_what, write_what, block_what, stop_what, resume_what, kill_what, written_what, gone_what, created_what, no_room_what, move_what, moved_what}
@@ -28,10 +27,7 @@ links_are (x ∷ xs) (y ∷ ys) e h =
     let rest : xs ≡ ys = links_are xs ys g (λ k u w. h (suc k) u w) in λ i. first i ∷ rest i
 
 slot_is : (x y : Option Link) → plain_slot x ≡ plain_slot y → ((u w : Link) → x ≡ Some u → y ≡ Some w → place_of u.addr ≡ place_of w.addr) → x ≡ y
-slot_is None None e h = refl
-slot_is None (Some w) e h = cc
-slot_is (Some u) None e h = cc
-slot_is (Some u) (Some w) e h = let f : plain_link u ≡ plain_link w = cc in ap Some (link_is u w f (h u w refl refl))
+slot_is x y h1 h2 = search (arith, link_is)
 
 slots_are : (xs ys : List (Option Link)) → map plain_slot xs ≡ map plain_slot ys → ((k : ℕ) (u w : Link) → link_at xs k ≡ Some u → link_at ys k ≡ Some w → place_of u.addr ≡ place_of w.addr) → xs ≡ ys
 slots_are [] [] e h = refl
@@ -58,19 +54,7 @@ pub process_is : (v : View) (a : Addresses) (p : Pid) (x y : Process) (q : List 
 process_is v a p x y q e h k =
     let table : x.table ≡ y.table = slots_are x.table y.table (ap (λ (z : PlainProcess). z.links) e) (λ n u w f g. sym (h.slots n u f) ∙ k.slots n w g) in
     let stands : x.status ≡ y.status = status_is x.status y.status (ap (λ (z : PlainProcess). z.status) e) (λ o r f g. sym (h.owner o f) ∙ k.owner r g) in
-    let pid : x.pid ≡ y.pid = h.pid ∙ sym k.pid in
-    let moves : x.moves ≡ y.moves = h.moves ∙ sym k.moves in
-    λ i. record {
-      pid = pid i;
-      regs = (e i).regs;
-      memory = (e i).memory;
-      table = table i;
-      status = stands i;
-      stopped = (e i).stopped;
-      sent = (e i).sent;
-      moves = moves i;
-      queue = q;
-    }
+    grind (arith, nat_tests)
 
 -- what two messages say
 what_is : (w z : What) (u : PlainWhat) → plain_what w ≡ Some u → plain_what z ≡ Some u → ((k : ℕ) (x y : Link) → slice_get (enclosed w) k ≡ Some x → slice_get (enclosed z) k ≡ Some y → place_of x.addr ≡ place_of y.addr) → w ≡ z

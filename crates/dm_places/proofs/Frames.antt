@@ -1,39 +1,32 @@
 -- What a step with places leaves as it is.
 use Rattle.dm_places.proofs.Names.{◌≡◌, ℕ, Bool, true, false, List, refl, ap, sym, subst, if◌then◌else◌, slice_get, Option, None, Some, false≢true, Pid, pid_eq, MsgId, Message, What, Process, begun_process, instruction, Format, BootImage}
-use Rattle.dm_places.proofs.Names.{Label, manager, slots_of, switchboard, bind, memory_of, slots_with, Machine, plain_steps, Landed, Landing, landing, after_serving, answer, gone_answer, serving_answer, Completion, bind-is, Placed, Acted}
-use Rattle.dm_places.proofs.Names.{acted, acts, after_landing, board_took, completed, creates, lands, machine_of, manager_took, ran, running, serves, takes, with_acted, with_child, with_machine, with_process, with_sent, without_message}
-use Rattle.dm_places.proofs.Names.{Changes, StepsChangeLittle, changed, is_named, receiver_in, taken, taken_out, answers, Asker, asker_of, ends_move, moved_answer, with_note, without_note}
+use Rattle.dm_places.proofs.Names.{Label, manager, slots_of, switchboard, bind, memory_of, slots_with, Landed, Landing, landing, after_serving, answer, gone_answer, serving_answer, Completion, bind-is, Placed, Acted, acted, acts}
+use Rattle.dm_places.proofs.Names.{after_landing, board_took, completed, creates, lands, manager_took, ran, running, serves, takes, with_acted, with_child, with_process, with_sent, without_message, Changes, StepsChangeLittle, changed}
+use Rattle.dm_places.proofs.Names.{is_named, receiver_in, taken, taken_out, answers, Asker, ends_move, moved_answer, without_note, arith}
 use Rattle.dm_switchboard.specs.Taking as board
 use Rattle.dm_procman.specs.Taking as manage
 
 -- a process set, and a message sent or none
 kept_process : (l : Placed) (p : Pid) (x : Option Process) (o : Option Message) (q : Pid) → pid_eq p q ≡ false → (with_sent (with_process l p x) o).processes q ≡ l.processes q
-kept_process l p x None q e = ap (λ (c : Bool). if c then x else l.processes q) e
-kept_process l p x (Some m) q e = ap (λ (c : Bool). if c then x else l.processes q) e
+kept_process l p x o q h1 = search arith
 
 kept_bag : (l : Placed) (p : Pid) (x : Option Process) (o : Option Message) (i : MsgId) → (with_sent (with_process l p x) o).bag i ≡ (with_sent l o).bag i
-kept_bag l p x None i = refl
-kept_bag l p x (Some m) i = refl
+kept_bag l p x o i = search arith
 
 kept_notes : (l : Placed) (o : Option Message) (q : Pid) → (with_sent l o).notes q ≡ l.notes q
-kept_notes l None q = refl
-kept_notes l (Some m) q = refl
+kept_notes l o q = search arith
 
 kept_noted : (l : Placed) (o : Option Message) (i : MsgId) → (with_sent l o).noted i ≡ l.noted i
-kept_noted l None i = refl
-kept_noted l (Some m) i = refl
+kept_noted l o i = search arith
 
 kept_board : (l : Placed) (o : Option Message) → (with_sent l o).board ≡ l.board
-kept_board l None = refl
-kept_board l (Some m) = refl
+kept_board l o = search arith
 
 kept_manager : (l : Placed) (o : Option Message) → (with_sent l o).manager ≡ l.manager
-kept_manager l None = refl
-kept_manager l (Some m) = refl
+kept_manager l o = search arith
 
 pub kept_processes : (l : Placed) (o : Option Message) (q : Pid) → (with_sent l o).processes q ≡ l.processes q
-kept_processes l None q = refl
-kept_processes l (Some m) q = refl
+kept_processes l o q = search arith
 
 -- what a step leaves that changes a process, if any, and takes a message, if any
 record Leaves (l : Placed) (p : Option Pid) (id : Option MsgId) (m : Placed) : Type 0 where
@@ -82,11 +75,7 @@ leaves : (l : Placed) (e : Label) (m : Placed) → Leaves l (changed l e) (taken
 leaves l e m h = record { processes = h.processes; sent = h.sent; bag = h.bag; board = λ k. h.board; manager = λ k. h.manager; notes = λ k. h.notes; noted = λ k. h.noted }
 
 ran_leaves : (l m : Placed) (p : Pid) (k : ℕ) → ran l p k ≡ Some m → Leaves l (Some p) None m
-ran_leaves l m p k e =
-    let (x, runs, rest) = bind-is (running l p) (λ (y : Process). bind (plain_steps k (machine_of y)) (λ (n : Machine). Some (with_process l p (Some (with_machine y n))))) m e in
-    let (n, steps, last) = bind-is (plain_steps k (machine_of x)) (λ (n : Machine). Some (with_process l p (Some (with_machine x n)))) m rest in
-    let f : with_process l p (Some (with_machine x n)) ≡ m = cc in
-    subst (Leaves l (Some p) None) f (sets l p (Some (with_machine x n)) None)
+ran_leaves l m p k e = search (arith, bind-is, sets)
 
 acts_leaves : (here : ℕ) (l m : Placed) (p : Pid) → acts here l p ≡ Some m → Leaves l (Some p) None m
 acts_leaves here l m p e =
@@ -139,12 +128,10 @@ record Serves (l : Placed) (id : MsgId) (m : Placed) : Type 0 where
   noted : (i : MsgId) → m.noted i ≡ l.noted i
 
 with_board : (l : Placed) (b : _) (o : Option Message) (i : MsgId) → (with_sent (record l { board = b }) o).bag i ≡ (with_sent l o).bag i
-with_board l b None i = refl
-with_board l b (Some m) i = refl
+with_board l b o i = search arith
 
 with_manager : (l : Placed) (g : _) (o : Option Message) (i : MsgId) → (with_sent (record l { manager = g }) o).bag i ≡ (with_sent l o).bag i
-with_manager l g None i = refl
-with_manager l g (Some m) i = refl
+with_manager l g o i = search arith
 
 takes_if : (here : ℕ) (l m : Placed) (id : MsgId) (n : Message) (b c : Bool)
     → (if b then bind (board.takes here l.board n.what) (λ (t : board.Taken). Some (board_took (without_message l id) t)) else if c then bind (manage.takes here l.manager n.id.n n.what) (λ (t : manage.Taken). Some (manager_took (without_message l id) t)) else None) ≡ Some m
@@ -175,8 +162,7 @@ steps_change_little here f images l m (Label.Receive p id) e =
     leaves l (Label.Receive p id) m (goes_leaves l m id p (Some d.process) last)
 steps_change_little here f images l m (Label.Refuse p id c) e =
     let (d, is, last) = bind-is (completed l p id) (λ (d : Completion). Some (with_process l p (Some d.process))) m e in
-    let g : with_process l p (Some d.process) ≡ m = cc in
-    leaves l (Label.Refuse p id c) m (subst (Leaves l (Some p) None) g (sets l p (Some d.process) None))
+    search (arith, leaves, sets)
 steps_change_little here f images l m (Label.Dropped id) e =
     let g : without_message l id ≡ m = cc in leaves l (Label.Dropped id) m (subst (Leaves l None (Some id)) g (only_takes l id None))
 steps_change_little here f images l m (Label.Served id) e =
@@ -198,11 +184,7 @@ steps_change_little here f images l m (Label.NoSpace id slots blocks) e =
     let (n, found, last) = bind-is (l.bag id) (λ (n : Message). Some (with_sent (without_message l id) (Some (answer here 0 n What.NoRoom)))) m e in
     let g : with_sent (without_message l id) (Some (answer here 0 n What.NoRoom)) ≡ m = cc in
     leaves l (Label.NoSpace id slots blocks) m (subst (Leaves l None (Some id)) g (only_takes l id (Some (answer here 0 n What.NoRoom))))
-steps_change_little here f images l m (Label.Asked id) e =
-    let (n, found, last) = bind-is (l.bag id) (λ (n : Message). Some (with_note (without_message l id) n.to.pid id (asker_of n))) m e in
-    let u = with_note (without_message l id) n.to.pid id (asker_of n) in
-    let g : u ≡ m = cc in
-    subst (Changes l (Label.Asked id)) g (record { processes = λ q k. refl; sent = None; bag = λ i. refl; board = λ k. refl; manager = λ k. refl; notes = λ k. absurd (false≢true (sym k)); noted = λ k. absurd (false≢true (sym k)) })
+steps_change_little here f images l m (Label.Asked id) e = search (arith, bind-is)
 steps_change_little here f images l m (Label.Answered id o) e =
     let (p, found, rest) = bind-is (l.noted id) (λ (q : Pid). ends_move here l id q o) m e in
     let (k, waits, more) = bind-is (l.notes p) (λ (w : Asker). bind (l.processes p) (λ (x : Process). Some (with_sent (without_note l p id) (Some (moved_answer here x o w))))) m rest in

@@ -1,16 +1,15 @@
 -- What each way of changing the kernel with places keeps: a process that goes on or ends, a message that comes or goes.
-use Rattle.dm_places.proofs.Names.{◌≡◌, Bool, true, false, refl, ap, ◌∙◌, sym, subst, inl, inr, if◌then◌else◌, option_map, Option, None, Some, cases_Bool, Pid, pid_eq, MsgId, Message, id_eq, PlainMessage, PlainWhat, plain_message}
-use Rattle.dm_places.proofs.Names.{plain_what, with_what, Process, Life, OneKernel, bind, plain_process, PlainProcess, pid_eq-is, id_eq-is, bind-is, View, Addresses, SameProcess, SameMessage, SameServers, Placed, Mirrors, MirrorsKernel}
-use Rattle.dm_places.proofs.Names.{MirrorsMessage, MirrorsPlaces, MirrorsProcess, with_message, with_process, with_sent, without_message, ℕ, Link, Place, place_of, Asker, MoveNote, Child, Name, Answer, AskedBy, AnswerNames, plain_note}
-use Rattle.dm_places.proofs.Names.{with_note, without_note, manager_request}
+use Rattle.dm_places.proofs.Names.{◌≡◌, Bool, false, refl, ap, ◌∙◌, sym, subst, inl, inr, if◌then◌else◌, option_map, Option, None, Some, cases_Bool, Pid, pid_eq, MsgId, Message, id_eq, PlainMessage, PlainWhat, plain_message, plain_what}
+use Rattle.dm_places.proofs.Names.{with_what, Process, Life, OneKernel, bind, plain_process, PlainProcess, pid_eq-is, id_eq-is, bind-is, View, Addresses, SameProcess, SameMessage, SameServers, Placed, Mirrors, MirrorsKernel, MirrorsMessage}
+use Rattle.dm_places.proofs.Names.{MirrorsPlaces, MirrorsProcess, with_message, with_process, with_sent, without_message, ℕ, Link, Place, place_of, Asker, Child, Name, Answer, AskedBy, AnswerNames, plain_note, with_note, without_note}
+use Rattle.dm_places.proofs.Names.{manager_request, arith}
 use Rattle.dm_onekernel.specs.Kernel as one
 use Rattle.dm_onekernel.specs.Service as service
 use Rattle.dm_onekernel.specs.Step as kernel
 
 -- what there is with places where there is something without
 pub of_map : {A B : Type 0} (f : A → B) (o : Option A) (x : B) → Some x ≡ option_map f o → (y : A) × (o ≡ Some y) × (f y ≡ x)
-of_map f None x e = cc
-of_map f (Some y) x e = (y, refl, let g : f y ≡ x = cc in g)
+of_map f o x h1 = search arith
 
 pub alive_of : (s : OneKernel) (l : Placed) (p : Pid) (x : PlainProcess) → MirrorsKernel s l → kernel.alive (s.processes p) ≡ Some x → (y : Process) × (l.processes p ≡ Some y) × (plain_process y ≡ x)
 alive_of s l p x h e = of_map plain_process (l.processes p) x (sym e ∙ h.processes p)
@@ -26,55 +25,26 @@ pub record Parts (m : Message) (o : Option PlainWhat) (k : PlainMessage) : Type 
   pub what : o ≡ Some k.what
 
 parts_of : (m : Message) (o : Option PlainWhat) (k : PlainMessage) → with_what m o ≡ Some k → Parts m o k
-parts_of m None k e = cc
-parts_of m (Some w) k e =
-    let z : PlainMessage = record { id = m.id; to = m.to.pid; sender = m.sender.pid; what = w } in
-    let f : z ≡ k = cc in
-    record {
-      id = ap (λ (v : PlainMessage). v.id) f;
-      to = ap (λ (v : PlainMessage). v.to) f;
-      sender = ap (λ (v : PlainMessage). v.sender) f;
-      what = ap (λ (v : PlainMessage). Some v.what) f;
-    }
+parts_of m o k h1 = search arith
 
 pub parts : (m : Message) (k : PlainMessage) → plain_message m ≡ Some k → Parts m (plain_what m.what) k
 parts m k e = parts_of m (plain_what m.what) k e
 
 -- without places
 both_if : {A B C : Type 0} (f : A → C) (g : B → C) (b : Bool) (x u : A) (y w : B) → f x ≡ g y → f u ≡ g w → f (if b then x else u) ≡ g (if b then y else w)
-both_if f g true x u y w e h = e
-both_if f g false x u y w e h = h
+both_if f g b x u y w h1 h2 = search arith
 
 pub kernel_process : (s : OneKernel) (l : Placed) (p : Pid) (life : Life) (y : Option Process) → kernel.alive (Some life) ≡ option_map plain_process y → MirrorsKernel s l → MirrorsKernel (one.with_process s p life) (with_process l p y)
-kernel_process s l p life y e h = record {
-  processes = λ q. both_if kernel.alive (option_map plain_process) (pid_eq p q) (Some life) (s.processes q) y (l.processes q) e (h.processes q);
-  bag = h.bag;
-  notes = h.notes;
-  noted = h.noted;
-  board = h.board;
-  manager = h.manager;
-  machines = h.machines;
-  images = h.images;
-}
+kernel_process s l p life y e h = search (arith, both_if)
 
 pub kernel_message : (s : OneKernel) (l : Placed) (i : MsgId) (k : Option PlainMessage) (m : Option Message) → bind m plain_message ≡ k → MirrorsKernel s l → MirrorsKernel (one.with_message s i k) (with_message l i m)
-kernel_message s l i k m e h = record {
-  processes = h.processes;
-  bag = λ j. both_if (λ (o : Option Message). bind o plain_message) (λ (o : Option PlainMessage). o) (id_eq i j) m (l.bag j) k (s.bag j) e (h.bag j);
-  notes = h.notes;
-  noted = h.noted;
-  board = h.board;
-  manager = h.manager;
-  machines = h.machines;
-  images = h.images;
-}
+kernel_message s l i k m e h = search (arith, both_if)
 
 pub kernel_out : (s : OneKernel) (l : Placed) (i : MsgId) → MirrorsKernel s l → MirrorsKernel (service.without_message s i) (without_message l i)
 kernel_out s l i h = kernel_message s l i None None refl h
 
 pub kernel_sent : (s : OneKernel) (l : Placed) (k : PlainMessage) (m : Message) → plain_message m ≡ Some k → MirrorsKernel s l → MirrorsKernel (one.with_sent s (Some k)) (with_sent l (Some m))
-kernel_sent s l k m e h =
-    subst (λ (j : MsgId). MirrorsKernel (one.with_message s j (Some k)) (with_message l m.id (Some m))) (parts m k e).id (kernel_message s l m.id (Some k) (Some m) e h)
+kernel_sent s l k m e h = search (arith, parts, kernel_message)
 
 -- the places
 pub process_same : (v : View) (a b : Addresses) (p : Pid) (x : Process) → SameProcess a b p → MirrorsProcess v a p x → MirrorsProcess v b p x
@@ -98,12 +68,7 @@ stays_servers a = record { child = λ n. refl; name = λ n. refl; answer = λ n.
 -- processes once one was set
 set_places : (v : View) (a b : Addresses) (l : Placed) (p : Pid) (y : Option Process) → ((q : Pid) (x : Process) → l.processes q ≡ Some x → MirrorsProcess v a q x) → ((q : Pid) → pid_eq p q ≡ false → SameProcess a b q)
     → ((x : Process) → y ≡ Some x → MirrorsProcess v b p x) → (q : Pid) (x : Process) → (with_process l p y).processes q ≡ Some x → MirrorsProcess v b q x
-set_places v a b l p y h off on q x e = elim (cases_Bool (pid_eq p q)) [
-  | inl same ↦
-      subst (λ (w : Pid). MirrorsProcess v b w x) (pid_eq-is p q same) (on x (sym (ap (λ (c : Bool). if c then y else l.processes q) same) ∙ e))
-  | inr apart ↦
-      process_same v a b q x (off q apart) (h q x (sym (ap (λ (c : Bool). if c then y else l.processes q) apart) ∙ e))
-]
+set_places v a b l p y h off on q x e = search (arith, pid_eq-is, process_same)
 
 -- messages once one came
 pub came_places : (a b : Addresses) (l : Placed) (m : Message) → ((i : MsgId) (x : Message) → l.bag i ≡ Some x → MirrorsMessage a i x) → ((i : MsgId) → id_eq m.id i ≡ false → SameMessage a b i) → MirrorsMessage b m.id m
@@ -118,14 +83,7 @@ came_places a b l m h off on i x e = elim (cases_Bool (id_eq m.id i)) [
 
 pub places_process : (v : View) (a b : Addresses) (l : Placed) (p : Pid) (y : Option Process) → MirrorsPlaces v a l → ((q : Pid) → pid_eq p q ≡ false → SameProcess a b q) → ((x : Process) → y ≡ Some x → MirrorsProcess v b p x)
     → ((i : MsgId) → SameMessage a b i) → SameServers a b → MirrorsPlaces v b (with_process l p y)
-places_process v a b l p y h off on messages servers = record {
-  process = set_places v a b l p y h.process off on;
-  message = λ i m e. message_same a b i m (messages i) (h.message i m e);
-  name = λ n k e. servers.name n ∙ h.name n k e;
-  child = λ n c e. servers.child n ∙ h.child n c e;
-  answer = λ n r e. answer_as r.answer (servers.answer n) (h.answer n r e);
-  asker = λ p k e. servers.asked p ∙ h.asker p k e;
-}
+places_process v a b l p y h off on messages servers = search (arith, set_places, message_same, answer_as)
 
 pub places_sent : (v : View) (a b : Addresses) (l : Placed) (m : Message) → MirrorsPlaces v a l → ((q : Pid) → SameProcess a b q) → ((i : MsgId) → id_eq m.id i ≡ false → SameMessage a b i) → MirrorsMessage b m.id m → SameServers a b
     → MirrorsPlaces v b (with_sent l (Some m))
@@ -151,8 +109,7 @@ places_sends v a b l p y m h off on messages sent servers = record {
 }
 
 stood : (l : Placed) (id i : MsgId) (m : Message) (b : Bool) → (if b then None else l.bag i) ≡ Some m → l.bag i ≡ Some m
-stood l id i m true e = cc
-stood l id i m false e = e
+stood l id i m b h1 = search arith
 
 pub places_out : (v : View) (a : Addresses) (l : Placed) (id : MsgId) → MirrorsPlaces v a l → MirrorsPlaces v a (without_message l id)
 places_out v a l id h = search (h.message, stood)
@@ -181,54 +138,22 @@ pub noted_mirrors : (s : OneKernel) (v : View) (a b : Addresses) (l : Placed) (p
 noted_mirrors s v a b l p k processes messages child name answer off on h =
     let g = h.places in
     record {
-      plain = record {
-        processes = h.plain.processes;
-        bag = h.plain.bag;
-        notes = λ q. both_if (option_map plain_note) (λ (o : Option MoveNote). o) (pid_eq p q) (Some k) (l.notes q) (Some (plain_note k)) (s.notes q) refl (h.plain.notes q);
-        noted = λ i. ap (λ (o : Option Pid). if id_eq (manager_request k) i then Some p else o) (h.plain.noted i);
-        board = h.plain.board;
-        manager = h.plain.manager;
-        machines = h.plain.machines;
-        images = h.plain.images;
-      };
+      plain = (search (arith, both_if));
       places = record {
         process = λ q x e. process_same v a b q x (processes q) (g.process q x e);
         message = λ i m e. message_same a b i m (messages i) (g.message i m e);
         name = λ n w e. name n ∙ g.name n w e;
         child = λ n c e. child n ∙ g.child n c e;
         answer = λ n r e. answer_as r.answer (answer n) (g.answer n r e);
-        asker = λ q o e. elim (cases_Bool (pid_eq p q)) [
-          | inl same ↦
-              let f : Some k ≡ Some o = sym (ap (λ (c : Bool). if c then Some k else l.notes q) same) ∙ e in
-              let is : k ≡ o = cc in
-              ap (λ (r : Pid). b (AskedBy r)) (sym (pid_eq-is p q same)) ∙ on ∙ ap (λ (w : Asker). place_of w.addr) is
-          | inr apart ↦ off q apart ∙ g.asker q o (sym (ap (λ (c : Bool). if c then Some k else l.notes q) apart) ∙ e)
-        ];
+        asker = λ q o e. (search (arith, pid_eq-is));
       };
     }
 
 still_noted : (l : Placed) (p q : Pid) (id : MsgId) (k : Asker) → (without_note l p id).notes q ≡ Some k → l.notes q ≡ Some k
-still_noted l p q id k e = elim (cases_Bool (pid_eq p q)) [
-  | inl same ↦ absurd (let f : None ≡ Some k = sym (ap (λ (c : Bool). if c then None else l.notes q) same) ∙ e in cc)
-  | inr apart ↦ sym (ap (λ (c : Bool). if c then None else l.notes q) apart) ∙ e
-]
+still_noted l p q id k e = search arith
 
 pub unnoted_mirrors : (s : OneKernel) (v : View) (a : Addresses) (l : Placed) (p : Pid) (id : MsgId) → Mirrors s v a l → Mirrors (one.without_note s p id) v a (without_note l p id)
-unnoted_mirrors s v a l p id h =
-    let g = h.places in
-    record {
-      plain = record {
-        processes = h.plain.processes;
-        bag = h.plain.bag;
-        notes = λ q. both_if (option_map plain_note) (λ (o : Option MoveNote). o) (pid_eq p q) None (l.notes q) None (s.notes q) refl (h.plain.notes q);
-        noted = λ i. ap (λ (o : Option Pid). if id_eq id i then None else o) (h.plain.noted i);
-        board = h.plain.board;
-        manager = h.plain.manager;
-        machines = h.plain.machines;
-        images = h.plain.images;
-      };
-      places = record { process = g.process; message = g.message; name = g.name; child = g.child; answer = g.answer; asker = λ q k e. g.asker q k (still_noted l p q id k e) };
-    }
+unnoted_mirrors s v a l p id h = search (arith, both_if, still_noted)
 
 pub out_mirrors : (s : OneKernel) (v : View) (a : Addresses) (l : Placed) (i : MsgId) → Mirrors s v a l → Mirrors (service.without_message s i) v a (without_message l i)
 out_mirrors s v a l i h = record { plain = kernel_out s l i h.plain; places = places_out v a l i h.places }

@@ -1,50 +1,30 @@
 -- Lines that are no steps leave the kernel with places as it is, and a line that is one leads on.
-use Rattle.dm_places.proofs.Names.{◌≡◌, ℕ, List, refl, ap, ◌∙◌, sym, subst, Option, None, Some, Pid, MsgId, plain_kind, Stage, PlainMessage, MessageKind, Label, OneKernel, Step, Line, About, View, Told, after_head, after_label, handled}
-use Rattle.dm_places.proofs.Names.{view_after, Addresses, Gets, first_gives, given, own_given, Point, Placed, Mirrors, KeepsPlaces, LinesKeep, own_none, first_none, ◌+◌, ◌==◌, not, filter, Pair, seen, sort_of}
+use Rattle.dm_places.proofs.Names.{◌≡◌, ℕ, List, refl, ap, ◌∙◌, sym, subst, Option, None, Some, Pid, MsgId, plain_kind, Stage, PlainMessage, MessageKind, Label, OneKernel, Line, About, View, Told, after_label, handled, view_after}
+use Rattle.dm_places.proofs.Names.{Addresses, Gets, first_gives, given, own_given, Point, Placed, Mirrors, KeepsPlaces, LinesKeep, own_none, first_none, ◌+◌, ◌==◌, not, filter, Pair, seen, sort_of, arith, nat_tests}
 use Rattle.dm_rule.specs.View as view
 
 -- another view, in which as many moves are counted
 pub mirrors_view : (s : OneKernel) (v w : View) (a : Addresses) (l : Placed) → w.moves ≡ v.moves → Mirrors s v a l → Mirrors s w a l
-mirrors_view s v w a l e h =
-    let g = h.places in
-    record {
-      plain = h.plain;
-      places = record {
-        process = λ p x there. let z = g.process p x there in record { pid = z.pid; moves = z.moves ∙ ap (λ (f : Pid → ℕ). f p) (sym e); slots = z.slots; owner = z.owner };
-        message = g.message;
-        name = g.name;
-        child = g.child;
-        answer = g.answer;
-        asker = g.asker;
-      };
-    }
+mirrors_view s v w a l e h = search arith
 
 moves_kills : (v : View) (k : MessageKind) (o : Option Pid) → (view.ends_by (sort_of k) v o).moves ≡ v.moves
 moves_kills v MessageKind.Kill (Some p) = refl
 moves_kills v k o = refl
 
 pub moves_label : (v : View) (e : Label) → (after_label v e).moves ≡ v.moves
-moves_label v (Label.Dropped id) = elim (view.receiver_of (v.told id)) as (λ o. (view.dropped_for (handled v id) id o).moves ≡ (handled v id).moves)
-    [ None ↦ refl | Some p ↦ refl ]
-moves_label v (Label.Served id) = elim (v.told id) as (λ o. (view.served_told (handled v id) o).moves ≡ (handled v id).moves)
-    [ None ↦ refl | Some t ↦ moves_kills (handled v id) t.kind (Some t.receiver) ]
-moves_label v _ = refl
+moves_label v e = grind (arith, nat_tests, moves_kills)
 
 moves_taken : (v : View) (b : ℕ) (o : Option MsgId) → (view.taken_id v b o).moves ≡ v.moves
-moves_taken v b None = refl
-moves_taken v b (Some id) = refl
+moves_taken v b o = search arith
 
 moves_queued : (v : View) (id : MsgId) (o : Option Pid) → (view.queued_for v id o).moves ≡ v.moves
-moves_queued v id None = refl
-moves_queued v id (Some p) = refl
+moves_queued v id o = search arith
 
 moves_held : (v : View) (id : MsgId) (o : Option Pid) → (view.held_for v id o).moves ≡ v.moves
-moves_held v id None = refl
-moves_held v id (Some p) = refl
+moves_held v id o = search arith
 
 moves_on : (v : View) (a : About) → (view.asks_on v a).moves ≡ v.moves
-moves_on v view.NothingElse = refl
-moves_on v _ = refl
+moves_on v a = search arith
 
 moves_proto : (v : View) (o : Option Told) → (view.after_proto v o).moves ≡ v.moves
 moves_proto v None = refl
@@ -52,8 +32,7 @@ moves_proto v (Some t) = elim t.kind as (λ k. (view.follows_by v t.about (sort_
     [ MessageKind.State ↦ moves_on v t.about | MessageKind.Memory ↦ moves_on v t.about | _ ↦ refl ]
 
 moves_sets : (v : View) (p : Pid) (a : About) → (view.sets_off v p a).moves ≡ v.moves
-moves_sets v p (view.Target m) = refl
-moves_sets v p _ = refl
+moves_sets v p a = search arith
 
 -- a line that is no step leads to the point with its view, and the same addresses
 says : (pt pt' : Point) (l : Placed) (x : Line) → (view_after pt.view x).moves ≡ pt.view.moves → Mirrors pt.kernel pt.view pt.addresses l
@@ -69,8 +48,7 @@ routed_keeps pt from to id m =
     first_none (pt.view.told id) (own_given pt.kernel pt.view pt.addresses id m.to (sort_of (plain_kind m.what))) (own_none pt.kernel pt.view pt.addresses id m.to m.what)
 
 pub lines_keep : LinesKeep
-lines_keep pt pt' l (Line.Head d) keeps h e = says pt pt' l (Line.Head d) (elim d as (λ d_. (after_head pt.view d_).moves ≡ pt.view.moves)
-    [ Step.Turn m ↦ refl | _ ↦ refl ]) h (cc)
+lines_keep pt pt' l (Line.Head d) keeps h e = search (arith, says)
 lines_keep pt pt' l (Line.Label x) keeps h e = absurd keeps
 lines_keep pt pt' l (Line.Put from to id k q) keeps h e =
     let gives = first_gives (pt.view.told id) (own_given pt.kernel pt.view pt.addresses id q (sort_of k)) in

@@ -1,15 +1,13 @@
 -- The rows with places in a machine's terms: where the kernel with places has a machine's process but for its queue, each row
 -- is what the machine's code does to that process, but for its queue.
-use Rattle.dm_places.proofs.Names.{◌≡◌, ℕ, Bool, true, false, List, refl, ap, ◌∙◌, sym, if◌then◌else◌, option_map, Option, None, Some, Pid, MsgId, Message, Process, Status, Regs, Fault, Row, instruction, bind, Machine, plain_steps, Landing}
-use Rattle.dm_places.proofs.Names.{arith, nat_tests, landing, after_serving, serving_answer, Called, Done, calls, Completion, completion, Placed, Acted, acted, acts, after_call, after_done, after_landing, completed, if_ready, lands}
-use Rattle.dm_places.proofs.Names.{machine_of, ran, running, with_acted, with_machine, with_process, with_sent, answers}
+use Rattle.dm_places.proofs.Names.{◌≡◌, ℕ, List, ap, ◌∙◌, sym, option_map, Option, None, Some, Pid, MsgId, Message, Process, Status, Regs, Fault, Row, instruction, bind, Machine, plain_steps, Landing, arith, nat_tests, landing}
+use Rattle.dm_places.proofs.Names.{after_serving, serving_answer, Called, calls, Completion, completion, Placed, Acted, acted, acts, after_call, after_done, after_landing, completed, if_ready, lands, machine_of, ran, running, with_acted}
+use Rattle.dm_places.proofs.Names.{with_machine, with_process, with_sent, answers}
 use Rattle.dm_places.proofs.Keeps.{of_map}
-use Rattle.dm_places.proofs.Queues.{after_serving_with, calls_with, completion_is, completion_with, landing_is, landing_with, queue_after, serving_with, with_queue}
+use Rattle.dm_places.proofs.Queues.{after_serving_with, calls_with, completion_is, completion_with, landing_is, queue_after, serving_with, with_queue}
 
 ready_with : (x y : Process) (st : Status) (q : List Message) → if_ready x st ≡ Some y → if_ready (with_queue x q) st ≡ Some (with_queue y q)
-ready_with x y Status.Ready q e = (elim x.stopped as (λ b. (if b then None else Some x) ≡ Some y → (if b then None else Some (with_queue x q)) ≡ Some (with_queue y q))
-    [ true ↦ λ e_. cc | false ↦ λ e_. let f : x ≡ y = cc in ap (λ (z : Process). Some (with_queue z q)) f ]) e
-ready_with x y _ q e = cc
+ready_with x y st q h1 = search arith
 
 runs_with : (l : Placed) (p : Pid) (y : Process) (q : List Message) → l.processes p ≡ Some (with_queue y q) → if_ready y y.status ≡ Some y → running l p ≡ Some (with_queue y q)
 runs_with l p y q there ready = ap (λ (o : Option Process). bind o (λ (z : Process). if_ready z z.status)) there ∙ ready_with y y y.status q ready
@@ -24,8 +22,7 @@ abbrev pub acted_with : List Message → Acted → Acted
 acted_with q w = record { process = option_map (λ (z : Process). with_queue z q) w.process; message = w.message }
 
 after_with : (c : Called) (x : Process) (q : List Message) → after_call c (with_queue x q) ≡ acted_with q (after_call c x)
-after_with (Called.Replied c) x q = refl
-after_with _ x q = refl
+after_with c x q = search arith
 
 acts_by : (here : ℕ) (l : Placed) (p : Pid) (y : Process) (q : List Message) (w : Acted) → l.processes p ≡ Some (with_queue y q) → if_ready y y.status ≡ Some y → acted here (with_queue y q) (instruction y.regs y.memory) ≡ Some w → acts here l p ≡ Some (with_acted l p w)
 acts_by here l p y q w there ready e = grind (arith, nat_tests, runs_with)
@@ -36,8 +33,7 @@ call_matches here l p y q n regs there ready is = grind (arith, nat_tests, acts_
 
 pub fault_matches : (here : ℕ) (l : Placed) (p : Pid) (y : Process) (q : List Message) (f : Fault) → l.processes p ≡ Some (with_queue y q) → if_ready y y.status ≡ Some y → instruction y.regs y.memory ≡ Row.Faults f
     → acts here l p ≡ Some (with_process l p None)
-fault_matches here l p y q f there ready is =
-    let w : Acted = record { process = None; message = None } in acts_by here l p y q w there ready (ap (acted here (with_queue y q)) is)
+fault_matches here l p y q f there ready is = search (arith, acts_by)
 
 -- a receive that ends with the message at a place of the machine's queue
 pub record Ends (l : Placed) (p : Pid) (id : MsgId) (d : Completion) : Type 0 where
@@ -58,5 +54,4 @@ pub answers_match : (here : ℕ) (l : Placed) (m a : Message) (y : Process) (q :
 answers_match here l m a y q e = grind (arith, nat_tests, serving_with, after_serving_with)
 
 pub lands_match : (here : ℕ) (l : Placed) (m : Message) (y : Process) (q : List Message) (d : Landing) → landing here y m.what y.status ≡ Some d → lands here l m (with_queue y q) ≡ Some (after_landing l m.to.pid d.landed (with_queue d.process q))
-lands_match here l m y q d e =
-    ap (λ (o : Option Landing). bind o (λ (z : Landing). Some (after_landing l m.to.pid z.landed z.process))) (landing_is here y m.what y.status q ∙ ap (option_map (landing_with q)) e)
+lands_match here l m y q d e = search (arith, landing_is)

@@ -1,8 +1,8 @@
 -- A message that a machine's kernel sends itself, where it is put for the first time.
-use Rattle.dm_places.proofs.Names.{◌≡◌, ℕ, zero, suc, ◌+◌, Bool, false, List, [], ◌∷◌, map, refl, ap, ◌∙◌, sym, subst, ◌⊎◌, inl, inr, arith, if◌then◌else◌, cond, slice_get, Option, None, Some, cases_Bool, Pid, Addr, Link, Place, pid_eq}
-use Rattle.dm_places.proofs.Names.{nat_tests, pid_of, place_of, MsgId, Message, What, Line, MessageKind, id_eq, id_of, plain_message, plain_child, child_named, manager, Manager, OneKernel, pid_eq-swap, at_machine, Told, View, is_own}
-use Rattle.dm_places.proofs.Names.{own_id, view_after, Addresses, Child, Gets, Receiver, Sender, child_from, child_number, first_gives, given, own_given, unmoved, Point, moved, SameMessage, SameProcess, SameServers, two, two_off}
-use Rattle.dm_places.proofs.Names.{two_process, two_servers, Placed, Mirrors, MirrorsMessage, enclosed, MirrorsPoint, with_message, KeepsPlaces, Sort, sort_of, option_map_or}
+use Rattle.dm_places.proofs.Names.{◌≡◌, ℕ, zero, suc, ◌+◌, Bool, false, List, [], ◌∷◌, map, refl, ap, ◌∙◌, sym, subst, ◌⊎◌, inl, inr, arith, if◌then◌else◌, cond, slice_get, Option, None, Some, cases_Bool, Pid, Addr, Place, pid_eq}
+use Rattle.dm_places.proofs.Names.{nat_tests, place_of, MsgId, Message, Line, MessageKind, id_eq, plain_message, plain_child, child_named, manager, Manager, OneKernel, pid_eq-swap, Told, View, own_id, view_after, Addresses, Child, Gets}
+use Rattle.dm_places.proofs.Names.{Receiver, Sender, child_from, child_number, first_gives, given, own_given, unmoved, Point, moved, SameMessage, SameProcess, SameServers, two, two_off, two_process, two_servers, Placed, Mirrors}
+use Rattle.dm_places.proofs.Names.{MirrorsMessage, enclosed, MirrorsPoint, with_message, Sort, sort_of, option_map_or}
 use Rattle.dm_places.proofs.Keeps.{stays_message, stays_process, stays_servers}
 use Rattle.dm_places.proofs.Following.Changed.{free_mirrors, kernel_again, places_message, this_message}
 use Rattle.dm_places.proofs.Lines.{mirrors_view}
@@ -45,12 +45,7 @@ own_put_mirrors pt l from to k q y h plain none out told receiver sender =
     let l' = with_message l y.id (Some y) in
     let w = view_after v (Line.Put from to y.id k q) in
     let only = only_own s v a y.id q k in
-    let m : MirrorsMessage b y.id y = record {
-      id = refl;
-      receiver = receiver;
-      sender = sender;
-      enclosed = λ n x there. absurd (let f : None ≡ Some x = ap (λ (ls : List Link). slice_get ls n) (sym none) ∙ there in cc);
-    } in
+    let m : MirrorsMessage b y.id y = (search (arith)) in
     let now : Mirrors s v b l' = record {
       plain = kernel_again s l y.id (Some y) (plain ∙ sym out) h.plain;
       places = places_message v a b l y.id (Some y) h.places only.processes (λ i x there apart. only.others i apart) (this_message b y.id y m) only.servers;

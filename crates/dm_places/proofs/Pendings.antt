@@ -1,7 +1,7 @@
 -- The manager's requests with places: their numbers ascend, so that each has its own.
-use Rattle.dm_places.proofs.Names.{◌≡◌, ℕ, zero, suc, ◌+◌, ◌==◌, Bool, true, false, List, [], ◌∷◌, ◌++◌, length, ap, ◌∙◌, sym, ◌⊎◌, inl, inr, arith, if◌then◌else◌, map, option_map, nat_le, nat_lt, None, Some, cases_Bool, nat_tests}
-use Rattle.dm_places.proofs.Names.{length-map, Pid, Addr, place_of, Pending, at_home, plain_child, plain_pending, child_address, pending_request, without_pending, plain_pending_numbered, Addresses, gets, given, Child, unmoved, ascends}
-use Rattle.dm_places.proofs.Names.{and-both, get_last, numbered_from}
+use Rattle.dm_places.proofs.Names.{◌≡◌, ℕ, zero, suc, ◌+◌, ◌==◌, Bool, true, false, List, [], ◌∷◌, ◌++◌, length, ap, ◌∙◌, sym, ◌⊎◌, inl, inr, arith, if◌then◌else◌, map, option_map, nat_le, nat_lt, Some, cases_Bool, nat_tests, length-map}
+use Rattle.dm_places.proofs.Names.{Pid, Addr, place_of, Pending, at_home, plain_child, plain_pending, child_address, pending_request, without_pending, plain_pending_numbered, Addresses, gets, given, Child, unmoved, ascends, and-both}
+use Rattle.dm_places.proofs.Names.{get_last, numbered_from}
 
 pub numbered_below : (ps : List Pending) (from to n : ℕ) (r : Pending) → ascends from (map plain_pending ps) to ≡ true → pending_request n ps ≡ Some r → (nat_le from n ≡ true) × (nat_lt n to ≡ true)
 numbered_below ps from to n r e f = numbered_from (map plain_pending ps) from to n (plain_pending r) e (plain_pending_numbered n ps ∙ ap (option_map plain_pending) f)

@@ -1,6 +1,6 @@
 -- The lines of a message that is put: the put, and a packet where it goes out at once.
-use Rattle.dm_places.proofs.Names.{◌≡◌, ℕ, ◌==◌, Bool, true, false, List, [], ◌∷◌, length, refl, ap, ◌∙◌, sym, subst, inl, inr, if◌then◌else◌, Option, Some, cases_Bool, Pid, MsgId, MessageKind, id_eq, plain_kind, PlainMessage, bind, arith}
-use Rattle.dm_places.proofs.Names.{nat_tests, id_eq-is, bind-is, Line, Load, Told, first_told, own_id, Receiver, Again, Routes, goes_out, lines_of, puts, Point, after, moved, Placed, MirrorsPoint, Gets, given}
+use Rattle.dm_places.proofs.Names.{◌≡◌, ℕ, Bool, List, [], ◌∷◌, refl, ap, ◌∙◌, sym, if◌then◌else◌, Option, Some, Pid, MsgId, MessageKind, plain_kind, PlainMessage, bind, arith, nat_tests, id_eq-is, bind-is, Line, Load, Told, own_id}
+use Rattle.dm_places.proofs.Names.{Receiver, Again, Routes, lines_of, puts, Point, after, moved, Placed, MirrorsPoint, Gets, given}
 use Rattle.dm_places.proofs.Lines.{lines_keep, routed_keeps, told_keeps}
 use Rattle.dm_places.proofs.OwnPuts.{put_own_id}
 
@@ -17,18 +17,10 @@ same_point pt = record { kernel = refl; addresses = refl; own = refl; told = λ 
 
 -- the packet after a put speaks of the view before it
 packet_after : (pt pt' mid : Point) (a b n k : ℕ) (c d : Bool) → after mid (if c then [] else if d then Line.Packet a b k (Load.Data n) ∷ [] else []) ≡ Some pt' → SamePoint mid pt'
-packet_after pt pt' mid a b n k true d e = let f : mid ≡ pt' = cc in subst (SamePoint mid) f (same_point mid)
-packet_after pt pt' mid a b n k false false e = let f : mid ≡ pt' = cc in subst (SamePoint mid) f (same_point mid)
-packet_after pt pt' mid a b n k false true e =
-    let x = Line.Packet a b k (Load.Data n) in
-    let f : moved mid x mid.kernel ≡ pt' = cc in
-    subst (SamePoint mid) f (record { kernel = refl; addresses = refl; own = refl; told = λ i. refl; mirrors = λ l h. lines_keep mid (moved mid x mid.kernel) l x tt h refl })
+packet_after pt pt' mid a b n k c d h1 = search (arith, same_point, lines_keep)
 
 pub puts_same : (pt pt' : Point) (b : ℕ) (id : MsgId) (k : MessageKind) (q : Pid) → after pt (puts pt.view b id k q) ≡ Some pt' → SamePoint (moved pt (Line.Put pt.view.acting b id k q) pt.kernel) pt'
-puts_same pt pt' b id k q e =
-    let v = pt.view in
-    let p = v.pair v.acting b in
-    packet_after pt pt' (moved pt (Line.Put v.acting b id k q) pt.kernel) v.acting b (length p.ids) (length p.wire) (v.acting == b) (goes_out p) e
+puts_same pt pt' b id k q e = search (arith, packet_after)
 
 -- a message of the bag
 pub routes_mirrors : (pt pt' : Point) (l : Placed) (id : MsgId) (ls : List Line) → MirrorsPoint pt l → lines_of pt (Routes id) ≡ Some ls → after pt ls ≡ Some pt' → MirrorsPoint pt' l

@@ -1,8 +1,7 @@
 -- The messages that wait for a process change nothing of what it does: each function of the machines' code commutes with
 -- setting the queue, which a received message leaves.
-use Rattle.dm_places.proofs.Names.{◌≡◌, ℕ, ◌-◌, ◌==◌, Bool, true, false, List, map, refl, ap, ◌∙◌, if◌then◌else◌, option_map, remove, Option, None, Some, Link, plain_link, first_empty, link_at, Message, MsgId, What, Called, Process, arith}
-use Rattle.dm_places.proofs.Names.{nat_tests, Direction, Status, direction_numbered, Reply, CallNumber, Make, Copy, Drop, Send, Receive, Move, call_number, is_outside, is_reply, make_refusals, move_refusals, send_refusals, plain_process}
-use Rattle.dm_places.proofs.Names.{reg, piece_of, written_at, receive_refusals, first_failed, Rest, Landing, after_serving, serving_answer, answer_of, answer_with, Completed, Done, Completion}
+use Rattle.dm_places.proofs.Names.{◌≡◌, ℕ, Bool, List, refl, if◌then◌else◌, option_map, remove, Option, Link, Message, MsgId, What, Process, arith, nat_tests, Direction, Status, Reply, CallNumber, call_number, Rest, Landing, after_serving}
+use Rattle.dm_places.proofs.Names.{serving_answer, Completed, Done, Completion}
 use Rattle.dm_datamove.specs.Landing as landing
 use Rattle.dm_syscall.specs.Calls as calls
 use Rattle.dm_syscall.specs.Completing as completing
@@ -15,42 +14,25 @@ abbrev pub done_with : Done → List Message → Done
 done_with d q = record { called = d.called; process = with_queue d.process q }
 
 unless_with : (o : Option Reply) (x : Process) (d : Done) (q : List Message) → calls.unless_refused o (with_queue x q) (done_with d q) ≡ done_with (calls.unless_refused o x d) q
-unless_with None x d q = refl
-unless_with (Some c) x d q = refl
+unless_with o x d q = search arith
 
 if_with : (b : Bool) (c d : Done) (q : List Message) → (if b then done_with c q else done_with d q) ≡ done_with (if b then c else d) q
-if_with true c d q = refl
-if_with false c d q = refl
+if_with b c d q = search arith
 
 puts_with : (x : Process) (w : Link) (o : Option ℕ) (q : List Message) → calls.puts_link (with_queue x q) w o ≡ done_with (calls.puts_link x w o) q
-puts_with x w None q = refl
-puts_with x w (Some slot) q = refl
+puts_with x w o q = search arith
 
 sends_with : (here : ℕ) (x : Process) (o : Option Link) (q : List Message) → calls.sends here (with_queue x q) o ≡ done_with (calls.sends here x o) q
-sends_with here x None q = refl
-sends_with here x (Some w) q =
-    unless_with (first_failed (send_refusals (plain_process x))) x (record { called = Called.Sent (calls.message_over here x w); process = calls.after_send x }) q
+sends_with here x o q = search (arith, unless_with)
 
 begins_with : (here : ℕ) (x : Process) (w : Link) (dir : Direction) (q : List Message) → calls.begins here (with_queue x q) (calls.whole (with_queue x q) w dir) ≡ done_with (calls.begins here x (calls.whole x w dir)) q
-begins_with here x w Direction.FromArea q = refl
-begins_with here x w Direction.IntoArea q = refl
+begins_with here x w dir q = search arith
 
 moves_with : (here : ℕ) (x : Process) (o : Option Link) (q : List Message) → calls.moves here (with_queue x q) o ≡ done_with (calls.moves here x o) q
-moves_with here x None q = refl
-moves_with here x (Some w) q = elim (direction_numbered (reg x.regs 2)) as (λ o. calls.moves_over here (with_queue x q) w o ≡ done_with (calls.moves_over here x w o) q)
-    [ None ↦ refl | Some dir ↦ grind (arith, nat_tests, begins_with, if_with, unless_with) ]
+moves_with here x o q = search (arith, begins_with, if_with, unless_with)
 
 does_with : (here : ℕ) (x : Process) (n : CallNumber) (q : List Message) → calls.does_call here (with_queue x q) n ≡ done_with (calls.does_call here x n) q
-does_with here x Make q = grind (arith, nat_tests, puts_with, unless_with)
-does_with here x Copy q = elim (link_at x.table (reg x.regs 1)) as (λ o. calls.copies (with_queue x q) o ≡ done_with (calls.copies x o) q)
-    [ None ↦ refl | Some w ↦ grind (arith, nat_tests, puts_with, if_with) ]
-does_with here x Drop q = elim (link_at x.table (reg x.regs 1)) as (λ o. calls.drops (with_queue x q) o ≡ done_with (calls.drops x o) q)
-    [ None ↦ refl | Some w ↦ refl ]
-does_with here x Send q = sends_with here x (link_at x.table (reg x.regs 1)) q
-does_with here x Receive q =
-    if_with (is_outside (plain_process x) (reg x.regs 2) (reg x.regs 3)) (calls.replied Reply.BadRange x) (record { called = Called.Waits; process = record x { status = Status.Waiting (reg x.regs 1) (reg x.regs 2) (reg x.regs 3) } }) q
-does_with here x Move q = moves_with here x (link_at x.table (reg x.regs 1)) q
-does_with here x _ q = refl
+does_with here x n q = search (arith, puts_with, unless_with, if_with, sends_with, moves_with)
 
 pub calls_with : (here : ℕ) (x : Process) (n : ℕ) (q : List Message) → calls.calls here (with_queue x q) n ≡ done_with (calls.calls here x n) q
 calls_with here x n q = does_with here x (call_number n) q
@@ -65,34 +47,26 @@ completion_with q place d = record { completed = d.completed; process = with_que
 
 completes_with : (x : Process) (q : List Message) (place : ℕ) (id : MsgId) (base code channel : ℕ) (body : List ℕ) (links : List Link) (o : Option Reply)
     → completing.completes_unless o (with_queue x q) (completing.receives (with_queue x q) place id base code channel body links) ≡ completion_with q place (completing.completes_unless o x (completing.receives x 0 id base code channel body links))
-completes_with x q place id base code channel body links None = refl
-completes_with x q place id base code channel body links (Some c) = refl
+completes_with x q place id base code channel body links o = search arith
 
 what_with : (x : Process) (q : List Message) (place : ℕ) (id : MsgId) (base size : ℕ) (w : What) → completing.completes (with_queue x q) place id base size w ≡ option_map (completion_with q place) (completing.completes x 0 id base size w)
-what_with x q place id base size (What.User code channel body links) =
-    ap Some (completes_with x q place id base code channel body.items links.items (first_failed (receive_refusals (plain_process x) size body.items (map plain_link links.items))))
-what_with x q place id base size w = refl
+what_with x q place id base size w = search (arith, completes_with)
 
 pub completion_is : (x : Process) (q : List Message) (place : ℕ) (st : Status) (o : Option Message) → completing.completion (with_queue x q) place st o ≡ option_map (completion_with q place) (completing.completion x 0 st o)
-completion_is x q place (Status.Waiting mask base size) (Some m) = what_with x q place m.id base size m.what
-completion_is x q place (Status.Waiting mask base size) None = refl
-completion_is x q place _ o = refl
+completion_is x q place st o = search (arith, what_with)
 
 pub serving_with : (here : ℕ) (x : Process) (m : Message) (q : List Message) → serving_answer here (with_queue x q) m ≡ serving_answer here x m
-serving_with here x m q = elim m.what as (λ w. answer_with here (with_queue x q) m (answer_of (with_queue x q) w) ≡ answer_with here x m (answer_of x w))
-    [ What.Read base len ↦ refl | What.Write base bytes ↦ refl | w ↦ refl ]
+serving_with here x m q = search arith
 
 pub after_serving_with : (x : Process) (w : What) (q : List Message) → after_serving (with_queue x q) w ≡ with_queue (after_serving x w) q
-after_serving_with x (What.Write base bytes) q = refl
-after_serving_with x w q = refl
+after_serving_with x w q = search arith
 
 -- the landing of a piece
 abbrev pub landing_with : List Message → Landing → Landing
 landing_with q d = record { landed = d.landed; process = with_queue d.process q }
 
 if_landing : (b : Bool) (c d : Landing) (q : List Message) → (if b then landing_with q c else landing_with q d) ≡ landing_with q (if b then c else d)
-if_landing true c d q = refl
-if_landing false c d q = refl
+if_landing b c d q = search arith
 
 asks_with : (here : ℕ) (x : Process) (dir : Direction) (r : Rest) (q : List Message) → r.dir ≡ dir → landing.asks here (with_queue x q) r ≡ landing_with q (landing.asks here x r)
 asks_with here x dir r q e = refl
@@ -101,13 +75,7 @@ goes_on_with : (here : ℕ) (x : Process) (r : Rest) (q : List Message) → land
 goes_on_with here x r q = grind (arith, nat_tests, asks_with, if_landing)
 
 lands_with : (here : ℕ) (x : Process) (r : Rest) (dir : Direction) (w : What) (q : List Message) → landing.lands_what here (with_queue x q) r dir w ≡ option_map (landing_with q) (landing.lands_what here x r dir w)
-lands_with here x r Direction.FromArea (What.Block bytes) q = ap Some (goes_on_with here (record x { memory = written_at x.memory r.own bytes.items }) r q)
-lands_with here x r Direction.IntoArea What.Written q = ap Some (goes_on_with here x r q)
-lands_with here x r Direction.FromArea What.Gone q = refl
-lands_with here x r Direction.IntoArea What.Gone q = refl
-lands_with here x r dir w q = refl
+lands_with here x r dir w q = grind (arith, nat_tests, goes_on_with)
 
 pub landing_is : (here : ℕ) (x : Process) (w : What) (st : Status) (q : List Message) → landing.landing here (with_queue x q) w st ≡ option_map (landing_with q) (landing.landing here x w st)
-landing_is here x w (Status.Moving dir owner base own left pending) q =
-    lands_with here x (record { dir = dir; owner = owner; base = base; own = own; left = left }) dir w q
-landing_is here x w _ q = refl
+landing_is here x w st q = search (arith, lands_with)

@@ -1,10 +1,10 @@
 -- Where a run begins, the boot file's processes with their links mirror the first point.
-use Rattle.dm_places.proofs.Names.{◌≡◌, ℕ, zero, suc, ◌-◌, Bool, true, false, List, [], ◌∷◌, length, refl, ap, ◌∙◌, sym, subst, inl, inr, if◌then◌else◌, map, option_map, slice_get, Option, None, Some, cases_Bool, Pid, Addr, Link, pid_eq}
-use Rattle.dm_places.proofs.Names.{place_of, plain_link, Process, begun_process, BootImage, BootProcess, Boot, slots_of, Alive, Life, plain_process, memory_of, slots_with, child_at_home, plain_child, child_address, pid_eq-is, first_view}
-use Rattle.dm_places.proofs.Names.{first_addresses, links_at, nth_child, unmoved, MirrorsProcess, started, started_at, StartMirrors, option_map_or}
+use Rattle.dm_places.proofs.Names.{◌≡◌, ℕ, zero, suc, ◌-◌, Bool, List, [], ◌∷◌, length, refl, ap, ◌∙◌, sym, subst, inl, inr, if◌then◌else◌, map, option_map, slice_get, Option, None, Some, cases_Bool, Pid, Addr, Link, pid_eq, place_of}
+use Rattle.dm_places.proofs.Names.{plain_link, Process, begun_process, BootImage, BootProcess, Boot, slots_of, Alive, Life, plain_process, memory_of, slots_with, child_at_home, plain_child, child_address, pid_eq-is, first_view}
+use Rattle.dm_places.proofs.Names.{first_addresses, links_at, nth_child, unmoved, MirrorsProcess, started, started_at, StartMirrors, option_map_or, arith}
+use Rattle.dm_places.proofs.Labels.Creates.{begun_link, begun_plainly}
 use Rattle.dm_onekernel.specs.Start as one
 use Rattle.dm_onekernel.specs.Step as kernel
-use Rattle.dm_places.proofs.Labels.Creates.{begun_link, begun_plainly}
 
 -- without places
 started_plainly_of : (b : Boot) (p : BootProcess) (o : Option BootImage)
@@ -15,8 +15,7 @@ started_plainly_of b p (Some image) = ap Some (begun_plainly b.format p.pid imag
 
 started_if : (b : Boot) (p : BootProcess) (c : Bool) (x : Option Life) (y : Option Process) → kernel.alive x ≡ option_map plain_process y
     → kernel.alive (if c then one.first_life b p else x) ≡ option_map plain_process (if c then started b p else y)
-started_if b p true x y e = started_plainly_of b p (slice_get b.images p.image)
-started_if b p false x y e = e
+started_if b p c x y h1 = search (arith, started_plainly_of)
 
 started_plainly : (b : Boot) (ps : List BootProcess) (q : Pid) → kernel.alive (one.life_at b ps q) ≡ option_map plain_process (started_at b ps q)
 started_plainly b [] q = refl

@@ -1,6 +1,6 @@
 -- Each step with places, a label after the other.
-use Rattle.dm_places.proofs.Names.{◌≡◌, ◌∙◌, ap, subst, sym, true, ℕ, Some, Label, Line, Manager, OneKernel, View, Addresses, addresses_after, ascends, Point, after_line, moved, bind-is, Placed, Mirrors, placed_step, StepNeeds, StepsFollow}
-use Rattle.dm_places.proofs.Names.{MirrorsPoint}
+use Rattle.dm_places.proofs.Names.{◌≡◌, ◌∙◌, ap, sym, true, ℕ, Some, Label, Line, Manager, OneKernel, View, Addresses, addresses_after, ascends, Point, after_line, moved, bind-is, Placed, Mirrors, placed_step, StepNeeds, StepsFollow}
+use Rattle.dm_places.proofs.Names.{MirrorsPoint, arith, nat_tests}
 use Rattle.dm_onekernel.specs.Step as kernel
 use Rattle.dm_places.proofs.Lines.{mirrors_view, moves_label}
 use Rattle.dm_places.proofs.Labels.Acts.{ran_follows, call_follows, send_follows, wait_follows, out_follows, end_follows}
@@ -46,5 +46,4 @@ label_follows pt pt' l e needs h is =
     let (t, step, last) = bind-is (kernel.step pt.kernel e) (λ (s : OneKernel). Some (moved pt (Line.Label e) s)) pt' is in
     let f : moved pt (Line.Label e) t ≡ pt' = cc in
     let (m, placed, mirrors) = steps_follow pt.kernel t pt.view pt.addresses l e h (needs t step) step in
-    let next = moved pt (Line.Label e) t in
-    (m, placed, subst (λ (q : Point). MirrorsPoint q m) f (mirrors_view t pt.view next.view next.addresses m (moves_label pt.view e) mirrors))
+    grind (arith, nat_tests, mirrors_view, moves_label)

@@ -27,11 +27,7 @@ bag_none r e s i zero_ h = (elim (s.bag i) as (λ o. s.bag i ≡ o → o ≡ Non
     [ None ↦ λ f. refl | Some m ↦ λ f. absurd (let k = h.fewer i in let g : in_bag (s.bag i) ≡ 1 = ap in_bag f in omega (arith, k, g, zero_)) ]) refl
 
 hidden_none : (out : Option MsgId) (bag : MsgId → Option PlainMessage) (i : MsgId) → bag i ≡ None → hidden out bag i ≡ None
-hidden_none None bag i e = e
-hidden_none (Some j) bag i e = elim (cases_Bool (id_eq j i)) [
-  | inl here ↦ ap (λ (b : Bool). if b then None else bag i) here
-  | inr apart ↦ ap (λ (b : Bool). if b then None else bag i) apart ∙ e
-]
+hidden_none out bag i h1 = search arith
 
 -- a message enters, and maybe one goes
 pub steps_in : (r e : MsgId → ℕ) (s u : OneKernel) (out : Option MsgId) (m : PlainMessage) → ((i : MsgId) → u.bag i ≡ hidden out s.bag i) → e m.id ≡ 0 → Entered r e s → BagStep e s (with_sent u (Some m)) out (Some m.id)
@@ -93,10 +89,7 @@ took_id s m =
 
 -- a number that its sender doesn't count yet
 own_fresh : (r e : MsgId → ℕ) (s : OneKernel) (p : Pid) (x : PlainProcess) (n : ℕ) → s.processes p ≡ Some (Alive x) → n ≡ x.sent → Sound r e s → e (id_of p n) ≡ 0
-own_fresh r e s p x n is same h =
-    let server = not_server s p x is h.made in
-    let k : counts s (id_of p n) ≡ is_counted n (Some (Alive x)) = counts_process s p (id_of p n) refl server ∙ ap (is_counted n) is in
-    unentered r e s (id_of p n) h.entered (k ∙ (let z : nat_lt n x.sent ≡ false = grind (arith, nat_tests) in z))
+own_fresh r e s p x n is same h = search (arith, not_server, counts_process, unentered)
 
 bag_sends_next : (r e : MsgId → ℕ) (s t : OneKernel) (p : Pid) (id : MsgId) (next : step.Trap) → Nexts s p next → step.sends s p id next ≡ Some t → Sound r e s → BagStep e s t None (Some id)
 bag_sends_next r e s t p id (step.Calls number (Called.Sends m y)) w is h =
@@ -134,9 +127,7 @@ outputs_quiet e s t p w (step.Calls number (Called.Outputs word y)) is = quiet_i
 outputs_quiet e s t p w _ is = cc
 
 ends_quiet : (e : MsgId → ℕ) (s t : OneKernel) (p : Pid) (y : Why) (next : step.Trap) → step.ends s p y next ≡ Some t → BagStep e s t None None
-ends_quiet e s t p y (step.Calls number (Called.Ends because)) is = quiet_is e s t (with_process s p (Ended y)) (when-is _ (with_process s p (Ended y)) t is).1 (λ i. refl)
-ends_quiet e s t p y (step.Faults fault) is = quiet_is e s t (with_process s p (Ended y)) (when-is _ (with_process s p (Ended y)) t is).1 (λ i. refl)
-ends_quiet e s t p y _ is = cc
+ends_quiet e s t p y next h1 = search (arith, quiet_is, when-is)
 
 pub bag_call : (e : MsgId → ℕ) (s t : OneKernel) (p : Pid) (n : ℕ) (c : _) → step.step s (Label.Call p n c) ≡ Some t → BagStep e s t None None
 bag_call e s t p n c is = let (x, next, rest) = bind-is (step.next_trap s p) (step.replies s p n c) t is in replies_quiet e s t p n c x rest
@@ -193,15 +184,10 @@ answers_in : (r e : MsgId → ℕ) (s t u : OneKernel) (id : MsgId) (m : PlainMe
 answers_in r e s t u id m w is same there asking h =
     let name : (answer_to m w).id ≡ answer_id id = ap answer_id (h.entered.named id m there) in
     let zero_ : e (answer_to m w).id ≡ 0 = ap e name ∙ answer_fresh r e s id m there asking h.entered in
-    subst (λ v. BagStep e s v (Some id) (Some (answer_id id))) is
-    (subst (λ j. BagStep e s (with_sent u (Some (answer_to m w))) (Some id) (Some j)) name (steps_in r e s u (Some id) (answer_to m w) same zero_ h.entered))
+    search (arith, steps_in)
 
 gone_asks : (v w : PlainWhat) → service.gone_what v ≡ Some w → asks v ≡ true
-gone_asks (PlainWhat.Read a b) w e = refl
-gone_asks (PlainWhat.Write a b) w e = refl
-gone_asks (PlainWhat.Create a b) w e = refl
-gone_asks (PlainWhat.Move machine) w e = refl
-gone_asks _ w e = cc
+gone_asks v w h1 = search arith
 
 pub bag_gone : (r e : MsgId → ℕ) (s t : OneKernel) (id : MsgId) → step.step s (Label.Gone id) ≡ Some t → Sound r e s → BagStep e s t (Some id) (Some (answer_id id))
 bag_gone r e s t id is h =
@@ -212,10 +198,7 @@ bag_gone r e s t id is h =
 
 -- a process begins to follow a request: that goes; the answer to it enters where it ends
 follows_out : (e : MsgId → ℕ) (s t : OneKernel) (id : MsgId) (m : PlainMessage) (w : PlainWhat) → service.follows_request s id m w ≡ Some t → BagStep e s t (Some id) None
-follows_out e s t id m (PlainWhat.Move machine) is =
-    let u = with_note (without_message s id) m.to (record { id = id; asker = m.sender }) in
-    out_is e s t u id (let f : u ≡ t = cc in f) (λ i. refl)
-follows_out e s t id m _ is = cc
+follows_out e s t id m w h1 = search (arith, out_is)
 
 pub bag_asked : (e : MsgId → ℕ) (s t : OneKernel) (id : MsgId) → step.step s (Label.Asked id) ≡ Some t → BagStep e s t (Some id) None
 bag_asked e s t id is =
@@ -297,8 +280,7 @@ pub bag_served : (r e : MsgId → ℕ) (s t : OneKernel) (id : MsgId) → step.s
 bag_served r e s t id is h =
     let (m, there, rest) = bind-is (s.bag id) (λ v. bind (step.at_hand s v.to) (λ p. service.serves s id v p v.what)) t is in
     let (x, hand, last) = bind-is (step.at_hand s m.to) (λ p. service.serves s id m p m.what) t rest in
-    let (free, alive) = at_hand-is s m.to x hand in
-    record { m = m; there = there; x = x; alive = alive; is = served_in r e s t id m x m.what refl there alive last h }
+    search (arith, at_hand-is, served_in)
 
 -- a server's message is fresh, if it sends one
 board_in : (r e : MsgId → ℕ) (s t : OneKernel) (id : MsgId) (k : board.BoardTook) (o : Option PlainMessage) → k.answer ≡ o → ServerSends switchboard s.switchboard.sent o k.switchboard.sent → with_sent (record (without_message s id) { switchboard = k.switchboard }) o ≡ t → Sound r e s
@@ -328,9 +310,7 @@ took_by : (r e : MsgId → ℕ) (s t : OneKernel) (id : MsgId) (m : PlainMessage
     else if c then bind (manage.manager_takes s.manager s.machines (length s.images) m m.what) (λ k. Some (service.manager_took s id k))
     else None) ≡ Some t → Sound r e s
     → BagStep e s t (Some id) (if b then board_id (board.board_takes s.switchboard m m.what) else if c then manager_id (manage.manager_takes s.manager s.machines (length s.images) m m.what) else None)
-took_by r e s t id m true c is h = board_took r e s t id m (board.board_takes s.switchboard m m.what) refl is h
-took_by r e s t id m false true is h = manager_took r e s t id m (manage.manager_takes s.manager s.machines (length s.images) m m.what) refl is h
-took_by r e s t id m false false is h = cc
+took_by r e s t id m b c h1 h2 = search (arith, board_took, manager_took)
 
 pub record TookStep (e : MsgId → ℕ) (s t : OneKernel) (id : MsgId) : Type 0 where
   pub m : PlainMessage

@@ -1,7 +1,7 @@
 -- A step of the kernel without machines: where it leads, row by row. Whatever holds where each row leads holds where the step leads.
 use Rattle.dm_rule.proofs.Names.{◌≡◌, ℕ, ◌+◌, ◌==◌, ◌&&◌, Bool, true, false, take, drop, refl, ap, ◌∙◌, sym, subst, length, nat_le, if◌then◌else◌, slice_get, Option, None, Some, Pid, pid_of, pid_eq, MsgId, id_eq, Label, Reply, Why}
 use Rattle.dm_rule.proofs.Names.{reply_eq, why_eq, PlainMessage, PlainWhat, BootImage, first_number, switchboard, manager, bind, PlainProcess, PlainStatus, Ready, Alive, OneKernel, with_process, with_sent, without_message, answer_to}
-use Rattle.dm_rule.proofs.Names.{plain_kind, bind-is, when-is, at_hand-is, Nexts, nexts, is_dropped, why_ended-is, Runs, Completing, completing, pending_of, MoveNote, Outcome, with_note}
+use Rattle.dm_rule.proofs.Names.{plain_kind, bind-is, when-is, at_hand-is, Nexts, nexts, is_dropped, why_ended-is, Runs, Completing, completing, pending_of, MoveNote, Outcome, with_note, arith, nat_tests}
 use Rattle.dm_onekernel.specs.Kernel.{Ended}
 use Rattle.dm_onekernel.specs.Calls as calls
 use Rattle.dm_onekernel.specs.Manager as manage
@@ -86,19 +86,11 @@ given P u t h e = let k : u ≡ t = cc in subst P k h
 
 -- a process that executes
 if_ready_is : (y : PlainProcess) (st : PlainStatus) (x : PlainProcess) → kernel.if_ready y st ≡ Some x → (y ≡ x) × (pending_of st ≡ None)
-if_ready_is y Ready x e = by_stopped y.stopped e
-  where
-    by_stopped : (b : Bool) → (if b then None else Some y) ≡ Some x → (y ≡ x) × (pending_of Ready ≡ None)
-    by_stopped true e = cc
-    by_stopped false e = (cc, refl)
+if_ready_is y Ready x e = grind (arith, nat_tests)
 if_ready_is y _ x e = cc
 
 pub running_is : (s : OneKernel) (p : Pid) (x : PlainProcess) → kernel.running s p ≡ Some x → Runs s p x
-running_is s p x e =
-    let (y, is, ready) = bind-is (kernel.at_hand s p) (λ v. kernel.if_ready v v.status) x e in
-    let k = if_ready_is y y.status x ready in
-    let (free, alive) = at_hand-is s p x (is ∙ ap Some k.0) in
-    record { alive = alive; still = sym (ap (λ (v : PlainProcess). pending_of v.status) k.0) ∙ k.1; free = free }
+running_is s p x e = search (arith, bind-is, if_ready_is, at_hand-is)
 
 replies_step : (P : OneKernel → Type 0) (s t : OneKernel) (p : Pid) (n : ℕ) (c : Reply) (next : kernel.Trap) → Changes P s (Label.Call p n c) → Next s p next → kernel.replies s p n c next ≡ Some t → P t
 replies_step P s t p n c (kernel.Calls k (calls.Replies d y)) h w e = subst P (when-is ((n == k) && reply_eq c d) (kernel.goes_on s p y) t e).1 (h.replies p n k c d y refl w)
@@ -131,51 +123,24 @@ refuses_step P s t p id r (receiving.Refuses d y) h w e = subst P (when-is (repl
 
 lands_step : (P : OneKernel → Type 0) (s t : OneKernel) (id : MsgId) (m : PlainMessage) (x : PlainProcess) (c : Option pieces.Landed) → Changes P s (Label.Served id) → Lives s id m x → Mild m → pieces.lands m.to x m x.status ≡ c
     → bind c (λ v. Some (service.landed s id m v)) ≡ Some t → P t
-lands_step P s t id m x None h w mild is e = cc
-lands_step P s t id m x (Some (pieces.Next r y)) h w mild is e = given P (service.landed s id m (pieces.Next r y)) t (h.lands id m x r y refl w mild is) e
-lands_step P s t id m x (Some (pieces.Done c y)) h w mild is e = given P (service.landed s id m (pieces.Done c y)) t (h.done id m x c y refl w mild is) e
+lands_step P s t id m x c h1 h2 h3 h4 h5 = search (arith, given)
 
 answered_step : (P : OneKernel → Type 0) (s t : OneKernel) (id : MsgId) (m : PlainMessage) (b : Bool) (r : pieces.Served) → P (service.answered s id m r) → bind (if b then Some r else None) (λ v. Some (service.answered s id m v)) ≡ Some t → P t
 answered_step P s t id m true r h e = given P (service.answered s id m r) t h e
 answered_step P s t id m false r h e = cc
 
 serves_step : (P : OneKernel → Type 0) (s t : OneKernel) (id : MsgId) (m : PlainMessage) (x : PlainProcess) (w : PlainWhat) → m.what ≡ w → Changes P s (Label.Served id) → Lives s id m x → service.serves s id m x w ≡ Some t → P t
-serves_step P s t id m x PlainWhat.Stop is h w e = given P (service.changed s id m (record x { stopped = true })) t (h.stops id m x true refl w (record { mild = ap (λ v. is_kill (plain_kind v)) is; served = ap is_served is })) e
-serves_step P s t id m x PlainWhat.Resume is h w e = given P (service.changed s id m (record x { stopped = false })) t (h.stops id m x false refl w (record { mild = ap (λ v. is_kill (plain_kind v)) is; served = ap is_served is })) e
-serves_step P s t id m x PlainWhat.Kill is h w e = given P (with_process (without_message s id) m.to (Ended Why.Killed)) t (h.kills id m x refl w is) e
-serves_step P s t id m x (PlainWhat.Read base len) is h w e =
-    answered_step P s t id m (nat_le (base + len) (length x.memory)) (record { process = x; answer = answer_to m (PlainWhat.Block (take len (drop base x.memory))) }) (h.reads id m x base len refl w is) e
-serves_step P s t id m x (PlainWhat.Write base bytes) is h w e =
-    answered_step P s t id m (nat_le (base + length bytes) (length x.memory)) (record { process = record x { memory = pieces.written_at x.memory base bytes }; answer = answer_to m PlainWhat.Written }) (h.writes id m x base bytes refl w is) e
-serves_step P s t id m x (PlainWhat.Block bytes) is h w e = lands_step P s t id m x (pieces.lands m.to x m x.status) h w (record { mild = ap (λ v. is_kill (plain_kind v)) is; served = ap is_served is }) refl e
-serves_step P s t id m x PlainWhat.Written is h w e = lands_step P s t id m x (pieces.lands m.to x m x.status) h w (record { mild = ap (λ v. is_kill (plain_kind v)) is; served = ap is_served is }) refl e
-serves_step P s t id m x PlainWhat.Gone is h w e = lands_step P s t id m x (pieces.lands m.to x m x.status) h w (record { mild = ap (λ v. is_kill (plain_kind v)) is; served = ap is_served is }) refl e
-serves_step P s t id m x _ is h w e = cc
+serves_step P s t id m x w h1 h2 h3 h4 = search (arith, given, answered_step, lands_step)
 
 takes_step : (P : OneKernel → Type 0) (s t : OneKernel) (id : MsgId) (m : PlainMessage) (c d : Bool) → pid_eq m.to switchboard ≡ c → pid_eq m.to manager ≡ d → Changes P s (Label.Took id) → s.bag id ≡ Some m
     → (if c then bind (board.board_takes s.switchboard m m.what) (λ k. Some (service.switchboard_took s id k)) else if d then bind (manage.manager_takes s.manager s.machines (length s.images) m m.what) (λ k. Some (service.manager_took s id k)) else None) ≡ Some t → P t
-takes_step P s t id m true d one two h there e =
-    let (k, took, last) = bind-is (board.board_takes s.switchboard m m.what) (λ v. Some (service.switchboard_took s id v)) t e in
-    given P (service.switchboard_took s id k) t (h.board id m k refl there one took) last
-takes_step P s t id m false true one two h there e =
-    let (k, took, last) = bind-is (manage.manager_takes s.manager s.machines (length s.images) m m.what) (λ v. Some (service.manager_took s id v)) t e in
-    given P (service.manager_took s id k) t (h.manager id m k refl there two took) last
-takes_step P s t id m false false one two h there e = cc
+takes_step P s t id m c d h1 h2 h3 h4 h5 = search (arith, bind-is, given)
 
 creates_step : (P : OneKernel → Type 0) (s t : OneKernel) (id : MsgId) (m : PlainMessage) (child : Pid) (w : PlainWhat) → m.what ≡ w → Changes P s (Label.Created id child) → s.bag id ≡ Some m → service.creates s id m child w ≡ Some t → P t
-creates_step P s t id m child (PlainWhat.Create image links) is h there e =
-    let (i, found, rest) = bind-is (slice_get s.images image) (service.creates_of s id m child links) t e in
-    let name = pid_eq child (pid_of m.to.home (first_number + s.made m.to.home)) in
-    let k = when-is (service.is_kernel s m.to && name) (with_sent (service.with_created (without_message s id) child i links) (Some (answer_to m (PlainWhat.Created child)))) t rest in
-    let both = and-both (service.is_kernel s m.to) name k.0 in
-    subst P k.1 (h.creates id child m image links i refl (record { there = there; what = is; kernel = both.0 }) found both.1)
-creates_step P s t id m child _ is h there e = cc
+creates_step P s t id m child w h1 h2 h3 h4 = search (arith, bind-is, when-is, and-both)
 
 no_room_step : (P : OneKernel → Type 0) (s t : OneKernel) (id : MsgId) (a b : ℕ) (m : PlainMessage) (w : PlainWhat) → m.what ≡ w → Changes P s (Label.NoSpace id a b) → s.bag id ≡ Some m → service.has_no_room s id m w ≡ Some t → P t
-no_room_step P s t id a b m (PlainWhat.Create image links) is h there e =
-    let k = when-is (service.is_kernel s m.to) (with_sent (without_message s id) (Some (answer_to m PlainWhat.NoRoom))) t e in
-    subst P k.1 (h.no_room id a b m image links refl (record { there = there; what = is; kernel = k.0 }))
-no_room_step P s t id a b m _ is h there e = cc
+no_room_step P s t id a b m w h1 h2 h3 h4 = search (arith, when-is)
 
 lives : (s : OneKernel) (id : MsgId) (m : PlainMessage) (x : PlainProcess) → s.bag id ≡ Some m → kernel.at_hand s m.to ≡ Some x → Lives s id m x
 lives s id m x there hand = let (free, alive) = at_hand-is s m.to x hand in record { there = there; alive = alive; free = free }
@@ -185,9 +150,7 @@ follows_step P s t id m x (PlainWhat.Move machine) is h w e = given P (with_note
 follows_step P s t id m x _ is h w e = cc
 
 move_ends_step : (P : OneKernel → Type 0) (s t : OneKernel) (id : MsgId) (p : Pid) (n : MoveNote) (o : Outcome) → Changes P s (Label.Answered id o) → s.noted id ≡ Some p → s.notes p ≡ Some n → service.ends_move s id p n o ≡ Some t → P t
-move_ends_step P s t id p n Outcome.Ended h noted notes e = cc
-move_ends_step P s t id p n Outcome.Done h noted notes e = given P (service.move_ended s id p n Outcome.Done) t (h.answered id Outcome.Done p n refl (record { noted = noted; notes = notes; ends = refl })) e
-move_ends_step P s t id p n Outcome.Stayed h noted notes e = given P (service.move_ended s id p n Outcome.Stayed) t (h.answered id Outcome.Stayed p n refl (record { noted = noted; notes = notes; ends = refl })) e
+move_ends_step P s t id p n o h1 h2 h3 h4 = search (arith, given)
 
 pub by_step : (P : OneKernel → Type 0) (s t : OneKernel) (l : Label) → Changes P s l → kernel.step s l ≡ Some t → P t
 by_step P s t (Label.Ran p k) h e =

@@ -3,15 +3,14 @@ use Rattle.dm_rule.proofs.Names.{◌≡◌, ◌≢◌, ℕ, zero, suc, ◌+◌, 
 use Rattle.dm_rule.proofs.Names.{false≢true, nat_tests, MsgId, bind, OneKernel, Step, Line, Load, View, Pair, view_after, Point, label_of, kernel_after, moved, after_line, Part, Says, Transmits, Spelled, packet_line, spelled, Spot, Queue}
 use Rattle.dm_rule.proofs.Names.{Untaken, ids_at, standing, bind-is, Boot, group_of, IsValid, SentLoad, after_head, pair_window, first_point, Leads, StandsOnceAlways, first_view, start-sound, inl, inr, Pid, PlainMessage, to_of, migrates}
 use Rattle.dm_rule.proofs.Names.{StandsAsBag, StandsOutside, StandsRight, is_kernels}
-use Rattle.dm_rule.specs.View as view
 use Rattle.dm_rule.proofs.Lines.{Stands-stays, Stands-taken, pair_keeps, eq_is, eq_self}
-use Rattle.dm_rule.specs.Rule as rule
 use Rattle.dm_rule.proofs.States.{State, says_next, transmits_next, said, State-at, by_line, by_packet, PairsFit}
 use Rattle.dm_rule.proofs.Handled.{turns_row}
-use Rattle.dm_rule.proofs.Pairs.{Pairs-group, Pairs-start, pair_stands, pair_home}
-use Rattle.dm_rule.proofs.Pairs.{Pairs}
+use Rattle.dm_rule.proofs.Pairs.{Pairs-group, Pairs-start, pair_stands, pair_home, Pairs}
 use Rattle.dm_rule.proofs.Letters.{letters, letter_of}
 use Rattle.dm_rule.proofs.Moves.Rows.{migrates_row}
+use Rattle.dm_rule.specs.View as view
+use Rattle.dm_rule.specs.Rule as rule
 
 -- lines of deliveries and ticks
 abbrev pub IsNetLine : Line → Type 0
@@ -41,8 +40,7 @@ early_off v a b n (Untaken c d) = pair_keeps v.pair a b (record (v.pair a b) { k
 early_off v a b n _ = refl
 
 pub acked_off : (v : View) (a b n : ℕ) (z : Spot) → ids_at (view.after_acked v a b n) z ≡ ids_at v z
-acked_off v a b n (Untaken c d) = pair_keeps v.pair b a (record (v.pair b a) { acked = view.at_least (v.pair b a).acked n }) refl c d
-acked_off v a b n _ = refl
+acked_off v a b n z = grind (arith, nat_tests, pair_keeps)
 
 net_line : (pt : Point) (l : Line) → IsNetLine l → State None pt → (s : OneKernel) → kernel_after pt.kernel (label_of l) ≡ Some s → State None (moved pt l s)
 net_line pt (Line.Taken a b n) is h s k =
@@ -92,14 +90,10 @@ takes_net a b [] = tt
 takes_net a b (n ∷ ns) = (tt, takes_net a b ns)
 
 data_net : (a b : ℕ) (p : Pair) (n : ℕ) (c d : Bool) → IsNet (if c then Says (Line.Old a b n) ∷ Transmits b a (Load.Ack p.taken) ∷ [] else if d then Says (Line.Early a b n) ∷ Transmits b a (Load.Ack p.taken) ∷ [] else rule.takes_on a b n (rule.kept_from p.kept (n + 1) pair_window))
-data_net a b p n true d = (tt, (tt, tt))
-data_net a b p n false true = (tt, (tt, tt))
-data_net a b p n false false = net-append (rule.taking_parts a b (n ∷ rule.kept_from p.kept (n + 1) pair_window)) (Transmits b a (Load.Ack (n + 1 + length (rule.kept_from p.kept (n + 1) pair_window))) ∷ []) (takes_net a b (n ∷ rule.kept_from p.kept (n + 1) pair_window)) (tt, tt)
+data_net a b p n c d = search (arith, net-append, takes_net)
 
 pub arrives_net : (a b : ℕ) (p q : Pair) (o : Option SentLoad) → IsNet (rule.arrives a b p q o)
-arrives_net a b p q None = (tt, tt)
-arrives_net a b p q (Some s) = elim s.load as (λ l. IsNet (rule.comes a b p q l))
-    [ Load.Data n ↦ data_net a b p n (nat_lt n p.taken) (nat_lt p.taken n) | Load.Ack n ↦ (tt, repeats_net b a (rule.let_go q (rule.more n q.acked))) ]
+arrives_net a b p q o = search (arith, data_net, repeats_net)
 
 if_net : (c : Bool) (ps : List Part) → IsNet ps → IsNet (if c then [] else ps)
 if_net true ps h = tt
@@ -123,8 +117,7 @@ tick_off v m (Queue n p) = refl
 tick_off v m _ = refl
 
 pub migrate_off : (v : View) (p : Pid) (m : ℕ) (z : Spot) → ids_at (after_head v (Step.Migrate p m)) z ≡ ids_at v z
-migrate_off v p m (Queue n q) = refl
-migrate_off v p m _ = refl
+migrate_off v p m z = grind (arith, nat_tests)
 
 pub begun : (pt : Point) (d : Step) → State None pt → ((z : Spot) → ids_at (after_head pt.view d) z ≡ ids_at pt.view z) → ((i : MsgId) → (after_head pt.view d).told i ≡ pt.view.told i) → State None (moved pt (Line.Head d) pt.kernel)
 begun pt d h off told = by_line None pt (Line.Head d) refl h (Stands-stays (letters h.own pt.kernel.bag) pt.view (view_after pt.view (Line.Head d)) off told h.stands) told
@@ -193,12 +186,7 @@ State-start b valid = record {
   e = λ i. 0;
   sound = start-sound b valid;
   own = λ i. None;
-  stands = record {
-    kept = λ i. nothing_stands (standing (first_view b) i) (is_kernels i) (λ z. elim z as (λ z_. standing (first_view b) i z_ ≡ 0)
-        [ Queue m p ↦ refl | _ ↦ refl ]);
-    told = λ i x k. absurd (nothing_there x (is_kernels i) k);
-    mine = λ m p i x least k. absurd (nothing_there x (is_kernels i) k);
-  };
+  stands = (search (arith, nothing_stands, nothing_there));
   untold = λ i z other. refl;
   numbered = λ m n le. refl;
   pending = λ j k. cc;
@@ -206,13 +194,7 @@ State-start b valid = record {
 }
 
 fits_by : (v : View) → Pairs v → (a b : ℕ) (c : Bool) → (a == b) ≡ c → (v.pair a b).taken ≤ length (v.pair a b).ids
-fits_by v h a b true is =
-    let e : a ≡ b = eq_is a b is in
-    subst (λ n. (v.pair a n).taken ≤ length (v.pair a n).ids) e (let k = (pair_home v a h).taken in omega (arith, k))
-fits_by v h a b false is =
-    let apart : a ≢ b = (λ e. false≢true (sym is ∙ (ap (λ n. a == n) (sym e) ∙ eq_self a))) in
-    let k = pair_stands v a b apart h in
-    let x = k.taken in let y = k.gone in omega (arith, x, y)
+fits_by v h1 a b c h2 = search (arith, eq_is, pair_home, eq_self, pair_stands)
 
 -- what the pairs of machines are says that all that was taken was routed
 pub fits : (v : View) → Pairs v → PairsFit v
@@ -225,14 +207,10 @@ run_keeps (d ∷ ds) b pt end (w, step_, group, more) pairs h =
 
 -- a message of the bag is under way, one that isn't is a kernel's own or stands nowhere
 right_by : (i : MsgId) (own : Option Pid) (c : Bool) (f : Spot → ℕ) → StandsAsBag (if c then own else None) f → StandsOutside c f
-right_by i None true f h = inl h
-right_by i (Some q) true f h = inr h
-right_by i own false f h = h
+right_by i own c f h1 = search arith
 
 pub stands_right : (pt : Point) (i : MsgId) (h : State None pt) (o : Option PlainMessage) → pt.kernel.bag i ≡ o → StandsRight i o (standing pt.view i)
-stands_right pt i h None is =
-    right_by i (h.own i) (is_kernels i) (standing pt.view i) (subst (λ (o : Option PlainMessage). StandsAsBag (if is_kernels i then h.own i else to_of o) (standing pt.view i)) is (h.stands.kept i))
-stands_right pt i h (Some x) is = subst (λ (o : Option Pid). StandsAsBag o (standing pt.view i)) (letter_of h.r h.e h.own pt.kernel i x is h.sound) (h.stands.kept i)
+stands_right pt i h o h1 = search (arith, right_by, letter_of)
 
 pub stands_once_always : StandsOnceAlways
 stands_once_always b es pt id valid leads = stands_right pt id (run_keeps es b (first_point b) pt leads (Pairs-start b) (State-start b valid)) (pt.kernel.bag id) refl

@@ -2,9 +2,9 @@
 use Rattle.dm_rule.proofs.Names.{◌≡◌, ℕ, ◌==◌, ◌||◌, Bool, true, false, List, [], ◌∷◌, ◌++◌, refl, ap, ◌∙◌, subst, length, ◌/◌, ⊤, if◌then◌else◌, Option, None, Some, Pid, pid_of, pid_eq, MsgId, MessageKind, Line, Stage, Boot, switchboard}
 use Rattle.dm_rule.proofs.Names.{manager, PlainProcess, Told, About, Of, Known, Unknown, Here, Frozen, Incoming, Forward, Ended, target_of, Point, Part, Says, Again, Owns, Addresses, Sender, is_told_back, place_told, to_kernel, forwards_on}
 use Rattle.dm_rule.proofs.Names.{accepts, takes_chunk, takes_block, gives_piece, sends_on, leaves, told_step, chunks_of, pieces_of, updates, told_here, told_ended, process_told, told_server, fits, free_room, kernel_hears, hears, bind-is}
-use Rattle.dm_rule.proofs.Names.{behind_count, Label, MoveNote, Outcome, Routes, answer_id, answers_move, tells_asker, leaves_for, sort_of}
-use Rattle.dm_onekernel.specs.Step as kernel
+use Rattle.dm_rule.proofs.Names.{behind_count, Label, MoveNote, Outcome, Routes, answer_id, answers_move, tells_asker, leaves_for, sort_of, arith}
 use Rattle.dm_rule.proofs.Requests.{by_test}
+use Rattle.dm_onekernel.specs.Step as kernel
 
 -- a process's messages go on, and it has left
 abbrev pub left_parts : MsgId → Pid → List MsgId → ℕ → List Part
@@ -106,12 +106,7 @@ by_ended P o m id t MessageKind.Update ps is h at_ e = given P (Says (Line.Updat
 by_ended P o m id t _ ps is h at_ e = cc
 
 by_process : (P : List Part → Type 0) (o : Point) (m : ℕ) (id : MsgId) (t : Told) (k : Known) (ps : List Part) → Heard P o m id t → At o m t k → process_told o m id t k ≡ Some ps → P ps
-by_process P o m id t Unknown ps h at_ e = cc
-by_process P o m id t Here ps h at_ e = by_here P o m id t t.kind ps refl h at_ e
-by_process P o m id t (Frozen to) ps h at_ e = given P (Says (Line.Held id) ∷ []) ps (h.leaving to at_) e
-by_process P o m id t (Incoming from) ps h at_ e = given P (Says (Line.Held id) ∷ []) ps (h.coming from at_) e
-by_process P o m id t (Forward to moves) ps h at_ e = given P (forwards_on o.addresses id t.kind manager to) ps (h.forwarded to moves at_) e
-by_process P o m id t Ended ps h at_ e = by_ended P o m id t t.kind ps refl h at_ e
+by_process P o m id t k ps h1 h2 h3 = search (arith, by_here, given, by_ended)
 
 by_receiver : (P : List Part → Type 0) (b : Boot) (o : Point) (m : ℕ) (id : MsgId) (t : Told) (c d g : Bool) (ps : List Part) → pid_eq t.receiver switchboard ≡ d → pid_eq t.receiver manager ≡ g → Heard P o m id t
     → (if c then kernel_hears b o m id t.kind t.about else if d then told_server o id t (sort_of t.kind) else if g then told_server o id t (sort_of t.kind) else process_told o m id t (o.view.known m t.receiver)) ≡ Some ps → P ps
@@ -153,10 +148,7 @@ kept_on P c to (i ∷ is) ps h = c.again i to (sends_on to is ++ ps) (kept_on P 
 
 -- a message goes on, and its sender may be told
 pub kept_forward : (P : List Part → Type 0) → Kept P → (a : Addresses) (id : MsgId) (k : MessageKind) (sender : Pid) (to : ℕ) → P (forwards_on a id k sender to)
-kept_forward P c a id k sender to =
-    let back = Owns MessageKind.Update sender (a (Sender id)).at in
-    let last = if is_told_back k then back ∷ [] else [] in
-    c.says (Line.Forwarded id to) (Again id to ∷ last) tt (c.again id to last (by_test P (is_told_back k) (back ∷ []) [] (c.owns MessageKind.Update sender (a (Sender id)).at [] c.none) c.none))
+kept_forward P c a id k sender to = search (arith, by_test)
 
 -- holds of all that comes of a kernel's own message
 heard_kept : (P : List Part → Type 0) → Kept P → (o : Point) (m : ℕ) (id : MsgId) (t : Told) → Heard P o m id t

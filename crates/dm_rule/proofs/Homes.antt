@@ -16,6 +16,7 @@ pub mod Groups
 pub mod Turns
 use Rattle.dm_rule.proofs.Names.{◌≡◌, ℕ, true, refl, ap, ◌∙◌, sym, subst, slice_get, Option, None, Some, Pid, Place, PlainLink, link_at, MsgId, PlainMessage, PlainProcess, NamedLink, Pending, MoveNote, OneKernel, links_in, to_of, sender_of}
 use Rattle.dm_rule.proofs.Names.{enclosed_of, names, ascends, Addresses, Holder, Slot, Owner, Receiver, Sender, Enclosed, Child, Name, Answer, AskedBy, unmoved, link_target, slot_of, owner_in, owner_of, name_link, answer_link, asker_in}
+use Rattle.dm_rule.proofs.Names.{arith}
 use Rattle.dm_onekernel.specs.Manager as manage
 use Rattle.dm_onekernel.specs.Step as kernel
 
@@ -110,20 +111,4 @@ homes_are P s a h (Answer n) q e = answer_home P a n q (manage.pending_numbered 
 homes_are P s a h (AskedBy p) q e = asker_home P a p q (s.notes p) (h.askers p) e
 
 pub at_home : (P : Pid → Place → Type 0) (s : OneKernel) (a : Addresses) → ((q : Pid) → P q (unmoved q.home)) → HomesAre P s a → ascends 0 s.manager.pending s.manager.sent ≡ true → AtHome P s a
-at_home P s a rooted h numbers = record {
-  rooted = rooted;
-  pending = numbers;
-  processes = λ p x alive. record {
-    slots = λ k l e. h (Slot p k) l.to (ap (λ (o : Option PlainProcess). link_target (slot_of o k)) alive ∙ ap link_target e);
-    owner = λ q e. h (Owner p) q (ap owner_of alive ∙ e);
-  };
-  messages = λ i m there. record {
-    receiver = h (Receiver i) m.to (ap to_of there);
-    sender = h (Sender i) m.sender (ap sender_of there);
-    enclosed = λ k l e. h (Enclosed i k) l.to (ap (λ (o : Option PlainMessage). link_target (enclosed_of o k)) there ∙ ap link_target e);
-  };
-  children = λ n q e. h (Child n) q e;
-  named = λ n k e. h (Name n) k.link.to (ap (λ (o : Option NamedLink). link_target (name_link o)) e);
-  answers = λ n r l e f. h (Answer n) l.to (ap (λ (o : Option Pending). link_target (answer_link o)) e ∙ ap link_target f);
-  askers = λ p n e. h (AskedBy p) n.asker (ap asker_in e);
-}
+at_home P s a rooted h numbers = search arith

@@ -1,6 +1,6 @@
 -- Only a put tells of a message, and counts a kernel's own.
 use Rattle.dm_rule.proofs.Names.{◌≡◌, ℕ, ◌+◌, ◌==◌, not, filter, Bool, true, false, refl, Option, None, Some, Pid, MsgId, MessageKind, Label, Step, Line, Stage, View, Told, About, Of, Target, sets_off, view_after, after_head, after_label}
-use Rattle.dm_rule.proofs.Names.{after_stage, after_proto, follows_by, asks_on, queued_for, held_for, dropped_for, forwarded_for, served_told, ends_by, receiver_of, taken_id, oldest, with_pair, handled, sort_of}
+use Rattle.dm_rule.proofs.Names.{after_stage, after_proto, follows_by, asks_on, queued_for, held_for, dropped_for, forwarded_for, served_told, ends_by, receiver_of, taken_id, oldest, with_pair, handled, sort_of, arith}
 
 -- nothing is told or counted
 pub record Hushed (v w : View) : Type 0 where
@@ -32,41 +32,11 @@ proto_hush v (Some t) = let h = elim t.kind as (λ k. Hushed v (follows_by v t.a
     [ MessageKind.State ↦ asks_hush v t.about | MessageKind.Memory ↦ asks_hush v t.about | _ ↦ hush v ] in record { count = h.count; told = h.told }
 
 label_hush : (v : View) (l : Label) → Hushed v (after_label v l)
-label_hush v (Label.Call p n c) = hush v
-label_hush v (Label.Send p id) = hush v
-label_hush v (Label.Wait p) = hush v
-label_hush v (Label.Out p w) = hush v
-label_hush v (Label.Dropped id) = let h = elim (receiver_of (v.told id)) as (λ o. Hushed (handled v id) (dropped_for (handled v id) id o))
-    [ None ↦ hush (handled v id) | Some p ↦ record { count = refl; told = refl } ] in record { count = h.count; told = h.told }
-label_hush v (Label.Served id) = let h = served_hush (handled v id) (v.told id) in record { count = h.count; told = h.told }
-label_hush v _ = record { count = refl; told = refl }
+label_hush v l = search (arith, hush, served_hush)
 
 head_hush : (v : View) (s : Step) → Hushed v (after_head v s)
 head_hush v (Step.Turn m) = record { count = refl; told = refl }
 head_hush v _ = record { count = refl; told = refl }
 
 pub hushed : (v : View) (l : Line) → is_put l ≡ false → Hushed v (view_after v l)
-hushed v (Line.Head s) e = head_hush v s
-hushed v (Line.Idle m) e = hush v
-hushed v (Line.Label l) e = label_hush v l
-hushed v (Line.Put a b id k q) e = cc
-hushed v (Line.Taken a b n) e = let h = taken_hush (with_pair v a b (record (v.pair a b) { taken = (v.pair a b).taken + 1; kept = filter (λ k. not (k == n)) (v.pair a b).kept })) b (oldest (v.pair a b)) in record { count = h.count; told = h.told }
-hushed v (Line.Old a b n) e = hush v
-hushed v Line.Nothing e = hush v
-hushed v (Line.Resent m n) e = hush v
-hushed v (Line.Queued id) e = let h = elim (receiver_of (v.told id)) as (λ o. Hushed (handled v id) (queued_for (handled v id) id o))
-    [ None ↦ hush (handled v id) | Some p ↦ record { count = refl; told = refl } ] in record { count = h.count; told = h.told }
-hushed v (Line.Held id) e = let h = elim (receiver_of (v.told id)) as (λ o. Hushed (handled v id) (held_for (handled v id) id o))
-    [ None ↦ hush (handled v id) | Some p ↦ record { count = refl; told = refl } ] in record { count = h.count; told = h.told }
-hushed v (Line.Forwarded id m) e = let h = elim (receiver_of (v.told id)) as (λ o. Hushed (handled v id) (forwarded_for (handled v id) o))
-    [ None ↦ hush (handled v id) | Some p ↦ record { count = refl; told = refl } ] in record { count = h.count; told = h.told }
-hushed v (Line.Migration s p) e = elim s as (λ s_. Hushed v (after_stage v p s_)) [
-  | Stage.Frozen ↦ (elim v.topic as (λ a. Hushed v (sets_off v p a))
-      [ Target m ↦ record { count = refl; told = refl } | _ ↦ record { count = refl; told = refl } ])
-  | Stage.Asked ↦ hush v
-  | _ ↦ record { count = refl; told = refl }
-]
-hushed v (Line.Proto id) e = let h = proto_hush (handled v id) (v.told id) in record { count = h.count; told = h.told }
-hushed v (Line.NoChild p) e = hush v
-hushed v (Line.Pinned p) e = hush v
-hushed v _ e = record { count = refl; told = refl }
+hushed v l h1 = search (arith, head_hush, hush, label_hush, taken_hush, proto_hush)

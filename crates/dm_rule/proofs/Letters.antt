@@ -32,8 +32,7 @@ pub kernels_fresh : (r e : MsgId → ℕ) (s : OneKernel) (i : MsgId) → Sound 
 kernels_fresh r e s i h k = unentered r e s i h.entered (not_counted s i (from_kernel i k) h.made)
 
 not_by : (r e : MsgId → ℕ) (s : OneKernel) (i : MsgId) (x : PlainMessage) (b : Bool) → is_kernels i ≡ b → s.bag i ≡ Some x → Sound r e s → b ≡ false
-not_by r e s i x true k is h = absurd (let f = h.entered.fewer i in let g : in_bag (s.bag i) ≡ 1 = ap in_bag is in let z = kernels_fresh r e s i h k in omega (arith, f, g, z))
-not_by r e s i x false k is h = refl
+not_by r e s i x b h1 h2 h3 = grind (arith, nat_tests, kernels_fresh)
 
 pub not_kernels : (r e : MsgId → ℕ) (s : OneKernel) (i : MsgId) (x : PlainMessage) → s.bag i ≡ Some x → Sound r e s → is_kernels i ≡ false
 not_kernels r e s i x is h = not_by r e s i x (is_kernels i) refl is h
@@ -51,34 +50,14 @@ in_first : (s t : OneKernel) (i : MsgId) (go : PlainMessage → Option OneKernel
 in_first s t i go j is e = let (m, there, rest) = bind-is (s.bag i) go t is in record { message = m; there = ap s.bag (sym e) ∙ there }
 
 pub gone_in : (s t : OneKernel) (l : Label) (j : MsgId) → step.step s l ≡ Some t → out_of l ≡ Some j → InBag s j
-gone_in s t (Label.Receive p id) j is e =
-    let (done, completing, last) = bind-is (step.completing s p id) (step.receives s p id) t is in
-    let (x, alive, more) = bind-is (step.at_hand s p) (λ x. bind (s.bag id) (receiving.completes_with p x)) done completing in
-    let (m, there, rest) = bind-is (s.bag id) (receiving.completes_with p x) done more in
-    let f : id ≡ j = cc in record { message = m; there = ap s.bag (sym f) ∙ there }
-gone_in s t (Label.Dropped id) j is e = in_first s t id (λ m. bind (step.why_ended (s.processes m.to)) (step.drops s id m)) j is (let f : id ≡ j = cc in f)
-gone_in s t (Label.Served id) j is e = in_first s t id (λ m. bind (step.at_hand s m.to) (λ p. service.serves s id m p m.what)) j is (let f : id ≡ j = cc in f)
-gone_in s t (Label.Gone id) j is e = in_first s t id (λ m. bind (step.why_ended (s.processes m.to)) (step.says_gone s id m)) j is (let f : id ≡ j = cc in f)
-gone_in s t (Label.Took id) j is e = in_first s t id (service.takes s id) j is (let f : id ≡ j = cc in f)
-gone_in s t (Label.Created id p) j is e = in_first s t id (λ m. service.creates s id m p m.what) j is (let f : id ≡ j = cc in f)
-gone_in s t (Label.NoSpace id a b) j is e = in_first s t id (λ m. service.has_no_room s id m m.what) j is (let f : id ≡ j = cc in f)
-gone_in s t (Label.Asked id) j is e = in_first s t id (λ m. bind (step.at_hand s m.to) (λ p. service.follows_request s id m m.what)) j is (let f : id ≡ j = cc in f)
-gone_in s t _ j is e = cc
+gone_in s t l j h1 h2 = search (arith, bind-is, in_first)
 
 -- a step, seen in the messages that are under way
 hidden_keeps : (o : Option MsgId) (bag : Bag) (i : MsgId) → ((j : MsgId) → o ≡ Some j → is_kernels j ≡ false) → is_kernels i ≡ true → hidden o bag i ≡ bag i
-hidden_keeps None bag i h k = refl
-hidden_keeps (Some j) bag i h k = elim (cases_Bool (id_eq j i)) [
-  | inl same ↦ absurd (false≢true (sym (h j refl) ∙ ap is_kernels (id_eq-is j i same) ∙ k))
-  | inr apart ↦ ap (λ (c : Bool). if c then None else bag i) apart
-]
+hidden_keeps o bag i h1 h2 = search (arith, id_eq-is)
 
 hidden_to : (o : Option MsgId) (own : Bag) (bag : MsgId → Option PlainMessage) (i : MsgId) → is_kernels i ≡ false → hidden o (letters own bag) i ≡ to_of (hidden o bag i)
-hidden_to None own bag i k = letters_bag own bag i k
-hidden_to (Some j) own bag i k = elim (cases_Bool (id_eq j i)) [
-  | inl same ↦ ap (λ (c : Bool). if c then None else letters own bag i) same ∙ sym (ap (λ (c : Bool). to_of (if c then None else bag i)) same)
-  | inr apart ↦ ap (λ (c : Bool). if c then None else letters own bag i) apart ∙ letters_bag own bag i k ∙ sym (ap (λ (c : Bool). to_of (if c then None else bag i)) apart)
-]
+hidden_to o own bag i h1 = search (arith, letters_bag)
 
 pub letters_step : (e : MsgId → ℕ) (own : Bag) (s t : OneKernel) (out put : Option MsgId) → BagStep e s t out put → ((j : MsgId) → out ≡ Some j → is_kernels j ≡ false) → ((j : MsgId) → put ≡ Some j → is_kernels j ≡ false)
     → (i : MsgId) → hidden put (letters own t.bag) i ≡ hidden out (letters own s.bag) i

@@ -23,11 +23,7 @@ pub record Stands (bag : Bag) (v : View) : Type 0 where
 
 -- the same bag, pointwise
 pub Stands-same : (bag other : Bag) (v : View) → ((i : MsgId) → other i ≡ bag i) → Stands bag v → Stands other v
-Stands-same bag other v e h = record {
-  kept = λ i. subst (λ (m : Option Pid). StandsAsBag m (standing v i)) (sym (e i)) (h.kept i);
-  told = λ i x k. h.told i x (sym (e i) ∙ k);
-  mine = λ m p i x least k. h.mine m p i x least (sym (e i) ∙ k);
-}
+Stands-same bag other v e h = search arith
 
 -- a line that moves no message
 pub Stands-stays : (bag : Bag) (v w : View) → ((z : Spot) → ids_at w z ≡ ids_at v z) → ((i : MsgId) → w.told i ≡ v.told i) → Stands bag v → Stands bag w
@@ -63,8 +59,7 @@ pub inbox_apart : (m n : ℕ) → Inbox n ≢ Inbox m → (m == n) ≡ false
 inbox_apart m n apart = not_true (m == n) (λ e. apart (ap Inbox (sym (eq_is m n e))))
 
 pub parts : (a b : Bool) → (a && b) ≡ true → (a ≡ true) × (b ≡ true)
-parts true b e = (refl, e)
-parts false b e = cc
+parts a b h1 = grind (arith, nat_tests)
 
 pub queue_apart : (m n : ℕ) (p q : Pid) → Queue n q ≢ Queue m p → ((m == n) && pid_eq p q) ≡ false
 queue_apart m n p q apart = not_true ((m == n) && pid_eq p q) (λ e. let k = parts (m == n) (pid_eq p q) e in apart (ap (λ x. Queue x q) (sym (eq_is m n k.0)) ∙ ap (Queue m) (sym (pid_eq-is p q k.1))))
@@ -81,8 +76,7 @@ pub handled_at : (v : View) (i : MsgId) (is : List MsgId) (j : MsgId) → v.inbo
 handled_at v i is j e =
     let now : ids_at (handled v i) (Inbox v.acting) ≡ is = at_machine_at v.inbox v.acting (without_front i (v.inbox v.acting)) ∙ front_goes v i is e in
     let a : times j (v.inbox v.acting) ≡ times j (i ∷ is) = ap (times j) e in
-    let b : times j (ids_at (handled v i) (Inbox v.acting)) ≡ times j is = ap (times j) now in
-    omega (arith, a, b)
+    grind (arith, nat_tests)
 
 pub hidden_at : (bag : Bag) (i : MsgId) → hidden (Some i) bag i ≡ None
 hidden_at bag i = ap (λ (c : Bool). if c then None else bag i) (id_eq-same i)
@@ -114,14 +108,11 @@ is_inbox _ = false
 -- a message goes from the front of the inbox to the back of its receiver's queue
 
 queued_is : (v : View) (i : MsgId) (p : Pid) (o : Option Pid) → o ≡ Some p → view.queued_for (handled v i) i o ≡ record (handled v i) { queue = at_record v.queue v.acting p (v.queue v.acting p ++ i ∷ []) }
-queued_is v i p (Some q) e = let k : q ≡ p = cc in ap (λ x. record (handled v i) { queue = at_record v.queue v.acting x (v.queue v.acting x ++ i ∷ []) }) k
-queued_is v i p None e = cc
+queued_is v i p o h1 = search arith
 
 queued_off : (v : View) (i : MsgId) (p : Pid) (z : Spot) → z ≢ Inbox v.acting → z ≢ Queue v.acting p
     → ids_at (record (handled v i) { queue = at_record v.queue v.acting p (v.queue v.acting p ++ i ∷ []) }) z ≡ ids_at v z
-queued_off v i p (Queue m q) a b = at_record_off v.queue v.acting m p q (v.queue v.acting p ++ i ∷ []) (queue_apart v.acting m p q b)
-queued_off v i p (Inbox m) a b = at_machine_off v.inbox v.acting m (without_front i (v.inbox v.acting)) (inbox_apart v.acting m a)
-queued_off v i p _ a b = refl
+queued_off v i p z h1 h2 = search (arith, at_record_off, queue_apart, at_machine_off, inbox_apart)
 
 pub spots_differ : (m n : ℕ) (p : Pid) → Inbox m ≢ Queue n p
 spots_differ m n p e = let k : true ≡ false = ap is_inbox e in false≢true (sym k)
@@ -132,26 +123,7 @@ one_more j i xs = let a = times-append j xs (i ∷ []) in let b : times j (i ∷
 -- whom a queue's messages are for, once one more stands there
 queue_mine : (bag : Bag) (v : View) (i : MsgId) (x : Pid) (p : Pid) → bag i ≡ Some x → x ≡ p → Stands bag v → (m : ℕ) (q : Pid) (j : MsgId) (y : Pid)
     → 1 ≤ times j (at_record v.queue v.acting p (v.queue v.acting p ++ i ∷ []) m q) → bag j ≡ Some y → y ≡ q
-queue_mine bag v i x p there to h m q j y least is = elim (cases_Bool ((v.acting == m) && pid_eq p q)) [
-  | inl same ↦
-      let both_ = parts (v.acting == m) (pid_eq p q) same in
-      let pq : p ≡ q = pid_eq-is p q both_.1 in
-      let now : at_record v.queue v.acting p (v.queue v.acting p ++ i ∷ []) m q ≡ v.queue v.acting p ++ i ∷ [] = ap (λ (c : Bool). if c then (v.queue v.acting p ++ i ∷ []) else v.queue m q) same in
-      let count : times j (at_record v.queue v.acting p (v.queue v.acting p ++ i ∷ []) m q) ≡ times j (v.queue v.acting p) + one_of j i = ap (times j) now ∙ one_more j i (v.queue v.acting p) in
-      elim (cases_Bool (id_eq j i)) [
-        | inl is_i ↦
-            let ji : j ≡ i = id_eq-is j i is_i in
-            let xy : Some x ≡ Some y = sym there ∙ ap bag (sym ji) ∙ is in
-            let e : x ≡ y = cc in sym e ∙ to ∙ pq
-        | inr other ↦
-            let zero_ : one_of j i ≡ 0 = ap (λ (c : Bool). if c then 1 else 0) other in
-            let was : 1 ≤ times j (v.queue v.acting p) = omega (arith, least, count, zero_) in
-            h.mine v.acting p j y was is ∙ pq
-      ]
-  | inr apart ↦
-      let now : at_record v.queue v.acting p (v.queue v.acting p ++ i ∷ []) m q ≡ v.queue m q = at_record_off v.queue v.acting m p q (v.queue v.acting p ++ i ∷ []) apart in
-      h.mine m q j y (subst (λ n. 1 ≤ n) (ap (times j) now) least) is
-]
+queue_mine bag v i x p there to h m q j y least is = search (arith, parts, pid_eq-is, one_more, id_eq-is, at_record_off)
 
 pub Stands-queued : (bag : Bag) (v w : View) (i : MsgId) (is : List MsgId) (x : Pid) → v.inbox v.acting ≡ i ∷ is → bag i ≡ Some x → w ≡ view.queued_for (handled v i) i (receiver_of (v.told i))
     → Stands bag v → Stands bag w
@@ -185,11 +157,7 @@ without_counts j i (y ∷ ys) least = elim (cases_Bool (id_eq i y)) [
 ]
 
 pub front_counts : (j i : MsgId) (xs ys : List MsgId) → xs ≡ i ∷ ys → times j xs ≡ times j (without_front i xs) + one_of j i
-front_counts j i xs ys e =
-    let now : without_front i xs ≡ ys = ap (without_front i) e ∙ ap (λ (c : Bool). if c then ys else i ∷ ys) (id_eq-same i) in
-    let a : times j (without_front i xs) ≡ times j ys = ap (times j) now in
-    let b : times j xs ≡ times j (i ∷ ys) = ap (times j) e in
-    omega (arith, a, b)
+front_counts j i xs ys e = search (arith, id_eq-same)
 
 queue_off : (v : View) (p : Pid) (rest : List MsgId) (z : Spot) → z ≢ Queue v.acting p → ids_at (record v { queue = at_record v.queue v.acting p rest }) z ≡ ids_at v z
 queue_off v p rest (Queue m q) a = at_record_off v.queue v.acting m p q rest (queue_apart v.acting m p q a)
@@ -306,9 +274,7 @@ put_home_untaken m p i full =
 
 put_home_off : (v : View) (m : ℕ) (i : MsgId) (k : MessageKind) (q : Pid) (z : Spot) → z ≢ Inbox m → (view.after_put v m m i k q).inbox ≡ at_machine v.inbox m (v.inbox m ++ i ∷ [])
     → untaken (view.routed_on m m (v.pair m m) i) ≡ untaken (v.pair m m) → ids_at (view.after_put v m m i k q) z ≡ ids_at v z
-put_home_off v m i k q (Inbox n) apart inbox same = ap (λ f. f n) inbox ∙ at_machine_off v.inbox m n (v.inbox m ++ i ∷ []) (inbox_apart m n apart)
-put_home_off v m i k q (Untaken c d) apart inbox same = pair_keeps v.pair m m (view.routed_on m m (v.pair m m) i) same c d
-put_home_off v m i k q _ apart inbox same = refl
+put_home_off v m i k q z h1 h2 h3 = grind (arith, nat_tests, at_machine_off, inbox_apart, pair_keeps)
 
 put_away_untaken : (a b : ℕ) (p : Pair) (i : MsgId) → (a == b) ≡ false → p.taken ≤ length p.ids → untaken (view.routed_on a b p i) ≡ untaken p ++ i ∷ []
 put_away_untaken a b p i apart within =
@@ -316,9 +282,7 @@ put_away_untaken a b p i apart within =
     ap (λ n. drop n (p.ids ++ i ∷ [])) taken ∙ drop-append-le p.taken p.ids (i ∷ []) within
 
 put_away_off : (v : View) (a b : ℕ) (i : MsgId) (k : MessageKind) (q : Pid) (z : Spot) → z ≢ Untaken a b → (view.after_put v a b i k q).inbox ≡ v.inbox → ids_at (view.after_put v a b i k q) z ≡ ids_at v z
-put_away_off v a b i k q (Inbox n) apart inbox = ap (λ f. f n) inbox
-put_away_off v a b i k q (Untaken c d) apart inbox = ap untaken (pair_off v.pair a b c d (view.routed_on a b (v.pair a b) i) (untaken_apart a b c d apart))
-put_away_off v a b i k q _ apart inbox = refl
+put_away_off v a b i k q z h1 h2 = search (arith, pair_off, untaken_apart)
 
 pub Stands-put-home : (bag : Bag) (v : View) (m : ℕ) (i : MsgId) (k : MessageKind) (x : Pid) → bag i ≡ None → (view.first_told (v.told i) (record { kind = k; receiver = x; about = v.topic })).receiver ≡ x → (v.pair m m).taken ≡ length (v.pair m m).ids
     → Stands bag v → Stands (having i x bag) (view.after_put v m m i k x)
@@ -351,9 +315,7 @@ taken_spots : (a b : ℕ) → Untaken a b ≢ Inbox b
 taken_spots a b e = false≢true (ap is_inbox e)
 
 taken_off : (v : View) (a b n : ℕ) (i : MsgId) (z : Spot) → z ≢ Untaken a b → z ≢ Inbox b → ids_at (record (view.with_pair v a b (taken_pair (v.pair a b) n)) { inbox = at_machine v.inbox b (v.inbox b ++ i ∷ []) }) z ≡ ids_at v z
-taken_off v a b n i (Inbox m) x y = at_machine_off v.inbox b m (v.inbox b ++ i ∷ []) (inbox_apart b m y)
-taken_off v a b n i (Untaken c d) x y = ap untaken (pair_off v.pair a b c d (taken_pair (v.pair a b) n) (untaken_apart a b c d x))
-taken_off v a b n i _ x y = refl
+taken_off v a b n i z h1 h2 = search (arith, at_machine_off, inbox_apart, pair_off, untaken_apart)
 
 taken_by : (bag : Bag) (v : View) (a b n : ℕ) (o : Option MsgId) → slice_get (v.pair a b).ids (v.pair a b).taken ≡ o → Stands bag v → Stands bag (view.taken_id (view.with_pair v a b (taken_pair (v.pair a b) n)) b o)
 taken_by bag v a b n None is h =

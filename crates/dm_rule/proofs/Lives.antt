@@ -1,6 +1,6 @@
 -- Nothing is known of a process that was never made.
 use Rattle.dm_rule.proofs.Names.{◌≡◌, ℕ, ◌≤◌, ◌==◌, ◌&&◌, Bool, refl, ap, ◌∙◌, sym, subst, inl, inr, if◌then◌else◌, Option, None, Some, cases_Bool, Pid, pid_eq, PlainProcess, Life, Alive, OneKernel, at_record, View, Known, Unknown, Here}
-use Rattle.dm_rule.proofs.Names.{pid_eq-is, LifeGrows}
+use Rattle.dm_rule.proofs.Names.{pid_eq-is, LifeGrows, arith}
 use Rattle.dm_onekernel.specs.Kernel.{Ended}
 use Rattle.dm_onekernel.specs.Step as kernel
 use Rattle.dm_rule.proofs.Lines.{parts}
@@ -25,20 +25,12 @@ abbrev pub Kept : OneKernel → OneKernel → Type 0
 Kept s t = (p : Pid) → t.processes p ≡ None → s.processes p ≡ None
 
 pub grown_none : (a b : Option Life) → LifeGrows a b → b ≡ None → a ≡ None
-grown_none None b h e = refl
-grown_none (Some (Ended y)) b h e = absurd (let f : None ≡ Some (Ended y) = sym e ∙ h in cc)
-grown_none (Some (Alive x)) None h e = absurd h
-grown_none (Some (Alive x)) (Some l) h e = cc
+grown_none a b h1 h2 = search arith
 
 pub lives_same : (s t : OneKernel) (v w : View) → Kept s t → w.known ≡ v.known → Lives s v → Lives t w
 lives_same s t v w kept known h = record { none = λ p is le n. ap (λ (f : ℕ → Pid → Known). f n p) known ∙ h.none p (kept p is) le n }
 
 pub lives_learn : (s t : OneKernel) (v w : View) (p : Pid) (k : Known) → Kept s t → w.known ≡ at_record v.known v.acting p k → (t.processes p ≡ None → 3 ≤ p.num → k ≡ Unknown) → Lives s v → Lives t w
 lives_learn s t v w p k kept known new h = record {
-  none = λ q is le n. ap (λ (f : ℕ → Pid → Known). f n q) known ∙ elim (cases_Bool ((v.acting == n) && pid_eq p q)) [
-    | inl same ↦
-        let pq : p ≡ q = pid_eq-is p q (parts (v.acting == n) (pid_eq p q) same).1 in
-        ap (λ (c : Bool). if c then k else v.known n q) same ∙ new (ap t.processes pq ∙ is) (subst (λ (x : Pid). 3 ≤ x.num) (sym pq) le)
-    | inr off ↦ ap (λ (c : Bool). if c then k else v.known n q) off ∙ h.none q (kept q is) le n
-  ];
+  none = λ q is le n. ap (λ (f : ℕ → Pid → Known). f n q) known ∙ (search (arith, pid_eq-is, parts));
 }

@@ -45,10 +45,7 @@ once_comes v v' bag bag' id y pm fresh new same at_y off kept i = elim (cases_Bo
       (nowhere (bag id) (standing v id) fresh (kept id))))
   | inr apart ↦
       subst (λ (m : Option Pid). StandsAsBag m (standing v' i)) (sym (same i apart))
-      (StandsAsBag-same (bag i) (standing v i) (standing v' i) (λ z. elim (spot_cases z y) [
-        | inl e ↦ subst (λ (w : Spot). standing v' i w ≡ standing v i w) (sym e) (let h = at_y i in let k = one_of-off i id apart in omega (arith, h, k))
-        | inr other ↦ ap (times i) (off z other)
-      ]) (kept i))
+      (StandsAsBag-same (bag i) (standing v i) (standing v' i) (λ z. (search (arith, spot_cases, one_of-off))) (kept i))
 ]
 
 pub once_goes : (v v' : View) (bag bag' : MsgId → Option Pid) (id : MsgId) (x : Spot)
@@ -64,10 +61,7 @@ once_goes v v' bag bag' id x gone same at_x off kept i = elim (cases_Bool (id_eq
       (StandsAsBag-once (bag id) (standing v id) x (omega (arith, e)) (kept id))))
   | inr apart ↦
       subst (λ (m : Option Pid). StandsAsBag m (standing v' i)) (sym (same i apart))
-      (StandsAsBag-same (bag i) (standing v i) (standing v' i) (λ z. elim (spot_cases z x) [
-        | inl e ↦ subst (λ (w : Spot). standing v' i w ≡ standing v i w) (sym e) (let h = at_x i in let k = one_of-off i id apart in omega (arith, h, k))
-        | inr other ↦ ap (times i) (off z other)
-      ]) (kept i))
+      (StandsAsBag-same (bag i) (standing v i) (standing v' i) (λ z. (search (arith, spot_cases, one_of-off))) (kept i))
 ]
 
 pub once_moves : (v v' : View) (bag bag' : MsgId → Option Pid) (id : MsgId) (x y : Spot) → x ≢ y
@@ -83,11 +77,5 @@ once_moves v v' bag bag' id x y ne same at_x at_y off kept i = subst (λ (m : Op
       (once_as (bag id) (standing v id) (standing v' id) x (omega (arith, e)) (kept id)
       (moves (standing v id) (standing v' id) x y ne e d (λ z other apart. ap (times id) (off z other apart))))
   | inr apart ↦
-      StandsAsBag-same (bag i) (standing v i) (standing v' i) (λ z. elim (spot_cases z x) [
-        | inl e ↦ subst (λ (w : Spot). standing v' i w ≡ standing v i w) (sym e) (let h = at_x i in let k = one_of-off i id apart in omega (arith, h, k))
-        | inr other ↦ elim (spot_cases z y) [
-          | inl e ↦ subst (λ (w : Spot). standing v' i w ≡ standing v i w) (sym e) (let h = at_y i in let k = one_of-off i id apart in omega (arith, h, k))
-          | inr off_y ↦ ap (times i) (off z other off_y)
-        ]
-      ]) (kept i)
+      StandsAsBag-same (bag i) (standing v i) (standing v' i) (λ z. (search (arith, spot_cases, one_of-off))) (kept i)
 ])

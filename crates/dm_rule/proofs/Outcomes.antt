@@ -1,9 +1,8 @@
 -- The outcome of a directive: what holds of each way that it may come about holds of it.
 use Rattle.dm_rule.proofs.Names.{◌≡◌, ℕ, List, [], ◌∷◌, refl, subst, slice_get, Option, None, Some, Pid, MsgId, Boot, PlainMessage, Step, Line, Load, Part, Says, Transmits, Point, migrates, bind, bind-is, Spelled, spelled, behind, lines_of}
-use Rattle.dm_rule.proofs.Names.{after, moved, group_of}
+use Rattle.dm_rule.proofs.Names.{after, moved, group_of, arith}
+use Rattle.dm_rule.proofs.Groups.{IsNetLine, IsNet, arrives_net, resends_net, group_is}
 use Rattle.dm_rule.specs.Rule as rule
-use Rattle.dm_rule.proofs.Groups.{IsNetLine, IsNet, arrives_net, resends_net}
-use Rattle.dm_rule.proofs.Groups.{group_is}
 
 -- what deliveries and repeats say and transmit, part by part
 pub by_net : (P : List Part → Type 0) → P [] → ((l : Line) (ps : List Part) → IsNetLine l → P ps → P (Says l ∷ ps)) → ((a b : ℕ) (l : Load) (ps : List Part) → P ps → P (Transmits a b l ∷ ps)) → (ps : List Part) → IsNet ps → P ps
@@ -33,15 +32,7 @@ by_turns P b o m [] ps box h e = h.round m ps box e
 by_turns P b o m (i ∷ is) ps box h e = by_front P b o m i is (o.kernel.bag i) ps box refl h e
 
 pub by_outcome : (P : Step → List Part → Type 0) (b : Boot) (o : Point) (d : Step) (ps : List Part) → Outcomes P b o → rule.outcome b o d ≡ Some ps → P d ps
-by_outcome P b o (Step.Turn m) ps h e = by_turns P b o m (o.view.inbox m) ps refl h e
-by_outcome P b o (Step.Tick m) ps h e =
-    let qs = Says (Line.Resent m (rule.outstanding_count o.view m o.kernel.machines)) ∷ rule.resends o.view m o.kernel.machines in
-    given (P (Step.Tick m)) qs ps (h.ticks m qs (tt, resends_net o.view m o.kernel.machines)) e
-by_outcome P b o (Step.Deliver a c k) ps h e =
-    let s = slice_get (o.view.pair a c).wire k in
-    let qs = rule.arrives a c (o.view.pair a c) (o.view.pair c a) s in
-    given (P (Step.Deliver a c k)) qs ps (h.delivers a c k qs (arrives_net a c (o.view.pair a c) (o.view.pair c a) s)) e
-by_outcome P b o (Step.Migrate p m) ps h e = given (P (Step.Migrate p m)) (migrates o p) ps (h.asks p m) e
+by_outcome P b o d ps h1 h2 = search (arith, by_turns, given, resends_net, arrives_net)
 
 -- what is said and where it leads, part by part
 pub by_parts : (P : List Part → Point → Spelled → Type 0) → ((pt : Point) → P [] pt (record { lines = []; point = pt }))

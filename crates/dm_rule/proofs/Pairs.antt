@@ -18,22 +18,12 @@ abbrev pub Pairs : View → Type 0
 Pairs v = Paired v.pair
 
 pub Pairs-start : (b : Boot) → Pairs (first_view b)
-Pairs-start b = record {
-  stand = record {
-    apart = λ m n e. record { acked = omega arith; taken = omega arith; gone = omega arith; full = omega arith; wire = tt };
-    home = λ m. record { taken = refl; gone = refl; acked = refl; kept = refl; wire = refl };
-  };
-  kept = λ m n k e. absurd (false≢true e);
-}
+Pairs-start b = search arith
 
 -- on a machine's pair with itself nothing is out, and on others no more was acknowledged than went out
 pub acked_out_by : (v : View) (m b : ℕ) (same : Bool) → (m == b) ≡ same → Pairs v → (v.pair m b).acked ≤ (v.pair m b).gone
 acked_out_by v m b false e h = let x = h.stand.apart m b e in let y = x.acked in let z = x.taken in omega arith
-acked_out_by v m b true e h =
-    let is : m ≡ b = grind (arith, nat_tests) in
-    let x = h.stand.home m in
-    let y : (v.pair m m).acked ≤ (v.pair m m).gone = let p = x.acked in let q = x.gone in omega arith in
-    subst (λ (n : ℕ). (v.pair m n).acked ≤ (v.pair m n).gone) is y
+acked_out_by v m b true e h = grind (arith, nat_tests)
 
 -- the three steps of a group
 record Group (b : Boot) (pt : Point) (e : Step) (w : Spelled) : Type 0 where
@@ -107,19 +97,7 @@ pub Pairs-always : (b : Boot) (es : List Step) (pt : Point) → Leads b (first_p
 Pairs-always b es pt leads = Pairs-on b es (first_point b) pt leads (Pairs-start b)
 
 pub pair_stands : (v : View) (a b : ℕ) → a ≢ b → Pairs v → PairStands (v.pair a b) (v.pair b a)
-pair_stands v a b apart h =
-    let p = v.pair a b in
-    let back = v.pair b a in
-    let x = h.stand.apart a b (grind (arith, nat_tests)) in
-    record {
-      acked = x.acked;
-      taken = x.taken;
-      gone = x.gone;
-      full = x.full;
-      out = λ k n s there is. subst (LoadStands p.gone back.taken) is (WireStands-at p.gone back.taken p.wire k s there x.wire);
-      counted = λ k n s there is. subst (LoadStands p.gone back.taken) is (WireStands-at p.gone back.taken p.wire k s there x.wire);
-      kept = h.kept a b;
-    }
+pair_stands v a b apart h = search (arith, WireStands-at)
 
 pub pair_home : (v : View) (a : ℕ) → Pairs v → HomeStands (v.pair a a)
 pair_home v a h = h.stand.home a

@@ -14,8 +14,7 @@ heard_by true p h = refl
 heard_by false p h = eq_is p.acked (length p.ids) (h refl)
 
 heard_is : (same : Bool) (p : Pair) → same ≡ false → (same || (p.acked == length p.ids)) ≡ true → p.acked ≡ length p.ids
-heard_is true p e h = absurd (false≢true (sym e))
-heard_is false p e h = is_eq p.acked (length p.ids) h
+heard_is same p h1 h2 = search (arith, is_eq)
 
 pub no_mail_empty : (v : View) (m : ℕ) → not (has_mail v m) ≡ true → v.inbox m ≡ []
 no_mail_empty v m e = none (v.inbox m) e
@@ -39,11 +38,7 @@ pub passes_quiet : (n : ℕ) (v : View) → is_quiet n v ≡ true → IsQuiet n 
 passes_quiet n v e =
     let each = λ (a : ℕ) (h : a < n). each_of_all n (λ a. not (has_mail v a) && all_below n (λ b. pair_is_quiet (a == b) (v.pair a b))) e a h in
     let pair = λ (a b : ℕ) (h : a < n) (k : b < n). each_of_all n (λ b. pair_is_quiet (a == b) (v.pair a b)) (right_true (not (has_mail v a)) (all_below n (λ b. pair_is_quiet (a == b) (v.pair a b))) (each a h)) b k in
-    record {
-      taken = λ a b h k. is_eq (v.pair a b).taken (length (v.pair a b).ids) (left_true ((v.pair a b).taken == length (v.pair a b).ids) ((a == b) || ((v.pair a b).acked == length (v.pair a b).ids)) (pair a b h k));
-      acked = λ a b h k apart. heard_is (a == b) (v.pair a b) (eq_not a b apart) (right_true ((v.pair a b).taken == length (v.pair a b).ids) ((a == b) || ((v.pair a b).acked == length (v.pair a b).ids)) (pair a b h k));
-      inbox = λ m h. no_mail_empty v m (left_true (not (has_mail v m)) (all_below n (λ b. pair_is_quiet (m == b) (v.pair m b))) (each m h));
-    }
+    search (arith, is_eq, left_true, heard_is, eq_not, right_true, no_mail_empty)
 
 pub quiet_is_tested : QuietIsTested
 quiet_is_tested n v = (passes_quiet n v, quiet_passes n v)

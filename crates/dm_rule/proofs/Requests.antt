@@ -1,5 +1,6 @@
 -- A directive to move a process: it is refused in a line, or a request goes to the process. What holds of these three holds of whatever comes of it.
-use Rattle.dm_rule.proofs.Names.{◌≡◌, ℕ, ◌||◌, Bool, true, false, List, [], ◌∷◌, refl, if◌then◌else◌, Option, None, Some, Pid, pid_eq, MessageKind, Line, Child, Addresses, child_number, Point, Part, Says, Owns, migrates_child, migrates, switchboard, manager}
+use Rattle.dm_rule.proofs.Names.{◌≡◌, ℕ, ◌||◌, Bool, true, false, List, [], ◌∷◌, refl, if◌then◌else◌, Option, None, Some, Pid, pid_eq, MessageKind, Line, Child, Addresses, child_number, Point, Part, Says, Owns, migrates_child, migrates}
+use Rattle.dm_rule.proofs.Names.{switchboard, manager, arith}
 
 -- a test chooses between two values, and both do
 pub by_test : {A : Type 0} (P : A → Type 0) (c : Bool) (x y : A) → P x → P y → P (if c then x else y)
@@ -11,9 +12,7 @@ by_child P a p None none asks = none
 by_child P a p (Some n) none asks = asks n refl
 
 by_tests : (P : List Part → Type 0) (p : Pid) (c d : Bool) (ps : List Part) → P (Says (Line.Pinned p) ∷ []) → ((c || d) ≡ false → P ps) → P (if c then Says (Line.Pinned p) ∷ [] else if d then Says (Line.Pinned p) ∷ [] else ps)
-by_tests P p true d ps pinned rest = pinned
-by_tests P p false true ps pinned rest = pinned
-by_tests P p false false ps pinned rest = rest refl
+by_tests P p c d ps h1 h2 = search arith
 
 -- the process is no server where it is asked to move, and this child
 pub by_migrates : (P : List Part → Type 0) (pt : Point) (p : Pid) → P (Says (Line.Pinned p) ∷ []) → P (Says (Line.NoChild p) ∷ []) → ((n : ℕ) → (pid_eq p switchboard || pid_eq p manager) ≡ false → child_number pt.kernel p ≡ Some n → P (Owns MessageKind.Migrate p (pt.addresses (Child n)).at ∷ [])) → P (migrates pt p)

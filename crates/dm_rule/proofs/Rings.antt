@@ -1,6 +1,6 @@
 -- What the ring of a machine lists is here.
 use Rattle.dm_rule.proofs.Names.{◌≡◌, ℕ, ◌==◌, ◌&&◌, Bool, true, false, not, List, [], ◌∷◌, ◌++◌, refl, ap, ◌∙◌, sym, subst, inl, inr, ⊤, if◌then◌else◌, cases_Bool, false≢true, Pid, pid_eq, at_machine, at_record, without, moved_back, View}
-use Rattle.dm_rule.proofs.Names.{Known, Here, pid_eq-is, pid_eq-same}
+use Rattle.dm_rule.proofs.Names.{Known, Here, pid_eq-is, pid_eq-same, arith}
 use Rattle.dm_rule.proofs.Lines.{eq_is}
 
 abbrev pub AllHere : (Pid → Known) → List Pid → Type 0
@@ -21,10 +21,7 @@ learnt f p k q = if pid_eq p q then k else f q
 pub all_learnt : (f : Pid → Known) (p : Pid) (k : Known) (ps : List Pid) → (f p ≡ Here → k ≡ Here) → AllHere f ps → AllHere (learnt f p k) ps
 all_learnt f p k [] keeps h = tt
 all_learnt f p k (q ∷ qs) keeps h = (
-  elim (cases_Bool (pid_eq p q)) [
-    | inl same ↦ ap (λ (c : Bool). if c then k else f q) same ∙ keeps (ap f (pid_eq-is p q same) ∙ h.0)
-    | inr apart ↦ ap (λ (c : Bool). if c then k else f q) apart ∙ h.0
-  ],
+  (search (arith, pid_eq-is)),
   all_learnt f p k qs keeps h.1,
 )
 

@@ -1,12 +1,9 @@
 -- A line is said, alone or before a message that is routed.
-use Rattle.dm_rule.proofs.Names.{◌≡◌, ℕ, ◌≤◌, [], ◌∷◌, sym, subst, length, None, Some, MsgId, OneKernel, Line, View, Pair, view_after, Point, label_of, kernel_after, moved, seen, Says, Routes, Spelled, spelled}
+use Rattle.dm_rule.proofs.Names.{◌≡◌, ℕ, ◌≤◌, [], ◌∷◌, sym, subst, length, None, Some, MsgId, OneKernel, Line, View, Pair, view_after, Point, label_of, kernel_after, moved, seen, Says, Routes, Spelled, spelled, arith}
 use Rattle.dm_rule.proofs.States.{State, says_next, said, State-at, PairsFit, routes_next}
 
 pub fits_as : (v w : View) → w.pair ≡ v.pair → PairsFit v → PairsFit w
-fits_as v w e h = record {
-  within = λ a b. subst (λ (f : ℕ → ℕ → Pair). (f a b).taken ≤ length (f a b).ids) (sym e) (h.within a b);
-  home = λ a. subst (λ (f : ℕ → ℕ → Pair). (f a a).taken ≡ length (f a a).ids) (sym e) (h.home a);
-}
+fits_as v w e h = search arith
 
 -- one line is said, and that is all
 pub one_line : (pt : Point) (l : Line) (w : Spelled) → spelled pt (Says l ∷ []) ≡ Some w → ((s : OneKernel) → kernel_after pt.kernel (label_of l) ≡ Some s → State None (moved pt l s)) → State None w.point

@@ -1,13 +1,11 @@
 -- The view behind a line is what the line changes; only where a process is asked to move the topic is another.
 use Rattle.dm_rule.proofs.Names.{◌≡◌, Bool, refl, ap, subst, Option, None, Some, Pid, Label, OneKernel, Line, View, About, NothingElse, Target, view_after, label_of, seen, topic_by, after_stage, frozen_for, handled_first, target_of}
-use Rattle.dm_rule.proofs.Names.{sets_off, Stage, ℕ, Spot, Queue, ids_at, Of, Frozen, at_machine, at_record, without, IsUnasked, option_and_then, slice_get}
-use Rattle.dm_rule.specs.View as view
+use Rattle.dm_rule.proofs.Names.{sets_off, Stage, ℕ, Spot, Queue, ids_at, Of, Frozen, at_machine, at_record, without, IsUnasked, option_and_then, slice_get, arith}
 use Rattle.dm_rule.proofs.Lines.{Bag, Stands, Stands-stays}
+use Rattle.dm_rule.specs.View as view
 
 topic_is : (s : OneKernel) (a : About) (o : Option Label) → IsUnasked o → topic_by s a o ≡ a
-topic_is s a None h = refl
-topic_is s a (Some (Label.Asked i)) h = absurd h
-topic_is s a (Some _) h = refl
+topic_is s a o h1 = search arith
 
 pub seen_is : (s : OneKernel) (v : View) (l : Line) → IsUnasked (label_of l) → seen s v l ≡ view_after v l
 seen_is s v l h = ap (view.about (view_after v l)) (topic_is s (view_after v l).topic (label_of l) h)

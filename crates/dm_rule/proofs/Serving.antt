@@ -31,28 +31,13 @@ given : (P : List Part → Type 0) (qs ps : List Part) → P qs → Some qs ≡ 
 given P qs ps h e = let k : qs ≡ ps = cc in subst P k h
 
 by_called : (Q : List Part → Type 0) (p : Pid) (n : ℕ) (queue : List MsgId) (c : calls.Called) → Stops Q p queue → Q (called p n queue c)
-by_called Q p n queue (calls.Replies reply x) h = h.replies n reply
-by_called Q p n queue (calls.Sends m x) h = h.sends m.id
-by_called Q p n queue (calls.Waits x) h = h.waits
-by_called Q p n queue (calls.Outputs word x) h = h.outputs word
-by_called Q p n queue (calls.Ends because) h = h.ends because
+by_called Q p n queue c h1 = search arith
 
 by_stops : (Q : List Part → Type 0) (p : Pid) (queue : List MsgId) (full : Bool) (o : Option kernel.Trap) → Stops Q p queue → Q (if full then [] else stops p queue o)
-by_stops Q p queue true o h = h.over
-by_stops Q p queue false None h = h.over
-by_stops Q p queue false (Some (kernel.Calls n c)) h = by_called Q p n queue c h
-by_stops Q p queue false (Some (kernel.Faults fault)) h = h.ends (Why.Fault fault)
+by_stops Q p queue full o h1 = search (arith, by_called)
 
 by_receives : (P : List Part → Type 0) (o : Point) (m mask : ℕ) (p : Pid) (x : PlainProcess) (i : Option MsgId) (ps : List Part) → first_awaited o.kernel mask (o.view.queue m p) ≡ i → Serves P o m p → reception_parts o.kernel p x i ≡ Some ps → P ps
-by_receives P o m mask p x None ps is h e = cc
-by_receives P o m mask p x (Some id) ps is h e =
-    let (k, there, more) = bind-is (o.kernel.bag id) (λ k. bind (receiving.completes_with p x k) (λ c. Some (completion_parts p id c))) ps e in
-    let (c, done, last) = bind-is (receiving.completes_with p x k) (λ c. Some (completion_parts p id c)) ps more in
-    given P (completion_parts p id c) ps (by_completes c) last
-  where
-    by_completes : (c : receiving.Completed) → P (completion_parts p id c)
-    by_completes (receiving.Receives y) = h.takes mask id is
-    by_completes (receiving.Refuses reply y) = h.refuses id reply
+by_receives P o m mask p x i ps h1 h2 h3 = search (arith, bind-is, given)
 
 by_status : (P : List Part → Type 0) (quantum : ℕ) (o : Point) (m : ℕ) (p : Pid) (x : PlainProcess) (st : PlainStatus) (ps : List Part) → Serves P o m p → serves_status quantum o.kernel p (o.view.queue m p) x st ≡ Some ps → P ps
 by_status P quantum o m p x Ready ps h e =
@@ -100,15 +85,7 @@ pub record Handles (P : List Part → Type 0) (o : Point) (m : ℕ) (id : MsgId)
   pub forwarded : (to moves : ℕ) → To o m msg (Forward to moves) → P (forwards_on o.addresses id (plain_kind msg.what) msg.sender to)
 
 by_creates : (P : List Part → Type 0) (o : Point) (m : ℕ) (id : MsgId) (msg : PlainMessage) (r : Room) (i : Option BootImage) (ps : List Part) → IsFixed msg.to → Handles P o m id msg → creation_parts o m id r i ≡ Some ps → P ps
-by_creates P o m id msg r None ps fixed h e = cc
-by_creates P o m id msg r (Some i) ps fixed h e =
-    let yes = says (Label.Created id (pid_of m (first_number + o.kernel.made m))) in
-    let no = says (Label.NoSpace id r.slots r.blocks) in
-    given P ((if has_room r i.blocks then yes else no) ∷ Routes (answer_id id) ∷ []) ps (by_room (has_room r i.blocks)) e
-  where
-    by_room : (c : Bool) → P ((if c then says (Label.Created id (pid_of m (first_number + o.kernel.made m))) else says (Label.NoSpace id r.slots r.blocks)) ∷ Routes (answer_id id) ∷ [])
-    by_room true = h.created fixed
-    by_room false = h.no_space fixed r.slots r.blocks
+by_creates P o m id msg r i ps h1 h2 h3 = search (arith, given)
 
 by_asked : (P : List Part → Type 0) (b : Boot) (o : Point) (m : ℕ) (id : MsgId) (msg : PlainMessage) (w : PlainWhat) (ps : List Part) → IsFixed msg.to → Handles P o m id msg → kernel_handles b o m id w ≡ Some ps → P ps
 by_asked P b o m id msg (PlainWhat.Create image links) ps fixed h e = by_creates P o m id msg (free_room b o m) (slice_get b.images image) ps fixed h e
@@ -123,47 +100,16 @@ by_manager P id None ps h e = cc
 by_manager P id (Some t) ps h e = given P (says (Label.Took id) ∷ routes t.message) ps (h t.message) e
 
 by_lands : (P : List Part → Type 0) (id : MsgId) (l : Option pieces.Landed) (ps : List Part) → P (says (Label.Served id) ∷ []) → ((i : MsgId) → P (says (Label.Served id) ∷ Routes i ∷ [])) → rule.landing_parts id l ≡ Some ps → P ps
-by_lands P id None ps done next e = cc
-by_lands P id (Some (pieces.Next request x)) ps done next e = given P (says (Label.Served id) ∷ Routes request.id ∷ []) ps (next request.id) e
-by_lands P id (Some (pieces.Done reply x)) ps done next e = given P (says (Label.Served id) ∷ []) ps done e
+by_lands P id l ps h1 h2 h3 = search (arith, given)
 
 by_here : (P : List Part → Type 0) (o : Point) (m : ℕ) (id : MsgId) (msg : PlainMessage) (x : PlainProcess) (w : PlainWhat) (ps : List Part) → msg.what ≡ w → To o m msg Here → Handles P o m id msg → here_handles o m id msg x w ≡ Some ps → P ps
-by_here P o m id msg x (PlainWhat.User code channel body links) ps is to h e = given P (Says (Line.Queued id) ∷ []) ps (h.queued to (ap plain_kind is)) e
-by_here P o m id msg x PlainWhat.Stop ps is to h e = given P (says (Label.Served id) ∷ []) ps (h.served to (ap (λ w. is_kill (plain_kind w)) is)) e
-by_here P o m id msg x PlainWhat.Resume ps is to h e = given P (says (Label.Served id) ∷ []) ps (h.served to (ap (λ w. is_kill (plain_kind w)) is)) e
-by_here P o m id msg x PlainWhat.Kill ps is to h e = given P (says (Label.Served id) ∷ drop_parts (o.view.queue m msg.to)) ps (h.kills to (ap (λ w. is_kill (plain_kind w)) is)) e
-by_here P o m id msg x (PlainWhat.Read base len) ps is to h e = given P (says (Label.Served id) ∷ Routes (answer_id id) ∷ []) ps (h.answers to (ap (λ w. is_kill (plain_kind w)) is) (answer_id id)) e
-by_here P o m id msg x (PlainWhat.Write base bytes) ps is to h e = given P (says (Label.Served id) ∷ Routes (answer_id id) ∷ []) ps (h.answers to (ap (λ w. is_kill (plain_kind w)) is) (answer_id id)) e
-by_here P o m id msg x (PlainWhat.Block bytes) ps is to h e = let mild = ap (λ w. is_kill (plain_kind w)) is in by_lands P id (pieces.lands msg.to x msg x.status) ps (h.served to mild) (h.answers to mild) e
-by_here P o m id msg x PlainWhat.Written ps is to h e = let mild = ap (λ w. is_kill (plain_kind w)) is in by_lands P id (pieces.lands msg.to x msg x.status) ps (h.served to mild) (h.answers to mild) e
-by_here P o m id msg x PlainWhat.Gone ps is to h e = let mild = ap (λ w. is_kill (plain_kind w)) is in by_lands P id (pieces.lands msg.to x msg x.status) ps (h.served to mild) (h.answers to mild) e
-by_here P o m id msg x (PlainWhat.Move machine) ps is to h e =
-    given P (asked_to_move m id msg.to machine) ps (by_machine (m == machine) refl) e
-  where
-    by_machine : (c : Bool) → (m == machine) ≡ c → P (says (Label.Asked id) ∷ (if c then answers_move id Outcome.Done else leaves_for msg.to machine))
-    by_machine true same = let k : m ≡ machine = grind (arith, nat_tests) in h.moved to (is ∙ ap PlainWhat.Move (sym k))
-    by_machine false apart = h.sets_off machine to is apart
-by_here P o m id msg x _ ps is to h e = cc
+by_here P o m id msg x w ps h1 h2 h3 h4 = search (arith, given, by_lands)
 
 by_ended : (P : List Part → Type 0) (o : Point) (m : ℕ) (id : MsgId) (msg : PlainMessage) (w : PlainWhat) (ps : List Part) → To o m msg Ended → Handles P o m id msg → ended_handles id w ≡ Some ps → P ps
-by_ended P o m id msg (PlainWhat.Read base len) ps to h e = given P (says (Label.Gone id) ∷ Routes (answer_id id) ∷ []) ps (h.gone to) e
-by_ended P o m id msg (PlainWhat.Write base bytes) ps to h e = given P (says (Label.Gone id) ∷ Routes (answer_id id) ∷ []) ps (h.gone to) e
-by_ended P o m id msg (PlainWhat.Create image links) ps to h e = cc
-by_ended P o m id msg (PlainWhat.Created p) ps to h e = cc
-by_ended P o m id msg PlainWhat.NoRoom ps to h e = cc
-by_ended P o m id msg (PlainWhat.Move machine) ps to h e = given P (says (Label.Gone id) ∷ Routes (answer_id id) ∷ []) ps (h.gone to) e
-by_ended P o m id msg (PlainWhat.Moved outcome) ps to h e = cc
-by_ended P o m id msg _ ps to h e = given P (says (Label.Dropped id) ∷ []) ps (h.dropped to) e
+by_ended P o m id msg w ps h1 h2 h3 = search (arith, given)
 
 by_process : (P : List Part → Type 0) (o : Point) (m : ℕ) (id : MsgId) (msg : PlainMessage) (k : Known) (ps : List Part) → To o m msg k → Handles P o m id msg → process_handles o m id msg k ≡ Some ps → P ps
-by_process P o m id msg Unknown ps to h e = cc
-by_process P o m id msg Here ps to h e =
-    let (x, alive, more) = bind-is (kernel.alive (o.kernel.processes msg.to)) (λ x. here_handles o m id msg x msg.what) ps e in
-    by_here P o m id msg x msg.what ps refl to h more
-by_process P o m id msg (Frozen at_) ps to h e = given P (Says (Line.Held id) ∷ []) ps (h.leaving at_ to) e
-by_process P o m id msg (Incoming from) ps to h e = given P (Says (Line.Held id) ∷ []) ps (h.coming from to) e
-by_process P o m id msg (Forward at_ moves) ps to h e = given P (forwards_on o.addresses id (plain_kind msg.what) msg.sender at_) ps (h.forwarded at_ moves to) e
-by_process P o m id msg Ended ps to h e = by_ended P o m id msg msg.what ps to h e
+by_process P o m id msg k ps h1 h2 h3 = search (arith, bind-is, by_here, given, by_ended)
 
 or_either : (a c d : Bool) → (c || d) ≡ true → (a || (c || d)) ≡ true
 or_either true c d e = refl
@@ -172,14 +118,7 @@ or_either false c d e = e
 by_receiver : (P : List Part → Type 0) (b : Boot) (o : Point) (m : ℕ) (id : MsgId) (msg : PlainMessage) (c d g : Bool) (ps : List Part) → msg.to.num == 0 ≡ c → pid_eq msg.to switchboard ≡ d → pid_eq msg.to manager ≡ g → Handles P o m id msg
     → (if c then kernel_handles b o m id msg.what else if d then board_took id (board.board_takes o.kernel.switchboard msg msg.what)
     else if g then manager_parts id (manage.manager_takes o.kernel.manager o.kernel.machines (length o.kernel.images) msg msg.what) else process_handles o m id msg (o.view.known m msg.to)) ≡ Some ps → P ps
-by_receiver P b o m id msg true d g ps zero_ one two h e = by_asked P b o m id msg msg.what ps (ap (λ (x : Bool). x || (pid_eq msg.to switchboard || pid_eq msg.to manager)) zero_) h e
-by_receiver P b o m id msg false true g ps zero_ one two h e =
-    by_board P id (board.board_takes o.kernel.switchboard msg msg.what) ps (h.took (or_either (msg.to.num == 0) (pid_eq msg.to switchboard) (pid_eq msg.to manager) (ap (λ (x : Bool). x || pid_eq msg.to manager) one))) e
-by_receiver P b o m id msg false false true ps zero_ one two h e =
-    by_manager P id (manage.manager_takes o.kernel.manager o.kernel.machines (length o.kernel.images) msg msg.what) ps
-    (h.took (or_either (msg.to.num == 0) (pid_eq msg.to switchboard) (pid_eq msg.to manager) (ap (λ (x : Bool). x || pid_eq msg.to manager) one ∙ two))) e
-by_receiver P b o m id msg false false false ps zero_ one two h e =
-    by_process P o m id msg (o.view.known m msg.to) ps (record { known = refl; process = ap (λ (x : Bool). x || pid_eq msg.to manager) one ∙ two }) h e
+by_receiver P b o m id msg c d g ps h1 h2 h3 h4 h5 = search (arith, by_asked, by_board, or_either, by_manager, by_process)
 
 pub by_handles : (P : List Part → Type 0) (b : Boot) (o : Point) (m : ℕ) (id : MsgId) (msg : PlainMessage) (ps : List Part) → Handles P o m id msg → rule.handles b o m id msg ≡ Some ps → P ps
 by_handles P b o m id msg ps h e = by_receiver P b o m id msg (msg.to.num == 0) (pid_eq msg.to switchboard) (pid_eq msg.to manager) ps refl refl refl h e
@@ -187,11 +126,7 @@ by_handles P b o m id msg ps h e = by_receiver P b o m id msg (msg.to.num == 0) 
 -- a message goes on, and its sender may be told
 pub by_forwards : (P : List Part → Type 0) (a : Addresses) (id : MsgId) (k : MessageKind) (sender : Pid) (to : ℕ) → P (Says (Line.Forwarded id to) ∷ Again id to ∷ [])
     → P (Says (Line.Forwarded id to) ∷ Again id to ∷ Owns MessageKind.Update sender (a (Sender id)).at ∷ []) → P (forwards_on a id k sender to)
-by_forwards P a id k sender to alone told = by_told (is_told_back k)
-  where
-    by_told : (c : Bool) → P (Says (Line.Forwarded id to) ∷ Again id to ∷ (if c then Owns MessageKind.Update sender (a (Sender id)).at ∷ [] else []))
-    by_told true = told
-    by_told false = alone
+by_forwards P a id k sender to h1 h2 = search arith
 
 -- what holds of parts that only say labels and route messages
 pub record Loose (L : List Part → Type 0) : Type 0 where

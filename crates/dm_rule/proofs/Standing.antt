@@ -14,29 +14,11 @@ eq_is m n e = grind (arith, nat_tests)
 
 same_spot-is : (x y : Spot) → same_spot x y ≡ true → x ≡ y
 unfolding same_spot
-same_spot-is (Queue m p) (Queue n q) e = ap (λ k. Queue k p) (eq_is m n (left_true (m == n) (pid_eq p q) e)) ∙ ap (Queue n) (pid_eq-is p q (right_true (m == n) (pid_eq p q) e))
-same_spot-is (Held m p) (Held n q) e = ap (λ k. Held k p) (eq_is m n (left_true (m == n) (pid_eq p q) e)) ∙ ap (Held n) (pid_eq-is p q (right_true (m == n) (pid_eq p q) e))
-same_spot-is (Inbox m) (Inbox n) e = ap Inbox (eq_is m n e)
-same_spot-is (Untaken a b) (Untaken c d) e = ap (λ k. Untaken k b) (eq_is a c (left_true (a == c) (b == d) e)) ∙ ap (Untaken c) (eq_is b d (right_true (a == c) (b == d) e))
-same_spot-is (Queue m p) (Held n q) e = cc
-same_spot-is (Queue m p) (Inbox n) e = cc
-same_spot-is (Queue m p) (Untaken c d) e = cc
-same_spot-is (Held m p) (Queue n q) e = cc
-same_spot-is (Held m p) (Inbox n) e = cc
-same_spot-is (Held m p) (Untaken c d) e = cc
-same_spot-is (Inbox m) (Queue n q) e = cc
-same_spot-is (Inbox m) (Held n q) e = cc
-same_spot-is (Inbox m) (Untaken c d) e = cc
-same_spot-is (Untaken a b) (Queue n q) e = cc
-same_spot-is (Untaken a b) (Held n q) e = cc
-same_spot-is (Untaken a b) (Inbox n) e = cc
+same_spot-is x y h1 = search (arith, eq_is, left_true, pid_eq-is, right_true)
 
 same_spot-same : (x : Spot) → same_spot x x ≡ true
 unfolding same_spot
-same_spot-same (Queue m p) = both_true (m == m) (pid_eq p p) (grind (arith, nat_tests)) (pid_eq-same p)
-same_spot-same (Held m p) = both_true (m == m) (pid_eq p p) (grind (arith, nat_tests)) (pid_eq-same p)
-same_spot-same (Inbox m) = grind (arith, nat_tests)
-same_spot-same (Untaken a b) = both_true (a == a) (b == b) (grind (arith, nat_tests)) (grind (arith, nat_tests))
+same_spot-same x = search (arith, both_true, pid_eq-same)
 
 pub spot_cases : (x y : Spot) → (x ≡ y) ⊎ (x ≢ y)
 spot_cases x y = elim (cases_Bool (same_spot x y)) [
@@ -75,8 +57,7 @@ StandsAsBag-same None f g e h = λ x. e x ∙ h x
 StandsAsBag-same (Some m) f g e h = (h.0, e h.0 ∙ h.1, λ y apart. e y ∙ h.2 y apart)
 
 pub StandsAsBag-once : {M : Type 0} (m : Option M) (f : Spot → ℕ) (x : Spot) → 1 ≤ f x → StandsAsBag m f → StandsOnce f
-StandsAsBag-once None f x least h = absurd (let k : f x ≡ 0 = h x in omega arith)
-StandsAsBag-once (Some m) f x least h = h
+StandsAsBag-once m f x h1 h2 = search arith
 
 pub once_as : {M : Type 0} (m : Option M) (f g : Spot → ℕ) (x : Spot) → 1 ≤ f x → StandsAsBag m f → (StandsOnce f → StandsOnce g) → StandsAsBag m g
 once_as None f g x least h go = absurd (let k : f x ≡ 0 = h x in omega arith)

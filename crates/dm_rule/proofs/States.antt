@@ -90,10 +90,7 @@ pub record SentNext (pt : Point) (a b : ℕ) (l : Load) (ps : List Part) (w : Sp
   pub point : rest.point ≡ w.point
 
 pub transmits_next : (pt : Point) (a b : ℕ) (l : Load) (ps : List Part) (w : Spelled) → spelled pt (Transmits a b l ∷ ps) ≡ Some w → SentNext pt a b l ps w
-transmits_next pt a b l ps w e =
-    let k = says_next pt (packet_line pt.view a b l) ps w e in
-    let same : pt.kernel ≡ k.s = let i = k.is in cc in
-    record { rest = k.rest; more = ap (λ s. spelled (moved pt (packet_line pt.view a b l) s) ps) same ∙ k.more; point = k.point }
+transmits_next pt a b l ps w e = search (arith, says_next)
 
 -- nothing more is said
 pub said : (pt : Point) (w : Spelled) → spelled pt [] ≡ Some w → pt ≡ w.point
@@ -145,8 +142,7 @@ put_stands bag v b i k q false is none tells fits h = Stands-put-away bag v v.ac
 
 -- a put of a message that is no kernel's own leaves the kernels' counts, and what is told of theirs
 not_own : (i : MsgId) (o : Option Told) → is_kernels i ≡ false → o ≡ None → view.is_own i o ≡ false
-not_own i None k e = k
-not_own i (Some t) k e = refl
+not_own i o h1 h2 = grind (arith, nat_tests)
 
 pub kernels_id : (i : MsgId) (m n : ℕ) → is_kernels i ≡ false → id_eq i (id_of (pid_of m 0) n) ≡ false
 kernels_id i m n k = not_true (id_eq i (id_of (pid_of m 0) n)) (λ e. let is = id_eq-is i (id_of (pid_of m 0) n) e in false≢true (sym k ∙ ap is_kernels is))

@@ -99,8 +99,7 @@ put_at v a b i k q = ap (λ (c : Bool). if c then Some (view.first_told (v.told 
 -- an earlier put told it, or this one
 put_by : (pt : Point) (i : MsgId) (k : MessageKind) (q : Pid) (o : Option Told) (t : Told) (P : Told → Type 0) → pt.view.told i ≡ o → Some (view.first_told o (record { kind = k; receiver = q; about = pt.view.topic })) ≡ Some t
     → ((u : Told) → pt.view.told i ≡ Some u → P u) → P (record { kind = k; receiver = q; about = pt.view.topic }) → P t
-put_by pt i k q None t P is e was now = let f : record { kind = k; receiver = q; about = pt.view.topic } ≡ t = cc in subst P f now
-put_by pt i k q (Some u) t P is e was now = let f : u ≡ t = cc in subst P f (was u is)
+put_by pt i k q o t P h1 h2 h3 h4 = search arith
 
 pub sane_put : (pt : Point) (a b : ℕ) (i : MsgId) (k : MessageKind) (q : Pid) (h : Sane pt) → PutRight pt h.e i k q → Sane (moved pt (Line.Put a b i k q) pt.kernel)
 sane_put pt a b i k q h right =
@@ -118,13 +117,7 @@ sane_put pt a b i k q h right =
       r = h.r;
       e = h.e;
       sound = h.sound;
-      untold = λ j zero_ other. elim (cases_Bool (id_eq i j)) [
-        | inl same ↦
-            let is : i ≡ j = id_eq-is i j same in
-            let least : 1 ≤ h.e i = right.entered (ap is_kernels is ∙ other) in
-            absurd (let z : h.e i ≡ 0 = ap h.e is ∙ zero_ in omega (arith, least, z))
-        | inr apart ↦ put_told_off v a b i j k q apart ∙ h.untold j zero_ other
-      ];
+      untold = λ j zero_ other. (search (arith, id_eq-is, put_told_off));
       numbered = right.numbered a b;
       tells = record {
         kind = λ j x t there e. told j t (λ n s. pt.kernel.bag n ≡ Some x → s.kind ≡ plain_kind x.what) e (λ s was in_. h.tells.kind j x s in_ was) (λ in_. right.kind x in_) there;
@@ -142,11 +135,7 @@ plain_not _ = refl
 numbered_some : (v : View) (a b : ℕ) (i : MsgId) (k : MessageKind) (q : Pid) (t : Told) → v.told i ≡ Some t → Numbered v → Numbered (view.after_put v a b i k q)
 numbered_some v a b i k q t told h m n le =
     let count : (view.after_put v a b i k q).count ≡ v.count = ap (λ (c : Bool). if c then at_machine v.count i.from.home (v.count i.from.home + 1) else v.count) (not_first i (v.told i) t told) in
-    let none : v.told (id_of (pid_of m 0) n) ≡ None = h m n (subst (λ (f : ℕ → ℕ). f m ≤ n) count le) in
-    elim (cases_Bool (id_eq i (id_of (pid_of m 0) n))) [
-      | inl same ↦ absurd (let is : i ≡ id_of (pid_of m 0) n = id_eq-is i (id_of (pid_of m 0) n) same in let f : None ≡ Some t = sym none ∙ ap v.told (sym is) ∙ told in cc)
-      | inr apart ↦ put_told_off v a b i (id_of (pid_of m 0) n) k q apart ∙ none
-    ]
+    search (arith, id_eq-is, put_told_off)
 
 numbered_other : (v : View) (a b : ℕ) (i : MsgId) (k : MessageKind) (q : Pid) (o : Option Told) → v.told i ≡ o → is_kernels i ≡ false → Numbered v → Numbered (view.after_put v a b i k q)
 numbered_other v a b i k q None is other h = numbered_put v a b i k q other is h
@@ -155,8 +144,7 @@ numbered_other v a b i k q (Some t) is other h = numbered_some v a b i k q t is 
 -- a put with its packet
 puts_sane : (pt next : Point) (b : ℕ) (i : MsgId) (k : MessageKind) (q : Pid) (c d : Bool) (h : Sane pt) → PutRight pt h.e i k q
     → after pt (Line.Put pt.view.acting b i k q ∷ (if c then [] else if d then packet_line pt.view pt.view.acting b (Load.Data (length (pt.view.pair pt.view.acting b).ids)) ∷ [] else [])) ≡ Some next → Sane next
-puts_sane pt next b i k q true d h right is =
-    let f : moved pt (Line.Put pt.view.acting b i k q) pt.kernel ≡ next = cc in subst Sane f (sane_put pt pt.view.acting b i k q h right)
+puts_sane pt next b i k q true d h right is = search (arith, sane_put)
 puts_sane pt next b i k q false false h right is =
     let f : moved pt (Line.Put pt.view.acting b i k q) pt.kernel ≡ next = cc in subst Sane f (sane_put pt pt.view.acting b i k q h right)
 puts_sane pt next b i k q false true h right is =
@@ -204,13 +192,7 @@ part_sane pt next (Again i b) ls ok is leads h =
       entered = λ k. elim (cases_zero (h.e i)) [ inl none ↦ absurd (let f : None ≡ Some t = sym (h.untold i none k) ∙ there in cc) | inr least ↦ least ];
       numbered = λ a b. numbered_some pt.view a b i t.kind t.receiver t there h.numbered;
     }) last leads
-part_sane pt next (Owns k q b) ls ok is leads h = puts_lead pt next b (own_id pt.view) k q ls h (record {
-  kind = λ x is. absurd (false≢true (sym (not_kernels h.r h.e pt.kernel (own_id pt.view) x is h.sound)));
-  receiver = λ x is. absurd (false≢true (sym (not_kernels h.r h.e pt.kernel (own_id pt.view) x is h.sound)));
-  own = λ b. refl;
-  entered = λ n. absurd (false≢true (sym n));
-  numbered = λ a b. own_numbered pt.view a b k q (h.numbered pt.view.acting (pt.view.count pt.view.acting) (omega arith)) h.numbered;
-}) is leads
+part_sane pt next (Owns k q b) ls ok is leads h = puts_lead pt next b (own_id pt.view) k q ls h ((search (arith, not_kernels, own_numbered))) is leads
 part_sane pt next (Transmits a b l) ls ok is leads h = one_line pt next (packet_line pt.view a b l) ls refl is leads h
 
 pub parts_sane : (ps : List Part) (pt : Point) (w : Spelled) → AllSayable ps → spelled pt ps ≡ Some w → Sane pt → Sane w.point
@@ -224,13 +206,7 @@ parts_sane (p ∷ ps) pt w ok is h =
 
 -- what keeps pairs, and what deliveries say, is no put
 quiet_of : (l : Line) → touches l ≡ false → is_put l ≡ false
-quiet_of (Line.Head s) e = cc
-quiet_of (Line.Put a b i k q) e = cc
-quiet_of (Line.Packet a b k l) e = cc
-quiet_of (Line.Taken a b n) e = cc
-quiet_of (Line.Early a b n) e = cc
-quiet_of (Line.Acked a b n) e = cc
-quiet_of _ e = refl
+quiet_of l h1 = search arith
 
 fit_sayable : (f : ℕ → ℕ → Pair) (ps : List Part) → AllFit f ps → AllSayable ps
 fit_sayable f [] h = tt
@@ -241,13 +217,7 @@ fit_sayable f (Owns k q b ∷ ps) h = (tt, fit_sayable f ps h.1)
 fit_sayable f (Transmits a b l ∷ ps) h = (tt, fit_sayable f ps h.1)
 
 net_quiet : (l : Line) → IsNetLine l → is_put l ≡ false
-net_quiet (Line.Taken a b n) h = refl
-net_quiet (Line.Old a b n) h = refl
-net_quiet (Line.Early a b n) h = refl
-net_quiet (Line.Acked a b n) h = refl
-net_quiet (Line.Resent m n) h = refl
-net_quiet Line.Nothing h = refl
-net_quiet _ h = absurd h
+net_quiet l h1 = search arith
 
 net_sayable : (ps : List Part) → IsNet ps → AllSayable ps
 net_sayable [] h = tt
@@ -263,8 +233,7 @@ outcome_sayable b pt (Step.Tick m) ps is =
     subst AllSayable f (refl, net_sayable (rule.resends pt.view m pt.kernel.machines) (resends_net pt.view m pt.kernel.machines))
 outcome_sayable b pt (Step.Deliver a c k) ps is =
     let qs = rule.arrives a c (pt.view.pair a c) (pt.view.pair c a) (slice_get (pt.view.pair a c).wire k) in
-    let f : qs ≡ ps = cc in
-    subst AllSayable f (net_sayable qs (arrives_net a c (pt.view.pair a c) (pt.view.pair c a) (slice_get (pt.view.pair a c).wire k)))
+    search (arith, net_sayable, arrives_net)
 outcome_sayable b pt (Step.Migrate p m) ps is = let f : migrates pt p ≡ ps = cc in subst AllSayable f (fit_sayable pt.view.pair (migrates pt p) (migrates_fit pt.view.pair pt p))
 
 pub sane_group : (b : Boot) (pt : Point) (d : Step) (w : Spelled) → group_of b pt d ≡ Some w → Sane pt → Sane w.point
@@ -273,14 +242,7 @@ sane_group b pt d w is h =
     subst Sane g.point (parts_sane g.parts (moved pt (Line.Head d) pt.kernel) g.rest (outcome_sayable b pt d g.parts g.is) g.said (sane_quiet pt (Line.Head d) refl h))
 
 pub sane_start : (b : Boot) → IsValid b → Sane (first_point b)
-sane_start b valid = record {
-  r = λ i. 0;
-  e = λ i. 0;
-  sound = start-sound b valid;
-  untold = λ i z other. refl;
-  numbered = λ m n le. refl;
-  tells = record { kind = λ i x t there told. cc; receiver = λ i x t there told. cc; own = λ i t told b. cc };
-}
+sane_start b valid = search (arith, start-sound b valid)
 
 pub sane_on : (b : Boot) (es : List Step) (pt end : Point) → Leads b pt es end → Sane pt → Sane end
 sane_on b [] pt end leads h = subst Sane leads h

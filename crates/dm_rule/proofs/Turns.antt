@@ -2,16 +2,15 @@
 use Rattle.dm_rule.proofs.Names.{◌≡◌, ◌≢◌, ℕ, ◌≤◌, ◌==◌, ◌&&◌, Bool, true, false, List, [], ◌∷◌, refl, ap, ◌∙◌, sym, subst, arith, inl, inr, if◌then◌else◌, Option, None, Some, cases_Bool, false≢true, nat_tests, Pid, pid_eq, MsgId}
 use Rattle.dm_rule.proofs.Names.{MessageKind, Line, id_eq, Label, bind, OneKernel, at_machine, at_record, without_front, View, Told, view_after, handled, receiver_of, Point, moved, Spelled, spelled, Spot, Queue, Inbox, times, ids_at}
 use Rattle.dm_rule.proofs.Names.{standing, pid_eq-is, pid_eq-same, id_eq-same, bind-is, is_kernels, drop_parts, sort_of}
-use Rattle.dm_onekernel.specs.Step as kernel
-use Rattle.dm_rule.specs.View as view
 use Rattle.dm_rule.proofs.Standing.{StandsAsBag-elsewhere}
 use Rattle.dm_rule.proofs.Lines.{Stands-stays, Stands-handled, Stands-dequeued, front_counts, eq_is, eq_self, spots_differ}
-use Rattle.dm_rule.proofs.Bags.{BagStep, out_of}
+use Rattle.dm_rule.proofs.Bags.{BagStep, out_of, bag_dropped}
 use Rattle.dm_rule.proofs.Letters.{letters, letter_of, not_kernels, gone_in}
 use Rattle.dm_rule.proofs.Once.{one_of}
-use Rattle.dm_rule.proofs.Bags.{bag_dropped}
 use Rattle.dm_rule.proofs.States.{State, says_next, said, State-at, by_label}
 use Rattle.dm_rule.proofs.Homes.Servers.{and-both}
+use Rattle.dm_onekernel.specs.Step as kernel
+use Rattle.dm_rule.specs.View as view
 
 pub ended_off : (v : View) (p : Pid) (z : Spot) → ids_at (view.ended v p) z ≡ ids_at v z
 ended_off v p (Queue m q) = refl
@@ -54,15 +53,10 @@ gone_out pt l s i h is goes j e =
 -- labels that handle the message at the front of the inbox
 pub front_label : (pt : Point) (l : Label) (s : OneKernel) (i : MsgId) (is : List MsgId) (put : Option MsgId) (h : State None pt) → pt.view.inbox pt.view.acting ≡ i ∷ is → kernel.step pt.kernel l ≡ Some s → out_of l ≡ Some i → BagStep h.e pt.kernel s (Some i) put
     → ((z : Spot) → ids_at (view_after pt.view (Line.Label l)) z ≡ ids_at (handled pt.view i) z) → ((j : MsgId) → (view_after pt.view (Line.Label l)).told j ≡ pt.view.told j) → State put (moved pt (Line.Label l) s)
-front_label pt l s i is put h front step_ goes bag off told =
-    by_label pt l s (Some i) put h step_ (gone_out pt l s i h step_ goes) bag (Stands-handled (letters h.own pt.kernel.bag) pt.view (view_after pt.view (Line.Label l)) i is front off told h.stands) told
+front_label pt l s i is put h front step_ goes bag off told = search (arith, by_label, gone_out, Stands-handled)
 
 pub without_front_none : (i : MsgId) (xs : List MsgId) → times i xs ≡ 0 → without_front i xs ≡ xs
-without_front_none i [] e = refl
-without_front_none i (x ∷ xs) e = elim (cases_Bool (id_eq i x)) [
-  | inl same ↦ absurd (let one : one_of i x ≡ 1 = ap (λ (c : Bool). if c then 1 else 0) same in omega (arith, e, one))
-  | inr apart ↦ ap (λ (c : Bool). if c then xs else x ∷ xs) apart
-]
+without_front_none i xs h1 = search arith
 
 pub at_record_same : (f : ℕ → Pid → List MsgId) (m : ℕ) (p : Pid) (x : List MsgId) → x ≡ f m p → (n : ℕ) (q : Pid) → at_record f m p x n q ≡ f n q
 at_record_same f m p x e n q = elim (cases_Bool ((m == n) && pid_eq p q)) [
@@ -81,9 +75,7 @@ queue_spot m n p e = false≢true (ap is_box e)
 
 -- a message that stands in the inbox is at the front of no queue
 pub dropped_off : (v : View) (i : MsgId) (o : Option Pid) → ((m : ℕ) (p : Pid) → times i (v.queue m p) ≡ 0) → (z : Spot) → ids_at (view.dropped_for (handled v i) i o) z ≡ ids_at (handled v i) z
-dropped_off v i None none z = refl
-dropped_off v i (Some p) none (Queue m q) = at_record_same v.queue v.acting p (without_front i (v.queue v.acting p)) (without_front_none i (v.queue v.acting p) (none v.acting p)) m q
-dropped_off v i (Some p) none _ = refl
+dropped_off v i o h1 z = search (arith, at_record_same, without_front_none)
 
 pub dropped_told : (v : View) (i : MsgId) (o : Option Pid) (j : MsgId) → (view.dropped_for (handled v i) i o).told j ≡ v.told j
 dropped_told v i None j = refl
@@ -104,10 +96,7 @@ machine_same f m x e n = elim (cases_Bool (m == n)) [
 -- the queue's front goes, and the inbox keeps what it has
 dequeued_off : (v : View) (j : MsgId) (p : Pid) (o : Option Pid) → o ≡ Some p → times j (v.inbox v.acting) ≡ 0 → (z : Spot)
     → ids_at (view.dropped_for (handled v j) j o) z ≡ ids_at (record v { queue = at_record v.queue v.acting p (without_front j (v.queue v.acting p)) }) z
-dequeued_off v j p None e none z = cc
-dequeued_off v j p (Some q) e none (Queue m t) = let k : q ≡ p = cc in ap (λ x. at_record v.queue v.acting x (without_front j (v.queue v.acting x)) m t) k
-dequeued_off v j p (Some q) e none (Inbox m) = machine_same v.inbox v.acting (without_front j (v.inbox v.acting)) (without_front_none j (v.inbox v.acting) none) m
-dequeued_off v j p (Some q) e none _ = refl
+dequeued_off v j p o h1 h2 z = search (arith, machine_same, without_front_none)
 
 -- one message of the queue of a process that has ended is dropped
 queue_front : (pt : Point) (s : OneKernel) (j : MsgId) (js : List MsgId) (p : Pid) (h : State None pt) → pt.view.queue pt.view.acting p ≡ j ∷ js → kernel.step pt.kernel (Label.Dropped j) ≡ Some s → State None (moved pt (Line.Label (Label.Dropped j)) s)
@@ -127,12 +116,7 @@ queue_front pt s j js p h front is =
 
 -- its queue after one was dropped
 dropped_queue : (v : View) (j : MsgId) (js : List MsgId) (p : Pid) (o : Option Pid) → o ≡ Some p → v.queue v.acting p ≡ j ∷ js → (view.dropped_for (handled v j) j o).queue v.acting p ≡ js
-dropped_queue v j js p None e front = cc
-dropped_queue v j js p (Some q) e front =
-    let k : q ≡ p = cc in
-    let at : at_record v.queue v.acting p (without_front j (v.queue v.acting p)) v.acting p ≡ without_front j (v.queue v.acting p) =
-    ap (λ (c : Bool). if c && pid_eq p p then without_front j (v.queue v.acting p) else v.queue v.acting p) (eq_self v.acting) ∙ ap (λ (c : Bool). if c then without_front j (v.queue v.acting p) else v.queue v.acting p) (pid_eq-same p) in
-    ap (λ x. at_record v.queue v.acting x (without_front j (v.queue v.acting x)) v.acting p) k ∙ at ∙ ap (without_front j) front ∙ ap (λ (c : Bool). if c then js else j ∷ js) (id_eq-same j)
+dropped_queue v j js p o h1 h2 = search (arith, eq_self, pid_eq-same, id_eq-same)
 
 queue_told : (pt : Point) (j : MsgId) (js : List MsgId) (p : Pid) (s : OneKernel) → State None pt → pt.view.queue pt.view.acting p ≡ j ∷ js → kernel.step pt.kernel (Label.Dropped j) ≡ Some s → receiver_of (pt.view.told j) ≡ Some p
 queue_told pt j js p s h front is =

@@ -1,8 +1,9 @@
 -- What a call of a process comes to, row by row: whatever holds of each row holds of the call.
-use Rattle.dm_rulelaws.proofs.Names.{◌≡◌, ℕ, ◌+◌, ◌==◌, ◌||◌, Bool, true, false, List, [], ◌∷◌, refl, nat_lt, if◌then◌else◌, Option, None, Some, Pid, PlainLink, first_empty, link_at, direction_numbered, Direction, Reply, Why, PlainProcess}
+use Rattle.dm_rulelaws.proofs.Names.{◌≡◌, ℕ, ◌+◌, ◌==◌, ◌||◌, Bool, false, List, [], ◌∷◌, refl, nat_lt, if◌then◌else◌, Option, None, Some, Pid, PlainLink, first_empty, link_at, direction_numbered, Direction, Reply, Why, PlainProcess}
 use Rattle.dm_rulelaws.proofs.Names.{Waiting, reg, first_failed, Called, Sends, Waits, CallNumber, Check}
 use Rattle.dm_onekernel.specs.Pieces as pieces
 use Rattle.dm_onekernel.specs.Calls as calls
+use Rattle.dm_rulelaws.proofs.Names.{arith}
 
 -- it is refused, or does what it is for: with a link of its own, or with the one in the slot that register 1 names
 pub record Does (P : Called → Type 0) (p : Pid) (x : PlainProcess) : Type 0 where
@@ -19,12 +20,10 @@ pub record Does (P : Called → Type 0) (p : Pid) (x : PlainProcess) : Type 0 wh
 
 -- a test, and refusals one after the other
 by_test : (P : Called → Type 0) (c : Bool) (d e : Called) → P d → P e → P (if c then d else e)
-by_test P true d e h k = h
-by_test P false d e h k = k
+by_test P c d e h1 h2 = search arith
 
 by_refusals : (P : Called → Type 0) (x : PlainProcess) (o : Option Reply) (d : Called) → ((c : Reply) → P (calls.refused c x)) → (o ≡ None → P d) → P (calls.unless_refused o x d)
-by_refusals P x None d h k = k refl
-by_refusals P x (Some c) d h k = h c
+by_refusals P x o d h1 h2 = search arith
 
 abbrev first_fails : List Check → Bool
 first_fails [] = false
@@ -35,16 +34,10 @@ others [] = []
 others (c ∷ cs) = cs
 
 none_failed : (cs : List Check) → first_failed cs ≡ None → (first_fails cs ≡ false) × (first_failed (others cs) ≡ None)
-none_failed [] e = (refl, e)
-none_failed (c ∷ cs) e = by c.fails e
-  where
-    by : (b : Bool) → (if b then Some c.reply else first_failed cs) ≡ None → (b ≡ false) × (first_failed cs ≡ None)
-    by true e = cc
-    by false e = (refl, e)
+none_failed cs h1 = search arith
 
 neither : (c d : Bool) → (c || d) ≡ false → (c ≡ false) × (d ≡ false)
-neither true d e = cc
-neither false d e = (refl, e)
+neither c d h1 = search arith
 
 by_slot : (P : Called → Type 0) (x : PlainProcess) (l : PlainLink) (o : Option ℕ) → ((c : Reply) → P (calls.refused c x)) → ((slot : ℕ) → P (calls.puts_link x l (Some slot))) → P (calls.puts_link x l o)
 by_slot P x l None h k = h Reply.TableFull

@@ -32,8 +32,5 @@ none_more : {A : Type 0} (xs : List A) → length xs ≡ 0 → xs ≡ []
 none_more [] e = refl
 none_more (x ∷ xs) e = absurd (omega (arith, e))
 
-decided : (b : Boot) (gs hs more : List (List Line)) (end fin : Point) (left rest : Todo) → hs ≡ gs ++ more → more ≡ [] → IsRun b end left more fin rest → (gs ≡ hs) × (end ≡ fin) × (left ≡ rest)
-decided b gs hs more end fin left rest is none run = search (arith, append_nothing)
-
 pub rule_decides : RuleDecides
-rule_decides b pt t gs hs end fin left rest r s same = search (arith, shorter_begins, length_more, decided, none_more)
+rule_decides b pt t gs hs end fin left rest r s same = search (arith, shorter_begins, length_more, none_more, append_nothing)

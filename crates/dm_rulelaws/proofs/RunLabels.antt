@@ -4,6 +4,7 @@ use Rattle.dm_rulelaws.proofs.Names.{first_point, label_of, labels, with_label, 
 use Rattle.dm_onekernel.specs.Step as kernel
 use Rattle.dm_rulelaws.proofs.Fits.Constants.{InOrder, step_constant}
 use Rattle.dm_rulelaws.proofs.Fits.Start.{fits_step, start_fits}
+use Rattle.dm_rulelaws.proofs.Names.{arith}
 
 -- one line
 line_replay : (o : Option Label) (ls : List Label) (s t u : OneKernel) → kernel_after s o ≡ Some t → replay t ls ≡ Some u → replay s (with_label o ls) ≡ Some u
@@ -42,9 +43,7 @@ group_replay b pt d w = by_group (λ v. replay pt.kernel (labels v.lines) ≡ So
 
 -- all fits wherever a run comes
 pub replay_fits : (ls : List Label) (r e : MsgId → ℕ) (s t : OneKernel) → replay s ls ≡ Some t → Sound r e s → InOrder s.manager → KernelFits s → (r' : MsgId → ℕ) × (e' : MsgId → ℕ) × Sound r' e' t × InOrder t.manager × KernelFits t
-replay_fits [] r e s t is h order fits =
-    let f : s ≡ t = cc in
-    (r, e, subst (Sound r e) f h, subst (λ (v : OneKernel). InOrder v.manager) f order, subst KernelFits f fits)
+replay_fits [] r e s t is h order fits = search arith
 replay_fits (l ∷ ls) r e s t is h order fits =
     let (u, first, rest) = bind-is (kernel.step s l) (λ (v : OneKernel). replay v ls) t is in
     let a = after_step r e s u l first h in

@@ -2,6 +2,7 @@
 use Rattle.dm_rulelaws.proofs.Names.{◌≡◌, ℕ, ◌+◌, ◌*◌, ◌==◌, ◌&&◌, Bool, true, false, List, [], ◌∷◌, ◌++◌, length, refl, subst, nat_lt, if◌then◌else◌, Option, None, Some, Pid, PlainLink, PlainMessage, PlainWhat, Pending, Manager, Outcome}
 use Rattle.dm_rulelaws.proofs.Names.{PendingKind, code_of_outcome}
 use Rattle.dm_onekernel.specs.Manager as manage
+use Rattle.dm_rulelaws.proofs.Names.{arith}
 
 -- a user message with these links
 pub record Letter (w : PlainWhat) (links : List PlainLink) : Type 0 where
@@ -66,12 +67,6 @@ by_controls P g machines images m w code None (a ∷ []) links h u is = by_bad P
 by_controls P g machines images m w code None (a ∷ b ∷ []) links h u is = by_bad P g machines images m w links h u
 by_controls P g machines images m w code _ _ links h u is = by_bad P g machines images m w links h u
 
-by_created : (P : manage.ManagerTook → Type 0) (g : Manager) (machines images : ℕ) (m : PlainMessage) (child : Pid) (o : Option Pending) (k : manage.ManagerTook) → Manages P g machines images m (PlainWhat.Created child) → manage.pending_numbered m.id.n g.pending ≡ o
-    → manage.takes_created g m.id.n child o ≡ Some k → P k
-by_created P g machines images m child None k h is e = cc
-by_created P g machines images m child (Some r) k h is e =
-    given P (manage.answers_over (record g { children = g.children ++ child ∷ []; pending = manage.without_pending m.id.n g.pending }) r.answer 0 (manage.control_link (length g.children + 1) ∷ [])) k (h.created child r refl is) e
-
 by_no_room : (P : manage.ManagerTook → Type 0) (g : Manager) (machines images : ℕ) (m : PlainMessage) (o : Option Pending) (k : manage.ManagerTook) → Manages P g machines images m PlainWhat.NoRoom → manage.pending_numbered m.id.n g.pending ≡ o → manage.takes_no_room g m.id.n o ≡ Some k → P k
 by_no_room P g machines images m None k h is e = cc
 by_no_room P g machines images m (Some r) k h is e = given P (manage.answers_over (record g { pending = manage.without_pending m.id.n g.pending }) r.answer 1 []) k (h.no_room r refl is) e
@@ -88,7 +83,7 @@ by_manager P g machines images m (PlainWhat.User code channel body links) k h e 
     given P (manage.takes_user g machines images code body links) k
     (by_test P (code == 0) (manage.requests_child g machines images body links) (manage.controls g machines (manage.child_numbered g.children code) body links)
     (λ z. by_requests P g machines images m w body links h u) (by_controls P g machines images m w code (manage.child_numbered g.children code) body links h u refl)) e
-by_manager P g machines images m (PlainWhat.Created child) k h e = by_created P g machines images m child (manage.pending_numbered m.id.n g.pending) k h refl e
+by_manager P g machines images m (PlainWhat.Created child) k h e = search (arith, given)
 by_manager P g machines images m PlainWhat.NoRoom k h e = by_no_room P g machines images m (manage.pending_numbered m.id.n g.pending) k h refl e
 by_manager P g machines images m (PlainWhat.Moved outcome) k h e = by_moved P g machines images m outcome (manage.pending_numbered m.id.n g.pending) k h refl e
 by_manager P g machines images m _ k h e = cc

@@ -7,12 +7,6 @@ use Rattle.dm_mirror.proofs.Names.{KernelState, AreMessages, KnownStands, RoomSt
 use Rattle.dm_mirror.proofs.Names.{sort_of, drop}
 use Rattle.dm_rule.proofs.Names.{Part}
 use Rattle.dm_places.specs.PlacedStep.{with_process}
-use Rattle.dm_migrate.specs.Way as way
-use Rattle.dm_onekernel.specs.Step as kernel
-use Rattle.dm_rule.specs.Rule as group
-use Rattle.dm_kernel.specs.declared.part.Part.TheVariants as part
-use Rattle.dm_kernel.specs.State as machine
-use Rattle.dm_rule.specs.Migrating as migrating
 use Rattle.dm_mirror.proofs.Leave.Answered.{EndsMove, ends_move_row}
 use Rattle.dm_mirror.proofs.Come.Frames.{Arrives, Comes, arrives, own_once}
 use Rattle.dm_mirror.proofs.Come.Turns.{come_view, eq_off, fewer, gone, machine_self, others_known}
@@ -21,6 +15,12 @@ use Rattle.dm_mirror.proofs.Turning.{TurnsAt, begun, has_process}
 use Rattle.dm_mirror.proofs.Leave.Stays.{messages_append as are_both}
 use Rattle.dm_mirror.proofs.Come.Pieces.{first_gone, known_incoming, outcome_kernel, turn_kernel, before}
 use Rattle.dm_mirror.proofs.Handle.Taking.{machine_off, record_off as record_away}
+use Rattle.dm_migrate.specs.Way as way
+use Rattle.dm_onekernel.specs.Step as kernel
+use Rattle.dm_rule.specs.Rule as group
+use Rattle.dm_kernel.specs.declared.part.Part.TheVariants as part
+use Rattle.dm_kernel.specs.State as machine
+use Rattle.dm_rule.specs.Migrating as migrating
 
 abbrev pub back_point : Point → ℕ → Pid → Point
 back_point pt m p = moved (begun pt m) (Line.Migration Stage.Restarted p) pt.kernel
@@ -54,15 +54,8 @@ set_off f p q x off = ap (λ (d : Bool). if d then x else f q) off
 set_self : {X : Type 0} (f : Pid → X) (p : Pid) (x : X) → (if pid_eq p p then x else f p) ≡ x
 set_self f p x = ap (λ (d : Bool). if d then x else f p) (pid_eq-same p)
 
--- no other machine has the process
-forward_only : (d : ℕ) (n : Known) → kind_leaves MessageKind.Restart d n ≡ true → has_process n ≡ false
-forward_only d n e = grind (arith, nat_tests)
-
-away_only : (n : Known) → is_away n ≡ true → has_process n ≡ false
-away_only n e = grind (arith, nat_tests)
-
 elsewhere_by : (s d n : ℕ) (i : Option MsgId) (k : Known) (at_source at_destination : Bool) → (s == n) ≡ at_source → (d == n) ≡ at_destination → at_destination ≡ false → knows (Moves MessageKind.Restart s d i) n k ≡ true → has_process k ≡ false
-elsewhere_by s d n i k at_source at_destination e f off h = grind (arith, nat_tests, forward_only, away_only)
+elsewhere_by s d n i k at_source at_destination e f off h = grind (arith, nat_tests)
 
 not_elsewhere : (b : Boot) (m : ℕ) (pt : Point) (l : Placed) (k : KernelState) (y : Message) (p : Pid) (a : Arrives b m pt l k y p) (n : ℕ) → kind_of y.what ≡ MessageKind.Restart → n ≢ m → has_process (pt.view.known n p) ≡ false
 not_elsewhere b m pt l k y p a n is apart = grind (arith, nat_tests, elsewhere_by, eq_off)

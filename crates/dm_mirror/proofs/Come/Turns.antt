@@ -5,13 +5,13 @@ use Rattle.dm_mirror.proofs.Names.{goes_between, own_given, unmoved, to_kernel, 
 use Rattle.dm_mirror.proofs.Names.{View, once_at, is_server, Placed, enclosed, mirrors_view, room_of, KernelState, own, turn, about_of, told_of, KnownStands, RoomStands, AllRecords, Carries, TokensStand, destination_of, eq_is, sort_of}
 use Rattle.dm_rule.proofs.Names.{Part}
 pub use Rattle.dm_rule.proofs.Lines.{eq_self, at_machine_at as machine_self}
-use Rattle.dm_kernel.specs.declared.part.Part.TheVariants as part
-use Rattle.dm_kernel.specs.State as machine
 use Rattle.dm_mirror.proofs.Come.Frames.{Arrives, Comes, fresh_own, own_once, times_self}
 use Rattle.dm_mirror.proofs.Turning.{IsCarried, MayOwn, Nothing, Own, TurnsAt, begun}
 pub use Rattle.dm_mirror.proofs.End.Servers.{off as eq_off}
 use Rattle.dm_mirror.proofs.Handle.Taking.{machine_off, stands_set}
 use Rattle.dm_mirror.proofs.Leave.Fronts.{untold_next as next_untold}
+use Rattle.dm_kernel.specs.declared.part.Part.TheVariants as part
+use Rattle.dm_kernel.specs.State as machine
 
 -- the view behind the line: the message is handled, and what is known of p here and asked for of it may be new
 abbrev pub come_view : View → ℕ → Pid → List MsgId → (ℕ → Pid → Known) → (Pid → ℕ) → View
@@ -30,12 +30,8 @@ known_same pt v l p queue held (Forward at_ moves) (Some (Record.Forward to coun
 known_same pt v l p queue held Ended (Some (Record.Ended y)) h = h
 known_same pt v l p queue held k r h = absurd h
 
--- the handled message is gone, and no other has come
-fewer_at : (f : ℕ → List MsgId) (m n : ℕ) (i j : MsgId) (is box : List MsgId) → f m ≡ i ∷ is → box ≡ is → (c : Bool) → (m == n) ≡ c → times j (if c then box else f n) ≤ times j (f n)
-fewer_at f m n i j is box e b c same = grind (arith, nat_tests, eq_is)
-
 pub fewer : (v : View) (m : ℕ) (p : Pid) (is box : List MsgId) (known : ℕ → Pid → Known) (asked : Pid → ℕ) (i j : MsgId) (z : Spot) → v.inbox m ≡ i ∷ is → box ≡ is → standing (come_view v m p box known asked) j z ≤ standing v j z
-fewer v m p is box known asked i j z e b = grind (arith, nat_tests, fewer_at)
+fewer v m p is box known asked i j z e b = grind (arith, nat_tests, eq_is)
 
 gone_at : (v : View) (m n : ℕ) (i : MsgId) (is box : List MsgId) → v.inbox m ≡ i ∷ is → box ≡ is → standing v i (Inbox m) ≡ 1 → ((z : Spot) → z ≢ Inbox m → standing v i z ≡ 0) → (c : Bool) → (m == n) ≡ c → times i (if c then box else v.inbox n) ≡ 0
 gone_at v m n i is box e b one others true same = ap (times i) b ∙ (let f = times_self i is in omega (arith, ap (times i) (sym e) ∙ one, f))

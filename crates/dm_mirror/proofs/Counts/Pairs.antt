@@ -5,14 +5,13 @@ use Rattle.dm_mirror.proofs.Names.{packet_line, puts, spelled, Point, after, mov
 use Rattle.dm_mirror.proofs.Names.{machine_of, Pairs, pair_stands, IsNet, IsNetLine, arrives_net, group_is, resends_net, stands_right, AllFit, onward, pair_same, migrates_fit, turns_fit, said, says_next, transmits_next, Run, told_there}
 use Rattle.dm_mirror.proofs.Names.{cases_zero, own_by, taken_pair, OneKernel, after_line, kernel_after, label_of, is_own, hushed, is_put, pid_eq, Stage, Label, at_record, About, Known, Told, handled, first_number, Alive, PlainProcess}
 use Rattle.dm_mirror.proofs.Names.{touches, proto_acting, queued_acting, held_acting, forwarded_acting, acting_label, aim, sets, seen, sort_of}
-use Rattle.dm_rule.proofs.Names.{Part}
-use Rattle.dm_rule.proofs.Names.{marked}
+use Rattle.dm_rule.proofs.Names.{Part, marked}
 use Rattle.dm_rule.proofs.Lines.{parts}
 pub use Rattle.dm_rule.proofs.Lines.{eq_is as same_of}
-use Rattle.dm_rule.specs.Rule as rule
-use Rattle.dm_rule.specs.View as view
 use Rattle.dm_mirror.proofs.Totals.{ids_of, Grows, line_grows, put_adds, total, total_adds, total_grows}
 pub use Rattle.dm_mirror.proofs.Puts.{ids_if as set_ids}
+use Rattle.dm_rule.specs.Rule as rule
+use Rattle.dm_rule.specs.View as view
 
 -- a process comes, has gone on or moves again by these alone
 abbrev pub is_free : Line → Bool
@@ -198,11 +197,8 @@ group_keeps P topic keep b pt d w e h =
 abbrev pub OwnFew : ℕ → View → Type 0
 OwnFew n v = PairsWithin n v → (m : ℕ) → v.count m ≤ total v n
 
-at_machine_most : (f : ℕ → ℕ) (home m : ℕ) (c : Bool) → (home == m) ≡ c → (if c then f home + 1 else f m) ≤ f m + 1
-at_machine_most f home m c e = grind (arith, nat_tests)
-
 count_if : (f : ℕ → ℕ) (home m : ℕ) (own : Bool) → (if own then (λ (k : ℕ). if home == k then f home + 1 else f k) else f) m ≤ f m + 1
-count_if f home m own = grind (arith, nat_tests, at_machine_most)
+count_if f home m own = grind (arith, nat_tests)
 
 pub put_total : (n : ℕ) (v : View) (a b : ℕ) (i : MsgId) (k : MessageKind) (q : Pid) → PairsWithin n (after_put v a b i k q) → total v n + 1 ≤ total (after_put v a b i k q) n
 put_total n v a b i k q within =

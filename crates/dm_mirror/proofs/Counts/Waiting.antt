@@ -6,7 +6,7 @@ use Rattle.dm_mirror.proofs.Names.{BootProcess, IsValid, manager, processes_are_
 use Rattle.dm_mirror.proofs.Names.{at_pid, at_record, rests_here, InPhases, stands_first}
 use Rattle.dm_laws.proofs.Names.{begun}
 use Rattle.std.proofs.Common.{length-append}
-use Rattle.dm_mirror.proofs.Counts.Pairs.{line_ids, same_of, PairsWithin, group_keeps, OwnFew, Still}
+use Rattle.dm_mirror.proofs.Counts.Pairs.{line_ids, same_of, PairsWithin, group_keeps, Still}
 use Rattle.dm_mirror.proofs.Totals.{from_one, ids_of, sum_to, total, sum_more, Grows, total_grows}
 use Rattle.dm_mirror.proofs.Counts.AtEnds.{Under, FrontRestarts}
 use Rattle.dm_mirror.proofs.Machines.{few_machines}
@@ -27,8 +27,7 @@ still_routed : (v : View) (l : Line) → is_put l ≡ false → Routed v → Rou
 still_routed v l off h = λ i told.
     let k = h i (sym (ap (λ (f : MsgId → Option Told). is_some (f i)) (hushed v l off).told) ∙ told) in
     let there = k.there in
-    let same = ap (times i) (line_ids v l off k.from k.to) in
-    record { from = k.from; to = k.to; there = omega (arith, there, same) }
+    record { from = k.from; to = k.to; there = omega (arith, there, ap (times i) (line_ids v l off k.from k.to)) }
 
 more_times : (j i : MsgId) (ids : List MsgId) → times j ids ≤ times j (ids ++ i ∷ [])
 more_times j i ids = let e = times-append j ids (i ∷ []) in omega (arith, e)
@@ -69,9 +68,7 @@ remove_length i (y ∷ ys) least = elim (cases_Bool (id_eq i y)) [
   | inl same ↦ let e = ap (λ (c : Bool). length (if c then ys else y ∷ remove i ys)) same in omega (arith, e)
   | inr off ↦
       let e = ap (λ (c : Bool). length (if c then ys else y ∷ remove i ys)) off in
-      let none : times i (y ∷ ys) ≡ 0 + times i ys = ap (λ (c : Bool). (if c then 1 else 0) + times i ys) off in
-      let h = remove_length i ys (omega (arith, none, least)) in
-      omega (arith, e, h)
+      omega (arith, e, remove_length i ys (omega (arith, ap (λ (c : Bool). (if c then 1 else 0) + times i ys) off, least)))
 ]
 
 abbrev one : Bool → ℕ
@@ -86,18 +83,15 @@ remove_times i j (y ∷ ys) = elim (cases_Bool (id_eq i y)) [
       omega (arith, e, f)
   | inr off ↦
       let e : times j (remove i (y ∷ ys)) ≡ times j (y ∷ remove i ys) = ap (λ (c : Bool). times j (if c then ys else y ∷ remove i ys)) off in
-      let h = remove_times i j ys in
-      omega (arith, e, h)
+      omega (arith, e, remove_times i j ys)
 ]
 
 length_by : (xs ys : List MsgId) → ((i : MsgId) → times i xs ≤ times i ys) → length xs ≤ length ys
 length_by [] ys h = omega arith
 length_by (x ∷ xs) ys h =
     let first : times x (x ∷ xs) ≡ 1 + times x xs = ap (λ (c : Bool). one c + times x xs) (id_eq-same x) in
-    let most = h x in
-    let e = remove_length x ys (omega (arith, first, most)) in
     let rest = length_by xs (remove x ys) (λ i. let a = h i in let c = remove_times x i ys in omega (arith, a, c)) in
-    omega (arith, e, rest)
+    omega (arith, remove_length x ys (omega (arith, first, h x)), rest)
 
 -- all that was routed, in one list
 abbrev list_to : ℕ → (ℕ → List MsgId) → List MsgId
@@ -111,14 +105,8 @@ list_length (suc n) f g h = let e = length-append (list_to n f) (f n) in let r =
 list_times : (n : ℕ) (f : ℕ → List MsgId) (i : MsgId) (k : ℕ) → k < n → times i (f k) ≤ times i (list_to n f)
 list_times zero f i k lt = absurd (omega (arith, lt))
 list_times (suc n) f i k lt = elim (cases_Bool (k == n)) [
-  | inl same ↦
-      let e = times-append i (list_to n f) (f n) in
-      let g = ap (λ (j : ℕ). times i (f j)) (same_of k n same) in
-      omega (arith, e, g)
-  | inr off ↦
-      let e = times-append i (list_to n f) (f n) in
-      let h = list_times n f i k (grind (arith, nat_tests)) in
-      omega (arith, e, h)
+  | inl same ↦ omega (arith, times-append i (list_to n f) (f n), ap (λ (j : ℕ). times i (f j)) (same_of k n same))
+  | inr off ↦ omega (arith, times-append i (list_to n f) (f n), list_times n f i k (grind (arith, nat_tests)))
 ]
 
 abbrev from_machine : View → ℕ → ℕ → List MsgId
@@ -225,9 +213,6 @@ rests_alone v m d s p h here incoming =
     either true = refl
     either false = refl
 
-moves_at : (f : Pid → ℕ) (p q : Pid) (n : ℕ) (c : Bool) → pid_eq p q ≡ c → f p + 1 ≤ n → f q ≤ n → (if c then f p + 1 else f q) ≤ n
-moves_at f p q n c e le other = grind (arith, nat_tests)
-
 known_here : (f : ℕ → Pid → Known) (m : ℕ) (p : Pid) → at_record f m p Known.Here m p ≡ Known.Here
 known_here f m p = ap (λ (c : Bool). if c then Known.Here else f m p) (let t : ((m == m) && pid_eq p p) ≡ true = grind (arith, nat_tests) in t)
 
@@ -245,9 +230,8 @@ moves_restart b pt m n p w run f more moves known phases h =
     let mine = may_move b pt m p n run f h in
     record {
       moves = λ q.
-          let e = ap (λ (g : Pid → ℕ). g q) moves in
-          let few = moves_at v.moves p q (total v n) (pid_eq p q) refl mine (h.moves q) in
-          omega (arith, e, few, more);
+          let few : (if (pid_eq p q) then v.moves p + 1 else v.moves q) ≤ (total v n) = grind (arith, nat_tests, (h.moves q)) in
+          omega (arith, ap (λ (g : Pid → ℕ). g q) moves, few, more);
       moving = λ q d s k j at_d at_s. moving_by n m v w p q d s k j (pid_eq p q) refl more moves known phases h at_d at_s;
     }
 
@@ -265,11 +249,9 @@ all_processes : (b : Boot) (earlier ps : List BootProcess) → processes_are_val
 all_processes b earlier [] h = omega arith
 all_processes b earlier (p ∷ ps) h =
     let k = listed b earlier p ps h in
-    let home = k.home in
-    let rest = all_processes b (earlier ++ p ∷ []) ps k.rest in
     let mine : starting_at p.pid.home ps + 1 ≤ starting_at p.pid.home (p ∷ ps) = (let e : (p.pid.home == p.pid.home) ≡ true = grind (arith, nat_tests) in let f : one_if (p.pid.home == p.pid.home) ≡ 1 = ap one_if e in omega (arith, f)) in
-    let more = sum_more (length b.machines) (λ m. starting_at m ps) (λ m. starting_at m (p ∷ ps)) p.pid.home (λ m. starting_one m p ps) home mine in
-    omega (arith, rest, more)
+    let more = sum_more (length b.machines) (λ m. starting_at m ps) (λ m. starting_at m (p ∷ ps)) p.pid.home (λ m. starting_one m p ps) k.home mine in
+    omega (arith, all_processes b (earlier ++ p ∷ []) ps k.rest, more)
 
 sum_within : (n k : ℕ) (f : ℕ → ℕ) → n ≤ k → ((i : ℕ) → i < k → f i ≤ 64) → sum_to n f ≤ n * 64
 sum_within zero k f le h = omega arith
@@ -316,20 +298,14 @@ under_start b n valid =
 pub pairs_start : (b : Boot) (n : ℕ) → PairsWithin n (first_view b)
 pairs_start b n = λ a c some. absurd (omega (arith, some))
 
-pub own_start : (b : Boot) (n : ℕ) → OwnFew n (first_view b)
-own_start b n = λ within m. omega arith
-
 -- nothing comes at first
 abbrev comes_now : Known → Bool
 comes_now (Known.Incoming from) = true
 comes_now _ = false
 
-start_if : (c : Bool) (k : Known) → comes_now k ≡ false → comes_now (if c then Known.Here else k) ≡ false
-start_if c k e = grind (arith, nat_tests)
-
 none_comes : (ps : List BootProcess) (m : ℕ) (q : Pid) → comes_now (known_at ps m q) ≡ false
-none_comes [] m q = start_if ((m == 0) && (pid_eq q switchboard || pid_eq q manager)) Known.Unknown refl
-none_comes (p ∷ ps) m q = start_if (pid_eq p.pid q && (p.pid.home == m)) (known_at ps m q) (none_comes ps m q)
+none_comes [] m q = grind (arith, nat_tests)
+none_comes (p ∷ ps) m q = grind (arith, nat_tests, (none_comes ps m q))
 
 pub moves_start : (b : Boot) (n : ℕ) → MovesFew n (first_view b)
 moves_start b n = record {

@@ -24,14 +24,7 @@ pub record Ends : Type 0 where
   pub back : List (Packet Message)
 
 abbrev pub stream_with : Ends → Stream Message
-stream_with x = record {
-  sender = x.sender;
-  receiver = x.receiver;
-  given = x.given;
-  taken = take x.receiver.count x.given;
-  out = x.out;
-  back = x.back;
-}
+stream_with x = record { sender = x.sender; receiver = x.receiver; given = x.given; taken = take x.receiver.count x.given; out = x.out; back = x.back }
 
 abbrev pub ends_of : WorldState → History → ℕ → ℕ → Ends
 ends_of w h a c = record {
@@ -119,10 +112,10 @@ module _ {M : Type 0} where
   arrival_old r n m e = grind (arith, nat_tests, nat_lt, eq_not, less_test)
 
   pub after_early_is : (r : Receiving M) (n : ℕ) (m : M) → r.count < n → after_arrival r n m ≡ record { count = r.count; kept = kept_once r.kept (n - r.count) m }
-  after_early_is r n m e = grind (arith, nat_tests, nat_lt, eq_not, not_less_test)
+  after_early_is r n m e = grind (arith, nat_tests, nat_lt, eq_not)
 
   pub arrival_early : (r : Receiving M) (n : ℕ) (m : M) → r.count < n → arrival r n m ≡ Early
-  arrival_early r n m e = grind (arith, nat_tests, nat_lt, eq_not, not_less_test)
+  arrival_early r n m e = grind (arith, nat_tests, nat_lt, eq_not)
 
   -- the next kept message is the one under the count
   pub next_is : (r : Receiving M) → next r ≡ kept_under r r.count

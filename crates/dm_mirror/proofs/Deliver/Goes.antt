@@ -40,11 +40,10 @@ module _ (b : Boot) (w : WorldState) (pt : Point) (l : Placed) (h : History) (a 
       let v : WorldState = come_to w a c k next in
       let q : Point = moved (begun pt a c k) (Line.Old a c n) pt.kernel in
       let g : History = marked_in h a c k in
-      let stands : StandsWith b v q l g = old_stands b w pt l h a c s a_in c_in apart k n m e x lt in
       let set : v.nodes c ≡ next = machine_same w.nodes c next in
       let count : (pt.view.pair a c).taken ≡ ((v.nodes c).receivers a).count =
       sym there.taken ∙ sym (ap (λ (z : NodeState). (z.receivers a).count) set ∙ ap (λ (z : Receiving Message). z.count) (machine_same (w.nodes c).receivers a (after_arrival r n x) ∙ after_old_is r n x lt)) in
-      let last = acknowledged b l a c apart v q g stands a_in c_in (pt.view.pair a c).taken count in
+      let last = acknowledged b l a c apart v q g (old_stands b w pt l h a c s a_in c_in apart k n m e x lt) a_in c_in (pt.view.pair a c).taken count in
       let last_here = subst (λ (z : NodeState). Follows b c v q l (record { state = z; outs = acknowledges z a }) (Part.Transmits c a (load.Ack (pt.view.pair a c).taken) ∷ [])) set last in
       let whole = says_on b c (marked_world w a c k) (begun pt a c k) q l next (Line.Old a (here (w.nodes c)) n) (Line.Old a c n) (record { state = next; outs = acknowledges next a }) (Part.Transmits c a (load.Ack (pt.view.pair a c).taken) ∷ []) (ap (λ (i : ℕ). Line.Old a i n) (s.nodes c c_in).kernel.here) refl last_here in
       subst (λ (z : Arrived Message). Follows b c (marked_world w a c k) (begun pt a c k) l (node.comes next a n z) (Part.Says (Line.Old a c n) ∷ Part.Transmits c a (load.Ack (pt.view.pair a c).taken) ∷ [])) (sym (arrival_old r n x lt)) whole
@@ -57,11 +56,10 @@ module _ (b : Boot) (w : WorldState) (pt : Point) (l : Placed) (h : History) (a 
       let v : WorldState = come_to w a c k next in
       let q : Point = moved (begun pt a c k) (Line.Early a c n) pt.kernel in
       let g : History = marked_in h a c k in
-      let stands : StandsWith b v q l g = early_stands b w pt l h a c s a_in c_in apart k n m e gt in
       let set : v.nodes c ≡ next = machine_same w.nodes c next in
       let count : (pt.view.pair a c).taken ≡ ((v.nodes c).receivers a).count =
       sym there.taken ∙ sym (ap (λ (z : NodeState). (z.receivers a).count) set ∙ ap (λ (z : Receiving Message). z.count) (machine_same (w.nodes c).receivers a (after_arrival r n m) ∙ after_early_is r n m gt)) in
-      let last = acknowledged b l a c apart v q g stands a_in c_in (pt.view.pair a c).taken count in
+      let last = acknowledged b l a c apart v q g (early_stands b w pt l h a c s a_in c_in apart k n m e gt) a_in c_in (pt.view.pair a c).taken count in
       let last_here = subst (λ (z : NodeState). Follows b c v q l (record { state = z; outs = acknowledges z a }) (Part.Transmits c a (load.Ack (pt.view.pair a c).taken) ∷ [])) set last in
       let whole = says_on b c (marked_world w a c k) (begun pt a c k) q l next (Line.Early a (here (w.nodes c)) n) (Line.Early a c n) (record { state = next; outs = acknowledges next a }) (Part.Transmits c a (load.Ack (pt.view.pair a c).taken) ∷ []) (ap (λ (i : ℕ). Line.Early a i n) (s.nodes c c_in).kernel.here) refl last_here in
       subst (λ (z : Arrived Message). Follows b c (marked_world w a c k) (begun pt a c k) l (node.comes next a n z) (Part.Says (Line.Early a c n) ∷ Part.Transmits c a (load.Ack (pt.view.pair a c).taken) ∷ [])) (sym (arrival_early r n m gt)) whole
@@ -78,7 +76,6 @@ module _ (b : Boot) (w : WorldState) (pt : Point) (l : Placed) (h : History) (a 
       let q : Point = moved (begun pt a c k) (Line.Taken a c n) pt.kernel in
       let g : History = marked_in h a c k in
       let ks : List ℕ = (pt.view.pair a c).kept in
-      let stands : StandsWith b v q l g = taken_stands b w pt l h a c s a_in c_in apart k n m e is in
       let set : v.nodes c ≡ next = machine_same w.nodes c next in
       let count : n + 1 ≡ ((v.nodes c).receivers a).count =
       ap (λ (i : ℕ). i + 1) is ∙ sym (ap (λ (z : NodeState). (z.receivers a).count) set ∙ ap (λ (z : Receiving Message). z.count) (machine_same (w.nodes c).receivers a (after_arrival r n m) ∙ after_taken_is r n m is)) in
@@ -88,7 +85,7 @@ module _ (b : Boot) (w : WorldState) (pt : Point) (l : Placed) (h : History) (a 
       let now : q.view.pair a c ≡ p = ap (λ (f : ℕ → ℕ → Pair). f a c) (taken_pair (view.with_pair (begun pt a c k).view a c p) c (oldest (first a c))) ∙ two_same first a c p in
       let before_it : (i : ℕ) → n ≤ i → has i ks ≡ has i (first a c).kept = λ i le. ap (λ (z : Pair). has i z.kept) (sym (two_same pt.view.pair a c mark)) in
       let later : (i : ℕ) → n + 1 ≤ i → has i ks ≡ has i (q.view.pair a c).kept = λ i le. kept_after b l a c apart first n ks before_it i le ∙ ap (λ (z : Pair). has i z.kept) (sym now) in
-      let rest = takes_follow b l a c apart fuel v q g stands a_in c_in ks (n + 1) count later in
+      let rest = takes_follow b l a c apart fuel v q g (taken_stands b w pt l h a c s a_in c_in apart k n m e is) a_in c_in ks (n + 1) count later in
       let rest_here = subst (λ (z : NodeState). Follows b c v q l (then_acknowledges (takes_kept fuel z a) a) (taken_parts b l a c apart ks (n + 1) fuel)) set rest in
       says_on b c (marked_world w a c k) (begun pt a c k) q l next (Line.Taken a (here (w.nodes c)) n) (Line.Taken a c n) (then_acknowledges (takes_kept fuel next a) a) (taken_parts b l a c apart ks (n + 1) fuel) (ap (λ (i : ℕ). Line.Taken a i n) (s.nodes c c_in).kernel.here) refl rest_here
 
@@ -100,8 +97,7 @@ module _ (b : Boot) (w : WorldState) (pt : Point) (l : Placed) (h : History) (a 
   -- an acknowledgement
   pub acked_comes : (n : ℕ) → load_at (h.packets a c) k ≡ Some (Ack n) → Comes (Ack n) (Part.Says (Line.Acked a c n) ∷ repeats c a (group.let_go (pt.view.pair c a) (more n (pt.view.pair c a).acked)))
   acked_comes n e =
-      let sender : Sending Message = (w.nodes c).senders a in
-      let next : NodeState = with_sender (w.nodes c) a (with_acked sender n) in
+      let next : NodeState = with_sender (w.nodes c) a (with_acked ((w.nodes c).senders a) n) in
       let v : WorldState = come_to w a c k next in
       let q : Point = moved (begun pt a c k) (Line.Acked a c n) pt.kernel in
       let g : History = marked_in h a c k in
@@ -231,9 +227,11 @@ same_on pt mid end f g = record { kernel = g.kernel ∙ f.kernel; count = g.coun
 
 says_same : (pt next : Point) (l : Line) → IsNetLine l → after pt (l ∷ []) ≡ Some next → Same pt next
 says_same pt next l is e =
-    let f : Some (moved pt l pt.kernel) ≡ Some next = sym (line_goes pt l is) ∙ e in
+    let line_goes : after pt (l ∷ []) ≡ Some (moved pt l pt.kernel) = grind (arith, nat_tests) in
+    let f : Some (moved pt l pt.kernel) ≡ Some next = sym line_goes ∙ e in
     let g : moved pt l pt.kernel ≡ next = cc in
-    subst (Same pt) g (record { kernel = refl; count = line_count pt.view l is })
+    let line_count : (view_after pt.view l).count ≡ pt.view.count = grind (arith, nat_tests) in
+    subst (Same pt) g (record { kernel = refl; count = line_count })
 
 pub net_same : (ps : List Part) (pt : Point) (w : Spelled) → IsNet ps → spelled pt ps ≡ Some w → Same pt w.point
 net_same [] pt w h e = let f : record { lines = []; point = pt } ≡ w = cc in subst (λ (x : Spelled). Same pt x.point) f (record { kernel = refl; count = refl })

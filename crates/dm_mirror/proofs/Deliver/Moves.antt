@@ -11,9 +11,10 @@ use Rattle.dm_wire.specs.Sent as wire
 use Rattle.dm_rule.specs.Parts as rule
 use Rattle.dm_rule.specs.View as view
 use Rattle.dm_node.specs.Acts as node
-use Rattle.dm_mirror.proofs.Deliver.Events.{acknowledges, due_goes, kept_comes, message_is, oldest_is, other_acknowledges, other_goes, gone_is, Ends, PairIs, ends_of, pair_is, after_next_is, next_is, off, has_off, less_test, not_less_test}
+use Rattle.dm_mirror.proofs.Deliver.Events.{acknowledges, due_goes, kept_comes, message_is, oldest_is, other_acknowledges, other_goes, gone_is, Ends, PairIs, ends_of, pair_is, after_next_is, next_is, off, has_off, less_test}
 use Rattle.dm_mirror.proofs.Deliver.Stands.{IsOther, Moves, moves_stand, machine_same, machine_other, Follows, nothing, says_on, sends_on, came_one, took_set}
 pub use Rattle.dm_mirror.proofs.Puts.{ids_same as ids_set}
+use Rattle.dm_mirror.proofs.Deliver.Events.{not_less_test}
 
 pub two_other : {X : Type 0} (f : ℕ → ℕ → X) (a c : ℕ) (x : X) (m n : ℕ) → IsOther a c m n → at_pair f a c x m n ≡ f m n
 two_other f a c x m n e = ap (λ (t : Bool). if t then x else f m n) e

@@ -236,8 +236,7 @@ module _ (b : Boot) (w : WorldState) (pt : Point) (l : Placed) (h : History) (a 
         e.packets y x (grind (arith, nat_tests)) (grind (arith, nat_tests)),
         e.wires x y there back,
         e.pairs x y there back,
-      ))
-      (pair_is b pt l w h x y k)
+      )) (pair_is b pt l w h x y k)
 
   pair_on : (x y : ℕ) → PairStands b pt l w h x y → PairStands b (told_on pt e.acting e.groups e.topic e.pair e.inbox) l v g x y
   pair_on x y k = elim (cases_Bool ((a == x) && (c == y))) [

@@ -10,7 +10,7 @@ use Rattle.dm_rule.specs.Ends as rule
 use Rattle.dm_kernel.specs.State as machine
 use Rattle.dm_world.specs.Ends as world
 pub use Rattle.dm_mirror.proofs.Row.Tokens.{carries_plain as carried_own}
-use Rattle.dm_mirror.proofs.End.Servers.{first_at, first_none, names_are, alive_same, ComesTo, HasIt, OverAt, away_silent, is_silent, where_is}
+use Rattle.dm_mirror.proofs.End.Servers.{first_at, first_none, names_are, alive_same, ComesTo, HasIt, OverAt, is_silent, where_is}
 use Rattle.dm_mirror.proofs.Handle.Taking.{some_same}
 pub use Rattle.dm_mirror.proofs.Handle.Kills.{child_off as no_server}
 use Rattle.dm_mirror.proofs.Machines.{some_machine}
@@ -23,12 +23,6 @@ silent_has k e = grind (arith, nat_tests)
 
 pub away_awaits : (k : Known) → is_away k ≡ true → rule.awaits k ≡ None
 away_awaits k e = grind (arith, nat_tests)
-
-pub silent_lines : (pt : Point) (l : Placed) (p : Pid) (q held : List MsgId) (m : ℕ) (k : Known) (r : Option machine.KernelKnown) → is_silent k ≡ true → KnownStands pt l p q held k r → record_lines m p r ≡ None
-silent_lines pt l p q held m k r e h = grind (arith, nat_tests)
-
-pub silent_queue : (pt : Point) (l : Placed) (p : Pid) (q held : List MsgId) (k : Known) (r : Option machine.KernelKnown) → is_silent k ≡ true → KnownStands pt l p q held k r → record_queue p r ≡ None
-silent_queue pt l p q held k r e h = grind (arith, nat_tests)
 
 -- a machine that has it
 pub record IsAt (l : Placed) (p : Pid) (q : List MsgId) (m : ℕ) (s : Standing) (r : Option machine.KernelKnown) : Type 0 where
@@ -44,10 +38,7 @@ here_at l p q m x rest placed waits = record { process = x; lines = refl; queue 
 
 pub is_at : (pt : Point) (l : Placed) (p : Pid) (q held : List MsgId) (m : ℕ) (s : Standing) (k : Known) (r : Option machine.KernelKnown) → rule.standing_of k ≡ Some s → KnownStands pt l p q held k r → IsAt l p q m s r
 is_at pt l p q held m s Here (Some (Record.Here x)) e h = let f : Standing.Here ≡ s = cc in subst (λ (t : Standing). IsAt l p q m t (Some (Record.Here x))) f (here_at l p q m x h.0.0 h.0.1 h.1)
-is_at pt l p q held m s (Frozen to) (Some (Record.Frozen x)) e h =
-    let here = h.here in
-    let f : Standing.Leaving ≡ s = cc in
-    subst (λ (t : Standing). IsAt l p q m t (Some (Record.Frozen x))) f (record { process = x.process; lines = refl; queue = refl; rest = here.0.0; placed = here.0.1; waits = here.1 })
+is_at pt l p q held m s (Frozen to) (Some (Record.Frozen x)) e h = grind (arith, nat_tests, h.here, x.process)
 is_at pt l p q held m s Unknown None e h = cc
 is_at pt l p q held m s (Incoming from) (Some (Record.Incoming x)) e h = cc
 is_at pt l p q held m s (Forward at moves) (Some (Record.Forward x y)) e h = cc
@@ -104,10 +95,10 @@ knows_ b w pt l h p m g below = (g.stands.nodes m below).kernel.known p g.server
 
 -- a machine that says nothing
 silent_machine : (b : Boot) (w : WorldState) (pt : Point) (l : Placed) (h : History) (p : Pid) (m : ℕ) → IsOfHome b w pt l h p → is_silent (pt.view.known m p) ≡ true → m < pt.kernel.machines → record_lines m p ((w.nodes m).kernel.records p) ≡ None
-silent_machine b w pt l h p m g silent below = grind (arith, nat_tests, silent_lines)
+silent_machine b w pt l h p m g silent below = grind (arith, nat_tests)
 
 no_queue : (b : Boot) (w : WorldState) (pt : Point) (l : Placed) (h : History) (p : Pid) (m : ℕ) → IsOfHome b w pt l h p → is_silent (pt.view.known m p) ≡ true → m < pt.kernel.machines → record_queue p ((w.nodes m).kernel.records p) ≡ None
-no_queue b w pt l h p m g silent below = grind (arith, nat_tests, silent_queue)
+no_queue b w pt l h p m g silent below = grind (arith, nat_tests)
 
 away_machine : (b : Boot) (w : WorldState) (pt : Point) (l : Placed) (h : History) (p : Pid) (m : ℕ) → IsOfHome b w pt l h p → is_away (pt.view.known m p) ≡ true → m < pt.kernel.machines → awaited_lines m p ((w.nodes m).kernel.records p) ≡ None
 away_machine b w pt l h p m g away below = grind (arith, nat_tests)
@@ -195,7 +186,7 @@ over_queue b w pt l h p a g =
 
 -- a process that comes: nobody has it
 none_has : (pt : Point) (p : Pid) (a : ComesTo pt.view p) (m : ℕ) → is_silent (pt.view.known m p) ≡ true
-none_has pt p a m = grind (arith, nat_tests, away_silent)
+none_has pt p a m = grind (arith, nat_tests)
 
 to_machine : (b : Boot) (w : WorldState) (pt : Point) (l : Placed) (h : History) (p : Pid) (a : ComesTo pt.view p) → IsOfHome b w pt l h p → IsComing l p (pt.view.held a.to p) ((w.nodes a.to).kernel.records p)
 to_machine b w pt l h p a g =
@@ -259,20 +250,14 @@ somewhere b w pt l h p g made =
 pub process_said : (b : Boot) (w : WorldState) (pt : Point) (l : Placed) (h : History) (p : Pid) → IsOfHome b w pt l h p → is_some (pt.kernel.processes p) ≡ true → world.process_lines pt.kernel.machines w p ≡ rule.process_lines pt p (pt.kernel.processes p)
 process_said b w pt l h p g made = elim (somewhere b w pt l h p g made) [
   | inl a ↦ has_said b w pt l h p a g
-  | inr c ↦ elim c [
-    | inl a ↦ over_said b w pt l h p a g
-    | inr a ↦ to_said b w pt l h p a g
-  ]
+  | inr c ↦ elim c [ inl a ↦ over_said b w pt l h p a g | inr a ↦ to_said b w pt l h p a g ]
 ]
 
 pub queue_said : (b : Boot) (w : WorldState) (pt : Point) (l : Placed) (h : History) (p : Pid) → IsOfHome b w pt l h p → is_some (pt.kernel.processes p) ≡ true
     → world.queue_of pt.kernel.machines w p ≡ rule.queue_at pt.view p (first_with rule.standing_of pt.view p pt.kernel.machines)
 queue_said b w pt l h p g made = elim (somewhere b w pt l h p g made) [
   | inl a ↦ has_queue b w pt l h p a g
-  | inr c ↦ elim c [
-    | inl a ↦ over_queue b w pt l h p a g
-    | inr a ↦ to_queue b w pt l h p a g
-  ]
+  | inr c ↦ elim c [ inl a ↦ over_queue b w pt l h p a g | inr a ↦ to_queue b w pt l h p a g ]
 ]
 
 -- what a machine holds for it

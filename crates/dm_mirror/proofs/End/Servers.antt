@@ -128,9 +128,8 @@ names_are bag [] [] named e = refl
 names_are bag [] (m ∷ ms) named e = cc
 names_are bag (i ∷ ids) [] named e = cc
 names_are bag (i ∷ ids) (m ∷ ms) named e =
-    let there : bag i ≡ Some m = cc in
     let rest : AreMessages bag ids ms = cc in
-    ap (λ (j : MsgId). j ∷ world.names_of ms) (named i m there) ∙ ap (λ (js : List MsgId). i ∷ js) (names_are bag ids ms named rest)
+    ap (λ (j : MsgId). j ∷ world.names_of ms) (named i m (cc)) ∙ ap (λ (js : List MsgId). i ∷ js) (names_are bag ids ms named rest)
 
 -- What is said of a process that is alive: its registers, memory and links, as the plain process and the addresses say.
 
@@ -181,9 +180,6 @@ pub record ComesTo (v : View) (p : Pid) : Type 0 where
   pub others : (m : ℕ) → m ≢ to → is_away (v.known m p) ≡ true
   pub token : IsToken v p MessageKind.Restart source to id
 
-pub away_silent : (k : Known) → is_away k ≡ true → is_silent k ≡ true
-away_silent k e = grind (arith, nat_tests)
-
 leaves_has : (k : MessageKind) (d : ℕ) (x : Known) → is_restart k ≡ false → kind_leaves k d x ≡ true → rule.standing_of x ≡ Some Standing.Leaving
 leaves_has k d x off e = grind (arith, nat_tests, off, left_true)
 
@@ -195,22 +191,13 @@ off a m apart = grind (arith, nat_tests)
 
 -- by the phase
 rests_has : (v : View) (p : Pid) (at : ℕ) → IsIn v p (Rests at) → HasIt v p
-rests_has v p at h = record {
-  at = at;
-  standing = Standing.Here;
-  known = grind (arith, nat_tests);
-  others = λ m apart. away_silent (v.known m p) (sym (ap (λ (c : Bool). if c then is_here (v.known m p) else is_away (v.known m p)) (off at m apart)) ∙ h.known m);
-}
+rests_has v p at h = record { at = at; standing = Standing.Here; known = grind (arith, nat_tests); others = λ m apart. grind (arith, nat_tests) }
 
 over_has : (v : View) (p : Pid) (at : ℕ) → IsIn v p (Over at) → OverAt v p
-over_has v p at h = record {
-  at = at;
-  known = grind (arith, nat_tests);
-  others = λ m apart. away_silent (v.known m p) (sym (ap (λ (c : Bool). if c then is_over (v.known m p) else is_away (v.known m p)) (off at m apart)) ∙ h.known m);
-}
+over_has v p at h = record { at = at; known = grind (arith, nat_tests); others = λ m apart. grind (arith, nat_tests) }
 
 other_silent : (k : MessageKind) (s : ℕ) (x : Known) (c : Bool) → (if c then kind_comes k s x else is_away x) ≡ true → is_silent x ≡ true
-other_silent k s x c e = grind (arith, nat_tests, away_silent)
+other_silent k s x c e = grind (arith, nat_tests)
 
 moves_has : (v : View) (p : Pid) (k : MessageKind) (s d : ℕ) (id : Option MsgId) → is_restart k ≡ false → IsIn v p (Moves k s d id) → HasIt v p
 moves_has v p k s d id early h = record {
@@ -222,14 +209,11 @@ moves_has v p k s d id early h = record {
       (sym (ap (λ (c : Bool). if c then kind_leaves k d (v.known m p) else if d == m then kind_comes k s (v.known m p) else is_away (v.known m p)) (off s m apart)) ∙ h.known m);
 }
 
-by_away : (s d : ℕ) (x : Known) (c : Bool) → (if c then kind_leaves MessageKind.Restart d x else is_away x) ≡ true → is_away x ≡ true
-by_away s d x c e = grind (arith, nat_tests)
-
 restart_to : (v : View) (p : Pid) (s d : ℕ) (id : MsgId) → IsIn v p (Moves MessageKind.Restart s d (Some id)) → ComesTo v p
 restart_to v p s d id h =
     let apart : (s == d) ≡ false = not_false (s == d) h.apart in
     let (from, is) = restart_comes s (v.known d p) (grind (arith, nat_tests, eq_self)) in
-    record { source = s; to = d; id = id; from = from; known = is; others = λ m other. grind (arith, nat_tests, by_away, off); token = h.token }
+    record { source = s; to = d; id = id; from = from; known = is; others = λ m other. grind (arith, nat_tests, off); token = h.token }
 
 pub where_is : (v : View) (p : Pid) (phase : Phase) → IsIn v p phase → is_due phase ≡ false → v.known p.home p ≢ Unknown → HasIt v p ⊎ (OverAt v p ⊎ ComesTo v p)
 where_is v p Nowhere h put home = absurd (home (grind (arith, nat_tests)))

@@ -5,12 +5,12 @@ use Rattle.dm_mirror.proofs.Names.{asks_move, told_to_move, KernelState, id_eq-s
 use Rattle.dm_mirror.proofs.Names.{mirrors_view, child_place, no_child, AllOwnStand, KernelStands, AllRecords, TokensStand, Wants, destination_of, ◌≢◌, ◌&&◌, not, kind_of, plain_what, Inbox, Known, Unknown, Here, Frozen, Incoming, Forward}
 use Rattle.dm_mirror.proofs.Names.{Ended, is_server, is_fixed, is_place, is_target, own_sort, Part, option_map_or}
 use Rattle.dm_kernel.specs.State.{with_sent}
-use Rattle.dm_kernel.specs.State as machine
-use Rattle.dm_rule.specs.Parts as rule
 use Rattle.dm_mirror.proofs.Follow.Forwards.{next_free, next_untold, forwards_turn, held_coming, held_leaving}
 use Rattle.dm_mirror.proofs.Turning.{MayOwn, Nothing, Own, Turns, TurnsAt}
 use Rattle.dm_mirror.proofs.Follow.Updates.{updated_board_turn, updated_here_turn, updated_manager_turn, no_move_turn, updated_ended_turn}
 use Rattle.dm_mirror.proofs.Follow.Fronts.{Fronts, at_front, carries_on}
+use Rattle.dm_kernel.specs.State as machine
+use Rattle.dm_rule.specs.Parts as rule
 
 -- behind the head of the directive
 abbrev pub asked_point : Point → Pid → ℕ → Point
@@ -45,8 +45,7 @@ own_asked : (b : Boot) (pt : Point) (l : Placed) (records : AllRecords) (k : Ker
 own_asked b pt l records k c p to i x there plain = let o = c.own i x there plain in record { told = o.told; mine = o.mine; sender = o.sender }
 
 kernel_asked : (b : Boot) (pt : Point) (l : Placed) (records : AllRecords) (k : KernelState) (c : Asks b pt l records k) (p : Pid) (to : ℕ) → KernelStands b (asked_point pt p to) l 0 k
-kernel_asked b pt l records k c p to =
-    search c.stands.known
+kernel_asked b pt l records k c p to = search c.stands.known
 
 sent_asked : (b : Boot) (pt : Point) (l : Placed) (k : KernelState) → KernelStands b pt l 0 k → KernelStands b pt l 0 (with_sent k)
 sent_asked b pt l k h = record { here = h.here; known = h.known; no_server = h.no_server; ring = h.ring; inbox = h.inbox; made = h.made; room = h.room; servers = h.servers }
@@ -81,7 +80,6 @@ named_is : (cs : List Addr) (p : Pid) (c : Addr) → child_named p cs ≡ Some c
 named_is [] p c e = cc
 named_is (d ∷ ds) p c e = elim (cases_Bool (pid_eq d.pid p)) [
   | inl same ↦
-      let f : Some d ≡ Some c = sym (ap (λ (b : Bool). cond b (Some d) (child_named p ds)) same) ∙ e in
       let g : d ≡ c = cc in
       ap (λ (a : Addr). a.pid) (sym g) ∙ pid_eq-is d.pid p same
   | inr apart ↦ named_is ds p c (sym (ap (λ (b : Bool). cond b (Some d) (child_named p ds)) apart) ∙ e)
@@ -186,8 +184,7 @@ apart_turn b m pt l records k y c _ fixed knows e = absurd (false≢true e)
 
 -- its receiver is known here
 pub front_known : (b : Boot) (m : ℕ) (pt : Point) (l : Placed) (records : AllRecords) (k : KernelState) (y : Message) (c : Fronts b m pt l records k y) → is_fixed y.to.pid ≡ false → pt.view.known m y.to.pid ≢ Unknown
-front_known b m pt l records k y c fixed e =
-    c.run.found.process y.id (Inbox m) c.told (at_front b m pt l records k y c) c.told_is (ap is_fixed c.receiver ∙ fixed) (ap (pt.view.known m) c.receiver ∙ e)
+front_known b m pt l records k y c fixed e = search (at_front, c.run.found.process, y.id, c.told, c.told_is, c.receiver, pt.view.known)
 
 -- an own message is of a sort
 pub front_sort : (b : Boot) (m : ℕ) (pt : Point) (l : Placed) (records : AllRecords) (k : KernelState) (y : Message) (c : Fronts b m pt l records k y) → plain_what y.what ≡ None → own_sort (kind_of y.what) y.to.pid c.told.about ≡ true

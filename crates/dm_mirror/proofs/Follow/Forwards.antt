@@ -33,7 +33,6 @@ free_by b pt l i (Some x) run mirrors own is none = absurd (bad (plain_message x
     bad : (p : Option PlainMessage) → plain_message x ≡ p → ⊥
     bad None plain = let f : None ≡ Some _ = sym none ∙ (own i x is plain).told in cc
     bad (Some w) plain =
-        let bag : pt.kernel.bag i ≡ Some w = sym (mirrors.plain.bag i) ∙ ap (λ (z : Option Message). bind z plain_message) is ∙ plain in
         grind (arith, nat_tests, is_some)
 
 pub next_free : (b : Boot) (m : ℕ) (pt : Point) (l : Placed) → Run b pt → Mirrors pt.kernel pt.view pt.addresses l → AllOwnStand pt.view l → l.bag (id_of (pid_of m 0) (pt.view.count m)) ≡ None

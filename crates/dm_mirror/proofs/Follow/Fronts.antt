@@ -21,10 +21,7 @@ use Rattle.dm_mirror.proofs.Turning.{Elsewhere, Nothing, Route, TurnsAt, AllMayP
 
 -- a message that stands somewhere stands there once, and nowhere else
 outside_once : (c : Bool) (f : Spot → ℕ) (x : Spot) → StandsOutside c f → 1 ≤ f x → StandsOnce f
-outside_once true f x h least = elim h [
-  | inl none ↦ absurd (let z : f x ≡ 0 = none x in omega (arith, least, z))
-  | inr once ↦ once
-]
+outside_once true f x h least = grind (arith, nat_tests)
 outside_once false f x h least = absurd (let z : f x ≡ 0 = h x in omega (arith, least, z))
 
 right_once : (i : MsgId) (o : Option PlainMessage) (f : Spot → ℕ) (x : Spot) → StandsRight i o f → 1 ≤ f x → StandsOnce f

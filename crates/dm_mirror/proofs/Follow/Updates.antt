@@ -6,14 +6,14 @@ use Rattle.dm_mirror.proofs.Names.{Inbox, Spot, standing, Known, Here, Of, Told,
 use Rattle.dm_mirror.proofs.Names.{updated_board_count, updated_count, updated_manager_count, about_of, told_of, HereStands, KnownStands, servers_at, AllRecords, Wants, MessageKind, PlainMessage, Why, Managing, Board, Addresses, told_ended}
 use Rattle.dm_mirror.proofs.Names.{after_line, Ended, updated_ended_mirrors, no_process, Wanted, is_server, Part, sort_of}
 use Rattle.dm_places.specs.PlacedStep.{with_process}
+use Rattle.dm_mirror.proofs.Follow.Fronts.{front_still, is_process_of, plain_there, Fronts, at_front, eq_off, known_on, machine_process, rule_process, set_other, set_self, handled_point, turns_follow, handled_view}
+use Rattle.dm_mirror.proofs.Turning.{TurnsAt, begun, has_process}
+use Rattle.dm_mirror.proofs.Kernel.Sets.{away_process as away_not}
 use Rattle.dm_link.specs.Places as places
 use Rattle.dm_onekernel.specs.Step as kernel
 use Rattle.dm_kernel.specs.Handle as machine_handle
 use Rattle.dm_kernel.specs.State as machine
 use Rattle.dm_rule.specs.Parts as rule
-use Rattle.dm_mirror.proofs.Follow.Fronts.{front_still, is_process_of, plain_there, Fronts, at_front, eq_off, known_on, machine_process, rule_process, set_other, set_self, handled_point, turns_follow, handled_view}
-use Rattle.dm_mirror.proofs.Turning.{TurnsAt, begun, has_process}
-use Rattle.dm_mirror.proofs.Kernel.Sets.{away_process as away_not}
 
 -- the servers may change, and addresses
 abbrev pub with_servers : Placed → Board → Managing → Placed
@@ -228,10 +228,8 @@ server_manager b pt m id t o e h = grind (arith, nat_tests)
 -- the switchboard's links follow
 pub updated_board_turn : (b : Boot) (m : ℕ) (pt : Point) (l : Placed) (records : AllRecords) (k : KernelState) (y : Message) (c : Fronts b m pt l records k y) (about : Addr) → y.to.pid ≡ switchboard → y.what ≡ What.Update about → TurnsAt b m pt l records k
 updated_board_turn b m pt l records k y c about to e =
-    let s = record k { inbox = c.rest } in
     let home = at_home b m pt l records k y c (ap is_fixed to) (ap (λ (p : Pid). p.home) to) in
     let v : Servers = record { board = l.board; manager = l.manager } in
-    let there : k.servers ≡ Some v = c.stands.servers ∙ first_servers l m home in
     let r = about.pid in
     let n = count_by (named_is_behind r about.moves) l.board.names in
     let told = (c.own y.id y c.there (ap (λ (w : What). with_what y (plain_what w)) e)).told in
@@ -261,10 +259,8 @@ updated_board_turn b m pt l records k y c about to e =
 -- the manager's links follow
 pub updated_manager_turn : (b : Boot) (m : ℕ) (pt : Point) (l : Placed) (records : AllRecords) (k : KernelState) (y : Message) (c : Fronts b m pt l records k y) (about : Addr) → y.to.pid ≡ manager → y.what ≡ What.Update about → TurnsAt b m pt l records k
 updated_manager_turn b m pt l records k y c about to e =
-    let s = record k { inbox = c.rest } in
     let home = at_home b m pt l records k y c (ap is_fixed to) (ap (λ (p : Pid). p.home) to) in
     let v : Servers = record { board = l.board; manager = l.manager } in
-    let there : k.servers ≡ Some v = c.stands.servers ∙ first_servers l m home in
     let r = about.pid in
     let n = count_by (places.is_behind r about.moves) l.manager.children + count_by (pending_is_behind r about.moves) l.manager.pending in
     let told = (c.own y.id y c.there (ap (λ (w : What). with_what y (plain_what w)) e)).told in

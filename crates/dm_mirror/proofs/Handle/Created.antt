@@ -58,9 +58,7 @@ created_row b m pt l k y image ls g c num found some valid =
     let on = placed.with_sent (placed.with_child (placed.without_message l y.id) s.format child g links) (Some a) in
     let home = kernel_home b m pt l k y (PlainWhat.Create image ls) c num in
     let named : pid_eq child (pid_of p.home (first_number + s.made p.home)) ≡ true = ap (λ (n : ℕ). pid_eq child (pid_of n (first_number + s.made n))) home ∙ pid_eq-same child in
-    let step : kernel.step s e ≡ Some next =
-    ap (λ (o : Option PlainMessage). bind o (λ (q : PlainMessage). service.creates s y.id q child q.what)) c.front.there ∙ ap (λ (o : Option BootImage). bind o (service.creates_of s y.id x child ls)) there
-    ∙ ap (λ (d : Bool). when (d && pid_eq child (pid_of p.home (first_number + s.made p.home))) next) (kernel_is s p m num home c.below) ∙ ap (λ (d : Bool). when d next) named in
+    let step : kernel.step s e ≡ Some next = grind (arith, nat_tests, kernel_is, y.id, c.front.there, p.home, s.made, c.below) in
     let seen = sane_of b m pt l k y (PlainWhat.Create image ls) c in
     let bag = bag_created seen.r seen.e s next y.id child step seen.sound in
     let fresh : (n : Message) → Some a ≡ Some n → s.bag n.id ≡ None =
@@ -77,9 +75,7 @@ created_row b m pt l k y image ls g c num found some valid =
     let name : next_pid k0 ≡ child = (λ i. pid_of (c.stands.here i) (first_number + c.stands.made i)) in
     let here : at_record pt.view.known m child Known.Here m child ≡ Known.Here = record_self pt.view.known m child Known.Here (pid_eq-same child) in
     let lives : next.processes child ≡ Some (Alive first) = ap (λ (d : Bool). if d then Some (Alive first) else s.processes child) (pid_eq-same child) in
-    let stands_there : on.processes child ≡ Some z =
-    ap (λ (d : Bool). if d then Some (begun_process child (memory_of g) (slots_with (slots_of s.format) links)) else l.processes child) (pid_eq-same child)
-    ∙ ap (λ (f : Format). Some (begun_process child (memory_of g) (slots_with (slots_of f) links))) c.run.based.format in
+    let stands_there : on.processes child ≡ Some z = grind (arith, nat_tests, pid_eq-same, s.format, l.processes, c.run.based.format) in
     let bag_is : (j : MsgId) → on.bag j ≡ (placed.with_sent (placed.without_message l y.id) (Some a)).bag j = λ j. refl in
     let mirrors = mirrors_one pt m e next (after_label v e) l on step refl (c.run.based.unmoved child none) placed_is c.mirrors in
     let a_plain : (n : Message) → Some a ≡ Some n → is_some (plain_message n) ≡ true = λ n is. (let same : a ≡ n = cc in ap (λ (q : Message). is_some (plain_message q)) (sym same)) in
@@ -90,11 +86,7 @@ created_row b m pt l k y image ls g c num found some valid =
     let kept : (q : Spot) (j : MsgId) → q ≢ Inbox m → 1 ≤ standing pt.view j q → on.bag j ≡ l.bag j = kept_at b m pt l k y (PlainWhat.Create image ls) c on (Some a) bag_is both in
     let takes : taken_by goal m child ≡ record { slots = 1; blocks = g.blocks } = grind (arith, nat_tests, memory_blocks, ap kernel.alive lives) in
     let others : (q : Pid) → q ≢ child → taken_by goal m q ≡ taken_by pt m q =
-    λ q apart. (let o = pid_apart child q apart in
-    (λ i. record {
-      slots = takes_room (record_others pt.view.known m child q Known.Here o i);
-      blocks = if takes_room (record_others pt.view.known m child q Known.Here o i) == 0 then 0 else blocks_of (kernel.alive (ap (λ (d : Bool). if d then Some (Alive first) else s.processes q) o i));
-    })) in
+    grind (arith, nat_tests, pid_apart, record_others, pt.view.known, s.processes) in
     let others_placed : (q : Pid) → pid_eq child q ≡ false → on.processes q ≡ l.processes q = λ q o. ap (λ (d : Bool). if d then Some (begun_process child (memory_of g) (slots_with (slots_of s.format) links)) else l.processes q) o in
     let others_live : (q : Pid) → pid_eq child q ≡ false → next.processes q ≡ s.processes q = λ q o. ap (λ (d : Bool). if d then Some (Alive first) else s.processes q) o in
     let made_here : next.made m ≡ s.made m + 1 = ap (λ (d : Bool). s.made m + (if d then 1 else 0)) (eq_self m) in
@@ -104,8 +96,7 @@ created_row b m pt l k y image ls g c num found some valid =
     let queues : (q : Pid) (j : MsgId) → pid_eq child q ≡ false → 1 ≤ times j (pt.view.queue m q) → on.bag j ≡ l.bag j = λ q j o least. kept (Queue m q) j (queue_apart m m q) least in
     let holds : (q : Pid) (j : MsgId) → pid_eq child q ≡ false → 1 ≤ times j (pt.view.held m q) → on.bag j ≡ l.bag j = λ q j o least. kept (Held m q) j (held_apart m m q) least in
     let mine : KnownStands goal on child (goal.view.queue m child) (goal.view.held m child) (goal.view.known m child) ((with_child k0 child z g.blocks).records child) =
-    made_known b m pt l k y (PlainWhat.Create image ls) c goal on child (pt.view.held m child) z (if pid_eq child child then Some (Record.Here z) else k.records child) (unknown m)
-    (ap (λ (d : Bool). if d then Some (Record.Here z) else k.records child) (pid_eq-same child)) refl stands_there (at_record pt.view.known m child Known.Here m child) here in
+    grind (arith, nat_tests, made_known, pid_eq-same, pt.view.held, k.records, pt.view.known) in
     let keeps : is_server child ≡ true → (with_child k0 child z g.blocks).records child ≡ k.records child = λ is. absurd (false≢true (sym off ∙ is)) in
     record {
       state = with_child k0 child z g.blocks;

@@ -8,6 +8,10 @@ use Rattle.dm_rule.proofs.Names.{Part}
 use Rattle.dm_onekernel.specs.Kernel.{Ended, with_sent}
 use Rattle.dm_kernel.specs.declared.part.Part.TheVariants.{Routes}
 pub use Rattle.dm_rule.proofs.Turns.{without_front_none as front_none, at_record_same as queue_same}
+use Rattle.dm_mirror.proofs.Handle.Rows.{IsLeft, turns_row, handled_point, here_left}
+use Rattle.dm_mirror.proofs.Handle.Taking.{Taking, sane_of, known_on, map_same, IsProcess, no_kernel, not_server, to_process, rule_to_process}
+use Rattle.dm_mirror.proofs.Turning.{Row, routed, rule_routed}
+use Rattle.dm_mirror.proofs.Handle.Servers.{sent_processes, sent_made, sent_machines, placed_processes, placed_bag, placed_notes, placed_servers}
 use Rattle.dm_rule.specs.Rule as rule
 use Rattle.dm_rule.specs.View as view
 use Rattle.dm_places.specs.PlacedStep as placed
@@ -16,10 +20,6 @@ use Rattle.dm_kernel.specs.State as state
 use Rattle.dm_onekernel.specs.Kernel as kernels
 use Rattle.dm_onekernel.specs.Service as service
 use Rattle.dm_onekernel.specs.Step as kernel
-use Rattle.dm_mirror.proofs.Handle.Rows.{IsLeft, turns_row, handled_point, here_left}
-use Rattle.dm_mirror.proofs.Handle.Taking.{Taking, sane_of, known_on, map_same, IsProcess, no_kernel, not_server, to_process, rule_to_process}
-use Rattle.dm_mirror.proofs.Turning.{Row, routed, rule_routed}
-use Rattle.dm_mirror.proofs.Handle.Servers.{sent_processes, sent_made, sent_machines, placed_processes, placed_bag, placed_notes, placed_servers}
 
 -- what the machine knows of a process that has ended here
 pub record IsEnded (b : Boot) (m : ℕ) (pt : Point) (l : Placed) (k : KernelState) (p : Pid) : Type 0 where
@@ -45,9 +45,6 @@ is_ended b m pt l k y w c h known =
 ended_turn : (b : Boot) (m : ℕ) (pt : Point) (l : Placed) (k : KernelState) (y : Message) (w : PlainWhat) (c : Taking b m pt l k y w) (o : Option Turned) → IsEnded b m pt l k y.to.pid → ended_handles (record k { inbox = c.rest }) y y.what ≡ o → handles b (record k { inbox = c.rest }) y ≡ o
 ended_turn b m pt l k y w c o h e = to_process b (record k { inbox = c.rest }) y h.process ∙ ap (process_handles (record k { inbox = c.rest }) y) h.there ∙ e
 
-ended_outcome : (b : Boot) (m : ℕ) (pt : Point) (l : Placed) (k : KernelState) (y : Message) (w : PlainWhat) (o : Option (List Part)) → IsEnded b m pt l k y.to.pid → rule.ended_handles y.id w ≡ o → rule.handles b pt m y.id (plainly y w) ≡ o
-ended_outcome b m pt l k y w o h e = rule_to_process b pt m y.id (plainly y w) h.process ∙ ap (rule.process_handles pt m y.id (plainly y w)) h.known ∙ e
-
 dropped_view : (v : View) (i : MsgId) (o : Option Pid) → ((n : ℕ) (p : Pid) → times i (v.queue n p) ≡ 0) → view.dropped_for (handled v i) i o ≡ handled v i
 dropped_view v i None none = refl
 dropped_view v i (Some p) none = grind (arith, nat_tests, queue_same, front_none)
@@ -70,7 +67,7 @@ drop_row b m pt l k y w c h drops turn outcome =
       needs = tt;
       placed_is = refl;
       turn = ended_turn b m pt l k y w c (machine.is_dropped (record k { inbox = c.rest }) y) h turn;
-      outcome = ended_outcome b m pt l k y w (Some (rule.says (Label.Dropped y.id) ∷ [])) h outcome;
+      outcome = rule_to_process b pt m y.id (plainly y w) h.process ∙ ap (rule.process_handles pt m y.id (plainly y w)) h.known ∙ outcome;
       fresh = λ a is. cc;
       plain = λ a is. cc;
       mine = λ off bag holds. known_on pt (handled_point pt m y.id (Label.Dropped y.id) next) l (placed.without_message l y.id) p (pt.view.queue m p) (pt.view.held m p) (pt.view.known m p) (k.records p)
@@ -105,7 +102,7 @@ gone_row b m pt l k y w c h u says plain turn outcome =
       needs = tt;
       placed_is = ap (λ (o : Option Message). bind o (λ (z : Message). Some (placed.with_sent (placed.without_message l y.id) (Some (gone_answer m z))))) c.there;
       turn = ended_turn b m pt l k y w c (machine.is_gone k0 y) h turn ∙ ap (λ (n : ℕ). turned k0 (state.says (Label.Gone y.id) ∷ Routes (gone_answer n y) ∷ [])) c.stands.here;
-      outcome = ended_outcome b m pt l k y w (Some (rule.says (Label.Gone y.id) ∷ Part.Routes (answer_id y.id) ∷ [])) h outcome;
+      outcome = rule_to_process b pt m y.id (plainly y w) h.process ∙ ap (rule.process_handles pt m y.id (plainly y w)) h.known ∙ outcome;
       fresh = λ z is. let same : a ≡ z = cc in ap (λ (n : Message). s.bag n.id) (sym same) ∙ bag_none seen.r seen.e s (answer_id y.id) (bag.fresh (answer_id y.id) refl) seen.sound.entered;
       plain = λ z is. let same : a ≡ z = cc in ap (λ (n : Message). is_some (plain_message n)) (sym same) ∙ plain;
       mine = λ off same holds. known_on pt (handled_point pt m y.id (Label.Gone y.id) next) l on p (pt.view.queue m p) (pt.view.held m p) (pt.view.known m p) (k.records p)
@@ -207,8 +204,7 @@ pub record Served (b : Boot) (m : ℕ) (pt : Point) (l : Placed) (k : KernelStat
   pub quiet : (v : View) (p : Pid) → view.ends_by (sort_of (plain_kind w)) v (Some p) ≡ v
 
 pub here_known : (next : Point) (on : Placed) (p : Pid) (queue held : List MsgId) (z : Process) (q : List Message) (r : Option state.KernelKnown) (n : Known) → r ≡ Some (Record.Here z) → n ≡ view.Here → on.processes p ≡ Some (with_queue z q) → AreMessages on.bag queue z.queue → KnownStands next on p queue held n r
-here_known next on p queue held z q r n is here there waits =
-    subst (λ (v : Known). KnownStands next on p queue held v r) (sym here) (subst (KnownStands next on p queue held view.Here) (sym is) ((q, there), waits))
+here_known next on p queue held z q r n is here there waits = grind (arith, nat_tests)
 
 pub served_row : (b : Boot) (m : ℕ) (pt : Point) (l : Placed) (k : KernelState) (y : Message) (w : PlainWhat) (c : Taking b m pt l k y w) (h : IsHere b m pt l k y.to.pid) → Served b m pt l k y w c h → Row b m pt l k
 served_row b m pt l k y w c h d =

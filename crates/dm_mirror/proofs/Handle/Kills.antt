@@ -88,8 +88,7 @@ all_dropped (j ∷ js) pt l p y front ended drops told inbox h =
     let step = dropped_is s j drops.0.x y drops.0.there (ap s.processes drops.0.to ∙ ended) (user_dropped drops.0.x.what drops.0.user) in
     let mid = dropped_point pt j p in
     let boxes = machine_same v.inbox m (without_front j (v.inbox m)) (front_none j (v.inbox m) (inbox j (times_self j js))) in
-    let left : mid.view.queue m p ≡ js =
-    record_self v.queue m p (without_front j (v.queue m p)) (pid_eq-same p) ∙ ap (without_front j) front ∙ ap (λ (c : Bool). if c then js else j ∷ js) (id_eq-same j) in
+    let left : mid.view.queue m p ≡ js = grind (arith, nat_tests, record_self, pid_eq-same, id_eq-same, v.queue) in
     let more : (i : MsgId) → 1 ≤ times i js → 1 ≤ times i (j ∷ js) = λ i least. (let f = times_more i j js in omega (arith, least, f)) in
     let off : (i : MsgId) → 1 ≤ times i js → id_eq j i ≡ false = λ i least. (elim (cases_Bool (id_eq j i)) [
       | inl same ↦ absurd (let e : times j js ≡ times i js = ap (λ (z : MsgId). times z js) (id_eq-is j i same) in let none : times j js ≡ 0 = drops.1 in omega (arith, least, e, none))
@@ -128,9 +127,8 @@ all_dropped (j ∷ js) pt l p y front ended drops told inbox h =
 pub drops_are : (bag : MsgId → Option Message) (ids : List MsgId) (ms : List Message) → ((i : MsgId) (x : Message) → bag i ≡ Some x → x.id ≡ i) → AreMessages bag ids ms → state.drops ms ≡ map Part.Says (map drop_line ids) ++ []
 drops_are bag [] [] names h = refl
 drops_are bag (j ∷ js) (z ∷ zs) names h =
-    let first : bag j ≡ Some z = cc in
     let rest : map bag js ≡ map Some zs = cc in
-    λ i. state.says (Label.Dropped (names j z first i)) ∷ drops_are bag js zs names rest i
+    λ i. state.says (Label.Dropped ((names j z (cc)) i)) ∷ (drops_are bag js zs names rest) i
 drops_are bag [] (z ∷ zs) names h = cc
 drops_are bag (j ∷ js) [] names h = cc
 

@@ -5,6 +5,9 @@ use Rattle.dm_mirror.proofs.Names.{length-written, Boot, Alive, OneKernel, bind,
 use Rattle.dm_mirror.proofs.Names.{View, bag_none, both, Placed, after_landing, parts, lands_match, with_queue, plainly, block_what, written_what, gone_what, here_handles, KernelState, take, drop, after_serving, answer, answer_of}
 use Rattle.dm_mirror.proofs.Names.{answer_with, serving_answer, answer_id, answer_to, bag_served, served_id, has_bytes, WhatFits, answers_match, read_what, write_what, stop_what, resume_what, sort_of}
 use Rattle.dm_rule.proofs.Names.{Part}
+use Rattle.dm_mirror.proofs.Handle.Taking.{Taking, sane_of}
+use Rattle.dm_mirror.proofs.Turning.{Row}
+use Rattle.dm_mirror.proofs.Handle.Ended.{IsHere, served_row, served_step}
 use Rattle.dm_datamove.specs.Landing as landing
 use Rattle.dm_onekernel.specs.Pieces as pieces
 use Rattle.dm_onekernel.specs.Service as service
@@ -14,9 +17,6 @@ use Rattle.dm_places.specs.PlacedStep as placed
 use Rattle.dm_kernel.specs.Handle as machine
 use Rattle.dm_onekernel.specs.Kernel as kernels
 use Rattle.dm_onekernel.specs.Step as kernel
-use Rattle.dm_mirror.proofs.Handle.Taking.{Taking, sane_of}
-use Rattle.dm_mirror.proofs.Turning.{Row}
-use Rattle.dm_mirror.proofs.Handle.Ended.{IsHere, served_row, served_step}
 
 -- a landing with places, and what it comes to without: the process keeps its queue and the length of its memory
 record Lands (p : Pid) (x : Process) (o : Option Landing) (c : pieces.Landed) : Type 0 where
@@ -135,8 +135,7 @@ landed_row b m pt l k y w c h f d (Landed.Next n) e serves_as placed_as turn_as 
     let px = plain_process h.x in
     let z = d.process in
     let (q, says, last) = bind-is (plain_message n) (λ (g : PlainMessage). Some (pieces.Next g (plain_process z))) f (sym (ap (λ (g : Landed). plain_landed g z) e) ∙ plain) in
-    let next : pieces.Next q (plain_process z) ≡ f = cc in
-    let is : pieces.lands p px x px.status ≡ Some (pieces.Next q (plain_process z)) = plain_lands ∙ ap Some (sym next) in
+    let is : pieces.lands p px x px.status ≡ Some (pieces.Next q (plain_process z)) = plain_lands ∙ ap Some (sym (cc)) in
     let so = lands-is p px x px.status (pieces.Next q (plain_process z)) is in
     let name : n.id ≡ q.id = (parts n q says).id in
     served_row b m pt l k y w c h (record {
@@ -233,7 +232,6 @@ served_fresh b m pt l k y w c h t i step is =
     let seen = sane_of b m pt l k y w c in
     let g = bag_served seen.r seen.e s t y.id step seen.sound in
     let same : g.m ≡ plainly y w = let f : Some g.m ≡ Some (plainly y w) = sym g.there ∙ c.front.there in cc in
-    let lives : Some (Alive g.x) ≡ Some (Alive (plain_process h.x)) = sym g.alive ∙ ap (λ (n : PlainMessage). s.processes n.to) same ∙ h.life in
     let one : g.x ≡ plain_process h.x = cc in
     bag_none seen.r seen.e s i (g.is.fresh i ((λ j. served_id y.id (same j) (one j) (same j).what) ∙ is)) seen.sound.entered
 

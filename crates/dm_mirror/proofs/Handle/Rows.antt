@@ -138,7 +138,6 @@ own_kept b m pt l k y w c n o bag other j x none there =
     apart true e =
         let f : Some y ≡ Some x = sym c.there ∙ (ap l.bag (id_eq-is y.id j e)) ∙ there in
         let g : y ≡ x = cc in
-        let z : Some (plainly y w) ≡ None = sym (ap (with_what y) c.says) ∙ ap plain_message g ∙ none in
         cc
 
     sent_apart : (a : Message) → o ≡ Some a → (d : Bool) → id_eq a.id j ≡ d → d ≡ false

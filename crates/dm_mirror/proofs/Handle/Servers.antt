@@ -54,27 +54,15 @@ bad_plain here g (k ∷ ks) = answers_plain here g (Some k) 2 []
 
 wants_plain : (here : ℕ) (g : Managing) (machine image : ℕ) (ls : List Link) → IsPlain (manage.wants_child here g machine image ls).message
 wants_plain here g machine image [] = bad_plain here g []
-wants_plain here g machine image (k ∷ ks) = wants_if (nat_lt machine g.machines && nat_lt image g.images)
-  where
-    wants_if : (c : Bool) → IsPlain (if c then manage.asks_for here g machine image k ks else manage.bad_request here g (k ∷ ks)).message
-    wants_if true = plain_one (message_to here g.sent (kernel_of machine) (What.Create image (record { items = ks }))) refl
-    wants_if false = bad_plain here g (k ∷ ks)
+wants_plain here g machine image (k ∷ ks) = grind (arith, nat_tests, plain_one, bad_plain, g.machines, g.images, g.sent)
 
 requests_plain : (here : ℕ) (g : Managing) (body : List ℕ) (ls : List Link) → IsPlain (manage.requests here g body ls).message
-requests_plain here g (operation ∷ machine ∷ high ∷ low ∷ []) ls = requests_if (operation == 1)
-  where
-    requests_if : (c : Bool) → IsPlain (if c then manage.wants_child here g machine (256 * high + low) ls else manage.bad_request here g ls).message
-    requests_if true = wants_plain here g machine (256 * high + low) ls
-    requests_if false = bad_plain here g ls
+requests_plain here g (operation ∷ machine ∷ high ∷ low ∷ []) ls = grind (arith, nat_tests, wants_plain, bad_plain)
 requests_plain here g _ ls = bad_plain here g ls
 
 control_plain : (here : ℕ) (g : Managing) (child : Addr) (o : Option What) (ls : List Link) → ((w : What) → o ≡ Some w → is_some (plain_what w) ≡ true) → IsPlain (manage.controls_child here g child o ls).message
 control_plain here g child None ls h = bad_plain here g ls
-control_plain here g child (Some w) ls h = plain_one (message_to here g.sent child w) (plain_with (message_to here g.sent child w) (plain_what w) (h w refl))
-  where
-    plain_with : (a : Message) (o : Option PlainWhat) → is_some o ≡ true → is_some (with_what a o) ≡ true
-    plain_with a None e = cc
-    plain_with a (Some u) e = refl
+control_plain here g child (Some w) ls h = grind (arith, nat_tests, plain_one, g.sent)
 
 control_of_plain : (operation : ℕ) (w : What) → manage.control_of operation ≡ Some w → is_some (plain_what w) ≡ true
 control_of_plain operation w e = grind (arith, nat_tests, is_some)
@@ -90,11 +78,7 @@ controls_plain here g None body ls = bad_plain here g ls
 controls_plain here g (Some child) _ ls = bad_plain here g ls
 
 pub user_plain : (here : ℕ) (g : Managing) (code : ℕ) (body : List ℕ) (ls : List Link) → IsPlain (manage.takes_user here g code body ls).message
-user_plain here g code body ls = user_if (code == 0)
-  where
-    user_if : (c : Bool) → IsPlain (if c then manage.requests here g body ls else manage.controls here g (manage.child_address g.children code) body ls).message
-    user_if true = requests_plain here g body ls
-    user_if false = controls_plain here g (manage.child_address g.children code) body ls
+user_plain here g code body ls = grind (arith, nat_tests, requests_plain, controls_plain, g.children)
 
 -- Messages that a server takes, and what it sends.
 

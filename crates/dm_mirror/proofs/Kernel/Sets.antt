@@ -150,8 +150,7 @@ queue_of_others m p q off = right_off (m == m) (pid_eq p q) off
 
 pub map_same : (f g : MsgId → Option Message) (ids : List MsgId) → ((i : MsgId) → 1 ≤ times i ids → g i ≡ f i) → map g ids ≡ map f ids
 map_same f g [] h = refl
-map_same f g (i ∷ is) h =
-    λ j. h i (times_self i is) j ∷ (map_same f g is (λ k least. h k (let m = times_more k i is in omega (arith, least, m)))) j
+map_same f g (i ∷ is) h = λ j. h i (times_self i is) j ∷ (map_same f g is (λ k least. h k (let m = times_more k i is in omega (arith, least, m)))) j
 
 pub messages_on : (f g : MsgId → Option Message) (ids : List MsgId) (ms : List Message) → ((i : MsgId) → 1 ≤ times i ids → g i ≡ f i) → AreMessages f ids ms → AreMessages g ids ms
 messages_on f g ids ms same h = map_same f g ids same ∙ h
@@ -211,8 +210,7 @@ set_stands b m t p pt next l placed k n g s queues helds server known ring inbox
 
 -- the inbox, where it stays
 pub inbox_stands : (m : ℕ) (t : Spot → Bool) (p : Pid) (pt next : Point) (l placed : Placed) (ms : List Message) → Leaves m t p pt l next placed → t (Inbox m) ≡ false → AreMessages l.bag (pt.view.inbox m) ms → AreMessages placed.bag (next.view.inbox m) ms
-inbox_stands m t p pt next l placed ms g off h =
-    subst (λ (ids : List MsgId). AreMessages placed.bag ids ms) (sym (g.view.lists (Inbox m) off)) (messages_on l.bag placed.bag (pt.view.inbox m) ms (λ i least. g.placed_.bag i (Inbox m) off least) h)
+inbox_stands m t p pt next l placed ms g off h = grind (arith, nat_tests, messages_on, placed.bag, g.view.lists, l.bag, pt.view.inbox, g.placed_.bag)
 
 -- the room, where process p takes as much as before
 pub takes_as : (pt next : Point) (m : ℕ) (q : Pid) → next.view.known m q ≡ pt.view.known m q → blocks_of (kernel.alive (next.kernel.processes q)) ≡ blocks_of (kernel.alive (pt.kernel.processes q)) → taken_by next m q ≡ taken_by pt m q
@@ -250,10 +248,7 @@ room_released b m t p pt next l placed k n blocks g e before after there made h 
     })
   where
     off : (q : Pid) → q ≢ p → pid_eq p q ≡ false
-    off q apart = elim (cases_Bool (pid_eq p q)) [
-      | inl same ↦ absurd (apart (sym (pid_eq-is p q same)))
-      | inr away ↦ away
-    ]
+    off q apart = elim (cases_Bool (pid_eq p q)) [ inl same ↦ absurd (apart (sym (pid_eq-is p q same))) | inr away ↦ away ]
 
 -- A process of the machine goes on, or ends: the machine's kernel stands for the point behind the labels.
 
@@ -273,15 +268,11 @@ pub record LivesHere (m : ℕ) (pt : Point) (l : Placed) (k : KernelState) (p : 
 -- what is known of it
 pub known_here : (next : Point) (placed : Placed) (m : ℕ) (n : KernelState) (p : Pid) (y : Process) (queue : List Message) → n.records p ≡ Some (Record.Here y) → next.view.known m p ≡ view.Here → placed.processes p ≡ Some (with_queue y queue)
     → AreMessages placed.bag (next.view.queue m p) y.queue → KnownStands next placed p (next.view.queue m p) (next.view.held m p) (next.view.known m p) (n.records p)
-known_here next placed m n p y queue e known there messages =
-    subst (λ (r : Option machine.KernelKnown). KnownStands next placed p (next.view.queue m p) (next.view.held m p) (next.view.known m p) r) (sym e)
-    (subst (λ (w : view.Known). KnownStands next placed p (next.view.queue m p) (next.view.held m p) w (Some (Record.Here y))) (sym known) ((queue, there), messages))
+known_here next placed m n p y queue e known there messages = grind (arith, nat_tests, next.view.queue, next.view.held, next.view.known)
 
 pub known_ended : (next : Point) (placed : Placed) (m : ℕ) (n : KernelState) (p : Pid) (y : Why) → n.records p ≡ Some (Record.Ended y) → next.view.known m p ≡ view.Ended → next.kernel.processes p ≡ Some (Life.Ended y)
     → KnownStands next placed p (next.view.queue m p) (next.view.held m p) (next.view.known m p) (n.records p)
-known_ended next placed m n p y e known life =
-    subst (λ (r : Option machine.KernelKnown). KnownStands next placed p (next.view.queue m p) (next.view.held m p) (next.view.known m p) r) (sym e)
-    (subst (λ (w : view.Known). KnownStands next placed p (next.view.queue m p) (next.view.held m p) w (Some (Record.Ended y))) (sym known) (ap kernel.why_ended life))
+known_ended next placed m n p y e known life = grind (arith, nat_tests, next.view.queue, next.view.held, next.view.known)
 
 blocks_same : (x y : Process) → length y.memory ≡ length x.memory → blocks_of (Some (plain_process y)) ≡ blocks_of (Some (plain_process x))
 blocks_same x y e = ap (λ (n : ℕ). n / 256) e
@@ -299,10 +290,9 @@ pub ends_stands : (b : Boot) (m : ℕ) (t : Spot → Bool) (p : Pid) (pt next : 
     → ((q : Pid) → pid_eq p q ≡ false → t (Queue m q) ≡ false) → ((q : Pid) → t (Held m q) ≡ false) → n.records p ≡ Some (Record.Ended because) → n.room ≡ with_released k.room (machine.blocks_of y) → n.ring ≡ next.view.ring m → AreMessages placed.bag (next.view.inbox m) n.inbox
     → next.view.known m p ≡ view.Ended → next.kernel.processes p ≡ Some (Life.Ended because) → length y.memory ≡ length x.memory → MadeStands pt.kernel → KernelStands b pt l m k → KernelStands b next placed m n
 ends_stands b m t p pt next l placed k n x y because at g s queues helds e room ring inbox known ended memory made h =
-    let before : taken_by pt m p ≡ record { slots = 1; blocks = machine.blocks_of y } = grind (arith, nat_tests) in
     let after : taken_by next m p ≡ record { slots = 0; blocks = 0 } = grind (arith, nat_tests) in
     set_stands b m t p pt next l placed k n g s queues helds at.server (known_ended next placed m n p because e known ended) ring inbox
-    (room_released b m t p pt next l placed k n (machine.blocks_of y) g room before after (ap is_some at.alive) made h.room) h
+    (room_released b m t p pt next l placed k n (machine.blocks_of y) g room (grind (arith, nat_tests)) after (ap is_some at.alive) made h.room) h
 
 -- What each way in which a label changes view, kernel and kernel with places leaves; and a label as a step with places.
 
@@ -426,9 +416,8 @@ pub label_mirrors : (pt : Point) (l placed : Placed) (m : ℕ) (e : Label) (t : 
 label_mirrors pt l placed m e t h at needs step is =
     let (n, first, mirrors) = placed_follows pt.kernel t pt.view pt.addresses l m e h at needs step in
     let f : Some n ≡ Some placed = sym first ∙ is in
-    let same : n ≡ placed = cc in
     let next = moved pt (Line.Label e) t in
-    mirrors_view t pt.view next.view next.addresses placed (moves_label pt.view e) (subst (Mirrors t pt.view next.addresses) same mirrors)
+    mirrors_view t pt.view next.view next.addresses placed (moves_label pt.view e) (subst (Mirrors t pt.view next.addresses) (cc) mirrors)
 
 pub after_label : (pt : Point) (e : Label) (t : OneKernel) (ls : List Line) (next : Point) → kernel.step pt.kernel e ≡ Some t → after (moved pt (Line.Label e) t) ls ≡ Some next → after pt (Line.Label e ∷ ls) ≡ Some next
 after_label pt e t ls next step rest = ap (λ (o : Option OneKernel). bind (bind o (λ (s : OneKernel). Some (moved pt (Line.Label e) s))) (λ (n : Point). after n ls)) step ∙ rest

@@ -15,6 +15,7 @@ use Rattle.dm_mirror.proofs.Handle.Taking.{fresh_at, map_same, sent_there, some_
 use Rattle.dm_mirror.proofs.Handle.Rows.{standing_begun}
 use Rattle.dm_mirror.proofs.Leave.Fronts.{tokens_one}
 use Rattle.dm_mirror.proofs.Rooms.{taken_same}
+use Rattle.dm_mirror.proofs.Turning.{is_elsewhere}
 
 -- the point behind a line that changes what was seen alone
 abbrev pub with_view : Point → View → Point
@@ -152,15 +153,7 @@ module _ (b : Boot) (m : ℕ) (pt : Point) (l : Placed) (records : AllRecords) (
           | inr out ↦ h.own i x (sym (off_if (id_eq a.id i) (Some a) (placed.bag i) out) ∙ found) plain
         ];
         tokens = tokens_one v next.view placed on (at_machine records m state.records) (at_machine records m state.records) p
-            (record {
-              told = refl;
-              asked = λ q off. refl;
-              processes = λ q off. refl;
-              notes = others;
-              records = λ w q off. refl;
-              came = λ i u z told between least. ((z, least), same i z least);
-              none = h.none;
-            }) h.tokens;
+            (record { stays = search (others); came = λ i u z told between least. ((z, least), same i z least); none = h.none }) h.tokens;
       }
 
   -- by who waits to hear

@@ -3,7 +3,7 @@ use Rattle.dm_mirror.proofs.Names.{◌≡◌, ◌≢◌, ℕ, ◌≤◌, ◌==�
 use Rattle.dm_mirror.proofs.Names.{id_eq-same, id_of, manager, PlainMessage, PlainProcess, PlainWhat, plain_message, Process, Label, Line, Record, Stage, Boot, OneKernel, bind, answer_id, bag_none, zero_if, without_message, Point, Target}
 use Rattle.dm_mirror.proofs.Names.{Here, Spot, Queue, Held, Inbox, standing, times, handled, is_kernels, after, moved, addresses_after, without_front, WhatFits, StepNeeds, Placed, Mirrors, mirrors_view, placed_step, plainly, here_handles}
 use Rattle.dm_mirror.proofs.Names.{turned, KernelState, KnownStands, AllRecords, TokensStand, FreezesReceiverWhole, KnownIsWhole, CanMove, What, begun, Asker, Outcome, asker_of, manager_request, moved_answer, MoveNote, machine_in, seen}
-use Rattle.dm_mirror.proofs.Names.{at_hand_of, ends_move, with_note, without_note, move_what, Part, freezing, with_frozen}
+use Rattle.dm_mirror.proofs.Names.{at_hand_of, ends_move, with_note, without_note, move_what, Part, freezing, with_frozen, nat_tests, arith}
 use Rattle.dm_onekernel.specs.Kernel as one
 use Rattle.dm_onekernel.specs.Service as service
 use Rattle.dm_onekernel.specs.Step as kernel
@@ -24,18 +24,12 @@ use Rattle.dm_mirror.proofs.Row.Tokens.{row_turns}
 use Rattle.dm_mirror.proofs.Leave.Asks.{room_stays, off_state, off_view, sets_off}
 
 -- a request to move is one of the manager's messages
-pub asked_by_manager : (s : OneKernel) (i : MsgId) (x : PlainMessage) (machine : ℕ) → x.what ≡ PlainWhat.Move machine → WhatFits s i x x.what
-    → i ≡ id_of manager i.n
-asked_by_manager s i x machine is fits =
-    let f = subst (WhatFits s i x) is fits in
-    let from = f.4.from in
-    let answer = f.3 in
-    λ c. record { from = from c; n = i.n; answer = answer c }
+pub asked_by_manager : (s : OneKernel) (i : MsgId) (x : PlainMessage) (machine : ℕ) → x.what ≡ PlainWhat.Move machine → WhatFits s i x x.what → i ≡ id_of manager i.n
+asked_by_manager s i x machine is fits = grind (arith, nat_tests)
 
 -- what the bag doesn't have it doesn't have without a message
 still_none : (c : Bool) (o : Option Message) → o ≡ None → (if c then None else o) ≡ None
-still_none true o e = refl
-still_none false o e = e
+still_none c o e = grind (arith, nat_tests)
 
 -- from now on the process follows the request
 record Asked (b : Boot) (m : ℕ) (pt : Point) (l : Placed) (k : KernelState) (y : Message) (machine : ℕ) (next : OneKernel) (mid : Point) (on : Placed) : Type 0 where
@@ -71,12 +65,11 @@ follows_on b m pt l k y machine c h =
     ∙ ap (λ (o : Option PlainProcess). bind o (λ (z : PlainProcess). service.follows_request s i x (PlainWhat.Move machine))) (at_hand_of s p _ h.free h.life) in
     let placed_is : placed_step m s.format s.images l e ≡ Some (asked_placed l y) =
     ap (λ (o : Option Message). bind o (λ (q : Message). Some (with_note (placed.without_message l i) q.to.pid i (asker_of q)))) c.there in
-    let a = (asked_point pt m y machine).addresses in
     let seen_is : seen s (begun pt m).view (Line.Label e) ≡ v = λ j. view.about (handled (begun pt m).view i) (machine_in (c.front.there j)) in
     record {
       named = named;
       step = step;
-      point = λ j. record { kernel = t; view = seen_is j; addresses = a };
+      point = λ j. record { kernel = t; view = seen_is j; addresses = ((asked_point pt m y machine).addresses) };
       mirrors = mirrors_one pt m e t v l (asked_placed l y) step seen_is named placed_is c.mirrors;
     }
 
@@ -220,12 +213,10 @@ asked_here b m pt l k y machine c h is =
       after = after_label (begun pt m) (Label.Asked i) mid.kernel (Line.Label e ∷ []) next f.step (ap (λ (q : Point). after q (Line.Label e ∷ [])) f.point ∙ after_label mid e t [] next step refl);
       placed = on;
       mirrors = label_mirrors mid mid_placed on m e t f.mirrors refl needs step placed_is;
-      kernel = stands_set b pt next l on m k k0 p
-          (search (others, queues, holds, here)) c.stands
+      kernel = stands_set b pt next l on m k k0 p (search (others, queues, holds, here)) c.stands
           c.stands.ring
           (ap (map on.bag) (machine_self pt.view.inbox m (without_front i (pt.view.inbox m)) ∙ front_gone i c.ids (pt.view.inbox m) c.box) ∙ map_same l.bag on.bag c.ids behind ∙ c.others)
-          c.stands.made
-          (room_stays k.room _ _ _ taken c.stands.room)
+          c.stands.made (room_stays k.room _ _ _ taken c.stands.room)
           c.stands.servers;
       elsewhere = search (
         machine_off,

@@ -8,18 +8,18 @@ use Rattle.dm_mirror.proofs.Names.{tells_onward, fits, free_room, kernel_hears, 
 use Rattle.dm_mirror.proofs.Names.{plain_message, HereStands, Mirrors, AllOwnStand, KernelStands, TokensStand, AreMessages, Spot, Queue, Held, spot_cases, Asker, plain_note, leaves_for, here_free, Part, sort_of, drop, slice_get}
 use Rattle.dm_mirror.proofs.Names.{option_and_then}
 use Rattle.dm_kernel.specs.State.{with_sent}
+use Rattle.dm_mirror.proofs.Rooms.{taken_same}
+use Rattle.dm_mirror.proofs.Leave.Fronts.{FrontGone, Hearing, none_rests, outcome_hears, stood, turn_hears, Leaving, front_nowhere, leaving, stands_first, absent_next, may_between, own_is, process_hears, records_as, three_off, to_process}
+use Rattle.dm_mirror.proofs.Leave.Fronts.{untold_next, to_kernel_hears, here_is, own_stays, tokens_one, IsLeaving, leaving_is, front_rest}
+use Rattle.dm_mirror.proofs.Turning.{Nothing, Own, TurnsAt, begun, has_process, is_elsewhere, late_parts, late_rule_parts, part_of, rule_part_of}
+use Rattle.dm_mirror.proofs.Handle.Taking.{eq_self, machine_self, machine_off, record_self, record_off, record_others, some_same, stands_set, held_apart, map_same, queue_apart}
+use Rattle.dm_mirror.proofs.Handle.Rows.{Elsewhere, here_left, standing_begun}
+use Rattle.dm_mirror.proofs.Follow.Fronts.{front_gone as front_off, elsewhere_apart}
 use Rattle.dm_onekernel.specs.Step as kernel
 use Rattle.dm_rule.specs.Parts as rule
 use Rattle.dm_kernel.specs.State as machine
 use Rattle.dm_rule.specs.Migrating as migrating
 use Rattle.dm_rule.specs.View as view
-use Rattle.dm_mirror.proofs.Rooms.{taken_same}
-use Rattle.dm_mirror.proofs.Leave.Fronts.{FrontGone, Hearing, none_rests, outcome_hears, stood, turn_hears, Leaving, front_nowhere, leaving, stands_first, absent_next, may_between, own_is, process_hears, records_as, three_off, to_process}
-use Rattle.dm_mirror.proofs.Leave.Fronts.{untold_next, to_kernel_hears, here_is, own_stays, tokens_one, IsLeaving, leaving_is}
-use Rattle.dm_mirror.proofs.Turning.{Nothing, Own, TurnsAt, begun, has_process, is_elsewhere, late_parts, late_rule_parts, part_of, rule_part_of}
-use Rattle.dm_mirror.proofs.Handle.Taking.{eq_self, machine_self, machine_off, record_self, record_off, record_others, some_same, stands_set, held_apart, map_same, queue_apart}
-use Rattle.dm_mirror.proofs.Handle.Rows.{Elsewhere, here_left, standing_begun}
-use Rattle.dm_mirror.proofs.Follow.Fronts.{front_gone as front_off, elsewhere_apart}
 use Rattle.dm_mirror.proofs.Leave.Fronts as owns
 
 -- the room is the same where machine m has the same of each process
@@ -44,13 +44,7 @@ here_already b m pt l records k y machine h at_m is =
     let x = here_is pt l p (pt.view.queue m p) (pt.view.held m p) (k.records p) (subst (λ (n : Known). KnownStands pt l p (pt.view.queue m p) (pt.view.held m p) n (k.records p)) at_m (h.stands.known p server)) in
     let next : Point = moved (begun pt m) (Line.Here y.id) pt.kernel in
     let box : next.view.inbox m ≡ h.ids = machine_self pt.view.inbox m (without_front y.id (pt.view.inbox m)) ∙ front_off y.id h.ids (pt.view.inbox m) h.box in
-    let gone : FrontGone m h.ids pt.view next.view = record {
-      inbox = λ j least. inl (subst (λ (ids : List MsgId). 1 ≤ times j ids) box least);
-      others = λ n off. machine_off pt.view.inbox m n (without_front y.id (pt.view.inbox m)) off;
-      queue = λ n q j least. least;
-      held = λ n q j least. least;
-      pair = λ a c. refl;
-    } in
+    let gone : FrontGone m h.ids pt.view next.view = search (front_rest m h.ids pt.view next.view box, machine_off) in
     let taken = taken_same pt next m refl (λ n. refl) (λ q. refl) in
     let to_here : (machine == k.here) ≡ true = ap (λ (n : ℕ). n == k.here) (sym is ∙ sym h.stands.here) ∙ eq_self k.here in
     let same : (m == machine) ≡ true = ap (λ (n : ℕ). m == n) (sym is) ∙ eq_self m in
@@ -61,8 +55,7 @@ here_already b m pt l records k y machine h at_m is =
       late = Nothing;
       turn = turn_hears b m pt l records k z h (turned s (Part.Says (Line.Here y.id) ∷ []))
           (to_process b s z (Some (Record.Here x.process)) loose x.is ∙ ap (λ (c : Bool). if c then turned s (Part.Says (Line.Here y.id) ∷ []) else freezes s p x.process machine) to_here);
-      outcome = outcome_hears b m pt l records k z h (Some (rule.Says (Line.Here y.id) ∷ []))
-          (process_hears b pt m y.id (told_of z) Here loose at_m
+      outcome = outcome_hears b m pt l records k z h (Some (rule.Says (Line.Here y.id) ∷ [])) (process_hears b pt m y.id (told_of z) Here loose at_m
           ∙ ap (λ (c : Bool). Some (if c then rule.Says (Line.Here y.id) ∷ [] else rule.Says (Line.Migration Stage.Frozen p) ∷ rule.Says (Line.Migration Stage.Asked p) ∷ to_kernel MessageKind.Ask machine ∷ [])) same);
       next = next;
       after = refl;
@@ -78,11 +71,7 @@ here_already b m pt l records k y machine h at_m is =
       own = own_stays pt.view next.view l refl h.own;
       tokens = tokens_one pt.view next.view l l records (at_machine records m k.records) p
           (record {
-            told = refl;
-            asked = λ q off. refl;
-            processes = λ q off. refl;
-            notes = λ q off. refl;
-            records = λ n q off. records_as records m n k.records k.records q h.records_here refl;
+            stays = search (λ (n : ℕ) (q : Pid) (off : pid_eq p q ≡ false). records_as records m n k.records k.records q h.records_here refl);
             came = λ i t spot told between least. (let g = stood m y.id h.ids pt.view next.view i spot h.box gone least in ((g.spot, g.stands), refl));
             none = λ i t spot told between about least. (let g = stood m y.id h.ids pt.view next.view i spot h.box gone least in none_rests b pt m p i t g.spot h.run at_m told between about g.stands);
           }) h.tokens;
@@ -150,20 +139,13 @@ pub sets_off : (b : Boot) (m : ℕ) (pt : Point) (l : Placed) (records : AllReco
 sets_off b m pt l records k p machine asker says t a box to on h =
     let v = pt.view in
     let x = h.process in
-    let placed_x : Process = record x { queue = h.here.0.0 } in
-    let x_is : x.pid ≡ p = (h.mirrors.places.process p placed_x h.here.0.1).pid in
+    let x_is : x.pid ≡ p = (h.mirrors.places.process p (record x { queue = h.here.0.0 }) h.here.0.1).pid in
     let state : KernelState = off_state k h.rest p x machine asker in
     let ask : Message = off_ask k machine x asker in
     let next : Point = record { kernel = t; view = off_view pt m p box to; addresses = a } in
     let after_records : AllRecords = at_machine records m state.records in
     let box_is : next.view.inbox m ≡ h.ids = machine_self v.inbox m box ∙ h.gone in
-    let gone : FrontGone m h.ids v next.view = record {
-      inbox = λ j least. inl (subst (λ (ids : List MsgId). 1 ≤ times j ids) box_is least);
-      others = λ n off. machine_off v.inbox m n box off;
-      queue = λ n q j least. least;
-      held = λ n q j least. least;
-      pair = λ a c. refl;
-    } in
+    let gone : FrontGone m h.ids v next.view = search (front_rest m h.ids v next.view box_is, machine_off) in
     let none_held : v.held m p ≡ [] = h.run.based.lists.held m p (ap has_nothing_held h.at_m) in
     let frozen_known : next.view.known m p ≡ Frozen machine = record_self v.known m p (Frozen to) (pid_eq-same p) ∙ ap Frozen h.to_is in
     let frozen_record : state.records p ≡ Some (Record.Frozen (frozen x machine asker)) =
@@ -197,11 +179,9 @@ sets_off b m pt l records k p machine asker says t a box to on h =
       after = h.after;
       placed = on;
       mirrors = h.on_mirrors;
-      kernel = stands_set b pt next l on m k state p
-          (search (sets, record_others, processes, h.notes, lives, queues, holds, mine, keeps)) h.stands
+      kernel = stands_set b pt next l on m k state p (search (sets, record_others, processes, h.notes, lives, queues, holds, mine, keeps)) h.stands
           (ap (without p) h.stands.ring ∙ sym (machine_self v.ring m (without p (v.ring m))))
-          (ap (map on.bag) box_is ∙ map_same l.bag on.bag h.ids h.behind ∙ h.others)
-          (h.stands.made ∙ sym (h.made m))
+          (ap (map on.bag) box_is ∙ map_same l.bag on.bag h.ids h.behind ∙ h.others) (h.stands.made ∙ sym (h.made m))
           (room_stays k.room _ _ _ taken h.stands.room)
           (h.stands.servers ∙ (λ i. if m == 0 then Some (record { board = sym h.board i; manager = sym h.manager i }) else None));
       sent = λ e. ap (λ (n : ℕ). n + 1) e;
@@ -225,18 +205,11 @@ sets_off b m pt l records k p machine asker says t a box to on h =
       own = λ j w there none. (let g = h.own j w (h.back j w none there) none in record { told = g.told; mine = g.mine; sender = g.sender });
       tokens = tokens_one v next.view l on records after_records p
           (record {
-            told = refl;
-            asked = λ q off. refl;
-            processes = processes;
-            notes = h.notes;
-            records = λ n q off. records_as records m n k.records state.records q h.records_here (sets q off);
+            stays = search (processes, h.notes, λ (n : ℕ) (q : Pid) (off : pid_eq p q ≡ false). records_as records m n k.records state.records q h.records_here (sets q off));
             came = λ i u z told between least. (
                 let e = stood m h.front h.ids v next.view i z h.first gone least in (
                   (e.spot, e.stands),
-                  elim (spot_cases e.spot (Inbox m)) [
-                    | inl is ↦ h.behind i (e.behind is)
-                    | inr off ↦ h.kept e.spot i off e.stands
-                  ],
+                  elim (spot_cases e.spot (Inbox m)) [ inl is ↦ h.behind i (e.behind is) | inr off ↦ h.kept e.spot i off e.stands ],
                 ));
             none = λ i u z told between about least. (let e = stood m h.front h.ids v next.view i z h.first gone least in none_rests b pt m p i u e.spot h.run h.at_m told between about e.stands);
           }) h.tokens;
@@ -244,12 +217,7 @@ sets_off b m pt l records k p machine asker says t a box to on h =
 
 -- nobody waits to hear of a process that is here
 nobody : (o : Option Asker) → option_map plain_note o ≡ None → o ≡ None
-nobody None e = refl
-nobody (Some k) e = cc
-
-pub unasked_here : (b : Boot) (m : ℕ) (pt : Point) (l : Placed) (p : Pid) → Run b pt → Mirrors pt.kernel pt.view pt.addresses l → pt.view.known m p ≡ Here
-    → l.notes p ≡ None
-unasked_here b m pt l p run mirrors at_m = nobody (l.notes p) (mirrors.plain.notes p ∙ here_free pt.kernel pt.view m p run.based.noted at_m)
+nobody o e = grind (arith, nat_tests)
 
 -- to another machine
 asks_other : (b : Boot) (m : ℕ) (pt : Point) (l : Placed) (records : AllRecords) (k : KernelState) (y : Message) (machine : ℕ)
@@ -302,7 +270,7 @@ asks_other b m pt l records k y machine h at_m apart whole =
       processes = λ q. refl;
       board = refl;
       manager = refl;
-      note = unasked_here b m pt l p h.run h.mirrors at_m;
+      note = nobody (l.notes p) (h.mirrors.plain.notes p ∙ here_free pt.kernel pt.view m p h.run.based.noted at_m);
       notes = λ q off. refl;
       kept = λ spot j off least. refl;
       behind = λ j least. refl;
@@ -313,8 +281,7 @@ asks_other b m pt l records k y machine h at_m apart whole =
 -- the process can be carried whole, where it is sent off
 whole_here : (b : Boot) (m : ℕ) (k : KernelState) (y : Message) (machine : ℕ) (x : Process) → is_fixed y.to.pid ≡ false → k.here ≡ m → m ≢ machine → FreezesReceiverWhole k (record y { what = What.Migrate machine }) → k.records y.to.pid ≡ Some (Record.Here x) → CanMove x
 whole_here b m k y machine x loose at_m apart whole is =
-    let p = y.to.pid in
-    let (num, board, manage) = three_off (p.num == 0) (pid_eq p switchboard) (pid_eq p manager) loose in
+    let (num, board, manage) = three_off (y.to.pid.num == 0) (pid_eq y.to.pid switchboard) (pid_eq y.to.pid manager) loose in
     subst (KnownIsWhole k.here (What.Migrate machine)) is (whole num board manage) (λ e. apart (sym (e ∙ at_m)))
 
 pub hears_migrate : (b : Boot) (m : ℕ) (pt : Point) (l : Placed) (records : AllRecords) (k : KernelState) (y : Message) (machine : ℕ) → Hearing b m pt l records k y → y.what ≡ What.Migrate machine → pt.view.known m y.to.pid ≡ Here → FreezesReceiverWhole k y → TurnsAt b m pt l records k
@@ -330,12 +297,8 @@ hears_migrate b m pt l records k y machine h is at_m whole =
 
 -- A piece of a process that leaves goes to the machine that asks for it.
 
--- what leaves is no server
-frozen_server : (c : Bool) (to : ℕ) → Frozen to ≡ (if c then Here else Unknown) → ⊥
-frozen_server c to e = grind (arith, nat_tests)
-
 pub leaves_no_server : (b : Boot) (pt : Point) (m to : ℕ) (p : Pid) → Run b pt → pt.view.known m p ≡ Frozen to → is_server p ≡ false
-leaves_no_server b pt m to p run known = grind (arith, nat_tests, frozen_server)
+leaves_no_server b pt m to p run known = grind (arith, nat_tests)
 
 -- the record of a process that leaves
 pub departing : (b : Boot) (m : ℕ) (pt : Point) (l : Placed) (records : AllRecords) (k : KernelState) (y : Message) (p : Pid) → Hearing b m pt l records k y → (g : Leaving m pt y p) → IsLeaving l p (pt.view.queue m p) (pt.view.held m p) g.to (k.records p)
@@ -387,13 +350,7 @@ gives b m pt l records k y p w h g piece c turn hears proto x there carries =
     let next : Point = record { kernel = pt.kernel; view = view.about (handled (begun pt m).view y.id) (Of p); addresses = pt.addresses } in
     let after_records : AllRecords = at_machine records m state.records in
     let box : next.view.inbox m ≡ h.ids = machine_self v.inbox m (without_front y.id (v.inbox m)) ∙ front_off y.id h.ids (v.inbox m) h.box in
-    let gone : FrontGone m h.ids v next.view = record {
-      inbox = λ j least. inl (subst (λ (ids : List MsgId). 1 ≤ times j ids) box least);
-      others = λ n off. machine_off v.inbox m n (without_front y.id (v.inbox m)) off;
-      queue = λ n q j least. least;
-      held = λ n q j least. least;
-      pair = λ a d. refl;
-    } in
+    let gone : FrontGone m h.ids v next.view = search (front_rest m h.ids v next.view box, machine_off) in
     let taken = taken_same pt next m refl (λ n. refl) (λ q. refl) in
     let id_is : message.id ≡ own_id next.view = own_is b m pt l records k y h in
     let to_is : destination_of message.id (told_of message) ≡ y.id.from.home = ap (λ (d : Bool). if d then y.sender.pid.home else message.id.from.home) piece.of_source ∙ ap (λ (a : Addr). a.pid.home) c.sender in
@@ -431,11 +388,7 @@ gives b m pt l records k y p w h g piece c turn hears proto x there carries =
       own = own_stays v next.view l refl h.own;
       tokens = tokens_one v next.view l l records after_records p
           (record {
-            told = refl;
-            asked = λ q off. refl;
-            processes = λ q off. refl;
-            notes = λ q off. refl;
-            records = λ n q off. records_as records m n k.records state.records q h.records_here refl;
+            stays = search (λ (n : ℕ) (q : Pid) (off : pid_eq p q ≡ false). records_as records m n k.records state.records q h.records_here refl);
             came = λ i t spot told between least. (let d = stood m y.id h.ids v next.view i spot h.box gone least in ((d.spot, d.stands), refl));
             none = λ i t spot told between about least. (
                 let d = stood m y.id h.ids v next.view i spot h.box gone least in
@@ -459,12 +412,11 @@ gives_chunk b m pt l records k y p chunk h =
     let x = d.departure.process in
     let same : record x { queue = d.stands.here.0.0 } ≡ c.process = process_same (l.processes p) (record x { queue = d.stands.here.0.0 }) c.process d.stands.here.0.1 c.there in
     let name : x.pid ≡ p = (h.mirrors.places.process p (record x { queue = d.stands.here.0.0 }) d.stands.here.0.1).pid in
-    let told = c.carries in
     gives b m pt l records k z p (chunk_of x.pid (state_of x) chunk) h g
     (record { about = ap Of name; plain = refl; encloses = refl; gives = λ o v a i q. refl; of_source = refl }) c
     (ap (λ (r : Option machine.KernelKnown). bind (frozen_of r) (λ (e : Departure). gives_piece s z (chunk_of e.process.pid (state_of e.process) chunk))) d.is)
     (leaves_alive b m pt l p c.process y.id MessageKind.PullState (Some (migrating.gives_piece y.id MessageKind.State)) c.there (h.mirrors.plain.processes p) refl)
-    refl c.process c.there (ap (λ (u : Process). chunk_of u.pid (state_of u) chunk) same, told.1, told.2)
+    refl c.process c.there (ap (λ (u : Process). chunk_of u.pid (state_of u) chunk) same, c.carries.1, c.carries.2)
 
 gives_block : (b : Boot) (m : ℕ) (pt : Point) (l : Placed) (records : AllRecords) (k : KernelState) (y : Message) (p : Pid) (block : ℕ) → Hearing b m pt l records k (record y { what = What.PullBlock p block }) → TurnsAt b m pt l records k
 gives_block b m pt l records k y p block h =
@@ -476,12 +428,11 @@ gives_block b m pt l records k y p block h =
     let x = d.departure.process in
     let same : record x { queue = d.stands.here.0.0 } ≡ c.process = process_same (l.processes p) (record x { queue = d.stands.here.0.0 }) c.process d.stands.here.0.1 c.there in
     let name : x.pid ≡ p = (h.mirrors.places.process p (record x { queue = d.stands.here.0.0 }) d.stands.here.0.1).pid in
-    let told = c.carries in
     gives b m pt l records k z p (block_of x.pid x.memory block) h g
     (record { about = ap Of name; plain = refl; encloses = refl; gives = λ o v a i q. refl; of_source = refl }) c
     (ap (λ (r : Option machine.KernelKnown). bind (frozen_of r) (λ (e : Departure). gives_piece s z (block_of e.process.pid e.process.memory block))) d.is)
     (leaves_alive b m pt l p c.process y.id MessageKind.PullBlock (Some (migrating.gives_piece y.id MessageKind.Memory)) c.there (h.mirrors.plain.processes p) refl)
-    refl c.process c.there (ap (λ (u : Process). block_of u.pid u.memory block) same, told.1, told.2)
+    refl c.process c.there (ap (λ (u : Process). block_of u.pid u.memory block) same, c.carries.1, c.carries.2)
 
 pub hears_pull_state : (b : Boot) (m : ℕ) (pt : Point) (l : Placed) (records : AllRecords) (k : KernelState) (y : Message) (p : Pid) (chunk : ℕ) → Hearing b m pt l records k y → y.what ≡ What.PullState p chunk → TurnsAt b m pt l records k
 hears_pull_state b m pt l records k y p chunk h is = gives_chunk b m pt l records k y p chunk (subst (Hearing b m pt l records k) (ap (λ (w : What). record y { what = w }) is) h)

@@ -6,12 +6,12 @@ use Rattle.dm_mirror.proofs.Names.{StandsAsBag-elsewhere, spot_cases, OwnTold, R
 use Rattle.dm_mirror.proofs.Names.{holds_is, ◌||◌, [], refl, Addr, pid_eq, place_of, nat_tests, kernel_at, id_of, What, MessageKind, Arrival, PlainMessage, Process, incoming_of, process_handles, Gets, Receiver, Sender, gets, given}
 use Rattle.dm_mirror.proofs.Names.{own_given, unmoved, process_told, kernel_hears, at_machine, Known, own_id, not_kernels, is_fixed, enclosed, Carries, destination_of, about_same, cases_Bool, Record, Departure, pid_eq-is, HereStands}
 use Rattle.dm_mirror.proofs.Names.{KnownStands, LeavesStand, Asker, sort_of}
-use Rattle.dm_rule.specs.Parts as rule
-use Rattle.dm_rule.specs.Rule as ruled
-use Rattle.dm_kernel.specs.State as machine
 use Rattle.dm_mirror.proofs.Handle.Taking.{front_of, times_self, machine_self, machine_off, some_same}
 use Rattle.dm_mirror.proofs.Turning.{IsCarried, MayOwn}
 pub use Rattle.dm_mirror.proofs.Handle.Taking.{to_kernel}
+use Rattle.dm_rule.specs.Parts as rule
+use Rattle.dm_rule.specs.Rule as ruled
+use Rattle.dm_kernel.specs.State as machine
 
 -- machine m hears message y, which is no message of the kernel without machines
 pub record Hearing (b : Boot) (m : ℕ) (pt : Point) (l : Placed) (records : AllRecords) (k : KernelState) (y : Message) : Type 0 where
@@ -86,6 +86,9 @@ pub record FrontGone (m : ℕ) (is : List MsgId) (v w : View) : Type 0 where
   pub queue : (n : ℕ) (p : Pid) (j : MsgId) → 1 ≤ times j (w.queue n p) → 1 ≤ times j (v.queue n p)
   pub held : (n : ℕ) (p : Pid) (j : MsgId) → 1 ≤ times j (w.held n p) → 1 ≤ times j (v.held n p)
   pub pair : (a c : ℕ) → w.pair a c ≡ v.pair a c
+
+pub front_rest : (m : ℕ) (is : List MsgId) (v w : View) → w.inbox m ≡ is → (j : MsgId) → 1 ≤ times j (w.inbox m) → (1 ≤ times j is) ⊎ ((p : Pid) × (1 ≤ times j (v.held m p)))
+front_rest m is v w box j least = inl (subst (λ (ids : List MsgId). 1 ≤ times j ids) box least)
 
 -- what stands somewhere then stood somewhere, and if that was in this inbox, behind the front
 pub record Stood (m : ℕ) (is : List MsgId) (v : View) (j : MsgId) : Type 0 where
@@ -259,13 +262,18 @@ pub leaving_is : (pt : Point) (l : Placed) (p : Pid) (queue held : List MsgId) (
 leaving_is pt l p queue held to (Some (Record.Frozen d)) h = record { departure = d; is = refl; stands = h }
 leaving_is pt l p queue held to _ h = absurd h
 
--- the messages of the migrations of other processes carry what they carried, where none of this process's stands anywhere
-pub record TokensOne (v w : View) (l placed : Placed) (before after : AllRecords) (p : Pid) : Type 0 where
+-- what it leaves of other processes
+pub record TokensStay (v w : View) (l placed : Placed) (before after : AllRecords) (p : Pid) : Type 0 where
   pub told : w.told ≡ v.told
   pub asked : (q : Pid) → pid_eq p q ≡ false → w.asked q ≡ v.asked q
   pub processes : (q : Pid) → pid_eq p q ≡ false → placed.processes q ≡ l.processes q
   pub notes : (q : Pid) → pid_eq p q ≡ false → placed.notes q ≡ l.notes q
   pub records : (n : ℕ) (q : Pid) → pid_eq p q ≡ false → after n q ≡ before n q
+
+-- the messages of the migrations of other processes carry what they carried, where none of this process's stands anywhere
+pub record TokensOne (v w : View) (l placed : Placed) (before after : AllRecords) (p : Pid) : Type 0 where
+  pub stays : TokensStay v w l placed before after p
+  pub open stays use *
   pub came : (i : MsgId) (t : Told) (z : Spot) → v.told i ≡ Some t → is_between t.kind ≡ true → 1 ≤ standing w i z → ((y : Spot) × (1 ≤ standing v i y)) × (placed.bag i ≡ l.bag i)
   pub none : (i : MsgId) (t : Told) (z : Spot) → v.told i ≡ Some t → is_between t.kind ≡ true → t.about ≡ Of p → 1 ≤ standing w i z → ⊥
 

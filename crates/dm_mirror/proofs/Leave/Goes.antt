@@ -6,16 +6,16 @@ use Rattle.dm_mirror.proofs.Names.{times, Forward, Frozen, Known, gone_to, own_i
 use Rattle.dm_mirror.proofs.Names.{cases_Bool, id_eq, IsKindOfPlain, kind_of, PlainMessage, PlainWhat, plain_message, plain_what, with_what, sent_on, id_eq-swap, is_between, Told, View, letters, held_plain, queued_plain}
 use Rattle.dm_mirror.proofs.Names.{StandsAsBag-elsewhere, Run, Mirrors, is_among, among_times, parts, AllOwnStand, told_there, more_front, leaves, is_server, Part, drop}
 use Rattle.dm_kernel.specs.State.{with_sent}
-use Rattle.dm_onekernel.specs.Step as kernel
-use Rattle.dm_kernel.specs.State as machine
-use Rattle.dm_rule.specs.Migrating as migrating
-use Rattle.dm_rule.specs.Parts as rule
 use Rattle.dm_mirror.proofs.Rooms.{taken_changed}
 use Rattle.dm_mirror.proofs.Leave.Fronts.{FrontGone, Hearing, front_nowhere, leaving, outcome_hears, stood, turn_hears, absent_next, may_between, own_is, records_as, to_kernel_hears, untold_next, tokens_one}
 use Rattle.dm_mirror.proofs.Leave.Stays.{messages_append, in_one}
 use Rattle.dm_mirror.proofs.Turning.{Leaves, On, TurnsAt, begun, is_elsewhere, part_of, rule_part_of, AllMayPut, MayPut, owns}
 use Rattle.dm_mirror.proofs.Leave.Asks.{carried, departing, kernel_number, leaves_alive, leaves_no_server}
 use Rattle.dm_mirror.proofs.Handle.Taking.{eq_self, machine_self, machine_off, map_same, pid_apart, record_self, record_off, record_others, times_more, times_self, some_same, stands_set}
+use Rattle.dm_onekernel.specs.Step as kernel
+use Rattle.dm_kernel.specs.State as machine
+use Rattle.dm_rule.specs.Migrating as migrating
+use Rattle.dm_rule.specs.Parts as rule
 use Rattle.dm_mirror.proofs.Leave.Fronts as owns
 use Rattle.dm_mirror.proofs.Turning as turning
 
@@ -244,8 +244,7 @@ goes b m pt l records k y p h made =
     let stays : (q : Spot) (j : MsgId) → q ≢ Queue m p → q ≢ Held m p → 1 ≤ standing v j q → placed.bag j ≡ l.bag j = λ q j queue held least. bag_off b pt m p l to moves q j h.run queue held least in
     let behind : (j : MsgId) → 1 ≤ times j h.ids → placed.bag j ≡ l.bag j =
     λ j least. (let more = times_more j y.id h.ids in stays (Inbox m) j (inbox_queue m p) (inbox_held m p) (subst (λ (is : List MsgId). 1 ≤ times j is) (sym h.box) (omega (arith, least, more)))) in
-    let life : kernel.alive (pt.kernel.processes p) ≡ Some (plain_process x) = h.mirrors.plain.processes p ∙ ap (option_map plain_process) there in
-    let some = life_some (pt.kernel.processes p) (plain_process x) life in
+    let some = life_some (pt.kernel.processes p) (plain_process x) (h.mirrors.plain.processes p ∙ ap (option_map plain_process) there) in
     let others_known : (q : Pid) → pid_eq p q ≡ false → end.view.known m q ≡ v.known m q = λ q off. record_others v.known m p q forward off in
     let taken = taken_changed pt end m p refl (λ r. refl) (made.home p some) (made.first p some) (made.below p some)
     (λ q off. (let e = others_known q (pid_apart p q off) in (λ i. record { slots = takes_room (e i); blocks = if takes_room (e i) == 0 then 0 else blocks_of (kernel.alive (pt.kernel.processes q)) }))) in
@@ -283,12 +282,9 @@ goes b m pt l records k y p h made =
       after = refl;
       placed = placed;
       mirrors = next_mirrors;
-      kernel = stands_set b pt end l placed m k state p
-          (search (sets, record_others, others_known, waits, holds, mine, keeps)) h.stands
-          h.stands.ring
-          (ap (map placed.bag) box ∙ map_same l.bag placed.bag h.ids behind ∙ h.others)
-          h.stands.made
-          (room_released k.room _ before now (length x.memory / 256) h.stands.room slots blocks)
+      kernel = stands_set b pt end l placed m k state p (search (sets, record_others, others_known, waits, holds, mine, keeps)) h.stands
+          h.stands.ring (ap (map placed.bag) box ∙ map_same l.bag placed.bag h.ids behind ∙ h.others)
+          h.stands.made (room_released k.room _ before now (length x.memory / 256) h.stands.room slots blocks)
           h.stands.servers;
       sent = λ e. omega (arith, e, owned);
       elsewhere = search (
@@ -308,11 +304,7 @@ goes b m pt l records k y p h made =
       own = own_on v end.view l to moves ids refl h.own;
       tokens = tokens_one v end.view l placed records after_records p
           (record {
-            told = refl;
-            asked = λ q off. refl;
-            processes = λ q off. refl;
-            notes = λ q off. refl;
-            records = λ r q off. records_as records m r k.records state.records q h.records_here (ap (λ (e : Bool). if e then Some (Record.Forward to moves) else k.records q) off);
+            stays = search (λ (r : ℕ) (q : Pid) (off : pid_eq p q ≡ false). records_as records m r k.records state.records q h.records_here (sets q off));
             came = λ i t spot told between least. (
                 let e = stood m y.id h.ids v end.view i spot h.box gone least in
                 ((e.spot, e.stands), stays e.spot i (not_queued b pt m p e.spot i t h.run told between e.stands) (not_held b pt m p e.spot i t h.run told between e.stands) e.stands));

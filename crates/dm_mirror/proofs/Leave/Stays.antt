@@ -2,16 +2,16 @@
 use Rattle.dm_mirror.proofs.Names.{◌≡◌, ◌≢◌, ◌⊎◌, ℕ, ◌≤◌, Bool, true, false, List, [], ◌∷◌, ◌++◌, map, nat_le, refl, ap, ◌∙◌, sym, subst, inl, inr, arith, if◌then◌else◌, Option, Some, nat_tests, Pid, pid_eq, Message, MsgId, What}
 use Rattle.dm_mirror.proofs.Names.{MessageKind, Record, Line, frozen_of, with_record, Boot, bind, stays, KernelState, pid_eq-same, Point, moved, takes_room, at_machine, standing, times, Here, Known, times-append, Placed, mirrors_view}
 use Rattle.dm_mirror.proofs.Names.{told_of, AreMessages, KnownStands, AllRecords, is_server, false≢true, ◌==◌, Moves, Spot, Told, is_away, is_between, kind_comes, knows, Of, turned, Outcome, tells_asker, drop}
-use Rattle.dm_kernel.specs.declared.part.Part as part
-use Rattle.dm_kernel.specs.State as machine
-use Rattle.dm_rule.specs.Migrating as migrating
-use Rattle.dm_rule.specs.Parts as rule
 use Rattle.dm_mirror.proofs.Leave.Answered.{ends_move_row}
 use Rattle.dm_mirror.proofs.Rooms.{taken_same}
 use Rattle.dm_mirror.proofs.Leave.Fronts.{FrontGone, Hearing, front_nowhere, leaving, outcome_hears, stood, turn_hears, records_as, to_kernel, to_kernel_hears, own_stays, tokens_one}
 use Rattle.dm_mirror.proofs.Leave.Asks.{room_stays, taken_at_record, departing, kernel_number, leaves_alive, leaves_no_server}
 use Rattle.dm_mirror.proofs.Turning.{TurnsAt, begun, has_process}
 use Rattle.dm_mirror.proofs.Handle.Taking.{eq_off, machine_self, machine_off, record_self, record_off, record_others, stands_set}
+use Rattle.dm_kernel.specs.declared.part.Part as part
+use Rattle.dm_kernel.specs.State as machine
+use Rattle.dm_rule.specs.Migrating as migrating
+use Rattle.dm_rule.specs.Parts as rule
 
 -- messages of two lists, one after the other
 pub messages_append : (bag : MsgId → Option Message) (is js : List MsgId) (ms ns : List Message) → AreMessages bag is ms → AreMessages bag js ns → AreMessages bag (is ++ js) (ms ++ ns)
@@ -21,23 +21,14 @@ messages_append bag (i ∷ is) js [] ns e f = cc
 messages_append bag (i ∷ is) js (m ∷ ms) ns e f =
     let first : bag i ≡ Some m = cc in
     let more : map bag is ≡ map Some ms = cc in
-    let rest : map bag (is ++ js) ≡ map Some (ms ++ ns) = messages_append bag is js ms ns more f in
-    λ c. first c ∷ rest c
+    λ c. first c ∷ (messages_append bag is js ms ns more f) c
 
 -- what stands in two lists stands in one of them
 pub in_one : (j : MsgId) (is js : List MsgId) → 1 ≤ times j (is ++ js) → (1 ≤ times j js) ⊎ (1 ≤ times j is)
 in_one j is js least = grind (arith, nat_tests, nat_le, times-append)
 
--- where the destination refused it, no machine but the source has it
-early_comes : (s : ℕ) (k : Known) → kind_comes MessageKind.Refuse s k ≡ true → has_process k ≡ false
-early_comes s k e = grind (arith, nat_tests)
-
-away_none : (k : Known) → is_away k ≡ true → has_process k ≡ false
-away_none k e = grind (arith, nat_tests)
-
-refused_away : (m d n : ℕ) (i : Option MsgId) (k : Known) (at_source at_destination : Bool) → (m == n) ≡ at_source → (d == n) ≡ at_destination
-    → at_source ≡ false → knows (Moves MessageKind.Refuse m d i) n k ≡ true → has_process k ≡ false
-refused_away m d n i k at_source at_destination e f off h = grind (arith, nat_tests, early_comes, away_none)
+refused_away : (m d n : ℕ) (i : Option MsgId) (k : Known) (at_source at_destination : Bool) → (m == n) ≡ at_source → (d == n) ≡ at_destination → at_source ≡ false → knows (Moves MessageKind.Refuse m d i) n k ≡ true → has_process k ≡ false
+refused_away m d n i k at_source at_destination e f off h = grind (arith, nat_tests)
 
 refuses : (b : Boot) (m : ℕ) (pt : Point) (l : Placed) (records : AllRecords) (k : KernelState) (y : Message) (p : Pid) (slots blocks : ℕ) → Hearing b m pt l records k (record y { what = What.Refuse p slots blocks }) → TurnsAt b m pt l records k
 refuses b m pt l records k y p slots blocks h =
@@ -86,23 +77,17 @@ refuses b m pt l records k y p slots blocks h =
       run = h.run;
       said = refl;
       mirrors = mirrors_view pt.kernel v next.view pt.addresses l refl h.mirrors;
-      kernel = stands_set b pt next l l m k state p
-          (search (sets, record_others, mine, keeps)) h.stands
+      kernel = stands_set b pt next l l m k state p (search (sets, record_others, mine, keeps)) h.stands
           (ap (λ (ring : List Pid). ring ++ p ∷ []) h.stands.ring ∙ sym (machine_self v.ring m (v.ring m ++ p ∷ [])))
           (ap (map l.bag) box ∙ messages_append l.bag (v.held m p) h.ids d.departure.held h.rest d.stands.held h.others)
-          h.stands.made
-          (room_stays k.room _ _ _ taken h.stands.room)
+          h.stands.made (room_stays k.room _ _ _ taken h.stands.room)
           h.stands.servers;
       sent = λ e. e;
       elsewhere = search (machine_off, v.ring, record_off);
       own = own_stays v next.view l refl h.own;
-      tokens = tokens_one v next.view l l records after_records p
+      tokens = tokens_one v next.view l l records (at_machine records m state.records) p
           (record {
-            told = refl;
-            asked = λ q off. refl;
-            processes = λ q off. refl;
-            notes = λ q off. refl;
-            records = λ n q off. records_as records m n k.records state.records q h.records_here (sets q off);
+            stays = search (λ (n : ℕ) (q : Pid) (off : pid_eq p q ≡ false). records_as records m n k.records state.records q h.records_here (sets q off));
             came = λ i t spot told between least. (let e = stood m y.id h.ids v next.view i spot h.box gone least in ((e.spot, e.stands), refl));
             none = none;
           }) h.tokens;

@@ -29,13 +29,10 @@ pub record FrontSo (pt : Point) (m : ℕ) (i : MsgId) (x : Message) (p : PlainMe
   pub known : is_fixed p.to ≡ false → pt.view.known m p.to ≢ Unknown
   pub fits : WhatFits pt.kernel i p p.what
 
-with_what_is : (x : Message) (o : Option PlainWhat) (p : PlainMessage) → with_what x o ≡ Some p → (x.to.pid ≡ p.to) × (o ≡ Some p.what)
-with_what_is x o p e = grind (arith, nat_tests)
-
 pub front_so : (b : Boot) (pt : Point) (l : Placed) (m : ℕ) (i : MsgId) (is : List MsgId) (x : Message) (p : PlainMessage) → Run b pt → Mirrors pt.kernel pt.view pt.addresses l → pt.view.inbox m ≡ i ∷ is → l.bag i ≡ Some x → plain_message x ≡ Some p → FrontSo pt m i x p
 front_so b pt l m i is x p run mirrors box there plainly =
     let is_ : pt.kernel.bag i ≡ Some p = sym (plainly_is pt.kernel l i x (mirrors.plain.bag i) there) ∙ plainly in
-    let k = with_what_is x (plain_what x.what) p plainly in
+    let k : (x.to.pid ≡ p.to) × ((plain_what x.what) ≡ Some p.what) = grind (arith, nat_tests) in
     let f = front b m pt i is p box is_ run in
     let to = told_receiver b m pt i p f in
     record {
@@ -49,28 +46,19 @@ front_so b pt l m i is x p run mirrors box there plainly =
     }
 
 -- which kinds are for a kernel, a server
-pub low : (s : OneKernel) (p : Pid) → MadeStands s → is_some (s.processes p) ≡ true → 3 ≤ p.num
-low s p made there = made.first p there
-
 abbrev is_create : PlainWhat → Bool
 is_create (PlainWhat.Create image links) = true
 is_create w = false
 
-other_create : (x : PlainMessage) (w : PlainWhat) → ForOthers x w → x.to.num ≡ 0 → is_create w ≡ true
-other_create x w h zero_ = grind (arith, nat_tests)
-
 pub kernel_create : (s : OneKernel) (x : PlainMessage) (w : PlainWhat) → ForWhom s x w → MadeStands s → x.to.num ≡ 0 → is_create w ≡ true
-kernel_create s x w e made zero_ = grind (arith, nat_tests, low, other_create)
+kernel_create s x w e made zero_ = grind (arith, nat_tests)
 
 abbrev is_user : PlainWhat → Bool
 is_user (PlainWhat.User code channel body links) = true
 is_user w = false
 
-other_user : (x : PlainMessage) (w : PlainWhat) → ForOthers x w → x.to ≡ switchboard → is_user w ≡ true
-other_user x w h to = grind (arith, nat_tests)
-
 board_user : (s : OneKernel) (x : PlainMessage) (w : PlainWhat) → ForWhom s x w → MadeStands s → x.to ≡ switchboard → is_user w ≡ true
-board_user s x w e made to = grind (arith, nat_tests, low, other_user)
+board_user s x w e made to = grind (arith, nat_tests)
 
 -- the manager takes user messages and answers
 abbrev is_managed : PlainWhat → Bool
@@ -80,20 +68,16 @@ is_managed PlainWhat.NoRoom = true
 is_managed (PlainWhat.Moved outcome) = true
 is_managed w = false
 
-other_managed : (x : PlainMessage) (w : PlainWhat) → ForOthers x w → x.to ≡ manager → is_managed w ≡ true
-other_managed x w h to = grind (arith, nat_tests)
-
 manager_managed : (s : OneKernel) (x : PlainMessage) (w : PlainWhat) → ForWhom s x w → MadeStands s → x.to ≡ manager → is_managed w ≡ true
-manager_managed s x w e made to = grind (arith, nat_tests, low, other_managed)
+manager_managed s x w e made to = grind (arith, nat_tests)
 
 -- for a kernel
 pub kernel_row : (b : Boot) (pt : Point) (k : KernelState) (i : MsgId) (x : Message) (p : PlainMessage) (w : PlainWhat) → plain_what x.what ≡ Some w → is_create w ≡ true → WhatFits pt.kernel i p w → pt.kernel.images ≡ b.images → first_number + k.made < 4294967295 → FitsKernel b k x.what
 kernel_row b pt k i x p (PlainWhat.Create image links) e c fits images made =
-    let q = create_what x.what image links e in
     let numbered = fits.2 in
     let all : length pt.kernel.images ≡ length b.images = ap length images in
     let within : image < length b.images = grind (arith, nat_tests) in
-    subst (FitsKernel b k) (sym q.is) (within, made)
+    subst (FitsKernel b k) (sym (create_what x.what image links e).is) (within, made)
 kernel_row b pt k i x p _ e c fits images made = cc
 
 user_kind : (x : Message) (w : PlainWhat) → plain_what x.what ≡ Some w → is_user w ≡ true → kind_of x.what ≡ MessageKind.User
@@ -107,8 +91,7 @@ pending_plainly n [] = refl
 pending_plainly n (r ∷ rs) = pending_plainly_if n r (r.n == n) (manage.pending_numbered n (map plain_pending rs)) (pending_request n rs) (pending_plainly n rs)
 
 for_some : (kind : PendingKind) (o : Option one.Pending) → is_for kind o ≡ true → is_some o ≡ true
-for_some kind None e = cc
-for_some kind (Some r) e = refl
+for_some kind o e = grind (arith, nat_tests)
 
 is_pending : (s : OneKernel) (l : Placed) (kind : PendingKind) (i : MsgId) (n : ℕ) → n ≡ i.n → plain_manager l.manager ≡ s.manager → IsPending s kind i → is_some (pending_request n l.manager.pending) ≡ true
 is_pending s l kind i n same e h =
@@ -185,15 +168,13 @@ pub taken_within : (pt : Point) (m : ℕ) (p : Pid) → MadeStands pt.kernel →
     → ((taken_by pt m p).slots ≤ (taken_at pt m pt.kernel.machines).slots) × ((taken_by pt m p).blocks ≤ (taken_at pt m pt.kernel.machines).blocks)
 taken_within pt m p made there =
     let home = made.home p there in
-    let below = made.below p there in
     let (k, num) = numbered p (made.first p there) in
     let name : pid_of p.home (first_number + k) ≡ p = λ i. record { home = p.home; num = sym num i } in
-    let one = by_home pt m p.home (pt.kernel.made p.home) k (omega (arith, below, num)) in
+    let one = by_home pt m p.home (pt.kernel.made p.home) k (omega (arith, made.below p there, num)) in
     let all = by_homes pt m pt.kernel.machines p.home (pt.kernel.made p.home) home refl in
     let slots : (taken_by pt m (pid_of p.home (first_number + k))).slots ≡ (taken_by pt m p).slots = ap (λ q. (taken_by pt m q).slots) name in
-    let blocks : (taken_by pt m (pid_of p.home (first_number + k))).blocks ≡ (taken_by pt m p).blocks = ap (λ q. (taken_by pt m q).blocks) name in
     let a = one.0 in let c = one.1 in let d = all.0 in let e = all.1 in
-    (omega (arith, slots, a, d), omega (arith, blocks, c, e))
+    (omega (arith, slots, a, d), omega (arith, ap (λ q. (taken_by pt m q).blocks) name, c, e))
 
 -- what a machine has of a process that is here
 pub record HereSo (pt : Point) (l : Placed) (m : ℕ) (p : Pid) (x : Process) : Type 0 where
@@ -214,10 +195,6 @@ here_so b pt l m k p x mirrors h server is =
     let (known, (q, there)) = here_of pt l p (pt.view.queue m p) (pt.view.held m p) (pt.view.known m p) x (subst (KnownStands pt l p (pt.view.queue m p) (pt.view.held m p) (pt.view.known m p)) is (h.known p server)) in
     record { known = known; queue = q; there = there; life = life_is pt l p (record x { queue = q }) mirrors there }
 
--- the servers have no records
-pub not_server_by : (b : Boot) (pt : Point) (l : Placed) (m : ℕ) (k : KernelState) (p : Pid) (r : machine.KernelKnown) (c : Bool) → is_server p ≡ c → KernelStands b pt l m k → k.records p ≡ Some r → is_server p ≡ false
-not_server_by b pt l m k p r c e h is = grind (arith, nat_tests)
-
 -- what takes room on a machine has its slot and its blocks
 pub has_taken : (b : Boot) (pt : Point) (l : Placed) (m : ℕ) (k : KernelState) (p : Pid) (x : Process) → MadeStands pt.kernel → KernelStands b pt l m k → takes_room (pt.view.known m p) ≡ 1 → pt.kernel.processes p ≡ Some (Alive (plain_process x)) → HasTaken k.room (length x.memory / 256)
 has_taken b pt l m k p x made h takes life =
@@ -230,8 +207,7 @@ has_taken b pt l m k p x made h takes life =
 pub may_act : (b : Boot) (pt : Point) (l : Placed) (m : ℕ) (k : KernelState) → MadeStands pt.kernel → CountsFew pt → Mirrors pt.kernel pt.view pt.addresses l → KernelStands b pt l m k → IsLawfulState k
     → (p : Pid) (x : Process) → k.records p ≡ Some (Record.Here x) → MayAct k p x
 may_act b pt l m k made counts mirrors h lawful p x is =
-    let server = not_server_by b pt l m k p (Record.Here x) (is_server p) refl h is in
-    let so = here_so b pt l m k p x mirrors h server is in
+    let so = here_so b pt l m k p x mirrors h (grind (arith, nat_tests)) is in
     search (
       (mirrors.places.process p (record x { queue = so.queue }) so.there).pid,
       of_known k p (Some (Record.Here x)) lawful is,
@@ -328,8 +304,7 @@ process_row b pt l m k i x p None mirrors h counts sent f num other server is =
 process_row b pt l m k i x p (Some (Record.Here y)) mirrors h counts sent f num other server is =
     let so = here_so b pt l m k p.to y mirrors h server is in
     let moves = (mirrors.places.process p.to (record y { queue = so.queue }) so.there).moves in
-    let few = counts.moves p.to in
-    here_row k pt y i x p p.what f.what_is f.fits so.life f.id num other (omega (arith, moves, few), sent)
+    here_row k pt y i x p p.what f.what_is f.fits so.life f.id num other (omega (arith, moves, counts.moves p.to), sent)
 process_row b pt l m k i x p (Some (Record.Forward place moves)) mirrors h counts sent f num other server is = sent
 process_row b pt l m k i x p (Some (Record.Ended y)) mirrors h counts sent f num other server is = ended_row pt i x p p.what f.what_is f.fits num other
 process_row b pt l m k i x p _ mirrors h counts sent f num other server is = tt
@@ -390,8 +365,7 @@ own_row b pt l m k i x (Some (Record.Here y)) mirrors h counts sent f num server
     let p = x.to.pid in
     let so = here_so b pt l m k p y mirrors h server is in
     let moves = (mirrors.places.process p (record y { queue = so.queue }) so.there).moves in
-    let few = counts.moves p in
-    own_here k x y p x.what f.sort num (omega (arith, moves, few)) sent
+    own_here k x y p x.what f.sort num (omega (arith, moves, counts.moves p)) sent
 own_row b pt l m k i x (Some (Record.Forward place moves)) mirrors h counts sent f num server is = sent
 own_row b pt l m k i x (Some (Record.Ended y)) mirrors h counts sent f num server is = own_ended x.to.pid x.what f.sort num
 own_row b pt l m k i x _ mirrors h counts sent f num server is = tt

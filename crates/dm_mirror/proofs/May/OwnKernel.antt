@@ -7,11 +7,11 @@ use Rattle.dm_mirror.proofs.Names.{Incoming, Of, Told, token_at, token_is, is_se
 use Rattle.dm_mirror.proofs.Names.{apart_is, inbox_is, about_same, ◌<◌, ◌||◌, [], IsSome, Chunk, Block, Nothing, IsNextPiece, restarted, block_of, chunk_of, coming, by_pieces, takes_room, own_sort, Mirrors, FitsKernel, MayLeave, MayRestart}
 use Rattle.dm_mirror.proofs.Names.{MadeStands, nat_tests, Asker, sort_of}
 use Rattle.dm_migrate.specs.Way.{moved}
-use Rattle.dm_kernel.specs.State as machine
 use Rattle.dm_mirror.proofs.May.Own.{OwnFront, has_taken, life_is}
 use Rattle.dm_mirror.proofs.Turning.{is_moving}
 use Rattle.dm_mirror.proofs.Leave.Asks.{process_same as same_process}
 use Rattle.dm_mirror.proofs.Counts.Pairs.{CountsFew}
+use Rattle.dm_kernel.specs.State as machine
 
 -- what source and destination know of a process whose message comes here
 pub record IsMoved (pt : Point) (m : ℕ) (p : Pid) (k : MessageKind) : Type 0 where
@@ -38,15 +38,13 @@ is_moved b pt m i t p run told between about first =
     let (q, k, s, d, of_q, phase) = token_is v h i t (Inbox m) told between first in
     let token = token_at v q (h.of q) k s d i phase (h.each q) in
     let kind_is : k ≡ t.kind = (let g : Some t ≡ Some (told_between q k s d) = sym told ∙ token.told in sym (ap kind_in g)) in
-    let same : q ≡ p = about_same q p (sym of_q ∙ about) in
     let known : (n : ℕ) → knows (Moves k s d (Some i)) n (v.known n q) ≡ true = λ n. sym (ap (λ f. knows f n (v.known n q)) phase) ∙ (h.each q).known n in
-    let apart : (is_between k && not (s == d)) ≡ true = apart_of v q k s d i (h.of q) phase (h.each q).apart in
     let is : IsMoved pt m q k = search (
       source_knows k s d (v.known s q) (known s),
-      destination_knows k s d (v.known d q) (apart_is (is_between k) s d apart) (known d),
+      destination_knows k s d (v.known d q) (apart_is (is_between k) s d (apart_of v q k s d i (h.of q) phase (h.each q).apart)) (known d),
       inbox_is m (sender_in k s d) (receiver_in k s d) (token.ways (Inbox m) first),
     ) in
-    subst (λ (j : MessageKind). IsMoved pt m p j) kind_is (subst (λ (r : Pid). IsMoved pt m r k) same is)
+    subst (λ (j : MessageKind). IsMoved pt m p j) kind_is (subst (λ (r : Pid). IsMoved pt m r k) (about_same q p (sym of_q ∙ about)) is)
   where
     apart_of : (v : View) (q : Pid) (k : MessageKind) (s d : ℕ) (i : MsgId) (f : Phase) → f ≡ Moves k s d (Some i) → is_apart f ≡ true → (is_between k && not (s == d)) ≡ true
     apart_of v q k s d i f e h = sym (ap is_apart e) ∙ h
@@ -58,12 +56,8 @@ frozen_at k d n e r = grind (arith, nat_tests)
 incoming_at : (k : MessageKind) (s : ℕ) (n : Known) → kind_comes k s n ≡ true → is_early k ≡ false → (from : ℕ) × (n ≡ Incoming from)
 incoming_at k s n e r = grind (arith, nat_tests)
 
--- a server never moves
-still_server : (c : Bool) → is_moving (if c then Here else Unknown) ≡ false
-still_server c = grind (arith, nat_tests)
-
 pub not_server : (b : Boot) (pt : Point) (n : ℕ) (p : Pid) (c : Bool) → is_server p ≡ c → Run b pt → is_moving (pt.view.known n p) ≡ true → is_server p ≡ false
-not_server b pt n p c e run moves = grind (arith, nat_tests, still_server)
+not_server b pt n p c e run moves = grind (arith, nat_tests)
 
 -- what its machine has of it
 pub record Leaves (pt : Point) (l : Placed) (n : ℕ) (k : KernelState) (p : Pid) : Type 0 where
@@ -142,8 +136,7 @@ destination_comes b pt l m k p c run stands h side early =
 pub whole_asks : (p : Process) (k : Option Asker) → CanMove p → IsAskOfProcess (ask_of p k)
 whole_asks p k h =
     let n : ℕ = h.lawful.size.0 in
-    let e : length p.memory ≡ 256 * n = h.lawful.size.1 in
-    let d : length p.memory / 256 ≡ n = omega (arith, e) in
+    let d : length p.memory / 256 ≡ n = omega (arith, h.lawful.size.1) in
     (omega (arith, d, h.lawful.size.2), omega (arith, d, h.lawful.size.3), h.moves, h.most)
 
 -- a process that has moved is lawful
@@ -255,8 +248,7 @@ kernel_row b pt l ks m i x (What.AllTaken pid) e h num sent =
     let d = source_leaves b pt l m (ks m) pid MessageKind.AllTaken h.run (h.nodes m h.within) t.moved refl refl in
     (frozen_is (ks m) pid d.departure (MayLeave (ks m).room) d.is (leaves_here b pt l ks m i x pid h d), sent)
 kernel_row b pt l ks m i x (What.Restart pid) e h num sent =
-    let w = What.Restart pid in
-    let t = token_of b pt l ks m i x w pid e h.run h.tokens h.front refl refl in
+    let t = token_of b pt l ks m i x (What.Restart pid) pid e h.run h.tokens h.front refl refl in
     let c = destination_comes b pt l m (ks m) pid MessageKind.Restart h.run (h.nodes m h.within) t.moved refl refl in
     let wanted = subst (λ (v : Option Arrival). Wants v Nothing) (ap (λ (n : ℕ). incoming_of ((ks n).records pid)) (home_is b pt l ks m i x h num) ∙ ap incoming_of c.is) t.carries.1 in
     incoming_is (ks m) pid c.arrival MayRestart c.is (all_come c.stands.process (l.notes pid) c.arrival c.stands.whole c.stands.pieces wanted)

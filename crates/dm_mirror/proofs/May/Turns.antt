@@ -51,16 +51,14 @@ pub record Stand (b : Boot) (pt : Point) (l : Placed) (ks : ℕ → KernelState)
   -- it has counted its kernel's own messages as the lines have
   pub sent : (ks m).sent ≡ pt.view.count m
 
-sent_few : (b : Boot) (pt : Point) (l : Placed) (ks : ℕ → KernelState) (m : ℕ) → Stand b pt l ks m → (ks m).sent < 4294967295
-sent_few b pt l ks m h = let sent = h.sent in let few = h.counts.own m in omega (arith, sent, few)
-
 pub any_handles : (b : Boot) (pt : Point) (l : Placed) (ks : ℕ → KernelState) (m : ℕ) (i : MsgId) (is : List MsgId) (x : Message) (o : Option PlainMessage) → plain_message x ≡ o → Stand b pt l ks m → pt.view.inbox m ≡ i ∷ is → l.bag i ≡ Some x → IsLawfulMessage x → MayHandle b (ks m) x
 any_handles b pt l ks m i is x None plain h box there lawful =
     own_handles b pt l ks m i x
     (record { run = h.run; made = h.made; counts = h.counts; mirrors = h.mirrors; nodes = h.nodes; tokens = h.tokens; within = h.within; front = own_front b pt l m i is x h.run h.told h.own box there plain })
-    (sent_few b pt l ks m h) lawful
+    (let sent = h.sent in let few = h.counts.own m in omega (arith, sent, few)) lawful
 any_handles b pt l ks m i is x (Some p) plain h box there lawful =
-    handles b pt l m (ks m) i x p h.run h.made h.counts h.mirrors (h.nodes m h.within) (sent_few b pt l ks m h) lawful (front_so b pt l m i is x p h.run h.mirrors box there plain)
+    handles b pt l m (ks m) i x p h.run h.made h.counts h.mirrors (h.nodes m h.within)
+    (let sent = h.sent in let few = h.counts.own m in omega (arith, sent, few)) lawful (front_so b pt l m i is x p h.run h.mirrors box there plain)
 
 front_may : (b : Boot) (pt : Point) (l : Placed) (ks : ℕ → KernelState) (m : ℕ) (ids : List MsgId) (xs : List Message) → Stand b pt l ks m → pt.view.inbox m ≡ ids → map l.bag ids ≡ map Some xs → All IsLawfulMessage xs → FrontMay b (ks m) xs
 front_may b pt l ks m ids [] h box are lawful = tt
@@ -70,10 +68,9 @@ front_may b pt l ks m (i ∷ is) (x ∷ xs) h box are lawful = any_handles b pt 
 pub may_turn : (b : Boot) (pt : Point) (l : Placed) (ks : ℕ → KernelState) (m : ℕ) → m < 16 → Stand b pt l ks m → IsLawfulState (ks m) → MayTurn b (ks m)
 may_turn b pt l ks m small h lawful =
     let stands = h.nodes m h.within in
-    let here = stands.here in
     search (
       arith,
-      here,
+      stands.here,
       small,
       may_act b pt l m (ks m) h.made h.counts h.mirrors stands lawful,
       front_may b pt l ks m (pt.view.inbox m) (ks m).inbox h refl stands.inbox lawful.inbox,

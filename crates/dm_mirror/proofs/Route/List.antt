@@ -4,15 +4,16 @@ use Rattle.dm_mirror.proofs.Names.{Boot, OneKernel, Line, Stage, Out, Spelled, g
 use Rattle.dm_mirror.proofs.Names.{routes, Acted, Acts, Goes, Worn, then_, Spoken, spoken, Placed, WorldState, History, StandsWith, AllRecords, nat_tests, Part}
 use Rattle.dm_node.proofs.Names.{behind}
 use Rattle.dm_rule.specs.Parts as rule
-use Rattle.dm_mirror.proofs.Turning.{Route, First, On, Own, AllMayPut, Late, Nothing, Leaves, LateMay, LateTopic, MayPut, late_owns, late_parts, late_point, late_rule_parts, message_of, owns, part_of, rule_part_of}
+use Rattle.dm_mirror.proofs.Turning.{Route, First, Own, AllMayPut, Late, Nothing, Leaves, LateMay, LateTopic, MayPut, late_owns, late_parts, late_point, late_rule_parts, message_of, owns, part_of, rule_part_of}
 use Rattle.dm_mirror.proofs.Puts.{spoken-append, spoken_then}
 use Rattle.dm_mirror.proofs.Giving.{same_records}
 use Rattle.dm_mirror.proofs.Routing.{Ready, route_goes, worn_first, worn_past}
-use Rattle.dm_mirror.proofs.Route.Parts.{Next, all_grow, count_here, count_off, next_of, all_may_on, late_may_on, same_end, end_fits, end_there}
+use Rattle.dm_mirror.proofs.Route.Parts.{Next, count_here, count_off, next_of, all_may_on, late_may_on, same_end, end_fits, end_there}
 use Rattle.dm_mirror.proofs.Route.Puts.{after_route, RouteOn, RouteWorn, with_acted, late_end, late_lines, late_pair, late_part, late_topic}
 use Rattle.dm_mirror.proofs.Streams.{at_again, at_here, at_same}
 use Rattle.dm_mirror.proofs.Join.{lines_put, part_is, put_end, put_leads}
 use Rattle.dm_mirror.proofs.Turning as turning
+use Rattle.dm_mirror.proofs.Route.Parts.{all_grow}
 
 -- all messages are lawful
 abbrev pub AreLawful : List Route → Type 0
@@ -196,11 +197,7 @@ module _ (b : Boot) (w : WorldState) (q : Point) (l : Placed) (h : History) (m :
       topic = late_topic q late m x.to.at x on.home on.out g.topic;
       due = ap (λ (p : Point). spelled p parts) (next_is on.home on.out on.part) ∙ n.on;
       within = λ i z st. subst (λ (p : Point). machine_of z < p.kernel.machines) (sym end_point) (g.within i z (subst (λ (p : Point). 1 ≤ standing p.view i z) end_point st));
-      sent =
-          let e : (w.nodes m).kernel.sent ≡ q.view.count m + ((turning.is_own r + owns rs) + late_owns late) = g.sent in
-          let f : (world.nodes m).kernel.sent ≡ (w.nodes m).kernel.sent = ap (λ (k : NodeState). k.kernel.sent) node_is ∙ on.sent in
-          let c = count_m in
-          omega (arith, e, f, c);
+      sent = omega (arith, g.sent, ap (λ (k : NodeState). k.kernel.sent) node_is ∙ on.sent, count_m);
     }
 
     whole_lines : lines_put q m x.to.at x on.home on.out ++ n.rest.lines ≡ v.lines
@@ -231,10 +228,7 @@ module _ (b : Boot) (w : WorldState) (q : Point) (l : Placed) (h : History) (m :
     )
 
     rest_goes : RoutesGo b world after_one m rs late n.rest → RoutesGo b w q m (r ∷ rs) late v
-    rest_goes k = elim k as (λ z. RoutesGo b w q m (r ∷ rs) late v) [
-      | inl on_ ↦ inl (goes_on on_)
-      | inr worn ↦ inr (wears_on worn)
-    ]
+    rest_goes k = elim k as (λ z. RoutesGo b w q m (r ∷ rs) late v) [ inl on_ ↦ inl (goes_on on_) | inr worn ↦ inr (wears_on worn) ]
 
   -- it doesn't: its pair is full
   wears : RouteWorn b w Q m r → RoutesWorn b w q m (r ∷ rs) late v

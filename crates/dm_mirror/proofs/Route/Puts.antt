@@ -9,10 +9,10 @@ use Rattle.dm_mirror.proofs.Names.{taken_of_home, Known, Unknown, Here, Frozen, 
 use Rattle.dm_mirror.proofs.Names.{coming}
 use Rattle.dm_places.specs.PlacedStep.{with_message}
 pub use Rattle.dm_rulelaws.proofs.Based.Queues.{told_kept as told_stays}
-use Rattle.dm_kernel.specs.State as machine
-use Rattle.dm_rule.specs.Parts as rule
 use Rattle.dm_mirror.proofs.Turning.{Route, First, On, Own, MayOwn, MayPut, IsCarried, message_of, rule_part_of, Late, Nothing, Leaves, LateTopic, late_point}
 use Rattle.dm_mirror.proofs.Join.{IsPlain, line_put, plain_of, put_point, lines_put, put_end}
+use Rattle.dm_kernel.specs.State as machine
+use Rattle.dm_rule.specs.Parts as rule
 use Rattle.dm_mirror.proofs.Turning as turning
 
 pub record CoreStands (b : Boot) (w : WorldState) (pt : Point) (l : Placed) (h : History) : Type 0 where
@@ -113,11 +113,9 @@ bag_here l x = ap (λ (c : Bool). if c then Some x else l.bag x.id) (id_eq-same 
 bag_off : (l : Placed) (x : Message) (i : MsgId) → id_eq x.id i ≡ false → (with_message l x.id (Some x)).bag i ≡ l.bag i
 bag_off l x i e = ap (λ (c : Bool). if c then Some x else l.bag i) e
 
-bag_kept : (l : Placed) (x : Message) → l.bag x.id ≡ None → (i : MsgId) (y : Message) → l.bag i ≡ Some y → (with_message l x.id (Some x)).bag i ≡ Some y
-bag_kept l x none i y e = grind (arith, nat_tests, id_eq-is, bag_off)
-
 pub route_more : (pt : Point) (l : Placed) (records : AllRecords) (r : Route) → MayPut pt l records r → MoreBag l (after_route l r)
-route_more pt l records (Own x) may = record { bag = bag_kept l x may.bag; processes = λ p. refl; notes = λ p. refl; board = refl; manager = refl }
+route_more pt l records (Own x) may =
+    record { bag = λ i y e. grind (arith, nat_tests, id_eq-is, bag_off, may.bag); processes = λ p. refl; notes = λ p. refl; board = refl; manager = refl }
 route_more pt l records _ may = record { bag = λ i x e. e; processes = λ p. refl; notes = λ p. refl; board = refl; manager = refl }
 
 pub route_there : (pt : Point) (l : Placed) (records : AllRecords) (r : Route) → MayPut pt l records r → (after_route l r).bag (message_of r).id ≡ Some (message_of r)

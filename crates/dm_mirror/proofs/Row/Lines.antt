@@ -8,20 +8,16 @@ use Rattle.dm_rule.proofs.Lines.{parts}
 use Rattle.dm_rulelaws.specs.KnownStands.{KnownStands}
 use Rattle.dm_rulelaws.proofs.Based.Groups.{begins}
 use Rattle.dm_rulelaws.proofs.Based.Rows.{turned}
+use Rattle.dm_mirror.proofs.Turning.{is_still, are_still, rule_routed}
 use Rattle.dm_rule.specs.View as view
 use Rattle.dm_rule.specs.Rule as rule
-use Rattle.dm_mirror.proofs.Turning.{is_still, are_still, rule_routed}
-
--- a list without a message has no message more often
-fewer_if : (j : MsgId) (x : MsgId) (xs ys : List MsgId) (c : Bool) → times j ys ≤ times j xs → times j (if c then xs else x ∷ ys) ≤ times j (x ∷ xs)
-fewer_if j x xs ys c h = grind (arith, nat_tests)
 
 front_fewer : (i j : MsgId) (xs : List MsgId) → times j (without_front i xs) ≤ times j xs
-front_fewer i j xs = grind (arith, nat_tests, fewer_if)
+front_fewer i j xs = grind (arith, nat_tests)
 
 id_fewer : (i j : MsgId) (xs : List MsgId) → times j (without_id i xs) ≤ times j xs
 id_fewer i j [] = omega arith
-id_fewer i j (x ∷ xs) = fewer_if j x xs (without_id i xs) (id_eq i x) (id_fewer i j xs)
+id_fewer i j (x ∷ xs) = grind (arith, nat_tests, (id_fewer i j xs))
 
 -- no message stands more often
 abbrev Fewer : View → View → Type 0
@@ -90,9 +86,6 @@ told_asked v o = grind (arith, nat_tests, kills_asked)
 dropped_asked : (v : View) (id : MsgId) (o : Option Pid) → (dropped_for v id o).asked ≡ v.asked
 dropped_asked v id o = grind (arith, nat_tests)
 
-label_asked : (v : View) (e : Label) → (after_label v e).asked ≡ v.asked
-label_asked v e = grind (arith, nat_tests, dropped_asked, told_asked)
-
 pub record StillKeeps (v w : View) : Type 0 where
   pub asked : w.asked ≡ v.asked
   pub stood : (i : MsgId) (z : Spot) → is_kernels i ≡ true → 1 ≤ standing w i z → 1 ≤ standing v i z
@@ -111,7 +104,7 @@ queued_keeps pt id (Some t) e need = record {
 }
 
 line_keeps : (pt : Point) (l : Line) → is_still l ≡ true → Needs pt l → StillKeeps pt.view (view_after pt.view l)
-line_keeps pt (Line.Label e) still need = fewer_keeps pt.view (after_label pt.view e) (label_asked pt.view e) (label_fewer pt.view e)
+line_keeps pt (Line.Label e) still need = fewer_keeps pt.view (after_label pt.view e) (grind (arith, nat_tests, dropped_asked)) (label_fewer pt.view e)
 line_keeps pt (Line.Queued id) still need =
     let v = handled pt.view id in
     still_on pt.view v (view_after pt.view (Line.Queued id)) (fewer_keeps pt.view v refl (handled_fewer pt.view id)) (queued_keeps pt id (pt.view.told id) refl need)
@@ -158,31 +151,7 @@ loud_of None h = tt
 loud_of (Some ps) h = h ps refl
 
 pub hears_loud : (b : Boot) (pt : Point) (m : ℕ) (id : MsgId) (o : Option Told) → LoudOf (rule.hears b pt m id o)
-hears_loud b pt m id o = loud_of (rule.hears b pt m id o) (λ ps. by_hears Loud b pt m id o ps (λ t is. record {
-  told = λ p x about alive. record {
-    accepted = λ ask. refl;
-    lacks = λ slots blocks. refl;
-    stays = λ kind none. refl;
-    stays_asked = λ kind n asked. refl;
-    state = refl;
-    next_chunk = refl;
-    last_chunk = refl;
-    memory = refl;
-    next_block = refl;
-    last_block = refl;
-    left = λ ids to frozen. refl;
-    restarted = λ kind none. refl;
-    restarted_asked = λ kind n asked. refl;
-  };
-  updated = λ kind. refl;
-  updated_none = λ kind at_. refl;
-  no_move = λ at_. refl;
-  leaving = λ to at_. refl;
-  coming = λ from at_. refl;
-  forwarded = λ to moves at_. refl;
-  stays_here = λ at_. refl;
-  frozen = λ to at_. refl;
-}))
+hears_loud b pt m id o = loud_of (rule.hears b pt m id o) (λ ps. by_hears Loud b pt m id o ps (λ t is. search))
 
 -- a row that says only still lines, and may route a message
 abbrev pub still_parts : List Line → Option Message → List Part

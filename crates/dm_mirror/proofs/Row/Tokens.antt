@@ -3,13 +3,13 @@ use Rattle.dm_mirror.proofs.Names.{◌≡◌, ℕ, ◌≤◌, ◌==◌, ◌&&◌
 use Rattle.dm_mirror.proofs.Names.{plain_what, with_what, Process, incoming_of, Arrival, Phase, Moves, kind_comes, is_apart, is_away, is_between, is_early, tells_onward, is_restart, knows, kind_leaves, receiver_in, sender_in, told_between}
 use Rattle.dm_mirror.proofs.Names.{Point, Spot, standing, View, Known, Of, Told, is_kernels, InPhases, token_is, token_at, Placed, AllOwnStand, told_of, AllRecords, Carries, TokenStands, TokensStand, destination_of, left_true, right_true}
 use Rattle.dm_mirror.proofs.Names.{List, [], ◌∷◌, ◌++◌, map, inl, inr, arith, eqb_tells, Boot, at_machine, Run, KernelState, nat_tests, Part, Asker, sort_of}
-use Rattle.dm_kernel.specs.State as machine
-use Rattle.dm_rule.specs.Parts as rule
-use Rattle.dm_mirror.proofs.Turning.{has_process, is_moving, AllMayPut, First, IsSent, Nothing, Route, Row, TurnsAt, begun, owns, part_of, routed, rule_part_of, rule_routed}
+use Rattle.dm_mirror.proofs.Turning.{is_moving, AllMayPut, First, IsSent, Nothing, Route, Row, TurnsAt, begun, owns, part_of, routed, rule_part_of, rule_routed}
 use Rattle.dm_mirror.proofs.Kernel.Sets.{eq_self, not_is, off_if, on_if, eq_apart}
 use Rattle.dm_mirror.proofs.Row.Lines.{StillKeeps, still_keeps, row_walks}
 use Rattle.dm_mirror.proofs.Serve.Stops.{nothing_more}
 use Rattle.dm_mirror.proofs.Serve.Receives.{Ready, serve_row}
+use Rattle.dm_kernel.specs.State as machine
+use Rattle.dm_rule.specs.Parts as rule
 
 -- what a message of a migration carries has no plain meaning
 pub carries_plain : (p : Pid) (x : Process) (k : Option Asker) (n : ℕ) (a : Option Arrival) (w : What) → Carries p x k n a w → plain_what w ≡ None

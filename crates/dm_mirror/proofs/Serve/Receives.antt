@@ -21,7 +21,6 @@ use Rattle.dm_mirror.proofs.Kernel.Sets.{kernel_sets, kernel_out, placed_sets, p
 use Rattle.dm_mirror.proofs.Serve.Runs.{Found, found, here_of, in_ring, first_runs, first_same}
 use Rattle.dm_mirror.proofs.Serving.{Served, Acts, acts_as, moved_round, served_goes, is_for, queue_alone}
 use Rattle.dm_mirror.proofs.Turning.{Elsewhere, Row, begun, is_moving}
-use Rattle.dm_mirror.proofs.Rooms.{taken_same}
 use Rattle.dm_mirror.proofs.Serve.Executes.{executes_acts}
 use Rattle.dm_mirror.proofs.Follow.Updates.{rests_away as away_of}
 
@@ -120,8 +119,7 @@ receive_row b m pt l k p x mask base size w code channel body links None s lawfu
     let none : times id (without_id id ids) ≡ 0 = gone_from id ids (let one : times id ids ≡ 1 = right_one id (pt.kernel.bag id) come.u (standing pt.view id) (Queue m p) come.there f.stands (s.kept id) in omega (arith, one)) in
     let messages : AreMessages on.bag (next.view.queue m p) z.queue =
     subst (λ (js : List MsgId). AreMessages on.bag js z.queue) (sym queue)
-    (messages_on l.bag on.bag (without_id id ids) z.queue (λ i least. off_if (id_eq id i) None (l.bag i) (apart i (without_id id ids) none least)) f.rest)
-    in
+    (messages_on l.bag on.bag (without_id id ids) z.queue (λ i least. off_if (id_eq id i) None (l.bag i) (apart i (without_id id ids) none least)) f.rest) in
     let reach : base + size ≤ length x.memory = subst (IsLawfulStatus (length x.memory)) waits lawful.status in
     let short : length body ≤ size = grind (arith, nat_tests) in
     acts_as b m pt l k p (serve.receives (moved_round k p) p x mask (Some w)) (turned (with_here (moved_round k p) p z) (machine.says (Label.Receive p id) ∷ [])) (rule.reception_parts pt.kernel p (plain_process x) (Some id)) (Some (rule.says (Label.Receive p id) ∷ []))
@@ -205,9 +203,8 @@ record Runnable (records : Pid → Option machine.KernelKnown) (ps : List Pid) (
 first_if : (records : Pid → Option machine.KernelKnown) (q : Pid) (qs : List Pid) (p : Pid) (c : Bool) → turn.known_is_runnable (records q) ≡ c → (if c then Some q else turn.first_runnable records qs) ≡ Some p → (turn.first_runnable records qs ≡ Some p → Runnable records qs p)
     → Runnable records (q ∷ qs) p
 first_if records q qs p true e f more =
-    let k : q ≡ p = cc in
     let g : rings q (q ∷ qs) ≡ 1 + rings q qs = ap (λ (c : Bool). (if c then 1 else 0) + rings q qs) (pid_eq-same q) in
-    subst (Runnable records (q ∷ qs)) k (record { stands = omega (arith, g); goes = e })
+    subst (Runnable records (q ∷ qs)) (cc) (record { stands = omega (arith, g); goes = e })
 first_if records q qs p false e f more =
     let h = more f in
     record { stands = (let least = h.stands in let all : rings p qs ≤ rings p (q ∷ qs) = omega arith in omega (arith, least, all)); goes = h.goes }

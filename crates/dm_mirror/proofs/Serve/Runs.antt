@@ -6,6 +6,9 @@ use Rattle.dm_mirror.proofs.Names.{with_queue, KernelState, AreMessages, KnownSt
 use Rattle.dm_mirror.proofs.Names.{Droppable, droppable_on, dropped_is, Mirrors, user_dropped, Part, option_map_or, drop}
 use Rattle.dm_onekernel.specs.Kernel.{Ended}
 use Rattle.dm_places.specs.PlacedStep.{without_message}
+use Rattle.dm_mirror.proofs.Kernel.Sets.{times_self, times_more, ViewLeaves, Leaves, view_leaves_on, leaves_on, view_same, view_queue, view_not_handled, kernel_same, kernel_out, placed_same, placed_out, not_own_there, label_mirrors}
+use Rattle.dm_mirror.proofs.Kernel.Sets.{after_label}
+use Rattle.dm_mirror.proofs.Turning.{are_still}
 use Rattle.dm_onekernel.specs.Step as kernel
 use Rattle.dm_rule.specs.Rule as rule
 use Rattle.dm_rule.specs.View as view
@@ -15,9 +18,6 @@ use Rattle.dm_kernel.specs.Serve as serve
 use Rattle.dm_kernel.specs.Turn as turn
 use Rattle.dm_onekernel.specs.Service as service
 use Rattle.dm_rule.specs.Parts as rule_part
-use Rattle.dm_mirror.proofs.Kernel.Sets.{times_self, times_more, ViewLeaves, Leaves, view_leaves_on, leaves_on, view_same, view_queue, view_not_handled, kernel_same, kernel_out, placed_same, placed_out, not_own_there, label_mirrors}
-use Rattle.dm_mirror.proofs.Kernel.Sets.{after_label}
-use Rattle.dm_mirror.proofs.Turning.{are_still}
 
 -- a message is awaited without its places where it is on the mask with them
 awaited_what : (mask : ℕ) (m : Message) (w : What) → rule.is_awaited mask (with_what m (plain_what w)) ≡ what_is_on mask w
@@ -104,14 +104,11 @@ pub record IsHere (pt : Point) (l : Placed) (m : ℕ) (k : KernelState) (p : Pid
 
 here_at : (pt : Point) (l : Placed) (m : ℕ) (k : KernelState) (p : Pid) (z : PlainProcess) (r : Option machine.KernelKnown) → k.records p ≡ r → pt.view.known m p ≡ view.Here → KnownStands pt l p (pt.view.queue m p) (pt.view.held m p) view.Here r
     → MirrorsKernel pt.kernel l → pt.kernel.processes p ≡ Some (Alive z) → IsHere pt l m k p z
-here_at pt l m k p z (Some (Record.Here x)) e known h mirrors alive =
-    let f : Some z ≡ Some (plain_process x) = sym (ap kernel.alive alive) ∙ mirrors.processes p ∙ ap (option_map plain_process) h.0.1 in
-    record { x = x; record_is = e; queue = h.0.0; there = h.0.1; messages = h.1; plain = cc; known = known }
+here_at pt l m k p z (Some (Record.Here x)) e known h mirrors alive = grind (arith, nat_tests, h.0.1, h.0.0, h.1)
 here_at pt l m k p z r e known h mirrors alive = absurd h
 
 pub here_of : (b : Boot) (pt : Point) (l : Placed) (m : ℕ) (k : KernelState) (p : Pid) (z : PlainProcess) → KernelStands b pt l m k → MirrorsKernel pt.kernel l → pt.view.known m p ≡ view.Here → is_server p ≡ false → pt.kernel.processes p ≡ Some (Alive z) → IsHere pt l m k p z
-here_of b pt l m k p z h mirrors here server alive =
-    here_at pt l m k p z (k.records p) refl here (subst (λ (w : view.Known). KnownStands pt l p (pt.view.queue m p) (pt.view.held m p) w (k.records p)) here (h.known p server)) mirrors alive
+here_of b pt l m k p z h mirrors here server alive = grind (arith, nat_tests, here_at, k.records, pt.view.queue, pt.view.held, h.known)
 
 -- it can be served by the rule where it can by the machine
 some_same : (o : Option Message) → is_some (option_map id_in o) ≡ is_some o
@@ -207,9 +204,8 @@ machine_drops l [] [] names are = refl
 machine_drops l [] (m ∷ ms) names are = cc
 machine_drops l (i ∷ is) [] names are = cc
 machine_drops l (i ∷ is) (m ∷ ms) names are =
-    let there : l.bag i ≡ Some m = cc in
     let rest : AreMessages l.bag is ms = cc in
-    λ j. machine.says (Label.Dropped (names i m there j)) ∷ machine_drops l is ms names rest j
+    λ j. machine.says (Label.Dropped ((names i m (cc)) j)) ∷ (machine_drops l is ms names rest) j
 
 -- the messages stand at no other spot
 abbrev pub AreAlone : (Spot → Bool) → View → List MsgId → Type 0

@@ -132,11 +132,10 @@ fresh_message b m pt l k p x y c n w z s step next =
     let (v, sent, pending, counted) = g.counts in
     let from : w.id.from ≡ p = ap (λ (i : MsgId). i.from) counted.id in
     let number : w.id.n ≡ v.sent = ap (λ (i : MsgId). i.n) counted.id in
-    let off : counts t w.id ≡ false = grind (arith, nat_tests, counts_process, not_server) in
     let made : nat_le 3 p.num ≡ true = s.sound.made.least p (ap is_some s.at.alive) in
     let num : w.id.from.num ≡ p.num = ap (λ (q : Pid). q.num) from in
     record {
-      none = not_counted (λ i. s.r i + _) (λ i. s.e i + _) t w.id off a.sound.entered;
+      none = not_counted (λ i. s.r i + _) (λ i. s.e i + _) t w.id (grind (arith, nat_tests, counts_process, not_server)) a.sound.entered;
       own = (let e : (w.id.from.num == 0) ≡ false = grind (arith, nat_tests) in ap (λ (d : Bool). d && not w.id.answer) e);
     }
 

@@ -1,6 +1,6 @@
 -- The answer to a request to move follows at once on a line that is its cause.
 use Rattle.dm_movelaws.proofs.Names.{◌≡◌, Bool, true, false, List, [], ◌∷◌, ◌++◌, length, refl, ap, ◌∙◌, sym, subst, inl, inr, cases_Bool, false≢true, if◌then◌else◌, Option, None, Some, Pid, pid_eq, pid_eq-is, MsgId, Outcome, MoveNote}
-use Rattle.dm_movelaws.proofs.Names.{PlainMessage, Boot, IsValid, Label, Line, Step, Told, View, Point, first_point, Part, Says, Routes, Spelled, spelled, group_of, group_is, answers_move, LeadsBy, Both, both_start, both_group, run_start}
+use Rattle.dm_movelaws.proofs.Names.{PlainMessage, Boot, IsValid, Label, Line, Step, Told, View, Point, Part, Says, Routes, Spelled, spelled, group_of, group_is, answers_move, LeadsBy, Both, both_start, both_group, run_start}
 use Rattle.dm_movelaws.proofs.Names.{run_group, Run, begun, receiver_of, append_assoc, answer_id, AnswersHaveCauses, HasCause, IsCause, is_answer_by, letter_of, act_of}
 use Rattle.dm_movelaws.proofs.Leading.{All, AllLines, Saying, parts_say, next_of}
 use Rattle.dm_movelaws.proofs.Ends.Sources.{Sources, group_acts}
@@ -9,6 +9,7 @@ use Rattle.dm_movelaws.proofs.Open.Stays.{Lies, First, Later, lies, none_there}
 use Rattle.dm_movelaws.proofs.Ends.Parts.{Extends}
 use Rattle.dm_movelaws.proofs.Ends.Groups.{unmarked_answer}
 use Rattle.dm_movelaws.proofs.Asked.Following.{Row, Plain, Ends, IsHere, Leaves, AllUnmarked, EndLine, outcome_row, plain_notes, ends_notes, here_notes, here_gone, leaves_notes}
+use Rattle.dm_movelaws.proofs.Names.{arith}
 
 -- lines that answer no request
 abbrev Unsaid : Line → Type 0
@@ -92,10 +93,7 @@ group_told b pt d w run ext h e =
 
 -- a line, and the lines of the parts behind it
 says_lines : (pt : Point) (l : Line) (ps : List Part) (w : Spelled) → spelled pt (Says l ∷ ps) ≡ Some w → (next : Point) × (rest : Spelled) × (spelled next ps ≡ Some rest) × ((l ∷ rest.lines) ≡ w.lines)
-says_lines pt l ps w e =
-    let n = next_of pt (Says l) ps w e in
-    let f : l ∷ [] ≡ n.steps.lines = (let g : Some (l ∷ []) ≡ Some n.steps.lines = n.steps.are in cc) in
-    (n.next, n.rest, n.more, ap (λ (ls : List Line). ls ++ n.rest.lines) f ∙ n.lines)
+says_lines pt l ps w e = search (arith, next_of)
 
 cause_is : (i : MsgId) (q : Pid) (r : Outcome) (l : Line) → EndLine q r l → IsCause i q r l
 cause_is i q Outcome.Done l e = inl e
@@ -152,10 +150,7 @@ record Behind (b : Boot) (pt end : Point) (ls : List Line) : Type 0 where
   causes : (earlier later : List Line) (i : MsgId) (o : Outcome) → ls ≡ earlier ++ Line.Label (Label.Answered i o) ∷ later → HasCause end.view.told earlier i o
 
 run_causes : (b : Boot) (es : List Step) (ls : List Line) (pt end : Point) → IsValid b → LeadsBy b pt es ls end → Both b pt → Sources (length b.machines) pt.view → NotesTold pt → Behind b pt end ls
-run_causes b [] ls pt end valid (none, at) h sources told = record {
-  grows = λ i t e. ap (λ (x : Point). x.view.told i) (sym at) ∙ e;
-  causes = λ earlier later i o split. absurd (none_there earlier later (Line.Label (Label.Answered i o)) (sym none ∙ split));
-}
+run_causes b [] ls pt end valid (none, at) h sources told = search (arith, none_there)
 run_causes b (d ∷ ds) ls pt end valid (w, rest, fit, is, split, more) h sources told =
     let next : Both b w.point = both_group run_group b pt d w valid fit is h in
     let acts = group_acts (length b.machines) b pt d w (step_for b pt d h fit) is sources in
@@ -171,8 +166,4 @@ run_causes b (d ∷ ds) ls pt end valid (w, rest, fit, is, split, more) h source
 
 -- wherever the rule leads
 pub answers_have_causes : AnswersHaveCauses
-answers_have_causes b es ls earlier later pt i o valid leads split =
-    (run_causes b es ls (first_point b) pt valid leads (both_start run_start b valid) (λ x y le. refl) (λ p n noted. absurd (none_noted n noted))).causes earlier later i o split
-  where
-    none_noted : (n : MoveNote) → None ≡ Some n → ⊥
-    none_noted n e = cc
+answers_have_causes b es ls earlier later pt i o valid leads split = search (arith, run_causes, both_start, run_start)

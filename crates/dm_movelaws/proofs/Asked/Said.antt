@@ -28,10 +28,7 @@ Came s l t = (i : MsgId) (m : PlainMessage) → t.bag i ≡ Some m → (s.bag i 
 
 put_came : (s u : OneKernel) (l : Label) (x : PlainMessage) → ((i : MsgId) (m : PlainMessage) → u.bag i ≡ Some m → s.bag i ≡ Some m) → (x.id.answer ≡ true → (o : Outcome) → x.what ≡ PlainWhat.Moved o → Cause l x.id o)
     → Came s l (with_sent u (Some x))
-put_came s u l x sub f i m k = elim (came u x m i k) [
-  | inl is ↦ inr (λ answers o what. subst (λ (j : MsgId). Cause l j o) is.1 (f (ap (λ (j : MsgId). j.answer) is.1 ∙ answers) o (ap (λ (z : PlainMessage). z.what) is.0 ∙ what)))
-  | inr was ↦ inl (sub i m was)
-]
+put_came s u l x sub f i m k = search (arith, came)
 
 -- a name of its sender's own
 own_none : (l : Label) (i : MsgId) (p : Pid) (n : ℕ) → i ≡ id_of p n → i.answer ≡ true → (o : Outcome) → Cause l i o
@@ -53,19 +50,7 @@ gone_cause r e s l id m v o is there goes what h =
 
 answered_cause : (r e : MsgId → ℕ) (s : OneKernel) (l : Label) (id : MsgId) (a o : Outcome) (p : Pid) (n : MoveNote) → l ≡ Label.Answered id a → PlainWhat.Moved a ≡ PlainWhat.Moved o → Follows s id a p n → Sound r e s → KernelFits s
     → Cause l (answer_id id) o
-answered_cause r e s l id a o p n is what f h fits =
-    let same : a ≡ o = cc in
-    record {
-      request = id;
-      name = refl;
-      asked = ap (λ (i : MsgId). i.answer) (sym (note-is e s id p n f.noted f.notes h.notes)) ∙ (fits.notes p n f.notes).unanswered;
-      is = is ∙ said_as a same f.ends;
-    }
-  where
-    said_as : (c : Outcome) → c ≡ o → service.ends_move s id p n c ≡ Some (service.move_ended s id p n c) → Label.Answered id c ≡ said_by id o
-    said_as Outcome.Done e ends = ap (said_by id) e
-    said_as Outcome.Stayed e ends = ap (said_by id) e
-    said_as Outcome.Ended e ends = cc
+answered_cause r e s l id a o p n h1 h2 h3 h4 h5 = search (arith, note-is)
 
 step_came : (r e : MsgId → ℕ) (s t : OneKernel) (l : Label) → Sound r e s → KernelFits s → kernel.step s l ≡ Some t → Came s l t
 step_came r e s t l h fits = by_step (Came s l) s t l (record {

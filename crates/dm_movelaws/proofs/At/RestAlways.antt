@@ -1,7 +1,7 @@
 -- Where nothing is on its way between machines all is at rest.
 use Rattle.dm_movelaws.proofs.Names.{◌≡◌, ◌≢◌, ℕ, ◌<◌, ◌≤◌, ◌||◌, Bool, true, false, is_some, List, [], ◌∷◌, drop, refl, ap, ◌∙◌, sym, subst, inl, inr, nat_lt, arith, if◌then◌else◌, drop-length, drop-nil, cases_Bool, false≢true, nat_tests}
 use Rattle.dm_movelaws.proofs.Names.{Option, None, Some, Pid, pid_eq, MsgId, MessageKind, PlainMessage, Boot, manager, Alive, PlainProcess, id_eq-same, not_server, Receiver, to_of, Phase, Nowhere, Rests, Over, Moves, is_unknown, is_here}
-use Rattle.dm_movelaws.proofs.Names.{is_over, is_away, is_due, IsToken, IsIn, Point, IsQuiet, Spot, Queue, Held, Inbox, Untaken, times, untaken, standing, View, Known, Unknown, Here, Ended, is_kernels, stands_right, kernels_fresh}
+use Rattle.dm_movelaws.proofs.Names.{is_away, is_due, IsToken, IsIn, Point, IsQuiet, Spot, Queue, Held, Inbox, Untaken, times, untaken, standing, View, Known, Unknown, Here, Ended, is_kernels, stands_right, kernels_fresh}
 use Rattle.dm_movelaws.proofs.Names.{phases_always, AtRestAlways, IsAt, IsWaiting, is_moving, is_server, has_no_queue, has_nothing_held, agrees, Run, run_always, told_of, eq_self, own_by, user_kind, MoveNote, machine_of}
 use Rattle.dm_movelaws.proofs.At.RestPairs.{Routed, routed_always}
 use Rattle.dm_movelaws.proofs.At.RestQueues.{Dropped, dropped_always}
@@ -86,10 +86,7 @@ waits_at b pt i x (Inbox m) h rest there one others = absurd (let f : times i (p
 waits_at b pt i x (Untaken c d) h rest there one others = absurd (let f : times i (untaken (pt.view.pair c d)) ≡ 0 = ap (times i) (rest.calm.untaken c d) in omega (arith, one, f))
 
 own_nowhere : (b : Boot) (pt : Point) (i : MsgId) (z : Spot) → Run b pt → Rest pt → is_kernels i ≡ true → standing pt.view i z ≡ 0
-own_nowhere b pt i (Queue m p) h rest own = grind (arith, nat_tests, kernels_fresh)
-own_nowhere b pt i (Held m p) h rest own = ap (times i) (rest.held m p)
-own_nowhere b pt i (Inbox m) h rest own = ap (times i) (rest.calm.inbox m)
-own_nowhere b pt i (Untaken c d) h rest own = ap (times i) (rest.calm.untaken c d)
+own_nowhere b pt i z h1 h2 h3 = search (arith, kernels_fresh)
 
 -- where a living process is
 pub is_here_is : (k : Known) → is_here k ≡ true → k ≡ Here
@@ -98,9 +95,6 @@ is_here_is k e = grind (arith, nat_tests)
 pub is_unknown_is : (k : Known) → is_unknown k ≡ true → k ≡ Unknown
 is_unknown_is k e = grind (arith, nat_tests)
 
-over_dead : (k : Known) (x : PlainProcess) → is_over k ≡ true → agrees k (Some (Alive x)) ≡ true → ⊥
-over_dead k x e f = grind (arith, nat_tests)
-
 phase_at : (v : View) (p : Pid) (x : PlainProcess) (phase : Phase) → Calm v → v.known p.home p ≢ Unknown → ((m : ℕ) → agrees (v.known m p) (Some (Alive x)) ≡ true) → IsIn v p phase → is_due phase ≡ false → IsAt v p
 phase_at v p x Nowhere h home alive is due = absurd (home (is_unknown_is (v.known p.home p) (is.known p.home)))
 phase_at v p x (Rests n) h home alive is due = record {
@@ -108,7 +102,7 @@ phase_at v p x (Rests n) h home alive is due = record {
   here = is_here_is (v.known n p) (sym (ap (λ (c : Bool). if c then is_here (v.known n p) else is_away (v.known n p)) (eq_self n)) ∙ is.known n);
   away = λ m off. sym (ap (λ (c : Bool). if c then is_here (v.known m p) else is_away (v.known m p)) off) ∙ is.known m;
 }
-phase_at v p x (Over n) h home alive is due = absurd (over_dead (v.known n p) x (sym (ap (λ (c : Bool). if c then is_over (v.known n p) else is_away (v.known n p)) (eq_self n)) ∙ is.known n) (alive n))
+phase_at v p x (Over n) h home alive is due = search (arith, v.known n p, alive n, eq_self, is.known)
 phase_at v p x (Moves k s d None) h home alive is due = absurd (false≢true (sym due))
 phase_at v p x (Moves k s d (Some id)) h home alive is due = absurd (no_token v p k s d id h is.token)
 

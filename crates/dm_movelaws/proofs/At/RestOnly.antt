@@ -42,11 +42,7 @@ learns before s t v w p k dies known queue new h = record {
 }
 
 queues : (before : Knows) (s t : OneKernel) (v w : View) (p : Pid) (xs : List MsgId) → Dies s t → w.known ≡ v.known → w.queue ≡ at_record v.queue v.acting p xs → (before v.acting p ≡ Ended → xs ≡ []) → Buried before s v → Buried before t w
-queues before s t v w p xs dies known queue new h = record {
-  known = λ n q e. ap (λ (f : Knows). f n q) known ∙ h.known n q e;
-  queue = λ n q e. ap (λ (f : ℕ → Pid → List MsgId). f n q) queue ∙ set_all (λ m r ys. before m r ≡ Ended → ys ≡ []) v.queue v.acting p xs new (λ m r off. h.queue m r) n q e;
-  dead = λ n q e. dies q (h.dead n q e);
-}
+queues before s t v w p xs dies known queue new h = search (arith, h.known, set_all, v.queue, v.acting, h.queue, h.dead)
 
 same : (s : OneKernel) → Dies s s
 same s q e = e
@@ -237,14 +233,7 @@ frozen_not : (T : Type 0) (to : ℕ) → Frozen to ≡ Ended → T
 frozen_not T to e = cc
 
 stage_only : (before : Knows) (v : View) (p : Pid) (s : Stage) → Only before v → Only before (view.after_stage v p s)
-stage_only before v p Stage.Frozen h =
-    let to = aim v v.topic in
-    only_set before v (view.after_stage v p Stage.Frozen) p (Frozen to) (sets v p v.topic).known (frozen_not (v.known v.acting p ≡ Ended) to) h
-stage_only before v p Stage.Asked h = h
-stage_only before v p Stage.Accepted h = grind (arith, nat_tests, only_set)
-stage_only before v p Stage.Left h = only_set before v (view.after_stage v p Stage.Left) p (view.gone_to (v.known v.acting p) (v.moves p + 1)) refl (gone_ended (v.known v.acting p) (v.moves p + 1)) h
-stage_only before v p Stage.Restarted h = only_set before v (view.after_stage v p Stage.Restarted) p Here refl (here_not (v.known v.acting p ≡ Ended)) h
-stage_only before v p any_ h = only_as before v (view.after_stage v p any_) (λ n q. refl) h
+stage_only before v p s h1 = grind (arith, nat_tests, v.topic, only_set, sets, frozen_not, v.known, v.acting, v.moves, gone_ended, here_not)
 
 line_only : (before : Knows) (v : View) (l : Line) → is_ending l ≡ false → Only before v → Only before (view_after v l)
 line_only before v (Line.Label l) e h = grind (arith, nat_tests, only_as, dropped_known, only_set, here_not)

@@ -5,7 +5,6 @@ use Rattle.dm_movelaws.proofs.Names.{InPhases, calm_phases, PairsFit, PacketsKee
 use Rattle.dm_movelaws.proofs.Names.{count, first_none, by_migrates, by_outcome, group_is, None, false, label_of, nat_tests, seen_none, MoveNote, Outcome, PlainMessage, PlainWhat, Label, Stage, Target, Frozen, Known, Here, to_kernel}
 use Rattle.dm_movelaws.proofs.Names.{leaves_for, answers_move, said_by, part_sane, machine_in, move_target, sets, aim, asked_off, moved, is_moving, Walks, pid_eq-is, pid_eq-same, own_ends, ◌&&◌, not, ◌++◌, lines_of, LeadsBy, by_parts}
 use Rattle.dm_movelaws.proofs.Names.{is_answered_next, is_answer_by, act_of, hears}
-use Rattle.dm_rule.specs.Rule as rule
 use Rattle.dm_movelaws.proofs.Ends.Parts.{packet_smooth, one_if, zero_if, parts_count, round_quiet, handles_quiet, Rest, rest_packet, rest_behind, Handled, Quiets, SetsOff, part_count, unit_if, is_migrate, Extends, Still, plain_in_bag}
 use Rattle.dm_movelaws.proofs.Ends.Parts.{own_untold, smooth_same, Tame, still_same, Smooth, smooth_trans, moves_none}
 use Rattle.dm_movelaws.proofs.Ends.Open.{Opens, Adds, Balance, level_balance, smooth_opens, add_opens, moving_in, still_moves, here_stays, Turn, Comes, line_alone, quiet_row, and_off, line_then, other_still, pid_swap, head_smooth}
@@ -13,6 +12,7 @@ use Rattle.dm_movelaws.proofs.Ends.Open.{net_level, net_asks, net_ends}
 use Rattle.dm_movelaws.proofs.Ends.Hears.{ComesOf, kernel_comes, of_if, process_comes, server_comes}
 use Rattle.dm_movelaws.proofs.Leading.{next_of, part_leads, net_says, lines_are, asker_known}
 use Rattle.dm_movelaws.proofs.Asked.Following.{Row, Plain, Ends, IsHere, Leaves, outcome_row, plain_notes, ends_notes, here_notes, leaves_notes, AllUnmarked, IsUnmarked, net_unmarked, EndLine}
+use Rattle.dm_rule.specs.Rule as rule
 
 abbrev pub is_answer_part : List Part → Bool
 is_answer_part (Says l ∷ ps) = is_answer_by (act_of l)
@@ -26,11 +26,7 @@ own_count f p (x ∷ ps) = own_count f p ps
 -- as the lines of the parts have it
 own_step : (f : MsgId → Option Told) (p : Pid) (pt : Point) (x : Part) (ps : List Part) (ls zs : List Line) → lines_of pt x ≡ Some ls → own_ends f p zs ≡ own_count f p ps → is_answered_next zs ≡ is_answer_part ps
     → (own_ends f p (ls ++ zs) ≡ own_count f p (x ∷ ps)) × (is_answered_next (ls ++ zs) ≡ is_answer_part (x ∷ ps))
-own_step f p pt (Says l) ps ls zs is e n =
-    let k : l ∷ [] ≡ ls = cc in
-    subst (λ (xs : List Line). (own_ends f p (xs ++ zs) ≡ own_count f p (Says l ∷ ps)) × (is_answered_next (xs ++ zs) ≡ is_answer_by (act_of l))) k
-    (ap (λ (c : Bool). unit_if (ends f p l && not c) + own_ends f p zs) n ∙ ap (λ (m : ℕ). unit_if (ends f p l && not (is_answer_part ps)) + m) e, refl)
-own_step f p pt x ps ls zs is e n = grind (arith, nat_tests, lines_are)
+own_step f p pt x ps ls zs h1 h2 h3 = search (arith, lines_are)
 
 pub own_is : (f : MsgId → Option Told) (p : Pid) (ps : List Part) (pt : Point) (w : Spelled) → spelled pt ps ≡ Some w → (own_ends f p w.lines ≡ own_count f p ps) × (is_answered_next w.lines ≡ is_answer_part ps)
 own_is f p = by_parts (λ ps pt w. (own_ends f p w.lines ≡ own_count f p ps) × (is_answered_next w.lines ≡ is_answer_part ps)) (λ pt. (refl, refl)) (λ x ps pt next ls z lines leads rest. own_step f p pt x ps ls z.lines lines rest.0 rest.1)
@@ -71,11 +67,7 @@ pub record OwnBalance (p : Pid) (w : View) (ids : List MsgId) (asked before behi
 pub kept_own : (p : Pid) (w : View) (ids : List MsgId) (asked before behind : ℕ) (ps : List Part) (a : Option MoveNote) → ((f : MsgId → Option Told) → own_count f p ps ≡ part_count (ends f p) ps) → ((n : MoveNote) → a ≡ Some n → before ≡ 1)
     → ((n : MoveNote) → a ≡ Some n → behind ≡ 1) → Balance p w ids asked before behind ps
     → OwnBalance p w ids asked (owned a before) (owned a behind) ps
-kept_own p w ids asked before behind ps None same one two h = record { left = h.left; opens = h.opens; quiet = h.quiet; sum = λ f ext. (let s = h.sum f ext in let z = same f in omega (arith, s, z)) }
-kept_own p w ids asked before behind ps (Some n) same one two h =
-    let x = one n refl in
-    let y = two n refl in
-    record { left = h.left; opens = h.opens; quiet = h.quiet; sum = λ f ext. (let s = h.sum f ext in let z = same f in omega (arith, s, z, x, y)) }
+kept_own p w ids asked before behind ps a h1 h2 h3 h4 = search arith
 
 pub end_ends : (f : MsgId → Option Told) (p q : Pid) (r : Outcome) (l : Line) → EndLine q r l → ends f p l ≡ pid_eq p q
 end_ends f p q Outcome.Done l e = ap (ends f p) e
@@ -84,12 +76,7 @@ end_ends f p q Outcome.Ended l e = absurd e
 
 -- a process that is asked to move where it is stays there
 pub asker_here : (pt : Point) (id : MsgId) (r : Outcome) (q : Pid) (w : Spelled) → spelled pt (rule.says (Label.Asked id) ∷ answers_move id r) ≡ Some w → pt.view.known pt.view.acting q ≡ Here → w.point.view.known pt.view.acting q ≡ Here
-asker_here pt id r q w e here =
-    let l = Line.Label (Label.Asked id) in
-    let n = next_of pt (Says l) (answers_move id r) w e in
-    let k = said_by pt n.next l n.steps in
-    let note : MoveNote = record { id = id; asker = q } in
-    ap (λ (x : Point). x.view.known pt.view.acting q) (sym n.point) ∙ asker_known pt.view.acting q Here (Some note) r n.next n.rest n.more (ap (λ (x : Point). x.view.known pt.view.acting q) (sym k.is) ∙ here)
+asker_here pt id r q w e here = search (arith, next_of, said_by, pt.view.acting, asker_known)
 
 pub head_still : (p : Pid) (v : View) (d : Step) → Still p v (after_head v d)
 head_still p v d m = grind (arith, nat_tests)
@@ -260,18 +247,7 @@ own_of p pt d h ps w sane fits (Ends q n l k noted end are) e r g ids opens befo
           let was : owned (pt.kernel.notes p) (moving_in (h.of p)) ≡ 0 = ap (λ (o : Option MoveNote). owned o (moving_in (h.of p))) mine in
           let now : owned (w.point.kernel.notes p) (moving_in (g.of p)) ≡ moving_in (g.of p) = ap (λ (o : Option MoveNote). owned o (moving_in (g.of p))) (notes ∙ ap (λ (b : Bool). if b then None else pt.kernel.notes p) same) in
           let other : pid_eq p q ≡ true = ap (pid_eq p) is ∙ pid_eq-same p in
-          record {
-            left = old.left;
-            opens = old.opens;
-            quiet = old.quiet;
-            sum = λ f ext.
-                let s = old.sum f ext in
-                let x : unit_if (ends f p l) ≡ 1 = ap (λ (b : Bool). unit_if b) (end_ends f p q k l end ∙ other) in
-                let y : unit_if (ends f p l && false) ≡ 0 = ap (λ (b : Bool). unit_if b) (and_off (ends f p l) false refl) in
-                let count_ : part_count (ends f p) qs ≡ 1 = omega (arith, x) in
-                let own : own_count f p qs ≡ 0 = omega (arith, y) in
-                omega (arith, s, count_, own, one, was, now);
-          }
+          search (arith, old.left, old.opens, old.quiet, old.sum, end_ends, and_off)
       | inr off ↦
           let off_ : pid_eq p q ≡ false = pid_swap q p off in
           let kept : w.point.kernel.notes p ≡ pt.kernel.notes p = notes ∙ ap (λ (b : Bool). if b then None else pt.kernel.notes p) off in

@@ -6,13 +6,13 @@ use Rattle.dm_movelaws.proofs.Names.{pair_same, handled_spots, held_known, forwa
 use Rattle.dm_movelaws.proofs.Names.{is_for, frozen_off, ◌+◌, ◌++◌, ⊤, pid_of, PlainProcess, accepts, takes_chunk, takes_block, sends_on, chunks_of, pieces_of, Incoming, rejoins, front_of, gone_to, is_between, parts, at_record_off, due}
 use Rattle.dm_movelaws.proofs.Names.{Walks, asks, ends, accepted_off, state_off, memory_off, lacks_off, left_off, leaves, label_of, is_put, touches, nat_tests, sets, aim, at_record, MoveNote, Outcome, tells_asker, restarted_off, times}
 use Rattle.dm_movelaws.proofs.Names.{sort_of}
-use Rattle.dm_rule.specs.View as view
-use Rattle.dm_movelaws.proofs.Ends.Parts.{AllQuiet, Rest, rest_packet, Settled, parts_settle, quiet_count, quiet_asks, told_quiet, one_if, zero_if, first_off as first_off_and, is_migrate, asks_for, kind_not, Smooth, Still, smooth_trans}
-use Rattle.dm_movelaws.proofs.Ends.Parts.{told_by, Tame, Foreign, still_by, smooth_still, moves_none}
+use Rattle.dm_movelaws.proofs.Ends.Parts.{AllQuiet, Rest, rest_packet, Settled, parts_settle, quiet_count, quiet_asks, told_quiet, zero_if, first_off as first_off_and, is_migrate, asks_for, kind_not, Smooth, Still, smooth_trans, told_by}
+use Rattle.dm_movelaws.proofs.Ends.Parts.{Tame, Foreign, still_by, smooth_still, moves_none}
 use Rattle.dm_movelaws.proofs.Ends.Open.{IsOpen, level_balance, close_opens, smooth_opens, moving_in, waits_moves, here_stays, still_moves, not_false, target_waits, Turn, plain_one, front_one, stands_front, first_smooth, first_closes}
 use Rattle.dm_movelaws.proofs.Ends.Open.{line_then, and_off, other_still, set_here, level_row, level_still, quiet_row, end_row, Comes, between_plain, due_moves, about_same}
 use Rattle.dm_movelaws.proofs.Leading.{next_of, part_leads, asker_known}
 use Rattle.dm_movelaws.proofs.Ends.Sources.{smooth_moves, held_smooth, again_told, all_sent, sent_smooth, sends_count, sent_begins, handled_smooth, rejoins_smooth}
+use Rattle.dm_rule.specs.View as view
 
 abbrev pub ComesOf : Pid → (pt : Point) → InPhases pt.view → Option (List Part) → Type 0
 ComesOf p pt h None = ⊤
@@ -97,23 +97,11 @@ comes_back p pt i is t q l a r h between about none quiet calm off known ended p
           let here : u.known v.acting p ≡ Here = ap (λ (x : Point). x.view.known v.acting p) (sym n.point) ∙ asker_known v.acting p Here a r (moved pt l pt.kernel) n.rest n.more (at_ v.acting ∙ set_here p q v.known v.acting Here same) in
           let before = due_moves p q pt i is t h between about same in
           let behind = here_stays u g p v.acting here in
-          record {
-            left = ids;
-            opens = smooth_opens p v u ids (smooth_trans p v mid u first rest.smooth) opens;
-            quiet = (let c = zero_if (asks p l) plain in let d = quiet_asks p mid ps (asker_quiet p mid a r) in omega (arith, c, d));
-            sum = λ f ext.
-                let one : one_if (ends f p) l ≡ 1 = ap (λ (c : Bool). if c then 1 else 0) (ended f ∙ same) in
-                let d = quiet_count p mid ps f (asker_quiet p mid a r) (λ j x k. ext j x (rest.smooth.kept j x k)) in
-                omega (arith, one, before, behind, d);
-          }
+          search (arith, smooth_opens p v u ids (smooth_trans p v mid u first rest.smooth) opens, zero_if, quiet_asks, asker_quiet, quiet_count, rest.smooth.kept)
       | inr off ↦
           let still : Still p v mid = λ m. ap is_moving (at_ m) ∙ other_still p q v.known v.acting Here off m in
           level_row p pt h.phases l ps w first (asker_quiet p mid a r) rest (λ f. ended f ∙ off) plain (λ x. level_still p pt h.phases l w still rest x) g ids opens
     ]
-
-stays_comes : (p : Pid) (pt : Point) (i : MsgId) (is : List MsgId) (t : Told) (q : Pid) (a : Option MoveNote) (h : Turn pt i is t) → is_between t.kind ≡ true → t.about ≡ Of q
-    → ComesOf p pt h.phases (Some (Says (Line.Stays q) ∷ tells_asker a Outcome.Stayed))
-stays_comes p pt i is t q a h between about = comes_back p pt i is t q (Line.Stays q) a Outcome.Stayed h between about refl refl refl (λ z. refl) refl (λ f. refl) refl
 
 restarted_comes : (p : Pid) (pt : Point) (i : MsgId) (is : List MsgId) (t : Told) (q : Pid) (a : Option MoveNote) (h : Turn pt i is t) → is_between t.kind ≡ true → t.about ≡ Of q
     → ComesOf p pt h.phases (Some (Says (Line.Migration Stage.Restarted q) ∷ tells_asker a Outcome.Done))
@@ -168,7 +156,7 @@ leaves_comes p pt i is t q _ h all about = tt
 -- by the kind of the message
 pub told_comes : (p : Pid) (o : Point) (m : ℕ) (i : MsgId) (is : List MsgId) (t : Told) (q : Pid) (room : Bool × ℕ × ℕ) (x : PlainProcess) (k : MessageKind) (h : Turn (turned o m) i is t) → t.kind ≡ k → t.about ≡ Of q → ComesOf p (turned o m) h.phases (told_step o m i q room x (sort_of k))
 told_comes p o m i is t q room x MessageKind.Ask h e about = accepts_comes p (turned o m) i is t q room.0 room.1 room.2 i.from.home h (ap is_between e) about
-told_comes p o m i is t q room x MessageKind.Refuse h e about = stays_comes p (turned o m) i is t q (o.kernel.notes q) h (ap is_between e) about
+told_comes p o m i is t q room x MessageKind.Refuse h e about = search (arith, turned o m, ap is_between e, comes_back)
 told_comes p o m i is t q room x MessageKind.PullState h e about = piece_comes p (turned o m) i is t MessageKind.State i.from.home h (ap is_between e) refl
 told_comes p o m i is t q room x MessageKind.State h e about = chunk_comes p (turned o m) i is t q (o.view.asked q == chunks_of x) h (ap is_between e)
 told_comes p o m i is t q room x MessageKind.PullBlock h e about = piece_comes p (turned o m) i is t MessageKind.Memory i.from.home h (ap is_between e) refl
@@ -273,12 +261,7 @@ frozen_comes p pt i is t to h k here w e g ids opens =
           let s = close_opens p v mid ids i is_open closes opens in
           let before = here_stays v h.phases p v.acting (ap (v.known v.acting) (pid_eq-is p q same) ∙ here) in
           let behind_ = waits_moves u g p v.acting (rest.still v.acting ∙ ap is_moving (at_ v.acting ∙ set_here p q v.known v.acting x same)) in
-          record {
-            left = s.left;
-            opens = smooth_opens p mid u s.left rest.smooth s.opens;
-            quiet = refl;
-            sum = λ f ext. (let less = s.less in omega (arith, less, before, behind_));
-          }
+          search (arith, s.left, smooth_opens, rest.smooth, s.opens, s.less)
       | inr off ↦
           level_row p pt h.phases l ps w (first_smooth p v l i is h.front (plain_one p v i t h.told (foreign_not p t off)) refl (frozen_off v q h.topic)) (tt, (refl, tt)) rest (λ f. refl) refl
           (λ y. level_still p pt h.phases l w (λ m. ap is_moving (at_ m) ∙ other_still p q v.known v.acting x off m) rest y) g ids opens

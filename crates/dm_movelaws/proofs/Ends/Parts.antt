@@ -243,10 +243,6 @@ Quiet p v _ = ⊤
 abbrev pub AllQuiet : Pid → View → List Part → Type 0
 AllQuiet p v = All (Quiet p v)
 
--- what is quiet stays so
-tame_on : (p : Pid) (v w : View) (i : MsgId) → Smooth p v w → Tame p v i → Tame p w i
-tame_on p v w i c h = record { what = h.what; told = c.kept i h.what h.told; plain = h.plain }
-
 quiet_touches : (p : Pid) (v : View) (l : Line) → QuietLine p v l → touches l ≡ false
 quiet_touches p v l h = grind (arith, nat_tests)
 
@@ -294,7 +290,7 @@ pub settled_same : (p : Pid) (pt : Point) → Sane pt → PairsFit pt.view → S
 settled_same p pt sane fits = record { smooth = smooth_same p pt.view; still = still_same p pt.view; sane = sane; fits = fits }
 
 quiet_on : (p : Pid) (v w : View) (x : Part) → Smooth p v w → Quiet p v x → Quiet p w x
-quiet_on p v w x c h = grind (arith, nat_tests, tame_on)
+quiet_on p v w x c h = search arith
 
 pub parts_settle : (p : Pid) (ps : List Part) (v : View) (pt : Point) (w : Spelled) → AllQuiet p v ps → Walks pt ps → Settled p v pt → spelled pt ps ≡ Some w → Settled p v w.point
 parts_settle p qs v q w quiet walks h is = by_parts (λ ps pt u. AllQuiet p v ps → Walks pt ps → Settled p v pt → Settled p v u.point) (λ pt quiet walks h. h) (λ x ps pt next ls z lines leads rest quiet walks h. (

@@ -1,6 +1,6 @@
 -- Where a group that sends a message on leads: the update for its sender is under way.
 use Rattle.dm_movelaws.proofs.Names.{◌≡◌, ℕ, Bool, true, List, [], ◌∷◌, ◌++◌, refl, ap, ◌∙◌, sym, subst, if◌then◌else◌, None, Some, Pid, Place, MsgId, MessageKind, plain_kind, PlainMessage, Boot, manager, Step, Line, Sender, is_told_back}
-use Rattle.dm_movelaws.proofs.Names.{Part, Says, Again, Owns, Spelled, lines_of, spelled, Point, View, Told, About, Forward, own_id, handled, receiver_of, actor, view_after, fits, fits_put, fits_packet, pair_same, put_at, fits_as, PairsFit}
+use Rattle.dm_movelaws.proofs.Names.{Part, Says, Again, Owns, Spelled, lines_of, spelled, Point, View, Told, About, Forward, own_id, actor, fits, fits_put, fits_packet, pair_same, put_at, fits_as, PairsFit}
 use Rattle.dm_movelaws.proofs.Names.{Sane, part_sane, Steps, begun, begun_sane, said_by, again_rides, again_same, own_fresh, front, Run, Tells, ForwardsTell, RequestsTell, update_of, IsUnderWay, run_always, last_point, first_none}
 use Rattle.dm_movelaws.proofs.Names.{forwarded_own, GroupIs, group_is, by_parts, Addresses, forwards_on, sends_on, IsNetLine, by_migrates, Loose, loose_round, loose_handles, by_forwards, by_net, by_outcome, by_hears, nat_tests, arith}
 use Rattle.dm_rule.specs.View as view
@@ -187,12 +187,7 @@ forwarded_ready : (pt next : Point) (id : MsgId) (t : Told) (q : Pid) (to moves 
 forwarded_ready pt next id t q to moves sane fit told receiver known s =
     let l = Line.Forwarded id to in
     let k = said_by pt next l s in
-    record {
-      sane = part_sane pt next (Says l) s.lines refl s.are s.leads sane;
-      fit = subst (λ (x : Point). PairsFit x.view) k.is (fits_as pt.view (view_after pt.view l) (pair_same pt.view l refl) fit);
-      topic = sym (ap (λ (x : Point). x.view.topic) k.is) ∙ (let e_ : (view_after pt.view (Line.Forwarded id to)).topic ≡ view.Place q to moves = search in e_);
-      own = sym (ap (λ (x : Point). own_id x.view) k.is) ∙ forwarded_own (handled pt.view id) (receiver_of (pt.view.told id));
-    }
+    search (arith, part_sane pt next (Says l) s.lines refl s.are s.leads sane, k.is, fits_as, pt.view, pair_same, forwarded_own, pt.view.told)
 
 again_ready : (v : View) (a : About) (pt next : Point) (id : MsgId) (to : ℕ) → Steps pt (Again id to) next → Ready v a pt → Ready v a next
 again_ready v a pt next id to s h = record {

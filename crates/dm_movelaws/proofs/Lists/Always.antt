@@ -61,10 +61,6 @@ dropped_queues : (before v : View) (i : MsgId) (o : Option Pid) → (view.droppe
 dropped_queues before v i None told h = same_queues before v (handled v i) told refl h
 dropped_queues before v i (Some p) told h = grind (arith, nat_tests, set_queue)
 
-queued_queues : (before v : View) (i : MsgId) (o : Option Told) (t : Told) → o ≡ Some t → is_server t.receiver ≡ false → (view.queued_for (handled v i) i (receiver_of o)).told ≡ v.told → NoQueues before v → NoQueues before (view.queued_for (handled v i) i (receiver_of o))
-queued_queues before v i None t is process told h = absurd (let f : None ≡ Some t = is in cc)
-queued_queues before v i (Some u) t is process told h = grind (arith, nat_tests, set_queue)
-
 label_queues : (before v : View) (l : Label) → NoQueues before v → NoQueues before (view_after v (Line.Label l))
 label_queues before v (Label.Receive p id) h = grind (arith, nat_tests, set_queue)
 label_queues before v (Label.Dropped id) h = dropped_queues before v id (receiver_of (v.told id)) (hushed v (Line.Label (Label.Dropped id)) refl).told h
@@ -76,7 +72,7 @@ quiet_queues before v l put queue h = same_queues before v (view_after v l) (hus
 
 pub line_queues : (before v : View) (l : Line) → LineOk (ForProcess before) l → NoQueues before v → NoQueues before (view_after v l)
 line_queues before v (Line.Label l) e h = label_queues before v l h
-line_queues before v (Line.Queued id) e h = queued_queues before v id (v.told id) e.what (h.told id e.what e.told) e.process (hushed v (Line.Queued id) refl).told h
+line_queues before v (Line.Queued id) e h = search (arith, e.process, set_queue)
 line_queues before v (Line.Put a b id k q) e h = record { told = λ j t f. told_kept v a b id k q j t (h.told j t f); none = h.none }
 line_queues before v (Line.SentOn p k) e h = set_queue before v (view_after v (Line.SentOn p k)) p [] refl refl (λ f. refl) h
 line_queues before v (Line.Head d) e h = quiet_queues before v (Line.Head d) refl (grind (arith, nat_tests)) h
@@ -139,7 +135,7 @@ front_process b pt m i is msg h box there process =
     record { what = t; told = told; process = ap is_server (h.based.phased.sane.tells.receiver i msg t there told) ∙ process }
 
 outcome_ok : (b : Boot) (pt : Point) (d : Step) (ps : List Part) → Run b pt → rule.outcome b pt d ≡ Some ps → AllOk (ForProcess pt.view) ps
-outcome_ok b pt d ps h is = by_outcome (λ x. AllOk (ForProcess pt.view)) b pt d ps (search (by_outcome, round_ok, handles_ok, front_process, hears_ok, nets_ok, migrates_ok)) is
+outcome_ok b pt d ps h is = by_outcome (λ x. AllOk (ForProcess pt.view)) b pt d ps (search (round_ok, handles_ok, front_process, hears_ok, nets_ok, migrates_ok)) is
 
 abbrev NoneQueued : View → Type 0
 NoneQueued v = (m : ℕ) (p : Pid) → is_server p ≡ true → v.queue m p ≡ []

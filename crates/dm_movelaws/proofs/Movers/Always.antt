@@ -2,17 +2,18 @@
 use Rattle.dm_movelaws.proofs.Names.{◌≡◌, ℕ, ◌+◌, ◌==◌, true, false, List, [], ◌∷◌, refl, ap, ◌∙◌, sym, subst, arith, Option, None, Some, nat_tests, Pid, MsgId, id_of, PlainMessage, PlainWhat, Direction, Boot, Label, PlainProcess}
 use Rattle.dm_movelaws.proofs.Names.{PlainStatus, Moving, Life, Alive, OneKernel, answer_id, is_of_memory, replay, Step, Point, labels, entry, reception, is_piece, pending_of, after_step, Sound, bind-is, piece_fits, status_awaits, WhatFits}
 use Rattle.dm_movelaws.proofs.Names.{KernelFits, based_always, both, fits_step, group_replay, Based, HasEnded, HasPiece, MoversHavePieces, Spelled, group_of, InOrder, step_constant, ◌⊎◌, Bool, length, take, drop, inl, inr, ⊤, if◌then◌else◌}
-use Rattle.dm_movelaws.proofs.Names.{PlainLink, instruction, switchboard, manager, Reply, Why, with_process, with_sent, Called, Sends, CallNumber, answer_to, first_failed, without_message, ServerSends, board_takes_lem, manager_takes_lem}
-use Rattle.dm_movelaws.proofs.Names.{lands-is, by_step, Lives, Grown, LifeGrows, stayed, came, Outcome, without_note, answers_piece, asks_piece, plain_kind, awaits}
+use Rattle.dm_movelaws.proofs.Names.{PlainLink, instruction, switchboard, manager, Reply, Why, with_process, with_sent, Called, Sends, answer_to, first_failed, without_message, ServerSends, board_takes_lem, manager_takes_lem, lands-is}
+use Rattle.dm_movelaws.proofs.Names.{by_step, Lives, Grown, LifeGrows, stayed, came, Outcome, without_note, answers_piece, asks_piece, plain_kind, awaits}
 use Rattle.dm_movelaws.specs.Movers.{Moves}
 use Rattle.dm_rule.proofs.Names.{begun}
 use Rattle.dm_onekernel.specs.Kernel.{Ended}
+use Rattle.dm_movelaws.proofs.Movers.Says.{other_end, Begins, StatusSays, Says, AllSay, still_says, fresh_says, ended_says, out_says, other_says, answer_says, Requests, request_says, set_says}
+use Rattle.dm_movelaws.proofs.After.{keeps_always}
+use Rattle.dm_rulelaws.proofs.Names.{awaits}
 use Rattle.dm_onekernel.specs.Step as kernel
 use Rattle.dm_onekernel.specs.Calls as calls
 use Rattle.dm_onekernel.specs.Pieces as pieces
 use Rattle.dm_onekernel.specs.Service as service
-use Rattle.dm_movelaws.proofs.Movers.Says.{other_end, Begins, StatusSays, Says, AllSay, still_says, fresh_says, ended_says, out_says, other_says, answer_says, Requests, request_says, set_says}
-use Rattle.dm_movelaws.proofs.After.{keeps_always}
 
 -- what a call sends: no message of a data move, or the request for its first piece
 abbrev CallSends : Pid → Called → Type 0
@@ -38,18 +39,13 @@ moves_over_sends p x l o = grind (arith, nat_tests, unless_sends)
 moves_sends : (p : Pid) (x : PlainProcess) (o : Option PlainLink) → CallSends p (calls.move_call p x o)
 moves_sends p x o = grind (arith, nat_tests, moves_over_sends)
 
-does_call_sends : (p : Pid) (x : PlainProcess) (c : CallNumber) → CallSends p (calls.does_call p x c)
-does_call_sends p x c = grind (arith, nat_tests, unless_sends, drops_sends, sends_sends, if_sends, moves_sends)
-
 -- and the next instruction
 abbrev NextSends : Pid → kernel.Trap → Type 0
 NextSends p (kernel.Calls number called) = CallSends p called
 NextSends p (kernel.Faults fault) = ⊤
 
 next_sends : (s : OneKernel) (p : Pid) (n : kernel.Trap) → kernel.next_trap s p ≡ Some n → NextSends p n
-next_sends s p n e =
-    let (x, is, row_is) = bind-is (kernel.running s p) (λ v. kernel.next_row p v (instruction v.regs v.memory)) n e in
-    grind (arith, nat_tests, does_call_sends)
+next_sends s p n e = search (arith, bind-is, unless_sends, drops_sends, sends_sends, if_sends, moves_sends)
 
 -- what a landing sends
 abbrev LandsSends : Pid → pieces.Landed → Type 0
@@ -264,12 +260,7 @@ has_piece r e s p x dir owner base own left pending alive status sound fits says
           let waits : status_awaits x.status pending m.what ≡ true = sym (ap (λ (o : Option Life). awaits o pending m.what) alive) ∙ piece_awaits s j m m.what piece (fits.messages j m there) in
           let said : StatusSays x.status pending m.sender m.what = subst (λ (o : Option Life). Says o pending m.sender m.what) alive (says j m m.sender there (grind (arith, nat_tests))) in
           let sender = (says_is x.status dir owner base own left pending m.sender m.what status said).0 in
-          record {
-            sender = sender;
-            receiver = (sound.movers.returns j m there piece).0;
-            answers = grind (arith, nat_tests, (status_fits x.status dir owner base own left pending pending m.what status waits));
-            gone = λ e. subst (HasEnded s) sender (gone j m there e);
-          };
+          (search (arith, sound.movers.returns, status_fits, x.status));
     }
 
 moves_by : (p : Pid) (x : PlainProcess) (i : MsgId) (st : PlainStatus) (w : PlainWhat) → x.status ≡ st → status_awaits st i.n w ≡ true → Moves p x (id_of p i.n)

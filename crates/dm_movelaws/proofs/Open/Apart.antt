@@ -2,7 +2,7 @@
 use Rattle.dm_movelaws.proofs.Names.{◌≡◌, ◌≢◌, ℕ, ◌+◌, ◌==◌, Bool, true, false, List, [], ◌∷◌, ◌++◌, refl, ap, ◌∙◌, sym, subst, ⊤, Option, Some, false≢true, Pid, pid_of, MsgId, MessageKind, PlainMessage, Boot, Label, Why, first_number}
 use Rattle.dm_movelaws.proofs.Names.{OneKernel, bind, bind-is, Step, Line, Spares, migrates, Part, Spelled, lines_of, spelled, Moves, knows, IsIn, Point, label_of, kernel_after, moved, after_line, after, group_of, Here, SparesPart}
 use Rattle.dm_movelaws.proofs.Names.{FirstApart, ApartOf, apart_first, turns_apart, net_apart, migrates_apart, arrives_net, resends_net, Rooted, nowhere_known, moves_away, is_fixed, IsAnothersIf, moves_known, by_parts, by_group, is_some}
-use Rattle.dm_movelaws.proofs.Names.{IsValid, start, replay, ended_stays, Phase, is_between, is_restart, kind_comes, first_point, labels, moving_stays_always, is_server, agrees, LeadsBy, after_replay, Run, run_always, mark_while, IsSpared}
+use Rattle.dm_movelaws.proofs.Names.{IsValid, start, replay, ended_stays, Phase, is_between, is_restart, kind_comes, first_point, labels, moving_stays_always, is_server, LeadsBy, after_replay, Run, run_always, mark_while, IsSpared}
 use Rattle.dm_movelaws.proofs.Names.{OpenSpares, apart_is, destination_knows, server_leaves, why_ended-is, kind_leaves, nat_tests, arith}
 use Rattle.dm_onekernel.specs.Kernel.{Ended}
 pub use Rattle.dm_rule.proofs.Apart.Groups.{kernel_same}
@@ -16,11 +16,7 @@ use Rattle.dm_movelaws.proofs.Stages.Spares.{restart_late}
 use Rattle.dm_movelaws.proofs.Open.Fine.{AnswersIf}
 
 by_server : (c r : Bool) (b : Boot) (pt : Point) (p : Pid) (k : MessageKind) (s d : ℕ) (y : Why) → is_server p ≡ c → is_restart k ≡ r → Run b pt → kind_leaves k d (pt.view.known s p) ≡ true → kind_comes k s (pt.view.known d p) ≡ true → pt.kernel.processes p ≡ Some (Ended y) → ⊥
-by_server true r b pt p k s d y server restart run leave come over = false≢true (sym (server_leaves k d (s == 0)) ∙ sym (ap (kind_leaves k d) (run.based.known.server s p server)) ∙ leave)
-by_server false true b pt p k s d y server restart run leave come over =
-    grind (arith, nat_tests, (restart_late k restart), (sym (ap (agrees (pt.view.known d p)) over) ∙ run.based.known.agree d p server))
-by_server false false b pt p k s d y server restart run leave come over =
-    grind (arith, nat_tests, (sym (ap (agrees (pt.view.known s p)) over) ∙ run.based.known.agree s p server))
+by_server c r b pt p k s d y h1 h2 h3 h4 h5 h6 = search (arith, server_leaves, restart_late, pt.view.known)
 
 pub moving_lives : (b : Boot) (pt : Point) (p : Pid) (k : MessageKind) (s d : ℕ) (id : Option MsgId) (y : Why) → Run b pt → IsIn pt.view p (Moves k s d id) → pt.kernel.processes p ≡ Some (Ended y) → ⊥
 moving_lives b pt p k s d id y run phase over =

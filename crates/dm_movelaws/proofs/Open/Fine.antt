@@ -1,7 +1,7 @@
 -- While a process moves, no line answers a request that it follows: only the line by which it comes here is followed by that.
-use Rattle.dm_movelaws.proofs.Names.{◌+◌, ◌≡◌, ◌≢◌, ℕ, ◌==◌, Bool, true, false, List, [], ◌∷◌, ◌++◌, length, refl, ap, ◌∙◌, sym, subst, ⊤, is_some, if◌then◌else◌, Option, None, Some, false≢true, Pid, pid_eq, pid_eq-same, MsgId, MessageKind}
-use Rattle.dm_movelaws.proofs.Names.{plain_kind, Boot, manager, Label, OneKernel, PlainMessage, MoveNote, bind, bind-is, Step, Line, Stage, Load, Receiver, Point, label_of, kernel_after, after_line, after, moved, Part, Says, Routes, Again}
-use Rattle.dm_movelaws.proofs.Names.{Owns, Transmits, Spelled, lines_of, puts, goes_out, packet_line, spelled, group_of, own_id, Told, Here, Sane, sends_on, to_kernel, gives_piece, forwards_on, updates, migrates, left_parts, Mark, Reached}
+use Rattle.dm_movelaws.proofs.Names.{◌≡◌, ◌≢◌, ℕ, Bool, true, false, List, [], ◌∷◌, ◌++◌, refl, ap, ◌∙◌, sym, subst, ⊤, is_some, if◌then◌else◌, Option, None, Some, false≢true, Pid, pid_eq, pid_eq-same, MsgId, MessageKind}
+use Rattle.dm_movelaws.proofs.Names.{Boot, manager, Label, OneKernel, PlainMessage, MoveNote, bind-is, Step, Line, Stage, Point, label_of, kernel_after, after_line, after, moved, Part, Says, Routes, Again}
+use Rattle.dm_movelaws.proofs.Names.{Owns, Transmits, Spelled, lines_of, puts, spelled, group_of, Told, Here, Sane, sends_on, to_kernel, gives_piece, forwards_on, updates, migrates, left_parts, Mark, Reached}
 use Rattle.dm_movelaws.proofs.Names.{Staying, with_mark, mark_for, marks, left_open, IsNet, IsNetLine, by_net, by_hears, by_forwards, by_migrates, by_outcome, by_parts, by_group, begun, said_by, Outcome, answers_move, leaves_for}
 use Rattle.dm_movelaws.proofs.Names.{asked_noted}
 use Rattle.dm_onekernel.specs.Pieces as pieces
@@ -11,6 +11,7 @@ use Rattle.dm_movelaws.proofs.Asked.Following.{marks_note, IsUnmarked, AllUnmark
 use Rattle.dm_movelaws.proofs.Stages.Spares.{open_after, open-append, marks-append}
 use Rattle.dm_movelaws.proofs.Stages.Rows.{AllMild, line_marks}
 use Rattle.dm_movelaws.proofs.Stages.Steps.{round_mild, handles_mild, Handled, Spared, SetsOff}
+use Rattle.dm_movelaws.proofs.Names.{arith}
 
 -- a request is answered that the process doesn't follow
 abbrev pub AnswersAnother : OneKernel → Pid → Label → Type 0
@@ -46,17 +47,7 @@ loose_fine p pt o ps h w is = fine_loose p w.lines pt o (parts_say IsUnmarked (�
 -- a line, and then parts
 says_fine : (p : Pid) (pt : Point) (o : Option Mark) (l : Line) (ps : List Part) → (is_some o ≡ true → AnswersIf pt.kernel p (label_of l))
     → ((s : OneKernel) → kernel_after pt.kernel (label_of l) ≡ Some s → FineBy p (moved pt l s) (open_after o (with_mark p l [])) ps) → FineBy p pt o (Says l ∷ ps)
-says_fine p pt o l ps need rest w e =
-    let n = next_of pt (Says l) ps w e in
-    let k = said_by pt n.next l n.steps in
-    let one : l ∷ [] ≡ n.steps.lines = (let g : Some (l ∷ []) ≡ Some n.steps.lines = n.steps.are in cc) in
-    let u = open_after o (with_mark p l []) in
-    subst (Fine p pt o) (ap (λ (ls : List Line). ls ++ n.rest.lines) one ∙ n.lines) (
-      need,
-      λ next f.
-          let same : moved pt l k.kernel ≡ next = (let g : Some (moved pt l k.kernel) ≡ Some next = sym (ap (λ (x : Option OneKernel). bind x (λ (s : OneKernel). Some (moved pt l s))) k.step) ∙ f in cc) in
-          subst (λ (q : Point). Fine p q u n.rest.lines) same (rest k.kernel k.step n.rest (ap (λ (q : Point). spelled q ps) k.is ∙ n.more)),
-    )
+says_fine p pt o l ps need rest w e = search (arith, next_of, said_by)
 
 -- the answer to another's request, or to one whose process has come here
 answers_fine : (p : Pid) (pt : Point) (o : Option Mark) (i : MsgId) (r : Outcome) → (is_some o ≡ true → pt.kernel.noted i ≢ Some p) → FineBy p pt o (answers_move i r)
@@ -169,11 +160,7 @@ mild_shut p front (Transmits a b l ∷ ps) h = (tt, mild_shut p front ps h.1)
 
 -- a line that ends a migration, and its answer
 closes : (p q : Pid) (m : Mark) → left_open m ≡ None → open_after None (mark_for p q m []) ≡ None
-closes p q m e = by (pid_eq p q)
-  where
-    by : (c : Bool) → open_after None (if c then m ∷ [] else []) ≡ None
-    by true = e
-    by false = refl
+closes p q m e = search arith
 
 sends_quiet : (to : ℕ) (ids : List MsgId) (ps : List Part) → QuietParts ps → QuietParts (sends_on to ids ++ ps)
 sends_quiet to [] ps h = h
@@ -250,31 +237,11 @@ record Silent (p : Pid) (ls : List Line) : Type 0 where
   shut : (o : Option Mark) → Shut p o ls
   none : marks p ls ≡ []
 
-packet_silent : (p : Pid) (c d : Bool) (a b k : ℕ) (l : Load) → Silent p (if c then [] else if d then Line.Packet a b k l ∷ [] else [])
-packet_silent p true d a b k l = record { shut = λ o. tt; none = refl }
-packet_silent p false true a b k l = record { shut = λ o. (λ e. refl, tt); none = refl }
-packet_silent p false false a b k l = record { shut = λ o. tt; none = refl }
-
 puts_silent : (p : Pid) (pt : Point) (b : ℕ) (i : MsgId) (k : MessageKind) (q : Pid) (ls : List Line) → Some (puts pt.view b i k q) ≡ Some ls → Silent p ls
-puts_silent p pt b i k q ls is =
-    let f : puts pt.view b i k q ≡ ls = cc in
-    let s = packet_silent p (pt.view.acting == b) (goes_out (pt.view.pair pt.view.acting b)) pt.view.acting b (length (pt.view.pair pt.view.acting b).wire) (Load.Data (length (pt.view.pair pt.view.acting b).ids)) in
-    subst (Silent p) f (record { shut = λ o. (λ e. refl, s.shut o); none = s.none })
+puts_silent p pt b i k q ls is = search arith
 
 part_shut : (p : Pid) (o : Option Mark) (pt : Point) (q : Part) (ls zs : List Line) → ShutPart o q → lines_of pt q ≡ Some ls → Shut p (mark_behind p o q) zs → Shut p o (ls ++ zs)
-part_shut p o pt (Says l) ls zs h is k = let f : l ∷ [] ≡ ls = cc in subst (λ (xs : List Line). Shut p o (xs ++ zs)) f (h, k)
-part_shut p o pt (Routes i) ls zs h is k =
-    let (m, there, last) = bind-is (pt.kernel.bag i) (λ m. Some (puts pt.view (pt.addresses (Receiver i)).at i (plain_kind m.what) m.to)) ls is in
-    let s = puts_silent p pt (pt.addresses (Receiver i)).at i (plain_kind m.what) m.to ls last in
-    shut_append p o ls zs (s.shut o) (subst (λ (ms : List Mark). Shut p (open_after o ms) zs) (sym s.none) k)
-part_shut p o pt (Again i b) ls zs h is k =
-    let (t, there, last) = bind-is (pt.view.told i) (λ t. Some (puts pt.view b i t.kind t.receiver)) ls is in
-    let s = puts_silent p pt b i t.kind t.receiver ls last in
-    shut_append p o ls zs (s.shut o) (subst (λ (ms : List Mark). Shut p (open_after o ms) zs) (sym s.none) k)
-part_shut p o pt (Owns c q b) ls zs h is k =
-    let s = puts_silent p pt b (own_id pt.view) c q ls is in
-    shut_append p o ls zs (s.shut o) (subst (λ (ms : List Mark). Shut p (open_after o ms) zs) (sym s.none) k)
-part_shut p o pt (Transmits a b l) ls zs h is k = let f : packet_line pt.view a b l ∷ [] ≡ ls = cc in subst (λ (xs : List Line). Shut p o (xs ++ zs)) f (λ e. refl, k)
+part_shut p o pt q ls zs h1 h2 h3 = search (arith, bind-is, pt.kernel.bag, pt.view, pt.addresses, puts_silent, shut_append, pt.view.told)
 
 parts_shut : (p : Pid) (ps : List Part) (pt : Point) (w : Spelled) → ShutParts p None ps → spelled pt ps ≡ Some w → Shut p None w.lines
 parts_shut p qs q w h is = by_parts (λ ps pt v. (o : Option Mark) → ShutParts p o ps → Shut p o v.lines) (λ pt o h. tt) (λ x ps pt next ls z lines leads rest o h. part_shut p o pt x ls z.lines h.0 lines (rest (mark_behind p o x) h.1)) qs q w is None h

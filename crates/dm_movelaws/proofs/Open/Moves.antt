@@ -1,5 +1,5 @@
 -- The open mark among the lines of a run says in what phase a process is.
-use Rattle.dm_movelaws.proofs.Names.{◌≡◌, List, [], ◌∷◌, refl, ap, ◌∙◌, sym, subst, Option, None, Some, Pid, Boot, Step, Line, Leads, Phase, Point, first_point, after, first_view, Phased, phased_start, phased_group, LeadsBy, Mark, marks}
+use Rattle.dm_movelaws.proofs.Names.{◌≡◌, List, [], ◌∷◌, refl, ap, ◌∙◌, subst, Option, None, Some, Pid, Boot, Step, Line, Leads, Phase, Point, first_point, after, first_view, Phased, phased_start, phased_group, LeadsBy, Mark, marks}
 use Rattle.dm_movelaws.proofs.Names.{left_open, open_mark, mark_while, OpenMoves, nat_tests, arith}
 use Rattle.dm_movelaws.proofs.After.{after-append, group_after}
 use Rattle.dm_movelaws.proofs.Stages.Spares.{mark_in, open_after, open-append, marks-append}
@@ -53,9 +53,4 @@ open_moves b es ls pt p valid leads =
     let h = phased_start b valid in
     let none : mark_in (h.phases.of p) ≡ None = grind (arith, nat_tests, (h.phases.each p), (none_due (first_view b) h.phases p)) in
     let o = run_open b es ls (first_point b) pt p leads h in
-    let phase = o.phased.phases.of p in (
-      phase,
-      o.phased.phases.each p,
-      none_due pt.view o.phased.phases p,
-      open_is None (marks p ls) ∙ ap (λ (x : Option Mark). open_after x (marks p ls)) (sym none) ∙ o.is ∙ mark_is phase,
-    )
+    search (arith, o.phased.phases.of, o.phased.phases.each, none_due, pt.view, o.phased.phases, open_is, o.is, mark_is)

@@ -1,5 +1,5 @@
 -- Each line between a process's step 1 and its step 8 or `stays` is another's, and leaves its plain value.
-use Rattle.dm_movelaws.proofs.Names.{◌≡◌, ℕ, true, false, List, [], ◌∷◌, ◌++◌, is_some, refl, ap, ◌∙◌, sym, subst, Option, None, Some, Pid, MsgId, MessageKind, Boot, Label, IsValid, OneKernel, bind, bind-is, Step, Line, Spelled, Phase}
+use Rattle.dm_movelaws.proofs.Names.{◌≡◌, ℕ, true, false, List, [], ◌∷◌, ◌++◌, is_some, refl, ap, ◌∙◌, sym, subst, Option, None, Some, Pid, MsgId, MessageKind, Boot, Label, IsValid, OneKernel, bind, bind-is, Step, Line, Spelled}
 use Rattle.dm_movelaws.proofs.Names.{Moves, IsIn, Point, label_of, kernel_after, moved, after_line, after, first_point, group_of, first_view, rooted, is_fixed, LeadsBy, Both, both_start, both_group, after_replay, Run, run_start, run_group}
 use Rattle.dm_movelaws.proofs.Names.{IsAnothersIf, OpenStays, Mark, marks, append_assoc, start, replay, with_label, labels, labels-append, replay-append, AllOpen, OpenKeeps, nat_tests, arith, Known, KnownIs, View, kind_leaves}
 use Rattle.dm_movelaws.proofs.After.{after-append, group_after}
@@ -61,18 +61,7 @@ resting_at : (b : Boot) (pt : Point) (d : Step) (w : Spelled) (p : Pid) (earlier
 resting_at b pt d w p earlier g l e split begun =
     let m = meets earlier g l pt w.point (ap (after pt) (sym split) ∙ group_after b pt d w e) in
     let none = shut_at p None earlier g l (subst (Shut p None) split (group_shut p b pt d w e)) begun in
-    record {
-      mid = m.mid;
-      comes = m.comes;
-      next = m.next;
-      goes = m.goes;
-      anothers = subst (IsAnothersIf m.mid.kernel p) (sym none) tt;
-      same = grind (arith, nat_tests, m.goes);
-    }
-
-group_at : (b : Boot) (pt : Point) (d : Step) (w : Spelled) (p : Pid) (phase : Phase) (earlier g : List Line) (l : Line) → Run b pt → IsIn pt.view p phase → group_of b pt d ≡ Some w → w.lines ≡ earlier ++ l ∷ g → is_some (open_after (mark_in phase) (marks p earlier)) ≡ true → At pt earlier l p
-group_at b pt d w p (Moves k s t id) earlier g l run h e split begun = moving_at b pt d w p k s t id earlier g l run h e split begun
-group_at b pt d w p _ earlier g l run h e split begun = resting_at b pt d w p earlier g l e split begun
+    search (arith, m.mid, m.comes, m.next, m.goes, m.mid.kernel)
 
 -- a line is among the first lines or among the others
 pub data Lies (xs ys earlier later : List Line) (l : Line) : Type 0 where
@@ -98,7 +87,7 @@ none_there (x ∷ earlier) later l e = cc
 
 by_lies : (b : Boot) (ds : List Step) (pt end : Point) (d : Step) (w : Spelled) (rest earlier later : List Line) (l : Line) (p : Pid) (h : Both b pt) (k : Both b w.point) → group_of b pt d ≡ Some w → is_some (open_after (mark_in (h.run.based.phased.phases.of p)) (marks p earlier)) ≡ true
     → ((between : List Line) → rest ≡ between ++ l ∷ later → is_some (open_after (mark_in (k.run.based.phased.phases.of p)) (marks p between)) ≡ true → At w.point between l p) → Lies w.lines rest earlier later l → At pt earlier l p
-by_lies b ds pt end d w rest earlier later l p h k e begun go (First g split) = group_at b pt d w p (h.run.based.phased.phases.of p) earlier g l h.run (h.run.based.phased.phases.each p) e split begun
+by_lies b ds pt end d w rest earlier later l p h k e begun go (First g split) = search (arith, moving_at, resting_at)
 by_lies b ds pt end d w rest earlier later l p h k e begun go (Later between are others) =
     let a = h.run.based.phased in
     let c = k.run.based.phased in

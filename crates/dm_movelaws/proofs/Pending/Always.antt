@@ -1,8 +1,8 @@
 -- Each step of a process or of its kernel keeps one message under each pending request's number.
 use Rattle.dm_movelaws.proofs.Names.{◌≡◌, ◌⊎◌, ℕ, ◌+◌, ◌<◌, ◌≤◌, ◌==◌, Bool, true, false, List, [], ◌∷◌, ◌++◌, length, is_some, refl, ap, ◌∙◌, subst, inl, inr, arith, if◌then◌else◌, Option, None, Some, cases_Bool, false≢true, nat_tests}
-use Rattle.dm_movelaws.proofs.Names.{Pid, PlainLink, MsgId, id_of, plain_kind, PlainMessage, PlainWhat, switchboard, manager, Boot, Label, Manager, Pending, OneKernel, with_sent, without_message, replay, entry, reception, after_step}
-use Rattle.dm_movelaws.proofs.Names.{ServerSends, board_takes_lem, manager_takes_lem, Sound, bind-is, Step, ascends, Point, View, still_pending, WhatFits, KernelFits, based_always, fits_step, group_replay, Based, is_pending, HasOne}
-use Rattle.dm_movelaws.proofs.Names.{IsOfPending, PendingHasOne, Spelled, group_of, PendingAscends, requests, Outcome, answer_id, sym, nat_lt, PendingKind, IsPending, kind_eq, asked_by, answered_by, sort_of, take, drop, pid_eq, bind}
+use Rattle.dm_movelaws.proofs.Names.{Pid, PlainLink, MsgId, id_of, plain_kind, PlainMessage, PlainWhat, manager, Boot, Label, Manager, Pending, OneKernel, with_sent, without_message, replay, entry, reception, after_step}
+use Rattle.dm_movelaws.proofs.Names.{ServerSends, manager_takes_lem, Sound, bind-is, Step, ascends, Point, View, still_pending, WhatFits, KernelFits, based_always, fits_step, group_replay, Based, is_pending, HasOne}
+use Rattle.dm_movelaws.proofs.Names.{IsOfPending, PendingHasOne, Spelled, group_of, PendingAscends, requests, Outcome, answer_id, sym, PendingKind, IsPending, asked_by, answered_by, sort_of, take, drop, pid_eq, bind}
 use Rattle.dm_movelaws.proofs.Names.{PlainProcess, Alive, answer_to, lands-is, not_server, by_step, is_served, MoveNote, Follows, note-is}
 use Rattle.dm_rulelaws.specs.Fits.{is_for}
 use Rattle.dm_laws.proofs.Entered.{asks}
@@ -83,12 +83,8 @@ label_ones r e s t l sound requests h takes =
 
 -- Wherever the rule leads, each pending request of the manager's has one message under its number.
 
-board_put : (u : OneKernel) (o : Option PlainMessage) (n after : ℕ) → ServerSends switchboard n o after → Ones u → Ones (with_sent u o)
-board_put u o n after sends h = grind (arith, nat_tests, put_ones, from_other)
-
 board_ones : (s : OneKernel) (id : MsgId) (m : PlainMessage) (k : board.BoardTook) → s.bag id ≡ Some m → board.board_takes s.switchboard m m.what ≡ Some k → Ones s → Ones (service.switchboard_took s id k)
-board_ones s id m k there is h =
-    board_put (record (without_message s id) { switchboard = k.switchboard }) k.answer s.switchboard.sent k.switchboard.sent (board_takes_lem s.switchboard m m.what k is).2 (out_ones s id m there (grind (arith, nat_tests, neither)) h)
+board_ones s id m k there is h = grind (arith, nat_tests, k.switchboard, k.answer, s.switchboard.sent, k.switchboard.sent, put_ones, from_other)
 
 -- the manager takes a user message: its requests stay, or there is one more, which it sends
 record Asked (g : Manager) (k : manage.ManagerTook) : Type 0 where
@@ -115,15 +111,9 @@ wants_took g machines images machine image links = grind (arith, nat_tests, bad_
 requests_took : (g : Manager) (machines images : ℕ) (body : List ℕ) (links : List PlainLink) → UserTook g (manage.requests_child g machines images body links)
 requests_took g machines images body links = grind (arith, nat_tests, if_took, wants_took, bad_took)
 
-moves_took : (g : Manager) (machines : ℕ) (child : Pid) (machine : ℕ) (links : List PlainLink) → UserTook g (manage.moves_child g machines child machine links)
-moves_took g machines child machine links =
-    if_took g (nat_lt machine machines) (manage.sends_request g PendingKind.Move child (PlainWhat.Move machine) (manage.first_link links)) (manage.bad_request g links)
-    (inr (record { link = manage.first_link links; kind = PendingKind.Move; request = record { id = id_of manager g.sent; to = child; sender = manager; what = PlainWhat.Move machine }; pending = refl; sends = refl; name = refl; creates = refl })) (bad_took g links)
-
 controls_took : (g : Manager) (machines : ℕ) (child : Option Pid) (body : List ℕ) (links : List PlainLink) → UserTook g (manage.controls g machines child body links)
 controls_took g machines (Some child) (operation ∷ []) links = grind (arith, nat_tests, bad_took)
-controls_took g machines (Some child) (operation ∷ machine ∷ []) links =
-    if_took g (operation == 5) (manage.moves_child g machines child machine links) (manage.bad_request g links) (moves_took g machines child machine links) (bad_took g links)
+controls_took g machines (Some child) (operation ∷ machine ∷ []) links = search (arith, if_took, bad_took)
 controls_took g machines None body links = bad_took g links
 controls_took g machines (Some child) [] links = bad_took g links
 controls_took g machines (Some child) (a ∷ b ∷ c ∷ body) links = bad_took g links
@@ -154,19 +144,13 @@ without_gone n from to (x ∷ xs) up =
           ∙ ap (λ (c : Bool). if c then Some x else manage.pending_numbered n (manage.without_pending n xs)) off ∙ without_gone n (x.n + 1) to xs more
     ]
 
-still_some : (n k : ℕ) (s : OneKernel) (o : Option Pending) → manage.pending_numbered k (manage.without_pending n s.manager.pending) ≡ o → is_some o ≡ true → ascends 0 s.manager.pending s.manager.sent ≡ true → is_pending s k ≡ true
-still_some n k s o is p up = grind (arith, nat_tests, still_pending)
-
-other_than : (n k : ℕ) (s : OneKernel) → is_some (manage.pending_numbered k (manage.without_pending n s.manager.pending)) ≡ true → ascends 0 s.manager.pending s.manager.sent ≡ true → (n == k) ≡ false
-other_than n k s p up = grind (arith, nat_tests, without_gone)
-
 pending_in : (s : OneKernel) (id : MsgId) (k : manage.ManagerTook) (n : ℕ) → is_pending (service.manager_took s id k) n ≡ true → is_some (manage.pending_numbered n k.manager.pending) ≡ true
 pending_in s id k n p = grind (arith, nat_tests)
 
 -- an answer to a request
 answered_took : (s : OneKernel) (id : MsgId) (m : PlainMessage) (k : manage.ManagerTook) → m.id ≡ id → id.answer ≡ true → k.manager.pending ≡ manage.without_pending m.id.n s.manager.pending → ServerSends manager s.manager.sent k.message k.manager.sent → ascends 0 s.manager.pending s.manager.sent ≡ true → Ones s
     → Ones (service.manager_took s id k)
-answered_took s id m k name answer pending sends up h n p = grind (arith, nat_tests, pending_in, still_some, other_than, took_pair)
+answered_took s id m k name answer pending sends up h n p = grind (arith, nat_tests, pending_in, took_pair, still_pending, without_gone)
 
 -- a user message
 user_ones : (r e : MsgId → ℕ) (s : OneKernel) (id : MsgId) (m : PlainMessage) (k : manage.ManagerTook) → s.bag id ≡ Some m → Neither m.what → UserTook s.manager k → ServerSends manager s.manager.sent k.message k.manager.sent → ascends 0 s.manager.pending s.manager.sent ≡ true → Sound r e s → Ones s
@@ -207,15 +191,7 @@ ones_on b pt d w is based h = search (replay_ones, group_replay)
 
 -- of which kind the request is
 kind_is : (k : PendingKind) (o : Option Pending) (r : Pending) → is_for k o ≡ true → o ≡ Some r → k ≡ r.kind
-kind_is PendingKind.Create None r e f = cc
-kind_is PendingKind.Move None r e f = cc
-kind_is k (Some x) r e f = let g : x ≡ r = cc in same k x.kind e ∙ ap (λ (y : Pending). y.kind) g
-  where
-    same : (a b : PendingKind) → kind_eq a b ≡ true → a ≡ b
-    same PendingKind.Create PendingKind.Create e = refl
-    same PendingKind.Move PendingKind.Move e = refl
-    same PendingKind.Create PendingKind.Move e = cc
-    same PendingKind.Move PendingKind.Create e = cc
+kind_is k o r h1 h2 = search arith
 
 request_kind : (s : OneKernel) (i : MsgId) (m : PlainMessage) (r : Pending) (w : PlainWhat) → is_request w ≡ true → WhatFits s i m w → manage.pending_numbered i.n s.manager.pending ≡ Some r → sort_of (plain_kind w) ≡ asked_by r.kind
 request_kind s i m r (PlainWhat.Create image links) e fits is = ap asked_by (kind_is PendingKind.Create (manage.pending_numbered i.n s.manager.pending) r fits.5.pending is)
@@ -271,12 +247,7 @@ is_answered : (s : OneKernel) (i : MsgId) (k : PendingKind) → i.answer ≡ tru
 is_answered s i k answers h = record { name = inr (answer_as i manager h.from answers); pending = for_some k (manage.pending_numbered i.n s.manager.pending) h.pending }
 
 of_pending : (s : OneKernel) (i : MsgId) (m : PlainMessage) (w : PlainWhat) → WhatFits s i m w → (asks w ≡ true → i.answer ≡ false) → requests (plain_kind w) ≡ true → IsOfPending s i
-of_pending s i m (PlainWhat.Create image links) fits asked e = is_asked s i PendingKind.Create (asked refl) fits.5
-of_pending s i m (PlainWhat.Move machine) fits asked e = is_asked s i PendingKind.Move fits.3 fits.4
-of_pending s i m (PlainWhat.Created child) fits asked e = is_answered s i PendingKind.Create fits.1 fits.2
-of_pending s i m PlainWhat.NoRoom fits asked e = is_answered s i PendingKind.Create fits.1 fits.2
-of_pending s i m (PlainWhat.Moved outcome) fits asked e = is_answered s i PendingKind.Move fits.1 fits.2
-of_pending s i m _ fits asked e = absurd (false≢true e)
+of_pending s i m w h1 h2 h3 = search (arith, is_asked, is_answered)
 
 -- wherever the rule leads
 pub pending_has_one : PendingHasOne

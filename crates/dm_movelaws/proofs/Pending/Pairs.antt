@@ -45,10 +45,6 @@ pub off_request : (s : OneKernel) (n : ℕ) (id : MsgId) (m : PlainMessage) → 
 off_request s n id m h p there off =
     not_true (id_eq id (id_of manager n)) (λ e. (let e_ : ⊥ = grind (arith, nat_tests, (h n p), (sym (ap s.bag (id_eq-is id (id_of manager n) e)) ∙ there)) in e_))
 
-off_answer : (s : OneKernel) (n : ℕ) (id : MsgId) (m : PlainMessage) → Ones s → is_pending s n ≡ true → s.bag id ≡ Some m → is_answer m.what ≡ false → id_eq id (answer_of n) ≡ false
-off_answer s n id m h p there off =
-    not_true (id_eq id (answer_of n)) (λ e. (let e_ : ⊥ = grind (arith, nat_tests, (h n p), (sym (ap s.bag (id_eq-is id (answer_of n) e)) ∙ there)) in e_))
-
 -- under a number two kernels have the same
 pub record Same (s t : OneKernel) (n : ℕ) : Type 0 where
   pub was : is_pending s n ≡ true
@@ -64,7 +60,7 @@ abbrev pub Off : MsgId → ℕ → Type 0
 Off i n = (id_eq i (id_of manager n) ≡ false) × (id_eq i (answer_of n) ≡ false)
 
 pub off_both : (s : OneKernel) (n : ℕ) (id : MsgId) (m : PlainMessage) → Ones s → is_pending s n ≡ true → s.bag id ≡ Some m → Neither m.what → Off id n
-off_both s n id m h p there w = (off_request s n id m h p there w.request, off_answer s n id m h p there w.answer)
+off_both s n id m h p there w = search (arith, off_request, w.request, w.answer, not_true, id_eq-is)
 
 pub out_ones : (s : OneKernel) (id : MsgId) (m : PlainMessage) → s.bag id ≡ Some m → Neither m.what → Ones s → Ones (without_message s id)
 out_ones s id m there w h n p = grind (arith, nat_tests, off_both, by_same, out_off)
@@ -89,13 +85,8 @@ answered_ones r e s u t id m w is up there asked off h ones on =
     let name : (answer_to m w).id ≡ answer_id id = ap answer_id (h.entered.named id m there) in
     subst Ones is (put_ones u (answer_to m w) (λ n p. off_by (answer_to m w).id (answer_id id) n name (answer_off id n (h.entered.requests id m there asked) (off_request s n id m ones (up n p) there off))) on)
 
--- what is in the bag is followed by nobody
-free_of : (s : OneKernel) (i : MsgId) (m : PlainMessage) (o : Option Pid) → s.noted i ≡ o → ((p : Pid) → s.noted i ≡ Some p → s.bag i ≡ None) → s.bag i ≡ Some m → o ≡ None
-free_of s i m None is taken there = refl
-free_of s i m (Some p) is taken there = let f : None ≡ Some m = sym (taken p is) ∙ there in cc
-
 pub unnoted_in : (r e : MsgId → ℕ) (s : OneKernel) (i : MsgId) (m : PlainMessage) → Sound r e s → s.bag i ≡ Some m → s.noted i ≡ None
-unnoted_in r e s i m h there = free_of s i m (s.noted i) refl (λ p is. ((Notes-agree r e s h.entered h.notes).taken i p is).0) there
+unnoted_in r e s i m h there = search (arith, Notes-agree, h.entered, h.notes)
 
 pub made_ones : (r e : MsgId → ℕ) (s u t : OneKernel) (id : MsgId) (m : PlainMessage) (w : PlainWhat) → with_sent u (Some (answer_to m w)) ≡ t → ((i : MsgId) → u.bag i ≡ (without_message s id).bag i)
     → ((i : MsgId) → u.noted i ≡ s.noted i) → ((n : ℕ) → is_pending u n ≡ true → is_pending s n ≡ true) → s.bag id ≡ Some m → asks m.what ≡ true → is_answer w ≡ true
@@ -111,12 +102,7 @@ made_ones r e s u t id m w is same noted up there asked answers h ones =
           let off = off_by x.id (answer_id id) n name (answer_off id n asking apart) in
           let out : id_eq id (answer_of n) ≡ false = ap (λ (a : Bool). (pid_eq id.from manager && (id.n == n)) && bool_eq a true) asking ∙ and_false (pid_eq id.from manager && (id.n == n)) in
           by_same s (with_sent u (Some x)) n ones
-          (record {
-            was = up n p;
-            request = sent_off u x (id_of manager n) off.0 ∙ same (id_of manager n) ∙ out_off s id (id_of manager n) apart;
-            answer = sent_off u x (answer_of n) off.1 ∙ same (answer_of n) ∙ out_off s id (answer_of n) out;
-            noted = noted (id_of manager n);
-          })
+          (search (arith, sent_off, off.0, out_off, off.1))
     ] in
     subst Ones is of
 
@@ -175,33 +161,8 @@ followed_pair a a_ b b_ c c_ q x h e f g k answers = grind (arith, nat_tests)
 
 -- a process follows the request from now on
 pub noted_ones : (r e : MsgId → ℕ) (s : OneKernel) (id : MsgId) (m : PlainMessage) (q : Pid) (k : MoveNote) → s.bag id ≡ Some m → k.id ≡ id → asks m.what ≡ true → Sound r e s → Ones s → Ones (with_note (without_message s id) q k)
-noted_ones r e s id m q k there name asked h ones n p =
-    let t = with_note (without_message s id) q k in
-    let i = id_of manager n in
-    elim (cases_Bool (id_eq id i)) [
-      | inl here ↦
-          let is : id ≡ i = id_eq-is id i here in
-          let out : id_eq id (answer_of n) ≡ false = ap (λ (a : Bool). (pid_eq id.from manager && (id.n == n)) && bool_eq a true) (h.entered.requests id m there asked) ∙ and_false (pid_eq id.from manager && (id.n == n)) in
-          subst (Pair (t.bag i) (t.bag (answer_of n))) (sym (ap (λ (c : Bool). if c then Some q else s.noted i) (ap (λ (j : MsgId). id_eq j i) name ∙ here)))
-          (to_process (s.bag i) (s.bag (answer_of n)) (s.noted i) m (t.bag i) (t.bag (answer_of n)) q (ap s.bag (sym is) ∙ there) (ones n p) (ap (λ (c : Bool). if c then None else s.bag i) here) (out_off s id (answer_of n) out))
-      | inr apart ↦
-          let out : id_eq id (answer_of n) ≡ false = ap (λ (a : Bool). (pid_eq id.from manager && (id.n == n)) && bool_eq a true) (h.entered.requests id m there asked) ∙ and_false (pid_eq id.from manager && (id.n == n)) in
-          by_same s t n ones (record { was = p; request = out_off s id i apart; answer = out_off s id (answer_of n) out; noted = ap (λ (c : Bool). if c then Some q else s.noted i) (ap (λ (j : MsgId). id_eq j i) name ∙ apart) })
-    ]
+noted_ones r e s id m q k there name asked h ones n p = search (arith, id_eq-is, id.from, id.n, h.entered.requests, and_false, s.noted, to_process, s.bag, out_off)
 
 -- and hears how that ended
 pub unnoted_ones : (s : OneKernel) (id : MsgId) (q : Pid) (x : PlainMessage) → s.noted id ≡ Some q → id.answer ≡ false → x.id ≡ answer_id id → is_answer x.what ≡ true → Ones s → Ones (with_sent (without_note s q id) (Some x))
-unnoted_ones s id q x noted asked name answers ones n p =
-    let t = with_sent (without_note s q id) (Some x) in
-    let i = id_of manager n in
-    elim (cases_Bool (id_eq id i)) [
-      | inl here ↦
-          let is : id ≡ i = id_eq-is id i here in
-          let at_ : x.id ≡ answer_of n = name ∙ ap answer_id is in
-          followed_pair (s.bag i) (t.bag i) (s.bag (answer_of n)) (t.bag (answer_of n)) (s.noted i) (t.noted i) q x (ones n p) (ap s.noted (sym is) ∙ noted) (ap (λ (c : Bool). if c then None else s.noted i) here)
-          (sent_off (without_note s q id) x i (ap (λ (j : MsgId). id_eq j i) at_ ∙ and_false (pid_eq manager manager && (n == n))))
-          (ap (λ (j : MsgId). if id_eq j (answer_of n) then Some x else s.bag (answer_of n)) at_ ∙ ap (λ (c : Bool). if c then Some x else s.bag (answer_of n)) (id_eq-same (answer_of n))) answers
-      | inr apart ↦
-          let off = off_by x.id (answer_id id) n name (answer_off id n asked apart) in
-          by_same s t n ones (record { was = p; request = sent_off (without_note s q id) x i off.0; answer = sent_off (without_note s q id) x (answer_of n) off.1; noted = ap (λ (c : Bool). if c then None else s.noted i) apart })
-    ]
+unnoted_ones s id q x noted asked name answers ones n p = search (arith, id_eq-is, x.id, followed_pair, s.bag, s.noted, sent_off, and_false, id_eq-same, off_by)

@@ -233,13 +233,6 @@ updates_this j pt n w is =
     let k = next_of pt (Says (Line.Updated j n)) [] w is in
     inr (n, one_line k.steps.lines k.rest.lines w.lines (Line.Updated j n) k.steps.are (no_lines k.next k.rest k.more) k.lines)
 
-held_goes : (j : MsgId) (t : Told) (pt : Point) → Waits j t pt → Goes j pt (Says (Line.Held j) ∷ [])
-held_goes j t pt h w is =
-    let n = next_of pt (Says (Line.Held j)) [] w is in
-    let s = said_by pt n.next (Line.Held j) n.steps in
-    let there : Stands n.next.view j = subst (λ (x : Point). Stands x.view j) s.is (held_this pt.view j t h.base.told) in
-    inl (subst (λ (x : Point). Stands x.view j) n.point (loose_stands [] j t n.next n.rest refl (base_says j t pt n.next (Line.Held j) refl refl h.base n.steps) there n.more))
-
 forwarded_goes : (j : MsgId) (t : Told) (pt : Point) (to : ℕ) → Waits j t pt → Goes j pt (Says (Line.Forwarded j to) ∷ Again j to ∷ [])
 forwarded_goes j t pt to h w is =
     let n = next_of pt (Says (Line.Forwarded j to)) (Again j to ∷ []) w is in
@@ -258,7 +251,7 @@ process_this j pt o m p q place Unknown h = tt
 process_this j pt o m p q place Here h = updates_this j pt _
 process_this j pt o m p q place (Forward at moves) h = forwarded_goes j (update_of p q place) pt at h
 process_this j pt o m p q place Ended h = updates_this j pt 0
-process_this j pt o m p q place _ h = held_goes j (update_of p q place) pt h
+process_this j pt o m p q place _ h = search (arith, next_of, said_by, held_this, loose_stands, base_says)
 
 pub hears_this : (j : MsgId) (pt : Point) (b : Boot) (o : Point) (m : ℕ) (p q : Pid) (place : Place) → Waits j (update_of p q place) pt → GoesOf j pt (rule.hears b o m j (Some (update_of p q place)))
 hears_this j pt b o m p q place h = search (goes_if, updates_this, process_this)

@@ -85,7 +85,7 @@ tells_same : (v w : View) (a b : Addresses) (id : MsgId) (code : ℕ) (sent : Pl
 tells_same v w a b id code sent u = grind (arith, nat_tests, enclosed_same)
 
 manager_sends_same : (v w : View) (a b : Addresses) (id : MsgId) (code : ℕ) (o : Option PlainMessage) → holders (manager_sends v a id code o) ≡ holders (manager_sends w b id code o)
-manager_sends_same v w a b id code o = grind (arith, nat_tests, tells_same)
+manager_sends_same v w a b id code o = search (arith, enclosed_same)
 
 manager_takes_same : (s : OneKernel) (v w : View) (a b : Addresses) (m : PlainMessage) (u : PlainWhat) (o : Option manage.ManagerTook) → holders (manager_takes_burden s v a m (burden_of u) o) ≡ holders (manager_takes_burden s w b m (burden_of u) o)
 manager_takes_same s v w a b m u o = grind (arith, nat_tests, manager_sends_same)
@@ -93,18 +93,13 @@ manager_takes_same s v w a b m u o = grind (arith, nat_tests, manager_sends_same
 takes_same : (s : OneKernel) (v w : View) (a b : Addresses) (id : MsgId) (o : Option PlainMessage) → holders (addresses.taking_gets s v a id o) ≡ holders (addresses.taking_gets s w b id o)
 takes_same s v w a b id o = grind (arith, nat_tests, manager_takes_same)
 
--- requests to move
-follows_same : (a b : Addresses) (id : MsgId) (o : Option PlainMessage) → holders (request.given_to_follow a id o) ≡ holders (request.given_to_follow b id o)
-follows_same a b id None = refl
-follows_same a b id (Some m) = refl
-
 ends_same : (v w : View) (a b : Addresses) (id : MsgId) (o : Option Pid) → holders (request.given_at_end v a id o) ≡ holders (request.given_at_end w b id o)
 ends_same v w a b id None = refl
 ends_same v w a b id (Some p) = refl
 
 -- a row a label
 pub gives_same : (s : OneKernel) (v w : View) (a b : Addresses) (l : Label) → holders (gives s v a l) ≡ holders (gives s w b l)
-gives_same s v w a b l = grind (arith, nat_tests, sends_same, receives_same, serves_same, takes_same, creates_same, follows_same, ends_same)
+gives_same s v w a b l = search (arith, sends_same, receives_same, serves_same, takes_same, creates_same, ends_same)
 
 -- Where no line gives a slot an address, a link in it was there before.
 

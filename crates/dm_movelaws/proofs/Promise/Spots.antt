@@ -4,13 +4,13 @@ use Rattle.dm_movelaws.proofs.Names.{handled_first, released, receiver_of, Spot,
 use Rattle.dm_movelaws.proofs.Names.{home_off, proto_off, accepted_off, state_off, memory_off, lacks_off, left_off, restarted_off, handled_spots, queued_spots, held_spots, forwarded_spots, ◌⊎◌, Bool, true, not, filter, if◌then◌else◌}
 use Rattle.dm_movelaws.proofs.Names.{Option, None, Some, false≢true, MessageKind, OneKernel, id_eq-is, id_eq-same, Step, Load, Told, NothingElse, is_kernels, taken_id, held_for, Point, out_of, not_kernels, gone_in, at_record_at, not_true}
 use Rattle.dm_movelaws.proofs.Names.{one_of, PairsFit, served_keeps, serving_off, created_off, IsNetLine, early_off, acked_off, emptied, both_lists, both_times, dropped_spots, put_spots, taken_calm, put_spot, put_there, Sane, packet_off}
-use Rattle.dm_movelaws.proofs.Names.{received_spots, ended_off, nat_tests, About, Target, aim, about_off, Place, entry, reception, after_step, Sound, bind-is, Addresses, Holder, Slot, Gets, given, gives, all_follow, first_gives, leads_to}
-use Rattle.dm_movelaws.proofs.Names.{updated, addresses_after, ascends, label_of, kernel_after, after_line, after, moved, hushed, put_at, put_told_off, gives_to, fills, Unfilled, first_kept, ◌≢◌, length, slice_get, Boot, IsValid, Leads}
-use Rattle.dm_movelaws.proofs.Names.{first_point, Trails, AddressesOn, Unknown, is_moving, IsThere}
+use Rattle.dm_movelaws.proofs.Names.{received_spots, ended_off, nat_tests, About, Target, aim, about_off, Place, after_step, Sound, bind-is, Addresses, Holder, Slot, Gets, gives, all_follow, first_gives, leads_to, updated, addresses_after}
+use Rattle.dm_movelaws.proofs.Names.{ascends, label_of, kernel_after, after_line, after, moved, hushed, put_at, put_told_off, gives_to, fills, Unfilled, first_kept, ◌≢◌, length, slice_get, Boot, IsValid, Leads, first_point, Trails}
+use Rattle.dm_movelaws.proofs.Names.{AddressesOn, Unknown, is_moving, IsThere}
 use Rattle.dm_rule.proofs.Moves.Sent.{sent_off}
+use Rattle.dm_movelaws.proofs.Promise.Slots.{not_given, step_pending, led_before}
 use Rattle.dm_onekernel.specs.Step as kernel
 use Rattle.dm_rule.specs.View as view
-use Rattle.dm_movelaws.proofs.Promise.Slots.{not_given, step_pending, led_before}
 
 pub record Stands (v : View) (j : MsgId) : Type 0 where
   pub spot : Spot
@@ -258,10 +258,6 @@ told_stays v (Line.Put a b i k q) j t e = grind (arith, nat_tests, id_eq-is, put
 told_stays v (Line.Lacks r f c) j t e = ap (λ (f : MsgId → Option Told). f j) (hushed v (Line.Lacks r f c) refl).told ∙ e
 told_stays v any_ j t e = ap (λ (f : MsgId → Option Told). f j) (hushed v any_ refl).told ∙ e
 
--- a slot's address
-same_address : (a : Addresses) (p : Pid) (k : ℕ) (gs : List Gets) → gives_to (Slot p k) gs ≡ false → (a (Slot p k)).moves ≤ (given a gs (Slot p k)).moves
-same_address a p k gs e = let f : (given a gs (Slot p k)).moves ≡ (a (Slot p k)).moves = ap (λ (x : Place). x.moves) (not_given a (Slot p k) gs e) in omega (arith, f)
-
 follow_spares : (v : View) (a : Addresses) (r : Pid) (ids : List MsgId) (p : Pid) (k : ℕ) → gives_to (Slot p k) (all_follow v a r ids) ≡ false
 follow_spares v a r [] p k = refl
 follow_spares v a r (i ∷ is) p k = follow_spares v a r is p k
@@ -273,7 +269,7 @@ told_grows : (s : OneKernel) (v : View) (a : Addresses) (o : Option Told) (h : H
 told_grows s v a o h = grind (arith, nat_tests)
 
 moves_grow : (pt : Point) (l : Line) (p : Pid) (k : ℕ) → fills pt (Slot p k) l ≡ false → (pt.addresses (Slot p k)).moves ≤ (addresses_after pt.kernel pt.view pt.addresses l (Slot p k)).moves
-moves_grow pt l p k e = grind (arith, nat_tests, same_address, follow_spares, told_grows, first_spares)
+moves_grow pt l p k e = search (arith, follow_spares, told_grows, first_spares, not_given)
 
 -- what each line needs of the kernel, and keeps
 pub record Grounds (s : OneKernel) : Type 0 where
@@ -289,12 +285,7 @@ pub record Before (pt : Point) (p q : Pid) (k moves : ℕ) : Type 0 where
 
 grounds_by : (s t : OneKernel) (v : View) (o : Option Label) → kernel_after s o ≡ Some t → Grounds s → Grounds t
 grounds_by s t v None is h = let f : s ≡ t = cc in subst Grounds f h
-grounds_by s t v (Some x) is h = record {
-  r = λ i. h.r i + reception i x;
-  e = λ i. h.e i + entry i s t;
-  sound = (after_step h.r h.e s t x is h.sound).sound;
-  pending = step_pending s t v x is h.sound.entered.named h.pending;
-}
+grounds_by s t v (Some x) is h = search (arith, (after_step h.r h.e s t x is h.sound).sound, step_pending s t v x is h.sound.entered.named h.pending)
 
 led_by : (pt : Point) (t : OneKernel) (l : Line) (o : Option Label) (p q : Pid) (k : ℕ) → label_of l ≡ o → kernel_after pt.kernel o ≡ Some t → Grounds pt.kernel → ((x : Label) → o ≡ Some x → gives_to (Slot p k) (gives pt.kernel pt.view pt.addresses x) ≡ false) → leads_to t (Slot p k) ≡ Some q
     → leads_to pt.kernel (Slot p k) ≡ Some q

@@ -1,11 +1,11 @@
 -- Each line keeps that whoever is told of is somebody.
-use Rattle.dm_movelaws.proofs.Names.{if◌then◌else◌, ◌≡◌, ◌≢◌, ℕ, ◌<◌, ◌≤◌, true, false, ◌∷◌, is_some, refl, ap, ◌∙◌, sym, subst, inl, inr, arith, Option, Some, cases_Bool, nat_tests, Pid, MsgId, Line, PlainMessage, PlainWhat, Boot, manager}
+use Rattle.dm_movelaws.proofs.Names.{◌≡◌, ◌≢◌, ℕ, ◌<◌, ◌≤◌, true, false, ◌∷◌, is_some, refl, ap, ◌∙◌, sym, subst, inl, inr, arith, Option, Some, cases_Bool, nat_tests, Pid, MsgId, Line, PlainMessage, PlainWhat, Boot, manager}
 use Rattle.dm_movelaws.proofs.Names.{Life, OneKernel, Step, IsStep, Spelled, Point, group_of, Inbox, times, View, Told, Unknown, Here, after_head, is_kernels, actor, group_is, outcome_sayable, line_within, is_server, WhatFits, begun}
 use Rattle.dm_movelaws.proofs.Names.{begun_sane, named_real, times_self, Run, IsReal, Kernel, Server, Made, IsAboutReal, RealAlways, or_cases, from_kernel, run_always, ◌⊎◌, List, None, false≢true, MessageKind, plain_kind, Stage, Label}
 use Rattle.dm_movelaws.proofs.Names.{id_eq-is, LifeGrows, after_step, Sound, Receiver, Part, Says, Routes, Again, Owns, Transmits, spelled, label_of, kernel_after, moved, About, view_after, after_put, handled, receiver_of, own_id}
 use Rattle.dm_movelaws.proofs.Names.{not_kernels, grown_none, put_at, PacketsKeep, put_told_off, Sane, AllSayable, label_topic, Within, has_bytes, KernelFits, step_constant, fits_step, queued_topic, held_topic, taken_topic, told_kept, []}
-use Rattle.dm_movelaws.proofs.Names.{◌++◌, ⊤, pid_eq-same, alive-is, to_kernel, sends_on, IsNetLine, by_migrates, by_outcome, by_forwards, by_hears, topic_by, machine_in, move_target, sets, InOrder, Loose, loose_handles, Bool, HeadIn}
-use Rattle.dm_movelaws.proofs.Names.{counts, first_point, is_counted, is_put, nat_lt, pid_eq, switchboard}
+use Rattle.dm_movelaws.proofs.Names.{◌++◌, ⊤, pid_eq-same, alive-is, to_kernel, sends_on, IsNetLine, by_migrates, by_outcome, by_forwards, by_hears, topic_by, machine_in, sets, InOrder, Loose, loose_handles, HeadIn}
+use Rattle.dm_movelaws.proofs.Names.{counts, first_point, is_put}
 use Rattle.dm_rulelaws.proofs.Found.Core as core
 use Rattle.dm_rule.specs.View as view
 use Rattle.dm_rule.specs.Rule as rule
@@ -150,18 +150,7 @@ has_made : (s : OneKernel) (q : Pid) (n : ℕ) (l : Option Life) → s.processes
 has_made s q n l is e = grind (arith, nat_tests)
 
 pub receiver_real : (s : OneKernel) (i : MsgId) (m : PlainMessage) (w : PlainWhat) → WhatFits s i m w → IsReal s m.to
-receiver_real s i m (PlainWhat.User z1 z2 z3 z4) e = grind (arith, nat_tests, or_cases, has_made)
-receiver_real s i m (PlainWhat.Read base len) e = has_made s m.to _ (s.processes m.to) refl e.0
-receiver_real s i m (PlainWhat.Write base bytes) e = has_made s m.to _ (s.processes m.to) refl e.0
-receiver_real s i m (PlainWhat.Block bytes) e = subst (IsReal s) (sym e.0) (grind (arith, nat_tests, e.1))
-receiver_real s i m PlainWhat.Written e = subst (IsReal s) (sym e.0) (grind (arith, nat_tests, e.1))
-receiver_real s i m PlainWhat.Gone e = subst (IsReal s) (sym e.0) (grind (arith, nat_tests, e.1))
-receiver_real s i m (PlainWhat.Create image links) e = let num = e.0 in let home = e.1 in Kernel num (grind (arith, nat_tests))
-receiver_real s i m (PlainWhat.Created child) e = subst (IsReal s) (sym e.0) (Server refl)
-receiver_real s i m PlainWhat.NoRoom e = subst (IsReal s) (sym e.0) (Server refl)
-receiver_real s i m (PlainWhat.Move machine) e = has_made s m.to 0 (s.processes m.to) refl e.0
-receiver_real s i m (PlainWhat.Moved outcome) e = subst (IsReal s) (sym e.0) (Server refl)
-receiver_real s i m _ e = has_made s m.to 0 (s.processes m.to) refl e
+receiver_real s i m w h1 = search (arith, or_cases, has_made, m.to, s.processes)
 
 -- what stands between the lines of a group that begins at o
 pub record Reals (o pt : Point) : Type 0 where
@@ -179,10 +168,6 @@ pub record Reals (o pt : Point) : Type 0 where
 abbrev pub Receivers : Point → Type 0
 Receivers o = (i : MsgId) (t : Told) → o.view.told i ≡ Some t → IsReal o.kernel t.receiver
 
-forwarded_real : (s : OneKernel) (v : View) (q : Option Told) → ((t : Told) → q ≡ Some t → IsReal s t.receiver) → IsAboutReal s v.topic → IsAboutReal s (view.forwarded_for v (receiver_of q)).topic
-forwarded_real s v None h e = e
-forwarded_real s v (Some t) h e = grind (arith, nat_tests, (h t refl))
-
 proto_real : (s : OneKernel) (v : View) (q : Option Told) → ((t : Told) → q ≡ Some t → IsAboutReal s t.about) → IsAboutReal s (view.after_proto v q).topic
 proto_real s v q h = grind (arith, nat_tests)
 
@@ -194,8 +179,7 @@ line_topic o pt (Line.Migration Stage.MemoryTaken p) known need h = real_rises o
 line_topic o pt (Line.Migration Stage.Left p) known need h = real_rises o.kernel pt.kernel p h.rises need
 line_topic o pt (Line.SentOn p n) known need h = real_rises o.kernel pt.kernel p h.rises need
 line_topic o pt (Line.Lacks p a b) known need h = real_rises o.kernel pt.kernel p h.rises need
-line_topic o pt (Line.Forwarded i m) known need h =
-    forwarded_real pt.kernel (handled pt.view i) (pt.view.told i) (λ t e. real_rises o.kernel pt.kernel t.receiver h.rises (known i t (grind (arith, nat_tests)))) h.topic
+line_topic o pt (Line.Forwarded i m) known need h = search (arith, pt.kernel, real_rises, o.kernel, h.rises, h.topic)
 line_topic o pt (Line.Proto i) known need h = proto_real pt.kernel (handled pt.view i) (pt.view.told i) (λ t e. h.about i t e)
 line_topic o pt (Line.Label l) known need h = subst (IsAboutReal pt.kernel) (sym (label_topic pt.view l)) h.topic
 line_topic o pt (Line.Queued i) known need h = subst (IsAboutReal pt.kernel) (sym (queued_topic (handled pt.view i) i (receiver_of (pt.view.told i)))) h.topic
@@ -205,14 +189,9 @@ line_topic o pt (Line.Head d) known need h = absurd need
 line_topic o pt (Line.Put a b i k q) known need h = absurd need
 line_topic o pt _ known need h = h.topic
 
--- where a process is asked to move, the group is about a machine
-machine_real : (s : OneKernel) (w : PlainWhat) → IsAboutReal s (move_target w)
-machine_real s (PlainWhat.Move machine) = tt
-machine_real s _ = tt
-
 asked_real : (s : OneKernel) (o : Option PlainMessage) → IsAboutReal s (machine_in o)
 asked_real s None = tt
-asked_real s (Some m) = machine_real s m.what
+asked_real s (Some m) = search (arith, m.what)
 
 topic_real : (s : OneKernel) (a : About) (o : Option Label) → IsAboutReal s a → IsAboutReal s (topic_by s a o)
 topic_real s a None h = h
@@ -288,7 +267,7 @@ put_reals o pt b i k q new h =
     }
 
 packet_reals : (o : Point) → PacketsKeep (Reals o)
-packet_reals o pt a b k l h = search line_within
+packet_reals o pt a b k l h = search
 
 -- a part
 reals_behind : (o pt : Point) (p : Part) → Receivers o → PartReal o p → Sane pt → Reals o pt → Behind (Reals o) pt p
@@ -368,12 +347,8 @@ real_group b pt d w fit e run h =
 start_real : (b : Boot) → RealAt (first_point b)
 start_real b = grind (arith, nat_tests)
 
--- whose number a sender counts
-counted_by : (s : OneKernel) (i : MsgId) (c d : Bool) → pid_eq i.from switchboard ≡ c → pid_eq i.from manager ≡ d → (if c then nat_lt i.n s.switchboard.sent else if d then nat_lt i.n s.manager.sent else is_counted i.n (s.processes i.from)) ≡ true → IsReal s i.from
-counted_by s i c d x y e = grind (arith, nat_tests)
-
 counted_real : (s : OneKernel) (i : MsgId) → counts s i ≡ true → IsReal s i.from
-counted_real s i e = counted_by s i (pid_eq i.from switchboard) (pid_eq i.from manager) refl refl e
+counted_real s i e = search arith
 
 -- a child that is named was made
 child_made : (s : OneKernel) (i : MsgId) (m : PlainMessage) (w : PlainWhat) (p : Pid) → w ≡ PlainWhat.Created p → WhatFits s i m w → IsReal s p

@@ -2,13 +2,12 @@
 use Rattle.dm_movelaws.proofs.Names.{◌≡◌, ◌⊎◌, ℕ, zero, suc, ◌<◌, ◌≤◌, true, false, is_some, nat_lt, List, [], ◌∷◌, ◌++◌, length, refl, ap, ◌∙◌, sym, subst, inl, inr, arith, Option, Some, false≢true, nat_tests, Pid, pid_eq, MsgId, id_of}
 use Rattle.dm_movelaws.proofs.Names.{BootProcess, Boot, IsValid, switchboard, manager, Alive, OneKernel, PlainProcess, life_at, id_eq-is, not_server, bind-is, Step, Line, without_id, Point, first_point, after, after_line, times, View, Told}
 use Rattle.dm_movelaws.proofs.Names.{view_after, hushed, without_counts, one_of, line_view, put_told_off, LeadsBy, Both, both_start, both_group, times_more, run_start, run_group, with_put, routed, AreRouted, RoutedAlways, less_test, None}
-use Rattle.dm_movelaws.proofs.Names.{MessageKind, plain_kind, PlainMessage, Label, Sound, Part, Spelled, label_of, kernel_after, moved, group_of, Inbox, Queue, BagStep, out_of, bag_sends, bag_ran, bag_call, bag_wait, bag_out, bag_end}
+use Rattle.dm_movelaws.proofs.Names.{plain_kind, PlainMessage, Label, Sound, Part, Spelled, label_of, kernel_after, moved, group_of, Inbox, Queue, BagStep, out_of, bag_sends, bag_ran, bag_call, bag_wait, bag_out, bag_end}
 use Rattle.dm_movelaws.proofs.Names.{bag_refuse, bag_receive, bag_dropped, bag_gone, bag_no_space, bag_created, bag_served, bag_took, group_is, stands_right, is_put, hidden, Sane, outcome_sayable, Rides, begun, begun_sane, Run, Sayable, ⊤}
 use Rattle.dm_movelaws.proofs.Names.{IsNetLine, first_is, times_self, by_migrates, IsHeardLine, hears_kept, by_round, by_handles, by_forwards, by_outcome, bag_asked, bag_answered, answer_id, ◌+◌, Bool, if◌then◌else◌, take, drop, PlainWhat}
 use Rattle.dm_movelaws.proofs.Names.{Why, Life, with_process, with_sent, answer_to, without_message, pid_eq-is, id_eq-same, Sent, sent_at, ServerSends, board_takes_lem, manager_takes_lem, lands-is, Sent-from, name_is, by_step, with_note}
 use Rattle.dm_onekernel.specs.Kernel.{Ended}
 use Rattle.dm_onekernel.specs.Step as kernel
-use Rattle.dm_rule.specs.View as view
 use Rattle.dm_rule.specs.Rule as rule
 use Rattle.dm_onekernel.specs.Kernel as kernels
 use Rattle.dm_onekernel.specs.Pieces as pieces
@@ -35,14 +34,10 @@ CountsSo s t = (i : MsgId) → i.answer ≡ false → is_sent t i ≡ true → (
 abbrev Was : Bool → Option PlainMessage → Type 0
 Was x m = (x ≡ true) ⊎ (is_some m ≡ true)
 
--- by whose name it is
-chosen : (m : Option PlainMessage) (c d : Bool) (x y z k l n : Bool) → (c ≡ true → k ≡ true → Was x m) → (d ≡ true → l ≡ true → Was y m) → (n ≡ true → Was z m) → (if c then k else if d then l else n) ≡ true → Was (if c then x else if d then y else z) m
-chosen m c d x y z k l n f g h e = grind (arith, nat_tests)
-
 counts_by : (s t : OneKernel) (i : MsgId) → (pid_eq i.from switchboard ≡ true → nat_lt i.n t.switchboard.sent ≡ true → Was (nat_lt i.n s.switchboard.sent) (t.bag i))
     → (pid_eq i.from manager ≡ true → nat_lt i.n t.manager.sent ≡ true → Was (nat_lt i.n s.manager.sent) (t.bag i))
     → (has_sent i.n (t.processes i.from) ≡ true → Was (has_sent i.n (s.processes i.from)) (t.bag i)) → is_sent t i ≡ true → Was (is_sent s i) (t.bag i)
-counts_by s t i f g h e = search chosen
+counts_by s t i f g h e = search arith
 
 less : (n a b : ℕ) → a ≡ b → nat_lt n b ≡ true → nat_lt n a ≡ true
 less n a b e h = ap (nat_lt n) e ∙ h
@@ -258,25 +253,16 @@ stays_or_goes r e s t (Label.Answered id o) i is h there = stays_by e s t None (
 same_told : (v : View) (l : Line) (i : MsgId) → is_put l ≡ false → IsTold v i → IsTold (view_after v l) i
 same_told v l i quiet h = ap (λ (f : MsgId → Option Told). is_some (f i)) (hushed v l quiet).told ∙ h
 
-counted_label : (v : View) (pt : Point) (l : Label) (t : OneKernel) → ((i : MsgId) → out_of l ≡ Some i → IsTold v i) → kernel.step pt.kernel l ≡ Some t → Sane pt → Counted v pt → Counted v (moved pt (Line.Label l) t)
-counted_label v pt l t outs is sane h =
-    let told : (i : MsgId) → IsTold pt.view i → IsTold (view_after pt.view (Line.Label l)) i = λ i e. same_told pt.view (Line.Label l) i refl e in
-    grind (arith, nat_tests, step_counts, stays_or_goes)
-
 counted_quiet : (v : View) (pt : Point) (l : Line) (t : OneKernel) → is_put l ≡ false → Some pt.kernel ≡ Some t → Counted v pt → Counted v (moved pt l t)
 counted_quiet v pt l t quiet is h = grind (arith, nat_tests, same_told)
 
 counted_line : (v : View) (pt : Point) (l : Line) (t : OneKernel) → is_put l ≡ false → LineOuts (IsTold v) l → kernel_after pt.kernel (label_of l) ≡ Some t → Sane pt → Counted v pt → Counted v (moved pt l t)
-counted_line v pt (Line.Label l) t quiet outs is sane h = counted_label v pt l t outs is sane h
+counted_line v pt (Line.Label l) t quiet outs is sane h = search (arith, same_told, step_counts, stays_or_goes)
 counted_line v pt (Line.Put a b i k q) t quiet outs is sane h = cc
 counted_line v pt any_ t quiet outs is sane h = counted_quiet v pt any_ t quiet is h
 
--- a put tells of its message
-put_told : (v : View) (a b : ℕ) (i j : MsgId) (k : MessageKind) (q : Pid) → IsTold v j → IsTold (view.after_put v a b i k q) j
-put_told v a b i j k q h = grind (arith, nat_tests, put_told_off)
-
 counted_rides : (v : View) → Rides (Counted v)
-counted_rides v = grind (arith, nat_tests, put_told, counted_quiet)
+counted_rides v = search (arith, counted_quiet, put_told_off)
 
 -- a part, and the parts of a group
 counted_behind : (v : View) (pt : Point) (p : Part) → PartOuts (IsTold v) p → Sayable p → Sane pt → Counted v pt → Behind (Counted v) pt p

@@ -2,8 +2,8 @@
 use Rattle.dm_movelaws.proofs.Names.{◌≡◌, ℕ, ◌≤◌, Bool, true, false, List, [], ◌∷◌, ◌++◌, refl, ap, ◌∙◌, sym, subst, inl, inr, arith, if◌then◌else◌, Option, None, Some, cases_Bool, false≢true, Pid, pid_eq, MsgId, MessageKind, id_eq, bind}
 use Rattle.dm_movelaws.proofs.Names.{Line, Load, View, Told, Of, own_id, view_after, handled, is_between, Point, label_of, kernel_after, moved, Part, Says, Owns, Spelled, behind, spelled, Spot, Inbox, times, ids_at, id_eq-is, id_eq-same}
 use Rattle.dm_movelaws.proofs.Names.{pid_eq-is, pid_eq-same, is_put, not_true, line_next, one_of, touches, onward, handled_spots, packet_calm, put_at, put_there, put_spot, PairsFit, puts_next, said, Sane, sane_line, Mark, with_mark}
-use Rattle.dm_movelaws.proofs.Names.{in_order, first_none, nat_tests, seen_none, ⊤, Stage, Label, OneKernel, at_record, Known, served_told, Transmits, standing, pid_eq-swap, out_of, IsNet, hushed, gone_in, left_off, Plain, record_off, Tame}
-use Rattle.dm_movelaws.proofs.Names.{line_calm, plain_in_bag, ended_off, created_off, served_keeps, other_than, fits_put, fits_packet, Sayable, part_sane, by_parts, Steps, PacketsKeep}
+use Rattle.dm_movelaws.proofs.Names.{in_order, first_none, nat_tests, seen_none, ⊤, Stage, Label, OneKernel, at_record, Known, served_told, Transmits, standing, pid_eq-swap, out_of, IsNet, hushed, gone_in, Plain, record_off, Tame}
+use Rattle.dm_movelaws.proofs.Names.{line_calm, plain_in_bag, created_off, served_keeps, other_than, fits_put, fits_packet, Sayable, part_sane, by_parts, Steps, PacketsKeep}
 pub use Rattle.dm_rule.proofs.Phases.Put.{of_same}
 use Rattle.dm_onekernel.specs.Step as kernel
 use Rattle.dm_movelaws.proofs.Stages.Spares.{is_settled, mark_of, Spares, TokenOf, HasMark, token_mark, Marked, none_marked, some_marked, spares_same, spares_calm, spares_trans, spares_put, spares_about, open_after, mark_other, marks_of}
@@ -63,7 +63,7 @@ pub same_spot : (v w : View) (j : MsgId) (z : Spot) → standing w j z ≡ stand
 same_spot v w j z same s = (z, subst (λ n. 1 ≤ n) (sym same) s)
 
 label_spares : (pt : Point) (s : OneKernel) (l : Label) (p : Pid) → Sane pt → kernel.step pt.kernel l ≡ Some s → Spares pt.view (view_after pt.view (Line.Label l)) p
-label_spares pt s (Label.End q y) p h is = search (spares_line, same_spot, ended_off, settled_at)
+label_spares pt s (Label.End q y) p h is = search (spares_line, same_spot, settled_at)
 label_spares pt s (Label.Created id q) p h is = search (gone_plain, spares_line, same_spot, created_off, handled_spots, other_than, settled_at)
 label_spares pt s (Label.Served id) p h is =
     let l = Line.Label (Label.Served id) in
@@ -87,7 +87,7 @@ line_spares pt s (Line.Updated i n) p o h tame mild is = spares_calm pt.view (vi
 line_spares pt s (Line.Here i) p o h tame mild is = spares_calm pt.view (view_after pt.view (Line.Here i)) p (line_calm pt s (Line.Here i) h (tame i mild) is)
 line_spares pt s (Line.NoMove i) p o h tame mild is = spares_calm pt.view (view_after pt.view (Line.NoMove i)) p (line_calm pt s (Line.NoMove i) h (tame i mild) is)
 line_spares pt s (Line.Migration Stage.Asked q) p o h tame mild is = spares_same pt.view p
-line_spares pt s (Line.Migration Stage.Left q) p o h tame mild is = search (spares_line, same_spot, left_off, record_off)
+line_spares pt s (Line.Migration Stage.Left q) p o h tame mild is = search (spares_line, same_spot, record_off)
 line_spares pt s _ p o h tame mild is = absurd mild
 
 mild_touches : (p : Pid) (o : Option MsgId) (l : Line) → MildLine p o l → touches l ≡ false
@@ -199,12 +199,7 @@ line_sane pt l none quiet h = sane_line pt (moved pt l pt.kernel) l quiet (ap (�
 pub line_and_parts : (pt : Point) (p : Pid) (l : Line) (ps : List Part) (w : Spelled) → label_of l ≡ None → is_put l ≡ false → touches l ≡ false → Sane pt → PairsFit pt.view → Spares pt.view (view_after pt.view l) p → AllMild p None ps → spelled pt (Says l ∷ ps) ≡ Some w → Spares pt.view w.point.view p
 line_and_parts pt p l ps w none quiet calm sane fits first mild e =
     let n = line_next pt l ps w none e in
-    let start : Kept pt.view p None (moved pt l pt.kernel) = record {
-      spares = subst (λ (v : View). Spares pt.view v p) (sym (seen_none pt.kernel pt.view l none)) first;
-      sane = line_sane pt l none quiet sane;
-      fits = line_fits pt pt.kernel l calm fits;
-      tame = λ j k. cc;
-    } in
+    let start : Kept pt.view p None (moved pt l pt.kernel) = (search (arith, line_sane pt l none quiet sane, line_fits pt pt.kernel l calm fits, pt.view, seen_none)) in
     subst (λ (x : Point). Spares pt.view x.view p) n.point (parts_spare p None ps pt.view (moved pt l pt.kernel) n.rest mild start n.more).spares
 
 -- what a group says of one process, and leaves of the others

@@ -1,8 +1,8 @@
 -- The marks of lines: of one list after another, and of the lines that parts say.
-use Rattle.dm_movelaws.proofs.Names.{◌≡◌, ℕ, ◌≤◌, ◌==◌, ◌&&◌, Bool, true, false, not, List, [], refl, ap, ◌∙◌, sym, subst, inl, inr, if◌then◌else◌, Option, None, Some, cases_Bool, false≢true, Pid, MsgId, MessageKind, id_eq, View, Told, Of}
-use Rattle.dm_movelaws.proofs.Names.{Known, Unknown, Here, Frozen, Incoming, Forward, after_put, Spot, standing, is_between, is_restart, is_early, is_away, is_here, is_over, kind_comes, knows, Phase, Nowhere, Rests, Over, Moves, is_due}
+use Rattle.dm_movelaws.proofs.Names.{◌≡◌, ℕ, ◌≤◌, ◌==◌, Bool, true, false, List, [], refl, ap, ◌∙◌, sym, subst, inl, inr, if◌then◌else◌, Option, None, Some, cases_Bool, false≢true, Pid, MsgId, MessageKind, id_eq, View, Told, Of}
+use Rattle.dm_movelaws.proofs.Names.{Known, Unknown, Here, Frozen, Incoming, after_put, Spot, standing, is_between, is_restart, is_early, is_away, is_here, is_over, knows, Phase, Nowhere, Rests, Over, Moves, is_due}
 use Rattle.dm_movelaws.proofs.Names.{token_in, told_between, IsIn, id_eq-is, PairsFit, put_told_off, Calm, between_of, put_spots, put_at, put_there, put_spot, rests_here, Mark, Reached, Lacking, in_order, eq_self, not_false, right_true}
-use Rattle.dm_movelaws.proofs.Names.{first_kept, kind_leaves, nat_tests, arith, calm_about, calm_same, About, ◌∷◌, ◌++◌, pid_eq, Boot, pid_eq-same, Step, Line, Point, moved, Part, Says, Spelled, lines_of, spelled, sends_on, group_of}
+use Rattle.dm_movelaws.proofs.Names.{first_kept, nat_tests, arith, calm_about, calm_same, About, ◌∷◌, ◌++◌, pid_eq, Boot, pid_eq-same, Step, Line, Point, moved, Part, Says, Spelled, lines_of, spelled, sends_on, group_of}
 use Rattle.dm_movelaws.proofs.Names.{outcome, mark_for, with_mark, marks, left_open, left_true, both_true, by_parts, group_is}
 use Rattle.dm_rule.specs.View as view
 use Rattle.dm_movelaws.proofs.Leading.{lines_are}
@@ -150,26 +150,8 @@ rest_settled Nowhere m _ d e h = absurd (false≢true h)
 pub restart_late : (k : MessageKind) → is_restart k ≡ true → is_early k ≡ false
 restart_late k e = grind (arith, nat_tests)
 
-source_settled : (k : MessageKind) (d : ℕ) (x : Known) → kind_leaves k d x ≡ true → is_settled x ≡ true → is_restart k ≡ true
-source_settled k d (Frozen to) h e = absurd (false≢true e)
-source_settled k d (Forward at moves) h e = first_of (is_restart k) (d == at) h
-  where
-    first_of : (b c : Bool) → (b && c) ≡ true → b ≡ true
-    first_of true c e = refl
-    first_of false c e = absurd (false≢true e)
-source_settled k d _ h e = absurd (false≢true h)
-
 moves_unsettled : (v : View) (p : Pid) (k : MessageKind) (s d : ℕ) (o : Option MsgId) → IsIn v p (Moves k s d o) → ((m : ℕ) → is_settled (v.known m p) ≡ true) → ⊥
-moves_unsettled v p k s d o h settled =
-    let apart : (s == d) ≡ false = not_false (s == d) (right_true (is_between k) (not (s == d)) h.apart) in
-    let x = v.known s p in
-    let y = v.known d p in
-    let left : kind_leaves k d x ≡ true = sym (ap (λ (c : Bool). if c then kind_leaves k d x else if d == s then kind_comes k s x else is_away x) (eq_self s)) ∙ h.known s in
-    let come : kind_comes k s y ≡ true =
-    sym (ap (λ (c : Bool). if c then kind_leaves k d y else if d == d then kind_comes k s y else is_away y) apart ∙ ap (λ (c : Bool). if c then kind_comes k s y else is_away y) (eq_self d)) ∙ h.known d in
-    let late = restart_late k (source_settled k d x left (settled s)) in
-    let early : is_early k ≡ true = grind (arith, nat_tests, (settled d)) in
-    false≢true (sym late ∙ early)
+moves_unsettled v p k s d o h settled = search (arith, settled s, not_false, right_true, h.apart, v.known, eq_self, h.known, restart_late)
 
 -- a message about a process's migration that stands somewhere
 pub record TokenOf (v : View) (p : Pid) (k : MessageKind) : Type 0 where

@@ -5,10 +5,10 @@ use Rattle.dm_movelaws.proofs.Names.{pid_eq-swap, is_put, at_record_at, first_of
 use Rattle.dm_movelaws.proofs.Names.{in_order, released_on, nat_tests, arith, ◌==◌, Bool, PlainProcess, Incoming, handled, front_of, accepts, gives_piece, takes_chunk, takes_block, told_step, chunks_of, pieces_of, Owns, accepted_off}
 use Rattle.dm_movelaws.proofs.Names.{state_off, memory_off, lacks_off, proto_off, restarted_off, proto_known, Lacking, Staying, leaves, sets, MoveNote, Outcome, NothingElse, tells_asker, aim, PairsFit, Sane, Target, asked_off, target_of}
 use Rattle.dm_movelaws.proofs.Names.{forwards_on, process_told, told_server, plain_kind, PlainMessage, Boot, goes_round, handles, Addresses, loose_round, loose_handles, by_forwards, Label, PlainWhat, sort_of}
-use Rattle.dm_rule.specs.Rule as rule
 use Rattle.dm_movelaws.proofs.Stages.Spares.{is_settled, Spares, spares_same, TokenOf, HasMark, token_mark, here_mark, some_marked, mark_of, Marked, open_after, marks_of, mark_same, mark_other, marks_sent}
 use Rattle.dm_movelaws.proofs.Stages.Rows.{Handling, first_spares, owns_token, line_sane, line_and_parts, Row, split, front_token, row_marked, answer, AllMild, spares_line, same_spot, Kept, parts_spare}
 use Rattle.dm_movelaws.proofs.Leading.{line_fits, asker_known}
+use Rattle.dm_rule.specs.Rule as rule
 
 pub round_mild : (me : Pid) (front : Option MsgId) (b : Boot) (pt : Point) (m : ℕ) (o : Option Pid) (ps : List Part) → goes_round b pt m o ≡ Some ps → AllMild me front ps
 round_mild me front b pt m o ps e = loose_round (AllMild me front) (record { none = tt; label = λ l ps h. (tt, h); routes = λ i ps h. (tt, h) }) b pt m o ps (tt, tt) e
@@ -66,11 +66,7 @@ asker_mild p (Some n) r = (tt, (tt, tt))
 
 home_known : (pt : Point) (l : Line) (o : Option MoveNote) (r : Outcome) (w : Spelled) (q : Pid) → label_of l ≡ None → (view_after pt.view l).known ≡ at_record pt.view.known pt.view.acting q Here
     → spelled pt (Says l ∷ tells_asker o r) ≡ Some w → w.point.view.known pt.view.acting q ≡ Here
-home_known pt l o r w q none known e =
-    let n = line_next pt l (tells_asker o r) w none e in
-    let a = pt.view.acting in
-    ap (λ (x : Point). x.view.known a q) (sym n.point)
-    ∙ asker_known a q Here o r (moved pt l pt.kernel) n.rest n.more (ap (λ (f : ℕ → Pid → Known). f a q) known ∙ at_record_at pt.view.known a q Here)
+home_known pt l o r w q none known e = search (arith, line_next, pt.view.acting, asker_known, pt.kernel, at_record_at, pt.view.known)
 
 pub comes_home : (pt : Point) (i : MsgId) (is : List MsgId) (q : Pid) (l : Line) (a : Option MoveNote) (r : Outcome) (ns : List Mark) (x : Option Mark) (w : Spelled) → Handling pt i is q → label_of l ≡ None → is_put l ≡ false → touches l ≡ false
     → ((z : Spot) → ids_at (view_after pt.view l) z ≡ ids_at (released (home_again (handled_first pt.view) q) q) z)

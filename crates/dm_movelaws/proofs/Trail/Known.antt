@@ -1,11 +1,11 @@
 -- Wherever the rule leads there are trails that all addresses are on; where a process doesn't move, its trail ends where it is.
 use Rattle.dm_movelaws.proofs.Names.{◌≡◌, ◌≢◌, ℕ, ◌+◌, ◌==◌, Bool, true, false, List, [], ◌∷◌, length, ap, ◌∙◌, sym, subst, inl, inr, arith, if◌then◌else◌, slice_get, Option, Some, Pid, MsgId, MessageKind, Boot, bind, Step, bind-is, Line}
-use Rattle.dm_movelaws.proofs.Names.{Leads, Phase, Nowhere, Rests, Over, Moves, IsIn, is_away, is_here, is_over, is_restart, kind_comes, Point, first_point, after, after_line, Trails, Trodden, first_trodden, along, trails_after, View}
-use Rattle.dm_movelaws.proofs.Names.{Known, Unknown, Ended, parts, along_treads, treads_start, Treads, is_moving, IsThere, eq_self, not_false, kind_leaves, nat_tests, IsValid, IsStep, Spelled, group_of, first_trails, TrailsAlways}
-use Rattle.dm_movelaws.proofs.Names.{first_view, eq_is, start_known, Carries, trails_always_by, Both, both_start, both_group, run_start, run_group, not, filter, is_some, refl, cases_Bool, false≢true, None, Place, Label, Life, OneKernel}
+use Rattle.dm_movelaws.proofs.Names.{Leads, Phase, Nowhere, Rests, Over, Moves, IsIn, is_away, is_here, is_over, Point, first_point, after, after_line, Trails, Trodden, first_trodden, along, trails_after, View}
+use Rattle.dm_movelaws.proofs.Names.{Known, Unknown, Ended, parts, along_treads, treads_start, Treads, is_moving, IsThere, eq_self, not_false, nat_tests, IsValid, IsStep, Spelled, group_of, first_trails, TrailsAlways}
+use Rattle.dm_movelaws.proofs.Names.{first_view, eq_is, start_known, Carries, trails_always_by, Both, both_start, both_group, run_start, run_group, is_some, refl, cases_Bool, false≢true, None, Place, Label, Life, OneKernel}
 use Rattle.dm_movelaws.proofs.Names.{after_step, Stage, kernel_after, at_record, Told, About, NothingElse, Here, Frozen, Forward, view_after, handled, receiver_of, served_told, hushed, grown_none, Phased, queued_known, held_known}
 use Rattle.dm_movelaws.proofs.Names.{dropped_known, Sane, label_topic, is_server, KnownStands, group_keeps, Loud, keeps_by, set_all, killed_or, named_real, is_made, IsNamed, ByHolder, ByOwn, ByRequest, ByUpdate, ByForward, queued_topic}
-use Rattle.dm_movelaws.proofs.Names.{held_topic, taken_topic, or_first, run_always, sets, topic_by, seen, label_of, Of}
+use Rattle.dm_movelaws.proofs.Names.{held_topic, or_first, run_always, sets, seen, label_of, Of}
 use Rattle.dm_rulelaws.proofs.Found.Core.{IsReal}
 use Rattle.dm_onekernel.specs.Step as kernel
 use Rattle.dm_rule.specs.View as view
@@ -75,17 +75,11 @@ trod_on b (e ∷ es) pt end (w, fit, is, rest) h =
       treads = along_treads w.lines x (trodden w.point u) comes (carries.fits b x e w fit is h.holds h.treads) h.treads;
     })
 
--- one that moves is leaving, or its destination waits for it
-still_leaves : (k : MessageKind) (d : ℕ) (x : Known) → is_moving x ≡ false → kind_leaves k d x ≡ true → is_restart k ≡ true
-still_leaves k d x still e = grind (arith, nat_tests, parts)
-
 at_self : (m : ℕ) (x y : Bool) → (if m == m then x else y) ≡ true → x ≡ true
 at_self m x y e = sym (ap (λ (c : Bool). if c then x else y) (eq_self m)) ∙ e
 
 never_moves : (v : View) (p : Pid) (k : MessageKind) (s d : ℕ) (o : Option MsgId) → IsIn v p (Moves k s d o) → ((m : ℕ) → is_moving (v.known m p) ≡ false) → ⊥
-never_moves v p k s d o h still =
-    let restart = still_leaves k d (v.known s p) (still s) (at_self s (kind_leaves k d (v.known s p)) (if d == s then kind_comes k s (v.known s p) else is_away (v.known s p)) (h.known s)) in
-    grind (arith, nat_tests, not_false, parts, restart_late)
+never_moves v p k s d o h still = search (arith, v.known s p, still s, at_self, h.known, not_false, parts, restart_late)
 
 long_in : (v : View) (t : Trails) (p : Pid) (phase : Phase) → IsIn v p phase → Placed v t p → ((m : ℕ) → is_moving (v.known m p) ≡ false) → length (t p) ≡ v.moves p + 1
 long_in v t p Nowhere h on still = let k = on.unmade (λ m. unknown_is (v.known m p) (h.known m)) in let none = k.0 in let one = k.1 in omega (arith, none, one)
@@ -181,20 +175,7 @@ no_of : (T : Type 0) (q p : Pid) (m c : ℕ) → Of q ≡ view.Place p m c → T
 no_of T q p m c e = cc
 
 line_made : (s : OneKernel) (v : View) (l : Line) → Passing s v → (p : Pid) (m c : ℕ) → (view_after v l).topic ≡ view.Place p m c → WasMade s p
-line_made s v (Line.Head d) h p m c e = head_made s v d p m c e
-line_made s v (Line.Label l) h p m c e = h.topic p m c (sym (label_topic v l) ∙ e)
-line_made s v (Line.Forwarded i n) h p m c e = search forwarded_made
-line_made s v (Line.Proto i) h p m c e = proto_made s v i (v.told i) p m c refl h e
-line_made s v (Line.Migration k q) h p m c e = stage_made s v q k p m c h e
-line_made s v (Line.SentOn q n) h p m c e = no_of (WasMade s p) q p m c e
-line_made s v (Line.Lacks q x y) h p m c e = no_of (WasMade s p) q p m c e
-line_made s v (Line.Queued i) h p m c e = h.topic p m c (sym (queued_topic (handled v i) i (receiver_of (v.told i))) ∙ e)
-line_made s v (Line.Held i) h p m c e = h.topic p m c (sym (held_topic (handled v i) i (receiver_of (v.told i))) ∙ e)
-line_made s v (Line.Taken a b n) h p m c e =
-    let x = v.pair a b in
-    let w = view.with_pair v a b (record x { taken = x.taken + 1; kept = filter (λ j. not (j == n)) x.kept }) in
-    h.topic p m c (sym (taken_topic w b (view.oldest x)) ∙ e)
-line_made s v _ h p m c e = h.topic p m c e
+line_made s v l h1 p m c h2 = search (arith, head_made, label_topic, forwarded_made, proto_made, v.told, stage_made, no_of, queued_topic, held_topic)
 
 -- a line after which the same leave
 line_passing : (pt : Point) (t : OneKernel) (l : Line) → Goes pt.kernel t → ((m : ℕ) (p : Pid) → passes ((view_after pt.view l).known m p) ≡ true → WasMade pt.kernel p) → (view_after pt.view l).told ≡ pt.view.told → Passing pt.kernel pt.view
@@ -217,13 +198,8 @@ served_known s v i o h m p e = grind (arith, nat_tests, killed_or, set_known)
 put_told : (v : View) (a b : ℕ) (i : MsgId) (k : MessageKind) (q : Pid) (s : OneKernel) (j : MsgId) (u : Told) (p : Pid) (m c : ℕ) → Passing s v → (view.after_put v a b i k q).told j ≡ Some u → u.about ≡ view.Place p m c → WasMade s p
 put_told v a b i k q s j u p m c h e f = grind (arith, nat_tests)
 
-topic_place : (s : OneKernel) (a : About) (o : Option Label) (p : Pid) (m c : ℕ) → topic_by s a o ≡ view.Place p m c → a ≡ view.Place p m c
-topic_place s a None p m c e = e
-topic_place s a (Some (Label.Asked id)) p m c e = absurd (grind (arith, nat_tests))
-topic_place s a (Some _) p m c e = e
-
 passing_seen : (s t : OneKernel) (v : View) (l : Line) → Passing t (view_after v l) → Passing t (seen s v l)
-passing_seen s t v l h = record { known = h.known; told = h.told; topic = λ p m c e. h.topic p m c (topic_place s (view_after v l).topic (label_of l) p m c e) }
+passing_seen s t v l h = search (arith, h.known, h.told, h.topic)
 
 passing_loud : Loud (λ pt. Passing pt.kernel pt.view)
 passing_loud = record {

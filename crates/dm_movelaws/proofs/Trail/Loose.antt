@@ -7,10 +7,10 @@ use Rattle.dm_movelaws.proofs.Names.{spelled, Trodden, along, AllSayable, part_s
 use Rattle.dm_movelaws.proofs.Names.{Known, Frozen, Incoming, Forward, forwarded_for, gone_to, Sender, is_told_back, forwards_on, sends_on, Moves, IsIn, times, destination, both_lists, forwarded_known, get_at_end, forwarded_back, Named}
 use Rattle.dm_movelaws.proofs.Names.{source_holds, two_apart, sent_on_at, again_rides, named_for, again_same, eq_self, forwarded_own, other_id, leaves}
 use Rattle.dm_rule.proofs.Trails.Along.{AllFit}
-use Rattle.dm_onekernel.specs.Step as kernel
-use Rattle.dm_rule.specs.Rule as rule
 use Rattle.dm_movelaws.proofs.Trail.Placed.{Places, placed_same, is_held, Placed, placed_left, places_set, moves_held, moves_comes}
 use Rattle.dm_movelaws.proofs.Leading.{Behind, whatever_put, part_leads}
+use Rattle.dm_onekernel.specs.Step as kernel
+use Rattle.dm_rule.specs.Rule as rule
 
 -- each of these lines fits where the ones before lead, and behind the last each process is placed
 abbrev pub AllGood : Point → Trails → List Line → Type 0
@@ -196,13 +196,7 @@ pinned_loose p = quiet (Line.Pinned p) (λ pt t. tt) (λ v t. refl) (λ v n q. r
 
 -- what the net says
 net_line : (l : Line) → IsNetLine l → Loose (Says l)
-net_line (Line.Taken a b n) h = grind (arith, nat_tests, quiet, at_pid)
-net_line (Line.Old a b n) h = quiet (Line.Old a b n) (λ pt t. tt) (λ v t. refl) (λ v m q. refl) (λ v q. refl)
-net_line (Line.Early a b n) h = quiet (Line.Early a b n) (λ pt t. tt) (λ v t. refl) (λ v m q. refl) (λ v q. refl)
-net_line (Line.Acked a b n) h = quiet (Line.Acked a b n) (λ pt t. tt) (λ v t. refl) (λ v m q. refl) (λ v q. refl)
-net_line (Line.Resent m n) h = quiet (Line.Resent m n) (λ pt t. tt) (λ v t. refl) (λ v k q. refl) (λ v q. refl)
-net_line Line.Nothing h = quiet Line.Nothing (λ pt t. tt) (λ v t. refl) (λ v m q. refl) (λ v q. refl)
-net_line _ h = absurd h
+net_line l h1 = search (arith, quiet, at_pid)
 
 pub net_loose : (ps : List Part) → IsNet ps → AllLoose ps
 net_loose [] h = tt

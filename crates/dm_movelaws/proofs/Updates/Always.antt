@@ -6,11 +6,11 @@ use Rattle.dm_movelaws.proofs.Names.{suc, ◌+◌, List, ◌∷◌, length, slic
 use Rattle.dm_movelaws.proofs.Names.{slot_of, name_link, ascends, listings, is_owner, group_is, ◌||◌, MessageKind, plain_kind, Line, Part, Says, lines_of, spelled, moved, GroupIs, by_parts, sends_on, IsNetLine, by_migrates, by_hears}
 use Rattle.dm_movelaws.proofs.Names.{by_net, by_outcome, ⊤, PlainMessage, forwards_on, Loose, loose_round, loose_handles, by_forwards}
 use Rattle.dm_laws.proofs.Entered.{Made}
+use Rattle.dm_movelaws.proofs.Leading.{lines_are}
 use Rattle.dm_onekernel.specs.Step as kernel
 use Rattle.dm_rule.specs.View as view
 use Rattle.dm_onekernel.specs.Manager as manage
 use Rattle.dm_rule.specs.Rule as rule
-use Rattle.dm_movelaws.proofs.Leading.{lines_are}
 
 -- the update is at the front of an inbox and not in the bag: its receiver is a server or here and the line counts the addresses
 -- that are behind, or its receiver has ended
@@ -141,18 +141,10 @@ same_line d (x ∷ y ∷ zs) ys id i n k e =
     let f : zs ++ Line.Updated id n ∷ ys ≡ [] = cc in
     absurd (false≢true (sym (ap has f) ∙ has_in zs ys id n))
 
-abbrev spelled_or : Spelled → Option Spelled → Spelled
-spelled_or z None = z
-spelled_or z (Some w) = w
-
 pub by_shape : (b : Boot) (pt : Point) (d : Step) (w : Spelled) (id : MsgId) (n : ℕ) (xs ys : List Line) (g : GroupIs b pt d w) → w.lines ≡ xs ++ Line.Updated id n ∷ ys → Shape pt g.parts → Handled b pt d w id n
 by_shape b pt d w id n xs ys g there (Quiet quiet) =
     absurd (false≢true (sym (parts_have g.parts (begun pt d) g.rest quiet g.said) ∙ ap (λ (x : Spelled). has x.lines) g.whole ∙ ap has there ∙ has_in xs ys id n))
-by_shape b pt d w id n xs ys g there (Updates m i k form handles) =
-    let rest : record { lines = Line.Updated i k ∷ []; point = moved (begun pt d) (Line.Updated i k) pt.kernel } ≡ g.rest = ap (spelled_or g.rest) (ap (spelled (begun pt d)) (sym form) ∙ g.said) in
-    let all : Line.Head d ∷ Line.Updated i k ∷ [] ≡ w.lines = ap (λ (x : Spelled). Line.Head d ∷ x.lines) rest ∙ ap (λ (x : Spelled). x.lines) g.whole in
-    let point : moved (begun pt d) (Line.Updated i k) pt.kernel ≡ w.point = ap (λ (x : Spelled). x.point) rest ∙ ap (λ (x : Spelled). x.point) g.whole in
-    grind (arith, nat_tests, (sym all), (same_line d xs ys id i n k (sym there ∙ sym all)))
+by_shape b pt d w id n xs ys g there (Updates m i k form handles) = search (arith, pt.kernel, g.rest, g.said, w.lines, g.whole, w.point, same_line)
 
 -- What an update does wherever the rule leads.
 

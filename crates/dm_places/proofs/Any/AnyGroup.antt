@@ -1,14 +1,14 @@
 -- Behind each group there is a kernel with places, where there was one before.
-use Rattle.dm_places.proofs.Names.{◌≡◌, ℕ, ◌+◌, ◌<◌, ◌==◌, ◌||◌, Bool, true, false, List, [], ◌∷◌, length, refl, ap, ◌∙◌, subst, is_some, inl, inr, arith, ⊤, if◌then◌else◌, nat_lt, slice_get, Option, None, Some, nat_tests, Pid, pid_eq}
-use Rattle.dm_places.proofs.Names.{pid_of, MsgId, Label, Line, PlainMessage, PlainWhat, Boot, BootImage, first_number, manager, switchboard, Life, OneKernel, bind, Step, bind-is, View, after_head, Part, Routes, Spelled, spelled, Point}
-use Rattle.dm_places.proofs.Names.{after_line, moved, group_of, behind, outcome, Placed, GroupNeeds, MirrorsPoint, or_second}
+use Rattle.dm_places.proofs.Names.{◌≡◌, ℕ, ◌+◌, ◌==◌, ◌||◌, Bool, true, List, [], ◌∷◌, length, refl, ◌∙◌, subst, is_some, arith, ⊤, if◌then◌else◌, slice_get, Option, None, Some, nat_tests, pid_eq, pid_of, MsgId, Label, Line, PlainMessage}
+use Rattle.dm_places.proofs.Names.{PlainWhat, Boot, first_number, manager, switchboard, Life, OneKernel, bind, Step, bind-is, View, after_head, Part, Routes, Spelled, spelled, Point, after_line, moved, group_of, behind, outcome, Placed}
+use Rattle.dm_places.proofs.Names.{GroupNeeds, MirrorsPoint, or_second}
+use Rattle.dm_places.proofs.EasyRows.{AsksEasily, Easy, arrives_easy, hears_easy, migrates_easy, process_easy, resends_easy, round_easy, routes_easy}
+use Rattle.dm_places.proofs.Any.AnyPart.{Behind, EasyParts, PartsNeed, SoundAt, parts_follow}
+use Rattle.dm_places.proofs.Lines.{lines_keep}
 use Rattle.dm_onekernel.specs.Manager as manage
 use Rattle.dm_onekernel.specs.Pieces as pieces
 use Rattle.dm_onekernel.specs.Switchboard as board
 use Rattle.dm_rule.specs.Rule as rule
-use Rattle.dm_places.proofs.EasyRows.{AsksEasily, Easy, arrives_easy, hears_easy, migrates_easy, process_easy, resends_easy, round_easy, routes_easy}
-use Rattle.dm_places.proofs.Any.AnyPart.{Behind, EasyParts, PartsNeed, SoundAt, parts_follow}
-use Rattle.dm_places.proofs.Lines.{lines_keep}
 
 -- where the first part needs something
 abbrev Fits : OneKernel → View → Option (List Part) → Type 0
@@ -16,40 +16,30 @@ Fits s v None = ⊤
 Fits s v (Some ps) = PartsNeed s v ps
 
 easy_parts : (s : OneKernel) (v : View) (ps : List Part) → EasyParts ps → PartsNeed s v ps
-easy_parts s v [] h = tt
-easy_parts s v (p ∷ ps) h = (inl h.0, h.1)
+easy_parts s v ps h1 = search arith
 
 easy_fits : (s : OneKernel) (v : View) (o : Option (List Part)) → Easy o → Fits s v o
-easy_fits s v None h = tt
-easy_fits s v (Some ps) h = easy_parts s v ps h
+easy_fits s v o h1 = search (arith, easy_parts)
 
 if_fits : (s : OneKernel) (v : View) (c : Bool) (o p : Option (List Part)) → (c ≡ true → Fits s v o) → Fits s v p → Fits s v (if c then o else p)
-if_fits s v true o p h k = h refl
-if_fits s v false o p h k = k
+if_fits s v c o p h1 h2 = search arith
 
 board_fits : (pt : Point) (v : View) (id : MsgId) (o : Option board.BoardTook) → v.acting ≡ 0 → GroupNeeds pt → Fits pt.kernel v (rule.board_took id o)
-board_fits pt v id None at needs = tt
-board_fits pt v id (Some t) at needs = (inr (Label.Took id, refl, (at, needs.pending)), routes_easy t.answer)
+board_fits pt v id o h1 h2 = search (arith, routes_easy)
 
 manager_fits : (pt : Point) (v : View) (id : MsgId) (o : Option manage.ManagerTook) → v.acting ≡ 0 → GroupNeeds pt → Fits pt.kernel v (rule.manager_parts id o)
-manager_fits pt v id None at needs = tt
-manager_fits pt v id (Some t) at needs = (inr (Label.Took id, refl, (at, needs.pending)), routes_easy t.message)
+manager_fits pt v id o h1 h2 = search (arith, routes_easy)
 
 -- the next process of a home wasn't made
 not_made : (o : Option Life) → (is_some o ≡ true → ⊥) → o ≡ None
-not_made None none = refl
-not_made (Some life) none = absurd (none refl)
+not_made o h1 = grind (arith, nat_tests)
 
 creates_if : (pt : Point) (v : View) (m : ℕ) (id : MsgId) (r : rule.Room) (c : Bool) → v.moves ≡ pt.view.moves → SoundAt pt.kernel → GroupNeeds pt
     → PartsNeed pt.kernel v ((if c then rule.says (Label.Created id (pid_of m (first_number + pt.kernel.made m))) else rule.says (Label.NoSpace id r.slots r.blocks)) ∷ Routes (pieces.answer_id id) ∷ [])
-creates_if pt v m id r true counts h needs =
-    let p = pid_of m (first_number + pt.kernel.made m) in
-    (inr (Label.Created id p, refl, ap (λ (f : Pid → ℕ). f p) counts ∙ needs.unmoved p (grind (arith, nat_tests, not_made, nat_lt))), (tt, tt))
-creates_if pt v m id r false counts h needs = (inl tt, (tt, tt))
+creates_if pt v m id r c h1 h2 h3 = search (arith, not_made)
 
 or_first : (b c : Bool) → b ≡ true → (b || c) ≡ true
-or_first true c e = refl
-or_first false c e = cc
+or_first b c h1 = grind (arith, nat_tests)
 
 comes_fit : (b : Boot) (pt : Point) (v : View) (m : ℕ) (id : MsgId) (o : Option PlainMessage) → v.acting ≡ m → v.moves ≡ pt.view.moves → SoundAt pt.kernel → GroupNeeds pt
     → ((x : PlainMessage) → o ≡ Some x → (pid_eq x.to switchboard || pid_eq x.to manager) ≡ true → m ≡ 0) → ((x : PlainMessage) → o ≡ Some x → AsksEasily id x.what) → Fits pt.kernel v (rule.comes_to b pt m id o)
@@ -73,16 +63,13 @@ comes_fit b pt v m id (Some k) acting counts h needs server asks =
     (easy_fits s v four (process_easy pt m id k (pt.view.known m k.to) (asks k refl)))))
 
 turns_fit : (b : Boot) (pt : Point) (v : View) (m : ℕ) (is : List MsgId) → pt.view.inbox m ≡ is → v.acting ≡ m → v.moves ≡ pt.view.moves → SoundAt pt.kernel → GroupNeeds pt → Fits pt.kernel v (rule.turns b pt m is)
-turns_fit b pt v m [] inbox acting counts h needs =
-    let o = rule.first_runnable pt.kernel (pt.view.queue m) (pt.view.ring m) in
-    easy_fits pt.kernel v (rule.goes_round b pt m o) (round_easy b pt m o)
+turns_fit b pt v m [] inbox acting counts h needs = search (arith, easy_fits, round_easy)
 turns_fit b pt v m (i ∷ is) inbox acting counts h needs = comes_fit b pt v m i (pt.kernel.bag i) acting counts h needs (λ x there to. needs.server m i is x inbox there to) (λ x there machine what. needs.asks i x machine there what)
 
 outcome_fits : (b : Boot) (pt : Point) (d : Step) → SoundAt pt.kernel → GroupNeeds pt → Fits pt.kernel (after_head pt.view d) (outcome b pt d)
 outcome_fits b pt (Step.Turn m) h needs = turns_fit b pt (after_head pt.view (Step.Turn m)) m (pt.view.inbox m) refl refl refl h needs
 outcome_fits b pt (Step.Tick m) h needs = easy_fits pt.kernel (after_head pt.view (Step.Tick m)) (outcome b pt (Step.Tick m)) (tt, resends_easy m pt.view pt.kernel.machines)
-outcome_fits b pt (Step.Deliver a c k) h needs =
-    easy_fits pt.kernel (after_head pt.view (Step.Deliver a c k)) (outcome b pt (Step.Deliver a c k)) (arrives_easy a c (pt.view.pair a c) (pt.view.pair c a) (slice_get (pt.view.pair a c).wire k))
+outcome_fits b pt (Step.Deliver a c k) h needs = search (arith, easy_fits, arrives_easy)
 outcome_fits b pt (Step.Migrate p m) h needs = easy_fits pt.kernel (after_head pt.view (Step.Migrate p m)) (outcome b pt (Step.Migrate p m)) (migrates_easy pt p)
 
 -- a group

@@ -1,6 +1,6 @@
 -- Behind any line there is a kernel with places, where there was one before.
-use Rattle.dm_places.proofs.Names.{◌≡◌, ◌+◌, ◌++◌, Bool, false, List, [], ◌∷◌, refl, ap, ◌∙◌, sym, subst, inl, inr, if◌then◌else◌, option_map, Option, None, Some, cases_Bool, Pid, Place, pid_eq, applied, MsgId, Process, sent_on, manager}
-use Rattle.dm_places.proofs.Names.{arith, nat_tests, switchboard, OneKernel, plain_process, pid_eq-is, Line, Stage, Told, View, handled, own_id, receiver_of, view_after, Addresses, Receiver, all_follow, forwards, gets, given, is_told_back}
+use Rattle.dm_places.proofs.Names.{◌≡◌, ◌+◌, ◌++◌, false, List, [], ◌∷◌, refl, ◌∙◌, sym, subst, inl, inr, if◌then◌else◌, option_map, Option, None, Some, cases_Bool, Pid, Place, pid_eq, applied, MsgId, Process, sent_on, manager, arith}
+use Rattle.dm_places.proofs.Names.{nat_tests, switchboard, OneKernel, plain_process, pid_eq-is, Line, Stage, Told, View, handled, own_id, receiver_of, view_after, Addresses, Receiver, all_follow, forwards, gets, given, is_told_back}
 use Rattle.dm_places.proofs.Names.{place_known, place_told, told_back_gets, updated, updated_to, Point, after_line, moved, Placed, Mirrors, with_message, with_process, KeepsPlaces, LineNeeds, MirrorsPoint, ServersApart}
 use Rattle.dm_migrate.specs.Way as way
 use Rattle.dm_onekernel.specs.Step as kernel
@@ -41,8 +41,7 @@ forwards_follow s v a l id (Some t) none h =
 
 -- an update
 pub no_process : (o : Option Process) → option_map plain_process o ≡ None → o ≡ None
-no_process None e = refl
-no_process (Some x) e = cc
+no_process o h1 = grind (arith, nat_tests)
 
 not_there : (s : OneKernel) (v : View) (a : Addresses) (l : Placed) (q : Pid) → Mirrors s v a l → kernel.alive (s.processes q) ≡ None → l.processes q ≡ None
 not_there s v a l q h none = no_process (l.processes q) (sym (h.plain.processes q) ∙ none)
@@ -77,22 +76,7 @@ absent_comes v p q l x none there = grind (arith, nat_tests, pid_eq-is)
 
 comes : (pt : Point) (l : Placed) (p : Pid) (o : Option Process) → l.processes p ≡ o → MirrorsPoint pt l → Stands (moved pt (Line.Migration Stage.Restarted p) pt.kernel)
 comes pt l p (Some x) there h = record { l = with_process l p (Some (way.moved x)); mirrors = restarted_mirrors pt l p x h there }
-comes pt l p None none h =
-    let g = h.places in
-    record {
-      l = l;
-      mirrors = record {
-        plain = h.plain;
-        places = record {
-          process = λ q x e. let k = g.process q x e in record { pid = k.pid; moves = k.moves ∙ sym (absent_comes pt.view p q l x none e); slots = k.slots; owner = k.owner };
-          message = g.message;
-          name = g.name;
-          child = g.child;
-          answer = g.answer;
-          asker = g.asker;
-        };
-      };
-    }
+comes pt l p None none h = search (arith, absent_comes)
 
 -- a line
 keeps : (pt pt' : Point) (l : Placed) (x : Line) → KeepsPlaces pt x → MirrorsPoint pt l → after_line pt x ≡ Some pt' → Stands pt'

@@ -1,7 +1,7 @@
 -- Behind the parts of a group there is a kernel with places, where there was one before.
-use Rattle.dm_places.proofs.Names.{◌≡◌, ℕ, true, false, List, [], ◌∷◌, refl, ap, ◌∙◌, sym, subst, is_some, ◌⊎◌, inl, inr, ⊤, nat_le, Option, None, Some, MsgId, PlainMessage, Label, manager, switchboard, Life, OneKernel, bind, Sound}
-use Rattle.dm_places.proofs.Names.{bind-is, after_step, Line, Told, View, is_kernels, own_id, Again, Owns, Part, Routes, Says, Spelled, Transmits, behind, lines_of, packet_line, puts, spelled, Point, after, after_line, kernel_after}
-use Rattle.dm_places.proofs.Names.{label_of, moved, not_kernels, Placed, LineNeeds, MirrorsPoint, ServersApart, StepNeeds, id_of, note-is}
+use Rattle.dm_places.proofs.Names.{◌≡◌, ℕ, true, List, [], ◌∷◌, refl, ap, ◌∙◌, sym, subst, is_some, ◌⊎◌, inl, inr, ⊤, Option, None, Some, MsgId, PlainMessage, Label, manager, Life, OneKernel, bind, Sound, bind-is, after_step, Line, Told}
+use Rattle.dm_places.proofs.Names.{View, is_kernels, own_id, Again, Owns, Part, Routes, Says, Spelled, Transmits, behind, lines_of, puts, spelled, Point, after, after_line, kernel_after, label_of, moved, not_kernels, Placed, LineNeeds}
+use Rattle.dm_places.proofs.Names.{MirrorsPoint, StepNeeds, id_of, note-is, arith, nat_tests}
 use Rattle.dm_onekernel.specs.Step as kernel
 use Rattle.dm_places.proofs.Any.AnyLine.{line_follows}
 use Rattle.dm_places.proofs.Putting.{SamePoint, again_same, puts_same, routes_kernel, routes_mirrors}
@@ -18,12 +18,10 @@ sound_after s t (Some l) is h = let a = after_step h.r h.e s t l is h.sound in r
 
 -- servers were never made, and a kernel's own message isn't in the bag
 never_alive : (o : Option Life) → (is_some o ≡ true → ⊥) → kernel.alive o ≡ None
-never_alive None none = refl
-never_alive (Some life) none = absurd (none refl)
+never_alive o h1 = grind (arith, nat_tests)
 
 own_apart_of : (s : OneKernel) (i : MsgId) (o : Option PlainMessage) → s.bag i ≡ o → is_kernels i ≡ true → SoundAt s → o ≡ None
-own_apart_of s i None is mine h = refl
-own_apart_of s i (Some x) is mine h = absurd (let f : is_kernels i ≡ false = not_kernels h.r h.e s i x is h.sound in let g : true ≡ false = sym mine ∙ f in cc)
+own_apart_of s i o h1 h2 h3 = grind (arith, nat_tests, not_kernels)
 
 -- what needs little beside: all labels but those of a server and of a new process; a request to move is the manager's
 abbrev pub EasyLabel : Label → Type 0
@@ -33,12 +31,7 @@ EasyLabel (Label.Asked id) = id ≡ id_of manager id.n
 EasyLabel _ = ⊤
 
 easy_label : (s : OneKernel) (v : View) (l : Label) → EasyLabel l → SoundAt s → StepNeeds s v l
-easy_label s v (Label.Took id) e h = absurd e
-easy_label s v (Label.Created id child) e h = absurd e
-easy_label s v (Label.Asked id) e h = e
-easy_label s v (Label.Answered id o) e h = λ p n noted notes.
-    (let (x, alive) = h.sound.notes.lives p n notes in (x, note-is h.e s id p n noted notes h.sound.notes, ap kernel.alive alive))
-easy_label s v _ e h = tt
+easy_label s v l h1 h2 = search (arith, note-is)
 
 abbrev pub EasyLine : Line → Type 0
 EasyLine (Line.Label e) = EasyLabel e
@@ -46,14 +39,7 @@ EasyLine (Line.Put from to id k q) = ⊥
 EasyLine _ = ⊤
 
 easy_line : (pt : Point) (x : Line) → EasyLine x → SoundAt pt.kernel → LineNeeds pt x
-easy_line pt (Line.Label e) easy h = easy_label pt.kernel pt.view e easy h
-easy_line pt (Line.Put from to id k q) easy h = absurd easy
-easy_line pt (Line.Forwarded id m) easy h = own_apart_of pt.kernel (own_id pt.view) (pt.kernel.bag (own_id pt.view)) refl refl h
-easy_line pt (Line.Updated id n) easy h = (
-  never_alive (pt.kernel.processes switchboard) (λ made. let f : nat_le 3 1 ≡ true = h.sound.made.least switchboard made in cc),
-  never_alive (pt.kernel.processes manager) (λ made. let f : nat_le 3 2 ≡ true = h.sound.made.least manager made in cc),
-)
-easy_line pt _ easy h = tt
+easy_line pt x h1 h2 = search (arith, easy_label, own_apart_of, never_alive)
 
 abbrev pub EasyPart : Part → Type 0
 EasyPart (Says x) = EasyLine x
@@ -104,9 +90,7 @@ part_follows pt next l (Owns k q b) ls easy sound h lines is =
     let f : puts pt.view b own k q ≡ ls = cc in
     let (m, on) = line_follows pt mid l x (inr (own_apart_of pt.kernel (own_id pt.view) (pt.kernel.bag (own_id pt.view)) refl refl sound)) h refl in
     same_follows mid next m (puts_same pt next b own k q (ap (after pt) f ∙ is)) sound on
-part_follows pt next l (Transmits a b x) ls easy sound h lines is =
-    let y = packet_line pt.view a b x in
-    let f : y ∷ [] ≡ ls = cc in says_follow pt next l y tt sound h (ap (after pt) f ∙ is)
+part_follows pt next l (Transmits a b x) ls easy sound h lines is = search (arith, says_follow)
 
 first_follows : (pt next : Point) (l : Placed) (p : Part) (ls : List Line) → FirstNeeds pt.kernel pt.view p → SoundAt pt.kernel → MirrorsPoint pt l → lines_of pt p ≡ Some ls → after pt ls ≡ Some next → Behind next
 first_follows pt next l p ls needs sound h lines is = elim needs [
@@ -120,9 +104,7 @@ abbrev StandsBehind : Spelled → Type 0
 StandsBehind w = Behind w.point
 
 easy_follow : (ps : List Part) (pt : Point) (w : Spelled) (l : Placed) → EasyParts ps → SoundAt pt.kernel → MirrorsPoint pt l → spelled pt ps ≡ Some w → Behind w.point
-easy_follow [] pt w l easy sound h is =
-    let z : Spelled = record { lines = []; point = pt } in
-    let f : z ≡ w = cc in subst StandsBehind f (record { l = l; mirrors = h; sound = sound })
+easy_follow [] pt w l easy sound h is = search arith
 easy_follow (p ∷ ps) pt w l easy sound h is =
     let (ls, lines, rest) = bind-is (lines_of pt p) (λ (xs : List Line). bind (after pt xs) (λ (q : Point). bind (spelled q ps) (λ (z : Spelled). Some (behind xs z)))) w is in
     let (next, comes, last) = bind-is (after pt ls) (λ (q : Point). bind (spelled q ps) (λ (z : Spelled). Some (behind ls z))) w rest in

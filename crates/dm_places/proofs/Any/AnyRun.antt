@@ -1,6 +1,6 @@
 -- Wherever the rule leads there is a kernel with places, where something holds at each point that gives what groups need.
-use Rattle.dm_places.proofs.Names.{◌≡◌, ℕ, ◌≤◌, ◌||◌, true, List, [], ◌∷◌, is_some, refl, ap, ◌∙◌, sym, subst, arith, Option, None, Some, nat_tests, Pid, pid_eq, MsgId, PlainMessage, Boot, IsValid, manager, switchboard, Step, start-sound}
-use Rattle.dm_places.proofs.Names.{ascends, IsStep, Leads, Spelled, Point, first_point, group_of, Inbox, Spot, standing, times, TellsRight, Told, Placed, placed_start, GroupNeeds, MirrorsPoint, PlainWhat, id_of}
+use Rattle.dm_places.proofs.Names.{◌≡◌, ℕ, ◌≤◌, ◌||◌, true, List, [], ◌∷◌, is_some, refl, sym, subst, arith, Option, None, Some, nat_tests, Pid, pid_eq, MsgId, PlainMessage, Boot, IsValid, manager, switchboard, Step, start-sound, ascends}
+use Rattle.dm_places.proofs.Names.{IsStep, Leads, Spelled, Point, first_point, group_of, Inbox, Spot, standing, times, TellsRight, Told, Placed, placed_start, GroupNeeds, MirrorsPoint, PlainWhat, id_of}
 use Rattle.dm_places.proofs.Any.AnyGroup.{group_follows}
 use Rattle.dm_places.proofs.Any.AnyPart.{SoundAt}
 use Rattle.dm_places.proofs.Starts.{start_mirrors}
@@ -24,11 +24,7 @@ server_home q e = grind (arith, nat_tests)
 
 server_by : (pt : Point) (m : ℕ) (i : MsgId) (x : PlainMessage) (o : Option Told) → pt.view.told i ≡ o → is_some o ≡ true → pt.kernel.bag i ≡ Some x → TellsRight pt → 1 ≤ standing pt.view i (Inbox m)
     → ((t : Told) → pt.view.told i ≡ Some t → (pid_eq t.receiver switchboard || pid_eq t.receiver manager) ≡ true → m ≡ t.receiver.home) → (pid_eq x.to switchboard || pid_eq x.to manager) ≡ true → m ≡ 0
-server_by pt m i x None is some there tells stands home to = cc
-server_by pt m i x (Some t) is some there tells stands home to =
-    let e : t.receiver ≡ x.to = tells.receiver i x t there is in
-    let same : (pid_eq t.receiver switchboard || pid_eq t.receiver manager) ≡ true = ap (λ (q : Pid). pid_eq q switchboard || pid_eq q manager) e ∙ to in
-    home t is same ∙ server_home t.receiver same
+server_by pt m i x o h1 h2 h3 h4 h5 h6 h7 = grind (arith, nat_tests, server_home)
 
 pub group_needs : (pt : Point) → ascends 0 pt.kernel.manager.pending pt.kernel.manager.sent ≡ true → ((p : Pid) → pt.kernel.processes p ≡ None → pt.view.moves p ≡ 0) → TellsRight pt
     → ((i : MsgId) (z : Spot) → 1 ≤ standing pt.view i z → is_some (pt.view.told i) ≡ true)

@@ -1,7 +1,7 @@
 -- What a message that changes its places keeps, and one whose addresses nobody reads.
-use Rattle.dm_places.proofs.Names.{◌≡◌, ℕ, Bool, false, [], ◌∷◌, refl, ap, ◌∙◌, sym, subst, inl, inr, if◌then◌else◌, option_map, Option, None, Some, cases_Bool, Pid, Place, MsgId, Message, id_eq, PlainWhat, plain_message, plain_what, arith}
-use Rattle.dm_places.proofs.Names.{nat_tests, with_what, sent_on, OneKernel, bind, id_eq-is, id_eq-same, View, Addresses, Receiver, gets, given, SameMessage, SameProcess, SameServers, two, two_off, two_process, Placed, Mirrors}
-use Rattle.dm_places.proofs.Names.{MirrorsKernel, MirrorsMessage, MirrorsPlaces, with_message}
+use Rattle.dm_places.proofs.Names.{◌≡◌, ℕ, Bool, false, [], ◌∷◌, refl, ap, ◌∙◌, sym, subst, inl, inr, if◌then◌else◌, option_map, Option, None, Some, cases_Bool, Pid, Place, MsgId, Message, id_eq, plain_message, plain_what, arith, nat_tests}
+use Rattle.dm_places.proofs.Names.{with_what, sent_on, OneKernel, bind, id_eq-is, id_eq-same, View, Addresses, Receiver, gets, given, SameMessage, SameProcess, SameServers, two, two_off, two_process, Placed, Mirrors, MirrorsKernel}
+use Rattle.dm_places.proofs.Names.{MirrorsMessage, MirrorsPlaces, with_message}
 use Rattle.dm_places.proofs.Keeps.{message_same, process_same}
 use Rattle.dm_places.proofs.Keeps.{answer_as}
 
@@ -58,14 +58,7 @@ sent_on_one s v a l id x at moves there h =
 pub sent_on_any : (s : OneKernel) (v : View) (a : Addresses) (l : Placed) (id : MsgId) (o : Option Message) (place : Place) → l.bag id ≡ o → Mirrors s v a l
     → Mirrors s v (given a (gets (Receiver id) place ∷ [])) (with_message l id (option_map (sent_on place.at place.moves) o))
 sent_on_any s v a l id (Some x) place there h = sent_on_one s v a l id x place.at place.moves there h
-sent_on_any s v a l id None place none h =
-    let b = given a (gets (Receiver id) place ∷ []) in
-    record {
-      plain = kernel_again s l id None (sym (ap (λ (o : Option Message). bind o plain_message) none) ∙ h.plain.bag id) h.plain;
-      places = places_message v a b l id None h.places (λ q. record { slot = λ k. refl; owner = refl })
-          (λ i y f apart. record { receiver = ap (λ (c : Bool). if c then place else a (Receiver i)) apart; sender = refl; enclosed = λ k. refl })
-          (λ y e. absurd (let f : None ≡ Some y = e in cc)) (record { child = λ n. refl; name = λ n. refl; answer = λ n. refl; asked = λ q. refl });
-    }
+sent_on_any s v a l id None place none h = search (arith, kernel_again, places_message)
 
 -- the addresses of a message that isn't there
 pub free_off : (l : Placed) (i j : MsgId) (m : Message) → l.bag i ≡ None → l.bag j ≡ Some m → id_eq i j ≡ false

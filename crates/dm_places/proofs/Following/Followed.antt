@@ -1,8 +1,8 @@
 -- Messages that follow a process to another machine, and the process that has come there.
-use Rattle.dm_places.proofs.Names.{◌≡◌, ℕ, ◌+◌, ◌≤◌, ◌||◌, Bool, true, false, List, [], ◌∷◌, ◌++◌, refl, ap, ◌∙◌, sym, subst, inl, inr, arith, if◌then◌else◌, option_map, Option, None, Some, cases_Bool, Pid, Place, pid_eq, place_of, MsgId}
-use Rattle.dm_places.proofs.Names.{nat_tests, Message, id_eq, Process, sent_on, OneKernel, plain_process, id_eq-is, id_eq-same, id_eq-swap, pid_eq-is, pid_eq-same, Line, Stage, at_pid, times, Forward, Frozen, Known, Told, View}
-use Rattle.dm_places.proofs.Names.{forwarded_for, handled, own_id, receiver_of, view_after, Addresses, Gets, Receiver, Sender, all_follow, forwards, gets, given, is_told_back, place_known, told_back_gets, unmoved, Point, moved, Placed}
-use Rattle.dm_places.proofs.Names.{Mirrors, MirrorsKernel, MirrorsProcess, with_message, with_process, MirrorsPoint, is_among, sent_all, or_first}
+use Rattle.dm_places.proofs.Names.{◌≡◌, ℕ, ◌+◌, ◌≤◌, ◌||◌, Bool, true, List, [], ◌∷◌, ◌++◌, refl, ap, ◌∙◌, sym, subst, inl, inr, arith, if◌then◌else◌, option_map, Option, None, Some, cases_Bool, Pid, Place, place_of, MsgId, nat_tests}
+use Rattle.dm_places.proofs.Names.{Message, id_eq, Process, sent_on, OneKernel, plain_process, id_eq-is, id_eq-same, id_eq-swap, pid_eq-is, pid_eq-same, Line, Stage, at_pid, times, Forward, Frozen, Told, View, forwarded_for, handled}
+use Rattle.dm_places.proofs.Names.{own_id, receiver_of, view_after, Addresses, Gets, Receiver, Sender, all_follow, forwards, gets, given, is_told_back, place_known, told_back_gets, unmoved, Point, moved, Placed, Mirrors, MirrorsKernel}
+use Rattle.dm_places.proofs.Names.{MirrorsProcess, with_message, with_process, MirrorsPoint, is_among, sent_all, or_first}
 use Rattle.dm_migrate.specs.Way as way
 use Rattle.dm_onekernel.specs.Step as kernel
 use Rattle.dm_places.proofs.Following.Changed.{free_mirrors, free_off, sent_on_any, sent_on_one}
@@ -10,18 +10,15 @@ use Rattle.dm_places.proofs.Lines.{mirrors_view}
 
 -- forwarded: the message goes on, and the next message of the kernel gets the places of an update
 pub moves_forwarded : (v : View) (o : Option Pid) → (forwarded_for v o).moves ≡ v.moves
-moves_forwarded v None = refl
-moves_forwarded v (Some p) = refl
+moves_forwarded v o = grind (arith, nat_tests)
 
 pub tells_mirrors : (s : OneKernel) (v : View) (a : Addresses) (l : Placed) (id : MsgId) (b : Bool) → l.bag (own_id v) ≡ None → Mirrors s v a l → Mirrors s v (given a (told_back_gets v a id b)) l
-tells_mirrors s v a l id true none h = free_mirrors s v a l (own_id v) (a (Sender id)) (unmoved v.acting) none h
-tells_mirrors s v a l id false none h = h
+tells_mirrors s v a l id b h1 h2 = search (arith, free_mirrors)
 
 -- the address in full
 forwards_is : (v : View) (a : Addresses) (id : MsgId) (t : Told) (at moves : ℕ) → v.told id ≡ Some t → v.known v.acting t.receiver ≡ Forward at moves
     → forwards v a id (v.told id) ≡ gets (Receiver id) (record { at = at; moves = moves }) ∷ told_back_gets v a id (is_told_back t.kind)
-forwards_is v a id t at moves told knows =
-    ap (forwards v a id) told ∙ ap (λ (k : Known). gets (Receiver id) (place_known k (v.moves t.receiver) (a (Receiver id))) ∷ told_back_gets v a id (is_told_back t.kind)) knows
+forwards_is v a id t at moves told knows = grind (arith, nat_tests)
 
 pub forwarded_mirrors : (pt : Point) (l : Placed) (id : MsgId) (x : Message) (t : Told) (m at moves : ℕ) → MirrorsPoint pt l → l.bag id ≡ Some x → pt.view.told id ≡ Some t → pt.view.known pt.view.acting t.receiver ≡ Forward at moves
     → l.bag (own_id pt.view) ≡ None → MirrorsPoint (moved pt (Line.Forwarded id m) pt.kernel) (with_message l id (Some (sent_on at moves x)))
@@ -59,9 +56,7 @@ one_more l at moves i is = λ c. record l { bag = λ j. more_bag l at moves i is
 
 -- what goes on twice stands where it stood
 on_twice : (at moves : ℕ) (b : Bool) (o : Option Message) → option_map (sent_on at moves) (if b then option_map (sent_on at moves) o else o) ≡ option_map (sent_on at moves) o
-on_twice at moves true None = refl
-on_twice at moves true (Some x) = refl
-on_twice at moves false o = refl
+on_twice at moves b o = search arith
 
 all_on : (s : OneKernel) (v : View) (a : Addresses) (l : Placed) (at moves : ℕ) (ids : List MsgId) → Mirrors s v a l → Mirrors s v (given a (onward (record { at = at; moves = moves }) ids)) (sent_all l at moves ids)
 unfolding onward
@@ -104,18 +99,7 @@ kernel_process_again s l p x y there same h = search alive_again
 
 moved_places : (v w : View) (a : Addresses) (l : Placed) (p : Pid) (x : Process) (q : Pid) (z : Process) → w.moves ≡ at_pid v.moves p (v.moves p + 1) → l.processes p ≡ Some x → ((r : Pid) (y : Process) → l.processes r ≡ Some y → MirrorsProcess v a r y)
     → (with_process l p (Some (way.moved x))).processes q ≡ Some z → MirrorsProcess w a q z
-moved_places v w a l p x q z counts there h e = elim (cases_Bool (pid_eq p q)) [
-  | inl is ↦
-      let k = h p x there in
-      let f : Some (way.moved x) ≡ Some z = sym (ap (λ (c : Bool). if c then Some (way.moved x) else l.processes q) is) ∙ e in
-      let g : way.moved x ≡ z = cc in
-      let m : MirrorsProcess w a p (way.moved x) = search
-      (ap (λ (n : ℕ). n + 1) k.moves ∙ sym (ap (λ (c : Bool). if c then v.moves p + 1 else v.moves p) (pid_eq-same p)) ∙ ap (λ (n : Pid → ℕ). n p) (sym counts)) in
-      subst (MirrorsProcess w a q) g (subst (λ (r : Pid). MirrorsProcess w a r (way.moved x)) (pid_eq-is p q is) m)
-  | inr apart ↦
-      let k = h q z (sym (ap (λ (c : Bool). if c then Some (way.moved x) else l.processes q) apart) ∙ e) in
-      search (k.moves ∙ sym (ap (λ (c : Bool). if c then v.moves p + 1 else v.moves q) apart) ∙ ap (λ (n : Pid → ℕ). n q) (sym counts))
-]
+moved_places v w a l p x q z counts there h e = search (arith, pid_eq-same, pid_eq-is)
 
 pub restarted_mirrors : (pt : Point) (l : Placed) (p : Pid) (x : Process) → MirrorsPoint pt l → l.processes p ≡ Some x → MirrorsPoint (moved pt (Line.Migration Stage.Restarted p) pt.kernel) (with_process l p (Some (way.moved x)))
 restarted_mirrors pt l p x h there =

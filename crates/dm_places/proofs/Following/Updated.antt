@@ -1,10 +1,9 @@
 -- The holders of a process or a server that is told where another process is: their addresses follow where they know fewer moves.
-use Rattle.dm_places.proofs.Names.{◌≡◌, ℕ, zero, suc, ◌==◌, ◌&&◌, Bool, true, false, List, [], ◌∷◌, map, refl, ap, ◌∙◌, sym, subst, inl, inr, if◌then◌else◌, nat_lt, option_map, slice_get, Option, None, Some, cases_Bool, slice_get-map, Pid}
-use Rattle.dm_places.proofs.Names.{arith, nat_tests, Addr, Link, Place, pid_eq, place_of, relocated, retargeted, retargeted_link, plain_link, link_at, plain_map_retargeted, applied, status_after, MsgId, Process, Status, Line, manager}
-use Rattle.dm_places.proofs.Names.{switchboard, Manager, NamedLink, OneKernel, Switchboard, plain_process, plain_status, PlainProcess, Moving, Named, plain_named, retargeted_named, Pending, plain_child, plain_pending, retargeted_manager}
-use Rattle.dm_places.proofs.Names.{retargeted_pending, child_address, pending_request, pid_eq-is, pid_eq-same, pid_eq-swap, About, Told, View, view_after, Addresses, Answer, Child, Holder, Name, Owner, Slot, answer_link, belongs_to, is_pid}
-use Rattle.dm_places.proofs.Names.{leads_to, link_target, name_link, owner_in, owner_of, place_told, slot_of, updated, updated_to, Point, moved, SameMessage, SameProcess, Placed, Mirrors, MirrorsProcess, owner_at, MirrorsPoint}
-use Rattle.dm_places.proofs.Names.{with_process, AnswerNames}
+use Rattle.dm_places.proofs.Names.{◌≡◌, ℕ, zero, suc, ◌==◌, Bool, true, false, List, [], ◌∷◌, map, refl, ap, ◌∙◌, sym, subst, inl, inr, if◌then◌else◌, nat_lt, option_map, slice_get, Option, None, Some, cases_Bool, slice_get-map, Pid, arith}
+use Rattle.dm_places.proofs.Names.{nat_tests, Addr, Link, pid_eq, place_of, relocated, retargeted, retargeted_link, plain_link, link_at, plain_map_retargeted, applied, status_after, MsgId, Process, Status, Line, manager, switchboard}
+use Rattle.dm_places.proofs.Names.{Manager, NamedLink, OneKernel, plain_process, plain_status, Named, retargeted_named, Pending, plain_child, plain_pending, retargeted_manager, retargeted_pending, child_address, pending_request, pid_eq-is}
+use Rattle.dm_places.proofs.Names.{pid_eq-same, pid_eq-swap, About, Told, View, view_after, Addresses, Answer, Child, Holder, Name, Owner, Slot, answer_link, belongs_to, leads_to, link_target, owner_in, owner_of, updated, updated_to, Point}
+use Rattle.dm_places.proofs.Names.{moved, SameMessage, SameProcess, Placed, Mirrors, MirrorsProcess, owner_at, MirrorsPoint, with_process, AnswerNames}
 use Rattle.dm_link.specs.Places as places
 use Rattle.dm_onekernel.specs.Kernel as one
 use Rattle.dm_onekernel.specs.Manager as manage
@@ -22,12 +21,10 @@ told_of s a q r at moves h = updated_to s a (Some q) (Some (r, record { at = at;
 
 -- an address of the holders that leads somewhere
 pub behind_led : (s : OneKernel) (a : Addresses) (q r : Pid) (moves : ℕ) (h : Holder) (o : Addr) → belongs_to q h ≡ true → leads_to s h ≡ Some o.pid → a h ≡ place_of o → addresses.is_behind s a q r moves h ≡ places.is_behind r moves o
-behind_led s a q r moves h o belongs leads place =
-    (λ i. belongs i && (is_pid r (leads i) && nat_lt (place i).moves moves)) ∙ ap (λ (c : Bool). c && nat_lt o.moves moves) (pid_eq-swap r o.pid)
+behind_led s a q r moves h o belongs leads place = grind (arith, nat_tests, pid_eq-swap)
 
 follows_if : (at moves : ℕ) (o : Addr) (b : Bool) → (if b then record { at = at; moves = moves } else place_of o) ≡ place_of (if b then relocated at moves o else o)
-follows_if at moves o true = refl
-follows_if at moves o false = refl
+follows_if at moves o b = grind (arith, nat_tests)
 
 pub led : (s : OneKernel) (a : Addresses) (q r : Pid) (at moves : ℕ) (h : Holder) (o : Addr) → belongs_to q h ≡ true → leads_to s h ≡ Some o.pid → a h ≡ place_of o → told_of s a q r at moves h ≡ place_of (retargeted r at moves o)
 led s a q r at moves h o belongs leads place = grind (arith, nat_tests, behind_led, follows_if)
@@ -52,13 +49,11 @@ pub alive_is : (s : OneKernel) (v : View) (a : Addresses) (l : Placed) (q : Pid)
 alive_is s v a l q x h there = h.plain.processes q ∙ ap (option_map plain_process) there
 
 pub slot_leads : (s : OneKernel) (q : Pid) (x : Process) (k : ℕ) (o : Option Link) → kernel.alive (s.processes q) ≡ Some (plain_process x) → link_at x.table k ≡ o → leads_to s (Slot q k) ≡ link_target (option_map plain_link o)
-slot_leads s q x k o alive there =
-    ap (λ (z : Option PlainProcess). link_target (slot_of z k)) alive ∙ ap link_target (slots_map plain_link x.table k) ∙ ap (λ (w : Option Link). link_target (option_map plain_link w)) there
+slot_leads s q x k o alive there = grind (arith, nat_tests, slots_map)
 
 owner_follows : (s : OneKernel) (a : Addresses) (q r : Pid) (at moves : ℕ) (st : Status) (o : Addr) → leads_to s (Owner q) ≡ owner_in (plain_status st) → ((p : Addr) → owner_at st ≡ Some p → a (Owner q) ≡ place_of p)
     → owner_at (status_after r at moves st) ≡ Some o → told_of s a q r at moves (Owner q) ≡ place_of o
-owner_follows s a q r at moves (Status.Moving dir owner base own left pending) o leads h e = grind (arith, nat_tests, led, pid_eq-same)
-owner_follows s a q r at moves _ o leads h e = cc
+owner_follows s a q r at moves st o h1 h2 h3 = search (arith, led, pid_eq-same)
 
 told_process : (s : OneKernel) (v : View) (a : Addresses) (q r : Pid) (at moves : ℕ) (x : Process) → kernel.alive (s.processes q) ≡ Some (plain_process x) → MirrorsProcess v a q x
     → MirrorsProcess v (told_of s a q r at moves) q (applied r at moves x)
@@ -72,10 +67,7 @@ told_process s v a q r at moves x alive h = record {
 }
 
 plain_status_after : (r : Pid) (at moves : ℕ) (st : Status) → plain_status (status_after r at moves st) ≡ plain_status st
-plain_status_after r at moves (Status.Moving dir owner base own left pending) =
-    ap (λ (p : Pid). Moving dir p base own left pending) (elim (places.is_behind r moves owner) as (λ b. (if b then relocated at moves owner else owner).pid ≡ owner.pid)
-    [ true ↦ refl | false ↦ refl ])
-plain_status_after r at moves _ = refl
+plain_status_after r at moves st = search arith
 
 process_places : (s : OneKernel) (v : View) (a : Addresses) (l : Placed) (q r : Pid) (at moves : ℕ) (x : Process) (p : Pid) (z : Process) → Mirrors s v a l → l.processes q ≡ Some x → (with_process l q (Some (applied r at moves x))).processes p ≡ Some z
     → MirrorsProcess v (told_of s a q r at moves) p z
@@ -112,19 +104,7 @@ absent : (l : Placed) (q p : Pid) (z : Process) → l.processes q ≡ None → l
 absent l q p z none there = grind (arith, nat_tests, pid_eq-is)
 
 pub ended_told : (s : OneKernel) (v : View) (a : Addresses) (l : Placed) (q r : Pid) (at moves : ℕ) → pid_eq q switchboard ≡ false → pid_eq q manager ≡ false → l.processes q ≡ None → Mirrors s v a l → Mirrors s v (told_of s a q r at moves) l
-ended_told s v a l q r at moves no_board no_manager none h =
-    let g = h.places in
-    record {
-      plain = h.plain;
-      places = record {
-        process = λ p z e. process_same v a (told_of s a q r at moves) p z (others_keep s a q r at moves p (absent l q p z none e)) (g.process p z e);
-        message = λ i m e. message_same a (told_of s a q r at moves) i m (messages_keep s a q r at moves i) (g.message i m e);
-        name = λ n k e. unled s a q r at moves (Name n) no_board ∙ g.name n k e;
-        child = λ n c e. unled s a q r at moves (Child n) no_manager ∙ g.child n c e;
-        answer = λ n y e. answer_as y.answer (unled s a q r at moves (Answer n) no_manager) (g.answer n y e);
-        asker = g.asker;
-      };
-    }
+ended_told s v a l q r at moves no_board no_manager none h = search (arith, process_same, others_keep, absent, message_same, messages_keep, unled, answer_as)
 
 -- the switchboard
 pub name_leads : (s : OneKernel) (v : View) (a : Addresses) (l : Placed) (n : ℕ) (k : Named) → Mirrors s v a l → slice_get l.board.names n ≡ Some k → leads_to s (Name n) ≡ Some k.link.addr.pid
@@ -165,8 +145,7 @@ answer_leads s v a l n y h there =
 
 pending_if : (r : Pid) (at moves n : ℕ) (y : Pending) (ys : List Pending) (b : Bool) → pending_request n (map (retargeted_pending r at moves) ys) ≡ option_map (retargeted_pending r at moves) (pending_request n ys)
     → (if b then Some (retargeted_pending r at moves y) else pending_request n (map (retargeted_pending r at moves) ys)) ≡ option_map (retargeted_pending r at moves) (if b then Some y else pending_request n ys)
-pending_if r at moves n y ys true e = refl
-pending_if r at moves n y ys false e = e
+pending_if r at moves n y ys b h1 = grind (arith, nat_tests)
 
 pending_map : (r : Pid) (at moves n : ℕ) (ys : List Pending) → pending_request n (map (retargeted_pending r at moves) ys) ≡ option_map (retargeted_pending r at moves) (pending_request n ys)
 pending_map r at moves n [] = refl
@@ -180,14 +159,11 @@ child_follows s v a l r at moves (suc n) c h e =
 
 retargeted_names : (s : OneKernel) (a : Addresses) (r : Pid) (at moves n : ℕ) (o : Option Link) → leads_to s (Answer n) ≡ link_target (option_map plain_link o) → AnswerNames o (a (Answer n))
     → AnswerNames (option_map (retargeted_link r at moves) o) (told_of s a manager r at moves (Answer n))
-retargeted_names s a r at moves n None leads h = tt
-retargeted_names s a r at moves n (Some w) leads h = led s a manager r at moves (Answer n) w.addr refl leads h
+retargeted_names s a r at moves n o h1 h2 = search (arith, led)
 
 answer_follows : (s : OneKernel) (v : View) (a : Addresses) (l : Placed) (r : Pid) (at moves n : ℕ) (y : Pending) → Mirrors s v a l → pending_request n (map (retargeted_pending r at moves) l.manager.pending) ≡ Some y
     → AnswerNames y.answer (told_of s a manager r at moves (Answer n))
-answer_follows s v a l r at moves n y h e =
-    let (u, there, is) = of_map (retargeted_pending r at moves) (pending_request n l.manager.pending) y (sym e ∙ pending_map r at moves n l.manager.pending) in
-    subst (λ (x : Pending). AnswerNames x.answer (told_of s a manager r at moves (Answer n))) is (retargeted_names s a r at moves n u.answer (answer_leads s v a l n u h there) (h.places.answer n u there))
+answer_follows s v a l r at moves n y h e = search (arith, of_map, pending_map, retargeted_names, answer_leads)
 
 abbrev pub manager_told : Placed → Pid → ℕ → ℕ → Placed
 manager_told l r at moves = record l { manager = retargeted_manager r at moves l.manager }
@@ -198,14 +174,7 @@ children_told s v a l r at moves none h =
     let q = manager in
     record {
       plain = search (managing.plain_retargeted r at moves l.manager ∙ h.plain.manager);
-      places = record {
-        process = λ p z e. process_same v a (told_of s a q r at moves) p z (others_keep s a q r at moves p (absent l q p z none e)) (g.process p z e);
-        message = λ i m e. message_same a (told_of s a q r at moves) i m (messages_keep s a q r at moves i) (g.message i m e);
-        name = g.name;
-        child = λ n c e. child_follows s v a l r at moves n c h e;
-        answer = λ n y e. answer_follows s v a l r at moves n y h e;
-        asker = g.asker;
-      };
+      places = (search (arith, process_same, others_keep, absent, message_same, messages_keep, child_follows, answer_follows));
     }
 
 -- the line
@@ -228,16 +197,13 @@ updated_mirrors pt l id n t r at moves x h told about no_board no_manager there 
 -- at a process that has ended
 pub updated_ended_mirrors : (pt : Point) (l : Placed) (id : MsgId) (n : ℕ) (t : Told) (r : Pid) (at moves : ℕ) → MirrorsPoint pt l → pt.view.told id ≡ Some t → t.about ≡ About.Place r at moves → pid_eq t.receiver switchboard ≡ false → pid_eq t.receiver manager ≡ false
     → l.processes t.receiver ≡ None → MirrorsPoint (moved pt (Line.Updated id n) pt.kernel) l
-updated_ended_mirrors pt l id n t r at moves h told about no_board no_manager none =
-    line_told pt l id n t t.receiver r at moves told about refl (ended_told pt.kernel pt.view pt.addresses l t.receiver r at moves no_board no_manager none h)
+updated_ended_mirrors pt l id n t r at moves h told about no_board no_manager none = search (arith, line_told, ended_told)
 
 -- at the servers, which are no processes
 pub updated_board_mirrors : (pt : Point) (l : Placed) (id : MsgId) (n : ℕ) (t : Told) (r : Pid) (at moves : ℕ) → MirrorsPoint pt l → pt.view.told id ≡ Some t → t.about ≡ About.Place r at moves → t.receiver ≡ switchboard → l.processes switchboard ≡ None
     → MirrorsPoint (moved pt (Line.Updated id n) pt.kernel) (board_told l r at moves)
-updated_board_mirrors pt l id n t r at moves h told about to none =
-    line_told pt (board_told l r at moves) id n t switchboard r at moves told about to (switchboard_told pt.kernel pt.view pt.addresses l r at moves none h)
+updated_board_mirrors pt l id n t r at moves h told about to none = search (arith, line_told, switchboard_told)
 
 pub updated_manager_mirrors : (pt : Point) (l : Placed) (id : MsgId) (n : ℕ) (t : Told) (r : Pid) (at moves : ℕ) → MirrorsPoint pt l → pt.view.told id ≡ Some t → t.about ≡ About.Place r at moves → t.receiver ≡ manager → l.processes manager ≡ None
     → MirrorsPoint (moved pt (Line.Updated id n) pt.kernel) (manager_told l r at moves)
-updated_manager_mirrors pt l id n t r at moves h told about to none =
-    line_told pt (manager_told l r at moves) id n t manager r at moves told about to (children_told pt.kernel pt.view pt.addresses l r at moves none h)
+updated_manager_mirrors pt l id n t r at moves h told about to none = search (arith, line_told, children_told)

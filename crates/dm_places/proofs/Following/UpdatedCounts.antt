@@ -1,13 +1,12 @@
 -- How many addresses an update changes: as many as know fewer moves among those of its receiver.
-use Rattle.dm_places.proofs.Names.{◌≡◌, ℕ, zero, suc, ◌+◌, ◌≤◌, ◌==◌, ◌&&◌, Bool, true, false, List, [], ◌∷◌, ◌++◌, map, cond, count_by, refl, ap, ◌∙◌, sym, subst, arith, if◌then◌else◌, nat_le, nat_lt, slice_get, Option, None, Some}
-use Rattle.dm_places.proofs.Names.{nat_tests, sum_by-cons, Pid, Link, pid_eq, PlainLink, link_at, plain_slot, slot_is_behind, Process, manager, switchboard, Manager, OneKernel, Switchboard, named_is_behind, plain_named, Pending}
-use Rattle.dm_places.proofs.Names.{pending_is_behind, plain_child, plain_pending, pending_request, pid_eq-same, About, View, Addresses, Answer, Child, Holder, Name, Slot, is_pid, place_told, ascends, answers_in, behind_among, behind_count}
-use Rattle.dm_places.proofs.Names.{holders_of, holders_numbered, slot_holders, and-both, Placed, Mirrors, AnswerNames, leads_to, link_target, option_map, plain_link, answer_is_behind}
+use Rattle.dm_places.proofs.Names.{◌≡◌, ℕ, zero, suc, ◌+◌, ◌≤◌, Bool, true, false, List, [], ◌∷◌, ◌++◌, map, cond, count_by, refl, ap, ◌∙◌, sym, arith, if◌then◌else◌, nat_le, slice_get, Option, Some, nat_tests, sum_by-cons, Pid, Link}
+use Rattle.dm_places.proofs.Names.{pid_eq, PlainLink, link_at, plain_slot, slot_is_behind, Process, manager, switchboard, Manager, OneKernel, Switchboard, named_is_behind, plain_named, Pending, pending_is_behind, plain_child, plain_pending}
+use Rattle.dm_places.proofs.Names.{pending_request, pid_eq-same, About, View, Addresses, Answer, Child, Holder, Name, Slot, place_told, ascends, answers_in, behind_among, behind_count, holders_of, holders_numbered, slot_holders, and-both}
+use Rattle.dm_places.proofs.Names.{Placed, Mirrors, AnswerNames, leads_to, link_target, option_map, plain_link, answer_is_behind}
+use Rattle.dm_places.proofs.Following.Updated.{alive_is, answer_leads, behind_led, child_leads, name_leads, slot_leads}
 use Rattle.dm_link.specs.Places as places
-use Rattle.dm_onekernel.specs.Kernel as one
 use Rattle.dm_onekernel.specs.Step as kernel
 use Rattle.dm_rule.specs.Addresses as addresses
-use Rattle.dm_places.proofs.Following.Updated.{alive_is, answer_leads, behind_led, child_leads, name_leads, slot_leads}
 
 -- holders in order of their numbers
 among_numbered : {X Y : Type 0} (f : Holder → Bool) (g : ℕ → Holder) (plain : X → Y) (p : X → Bool) (n : ℕ) (xs : List X) → ((j : ℕ) (x : X) → slice_get xs j ≡ Some x → f (g (n + j)) ≡ p x)
@@ -46,11 +45,7 @@ slot_there (t ∷ ts) (suc j) o e = slot_there ts j o e
 
 slot_behind : (s : OneKernel) (v : View) (a : Addresses) (l : Placed) (q r : Pid) (moves : ℕ) (x : Process) (k : ℕ) (o : Option Link) → Mirrors s v a l → l.processes q ≡ Some x → link_at x.table k ≡ o
     → addresses.is_behind s a q r moves (Slot q k) ≡ slot_is_behind r moves o
-slot_behind s v a l q r moves x k None h there at =
-    ap (λ (w : Option Pid). pid_eq q q && (is_pid r w && nat_lt (a (Slot q k)).moves moves)) (slot_leads s q x k None (alive_is s v a l q x h there) at)
-    ∙ (elim (pid_eq q q) as (λ b. (b && (false && (nat_lt (a (Slot q k)).moves moves))) ≡ false) [ true ↦ refl | false ↦ refl ])
-slot_behind s v a l q r moves x k (Some w) h there at =
-    behind_led s a q r moves (Slot q k) w.addr (pid_eq-same q) (slot_leads s q x k (Some w) (alive_is s v a l q x h there) at) ((h.places.process q x there).slots k w at)
+slot_behind s v a l q r moves x k o h1 h2 h3 = search (arith, slot_leads, alive_is, behind_led, pid_eq-same)
 
 holders_if : (s : OneKernel) (q : Pid) (hs gs os : List Holder) (b c : Bool) → b ≡ false → c ≡ false → (if b then hs else if c then gs else os) ≡ os
 holders_if s q hs gs os b c e f = ap (λ (x : Bool). if x then hs else if c then gs else os) e ∙ ap (λ (x : Bool). if x then gs else os) f
@@ -88,14 +83,11 @@ own_number (p ∷ ps) from to zero y order there = grind (arith, nat_tests, and-
 own_number (p ∷ ps) from to (suc j) y order there =
     let w = and-both (nat_le from p.n) (ascends (p.n + 1) (map plain_pending ps) to) order in
     let (found, above) = own_number ps (p.n + 1) to j y w.1 there in
-    let least : from ≤ p.n = grind (arith, nat_tests) in
-    let apart : (p.n == y.n) ≡ false = grind (arith, nat_tests) in
-    (ap (λ (b : Bool). if b then Some p else pending_request y.n ps) apart ∙ found, omega (arith, least, above))
+    search arith
 
 answer_behind : (s : OneKernel) (a : Addresses) (r : Pid) (moves n : ℕ) (o : Option Link) → leads_to s (Answer n) ≡ link_target (option_map plain_link o) → AnswerNames o (a (Answer n))
     → addresses.is_behind s a manager r moves (Answer n) ≡ answer_is_behind r moves o
-answer_behind s a r moves n None leads h = ap (λ (w : Option Pid). is_pid r w && nat_lt (a (Answer n)).moves moves) leads
-answer_behind s a r moves n (Some w) leads h = behind_led s a manager r moves (Answer n) w.addr refl leads h
+answer_behind s a r moves n o h1 h2 = search (arith, behind_led)
 
 pub updated_manager_count : (s : OneKernel) (v : View) (a : Addresses) (l : Placed) (q r : Pid) (at moves : ℕ) (about : About) → Mirrors s v a l → about ≡ About.Place r at moves → q ≡ manager → ascends 0 s.manager.pending s.manager.sent ≡ true
     → behind_count s a q (place_told about) ≡ count_by (places.is_behind r moves) l.manager.children + count_by (pending_is_behind r moves) l.manager.pending
@@ -107,11 +99,4 @@ updated_manager_count s v a l q r at moves about h is to order =
     (λ j c there. let n : 1 + j ≡ suc j = omega arith in
     ap (λ (k : ℕ). f (Child k)) n ∙ behind_led s a manager r moves (Child (suc j)) c refl (child_leads s v a l (suc j) c h there) (h.places.child (suc j) c there))
     in
-    let answers = among_named f (λ (y : one.Pending). Answer y.n) plain_pending (pending_is_behind r moves) g.pending
-    (λ j y there. let own = (own_number g.pending 0 g.sent j y ordered there).0 in
-    answer_behind s a r moves y.n y.answer (answer_leads s v a l y.n y h own) (h.places.answer y.n y own))
-    in
-    (λ i. behind_count s a (to i) (place_told (is i)))
-    ∙ ap (λ (m : Manager). behind_among f (holders_numbered Child 1 m.children ++ answers_in m.pending)) (sym h.plain.manager)
-    ∙ among_both f (holders_numbered Child 1 (map plain_child g.children)) (answers_in (map plain_pending g.pending))
-    ∙ (λ i. children i + answers i)
+    grind (arith, nat_tests, among_named, own_number, answer_behind, answer_leads, among_both)

@@ -1,14 +1,14 @@
 -- What a process that executes does, with places: plain instructions, calls and faults, a lemma a label.
-use Rattle.dm_places.proofs.Names.{◌≡◌, ℕ, ◌==◌, ◌&&◌, Bool, true, false, refl, ap, ◌∙◌, sym, subst, arith, if◌then◌else◌, Option, None, Some, nat_tests, Pid, MsgId, Message, id_eq, PlainMessage, plain_message, Process, Status, Label, Regs}
-use Rattle.dm_places.proofs.Names.{Row, instruction, past, Reply, Why, reply_eq, why_eq, bind, Alive, Ended, OneKernel, plain_process, plain_status, PlainProcess, Called, calls, plain_called, call_plainly, id_eq-is, bind-is, when-is, View}
-use Rattle.dm_places.proofs.Names.{Addresses, given, gives, call_gets, sends_burden, past_call, gives_by, made_is, gives_same, only_gives_by, Placed, Mirrors, MirrorsKernel, MirrorsProcess, Acted, acted, acts, after_call, after_done}
-use Rattle.dm_places.proofs.Names.{if_ready, machine_of, ran, running, with_acted, with_machine, with_process, with_sent, at_hand-is, burden_of}
+use Rattle.dm_places.proofs.Names.{◌≡◌, ℕ, ◌==◌, ◌&&◌, true, refl, ap, ◌∙◌, sym, subst, arith, Option, None, Some, nat_tests, Pid, MsgId, Message, id_eq, PlainMessage, plain_message, Process, Status, Label, Regs, Row, instruction, past}
+use Rattle.dm_places.proofs.Names.{Reply, Why, reply_eq, why_eq, bind, Ended, OneKernel, plain_process, plain_status, PlainProcess, Called, calls, plain_called, call_plainly, id_eq-is, bind-is, when-is, View, Addresses, given, gives}
+use Rattle.dm_places.proofs.Names.{call_gets, sends_burden, past_call, gives_by, made_is, gives_same, only_gives_by, Placed, Mirrors, MirrorsKernel, MirrorsProcess, Acted, acted, acts, after_call, after_done, if_ready, machine_of, ran}
+use Rattle.dm_places.proofs.Names.{running, with_acted, with_machine, with_process, with_sent, at_hand-is, burden_of}
+use Rattle.dm_places.proofs.Keeps.{alive_of, goes_mirrors, ends_mirrors, kernel_process, kernel_sent, places_process, places_sends, this_process}
+use Rattle.dm_places.proofs.Labels.Calls.{MirrorsCalled, MirrorsSent, behind, does_call_kept}
 use Rattle.dm_onekernel.specs.Kernel as kernels
 use Rattle.dm_onekernel.specs.Calls as one
 use Rattle.dm_onekernel.specs.Step as kernel
 use Rattle.dm_rule.specs.Addresses as addresses
-use Rattle.dm_places.proofs.Keeps.{alive_of, goes_mirrors, ends_mirrors, kernel_process, kernel_sent, places_process, places_sends, this_process}
-use Rattle.dm_places.proofs.Labels.Calls.{MirrorsCalled, MirrorsSent, behind, does_call_kept}
 
 -- a step with places that leads to what mirrors a kernel
 abbrev pub Follows : OneKernel → View → Addresses → Option Placed → Type 0
@@ -18,9 +18,7 @@ pub mirrors_as : (s t : OneKernel) (v : View) (a b : Addresses) (l m : Placed) �
 mirrors_as s t v a b l m e f g h = subst (λ (u : OneKernel). Mirrors u v b m) e (subst (λ (c : Addresses). Mirrors s v c m) f (subst (Mirrors s v a) g h))
 
 ready_of : (y : Process) (st : Status) (x : PlainProcess) → kernel.if_ready (plain_process y) (plain_status st) ≡ Some x → (if_ready y st ≡ Some y) × (plain_process y ≡ x)
-ready_of y Status.Ready x e = (elim y.stopped as (λ b. (if b then None else Some (plain_process y)) ≡ Some x → ((if b then None else Some y) ≡ Some y) × (plain_process y ≡ x))
-    [ true ↦ λ e_. cc | false ↦ λ e_. (refl, let g : plain_process y ≡ x = cc in g) ]) e
-ready_of y _ x e = cc
+ready_of y st x h1 = search arith
 
 record Runs (l : Placed) (p : Pid) (x : PlainProcess) : Type 0 where
   y : Process
@@ -29,11 +27,7 @@ record Runs (l : Placed) (p : Pid) (x : PlainProcess) : Type 0 where
   runs : running l p ≡ Some y
 
 runs_of : (s : OneKernel) (l : Placed) (p : Pid) (x : PlainProcess) → MirrorsKernel s l → kernel.running s p ≡ Some x → Runs l p x
-runs_of s l p x h e =
-    let (w, hand, ready) = bind-is (kernel.at_hand s p) (λ (z : PlainProcess). kernel.if_ready z z.status) x e in
-    let (y, there, is) = alive_of s l p w h (ap kernel.alive (at_hand-is s p w hand).1) in
-    let k = ready_of y y.status x (ap (λ (z : PlainProcess). kernel.if_ready z z.status) is ∙ ready) in
-    record { y = y; there = there; is = k.1; runs = ap (λ (o : Option Process). bind o (λ (z : Process). if_ready z z.status)) there ∙ k.0 }
+runs_of s l p x h e = search (arith, bind-is, alive_of, at_hand-is, ready_of)
 
 -- ran
 pub ran_follows : (s t : OneKernel) (v : View) (a : Addresses) (l : Placed) (p : Pid) (k : ℕ) → kernel.step s (Label.Ran p k) ≡ Some t → Mirrors s v a l → Follows t v a (ran l p k)
@@ -80,25 +74,10 @@ CalledAs v a p x n w (one.Ends y) = w ≡ ended
 
 sent_as : (v : View) (a : Addresses) (p : Pid) (x : Process) (n : one.CallNumber) (m : Message) (y : Process) (k : one.Called) → bind (plain_message m) (λ (u : PlainMessage). Some (one.Sends u (plain_process y))) ≡ Some k
     → MirrorsCalled v a p x n (Called.Sent m) y → CalledAs v a p x n (record { process = Some y; message = Some m }) k
-sent_as v a p x n m y k e h =
-    let w : Acted = record { process = Some y; message = Some m } in
-    let (u, says, last) = bind-is (plain_message m) (λ (u : PlainMessage). Some (one.Sends u (plain_process y))) k e in
-    let f : one.Sends u (plain_process y) ≡ k = cc in
-    subst (CalledAs v a p x n w) f (record { y = y; m = m; acted = refl; says = says; is = refl; kept = h u says })
+sent_as v a p x n m y k e h = search (arith, bind-is)
 
 called_as : (v : View) (a : Addresses) (p : Pid) (x : Process) (n : one.CallNumber) (c : Called) (y : Process) (k : one.Called) → plain_called c y ≡ Some k → MirrorsCalled v a p x n c y → CalledAs v a p x n (after_call c y) k
-called_as v a p x n (Called.Replied c) y k e h =
-    let f : one.Replies c (plain_process y) ≡ k = cc in
-    subst (CalledAs v a p x n (after_call (Called.Replied c) y)) f (record { y = y; acted = refl; is = refl; kept = h })
-called_as v a p x n (Called.Sent m) y k e h = sent_as v a p x n m y k e h
-called_as v a p x n (Called.Moving m) y k e h = sent_as v a p x n m y k e h
-called_as v a p x n Called.Waits y k e h =
-    let f : one.Waits (plain_process y) ≡ k = cc in
-    subst (CalledAs v a p x n (after_call Called.Waits y)) f (record { y = y; acted = refl; is = refl; kept = h })
-called_as v a p x n (Called.Out w) y k e h =
-    let f : one.Outputs w (plain_process y) ≡ k = cc in
-    subst (CalledAs v a p x n (after_call (Called.Out w) y)) f (record { y = y; acted = refl; is = refl; kept = h })
-called_as v a p x n (Called.Ended because) y k e h = let f : one.Ends because ≡ k = cc in subst (CalledAs v a p x n ended) f refl
+called_as v a p x n c y k h1 h2 = search (arith, sent_as)
 
 abbrev ActsNext : View → Addresses → Pid → Process → Acted → kernel.Trap → Type 0
 ActsNext v a p x w (kernel.Calls number k) = CalledAs v a p x (one.call_number number) w k
@@ -135,10 +114,7 @@ acts_of s v a l p n h e =
     let r = runs_of s l p z h.plain runs in
     let x = r.y in
     let (w, acted_is, next) = acts_row v a p x (instruction x.regs x.memory) n refl (ap (λ (u : PlainProcess). kernel.next_row p u (instruction u.regs u.memory)) r.is ∙ row_is) (h.places.process p x r.there) in
-    search (
-      ap (λ (o : Option Process). bind o (λ (u : Process). bind (acted v.acting u (instruction u.regs u.memory)) (λ (d : Acted). Some (with_acted l p d)))) r.runs ∙ ap (λ (o : Option Acted). bind o (λ (d : Acted). Some (with_acted l p d))) acted_is,
-      runs ∙ ap Some (sym r.is),
-    )
+    search arith
 
 -- call
 reply_row : (s t : OneKernel) (v : View) (a : Addresses) (l : Placed) (p : Pid) (n : ℕ) (c : Reply) (next : kernel.Trap) → ActsOf s v a l p next → kernel.replies s p n c next ≡ Some t → Mirrors s v a l
@@ -158,10 +134,7 @@ reply_row s t v a l p n c (kernel.Calls number (one.Replies d z)) q is h =
       q.acts,
       mirrors_as (kernel.goes_on s p (plain_process g.y)) t v (given a gs) (given a (call_gets v a p n c (kernel.running s p))) (with_process l p (Some g.y)) (with_acted l p q.w)
           (ap (kernel.goes_on s p) g.is ∙ k.1) (ap (given a) gs_is) (ap (with_acted l p) (sym g.acted))
-          (record {
-            plain = kernel_process s l p (Alive (plain_process g.y)) (Some g.y) refl h.plain;
-            places = places_process v a (given a gs) l p (Some g.y) h.places o.others (this_process v (given a gs) p g.y g.kept) o.messages o.servers;
-          }),
+          ((search (arith, kernel_process, places_process, this_process))),
     )
 reply_row s t v a l p n c _ q is h = cc
 
@@ -186,10 +159,7 @@ send_row s t v a l p id (kernel.Calls number (one.Sends m z)) nx q is h =
       q.acts,
       mirrors_as (kernels.with_sent (kernel.goes_on s p (plain_process g.y)) (Some m)) t v (given a gs) (given a (gives s v a (Label.Send p id))) (with_sent (with_process l p (Some g.y)) (Some g.m)) (with_acted l p q.w)
           (ap (λ (u : PlainProcess). kernels.with_sent (kernel.goes_on s p u) (Some m)) g.is ∙ k.1) (ap (given a) gs_is) (ap (with_acted l p) (sym g.acted))
-          (record {
-            plain = kernel_sent (kernel.goes_on s p (plain_process g.y)) (with_process l p (Some g.y)) m g.m g.says (kernel_process s l p (Alive (plain_process g.y)) (Some g.y) refl h.plain);
-            places = places_sends v a (given a gs) l p (Some g.y) g.m h.places o.others (this_process v (given a gs) p g.y o.process) o.messages o.message o.servers;
-          }),
+          ((search (arith, kernel_sent, kernel_process, places_sends, this_process))),
     )
 send_row s t v a l p id _ nx q is h = cc
 
@@ -200,12 +170,7 @@ send_follows s t v a l p id is h =
 
 -- a process goes on, and nothing is sent or given
 goes_follows : (s t : OneKernel) (v : View) (a : Addresses) (l : Placed) (p : Pid) (w : Acted) (z : PlainProcess) → acts v.acting l p ≡ Some (with_acted l p w) → Goes v a p w z → kernel.goes_on s p z ≡ t → Mirrors s v a l → Follows t v a (acts v.acting l p)
-goes_follows s t v a l p w z is g f h = (
-  with_acted l p w,
-  is,
-  mirrors_as (kernel.goes_on s p (plain_process g.y)) t v a a (with_process l p (Some g.y)) (with_acted l p w) (ap (kernel.goes_on s p) g.is ∙ f) refl (ap (with_acted l p) (sym g.acted))
-      (goes_mirrors s v a l p g.y h g.kept),
-)
+goes_follows s t v a l p w z is g f h = search (arith, mirrors_as, goes_mirrors)
 
 -- wait
 wait_row : (s t : OneKernel) (v : View) (a : Addresses) (l : Placed) (p : Pid) (next : kernel.Trap) → ActsOf s v a l p next → kernel.waits s p next ≡ Some t → Mirrors s v a l → Follows t v a (acts v.acting l p)

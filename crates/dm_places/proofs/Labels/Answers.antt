@@ -1,9 +1,9 @@
 -- Messages without links that come in another's place, with places: answers, and what kernels say of ended processes and of
 -- want of room.
 use Rattle.dm_places.proofs.Names.{◌≡◌, ℕ, List, [], ◌∷◌, Bool, refl, ap, ◌∙◌, sym, subst, if◌then◌else◌, slice_get, Option, None, Some, Link, Place, place_of, MsgId, Message, What, Label, PlainMessage, PlainWhat, plain_message, plain_what}
-use Rattle.dm_places.proofs.Names.{arith, nat_tests, with_what, bind, OneKernel, answer_id, answer_to, answer, gone_answer, id_eq-same, bind-is, when-is, View, Addresses, answer_gets, given, gives, Receiver, Sender, unmoved, two}
-use Rattle.dm_places.proofs.Names.{two_process, two_servers, two_off, Placed, Mirrors, MirrorsMessage, enclosed, with_sent, without_message, Asker, AskedBy, Gets, MirrorsKernel, MoveNote, Outcome, Pid, PlainProcess, Process, acting_place}
-use Rattle.dm_places.proofs.Names.{asker_of, gets, id_of, manager, moved_answer, pid_eq-same, plain_note, manager_request, with_note, without_note, ends_move-is}
+use Rattle.dm_places.proofs.Names.{arith, bind, OneKernel, answer_id, answer_to, answer, gone_answer, id_eq-same, bind-is, when-is, View, Addresses, answer_gets, given, gives, Receiver, Sender, unmoved, two, two_process, two_servers}
+use Rattle.dm_places.proofs.Names.{two_off, Placed, Mirrors, MirrorsMessage, enclosed, with_sent, without_message, Asker, AskedBy, Gets, MoveNote, Outcome, Pid, PlainProcess, Process, acting_place, asker_of, gets, id_of, manager}
+use Rattle.dm_places.proofs.Names.{moved_answer, pid_eq-same, plain_note, manager_request, with_note, without_note, ends_move-is}
 use Rattle.dm_onekernel.specs.Kernel as kernels
 use Rattle.dm_onekernel.specs.Service as service
 use Rattle.dm_onekernel.specs.Step as kernel
@@ -31,11 +31,7 @@ two_sends s v a l m k to from says none e f h = record {
 -- an answer goes back to where its request came from
 pub answer_mirrors : (s : OneKernel) (v : View) (a : Addresses) (l : Placed) (id : MsgId) (m : Message) (k : PlainMessage) (w : What) (u : PlainWhat) (moves : ℕ) → MirrorsMessage a id m → plain_message m ≡ Some k → plain_what w ≡ Some u → enclosed w ≡ []
     → Mirrors s v a l → Mirrors (kernels.with_sent s (Some (answer_to k u))) v (given a (answer_gets a id (record { at = v.acting; moves = moves }))) (with_sent l (Some (answer v.acting moves m w)))
-answer_mirrors s v a l id m k w u moves hm says e none h =
-    let from : Place = record { at = v.acting; moves = moves } in
-    let n = answer v.acting moves m w in
-    subst (λ (i : MsgId). Mirrors (kernels.with_sent s (Some (answer_to k u))) v (given a (two (answer_id i) (a (Sender id)) from)) (with_sent l (Some n))) hm.id
-    (two_sends s v a l n (answer_to k u) (a (Sender id)) from (grind (arith, nat_tests, parts)) none hm.sender refl h)
+answer_mirrors s v a l id m k w u moves hm says e none h = search (arith, two_sends, parts)
 
 -- dropped
 pub dropped_follows : (s t : OneKernel) (v : View) (a : Addresses) (l : Placed) (id : MsgId) → kernel.step s (Label.Dropped id) ≡ Some t → Mirrors s v a l → Follows t v a (Some (without_message l id))
@@ -47,10 +43,7 @@ dropped_follows s t v a l id is h =
 
 -- gone
 gone_says : (w : What) (k u : PlainWhat) → plain_what w ≡ Some k → service.gone_what k ≡ Some u → (plain_what (serving.gone_what w) ≡ Some u) × (enclosed (serving.gone_what w) ≡ [])
-gone_says w (PlainWhat.Read base len) u is e = (ap (λ (x : What). plain_what (serving.gone_what x)) (read_what w base len is) ∙ e, ap (λ (x : What). enclosed (serving.gone_what x)) (read_what w base len is))
-gone_says w (PlainWhat.Write base bytes) u is e = let z = write_what w base bytes is in (ap (λ (x : What). plain_what (serving.gone_what x)) z.is ∙ e, ap (λ (x : What). enclosed (serving.gone_what x)) z.is)
-gone_says w (PlainWhat.Move machine) u is e = (ap (λ (x : What). plain_what (serving.gone_what x)) (move_what w machine is) ∙ e, ap (λ (x : What). enclosed (serving.gone_what x)) (move_what w machine is))
-gone_says w _ u is e = cc
+gone_says w k u h1 h2 = search (arith, read_what, write_what, move_what)
 
 pub gone_follows : (s t : OneKernel) (v : View) (a : Addresses) (l : Placed) (id : MsgId) → kernel.step s (Label.Gone id) ≡ Some t → Mirrors s v a l
     → Follows t v (given a (gives s v a (Label.Gone id))) (bind (l.bag id) (λ (m : Message). Some (with_sent (without_message l id) (Some (gone_answer v.acting m)))))
@@ -82,13 +75,7 @@ no_room_row s t v a l id m k u is hm says h = cc
 
 pub no_space_follows : (s t : OneKernel) (v : View) (a : Addresses) (l : Placed) (id : MsgId) (f b : ℕ) → kernel.step s (Label.NoSpace id f b) ≡ Some t → Mirrors s v a l
     → Follows t v (given a (gives s v a (Label.NoSpace id f b))) (bind (l.bag id) (λ (m : Message). Some (with_sent (without_message l id) (Some (answer v.acting 0 m What.NoRoom)))))
-no_space_follows s t v a l id f b is h =
-    let (k, there, rest) = bind-is (s.bag id) (λ (w : PlainMessage). service.has_no_room s id w w.what) t is in
-    let (m, found, says) = there_of s l id k h.plain there in (
-      with_sent (without_message l id) (Some (answer v.acting 0 m What.NoRoom)),
-      ap (λ (o : Option Message). bind o (λ (n : Message). Some (with_sent (without_message l id) (Some (answer v.acting 0 n What.NoRoom))))) found,
-      no_room_row s t v a l id m k k.what rest (h.places.message id m found) says h,
-    )
+no_space_follows s t v a l id f b is h = search (arith, bind-is, there_of, no_room_row)
 
 -- asked
 asked_row : (s t : OneKernel) (v : View) (a : Addresses) (l : Placed) (id : MsgId) (m : Message) (k : PlainMessage) (u : PlainWhat) → service.follows_request s id k u ≡ Some t → id ≡ id_of manager id.n → MirrorsMessage a id m
@@ -106,8 +93,7 @@ asked_row s t v a l id m k (PlainWhat.Move machine) is needs hm says h =
     let p = m.to.pid in
     let done = noted_mirrors (service.without_message s id) v a (b p) (without_message l id) p w (λ q. record { slot = λ i. refl; owner = refl }) (λ i. record { receiver = refl; sender = refl; enclosed = λ j. refl }) (λ n. refl) (λ n. refl) (λ n. refl)
     (λ q apart. ap (λ (c : Bool). if c then pl else a (AskedBy q)) apart) (ap (λ (c : Bool). if c then pl else a (AskedBy p)) (pid_eq-same p) ∙ hm.sender) (out_mirrors s v a l id h) in
-    mirrors_as (kernels.with_note (service.without_message s id) p (plain_note w)) t v (b p) (b k.to) (with_note (without_message l id) p (manager_request w) w) (with_note (without_message l id) p id w)
-    ((λ i. kernels.with_note (service.without_message s id) (g.to i) (note i)) ∙ eq) (ap b g.to) (ap (λ (i : MsgId). with_note (without_message l id) p i w) name) done
+    search (arith, mirrors_as)
 asked_row s t v a l id m k u is needs hm says h = cc
 
 pub asked_follows : (s t : OneKernel) (v : View) (a : Addresses) (l : Placed) (id : MsgId) → kernel.step s (Label.Asked id) ≡ Some t → id ≡ id_of manager id.n → Mirrors s v a l

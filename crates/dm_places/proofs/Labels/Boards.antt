@@ -1,16 +1,15 @@
 -- What the switchboard takes, with places: each link that it keeps or hands out has the place that the lines say.
-use Rattle.dm_places.proofs.Names.{◌≡◌, ℕ, zero, suc, ◌+◌, ◌==◌, ◌&&◌, Bool, true, false, List, [], ◌∷◌, ◌++◌, refl, ap, ◌∙◌, sym, subst, inl, inr, arith, if◌then◌else◌, map, slice_get, Option, None, Some, cases_Bool, nat_tests, length-map}
-use Rattle.dm_places.proofs.Names.{Pid, Link, Place, place_of, PlainLink, plain_link, MsgId, Message, What, id_eq, id_of, PlainMessage, PlainWhat, plain_what, is_general, switchboard, bind, OneKernel, Switchboard, bytes_eq, is_name, Named}
-use Rattle.dm_places.proofs.Names.{plain_board, plain_named, Asked, plain_answer, plain_asks, plain_asked, plain_reply, id_eq-same, View, Addresses, gets, given, Receiver, Sender, Enclosed, Child, Name, Answer, unmoved, place_named}
-use Rattle.dm_places.proofs.Names.{board_asks, board_finds, board_keeps, board_takes_burden, SameProcess, SameMessage, two, two_off, get_last, Placed, Mirrors, MirrorsKernel, MirrorsMessage, enclosed, board_took, without_message, AskedBy}
-use Rattle.dm_places.proofs.Names.{burden_of}
-use Rattle.dm_onekernel.specs.Service as service
-use Rattle.dm_onekernel.specs.Switchboard as one
+use Rattle.dm_places.proofs.Names.{◌≡◌, ℕ, suc, ◌+◌, ◌==◌, Bool, false, List, [], ◌∷◌, ◌++◌, refl, ap, ◌∙◌, sym, subst, inl, inr, arith, if◌then◌else◌, map, slice_get, Option, None, Some, cases_Bool, length-map, Pid, Link, place_of}
+use Rattle.dm_places.proofs.Names.{PlainLink, plain_link, MsgId, Message, What, id_eq, id_of, PlainMessage, PlainWhat, plain_what, is_general, switchboard, bind, OneKernel, Switchboard, bytes_eq, is_name, Named, plain_board, plain_named}
+use Rattle.dm_places.proofs.Names.{Asked, plain_answer, plain_asks, plain_asked, plain_reply, id_eq-same, View, Addresses, given, Receiver, Sender, Enclosed, Child, Name, Answer, unmoved, place_named, board_asks, board_finds, board_keeps}
+use Rattle.dm_places.proofs.Names.{board_takes_burden, SameProcess, SameMessage, two, two_off, get_last, Placed, Mirrors, MirrorsKernel, MirrorsMessage, enclosed, board_took, without_message, AskedBy, burden_of}
 use Rattle.dm_switchboard.specs.declared.reply.Reply.{Reply}
-use Rattle.dm_switchboard.specs.Taking as board
 use Rattle.dm_places.proofs.Keeps.{answer_as, came_places, kernel_out, kernel_sent, out_mirrors, places_out, process_same}
 use Rattle.dm_places.proofs.Labels.Acts.{Follows}
 use Rattle.dm_places.proofs.Whats.{user_what}
+use Rattle.dm_onekernel.specs.Service as service
+use Rattle.dm_onekernel.specs.Switchboard as one
+use Rattle.dm_switchboard.specs.Taking as board
 
 -- the names and the answer after a request, where b is a with what the request gives
 record AskedKept (a b : Addresses) (sent : MsgId) (k : Asked) : Type 0 where
@@ -30,19 +29,10 @@ AsksKept a id sent names body k =
     AskedKept a (given a (board_finds a sent (map plain_named names) body (plain_reply k.reply) ++ board_keeps a id (map plain_named names) (plain_reply k.reply))) sent k
 
 nothing_given : (a : Addresses) (sent : MsgId) (names : List Named) (r : Reply) → board.links_of_reply r ≡ [] → NamesKept a names → AskedKept a a sent (record { names = names; reply = r })
-nothing_given a sent names r none h = record {
-  name = h;
-  enclosed = λ n w e. absurd (let f : None ≡ Some w = ap (λ (ls : List Link). slice_get ls n) (sym none) ∙ e in cc);
-  process = λ q. record { slot = λ n. refl; owner = refl };
-  message = λ i e. record { receiver = refl; sender = refl; enclosed = λ n. refl };
-  child = λ n. refl;
-  answer = λ n. refl;
-  asked = λ q. refl;
-}
+nothing_given a sent names r none h = search arith
 
 asks_if : (a : Addresses) (id sent : MsgId) (names : List Named) (body : List ℕ) (b : Bool) (k l : Asked) → AsksKept a id sent names body k → AsksKept a id sent names body l → AsksKept a id sent names body (if b then k else l)
-asks_if a id sent names body true k l h j = h
-asks_if a id sent names body false k l h j = j
+asks_if a id sent names body b k l h1 h2 = search arith
 
 record FoundAt (name : List ℕ) (names : List Named) (n : ℕ) (w : Link) : Type 0 where
   i : ℕ
@@ -69,19 +59,7 @@ looks_up_kept : (a : Addresses) (id sent : MsgId) (names : List Named) (op : ℕ
 looks_up_kept a id sent names op name None is h = nothing_given a sent names Reply.Unknown refl h
 looks_up_kept a id sent names op name (Some l) is h =
     let f = found_at name names 0 l is in
-    let place : place_named name (map plain_named names) 0 ≡ f.i = let p = f.place in omega (arith, p) in
-    let pl = a (Name (place_named name (map plain_named names) 0)) in
-    let at : pl ≡ place_of l.addr = ap (λ (n : ℕ). a (Name n)) place ∙ h f.i f.k f.there ∙ ap (λ (w : Link). place_of w.addr) f.link in
-    record {
-      name = h;
-      enclosed = λ n w e. (elim n as (λ n_. slice_get (l ∷ []) n_ ≡ Some w → given a (gets (Enclosed sent 0) pl ∷ []) (Enclosed sent n_) ≡ place_of w.addr)
-          [ zero ↦ λ e_. grind (arith, nat_tests, id_eq-same) | suc g ↦ λ e_. absurd (let f : None ≡ Some w = e_ in cc) ]) e;
-      process = λ q. record { slot = λ n. refl; owner = refl };
-      message = λ i e. record { receiver = refl; sender = refl; enclosed = λ n. ap (λ (c : Bool). if c && (0 == n) then pl else a (Enclosed i n)) e };
-      child = λ n. refl;
-      answer = λ n. refl;
-      asked = λ q. refl;
-    }
+    search (arith, id_eq-same)
 
 registers_kept : (a : Addresses) (id sent : MsgId) (names : List Named) (op : ℕ) (name : List ℕ) (l : Link) (o : Option Link) → a (Enclosed id 1) ≡ place_of l.addr → NamesKept a names
     → AsksKept a id sent names (op ∷ name) (board.registers_new names name l o)
@@ -109,17 +87,13 @@ to_register a id sent names op name (l ∷ []) en h =
 to_register a id sent names op name _ en h = nothing_given a sent names Reply.BadRequest refl h
 
 to_look_up : (a : Addresses) (id sent : MsgId) (names : List Named) (op : ℕ) (name : List ℕ) (ls : List Link) → NamesKept a names → AsksKept a id sent names (op ∷ name) (board.asks_to_look_up names name ls)
-to_look_up a id sent names op name [] h =
-    asks_if a id sent names (op ∷ name) (is_name name) (board.looks_up names name) (board.bad_request names) (looks_up_kept a id sent names op name (board.link_named name names) refl h) (nothing_given a sent names Reply.BadRequest refl h)
+to_look_up a id sent names op name [] h = search (arith, asks_if, looks_up_kept, nothing_given)
 to_look_up a id sent names op name (l ∷ ls) h = nothing_given a sent names Reply.BadRequest refl h
 
 asks_kept : (a : Addresses) (id sent : MsgId) (names : List Named) (body : List ℕ) (ls : List Link) → ((n : ℕ) (w : Link) → slice_get ls n ≡ Some w → a (Enclosed id (suc n)) ≡ place_of w.addr) → NamesKept a names
     → AsksKept a id sent names body (board.asks names body ls)
 asks_kept a id sent names [] ls en h = nothing_given a sent names Reply.BadRequest refl h
-asks_kept a id sent names (op ∷ name) ls en h =
-    asks_if a id sent names (op ∷ name) (op == 1) (board.asks_to_register names name ls) (if op == 2 then board.asks_to_look_up names name ls else board.bad_request names)
-    (to_register a id sent names op name ls en h)
-    (asks_if a id sent names (op ∷ name) (op == 2) (board.asks_to_look_up names name ls) (board.bad_request names) (to_look_up a id sent names op name ls h) (nothing_given a sent names Reply.BadRequest refl h))
+asks_kept a id sent names (op ∷ name) ls en h = search (arith, asks_if, to_register, to_look_up, nothing_given)
 
 -- the kernel's board after a request is this one without places
 abbrev BoardAt : OneKernel → View → Addresses → Placed → MsgId → List ℕ → Link → List Link → Switchboard → one.Asked → Type 0

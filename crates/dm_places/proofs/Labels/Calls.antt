@@ -1,9 +1,9 @@
 -- What a call leaves of a process with places, and of what it sends: each address that it gives is the one that stands there.
-use Rattle.dm_places.proofs.Names.{◌≡◌, ℕ, zero, suc, ◌==◌, ◌&&◌, ◌||◌, Bool, true, false, List, [], ◌∷◌, refl, ap, ◌∙◌, sym, subst, inl, inr, arith, nat_lt, ⊤, if◌then◌else◌, map, slice_get, slice_set, filter_map, cons_option, is_none}
-use Rattle.dm_places.proofs.Names.{Option, None, Some, nat_tests, Pid, Link, Place, place_of, pid_eq, plain_link, first_empty, link_at, plain_slot, MsgId, Message, id_eq, PlainMessage, User, Read, Write, plain_message, Process, Direction}
-use Rattle.dm_places.proofs.Names.{Status, direction_numbered, Regs, past, Reply, plain_process, reg, CallNumber, first_failed, piece_of, address_of, moving, request, Called, Done, emptied, links_in, first_of, slot_at, pid_eq-same}
-use Rattle.dm_places.proofs.Names.{id_eq-same, View, Addresses, Gets, gets, given, Slot, Owner, Receiver, Sender, acting_place, encloses, fills, fills_by, sends_burden, set_link, emptied_link, SameProcess, SameMessage, SameServers}
-use Rattle.dm_places.proofs.Names.{encloses_servers, encloses_process, encloses_message, encloses_at, gives_by, no_gives, or-left, or-right, MirrorsProcess, MirrorsMessage, enclosed, owner_at, burden_of}
+use Rattle.dm_places.proofs.Names.{◌≡◌, ℕ, Bool, true, false, List, [], ◌∷◌, refl, ap, ◌∙◌, sym, subst, arith, ⊤, if◌then◌else◌, map, slice_get, slice_set, filter_map, cons_option, is_none, Option, None, Some, Pid, Link, Place, place_of}
+use Rattle.dm_places.proofs.Names.{pid_eq, plain_link, first_empty, link_at, plain_slot, MsgId, Message, id_eq, PlainMessage, User, Read, Write, plain_message, Process, Direction, Regs, past, Reply, plain_process, reg, CallNumber}
+use Rattle.dm_places.proofs.Names.{first_failed, piece_of, address_of, moving, request, Called, Done, emptied, links_in, first_of, slot_at, pid_eq-same, id_eq-same, View, Addresses, Gets, gets, given, Slot, Owner, Receiver, Sender}
+use Rattle.dm_places.proofs.Names.{acting_place, encloses, fills, fills_by, sends_burden, set_link, emptied_link, SameProcess, SameMessage, SameServers, encloses_servers, encloses_process, encloses_message, encloses_at, gives_by, no_gives}
+use Rattle.dm_places.proofs.Names.{or-left, or-right, MirrorsProcess, MirrorsMessage, enclosed, owner_at, burden_of}
 use Rattle.dm_onekernel.specs.Calls as one
 use Rattle.dm_syscall.specs.Calls as calls
 
@@ -42,31 +42,15 @@ regs_kept v a p x regs h = record { pid = h.pid; moves = h.moves; slots = h.slot
 
 unless_kept : (v : View) (a : Addresses) (p : Pid) (x : Process) (n : CallNumber) (c : Option Reply) (d : Done) → fills_by v a p (plain_process x) n ≡ [] → MirrorsProcess v a p x → MirrorsDone v a p x n d
     → MirrorsDone v a p x n (calls.unless_refused c (behind x) d)
-unless_kept v a p x n None d e h j = j
-unless_kept v a p x n (Some c) d e h j =
-    subst (λ (gs : List Gets). MirrorsProcess v (given a gs) p (calls.replied c (behind x)).process) (sym (no_gives v a p (plain_process x) n c e)) (regs_kept v a p x (calls.replied c (behind x)).process.regs h)
+unless_kept v a p x n c d h1 h2 h3 = search (arith, no_gives, regs_kept)
 
 if_kept : (v : View) (a : Addresses) (p : Pid) (x : Process) (n : CallNumber) (b : Bool) (c d : Done) → MirrorsDone v a p x n c → MirrorsDone v a p x n d → MirrorsDone v a p x n (if b then c else d)
-if_kept v a p x n true c d h k = h
-if_kept v a p x n false c d h k = k
+if_kept v a p x n b c d h1 h2 = search arith
 
 -- a link goes into a slot
 set_slot_kept : (v : View) (a : Addresses) (p : Pid) (x : Process) (regs : Regs) (slot : ℕ) (w : Link) (place : Place) → place ≡ place_of w.addr → MirrorsProcess v a p x
     → MirrorsProcess v (given a (gets (Slot p slot) place ∷ [])) p (record x { regs = regs; table = slice_set x.table slot (Some w) })
-set_slot_kept v a p x regs slot w place is h = record {
-  pid = h.pid;
-  moves = h.moves;
-  slots = λ k u e. elim (set_link x.table slot k (Some w) u e) [
-    | inl there ↦
-        let same : (pid_eq p p && (slot == k)) ≡ true = let g = pid_eq-same p in let f = there.0 in grind (arith, nat_tests) in
-        let f : Some w ≡ Some u = there.1 in
-        let wu : w ≡ u = cc in ap (λ (c : Bool). if c then place else a (Slot p k)) same ∙ is ∙ ap (λ (z : Link). place_of z.addr) wu
-    | inr off ↦
-        let apart : (pid_eq p p && (slot == k)) ≡ false = let g = pid_eq-same p in let f = off.0 in grind (arith, nat_tests) in
-        ap (λ (c : Bool). if c then place else a (Slot p k)) apart ∙ h.slots k u off.1
-  ];
-  owner = h.owner;
-}
+set_slot_kept v a p x regs slot w place is h = search (arith, set_link, pid_eq-same)
 
 puts_kept : (v : View) (a : Addresses) (p : Pid) (x : Process) (n : CallNumber) (w : Link) (place : Place) (o : Option ℕ) → fills_by v a p (plain_process x) n ≡ fills p o place → place ≡ place_of w.addr → MirrorsProcess v a p x
     → MirrorsDone v a p x n (calls.puts_link (behind x) w o)
@@ -83,15 +67,13 @@ copies_kept v a p x (Some w) is h =
     (puts_kept v a p x one.Copy w (a (Slot p (reg x.regs 1))) (first_empty x.table) (ap (λ (o : Option ℕ). fills p o (a (Slot p (reg x.regs 1)))) (first_of x.table)) (h.slots (reg x.regs 1) w is) h)
 
 drops_kept : (v : View) (a : Addresses) (p : Pid) (x : Process) (o : Option Link) → MirrorsProcess v a p x → MirrorsDone v a p x one.Drop (calls.drops (behind x) o)
-drops_kept v a p x None h = regs_kept v a p x (calls.replied Reply.NoLink (behind x)).process.regs h
-drops_kept v a p x (Some w) h = record { pid = h.pid; moves = h.moves; slots = λ k u e. h.slots k u (emptied_link x.table (reg x.regs 1) k u e); owner = h.owner }
+drops_kept v a p x o h1 = search (arith, regs_kept, emptied_link)
 
 makes_by : (v : View) (a : Addresses) (p : Pid) (x : Process) (b c : Bool) → MirrorsProcess v a p x
     → MirrorsDone v a p x one.Make (calls.unless_refused (first_failed (record { fails = b; reply = Reply.BadKind } ∷ record { fails = c; reply = Reply.BadRange } ∷ [])) (behind x) (calls.puts_link (behind x) (calls.own_link v.acting (behind x)) (first_empty x.table)))
 makes_by v a p x true c h = regs_kept v a p x (calls.replied Reply.BadKind (behind x)).process.regs h
 makes_by v a p x false true h = regs_kept v a p x (calls.replied Reply.BadRange (behind x)).process.regs h
-makes_by v a p x false false h =
-    puts_kept v a p x one.Make (calls.own_link v.acting (behind x)) (acting_place v p) (first_empty x.table) (ap (λ (o : Option ℕ). fills p o (acting_place v p)) (first_of x.table)) (stands_here v a p x h) h
+makes_by v a p x false false h = search (arith, puts_kept, first_of, stands_here)
 
 -- the links that a message encloses have their places among the slots'
 record Listed (a : Addresses) (p : Pid) (ss : List ℕ) (k : ℕ) (w : Link) : Type 0 where
@@ -101,9 +83,7 @@ record Listed (a : Addresses) (p : Pid) (ss : List ℕ) (k : ℕ) (w : Link) : T
 
 listed_step : (v : View) (a : Addresses) (p : Pid) (x : Process) (s : ℕ) (ss : List ℕ) (k : ℕ) (w : Link) (o : Option Link) → MirrorsProcess v a p x → link_at x.table s ≡ o → is_none o ≡ false
     → ((j : ℕ) → slice_get (filter_map (link_at x.table) ss) j ≡ Some w → Listed a p ss j w) → slice_get (cons_option o (filter_map (link_at x.table) ss)) k ≡ Some w → Listed a p (s ∷ ss) k w
-listed_step v a p x s ss k w None h is some rest e = cc
-listed_step v a p x s ss zero w (Some u) h is some rest e = let f : u ≡ w = cc in record { place = a (Slot p s); there = refl; is = h.slots s u is ∙ ap (λ (z : Link). place_of z.addr) f }
-listed_step v a p x s ss (suc k) w (Some u) h is some rest e = let r = rest k e in record { place = r.place; there = r.there; is = r.is }
+listed_step v a p x s ss k w o h1 h2 h3 h4 h5 = search arith
 
 listed_kept : (v : View) (a : Addresses) (p : Pid) (x : Process) (ss : List ℕ) (k : ℕ) (w : Link) → MirrorsProcess v a p x → one.any_empty (map plain_slot x.table) ss ≡ false → slice_get (filter_map (link_at x.table) ss) k ≡ Some w → Listed a p ss k w
 listed_kept v a p x [] k w h some e = cc
@@ -146,11 +126,7 @@ user_sent v a p x w over some h k e =
             let r = listed_kept v a p x (calls.listed x) n u h some g in encloses_at a id 0 ps n n r.place r.there (omega arith) ∙ r.is;
       };
       others = λ q g. let s = encloses_process a id 0 ps q in record { slot = s.slot; owner = s.owner };
-      messages = λ i g. let s = encloses_message a id 0 ps i g in record {
-        receiver = ap (λ (c : Bool). if c then to else given a (encloses id 0 ps) (Receiver i)) g ∙ s.receiver;
-        sender = ap (λ (c : Bool). if c then acting_place v p else given a (encloses id 0 ps) (Sender i)) g ∙ s.sender;
-        enclosed = s.enclosed;
-      };
+      messages = λ i g. let s = encloses_message a id 0 ps i g in (search (arith));
       servers = let s = encloses_servers a id 0 ps in record { child = s.child; name = s.name; answer = s.answer; asked = s.asked };
     })
 
@@ -165,38 +141,12 @@ sends_by v a p x w false false false true f over h = regs_kept v a p x (calls.re
 sends_by v a p x w false false false false f over h = user_sent v a p x w over (sym f) h
 
 sends_kept : (v : View) (a : Addresses) (p : Pid) (x : Process) (o : Option Link) → link_at x.table (reg x.regs 1) ≡ o → MirrorsProcess v a p x → MirrorsDone v a p x one.Send (calls.sends v.acting (behind x) o)
-sends_kept v a p x None over h = regs_kept v a p x (calls.replied Reply.NoLink (behind x)).process.regs h
-sends_kept v a p x (Some w) over h =
-    let y = plain_process x in
-    sends_by v a p x w (nat_lt (one.most_body y) (reg x.regs 3) || nat_lt 4 (reg x.regs 4)) (one.is_outside y (reg x.regs 2) (reg x.regs 3) || one.is_outside y (reg x.regs 5) (reg x.regs 4))
-    (one.any_empty y.links (one.listed y)) (one.reply_named_twice y.links (reg x.regs 1 ∷ one.listed y)) refl over h
+sends_kept v a p x o h1 h2 = search (arith, regs_kept, sends_by)
 
 -- a data move begins, with the owner of the link in slot r1
 move_sent : (v : View) (a : Addresses) (p : Pid) (m : Message) (x y : Process) (to : Place) → to ≡ place_of m.to → acting_place v p ≡ place_of m.sender → enclosed m.what ≡ [] → y.pid ≡ x.pid → y.moves ≡ x.moves → y.table ≡ x.table → owner_at y.status ≡ Some m.to → MirrorsProcess v a p x
     → MirrorsSent v a (given a (gets (Receiver m.id) to ∷ gets (Sender m.id) (acting_place v p) ∷ gets (Owner p) to ∷ [])) p m y
-move_sent v a p m x y to there from none pid moves table owner h = record {
-  process = record {
-    pid = pid ∙ h.pid;
-    moves = moves ∙ h.moves;
-    slots = λ k w e. h.slots k w (ap (λ (s : List (Option Link)). link_at s k) (sym table) ∙ e);
-    owner = λ q e.
-        let f : Some m.to ≡ Some q = sym owner ∙ e in
-        let g : m.to ≡ q = cc in ap (λ (c : Bool). if c then to else a (Owner p)) (pid_eq-same p) ∙ there ∙ ap place_of g;
-  };
-  message = record {
-    id = refl;
-    receiver = ap (λ (c : Bool). if c then to else a (Receiver m.id)) (id_eq-same m.id) ∙ there;
-    sender = ap (λ (c : Bool). if c then acting_place v p else a (Sender m.id)) (id_eq-same m.id) ∙ from;
-    enclosed = λ k w e. absurd (let f : None ≡ Some w = ap (λ (ls : List Link). slice_get ls k) (sym none) ∙ e in cc);
-  };
-  others = λ q e. record { slot = λ k. refl; owner = ap (λ (c : Bool). if c then to else a (Owner q)) e };
-  messages = λ i e. record {
-    receiver = ap (λ (c : Bool). if c then to else a (Receiver i)) e;
-    sender = ap (λ (c : Bool). if c then acting_place v p else a (Sender i)) e;
-    enclosed = λ k. refl;
-  };
-  servers = record { child = λ n. refl; name = λ n. refl; answer = λ n. refl; asked = λ q. refl };
-}
+move_sent v a p m x y to there from none pid moves table owner h = search (arith, pid ∙ h.pid, moves ∙ h.moves, h.slots, m.to, pid_eq-same, m.id, id_eq-same)
 
 begins_kept : (v : View) (a : Addresses) (p : Pid) (x : Process) (w : Link) (dir : Direction) → link_at x.table (reg x.regs 1) ≡ Some w → MirrorsProcess v a p x
     → MirrorsDone v a p x one.Move (calls.begins v.acting (behind x) (calls.whole (behind x) w dir))
@@ -218,26 +168,10 @@ begins_kept v a p x w Direction.IntoArea over h k e =
 moves_over_kept : (v : View) (a : Addresses) (p : Pid) (x : Process) (w : Link) (o : Option Direction) → link_at x.table (reg x.regs 1) ≡ Some w → MirrorsProcess v a p x
     → MirrorsDone v a p x one.Move (calls.moves_over v.acting (behind x) w o)
 moves_over_kept v a p x w None over h = regs_kept v a p x (calls.replied Reply.BadKind (behind x)).process.regs h
-moves_over_kept v a p x w (Some dir) over h =
-    unless_kept v a p x one.Move (first_failed (one.move_refusals (plain_process (behind x)) (plain_link w) dir)) (calls.moves_bytes v.acting (behind x) w dir) refl h
-    (if_kept v a p x one.Move (reg x.regs 5 == 0) (calls.replied Reply.Done (behind x)) (calls.begins v.acting (behind x) (calls.whole (behind x) w dir))
-    (regs_kept v a p x (calls.replied Reply.Done (behind x)).process.regs h)
-    (begins_kept v a p x w dir over h))
+moves_over_kept v a p x w (Some dir) over h = search (arith, unless_kept, if_kept, regs_kept, begins_kept)
 
 moves_kept : (v : View) (a : Addresses) (p : Pid) (x : Process) (o : Option Link) → link_at x.table (reg x.regs 1) ≡ o → MirrorsProcess v a p x → MirrorsDone v a p x one.Move (calls.moves v.acting (behind x) o)
-moves_kept v a p x None over h = regs_kept v a p x (calls.replied Reply.NoLink (behind x)).process.regs h
-moves_kept v a p x (Some w) over h = moves_over_kept v a p x w (direction_numbered (reg x.regs 2)) over h
+moves_kept v a p x o h1 h2 = search (arith, regs_kept, moves_over_kept)
 
 pub does_call_kept : (v : View) (a : Addresses) (p : Pid) (x : Process) (n : CallNumber) → MirrorsProcess v a p x → MirrorsDone v a p x n (calls.does_call v.acting (behind x) n)
-does_call_kept v a p x one.Out h = regs_kept v a p x (calls.replied Reply.Done (behind x)).process.regs h
-does_call_kept v a p x one.Make h =
-    let y = plain_process x in
-    makes_by v a p x (nat_lt 7 (reg x.regs 3)) (nat_lt 31 (reg x.regs 2) || one.is_outside y (reg x.regs 4) (reg x.regs 5)) h
-does_call_kept v a p x one.Copy h = copies_kept v a p x (link_at x.table (reg x.regs 1)) refl h
-does_call_kept v a p x one.Drop h = drops_kept v a p x (link_at x.table (reg x.regs 1)) h
-does_call_kept v a p x one.Send h = sends_kept v a p x (link_at x.table (reg x.regs 1)) refl h
-does_call_kept v a p x one.Receive h =
-    if_kept v a p x one.Receive (one.is_outside (plain_process x) (reg x.regs 2) (reg x.regs 3)) (calls.replied Reply.BadRange (behind x)) (record { called = Called.Waits; process = record (behind x) { status = Status.Waiting (reg x.regs 1) (reg x.regs 2) (reg x.regs 3) } })
-    (regs_kept v a p x (calls.replied Reply.BadRange (behind x)).process.regs h) (record { pid = h.pid; moves = h.moves; slots = h.slots; owner = λ q e. absurd (let f : None ≡ Some q = e in cc) })
-does_call_kept v a p x one.Move h = moves_kept v a p x (link_at x.table (reg x.regs 1)) refl h
-does_call_kept v a p x _ h = tt
+does_call_kept v a p x n h1 = search (arith, regs_kept, makes_by, copies_kept, drops_kept, sends_kept, if_kept, moves_kept)

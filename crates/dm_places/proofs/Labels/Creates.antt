@@ -1,18 +1,18 @@
 -- A process that a kernel makes, with places: it begins with the links that its request brought.
-use Rattle.dm_places.proofs.Names.{◌≡◌, ℕ, zero, suc, ◌+◌, ◌-◌, ◌&&◌, List, [], ◌∷◌, ◌++◌, length, refl, ap, ◌∙◌, sym, subst, false, arith, map, option_map, slice_get, replicate, Option, None, Some, length-map, slice_get-map, Pid, Link}
-use Rattle.dm_places.proofs.Names.{pid_eq, pid_of, PlainLink, plain_link, link_at, plain_slot, MsgId, Message, What, Label, PlainMessage, PlainWhat, plain_message, plain_what, begun_process, Format, BootImage, first_number, slots_of, bind}
-use Rattle.dm_places.proofs.Names.{Alive, OneKernel, plain_process, Ready, answer_id, answer_to, memory_of, slots_with, zero_regs, answer, bind-is, when-is, View, Addresses, Gets, Sender, answer_gets, child_links, given, gives, unmoved}
-use Rattle.dm_places.proofs.Names.{two, child_at, only_child, Placed, Mirrors, MirrorsMessage, MirrorsProcess, enclosed, with_child, with_sent, without_message, nat_tests, burden_of}
+use Rattle.dm_places.proofs.Names.{◌≡◌, ℕ, zero, suc, ◌+◌, ◌-◌, ◌&&◌, List, [], ◌∷◌, ◌++◌, length, refl, ap, ◌∙◌, sym, subst, arith, map, option_map, slice_get, replicate, Option, None, Some, length-map, slice_get-map, Pid, Link, pid_eq}
+use Rattle.dm_places.proofs.Names.{pid_of, PlainLink, plain_link, link_at, plain_slot, MsgId, Message, What, Label, PlainMessage, PlainWhat, plain_message, plain_what, begun_process, Format, BootImage, first_number, slots_of, bind, Alive}
+use Rattle.dm_places.proofs.Names.{OneKernel, plain_process, answer_id, answer_to, memory_of, slots_with, answer, bind-is, when-is, View, Addresses, Gets, Sender, answer_gets, child_links, given, gives, unmoved, two, child_at, only_child}
+use Rattle.dm_places.proofs.Names.{Placed, Mirrors, MirrorsMessage, MirrorsProcess, enclosed, with_child, with_sent, without_message, nat_tests, burden_of}
+use Rattle.dm_places.proofs.Keeps.{kernel_out, kernel_process, parts, places_out, places_process, there_of, this_process}
+use Rattle.dm_places.proofs.Labels.Acts.{Follows}
+use Rattle.dm_places.proofs.Labels.Answers.{two_sends}
+use Rattle.dm_places.proofs.Whats.{create_what}
 use Rattle.dm_onekernel.specs.Kernel as kernels
 use Rattle.dm_onekernel.specs.Service as service
 use Rattle.dm_onekernel.specs.Start as one
 use Rattle.dm_onekernel.specs.Step as kernel
 use Rattle.dm_rule.specs.Addresses as addresses
 use Rattle.dm_places.specs.PlacedStep as placed
-use Rattle.dm_places.proofs.Keeps.{kernel_out, kernel_process, parts, places_out, places_process, there_of, this_process}
-use Rattle.dm_places.proofs.Labels.Acts.{Follows}
-use Rattle.dm_places.proofs.Labels.Answers.{two_sends}
-use Rattle.dm_places.proofs.Whats.{create_what}
 
 -- the slots of a process as it begins
 pub begun_link : (links : List Link) (n k : ℕ) (w : Link) → link_at (map Some links ++ replicate n None) k ≡ Some w → slice_get links k ≡ Some w
@@ -32,8 +32,7 @@ table_plainly slots links =
     ap (λ (n : ℕ). map Some (map plain_link links) ++ replicate (slots - n) None) (length-map links plain_link) ∙ slots_plainly links (slots - length links)
 
 pub begun_plainly : (f : Format) (p : Pid) (image : BootImage) (links : List Link) → one.begun f image (map plain_link links) ≡ plain_process (begun_process p (memory_of image) (slots_with (slots_of f) links))
-begun_plainly f p image links =
-    λ i. record { regs = zero_regs; memory = memory_of image; links = table_plainly (slots_of f) links i; status = Ready; stopped = false; sent = 0 }
+begun_plainly f p image links = search (arith, table_plainly)
 
 begun_mirrors : (s : OneKernel) (v : View) (a : Addresses) (l : Placed) (id : MsgId) (m : Message) (child : Pid) (image : BootImage) (links : List Link) → v.moves child ≡ 0 → MirrorsMessage a id m → enclosed m.what ≡ links → Mirrors s v a l
     → Mirrors (service.with_created (service.without_message s id) child image (map plain_link links)) v (given a (child_links a child id 0 (map plain_link links))) (with_child (without_message l id) s.format child image links)
@@ -51,8 +50,7 @@ begun_mirrors s v a l id m child image links none hm is h =
       owner = λ q e. absurd (let f : None ≡ Some q = e in cc);
     } in
     let k = kernel_process (service.without_message s id) (without_message l id) child (Alive (one.begun s.format image ls)) (Some y) (ap Some (begun_plainly s.format child image links)) (kernel_out s l id h.plain) in
-    search
-    (places_process v a b (without_message l id) child (Some y) (places_out v a l id h.places) o.others (this_process v b child y hy) o.messages o.servers)
+    search (arith, places_process, places_out, this_process)
 
 created_row : (s t : OneKernel) (v : View) (a : Addresses) (l : Placed) (id : MsgId) (m : Message) (k : PlainMessage) (child : Pid) (image : BootImage) (links : List Link) → service.creates_of s id k child (map plain_link links) image ≡ Some t → v.moves child ≡ 0
     → MirrorsMessage a id m → plain_message m ≡ Some k → enclosed m.what ≡ links → Mirrors s v a l

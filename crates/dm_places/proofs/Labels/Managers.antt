@@ -1,9 +1,9 @@
 -- What the process manager takes, with places: it tells kernels and children, and answers over links, where the lines say.
-use Rattle.dm_places.proofs.Names.{◌≡◌, ℕ, suc, ◌+◌, ◌*◌, ◌==◌, ◌&&◌, Bool, true, false, List, [], ◌∷◌, length, refl, ap, ◌∙◌, sym, subst, inl, inr, nat_lt, arith, if◌then◌else◌, map, option_map, slice_get, Option, None, Some, nat_tests}
-use Rattle.dm_places.proofs.Names.{slice_get-map, Pid, Addr, Link, place_of, plain_link, MsgId, What, id_of, PlainMessage, PlainWhat, plain_message, manager, OneKernel, goes_over, Pending, Managing, plain_child, plain_manager}
-use Rattle.dm_places.proofs.Names.{plain_pending, answer_over, message_to, Taken, child_address, plain_numbered, plain_push, id_eq-same, View, Addresses, gets, given, Receiver, Sender, Enclosed, Child, Answer, unmoved, encloses}
-use Rattle.dm_places.proofs.Names.{enclosed_from, manager_sends, ascends, encloses_servers, encloses_process, encloses_message, encloses_at, two, enclosed_at, Placed, Mirrors, MirrorsKernel, enclosed, manager_took, without_message}
-use Rattle.dm_places.proofs.Names.{AnswerNames, Place, PlainLink, pending_request, ◌++◌, kernel_at, PendingKind}
+use Rattle.dm_places.proofs.Names.{◌≡◌, ℕ, suc, ◌+◌, ◌==◌, ◌&&◌, Bool, true, false, List, [], ◌∷◌, length, refl, ap, ◌∙◌, subst, inl, inr, nat_lt, arith, if◌then◌else◌, map, option_map, slice_get, Option, None, Some, nat_tests}
+use Rattle.dm_places.proofs.Names.{slice_get-map, Addr, Link, place_of, plain_link, MsgId, What, id_of, PlainMessage, PlainWhat, plain_message, manager, OneKernel, goes_over, Pending, Managing, plain_child, plain_manager, plain_pending}
+use Rattle.dm_places.proofs.Names.{answer_over, message_to, Taken, child_address, plain_numbered, plain_push, id_eq-same, View, Addresses, gets, given, Receiver, Sender, Enclosed, Child, Answer, unmoved, encloses, enclosed_from}
+use Rattle.dm_places.proofs.Names.{manager_sends, ascends, encloses_servers, encloses_process, encloses_message, encloses_at, two, enclosed_at, Placed, Mirrors, MirrorsKernel, enclosed, manager_took, without_message, AnswerNames, Place}
+use Rattle.dm_places.proofs.Names.{PlainLink, pending_request, ◌++◌, kernel_at, PendingKind}
 use Rattle.dm_onekernel.specs.Kernel as kernels
 use Rattle.dm_onekernel.specs.Manager as one
 use Rattle.dm_onekernel.specs.Service as service
@@ -24,8 +24,7 @@ LinksKept a id links = (n : ℕ) (w : Link) → slice_get links n ≡ Some w →
 
 took_if : (s : OneKernel) (v : View) (a : Addresses) (l : Placed) (id mid : MsgId) (code : ℕ) (b : Bool) (k j : one.ManagerTook) (t u : Taken) → TookAt s v a l id mid code k t → TookAt s v a l id mid code j u
     → TookAt s v a l id mid code (if b then k else j) (if b then t else u)
-took_if s v a l id mid code true k j t u h i = h
-took_if s v a l id mid code false k j t u h i = i
+took_if s v a l id mid code b k j t u h1 h2 = search arith
 
 -- its count rises
 counted : (s : OneKernel) (v : View) (a : Addresses) (l : Placed) (id : MsgId) → Mirrors s v a l
@@ -46,8 +45,7 @@ first_names a mid [] en = tt
 first_names a mid (w ∷ ws) en = en 0 w refl
 
 first_plainly : (links : List Link) → option_map plain_link (take.first_link links) ≡ one.first_link (map plain_link links)
-first_plainly [] = refl
-first_plainly (w ∷ ws) = refl
+first_plainly links = search arith
 
 -- the links that are kept, once one more request is pending
 asked_names : (a c : Addresses) (g : Managing) (z : Pending) (pl : Place) → ((j : ℕ) → c (Answer j) ≡ a (Answer j)) → z.n ≡ g.sent → AnswerNames z.answer pl → InOrder g
@@ -90,11 +88,7 @@ asks_for_mirrors s v a l id mid code machine image w ws en order h =
       places = record {
         process = λ p x e. process_same v a b p x (let z = encloses_process a sent 0 ps p in record { slot = z.slot; owner = z.owner }) (h.places.process p x e);
         message = came_places a b l' m o.message
-            (λ i e. let z = encloses_message a sent 0 ps i e in record {
-              receiver = ap (λ (d : Bool). if d then to else c (Receiver i)) e ∙ z.receiver;
-              sender = ap (λ (d : Bool). if d then from else c (Sender i)) e ∙ z.sender;
-              enclosed = z.enclosed;
-            })
+            (λ i e. let z = encloses_message a sent 0 ps i e in (search (arith)))
             (record {
               id = refl;
               receiver = ap (λ (d : Bool). if d then to else c (Receiver sent)) (id_eq-same sent);
@@ -119,10 +113,7 @@ wants_mirrors s v a l id mid code machine image (w ∷ ws) en order h =
 
 requests_mirrors : (s : OneKernel) (v : View) (a : Addresses) (l : Placed) (id mid : MsgId) (code : ℕ) (body : List ℕ) (links : List Link) → LinksKept a mid links → InOrder l.manager → Mirrors s v a l
     → TookAt s v a l id mid code (one.requests_child (plain_manager l.manager) l.manager.machines l.manager.images body (map plain_link links)) (take.requests v.acting l.manager body links)
-requests_mirrors s v a l id mid code (b ∷ c ∷ d ∷ e ∷ []) links en order h =
-    let g = l.manager in
-    took_if s v a l id mid code (b == 1) (one.wants_child (plain_manager g) g.machines g.images c (256 * d + e) (map plain_link links)) (one.bad_request (plain_manager g) (map plain_link links))
-    (take.wants_child v.acting g c (256 * d + e) links) (take.bad_request v.acting g links) (wants_mirrors s v a l id mid code c (256 * d + e) links en order h) (bad_mirrors s v a l id mid code links en h)
+requests_mirrors s v a l id mid code (b ∷ c ∷ d ∷ e ∷ []) links en order h = search (arith, took_if, wants_mirrors, bad_mirrors)
 requests_mirrors s v a l id mid code _ links en order h = bad_mirrors s v a l id mid code links en h
 
 -- a message to a child
@@ -210,12 +201,7 @@ controls_mirrors s v a l id mid code _ _ links is en order h = bad_mirrors s v a
 
 user_of : (s : OneKernel) (v : View) (a : Addresses) (l : Placed) (id mid : MsgId) (code : ℕ) (body : List ℕ) (links : List Link) → LinksKept a mid links → InOrder l.manager → Mirrors s v a l
     → TookAt s v a l id mid code (one.takes_user (plain_manager l.manager) l.manager.machines l.manager.images code body (map plain_link links)) (take.takes_user v.acting l.manager code body links)
-user_of s v a l id mid code body links en order h =
-    let g = l.manager in
-    took_if s v a l id mid code (code == 0) (one.requests_child (plain_manager g) g.machines g.images body (map plain_link links)) (one.controls (plain_manager g) g.machines (one.child_numbered (map plain_child g.children) code) body (map plain_link links))
-    (take.requests v.acting g body links) (take.controls v.acting g (child_address g.children code) body links) (requests_mirrors s v a l id mid code body links en order h)
-    (subst (λ (o : Option Pid). TookAt s v a l id mid code (one.controls (plain_manager g) g.machines o body (map plain_link links)) (take.controls v.acting g (child_address g.children code) body links)) (sym (plain_numbered g.children code))
-    (controls_mirrors s v a l id mid code (child_address g.children code) body links refl en order h))
+user_of s v a l id mid code body links en order h = search (arith, took_if, requests_mirrors, plain_numbered, controls_mirrors)
 
 -- a user message to the manager
 pub user_mirrors : (s : OneKernel) (v : View) (a : Addresses) (l : Placed) (id mid : MsgId) (code : ℕ) (body : List ℕ) (links : List Link) → LinksKept a mid links → InOrder l.manager → Mirrors s v a l

@@ -1,18 +1,18 @@
 -- Receives and refusals, with places: each link of a message goes into the slot that the lines say, with its place.
 use Rattle.dm_places.proofs.Names.{◌≡◌, ℕ, suc, ◌+◌, ◌==◌, ◌&&◌, Bool, true, false, List, [], ◌∷◌, ◌++◌, length, refl, ap, ◌∙◌, sym, subst, inl, inr, arith, if◌then◌else◌, map, slice_get, slice_set, Option, None, Some, cases_Bool}
 use Rattle.dm_places.proofs.Names.{nat_tests, map-set, Pid, Link, place_of, pid_eq, PlainLink, plain_link, first_empty, link_at, plain_slot, MsgId, Message, What, Label, PlainMessage, PlainWhat, plain_message, Process, Status, on_mask}
-use Rattle.dm_places.proofs.Names.{what_is_on, Reply, reply_eq, bind, Alive, OneKernel, plain_process, plain_status, PlainProcess, first_failed, Completed, Completion, completion, completes, completes_unless, plain_completed, first_of}
+use Rattle.dm_places.proofs.Names.{what_is_on, Reply, reply_eq, bind, OneKernel, plain_process, plain_status, PlainProcess, first_failed, Completed, Completion, completion, completes, completes_unless, plain_completed, first_of}
 use Rattle.dm_places.proofs.Names.{status_plainly, pid_eq-same, pid_eq-is, bind-is, when-is, View, Addresses, Gets, given, gives, Slot, Enclosed, fills, receives_links, receives_burden, slot_after, set_at, set_off, is_empty, only_receives}
 use Rattle.dm_places.proofs.Names.{OnlySlots, Placed, Mirrors, MirrorsProcess, enclosed, with_process, without_message, and-both, at_hand-is, burden_of}
+use Rattle.dm_places.proofs.Keeps.{alive_of, there_of, parts, goes_mirrors, kernel_out, kernel_process, places_out, places_process, this_process}
+use Rattle.dm_places.proofs.Labels.Acts.{Follows, mirrors_as}
+use Rattle.dm_places.proofs.Whats.{user_what}
 use Rattle.dm_onekernel.specs.Receiving as one
 use Rattle.dm_onekernel.specs.Service as service
 use Rattle.dm_onekernel.specs.Step as kernel
 use Rattle.dm_syscall.specs.Completing as completing
 use Rattle.dm_rule.specs.Addresses as addresses
 use Rattle.dm_places.specs.PlacedStep as placed
-use Rattle.dm_places.proofs.Keeps.{alive_of, there_of, parts, goes_mirrors, kernel_out, kernel_process, places_out, places_process, this_process}
-use Rattle.dm_places.proofs.Labels.Acts.{Follows, mirrors_as}
-use Rattle.dm_places.proofs.Whats.{user_what}
 
 -- the slots that links go into, and what they get
 abbrev table_after : List (Option Link) → Link → Option ℕ → List (Option Link)
@@ -36,13 +36,7 @@ puts_plainly a p id n table (w ∷ ws) =
 
 -- a link that stands in a slot stays while others are placed
 stays_step : (t : completing.Placed) (r : ℕ) (l : Link) (j : ℕ) (w : Link) (o : Option ℕ) → first_empty t.table ≡ o → link_at t.table j ≡ Some w → link_at (completing.place_into t r l o).table j ≡ Some w
-stays_step t r l j w None is e = e
-stays_step t r l j w (Some slot) is e = elim (cases_Bool (slot == j)) [
-  | inl same ↦
-      let f : slot ≡ j = grind (arith, nat_tests) in
-      absurd (let g : None ≡ Some w = sym (is_empty t.table slot is).empty ∙ ap (λ (i : ℕ). link_at t.table i) f ∙ e in cc)
-  | inr apart ↦ set_off t.table slot j (Some l) apart ∙ e
-]
+stays_step t r l j w o h1 h2 = search (arith, is_empty, set_off)
 
 stays : (ls : List Link) (t : completing.Placed) (r : ℕ) (j : ℕ) (w : Link) → link_at t.table j ≡ Some w → link_at (completing.place_links t r ls).table j ≡ Some w
 stays [] t r j w e = e
@@ -98,10 +92,7 @@ CompletedKept v a p id x u (one.Refuses c z) y = MirrorsProcess v a p y
 unless_kept : (v : View) (a : Addresses) (p : Pid) (id i : MsgId) (x : Process) (base code channel : ℕ) (body : List ℕ) (links : List Link) (o : Option Reply) (d : one.Completed) → MirrorsProcess v a p x → EnclosedFrom a id 0 links
     → plain_completed (completes_unless o x (completing.receives x 0 i base code channel body links)).completed (completes_unless o x (completing.receives x 0 i base code channel body links)).process ≡ d
     → CompletedKept v a p id x (PlainWhat.User code channel body (map plain_link links)) d (completes_unless o x (completing.receives x 0 i base code channel body links)).process
-unless_kept v a p id i x base code channel body links (Some c) d h en e =
-    let y = (completing.refusal c x).process in
-    subst (λ (k : one.Completed). CompletedKept v a p id x (PlainWhat.User code channel body (map plain_link links)) k y) e
-    (record { pid = h.pid; moves = h.moves; slots = h.slots; owner = λ q f. absurd (let g : None ≡ Some q = f in cc) })
+unless_kept v a p id i x base code channel body links (Some c) d h en e = search arith
 unless_kept v a p id i x base code channel body links None d h en e =
     let y = (completing.receives x 0 i base code channel body links).process in
     let t : completing.Placed = record { regs = one.received_regs x.regs code channel (length body) (length links); table = x.table } in
@@ -117,8 +108,7 @@ unless_kept v a p id i x base code channel body links None d h en e =
     })
 
 test_is : {A : Type 0} (b : Bool) (x d : A) → (if b then Some x else None) ≡ Some d → b ≡ true
-test_is true x d e = refl
-test_is false x d e = cc
+test_is b x d h1 = search arith
 
 record Completes (v : View) (a : Addresses) (p : Pid) (id : MsgId) (x : Process) (m : Message) (u : PlainWhat) (d : one.Completed) : Type 0 where
   e : Completion
@@ -146,21 +136,16 @@ completes_what_of v a p id x m k d mask base size (PlainWhat.User code channel b
     let plain : plain_completed z.completed z.process ≡ d = cc in
     let u_is : PlainWhat.User code channel w.body.items (map plain_link w.links.items) ≡ k.what = (λ i. PlainWhat.User code channel (w.bytes_are i) (w.links_are i)) ∙ sym is in
     let links : EnclosedFrom a id 0 w.links.items = subst (λ (u : What). EnclosedFrom a id 0 (enclosed u)) w.is en in
-    search (
-      ap (λ (st : Status). completing.completion x 0 st (Some m)) waits ∙ comp,
-      subst (λ (u : PlainWhat). CompletedKept v a p id x u d z.process) u_is (unless_kept v a p id m.id x base code channel w.body.items w.links.items o d h links plain),
-    )
+    search (arith, unless_kept)
 completes_what_of v a p id x m k d mask base size u waits says is h en e = cc
 
 completes_status_of : (v : View) (a : Addresses) (p : Pid) (id : MsgId) (x : Process) (m : Message) (k : PlainMessage) (d : one.Completed) (st : Status) → x.status ≡ st → plain_message m ≡ Some k → MirrorsProcess v a p x → EnclosedFrom a id 0 (enclosed m.what)
     → one.completes_status p (plain_process x) k (plain_status st) ≡ Some d → Completes v a p id x m k.what d
-completes_status_of v a p id x m k d (Status.Waiting mask base size) is says h en e = completes_what_of v a p id x m k d mask base size k.what is says refl h en e
-completes_status_of v a p id x m k d _ is says h en e = cc
+completes_status_of v a p id x m k d st h1 h2 h3 h4 h5 = search (arith, completes_what_of)
 
 completes_with_of : (v : View) (a : Addresses) (p : Pid) (id : MsgId) (x : Process) (m : Message) (k : PlainMessage) (d : one.Completed) (b : Bool) → plain_message m ≡ Some k → MirrorsProcess v a p x → EnclosedFrom a id 0 (enclosed m.what)
     → (if b then None else one.completes_status p (plain_process x) k (plain_status x.status)) ≡ Some d → Completes v a p id x m k.what d
-completes_with_of v a p id x m k d true says h en e = cc
-completes_with_of v a p id x m k d false says h en e = completes_status_of v a p id x m k d x.status refl says h en e
+completes_with_of v a p id x m k d b h1 h2 h3 h4 = search (arith, completes_status_of)
 
 record CompletingOf (s : OneKernel) (v : View) (a : Addresses) (l : Placed) (p : Pid) (id : MsgId) (d : one.Completed) : Type 0 where
   x : Process
@@ -183,10 +168,7 @@ completing_of s v a l p id d h is =
     let hm = h.places.message id m found in
     let c = completes_with_of v a p id x m k d x.stopped says (h.places.process p x stands) (λ n j u f g. let jn : j ≡ n = omega (arith, g) in ap (λ (i : ℕ). a (Enclosed id i)) jn ∙ hm.enclosed n u f)
     (ap (λ (y : PlainProcess). one.completes_with p y k) x_is ∙ last) in
-    search (
-      alive ∙ ap Some (sym x_is),
-      ap (λ (o : Option Process). bind o (λ (y : Process). bind (l.bag id) (λ (n : Message). completion y 0 y.status (Some n)))) stands ∙ ap (λ (o : Option Message). bind o (λ (n : Message). completion x 0 x.status (Some n))) found ∙ c.completion,
-    )
+    search arith
 
 -- receive
 receive_row : (s t : OneKernel) (v : View) (a : Addresses) (l : Placed) (p : Pid) (id : MsgId) (d : one.Completed) → CompletingOf s v a l p id d → kernel.receives s p id d ≡ Some t → Mirrors s v a l
@@ -203,10 +185,7 @@ receive_row s t v a l p id (one.Receives z) w f h =
       mirrors_as (kernel.goes_on (service.without_message s id) p (plain_process y)) t v (given a gs) (given a (gives s v a (Label.Receive p id))) on on
           (ap (kernel.goes_on (service.without_message s id) p) ((elim w.e.completed as (λ c. plain_completed c y ≡ one.Receives z → plain_process y ≡ z)
           [ Completed.Received i ↦ λ e_. cc | Completed.Refused r ↦ λ e_. cc ]) w.plain) ∙ eq) (ap (given a) gs_is) refl
-          (record {
-            plain = kernel_process (service.without_message s id) (without_message l id) p (Alive (plain_process y)) (Some y) refl (kernel_out s l id h.plain);
-            places = places_process v a (given a gs) (without_message l id) p (Some y) (places_out v a l id h.places) o.others (this_process v (given a gs) p y w.kept.process) o.messages o.servers;
-          }),
+          ((search (arith, kernel_process, kernel_out, places_process, places_out, this_process))),
     )
 receive_row s t v a l p id (one.Refuses c z) w f h = cc
 

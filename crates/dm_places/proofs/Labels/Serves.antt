@@ -1,9 +1,14 @@
 -- What is served with places: control messages, pieces of data moves, and their landing.
-use Rattle.dm_places.proofs.Names.{◌≡◌, ℕ, ◌+◌, ◌-◌, ◌==◌, ◌&&◌, Bool, true, false, List, [], length, refl, ap, ◌∙◌, sym, subst, nat_le, if◌then◌else◌, take, drop, Option, None, Some, ArrayVec, Pid, Addr, place_of, MsgId, Message, What}
-use Rattle.dm_places.proofs.Names.{Label, Why, PlainMessage, PlainWhat, plain_message, plain_what, Process, Direction, Status, Reply, bind, Ended, OneKernel, plain_process, plain_status, PlainProcess, answer_to, piece_of, written_at, Rest}
-use Rattle.dm_places.proofs.Names.{Landed, Landing, plain_landed, after_serving, answer, answer_of, answer_with, serving_answer, ends_plainly, goes_on_plainly, bind-is, View, Addresses, Gets, answer_gets, given, gives, acting_place}
-use Rattle.dm_places.proofs.Names.{serves_burden, Owner, two, gone_lands, nothing_lands, Placed, Mirrors, MirrorsMessage, MirrorsProcess, enclosed, owner_at, after_landing, with_process, with_sent, without_message, some_is, landing_gets}
-use Rattle.dm_places.proofs.Names.{at_hand-is, burden_of, option_map_or}
+use Rattle.dm_places.proofs.Names.{◌≡◌, ℕ, ◌+◌, ◌==◌, Bool, true, false, List, [], length, refl, ap, ◌∙◌, sym, subst, nat_le, if◌then◌else◌, take, drop, Option, None, Some, ArrayVec, Pid, Addr, place_of, MsgId, Message, What, Label, Why}
+use Rattle.dm_places.proofs.Names.{PlainMessage, PlainWhat, plain_message, plain_what, Process, Direction, Status, Reply, bind, Ended, OneKernel, plain_process, plain_status, PlainProcess, answer_to, piece_of, written_at, Rest, Landed}
+use Rattle.dm_places.proofs.Names.{Landing, plain_landed, after_serving, answer, answer_of, answer_with, serving_answer, ends_plainly, goes_on_plainly, bind-is, View, Addresses, Gets, answer_gets, given, gives, acting_place, serves_burden}
+use Rattle.dm_places.proofs.Names.{Owner, two, gone_lands, nothing_lands, Placed, Mirrors, MirrorsMessage, MirrorsProcess, enclosed, owner_at, after_landing, with_process, with_sent, without_message, some_is, landing_gets, at_hand-is}
+use Rattle.dm_places.proofs.Names.{burden_of, option_map_or, arith}
+use Rattle.dm_places.proofs.Keeps.{alive_of, ends_mirrors, goes_mirrors, out_mirrors, parts, there_of}
+use Rattle.dm_places.proofs.Labels.Calls.{stands_here}
+use Rattle.dm_places.proofs.Labels.Acts.{Follows}
+use Rattle.dm_places.proofs.Labels.Answers.{answer_mirrors, two_sends}
+use Rattle.dm_places.proofs.Whats.{read_what, write_what, block_what, stop_what, resume_what, kill_what, written_what, gone_what}
 use Rattle.dm_message.specs.Plain as said
 use Rattle.dm_onekernel.specs.Kernel as kernels
 use Rattle.dm_onekernel.specs.Pieces as pieces
@@ -12,11 +17,6 @@ use Rattle.dm_onekernel.specs.Step as kernel
 use Rattle.dm_datamove.specs.Landing as landing
 use Rattle.dm_rule.specs.Addresses as addresses
 use Rattle.dm_places.specs.PlacedStep as placed
-use Rattle.dm_places.proofs.Keeps.{alive_of, ends_mirrors, goes_mirrors, out_mirrors, parts, there_of}
-use Rattle.dm_places.proofs.Labels.Calls.{stands_here}
-use Rattle.dm_places.proofs.Labels.Acts.{Follows}
-use Rattle.dm_places.proofs.Labels.Answers.{answer_mirrors, two_sends}
-use Rattle.dm_places.proofs.Whats.{read_what, write_what, block_what, stop_what, resume_what, kill_what, written_what, gone_what}
 
 -- a message without places that says this
 abbrev pub plainly : Message → PlainWhat → PlainMessage
@@ -38,16 +38,10 @@ done_kept v a p x c h = record { pid = h.pid; moves = h.moves; slots = h.slots; 
 
 asks_kept : (v : View) (a : Addresses) (p : Pid) (x : Process) (dir : Direction) (owner : Addr) (base own left : ℕ) → MirrorsProcess v a p x → a (Owner p) ≡ place_of owner
     → LandingKept v a p (landing.asks v.acting x (record { dir = dir; owner = owner; base = base; own = own; left = left }))
-asks_kept v a p x Direction.FromArea owner base own left h at =
-    (record { pid = h.pid; moves = h.moves; slots = h.slots; owner = λ q e. let f : owner ≡ q = cc in at ∙ ap place_of f }, at, stands_here v a p x h, refl)
-asks_kept v a p x Direction.IntoArea owner base own left h at =
-    (record { pid = h.pid; moves = h.moves; slots = h.slots; owner = λ q e. let f : owner ≡ q = cc in at ∙ ap place_of f }, at, stands_here v a p x h, refl)
+asks_kept v a p x dir owner base own left h1 h2 = search (arith, stands_here)
 
 goes_on_kept : (v : View) (a : Addresses) (p : Pid) (x : Process) (r : Rest) → MirrorsProcess v a p x → a (Owner p) ≡ place_of r.owner → LandingKept v a p (landing.goes_on v.acting x r)
-goes_on_kept v a p x r h at =
-    let b = landing.behind r in
-    (elim (r.left - piece_of r.left == 0) as (λ b_. LandingKept v a p (if b_ then (landing.done Reply.Done x) else (landing.asks v.acting x b)))
-    [ true ↦ (done_kept v a p x Reply.Done h) | false ↦ (asks_kept v a p x b.dir b.owner b.base b.own b.left h at) ])
+goes_on_kept v a p x r h at = search (arith, done_kept, asks_kept)
 
 record Lands (v : View) (a : Addresses) (p : Pid) (x : Process) (o : Option Landing) (c : pieces.Landed) : Type 0 where
   d : Landing
@@ -57,10 +51,7 @@ record Lands (v : View) (a : Addresses) (p : Pid) (x : Process) (o : Option Land
 
 goes_lands : (v : View) (a : Addresses) (p : Pid) (x : Process) (o : Option Landing) (y : Process) (r : Rest) (c : pieces.Landed) → o ≡ Some (landing.goes_on v.acting y r) → MirrorsProcess v a p y → a (Owner p) ≡ place_of r.owner
     → pieces.move_goes_on p (plain_process y) r.dir r.owner.pid r.base r.own r.left (piece_of r.left) ≡ c → Lands v a p x o c
-goes_lands v a p x o y r c e h at f = search (
-  goes_on_plainly v.acting y r ∙ ap (λ (q : Pid). Some (pieces.move_goes_on q (plain_process y) r.dir r.owner.pid r.base r.own r.left (piece_of r.left))) h.pid ∙ ap Some f,
-  goes_on_kept v a p y r h at,
-)
+goes_lands v a p x o y r c e h at f = search (arith, goes_on_plainly, goes_on_kept)
 
 ends_lands : (v : View) (a : Addresses) (p : Pid) (x : Process) (o : Option Landing) (c : pieces.Landed) → o ≡ Some (landing.done Reply.Gone x) → MirrorsProcess v a p x → pieces.done Reply.Gone (plain_process x) ≡ c → Lands v a p x o c
 ends_lands v a p x o c e h f = record { d = landing.done Reply.Gone x; lands = e; plain = ends_plainly Reply.Gone x ∙ ap Some f; kept = done_kept v a p x Reply.Gone h }
@@ -68,30 +59,12 @@ ends_lands v a p x o c e h f = record { d = landing.done Reply.Gone x; lands = e
 lands_what_of : (v : View) (a : Addresses) (p : Pid) (x : Process) (dir : Direction) (owner : Addr) (base own left : ℕ) (w : What) (u : PlainWhat) (c : pieces.Landed) → plain_what w ≡ Some u → MirrorsProcess v a p x → a (Owner p) ≡ place_of owner
     → pieces.lands_what p (plain_process x) dir owner.pid base own left u ≡ Some c
     → Lands v a p x (landing.lands_what v.acting x (record { dir = dir; owner = owner; base = base; own = own; left = left }) dir w) c
-lands_what_of v a p x Direction.FromArea owner base own left w (said.Block bytes) c is h at e =
-    let r : Rest = record { dir = Direction.FromArea; owner = owner; base = base; own = own; left = left } in
-    let b = block_what w bytes is in
-    let y : Process = record x { memory = written_at x.memory own b.body.items } in
-    let f = some_is ((length bytes == piece_of left) && nat_le (own + left) (length x.memory)) (pieces.move_goes_on p (record (plain_process x) { memory = written_at x.memory own bytes }) Direction.FromArea owner.pid base own left (piece_of left)) c e in
-    goes_lands v a p x (landing.lands_what v.acting x r Direction.FromArea w) y r c (ap (landing.lands_what v.acting x r Direction.FromArea) b.is) (record { pid = h.pid; moves = h.moves; slots = h.slots; owner = h.owner }) at
-    (ap (λ (bs : List ℕ). pieces.move_goes_on p (record (plain_process x) { memory = written_at x.memory own bs }) Direction.FromArea owner.pid base own left (piece_of left)) b.bytes_are ∙ f)
-lands_what_of v a p x Direction.IntoArea owner base own left w said.Written c is h at e =
-    let r : Rest = record { dir = Direction.IntoArea; owner = owner; base = base; own = own; left = left } in
-    let f = some_is (nat_le (own + left) (length x.memory)) (pieces.move_goes_on p (plain_process x) Direction.IntoArea owner.pid base own left (piece_of left)) c e in
-    goes_lands v a p x (landing.lands_what v.acting x r Direction.IntoArea w) x r c (ap (landing.lands_what v.acting x r Direction.IntoArea) (written_what w is)) h at f
-lands_what_of v a p x Direction.FromArea owner base own left w said.Gone c is h at e =
-    let r : Rest = record { dir = Direction.FromArea; owner = owner; base = base; own = own; left = left } in
-    ends_lands v a p x (landing.lands_what v.acting x r Direction.FromArea w) c (ap (landing.lands_what v.acting x r Direction.FromArea) (gone_what w is)) h (let f : pieces.done Reply.Gone (plain_process x) ≡ c = cc in f)
-lands_what_of v a p x Direction.IntoArea owner base own left w said.Gone c is h at e =
-    let r : Rest = record { dir = Direction.IntoArea; owner = owner; base = base; own = own; left = left } in
-    ends_lands v a p x (landing.lands_what v.acting x r Direction.IntoArea w) c (ap (landing.lands_what v.acting x r Direction.IntoArea) (gone_what w is)) h (let f : pieces.done Reply.Gone (plain_process x) ≡ c = cc in f)
-lands_what_of v a p x dir owner base own left w u c is h at e = cc
+lands_what_of v a p x dir owner base own left w u c h1 h2 h3 h4 = search (arith, block_what, some_is, goes_lands, written_what, ends_lands, gone_what)
 
 lands_if : (v : View) (a : Addresses) (p : Pid) (x : Process) (b : Bool) (dir : Direction) (owner : Addr) (base own left : ℕ) (w : What) (u : PlainWhat) (c : pieces.Landed) → plain_what w ≡ Some u → MirrorsProcess v a p x → a (Owner p) ≡ place_of owner
     → (if b then pieces.lands_what p (plain_process x) dir owner.pid base own left u else None) ≡ Some c
     → Lands v a p x (landing.lands_what v.acting x (record { dir = dir; owner = owner; base = base; own = own; left = left }) dir w) c
-lands_if v a p x true dir owner base own left w u c is h at e = lands_what_of v a p x dir owner base own left w u c is h at e
-lands_if v a p x false dir owner base own left w u c is h at e = cc
+lands_if v a p x b dir owner base own left w u c h1 h2 h3 h4 = search (arith, lands_what_of)
 
 lands_of : (v : View) (a : Addresses) (p : Pid) (x : Process) (m : Message) (u : PlainWhat) (st : Status) (c : pieces.Landed) → x.status ≡ st → plain_what m.what ≡ Some u → MirrorsProcess v a p x
     → pieces.lands p (plain_process x) (plainly m u) (plain_status st) ≡ Some c → Lands v a p x (landing.landing v.acting x m.what st) c

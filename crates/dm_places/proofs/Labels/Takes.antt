@@ -1,10 +1,15 @@
 -- What the two servers take, with places: the manager's answers about children, and both servers' rows together.
-use Rattle.dm_places.proofs.Names.{◌≡◌, ℕ, zero, suc, ◌+◌, ◌==◌, ◌&&◌, Bool, true, false, List, [], ◌∷◌, ◌++◌, length, refl, ap, ◌∙◌, sym, subst, arith, if◌then◌else◌, map, option_map, slice_get, Option, None, Some, nat_tests, length-map}
-use Rattle.dm_places.proofs.Names.{Pid, Addr, Link, Place, pid_eq, place_of, PlainLink, plain_link, MsgId, Message, What, id_eq, id_of, Label, PlainMessage, PlainWhat, plain_message, plain_what, manager, switchboard, bind, Manager}
-use Rattle.dm_places.proofs.Names.{OneKernel, goes_over, Pending, Managing, at_home, plain_child, plain_manager, plain_pending, answer_over, control_link, Taken, child_address, pending_request, plain_bear, plain_pending_numbered}
-use Rattle.dm_places.proofs.Names.{plain_without, id_eq-same, bind-is, View, Addresses, Gets, gets, given, gives, Receiver, Sender, Enclosed, Child, Name, Answer, unmoved, board_takes_burden, manager_answers, manager_sends}
-use Rattle.dm_places.proofs.Names.{manager_takes_burden, SameProcess, SameMessage, Placed, Mirrors, MirrorsKernel, MirrorsMessage, enclosed, board_took, manager_took, without_message, AnswerNames, AskedBy, Outcome, code_of_outcome}
-use Rattle.dm_places.proofs.Names.{burden_of}
+use Rattle.dm_places.proofs.Names.{◌≡◌, ℕ, ◌+◌, Bool, true, false, List, [], ◌∷◌, ◌++◌, length, refl, ap, ◌∙◌, sym, subst, arith, if◌then◌else◌, map, option_map, slice_get, Option, None, Some, nat_tests, length-map, Pid, Addr, Link, Place}
+use Rattle.dm_places.proofs.Names.{pid_eq, place_of, PlainLink, plain_link, MsgId, Message, What, id_of, Label, PlainMessage, PlainWhat, plain_message, plain_what, manager, switchboard, bind, Manager, OneKernel, goes_over, Pending}
+use Rattle.dm_places.proofs.Names.{Managing, at_home, plain_child, plain_manager, plain_pending, answer_over, control_link, Taken, child_address, pending_request, plain_bear, plain_pending_numbered, plain_without, id_eq-same, bind-is, View}
+use Rattle.dm_places.proofs.Names.{Addresses, Gets, gets, given, gives, Receiver, Sender, Enclosed, Child, Name, Answer, unmoved, board_takes_burden, manager_answers, manager_sends, manager_takes_burden, SameProcess, SameMessage, Placed}
+use Rattle.dm_places.proofs.Names.{Mirrors, MirrorsKernel, MirrorsMessage, enclosed, board_took, manager_took, without_message, AnswerNames, AskedBy, Outcome, code_of_outcome, burden_of}
+use Rattle.dm_places.proofs.Keeps.{answer_as, came_places, kernel_out, kernel_sent, message_same, parts, places_out, process_same, there_of}
+use Rattle.dm_places.proofs.Labels.Acts.{Follows}
+use Rattle.dm_places.proofs.Labels.Boards.{board_row}
+use Rattle.dm_places.proofs.Pendings.{child_last, still_pending}
+use Rattle.dm_places.proofs.Labels.Managers.{InOrder, user_mirrors}
+use Rattle.dm_places.proofs.Whats.{user_what, created_what, moved_what, no_room_what}
 use Rattle.dm_onekernel.specs.Manager as one
 use Rattle.dm_onekernel.specs.Service as service
 use Rattle.dm_onekernel.specs.Step as kernel
@@ -13,12 +18,6 @@ use Rattle.dm_procman.specs.Taking as take
 use Rattle.dm_switchboard.specs.Taking as board
 use Rattle.dm_rule.specs.Addresses as addresses
 use Rattle.dm_places.specs.PlacedStep as placed
-use Rattle.dm_places.proofs.Keeps.{answer_as, came_places, kernel_out, kernel_sent, message_same, parts, places_out, process_same, there_of}
-use Rattle.dm_places.proofs.Labels.Acts.{Follows}
-use Rattle.dm_places.proofs.Labels.Boards.{board_row}
-use Rattle.dm_places.proofs.Pendings.{child_last, still_pending}
-use Rattle.dm_places.proofs.Labels.Managers.{InOrder, user_mirrors}
-use Rattle.dm_places.proofs.Whats.{user_what, created_what, moved_what, no_room_what}
 
 -- the link of an answer about a child, if it carries one
 enclosed_one : (a : Addresses) (sent : MsgId) (pl : Place) (ls : List Link) → ((k : ℕ) (w : Link) → slice_get ls k ≡ Some w → (k ≡ 0) × (pl ≡ place_of w.addr)) → (k : ℕ) (w : Link) → slice_get ls k ≡ Some w
@@ -26,8 +25,7 @@ enclosed_one : (a : Addresses) (sent : MsgId) (pl : Place) (ls : List Link) → 
 enclosed_one a sent pl ls h k w e = grind (arith, nat_tests, id_eq-same)
 
 one_link : (place : Place) (w : Link) → place ≡ place_of w.addr → (k : ℕ) (u : Link) → slice_get (w ∷ []) k ≡ Some u → (k ≡ 0) × (place ≡ place_of u.addr)
-one_link place w at zero u e = let f : w ≡ u = cc in (refl, at ∙ ap (λ (z : Link). place_of z.addr) f)
-one_link place w at (suc k) u e = absurd (let f : None ≡ Some u = e in cc)
+one_link place w h1 k u h2 = search arith
 
 -- the manager goes on as g, and answers over the link of a request: c is a with what a new child gives
 answers_mirrors : (s : OneKernel) (v : View) (a c : Addresses) (l : Placed) (id : MsgId) (n : ℕ) (r : Pending) (g : Managing) (k : Manager) (byte : ℕ) (ws : List Link) (over : Option Link) → r.answer ≡ over
@@ -70,11 +68,7 @@ answers_mirrors s v a c l id n r g k byte ws (Some over) is there order h one_is
       places = record {
         process = λ p x e. process_same v a b p x (let w = process p in record { slot = w.slot; owner = w.owner }) (h.places.process p x e);
         message = came_places a b l' m o.message
-            (λ i e. let w = message i in record {
-              receiver = ap (λ (d : Bool). if d then to else c (Receiver i)) e ∙ w.receiver;
-              sender = ap (λ (d : Bool). if d then from else c (Sender i)) e ∙ w.sender;
-              enclosed = λ j. ap (λ (d : Bool). if d && (0 == j) then from else c (Enclosed i j)) e ∙ w.enclosed j;
-            })
+            (λ i e. let w = message i in (search (arith)))
             (search (
               ap (λ (d : Bool). if d then to else c (Receiver sent)) (id_eq-same sent) ∙ subst (λ (w : Option Link). AnswerNames w to) is (h.places.answer n r there),
               ap (λ (d : Bool). if d then from else c (Sender sent)) (id_eq-same sent),
@@ -101,19 +95,7 @@ record TookTo (s : OneKernel) (v : View) (b : Addresses) (l : Placed) (id : MsgI
 child_first : (s : OneKernel) (v : View) (a : Addresses) (l : Placed) (j : ℕ) (pl : Place) (n : ℕ) (m : Option PlainMessage) → Mirrors s v (given (given a (gets (Child j) pl ∷ [])) (manager_answers v a n m)) l
     → Mirrors s v (given a (gets (Child j) pl ∷ manager_answers v a n m)) l
 child_first s v a l j pl n None h = h
-child_first s v a l j pl n (Some q) h =
-    let g = h.places in
-    record {
-      plain = h.plain;
-      places = record {
-        process = λ p x e. let z = g.process p x e in record { pid = z.pid; moves = z.moves; slots = z.slots; owner = z.owner };
-        message = λ i m e. let z = g.message i m e in record { id = z.id; receiver = z.receiver; sender = z.sender; enclosed = z.enclosed };
-        name = g.name;
-        child = g.child;
-        answer = g.answer;
-        asker = g.asker;
-      };
-    }
+child_first s v a l j pl n (Some q) h = search arith
 
 -- the child stands
 created_by : (s : OneKernel) (v : View) (a : Addresses) (l : Placed) (id : MsgId) (n : ℕ) (child : Pid) (p : Option Pending) (k : one.ManagerTook) → pending_request n l.manager.pending ≡ p → one.takes_created s.manager n child (option_map plain_pending p) ≡ Some k

@@ -1,9 +1,7 @@
 -- A group has no label of a process that moves, and leaves its plain value.
 use Rattle.dm_rule.proofs.Names.{◌≡◌, ◌≢◌, ℕ, ◌+◌, ◌==◌, Bool, true, false, List, [], ◌∷◌, ◌++◌, length, refl, ap, ◌∙◌, sym, subst, if◌then◌else◌, slice_get, Option, None, Some, false≢true, Pid, pid_of, MsgId, MessageKind, plain_kind, Boot}
 use Rattle.dm_rule.proofs.Names.{Label, first_number, bind, OneKernel, Step, Load, Line, Here, own_id, Receiver, Point, label_of, kernel_after, moved, after_line, after, first_point, Part, Says, Routes, Again, Owns, Transmits, Spelled}
-use Rattle.dm_rule.proofs.Names.{lines_of, puts, goes_out, packet_line, behind, spelled, migrates, Nowhere, Moves, knows, IsIn, Spares, AllSpare, group_of, MovingStaysAlways, bind-is}
-use Rattle.dm_onekernel.specs.Step as kernel
-use Rattle.dm_rule.specs.Rule as rule
+use Rattle.dm_rule.proofs.Names.{lines_of, puts, goes_out, packet_line, behind, spelled, migrates, Nowhere, Moves, knows, IsIn, Spares, AllSpare, group_of, MovingStaysAlways, bind-is, arith}
 use Rattle.dm_rule.proofs.Groups.{arrives_net, resends_net}
 use Rattle.dm_rule.proofs.Phases.Lives.{nowhere_known}
 use Rattle.dm_rule.proofs.Phases.Groups.{Rooted}
@@ -12,6 +10,8 @@ use Rattle.dm_rule.proofs.Rooted.Groups.{moves_away, rooted}
 use Rattle.dm_rule.proofs.Apart.Steps.{Keeps, keeps_step}
 use Rattle.dm_rule.proofs.Apart.Rows.{SparesPart, FirstApart, ApartOf, apart_first}
 use Rattle.dm_rule.proofs.Apart.Turns.{turns_apart, net_apart, migrates_apart}
+use Rattle.dm_onekernel.specs.Step as kernel
+use Rattle.dm_rule.specs.Rule as rule
 
 -- what lines say, seen from a kernel, and where they lead
 record Left (z : OneKernel) (y : Pid) (pt next : Point) (ls : List Line) : Type 0 where
@@ -23,33 +23,19 @@ spare_append z y [] ms h k = k
 spare_append z y (l ∷ ls) ms h k = (h.0, spare_append z y ls ms h.1 k)
 
 pub kernel_same : (s t : OneKernel) (y : Pid) (o : Option Label) → Spares s y o → kernel_after s o ≡ Some t → t.processes y ≡ s.processes y
-kernel_same s t y None off e = ap (λ (k : OneKernel). k.processes y) (let f : t ≡ s = cc in f)
-kernel_same s t y (Some l) off e = (elim (kernel.step s l) as (λ o. o ≡ Some t → Keeps s y o → t.processes y ≡ s.processes y)
-    [ None ↦ λ e_ h. cc | Some u ↦ λ e_ h. ap (λ (k : OneKernel). k.processes y) (let f : t ≡ u = cc in f) ∙ h ]) e (keeps_step s y l off)
+kernel_same s t y o h1 h2 = search (arith, keeps_step)
 
 one_left : (z : OneKernel) (y : Pid) (pt next : Point) (l : Line) (ls : List Line) → Spares pt.kernel y (label_of l) → Spares z y (label_of l) → Some (l ∷ []) ≡ Some ls → after pt ls ≡ Some next → Left z y pt next ls
 one_left z y pt next l ls here there is leads =
     let f : l ∷ [] ≡ ls = cc in
     let (mid, first, last) = bind-is (after_line pt l) (λ q. after q []) next (ap (after pt) f ∙ leads) in
     let (s, step_, then_) = bind-is (kernel_after pt.kernel (label_of l)) (λ s. Some (moved pt l s)) mid first in
-    let g : moved pt l s ≡ mid = cc in
-    let e : mid ≡ next = cc in
-    record {
-      spare = subst (AllSpare z y) f (there, tt);
-      same = ap (λ (q : Point). q.kernel.processes y) (sym (g ∙ e)) ∙ kernel_same pt.kernel s y (label_of l) here step_;
-    }
+    search (arith, kernel_same)
 
 puts_by : (z : OneKernel) (y : Pid) (pt next : Point) (b : ℕ) (i : MsgId) (k : MessageKind) (q : Pid) (c d : Bool)
     → after pt (Line.Put pt.view.acting b i k q ∷ (if c then [] else if d then packet_line pt.view pt.view.acting b (Load.Data (length (pt.view.pair pt.view.acting b).ids)) ∷ [] else [])) ≡ Some next
     → Left z y pt next (Line.Put pt.view.acting b i k q ∷ (if c then [] else if d then packet_line pt.view pt.view.acting b (Load.Data (length (pt.view.pair pt.view.acting b).ids)) ∷ [] else []))
-puts_by z y pt next b i k q true d is =
-    let f : moved pt (Line.Put pt.view.acting b i k q) pt.kernel ≡ next = cc in record { spare = (tt, tt); same = ap (λ (r : Point). r.kernel.processes y) (sym f) }
-puts_by z y pt next b i k q false false is =
-    let f : moved pt (Line.Put pt.view.acting b i k q) pt.kernel ≡ next = cc in record { spare = (tt, tt); same = ap (λ (r : Point). r.kernel.processes y) (sym f) }
-puts_by z y pt next b i k q false true is =
-    let mid = moved pt (Line.Put pt.view.acting b i k q) pt.kernel in
-    let f : moved mid (packet_line pt.view pt.view.acting b (Load.Data (length (pt.view.pair pt.view.acting b).ids))) mid.kernel ≡ next = cc in
-    record { spare = (tt, (tt, tt)); same = ap (λ (r : Point). r.kernel.processes y) (sym f) }
+puts_by z y pt next b i k q c d h1 = search arith
 
 puts_left : (z : OneKernel) (y : Pid) (pt next : Point) (b : ℕ) (i : MsgId) (k : MessageKind) (q : Pid) (ls : List Line) → Some (puts pt.view b i k q) ≡ Some ls → after pt ls ≡ Some next → Left z y pt next ls
 puts_left z y pt next b i k q ls is leads =

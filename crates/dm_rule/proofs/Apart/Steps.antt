@@ -1,7 +1,7 @@
 -- A step that is not of a process leaves its plain value.
 use Rattle.dm_rule.proofs.Names.{◌≡◌, ◌≢◌, ℕ, ◌+◌, ◌==◌, ◌&&◌, Bool, true, false, List, length, refl, ap, ⊤, if◌then◌else◌, slice_get, Option, None, Some, Pid, pid_of, pid_eq, PlainLink, MsgId, id_eq, Called, PlainMessage, PlainWhat}
 use Rattle.dm_rule.proofs.Names.{BootImage, Label, Reply, Why, first_number, switchboard, manager, reply_eq, why_eq, bind, when, PlainProcess, Life, Alive, OneKernel, with_process, with_sent, answer_to, without_message, begun, IsOthers}
-use Rattle.dm_rule.proofs.Names.{pid_eq-is, MoveNote, Outcome}
+use Rattle.dm_rule.proofs.Names.{pid_eq-is, MoveNote, Outcome, arith}
 use Rattle.dm_onekernel.specs.Kernel.{Ended}
 use Rattle.dm_onekernel.specs.Pieces as pieces
 use Rattle.dm_onekernel.specs.Receiving as receiving
@@ -51,37 +51,22 @@ keeps_outputs s p q w (kernel.Calls number (Called.Outputs word x)) off = keeps_
 keeps_outputs s p q w _ off = tt
 
 keeps_ends : (s : OneKernel) (p q : Pid) (y : Why) (next : kernel.Trap) → q ≢ p → Keeps s p (kernel.ends s q y next)
-keeps_ends s p q y (kernel.Calls number (Called.Ends because)) off = keeps_when s p (why_eq y because) (with_process s q (Ended y)) (set_off s q p (Ended y) off)
-keeps_ends s p q y (kernel.Faults fault) off = keeps_when s p (why_eq y (Why.Fault fault)) (with_process s q (Ended y)) (set_off s q p (Ended y) off)
-keeps_ends s p q y _ off = tt
+keeps_ends s p q y next h1 = search (arith, keeps_when, set_off)
 
 -- a message is served
 changed_off : (s : OneKernel) (p : Pid) (id : MsgId) (m : PlainMessage) (x : PlainProcess) → m.to ≢ p → (service.changed s id m x).processes p ≡ s.processes p
 changed_off s p id m x off = set_off (without_message s id) m.to p (Alive x) off
 
 landed_off : (s : OneKernel) (p : Pid) (id : MsgId) (m : PlainMessage) (r : pieces.Landed) → m.to ≢ p → (service.landed s id m r).processes p ≡ s.processes p
-landed_off s p id m (pieces.Next request x) off = changed_off s p id m x off
-landed_off s p id m (pieces.Done reply x) off = changed_off s p id m x off
+landed_off s p id m r h1 = search (arith, changed_off)
 
 keeps_serves : (s : OneKernel) (p : Pid) (id : MsgId) (m : PlainMessage) (x : PlainProcess) (k : PlainWhat) → m.to ≢ p → Keeps s p (service.serves s id m x k)
-keeps_serves s p id m x PlainWhat.Stop off = changed_off s p id m (record x { stopped = true }) off
-keeps_serves s p id m x PlainWhat.Resume off = changed_off s p id m (record x { stopped = false }) off
-keeps_serves s p id m x PlainWhat.Kill off = set_off (without_message s id) m.to p (Ended Why.Killed) off
-keeps_serves s p id m x (PlainWhat.Read x1 x2) off = keeps_bind s p (pieces.reads x m x1 x2) (λ r. Some (service.answered s id m r)) (λ r is. changed_off s p id m r.process off)
-keeps_serves s p id m x (PlainWhat.Write x1 x2) off = keeps_bind s p (pieces.writes x m x1 x2) (λ r. Some (service.answered s id m r)) (λ r is. changed_off s p id m r.process off)
-keeps_serves s p id m x (PlainWhat.Block x1) off = keeps_bind s p (pieces.lands m.to x m x.status) (λ r. Some (service.landed s id m r)) (λ r is. landed_off s p id m r off)
-keeps_serves s p id m x PlainWhat.Written off = keeps_bind s p (pieces.lands m.to x m x.status) (λ r. Some (service.landed s id m r)) (λ r is. landed_off s p id m r off)
-keeps_serves s p id m x PlainWhat.Gone off = keeps_bind s p (pieces.lands m.to x m x.status) (λ r. Some (service.landed s id m r)) (λ r is. landed_off s p id m r off)
-keeps_serves s p id m x _ off = tt
+keeps_serves s p id m x k h1 = search (arith, changed_off, set_off, keeps_bind, landed_off)
 
 keeps_takes : (s : OneKernel) (p : Pid) (id : MsgId) (m : PlainMessage) → Keeps s p (service.takes s id m)
 keeps_takes s p id m =
     let to_board = bind (board.board_takes s.switchboard m m.what) (λ t. Some (service.switchboard_took s id t)) in
-    let to_manager = bind (manage.manager_takes s.manager s.machines (length s.images) m m.what) (λ t. Some (service.manager_took s id t)) in
-    by_test (Keeps s p) (pid_eq m.to switchboard) to_board (if pid_eq m.to manager then to_manager else None)
-    (keeps_bind s p (board.board_takes s.switchboard m m.what) (λ t. Some (service.switchboard_took s id t)) (λ t is. sent_off (record (without_message s id) { switchboard = t.switchboard }) t.answer p))
-    (by_test (Keeps s p) (pid_eq m.to manager) to_manager None
-    (keeps_bind s p (manage.manager_takes s.manager s.machines (length s.images) m m.what) (λ t. Some (service.manager_took s id t)) (λ t is. sent_off (record (without_message s id) { manager = t.manager }) t.message p)) tt)
+    search (arith, by_test, keeps_bind, sent_off)
 
 -- a process is made
 keeps_image : (s : OneKernel) (p child : Pid) (id : MsgId) (m : PlainMessage) (links : List PlainLink) (i : BootImage) → child ≢ p → Keeps s p (service.creates_of s id m child links i)
@@ -109,8 +94,7 @@ keeps_step s p (Label.Out q w) off = keeps_bind s p (kernel.next_trap s q) (kern
 keeps_step s p (Label.End q y) off = keeps_bind s p (kernel.next_trap s q) (kernel.ends s q y) (λ x is. keeps_ends s p q y x off)
 keeps_step s p (Label.Receive q id) off = keeps_bind s p (kernel.completing s q id) (kernel.receives s q id) (λ x is. elim x as (λ c. Keeps s p (kernel.receives s q id c))
     [ receiving.Receives x_ ↦ set_off (without_message s id) q p (Alive x_) off | receiving.Refuses reply x_ ↦ tt ])
-keeps_step s p (Label.Refuse q id c) off = keeps_bind s p (kernel.completing s q id) (kernel.refuses s q c) (λ x is. elim x as (λ done. Keeps s p (kernel.refuses s q c done))
-    [ receiving.Receives x_ ↦ tt | receiving.Refuses reply x_ ↦ keeps_when s p (reply_eq c reply) (kernel.goes_on s q x_) (set_off s q p (Alive x_) off) ])
+keeps_step s p (Label.Refuse q id c) off = search (arith, keeps_bind, keeps_when, set_off)
 keeps_step s p (Label.Dropped id) off =
     keeps_bind s p (s.bag id) (λ m. bind (kernel.why_ended (s.processes m.to)) (kernel.drops s id m))
     (λ m there. keeps_bind s p (kernel.why_ended (s.processes m.to)) (kernel.drops s id m) (λ y is. keeps_when s p (service.is_dropped m.what) (without_message s id) refl))

@@ -1,6 +1,6 @@
 -- A kernel's own message, a turn, and the other directives: the labels of a group are other processes'.
 use Rattle.dm_rule.proofs.Names.{◌≡◌, ◌≢◌, ℕ, ◌+◌, List, [], ◌∷◌, refl, ap, ◌∙◌, sym, Option, None, Some, Pid, pid_of, MsgId, PlainMessage, Boot, first_number, OneKernel, Line, Told, Here, Point, label_of, Part, Says, Transmits, migrates}
-use Rattle.dm_rule.proofs.Names.{Spares}
+use Rattle.dm_rule.proofs.Names.{Spares, arith}
 use Rattle.dm_rule.specs.Rule as rule
 use Rattle.dm_rule.proofs.Groups.{IsNetLine, IsNet}
 use Rattle.dm_rule.proofs.Apart.Rows.{AllApart, ApartOf, apart_first, ForOther, round_apart, handles_apart}
@@ -15,13 +15,7 @@ apart_line y _ h z = tt
 
 hears_apart : (z : OneKernel) (y : Pid) (b : Boot) (o : Point) (m : ℕ) (id : MsgId) (q : Option Told) → ApartOf z y (rule.hears b o m id q)
 hears_apart z y b o m id q =
-    apart_of z y (rule.hears b o m id q) (λ ps e. apart_first z y ps (hears_kept (AllApart y) (record {
-      none = tt;
-      says = λ l ps h k. (apart_line y l h, k);
-      again = λ i to ps k. (λ s. tt, k);
-      owns = λ k q to ps h. (λ s. tt, h);
-      answers = λ i r. (λ s. tt, (λ s. tt, tt));
-    }) b o m id q ps e))
+    apart_of z y (rule.hears b o m id q) (λ ps e. apart_first z y ps (hears_kept (AllApart y) ((search (arith, apart_line))) b o m id q ps e))
 
 -- a turn
 other_is : (z : OneKernel) (y : Pid) (id : MsgId) (msg : PlainMessage) → z.bag id ≡ Some msg → msg.to ≢ y → ForOther z y id
@@ -38,13 +32,7 @@ turns_apart y b o m (i ∷ is) child off served = comes_apart y b o m i (o.kerne
 
 -- the other directives
 net_spares : (l : Line) → IsNetLine l → (z : OneKernel) (y : Pid) → Spares z y (label_of l)
-net_spares (Line.Taken a b n) h z y = tt
-net_spares (Line.Old a b n) h z y = tt
-net_spares (Line.Early a b n) h z y = tt
-net_spares (Line.Acked a b n) h z y = tt
-net_spares (Line.Resent m n) h z y = tt
-net_spares Line.Nothing h z y = tt
-net_spares _ h z y = absurd h
+net_spares l h1 z y = search arith
 
 pub net_apart : (y : Pid) (ps : List Part) → IsNet ps → AllApart y ps
 net_apart y [] h = tt

@@ -3,13 +3,13 @@ use Rattle.dm_rule.proofs.Names.{◌≡◌, ℕ, zero, suc, ◌+◌, ◌==◌, �
 use Rattle.dm_rule.proofs.Names.{Option, None, Some, nat_tests, Pid, Place, pid_eq, PlainLink, first_empty, link_at, MsgId, id_eq, id_of, PlainMessage, Direction, direction_numbered, Regs, Row, instruction, past, Reply, PlainProcess}
 use Rattle.dm_rule.proofs.Names.{Waiting, reg, setting, OneKernel, CallNumber, Called, Replies, Sends, Waits, Outputs, Ends, first_failed, pid_eq-same, id_eq-same, bind-is, View, Addresses, Gets, gets, given, Slot, Owner, Receiver, Sender}
 use Rattle.dm_rule.proofs.Names.{acting_place, encloses, fills, fills_by, sends_burden, owner_in, links_in, burden_of}
-use Rattle.dm_onekernel.specs.Calls as calls
-use Rattle.dm_onekernel.specs.Pieces as pieces
-use Rattle.dm_onekernel.specs.Step as kernel
 use Rattle.dm_rule.proofs.Homes.{place_as, pid_as, HomeProcess, HomeMessage, AtHome}
 use Rattle.dm_rule.proofs.Homes.Slots.{set_link, emptied_link, without_replies_link, past_call}
 use Rattle.dm_rule.proofs.Homes.Rows.{SameProcess, SameMessage, SameServers, running_home, encloses_servers, encloses_process, encloses_message, encloses_at}
 use Rattle.dm_rule.proofs.Requests.{by_test}
+use Rattle.dm_onekernel.specs.Calls as calls
+use Rattle.dm_onekernel.specs.Pieces as pieces
+use Rattle.dm_onekernel.specs.Step as kernel
 
 -- the process behind its call
 abbrev pub behind : PlainProcess → PlainProcess
@@ -45,26 +45,12 @@ no_gives v a p x n _ e = refl
 
 unless_refused_home : (P : Pid → Place → Type 0) (v : View) (a : Addresses) (p : Pid) (x : PlainProcess) (n : CallNumber) (c : Option Reply) (k : Called) → fills_by v a p x n ≡ [] → HomeProcess P a p x → HomeCalled P v a p x n k
     → HomeCalled P v a p x n (calls.unless_refused c (behind x) k)
-unless_refused_home P v a p x n None k e h j = j
-unless_refused_home P v a p x n (Some c) k e h j =
-    subst (λ (gs : List Gets). HomeProcess P (given a gs) p (calls.replied c (behind x))) (sym (no_gives v a p x n c e)) (regs_home P a p x (calls.replied c (behind x)).regs h)
+unless_refused_home P v a p x n c k h1 h2 h3 = search (arith, no_gives, regs_home)
 
 -- a link goes into a slot
 set_slot_home : (P : Pid → Place → Type 0) (a : Addresses) (p : Pid) (x : PlainProcess) (regs : Regs) (slot : ℕ) (l : PlainLink) (place : Place) → P l.to place → HomeProcess P a p x
     → HomeProcess P (given a (gets (Slot p slot) place ∷ [])) p (record x { regs = regs; links = slice_set x.links slot (Some l) })
-set_slot_home P a p x regs slot l place is h = record {
-  slots = λ k w e. elim (set_link x.links slot k (Some l) w e) [
-    | inl there ↦
-        let same : (pid_eq p p && (slot == k)) ≡ true = let g = pid_eq-same p in let f = there.0 in grind (arith, nat_tests) in
-        let f : Some l ≡ Some w = there.1 in
-        let lw : l ≡ w = cc in
-        place_as P (ap (λ (c : Bool). if c then place else a (Slot p k)) same) (pid_as P (ap (λ (u : PlainLink). u.to) lw) is)
-    | inr off ↦
-        let apart : (pid_eq p p && (slot == k)) ≡ false = let g = pid_eq-same p in let f = off.0 in grind (arith, nat_tests) in
-        place_as P (ap (λ (c : Bool). if c then place else a (Slot p k)) apart) (h.slots k w off.1)
-  ];
-  owner = h.owner;
-}
+set_slot_home P a p x regs slot l place is h = search (arith, set_link, pid_eq-same, place_as, pid_as)
 
 puts_home : (P : Pid → Place → Type 0) (v : View) (a : Addresses) (p : Pid) (x : PlainProcess) (n : CallNumber) (l : PlainLink) (place : Place) (o : Option ℕ) → fills_by v a p x n ≡ fills p o place → P l.to place → HomeProcess P a p x
     → HomeCalled P v a p x n (calls.puts_link (behind x) l o)
@@ -141,61 +127,26 @@ sends_by P v a p x l false false false false f over is h =
             place_as P (encloses_at a id 0 ps k k r.place r.there (omega arith)) r.is;
       };
       others = λ q e. let s = encloses_process a id 0 ps q in record { slot = s.slot; owner = s.owner };
-      messages = λ i e. let s = encloses_message a id 0 ps i e in record {
-        receiver = ap (λ (c : Bool). if c then to else given a (encloses id 0 ps) (Receiver i)) e ∙ s.receiver;
-        sender = ap (λ (c : Bool). if c then acting_place v p else given a (encloses id 0 ps) (Sender i)) e ∙ s.sender;
-        enclosed = s.enclosed;
-      };
+      messages = λ i e. let s = encloses_message a id 0 ps i e in (search arith);
       servers = let s = encloses_servers a id 0 ps in record { child = s.child; name = s.name; answer = s.answer; asked = s.asked };
     }
 
 sends_home : (P : Pid → Place → Type 0) (v : View) (a : Addresses) (p : Pid) (x : PlainProcess) (o : Option PlainLink) → link_at x.links (reg x.regs 1) ≡ o → P p (acting_place v p) → HomeProcess P a p x → HomeCalled P v a p x calls.Send (calls.send_call p (behind x) o)
-sends_home P v a p x None over is h = regs_home P a p x (calls.replied Reply.NoLink (behind x)).regs h
-sends_home P v a p x (Some l) over is h =
-    sends_by P v a p x l (nat_lt (calls.most_body x) (reg x.regs 3) || nat_lt 4 (reg x.regs 4)) (calls.is_outside x (reg x.regs 2) (reg x.regs 3) || calls.is_outside x (reg x.regs 5) (reg x.regs 4))
-    (calls.any_empty x.links (calls.listed x)) (calls.reply_named_twice x.links (reg x.regs 1 ∷ calls.listed x)) refl over is h
+sends_home P v a p x o h1 h2 h3 = search (arith, regs_home, sends_by)
 
 -- a data move begins, with the owner of the link in slot r1
 move_sent : (P : Pid → Place → Type 0) (v : View) (a : Addresses) (p : Pid) (m : PlainMessage) (x y : PlainProcess) (to : Place) → P m.to to → m.sender ≡ p → links_in m.what ≡ [] → y.links ≡ x.links → owner_in y.status ≡ Some m.to → P p (acting_place v p) → HomeProcess P a p x
     → HomeSent P a (given a (gets (Receiver m.id) to ∷ gets (Sender m.id) (acting_place v p) ∷ gets (Owner p) to ∷ [])) p m y
-move_sent P v a p m x y to there from none links owner is h = record {
-  process = record {
-    slots = λ k l e. h.slots k l (ap (λ (s : List (Option PlainLink)). link_at s k) (sym links) ∙ e);
-    owner = λ q e.
-        let f : Some m.to ≡ Some q = sym owner ∙ e in
-        let g : m.to ≡ q = cc in place_as P (ap (λ (c : Bool). if c then to else a (Owner p)) (pid_eq-same p)) (pid_as P g there);
-  };
-  message = record {
-    receiver = place_as P (ap (λ (c : Bool). if c then to else a (Receiver m.id)) (id_eq-same m.id)) there;
-    sender = place_as P (ap (λ (c : Bool). if c then acting_place v p else a (Sender m.id)) (id_eq-same m.id)) (pid_as P (sym from) is);
-    enclosed = λ k l e. absurd (let f : None ≡ Some l = ap (λ (ls : List PlainLink). slice_get ls k) (sym none) ∙ e in cc);
-  };
-  others = λ q e. record { slot = λ k. refl; owner = ap (λ (c : Bool). if c then to else a (Owner q)) e };
-  messages = λ i e. record {
-    receiver = ap (λ (c : Bool). if c then to else a (Receiver i)) e;
-    sender = ap (λ (c : Bool). if c then acting_place v p else a (Sender i)) e;
-    enclosed = λ k. refl;
-  };
-  servers = record { child = λ n. refl; name = λ n. refl; answer = λ n. refl; asked = λ q. refl };
-}
+move_sent P v a p m x y to there from none links owner is h = search (arith, place_as, pid_eq-same, pid_as, id_eq-same)
 
 begins_home : (P : Pid → Place → Type 0) (v : View) (a : Addresses) (p : Pid) (x : PlainProcess) (l : PlainLink) (dir : Direction) (base own left : ℕ) → link_at x.links (reg x.regs 1) ≡ Some l → P p (acting_place v p) → HomeProcess P a p x
     → HomeCalled P v a p x calls.Move (calls.begins_move (pieces.requests p (behind x) dir l.to base own left))
-begins_home P v a p x l Direction.FromArea base own left over is h =
-    let r = pieces.requests p (behind x) Direction.FromArea l.to base own left in
-    move_sent P v a p r.message x r.process (a (Slot p (reg x.regs 1))) (h.slots (reg x.regs 1) l over) refl refl refl refl is h
-begins_home P v a p x l Direction.IntoArea base own left over is h =
-    let r = pieces.requests p (behind x) Direction.IntoArea l.to base own left in
-    move_sent P v a p r.message x r.process (a (Slot p (reg x.regs 1))) (h.slots (reg x.regs 1) l over) refl refl refl refl is h
+begins_home P v a p x l dir base own left h1 h2 h3 = search (arith, move_sent)
 
 moves_over_home : (P : Pid → Place → Type 0) (v : View) (a : Addresses) (p : Pid) (x : PlainProcess) (l : PlainLink) (o : Option Direction) → link_at x.links (reg x.regs 1) ≡ Some l → P p (acting_place v p) → HomeProcess P a p x
     → HomeCalled P v a p x calls.Move (calls.moves_over p (behind x) l o)
 moves_over_home P v a p x l None over is h = regs_home P a p x (calls.replied Reply.BadKind (behind x)).regs h
-moves_over_home P v a p x l (Some dir) over is h =
-    unless_refused_home P v a p x calls.Move (first_failed (calls.move_refusals (behind x) l dir)) (calls.moves_bytes p (behind x) l dir) refl h
-    (by_test (HomeCalled P v a p x calls.Move) (reg x.regs 5 == 0) (calls.refused Reply.Done (behind x)) (calls.begins_move (pieces.requests p (behind x) dir l.to (l.area.base + reg x.regs 3) (reg x.regs 4) (reg x.regs 5)))
-    (regs_home P a p x (calls.replied Reply.Done (behind x)).regs h)
-    (begins_home P v a p x l dir (l.area.base + reg x.regs 3) (reg x.regs 4) (reg x.regs 5) over is h))
+moves_over_home P v a p x l (Some dir) over is h = search (arith, unless_refused_home, by_test, regs_home, begins_home)
 
 moves_home : (P : Pid → Place → Type 0) (v : View) (a : Addresses) (p : Pid) (x : PlainProcess) (o : Option PlainLink) → link_at x.links (reg x.regs 1) ≡ o → P p (acting_place v p) → HomeProcess P a p x → HomeCalled P v a p x calls.Move (calls.move_call p (behind x) o)
 moves_home P v a p x None over is h = regs_home P a p x (calls.replied Reply.NoLink (behind x)).regs h
@@ -207,9 +158,7 @@ does_call_home P v a p x calls.Make is h = makes_by P v a p x (nat_lt 7 (reg x.r
 does_call_home P v a p x calls.Copy is h = copies_home P v a p x (link_at x.links (reg x.regs 1)) refl h
 does_call_home P v a p x calls.Drop is h = drops_home P v a p x (link_at x.links (reg x.regs 1)) h
 does_call_home P v a p x calls.Send is h = sends_home P v a p x (link_at x.links (reg x.regs 1)) refl is h
-does_call_home P v a p x calls.Receive is h =
-    by_test (HomeCalled P v a p x calls.Receive) (calls.is_outside x (reg x.regs 2) (reg x.regs 3)) (calls.refused Reply.BadRange (behind x)) (Waits (record (behind x) { status = Waiting (reg x.regs 1) (reg x.regs 2) (reg x.regs 3) }))
-    (regs_home P a p x (calls.replied Reply.BadRange (behind x)).regs h) (record { slots = h.slots; owner = λ q e. absurd (let f : None ≡ Some q = e in cc) })
+does_call_home P v a p x calls.Receive is h = search (arith, by_test, regs_home)
 does_call_home P v a p x calls.Move is h = moves_home P v a p x (link_at x.links (reg x.regs 1)) refl is h
 does_call_home P v a p x _ is h = tt
 

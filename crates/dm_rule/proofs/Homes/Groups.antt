@@ -1,15 +1,15 @@
 -- A group keeps all of it where its first part is said where it belongs.
 use Rattle.dm_rule.proofs.Names.{◌≡◌, ℕ, zero, suc, ◌+◌, ◌==◌, Bool, true, false, List, [], ◌∷◌, ◌++◌, length, refl, ap, ◌∙◌, sym, subst, ◌⊎◌, inl, inr, ⊤, if◌then◌else◌, Option, None, Some, Pid, MsgId, Boot, Label, OneKernel, bind}
 use Rattle.dm_rule.proofs.Names.{bind-is, Line, Load, View, Pair, queued_for, handled, Point, after, after_line, moved, Part, Says, Transmits, Spelled, behind, spelled, lines_of, slice_get, ◌-◌, nat_lt, pair_window, Step, actor, begins}
-use Rattle.dm_rule.proofs.Names.{marked, SentLoad, NothingElse, group_of, outcome, IsStill, AskNone}
-use Rattle.dm_rule.specs.View as view
+use Rattle.dm_rule.proofs.Names.{marked, SentLoad, NothingElse, group_of, outcome, IsStill, AskNone, arith, nat_tests}
 use Rattle.dm_rule.proofs.Homes.Labels.{SaidAt, RingsHome, rings_same}
 use Rattle.dm_rule.proofs.Homes.Lists.{stands, queue_lists}
 use Rattle.dm_rule.proofs.Homes.Lines.{NoneReplaced, Home, Kept, same_lists, label_keeps}
-use Rattle.dm_rule.specs.Rule as rule
 use Rattle.dm_rule.proofs.Homes.Parts.{PartAnywhere, PartsAnywhere, parts_keep, part_keeps}
 use Rattle.dm_rule.proofs.Trails.Within.{queued_acting}
 use Rattle.dm_rule.proofs.Requests.{by_test}
+use Rattle.dm_rule.specs.View as view
+use Rattle.dm_rule.specs.Rule as rule
 
 -- the first part of a group: one that may stand anywhere, a label said where it belongs, or a message that is queued
 abbrev pub FirstGood : OneKernel → (MsgId → ℕ) → ℕ → Part → Type 0
@@ -39,24 +39,12 @@ queued_keeps : (r e : MsgId → ℕ) (pt pt' : Point) (id : MsgId) → stands pt
 queued_keeps r e pt pt' id at h is =
     let f : moved pt (Line.Queued id) pt.kernel ≡ pt' = cc in
     let w = handled pt.view id in
-    subst (Kept pt.view.acting) f (record {
-      r = r;
-      e = e;
-      home = record { sound = h.sound; at = h.at; rings = rings_queued w id (view.receiver_of (pt.view.told id)) (rings_same pt.view w refl refl refl h.rings); lists = queue_lists pt.kernel e pt.view id at h.lists };
-      acting = queued_acting w id (view.receiver_of (pt.view.told id));
-    })
+    subst (Kept pt.view.acting) f ((search (arith, rings_queued, rings_same, queue_lists, queued_acting)))
 
 pub first_keeps : NoneReplaced → (r e : MsgId → ℕ) (pt pt' : Point) (p : Part) (ls : List Line) → FirstGood pt.kernel e pt.view.acting p → Home r e pt → lines_of pt p ≡ Some ls → after pt ls ≡ Some pt' → Kept pt.view.acting pt'
 first_keeps none r e pt pt' p ls good h is next = elim good [
   | inl any ↦ part_keeps none r e pt pt' p ls any h is next
-  | inr said ↦ elim said [
-    | inl one ↦
-        let f : Some (Line.Label one.0 ∷ []) ≡ Some ls = ap (lines_of pt) (sym one.1) ∙ is in
-        let g : Line.Label one.0 ∷ [] ≡ ls = cc in label_keeps none r e pt pt' one.0 one.2 h (ap (after pt) g ∙ next)
-    | inr one ↦
-        let f : Some (Line.Queued one.0 ∷ []) ≡ Some ls = ap (lines_of pt) (sym one.1) ∙ is in
-        let g : Line.Queued one.0 ∷ [] ≡ ls = cc in queued_keeps r e pt pt' one.0 one.2 h (ap (after pt) g ∙ next)
-  ]
+  | inr said ↦ grind (arith, nat_tests, label_keeps, queued_keeps)
 ]
 
 good_keep : NoneReplaced → (ps : List Part) (r e : MsgId → ℕ) (m : ℕ) (pt : Point) (w : Spelled) → pt.view.acting ≡ m → PartsGood pt.kernel e m ps → Home r e pt → spelled pt ps ≡ Some w → AskNone w.lines → Kept m w.point
@@ -123,12 +111,7 @@ takes_good m a b [] = tt
 takes_good m a b (n ∷ ns) = (tt, takes_good m a b ns)
 
 comes_good : (m a b : ℕ) (p q : Pair) (l : Load) → PartsAnywhere m (rule.comes a b p q l)
-comes_good m a b p q (Load.Data n) =
-    let ns = rule.kept_from p.kept (n + 1) pair_window in
-    by_test (PartsAnywhere m) (nat_lt n p.taken) (Says (Line.Old a b n) ∷ Transmits b a (Load.Ack p.taken) ∷ []) (if nat_lt p.taken n then Says (Line.Early a b n) ∷ Transmits b a (Load.Ack p.taken) ∷ [] else rule.takes_on a b n ns)
-    (tt, (tt, tt))
-    (by_test (PartsAnywhere m) (nat_lt p.taken n) (Says (Line.Early a b n) ∷ Transmits b a (Load.Ack p.taken) ∷ []) (rule.takes_on a b n ns) (tt, (tt, tt))
-    (parts_append m (rule.taking_parts a b (n ∷ ns)) (Transmits b a (Load.Ack (n + 1 + length ns)) ∷ []) (takes_good m a b (n ∷ ns)) (tt, tt)))
+comes_good m a b p q (Load.Data n) = search (arith, by_test, parts_append, takes_good)
 comes_good m a b p q (Load.Ack n) = (tt, repeats_good m b a (rule.let_go q (rule.more n q.acked)))
 
 pub arrives_good : (m a b : ℕ) (p q : Pair) (o : Option SentLoad) → PartsAnywhere m (rule.arrives a b p q o)

@@ -2,13 +2,13 @@
 use Rattle.dm_rule.proofs.Names.{◌≡◌, ℕ, ◌==◌, ◌&&◌, Bool, true, false, not, List, [], ◌∷◌, ◌++◌, refl, ap, ◌∙◌, sym, inl, inr, arith, ⊤, if◌then◌else◌, filter, Option, None, Some, cases_Bool, nat_tests, Pid, Place, pid_eq, MsgId}
 use Rattle.dm_rule.proofs.Names.{MessageKind, Label, OneKernel, at_machine, at_record, without, moved_back, View, Told, Known, Here, Frozen, Incoming, Forward, after_label, served_told, ends_by, ended, handled, Addresses, given, gives}
 use Rattle.dm_rule.proofs.Names.{unmoved, acting_place, are_home, sort_of}
-use Rattle.dm_onekernel.specs.Step as kernel
-use Rattle.dm_rule.specs.View as view
 use Rattle.dm_rule.proofs.Homes.{IsHome, AtHome}
 use Rattle.dm_rule.proofs.Homes.Steps.{ran_home, call_home, send_home, wait_home, out_home, end_home}
 use Rattle.dm_rule.proofs.Homes.Receives.{receive_home, refuse_home}
 use Rattle.dm_rule.proofs.Homes.Serves.{Named, ReceivedAt, ServedAt, EndedAt, dropped_home, gone_home, no_space_home, served_home, created_home, AnsweredAt, asked_home, answered_home}
 use Rattle.dm_rule.proofs.Homes.Manager.{took_home}
+use Rattle.dm_onekernel.specs.Step as kernel
+use Rattle.dm_rule.specs.View as view
 
 -- a label is said where its process is at home, or where its message's receiver is
 abbrev pub SaidAt : OneKernel → ℕ → Label → Type 0
@@ -64,18 +64,7 @@ label_on P s t v a (Label.Answered id o) is named at h = answered_home P s t v a
 
 -- as long as nothing moves
 said_home : (s : OneKernel) (v : View) (a : Addresses) (l : Label) → ((q : Pid) → v.moves q ≡ 0) → SaidAt s v.acting l → AtHome IsHome s a → SaidOn IsHome s v a l
-said_home s v a (Label.Call p n c) still at h = ap (λ (n : ℕ). record { at = v.acting; moves = n }) (still p) ∙ ap unmoved (sym at)
-said_home s v a (Label.Send p id) still at h = ap (λ (n : ℕ). record { at = v.acting; moves = n }) (still p) ∙ ap unmoved (sym at)
-said_home s v a (Label.Wait p) still at h = ap (λ (n : ℕ). record { at = v.acting; moves = n }) (still p) ∙ ap unmoved (sym at)
-said_home s v a (Label.Out p w) still at h = ap (λ (n : ℕ). record { at = v.acting; moves = n }) (still p) ∙ ap unmoved (sym at)
-said_home s v a (Label.Served id) still at h = λ m there. ap (λ (n : ℕ). record { at = v.acting; moves = n }) (still m.to) ∙ ap unmoved (sym (at m there))
-said_home s v a (Label.Gone id) still at h = λ m there.
-    ap (λ (n : ℕ). record { at = v.acting; moves = n }) (ap (λ (p : Place). p.moves) (h.messages id m there).receiver) ∙ ap unmoved (sym (at m there))
-said_home s v a (Label.Took id) still at h = at
-said_home s v a (Label.Created id child) still at h = at.0
-said_home s v a (Label.NoSpace id f b) still at h = at
-said_home s v a (Label.Answered id o) still at h = λ p noted. ap (λ (n : ℕ). record { at = v.acting; moves = n }) (still p) ∙ ap unmoved (sym (at p noted))
-said_home s v a _ still at h = tt
+said_home s v a l h1 h2 h3 = search arith
 
 pub label_home : (s t : OneKernel) (v : View) (a : Addresses) (l : Label) → kernel.step s l ≡ Some t → Named s → ((q : Pid) → v.moves q ≡ 0) → SaidAt s v.acting l → AtHome IsHome s a → AtHome IsHome t (given a (gives s v a l))
 label_home s t v a l is named still at h = label_on IsHome s t v a l is named (said_home s v a l still at h) h
@@ -119,20 +108,11 @@ pub rings_set : (v w : View) (ps : List Pid) → w.moves ≡ v.moves → w.ring 
 rings_set v w ps moves ring known h k = record {
   known = known;
   moves = λ p. ap (λ (f : Pid → ℕ). f p) moves ∙ k.moves p;
-  ring = λ m. ap (λ (f : ℕ → List Pid). are_home m (f m)) ring ∙ elim (cases_Bool (v.acting == m)) [
-    | inl same ↦
-        let is : v.acting ≡ m = grind (arith, nat_tests) in
-        ap (λ (c : Bool). are_home m (if c then ps else v.ring m)) same ∙ ap (λ (i : ℕ). are_home i ps) (sym is) ∙ h
-    | inr apart ↦ ap (λ (c : Bool). are_home m (if c then ps else v.ring m)) apart ∙ k.ring m
-  ];
+  ring = λ m. ap (λ (f : ℕ → List Pid). are_home m (f m)) ring ∙ (search arith);
 }
 
 pub rings_same : (v w : View) → w.moves ≡ v.moves → w.ring ≡ v.ring → w.known ≡ v.known → RingsHome v → RingsHome w
-rings_same v w moves ring known k = record {
-  known = λ m p. ap (λ (f : ℕ → Pid → Known). is_still (f m p)) known ∙ k.known m p;
-  moves = λ p. ap (λ (f : Pid → ℕ). f p) moves ∙ k.moves p;
-  ring = λ m. ap (λ (f : ℕ → List Pid). are_home m (f m)) ring ∙ k.ring m;
-}
+rings_same v w moves ring known k = search arith
 
 kills_rings : (v : View) (k : MessageKind) (o : Option Pid) → RingsHome v → RingsHome (ends_by (sort_of k) v o)
 kills_rings v MessageKind.Kill (Some p) h = rings_set v (ended v p) (without p (v.ring v.acting)) refl refl (known_set v v.acting p view.Ended refl h) (without_home v.acting p (v.ring v.acting) (h.ring v.acting)) h
@@ -140,8 +120,7 @@ kills_rings v MessageKind.Kill None h = h
 kills_rings v _ o h = h
 
 told_rings : (v : View) (o : Option Told) → RingsHome v → RingsHome (served_told v o)
-told_rings v None h = h
-told_rings v (Some t) h = kills_rings v t.kind (Some t.receiver) h
+told_rings v o h1 = search (arith, kills_rings)
 
 dropped_rings : (v : View) (id : MsgId) (o : Option Pid) → RingsHome v → RingsHome (view.dropped_for v id o)
 dropped_rings v id None h = h
@@ -151,15 +130,4 @@ back_home : (v : View) (p : Pid) → p.home ≡ v.acting → RingsHome v → are
 back_home v p at h = joins_home v.acting p (without p (v.ring v.acting)) at (without_home v.acting p (v.ring v.acting) (h.ring v.acting))
 
 pub label_rings : (s : OneKernel) (v : View) (l : Label) → SaidAt s v.acting l → RingsHome v → RingsHome (after_label v l)
-label_rings s v (Label.Ran p k) at h = rings_set v (after_label v (Label.Ran p k)) (moved_back p (v.ring v.acting)) refl refl h.known (back_home v p at h) h
-label_rings s v (Label.End p y) at h = rings_set v (after_label v (Label.End p y)) (without p (v.ring v.acting)) refl refl (known_set v v.acting p view.Ended refl h) (without_home v.acting p (v.ring v.acting) (h.ring v.acting)) h
-label_rings s v (Label.Receive p id) at h = rings_set v (after_label v (Label.Receive p id)) (moved_back p (v.ring v.acting)) refl refl h.known (back_home v p at h) h
-label_rings s v (Label.Refuse p id c) at h = rings_set v (after_label v (Label.Refuse p id c)) (moved_back p (v.ring v.acting)) refl refl h.known (back_home v p at h) h
-label_rings s v (Label.Dropped id) at h = dropped_rings (handled v id) id (view.receiver_of (v.told id)) (record { moves = h.moves; ring = h.ring; known = h.known })
-label_rings s v (Label.Served id) at h = told_rings (handled v id) (v.told id) (record { moves = h.moves; ring = h.ring; known = h.known })
-label_rings s v (Label.Gone id) at h = record { moves = h.moves; ring = h.ring; known = h.known }
-label_rings s v (Label.Took id) at h = record { moves = h.moves; ring = h.ring; known = h.known }
-label_rings s v (Label.Created id p) at h = rings_set v (after_label v (Label.Created id p)) (v.ring v.acting ++ p ∷ []) refl refl (known_set v v.acting p Here refl h) (joins_home v.acting p (v.ring v.acting) at.1 (h.ring v.acting)) h
-label_rings s v (Label.NoSpace id f b) at h = record { moves = h.moves; ring = h.ring; known = h.known }
-label_rings s v (Label.Asked id) at h = record { moves = h.moves; ring = h.ring; known = h.known }
-label_rings s v _ at h = h
+label_rings s v l h1 h2 = search (arith, rings_set, back_home, known_set, without_home, dropped_rings, told_rings, joins_home)

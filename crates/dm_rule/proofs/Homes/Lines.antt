@@ -4,12 +4,12 @@ use Rattle.dm_rule.proofs.Names.{MessageKind, plain_kind, PlainMessage, Boot, La
 use Rattle.dm_rule.proofs.Names.{handled, ◌||◌, pid_eq, PlainWhat, BootProcess, switchboard, manager, Known, Unknown, Here, known_at, Addresses, Receiver, Gets, given, own_given, first_gives, addresses_after, Point, first_point, after}
 use Rattle.dm_rule.proofs.Names.{after_line, moved, Routes, lines_of, puts, packet_line, goes_out, Homes, is_for_home, gives, topic_by, About, sort_of}
 use Rattle.std.proofs.Common.{is_none}
-use Rattle.dm_onekernel.specs.Step as kernel
-use Rattle.dm_rule.specs.View as view
 use Rattle.dm_rule.proofs.Homes.{IsHome, AtHome, homes_are}
 use Rattle.dm_rule.proofs.Homes.Start.{start_at_home, Homes-start}
 use Rattle.dm_rule.proofs.Homes.Labels.{SaidAt, label_home, RingsHome, is_still, rings_same, label_rings}
 use Rattle.dm_rule.proofs.Homes.Lists.{stands, all_stand, ListsHome, Old, lists_on, label_lists, put_lists, pair_set, are_for}
+use Rattle.dm_onekernel.specs.Step as kernel
+use Rattle.dm_rule.specs.View as view
 
 -- a step leaves a message of the bag as it is, or takes it out
 abbrev pub NoneReplaced : Type 0
@@ -34,20 +34,14 @@ homes_of r e pt h = record {
 }
 
 start_if : (c : Bool) (k : Known) → is_still k ≡ true → is_still (if c then Here else k) ≡ true
-start_if true k h = refl
-start_if false k h = h
+start_if c k h1 = search arith
 
 start_known : (ps : List BootProcess) (m : ℕ) (q : Pid) → is_still (known_at ps m q) ≡ true
 start_known [] m q = start_if ((m == 0) && (pid_eq q switchboard || pid_eq q manager)) Unknown refl
 start_known (p ∷ ps) m q = start_if (pid_eq p.pid q && (p.pid.home == m)) (known_at ps m q) (start_known ps m q)
 
 pub home_start : (b : Boot) → IsValid b → Home (λ i. 0) (λ i. 0) (first_point b)
-home_start b valid = record {
-  sound = start-sound b valid;
-  at = start_at_home b valid;
-  rings = let h = Homes-start b valid in record { moves = h.moves; ring = h.ring; known = λ m p. start_known b.processes m p };
-  lists = record { inbox = λ m. refl; queue = λ m p. refl; untaken = λ a m. refl };
-}
+home_start b valid = search (arith, start-sound, start_at_home, Homes-start, start_known)
 
 -- what is kept by what follows, on the same machine
 pub record Kept (m : ℕ) (pt : Point) : Type 0 where
@@ -63,12 +57,7 @@ old_of None (Some z) e x entered once there same = absurd (let f : 1 ≤ e = gri
 
 -- what a group is about changes none of it
 topic_home : (r e : MsgId → ℕ) (s : OneKernel) (v : View) (t : About) (a : Addresses) → Home r e (record { kernel = s; view = v; addresses = a }) → Home r e (record { kernel = s; view = view.about v t; addresses = a })
-topic_home r e s v t a h = record {
-  sound = h.sound;
-  at = h.at;
-  rings = record { moves = h.rings.moves; ring = h.rings.ring; known = h.rings.known };
-  lists = record { inbox = h.lists.inbox; queue = h.lists.queue; untaken = h.lists.untaken };
-}
+topic_home r e s v t a h = search arith
 
 -- a label
 label_line : NoneReplaced → (r e : MsgId → ℕ) (pt : Point) (l : Label) (t : OneKernel) → kernel.step pt.kernel l ≡ Some t → SaidAt pt.kernel pt.view.acting l → Home r e pt
@@ -95,23 +84,15 @@ acting_dropped v id (Some p) = refl
 
 pub acting_label : (v : View) (l : Label) → (after_label v l).acting ≡ v.acting
 acting_label v (Label.Dropped id) = acting_dropped (handled v id) id (view.receiver_of (v.told id))
-acting_label v (Label.Served id) = elim (v.told id) as (λ o. (view.served_told (handled v id) o).acting ≡ (handled v id).acting)
-    [ None ↦ refl | Some t ↦ acting_kills (handled v id) t.kind (Some t.receiver) ]
+acting_label v (Label.Served id) = grind (arith, nat_tests, acting_kills)
 acting_label v _ = refl
 
 -- a pair whose messages stay
 pub same_lists : (s : OneKernel) (e : MsgId → ℕ) (v : View) (a b : ℕ) (p : Pair) → p.ids ≡ (v.pair a b).ids → p.taken ≡ (v.pair a b).taken → ListsHome s e v → ListsHome s e (view.with_pair v a b p)
-same_lists s e v a b p ids taken h = record {
-  inbox = h.inbox;
-  queue = h.queue;
-  untaken = pair_set s e v.pair a b p (ap (λ (is : List MsgId). all_stand s e b (drop p.taken is)) ids ∙ ap (λ (n : ℕ). all_stand s e b (drop n (v.pair a b).ids)) taken ∙ h.untaken a b) h.untaken;
-}
+same_lists s e v a b p ids taken h = search (arith, pair_set)
 
 pub packet_line_home : (r e : MsgId → ℕ) (pt : Point) (a b k : ℕ) (l : Load) → Home r e pt → Home r e (moved pt (Line.Packet a b k l) pt.kernel)
-packet_line_home r e pt a b k l h =
-    let p = pt.view.pair a b in
-    let q : Pair = record p { gone = view.gone_after l p.gone; wire = p.wire ++ record { load = l; delivered = false } ∷ [] } in
-    record { sound = h.sound; at = h.at; rings = rings_same pt.view (view.with_pair pt.view a b q) refl refl refl h.rings; lists = same_lists pt.kernel e pt.view a b q refl refl h.lists }
+packet_line_home r e pt a b k l h = search (arith, rings_same, same_lists)
 
 -- a message of the bag has its places from the label that sent it
 pub own_none : (s : OneKernel) (v : View) (a : Addresses) (id : MsgId) (q : Pid) (w : PlainWhat) → own_given s v a id q (sort_of (plain_kind w)) ≡ []

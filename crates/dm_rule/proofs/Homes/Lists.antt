@@ -29,9 +29,7 @@ all_stand_last s e m (j ∷ js) i h k =
     both_true (stands s e m j) (all_stand s e m (js ++ i ∷ [])) w.0 (all_stand_last s e m js i w.1 k)
 
 pub all_stand_front : (s : OneKernel) (e : MsgId → ℕ) (m : ℕ) (i : MsgId) (is : List MsgId) → all_stand s e m is ≡ true → all_stand s e m (without_front i is) ≡ true
-all_stand_front s e m i [] h = refl
-all_stand_front s e m i (j ∷ js) h = elim (id_eq i j) as (λ b. all_stand s e m (if b then js else j ∷ js) ≡ true)
-    [ true ↦ (both (stands s e m j) (all_stand s e m js) h).1 | false ↦ h ]
+all_stand_front s e m i is h1 = search (arith, both)
 
 pub all_stand_without : (s : OneKernel) (e : MsgId → ℕ) (m : ℕ) (i : MsgId) (is : List MsgId) → all_stand s e m is ≡ true → all_stand s e m (without_id i is) ≡ true
 all_stand_without s e m i [] h = refl
@@ -80,43 +78,21 @@ pub record ListsHome (s : OneKernel) (e : MsgId → ℕ) (v : View) : Type 0 whe
   pub untaken : (a m : ℕ) → all_stand s e m (untaken (v.pair a m)) ≡ true
 
 pub lists_on : (s t : OneKernel) (e f : MsgId → ℕ) (v : View) → Old e s t → ((i : MsgId) → e i ≤ f i) → ListsHome s e v → ListsHome t f v
-lists_on s t e f v old le h = record {
-  inbox = λ m. stand_on s t e f m (v.inbox m) old le (h.inbox m);
-  queue = λ m p. stand_on s t e f m (v.queue m p) old le (h.queue m p);
-  untaken = λ a m. stand_on s t e f m (untaken (v.pair a m)) old le (h.untaken a m);
-}
+lists_on s t e f v old le h = search (arith, stand_on)
 
 -- one machine's inbox, one process's queue
 inbox_set : (s : OneKernel) (e : MsgId → ℕ) (f : ℕ → List MsgId) (m : ℕ) (is : List MsgId) → all_stand s e m is ≡ true → ((n : ℕ) → all_stand s e n (f n) ≡ true) → (n : ℕ) → all_stand s e n (at_machine f m is n) ≡ true
-inbox_set s e f m is h k n = elim (cases_Bool (m == n)) [
-  | inl same ↦
-      let at : m ≡ n = grind (arith, nat_tests) in
-      ap (λ (c : Bool). all_stand s e n (if c then is else f n)) same ∙ ap (λ (i : ℕ). all_stand s e i is) (sym at) ∙ h
-  | inr apart ↦ ap (λ (c : Bool). all_stand s e n (if c then is else f n)) apart ∙ k n
-]
+inbox_set s e f m is h k n = search arith
 
 queue_set : (s : OneKernel) (e : MsgId → ℕ) (f : ℕ → Pid → List MsgId) (m : ℕ) (p : Pid) (is : List MsgId) → all_stand s e m is ≡ true → ((n : ℕ) (q : Pid) → all_stand s e n (f n q) ≡ true) → (n : ℕ) (q : Pid) → all_stand s e n (at_record f m p is n q) ≡ true
-queue_set s e f m p is h k n q = elim (cases_Bool (m == n)) [
-  | inl same ↦ ap (λ (c : Bool). all_stand s e n (if c && pid_eq p q then is else f n q)) same ∙ (elim (pid_eq p q) as (λ b. all_stand s e n (if b then is else (f n q)) ≡ true)
-      [ true ↦ let at : m ≡ n = grind (arith, nat_tests) in ap (λ (i : ℕ). all_stand s e i is) (sym at) ∙ h | false ↦ (k n q) ])
-  | inr apart ↦ ap (λ (c : Bool). all_stand s e n (if c && pid_eq p q then is else f n q)) apart ∙ k n q
-]
+queue_set s e f m p is h k n q = search arith
 
 -- a label's lists
 pub handled_lists : (s : OneKernel) (e : MsgId → ℕ) (v : View) (id : MsgId) → ListsHome s e v → ListsHome s e (handled v id)
-handled_lists s e v id h = record {
-  inbox = inbox_set s e v.inbox v.acting (without_front id (v.inbox v.acting)) (all_stand_front s e v.acting id (v.inbox v.acting) (h.inbox v.acting)) h.inbox;
-  queue = h.queue;
-  untaken = h.untaken;
-}
+handled_lists s e v id h = search (arith, inbox_set, all_stand_front)
 
 dropped_lists : (s : OneKernel) (e : MsgId → ℕ) (v : View) (id : MsgId) (o : Option Pid) → ListsHome s e v → ListsHome s e (view.dropped_for v id o)
-dropped_lists s e v id None h = h
-dropped_lists s e v id (Some p) h = record {
-  inbox = h.inbox;
-  queue = queue_set s e v.queue v.acting p (without_front id (v.queue v.acting p)) (all_stand_front s e v.acting id (v.queue v.acting p) (h.queue v.acting p)) h.queue;
-  untaken = h.untaken;
-}
+dropped_lists s e v id o h1 = search (arith, queue_set, all_stand_front)
 
 kills_lists : (s : OneKernel) (e : MsgId → ℕ) (v : View) (k : MessageKind) (o : Option Pid) → ListsHome s e v → ListsHome s e (ends_by (sort_of k) v o)
 kills_lists s e v MessageKind.Kill (Some p) h = record { inbox = h.inbox; queue = h.queue; untaken = h.untaken }
@@ -124,32 +100,11 @@ kills_lists s e v MessageKind.Kill None h = h
 kills_lists s e v _ o h = h
 
 pub label_lists : (s : OneKernel) (e : MsgId → ℕ) (v : View) (l : Label) → ListsHome s e v → ListsHome s e (after_label v l)
-label_lists s e v (Label.Ran p k) h = record { inbox = h.inbox; queue = h.queue; untaken = h.untaken }
-label_lists s e v (Label.End p y) h = record { inbox = h.inbox; queue = h.queue; untaken = h.untaken }
-label_lists s e v (Label.Receive p id) h = record {
-  inbox = h.inbox;
-  queue = queue_set s e v.queue v.acting p (without_id id (v.queue v.acting p)) (all_stand_without s e v.acting id (v.queue v.acting p) (h.queue v.acting p)) h.queue;
-  untaken = h.untaken;
-}
-label_lists s e v (Label.Refuse p id c) h = record { inbox = h.inbox; queue = h.queue; untaken = h.untaken }
-label_lists s e v (Label.Dropped id) h = dropped_lists s e (handled v id) id (view.receiver_of (v.told id)) (handled_lists s e v id h)
-label_lists s e v (Label.Served id) h = elim (v.told id) as (λ o. ListsHome s e (served_told (handled v id) o))
-    [ None ↦ (handled_lists s e v id h) | Some t ↦ kills_lists s e (handled v id) t.kind (Some t.receiver) (handled_lists s e v id h) ]
-label_lists s e v (Label.Gone id) h = handled_lists s e v id h
-label_lists s e v (Label.Took id) h = handled_lists s e v id h
-label_lists s e v (Label.Created id p) h = let k = handled_lists s e v id h in record { inbox = k.inbox; queue = k.queue; untaken = k.untaken }
-label_lists s e v (Label.NoSpace id f b) h = handled_lists s e v id h
-label_lists s e v (Label.Asked id) h = handled_lists s e v id h
-label_lists s e v _ h = h
+label_lists s e v l h1 = search (arith, queue_set, all_stand_without, dropped_lists, handled_lists, kills_lists)
 
 -- queued
 queued_lists : (s : OneKernel) (e : MsgId → ℕ) (v : View) (id : MsgId) (o : Option Pid) → stands s e v.acting id ≡ true → ListsHome s e v → ListsHome s e (queued_for v id o)
-queued_lists s e v id None at h = h
-queued_lists s e v id (Some p) at h = record {
-  inbox = h.inbox;
-  queue = queue_set s e v.queue v.acting p (v.queue v.acting p ++ id ∷ []) (all_stand_last s e v.acting (v.queue v.acting p) id (h.queue v.acting p) at) h.queue;
-  untaken = h.untaken;
-}
+queued_lists s e v id o h1 h2 = search (arith, queue_set, all_stand_last)
 
 pub queue_lists : (s : OneKernel) (e : MsgId → ℕ) (v : View) (id : MsgId) → stands s e v.acting id ≡ true → ListsHome s e v → ListsHome s e (queued_for (handled v id) id (view.receiver_of (v.told id)))
 queue_lists s e v id at h = queued_lists s e (handled v id) id (view.receiver_of (v.told id)) at (handled_lists s e v id h)
@@ -160,24 +115,16 @@ pair_if s e b d true p q same h k = let at : b ≡ d = grind (arith, nat_tests) 
 pair_if s e b d false p q same h k = k
 
 and-swap : (b c : Bool) → (b && c) ≡ (c && b)
-and-swap true true = refl
-and-swap true false = refl
-and-swap false true = refl
-and-swap false false = refl
+and-swap b c = search arith
 
 pub pair_set : (s : OneKernel) (e : MsgId → ℕ) (f : ℕ → ℕ → Pair) (a b : ℕ) (p : Pair) → all_stand s e b (untaken p) ≡ true → ((c d : ℕ) → all_stand s e d (untaken (f c d)) ≡ true) → (c d : ℕ) → all_stand s e d (untaken (at_pair f a b p c d)) ≡ true
 pair_set s e f a b p h k c d =
     ap (λ (x : Bool). all_stand s e d (untaken (if x then p else f c d))) (and-swap (a == c) (b == d))
-    ∙ elim (cases_Bool (b == d)) [
-      | inl same ↦ ap (λ (x : Bool). all_stand s e d (untaken (if x && (a == c) then p else f c d))) same ∙ pair_if s e b d (a == c) p (f c d) same h (k c d)
-      | inr apart ↦ ap (λ (x : Bool). all_stand s e d (untaken (if x && (a == c) then p else f c d))) apart ∙ k c d
-    ]
+    ∙ (search (arith, pair_if))
 
 -- a message is routed
 routed_stands : (s : OneKernel) (e : MsgId → ℕ) (a b : ℕ) (p : Pair) (id : MsgId) (c : Bool) → stands s e b id ≡ true → all_stand s e b (untaken p) ≡ true → all_stand s e b (drop (if c then p.taken + 1 else p.taken) (p.ids ++ id ∷ [])) ≡ true
-routed_stands s e a b p id true at h =
-    let next : suc p.taken ≡ p.taken + 1 = omega arith in
-    ap (λ (n : ℕ). all_stand s e b (drop n (p.ids ++ id ∷ []))) (sym next) ∙ drop_one s e b p.taken (p.ids ++ id ∷ []) (drop_last s e b p.taken p.ids id h at)
+routed_stands s e a b p id true at h = search (arith, drop_one, drop_last)
 routed_stands s e a b p id false at h = drop_last s e b p.taken p.ids id h at
 
 inbox_if : (s : OneKernel) (e : MsgId → ℕ) (f g : ℕ → List MsgId) (c : Bool) → ((n : ℕ) → all_stand s e n (f n) ≡ true) → ((n : ℕ) → all_stand s e n (g n) ≡ true) → (n : ℕ) → all_stand s e n ((if c then f else g) n) ≡ true
@@ -185,11 +132,7 @@ inbox_if s e f g true h k n = h n
 inbox_if s e f g false h k n = k n
 
 pub put_lists : (s : OneKernel) (e : MsgId → ℕ) (v : View) (a b : ℕ) (id : MsgId) (k : MessageKind) (q : Pid) → stands s e b id ≡ true → ListsHome s e v → ListsHome s e (after_put v a b id k q)
-put_lists s e v a b id k q at h = record {
-  inbox = inbox_if s e (at_machine v.inbox b (v.inbox b ++ id ∷ [])) v.inbox (a == b) (inbox_set s e v.inbox b (v.inbox b ++ id ∷ []) (all_stand_last s e b (v.inbox b) id (h.inbox b) at) h.inbox) h.inbox;
-  queue = h.queue;
-  untaken = pair_set s e v.pair a b (routed_on a b (v.pair a b) id) (routed_stands s e a b (v.pair a b) id (a == b) at (h.untaken a b)) h.untaken;
-}
+put_lists s e v a b id k q at h = search (arith, inbox_if, inbox_set, all_stand_last, pair_set, routed_stands)
 
 -- a message is taken
 taken_with : (s : OneKernel) (e : MsgId → ℕ) (v : View) (b : ℕ) (o : Option MsgId) → ((i : MsgId) → o ≡ Some i → stands s e b i ≡ true) → ListsHome s e v → ListsHome s e (taken_id v b o)
@@ -199,10 +142,4 @@ taken_with s e v b (Some id) at h = record { inbox = inbox_set s e v.inbox b (v.
 pub taken_lists : (s : OneKernel) (e : MsgId → ℕ) (v : View) (a b n : ℕ) → ListsHome s e v → ListsHome s e (after_taken v a b n)
 taken_lists s e v a b n h =
     let p = v.pair a b in
-    let r : Pair = record p { taken = p.taken + 1; kept = filter (λ k. not (k == n)) p.kept } in
-    taken_with s e (view.with_pair v a b r) b (oldest p) (λ i there. drop_first s e b p.taken p.ids i there (h.untaken a b))
-    (record {
-      inbox = h.inbox;
-      queue = h.queue;
-      untaken = pair_set s e v.pair a b r (let next : suc p.taken ≡ p.taken + 1 = omega arith in ap (λ (i : ℕ). all_stand s e b (drop i p.ids)) (sym next) ∙ drop_one s e b p.taken p.ids (h.untaken a b)) h.untaken;
-    })
+    search (arith, taken_with, drop_first, pair_set, drop_one)

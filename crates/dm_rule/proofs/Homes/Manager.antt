@@ -3,16 +3,16 @@ use Rattle.dm_rule.proofs.Names.{◌≡◌, ℕ, zero, suc, ◌+◌, ◌==◌, �
 use Rattle.dm_rule.proofs.Names.{pid_eq, PlainLink, MsgId, id_eq, id_of, Label, PlainMessage, PlainWhat, bind, OneKernel, without_message, id_eq-same, bind-is, View, Addresses, Gets, gets, given, gives, Receiver, Sender, Enclosed, unmoved}
 use Rattle.dm_rule.proofs.Names.{pid_of, ◌*◌, Pending, Manager, switchboard, manager, Child, Name, Answer, encloses, enclosed_from, board_takes_burden, manager_sends, manager_answers, manager_takes_burden, links_in, ascends, AskedBy}
 use Rattle.dm_rule.proofs.Names.{Outcome, code_of_outcome, PendingKind, burden_of}
-use Rattle.dm_onekernel.specs.Step as kernel
-use Rattle.dm_rule.specs.Addresses as addresses
-use Rattle.dm_onekernel.specs.Service as service
-use Rattle.dm_onekernel.specs.Switchboard as board
-use Rattle.dm_onekernel.specs.Manager as manage
 use Rattle.dm_rule.proofs.Homes.{place_as, pid_as, acts_at, AtHome}
 use Rattle.dm_rule.proofs.Homes.Rows.{SameProcess, SameMessage, sent_home, at_home_out, process_same, message_same, encloses_servers, encloses_process, encloses_message, encloses_at}
 use Rattle.dm_rule.proofs.Homes.Serves.{two, two_sends, Named, ReceivedAt}
 use Rattle.dm_rule.proofs.Homes.Servers.{get_last, ascends_more, ascends_last, ascends_without, numbered_from, pending_last, still_pending, board_row}
 use Rattle.dm_rule.proofs.Requests.{by_test}
+use Rattle.dm_onekernel.specs.Step as kernel
+use Rattle.dm_rule.specs.Addresses as addresses
+use Rattle.dm_onekernel.specs.Service as service
+use Rattle.dm_onekernel.specs.Switchboard as board
+use Rattle.dm_onekernel.specs.Manager as manage
 
 abbrev TookAt : (Pid → Place → Type 0) → OneKernel → View → Addresses → MsgId → MsgId → ℕ → manage.ManagerTook → Type 0
 TookAt P s v a id mid code k = AtHome P (service.manager_took s id k) (given a (manager_sends v a mid code k.message))
@@ -41,8 +41,7 @@ enclosed_at a id n (l ∷ ls) (suc k) w e = let f : (n + 1) + k ≡ n + suc k = 
 
 -- the first link of a message, which is kept with a request
 first_home : (P : Pid → Place → Type 0) (a : Addresses) (mid : MsgId) (links : List PlainLink) (w : PlainLink) → LinksHome P a mid links → manage.first_link links ≡ Some w → P w.to (a (Enclosed mid 0))
-first_home P a mid [] w en e = cc
-first_home P a mid (l ∷ ls) w en e = en 0 w e
+first_home P a mid links w h1 h2 = search arith
 
 -- the links that are kept, once one more request is pending
 asked_answers : (P : Pid → Place → Type 0) (s : OneKernel) (a c : Addresses) (z : Pending) (pl : Place) → ((k : ℕ) → c (Answer k) ≡ a (Answer k)) → z.n ≡ s.manager.sent → ((l : PlainLink) → z.answer ≡ Some l → P l.to pl) → AtHome P s a
@@ -73,11 +72,7 @@ asks_for_home P s v a id mid code machine image l ls en at h =
     record {
       processes = λ q x e. process_same P a b q x (let w = encloses_process a sent 0 ps q in record { slot = w.slot; owner = w.owner }) (h.processes q x e);
       messages = sent_home P t a b m u.messages
-          (λ i e. let w = encloses_message a sent 0 ps i e in record {
-            receiver = ap (λ (d : Bool). if d then to else c (Receiver i)) e ∙ w.receiver;
-            sender = ap (λ (d : Bool). if d then from else c (Sender i)) e ∙ w.sender;
-            enclosed = w.enclosed;
-          })
+          (λ i e. let w = encloses_message a sent 0 ps i e in (search arith))
           (record {
             receiver = place_as P (ap (λ (d : Bool). if d then to else c (Receiver sent)) (id_eq-same sent)) (h.rooted (pid_of machine 0));
             sender = place_as P (ap (λ (d : Bool). if d then from else c (Sender sent)) (id_eq-same sent)) (acts_at P manager v.acting (h.rooted manager) at);
@@ -173,11 +168,7 @@ user_home P s v a id mid code body links en at h =
 -- an answer about a child
 enclosed_one : (P : Pid → Place → Type 0) (a : Addresses) (sent : MsgId) (pl : Place) (ls : List PlainLink) → ((k : ℕ) (w : PlainLink) → slice_get ls k ≡ Some w → (k ≡ 0) × (P w.to pl)) → (k : ℕ) (w : PlainLink) → slice_get ls k ≡ Some w
     → P w.to (given a (gets (Enclosed sent 0) pl ∷ []) (Enclosed sent k))
-enclosed_one P a sent pl ls h k w e =
-    let f = h k w e in
-    let zero_is = f.0 in
-    let same : (id_eq sent sent && (0 == k)) ≡ true = let g = id_eq-same sent in grind (arith, nat_tests) in
-    place_as P (ap (λ (c : Bool). if c then pl else a (Enclosed sent k)) same) f.1
+enclosed_one P a sent pl ls h k w e = search (arith, id_eq-same, place_as)
 
 -- the manager goes on as g, and answers over the link of a request
 answers_home : (P : Pid → Place → Type 0) (s : OneKernel) (v : View) (a c : Addresses) (id : MsgId) (n : ℕ) (r : Pending) (g : Manager) (byte : ℕ) (ls : List PlainLink) (o : Option PlainLink) → r.answer ≡ o
@@ -209,11 +200,7 @@ answers_home P s v a c id n r g byte ls (Some over) is there at h one count pend
     record {
       processes = λ q x e. process_same P a b q x (let w = process q in record { slot = w.slot; owner = w.owner }) (h.processes q x e);
       messages = sent_home P t a b m u.messages
-          (λ i e. let w = message i in record {
-            receiver = ap (λ (d : Bool). if d then to else c (Receiver i)) e ∙ w.receiver;
-            sender = ap (λ (d : Bool). if d then from else c (Sender i)) e ∙ w.sender;
-            enclosed = λ k. ap (λ (d : Bool). if d && (0 == k) then from else c (Enclosed i k)) e ∙ w.enclosed k;
-          })
+          (λ i e. let w = message i in (search arith))
           (record {
             receiver = place_as P (ap (λ (d : Bool). if d then to else c (Receiver sent)) (id_eq-same sent)) (h.answers n r over there is);
             sender = place_as P (ap (λ (d : Bool). if d then from else c (Sender sent)) (id_eq-same sent)) (acts_at P manager v.acting (h.rooted manager) at);
@@ -230,17 +217,7 @@ answers_home P s v a c id n r g byte ls (Some over) is there at h one count pend
 
 child_last : (P : Pid → Place → Type 0) (ps : List Pid) (child : Pid) (n : ℕ) (q : Pid) (a : Addresses) → P child (unmoved child.home) → ((k : ℕ) (w : Pid) → manage.child_numbered ps k ≡ Some w → P w (a (Child k))) → manage.child_numbered (ps ++ child ∷ []) n ≡ Some q
     → P q (given a (gets (Child (length ps + 1)) (unmoved child.home) ∷ []) (Child n))
-child_last P ps child zero q a own h e = cc
-child_last P ps child (suc n) q a own h e = elim (get_last ps child n q e) [
-  | inl g ↦
-      let f = g.0 in
-      let same : ((length ps + 1) == suc n) ≡ true = grind (arith, nat_tests) in
-      place_as P (ap (λ (c : Bool). if c then unmoved child.home else a (Child (suc n))) same) (pid_as P g.1 own)
-  | inr g ↦
-      let f = g.0 in
-      let apart : ((length ps + 1) == suc n) ≡ false = grind (arith, nat_tests) in
-      place_as P (ap (λ (c : Bool). if c then unmoved child.home else a (Child (suc n))) apart) (h (suc n) q g.1)
-]
+child_last P ps child n q a h1 h2 h3 = search (arith, get_last, place_as, pid_as)
 
 one_link : (P : Pid → Place → Type 0) (place : Place) (l : PlainLink) → P l.to place → (k : ℕ) (w : PlainLink) → slice_get (l ∷ []) k ≡ Some w → (k ≡ 0) × (P w.to place)
 one_link P place l at zero w e = let f : l ≡ w = cc in (refl, pid_as P (ap (λ (u : PlainLink). u.to) f) at)

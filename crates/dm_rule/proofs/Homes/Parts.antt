@@ -1,6 +1,6 @@
 -- The parts of a group keep all of it.
 use Rattle.dm_rule.proofs.Names.{◌≡◌, ℕ, ◌+◌, ◌==◌, List, [], ◌∷◌, refl, ap, ◌∙◌, sym, subst, ⊤, Option, None, Some, MsgId, Label, OneKernel, bind, bind-is, Line, View, Pair, Point, after, moved, Part, Says, Routes, Again, Owns, Transmits}
-use Rattle.dm_rule.proofs.Names.{Spelled, behind, spelled, lines_of, packet_line, not, filter}
+use Rattle.dm_rule.proofs.Names.{Spelled, behind, spelled, lines_of, packet_line, not, filter, arith}
 use Rattle.dm_rule.specs.View as view
 use Rattle.dm_rule.proofs.Homes.Labels.{SaidAt, RingsHome, rings_same}
 use Rattle.dm_rule.proofs.Homes.Lists.{taken_lists}
@@ -20,15 +20,7 @@ SaidAnywhere m (Label.Dropped id) = ⊤
 SaidAnywhere m _ = ⊥
 
 pub said_at : (s : OneKernel) (m : ℕ) (l : Label) → SaidAnywhere m l → SaidAt s m l
-said_at s m (Label.Dropped id) h = tt
-said_at s m (Label.Served id) h = absurd h
-said_at s m (Label.Gone id) h = absurd h
-said_at s m (Label.Took id) h = absurd h
-said_at s m (Label.Created id child) h = absurd h
-said_at s m (Label.NoSpace id f b) h = absurd h
-said_at s m (Label.Asked id) h = absurd h
-said_at s m (Label.Answered id o) h = absurd h
-said_at s m _ h = h
+said_at s m l h1 = search arith
 
 -- lines that may stand anywhere in a group
 abbrev pub LineAnywhere : ℕ → Line → Type 0
@@ -82,12 +74,7 @@ line_keeps none r e pt pt' (Line.Taken a b n) at h is =
     let p = pt.view.pair a b in
     let q : Pair = record p { taken = p.taken + 1; kept = filter (λ k. not (k == n)) p.kept } in
     let w = view.with_pair pt.view a b q in
-    subst (Kept pt.view.acting) f (record {
-      r = r;
-      e = e;
-      home = record { sound = h.sound; at = h.at; rings = rings_taken w b (view.oldest p) (rings_same pt.view w refl refl refl h.rings); lists = taken_lists pt.kernel e pt.view a b n h.lists };
-      acting = acting_taken w b (view.oldest p);
-    })
+    subst (Kept pt.view.acting) f ((search (arith, rings_taken, rings_same, taken_lists, acting_taken)))
 line_keeps none r e pt pt' (Line.Early a b n) at h is =
     let f : moved pt (Line.Early a b n) pt.kernel ≡ pt' = cc in
     let p = pt.view.pair a b in

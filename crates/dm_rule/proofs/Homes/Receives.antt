@@ -3,12 +3,12 @@ use Rattle.dm_rule.proofs.Names.{◌≡◌, ℕ, zero, suc, ◌+◌, ◌==◌, �
 use Rattle.dm_rule.proofs.Names.{Option, None, Some, cases_Bool, false≢true, nat_tests, Pid, Place, pid_eq, PlainLink, first_empty, link_at, MsgId, Label, PlainMessage, PlainWhat, on_mask, Regs, Reply, reply_eq, reply_code, bind}
 use Rattle.dm_rule.proofs.Names.{PlainProcess, PlainStatus, Ready, Waiting, setting, Alive, OneKernel, first_failed, without_message, pid_eq-same, bind-is, when-is, View, Addresses, Gets, given, gives, Slot, Enclosed, fills, receives_links}
 use Rattle.dm_rule.proofs.Names.{receives_burden, slot_after, links_in, at_hand-is, burden_of}
-use Rattle.dm_onekernel.specs.Receiving as receiving
-use Rattle.dm_onekernel.specs.Step as kernel
-use Rattle.dm_rule.specs.Addresses as addresses
 use Rattle.dm_rule.proofs.Homes.{place_as, pid_as, HomeProcess, AtHome}
 use Rattle.dm_rule.proofs.Homes.Rows.{at_home_process, at_home_out, home_goes, alive_on}
 use Rattle.dm_rule.proofs.Homes.Steps.{OnlySlots, only_none}
+use Rattle.dm_onekernel.specs.Receiving as receiving
+use Rattle.dm_onekernel.specs.Step as kernel
+use Rattle.dm_rule.specs.Addresses as addresses
 
 -- the lowest empty slot is one, and it is empty
 pub set_at : {L : Type 0} (slots : List (Option L)) (k : ℕ) (y : Option L) → nat_lt k (length slots) ≡ true → link_at (slice_set slots k y) k ≡ y
@@ -34,23 +34,14 @@ pub record IsEmptySlot {L : Type 0} (slots : List (Option L)) (k : ℕ) : Type 0
   pub empty : link_at slots k ≡ None
 
 empty_if : {L : Type 0} (slots : List (Option L)) (n k : ℕ) (b : Bool) → nat_lt n (length slots) ≡ b → link_at slots n ≡ None → cond b (Some n) None ≡ Some k → IsEmptySlot slots k
-empty_if slots n k true within empty e =
-    let f : n ≡ k = cc in
-    record { within = sym (ap (λ (i : ℕ). nat_lt i (length slots)) f) ∙ within; empty = sym (ap (λ (i : ℕ). link_at slots i) f) ∙ empty }
-empty_if slots n k false within empty e = cc
+empty_if slots n k b h1 h2 h3 = search arith
 
 pub is_empty : {L : Type 0} (slots : List (Option L)) (k : ℕ) → first_empty slots ≡ Some k → IsEmptySlot slots k
 is_empty slots k e = empty_if slots (position_or_len is_none slots) k (nat_lt (position_or_len is_none slots) (length slots)) refl (empty_at slots) e
 
 -- a link that stands in a slot stays while others are placed
 stays_step : (t : receiving.RegsAndLinks) (r : ℕ) (l : PlainLink) (j : ℕ) (w : PlainLink) (o : Option ℕ) → first_empty t.links ≡ o → link_at t.links j ≡ Some w → link_at (receiving.place_into t r l o).links j ≡ Some w
-stays_step t r l j w None is e = e
-stays_step t r l j w (Some slot) is e = elim (cases_Bool (slot == j)) [
-  | inl same ↦
-      let f : slot ≡ j = grind (arith, nat_tests) in
-      absurd (let g : None ≡ Some w = sym (is_empty t.links slot is).empty ∙ ap (λ (i : ℕ). link_at t.links i) f ∙ e in cc)
-  | inr apart ↦ set_off t.links slot j (Some l) apart ∙ e
-]
+stays_step t r l j w o h1 h2 = search (arith, is_empty, set_off)
 
 stays : (ls : List PlainLink) (t : receiving.RegsAndLinks) (r : ℕ) (j : ℕ) (w : PlainLink) → link_at t.links j ≡ Some w → link_at (receiving.place_links t r ls).links j ≡ Some w
 stays [] t r j w e = e
@@ -189,9 +180,7 @@ receive_home P s t v a p id is h =
     receive_row P s t v a p id d (completing_home P s a p id d h c) rest h
 
 refuse_row : (P : Pid → Place → Type 0) (s t : OneKernel) (a : Addresses) (p : Pid) (id : MsgId) (c : Reply) (d : receiving.Completed) → Completing P s a p id d → kernel.refuses s p c d ≡ Some t → AtHome P s a → AtHome P t a
-refuse_row P s t a p id c (receiving.Receives y) w e h = cc
-refuse_row P s t a p id c (receiving.Refuses r y) w e h =
-    let k = when-is (reply_eq c r) (kernel.goes_on s p y) t e in subst (λ (u : OneKernel). AtHome P u a) k.1 (home_goes P s a p y h w.home)
+refuse_row P s t a p id c d h1 h2 h3 = search (arith, when-is, home_goes)
 
 pub refuse_home : (P : Pid → Place → Type 0) (s t : OneKernel) (a : Addresses) (p : Pid) (id : MsgId) (c : Reply) → kernel.step s (Label.Refuse p id c) ≡ Some t → AtHome P s a → AtHome P t a
 refuse_home P s t a p id c is h =

@@ -76,9 +76,7 @@ at_home_out P s a id h = record {
 }
 
 pub at_home_goes : (P : Pid → Place → Type 0) (s : OneKernel) (a : Addresses) (p : Pid) (life : Life) → AtHome P s a → ((y : PlainProcess) → kernel.alive (Some life) ≡ Some y → HomeProcess P a p y) → AtHome P (with_process s p life) a
-at_home_goes P s a p life h on =
-    at_home_process P s a a p life h (λ q e. record { slot = λ k. refl; owner = refl }) on (λ i. record { receiver = refl; sender = refl; enclosed = λ k. refl })
-    (record { child = λ n. refl; name = λ n. refl; answer = λ n. refl; asked = λ q. refl })
+at_home_goes P s a p life h on = search (arith, at_home_process)
 
 pub alive_on : (P : Pid → Place → Type 0) (a : Addresses) (p : Pid) (x : PlainProcess) → HomeProcess P a p x → (y : PlainProcess) → kernel.alive (Some (Alive x)) ≡ Some y → HomeProcess P a p y
 alive_on P a p x h y e = let f : x ≡ y = cc in subst (HomeProcess P a p) f h
@@ -93,8 +91,7 @@ running_home_if P a p y true x h e = cc
 running_home_if P a p y false x h e = let f : y ≡ x = cc in subst (HomeProcess P a p) f h
 
 running_home_of : (P : Pid → Place → Type 0) (a : Addresses) (p : Pid) (y : PlainProcess) (st : PlainStatus) (x : PlainProcess) → HomeProcess P a p y → kernel.if_ready y st ≡ Some x → HomeProcess P a p x
-running_home_of P a p y Ready x h e = running_home_if P a p y y.stopped x h e
-running_home_of P a p y _ x h e = cc
+running_home_of P a p y st x h1 h2 = search (arith, running_home_if)
 
 pub running_home : (P : Pid → Place → Type 0) (s : OneKernel) (a : Addresses) (p : Pid) (x : PlainProcess) → AtHome P s a → kernel.running s p ≡ Some x → HomeProcess P a p x
 running_home P s a p x h e =

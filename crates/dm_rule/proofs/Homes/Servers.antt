@@ -2,13 +2,13 @@
 use Rattle.dm_rule.proofs.Names.{◌≡◌, ℕ, zero, suc, ◌+◌, ◌==◌, ◌&&◌, Bool, true, false, List, [], ◌∷◌, ◌++◌, refl, ap, ◌∙◌, sym, subst, ◌⊎◌, inl, inr, arith, nat_lt, nat_le, length, if◌then◌else◌, slice_get, Option, None, Some, cases_Bool}
 use Rattle.dm_rule.proofs.Names.{nat_tests, Pid, Place, PlainLink, MsgId, id_eq, id_of, PlainMessage, PlainWhat, bind, OneKernel, without_message, id_eq-same, View, Addresses, gets, given, Receiver, Sender, Enclosed, unmoved, NamedLink}
 use Rattle.dm_rule.proofs.Names.{Pending, switchboard, is_general, Child, Name, Answer, AskedBy, place_named, board_finds, board_keeps, board_takes_burden, links_in, ascends, burden_of}
-use Rattle.dm_onekernel.specs.Service as service
-use Rattle.dm_onekernel.specs.Switchboard as board
-use Rattle.dm_onekernel.specs.Manager as manage
 use Rattle.dm_rule.proofs.Homes.{place_as, pid_as, acts_at, AtHome}
 use Rattle.dm_rule.proofs.Homes.Rows.{SameProcess, SameMessage, sent_home, at_home_out, process_same}
 use Rattle.dm_rule.proofs.Homes.Serves.{two, two_off}
 use Rattle.dm_rule.proofs.Requests.{by_test}
+use Rattle.dm_onekernel.specs.Service as service
+use Rattle.dm_onekernel.specs.Switchboard as board
+use Rattle.dm_onekernel.specs.Manager as manage
 
 -- a list with one more at its end
 pub get_last : {A : Type 0} (xs : List A) (y : A) (n : ℕ) (q : A) → slice_get (xs ++ y ∷ []) n ≡ Some q → (((length xs == n) ≡ true) × (y ≡ q)) ⊎ (((length xs == n) ≡ false) × (slice_get xs n ≡ Some q))
@@ -134,15 +134,7 @@ abbrev AsksHome : (Pid → Place → Type 0) → Addresses → MsgId → MsgId �
 AsksHome P a id sent names body k = AskedHome P a (given a (board_finds a sent names body k.answer ++ board_keeps a id names k.answer)) sent k
 
 plain_asked : (P : Pid → Place → Type 0) (a : Addresses) (sent : MsgId) (names : List NamedLink) (k : board.Answer) → board.links_of_answer k ≡ [] → NamesHome P a names → AskedHome P a a sent (record { names = names; answer = k })
-plain_asked P a sent names k none h = record {
-  named = h;
-  enclosed = λ n l e. absurd (let f : None ≡ Some l = ap (λ (ls : List PlainLink). slice_get ls n) (sym none) ∙ e in cc);
-  process = λ q. record { slot = λ n. refl; owner = refl };
-  message = λ i e. record { receiver = refl; sender = refl; enclosed = λ n. refl };
-  child = λ n. refl;
-  answer = λ n. refl;
-  asked = λ q. refl;
-}
+plain_asked P a sent names k none h = search arith
 
 pub record FoundAt (name : List ℕ) (names : List NamedLink) (n : ℕ) (l : PlainLink) : Type 0 where
   pub i : ℕ
@@ -165,45 +157,18 @@ found_at name (k ∷ ks) n l e = elim (cases_Bool (board.bytes_eq k.name name)) 
 ]
 
 found_one : (P : Pid → Place → Type 0) (a : Addresses) (sent : MsgId) (pl : Place) (l : PlainLink) → P l.to pl → (n : ℕ) (w : PlainLink) → slice_get (l ∷ []) n ≡ Some w → P w.to (given a (gets (Enclosed sent 0) pl ∷ []) (Enclosed sent n))
-found_one P a sent pl l at zero w e =
-    let f : l ≡ w = cc in
-    let same : (id_eq sent sent && (0 == 0)) ≡ true = let g = id_eq-same sent in grind (arith, nat_tests) in
-    place_as P (ap (λ (c : Bool). if c then pl else a (Enclosed sent 0)) same) (pid_as P (ap (λ (k : PlainLink). k.to) f) at)
-found_one P a sent pl l at (suc n) w e = absurd (let f : None ≡ Some w = e in cc)
+found_one P a sent pl l h1 n w h2 = search (arith, id_eq-same, place_as, pid_as)
 
 looks_up_home : (P : Pid → Place → Type 0) (a : Addresses) (id sent : MsgId) (names : List NamedLink) (op : ℕ) (name : List ℕ) (o : Option PlainLink) → board.link_named name names ≡ o → NamesHome P a names
     → AsksHome P a id sent names (op ∷ name) (record { names = names; answer = board.found_or_unknown o })
 looks_up_home P a id sent names op name None is h = plain_asked P a sent names board.Unknown refl h
 looks_up_home P a id sent names op name (Some l) is h =
     let f = found_at name names 0 l is in
-    let place : place_named name names 0 ≡ f.i = let p = f.place in omega (arith, p) in
-    let at : P l.to (a (Name (place_named name names 0))) = place_as P (ap (λ (n : ℕ). a (Name n)) place) (pid_as P (ap (λ (w : PlainLink). w.to) f.link) (h f.i f.k f.there)) in
-    let pl = a (Name (place_named name names 0)) in
-    record {
-      named = h;
-      enclosed = λ n w e. found_one P a sent pl l at n w e;
-      process = λ q. record { slot = λ n. refl; owner = refl };
-      message = λ i e. record { receiver = refl; sender = refl; enclosed = λ n. ap (λ (c : Bool). if c && (0 == n) then pl else a (Enclosed i n)) e };
-      child = λ n. refl;
-      answer = λ n. refl;
-      asked = λ q. refl;
-    }
+    search (arith, place_as, pid_as, found_one)
 
 registers_home : (P : Pid → Place → Type 0) (a : Addresses) (id sent : MsgId) (names : List NamedLink) (op : ℕ) (name : List ℕ) (l : PlainLink) (o : Option PlainLink) → P l.to (a (Enclosed id 1)) → NamesHome P a names
     → AsksHome P a id sent names (op ∷ name) (board.registers_new names name l o)
-registers_home P a id sent names op name l (Some k) at h = plain_asked P a sent names board.Taken refl h
-registers_home P a id sent names op name l None at h = record {
-  named = λ n w e. elim (get_last names (record { name = name; link = l }) n w e) [
-    | inl g ↦ place_as P (ap (λ (c : Bool). if c then a (Enclosed id 1) else a (Name n)) g.0) (pid_as P (ap (λ (k : NamedLink). k.link.to) g.1) at)
-    | inr g ↦ place_as P (ap (λ (c : Bool). if c then a (Enclosed id 1) else a (Name n)) g.0) (h n w g.1)
-  ];
-  enclosed = λ n w e. absurd (let f : None ≡ Some w = e in cc);
-  process = λ q. record { slot = λ n. refl; owner = refl };
-  message = λ i e. record { receiver = refl; sender = refl; enclosed = λ n. refl };
-  child = λ n. refl;
-  answer = λ n. refl;
-  asked = λ q. refl;
-}
+registers_home P a id sent names op name l o h1 h2 = search (arith, plain_asked, get_last, place_as, pid_as)
 
 to_register : (P : Pid → Place → Type 0) (a : Addresses) (id sent : MsgId) (names : List NamedLink) (op : ℕ) (name : List ℕ) (ls : List PlainLink) → ((n : ℕ) (w : PlainLink) → slice_get ls n ≡ Some w → P w.to (a (Enclosed id (suc n)))) → NamesHome P a names
     → AsksHome P a id sent names (op ∷ name) (board.asks_to_register names name ls)
@@ -246,11 +211,7 @@ board_request P s v a id code channel body (l ∷ ls) en at h =
       processes = λ q x e. process_same P a (given b (two sent to from)) q x (let w = k.process q in record { slot = w.slot; owner = w.owner }) (h.processes q x e);
       messages = sent_home P t a (given b (two sent to from)) m u.messages
           (λ i e. let w = k.message i e in let z = two_off b sent to from i e in record { receiver = z.receiver ∙ w.receiver; sender = z.sender ∙ w.sender; enclosed = w.enclosed })
-          (record {
-            receiver = place_as P (ap (λ (c : Bool). if c then to else b (Receiver sent)) (id_eq-same sent)) (en 0 l refl);
-            sender = place_as P (ap (λ (c : Bool). if c then from else b (Sender sent)) (id_eq-same sent)) (acts_at P switchboard v.acting (h.rooted switchboard) at);
-            enclosed = k.enclosed;
-          });
+          ((search (arith, place_as, id_eq-same, acts_at)));
       children = λ n q e. place_as P (k.child n) (h.children n q e);
       named = k.named;
       answers = λ n r l e f. place_as P (k.answer n) (h.answers n r l e f);

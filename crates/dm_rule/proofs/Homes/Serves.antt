@@ -5,15 +5,15 @@ use Rattle.dm_rule.proofs.Names.{id_eq-same, bind-is, when-is, View, Addresses, 
 use Rattle.dm_rule.proofs.Names.{first_number, answer_id, answer_to, begun, pid_of, answer_gets, serves_burden, landing_gets, child_links, links_in, at_hand-is, AskedBy, MoveNote, Outcome, with_note, without_note, cases_Bool, inl, inr}
 use Rattle.dm_rule.proofs.Names.{ends_move-is, burden_of, option_map_or}
 use Rattle.dm_onekernel.specs.Kernel.{Ended}
+use Rattle.dm_rule.proofs.Homes.{place_as, pid_as, acts_at, HomeProcess, HomeMessage, AtHome}
+use Rattle.dm_rule.proofs.Homes.Rows.{SameProcess, SameMessage, SameServers, sent_home, at_home_process, at_home_out, home_goes, alive_on, message_same, process_same}
+use Rattle.dm_rule.proofs.Homes.Steps.{OnlySlots, only_none, at_home_ended}
+use Rattle.dm_rule.proofs.Requests.{by_test}
 use Rattle.dm_onekernel.specs.Step as kernel
 use Rattle.dm_rule.specs.Given as giving
 use Rattle.dm_rule.specs.Addresses as addresses
 use Rattle.dm_onekernel.specs.Pieces as pieces
 use Rattle.dm_onekernel.specs.Service as service
-use Rattle.dm_rule.proofs.Homes.{place_as, pid_as, acts_at, HomeProcess, HomeMessage, AtHome}
-use Rattle.dm_rule.proofs.Homes.Rows.{SameProcess, SameMessage, SameServers, sent_home, at_home_process, at_home_out, home_goes, alive_on, message_same, process_same}
-use Rattle.dm_rule.proofs.Homes.Steps.{OnlySlots, only_none, at_home_ended}
-use Rattle.dm_rule.proofs.Requests.{by_test}
 
 -- the receiver and the sender of a new message get places
 abbrev pub two : MsgId → Place → Place → List Gets
@@ -26,21 +26,13 @@ pub two_servers : (a : Addresses) (i : MsgId) (to from : Place) → SameServers 
 two_servers a i to from = record { child = λ n. refl; name = λ n. refl; answer = λ n. refl; asked = λ q. refl }
 
 pub two_off : (a : Addresses) (i : MsgId) (to from : Place) (j : MsgId) → id_eq i j ≡ false → SameMessage a (given a (two i to from)) j
-two_off a i to from j e = record {
-  receiver = ap (λ (c : Bool). if c then to else a (Receiver j)) e;
-  sender = ap (λ (c : Bool). if c then from else a (Sender j)) e;
-  enclosed = λ k. refl;
-}
+two_off a i to from j e = search arith
 
 -- a message without links comes, and a process goes on or not
 pub two_sends : (P : Pid → Place → Type 0) (s : OneKernel) (a : Addresses) (m : PlainMessage) (to from : Place) → AtHome P s a → links_in m.what ≡ [] → P m.to to → P m.sender from → AtHome P (with_sent s (Some m)) (given a (two m.id to from))
 two_sends P s a m to from h none e f = record {
   processes = λ q x alive. process_same P a (given a (two m.id to from)) q x (two_process a m.id to from q) (h.processes q x alive);
-  messages = sent_home P s a (given a (two m.id to from)) m h.messages (two_off a m.id to from) (record {
-    receiver = place_as P (ap (λ (c : Bool). if c then to else a (Receiver m.id)) (id_eq-same m.id)) e;
-    sender = place_as P (ap (λ (c : Bool). if c then from else a (Sender m.id)) (id_eq-same m.id)) f;
-    enclosed = λ k l there. absurd (let g : None ≡ Some l = ap (λ (ls : List PlainLink). slice_get ls k) (sym none) ∙ there in cc);
-  });
+  messages = sent_home P s a (given a (two m.id to from)) m h.messages (two_off a m.id to from) ((search (arith, place_as, id_eq-same)));
   children = h.children;
   named = h.named;
   answers = h.answers;
@@ -81,10 +73,7 @@ EndedAt P s v a id = (m : PlainMessage) → s.bag id ≡ Some m → P m.to (reco
 
 -- gone
 gone_links : (v w : PlainWhat) → service.gone_what v ≡ Some w → links_in w ≡ []
-gone_links (PlainWhat.Read x1 x2) w e = let f : PlainWhat.Gone ≡ w = cc in sym (ap links_in f)
-gone_links (PlainWhat.Write x1 x2) w e = let f : PlainWhat.Gone ≡ w = cc in sym (ap links_in f)
-gone_links (PlainWhat.Move x1) w e = let f : PlainWhat.Moved Outcome.Ended ≡ w = cc in sym (ap links_in f)
-gone_links _ w e = cc
+gone_links v w h1 = search arith
 
 pub gone_home : (P : Pid → Place → Type 0) (s t : OneKernel) (v : View) (a : Addresses) (id : MsgId) → kernel.step s (Label.Gone id) ≡ Some t → Named s → EndedAt P s v a id → AtHome P s a → AtHome P t (given a (gives s v a (Label.Gone id)))
 gone_home P s t v a id is named at h =
@@ -133,15 +122,7 @@ some_landed P a p false c d h e = cc
 
 lands_what_home : (P : Pid → Place → Type 0) (a : Addresses) (p : Pid) (x : PlainProcess) (dir : Direction) (owner : Pid) (base own left : ℕ) (w : PlainWhat) (d : pieces.Landed) → HomeProcess P a p x → P owner (a (Owner p))
     → pieces.lands_what p x dir owner base own left w ≡ Some d → LandedHome P a p d
-lands_what_home P a p x Direction.FromArea owner base own left (PlainWhat.Block bytes) d h at e =
-    let y = record x { memory = pieces.written_at x.memory own bytes } in
-    some_landed P a p ((length bytes == pieces.piece_of left) && nat_le (own + left) (length x.memory)) (pieces.move_goes_on p y Direction.FromArea owner base own left (pieces.piece_of left)) d
-    (goes_on_home P a p y Direction.FromArea owner base own left (pieces.piece_of left) (record { slots = h.slots; owner = h.owner }) at) e
-lands_what_home P a p x Direction.IntoArea owner base own left PlainWhat.Written d h at e =
-    some_landed P a p (nat_le (own + left) (length x.memory)) (pieces.move_goes_on p x Direction.IntoArea owner base own left (pieces.piece_of left)) d (goes_on_home P a p x Direction.IntoArea owner base own left (pieces.piece_of left) h at) e
-lands_what_home P a p x Direction.FromArea owner base own left PlainWhat.Gone d h at e = let f : pieces.done Reply.Gone x ≡ d = cc in subst (LandedHome P a p) f (done_home P a p x Reply.Gone h)
-lands_what_home P a p x Direction.IntoArea owner base own left PlainWhat.Gone d h at e = let f : pieces.done Reply.Gone x ≡ d = cc in subst (LandedHome P a p) f (done_home P a p x Reply.Gone h)
-lands_what_home P a p x _ owner base own left _ d h at e = cc
+lands_what_home P a p x dir owner base own left w d h1 h2 h3 = search (arith, some_landed, goes_on_home, done_home)
 
 if_lands_home : (P : Pid → Place → Type 0) (a : Addresses) (p : Pid) (x : PlainProcess) (b : Bool) (dir : Direction) (owner : Pid) (base own left : ℕ) (w : PlainWhat) (d : pieces.Landed) → HomeProcess P a p x → P owner (a (Owner p))
     → (if b then pieces.lands_what p x dir owner base own left w else None) ≡ Some d → LandedHome P a p d
@@ -149,9 +130,7 @@ if_lands_home P a p x true dir owner base own left w d h at e = lands_what_home 
 if_lands_home P a p x false dir owner base own left w d h at e = cc
 
 lands_home : (P : Pid → Place → Type 0) (a : Addresses) (p : Pid) (x : PlainProcess) (m : PlainMessage) (st : PlainStatus) (d : pieces.Landed) → x.status ≡ st → HomeProcess P a p x → pieces.lands p x m st ≡ Some d → LandedHome P a p d
-lands_home P a p x m (Moving dir owner base own left pending) d is h e =
-    if_lands_home P a p x (m.id.n == pending) dir owner base own left m.what d h (h.owner owner (ap owner_in is)) e
-lands_home P a p x m _ d is h e = cc
+lands_home P a p x m st d h1 h2 h3 = search (arith, if_lands_home)
 
 landed_home : (P : Pid → Place → Type 0) (s : OneKernel) (v : View) (a : Addresses) (id : MsgId) (m : PlainMessage) (c : pieces.Landed) → LandedHome P a m.to c → P m.to (acting_place v m.to) → AtHome P s a
     → AtHome P (service.landed s id m c) (given a (landing_gets v a m.to (Some c)))
@@ -197,8 +176,7 @@ gone_row P s t v a id m x what_is hx at h e =
     (subst (λ (gs : List Gets). AtHome P (service.landed s id m c) (given a gs)) (nothing_lands v a m.to c (gone_lands m.to x m x.status c what_is is)) (landed_home P s v a id m c (lands_home P a m.to x m x.status c refl hx is) at h))
 
 pub some_is : {A : Type 0} (b : Bool) (x y : A) → (if b then Some x else None) ≡ Some y → x ≡ y
-some_is true x y e = cc
-some_is false x y e = cc
+some_is b x y h1 = search arith
 
 -- a row a kind
 serve_row : (P : Pid → Place → Type 0) (s t : OneKernel) (v : View) (a : Addresses) (id : MsgId) (m : PlainMessage) (x : PlainProcess) (w : PlainWhat) → m.what ≡ w → service.serves s id m x w ≡ Some t → s.bag id ≡ Some m → m.id ≡ id → HomeProcess P a m.to x
@@ -277,12 +255,7 @@ begun_at_home P s a id m child image links h there is =
     let y = begun s.format image links in
     let o = only_child a child id links 0 in
     let hm = h.messages id m there in
-    let hy : HomeProcess P b child y = record {
-      slots = λ k l e.
-          let f = begun_link links (slots_of s.format - length links) k l e in
-          place_as P (child_at a child id links 0 k k l f (omega arith)) (hm.enclosed k l (ap (λ (ls : List PlainLink). slice_get ls k) is ∙ f));
-      owner = λ q e. absurd (let f : None ≡ Some q = e in cc);
-    } in
+    let hy : HomeProcess P b child y = (search (arith, begun_link, place_as, child_at)) in
     let u = at_home_process P (without_message s id) a b child (Alive y) (at_home_out P s a id h) o.others (alive_on P b child y hy) o.messages o.servers in
     record { processes = u.processes; messages = u.messages; children = u.children; named = u.named; answers = u.answers; askers = u.askers; rooted = u.rooted; pending = u.pending }
 
@@ -327,13 +300,7 @@ asked_row P s t a id m (PlainWhat.Move machine) is there h =
       children = u.children;
       named = u.named;
       answers = u.answers;
-      askers = λ q o e. elim (cases_Bool (pid_eq m.to q)) [
-        | inl same ↦
-            let f : Some n ≡ Some o = sym (ap (λ (c : Bool). if c then Some n else s.notes q) same) ∙ e in
-            let g : n ≡ o = cc in
-            place_as P (ap (λ (c : Bool). if c then pl else a (AskedBy q)) same) (pid_as P (ap (λ (v : MoveNote). v.asker) g) (h.messages id m there).sender)
-        | inr apart ↦ place_as P (ap (λ (c : Bool). if c then pl else a (AskedBy q)) apart) (h.askers q o (sym (ap (λ (c : Bool). if c then Some n else s.notes q) apart) ∙ e))
-      ];
+      askers = λ q o e. (search (arith, place_as, pid_as));
       rooted = u.rooted;
       pending = u.pending;
     })
@@ -356,18 +323,6 @@ answered_home P s t v a id o is at h =
     let (n, notes, last) = bind-is (s.notes p) (λ (k : MoveNote). service.ends_move s id p k o) t rest in
     let u = without_note s p id in
     let m : PlainMessage = record { id = answer_id id; to = n.asker; sender = p; what = PlainWhat.Moved o } in
-    let left : AtHome P u a = record {
-      processes = h.processes;
-      messages = h.messages;
-      children = h.children;
-      named = h.named;
-      answers = h.answers;
-      askers = λ q k e. h.askers q k (elim (cases_Bool (pid_eq p q)) [
-        | inl same ↦ absurd (let f : None ≡ Some k = sym (ap (λ (c : Bool). if c then None else s.notes q) same) ∙ e in cc)
-        | inr apart ↦ sym (ap (λ (c : Bool). if c then None else s.notes q) apart) ∙ e
-      ]);
-      rooted = h.rooted;
-      pending = h.pending;
-    } in
+    let left : AtHome P u a = search arith in
     subst (λ (w : OneKernel). AtHome P w (given a (gives s v a (Label.Answered id o)))) (ends_move-is s t id p n o last)
     (subst (λ (gs : List Gets). AtHome P (service.move_ended s id p n o) (given a gs)) (ap (giving.given_at_end v a id) (sym noted)) (two_sends P u a m (a (AskedBy p)) (acting_place v p) left refl (h.askers p n notes) (at p noted)))

@@ -32,8 +32,7 @@ without_replies_link (s ∷ ss) slots j l e =
 
 -- no instruction but a call's is a call, and a call goes past it
 past_if : (b : Bool) (w : Row) (f : _) (n : ℕ) (r q : Regs) → (w ≡ row.Calls n r → r ≡ q) → (if b then w else row.Faults f) ≡ row.Calls n r → r ≡ q
-past_if true w f n r q h e = h e
-past_if false w f n r q h e = cc
+past_if b w f n r q h1 h2 = search arith
 
 past_word : (bytes : List ℕ) (at n : ℕ) (w : Row) (r q : Regs) → (w ≡ row.Calls n r → r ≡ q) → row.word_row bytes at w ≡ row.Calls n r → r ≡ q
 past_word bytes at n w r q h e = past_if (nat_le (at + 4) (length bytes)) (if at % 4 == 0 then w else row.Faults Fault.Unaligned) Fault.OutOfRange n r q (λ f. past_if (at % 4 == 0) w Fault.Unaligned n r q h f) e
@@ -42,19 +41,10 @@ plain_no : (x : Regs) (y : List ℕ) (n : ℕ) (r q : Regs) → row.Plain x y �
 plain_no x y n r q e = cc
 
 past_effect : (o : Opcode) (regs : Regs) (m : List ℕ) (a b c n : ℕ) (r : Regs) → row.effect o regs m a b c ≡ row.Calls n r → r ≡ past regs
-past_effect Opcode.Lw regs m a b c n r e =
-    past_word m (row.register_at regs b + c) n (row.Plain (row.with_reg regs a (row.word_at m (row.register_at regs b + c))) m) r (past regs) (plain_no (row.with_reg regs a (row.word_at m (row.register_at regs b + c))) m n r (past regs)) e
-past_effect Opcode.Sw regs m a b c n r e =
-    past_word m (row.register_at regs b + c) n (row.Plain (past regs) (row.with_word m (row.register_at regs b + c) (row.register_at regs a))) r (past regs) (plain_no (past regs) (row.with_word m (row.register_at regs b + c) (row.register_at regs a)) n r (past regs)) e
-past_effect Opcode.Lb regs m a b c n r e =
-    past_if (nat_lt (row.register_at regs b + c) (length m)) (row.Plain (row.with_reg regs a (slice_index m (row.register_at regs b + c))) m) _ n r (past regs) (plain_no (row.with_reg regs a (slice_index m (row.register_at regs b + c))) m n r (past regs)) e
-past_effect Opcode.Sb regs m a b c n r e =
-    past_if (nat_lt (row.register_at regs b + c) (length m)) (row.Plain (past regs) (slice_set m (row.register_at regs b + c) (row.register_at regs a % 256))) _ n r (past regs) (plain_no (past regs) (slice_set m (row.register_at regs b + c) (row.register_at regs a % 256)) n r (past regs)) e
-past_effect _ regs m a b c n r e = cc
+past_effect o regs m a b c n r h1 = search (arith, past_word, plain_no, past_if)
 
 past_operation : (o : Option Opcode) (regs : Regs) (m : List ℕ) (a b c n : ℕ) (r : Regs) → row.operation_row o regs m a b c ≡ row.Calls n r → r ≡ past regs
-past_operation None regs m a b c n r e = cc
-past_operation (Some o) regs m a b c n r e = past_if (row.names_registers (row.register_fields o) a b c) (row.effect o regs m a b c) _ n r (past regs) (λ f. past_effect o regs m a b c n r f) e
+past_operation o regs m a b c n r h1 = grind (arith, nat_tests, past_if, past_effect)
 
 pub past_call : (regs : Regs) (m : List ℕ) (n : ℕ) (r : Regs) → instruction regs m ≡ row.Calls n r → r ≡ past regs
 unfolding instruction

@@ -3,10 +3,10 @@ use Rattle.dm_rule.proofs.Names.{◌≡◌, ℕ, zero, suc, ◌+◌, ◌-◌, �
 use Rattle.dm_rule.proofs.Names.{Option, None, Some, cases_Bool, nat_tests, Pid, Link, place_of, pid_eq, PlainLink, plain_link, link_at, BootProcess, BootImage, Boot, IsValid, switchboard, manager, processes_are_valid, starting_at}
 use Rattle.dm_rule.proofs.Names.{slots_of, PlainProcess, start, life_at, first_life, begun, slots_with, Alive, pid_eq-is, ring_at, first_point, unmoved, links_at, nth_child, first_addresses, owner_in, Homes, are_home, left_true, right_true}
 use Rattle.dm_rule.proofs.Names.{option_map_or}
+use Rattle.dm_rule.proofs.Homes.{IsHome, HomeProcess, AtHome, homes_are}
 use Rattle.dm_onekernel.specs.Boot as boot
 use Rattle.dm_onekernel.specs.Manager as manage
 use Rattle.dm_onekernel.specs.Step as kernel
-use Rattle.dm_rule.proofs.Homes.{IsHome, HomeProcess, AtHome, homes_are}
 
 -- a link of the boot file leads to a home
 named_is : (q : Pid) (ps : List BootProcess) (p : BootProcess) → boot.process_named q ps ≡ Some p → p.pid ≡ q
@@ -24,10 +24,7 @@ somewhere_by : (b : Boot) (l : Link) (c d : Bool) → pid_eq l.addr.pid switchbo
     → (if c then boot.leads_to_server l else if d then boot.leads_to_server l || boot.controls_child b l else boot.leads_to_process b l (boot.process_named l.addr.pid b.processes)) ≡ true → l.addr.at ≡ l.addr.pid.home
 somewhere_by b l true d is as_ e = grind (arith, nat_tests)
 somewhere_by b l false true is as_ e =
-    elim (cases_Bool (boot.leads_to_server l)) [
-      | inl holds ↦ grind (arith, nat_tests)
-      | inr fails ↦ let f : boot.controls_child b l ≡ true = ap (λ (v : Bool). v || boot.controls_child b l) (sym fails) ∙ e in grind (arith, nat_tests)
-    ]
+    search arith
 somewhere_by b l false false is as_ e = process_at b l (boot.process_named l.addr.pid b.processes) (named_is l.addr.pid b.processes) e
 
 link_home : (b : Boot) (l : Link) → boot.link_is_valid b l ≡ true → place_of l.addr ≡ unmoved l.addr.pid.home
@@ -67,9 +64,7 @@ links_valid : (b : Boot) (n : ℕ) (p : BootProcess) → boot.process_is_valid b
 links_valid b n p e =
     let last = boot.links_are_valid b p.links in
     let few = nat_le (length p.links) (slots_of b.format) in
-    let image = nat_lt p.image (length b.images) in
-    let number = p.pid.num == boot.first_number + n in
-    right_true few last (right_true image (few && last) (right_true number (image && (few && last)) (right_true (nat_lt p.pid.home (length b.machines)) (number && (image && (few && last))) e)))
+    search (arith, right_true)
 
 begun_home : (b : Boot) (earlier ps : List BootProcess) (q : Pid) (x : PlainProcess) → processes_are_valid b earlier ps ≡ true → links_at b.processes q ≡ links_at ps q
     → kernel.alive (life_at b ps q) ≡ Some x → HomeProcess IsHome (first_addresses b) q x
@@ -112,12 +107,4 @@ ring_home m (p ∷ ps) = (elim (p.pid.home == m) as (λ c. (p.pid.home == m) ≡
     [ true ↦ λ is. ap (λ (v : Bool). v && are_home m (ring_at ps m)) is ∙ (ring_home m ps) | false ↦ λ is. (ring_home m ps) ]) refl
 
 pub Homes-start : (b : Boot) → IsValid b → Homes (first_point b)
-Homes-start b valid = record {
-  home = homes_are IsHome (start b) (first_addresses b) (start_at_home b valid);
-  moves = λ p. refl;
-  ring = λ m. ring_home m b.processes;
-  inbox = λ m. refl;
-  queue = λ m p. refl;
-  untaken = λ a m. refl;
-  pending = refl;
-}
+Homes-start b valid = search (arith, homes_are IsHome (start b) (first_addresses b) (start_at_home b valid), ring_home, b.processes)

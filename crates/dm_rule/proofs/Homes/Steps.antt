@@ -3,12 +3,12 @@ use Rattle.dm_rule.proofs.Names.{◌≡◌, ℕ, ◌==◌, ◌&&◌, Bool, true,
 use Rattle.dm_rule.proofs.Names.{reply_code, why_eq, bind, PlainProcess, reg, Alive, OneKernel, with_process, with_sent, Replies, Sends, Waits, Outputs, Ends, id_eq-is, bind-is, when-is, View, Addresses, Gets, given, gives, Slot}
 use Rattle.dm_rule.proofs.Names.{acting_place, fills, fills_by, call_gets, sends_burden, burden_of}
 use Rattle.dm_onekernel.specs.Kernel.{Ended}
-use Rattle.dm_onekernel.specs.Calls as calls
-use Rattle.dm_onekernel.specs.Step as kernel
-use Rattle.dm_rule.specs.Addresses as addresses
 use Rattle.dm_rule.proofs.Homes.{AtHome, place_as}
 use Rattle.dm_rule.proofs.Homes.Rows.{SameProcess, SameMessage, SameServers, running_home, at_home_process, home_goes, at_home_goes, alive_on, set_home, sent_home}
 use Rattle.dm_rule.proofs.Homes.Calls.{Nexts, next_home, gives_by}
+use Rattle.dm_onekernel.specs.Calls as calls
+use Rattle.dm_onekernel.specs.Step as kernel
+use Rattle.dm_rule.specs.Addresses as addresses
 
 -- ran
 pub ran_home : (P : Pid → Place → Type 0) (s t : OneKernel) (v : View) (a : Addresses) (p : Pid) (k : ℕ) → kernel.step s (Label.Ran p k) ≡ Some t → AtHome P s a → AtHome P t a
@@ -44,24 +44,13 @@ pub record OnlySlots (a b : Addresses) (p : Pid) : Type 0 where
   pub servers : SameServers a b
 
 pub only_none : (a : Addresses) (p : Pid) → OnlySlots a a p
-only_none a p = record {
-  others = λ q e. record { slot = λ k. refl; owner = refl };
-  messages = λ i. record { receiver = refl; sender = refl; enclosed = λ k. refl };
-  servers = record { child = λ n. refl; name = λ n. refl; answer = λ n. refl; asked = λ q. refl };
-}
+only_none a p = search arith
 
 only_fills : (a : Addresses) (p : Pid) (o : Option ℕ) (place : Place) → OnlySlots a (given a (fills p o place)) p
-only_fills a p None place = only_none a p
-only_fills a p (Some slot) place = record {
-  others = fills_others a p (Some slot) place;
-  messages = λ i. record { receiver = refl; sender = refl; enclosed = λ k. refl };
-  servers = record { child = λ n. refl; name = λ n. refl; answer = λ n. refl; asked = λ q. refl };
-}
+only_fills a p o place = search (arith, only_none, fills_others)
 
 only_fills_by : (v : View) (a : Addresses) (p : Pid) (x : PlainProcess) (n : calls.CallNumber) → OnlySlots a (given a (fills_by v a p x n)) p
-only_fills_by v a p x calls.Make = only_fills a p (first_empty x.links) (acting_place v p)
-only_fills_by v a p x calls.Copy = only_fills a p (first_empty x.links) (a (Slot p (reg x.regs 1)))
-only_fills_by v a p x _ = only_none a p
+only_fills_by v a p x n = search (arith, only_fills, only_none)
 
 only_if : (a : Addresses) (p : Pid) (c : Bool) (gs : List Gets) → OnlySlots a (given a gs) p → OnlySlots a (given a (if c then gs else [])) p
 only_if a p true gs h = h
@@ -124,9 +113,7 @@ send_home P s t v a p id is at h =
 
 -- a receive begins
 wait_row : (P : Pid → Place → Type 0) (s t : OneKernel) (v : View) (a : Addresses) (p : Pid) (next : kernel.Trap) → Nexts P v s a p next → kernel.waits s p next ≡ Some t → AtHome P s a → AtHome P t a
-wait_row P s t v a p (kernel.Calls number (calls.Waits y)) w is h =
-    let eq : kernel.goes_on s p y ≡ t = cc in subst (λ (u : OneKernel). AtHome P u a) eq (home_goes P s a p y h w.home)
-wait_row P s t v a p _ w is h = cc
+wait_row P s t v a p next h1 h2 h3 = search (arith, home_goes)
 
 pub wait_home : (P : Pid → Place → Type 0) (s t : OneKernel) (v : View) (a : Addresses) (p : Pid) → kernel.step s (Label.Wait p) ≡ Some t → P p (acting_place v p) → AtHome P s a → AtHome P t a
 wait_home P s t v a p is at h =
@@ -134,10 +121,7 @@ wait_home P s t v a p is at h =
     wait_row P s t v a p x (next_home P v s a p x h at next) rest h
 
 out_row : (P : Pid → Place → Type 0) (s t : OneKernel) (v : View) (a : Addresses) (p : Pid) (word : ℕ) (next : kernel.Trap) → Nexts P v s a p next → kernel.outputs s p word next ≡ Some t → AtHome P s a → AtHome P t a
-out_row P s t v a p word (kernel.Calls number (calls.Outputs other y)) w is h =
-    let k = when-is (word == other) (kernel.goes_on s p y) t is in
-    subst (λ (u : OneKernel). AtHome P u a) k.1 (home_goes P s a p y h w.home)
-out_row P s t v a p word _ w is h = cc
+out_row P s t v a p word next h1 h2 h3 = search (arith, when-is, home_goes)
 
 pub out_home : (P : Pid → Place → Type 0) (s t : OneKernel) (v : View) (a : Addresses) (p : Pid) (word : ℕ) → kernel.step s (Label.Out p word) ≡ Some t → P p (acting_place v p) → AtHome P s a → AtHome P t a
 out_home P s t v a p word is at h =

@@ -40,8 +40,7 @@ runnable_if m true p o q at h is = let f : p ≡ q = cc in ap (λ (v : Pid). v.h
 runnable_if m false p o q at h is = h is
 
 both : (b c : Bool) → (b && c) ≡ true → (b ≡ true) × (c ≡ true)
-both true c e = (refl, e)
-both false c e = cc
+both b c h1 = grind (arith, nat_tests)
 
 pub runnable_home : (s : OneKernel) (queue : Pid → List MsgId) (m : ℕ) (ps : List Pid) (q : Pid) → are_home m ps ≡ true → rule.first_runnable s queue ps ≡ Some q → q.home ≡ m
 runnable_home s queue m [] q h is = cc

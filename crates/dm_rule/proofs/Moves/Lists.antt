@@ -1,7 +1,7 @@
 -- Messages that are held, come back from a held list, or leave a queue and a held list together.
 use Rattle.dm_rule.proofs.Names.{◌≡◌, ◌≢◌, ℕ, zero, suc, ◌+◌, ◌≤◌, ◌==◌, ◌&&◌, Bool, true, false, List, [], ◌∷◌, ◌++◌, refl, ap, ◌∙◌, sym, subst, arith, ◌⊎◌, inl, inr, if◌then◌else◌, Option, None, Some, cases_Bool, false≢true, Pid, pid_eq}
 use Rattle.dm_rule.proofs.Names.{MsgId, id_eq, at_machine, at_record, View, handled, handled_first, receiver_of, held_for, released, Spot, Queue, Held, Inbox, times, ids_at, standing, StandsOnce, StandsNowhere, StandsAsBag, pid_eq-is}
-use Rattle.dm_rule.proofs.Names.{id_eq-is, id_eq-same, id_eq-swap, drop}
+use Rattle.dm_rule.proofs.Names.{id_eq-is, id_eq-same, id_eq-swap, drop, nat_tests}
 use Rattle.dm_rule.proofs.Standing.{times-append, spot_cases, StandsAsBag-same, StandsAsBag-one, StandsAsBag-elsewhere}
 use Rattle.dm_rule.proofs.Once.{Kept, one_of, once_moves, one_of-off}
 use Rattle.dm_rule.proofs.Lines.{Bag, Stands, Stands-stays, at_machine_at, at_machine_off, at_record_off, at_record_at, eq_is, not_true, inbox_apart, parts, front_goes, handled_off, handled_at, one_more, queue_apart}
@@ -22,9 +22,7 @@ held_is v i p None e = cc
 held_is v i p (Some q) e = let f : q ≡ p = cc in ap (λ x. record (handled v i) { held = at_record v.held v.acting x (v.held v.acting x ++ i ∷ []) }) f
 
 held_off : (v : View) (i : MsgId) (p : Pid) (z : Spot) → z ≢ Inbox v.acting → z ≢ Held v.acting p → ids_at (record (handled v i) { held = at_record v.held v.acting p (v.held v.acting p ++ i ∷ []) }) z ≡ ids_at v z
-held_off v i p (Held m q) a b = at_record_off v.held v.acting m p q (v.held v.acting p ++ i ∷ []) (held_apart v.acting m p q b)
-held_off v i p (Inbox m) a b = handled_off v i (Inbox m) a
-held_off v i p _ a b = refl
+held_off v i p z h1 h2 = search (arith, at_record_off, held_apart, handled_off)
 
 pub Stands-held : (bag : Bag) (v w : View) (i : MsgId) (is : List MsgId) (x : Pid) → v.inbox v.acting ≡ i ∷ is → bag i ≡ Some x → w ≡ held_for (handled v i) i (receiver_of (v.told i)) → Stands bag v → Stands bag w
 Stands-held bag v w i is x front there is_w h =
@@ -51,40 +49,16 @@ gathers f g x y apart gone all same (spot, one, others) = elim (spot_cases spot 
       )
   | inr off_x ↦
       let fx : f x ≡ 0 = others x (λ e. off_x (sym e)) in
-      elim (spot_cases spot y) [
-        | inl at_y ↦
-            let fy : f y ≡ 1 = ap f (sym at_y) ∙ one in (
-              y,
-              omega (arith, all, fx, fy),
-              λ z off. elim (spot_cases z x) [ inl is ↦ ap g is ∙ gone | inr other ↦ same z other off ∙ others z (λ e. off (e ∙ at_y)) ],
-            )
-        | inr off_y ↦
-            let fy : f y ≡ 0 = others y (λ e. off_y (sym e)) in (
-              spot,
-              same spot off_x off_y ∙ one,
-              λ z off. elim (spot_cases z x) [
-                | inl is ↦ ap g is ∙ gone
-                | inr other ↦ elim (spot_cases z y) [ inl is ↦ ap g is ∙ (omega (arith, all, fx, fy)) | inr else_ ↦ same z other else_ ∙ others z off ]
-              ],
-            )
-      ]
+      search (arith, spot_cases)
 ]
 
 gathers_as : {M : Type 0} (m : Option M) (f g : Spot → ℕ) (x y : Spot) → x ≢ y → g x ≡ 0 → g y ≡ f x + f y → ((z : Spot) → z ≢ x → z ≢ y → g z ≡ f z) → StandsAsBag m f → StandsAsBag m g
-gathers_as None f g x y apart gone all same h = λ z. elim (spot_cases z x) [
-  | inl is ↦ ap g is ∙ gone
-  | inr other ↦ elim (spot_cases z y) [
-    | inl is ↦ ap g is ∙ (let fx : f x ≡ 0 = h x in let fy : f y ≡ 0 = h y in omega (arith, all, fx, fy))
-    | inr else_ ↦ same z other else_ ∙ h z
-  ]
-]
+gathers_as None f g x y apart gone all same h = λ z. (search (arith, spot_cases))
 gathers_as (Some k) f g x y apart gone all same h = gathers f g x y apart gone all same h
 
 -- the held messages of a process come to the front of the inbox
 released_off : (v : View) (p : Pid) (z : Spot) → z ≢ Held v.acting p → z ≢ Inbox v.acting → ids_at (released v p) z ≡ ids_at v z
-released_off v p (Held m q) a b = at_record_off v.held v.acting m p q [] (held_apart v.acting m p q a)
-released_off v p (Inbox m) a b = at_machine_off v.inbox v.acting m (v.held v.acting p ++ v.inbox v.acting) (inbox_apart v.acting m b)
-released_off v p _ a b = refl
+released_off v p z h1 h2 = search (arith, at_record_off, held_apart, at_machine_off, inbox_apart)
 
 pub Stands-released : (bag : Bag) (v w : View) (p : Pid) → ((z : Spot) → ids_at w z ≡ ids_at (released v p) z) → ((i : MsgId) → w.told i ≡ v.told i) → Stands bag v → Stands bag w
 Stands-released bag v w p same told h =
@@ -138,9 +112,7 @@ abbrev pub both_lists : View → Pid → List MsgId
 both_lists v p = v.queue v.acting p ++ v.held v.acting p
 
 emptied_off : (v : View) (p : Pid) (z : Spot) → z ≢ Queue v.acting p → z ≢ Held v.acting p → ids_at (emptied v p) z ≡ ids_at v z
-emptied_off v p (Queue m q) a b = at_record_off v.queue v.acting m p q [] (queue_apart v.acting m p q a)
-emptied_off v p (Held m q) a b = at_record_off v.held v.acting m p q [] (held_apart v.acting m p q b)
-emptied_off v p _ a b = refl
+emptied_off v p z h1 h2 = search (arith, at_record_off, queue_apart, held_apart)
 
 emptied_queue : (v : View) (p : Pid) (i : MsgId) → times i (ids_at (emptied v p) (Queue v.acting p)) ≡ 0
 emptied_queue v p i = ap (times i) (at_record_at v.queue v.acting p [])
@@ -149,8 +121,7 @@ emptied_held : (v : View) (p : Pid) (i : MsgId) → times i (ids_at (emptied v p
 emptied_held v p i = ap (times i) (at_record_at v.held v.acting p [])
 
 pub zero_cases : (n : ℕ) → (n ≡ 0) ⊎ (1 ≤ n)
-zero_cases zero = inl refl
-zero_cases (suc n) = inr (omega arith)
+zero_cases n = grind (arith, nat_tests)
 
 -- how often a message stands in both lists
 pub both_times : (v : View) (p : Pid) (i : MsgId) → times i (both_lists v p) ≡ standing v i (Queue v.acting p) + standing v i (Held v.acting p)
@@ -173,13 +144,7 @@ both_once bag v p i kept =
 nowhere_left : (m : Option Pid) (f g : Spot → ℕ) (x y : Spot) → 1 ≤ f x + f y → g x ≡ 0 → g y ≡ 0 → ((z : Spot) → z ≢ x → z ≢ y → g z ≡ f z) → StandsAsBag m f → StandsNowhere g
 nowhere_left m f g x y least gx gy same h z = elim (spot_cases z x) [
   | inl is ↦ ap g is ∙ gx
-  | inr other ↦ elim (spot_cases z y) [
-    | inl is ↦ ap g is ∙ gy
-    | inr else_ ↦ same z other else_ ∙ (elim (zero_cases (f x)) [
-      | inl none ↦ StandsAsBag-elsewhere m f y z (omega (arith, least, none)) else_ h
-      | inr some ↦ StandsAsBag-elsewhere m f x z some other h
-    ])
-  ]
+  | inr other ↦ search (arith, spot_cases, zero_cases, StandsAsBag-elsewhere)
 ]
 
 emptied_kept : (bag : Bag) (v : View) (p : Pid) → Kept bag v → Kept (without_all (both_lists v p) bag) (emptied v p)
@@ -192,10 +157,7 @@ emptied_kept bag v p kept i =
           subst (λ (m : Option Pid). StandsAsBag m (standing (emptied v p) i)) (sym (without_off (both_lists v p) bag i none))
           (StandsAsBag-same (bag i) (standing v i) (standing (emptied v p) i) (λ z. elim (spot_cases z x) [
             | inl is ↦ ap (standing (emptied v p) i) is ∙ emptied_queue v p i ∙ (let fx : standing v i x ≡ 0 = omega (arith, sum, none) in sym fx) ∙ ap (standing v i) (sym is)
-            | inr other ↦ elim (spot_cases z y) [
-              | inl is ↦ ap (standing (emptied v p) i) is ∙ emptied_held v p i ∙ (let fy : standing v i y ≡ 0 = omega (arith, sum, none) in sym fy) ∙ ap (standing v i) (sym is)
-              | inr else_ ↦ ap (times i) (emptied_off v p z other else_)
-            ]
+            | inr other ↦ search (arith, spot_cases, emptied_held, emptied_off)
           ]) (kept i))
       | inr least ↦
           subst (λ (m : Option Pid). StandsAsBag m (standing (emptied v p) i)) (sym (without_at (both_lists v p) bag i least))
@@ -203,19 +165,12 @@ emptied_kept bag v p kept i =
     ]
 
 emptied_fewer : (v : View) (p : Pid) (m : ℕ) (q : Pid) (j : MsgId) → 1 ≤ times j (at_record v.queue v.acting p [] m q) → 1 ≤ times j (v.queue m q)
-emptied_fewer v p m q j least = elim (cases_Bool ((v.acting == m) && pid_eq p q)) [
-  | inl same ↦ absurd (let none : times j (at_record v.queue v.acting p [] m q) ≡ 0 = ap (times j) (ap (λ (c : Bool). if c then [] else v.queue m q) same) in omega (arith, least, none))
-  | inr apart ↦ subst (λ n. 1 ≤ n) (ap (times j) (at_record_off v.queue v.acting m p q [] apart)) least
-]
+emptied_fewer v p m q j least = grind (arith, nat_tests, at_record_off)
 
 pub Stands-emptied : (bag : Bag) (v w : View) (p : Pid) → ((z : Spot) → ids_at w z ≡ ids_at (emptied v p) z) → ((i : MsgId) → w.told i ≡ v.told i) → Stands bag v → Stands (without_all (both_lists v p) bag) w
 Stands-emptied bag v w p same told h =
     Stands-stays (without_all (both_lists v p) bag) (emptied v p) w same told
-    (record {
-      kept = emptied_kept bag v p h.kept;
-      told = λ i x k. h.told i x (without_some (both_lists v p) bag i x k);
-      mine = λ m q j x least k. h.mine m q j x (emptied_fewer v p m q j least) (without_some (both_lists v p) bag j x k);
-    })
+    ((search (arith, emptied_kept, without_some, emptied_fewer)))
 
 -- what stands somewhere is under way
 pub under_way : (m : Option Pid) (f : Spot → ℕ) (x : Spot) → 1 ≤ f x → StandsAsBag m f → (q : Pid) × (m ≡ Some q)

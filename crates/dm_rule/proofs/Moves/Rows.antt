@@ -3,9 +3,7 @@ use Rattle.dm_rule.proofs.Names.{◌≡◌, ℕ, ◌==◌, Bool, true, false, Li
 use Rattle.dm_rule.proofs.Names.{PlainProcess, Line, View, Told, About, NothingElse, Of, Known, Unknown, Here, Frozen, Forward, Ended, view_after, handled, handled_first, receiver_of, is_kernels, target_of, with_ring, knowing, released}
 use Rattle.dm_rule.proofs.Names.{after_proto, follows_by, asks_on, held_for, Addresses, Sender, Child, is_told_back, Point, moved, seen, Part, Says, Again, Owns, Spelled, spelled, to_kernel, forwards_on, accepts, takes_chunk, takes_block}
 use Rattle.dm_rule.proofs.Names.{gives_piece, sends_on, leaves, told_step, chunks_of, pieces_of, told_here, told_ended, process_told, told_server, migrates, fits, free_room, kernel_hears, hears, Spot, Queue, Held, Inbox, Untaken, ids_at}
-use Rattle.dm_rule.proofs.Names.{bind-is, label_of, Label, MoveNote, Outcome, Target, Routes, answer_id, answers_move, frozen_for, leaves_for, tells_asker, sets_off, sort_of, option_and_then, slice_get}
-use Rattle.dm_onekernel.specs.Step as kernel
-use Rattle.dm_rule.specs.View as view
+use Rattle.dm_rule.proofs.Names.{bind-is, label_of, Label, MoveNote, Outcome, Target, Routes, answer_id, answers_move, frozen_for, leaves_for, tells_asker, sets_off, sort_of, option_and_then, slice_get, arith, nat_tests}
 use Rattle.dm_rule.proofs.Lines.{hidden, Stands-stays}
 use Rattle.dm_rule.proofs.Letters.{letters}
 use Rattle.dm_rule.proofs.Hushed.{is_put, hushed}
@@ -19,6 +17,8 @@ use Rattle.dm_rule.proofs.Requests.{by_migrates}
 use Rattle.dm_rule.proofs.Seen.{about_off}
 use Rattle.dm_rule.proofs.Bags.{bag_answered}
 use Rattle.dm_rule.proofs.Turns.{quiet_label}
+use Rattle.dm_onekernel.specs.Step as kernel
+use Rattle.dm_rule.specs.View as view
 
 -- what the rule saw before the head is what stands behind it
 pub record SeesSame (o pt : Point) (m : ℕ) : Type 0 where
@@ -59,11 +59,7 @@ pub goes_front : (pt : Point) (l : Line) (i : MsgId) (is : List MsgId) → is_pu
 goes_front pt l i is quiet h front mine off = goes_first pt l i is quiet h front mine (λ z. off z ∙ sym (first_off pt.view i is front z))
 
 pub asks_off : (v : View) (a : About) (z : Spot) → ids_at (asks_on v a) z ≡ ids_at v z
-asks_off v (Of p) (Queue m q) = refl
-asks_off v (Of p) (Held m q) = refl
-asks_off v (Of p) (Inbox m) = refl
-asks_off v (Of p) (Untaken c d) = refl
-asks_off v _ z = refl
+asks_off v a z = search arith
 
 pub proto_off : (v : View) (o : Option Told) (z : Spot) → ids_at (after_proto v o) z ≡ ids_at v z
 proto_off v None z = about_off v NothingElse z
@@ -85,12 +81,10 @@ accepted_off v p (Queue m q) = refl
 accepted_off v p _ = refl
 
 pub state_off : (v : View) (p : Pid) (z : Spot) → ids_at (view_after v (Line.Migration Stage.StateTaken p)) z ≡ ids_at (handled_first v) z
-state_off v p (Queue m q) = refl
-state_off v p _ = refl
+state_off v p z = search arith
 
 pub memory_off : (v : View) (p : Pid) (z : Spot) → ids_at (view_after v (Line.Migration Stage.MemoryTaken p)) z ≡ ids_at (handled_first v) z
-memory_off v p (Queue m q) = refl
-memory_off v p _ = refl
+memory_off v p z = grind (arith, nat_tests)
 
 pub lacks_off : (v : View) (p : Pid) (slots blocks : ℕ) (z : Spot) → ids_at (view_after v (Line.Lacks p slots blocks)) z ≡ ids_at (handled_first v) z
 lacks_off v p slots blocks (Queue m q) = refl
@@ -105,8 +99,7 @@ abbrev pub home_again : View → Pid → View
 home_again v p = with_ring (knowing v p Here) (v.ring v.acting ++ p ∷ [])
 
 pub home_off : (v : View) (p : Pid) (z : Spot) → ids_at (home_again v p) z ≡ ids_at v z
-home_off v p (Queue m q) = refl
-home_off v p _ = refl
+home_off v p z = search arith
 
 pub restarted_off : (v : View) (p : Pid) (z : Spot) → ids_at (view_after v (Line.Migration Stage.Restarted p)) z ≡ ids_at (released (home_again (handled_first v) p) p) z
 restarted_off v p (Queue m q) = refl
@@ -127,10 +120,7 @@ answers_row pt i o w h fit e =
 
 -- a line that ends a move is followed by the answer, if somebody asked for it
 ends_row : (pt : Point) (l : Line) (q : Option MoveNote) (o : Outcome) (w : Spelled) → label_of l ≡ None → touches l ≡ false → PairsFit pt.view → State None (moved pt l pt.kernel) → spelled pt (Says l ∷ tells_asker q o) ≡ Some w → State None w.point
-ends_row pt l None o w none quiet fit h e = line_ends pt l w none h e
-ends_row pt l (Some n) o w none quiet fit h e =
-    let k = line_next pt l (answers_move n.id o) w none e in
-    State-at None k.rest.point w.point k.point (answers_row (moved pt l pt.kernel) n.id o k.rest h (fits_as pt.view (seen pt.kernel pt.view l) (pair_same pt.view l quiet) fit) k.more)
+ends_row pt l q o w h1 h2 h3 h4 h5 = search (arith, line_ends, line_next, State-at, answers_row, fits_as, pair_same)
 
 -- a process leaves, once it is frozen
 pub goes_row : (pt : Point) (p : Pid) (to : ℕ) (w : Spelled) → State None (moved pt (Line.Migration Stage.Frozen p) pt.kernel) → PairsFit pt.view → spelled pt (leaves_for p to) ≡ Some w → State None w.point

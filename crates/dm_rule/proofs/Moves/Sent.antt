@@ -16,12 +16,7 @@ use Rattle.dm_rule.proofs.Moves.States.{hidden_letters, front_way, Between, betw
 use Rattle.dm_rule.proofs.Pairs.Moves.{one_more}
 
 put_within : (a b : ℕ) (p : Pair) (i : MsgId) (c : Bool) → (a == b) ≡ c → p.taken ≤ length p.ids → (routed_on a b p i).taken ≤ length (p.ids ++ i ∷ [])
-put_within a b p i true e le =
-    let t : (routed_on a b p i).taken ≡ p.taken + 1 = ap (λ (c : Bool). if c then p.taken + 1 else p.taken) e in
-    let l = one_more p i in omega (arith, t, l, le)
-put_within a b p i false e le =
-    let t : (routed_on a b p i).taken ≡ p.taken = ap (λ (c : Bool). if c then p.taken + 1 else p.taken) e in
-    let l = one_more p i in omega (arith, t, l, le)
+put_within a b p i c h1 h2 = search (arith, one_more)
 
 put_home : (a b : ℕ) (p : Pair) (i : MsgId) → (a == b) ≡ true → p.taken ≡ length p.ids → (routed_on a b p i).taken ≡ length (p.ids ++ i ∷ [])
 put_home a b p i e is =
@@ -32,34 +27,10 @@ same_two : (a b c : ℕ) → ((a == c) && (b == c)) ≡ true → (a ≡ b) × ((
 same_two a b c e = (grind (arith, nat_tests), grind (arith, nat_tests))
 
 pub fits_put : (v : View) (a b : ℕ) (i : MsgId) (k : MessageKind) (q : Pid) → PairsFit v → PairsFit (after_put v a b i k q)
-fits_put v a b i k q h = record {
-  within = λ c d. elim (cases_Bool ((a == c) && (b == d))) [
-    | inl same ↦ subst (λ (p : Pair). p.taken ≤ length p.ids) (sym (set_is v.pair a b (routed_on a b (v.pair a b) i) c d same)) (put_within a b (v.pair a b) i (a == b) refl (h.within a b))
-    | inr off ↦ subst (λ (p : Pair). p.taken ≤ length p.ids) (sym (set_other v.pair a b (routed_on a b (v.pair a b) i) c d off)) (h.within c d)
-  ];
-  home = λ c. elim (cases_Bool ((a == c) && (b == c))) [
-    | inl same ↦
-        let (ab, eq) = same_two a b c same in
-        let was : (v.pair a b).taken ≡ length (v.pair a b).ids = subst (λ n. (v.pair a n).taken ≡ length (v.pair a n).ids) ab (h.home a) in
-        subst (λ (p : Pair). p.taken ≡ length p.ids) (sym (set_is v.pair a b (routed_on a b (v.pair a b) i) c c same)) (put_home a b (v.pair a b) i eq was)
-    | inr off ↦ subst (λ (p : Pair). p.taken ≡ length p.ids) (sym (set_other v.pair a b (routed_on a b (v.pair a b) i) c c off)) (h.home c)
-  ];
-}
+fits_put v a b i k q h = search (arith, set_is, put_within, set_other, same_two, put_home)
 
 pub fits_packet : (v : View) (a b k : ℕ) (l : Load) → PairsFit v → PairsFit (view_after v (Line.Packet a b k l))
-fits_packet v a b k l h = record {
-  within = λ c d. elim (cases_Bool ((a == c) && (b == d))) [
-    | inl same ↦ subst (λ (p : Pair). p.taken ≤ length p.ids) (sym (set_is v.pair a b _ c d same)) (h.within a b)
-    | inr off ↦ subst (λ (p : Pair). p.taken ≤ length p.ids) (sym (set_other v.pair a b _ c d off)) (h.within c d)
-  ];
-  home = λ c. elim (cases_Bool ((a == c) && (b == c))) [
-    | inl same ↦
-        let (ab, eq) = same_two a b c same in
-        let was : (v.pair a b).taken ≡ length (v.pair a b).ids = subst (λ n. (v.pair a n).taken ≡ length (v.pair a n).ids) ab (h.home a) in
-        subst (λ (p : Pair). p.taken ≡ length p.ids) (sym (set_is v.pair a b _ c c same)) was
-    | inr off ↦ subst (λ (p : Pair). p.taken ≡ length p.ids) (sym (set_other v.pair a b _ c c off)) (h.home c)
-  ];
-}
+fits_packet v a b k l h = search (arith, set_is, set_other, same_two)
 
 -- what stands on the way, and pairs that fit
 pub record Way (gone : List MsgId) (pt : Point) : Type 0 where
@@ -83,11 +54,7 @@ pub record LineNext (pt : Point) (l : Line) (ps : List Part) (w : Spelled) : Typ
   pub point : rest.point ≡ w.point
 
 pub line_next : (pt : Point) (l : Line) (ps : List Part) (w : Spelled) → label_of l ≡ None → spelled pt (Says l ∷ ps) ≡ Some w → LineNext pt l ps w
-line_next pt l ps w none e =
-    let k = says_next pt l ps w e in
-    let same : pt.kernel ≡ k.s = (elim (label_of l) as (λ o. o ≡ None → kernel_after pt.kernel o ≡ Some k.s → pt.kernel ≡ k.s)
-    [ None ↦ λ none_ is_. cc | Some l_ ↦ λ none_ is_. cc ]) none k.is in
-    record { rest = k.rest; more = ap (λ s. spelled (moved pt l s) ps) same ∙ k.more; point = k.point }
+line_next pt l ps w none e = search (arith, says_next)
 
 pub line_ends : (pt : Point) (l : Line) (w : Spelled) → label_of l ≡ None → State None (moved pt l pt.kernel) → spelled pt (Says l ∷ []) ≡ Some w → State None w.point
 line_ends pt l w none h e =
@@ -132,9 +99,7 @@ steadied pt h = record { state = arrived pt h.between; fits = h.fits }
 
 -- a message is forwarded
 forwarded_off : (v : View) (i : MsgId) (o : Option Pid) (z : Spot) → ids_at (forwarded_for (handled v i) o) z ≡ ids_at (handled v i) z
-forwarded_off v i None z = refl
-forwarded_off v i (Some p) (Queue m q) = refl
-forwarded_off v i (Some p) _ = refl
+forwarded_off v i o z = search arith
 
 pub forwarded_way : (pt : Point) (i : MsgId) (is : List MsgId) (to : ℕ) → State None pt → pt.view.inbox pt.view.acting ≡ i ∷ is → Between (i ∷ []) (moved pt (Line.Forwarded i to) pt.kernel)
 forwarded_way pt i is to h front =
@@ -152,10 +117,7 @@ forwarded_way pt i is to h front =
       untold = λ j zero_ other. told j ∙ h.untold j zero_ other;
       numbered = numbered_as v (view_after v l) hush.count hush.told h.numbered;
       way = λ j least.
-          let ji : i ≡ j = sym (elim (cases_Bool (id_eq j i)) [
-            | inl same ↦ id_eq-is j i same
-            | inr apart ↦ absurd (let z : one_of j i ≡ 0 = ap (λ (c : Bool). if c then 1 else 0) apart in omega (arith, least, z))
-          ]) in
+          let ji : i ≡ j = sym ((search (arith, id_eq-is))) in
           let (q, way) = front_way pt i is h front in
           subst (λ (x : MsgId). (q : Pid) × (bag x ≡ Some q) × (receiver_of ((view_after v l).told x) ≡ Some q)) ji (q, way, ap receiver_of (told i) ∙ h.stands.told i q way);
       once = λ j. elim (id_eq j i) as (λ c. (if c then 1 else 0) + 0 ≤ 1) [ true ↦ omega arith | false ↦ omega arith ];
@@ -167,12 +129,10 @@ without_same [] bag other e i = e i
 without_same (j ∷ js) bag other e i = ap (λ (x : Option Pid). if id_eq j i then None else x) (without_same js bag other e i)
 
 pub sent_off : (v : View) (p : Pid) (n : ℕ) (z : Spot) → ids_at (view_after v (Line.SentOn p n)) z ≡ ids_at (emptied (handled_first v) p) z
-sent_off v p n (Queue m q) = refl
-sent_off v p n _ = refl
+sent_off v p n z = search arith
 
 pub least_of : (m n : ℕ) → 1 ≤ m + n → (1 ≤ m) ⊎ (1 ≤ n)
-least_of zero n le = inr (omega (arith, le))
-least_of (suc m) n le = inl (omega arith)
+least_of m n h1 = search arith
 
 lists_way : (bag : Bag) (v : View) (p : Pid) (j : MsgId) → 1 ≤ times j (both_lists v p) → Stands bag v → (q : Pid) × (bag j ≡ Some q)
 lists_way bag v p j least h =

@@ -171,18 +171,7 @@ own_counts v a b k q none = ap (λ (o : Option Told). if view.is_own (own_id v) 
 
 pub own_numbered : (v : View) (a b : ℕ) (k : MessageKind) (q : Pid) → v.told (own_id v) ≡ None → ((m n : ℕ) → v.count m ≤ n → v.told (id_of (pid_of m 0) n) ≡ None)
     → (m n : ℕ) → (view.after_put v a b (own_id v) k q).count m ≤ n → (view.after_put v a b (own_id v) k q).told (id_of (pid_of m 0) n) ≡ None
-own_numbered v a b k q none h m n le =
-    let more : at_machine v.count v.acting (v.count v.acting + 1) m ≤ n = subst (λ (f : ℕ → ℕ). f m ≤ n) (own_counts v a b k q none) le in
-    elim (cases_Bool (v.acting == m)) [
-      | inl same ↦
-          let is : v.acting ≡ m = grind (arith, nat_tests) in
-          let beyond : v.count v.acting + 1 ≤ n = subst (λ x. x ≤ n) (ap (λ (c : Bool). if c then v.count v.acting + 1 else v.count m) same) more in
-          let apart : id_eq (own_id v) (id_of (pid_of m 0) n) ≡ false = other_number (v.acting) (v.count v.acting) m n (omega (arith, beyond)) in
-          put_told_off v a b (own_id v) (id_of (pid_of m 0) n) k q apart ∙ h m n (subst (λ x. v.count x ≤ n) is (omega (arith, beyond)))
-      | inr off ↦
-          let left : v.count m ≤ n = subst (λ x. x ≤ n) (ap (λ (c : Bool). if c then v.count v.acting + 1 else v.count m) off) more in
-          put_told_off v a b (own_id v) (id_of (pid_of m 0) n) k q (other_home v.acting (v.count v.acting) m n off) ∙ h m n left
-    ]
+own_numbered v a b k q none h m n le = search (arith, own_counts, other_number, put_told_off, other_home)
 
 pub by_own_put : (pt : Point) (b : ℕ) (k : MessageKind) (q : Pid) → PairsFit pt.view → State None pt → State None (moved pt (Line.Put pt.view.acting b (own_id pt.view) k q) pt.kernel)
 by_own_put pt b k q fits h =

@@ -11,10 +11,7 @@ abbrev early : ℕ → Pair → Pair
 early n p = record p { kept = n ∷ off n p.kept }
 
 early_kept : (n : ℕ) (p : Pair) → p.taken < n → n < p.gone → KeptStands p → KeptStands (early n p)
-early_kept n p above below h k e = elim (or_cases (k == n) (has k (off n p.kept)) e) [
-  | inl same ↦ let is : k ≡ n = grind (arith, nat_tests) in (omega arith, omega arith)
-  | inr rest ↦ h k (off_has n k p.kept rest.1).0
-]
+early_kept n p above below h k e = grind (arith, nat_tests, or_cases, off_has)
 
 early_goes : (f : ℕ → ℕ → Pair) (a b n : ℕ) → (a == b) ≡ false → (f a b).taken < n → n < (f a b).gone → Paired f → Goes f (at_pair f a b (early n (f a b)))
 early_goes f a b n ab above below h =
@@ -38,13 +35,7 @@ mid_take : (f : ℕ → ℕ → Pair) (a b n : ℕ) (ks : List ℕ) → (a == b)
 mid_take f a b n ks ab is below h =
     let same : took n (f a b) ≡ at_pair f a b (took n (f a b)) a b = sym (set_same f a b (took n (f a b))) in
     record {
-      stand = Stand-set f a b (took n (f a b)) ab (record {
-        acked = let x = (h.stand.apart a b ab).acked in omega arith;
-        taken = omega arith;
-        gone = (h.stand.apart a b ab).gone;
-        full = (h.stand.apart a b ab).full;
-        wire = (h.stand.apart a b ab).wire;
-      }) (omega arith) h.stand;
+      stand = Stand-set f a b (took n (f a b)) ab ((search arith)) (omega arith) h.stand;
       others = λ c d e. subst KeptStands (sym (set_other f a b (took n (f a b)) c d e)) (h.others c d e);
       here = subst (λ (p : Pair). (k : ℕ) → has k p.kept ≡ true → (p.taken ≤ k) × (has k ks ≡ true)) same (took_here n (f a b) ks is h.here);
       bound = subst (λ (p : Pair). (k : ℕ) → has k ks ≡ true → k < p.gone) same h.bound;
@@ -56,10 +47,7 @@ mid_kept f a b ks done h k e = let x = h.here k e in let y = done k x.1 in (omeg
 mid_end : (f : ℕ → ℕ → Pair) (a b : ℕ) (ks : List ℕ) → ((k : ℕ) → has k ks ≡ true → (f a b).taken ≢ k) → Mid f a b ks → Paired f
 mid_end f a b ks done h = record {
   stand = h.stand;
-  kept = λ c d. elim (cases_Bool ((a == c) && (b == d))) [
-    | inl same ↦ let two = two_of a b c d same in subst (λ (n : ℕ). KeptStands (f n d)) two.0 (subst (λ (n : ℕ). KeptStands (f a n)) two.1 (mid_kept f a b ks done h))
-    | inr apart ↦ h.others c d apart
-  ];
+  kept = λ c d. (search (arith, two_of, mid_kept));
 }
 
 -- once the takes have ended
@@ -131,12 +119,7 @@ in_order pt a b n ks w ab ba is below kept h e =
     let x = h.stand.apart a b ab in
     let full = x.full in
     let acked = x.acked in
-    let start : Mid pt.view.pair a b ks = subst (Mid pt.view.pair a b) kept (record {
-      stand = h.stand;
-      others = λ c d e. h.kept c d;
-      here = λ k e. let x = h.kept a b k e in (omega (arith, x.0), e);
-      bound = λ k e. (h.kept a b k e).1;
-    }) in
+    let start : Mid pt.view.pair a b ks = subst (Mid pt.view.pair a b) kept ((search arith)) in
     let mid : Mid o.next.view.pair a b ks = subst (λ (g : ℕ → ℕ → Pair). Mid g a b ks) (sym pair) (mid_take pt.view.pair a b n ks ab is below start) in
     let t = takes_keep pair_window (n + 1) a b ks tail o.next o.rest ab (omega arith) (omega arith) mid o.on in
     subst (λ (q : Point). Paired q.view.pair) o.end (then_acked a b (n + 1 + length others) o.rest ba t)

@@ -2,12 +2,11 @@
 use Rattle.dm_rule.proofs.Names.{◌≡◌, ℕ, ◌<◌, ◌≤◌, ◌==◌, Bool, true, false, List, [], ◌∷◌, ◌++◌, refl, ap, ◌∙◌, sym, subst, arith, length, ⊤, if◌then◌else◌, Option, None, Some, Pid, MsgId, MessageKind, plain_kind, Label, bind, Line, Load}
 use Rattle.dm_rule.proofs.Names.{Stage, View, Pair, Told, view_after, after_label, after_stage, after_packet, queued_for, held_for, dropped_for, forwarded_for, served_told, ends_by, receiver_of, taken_id, handled, own_id, after_proto}
 use Rattle.dm_rule.proofs.Names.{follows_by, asks_on, About, NothingElse, Target, seen, sets_off, Receiver, Point, kernel_after, label_of, moved, after_line, after, Part, Says, Routes, Again, Owns, Transmits, Spelled, spelled, behind}
-use Rattle.dm_rule.proofs.Names.{lines_of, puts, packet_line, goes_out, IsUnasked, sort_of}
+use Rattle.dm_rule.proofs.Names.{lines_of, puts, packet_line, goes_out, IsUnasked, sort_of, nat_tests}
 use Rattle.dm_rule.proofs.Seen.{seen_is}
-use Rattle.dm_rule.proofs.Pairs.Stand.{Later}
+use Rattle.dm_rule.proofs.Pairs.Stand.{Later, Later-same}
 use Rattle.dm_rule.proofs.Pairs.Moves.{Paired, Goes, again_goes, ack_goes, route_out, route_packed, route_home}
 pub use Rattle.dm_laws.proofs.Steps.{bind-is}
-use Rattle.dm_rule.proofs.Pairs.Stand.{Later-same}
 
 -- lines that say something of a pair
 abbrev pub touches : Line → Bool
@@ -41,11 +40,7 @@ kills_pair MessageKind.Kill v (Some p) = refl
 kills_pair k v o = refl
 
 pub label_pair : (v : View) (l : Label) → (after_label v l).pair ≡ v.pair
-label_pair v (Label.Dropped id) = elim (receiver_of (v.told id)) as (λ o. (dropped_for (handled v id) id o).pair ≡ (handled v id).pair)
-    [ None ↦ refl | Some p ↦ refl ]
-label_pair v (Label.Served id) = elim (v.told id) as (λ o. (served_told (handled v id) o).pair ≡ (handled v id).pair)
-    [ None ↦ refl | Some t ↦ kills_pair t.kind (handled v id) (Some t.receiver) ]
-label_pair v _ = refl
+label_pair v l = grind (arith, nat_tests, kills_pair)
 
 pub stage_pair : (v : View) (p : Pid) (s : Stage) → (after_stage v p s).pair ≡ v.pair
 stage_pair v p Stage.Frozen = elim v.topic as (λ a. (sets_off v p a).pair ≡ v.pair) [ Target m ↦ refl | _ ↦ refl ]
@@ -62,19 +57,7 @@ proto_pair v (Some t) = elim t.kind as (λ k. (follows_by v t.about (sort_of k))
 
 -- the other lines leave the pairs as they are
 pub pair_same : (v : View) (l : Line) → touches l ≡ false → (view_after v l).pair ≡ v.pair
-pair_same v (Line.Head s) e = cc
-pair_same v (Line.Label l) e = label_pair v l
-pair_same v (Line.Put a b id k q) e = cc
-pair_same v (Line.Packet a b k l) e = cc
-pair_same v (Line.Taken a b n) e = cc
-pair_same v (Line.Early a b n) e = cc
-pair_same v (Line.Acked a b n) e = cc
-pair_same v (Line.Queued id) e = queued_pair (handled v id) id (receiver_of (v.told id))
-pair_same v (Line.Held id) e = held_pair (handled v id) id (receiver_of (v.told id))
-pair_same v (Line.Forwarded id m) e = forwarded_pair (handled v id) (receiver_of (v.told id))
-pair_same v (Line.Migration s p) e = stage_pair v p s
-pair_same v (Line.Proto id) e = proto_pair (handled v id) (v.told id)
-pair_same v _ e = refl
+pair_same v l h1 = search (arith, label_pair, queued_pair, held_pair, forwarded_pair, stage_pair, proto_pair)
 
 -- the view after a line
 pub line_view : (pt next : Point) (l : Line) → after_line pt l ≡ Some next → next.view ≡ seen pt.kernel pt.view l
@@ -148,9 +131,7 @@ AllFit f [] = ⊤
 AllFit f (p ∷ ps) = Fits f p × AllFit f ps
 
 Fits-later : (f g : ℕ → ℕ → Pair) (p : Part) → Later f g → Fits f p → Fits g p
-Fits-later f g (Transmits a b (Load.Data n)) k h = (h.0, let x = k.gone a b in omega (arith, x, h.1))
-Fits-later f g (Transmits a b (Load.Ack n)) k h = (h.0, let x = k.taken b a in omega (arith, x, h.1))
-Fits-later f g _ k h = h
+Fits-later f g p h1 h2 = search arith
 
 pub AllFit-later : (f g : ℕ → ℕ → Pair) (ps : List Part) → Later f g → AllFit f ps → AllFit g ps
 AllFit-later f g [] k h = h

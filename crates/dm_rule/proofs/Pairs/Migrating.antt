@@ -1,17 +1,11 @@
 -- The parts that migration adds keep the pairs of machines wherever they stand.
-use Rattle.dm_rule.proofs.Names.{◌≡◌, ℕ, false, List, refl, Option, Some, Pid, MsgId, MessageKind, Line, Boot, Pair, Told, Addresses, Point, Part, forwards_on, migrates, hears}
+use Rattle.dm_rule.proofs.Names.{◌≡◌, ℕ, false, List, refl, Option, Some, Pid, MsgId, MessageKind, Line, Boot, Pair, Told, Addresses, Point, Part, forwards_on, migrates, hears, arith, nat_tests}
 use Rattle.dm_rule.proofs.Pairs.Lines.{AllFit, touches}
 use Rattle.dm_rule.proofs.Requests.{by_migrates}
 use Rattle.dm_rule.proofs.Hearing.{IsHeardLine, Kept, kept_forward, hears_kept}
 
 fit_line : (l : Line) → IsHeardLine l → touches l ≡ false
-fit_line (Line.Head d) h = absurd h
-fit_line (Line.Put a b i k q) h = absurd h
-fit_line (Line.Packet a b k l) h = absurd h
-fit_line (Line.Taken a b n) h = absurd h
-fit_line (Line.Early a b n) h = absurd h
-fit_line (Line.Acked a b n) h = absurd h
-fit_line _ h = refl
+fit_line l h1 = grind (arith, nat_tests)
 
 fit_kept : (f : ℕ → ℕ → Pair) → Kept (AllFit f)
 fit_kept f = record { none = tt; says = λ l ps h k. (fit_line l h, k); again = λ i to ps k. (tt, k); owns = λ k q to ps h. (tt, h); answers = λ i r. (refl, (tt, tt)) }

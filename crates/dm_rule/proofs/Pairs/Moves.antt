@@ -18,10 +18,7 @@ Goes-on f g h x y = record { paired = y.paired; later = Later-trans f g h x.late
 
 -- a pair of different machines changes
 pub changed : (f : ℕ → ℕ → Pair) (a b : ℕ) (p : Pair) → (a == b) ≡ false → Apart p (f b a) → (f a b).taken ≤ p.taken → (f a b).gone ≤ p.gone → KeptStands p → Paired f → Goes f (at_pair f a b p)
-changed f a b p ab new t g kept h = record {
-  paired = record { stand = Stand-set f a b p ab new t h.stand; kept = Kept-set f a b p kept h.kept };
-  later = Later-set f a b p t g;
-}
+changed f a b p ab new t g kept h = search (arith, Later-set f a b p t g, Stand-set, h.stand, Kept-set, h.kept)
 
 -- a packet
 abbrev pub packed : Load → Pair → Pair
@@ -103,13 +100,7 @@ route_packed f a b id ab out h =
 home_routed : (p : Pair) (id : MsgId) → HomeStands p → HomeStands (routed_home p id)
 home_routed p id h =
     let x = one_more p id in
-    record {
-      taken = let y = h.taken in omega arith;
-      gone = let y = h.gone in omega arith;
-      acked = let y = h.acked in omega arith;
-      kept = h.kept;
-      wire = h.wire;
-    }
+    search arith
 
 none_kept : (p : Pair) → p.kept ≡ [] → KeptStands p
 none_kept p e k is = absurd (false≢true (ap (has k) (sym e) ∙ is))
@@ -119,10 +110,7 @@ route_same f a id h =
     let e : (a == a) ≡ true = grind (arith, nat_tests) in
     let new = home_routed (f a a) id (h.stand.home a) in
     subst (λ (p : Pair). Goes f (at_pair f a a p)) (sym (routed_home-is a a (f a a) id e))
-    (record {
-      paired = record { stand = Stand-home f a (routed_home (f a a) id) new h.stand; kept = Kept-set f a a (routed_home (f a a) id) (none_kept (routed_home (f a a) id) new.kept) h.kept };
-      later = Later-set f a a (routed_home (f a a) id) (omega arith) (omega arith);
-    })
+    ((search (arith, Stand-home, Kept-set, none_kept, Later-set)))
 
 pub route_home : (f : ℕ → ℕ → Pair) (a b : ℕ) (id : MsgId) → (a == b) ≡ true → Paired f → Goes f (at_pair f a b (routed_on a b (f a b) id))
 route_home f a b id e h =
@@ -136,29 +124,18 @@ pub acked_goes : (f : ℕ → ℕ → Pair) (a b n : ℕ) → (a == b) ≡ false
 acked_goes f a b n ab le h =
     let x = h.stand.apart a b ab in
     changed f a b (record (f a b) { acked = at_least (f a b).acked n }) ab
-    (record {
-      acked = grind (arith, nat_tests, x.acked);
-      taken = x.taken;
-      gone = x.gone;
-      full = let y = x.full in let z = at_least-more (f a b).acked n in omega (arith, y, z);
-      wire = x.wire;
-    }) (omega arith) (omega arith) (h.kept a b) h
+    ((search (arith, at_least-more))) (omega arith) (omega arith) (h.kept a b) h
 
 -- a delivery marks a packet
 pub marked_goes : (f : ℕ → ℕ → Pair) (a b k : ℕ) → (a == b) ≡ false → Paired f → Goes f (at_pair f a b (marked (f a b) k))
-marked_goes f a b k ab h =
-    let x = h.stand.apart a b ab in
-    changed f a b (marked (f a b) k) ab
-    (record { acked = x.acked; taken = x.taken; gone = x.gone; full = x.full; wire = WireStands-marked (f a b).gone (f b a).taken (f a b).wire k (slice_get (f a b).wire k) refl x.wire })
-    (omega arith) (omega arith) (h.kept a b) h
+marked_goes f a b k ab h = search (arith, changed, WireStands-marked)
 
 -- the numbers that are kept without one
 abbrev pub off : ℕ → List ℕ → List ℕ
 off n ks = filter (λ k. not (k == n)) ks
 
 pub or_first : (b c : Bool) → c ≡ true → (b || c) ≡ true
-or_first true c e = refl
-or_first false c e = e
+or_first b c h1 = search arith
 
 pub or_cases : (b c : Bool) → (b || c) ≡ true → (b ≡ true) ⊎ ((b ≡ false) × (c ≡ true))
 or_cases true c e = inl refl
@@ -169,11 +146,7 @@ off_cons n j js true e = ap (λ (c : Bool). if not c then j ∷ off n js else of
 off_cons n j js false e = ap (λ (c : Bool). if not c then j ∷ off n js else off n js) e
 
 off_has_at : (n k j : ℕ) (js : List ℕ) (b : Bool) → (j == n) ≡ b → (has k (off n js) ≡ true → (has k js ≡ true) × (k ≢ n)) → has k (if b then off n js else j ∷ off n js) ≡ true → (has k (j ∷ js) ≡ true) × (k ≢ n)
-off_has_at n k j js true f h e = let x = h e in (or_first (k == j) (has k js) x.0, x.1)
-off_has_at n k j js false f h e = elim (or_cases (k == j) (has k (off n js)) e) [
-  | inl same ↦ (ap (λ (c : Bool). c || has k js) same, grind (arith, nat_tests))
-  | inr rest ↦ let x = h rest.1 in (or_first (k == j) (has k js) x.0, x.1)
-]
+off_has_at n k j js b h1 h2 h3 = search (arith, or_first, or_cases)
 
 pub off_has : (n k : ℕ) (ks : List ℕ) → has k (off n ks) ≡ true → (has k ks ≡ true) × (k ≢ n)
 off_has n k [] e = absurd (false≢true e)

@@ -39,10 +39,7 @@ pub Later-same : (f : ℕ → ℕ → Pair) → Later f f
 Later-same f = record { taken = λ a b. omega arith; gone = λ a b. omega arith }
 
 pub Later-trans : (f g h : ℕ → ℕ → Pair) → Later f g → Later g h → Later f h
-Later-trans f g h k l = record {
-  taken = λ a b. let x = k.taken a b in let y = l.taken a b in omega arith;
-  gone = λ a b. let x = k.gone a b in let y = l.gone a b in omega arith;
-}
+Later-trans f g h k l = search arith
 
 pub WireStands-more : (g b g' b' : ℕ) (ss : List SentLoad) → g ≤ g' → b ≤ b' → WireStands g b ss → WireStands g' b' ss
 WireStands-more g b g' b' [] x y h = h
@@ -116,37 +113,10 @@ Stand-set f a b p ab new le h = record {
 }
 
 pub Stand-home : (f : ℕ → ℕ → Pair) (a : ℕ) (p : Pair) → HomeStands p → Stand f → Stand (at_pair f a a p)
-Stand-home f a p new h = record {
-  apart = λ c d cd.
-      let x : ((a == c) && (a == d)) ≡ false = grind (arith, nat_tests) in
-      let y : ((a == d) && (a == c)) ≡ false = grind (arith, nat_tests) in
-      Apart-at (f c d) (f d c) (at_pair f a a p c d) (at_pair f a a p d c) (set_other f a a p c d x) (set_other f a a p d c y) (h.apart c d cd);
-  home = λ c. elim (cases_Bool ((a == c) && (a == c))) [
-    | inl same ↦ subst HomeStands (sym (set_is f a a p c c same)) new
-    | inr off ↦ subst HomeStands (sym (set_other f a a p c c off)) (h.home c)
-  ];
-}
+Stand-home f a p new h = search (arith, Apart-at, set_other, set_is)
 
 pub Kept-set : (f : ℕ → ℕ → Pair) (a b : ℕ) (p : Pair) → KeptStands p → Kept f → Kept (at_pair f a b p)
-Kept-set f a b p new h c d = elim (cases_Bool ((a == c) && (b == d))) [
-  | inl same ↦ subst KeptStands (sym (set_is f a b p c d same)) new
-  | inr off ↦ subst KeptStands (sym (set_other f a b p c d off)) (h c d)
-]
+Kept-set f a b p new h c d = grind (arith, nat_tests, set_is, set_other)
 
 pub Later-set : (f : ℕ → ℕ → Pair) (a b : ℕ) (p : Pair) → (f a b).taken ≤ p.taken → (f a b).gone ≤ p.gone → Later f (at_pair f a b p)
-Later-set f a b p t g = record {
-  taken = λ c d. elim (cases_Bool ((a == c) && (b == d))) [
-    | inl same ↦
-        let two = two_of a b c d same in
-        let x : (f c d).taken ≤ p.taken = subst (λ (n : ℕ). (f n d).taken ≤ p.taken) two.0 (subst (λ (n : ℕ). (f a n).taken ≤ p.taken) two.1 t) in
-        subst (λ (v : Pair). (f c d).taken ≤ v.taken) (sym (set_is f a b p c d same)) x
-    | inr off ↦ subst (λ (v : Pair). (f c d).taken ≤ v.taken) (sym (set_other f a b p c d off)) (omega arith)
-  ];
-  gone = λ c d. elim (cases_Bool ((a == c) && (b == d))) [
-    | inl same ↦
-        let two = two_of a b c d same in
-        let x : (f c d).gone ≤ p.gone = subst (λ (n : ℕ). (f n d).gone ≤ p.gone) two.0 (subst (λ (n : ℕ). (f a n).gone ≤ p.gone) two.1 g) in
-        subst (λ (v : Pair). (f c d).gone ≤ v.gone) (sym (set_is f a b p c d same)) x
-    | inr off ↦ subst (λ (v : Pair). (f c d).gone ≤ v.gone) (sym (set_other f a b p c d off)) (omega arith)
-  ];
-}
+Later-set f a b p t g = search (arith, two_of, set_is, set_other)

@@ -68,10 +68,7 @@ phased_start b valid = record {
   pairs = Pairs-start b;
   state = State-start b valid;
   sane = sane_start b valid;
-  ground = record {
-    rings = record { each = λ m. rings_first b.processes m };
-    lives = record { none = λ p is le n. known_first b [] b.processes n p valid.processes is le };
-  };
+  ground = (search (arith, rings_first, known_first));
   phases = phases_start b;
 }
 

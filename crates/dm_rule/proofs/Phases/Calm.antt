@@ -1,6 +1,6 @@
 -- What leaves the migrations of all processes as they are.
 use Rattle.dm_rule.proofs.Names.{◌≡◌, ◌⊎◌, ℕ, ◌≤◌, ◌==◌, ◌&&◌, not, true, false, refl, ap, ◌∙◌, sym, subst, inl, inr, Option, Some, cases_Bool, false≢true, Pid, MsgId, MessageKind, id_eq, View, Told, Spot, Queue, Held, Inbox, Untaken}
-use Rattle.dm_rule.proofs.Names.{standing, id_eq-is, is_between, is_apart, told_between, Phase, Moves, knows, token_in, sender_in, receiver_in, IsToken, HasToken, Alone, IsIn, left_true, About, times}
+use Rattle.dm_rule.proofs.Names.{standing, id_eq-is, is_between, is_apart, told_between, Phase, Moves, knows, token_in, sender_in, receiver_in, IsToken, HasToken, Alone, IsIn, left_true, About, times, arith, nat_tests}
 use Rattle.dm_rule.specs.View as view
 use Rattle.dm_rule.proofs.Lines.{not_true}
 use Rattle.dm_rule.proofs.Seen.{about_off}
@@ -29,13 +29,7 @@ pub calm_same : (v : View) → Calm v v
 calm_same v = record { known = λ m p. refl; fresh = λ i t e b. e; kept = λ i t e. e; back = λ i t e b z s. inl s; on = λ i t e b z s. (z, s) }
 
 came_on : (u v : View) (i : MsgId) (z : Spot) → ((y : Spot) → 1 ≤ standing v i y → Came u i y) → Came v i z → Came u i z
-came_on u v i z h c = elim c [
-  | inl s ↦ h z s
-  | inr t ↦ let (y, s, is) = t in elim (h y s) [
-    | inl x ↦ inr (y, x, is)
-    | inr x ↦ let (w, st, e) = x in inr (w, st, is ∙ ap (λ (q : Spot). Inbox (machine_of q)) e)
-  ]
-]
+came_on u v i z h c = grind (arith, nat_tests)
 
 pub calm_trans : (u v w : View) → Calm u v → Calm v w → Calm u w
 calm_trans u v w h k = record {
@@ -48,13 +42,7 @@ calm_trans u v w h k = record {
 
 -- a phase goes on
 pub stands_where : (v : View) (i : MsgId) (from to : ℕ) (z : Spot) → ((y : Spot) → 1 ≤ standing v i y → (y ≡ Inbox to) ⊎ (y ≡ Untaken from to)) → Came v i z → (z ≡ Inbox to) ⊎ (z ≡ Untaken from to)
-stands_where v i from to z h c = elim c [
-  | inl s ↦ h z s
-  | inr t ↦ let (y, s, is) = t in elim (h y s) [
-    | inl x ↦ inl (is ∙ ap (λ (q : Spot). Inbox (machine_of q)) x)
-    | inr x ↦ inl (is ∙ ap (λ (q : Spot). Inbox (machine_of q)) x)
-  ]
-]
+stands_where v i from to z h c = search arith
 
 -- the kind of a token is one of the protocol
 pub between_of : (k : MessageKind) (s d : ℕ) → (is_between k && not (s == d)) ≡ true → is_between k ≡ true
@@ -78,12 +66,7 @@ calm_alone v w p o c h i t z told b about st =
     elim (c.back i t was b z st) [ inl s ↦ h i t z was b about s | inr x ↦ let (y, s, is) = x in h i t y was b about s ]
 
 pub calm_in : (v w : View) (p : Pid) (phase : Phase) → Calm v w → IsIn v p phase → IsIn w p phase
-calm_in v w p phase c h = record {
-  known = λ m. ap (knows phase m) (c.known m p) ∙ h.known m;
-  token = calm_has v w p phase h.apart c h.token;
-  alone = calm_alone v w p (token_in phase) c h.alone;
-  apart = h.apart;
-}
+calm_in v w p phase c h = search (arith, calm_has v w p phase h.apart c h.token, calm_alone v w p (token_in phase) c h.alone, c.known, h.known)
 
 -- only one message stands elsewhere, and it is none of the protocol
 pub record Others (v w : View) (i : MsgId) : Type 0 where
@@ -102,23 +85,14 @@ pub calm_others : (v w : View) (i : MsgId) → Plain v i → Plain w i → ((t :
 calm_others v w i plain after kept h = record {
   known = h.known;
   fresh = λ j t e b. sym (h.told j (other_than w i j t after e b)) ∙ e;
-  kept = λ j t e. elim (cases_Bool (id_eq i j)) [
-    | inl same ↦ let is : i ≡ j = id_eq-is i j same in subst (λ (x : MsgId). w.told x ≡ Some t) is (kept t (ap v.told is ∙ e))
-    | inr apart ↦ h.told j apart ∙ e
-  ];
+  kept = λ j t e. (search (arith, id_eq-is));
   back = λ j t e b z s. inl (subst (λ n. 1 ≤ n) (h.spots j (other_than v i j t plain e b) z) s);
   on = λ j t e b z s. (z, subst (λ n. 1 ≤ n) (sym (h.spots j (other_than v i j t plain e b) z)) s);
 }
 
 -- nothing stands elsewhere
 pub calm_still : (v w : View) → ((m : ℕ) (p : Pid) → w.known m p ≡ v.known m p) → ((i : MsgId) → w.told i ≡ v.told i) → ((i : MsgId) (z : Spot) → standing w i z ≡ standing v i z) → Calm v w
-calm_still v w known told spots = record {
-  known = known;
-  fresh = λ i t e b. sym (told i) ∙ e;
-  kept = λ i t e. told i ∙ e;
-  back = λ i t e b z s. inl (subst (λ n. 1 ≤ n) (spots i z) s);
-  on = λ i t e b z s. (z, subst (λ n. 1 ≤ n) (sym (spots i z)) s);
-}
+calm_still v w known told spots = search arith
 
 -- the topic is no part of it
 pub calm_about : (v w : View) (a : About) → Calm v w → Calm v (view.about w a)

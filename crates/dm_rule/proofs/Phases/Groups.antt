@@ -1,6 +1,6 @@
 -- A group keeps each process in a phase, where what a machine's ring lists is here, and nothing is known of what is made next.
 use Rattle.dm_rule.proofs.Names.{◌≡◌, ℕ, ◌+◌, List, [], ◌∷◌, refl, ap, ◌∙◌, subst, slice_get, Option, None, Some, Pid, pid_of, MsgId, PlainMessage, Boot, first_number, Step, Line, Unknown, Here, after_head, Point, moved, Part, Says}
-use Rattle.dm_rule.proofs.Names.{Spelled, spelled, migrates, group_of}
+use Rattle.dm_rule.proofs.Names.{Spelled, spelled, migrates, group_of, arith}
 use Rattle.dm_rule.specs.Rule as rule
 use Rattle.dm_rule.proofs.States.{State, PairsFit}
 use Rattle.dm_rule.proofs.Groups.{group_is, begun, turn_off, arrives_net, resends_net}
@@ -24,11 +24,7 @@ abbrev turned : Point → ℕ → Point
 turned pt m = moved pt (Line.Head (Step.Turn m)) pt.kernel
 
 turn_fit : (pt : Point) (m : ℕ) → InPhases pt.view → Sane pt → PairsFit pt.view → Fit (turned pt m)
-turn_fit pt m h sane fits = record {
-  phases = calm_phases pt.view (after_head pt.view (Step.Turn m)) (head_calm pt.view (Step.Turn m)) h;
-  sane = sane_line pt (turned pt m) (Line.Head (Step.Turn m)) refl refl sane;
-  fits = record { within = fits.within; home = fits.home };
-}
+turn_fit pt m h sane fits = search (arith, head_calm, sane_line)
 
 comes_row : (b : Boot) (pt : Point) (m : ℕ) (i : MsgId) (is : List MsgId) (o : Option PlainMessage) (parts : List Part) (w : Spelled) → InPhases pt.view → State None pt → Sane pt → PairsFit pt.view → Rooted pt → pt.view.inbox m ≡ i ∷ is → pt.kernel.bag i ≡ o
     → rule.comes_to b pt m i o ≡ Some parts → spelled (turned pt m) parts ≡ Some w → InPhases w.point.view

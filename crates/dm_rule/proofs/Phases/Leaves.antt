@@ -2,7 +2,7 @@
 use Rattle.dm_rule.proofs.Names.{◌≡◌, ◌⊎◌, ℕ, zero, suc, ◌+◌, ◌≤◌, ◌==◌, ◌&&◌, Bool, true, false, not, List, [], ◌∷◌, ◌++◌, length, refl, ap, ◌∙◌, sym, subst, inl, inr, arith, if◌then◌else◌, Option, None, Some, cases_Bool, false≢true, Pid}
 use Rattle.dm_rule.proofs.Names.{pid_eq, MsgId, MessageKind, Line, Stage, id_eq, bind, Load, at_record, View, Told, Of, Known, Unknown, Frozen, view_after, handled_first, gone_to, receiver_of, is_kernels, Point, moved, after, Part, Says}
 use Rattle.dm_rule.proofs.Names.{Again, Spelled, lines_of, puts, behind, spelled, to_kernel, sends_on, leaves, Spot, Queue, Held, Inbox, Untaken, times, standing, is_between, is_away, kind_comes, Phase, Moves, knows, token_in, sender_in}
-use Rattle.dm_rule.proofs.Names.{receiver_in, id_eq-is, id_eq-same, pid_eq-same, bind-is}
+use Rattle.dm_rule.proofs.Names.{receiver_in, id_eq-is, id_eq-same, pid_eq-same, bind-is, nat_tests}
 use Rattle.dm_rule.specs.View as view
 use Rattle.dm_rule.specs.Phases as phase
 use Rattle.dm_rule.proofs.Once.{one_of}
@@ -77,9 +77,7 @@ fewer_record f a p j m q st = elim (cases_Bool ((a == m) && pid_eq p q)) [
 ]
 
 emptied_back : (v : View) (p : Pid) (j : MsgId) (z : Spot) → 1 ≤ standing (emptied v p) j z → 1 ≤ standing v j z
-emptied_back v p j (Queue m q) st = fewer_record v.queue v.acting p j m q st
-emptied_back v p j (Held m q) st = fewer_record v.held v.acting p j m q st
-emptied_back v p j _ st = st
+emptied_back v p j z h1 = search (arith, fewer_record)
 
 sent_spot : (pt : Point) (p : Pid) (n : ℕ) (j : MsgId) (z : Spot) → 1 ≤ standing (view_after pt.view (Line.SentOn p n)) j z → 1 ≤ standing (handled_first pt.view) j z
 sent_spot pt p n j z st = emptied_back (handled_first pt.view) p j z (subst (λ x. 1 ≤ x) (ap (times j) (sent_off pt.view p n z)) st)
@@ -97,10 +95,7 @@ sent_gone pt p n i is h front z = zero_if (standing (view_after pt.view (Line.Se
 
 -- what is of the protocol stands in no list, and stays where it is
 sent_on : (pt : Point) (p : Pid) (n : ℕ) (i : MsgId) (is : List MsgId) (h : InPhases pt.view) (j : MsgId) (t : Told) (z : Spot) → pt.view.inbox pt.view.acting ≡ i ∷ is → id_eq i j ≡ false → pt.view.told j ≡ Some t → is_between t.kind ≡ true → 1 ≤ standing pt.view j z → 1 ≤ standing (view_after pt.view (Line.SentOn p n)) j z
-sent_on pt p n i is h j t (Queue m q) front apart told b st = absurd (false≢true (sym (queued_plain pt.view m q j t h told st) ∙ b))
-sent_on pt p n i is h j t (Held m q) front apart told b st = absurd (false≢true (sym (held_plain pt.view m q j t h told st) ∙ b))
-sent_on pt p n i is h j t (Inbox m) front apart told b st = subst (λ x. 1 ≤ x) (sym (first_same pt.view i is j front apart (Inbox m))) st
-sent_on pt p n i is h j t (Untaken c d) front apart told b st = st
+sent_on pt p n i is h j t z h1 h2 h3 h4 h5 = grind (arith, nat_tests, queued_plain, held_plain, first_same)
 
 sent_learns : (pt : Point) (n : ℕ) (i : MsgId) (is : List MsgId) (t : Told) (h : Whole pt) (u : Due pt i t h.phases) → pt.view.inbox pt.view.acting ≡ i ∷ is → pt.view.told i ≡ Some t → Learns pt.view (view_after pt.view (Line.SentOn u.p n)) u.p
 sent_learns pt n i is t h u front told =
@@ -137,10 +132,7 @@ lists_tame v p j q h least told =
     record {
       what = t;
       told = is;
-      plain = elim (least_of (standing v j (Queue v.acting p)) (standing v j (Held v.acting p)) (subst (λ n. 1 ≤ n) sum least)) [
-        | inl x ↦ queued_plain v v.acting p j t h is x
-        | inr y ↦ held_plain v v.acting p j t h is y
-      ];
+      plain = (search (arith, least_of, queued_plain, held_plain));
     }
 
 -- it has left: the source forwards
@@ -149,14 +141,7 @@ left_if d (Frozen to) n e = e
 left_if d _ n e = absurd (false≢true e)
 
 left_known : (s d m n : ℕ) (b : Bool) (y : Known) → (s == m) ≡ b → knows (Moves MessageKind.AllTaken s d None) m y ≡ true → knows (Moves MessageKind.Restart s d None) m (if b then gone_to y n else y) ≡ true
-left_known s d m n true y e h =
-    ap (λ (c : Bool). if c then phase.kind_leaves MessageKind.Restart d (gone_to y n) else if d == m then kind_comes MessageKind.Restart s (gone_to y n) else is_away (gone_to y n)) e
-    ∙ left_if d y n (sym (ap (λ (c : Bool). if c then phase.kind_leaves MessageKind.AllTaken d y else if d == m then kind_comes MessageKind.AllTaken s y else is_away y) e) ∙ h)
-left_known s d m n false y e h =
-    ap (λ (c : Bool). if c then phase.kind_leaves MessageKind.Restart d y else if d == m then kind_comes MessageKind.Restart s y else is_away y) e
-    ∙ ap (λ (c : Bool). if d == m then c else is_away y) (elim y as (λ y_. kind_comes MessageKind.Restart s y_ ≡ kind_comes MessageKind.AllTaken s y_)
-    [ Unknown ↦ refl | _ ↦ refl ])
-    ∙ sym (ap (λ (c : Bool). if c then phase.kind_leaves MessageKind.AllTaken d y else if d == m then kind_comes MessageKind.AllTaken s y else is_away y) e) ∙ h
+left_known s d m n b y h1 h2 = search (arith, left_if)
 
 left_by : (v : View) (a m : ℕ) (p : Pid) (n : ℕ) (b : Bool) → (a == m) ≡ b → (if b && true then gone_to (v.known a p) n else v.known m p) ≡ (if b then gone_to (v.known m p) n else v.known m p)
 left_by v a m p n true e = ap (λ (x : ℕ). gone_to (v.known x p) n) (eq_is a m e)
@@ -184,11 +169,7 @@ left_row pt p s d b w h apart to e =
     }) refl apart
     (λ m. ap (knows (Moves MessageKind.Restart s d None) m) (left_at v s m p (v.moves p + 1) h.acting) ∙ left_known s d m (v.moves p + 1) (s == m) (v.known m p) refl (was m))
     (λ j x z. absurd (let f : None ≡ Some j = sym (ap token_in h.now) ∙ x in cc)) in
-    let whole : WholeBut (Some p) next = record {
-      state = by_line None pt l refl steady.state (Stands-stays (letters steady.state.own pt.kernel.bag) v next.view (λ z. left_off v p z) (λ j. refl) steady.state.stands) (λ j. refl);
-      fits = fits_as v next.view (pair_same v l refl) h.way.fits;
-      phases = turned.phases;
-    } in
+    let whole : WholeBut (Some p) next = (search (arith, by_line, Stands-stays, left_off, fits_as, pair_same)) in
     subst Whole n.point (owns_whole next p MessageKind.Restart s d b n.rest whole turned.now refl h.acting to n.more)
 
 pub leaves_row : (pt : Point) (i : MsgId) (is : List MsgId) (t : Told) (ids : List MsgId) (k : Known) (parts : List Part) (w : Spelled) (h : Whole pt) (u : Due pt i t h.phases) → u.k ≡ MessageKind.AllTaken → pt.view.inbox pt.view.acting ≡ i ∷ is → pt.view.told i ≡ Some t → is_kernels i ≡ true

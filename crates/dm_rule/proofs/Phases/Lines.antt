@@ -1,7 +1,7 @@
 -- Lines that leave the migrations of all processes as they are.
 use Rattle.dm_rule.proofs.Names.{◌≡◌, ℕ, zero, suc, ◌+◌, ◌==◌, ◌&&◌, Bool, true, false, List, [], ◌∷◌, ◌++◌, drop, length, refl, ap, ◌∙◌, sym, subst, inl, inr, arith, if◌then◌else◌, Option, None, Some, cases_Bool, length-append}
 use Rattle.dm_rule.proofs.Names.{drop-length, Pid, pid_eq, MsgId, MessageKind, id_eq, Load, Line, at_machine, at_pair, at_record, without_id, without_front, View, Pair, Told, handled, queued_for, held_for, dropped_for, forwarded_for}
-use Rattle.dm_rule.proofs.Names.{view_after, after_put, routed_on, Spot, Queue, Held, Inbox, Untaken, times, untaken, standing, is_between, pid_eq-is, id_eq-is, id_eq-same, id_eq-swap}
+use Rattle.dm_rule.proofs.Names.{view_after, after_put, routed_on, Spot, Queue, Held, Inbox, Untaken, times, untaken, standing, is_between, pid_eq-is, id_eq-is, id_eq-same, id_eq-swap, nat_tests}
 use Rattle.dm_rule.specs.View as view
 use Rattle.dm_rule.proofs.Standing.{times-append}
 use Rattle.dm_rule.proofs.Once.{one_of}
@@ -41,12 +41,7 @@ machine_times f m x j e n = elim (cases_Bool (m == n)) [
 ]
 
 pub record_times : (f : ℕ → Pid → List MsgId) (m : ℕ) (p : Pid) (x : List MsgId) (j : MsgId) → times j x ≡ times j (f m p) → (n : ℕ) (q : Pid) → times j (at_record f m p x n q) ≡ times j (f n q)
-record_times f m p x j e n q = elim (cases_Bool ((m == n) && pid_eq p q)) [
-  | inl same ↦
-      let both = parts (m == n) (pid_eq p q) same in
-      ap (λ (c : Bool). times j (if c then x else f n q)) same ∙ e ∙ ap (λ (k : ℕ). times j (f k p)) (eq_is m n both.0) ∙ ap (λ (r : Pid). times j (f n r)) (pid_eq-is p q both.1)
-  | inr apart ↦ ap (λ (c : Bool). times j (if c then x else f n q)) apart
-]
+record_times f m p x j e n q = grind (arith, nat_tests, parts, eq_is, pid_eq-is)
 
 pub pair_times : (f : ℕ → ℕ → Pair) (a b : ℕ) (p : Pair) (j : MsgId) → times j (untaken p) ≡ times j (untaken (f a b)) → (c d : ℕ) → times j (untaken (at_pair f a b p c d)) ≡ times j (untaken (f c d))
 pair_times f a b p j e c d = elim (cases_Bool ((a == c) && (b == d))) [
@@ -62,24 +57,16 @@ handled_spots v i j e (Inbox m) = machine_times v.inbox v.acting (without_front 
 handled_spots v i j e _ = refl
 
 pub queued_spots : (v : View) (i j : MsgId) (o : Option Pid) → id_eq i j ≡ false → (z : Spot) → standing (queued_for v i o) j z ≡ standing v j z
-queued_spots v i j None e z = refl
-queued_spots v i j (Some p) e (Queue m q) = record_times v.queue v.acting p (v.queue v.acting p ++ i ∷ []) j (last_times i j (v.queue v.acting p) e) m q
-queued_spots v i j (Some p) e _ = refl
+queued_spots v i j o h1 z = search (arith, record_times, last_times)
 
 pub held_spots : (v : View) (i j : MsgId) (o : Option Pid) → id_eq i j ≡ false → (z : Spot) → standing (held_for v i o) j z ≡ standing v j z
-held_spots v i j None e z = refl
-held_spots v i j (Some p) e (Held m q) = record_times v.held v.acting p (v.held v.acting p ++ i ∷ []) j (last_times i j (v.held v.acting p) e) m q
-held_spots v i j (Some p) e _ = refl
+held_spots v i j o h1 z = search (arith, record_times, last_times)
 
 pub dropped_spots : (v : View) (i j : MsgId) (o : Option Pid) → id_eq i j ≡ false → (z : Spot) → standing (dropped_for v i o) j z ≡ standing v j z
-dropped_spots v i j None e z = refl
-dropped_spots v i j (Some p) e (Queue m q) = record_times v.queue v.acting p (without_front i (v.queue v.acting p)) j (front_times i j (v.queue v.acting p) e) m q
-dropped_spots v i j (Some p) e _ = refl
+dropped_spots v i j o h1 z = search (arith, record_times, front_times)
 
 pub forwarded_spots : (v : View) (j : MsgId) (o : Option Pid) (z : Spot) → standing (forwarded_for v o) j z ≡ standing v j z
-forwarded_spots v j None z = refl
-forwarded_spots v j (Some p) (Queue m q) = refl
-forwarded_spots v j (Some p) _ = refl
+forwarded_spots v j o z = search arith
 
 pub queued_known : (v : View) (i : MsgId) (o : Option Pid) (m : ℕ) (p : Pid) → (queued_for v i o).known m p ≡ v.known m p
 queued_known v i None m p = refl
@@ -115,16 +102,13 @@ pub home_full : (v : View) (a b : ℕ) → PairsFit v → (a == b) ≡ true → 
 home_full v a b fits is = let e : a ≡ b = eq_is a b is in subst (λ n. (v.pair a n).taken ≡ length (v.pair a n).ids) e (fits.home a)
 
 pub put_spots : (v : View) (a b : ℕ) (i j : MsgId) (k : MessageKind) (q : Pid) → PairsFit v → id_eq i j ≡ false → (z : Spot) → standing (after_put v a b i k q) j z ≡ standing v j z
-put_spots v a b i j k q fits e (Inbox m) = put_inbox v a b i j (a == b) e m
-put_spots v a b i j k q fits e (Untaken c d) = pair_times v.pair a b (routed_on a b (v.pair a b) i) j (put_pair a b (v.pair a b) i j (a == b) refl e (home_full v a b fits)) c d
-put_spots v a b i j k q fits e _ = refl
+put_spots v a b i j k q h1 h2 z = search (arith, put_inbox, pair_times, put_pair, home_full)
 
 pub put_at : (v : View) (a b : ℕ) (i : MsgId) (k : MessageKind) (q : Pid) → (after_put v a b i k q).told i ≡ Some (view.first_told (v.told i) (record { kind = k; receiver = q; about = v.topic }))
 put_at v a b i k q = ap (λ (c : Bool). if c then Some (view.first_told (v.told i) (record { kind = k; receiver = q; about = v.topic })) else v.told i) (id_eq-same i)
 
 first_plain : (v : View) (i : MsgId) (k : MessageKind) (q : Pid) (o : Option Told) → v.told i ≡ o → is_between k ≡ false → Plain v i → is_between (view.first_told o (record { kind = k; receiver = q; about = v.topic })).kind ≡ false
-first_plain v i k q None is e plain = e
-first_plain v i k q (Some t) is e plain = plain t is
+first_plain v i k q o h1 h2 h3 = grind (arith, nat_tests)
 
 pub first_kept : (o : Option Told) (u t : Told) → o ≡ Some t → Some (view.first_told o u) ≡ Some t
 first_kept None u t e = cc

@@ -2,7 +2,6 @@
 use Rattle.dm_rule.proofs.Names.{◌≡◌, ℕ, ◌≤◌, ◌==◌, ◌&&◌, Bool, true, false, refl, ap, ◌∙◌, sym, subst, inl, arith, if◌then◌else◌, Option, None, Some, false≢true, nat_tests, Pid, MsgId, MessageKind, Label, Line, id_eq, Why, at_record, View}
 use Rattle.dm_rule.proofs.Names.{Told, Known, Unknown, Here, Ended, view_after, handled, served_told, ends_by, Spot, times, standing, is_between, is_away, is_here, is_over, kind_comes, Phase, Nowhere, Rests, Over, Moves, knows, token_in}
 use Rattle.dm_rule.proofs.Names.{pid_eq-same, id_eq-is, kind_leaves, sort_of}
-use Rattle.dm_rule.specs.View as view
 use Rattle.dm_rule.proofs.Lines.{not_true}
 use Rattle.dm_rule.proofs.Turns.{ended_off, created_off}
 use Rattle.dm_rule.proofs.Phases.Calm.{Plain}
@@ -11,6 +10,7 @@ use Rattle.dm_rule.proofs.Phases.Stand.{none_only, InPhases, Learns, learns_phas
 use Rattle.dm_rule.proofs.Phases.Pieces.{record_off, and_true}
 use Rattle.dm_rule.proofs.Phases.Rests.{rests_here}
 use Rattle.dm_rule.proofs.Trails.Steps.{set_at}
+use Rattle.dm_rule.specs.View as view
 
 -- one machine learns something of one process, and no message of the protocol stands elsewhere
 pub still_learns : (v w : View) (p : Pid) (x : Known) → w.known ≡ at_record v.known v.acting p x → w.told ≡ v.told → ((j : MsgId) (t : Told) → v.told j ≡ Some t → is_between t.kind ≡ true → (z : Spot) → standing w j z ≡ standing v j z) → Learns v w p
@@ -57,8 +57,7 @@ nowhere_known (Over at) h = absurd (false≢true (sym (over_if at) ∙ h at))
 nowhere_known (Moves k s d o) h = absurd (false≢true (sym (moves_if k s d) ∙ h s))
 
 made_of : (a m : ℕ) (b : Bool) → (a == m) ≡ b → knows (Rests a) m (if b then Here else Unknown) ≡ true
-made_of a m true e = ap (λ (c : Bool). if c then is_here Here else is_away Here) e
-made_of a m false e = ap (λ (c : Bool). if c then is_here Unknown else is_away Unknown) e
+made_of a m b h1 = search arith
 
 -- one is made on the acting machine
 pub made_phases : (v w : View) (p : Pid) → InPhases v → ((m : ℕ) → v.known m p ≡ Unknown) → w.known ≡ at_record v.known v.acting p Here → w.told ≡ v.told → ((j : MsgId) (t : Told) → v.told j ≡ Some t → is_between t.kind ≡ true → (z : Spot) → standing w j z ≡ standing v j z) → InPhases w

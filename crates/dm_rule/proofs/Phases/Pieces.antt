@@ -11,15 +11,10 @@ use Rattle.dm_rule.proofs.Lines.{eq_self}
 
 -- two kinds between which no machine learns anything
 leaves_as : (k j : MessageKind) (d : ℕ) (y : Known) → is_restart k ≡ is_restart j → kind_leaves k d y ≡ kind_leaves j d y
-leaves_as k j d (Frozen to) e = ap (λ (b : Bool). not b && (d == to)) e
-leaves_as k j d (Forward at moves) e = ap (λ (b : Bool). b && (d == at)) e
-leaves_as k j d _ e = refl
+leaves_as k j d y h1 = search arith
 
 comes_as : (k j : MessageKind) (s : ℕ) (y : Known) → is_early k ≡ is_early j → kind_comes k s y ≡ kind_comes j s y
-comes_as k j s Unknown e = e
-comes_as k j s (Incoming from) e = ap (λ (b : Bool). not b && (s == from)) e
-comes_as k j s (Forward at moves) e = e
-comes_as k j s _ e = refl
+comes_as k j s y h1 = search arith
 
 pub knows_as : (k j : MessageKind) (s d : ℕ) (o u : Option MsgId) (m : ℕ) (y : Known) → is_restart k ≡ is_restart j → is_early k ≡ is_early j → knows (Moves k s d o) m y ≡ knows (Moves j s d u) m y
 knows_as k j s d o u m y e f =
@@ -28,8 +23,7 @@ knows_as k j s d o u m y e f =
 
 -- what is known of another process
 pub and_false : (b c : Bool) → c ≡ false → (b && c) ≡ false
-and_false true c e = e
-and_false false c e = refl
+and_false b c h1 = search arith
 
 pub record_off : (f : ℕ → Pid → Known) (a : ℕ) (p : Pid) (x : Known) (m : ℕ) (q : Pid) → pid_eq p q ≡ false → at_record f a p x m q ≡ f m q
 record_off f a p x m q e = ap (λ (b : Bool). if b then x else f m q) (and_false (a == m) (pid_eq p q) e)
@@ -59,14 +53,7 @@ both_self b p x y = ap (λ (c : Bool). if b && c then x else y) (pid_eq-same p) 
 
 -- a request is taken: the machine expects the process
 accepted_if : (s d m : ℕ) (b c : Bool) (y : Known) → (s == m) ≡ b → (d == m) ≡ c → (s == d) ≡ false → knows (Moves MessageKind.Ask s d None) m y ≡ true → knows (Moves MessageKind.PullState s d None) m (if c then Incoming s else y) ≡ true
-accepted_if s d m true true y e f g h = absurd (let x : (s == d) ≡ true = grind (arith, nat_tests) in false≢true (sym g ∙ x))
-accepted_if s d m true false y e f g h =
-    ap (λ (b : Bool). if b then kind_leaves MessageKind.PullState d y else if d == m then kind_comes MessageKind.PullState s y else is_away y) e ∙ leaves_as MessageKind.PullState MessageKind.Ask d y refl
-    ∙ sym (ap (λ (b : Bool). if b then kind_leaves MessageKind.Ask d y else if d == m then kind_comes MessageKind.Ask s y else is_away y) e) ∙ h
-accepted_if s d m false true y e f g h = ap (λ (b : Bool). if b then kind_leaves MessageKind.PullState d (Incoming s) else if d == m then kind_comes MessageKind.PullState s (Incoming s) else is_away (Incoming s)) e ∙ ap (λ (b : Bool). if b then kind_comes MessageKind.PullState s (Incoming s) else is_away (Incoming s)) f ∙ eq_self s
-accepted_if s d m false false y e f g h =
-    ap (λ (b : Bool). if b then kind_leaves MessageKind.PullState d y else if d == m then kind_comes MessageKind.PullState s y else is_away y) e ∙ ap (λ (b : Bool). if b then kind_comes MessageKind.PullState s y else is_away y) f
-    ∙ sym (ap (λ (b : Bool). if b then kind_leaves MessageKind.Ask d y else if d == m then kind_comes MessageKind.Ask s y else is_away y) e ∙ ap (λ (b : Bool). if b then kind_comes MessageKind.Ask s y else is_away y) f) ∙ h
+accepted_if s d m b c y h1 h2 h3 h4 = search (arith, leaves_as, eq_self)
 
 pub not_false : (b : Bool) → not b ≡ true → b ≡ false
 not_false true e = absurd (false≢true e)
@@ -103,8 +90,7 @@ ask_row pt i is t false slots blocks w h u e front told mine is_ =
 
 -- a message of pieces: nothing is learned, and the next goes the other way
 asks_known : (v : View) (a : About) (m : ℕ) (p : Pid) → (asks_on v a).known m p ≡ v.known m p
-asks_known v NothingElse m p = refl
-asks_known v _ m p = refl
+asks_known v a m p = grind (arith, nat_tests)
 
 pub asks_acting : (v : View) (a : About) → (asks_on v a).acting ≡ v.acting
 asks_acting v NothingElse = refl

@@ -56,13 +56,7 @@ others_has : (v w : View) (q : Pid) (phase : Phase) (i : MsgId) → ((j : MsgId)
     → ((j : MsgId) → id_eq i j ≡ false → (z : Spot) → standing w j z ≡ standing v j z) → HasToken v q phase → HasToken w q phase
 others_has v w q (Moves k s d (Some id)) i kept told spots h =
     let apart = kept id (told_between q k s d) h.told in
-    record {
-      told = told id apart ∙ h.told;
-      from = h.from;
-      spot = h.spot;
-      stands = subst (λ n. 1 ≤ n) (sym (spots id apart h.spot)) h.stands;
-      ways = λ z st. h.ways z (subst (λ n. 1 ≤ n) (spots id apart z) st);
-    }
+    search arith
 others_has v w q _ i kept told spots h = tt
 
 put_others : (v w : View) (p q : Pid) (phase : Phase) (i : MsgId) (u : Told) → pid_eq p q ≡ false → ((m : ℕ) → w.known m q ≡ v.known m q) → w.told i ≡ Some u → u.about ≡ Of p → ((j : MsgId) → id_eq i j ≡ false → w.told j ≡ v.told j)

@@ -79,10 +79,7 @@ home_spots : (v : View) (i : MsgId) (is : List MsgId) (p : Pid) (j : MsgId) → 
 home_spots v i is p j front apart z = ap (times j) (home_off (handled_first v) p z ∙ first_off v i is front z) ∙ handled_spots v i j apart z
 
 came_home : (v : View) (i : MsgId) (is : List MsgId) (p : Pid) (j : MsgId) → v.inbox v.acting ≡ i ∷ is → id_eq i j ≡ false → (z : Spot) → Came (before_home v p) j z → Came v j z
-came_home v i is p j front apart z c = elim c [
-  | inl s ↦ inl (subst (λ n. 1 ≤ n) (home_spots v i is p j front apart z) s)
-  | inr x ↦ let (y, s, e) = x in inr (y, subst (λ n. 1 ≤ n) (home_spots v i is p j front apart y) s, e)
-]
+came_home v i is p j front apart z c = search (arith, home_spots)
 
 back_learns : (pt : Point) (l : Line) (i : MsgId) (is : List MsgId) (t : Told) (p : Pid) (h : State None pt) → is_put l ≡ false → pt.view.inbox pt.view.acting ≡ i ∷ is → pt.view.told i ≡ Some t → t.about ≡ Of p
     → ((z : Spot) → ids_at (view_after pt.view l) z ≡ ids_at (released (before_home pt.view p) p) z) → ((m : ℕ) (q : Pid) → pid_eq p q ≡ false → (view_after pt.view l).known m q ≡ pt.view.known m q) → Learns pt.view (view_after pt.view l) p
@@ -115,28 +112,16 @@ back_learns pt l i is t p h quiet front told about off known =
 
 -- it rests on the acting machine
 early_away : (k : MessageKind) (s : ℕ) (y : Known) → is_early k ≡ true → kind_comes k s y ≡ true → is_away y ≡ true
-early_away k s Unknown e h = refl
-early_away k s (Incoming from) e h = absurd (false≢true (sym (ap (λ (b : Bool). not b && (s == from)) e) ∙ h))
-early_away k s (Forward at moves) e h = refl
-early_away k s _ e h = absurd (false≢true h)
+early_away k s y h1 h2 = search arith
 
 left_away : (k : MessageKind) (d : ℕ) (y : Known) (c : Bool) → is_restart k ≡ true → (if c then kind_leaves k d y else is_away y) ≡ true → is_away y ≡ true
-left_away k d y true e h = (elim y as (λ y_. kind_leaves k d y_ ≡ true → is_away y_ ≡ true)
-    [ Frozen to ↦ λ h_. absurd (false≢true (sym (ap (λ (b : Bool). not b && (d == to)) e) ∙ h_)) | Forward at moves ↦ λ h_. refl | _ ↦ λ h_. absurd (false≢true h_) ]) h
-left_away k d y false e h = h
+left_away k d y c h1 h2 = grind (arith, nat_tests)
 
 refused_if : (k : MessageKind) (s d m : ℕ) (o : Option MsgId) (b : Bool) (y : Known) → is_early k ≡ true → (s == m) ≡ b → knows (Moves k s d o) m y ≡ true → knows (Rests s) m (if b then Here else y) ≡ true
-refused_if k s d m o true y e f h = ap (λ (c : Bool). if c then is_here Here else is_away Here) f
-refused_if k s d m o false y e f h =
-    ap (λ (c : Bool). if c then is_here y else is_away y) f
-    ∙ ((elim (d == m) as (λ c_. (if c_ then kind_comes k s y else is_away y) ≡ true → is_away y ≡ true)
-    [ true ↦ λ h_. early_away k s y e h_ | false ↦ λ h_. h_ ]) (sym (ap (λ (c : Bool). if c then kind_leaves k d y else if d == m then kind_comes k s y else is_away y) f) ∙ h))
+refused_if k s d m o b y h1 h2 h3 = search (arith, early_away)
 
 restarted_if : (k : MessageKind) (s d m : ℕ) (o : Option MsgId) (b : Bool) (y : Known) → is_restart k ≡ true → (d == m) ≡ b → knows (Moves k s d o) m y ≡ true → knows (Rests d) m (if b then Here else y) ≡ true
-restarted_if k s d m o true y e f h = ap (λ (c : Bool). if c then is_here Here else is_away Here) f
-restarted_if k s d m o false y e f h =
-    ap (λ (c : Bool). if c then is_here y else is_away y) f
-    ∙ left_away k d y (s == m) e (sym (ap (λ (c : Bool). if s == m then kind_leaves k d y else if c then kind_comes k s y else is_away y) f) ∙ h)
+restarted_if k s d m o b y h1 h2 h3 = search (arith, left_away)
 
 at_acting : (v : View) (a m : ℕ) (p : Pid) (x : Known) → v.acting ≡ a → at_record v.known v.acting p x m p ≡ (if a == m then x else v.known m p)
 at_acting v a m p x e = ap (λ (n : ℕ). at_record v.known n p x m p) e ∙ ap (λ (c : Bool). if (a == m) && c then x else v.known m p) (pid_eq-same p) ∙ and_true (a == m) x (v.known m p)
@@ -171,31 +156,18 @@ restart_whole pt i is t h u e front told mine =
     (λ m. ap (knows (Rests u.d) m) (at_acting pt.view u.d m u.p Here at) ∙ restarted_if u.k u.s u.d m (Some i) (u.d == m) (pt.view.known m u.p) (ap is_restart e) refl (due_known pt i t h.phases u m))
 
 moves_if : (k : MessageKind) (s d : ℕ) (b c : Bool) → (if b then kind_leaves k d Here else if c then kind_comes k s Here else is_away Here) ≡ false
-moves_if k s d true c = refl
-moves_if k s d false true = refl
-moves_if k s d false false = refl
+moves_if k s d b c = search arith
 
 away_comes : (a : ℕ) (y : Known) (c : Bool) → is_away y ≡ true → (if c then kind_comes MessageKind.Ask a y else is_away y) ≡ true
-away_comes a Unknown true h = refl
-away_comes a (Forward at moves) true h = refl
-away_comes a y false h = h
-away_comes a _ true h = absurd (false≢true h)
+away_comes a y c h1 = search arith
 
 -- what is here rests here
 pub rests_here : (phase : Phase) (m : ℕ) → knows phase m Here ≡ true → phase ≡ Rests m
-rests_here Nowhere m e = absurd (false≢true e)
-rests_here (Rests at) m e = (elim (at == m) as (λ b. (at == m) ≡ b → (if b then is_here Here else is_away Here) ≡ true → Rests at ≡ Rests m)
-    [ true ↦ λ e_ h. ap (λ (n : ℕ). Rests n) (eq_is at m e_) | false ↦ λ e_ h. absurd (false≢true h) ]) refl e
-rests_here (Over at) m e = absurd (false≢true (sym (elim (at == m) as (λ b. (if b then is_over Here else is_away Here) ≡ false)
-    [ true ↦ refl | false ↦ refl ]) ∙ e))
-rests_here (Moves k s d o) m e = absurd (false≢true (sym (moves_if k s d (s == m) (d == m)) ∙ e))
+rests_here phase m h1 = grind (arith, nat_tests, eq_is, moves_if)
 
 -- it is frozen, and the other machine is asked
 frozen_if : (a to m : ℕ) (b : Bool) (y : Known) → (a == m) ≡ b → (a == to) ≡ false → knows (Rests a) m y ≡ true → knows (Moves MessageKind.Ask a to None) m (if b then Frozen to else y) ≡ true
-frozen_if a to m true y e f h = ap (λ (c : Bool). if c then kind_leaves MessageKind.Ask to (Frozen to) else if to == m then kind_comes MessageKind.Ask a (Frozen to) else is_away (Frozen to)) e ∙ eq_self to
-frozen_if a to m false y e f h =
-    ap (λ (c : Bool). if c then kind_leaves MessageKind.Ask to y else if to == m then kind_comes MessageKind.Ask a y else is_away y) e
-    ∙ away_comes a y (to == m) (sym (ap (λ (c : Bool). if c then is_here y else is_away y) e) ∙ h)
+frozen_if a to m b y h1 h2 h3 = search (arith, eq_self, away_comes)
 
 -- the view behind step 1 is that of a process frozen, seen from a view that knows and does the same
 frozen_ends : (pt : Point) (p : Pid) (to : ℕ) (w : Spelled) (h : Whole pt) → State None (moved pt (Line.Migration Stage.Frozen p) pt.kernel) → Learns pt.view (view_after pt.view (Line.Migration Stage.Frozen p)) p

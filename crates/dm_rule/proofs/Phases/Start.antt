@@ -14,9 +14,7 @@ server_home : (q : Pid) (m : ℕ) → (if (m == 0) && (pid_eq q switchboard || p
 server_home q m = ap (λ (b : Bool). if b then Here else Unknown) (let e : ((m == 0) && (pid_eq q switchboard || pid_eq q manager)) ≡ ((pid_eq q switchboard || pid_eq q manager) && (q.home == m)) = grind (arith, nat_tests) in e)
 
 again_if : (c s : Bool) → (if c then Here else (if s && c then Here else Unknown)) ≡ (if c then Here else Unknown)
-again_if true s = refl
-again_if false true = refl
-again_if false false = refl
+again_if c s = search arith
 
 start_if : (p q : Pid) (m : ℕ) (b : Bool) (s : Bool) → pid_eq p q ≡ b → (if b && (p.home == m) then Here else at_home s q m) ≡ at_home (b || s) q m
 start_if p q m true s e = let is : p ≡ q = pid_eq-is p q e in ap (λ (r : Pid). if r.home == m then Here else at_home s q m) is ∙ again_if (q.home == m) s
@@ -31,19 +29,12 @@ start_phase true q = Rests q.home
 start_phase false q = Nowhere
 
 start_knows : (b : Bool) (q : Pid) (m : ℕ) → knows (start_phase b q) m (at_home b q m) ≡ true
-start_knows true q m = elim (q.home == m) as (λ c. (if c then is_here (if c then Here else Unknown) else is_away (if c then Here else Unknown)) ≡ true)
-    [ true ↦ refl | false ↦ refl ]
-start_knows false q m = refl
+start_knows b q m = search arith
 
 pub phases_start : (b : Boot) → InPhases (first_view b)
 phases_start b = record {
   of = λ q. start_phase (starts b.processes q) q;
-  each = λ q. record {
-    known = λ m. ap (knows (start_phase (starts b.processes q) q) m) (start_known b.processes m q) ∙ start_knows (starts b.processes q) q m;
-    token = elim (starts b.processes q) as (λ b_. HasToken (first_view b) q (start_phase b_ q)) [ true ↦ tt | false ↦ tt ];
-    alone = λ i t z told bt about st. cc;
-    apart = elim (starts b.processes q) as (λ b_. is_apart (start_phase b_ q) ≡ true) [ true ↦ refl | false ↦ refl ];
-  };
+  each = λ q. (search (arith, start_known, start_knows));
   put = λ q e. absurd ((elim (starts b.processes q) as (λ b_. is_due (start_phase b_ q) ≡ true → ⊥)
       [ true ↦ λ e_. false≢true e_ | false ↦ λ e_. false≢true e_ ]) e);
   about = λ i t told bt. absurd (let f : None ≡ Some t = told in cc);

@@ -33,16 +33,7 @@ record Onto (pt next : Point) : Type 0 where
 
 puts_by : (pt next : Point) (b : ℕ) (i : MsgId) (k : MessageKind) (q : Pid) (c d : Bool) → Grounded pt
     → after pt (Line.Put pt.view.acting b i k q ∷ (if c then [] else if d then packet_line pt.view pt.view.acting b (Load.Data (length (pt.view.pair pt.view.acting b).ids)) ∷ [] else [])) ≡ Some next → Onto pt next
-puts_by pt next b i k q true d h is =
-    let f : moved pt (Line.Put pt.view.acting b i k q) pt.kernel ≡ next = cc in subst (Onto pt) f (record { ground = quiet_put pt pt.view.acting b i k q h; kept = λ p none. none })
-puts_by pt next b i k q false false h is =
-    let f : moved pt (Line.Put pt.view.acting b i k q) pt.kernel ≡ next = cc in subst (Onto pt) f (record { ground = quiet_put pt pt.view.acting b i k q h; kept = λ p none. none })
-puts_by pt next b i k q false true h is =
-    let n = length (pt.view.pair pt.view.acting b).wire in
-    let l = Load.Data (length (pt.view.pair pt.view.acting b).ids) in
-    let mid = moved pt (Line.Put pt.view.acting b i k q) pt.kernel in
-    let f : moved mid (Line.Packet pt.view.acting b n l) mid.kernel ≡ next = cc in
-    subst (Onto pt) f (record { ground = quiet_packet mid pt.view.acting b n l (quiet_put pt pt.view.acting b i k q h); kept = λ p none. none })
+puts_by pt next b i k q c d h1 h2 = search (arith, quiet_put, quiet_packet)
 
 puts_ground : (pt next : Point) (b : ℕ) (i : MsgId) (k : MessageKind) (q : Pid) (ls : List Line) → Grounded pt → Some (puts pt.view b i k q) ≡ Some ls → after pt ls ≡ Some next → Onto pt next
 puts_ground pt next b i k q ls h is leads =
@@ -81,23 +72,17 @@ parts_ground (p ∷ ps) pt w ok need sane is h =
 
 -- what the phases say: a process that is asked for is here nowhere
 pub moves_away : (k : MessageKind) (s d m : ℕ) (o : Option MsgId) (b c : Bool) → (s == m) ≡ b → (d == m) ≡ c → knows (Moves k s d o) m Here ≡ false
-moves_away k s d m o true c e f = ap (λ (x : Bool). if x then false else if d == m then false else false) e
-moves_away k s d m o false true e f = ap (λ (x : Bool). if x then false else if d == m then false else false) e ∙ ap (λ (x : Bool). if x then false else false) f
-moves_away k s d m o false false e f = ap (λ (x : Bool). if x then false else if d == m then false else false) e ∙ ap (λ (x : Bool). if x then false else false) f
+moves_away k s d m o b c h1 h2 = search arith
 
 asks_by : (pt : Point) (i : MsgId) (is : List MsgId) (t : Told) → InPhases pt.view → pt.view.inbox pt.view.acting ≡ i ∷ is → pt.view.told i ≡ Some t → Asks pt t
 asks_by pt i is t h front told e p about here =
     let v = pt.view in
     let u = due pt i is t h front told (ap is_between e) in
-    let same : u.p ≡ p = (let f : Of u.p ≡ Of p = sym (ap (λ (y : Told). y.about) u.told) ∙ about in cc) in
-    let known : knows (h.of u.p) v.acting (v.known v.acting u.p) ≡ true = (h.each u.p).known v.acting in
-    let now : knows (Moves u.k u.s u.d (Some i)) v.acting Here ≡ true = sym (ap (λ (x : Phase). knows x v.acting Here) u.phase) ∙ sym (ap (knows (h.of u.p) v.acting) (ap (v.known v.acting) same ∙ here)) ∙ known in
-    false≢true (sym (moves_away u.k u.s u.d v.acting (Some i) (u.s == v.acting) (u.d == v.acting) refl refl) ∙ now)
+    search (arith, moves_away)
 
 -- what is served is in the ring
 served_if : (s : OneKernel) (queue : Pid → List MsgId) (f : Pid → Known) (p q : Pid) (ps : List Pid) (c : Bool) → (if c then Some p else rule.first_runnable s queue ps) ≡ Some q → f p ≡ Here → (rule.first_runnable s queue ps ≡ Some q → f q ≡ Here) → f q ≡ Here
-served_if s queue f p q ps true e here rest = ap f (let g : q ≡ p = cc in g) ∙ here
-served_if s queue f p q ps false e here rest = rest e
+served_if s queue f p q ps c h1 h2 h3 = grind (arith, nat_tests)
 
 served_here : (s : OneKernel) (queue : Pid → List MsgId) (f : Pid → Known) (q : Pid) (ps : List Pid) → AllHere f ps → rule.first_runnable s queue ps ≡ Some q → f q ≡ Here
 served_here s queue f q [] h e = cc

@@ -1,14 +1,14 @@
 -- Rings list what is here, and nothing is known of what was never made: a line after the other.
 use Rattle.dm_rule.proofs.Names.{◌≡◌, ℕ, ◌+◌, ◌≤◌, ◌==◌, Bool, not, filter, [], ◌∷◌, ◌++◌, refl, ap, ◌∙◌, sym, subst, ⊤, if◌then◌else◌, slice_get, Option, None, Some, Pid, MsgId, MessageKind, Step, Stage, PlainMessage, PlainWhat, Label}
 use Rattle.dm_rule.proofs.Names.{Why, bind, Life, Alive, OneKernel, with_sent, answer_to, without_message, begun, Line, at_machine, at_record, without, moved_back, View, Told, About, Of, Known, Unknown, Here, Frozen, Incoming, Ended}
-use Rattle.dm_rule.proofs.Names.{view_after, handled, receiver_of, ends_by, served_told, target_of, front_of, gone_to, Point, label_of, kernel_after, pid_eq-same, bind-is, when-is, nexts, after_step, at_hand-is, seen, sort_of}
-use Rattle.dm_onekernel.specs.Service as service
-use Rattle.dm_onekernel.specs.Step as kernel
-use Rattle.dm_rule.specs.View as view
+use Rattle.dm_rule.proofs.Names.{view_after, handled, receiver_of, ends_by, served_told, target_of, front_of, gone_to, Point, label_of, kernel_after, pid_eq-same, bind-is, when-is, nexts, after_step, at_hand-is, seen, sort_of, arith}
 use Rattle.dm_rule.proofs.Seen.{aim, sets}
 use Rattle.dm_rule.proofs.Telling.{Sane}
 use Rattle.dm_rule.proofs.Rings.{Rings, all_moved, learnt_without, learnt_last, rings_same, rings_ring, rings_learn, rings_known}
 use Rattle.dm_rule.proofs.Lives.{Lives, Lived, Kept, lived_alive, grown_none, lives_same, lives_learn}
+use Rattle.dm_onekernel.specs.Service as service
+use Rattle.dm_onekernel.specs.Step as kernel
+use Rattle.dm_rule.specs.View as view
 
 pub record Roots (s : OneKernel) (v : View) : Type 0 where
   pub rings : Rings v
@@ -53,12 +53,10 @@ queued_idles v id None = idles v
 queued_idles v id (Some p) = record { known = refl; ring = refl }
 
 held_idles : (v : View) (id : MsgId) (o : Option Pid) → Idles v (view.held_for v id o)
-held_idles v id None = idles v
-held_idles v id (Some p) = record { known = refl; ring = refl }
+held_idles v id o = search (arith, idles)
 
 forwarded_idles : (v : View) (o : Option Pid) → Idles v (view.forwarded_for v o)
-forwarded_idles v None = idles v
-forwarded_idles v (Some p) = record { known = refl; ring = refl }
+forwarded_idles v o = search (arith, idles)
 
 taken_idles : (v : View) (b : ℕ) (o : Option MsgId) → Idles v (view.taken_id v b o)
 taken_idles v b None = idles v
@@ -97,13 +95,7 @@ served_lived pt t id h kept e u told none le =
     alive_lived pt.kernel t m.to (Alive x) kept alive (ap t.processes (sym to) ∙ none) (subst (λ (q : Pid). 3 ≤ q.num) to le)
 
 created_some : (s t : OneKernel) (id : MsgId) (m : PlainMessage) (child : Pid) (w : PlainWhat) → service.creates s id m child w ≡ Some t → Lived t child
-created_some s t id m child (PlainWhat.Create image links) e none le =
-    let (i, is, rest) = bind-is (slice_get s.images image) (service.creates_of s id m child links) t e in
-    let u = with_sent (service.with_created (without_message s id) child i links) (Some (answer_to m (PlainWhat.Created child))) in
-    let same : u ≡ t = (when-is _ u t rest).1 in
-    let there : u.processes child ≡ Some (Alive (begun s.format i links)) = ap (λ (c : Bool). if c then Some (Alive (begun s.format i links)) else s.processes child) (pid_eq-same child) in
-    absurd (let f : None ≡ Some (Alive (begun s.format i links)) = sym none ∙ ap (λ (k : OneKernel). k.processes child) (sym same) ∙ there in cc)
-created_some s t id m child _ e none le = cc
+created_some s t id m child w h1 = search (arith, bind-is, when-is, pid_eq-same)
 
 created_lived : (s t : OneKernel) (id : MsgId) (child : Pid) → kernel.step s (Label.Created id child) ≡ Some t → Lived t child
 created_lived s t id child e = let (m, there, rest) = bind-is (s.bag id) (λ m. service.creates s id m child m.what) t e in created_some s t id m child m.what rest

@@ -1,6 +1,6 @@
 -- What a kernel's own message, a turn, and the other directives say needs nothing but for the first line.
 use Rattle.dm_rule.proofs.Names.{◌≡◌, ℕ, List, [], ◌∷◌, ◌++◌, refl, ap, ◌∙◌, Option, None, Some, Pid, MsgId, MessageKind, Stage, PlainMessage, Boot, manager, PlainProcess, OneKernel, Line, Told, Of, Here, Point, Part, Says, Transmits}
-use Rattle.dm_rule.proofs.Names.{to_kernel, sends_on, migrates}
+use Rattle.dm_rule.proofs.Names.{to_kernel, sends_on, migrates, arith}
 use Rattle.dm_onekernel.specs.Step as kernel
 use Rattle.dm_rule.specs.Rule as rule
 use Rattle.dm_rule.proofs.Groups.{IsNetLine, IsNet}
@@ -27,31 +27,7 @@ hears_first : (pt : Point) (b : Boot) (o : Point) (m : ℕ) (id : MsgId) (q : Op
 hears_first pt b o m id q same lives known asks = first_of pt (rule.hears b o m id q) (λ ps. by_hears (First pt) b o m id q ps (λ t is. (
     let lived : (p : Pid) (x : PlainProcess) → kernel.alive (o.kernel.processes p) ≡ Some x → Lived pt.kernel p =
     λ p x alive. lived_alive pt.kernel p (pt.kernel.processes p) x (ap (λ (s : OneKernel). kernel.alive (s.processes p)) same ∙ alive) refl in
-    record {
-      told = λ p x about alive. record {
-        accepted = λ ask. ((lived p x alive, asks t is ask p about), (λ q k. tt, tt));
-        lacks = λ slots blocks. (tt, (λ q k. tt, tt));
-        stays = λ kind none. (lived p x alive, tt);
-        stays_asked = λ kind n there. (lived p x alive, (λ q k. tt, (λ q k. tt, tt)));
-        state = (tt, (λ q k. tt, tt));
-        next_chunk = (tt, (λ q k. tt, tt));
-        last_chunk = (tt, (λ q k. tt, tt));
-        memory = (tt, (λ q k. tt, tt));
-        next_block = (tt, (λ q k. tt, tt));
-        last_block = (tt, (λ q k. tt, tt));
-        left = λ ids to frozen. (tt, again_loose pt.kernel to ids (Says (Line.Migration Stage.Left p) ∷ to_kernel MessageKind.Restart id.from.home ∷ []) (λ q k. tt, (λ q k. tt, tt)));
-        restarted = λ kind none. (lived p x alive, tt);
-        restarted_asked = λ kind n there. (lived p x alive, (λ q k. tt, (λ q k. tt, tt)));
-      };
-      updated = λ kind. (tt, tt);
-      updated_none = λ kind at_. (tt, tt);
-      no_move = λ at_. (tt, tt);
-      leaving = λ to at_. (tt, tt);
-      coming = λ from at_. (tt, tt);
-      forwarded = λ to moves at_. forwards_first pt o.addresses id t.kind manager to;
-      stays_here = λ at_. (tt, tt);
-      frozen = λ to at_. (lived_here pt.kernel pt.view t.receiver pt.view.acting lives (known t.receiver ∙ at_.known), (λ q k. tt, (λ q k. tt, tt)));
-    }
+    search (arith, again_loose, forwards_first, lived_here)
     )))
 
 pub turns_first : (pt : Point) (b : Boot) (o : Point) (m : ℕ) (inbox : List MsgId) → pt.kernel ≡ o.kernel → Lives pt.kernel pt.view → ((p : Pid) → pt.view.known pt.view.acting p ≡ o.view.known m p)
@@ -63,13 +39,7 @@ turns_first pt b o m (i ∷ is) same lives known served asks = elim (o.kernel.ba
 
 -- the other directives
 net_needs : (l : Line) → IsNetLine l → (pt : Point) → Needs pt l
-net_needs (Line.Taken a b n) h pt = tt
-net_needs (Line.Old a b n) h pt = tt
-net_needs (Line.Early a b n) h pt = tt
-net_needs (Line.Acked a b n) h pt = tt
-net_needs (Line.Resent m n) h pt = tt
-net_needs Line.Nothing h pt = tt
-net_needs _ h pt = absurd h
+net_needs l h1 pt = search arith
 
 pub net_loose : (s : OneKernel) (ps : List Part) → IsNet ps → AllLoose s ps
 net_loose s [] h = tt

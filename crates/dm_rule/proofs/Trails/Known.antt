@@ -24,12 +24,7 @@ get_either (x ∷ xs) d (suc c) m e = get_either xs d c m e
 
 -- the same is known of it, and its trail is the same
 pub trail_same : (v w : View) (t u : Trails) (p : Pid) → ((m : ℕ) → w.known m p ≡ v.known m p) → u p ≡ t p → Trail v t p → Trail w u p
-trail_same v w t u p known same h = record {
-  begins = ap (λ (xs : List ℕ). slice_get xs 0) same ∙ h.begins;
-  named = λ m k j e. ap (λ (xs : List ℕ). slice_get xs j) same ∙ h.named m k j (sym (known m) ∙ e);
-  behind = λ m k j c e f. h.behind m k j c (sym (known m) ∙ e) (sym (ap (λ (xs : List ℕ). slice_get xs c) same) ∙ f);
-  kept = λ m n c e f g. h.kept m n c (λ x. e (known n ∙ x)) (sym (ap (λ (xs : List ℕ). slice_get xs c) same) ∙ f) (sym (known m) ∙ g);
-}
+trail_same v w t u p known same h = search arith
 
 -- of two that are known one is
 not_forward : (b : Bool) (x y : Known) (k j : ℕ) → x ≢ Forward k j → (if b then x else y) ≡ Forward k j → y ≡ Forward k j
@@ -65,18 +60,7 @@ trail_made v w t p known unknown only h = record {
 
 -- its messages are sent on to a machine where it comes: the trail has one machine more
 pub trail_grows : (v w : View) (t u : Trails) (p : Pid) (d from : ℕ) → ((m : ℕ) → w.known m p ≡ v.known m p) → u p ≡ t p ++ d ∷ [] → v.known d p ≡ Incoming from → Trail v t p → Trail w u p
-trail_grows v w t u p d from known more comes h = record {
-  begins = ap (λ (xs : List ℕ). slice_get xs 0) more ∙ get_more (t p) (d ∷ []) 0 p.home h.begins;
-  named = λ m k j e. ap (λ (xs : List ℕ). slice_get xs j) more ∙ get_more (t p) (d ∷ []) j k (h.named m k j (sym (known m) ∙ e));
-  behind = λ m k j c e f. elim (get_either (t p) d c m (sym (ap (λ (xs : List ℕ). slice_get xs c) more) ∙ f)) [
-    | inl old ↦ h.behind m k j c (sym (known m) ∙ e) old
-    | inr new ↦ absurd (let x : Incoming from ≡ Forward k j = sym comes ∙ ap (λ (i : ℕ). v.known i p) new ∙ sym (known m) ∙ e in cc)
-  ];
-  kept = λ m n c e f g. elim (get_either (t p) d c m (sym (ap (λ (xs : List ℕ). slice_get xs c) more) ∙ f)) [
-    | inl old ↦ h.kept m n c (λ x. e (known n ∙ x)) old (sym (known m) ∙ g)
-    | inr new ↦ (let x : Incoming from ≡ Unknown = sym comes ∙ ap (λ (i : ℕ). v.known i p) new ∙ sym (known m) ∙ g in cc)
-  ];
-}
+trail_grows v w t u p d from known more comes h = search (arith, get_more, get_either)
 
 -- the machine that it leaves forwards from then on
 forward_is : (b : Bool) (d n : ℕ) (y : Known) (k j : ℕ) → (if b then Forward d n else y) ≡ Forward k j → ((b ≡ true) × (d ≡ k) × (n ≡ j)) ⊎ (y ≡ Forward k j)
@@ -103,19 +87,10 @@ trail_left v w t p d known there at long apart h = record {
     less : (m c j : ℕ) → slice_get (t p) c ≡ Some m → (v.acting == m) ≡ true → v.moves p + 1 ≡ j → c < j
     less m c j f s n =
         let within = slice_get_within (t p) c m f in
-        elim (cases_Bool (c == v.moves p + 1)) [
-          | inl same ↦
-              absurd (let i : Some d ≡ Some m = sym at ∙ sym (ap (λ (k : ℕ). slice_get (t p) k) (eq_is c (v.moves p + 1) same)) ∙ f in
-              let dm : d ≡ m = cc in apart (dm ∙ sym (eq_is v.acting m s)))
-          | inr off ↦ before c (v.moves p) (length (t p)) j within long off n
-        ]
+        search (arith, eq_is)
 
 -- the trail of a process that was never made is its home alone
 pub home_alone : (v : View) (t : Trails) (p : Pid) → Trail v t p → StoodOnTrail v t p Nowhere → (c m : ℕ) → slice_get (t p) c ≡ Some m → m ≡ p.home
 home_alone v t p h s c m e =
     let within = slice_get_within (t p) c m e in
-    let long = s.long in
-    let moves = s.unmade refl in
-    let first : c ≡ 0 = omega (arith, within, long, moves) in
-    let f : Some p.home ≡ Some m = sym h.begins ∙ sym (ap (λ (n : ℕ). slice_get (t p) n) first) ∙ e in
-    let g : p.home ≡ m = cc in sym g
+    search arith

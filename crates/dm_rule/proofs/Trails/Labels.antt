@@ -1,12 +1,12 @@
 -- Each label keeps each address on its trail.
 use Rattle.dm_rule.proofs.Names.{◌≡◌, true, refl, ap, ◌∙◌, sym, subst, Option, None, Some, Pid, Place, MsgId, MessageKind, Line, manager, Label, OneKernel, View, Told, is_kernels, after_label, served_told, ends_by, handled, dropped_for}
-use Rattle.dm_rule.proofs.Names.{receiver_of, Addresses, Receiver, Sender, given, gives, ascends, to_of, Trails, Trail, IsOn, AddressesOn, OwnOn, sort_of}
-use Rattle.dm_onekernel.specs.Step as kernel
+use Rattle.dm_rule.proofs.Names.{receiver_of, Addresses, Receiver, Sender, given, gives, ascends, to_of, Trails, Trail, IsOn, AddressesOn, OwnOn, sort_of, arith, nat_tests}
 use Rattle.dm_rule.proofs.Hushed.{hushed}
 use Rattle.dm_rule.proofs.Homes.{homes_are, at_home}
 use Rattle.dm_rule.proofs.Homes.Serves.{Named, EndedAt}
 use Rattle.dm_rule.proofs.Homes.Labels.{SaidOn, label_on}
 use Rattle.dm_rule.proofs.Trails.Spares.{Outside, gives_spares, spared_receiver, spared_sender}
+use Rattle.dm_onekernel.specs.Step as kernel
 
 -- where a message's receiver has ended, the message's own address says where
 pub ended_on : (s : OneKernel) (v : View) (a : Addresses) (t : Trails) (id : MsgId) → (a (Receiver id)).at ≡ v.acting → AddressesOn s a t → EndedAt (IsOn t) s v a id
@@ -32,11 +32,7 @@ pub label_told : (v : View) (l : Label) → (after_label v l).told ≡ v.told
 label_told v l = (hushed v (Line.Label l) refl).told
 
 pub label_topic : (v : View) (l : Label) → (after_label v l).topic ≡ v.topic
-label_topic v (Label.Served id) = elim (v.told id) as (λ o. (served_told (handled v id) o).topic ≡ (handled v id).topic)
-    [ None ↦ refl | Some u ↦ kills_topic (handled v id) u.kind (Some u.receiver) ]
-label_topic v (Label.Dropped id) = elim (receiver_of (v.told id)) as (λ o. (dropped_for (handled v id) id o).topic ≡ (handled v id).topic)
-    [ None ↦ refl | Some p ↦ refl ]
-label_topic v _ = refl
+label_topic v l = search (arith, kills_topic)
 
 -- kernels' own messages keep theirs
 pub own_same : (v w : View) (a b : Addresses) (t u : Trails) → w.told ≡ v.told → w.topic ≡ v.topic → ((i : MsgId) → is_kernels i ≡ true → b (Receiver i) ≡ a (Receiver i)) → ((i : MsgId) → is_kernels i ≡ true → b (Sender i) ≡ a (Sender i))

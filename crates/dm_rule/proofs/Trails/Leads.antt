@@ -24,10 +24,7 @@ passing_most f (suc n) = let a = passing_most f n in let b = one_most (f n) in o
 
 one_grows : (b c : Bool) → (b ≡ true → c ≡ true) → one b ≤ one c
 unfolding one
-one_grows true true h = omega arith
-one_grows true false h = absurd (false≢true (h refl))
-one_grows false true h = omega arith
-one_grows false false h = omega arith
+one_grows b c h1 = search arith
 
 passing_grows : (f g : ℕ → Bool) (n : ℕ) → ((k : ℕ) → f k ≡ true → g k ≡ true) → passing f n ≤ passing g n
 unfolding passing
@@ -94,9 +91,7 @@ less_test m n e = grind (arith, nat_tests)
 
 -- a step
 goes_on : (x : Known) (c : ℕ) (next : ℕ → ℕ → Bool) → x ≢ Unknown → ((k j : ℕ) → x ≡ Forward k j → (c < j) × (next j k ≡ true)) → leads_on x c next ≡ true
-goes_on Unknown c next known h = absurd (known refl)
-goes_on (Forward k j) c next known h = let f = h k j refl in both_true (nat_lt c j) (next j k) (less_test c j f.0) f.1
-goes_on _ c next known h = refl
+goes_on x c next h1 h2 = search (arith, both_true, less_test)
 
 left_some : (xs : List ℕ) (machines j k : ℕ) → k < machines → slice_get xs j ≡ Some k → 0 < left_at xs machines j
 unfolding left_at

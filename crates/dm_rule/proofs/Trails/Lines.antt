@@ -3,15 +3,14 @@
 use Rattle.dm_rule.proofs.Names.{◌≡◌, ℕ, ◌+◌, ◌≤◌, ◌&&◌, Bool, true, false, List, [], ◌∷◌, ◌++◌, refl, ap, ◌∙◌, sym, subst, inl, inr, arith, nat_lt, if◌then◌else◌, slice_get, Option, None, Some, cases_Bool, false≢true, Pid, Place, MsgId}
 use Rattle.dm_rule.proofs.Names.{id_eq, MessageKind, manager, OneKernel, pid_eq-is, id_eq-same, View, Told, About, Known, Frozen, Forward, is_kernels, own_id, Addresses, Holder, Receiver, Sender, Enclosed, AskedBy, given, place_known}
 use Rattle.dm_rule.proofs.Names.{all_follow, is_told_back, told_back_gets, forwards, place_told, belongs_to, leads_to, is_pid, is_behind, updated_to, updated, names, to_of, sender_of, times, Trails, Trail, IsOn, AddressesOn, OwnOn}
+use Rattle.dm_rule.proofs.Names.{nat_tests}
 use Rattle.dm_rule.proofs.Once.{one_of}
 use Rattle.dm_rule.proofs.Lines.{parts}
 use Rattle.dm_rule.proofs.Trails.Places.{Goes, Comes, Named, Links, Owns, AllAre, AllGet, given_on, all_grown}
 
 -- all of them are on their trails, and each kind of holder's are
 pub all_are : (s : OneKernel) (v : View) (a : Addresses) (t : Trails) → AddressesOn s a t → OwnOn v a t → AllAre s v a t
-all_are s v a t links own h q (Links e) = links h q e
-all_are s v a t links own h q (Owns (Goes i u is k told r)) = subst (λ (g : Holder). IsOn t q (a g)) (sym is) (subst (λ (p : Pid). IsOn t p (a (Receiver i))) r (own.receiver i u k told))
-all_are s v a t links own h q (Owns (Comes i u is mine told k r)) = subst (λ (g : Holder). IsOn t q (a g)) (sym is) (subst (λ (p : Pid). IsOn t p (a (Sender i))) r (own.sender i u mine told k))
+all_are s v a t h1 h2 = search arith
 
 pub links_are : (s : OneKernel) (v : View) (a : Addresses) (t : Trails) → AllAre s v a t → AddressesOn s a t
 links_are s v a t h g q e = h g q (Links e)
@@ -32,14 +31,10 @@ pub all_as : (s : OneKernel) (v w : View) (a : Addresses) (t : Trails) → ((i :
 all_as s v w a t same h g q e = h g q (told_back s v w g q same e)
 
 pub unnamed_receiver : (s : OneKernel) (v : View) (i : MsgId) (q : Pid) → s.bag i ≡ None → v.told i ≡ None → Named s v (Receiver i) q → ⊥
-unnamed_receiver s v i q bag told (Links e) = let f : None ≡ Some q = sym (ap to_of bag) ∙ e in cc
-unnamed_receiver s v i q bag told (Owns (Goes j u is k was r)) = let ij : i ≡ j = cc in let f : None ≡ Some u = sym told ∙ ap v.told ij ∙ was in cc
-unnamed_receiver s v i q bag told (Owns (Comes j u is mine was k r)) = cc
+unnamed_receiver s v i q h1 h2 h3 = search arith
 
 pub unnamed_sender : (s : OneKernel) (v : View) (i : MsgId) (q : Pid) → s.bag i ≡ None → v.told i ≡ None → Named s v (Sender i) q → ⊥
-unnamed_sender s v i q bag told (Links e) = let f : None ≡ Some q = sym (ap sender_of bag) ∙ e in cc
-unnamed_sender s v i q bag told (Owns (Goes j u is k was r)) = cc
-unnamed_sender s v i q bag told (Owns (Comes j u is mine was k r)) = let ij : i ≡ j = cc in let f : None ≡ Some u = sym told ∙ ap v.told ij ∙ was in cc
+unnamed_sender s v i q h1 h2 h3 = search arith
 
 pub forwarded_all : (s : OneKernel) (v : View) (a : Addresses) (t : Trails) (id : MsgId) (u : Told) (d n : ℕ) → v.told id ≡ Some u → v.known v.acting u.receiver ≡ Forward d n → ((q : Pid) → Named s v (Receiver id) q → q ≡ u.receiver)
     → s.bag (own_id v) ≡ None → v.told (own_id v) ≡ None → Trail v t u.receiver → AllAre s v a t → AllAre s v (given a (forwards v a id (v.told id))) t
@@ -55,11 +50,7 @@ forwarded_all s v a t id u d n told at for bag fresh trail h =
 
 -- the update goes to where the message came from
 pub forwarded_back : (v : View) (a : Addresses) (id : MsgId) (u : Told) → v.told id ≡ Some u → id_eq id (own_id v) ≡ false → is_told_back u.kind ≡ true → given a (forwards v a id (v.told id)) (Receiver (own_id v)) ≡ a (Sender id)
-forwarded_back v a id u told other back =
-    ap (λ (o : Option Told). given a (forwards v a id o) (Receiver (own_id v))) told
-    ∙ ap (λ (c : Bool). if c then place_known (v.known v.acting u.receiver) (v.moves u.receiver) (a (Receiver id)) else given a (told_back_gets v a id (is_told_back u.kind)) (Receiver (own_id v))) other
-    ∙ ap (λ (c : Bool). given a (told_back_gets v a id c) (Receiver (own_id v))) back
-    ∙ ap (λ (c : Bool). if c then a (Sender id) else a (Receiver (own_id v))) (id_eq-same (own_id v))
+forwarded_back v a id u told other back = grind (arith, nat_tests, id_eq-same)
 
 -- its messages are sent on to where a process goes
 follow_gets : (s : OneKernel) (v : View) (a : Addresses) (t : Trails) (p : Pid) (d : ℕ) (ids : List MsgId) → v.known v.acting p ≡ Frozen d → slice_get (t p) (v.moves p + 1) ≡ Some d
@@ -87,16 +78,10 @@ pid_there p None e = absurd (false≢true e)
 pid_there p (Some q) e = ap Some (sym (pid_eq-is p q e))
 
 pub leads_names : (s : OneKernel) (h : Holder) (p : Pid) → leads_to s h ≡ Some p → names s h ≡ Some p
-leads_names s (Receiver i) p e = cc
-leads_names s (Sender i) p e = cc
-leads_names s (Enclosed i k) p e = cc
-leads_names s (AskedBy r) p e = cc
-leads_names s _ p e = e
+leads_names s h p h1 = search arith
 
 pub leads_where : (s : OneKernel) (v : View) (h : Holder) (p q : Pid) → leads_to s h ≡ Some p → Named s v h q → p ≡ q
-leads_where s v h p q e (Links f) = let g : Some p ≡ Some q = sym (leads_names s h p e) ∙ f in cc
-leads_where s v h p q e (Owns (Goes i u is k told r)) = absurd (let f : None ≡ Some p = sym (ap (leads_to s) is) ∙ e in cc)
-leads_where s v h p q e (Owns (Comes i u is mine told k r)) = absurd (let f : None ≡ Some p = sym (ap (leads_to s) is) ∙ e in cc)
+leads_where s v h p q h1 h2 = search (arith, leads_names)
 
 pub behind_where : (s : OneKernel) (a : Addresses) (q p : Pid) (n : ℕ) (h : Holder) → is_behind s a q p n h ≡ true → leads_to s h ≡ Some p
 behind_where s a q p n h e =

@@ -1,21 +1,12 @@
 -- Addresses that holders get are on trails, where each of them is.
 use Rattle.dm_rule.proofs.Names.{◌≡◌, ℕ, ◌==◌, Bool, true, List, [], ◌∷◌, ◌++◌, ap, ◌∙◌, sym, subst, inl, inr, ⊤, if◌then◌else◌, slice_get, Some, cases_Bool, Pid, Place, pid_eq, MsgId, id_eq, MessageKind, manager, OneKernel, pid_eq-is}
-use Rattle.dm_rule.proofs.Names.{id_eq-is, View, Told, is_kernels, Addresses, Holder, Slot, Owner, Receiver, Sender, Enclosed, Child, Name, Answer, AskedBy, Gets, given, holder_eq, names, Trails, IsOn}
+use Rattle.dm_rule.proofs.Names.{id_eq-is, View, Told, is_kernels, Addresses, Holder, Slot, Owner, Receiver, Sender, Enclosed, Child, Name, Answer, AskedBy, Gets, given, holder_eq, names, Trails, IsOn, arith}
 use Rattle.dm_rule.proofs.Lines.{eq_is, parts}
 use Rattle.dm_rule.proofs.Trails.Known.{get_more}
 
 -- holders that test as one are one
 pub holder_is : (g h : Holder) → holder_eq g h ≡ true → g ≡ h
-holder_is (Slot p k) (Slot q l) e = let both = parts (pid_eq p q) (k == l) e in ap (λ (r : Pid). Slot r k) (pid_eq-is p q both.0) ∙ ap (Slot q) (eq_is k l both.1)
-holder_is (Owner p) (Owner q) e = ap Owner (pid_eq-is p q e)
-holder_is (Receiver i) (Receiver j) e = ap Receiver (id_eq-is i j e)
-holder_is (Sender i) (Sender j) e = ap Sender (id_eq-is i j e)
-holder_is (Enclosed i k) (Enclosed j l) e = let both = parts (id_eq i j) (k == l) e in ap (λ (r : MsgId). Enclosed r k) (id_eq-is i j both.0) ∙ ap (Enclosed j) (eq_is k l both.1)
-holder_is (Child n) (Child m) e = ap Child (eq_is n m e)
-holder_is (Name n) (Name m) e = ap Name (eq_is n m e)
-holder_is (Answer n) (Answer m) e = ap Answer (eq_is n m e)
-holder_is (AskedBy p) (AskedBy q) e = ap AskedBy (pid_eq-is p q e)
-holder_is _ _ e = cc
+holder_is g h h1 = search (arith, parts, pid_eq-is, eq_is, id_eq-is)
 
 -- whose address a holder has, of the kernel without machines and of kernels' own messages
 pub data Owned (v : View) (h : Holder) (q : Pid) : Type 0 where

@@ -2,11 +2,11 @@
 use Rattle.dm_rule.proofs.Names.{◌≡◌, ◌⊎◌, ℕ, suc, ◌+◌, Bool, true, false, List, [], ◌∷◌, refl, ap, ◌∙◌, sym, subst, inl, inr, arith, if◌then◌else◌, slice_get, Option, None, Some, cases_Bool, false≢true, Pid, Place, pid_eq, MsgId, id_eq}
 use Rattle.dm_rule.proofs.Names.{MessageKind, manager, OneKernel, pid_eq-is, id_eq-is, id_eq-same, View, Told, is_kernels, after_put, Addresses, Holder, Receiver, Sender, Child, Gets, gets, given, unmoved, child_from, child_number}
 use Rattle.dm_rule.proofs.Names.{own_given, first_gives, names, Trails, Trail, IsOn, Sort, sort_of, option_map_or}
-use Rattle.dm_rule.specs.View as view
 use Rattle.dm_rule.proofs.States.{put_told_off}
 use Rattle.dm_rule.proofs.Phases.Lines.{put_at}
 use Rattle.dm_rule.proofs.Trails.Places.{Goes, Comes, Named, Links, Owns, AllAre, AllGet, given_on}
 use Rattle.dm_rule.proofs.Trails.Lines.{unnamed_receiver, unnamed_sender}
+use Rattle.dm_rule.specs.View as view
 
 -- the first put of a kernel's own message
 pub put_named : (s : OneKernel) (v : View) (x y : ℕ) (id : MsgId) (k : MessageKind) (q : Pid) (h : Holder) (r : Pid) → v.told id ≡ None → Named s (after_put v x y id k q) h r
@@ -30,10 +30,7 @@ put_named s v x y id k q h r none (Owns (Comes i u is mine told move to)) = elim
 ]
 
 own_gets_by : (s : OneKernel) (v : View) (a : Addresses) (t : Trails) (id : MsgId) (q : Pid) (w : Sort) → s.bag id ≡ None → v.told id ≡ None → AllGet s v t (own_given s v a id q w)
-own_gets_by s v a t id q Sort.Request bag told = ((λ q e. absurd (unnamed_receiver s v id q bag told e)), ((λ q e. absurd (unnamed_sender s v id q bag told e)), tt))
-own_gets_by s v a t id q (Sort.Between passage) bag told = ((λ q e. absurd (unnamed_receiver s v id q bag told e)), ((λ q e. absurd (unnamed_sender s v id q bag told e)), tt))
-own_gets_by s v a t id q Sort.Unsent bag told = ((λ q e. absurd (unnamed_receiver s v id q bag told e)), ((λ q e. absurd (unnamed_sender s v id q bag told e)), tt))
-own_gets_by s v a t id q _ bag told = tt
+own_gets_by s v a t id q w h1 h2 = search (arith, unnamed_receiver, unnamed_sender)
 
 pub put_all : (s : OneKernel) (v : View) (a : Addresses) (t : Trails) (x y : ℕ) (id : MsgId) (k : MessageKind) (q : Pid) → s.bag id ≡ None → v.told id ≡ None → IsOn t q (given a (own_given s v a id q (sort_of k)) (Receiver id))
     → (k ≡ MessageKind.Migrate → IsOn t manager (given a (own_given s v a id q (sort_of k)) (Sender id))) → AllAre s v a t → AllAre s (after_put v x y id k q) (given a (first_gives (v.told id) (own_given s v a id q (sort_of k)))) t
@@ -89,10 +86,7 @@ abbrev pub is_own : MessageKind → Bool
 is_own k = is_own_sort (sort_of k)
 
 plain_given : (s : OneKernel) (v : View) (a : Addresses) (id : MsgId) (q : Pid) (w : Sort) → is_own_sort w ≡ false → own_given s v a id q w ≡ []
-plain_given s v a id q Sort.Request e = absurd (let f : true ≡ false = e in cc)
-plain_given s v a id q (Sort.Between passage) e = absurd (let f : true ≡ false = e in cc)
-plain_given s v a id q Sort.Unsent e = absurd (let f : true ≡ false = e in cc)
-plain_given s v a id q _ e = refl
+plain_given s v a id q w h1 = search arith
 
 pub plain_gives : (s : OneKernel) (v : View) (a : Addresses) (id : MsgId) (q : Pid) (k : MessageKind) → is_own k ≡ false → own_given s v a id q (sort_of k) ≡ []
 plain_gives s v a id q k e = plain_given s v a id q (sort_of k) e

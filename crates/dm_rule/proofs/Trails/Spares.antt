@@ -3,7 +3,8 @@ use Rattle.dm_rule.proofs.Names.{◌≡◌, ℕ, ◌+◌, ◌==◌, ◌&&◌, Bo
 use Rattle.dm_rule.proofs.Names.{id_eq, id_of, PlainMessage, PlainWhat, Label, Reply, switchboard, manager, bind, PlainProcess, reg, NamedLink, OneKernel, with_sent, answer_id, id_eq-is, id_eq-same, sent_at, bind-is, when-is, View}
 use Rattle.dm_rule.proofs.Names.{is_kernels, Addresses, Holder, Slot, Owner, Receiver, Sender, Enclosed, Answer, Gets, gets, given, gives, holder_eq, unmoved, encloses, enclosed_from, sends_burden, fills, fills_by, call_gets}
 use Rattle.dm_rule.proofs.Names.{receives_links, receives_burden, slot_after, landing_gets, serves_burden, child_links, board_finds, board_keeps, board_takes_burden, manager_tells_burden, manager_sends, manager_answers}
-use Rattle.dm_rule.proofs.Names.{manager_takes_burden, both_true, at_hand-is, burden_of, option_map_or}
+use Rattle.dm_rule.proofs.Names.{manager_takes_burden, both_true, at_hand-is, burden_of, option_map_or, arith, nat_tests}
+use Rattle.dm_rule.proofs.Lines.{not_true}
 use Rattle.dm_onekernel.specs.Calls as calls
 use Rattle.dm_onekernel.specs.Pieces as pieces
 use Rattle.dm_onekernel.specs.Switchboard as board
@@ -12,7 +13,6 @@ use Rattle.dm_onekernel.specs.Service as service
 use Rattle.dm_onekernel.specs.Step as kernel
 use Rattle.dm_rule.specs.Addresses as addresses
 use Rattle.dm_rule.specs.Given as request
-use Rattle.dm_rule.proofs.Lines.{not_true}
 
 -- these are none of a message's receiver and sender
 abbrev pub spares_one : MsgId → Holder → Bool
@@ -25,8 +25,7 @@ spares i [] = true
 spares i (g ∷ gs) = spares_one i g.holder && spares i gs
 
 pub not_is : (b : Bool) → not b ≡ true → b ≡ false
-not_is true e = absurd (false≢true e)
-not_is false e = refl
+not_is b h1 = search arith
 
 both : (b c : Bool) → (b && c) ≡ true → (b ≡ true) × (c ≡ true)
 both true c e = (refl, e)
@@ -77,10 +76,7 @@ fills_spares p None place i = refl
 fills_spares p (Some slot) place i = refl
 
 pub made_spares : (v : View) (a : Addresses) (p : Pid) (n : ℕ) (c : Reply) (o : Option PlainProcess) (i : MsgId) → spares i (call_gets v a p n c o) ≡ true
-made_spares v a p n Reply.Done (Some x) i = elim (calls.call_number n) as (λ n_. spares i (fills_by v a p x n_) ≡ true)
-    [ calls.Make ↦ fills_spares p (first_empty x.links) _ i | calls.Copy ↦ fills_spares p (first_empty x.links) _ i | _ ↦ refl ]
-made_spares v a p n Reply.Done None i = refl
-made_spares v a p n _ o i = refl
+made_spares v a p n c o i = search (arith, fills_spares)
 
 -- sendings
 pub sends_what_spares : (v : View) (a : Addresses) (p : Pid) (x : PlainProcess) (id : MsgId) (w : PlainWhat) (i : MsgId) → id_eq id i ≡ false → spares i (sends_burden v a p x id (burden_of w)) ≡ true
@@ -147,9 +143,7 @@ creates_what_spares a id child _ i = refl
 
 -- the switchboard
 pub finds_spares : (a : Addresses) (sent : MsgId) (names : List NamedLink) (body : List ℕ) (k : board.Answer) (i : MsgId) → spares i (board_finds a sent names body k) ≡ true
-finds_spares a sent names [] k i = refl
-finds_spares a sent names (op ∷ name) board.Registered i = refl
-finds_spares a sent names (op ∷ name) _ i = refl
+finds_spares a sent names body k i = search arith
 
 pub keeps_spares : (a : Addresses) (id : MsgId) (names : List NamedLink) (k : board.Answer) (i : MsgId) → spares i (board_keeps a id names k) ≡ true
 keeps_spares a id names board.Registered i = refl
@@ -157,11 +151,7 @@ keeps_spares a id names _ i = refl
 
 board_links_spares : (s : OneKernel) (v : View) (a : Addresses) (id : MsgId) (code channel : ℕ) (body : List ℕ) (links : List PlainLink) (i : MsgId) → is_kernels i ≡ true → spares i (board_takes_burden s v a id (burden_of (PlainWhat.User code channel body links))) ≡ true
 board_links_spares s v a id code channel body [] i own = refl
-board_links_spares s v a id code channel body (l ∷ ls) i own =
-    let sent = id_of switchboard s.switchboard.sent in
-    let asked = board.asks s.switchboard.names body ls in
-    two_more i sent (board_finds a sent s.switchboard.names body asked.answer ++ board_keeps a id s.switchboard.names asked.answer) (apart i sent own refl)
-    (spares_both i (board_finds a sent s.switchboard.names body asked.answer) (board_keeps a id s.switchboard.names asked.answer) (finds_spares a sent s.switchboard.names body asked.answer i) (keeps_spares a id s.switchboard.names asked.answer i))
+board_links_spares s v a id code channel body (l ∷ ls) i own = search (arith, two_more, apart, spares_both, finds_spares, keeps_spares)
 
 -- the manager
 pub tells_spares : (v : View) (a : Addresses) (id : MsgId) (code : ℕ) (sent : PlainMessage) (w : PlainWhat) (i : MsgId) → id_eq sent.id i ≡ false → spares i (manager_tells_burden v a id code sent (burden_of w)) ≡ true
@@ -173,8 +163,7 @@ manager_sends_spares v a id code None i e = refl
 manager_sends_spares v a id code (Some sent) i e = tells_spares v a id code sent sent.what i (e sent refl)
 
 pub manager_answers_spares : (v : View) (a : Addresses) (n : ℕ) (o : Option PlainMessage) (i : MsgId) → ((m : PlainMessage) → o ≡ Some m → id_eq m.id i ≡ false) → spares i (manager_answers v a n o) ≡ true
-manager_answers_spares v a n None i e = refl
-manager_answers_spares v a n (Some sent) i e = two_more i sent.id (gets (Enclosed sent.id 0) (unmoved v.acting) ∷ []) (e sent refl) refl
+manager_answers_spares v a n o i h1 = search (arith, two_more)
 
 pub manager_takes_spares : (s : OneKernel) (v : View) (a : Addresses) (m : PlainMessage) (w : PlainWhat) (o : Option manage.ManagerTook) (i : MsgId) → ((k : manage.ManagerTook) → o ≡ Some k → (x : PlainMessage) → k.message ≡ Some x → id_eq x.id i ≡ false) → spares i (manager_takes_burden s v a m (burden_of w) o) ≡ true
 manager_takes_spares s v a m (PlainWhat.User b1 b2 b3 b4) None i e = refl
@@ -224,6 +213,5 @@ gives_spares s t v a (Label.Created id child) i is out own = elim (s.bag id) as 
     [ None ↦ refl | Some m ↦ two_more i (answer_id id) (addresses.creates_burden a id child (burden_of m.what)) (answers_apart i id own) (creates_what_spares a id child m.what i) ]
 gives_spares s t v a (Label.NoSpace id f b) i is out own = two_more i (answer_id id) [] (answers_apart i id own) refl
 gives_spares s t v a (Label.Asked id) i is out own = elim (s.bag id) as (λ o. spares i (request.given_to_follow a id o) ≡ true) [ None ↦ refl | Some m ↦ refl ]
-gives_spares s t v a (Label.Answered id o) i is out own = elim (s.noted id) as (λ o. spares i (request.given_at_end v a id o) ≡ true)
-    [ None ↦ refl | Some p ↦ two_more i (answer_id id) [] (answers_apart i id own) refl ]
+gives_spares s t v a (Label.Answered id o) i is out own = grind (arith, nat_tests, two_more, answers_apart)
 gives_spares s t v a _ i is out own = refl

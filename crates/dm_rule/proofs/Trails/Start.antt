@@ -9,12 +9,10 @@ start_no_forward true k j = λ e. cc
 start_no_forward false k j = λ e. cc
 
 start_place : (p : Pid) (c m : ℕ) → slice_get (p.home ∷ []) c ≡ Some m → (p.home == m) ≡ true
-start_place p zero m e = let f : p.home ≡ m = cc in let g : (p.home == p.home) ≡ true = grind (arith, nat_tests) in ap (λ (n : ℕ). p.home == n) (sym f) ∙ g
-start_place p (suc c) m e = cc
+start_place p c m h1 = search arith
 
 here_not : (b : Bool) → b ≡ true → (if b then Here else Unknown) ≢ Unknown
-here_not true e f = cc
-here_not false e f = cc
+here_not b h1 = grind (arith, nat_tests)
 
 pub trail_start : (b : Boot) (p : Pid) → Trail (first_view b) first_trails p
 trail_start b p = record {
@@ -32,14 +30,4 @@ stood_start b p true = record { now = refl; next = λ d e. absurd (let f : None 
 stood_start b p false = record { now = refl; next = λ d e. absurd (let f : None ≡ Some d = e in cc); long = refl; unmade = λ e. refl }
 
 pub trailed_start : (b : Boot) → IsValid b → Trailed (first_point b) first_trails (λ p. start_phase (starts b.processes p) p)
-trailed_start b valid = record {
-  trail = trail_start b;
-  stood = λ p. stood_start b p (starts b.processes p);
-  links = λ h q e. subst (IsOn first_trails q) (sym ((Homes-start b valid).home h q e)) refl;
-  own = record {
-    receiver = λ i u k e. absurd (let f : None ≡ Some u = e in cc);
-    sender = λ i u m e k. absurd (let f : None ≡ Some u = e in cc);
-    about = λ i u p m c e f. absurd (let g : None ≡ Some u = e in cc);
-    topic = λ p m c e. cc;
-  };
-}
+trailed_start b valid = search (arith, trail_start b, stood_start, b.processes, Homes-start)

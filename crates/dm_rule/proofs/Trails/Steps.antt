@@ -7,15 +7,10 @@ use Rattle.dm_rule.proofs.Seen.{aim, sets}
 use Rattle.dm_rule.proofs.Trails.Known.{trail_same, trail_learns, trail_made, trail_grows, trail_left, home_alone}
 
 pub holds_is : (k : MessageKind) (d : ℕ) (x : Known) → is_restart k ≡ false → kind_leaves k d x ≡ true → x ≡ Frozen d
-holds_is k d (Frozen m) e h = let both = parts (not (is_restart k)) (d == m) h in sym (ap Frozen (eq_is d m both.1))
-holds_is k d (Forward m n) e h = absurd (let both = parts (is_restart k) (d == m) h in false≢true (sym e ∙ both.0))
-holds_is k d _ e h = absurd (false≢true h)
+holds_is k d x h1 h2 = search (arith, parts, eq_is)
 
 pub expects_is : (k : MessageKind) (s : ℕ) (x : Known) → is_early k ≡ false → kind_comes k s x ≡ true → x ≡ Incoming s
-expects_is k s (Incoming m) e h = let both = parts (not (is_early k)) (s == m) h in sym (ap Incoming (eq_is s m both.1))
-expects_is k s Unknown e h = absurd (false≢true (sym e ∙ h))
-expects_is k s (Forward m n) e h = absurd (false≢true (sym e ∙ h))
-expects_is k s _ e h = absurd (false≢true h)
+expects_is k s x h1 h2 = search (arith, parts, eq_is)
 
 pub two_apart : (v : View) (p : Pid) (k : MessageKind) (s d : ℕ) (o : Option MsgId) → IsIn v p (Moves k s d o) → d ≢ s
 two_apart v p k s d o h e = let both = parts (is_between k) (not (s == d)) h.apart in false≢true (sym (ap not (ap (λ (n : ℕ). s == n) e ∙ eq_self s)) ∙ both.1)
@@ -31,18 +26,10 @@ destination_expects v p k s d o h e =
 
 -- one machine learns something of one process
 pub set_at : (v : View) (p : Pid) (x : Known) (m : ℕ) → at_record v.known v.acting p x m p ≡ (if v.acting == m then x else v.known m p)
-set_at v p x m = ap (λ (c : Bool). if (v.acting == m) && c then x else v.known m p) (pid_eq-same p) ∙ drop_true (v.acting == m)
-  where
-    drop_true : (b : Bool) → (if b && true then x else v.known m p) ≡ (if b then x else v.known m p)
-    drop_true true = refl
-    drop_true false = refl
+set_at v p x m = search (arith, pid_eq-same)
 
 pub set_off : (v : View) (p : Pid) (x : Known) (m : ℕ) (q : Pid) → pid_eq p q ≡ false → at_record v.known v.acting p x m q ≡ v.known m q
-set_off v p x m q off = ap (λ (c : Bool). if (v.acting == m) && c then x else v.known m q) off ∙ drop_false (v.acting == m)
-  where
-    drop_false : (b : Bool) → (if b && false then x else v.known m q) ≡ v.known m q
-    drop_false true = refl
-    drop_false false = refl
+set_off v p x m q h1 = search arith
 
 pub set_trail : (v w : View) (t : Trails) (p q : Pid) (x : Known) → w.known ≡ at_record v.known v.acting p x → (((m : ℕ) → w.known m p ≡ (if v.acting == m then x else v.known m p)) → Trail v t p → Trail w t p) → Trail v t q → Trail w t q
 set_trail v w t p q x known on h = elim (cases_Bool (pid_eq p q)) [

@@ -2,12 +2,9 @@
 use Rattle.dm_rule.proofs.Names.{◌≡◌, ◌≢◌, ℕ, ◌+◌, ◌≤◌, Bool, true, false, List, ◌++◌, length, refl, ap, ◌∙◌, sym, subst, ⊤, ◌==◌, not, filter, slice_get, Option, None, Some, Pid, MsgId, MessageKind, manager, Label, OneKernel, Step}
 use Rattle.dm_rule.proofs.Names.{bind-is, Line, Stage, View, Told, Known, Unknown, Here, Frozen, Forward, is_kernels, own_id, view_after, after_label, after_head, after_put, after_proto, handled, taken_id, queued_for, held_for}
 use Rattle.dm_rule.proofs.Names.{forwarded_for, forward_about, served_told, ends_by, receiver_of, Addresses, Receiver, Sender, given, forwards, all_follow, own_given, first_gives, addresses_after, ascends, Nowhere, Moves, IsIn, is_restart}
-use Rattle.dm_rule.proofs.Names.{is_early, Point, moved, after_line, times, Trails, Trail, StoodOnTrail, IsOn, AddressesOn, OwnOn, trails_after, PlainMessage, PlainWhat, gives, machine_in, seen, move_target, sort_of}
-use Rattle.dm_onekernel.specs.Step as kernel
-use Rattle.dm_rule.specs.View as view
+use Rattle.dm_rule.proofs.Names.{is_early, Point, moved, after_line, times, Trails, Trail, StoodOnTrail, IsOn, AddressesOn, OwnOn, trails_after, PlainMessage, PlainWhat, gives, machine_in, seen, move_target, sort_of, arith}
 use Rattle.dm_rule.proofs.Hushed.{hushed}
 use Rattle.dm_rule.proofs.Seen.{sets}
-use Rattle.dm_rule.proofs.Homes.Serves as serves
 use Rattle.dm_rule.proofs.Homes.Labels.{SaidOn}
 use Rattle.dm_rule.proofs.Phases.Lines.{queued_known, held_known, dropped_known, forwarded_known}
 use Rattle.dm_rule.proofs.Phases.Pieces.{proto_known}
@@ -18,6 +15,9 @@ use Rattle.dm_rule.proofs.Trails.Puts.{is_own, put_all, put_routed, told_again, 
 use Rattle.dm_rule.proofs.Trails.Steps.{frozen_trail, accepted_trail, restarted_trail, stays_trail, ended_trail, born_trail, sent_on_at, sent_on_grows, sent_on_trail, left_line_trail, source_holds}
 use Rattle.dm_rule.proofs.Trails.Spares.{Outside}
 use Rattle.dm_rule.proofs.Trails.Labels.{label_links, label_pending, label_own}
+use Rattle.dm_onekernel.specs.Step as kernel
+use Rattle.dm_rule.specs.View as view
+use Rattle.dm_rule.proofs.Homes.Serves as serves
 
 -- what each line keeps
 pub record Treads (pt : Point) (t : Trails) : Type 0 where
@@ -101,12 +101,7 @@ LineFits pt t _ = ⊤
 
 -- addresses that stay
 own_as : (v w : View) (a : Addresses) (t : Trails) → w.told ≡ v.told → ((p : Pid) (m c : ℕ) → w.topic ≡ view.Place p m c → slice_get (t p) c ≡ Some m) → OwnOn v a t → OwnOn w a t
-own_as v w a t told topic h = record {
-  receiver = λ i u mine e. h.receiver i u mine (sym (ap (λ (f : MsgId → Option Told). f i) told) ∙ e);
-  sender = λ i u mine e k. h.sender i u mine (sym (ap (λ (f : MsgId → Option Told). f i) told) ∙ e) k;
-  about = λ i u p m c e f. h.about i u p m c (sym (ap (λ (g : MsgId → Option Told). g i) told) ∙ e) f;
-  topic = topic;
-}
+own_as v w a t told topic h = search arith
 
 own_of : (s : OneKernel) (v : View) (a : Addresses) (t : Trails) → AllAre s v a t → ((i : MsgId) (u : Told) (p : Pid) (m c : ℕ) → v.told i ≡ Some u → u.about ≡ view.Place p m c → slice_get (t p) c ≡ Some m)
     → ((p : Pid) (m c : ℕ) → v.topic ≡ view.Place p m c → slice_get (t p) c ≡ Some m) → OwnOn v a t
@@ -130,8 +125,7 @@ queued_topic v i None = refl
 queued_topic v i (Some p) = refl
 
 pub held_topic : (v : View) (i : MsgId) (o : Option Pid) → (held_for v i o).topic ≡ v.topic
-held_topic v i None = refl
-held_topic v i (Some p) = refl
+held_topic v i o = search arith
 
 pub taken_topic : (v : View) (b : ℕ) (o : Option MsgId) → (taken_id v b o).topic ≡ v.topic
 taken_topic v b None = refl
@@ -169,9 +163,7 @@ label_trail pt t (Label.Dropped id) q fits h = trail_same pt.view (after_label p
 label_trail pt t any_ q fits h = trail_same pt.view (after_label pt.view any_) t t q (λ m. refl) refl h
 
 label_place : (s : OneKernel) (v : View) (l : Label) (p : Pid) (m c : ℕ) → (seen s v (Line.Label l)).topic ≡ view.Place p m c → (after_label v l).topic ≡ view.Place p m c
-label_place s v (Label.Asked id) p m c e = absurd ((elim (s.bag id) as (λ o. machine_in o ≡ view.Place p m c → ⊥)
-    [ None ↦ λ e_. cc | Some x ↦ λ f. (elim x.what as (λ w. move_target w ≡ view.Place p m c → ⊥) [ PlainWhat.Move machine ↦ λ e_. cc | _ ↦ λ e_. cc ]) f ]) e)
-label_place s v _ p m c e = e
+label_place s v l p m c h1 = search arith
 
 label_treads : (pt : Point) (s : OneKernel) (t : Trails) (l : Label) → kernel.step pt.kernel l ≡ Some s → LabelFits pt t l → Treads pt t → Treads (moved pt (Line.Label l) s) t
 label_treads pt s t l is fits h = record {
@@ -185,17 +177,10 @@ label_treads pt s t l is fits h = record {
 
 -- a message that is forwarded
 forward_topic : (v : View) (t : Trails) (p : Pid) (x : Known) (d n : ℕ) → x ≡ Forward d n → slice_get (t p) n ≡ Some d → (q : Pid) (m c : ℕ) → forward_about p x ≡ view.Place q m c → slice_get (t q) c ≡ Some m
-forward_topic v t p x d n is at q m c e =
-    let f : view.Place p d n ≡ view.Place q m c = sym (ap (forward_about p) is) ∙ e in
-    let pq : p ≡ q = cc in
-    let dm : d ≡ m = cc in
-    let nc : n ≡ c = cc in sym (ap (λ (r : Pid). slice_get (t r) c) pq) ∙ sym (ap (slice_get (t p)) nc) ∙ at ∙ ap Some dm
+forward_topic v t p x d n is at q m c e = search arith
 
 forwarded_topic : (v w : View) (t : Trails) (u : Told) (o : Option Told) (d n : ℕ) → o ≡ Some u → w.known w.acting u.receiver ≡ Forward d n → slice_get (t u.receiver) n ≡ Some d → (q : Pid) (m c : ℕ) → (forwarded_for w (receiver_of o)).topic ≡ view.Place q m c → slice_get (t q) c ≡ Some m
-forwarded_topic v w t u None d n is away at q m c e = absurd (let f : None ≡ Some u = is in cc)
-forwarded_topic v w t u (Some x) d n is away at q m c e =
-    let f : x ≡ u = cc in
-    forward_topic w t u.receiver (w.known w.acting u.receiver) d n away at q m c (sym (ap (λ (y : Told). forward_about y.receiver (w.known w.acting y.receiver)) f) ∙ e)
+forwarded_topic v w t u o d n h1 h2 h3 q m c h4 = search (arith, forward_topic)
 
 forwarded_treads : (pt : Point) (t : Trails) (id : MsgId) (m : ℕ) → ForwardFits pt id → Treads pt t → Treads (moved pt (Line.Forwarded id m) pt.kernel) t
 forwarded_treads pt t id m fits h =

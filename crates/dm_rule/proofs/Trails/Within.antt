@@ -1,13 +1,13 @@
 -- Only machines that act know processes, and so all machines of a trail are among those of the boot file.
 use Rattle.dm_rule.proofs.Names.{◌≡◌, ◌≢◌, ℕ, ◌+◌, ◌<◌, ◌==◌, ◌&&◌, Bool, refl, ap, ◌∙◌, sym, subst, inl, inr, ⊤, not, filter, if◌then◌else◌, slice_get, Option, None, Some, cases_Bool, Pid, pid_eq, MsgId, MessageKind, Label, Step, Line}
 use Rattle.dm_rule.proofs.Names.{Stage, at_record, View, Told, Known, Unknown, Here, Frozen, Incoming, Ended, actor, view_after, after_label, after_head, handled, taken_id, queued_for, held_for, forwarded_for, served_told, ends_by}
-use Rattle.dm_rule.proofs.Names.{receiver_of, front_of, target_of, gone_to, Trails, Trail, sort_of}
-use Rattle.dm_rule.specs.View as view
+use Rattle.dm_rule.proofs.Names.{receiver_of, front_of, target_of, gone_to, Trails, Trail, sort_of, arith}
 use Rattle.dm_rule.proofs.Lines.{eq_is, parts}
 use Rattle.dm_rule.proofs.Seen.{aim, sets}
 use Rattle.dm_rule.proofs.Homes.Lines.{acting_label}
 use Rattle.dm_rule.proofs.Phases.Lines.{queued_known, held_known, dropped_known, forwarded_known}
 use Rattle.dm_rule.proofs.Phases.Pieces.{proto_known, proto_acting}
+use Rattle.dm_rule.specs.View as view
 
 pub record Within (n : ℕ) (v : View) : Type 0 where
   pub known : (m : ℕ) (q : Pid) → v.known m q ≢ Unknown → m < n
@@ -23,10 +23,7 @@ within_same n v w known acting h = record { known = λ m q there. h.known m q (�
 
 within_set : (n : ℕ) (v w : View) (p : Pid) (x : Known) → w.known ≡ at_record v.known v.acting p x → w.acting ≡ v.acting → Within n v → Within n w
 within_set n v w p x known acting h = record {
-  known = λ m q there. elim (cases_Bool ((v.acting == m) && pid_eq p q)) [
-    | inl same ↦ subst (λ (k : ℕ). k < n) (eq_is v.acting m (parts (v.acting == m) (pid_eq p q) same).0) h.acting
-    | inr apart ↦ h.known m q (λ e. there (ap (λ (f : ℕ → Pid → Known). f m q) known ∙ ap (λ (c : Bool). if c then x else v.known m q) apart ∙ e))
-  ];
+  known = λ m q there. (search (arith, eq_is, parts));
   acting = subst (λ (a : ℕ). a < n) (sym acting) h.acting;
 }
 
@@ -52,19 +49,10 @@ served_within n v (Some u) h = elim u.kind as (λ k. Within n (ends_by (sort_of 
     [ MessageKind.Kill ↦ within_set n v (ends_by (sort_of MessageKind.Kill) v (Some u.receiver)) u.receiver Ended refl refl h | _ ↦ h ]
 
 label_within : (n : ℕ) (v : View) (l : Label) → Within n v → Within n (after_label v l)
-label_within n v (Label.End p y) h = within_set n v (after_label v (Label.End p y)) p Ended refl refl h
-label_within n v (Label.Created id p) h = within_set n v (after_label v (Label.Created id p)) p Here refl refl h
-label_within n v (Label.Served id) h = served_within n (handled v id) (v.told id) (record { known = h.known; acting = h.acting })
-label_within n v (Label.Dropped id) h = within_same n v (after_label v (Label.Dropped id)) (λ m q. dropped_known (handled v id) id (receiver_of (v.told id)) m q) (acting_label v (Label.Dropped id)) h
-label_within n v _ h = record { known = h.known; acting = h.acting }
+label_within n v l h1 = search (arith, within_set, served_within, within_same, dropped_known, acting_label)
 
 stage_within : (n : ℕ) (v : View) (p : Pid) (s : Stage) → Within n v → Within n (view_after v (Line.Migration s p))
-stage_within n v p Stage.Frozen h = let k = sets v p v.topic in within_set n v (view_after v (Line.Migration Stage.Frozen p)) p (Frozen (aim v v.topic)) k.known k.acting h
-stage_within n v p Stage.Asked h = h
-stage_within n v p Stage.Accepted h = within_set n v (view_after v (Line.Migration Stage.Accepted p)) p (Incoming (front_of (v.inbox v.acting))) refl refl h
-stage_within n v p Stage.Left h = within_set n v (view_after v (Line.Migration Stage.Left p)) p (gone_to (v.known v.acting p) (v.moves p + 1)) refl refl h
-stage_within n v p Stage.Restarted h = within_set n v (view_after v (Line.Migration Stage.Restarted p)) p Here refl refl h
-stage_within n v p _ h = record { known = h.known; acting = h.acting }
+stage_within n v p s h1 = search (arith, sets, within_set)
 
 pub line_within : (n : ℕ) (v : View) (l : Line) → HeadIn n l → Within n v → Within n (view_after v l)
 line_within n v (Line.Head d) e h = (elim d as (λ d_. actor d_ < n → Within n (after_head v d_))

@@ -1,5 +1,5 @@
 -- All that the kernel without machines and the lines say of processes and of what waits for them holds wherever the rule leads.
-use Rattle.dm_rulelaws.proofs.Names.{None, ◌≡◌, List, [], ◌∷◌, refl, ◌∙◌, subst, Some, Boot, IsValid, Step, IsStep, Leads, Spelled, Point, first_point, labels, group_of, phased_start, phased_group}
+use Rattle.dm_rulelaws.proofs.Names.{◌≡◌, List, [], ◌∷◌, ◌∙◌, subst, Some, Boot, IsValid, Step, IsStep, Leads, Spelled, Point, first_point, labels, group_of, phased_start, phased_group}
 use Rattle.dm_rulelaws.proofs.Based.Noted.{noted_start, noted_group}
 use Rattle.dm_rulelaws.proofs.Fits.Start.{start_fits}
 use Rattle.dm_rulelaws.proofs.RunLabels.{group_replay, replay_fits}
@@ -8,25 +8,13 @@ use Rattle.dm_rulelaws.proofs.Based.Constants.{constant_group}
 use Rattle.dm_rulelaws.proofs.Based.Queues.{lists_group, waits_start, waits_group, waits_by, queued_of, held_of}
 use Rattle.dm_rulelaws.proofs.Based.Start.{known_start}
 use Rattle.dm_rulelaws.proofs.Based.Unmoved.{unmoved_group, known_group}
+use Rattle.dm_rulelaws.proofs.Names.{arith}
 
 pub based_start : (b : Boot) → IsValid b → Based b (first_point b)
 based_start b valid =
     let phased = phased_start b valid in
     let waits = waits_start b in
-    record {
-      phased = phased;
-      fits = start_fits b valid;
-      images = refl;
-      machines = refl;
-      format = refl;
-      queued = queued_of (first_point b) phased waits;
-      held = held_of (first_point b) waits;
-      lists = record { queue = λ m p e. refl; held = λ m p e. refl };
-      known = known_start b valid;
-      noted = noted_start (first_point b).kernel (first_point b).view (λ p n e. let f : None ≡ Some n = e in cc);
-      pending = refl;
-      unmoved = λ p none. refl;
-    }
+    search (arith, start_fits b valid, queued_of (first_point b) phased waits, held_of (first_point b) waits, known_start b valid, noted_start)
 
 pub based_group : (b : Boot) (pt : Point) (d : Step) (w : Spelled) → IsStep pt.kernel.machines d → group_of b pt d ≡ Some w → Based b pt → Based b w.point
 based_group b pt d w fit is h =

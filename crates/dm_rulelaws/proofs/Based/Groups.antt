@@ -1,6 +1,6 @@
 -- What a turn says of a kernel's own message has what its lines need; so each group keeps what each line keeps.
-use Rattle.dm_rulelaws.proofs.Names.{◌≡◌, ℕ, ◌==◌, Bool, true, false, not, List, [], ◌∷◌, ◌++◌, length, refl, ap, ◌∙◌, sym, subst, Option, None, Some, arith, false≢true, Pid, MsgId, MessageKind, Stage, Boot, manager, Step, Line, View, Told}
-use Rattle.dm_rulelaws.proofs.Names.{Of, Known, Here, Frozen, Incoming, after_head, Point, moved, Says, Spelled, is_between, is_apart, is_away, is_here, kind_comes, Phase, Moves, knows, receiver_in, to_kernel, sends_on, updates, migrates}
+use Rattle.dm_rulelaws.proofs.Names.{◌≡◌, ℕ, ◌==◌, Bool, true, false, not, List, [], ◌∷◌, ◌++◌, length, refl, ap, ◌∙◌, sym, subst, Option, None, Some, arith, Pid, MsgId, MessageKind, Stage, Boot, manager, Step, Line, View, Told}
+use Rattle.dm_rulelaws.proofs.Names.{Of, Known, Frozen, Incoming, after_head, Point, moved, Says, Spelled, is_between, is_apart, is_away, is_here, Phase, Moves, knows, receiver_in, to_kernel, sends_on, updates, migrates}
 use Rattle.dm_rulelaws.proofs.Names.{group_of, at_record_at, front_way, Sane, InPhases, calm_phases, due, head_calm, told_some, Rooted, Phased, rooted, moves_away, State, is_server, has_nothing_held, KnownStands, right_true, by_migrates}
 use Rattle.dm_rulelaws.proofs.Names.{by_hears, left_parts, by_net, by_outcome, answers_move, Outcome}
 use Rattle.dm_rule.specs.Rule as rule
@@ -32,14 +32,10 @@ held_own pt id t told held u is = search (arith, pt.view.known, pt.view.acting)
 
 -- what the phases say
 not_here : (k : MessageKind) (s d m : ℕ) (o : Option MsgId) (x : Known) → knows (Moves k s d o) m x ≡ true → is_here x ≡ false
-not_here k s d m o Here e = absurd (false≢true (sym (moves_away k s d m o (s == m) (d == m) refl refl) ∙ e))
-not_here k s d m o _ e = refl
-
-comes_away : (s : ℕ) (x : Known) → kind_comes MessageKind.Ask s x ≡ true → is_away x ≡ true
-comes_away s x h1 = search arith
+not_here k s d m o x h1 = search (arith, moves_away)
 
 asked_away : (s d : ℕ) (o : Option MsgId) (x : Known) (b : Bool) → (s == d) ≡ b → not b ≡ true → knows (Moves MessageKind.Ask s d o) d x ≡ true → is_away x ≡ true
-asked_away s d o x b h1 h2 h3 = search (arith, comes_away)
+asked_away s d o x b h1 h2 h3 = search arith
 
 moving : (pt : Point) (i : MsgId) (is : List MsgId) (t : Told) (p : Pid) (h : InPhases pt.view) → pt.view.inbox pt.view.acting ≡ i ∷ is → pt.view.told i ≡ Some t → t.about ≡ Of p → Expects pt.view p t.kind
 moving pt i is t p h front told about =

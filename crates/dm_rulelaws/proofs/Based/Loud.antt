@@ -1,14 +1,14 @@
 -- Most lines change nothing of what machines know, of rings, queues and held lists: what must be shown of the others.
 use Rattle.dm_rulelaws.proofs.Names.{◌≡◌, ℕ, ◌+◌, ◌==◌, true, false, not, filter, refl, subst, Option, None, Some, Pid, MsgId, MessageKind, Step, Stage, Label, Reply, Why, OneKernel, Line, View, Told, About, Of, Here, view_after, handled}
 use Rattle.dm_rulelaws.proofs.Names.{receiver_of, is_away, is_here, Point, label_of, kernel_after, moved, hushed, Sane, has_nothing_held, Bool, ap, ◌∙◌, sym, inl, inr, if◌then◌else◌, cases_Bool, false≢true, pid_eq, plain_kind, PlainMessage}
-use Rattle.dm_rulelaws.proofs.Names.{PlainWhat, Alive, Ended, Life, PlainProcess, answer_to, without_message, begun, pid_eq-is, pid_eq-same, is_kill, take, drop, by_step, is_some, seen, sort_of}
+use Rattle.dm_rulelaws.proofs.Names.{PlainWhat, Alive, Ended, Life, PlainProcess, answer_to, without_message, begun, pid_eq-is, pid_eq-same, is_kill, take, drop, by_step, is_some, seen, sort_of, arith}
 use Rattle.dm_rule.proofs.Changes.{Lives}
+use Rattle.dm_rulelaws.proofs.Based.Needs.{Resting, Serves, Unborn, Living, Queues, Leaving, Needs, Rides, Keeps}
 use Rattle.dm_onekernel.specs.Step as kernel
 use Rattle.dm_rule.specs.View as view
 use Rattle.dm_onekernel.specs.Kernel as kernels
 use Rattle.dm_onekernel.specs.Pieces as pieces
 use Rattle.dm_onekernel.specs.Service as service
-use Rattle.dm_rulelaws.proofs.Based.Needs.{Resting, Serves, Unborn, Living, Queues, Leaving, Needs, Rides, Keeps}
 
 -- nobody was made, alive or ended
 abbrev pub life_sort : Option Life → Option Bool
@@ -19,24 +19,16 @@ life_sort (Some (Ended y)) = Some false
 abbrev pub Alike : OneKernel → OneKernel → Type 0
 Alike s t = (q : Pid) → life_sort (t.processes q) ≡ life_sort (s.processes q)
 
-some_sort : (o : Option Life) → is_some o ≡ is_some (life_sort o)
-some_sort (Some (Alive x)) = refl
-some_sort _ = refl
-
 pub some_alike : (a b : Option Life) → life_sort a ≡ life_sort b → is_some a ≡ is_some b
-some_alike a b e = some_sort a ∙ ap is_some e ∙ sym (some_sort b)
+some_alike a b e = search arith
 
 -- one life is set, and the others stay
 pub record SetLife (s t : OneKernel) (p : Pid) (sort : Option Bool) : Type 0 where
   pub at_ : life_sort (t.processes p) ≡ sort
   pub off : (q : Pid) → pid_eq p q ≡ false → life_sort (t.processes q) ≡ life_sort (s.processes q)
 
-sent_lives : (u : OneKernel) (o : Option PlainMessage) → (kernels.with_sent u o).processes ≡ u.processes
-sent_lives u None = refl
-sent_lives u (Some m) = refl
-
 alike_sent : (s u : OneKernel) (o : Option PlainMessage) → Alike s u → Alike s (kernels.with_sent u o)
-alike_sent s u o h q = ap (λ (f : Pid → Option Life). life_sort (f q)) (sent_lives u o) ∙ h q
+alike_sent s u o h q = search arith
 
 set_life : (s u : OneKernel) (p : Pid) (life : Life) → u.processes ≡ s.processes → SetLife s (kernels.with_process u p life) p (life_sort (Some life))
 set_life s u p life e = record {
@@ -104,13 +96,7 @@ step_lives s t l =
       asked = λ id m x machine is w e. by (kernels.with_note (without_message s id) m.to (record { id = id; asker = m.sender })) (Label.Asked id) is (λ q. refl);
       answered = λ id o p n is f. by (service.move_ended s id p n o) (Label.Answered id o) is (λ q. refl);
       stops = λ id m x b is w mild. (let y = record x { stopped = b } in served (service.changed s id m y) id m x is w mild.mild (alike_goes s (without_message s id) m.to x y w.alive refl));
-      kills = λ id m x is w kill. by (kernels.with_process (without_message s id) m.to (Ended Why.Killed)) (Label.Served id) is (record {
-        message = m;
-        there = w.there;
-        process = x;
-        alive = w.alive;
-        served = record { kill = λ e. set_life s (without_message s id) m.to (Ended Why.Killed) refl; other = λ e. absurd (false≢true (sym e ∙ ap (λ v. is_kill (plain_kind v)) kill)) };
-      });
+      kills = λ id m x is w kill. by (kernels.with_process (without_message s id) m.to (Ended Why.Killed)) (Label.Served id) is (search (arith, w.there, w.alive, set_life, m.to));
       reads = λ id m x base len is w e.
           served (kernels.with_sent (service.changed s id m x) (Some (answer_to m (PlainWhat.Block (take len (drop base x.memory)))))) id m x is w (ap (λ v. is_kill (plain_kind v)) e) (alike_goes s (without_message s id) m.to x x w.alive refl);
       writes = λ id m x base bytes is w e.
@@ -128,9 +114,7 @@ step_lives s t l =
 
 -- who lives goes on living
 pub life_of : (o : Option Life) → life_sort o ≡ Some true → (x : PlainProcess) × (o ≡ Some (Alive x))
-life_of None e = absurd (let f : None ≡ Some true = e in cc)
-life_of (Some (Alive x)) e = (x, refl)
-life_of (Some (Ended y)) e = absurd (false≢true (let f : false ≡ true = cc in f))
+life_of o h1 = search arith
 
 pub step_alike : (s t : OneKernel) (e : Label) → is_steady e ≡ true → kernel.step s e ≡ Some t → Alike s t
 step_alike s t (Label.End p y) steady is = absurd (false≢true steady)
@@ -161,12 +145,10 @@ stays : (v : View) → Stays v v
 stays v = record { known = refl; ring = refl; queue = refl; held = refl; moves = refl }
 
 forwarded_stays : (v : View) (o : Option Pid) → Stays v (view.forwarded_for v o)
-forwarded_stays v None = stays v
-forwarded_stays v (Some p) = record { known = refl; ring = refl; queue = refl; held = refl; moves = refl }
+forwarded_stays v o = search (arith, stays)
 
 taken_stays : (v : View) (b : ℕ) (o : Option MsgId) → Stays v (view.taken_id v b o)
-taken_stays v b None = stays v
-taken_stays v b (Some id) = record { known = refl; ring = refl; queue = refl; held = refl; moves = refl }
+taken_stays v b o = search (arith, stays)
 
 asks_stays : (v : View) (a : About) → Stays v (view.asks_on v a)
 asks_stays v (Of p) = record { known = refl; ring = refl; queue = refl; held = refl; moves = refl }
@@ -179,7 +161,7 @@ follows_stays v a _ = stays v
 
 proto_stays : (v : View) (o : Option Told) → Stays v (view.after_proto v o)
 proto_stays v None = record { known = refl; ring = refl; queue = refl; held = refl; moves = refl }
-proto_stays v (Some t) = let h = follows_stays v t.about t.kind in record { known = h.known; ring = h.ring; queue = h.queue; held = h.held; moves = h.moves }
+proto_stays v (Some t) = search (arith, t.about, t.kind, asks_stays, stays)
 
 -- what must be shown: of lines that change nothing of this, and of each of the others
 pub record Loud (P : Point → Type 0) : Type 0 where

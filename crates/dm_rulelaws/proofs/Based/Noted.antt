@@ -1,12 +1,11 @@
 -- What follows a request to move is here on no machine: each group keeps it. Only between two lines of a group it may be here.
-use Rattle.dm_rulelaws.proofs.Names.{forwards_on, gives_piece, updates, Addresses, Receiver, plain_kind, own_id, length, manager, ◌≡◌, ℕ, ◌==◌, ◌&&◌, Bool, true, false, List, [], ◌∷◌, ◌++◌, refl, ap, ◌∙◌, sym, subst, ⊤, inl, inr}
-use Rattle.dm_rulelaws.proofs.Names.{if◌then◌else◌, cases_Bool, false≢true, is_some, Option, None, Some, Pid, pid_of, pid_eq, MsgId, MessageKind, Stage, Boot, Label, OneKernel, PlainMessage, PlainWhat, MoveNote, Outcome, Load, with_sent}
-use Rattle.dm_rulelaws.proofs.Names.{with_note, without_note, without_message, bind, bind-is, first_number, Step, Line, View, Told, Known, Here, Frozen, Incoming, front_of, gone_to, handled, receiver_of, oldest, view_after, after_label}
-use Rattle.dm_rulelaws.proofs.Names.{is_here, is_away, at_record, Point, label_of, kernel_after, after_line, after, moved, Part, Says, Routes, Again, Owns, Transmits, Spelled, lines_of, puts, goes_out, packet_line, behind, spelled}
+use Rattle.dm_rulelaws.proofs.Names.{forwards_on, gives_piece, updates, Addresses, plain_kind, manager, ◌≡◌, ℕ, ◌==◌, ◌&&◌, Bool, true, false, List, [], ◌∷◌, ◌++◌, refl, ap, ◌∙◌, sym, subst, ⊤}
+use Rattle.dm_rulelaws.proofs.Names.{if◌then◌else◌, false≢true, is_some, Option, None, Some, Pid, pid_of, pid_eq, MsgId, MessageKind, Stage, Boot, Label, OneKernel, PlainMessage, MoveNote, Outcome, with_sent}
+use Rattle.dm_rulelaws.proofs.Names.{without_note, bind, bind-is, first_number, Step, Line, View, Told, Known, Here, Frozen, Incoming, front_of, gone_to, handled, receiver_of, oldest, view_after}
+use Rattle.dm_rulelaws.proofs.Names.{is_here, is_away, at_record, Point, label_of, kernel_after, after_line, after, moved, Part, Says, Routes, Spelled, lines_of, puts, behind, spelled}
 use Rattle.dm_rulelaws.proofs.Names.{group_of, group_is, sends_on, to_kernel, IsNetLine, queued_known, held_known, dropped_known, forwarded_known, proto_known, by_step, by_parts, by_outcome, by_round, ends_move-is, by_handles, by_hears}
 use Rattle.dm_rulelaws.proofs.Names.{by_net, by_migrates, by_forwards, Phased, KnownStands, pid_eq-is, pid_eq-same, left_parts, served_told, migrates, filter, not, ◌+◌, answers_move, leaves_for, aim, sets}
 use Rattle.dm_onekernel.specs.Pieces as pieces
-use Rattle.dm_onekernel.specs.Service as service
 use Rattle.dm_onekernel.specs.Step as kernel
 use Rattle.dm_rule.specs.Rule as rule
 use Rattle.dm_rule.specs.View as view
@@ -15,6 +14,7 @@ use Rattle.dm_rulelaws.proofs.Based.Groups.{Begins, begins}
 use Rattle.dm_rulelaws.proofs.Based.Needs.{Resting}
 use Rattle.dm_rulelaws.proofs.Based.Rows.{turned, resting, unborn}
 use Rattle.dm_rulelaws.proofs.Based.Sets.{set_all, killed_or}
+use Rattle.dm_rulelaws.proofs.Names.{arith}
 
 -- all processes but one, if there is one
 abbrev pub Apart : Option Pid → Pid → Type 0
@@ -29,12 +29,7 @@ At o pt = Away o pt.kernel pt.view
 
 -- no new note, and no process comes here
 away_on : (o : Option Pid) (s t : OneKernel) (v w : View) → ((p : Pid) (n : MoveNote) → t.notes p ≡ Some n → s.notes p ≡ Some n) → ((m : ℕ) (p : Pid) → is_here (w.known m p) ≡ true → is_here (v.known m p) ≡ true) → Away o s v → Away o t w
-away_on o s t v w notes known h = record {
-  away = λ p n is apart m. elim (cases_Bool (is_here (w.known m p))) [
-    | inl here ↦ absurd (false≢true (sym (h.away p n (notes p n is) apart m) ∙ known m p here))
-    | inr off ↦ off
-  ];
-}
+away_on o s t v w notes known h = search (arith, w.known, h.away)
 
 -- labels
 abbrev IsCalm : Line → Type 0
@@ -52,78 +47,37 @@ NotesBy s (Label.Asked i) t = ⊤
 NotesBy s l t = Fewer s t
 
 fewer_sent : (s u : OneKernel) (o : Option PlainMessage) → Fewer s u → Fewer s (with_sent u o)
-fewer_sent s u None h = h
-fewer_sent s u (Some m) h = h
+fewer_sent s u o h1 = search arith
 
 fewer_by : (s t : OneKernel) (l : Label) → Fewer s t → NotesBy s l t
-fewer_by s t (Label.Asked i) h = tt
-fewer_by s t l h = h
+fewer_by s t l h1 = search arith
 
 unnoted : (s : OneKernel) (p : Pid) (id : MsgId) → Fewer s (without_note s p id)
-unnoted s p id q n is = off (pid_eq p q) is
-  where
-    off : (c : Bool) → (if c then None else s.notes q) ≡ Some n → s.notes q ≡ Some n
-    off true e = cc
-    off false e = e
+unnoted s p id = search (arith, s.notes)
 
 step_notes : (s t : OneKernel) (l : Label) → kernel.step s l ≡ Some t → NotesBy s l t
 step_notes s t l =
     let same : (u : OneKernel) → Fewer s u → NotesBy s l u = λ u h. fewer_by s u l h in
-    by_step (NotesBy s l) s t l (record {
-      ran = λ p k x m is w. fewer_by s (kernel.goes_on s p (kernel.with_machine x m)) l (λ q n e. e);
-      replies = λ p n k c d y is w. fewer_by s (kernel.goes_on s p y) l (λ q n e. e);
-      sends = λ p id k m y is same_ w. fewer_by s (with_sent (kernel.goes_on s p y) (Some m)) l (λ q n e. e);
-      waits = λ p k y is w. fewer_by s (kernel.goes_on s p y) l (λ q n e. e);
-      outputs = λ p w k v y is n_. fewer_by s (kernel.goes_on s p y) l (λ q n e. e);
-      ends = λ p y next is w. fewer_by s _ l (λ q n e. e);
-      receives = λ p id y is w c. fewer_by s (kernel.goes_on (without_message s id) p y) l (λ q n e. e);
-      refuses = λ p id c d y is w f. fewer_by s (kernel.goes_on s p y) l (λ q n e. e);
-      dropped = λ id m y is w f. fewer_by s (without_message s id) l (λ q n e. e);
-      gone = λ id m y is w v f. fewer_by s _ l (λ q n e. e);
-      stops = λ id m x b is w f. fewer_by s (service.changed s id m (record x { stopped = b })) l (λ q n e. e);
-      kills = λ id m x is w f. fewer_by s _ l (λ q n e. e);
-      reads = λ id m x base len is w f. fewer_by s _ l (λ q n e. e);
-      writes = λ id m x base bytes is w f. fewer_by s _ l (λ q n e. e);
-      lands = λ id m x r y is w f c. fewer_by s (with_sent (service.changed s id m y) (Some r)) l (λ q n e. e);
-      done = λ id m x c y is w f g. fewer_by s (service.changed s id m y) l (λ q n e. e);
-      board = λ id m k is there c took. fewer_by s (service.switchboard_took s id k) l (fewer_sent s (record (without_message s id) { switchboard = k.switchboard }) k.answer (λ q n e. e));
-      manager = λ id m k is there c took. fewer_by s (service.manager_took s id k) l (fewer_sent s (record (without_message s id) { manager = k.manager }) k.message (λ q n e. e));
-      creates = λ id child m image links i is w found name. fewer_by s _ l (λ q n e. e);
-      asked = λ id m x machine is w f. subst (λ (k : Label). NotesBy s k (with_note (without_message s id) m.to (record { id = id; asker = m.sender }))) (sym is) tt;
-      answered = λ id o p n is f. fewer_by s (service.move_ended s id p n o) l (unnoted s p id);
-      no_room = λ id a b m image links is w. fewer_by s _ l (λ q n e. e);
-    })
+    by_step (NotesBy s l) s t l (search (arith, fewer_by, fewer_sent, unnoted))
 
 -- what is known
 same_here : (v w : View) → ((m : ℕ) (p : Pid) → w.known m p ≡ v.known m p) → (m : ℕ) (p : Pid) → is_here (w.known m p) ≡ true → is_here (v.known m p) ≡ true
 same_here v w same m p e = ap is_here (sym (same m p)) ∙ e
 
 set_here : (v w : View) (p : Pid) (k : Known) → w.known ≡ at_record v.known v.acting p k → (is_here k ≡ true → is_here (v.known v.acting p) ≡ true) → (m : ℕ) (q : Pid) → is_here (w.known m q) ≡ true → is_here (v.known m q) ≡ true
-set_here v w p k known here m q e =
-    set_all (λ n r x. is_here x ≡ true → is_here (v.known n r) ≡ true) v.known v.acting p k here (λ n r off f. f) m q (sym (ap (λ (f : ℕ → Pid → Known). is_here (f m q)) known) ∙ e)
+set_here v w p k known here m q e = search (arith, set_all, v.known, v.acting)
 
 gone_here : (k : Known) (n : ℕ) → is_here (gone_to k n) ≡ true → is_here k ≡ true
-gone_here (Frozen to) n e = absurd (false≢true e)
-gone_here _ n e = e
+gone_here k n h1 = search arith
 
 served_here : (v : View) (o : Option Told) (m : ℕ) (q : Pid) → is_here ((served_told v o).known m q) ≡ true → is_here (v.known m q) ≡ true
-served_here v None m q = λ e. e
-served_here v (Some t) m q = killed_or (λ (w : View). is_here (w.known m q) ≡ true → is_here (v.known m q) ≡ true) t.kind v t.receiver (λ k. set_here v (view.ended v t.receiver) t.receiver view.Ended refl (λ e. absurd (false≢true e)) m q) (λ k e. e)
-
-label_here : (v : View) (l : Label) → IsCalm (Line.Label l) → (m : ℕ) (q : Pid) → is_here ((after_label v l).known m q) ≡ true → is_here (v.known m q) ≡ true
-label_here v (Label.End p y) calm = set_here v (after_label v (Label.End p y)) p view.Ended refl (λ e. absurd (false≢true e))
-label_here v (Label.Served id) calm = served_here (handled v id) (v.told id)
-label_here v (Label.Dropped id) calm = same_here v (after_label v (Label.Dropped id)) (dropped_known (handled v id) id (receiver_of (v.told id)))
-label_here v (Label.Created i p) calm = absurd calm
-label_here v (Label.Asked i) calm = absurd calm
-label_here v _ calm = λ m q e. e
+served_here v o m q h1 = search (arith, killed_or, v.known, set_here)
 
 taken_here : (v : View) (b : ℕ) (o : Option MsgId) (m : ℕ) (p : Pid) → (view.taken_id v b o).known m p ≡ v.known m p
-taken_here v b None m p = refl
-taken_here v b (Some i) m p = refl
+taken_here v b o m p = search arith
 
 line_here : (v : View) (l : Line) → IsCalm l → (m : ℕ) (q : Pid) → is_here ((view_after v l).known m q) ≡ true → is_here (v.known m q) ≡ true
-line_here v (Line.Label l) calm = label_here v l calm
+line_here v (Line.Label l) calm = search (arith, set_here, served_here, same_here, dropped_known)
 line_here v (Line.Head (Step.Turn m)) calm = λ n q e. e
 line_here v (Line.Head (Step.Tick m)) calm = λ n q e. e
 line_here v (Line.Head (Step.Deliver a b k)) calm = λ n q e. e
@@ -178,25 +132,11 @@ abbrev pub AllCalm : List Part → Type 0
 AllCalm [] = ⊤
 AllCalm (p ∷ ps) = CalmPart p × AllCalm ps
 
-puts_calm : (v : View) (b : ℕ) (i : MsgId) (k : MessageKind) (q : Pid) (c d : Bool) (x : Load) → AreCalm (Line.Put v.acting b i k q ∷ (if c then [] else if d then packet_line v v.acting b x ∷ [] else []))
-puts_calm v b i k q true d x = (tt, tt)
-puts_calm v b i k q false true x = (tt, (tt, tt))
-puts_calm v b i k q false false x = (tt, tt)
-
 put_calm : (v : View) (b : ℕ) (i : MsgId) (k : MessageKind) (q : Pid) → AreCalm (puts v b i k q)
-put_calm v b i k q = puts_calm v b i k q (v.acting == b) (goes_out (v.pair v.acting b)) (Load.Data (length (v.pair v.acting b).ids))
+put_calm v b i k q = search arith
 
 part_calm : (pt : Point) (p : Part) (ls : List Line) → CalmPart p → lines_of pt p ≡ Some ls → AreCalm ls
-part_calm pt (Says l) ls calm is = let f : (l ∷ []) ≡ ls = cc in subst AreCalm f (calm, tt)
-part_calm pt (Routes i) ls calm is =
-    let c = (pt.addresses (Receiver i)).at in
-    let (m, there, last) = bind-is (pt.kernel.bag i) (λ m. Some (puts pt.view (pt.addresses (Receiver i)).at i (plain_kind m.what) m.to)) ls is in
-    let f : (puts pt.view c i (plain_kind m.what) m.to) ≡ ls = cc in subst AreCalm f (put_calm pt.view c i (plain_kind m.what) m.to)
-part_calm pt (Again i b) ls calm is =
-    let (t, there, last) = bind-is (pt.view.told i) (λ t. Some (puts pt.view b i t.kind t.receiver)) ls is in
-    let f : (puts pt.view b i t.kind t.receiver) ≡ ls = cc in subst AreCalm f (put_calm pt.view b i t.kind t.receiver)
-part_calm pt (Owns k q b) ls calm is = let f : (puts pt.view b (own_id pt.view) k q) ≡ ls = cc in subst AreCalm f (put_calm pt.view b (own_id pt.view) k q)
-part_calm pt (Transmits a b l) ls calm is = let f : (packet_line pt.view a b l ∷ []) ≡ ls = cc in subst AreCalm f (tt, tt)
+part_calm pt p ls h1 h2 = search (arith, pt.addresses, bind-is, pt.kernel.bag, pt.view, put_calm, pt.view.told)
 
 parts_away : (o : Option Pid) (ps : List Part) (pt : Point) (w : Spelled) → AllCalm ps → spelled pt ps ≡ Some w → At o pt → At o w.point
 parts_away o qs q w calm is = by_parts (λ ps pt v. AllCalm ps → At o pt → At o v.point) (λ pt calm h. h)
@@ -216,54 +156,19 @@ then_of pt l ps w e =
     let (z, is, end) = bind-is (spelled next ps) (λ (z : Spelled). Some (behind (l ∷ []) z)) w more in
     let (mid, first, last) = bind-is (after_line pt l) (λ (q : Point). after q []) next leads in
     let (s, step, then_) = bind-is (kernel_after pt.kernel (label_of l)) (λ s. Some (moved pt l s)) mid first in
-    let f : moved pt l s ≡ mid = cc in
-    let g : mid ≡ next = cc in
-    let k : behind (l ∷ []) z ≡ w = cc in
-    record { kernel = s; step = step; rest = z; is = ap (λ (q : Point). spelled q ps) (f ∙ g) ∙ is; point = ap (λ (x : Spelled). x.point) k }
+    search arith
 
 -- a process is asked to move: only it may be here
 asked_away : (pt : Point) (t : OneKernel) (id : MsgId) (m : PlainMessage) → pt.kernel.bag id ≡ Some m → kernel.step pt.kernel (Label.Asked id) ≡ Some t → At None pt → At (Some m.to) (moved pt (Line.Label (Label.Asked id)) t)
-asked_away pt t id m there is h = record { away = λ p n noted apart k. h.away p n (asked_notes pt.kernel t id m there is p n apart noted) tt k }
-  where
-    follows_notes : (s t : OneKernel) (id : MsgId) (m : PlainMessage) (w : PlainWhat) (p : Pid) (n : MoveNote) → pid_eq m.to p ≡ false → service.follows_request s id m w ≡ Some t → t.notes p ≡ Some n → s.notes p ≡ Some n
-    follows_notes s t id m (PlainWhat.Move machine) p n apart is noted =
-        let z : MoveNote = record { id = id; asker = m.sender } in
-        let k : with_note (without_message s id) m.to z ≡ t = cc in
-        sym (ap (λ (c : Bool). if c then Some z else s.notes p) apart) ∙ ap (λ (u : OneKernel). u.notes p) k ∙ noted
-    follows_notes s t id m _ p n apart is noted = cc
-
-    asked_notes : (s t : OneKernel) (id : MsgId) (m : PlainMessage) → s.bag id ≡ Some m → kernel.step s (Label.Asked id) ≡ Some t → (p : Pid) (n : MoveNote) → pid_eq m.to p ≡ false → t.notes p ≡ Some n → s.notes p ≡ Some n
-    asked_notes s t id m there is p n apart noted =
-        let (k, found, rest) = bind-is (s.bag id) (λ (v : PlainMessage). bind (kernel.at_hand s v.to) (λ x. service.follows_request s id v v.what)) t is in
-        let (x, hand, last) = bind-is (kernel.at_hand s k.to) (λ x. service.follows_request s id k k.what) t rest in
-        let same : m ≡ k = (let f : Some m ≡ Some k = sym there ∙ found in cc) in
-        follows_notes s t id k k.what p n (ap (λ (v : PlainMessage). pid_eq v.to p) (sym same) ∙ apart) last noted
+asked_away pt t id m h1 h2 h3 = search (arith, pt.kernel, m.to, t.notes, m.sender, bind-is)
 
 -- its request is answered
 answered_away : (pt : Point) (t : OneKernel) (id : MsgId) (r : Outcome) (p : Pid) → pt.kernel.noted id ≡ Some p → kernel.step pt.kernel (Label.Answered id r) ≡ Some t → At (Some p) pt → At None (moved pt (Line.Label (Label.Answered id r)) t)
-answered_away pt t id r p noted is h =
-    let s = pt.kernel in
-    let (q, found, rest) = bind-is (s.noted id) (λ v. bind (s.notes v) (λ n. service.ends_move s id v n r)) t is in
-    let (n, there, last) = bind-is (s.notes q) (λ v. service.ends_move s id q v r) t rest in
-    let same : q ≡ p = (let f : Some q ≡ Some p = sym found ∙ noted in cc) in
-    record {
-      away = λ k z mine apart m. (let e : (without_note s q id).notes k ≡ Some z = ap (λ (u : OneKernel). u.notes k) (ends_move-is s t id q n r last) ∙ mine in
-          let off = left_off s q k z (pid_eq q k) refl e in
-          h.away k z off.0 (ap (λ (x : Pid). pid_eq x k) (sym same) ∙ off.1) m);
-    }
-  where
-    left_off : (s : OneKernel) (q k : Pid) (z : MoveNote) (c : Bool) → pid_eq q k ≡ c → (if c then None else s.notes k) ≡ Some z → (s.notes k ≡ Some z) × (pid_eq q k ≡ false)
-    left_off s q k z true e f = cc
-    left_off s q k z false e f = (f, e)
+answered_away pt t id r p h1 h2 h3 = search (arith, pt.kernel, bind-is, ends_move-is)
 
 -- it leaves
 leaves_away : (pt : Point) (p : Pid) → Resting pt.view p → At (Some p) pt → At None (moved pt (Line.Migration Stage.Frozen p) pt.kernel)
-leaves_away pt p rests h = record {
-  away = λ q n noted apart m. elim (cases_Bool (pid_eq p q)) [
-    | inl same ↦ subst (λ (r : Pid). is_here ((moved pt (Line.Migration Stage.Frozen p) pt.kernel).view.known m r) ≡ false) (pid_eq-is p q same) (mine m)
-    | inr off ↦ (line_away (Some p) pt pt.kernel (Line.Migration Stage.Frozen p) tt refl h).away q n noted off m
-  ];
-}
+leaves_away pt p rests h = search (arith, pt.kernel, pid_eq-is, line_away)
   where
     away_off : (k : Known) → is_away k ≡ true → is_here k ≡ false
     away_off Here e = absurd (false≢true e)
@@ -281,20 +186,11 @@ leaves_away pt p rests h = record {
 
 -- a process comes here
 comes_away : (pt : Point) (t : OneKernel) (l : Line) (p : Pid) → Fewer pt.kernel t → (view_after pt.view l).known ≡ at_record pt.view.known pt.view.acting p Here → At None pt → At (Some p) (moved pt l t)
-comes_away pt t l p fewer known h = record {
-  away = λ q n noted apart m. ap (λ (f : ℕ → Pid → Known). is_here (f m q)) known
-      ∙ set_all (λ k r x. r ≡ q → is_here x ≡ false) pt.view.known pt.view.acting p Here (λ same. absurd (false≢true (sym apart ∙ ap (pid_eq p) (sym same) ∙ pid_eq-same p)))
-      (λ k r off same. subst (λ (x : Pid). is_here (pt.view.known k x) ≡ false) (sym same) (h.away q n (fewer q n noted) tt k)) m q refl;
-}
+comes_away pt t l p fewer known h = search (arith, set_all, pt.view.known, pt.view.acting, pid_eq-same, h.away)
 
 -- and follows no request
 free_away : (pt : Point) (p : Pid) → ((n : MoveNote) → pt.kernel.notes p ≡ Some n → ⊥) → At (Some p) pt → At None pt
-free_away pt p free h = record {
-  away = λ q n noted apart m. elim (cases_Bool (pid_eq p q)) [
-    | inl same ↦ absurd (free n (ap pt.kernel.notes (pid_eq-is p q same) ∙ noted))
-    | inr off ↦ h.away q n noted off m
-  ];
-}
+free_away pt p free h = search (arith, pt.kernel.notes, pid_eq-is, h.away)
 
 none_free : (o : Option MoveNote) (n : MoveNote) → o ≡ None → o ≡ Some n → ⊥
 none_free o n e f = let g : None ≡ Some n = sym e ∙ f in cc
@@ -355,21 +251,13 @@ drops_calm [] = tt
 drops_calm (i ∷ is) = (tt, drops_calm is)
 
 routes_calm : (o : Option PlainMessage) → AllCalm (rule.routes o)
-routes_calm None = tt
-routes_calm (Some m) = (tt, tt)
+routes_calm o = search arith
 
 round_calm : (b : Boot) (o : Point) (m : ℕ) (q : Option Pid) (ps : List Part) → rule.goes_round b o m q ≡ Some ps → AllCalm ps
 round_calm b o m q ps = by_round AllCalm b o m q ps (tt, tt) (λ p x is alive. record {
   runs = λ k rest stops. (
     tt,
-    stops AllCalm (record {
-      over = tt;
-      replies = λ n r. (tt, tt);
-      sends = λ id. (tt, (tt, tt));
-      waits = (tt, tt);
-      outputs = λ word. (tt, tt);
-      ends = λ y. (tt, drops_calm (o.view.queue m p));
-    }),
+    stops AllCalm (search (arith, drops_calm)),
   );
   takes = λ mask id first. (tt, tt);
   refuses = λ id r. (tt, tt);
@@ -439,13 +327,7 @@ hears_keeps b o m i q ps begins =
 
 -- the other directives
 net_calm : (l : Line) → IsNetLine l → IsCalm l
-net_calm (Line.Taken a b n) h = tt
-net_calm (Line.Old a b n) h = tt
-net_calm (Line.Early a b n) h = tt
-net_calm (Line.Acked a b n) h = tt
-net_calm (Line.Resent m n) h = tt
-net_calm Line.Nothing h = tt
-net_calm _ h = absurd h
+net_calm l h1 = search arith
 
 outcome_keeps : (b : Boot) (pt : Point) (d : Step) (ps : List Part) → Phased pt → KnownStands pt.kernel pt.view → rule.outcome b pt d ≡ Some ps → Keeps (moved pt (Line.Head d) pt.kernel) ps
 outcome_keeps b pt d ps h known = by_outcome (λ x xs. Keeps (moved pt (Line.Head x) pt.kernel) xs) b pt d ps (record {

@@ -1,16 +1,15 @@
 -- What is queued for a process is a user message for it, and what is held for it is for it: each group keeps it.
 use Rattle.dm_rulelaws.proofs.Names.{◌≡◌, ℕ, ◌≤◌, Bool, true, false, List, [], ◌∷◌, ◌++◌, refl, ◌∙◌, sym, subst, arith, false≢true, Option, None, Some, Pid, MsgId, MessageKind, plain_kind, PlainMessage, PlainWhat, Boot, Step, id_eq-is}
-use Rattle.dm_rulelaws.proofs.Names.{Spelled, Point, first_point, group_of, at_record, without_id, without_front, to_of, Spot, Queue, times, standing, StandsAsBag, View, Told, handled, receiver_of, served_told, is_kernels, letters}
-use Rattle.dm_rulelaws.proofs.Names.{letters_bag, kernels_fresh, Phased, told_some, KnownStands, zero_cases, ◌+◌, ap, if◌then◌else◌, Label, Line, Stage, Known, Here, Frozen, Incoming, handled_first, front_of, gone_to, rejoins, is_away}
-use Rattle.dm_rulelaws.proofs.Names.{ListsStand, has_no_queue, has_nothing_held, is_kill, aim, sets}
+use Rattle.dm_rulelaws.proofs.Names.{Spelled, Point, first_point, group_of, at_record, without_id, to_of, Spot, Queue, times, standing, StandsAsBag, View, Told, handled, receiver_of, served_told, is_kernels, letters, letters_bag}
+use Rattle.dm_rulelaws.proofs.Names.{kernels_fresh, Phased, told_some, KnownStands, zero_cases, ◌+◌, ap, if◌then◌else◌, Label, Line, Stage, Known, Here, Frozen, Incoming, handled_first, front_of, gone_to, rejoins, is_away, ListsStand}
+use Rattle.dm_rulelaws.proofs.Names.{has_no_queue, has_nothing_held, is_kill, aim, sets}
 use Rattle.dm_rule.specs.View.{Ended}
-use Rattle.dm_message.specs.Plain as what
-use Rattle.dm_rule.specs.View as view
 use Rattle.dm_rulelaws.proofs.Queued.{IsQueued, is_user}
 use Rattle.dm_rulelaws.proofs.Based.Groups.{group_keeps}
 use Rattle.dm_rulelaws.proofs.Based.Loud.{Loud, keeps_by, Stays}
 use Rattle.dm_rulelaws.proofs.Based.Sets.{set_all, killed_or, without_fewer, front_fewer, last_of}
 use Rattle.dm_rulelaws.proofs.Based.Needs.{Serves}
+use Rattle.dm_rule.specs.View as view
 
 -- a user message for this process, and no kernel's own
 pub record IsUsers (told : MsgId → Option Told) (p : Pid) (i : MsgId) : Type 0 where
@@ -60,12 +59,10 @@ waits_held : (v : View) (p : Pid) (xs : List MsgId) → AreFor v.told v.acting p
 waits_held v p xs mine h = record { queue = h.queue; held = set_all (AreFor v.told) v.held v.acting p xs mine (λ n q off. h.held n q) }
 
 waits_dropped : (v : View) (id : MsgId) (o : Option Pid) → Waits v → Waits (view.dropped_for v id o)
-waits_dropped v id None h = h
-waits_dropped v id (Some p) h = waits_queue v p (without_front id (v.queue v.acting p)) (λ i least. h.queue v.acting p i (front_fewer i id (v.queue v.acting p) least)) h
+waits_dropped v id o h1 = search (arith, waits_queue, v.queue, v.acting, front_fewer)
 
 waits_served : (v : View) (o : Option Told) → Waits v → Waits (served_told v o)
-waits_served v None h = h
-waits_served v (Some t) h = killed_or Waits t.kind v t.receiver (λ k. record { queue = h.queue; held = h.held }) (λ k. h)
+waits_served v o h1 = search (arith, killed_or)
 
 waits_queued : (v : View) (id : MsgId) (o : Option Told) → v.told id ≡ o → ((t : Told) → o ≡ Some t → (t.kind ≡ MessageKind.User) × (is_kernels id ≡ false)) → Waits v → Waits (view.queued_for v id (receiver_of o))
 waits_queued v id None told need h = h
@@ -113,10 +110,7 @@ waits_loud = record {
   left = λ pt p leaves h. record { queue = h.queue; held = h.held };
   restarted = λ pt p lives off h. record { queue = h.queue; held = λ n q i least. emptied pt.view p n q i h least };
   stays_ = λ pt p lives off h. record { queue = h.queue; held = λ n q i least. emptied pt.view p n q i h least };
-  sent_on = λ pt p n h. record {
-    queue = set_all (AreUsers pt.view.told) pt.view.queue pt.view.acting p [] (λ i least. none_there (IsUsers pt.view.told p i) i least) (λ m q off. h.queue m q);
-    held = λ m q i least. emptied pt.view p m q i h least;
-  };
+  sent_on = λ pt p n h. (search (arith, set_all, pt.view.told, pt.view.queue, pt.view.acting, none_there, h.queue, emptied, pt.view));
 }
 
 pub waits_start : (b : Boot) → Waits (first_point b).view
@@ -126,8 +120,7 @@ pub waits_group : (b : Boot) (pt : Point) (d : Step) (w : Spelled) → group_of 
 waits_group b pt d w is phased known h = group_keeps (λ q. Waits q.view) (keeps_by (λ q. Waits q.view) waits_loud) b pt d w is phased known h
 
 users_are : (w : PlainWhat) → plain_kind w ≡ MessageKind.User → is_user w ≡ true
-users_are (what.User code channel body links) e = refl
-users_are _ e = cc
+users_are w h1 = search arith
 
 pub queued_of : (pt : Point) (h : Phased pt) → Waits pt.view → (n : ℕ) (p : Pid) (i : MsgId) → 1 ≤ times i (pt.view.queue n p) → IsQueued (h.state.e i) p (pt.kernel.bag i)
 queued_of pt h waits n p i least =
@@ -142,20 +135,16 @@ held_of pt waits n p i least = let u = waits.held n p i least in (u.what, u.is, 
 
 -- and the other way round
 stands_some : (f : Spot → ℕ) (z : Spot) (o : Option Pid) → StandsAsBag o f → 1 ≤ f z → (x : Pid) × (o ≡ Some x)
-stands_some f z None h least = absurd (let k = h z in omega (arith, least, k))
-stands_some f z (Some x) h least = (x, refl)
+stands_some f z o h1 h2 = search arith
 
 bag_some : (o : Option PlainMessage) (x : Pid) → to_of o ≡ Some x → (m : PlainMessage) × (o ≡ Some m)
-bag_some None x e = cc
-bag_some (Some m) x e = (m, refl)
+bag_some o x h1 = search arith
 
 entered_other : (pt : Point) (h : Phased pt) (i : MsgId) (c : Bool) → is_kernels i ≡ c → 1 ≤ h.state.e i → c ≡ false
-entered_other pt h i true k least = absurd (let z = kernels_fresh h.state.r h.state.e pt.kernel i h.state.sound k in omega (arith, least, z))
-entered_other pt h i false k least = refl
+entered_other pt h i c h1 h2 = search (arith, kernels_fresh, h.state.r, h.state.e, pt.kernel, h.state.sound)
 
 pub user_kind : (w : PlainWhat) → is_user w ≡ true → plain_kind w ≡ MessageKind.User
-user_kind (what.User code channel body links) e = refl
-user_kind _ e = absurd (false≢true e)
+user_kind w h1 = search arith
 
 users_by : (pt : Point) (h : Phased pt) (n : ℕ) (p : Pid) (i : MsgId) → 1 ≤ times i (pt.view.queue n p) → IsQueued (h.state.e i) p (pt.kernel.bag i) → IsUsers pt.view.told p i
 users_by pt h n p i least q =
@@ -202,8 +191,7 @@ lists_handled : (v : View) (id : MsgId) → ListsStand v → ListsStand (handled
 lists_handled v id h = record { queue = h.queue; held = h.held }
 
 lists_served : (v : View) (o : Option Told) → ((t : Told) → o ≡ Some t → is_kill t.kind ≡ true → v.known v.acting t.receiver ≡ Here) → ListsStand v → ListsStand (served_told v o)
-lists_served v None here h = h
-lists_served v (Some t) here h = killed_or ListsStand t.kind v t.receiver (λ k. lists_ended v t.receiver (here t refl k) h) (λ k. h)
+lists_served v o h1 h2 = search (arith, killed_or, lists_ended)
 
 -- what a message kills is here
 kills_here : (v : View) (id : MsgId) (t : Told) → Serves v id → v.told id ≡ Some t → is_kill t.kind ≡ true → v.known v.acting t.receiver ≡ Here
@@ -216,20 +204,15 @@ kills_here v id t serves told =
 lists_queue : (v : View) (p : Pid) (xs : List MsgId) → NoQueue v v.acting p xs → ListsStand v → ListsStand (record v { queue = at_record v.queue v.acting p xs })
 lists_queue v p xs mine h = record { queue = set_all (NoQueue v) v.queue v.acting p xs mine (λ n r off. h.queue n r); held = h.held }
 
-lists_held : (v : View) (p : Pid) (xs : List MsgId) → NoneHeld v v.acting p xs → ListsStand v → ListsStand (record v { held = at_record v.held v.acting p xs })
-lists_held v p xs mine h = record { queue = h.queue; held = set_all (NoneHeld v) v.held v.acting p xs mine (λ n r off. h.held n r) }
-
 lists_dropped : (v : View) (id : MsgId) (o : Option Pid) → ListsStand v → ListsStand (view.dropped_for v id o)
-lists_dropped v id None h = h
-lists_dropped v id (Some p) h = lists_queue v p (without_front id (v.queue v.acting p)) (λ e. ap (without_front id) (h.queue v.acting p e)) h
+lists_dropped v id o h1 = search (arith, lists_queue, v.queue, v.acting)
 
 lists_queued : (v : View) (id : MsgId) (o : Option Told) → ((t : Told) → o ≡ Some t → has_no_queue (v.known v.acting t.receiver) ≡ false) → ListsStand v → ListsStand (view.queued_for v id (receiver_of o))
-lists_queued v id None there h = h
-lists_queued v id (Some t) there h = lists_queue v t.receiver (v.queue v.acting t.receiver ++ id ∷ []) (λ e. absurd (false≢true (sym (there t refl) ∙ e))) h
+lists_queued v id o h1 h2 = search (arith, lists_queue, v.queue, v.acting)
 
 lists_held_for : (v : View) (id : MsgId) (o : Option Told) → ((t : Told) → o ≡ Some t → has_nothing_held (v.known v.acting t.receiver) ≡ false) → ListsStand v → ListsStand (view.held_for v id (receiver_of o))
 lists_held_for v id None there h = h
-lists_held_for v id (Some t) there h = lists_held v t.receiver (v.held v.acting t.receiver ++ id ∷ []) (λ e. absurd (false≢true (sym (there t refl) ∙ e))) h
+lists_held_for v id (Some t) there h = search (arith, set_all)
 
 -- a process is here again: what was held comes to the inbox
 lists_rejoins : (v w : View) (p : Pid) → w.known ≡ at_record v.known v.acting p Here → w.queue ≡ v.queue → w.held ≡ at_record v.held v.acting p [] → ListsStand v → ListsStand w
@@ -244,17 +227,11 @@ lists_rejoins v w p known queue held h =
     }
 
 away_queue : (k : Known) → is_away k ≡ true → has_no_queue k ≡ true
-away_queue Here e = absurd (false≢true e)
-away_queue (Frozen to) e = absurd (false≢true e)
-away_queue Ended e = absurd (false≢true e)
-away_queue _ e = refl
+away_queue k h1 = search arith
 
 lists_loud : Loud (λ pt. ListsStand pt.view)
 lists_loud = record {
-  rides = record {
-    put = λ pt a b i k q h. record { queue = h.queue; held = h.held };
-    packet = λ pt a b k l h. record { queue = h.queue; held = h.held };
-  };
+  rides = (search arith);
   quiet = λ pt w t l e s told alike sane is h. subst ListsStand (sym e) (lists_as pt.view w s h);
   ran = λ pt t p k here alike sane is h. record { queue = h.queue; held = h.held };
   receive = λ pt t p id here alike sane is h.

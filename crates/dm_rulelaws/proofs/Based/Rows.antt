@@ -1,12 +1,11 @@
 -- What a turn says of a message of the bag, and of a process that is served, has what its lines need.
-use Rattle.dm_rulelaws.proofs.Names.{◌≡◌, ℕ, ◌+◌, ◌==◌, Bool, true, false, List, [], ◌∷◌, refl, ap, ◌∙◌, sym, subst, if◌then◌else◌, Option, None, Some, arith, Pid, pid_of, MsgId, MessageKind, Label, Step, Line, plain_kind, PlainMessage}
+use Rattle.dm_rulelaws.proofs.Names.{◌≡◌, ℕ, ◌+◌, ◌==◌, Bool, true, false, List, [], ◌∷◌, ap, ◌∙◌, sym, subst, if◌then◌else◌, Option, Some, arith, Pid, pid_of, MsgId, MessageKind, Label, Step, Line, plain_kind, PlainMessage}
 use Rattle.dm_rulelaws.proofs.Names.{Boot, first_number, PlainProcess, not_server, alive-is, View, Told, Known, Here, Addresses, Point, moved, Part, Says, Routes, is_away, is_here, Phase, Rests, knows, forwards_on, not_kernels, Sane}
-use Rattle.dm_rulelaws.proofs.Names.{InPhases, rests_here, Rooted, has_nothing_held, Stops, by_round, by_handles, by_forwards, answers_move, leaves_for, Outcome, false≢true, Life, OneKernel, Stage, to_kernel, agrees, KnownStands, is_server}
-use Rattle.dm_rulelaws.proofs.Names.{Alive}
+use Rattle.dm_rulelaws.proofs.Names.{InPhases, rests_here, Rooted, has_nothing_held, Stops, by_round, by_handles, by_forwards, answers_move, leaves_for, Outcome, OneKernel, KnownStands, is_server}
 use Rattle.dm_onekernel.specs.Pieces as pieces
 use Rattle.dm_onekernel.specs.Step as kernel
 use Rattle.dm_rule.specs.Rule as rule
-use Rattle.dm_rulelaws.proofs.Based.Loud.{Alike, life_sort, life_of, step_alike}
+use Rattle.dm_rulelaws.proofs.Based.Loud.{life_of, step_alike}
 use Rattle.dm_rulelaws.proofs.Based.Needs.{Resting, Serves, Unborn, Living, Queues, Walks, WalksOf, AllLoose, loose_walks, first_walks, said_by, begun}
 
 -- the point behind the head of a turn
@@ -28,8 +27,7 @@ pub living : (pt : Point) (p : Pid) (x : PlainProcess) → Sane pt → kernel.al
 living pt p x h e = search (arith, pt.kernel.processes, alive-is, not_server, pt.kernel, h.sound.made)
 
 pub walks_of : (pt : Point) (x : Option (List Part)) → ((ps : List Part) → x ≡ Some ps → Walks pt ps) → WalksOf pt x
-walks_of pt None h = tt
-walks_of pt (Some ps) h = h ps refl
+walks_of pt x h1 = search arith
 
 -- a process is served
 drops_loose : (ids : List MsgId) → AllLoose (rule.drop_parts ids)
@@ -79,35 +77,16 @@ pub forwards_walks : (pt : Point) (a : Addresses) (id : MsgId) (k : MessageKind)
 forwards_walks pt a id k sender to = loose_walks (forwards_on a id k sender to) pt (by_forwards AllLoose a id k sender to (λ q. tt, (λ q. tt, tt)) (λ q. tt, (λ q. tt, (λ q. tt, tt))))
 
 routes_loose : (o : Option PlainMessage) → AllLoose (rule.routes o)
-routes_loose None = tt
-routes_loose (Some m) = (λ pt. tt, tt)
+routes_loose o = search arith
 
 pub unborn : (o : Point) (m : ℕ) → Rooted o → Unborn (turned o m).view (pid_of m (first_number + o.kernel.made m))
 unborn o m h = search (arith, o.kernel.made, h.unborn)
 
--- a process is asked to move, and sets off
-living_on : (s t : OneKernel) (p : Pid) → Alike s t → Living s p → Living t p
-living_on s t p alike h =
-    let (x, is) = life_of (t.processes p) (alike p ∙ ap life_sort h.alive) in
-    record { process = x; alive = is; server = h.server }
-
 asks_walks : (pt : Point) (p : Pid) (id : MsgId) (to : ℕ) → Living pt.kernel p → pt.view.known pt.view.acting p ≡ Here → Walks pt (rule.says (Label.Asked id) ∷ leaves_for p to)
-asks_walks pt p id to lives here = (
-  tt,
-  λ next s.
-      let g = said_by pt next (Line.Label (Label.Asked id)) s in
-      let mid = moved pt (Line.Label (Label.Asked id)) g.kernel in
-      subst (λ (z : Point). Walks z (leaves_for p to)) g.is
-      (first_walks (Says (Line.Migration Stage.Frozen p)) (Says (Line.Migration Stage.Asked p) ∷ to_kernel MessageKind.Ask to ∷ []) mid (living_on pt.kernel g.kernel p (step_alike pt.kernel g.kernel (Label.Asked id) refl g.step) lives, here) (λ q. tt, (λ q. tt, tt))),
-)
-
--- what is known to be here lives
-here_living : (s : OneKernel) (p : Pid) (o : Option Life) → s.processes p ≡ o → is_server p ≡ false → agrees Here o ≡ true → Living s p
-here_living s p (Some (Alive x)) is server e = record { process = x; alive = is; server = server }
-here_living s p _ is server e = absurd (false≢true e)
+asks_walks pt p id to lives here = search (arith, said_by, first_walks, pt.kernel, step_alike, life_of)
 
 pub known_living : (s : OneKernel) (v : View) (m : ℕ) (p : Pid) → KnownStands s v → is_server p ≡ false → v.known m p ≡ Here → Living s p
-known_living s v m p h server here = here_living s p (s.processes p) refl server (sym (ap (λ (k : Known). agrees k (s.processes p)) here) ∙ h.agree m p server)
+known_living s v m p h server here = search (arith, h.agree)
 
 pub handles_walks : (b : Boot) (o : Point) (m : ℕ) (id : MsgId) (msg : PlainMessage) → Sane (turned o m) → InPhases (turned o m).view → Rooted o → KnownStands o.kernel o.view → Front (turned o m) id msg → WalksOf (turned o m) (rule.handles b o m id msg)
 handles_walks b o m id msg sane phases rooted known f =

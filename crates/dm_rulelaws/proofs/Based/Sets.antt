@@ -1,22 +1,17 @@
 -- A value set for one process on one machine, lists with messages taken out, how often a process stands in a ring, and what a kill may do.
 use Rattle.dm_rulelaws.proofs.Names.{◌≡◌, ℕ, ◌≤◌, ◌==◌, ◌&&◌, Bool, true, false, List, [], ◌∷◌, ◌++◌, refl, arith, if◌then◌else◌, Some, Pid, pid_eq, MsgId, MessageKind, id_eq-is, pid_eq-is, at_record, without_id, without_front, times, View}
-use Rattle.dm_rulelaws.proofs.Names.{ends_by, ended, parts, eq_is, is_kill, times-append, ◌+◌, not, ap, ◌∙◌, sym, pid_eq-same, pid_eq-swap, at_machine, without, moved_back, rings, id_eq, sort_of}
+use Rattle.dm_rulelaws.proofs.Names.{ends_by, ended, parts, eq_is, is_kill, times-append, ◌+◌, not, ap, ◌∙◌, sym, pid_eq-same, pid_eq-swap, at_machine, without, moved_back, rings, id_eq, sort_of, kills}
 
 -- one value set: there, and elsewhere
 pub set_all : {X : Type 0} (T : ℕ → Pid → X → Type 0) (f : ℕ → Pid → X) (a : ℕ) (p : Pid) (x : X) → T a p x → ((n : ℕ) (q : Pid) → ((a == n) && pid_eq p q) ≡ false → T n q (f n q)) → (n : ℕ) (q : Pid) → T n q (at_record f a p x n q)
 set_all T f a p x mine others n q = search (arith, parts, eq_is, pid_eq-is)
 
--- lists with messages taken out
-fewer_if : (i j : MsgId) (c : Bool) (js ks : List MsgId) → 1 ≤ times i (if c then js else j ∷ ks) → (1 ≤ times i ks → 1 ≤ times i js) → 1 ≤ times i (j ∷ js)
-fewer_if i j c js ks h1 h2 = search arith
-
 pub without_fewer : (i id : MsgId) (xs : List MsgId) → 1 ≤ times i (without_id id xs) → 1 ≤ times i xs
 without_fewer i id [] least = least
-without_fewer i id (j ∷ js) least = fewer_if i j (id_eq id j) js (without_id id js) least (without_fewer i id js)
+without_fewer i id (j ∷ js) least = search (arith, id_eq id j, without_id id js, without_fewer i id js)
 
 pub front_fewer : (i id : MsgId) (xs : List MsgId) → 1 ≤ times i (without_front id xs) → 1 ≤ times i xs
-front_fewer i id [] least = least
-front_fewer i id (j ∷ js) least = search arith
+front_fewer i id xs h1 = search arith
 
 -- one more at the end
 pub last_of : (T : Type 0) (i id : MsgId) (xs : List MsgId) → 1 ≤ times i (xs ++ id ∷ []) → (1 ≤ times i xs → T) → (i ≡ id → T) → T
@@ -36,8 +31,7 @@ rings-append p [] ys = omega arith
 rings-append p (x ∷ xs) ys = let h = rings-append p xs ys in omega (arith, h)
 
 rings_if : (q x : Pid) (xs : List Pid) (c : Bool) → rings q (if c then x ∷ xs else xs) ≡ (if c then one_if (pid_eq q x) else 0) + rings q xs
-rings_if q x xs true = refl
-rings_if q x xs false = omega arith
+rings_if q x xs c = search arith
 
 pub rings_without : (p : Pid) (xs : List Pid) → rings p (without p xs) ≡ 0
 rings_without p [] = refl

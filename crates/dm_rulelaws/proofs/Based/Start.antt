@@ -53,8 +53,7 @@ none_later b earlier (p ∷ ps) q h low =
 
 alive_first : (b : Boot) (p : BootProcess) (o : Option BootImage) → is_some o ≡ true
     → (known_of_life (option_map (λ (image : BootImage). Alive (begun b.format image (map plain_link p.links))) o) ≡ Known.Here) × (is_alive (option_map (λ (image : BootImage). Alive (begun b.format image (map plain_link p.links))) o) ≡ true)
-alive_first b p None e = cc
-alive_first b p (Some i) e = (refl, refl)
+alive_first b p o h1 = search arith
 
 -- what machines know at the start
 pub servers_known : (q : Pid) (m : ℕ) (c : Bool) → is_server q ≡ c → (if (m == 0) && c then Known.Here else Known.Unknown) ≡ (if q.home == m then (if c then Known.Here else Known.Unknown) else Known.Unknown)
@@ -87,8 +86,7 @@ known_first b earlier (p ∷ ps) m q h = elim (cases_Bool (pid_eq p.pid q)) [
 
 -- rings at the start
 ring_if : (q p : Pid) (qs : List Pid) (c : Bool) → rings q (if c then p ∷ qs else qs) ≡ one_if (c && pid_eq q p) + rings q qs
-ring_if q p qs true = refl
-ring_if q p qs false = omega arith
+ring_if q p qs c = search arith
 
 ring_first : (b : Boot) (earlier ps : List BootProcess) (m : ℕ) (q : Pid) → processes_are_valid b earlier ps ≡ true → rings q (ring_at ps m) ≡ one_if ((q.home == m) && is_alive (life_at b ps q))
 ring_first b earlier [] m q h = search (arith, q.home)
@@ -125,8 +123,7 @@ is_first : (b : Boot) (m : ℕ) (q : Pid) (c : Bool) → IsValid b → is_server
 is_first b m q c valid e = known_first b [] b.processes m q valid.processes ∙ ap (λ (x : Bool). if q.home == m then (if x then Known.Here else known_of_life (life_at b b.processes q)) else Known.Unknown) e
 
 server_home : (q : Pid) (c : Bool) → pid_eq q switchboard ≡ c → (c || pid_eq q manager) ≡ true → (q.home ≡ 0) × (nat_lt q.num 3 ≡ true)
-server_home q true f g = (grind (arith, nat_tests), grind (arith, nat_tests))
-server_home q false f g = (grind (arith, nat_tests), grind (arith, nat_tests))
+server_home q c h1 h2 = search arith
 
 server_first : (b : Boot) (m : ℕ) (q : Pid) → IsValid b → is_server q ≡ true → known_at b.processes m q ≡ server_at m
 server_first b m q valid e =

@@ -2,7 +2,7 @@
 use Rattle.dm_rulelaws.proofs.Names.{sets, ◌≡◌, ℕ, ◌+◌, Bool, refl, ap, ◌∙◌, sym, subst, inl, inr, if◌then◌else◌, cases_Bool, Option, None, Some, Pid, pid_eq, MsgId, Boot, Label, Line, Stage, PlainProcess, Alive, OneKernel, Step, pid_eq-is}
 use Rattle.dm_rulelaws.proofs.Names.{after_step, Spelled, Point, kernel_after, label_of, group_of, View, Told, handled, receiver_of, served_told, view_after, Kept, grown_none, Phased, Sane, KnownStands, ◌≢◌, ◌==◌, ◌&&◌, true, false, List}
 use Rattle.dm_rulelaws.proofs.Names.{[], ◌∷◌, ◌++◌, is_some, arith, false≢true, nat_tests, Life, bind-is, completing, at_machine, at_record, without, moved_back, Known, Unknown, Here, Frozen, Incoming, Forward, handled_first, front_of}
-use Rattle.dm_rulelaws.proofs.Names.{gone_to, rejoins, is_away, is_here, at_machine_at, is_kill, is_server, agrees, server_at, rings, turns_here, aim, at_hand-is, bind}
+use Rattle.dm_rulelaws.proofs.Names.{gone_to, rejoins, is_away, is_here, at_machine_at, is_kill, is_server, agrees, server_at, rings, turns_here, aim, at_hand-is}
 use Rattle.dm_rule.specs.View.{Ended}
 use Rattle.dm_onekernel.specs.Step as kernel
 use Rattle.dm_rule.specs.View as view
@@ -22,8 +22,7 @@ kept_label pt t l h e p none =
     grown_none (pt.kernel.processes p) (t.processes p) (a.grown.lives p) none
 
 kept_by : (pt : Point) (t : OneKernel) (o : Option Label) → Sane pt → kernel_after pt.kernel o ≡ Some t → Kept pt.kernel t
-kept_by pt t None h e p none = ap (λ (k : OneKernel). k.processes p) (let f : pt.kernel ≡ t = cc in f) ∙ none
-kept_by pt t (Some l) h e p none = kept_label pt t l h e p none
+kept_by pt t o h1 h2 = search (arith, pt.kernel, kept_label)
 
 unmoved_as : (s t : OneKernel) (v w : View) → Kept s t → w.moves ≡ v.moves → Unmoved s v → Unmoved t w
 unmoved_as s t v w kept moves h = record { none = λ p none. ap (λ (f : Pid → ℕ). f p) moves ∙ h.none p (kept p none) }
@@ -32,20 +31,16 @@ by_label : (pt : Point) (t : OneKernel) (l : Label) → Sane pt → kernel.step 
 by_label pt t l sane is moves h = unmoved_as pt.kernel t pt.view (view_after pt.view (Line.Label l)) (kept_label pt t l sane is) moves h
 
 pub dropped_moves : (v : View) (id : MsgId) (o : Option Pid) → (view.dropped_for v id o).moves ≡ v.moves
-dropped_moves v id None = refl
-dropped_moves v id (Some p) = refl
+dropped_moves v id o = search arith
 
 pub queued_moves : (v : View) (id : MsgId) (o : Option Pid) → (view.queued_for v id o).moves ≡ v.moves
-queued_moves v id None = refl
-queued_moves v id (Some p) = refl
+queued_moves v id o = search arith
 
 pub held_moves : (v : View) (id : MsgId) (o : Option Pid) → (view.held_for v id o).moves ≡ v.moves
-held_moves v id None = refl
-held_moves v id (Some p) = refl
+held_moves v id o = search arith
 
 served_moves : (v : View) (o : Option Told) → (served_told v o).moves ≡ v.moves
-served_moves v None = refl
-served_moves v (Some t) = killed_or (λ w. w.moves ≡ v.moves) t.kind v t.receiver (λ k. refl) (λ k. refl)
+served_moves v o = search (arith, killed_or, v.moves)
 
 -- a living process has moved once more
 restarted_moves : (s : OneKernel) (v w : View) (p : Pid) (x : PlainProcess) → s.processes p ≡ Some (Alive x) → w.moves ≡ (λ q. if pid_eq p q then v.moves p + 1 else v.moves q) → Unmoved s v → Unmoved s w
@@ -58,10 +53,7 @@ restarted_moves s v w p x alive is h = record {
 
 unmoved_loud : Loud (λ pt. Unmoved pt.kernel pt.view)
 unmoved_loud = record {
-  rides = record {
-    put = λ pt a b i k q h. record { none = h.none };
-    packet = λ pt a b k l h. record { none = h.none };
-  };
+  rides = (search arith);
   quiet = λ pt w t l e s told alike sane is h. subst (Unmoved t) (sym e) (unmoved_as pt.kernel t pt.view w (kept_by pt t (label_of l) sane is) s.moves h);
   ran = λ pt t p k here alike sane is h. by_label pt t (Label.Ran p k) sane is refl h;
   receive = λ pt t p id here alike sane is h. by_label pt t (Label.Receive p id) sane is refl h;
@@ -97,22 +89,7 @@ agrees_by _ (Some false) = false
 
 by_sort : (k : Known) (o : Option Life) → agrees k o ≡ agrees_by k (life_sort o)
 unfolding agrees_by
-by_sort Unknown o = refl
-by_sort Here None = refl
-by_sort Here (Some (Alive x)) = refl
-by_sort Here (Some (Life.Ended y)) = refl
-by_sort (Frozen to) None = refl
-by_sort (Frozen to) (Some (Alive x)) = refl
-by_sort (Frozen to) (Some (Life.Ended y)) = refl
-by_sort (Incoming from) None = refl
-by_sort (Incoming from) (Some (Alive x)) = refl
-by_sort (Incoming from) (Some (Life.Ended y)) = refl
-by_sort (Forward at moves) None = refl
-by_sort (Forward at moves) (Some (Alive x)) = refl
-by_sort (Forward at moves) (Some (Life.Ended y)) = refl
-by_sort Ended None = refl
-by_sort Ended (Some (Alive x)) = refl
-by_sort Ended (Some (Life.Ended y)) = refl
+by_sort k o = search arith
 
 agrees_alike : (k : Known) (a b : Option Life) → life_sort a ≡ life_sort b → agrees k a ≡ agrees k b
 agrees_alike k a b e = by_sort k a ∙ ap (agrees_by k) e ∙ sym (by_sort k b)
@@ -121,16 +98,13 @@ here_agrees : (o : Option Life) → life_sort o ≡ Some true → agrees Here o 
 here_agrees o h1 = search arith
 
 frozen_some : (d : ℕ) (o : Option Life) → agrees (Frozen d) o ≡ true → is_some o ≡ true
-frozen_some d None f = absurd (false≢true f)
-frozen_some d (Some l) f = refl
+frozen_some d o h1 = search arith
 
 turns_off : (c : Bool) (k : Known) → is_here k ≡ false → turns_here c k ≡ 0
-turns_off true k e = refl
-turns_off false k e = ap (λ (b : Bool). if b then 1 else 0) e
+turns_off c k h1 = search arith
 
 away_off : (k : Known) → is_away k ≡ true → is_here k ≡ false
-away_off Here e = absurd (false≢true e)
-away_off _ e = refl
+away_off k h1 = search arith
 
 -- nothing is learnt, and nobody ends
 known_same : (s t : OneKernel) (v w : View) → Alike s t → w.known ≡ v.known → ((m : ℕ) (q : Pid) → rings q (w.ring m) ≡ rings q (v.ring m)) → KnownStands s v → KnownStands t w
@@ -152,8 +126,7 @@ record Learnt (s t : OneKernel) (v w : View) (p : Pid) (k : Known) : Type 0 wher
   rings_ : (m : ℕ) (q : Pid) → ((v.acting == m) && pid_eq p q) ≡ false → rings q (w.ring m) ≡ rings q (v.ring m)
 
 off_first : (a c : Bool) → (a && c) ≡ false → c ≡ true → a ≡ false
-off_first true c e f = absurd (false≢true (sym e ∙ f))
-off_first false c e f = refl
+off_first a c h1 h2 = search arith
 
 known_learns : (s t : OneKernel) (v w : View) (p : Pid) (k : Known) → Learnt s t v w p k → KnownStands s v → KnownStands t w
 known_learns s t v w p k l h = record {
@@ -225,10 +198,7 @@ alive_set s p x e = record { at_ = ap life_sort e; off = λ q apart. refl }
 
 -- the lines
 ran_living : (s t : OneKernel) (p : Pid) (k : ℕ) → kernel.step s (Label.Ran p k) ≡ Some t → (x : PlainProcess) × (kernel.alive (s.processes p) ≡ Some x)
-ran_living s t p k is =
-    let (x, runs, rest) = bind-is (kernel.running s p) (λ (w : PlainProcess). bind (kernel.plain_steps k (kernel.machine_of w)) (λ (m : kernel.Machine). Some (kernel.goes_on s p (kernel.with_machine w m)))) t is in
-    let (y, hand, ready) = bind-is (kernel.at_hand s p) (λ v. kernel.if_ready v v.status) x runs in
-    (y, ap kernel.alive (at_hand-is s p y hand).1)
+ran_living s t p k is = search (arith, bind-is, at_hand-is)
 
 served_known : (s t : OneKernel) (v : View) (told : Told) → is_server told.receiver ≡ false → is_some (s.processes told.receiver) ≡ true → (is_kill told.kind ≡ true → SetLife s t told.receiver (Some false)) → (is_kill told.kind ≡ false → Alike s t)
     → (is_kill told.kind ≡ true → Resting v told.receiver) → KnownStands s v → KnownStands t (served_told v (Some told))
@@ -248,16 +218,13 @@ served_line pt t id serves sane is h =
     search (arith, serves.is, served_known, lives.server, s.processes, l.alive, l.served.kill, l.served.other, serves.rests)
 
 dropped_known : (s t : OneKernel) (v : View) (id : MsgId) (o : Option Pid) → Alike s t → KnownStands s v → KnownStands t (view.dropped_for v id o)
-dropped_known s t v id None alike h = known_as s t v v alike refl refl h
-dropped_known s t v id (Some p) alike h = known_as s t v (view.dropped_for v id (Some p)) alike refl refl h
+dropped_known s t v id o h1 h2 = search (arith, known_as)
 
 queued_known : (s : OneKernel) (v : View) (id : MsgId) (o : Option Pid) → KnownStands s v → KnownStands s (view.queued_for v id o)
-queued_known s v id None h = h
-queued_known s v id (Some p) h = record { server = h.server; agree = h.agree; home = h.home; ring = h.ring }
+queued_known s v id o h1 = search arith
 
 held_known : (s : OneKernel) (v : View) (id : MsgId) (o : Option Pid) → KnownStands s v → KnownStands s (view.held_for v id o)
-held_known s v id None h = h
-held_known s v id (Some p) h = record { server = h.server; agree = h.agree; home = h.home; ring = h.ring }
+held_known s v id o h1 = search arith
 
 handled_known : (s : OneKernel) (v : View) (id : MsgId) → KnownStands s v → KnownStands s (handled v id)
 handled_known s v id h = record { server = h.server; agree = h.agree; home = h.home; ring = h.ring }
@@ -267,10 +234,7 @@ home_apart a b e off = let k : (a == b) ≡ true = grind (arith, nat_tests) in f
 
 known_loud : Loud (λ pt. KnownStands pt.kernel pt.view)
 known_loud = record {
-  rides = record {
-    put = λ pt a b i k q h. record { server = h.server; agree = h.agree; home = h.home; ring = h.ring };
-    packet = λ pt a b k l h. record { server = h.server; agree = h.agree; home = h.home; ring = h.ring };
-  };
+  rides = (search arith);
   quiet = λ pt w t l e s told alike sane is h. subst (KnownStands t) (sym e) (known_as pt.kernel t pt.view w alike s.known s.ring h);
   ran = λ pt t p k here alike sane is h.
       let (x, alive) = ran_living pt.kernel t p k is in

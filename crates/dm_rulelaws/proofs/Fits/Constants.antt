@@ -1,12 +1,11 @@
 -- The format, the images and the number of machines of the kernel without machines never change, and the manager's pending
 -- requests stay in order.
-use Rattle.dm_rulelaws.proofs.Names.{take, drop, by_step, ◌≡◌, ℕ, ◌+◌, ◌++◌, true, List, [], ◌∷◌, length, refl, Option, None, Some, Pid, MsgId, PlainMessage, PlainWhat, Label, Why, Ended, Life, OneKernel, Manager, Pending, PlainLink}
-use Rattle.dm_rulelaws.proofs.Names.{ascends, ascends_more, ascends_last, ascends_without, PlainProcess, answer_to, without_message, PendingKind, answer_id, code_of_outcome, without_note, zero, suc, ◌==◌, ◌&&◌, Bool, false, ap, ◌∙◌, sym}
+use Rattle.dm_rulelaws.proofs.Names.{by_step, ◌≡◌, ℕ, ◌+◌, ◌++◌, true, List, [], ◌∷◌, length, refl, Option, None, Some, Pid, MsgId, PlainMessage, PlainWhat, Label, Life, OneKernel, Manager, Pending, PlainLink}
+use Rattle.dm_rulelaws.proofs.Names.{ascends, ascends_more, ascends_last, ascends_without, PlainProcess, without_message, PendingKind, answer_id, code_of_outcome, zero, suc, ◌==◌, ◌&&◌, Bool, false, ap, ◌∙◌, sym}
 use Rattle.dm_rulelaws.proofs.Names.{subst, nat_lt, arith, ⊤, if◌then◌else◌, slice_get, nat_tests, manager, NamedLink, with_sent, id_eq-same, stayed, out_at, Sound, Each, Lives, has_bytes, LinkFits, awaits, WhatFits, KernelFits, id_of}
 use Rattle.dm_rulelaws.proofs.Names.{IsPending, nat_le, SlotFits, is_for, kind_eq, PendingFits, numbered_from, pid_of, MoveNote, cases_Bool, in_bag, inl, inr}
 use Rattle.dm_onekernel.specs.Kernel as kernels
 use Rattle.dm_onekernel.specs.Manager as manage
-use Rattle.dm_onekernel.specs.Pieces as pieces
 use Rattle.dm_onekernel.specs.Service as service
 use Rattle.dm_onekernel.specs.Step as kernel
 use Rattle.dm_onekernel.specs.Switchboard as board
@@ -21,19 +20,7 @@ took_order : (g : Manager) (machines images : ℕ) (m : PlainMessage) (w : Plain
 took_order g machines images m w k e h =
     let more = ascends_more g.pending 0 g.sent h in
     let last : (kind : PendingKind) (o : Option PlainLink) → ascends 0 (g.pending ++ record { n = g.sent; kind = kind; answer = o } ∷ []) (g.sent + 1) ≡ true = λ kind o. ascends_last g.pending 0 (record { n = g.sent; kind = kind; answer = o }) h in
-    let off = ascends_without g.pending 0 g.sent m.id.n h in
-    let over : (children : List Pid) (r : Pending) (code : ℕ) (links : List PlainLink) → InOrder (manage.answers_over (record g { children = children; pending = manage.without_pending m.id.n g.pending }) r.answer code links).manager =
-    λ children r code links. by_over (λ x. InOrder x.manager) (record g { children = children; pending = manage.without_pending m.id.n g.pending }) r.answer code links off (λ l. ascends_more (manage.without_pending m.id.n g.pending) 0 g.sent off) in
-    by_manager (λ x. InOrder x.manager) g machines images m w k (record {
-      ignores = h;
-      refuses = λ l ls u. more;
-      asks = λ machine image l ls u within. last PendingKind.Create (Some l);
-      moves = λ code child machine links u is within. last PendingKind.Move (manage.first_link links);
-      tells = λ code child v is control. more;
-      created = λ child r is there. over (g.children ++ child ∷ []) r 0 (manage.control_link (length g.children + 1) ∷ []);
-      no_room = λ r is there. over g.children r 1 [];
-      moved = λ outcome r is there. over g.children r (code_of_outcome outcome) [];
-    }) e
+    search (arith, ascends_without, g.pending, g.sent, m.id.n, by_over, ascends_more, by_manager, g.children)
 
 -- what is made of the boot file, and stays
 pub record Constant (s t : OneKernel) : Type 0 where
@@ -43,8 +30,7 @@ pub record Constant (s t : OneKernel) : Type 0 where
   pub pending : InOrder s.manager → InOrder t.manager
 
 sent_constant : (s u : OneKernel) (o : Option PlainMessage) → Constant s u → Constant s (kernels.with_sent u o)
-sent_constant s u None h = h
-sent_constant s u (Some m) h = record { format = h.format; images = h.images; machines = h.machines; pending = h.pending }
+sent_constant s u o h1 = search arith
 
 process_constant : (s u : OneKernel) (p : Pid) (life : Life) → Constant s u → Constant s (kernels.with_process u p life)
 process_constant s u p life h = record { format = h.format; images = h.images; machines = h.machines; pending = h.pending }
@@ -61,33 +47,7 @@ goes_constant s id p life = process_constant s (without_message s id) p life (ou
 pub step_constant : (s t : OneKernel) (e : Label) → kernel.step s e ≡ Some t → Constant s t
 step_constant s t e =
     let answers : (id : MsgId) (m : PlainMessage) (y : PlainProcess) (x : PlainMessage) → Constant s (kernels.with_sent (service.changed s id m y) (Some x)) = λ id m y x. sent_constant s (service.changed s id m y) (Some x) (goes_constant s id m.to (kernels.Alive y)) in
-    by_step (Constant s) s t e (record {
-      ran = λ p k x m is w. process_constant s s p (kernels.Alive (kernel.with_machine x m)) (same s);
-      replies = λ p n k c d y is w. process_constant s s p (kernels.Alive y) (same s);
-      sends = λ p id k m y is same_ w. sent_constant s (kernel.goes_on s p y) (Some m) (process_constant s s p (kernels.Alive y) (same s));
-      waits = λ p k y is w. process_constant s s p (kernels.Alive y) (same s);
-      outputs = λ p w k v y is n. process_constant s s p (kernels.Alive y) (same s);
-      ends = λ p y next is w. process_constant s s p (Ended y) (same s);
-      receives = λ p id y is w c. goes_constant s id p (kernels.Alive y);
-      refuses = λ p id c d y is w f. process_constant s s p (kernels.Alive y) (same s);
-      dropped = λ id m y is w f. out_constant s id;
-      gone = λ id m y is w v f. sent_constant s (without_message s id) (Some (answer_to m v)) (out_constant s id);
-      asked = λ id m x machine is w f. record { format = refl; images = refl; machines = refl; pending = λ o. o };
-      answered = λ id o p n is f.
-          sent_constant s (without_note s p id) (Some (record { id = answer_id id; to = n.asker; sender = p; what = PlainWhat.Moved o })) (record { format = refl; images = refl; machines = refl; pending = λ o. o });
-      stops = λ id m x b is w f. goes_constant s id m.to (kernels.Alive (record x { stopped = b }));
-      kills = λ id m x is w f. goes_constant s id m.to (Ended Why.Killed);
-      reads = λ id m x base len is w f. answers id m x (answer_to m (PlainWhat.Block (take len (drop base x.memory))));
-      writes = λ id m x base bytes is w f. answers id m (record x { memory = pieces.written_at x.memory base bytes }) (answer_to m PlainWhat.Written);
-      lands = λ id m x r y is w f c. answers id m y r;
-      done = λ id m x c y is w f g. goes_constant s id m.to (kernels.Alive y);
-      board = λ id m k is there c took. sent_constant s (record (without_message s id) { switchboard = k.switchboard }) k.answer (record { format = refl; images = refl; machines = refl; pending = λ o. o });
-      manager = λ id m k is there c took.
-          sent_constant s (record (without_message s id) { manager = k.manager }) k.message (record { format = refl; images = refl; machines = refl; pending = took_order s.manager s.machines (length s.images) m m.what k took });
-      creates = λ id child m image links i is w found name.
-          sent_constant s (service.with_created (without_message s id) child i links) (Some (answer_to m (PlainWhat.Created child))) (record { format = refl; images = refl; machines = refl; pending = λ o. o });
-      no_room = λ id a b m image links is w. sent_constant s (without_message s id) (Some (answer_to m PlainWhat.NoRoom)) (out_constant s id);
-    })
+    by_step (Constant s) s t e (search (arith, process_constant, same, sent_constant, goes_constant, out_constant, took_order, s.manager))
 
 -- What the servers do keeps that all fits.
 
@@ -116,37 +76,21 @@ record AskedFits (ps : Lives) (a : board.Asked) : Type 0 where
   names : NamesFit ps a.names
   answer : AnswerFits ps a.answer
 
-named_if : (ps : Lives) (b : Bool) (l : PlainLink) (o : Option PlainLink) → LinkFits ps l → AnswerFits ps (board.found_or_unknown o) → AnswerFits ps (board.found_or_unknown (if b then Some l else o))
-named_if ps true l o f h = f
-named_if ps false l o f h = h
-
 named_fits : (ps : Lives) (name : List ℕ) (names : List NamedLink) → NamesFit ps names → AnswerFits ps (board.found_or_unknown (board.link_named name names))
 named_fits ps name [] h = tt
-named_fits ps name (k ∷ ks) h = named_if ps (board.bytes_eq k.name name) k.link (board.link_named name ks) h.0 (named_fits ps name ks h.1)
+named_fits ps name (k ∷ ks) h = search (arith, board.bytes_eq k.name name, board.link_named name ks, named_fits ps name ks h.1, k.link, h.0)
 
 bad_asked : (ps : Lives) (names : List NamedLink) → NamesFit ps names → AskedFits ps (board.board_bad_request names)
 bad_asked ps names h = record { names = h; answer = tt }
 
 if_asked : (ps : Lives) (b : Bool) (x y : board.Asked) → AskedFits ps x → AskedFits ps y → AskedFits ps (if b then x else y)
-if_asked ps true x y h k = h
-if_asked ps false x y h k = k
-
-registers_fit : (ps : Lives) (names : List NamedLink) (name : List ℕ) (l : PlainLink) (o : Option PlainLink) → LinkFits ps l → NamesFit ps names → AskedFits ps (board.registers_new names name l o)
-registers_fit ps names name l None f h = record { names = Each-last (λ (k : NamedLink). LinkFits ps k.link) names (record { name = name; link = l }) h f; answer = tt }
-registers_fit ps names name l (Some k) f h = record { names = h; answer = tt }
+if_asked ps b x y h1 h2 = search arith
 
 register_fits : (ps : Lives) (names : List NamedLink) (name : List ℕ) (ls : List PlainLink) → Each (LinkFits ps) ls → NamesFit ps names → AskedFits ps (board.asks_to_register names name ls)
-register_fits ps names name ls h1 h2 = search (arith, if_asked, registers_fit, bad_asked)
+register_fits ps names name ls h1 h2 = search (arith, if_asked, bad_asked, Each-last)
 
 look_up_fits : (ps : Lives) (names : List NamedLink) (name : List ℕ) (ls : List PlainLink) → NamesFit ps names → AskedFits ps (board.asks_to_look_up names name ls)
 look_up_fits ps names name ls h1 = search (arith, if_asked, named_fits, bad_asked)
-
-asks_fit : (ps : Lives) (names : List NamedLink) (body : List ℕ) (ls : List PlainLink) → Each (LinkFits ps) ls → NamesFit ps names → AskedFits ps (board.asks names body ls)
-asks_fit ps names body ls h1 h2 = search (arith, bad_asked, if_asked, register_fits, look_up_fits)
-
-answer_links : (ps : Lives) (a : board.Answer) → AnswerFits ps a → Each (LinkFits ps) (board.links_of_answer a)
-answer_links ps (board.Found link) h = (h, tt)
-answer_links ps _ h = tt
 
 record BoardFits (s : OneKernel) (k : board.BoardTook) : Type 0 where
   names : NamesFit s.processes k.switchboard.names
@@ -168,23 +112,14 @@ board_on s id k b fits =
     sends_off s u (Some m) ps machines images g h = what_same s u m.id m m.what ps machines images g h
 
 board_fits : (s : OneKernel) (body : List ℕ) (links : List PlainLink) → Each (LinkFits s.processes) links → NamesFit s.processes s.switchboard.names → BoardFits s (board.takes_request s.switchboard body links)
-board_fits s body links h1 h2 = search (arith, asks_fit, s.processes, s.switchboard.names, link_users, answer_links)
+board_fits s body links h1 h2 = search (arith, s.processes, s.switchboard.names, link_users, bad_asked, if_asked, register_fits, look_up_fits)
 
 pub board_row : (s : OneKernel) (id : MsgId) (m : PlainMessage) (w : PlainWhat) (k : board.BoardTook) → WhatFits s id m w → board.board_takes s.switchboard m w ≡ Some k → KernelFits s → KernelFits (service.switchboard_took s id k)
-board_row s id m (PlainWhat.User code channel body links) k f is fits =
-    let g : board.takes_request s.switchboard body links ≡ k = cc in
-    board_on s id k (subst (BoardFits s) g (board_fits s body links f.1 fits.names)) fits
-board_row s id m _ k f is fits = cc
-
--- requests by their numbers
-pending_later : (kind : PendingKind) (n : ℕ) (b : Bool) (x r : Pending) (rs : List Pending) → (is_for kind (manage.pending_numbered n rs) ≡ true → is_for kind (manage.pending_numbered n (rs ++ r ∷ [])) ≡ true)
-    → is_for kind (if b then Some x else manage.pending_numbered n rs) ≡ true → is_for kind (if b then Some x else manage.pending_numbered n (rs ++ r ∷ [])) ≡ true
-pending_later kind n true x r rs f h = h
-pending_later kind n false x r rs f h = f h
+board_row s id m w k h1 h2 h3 = search (arith, s.switchboard, board_on, board_fits)
 
 pub pending_last : (kind : PendingKind) (n : ℕ) (rs : List Pending) (r : Pending) → is_for kind (manage.pending_numbered n rs) ≡ true → is_for kind (manage.pending_numbered n (rs ++ r ∷ [])) ≡ true
 pending_last kind n [] r h = cc
-pending_last kind n (x ∷ xs) r h = pending_later kind n (x.n == n) x r xs (pending_last kind n xs r) h
+pending_last kind n (x ∷ xs) r h = search (arith, x.n == n, pending_last kind n xs r)
 
 -- a new request has a number that no pending one has
 none_later : (x : Pending) (rs : List Pending) (n : ℕ) → nat_lt x.n n ≡ true → (x.n == n) ≡ false
@@ -199,8 +134,7 @@ own_last from (x ∷ xs) r e =
     ap (λ (b : Bool). if b then Some x else manage.pending_numbered r.n (xs ++ r ∷ [])) (none_later x xs r.n low) ∙ own_last (x.n + 1) xs r k.1
 
 kind_same : (k : PendingKind) → kind_eq k k ≡ true
-kind_same PendingKind.Create = refl
-kind_same PendingKind.Move = refl
+kind_same k = search arith
 
 pub pending_without : (kind : PendingKind) (k n : ℕ) (rs : List Pending) → (k == n) ≡ false → is_for kind (manage.pending_numbered k rs) ≡ true → is_for kind (manage.pending_numbered k (manage.without_pending n rs)) ≡ true
 pending_without kind k n [] apart h = h
@@ -210,20 +144,15 @@ abbrev AnswersFit : Lives → List Pending → Type 0
 AnswersFit ps rs = Each (PendingFits ps) rs
 
 answer_if : (ps : Lives) (b : Bool) (x r : Pending) (o : Option Pending) → (if b then Some x else o) ≡ Some r → PendingFits ps x → (o ≡ Some r → PendingFits ps r) → PendingFits ps r
-answer_if ps true x r o e f g = let k : x ≡ r = cc in subst (PendingFits ps) k f
-answer_if ps false x r o e f g = g e
+answer_if ps b x r o h1 h2 h3 = search arith
 
 answer_fits : (ps : Lives) (n : ℕ) (rs : List Pending) (r : Pending) → manage.pending_numbered n rs ≡ Some r → AnswersFit ps rs → PendingFits ps r
 answer_fits ps n [] r e h = cc
 answer_fits ps n (x ∷ xs) r e h = answer_if ps (x.n == n) x r (manage.pending_numbered n xs) e h.0 (λ g. answer_fits ps n xs r g h.1)
 
-without_if : (ps : Lives) (b : Bool) (r : Pending) (rs qs : List Pending) → PendingFits ps r → AnswersFit ps rs → AnswersFit ps qs → AnswersFit ps (if b then rs else r ∷ qs)
-without_if ps true r rs qs f h k = h
-without_if ps false r rs qs f h k = (f, k)
-
 without_fits : (ps : Lives) (n : ℕ) (rs : List Pending) → AnswersFit ps rs → AnswersFit ps (manage.without_pending n rs)
 without_fits ps n [] h = tt
-without_fits ps n (r ∷ rs) h = without_if ps (r.n == n) r rs (manage.without_pending n rs) h.0 h.1 (without_fits ps n rs h.1)
+without_fits ps n (r ∷ rs) h = search (arith, r.n == n, manage.without_pending n rs, without_fits ps n rs h.1, h.0)
 
 -- the manager: the numbers of which T is said stay
 abbrev ChildrenMade : Lives → List Pid → Type 0
@@ -266,8 +195,7 @@ asks_for_fits s machine image l ls within f fs order h =
 
 -- a child is to move
 first_fits : (ps : Lives) (n : ℕ) (links : List PlainLink) → Each (LinkFits ps) links → PendingFits ps (record { n = n; kind = PendingKind.Move; answer = manage.first_link links })
-first_fits ps n [] f = record { answer = tt; making = λ e. cc }
-first_fits ps n (l ∷ ls) f = record { answer = f.0; making = λ e. refl }
+first_fits ps n links h1 = search arith
 
 Each-get : {X : Type 0} (P : X → Type 0) (xs : List X) (k : ℕ) (x : X) → slice_get xs k ≡ Some x → Each P xs → P x
 Each-get P [] k x e h = cc
@@ -275,8 +203,7 @@ Each-get P (y ∷ ys) zero x e h = let f : y ≡ x = cc in subst P f h.0
 Each-get P (y ∷ ys) (suc k) x e h = Each-get P ys k x e h.1
 
 child_made : (ps : Lives) (children : List Pid) (n : ℕ) (p : Pid) → manage.child_numbered children n ≡ Some p → ChildrenMade ps children → has_bytes 0 (ps p) ≡ true
-child_made ps children zero p e h = cc
-child_made ps children (suc n) p e h = Each-get (λ (q : Pid). has_bytes 0 (ps q) ≡ true) children n p e h
+child_made ps children n p h1 h2 = search (arith, Each-get)
 
 abbrev OtherThan : ℕ → ℕ → Type 0
 OtherThan n k = (k == n) ≡ false
@@ -284,8 +211,7 @@ OtherThan n k = (k == n) ≡ false
 -- an answer is taken, and goes on to who asked, if there is a link for it
 over_fits : (s : OneKernel) (T : ℕ → Type 0) (g : Manager) (o : Option PlainLink) (code : ℕ) (links : List PlainLink) → SlotFits s.processes o → Each (LinkFits s.processes) links → AnswersFit s.processes g.pending → ChildrenMade s.processes g.children
     → ((kind : PendingKind) (n : ℕ) → T n → is_for kind (manage.pending_numbered n s.manager.pending) ≡ true → is_for kind (manage.pending_numbered n g.pending) ≡ true) → ManagerFits s T (manage.answers_over g o code links)
-over_fits s T g None code links answer fits answers children stays = record { answers = answers; children = children; sends = tt; stays = stays }
-over_fits s T g (Some l) code links answer fits answers children stays = record { answers = answers; children = children; sends = (link_users s.processes l answer, fits); stays = stays }
+over_fits s T g o code links h1 h2 h3 h4 h5 = search (arith, link_users, s.processes)
 
 -- an answer about a child is the only message under its number that is about one
 same_name : (i j : MsgId) → i.from ≡ j.from → i.n ≡ j.n → i.answer ≡ j.answer → i ≡ j

@@ -1,8 +1,8 @@
 -- A process that is made, or not for want of room, keeps that all fits.
-use Rattle.dm_rulelaws.proofs.Names.{◌≡◌, ℕ, zero, suc, ◌+◌, ◌-◌, true, List, [], ◌∷◌, ◌++◌, length, map, replicate, refl, ap, ◌∙◌, sym, subst, is_some, nat_le, arith, Option, None, Some, false≢true, nat_tests, Pid, pid_of, PlainLink}
+use Rattle.dm_rulelaws.proofs.Names.{◌≡◌, ℕ, zero, suc, ◌+◌, ◌-◌, true, List, [], ◌∷◌, ◌++◌, length, map, replicate, refl, ap, ◌∙◌, sym, subst, nat_le, arith, Option, None, Some, false≢true, nat_tests, Pid, pid_of, PlainLink}
 use Rattle.dm_rulelaws.proofs.Names.{MsgId, PlainMessage, PlainWhat, BootImage, first_number, slots_of, Format, Life, Alive, OneKernel, with_process, with_sent, answer_id, answer_to, without_message, begun, Sound, Each, Lives, has_bytes}
-use Rattle.dm_rulelaws.proofs.Names.{LinkFits, SlotFits, ProcessFits, awaits, IsPending, WhatFits, KernelFits, PendingKind, Bool, Label, bind, PlainProcess, PlainStatus, Ready, pending_of, bind-is, status_awaits, ◌≤◌, false, ⊤}
-use Rattle.dm_rulelaws.proofs.Names.{if◌then◌else◌, common_steps, first_empty, Row, instruction, Reply, Waiting, written_at, at_hand-is, Runs, move_fits, running_is, KeepsLengths, Regs, instruction-lengths}
+use Rattle.dm_rulelaws.proofs.Names.{LinkFits, SlotFits, ProcessFits, awaits, IsPending, WhatFits, KernelFits, PendingKind, Bool, Label, bind, PlainProcess, PlainStatus, pending_of, bind-is, status_awaits, ◌≤◌, false, ⊤}
+use Rattle.dm_rulelaws.proofs.Names.{if◌then◌else◌, common_steps, first_empty, Row, instruction, written_at, at_hand-is, Runs, move_fits, running_is, KeepsLengths, Regs, instruction-lengths}
 use Rattle.dm_onekernel.specs.Service as service
 use Rattle.dm_onekernel.specs.Step as kernel
 use Rattle.dm_onekernel.specs.Receiving as receiving
@@ -14,9 +14,7 @@ pub pending_at : (s u : OneKernel) (kind : PendingKind) (id : MsgId) (m : PlainM
 pending_at s u kind id m name same p = search (arith, p.from, u.manager.pending, id.n, p.pending)
 
 pub no_space_fits : (r e : MsgId → ℕ) (s : OneKernel) (id : MsgId) (m : PlainMessage) (image : ℕ) (links : List PlainLink) → WhatFits s id m (PlainWhat.Create image links) → s.bag id ≡ Some m → Sound r e s → KernelFits s → KernelFits (with_sent (without_message s id) (Some (answer_to m PlainWhat.NoRoom)))
-no_space_fits r e s id m image links f there h fits =
-    let (num, home, numbered, sender, request, pending, each) = f in
-    put_fits (without_message s id) (answer_to m PlainWhat.NoRoom) (sender, refl, pending_at s (without_message s id) PendingKind.Create id m (h.entered.named id m there) refl pending) (out_fits s id fits)
+no_space_fits r e s id m image links f there h fits = search (arith, put_fits, pending_at, h.entered.named, out_fits)
 
 -- a process is made
 none_slots : (ps : Lives) (n : ℕ) → Each (SlotFits ps) (replicate n None)
@@ -31,12 +29,8 @@ pub begun_fits : (ps : Lives) (format : Format) (image : BootImage) (links : Lis
 begun_fits ps format image links f =
     record { slots = some_slots ps links (replicate (slots_of format - length links) None) f (none_slots ps (slots_of format - length links)); move = refl }
 
-none_of : (o : Option Life) → (is_some o ≡ true → ⊥) → o ≡ None
-none_of None f = refl
-none_of (Some x) f = absurd (f refl)
-
 pub fresh_child : (r e : MsgId → ℕ) (s : OneKernel) (child : Pid) (home : ℕ) → child ≡ pid_of home (first_number + s.made home) → Sound r e s → s.processes child ≡ None
-fresh_child r e s child home is h = search (arith, none_of, s.processes, h.made.most, child.num, s.made, child.home)
+fresh_child r e s child home is h = search (arith, s.processes, h.made.most, child.num, s.made, child.home)
 
 pub created_fits : (r e : MsgId → ℕ) (s : OneKernel) (id : MsgId) (m : PlainMessage) (child : Pid) (image : BootImage) (links : List PlainLink) (number : ℕ) → WhatFits s id m (PlainWhat.Create number links) → s.bag id ≡ Some m → child ≡ pid_of m.to.home (first_number + s.made m.to.home) → Sound r e s → KernelFits s
     → KernelFits (with_sent (service.with_created (without_message s id) child image links) (Some (answer_to m (PlainWhat.Created child))))
@@ -53,20 +47,7 @@ created_fits r e s id m child image links number f there name h fits =
       fits = λ z g. let same : y ≡ z = cc in subst (ProcessFits v.processes) same (begun_fits v.processes s.format image links each);
     } in
     let on = set_fits v child (Alive y) b (out_fits s id fits) in
-    let up = carries w u (record {
-      rises = λ p n g. g;
-      alive = on.processes;
-      bag = λ i n g. g;
-      waits = λ i n g z. z;
-      pending = λ i n g kind c. pending_on w u kind i refl;
-      machines = refl;
-      images = refl;
-      names = on.names;
-      answers = on.answers;
-      notes = λ p n g. g;
-      noted = λ p n g. pending_on w u PendingKind.Move n.id refl;
-      children = on.children;
-    }) on in
+    let up = carries w u (search (arith, on.processes, pending_on, on.names, on.answers, on.children)) on in
     put_fits u (answer_to m (PlainWhat.Created child)) (sender, refl, pending_at s u PendingKind.Create id m (h.entered.named id m there) refl pending, ap (has_bytes 0) (set_at v child (Alive y)) ∙ (let z : nat_le 0 (length y.memory) ≡ true = grind (arith, nat_tests) in z)) up
 
 -- Each label of a process keeps that all fits.
@@ -130,8 +111,7 @@ next_is s p n h e =
 
 -- links are placed
 placed_step : (ps : Lives) (t : receiving.RegsAndLinks) (r : ℕ) (l : PlainLink) (o : Option ℕ) → LinkFits ps l → Each (SlotFits ps) t.links → Each (SlotFits ps) (receiving.place_into t r l o).links
-placed_step ps t r l None f h = h
-placed_step ps t r l (Some slot) f h = slots_set ps t.links slot (Some l) f h
+placed_step ps t r l o h1 h2 = search (arith, slots_set, t.links)
 
 placed_fit : (ps : Lives) (ls : List PlainLink) (t : receiving.RegsAndLinks) (r : ℕ) → Each (LinkFits ps) ls → Each (SlotFits ps) t.links → Each (SlotFits ps) (receiving.place_links t r ls).links
 placed_fit ps [] t r f h = h
@@ -141,29 +121,17 @@ abbrev pub CompletedFits : Lives → PlainProcess → receiving.Completed → Ty
 CompletedFits ps x (receiving.Receives y) = GoesOn ps x y
 CompletedFits ps x (receiving.Refuses c y) = GoesOn ps x y
 
-unless_fits : (ps : Lives) (x : PlainProcess) (base code channel : ℕ) (body : List ℕ) (links : List PlainLink) (o : Option Reply) → Each (LinkFits ps) links → ProcessFits ps x → CompletedFits ps x (receiving.completes_unless o x (receiving.with_received x base code channel body links))
-unless_fits ps x base code channel body links o h1 h2 = search (arith, written_longer, x.memory, placed_fit, x.regs, x.links)
-
-if_completes : (ps : Lives) (x : PlainProcess) (b : Bool) (c d : receiving.Completed) → CompletedFits ps x c → (if b then Some c else None) ≡ Some d → CompletedFits ps x d
-if_completes ps x true c d h e = let f : c ≡ d = cc in subst (CompletedFits ps x) f h
-if_completes ps x false c d h e = cc
-
 completes_what_fits : (s : OneKernel) (p : Pid) (x : PlainProcess) (i : MsgId) (m : PlainMessage) (mask base size : ℕ) (w : PlainWhat) (d : receiving.Completed) → WhatFits s i m w → ProcessFits s.processes x → receiving.completes_what p x m mask base size w ≡ Some d
     → CompletedFits s.processes x d
-completes_what_fits s p x i m mask base size w d h1 h2 h3 = search (arith, if_completes, s.processes, m.to, unless_fits)
+completes_what_fits s p x i m mask base size w d h1 h2 h3 = search (arith, s.processes, m.to, written_longer, placed_fit)
 
 abbrev StatusCompletes : OneKernel → PlainProcess → PlainStatus → receiving.Completed → Type 0
 StatusCompletes s x st d = (pending_of st ≡ None) × CompletedFits s.processes x d
 
-completes_status_fits : (s : OneKernel) (p : Pid) (x : PlainProcess) (i : MsgId) (m : PlainMessage) (st : PlainStatus) (d : receiving.Completed) → WhatFits s i m m.what → ProcessFits s.processes x → receiving.completes_status p x m st ≡ Some d
-    → StatusCompletes s x st d
-completes_status_fits s p x i m (Waiting mask base size) d f h e = (refl, completes_what_fits s p x i m mask base size m.what d f h e)
-completes_status_fits s p x i m _ d f h e = cc
-
 completes_with_fits : (s : OneKernel) (p : Pid) (x : PlainProcess) (i : MsgId) (m : PlainMessage) (b : Bool) (d : receiving.Completed) → WhatFits s i m m.what → ProcessFits s.processes x → (if b then None else receiving.completes_status p x m x.status) ≡ Some d
     → StatusCompletes s x x.status d
 completes_with_fits s p x i m true d f h e = cc
-completes_with_fits s p x i m false d f h e = completes_status_fits s p x i m x.status d f h e
+completes_with_fits s p x i m false d f h e = search (arith, x.status, completes_what_fits)
 
 pub record Completing (s : OneKernel) (p : Pid) (d : receiving.Completed) : Type 0 where
   pub x : PlainProcess
@@ -188,12 +156,10 @@ becomes s p x y is goes waits = search (arith, x.memory, goes.memory, y.memory, 
 
 -- a process that moves no data is awaited by nobody
 pub unawaited : (st : PlainStatus) (n : ℕ) (w : PlainWhat) (b : Bool) → pending_of st ≡ None → status_awaits st n w ≡ true → b ≡ true
-unawaited Ready n w b e h = cc
-unawaited _ n w b e h = cc
+unawaited st n w b h1 h2 = search arith
 
 pub goes_fits : (s : OneKernel) (p : Pid) (x y : PlainProcess) → s.processes p ≡ Some (Alive x) → pending_of x.status ≡ None → GoesOn s.processes x y → KernelFits s → KernelFits (kernel.goes_on s p y)
-goes_fits s p x y is still goes h =
-    set_fits s p (Alive y) (becomes s p x y is goes (λ i m there from e. unawaited x.status i.n m.what (status_awaits y.status i.n m.what) still e)) h
+goes_fits s p x y is still goes h = search (arith, set_fits, becomes, unawaited)
 
 goes_of : (ps : Lives) (x z y : PlainProcess) → z.memory ≡ x.memory → Goes ps z y → GoesOn ps x y
 goes_of ps x z y memory g = search (arith, y.memory, x.memory, g.memory, g.slots, g.move)

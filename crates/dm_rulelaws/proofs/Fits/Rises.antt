@@ -2,7 +2,7 @@
 use Rattle.dm_rulelaws.proofs.Names.{◌≡◌, ℕ, ◌+◌, ◌≤◌, ◌&&◌, ◌||◌, Bool, true, false, List, [], ◌∷◌, length, refl, ap, ◌∙◌, sym, subst, inl, inr, arith, if◌then◌else◌, Option, None, Some, cases_Bool, Pid, pid_eq, PlainLink, MsgId}
 use Rattle.dm_rulelaws.proofs.Names.{PlainMessage, PlainWhat, PlainProcess, PlainStatus, Life, Alive, Ended, NamedLink, Pending, OneKernel, with_process, with_sent, without_message, pid_eq-is, pid_eq-same, stayed, came, Each, Lives}
 use Rattle.dm_rulelaws.proofs.Names.{has_bytes, is_server, takes_users, gives_no_right, LinkFits, SlotFits, move_fits, ProcessFits, awaits, IsPending, WhatFits, KernelFits, is_for, NoteFits, PendingFits, Manager, MoveNote, PendingKind}
-use Rattle.dm_rulelaws.proofs.Names.{nat_lt, zero, suc, ◌==◌, take, drop, filter_map, nat_le, min, ⊤, slice_set, cons_option, nat_tests, length-take, link_at, Direction, Reply, reg, Called, Replies, Sends, Waits, Outputs, Ends}
+use Rattle.dm_rulelaws.proofs.Names.{zero, suc, take, drop, filter_map, nat_le, min, ⊤, slice_set, nat_tests, length-take, link_at, Direction, Reply, reg, Called, Replies, Sends, Waits, Outputs, Ends}
 use Rattle.dm_rulelaws.proofs.Names.{status_awaits, eq_self, or_first}
 pub use Rattle.dm_rule.proofs.Homes.Servers.{and-both as both}
 pub use Rattle.dm_line.proofs.Below.{both_true as two}
@@ -15,8 +15,7 @@ abbrev pub Rises : Lives → Lives → Type 0
 Rises ps qs = (p : Pid) (n : ℕ) → has_bytes n (ps p) ≡ true → has_bytes n (qs p) ≡ true
 
 pub or_on : (a b c : Bool) → (b ≡ true → c ≡ true) → (a || b) ≡ true → (a || c) ≡ true
-or_on true b c f h = refl
-or_on false b c f h = f h
+or_on a b c h1 h2 = search arith
 
 pub Each-on : {X : Type 0} (P Q : X → Type 0) → ((x : X) → P x → Q x) → (xs : List X) → Each P xs → Each Q xs
 Each-on P Q f [] h = tt
@@ -27,8 +26,7 @@ link_on ps qs up l h =
     or_on (is_server l.to && gives_no_right l.area) (has_bytes (l.area.base + l.area.len) (ps l.to)) (has_bytes (l.area.base + l.area.len) (qs l.to)) (up l.to (l.area.base + l.area.len)) h
 
 pub slot_on : (ps qs : Lives) → Rises ps qs → (o : Option PlainLink) → SlotFits ps o → SlotFits qs o
-slot_on ps qs up None h = tt
-slot_on ps qs up (Some l) h = link_on ps qs up l h
+slot_on ps qs h1 o h2 = search (arith, link_on)
 
 pub users_on : (ps qs : Lives) → Rises ps qs → (p : Pid) → takes_users ps p ≡ true → takes_users qs p ≡ true
 users_on ps qs up p h = or_on (is_server p) (has_bytes 0 (ps p)) (has_bytes 0 (qs p)) (up p 0) h
@@ -73,8 +71,7 @@ what_on s t i m (PlainWhat.Created child) up waits pending machines images h =
     let (to, answer, is, made) = h in (to, answer, pending PendingKind.Create refl is, up child 0 made)
 what_on s t i m PlainWhat.NoRoom up waits pending machines images h =
     let (to, answer, is) = h in (to, answer, pending PendingKind.Create refl is)
-what_on s t i m (PlainWhat.Move machine) up waits pending machines images h =
-    let (made, within, sender, request, is) = h in (up m.to 0 made, ap (nat_lt machine) machines ∙ within, sender, request, pending PendingKind.Move refl is)
+what_on s t i m (PlainWhat.Move machine) up waits pending machines images h = search (arith, m.to)
 what_on s t i m (PlainWhat.Moved outcome) up waits pending machines images h =
     let (to, answer, is) = h in (to, answer, pending PendingKind.Move refl is)
 what_on s t i m _ up waits pending machines images h = up m.to 0 h
@@ -163,34 +160,25 @@ slots_set ps [] k o f h = tt
 slots_set ps (x ∷ xs) zero o f h = (f, h.1)
 slots_set ps (x ∷ xs) (suc k) o f h = (h.0, slots_set ps xs k o f h.1)
 
-slot_is : (ps : Lives) (o : Option PlainLink) (l : PlainLink) → o ≡ Some l → SlotFits ps o → LinkFits ps l
-slot_is ps None l e h = cc
-slot_is ps (Some k) l e h = let f : k ≡ l = cc in subst (LinkFits ps) f h
-
 pub slots_at : (ps : Lives) (slots : List (Option PlainLink)) (k : ℕ) → Each (SlotFits ps) slots → SlotFits ps (link_at slots k)
 slots_at ps [] k h = tt
 slots_at ps (x ∷ xs) zero h = h.0
 slots_at ps (x ∷ xs) (suc k) h = slots_at ps xs k h.1
 
 pub slot_link : (ps : Lives) (slots : List (Option PlainLink)) (k : ℕ) (l : PlainLink) → link_at slots k ≡ Some l → Each (SlotFits ps) slots → LinkFits ps l
-slot_link ps slots k l e h = slot_is ps (link_at slots k) l e (slots_at ps slots k h)
+slot_link ps slots k l e h = search (arith, link_at slots k, slots_at ps slots k h)
 
 emptied : (ps : Lives) (b : Bool) (slots : List (Option PlainLink)) (k : ℕ) → Each (SlotFits ps) slots → Each (SlotFits ps) (if b then slice_set slots k None else slots)
-emptied ps true slots k h = slots_set ps slots k None tt h
-emptied ps false slots k h = h
+emptied ps b slots k h1 = search (arith, slots_set)
 
 without_replies_fit : (ps : Lives) (ss : List ℕ) (slots : List (Option PlainLink)) → Each (SlotFits ps) slots → Each (SlotFits ps) (calls.without_replies slots ss)
 without_replies_fit ps [] slots h = h
 without_replies_fit ps (s ∷ ss) slots h =
     without_replies_fit ps ss (if calls.holds_reply (link_at slots s) then slice_set slots s None else slots) (emptied ps (calls.holds_reply (link_at slots s)) slots s h)
 
-cons_fits : (ps : Lives) (o : Option PlainLink) (ls : List PlainLink) → SlotFits ps o → Each (LinkFits ps) ls → Each (LinkFits ps) (cons_option o ls)
-cons_fits ps None ls f h = h
-cons_fits ps (Some l) ls f h = (f, h)
-
 links_of_fit : (ps : Lives) (slots : List (Option PlainLink)) (ss : List ℕ) → Each (SlotFits ps) slots → Each (LinkFits ps) (calls.links_in_slots slots ss)
 links_of_fit ps slots [] h = tt
-links_of_fit ps slots (s ∷ ss) h = cons_fits ps (link_at slots s) (filter_map (link_at slots) ss) (slots_at ps slots s h) (links_of_fit ps slots ss h)
+links_of_fit ps slots (s ∷ ss) h = search (arith, link_at slots s, filter_map (link_at slots) ss, slots_at ps slots s h, links_of_fit ps slots ss h)
 
 -- a process that goes on: its memory is as it was
 pub record Goes (ps : Lives) (x y : PlainProcess) : Type 0 where
@@ -221,8 +209,7 @@ still_move ps x y memory status h = search (arith, y.memory, x.memory, move_on, 
 
 -- only the registers change
 regs_go : (ps : Lives) (x y : PlainProcess) → y.memory ≡ x.memory → y.links ≡ x.links → y.status ≡ x.status → ProcessFits ps x → Goes ps x y
-regs_go ps x y memory links status h =
-    record { memory = memory; slots = subst (Each (SlotFits ps)) (sym links) h.slots; move = still_move ps x y memory status h.move }
+regs_go ps x y memory links status h = search (arith, h.slots, still_move, h.move)
 
 -- the bytes that a process has
 abbrev pub Has : Lives → Pid → PlainProcess → Type 0
@@ -231,13 +218,8 @@ Has ps p x = (n : ℕ) → nat_le n (length x.memory) ≡ true → has_bytes n (
 has_less : (m n : ℕ) (o : Option Life) → m ≤ n → has_bytes n o ≡ true → has_bytes m o ≡ true
 has_less m n o h1 h2 = search arith
 
--- a user message is for whoever its link leads to
-users_of : (ps : Lives) (l : PlainLink) (a b : Bool) → is_server l.to ≡ a → gives_no_right l.area ≡ b → ((a && b) || has_bytes (l.area.base + l.area.len) (ps l.to)) ≡ true → (a || has_bytes 0 (ps l.to)) ≡ true
-users_of ps l true b e f h = refl
-users_of ps l false b e f h = has_less 0 (l.area.base + l.area.len) (ps l.to) (omega arith) h
-
 pub link_users : (ps : Lives) (l : PlainLink) → LinkFits ps l → takes_users ps l.to ≡ true
-link_users ps l h = users_of ps l (is_server l.to) (gives_no_right l.area) refl refl h
+link_users ps l h = search (arith, has_less)
 
 pub piece_less : (left : ℕ) → pieces.piece_of left ≤ left
 piece_less left = grind (arith, nat_tests)
@@ -250,11 +232,7 @@ requests_fit ps p x z Direction.IntoArea owner base own left memory links has wi
     let bytes = take (pieces.piece_of left) (drop own z.memory) in
     let le = piece_less left in
     let size : length bytes ≡ min (pieces.piece_of left) (length (drop own z.memory)) = length-take (pieces.piece_of left) (drop own z.memory) in
-    let less : min (pieces.piece_of left) (length (drop own z.memory)) ≤ (pieces.piece_of left) = omega arith in
-    record {
-      goes = record { memory = memory; slots = subst (Each (SlotFits ps)) (sym links) slots; move = two (has_bytes (base + left) (ps owner)) (nat_le (own + left) (length z.memory)) has (ap (λ (xs : List ℕ). nat_le (own + left) (length xs)) memory ∙ within) };
-      what = (has_less (base + length bytes) (base + left) (ps owner) (omega (arith, le, size, less)) has, two (z.sent == z.sent) true (eq_self z.sent) refl);
-    }
+    grind (arith, nat_tests, z.memory, two, has_less, z.sent, eq_self)
 
 -- a link with a right leads to a process whose memory has its area
 right_is : (ps : Lives) (l : PlainLink) (dir : Direction) → calls.lacks_right dir l.area ≡ false → LinkFits ps l → has_bytes (l.area.base + l.area.len) (ps l.to) ≡ true

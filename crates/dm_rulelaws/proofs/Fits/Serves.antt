@@ -2,7 +2,7 @@
 use Rattle.dm_rulelaws.proofs.Names.{◌≡◌, ℕ, ◌+◌, ◌-◌, ◌≤◌, ◌==◌, ◌&&◌, Bool, true, false, List, length, take, drop, refl, ap, ◌∙◌, sym, subst, nat_le, arith, if◌then◌else◌, Option, None, Some, nat_tests, length-take, length-drop, Pid}
 use Rattle.dm_rulelaws.proofs.Names.{MsgId, id_of, Reply, PlainMessage, PlainWhat, Direction, PlainProcess, PlainStatus, Moving, Life, Alive, OneKernel, with_process, with_sent, answer_id, answer_to, without_message, is_of_memory, is_piece}
 use Rattle.dm_rulelaws.proofs.Names.{pending_of, One, stayed, Sound, Each, Lives, has_bytes, SlotFits, move_fits, ProcessFits, piece_fits, status_awaits, awaits, WhatFits, KernelFits, inl, inr, cases_Bool, pid_eq, IsPending, MoveNote}
-use Rattle.dm_rulelaws.proofs.Names.{NoteFits, Outcome, PendingKind, note-is, with_note, without_note, Label, id_eq-same, bind, bind-is}
+use Rattle.dm_rulelaws.proofs.Names.{NoteFits, Outcome, PendingKind, note-is, with_note, without_note, Label, id_eq-same, bind-is}
 use Rattle.dm_onekernel.specs.Step as kernel
 use Rattle.dm_onekernel.specs.Pieces as pieces
 use Rattle.dm_onekernel.specs.Service as service
@@ -27,28 +27,20 @@ goes_same s p x y le links status is h =
       move = subst (λ (st : PlainStatus). move_fits s.processes y st ≡ true) (sym status) (move_on s.processes s.processes (λ q n e. e) x y le x.status f.move);
     }
 
--- whoever awaits a request awaits its answers
-status_turns : (st : PlainStatus) (n : ℕ) (v w : PlainWhat) → ((dir : Direction) (left : ℕ) → piece_fits dir left v ≡ true → piece_fits dir left w ≡ true) → status_awaits st n v ≡ true → status_awaits st n w ≡ true
-status_turns st n v w h1 h2 = search (arith, both, two)
-
 turns : (o : Option Life) (n : ℕ) (v w : PlainWhat) → ((dir : Direction) (left : ℕ) → piece_fits dir left v ≡ true → piece_fits dir left w ≡ true) → awaits o n v ≡ true → awaits o n w ≡ true
-turns o n v w h1 h2 = search (arith, status_turns)
+turns o n v w h1 h2 = search (arith, both, two)
 
 read_block : (base len : ℕ) (bytes : List ℕ) → length bytes ≡ len → (dir : Direction) (left : ℕ) → piece_fits dir left (PlainWhat.Read base len) ≡ true → piece_fits dir left (PlainWhat.Block bytes) ≡ true
-read_block base len bytes e Direction.FromArea left h = ap (λ n. n == pieces.piece_of left) e ∙ h
-read_block base len bytes e Direction.IntoArea left h = cc
+read_block base len bytes h1 dir left h2 = search arith
 
 read_gone : (base len : ℕ) (dir : Direction) (left : ℕ) → piece_fits dir left (PlainWhat.Read base len) ≡ true → piece_fits dir left PlainWhat.Gone ≡ true
-read_gone base len Direction.FromArea left h = refl
-read_gone base len Direction.IntoArea left h = refl
+read_gone base len dir left h1 = search arith
 
 write_written : (base : ℕ) (bytes : List ℕ) (dir : Direction) (left : ℕ) → piece_fits dir left (PlainWhat.Write base bytes) ≡ true → piece_fits dir left PlainWhat.Written ≡ true
-write_written base bytes Direction.FromArea left h = cc
-write_written base bytes Direction.IntoArea left h = refl
+write_written base bytes dir left h1 = search arith
 
 write_gone : (base : ℕ) (bytes : List ℕ) (dir : Direction) (left : ℕ) → piece_fits dir left (PlainWhat.Write base bytes) ≡ true → piece_fits dir left PlainWhat.Gone ≡ true
-write_gone base bytes Direction.FromArea left h = refl
-write_gone base bytes Direction.IntoArea left h = refl
+write_gone base bytes dir left h1 = search arith
 
 -- an answer to a request of a data move fits wherever whoever awaited the request still awaits it
 answered_fits : (u : OneKernel) (id : MsgId) (m : PlainMessage) (v w : PlainWhat) → m.id ≡ id → m.sender ≡ id.from → ((dir : Direction) (left : ℕ) → piece_fits dir left v ≡ true → piece_fits dir left w ≡ true) → awaits (u.processes id.from) id.n v ≡ true
@@ -84,8 +76,7 @@ goes_on_by : (ps : Lives) (p : Pid) (x z : PlainProcess) (dir : Direction) (owne
 goes_on_by ps p x z dir owner base own left b h1 h2 h3 h4 h5 = grind (arith, nat_tests, done_fits, piece_less, requests_fit, z.memory)
 
 if_lands : (ps : Lives) (p : Pid) (x : PlainProcess) (b : Bool) (k c : pieces.Landed) → LandedFits ps p x k → (if b then Some k else None) ≡ Some c → LandedFits ps p x c
-if_lands ps p x true k c h e = let f : k ≡ c = cc in subst (LandedFits ps p x) f h
-if_lands ps p x false k c h e = cc
+if_lands ps p x b k c h1 h2 = search arith
 
 lands_what_fits : (ps : Lives) (p : Pid) (x : PlainProcess) (dir : Direction) (owner : Pid) (base own left : ℕ) (w : PlainWhat) (c : pieces.Landed) → ProcessFits ps x → has_bytes (base + left) (ps owner) ≡ true → nat_le (own + left) (length x.memory) ≡ true
     → pieces.lands_what p x dir owner base own left w ≡ Some c → LandedFits ps p x c × (is_piece w ≡ true)
@@ -110,18 +101,8 @@ record LandsIs (ps : Lives) (p : Pid) (x : PlainProcess) (m : PlainMessage) (c :
   pending : pending_of x.status ≡ Some m.id.n
   piece : is_piece m.what ≡ true
 
-lands_if : (ps : Lives) (p : Pid) (x : PlainProcess) (b : Bool) (dir : Direction) (owner : Pid) (base own left n pending : ℕ) (w : PlainWhat) (c : pieces.Landed) → b ≡ (n == pending) → ProcessFits ps x → has_bytes (base + left) (ps owner) ≡ true
-    → nat_le (own + left) (length x.memory) ≡ true → (if b then pieces.lands_what p x dir owner base own left w else None) ≡ Some c → (LandedFits ps p x c × (is_piece w ≡ true)) × (pending ≡ n)
-lands_if ps p x true dir owner base own left n pending w c is h has within e =
-    (lands_what_fits ps p x dir owner base own left w c h has within e, let f : pending ≡ n = grind (arith, nat_tests) in f)
-lands_if ps p x false dir owner base own left n pending w c is h has within e = cc
-
 lands_by : (ps : Lives) (p : Pid) (x : PlainProcess) (m : PlainMessage) (st : PlainStatus) (c : pieces.Landed) → x.status ≡ st → ProcessFits ps x → pieces.lands p x m st ≡ Some c → LandsIs ps p x m c
-lands_by ps p x m (Moving dir owner base own left pending) c is h e =
-    let move : (has_bytes (base + left) (ps owner) && nat_le (own + left) (length x.memory)) ≡ true = sym (ap (move_fits ps x) is) ∙ h.move in
-    let k = both (has_bytes (base + left) (ps owner)) (nat_le (own + left) (length x.memory)) move in
-    let l = lands_if ps p x (m.id.n == pending) dir owner base own left m.id.n pending m.what c refl h k.0 k.1 e in
-    record { fits = l.0.0; pending = ap pending_of is ∙ ap Some l.1; piece = l.0.1 }
+lands_by ps p x m (Moving dir owner base own left pending) c is h e = search (arith, x.memory, h.move, both, m.what, lands_what_fits)
 lands_by ps p x m _ c is h e = cc
 
 -- what a status awaits is under its pending number, and of a data move
@@ -131,11 +112,8 @@ awaited_is st n k w h1 h2 = search (arith, both)
 abbrev of_move : PlainWhat → Type 0
 of_move w = (b : Bool) → (is_of_memory w ≡ true → b ≡ true) → (is_piece w ≡ true → b ≡ true) → b ≡ true
 
-piece_of_move : (dir : Direction) (left : ℕ) (w : PlainWhat) → piece_fits dir left w ≡ true → of_move w
-piece_of_move dir left w h1 = search arith
-
 awaited_of_move : (st : PlainStatus) (n : ℕ) (w : PlainWhat) → status_awaits st n w ≡ true → of_move w
-awaited_of_move (Moving dir owner base own left pending) n w h b f g = piece_of_move dir left w (both (n == pending) (piece_fits dir left w) h).1 b f g
+awaited_of_move (Moving dir owner base own left pending) n w h b f g = search arith
 awaited_of_move _ n w h b f g = cc
 
 one_not : (a b : Option PlainMessage) (x y : PlainMessage) (c : Bool) → a ≡ Some x → b ≡ Some y → One a b → c ≡ true
@@ -180,11 +158,7 @@ gone_fits r e s id m (PlainWhat.Write base bytes) w is answer f there h =
     let k : PlainWhat.Gone ≡ w = cc in
     subst (λ (x : PlainWhat). WhatFits (without_message s id) (answer_id m.id) (answer_to m x) x) k
     (answered_fits (without_message s id) id m (PlainWhat.Write base bytes) PlainWhat.Gone (h.entered.named id m there) (h.movers.senders id m there (ap is_of_memory is)) (write_gone base bytes) f.1)
-gone_fits r e s id m (PlainWhat.Move machine) w is answer f there h =
-    let (made, within, sender, request, pending) = f in
-    let k : PlainWhat.Moved Outcome.Ended ≡ w = cc in
-    subst (λ (x : PlainWhat). WhatFits (without_message s id) (answer_id m.id) (answer_to m x) x) k
-    (sender, refl, pending_at s (without_message s id) PendingKind.Move id m (h.entered.named id m there) refl pending)
+gone_fits r e s id m (PlainWhat.Move machine) w is answer f there h = search (arith, m.id, pending_at, h.entered.named)
 gone_fits r e s id m _ w is answer f there h = cc
 
 -- a read and a write are served
@@ -227,25 +201,10 @@ noted_fits s p n new h =
     }
 
 pub asked_fits : (s : OneKernel) (id : MsgId) (m : PlainMessage) (machine : ℕ) → WhatFits s id m (PlainWhat.Move machine) → KernelFits s → KernelFits (with_note (without_message s id) m.to (record { id = id; asker = m.sender }))
-asked_fits s id m machine f fits =
-    let (made, within, sender, request, pending) = f in
-    let u = without_message s id in
-    noted_fits u m.to (record { id = id; asker = m.sender }) (record { asker = sender; unanswered = request; pending = pending_on s u PendingKind.Move id refl pending }) (out_fits s id fits)
-
--- behind it the process follows the request
-follows_noted : (s t : OneKernel) (id : MsgId) (m : PlainMessage) (w : PlainWhat) → service.follows_request s id m w ≡ Some t → t.noted id ≡ Some m.to
-follows_noted s t id m (PlainWhat.Move machine) is =
-    let n : MoveNote = record { id = id; asker = m.sender } in
-    let k : with_note (without_message s id) m.to n ≡ t = cc in
-    ap (λ (u : OneKernel). u.noted id) (sym k) ∙ ap (λ (c : Bool). if c then Some m.to else s.noted id) (id_eq-same id)
-follows_noted s t id m _ is = cc
+asked_fits s id m machine f fits = search (arith, noted_fits, m.to, pending_on, out_fits)
 
 pub asked_noted : (s t : OneKernel) (id : MsgId) (m : PlainMessage) → kernel.step s (Label.Asked id) ≡ Some t → s.bag id ≡ Some m → t.noted id ≡ Some m.to
-asked_noted s t id m is there =
-    let (k, found, rest) = bind-is (s.bag id) (λ (v : PlainMessage). bind (kernel.at_hand s v.to) (λ p. service.follows_request s id v v.what)) t is in
-    let (x, hand, last) = bind-is (kernel.at_hand s k.to) (λ p. service.follows_request s id k k.what) t rest in
-    let same : k ≡ m = (let f : Some k ≡ Some m = sym found ∙ there in cc) in
-    follows_noted s t id k k.what last ∙ ap (λ (v : PlainMessage). Some v.to) same
+asked_noted s t id m is there = search (arith, bind-is, s.bag, id_eq-same)
 
 -- the request that it followed is answered
 unnoted_fits : (s : OneKernel) (p : Pid) (id : MsgId) → KernelFits s → KernelFits (without_note s p id)

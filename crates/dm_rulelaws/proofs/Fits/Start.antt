@@ -3,7 +3,7 @@ use Rattle.dm_rulelaws.proofs.Names.{◌≡◌, ℕ, zero, suc, ◌+◌, ◌*◌
 use Rattle.dm_rulelaws.proofs.Names.{if◌then◌else◌, slice_get, option_map, Option, None, Some, cases_Bool, false≢true, nat_tests, length-append, length-replicate, Link, Pid, pid_eq, plain_link, MsgId, BootImage, BootProcess, Boot, Label}
 use Rattle.dm_rulelaws.proofs.Names.{IsValid, switchboard, manager, starting_at, processes_are_valid, process_is_valid, links_are_valid, link_is_valid, leads_to_process, leads_to_server, controls_child, process_named, memory_size}
 use Rattle.dm_rulelaws.proofs.Names.{area_is_empty, blocks_of_image, PlainProcess, Life, Alive, OneKernel, start, begun, memory_of, first_life, life_at, pid_eq-same, Sound, Each, has_bytes, gives_no_right, LinkFits, ProcessFits, KernelFits}
-use Rattle.dm_rulelaws.proofs.Names.{by_step, Changes, PlainMessage, PlainWhat, Why, Called, with_sent, without_message, answer_to, pid_of, first_number, pid_eq-is, WhatFits, MoveNote, NoteFits}
+use Rattle.dm_rulelaws.proofs.Names.{by_step, Changes, PlainMessage, PlainWhat, Why, Called, with_sent, without_message, answer_to, pid_of, first_number, pid_eq-is, WhatFits}
 use Rattle.dm_rule.proofs.Changes.{Next}
 use Rattle.dm_onekernel.specs.Step as kernel
 use Rattle.dm_onekernel.specs.Receiving as receiving
@@ -67,8 +67,7 @@ memory_long i =
     omega (arith, a, b)
 
 begins_with : (b : Boot) (p : BootProcess) (n : ℕ) (o : Option BootImage) → is_some o ≡ true → nat_le n (256 * blocks_of_image o) ≡ true → has_bytes n (option_map (λ (image : BootImage). Alive (begun b.format image (map plain_link p.links))) o) ≡ true
-begins_with b p n None some le = cc
-begins_with b p n (Some i) some le = let f = memory_long i in grind (arith, nat_tests)
+begins_with b p n o h1 h2 = search (arith, memory_long)
 
 pub get_some : {X : Type 0} (xs : List X) (k : ℕ) → nat_lt k (length xs) ≡ true → is_some (slice_get xs k) ≡ true
 get_some [] k e = absurd (let f : nat_lt k 0 ≡ false = grind (arith, nat_tests) in false≢true (sym f ∙ e))
@@ -104,16 +103,9 @@ empty_gives a h = (both (a.len == 0) (not a.read && not a.write) (both (a.base =
 server_gives : (l : Link) → leads_to_server l ≡ true → gives_no_right l.area ≡ true
 server_gives l h = empty_gives l.area (both (l.code == 0) (area_is_empty l.area) (both (l.addr.at == 0) ((l.code == 0) && area_is_empty l.area) h).1).1
 
-either : (b : Boot) (l : Link) (c : Bool) → leads_to_server l ≡ c → (c || controls_child b l) ≡ true → gives_no_right l.area ≡ true
-either b l true e h = server_gives l e
-either b l false e h = search (arith, l.code, b.processes, both, l.addr.pid, l.addr.at, l.kind, l.channel, l.area, empty_gives)
-
-to_process : (b : Boot) (l : Link) (q : Pid) (o : Option BootProcess) → process_named q b.processes ≡ o → Each (ProcessIs b) b.processes → leads_to_process b l o ≡ true → has_bytes (l.area.base + l.area.len) (life_at b b.processes q) ≡ true
-to_process b l q o h1 h2 h3 = search (arith, named_has, b.processes, l.area.base, l.area.len, both, l.addr.at, l.area)
-
 leads_by : (b : Boot) (l : Link) (c d : Bool) → pid_eq l.addr.pid switchboard ≡ c → pid_eq l.addr.pid manager ≡ d → Each (ProcessIs b) b.processes
     → (if c then leads_to_server l else if d then leads_to_server l || controls_child b l else leads_to_process b l (process_named l.addr.pid b.processes)) ≡ true → LinkFits (life_at b b.processes) (plain_link l)
-leads_by b l c d h1 h2 h3 h4 = search (arith, server_gives, l.addr.pid, l.area, l.area.base, l.area.len, b.processes, either, to_process)
+leads_by b l c d h1 h2 h3 h4 = search (arith, server_gives, l.addr.pid, l.area, l.area.base, l.area.len, b.processes, both, empty_gives, named_has)
 
 link_fits_first : (b : Boot) (l : Link) → Each (ProcessIs b) b.processes → link_is_valid b l ≡ true → LinkFits (life_at b b.processes) (plain_link l)
 link_fits_first b l is h = search (arith, both, l.addr.moves, l.to_kernel, l.channel, leads_by, l.addr.pid)
@@ -140,8 +132,7 @@ first_has : (b : Boot) (p : BootProcess) → ProcessIs b p → has_bytes 0 (firs
 first_has b p is = begins_with b p 0 (slice_get b.images p.image) is.0 (let f : nat_le 0 (256 * blocks_of_image (slice_get b.images p.image)) ≡ true = grind (arith, nat_tests) in f)
 
 has_if : (b : Boot) (c : Bool) (p : BootProcess) (l : Option Life) → has_bytes 0 (first_life b p) ≡ true → (c ≡ false → has_bytes 0 l ≡ true) → has_bytes 0 (if c then first_life b p else l) ≡ true
-has_if b true p l h f = h
-has_if b false p l h f = f refl
+has_if b c p l h1 h2 = search arith
 
 children_made : (b : Boot) (ps : List BootProcess) → Each (ProcessIs b) ps → Each (λ (p : BootProcess). has_bytes 0 (life_at b ps p.pid) ≡ true) ps
 children_made b [] is = tt
@@ -155,6 +146,4 @@ map_each P f [] h = tt
 map_each P f (x ∷ xs) h = (h.0, map_each P f xs h.1)
 
 pub start_fits : (b : Boot) → IsValid b → KernelFits (start b)
-start_fits b valid =
-    let none : (p : Pid) (n : MoveNote) → (start b).notes p ≡ Some n → NoteFits (start b) n = λ p n e. absurd (let f : None ≡ Some n = e in cc) in
-    search (arith, processes_are, b.processes, valid.processes, lives_fit, map_each, children_made, none)
+start_fits b valid = search (arith, processes_are, b.processes, valid.processes, lives_fit, map_each, children_made)

@@ -1,7 +1,7 @@
 -- Each message stands where its receiver is known, wherever the rule leads.
 use Rattle.dm_rulelaws.proofs.Names.{◌≡◌, ◌≢◌, ℕ, ◌<◌, ◌≤◌, ◌==◌, ◌&&◌, Bool, true, false, is_some, List, [], ◌∷◌, ◌++◌, length, refl, ap, ◌∙◌, sym, subst, inl, inr, arith, if◌then◌else◌, Option, None, Some, cases_Bool, false≢true}
 use Rattle.dm_rulelaws.proofs.Names.{nat_tests, Pid, pid_eq, MsgId, PlainMessage, BootProcess, Boot, IsValid, processes_are_valid, first_life, life_at, Step, View, Told, Unknown, Here, is_kernels, known_at, first_view, Holder, Receiver}
-use Rattle.dm_rulelaws.proofs.Names.{names, to_of, IsStep, Spelled, Point, first_point, group_of, Spot, Queue, StandsOutside, standing, stands_right, Homes-start, Phased, Goes, Named, Links, Found, machine_of, is_fixed, times, receiver_of}
+use Rattle.dm_rulelaws.proofs.Names.{names, to_of, IsStep, Spelled, Point, first_point, group_of, Spot, StandsOutside, standing, stands_right, Homes-start, Phased, Goes, Named, Links, Found, machine_of, is_fixed, times, receiver_of}
 use Rattle.dm_rulelaws.proofs.Names.{Comes, Sender, manager}
 use Rattle.dm_rule.proofs.Trails.Places.{Owns}
 use Rattle.dm_rulelaws.proofs.Fits.Start.{start_fits}
@@ -26,8 +26,7 @@ start_knows b v earlier (p ∷ ps) m q valid some =
     first_is false e home rest = rest
 
 nothing_stands : (b : Boot) (i : MsgId) (z : Spot) → standing (first_view b) i z ≡ 0
-nothing_stands b i (Queue m p) = refl
-nothing_stands b i _ = refl
+nothing_stands b i z = search arith
 
 start_all : (b : Boot) → IsValid b → (h : Holder) (q : Pid) → Named (first_point b).kernel (first_point b).view h q → Knows (first_point b).view q ((first_point b).addresses h)
 start_all b h1 h q h2 = search (arith, Homes-start)
@@ -88,8 +87,7 @@ found_group b pt d w fit is phased holds next h =
 
 -- what stands somewhere is in the bag, or a kernel's own
 stands_own : (i : MsgId) (c : Bool) (f : Spot → ℕ) (z : Spot) → is_kernels i ≡ c → StandsOutside c f → 1 ≤ f z → c ≡ true
-stands_own i true f z is h e = refl
-stands_own i false f z is h e = absurd (let k = h z in omega (arith, k, e))
+stands_own i c f z h1 h2 h3 = search arith
 
 stands_named : (pt : Point) (i : MsgId) (z : Spot) (t : Told) (o : Option PlainMessage) → Phased pt → FoundBy pt → 1 ≤ standing pt.view i z → pt.view.told i ≡ Some t → pt.kernel.bag i ≡ o
     → Knows pt.view t.receiver (pt.addresses (Receiver i)) × IsReal pt.kernel.machines pt.view t.receiver

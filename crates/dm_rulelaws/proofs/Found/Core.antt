@@ -1,10 +1,9 @@
 -- What each line keeps: where addresses lead, what machines know, and where messages stand.
 use Rattle.dm_rulelaws.proofs.Names.{◌≡◌, ◌≢◌, ◌⊎◌, ℕ, ◌<◌, ◌==◌, ◌&&◌, Bool, true, false, is_some, refl, ap, ◌∙◌, sym, subst, inl, inr, ⊤, if◌then◌else◌, Option, Some, cases_Bool, Pid, Place, pid_eq, MsgId, PlainMessage, pid_eq-is}
-use Rattle.dm_rulelaws.proofs.Names.{at_record, View, Told, About, Target, Known, Unknown, Here, Frozen, Incoming, Forward, is_kernels, Addresses, Receiver, ascends, Point, eq_is, parts, is_own, KernelFits, is_fixed, times, receiver_of}
-use Rattle.dm_rulelaws.proofs.Names.{◌≤◌, None, false≢true, id_eq, MessageKind, Line, manager, OneKernel, id_eq-is, after_put, Sender, given, unmoved, child_number, own_given, first_gives, moved, not_true, put_at, put_told_off, Sort}
-use Rattle.dm_rulelaws.proofs.Names.{sort_of, List, [], ◌∷◌, ◌++◌, arith, own_id, view_after, handled, forwarded_for, forward_about, place_known, all_follow, told_back_gets, is_told_back, forwards, updated, Child, Spot, standing, one_of}
-use Rattle.dm_rulelaws.proofs.Names.{Named, zero_cases, flip_zero, option_map_or}
-use Rattle.dm_rule.specs.View.{Ended}
+use Rattle.dm_rulelaws.proofs.Names.{at_record, View, Told, About, Target, Known, Unknown, Frozen, Incoming, Forward, is_kernels, Addresses, Receiver, ascends, Point, eq_is, parts, is_own, KernelFits, is_fixed, times, receiver_of, ◌≤◌}
+use Rattle.dm_rulelaws.proofs.Names.{None, false≢true, id_eq, MessageKind, Line, manager, OneKernel, id_eq-is, after_put, Sender, given, unmoved, child_number, own_given, first_gives, moved, not_true, put_at, put_told_off, Sort, sort_of}
+use Rattle.dm_rulelaws.proofs.Names.{List, [], ◌∷◌, ◌++◌, arith, own_id, view_after, handled, forwarded_for, forward_about, place_known, all_follow, forwards, updated, Child, Spot, standing, one_of, Named, zero_cases, flip_zero}
+use Rattle.dm_rulelaws.proofs.Names.{option_map_or}
 use Rattle.dm_rulelaws.proofs.Found.Lists.{Places, places_put, places_line, places_handled, places_forwarded, AllAre, all_as, put_all, put_routed, put_again, put_tells, routed_gives, forwarded_all, sent_on_all, updated_all, updated_leaves}
 use Rattle.dm_rulelaws.proofs.Found.Lists.{Sends}
 
@@ -107,20 +106,13 @@ pub own_grows : (n : ℕ) (v w : View) (u : Told) → Grows v w → IsOwn n v u 
 own_grows n v w u grows h = (real_grows n v w u.receiver grows h.0, h.1)
 
 pub about_grows : (n : ℕ) (v w : View) (a : About) → Grows v w → AboutIs n v a → AboutIs n w a
-about_grows n v w (Target m) grows h = h
-about_grows n v w (About.Place p m c) grows h = knows_grow v w p m grows h
-about_grows n v w _ grows h = tt
+about_grows n v w a h1 h2 = search (arith, knows_grow)
 
 pub known_grows : (n : ℕ) (v w : View) (m : ℕ) (p : Pid) (k : Known) → Grows v w → KnownIs n v m p k → KnownIs n w m p k
-known_grows n v w m p Unknown grows h = tt
-known_grows n v w m p (Forward at moves) grows h = (h.0, grows at p h.1, h.2)
-known_grows n v w m p _ grows h = h
+known_grows n v w m p k h1 h2 = search arith
 
 pub known_within : (n : ℕ) (v : View) (m : ℕ) (p : Pid) (k : Known) → k ≢ Unknown → KnownIs n v m p k → m < n
-known_within n v m p Unknown some h = absurd (some refl)
-known_within n v m p Here some h = h
-known_within n v m p Ended some h = h
-known_within n v m p _ some h = h.0
+known_within n v m p k h1 h2 = search arith
 
 -- a machine learns something of a process
 pub record Learns (n : ℕ) (v w : View) : Type 0 where
@@ -217,15 +209,10 @@ put_are n pt x b id k q (Own bag none to from at real own_) h = put_all (Knows p
 put_are n pt x b id k q (Routed other plain none at) h = put_routed (Knows pt.view) pt.kernel pt.view pt.addresses x b id k q other plain none h.all
 
 put_real : (n : ℕ) (pt : Point) (b : ℕ) (id i : MsgId) (k : MessageKind) (q : Pid) (u : Told) → NeedsPut n pt b id k q → id ≡ i → pt.view.told id ≡ None → record { kind = k; receiver = q; about = pt.view.topic } ≡ u → is_kernels i ≡ true → IsOwn n pt.view u
-put_real n pt b id i k q u (Again t told at) is none same own = absurd (let f : None ≡ Some t = sym none ∙ told in cc)
-put_real n pt b id i k q u (Own bag first to from at real own_) is none same own = subst (IsOwn n pt.view) same (real, own_)
-put_real n pt b id i k q u (Routed other plain first at) is none same own = absurd (false≢true (sym other ∙ ap is_kernels is ∙ own))
+put_real n pt b id i k q u h1 h2 h3 h4 h5 = search (arith, pt.view)
 
 put_keeps : (v : View) (x y : ℕ) (id i : MsgId) (k : MessageKind) (q : Pid) → is_some (v.told i) ≡ true → is_some ((after_put v x y id k q).told i) ≡ true
-put_keeps v x y id i k q some = elim (cases_Bool (id_eq id i)) [
-  | inl same ↦ subst (λ (j : MsgId). is_some ((after_put v x y id k q).told j) ≡ true) (id_eq-is id i same) (ap is_some (put_at v x y id k q))
-  | inr apart ↦ ap is_some (put_told_off v x y id i k q apart) ∙ some
-]
+put_keeps v x y id i k q some = search (arith, id_eq-is, put_at, put_told_off)
 
 pub put_core : (n : ℕ) (pt : Point) (x b : ℕ) (id : MsgId) (k : MessageKind) (q : Pid) → NeedsPut n pt b id k q → LineCore n pt → LineCore n (moved pt (Line.Put x b id k q) pt.kernel)
 put_core n pt x b id k q need h =
@@ -266,14 +253,8 @@ given_core n pt w b acting known told topic all places h =
     let learnt = learns_nothing n pt.view w acting known h.known in
     core_view n pt w b (subst (λ (k : ℕ). k < n) (sym acting) h.acting) learnt.grows learnt.known told (about_grows n pt.view w w.topic learnt.grows topic) all places h
 
--- a message that goes on
-back_off : (v : View) (a : Addresses) (id i : MsgId) (c : Bool) → id_eq (own_id v) i ≡ false → given a (told_back_gets v a id c) (Receiver i) ≡ a (Receiver i)
-back_off v a id i true e = ap (λ (c : Bool). if c then a (Sender id) else a (Receiver i)) e
-back_off v a id i false e = refl
-
 forwards_off : (v : View) (a : Addresses) (id i : MsgId) (u : Told) → id_eq id i ≡ false → id_eq (own_id v) i ≡ false → given a (forwards v a id (Some u)) (Receiver i) ≡ a (Receiver i)
-forwards_off v a id i u e f =
-    ap (λ (c : Bool). if c then place_known (v.known v.acting u.receiver) (v.moves u.receiver) (a (Receiver id)) else given a (told_back_gets v a id (is_told_back u.kind)) (Receiver i)) e ∙ back_off v a id i (is_told_back u.kind) f
+forwards_off v a id i u e f = search (arith, v.known, v.acting, u.receiver, v.moves)
 
 pub record NeedsForward (n : ℕ) (pt : Point) (id : MsgId) : Type 0 where
   pub u : Told

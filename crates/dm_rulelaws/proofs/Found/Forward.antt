@@ -13,8 +13,7 @@ pub named_for : (pt : Point) (id : MsgId) (u : Told) (q : Pid) → Sane pt → p
 named_for pt id u q h1 h2 h3 = search (arith, pt.kernel.bag, u.receiver, pt.view.told)
 
 pub forwarded_own : (v : View) (o : Option Pid) → own_id (forwarded_for v o) ≡ own_id v
-forwarded_own v None = refl
-forwarded_own v (Some p) = refl
+forwarded_own v o = search arith
 
 -- behind the line that says so
 goes_to : (v : View) (a : Addresses) (id : MsgId) (u : Told) (to c : ℕ) (o : Option Told) → o ≡ Some u → v.known v.acting u.receiver ≡ Forward to c → (given a (forwards v a id o) (Receiver id)).at ≡ to
@@ -37,8 +36,7 @@ back_need n pt mid next id u sender told back sane known own addresses same know
     search (arith, next.view, knows_grow, real_grows)
 
 back_if : (n : ℕ) (pt : Point) (sender : Pid) (m : ℕ) (c : Bool) → (c ≡ true → NeedsOwn n pt MessageKind.Update sender m) → AllNeed n pt (if c then Owns MessageKind.Update sender m ∷ [] else [])
-back_if n pt sender m true h = (h refl, λ ls next is leads. tt)
-back_if n pt sender m false h = tt
+back_if n pt sender m c h1 = search arith
 
 -- a message that comes to where its receiver went away goes on
 pub forwards_need : (n : ℕ) (pt : Point) (id : MsgId) (is : List MsgId) (u : Told) (sender : Pid) (to c : ℕ) → pt.view.inbox pt.view.acting ≡ id ∷ is → State None pt → Sane pt → LineCore n pt → pt.view.told id ≡ Some u → pt.view.known pt.view.acting u.receiver ≡ Forward to c
@@ -94,17 +92,9 @@ agains_need n start pt to (i ∷ is) ps at acting known rest = (
       agains_need n start next to is ps (λ j least. ap (λ (p : Place). p.at) (same.addresses (Receiver j)) ∙ at j (omega (arith, least))) (same.acting ∙ acting) (λ m q. same.known m q ∙ known m q) rest),
 )
 
-frozen_is : (a b : ℕ) → Frozen a ≡ Frozen b → a ≡ b
-frozen_is a b e = cc
-
 left_need : (n : ℕ) (start q : Point) (p : Pid) (to from : ℕ) → q.view.acting ≡ start.view.acting → ((m : ℕ) (r : Pid) → q.view.known m r ≡ start.view.known m r) → start.view.known start.view.acting p ≡ Frozen to → start.view.known to p ≢ Unknown → from < n
     → AllNeed n q (Says (Line.Migration Stage.Left p) ∷ to_kernel MessageKind.Restart from ∷ [])
-left_need n start q p to from acting known at there le = (
-  (λ d e f. there (
-      let is : Frozen to ≡ Frozen d = sym at ∙ sym (ap (λ (m : ℕ). start.view.known m p) acting) ∙ sym (known q.view.acting p) ∙ e in
-      ap (λ (m : ℕ). start.view.known m p) (frozen_is to d is) ∙ sym (known d p) ∙ f)),
-  (λ ls next is leads. loose_need n next (to_kernel MessageKind.Restart from ∷ []) (to_one n MessageKind.Restart from (λ q. refl) (λ e. cc) refl le)),
-)
+left_need n start q p to from acting known at there le = search (arith, start.view.known, q.view.acting, loose_need, to_one)
 
 sent_gone : (pt : Point) (p : Pid) (id : MsgId) (is : List MsgId) → State None pt → pt.view.inbox pt.view.acting ≡ id ∷ is → is_kernels id ≡ true → (i : MsgId) (z : Spot) (k : ℕ) → 1 ≤ times i (both_lists pt.view p) → standing (view_after pt.view (Line.SentOn p k)) i z ≡ 0
 sent_gone pt p id is state front own i z k least =

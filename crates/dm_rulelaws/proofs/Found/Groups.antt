@@ -1,20 +1,18 @@
 -- Each group keeps where addresses lead, what machines know, and where messages stand.
-use Rattle.dm_rulelaws.proofs.Names.{◌≡◌, ℕ, ◌<◌, ◌≤◌, ◌==◌, Bool, true, false, is_some, List, [], ◌∷◌, refl, ap, ◌∙◌, sym, subst, inl, inr, arith, if◌then◌else◌, Option, None, Some, Pid, MsgId, plain_kind, PlainMessage, MessageKind, Boot}
-use Rattle.dm_rulelaws.proofs.Names.{manager, Step, id_eq-same, alive-is, Line, View, Told, About, Target, Of, Known, Unknown, Here, Frozen, Incoming, Forward, is_kernels, own_id, receiver_of, target_in, target_of, front_of, Child}
-use Rattle.dm_rulelaws.proofs.Names.{Receiver, Sender, child_number, names, sender_of, IsStep, forwards_on, migrates, Part, Says, Owns, Spelled, Moves, is_between, is_restart, is_early, knows, receiver_in, tells_onward, Point, moved}
-use Rattle.dm_rulelaws.proofs.Names.{group_of, Inbox, Queue, Held, times, standing, group_is, turn_off, letters, eq_is, parts, both_lists, both_times, under_way, front_kernels, Phased, due, head_calm, InPhases, calm_phases, rooted, State}
-use Rattle.dm_rulelaws.proofs.Names.{Sane, sane_line, outcome_sayable, Comes, Named, Links, child_is, source_holds, destination_expects, is_fixed, eq_self, about_same, front_one, least_of, by_migrates, by_net, by_outcome, PlainWhat}
-use Rattle.dm_rulelaws.proofs.Names.{WhatFits, nat_tests, sort_of, slice_get, option_and_then}
+use Rattle.dm_rulelaws.proofs.Names.{◌≡◌, ℕ, ◌<◌, ◌≤◌, Bool, true, false, is_some, List, ◌∷◌, refl, ap, ◌∙◌, sym, subst, inl, inr, arith, if◌then◌else◌, Option, None, Some, Pid, MsgId, plain_kind, PlainMessage, MessageKind, Boot, manager}
+use Rattle.dm_rulelaws.proofs.Names.{Step, id_eq-same, alive-is, Line, View, Told, About, Of, Unknown, Here, Frozen, Incoming, Forward, is_kernels, receiver_of, target_in, target_of, front_of, Child, Receiver, Sender, names, sender_of}
+use Rattle.dm_rulelaws.proofs.Names.{IsStep, forwards_on, migrates, Part, Owns, Spelled, Moves, is_between, is_restart, is_early, knows, receiver_in, tells_onward, Point, moved, group_of, Inbox, Queue, Held, times, standing, group_is}
+use Rattle.dm_rulelaws.proofs.Names.{turn_off, letters, eq_is, parts, both_lists, both_times, under_way, front_kernels, Phased, due, head_calm, InPhases, calm_phases, rooted, State, Sane, sane_line, outcome_sayable, Comes, Named, Links}
+use Rattle.dm_rulelaws.proofs.Names.{child_is, source_holds, destination_expects, is_fixed, eq_self, about_same, front_one, least_of, by_migrates, by_net, by_outcome, sort_of, slice_get, option_and_then}
 use Rattle.dm_rule.proofs.Groups.{begun}
 use Rattle.dm_rule.proofs.Trails.Places.{Owns}
-use Rattle.dm_rule.specs.Phases as phases
-use Rattle.dm_rule.specs.Rule as rule
 use Rattle.dm_rulelaws.proofs.Found.Labels.{there_known, line_core}
 use Rattle.dm_rulelaws.proofs.Found.Core.{IsReal, AboutIs, KnownIs, LineCore, known_within}
 use Rattle.dm_rulelaws.proofs.Found.Forward.{forwards_need, moves_back, leaves_need, named_for}
-use Rattle.dm_rulelaws.proofs.Found.Parts.{AllNeed, NeedOf, AllLoose, loose_need, first_need, parts_core, Heard, told_by_need, round_need, handles_need}
+use Rattle.dm_rulelaws.proofs.Found.Parts.{AllNeed, NeedOf, AllLoose, loose_need, first_need, parts_core, Heard, told_by_need, round_need, handles_need, Moves as MovesTo}
 use Rattle.dm_rulelaws.proofs.Found.Real.{made_free, child_real, sends_real, has_some}
-use Rattle.dm_rulelaws.proofs.Found.Parts.{Moves as MovesTo}
+use Rattle.dm_rule.specs.Phases as phases
+use Rattle.dm_rule.specs.Rule as rule
 
 -- behind the head of a group
 abbrev headed : Point → Step → Point
@@ -29,41 +27,25 @@ group_core n b pt d w fit e needs sane h =
     let start = line_core n pt pt.kernel (Line.Head d) (search arith) sane refl h in
     subst (LineCore n) g.point (parts_core n g.parts (headed pt d) g.rest (outcome_sayable b pt d g.parts g.is) (needs g.parts g.is start) (head_sane pt d sane) g.said start)
 
--- a directive to move a process
-asks_need : (n : ℕ) (pt : Point) (p : Pid) (k : ℕ) → pt.view.acting ≡ 0 → child_number pt.kernel p ≡ Some k → LineCore n pt → ((k : ℕ) → names pt.kernel (Child k) ≡ Some p → IsReal n pt.view p) → AllNeed n pt (Owns MessageKind.Migrate p (pt.addresses (Child k)).at ∷ [])
-asks_need n pt p k first is h real =
-    let id = own_id pt.view in
-    let a = pt.addresses in
-    let named = child_is pt.kernel p k is in
-    search (arith, pt.kernel, pt.view, id_eq-same, pt.view.acting, h.all, first_need)
-
 migrates_need : (n : ℕ) (pt : Point) (p : Pid) → pt.view.acting ≡ 0 → LineCore n pt → ((k : ℕ) → names pt.kernel (Child k) ≡ Some p → IsReal n pt.view p) → AllNeed n pt (migrates pt p)
-migrates_need n pt p first h real =
-    by_migrates (AllNeed n pt) pt p (first_need n pt (Says (Line.Pinned p)) [] tt tt) (first_need n pt (Says (Line.NoChild p)) [] tt tt) (λ k off is. asks_need n pt p k first is h real)
+migrates_need n pt p first h real = search (arith, by_migrates, first_need, child_is, id_eq-same)
 
 pub told_there : (o : Option Told) → is_some o ≡ true → (t : Told) × (o ≡ Some t)
-told_there None e = cc
-told_there (Some t) e = (t, refl)
+told_there o h1 = search arith
 
 -- the machines of a migration
 abbrev AllKnown : ℕ → View → Type 0
 AllKnown n v = (m : ℕ) (p : Pid) → KnownIs n v m p (v.known m p)
 
-left_by : (n : ℕ) (v : View) (m d : ℕ) (p : Pid) (k : MessageKind) (x : Known) → phases.kind_leaves k d x ≡ true → v.known m p ≡ x → AllKnown n v → (m < n) × (d < n) × (is_fixed p ≡ false)
-left_by n v m d p k x h1 h2 h3 = search (arith, parts, eq_is, known_within, v.known)
-
 moves_within : (n : ℕ) (v : View) (p : Pid) (k : MessageKind) (s d : ℕ) (o : Option MsgId) → knows (Moves k s d o) s (v.known s p) ≡ true → AllKnown n v → (s < n) × (d < n) × (is_fixed p ≡ false)
-moves_within n v p k s d o e h =
-    left_by n v s d p k (v.known s p) (sym (ap (λ (c : Bool). if c then phases.kind_leaves k d (v.known s p) else if d == s then phases.kind_comes k s (v.known s p) else phases.is_away (v.known s p)) (eq_self s)) ∙ e) refl h
+moves_within n v p k s d o e h = search (arith, eq_self, parts, eq_is, known_within)
 
 sender_within : (n s d : ℕ) (c : Bool) → s < n → d < n → (if c then s else d) < n
-sender_within n s d true le ld = le
-sender_within n s d false le ld = ld
+sender_within n s d c h1 h2 = search arith
 
 -- the message is the one of a migration that is under way
 target_within : (n : ℕ) (v : View) (a : About) → 0 < n → AboutIs n v a → target_in a < n
-target_within n v (Target m) some h = h
-target_within n v _ some h = some
+target_within n v a h1 h2 = search arith
 
 -- what waits for a process is for it
 pub queued_for : (pt : Point) (p : Pid) (i : MsgId) → State None pt → 1 ≤ times i (pt.view.queue pt.view.acting p) → receiver_of (pt.view.told i) ≡ Some p
@@ -73,8 +55,7 @@ queued_for pt p i state least =
     state.stands.told i x is ∙ ap Some (state.stands.mine pt.view.acting p i x least is)
 
 pub told_for : (pt : Point) (o : Option Told) (i : MsgId) (p q : Pid) → Sane pt → pt.view.told i ≡ o → receiver_of o ≡ Some p → Named pt.kernel pt.view (Receiver i) q → q ≡ p
-told_for pt None i p q sane is e named = cc
-told_for pt (Some t) i p q sane is e named = named_for pt i t q sane is named ∙ (let f : t.receiver ≡ p = cc in f)
+told_for pt o i p q h1 h2 h3 h4 = search (arith, named_for)
 
 -- what is held for a process is for it
 abbrev HeldFor : View → Type 0
@@ -118,16 +99,8 @@ heard n pt m i is t p h holds sane state in_ front told own about between =
 forward_free : (n : ℕ) (v : View) (m : ℕ) (p : Pid) (to c : ℕ) → v.known m p ≡ Forward to c → AllKnown n v → is_fixed p ≡ false
 forward_free n v m p to c e h = (subst (KnownIs n v m p) e (h m p)).2
 
-asked_by : (n : ℕ) (pt : Point) (i : MsgId) (k : PlainMessage) (x : PlainWhat) (to : ℕ) → WhatFits pt.kernel i k x → x ≡ PlainWhat.Move to → Sane pt → LineCore n pt → (to < n) × (is_fixed k.to ≡ false)
-asked_by n pt i k (PlainWhat.Move m) to f e sane h =
-    let same : m ≡ to = cc in
-    let (made, within, sender, request, pending) = f in
-    let le : m < pt.kernel.machines = grind (arith, nat_tests) in
-    (subst (λ (j : ℕ). j < n) same (subst (λ (j : ℕ). m < j) h.machines le), made_free pt k.to sane.sound.made (has_some 0 (pt.kernel.processes k.to) made))
-asked_by n pt i k _ to f e sane h = cc
-
 asked_to : (n : ℕ) (pt : Point) (i : MsgId) (k : PlainMessage) → pt.kernel.bag i ≡ Some k → Sane pt → LineCore n pt → MovesTo n k
-asked_to n pt i k there sane h to e = asked_by n pt i k k.what to (h.fits.messages i k there) e sane h
+asked_to n pt i k there sane h to e = search (arith, k.what, made_free, has_some)
 
 front_need : (n : ℕ) (b : Boot) (pt : Point) (m : ℕ) (i : MsgId) (is : List MsgId) (k : PlainMessage) (ps : List Part) → LineCore n (headed pt (Step.Turn m)) → Sane (headed pt (Step.Turn m)) → State None (headed pt (Step.Turn m)) → pt.view.inbox m ≡ i ∷ is → pt.kernel.bag i ≡ Some k
     → rule.handles b pt m i k ≡ Some ps → AllNeed n (headed pt (Step.Turn m)) ps

@@ -1,29 +1,28 @@
 -- Each label keeps where addresses lead, what machines know, and where messages stand.
 use Rattle.dm_rulelaws.proofs.Names.{◌≡◌, ◌≢◌, ℕ, ◌+◌, ◌<◌, ◌≤◌, true, false, is_some, refl, ap, ◌∙◌, sym, subst, inl, inr, arith, ⊤, Option, None, Some, cases_Bool, false≢true, Pid, Place, MsgId, PlainMessage, MessageKind, Line, Label}
-use Rattle.dm_rulelaws.proofs.Names.{Life, OneKernel, entry, reception, Grown, after_step, View, Told, Unknown, Here, is_kernels, after_label, handled, ends_by, served_told, receiver_of, Holder, Receiver, Sender, given, gives, to_of, Point}
+use Rattle.dm_rulelaws.proofs.Names.{OneKernel, entry, reception, Grown, after_step, View, Told, Unknown, Here, is_kernels, after_label, handled, ends_by, served_told, receiver_of, Holder, Receiver, Sender, given, gives, to_of, Point}
 use Rattle.dm_rulelaws.proofs.Names.{moved, at_record_at, grown_none, not_kernels, AtHome, homes_are, at_home, SaidOn, label_on, ReceivedAt, dropped_known, Sane, Goes, Comes, Links, Outside, gives_spares, spared_receiver, spared_sender}
-use Rattle.dm_rulelaws.proofs.Names.{label_told, label_topic, is_fixed, zero_cases, acting_dropped, ◌⊎◌, ◌&&◌, Bool, slice_get, pid_of, pid_eq, plain_kind, PlainWhat, Alive, PlainProcess, pid_eq-is, first_number, bind-is, when-is}
-use Rattle.dm_rulelaws.proofs.Names.{with_sent, answer_to, without_message, is_kill, nat_lt, List, [], length, if◌then◌else◌, id_eq, id_of, switchboard, manager, bind, answer_id, id_eq-is, Addresses, Gets, landing_gets, serves_burden}
-use Rattle.dm_rulelaws.proofs.Names.{board_takes_burden, manager_takes_burden, not_true, nat_tests, unentered, Sound, id_in, landed_id, served_id, board_id, manager_id, took_id, bag_sends, bag_served, bag_gone, bag_no_space, bag_created}
-use Rattle.dm_rulelaws.proofs.Names.{bag_took, spares, spares_both, two_more, made_spares, sends_spares, receives_spares, creates_what_spares, finds_spares, keeps_spares, manager_takes_spares, WhatFits, KernelFits, topic_by, machine_in}
-use Rattle.dm_rulelaws.proofs.Names.{bag_answered, aim, sets, not, filter, ◌==◌, Step, Load, Stage, About, Known, Frozen, Incoming, view_after, after_head, after_stage, after_proto, queued_for, held_for, taken_id, oldest, gone_to, front_of}
-use Rattle.dm_rulelaws.proofs.Names.{label_of, kernel_after, is_put, hushed, queued_known, held_known, proto_known, proto_acting, move_target, burden_of, sort_of, option_map_or}
+use Rattle.dm_rulelaws.proofs.Names.{label_told, label_topic, is_fixed, zero_cases, acting_dropped, ◌⊎◌, Bool, pid_eq, plain_kind, PlainWhat, Alive, PlainProcess, pid_eq-is, bind-is, when-is, is_kill, nat_lt, List, [], length}
+use Rattle.dm_rulelaws.proofs.Names.{if◌then◌else◌, id_eq, id_of, switchboard, manager, bind, answer_id, id_eq-is, Addresses, Gets, landing_gets, serves_burden, board_takes_burden, manager_takes_burden, not_true, nat_tests, unentered}
+use Rattle.dm_rulelaws.proofs.Names.{Sound, id_in, landed_id, served_id, board_id, manager_id, took_id, bag_sends, bag_served, bag_gone, bag_no_space, bag_created, bag_took, spares, spares_both, two_more, made_spares, sends_spares}
+use Rattle.dm_rulelaws.proofs.Names.{receives_spares, creates_what_spares, finds_spares, keeps_spares, manager_takes_spares, KernelFits, topic_by, machine_in, bag_answered, aim, sets, not, filter, ◌==◌, Step, Load, Stage, About, Known}
+use Rattle.dm_rulelaws.proofs.Names.{Frozen, Incoming, view_after, after_head, after_stage, after_proto, queued_for, held_for, taken_id, oldest, gone_to, front_of, label_of, kernel_after, is_put, hushed, queued_known, held_known}
+use Rattle.dm_rulelaws.proofs.Names.{proto_known, proto_acting, burden_of, sort_of, option_map_or}
 use Rattle.dm_rule.specs.View.{Ended}
 use Rattle.dm_rule.proofs.Trails.Places.{Owns}
-use Rattle.dm_onekernel.specs.Step as kernel
-use Rattle.dm_rule.specs.View as view
-use Rattle.dm_onekernel.specs.Service as service
-use Rattle.dm_onekernel.specs.Pieces as pieces
-use Rattle.dm_onekernel.specs.Switchboard as board
-use Rattle.dm_onekernel.specs.Manager as manage
-use Rattle.dm_rule.specs.Addresses as addresses
-use Rattle.dm_rule.specs.Given as request
 use Rattle.dm_rulelaws.proofs.Fits.Start.{fits_step}
-use Rattle.dm_rulelaws.proofs.Found.Lists.{places_label, places_about, Places, Brings, places_line, AllAre, all_as, Sends, step_leaves, took_for, created_for, no_space_for}
+use Rattle.dm_rulelaws.proofs.Found.Lists.{places_label, places_about, Places, Brings, places_line, AllAre, all_as, Sends, step_leaves, created_for}
 use Rattle.dm_rulelaws.proofs.Found.Core.{AboutIs, KnowsAt, Knows, IsAt, KnownIs, LineCore, Grows, Learns, learns_nothing, learns, knows_grow, own_grows, about_grows, core_view, known_grows, NeedsPut, put_core, NeedsForward, NeedsSent}
 use Rattle.dm_rulelaws.proofs.Found.Core.{forwarded_core, sent_core, updated_core}
 use Rattle.dm_rulelaws.proofs.Based.Loud.{SetLife, some_alike, step_alike, step_ends, step_serves, step_creates}
 use Rattle.dm_rulelaws.proofs.Fits.Rises.{both}
+use Rattle.dm_onekernel.specs.Step as kernel
+use Rattle.dm_rule.specs.View as view
+use Rattle.dm_onekernel.specs.Service as service
+use Rattle.dm_onekernel.specs.Switchboard as board
+use Rattle.dm_onekernel.specs.Manager as manage
+use Rattle.dm_rule.specs.Addresses as addresses
+use Rattle.dm_rule.specs.Given as request
 
 -- what enters is none that was told of
 apart_from : (e : MsgId → ℕ) (i j : MsgId) → 1 ≤ e i → e j ≡ 0 → id_eq j i ≡ false
@@ -63,11 +62,6 @@ took_spares r e s t v a id m i there is fresh h least =
     (apart_from e i (id_of switchboard s.switchboard.sent) least (unentered r e s (id_of switchboard s.switchboard.sent) h.entered (let z : nat_lt s.switchboard.sent s.switchboard.sent ≡ false = grind (arith, nat_tests) in z)))
     (λ j f. apart_from e i j least (fresh j f)) is
 
--- requests to move
-follows_spares : (a : Addresses) (id : MsgId) (o : Option PlainMessage) (i : MsgId) → spares i (request.given_to_follow a id o) ≡ true
-follows_spares a id None i = refl
-follows_spares a id (Some m) i = refl
-
 ended_spares : (v : View) (a : Addresses) (id : MsgId) (o : Option Pid) (i : MsgId) → id_eq (answer_id id) i ≡ false → spares i (request.given_at_end v a id o) ≡ true
 ended_spares v a id None i e = refl
 ended_spares v a id (Some p) i e = two_more i (answer_id id) [] e refl
@@ -90,7 +84,7 @@ told_spares r e s t v a (Label.Took id) i is h least =
     (took_spares r e s t v a id m i there rest (λ j f. q.is.fresh j (ap (took_id s) same ∙ f)) h least)
 told_spares r e s t v a (Label.Created id child) i is h least = creates_spares v a id child (s.bag id) i (apart_from e i (answer_id id) least ((bag_created r e s t id child is h).fresh (answer_id id) refl))
 told_spares r e s t v a (Label.NoSpace id f b) i is h least = two_more i (answer_id id) [] (apart_from e i (answer_id id) least ((bag_no_space r e s t id f b is h).fresh (answer_id id) refl)) refl
-told_spares r e s t v a (Label.Asked id) i is h least = follows_spares a id (s.bag id) i
+told_spares r e s t v a (Label.Asked id) i is h least = search arith
 told_spares r e s t v a (Label.Answered id o) i is h least = ended_spares v a id (s.noted id) i (apart_from e i (answer_id id) least ((bag_answered r e s t id o is h).fresh (answer_id id) refl))
 told_spares r e s t v a _ i is h least = refl
 
@@ -114,12 +108,7 @@ pub record Born (s : OneKernel) (id : MsgId) (child q : Pid) : Type 0 where
   pub is : child ≡ q
 
 child_home : (s t : OneKernel) (id : MsgId) (m : PlainMessage) (child : Pid) (w : PlainWhat) → service.creates s id m child w ≡ Some t → child.home ≡ m.to.home
-child_home s t id m child (PlainWhat.Create image links) e =
-    let (i, found, rest) = bind-is (slice_get s.images image) (service.creates_of s id m child links) t e in
-    let name = pid_of m.to.home (first_number + s.made m.to.home) in
-    let k = when-is (service.is_kernel s m.to && pid_eq child name) (with_sent (service.with_created (without_message s id) child i links) (Some (answer_to m (PlainWhat.Created child)))) t rest in
-    ap (λ (x : Pid). x.home) (pid_eq-is child name (both (service.is_kernel s m.to) (pid_eq child name) k.0).1)
-child_home s t id m child _ e = cc
+child_home s t id m child w h1 = search (arith, bind-is, s.images, m.to.home, s.made, when-is, m.to, pid_eq-is, both)
 
 pub created_made : (s t : OneKernel) (id : MsgId) (child : Pid) → kernel.step s (Label.Created id child) ≡ Some t → (q : Pid) → is_some (t.processes q) ≡ true → (is_some (s.processes q) ≡ true) ⊎ Born s id child q
 created_made s t id child is q some = elim (cases_Bool (pid_eq child q)) [
@@ -168,7 +157,7 @@ label_learns n v (Label.End p y) le h = learns n v (after_label v (Label.End p y
 label_learns n v (Label.Created id p) le h = learns n v (after_label v (Label.Created id p)) p Here refl refl (λ e. absurd (let f : Here ≡ Unknown = e in cc)) le h
 label_learns n v (Label.Dropped id) le h =
     learns_nothing n v (after_label v (Label.Dropped id)) (acting_dropped (handled v id) id (receiver_of (v.told id))) (λ m q. dropped_known (handled v id) id (receiver_of (v.told id)) m q) h
-label_learns n v (Label.Served id) le h = behind_handled n v (after_label v (Label.Served id)) id (served_learns n (handled v id) (v.told id) le (handled_known n v id h))
+label_learns n v (Label.Served id) le h = search arith
 label_learns n v any_ le h = learns_nothing n v (after_label v any_) refl (λ m q. refl) h
 
 -- what a label needs: its process is known where it is said, or its message's address names that machine
@@ -196,14 +185,10 @@ received_at : (n : ℕ) (pt : Point) (id : MsgId) → ((m : PlainMessage) → pt
 received_at n pt id fixed at h m there = fixed_home pt.view m.to pt.view.acting (fixed m there) (there_known n pt id m there at h)
 
 said_on : (n : ℕ) (pt : Point) (s : OneKernel) (l : Label) → kernel.step pt.kernel l ≡ Some s → NeedsLabel pt l → LineCore n pt → SaidOn (Knows pt.view) pt.kernel pt.view pt.addresses l
-said_on n pt s l h1 h2 h3 = search (arith, there_known, received_at, took_for, pt.kernel, created_for, no_space_for)
-
-told_some : (o : Option Told) → is_some o ≡ true → o ≡ None → ⊥
-told_some None some e = false≢true some
-told_some (Some t) some e = cc
+said_on n pt s l h1 h2 h3 = search (arith, there_known, received_at, pt.kernel, created_for)
 
 entered : (pt : Point) (i : MsgId) (h : Sane pt) → is_some (pt.view.told i) ≡ true → is_kernels i ≡ false → 1 ≤ h.e i
-entered pt i h some other = search (arith, zero_cases, h.e, told_some, pt.view.told, h.untold)
+entered pt i h some other = search (arith, zero_cases, h.e, pt.view.told, h.untold)
 
 outside : (pt : Point) (s : OneKernel) (l : Label) (h : Sane pt) → kernel.step pt.kernel l ≡ Some s → Outside s
 outside pt s l h is j x there = not_kernels (λ i. h.r i + reception i l) (λ i. h.e i + entry i pt.kernel s) s j x there (after_step h.r h.e pt.kernel s l is h.sound).sound
@@ -216,12 +201,8 @@ keeps_receiver pt s l i h is some =
       | inr other ↦ told_spares h.r h.e pt.kernel s pt.view pt.addresses l i is h.sound (entered pt i h some other)
     ])
 
--- what was made stays so
-made_stays : (a b : Option Life) → (b ≡ None → a ≡ None) → is_some a ≡ true → is_some b ≡ true
-made_stays a b h1 h2 = search arith
-
 sends_grow : (n : ℕ) (s t : OneKernel) (q : Pid) → Grown s t → Sends n s q → Sends n t q
-sends_grow n s t q grown h = search (arith, made_stays, s.processes, t.processes, grown_none, grown.lives)
+sends_grow n s t q grown h = search (arith, s.processes, t.processes, grown_none, grown.lives)
 
 label_all : (n : ℕ) (pt : Point) (s : OneKernel) (l : Label) → Sane pt → kernel.step pt.kernel l ≡ Some s → AtHome (Knows pt.view) s (given pt.addresses (gives pt.kernel pt.view pt.addresses l)) → LineCore n pt
     → AllAre (Knows pt.view) s pt.view (given pt.addresses (gives pt.kernel pt.view pt.addresses l))
@@ -242,17 +223,9 @@ other_home n pt s w grows made h q some = grows q.home q (h.home q (made q some)
 label_home : (n : ℕ) (pt : Point) (s : OneKernel) (l : Label) → NeedsLabel pt l → kernel.step pt.kernel l ≡ Some s → Grows pt.view (after_label pt.view l) → LineCore n pt → (q : Pid) → is_some (s.processes q) ≡ true → (after_label pt.view l).known q.home q ≢ Unknown
 label_home n pt s l h1 h2 h3 h4 q h5 = search (arith, created_made, pt.kernel, q.home, pt.view, pt.view.acting, received_at, created_for, at_record_at, pt.view.known, other_home, step_made)
 
--- where a process goes that is asked to move
-moves_within : (n : ℕ) (s : OneKernel) (v : View) (i : MsgId) (m : PlainMessage) (x : PlainWhat) → s.machines ≡ n → WhatFits s i m x → AboutIs n v (move_target x)
-moves_within n s v i m (PlainWhat.Move to) same e =
-    let k : nat_lt to s.machines ≡ true = e.1 in
-    let f : to < s.machines = grind (arith, nat_tests) in
-    subst (λ (j : ℕ). to < j) same f
-moves_within n s v i m _ same e = tt
-
 asked_within : (n : ℕ) (s : OneKernel) (v : View) (i : MsgId) (o : Option PlainMessage) → s.bag i ≡ o → s.machines ≡ n → KernelFits s → AboutIs n v (machine_in o)
 asked_within n s v i None there same h = tt
-asked_within n s v i (Some m) there same h = moves_within n s v i m m.what same (h.messages i m there)
+asked_within n s v i (Some m) there same h = search (arith, m.what)
 
 topic_within : (n : ℕ) (s : OneKernel) (v : View) (l : Label) → s.machines ≡ n → KernelFits s → AboutIs n v v.topic → AboutIs n v (topic_by s v.topic (Some l))
 topic_within n s v (Label.Asked i) same h old = asked_within n s v i (s.bag i) refl same h
@@ -331,9 +304,7 @@ gone_is n v m p (Frozen to) moves there h = (h.0, there to refl, h.2)
 gone_is n v m p _ moves there h = h
 
 gone_unknown : (k : Known) (moves : ℕ) → gone_to k moves ≡ Unknown → k ≡ Unknown
-gone_unknown (Frozen to) moves e = cc
-gone_unknown Unknown moves e = refl
-gone_unknown _ moves e = e
+gone_unknown k moves h1 = search arith
 
 abbrev pub NeedsStage : ℕ → Point → Pid → Stage → Type 0
 NeedsStage n pt p Stage.Frozen = (aim pt.view pt.view.topic < n) × (is_fixed p ≡ false)
@@ -354,10 +325,7 @@ stage_learns n pt p Stage.Restarted need h = learns n pt.view (after_stage pt.vi
 stage_learns n pt p any_ need h = learns_nothing n pt.view (after_stage pt.view p any_) refl (λ m q. refl) h.known
 
 stage_topic : (n : ℕ) (pt : Point) (p : Pid) (s : Stage) → LineCore n pt → AboutIs n pt.view (after_stage pt.view p s).topic
-stage_topic n pt p Stage.Asked h = h.topic
-stage_topic n pt p Stage.Restarted h = h.topic
-stage_topic n pt p Stage.Frozen h = subst (AboutIs n pt.view) (sym (sets pt.view p pt.view.topic).topic) tt
-stage_topic n pt p _ h = tt
+stage_topic n pt p s h1 = search (arith, pt.view, sets, pt.view.topic)
 
 stage_core : (n : ℕ) (pt : Point) (p : Pid) (s : Stage) → NeedsStage n pt p s → LineCore n pt → LineCore n (at_view pt (after_stage pt.view p s))
 stage_core n pt p s need h =
@@ -390,9 +358,7 @@ NeedsLine n pt (Line.Migration s p) = NeedsStage n pt p s
 NeedsLine n pt _ = ⊤
 
 head_known : (n : ℕ) (v w : View) → w.known ≡ v.known → ((m : ℕ) (p : Pid) → KnownIs n v m p (v.known m p)) → (m : ℕ) (p : Pid) → KnownIs n w m p (w.known m p)
-head_known n v w same h m p =
-    let grows : Grows v w = λ k q some e. some (sym (ap (λ (f : ℕ → Pid → Known). f k q) same) ∙ e) in
-    subst (KnownIs n w m p) (sym (ap (λ (f : ℕ → Pid → Known). f m p) same)) (known_grows n v w m p (v.known m p) grows (h m p))
+head_known n v w same h m p = search (arith, known_grows, v.known)
 
 head_core : (n : ℕ) (pt : Point) (d : Step) → NeedsHead n d → LineCore n pt → LineCore n (at_view pt (after_head pt.view d))
 head_core n pt (Step.Migrate p m) need h = core_view n pt (after_head pt.view (Step.Migrate p m)) pt.addresses need.0 (λ i q e. e) (head_known n pt.view (after_head pt.view (Step.Migrate p m)) refl h.known) refl need.1 h.all (places_line (IsAt pt.addresses pt.view) pt.view (Line.Head (Step.Migrate p m)) tt h.places) h

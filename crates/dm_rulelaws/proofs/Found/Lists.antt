@@ -1,18 +1,18 @@
 -- Each line leaves messages where they stood, moves them within a machine, or brings one.
 use Rattle.dm_rulelaws.proofs.Names.{◌≡◌, ◌⊎◌, ℕ, zero, suc, ◌+◌, ◌≤◌, ◌==◌, Bool, true, false, not, filter, List, [], ◌∷◌, ◌++◌, refl, sym, subst, inl, inr, arith, ⊤, if◌then◌else◌, drop, Option, None, Some, Pid, MsgId, MessageKind, Label}
-use Rattle.dm_rulelaws.proofs.Names.{Step, id_eq-is, id_eq-same, Line, Stage, at_machine, at_pair, at_record, without_id, without_front, View, Pair, Told, About, Of, view_after, after_head, after_label, after_put, after_taken, after_stage}
-use Rattle.dm_rulelaws.proofs.Names.{after_proto, follows_by, asks_on, handled, handled_first, queued_for, held_for, dropped_for, forwarded_for, rejoins, served_told, ends_by, receiver_of, taken_id, oldest, routed_on, Spot, Queue, Held}
-use Rattle.dm_rulelaws.proofs.Names.{Inbox, Untaken, times, untaken, standing, eq_is, parts, at_place, pair_keeps, times-append, machine_of, Target, ap, ◌∙◌, cases_Bool, false≢true, Place, id_eq, manager, OneKernel, NothingElse, is_kernels}
-use Rattle.dm_rulelaws.proofs.Names.{own_id, Addresses, Holder, Receiver, Sender, Gets, gets, given, holder_eq, place_known, all_follow, is_told_back, told_back_gets, forwards, place_told, is_behind, updated_to, updated, own_given}
-use Rattle.dm_rulelaws.proofs.Names.{first_gives, one_of, put_told_off, put_at, Goes, Comes, Named, Links, holder_is, unnamed_receiver, unnamed_sender, put_named, told_again, is_own, leads_where, behind_where, plain_gives, not_own, ◌<◌}
-use Rattle.dm_rulelaws.proofs.Names.{is_some, nat_tests, PlainMessage, is_fixed, by_step, MoveNote, sort_of}
+use Rattle.dm_rulelaws.proofs.Names.{Step, id_eq-is, id_eq-same, Line, Stage, at_machine, at_pair, at_record, without_id, without_front, View, Pair, Told, About, view_after, after_label, after_put, after_taken, after_stage, after_proto}
+use Rattle.dm_rulelaws.proofs.Names.{follows_by, handled, handled_first, queued_for, held_for, forwarded_for, rejoins, served_told, ends_by, receiver_of, taken_id, oldest, routed_on, Spot, Queue, Held, Inbox, Untaken, times, untaken}
+use Rattle.dm_rulelaws.proofs.Names.{standing, eq_is, parts, at_place, pair_keeps, times-append, machine_of, ap, ◌∙◌, cases_Bool, false≢true, Place, id_eq, manager, OneKernel, is_kernels, own_id, Addresses, Holder, Receiver, Sender, Gets}
+use Rattle.dm_rulelaws.proofs.Names.{given, holder_eq, place_known, all_follow, is_told_back, told_back_gets, forwards, place_told, is_behind, updated_to, updated, own_given, first_gives, one_of, put_told_off, put_at, Goes, Comes, Named}
+use Rattle.dm_rulelaws.proofs.Names.{Links, holder_is, unnamed_receiver, unnamed_sender, put_named, told_again, is_own, leads_where, behind_where, plain_gives, not_own, ◌<◌, is_some, nat_tests, PlainMessage, is_fixed, by_step, MoveNote}
+use Rattle.dm_rulelaws.proofs.Names.{sort_of}
 use Rattle.dm_rule.proofs.Trails.Places.{Owns}
-use Rattle.dm_rule.specs.View as view
-use Rattle.dm_onekernel.specs.Service as service
-use Rattle.dm_onekernel.specs.Step as kernel
 use Rattle.dm_rulelaws.proofs.Based.Sets.{set_all, without_fewer, front_fewer, last_of}
 use Rattle.dm_rulelaws.proofs.Fits.Constants.{step_constant}
 use Rattle.dm_rulelaws.proofs.Own.Told.{Origin, brings}
+use Rattle.dm_rule.specs.View as view
+use Rattle.dm_onekernel.specs.Service as service
+use Rattle.dm_onekernel.specs.Step as kernel
 
 -- of each message that stands somewhere, with the machine
 abbrev pub Places : (MsgId → ℕ → Type 0) → View → Type 0
@@ -104,10 +104,6 @@ places_held G v id (Some p) new h =
 places_queue_less : (G : MsgId → ℕ → Type 0) (v w : View) (p : Pid) (xs : List MsgId) → w.queue ≡ at_record v.queue v.acting p xs → w.held ≡ v.held → w.inbox ≡ v.inbox → w.pair ≡ v.pair → ((i : MsgId) → 1 ≤ times i xs → 1 ≤ times i (v.queue v.acting p)) → Places G v → Places G w
 places_queue_less G v w p xs queue held inbox pair less h = search (arith, places_of, set_record, v.queue, v.acting)
 
-places_dropped : (G : MsgId → ℕ → Type 0) (v : View) (id : MsgId) (o : Option Pid) → Places G v → Places G (dropped_for v id o)
-places_dropped G v id None h = h
-places_dropped G v id (Some p) h = places_queue_less G v (dropped_for v id (Some p)) p (without_front id (v.queue v.acting p)) refl refl refl refl (λ i e. front_fewer i id (v.queue v.acting p) e) h
-
 -- the held messages come to the inbox
 places_rejoins : (G : MsgId → ℕ → Type 0) (v : View) (p : Pid) → Places G v → Places G (rejoins v p)
 places_rejoins G v p h =
@@ -154,14 +150,14 @@ places_kills G v _ p h = h
 
 places_served : (G : MsgId → ℕ → Type 0) (v : View) (o : Option Told) → Places G v → Places G (served_told v o)
 places_served G v None h = h
-places_served G v (Some t) h = places_kills G v t.kind t.receiver h
+places_served G v (Some t) h = search (arith, t.kind, t.receiver, places_as)
 
 pub places_label : (G : MsgId → ℕ → Type 0) (v : View) (l : Label) → Places G v → Places G (after_label v l)
 places_label G v (Label.Ran p k) h = places_as G v (after_label v (Label.Ran p k)) refl refl refl (λ a b. refl) h
 places_label G v (Label.End p y) h = places_as G v (after_label v (Label.End p y)) refl refl refl (λ a b. refl) h
 places_label G v (Label.Refuse p id c) h = places_as G v (after_label v (Label.Refuse p id c)) refl refl refl (λ a b. refl) h
 places_label G v (Label.Receive p id) h = places_queue_less G v (after_label v (Label.Receive p id)) p (without_id id (v.queue v.acting p)) refl refl refl refl (λ i e. without_fewer i id (v.queue v.acting p) e) h
-places_label G v (Label.Dropped id) h = places_dropped G (handled v id) id (receiver_of (v.told id)) (places_handled G v id h)
+places_label G v (Label.Dropped id) h = search (arith, places_queue_less, front_fewer)
 places_label G v (Label.Served id) h = places_served G (handled v id) (v.told id) (places_handled G v id h)
 places_label G v (Label.Gone id) h = places_handled G v id h
 places_label G v (Label.Took id) h = places_handled G v id h
@@ -174,21 +170,12 @@ places_label G v _ h = h
 pub places_about : (G : MsgId → ℕ → Type 0) (v : View) (a : About) → Places G v → Places G (view.about v a)
 places_about G v a h = places_as G v (view.about v a) refl refl refl (λ b c. refl) h
 
--- steps of migrations
-places_sets : (G : MsgId → ℕ → Type 0) (v : View) (p : Pid) (a : About) → Places G v → Places G (view.sets_off v p a)
-places_sets G v p (Target m) h = places_as G v (view.sets_off v p (Target m)) refl refl refl (λ b c. refl) h
-places_sets G v p a h = places_as G (handled_first v) (view.sets_off v p a) refl refl refl (λ b c. refl) (places_first G v h)
-
 pub places_stage : (G : MsgId → ℕ → Type 0) (v : View) (p : Pid) (s : Stage) → Places G v → Places G (after_stage v p s)
 places_stage G v p Stage.Asked h = h
-places_stage G v p Stage.Frozen h = places_sets G v p v.topic h
+places_stage G v p Stage.Frozen h = search (arith, v.topic, places_as, places_first)
 places_stage G v p Stage.Left h = places_as G v (after_stage v p Stage.Left) refl refl refl (λ a b. refl) h
 places_stage G v p Stage.Restarted h = places_as G (rejoins (handled_first v) p) (after_stage v p Stage.Restarted) refl refl refl (λ a b. refl) (places_rejoins G (handled_first v) p (places_first G v h))
 places_stage G v p any_ h = places_as G (handled_first v) (after_stage v p any_) refl refl refl (λ a b. refl) (places_first G v h)
-
-places_asks : (G : MsgId → ℕ → Type 0) (v : View) (a : About) → Places G v → Places G (asks_on v a)
-places_asks G v (Of p) h = places_as G v (asks_on v (Of p)) refl refl refl (λ a b. refl) h
-places_asks G v _ h = h
 
 places_proto : (G : MsgId → ℕ → Type 0) (v : View) (o : Option Told) → Places G v → Places G (after_proto v o)
 places_proto G v None h = places_as G v (after_proto v None) refl refl refl (λ a b. refl) h
@@ -198,11 +185,6 @@ pub places_forwarded : (G : MsgId → ℕ → Type 0) (v : View) (o : Option Pid
 places_forwarded G v None h = h
 places_forwarded G v (Some p) h = places_as G v (forwarded_for v (Some p)) refl refl refl (λ a b. refl) h
 
--- heads
-places_head : (G : MsgId → ℕ → Type 0) (v : View) (d : Step) → Places G v → Places G (after_head v d)
-places_head G v (Step.Deliver a b k) h = places_as G v (after_head v (Step.Deliver a b k)) refl refl refl (λ c d. pair_keeps v.pair a b (view.marked (v.pair a b) k) refl c d) h
-places_head G v any_ h = places_as G v (after_head v any_) refl refl refl (λ a b. refl) h
-
 -- what a line brings
 abbrev pub Brings : (MsgId → ℕ → Type 0) → View → Line → Type 0
 Brings G v (Line.Put a b id k q) = G id b
@@ -211,7 +193,7 @@ Brings G v (Line.Held id) = G id v.acting
 Brings G v _ = ⊤
 
 pub places_line : (G : MsgId → ℕ → Type 0) (v : View) (l : Line) → Brings G v l → Places G v → Places G (view_after v l)
-places_line G v (Line.Head d) new h = places_head G v d h
+places_line G v (Line.Head d) new h = search (arith, places_as, pair_keeps)
 places_line G v (Line.Label l) new h = places_label G v l h
 places_line G v (Line.Put a b id k q) new h = places_put G v a b id k q new h
 places_line G v (Line.Packet a b k l) new h = places_as G v (view_after v (Line.Packet a b k l)) refl refl refl (λ c d. pair_keeps v.pair a b (record (v.pair a b) { gone = view.gone_after l (v.pair a b).gone; wire = (v.pair a b).wire ++ record { load = l; delivered = false } ∷ [] }) refl c d) h
@@ -303,18 +285,9 @@ pub updated_all : (P : Pid → Place → Type 0) (s : OneKernel) (v : View) (a :
 updated_all P s v a None on h = h
 updated_all P s v a (Some u) on h = update_about P s v a u.receiver u.about (λ p m c e. on u p m c refl e) h
 
--- an update gives no message another address
-update_leaves : (s : OneKernel) (a : Addresses) (r : Pid) (x : About) (i : MsgId) → updated_to s a (Some r) (place_told x) (Receiver i) ≡ a (Receiver i)
-update_leaves s a r NothingElse i = refl
-update_leaves s a r _ i = refl
-
 pub updated_leaves : (s : OneKernel) (v : View) (a : Addresses) (o : Option Told) (i : MsgId) → updated s v a o (Receiver i) ≡ a (Receiver i)
 updated_leaves s v a None i = refl
-updated_leaves s v a (Some u) i = update_leaves s a u.receiver u.about i
-
--- the first put of a kernel's own message
-two_get : (P : Pid → Place → Type 0) (s : OneKernel) (v : View) (id : MsgId) (to from : Place) → s.bag id ≡ None → v.told id ≡ None → AllGet P s v (gets (Receiver id) to ∷ gets (Sender id) from ∷ [])
-two_get P s v id to from bag told = ((λ q e. absurd (unnamed_receiver s v id q bag told e)), ((λ q e. absurd (unnamed_sender s v id q bag told e)), tt))
+updated_leaves s v a (Some u) i = search (arith, u.receiver, u.about)
 
 pub put_all : (P : Pid → Place → Type 0) (s : OneKernel) (v : View) (a : Addresses) (x y : ℕ) (id : MsgId) (k : MessageKind) (q : Pid) → s.bag id ≡ None → v.told id ≡ None → P q (given a (own_given s v a id q (sort_of k)) (Receiver id))
     → (k ≡ MessageKind.Migrate → P manager (given a (own_given s v a id q (sort_of k)) (Sender id))) → AllAre P s v a → AllAre P s (after_put v x y id k q) (given a (first_gives (v.told id) (own_given s v a id q (sort_of k))))
@@ -387,23 +360,11 @@ IsFor s id = (m : PlainMessage) → s.bag id ≡ Some m → is_fixed m.to ≡ tr
 for_it : (s : OneKernel) (id : MsgId) (m : PlainMessage) → s.bag id ≡ Some m → is_fixed m.to ≡ true → IsFor s id
 for_it s id m there fixed x is = let f : Some m ≡ Some x = sym there ∙ is in let g : m ≡ x = cc in subst (λ (y : PlainMessage). is_fixed y.to ≡ true) g fixed
 
-pub took_for : (s t : OneKernel) (id : MsgId) → kernel.step s (Label.Took id) ≡ Some t → IsFor s id
-took_for s t id = search (arith, by_step, for_it, kernel_fixed)
-
 pub created_for : (s t : OneKernel) (id : MsgId) (child : Pid) → kernel.step s (Label.Created id child) ≡ Some t → IsFor s id
 created_for s t id child = search (arith, by_step, for_it, kernel_fixed)
 
-pub no_space_for : (s t : OneKernel) (id : MsgId) (a b : ℕ) → kernel.step s (Label.NoSpace id a b) ≡ Some t → IsFor s id
-no_space_for s t id a b = search (arith, by_step, for_it, kernel_fixed)
-
 origin_sends : (n : ℕ) (s : OneKernel) (x : PlainMessage) → s.machines ≡ n → 0 < n → Origin s x → Sends n s x.sender
-origin_sends n s x same some h = elim h [
-  | inl process ↦ inr process
-  | inr other ↦ elim other [
-    | inl server ↦ let home : x.sender.home ≡ 0 = grind (arith, nat_tests) in inl (grind (arith, nat_tests), omega (arith, home, some))
-    | inr kernel ↦ inl (kernel_fixed s x.sender kernel.0, subst (λ (k : ℕ). x.sender.home < k) same (let f : x.sender.home < s.machines = grind (arith, nat_tests) in f))
-  ]
-]
+origin_sends n s x same some h = search (arith, x.sender.home, kernel_fixed, x.sender, s.machines)
 
 pub step_leaves : (n : ℕ) (s t : OneKernel) (l : Label) → s.machines ≡ n → 0 < n → ((p : Pid) (k : MoveNote) → s.notes p ≡ Some k → is_some (s.processes p) ≡ true) → kernel.step s l ≡ Some t → Leaves n s t
 step_leaves n s t l same some lives is = record {

@@ -1,18 +1,17 @@
 -- The parts of a group keep where messages stand, where each has what it needs.
-use Rattle.dm_rulelaws.proofs.Names.{◌≡◌, ℕ, ◌<◌, true, false, List, [], ◌∷◌, refl, ◌∙◌, sym, arith, ⊤, Option, None, Some, false≢true, Pid, pid_of, MsgId, MessageKind, plain_kind, PlainMessage, PlainWhat, manager, id_eq-same, bind-is}
-use Rattle.dm_rulelaws.proofs.Names.{Line, Told, is_kernels, own_id, Holder, Receiver, Sender, given, goes_between, own_given, Point, moved, after, Part, Says, Routes, Again, Owns, Transmits, Spelled, lines_of, puts, spelled, not_kernels}
-use Rattle.dm_rulelaws.proofs.Names.{not_first, Sane, AllSayable, part_sane, is_own, by_parts, ◌+◌, ap, subst, Label, Boot, first_number, PlainProcess, Forward, forwards_on, Stops, by_round, by_handles, ◌/◌, ◌==◌, Bool, ◌++◌, length, ◌||◌}
-use Rattle.dm_rulelaws.proofs.Names.{if◌then◌else◌, pid_eq, Stage, switchboard, bind, About, Of, Known, Unknown, Here, target_of, front_of, to_kernel, accepts, takes_chunk, takes_block, leaves, chunks_of, pieces_of, told_step, told_here}
-use Rattle.dm_rulelaws.proofs.Names.{told_ended, process_told, told_server, is_between, is_fixed, Outcome, MoveNote, OneKernel, machine_in, Target, answers_move, leaves_for, aim, label_of, kernel_after, at_record, at_record_at, tells_asker}
-use Rattle.dm_rulelaws.proofs.Names.{inr, View, after_line, move_target, packet_line, sort_of}
+use Rattle.dm_rulelaws.proofs.Names.{◌≡◌, ℕ, ◌<◌, true, false, List, [], ◌∷◌, refl, ◌∙◌, sym, arith, ⊤, Option, None, Some, Pid, pid_of, MsgId, MessageKind, plain_kind, PlainMessage, PlainWhat, manager, id_eq-same, bind-is, Line, Told}
+use Rattle.dm_rulelaws.proofs.Names.{own_id, Holder, Receiver, Sender, given, goes_between, own_given, Point, moved, after, Part, Says, Routes, Again, Owns, Transmits, Spelled, lines_of, puts, spelled, not_kernels, not_first, Sane}
+use Rattle.dm_rulelaws.proofs.Names.{AllSayable, part_sane, is_own, by_parts, ◌+◌, ap, subst, Label, Boot, first_number, PlainProcess, Forward, forwards_on, Stops, by_round, by_handles, ◌/◌, ◌==◌, Bool, ◌++◌, length, if◌then◌else◌, pid_eq}
+use Rattle.dm_rulelaws.proofs.Names.{Stage, switchboard, bind, About, Of, Known, Unknown, Here, target_of, front_of, to_kernel, accepts, takes_block, leaves, pieces_of, told_step, told_here, told_ended, process_told, told_server}
+use Rattle.dm_rulelaws.proofs.Names.{is_between, is_fixed, Outcome, MoveNote, OneKernel, answers_move, leaves_for, aim, label_of, kernel_after, at_record, at_record_at, tells_asker, View, after_line, packet_line, sort_of}
 use Rattle.dm_rule.specs.View.{Ended}
-use Rattle.dm_onekernel.specs.Pieces as pieces
-use Rattle.dm_onekernel.specs.Step as kernel
-use Rattle.dm_rule.specs.Rule as rule
 use Rattle.dm_rulelaws.proofs.Found.Core.{Knows, IsReal, LineCore, KnowsAt, IsAt, NeedsPut, put_core}
 use Rattle.dm_rulelaws.proofs.Based.Needs.{by_puts, said_by}
 use Rattle.dm_rulelaws.proofs.Fits.Serves.{asked_noted}
 use Rattle.dm_rulelaws.proofs.Found.Labels.{NeedsLine, line_core, packet_core}
+use Rattle.dm_onekernel.specs.Pieces as pieces
+use Rattle.dm_onekernel.specs.Step as kernel
+use Rattle.dm_rule.specs.Rule as rule
 
 -- the next message of the acting machine's kernel
 pub record NeedsOwn (n : ℕ) (pt : Point) (k : MessageKind) (q : Pid) (b : ℕ) : Type 0 where
@@ -46,12 +45,8 @@ routed_needs : (n : ℕ) (pt : Point) (i : MsgId) (m : PlainMessage) (o : Option
 routed_needs n pt i m None told there sane = NeedsPut.Routed (not_kernels sane.r sane.e pt.kernel i m there sane.sound) (plain_own m.what) told refl
 routed_needs n pt i m (Some u) told there sane = NeedsPut.Again u told refl
 
-bag_none : (pt : Point) (i : MsgId) (o : Option PlainMessage) → pt.kernel.bag i ≡ o → is_kernels i ≡ true → Sane pt → o ≡ None
-bag_none pt i None is own sane = refl
-bag_none pt i (Some x) is own sane = absurd (false≢true (sym (not_kernels sane.r sane.e pt.kernel i x is sane.sound) ∙ own))
-
 pub own_outside : (pt : Point) → Sane pt → pt.kernel.bag (own_id pt.view) ≡ None
-own_outside pt sane = bag_none pt (own_id pt.view) (pt.kernel.bag (own_id pt.view)) refl refl sane
+own_outside pt sane = search (arith, not_kernels)
 
 pub own_fresh : (pt : Point) → Sane pt → pt.view.told (own_id pt.view) ≡ None
 own_fresh pt sane = sane.numbered pt.view.acting (pt.view.count pt.view.acting) (omega arith)
@@ -110,13 +105,8 @@ pub record Same (v w : Point) : Type 0 where
   pub acting : w.view.acting ≡ v.view.acting
   pub known : (m : ℕ) (p : Pid) → w.view.known m p ≡ v.view.known m p
 
-again_put : (pt : Point) (b : ℕ) (i : MsgId) (k : MessageKind) (q : Pid) (t : Told) → pt.view.told i ≡ Some t → Same pt (moved pt (Line.Put pt.view.acting b i k q) pt.kernel)
-again_put pt b i k q t h1 = search (arith, pt.addresses, pt.kernel, pt.view, pt.view.count, i.from.home, not_first, pt.view.told)
-
 pub again_same : (pt next : Point) (i : MsgId) (b : ℕ) (ls : List Line) → lines_of pt (Again i b) ≡ Some ls → after pt ls ≡ Some next → Same pt next
-again_same pt next i b ls is leads =
-    let (t, told, last) = bind-is (pt.view.told i) (λ t. Some (puts pt.view b i t.kind t.receiver)) ls is in
-    by_puts (Same pt) pt next b i t.kind t.receiver ls (again_put pt b i t.kind t.receiver t told) (λ o x y z l h. record { kernel = h.kernel; addresses = h.addresses; own = h.own; acting = h.acting; known = h.known }) last leads
+again_same pt next i b ls is leads = search (arith, bind-is, pt.view.told, pt.view, by_puts, not_first)
 
 -- What each row of a turn needs: processes that run, messages of the bag, and messages of kernels.
 
@@ -126,14 +116,7 @@ drops_loose n [] = tt
 drops_loose n (i ∷ is) = (λ q. tt, drops_loose n is)
 
 stops_need : (n : ℕ) (pt : Point) (p : Pid) (queue : List MsgId) → KnowsAt pt.view p pt.view.acting → Stops (AllNeed n pt) p queue
-stops_need n pt p queue at = record {
-  over = tt;
-  replies = λ k r. first_need n pt (rule.says (Label.Call p k r)) [] at tt;
-  sends = λ id. first_need n pt (rule.says (Label.Send p id)) (Routes id ∷ []) at (λ q. tt, tt);
-  waits = first_need n pt (rule.says (Label.Wait p)) [] at tt;
-  outputs = λ word. first_need n pt (rule.says (Label.Out p word)) [] at tt;
-  ends = λ y. first_need n pt (rule.says (Label.End p y)) (rule.drop_parts queue) tt (drops_loose n queue);
-}
+stops_need n pt p queue at = search (arith, first_need, drops_loose)
 
 pub round_need : (n : ℕ) (pt : Point) (b : Boot) (o : Point) (m : ℕ) (q : Option Pid) (ps : List Part) → ((p : Pid) (x : PlainProcess) → q ≡ Some p → kernel.alive (o.kernel.processes p) ≡ Some x → KnowsAt pt.view p pt.view.acting) → rule.goes_round b o m q ≡ Some ps → AllNeed n pt ps
 round_need n pt b o m q ps at = by_round (AllNeed n pt) b o m q ps (first_need n pt (Says (Line.Idle m)) [] tt tt) (λ p x is alive. record {
@@ -163,27 +146,11 @@ to_one n k m gives none own le = ((λ pt. between_own n pt k m (gives pt) none o
 -- the answer to a request to move goes
 pub answers_need : (n : ℕ) (pt : Point) (l : Line) (i : MsgId) (r : Outcome) → NeedsLine n pt l
     → ((s : OneKernel) → kernel_after pt.kernel (label_of l) ≡ Some s → (q : Pid) → s.noted i ≡ Some q → KnowsAt (moved pt l s).view q (moved pt l s).view.acting) → AllNeed n pt (Says l ∷ answers_move i r)
-answers_need n pt l i r need knows = (
-  need,
-  λ ls next lines leads.
-      let g = said_by pt next l (record { lines = ls; are = lines; leads = leads }) in
-      let mid = moved pt l g.kernel in
-      subst (λ (z : Point). AllNeed n z (answers_move i r)) g.is (first_need n mid (rule.says (Label.Answered i r)) (Routes (pieces.answer_id i) ∷ []) (knows g.kernel g.step) (λ q. tt, tt)),
-)
+answers_need n pt l i r need knows = search (arith, said_by, first_need)
 
 -- a process is asked to move, and sets off
 asks_need : (n : ℕ) (pt : Point) (id : MsgId) (k : PlainMessage) (to : ℕ) → pt.kernel.bag id ≡ Some k → k.what ≡ PlainWhat.Move to → to < n → is_fixed k.to ≡ false → AllNeed n pt (rule.says (Label.Asked id) ∷ leaves_for k.to to)
-asks_need n pt id k to there what le free = (
-  tt,
-  λ ls next lines leads.
-      let l = Line.Label (Label.Asked id) in
-      let g = said_by pt next l (record { lines = ls; are = lines; leads = leads }) in
-      let mid = moved pt l g.kernel in
-      let topic : machine_in (pt.kernel.bag id) ≡ Target to = ap machine_in there ∙ ap move_target what in
-      let aims : aim mid.view (machine_in (pt.kernel.bag id)) < n = subst (λ (a : About). aim mid.view a < n) (sym topic) le in
-      subst (λ (z : Point). AllNeed n z (leaves_for k.to to)) g.is
-      (first_need n mid (Says (Line.Migration Stage.Frozen k.to)) (Says (Line.Migration Stage.Asked k.to) ∷ to_kernel MessageKind.Ask to ∷ []) (aims, free) (λ q. tt, to_one n MessageKind.Ask to (λ q. refl) (λ e. cc) refl le)),
-)
+asks_need n pt id k to there what le free = search (arith, said_by, pt.kernel.bag, k.to, first_need, to_one)
 
 -- where a message goes that asks its receiver to move
 abbrev pub Moves : ℕ → PlainMessage → Type 0
@@ -214,10 +181,6 @@ accepts_need : (n : ℕ) (pt : Point) (from : ℕ) (p : Pid) (c : Bool) (slots b
 accepts_need n pt from p true slots blocks le front = first_need n pt (Says (Line.Migration Stage.Accepted p)) (to_kernel MessageKind.PullState from ∷ []) front (to_one n MessageKind.PullState from (λ q. refl) (λ e. cc) refl le)
 accepts_need n pt from p false slots blocks le front = first_need n pt (Says (Line.Lacks p slots blocks)) (to_kernel MessageKind.Refuse from ∷ []) tt (to_one n MessageKind.Refuse from (λ q. refl) (λ e. cc) refl le)
 
-chunk_need : (n : ℕ) (pt : Point) (id : MsgId) (p : Pid) (c : Bool) → id.from.home < n → AllNeed n pt (takes_chunk id p c)
-chunk_need n pt id p true le = first_need n pt (Says (Line.Migration Stage.StateTaken p)) (to_kernel MessageKind.PullBlock id.from.home ∷ []) tt (to_one n MessageKind.PullBlock id.from.home (λ q. refl) (λ e. cc) refl le)
-chunk_need n pt id p false le = first_need n pt (Says (Line.Proto id)) (to_kernel MessageKind.PullState id.from.home ∷ []) tt (to_one n MessageKind.PullState id.from.home (λ q. refl) (λ e. cc) refl le)
-
 block_need : (n : ℕ) (pt : Point) (id : MsgId) (p : Pid) (c : Bool) → id.from.home < n → AllNeed n pt (takes_block id p c)
 block_need n pt id p true le = first_need n pt (Says (Line.Migration Stage.MemoryTaken p)) (to_kernel MessageKind.AllTaken id.from.home ∷ []) tt (to_one n MessageKind.AllTaken id.from.home (λ q. refl) (λ e. cc) refl le)
 block_need n pt id p false le = first_need n pt (Says (Line.Proto id)) (to_kernel MessageKind.PullBlock id.from.home ∷ []) tt (to_one n MessageKind.PullBlock id.from.home (λ q. refl) (λ e. cc) refl le)
@@ -235,22 +198,17 @@ asker_need n pt l (Some z) r need knows = answers_need n pt l z.id r need (knows
 
 -- a process that follows a request stays here
 comes_here : (v w : View) (p q : Pid) → w.known ≡ at_record v.known v.acting p Here → w.acting ≡ v.acting → is_fixed p ≡ false → p ≡ q → KnowsAt w q w.acting
-comes_here v w p q known acting free same =
-    let here : w.known w.acting p ≡ Here = ap (λ (m : ℕ). w.known m p) acting ∙ ap (λ (f : ℕ → Pid → Known). f v.acting p) known ∙ at_record_at v.known v.acting p Here in
-    subst (λ (x : Pid). KnowsAt w x w.acting) same (inr (free, λ e. (let f : Here ≡ Unknown = sym here ∙ e in cc)))
+comes_here v w p q known acting free same = search (arith, w.known, w.acting, v.acting, at_record_at, v.known)
 
 noted_same : (s t : OneKernel) (z : MoveNote) (p q : Pid) → Some s ≡ Some t → s.noted z.id ≡ Some p → t.noted z.id ≡ Some q → p ≡ q
-noted_same s t z p q e f g =
-    let same : s ≡ t = cc in
-    let k : Some p ≡ Some q = sym f ∙ ap (λ (u : OneKernel). u.noted z.id) same ∙ g in
-    cc
+noted_same s t z p q e f g = search (arith, z.id)
 
 told_need : (n : ℕ) (pt o : Point) (m : ℕ) (id : MsgId) (p : Pid) (room : Bool × ℕ × ℕ) (x : PlainProcess) (k : MessageKind) → (is_between k ≡ true → Heard n pt o m id p k) → NeedOf n pt (told_step o m id p room x (sort_of k))
 told_need n pt o m id p room x MessageKind.Ask h = accepts_need n pt id.from.home p room.0 room.1 room.2 (h refl).0 (h refl).1
 told_need n pt o m id p room x MessageKind.Refuse h =
     asker_need n pt (Line.Stays p) (o.kernel.notes p) Outcome.Stayed tt (λ z e s step q noted. comes_here pt.view (moved pt (Line.Stays p) s).view p q refl refl (h refl).1.1 (noted_same pt.kernel s z p q step ((h refl).2 z e) noted))
 told_need n pt o m id p room x MessageKind.PullState h = first_need n pt (Says (Line.Proto id)) (to_kernel MessageKind.State id.from.home ∷ []) tt (to_one n MessageKind.State id.from.home (λ q. refl) (λ e. cc) refl (h refl).0)
-told_need n pt o m id p room x MessageKind.State h = chunk_need n pt id p (o.view.asked p == chunks_of x) (h refl).0
+told_need n pt o m id p room x MessageKind.State h = search (arith, first_need, to_one)
 told_need n pt o m id p room x MessageKind.PullBlock h = first_need n pt (Says (Line.Proto id)) (to_kernel MessageKind.Memory id.from.home ∷ []) tt (to_one n MessageKind.Memory id.from.home (λ q. refl) (λ e. cc) refl (h refl).0)
 told_need n pt o m id p room x MessageKind.Memory h = block_need n pt id p (o.view.asked p == pieces_of x) (h refl).0
 told_need n pt o m id p room x MessageKind.AllTaken h = (h refl).3 refl
@@ -293,16 +251,13 @@ process_told_need : (n : ℕ) (pt o : Point) (m : ℕ) (id : MsgId) (t : Told) (
 process_told_need n pt o m id t Unknown at le front forwards = tt
 process_told_need n pt o m id t Here at le front forwards = here_told_need n pt o m id t t.kind le front
 process_told_need n pt o m id t (Forward to c) at le front forwards = forwards to c refl
-process_told_need n pt o m id t Ended at le front forwards = ended_told_need n pt id t.kind
+process_told_need n pt o m id t Ended at le front forwards = search (arith, t.kind)
 process_told_need n pt o m id t _ at le front forwards = first_need n pt (Says (Line.Held id)) [] at tt
 
 -- by whom it is for
 by_receiver : (n : ℕ) (pt : Point) (q : Pid) (c d e : Bool) (x y z w : Option (List Part)) → (q.num == 0) ≡ c → pid_eq q switchboard ≡ d → pid_eq q manager ≡ e → NeedOf n pt x → NeedOf n pt y → NeedOf n pt z → (is_fixed q ≡ false → NeedOf n pt w)
     → NeedOf n pt (if c then x else if d then y else if e then z else w)
-by_receiver n pt q true d e x y z w is_c is_d is_e h j k l = h
-by_receiver n pt q false true e x y z w is_c is_d is_e h j k l = j
-by_receiver n pt q false false true x y z w is_c is_d is_e h j k l = k
-by_receiver n pt q false false false x y z w is_c is_d is_e h j k l = l (ap (λ (b : Bool). b || (pid_eq q switchboard || pid_eq q manager)) is_c ∙ ap (λ (b : Bool). b || pid_eq q manager) is_d ∙ is_e)
+by_receiver n pt q c d e x y z w h1 h2 h3 h4 h5 h6 h7 = search arith
 
 pub told_by_need : (n : ℕ) (pt : Point) (b : Boot) (o : Point) (m : ℕ) (id : MsgId) (t : Told) → Front pt id → target_of (Some t) < n → aim pt.view pt.view.topic < n
     → ((p : Pid) → t.about ≡ Of p → is_between t.kind ≡ true → Heard n pt o m id p t.kind)

@@ -1,21 +1,16 @@
 -- Whom addresses are of is a kernel or a server of a machine that there is, or a process that its home knows.
-use Rattle.dm_rulelaws.proofs.Names.{◌≡◌, ◌⊎◌, ℕ, zero, suc, ◌<◌, ◌≤◌, ◌==◌, ◌||◌, Bool, true, false, is_some, nat_le, nat_lt, List, [], ◌∷◌, refl, ap, ◌∙◌, sym, subst, inl, inr, arith, if◌then◌else◌, slice_get, Option, None, Some}
-use Rattle.dm_rulelaws.proofs.Names.{nat_tests, Pid, pid_eq, PlainLink, link_at, MsgId, PlainMessage, PlainWhat, switchboard, manager, PlainProcess, Life, Pending, OneKernel, Made, alive-is, View, Holder, Slot, Owner, Receiver, Sender}
-use Rattle.dm_rulelaws.proofs.Names.{Enclosed, Child, Name, Answer, link_target, slot_of, owner_of, answer_link, links_in, to_of, sender_of, names, Point, Each, has_bytes, is_server, LinkFits, WhatFits, awaits, is_fixed, or_first, SlotFits}
-use Rattle.dm_rulelaws.proofs.Names.{PendingFits, MoveNote, AskedBy, asker_in}
+use Rattle.dm_rulelaws.proofs.Names.{◌≡◌, ◌⊎◌, ℕ, zero, suc, ◌<◌, ◌==◌, ◌||◌, Bool, true, false, is_some, nat_lt, List, [], ◌∷◌, refl, ap, ◌∙◌, sym, subst, inl, inr, arith, if◌then◌else◌, slice_get, Option, None, Some}
+use Rattle.dm_rulelaws.proofs.Names.{nat_tests, Pid, pid_eq, PlainLink, link_at, MsgId, PlainMessage, PlainWhat, switchboard, manager, PlainProcess, Life, Pending, Made, alive-is, View, Holder, Slot, Owner, Receiver, Sender}
+use Rattle.dm_rulelaws.proofs.Names.{Enclosed, Child, Name, Answer, link_target, slot_of, owner_of, answer_link, to_of, sender_of, names, Point, Each, has_bytes, is_server, LinkFits, WhatFits, awaits, is_fixed, or_first}
+use Rattle.dm_rulelaws.proofs.Names.{MoveNote, AskedBy, asker_in}
 use Rattle.dm_onekernel.specs.Manager as manage
 use Rattle.dm_onekernel.specs.Step as kernel
 use Rattle.dm_rulelaws.proofs.Fits.Rises.{both, slot_link}
 use Rattle.dm_rulelaws.proofs.Found.Core.{IsReal, LineCore, Core, lines_of_core}
 use Rattle.dm_rulelaws.proofs.Found.Lists.{Sends}
 
--- a process that was made has a number of its own
-made_number : (q : Pid) → nat_le 3 q.num ≡ true → is_fixed q ≡ false
-made_number q e = let le : 3 ≤ q.num = grind (arith, nat_tests) in let server : (pid_eq q switchboard || pid_eq q manager) ≡ false = grind (arith, nat_tests) in let zero_ : (q.num == 0) ≡ false = grind (arith, nat_tests) in
-    ap (λ (c : Bool). c || is_server q) zero_ ∙ server
-
 pub made_free : (pt : Point) (q : Pid) → Made pt.kernel → is_some (pt.kernel.processes q) ≡ true → is_fixed q ≡ false
-made_free pt q h some = made_number q (h.least q some)
+made_free pt q h some = search arith
 
 made_real : (pt : Point) (n : ℕ) (q : Pid) → LineCore n pt → is_some (pt.kernel.processes q) ≡ true → IsReal n pt.view q
 made_real pt n q h some = inr (h.home q some)
@@ -57,10 +52,6 @@ each_get P [] k x h e = cc
 each_get P (y ∷ ys) zero x h e = let f : y ≡ x = cc in subst P f h.0
 each_get P (y ∷ ys) (suc k) x h e = each_get P ys k x h.1 e
 
-pub each_child : (P : Pid → Type 0) (ps : List Pid) (k : ℕ) (p : Pid) → Each P ps → manage.child_numbered ps k ≡ Some p → P p
-each_child P ps zero p h e = cc
-each_child P ps (suc k) p h e = each_get P ps k p h e
-
 each_pending : (P : Pending → Type 0) (rs : List Pending) (k : ℕ) (r : Pending) → Each P rs → manage.pending_numbered k rs ≡ Some r → P r
 each_pending P [] k r h e = cc
 each_pending P (x ∷ xs) k r h e = by (x.n == k) (each_pending P xs k r h.1) e
@@ -95,15 +86,8 @@ sender_real : (pt : Point) (n : ℕ) (i : MsgId) (q : Pid) (o : Option PlainMess
 sender_real pt n i q None h is e = cc
 sender_real pt n i q (Some m) h is e = let f : m.sender ≡ q = cc in subst (IsReal n pt.view) f (sends_real pt n m.sender h (h.senders i m is))
 
-links_fit : (s : OneKernel) (i : MsgId) (m : PlainMessage) (x : PlainWhat) → WhatFits s i m x → Each (LinkFits s.processes) (links_in x)
-links_fit s i m x h1 = search arith
-
 answer_real : (pt : Point) (n k : ℕ) (q : Pid) (o : Option Pending) → LineCore n pt → 0 < n → manage.pending_numbered k pt.kernel.manager.pending ≡ o → link_target (answer_link o) ≡ Some q → IsReal n pt.view q
-answer_real pt n k q None h some is e = cc
-answer_real pt n k q (Some r) h some is e =
-    let (l, at, to) = link_there r.answer q e in
-    let fits : SlotFits pt.kernel.processes (Some l) = subst (SlotFits pt.kernel.processes) at (each_pending (PendingFits pt.kernel.processes) pt.kernel.manager.pending k r h.fits.answers is).answer in
-    subst (IsReal n pt.view) to (link_real pt n l h some fits)
+answer_real pt n k q o h1 h2 h3 h4 = search (arith, link_there, pt.kernel.processes, each_pending, pt.kernel.manager.pending, pt.view, link_real)
 
 asker_real : (pt : Point) (n : ℕ) (p q : Pid) (o : Option MoveNote) → LineCore n pt → 0 < n → pt.kernel.notes p ≡ o → asker_in o ≡ Some q → IsReal n pt.view q
 asker_real pt n p q None h some is e = cc
@@ -112,7 +96,7 @@ asker_real pt n p q (Some z) h some is e =
     subst (IsReal n pt.view) (sym (h.fits.notes p z is).asker ∙ f) (server_real n pt.view manager some refl)
 
 pub child_real : (pt : Point) (n k : ℕ) (q : Pid) → LineCore n pt → names pt.kernel (Child k) ≡ Some q → IsReal n pt.view q
-child_real pt n k q h e = has_real pt n 0 q h (each_child (λ (p : Pid). has_bytes 0 (pt.kernel.processes p) ≡ true) pt.kernel.manager.children k q h.fits.children e)
+child_real pt n k q h e = search (arith, has_real, pt.kernel.processes, pt.kernel.manager.children, h.fits.children, each_get)
 
 named_by : (pt : Point) (n : ℕ) (g : Holder) (q : Pid) → LineCore n pt → names pt.kernel g ≡ Some q → IsReal n pt.view q
 named_by pt n g q h e = by g e
@@ -125,7 +109,7 @@ named_by pt n g q h e = by g e
     by (Owner p) f = owner_real pt n p q (kernel.alive (pt.kernel.processes p)) h refl f
     by (Receiver i) f = receiver_real pt n i q (pt.kernel.bag i) h some refl f
     by (Sender i) f = sender_real pt n i q (pt.kernel.bag i) h refl f
-    by (Enclosed i k) f = search (arith, link_there, pt.view, link_real, each_get, pt.kernel.processes, links_fit, pt.kernel)
+    by (Enclosed i k) f = search (arith, link_there, pt.view, link_real, each_get, pt.kernel.processes, pt.kernel)
     by (Child k) f = child_real pt n k q h f
     by (Name k) f = search (arith, pt.view, link_real, each_get, pt.kernel.processes, pt.kernel.switchboard.names)
     by (AskedBy p) f = asker_real pt n p q (pt.kernel.notes p) h some refl f

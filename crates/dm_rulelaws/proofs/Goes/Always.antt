@@ -1,5 +1,5 @@
 -- Wherever all of it holds, each directive has its group.
-use Rattle.dm_rulelaws.proofs.Names.{◌≡◌, ◌≢◌, ℕ, ◌+◌, ◌≤◌, ◌==◌, ◌&&◌, ◌||◌, Bool, true, false, not, List, [], ◌∷◌, refl, ap, ◌∙◌, sym, is_some, inl, inr, arith, ⊤, if◌then◌else◌, slice_get, Option, None, Some, false≢true, Pid, pid_eq}
+use Rattle.dm_rulelaws.proofs.Names.{◌≡◌, ◌≢◌, ℕ, ◌+◌, ◌≤◌, ◌==◌, ◌&&◌, ◌||◌, Bool, true, false, not, List, [], ◌∷◌, refl, ap, ◌∙◌, sym, is_some, inl, inr, arith, ⊤, if◌then◌else◌, Option, None, Some, false≢true, Pid, pid_eq}
 use Rattle.dm_rulelaws.proofs.Names.{MsgId, PlainMessage, Boot, IsValid, Step, Line, MessageKind, child_from, child_number, migrates, Point, moved, Spelled, group_of, Spot, Queue, Inbox, standing, StandsOutside, Told, Target, is_kernels}
 use Rattle.dm_rulelaws.proofs.Names.{IsStep, arrives_net, resends_net, stands_right, StandsAsBag-elsewhere, Each, has_bytes, is_server, is_fixed, Life, OneKernel, pid_eq-is, cases_Bool, by_migrates, rooted}
 pub use Rattle.dm_rule.proofs.Moves.States.{front_one as stands_first}
@@ -104,10 +104,7 @@ group_by b pt d c = record { goes = goes (CalmFor pt d) b pt d c.ps c.is c.does;
 pub group_on : (b : Boot) (pt : Point) (d : Step) → Run b pt → OwnTold pt → Group b pt d
 group_on b pt (Step.Turn m) h own = group_by b pt (Step.Turn m) (can_turn_by b m pt (pt.view.inbox m) refl h own)
 group_on b pt (Step.Tick m) h own = search (arith, pt.view, group_by, can_net, resends_net)
-group_on b pt (Step.Deliver a c k) h own =
-    let q = moved pt (Line.Head (Step.Deliver a c k)) pt.kernel in
-    let there = slice_get (pt.view.pair a c).wire k in
-    group_by b pt (Step.Deliver a c k) (can_net ⊤ c q (rule.arrives a c (pt.view.pair a c) (pt.view.pair c a) there) (arrives_net a c (pt.view.pair a c) (pt.view.pair c a) there))
+group_on b pt (Step.Deliver a c k) h own = search (arith, group_by, can_net, arrives_net)
 group_on b pt (Step.Migrate p m) h own =
     let q = moved pt (Line.Head (Step.Migrate p m)) pt.kernel in
     group_by b pt (Step.Migrate p m) (can_plain ⊥ 0 q (migrates pt p) (λ c. c) (by_migrates (ArePlain q.view) pt p (refl, tt) (refl, tt) (λ n off is. (tt, tt))) (migrates_own b pt p m h))

@@ -1,17 +1,17 @@
 -- The message at the front of the inbox: what it is for whom.
-use Rattle.dm_rulelaws.proofs.Names.{◌≡◌, ℕ, ◌≤◌, ◌==◌, ◌||◌, Bool, true, false, List, [], ◌∷◌, refl, ap, ◌∙◌, sym, subst, is_some, arith, Option, None, Some, Pid, pid_eq, MsgId, id_eq, plain_kind, Step, Line, PlainMessage, PlainWhat, Boot}
-use Rattle.dm_rulelaws.proofs.Names.{switchboard, manager, OneKernel, with_sent, answer_id, answer_to, Made, id_eq-same, pid_eq-same, sent_at, Point, moved, Inbox, times, standing, View, Told, Sane, has_bytes, is_server, WhatFits, is_fixed}
-use Rattle.dm_rulelaws.proofs.Names.{are_home, Part, is_still, is_here, bind, Label, MoveNote, Outcome, without_note, false≢true, Routes, answers_move, sort_of}
-use Rattle.dm_onekernel.specs.Service as service
-use Rattle.dm_onekernel.specs.Step as kernel
-use Rattle.dm_rule.specs.Rule as rule
-use Rattle.dm_rule.specs.View as view
+use Rattle.dm_rulelaws.proofs.Names.{◌≡◌, ℕ, ◌≤◌, ◌==◌, true, false, List, [], ◌∷◌, refl, ap, ◌∙◌, sym, subst, is_some, arith, Option, None, Some, Pid, pid_eq, MsgId, id_eq, plain_kind, Step, Line, PlainMessage, PlainWhat, Boot}
+use Rattle.dm_rulelaws.proofs.Names.{switchboard, manager, OneKernel, with_sent, answer_id, answer_to, Made, id_eq-same, pid_eq-same, sent_at, Point, moved, Inbox, times, standing, View, Told, Sane, is_server, WhatFits, is_fixed, are_home}
+use Rattle.dm_rulelaws.proofs.Names.{Part, is_still, is_here, bind, Label, MoveNote, Outcome, without_note, false≢true, Routes, answers_move, sort_of}
 use Rattle.dm_rulelaws.proofs.Goes.Parts.{does_label, Does, does_nothing, does_route, sane_by, Can}
 use Rattle.dm_rulelaws.proofs.Based.Noted.{Away}
 use Rattle.dm_rulelaws.proofs.Runs.{Run}
 use Rattle.dm_rulelaws.proofs.Goes.Turns.{Droppable}
 use Rattle.dm_rulelaws.proofs.Found.Real.{has_some, waits_some}
 use Rattle.dm_rulelaws.proofs.Order.Lines.{Last}
+use Rattle.dm_onekernel.specs.Service as service
+use Rattle.dm_onekernel.specs.Step as kernel
+use Rattle.dm_rule.specs.Rule as rule
+use Rattle.dm_rule.specs.View as view
 
 -- behind the head of a turn
 abbrev pub begun : Point → ℕ → Point
@@ -41,9 +41,6 @@ pub record Front (b : Boot) (m : ℕ) (o : Point) (i : MsgId) (x : PlainMessage)
   pub unqueued : (n : ℕ) (p : Pid) → times i (o.view.queue n p) ≡ 0
   pub drops : (q : Pid) → Droppable o.kernel q (o.view.queue m q)
   pub run : Run b o
-
-pub made_of : (b : Boot) (m : ℕ) (o : Point) (i : MsgId) (x : PlainMessage) → Front b m o i x → Made o.kernel
-made_of b m o i x f = f.run.based.phased.sane.sound.made
 
 pub name_of : (b : Boot) (m : ℕ) (o : Point) (i : MsgId) (x : PlainMessage) → Front b m o i x → x.id ≡ i
 name_of b m o i x f = f.run.based.phased.sane.sound.entered.named i x f.there
@@ -88,12 +85,8 @@ pub data ForWhom (s : OneKernel) (x : PlainMessage) (w : PlainWhat) : Type 0 whe
   ForProcess : (made : is_some (s.processes x.to) ≡ true) → ForWhom s x w
   ForOther : (other : ForOthers x w) → ForWhom s x w
 
-user_for : (s : OneKernel) (x : PlainMessage) (w : PlainWhat) (c : Bool) → is_server x.to ≡ c → (c || has_bytes 0 (s.processes x.to)) ≡ true → (is_server x.to ≡ true → ForOthers x w) → ForWhom s x w
-user_for s x w true e h f = ForOther (f e)
-user_for s x w false e h f = ForProcess (has_some 0 (s.processes x.to) h)
-
 pub for_whom : (s : OneKernel) (i : MsgId) (x : PlainMessage) (w : PlainWhat) → WhatFits s i x w → ForWhom s x w
-for_whom s i x w h1 = search (arith, user_for, x.to, has_some, s.processes, waits_some, i.from, i.n)
+for_whom s i x w h1 = search (arith, x.to, has_some, s.processes, waits_some, i.from, i.n)
 
 -- a message for a kernel, for the switchboard, for the manager
 pub process_not_kernel : (s : OneKernel) (p : Pid) → is_some (s.processes p) ≡ true → (p.num == 0) ≡ true → Made s → false ≡ true

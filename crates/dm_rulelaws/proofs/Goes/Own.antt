@@ -4,15 +4,15 @@ use Rattle.dm_rulelaws.proofs.Names.{pid_eq, MsgId, MessageKind, Line, Stage, Bo
 use Rattle.dm_rulelaws.proofs.Names.{accepts, takes_chunk, takes_block, gives_piece, told_step, chunks_of, pieces_of, updates, told_here, told_ended, process_told, told_server, sends_on, fits, free_room, kernel_hears, hears, is_between}
 use Rattle.dm_rulelaws.proofs.Names.{is_restart, kind_comes, knows, is_away, Moves, sender_in, receiver_in, told_between, IsIn, Point, Part, Says, Spot, Queue, Held, Inbox, times, standing, token_is, token_at, is_server, is_fixed, first_of}
 use Rattle.dm_rulelaws.proofs.Names.{eq_self, inbox_is, about_same, kind_leaves, Label, MoveNote, Outcome, label_of, with_label, is_put, moved, answers_move, tells_asker, agrees, sort_of, leaves_for}
-use Rattle.dm_onekernel.specs.Service as service
-use Rattle.dm_onekernel.specs.Step as kernel
-use Rattle.dm_rule.specs.Migrating as migrating
-use Rattle.dm_rule.specs.Rule as rule
 use Rattle.dm_rulelaws.proofs.Runs.{Run}
 use Rattle.dm_rulelaws.proofs.Own.Told.{OwnTold, own_sort, own_between, own_server, NoOwns, ThenOwns, forwarded_place, forwards_own, accepts_own, piece_own, chunk_own, block_own, moves_own, sends_own}
 use Rattle.dm_rulelaws.proofs.Goes.Parts.{ArePlain, Can, can_as, can_plain, does_line, Quiet, no_receive}
 use Rattle.dm_rulelaws.proofs.Goes.Front.{begun, Calm, CanTurn, does_answers}
 use Rattle.dm_rulelaws.proofs.Goes.Process.{forwards_plain}
+use Rattle.dm_onekernel.specs.Service as service
+use Rattle.dm_onekernel.specs.Step as kernel
+use Rattle.dm_rule.specs.Migrating as migrating
+use Rattle.dm_rule.specs.Rule as rule
 
 -- it was told of
 pub record FrontOwn (b : Boot) (m : ℕ) (o : Point) (i : MsgId) : Type 0 where
@@ -57,13 +57,10 @@ pub record Coming (b : Boot) (m : ℕ) (o : Point) (p : Pid) (k : MessageKind) :
 coming_alive : (s : ℕ) (n : Known) (o : Option Life) → kind_comes MessageKind.Restart s n ≡ true → agrees n o ≡ true → IsAlive o
 coming_alive s n o h1 h2 = search arith
 
-frozen_alive : (k : MessageKind) (d : ℕ) (n : Known) (o : Option Life) → kind_leaves k d n ≡ true → is_restart k ≡ false → agrees n o ≡ true → IsAlive o
-frozen_alive k d n o h1 h2 h3 = search arith
-
 moving_server : (c : Bool) (s d : ℕ) (k : MessageKind) (b : Boot) (m : ℕ) (o : Point) (p : Pid) (r : Bool) → is_server p ≡ c → is_restart k ≡ r → Run b o → (s == d) ≡ false → kind_leaves k d (o.view.known s p) ≡ true → (is_restart k ≡ true → kind_comes MessageKind.Restart s (o.view.known d p) ≡ true) → IsAlive (o.kernel.processes p)
 moving_server true s d k b m o p r server restart run off leave come = absurd (false≢true (sym (server_leaves k d (s == 0)) ∙ sym (ap (kind_leaves k d) (run.based.known.server s p server)) ∙ leave))
 moving_server false s d k b m o p true server restart run off leave come = coming_alive s (o.view.known d p) (o.kernel.processes p) (come restart) (run.based.known.agree d p server)
-moving_server false s d k b m o p false server restart run off leave come = frozen_alive k d (o.view.known s p) (o.kernel.processes p) leave restart (run.based.known.agree s p server)
+moving_server false s d k b m o p false server restart run off leave come = search (arith, o.view.known s p, o.kernel.processes p, run.based.known.agree s p server)
 
 pub is_it : (k : MessageKind) → is_restart k ≡ true → k ≡ MessageKind.Restart
 is_it MessageKind.Restart e = refl

@@ -1,15 +1,15 @@
 -- Parts that can be said: labels are steps of the kernel, and other lines change nothing of it.
-use Rattle.dm_rulelaws.proofs.Names.{after_line, ◌≡◌, ℕ, ◌==◌, not, filter, arith, Bool, true, false, List, [], ◌∷◌, ◌++◌, length, refl, ap, ◌∙◌, sym, subst, is_some, ⊤, if◌then◌else◌, Option, None, Some, Pid, MsgId, MessageKind, id_eq}
+use Rattle.dm_rulelaws.proofs.Names.{after_line, ◌≡◌, ℕ, ◌==◌, not, filter, arith, Bool, true, false, List, [], ◌∷◌, ◌++◌, length, refl, ap, ◌∙◌, sym, subst, is_some, ⊤, if◌then◌else◌, Option, None, Some, Pid, MsgId, MessageKind}
 use Rattle.dm_rulelaws.proofs.Names.{plain_kind, PlainMessage, Boot, Label, OneKernel, bind, Step, Line, Load, View, Told, view_after, own_id, Receiver, Point, labels, with_label, label_of, kernel_after, after, moved, Part, Says, Routes}
-use Rattle.dm_rulelaws.proofs.Names.{Again, Owns, Transmits, Spelled, lines_of, puts, packet_line, behind, spelled, group_of, outcome, Pair, counts, IsNetLine, IsNet, is_put, hushed, Sane, sane_line, part_sane, IsUnasked, AskNone, seen}
-use Rattle.dm_rulelaws.proofs.Names.{topic_by, seen_none}
-use Rattle.dm_onekernel.specs.Step as kernel
-use Rattle.dm_rule.specs.View as view
-use Rattle.dm_rule.specs.Rule as rule
+use Rattle.dm_rulelaws.proofs.Names.{Again, Owns, Transmits, Spelled, lines_of, puts, packet_line, behind, spelled, group_of, outcome, Pair, counts, IsNetLine, IsNet, is_put, hushed, Sane, sane_line, part_sane, AskNone, seen, topic_by}
+use Rattle.dm_rulelaws.proofs.Names.{seen_none}
 use Rattle.dm_rulelaws.proofs.Order.Lines.{thin_same, box_same, Which, Ord, ord_view, ord_label, Last}
 use Rattle.dm_rulelaws.proofs.Queued.{is_user}
 use Rattle.dm_rulelaws.proofs.Order.Puts.{thin_pair, ord_put, ord_taken}
 use Rattle.dm_rulelaws.proofs.Own.Told.{HaveNoOwn, OwnsFit, NoOwns}
+use Rattle.dm_onekernel.specs.Step as kernel
+use Rattle.dm_rule.specs.View as view
+use Rattle.dm_rule.specs.Rule as rule
 
 -- the labels that parts say
 abbrev pub part_says : Part → List Label → List Label
@@ -29,14 +29,9 @@ abbrev pub AsksNone : List Label → Type 0
 AsksNone [] = ⊤
 AsksNone (l ∷ ls) = NoAsk l × AsksNone ls
 
-unasked_with : (o : Option Label) (ls : List Label) → IsUnasked o → AsksNone ls → AsksNone (with_label o ls)
-unasked_with None ls h k = k
-unasked_with (Some (Label.Asked i)) ls h k = absurd h
-unasked_with (Some _) ls h k = (tt, k)
-
 pub unasked : (ls : List Line) → AskNone ls → AsksNone (labels ls)
 unasked [] h = tt
-unasked (l ∷ ls) h = unasked_with (label_of l) (labels ls) h.0 (unasked ls h.1)
+unasked (l ∷ ls) h = search (arith, label_of l, labels ls, unasked ls h.1, h.0)
 
 -- the parts can be said, and under some condition they keep the order in which messages were sent
 abbrev pub KeepsOrder : Point → Point → Type 0
@@ -48,13 +43,8 @@ pub record Does (C : Type 0) (pt : Point) (ps : List Part) : Type 0 where
   pub says : labels w.lines ≡ said ps
   pub order : C → AsksNone (said ps) → Sane pt → KeepsOrder pt w.point
 
--- labels behind a part
-with_tail : (o : Option Label) (ls : List Label) → AsksNone (with_label o ls) → AsksNone ls
-with_tail None ls h = h
-with_tail (Some l) ls h = h.1
-
 part_tail : (p : Part) (ls : List Label) → AsksNone (part_says p ls) → AsksNone ls
-part_tail (Says l) ls h = with_tail (label_of l) ls h
+part_tail (Says l) ls h = search arith
 part_tail _ ls h = h
 
 pub does_nothing : (C : Type 0) (pt : Point) → Does C pt []
@@ -114,13 +104,8 @@ pub record Puts (pt : Point) (ls : List Line) : Type 0 where
   pub says : (zs : List Line) → labels (ls ++ zs) ≡ labels zs
   pub keeps : (l : Line) (more : List Line) → ls ≡ l ∷ more → (k : Which) → Ord k pt.kernel (view_after pt.view l) → Ord k q.kernel q.view
 
--- what was told of stays told of
-put_if : (c : Bool) (o n : Option Told) → is_some n ≡ true → is_some o ≡ true → is_some (if c then n else o) ≡ true
-put_if true o n new old = new
-put_if false o n new old = old
-
 pub told_on : (v : View) (l : Line) (i : MsgId) → is_some (v.told i) ≡ true → is_some ((view_after v l).told i) ≡ true
-told_on v (Line.Put a b j k q) i h = put_if (id_eq j i) (v.told i) (Some (view.first_told (v.told j) (record { kind = k; receiver = q; about = v.topic }))) refl h
+told_on v (Line.Put a b j k q) i h = search (arith, v.topic)
 told_on v any_ i h = ap (λ (f : MsgId → Option Told). is_some (f i)) (hushed v any_ refl).told ∙ h
 
 seen_topic : (pt : Point) (l : Line) → label_of l ≡ None → (moved pt l pt.kernel).view.topic ≡ (view_after pt.view l).topic

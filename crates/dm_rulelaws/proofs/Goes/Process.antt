@@ -1,8 +1,8 @@
 -- A message for a process at the front of the inbox can be handled.
 use Rattle.dm_rulelaws.proofs.Names.{◌≡◌, ◌≢◌, ℕ, ◌+◌, ◌≤◌, ◌==◌, ◌&&◌, ◌||◌, Bool, true, false, ◌∷◌, length, refl, ap, ◌∙◌, sym, subst, is_some, nat_le, arith, if◌then◌else◌, take, drop, Option, None, Some, false≢true, Pid, pid_eq, MsgId}
 use Rattle.dm_rulelaws.proofs.Names.{MessageKind, Label, Reply, Line, id_eq, plain_kind, PlainMessage, PlainWhat, Direction, Boot, Why, switchboard, manager, bind, PlainProcess, PlainStatus, Moving, Life, Alive, Ended, OneKernel}
-use Rattle.dm_rulelaws.proofs.Names.{with_process, with_sent, answer_id, answer_to, without_message, is_dropped, is_of_memory, id_eq-is, out_off, LandsSo, lands-is, Addresses, Sender, is_told_back, forwards_on, Point, moved, Says, Routes}
-use Rattle.dm_rulelaws.proofs.Names.{Owns, times, View, Known, has_bytes, is_server, awaits, status_awaits, move_fits, piece_fits, WhatFits, is_fixed, agrees, is_still, handled, MoveNote, Outcome, with_note, id_eq-same, pid_eq-same}
+use Rattle.dm_rulelaws.proofs.Names.{with_process, with_sent, answer_id, answer_to, without_message, is_dropped, is_of_memory, id_eq-is, out_off, LandsSo, lands-is, Addresses, forwards_on, Point, moved, Says, Routes}
+use Rattle.dm_rulelaws.proofs.Names.{times, View, Known, has_bytes, is_server, awaits, status_awaits, move_fits, piece_fits, WhatFits, is_fixed, agrees, is_still, handled, MoveNote, Outcome, with_note, id_eq-same, pid_eq-same}
 use Rattle.dm_rulelaws.proofs.Names.{answers_move, leaves_for, []}
 use Rattle.dm_onekernel.specs.Pieces as pieces
 use Rattle.dm_onekernel.specs.Service as service
@@ -15,14 +15,12 @@ use Rattle.dm_rulelaws.proofs.Goes.Parts.{does_nothing, does_route, can_as, can_
 use Rattle.dm_rulelaws.proofs.Queued.{is_user}
 use Rattle.dm_rulelaws.proofs.Order.Lines.{Which, Ord}
 use Rattle.dm_rulelaws.proofs.Order.Puts.{ord_queued}
-use Rattle.dm_rulelaws.proofs.Goes.Turns.{drops_quiet, drops_own, droppable_on, does_drops, dropped_is, at_hand_of}
+use Rattle.dm_rulelaws.proofs.Goes.Turns.{drops_quiet, drops_own, droppable_on, does_drops, dropped_is}
 use Rattle.dm_rulelaws.proofs.Goes.Front.{begun, Calm, CanTurn, Front, name_of, told_receiver, is_manager, answer_there, sent_there, does_answers, here_free}
 
 -- a served message's step
 served_step_is : (s : OneKernel) (i : MsgId) (x : PlainMessage) (y : PlainProcess) (w : PlainWhat) (t : OneKernel) → s.bag i ≡ Some x → s.processes x.to ≡ Some (Alive y) → s.notes x.to ≡ None → x.what ≡ w → service.serves s i x y w ≡ Some t → kernel.step s (Label.Served i) ≡ Some t
-served_step_is s i x y w t there alive free is e =
-    ap (λ (o : Option PlainMessage). bind o (λ (v : PlainMessage). bind (kernel.at_hand s v.to) (λ (p : PlainProcess). service.serves s i v p v.what))) there
-    ∙ ap (λ (o : Option PlainProcess). bind o (λ (p : PlainProcess). service.serves s i x p x.what)) (at_hand_of s x.to y free alive) ∙ ap (service.serves s i x y) is ∙ e
+served_step_is s i x y w t there alive free is e = search arith
 
 -- stop, resume
 can_set : (b : Boot) (m : ℕ) (o : Point) (i : MsgId) (x : PlainMessage) (y z : PlainProcess) (w : PlainWhat) → x.what ≡ w → o.kernel.processes x.to ≡ Some (Alive y) → o.kernel.notes x.to ≡ None → Front b m o i x → service.serves o.kernel i x y w ≡ Some (service.changed o.kernel i x z)
@@ -105,9 +103,7 @@ queued_order b m o i x f home k q =
 -- a process is asked to move: it is there already, or sets off
 asked_is : (s : OneKernel) (i : MsgId) (x : PlainMessage) (y : PlainProcess) (to : ℕ) → s.bag i ≡ Some x → s.processes x.to ≡ Some (Alive y) → s.notes x.to ≡ None → x.what ≡ PlainWhat.Move to
     → kernel.step s (Label.Asked i) ≡ Some (with_note (without_message s i) x.to (record { id = i; asker = x.sender }))
-asked_is s i x y to there alive free is =
-    ap (λ (o : Option PlainMessage). bind o (λ (v : PlainMessage). bind (kernel.at_hand s v.to) (λ p. service.follows_request s i v v.what))) there
-    ∙ ap (λ (o : Option PlainProcess). bind o (λ p. service.follows_request s i x x.what)) (at_hand_of s x.to y free alive) ∙ ap (service.follows_request s i x) is
+asked_is s i x y to there alive free is = search arith
 
 can_move : (b : Boot) (m : ℕ) (o : Point) (i : MsgId) (x : PlainMessage) (y : PlainProcess) (to : ℕ) (c : Bool) → x.what ≡ PlainWhat.Move to → o.kernel.processes x.to ≡ Some (Alive y) → o.kernel.notes x.to ≡ None → Front b m o i x
     → CanTurn m o (Some (rule.says (Label.Asked i) ∷ (if c then answers_move i Outcome.Done else leaves_for x.to to)))
@@ -159,9 +155,7 @@ can_here b m o i x y (PlainWhat.Write base bytes) is num other alive free f h =
     can_answer b m o i x y z (PlainWhat.Write base bytes) k (answer_id i) is alive free f (ap (λ (c : Option pieces.Served). bind c (λ (r : pieces.Served). Some (service.answered s i x r))) writes)
     (answer_there (service.changed s i x z) i x PlainWhat.Written (name_of b m o i x f)) refl
 can_here b m o i x y (PlainWhat.Create image links) is num other alive free f h = search (arith, x.to.num)
-can_here b m o i x y (PlainWhat.Created child) is num other alive free f h =
-    let (to, answer, pending, made) = h in
-    absurd (false≢true (sym other ∙ is_manager x.to to))
+can_here b m o i x y (PlainWhat.Created child) is num other alive free f h = search (arith, is_manager, x.to)
 can_here b m o i x y PlainWhat.NoRoom is num other alive free f h =
     let (to, answer, pending) = h in
     absurd (false≢true (sym other ∙ is_manager x.to to))
@@ -174,9 +168,7 @@ can_here b m o i x y any_ is num other alive free f h =
 
 -- a receiver that has ended
 pub gone_is : (s : OneKernel) (i : MsgId) (x : PlainMessage) (y : Why) (v : PlainWhat) → s.bag i ≡ Some x → s.processes x.to ≡ Some (Ended y) → service.gone_what x.what ≡ Some v → kernel.step s (Label.Gone i) ≡ Some (with_sent (without_message s i) (Some (answer_to x v)))
-gone_is s i x y v there ended answer =
-    ap (λ (o : Option PlainMessage). bind o (λ (k : PlainMessage). bind (kernel.why_ended (s.processes k.to)) (kernel.says_gone s i k))) there ∙ ap (λ (o : Option Life). bind (kernel.why_ended o) (kernel.says_gone s i x)) ended
-    ∙ ap (λ (o : Option PlainWhat). bind o (λ (w : PlainWhat). Some (with_sent (without_message s i) (Some (answer_to x w))))) answer
+gone_is s i x y v there ended answer = search arith
 
 can_gone : (b : Boot) (m : ℕ) (o : Point) (i : MsgId) (x : PlainMessage) (y : Why) (v : PlainWhat) → service.gone_what x.what ≡ Some v → is_user v ≡ false → o.kernel.processes x.to ≡ Some (Ended y) → Front b m o i x → CanTurn m o (Some (rule.says (Label.Gone i) ∷ Routes (answer_id i) ∷ []))
 can_gone b m o i x y v answer other ended f =
@@ -195,9 +187,7 @@ pub can_ended : (b : Boot) (m : ℕ) (o : Point) (i : MsgId) (x : PlainMessage) 
 can_ended b m o i x y (PlainWhat.Read base len) is num other ended f h = can_gone b m o i x y PlainWhat.Gone (ap service.gone_what is) refl ended f
 can_ended b m o i x y (PlainWhat.Write base bytes) is num other ended f h = can_gone b m o i x y PlainWhat.Gone (ap service.gone_what is) refl ended f
 can_ended b m o i x y (PlainWhat.Create image links) is num other ended f h = search (arith, x.to.num)
-can_ended b m o i x y (PlainWhat.Created child) is num other ended f h =
-    let (to, answer, pending, made) = h in
-    absurd (false≢true (sym other ∙ is_manager x.to to))
+can_ended b m o i x y (PlainWhat.Created child) is num other ended f h = search (arith, is_manager, x.to)
 can_ended b m o i x y PlainWhat.NoRoom is num other ended f h =
     let (to, answer, pending) = h in
     absurd (false≢true (sym other ∙ is_manager x.to to))
@@ -216,13 +206,9 @@ pub ended_of : (l : Option Life) → agrees view.Ended l ≡ true → (y : Why) 
 ended_of (Some (Ended y)) e = (y, refl)
 ended_of _ e = cc
 
-told_plain : (v : View) (c : Bool) (q : Pid) (to : ℕ) → ArePlain v (if c then Owns MessageKind.Update q to ∷ [] else [])
-told_plain v true q to = (tt, tt)
-told_plain v false q to = tt
-
 -- a message goes on
 pub forwards_plain : (v : View) (a : Addresses) (i : MsgId) (k : MessageKind) (sender : Pid) (to : ℕ) → is_some (v.told i) ≡ true → ArePlain v (forwards_on a i k sender to)
-forwards_plain v a i k sender to told = (refl, (told, told_plain v (is_told_back k) sender (a (Sender i)).at))
+forwards_plain v a i k sender to told = search arith
 
 can_known : (b : Boot) (m : ℕ) (o : Point) (i : MsgId) (x : PlainMessage) (k : Known) → o.view.known m x.to ≡ k → k ≢ view.Unknown → agrees k (o.kernel.processes x.to) ≡ true → (x.to.num == 0) ≡ false → pid_eq x.to manager ≡ false → Front b m o i x → OwnTold o → CanTurn m o (rule.process_handles o m i x k)
 can_known b m o i x view.Unknown is there agree num other f own = absurd (there refl)

@@ -1,18 +1,17 @@
 -- A message for a kernel or a server at the front of the inbox can be handled.
-use Rattle.dm_rulelaws.proofs.Names.{◌≡◌, ℕ, zero, suc, ◌+◌, ◌==◌, ◌&&◌, ◌||◌, ◌++◌, Bool, true, false, List, [], ◌∷◌, length, refl, ap, ◌∙◌, sym, nat_lt, arith, ⊤, if◌then◌else◌, slice_get, Option, None, Some, false≢true, nat_tests, Pid}
+use Rattle.dm_rulelaws.proofs.Names.{◌≡◌, ℕ, zero, suc, ◌+◌, ◌==◌, ◌&&◌, ◌||◌, ◌++◌, Bool, true, false, List, [], ◌∷◌, length, refl, ap, ◌∙◌, sym, nat_lt, arith, if◌then◌else◌, slice_get, Option, None, Some, false≢true, nat_tests, Pid}
 use Rattle.dm_rulelaws.proofs.Names.{pid_of, pid_eq, PlainLink, MsgId, Label, Line, PlainMessage, PlainWhat, BootImage, Boot, first_number, switchboard, manager, bind, when, Pending, OneKernel, with_sent, answer_id, answer_to}
-use Rattle.dm_rulelaws.proofs.Names.{without_message, Made, pid_eq-same, Point, moved, Part, Routes, is_server, IsPending, WhatFits, is_fixed, counts, ServerSends, handled, is_kernels, not_kernels, or_first, board_takes_lem}
+use Rattle.dm_rulelaws.proofs.Names.{without_message, pid_eq-same, Point, moved, Part, Routes, is_server, IsPending, WhatFits, is_fixed, counts, ServerSends, handled, is_kernels, not_kernels, or_first, board_takes_lem}
 use Rattle.dm_rulelaws.proofs.Names.{manager_takes_lem, is_for, PendingKind, code_of_outcome}
 use Rattle.dm_onekernel.specs.Switchboard as board
 use Rattle.dm_onekernel.specs.Manager as manage
 use Rattle.dm_onekernel.specs.Service as service
 use Rattle.dm_onekernel.specs.Step as kernel
 use Rattle.dm_rule.specs.Rule as rule
-use Rattle.dm_rulelaws.proofs.Queued.{is_user}
 use Rattle.dm_rulelaws.proofs.Own.Told.{OwnTold, HaveNoOwn}
 use Rattle.dm_rulelaws.proofs.Goes.Parts.{said, no_receive, does_route, Can, can_as, can_say}
 use Rattle.dm_rulelaws.proofs.Goes.Serves.{never_counted}
-use Rattle.dm_rulelaws.proofs.Goes.Front.{begun, Calm, CanTurn, Front, made_of, name_of, home_of, ForWhom, ForProcess, ForOther, for_whom, process_not_kernel, process_not_board, process_not_manager, answer_there, does_routes}
+use Rattle.dm_rulelaws.proofs.Goes.Front.{begun, Calm, CanTurn, Front, name_of, home_of, process_not_kernel, process_not_board, process_not_manager, answer_there, does_routes}
 use Rattle.dm_rulelaws.proofs.Goes.Front.{sent_there}
 use Rattle.dm_rulelaws.proofs.Goes.Process.{can_process}
 use Rattle.dm_rulelaws.proofs.Order.Lines.{Last, next_id}
@@ -24,15 +23,6 @@ get_is (x ∷ xs) (suc k) e = get_is xs k (let f : nat_lt k (length xs) ≡ true
 
 server_number : (p : Pid) → is_server p ≡ true → (p.num == 0) ≡ false
 server_number p h1 = search (arith, p.num)
-
--- the kernel of a machine
-abbrev IsCreate : PlainWhat → Type 0
-IsCreate (PlainWhat.Create image links) = ⊥
-IsCreate w = ⊤
-
-never_kernel : (s : OneKernel) (x : PlainMessage) (w : PlainWhat) → IsCreate w → (x.to.num == 0) ≡ true → Made s → ForWhom s x w → ⊥
-never_kernel s x w c num made (ForProcess there) = false≢true (process_not_kernel s x.to there num made)
-never_kernel s x w c num made (ForOther h) = false≢true (search (arith, server_number, x.to, x.to.num))
 
 can_created : (b : Boot) (m : ℕ) (o : Point) (i : MsgId) (x : PlainMessage) (image : ℕ) (links : List PlainLink) (g : BootImage) → x.what ≡ PlainWhat.Create image links → x.to.home ≡ m → service.is_kernel o.kernel x.to ≡ true → slice_get o.kernel.images image ≡ Some g → Front b m o i x
     → CanTurn m o (Some (rule.says (Label.Created i (pid_of m (first_number + o.kernel.made m))) ∷ Routes (answer_id i) ∷ []))
@@ -76,7 +66,7 @@ can_kernel b m o i x (PlainWhat.Create image links) is num f h =
     can_as (Calm m o) m (begun o m) (rule.kernel_handles b o m i (PlainWhat.Create image links)) (rule.creation_parts o m i r (Some g)) (ap (rule.creation_parts o m i r) here)
     (can_if (Calm m o) m (begun o m) (rule.has_room r g.blocks) (rule.says (Label.Created i (pid_of m (first_number + s.made m)))) (rule.says (Label.NoSpace i r.slots r.blocks)) (Routes (answer_id i) ∷ [])
     (can_created b m o i x image links g is (home_of b m o i x (ap (λ (c : Bool). c || is_server x.to) num) f) kern found f) (can_no_space b m o i x image links r.slots r.blocks is kern f))
-can_kernel b m o i x any_ is num f h = absurd (never_kernel o.kernel x any_ tt num (made_of b m o i x f) (for_whom o.kernel i x any_ h))
+can_kernel b m o i x any_ is num f h = search (arith, process_not_kernel, server_number)
 
 routes_quiet : (k : Option PlainMessage) → no_receive (said (rule.routes k)) ≡ true
 routes_quiet None = refl
@@ -117,10 +107,6 @@ at_manager x m e home = let z : x.to.home ≡ 0 = grind (arith, nat_tests) in sy
 pub server_fixed : (p : Pid) → is_server p ≡ true → is_fixed p ≡ true
 server_fixed p e = or_first (p.num == 0) (is_server p) e
 
-never_board : (s : OneKernel) (x : PlainMessage) (w : PlainWhat) → is_user w ≡ false → (x.to.num == 0) ≡ false → pid_eq x.to switchboard ≡ true → Made s → ForWhom s x w → ⊥
-never_board s x w c num one made (ForProcess there) = false≢true (process_not_board s x.to there one made)
-never_board s x w c num one made (ForOther h) = false≢true (search (arith, x.to.num, x.to))
-
 can_board : (b : Boot) (m : ℕ) (o : Point) (i : MsgId) (x : PlainMessage) (w : PlainWhat) → x.what ≡ w → (x.to.num == 0) ≡ false → pid_eq x.to switchboard ≡ true → Front b m o i x → WhatFits o.kernel i x w
     → CanTurn m o (rule.board_took i (board.board_takes o.kernel.switchboard x w))
 can_board b m o i x (PlainWhat.User code channel body links) is num one f h =
@@ -132,19 +118,7 @@ can_board b m o i x (PlainWhat.User code channel body links) is num one f h =
     ∙ ap (λ (c : Bool). if c then bind (board.board_takes s.switchboard x x.what) (λ (t : board.BoardTook). Some (service.switchboard_took s i t)) else if pid_eq x.to manager then bind (manage.manager_takes s.manager s.machines (length s.images) x x.what) (λ (t : manage.ManagerTook). Some (service.manager_took s i t)) else None) one
     ∙ ap (λ (v : PlainWhat). bind (board.board_takes s.switchboard x v) (λ (t : board.BoardTook). Some (service.switchboard_took s i t))) is in
     can_take b m o i x u k.answer step (board_sends m o i x k (board_takes_lem s.switchboard x (PlainWhat.User code channel body links) k refl).2 (at_server x m one (home_of b m o i x (server_fixed x.to (ap (λ (c : Bool). c || pid_eq x.to manager) one)) f))) f
-can_board b m o i x any_ is num one f h = absurd (never_board o.kernel x any_ refl num one (made_of b m o i x f) (for_whom o.kernel i x any_ h))
-
--- the manager
-abbrev for_manager : PlainWhat → Bool
-for_manager (PlainWhat.User code channel body links) = true
-for_manager (PlainWhat.Created child) = true
-for_manager PlainWhat.NoRoom = true
-for_manager (PlainWhat.Moved outcome) = true
-for_manager w = false
-
-never_manager : (s : OneKernel) (x : PlainMessage) (w : PlainWhat) → for_manager w ≡ false → (x.to.num == 0) ≡ false → pid_eq x.to manager ≡ true → Made s → ForWhom s x w → ⊥
-never_manager s x w c num two made (ForProcess there) = false≢true (process_not_manager s x.to there two made)
-never_manager s x w c num two made (ForOther h) = false≢true (search (arith, x.to.num))
+can_board b m o i x any_ is num one f h = search (arith, process_not_board)
 
 can_manage : (b : Boot) (m : ℕ) (o : Point) (i : MsgId) (x : PlainMessage) (w : PlainWhat) (k : manage.ManagerTook) → x.what ≡ w → pid_eq x.to switchboard ≡ false → pid_eq x.to manager ≡ true → manage.manager_takes o.kernel.manager o.kernel.machines (length o.kernel.images) x w ≡ Some k → Front b m o i x
     → CanTurn m o (rule.manager_parts i (manage.manager_takes o.kernel.manager o.kernel.machines (length o.kernel.images) x w))
@@ -188,7 +162,7 @@ can_manager b m o i x (PlainWhat.Moved outcome) is num one two f h =
     let g = o.kernel.manager in
     let (r, found) = asked b m o i x PendingKind.Move pending f in
     can_manage b m o i x (PlainWhat.Moved outcome) (manage.answers_over (record g { pending = manage.without_pending x.id.n g.pending }) r.answer (code_of_outcome outcome) []) is one two (ap (manage.takes_moved g x.id.n outcome) found) f
-can_manager b m o i x any_ is num one two f h = absurd (never_manager o.kernel x any_ refl num two (made_of b m o i x f) (for_whom o.kernel i x any_ h))
+can_manager b m o i x any_ is num one two f h = search (arith, process_not_manager)
 
 -- whoever the message is for
 can_by : (b : Boot) (m : ℕ) (o : Point) (i : MsgId) (x : PlainMessage) (c d e : Bool) → (x.to.num == 0) ≡ c → pid_eq x.to switchboard ≡ d → pid_eq x.to manager ≡ e → Front b m o i x → OwnTold o

@@ -1,17 +1,17 @@
 -- With an empty inbox a machine's turn can be said.
-use Rattle.dm_rulelaws.proofs.Names.{◌≡◌, ℕ, zero, suc, ◌+◌, ◌≤◌, ◌==◌, ◌&&◌, Bool, true, false, List, [], ◌∷◌, refl, ap, ◌∙◌, sym, subst, is_some, nat_lt, inl, inr, arith, if◌then◌else◌, Option, None, Some, cases_Bool, false≢true}
-use Rattle.dm_rulelaws.proofs.Names.{nat_tests, Pid, pid_eq, MsgId, id_eq, Label, Why, Line, PlainMessage, PlainWhat, on_mask, instruction, Boot, Reply, reply_eq, reply_code, why_code, bind, when, PlainProcess, PlainStatus, Ready, Waiting}
-use Rattle.dm_rulelaws.proofs.Names.{Alive, Ended, OneKernel, with_process, with_sent, without_message, id_eq-is, id_eq-same, pid_eq-same, sent_at, bind-is, alive-is, counts, Point, moved, Part, Routes, times, is_kernels, not_kernels}
-use Rattle.dm_rulelaws.proofs.Names.{switchboard, manager, not_server, nexts, are_home, Sane, eq_self, not_is, zero_if, runnable_home, burden_of, option_map_or}
+use Rattle.dm_rulelaws.proofs.Names.{◌≡◌, ℕ, zero, suc, ◌+◌, ◌≤◌, ◌==◌, ◌&&◌, Bool, true, false, List, [], ◌∷◌, refl, ap, ◌∙◌, sym, is_some, nat_lt, inl, inr, arith, if◌then◌else◌, Option, None, Some, cases_Bool, false≢true, nat_tests, Pid}
+use Rattle.dm_rulelaws.proofs.Names.{pid_eq, MsgId, id_eq, Label, Why, Line, PlainMessage, PlainWhat, on_mask, instruction, Boot, Reply, reply_eq, reply_code, why_code, bind, when, PlainProcess, PlainStatus, Ready, Waiting, Alive, Ended}
+use Rattle.dm_rulelaws.proofs.Names.{OneKernel, with_process, with_sent, without_message, id_eq-is, id_eq-same, pid_eq-same, sent_at, bind-is, alive-is, counts, Point, moved, Part, Routes, times, is_kernels, not_kernels, switchboard}
+use Rattle.dm_rulelaws.proofs.Names.{manager, not_server, nexts, are_home, Sane, eq_self, not_is, zero_if, runnable_home, burden_of, option_map_or}
+use Rattle.dm_rulelaws.proofs.Fits.Rises.{set_at, both}
+use Rattle.dm_rulelaws.proofs.Goes.Parts.{said, no_receive, Shape, Quiet, Takes, Does, does_nothing, does_label, does_route, sane_by, Can, can_line}
+use Rattle.dm_rulelaws.proofs.Own.Told.{HaveNoOwn}
+use Rattle.dm_rulelaws.proofs.Goes.Turns.{times_self, times_more, Droppable, droppable_on, does_drops, drops_quiet, drops_own, at_hand_of}
+use Rattle.dm_rulelaws.proofs.Order.Lines.{Last}
 use Rattle.dm_onekernel.specs.Calls as calls
 use Rattle.dm_onekernel.specs.Receiving as receiving
 use Rattle.dm_onekernel.specs.Step as kernel
 use Rattle.dm_rule.specs.Rule as rule
-use Rattle.dm_rulelaws.proofs.Fits.Rises.{set_at, both}
-use Rattle.dm_rulelaws.proofs.Goes.Parts.{said, no_receive, Shape, Quiet, Takes, Does, does_nothing, does_label, does_route, sane_by, Can, can_line}
-use Rattle.dm_rulelaws.proofs.Own.Told.{HaveNoOwn, NoOwns}
-use Rattle.dm_rulelaws.proofs.Goes.Turns.{times_self, times_more, Droppable, droppable_on, does_drops, drops_quiet, drops_own, at_hand_of}
-use Rattle.dm_rulelaws.proofs.Order.Lines.{Last}
 
 -- a process that executes
 pub running_of : (s : OneKernel) (p : Pid) (x : PlainProcess) → s.processes p ≡ Some (Alive x) → s.notes p ≡ None → x.stopped ≡ false → x.status ≡ Ready → kernel.running s p ≡ Some x
@@ -112,29 +112,18 @@ pub record Awaited (s : OneKernel) (mask : ℕ) (ids : List MsgId) (i : MsgId) :
   pub what : rule.burden_is_awaited mask (burden_of x.what) ≡ true
   pub stands : 1 ≤ times i ids
 
-awaited_of : (s : OneKernel) (mask : ℕ) (ids : List MsgId) (i : MsgId) (o : Option PlainMessage) → s.bag i ≡ o → rule.is_awaited mask o ≡ true → 1 ≤ times i ids → Awaited s mask ids i
-awaited_of s mask ids i None e h least = cc
-awaited_of s mask ids i (Some x) e h least = record { x = x; there = e; what = h; stands = least }
-
 awaited_if : (s : OneKernel) (mask : ℕ) (j : MsgId) (js : List MsgId) (i : MsgId) (c : Bool) → rule.is_awaited mask (s.bag j) ≡ c → (if c then Some j else rule.first_awaited s mask js) ≡ Some i → (rule.first_awaited s mask js ≡ Some i → Awaited s mask js i) → Awaited s mask (j ∷ js) i
-awaited_if s mask j js i c h1 h2 h3 = search (arith, awaited_of, s.bag, times_self, times_more)
+awaited_if s mask j js i c h1 h2 h3 = search (arith, s.bag, times_self, times_more)
 
 pub first_is : (s : OneKernel) (mask : ℕ) (ids : List MsgId) (i : MsgId) → rule.first_awaited s mask ids ≡ Some i → Awaited s mask ids i
 first_is s mask [] i e = cc
 first_is s mask (j ∷ js) i e = awaited_if s mask j js i (rule.is_awaited mask (s.bag j)) refl e (first_is s mask js i)
 
-called_quiet : (p : Pid) (n : ℕ) (queue : List MsgId) (c : calls.Called) → no_receive (said (rule.called p n queue c)) ≡ true
-called_quiet p n queue (calls.Ends because) = drops_quiet queue
-called_quiet p n queue _ = refl
-
 stops_quiet : (p : Pid) (queue : List MsgId) (o : Option kernel.Trap) → no_receive (said (rule.stops p queue o)) ≡ true
-stops_quiet p queue o = search (arith, called_quiet, drops_quiet)
-
-called_own : (p : Pid) (n : ℕ) (queue : List MsgId) (c : calls.Called) → HaveNoOwn (rule.called p n queue c)
-called_own p n queue c = search (arith, drops_own)
+stops_quiet p queue o = search (arith, drops_quiet)
 
 stops_own : (p : Pid) (queue : List MsgId) (o : Option kernel.Trap) → HaveNoOwn (rule.stops p queue o)
-stops_own p queue o = search (arith, called_own, drops_own)
+stops_own p queue o = search (arith, drops_own)
 
 rest_own : (c : Bool) (ps : List Part) → HaveNoOwn ps → HaveNoOwn (if c then [] else ps)
 rest_own true ps h = tt
@@ -199,21 +188,11 @@ can_receive C m pt p queue x mask base size (Some i) status first some is free g
     let a = first_is s mask queue i first in
     let k = a.x in
     let to = droppable_to s p queue i k a.there a.stands drops in
-    let (c, done) = completes_what p x k mask base size k.what a.what to in
-    let with_ : receiving.completes_with p x k ≡ Some c = ap (λ (d : Bool). if d then None else receiving.completes_status p x k x.status) going ∙ ap (receiving.completes_status p x k) status ∙ done in
-    let completing : kernel.completing s p i ≡ Some c =
-    ap (λ (o : Option PlainProcess). bind o (λ (v : PlainProcess). bind (s.bag i) (receiving.completes_with p v))) (at_hand_of s p x free is) ∙ ap (λ (o : Option PlainMessage). bind o (receiving.completes_with p x)) a.there ∙ with_ in
-    record {
-      ps = rule.completion_parts p i c;
-      is = ap (λ (o : Option PlainMessage). bind o (λ (v : PlainMessage). bind (receiving.completes_with p x v) (λ (c : receiving.Completed). Some (rule.completion_parts p i c)))) a.there ∙ ap (λ (o : Option receiving.Completed). bind o (λ (c : receiving.Completed). Some (rule.completion_parts p i c))) with_;
-      does = does_completes C pt p i c completing;
-      shape = completes_shape m pt p i mask c (ap (λ ids. rule.first_awaited s mask ids) (sym same) ∙ first) completing;
-      owns = NoOwns (completes_own p i c);
-    }
+    search (arith, completes_what, k.what, a.what, x.status, s.bag, at_hand_of, a.there, does_completes, completes_shape)
 
 can_serve : (C : Type 0) (b : Boot) (m : ℕ) (pt : Point) (p : Pid) (queue : List MsgId) (x : PlainProcess) (st : PlainStatus) → x.status ≡ st → rule.status_can_go pt.kernel queue st ≡ true → pt.kernel.processes p ≡ Some (Alive x) → pt.kernel.notes p ≡ None → x.stopped ≡ false → queue ≡ pt.view.queue m p → Droppable pt.kernel p queue → (C → p.home ≡ pt.view.acting) → Sane pt
     → Can C m pt (rule.serves_status b.quantum pt.kernel p queue x st)
-can_serve C b m pt p queue x st h1 h2 h3 h4 h5 h6 h7 h8 h9 = search (arith, b.quantum, does_executes, rest_quiet, stops_quiet, rest_own, stops_own, can_receive, pt.kernel)
+can_serve C b m pt p queue x st h1 h2 h3 h4 h5 h6 h7 h8 h9 = search (arith, b.quantum, does_executes, stops_quiet, rest_own, stops_own, can_receive, pt.kernel)
 
 -- the first of the ring that can be served
 pub record Runnable (s : OneKernel) (queue : Pid → List MsgId) (p : Pid) : Type 0 where
@@ -222,14 +201,9 @@ pub record Runnable (s : OneKernel) (queue : Pid → List MsgId) (p : Pid) : Typ
   pub going : x.stopped ≡ false
   pub go : rule.status_can_go s (queue p) x.status ≡ true
 
-runnable_if : (s : OneKernel) (queue : Pid → List MsgId) (p : Pid) (ps : List Pid) (q : Pid) (c : Bool) → rule.can_go s (queue p) (kernel.alive (s.processes p)) ≡ c → (if c then Some p else rule.first_runnable s queue ps) ≡ Some q
-    → (rule.first_runnable s queue ps ≡ Some q → Runnable s queue q) → Runnable s queue q
-runnable_if s queue p ps q true e f rest = let k : p ≡ q = cc in subst (Runnable s queue) k (search (arith, both, alive-is, s.processes, not_is))
-runnable_if s queue p ps q false e f rest = rest f
-
 runnable_is : (s : OneKernel) (queue : Pid → List MsgId) (ps : List Pid) (q : Pid) → rule.first_runnable s queue ps ≡ Some q → Runnable s queue q
 runnable_is s queue [] q e = cc
-runnable_is s queue (p ∷ ps) q e = runnable_if s queue p ps q (rule.can_go s (queue p) (kernel.alive (s.processes p))) refl e (runnable_is s queue ps q)
+runnable_is s queue (p ∷ ps) q e = search (arith, rule.can_go s (queue p) (kernel.alive (s.processes p)), runnable_is s queue ps q, both, alive-is, not_is)
 
 can_go_round : (C : Type 0) (b : Boot) (m : ℕ) (o pt : Point) (p : Option Pid) → o.kernel ≡ pt.kernel → ((q : Pid) → o.view.queue m q ≡ pt.view.queue m q) → ((q : Pid) → p ≡ Some q → Runnable pt.kernel (o.view.queue m) q) → ((q : Pid) → p ≡ Some q → pt.kernel.notes q ≡ None) → ((q : Pid) → Droppable pt.kernel q (o.view.queue m q))
     → (C → (q : Pid) → p ≡ Some q → q.home ≡ pt.view.acting) → Sane pt → Can C m pt (rule.goes_round b o m p)

@@ -61,7 +61,7 @@ user_dropped (PlainWhat.User code channel body links) e = refl
 user_dropped _ e = cc
 
 pub dropped_is : (s : OneKernel) (i : MsgId) (x : PlainMessage) (y : Why) → s.bag i ≡ Some x → s.processes x.to ≡ Some (Ended y) → is_dropped x.what ≡ true → kernel.step s (Label.Dropped i) ≡ Some (without_message s i)
-dropped_is s i x y there ended drops = search (arith)
+dropped_is s i x y there ended drops = search arith
 
 pub does_drops : (C : Type 0) (p : Pid) (y : Why) (ids : List MsgId) (pt : Point) → pt.kernel.processes p ≡ Some (Ended y) → Droppable pt.kernel p ids → Does C pt (rule.drop_parts ids)
 does_drops C p y [] pt ended h = does_nothing C pt

@@ -1,11 +1,8 @@
 -- As long as nothing moves, messages of one sender to one process on one channel are received in the order in which they were sent.
 use Rattle.dm_rulelaws.proofs.Names.{◌≡◌, suc, Bool, true, false, List, [], ◌∷◌, ◌++◌, refl, ap, ◌∙◌, sym, subst, arith, Option, Some, false≢true, Pid, MsgId, id_of, Boot, IsValid, Label, OneKernel, bind, start, replay, Step, Line, Spelled}
-use Rattle.dm_rulelaws.proofs.Names.{Point, first_point, labels, moved, LeadsBy, ReceivesInOrder, AreStill, ℕ, ◌+◌, ◌≤◌, ◌==◌, inl, inr, if◌then◌else◌, None, cases_Bool, nat_tests, id_eq, PlainMessage, PlainWhat, on_mask, in_bag, counts}
+use Rattle.dm_rulelaws.proofs.Names.{Point, first_point, labels, moved, LeadsBy, ReceivesInOrder, AreStill, ℕ, ◌+◌, ◌≤◌, inl, inr, if◌then◌else◌, None, cases_Bool, nat_tests, id_eq, PlainMessage, PlainWhat, on_mask, in_bag, counts}
 use Rattle.dm_rulelaws.proofs.Names.{pid_eq-same, id_eq-is, id_eq-same, after_step, without_id, times, untaken, View, after_label, Each, channel_in, is_for_home, are_for_home, About, NothingElse, begins, marked, homes_of, Sane, AskNone}
-use Rattle.dm_rulelaws.proofs.Names.{Life, nat_lt, is_counted, switchboard, manager, pid_eq, first_view, spelled, burden_of}
-use Rattle.dm_rule.specs.View as view
-use Rattle.dm_onekernel.specs.Step as kernel
-use Rattle.dm_rule.specs.Rule as rule
+use Rattle.dm_rulelaws.proofs.Names.{switchboard, manager, first_view, spelled, burden_of}
 use Rattle.dm_rulelaws.proofs.RunLabels.{labels-append, replay-append, group_replay}
 use Rattle.dm_rulelaws.proofs.Goes.Parts.{said, Shape, Quiet, Takes, Goes, Reception, not_receive, no_receive, sane_by, AsksNone, unasked}
 use Rattle.dm_rulelaws.proofs.Goes.Always.{CalmFor, group_on}
@@ -15,6 +12,9 @@ use Rattle.dm_rulelaws.proofs.Fits.Rises.{both, two}
 use Rattle.dm_rulelaws.proofs.Runs.{Run}
 use Rattle.dm_rulelaws.proofs.Goes.Serves.{first_is}
 use Rattle.dm_rulelaws.proofs.Order.Puts.{thin_pair, queue_on}
+use Rattle.dm_rule.specs.View as view
+use Rattle.dm_onekernel.specs.Step as kernel
+use Rattle.dm_rule.specs.Rule as rule
 
 -- messages of one to another on a channel, from a number on
 abbrev pub which : Pid → Pid → ℕ → ℕ → Which
@@ -98,19 +98,11 @@ awaited_on : (mask c : ℕ) (w : PlainWhat) → on_channel c w ≡ true → on_m
 awaited_on mask c (PlainWhat.User code channel body links) e f = let k : channel ≡ c = grind (arith, nat_tests) in ap (on_mask mask) k ∙ f
 awaited_on mask c _ e f = cc
 
-on_is : (c : ℕ) (w : PlainWhat) → channel_in w ≡ Some c → on_channel c w ≡ true
-on_is c (PlainWhat.User code channel body links) e = let k : channel ≡ c = cc in (let f : (channel == c) ≡ true = grind (arith, nat_tests) in f)
-on_is c _ e = cc
-
 one_of : (s : OneKernel) (from to : Pid) (channel floor n : ℕ) (x : PlainMessage) → s.bag (id_of from n) ≡ Some x → x.to ≡ to → channel_in x.what ≡ Some channel → is_one s (which from to channel floor) (id_of from n) ≡ true
-one_of s from to channel floor n x there receiver on = search (arith, s.bag, pid_eq-same, two, x.to, x.what, on_is)
-
--- counts below
-lower_of : (b c : Bool) (n k a l : ℕ) (x : Option Life) → k ≤ n → (if b then nat_lt n a else if c then nat_lt n l else is_counted n x) ≡ true → (if b then nat_lt k a else if c then nat_lt k l else is_counted k x) ≡ true
-lower_of b c n k a l x h1 h2 = search arith
+one_of s from to channel floor n x there receiver on = search (arith, s.bag, pid_eq-same, two, x.to, x.what)
 
 counts_lower : (s : OneKernel) (p : Pid) (n k : ℕ) → k ≤ n → counts s (id_of p n) ≡ true → counts s (id_of p k) ≡ true
-counts_lower s p n k le e = lower_of (pid_eq p switchboard) (pid_eq p manager) n k s.switchboard.sent s.manager.sent (s.processes p) le e
+counts_lower s p n k le e = search (arith, s.switchboard.sent, s.manager.sent)
 
 -- behind a reception all that is of the kind is later
 taken_by : (m : ℕ) (pt : Point) (from to : Pid) (channel n mask : ℕ) (x : PlainMessage) (t : OneKernel) → Sane pt → pt.view.acting ≡ m → to.home ≡ m → rule.first_awaited pt.kernel mask (pt.view.queue m to) ≡ Some (id_of from n) → kernel.step pt.kernel (Label.Receive to (id_of from n)) ≡ Some t
@@ -273,9 +265,6 @@ never_nothing (x ∷ xs) ys y e = let f : true ≡ false = ap is_nothing e in fa
     is_nothing [] = true
     is_nothing (z ∷ zs) = false
 
-take_as : (b : Boot) (pt next : Point) (p r : Pid) (i j : MsgId) → Label.Receive r j ≡ Label.Receive p i → Taking b pt r j next → Taking b pt p i next
-take_as b pt next p r i j e t = search arith
-
 -- a group that receives, and what is behind it
 -- lines by which none is asked to move
 asks_split : (xs ys : List Line) → AskNone (xs ++ ys) → AskNone xs × AskNone ys
@@ -284,7 +273,7 @@ asks_split (x ∷ xs) ys h = let k = asks_split xs ys h.1 in ((h.0, k.0), k.1)
 
 find_taken : (b : Boot) (end pt mid : Point) (es : List Step) (ls : List Line) (before later : List Label) (p r : Pid) (i j : MsgId) → Taking b pt r j mid → Stays b mid → AreStill es → AskNone ls → LeadsBy b mid es ls end → ((k : Which) → Ord k pt.kernel pt.view → Ord k mid.kernel mid.view)
     → replay pt.kernel (Label.Receive r j ∷ []) ≡ Some mid.kernel → Label.Receive r j ∷ labels ls ≡ before ++ Label.Receive p i ∷ later → ((more : List Label) → labels ls ≡ more ++ Label.Receive p i ∷ later → Reaches b end mid more later p i) → Reaches b end pt before later p i
-find_taken b end pt mid es ls [] later p r i j t on still asks leads order replays e again = search (arith, take_as)
+find_taken b end pt mid es ls [] later p r i j t on still asks leads order replays e again = search arith
 find_taken b end pt mid es ls (z ∷ zs) later p r i j t on still asks leads order replays e again =
     let f : z ≡ Label.Receive r j = cc in
     let g : labels ls ≡ zs ++ Label.Receive p i ∷ later = cc in

@@ -1,11 +1,11 @@
 -- Messages of one sender to one process on one channel stand in the order in which they were sent: each line keeps it.
-use Rattle.dm_rulelaws.proofs.Names.{Inbox, ◌≡◌, ℕ, suc, ◌+◌, ◌≤◌, ◌<◌, ◌==◌, ◌&&◌, Bool, true, false, not, List, [], ◌∷◌, ◌++◌, refl, ap, ◌∙◌, sym, subst, is_some, nat_lt, arith, if◌then◌else◌, Option, None, Some, false≢true, Pid, pid_eq}
-use Rattle.dm_rulelaws.proofs.Names.{MsgId, id_of, PlainMessage, PlainWhat, Label, switchboard, manager, Life, OneKernel, counts, is_counted, Grown, LifeGrows, after_step, at_machine, at_record, without_front, untaken, View, after_label}
-use Rattle.dm_rulelaws.proofs.Names.{handled, Point, served_keeps, Each, not_kernels, Sane, pid_eq-is, entry, reception, came_from, zero, drop, nat_le, ◌⊎◌, inl, inr, cases_Bool, nat_tests, without_id, at_pair, Pair, not_false}
-use Rattle.dm_onekernel.specs.Step as kernel
-use Rattle.dm_rule.specs.View as view
+use Rattle.dm_rulelaws.proofs.Names.{Inbox, ◌≡◌, ℕ, suc, ◌+◌, ◌≤◌, ◌<◌, ◌==◌, ◌&&◌, Bool, true, false, not, List, [], ◌∷◌, ◌++◌, refl, ap, ◌∙◌, sym, subst, is_some, arith, if◌then◌else◌, Option, None, Some, false≢true, Pid, pid_eq, MsgId}
+use Rattle.dm_rulelaws.proofs.Names.{id_of, PlainMessage, PlainWhat, Label, switchboard, manager, Life, OneKernel, counts, is_counted, Grown, LifeGrows, after_step, at_machine, at_record, without_front, untaken, View, after_label, handled}
+use Rattle.dm_rulelaws.proofs.Names.{Point, served_keeps, Each, not_kernels, Sane, pid_eq-is, entry, reception, came_from, zero, drop, nat_le, ◌⊎◌, inl, inr, cases_Bool, nat_tests, without_id, at_pair, Pair, not_false}
 use Rattle.dm_rulelaws.proofs.Fits.Rises.{Each-on, both, two}
 use Rattle.dm_rulelaws.proofs.Queued.{is_user}
+use Rattle.dm_onekernel.specs.Step as kernel
+use Rattle.dm_rule.specs.View as view
 
 -- those of which g is true have ascending numbers, from so much on
 abbrev pub ordered : (MsgId → Bool) → ℕ → List MsgId → Bool
@@ -185,22 +185,15 @@ ord_step q s t v was grows h = record {
 life_counts : (n : ℕ) (a b : Option Life) → LifeGrows a b → is_counted n a ≡ true → is_counted n b ≡ true
 life_counts n a b h1 h2 = search arith
 
-counts_of : (b c : Bool) (n k l k' l' : ℕ) (x y : Option Life) → k ≤ k' → l ≤ l' → LifeGrows x y → (if b then nat_lt n k else if c then nat_lt n l else is_counted n x) ≡ true → (if b then nat_lt n k' else if c then nat_lt n l' else is_counted n y) ≡ true
-counts_of b c n k l k' l' x y h1 h2 h3 h4 = search (arith, life_counts)
-
 pub counts_grown : (s t : OneKernel) → Grown s t → (i : MsgId) → counts s i ≡ true → counts t i ≡ true
-counts_grown s t g i h =
-    counts_of (pid_eq i.from switchboard) (pid_eq i.from manager) i.n s.switchboard.sent s.manager.sent t.switchboard.sent t.manager.sent (s.processes i.from) (t.processes i.from) g.switchboard g.manager (g.lives i.from) h
+counts_grown s t g i h = grind (arith, nat_tests, i.n, s.switchboard.sent, s.manager.sent, t.switchboard.sent, t.manager.sent, g.switchboard, g.manager, life_counts)
 
 -- labels
 pub thin_same : (q : Which) (v w : View) → w.queue q.to.home q.to ≡ v.queue q.to.home q.to → Thins (w.inbox q.to.home) (v.inbox q.to.home) → ((a : ℕ) → untaken (w.pair a q.to.home) ≡ untaken (v.pair a q.to.home)) → ((i : MsgId) → w.told i ≡ v.told i) → ThinFor q v w
 thin_same q v w queue inbox away told = search (arith, thins_same, w.queue, q.to.home, q.to, v.queue)
 
-pub box_at : (f : ℕ → List MsgId) (a n : ℕ) (xs : List MsgId) (T : List MsgId → Type 0) → (a ≡ n → T xs) → T (f n) → T (at_machine f a xs n)
-box_at f a n xs T h1 h2 = search arith
-
 pub handled_thin : (v : View) (i : MsgId) (n : ℕ) → Thins ((handled v i).inbox n) (v.inbox n)
-handled_thin v i n = box_at v.inbox v.acting n (without_front i (v.inbox v.acting)) (λ (xs : List MsgId). Thins xs (v.inbox n)) (λ e. subst (λ k. Thins (without_front i (v.inbox v.acting)) (v.inbox k)) e (thins_front i (v.inbox v.acting))) (thins_same (v.inbox n) (v.inbox n) refl)
+handled_thin v i n = search (arith, without_front i (v.inbox v.acting), thins_same (v.inbox n) (v.inbox n) refl, thins_front)
 
 thin_handled : (q : Which) (v : View) (i : MsgId) → ThinFor q v (handled v i)
 thin_handled q v i = thin_same q v (handled v i) refl (handled_thin v i q.to.home) (λ a. refl) (λ j. refl)
@@ -208,11 +201,8 @@ thin_handled q v i = thin_same q v (handled v i) refl (handled_thin v i q.to.hom
 pub box_same : (v : View) (n : ℕ) → Thins (v.inbox n) (v.inbox n)
 box_same v n = thins_same (v.inbox n) (v.inbox n) refl
 
-pub queue_at : (f : ℕ → Pid → List MsgId) (a n : ℕ) (p q : Pid) (xs : List MsgId) (T : List MsgId → Type 0) → (a ≡ n → p ≡ q → T xs) → T (f n q) → T (at_record f a p xs n q)
-queue_at f a n p q xs T h1 h2 = search (arith, pid_eq-is)
-
 queue_thin : (v : View) (p : Pid) (xs : List MsgId) (n : ℕ) (r : Pid) → Thins xs (v.queue v.acting p) → Thins (at_record v.queue v.acting p xs n r) (v.queue n r)
-queue_thin v p xs n r t = queue_at v.queue v.acting n p r xs (λ (ys : List MsgId). Thins ys (v.queue n r)) (λ at is. subst (λ k. Thins xs (v.queue k r)) at (subst (λ (k : Pid). Thins xs (v.queue v.acting k)) is t)) (thins_same (v.queue n r) (v.queue n r) refl)
+queue_thin v p xs n r t = search (arith, v.acting, pid_eq-is)
 
 dropped_thin : (q : Which) (v : View) (i : MsgId) (o : Option Pid) → ThinFor q v (view.dropped_for (handled v i) i o)
 dropped_thin q v i None = thin_handled q v i
@@ -266,12 +256,8 @@ pub record Last (s : OneKernel) (v : View) (j : MsgId) : Type 0 where
   pub last : counts s (next_id j) ≡ false
   pub untold : v.told j ≡ None
 
--- counted numbers are below those that aren't
-below_of : (b c : Bool) (n k a l : ℕ) (x : Option Life) → (if b then nat_lt n a else if c then nat_lt n l else is_counted n x) ≡ true → (if b then nat_lt k a else if c then nat_lt k l else is_counted k x) ≡ false → n < k
-below_of b c n k a l x h1 h2 = search arith
-
 counts_below : (s : OneKernel) (i j : MsgId) → counts s i ≡ true → counts s j ≡ false → i.from ≡ j.from → i.n < j.n
-counts_below s i j e f same = search (arith, i.from, j.n, s.switchboard.sent, s.manager.sent, s.processes, below_of, i.n)
+counts_below s i j e f same = search (arith, i.from, j.n, s.switchboard.sent, s.manager.sent, s.processes, i.n)
 
 -- what it is to be one
 pub record One (s : OneKernel) (q : Which) (i : MsgId) : Type 0 where
@@ -283,12 +269,8 @@ pub record One (s : OneKernel) (q : Which) (i : MsgId) : Type 0 where
   pub user : is_user x.what ≡ true
   pub on : on_channel q.channel x.what ≡ true
 
-user_on : (c : ℕ) (w : PlainWhat) → on_channel c w ≡ true → is_user w ≡ true
-user_on c (PlainWhat.User code channel body links) e = refl
-user_on c _ e = cc
-
 one_by : (s : OneKernel) (q : Which) (i : MsgId) (o : Option PlainMessage) → s.bag i ≡ o → i.from ≡ q.from → i.answer ≡ false → is_mine q o ≡ true → One s q i
-one_by s q i o h1 h2 h3 h4 = search (arith, both, q.to, q.channel, pid_eq-is, user_on)
+one_by s q i o h1 h2 h3 h4 = search (arith, both, q.to, q.channel, pid_eq-is)
 
 pub one_is : (s : OneKernel) (q : Which) (i : MsgId) → is_one s q i ≡ true → One s q i
 one_is s q i h = search (arith, both, i.from, q.from, i.answer, s.bag, one_by, pid_eq-is, not_false)

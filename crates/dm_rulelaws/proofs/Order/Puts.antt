@@ -223,12 +223,7 @@ ord_queued q s v i is p box home now h =
     let m = q.to.home in
     elim (cases_Bool (pid_eq p q.to)) [
       | inr other ↦
-          ord_view q s v w (record {
-            queue = thins_same (w.queue m q.to) (v.queue m q.to) (search arith);
-            inbox = handled_thin v i m;
-            away = λ a. refl;
-            told = λ j e. e;
-          }) h
+          ord_view q s v w (search (arith, thins_same, w.queue, q.to, v.queue, handled_thin)) h
       | inl same ↦
           let is_p : p ≡ q.to = pid_eq-is p q.to same in
           let at : v.acting ≡ m = sym home ∙ ap (λ (r : Pid). r.home) is_p in

@@ -4,23 +4,15 @@ use Rattle.dm_rulelaws.proofs.Names.{OneKernel, bind, id_eq-is, bind-is, Step, L
 use Rattle.dm_rulelaws.proofs.Names.{behind, spelled, group_of, View, About, Told, view_after, is_kernels, own_id, is_put, hushed, not_kernels, put_told_off, Sane, sane_line, part_sane, Sayable, AllSayable, outcome_sayable, seen_none, sets}
 use Rattle.dm_rule.specs.View as view
 use Rattle.dm_rulelaws.proofs.Runs.{Run}
-use Rattle.dm_rulelaws.proofs.Own.Told.{OwnTold, own_sort, HasNoOwn, HaveNoOwn, topic_stage, Later, OwnsFit, NoOwns, FirstOwns, ThenOwns, AnyOwns, senders_step}
+use Rattle.dm_rulelaws.proofs.Own.Told.{OwnTold, own_sort, HasNoOwn, HaveNoOwn, topic_stage, Later, OwnsFit, senders_step}
 use Rattle.dm_rulelaws.proofs.Goes.Parts.{put_lines}
 use Rattle.dm_rulelaws.proofs.Goes.Always.{group_on}
 use Rattle.dm_rulelaws.proofs.Based.Needs.{by_puts}
+use Rattle.dm_rulelaws.proofs.Names.{arith}
 
 -- a line that is no put
 own_by : (pt : Point) (l : Line) (o : Option Label) (s : OneKernel) → is_put l ≡ false → kernel_after pt.kernel o ≡ Some s → Sane pt → OwnTold pt → OwnTold (moved pt l s)
-own_by pt l None s quiet is sane h =
-    let f : pt.kernel ≡ s = cc in
-    record {
-      own = λ i t told mine. h.own i t (sym (ap (λ (g : MsgId → Option Told). g i) (hushed pt.view l quiet).told) ∙ told) mine;
-      sender = λ i x there e. h.sender i x (ap (λ (k : OneKernel). k.bag i) f ∙ there) e;
-    }
-own_by pt l (Some x) s quiet is sane h = record {
-  own = λ i t told mine. h.own i t (sym (ap (λ (g : MsgId → Option Told). g i) (hushed pt.view l quiet).told) ∙ told) mine;
-  sender = senders_step sane.r sane.e pt.kernel s x is sane.sound h.sender;
-}
+own_by pt l o s h1 h2 h3 h4 = search (arith, pt.kernel, hushed, pt.view, senders_step)
 
 own_line : (pt next : Point) (l : Line) → is_put l ≡ false → after_line pt l ≡ Some next → Sane pt → OwnTold pt → OwnTold next
 own_line pt next l quiet is sane h =
@@ -51,11 +43,7 @@ IsRight pt (Owns k q b) = own_sort k q pt.view.topic ≡ true
 IsRight pt _ = ⊤
 
 pub one_line : (pt next : Point) (l : Line) (ls : List Line) → is_put l ≡ false → Some (l ∷ []) ≡ Some ls → after pt ls ≡ Some next → Sane pt → OwnTold pt → OwnTold next
-one_line pt next l ls quiet is leads sane h =
-    let f : l ∷ [] ≡ ls = cc in
-    let (mid, first, last) = bind-is (after_line pt l) (λ q. after q []) next (ap (after pt) f ∙ leads) in
-    let g : mid ≡ next = cc in
-    subst OwnTold g (own_line pt mid l quiet first sane h)
+one_line pt next l ls quiet is leads sane h = search (arith, bind-is, own_line)
 
 puts_lead : (pt next : Point) (b : ℕ) (i : MsgId) (k : MessageKind) (q : Pid) (ls : List Line) → (is_kernels i ≡ true → pt.view.told i ≡ None → own_sort k q pt.view.topic ≡ true) → Some (puts pt.view b i k q) ≡ Some ls → after pt ls ≡ Some next → OwnTold pt → OwnTold next
 puts_lead pt next b i k q ls right is leads h = by_puts OwnTold pt next b i k q ls (own_put pt pt.view.acting b i k q right h) (λ p x y z l o. record { own = o.own; sender = o.sender }) is leads
@@ -101,11 +89,7 @@ none_own (p ∷ ps) pt w ok none is sane h =
 
 -- what a put leaves the group to be about
 line_topic : (pt next : Point) (l : Line) (ls : List Line) → label_of l ≡ None → Some (l ∷ []) ≡ Some ls → after pt ls ≡ Some next → next.view ≡ view_after pt.view l
-line_topic pt next l ls none is leads =
-    let f : l ∷ [] ≡ ls = cc in
-    let e : Some (moved pt l pt.kernel) ≡ Some next = sym (ap (λ (o : Option Label). bind (bind (kernel_after pt.kernel o) (λ (s : OneKernel). Some (moved pt l s))) (λ (q : Point). after q [])) none) ∙ ap (after pt) f ∙ leads in
-    let g : moved pt l pt.kernel ≡ next = cc in
-    ap (λ (q : Point). q.view) (sym g) ∙ seen_none pt.kernel pt.view l none
+line_topic pt next l ls none is leads = search (arith, pt.kernel, seen_none, pt.view)
 
 puts_topic : (pt next : Point) (b : ℕ) (i : MsgId) (k : MessageKind) (q : Pid) (ls : List Line) → Some (puts pt.view b i k q) ≡ Some ls → after pt ls ≡ Some next → next.view.topic ≡ pt.view.topic
 puts_topic pt next b i k q ls is leads =
@@ -150,10 +134,7 @@ any_own l qs pt w ok fit is sane h =
     subst OwnTold n.point (later_own n.next.view.topic qs n.next n.rest ok.1 (fit n.next.view.topic) refl n.more (part_sane pt n.next (Says l) n.ls ok.0 n.lines n.leads sane) (own_part pt n.next (Says l) n.ls ok.0 tt n.lines n.leads sane h))
 
 fits_own : (ps : List Part) (pt : Point) (w : Spelled) → AllSayable ps → OwnsFit pt.view ps → spelled pt ps ≡ Some w → Sane pt → OwnTold pt → OwnTold w.point
-fits_own ps pt w ok (NoOwns none) is sane h = none_own ps pt w ok none is sane h
-fits_own ps pt w ok (FirstOwns fit) is sane h = later_own pt.view.topic ps pt w ok fit refl is sane h
-fits_own ps pt w ok (AnyOwns l qs same fit) is sane h = any_own l qs pt w (subst AllSayable same ok) fit (ap (spelled pt) (sym same) ∙ is) sane h
-fits_own ps pt w ok (ThenOwns l qs same none fit) is sane h = then_own l qs pt w none (subst AllSayable same ok) fit (ap (spelled pt) (sym same) ∙ is) sane h
+fits_own ps pt w h1 h2 h3 h4 h5 = search (arith, none_own, later_own, pt.view.topic, any_own, then_own)
 
 pub own_told_group : (b : Boot) (pt : Point) (d : Step) (w : Spelled) → group_of b pt d ≡ Some w → Run b pt → OwnTold pt → OwnTold w.point
 own_told_group b pt d w is run h =

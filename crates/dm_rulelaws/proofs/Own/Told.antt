@@ -1,9 +1,9 @@
 -- What was told of kernels' own messages, and who sends what is told back.
-use Rattle.dm_rulelaws.proofs.Names.{◌≡◌, ◌==◌, ◌&&◌, ◌||◌, Bool, true, false, not, refl, ap, ◌∙◌, sym, Some, false≢true, Pid, MsgId, MessageKind, plain_kind, PlainMessage, is_told_back, is_between, Point, About, Target, Of, Told}
-use Rattle.dm_rulelaws.proofs.Names.{is_kernels, is_server, is_fixed, second, Sort, sort_of, arith, nat_tests, ℕ, List, [], ◌∷◌, ◌++◌, ⊤, if◌then◌else◌, Option, None, pid_of, Line, Stage, Addresses, Sender, to_kernel, forwards_on, accepts}
-use Rattle.dm_rulelaws.proofs.Names.{takes_chunk, takes_block, gives_piece, sends_on, label_of, Part, Says, Routes, Again, Owns, Transmits, View, Known, Forward, view_after, handled, receiver_of, tells_between, Label, ◌⊎◌, subst, is_some}
-use Rattle.dm_rulelaws.proofs.Names.{length, inl, inr, take, drop, PlainLink, PlainWhat, switchboard, manager, Switchboard, Manager, OneKernel, with_sent, answer_to, without_message, Made, came, stayed, lands-is, Sound, by_step}
-use Rattle.dm_rulelaws.proofs.Names.{code_of_outcome, answer_id, without_note, Pending, MoveNote, ◌+◌}
+use Rattle.dm_rulelaws.proofs.Names.{◌≡◌, ◌==◌, ◌&&◌, Bool, true, false, not, refl, ap, ◌∙◌, sym, Some, false≢true, Pid, MsgId, MessageKind, plain_kind, PlainMessage, is_told_back, is_between, Point, About, Target, Of, Told}
+use Rattle.dm_rulelaws.proofs.Names.{is_kernels, is_server, is_fixed, second, Sort, sort_of, arith, ℕ, List, [], ◌∷◌, ◌++◌, ⊤, if◌then◌else◌, Option, None, pid_of, Line, Stage, Addresses, Sender, to_kernel, forwards_on, accepts}
+use Rattle.dm_rulelaws.proofs.Names.{takes_chunk, takes_block, gives_piece, sends_on, label_of, Part, Says, Routes, Again, Owns, Transmits, View, Known, Forward, view_after, handled, receiver_of, Label, ◌⊎◌, subst, is_some}
+use Rattle.dm_rulelaws.proofs.Names.{length, inl, inr, take, drop, PlainWhat, switchboard, manager, Switchboard, Manager, OneKernel, with_sent, answer_to, without_message, Made, came, stayed, lands-is, Sound, by_step}
+use Rattle.dm_rulelaws.proofs.Names.{answer_id, without_note, MoveNote}
 use Rattle.dm_rule.specs.View.{Place}
 use Rattle.dm_rule.specs.View as view
 use Rattle.dm_onekernel.specs.Pieces as pieces
@@ -48,19 +48,11 @@ about_of : (a : About) → is_process a ≡ true → (p : Pid) × (a ≡ Of p)
 about_of (Of p) e = (p, refl)
 about_of _ e = absurd (false≢true e)
 
-sort_between : (w : Sort) (q : Pid) (a : About) → sort_fits w q a ≡ true → (q.num == 0) ≡ true → (tells_between w ≡ true) × (p : Pid) × (a ≡ Of p)
-sort_between (Sort.Between passage) q a e num = let (p, is) = about_of a (second (q.num == 0) (is_process a) e) in (refl, p, is)
-sort_between Sort.Notice q a e num = absurd (false≢true (sym (ap (λ (c : Bool). not c && (is_place a)) num) ∙ e))
-sort_between Sort.Request q a e num = absurd (false≢true (sym (ap (λ (c : Bool). not (c || is_server q) && (is_target a)) num) ∙ e))
-sort_between _ q a e num = absurd (false≢true e)
-
 pub own_between : (k : MessageKind) (q : Pid) (a : About) → own_sort k q a ≡ true → (q.num == 0) ≡ true → (is_between k ≡ true) × (p : Pid) × (a ≡ Of p)
-own_between k = sort_between (sort_of k)
+own_between k = search (arith, about_of, second)
 
 pub own_server : (k : MessageKind) (q : Pid) (a : About) → own_sort k q a ≡ true → (q.num == 0) ≡ false → is_server q ≡ true → k ≡ MessageKind.Update
-own_server MessageKind.Update q a e num server = refl
-own_server MessageKind.Migrate q a e num server = absurd (false≢true (sym (ap (λ (c : Bool). not c && (is_target a)) (ap (λ (c : Bool). c || is_server q) num ∙ server)) ∙ e))
-own_server _ q a e num server = absurd (grind (arith, nat_tests))
+own_server k q a h1 h2 h3 = search arith
 
 -- Where the parts of a group have kernels' own messages, and what these are about.
 
@@ -169,28 +161,12 @@ abbrev pub SentBy : Pid → Option PlainMessage → Type 0
 SentBy q None = ⊤
 SentBy q (Some m) = m.sender ≡ q
 
-board_request : (b : Switchboard) (body : List ℕ) (links : List PlainLink) → SentBy switchboard (board.takes_request b body links).answer
-board_request b body [] = tt
-board_request b body (l ∷ ls) = refl
-
 pub board_sender : (b : Switchboard) (m : PlainMessage) (w : PlainWhat) (k : board.BoardTook) → board.board_takes b m w ≡ Some k → SentBy switchboard k.answer
-board_sender b m (PlainWhat.User code channel body links) k e = let f : board.takes_request b body links ≡ k = cc in subst (λ (v : board.BoardTook). SentBy switchboard v.answer) f (board_request b body links)
+board_sender b m (PlainWhat.User code channel body links) k e = search arith
 board_sender b m _ k e = cc
 
 pub manager_sender : (g : Manager) (machines images : ℕ) (m : PlainMessage) (w : PlainWhat) (k : manage.ManagerTook) → manage.manager_takes g machines images m w ≡ Some k → SentBy manager k.message
-manager_sender g machines images m w k =
-    let over : (children : List Pid) (pending : List Pending) (o : Option PlainLink) (code : ℕ) (links : List PlainLink) → SentBy manager (manage.answers_over (record g { children = children; pending = pending }) o code links).message =
-    λ children pending o code links. by_over (λ x. SentBy manager x.message) (record g { children = children; pending = pending }) o code links tt (λ l. refl) in
-    by_manager (λ x. SentBy manager x.message) g machines images m w k (record {
-      ignores = tt;
-      refuses = λ l ls u. refl;
-      asks = λ machine image l ls u within. refl;
-      moves = λ code child machine links u is within. refl;
-      tells = λ code child v is control. refl;
-      created = λ child r is there. over (g.children ++ child ∷ []) (manage.without_pending m.id.n g.pending) r.answer 0 (manage.control_link (length g.children + 1) ∷ []);
-      no_room = λ r is there. over g.children (manage.without_pending m.id.n g.pending) r.answer 1 [];
-      moved = λ outcome r is there. over g.children (manage.without_pending m.id.n g.pending) r.answer (code_of_outcome outcome) [];
-    })
+manager_sender g machines images m w k = search (arith, by_over, by_manager, g.children, m.id.n, g.pending)
 
 server_brings : (s u : OneKernel) (q : Pid) (o : Option PlainMessage) → SentBy q o → is_server q ≡ true → Sub u s → Brings s (with_sent u o)
 server_brings s u q None sends server same i x there = inl (same i x there)
@@ -238,13 +214,7 @@ brings s t l lives =
     })
 
 is_sent : (s : OneKernel) (x : PlainMessage) → Made s → Origin s x → IsSent x
-is_sent s x made h e = elim h [
-  | inl process ↦ let k = made.least x.sender process in grind (arith, nat_tests)
-  | inr other ↦ elim other [
-    | inl server ↦ grind (arith, nat_tests)
-    | inr kernel ↦ absurd (false≢true (sym kernel.1 ∙ e))
-  ]
-]
+is_sent s x made h e = search (arith, made.least, x.sender)
 
 -- each step keeps it
 pub senders_step : (r e : MsgId → ℕ) (s t : OneKernel) (l : Label) → step.step s l ≡ Some t → Sound r e s → Senders s → Senders t

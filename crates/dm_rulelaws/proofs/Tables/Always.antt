@@ -1,9 +1,9 @@
 -- Each label of a process keeps the number of link slots, and so does what its kernel is asked.
 use Rattle.dm_rulelaws.proofs.Names.{◌≡◌, ℕ, ◌≤◌, Bool, true, nat_le, List, [], ◌∷◌, ◌++◌, length, map, refl, ap, ◌∙◌, sym, subst, inl, inr, arith, if◌then◌else◌, slice_get, option_map, Option, None, Some, cases_Bool, nat_tests, length-map}
 use Rattle.dm_rulelaws.proofs.Names.{Pid, pid_eq, plain_link, BootImage, BootProcess, Boot, Label, IsValid, starting_at, processes_are_valid, process_is_valid, slots_of, PlainProcess, Alive, OneKernel, begun, first_life, life_at, replay}
-use Rattle.dm_rulelaws.proofs.Names.{bind-is, Step, Point, first_point, labels, Leads, Each, ◌+◌, ◌-◌, ◌==◌, ◌&&◌, false, take, drop, ⊤, MsgId, PlainMessage, PlainWhat, Direction, Row, instruction, Reply, Why, bind, PlainStatus, Moving}
+use Rattle.dm_rulelaws.proofs.Names.{bind-is, Step, Point, first_point, labels, Leads, Each, ◌+◌, ◌-◌, ◌==◌, false, take, drop, ⊤, MsgId, PlainMessage, PlainWhat, Direction, Row, Reply, Why, PlainStatus, Moving}
 use Rattle.dm_rulelaws.proofs.Names.{answer_to, without_message, by_step, zero, suc, filter_map, nat_lt, slice_set, cons_option, length-take, PlainLink, first_empty, link_at, Waiting, reg, Called, Replies, Sends, Waits, Outputs, Ends}
-use Rattle.dm_rulelaws.proofs.Names.{replicate, length-append, length-replicate, Format, Manager, with_sent, slots_with, running_is, at_hand-is, without_note, answer_id, Outcome, code_of_outcome}
+use Rattle.dm_rulelaws.proofs.Names.{replicate, length-append, length-replicate, Format, Manager, with_sent, slots_with, running_is, at_hand-is, without_note, answer_id}
 use Rattle.dm_onekernel.specs.Step as kernel
 use Rattle.dm_onekernel.specs.Calls as calls
 use Rattle.dm_onekernel.specs.Pieces as pieces
@@ -27,14 +27,9 @@ pub put_maybe : (u : OneKernel) (o : Option PlainMessage) → SendsFew o → Tab
 put_maybe u None f h = h
 put_maybe u (Some m) f h = put_tables u m f h
 
--- the switchboard
-answer_few : (a : board.Answer) → length (board.links_of_answer a) ≤ 4
-answer_few board.Registered = omega arith
-answer_few _ = omega arith
-
 request_few : (b : _) (body : List ℕ) (links : List PlainLink) → SendsFew (board.takes_request b body links).answer
 request_few b body [] = tt
-request_few b body (l ∷ ls) = answer_few (board.asks b.names body ls).answer
+request_few b body (l ∷ ls) = search arith
 
 pub board_few : (b : _) (m : PlainMessage) (w : PlainWhat) (k : board.BoardTook) → board.board_takes b m w ≡ Some k → SendsFew k.answer
 board_few b m (PlainWhat.User code channel body links) k e = let f : board.takes_request b body links ≡ k = cc in subst (λ (x : board.BoardTook). SendsFew x.answer) f (request_few b body links)
@@ -42,18 +37,7 @@ board_few b m _ k e = cc
 
 -- the manager
 pub took_few : (g : Manager) (machines images : ℕ) (m : PlainMessage) (w : PlainWhat) (k : manage.ManagerTook) → manage.manager_takes g machines images m w ≡ Some k → FewLinks w → SendsFew k.message
-took_few g machines images m w k e few =
-    let none : 0 ≤ 4 = omega arith in
-    by_manager (λ x. SendsFew x.message) g machines images m w k (record {
-      ignores = tt;
-      refuses = λ l ls u. none;
-      moves = λ code child machine links u is within. tt;
-      asks = λ machine image l ls u within. (let less : length (l ∷ ls) ≤ 4 = subst FewLinks u.is few in omega (arith, less));
-      tells = λ code child v is control. control FewLinks tt tt tt;
-      created = λ child r is there. by_over (λ x. SendsFew x.message) (record g { children = g.children ++ child ∷ []; pending = manage.without_pending m.id.n g.pending }) r.answer 0 (manage.control_link (length g.children + 1) ∷ []) tt (λ l. omega arith);
-      no_room = λ r is there. by_over (λ x. SendsFew x.message) (record g { pending = manage.without_pending m.id.n g.pending }) r.answer 1 [] tt (λ l. none);
-      moved = λ outcome r is there. by_over (λ x. SendsFew x.message) (record g { pending = manage.without_pending m.id.n g.pending }) r.answer (code_of_outcome outcome) [] tt (λ l. none);
-    }) e
+took_few g machines images m w k e few = search (arith, by_manager, by_over, g.children, m.id.n, g.pending)
 
 -- a process that is made
 pub slots_with_length : {L : Type 0} (n : ℕ) (links : List L) → length links ≤ n → length (slots_with n links) ≡ n
@@ -63,12 +47,8 @@ slots_with_length {L} n links le =
     let c : length (replicate (n - length links) None) ≡ n - length links = length-replicate {A = Option L} (n - length links) None in
     omega (arith, a, b, c, le)
 
-pub most_slots : (f : Format) → 4 ≤ slots_of f
-most_slots Format.One = omega arith
-most_slots Format.Two = omega arith
-
 pub child_length : (f : Format) (image : BootImage) (links : List PlainLink) → length links ≤ 4 → length (begun f image links).links ≡ slots_of f
-child_length f image links few = let many = most_slots f in slots_with_length (slots_of f) links (omega (arith, few, many))
+child_length f image links few = search (arith, slots_with_length)
 
 -- Each label of a process keeps the number of link slots, and so does what its kernel is asked.
 
@@ -120,17 +100,7 @@ requests_few p x Direction.FromArea owner base own left = tt
 requests_few p x Direction.IntoArea owner base own left = tt
 
 pub call_tables : (p : Pid) (x : PlainProcess) (n : ℕ) → CallTables x (calls.call p x n)
-call_tables p x n = by_call (CallTables x) p x n (record {
-  refuses = λ c. refl;
-  outputs = refl;
-  makes = λ slot e. set_length x.links slot (Some (calls.own_link p x));
-  copies = λ l slot is. set_length x.links slot (Some l);
-  drops = λ l. set_length x.links (reg x.regs 1) None;
-  sends = λ l is few. (without_length x.links (reg x.regs 1 ∷ calls.listed x), listed_few x few);
-  waits = refl;
-  moves = λ l dir is right lies off. (refl, requests_few p x dir l.to (l.area.base + reg x.regs 3) (reg x.regs 4) (reg x.regs 5));
-  ends = λ y. tt;
-})
+call_tables p x n = search (arith, by_call, set_length, x.links, x.regs, without_length, listed_few, requests_few)
 
 -- links are placed
 placed_step : (t : receiving.RegsAndLinks) (r : ℕ) (l : PlainLink) (o : Option ℕ) → length (receiving.place_into t r l o).links ≡ length t.links
@@ -145,21 +115,9 @@ abbrev pub CompletedTables : PlainProcess → receiving.Completed → Type 0
 CompletedTables x (receiving.Receives y) = SameSlots x y
 CompletedTables x (receiving.Refuses c y) = SameSlots x y
 
-completes_tables : (x : PlainProcess) (base code channel : ℕ) (body : List ℕ) (links : List PlainLink) (o : Option Reply) → CompletedTables x (receiving.completes_unless o x (receiving.with_received x base code channel body links))
-completes_tables x base code channel body links None = placed_length links (record { regs = receiving.received_regs x.regs code channel (length body) (length links); links = x.links }) 5
-completes_tables x base code channel body links (Some c) = refl
-
-if_completes : (x : PlainProcess) (b : Bool) (c d : receiving.Completed) → CompletedTables x c → (if b then Some c else None) ≡ Some d → CompletedTables x d
-if_completes x true c d h e = let f : c ≡ d = cc in subst (CompletedTables x) f h
-if_completes x false c d h e = cc
-
 status_tables : (p : Pid) (x : PlainProcess) (m : PlainMessage) (st : PlainStatus) (d : receiving.Completed) → receiving.completes_status p x m st ≡ Some d → CompletedTables x d
-status_tables p x m (Waiting mask base size) d e = search (arith, if_completes, m.to, completes_tables)
+status_tables p x m (Waiting mask base size) d e = search (arith, m.to, placed_length)
 status_tables p x m _ d e = cc
-
-pub with_tables : (p : Pid) (x : PlainProcess) (m : PlainMessage) (b : Bool) (d : receiving.Completed) → (if b then None else receiving.completes_status p x m x.status) ≡ Some d → CompletedTables x d
-with_tables p x m true d e = cc
-with_tables p x m false d e = status_tables p x m x.status d e
 
 -- Each label of a process keeps the number of link slots, and so does what its kernel is asked.
 
@@ -174,24 +132,10 @@ record NextIs (s : OneKernel) (p : Pid) (n : kernel.Trap) : Type 0 where
   same : NextTables x n
 
 next_row_is : (s : OneKernel) (p : Pid) (x : PlainProcess) (w : Row) (n : kernel.Trap) → s.processes p ≡ Some (Alive x) → kernel.next_row p x w ≡ Some n → NextIs s p n
-next_row_is s p x (Row.Plain regs bytes) n is e = cc
-next_row_is s p x (Row.Calls number regs) n is e =
-    let f : kernel.Calls number (calls.call p (record x { regs = regs }) number) ≡ n = cc in
-    let z = record x { regs = regs } in
-    record { x = x; alive = is; same = subst (NextTables x) f (of_call x z (calls.call p z number) refl (call_tables p z number)) }
-  where
-    of_call : (x z : PlainProcess) (c : calls.Called) → z.links ≡ x.links → CallTables z c → CallTables x c
-    of_call x z (calls.Sends m y) e h = (h.0 ∙ ap length e, h.1)
-    of_call x z (calls.Ends y) e h = tt
-    of_call x z _ e h = h ∙ ap length e
-next_row_is s p x (Row.Faults fault) n is e =
-    let f : kernel.Faults fault ≡ n = cc in
-    record { x = x; alive = is; same = subst (NextTables x) f tt }
+next_row_is s p x w n h1 h2 = search (arith, call_tables, x.links)
 
 next_is : (s : OneKernel) (p : Pid) (n : kernel.Trap) → kernel.next_trap s p ≡ Some n → NextIs s p n
-next_is s p n e =
-    let (x, running, row_is) = bind-is (kernel.running s p) (λ (v : PlainProcess). kernel.next_row p v (instruction v.regs v.memory)) n e in
-    next_row_is s p x (instruction x.regs x.memory) n (running_is s p x running).alive row_is
+next_is s p n e = search (arith, bind-is, next_row_is, running_is)
 
 -- receives
 record Completing (s : OneKernel) (p : Pid) (d : receiving.Completed) : Type 0 where
@@ -200,10 +144,7 @@ record Completing (s : OneKernel) (p : Pid) (d : receiving.Completed) : Type 0 w
   same : CompletedTables x d
 
 completing_is : (s : OneKernel) (p : Pid) (id : MsgId) (d : receiving.Completed) → kernel.completing s p id ≡ Some d → Completing s p d
-completing_is s p id d e =
-    let (x, hand, rest) = bind-is (kernel.at_hand s p) (λ (v : PlainProcess). bind (s.bag id) (receiving.completes_with p v)) d e in
-    let (m, there, last) = bind-is (s.bag id) (receiving.completes_with p x) d rest in
-    record { x = x; alive = (at_hand-is s p x hand).1; same = with_tables p x m x.stopped d last }
+completing_is s p id d e = search (arith, bind-is, s.bag, at_hand-is, status_tables)
 
 -- landings
 abbrev LandTables : PlainProcess → pieces.Landed → Type 0
@@ -219,20 +160,8 @@ if_lands : (x : PlainProcess) (b : Bool) (k c : pieces.Landed) → LandTables x 
 if_lands x true k c h e = let f : k ≡ c = cc in subst (LandTables x) f h
 if_lands x false k c h e = cc
 
-lands_what_tables : (p : Pid) (x : PlainProcess) (dir : Direction) (owner : Pid) (base own left : ℕ) (w : PlainWhat) (c : pieces.Landed) → pieces.lands_what p x dir owner base own left w ≡ Some c → LandTables x c
-lands_what_tables p x Direction.FromArea owner base own left (PlainWhat.Block bytes) c e =
-    let z = record x { memory = pieces.written_at x.memory own bytes } in
-    if_lands x ((length bytes == pieces.piece_of left) && nat_le (own + left) (length x.memory)) (pieces.move_goes_on p z Direction.FromArea owner base own left (pieces.piece_of left)) c
-    (goes_on_by p x z Direction.FromArea owner base own left (left - pieces.piece_of left == 0) refl) e
-lands_what_tables p x Direction.IntoArea owner base own left PlainWhat.Written c e =
-    if_lands x (nat_le (own + left) (length x.memory)) (pieces.move_goes_on p x Direction.IntoArea owner base own left (pieces.piece_of left)) c
-    (goes_on_by p x x Direction.IntoArea owner base own left (left - pieces.piece_of left == 0) refl) e
-lands_what_tables p x Direction.FromArea owner base own left PlainWhat.Gone c e = let k : pieces.done Reply.Gone x ≡ c = cc in subst (LandTables x) k refl
-lands_what_tables p x Direction.IntoArea owner base own left PlainWhat.Gone c e = let k : pieces.done Reply.Gone x ≡ c = cc in subst (LandTables x) k refl
-lands_what_tables p x _ owner base own left _ c e = cc
-
 lands_if : (p : Pid) (x : PlainProcess) (b : Bool) (dir : Direction) (owner : Pid) (base own left : ℕ) (w : PlainWhat) (c : pieces.Landed) → (if b then pieces.lands_what p x dir owner base own left w else None) ≡ Some c → LandTables x c
-lands_if p x true dir owner base own left w c e = lands_what_tables p x dir owner base own left w c e
+lands_if p x true dir owner base own left w c e = search (arith, if_lands, goes_on_by)
 lands_if p x false dir owner base own left w c e = cc
 
 lands_by : (p : Pid) (x : PlainProcess) (m : PlainMessage) (st : PlainStatus) (c : pieces.Landed) → pieces.lands p x m st ≡ Some c → LandTables x c
@@ -240,10 +169,7 @@ lands_by p x m (Moving dir owner base own left pending) c e = lands_if p x (m.id
 lands_by p x m _ c e = cc
 
 gone_few : (w v : PlainWhat) → service.gone_what w ≡ Some v → FewLinks v
-gone_few (PlainWhat.Read base len) v e = let f : PlainWhat.Gone ≡ v = cc in subst FewLinks f tt
-gone_few (PlainWhat.Write base bytes) v e = let f : PlainWhat.Gone ≡ v = cc in subst FewLinks f tt
-gone_few (PlainWhat.Move machine) v e = let f : PlainWhat.Moved Outcome.Ended ≡ v = cc in subst FewLinks f tt
-gone_few _ v e = cc
+gone_few w v h1 = search arith
 
 -- each step
 pub tables_step : (s t : OneKernel) (e : Label) → kernel.step s e ≡ Some t → Tables s → Tables t
