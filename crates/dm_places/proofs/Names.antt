@@ -55,13 +55,12 @@ pub use Rattle.dm_rule.proofs.Names.{board_takes_burden, burden_of, call_gets, c
 pub use Rattle.dm_rule.proofs.Names.{first_view, forwarded_for, forwards, gets, given, gives, goes_out, group_of, handled, id_eq-is, id_eq-same, id_eq-swap, is_kernels, is_pid, is_told_back, kernel_after, label_of, landing_gets, leads_to}
 pub use Rattle.dm_rule.proofs.Names.{lines_of, link_target, links_at, manager_answers, manager_sends, manager_takes_burden, moved, name_link, nth_child, option_map_or, outcome, own_given, own_id, owner_in, owner_of, packet_line}
 pub use Rattle.dm_rule.proofs.Names.{pair_window, pid_eq-is, pid_eq-same, place_known, place_named, place_of, place_told, plain_kind, puts, receiver_of, receives_burden, receives_links, reply_eq, seen, sends_burden, serves_burden}
-pub use Rattle.dm_rule.proofs.Names.{slot_after, slot_of, slots_of, slots_with, sort_of, spelled, standing, start-sound, target_of, times, told_back_gets, unmoved, updated, updated_to, view_after, when-is, why_eq, board_gets, boot_home}
-pub use Rattle.dm_rule.proofs.Names.{headed, manager_gets, own_gives, receives_what, sends_what, serves_what}
+pub use Rattle.dm_rule.proofs.Names.{slot_after, slot_of, slots_of, slots_with, sort_of, spelled, standing, start-sound, target_of, times, told_back_gets, unmoved, updated, updated_to, view_after, when-is, why_eq}
 pub use Rattle.dm_rule.proofs.Pairs.Moves.{or_first, or_first as or_second}
 pub use Rattle.dm_rule.proofs.Requests.{by_migrates}
 pub use Rattle.dm_rule.proofs.Worked.{hi}
 pub use Rattle.dm_rule.specs.Addresses.{board_asks}
-pub use Rattle.dm_rule.specs.Migrating.{answers_in, behind_among, holders_numbered, holders_of, slot_holders, slots_from}
+pub use Rattle.dm_rule.specs.Migrating.{answers_in, behind_among, holders_numbered, holders_of, slot_holders}
 pub use Rattle.dm_rule.specs.View.{first_told, is_own}
 pub use Rattle.dm_places.specs.Changes.{Changes, StepsChangeLittle, changed, is_named, receiver_in, taken, taken_out}
 pub use Rattle.dm_places.specs.Following.{GroupNeeds, LineNeeds, MirrorsPoint, ServersApart, is_among, sent_all}

@@ -1,10 +1,9 @@
 -- The labels of a run's lines replay as steps of the kernel without machines; so all fits wherever the rule leads.
 use Rattle.dm_rulelaws.proofs.Names.{◌≡◌, ℕ, ◌+◌, List, [], ◌∷◌, ◌++◌, refl, ap, ◌∙◌, subst, Option, None, Some, MsgId, Boot, Label, OneKernel, bind, replay, entry, reception, after_step, start-sound, Sound, bind-is, Step, Line, Point}
-use Rattle.dm_rulelaws.proofs.Names.{first_point, label_of, labels, with_label, kernel_after, after_line, after, moved, Part, Spelled, spelled, group_of, Leads, KernelFits, FitsAlways, by_parts, by_group}
+use Rattle.dm_rulelaws.proofs.Names.{first_point, label_of, labels, with_label, kernel_after, after_line, after, moved, Part, Spelled, spelled, group_of, Leads, KernelFits, FitsAlways, by_parts, by_group, arith}
 use Rattle.dm_onekernel.specs.Step as kernel
 use Rattle.dm_rulelaws.proofs.Fits.Constants.{InOrder, step_constant}
 use Rattle.dm_rulelaws.proofs.Fits.Start.{fits_step, start_fits}
-use Rattle.dm_rulelaws.proofs.Names.{arith}
 
 -- one line
 line_replay : (o : Option Label) (ls : List Label) (s t u : OneKernel) → kernel_after s o ≡ Some t → replay t ls ≡ Some u → replay s (with_label o ls) ≡ Some u

@@ -1,8 +1,7 @@
 -- What the manager does with a message, row by row: whatever holds where each row leads holds of what it does.
 use Rattle.dm_rulelaws.proofs.Names.{◌≡◌, ℕ, ◌+◌, ◌*◌, ◌==◌, ◌&&◌, Bool, true, false, List, [], ◌∷◌, ◌++◌, length, refl, subst, nat_lt, if◌then◌else◌, Option, None, Some, Pid, PlainLink, PlainMessage, PlainWhat, Pending, Manager, Outcome}
-use Rattle.dm_rulelaws.proofs.Names.{PendingKind, code_of_outcome}
+use Rattle.dm_rulelaws.proofs.Names.{PendingKind, code_of_outcome, arith}
 use Rattle.dm_onekernel.specs.Manager as manage
-use Rattle.dm_rulelaws.proofs.Names.{arith}
 
 -- a user message with these links
 pub record Letter (w : PlainWhat) (links : List PlainLink) : Type 0 where

@@ -9,7 +9,6 @@ use Rattle.dm_rule.proofs.Names.{begun}
 use Rattle.dm_onekernel.specs.Kernel.{Ended}
 use Rattle.dm_movelaws.proofs.Movers.Says.{other_end, Begins, StatusSays, Says, AllSay, still_says, fresh_says, ended_says, out_says, other_says, answer_says, Requests, request_says, set_says}
 use Rattle.dm_movelaws.proofs.After.{keeps_always}
-use Rattle.dm_rulelaws.proofs.Names.{awaits}
 use Rattle.dm_onekernel.specs.Step as kernel
 use Rattle.dm_onekernel.specs.Calls as calls
 use Rattle.dm_onekernel.specs.Pieces as pieces

@@ -100,7 +100,23 @@ kills_lists s e v MessageKind.Kill None h = h
 kills_lists s e v _ o h = h
 
 pub label_lists : (s : OneKernel) (e : MsgId → ℕ) (v : View) (l : Label) → ListsHome s e v → ListsHome s e (after_label v l)
-label_lists s e v l h1 = search (arith, queue_set, all_stand_without, dropped_lists, handled_lists, kills_lists)
+label_lists s e v (Label.Ran p k) h = record { inbox = h.inbox; queue = h.queue; untaken = h.untaken }
+label_lists s e v (Label.End p y) h = record { inbox = h.inbox; queue = h.queue; untaken = h.untaken }
+label_lists s e v (Label.Receive p id) h = record {
+  inbox = h.inbox;
+  queue = queue_set s e v.queue v.acting p (without_id id (v.queue v.acting p)) (all_stand_without s e v.acting id (v.queue v.acting p) (h.queue v.acting p)) h.queue;
+  untaken = h.untaken;
+}
+label_lists s e v (Label.Refuse p id c) h = record { inbox = h.inbox; queue = h.queue; untaken = h.untaken }
+label_lists s e v (Label.Dropped id) h = dropped_lists s e (handled v id) id (view.receiver_of (v.told id)) (handled_lists s e v id h)
+label_lists s e v (Label.Served id) h = elim (v.told id) as (λ o. ListsHome s e (served_told (handled v id) o))
+    [ None ↦ (handled_lists s e v id h) | Some t ↦ kills_lists s e (handled v id) t.kind (Some t.receiver) (handled_lists s e v id h) ]
+label_lists s e v (Label.Gone id) h = handled_lists s e v id h
+label_lists s e v (Label.Took id) h = handled_lists s e v id h
+label_lists s e v (Label.Created id p) h = let k = handled_lists s e v id h in record { inbox = k.inbox; queue = k.queue; untaken = k.untaken }
+label_lists s e v (Label.NoSpace id f b) h = handled_lists s e v id h
+label_lists s e v (Label.Asked id) h = handled_lists s e v id h
+label_lists s e v _ h = h
 
 -- queued
 queued_lists : (s : OneKernel) (e : MsgId → ℕ) (v : View) (id : MsgId) (o : Option Pid) → stands s e v.acting id ≡ true → ListsHome s e v → ListsHome s e (queued_for v id o)

@@ -74,7 +74,12 @@ line_keeps none r e pt pt' (Line.Taken a b n) at h is =
     let p = pt.view.pair a b in
     let q : Pair = record p { taken = p.taken + 1; kept = filter (λ k. not (k == n)) p.kept } in
     let w = view.with_pair pt.view a b q in
-    subst (Kept pt.view.acting) f ((search (arith, rings_taken, rings_same, taken_lists, acting_taken)))
+    subst (Kept pt.view.acting) f (record {
+      r = r;
+      e = e;
+      home = record { sound = h.sound; at = h.at; rings = rings_taken w b (view.oldest p) (rings_same pt.view w refl refl refl h.rings); lists = taken_lists pt.kernel e pt.view a b n h.lists };
+      acting = acting_taken w b (view.oldest p);
+    })
 line_keeps none r e pt pt' (Line.Early a b n) at h is =
     let f : moved pt (Line.Early a b n) pt.kernel ≡ pt' = cc in
     let p = pt.view.pair a b in

@@ -99,7 +99,9 @@ steadied pt h = record { state = arrived pt h.between; fits = h.fits }
 
 -- a message is forwarded
 forwarded_off : (v : View) (i : MsgId) (o : Option Pid) (z : Spot) → ids_at (forwarded_for (handled v i) o) z ≡ ids_at (handled v i) z
-forwarded_off v i o z = search arith
+forwarded_off v i None z = refl
+forwarded_off v i (Some p) (Queue m q) = refl
+forwarded_off v i (Some p) _ = refl
 
 pub forwarded_way : (pt : Point) (i : MsgId) (is : List MsgId) (to : ℕ) → State None pt → pt.view.inbox pt.view.acting ≡ i ∷ is → Between (i ∷ []) (moved pt (Line.Forwarded i to) pt.kernel)
 forwarded_way pt i is to h front =

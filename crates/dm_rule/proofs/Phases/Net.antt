@@ -101,7 +101,13 @@ pub taken_calm : (v : View) (a b n : ℕ) → Calm v (view_after v (Line.Taken a
 taken_calm v a b n = taken_by v a b n (slice_get (v.pair a b).ids (v.pair a b).taken) refl
 
 net_calm : (v : View) (l : Line) → IsNetLine l → Calm v (view_after v l)
-net_calm v l h1 = search (arith, taken_calm, calm_same, moves_none, early_off, acked_off)
+net_calm v (Line.Taken a b n) h = taken_calm v a b n
+net_calm v (Line.Old a b n) h = calm_same v
+net_calm v (Line.Early a b n) h = moves_none v (Line.Early a b n) refl (λ m q. refl) (λ z. early_off v a b n z)
+net_calm v (Line.Acked a b n) h = moves_none v (Line.Acked a b n) refl (λ m q. refl) (λ z. acked_off v a b n z)
+net_calm v Line.Nothing h = calm_same v
+net_calm v (Line.Resent m n) h = calm_same v
+net_calm v _ h = absurd h
 
 pub net_parts : (ps : List Part) (pt : Point) (w : Spelled) → IsNet ps → spelled pt ps ≡ Some w → Calm pt.view w.point.view
 net_parts [] pt w h e = subst (λ (q : Point). Calm pt.view q.view) (said pt w e) (calm_same pt.view)

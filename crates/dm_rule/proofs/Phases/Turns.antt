@@ -31,7 +31,11 @@ line_first : (pt : Point) (l : Line) (ps : List Part) (w : Spelled) → Fit pt �
     → ((s : OneKernel) → (next : Fit (moved pt l s)) → (rest : Spelled) → spelled (moved pt l s) ps ≡ Some rest → InPhases rest.point.view) → spelled pt (Says l ∷ ps) ≡ Some w → InPhases w.point.view
 line_first pt l ps w h quiet calm phases go e =
     let k = says_next pt l ps w e in
-    let next : Fit (moved pt l k.s) = (search (arith, sane_line, fits_as, pair_same)) in
+    let next : Fit (moved pt l k.s) = record {
+      phases = phases k.s k.is;
+      sane = sane_line pt (moved pt l k.s) l quiet (ap (λ (o : Option OneKernel). bind o (λ s. Some (moved pt l s))) k.is) h.sane;
+      fits = fits_as pt.view (seen pt.kernel pt.view l) (pair_same pt.view l calm) h.fits;
+    } in
     subst (λ (q : Point). InPhases q.view) k.point (go k.s next k.rest k.more)
 
 drops_quiet : (v : View) (ids : List MsgId) → AllQuiet v (rule.drop_parts ids)

@@ -1,5 +1,5 @@
 -- All that the kernel without machines and the lines say of processes and of what waits for them holds wherever the rule leads.
-use Rattle.dm_rulelaws.proofs.Names.{◌≡◌, List, [], ◌∷◌, ◌∙◌, subst, Some, Boot, IsValid, Step, IsStep, Leads, Spelled, Point, first_point, labels, group_of, phased_start, phased_group}
+use Rattle.dm_rulelaws.proofs.Names.{◌≡◌, List, [], ◌∷◌, ◌∙◌, subst, Some, Boot, IsValid, Step, IsStep, Leads, Spelled, Point, first_point, labels, group_of, phased_start, phased_group, arith}
 use Rattle.dm_rulelaws.proofs.Based.Noted.{noted_start, noted_group}
 use Rattle.dm_rulelaws.proofs.Fits.Start.{start_fits}
 use Rattle.dm_rulelaws.proofs.RunLabels.{group_replay, replay_fits}
@@ -8,7 +8,6 @@ use Rattle.dm_rulelaws.proofs.Based.Constants.{constant_group}
 use Rattle.dm_rulelaws.proofs.Based.Queues.{lists_group, waits_start, waits_group, waits_by, queued_of, held_of}
 use Rattle.dm_rulelaws.proofs.Based.Start.{known_start}
 use Rattle.dm_rulelaws.proofs.Based.Unmoved.{unmoved_group, known_group}
-use Rattle.dm_rulelaws.proofs.Names.{arith}
 
 pub based_start : (b : Boot) → IsValid b → Based b (first_point b)
 based_start b valid =

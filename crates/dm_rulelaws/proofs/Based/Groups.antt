@@ -1,8 +1,8 @@
 -- What a turn says of a kernel's own message has what its lines need; so each group keeps what each line keeps.
-use Rattle.dm_rulelaws.proofs.Names.{◌≡◌, ℕ, ◌==◌, Bool, true, false, not, List, [], ◌∷◌, ◌++◌, length, refl, ap, ◌∙◌, sym, subst, Option, None, Some, arith, Pid, MsgId, MessageKind, Stage, Boot, manager, Step, Line, View, Told}
-use Rattle.dm_rulelaws.proofs.Names.{Of, Known, Frozen, Incoming, after_head, Point, moved, Says, Spelled, is_between, is_apart, is_away, is_here, Phase, Moves, knows, receiver_in, to_kernel, sends_on, updates, migrates}
-use Rattle.dm_rulelaws.proofs.Names.{group_of, at_record_at, front_way, Sane, InPhases, calm_phases, due, head_calm, told_some, Rooted, Phased, rooted, moves_away, State, is_server, has_nothing_held, KnownStands, right_true, by_migrates}
-use Rattle.dm_rulelaws.proofs.Names.{by_hears, left_parts, by_net, by_outcome, answers_move, Outcome}
+use Rattle.dm_rulelaws.proofs.Names.{◌≡◌, ℕ, ◌==◌, Bool, true, false, not, List, [], ◌∷◌, ◌++◌, length, refl, ap, ◌∙◌, sym, subst, Option, None, Some, arith, Pid, MsgId, MessageKind, Stage, Boot, manager, Step, Line, View, Told, Of, Known}
+use Rattle.dm_rulelaws.proofs.Names.{Frozen, Incoming, after_head, Point, moved, Says, Spelled, is_between, is_apart, is_away, is_here, Phase, Moves, knows, receiver_in, to_kernel, sends_on, updates, migrates, group_of, at_record_at}
+use Rattle.dm_rulelaws.proofs.Names.{front_way, Sane, InPhases, calm_phases, due, head_calm, told_some, Rooted, Phased, rooted, moves_away, State, is_server, has_nothing_held, KnownStands, right_true, by_migrates, by_hears, left_parts}
+use Rattle.dm_rulelaws.proofs.Names.{by_net, by_outcome, answers_move, Outcome}
 use Rattle.dm_rule.specs.Rule as rule
 use Rattle.dm_rulelaws.proofs.Based.Needs.{Leaving, Keeps, Walks, WalksOf, AllLoose, loose_walks, first_walks, said_by, again_rides, begun, begun_sane, outcome_keeps}
 use Rattle.dm_rulelaws.proofs.Based.Rows.{walks_of, known_living, turned, resting, living, round_walks, handles_walks, forwards_walks}

@@ -1,7 +1,7 @@
 -- What a turn says of a message of the bag, and of a process that is served, has what its lines need.
-use Rattle.dm_rulelaws.proofs.Names.{◌≡◌, ℕ, ◌+◌, ◌==◌, Bool, true, false, List, [], ◌∷◌, ap, ◌∙◌, sym, subst, if◌then◌else◌, Option, Some, arith, Pid, pid_of, MsgId, MessageKind, Label, Step, Line, plain_kind, PlainMessage}
-use Rattle.dm_rulelaws.proofs.Names.{Boot, first_number, PlainProcess, not_server, alive-is, View, Told, Known, Here, Addresses, Point, moved, Part, Says, Routes, is_away, is_here, Phase, Rests, knows, forwards_on, not_kernels, Sane}
-use Rattle.dm_rulelaws.proofs.Names.{InPhases, rests_here, Rooted, has_nothing_held, Stops, by_round, by_handles, by_forwards, answers_move, leaves_for, Outcome, OneKernel, KnownStands, is_server}
+use Rattle.dm_rulelaws.proofs.Names.{◌≡◌, ℕ, ◌+◌, ◌==◌, Bool, true, false, List, [], ◌∷◌, ap, ◌∙◌, sym, subst, if◌then◌else◌, Option, Some, arith, Pid, pid_of, MsgId, MessageKind, Label, Step, Line, plain_kind, PlainMessage, Boot}
+use Rattle.dm_rulelaws.proofs.Names.{first_number, PlainProcess, not_server, alive-is, View, Told, Known, Here, Addresses, Point, moved, Part, Says, Routes, is_away, is_here, Phase, Rests, knows, forwards_on, not_kernels, Sane, InPhases}
+use Rattle.dm_rulelaws.proofs.Names.{rests_here, Rooted, has_nothing_held, Stops, by_round, by_handles, by_forwards, answers_move, leaves_for, Outcome, OneKernel, KnownStands, is_server}
 use Rattle.dm_onekernel.specs.Pieces as pieces
 use Rattle.dm_onekernel.specs.Step as kernel
 use Rattle.dm_rule.specs.Rule as rule

@@ -1,9 +1,9 @@
 -- The format, the images and the number of machines of the kernel without machines never change, and the manager's pending
 -- requests stay in order.
-use Rattle.dm_rulelaws.proofs.Names.{by_step, ◌≡◌, ℕ, ◌+◌, ◌++◌, true, List, [], ◌∷◌, length, refl, Option, None, Some, Pid, MsgId, PlainMessage, PlainWhat, Label, Life, OneKernel, Manager, Pending, PlainLink}
-use Rattle.dm_rulelaws.proofs.Names.{ascends, ascends_more, ascends_last, ascends_without, PlainProcess, without_message, PendingKind, answer_id, code_of_outcome, zero, suc, ◌==◌, ◌&&◌, Bool, false, ap, ◌∙◌, sym}
-use Rattle.dm_rulelaws.proofs.Names.{subst, nat_lt, arith, ⊤, if◌then◌else◌, slice_get, nat_tests, manager, NamedLink, with_sent, id_eq-same, stayed, out_at, Sound, Each, Lives, has_bytes, LinkFits, awaits, WhatFits, KernelFits, id_of}
-use Rattle.dm_rulelaws.proofs.Names.{IsPending, nat_le, SlotFits, is_for, kind_eq, PendingFits, numbered_from, pid_of, MoveNote, cases_Bool, in_bag, inl, inr}
+use Rattle.dm_rulelaws.proofs.Names.{by_step, ◌≡◌, ℕ, ◌+◌, ◌++◌, true, List, [], ◌∷◌, length, refl, Option, None, Some, Pid, MsgId, PlainMessage, PlainWhat, Label, Life, OneKernel, Manager, Pending, PlainLink, ascends, ascends_more}
+use Rattle.dm_rulelaws.proofs.Names.{ascends_last, ascends_without, PlainProcess, without_message, PendingKind, answer_id, code_of_outcome, zero, suc, ◌==◌, ◌&&◌, Bool, false, ap, ◌∙◌, sym, subst, nat_lt, arith, ⊤, if◌then◌else◌, slice_get}
+use Rattle.dm_rulelaws.proofs.Names.{nat_tests, manager, NamedLink, with_sent, id_eq-same, stayed, out_at, Sound, Each, Lives, has_bytes, LinkFits, awaits, WhatFits, KernelFits, id_of, IsPending, nat_le, SlotFits, is_for, kind_eq}
+use Rattle.dm_rulelaws.proofs.Names.{PendingFits, numbered_from, pid_of, MoveNote, cases_Bool, in_bag, inl, inr}
 use Rattle.dm_onekernel.specs.Kernel as kernels
 use Rattle.dm_onekernel.specs.Manager as manage
 use Rattle.dm_onekernel.specs.Service as service

@@ -1,8 +1,8 @@
 -- A process that is made, or not for want of room, keeps that all fits.
-use Rattle.dm_rulelaws.proofs.Names.{◌≡◌, ℕ, zero, suc, ◌+◌, ◌-◌, true, List, [], ◌∷◌, ◌++◌, length, map, replicate, refl, ap, ◌∙◌, sym, subst, nat_le, arith, Option, None, Some, false≢true, nat_tests, Pid, pid_of, PlainLink}
-use Rattle.dm_rulelaws.proofs.Names.{MsgId, PlainMessage, PlainWhat, BootImage, first_number, slots_of, Format, Life, Alive, OneKernel, with_process, with_sent, answer_id, answer_to, without_message, begun, Sound, Each, Lives, has_bytes}
-use Rattle.dm_rulelaws.proofs.Names.{LinkFits, SlotFits, ProcessFits, awaits, IsPending, WhatFits, KernelFits, PendingKind, Bool, Label, bind, PlainProcess, PlainStatus, pending_of, bind-is, status_awaits, ◌≤◌, false, ⊤}
-use Rattle.dm_rulelaws.proofs.Names.{if◌then◌else◌, common_steps, first_empty, Row, instruction, written_at, at_hand-is, Runs, move_fits, running_is, KeepsLengths, Regs, instruction-lengths}
+use Rattle.dm_rulelaws.proofs.Names.{◌≡◌, ℕ, zero, suc, ◌+◌, ◌-◌, true, List, [], ◌∷◌, ◌++◌, length, map, replicate, refl, ap, ◌∙◌, sym, subst, nat_le, arith, Option, None, Some, false≢true, nat_tests, Pid, pid_of, PlainLink, MsgId}
+use Rattle.dm_rulelaws.proofs.Names.{PlainMessage, PlainWhat, BootImage, first_number, slots_of, Format, Life, Alive, OneKernel, with_process, with_sent, answer_id, answer_to, without_message, begun, Sound, Each, Lives, has_bytes, LinkFits}
+use Rattle.dm_rulelaws.proofs.Names.{SlotFits, ProcessFits, awaits, IsPending, WhatFits, KernelFits, PendingKind, Bool, Label, bind, PlainProcess, PlainStatus, pending_of, bind-is, status_awaits, ◌≤◌, false, ⊤, if◌then◌else◌, common_steps}
+use Rattle.dm_rulelaws.proofs.Names.{first_empty, Row, instruction, written_at, at_hand-is, Runs, move_fits, running_is, KeepsLengths, Regs, instruction-lengths}
 use Rattle.dm_onekernel.specs.Service as service
 use Rattle.dm_onekernel.specs.Step as kernel
 use Rattle.dm_onekernel.specs.Receiving as receiving

@@ -179,7 +179,7 @@ places_stage G v p any_ h = places_as G (handled_first v) (after_stage v p any_)
 
 places_proto : (G : MsgId → ℕ → Type 0) (v : View) (o : Option Told) → Places G v → Places G (after_proto v o)
 places_proto G v None h = places_as G v (after_proto v None) refl refl refl (λ a b. refl) h
-places_proto G v (Some t) h = places_as G (follows_by v t.about (sort_of t.kind)) (after_proto v (Some t)) refl refl refl (λ a b. refl) (search (arith, places_asks))
+places_proto G v (Some t) h = search (arith, places_as, t.about, t.kind)
 
 pub places_forwarded : (G : MsgId → ℕ → Type 0) (v : View) (o : Option Pid) → Places G v → Places G (forwarded_for v o)
 places_forwarded G v None h = h
@@ -294,7 +294,7 @@ pub put_all : (P : Pid → Place → Type 0) (s : OneKernel) (v : View) (a : Add
 put_all P s v a x y id k q bag none to from h g r e =
     subst (λ (o : Option Told). P r (given a (first_gives o (own_given s v a id q (sort_of k))) g)) (sym none)
     (elim (put_named s v x y id k q g r none e) [
-      | inl old ↦ given_are P s v a (own_given s v a id q (sort_of k)) h (search (arith, two_get)) g r old
+      | inl old ↦ given_are P s v a (own_given s v a id q (sort_of k)) h (search arith) g r old
       | inr new ↦ elim new [
         | inl way ↦ subst (λ (i : Holder). P r (given a (own_given s v a id q (sort_of k)) i)) (sym way.0) (subst (λ (p : Pid). P p (given a (own_given s v a id q (sort_of k)) (Receiver id))) way.1 to)
         | inr way ↦ subst (λ (i : Holder). P r (given a (own_given s v a id q (sort_of k)) i)) (sym way.0) (subst (λ (p : Pid). P p (given a (own_given s v a id q (sort_of k)) (Sender id))) way.2 (from way.1))

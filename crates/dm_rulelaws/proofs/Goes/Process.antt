@@ -1,9 +1,8 @@
 -- A message for a process at the front of the inbox can be handled.
 use Rattle.dm_rulelaws.proofs.Names.{◌≡◌, ◌≢◌, ℕ, ◌+◌, ◌≤◌, ◌==◌, ◌&&◌, ◌||◌, Bool, true, false, ◌∷◌, length, refl, ap, ◌∙◌, sym, subst, is_some, nat_le, arith, if◌then◌else◌, take, drop, Option, None, Some, false≢true, Pid, pid_eq, MsgId}
 use Rattle.dm_rulelaws.proofs.Names.{MessageKind, Label, Reply, Line, id_eq, plain_kind, PlainMessage, PlainWhat, Direction, Boot, Why, switchboard, manager, bind, PlainProcess, PlainStatus, Moving, Life, Alive, Ended, OneKernel}
-use Rattle.dm_rulelaws.proofs.Names.{with_process, with_sent, answer_id, answer_to, without_message, is_dropped, is_of_memory, id_eq-is, out_off, LandsSo, lands-is, Addresses, forwards_on, Point, moved, Says, Routes}
-use Rattle.dm_rulelaws.proofs.Names.{times, View, Known, has_bytes, is_server, awaits, status_awaits, move_fits, piece_fits, WhatFits, is_fixed, agrees, is_still, handled, MoveNote, Outcome, with_note, id_eq-same, pid_eq-same}
-use Rattle.dm_rulelaws.proofs.Names.{answers_move, leaves_for, []}
+use Rattle.dm_rulelaws.proofs.Names.{with_process, with_sent, answer_id, answer_to, without_message, is_dropped, is_of_memory, id_eq-is, out_off, LandsSo, lands-is, Addresses, forwards_on, Point, moved, Says, Routes, times, View, Known}
+use Rattle.dm_rulelaws.proofs.Names.{has_bytes, is_server, awaits, status_awaits, move_fits, piece_fits, WhatFits, is_fixed, agrees, is_still, handled, MoveNote, Outcome, with_note, id_eq-same, pid_eq-same, answers_move, leaves_for, []}
 use Rattle.dm_onekernel.specs.Pieces as pieces
 use Rattle.dm_onekernel.specs.Service as service
 use Rattle.dm_onekernel.specs.Step as kernel

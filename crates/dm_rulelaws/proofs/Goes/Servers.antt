@@ -1,8 +1,8 @@
 -- A message for a kernel or a server at the front of the inbox can be handled.
 use Rattle.dm_rulelaws.proofs.Names.{◌≡◌, ℕ, zero, suc, ◌+◌, ◌==◌, ◌&&◌, ◌||◌, ◌++◌, Bool, true, false, List, [], ◌∷◌, length, refl, ap, ◌∙◌, sym, nat_lt, arith, if◌then◌else◌, slice_get, Option, None, Some, false≢true, nat_tests, Pid}
 use Rattle.dm_rulelaws.proofs.Names.{pid_of, pid_eq, PlainLink, MsgId, Label, Line, PlainMessage, PlainWhat, BootImage, Boot, first_number, switchboard, manager, bind, when, Pending, OneKernel, with_sent, answer_id, answer_to}
-use Rattle.dm_rulelaws.proofs.Names.{without_message, pid_eq-same, Point, moved, Part, Routes, is_server, IsPending, WhatFits, is_fixed, counts, ServerSends, handled, is_kernels, not_kernels, or_first, board_takes_lem}
-use Rattle.dm_rulelaws.proofs.Names.{manager_takes_lem, is_for, PendingKind, code_of_outcome}
+use Rattle.dm_rulelaws.proofs.Names.{without_message, pid_eq-same, Point, moved, Part, Routes, is_server, IsPending, WhatFits, is_fixed, counts, ServerSends, handled, is_kernels, not_kernels, or_first, board_takes_lem, manager_takes_lem}
+use Rattle.dm_rulelaws.proofs.Names.{is_for, PendingKind, code_of_outcome}
 use Rattle.dm_onekernel.specs.Switchboard as board
 use Rattle.dm_onekernel.specs.Manager as manage
 use Rattle.dm_onekernel.specs.Service as service

@@ -2,13 +2,13 @@
 use Rattle.dm_rulelaws.proofs.Names.{◌≡◌, ℕ, Bool, true, false, List, [], ◌∷◌, refl, ap, ◌∙◌, sym, subst, inl, inr, ⊤, if◌then◌else◌, Option, None, Some, cases_Bool, false≢true, Pid, MsgId, MessageKind, id_eq, plain_kind, Boot, Label}
 use Rattle.dm_rulelaws.proofs.Names.{OneKernel, bind, id_eq-is, bind-is, Step, Line, Stage, Receiver, Point, label_of, kernel_after, after_line, after, moved, Part, Says, Routes, Again, Owns, Transmits, Spelled, lines_of, puts, packet_line}
 use Rattle.dm_rulelaws.proofs.Names.{behind, spelled, group_of, View, About, Told, view_after, is_kernels, own_id, is_put, hushed, not_kernels, put_told_off, Sane, sane_line, part_sane, Sayable, AllSayable, outcome_sayable, seen_none, sets}
+use Rattle.dm_rulelaws.proofs.Names.{arith}
 use Rattle.dm_rule.specs.View as view
 use Rattle.dm_rulelaws.proofs.Runs.{Run}
 use Rattle.dm_rulelaws.proofs.Own.Told.{OwnTold, own_sort, HasNoOwn, HaveNoOwn, topic_stage, Later, OwnsFit, senders_step}
 use Rattle.dm_rulelaws.proofs.Goes.Parts.{put_lines}
 use Rattle.dm_rulelaws.proofs.Goes.Always.{group_on}
 use Rattle.dm_rulelaws.proofs.Based.Needs.{by_puts}
-use Rattle.dm_rulelaws.proofs.Names.{arith}
 
 -- a line that is no put
 own_by : (pt : Point) (l : Line) (o : Option Label) (s : OneKernel) → is_put l ≡ false → kernel_after pt.kernel o ≡ Some s → Sane pt → OwnTold pt → OwnTold (moved pt l s)

@@ -1,9 +1,8 @@
 -- What was told of kernels' own messages, and who sends what is told back.
-use Rattle.dm_rulelaws.proofs.Names.{◌≡◌, ◌==◌, ◌&&◌, Bool, true, false, not, refl, ap, ◌∙◌, sym, Some, false≢true, Pid, MsgId, MessageKind, plain_kind, PlainMessage, is_told_back, is_between, Point, About, Target, Of, Told}
-use Rattle.dm_rulelaws.proofs.Names.{is_kernels, is_server, is_fixed, second, Sort, sort_of, arith, ℕ, List, [], ◌∷◌, ◌++◌, ⊤, if◌then◌else◌, Option, None, pid_of, Line, Stage, Addresses, Sender, to_kernel, forwards_on, accepts}
-use Rattle.dm_rulelaws.proofs.Names.{takes_chunk, takes_block, gives_piece, sends_on, label_of, Part, Says, Routes, Again, Owns, Transmits, View, Known, Forward, view_after, handled, receiver_of, Label, ◌⊎◌, subst, is_some}
-use Rattle.dm_rulelaws.proofs.Names.{length, inl, inr, take, drop, PlainWhat, switchboard, manager, Switchboard, Manager, OneKernel, with_sent, answer_to, without_message, Made, came, stayed, lands-is, Sound, by_step}
-use Rattle.dm_rulelaws.proofs.Names.{answer_id, without_note, MoveNote}
+use Rattle.dm_rulelaws.proofs.Names.{◌≡◌, ◌==◌, ◌&&◌, Bool, true, false, not, refl, ap, ◌∙◌, sym, Some, false≢true, Pid, MsgId, MessageKind, plain_kind, PlainMessage, is_told_back, is_between, Point, About, Target, Of, Told, is_kernels}
+use Rattle.dm_rulelaws.proofs.Names.{is_server, is_fixed, second, Sort, sort_of, arith, ℕ, List, [], ◌∷◌, ◌++◌, ⊤, if◌then◌else◌, Option, None, pid_of, Line, Stage, Addresses, Sender, to_kernel, forwards_on, accepts, takes_chunk}
+use Rattle.dm_rulelaws.proofs.Names.{takes_block, gives_piece, sends_on, label_of, Part, Says, Routes, Again, Owns, Transmits, View, Known, Forward, view_after, handled, receiver_of, Label, ◌⊎◌, subst, is_some, length, inl, inr, take, drop}
+use Rattle.dm_rulelaws.proofs.Names.{PlainWhat, switchboard, manager, Switchboard, Manager, OneKernel, with_sent, answer_to, without_message, Made, came, stayed, lands-is, Sound, by_step, answer_id, without_note, MoveNote}
 use Rattle.dm_rule.specs.View.{Place}
 use Rattle.dm_rule.specs.View as view
 use Rattle.dm_onekernel.specs.Pieces as pieces

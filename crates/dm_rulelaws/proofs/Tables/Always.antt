@@ -1,9 +1,9 @@
 -- Each label of a process keeps the number of link slots, and so does what its kernel is asked.
 use Rattle.dm_rulelaws.proofs.Names.{◌≡◌, ℕ, ◌≤◌, Bool, true, nat_le, List, [], ◌∷◌, ◌++◌, length, map, refl, ap, ◌∙◌, sym, subst, inl, inr, arith, if◌then◌else◌, slice_get, option_map, Option, None, Some, cases_Bool, nat_tests, length-map}
 use Rattle.dm_rulelaws.proofs.Names.{Pid, pid_eq, plain_link, BootImage, BootProcess, Boot, Label, IsValid, starting_at, processes_are_valid, process_is_valid, slots_of, PlainProcess, Alive, OneKernel, begun, first_life, life_at, replay}
-use Rattle.dm_rulelaws.proofs.Names.{bind-is, Step, Point, first_point, labels, Leads, Each, ◌+◌, ◌-◌, ◌==◌, false, take, drop, ⊤, MsgId, PlainMessage, PlainWhat, Direction, Row, Reply, Why, PlainStatus, Moving}
-use Rattle.dm_rulelaws.proofs.Names.{answer_to, without_message, by_step, zero, suc, filter_map, nat_lt, slice_set, cons_option, length-take, PlainLink, first_empty, link_at, Waiting, reg, Called, Replies, Sends, Waits, Outputs, Ends}
-use Rattle.dm_rulelaws.proofs.Names.{replicate, length-append, length-replicate, Format, Manager, with_sent, slots_with, running_is, at_hand-is, without_note, answer_id}
+use Rattle.dm_rulelaws.proofs.Names.{bind-is, Step, Point, first_point, labels, Leads, Each, ◌+◌, ◌-◌, ◌==◌, false, take, drop, ⊤, MsgId, PlainMessage, PlainWhat, Direction, Row, Reply, Why, PlainStatus, Moving, answer_to, without_message}
+use Rattle.dm_rulelaws.proofs.Names.{by_step, zero, suc, filter_map, nat_lt, slice_set, cons_option, length-take, PlainLink, first_empty, link_at, Waiting, reg, Called, Replies, Sends, Waits, Outputs, Ends, replicate, length-append}
+use Rattle.dm_rulelaws.proofs.Names.{length-replicate, Format, Manager, with_sent, slots_with, running_is, at_hand-is, without_note, answer_id}
 use Rattle.dm_onekernel.specs.Step as kernel
 use Rattle.dm_onekernel.specs.Calls as calls
 use Rattle.dm_onekernel.specs.Pieces as pieces
