@@ -4,8 +4,7 @@ use Rattle.dm_movelaws.proofs.Names.{nat_tests, append-nil, filter-append, Pid, 
 use Rattle.dm_movelaws.proofs.Names.{block_line, memory_lines, home_with, each_machine, list_line, Addresses, Stood, standing_of, first_with, stood, doing_of, slot_line, link_lines, state_lines, alive_lines, process_lines, homes_with}
 use Rattle.dm_movelaws.proofs.Names.{each_process, name_lines, child_lines, pending_lines, queue_at, queue_lines, holding_lines, inbox_lines, stream_lines, server_lines, end_lines, Point, View, is_server, Run, run_always, tells_life}
 use Rattle.dm_movelaws.proofs.Names.{life_lines, IsSaid, LivesAreSaid, not, ◌&&◌, false≢true, MessageKind, Standing, or, Phase, Nowhere, Rests, Over, Moves, IsIn, knows, is_here, is_restart, is_early, Known, Unknown, agrees, living}
-use Rattle.dm_movelaws.proofs.Names.{stands_by, IsPlace}
-use Rattle.dm_rule.specs.Ends.{awaits}
+use Rattle.dm_movelaws.proofs.Names.{stands_by, IsPlace, awaits}
 use Rattle.dm_movelaws.proofs.At.RestAlways.{is_unknown_is as unknown_by}
 use Rattle.dm_movelaws.proofs.Stages.Spares.{restart_late}
 use Rattle.dm_onekernel.specs.Step as kernel

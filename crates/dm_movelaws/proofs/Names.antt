@@ -8,9 +8,9 @@ pub use Rattle.dm_process.proofs.Names.{slice_get}
 pub use Rattle.dm_onekernel.specs.Pieces.{piece_of}
 pub use Rattle.dm_onekernel.specs.Service.{manager_took}
 pub use Rattle.dm_laws.proofs.Counted.{Sent}
-pub use Rattle.dm_laws.proofs.Names.{Alive, Boot, BootProcess, CallNumber, Called, Direction, IsValid, Label, Life, Manager, MoveNote, Moving, MsgId, None, OneKernel, Option, Outcome, Pending, PendingKind, PlainLink, PlainMessage}
-pub use Rattle.dm_laws.proofs.Names.{PlainProcess, PlainStatus, PlainWhat, Ready, Reply, Sends, Some, Waiting, Why, answer_id, answer_to, bind, bool_eq, cases_Bool, entry, false≢true, first_failed, first_number, id_eq, id_of, in_bag, inl}
-pub use Rattle.dm_laws.proofs.Names.{inr, is_some, life_at, manager, nat_le, pid_of, reception, receptions, replay, start, switchboard, with_note, with_process, with_sent, without_message, without_note, ⊤, ◌⊎◌}
+pub use Rattle.dm_laws.proofs.Names.{Alive, Boot, BootProcess, Called, Direction, IsValid, Label, Life, Manager, MoveNote, Moving, MsgId, None, OneKernel, Option, Outcome, Pending, PendingKind, PlainLink, PlainMessage, PlainProcess}
+pub use Rattle.dm_laws.proofs.Names.{PlainStatus, PlainWhat, Ready, Reply, Sends, Some, Waiting, Why, answer_id, answer_to, bind, bool_eq, cases_Bool, entry, false≢true, first_failed, first_number, id_eq, id_of, in_bag, inl, inr, is_some}
+pub use Rattle.dm_laws.proofs.Names.{life_at, manager, nat_le, pid_of, reception, receptions, replay, start, switchboard, with_note, with_process, with_sent, without_message, without_note, ⊤, ◌⊎◌}
 pub use Rattle.dm_laws.proofs.Notes.{Notes-agree}
 pub use Rattle.dm_laws.proofs.Runs.{ended_stays, notes_always_agree, reached}
 pub use Rattle.dm_laws.proofs.Sound.{not_counted}
@@ -83,7 +83,7 @@ pub use Rattle.dm_rule.proofs.Trails.Within.{HeadIn, Within, forwarded_acting, h
 pub use Rattle.dm_rule.proofs.Turns.{created_off, ended_off, serving_off}
 pub use Rattle.dm_rule.specs.Acts.{act_of}
 pub use Rattle.dm_rule.specs.Addresses.{creates_burden}
-pub use Rattle.dm_rule.specs.Ends.{Stood, alive_lines, child_lines, doing_of, each_process, end_lines, first_with, holding_lines, homes_with, inbox_lines, link_lines, name_lines, pending_lines, process_lines, queue_at, queue_lines}
+pub use Rattle.dm_rule.specs.Ends.{Stood, alive_lines, awaits, child_lines, doing_of, each_process, end_lines, first_with, holding_lines, homes_with, inbox_lines, link_lines, name_lines, pending_lines, process_lines, queue_at, queue_lines}
 pub use Rattle.dm_rule.specs.Ends.{server_lines, slot_line, standing_of, state_lines, stood, stood_at, stream_lines}
 pub use Rattle.dm_rule.specs.Migrating.{answers_in, behind_among, holders_numbered, holders_of, slot_holders}
 pub use Rattle.dm_rule.specs.Phases.{is_unknown}
@@ -115,13 +115,13 @@ pub use Rattle.dm_rulelaws.proofs.Goes.Runs.{Both, both_group, both_start}
 pub use Rattle.dm_rulelaws.proofs.Goes.Serves.{first_is}
 pub use Rattle.dm_rulelaws.proofs.Goes.Turns.{times_more, times_self}
 pub use Rattle.dm_rulelaws.proofs.Names.{AllSayable, AtHome, BagStep, Grown, InPhases, IsNet, IsNetLine, IsPending, KernelFits, KnownStands, LeadsBy, Links, Named, Outside, Phased, ReceivedAt, Rooted, SaidOn, Sane, Sayable, State, Stops}
-pub use Rattle.dm_rulelaws.proofs.Names.{WhatFits, about_same, agrees, aim, arrives_net, at_home, at_machine_at, at_place, at_record_at, awaits, bag_answered, bag_call, bag_created, bag_dropped, bag_end, bag_gone, bag_no_space, bag_out}
-pub use Rattle.dm_rulelaws.proofs.Names.{bag_ran, bag_receive, bag_refuse, bag_sends, bag_served, bag_took, bag_wait, both_lists, both_times, by_forwards, by_group, by_handles, by_hears, by_migrates, by_net, by_outcome, by_parts, by_round}
-pub use Rattle.dm_rulelaws.proofs.Names.{by_step, calm_phases, came, child_is, destination_expects, dropped_known, due, eq_is, eq_self, first_off, forwarded_back, forwarded_known, front_gone, front_kernels, front_way, goes_between}
-pub use Rattle.dm_rulelaws.proofs.Names.{group_is, grown_none, has_bytes, has_no_queue, has_nothing_held, head_calm, held_known, hidden, homes_are, hushed, is_fixed, is_kill, is_of_memory, is_piece, is_put, is_server, kernels_fresh}
-pub use Rattle.dm_rulelaws.proofs.Names.{kind_eq, label_on, label_topic, labels, left_parts, length-drop, length-take, letters, machine_of, move_fits, moves_away, not_false, not_kernels, not_true, note-is, numbered_from, one_of, or_first}
-pub use Rattle.dm_rulelaws.proofs.Names.{out_off, outcome_sayable, pair_keeps, part_sane, parts, phased_group, phased_start, pid_eq-swap, piece_fits, proto_acting, proto_known, put_at, put_told_off, queued_known, rejoins, resends_net}
-pub use Rattle.dm_rulelaws.proofs.Names.{rests_here, rooted, sane_line, second, seen_none, served_keeps, sets, source_holds, stands_right, status_awaits, tells_between, times-append, token_is, told_some, turn_off, under_way, with_label}
+pub use Rattle.dm_rulelaws.proofs.Names.{WhatFits, about_same, agrees, aim, arrives_net, at_home, at_machine_at, at_place, at_record_at, bag_answered, bag_call, bag_created, bag_dropped, bag_end, bag_gone, bag_no_space, bag_out, bag_ran}
+pub use Rattle.dm_rulelaws.proofs.Names.{bag_receive, bag_refuse, bag_sends, bag_served, bag_took, bag_wait, both_lists, both_times, by_forwards, by_group, by_handles, by_hears, by_migrates, by_net, by_outcome, by_parts, by_round, by_step}
+pub use Rattle.dm_rulelaws.proofs.Names.{calm_phases, came, child_is, destination_expects, dropped_known, due, eq_is, eq_self, first_off, forwarded_back, forwarded_known, front_gone, front_kernels, front_way, goes_between, group_is}
+pub use Rattle.dm_rulelaws.proofs.Names.{grown_none, has_bytes, has_no_queue, has_nothing_held, head_calm, held_known, hidden, homes_are, hushed, is_fixed, is_kill, is_of_memory, is_piece, is_put, is_server, kernels_fresh, label_on}
+pub use Rattle.dm_rulelaws.proofs.Names.{label_topic, labels, left_parts, length-drop, length-take, letters, machine_of, move_fits, moves_away, not_false, not_kernels, not_true, note-is, numbered_from, one_of, or_first, out_off}
+pub use Rattle.dm_rulelaws.proofs.Names.{outcome_sayable, pair_keeps, part_sane, parts, phased_group, phased_start, pid_eq-swap, piece_fits, proto_acting, proto_known, put_at, put_told_off, queued_known, rejoins, resends_net, rests_here}
+pub use Rattle.dm_rulelaws.proofs.Names.{rooted, sane_line, second, seen_none, served_keeps, sets, source_holds, stands_right, status_awaits, tells_between, times-append, token_is, told_some, turn_off, under_way, with_label}
 pub use Rattle.dm_rulelaws.proofs.Own.Told.{is_place, own_sort}
 pub use Rattle.dm_rulelaws.proofs.Queued.{IsQueued}
 pub use Rattle.dm_rulelaws.proofs.RunLabels.{after_replay, group_replay, labels-append, replay-append}

@@ -1,6 +1,5 @@
 -- Each message of a migration that stands anywhere is the one that is under way of a process that moves.
-use Rattle.dm_movelaws.proofs.Names.{token_is, run_always, ProtocolMoves}
-use Rattle.dm_movelaws.proofs.Names.{arith}
+use Rattle.dm_movelaws.proofs.Names.{token_is, run_always, ProtocolMoves, arith}
 
 pub protocol_moves : ProtocolMoves
 protocol_moves b es pt i t z valid leads told between stands =

@@ -1,6 +1,6 @@
 -- What the proofs of this crate name of what lies below it.
 pub use Rattle.std.proofs.lemmas.List.Sums.{sum_by-cons}
-pub use Rattle.dm_processor.proofs.Names.{Bool, List, Row, [], ap, arith, cond, drop, false, length, nat_tests, past, refl, replicate, suc, sym, take, true, zero, ℕ, ◌*◌, ◌++◌, ◌+◌, ◌-◌, ◌/◌, ◌<◌, ◌∙◌, ◌∷◌, ◌≡◌, ◌≤◌}
+pub use Rattle.dm_processor.proofs.Names.{Bool, List, Row, [], ap, arith, cond, drop, false, length, nat_tests, past, refl, replicate, suc, sym, take, true, zero, ℕ, ◌++◌, ◌+◌, ◌-◌, ◌∙◌, ◌∷◌, ◌≡◌, ◌≤◌}
 unfoldable pub use Rattle.dm_processor.specs.Instructions.{instruction}
 pub use Rattle.dm_room.proofs.Names.{remove, slice_get}
 pub use Rattle.dm_message.specs.Plain.{Read, Write}
@@ -9,10 +9,10 @@ pub use Rattle.dm_linktable.proofs.Plain.{plain_map_retargeted}
 pub use Rattle.dm_schedule.proofs.Names.{if◌then◌else◌, nat_lt, not}
 pub use Rattle.dm_process.proofs.Names.{Message}
 pub use Rattle.dm_linkupdate.proofs.Names.{Addr, None, Option, Process, Some, Status, applied, relocated, retargeted, retargeted_link, status_after}
-pub use Rattle.dm_statebytes.proofs.Names.{Direction, Regs, begun_process, direction_numbered, inl, inr, nat_le, slice_set, ◌⊎◌}
+pub use Rattle.dm_statebytes.proofs.Names.{Direction, Regs, begun_process, inl, inr, nat_le, slice_set, ◌⊎◌}
 pub use Rattle.dm_migrate.proofs.Names.{Asker, PlainWhat, What, plain_message, plain_what, sent_on, with_what}
 pub use Rattle.dm_migrate.specs.Asking.{asker_of, manager_request, moved_answer}
-pub use Rattle.dm_onekernel.specs.Start.{memory_of, zero_regs}
+pub use Rattle.dm_onekernel.specs.Start.{memory_of}
 pub use Rattle.dm_onekernel.specs.Step.{Machine, plain_steps}
 pub use Rattle.dm_onekernel.specs.Switchboard.{goes_over}
 pub use Rattle.dm_onekernel.specs.declared.boot.Format.{Format}
@@ -24,16 +24,15 @@ pub use Rattle.dm_procman.proofs.Plain.{plain_bear, plain_numbered, plain_pendin
 pub use Rattle.dm_procman.specs.Managing.{answer_is_behind}
 pub use Rattle.dm_procman.specs.declared.pending.Pending.{Pending}
 pub use Rattle.dm_laws.proofs.Equal.{pid_eq-swap}
-pub use Rattle.dm_laws.proofs.Names.{Alive, BootImage, CallNumber, Copy, Drop, Ended, Label, Life, Make, Manager, Move, MoveNote, Moving, OneKernel, PlainMessage, PlainProcess, PlainStatus, Ready, Receive, Reply, Send, Switchboard, Waiting}
-pub use Rattle.dm_laws.proofs.Names.{Why, answer_id, answer_to, bind, call_number, cases_Bool, false≢true, first_failed, first_number, id_eq, id_of, option_map, pid_of, reg, ⊤}
+pub use Rattle.dm_laws.proofs.Names.{Alive, BootImage, CallNumber, Ended, Label, Life, Manager, MoveNote, OneKernel, PlainMessage, PlainProcess, PlainStatus, Reply, Switchboard, Why, answer_id, answer_to, bind, call_number, cases_Bool}
+pub use Rattle.dm_laws.proofs.Names.{false≢true, first_failed, first_number, id_eq, id_of, option_map, pid_of, reg, ⊤}
 pub use Rattle.dm_laws.proofs.Servers.{note-is}
 pub use Rattle.dm_datamove.proofs.Landings.{ends_plainly, goes_on_plainly}
 pub use Rattle.dm_datamove.proofs.Names.{Landing, after_serving, answer, answer_of, answer_with, gone_answer, landing, piece_of, plain_landed, plain_process, plain_status, serving_answer, written_at}
 pub use Rattle.dm_datamove.specs.Requests.{address_of, moving, request}
 pub use Rattle.dm_datamove.specs.declared.Landed.{Landed}
 pub use Rattle.dm_syscall.proofs.Completes.{status_plainly}
-pub use Rattle.dm_syscall.proofs.Names.{Completion, Done, Rest, User, calls, completes, completes_unless, completion, cons_option, emptied, is_outside, is_reply, links_in, make_refusals, map-set, move_refusals, on_mask, plain_called}
-pub use Rattle.dm_syscall.proofs.Names.{plain_completed, receive_refusals, send_refusals, what_is_on}
+pub use Rattle.dm_syscall.proofs.Names.{Completion, Done, Rest, User, calls, completes, completes_unless, completion, cons_option, emptied, links_in, map-set, on_mask, plain_called, plain_completed, what_is_on}
 pub use Rattle.dm_syscall.proofs.PlainCalls.{call_plainly, first_of, slot_at}
 pub use Rattle.dm_syscall.specs.declared.Called.{Called}
 pub use Rattle.dm_syscall.specs.declared.Completed.{Completed}
@@ -48,14 +47,14 @@ pub use Rattle.dm_rule.proofs.Homes.Serves.{child_at, gone_lands, nothing_lands,
 pub use Rattle.dm_rule.proofs.Homes.Slots.{emptied_link, past_call, set_link}
 pub use Rattle.dm_rule.proofs.Homes.Steps.{OnlySlots, gives_same, made_is, only_gives_by}
 pub use Rattle.dm_rule.proofs.Letters.{not_kernels}
-pub use Rattle.dm_rule.proofs.Names.{About, Addresses, Again, Answer, AskedBy, Child, Enclosed, Fault, Forward, Frozen, Gets, Here, Holder, Inbox, IsStep, Known, Leads, Line, Load, MessageKind, Name, NamedLink, Of, One, Owner, Owns, Pair}
-pub use Rattle.dm_rule.proofs.Names.{Part, Place, Point, Receiver, Routes, Says, Sender, SentLoad, Slot, Sort, Sound, Spelled, Spot, Stage, Step, TellsRight, Told, Transmits, Unknown, View, acting_place, addresses_after, after, after_head}
-pub use Rattle.dm_rule.proofs.Names.{after_label, after_line, after_step, all_follow, answer_gets, answer_link, ascends, at_hand-is, at_machine, at_pid, behind, behind_count, belongs_to, bind-is, board_finds, board_keeps}
-pub use Rattle.dm_rule.proofs.Names.{board_takes_burden, burden_of, call_gets, child_from, child_links, child_number, enclosed_from, encloses, ends_move-is, fills, fills_by, filter, filter_map, first_addresses, first_gives, first_point}
-pub use Rattle.dm_rule.proofs.Names.{first_view, forwarded_for, forwards, gets, given, gives, goes_out, group_of, handled, id_eq-is, id_eq-same, id_eq-swap, is_kernels, is_pid, is_told_back, kernel_after, label_of, landing_gets, leads_to}
-pub use Rattle.dm_rule.proofs.Names.{lines_of, link_target, links_at, manager_answers, manager_sends, manager_takes_burden, moved, name_link, nth_child, option_map_or, outcome, own_given, own_id, owner_in, owner_of, packet_line}
-pub use Rattle.dm_rule.proofs.Names.{pair_window, pid_eq-is, pid_eq-same, place_known, place_named, place_of, place_told, plain_kind, puts, receiver_of, receives_burden, receives_links, reply_eq, seen, sends_burden, serves_burden}
-pub use Rattle.dm_rule.proofs.Names.{slot_after, slot_of, slots_of, slots_with, sort_of, spelled, standing, start-sound, target_of, times, told_back_gets, unmoved, updated, updated_to, view_after, when-is, why_eq}
+pub use Rattle.dm_rule.proofs.Names.{About, Addresses, Again, Answer, AskedBy, Child, Enclosed, Fault, Forward, Frozen, Gets, Holder, Inbox, IsStep, Known, Leads, Line, Load, MessageKind, Name, NamedLink, One, Owner, Owns, Pair, Part}
+pub use Rattle.dm_rule.proofs.Names.{Place, Point, Receiver, Routes, Says, Sender, SentLoad, Slot, Sort, Sound, Spelled, Spot, Stage, Step, TellsRight, Told, Transmits, View, acting_place, addresses_after, after, after_head, after_label}
+pub use Rattle.dm_rule.proofs.Names.{after_line, after_step, all_follow, answer_gets, answer_link, ascends, at_hand-is, at_pid, behind, behind_count, belongs_to, bind-is, board_finds, board_keeps, board_takes_burden, burden_of, call_gets}
+pub use Rattle.dm_rule.proofs.Names.{child_from, child_links, child_number, enclosed_from, encloses, ends_move-is, fills, fills_by, filter, filter_map, first_addresses, first_gives, first_point, first_view, forwarded_for, forwards, gets}
+pub use Rattle.dm_rule.proofs.Names.{given, gives, group_of, handled, id_eq-is, id_eq-same, id_eq-swap, is_kernels, is_told_back, kernel_after, label_of, landing_gets, leads_to, lines_of, link_target, links_at, manager_answers}
+pub use Rattle.dm_rule.proofs.Names.{manager_sends, manager_takes_burden, moved, nth_child, option_map_or, outcome, own_given, own_id, owner_in, owner_of, pid_eq-is, pid_eq-same, place_known, place_named, place_of, place_told, plain_kind}
+pub use Rattle.dm_rule.proofs.Names.{puts, receiver_of, receives_burden, receives_links, reply_eq, seen, sends_burden, serves_burden, slot_after, slots_of, slots_with, sort_of, spelled, standing, start-sound, times, told_back_gets, unmoved}
+pub use Rattle.dm_rule.proofs.Names.{updated, updated_to, view_after, when-is, why_eq}
 pub use Rattle.dm_rule.proofs.Pairs.Moves.{or_first, or_first as or_second}
 pub use Rattle.dm_rule.proofs.Requests.{by_migrates}
 pub use Rattle.dm_rule.proofs.Worked.{hi}

@@ -76,13 +76,6 @@ label_fewer v (Label.NoSpace id s b) = handled_fewer v id
 label_fewer v (Label.Asked id) = handled_fewer v id
 label_fewer v _ = same_fewer v
 
--- the pieces that were asked for
-kills_asked : (v : View) (k : MessageKind) (o : Option Pid) → (view.ends_by (sort_of k) v o).asked ≡ v.asked
-kills_asked v k o = grind (arith, nat_tests)
-
-told_asked : (v : View) (o : Option Told) → (view.served_told v o).asked ≡ v.asked
-told_asked v o = grind (arith, nat_tests, kills_asked)
-
 dropped_asked : (v : View) (id : MsgId) (o : Option Pid) → (dropped_for v id o).asked ≡ v.asked
 dropped_asked v id o = grind (arith, nat_tests)
 

@@ -1,7 +1,7 @@
 -- The answer to a request to move follows at once on a line that is its cause.
 use Rattle.dm_movelaws.proofs.Names.{◌≡◌, Bool, true, false, List, [], ◌∷◌, ◌++◌, length, refl, ap, ◌∙◌, sym, subst, inl, inr, cases_Bool, false≢true, if◌then◌else◌, Option, None, Some, Pid, pid_eq, pid_eq-is, MsgId, Outcome, MoveNote}
-use Rattle.dm_movelaws.proofs.Names.{PlainMessage, Boot, IsValid, Label, Line, Step, Told, View, Point, Part, Says, Routes, Spelled, spelled, group_of, group_is, answers_move, LeadsBy, Both, both_start, both_group, run_start}
-use Rattle.dm_movelaws.proofs.Names.{run_group, Run, begun, receiver_of, append_assoc, answer_id, AnswersHaveCauses, HasCause, IsCause, is_answer_by, letter_of, act_of}
+use Rattle.dm_movelaws.proofs.Names.{PlainMessage, Boot, IsValid, Label, Line, Step, Told, View, Point, Part, Says, Routes, Spelled, spelled, group_of, group_is, answers_move, LeadsBy, Both, both_start, both_group, run_start, run_group}
+use Rattle.dm_movelaws.proofs.Names.{Run, begun, receiver_of, append_assoc, answer_id, AnswersHaveCauses, HasCause, IsCause, is_answer_by, letter_of, act_of, arith}
 use Rattle.dm_movelaws.proofs.Leading.{All, AllLines, Saying, parts_say, next_of}
 use Rattle.dm_movelaws.proofs.Ends.Sources.{Sources, group_acts}
 use Rattle.dm_movelaws.proofs.Ends.Always.{step_for}
@@ -9,7 +9,6 @@ use Rattle.dm_movelaws.proofs.Open.Stays.{Lies, First, Later, lies, none_there}
 use Rattle.dm_movelaws.proofs.Ends.Parts.{Extends}
 use Rattle.dm_movelaws.proofs.Ends.Groups.{unmarked_answer}
 use Rattle.dm_movelaws.proofs.Asked.Following.{Row, Plain, Ends, IsHere, Leaves, AllUnmarked, EndLine, outcome_row, plain_notes, ends_notes, here_notes, here_gone, leaves_notes}
-use Rattle.dm_movelaws.proofs.Names.{arith}
 
 -- lines that answer no request
 abbrev Unsaid : Line → Type 0

@@ -1,9 +1,9 @@
 -- A process follows a request to move only while it moves.
-use Rattle.dm_movelaws.proofs.Names.{◌≡◌, ℕ, ◌==◌, Bool, true, false, refl, ap, ◌∙◌, sym, if◌then◌else◌, Option, Some, is_some, false≢true, Pid, MsgId, MessageKind, Boot, Alive, PlainProcess, Point, View, Known, Phase}
-use Rattle.dm_movelaws.proofs.Names.{Nowhere, Rests, Over, Moves, knows, is_here, is_over, IsIn, first_point, is_server, eq_self, run_always, nat_tests, arith, FollowsWhileMoving, MoveNote, Based, List, [], ◌∷◌, ◌++◌, None, pid_eq}
-use Rattle.dm_movelaws.proofs.Names.{Stage, Outcome, manager, Label, OneKernel, PlainMessage, PlainWhat, with_sent, Step, Line, Told, Here, Addresses, label_of, Part, Says, Spelled, spelled}
-use Rattle.dm_movelaws.proofs.Names.{outcome, sends_on, to_kernel, forwards_on, answers_move, leaves_for, IsNetLine, by_round, by_handles, by_hears, by_forwards, by_migrates, by_outcome, by_step, bind-is, said_by, plain_kind}
-use Rattle.dm_movelaws.proofs.Names.{asked_noted, ends_move-is, begun, asks, ◌+◌, ◌≤◌, id_eq, id_eq-is, id_eq-same, in_bag, entry, reception, replay, Sound, after_step, not_true}
+use Rattle.dm_movelaws.proofs.Names.{◌≡◌, ℕ, ◌==◌, Bool, true, false, refl, ap, ◌∙◌, sym, if◌then◌else◌, Option, Some, is_some, false≢true, Pid, MsgId, MessageKind, Boot, Alive, PlainProcess, Point, View, Known, Phase, Nowhere, Rests, Over}
+use Rattle.dm_movelaws.proofs.Names.{Moves, knows, is_here, is_over, IsIn, first_point, is_server, eq_self, run_always, nat_tests, arith, FollowsWhileMoving, MoveNote, Based, List, [], ◌∷◌, ◌++◌, None, pid_eq, Stage, Outcome, manager}
+use Rattle.dm_movelaws.proofs.Names.{Label, OneKernel, PlainMessage, PlainWhat, with_sent, Step, Line, Told, Here, Addresses, label_of, Part, Says, Spelled, spelled, outcome, sends_on, to_kernel, forwards_on, answers_move, leaves_for}
+use Rattle.dm_movelaws.proofs.Names.{IsNetLine, by_round, by_handles, by_hears, by_forwards, by_migrates, by_outcome, by_step, bind-is, said_by, plain_kind, asked_noted, ends_move-is, begun, asks, ◌+◌, ◌≤◌, id_eq, id_eq-is, id_eq-same}
+use Rattle.dm_movelaws.proofs.Names.{in_bag, entry, reception, replay, Sound, after_step, not_true}
 use Rattle.dm_onekernel.specs.Step as kernel
 use Rattle.dm_rule.specs.Rule as rule
 use Rattle.dm_movelaws.proofs.Open.Moves.{leads_of}

@@ -1,8 +1,8 @@
 -- Where nothing is on its way between machines all is at rest.
 use Rattle.dm_movelaws.proofs.Names.{◌≡◌, ◌≢◌, ℕ, ◌<◌, ◌≤◌, ◌||◌, Bool, true, false, is_some, List, [], ◌∷◌, drop, refl, ap, ◌∙◌, sym, subst, inl, inr, nat_lt, arith, if◌then◌else◌, drop-length, drop-nil, cases_Bool, false≢true, nat_tests}
 use Rattle.dm_movelaws.proofs.Names.{Option, None, Some, Pid, pid_eq, MsgId, MessageKind, PlainMessage, Boot, manager, Alive, PlainProcess, id_eq-same, not_server, Receiver, to_of, Phase, Nowhere, Rests, Over, Moves, is_unknown, is_here}
-use Rattle.dm_movelaws.proofs.Names.{is_away, is_due, IsToken, IsIn, Point, IsQuiet, Spot, Queue, Held, Inbox, Untaken, times, untaken, standing, View, Known, Unknown, Here, Ended, is_kernels, stands_right, kernels_fresh}
-use Rattle.dm_movelaws.proofs.Names.{phases_always, AtRestAlways, IsAt, IsWaiting, is_moving, is_server, has_no_queue, has_nothing_held, agrees, Run, run_always, told_of, eq_self, own_by, user_kind, MoveNote, machine_of}
+use Rattle.dm_movelaws.proofs.Names.{is_away, is_due, IsToken, IsIn, Point, IsQuiet, Spot, Queue, Held, Inbox, Untaken, times, untaken, standing, View, Known, Unknown, Here, Ended, is_kernels, stands_right, kernels_fresh, phases_always}
+use Rattle.dm_movelaws.proofs.Names.{AtRestAlways, IsAt, IsWaiting, is_moving, is_server, has_no_queue, has_nothing_held, agrees, Run, run_always, told_of, eq_self, own_by, user_kind, MoveNote, machine_of}
 use Rattle.dm_movelaws.proofs.At.RestPairs.{Routed, routed_always}
 use Rattle.dm_movelaws.proofs.At.RestQueues.{Dropped, dropped_always}
 

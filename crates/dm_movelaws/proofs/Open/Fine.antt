@@ -1,9 +1,8 @@
 -- While a process moves, no line answers a request that it follows: only the line by which it comes here is followed by that.
-use Rattle.dm_movelaws.proofs.Names.{◌≡◌, ◌≢◌, ℕ, Bool, true, false, List, [], ◌∷◌, ◌++◌, refl, ap, ◌∙◌, sym, subst, ⊤, is_some, if◌then◌else◌, Option, None, Some, false≢true, Pid, pid_eq, pid_eq-same, MsgId, MessageKind}
-use Rattle.dm_movelaws.proofs.Names.{Boot, manager, Label, OneKernel, PlainMessage, MoveNote, bind-is, Step, Line, Stage, Point, label_of, kernel_after, after_line, after, moved, Part, Says, Routes, Again}
-use Rattle.dm_movelaws.proofs.Names.{Owns, Transmits, Spelled, lines_of, puts, spelled, group_of, Told, Here, Sane, sends_on, to_kernel, gives_piece, forwards_on, updates, migrates, left_parts, Mark, Reached}
-use Rattle.dm_movelaws.proofs.Names.{Staying, with_mark, mark_for, marks, left_open, IsNet, IsNetLine, by_net, by_hears, by_forwards, by_migrates, by_outcome, by_parts, by_group, begun, said_by, Outcome, answers_move, leaves_for}
-use Rattle.dm_movelaws.proofs.Names.{asked_noted}
+use Rattle.dm_movelaws.proofs.Names.{◌≡◌, ◌≢◌, ℕ, Bool, true, false, List, [], ◌∷◌, ◌++◌, refl, ap, ◌∙◌, sym, subst, ⊤, is_some, if◌then◌else◌, Option, None, Some, false≢true, Pid, pid_eq, pid_eq-same, MsgId, MessageKind, Boot, manager}
+use Rattle.dm_movelaws.proofs.Names.{Label, OneKernel, PlainMessage, MoveNote, bind-is, Step, Line, Stage, Point, label_of, kernel_after, after_line, after, moved, Part, Says, Routes, Again, Owns, Transmits, Spelled, lines_of, puts}
+use Rattle.dm_movelaws.proofs.Names.{spelled, group_of, Told, Here, Sane, sends_on, to_kernel, gives_piece, forwards_on, updates, migrates, left_parts, Mark, Reached, Staying, with_mark, mark_for, marks, left_open, IsNet, IsNetLine, by_net}
+use Rattle.dm_movelaws.proofs.Names.{by_hears, by_forwards, by_migrates, by_outcome, by_parts, by_group, begun, said_by, Outcome, answers_move, leaves_for, asked_noted, arith}
 use Rattle.dm_onekernel.specs.Pieces as pieces
 use Rattle.dm_rule.specs.Rule as rule
 use Rattle.dm_movelaws.proofs.Leading.{AllLines, parts_say, next_of}
@@ -11,7 +10,6 @@ use Rattle.dm_movelaws.proofs.Asked.Following.{marks_note, IsUnmarked, AllUnmark
 use Rattle.dm_movelaws.proofs.Stages.Spares.{open_after, open-append, marks-append}
 use Rattle.dm_movelaws.proofs.Stages.Rows.{AllMild, line_marks}
 use Rattle.dm_movelaws.proofs.Stages.Steps.{round_mild, handles_mild, Handled, Spared, SetsOff}
-use Rattle.dm_movelaws.proofs.Names.{arith}
 
 -- a request is answered that the process doesn't follow
 abbrev pub AnswersAnother : OneKernel → Pid → Label → Type 0

@@ -1,6 +1,6 @@
 -- Each line between a process's step 1 and its step 8 or `stays` is another's, and leaves its plain value.
-use Rattle.dm_movelaws.proofs.Names.{◌≡◌, ℕ, true, false, List, [], ◌∷◌, ◌++◌, is_some, refl, ap, ◌∙◌, sym, subst, Option, None, Some, Pid, MsgId, MessageKind, Boot, Label, IsValid, OneKernel, bind, bind-is, Step, Line, Spelled}
-use Rattle.dm_movelaws.proofs.Names.{Moves, IsIn, Point, label_of, kernel_after, moved, after_line, after, first_point, group_of, first_view, rooted, is_fixed, LeadsBy, Both, both_start, both_group, after_replay, Run, run_start, run_group}
+use Rattle.dm_movelaws.proofs.Names.{◌≡◌, ℕ, true, false, List, [], ◌∷◌, ◌++◌, is_some, refl, ap, ◌∙◌, sym, subst, Option, None, Some, Pid, MsgId, MessageKind, Boot, Label, IsValid, OneKernel, bind, bind-is, Step, Line, Spelled, Moves}
+use Rattle.dm_movelaws.proofs.Names.{IsIn, Point, label_of, kernel_after, moved, after_line, after, first_point, group_of, first_view, rooted, is_fixed, LeadsBy, Both, both_start, both_group, after_replay, Run, run_start, run_group}
 use Rattle.dm_movelaws.proofs.Names.{IsAnothersIf, OpenStays, Mark, marks, append_assoc, start, replay, with_label, labels, labels-append, replay-append, AllOpen, OpenKeeps, nat_tests, arith, Known, KnownIs, View, kind_leaves}
 use Rattle.dm_movelaws.proofs.After.{after-append, group_after}
 use Rattle.dm_movelaws.proofs.Open.Apart.{AllAlone, moving_off, moving_alone, kernel_same, alone_rest, anothers_if, source_knows, moving_lives}

@@ -1,9 +1,9 @@
 -- Each step of a process or of its kernel keeps one message under each pending request's number.
 use Rattle.dm_movelaws.proofs.Names.{◌≡◌, ◌⊎◌, ℕ, ◌+◌, ◌<◌, ◌≤◌, ◌==◌, Bool, true, false, List, [], ◌∷◌, ◌++◌, length, is_some, refl, ap, ◌∙◌, subst, inl, inr, arith, if◌then◌else◌, Option, None, Some, cases_Bool, false≢true, nat_tests}
-use Rattle.dm_movelaws.proofs.Names.{Pid, PlainLink, MsgId, id_of, plain_kind, PlainMessage, PlainWhat, manager, Boot, Label, Manager, Pending, OneKernel, with_sent, without_message, replay, entry, reception, after_step}
-use Rattle.dm_movelaws.proofs.Names.{ServerSends, manager_takes_lem, Sound, bind-is, Step, ascends, Point, View, still_pending, WhatFits, KernelFits, based_always, fits_step, group_replay, Based, is_pending, HasOne}
-use Rattle.dm_movelaws.proofs.Names.{IsOfPending, PendingHasOne, Spelled, group_of, PendingAscends, requests, Outcome, answer_id, sym, PendingKind, IsPending, asked_by, answered_by, sort_of, take, drop, pid_eq, bind}
-use Rattle.dm_movelaws.proofs.Names.{PlainProcess, Alive, answer_to, lands-is, not_server, by_step, is_served, MoveNote, Follows, note-is}
+use Rattle.dm_movelaws.proofs.Names.{Pid, PlainLink, MsgId, id_of, plain_kind, PlainMessage, PlainWhat, manager, Boot, Label, Manager, Pending, OneKernel, with_sent, without_message, replay, entry, reception, after_step, ServerSends}
+use Rattle.dm_movelaws.proofs.Names.{manager_takes_lem, Sound, bind-is, Step, ascends, Point, View, still_pending, WhatFits, KernelFits, based_always, fits_step, group_replay, Based, is_pending, HasOne, IsOfPending, PendingHasOne, Spelled}
+use Rattle.dm_movelaws.proofs.Names.{group_of, PendingAscends, requests, Outcome, answer_id, sym, PendingKind, IsPending, asked_by, answered_by, sort_of, take, drop, pid_eq, bind, PlainProcess, Alive, answer_to, lands-is, not_server}
+use Rattle.dm_movelaws.proofs.Names.{by_step, is_served, MoveNote, Follows, note-is}
 use Rattle.dm_rulelaws.specs.Fits.{is_for}
 use Rattle.dm_laws.proofs.Entered.{asks}
 use Rattle.dm_onekernel.specs.Manager as manage

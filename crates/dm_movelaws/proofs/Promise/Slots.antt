@@ -80,10 +80,6 @@ creates_what_same a b id child u = grind (arith, nat_tests, child_same)
 creates_same : (v w : View) (a b : Addresses) (id : MsgId) (child : Pid) (o : Option PlainMessage) → holders (addresses.creation_gets v a id child o) ≡ holders (addresses.creation_gets w b id child o)
 creates_same v w a b id child o = grind (arith, nat_tests, creates_what_same)
 
--- servers
-tells_same : (v w : View) (a b : Addresses) (id : MsgId) (code : ℕ) (sent : PlainMessage) (u : PlainWhat) → holders (manager_tells_burden v a id code sent (burden_of u)) ≡ holders (manager_tells_burden w b id code sent (burden_of u))
-tells_same v w a b id code sent u = grind (arith, nat_tests, enclosed_same)
-
 manager_sends_same : (v w : View) (a b : Addresses) (id : MsgId) (code : ℕ) (o : Option PlainMessage) → holders (manager_sends v a id code o) ≡ holders (manager_sends w b id code o)
 manager_sends_same v w a b id code o = search (arith, enclosed_same)
 

@@ -1,11 +1,10 @@
 -- Each line keeps that whoever is told of is somebody.
-use Rattle.dm_movelaws.proofs.Names.{◌≡◌, ◌≢◌, ℕ, ◌<◌, ◌≤◌, true, false, ◌∷◌, is_some, refl, ap, ◌∙◌, sym, subst, inl, inr, arith, Option, Some, cases_Bool, nat_tests, Pid, MsgId, Line, PlainMessage, PlainWhat, Boot, manager}
-use Rattle.dm_movelaws.proofs.Names.{Life, OneKernel, Step, IsStep, Spelled, Point, group_of, Inbox, times, View, Told, Unknown, Here, after_head, is_kernels, actor, group_is, outcome_sayable, line_within, is_server, WhatFits, begun}
-use Rattle.dm_movelaws.proofs.Names.{begun_sane, named_real, times_self, Run, IsReal, Kernel, Server, Made, IsAboutReal, RealAlways, or_cases, from_kernel, run_always, ◌⊎◌, List, None, false≢true, MessageKind, plain_kind, Stage, Label}
-use Rattle.dm_movelaws.proofs.Names.{id_eq-is, LifeGrows, after_step, Sound, Receiver, Part, Says, Routes, Again, Owns, Transmits, spelled, label_of, kernel_after, moved, About, view_after, after_put, handled, receiver_of, own_id}
-use Rattle.dm_movelaws.proofs.Names.{not_kernels, grown_none, put_at, PacketsKeep, put_told_off, Sane, AllSayable, label_topic, Within, has_bytes, KernelFits, step_constant, fits_step, queued_topic, held_topic, taken_topic, told_kept, []}
-use Rattle.dm_movelaws.proofs.Names.{◌++◌, ⊤, pid_eq-same, alive-is, to_kernel, sends_on, IsNetLine, by_migrates, by_outcome, by_forwards, by_hears, topic_by, machine_in, sets, InOrder, Loose, loose_handles, HeadIn}
-use Rattle.dm_movelaws.proofs.Names.{counts, first_point, is_put}
+use Rattle.dm_movelaws.proofs.Names.{◌≡◌, ◌≢◌, ℕ, ◌<◌, ◌≤◌, true, false, ◌∷◌, is_some, refl, ap, ◌∙◌, sym, subst, inl, inr, arith, Option, Some, cases_Bool, nat_tests, Pid, MsgId, Line, PlainMessage, PlainWhat, Boot, manager, Life}
+use Rattle.dm_movelaws.proofs.Names.{OneKernel, Step, IsStep, Spelled, Point, group_of, Inbox, times, View, Told, Unknown, Here, after_head, is_kernels, actor, group_is, outcome_sayable, line_within, is_server, WhatFits, begun, begun_sane}
+use Rattle.dm_movelaws.proofs.Names.{named_real, times_self, Run, IsReal, Kernel, Server, Made, IsAboutReal, RealAlways, or_cases, from_kernel, run_always, ◌⊎◌, List, None, false≢true, MessageKind, plain_kind, Stage, Label, id_eq-is}
+use Rattle.dm_movelaws.proofs.Names.{LifeGrows, after_step, Sound, Receiver, Part, Says, Routes, Again, Owns, Transmits, spelled, label_of, kernel_after, moved, About, view_after, after_put, handled, receiver_of, own_id, not_kernels}
+use Rattle.dm_movelaws.proofs.Names.{grown_none, put_at, PacketsKeep, put_told_off, Sane, AllSayable, label_topic, Within, has_bytes, KernelFits, step_constant, fits_step, queued_topic, held_topic, taken_topic, told_kept, [], ◌++◌, ⊤}
+use Rattle.dm_movelaws.proofs.Names.{pid_eq-same, alive-is, to_kernel, sends_on, IsNetLine, by_migrates, by_outcome, by_forwards, by_hears, topic_by, machine_in, sets, InOrder, Loose, loose_handles, HeadIn, counts, first_point, is_put}
 use Rattle.dm_rulelaws.proofs.Found.Core as core
 use Rattle.dm_rule.specs.View as view
 use Rattle.dm_rule.specs.Rule as rule

@@ -2,10 +2,10 @@
 use Rattle.dm_movelaws.proofs.Names.{◌≡◌, ◌⊎◌, ℕ, zero, suc, ◌<◌, ◌≤◌, true, false, is_some, nat_lt, List, [], ◌∷◌, ◌++◌, length, refl, ap, ◌∙◌, sym, subst, inl, inr, arith, Option, Some, false≢true, nat_tests, Pid, pid_eq, MsgId, id_of}
 use Rattle.dm_movelaws.proofs.Names.{BootProcess, Boot, IsValid, switchboard, manager, Alive, OneKernel, PlainProcess, life_at, id_eq-is, not_server, bind-is, Step, Line, without_id, Point, first_point, after, after_line, times, View, Told}
 use Rattle.dm_movelaws.proofs.Names.{view_after, hushed, without_counts, one_of, line_view, put_told_off, LeadsBy, Both, both_start, both_group, times_more, run_start, run_group, with_put, routed, AreRouted, RoutedAlways, less_test, None}
-use Rattle.dm_movelaws.proofs.Names.{plain_kind, PlainMessage, Label, Sound, Part, Spelled, label_of, kernel_after, moved, group_of, Inbox, Queue, BagStep, out_of, bag_sends, bag_ran, bag_call, bag_wait, bag_out, bag_end}
-use Rattle.dm_movelaws.proofs.Names.{bag_refuse, bag_receive, bag_dropped, bag_gone, bag_no_space, bag_created, bag_served, bag_took, group_is, stands_right, is_put, hidden, Sane, outcome_sayable, Rides, begun, begun_sane, Run, Sayable, ⊤}
-use Rattle.dm_movelaws.proofs.Names.{IsNetLine, first_is, times_self, by_migrates, IsHeardLine, hears_kept, by_round, by_handles, by_forwards, by_outcome, bag_asked, bag_answered, answer_id, ◌+◌, Bool, if◌then◌else◌, take, drop, PlainWhat}
-use Rattle.dm_movelaws.proofs.Names.{Why, Life, with_process, with_sent, answer_to, without_message, pid_eq-is, id_eq-same, Sent, sent_at, ServerSends, board_takes_lem, manager_takes_lem, lands-is, Sent-from, name_is, by_step, with_note}
+use Rattle.dm_movelaws.proofs.Names.{plain_kind, PlainMessage, Label, Sound, Part, Spelled, label_of, kernel_after, moved, group_of, Inbox, Queue, BagStep, out_of, bag_sends, bag_ran, bag_call, bag_wait, bag_out, bag_end, bag_refuse}
+use Rattle.dm_movelaws.proofs.Names.{bag_receive, bag_dropped, bag_gone, bag_no_space, bag_created, bag_served, bag_took, group_is, stands_right, is_put, hidden, Sane, outcome_sayable, Rides, begun, begun_sane, Run, Sayable, ⊤, IsNetLine}
+use Rattle.dm_movelaws.proofs.Names.{first_is, times_self, by_migrates, IsHeardLine, hears_kept, by_round, by_handles, by_forwards, by_outcome, bag_asked, bag_answered, answer_id, ◌+◌, Bool, if◌then◌else◌, take, drop, PlainWhat, Why, Life}
+use Rattle.dm_movelaws.proofs.Names.{with_process, with_sent, answer_to, without_message, pid_eq-is, id_eq-same, Sent, sent_at, ServerSends, board_takes_lem, manager_takes_lem, lands-is, Sent-from, name_is, by_step, with_note}
 use Rattle.dm_onekernel.specs.Kernel.{Ended}
 use Rattle.dm_onekernel.specs.Step as kernel
 use Rattle.dm_rule.specs.Rule as rule

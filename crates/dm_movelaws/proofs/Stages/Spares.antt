@@ -1,9 +1,9 @@
 -- The marks of lines: of one list after another, and of the lines that parts say.
-use Rattle.dm_movelaws.proofs.Names.{◌≡◌, ℕ, ◌≤◌, ◌==◌, Bool, true, false, List, [], refl, ap, ◌∙◌, sym, subst, inl, inr, if◌then◌else◌, Option, None, Some, cases_Bool, false≢true, Pid, MsgId, MessageKind, id_eq, View, Told, Of}
-use Rattle.dm_movelaws.proofs.Names.{Known, Unknown, Here, Frozen, Incoming, after_put, Spot, standing, is_between, is_restart, is_early, is_away, is_here, is_over, knows, Phase, Nowhere, Rests, Over, Moves, is_due}
-use Rattle.dm_movelaws.proofs.Names.{token_in, told_between, IsIn, id_eq-is, PairsFit, put_told_off, Calm, between_of, put_spots, put_at, put_there, put_spot, rests_here, Mark, Reached, Lacking, in_order, eq_self, not_false, right_true}
-use Rattle.dm_movelaws.proofs.Names.{first_kept, nat_tests, arith, calm_about, calm_same, About, ◌∷◌, ◌++◌, pid_eq, Boot, pid_eq-same, Step, Line, Point, moved, Part, Says, Spelled, lines_of, spelled, sends_on, group_of}
-use Rattle.dm_movelaws.proofs.Names.{outcome, mark_for, with_mark, marks, left_open, left_true, both_true, by_parts, group_is}
+use Rattle.dm_movelaws.proofs.Names.{◌≡◌, ℕ, ◌≤◌, ◌==◌, Bool, true, false, List, [], refl, ap, ◌∙◌, sym, subst, inl, inr, if◌then◌else◌, Option, None, Some, cases_Bool, false≢true, Pid, MsgId, MessageKind, id_eq, View, Told, Of, Known}
+use Rattle.dm_movelaws.proofs.Names.{Unknown, Here, Frozen, Incoming, after_put, Spot, standing, is_between, is_restart, is_early, is_away, is_here, is_over, knows, Phase, Nowhere, Rests, Over, Moves, is_due, token_in, told_between, IsIn}
+use Rattle.dm_movelaws.proofs.Names.{id_eq-is, PairsFit, put_told_off, Calm, between_of, put_spots, put_at, put_there, put_spot, rests_here, Mark, Reached, Lacking, in_order, eq_self, not_false, right_true, first_kept, nat_tests, arith}
+use Rattle.dm_movelaws.proofs.Names.{calm_about, calm_same, About, ◌∷◌, ◌++◌, pid_eq, Boot, pid_eq-same, Step, Line, Point, moved, Part, Says, Spelled, lines_of, spelled, sends_on, group_of, outcome, mark_for, with_mark, marks, left_open}
+use Rattle.dm_movelaws.proofs.Names.{left_true, both_true, by_parts, group_is}
 use Rattle.dm_rule.specs.View as view
 use Rattle.dm_movelaws.proofs.Leading.{lines_are}
 

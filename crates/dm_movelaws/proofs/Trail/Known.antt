@@ -1,11 +1,10 @@
 -- Wherever the rule leads there are trails that all addresses are on; where a process doesn't move, its trail ends where it is.
 use Rattle.dm_movelaws.proofs.Names.{◌≡◌, ◌≢◌, ℕ, ◌+◌, ◌==◌, Bool, true, false, List, [], ◌∷◌, length, ap, ◌∙◌, sym, subst, inl, inr, arith, if◌then◌else◌, slice_get, Option, Some, Pid, MsgId, MessageKind, Boot, bind, Step, bind-is, Line}
-use Rattle.dm_movelaws.proofs.Names.{Leads, Phase, Nowhere, Rests, Over, Moves, IsIn, is_away, is_here, is_over, Point, first_point, after, after_line, Trails, Trodden, first_trodden, along, trails_after, View}
-use Rattle.dm_movelaws.proofs.Names.{Known, Unknown, Ended, parts, along_treads, treads_start, Treads, is_moving, IsThere, eq_self, not_false, nat_tests, IsValid, IsStep, Spelled, group_of, first_trails, TrailsAlways}
-use Rattle.dm_movelaws.proofs.Names.{first_view, eq_is, start_known, Carries, trails_always_by, Both, both_start, both_group, run_start, run_group, is_some, refl, cases_Bool, false≢true, None, Place, Label, Life, OneKernel}
-use Rattle.dm_movelaws.proofs.Names.{after_step, Stage, kernel_after, at_record, Told, About, NothingElse, Here, Frozen, Forward, view_after, handled, receiver_of, served_told, hushed, grown_none, Phased, queued_known, held_known}
-use Rattle.dm_movelaws.proofs.Names.{dropped_known, Sane, label_topic, is_server, KnownStands, group_keeps, Loud, keeps_by, set_all, killed_or, named_real, is_made, IsNamed, ByHolder, ByOwn, ByRequest, ByUpdate, ByForward, queued_topic}
-use Rattle.dm_movelaws.proofs.Names.{held_topic, or_first, run_always, sets, seen, label_of, Of}
+use Rattle.dm_movelaws.proofs.Names.{Leads, Phase, Nowhere, Rests, Over, Moves, IsIn, is_away, is_here, is_over, Point, first_point, after, after_line, Trails, Trodden, first_trodden, along, trails_after, View, Known, Unknown, Ended, parts}
+use Rattle.dm_movelaws.proofs.Names.{along_treads, treads_start, Treads, is_moving, IsThere, eq_self, not_false, nat_tests, IsValid, IsStep, Spelled, group_of, first_trails, TrailsAlways, first_view, eq_is, start_known, Carries}
+use Rattle.dm_movelaws.proofs.Names.{trails_always_by, Both, both_start, both_group, run_start, run_group, is_some, refl, cases_Bool, false≢true, None, Place, Label, Life, OneKernel, after_step, Stage, kernel_after, at_record, Told, About}
+use Rattle.dm_movelaws.proofs.Names.{NothingElse, Here, Frozen, Forward, view_after, handled, receiver_of, served_told, hushed, grown_none, Phased, queued_known, held_known, dropped_known, Sane, label_topic, is_server, KnownStands}
+use Rattle.dm_movelaws.proofs.Names.{group_keeps, Loud, keeps_by, set_all, killed_or, named_real, is_made, IsNamed, ByHolder, ByOwn, ByRequest, ByUpdate, ByForward, queued_topic, held_topic, or_first, run_always, sets, seen, label_of, Of}
 use Rattle.dm_rulelaws.proofs.Found.Core.{IsReal}
 use Rattle.dm_onekernel.specs.Step as kernel
 use Rattle.dm_rule.specs.View as view

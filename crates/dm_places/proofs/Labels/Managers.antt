@@ -3,7 +3,7 @@ use Rattle.dm_places.proofs.Names.{◌≡◌, ℕ, suc, ◌+◌, ◌==◌, ◌&&
 use Rattle.dm_places.proofs.Names.{slice_get-map, Addr, Link, place_of, plain_link, MsgId, What, id_of, PlainMessage, PlainWhat, plain_message, manager, OneKernel, goes_over, Pending, Managing, plain_child, plain_manager, plain_pending}
 use Rattle.dm_places.proofs.Names.{answer_over, message_to, Taken, child_address, plain_numbered, plain_push, id_eq-same, View, Addresses, gets, given, Receiver, Sender, Enclosed, Child, Answer, unmoved, encloses, enclosed_from}
 use Rattle.dm_places.proofs.Names.{manager_sends, ascends, encloses_servers, encloses_process, encloses_message, encloses_at, two, enclosed_at, Placed, Mirrors, MirrorsKernel, enclosed, manager_took, without_message, AnswerNames, Place}
-use Rattle.dm_places.proofs.Names.{PlainLink, pending_request, ◌++◌, kernel_at, PendingKind}
+use Rattle.dm_places.proofs.Names.{PlainLink, pending_request, ◌++◌, kernel_at, PendingKind, sym, Pid}
 use Rattle.dm_onekernel.specs.Kernel as kernels
 use Rattle.dm_onekernel.specs.Manager as one
 use Rattle.dm_onekernel.specs.Service as service
@@ -201,7 +201,12 @@ controls_mirrors s v a l id mid code _ _ links is en order h = bad_mirrors s v a
 
 user_of : (s : OneKernel) (v : View) (a : Addresses) (l : Placed) (id mid : MsgId) (code : ℕ) (body : List ℕ) (links : List Link) → LinksKept a mid links → InOrder l.manager → Mirrors s v a l
     → TookAt s v a l id mid code (one.takes_user (plain_manager l.manager) l.manager.machines l.manager.images code body (map plain_link links)) (take.takes_user v.acting l.manager code body links)
-user_of s v a l id mid code body links en order h = search (arith, took_if, requests_mirrors, plain_numbered, controls_mirrors)
+user_of s v a l id mid code body links en order h =
+    let g = l.manager in
+    took_if s v a l id mid code (code == 0) (one.requests_child (plain_manager g) g.machines g.images body (map plain_link links)) (one.controls (plain_manager g) g.machines (one.child_numbered (map plain_child g.children) code) body (map plain_link links))
+    (take.requests v.acting g body links) (take.controls v.acting g (child_address g.children code) body links) (requests_mirrors s v a l id mid code body links en order h)
+    (subst (λ (o : Option Pid). TookAt s v a l id mid code (one.controls (plain_manager g) g.machines o body (map plain_link links)) (take.controls v.acting g (child_address g.children code) body links)) (sym (plain_numbered g.children code))
+    (controls_mirrors s v a l id mid code (child_address g.children code) body links refl en order h))
 
 -- a user message to the manager
 pub user_mirrors : (s : OneKernel) (v : View) (a : Addresses) (l : Placed) (id mid : MsgId) (code : ℕ) (body : List ℕ) (links : List Link) → LinksKept a mid links → InOrder l.manager → Mirrors s v a l

@@ -154,11 +154,6 @@ asks_stays : (v : View) (a : About) → Stays v (view.asks_on v a)
 asks_stays v (Of p) = record { known = refl; ring = refl; queue = refl; held = refl; moves = refl }
 asks_stays v _ = stays v
 
-follows_stays : (v : View) (a : About) (k : MessageKind) → Stays v (view.follows_by v a (sort_of k))
-follows_stays v a MessageKind.State = asks_stays v a
-follows_stays v a MessageKind.Memory = asks_stays v a
-follows_stays v a _ = stays v
-
 proto_stays : (v : View) (o : Option Told) → Stays v (view.after_proto v o)
 proto_stays v None = record { known = refl; ring = refl; queue = refl; held = refl; moves = refl }
 proto_stays v (Some t) = search (arith, t.about, t.kind, asks_stays, stays)

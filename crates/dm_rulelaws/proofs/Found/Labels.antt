@@ -16,6 +16,7 @@ use Rattle.dm_rulelaws.proofs.Found.Core.{AboutIs, KnowsAt, Knows, IsAt, KnownIs
 use Rattle.dm_rulelaws.proofs.Found.Core.{forwarded_core, sent_core, updated_core}
 use Rattle.dm_rulelaws.proofs.Based.Loud.{SetLife, some_alike, step_alike, step_ends, step_serves, step_creates}
 use Rattle.dm_rulelaws.proofs.Fits.Rises.{both}
+use Rattle.dm_onekernel.specs.Pieces as pieces
 use Rattle.dm_onekernel.specs.Step as kernel
 use Rattle.dm_rule.specs.View as view
 use Rattle.dm_onekernel.specs.Service as service
@@ -135,22 +136,6 @@ step_made s t (Label.Served id) other is =
 step_made s t l other is = (λ q some. sym (some_alike (t.processes q) (s.processes q) ((step_alike s t l refl is) q)) ∙ some)
 
 -- Each label keeps where addresses lead, what machines know, and where messages stand.
-
--- what the acting machine knows behind a label
-kills_learn : (n : ℕ) (v : View) (k : MessageKind) (p : Pid) → v.acting < n → ((m : ℕ) (q : Pid) → KnownIs n v m q (v.known m q)) → Learns n v (ends_by (sort_of k) v (Some p))
-kills_learn n v MessageKind.Kill p le h = learns n v (ends_by (sort_of MessageKind.Kill) v (Some p)) p Ended refl refl (λ e. absurd (let f : Ended ≡ Unknown = e in cc)) le h
-kills_learn n v _ p le h = learns_nothing n v v refl (λ m q. refl) h
-
-served_learns : (n : ℕ) (v : View) (o : Option Told) → v.acting < n → ((m : ℕ) (q : Pid) → KnownIs n v m q (v.known m q)) → Learns n v (served_told v o)
-served_learns n v None le h = learns_nothing n v v refl (λ m q. refl) h
-served_learns n v (Some t) le h = kills_learn n v t.kind t.receiver le h
-
--- where a message was handled
-behind_handled : (n : ℕ) (v w : View) (i : MsgId) → Learns n (handled v i) w → Learns n v w
-behind_handled n v w i h = record { acting = h.acting; grows = h.grows; known = h.known }
-
-handled_known : (n : ℕ) (v : View) (i : MsgId) → ((m : ℕ) (q : Pid) → KnownIs n v m q (v.known m q)) → (m : ℕ) (q : Pid) → KnownIs n (handled v i) m q (v.known m q)
-handled_known n v i h = (learns_nothing n v (handled v i) refl (λ m q. refl) h).known
 
 label_learns : (n : ℕ) (v : View) (l : Label) → v.acting < n → ((m : ℕ) (q : Pid) → KnownIs n v m q (v.known m q)) → Learns n v (after_label v l)
 label_learns n v (Label.End p y) le h = learns n v (after_label v (Label.End p y)) p Ended refl refl (λ e. absurd (let f : Ended ≡ Unknown = e in cc)) le h

@@ -5,7 +5,7 @@ use Rattle.dm_rulelaws.proofs.Names.{follows_by, handled, handled_first, queued_
 use Rattle.dm_rulelaws.proofs.Names.{standing, eq_is, parts, at_place, pair_keeps, times-append, machine_of, ap, ◌∙◌, cases_Bool, false≢true, Place, id_eq, manager, OneKernel, is_kernels, own_id, Addresses, Holder, Receiver, Sender, Gets}
 use Rattle.dm_rulelaws.proofs.Names.{given, holder_eq, place_known, all_follow, is_told_back, told_back_gets, forwards, place_told, is_behind, updated_to, updated, own_given, first_gives, one_of, put_told_off, put_at, Goes, Comes, Named}
 use Rattle.dm_rulelaws.proofs.Names.{Links, holder_is, unnamed_receiver, unnamed_sender, put_named, told_again, is_own, leads_where, behind_where, plain_gives, not_own, ◌<◌, is_some, nat_tests, PlainMessage, is_fixed, by_step, MoveNote}
-use Rattle.dm_rulelaws.proofs.Names.{sort_of}
+use Rattle.dm_rulelaws.proofs.Names.{sort_of, dropped_for}
 use Rattle.dm_rule.proofs.Trails.Places.{Owns}
 use Rattle.dm_rulelaws.proofs.Based.Sets.{set_all, without_fewer, front_fewer, last_of}
 use Rattle.dm_rulelaws.proofs.Fits.Constants.{step_constant}
@@ -104,6 +104,10 @@ places_held G v id (Some p) new h =
 places_queue_less : (G : MsgId → ℕ → Type 0) (v w : View) (p : Pid) (xs : List MsgId) → w.queue ≡ at_record v.queue v.acting p xs → w.held ≡ v.held → w.inbox ≡ v.inbox → w.pair ≡ v.pair → ((i : MsgId) → 1 ≤ times i xs → 1 ≤ times i (v.queue v.acting p)) → Places G v → Places G w
 places_queue_less G v w p xs queue held inbox pair less h = search (arith, places_of, set_record, v.queue, v.acting)
 
+places_dropped : (G : MsgId → ℕ → Type 0) (v : View) (id : MsgId) (o : Option Pid) → Places G v → Places G (dropped_for v id o)
+places_dropped G v id None h = h
+places_dropped G v id (Some p) h = places_queue_less G v (dropped_for v id (Some p)) p (without_front id (v.queue v.acting p)) refl refl refl refl (λ i e. front_fewer i id (v.queue v.acting p) e) h
+
 -- the held messages come to the inbox
 places_rejoins : (G : MsgId → ℕ → Type 0) (v : View) (p : Pid) → Places G v → Places G (rejoins v p)
 places_rejoins G v p h =
@@ -143,11 +147,6 @@ places_put G v a b id k q new h =
     places_of G (after_put v a b id k q) (λ m p i e. h i (Queue m p) e) (λ m p i e. h i (Held m p) e) (λ m i e. put_inbox G v.inbox b id (a == b) new (λ n j f. h j (Inbox n) f) m i e)
     (λ c d i e. set_pair G v.pair a b (routed_on a b (v.pair a b) id) (routed_untaken (λ (j : MsgId). G j b) a b (v.pair a b) id new (λ j f. h j (Untaken a b) f)) (λ x y j f. h j (Untaken x y) f) c d i e)
 
--- labels
-places_kills : (G : MsgId → ℕ → Type 0) (v : View) (k : MessageKind) (p : Pid) → Places G v → Places G (ends_by (sort_of k) v (Some p))
-places_kills G v MessageKind.Kill p h = places_as G v (ends_by (sort_of MessageKind.Kill) v (Some p)) refl refl refl (λ a b. refl) h
-places_kills G v _ p h = h
-
 places_served : (G : MsgId → ℕ → Type 0) (v : View) (o : Option Told) → Places G v → Places G (served_told v o)
 places_served G v None h = h
 places_served G v (Some t) h = search (arith, t.kind, t.receiver, places_as)
@@ -157,7 +156,7 @@ places_label G v (Label.Ran p k) h = places_as G v (after_label v (Label.Ran p k
 places_label G v (Label.End p y) h = places_as G v (after_label v (Label.End p y)) refl refl refl (λ a b. refl) h
 places_label G v (Label.Refuse p id c) h = places_as G v (after_label v (Label.Refuse p id c)) refl refl refl (λ a b. refl) h
 places_label G v (Label.Receive p id) h = places_queue_less G v (after_label v (Label.Receive p id)) p (without_id id (v.queue v.acting p)) refl refl refl refl (λ i e. without_fewer i id (v.queue v.acting p) e) h
-places_label G v (Label.Dropped id) h = search (arith, places_queue_less, front_fewer)
+places_label G v (Label.Dropped id) h = places_dropped G (handled v id) id (receiver_of (v.told id)) (places_handled G v id h)
 places_label G v (Label.Served id) h = places_served G (handled v id) (v.told id) (places_handled G v id h)
 places_label G v (Label.Gone id) h = places_handled G v id h
 places_label G v (Label.Took id) h = places_handled G v id h

@@ -237,11 +237,6 @@ here_told_need n pt o m id t MessageKind.Migrate le front = moves_need n pt id t
 here_told_need n pt o m id t MessageKind.Update le front = (tt, λ ls next is leads. tt)
 here_told_need n pt o m id t _ le front = tt
 
-ended_told_need : (n : ℕ) (pt : Point) (id : MsgId) (k : MessageKind) → NeedOf n pt (told_ended id (sort_of k))
-ended_told_need n pt id MessageKind.Migrate = (tt, λ ls next is leads. tt)
-ended_told_need n pt id MessageKind.Update = (tt, λ ls next is leads. tt)
-ended_told_need n pt id _ = tt
-
 server_told_need : (n : ℕ) (pt o : Point) (id : MsgId) (t : Told) (k : MessageKind) → NeedOf n pt (told_server o id t (sort_of k))
 server_told_need n pt o id t MessageKind.Update = (tt, λ ls next is leads. tt)
 server_told_need n pt o id t _ = tt

@@ -129,14 +129,6 @@ rest_own : (c : Bool) (ps : List Part) → HaveNoOwn ps → HaveNoOwn (if c then
 rest_own true ps h = tt
 rest_own false ps h = h
 
-completes_own : (p : Pid) (i : MsgId) (c : receiving.Completed) → HaveNoOwn (rule.completion_parts p i c)
-completes_own p i (receiving.Receives y) = (tt, tt)
-completes_own p i (receiving.Refuses reply y) = (tt, tt)
-
-rest_quiet : (c : Bool) (ps : List Part) → no_receive (said ps) ≡ true → no_receive (said (if c then [] else ps)) ≡ true
-rest_quiet true ps h = refl
-rest_quiet false ps h = h
-
 completes_what : (p : Pid) (x : PlainProcess) (k : PlainMessage) (mask base size : ℕ) (w : PlainWhat) → rule.burden_is_awaited mask (burden_of w) ≡ true → k.to ≡ p → (c : receiving.Completed) × (receiving.completes_what p x k mask base size w ≡ Some c)
 completes_what p x k mask base size (PlainWhat.User code channel body links) e to =
     let c = receiving.completes x base size code channel body links in

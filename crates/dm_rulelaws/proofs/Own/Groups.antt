@@ -5,7 +5,7 @@ use Rattle.dm_rulelaws.proofs.Names.{behind, spelled, group_of, View, About, Tol
 use Rattle.dm_rulelaws.proofs.Names.{arith}
 use Rattle.dm_rule.specs.View as view
 use Rattle.dm_rulelaws.proofs.Runs.{Run}
-use Rattle.dm_rulelaws.proofs.Own.Told.{OwnTold, own_sort, HasNoOwn, HaveNoOwn, topic_stage, Later, OwnsFit, senders_step}
+use Rattle.dm_rulelaws.proofs.Own.Told.{OwnTold, own_sort, HasNoOwn, HaveNoOwn, topic_stage, Later, OwnsFit, senders_step, NoOwns, FirstOwns, ThenOwns, AnyOwns}
 use Rattle.dm_rulelaws.proofs.Goes.Parts.{put_lines}
 use Rattle.dm_rulelaws.proofs.Goes.Always.{group_on}
 use Rattle.dm_rulelaws.proofs.Based.Needs.{by_puts}
@@ -43,7 +43,11 @@ IsRight pt (Owns k q b) = own_sort k q pt.view.topic ≡ true
 IsRight pt _ = ⊤
 
 pub one_line : (pt next : Point) (l : Line) (ls : List Line) → is_put l ≡ false → Some (l ∷ []) ≡ Some ls → after pt ls ≡ Some next → Sane pt → OwnTold pt → OwnTold next
-one_line pt next l ls quiet is leads sane h = search (arith, bind-is, own_line)
+one_line pt next l ls quiet is leads sane h =
+    let f : l ∷ [] ≡ ls = cc in
+    let (mid, first, last) = bind-is (after_line pt l) (λ q. after q []) next (ap (after pt) f ∙ leads) in
+    let g : mid ≡ next = cc in
+    subst OwnTold g (own_line pt mid l quiet first sane h)
 
 puts_lead : (pt next : Point) (b : ℕ) (i : MsgId) (k : MessageKind) (q : Pid) (ls : List Line) → (is_kernels i ≡ true → pt.view.told i ≡ None → own_sort k q pt.view.topic ≡ true) → Some (puts pt.view b i k q) ≡ Some ls → after pt ls ≡ Some next → OwnTold pt → OwnTold next
 puts_lead pt next b i k q ls right is leads h = by_puts OwnTold pt next b i k q ls (own_put pt pt.view.acting b i k q right h) (λ p x y z l o. record { own = o.own; sender = o.sender }) is leads
@@ -134,7 +138,10 @@ any_own l qs pt w ok fit is sane h =
     subst OwnTold n.point (later_own n.next.view.topic qs n.next n.rest ok.1 (fit n.next.view.topic) refl n.more (part_sane pt n.next (Says l) n.ls ok.0 n.lines n.leads sane) (own_part pt n.next (Says l) n.ls ok.0 tt n.lines n.leads sane h))
 
 fits_own : (ps : List Part) (pt : Point) (w : Spelled) → AllSayable ps → OwnsFit pt.view ps → spelled pt ps ≡ Some w → Sane pt → OwnTold pt → OwnTold w.point
-fits_own ps pt w h1 h2 h3 h4 h5 = search (arith, none_own, later_own, pt.view.topic, any_own, then_own)
+fits_own ps pt w ok (NoOwns none) is sane h = none_own ps pt w ok none is sane h
+fits_own ps pt w ok (FirstOwns fit) is sane h = later_own pt.view.topic ps pt w ok fit refl is sane h
+fits_own ps pt w ok (AnyOwns l qs same fit) is sane h = any_own l qs pt w (subst AllSayable same ok) fit (ap (spelled pt) (sym same) ∙ is) sane h
+fits_own ps pt w ok (ThenOwns l qs same none fit) is sane h = then_own l qs pt w none (subst AllSayable same ok) fit (ap (spelled pt) (sym same) ∙ is) sane h
 
 pub own_told_group : (b : Boot) (pt : Point) (d : Step) (w : Spelled) → group_of b pt d ≡ Some w → Run b pt → OwnTold pt → OwnTold w.point
 own_told_group b pt d w is run h =
