@@ -35,7 +35,7 @@ pub use Rattle.dm_rule.proofs.Pairs.Turns.{resends_fit}
 pub use Rattle.dm_rule.proofs.QuietTests.{passes_quiet, quiet_passes, eq_is as test_same}
 pub use Rattle.dm_rule.proofs.Telling.{tells_right_always}
 pub use Rattle.dm_rule.proofs.Worked.{hi}
-pub use Rattle.dm_rule.specs.Ends.{awaits, leading}
+pub use Rattle.dm_rule.specs.Ends.{leading}
 pub use Rattle.dm_rule.specs.Good.{IsKept, first_undelivered, undelivered}
 pub use Rattle.dm_rule.specs.View.{is_own}
 pub use Rattle.dm_rulelaws.proofs.Names.{IsNet, IsNetLine, IsRun, acting_dropped, arrives_net, at_machine_at, eq_is, first_told, group_is, hushed, is_fixed, is_put, is_server, not_is, not_true, times-append}
@@ -46,10 +46,10 @@ pub use Rattle.dm_movelaws.proofs.At.RestOnly.{dropped_known}
 pub use Rattle.dm_movelaws.proofs.At.RestPairs.{routed_always}
 pub use Rattle.dm_movelaws.proofs.Ends.Parts.{count-append}
 pub use Rattle.dm_movelaws.proofs.Ends.Sources.{line_ids}
-pub use Rattle.dm_movelaws.proofs.Names.{AllFit, AtRest, ByHolder, ByOwn, EndLine, GroupIs, IsNamed, Standing, Stood, alive_lines, based_always, block_line, child_lines, count, doing_of, drop-nil, each_machine, each_process, end_lines}
-pub use Rattle.dm_movelaws.proofs.Names.{first_with, forwarded_acting, handles, holding_lines, home_with, homes_with, inbox_lines, is_moving, landing_parts, line_view, link_lines, list_line, memory_lines, migrates_fit, more_front}
-pub use Rattle.dm_movelaws.proofs.Names.{name_lines, onward, or, pair_same, pending_lines, process_lines, queue_at, queue_lines, queued_acting, run_always, server_lines, set_is, set_other, slot_line, standing_of, state_lines, stood}
-pub use Rattle.dm_movelaws.proofs.Names.{stood_at, stream_lines, taken_pair, touches, trimmed, turns_fit}
+pub use Rattle.dm_movelaws.proofs.Names.{AllFit, AtRest, ByHolder, ByOwn, EndLine, GroupIs, IsNamed, Standing, Stood, alive_lines, awaits, based_always, block_line, child_lines, count, doing_of, drop-nil, each_machine, each_process}
+pub use Rattle.dm_movelaws.proofs.Names.{end_lines, first_with, forwarded_acting, handles, holding_lines, home_with, homes_with, inbox_lines, is_moving, landing_parts, line_view, link_lines, list_line, memory_lines, migrates_fit}
+pub use Rattle.dm_movelaws.proofs.Names.{more_front, name_lines, onward, or, pair_same, pending_lines, process_lines, queue_at, queue_lines, queued_acting, run_always, server_lines, set_is, set_other, slot_line, standing_of, state_lines}
+pub use Rattle.dm_movelaws.proofs.Names.{stood, stood_at, stream_lines, taken_pair, touches, trimmed, turns_fit}
 pub use Rattle.dm_movelaws.proofs.Promise.Finds.{leads_append}
 pub use Rattle.dm_movelaws.proofs.ProtocolMoves.{protocol_moves}
 pub use Rattle.dm_movelaws.proofs.Trail.Rows.{or_first}
