@@ -4,7 +4,7 @@ use Rattle.std.specs.List.{find}
 use Rattle.dm_message.specs.declared.What.{What}
 use Rattle.dm_message.specs.declared.What.TheVariants as what
 use Rattle.dm_message.specs.Plain as plain
-use Rattle.dm_message.specs.Plain.{PlainWhat}
+use Rattle.dm_message.specs.Plain.{WhatOver}
 use Rattle.dm_message.specs.Sorts.{kind_row}
 use Rattle.dm_message.specs.declared.kind.MessageKind.{MessageKind}
 use Rattle.dm_message.specs.declared.kind.MessageKind.TheVariants as kind
@@ -56,7 +56,7 @@ kind_of (what.CallOff a) = kind.CallOff
 kind_of (what.Bury a) = kind.Bury
 
 -- the kind of what a message says without places
-abbrev pub plain_kind : PlainWhat → MessageKind
+abbrev pub plain_kind : {A : Type 0} → WhatOver A → MessageKind
 plain_kind (plain.User code channel body links) = kind.User
 plain_kind plain.Stop = kind.Stop
 plain_kind plain.Resume = kind.Resume
@@ -73,6 +73,6 @@ plain_kind (plain.Move machine) = kind.Move
 plain_kind (plain.Moved outcome) = kind.Moved
 
 -- a message and its plain meaning are of one kind
-abbrev pub IsKindOfPlain : What → Option PlainWhat → Type 0
+abbrev pub IsKindOfPlain : What → Option (WhatOver Pid) → Type 0
 IsKindOfPlain w None = ⊤
 IsKindOfPlain w (Some v) = plain_kind v ≡ kind_of w

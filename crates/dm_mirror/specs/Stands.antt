@@ -153,7 +153,7 @@ pub record PairStands (b : Boot) (pt : Point) (l : Placed) (w : WorldState) (h :
 
 -- the world stands for the point, with this kernel with places and this history
 pub record StandsWith (b : Boot) (w : WorldState) (pt : Point) (l : Placed) (h : History) : Type 0 where
-  pub mirrors : Mirrors pt.kernel pt.view pt.addresses l
+  pub mirrors : Mirrors pt.placed pt.view l
   pub groups : w.groups ≡ pt.view.groups
   pub nodes : (m : ℕ) → m < pt.kernel.machines → NodeStands b pt l m (w.nodes m)
   pub pairs : (a c : ℕ) → a < pt.kernel.machines → c < pt.kernel.machines → a ≢ c → PairStands b pt l w h a c

@@ -1,14 +1,15 @@
 -- The process manager: it makes processes, and stops, resumes, kills and moves those that it made.
+use Rattle.dm_link.specs.Ways.{Ways, at_home}
 use Rattle.std.specs.Prelude.{ℕ, zero, suc, ◌+◌, ◌*◌, false, ◌==◌, ◌&&◌, nat_lt, if◌then◌else◌, List, [], ◌∷◌, ◌++◌, length, slice_get}
 use Rattle.std.specs.declared.option.Option.{Option}
 use Rattle.std.specs.declared.option.Option.TheVariants.{None, Some}
 use Rattle.dm_link.specs.declared.Pid.{Pid}
 use Rattle.dm_link.specs.declared.Kind.TheVariants as kind
 use Rattle.dm_link.specs.Names.{pid_of}
-use Rattle.dm_link.specs.Plain.{PlainLink}
+use Rattle.dm_link.specs.Plain.{LinkTo}
 use Rattle.dm_message.specs.Ids.{id_of}
 use Rattle.dm_message.specs.Plain as what
-use Rattle.dm_message.specs.Plain.{PlainMessage, PlainWhat}
+use Rattle.dm_message.specs.Plain.{MessageOver, WhatOver}
 use Rattle.dm_message.specs.declared.Outcome.{Outcome}
 use Rattle.dm_message.specs.Outcomes.{code_of_outcome}
 use Rattle.dm_onekernel.specs.declared.request.PendingKind.{PendingKind}
@@ -18,121 +19,122 @@ use Rattle.dm_onekernel.specs.Kernel.{Manager, Pending}
 use Rattle.dm_onekernel.specs.Switchboard.{goes_over}
 
 -- the manager after a message, and what it sends
-pub record ManagerTook : Type 0 where
-  pub manager : Manager
-  pub message : Option PlainMessage
+pub record ManagerTook (A : Type 0) : Type 0 where
+  pub manager : Manager A
+  pub message : Option (MessageOver A)
 
--- one byte goes over the link of an answer
-abbrev pub answers_byte : Manager → PlainLink → ℕ → List PlainLink → ManagerTook
-answers_byte g l code links =
-    record { manager = record g { sent = g.sent + 1 }; message = Some (goes_over manager g.sent l (code ∷ []) links) }
+module _ {A : Type 0} where
+  -- one byte goes over the link of an answer
+  abbrev pub answers_byte : Ways A → Manager A → LinkTo A → ℕ → List (LinkTo A) → ManagerTook A
+  answers_byte w g l code links =
+      record { manager = record g { sent = g.sent + 1 }; message = Some (goes_over (w.self manager) manager g.sent l (code ∷ []) links) }
 
--- so it does where there is a link for the answer
-abbrev pub answers_over : Manager → Option PlainLink → ℕ → List PlainLink → ManagerTook
-answers_over g None code links = record { manager = g; message = None }
-answers_over g (Some l) code links = answers_byte g l code links
+  -- so it does where there is a link for the answer
+  abbrev pub answers_over : Ways A → Manager A → Option (LinkTo A) → ℕ → List (LinkTo A) → ManagerTook A
+  answers_over w g None code links = record { manager = g; message = None }
+  answers_over w g (Some l) code links = answers_byte w g l code links
 
--- the link for the answer to a request: the first that came with it
-abbrev pub first_link : List PlainLink → Option PlainLink
-first_link [] = None
-first_link (l ∷ ls) = Some l
+  -- the link for the answer to a request: the first that came with it
+  abbrev pub first_link : List (LinkTo A) → Option (LinkTo A)
+  first_link [] = None
+  first_link (l ∷ ls) = Some l
 
--- a message to a process or a kernel
-abbrev pub tells : Manager → Pid → PlainWhat → ManagerTook
-tells g to w =
-    record { manager = record g { sent = g.sent + 1 }; message = Some (record { id = id_of manager g.sent; to = to; sender = manager; what = w }) }
+  -- a message to a process or a kernel
+  abbrev pub tells : Ways A → Manager A → A → WhatOver A → ManagerTook A
+  tells w g to says =
+      record { manager = record g { sent = g.sent + 1 }; message = Some (record { id = id_of manager g.sent; to = to; sender = w.self manager; what = says }) }
 
--- a bad request is answered with 2 over its first link, if it has one
-abbrev pub bad_request : Manager → List PlainLink → ManagerTook
-bad_request g [] = record { manager = g; message = None }
-bad_request g (l ∷ ls) = answers_byte g l 2 []
+  -- a bad request is answered with 2 over its first link, if it has one
+  abbrev pub bad_request : Ways A → Manager A → List (LinkTo A) → ManagerTook A
+  bad_request w g [] = record { manager = g; message = None }
+  bad_request w g (l ∷ ls) = answers_byte w g l 2 []
 
--- a request of this kind is sent, and waits for the answer
-abbrev pub sends_request : Manager → PendingKind → Pid → PlainWhat → Option PlainLink → ManagerTook
-sends_request g kind to w answer =
-    let told = tells g to w in
-    record { manager = record told.manager { pending = g.pending ++ record { n = g.sent; kind = kind; answer = answer } ∷ [] }; message = told.message }
+  -- a request of this kind is sent, and waits for the answer
+  abbrev pub sends_request : Ways A → Manager A → PendingKind → A → WhatOver A → Option (LinkTo A) → ManagerTook A
+  sends_request w g kind to says answer =
+      let told = tells w g to says in
+      record { manager = record told.manager { pending = g.pending ++ record { n = g.sent; kind = kind; answer = answer } ∷ [] }; message = told.message }
 
--- a process is to be made: the request goes to the kernel of its machine
-abbrev pub asks_for : Manager → ℕ → ℕ → PlainLink → List PlainLink → ManagerTook
-asks_for g machine image answer links = sends_request g wanted.Create (pid_of machine 0) (what.Create image links) (Some answer)
+  -- a process is to be made: the request goes to the kernel of its machine
+  abbrev pub asks_for : Ways A → Manager A → ℕ → ℕ → LinkTo A → List (LinkTo A) → ManagerTook A
+  asks_for w g machine image answer links = sends_request w g wanted.Create (w.read (at_home (pid_of machine 0))) (what.Create image links) (Some answer)
 
--- over a link with code 0: the bytes 1, machine, image (two bytes), and links, the first for the answer, up to three more
--- for the child
-abbrev pub wants_child : Manager → ℕ → ℕ → ℕ → ℕ → List PlainLink → ManagerTook
-wants_child g machines images machine image [] = bad_request g []
-wants_child g machines images machine image (l ∷ ls) =
-    if nat_lt machine machines && nat_lt image images then asks_for g machine image l ls else bad_request g (l ∷ ls)
+  -- over a link with code 0: the bytes 1, machine, image (two bytes), and links, the first for the answer, up to three more
+  -- for the child
+  abbrev pub wants_child : Ways A → Manager A → ℕ → ℕ → ℕ → ℕ → List (LinkTo A) → ManagerTook A
+  wants_child w g machines images machine image [] = bad_request w g []
+  wants_child w g machines images machine image (l ∷ ls) =
+      if nat_lt machine machines && nat_lt image images then asks_for w g machine image l ls else bad_request w g (l ∷ ls)
 
-abbrev pub requests_child : Manager → ℕ → ℕ → List ℕ → List PlainLink → ManagerTook
-requests_child g machines images (operation ∷ machine ∷ high ∷ low ∷ []) links =
-    if operation == 1 then wants_child g machines images machine (256 * high + low) links else bad_request g links
-requests_child g machines images body links = bad_request g links
+  abbrev pub requests_child : Ways A → Manager A → ℕ → ℕ → List ℕ → List (LinkTo A) → ManagerTook A
+  requests_child w g machines images (operation ∷ machine ∷ high ∷ low ∷ []) links =
+      if operation == 1 then wants_child w g machines images machine (256 * high + low) links else bad_request w g links
+  requests_child w g machines images body links = bad_request w g links
 
--- what is done to a child: 2 stops it, 3 resumes it, 4 kills it
-abbrev pub control_of : ℕ → Option PlainWhat
-control_of operation =
-    if operation == 2 then Some what.Stop else if operation == 3 then Some what.Resume else if operation == 4 then Some what.Kill else None
+  -- what is done to a child: 2 stops it, 3 resumes it, 4 kills it
+  abbrev pub control_of : ℕ → Option (WhatOver A)
+  control_of operation =
+      if operation == 2 then Some what.Stop else if operation == 3 then Some what.Resume else if operation == 4 then Some what.Kill else None
 
-abbrev pub tells_child : Manager → Pid → Option PlainWhat → List PlainLink → ManagerTook
-tells_child g child None links = bad_request g links
-tells_child g child (Some w) links = tells g child w
+  abbrev pub tells_child : Ways A → Manager A → A → Option (WhatOver A) → List (LinkTo A) → ManagerTook A
+  tells_child w g child None links = bad_request w g links
+  tells_child w g child (Some says) links = tells w g child says
 
--- operation 5: the child is to move to a machine that there is; the answer goes over the first link, if there is one
-abbrev pub moves_child : Manager → ℕ → Pid → ℕ → List PlainLink → ManagerTook
-moves_child g machines child machine links =
-    if nat_lt machine machines then sends_request g wanted.Move child (what.Move machine) (first_link links) else bad_request g links
+  -- operation 5: the child is to move to a machine that there is; the answer goes over the first link, if there is one
+  abbrev pub moves_child : Ways A → Manager A → ℕ → A → ℕ → List (LinkTo A) → ManagerTook A
+  moves_child w g machines child machine links =
+      if nat_lt machine machines then sends_request w g wanted.Move child (what.Move machine) (first_link links) else bad_request w g links
 
--- over a link whose code is the number of a child: one byte, or operation 5 and a machine
-abbrev pub controls : Manager → ℕ → Option Pid → List ℕ → List PlainLink → ManagerTook
-controls g machines (Some child) (operation ∷ []) links = tells_child g child (control_of operation) links
-controls g machines (Some child) (operation ∷ machine ∷ []) links =
-    if operation == 5 then moves_child g machines child machine links else bad_request g links
-controls g machines child body links = bad_request g links
+  -- over a link whose code is the number of a child: one byte, or operation 5 and a machine
+  abbrev pub controls : Ways A → Manager A → ℕ → Option A → List ℕ → List (LinkTo A) → ManagerTook A
+  controls w g machines (Some child) (operation ∷ []) links = tells_child w g child (control_of operation) links
+  controls w g machines (Some child) (operation ∷ machine ∷ []) links =
+      if operation == 5 then moves_child w g machines child machine links else bad_request w g links
+  controls w g machines child body links = bad_request w g links
 
--- child number n, from 1
-abbrev pub child_numbered : List Pid → ℕ → Option Pid
-child_numbered children zero = None
-child_numbered children (suc n) = slice_get children n
+  -- child number n, from 1
+  abbrev pub child_numbered : List A → ℕ → Option A
+  child_numbered children zero = None
+  child_numbered children (suc n) = slice_get children n
 
--- a user message that came over a link with this code
-abbrev pub takes_user : Manager → ℕ → ℕ → ℕ → List ℕ → List PlainLink → ManagerTook
-takes_user g machines images code body links =
-    if code == 0 then requests_child g machines images body links else controls g machines (child_numbered g.children code) body links
+  -- a user message that came over a link with this code
+  abbrev pub takes_user : Ways A → Manager A → ℕ → ℕ → ℕ → List ℕ → List (LinkTo A) → ManagerTook A
+  takes_user w g machines images code body links =
+      if code == 0 then requests_child w g machines images body links else controls w g machines (child_numbered g.children code) body links
 
-abbrev pub pending_numbered : ℕ → List Pending → Option Pending
-pending_numbered n [] = None
-pending_numbered n (r ∷ rs) = if r.n == n then Some r else pending_numbered n rs
+  abbrev pub pending_numbered : ℕ → List (Pending A) → Option (Pending A)
+  pending_numbered n [] = None
+  pending_numbered n (r ∷ rs) = if r.n == n then Some r else pending_numbered n rs
 
-abbrev pub without_pending : ℕ → List Pending → List Pending
-without_pending n [] = []
-without_pending n (r ∷ rs) = if r.n == n then rs else r ∷ without_pending n rs
+  abbrev pub without_pending : ℕ → List (Pending A) → List (Pending A)
+  without_pending n [] = []
+  without_pending n (r ∷ rs) = if r.n == n then rs else r ∷ without_pending n rs
 
--- the link by which child number n is controlled
-abbrev pub control_link : ℕ → PlainLink
-control_link n =
-    record { to = manager; kind = kind.General; to_kernel = false; code = n; channel = 0; area = record { base = 0; len = 0; read = false; write = false } }
+  -- the link by which child number n is controlled
+  abbrev pub control_link : A → ℕ → LinkTo A
+  control_link me n =
+      record { to = me; kind = kind.General; to_kernel = false; code = n; channel = 0; area = record { base = 0; len = 0; read = false; write = false } }
 
--- the child stands: it gets the next number, and the answer brings its control link
-abbrev pub takes_created : Manager → ℕ → Pid → Option Pending → Option ManagerTook
-takes_created g n child None = None
-takes_created g n child (Some r) =
-    Some (answers_over (record g { children = g.children ++ child ∷ []; pending = without_pending n g.pending }) r.answer 0 (control_link (length g.children + 1) ∷ []))
+  -- the child stands: it gets the next number, and the answer brings its control link
+  abbrev pub takes_created : Ways A → Manager A → ℕ → Pid → Option (Pending A) → Option (ManagerTook A)
+  takes_created w g n child None = None
+  takes_created w g n child (Some r) =
+      Some (answers_over w (record g { children = g.children ++ w.read (at_home child) ∷ []; pending = without_pending n g.pending }) r.answer 0 (control_link (w.self manager) (length g.children + 1) ∷ []))
 
--- there was no room for it
-abbrev pub takes_no_room : Manager → ℕ → Option Pending → Option ManagerTook
-takes_no_room g n None = None
-takes_no_room g n (Some r) = Some (answers_over (record g { pending = without_pending n g.pending }) r.answer 1 [])
+  -- there was no room for it
+  abbrev pub takes_no_room : Ways A → Manager A → ℕ → Option (Pending A) → Option (ManagerTook A)
+  takes_no_room w g n None = None
+  takes_no_room w g n (Some r) = Some (answers_over w (record g { pending = without_pending n g.pending }) r.answer 1 [])
 
--- a move has ended so: who asked for it is told, if there is a link for the answer
-abbrev pub takes_moved : Manager → ℕ → Outcome → Option Pending → Option ManagerTook
-takes_moved g n outcome None = None
-takes_moved g n outcome (Some r) = Some (answers_over (record g { pending = without_pending n g.pending }) r.answer (code_of_outcome outcome) [])
+  -- a move has ended so: who asked for it is told, if there is a link for the answer
+  abbrev pub takes_moved : Ways A → Manager A → ℕ → Outcome → Option (Pending A) → Option (ManagerTook A)
+  takes_moved w g n outcome None = None
+  takes_moved w g n outcome (Some r) = Some (answers_over w (record g { pending = without_pending n g.pending }) r.answer (code_of_outcome outcome) [])
 
--- user messages, and the answers to pending requests
-abbrev pub manager_takes : Manager → ℕ → ℕ → PlainMessage → PlainWhat → Option ManagerTook
-manager_takes g machines images m (what.User code channel body links) = Some (takes_user g machines images code body links)
-manager_takes g machines images m (what.Created child) = takes_created g m.id.n child (pending_numbered m.id.n g.pending)
-manager_takes g machines images m what.NoRoom = takes_no_room g m.id.n (pending_numbered m.id.n g.pending)
-manager_takes g machines images m (what.Moved outcome) = takes_moved g m.id.n outcome (pending_numbered m.id.n g.pending)
-manager_takes g machines images m w = None
+  -- user messages, and the answers to pending requests
+  abbrev pub manager_takes : Ways A → Manager A → ℕ → ℕ → ℕ → WhatOver A → Option (ManagerTook A)
+  manager_takes w g machines images n (what.User code channel body links) = Some (takes_user w g machines images code body links)
+  manager_takes w g machines images n (what.Created child) = takes_created w g n child (pending_numbered n g.pending)
+  manager_takes w g machines images n what.NoRoom = takes_no_room w g n (pending_numbered n g.pending)
+  manager_takes w g machines images n (what.Moved outcome) = takes_moved w g n outcome (pending_numbered n g.pending)
+  manager_takes w g machines images n says = None

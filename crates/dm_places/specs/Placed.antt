@@ -1,33 +1,25 @@
--- The kernel without machines, with places: processes and messages as machines have them, wherever they are; and when
--- that mirrors a kernel, a view and addresses.
-use Rattle.std.specs.Prelude.{◌≡◌, ⊤, ℕ, List, [], length, slice_get, option_map}
+-- The kernel with places as machines have it: processes and messages of the program, those of machines' kernels too; and when that
+-- is the kernel with places of a point.
+use Rattle.std.specs.Prelude.{◌≡◌, ℕ, List, length, map, option_map}
 use Rattle.std.specs.declared.option.Option.{Option}
 use Rattle.std.specs.declared.option.Option.TheVariants.{None, Some}
 use Rattle.dm_link.specs.declared.Pid.{Pid}
 use Rattle.dm_link.specs.declared.Addr.{Addr}
-use Rattle.dm_link.specs.declared.Link.{Link}
-use Rattle.dm_link.specs.Names.{Place, place_of}
-use Rattle.dm_linktable.specs.Slots.{link_at}
+use Rattle.dm_link.specs.Plain.{read_link}
 use Rattle.dm_message.specs.declared.Asker.{Asker}
 use Rattle.dm_message.specs.declared.MsgId.{MsgId}
 use Rattle.dm_message.specs.declared.Message.{Message}
-use Rattle.dm_message.specs.declared.What.{What}
-use Rattle.dm_message.specs.declared.What.TheVariants as what
-use Rattle.dm_message.specs.Plain.{plain_message}
-use Rattle.dm_process.specs.declared.process.Process.{Process}
-use Rattle.dm_process.specs.declared.process.Status.{Status}
-use Rattle.dm_process.specs.declared.process.Status.TheVariants as status
+use Rattle.dm_message.specs.Plain.{MessageOver, read_message}
 use Rattle.dm_migrate.specs.Asking.{manager_request}
-use Rattle.dm_onekernel.specs.Kernel.{MoveNote, OneKernel}
+use Rattle.dm_process.specs.declared.process.Process.{Process}
+use Rattle.dm_onekernel.specs.Kernel.{MoveNote}
 use Rattle.dm_onekernel.specs.Options.{bind}
-use Rattle.dm_onekernel.specs.Plain.{plain_process}
-use Rattle.dm_onekernel.specs.Step as kernel
-use Rattle.dm_switchboard.specs.Board.{Board, Named, plain_board}
-use Rattle.dm_procman.specs.declared.pending.Pending.{Pending}
-use Rattle.dm_procman.specs.Managing.{Managing, plain_manager}
-use Rattle.dm_procman.specs.Taking.{child_address, pending_request}
+use Rattle.dm_onekernel.specs.Plain.{read_process}
+use Rattle.dm_onekernel.specs.Step.{alive}
+use Rattle.dm_switchboard.specs.Board.{Board, read_board}
+use Rattle.dm_procman.specs.Managing.{Managing, read_manager}
+use Rattle.dm_rule.specs.Places.{PlacedKernel}
 use Rattle.dm_rule.specs.View.{View}
-use Rattle.dm_rule.specs.Addresses.{Addresses, Slot, Owner, Receiver, Sender, Enclosed, Child, Name, Answer, AskedBy}
 
 pub record Placed : Type 0 where
   -- the processes that are alive; whichever messages wait for them
@@ -40,63 +32,24 @@ pub record Placed : Type 0 where
   pub board : Board
   pub manager : Managing
 
--- the other side of a data move
-abbrev pub owner_at : Status → Option Addr
-owner_at status.Ready = None
-owner_at (status.Waiting mask base size) = None
-owner_at (status.Moving dir owner base own left pending) = Some owner
+-- who waits to hear
+abbrev pub read_note : {A : Type 0} → (Addr → A) → Asker → MoveNote A
+read_note read k = record { id = manager_request k; asker = read k.addr }
 
--- the links that a message encloses; messages of other kinds have none
-abbrev pub enclosed : What → List Link
-enclosed (what.User code channel body links) = links.items
-enclosed (what.Create image links) = links.items
-enclosed w = []
+-- the addresses of the program are those of the kernel with places
+abbrev pub placed : Addr → Addr
+placed a = a
 
--- a process under its name: as often moved as the lines say, and each of its addresses leads where they say
-pub record MirrorsProcess (v : View) (a : Addresses) (p : Pid) (x : Process) : Type 0 where
-  pub pid : x.pid ≡ p
-  pub moves : x.moves ≡ v.moves p
-  pub slots : (k : ℕ) (w : Link) → link_at x.table k ≡ Some w → a (Slot p k) ≡ place_of w.addr
-  pub owner : (o : Addr) → owner_at x.status ≡ Some o → a (Owner p) ≡ place_of o
-
--- a message under its name
-pub record MirrorsMessage (a : Addresses) (i : MsgId) (m : Message) : Type 0 where
-  pub id : m.id ≡ i
-  pub receiver : a (Receiver i) ≡ place_of m.to
-  pub sender : a (Sender i) ≡ place_of m.sender
-  pub enclosed : (k : ℕ) (w : Link) → slice_get (enclosed m.what) k ≡ Some w → a (Enclosed i k) ≡ place_of w.addr
-
--- who waits to hear, without places
-abbrev pub plain_note : Asker → MoveNote
-plain_note k = record { id = manager_request k; asker = k.addr.pid }
-
--- the link for the answer to a request names this place, if there is one
-abbrev pub AnswerNames : Option Link → Place → Type 0
-AnswerNames None place = ⊤
-AnswerNames (Some l) place = place ≡ place_of l.addr
-
--- without places it is the kernel without machines
-pub record MirrorsKernel (s : OneKernel) (l : Placed) : Type 0 where
-  pub processes : (p : Pid) → kernel.alive (s.processes p) ≡ option_map plain_process (l.processes p)
-  -- a message that has a plain meaning is one of the kernel's; the others are those that machines' kernels send themselves
-  pub bag : (i : MsgId) → bind (l.bag i) plain_message ≡ s.bag i
-  pub notes : (p : Pid) → option_map plain_note (l.notes p) ≡ s.notes p
+-- a process under its name, as often moved as the lines say; a message that the kernel without machines has is one of its bag, and
+-- each is under its own name
+pub record Mirrors (s : PlacedKernel) (v : View) (l : Placed) : Type 0 where
+  pub processes : (p : Pid) → alive (s.processes p) ≡ option_map (read_process placed) (l.processes p)
+  pub named : (p : Pid) (x : Process) → l.processes p ≡ Some x → (x.pid ≡ p) × (x.moves ≡ v.moves p)
+  pub bag : (i : MsgId) → bind (l.bag i) (read_message placed) ≡ s.bag i
+  pub ids : (i : MsgId) (m : Message) → l.bag i ≡ Some m → m.id ≡ i
+  pub notes : (p : Pid) → option_map (read_note placed) (l.notes p) ≡ s.notes p
   pub noted : (i : MsgId) → l.noted i ≡ s.noted i
-  pub board : plain_board l.board ≡ s.switchboard
-  pub manager : plain_manager l.manager ≡ s.manager
+  pub board : read_board placed l.board ≡ s.switchboard
+  pub manager : read_manager placed l.manager ≡ s.manager
   pub machines : l.manager.machines ≡ s.machines
   pub images : l.manager.images ≡ length s.images
-
--- its places are the addresses
-pub record MirrorsPlaces (v : View) (a : Addresses) (l : Placed) : Type 0 where
-  pub process : (p : Pid) (x : Process) → l.processes p ≡ Some x → MirrorsProcess v a p x
-  pub message : (i : MsgId) (m : Message) → l.bag i ≡ Some m → MirrorsMessage a i m
-  pub name : (n : ℕ) (k : Named) → slice_get l.board.names n ≡ Some k → a (Name n) ≡ place_of k.link.addr
-  -- children count from 1
-  pub child : (n : ℕ) (c : Addr) → child_address l.manager.children n ≡ Some c → a (Child n) ≡ place_of c
-  pub answer : (n : ℕ) (r : Pending) → pending_request n l.manager.pending ≡ Some r → AnswerNames r.answer (a (Answer n))
-  pub asker : (p : Pid) (k : Asker) → l.notes p ≡ Some k → a (AskedBy p) ≡ place_of k.addr
-
-pub record Mirrors (s : OneKernel) (v : View) (a : Addresses) (l : Placed) : Type 0 where
-  pub plain : MirrorsKernel s l
-  pub places : MirrorsPlaces v a l

@@ -6,7 +6,8 @@ use Rattle.dm_link.specs.declared.Pid.{Pid}
 use Rattle.dm_link.specs.declared.Addr.{Addr}
 use Rattle.dm_link.specs.declared.Link.{Link}
 use Rattle.dm_link.specs.Places.{is_behind, retargeted, retargeted_link}
-use Rattle.dm_link.specs.Plain.{plain_link}
+use Rattle.dm_link.specs.Plain.{read_link}
+use Rattle.dm_link.specs.Ways.{at_home}
 use Rattle.dm_onekernel.specs.declared.boot.Boot.{Boot}
 use Rattle.dm_onekernel.specs.declared.boot.BootProcess.{BootProcess}
 use Rattle.dm_onekernel.specs.Kernel.{Manager}
@@ -23,18 +24,11 @@ pub record Managing : Type 0 where
   pub images : ℕ
 
 -- the manager without places
-abbrev pub plain_pending : Pending → one.Pending
-plain_pending r = record { n = r.n; kind = r.kind; answer = option_map plain_link r.answer }
+abbrev pub read_pending : {A : Type 0} → (Addr → A) → Pending → one.Pending A
+read_pending read r = record { n = r.n; kind = r.kind; answer = option_map (read_link read) r.answer }
 
-abbrev pub plain_child : Addr → Pid
-plain_child a = a.pid
-
-abbrev pub plain_manager : Managing → Manager
-plain_manager g = record { children = map plain_child g.children; pending = map plain_pending g.pending; sent = g.sent }
-
--- where a process starts: on its home machine
-abbrev pub at_home : Pid → Addr
-at_home p = record { pid = p; at = p.home; moves = 0 }
+abbrev pub read_manager : {A : Type 0} → (Addr → A) → Managing → Manager A
+read_manager read g = record { children = map read g.children; pending = map (read_pending read) g.pending; sent = g.sent }
 
 abbrev pub child_at_home : BootProcess → Addr
 child_at_home p = at_home p.pid

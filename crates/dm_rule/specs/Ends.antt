@@ -20,14 +20,16 @@ use Rattle.dm_line.specs.declared.end_line.Doing.TheVariants as doing
 use Rattle.dm_line.specs.Todo.{or}
 use Rattle.dm_line.specs.Ends.{memory_lines, home_with, each_machine, list_line}
 use Rattle.dm_rule.specs.View.{View, Known, Here, Frozen, Incoming}
-use Rattle.dm_rule.specs.Addresses.{Addresses, Slot, Child, Name}
+use Rattle.dm_link.specs.declared.Addr.{Addr}
+use Rattle.dm_link.specs.Plain.{LinkTo}
+use Rattle.dm_onekernel.specs.PlainProcess.{ProcessOver, StatusOver}
 use Rattle.dm_rule.specs.Point.{Point}
 use Rattle.dm_rule.specs.Spots.{untaken}
 
 -- a link that leads to a place
-abbrev pub leading : PlainLink → Place → Link
-leading l p =
-    record { addr = record { pid = l.to; at = p.at; moves = p.moves }; kind = l.kind; to_kernel = l.to_kernel; code = l.code; channel = l.channel; area = l.area }
+abbrev pub code_link : LinkTo Addr → Link
+code_link l =
+    record { addr = l.to; kind = l.kind; to_kernel = l.to_kernel; code = l.code; channel = l.channel; area = l.area }
 
 -- where a process stands
 pub record Stood : Type 0 where
@@ -58,31 +60,31 @@ abbrev pub stood : View → Pid → ℕ → Option Stood
 stood v p n = or (first_with standing_of v p n) (first_with awaits v p n)
 
 -- what the lines say of a status: not which request is under way
-abbrev pub doing_of : PlainStatus → Doing
+abbrev pub doing_of : StatusOver Addr → Doing
 doing_of Ready = doing.Ready
 doing_of (Waiting mask base cap_) = doing.Waiting mask base cap_
 doing_of (Moving dir owner base own left pending) = doing.Moving dir owner base own left
 
 -- the links of the slots from k on
-abbrev pub slot_line : Addresses → Pid → ℕ → Option PlainLink → List EndLine
-slot_line a p k None = []
-slot_line a p k (Some l) = end.Link p k (leading l (a (Slot p k))) ∷ []
+abbrev pub slot_line : Pid → ℕ → Option (LinkTo Addr) → List EndLine
+slot_line p k None = []
+slot_line p k (Some l) = end.Link p k (code_link l) ∷ []
 
-abbrev pub link_lines : Addresses → Pid → ℕ → List (Option PlainLink) → List EndLine
-link_lines a p k [] = []
-link_lines a p k (l ∷ ls) = slot_line a p k l ++ link_lines a p (k + 1) ls
+abbrev pub link_lines : Pid → ℕ → List (Option (LinkTo Addr)) → List EndLine
+link_lines p k [] = []
+link_lines p k (l ∷ ls) = slot_line p k l ++ link_lines p (k + 1) ls
 
-abbrev pub state_lines : Addresses → Pid → PlainProcess → List EndLine
-state_lines a p x =
-    end.Registers p x.regs.r x.regs.pc ∷ memory_lines p x.memory (length x.memory / 256) ++ link_lines a p 0 x.links
+abbrev pub state_lines : Pid → ProcessOver Addr → List EndLine
+state_lines p x =
+    end.Registers p x.regs.r x.regs.pc ∷ memory_lines p x.memory (length x.memory / 256) ++ link_lines p 0 x.links
 
-abbrev pub alive_lines : Addresses → Pid → PlainProcess → Option Stood → List EndLine
-alive_lines a p x None = []
-alive_lines a p x (Some s) = end.Process p s.at s.standing (doing_of x.status) x.stopped x.sent ∷ state_lines a p x
+abbrev pub alive_lines : Pid → ProcessOver Addr → Option Stood → List EndLine
+alive_lines p x None = []
+alive_lines p x (Some s) = end.Process p s.at s.standing (doing_of x.status) x.stopped x.sent ∷ state_lines p x
 
-abbrev pub process_lines : Point → Pid → Option Life → List EndLine
+abbrev pub process_lines : Point → Pid → Option (Life Addr) → List EndLine
 process_lines pt p None = []
-process_lines pt p (Some (Alive x)) = alive_lines pt.addresses p x (stood pt.view p pt.kernel.machines)
+process_lines pt p (Some (Alive x)) = alive_lines p x (stood pt.view p pt.kernel.machines)
 process_lines pt p (Some (kernel.Ended because)) = end.Ended p because ∷ []
 
 -- all of the first homes
@@ -95,16 +97,16 @@ abbrev pub each_process : Point → (Pid → List EndLine) → List EndLine
 each_process pt f = homes_with pt f pt.kernel.machines
 
 -- the switchboard's names from place n on, in order
-abbrev pub name_lines : Addresses → ℕ → List NamedLink → List EndLine
-name_lines a n [] = []
-name_lines a n (k ∷ ks) = end.Name (record { items = k.name }) (leading k.link (a (Name n))) ∷ name_lines a (n + 1) ks
+abbrev pub name_lines : List (NamedLink Addr) → List EndLine
+name_lines [] = []
+name_lines (k ∷ ks) = end.Name (record { items = k.name }) (code_link k.link) ∷ name_lines ks
 
 -- the manager's children from number n on
-abbrev pub child_lines : Addresses → ℕ → List Pid → List EndLine
-child_lines a n [] = []
-child_lines a n (p ∷ ps) = end.Child n p (a (Child n)).at ∷ child_lines a (n + 1) ps
+abbrev pub child_lines : ℕ → List Addr → List EndLine
+child_lines n [] = []
+child_lines n (c ∷ cs) = end.Child n c.pid c.at ∷ child_lines (n + 1) cs
 
-abbrev pub pending_lines : List Pending → List EndLine
+abbrev pub pending_lines : List (Pending Pid) → List EndLine
 pending_lines [] = []
 pending_lines (r ∷ rs) = end.Pending (id_of manager r.n) ∷ pending_lines rs
 
@@ -130,15 +132,15 @@ abbrev pub server_lines : Point → List EndLine
 server_lines pt =
     end.Server switchboard pt.kernel.switchboard.sent
     ∷ end.Server manager pt.kernel.manager.sent
-    ∷ name_lines pt.addresses 0 pt.kernel.switchboard.names
-    ++ child_lines pt.addresses 1 pt.kernel.manager.children
+    ∷ name_lines pt.placed.switchboard.names
+    ++ child_lines 1 pt.placed.manager.children
     ++ pending_lines pt.kernel.manager.pending
 
 -- all that a run leaves behind, in the order in which it is printed
 abbrev pub end_lines : Point → List EndLine
 end_lines pt =
     end.Final
-    ∷ each_process pt (λ p. process_lines pt p (pt.kernel.processes p))
+    ∷ each_process pt (λ p. process_lines pt p (pt.placed.processes p))
     ++ server_lines pt
     ++ queue_lines pt
     ++ holding_lines pt

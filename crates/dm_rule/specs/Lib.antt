@@ -1,8 +1,6 @@
 pub mod Acts
 pub mod View
-pub mod Holders
-pub mod Given
-pub mod Addresses
+pub mod Places
 pub mod Point
 pub mod Spots
 pub mod Parts

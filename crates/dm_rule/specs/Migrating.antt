@@ -1,5 +1,7 @@
 -- What migration adds to the rule: messages that are held or go on, a process that leaves and one that comes, and updates.
 use Rattle.std.specs.Prelude.{ℕ, ◌+◌, ◌/◌, Bool, ◌==◌, if◌then◌else◌, List, [], ◌∷◌, ◌++◌, length, map}
+use Rattle.std.specs.List.{find}
+use Rattle.dm_link.specs.declared.Addr.{Addr}
 use Rattle.std.specs.declared.option.Option.{Option}
 use Rattle.std.specs.declared.option.Option.TheVariants.{None, Some}
 use Rattle.dm_link.specs.declared.Pid.{Pid}
@@ -21,7 +23,8 @@ use Rattle.dm_onekernel.specs.Step as kernel
 use Rattle.dm_line.specs.declared.line.Line.TheVariants as line
 use Rattle.dm_line.specs.declared.line.Stage.TheVariants as stage
 use Rattle.dm_rule.specs.View.{Told, Known, Unknown, Here, Frozen, Incoming, Forward, Ended, target_of}
-use Rattle.dm_rule.specs.Addresses.{Addresses, Holder, Slot, Sender, Child, Name, Answer, is_behind, is_told_back, child_number, place_told}
+use Rattle.dm_message.specs.Told.{is_told_back}
+use Rattle.dm_rule.specs.Places.{PlacedKernel, behind_count, sender_in}
 use Rattle.dm_rule.specs.Point.{Point}
 use Rattle.dm_rule.specs.Parts.{Part, Says, Routes, Again, Owns}
 
@@ -54,9 +57,9 @@ abbrev pub to_kernel : MessageKind → ℕ → Part
 to_kernel k m = Owns k (pid_of m 0) m
 
 -- a message goes on, and its sender is told
-abbrev pub forwards_on : Addresses → MsgId → MessageKind → Pid → ℕ → List Part
-forwards_on a id k sender to =
-    Says (line.Forwarded id to) ∷ Again id to ∷ (if is_told_back k then Owns kind.Update sender (a (Sender id)).at ∷ [] else [])
+abbrev pub forwards_on : PlacedKernel → MsgId → MessageKind → ℕ → List Part
+forwards_on l id k to =
+    Says (line.Forwarded id to) ∷ Again id to ∷ (if is_told_back k then Owns kind.Update (sender_in (l.bag id)).pid (sender_in (l.bag id)).at ∷ [] else [])
 
 -- a process is frozen, and the other machine is asked
 abbrev pub leaves_for : Pid → ℕ → List Part
@@ -125,39 +128,9 @@ told_step pt m id p fits x s = None
 abbrev pub kernel_told : Point → ℕ → MsgId → Pid → (Bool × ℕ × ℕ) → PlainProcess → MessageKind → Option (List Part)
 kernel_told pt m id p fits x k = told_step pt m id p fits x (sort_of k)
 
--- the holders that an update of a process or a server counts
-abbrev pub slots_from : Pid → ℕ → List (Option PlainLink) → List Holder
-slots_from q k [] = []
-slots_from q k (l ∷ ls) = Slot q k ∷ slots_from q (k + 1) ls
-
-abbrev pub slot_holders : Pid → Option PlainProcess → List Holder
-slot_holders q None = []
-slot_holders q (Some x) = slots_from q 0 x.links
-
-abbrev pub holders_numbered : {X : Type 0} → (ℕ → Holder) → ℕ → List X → List Holder
-holders_numbered f n [] = []
-holders_numbered f n (x ∷ xs) = f n ∷ holders_numbered f (n + 1) xs
-
-abbrev pub answers_in : List Pending → List Holder
-answers_in rs = map (λ r. Answer r.n) rs
-
-abbrev pub holders_of : OneKernel → Pid → List Holder
-holders_of s q =
-    if pid_eq q switchboard then holders_numbered Name 0 s.switchboard.names
-    else if pid_eq q manager then holders_numbered Child 1 s.manager.children ++ answers_in s.manager.pending
-    else slot_holders q (kernel.alive (s.processes q))
-
--- how many of these an update changes
-abbrev pub behind_among : (Holder → Bool) → List Holder → ℕ
-behind_among f [] = 0
-behind_among f (h ∷ hs) = (if f h then 1 else 0) + behind_among f hs
-
-abbrev pub behind_count : OneKernel → Addresses → Pid → Option (Pid × Place) → ℕ
-behind_count s a q None = 0
-behind_count s a q (Some t) = behind_among (is_behind s a q t.0 t.1.moves) (holders_of s q)
-
+-- a process or a server is told where a process is
 abbrev pub updates : Point → MsgId → Told → List Part
-updates pt id t = Says (line.Updated id (behind_count pt.kernel pt.addresses t.receiver (place_told t.about))) ∷ []
+updates pt id t = Says (line.Updated id (behind_count pt.placed t.receiver t.about)) ∷ []
 
 -- a kernel's own message, at a process that is here: a request to move or a notice
 abbrev pub told_here : Point → ℕ → MsgId → Told → Sort → Option (List Part)
@@ -184,7 +157,7 @@ process_told pt m id t Unknown = None
 process_told pt m id t Here = here_told pt m id t t.kind
 process_told pt m id t (Frozen to) = Some (Says (line.Held id) ∷ [])
 process_told pt m id t (Incoming from) = Some (Says (line.Held id) ∷ [])
-process_told pt m id t (Forward at moves) = Some (forwards_on pt.addresses id t.kind manager at)
+process_told pt m id t (Forward at moves) = Some (forwards_on pt.placed id t.kind at)
 process_told pt m id t Ended = ended_told id t.kind
 
 -- at a server, which never moves
@@ -196,12 +169,12 @@ abbrev pub server_told : Point → MsgId → Told → MessageKind → Option (Li
 server_told pt id t k = told_server pt id t (sort_of k)
 
 -- the manager is told to move a process: not a server, one of its children, along its link to it
-abbrev pub migrates_child : Addresses → Pid → Option ℕ → List Part
-migrates_child a p None = Says (line.NoChild p) ∷ []
-migrates_child a p (Some n) = Owns kind.Migrate p (a (Child n)).at ∷ []
+abbrev pub migrates_child : Pid → Option Addr → List Part
+migrates_child p None = Says (line.NoChild p) ∷ []
+migrates_child p (Some child) = Owns kind.Migrate p child.at ∷ []
 
 abbrev pub migrates : Point → Pid → List Part
 migrates pt p =
     if pid_eq p switchboard then Says (line.Pinned p) ∷ []
     else if pid_eq p manager then Says (line.Pinned p) ∷ []
-    else migrates_child pt.addresses p (child_number pt.kernel p)
+    else migrates_child p (find (λ a. pid_eq a.pid p) pt.placed.manager.children)

@@ -12,7 +12,6 @@ use Rattle.dm_line.specs.declared.line.Line.TheVariants as line
 use Rattle.dm_line.specs.declared.line.Load.{Load}
 use Rattle.dm_line.specs.declared.line.Load.TheVariants as load
 use Rattle.dm_rule.specs.View.{View, Pair, own_id}
-use Rattle.dm_rule.specs.Addresses.{Receiver}
 use Rattle.dm_rule.specs.Point.{Point, after}
 
 -- a line that says what happens; a message of the bag that is routed, a message that goes on to another machine, or the next
@@ -45,7 +44,7 @@ puts v b id k q =
 -- the lines of a part; there are none where a message isn't in the bag, or one that goes on was never put
 abbrev pub lines_of : Point → Part → Option (List Line)
 lines_of pt (Says l) = Some (l ∷ [])
-lines_of pt (Routes id) = bind (pt.kernel.bag id) (λ m. Some (puts pt.view (pt.addresses (Receiver id)).at id (plain_kind m.what) m.to))
+lines_of pt (Routes id) = bind (pt.placed.bag id) (λ m. Some (puts pt.view m.to.at id (plain_kind m.what) m.to.pid))
 lines_of pt (Again id b) = bind (pt.view.told id) (λ t. Some (puts pt.view b id t.kind t.receiver))
 lines_of pt (Owns k q b) = Some (puts pt.view b (own_id pt.view) k q)
 lines_of pt (Transmits a b l) = Some (packet_line pt.view a b l ∷ [])

@@ -15,18 +15,21 @@ use Rattle.dm_line.specs.declared.line.Line.{Line}
 use Rattle.dm_rule.specs.Acts.{Act, act_of}
 use Rattle.dm_rule.specs.Acts as act
 use Rattle.dm_rule.specs.View.{About, NothingElse, Target, View, about, view_after, first_view}
-use Rattle.dm_rule.specs.Addresses.{Addresses, addresses_after, first_addresses}
+use Rattle.dm_link.specs.Ways.{at_home, names, places}
+use Rattle.dm_onekernel.specs.Boot.{manager}
+use Rattle.dm_rule.specs.Places.{PlacedKernel, OwnAddresses, own_after, placed_after}
 
 -- the machine that a message says its receiver is to move to
 abbrev pub move_target : PlainWhat → About
 move_target (what.Move machine) = Target machine
 move_target w = NothingElse
 
--- the kernel without machines, the view and the addresses
+-- the kernel without machines, the view, and the kernel with places
 pub record Point : Type 0 where
   pub kernel : OneKernel
   pub view : View
-  pub addresses : Addresses
+  pub placed : PlacedKernel
+  pub own : OwnAddresses
 
 -- the step of the kernel that a line is, if it is one
 abbrev pub step_in : Act → Option Label
@@ -49,7 +52,7 @@ labels (l ∷ ls) = with_label (label_of l) (labels ls)
 -- the kernel after a line: a label is a step, and the other lines change nothing
 abbrev pub kernel_after : OneKernel → Option Label → Option OneKernel
 kernel_after s None = Some s
-kernel_after s (Some l) = kernel.step s l
+kernel_after s (Some l) = kernel.step names s l
 
 -- where a process goes that is asked to move, no line says: the kernel's message does
 abbrev pub machine_in : Option PlainMessage → About
@@ -66,7 +69,7 @@ seen s v l = about (view_after v l) (topic_by s (view_after v l).topic (label_of
 
 -- the point behind a line, where the kernel behind it is known
 abbrev pub moved : Point → Line → OneKernel → Point
-moved pt l s = record { kernel = s; view = seen pt.kernel pt.view l; addresses = addresses_after pt.kernel pt.view pt.addresses l }
+moved pt l s = record { kernel = s; view = seen pt.kernel pt.view l; placed = placed_after pt.view pt.placed l; own = own_after pt.view pt.placed pt.own l }
 
 -- where a run stands after one more line, if the kernel can take its label
 abbrev pub after_line : Point → Line → Option Point
@@ -79,4 +82,4 @@ after pt (l ∷ ls) = bind (after_line pt l) (λ next. after next ls)
 
 -- before the first line
 abbrev pub first_point : Boot → Point
-first_point b = record { kernel = start b; view = first_view b; addresses = first_addresses b }
+first_point b = record { kernel = start names b; view = first_view b; placed = start (places 0 (λ p. 0)) b; own = λ i. record { to = at_home manager; sender = at_home manager } }

@@ -17,6 +17,7 @@ use Rattle.dm_onekernel.specs.declared.boot.Boot.{Boot}
 use Rattle.dm_onekernel.specs.declared.label.Label.{Label}
 use Rattle.dm_onekernel.specs.declared.label.Label.TheVariants as label
 use Rattle.dm_onekernel.specs.declared.label.Why.TheVariants as why
+use Rattle.dm_link.specs.Ways.{names}
 use Rattle.dm_onekernel.specs.Boot.{first_number, switchboard, manager}
 use Rattle.dm_onekernel.specs.Options.{bind}
 use Rattle.dm_onekernel.specs.PlainProcess.{PlainProcess, PlainStatus, Ready, Waiting, Moving}
@@ -35,7 +36,6 @@ use Rattle.dm_line.specs.declared.line.Line.{Line}
 use Rattle.dm_line.specs.declared.line.Line.TheVariants as line
 use Rattle.dm_line.specs.declared.line.Load.{Load}
 use Rattle.dm_line.specs.declared.line.Load.TheVariants as load
-use Rattle.dm_rule.specs.Given as given
 use Rattle.dm_rule.specs.View.{View, Pair, SentLoad, Told, About, Of, Known, Unknown, Here, Frozen, Incoming, Forward, Ended}
 use Rattle.dm_rule.specs.Point.{Point, after_line}
 use Rattle.dm_rule.specs.Parts.{Part, Says, Routes, Transmits, Spelled, spelled, pair_window}
@@ -45,12 +45,9 @@ abbrev pub says : Label → Part
 says l = Says (line.Label l)
 
 -- a user message on a channel of the mask
-abbrev pub burden_is_awaited : ℕ → given.Burden → Bool
-burden_is_awaited mask (given.Letter code channel body links) = on_mask mask channel
-burden_is_awaited mask w = false
-
 abbrev pub what_is_awaited : ℕ → PlainWhat → Bool
-what_is_awaited mask w = burden_is_awaited mask (given.burden_of w)
+what_is_awaited mask (what.User code channel body links) = on_mask mask channel
+what_is_awaited mask w = false
 
 abbrev pub is_awaited : ℕ → Option PlainMessage → Bool
 is_awaited mask None = false
@@ -97,14 +94,14 @@ abbrev pub drop_parts : List MsgId → List Part
 drop_parts ids = map (λ i. says (label.Dropped i)) ids
 
 -- what a call or a fault says, a row an outcome
-abbrev pub called : Pid → ℕ → List MsgId → calls.Called → List Part
+abbrev pub called : Pid → ℕ → List MsgId → calls.Called Pid → List Part
 called p n queue (calls.Replies reply x) = says (label.Call p n reply) ∷ []
 called p n queue (calls.Sends m x) = says (label.Send p m.id) ∷ Routes m.id ∷ []
 called p n queue (calls.Waits x) = says (label.Wait p) ∷ []
 called p n queue (calls.Outputs word x) = says (label.Out p word) ∷ []
 called p n queue (calls.Ends because) = says (label.End p because) ∷ drop_parts queue
 
-abbrev pub stops : Pid → List MsgId → Option kernel.Trap → List Part
+abbrev pub stops : Pid → List MsgId → Option (kernel.Trap Pid) → List Part
 stops p queue None = []
 stops p queue (Some (kernel.Calls n c)) = called p n queue c
 stops p queue (Some (kernel.Faults fault)) = says (label.End p (why.Fault fault)) ∷ drop_parts queue
@@ -112,16 +109,16 @@ stops p queue (Some (kernel.Faults fault)) = says (label.End p (why.Fault fault)
 -- a ready process runs as far as the quantum allows; where it stops before, the call or fault follows
 abbrev pub executes : ℕ → Pid → List MsgId → PlainProcess → Ran → List Part
 executes quantum p queue x r =
-    says (label.Ran p r.count) ∷ (if r.count == quantum then [] else stops p queue (kernel.next_row p (with_machine x r.machine) (instruction r.machine.regs r.machine.bytes)))
+    says (label.Ran p r.count) ∷ (if r.count == quantum then [] else stops p queue (kernel.next_row p p (with_machine x r.machine) (instruction r.machine.regs r.machine.bytes)))
 
 -- a waiting process takes the first queued message on its mask, or is refused it
-abbrev pub completion_parts : Pid → MsgId → receiving.Completed → List Part
+abbrev pub completion_parts : Pid → MsgId → receiving.Completed Pid → List Part
 completion_parts p id (receiving.Receives x) = says (label.Receive p id) ∷ []
 completion_parts p id (receiving.Refuses reply x) = says (label.Refuse p id reply) ∷ []
 
 abbrev pub reception_parts : OneKernel → Pid → PlainProcess → Option MsgId → Option (List Part)
 reception_parts s p x None = None
-reception_parts s p x (Some id) = bind (s.bag id) (λ m. bind (receiving.completes_with p x m) (λ c. Some (completion_parts p id c)))
+reception_parts s p x (Some id) = bind (s.bag id) (λ m. bind (receiving.completes_with x m) (λ c. Some (completion_parts p id c)))
 
 abbrev pub serves_status : ℕ → OneKernel → Pid → List MsgId → PlainProcess → PlainStatus → Option (List Part)
 serves_status quantum s p queue x Ready = Some (executes quantum p queue x (ran quantum (machine_of x)))
@@ -197,16 +194,16 @@ abbrev pub routes : Option PlainMessage → List Part
 routes None = []
 routes (Some m) = Routes m.id ∷ []
 
-abbrev pub board_took : MsgId → Option board.BoardTook → Option (List Part)
+abbrev pub board_took : MsgId → Option (board.BoardTook Pid) → Option (List Part)
 board_took id None = None
 board_took id (Some t) = Some (says (label.Took id) ∷ routes t.answer)
 
-abbrev pub manager_parts : MsgId → Option manage.ManagerTook → Option (List Part)
+abbrev pub manager_parts : MsgId → Option (manage.ManagerTook Pid) → Option (List Part)
 manager_parts id None = None
 manager_parts id (Some t) = Some (says (label.Took id) ∷ routes t.message)
 
 -- an answer comes to a data move: its next request goes out, or it is done
-abbrev pub landing_parts : MsgId → Option pieces.Landed → Option (List Part)
+abbrev pub landing_parts : MsgId → Option (pieces.Landed Pid) → Option (List Part)
 landing_parts id None = None
 landing_parts id (Some (pieces.Next request x)) = Some (says (label.Served id) ∷ Routes request.id ∷ [])
 landing_parts id (Some (pieces.Done reply x)) = Some (says (label.Served id) ∷ [])
@@ -219,9 +216,9 @@ here_handles pt m id msg x what.Resume = Some (says (label.Served id) ∷ [])
 here_handles pt m id msg x what.Kill = Some (says (label.Served id) ∷ drop_parts (pt.view.queue m msg.to))
 here_handles pt m id msg x (what.Read base len) = Some (says (label.Served id) ∷ Routes (answer_id id) ∷ [])
 here_handles pt m id msg x (what.Write base bytes) = Some (says (label.Served id) ∷ Routes (answer_id id) ∷ [])
-here_handles pt m id msg x (what.Block bytes) = landing_parts id (pieces.lands msg.to x msg x.status)
-here_handles pt m id msg x what.Written = landing_parts id (pieces.lands msg.to x msg x.status)
-here_handles pt m id msg x what.Gone = landing_parts id (pieces.lands msg.to x msg x.status)
+here_handles pt m id msg x (what.Block bytes) = landing_parts id (pieces.lands msg.to msg.to x msg x.status)
+here_handles pt m id msg x what.Written = landing_parts id (pieces.lands msg.to msg.to x msg x.status)
+here_handles pt m id msg x what.Gone = landing_parts id (pieces.lands msg.to msg.to x msg x.status)
 here_handles pt m id msg x (what.Create image links) = None
 here_handles pt m id msg x (what.Created pid) = None
 here_handles pt m id msg x what.NoRoom = None
@@ -251,15 +248,15 @@ process_handles pt m id msg Unknown = None
 process_handles pt m id msg Here = bind (kernel.alive (pt.kernel.processes msg.to)) (λ x. here_handles pt m id msg x msg.what)
 process_handles pt m id msg (Frozen to) = Some (Says (line.Held id) ∷ [])
 process_handles pt m id msg (Incoming from) = Some (Says (line.Held id) ∷ [])
-process_handles pt m id msg (Forward at moves) = Some (forwards_on pt.addresses id (plain_kind msg.what) msg.sender at)
+process_handles pt m id msg (Forward at moves) = Some (forwards_on pt.placed id (plain_kind msg.what) at)
 process_handles pt m id msg Ended = ended_handles id msg.what
 
 -- the receiver is a kernel, a server or a process
 abbrev pub handles : Boot → Point → ℕ → MsgId → PlainMessage → Option (List Part)
 handles b pt m id msg =
     if msg.to.num == 0 then kernel_handles b pt m id msg.what
-    else if pid_eq msg.to switchboard then board_took id (board.board_takes pt.kernel.switchboard msg msg.what)
-    else if pid_eq msg.to manager then manager_parts id (manage.manager_takes pt.kernel.manager pt.kernel.machines (length pt.kernel.images) msg msg.what)
+    else if pid_eq msg.to switchboard then board_took id (board.board_takes switchboard pt.kernel.switchboard msg.what)
+    else if pid_eq msg.to manager then manager_parts id (manage.manager_takes names pt.kernel.manager pt.kernel.machines (length pt.kernel.images) msg.id.n msg.what)
     else process_handles pt m id msg (pt.view.known m msg.to)
 
 -- whether so many blocks and a slot are free, and what is

@@ -3,7 +3,8 @@ use Rattle.std.specs.Prelude.{ℕ, Bool, List, map}
 use Rattle.dm_link.specs.declared.Pid.{Pid}
 use Rattle.dm_link.specs.declared.Link.{Link}
 use Rattle.dm_link.specs.Places.{is_behind, retargeted_link}
-use Rattle.dm_link.specs.Plain.{plain_link}
+use Rattle.dm_link.specs.declared.Addr.{Addr}
+use Rattle.dm_link.specs.Plain.{read_link}
 use Rattle.dm_onekernel.specs.Kernel.{NamedLink, Switchboard}
 use Rattle.arrayvec.specs.ArrayVec.{ArrayVec}
 
@@ -25,11 +26,11 @@ abbrev pub listed : List (ArrayVec ℕ × Link) → List Named
 listed entries = map named entries
 
 -- the board without places
-abbrev pub plain_named : Named → NamedLink
-plain_named k = record { name = k.name; link = plain_link k.link }
+abbrev pub read_named : {A : Type 0} → (Addr → A) → Named → NamedLink A
+read_named read k = record { name = k.name; link = read_link read k.link }
 
-abbrev pub plain_board : Board → Switchboard
-plain_board b = record { names = map plain_named b.names; sent = b.sent }
+abbrev pub read_board : {A : Type 0} → (Addr → A) → Board → Switchboard A
+read_board read b = record { names = map (read_named read) b.names; sent = b.sent }
 
 -- a name's link where it is told that a process is at another place, after so many moves
 abbrev pub retargeted_named : Pid → ℕ → ℕ → Named → Named
