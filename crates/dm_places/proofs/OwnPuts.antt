@@ -12,10 +12,7 @@ abbrev OwnGives : OneKernel → View → Addresses → MsgId → Pid → Sort �
 OwnGives s v a id q w = (own_given s v a id q w ≡ []) ⊎ ((to : Place) × (from : Place) × (own_given s v a id q w ≡ two id to from))
 
 own_are_by : (s : OneKernel) (v : View) (a : Addresses) (id : MsgId) (q : Pid) (w : Sort) → OwnGives s v a id q w
-own_are_by s v a id q Sort.Request = inr (option_map_or (λ c. a (Child c)) (child_number s q) (unmoved 0), unmoved v.acting, refl)
-own_are_by s v a id q (Sort.Between passage) = inr (unmoved q.home, unmoved v.acting, refl)
-own_are_by s v a id q Sort.Unsent = inr (unmoved q.home, unmoved v.acting, refl)
-own_are_by s v a id q _ = inl refl
+own_are_by s v a id q w = search arith
 
 -- no other holder gets any
 record OnlyFor (a b : Addresses) (id : MsgId) : Type 0 where
@@ -27,10 +24,7 @@ only_two : (a : Addresses) (id : MsgId) (to from : Place) → OnlyFor a (given a
 only_two a id to from = record { processes = two_process a id to from; others = two_off a id to from; servers = two_servers a id to from }
 
 only_own : (s : OneKernel) (v : View) (a : Addresses) (id : MsgId) (q : Pid) (k : MessageKind) → OnlyFor a (given a (own_given s v a id q (sort_of k))) id
-only_own s v a id q k = elim (own_are_by s v a id q (sort_of k)) [
-  | inl e ↦ subst (λ (g : List Gets). OnlyFor a (given a g) id) (sym e) (record { processes = stays_process a; others = λ i e. stays_message a i; servers = stays_servers a })
-  | inr e ↦ subst (λ (g : List Gets). OnlyFor a (given a g) id) (sym e.2) (only_two a id e.0 e.1)
-]
+only_own s v a id q k = search (arith, own_are_by, stays_process, stays_message, stays_servers, only_two)
 
 -- a message without links that has its places by then
 pub own_put_mirrors : (pt : Point) (l : Placed) (from to : ℕ) (k : MessageKind) (q : Pid) (y : Message) → MirrorsPoint pt l → plain_message y ≡ None → enclosed y.what ≡ [] → pt.kernel.bag y.id ≡ None → pt.view.told y.id ≡ None

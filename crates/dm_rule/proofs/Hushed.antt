@@ -28,8 +28,7 @@ asks_hush v _ = hush v
 
 proto_hush : (v : View) (o : Option Told) → Hushed v (after_proto v o)
 proto_hush v None = record { count = refl; told = refl }
-proto_hush v (Some t) = let h = elim t.kind as (λ k. Hushed v (follows_by v t.about (sort_of k)))
-    [ MessageKind.State ↦ asks_hush v t.about | MessageKind.Memory ↦ asks_hush v t.about | _ ↦ hush v ] in record { count = h.count; told = h.told }
+proto_hush v (Some t) = search (arith, asks_hush, hush)
 
 label_hush : (v : View) (l : Label) → Hushed v (after_label v l)
 label_hush v l = search (arith, hush, served_hush)

@@ -150,20 +150,7 @@ move_sent v a p m x y to there from none pid moves table owner h = search (arith
 
 begins_kept : (v : View) (a : Addresses) (p : Pid) (x : Process) (w : Link) (dir : Direction) → link_at x.table (reg x.regs 1) ≡ Some w → MirrorsProcess v a p x
     → MirrorsDone v a p x one.Move (calls.begins v.acting (behind x) (calls.whole (behind x) w dir))
-begins_kept v a p x w Direction.FromArea over h k e =
-    let r = calls.whole (behind x) w Direction.FromArea in
-    let m = request v.acting (behind x) r in
-    let z : PlainMessage = record { id = m.id; to = m.to.pid; sender = m.sender.pid; what = Read r.base (piece_of r.left) } in
-    let f : z ≡ k = cc in
-    subst (λ (u : PlainMessage). MirrorsSent v a (given a (sends_burden v a p (plain_process x) u.id (burden_of u.what))) p m (moving (behind x) r)) f
-    (move_sent v a p m x (moving (behind x) r) (a (Slot p (reg x.regs 1))) (h.slots (reg x.regs 1) w over) (stands_here v a p x h) refl refl refl refl refl h)
-begins_kept v a p x w Direction.IntoArea over h k e =
-    let r = calls.whole (behind x) w Direction.IntoArea in
-    let m = request v.acting (behind x) r in
-    let z : PlainMessage = record { id = m.id; to = m.to.pid; sender = m.sender.pid; what = Write r.base (one.memory_at (plain_process x) r.own (piece_of r.left)) } in
-    let f : z ≡ k = cc in
-    subst (λ (u : PlainMessage). MirrorsSent v a (given a (sends_burden v a p (plain_process x) u.id (burden_of u.what))) p m (moving (behind x) r)) f
-    (move_sent v a p m x (moving (behind x) r) (a (Slot p (reg x.regs 1))) (h.slots (reg x.regs 1) w over) (stands_here v a p x h) refl refl refl refl refl h)
+begins_kept v a p x w dir h1 h2 = search (arith, move_sent, stands_here)
 
 moves_over_kept : (v : View) (a : Addresses) (p : Pid) (x : Process) (w : Link) (o : Option Direction) → link_at x.table (reg x.regs 1) ≡ Some w → MirrorsProcess v a p x
     → MirrorsDone v a p x one.Move (calls.moves_over v.acting (behind x) w o)

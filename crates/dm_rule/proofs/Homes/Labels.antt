@@ -115,9 +115,7 @@ pub rings_same : (v w : View) → w.moves ≡ v.moves → w.ring ≡ v.ring → 
 rings_same v w moves ring known k = search arith
 
 kills_rings : (v : View) (k : MessageKind) (o : Option Pid) → RingsHome v → RingsHome (ends_by (sort_of k) v o)
-kills_rings v MessageKind.Kill (Some p) h = rings_set v (ended v p) (without p (v.ring v.acting)) refl refl (known_set v v.acting p view.Ended refl h) (without_home v.acting p (v.ring v.acting) (h.ring v.acting)) h
-kills_rings v MessageKind.Kill None h = h
-kills_rings v _ o h = h
+kills_rings v k o h1 = search (arith, rings_set, known_set, without_home)
 
 told_rings : (v : View) (o : Option Told) → RingsHome v → RingsHome (served_told v o)
 told_rings v o h1 = search (arith, kills_rings)

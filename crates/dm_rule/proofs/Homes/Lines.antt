@@ -74,9 +74,7 @@ label_line none r e pt l t is at h =
     })
 
 acting_kills : (v : View) (k : MessageKind) (o : Option Pid) → (view.ends_by (sort_of k) v o).acting ≡ v.acting
-acting_kills v MessageKind.Kill (Some p) = refl
-acting_kills v MessageKind.Kill None = refl
-acting_kills v _ o = refl
+acting_kills v k o = search arith
 
 pub acting_dropped : (v : View) (id : MsgId) (o : Option Pid) → (view.dropped_for v id o).acting ≡ v.acting
 acting_dropped v id None = refl

@@ -95,9 +95,7 @@ dropped_lists : (s : OneKernel) (e : MsgId → ℕ) (v : View) (id : MsgId) (o :
 dropped_lists s e v id o h1 = search (arith, queue_set, all_stand_front)
 
 kills_lists : (s : OneKernel) (e : MsgId → ℕ) (v : View) (k : MessageKind) (o : Option Pid) → ListsHome s e v → ListsHome s e (ends_by (sort_of k) v o)
-kills_lists s e v MessageKind.Kill (Some p) h = record { inbox = h.inbox; queue = h.queue; untaken = h.untaken }
-kills_lists s e v MessageKind.Kill None h = h
-kills_lists s e v _ o h = h
+kills_lists s e v k o h1 = search arith
 
 pub label_lists : (s : OneKernel) (e : MsgId → ℕ) (v : View) (l : Label) → ListsHome s e v → ListsHome s e (after_label v l)
 label_lists s e v (Label.Ran p k) h = record { inbox = h.inbox; queue = h.queue; untaken = h.untaken }

@@ -51,14 +51,7 @@ first_link b (x ∷ xs) n (suc k) l valid e = first_link b xs n k l (right_true 
 
 begun_home_of : (b : Boot) (p : BootProcess) (q : Pid) (x : PlainProcess) (o : Option BootImage) → boot.links_are_valid b p.links ≡ true → links_at b.processes q ≡ p.links
     → kernel.alive (option_map (λ image. Alive (begun b.format image (map plain_link p.links))) o) ≡ Some x → HomeProcess IsHome (first_addresses b) q x
-begun_home_of b p q x None valid at e = cc
-begun_home_of b p q x (Some i) valid at e =
-    let f : begun b.format i (map plain_link p.links) ≡ x = cc in
-    let links : slots_with (slots_of b.format) (map plain_link p.links) ≡ x.links = ap (λ (v : PlainProcess). v.links) f in
-    record {
-      slots = λ k l there. ap (λ (v : List Link). option_map_or (λ w. place_of w.addr) (slice_get v k) (unmoved 0)) at ∙ first_link b p.links (slots_of b.format - length (map plain_link p.links)) k l valid (ap (λ (v : List (Option PlainLink)). link_at v k) links ∙ there);
-      owner = λ w moving. absurd (let g : None ≡ Some w = ap (λ (v : PlainProcess). owner_in v.status) f ∙ moving in cc);
-    }
+begun_home_of b p q x o h1 h2 h3 = search (arith, first_link)
 
 links_valid : (b : Boot) (n : ℕ) (p : BootProcess) → boot.process_is_valid b n p ≡ true → boot.links_are_valid b p.links ≡ true
 links_valid b n p e =

@@ -63,8 +63,7 @@ asks_off v a z = search arith
 
 pub proto_off : (v : View) (o : Option Told) (z : Spot) → ids_at (after_proto v o) z ≡ ids_at v z
 proto_off v None z = about_off v NothingElse z
-proto_off v (Some t) z = about_off (follows_by v t.about (sort_of t.kind)) t.about z ∙ (elim t.kind as (λ k. ids_at (follows_by v t.about (sort_of k)) z ≡ ids_at v z)
-    [ MessageKind.State ↦ asks_off v t.about z | MessageKind.Memory ↦ asks_off v t.about z | _ ↦ refl ])
+proto_off v (Some t) z = search (arith, about_off, asks_off)
 
 for_off : (v : View) (p : Pid) (to : ℕ) (z : Spot) → ids_at (frozen_for v p to) z ≡ ids_at v z
 for_off v p to (Queue m q) = refl
@@ -240,10 +239,7 @@ process_row o pt m i is t _ parts w h fit topic front mine e n = held_row pt i i
 
 kernel_row : (b : Boot) (o pt : Point) (m : ℕ) (i : MsgId) (is : List MsgId) (k : MessageKind) (a : About) (parts : List Part) (w : Spelled) → State None pt → PairsFit pt.view → pt.view.inbox pt.view.acting ≡ i ∷ is → is_kernels i ≡ true → SeesSame o pt m
     → kernel_hears b o m i k a ≡ Some parts → spelled pt parts ≡ Some w → State None w.point
-kernel_row b o pt m i is k (Of p) parts w h fit front mine sees e n =
-    let (x, there, last) = bind-is (kernel.alive (o.kernel.processes p)) (λ x. told_step o m i p (fits (free_room b o m) (length x.memory / 256)) x (sort_of k)) parts e in
-    told_row o pt m i is p (fits (free_room b o m) (length x.memory / 256)) x k parts w h fit front mine sees last n
-kernel_row b o pt m i is k _ parts w h fit front mine sees e n = cc
+kernel_row b o pt m i is k a parts w h1 h2 h3 h4 h5 h6 h7 = search (arith, bind-is, told_row)
 
 hears_by : (b : Boot) (o pt : Point) (m : ℕ) (i : MsgId) (is : List MsgId) (t : Told) (c d g : Bool) (parts : List Part) (w : Spelled) → State None pt → PairsFit pt.view → pt.view.topic ≡ NothingElse → pt.view.inbox pt.view.acting ≡ i ∷ is
     → is_kernels i ≡ true → SeesSame o pt m

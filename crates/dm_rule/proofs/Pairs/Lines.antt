@@ -35,9 +35,7 @@ taken_pair v b None = refl
 taken_pair v b (Some id) = refl
 
 kills_pair : (k : MessageKind) (v : View) (o : Option Pid) → (ends_by (sort_of k) v o).pair ≡ v.pair
-kills_pair MessageKind.Kill v None = refl
-kills_pair MessageKind.Kill v (Some p) = refl
-kills_pair k v o = refl
+kills_pair k v o = search arith
 
 pub label_pair : (v : View) (l : Label) → (after_label v l).pair ≡ v.pair
 label_pair v l = grind (arith, nat_tests, kills_pair)
@@ -52,8 +50,7 @@ asks_pair v _ = refl
 
 pub proto_pair : (v : View) (o : Option Told) → (after_proto v o).pair ≡ v.pair
 proto_pair v None = refl
-proto_pair v (Some t) = elim t.kind as (λ k. (follows_by v t.about (sort_of k)).pair ≡ v.pair)
-    [ MessageKind.State ↦ asks_pair v t.about | MessageKind.Memory ↦ asks_pair v t.about | _ ↦ refl ]
+proto_pair v (Some t) = grind (arith, nat_tests, asks_pair)
 
 -- the other lines leave the pairs as they are
 pub pair_same : (v : View) (l : Line) → touches l ≡ false → (view_after v l).pair ≡ v.pair

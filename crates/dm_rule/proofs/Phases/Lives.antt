@@ -77,8 +77,7 @@ created_phases v i p h plain unknown = made_phases v (view_after v (Line.Label (
 
 -- a kill ends its receiver
 killed_is : (v : View) (t : Told) (o : Option Told) → o ≡ Some t → t.kind ≡ MessageKind.Kill → served_told v o ≡ view.ended v t.receiver
-killed_is v t None e k = cc
-killed_is v t (Some s) e k = let f : s ≡ t = cc in ap (λ (u : Told). ends_by (sort_of u.kind) v (Some u.receiver)) f ∙ ap (λ (n : MessageKind). ends_by (sort_of n) v (Some t.receiver)) k
+killed_is v t o h1 h2 = grind (arith, nat_tests)
 
 pub killed_phases : (v : View) (i : MsgId) (t : Told) → InPhases v → Plain v i → v.told i ≡ Some t → t.kind ≡ MessageKind.Kill → v.known v.acting t.receiver ≡ Here → InPhases (view_after v (Line.Label (Label.Served i)))
 killed_phases v i t h plain told k here =

@@ -98,13 +98,10 @@ asks_acting v _ = refl
 
 pub proto_known : (v : View) (o : Option Told) (m : ℕ) (p : Pid) → (after_proto v o).known m p ≡ v.known m p
 proto_known v None m p = refl
-proto_known v (Some t) m p = elim t.kind as (λ k. (follows_by v t.about (sort_of k)).known m p ≡ v.known m p)
-    [ MessageKind.State ↦ asks_known v t.about m p | MessageKind.Memory ↦ asks_known v t.about m p | _ ↦ refl ]
+proto_known v (Some t) m p = search (arith, asks_known)
 
 pub proto_acting : (v : View) (o : Option Told) → (after_proto v o).acting ≡ v.acting
-proto_acting v None = refl
-proto_acting v (Some t) = elim t.kind as (λ k. (follows_by v t.about (sort_of k)).acting ≡ v.acting)
-    [ MessageKind.State ↦ asks_acting v t.about | MessageKind.Memory ↦ asks_acting v t.about | _ ↦ refl ]
+proto_acting v o = search (arith, asks_acting)
 
 proto_topic : (v : View) (o : Option Told) (t : Told) → o ≡ Some t → (after_proto v o).topic ≡ t.about
 proto_topic v None t e = cc

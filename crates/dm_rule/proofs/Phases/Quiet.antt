@@ -108,9 +108,7 @@ received_spots v p i j e (Queue m q) = record_times v.queue v.acting p (without_
 received_spots v p i j e _ = refl
 
 served_known : (v : View) (o : Option Told) (t : Told) → o ≡ Some t → is_kill t.kind ≡ false → (m : ℕ) (q : Pid) → (served_told v o).known m q ≡ v.known m q
-served_known v None t e spares m q = refl
-served_known v (Some s) t e spares m q = let f : s ≡ t = cc in (elim s.kind as (λ k. is_kill k ≡ false → (ends_by (sort_of k) v (Some s.receiver)).known m q ≡ v.known m q)
-    [ MessageKind.Kill ↦ λ e. absurd (false≢true (sym e)) | _ ↦ λ e. refl ]) (ap (λ (u : Told). is_kill u.kind) f ∙ spares)
+served_known v o t h1 h2 m q = search arith
 
 gone_plain : (pt : Point) (s : OneKernel) (l : Label) (i : MsgId) → Sane pt → kernel.step pt.kernel l ≡ Some s → out_of l ≡ Some i → Plain pt.view i
 gone_plain pt s l i h is goes = let g = gone_in pt.kernel s l i is goes in plain_in_bag pt i g.message h g.there

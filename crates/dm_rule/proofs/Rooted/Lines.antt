@@ -67,9 +67,7 @@ asks_idles v (Of p) = record { known = refl; ring = refl }
 asks_idles v _ = idles v
 
 proto_idles : (v : View) (o : Option Told) → Idles v (view.after_proto v o)
-proto_idles v None = record { known = refl; ring = refl }
-proto_idles v (Some t) = let h = elim t.kind as (λ k. Idles v (view.follows_by v t.about (sort_of k)))
-    [ MessageKind.State ↦ asks_idles v t.about | MessageKind.Memory ↦ asks_idles v t.about | _ ↦ idles v ] in record { known = h.known; ring = h.ring }
+proto_idles v o = search (arith, asks_idles, idles)
 
 served_roots : (s : OneKernel) (v : View) (o : Option Told) → ((t : Told) → o ≡ Some t → Lived s t.receiver) → Roots s v → Roots s (served_told v o)
 served_roots s v None lived h = h

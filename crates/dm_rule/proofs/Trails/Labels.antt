@@ -24,9 +24,7 @@ label_pending s t v a tr l is named said trail pending links = (label_on (IsOn t
 
 -- a label tells nothing of messages, and isn't about a place
 kills_topic : (v : View) (k : MessageKind) (o : Option Pid) → (ends_by (sort_of k) v o).topic ≡ v.topic
-kills_topic v MessageKind.Kill (Some p) = refl
-kills_topic v MessageKind.Kill None = refl
-kills_topic v _ o = refl
+kills_topic v k o = grind (arith, nat_tests)
 
 pub label_told : (v : View) (l : Label) → (after_label v l).told ≡ v.told
 label_told v l = (hushed v (Line.Label l) refl).told

@@ -44,9 +44,7 @@ taken_within n v b None h = h
 taken_within n v b (Some i) h = record { known = h.known; acting = h.acting }
 
 served_within : (n : ℕ) (v : View) (o : Option Told) → Within n v → Within n (served_told v o)
-served_within n v None h = h
-served_within n v (Some u) h = elim u.kind as (λ k. Within n (ends_by (sort_of k) v (Some u.receiver)))
-    [ MessageKind.Kill ↦ within_set n v (ends_by (sort_of MessageKind.Kill) v (Some u.receiver)) u.receiver Ended refl refl h | _ ↦ h ]
+served_within n v o h1 = search (arith, within_set)
 
 label_within : (n : ℕ) (v : View) (l : Label) → Within n v → Within n (after_label v l)
 label_within n v l h1 = search (arith, within_set, served_within, within_same, dropped_known, acting_label)

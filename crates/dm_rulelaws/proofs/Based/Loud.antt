@@ -151,8 +151,7 @@ taken_stays : (v : View) (b : ℕ) (o : Option MsgId) → Stays v (view.taken_id
 taken_stays v b o = search (arith, stays)
 
 asks_stays : (v : View) (a : About) → Stays v (view.asks_on v a)
-asks_stays v (Of p) = record { known = refl; ring = refl; queue = refl; held = refl; moves = refl }
-asks_stays v _ = stays v
+asks_stays v a = search (arith, stays)
 
 proto_stays : (v : View) (o : Option Told) → Stays v (view.after_proto v o)
 proto_stays v None = record { known = refl; ring = refl; queue = refl; held = refl; moves = refl }

@@ -38,8 +38,7 @@ serve_spares : (v : View) (a : Addresses) (id : MsgId) (m : PlainMessage) (x : P
 serve_spares v a id m x w i h1 = search (arith, two_more, lands_spares, m.to, x.status)
 
 creates_spares : (v : View) (a : Addresses) (id : MsgId) (child : Pid) (o : Option PlainMessage) (i : MsgId) → id_eq (answer_id id) i ≡ false → spares i (addresses.creation_gets v a id child o) ≡ true
-creates_spares v a id child None i e = refl
-creates_spares v a id child (Some m) i e = two_more i (answer_id id) (addresses.creates_burden a id child (burden_of m.what)) e (creates_what_spares a id child m.what i)
+creates_spares v a id child o i h1 = search (arith, two_more, creates_what_spares)
 
 board_takes_spares : (s : OneKernel) (v : View) (a : Addresses) (id : MsgId) (w : PlainWhat) (i : MsgId) → id_eq (id_of switchboard s.switchboard.sent) i ≡ false → spares i (board_takes_burden s v a id (burden_of w)) ≡ true
 board_takes_spares s v a id (PlainWhat.User b1 b2 b3 b4) i e = search (arith, s.switchboard.sent, s.switchboard.names, two_more, spares_both, finds_spares, keeps_spares)

@@ -222,9 +222,7 @@ bind_need n pt (Some x) f h = h x refl
 
 kernel_hears_need : (n : ℕ) (pt : Point) (b : Boot) (o : Point) (m : ℕ) (id : MsgId) (k : MessageKind) (a : About) → ((p : Pid) → a ≡ Of p → is_between k ≡ true → Heard n pt o m id p k)
     → NeedOf n pt (rule.kernel_hears b o m id k a)
-kernel_hears_need n pt b o m id k (Of p) h =
-    bind_need n pt (kernel.alive (o.kernel.processes p)) (λ x. told_step o m id p (rule.fits (rule.free_room b o m) (length x.memory / 256)) x (sort_of k))
-    (λ x alive. told_need n pt o m id p (rule.fits (rule.free_room b o m) (length x.memory / 256)) x k (h p refl))
+kernel_hears_need n pt b o m id k (Of p) h = search (arith, bind_need, told_need)
 kernel_hears_need n pt b o m id k _ h = tt
 
 moves_need : (n : ℕ) (pt : Point) (id : MsgId) (p : Pid) (to : ℕ) (c : Bool) → to < n → (aim pt.view pt.view.topic < n) × (is_fixed p ≡ false)
