@@ -14,7 +14,10 @@ use Rattle.dm_rule.proofs.Requests.{by_migrates}
 use Rattle.dm_rule.proofs.Bags.{cases_zero}
 
 pub head_calm : (v : View) (s : Step) → Calm v (after_head v s)
-head_calm v s = search (arith, calm_still, turn_off, tick_off, deliver_off, migrate_off)
+head_calm v (Step.Turn m) = calm_still v (after_head v (Step.Turn m)) (λ n q. refl) (λ i. refl) (λ i z. ap (times i) (turn_off v m z))
+head_calm v (Step.Tick m) = calm_still v (after_head v (Step.Tick m)) (λ n q. refl) (λ i. refl) (λ i z. ap (times i) (tick_off v m z))
+head_calm v (Step.Deliver a b k) = calm_still v (after_head v (Step.Deliver a b k)) (λ n q. refl) (λ i. refl) (λ i z. ap (times i) (deliver_off v a b k z))
+head_calm v (Step.Migrate p m) = calm_still v (after_head v (Step.Migrate p m)) (λ n q. refl) (λ i. refl) (λ i z. ap (times i) (migrate_off v p m z))
 
 -- a message is taken: it comes from the stream to the inbox
 abbrev one_taken : Pair → ℕ → Pair
@@ -101,7 +104,13 @@ pub taken_calm : (v : View) (a b n : ℕ) → Calm v (view_after v (Line.Taken a
 taken_calm v a b n = taken_by v a b n (slice_get (v.pair a b).ids (v.pair a b).taken) refl
 
 net_calm : (v : View) (l : Line) → IsNetLine l → Calm v (view_after v l)
-net_calm v l h1 = search (arith, taken_calm, calm_same, moves_none, early_off, acked_off)
+net_calm v (Line.Taken a b n) h = taken_calm v a b n
+net_calm v (Line.Old a b n) h = calm_same v
+net_calm v (Line.Early a b n) h = moves_none v (Line.Early a b n) refl (λ m q. refl) (λ z. early_off v a b n z)
+net_calm v (Line.Acked a b n) h = moves_none v (Line.Acked a b n) refl (λ m q. refl) (λ z. acked_off v a b n z)
+net_calm v Line.Nothing h = calm_same v
+net_calm v (Line.Resent m n) h = calm_same v
+net_calm v _ h = absurd h
 
 pub net_parts : (ps : List Part) (pt : Point) (w : Spelled) → IsNet ps → spelled pt ps ≡ Some w → Calm pt.view w.point.view
 net_parts [] pt w h e = subst (λ (q : Point). Calm pt.view q.view) (said pt w e) (calm_same pt.view)
