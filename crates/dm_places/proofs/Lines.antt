@@ -1,6 +1,6 @@
 -- Lines that are no steps leave the kernel with places as it is, and a line that is one leads on.
-use Rattle.dm_places.proofs.Names.{◌≡◌, ℕ, List, refl, ap, ◌∙◌, sym, subst, Option, None, Some, Pid, MsgId, plain_kind, Stage, PlainMessage, MessageKind, Label, OneKernel, Line, About, View, Told, after_label, handled, view_after}
-use Rattle.dm_places.proofs.Names.{Addresses, Gets, first_gives, given, own_given, Point, Placed, Mirrors, KeepsPlaces, LinesKeep, own_none, first_none, ◌+◌, ◌==◌, not, filter, Pair, seen, sort_of, arith, nat_tests}
+use Rattle.dm_places.proofs.Names.{◌≡◌, ℕ, List, refl, ap, ◌∙◌, sym, subst, Option, Some, Pid, MsgId, plain_kind, Stage, PlainMessage, MessageKind, Label, OneKernel, Line, About, View, Told, after_label, handled, view_after, Addresses}
+use Rattle.dm_places.proofs.Names.{Gets, first_gives, given, own_given, Point, Placed, Mirrors, KeepsPlaces, LinesKeep, own_none, first_none, ◌+◌, ◌==◌, not, filter, Pair, seen, sort_of, arith, nat_tests}
 use Rattle.dm_rule.specs.View as view
 
 -- another view, in which as many moves are counted

@@ -1,8 +1,8 @@
 -- A message that a machine's kernel sends itself, where it is put for the first time.
 use Rattle.dm_places.proofs.Names.{◌≡◌, ℕ, zero, suc, ◌+◌, Bool, false, List, [], ◌∷◌, map, refl, ap, ◌∙◌, sym, subst, ◌⊎◌, inl, inr, arith, if◌then◌else◌, cond, slice_get, Option, None, Some, cases_Bool, Pid, Addr, Place, pid_eq}
-use Rattle.dm_places.proofs.Names.{nat_tests, place_of, MsgId, Message, Line, MessageKind, id_eq, plain_message, plain_child, child_named, manager, Manager, OneKernel, pid_eq-swap, Told, View, own_id, view_after, Addresses, Child, Gets}
-use Rattle.dm_places.proofs.Names.{Receiver, Sender, child_from, child_number, first_gives, given, own_given, unmoved, Point, moved, SameMessage, SameProcess, SameServers, two, two_off, two_process, two_servers, Placed, Mirrors}
-use Rattle.dm_places.proofs.Names.{MirrorsMessage, enclosed, MirrorsPoint, with_message, Sort, sort_of, option_map_or}
+use Rattle.dm_places.proofs.Names.{nat_tests, place_of, MsgId, Message, Line, MessageKind, id_eq, plain_message, plain_child, child_named, Manager, OneKernel, pid_eq-swap, Told, View, own_id, view_after, Addresses, Child, Gets, Receiver}
+use Rattle.dm_places.proofs.Names.{Sender, child_from, child_number, first_gives, given, own_given, Point, moved, SameMessage, SameProcess, SameServers, two, two_off, two_process, two_servers, Placed, Mirrors, MirrorsMessage, enclosed}
+use Rattle.dm_places.proofs.Names.{MirrorsPoint, with_message, Sort, sort_of}
 use Rattle.dm_places.proofs.Keeps.{stays_message, stays_process, stays_servers}
 use Rattle.dm_places.proofs.Following.Changed.{free_mirrors, kernel_again, places_message, this_message}
 use Rattle.dm_places.proofs.Lines.{mirrors_view}

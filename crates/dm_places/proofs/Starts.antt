@@ -1,7 +1,7 @@
 -- Where a run begins, the boot file's processes with their links mirror the first point.
-use Rattle.dm_places.proofs.Names.{◌≡◌, ℕ, zero, suc, ◌-◌, Bool, List, [], ◌∷◌, length, refl, ap, ◌∙◌, sym, subst, inl, inr, if◌then◌else◌, map, option_map, slice_get, Option, None, Some, cases_Bool, Pid, Addr, Link, pid_eq, place_of}
-use Rattle.dm_places.proofs.Names.{plain_link, Process, begun_process, BootImage, BootProcess, Boot, slots_of, Alive, Life, plain_process, memory_of, slots_with, child_at_home, plain_child, child_address, pid_eq-is, first_view}
-use Rattle.dm_places.proofs.Names.{first_addresses, links_at, nth_child, unmoved, MirrorsProcess, started, started_at, StartMirrors, option_map_or, arith}
+use Rattle.dm_places.proofs.Names.{◌≡◌, ℕ, zero, suc, Bool, List, [], ◌∷◌, refl, ap, ◌∙◌, sym, inl, inr, if◌then◌else◌, map, option_map, slice_get, Option, None, Some, cases_Bool, Pid, Addr, pid_eq, place_of, plain_link, Process}
+use Rattle.dm_places.proofs.Names.{begun_process, BootImage, BootProcess, Boot, slots_of, Alive, Life, plain_process, memory_of, slots_with, child_at_home, plain_child, pid_eq-is, first_view, first_addresses, links_at, unmoved}
+use Rattle.dm_places.proofs.Names.{MirrorsProcess, started, started_at, StartMirrors, option_map_or, arith}
 use Rattle.dm_places.proofs.Labels.Creates.{begun_link, begun_plainly}
 use Rattle.dm_onekernel.specs.Start as one
 use Rattle.dm_onekernel.specs.Step as kernel

@@ -1,8 +1,7 @@
 -- A kernel's own message is handled: what comes of it, row by row. Whatever holds of the parts of each row holds of what comes of the message.
-use Rattle.dm_rule.proofs.Names.{◌≡◌, ℕ, ◌==◌, ◌||◌, Bool, true, false, List, [], ◌∷◌, ◌++◌, refl, ap, ◌∙◌, subst, length, ◌/◌, ⊤, if◌then◌else◌, Option, None, Some, Pid, pid_of, pid_eq, MsgId, MessageKind, Line, Stage, Boot, switchboard}
-use Rattle.dm_rule.proofs.Names.{manager, PlainProcess, Told, About, Of, Known, Unknown, Here, Frozen, Incoming, Forward, Ended, target_of, Point, Part, Says, Again, Owns, Addresses, Sender, is_told_back, place_told, to_kernel, forwards_on}
-use Rattle.dm_rule.proofs.Names.{accepts, takes_chunk, takes_block, gives_piece, sends_on, leaves, told_step, chunks_of, pieces_of, updates, told_here, told_ended, process_told, told_server, fits, free_room, kernel_hears, hears, bind-is}
-use Rattle.dm_rule.proofs.Names.{behind_count, Label, MoveNote, Outcome, Routes, answer_id, answers_move, tells_asker, leaves_for, sort_of, arith}
+use Rattle.dm_rule.proofs.Names.{◌≡◌, ℕ, ◌==◌, ◌||◌, Bool, false, List, [], ◌∷◌, ◌++◌, refl, subst, length, ⊤, if◌then◌else◌, Option, None, Some, Pid, pid_of, pid_eq, MsgId, MessageKind, Line, Stage, Boot, switchboard, manager}
+use Rattle.dm_rule.proofs.Names.{PlainProcess, Told, About, Of, Known, Here, Frozen, Incoming, Forward, Ended, Point, Part, Says, Again, Owns, Addresses, place_told, to_kernel, forwards_on, gives_piece, sends_on, leaves, told_step, updates}
+use Rattle.dm_rule.proofs.Names.{told_here, told_ended, process_told, told_server, kernel_hears, hears, bind-is, behind_count, MoveNote, Outcome, answers_move, tells_asker, leaves_for, sort_of, arith}
 use Rattle.dm_rule.proofs.Requests.{by_test}
 use Rattle.dm_onekernel.specs.Step as kernel
 

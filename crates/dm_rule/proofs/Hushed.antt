@@ -1,6 +1,6 @@
 -- Only a put tells of a message, and counts a kernel's own.
-use Rattle.dm_rule.proofs.Names.{◌≡◌, ℕ, ◌+◌, ◌==◌, not, filter, Bool, true, false, refl, Option, None, Some, Pid, MsgId, MessageKind, Label, Step, Line, Stage, View, Told, About, Of, Target, sets_off, view_after, after_head, after_label}
-use Rattle.dm_rule.proofs.Names.{after_stage, after_proto, follows_by, asks_on, queued_for, held_for, dropped_for, forwarded_for, served_told, ends_by, receiver_of, taken_id, oldest, with_pair, handled, sort_of, arith}
+use Rattle.dm_rule.proofs.Names.{◌≡◌, ℕ, Bool, true, false, refl, Option, None, Some, MsgId, MessageKind, Label, Step, Line, View, Told, About, Of, view_after, after_head, after_label, after_proto, asks_on, served_told, ends_by, taken_id}
+use Rattle.dm_rule.proofs.Names.{sort_of, arith}
 
 -- nothing is told or counted
 pub record Hushed (v w : View) : Type 0 where

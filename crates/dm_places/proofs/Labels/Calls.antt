@@ -1,9 +1,9 @@
 -- What a call leaves of a process with places, and of what it sends: each address that it gives is the one that stands there.
 use Rattle.dm_places.proofs.Names.{◌≡◌, ℕ, Bool, true, false, List, [], ◌∷◌, refl, ap, ◌∙◌, sym, subst, arith, ⊤, if◌then◌else◌, map, slice_get, slice_set, filter_map, cons_option, is_none, Option, None, Some, Pid, Link, Place, place_of}
-use Rattle.dm_places.proofs.Names.{pid_eq, plain_link, first_empty, link_at, plain_slot, MsgId, Message, id_eq, PlainMessage, User, Read, Write, plain_message, Process, Direction, Regs, past, Reply, plain_process, reg, CallNumber}
-use Rattle.dm_places.proofs.Names.{first_failed, piece_of, address_of, moving, request, Called, Done, emptied, links_in, first_of, slot_at, pid_eq-same, id_eq-same, View, Addresses, Gets, gets, given, Slot, Owner, Receiver, Sender}
-use Rattle.dm_places.proofs.Names.{acting_place, encloses, fills, fills_by, sends_burden, set_link, emptied_link, SameProcess, SameMessage, SameServers, encloses_servers, encloses_process, encloses_message, encloses_at, gives_by, no_gives}
-use Rattle.dm_places.proofs.Names.{or-left, or-right, MirrorsProcess, MirrorsMessage, enclosed, owner_at, burden_of}
+use Rattle.dm_places.proofs.Names.{pid_eq, plain_link, first_empty, link_at, plain_slot, MsgId, Message, id_eq, PlainMessage, User, plain_message, Process, Direction, Regs, past, Reply, plain_process, reg, CallNumber, first_failed}
+use Rattle.dm_places.proofs.Names.{address_of, Called, Done, emptied, links_in, first_of, slot_at, pid_eq-same, id_eq-same, View, Addresses, Gets, gets, given, Slot, Owner, Receiver, Sender, acting_place, encloses, fills, fills_by}
+use Rattle.dm_places.proofs.Names.{sends_burden, set_link, emptied_link, SameProcess, SameMessage, SameServers, encloses_servers, encloses_process, encloses_message, encloses_at, gives_by, no_gives, or-left, or-right, MirrorsProcess}
+use Rattle.dm_places.proofs.Names.{MirrorsMessage, enclosed, owner_at, burden_of}
 use Rattle.dm_onekernel.specs.Calls as one
 use Rattle.dm_syscall.specs.Calls as calls
 

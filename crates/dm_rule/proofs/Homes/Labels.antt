@@ -1,7 +1,6 @@
 -- Each label keeps addresses where they may be, as at homes, and what it does to the rings too.
-use Rattle.dm_rule.proofs.Names.{◌≡◌, ℕ, ◌==◌, ◌&&◌, Bool, true, false, not, List, [], ◌∷◌, ◌++◌, refl, ap, ◌∙◌, sym, inl, inr, arith, ⊤, if◌then◌else◌, filter, Option, None, Some, cases_Bool, nat_tests, Pid, Place, pid_eq, MsgId}
-use Rattle.dm_rule.proofs.Names.{MessageKind, Label, OneKernel, at_machine, at_record, without, moved_back, View, Told, Known, Here, Frozen, Incoming, Forward, after_label, served_told, ends_by, ended, handled, Addresses, given, gives}
-use Rattle.dm_rule.proofs.Names.{unmoved, acting_place, are_home, sort_of}
+use Rattle.dm_rule.proofs.Names.{◌≡◌, ℕ, ◌==◌, ◌&&◌, Bool, true, false, not, List, [], ◌∷◌, ◌++◌, refl, ap, ◌∙◌, arith, ⊤, if◌then◌else◌, filter, Option, None, Some, nat_tests, Pid, Place, pid_eq, MsgId, MessageKind, Label, OneKernel}
+use Rattle.dm_rule.proofs.Names.{at_machine, at_record, without, moved_back, View, Told, Known, Frozen, Incoming, Forward, after_label, served_told, ends_by, Addresses, given, gives, acting_place, are_home, sort_of}
 use Rattle.dm_rule.proofs.Homes.{IsHome, AtHome}
 use Rattle.dm_rule.proofs.Homes.Steps.{ran_home, call_home, send_home, wait_home, out_home, end_home}
 use Rattle.dm_rule.proofs.Homes.Receives.{receive_home, refuse_home}

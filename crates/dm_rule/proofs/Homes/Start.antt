@@ -1,8 +1,7 @@
 -- Where a run begins, each address names the home of its process.
-use Rattle.dm_rule.proofs.Names.{◌≡◌, ℕ, zero, suc, ◌+◌, ◌-◌, ◌==◌, ◌&&◌, ◌||◌, Bool, true, false, List, [], ◌∷◌, ◌++◌, length, refl, ap, ◌∙◌, sym, arith, nat_lt, nat_le, inl, inr, if◌then◌else◌, map, option_map, slice_get, replicate}
-use Rattle.dm_rule.proofs.Names.{Option, None, Some, cases_Bool, nat_tests, Pid, Link, place_of, pid_eq, PlainLink, plain_link, link_at, BootProcess, BootImage, Boot, IsValid, switchboard, manager, processes_are_valid, starting_at}
-use Rattle.dm_rule.proofs.Names.{slots_of, PlainProcess, start, life_at, first_life, begun, slots_with, Alive, pid_eq-is, ring_at, first_point, unmoved, links_at, nth_child, first_addresses, owner_in, Homes, are_home, left_true, right_true}
-use Rattle.dm_rule.proofs.Names.{option_map_or}
+use Rattle.dm_rule.proofs.Names.{◌≡◌, ℕ, zero, suc, ◌==◌, ◌&&◌, ◌||◌, Bool, true, false, List, [], ◌∷◌, ◌++◌, length, refl, ap, ◌∙◌, sym, arith, nat_le, inl, inr, if◌then◌else◌, map, option_map, slice_get, replicate, Option, None, Some}
+use Rattle.dm_rule.proofs.Names.{cases_Bool, nat_tests, Pid, Link, place_of, pid_eq, PlainLink, plain_link, link_at, BootProcess, BootImage, Boot, IsValid, switchboard, manager, processes_are_valid, starting_at, slots_of, PlainProcess}
+use Rattle.dm_rule.proofs.Names.{start, life_at, first_life, begun, Alive, pid_eq-is, ring_at, first_point, unmoved, links_at, nth_child, first_addresses, Homes, are_home, left_true, right_true, option_map_or}
 use Rattle.dm_rule.proofs.Homes.{IsHome, HomeProcess, AtHome, homes_are}
 use Rattle.dm_onekernel.specs.Boot as boot
 use Rattle.dm_onekernel.specs.Manager as manage

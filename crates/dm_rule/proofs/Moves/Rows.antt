@@ -1,9 +1,9 @@
 -- The rows of migration keep that each message stands once.
-use Rattle.dm_rule.proofs.Names.{◌≡◌, ℕ, ◌==◌, Bool, true, false, List, [], ◌∷◌, ◌++◌, refl, ap, ◌∙◌, sym, subst, length, ◌/◌, if◌then◌else◌, Option, None, Some, Pid, pid_of, pid_eq, MsgId, MessageKind, Stage, Boot, switchboard, manager}
-use Rattle.dm_rule.proofs.Names.{PlainProcess, Line, View, Told, About, NothingElse, Of, Known, Unknown, Here, Frozen, Forward, Ended, view_after, handled, handled_first, receiver_of, is_kernels, target_of, with_ring, knowing, released}
-use Rattle.dm_rule.proofs.Names.{after_proto, follows_by, asks_on, held_for, Addresses, Sender, Child, is_told_back, Point, moved, seen, Part, Says, Again, Owns, Spelled, spelled, to_kernel, forwards_on, accepts, takes_chunk, takes_block}
-use Rattle.dm_rule.proofs.Names.{gives_piece, sends_on, leaves, told_step, chunks_of, pieces_of, told_here, told_ended, process_told, told_server, migrates, fits, free_room, kernel_hears, hears, Spot, Queue, Held, Inbox, Untaken, ids_at}
-use Rattle.dm_rule.proofs.Names.{bind-is, label_of, Label, MoveNote, Outcome, Target, Routes, answer_id, answers_move, frozen_for, leaves_for, tells_asker, sets_off, sort_of, option_and_then, slice_get, arith, nat_tests}
+use Rattle.dm_rule.proofs.Names.{◌≡◌, ℕ, ◌==◌, Bool, true, false, List, [], ◌∷◌, ◌++◌, refl, ap, ◌∙◌, sym, subst, length, if◌then◌else◌, Option, None, Some, Pid, pid_of, pid_eq, MsgId, MessageKind, Stage, Boot, switchboard, manager}
+use Rattle.dm_rule.proofs.Names.{PlainProcess, Line, View, Told, About, NothingElse, Known, Unknown, Here, Frozen, Forward, Ended, view_after, handled, handled_first, receiver_of, is_kernels, target_of, with_ring, knowing, released}
+use Rattle.dm_rule.proofs.Names.{after_proto, asks_on, held_for, Addresses, Sender, Child, is_told_back, Point, moved, Part, Says, Again, Owns, Spelled, spelled, to_kernel, forwards_on, accepts, takes_chunk, takes_block, gives_piece}
+use Rattle.dm_rule.proofs.Names.{sends_on, leaves, told_step, chunks_of, pieces_of, told_here, told_ended, process_told, told_server, migrates, kernel_hears, hears, Spot, Queue, ids_at, bind-is, label_of, Label, MoveNote, Outcome, Target}
+use Rattle.dm_rule.proofs.Names.{answer_id, answers_move, frozen_for, leaves_for, tells_asker, sets_off, sort_of, option_and_then, slice_get, arith, nat_tests}
 use Rattle.dm_rule.proofs.Lines.{hidden, Stands-stays}
 use Rattle.dm_rule.proofs.Letters.{letters}
 use Rattle.dm_rule.proofs.Hushed.{is_put, hushed}
@@ -17,8 +17,6 @@ use Rattle.dm_rule.proofs.Requests.{by_migrates}
 use Rattle.dm_rule.proofs.Seen.{about_off}
 use Rattle.dm_rule.proofs.Bags.{bag_answered}
 use Rattle.dm_rule.proofs.Turns.{quiet_label}
-use Rattle.dm_onekernel.specs.Step as kernel
-use Rattle.dm_rule.specs.View as view
 
 -- what the rule saw before the head is what stands behind it
 pub record SeesSame (o pt : Point) (m : ℕ) : Type 0 where

@@ -1,13 +1,13 @@
 -- A process ends, and one is made.
-use Rattle.dm_rule.proofs.Names.{◌≡◌, ℕ, ◌≤◌, ◌==◌, ◌&&◌, Bool, true, false, refl, ap, ◌∙◌, sym, subst, inl, arith, if◌then◌else◌, Option, None, Some, false≢true, nat_tests, Pid, MsgId, MessageKind, Label, Line, id_eq, Why, at_record, View}
-use Rattle.dm_rule.proofs.Names.{Told, Known, Unknown, Here, Ended, view_after, handled, served_told, ends_by, Spot, times, standing, is_between, is_away, is_here, is_over, kind_comes, Phase, Nowhere, Rests, Over, Moves, knows, token_in}
-use Rattle.dm_rule.proofs.Names.{pid_eq-same, id_eq-is, kind_leaves, sort_of}
+use Rattle.dm_rule.proofs.Names.{◌≡◌, ℕ, ◌≤◌, ◌==◌, Bool, true, false, refl, ap, ◌∙◌, sym, subst, inl, arith, if◌then◌else◌, Option, None, Some, false≢true, nat_tests, Pid, MsgId, MessageKind, Label, Line, id_eq, Why, at_record, View, Told}
+use Rattle.dm_rule.proofs.Names.{Known, Unknown, Here, Ended, view_after, handled, served_told, Spot, times, standing, is_between, is_away, is_here, is_over, kind_comes, Phase, Nowhere, Rests, Over, Moves, knows, token_in, id_eq-is}
+use Rattle.dm_rule.proofs.Names.{kind_leaves}
 use Rattle.dm_rule.proofs.Lines.{not_true}
 use Rattle.dm_rule.proofs.Turns.{ended_off, created_off}
 use Rattle.dm_rule.proofs.Phases.Calm.{Plain}
 use Rattle.dm_rule.proofs.Phases.Lines.{handled_spots}
 use Rattle.dm_rule.proofs.Phases.Stand.{none_only, InPhases, Learns, learns_phases}
-use Rattle.dm_rule.proofs.Phases.Pieces.{record_off, and_true}
+use Rattle.dm_rule.proofs.Phases.Pieces.{record_off}
 use Rattle.dm_rule.proofs.Phases.Rests.{rests_here}
 use Rattle.dm_rule.proofs.Trails.Steps.{set_at}
 use Rattle.dm_rule.specs.View as view

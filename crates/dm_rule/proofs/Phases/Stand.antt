@@ -1,6 +1,6 @@
 -- Each process is in a phase; what handles the one message about a process, and what puts the next.
-use Rattle.dm_rule.proofs.Names.{◌≡◌, ◌⊎◌, ℕ, ◌≤◌, Bool, true, false, refl, ap, ◌∙◌, sym, subst, inl, inr, arith, if◌then◌else◌, Option, None, Some, cases_Bool, false≢true, Pid, pid_eq, MsgId, MessageKind, at_pid, View, Told, Of, Spot}
-use Rattle.dm_rule.proofs.Names.{Queue, Held, Inbox, Untaken, standing, is_between, is_apart, Phase, Moves, knows, is_due, token_in, sender_in, receiver_in, told_between, IsToken, HasToken, Alone, IsIn, pid_eq-is, pid_eq-same}
+use Rattle.dm_rule.proofs.Names.{◌≡◌, ℕ, ◌≤◌, Bool, true, false, refl, ap, ◌∙◌, sym, subst, inl, inr, arith, if◌then◌else◌, Option, None, Some, cases_Bool, false≢true, Pid, pid_eq, MsgId, MessageKind, at_pid, View, Told, Of, Spot, Queue}
+use Rattle.dm_rule.proofs.Names.{Held, Inbox, Untaken, standing, is_between, is_apart, Phase, Moves, knows, is_due, token_in, sender_in, receiver_in, told_between, IsToken, HasToken, Alone, IsIn, pid_eq-is, pid_eq-same}
 use Rattle.dm_rule.proofs.Phases.Calm.{Came, Calm, calm_in, between_of, stands_where}
 
 -- all processes, where the next message about at most this one isn't put yet

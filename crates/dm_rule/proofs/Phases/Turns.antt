@@ -1,7 +1,7 @@
 -- A turn that handles a message of the bag, or serves a process: each process stays in a phase.
 use Rattle.dm_rule.proofs.Names.{◌≡◌, ℕ, ◌+◌, Bool, true, false, List, [], ◌∷◌, refl, ap, ◌∙◌, subst, if◌then◌else◌, Option, None, Some, Pid, pid_of, MsgId, MessageKind, Label, plain_kind, PlainMessage, Boot, Why, first_number, bind}
-use Rattle.dm_rule.proofs.Names.{OneKernel, answer_id, Line, View, Told, Unknown, Here, view_after, Point, label_of, kernel_after, moved, Part, Says, Routes, Spelled, spelled, forwards_on, ◌==◌, NothingElse, Outcome, PlainWhat}
-use Rattle.dm_rule.proofs.Names.{answers_move, leaves_for, machine_in, seen, move_target}
+use Rattle.dm_rule.proofs.Names.{OneKernel, answer_id, Line, View, Told, Unknown, Here, view_after, Point, label_of, kernel_after, moved, Part, Says, Routes, Spelled, spelled, forwards_on, ◌==◌, Outcome, PlainWhat, answers_move, leaves_for}
+use Rattle.dm_rule.proofs.Names.{machine_in, seen, move_target}
 use Rattle.dm_rule.specs.Rule as rule
 use Rattle.dm_rule.proofs.Hushed.{is_put}
 use Rattle.dm_rule.proofs.Pairs.Lines.{touches, pair_same}
@@ -16,7 +16,7 @@ use Rattle.dm_rule.proofs.Handled.{asked_state}
 use Rattle.dm_rule.proofs.Phases.Answers.{Whole}
 use Rattle.dm_rule.proofs.Phases.Rests.{asked_row}
 use Rattle.dm_rule.proofs.Phases.Lives.{end_line_phases, created_phases, killed_phases}
-use Rattle.dm_rule.proofs.Serving.{Stops, by_round, by_handles}
+use Rattle.dm_rule.proofs.Serving.{by_round, by_handles}
 
 pub record Fit (pt : Point) : Type 0 where
   pub phases : InPhases pt.view

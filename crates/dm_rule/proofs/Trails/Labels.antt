@@ -1,6 +1,6 @@
 -- Each label keeps each address on its trail.
-use Rattle.dm_rule.proofs.Names.{◌≡◌, true, refl, ap, ◌∙◌, sym, subst, Option, None, Some, Pid, Place, MsgId, MessageKind, Line, manager, Label, OneKernel, View, Told, is_kernels, after_label, served_told, ends_by, handled, dropped_for}
-use Rattle.dm_rule.proofs.Names.{receiver_of, Addresses, Receiver, Sender, given, gives, ascends, to_of, Trails, Trail, IsOn, AddressesOn, OwnOn, sort_of, arith, nat_tests}
+use Rattle.dm_rule.proofs.Names.{◌≡◌, true, refl, ap, ◌∙◌, sym, subst, Option, Some, Pid, Place, MsgId, MessageKind, Line, manager, Label, OneKernel, View, Told, is_kernels, after_label, ends_by, Addresses, Receiver, Sender, given, gives}
+use Rattle.dm_rule.proofs.Names.{ascends, to_of, Trails, Trail, IsOn, AddressesOn, OwnOn, sort_of, arith, nat_tests}
 use Rattle.dm_rule.proofs.Hushed.{hushed}
 use Rattle.dm_rule.proofs.Homes.{homes_are, at_home}
 use Rattle.dm_rule.proofs.Homes.Serves.{Named, EndedAt}
