@@ -1,8 +1,8 @@
 -- A run of the world begins, and goes on directive by directive.
 use Rattle.dm_mirror.proofs.Names.{◌≡◌, ℕ, List, [], ◌∷◌, ◌++◌, length, refl, ap, ◌∙◌, sym, subst, append_assoc, arith, Some, append-nil, All-nil, Boot, IsValid, start, replay, received_once, Step, Directive, Line, Todo, Next, all_of}
 use Rattle.dm_mirror.proofs.Names.{next_step, IsKept, IsRun, IsStep, Leads, Spelled, Point, first_point, labels, group_of, stands_once_always, group_replay, labels-append, replay-append, WorldState, IsTwo, joined, GoesOn, RunStands}
-use Rattle.dm_mirror.proofs.Names.{StepsStand, RunBegins, RunGoesOn, AreReadBack, gave, MayStep, zero, suc, Bool, if◌then◌else◌, option_map, Option, None, Pass, Two, begin_pass, below, following, in_pass, next_delivery, next_directive}
-use Rattle.dm_mirror.proofs.Names.{next_pass, next_turn, or, pairs_of, pass_begun, settles, undelivered, has_mail, is_quiet, next_and_left, nat_tests}
+use Rattle.dm_mirror.proofs.Names.{StepsStand, RunBegins, RunGoesOn, AreReadBack, gave, MayStep, zero, suc, Bool, if◌then◌else◌, option_map, Option, None, Pass, Two, begin_pass, below, in_pass, next_delivery, next_directive, next_pass}
+use Rattle.dm_mirror.proofs.Names.{next_turn, or, pairs_of, pass_begun, settles, next_and_left, nat_tests}
 use Rattle.dm_world.specs.Next as world
 use Rattle.dm_mirror.proofs.May.{acts_start, acts_step}
 use Rattle.dm_mirror.proofs.Next.{NextFits, machines_stay, next_fits, next_is_said}

@@ -2,7 +2,7 @@
 use Rattle.dm_mirror.proofs.Names.{◌≡◌, ◌≢◌, ℕ, ◌<◌, ◌≤◌, ◌==◌, Bool, true, length, refl, ap, ◌∙◌, sym, subst, inl, inr, if◌then◌else◌, eqb_tells, Boot, Point, at_machine, Untaken, Pair, Placed, Mirrors, IsLawfulState, KernelState, arith}
 use Rattle.dm_mirror.proofs.Names.{nat_tests, NodeState, WorldState, AllOwnStand, KernelStands, NodeStands, History, StandsWith, AllRecords, TokensStand, ◌+◌, is_some, List, nat_lt, Option, None, Some, Pid, pid_of, MsgId, PlainMessage}
 use Rattle.dm_mirror.proofs.Names.{first_number, Life, OneKernel, reached, Sound, Line, Receiver, to_of, after, labels, Spot, standing, Known, stands_right, machine_of, Run, after_replay, own_by, [], ◌∷◌, Message, What, Load, IsKindOfPlain}
-use Rattle.dm_mirror.proofs.Names.{kind_of, plain_kind, PlainWhat, plain_message, plain_what, with_what, bind, goes_out, lines_of, packet_line, puts, moved, own_id, MessageKind}
+use Rattle.dm_mirror.proofs.Names.{kind_of, plain_kind, plain_message, plain_what, bind, goes_out, lines_of, packet_line, puts, moved, own_id, MessageKind}
 use Rattle.dm_rulelaws.proofs.Goes.Always.{told_of}
 use Rattle.dm_mirror.proofs.Turning.{Elsewhere, Route, First, On, Own, MayPut, message_of, rule_part_of}
 use Rattle.dm_mirror.proofs.Others.{MadeHere, apart_tells, kernel_stays, pair_stays}

@@ -1,6 +1,6 @@
 -- Which machines there are, and what a message with places is without them.
 use Rattle.dm_mirror.proofs.Names.{◌≡◌, ◌≤◌, List, [], ◌∷◌, length, ap, ◌∙◌, sym, arith, Option, Some, nat_tests, Message, MsgId, plain_message, Boot, IsValid, OneKernel, bind, Step, Leads, Spelled, Point, first_point, group_of}
-use Rattle.dm_mirror.proofs.Names.{constant_group, Placed, inl, inr, ℕ, ◌+◌, ◌<◌, ◌==◌, Bool, true, false, refl, subst, is_some, Pid, pid_of, pid_eq, BootProcess, Label, first_number, process_named, Alive, BootImage, plain_link, map}
+use Rattle.dm_mirror.proofs.Names.{constant_group, Placed, inl, inr, ◌+◌, ◌<◌, ◌==◌, Bool, true, false, refl, subst, is_some, Pid, pid_of, pid_eq, BootProcess, Label, first_number, process_named, Alive, BootImage, plain_link, map}
 use Rattle.dm_mirror.proofs.Names.{slice_get, start, first_life, replay, pid_eq-is, bind-is, labels, group_replay, MadeStands}
 use Rattle.dm_laws.proofs.Names.{begun}
 use Rattle.dm_onekernel.specs.Step as kernel

@@ -1,9 +1,8 @@
 -- What the proofs of this crate name of what lies below it.
 pub use Rattle.std.proofs.lemmas.List.{drop-drop, drop-map}
-pub use Rattle.dm_link.specs.Places.{kernel_at as kernel_of}
 pub use Rattle.dm_records.proofs.Names.{Bool, IsSome, Option, Pid, Some, ap, arith, common_steps, cond, false, if◌then◌else◌, pid_eq, refl, sym, true, ◌∙◌, ◌≡◌}
 pub use Rattle.dm_records.specs.declared.record.Record.{Record}
-pub use Rattle.dm_processor.proofs.Names.{List, Row, [], drop, drop-append-le, instruction, length, nat_tests, replicate, suc, take, zero, ℕ, ◌*◌, ◌++◌, ◌+◌, ◌-◌, ◌/◌, ◌<◌, ◌^◌, ◌∷◌, ◌≤◌}
+pub use Rattle.dm_processor.proofs.Names.{List, Row, [], drop, drop-append-le, instruction, length, nat_tests, suc, take, zero, ℕ, ◌*◌, ◌++◌, ◌+◌, ◌-◌, ◌/◌, ◌<◌, ◌^◌, ◌∷◌, ◌≤◌}
 pub use Rattle.dm_room.proofs.Names.{HasTaken, slice_get}
 pub use Rattle.dm_room.specs.Room.{with_released}
 pub use Rattle.dm_wire.proofs.Cursor.{length_marked}
@@ -11,7 +10,7 @@ pub use Rattle.dm_wire.proofs.Names.{Sent, inl, inr}
 pub use Rattle.dm_stream.proofs.Follows.{MayCome-stands}
 pub use Rattle.dm_stream.proofs.Lists.{drop-more, get-drop}
 pub use Rattle.dm_stream.proofs.Names.{Ack, Acknowledge, Data, Deliver, DeliverBack, Event, Give, GoAgain, GoOut, OtherAck, OtherData, Receiving, Sending, Stream, TakeKept, cases_Bool, due, given_count, goes_again, happens, is_some}
-pub use Rattle.dm_stream.proofs.Names.{just_put, kept_once, kept_under, marked, max, moved_up, nat_lt, next, outstanding, place, slice_get_within, subst, window, ◌≢◌, ◌⊎◌}
+pub use Rattle.dm_stream.proofs.Names.{just_put, kept_once, kept_under, marked, max, moved_up, nat_lt, next, outstanding, slice_get_within, subst, window, ◌≢◌, ◌⊎◌}
 pub use Rattle.dm_stream.proofs.Places.{place-kept_other, place-kept_same, place-moved_up}
 pub use Rattle.dm_stream.proofs.Together.{StreamStands-happens, StreamStands-start}
 pub use Rattle.dm_stream.specs.Packets.{load_in}
@@ -26,7 +25,7 @@ unfoldable pub use Rattle.dm_packet.specs.Packets.{packet_of, read_rest, spellin
 pub use Rattle.dm_process.proofs.Names.{first_on, is_on, without_first_on}
 pub use Rattle.dm_process.specs.Process.{status_is_runnable}
 pub use Rattle.dm_linkupdate.proofs.Names.{IsLawfulProcess, IsLawfulStatus, None, Process, Status, applied}
-pub use Rattle.dm_statebytes.proofs.Names.{Direction, IsField-number, PacketError, Regs, begun_process, guard_ok, length-drop, shell_of, spell_slot, spell_status}
+pub use Rattle.dm_statebytes.proofs.Names.{Direction, IsField-number, PacketError, Regs, begun_process, guard_ok, length-drop, shell_of, spell_slot}
 pub use Rattle.dm_statebytes.proofs.Sizes.{numbers_size}
 unfoldable pub use Rattle.dm_statebytes.specs.Shell.{registers, shell_spelling}
 pub use Rattle.dm_migrate.proofs.Names.{All-append, All-cons, Arrival, CanMove, ComesByPieces, Departure, Err, HasBlock, HasChunk, HasPiece, IsNextPiece, PlainWhat, Result, Shell, after_block, after_chunk, block_of, chunk_of, coming}
@@ -35,8 +34,8 @@ pub use Rattle.dm_migrate.proofs.Way.{by_pieces}
 pub use Rattle.dm_migrate.specs.Answer.{IsAskOfProcess}
 pub use Rattle.dm_switchboard.proofs.Imports.{ArrayVec, Board, Named, named_is_behind, plain_board, plain_link, plain_named, switchboard}
 pub use Rattle.dm_switchboard.proofs.Plain.{plain_request}
-pub use Rattle.dm_procman.proofs.Names.{Boot, BootProcess, IsForManager, IsValid, Managing, PendingKind, PlainLink, answer_over, at_home, child_named, control_link, kernel_at, manager, message_to, moves_child, pending_is_behind}
-pub use Rattle.dm_procman.proofs.Names.{pending_request, plain_child, plain_manager, plain_pending, process_is_valid, processes_are_valid, slice_get-map, starting_at, tells_to_move, ◌||◌}
+pub use Rattle.dm_procman.proofs.Names.{Boot, BootProcess, IsForManager, IsValid, Managing, PendingKind, PlainLink, answer_over, at_home, child_named, control_link, kernel_at, manager, moves_child, pending_is_behind, pending_request}
+pub use Rattle.dm_procman.proofs.Names.{plain_child, plain_manager, plain_pending, process_is_valid, processes_are_valid, slice_get-map, starting_at, tells_to_move, ◌||◌}
 pub use Rattle.dm_procman.proofs.Plain.{plain_created, plain_moved, plain_no_room, plain_user}
 pub use Rattle.dm_procman.specs.Making.{address_at}
 pub use Rattle.dm_laws.proofs.Names.{Alive, BootImage, Called, Label, Life, Manager, MoveNote, Moving, OneKernel, Pending, PlainMessage, PlainProcess, PlainStatus, Ready, Reply, Switchboard, Waiting, Why, answer_id, answer_to, bind, entry}
@@ -58,16 +57,16 @@ pub use Rattle.dm_rule.proofs.Homes.Lines.{acting_label}
 pub use Rattle.dm_rule.proofs.Letters.{letter_of}
 pub use Rattle.dm_rule.proofs.Moves.Sent.{fits_packet, fits_put}
 pub use Rattle.dm_rule.proofs.Names.{About, Addresses, Again, Child, Completing, Directive, Ended, Fault, Forward, Frozen, Gets, Held, Here, HomeStands, Inbox, Incoming, IsIn, IsStep, IsToken, Known, LandsSo, Leads, Line, Load, Made, Moves}
-pub use Rattle.dm_rule.proofs.Names.{Name, NamedLink, Next, Nexts, NothingElse, Nowhere, Of, Over, Owns, Pair, Phase, Place, Point, Queue, Receiver, Rests, Room, Routes, Says, Sender, SentLoad, ServerSends, Slot, Sort, Sound, Spelled, Spot}
+pub use Rattle.dm_rule.proofs.Names.{Name, NamedLink, Next, Nexts, NothingElse, Nowhere, Of, Over, Owns, Pair, Phase, Place, Point, Queue, Receiver, Rests, Room, Routes, Says, Sender, SentLoad, ServerSends, Slot, Sound, Spelled, Spot}
 pub use Rattle.dm_rule.proofs.Names.{Stage, StandsAsBag, StandsNowhere, StandsOnce, StandsOutside, StandsRight, Step, Target, Todo, Told, Transmits, Unknown, Untaken, View, actor, addresses_after, after, after_label, after_line}
 pub use Rattle.dm_rule.proofs.Names.{after_packet, after_proto, after_put, after_step, alive-is, all_of, answers_move, ascends, at_hand-is, at_id, at_least, at_machine, at_pair, at_pid, at_record, begins, behind, behind_count, bind-is}
 pub use Rattle.dm_rule.proofs.Names.{board_takes_lem, child_number, chunks_of, comes_to, completing, counts, counts_process, dropped_for, ended, ends_move-is, filter, first_gives, first_point, first_view, fits, forward_about, forwarded_for}
 pub use Rattle.dm_rule.proofs.Names.{forwards_on, free_room, front_of, gets, given, goes_out, gone_after, gone_to, group_of, handled, has, has_mail, hears, id_eq-is, id_eq-same, id_eq-swap, ids_at, is_apart, is_away, is_between, is_counted}
-pub use Rattle.dm_rule.proofs.Names.{is_dropped, is_due, is_early, is_here, is_kernels, is_over, is_quiet, is_restart, is_told_back, kept_from, kernel_after, kernel_hears, kind_comes, kind_leaves, known_at, knows, label_of, lands-is}
-pub use Rattle.dm_rule.proofs.Names.{leaves_for, left_true, less, lines_of, machine_in, manager_takes_lem, migrates, migrates_child, more, moved, moved_back, next_step, nexts, not_server, numbers_from, oldest, option_and_then}
-pub use Rattle.dm_rule.proofs.Names.{option_map_or, outcome, own_given, own_id, packet_line, pair_is_quiet, pid_eq-is, pid_eq-same, pieces_of, place_of, place_told, plain_kind, process_told, puts, queued_for, receiver_in, receiver_of}
-pub use Rattle.dm_rule.proofs.Names.{repeats, resends, right_true, ring_at, routed_on, seen, sender_in, sends_on, slice_get_cases, slots_of, slots_with, sort_of, spelled, standing, takes_block, takes_chunk, taking_parts, target_of, times}
-pub use Rattle.dm_rule.proofs.Names.{to_kernel, to_of, token_in, told_between, told_ended, told_here, told_server, told_step, unentered, unmoved, untaken, updates, view_after, when-is, with_pair, without, without_front, without_id}
+pub use Rattle.dm_rule.proofs.Names.{is_dropped, is_due, is_early, is_here, is_kernels, is_quiet, is_restart, is_told_back, kept_from, kernel_after, kernel_hears, kind_comes, kind_leaves, known_at, knows, label_of, lands-is, leaves_for}
+pub use Rattle.dm_rule.proofs.Names.{left_true, less, lines_of, machine_in, manager_takes_lem, migrates, migrates_child, more, moved, moved_back, next_step, nexts, not_server, numbers_from, oldest, option_and_then, option_map_or, outcome}
+pub use Rattle.dm_rule.proofs.Names.{own_given, own_id, packet_line, pair_is_quiet, pid_eq-is, pid_eq-same, pieces_of, place_of, place_told, plain_kind, process_told, puts, queued_for, receiver_in, receiver_of, repeats, resends, right_true}
+pub use Rattle.dm_rule.proofs.Names.{ring_at, routed_on, seen, sender_in, sends_on, slice_get_cases, slots_of, slots_with, sort_of, spelled, standing, takes_block, takes_chunk, taking_parts, target_of, times, to_kernel, to_of, token_in}
+pub use Rattle.dm_rule.proofs.Names.{told_between, told_ended, told_here, told_server, told_step, unentered, unmoved, untaken, updates, view_after, when-is, with_pair, without, without_front, without_id}
 pub use Rattle.dm_rule.proofs.Pairs.{Pairs, pair_home, pair_stands, pairs_stand_always}
 pub use Rattle.dm_rule.proofs.Pairs.Comes.{less-right, more-is}
 pub use Rattle.dm_rule.proofs.Pairs.Lines.{AllFit, forwarded_pair, held_pair, label_pair, onward, pair_same, proto_pair, queued_pair, stage_pair, taken_pair, touches}
@@ -90,7 +89,6 @@ pub use Rattle.dm_rule.specs.Acts.{Act, act_of}
 pub use Rattle.dm_rule.specs.Ends.{Stood, first_with, standing_of, stood_at}
 pub use Rattle.dm_rule.specs.Good.{IsKept, first_undelivered, undelivered}
 pub use Rattle.dm_rule.specs.Migrating.{links_size, status_size}
-pub use Rattle.dm_rule.specs.Phases.{is_unknown}
 pub use Rattle.dm_rule.specs.Rule.{and, blocks_of, taken_at, taken_by, taken_of_home, takes_room}
 pub use Rattle.dm_rule.specs.View.{serving}
 pub use Rattle.dm_rule.specs.Worn.{full_route, is_full, worn_in}
@@ -104,7 +102,7 @@ pub use Rattle.dm_places.proofs.Keeps.{of_map, parts, there_of}
 pub use Rattle.dm_places.proofs.Labels.Serves.{plainly, plainly_is}
 pub use Rattle.dm_places.proofs.Lines.{lines_keep, mirrors_view, moves_label, routed_keeps, told_keeps}
 pub use Rattle.dm_places.proofs.Matches.{Ends, acted_with, answers_match, call_matches, completed_matches, fault_matches, lands_match, ran_matches}
-pub use Rattle.dm_places.proofs.Names.{Format, GroupNeeds, KeepsPlaces, Landed, Machine, Mirrors, MirrorsKernel, MirrorsPoint, Placed, StepNeeds, after_landing, and-both, asker_of, board_took, by_migrates, call_plainly, enclosed, ends_move}
+pub use Rattle.dm_places.proofs.Names.{GroupNeeds, KeepsPlaces, Landed, Machine, Mirrors, MirrorsKernel, MirrorsPoint, Placed, StepNeeds, after_landing, and-both, asker_of, board_took, by_migrates, call_plainly, enclosed, ends_move}
 pub use Rattle.dm_places.proofs.Names.{ends_plainly, first_told, goes_on_plainly, is_among, is_own, manager_request, manager_took, memory_of, moved_answer, not_kernels, or-right, or_second, placed_start, placed_step, plain_note}
 pub use Rattle.dm_places.proofs.Names.{plain_pending_numbered, sent_all, started, started_at, status_plainly, with_note, without_note}
 pub use Rattle.dm_places.proofs.OwnPuts.{child_place, no_child, own_put_mirrors}
@@ -141,7 +139,7 @@ pub use Rattle.dm_rulelaws.proofs.Fits.Start.{get_some}
 pub use Rattle.dm_rulelaws.proofs.Found.Groups.{told_there}
 pub use Rattle.dm_rulelaws.proofs.Found.Lists.{more_front}
 pub use Rattle.dm_rulelaws.proofs.Goes.Always.{front, goes_on, own_by, stands_first}
-pub use Rattle.dm_rulelaws.proofs.Goes.Front.{ForOthers, ForWhom, Front, begun, for_whom, here_free, home_of, is_manager, served_is, told_receiver}
+pub use Rattle.dm_rulelaws.proofs.Goes.Front.{ForWhom, Front, begun, for_whom, here_free, home_of, is_manager, served_is, told_receiver}
 pub use Rattle.dm_rulelaws.proofs.Goes.Own.{apart_is, is_it, source_knows}
 pub use Rattle.dm_rulelaws.proofs.Goes.Process.{alive_of, ended_of, gone_is}
 pub use Rattle.dm_rulelaws.proofs.Goes.Runs.{Both, RunGoes, RunStarts, both_group, both_start}
@@ -170,7 +168,7 @@ pub use Rattle.dm_node.specs.May.{FitsLoad}
 pub use Rattle.dm_node.specs.Out.{packet_of_load}
 pub use Rattle.dm_node.specs.Wired.{says}
 pub use Rattle.dm_world.proofs.Names.{AreReadBack, EndLine, MayDeliver, MayRead, MayStep, Out, Pass, Said, Sends, Spoken, Two, WorldState, acted, after_mark, arrives, awaited_lines, begin_pass, below, bytes_at, delivers, drop_all}
-pub use Rattle.dm_world.proofs.Names.{each_machine, first_awaited, first_had, first_says, first_unseen, gave_bytes, gave_read, gave_some, here_or_later, home_with, in_pass, is_pair, lines_in, list_line, names_of, next_delivery}
+pub use Rattle.dm_world.proofs.Names.{each_machine, first_awaited, first_had, first_says, first_unseen, gave_bytes, gave_read, gave_some, here_or_later, home_with, in_pass, is_over, is_pair, lines_in, list_line, names_of, next_delivery}
 pub use Rattle.dm_world.proofs.Names.{next_directive, next_pass, next_turn, or, pairs_of, pairs_with, reads, record_lines, record_queue, settles, slice_get_past, spoken, takes_turn, with_packet, world_step}
 pub use Rattle.dm_world.specs.Ends.{HasPlainEnd, alive_lines, come_lines, come_whole, held_for}
 pub use Rattle.dm_world.specs.Readable.{IsReadable, NodeReads, SenderReads, WiresRead, gave}

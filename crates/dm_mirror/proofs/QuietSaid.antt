@@ -1,7 +1,6 @@
 -- Whether anything is on its way, and whether a machine has mail, is what the printed lines say.
-use Rattle.dm_mirror.proofs.Names.{◌≡◌, ◌≢◌, ℕ, suc, ◌<◌, ◌==◌, ◌&&◌, Bool, true, false, not, List, map, length, nat_lt, refl, ap, ◌∙◌, sym, subst, arith, ◌||◌, Some, nat_tests, length-map, Message, MsgId, Boot, IsValid, Step, all_below}
-use Rattle.dm_mirror.proofs.Names.{all_same, Leads, HomeStands, Point, first_point, has_mail, is_quiet, pair_is_quiet, Pair, pairs_stand_always, passes_quiet, quiet_passes, Placed, WorldState, MailIsSaid, QuietIsSaid, History, PairStands}
-use Rattle.dm_mirror.proofs.Names.{Stands, StandsWith}
+use Rattle.dm_mirror.proofs.Names.{◌≡◌, ◌≢◌, ℕ, suc, ◌<◌, ◌==◌, ◌&&◌, Bool, true, false, not, List, length, refl, ap, ◌∙◌, sym, subst, arith, ◌||◌, nat_tests, length-map, Boot, IsValid, Step, all_below, all_same, Leads, HomeStands, Point}
+use Rattle.dm_mirror.proofs.Names.{first_point, has_mail, is_quiet, pair_is_quiet, Pair, pairs_stand_always, passes_quiet, quiet_passes, Placed, WorldState, MailIsSaid, QuietIsSaid, History, PairStands, Stands, StandsWith}
 use Rattle.dm_world.specs.Next as world
 use Rattle.dm_mirror.proofs.Machines.{machines_are}
 

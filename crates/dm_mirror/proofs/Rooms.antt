@@ -1,6 +1,6 @@
 -- What the processes of the lines take of a machine's room: it stays where each of them takes the same, and changes with one
 -- that takes something else, or is made.
-use Rattle.dm_mirror.proofs.Names.{◌≡◌, ◌≢◌, ℕ, zero, suc, ◌+◌, ◌<◌, ◌≤◌, refl, ap, ◌∙◌, sym, subst, inl, inr, arith, eqb_tells, Pid, pid_of, first_number, Point, Room, and, taken_by, taken_of_home, taken_at, nat_tests}
+use Rattle.dm_mirror.proofs.Names.{◌≡◌, ◌≢◌, ℕ, zero, suc, ◌+◌, ◌<◌, ◌≤◌, refl, ap, ◌∙◌, sym, inl, inr, arith, eqb_tells, Pid, pid_of, first_number, Point, Room, and, taken_by, taken_of_home, taken_at, nat_tests}
 
 -- a process of another home, or with another number
 home_apart : (home n : ℕ) (p : Pid) → home ≢ p.home → pid_of home n ≢ p

@@ -17,7 +17,6 @@ use Rattle.dm_mirror.proofs.Counts.Pairs.{line_ids}
 use Rattle.dm_mirror.proofs.Join.{line_put, lines_put, part_is, put_end, put_point}
 use Rattle.dm_mirror.proofs.Route.Parts.{Next, next_of}
 use Rattle.dm_line.specs.declared.line.Load.TheVariants as load
-use Rattle.dm_rule.specs.Acts as act
 use Rattle.dm_rule.specs.Parts as rule
 
 -- what the machine does, by its tests

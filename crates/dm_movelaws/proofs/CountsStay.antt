@@ -1,7 +1,7 @@
 -- The count of an address that a process or a server has doesn't fall until a step gives it a new one.
 use Rattle.dm_movelaws.proofs.Names.{◌≡◌, ℕ, ◌≤◌, ◌||◌, Bool, true, false, List, [], ◌∷◌, refl, ap, ◌∙◌, sym, subst, arith, nat_tests, Option, Some, Pid, Place, MsgId, MessageKind, OneKernel, bind-is, Line, Addresses, Holder, Receiver}
-use Rattle.dm_movelaws.proofs.Names.{Gets, holder_eq, gives, forwards, all_follow, own_given, first_gives, addresses_after, Point, label_of, kernel_after, moved, after_line, after, View, Told, is_owned, gives_to, is_filled, in_next}
-use Rattle.dm_movelaws.proofs.Names.{refilled, CountsStay, CountsKept, sort_of}
+use Rattle.dm_movelaws.proofs.Names.{Gets, holder_eq, forwards, all_follow, own_given, first_gives, addresses_after, Point, label_of, kernel_after, moved, after_line, after, View, Told, is_owned, gives_to, is_filled, in_next, refilled}
+use Rattle.dm_movelaws.proofs.Names.{CountsStay, CountsKept, sort_of}
 use Rattle.dm_movelaws.proofs.After.{group_after}
 use Rattle.dm_movelaws.proofs.Updates.Always.{updates_always}
 use Rattle.dm_movelaws.proofs.Promise.Slots.{neither as either, not_given}

@@ -1,7 +1,7 @@
 -- What the proofs of this crate name of what lies below it.
 pub use Rattle.std.proofs.Math.Seq.{drop-nil}
 pub use Rattle.std.proofs.lemmas.List.Elements.{filter-append}
-pub use Rattle.dm_processor.proofs.Names.{Bool, List, [], ap, arith, drop, false, instruction, length, nat_tests, refl, suc, sym, take, true, zero, ℕ, ◌++◌, ◌+◌, ◌-◌, ◌/◌, ◌<◌, ◌∙◌, ◌∷◌, ◌≡◌, ◌≤◌}
+pub use Rattle.dm_processor.proofs.Names.{Bool, List, [], ap, arith, drop, false, length, nat_tests, refl, suc, sym, take, true, zero, ℕ, ◌++◌, ◌+◌, ◌-◌, ◌/◌, ◌<◌, ◌∙◌, ◌∷◌, ◌≡◌, ◌≤◌}
 pub use Rattle.dm_linktable.proofs.Names.{Pid, first_empty, link_at, map, pid_eq, subst, ◌&&◌, ◌==◌, ◌≢◌}
 pub use Rattle.dm_schedule.proofs.Names.{append-nil, append_assoc, drop-length, if◌then◌else◌, nat_lt, not}
 pub use Rattle.dm_process.proofs.Names.{slice_get}
@@ -43,11 +43,11 @@ pub use Rattle.dm_rule.proofs.Names.{after, after_head, after_line, after_put, a
 pub use Rattle.dm_rule.proofs.Names.{both_true, burden_of, child_links, chunks_of, counts, counts_process, destination, enclosed_from, encloses, ends_by, ends_move-is, filter, first_gives, first_point, first_trails, first_trodden}
 pub use Rattle.dm_rule.proofs.Names.{first_view, forwarded_for, forwards, forwards_on, front_of, given, gives, gives_piece, goes_out, goes_round, gone_to, group_of, handled, handled_first, hears, held_for, holder_eq, id_eq-is, id_eq-same}
 pub use Rattle.dm_rule.proofs.Names.{ids_at, is_away, is_behind, is_between, is_counted, is_due, is_early, is_here, is_kernels, is_over, is_pid, is_restart, is_told_back, kernel_after, kernel_hears, kind_comes, kind_leaves, knowing, knows}
-pub use Rattle.dm_rule.proofs.Names.{label_of, lands-is, leads_to, leaves, leaves_for, left_true, length-append, lines_of, link_target, machine_in, manager_sends, manager_takes_burden, manager_takes_lem, manager_tells_burden, migrates}
-pub use Rattle.dm_rule.proofs.Names.{move_target, moved, name_link, not_server, outcome, own_given, own_id, packet_line, pending_of, pid_eq-is, pid_eq-same, pieces_of, place_told, plain_kind, process_told, puts, receiver_in, receiver_of}
-pub use Rattle.dm_rule.proofs.Names.{receives_burden, receives_links, released, right_true, seen, sender_in, sender_of, sends_burden, sends_on, sent_at, sent_off, served_told, slice_get_cases, slice_get_within, slot_after, slot_of, sort_of}
-pub use Rattle.dm_rule.proofs.Names.{spelled, standing, start-sound, stayed, taken_id, takes_block, takes_chunk, target_of, tells_asker, times, to_kernel, to_of, token_in, told_between, told_ended, told_here, told_server, told_step}
-pub use Rattle.dm_rule.proofs.Names.{topic_by, trails_after, unmoved, untaken, updated, updates, view_after, why_ended-is, with_pair, with_ring, without_front, without_id, ◌||◌}
+pub use Rattle.dm_rule.proofs.Names.{label_of, lands-is, leads_to, leaves, leaves_for, left_true, length-append, lines_of, link_target, machine_in, manager_sends, manager_takes_burden, manager_takes_lem, migrates, move_target, moved}
+pub use Rattle.dm_rule.proofs.Names.{name_link, not_server, outcome, own_given, own_id, packet_line, pending_of, pid_eq-is, pid_eq-same, pieces_of, place_told, plain_kind, process_told, puts, receiver_in, receiver_of, receives_burden}
+pub use Rattle.dm_rule.proofs.Names.{receives_links, released, right_true, seen, sender_in, sender_of, sends_burden, sends_on, sent_at, sent_off, served_told, slice_get_cases, slice_get_within, slot_after, slot_of, sort_of, spelled}
+pub use Rattle.dm_rule.proofs.Names.{standing, start-sound, stayed, taken_id, takes_block, takes_chunk, target_of, tells_asker, times, to_kernel, to_of, token_in, told_between, told_ended, told_here, told_server, told_step, topic_by}
+pub use Rattle.dm_rule.proofs.Names.{trails_after, unmoved, untaken, updated, updates, view_after, why_ended-is, with_pair, with_ring, without_front, without_id, ◌||◌}
 pub use Rattle.dm_rule.proofs.Once.{one_of-same}
 pub use Rattle.dm_rule.proofs.Pairs.Lines.{AllFit, line_view, onward, pair_same, taken_pair, touches}
 pub use Rattle.dm_rule.proofs.Pairs.Migrating.{migrates_fit}

@@ -1,6 +1,6 @@
 -- Lines that are no steps leave the kernel with places as it is, and a line that is one leads on.
-use Rattle.dm_places.proofs.Names.{◌≡◌, ℕ, List, refl, ap, ◌∙◌, sym, subst, Option, None, Some, Pid, MsgId, plain_kind, Stage, PlainMessage, MessageKind, Label, OneKernel, Line, About, View, Told, after_label, handled, view_after}
-use Rattle.dm_places.proofs.Names.{Addresses, Gets, first_gives, given, own_given, Point, Placed, Mirrors, KeepsPlaces, LinesKeep, own_none, first_none, ◌+◌, ◌==◌, not, filter, Pair, seen, sort_of, arith, nat_tests}
+use Rattle.dm_places.proofs.Names.{◌≡◌, ℕ, List, refl, ap, ◌∙◌, sym, subst, Option, Some, Pid, MsgId, plain_kind, Stage, PlainMessage, MessageKind, Label, OneKernel, Line, About, View, Told, after_label, handled, view_after, Addresses}
+use Rattle.dm_places.proofs.Names.{Gets, first_gives, given, own_given, Point, Placed, Mirrors, KeepsPlaces, LinesKeep, own_none, first_none, ◌+◌, ◌==◌, not, filter, Pair, seen, sort_of, arith, nat_tests}
 use Rattle.dm_rule.specs.View as view
 
 -- another view, in which as many moves are counted
@@ -8,8 +8,7 @@ pub mirrors_view : (s : OneKernel) (v w : View) (a : Addresses) (l : Placed) →
 mirrors_view s v w a l e h = search arith
 
 moves_kills : (v : View) (k : MessageKind) (o : Option Pid) → (view.ends_by (sort_of k) v o).moves ≡ v.moves
-moves_kills v MessageKind.Kill (Some p) = refl
-moves_kills v k o = refl
+moves_kills v k o = search arith
 
 pub moves_label : (v : View) (e : Label) → (after_label v e).moves ≡ v.moves
 moves_label v e = grind (arith, nat_tests, moves_kills)
@@ -27,9 +26,7 @@ moves_on : (v : View) (a : About) → (view.asks_on v a).moves ≡ v.moves
 moves_on v a = search arith
 
 moves_proto : (v : View) (o : Option Told) → (view.after_proto v o).moves ≡ v.moves
-moves_proto v None = refl
-moves_proto v (Some t) = elim t.kind as (λ k. (view.follows_by v t.about (sort_of k)).moves ≡ v.moves)
-    [ MessageKind.State ↦ moves_on v t.about | MessageKind.Memory ↦ moves_on v t.about | _ ↦ refl ]
+moves_proto v o = search (arith, moves_on)
 
 moves_sets : (v : View) (p : Pid) (a : About) → (view.sets_off v p a).moves ≡ v.moves
 moves_sets v p a = search arith
@@ -44,8 +41,7 @@ pub told_keeps : (pt : Point) (from to : ℕ) (id : MsgId) (k : MessageKind) (q 
 told_keeps pt from to id k q t told = ap (λ (o : Option Told). first_gives o (own_given pt.kernel pt.view pt.addresses id q (sort_of k))) told
 
 pub routed_keeps : (pt : Point) (from to : ℕ) (id : MsgId) (m : PlainMessage) → KeepsPlaces pt (Line.Put from to id (plain_kind m.what) m.to)
-routed_keeps pt from to id m =
-    first_none (pt.view.told id) (own_given pt.kernel pt.view pt.addresses id m.to (sort_of (plain_kind m.what))) (own_none pt.kernel pt.view pt.addresses id m.to m.what)
+routed_keeps pt from to id m = search (arith, first_none, own_none)
 
 pub lines_keep : LinesKeep
 lines_keep pt pt' l (Line.Head d) keeps h e = search (arith, says)

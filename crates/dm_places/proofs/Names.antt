@@ -3,7 +3,6 @@ pub use Rattle.std.proofs.lemmas.List.Sums.{sum_by-cons}
 pub use Rattle.dm_processor.proofs.Names.{Bool, List, Row, [], ap, arith, cond, drop, false, length, nat_tests, past, refl, replicate, suc, sym, take, true, zero, ℕ, ◌++◌, ◌+◌, ◌-◌, ◌∙◌, ◌∷◌, ◌≡◌, ◌≤◌}
 unfoldable pub use Rattle.dm_processor.specs.Instructions.{instruction}
 pub use Rattle.dm_room.proofs.Names.{remove, slice_get}
-pub use Rattle.dm_message.specs.Plain.{Read, Write}
 pub use Rattle.dm_linktable.proofs.Names.{Link, Pid, count_by, first_empty, is_none, length-map, link_at, map, pid_eq, plain_slot, slot_is_behind, subst, ◌&&◌, ◌==◌}
 pub use Rattle.dm_linktable.proofs.Plain.{plain_map_retargeted}
 pub use Rattle.dm_schedule.proofs.Names.{if◌then◌else◌, nat_lt, not}
@@ -29,7 +28,7 @@ pub use Rattle.dm_laws.proofs.Names.{false≢true, first_failed, first_number, i
 pub use Rattle.dm_laws.proofs.Servers.{note-is}
 pub use Rattle.dm_datamove.proofs.Landings.{ends_plainly, goes_on_plainly}
 pub use Rattle.dm_datamove.proofs.Names.{Landing, after_serving, answer, answer_of, answer_with, gone_answer, landing, piece_of, plain_landed, plain_process, plain_status, serving_answer, written_at}
-pub use Rattle.dm_datamove.specs.Requests.{address_of, moving, request}
+pub use Rattle.dm_datamove.specs.Requests.{address_of}
 pub use Rattle.dm_datamove.specs.declared.Landed.{Landed}
 pub use Rattle.dm_syscall.proofs.Completes.{status_plainly}
 pub use Rattle.dm_syscall.proofs.Names.{Completion, Done, Rest, User, calls, completes, completes_unless, completion, cons_option, emptied, links_in, map-set, on_mask, plain_called, plain_completed, what_is_on}
@@ -52,8 +51,8 @@ pub use Rattle.dm_rule.proofs.Names.{Place, Point, Receiver, Routes, Says, Sende
 pub use Rattle.dm_rule.proofs.Names.{after_line, after_step, all_follow, answer_gets, answer_link, ascends, at_hand-is, at_pid, behind, behind_count, belongs_to, bind-is, board_finds, board_keeps, board_takes_burden, burden_of, call_gets}
 pub use Rattle.dm_rule.proofs.Names.{child_from, child_links, child_number, enclosed_from, encloses, ends_move-is, fills, fills_by, filter, filter_map, first_addresses, first_gives, first_point, first_view, forwarded_for, forwards, gets}
 pub use Rattle.dm_rule.proofs.Names.{given, gives, group_of, handled, id_eq-is, id_eq-same, id_eq-swap, is_kernels, is_told_back, kernel_after, label_of, landing_gets, leads_to, lines_of, link_target, links_at, manager_answers}
-pub use Rattle.dm_rule.proofs.Names.{manager_sends, manager_takes_burden, moved, nth_child, option_map_or, outcome, own_given, own_id, owner_in, owner_of, pid_eq-is, pid_eq-same, place_known, place_named, place_of, place_told, plain_kind}
-pub use Rattle.dm_rule.proofs.Names.{puts, receiver_of, receives_burden, receives_links, reply_eq, seen, sends_burden, serves_burden, slot_after, slots_of, slots_with, sort_of, spelled, standing, start-sound, times, told_back_gets, unmoved}
+pub use Rattle.dm_rule.proofs.Names.{manager_sends, manager_takes_burden, moved, option_map_or, outcome, own_given, own_id, owner_in, owner_of, pid_eq-is, pid_eq-same, place_known, place_named, place_of, place_told, plain_kind, puts}
+pub use Rattle.dm_rule.proofs.Names.{receiver_of, receives_burden, receives_links, reply_eq, seen, sends_burden, serves_burden, slot_after, slots_of, slots_with, sort_of, spelled, standing, start-sound, times, told_back_gets, unmoved}
 pub use Rattle.dm_rule.proofs.Names.{updated, updated_to, view_after, when-is, why_eq}
 pub use Rattle.dm_rule.proofs.Pairs.Moves.{or_first, or_first as or_second}
 pub use Rattle.dm_rule.proofs.Requests.{by_migrates}

@@ -1,8 +1,8 @@
 -- A message that a machine's kernel sends itself, where it is put for the first time.
 use Rattle.dm_places.proofs.Names.{◌≡◌, ℕ, zero, suc, ◌+◌, Bool, false, List, [], ◌∷◌, map, refl, ap, ◌∙◌, sym, subst, ◌⊎◌, inl, inr, arith, if◌then◌else◌, cond, slice_get, Option, None, Some, cases_Bool, Pid, Addr, Place, pid_eq}
-use Rattle.dm_places.proofs.Names.{nat_tests, place_of, MsgId, Message, Line, MessageKind, id_eq, plain_message, plain_child, child_named, manager, Manager, OneKernel, pid_eq-swap, Told, View, own_id, view_after, Addresses, Child, Gets}
-use Rattle.dm_places.proofs.Names.{Receiver, Sender, child_from, child_number, first_gives, given, own_given, unmoved, Point, moved, SameMessage, SameProcess, SameServers, two, two_off, two_process, two_servers, Placed, Mirrors}
-use Rattle.dm_places.proofs.Names.{MirrorsMessage, enclosed, MirrorsPoint, with_message, Sort, sort_of, option_map_or}
+use Rattle.dm_places.proofs.Names.{nat_tests, place_of, MsgId, Message, Line, MessageKind, id_eq, plain_message, plain_child, child_named, Manager, OneKernel, pid_eq-swap, Told, View, own_id, view_after, Addresses, Child, Gets, Receiver}
+use Rattle.dm_places.proofs.Names.{Sender, child_from, child_number, first_gives, given, own_given, Point, moved, SameMessage, SameProcess, SameServers, two, two_off, two_process, two_servers, Placed, Mirrors, MirrorsMessage, enclosed}
+use Rattle.dm_places.proofs.Names.{MirrorsPoint, with_message, Sort, sort_of}
 use Rattle.dm_places.proofs.Keeps.{stays_message, stays_process, stays_servers}
 use Rattle.dm_places.proofs.Following.Changed.{free_mirrors, kernel_again, places_message, this_message}
 use Rattle.dm_places.proofs.Lines.{mirrors_view}
@@ -12,10 +12,7 @@ abbrev OwnGives : OneKernel → View → Addresses → MsgId → Pid → Sort �
 OwnGives s v a id q w = (own_given s v a id q w ≡ []) ⊎ ((to : Place) × (from : Place) × (own_given s v a id q w ≡ two id to from))
 
 own_are_by : (s : OneKernel) (v : View) (a : Addresses) (id : MsgId) (q : Pid) (w : Sort) → OwnGives s v a id q w
-own_are_by s v a id q Sort.Request = inr (option_map_or (λ c. a (Child c)) (child_number s q) (unmoved 0), unmoved v.acting, refl)
-own_are_by s v a id q (Sort.Between passage) = inr (unmoved q.home, unmoved v.acting, refl)
-own_are_by s v a id q Sort.Unsent = inr (unmoved q.home, unmoved v.acting, refl)
-own_are_by s v a id q _ = inl refl
+own_are_by s v a id q w = search arith
 
 -- no other holder gets any
 record OnlyFor (a b : Addresses) (id : MsgId) : Type 0 where
@@ -27,10 +24,7 @@ only_two : (a : Addresses) (id : MsgId) (to from : Place) → OnlyFor a (given a
 only_two a id to from = record { processes = two_process a id to from; others = two_off a id to from; servers = two_servers a id to from }
 
 only_own : (s : OneKernel) (v : View) (a : Addresses) (id : MsgId) (q : Pid) (k : MessageKind) → OnlyFor a (given a (own_given s v a id q (sort_of k))) id
-only_own s v a id q k = elim (own_are_by s v a id q (sort_of k)) [
-  | inl e ↦ subst (λ (g : List Gets). OnlyFor a (given a g) id) (sym e) (record { processes = stays_process a; others = λ i e. stays_message a i; servers = stays_servers a })
-  | inr e ↦ subst (λ (g : List Gets). OnlyFor a (given a g) id) (sym e.2) (only_two a id e.0 e.1)
-]
+only_own s v a id q k = search (arith, own_are_by, stays_process, stays_message, stays_servers, only_two)
 
 -- a message without links that has its places by then
 pub own_put_mirrors : (pt : Point) (l : Placed) (from to : ℕ) (k : MessageKind) (q : Pid) (y : Message) → MirrorsPoint pt l → plain_message y ≡ None → enclosed y.what ≡ [] → pt.kernel.bag y.id ≡ None → pt.view.told y.id ≡ None

@@ -1,7 +1,7 @@
 -- Where a run begins, the boot file's processes with their links mirror the first point.
-use Rattle.dm_places.proofs.Names.{◌≡◌, ℕ, zero, suc, ◌-◌, Bool, List, [], ◌∷◌, length, refl, ap, ◌∙◌, sym, subst, inl, inr, if◌then◌else◌, map, option_map, slice_get, Option, None, Some, cases_Bool, Pid, Addr, Link, pid_eq, place_of}
-use Rattle.dm_places.proofs.Names.{plain_link, Process, begun_process, BootImage, BootProcess, Boot, slots_of, Alive, Life, plain_process, memory_of, slots_with, child_at_home, plain_child, child_address, pid_eq-is, first_view}
-use Rattle.dm_places.proofs.Names.{first_addresses, links_at, nth_child, unmoved, MirrorsProcess, started, started_at, StartMirrors, option_map_or, arith}
+use Rattle.dm_places.proofs.Names.{◌≡◌, ℕ, zero, suc, Bool, List, [], ◌∷◌, refl, ap, ◌∙◌, sym, inl, inr, if◌then◌else◌, map, option_map, slice_get, Option, None, Some, cases_Bool, Pid, Addr, pid_eq, place_of, plain_link, Process}
+use Rattle.dm_places.proofs.Names.{begun_process, BootImage, BootProcess, Boot, slots_of, Alive, Life, plain_process, memory_of, slots_with, child_at_home, plain_child, pid_eq-is, first_view, first_addresses, links_at, unmoved}
+use Rattle.dm_places.proofs.Names.{MirrorsProcess, started, started_at, StartMirrors, option_map_or, arith}
 use Rattle.dm_places.proofs.Labels.Creates.{begun_link, begun_plainly}
 use Rattle.dm_onekernel.specs.Start as one
 use Rattle.dm_onekernel.specs.Step as kernel
@@ -28,17 +28,7 @@ children_plainly (p ∷ ps) = ap (λ (qs : List Pid). p.pid ∷ qs) (children_pl
 -- its links are the file's
 begun_kept : (b : Boot) (p : BootProcess) (q : Pid) (x : Process) (o : Option BootImage) → p.pid ≡ q → links_at b.processes q ≡ p.links
     → option_map (λ image. begun_process p.pid (memory_of image) (slots_with (slots_of b.format) p.links)) o ≡ Some x → MirrorsProcess (first_view b) (first_addresses b) q x
-begun_kept b p q x None name at e = cc
-begun_kept b p q x (Some image) name at e =
-    let f : begun_process p.pid (memory_of image) (slots_with (slots_of b.format) p.links) ≡ x = cc in
-    subst (MirrorsProcess (first_view b) (first_addresses b) q) f
-    (record {
-      pid = name;
-      moves = refl;
-      slots = λ k w there.
-          ap (λ (ls : List Link). option_map_or (λ z. place_of z.addr) (slice_get ls k) (unmoved 0)) at ∙ ap (λ (o : Option Link). option_map_or (λ z. place_of z.addr) o (unmoved 0)) (begun_link p.links (slots_of b.format - length p.links) k w there);
-      owner = λ o moving. absurd (let g : None ≡ Some o = moving in cc);
-    })
+begun_kept b p q x o h1 h2 h3 = search (arith, begun_link)
 
 started_kept : (b : Boot) (ps : List BootProcess) (q : Pid) (x : Process) → links_at b.processes q ≡ links_at ps q → started_at b ps q ≡ Some x → MirrorsProcess (first_view b) (first_addresses b) q x
 started_kept b [] q x at e = cc
@@ -56,24 +46,4 @@ child_kept_of (p ∷ ps) zero c e = let f : child_at_home p ≡ c = cc in ap pla
 child_kept_of (p ∷ ps) (suc n) c e = child_kept_of ps n c e
 
 pub start_mirrors : StartMirrors
-start_mirrors b = record {
-  plain = record {
-    processes = started_plainly b b.processes;
-    bag = λ i. refl;
-    board = refl;
-    manager = ap (λ (cs : List Pid). record { children = cs; pending = []; sent = 0 }) (children_plainly b.processes);
-    machines = refl;
-    images = refl;
-    notes = λ p. refl;
-    noted = λ i. refl;
-  };
-  places = record {
-    process = λ q x e. started_kept b b.processes q x refl e;
-    message = λ i m e. absurd (let f : None ≡ Some m = e in cc);
-    name = λ n k e. absurd (let f : None ≡ Some k = e in cc);
-    child = λ n c e. (elim n as (λ n_. child_address (map child_at_home b.processes) n_ ≡ Some c → unmoved (option_map_or (λ (p : BootProcess). p.pid.home) (nth_child b.processes n_) 0) ≡ place_of c)
-        [ zero ↦ λ e_. cc | suc f ↦ λ e_. child_kept_of b.processes f c e_ ]) e;
-    answer = λ n r e. absurd (let f : None ≡ Some r = e in cc);
-    asker = λ p k e. absurd (let f : None ≡ Some k = e in cc);
-  };
-}
+start_mirrors b = search (arith, started_plainly b b.processes, children_plainly, started_kept, child_kept_of)

@@ -1,8 +1,7 @@
 -- What deliveries and ticks say keeps that each message stands once; and so does every group.
-use Rattle.dm_rule.proofs.Names.{◌≡◌, ◌≢◌, ℕ, zero, suc, ◌+◌, ◌-◌, ◌≤◌, ◌==◌, Bool, true, false, not, filter, List, [], ◌∷◌, ◌++◌, refl, ap, ◌∙◌, sym, subst, nat_lt, arith, length, ⊤, if◌then◌else◌, slice_get, Option, None, Some}
-use Rattle.dm_rule.proofs.Names.{false≢true, nat_tests, MsgId, bind, OneKernel, Step, Line, Load, View, Pair, view_after, Point, label_of, kernel_after, moved, after_line, Part, Says, Transmits, Spelled, packet_line, spelled, Spot, Queue}
-use Rattle.dm_rule.proofs.Names.{Untaken, ids_at, standing, bind-is, Boot, group_of, IsValid, SentLoad, after_head, pair_window, first_point, Leads, StandsOnceAlways, first_view, start-sound, inl, inr, Pid, PlainMessage, to_of, migrates}
-use Rattle.dm_rule.proofs.Names.{StandsAsBag, StandsOutside, StandsRight, is_kernels}
+use Rattle.dm_rule.proofs.Names.{◌≡◌, ℕ, zero, suc, ◌+◌, ◌-◌, ◌≤◌, ◌==◌, Bool, true, false, not, filter, List, [], ◌∷◌, ◌++◌, refl, ap, ◌∙◌, arith, length, ⊤, if◌then◌else◌, slice_get, Option, None, Some, nat_tests, MsgId, bind, OneKernel}
+use Rattle.dm_rule.proofs.Names.{Step, Line, Load, View, Pair, view_after, Point, label_of, kernel_after, moved, after_line, Part, Says, Transmits, Spelled, packet_line, spelled, Spot, Queue, Untaken, ids_at, standing, bind-is, Boot}
+use Rattle.dm_rule.proofs.Names.{group_of, IsValid, SentLoad, after_head, pair_window, first_point, Leads, StandsOnceAlways, start-sound, Pid, PlainMessage, migrates, StandsAsBag, StandsOutside, StandsRight}
 use Rattle.dm_rule.proofs.Lines.{Stands-stays, Stands-taken, pair_keeps, eq_is, eq_self}
 use Rattle.dm_rule.proofs.States.{State, says_next, transmits_next, said, State-at, by_line, by_packet, PairsFit}
 use Rattle.dm_rule.proofs.Handled.{turns_row}

@@ -2,7 +2,7 @@
 use Rattle.dm_rule.proofs.Names.{◌≡◌, ℕ, ◌+◌, ◌≤◌, ◌==◌, Bool, true, false, List, [], ◌∷◌, refl, ap, ◌∙◌, sym, subst, arith, length, if◌then◌else◌, slice_get, Option, None, Some, Pid, pid_eq, MsgId, Label, PlainMessage, PlainWhat, bind}
 use Rattle.dm_rule.proofs.Names.{OneKernel, Line, at_record, without_id, View, view_after, handled, receiver_of, Point, label_of, kernel_after, moved, Part, Says, Routes, Spelled, spelled, Spot, Queue, times, ids_at, id_eq-same, bind-is}
 use Rattle.dm_rule.proofs.Names.{Boot, BootImage, Why, first_number, switchboard, manager, PlainProcess, PlainStatus, Ready, Waiting, Moving, answer_id, pid_of, forwards_on, says, drop_parts, plain_kind, instruction, NothingElse, Outcome}
-use Rattle.dm_rule.proofs.Names.{Target, answers_move, asked_to_move, leaves_for, machine_in, move_target, nat_tests}
+use Rattle.dm_rule.proofs.Names.{Target, answers_move, asked_to_move, leaves_for, machine_in, move_target}
 use Rattle.dm_onekernel.specs.Step as kernel
 use Rattle.dm_rule.specs.View as view
 use Rattle.dm_rule.proofs.Lines.{Stands-queued, Stands-dequeued, without_counts}
@@ -72,7 +72,10 @@ executes_row pt quantum p queue x r w h fits is e =
     (maybe_stops next p queue (r.count == quantum) (kernel.next_row p (kernel.with_machine x r.machine) (instruction r.machine.regs r.machine.bytes)) k.rest there (fits_as pt.view next.view refl fits) is k.more)
 
 awaited_if : (s : OneKernel) (mask : ℕ) (i : MsgId) (is : List MsgId) (id : MsgId) (b : Bool) → (if b then Some i else rule.first_awaited s mask is) ≡ Some id → (rule.first_awaited s mask is ≡ Some id → 1 ≤ times id is) → 1 ≤ times id (i ∷ is)
-awaited_if s mask i is id b h1 h2 = search (arith, id_eq-same)
+awaited_if s mask i is id true e later =
+    let f : i ≡ id = cc in
+    let one : one_of id i ≡ 1 = ap (one_of id) f ∙ ap (λ (c : Bool). if c then 1 else 0) (id_eq-same id) in omega (arith, one)
+awaited_if s mask i is id false e later = let k = later e in omega (arith, k)
 
 -- the message that a waiting process takes stands in its queue
 awaited_stands : (s : OneKernel) (mask : ℕ) (queue : List MsgId) (id : MsgId) → rule.first_awaited s mask queue ≡ Some id → 1 ≤ times id queue
@@ -80,7 +83,8 @@ awaited_stands s mask [] id e = cc
 awaited_stands s mask (i ∷ is) id e = awaited_if s mask i is id (rule.is_awaited mask (s.bag i)) e (λ k. awaited_stands s mask is id k)
 
 received_off : (v : View) (p : Pid) (rest : List MsgId) (z : Spot) → ids_at (record (view.serving v p) { queue = at_record v.queue v.acting p rest }) z ≡ ids_at (record v { queue = at_record v.queue v.acting p rest }) z
-received_off v p rest z = grind (arith, nat_tests)
+received_off v p rest (Queue m q) = refl
+received_off v p rest _ = refl
 
 completes_row : (pt : Point) (p : Pid) (id : MsgId) (c : receiving.Completed) (w : Spelled) → State None pt → 1 ≤ times id (pt.view.queue pt.view.acting p) → spelled pt (rule.completion_parts p id c) ≡ Some w → State None w.point
 completes_row pt p id (receiving.Receives x) w h there e =
@@ -125,7 +129,11 @@ asks_row : (pt : Point) (m : ℕ) (i : MsgId) (is : List MsgId) (msg : PlainMess
     → spelled pt (asked_to_move m i msg.to to) ≡ Some w → State None w.point
 asks_row pt m i is msg to w h fits front there what e =
     let l = Label.Asked i in
-    search (arith, says_next, asked_state, State-at, asked_by, fits_as)
+    let k = says_next pt (Line.Label l) (if m == to then answers_move i Outcome.Done else leaves_for msg.to to) w e in
+    let next = moved pt (Line.Label l) k.s in
+    let asked = asked_state pt i is k.s h front k.is in
+    let topic : next.view.topic ≡ Target to = ap machine_in there ∙ ap move_target what in
+    State-at None k.rest.point w.point k.point (asked_by next i msg.to to (m == to) k.rest asked (fits_as pt.view next.view refl fits) topic k.more)
 
 dropped_row : (pt : Point) (i : MsgId) (is : List MsgId) (w : Spelled) → State None pt → pt.view.inbox pt.view.acting ≡ i ∷ is → spelled pt (says (Label.Dropped i) ∷ []) ≡ Some w → State None w.point
 dropped_row pt i is w h front e =
@@ -155,7 +163,8 @@ served_put pt i m x s h there alive k =
     let q = bag_served h.r h.e pt.kernel s i k h.sound in
     let same : q.m ≡ m = let t = q.there in let u : Some q.m ≡ Some m = sym t ∙ there in cc in
     let was : kernel.alive (pt.kernel.processes m.to) ≡ Some q.x = ap (λ (y : PlainMessage). kernel.alive (pt.kernel.processes y.to)) (sym same) ∙ ap kernel.alive q.alive in
-    search arith
+    let also : q.x ≡ x = let u : Some q.x ≡ Some x = sym was ∙ alive in cc in
+    subst (λ y. BagStep h.e pt.kernel s (Some i) (served_id i m y m.what)) also (subst (λ (n : PlainMessage). BagStep h.e pt.kernel s (Some i) (served_id i n q.x n.what)) same q.is)
 
 served_alone : (pt : Point) (i : MsgId) (is : List MsgId) (m : PlainMessage) (x : PlainProcess) (w : Spelled) (h : State None pt) → pt.view.inbox pt.view.acting ≡ i ∷ is → pt.kernel.bag i ≡ Some m → kernel.alive (pt.kernel.processes m.to) ≡ Some x
     → served_id i m x m.what ≡ None → spelled pt (says (Label.Served i) ∷ []) ≡ Some w → State None w.point

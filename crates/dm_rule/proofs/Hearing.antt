@@ -1,8 +1,7 @@
 -- A kernel's own message is handled: what comes of it, row by row. Whatever holds of the parts of each row holds of what comes of the message.
-use Rattle.dm_rule.proofs.Names.{◌≡◌, ℕ, ◌==◌, ◌||◌, Bool, true, false, List, [], ◌∷◌, ◌++◌, refl, ap, ◌∙◌, subst, length, ◌/◌, ⊤, if◌then◌else◌, Option, None, Some, Pid, pid_of, pid_eq, MsgId, MessageKind, Line, Stage, Boot, switchboard}
-use Rattle.dm_rule.proofs.Names.{manager, PlainProcess, Told, About, Of, Known, Unknown, Here, Frozen, Incoming, Forward, Ended, target_of, Point, Part, Says, Again, Owns, Addresses, Sender, is_told_back, place_told, to_kernel, forwards_on}
-use Rattle.dm_rule.proofs.Names.{accepts, takes_chunk, takes_block, gives_piece, sends_on, leaves, told_step, chunks_of, pieces_of, updates, told_here, told_ended, process_told, told_server, fits, free_room, kernel_hears, hears, bind-is}
-use Rattle.dm_rule.proofs.Names.{behind_count, Label, MoveNote, Outcome, Routes, answer_id, answers_move, tells_asker, leaves_for, sort_of, arith}
+use Rattle.dm_rule.proofs.Names.{◌≡◌, ℕ, ◌==◌, ◌||◌, Bool, false, List, [], ◌∷◌, ◌++◌, refl, subst, length, ⊤, if◌then◌else◌, Option, None, Some, Pid, pid_of, pid_eq, MsgId, MessageKind, Line, Stage, Boot, switchboard, manager}
+use Rattle.dm_rule.proofs.Names.{PlainProcess, Told, About, Of, Known, Here, Frozen, Incoming, Forward, Ended, Point, Part, Says, Again, Owns, Addresses, place_told, to_kernel, forwards_on, gives_piece, sends_on, leaves, told_step, updates}
+use Rattle.dm_rule.proofs.Names.{told_here, told_ended, process_told, told_server, kernel_hears, hears, bind-is, behind_count, MoveNote, Outcome, answers_move, tells_asker, leaves_for, sort_of, arith}
 use Rattle.dm_rule.proofs.Requests.{by_test}
 use Rattle.dm_onekernel.specs.Step as kernel
 
@@ -62,59 +61,28 @@ by_leaves P o m id p ids (Frozen to) ps lists h is e = given P (left_parts id p 
 by_leaves P o m id p ids _ ps lists h is e = cc
 
 by_told : (P : List Part → Type 0) (o : Point) (m : ℕ) (id : MsgId) (p : Pid) (room : Bool × ℕ × ℕ) (x : PlainProcess) (k : MessageKind) (ps : List Part) → Tells P o m id k p → told_step o m id p room x (sort_of k) ≡ Some ps → P ps
-by_told P o m id p room x MessageKind.Ask ps h e =
-    given P (accepts id.from.home p room.0 room.1 room.2) ps
-    (by_test P room.0 (Says (Line.Migration Stage.Accepted p) ∷ to_kernel MessageKind.PullState id.from.home ∷ []) (Says (Line.Lacks p room.1 room.2) ∷ to_kernel MessageKind.Refuse id.from.home ∷ []) (h.accepted refl) (h.lacks room.1 room.2)) e
-by_told P o m id p room x MessageKind.Refuse ps h e =
-    given P (Says (Line.Stays p) ∷ tells_asker (o.kernel.notes p) Outcome.Stayed) ps (by_asker P (Line.Stays p) Outcome.Stayed (o.kernel.notes p) (h.stays refl) (h.stays_asked refl)) e
-by_told P o m id p room x MessageKind.PullState ps h e = given P (gives_piece id MessageKind.State) ps h.state e
-by_told P o m id p room x MessageKind.State ps h e =
-    given P (takes_chunk id p (o.view.asked p == chunks_of x)) ps
-    (by_test P (o.view.asked p == chunks_of x) (Says (Line.Migration Stage.StateTaken p) ∷ to_kernel MessageKind.PullBlock id.from.home ∷ []) (Says (Line.Proto id) ∷ to_kernel MessageKind.PullState id.from.home ∷ []) h.last_chunk h.next_chunk) e
-by_told P o m id p room x MessageKind.PullBlock ps h e = given P (gives_piece id MessageKind.Memory) ps h.memory e
-by_told P o m id p room x MessageKind.Memory ps h e =
-    given P (takes_block id p (o.view.asked p == pieces_of x)) ps
-    (by_test P (o.view.asked p == pieces_of x) (Says (Line.Migration Stage.MemoryTaken p) ∷ to_kernel MessageKind.AllTaken id.from.home ∷ []) (Says (Line.Proto id) ∷ to_kernel MessageKind.PullBlock id.from.home ∷ []) h.last_block h.next_block) e
-by_told P o m id p room x MessageKind.AllTaken ps h e = by_leaves P o m id p (o.view.queue m p ++ o.view.held m p) (o.view.known m p) ps refl (h.left (o.view.queue m p ++ o.view.held m p)) refl e
-by_told P o m id p room x MessageKind.Restart ps h e =
-    let l = Line.Migration Stage.Restarted p in
-    given P (Says l ∷ tells_asker (o.kernel.notes p) Outcome.Done) ps (by_asker P l Outcome.Done (o.kernel.notes p) (h.restarted refl) (h.restarted_asked refl)) e
-by_told P o m id p room x _ ps h e = cc
+by_told P o m id p room x k ps h1 h2 = search (arith, given, by_test, by_asker, by_leaves)
 
 pub by_kernel : (P : List Part → Type 0) (b : Boot) (o : Point) (m : ℕ) (id : MsgId) (k : MessageKind) (a : About) (ps : List Part) → ((p : Pid) (x : PlainProcess) → a ≡ Of p → kernel.alive (o.kernel.processes p) ≡ Some x → Tells P o m id k p)
     → kernel_hears b o m id k a ≡ Some ps → P ps
-by_kernel P b o m id k (Of p) ps h e =
-    let (x, there, last) = bind-is (kernel.alive (o.kernel.processes p)) (λ x. told_step o m id p (fits (free_room b o m) (length x.memory / 256)) x (sort_of k)) ps e in
-    by_told P o m id p (fits (free_room b o m) (length x.memory / 256)) x k ps (h p x refl there) last
-by_kernel P b o m id k _ ps h e = cc
+by_kernel P b o m id k a ps h1 h2 = search (arith, bind-is, by_told)
 
 by_server : (P : List Part → Type 0) (o : Point) (id : MsgId) (t : Told) (k : MessageKind) (ps : List Part) → t.kind ≡ k → (t.kind ≡ MessageKind.Update → P (updates o id t)) → told_server o id t (sort_of k) ≡ Some ps → P ps
 by_server P o id t MessageKind.Update ps is h e = given P (updates o id t) ps (h is) e
 by_server P o id t _ ps is h e = cc
 
 by_here : (P : List Part → Type 0) (o : Point) (m : ℕ) (id : MsgId) (t : Told) (k : MessageKind) (ps : List Part) → t.kind ≡ k → Heard P o m id t → At o m t Here → told_here o m id t (sort_of k) ≡ Some ps → P ps
-by_here P o m id t MessageKind.Migrate ps is h at_ e =
-    let to = target_of (Some t) in
-    given P (if m == to then Says (Line.Here id) ∷ [] else leaves_for t.receiver to) ps
-    (by_test P (m == to) (Says (Line.Here id) ∷ []) (leaves_for t.receiver to) (h.stays_here at_) (h.frozen to at_)) e
-by_here P o m id t MessageKind.Update ps is h at_ e = given P (updates o id t) ps (h.updated is) e
-by_here P o m id t _ ps is h at_ e = cc
+by_here P o m id t k ps h1 h2 h3 h4 = search (arith, given, by_test)
 
 by_ended : (P : List Part → Type 0) (o : Point) (m : ℕ) (id : MsgId) (t : Told) (k : MessageKind) (ps : List Part) → t.kind ≡ k → Heard P o m id t → At o m t Ended → told_ended id (sort_of k) ≡ Some ps → P ps
-by_ended P o m id t MessageKind.Migrate ps is h at_ e = given P (Says (Line.NoMove id) ∷ []) ps (h.no_move at_) e
-by_ended P o m id t MessageKind.Update ps is h at_ e = given P (Says (Line.Updated id 0) ∷ []) ps (h.updated_none is at_) e
-by_ended P o m id t _ ps is h at_ e = cc
+by_ended P o m id t k ps h1 h2 h3 h4 = search (arith, given)
 
 by_process : (P : List Part → Type 0) (o : Point) (m : ℕ) (id : MsgId) (t : Told) (k : Known) (ps : List Part) → Heard P o m id t → At o m t k → process_told o m id t k ≡ Some ps → P ps
 by_process P o m id t k ps h1 h2 h3 = search (arith, by_here, given, by_ended)
 
 by_receiver : (P : List Part → Type 0) (b : Boot) (o : Point) (m : ℕ) (id : MsgId) (t : Told) (c d g : Bool) (ps : List Part) → pid_eq t.receiver switchboard ≡ d → pid_eq t.receiver manager ≡ g → Heard P o m id t
     → (if c then kernel_hears b o m id t.kind t.about else if d then told_server o id t (sort_of t.kind) else if g then told_server o id t (sort_of t.kind) else process_told o m id t (o.view.known m t.receiver)) ≡ Some ps → P ps
-by_receiver P b o m id t true d g ps one two h e = by_kernel P b o m id t.kind t.about ps h.told e
-by_receiver P b o m id t false true g ps one two h e = by_server P o id t t.kind ps refl h.updated e
-by_receiver P b o m id t false false true ps one two h e = by_server P o id t t.kind ps refl h.updated e
-by_receiver P b o m id t false false false ps one two h e =
-    by_process P o m id t (o.view.known m t.receiver) ps h (record { known = refl; server = ap (λ (x : Bool). x || pid_eq t.receiver manager) one ∙ two }) e
+by_receiver P b o m id t c d g ps h1 h2 h3 h4 = search (arith, by_kernel, by_server, by_process)
 
 pub by_hears : (P : List Part → Type 0) (b : Boot) (o : Point) (m : ℕ) (id : MsgId) (q : Option Told) (ps : List Part) → ((t : Told) → q ≡ Some t → Heard P o m id t) → hears b o m id q ≡ Some ps → P ps
 by_hears P b o m id None ps h e = cc

@@ -1,6 +1,6 @@
 -- Only a put tells of a message, and counts a kernel's own.
-use Rattle.dm_rule.proofs.Names.{◌≡◌, ℕ, ◌+◌, ◌==◌, not, filter, Bool, true, false, refl, Option, None, Some, Pid, MsgId, MessageKind, Label, Step, Line, Stage, View, Told, About, Of, Target, sets_off, view_after, after_head, after_label}
-use Rattle.dm_rule.proofs.Names.{after_stage, after_proto, follows_by, asks_on, queued_for, held_for, dropped_for, forwarded_for, served_told, ends_by, receiver_of, taken_id, oldest, with_pair, handled, sort_of, arith}
+use Rattle.dm_rule.proofs.Names.{◌≡◌, ℕ, Bool, true, false, refl, Option, None, Some, MsgId, MessageKind, Label, Step, Line, View, Told, About, Of, view_after, after_head, after_label, after_proto, asks_on, served_told, ends_by, taken_id}
+use Rattle.dm_rule.proofs.Names.{sort_of, arith}
 
 -- nothing is told or counted
 pub record Hushed (v w : View) : Type 0 where
@@ -28,8 +28,7 @@ asks_hush v _ = hush v
 
 proto_hush : (v : View) (o : Option Told) → Hushed v (after_proto v o)
 proto_hush v None = record { count = refl; told = refl }
-proto_hush v (Some t) = let h = elim t.kind as (λ k. Hushed v (follows_by v t.about (sort_of k)))
-    [ MessageKind.State ↦ asks_hush v t.about | MessageKind.Memory ↦ asks_hush v t.about | _ ↦ hush v ] in record { count = h.count; told = h.told }
+proto_hush v (Some t) = search (arith, asks_hush, hush)
 
 label_hush : (v : View) (l : Label) → Hushed v (after_label v l)
 label_hush v l = search (arith, hush, served_hush)

@@ -1,8 +1,6 @@
 -- The messages that are under way: those of the bag, and the kernels' own.
-use Rattle.dm_rule.proofs.Names.{◌≡◌, ℕ, Bool, true, false, refl, ap, ◌∙◌, sym, arith, is_some, inl, inr, if◌then◌else◌, Option, None, Some, cases_Bool, false≢true, nat_tests, Pid, pid_eq, MsgId, id_eq, PlainMessage, Label, switchboard}
-use Rattle.dm_rule.proofs.Names.{manager, bind, Life, OneKernel, is_kernels, to_of, in_bag, id_eq-is, Made, counts, is_counted, unentered, Sound, bind-is}
-use Rattle.dm_onekernel.specs.Receiving as receiving
-use Rattle.dm_onekernel.specs.Service as service
+use Rattle.dm_rule.proofs.Names.{◌≡◌, ℕ, Bool, true, false, refl, ap, ◌∙◌, sym, arith, is_some, inl, inr, if◌then◌else◌, Option, None, Some, cases_Bool, nat_tests, pid_eq, MsgId, PlainMessage, Label, switchboard, manager, bind, OneKernel}
+use Rattle.dm_rule.proofs.Names.{is_kernels, to_of, id_eq-is, Made, counts, is_counted, unentered, Sound, bind-is}
 use Rattle.dm_onekernel.specs.Step as step
 use Rattle.dm_rule.proofs.Lines.{Bag, hidden}
 use Rattle.dm_rule.proofs.Bags.{BagStep, out_of}

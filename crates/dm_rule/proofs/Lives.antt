@@ -1,7 +1,5 @@
 -- Nothing is known of a process that was never made.
-use Rattle.dm_rule.proofs.Names.{◌≡◌, ℕ, ◌≤◌, ◌==◌, ◌&&◌, Bool, refl, ap, ◌∙◌, sym, subst, inl, inr, if◌then◌else◌, Option, None, Some, cases_Bool, Pid, pid_eq, PlainProcess, Life, Alive, OneKernel, at_record, View, Known, Unknown, Here}
-use Rattle.dm_rule.proofs.Names.{pid_eq-is, LifeGrows, arith}
-use Rattle.dm_onekernel.specs.Kernel.{Ended}
+use Rattle.dm_rule.proofs.Names.{◌≡◌, ℕ, ◌≤◌, ap, ◌∙◌, sym, Option, None, Some, Pid, PlainProcess, Life, OneKernel, at_record, View, Known, Unknown, Here, pid_eq-is, LifeGrows, arith}
 use Rattle.dm_onekernel.specs.Step as kernel
 use Rattle.dm_rule.proofs.Lines.{parts}
 

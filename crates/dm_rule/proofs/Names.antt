@@ -69,9 +69,9 @@ pub use Rattle.dm_rule.specs.Phases.{Alone, HasToken, IsIn, IsToken, Moves, Nowh
 pub use Rattle.dm_rule.specs.Phases.{token_in, told_between}
 pub use Rattle.dm_rule.specs.Point.{Point, after, after_line, first_point, kernel_after, label_of, machine_in, move_target, moved, seen, topic_by}
 pub use Rattle.dm_rule.specs.Quiet.{IsQuiet, has_mail, is_quiet, pair_is_quiet}
-pub use Rattle.dm_rule.specs.Rule.{Room, arrives, board_took, called, comes, comes_to, completion_parts, creation_parts, drop_parts, ended_handles, executes, first_awaited, first_runnable, fits, free_room, goes_round, group_of, has}
-pub use Rattle.dm_rule.specs.Rule.{has_room, hears, here_handles, kept_from, kernel_handles, kernel_hears, less, let_go, manager_parts, more, numbers_from, outcome, outstanding_count, process_handles, ran, reception_parts, repeats, resends}
-pub use Rattle.dm_rule.specs.Rule.{routes, says, serves_status, stops, takes_on, taking_parts, turns}
+pub use Rattle.dm_rule.specs.Rule.{Room, arrives, board_took, called, comes, comes_to, creation_parts, drop_parts, ended_handles, executes, first_awaited, first_runnable, fits, free_room, goes_round, group_of, has, has_room, hears}
+pub use Rattle.dm_rule.specs.Rule.{here_handles, kept_from, kernel_handles, kernel_hears, less, let_go, manager_parts, more, numbers_from, outcome, outstanding_count, process_handles, ran, reception_parts, repeats, resends, routes, says}
+pub use Rattle.dm_rule.specs.Rule.{serves_status, stops, takes_on, taking_parts, turns}
 pub use Rattle.dm_rule.specs.Spots.{Held, Inbox, Queue, Spot, StandsAsBag, StandsNowhere, StandsOnce, StandsOutside, StandsRight, Untaken, ids_at, standing, times, untaken}
 pub use Rattle.dm_rule.specs.Tells.{TellsRight}
 pub use Rattle.dm_rule.specs.Trails.{AddressesOn, IsOn, LeadsAlong, OwnOn, StoodOnTrail, Trail, Trailed, Trails, TrailsAlways, Trodden, along, destination, first_trails, first_trodden, leads, leads_on, trails_after}

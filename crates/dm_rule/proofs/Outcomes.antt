@@ -1,6 +1,6 @@
 -- The outcome of a directive: what holds of each way that it may come about holds of it.
-use Rattle.dm_rule.proofs.Names.{◌≡◌, ℕ, List, [], ◌∷◌, refl, subst, slice_get, Option, None, Some, Pid, MsgId, Boot, PlainMessage, Step, Line, Load, Part, Says, Transmits, Point, migrates, bind, bind-is, Spelled, spelled, behind, lines_of}
-use Rattle.dm_rule.proofs.Names.{after, moved, group_of, arith}
+use Rattle.dm_rule.proofs.Names.{◌≡◌, ℕ, List, [], ◌∷◌, refl, subst, Option, None, Some, Pid, MsgId, Boot, PlainMessage, Step, Line, Load, Part, Says, Transmits, Point, migrates, bind, bind-is, Spelled, spelled, behind, lines_of, after}
+use Rattle.dm_rule.proofs.Names.{moved, group_of, arith}
 use Rattle.dm_rule.proofs.Groups.{IsNetLine, IsNet, arrives_net, resends_net, group_is}
 use Rattle.dm_rule.specs.Rule as rule
 

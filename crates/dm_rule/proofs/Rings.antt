@@ -1,6 +1,6 @@
 -- What the ring of a machine lists is here.
-use Rattle.dm_rule.proofs.Names.{◌≡◌, ℕ, ◌==◌, ◌&&◌, Bool, true, false, not, List, [], ◌∷◌, ◌++◌, refl, ap, ◌∙◌, sym, subst, inl, inr, ⊤, if◌then◌else◌, cases_Bool, false≢true, Pid, pid_eq, at_machine, at_record, without, moved_back, View}
-use Rattle.dm_rule.proofs.Names.{Known, Here, pid_eq-is, pid_eq-same, arith}
+use Rattle.dm_rule.proofs.Names.{◌≡◌, ℕ, ◌==◌, ◌&&◌, Bool, true, false, not, List, [], ◌∷◌, ◌++◌, refl, ap, ◌∙◌, sym, subst, ⊤, if◌then◌else◌, false≢true, Pid, pid_eq, at_machine, at_record, without, moved_back, View, Known, Here}
+use Rattle.dm_rule.proofs.Names.{pid_eq-is, pid_eq-same, arith}
 use Rattle.dm_rule.proofs.Lines.{eq_is}
 
 abbrev pub AllHere : (Pid → Known) → List Pid → Type 0

@@ -1,5 +1,5 @@
 -- A line is said, alone or before a message that is routed.
-use Rattle.dm_rule.proofs.Names.{◌≡◌, ℕ, ◌≤◌, [], ◌∷◌, sym, subst, length, None, Some, MsgId, OneKernel, Line, View, Pair, view_after, Point, label_of, kernel_after, moved, seen, Says, Routes, Spelled, spelled, arith}
+use Rattle.dm_rule.proofs.Names.{◌≡◌, [], ◌∷◌, None, Some, MsgId, OneKernel, Line, View, view_after, Point, label_of, kernel_after, moved, seen, Says, Routes, Spelled, spelled, arith}
 use Rattle.dm_rule.proofs.States.{State, says_next, said, State-at, PairsFit, routes_next}
 
 pub fits_as : (v w : View) → w.pair ≡ v.pair → PairsFit v → PairsFit w

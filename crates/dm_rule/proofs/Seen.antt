@@ -1,6 +1,6 @@
 -- The view behind a line is what the line changes; only where a process is asked to move the topic is another.
-use Rattle.dm_rule.proofs.Names.{◌≡◌, Bool, refl, ap, subst, Option, None, Some, Pid, Label, OneKernel, Line, View, About, NothingElse, Target, view_after, label_of, seen, topic_by, after_stage, frozen_for, handled_first, target_of}
-use Rattle.dm_rule.proofs.Names.{sets_off, Stage, ℕ, Spot, Queue, ids_at, Of, Frozen, at_machine, at_record, without, IsUnasked, option_and_then, slice_get, arith}
+use Rattle.dm_rule.proofs.Names.{◌≡◌, refl, ap, Option, None, Pid, Label, OneKernel, Line, View, About, Target, view_after, label_of, seen, topic_by, target_of, sets_off, ℕ, Spot, Queue, ids_at, Of, Frozen, at_machine, at_record, without}
+use Rattle.dm_rule.proofs.Names.{IsUnasked, option_and_then, slice_get, arith}
 use Rattle.dm_rule.proofs.Lines.{Bag, Stands, Stands-stays}
 use Rattle.dm_rule.specs.View as view
 

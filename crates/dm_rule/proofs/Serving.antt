@@ -1,12 +1,10 @@
 -- A turn that serves a process, or handles a message of the bag: what comes of it, row by row. Whatever holds of the parts of each row holds of what comes of the turn.
-use Rattle.dm_rule.proofs.Names.{◌≡◌, ℕ, ◌+◌, ◌==◌, ◌||◌, Bool, true, false, List, [], ◌∷◌, refl, ap, ◌∙◌, subst, length, if◌then◌else◌, slice_get, Option, None, Some, Pid, pid_of, pid_eq, MsgId, MessageKind, Label, Reply, Why, plain_kind}
-use Rattle.dm_rule.proofs.Names.{PlainMessage, PlainWhat, instruction, BootImage, Boot, first_number, switchboard, manager, bind, PlainProcess, PlainStatus, Ready, Waiting, Moving, answer_id, with_machine, Line, Known, Unknown, Here}
-use Rattle.dm_rule.proofs.Names.{Frozen, Incoming, Forward, Ended, Addresses, Sender, is_told_back, Point, Part, Says, Routes, Again, Owns, forwards_on, Room, says, drop_parts, called, stops, executes, ran, completion_parts}
-use Rattle.dm_rule.proofs.Names.{reception_parts, first_awaited, serves_status, goes_round, has_room, free_room, creation_parts, kernel_handles, routes, board_took, manager_parts, here_handles, ended_handles, process_handles, bind-is}
-use Rattle.dm_rule.proofs.Names.{Outcome, answers_move, asked_to_move, leaves_for, arith, nat_tests, sym, machine_of}
+use Rattle.dm_rule.proofs.Names.{◌≡◌, ℕ, ◌+◌, ◌==◌, ◌||◌, Bool, true, false, List, [], ◌∷◌, refl, subst, length, if◌then◌else◌, slice_get, Option, None, Some, Pid, pid_of, pid_eq, MsgId, MessageKind, Label, Reply, Why, plain_kind}
+use Rattle.dm_rule.proofs.Names.{PlainMessage, PlainWhat, instruction, BootImage, Boot, first_number, switchboard, manager, PlainProcess, PlainStatus, Ready, Waiting, Moving, answer_id, with_machine, Line, Known, Here, Frozen, Incoming}
+use Rattle.dm_rule.proofs.Names.{Forward, Ended, Addresses, Sender, Point, Part, Says, Routes, Again, Owns, forwards_on, Room, says, drop_parts, called, stops, executes, ran, reception_parts, first_awaited, serves_status, goes_round}
+use Rattle.dm_rule.proofs.Names.{free_room, creation_parts, kernel_handles, routes, board_took, manager_parts, here_handles, ended_handles, process_handles, bind-is, Outcome, answers_move, leaves_for, arith, machine_of}
 use Rattle.dm_onekernel.specs.Calls as calls
 use Rattle.dm_onekernel.specs.Pieces as pieces
-use Rattle.dm_onekernel.specs.Receiving as receiving
 use Rattle.dm_onekernel.specs.Switchboard as board
 use Rattle.dm_onekernel.specs.Manager as manage
 use Rattle.dm_onekernel.specs.Step as kernel

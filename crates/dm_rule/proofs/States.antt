@@ -1,7 +1,7 @@
 -- Each group keeps that each message stands once.
 use Rattle.dm_rule.proofs.Names.{◌≡◌, ℕ, ◌+◌, ◌≤◌, ◌==◌, Bool, true, false, List, [], ◌∷◌, refl, ap, ◌∙◌, sym, subst, arith, length, inl, inr, if◌then◌else◌, Option, None, Some, cases_Bool, nat_tests, Pid, MsgId, MessageKind, plain_kind}
 use Rattle.dm_rule.proofs.Names.{id_eq, PlainMessage, Label, bind, OneKernel, Line, Load, View, Told, view_after, Receiver, Point, label_of, kernel_after, moved, seen, after_line, after, Part, Says, Routes, Transmits, Spelled, lines_of}
-use Rattle.dm_rule.proofs.Names.{puts, goes_out, packet_line, behind, spelled, Spot, Untaken, ids_at, entry, in_bag, reception, id_eq-is, id_eq-same, Sound, bind-is, after_step, false≢true, pid_of, id_of, at_machine, is_kernels}
+use Rattle.dm_rule.proofs.Names.{puts, goes_out, packet_line, behind, spelled, Spot, Untaken, ids_at, entry, in_bag, reception, id_eq-is, Sound, bind-is, after_step, false≢true, pid_of, id_of, at_machine, is_kernels}
 use Rattle.dm_onekernel.specs.Step as kernel
 use Rattle.dm_rule.specs.View as view
 use Rattle.dm_rule.proofs.Hushed.{is_put, hushed}

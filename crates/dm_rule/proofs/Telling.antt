@@ -2,7 +2,7 @@
 use Rattle.dm_rule.proofs.Names.{◌≡◌, ℕ, ◌+◌, ◌≤◌, ◌==◌, ◌&&◌, Bool, true, false, List, [], ◌∷◌, length, is_some, refl, ap, ◌∙◌, sym, subst, inl, inr, arith, ⊤, if◌then◌else◌, Option, None, Some, cases_Bool, false≢true, Pid, MsgId}
 use Rattle.dm_rule.proofs.Names.{MessageKind, id_eq, plain_kind, Load, PlainMessage, PlainWhat, Boot, Label, IsValid, OneKernel, bind, Step, Line, View, Pair, Told, view_after, is_kernels, own_id, Receiver, Point, label_of, kernel_after}
 use Rattle.dm_rule.proofs.Names.{moved, after_line, after, first_point, Part, Says, Routes, Again, Owns, Transmits, Spelled, lines_of, puts, goes_out, packet_line, behind, spelled, group_of, outcome, Leads, TellsRightAlways, is_between}
-use Rattle.dm_rule.proofs.Names.{TellsRight, entry, in_bag, reception, id_eq-is, id_eq-same, Sound, bind-is, after_step, start-sound, at_machine, pid_of, id_of, slice_get, zero, suc, ◌⊎◌, migrates}
+use Rattle.dm_rule.proofs.Names.{TellsRight, entry, in_bag, reception, id_eq-is, id_eq-same, Sound, bind-is, after_step, start-sound, at_machine, pid_of, id_of, slice_get, migrates}
 use Rattle.std.proofs.Common.{is_none}
 use Rattle.dm_onekernel.specs.Step as kernel
 use Rattle.dm_rule.specs.View as view

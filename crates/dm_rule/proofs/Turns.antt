@@ -1,7 +1,7 @@
 -- Each turn, delivery and tick keeps that each message stands once.
-use Rattle.dm_rule.proofs.Names.{◌≡◌, ◌≢◌, ℕ, ◌≤◌, ◌==◌, ◌&&◌, Bool, true, false, List, [], ◌∷◌, refl, ap, ◌∙◌, sym, subst, arith, inl, inr, if◌then◌else◌, Option, None, Some, cases_Bool, false≢true, nat_tests, Pid, pid_eq, MsgId}
-use Rattle.dm_rule.proofs.Names.{MessageKind, Line, id_eq, Label, bind, OneKernel, at_machine, at_record, without_front, View, Told, view_after, handled, receiver_of, Point, moved, Spelled, spelled, Spot, Queue, Inbox, times, ids_at}
-use Rattle.dm_rule.proofs.Names.{standing, pid_eq-is, pid_eq-same, id_eq-same, bind-is, is_kernels, drop_parts, sort_of}
+use Rattle.dm_rule.proofs.Names.{◌≡◌, ◌≢◌, ℕ, ◌≤◌, ◌==◌, ◌&&◌, Bool, true, false, List, [], ◌∷◌, refl, ap, ◌∙◌, subst, arith, inl, inr, if◌then◌else◌, Option, None, Some, cases_Bool, false≢true, Pid, pid_eq, MsgId, MessageKind, Line, Label}
+use Rattle.dm_rule.proofs.Names.{bind, OneKernel, at_machine, at_record, without_front, View, Told, view_after, handled, receiver_of, Point, moved, Spelled, spelled, Spot, Queue, Inbox, times, ids_at, standing, pid_eq-is, pid_eq-same}
+use Rattle.dm_rule.proofs.Names.{id_eq-same, bind-is, is_kernels, drop_parts, sort_of}
 use Rattle.dm_rule.proofs.Standing.{StandsAsBag-elsewhere}
 use Rattle.dm_rule.proofs.Lines.{Stands-stays, Stands-handled, Stands-dequeued, front_counts, eq_is, eq_self, spots_differ}
 use Rattle.dm_rule.proofs.Bags.{BagStep, out_of, bag_dropped}

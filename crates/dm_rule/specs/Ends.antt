@@ -1,5 +1,5 @@
 -- The lines at the end of a run: where everything stands then, by the kernel without machines, the view and the addresses.
-use Rattle.std.specs.Prelude.{ℕ, zero, suc, ◌+◌, ◌/◌, option_map, List, [], ◌∷◌, ◌++◌, length, map}
+use Rattle.std.specs.Prelude.{ℕ, zero, suc, ◌/◌, option_map, List, [], ◌∷◌, ◌++◌, length, map}
 use Rattle.std.specs.Option.{option_map_or}
 use Rattle.std.specs.List.{enumerate_from, flat_map}
 use Rattle.std.specs.declared.option.Option.{Option}

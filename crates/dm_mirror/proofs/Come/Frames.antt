@@ -3,8 +3,8 @@ use Rattle.dm_mirror.proofs.Names.{◌≡◌, ℕ, ◌+◌, ◌≤◌, Bool, tru
 use Rattle.dm_mirror.proofs.Names.{MsgId, MessageKind, kind_of, PlainMessage, plain_message, Process, incoming_of, Boot, OneKernel, bind, plain_process, Made, id_eq-same, is_between, tells_onward, Moves, IsIn, receiver_in, sender_in}
 use Rattle.dm_mirror.proofs.Names.{told_between, Point, Spot, Inbox, StandsOnce, StandsOutside, standing, times, Of, Told, is_kernels, stands_right, not_kernels, token_is, token_at, is_server, Run, Placed, Mirrors, KernelState, MadeStands}
 use Rattle.dm_mirror.proofs.Names.{AllOwnStand, OwnStands, about_of, told_of, AreMessages, KernelStands, AllRecords, Carries, TokensStand, destination_of, inbox_is, about_same, ◌*◌, ◌/◌, ◌<◌, ◌==◌, not, [], length, map, nat_lt, nat_le}
-use Rattle.dm_mirror.proofs.Names.{flat_map, length-append, flat_map-cons, Link, plain_link, Status, Shell, registers, shell_of, spell_status, spell_slot, numbers_size, Chunk, Block, Nothing, after_block, after_chunk, is_last, state_of}
-use Rattle.dm_mirror.proofs.Names.{HasPiece, plain_status, chunks_of, links_size, pieces_of, status_size, IsAsked, chunks, shell_spelling, sort_of, option_map_or}
+use Rattle.dm_mirror.proofs.Names.{flat_map, length-append, flat_map-cons, Link, plain_link, Shell, registers, shell_of, spell_slot, numbers_size, Chunk, Block, Nothing, after_block, after_chunk, is_last, state_of, HasPiece, plain_status}
+use Rattle.dm_mirror.proofs.Names.{chunks_of, links_size, pieces_of, status_size, IsAsked, chunks, shell_spelling, sort_of, option_map_or}
 use Rattle.dm_rule.proofs.QuietTests.{eq_is}
 use Rattle.dm_onekernel.specs.Step as kernel
 use Rattle.dm_mirror.proofs.Leave.Goes.{life_some as alive_made}

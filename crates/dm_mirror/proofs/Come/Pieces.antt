@@ -1,9 +1,9 @@
 -- What a machine and the rule do with a message about a process that comes, and where the lines of it lead.
-use Rattle.dm_mirror.proofs.Names.{◌≡◌, ℕ, ◌/◌, Bool, true, false, List, [], ◌∷◌, length, refl, ap, ◌∙◌, sym, subst, if◌then◌else◌, slice_get, Option, None, Some, Pid, pid_eq, Message, MsgId, kind_of, plain_what, Process, Record}
-use Rattle.dm_mirror.proofs.Names.{incoming_of, Wanted, Chunk, Nothing, Arrival, pull, with_piece, CanMove, coming, Boot, OneKernel, bind, plain_process, pid_eq-same, Line, Addresses, goes_between, own_given, told_step, to_kernel}
-use Rattle.dm_mirror.proofs.Names.{is_between, is_early, tells_onward, Point, after, fits, free_room, taken_at, Incoming, Known, Of, View, Placed, enclosed, room_of, piece_line, takes_piece, took_piece, kernel_handles, KernelState}
-use Rattle.dm_mirror.proofs.Names.{about_of, ComesStand, KnownStands, RoomStands, AllRecords, Carries, IsAsked, ◌+◌, ◌==◌, MessageKind, Step, Stage, arith, nat_tests, kind_comes, outcome, at_pid, without_front, About, Turned, turn}
-use Rattle.dm_mirror.proofs.Names.{apart_is, expects_is, not, nat_lt, What, Block, after_chunk, block_of, chunk_of, is_last, state_of, ComesByPieces, by_pieces, chunks_of, pieces_of, takes_block, takes_chunk, Wants, Asker, sort_of, drop}
+use Rattle.dm_mirror.proofs.Names.{◌≡◌, ℕ, ◌/◌, Bool, true, false, List, [], ◌∷◌, length, refl, ap, ◌∙◌, sym, subst, if◌then◌else◌, slice_get, Option, Some, Pid, pid_eq, Message, MsgId, kind_of, Process, Record, incoming_of, Wanted, Chunk}
+use Rattle.dm_mirror.proofs.Names.{Nothing, Arrival, pull, with_piece, CanMove, coming, Boot, bind, plain_process, pid_eq-same, Line, told_step, to_kernel, is_early, Point, after, fits, free_room, taken_at, Incoming, Known, Of, Placed}
+use Rattle.dm_mirror.proofs.Names.{room_of, piece_line, takes_piece, took_piece, kernel_handles, KernelState, about_of, ComesStand, KnownStands, RoomStands, AllRecords, Carries, IsAsked, ◌+◌, ◌==◌, MessageKind, Step, Stage, arith}
+use Rattle.dm_mirror.proofs.Names.{nat_tests, kind_comes, outcome, at_pid, without_front, About, Turned, turn, apart_is, expects_is, not, nat_lt, What, Block, after_chunk, is_last, state_of, ComesByPieces, by_pieces, chunks_of, pieces_of}
+use Rattle.dm_mirror.proofs.Names.{takes_block, takes_chunk, Wants, Asker, sort_of, drop}
 use Rattle.dm_rule.proofs.Names.{Part}
 use Rattle.dm_kernel.specs.declared.part.Part.TheVariants as part
 use Rattle.dm_kernel.specs.State as machine

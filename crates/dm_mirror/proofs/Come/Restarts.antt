@@ -1,10 +1,9 @@
 -- A process that has come goes on: it is here, at the ring's back, and what was held for it comes before the inbox.
 use Rattle.dm_mirror.proofs.Names.{◌≡◌, ◌≢◌, ℕ, ◌+◌, ◌/◌, ◌≤◌, ◌==◌, Bool, true, false, List, [], ◌∷◌, ◌++◌, length, map, refl, ap, ◌∙◌, sym, subst, inl, inr, arith, if◌then◌else◌, slice_get, Option, None, Some, cases_Bool, nat_tests}
 use Rattle.dm_mirror.proofs.Names.{false≢true, Pid, pid_eq, Message, MsgId, What, Record, Line, Stage, MessageKind, kind_of, Process, incoming_of, with_record, Nothing, restarted, ComesByPieces, by_pieces, Boot, bind, plain_process}
-use Rattle.dm_mirror.proofs.Names.{pid_eq-is, pid_eq-same, told_step, Moves, is_away, is_early, knows, kind_leaves, Point, moved, Room, fits, free_room, taken_at, taken_by, at_machine, at_record, Spot, Held, Inbox, standing, times, Known}
-use Rattle.dm_mirror.proofs.Names.{Unknown, Here, Frozen, Incoming, Forward, Ended, Of, View, once_at, times-append, is_server, has_no_queue, Placed, restarted_mirrors, mirrors_view, room_of, restarts, restarts_as, kernel_handles}
-use Rattle.dm_mirror.proofs.Names.{KernelState, AreMessages, KnownStands, RoomStands, AllRecords, Carries, TokensStand, destination_of, and_false, least_of, at_record_at, Asker, Outcome, Arrival, coming, tells_asker, Told, is_between}
-use Rattle.dm_mirror.proofs.Names.{sort_of, drop}
+use Rattle.dm_mirror.proofs.Names.{pid_eq-is, pid_eq-same, told_step, Moves, is_early, knows, Point, moved, Room, fits, free_room, taken_at, taken_by, at_machine, at_record, Spot, Held, Inbox, standing, times, Known, Unknown, Here, Frozen}
+use Rattle.dm_mirror.proofs.Names.{Incoming, Forward, Ended, Of, View, once_at, times-append, is_server, has_no_queue, Placed, restarted_mirrors, mirrors_view, room_of, restarts, restarts_as, kernel_handles, KernelState, AreMessages}
+use Rattle.dm_mirror.proofs.Names.{KnownStands, RoomStands, AllRecords, Carries, TokensStand, destination_of, and_false, least_of, at_record_at, Asker, Outcome, Arrival, coming, tells_asker, Told, is_between, sort_of, drop}
 use Rattle.dm_rule.proofs.Names.{Part}
 use Rattle.dm_places.specs.PlacedStep.{with_process}
 use Rattle.dm_mirror.proofs.Leave.Answered.{EndsMove, ends_move_row}

@@ -1,9 +1,9 @@
 -- What waits for a process was routed: it is no more than all that was.
 use Rattle.dm_mirror.proofs.Names.{◌≡◌, ◌≢◌, inl, inr, ℕ, zero, suc, ◌+◌, ◌<◌, ◌≤◌, ◌==◌, ◌&&◌, Bool, true, false, List, [], ◌∷◌, ◌++◌, length, is_some, refl, ap, ◌∙◌, sym, subst, arith, if◌then◌else◌, Option, Some, cases_Bool, false≢true}
 use Rattle.dm_mirror.proofs.Names.{nat_tests, Pid, id_eq, MsgId, MessageKind, Boot, id_eq-is, id_eq-same, Step, Line, Spelled, Point, group_of, Held, Queue, standing, times, View, Pair, Told, after_put, first_told, first_view, routed_on}
-use Rattle.dm_mirror.proofs.Names.{view_after, hushed, is_put, StandsAsBag-elsewhere, StandsAsBag-one, times-append, letters, Run, cases_zero, last_there, ◌*◌, ◌||◌, map, option_map, slice_get, None, pid_eq, plain_link, BootImage}
-use Rattle.dm_mirror.proofs.Names.{BootProcess, IsValid, manager, processes_are_valid, starting_at, switchboard, Alive, life_at, first_point, Known, known_at, room_from, pid_eq-is, Phase, Rests, kind_comes, is_between, knows, kind_leaves}
-use Rattle.dm_mirror.proofs.Names.{at_pid, at_record, rests_here, InPhases, stands_first}
+use Rattle.dm_mirror.proofs.Names.{view_after, hushed, is_put, StandsAsBag-elsewhere, StandsAsBag-one, times-append, letters, Run, cases_zero, last_there, ◌*◌, map, option_map, slice_get, None, pid_eq, plain_link, BootImage, BootProcess}
+use Rattle.dm_mirror.proofs.Names.{IsValid, processes_are_valid, starting_at, Alive, life_at, first_point, Known, known_at, room_from, pid_eq-is, Phase, Rests, kind_comes, is_between, knows, kind_leaves, at_pid, at_record, rests_here}
+use Rattle.dm_mirror.proofs.Names.{InPhases, stands_first}
 use Rattle.dm_laws.proofs.Names.{begun}
 use Rattle.std.proofs.Common.{length-append}
 use Rattle.dm_mirror.proofs.Counts.Pairs.{line_ids, same_of, PairsWithin, group_keeps, Still}

@@ -1,9 +1,9 @@
 -- What is said of the servers at the end, and of the messages on the way between two machines.
 use Rattle.dm_mirror.proofs.Names.{◌≡◌, ◌≢◌, ℕ, suc, ◌+◌, ◌-◌, ◌==◌, Bool, true, false, List, [], ◌∷◌, ◌++◌, map, drop, refl, ap, ◌∙◌, sym, arith, if◌then◌else◌, slice_get, Some, nat_tests, drop-drop, drop-map, drop_all, Addr, place_of}
 use Rattle.dm_mirror.proofs.Names.{Place, plain_link, Message, Boot, switchboard, manager, Switchboard, Manager, Named, plain_named, plain_child, plain_pending, plain_manager, EndLine, Addresses, Child, Name, list_line, HomeStands, Point}
-use Rattle.dm_mirror.proofs.Names.{Placed, Mirrors, WorldState, History, PairStands, zero, ◌<◌, Option, None, Pid, pid_of, MsgId, first_number, or, home_with, each_machine, AreMessages, option_map, Link, link_at, Process, Status}
-use Rattle.dm_mirror.proofs.Names.{plain_process, plain_status, Standing, Slot, ◌⊎◌, subst, inl, inr, cases_Bool, false≢true, MessageKind, Phase, Nowhere, Rests, Over, Moves, IsIn, IsToken, kind_comes, is_away, is_due, is_here, is_restart}
-use Rattle.dm_mirror.proofs.Names.{is_unknown, knows, kind_leaves, View, Known, Unknown, Here, Frozen, Incoming, Ended, eq_self, is_it, left_true, not_false, message_id, is_over}
+use Rattle.dm_mirror.proofs.Names.{Placed, Mirrors, WorldState, History, PairStands, zero, ◌<◌, Option, None, Pid, pid_of, MsgId, first_number, or, home_with, each_machine, AreMessages, option_map, Link, link_at, Process, plain_process}
+use Rattle.dm_mirror.proofs.Names.{Standing, Slot, ◌⊎◌, subst, inl, inr, cases_Bool, false≢true, MessageKind, Phase, Nowhere, Rests, Over, Moves, IsIn, IsToken, kind_comes, is_away, is_due, is_restart, kind_leaves, View, Known, Unknown}
+use Rattle.dm_mirror.proofs.Names.{Here, Frozen, Incoming, Ended, eq_self, is_it, left_true, not_false, message_id}
 use Rattle.dm_places.proofs.Names.{Pending}
 use Rattle.dm_message.specs.Ids as message
 use Rattle.dm_rule.specs.Ends as rule

@@ -2,8 +2,8 @@
 use Rattle.dm_mirror.proofs.Names.{Child, ◌≡◌, ℕ, ◌+◌, ◌≤◌, ◌==◌, ◌||◌, Bool, true, false, List, [], ◌∷◌, refl, ap, ◌∙◌, sym, subst, inl, inr, arith, if◌then◌else◌, cond, Option, None, Some, Err, cases_Bool, false≢true, nat_tests, Addr}
 use Rattle.dm_mirror.proofs.Names.{Pid, pid_eq, pid_of, place_of, Message, MsgId, What, MessageKind, MoveError, Step, id_of, incoming_of, Boot, manager, switchboard, address_at, child_named, moves_child, tells_to_move, asks_manager}
 use Rattle.dm_mirror.proofs.Names.{asks_move, told_to_move, KernelState, id_eq-same, pid_eq-is, Line, Receiver, Sender, child_number, unmoved, migrates, migrates_child, Point, after, moved, at_machine, Spot, standing, Run, Placed, Mirrors}
-use Rattle.dm_mirror.proofs.Names.{mirrors_view, child_place, no_child, AllOwnStand, KernelStands, AllRecords, TokensStand, Wants, destination_of, ◌≢◌, ◌&&◌, not, kind_of, plain_what, Inbox, Known, Unknown, Here, Frozen, Incoming, Forward}
-use Rattle.dm_mirror.proofs.Names.{Ended, is_server, is_fixed, is_place, is_target, own_sort, Part, option_map_or}
+use Rattle.dm_mirror.proofs.Names.{mirrors_view, child_place, no_child, AllOwnStand, KernelStands, AllRecords, TokensStand, Wants, destination_of, ◌≢◌, ◌&&◌, not, kind_of, plain_what, Known, Unknown, Here, Frozen, Incoming, Forward, Ended}
+use Rattle.dm_mirror.proofs.Names.{is_server, is_fixed, is_place, is_target, own_sort, Part, option_map_or}
 use Rattle.dm_kernel.specs.State.{with_sent}
 use Rattle.dm_mirror.proofs.Follow.Forwards.{next_free, next_untold, forwards_turn, held_coming, held_leaving}
 use Rattle.dm_mirror.proofs.Turning.{MayOwn, Nothing, Own, Turns, TurnsAt}

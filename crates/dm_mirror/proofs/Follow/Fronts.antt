@@ -3,8 +3,8 @@ use Rattle.dm_mirror.proofs.Names.{◌≡◌, ℕ, ◌≤◌, ◌<◌, ◌==◌,
 use Rattle.dm_mirror.proofs.Names.{PlainMessage, PlainWhat, plain_message, plain_what, with_what, Boot, switchboard, manager, bind, KernelState, is_between, Point, Inbox, times, standing, About, Told, is_server, is_fixed, OwnTold, own_sort}
 use Rattle.dm_mirror.proofs.Names.{Run, Placed, Mirrors, parts, AllOwnStand, told_of, AreMessages, KernelStands, AllRecords, TokensStand, told_there, ◌≢◌, ◌+◌, inl, inr, arith, if◌then◌else◌, cases_Bool, nat_tests, id_eq, id_eq-is}
 use Rattle.dm_mirror.proofs.Names.{id_eq-same, at_machine, without_front, Spot, Held, StandsOnce, StandsOutside, StandsRight, Known, is_kernels, stands_right, once_at, KnownStands, with_record, handles, Turned, pid_eq-same, process_told}
-use Rattle.dm_mirror.proofs.Names.{comes_to, hears, not, ◌++◌, slice_get, Process, incoming_of, Taken, Wanted, Arrival, room_of, turns, pid_eq-is, Line, Addresses, after, after_line, taken_at, Queue, Of, View, handled, OwnStands}
-use Rattle.dm_mirror.proofs.Names.{RoomStands, servers_at, Carries, Wants, destination_of, Part, Asker}
+use Rattle.dm_mirror.proofs.Names.{comes_to, not, ◌++◌, slice_get, Process, incoming_of, Taken, Wanted, Arrival, room_of, turns, pid_eq-is, Line, Addresses, after, after_line, taken_at, Queue, Of, View, handled, OwnStands, RoomStands}
+use Rattle.dm_mirror.proofs.Names.{servers_at, Carries, Wants, destination_of, Part, Asker}
 pub use Rattle.dm_rulelaws.proofs.Goes.Turns.{times_self, times_more}
 pub use Rattle.dm_rule.proofs.Lines.{eq_self, at_machine_at as machine_self}
 pub use Rattle.dm_rulelaws.proofs.Goes.Always.{queue_apart}

@@ -5,7 +5,7 @@ use Rattle.dm_mirror.proofs.Names.{blocks_of, taken_at, taken_by, takes_room, wi
 use Rattle.dm_mirror.proofs.Names.{droppable_on, Run, Placed, Mirrors, with_queue, plainly, kill_what, room_of, here_handles, KernelState, turned, without_process, KnownStands, RoomStands, told_there, zero_if, inl, inr, cases_Bool, id_eq}
 use Rattle.dm_mirror.proofs.Names.{id_eq-is, id_eq-same, Droppable, dropped_is, mirrors_view, placed_follows, AreMessages, user_dropped, machine_same, zero, suc, ◌||◌, nat_le, nat_lt, pid_of, PlainLink, What, PlainMessage, PlainWhat}
 use Rattle.dm_mirror.proofs.Names.{free_slots, free_blocks, answer, BootImage, BootMachine, first_number, images_are_valid, image_is_valid, when, answer_id, answer_to, bag_none, bag_no_space, is_server, home_of, create_what, handles, makes}
-use Rattle.dm_mirror.proofs.Names.{and-both, Says, at_record, told_receiver, user_what, queued, with_here, begun, Part}
+use Rattle.dm_mirror.proofs.Names.{and-both, Says, told_receiver, user_what, queued, with_here, begun, Part}
 use Rattle.dm_onekernel.specs.Kernel.{Ended, with_sent}
 use Rattle.dm_message.specs.Plain as said
 use Rattle.dm_onekernel.specs.Step as kernel

@@ -1,9 +1,9 @@
 -- A piece of a process's own data move lands: the next request goes out, or the move is over.
-use Rattle.dm_mirror.proofs.Names.{◌≡◌, ℕ, ◌+◌, ◌-◌, ◌≤◌, ◌==◌, ◌&&◌, Bool, true, false, List, [], ◌∷◌, length, refl, ap, ◌∙◌, sym, subst, is_some, nat_le, nat_lt, arith, if◌then◌else◌, Option, None, Some, nat_tests, Addr, Pid, MsgId}
-use Rattle.dm_mirror.proofs.Names.{Message, What, id_of, plain_kind, Label, Reply, PlainMessage, PlainWhat, plain_message, plain_what, Process, Direction, Status, Landed, Rest, Landing, plain_landed, ends_plainly, goes_on_plainly}
-use Rattle.dm_mirror.proofs.Names.{length-written, Boot, Alive, OneKernel, bind, piece_of, written_at, plain_process, plain_status, PlainProcess, counts, is_counted, unentered, lands-is, counts_process, not_server, bind-is, Routes, Point}
-use Rattle.dm_mirror.proofs.Names.{View, bag_none, both, Placed, after_landing, parts, lands_match, with_queue, plainly, block_what, written_what, gone_what, here_handles, KernelState, take, drop, after_serving, answer, answer_of}
-use Rattle.dm_mirror.proofs.Names.{answer_with, serving_answer, answer_id, answer_to, bag_served, served_id, has_bytes, WhatFits, answers_match, read_what, write_what, stop_what, resume_what, sort_of}
+use Rattle.dm_mirror.proofs.Names.{◌≡◌, ℕ, ◌+◌, ◌≤◌, ◌==◌, ◌&&◌, Bool, true, false, List, [], ◌∷◌, length, refl, ap, ◌∙◌, sym, subst, is_some, nat_le, nat_lt, arith, if◌then◌else◌, Option, None, Some, nat_tests, Addr, Pid, MsgId, Message}
+use Rattle.dm_mirror.proofs.Names.{What, id_of, plain_kind, Label, Reply, PlainMessage, PlainWhat, plain_message, plain_what, Process, Direction, Status, Landed, Rest, Landing, plain_landed, ends_plainly, goes_on_plainly, length-written}
+use Rattle.dm_mirror.proofs.Names.{Boot, Alive, OneKernel, bind, piece_of, written_at, plain_process, plain_status, PlainProcess, counts, is_counted, unentered, lands-is, counts_process, not_server, bind-is, Routes, Point, View, bag_none}
+use Rattle.dm_mirror.proofs.Names.{both, Placed, after_landing, parts, lands_match, with_queue, plainly, block_what, written_what, gone_what, here_handles, KernelState, take, drop, after_serving, answer, answer_of, answer_with}
+use Rattle.dm_mirror.proofs.Names.{serving_answer, answer_id, answer_to, bag_served, served_id, has_bytes, WhatFits, answers_match, read_what, write_what, stop_what, resume_what, sort_of}
 use Rattle.dm_rule.proofs.Names.{Part}
 use Rattle.dm_mirror.proofs.Handle.Taking.{Taking, sane_of}
 use Rattle.dm_mirror.proofs.Turning.{Row}

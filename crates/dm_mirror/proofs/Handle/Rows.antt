@@ -2,7 +2,7 @@
 use Rattle.dm_mirror.proofs.Names.{◌≡◌, ◌≢◌, ℕ, ◌≤◌, ◌==◌, Bool, true, false, List, [], ◌∷◌, map, refl, ap, ◌∙◌, sym, subst, inl, inr, is_some, arith, if◌then◌else◌, Option, None, Some, cases_Bool, false≢true, Pid, pid_eq, MsgId, nat_tests}
 use Rattle.dm_mirror.proofs.Names.{Message, id_eq, PlainWhat, plain_message, Boot, Label, Life, OneKernel, id_eq-is, pid_eq-is, Line, addresses_after, Point, after, Taken, Room, blocks_of, taken_by, takes_room, without_front, Spot, Queue}
 use Rattle.dm_mirror.proofs.Names.{Held, Inbox, times, standing, View, Unknown, Here, Ended, handled, is_kernels, Phase, Rests, is_away, is_here, knows, rests_here, InPhases, is_server, StepNeeds, Placed, Mirrors, placed_step, mirrors_view}
-use Rattle.dm_mirror.proofs.Names.{moves_label, plainly, placed_follows, handles, KernelState, KnownStands, servers_at, with_what, begun, seen}
+use Rattle.dm_mirror.proofs.Names.{moves_label, plainly, placed_follows, handles, KernelState, KnownStands, servers_at, begun, seen}
 use Rattle.dm_places.specs.PlacedStep.{with_sent, without_message}
 use Rattle.dm_onekernel.specs.Step as kernel
 use Rattle.dm_rule.specs.Rule as rule

@@ -1,10 +1,9 @@
 -- What the servers send has a plain meaning.
-use Rattle.dm_mirror.proofs.Names.{◌≡◌, ℕ, ◌+◌, ◌==◌, ◌||◌, Bool, true, false, List, [], ◌∷◌, ◌++◌, length, refl, ap, ◌∙◌, sym, subst, nat_lt, arith, if◌then◌else◌, option_map, Option, None, Some, false≢true, nat_tests, Pid, pid_eq}
-use Rattle.dm_mirror.proofs.Names.{PlainLink, MsgId, Message, Label, PlainMessage, PlainWhat, plain_message, Boot, switchboard, manager, Life, Manager, OneKernel, bind, plain_board, plain_request, control_link, Managing, at_home}
-use Rattle.dm_mirror.proofs.Names.{plain_manager, plain_pending, plain_created, plain_no_room, plain_pending_numbered, plain_user, counts, unentered, ServerSends, board_takes_lem, manager_takes_lem, Point, blocks_of, bag_none, is_server}
-use Rattle.dm_mirror.proofs.Names.{IsPending, WhatFits, home_of, StepNeeds, Placed, MirrorsKernel, board_took, manager_took, of_map, parts, plainly, user_what, created_what, no_room_what, Servers, handles, board_handles, manager_handles}
-use Rattle.dm_mirror.proofs.Names.{KernelState, turned, servers_at, server_fixed, pending_is, ◌*◌, ◌&&◌, is_some, Addr, Link, What, plain_what, with_what, Board, answer_over, message_to, kernel_of, ◌≢◌, begun, code_of_outcome, PendingKind}
-use Rattle.dm_mirror.proofs.Names.{moved_what, plain_moved}
+use Rattle.dm_mirror.proofs.Names.{◌≡◌, ℕ, ◌+◌, ◌==◌, ◌||◌, Bool, true, false, List, [], ◌∷◌, ◌++◌, length, refl, ap, ◌∙◌, sym, subst, nat_lt, arith, if◌then◌else◌, option_map, Option, None, Some, false≢true, nat_tests, Pid, pid_eq, MsgId}
+use Rattle.dm_mirror.proofs.Names.{Message, Label, PlainMessage, PlainWhat, plain_message, Boot, switchboard, manager, Life, Manager, OneKernel, bind, plain_board, plain_request, control_link, Managing, at_home, plain_manager}
+use Rattle.dm_mirror.proofs.Names.{plain_pending, plain_created, plain_no_room, plain_pending_numbered, plain_user, counts, unentered, ServerSends, board_takes_lem, manager_takes_lem, Point, blocks_of, bag_none, is_server, IsPending}
+use Rattle.dm_mirror.proofs.Names.{WhatFits, home_of, StepNeeds, Placed, MirrorsKernel, board_took, manager_took, of_map, parts, plainly, user_what, created_what, no_room_what, Servers, handles, board_handles, manager_handles, KernelState}
+use Rattle.dm_mirror.proofs.Names.{turned, servers_at, server_fixed, pending_is, is_some, Addr, Link, What, plain_what, Board, answer_over, ◌≢◌, begun, code_of_outcome, PendingKind, moved_what, plain_moved}
 use Rattle.dm_places.proofs.Names.{Pending}
 use Rattle.dm_rule.proofs.Names.{Part}
 pub use Rattle.dm_places.proofs.Frames.{kept_processes as placed_processes}

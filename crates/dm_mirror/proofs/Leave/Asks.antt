@@ -4,7 +4,7 @@ use Rattle.dm_mirror.proofs.Names.{MsgId, What, MessageKind, Record, Line, Stage
 use Rattle.dm_mirror.proofs.Names.{pid_eq-is, pid_eq-same, to_kernel, Point, moved, Room, taken_by, takes_room, at_machine, at_record, without, without_front, times, Here, Frozen, Known, Of, own_id, target_of, is_server, has_nothing_held}
 use Rattle.dm_mirror.proofs.Names.{is_fixed, Placed, mirrors_view, told_of, KnownStands, LeavesStand, RoomStands, AllRecords, eq_not, or-right, ◌/◌, length, option_map, Option, Addr, pid_of, kind_of, plain_what, with_what, frozen_of}
 use Rattle.dm_mirror.proofs.Names.{incoming_of, Departure, block_of, chunk_of, state_of, OneKernel, bind, plain_process, gives_piece, kernel_handles, Addresses, Receiver, Sender, gets, own_given, unmoved, told_step, is_between}
-use Rattle.dm_mirror.proofs.Names.{tells_onward, fits, free_room, kernel_hears, Inbox, standing, Told, Unknown, View, after_proto, handled, Run, enclosed, about_of, Carries, destination_of, false≢true, ◌++◌, turn, outcome, after, Step}
+use Rattle.dm_mirror.proofs.Names.{tells_onward, fits, free_room, kernel_hears, Inbox, standing, Told, View, after_proto, handled, Run, enclosed, about_of, Carries, destination_of, false≢true, ◌++◌, turn, outcome, after, Step}
 use Rattle.dm_mirror.proofs.Names.{plain_message, HereStands, Mirrors, AllOwnStand, KernelStands, TokensStand, AreMessages, Spot, Queue, Held, spot_cases, Asker, plain_note, leaves_for, here_free, Part, sort_of, drop, slice_get}
 use Rattle.dm_mirror.proofs.Names.{option_and_then}
 use Rattle.dm_kernel.specs.State.{with_sent}

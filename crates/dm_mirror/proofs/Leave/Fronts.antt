@@ -1,11 +1,11 @@
 -- A machine hears a kernel's own message at its inbox's front: what holds then, and what stands where once the message is handled.
-use Rattle.dm_mirror.proofs.Names.{◌≡◌, ◌≢◌, ◌⊎◌, ℕ, ◌+◌, ◌≤◌, ◌==◌, ◌&&◌, Bool, true, false, not, List, ◌∷◌, ap, ◌∙◌, sym, subst, inl, inr, arith, if◌then◌else◌, Option, None, Some, eqb_tells, Pid, pid_of, Message, MsgId, kind_of}
-use Rattle.dm_mirror.proofs.Names.{plain_message, bind, Boot, Step, handles, KernelState, Turned, turn, turns, id_eq-same, is_apart, is_between, tells_onward, is_restart, knows, Moves, Phase, Rests, receiver_in, sender_in, told_between}
-use Rattle.dm_mirror.proofs.Names.{token_in, Point, comes_to, hears, outcome, Spot, Queue, Held, Inbox, Untaken, standing, times, Here, Frozen, Of, Told, View, is_kernels, letters, rests_here, token_at, token_is, StandsAsBag-one}
-use Rattle.dm_mirror.proofs.Names.{StandsAsBag-elsewhere, spot_cases, OwnTold, Run, Placed, Mirrors, AllOwnStand, about_of, told_of, AreMessages, KernelStands, AllRecords, TokensStand, eq_self, source_knows, inbox_is, of_same, more_front}
-use Rattle.dm_mirror.proofs.Names.{holds_is, ◌||◌, [], refl, Addr, pid_eq, place_of, nat_tests, kernel_at, id_of, What, MessageKind, Arrival, PlainMessage, Process, incoming_of, process_handles, Gets, Receiver, Sender, gets, given}
-use Rattle.dm_mirror.proofs.Names.{own_given, unmoved, process_told, kernel_hears, at_machine, Known, own_id, not_kernels, is_fixed, enclosed, Carries, destination_of, about_same, cases_Bool, Record, Departure, pid_eq-is, HereStands}
-use Rattle.dm_mirror.proofs.Names.{KnownStands, LeavesStand, Asker, sort_of}
+use Rattle.dm_mirror.proofs.Names.{◌≡◌, ◌≢◌, ◌⊎◌, ℕ, ◌+◌, ◌≤◌, ◌==◌, Bool, true, false, List, ◌∷◌, ap, ◌∙◌, sym, subst, inl, inr, arith, if◌then◌else◌, Option, None, Some, eqb_tells, Pid, pid_of, Message, MsgId, kind_of, plain_message}
+use Rattle.dm_mirror.proofs.Names.{bind, Boot, Step, handles, KernelState, Turned, turn, turns, id_eq-same, is_apart, is_between, tells_onward, is_restart, knows, Moves, Phase, Rests, receiver_in, sender_in, told_between, token_in, Point}
+use Rattle.dm_mirror.proofs.Names.{comes_to, hears, outcome, Spot, Queue, Held, Inbox, Untaken, standing, times, Here, Frozen, Of, Told, View, is_kernels, letters, rests_here, token_at, token_is, StandsAsBag-one, StandsAsBag-elsewhere}
+use Rattle.dm_mirror.proofs.Names.{spot_cases, OwnTold, Run, Placed, Mirrors, AllOwnStand, about_of, told_of, AreMessages, KernelStands, AllRecords, TokensStand, eq_self, source_knows, inbox_is, of_same, more_front, holds_is, ◌||◌, []}
+use Rattle.dm_mirror.proofs.Names.{refl, Addr, pid_eq, place_of, nat_tests, kernel_at, id_of, MessageKind, PlainMessage, Process, incoming_of, process_handles, Gets, Receiver, Sender, gets, given, own_given, unmoved, process_told}
+use Rattle.dm_mirror.proofs.Names.{kernel_hears, at_machine, Known, own_id, not_kernels, is_fixed, enclosed, Carries, destination_of, about_same, cases_Bool, Record, Departure, pid_eq-is, HereStands, KnownStands, LeavesStand, Asker}
+use Rattle.dm_mirror.proofs.Names.{sort_of}
 use Rattle.dm_mirror.proofs.Handle.Taking.{front_of, times_self, machine_self, machine_off, some_same}
 use Rattle.dm_mirror.proofs.Turning.{IsCarried, MayOwn}
 pub use Rattle.dm_mirror.proofs.Handle.Taking.{to_kernel}

@@ -1,7 +1,7 @@
 -- A process that was to leave stays: it is served again, and what was held comes before the inbox.
 use Rattle.dm_mirror.proofs.Names.{◌≡◌, ◌≢◌, ◌⊎◌, ℕ, ◌≤◌, Bool, true, false, List, [], ◌∷◌, ◌++◌, map, nat_le, refl, ap, ◌∙◌, sym, subst, inl, inr, arith, if◌then◌else◌, Option, Some, nat_tests, Pid, pid_eq, Message, MsgId, What}
 use Rattle.dm_mirror.proofs.Names.{MessageKind, Record, Line, frozen_of, with_record, Boot, bind, stays, KernelState, pid_eq-same, Point, moved, takes_room, at_machine, standing, times, Here, Known, times-append, Placed, mirrors_view}
-use Rattle.dm_mirror.proofs.Names.{told_of, AreMessages, KnownStands, AllRecords, is_server, false≢true, ◌==◌, Moves, Spot, Told, is_away, is_between, kind_comes, knows, Of, turned, Outcome, tells_asker, drop}
+use Rattle.dm_mirror.proofs.Names.{told_of, AreMessages, KnownStands, AllRecords, is_server, false≢true, ◌==◌, Moves, Spot, Told, is_between, knows, Of, turned, Outcome, tells_asker, drop}
 use Rattle.dm_mirror.proofs.Leave.Answered.{ends_move_row}
 use Rattle.dm_mirror.proofs.Rooms.{taken_same}
 use Rattle.dm_mirror.proofs.Leave.Fronts.{FrontGone, Hearing, front_nowhere, leaving, outcome_hears, stood, turn_hears, records_as, to_kernel, to_kernel_hears, own_stays, tokens_one}

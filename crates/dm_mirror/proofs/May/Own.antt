@@ -5,8 +5,8 @@ use Rattle.dm_mirror.proofs.Names.{OwnTold, own_sort, own_server, Run, Placed, M
 use Rattle.dm_mirror.proofs.Names.{KernelStands, KnownStands, servers_at, nat_tests, pid_eq, PlainMessage, PlainWhat, plain_what, Direction, Status, IsAnswerOf, IsAwaited, IsWithin, Life, Alive, piece_of, plain_process, plain_status}
 use Rattle.dm_mirror.proofs.Names.{pid_eq-same, Known, WhatFits, awaits, has_bytes, piece_fits, status_awaits, both, block_what, gone_what, kill_what, read_what, resume_what, stop_what, user_what, write_what, written_what, inl, inr, zero}
 use Rattle.dm_mirror.proofs.Names.{suc, ◌/◌, is_some, if◌then◌else◌, option_map, cases_Bool, pid_of, HasTaken, first_number, alive-is, blocks_of, taken_at, taken_by, taken_of_home, takes_room, IsLawfulState, of_known, MadeStands, [], map}
-use Rattle.dm_mirror.proofs.Names.{with_what, plain_manager, IsForManager, pending_request, OneKernel, front, ForOthers, ForWhom, for_whom, home_of, told_receiver, create_what, created_what, no_room_what, FitsKernel, managed_fits}
-use Rattle.dm_mirror.proofs.Names.{user_fits, PendingKind, is_for, move_what, moved_what, IsPending}
+use Rattle.dm_mirror.proofs.Names.{plain_manager, IsForManager, pending_request, OneKernel, front, ForWhom, for_whom, home_of, told_receiver, create_what, created_what, no_room_what, FitsKernel, managed_fits, user_fits, PendingKind, is_for}
+use Rattle.dm_mirror.proofs.Names.{move_what, moved_what, IsPending}
 use Rattle.dm_places.proofs.Names.{Pending}
 use Rattle.dm_kernel.specs.May.{MayAct}
 pub use Rattle.dm_rulelaws.proofs.Goes.Servers.{server_fixed as fixed_server}

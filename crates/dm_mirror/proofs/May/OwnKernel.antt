@@ -1,11 +1,11 @@
 -- A kernel's own message at the front of another kernel's inbox is one that this kernel can handle: a process is leaving or
 -- coming, and the message carries what is asked for.
-use Rattle.dm_mirror.proofs.Names.{◌≡◌, ℕ, ◌*◌, ◌/◌, ◌≤◌, ◌==◌, ◌&&◌, not, Bool, true, false, length, refl, ap, ◌∙◌, sym, subst, arith, if◌then◌else◌, length-map, Option, None, Some, false≢true, All-nil, Pid, Message, MsgId, What}
-use Rattle.dm_mirror.proofs.Names.{MessageKind, Record, kind_of, IsLawfulMessage, Process, IsLawfulProcess, frozen_of, incoming_of, IsAskOfProcess, Arrival, CanMove, Departure, ask_of, HasBlock, HasChunk, state_of, Boot, Phase, Moves}
-use Rattle.dm_mirror.proofs.Names.{kind_comes, is_apart, is_away, is_between, is_early, tells_onward, is_restart, knows, kind_leaves, receiver_in, sender_in, told_between, Point, Inbox, standing, View, Known, Unknown, Here, Frozen}
-use Rattle.dm_mirror.proofs.Names.{Incoming, Of, Told, token_at, token_is, is_server, Run, Placed, IsSuch, KernelState, about_of, ComesStand, KernelStands, KnownStands, LeavesStand, Carries, TokensStand, Wants, destination_of, eq_self}
-use Rattle.dm_mirror.proofs.Names.{apart_is, inbox_is, about_same, ◌<◌, ◌||◌, [], IsSome, Chunk, Block, Nothing, IsNextPiece, restarted, block_of, chunk_of, coming, by_pieces, takes_room, own_sort, Mirrors, FitsKernel, MayLeave, MayRestart}
-use Rattle.dm_mirror.proofs.Names.{MadeStands, nat_tests, Asker, sort_of}
+use Rattle.dm_mirror.proofs.Names.{◌≡◌, ℕ, ◌/◌, ◌≤◌, ◌==◌, ◌&&◌, not, Bool, true, false, length, refl, ap, ◌∙◌, sym, subst, arith, if◌then◌else◌, length-map, Option, None, Some, false≢true, All-nil, Pid, Message, MsgId, What, MessageKind}
+use Rattle.dm_mirror.proofs.Names.{Record, kind_of, IsLawfulMessage, Process, IsLawfulProcess, frozen_of, incoming_of, IsAskOfProcess, Arrival, CanMove, Departure, ask_of, HasBlock, HasChunk, state_of, Boot, Phase, Moves, kind_comes}
+use Rattle.dm_mirror.proofs.Names.{is_apart, is_away, is_between, is_early, tells_onward, is_restart, knows, kind_leaves, receiver_in, sender_in, told_between, Point, Inbox, standing, View, Known, Unknown, Frozen, Incoming, Of, Told}
+use Rattle.dm_mirror.proofs.Names.{token_at, token_is, is_server, Run, Placed, IsSuch, KernelState, about_of, ComesStand, KernelStands, KnownStands, LeavesStand, Carries, TokensStand, Wants, destination_of, eq_self, apart_is, inbox_is}
+use Rattle.dm_mirror.proofs.Names.{about_same, ◌<◌, ◌||◌, [], IsSome, Chunk, Block, Nothing, IsNextPiece, restarted, block_of, chunk_of, coming, by_pieces, takes_room, own_sort, Mirrors, FitsKernel, MayLeave, MayRestart, MadeStands}
+use Rattle.dm_mirror.proofs.Names.{nat_tests, Asker, sort_of}
 use Rattle.dm_migrate.specs.Way.{moved}
 use Rattle.dm_mirror.proofs.May.Own.{OwnFront, has_taken, life_is}
 use Rattle.dm_mirror.proofs.Turning.{is_moving}

@@ -4,9 +4,8 @@ use Rattle.dm_mirror.proofs.Names.{◌≡◌, ℕ, ◌≤◌, Bool, true, false,
 use Rattle.dm_mirror.proofs.Names.{nat_tests, plain_message, incoming_of, Boot, bind, id_eq-is, id_eq-same, first_gives, own_given, is_between, Point, Spot, standing, Of, Told, View, after_put, first_told, is_kernels, put_at, put_spots}
 use Rattle.dm_mirror.proofs.Names.{PairsFit, put_told_off, Sane, plain_not, Placed, Mirrors, KeepsPlaces, lines_keep, routed_keeps, told_keeps, own_put_mirrors, WorldState, AllOwnStand, OwnStands, told_of, History, StandsWith, AllRecords}
 use Rattle.dm_mirror.proofs.Names.{Carries, TokenStands, TokensStand, destination_of, first_none, length, ◌⊎◌, at_machine, is_full, routes, Acted, Goes, Worn, spoken, Line, Load, Stage, OneKernel, Addresses, given, moved, at_id, About}
-use Rattle.dm_mirror.proofs.Names.{Sort, sort_of, ◌≢◌, zero, suc, ◌+◌, ◌<◌, ◌==◌, List, ◌∷◌, map, drop, slice_get, pid_of, Record, Process, Departure, Arrival, first_number, KernelState, room_of, NodeState, and, taken_at, taken_by}
-use Rattle.dm_mirror.proofs.Names.{taken_of_home, Known, Unknown, Here, Frozen, Incoming, Forward, Ended, AreMessages, ComesStand, HereStands, KernelStands, KnownStands, LeavesStand, NodeStands, PairStands, RoomStands, servers_at, Asker}
-use Rattle.dm_mirror.proofs.Names.{coming}
+use Rattle.dm_mirror.proofs.Names.{sort_of, ◌≢◌, zero, suc, ◌+◌, ◌<◌, ◌==◌, List, ◌∷◌, map, drop, slice_get, pid_of, Record, Process, Departure, Arrival, first_number, KernelState, room_of, NodeState, and, taken_at, taken_by, taken_of_home}
+use Rattle.dm_mirror.proofs.Names.{Known, Unknown, Here, Frozen, Incoming, Forward, Ended, AreMessages, ComesStand, HereStands, KernelStands, KnownStands, LeavesStand, NodeStands, PairStands, RoomStands, servers_at, Asker, coming}
 use Rattle.dm_places.specs.PlacedStep.{with_message}
 pub use Rattle.dm_rulelaws.proofs.Based.Queues.{told_kept as told_stays}
 use Rattle.dm_mirror.proofs.Turning.{Route, First, On, Own, MayOwn, MayPut, IsCarried, message_of, rule_part_of, Late, Nothing, Leaves, LateTopic, late_point}

@@ -1,8 +1,8 @@
 -- Behind the lines of a still row as many pieces were asked for as before, and a kernel's own message that stands somewhere stood there before.
-use Rattle.dm_mirror.proofs.Names.{◌≡◌, ℕ, ◌≤◌, ◌&&◌, Bool, true, false, List, [], ◌∷◌, ◌++◌, map, refl, ap, ◌∙◌, subst, arith, if◌then◌else◌, Option, None, Some, false≢true, Pid, MsgId, id_eq, nat_tests, MessageKind, Label, OneKernel}
-use Rattle.dm_mirror.proofs.Names.{bind, id_eq-is, pid_eq-is, bind-is, Line, Says, Point, after, after_line, kernel_after, label_of, moved, without_front, without_id, Spot, Queue, Inbox, times, standing, View, Told, after_label, view_after}
-use Rattle.dm_mirror.proofs.Names.{handled, queued_for, dropped_for, receiver_of, is_kernels, eq_is, queued_spots, Needs, Walks, not, ⊤, Message, PlainMessage, Step, Boot, letter_of, Phased, told_some, Begins, WalksOf, resting, round_walks}
-use Rattle.dm_mirror.proofs.Names.{handles_walks, by_hears, about_off, seen, sort_of}
+use Rattle.dm_mirror.proofs.Names.{◌≡◌, ℕ, ◌≤◌, ◌&&◌, Bool, true, false, List, [], ◌∷◌, ◌++◌, map, refl, ap, ◌∙◌, subst, arith, Option, None, Some, false≢true, Pid, MsgId, nat_tests, MessageKind, Label, OneKernel, bind, id_eq-is, pid_eq-is}
+use Rattle.dm_mirror.proofs.Names.{bind-is, Line, Says, Point, after, after_line, kernel_after, label_of, moved, without_front, without_id, Spot, Queue, Inbox, times, standing, View, Told, after_label, view_after, handled, queued_for}
+use Rattle.dm_mirror.proofs.Names.{dropped_for, receiver_of, is_kernels, eq_is, queued_spots, Needs, Walks, not, ⊤, Message, PlainMessage, Step, Boot, letter_of, Phased, told_some, Begins, WalksOf, resting, round_walks, handles_walks}
+use Rattle.dm_mirror.proofs.Names.{by_hears, about_off, seen, sort_of}
 use Rattle.dm_rule.proofs.Names.{Part}
 use Rattle.dm_rule.proofs.Lines.{parts}
 use Rattle.dm_rulelaws.specs.KnownStands.{KnownStands}

@@ -1,8 +1,8 @@
 -- What the one message of a migration under way carries stays, where a row is no migration's.
 use Rattle.dm_mirror.proofs.Names.{◌≡◌, ℕ, ◌≤◌, ◌==◌, ◌&&◌, Bool, true, false, not, refl, ap, ◌∙◌, sym, subst, if◌then◌else◌, Option, None, Some, false≢true, Pid, pid_of, Message, MsgId, What, MessageKind, kind_of, plain_message}
-use Rattle.dm_mirror.proofs.Names.{plain_what, with_what, Process, incoming_of, Arrival, Phase, Moves, kind_comes, is_apart, is_away, is_between, is_early, tells_onward, is_restart, knows, kind_leaves, receiver_in, sender_in, told_between}
-use Rattle.dm_mirror.proofs.Names.{Point, Spot, standing, View, Known, Of, Told, is_kernels, InPhases, token_is, token_at, Placed, AllOwnStand, told_of, AllRecords, Carries, TokenStands, TokensStand, destination_of, left_true, right_true}
-use Rattle.dm_mirror.proofs.Names.{List, [], ◌∷◌, ◌++◌, map, inl, inr, arith, eqb_tells, Boot, at_machine, Run, KernelState, nat_tests, Part, Asker, sort_of}
+use Rattle.dm_mirror.proofs.Names.{plain_what, with_what, Process, incoming_of, Arrival, Phase, Moves, kind_comes, is_apart, is_away, is_between, is_early, tells_onward, knows, kind_leaves, receiver_in, sender_in, told_between, Point, Spot}
+use Rattle.dm_mirror.proofs.Names.{standing, View, Known, Of, Told, is_kernels, InPhases, token_is, token_at, Placed, AllOwnStand, told_of, AllRecords, Carries, TokenStands, TokensStand, destination_of, left_true, right_true, List, [], ◌∷◌}
+use Rattle.dm_mirror.proofs.Names.{◌++◌, map, inl, inr, arith, eqb_tells, Boot, at_machine, Run, KernelState, nat_tests, Part, Asker, sort_of}
 use Rattle.dm_mirror.proofs.Turning.{is_moving, AllMayPut, First, IsSent, Nothing, Route, Row, TurnsAt, begun, owns, part_of, routed, rule_part_of, rule_routed}
 use Rattle.dm_mirror.proofs.Kernel.Sets.{eq_self, not_is, off_if, on_if, eq_apart}
 use Rattle.dm_mirror.proofs.Row.Lines.{StillKeeps, still_keeps, row_walks}

@@ -2,8 +2,8 @@
 use Rattle.dm_movelaws.proofs.Names.{◌≡◌, ℕ, ◌+◌, ◌==◌, true, false, List, [], ◌∷◌, refl, ap, ◌∙◌, sym, subst, arith, Option, None, Some, nat_tests, Pid, MsgId, id_of, PlainMessage, PlainWhat, Direction, Boot, Label, PlainProcess}
 use Rattle.dm_movelaws.proofs.Names.{PlainStatus, Moving, Life, Alive, OneKernel, answer_id, is_of_memory, replay, Step, Point, labels, entry, reception, is_piece, pending_of, after_step, Sound, bind-is, piece_fits, status_awaits, WhatFits}
 use Rattle.dm_movelaws.proofs.Names.{KernelFits, based_always, both, fits_step, group_replay, Based, HasEnded, HasPiece, MoversHavePieces, Spelled, group_of, InOrder, step_constant, ◌⊎◌, Bool, length, take, drop, inl, inr, ⊤, if◌then◌else◌}
-use Rattle.dm_movelaws.proofs.Names.{PlainLink, instruction, switchboard, manager, Reply, Why, with_process, with_sent, Called, Sends, answer_to, first_failed, without_message, ServerSends, board_takes_lem, manager_takes_lem, lands-is}
-use Rattle.dm_movelaws.proofs.Names.{by_step, Lives, Grown, LifeGrows, stayed, came, Outcome, without_note, answers_piece, asks_piece, plain_kind}
+use Rattle.dm_movelaws.proofs.Names.{PlainLink, switchboard, manager, Reply, Why, with_process, with_sent, Called, Sends, answer_to, first_failed, without_message, ServerSends, board_takes_lem, manager_takes_lem, lands-is, by_step, Lives}
+use Rattle.dm_movelaws.proofs.Names.{Grown, LifeGrows, stayed, came, Outcome, without_note, answers_piece, asks_piece, plain_kind}
 use Rattle.dm_rulelaws.proofs.Names.{awaits}
 use Rattle.dm_movelaws.specs.Movers.{Moves}
 use Rattle.dm_rule.proofs.Names.{begun}

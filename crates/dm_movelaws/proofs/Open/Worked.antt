@@ -1,5 +1,5 @@
 -- Where a migration is open by some lines, and which steps are another's, computed.
-use Rattle.dm_movelaws.proofs.Names.{◌≡◌, true, false, List, [], ◌∷◌, refl, Pid, pid_of, MsgId, PlainMessage, Label, Step, Stage, OneKernel, Some, Line, is_open, IsAnothers, drop}
+use Rattle.dm_movelaws.proofs.Names.{◌≡◌, true, false, List, [], ◌∷◌, refl, Pid, pid_of, MsgId, PlainMessage, Label, Step, Stage, OneKernel, Some, Line, is_open, IsAnothers}
 
 abbrev p : Pid
 p = pid_of 0 3

@@ -1,8 +1,7 @@
 -- Which holders a label gives an address to doesn't rest on the addresses that there are.
 use Rattle.dm_movelaws.proofs.Names.{◌≡◌, ℕ, ◌+◌, Bool, List, [], ◌∷◌, ◌++◌, map, refl, ap, ◌∙◌, sym, ◌||◌, Option, Pid, Place, PlainLink, first_empty, MsgId, PlainMessage, PlainWhat, Label, PlainProcess, OneKernel, View, Addresses, Holder}
-use Rattle.dm_movelaws.proofs.Names.{Slot, Enclosed, Gets, gives, holder_eq, encloses, enclosed_from, sends_burden, receives_links, receives_burden, slot_after, child_links, creates_burden, manager_tells_burden, manager_sends, gives_to}
-use Rattle.dm_movelaws.proofs.Names.{manager_takes_burden, nat_tests, arith, None, Some, ◌==◌, ◌&&◌, true, false, if◌then◌else◌, pid_eq-same, given, leads_to, unmoved, ascends, eq_self, AtHome, HomesAre, homes_are, at_home, SaidOn}
-use Rattle.dm_movelaws.proofs.Names.{label_on, burden_of}
+use Rattle.dm_movelaws.proofs.Names.{Slot, Enclosed, Gets, gives, holder_eq, encloses, enclosed_from, sends_burden, receives_links, receives_burden, slot_after, child_links, creates_burden, manager_sends, gives_to, manager_takes_burden}
+use Rattle.dm_movelaws.proofs.Names.{nat_tests, arith, None, Some, ◌==◌, ◌&&◌, true, false, if◌then◌else◌, pid_eq-same, given, leads_to, unmoved, ascends, eq_self, AtHome, HomesAre, homes_are, at_home, SaidOn, label_on, burden_of}
 use Rattle.dm_rule.proofs.Homes.Serves.{Named}
 use Rattle.dm_onekernel.specs.Manager as manage
 use Rattle.dm_onekernel.specs.Step as kernel

@@ -4,7 +4,7 @@ use Rattle.dm_movelaws.proofs.Names.{handled_first, released, receiver_of, Spot,
 use Rattle.dm_movelaws.proofs.Names.{home_off, proto_off, accepted_off, state_off, memory_off, lacks_off, left_off, restarted_off, handled_spots, queued_spots, held_spots, forwarded_spots, ◌⊎◌, Bool, true, not, filter, if◌then◌else◌}
 use Rattle.dm_movelaws.proofs.Names.{Option, None, Some, false≢true, MessageKind, OneKernel, id_eq-is, id_eq-same, Step, Load, Told, NothingElse, is_kernels, taken_id, held_for, Point, out_of, not_kernels, gone_in, at_record_at, not_true}
 use Rattle.dm_movelaws.proofs.Names.{one_of, PairsFit, served_keeps, serving_off, created_off, IsNetLine, early_off, acked_off, emptied, both_lists, both_times, dropped_spots, put_spots, taken_calm, put_spot, put_there, Sane, packet_off}
-use Rattle.dm_movelaws.proofs.Names.{received_spots, ended_off, nat_tests, About, Target, aim, about_off, Place, after_step, Sound, bind-is, Addresses, Holder, Slot, Gets, gives, all_follow, first_gives, leads_to, updated, addresses_after}
+use Rattle.dm_movelaws.proofs.Names.{received_spots, ended_off, nat_tests, About, Target, aim, about_off, after_step, Sound, bind-is, Addresses, Holder, Slot, Gets, gives, all_follow, first_gives, leads_to, updated, addresses_after}
 use Rattle.dm_movelaws.proofs.Names.{ascends, label_of, kernel_after, after_line, after, moved, hushed, put_at, put_told_off, gives_to, fills, Unfilled, first_kept, ◌≢◌, length, slice_get, Boot, IsValid, Leads, first_point, Trails}
 use Rattle.dm_movelaws.proofs.Names.{AddressesOn, Unknown, is_moving, IsThere}
 use Rattle.dm_rule.proofs.Moves.Sent.{sent_off}

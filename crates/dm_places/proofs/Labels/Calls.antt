@@ -1,9 +1,9 @@
 -- What a call leaves of a process with places, and of what it sends: each address that it gives is the one that stands there.
 use Rattle.dm_places.proofs.Names.{◌≡◌, ℕ, Bool, true, false, List, [], ◌∷◌, refl, ap, ◌∙◌, sym, subst, arith, ⊤, if◌then◌else◌, map, slice_get, slice_set, filter_map, cons_option, is_none, Option, None, Some, Pid, Link, Place, place_of}
-use Rattle.dm_places.proofs.Names.{pid_eq, plain_link, first_empty, link_at, plain_slot, MsgId, Message, id_eq, PlainMessage, User, Read, Write, plain_message, Process, Direction, Regs, past, Reply, plain_process, reg, CallNumber}
-use Rattle.dm_places.proofs.Names.{first_failed, piece_of, address_of, moving, request, Called, Done, emptied, links_in, first_of, slot_at, pid_eq-same, id_eq-same, View, Addresses, Gets, gets, given, Slot, Owner, Receiver, Sender}
-use Rattle.dm_places.proofs.Names.{acting_place, encloses, fills, fills_by, sends_burden, set_link, emptied_link, SameProcess, SameMessage, SameServers, encloses_servers, encloses_process, encloses_message, encloses_at, gives_by, no_gives}
-use Rattle.dm_places.proofs.Names.{or-left, or-right, MirrorsProcess, MirrorsMessage, enclosed, owner_at, burden_of}
+use Rattle.dm_places.proofs.Names.{pid_eq, plain_link, first_empty, link_at, plain_slot, MsgId, Message, id_eq, PlainMessage, User, plain_message, Process, Direction, Regs, past, Reply, plain_process, reg, CallNumber, first_failed}
+use Rattle.dm_places.proofs.Names.{address_of, Called, Done, emptied, links_in, first_of, slot_at, pid_eq-same, id_eq-same, View, Addresses, Gets, gets, given, Slot, Owner, Receiver, Sender, acting_place, encloses, fills, fills_by}
+use Rattle.dm_places.proofs.Names.{sends_burden, set_link, emptied_link, SameProcess, SameMessage, SameServers, encloses_servers, encloses_process, encloses_message, encloses_at, gives_by, no_gives, or-left, or-right, MirrorsProcess}
+use Rattle.dm_places.proofs.Names.{MirrorsMessage, enclosed, owner_at, burden_of}
 use Rattle.dm_onekernel.specs.Calls as one
 use Rattle.dm_syscall.specs.Calls as calls
 
@@ -150,20 +150,7 @@ move_sent v a p m x y to there from none pid moves table owner h = search (arith
 
 begins_kept : (v : View) (a : Addresses) (p : Pid) (x : Process) (w : Link) (dir : Direction) → link_at x.table (reg x.regs 1) ≡ Some w → MirrorsProcess v a p x
     → MirrorsDone v a p x one.Move (calls.begins v.acting (behind x) (calls.whole (behind x) w dir))
-begins_kept v a p x w Direction.FromArea over h k e =
-    let r = calls.whole (behind x) w Direction.FromArea in
-    let m = request v.acting (behind x) r in
-    let z : PlainMessage = record { id = m.id; to = m.to.pid; sender = m.sender.pid; what = Read r.base (piece_of r.left) } in
-    let f : z ≡ k = cc in
-    subst (λ (u : PlainMessage). MirrorsSent v a (given a (sends_burden v a p (plain_process x) u.id (burden_of u.what))) p m (moving (behind x) r)) f
-    (move_sent v a p m x (moving (behind x) r) (a (Slot p (reg x.regs 1))) (h.slots (reg x.regs 1) w over) (stands_here v a p x h) refl refl refl refl refl h)
-begins_kept v a p x w Direction.IntoArea over h k e =
-    let r = calls.whole (behind x) w Direction.IntoArea in
-    let m = request v.acting (behind x) r in
-    let z : PlainMessage = record { id = m.id; to = m.to.pid; sender = m.sender.pid; what = Write r.base (one.memory_at (plain_process x) r.own (piece_of r.left)) } in
-    let f : z ≡ k = cc in
-    subst (λ (u : PlainMessage). MirrorsSent v a (given a (sends_burden v a p (plain_process x) u.id (burden_of u.what))) p m (moving (behind x) r)) f
-    (move_sent v a p m x (moving (behind x) r) (a (Slot p (reg x.regs 1))) (h.slots (reg x.regs 1) w over) (stands_here v a p x h) refl refl refl refl refl h)
+begins_kept v a p x w dir h1 h2 = search (arith, move_sent, stands_here)
 
 moves_over_kept : (v : View) (a : Addresses) (p : Pid) (x : Process) (w : Link) (o : Option Direction) → link_at x.table (reg x.regs 1) ≡ Some w → MirrorsProcess v a p x
     → MirrorsDone v a p x one.Move (calls.moves_over v.acting (behind x) w o)

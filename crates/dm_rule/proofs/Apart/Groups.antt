@@ -1,16 +1,15 @@
 -- A group has no label of a process that moves, and leaves its plain value.
-use Rattle.dm_rule.proofs.Names.{◌≡◌, ◌≢◌, ℕ, ◌+◌, ◌==◌, Bool, true, false, List, [], ◌∷◌, ◌++◌, length, refl, ap, ◌∙◌, sym, subst, if◌then◌else◌, slice_get, Option, None, Some, false≢true, Pid, pid_of, MsgId, MessageKind, plain_kind, Boot}
-use Rattle.dm_rule.proofs.Names.{Label, first_number, bind, OneKernel, Step, Load, Line, Here, own_id, Receiver, Point, label_of, kernel_after, moved, after_line, after, first_point, Part, Says, Routes, Again, Owns, Transmits, Spelled}
-use Rattle.dm_rule.proofs.Names.{lines_of, puts, goes_out, packet_line, behind, spelled, migrates, Nowhere, Moves, knows, IsIn, Spares, AllSpare, group_of, MovingStaysAlways, bind-is, arith}
+use Rattle.dm_rule.proofs.Names.{◌≡◌, ◌≢◌, ℕ, ◌+◌, ◌==◌, Bool, List, [], ◌∷◌, ◌++◌, length, refl, ap, ◌∙◌, sym, subst, if◌then◌else◌, slice_get, Option, Some, false≢true, Pid, pid_of, MsgId, MessageKind, plain_kind, Boot, Label}
+use Rattle.dm_rule.proofs.Names.{first_number, bind, OneKernel, Step, Load, Line, Here, own_id, Receiver, Point, label_of, kernel_after, moved, after_line, after, first_point, Part, Says, Routes, Again, Owns, Transmits, Spelled, lines_of}
+use Rattle.dm_rule.proofs.Names.{puts, goes_out, packet_line, behind, spelled, migrates, Nowhere, Moves, knows, IsIn, Spares, AllSpare, group_of, MovingStaysAlways, bind-is, arith}
 use Rattle.dm_rule.proofs.Groups.{arrives_net, resends_net}
 use Rattle.dm_rule.proofs.Phases.Lives.{nowhere_known}
 use Rattle.dm_rule.proofs.Phases.Groups.{Rooted}
 use Rattle.dm_rule.proofs.Phases.Always.{phased_start, phased_on}
 use Rattle.dm_rule.proofs.Rooted.Groups.{moves_away, rooted}
-use Rattle.dm_rule.proofs.Apart.Steps.{Keeps, keeps_step}
+use Rattle.dm_rule.proofs.Apart.Steps.{keeps_step}
 use Rattle.dm_rule.proofs.Apart.Rows.{SparesPart, FirstApart, ApartOf, apart_first}
 use Rattle.dm_rule.proofs.Apart.Turns.{turns_apart, net_apart, migrates_apart}
-use Rattle.dm_onekernel.specs.Step as kernel
 use Rattle.dm_rule.specs.Rule as rule
 
 -- what lines say, seen from a kernel, and where they lead

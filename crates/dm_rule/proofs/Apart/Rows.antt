@@ -1,6 +1,5 @@
 -- The labels of a group: what is another process's.
-use Rattle.dm_rule.proofs.Names.{◌≡◌, ◌≢◌, ℕ, ◌+◌, List, [], ◌∷◌, refl, ⊤, Option, None, Some, Pid, pid_of, MsgId, MessageKind, plain_kind, PlainMessage, Boot, first_number, OneKernel, Here, Addresses, Point, label_of, Part, Says}
-use Rattle.dm_rule.proofs.Names.{forwards_on, Spares}
+use Rattle.dm_rule.proofs.Names.{◌≡◌, ◌≢◌, ℕ, ◌+◌, List, [], ◌∷◌, refl, ⊤, Option, None, Some, Pid, pid_of, MsgId, plain_kind, PlainMessage, Boot, first_number, OneKernel, Here, Point, label_of, Part, Says, Spares}
 use Rattle.dm_rule.specs.Rule as rule
 use Rattle.dm_rule.proofs.Serving.{by_round, by_handles, by_forwards}
 

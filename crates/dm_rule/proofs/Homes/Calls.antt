@@ -1,8 +1,8 @@
 -- What a call gives: each address that it gives is one that the process that it is of may have.
-use Rattle.dm_rule.proofs.Names.{◌≡◌, ℕ, zero, suc, ◌+◌, ◌==◌, ◌&&◌, ◌||◌, Bool, true, false, List, [], ◌∷◌, refl, ap, ◌∙◌, sym, subst, inl, inr, arith, nat_lt, ⊤, if◌then◌else◌, map, slice_get, slice_set, filter_map, cons_option, is_none}
-use Rattle.dm_rule.proofs.Names.{Option, None, Some, nat_tests, Pid, Place, pid_eq, PlainLink, first_empty, link_at, MsgId, id_eq, id_of, PlainMessage, Direction, direction_numbered, Regs, Row, instruction, past, Reply, PlainProcess}
-use Rattle.dm_rule.proofs.Names.{Waiting, reg, setting, OneKernel, CallNumber, Called, Replies, Sends, Waits, Outputs, Ends, first_failed, pid_eq-same, id_eq-same, bind-is, View, Addresses, Gets, gets, given, Slot, Owner, Receiver, Sender}
-use Rattle.dm_rule.proofs.Names.{acting_place, encloses, fills, fills_by, sends_burden, owner_in, links_in, burden_of}
+use Rattle.dm_rule.proofs.Names.{◌≡◌, ℕ, zero, suc, ◌||◌, Bool, true, false, List, [], ◌∷◌, refl, ap, ◌∙◌, sym, subst, arith, nat_lt, ⊤, if◌then◌else◌, map, slice_get, slice_set, filter_map, cons_option, is_none, Option, None, Some, Pid}
+use Rattle.dm_rule.proofs.Names.{Place, pid_eq, PlainLink, first_empty, link_at, MsgId, id_eq, id_of, PlainMessage, Direction, direction_numbered, Regs, Row, instruction, past, Reply, PlainProcess, reg, setting, OneKernel, CallNumber}
+use Rattle.dm_rule.proofs.Names.{Called, Replies, Sends, Waits, Outputs, Ends, first_failed, pid_eq-same, id_eq-same, bind-is, View, Addresses, Gets, gets, given, Slot, Owner, Receiver, Sender, acting_place, encloses, fills, fills_by}
+use Rattle.dm_rule.proofs.Names.{sends_burden, owner_in, links_in, burden_of}
 use Rattle.dm_rule.proofs.Homes.{place_as, pid_as, HomeProcess, HomeMessage, AtHome}
 use Rattle.dm_rule.proofs.Homes.Slots.{set_link, emptied_link, without_replies_link, past_call}
 use Rattle.dm_rule.proofs.Homes.Rows.{SameProcess, SameMessage, SameServers, running_home, encloses_servers, encloses_process, encloses_message, encloses_at}

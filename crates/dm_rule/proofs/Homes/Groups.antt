@@ -1,7 +1,7 @@
 -- A group keeps all of it where its first part is said where it belongs.
-use Rattle.dm_rule.proofs.Names.{◌≡◌, ℕ, zero, suc, ◌+◌, ◌==◌, Bool, true, false, List, [], ◌∷◌, ◌++◌, length, refl, ap, ◌∙◌, sym, subst, ◌⊎◌, inl, inr, ⊤, if◌then◌else◌, Option, None, Some, Pid, MsgId, Boot, Label, OneKernel, bind}
-use Rattle.dm_rule.proofs.Names.{bind-is, Line, Load, View, Pair, queued_for, handled, Point, after, after_line, moved, Part, Says, Transmits, Spelled, behind, spelled, lines_of, slice_get, ◌-◌, nat_lt, pair_window, Step, actor, begins}
-use Rattle.dm_rule.proofs.Names.{marked, SentLoad, NothingElse, group_of, outcome, IsStill, AskNone, arith, nat_tests}
+use Rattle.dm_rule.proofs.Names.{◌≡◌, ℕ, zero, suc, ◌==◌, true, List, [], ◌∷◌, ◌++◌, refl, ap, ◌∙◌, sym, subst, ◌⊎◌, inl, inr, ⊤, if◌then◌else◌, Option, None, Some, Pid, MsgId, Boot, Label, OneKernel, bind, bind-is, Line, Load, View, Pair}
+use Rattle.dm_rule.proofs.Names.{queued_for, handled, Point, after, after_line, moved, Part, Says, Spelled, behind, spelled, lines_of, slice_get, ◌-◌, Step, actor, begins, marked, SentLoad, NothingElse, group_of, outcome, IsStill, AskNone}
+use Rattle.dm_rule.proofs.Names.{arith, nat_tests}
 use Rattle.dm_rule.proofs.Homes.Labels.{SaidAt, RingsHome, rings_same}
 use Rattle.dm_rule.proofs.Homes.Lists.{stands, queue_lists}
 use Rattle.dm_rule.proofs.Homes.Lines.{NoneReplaced, Home, Kept, same_lists, label_keeps}

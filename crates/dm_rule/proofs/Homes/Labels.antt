@@ -1,7 +1,6 @@
 -- Each label keeps addresses where they may be, as at homes, and what it does to the rings too.
-use Rattle.dm_rule.proofs.Names.{◌≡◌, ℕ, ◌==◌, ◌&&◌, Bool, true, false, not, List, [], ◌∷◌, ◌++◌, refl, ap, ◌∙◌, sym, inl, inr, arith, ⊤, if◌then◌else◌, filter, Option, None, Some, cases_Bool, nat_tests, Pid, Place, pid_eq, MsgId}
-use Rattle.dm_rule.proofs.Names.{MessageKind, Label, OneKernel, at_machine, at_record, without, moved_back, View, Told, Known, Here, Frozen, Incoming, Forward, after_label, served_told, ends_by, ended, handled, Addresses, given, gives}
-use Rattle.dm_rule.proofs.Names.{unmoved, acting_place, are_home, sort_of}
+use Rattle.dm_rule.proofs.Names.{◌≡◌, ℕ, ◌==◌, ◌&&◌, Bool, true, false, not, List, [], ◌∷◌, ◌++◌, refl, ap, ◌∙◌, arith, ⊤, if◌then◌else◌, filter, Option, None, Some, nat_tests, Pid, Place, pid_eq, MsgId, MessageKind, Label, OneKernel}
+use Rattle.dm_rule.proofs.Names.{at_machine, at_record, without, moved_back, View, Told, Known, Frozen, Incoming, Forward, after_label, served_told, ends_by, Addresses, given, gives, acting_place, are_home, sort_of}
 use Rattle.dm_rule.proofs.Homes.{IsHome, AtHome}
 use Rattle.dm_rule.proofs.Homes.Steps.{ran_home, call_home, send_home, wait_home, out_home, end_home}
 use Rattle.dm_rule.proofs.Homes.Receives.{receive_home, refuse_home}
@@ -115,9 +114,7 @@ pub rings_same : (v w : View) → w.moves ≡ v.moves → w.ring ≡ v.ring → 
 rings_same v w moves ring known k = search arith
 
 kills_rings : (v : View) (k : MessageKind) (o : Option Pid) → RingsHome v → RingsHome (ends_by (sort_of k) v o)
-kills_rings v MessageKind.Kill (Some p) h = rings_set v (ended v p) (without p (v.ring v.acting)) refl refl (known_set v v.acting p view.Ended refl h) (without_home v.acting p (v.ring v.acting) (h.ring v.acting)) h
-kills_rings v MessageKind.Kill None h = h
-kills_rings v _ o h = h
+kills_rings v k o h1 = search (arith, rings_set, known_set, without_home)
 
 told_rings : (v : View) (o : Option Told) → RingsHome v → RingsHome (served_told v o)
 told_rings v o h1 = search (arith, kills_rings)

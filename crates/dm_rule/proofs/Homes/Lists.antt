@@ -1,7 +1,7 @@
 -- Each message stands where its receiver is at home: what lines do to the lists that messages stand in.
-use Rattle.dm_rule.proofs.Names.{◌≡◌, ℕ, zero, suc, ◌+◌, ◌≤◌, ◌==◌, ◌&&◌, Bool, true, false, not, List, [], ◌∷◌, ◌++◌, drop, refl, ap, ◌∙◌, sym, inl, inr, arith, nat_le, if◌then◌else◌, slice_get, filter, Option, None, Some, cases_Bool}
-use Rattle.dm_rule.proofs.Names.{nat_tests, Pid, pid_eq, MsgId, id_eq, MessageKind, PlainMessage, Label, OneKernel, at_machine, at_pair, at_record, without_id, without_front, untaken, View, Pair, Told, after_label, served_told, ends_by}
-use Rattle.dm_rule.proofs.Names.{handled, routed_on, after_put, after_taken, taken_id, oldest, queued_for, is_for_home, are_for_home, both_true, sort_of}
+use Rattle.dm_rule.proofs.Names.{◌≡◌, ℕ, zero, suc, ◌+◌, ◌≤◌, ◌==◌, ◌&&◌, Bool, true, false, List, [], ◌∷◌, ◌++◌, drop, refl, ap, ◌∙◌, sym, arith, nat_le, if◌then◌else◌, slice_get, Option, None, Some, nat_tests, Pid, MsgId, id_eq}
+use Rattle.dm_rule.proofs.Names.{MessageKind, PlainMessage, Label, OneKernel, at_machine, at_pair, at_record, without_id, without_front, untaken, View, Pair, after_label, served_told, ends_by, handled, after_put, after_taken, taken_id}
+use Rattle.dm_rule.proofs.Names.{queued_for, is_for_home, are_for_home, both_true, sort_of}
 use Rattle.dm_rule.specs.View as view
 
 -- each of these messages has entered, and is for a receiver of this home as long as it is in the bag
@@ -95,9 +95,7 @@ dropped_lists : (s : OneKernel) (e : MsgId → ℕ) (v : View) (id : MsgId) (o :
 dropped_lists s e v id o h1 = search (arith, queue_set, all_stand_front)
 
 kills_lists : (s : OneKernel) (e : MsgId → ℕ) (v : View) (k : MessageKind) (o : Option Pid) → ListsHome s e v → ListsHome s e (ends_by (sort_of k) v o)
-kills_lists s e v MessageKind.Kill (Some p) h = record { inbox = h.inbox; queue = h.queue; untaken = h.untaken }
-kills_lists s e v MessageKind.Kill None h = h
-kills_lists s e v _ o h = h
+kills_lists s e v k o h1 = search arith
 
 pub label_lists : (s : OneKernel) (e : MsgId → ℕ) (v : View) (l : Label) → ListsHome s e v → ListsHome s e (after_label v l)
 label_lists s e v (Label.Ran p k) h = record { inbox = h.inbox; queue = h.queue; untaken = h.untaken }

@@ -1,8 +1,8 @@
 -- Receives keep addresses where they may be.
 use Rattle.dm_rule.proofs.Names.{◌≡◌, ℕ, zero, suc, ◌+◌, ◌==◌, ◌&&◌, Bool, true, false, List, [], ◌∷◌, ◌++◌, refl, ap, ◌∙◌, sym, subst, inl, inr, arith, nat_lt, length, if◌then◌else◌, cond, slice_get, slice_set, is_none, position_or_len}
-use Rattle.dm_rule.proofs.Names.{Option, None, Some, cases_Bool, false≢true, nat_tests, Pid, Place, pid_eq, PlainLink, first_empty, link_at, MsgId, Label, PlainMessage, PlainWhat, on_mask, Regs, Reply, reply_eq, reply_code, bind}
-use Rattle.dm_rule.proofs.Names.{PlainProcess, PlainStatus, Ready, Waiting, setting, Alive, OneKernel, first_failed, without_message, pid_eq-same, bind-is, when-is, View, Addresses, Gets, given, gives, Slot, Enclosed, fills, receives_links}
-use Rattle.dm_rule.proofs.Names.{receives_burden, slot_after, links_in, at_hand-is, burden_of}
+use Rattle.dm_rule.proofs.Names.{Option, None, Some, cases_Bool, false≢true, nat_tests, Pid, Place, pid_eq, PlainLink, first_empty, link_at, MsgId, Label, PlainMessage, PlainWhat, on_mask, Reply, bind, PlainProcess, PlainStatus, Waiting}
+use Rattle.dm_rule.proofs.Names.{Alive, OneKernel, first_failed, without_message, pid_eq-same, bind-is, when-is, View, Addresses, Gets, given, gives, Slot, Enclosed, fills, receives_links, receives_burden, slot_after, links_in, at_hand-is}
+use Rattle.dm_rule.proofs.Names.{burden_of}
 use Rattle.dm_rule.proofs.Homes.{place_as, pid_as, HomeProcess, AtHome}
 use Rattle.dm_rule.proofs.Homes.Rows.{at_home_process, at_home_out, home_goes, alive_on}
 use Rattle.dm_rule.proofs.Homes.Steps.{OnlySlots, only_none}

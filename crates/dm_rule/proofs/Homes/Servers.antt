@@ -1,7 +1,7 @@
 -- What servers do keeps addresses where they may be.
 use Rattle.dm_rule.proofs.Names.{◌≡◌, ℕ, zero, suc, ◌+◌, ◌==◌, ◌&&◌, Bool, true, false, List, [], ◌∷◌, ◌++◌, refl, ap, ◌∙◌, sym, subst, ◌⊎◌, inl, inr, arith, nat_lt, nat_le, length, if◌then◌else◌, slice_get, Option, None, Some, cases_Bool}
-use Rattle.dm_rule.proofs.Names.{nat_tests, Pid, Place, PlainLink, MsgId, id_eq, id_of, PlainMessage, PlainWhat, bind, OneKernel, without_message, id_eq-same, View, Addresses, gets, given, Receiver, Sender, Enclosed, unmoved, NamedLink}
-use Rattle.dm_rule.proofs.Names.{Pending, switchboard, is_general, Child, Name, Answer, AskedBy, place_named, board_finds, board_keeps, board_takes_burden, links_in, ascends, burden_of}
+use Rattle.dm_rule.proofs.Names.{nat_tests, Pid, Place, PlainLink, MsgId, id_eq, id_of, PlainMessage, PlainWhat, bind, OneKernel, without_message, id_eq-same, View, Addresses, gets, given, Enclosed, unmoved, NamedLink, Pending, switchboard}
+use Rattle.dm_rule.proofs.Names.{is_general, Child, Name, Answer, AskedBy, place_named, board_finds, board_keeps, board_takes_burden, links_in, ascends, burden_of}
 use Rattle.dm_rule.proofs.Homes.{place_as, pid_as, acts_at, AtHome}
 use Rattle.dm_rule.proofs.Homes.Rows.{SameProcess, SameMessage, sent_home, at_home_out, process_same}
 use Rattle.dm_rule.proofs.Homes.Serves.{two, two_off}

@@ -1,6 +1,6 @@
 -- Lists of slots and links, and the registers of a call.
-use Rattle.dm_rule.proofs.Names.{◌≡◌, ℕ, zero, suc, ◌+◌, ◌%◌, ◌==◌, Bool, true, false, List, [], ◌∷◌, length, refl, ◌⊎◌, inl, inr, arith, nat_lt, nat_le, if◌then◌else◌, slice_set, slice_index, Option, None, Some, nat_tests, PlainLink}
-use Rattle.dm_rule.proofs.Names.{link_at, Regs, Opcode, Fault, opcode_of, Row, instruction, past}
+use Rattle.dm_rule.proofs.Names.{◌≡◌, ℕ, zero, suc, ◌+◌, ◌%◌, ◌==◌, Bool, true, false, List, [], ◌∷◌, length, refl, ◌⊎◌, inl, inr, arith, nat_le, if◌then◌else◌, slice_set, slice_index, Option, None, Some, nat_tests, PlainLink, link_at}
+use Rattle.dm_rule.proofs.Names.{Regs, Opcode, Fault, opcode_of, Row, instruction, past}
 use Rattle.dm_processor.specs.Instructions as row
 use Rattle.dm_onekernel.specs.Calls as calls
 

@@ -1,8 +1,7 @@
 -- Where a run begins, each address names the home of its process.
-use Rattle.dm_rule.proofs.Names.{◌≡◌, ℕ, zero, suc, ◌+◌, ◌-◌, ◌==◌, ◌&&◌, ◌||◌, Bool, true, false, List, [], ◌∷◌, ◌++◌, length, refl, ap, ◌∙◌, sym, arith, nat_lt, nat_le, inl, inr, if◌then◌else◌, map, option_map, slice_get, replicate}
-use Rattle.dm_rule.proofs.Names.{Option, None, Some, cases_Bool, nat_tests, Pid, Link, place_of, pid_eq, PlainLink, plain_link, link_at, BootProcess, BootImage, Boot, IsValid, switchboard, manager, processes_are_valid, starting_at}
-use Rattle.dm_rule.proofs.Names.{slots_of, PlainProcess, start, life_at, first_life, begun, slots_with, Alive, pid_eq-is, ring_at, first_point, unmoved, links_at, nth_child, first_addresses, owner_in, Homes, are_home, left_true, right_true}
-use Rattle.dm_rule.proofs.Names.{option_map_or}
+use Rattle.dm_rule.proofs.Names.{◌≡◌, ℕ, zero, suc, ◌==◌, ◌&&◌, ◌||◌, Bool, true, false, List, [], ◌∷◌, ◌++◌, length, refl, ap, ◌∙◌, sym, arith, nat_le, inl, inr, if◌then◌else◌, map, option_map, slice_get, replicate, Option, None, Some}
+use Rattle.dm_rule.proofs.Names.{cases_Bool, nat_tests, Pid, Link, place_of, pid_eq, PlainLink, plain_link, link_at, BootProcess, BootImage, Boot, IsValid, switchboard, manager, processes_are_valid, starting_at, slots_of, PlainProcess}
+use Rattle.dm_rule.proofs.Names.{start, life_at, first_life, begun, Alive, pid_eq-is, ring_at, first_point, unmoved, links_at, nth_child, first_addresses, Homes, are_home, left_true, right_true, option_map_or}
 use Rattle.dm_rule.proofs.Homes.{IsHome, HomeProcess, AtHome, homes_are}
 use Rattle.dm_onekernel.specs.Boot as boot
 use Rattle.dm_onekernel.specs.Manager as manage
@@ -51,14 +50,7 @@ first_link b (x ∷ xs) n (suc k) l valid e = first_link b xs n k l (right_true 
 
 begun_home_of : (b : Boot) (p : BootProcess) (q : Pid) (x : PlainProcess) (o : Option BootImage) → boot.links_are_valid b p.links ≡ true → links_at b.processes q ≡ p.links
     → kernel.alive (option_map (λ image. Alive (begun b.format image (map plain_link p.links))) o) ≡ Some x → HomeProcess IsHome (first_addresses b) q x
-begun_home_of b p q x None valid at e = cc
-begun_home_of b p q x (Some i) valid at e =
-    let f : begun b.format i (map plain_link p.links) ≡ x = cc in
-    let links : slots_with (slots_of b.format) (map plain_link p.links) ≡ x.links = ap (λ (v : PlainProcess). v.links) f in
-    record {
-      slots = λ k l there. ap (λ (v : List Link). option_map_or (λ w. place_of w.addr) (slice_get v k) (unmoved 0)) at ∙ first_link b p.links (slots_of b.format - length (map plain_link p.links)) k l valid (ap (λ (v : List (Option PlainLink)). link_at v k) links ∙ there);
-      owner = λ w moving. absurd (let g : None ≡ Some w = ap (λ (v : PlainProcess). owner_in v.status) f ∙ moving in cc);
-    }
+begun_home_of b p q x o h1 h2 h3 = search (arith, first_link)
 
 links_valid : (b : Boot) (n : ℕ) (p : BootProcess) → boot.process_is_valid b n p ≡ true → boot.links_are_valid b p.links ≡ true
 links_valid b n p e =

@@ -1,9 +1,9 @@
 -- The rows of migration keep that each message stands once.
-use Rattle.dm_rule.proofs.Names.{◌≡◌, ℕ, ◌==◌, Bool, true, false, List, [], ◌∷◌, ◌++◌, refl, ap, ◌∙◌, sym, subst, length, ◌/◌, if◌then◌else◌, Option, None, Some, Pid, pid_of, pid_eq, MsgId, MessageKind, Stage, Boot, switchboard, manager}
-use Rattle.dm_rule.proofs.Names.{PlainProcess, Line, View, Told, About, NothingElse, Of, Known, Unknown, Here, Frozen, Forward, Ended, view_after, handled, handled_first, receiver_of, is_kernels, target_of, with_ring, knowing, released}
-use Rattle.dm_rule.proofs.Names.{after_proto, follows_by, asks_on, held_for, Addresses, Sender, Child, is_told_back, Point, moved, seen, Part, Says, Again, Owns, Spelled, spelled, to_kernel, forwards_on, accepts, takes_chunk, takes_block}
-use Rattle.dm_rule.proofs.Names.{gives_piece, sends_on, leaves, told_step, chunks_of, pieces_of, told_here, told_ended, process_told, told_server, migrates, fits, free_room, kernel_hears, hears, Spot, Queue, Held, Inbox, Untaken, ids_at}
-use Rattle.dm_rule.proofs.Names.{bind-is, label_of, Label, MoveNote, Outcome, Target, Routes, answer_id, answers_move, frozen_for, leaves_for, tells_asker, sets_off, sort_of, option_and_then, slice_get, arith, nat_tests}
+use Rattle.dm_rule.proofs.Names.{◌≡◌, ℕ, ◌==◌, Bool, true, false, List, [], ◌∷◌, ◌++◌, refl, ap, ◌∙◌, sym, subst, length, if◌then◌else◌, Option, None, Some, Pid, pid_of, pid_eq, MsgId, MessageKind, Stage, Boot, switchboard, manager}
+use Rattle.dm_rule.proofs.Names.{PlainProcess, Line, View, Told, About, NothingElse, Known, Unknown, Here, Frozen, Forward, Ended, view_after, handled, handled_first, receiver_of, is_kernels, target_of, with_ring, knowing, released}
+use Rattle.dm_rule.proofs.Names.{after_proto, asks_on, held_for, Addresses, Sender, Child, is_told_back, Point, moved, Part, Says, Again, Owns, Spelled, spelled, to_kernel, forwards_on, accepts, takes_chunk, takes_block, gives_piece}
+use Rattle.dm_rule.proofs.Names.{sends_on, leaves, told_step, chunks_of, pieces_of, told_here, told_ended, process_told, told_server, migrates, kernel_hears, hears, Spot, Queue, ids_at, bind-is, label_of, Label, MoveNote, Outcome, Target}
+use Rattle.dm_rule.proofs.Names.{answer_id, answers_move, frozen_for, leaves_for, tells_asker, sets_off, sort_of, option_and_then, slice_get, arith, nat_tests}
 use Rattle.dm_rule.proofs.Lines.{hidden, Stands-stays}
 use Rattle.dm_rule.proofs.Letters.{letters}
 use Rattle.dm_rule.proofs.Hushed.{is_put, hushed}
@@ -17,8 +17,6 @@ use Rattle.dm_rule.proofs.Requests.{by_migrates}
 use Rattle.dm_rule.proofs.Seen.{about_off}
 use Rattle.dm_rule.proofs.Bags.{bag_answered}
 use Rattle.dm_rule.proofs.Turns.{quiet_label}
-use Rattle.dm_onekernel.specs.Step as kernel
-use Rattle.dm_rule.specs.View as view
 
 -- what the rule saw before the head is what stands behind it
 pub record SeesSame (o pt : Point) (m : ℕ) : Type 0 where
@@ -63,8 +61,7 @@ asks_off v a z = search arith
 
 pub proto_off : (v : View) (o : Option Told) (z : Spot) → ids_at (after_proto v o) z ≡ ids_at v z
 proto_off v None z = about_off v NothingElse z
-proto_off v (Some t) z = about_off (follows_by v t.about (sort_of t.kind)) t.about z ∙ (elim t.kind as (λ k. ids_at (follows_by v t.about (sort_of k)) z ≡ ids_at v z)
-    [ MessageKind.State ↦ asks_off v t.about z | MessageKind.Memory ↦ asks_off v t.about z | _ ↦ refl ])
+proto_off v (Some t) z = search (arith, about_off, asks_off)
 
 for_off : (v : View) (p : Pid) (to : ℕ) (z : Spot) → ids_at (frozen_for v p to) z ≡ ids_at v z
 for_off v p to (Queue m q) = refl
@@ -240,10 +237,7 @@ process_row o pt m i is t _ parts w h fit topic front mine e n = held_row pt i i
 
 kernel_row : (b : Boot) (o pt : Point) (m : ℕ) (i : MsgId) (is : List MsgId) (k : MessageKind) (a : About) (parts : List Part) (w : Spelled) → State None pt → PairsFit pt.view → pt.view.inbox pt.view.acting ≡ i ∷ is → is_kernels i ≡ true → SeesSame o pt m
     → kernel_hears b o m i k a ≡ Some parts → spelled pt parts ≡ Some w → State None w.point
-kernel_row b o pt m i is k (Of p) parts w h fit front mine sees e n =
-    let (x, there, last) = bind-is (kernel.alive (o.kernel.processes p)) (λ x. told_step o m i p (fits (free_room b o m) (length x.memory / 256)) x (sort_of k)) parts e in
-    told_row o pt m i is p (fits (free_room b o m) (length x.memory / 256)) x k parts w h fit front mine sees last n
-kernel_row b o pt m i is k _ parts w h fit front mine sees e n = cc
+kernel_row b o pt m i is k a parts w h1 h2 h3 h4 h5 h6 h7 = search (arith, bind-is, told_row)
 
 hears_by : (b : Boot) (o pt : Point) (m : ℕ) (i : MsgId) (is : List MsgId) (t : Told) (c d g : Bool) (parts : List Part) (w : Spelled) → State None pt → PairsFit pt.view → pt.view.topic ≡ NothingElse → pt.view.inbox pt.view.acting ≡ i ∷ is
     → is_kernels i ≡ true → SeesSame o pt m

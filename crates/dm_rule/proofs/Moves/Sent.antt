@@ -1,9 +1,7 @@
 -- Messages that go on: one that is forwarded, and all that stand in the lists of a process that has left.
-use Rattle.dm_rule.proofs.Names.{◌≡◌, ℕ, zero, suc, ◌+◌, ◌≤◌, ◌==◌, ◌&&◌, Bool, true, false, List, [], ◌∷◌, ◌++◌, refl, ap, ◌∙◌, sym, subst, arith, length, ◌⊎◌, inl, inr, if◌then◌else◌, Option, None, Some, cases_Bool, nat_tests, Pid, MsgId}
-use Rattle.dm_rule.proofs.Names.{MessageKind, id_eq, bind, Label, OneKernel, Line, Load, View, Pair, Told, view_after, handled, handled_first, receiver_of, is_kernels, own_id, forwarded_for, routed_on, after_put, Point, label_of}
-use Rattle.dm_rule.proofs.Names.{kernel_after, moved, seen, after, Part, Says, Again, Owns, Spelled, lines_of, puts, behind, spelled, sends_on, Spot, Queue, Held, times, ids_at, standing, id_eq-is, bind-is}
-use Rattle.std.proofs.Common.{length-append}
-use Rattle.dm_rule.proofs.Once.{one_of}
+use Rattle.dm_rule.proofs.Names.{◌≡◌, ℕ, ◌+◌, ◌≤◌, ◌==◌, ◌&&◌, Bool, true, false, List, [], ◌∷◌, ◌++◌, refl, ap, ◌∙◌, sym, subst, arith, length, ◌⊎◌, inl, inr, if◌then◌else◌, Option, None, Some, nat_tests, Pid, MsgId, MessageKind, id_eq}
+use Rattle.dm_rule.proofs.Names.{bind, Line, Load, View, Pair, Told, view_after, handled, handled_first, receiver_of, is_kernels, own_id, forwarded_for, routed_on, after_put, Point, label_of, moved, seen, after, Part, Says, Again, Owns}
+use Rattle.dm_rule.proofs.Names.{Spelled, lines_of, puts, behind, spelled, sends_on, Spot, Queue, Held, times, ids_at, standing, id_eq-is, bind-is}
 use Rattle.dm_rule.proofs.Lines.{Bag, hidden, Stands, Stands-same, Stands-handled}
 use Rattle.dm_rule.proofs.Letters.{letters}
 use Rattle.dm_rule.proofs.Hushed.{hushed}

@@ -1,8 +1,7 @@
 -- What lines and parts keep of the pairs of machines.
 use Rattle.dm_rule.proofs.Names.{◌≡◌, ℕ, ◌<◌, ◌≤◌, ◌==◌, Bool, true, false, List, [], ◌∷◌, ◌++◌, refl, ap, ◌∙◌, sym, subst, arith, length, ⊤, if◌then◌else◌, Option, None, Some, Pid, MsgId, MessageKind, plain_kind, Label, bind, Line, Load}
-use Rattle.dm_rule.proofs.Names.{Stage, View, Pair, Told, view_after, after_label, after_stage, after_packet, queued_for, held_for, dropped_for, forwarded_for, served_told, ends_by, receiver_of, taken_id, handled, own_id, after_proto}
-use Rattle.dm_rule.proofs.Names.{follows_by, asks_on, About, NothingElse, Target, seen, sets_off, Receiver, Point, kernel_after, label_of, moved, after_line, after, Part, Says, Routes, Again, Owns, Transmits, Spelled, spelled, behind}
-use Rattle.dm_rule.proofs.Names.{lines_of, puts, packet_line, goes_out, IsUnasked, sort_of, nat_tests}
+use Rattle.dm_rule.proofs.Names.{Stage, View, Pair, Told, view_after, after_label, after_stage, after_packet, queued_for, held_for, forwarded_for, ends_by, taken_id, own_id, after_proto, asks_on, About, NothingElse, Target, seen, sets_off}
+use Rattle.dm_rule.proofs.Names.{Receiver, Point, kernel_after, label_of, moved, after_line, after, Part, Says, Routes, Again, Owns, Transmits, Spelled, spelled, behind, lines_of, puts, packet_line, goes_out, IsUnasked, sort_of, nat_tests}
 use Rattle.dm_rule.proofs.Seen.{seen_is}
 use Rattle.dm_rule.proofs.Pairs.Stand.{Later, Later-same}
 use Rattle.dm_rule.proofs.Pairs.Moves.{Paired, Goes, again_goes, ack_goes, route_out, route_packed, route_home}
@@ -35,9 +34,7 @@ taken_pair v b None = refl
 taken_pair v b (Some id) = refl
 
 kills_pair : (k : MessageKind) (v : View) (o : Option Pid) → (ends_by (sort_of k) v o).pair ≡ v.pair
-kills_pair MessageKind.Kill v None = refl
-kills_pair MessageKind.Kill v (Some p) = refl
-kills_pair k v o = refl
+kills_pair k v o = search arith
 
 pub label_pair : (v : View) (l : Label) → (after_label v l).pair ≡ v.pair
 label_pair v l = grind (arith, nat_tests, kills_pair)
@@ -52,8 +49,7 @@ asks_pair v _ = refl
 
 pub proto_pair : (v : View) (o : Option Told) → (after_proto v o).pair ≡ v.pair
 proto_pair v None = refl
-proto_pair v (Some t) = elim t.kind as (λ k. (follows_by v t.about (sort_of k)).pair ≡ v.pair)
-    [ MessageKind.State ↦ asks_pair v t.about | MessageKind.Memory ↦ asks_pair v t.about | _ ↦ refl ]
+proto_pair v (Some t) = grind (arith, nat_tests, asks_pair)
 
 -- the other lines leave the pairs as they are
 pub pair_same : (v : View) (l : Line) → touches l ≡ false → (view_after v l).pair ≡ v.pair

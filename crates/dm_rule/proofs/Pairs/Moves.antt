@@ -1,8 +1,8 @@
 -- What each change of a pair keeps.
-use Rattle.dm_rule.proofs.Names.{◌≡◌, ℕ, ◌+◌, ◌-◌, ◌<◌, ◌≤◌, ◌==◌, ◌||◌, not, Bool, true, false, List, [], ◌∷◌, ◌++◌, refl, ap, ◌∙◌, sym, subst, ◌⊎◌, inl, inr, arith, length, ◌≢◌, if◌then◌else◌, filter, slice_get, false≢true, nat_tests}
-use Rattle.dm_rule.proofs.Names.{MsgId, Load, at_pair, Pair, routed_on, gone_after, marked, at_least, goes_out, has, HomeStands}
+use Rattle.dm_rule.proofs.Names.{◌≡◌, ℕ, ◌+◌, ◌-◌, ◌<◌, ◌≤◌, ◌==◌, ◌||◌, not, Bool, true, false, List, [], ◌∷◌, ◌++◌, refl, ap, ◌∙◌, sym, subst, ◌⊎◌, inl, inr, arith, length, ◌≢◌, if◌then◌else◌, filter, false≢true, nat_tests, MsgId, Load}
+use Rattle.dm_rule.proofs.Names.{at_pair, Pair, routed_on, gone_after, marked, at_least, goes_out, has, HomeStands}
 use Rattle.std.proofs.Common.{length-append}
-use Rattle.dm_rule.proofs.Pairs.Stand.{LoadStands, Apart, KeptStands, Kept, Stand, Later, Later-same, Later-trans, WireStands-more, WireStands-put, WireStands-marked, set_same, Stand-set, Stand-home, Kept-set, Later-set}
+use Rattle.dm_rule.proofs.Pairs.Stand.{LoadStands, Apart, KeptStands, Kept, Stand, Later, Later-trans, WireStands-more, WireStands-put, WireStands-marked, set_same, Stand-set, Stand-home, Kept-set, Later-set}
 
 pub record Paired (f : ℕ → ℕ → Pair) : Type 0 where
   pub stand : Stand f

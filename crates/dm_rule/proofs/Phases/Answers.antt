@@ -3,7 +3,6 @@ use Rattle.dm_rule.proofs.Names.{◌≡◌, ◌⊎◌, ℕ, ◌≤◌, ◌==◌,
 use Rattle.dm_rule.proofs.Names.{MessageKind, id_eq, Line, Load, View, Told, Of, view_after, handled_first, own_id, Point, label_of, moved, Says, Owns, Spelled, spelled, Spot, Inbox, Untaken, times, ids_at, standing, StandsNowhere}
 use Rattle.dm_rule.proofs.Names.{StandsAsBag, is_between, is_apart, Phase, Moves, knows, token_in, sender_in, receiver_in, told_between, id_eq-is, id_eq-same, pid_eq-same, both_true}
 use Rattle.dm_rule.proofs.Standing.{StandsAsBag-once}
-use Rattle.dm_rule.proofs.Once.{one_of}
 use Rattle.dm_rule.proofs.Lines.{Bag, hidden, Stands-handled}
 use Rattle.dm_rule.proofs.Letters.{letters}
 use Rattle.dm_rule.proofs.Hushed.{is_put, hushed}

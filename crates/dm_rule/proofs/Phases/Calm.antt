@@ -1,6 +1,6 @@
 -- What leaves the migrations of all processes as they are.
-use Rattle.dm_rule.proofs.Names.{◌≡◌, ◌⊎◌, ℕ, ◌≤◌, ◌==◌, ◌&&◌, not, true, false, refl, ap, ◌∙◌, sym, subst, inl, inr, Option, Some, cases_Bool, false≢true, Pid, MsgId, MessageKind, id_eq, View, Told, Spot, Queue, Held, Inbox, Untaken}
-use Rattle.dm_rule.proofs.Names.{standing, id_eq-is, is_between, is_apart, told_between, Phase, Moves, knows, token_in, sender_in, receiver_in, IsToken, HasToken, Alone, IsIn, left_true, About, times, arith, nat_tests}
+use Rattle.dm_rule.proofs.Names.{◌≡◌, ◌⊎◌, ℕ, ◌≤◌, ◌==◌, ◌&&◌, not, true, false, refl, ap, ◌∙◌, sym, subst, inl, inr, Option, Some, false≢true, Pid, MsgId, MessageKind, id_eq, View, Told, Spot, Queue, Held, Inbox, Untaken, standing}
+use Rattle.dm_rule.proofs.Names.{id_eq-is, is_between, is_apart, told_between, Phase, Moves, token_in, sender_in, receiver_in, HasToken, Alone, IsIn, left_true, About, times, arith, nat_tests}
 use Rattle.dm_rule.specs.View as view
 use Rattle.dm_rule.proofs.Lines.{not_true}
 use Rattle.dm_rule.proofs.Seen.{about_off}

@@ -1,8 +1,8 @@
 -- A kernel's own message is handled: each process stays in a phase.
 use Rattle.dm_rule.proofs.Names.{◌≡◌, ℕ, ◌==◌, Bool, true, false, List, [], ◌∷◌, ◌++◌, refl, ap, ◌∙◌, sym, subst, length, arith, ◌/◌, if◌then◌else◌, Option, None, Some, false≢true, nat_tests, Pid, pid_eq, MsgId, MessageKind, Line, Stage}
 use Rattle.dm_rule.proofs.Names.{Boot, switchboard, manager, PlainProcess, View, Told, About, Of, Known, Unknown, Here, Forward, Ended, is_kernels, target_of, Addresses, Sender, is_told_back, Point, Part, Says, Owns, Spelled, spelled}
-use Rattle.dm_rule.proofs.Names.{to_kernel, forwards_on, accepts, takes_chunk, takes_block, gives_piece, told_step, chunks_of, pieces_of, updates, told_here, told_ended, process_told, told_server, fits, free_room, kernel_hears, hears}
-use Rattle.dm_rule.proofs.Names.{is_between, bind-is, Label, MoveNote, NothingElse, Outcome, bind, kernel_after, label_of, leaves_for, moved, tells_asker, sort_of}
+use Rattle.dm_rule.proofs.Names.{forwards_on, accepts, takes_chunk, takes_block, gives_piece, told_step, chunks_of, pieces_of, updates, told_here, told_ended, process_told, told_server, fits, free_room, kernel_hears, hears, is_between}
+use Rattle.dm_rule.proofs.Names.{bind-is, Label, MoveNote, NothingElse, Outcome, bind, kernel_after, label_of, leaves_for, moved, tells_asker, sort_of}
 use Rattle.dm_onekernel.specs.Step as kernel
 use Rattle.dm_rule.proofs.Hushed.{is_put}
 use Rattle.dm_rule.proofs.States.{State, State-at}

@@ -1,8 +1,7 @@
 -- All of a process is taken: its lists go on, it has left, and the other machine may restart it.
-use Rattle.dm_rule.proofs.Names.{◌≡◌, ◌⊎◌, ℕ, zero, suc, ◌+◌, ◌≤◌, ◌==◌, ◌&&◌, Bool, true, false, not, List, [], ◌∷◌, ◌++◌, length, refl, ap, ◌∙◌, sym, subst, inl, inr, arith, if◌then◌else◌, Option, None, Some, cases_Bool, false≢true, Pid}
-use Rattle.dm_rule.proofs.Names.{pid_eq, MsgId, MessageKind, Line, Stage, id_eq, bind, Load, at_record, View, Told, Of, Known, Unknown, Frozen, view_after, handled_first, gone_to, receiver_of, is_kernels, Point, moved, after, Part, Says}
-use Rattle.dm_rule.proofs.Names.{Again, Spelled, lines_of, puts, behind, spelled, to_kernel, sends_on, leaves, Spot, Queue, Held, Inbox, Untaken, times, standing, is_between, is_away, kind_comes, Phase, Moves, knows, token_in, sender_in}
-use Rattle.dm_rule.proofs.Names.{receiver_in, id_eq-is, id_eq-same, pid_eq-same, bind-is, nat_tests}
+use Rattle.dm_rule.proofs.Names.{◌≡◌, ℕ, ◌+◌, ◌≤◌, ◌==◌, ◌&&◌, Bool, true, false, not, List, [], ◌∷◌, ◌++◌, length, refl, ap, ◌∙◌, sym, subst, inl, inr, arith, if◌then◌else◌, Option, None, Some, cases_Bool, false≢true, Pid, pid_eq, MsgId}
+use Rattle.dm_rule.proofs.Names.{MessageKind, Line, Stage, id_eq, bind, Load, at_record, View, Told, Known, Frozen, view_after, handled_first, gone_to, receiver_of, is_kernels, Point, moved, after, Part, Says, Again, Spelled, lines_of}
+use Rattle.dm_rule.proofs.Names.{puts, behind, spelled, to_kernel, sends_on, leaves, Spot, times, standing, is_between, Phase, Moves, knows, token_in, sender_in, receiver_in, id_eq-is, id_eq-same, pid_eq-same, bind-is, nat_tests}
 use Rattle.dm_rule.specs.View as view
 use Rattle.dm_rule.specs.Phases as phase
 use Rattle.dm_rule.proofs.Once.{one_of}

@@ -1,7 +1,7 @@
 -- Lines that leave the migrations of all processes as they are.
 use Rattle.dm_rule.proofs.Names.{◌≡◌, ℕ, zero, suc, ◌+◌, ◌==◌, ◌&&◌, Bool, true, false, List, [], ◌∷◌, ◌++◌, drop, length, refl, ap, ◌∙◌, sym, subst, inl, inr, arith, if◌then◌else◌, Option, None, Some, cases_Bool, length-append}
-use Rattle.dm_rule.proofs.Names.{drop-length, Pid, pid_eq, MsgId, MessageKind, id_eq, Load, Line, at_machine, at_pair, at_record, without_id, without_front, View, Pair, Told, handled, queued_for, held_for, dropped_for, forwarded_for}
-use Rattle.dm_rule.proofs.Names.{view_after, after_put, routed_on, Spot, Queue, Held, Inbox, Untaken, times, untaken, standing, is_between, pid_eq-is, id_eq-is, id_eq-same, id_eq-swap, nat_tests}
+use Rattle.dm_rule.proofs.Names.{drop-length, Pid, MsgId, MessageKind, id_eq, Load, Line, at_machine, at_pair, at_record, without_id, without_front, View, Pair, Told, handled, queued_for, held_for, dropped_for, forwarded_for, view_after}
+use Rattle.dm_rule.proofs.Names.{after_put, routed_on, Spot, Inbox, Untaken, times, untaken, standing, is_between, pid_eq-is, id_eq-is, id_eq-same, id_eq-swap, nat_tests}
 use Rattle.dm_rule.specs.View as view
 use Rattle.dm_rule.proofs.Standing.{times-append}
 use Rattle.dm_rule.proofs.Once.{one_of}

@@ -1,13 +1,13 @@
 -- A process ends, and one is made.
-use Rattle.dm_rule.proofs.Names.{◌≡◌, ℕ, ◌≤◌, ◌==◌, ◌&&◌, Bool, true, false, refl, ap, ◌∙◌, sym, subst, inl, arith, if◌then◌else◌, Option, None, Some, false≢true, nat_tests, Pid, MsgId, MessageKind, Label, Line, id_eq, Why, at_record, View}
-use Rattle.dm_rule.proofs.Names.{Told, Known, Unknown, Here, Ended, view_after, handled, served_told, ends_by, Spot, times, standing, is_between, is_away, is_here, is_over, kind_comes, Phase, Nowhere, Rests, Over, Moves, knows, token_in}
-use Rattle.dm_rule.proofs.Names.{pid_eq-same, id_eq-is, kind_leaves, sort_of}
+use Rattle.dm_rule.proofs.Names.{◌≡◌, ℕ, ◌≤◌, ◌==◌, Bool, true, false, refl, ap, ◌∙◌, sym, subst, inl, arith, if◌then◌else◌, Option, None, Some, false≢true, nat_tests, Pid, MsgId, MessageKind, Label, Line, id_eq, Why, at_record, View, Told}
+use Rattle.dm_rule.proofs.Names.{Known, Unknown, Here, Ended, view_after, handled, served_told, Spot, times, standing, is_between, is_away, is_here, is_over, kind_comes, Phase, Nowhere, Rests, Over, Moves, knows, token_in, id_eq-is}
+use Rattle.dm_rule.proofs.Names.{kind_leaves}
 use Rattle.dm_rule.proofs.Lines.{not_true}
 use Rattle.dm_rule.proofs.Turns.{ended_off, created_off}
 use Rattle.dm_rule.proofs.Phases.Calm.{Plain}
 use Rattle.dm_rule.proofs.Phases.Lines.{handled_spots}
 use Rattle.dm_rule.proofs.Phases.Stand.{none_only, InPhases, Learns, learns_phases}
-use Rattle.dm_rule.proofs.Phases.Pieces.{record_off, and_true}
+use Rattle.dm_rule.proofs.Phases.Pieces.{record_off}
 use Rattle.dm_rule.proofs.Phases.Rests.{rests_here}
 use Rattle.dm_rule.proofs.Trails.Steps.{set_at}
 use Rattle.dm_rule.specs.View as view
@@ -77,8 +77,7 @@ created_phases v i p h plain unknown = made_phases v (view_after v (Line.Label (
 
 -- a kill ends its receiver
 killed_is : (v : View) (t : Told) (o : Option Told) → o ≡ Some t → t.kind ≡ MessageKind.Kill → served_told v o ≡ view.ended v t.receiver
-killed_is v t None e k = cc
-killed_is v t (Some s) e k = let f : s ≡ t = cc in ap (λ (u : Told). ends_by (sort_of u.kind) v (Some u.receiver)) f ∙ ap (λ (n : MessageKind). ends_by (sort_of n) v (Some t.receiver)) k
+killed_is v t o h1 h2 = grind (arith, nat_tests)
 
 pub killed_phases : (v : View) (i : MsgId) (t : Told) → InPhases v → Plain v i → v.told i ≡ Some t → t.kind ≡ MessageKind.Kill → v.known v.acting t.receiver ≡ Here → InPhases (view_after v (Line.Label (Label.Served i)))
 killed_phases v i t h plain told k here =

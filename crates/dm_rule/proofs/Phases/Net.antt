@@ -1,7 +1,7 @@
 -- Heads, deliveries, ticks and the directive to migrate leave all processes in their phases.
-use Rattle.dm_rule.proofs.Names.{◌≡◌, ◌⊎◌, ℕ, zero, suc, ◌+◌, ◌≤◌, ◌==◌, ◌&&◌, Bool, true, not, filter, List, [], ◌∷◌, ◌++◌, drop, length, refl, ap, ◌∙◌, sym, subst, inl, inr, arith, if◌then◌else◌, slice_get, Option, None, Some, cases_Bool}
-use Rattle.dm_rule.proofs.Names.{nat_tests, Pid, MsgId, Step, Line, at_machine, at_pair, View, Pair, view_after, after_head, taken_id, with_pair, Point, moved, seen, Part, Says, Transmits, Spelled, packet_line, spelled, migrates, Spot}
-use Rattle.dm_rule.proofs.Names.{Queue, Held, Inbox, Untaken, times, untaken, ids_at, standing}
+use Rattle.dm_rule.proofs.Names.{◌≡◌, ℕ, suc, ◌+◌, ◌≤◌, ◌==◌, ◌&&◌, Bool, true, not, filter, List, [], ◌∷◌, ◌++◌, drop, length, refl, ap, ◌∙◌, sym, subst, inl, inr, arith, if◌then◌else◌, slice_get, Option, None, Some, cases_Bool, Pid}
+use Rattle.dm_rule.proofs.Names.{MsgId, Step, Line, at_machine, at_pair, View, Pair, view_after, after_head, taken_id, with_pair, Point, moved, seen, Part, Says, Transmits, Spelled, packet_line, spelled, migrates, Spot, Queue, Held, Inbox}
+use Rattle.dm_rule.proofs.Names.{Untaken, times, untaken, ids_at, standing}
 use Rattle.dm_rule.proofs.Standing.{times-append}
 use Rattle.dm_rule.proofs.Once.{one_of}
 use Rattle.dm_rule.proofs.Lines.{parts, eq_is, at_place, past_place, pair_keeps, eq_self}
@@ -14,7 +14,10 @@ use Rattle.dm_rule.proofs.Requests.{by_migrates}
 use Rattle.dm_rule.proofs.Bags.{cases_zero}
 
 pub head_calm : (v : View) (s : Step) → Calm v (after_head v s)
-head_calm v s = search (arith, calm_still, turn_off, tick_off, deliver_off, migrate_off)
+head_calm v (Step.Turn m) = calm_still v (after_head v (Step.Turn m)) (λ n q. refl) (λ i. refl) (λ i z. ap (times i) (turn_off v m z))
+head_calm v (Step.Tick m) = calm_still v (after_head v (Step.Tick m)) (λ n q. refl) (λ i. refl) (λ i z. ap (times i) (tick_off v m z))
+head_calm v (Step.Deliver a b k) = calm_still v (after_head v (Step.Deliver a b k)) (λ n q. refl) (λ i. refl) (λ i z. ap (times i) (deliver_off v a b k z))
+head_calm v (Step.Migrate p m) = calm_still v (after_head v (Step.Migrate p m)) (λ n q. refl) (λ i. refl) (λ i z. ap (times i) (migrate_off v p m z))
 
 -- a message is taken: it comes from the stream to the inbox
 abbrev one_taken : Pair → ℕ → Pair

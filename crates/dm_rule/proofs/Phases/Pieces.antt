@@ -1,8 +1,7 @@
 -- The rows of migration that answer with the next message: a request, the pieces, and that all is taken.
 use Rattle.dm_rule.proofs.Names.{◌≡◌, ℕ, ◌==◌, ◌&&◌, Bool, true, false, not, List, [], ◌∷◌, refl, ap, ◌∙◌, sym, subst, arith, if◌then◌else◌, Option, None, Some, false≢true, nat_tests, Pid, pid_eq, MsgId, MessageKind, Line, Stage, at_record}
-use Rattle.dm_rule.proofs.Names.{View, Told, About, NothingElse, Known, Unknown, Frozen, Incoming, Forward, view_after, handled, front_of, after_proto, follows_by, asks_on, is_kernels, Point, Says, Spelled, spelled, to_kernel, accepts}
-use Rattle.dm_rule.proofs.Names.{takes_chunk, takes_block, gives_piece, Spot, ids_at, is_between, is_apart, is_restart, is_early, kind_comes, is_away, Phase, Moves, knows, sender_in, receiver_in, pid_eq-same, right_true, kind_leaves}
-use Rattle.dm_rule.proofs.Names.{sort_of}
+use Rattle.dm_rule.proofs.Names.{View, Told, About, NothingElse, Known, Incoming, view_after, handled, front_of, after_proto, asks_on, is_kernels, Point, Says, Spelled, spelled, to_kernel, accepts, takes_chunk, takes_block, gives_piece}
+use Rattle.dm_rule.proofs.Names.{Spot, ids_at, is_between, is_apart, is_restart, is_early, kind_comes, is_away, Phase, Moves, knows, sender_in, receiver_in, pid_eq-same, right_true, kind_leaves}
 use Rattle.dm_rule.proofs.Moves.Lists.{first_off}
 use Rattle.dm_rule.proofs.Moves.Rows.{goes_first, goes_front, accepted_off, state_off, memory_off, lacks_off, proto_off}
 use Rattle.dm_rule.proofs.Phases.Stand.{InPhases}
@@ -98,13 +97,10 @@ asks_acting v _ = refl
 
 pub proto_known : (v : View) (o : Option Told) (m : ℕ) (p : Pid) → (after_proto v o).known m p ≡ v.known m p
 proto_known v None m p = refl
-proto_known v (Some t) m p = elim t.kind as (λ k. (follows_by v t.about (sort_of k)).known m p ≡ v.known m p)
-    [ MessageKind.State ↦ asks_known v t.about m p | MessageKind.Memory ↦ asks_known v t.about m p | _ ↦ refl ]
+proto_known v (Some t) m p = search (arith, asks_known)
 
 pub proto_acting : (v : View) (o : Option Told) → (after_proto v o).acting ≡ v.acting
-proto_acting v None = refl
-proto_acting v (Some t) = elim t.kind as (λ k. (follows_by v t.about (sort_of k)).acting ≡ v.acting)
-    [ MessageKind.State ↦ asks_acting v t.about | MessageKind.Memory ↦ asks_acting v t.about | _ ↦ refl ]
+proto_acting v o = search (arith, asks_acting)
 
 proto_topic : (v : View) (o : Option Told) (t : Told) → o ≡ Some t → (after_proto v o).topic ≡ t.about
 proto_topic v None t e = cc

@@ -1,7 +1,7 @@
 -- The next message about a process that moves is put.
 use Rattle.dm_rule.proofs.Names.{◌≡◌, ◌⊎◌, ℕ, ◌+◌, ◌≤◌, ◌==◌, Bool, true, false, List, [], ◌∷◌, ◌++◌, drop, refl, ap, ◌∙◌, sym, subst, inl, inr, arith, if◌then◌else◌, Option, None, Some, cases_Bool, false≢true, drop-append-le, Pid, pid_of}
 use Rattle.dm_rule.proofs.Names.{pid_eq, MsgId, MessageKind, id_eq, at_machine, View, Told, About, Of, own_id, after_put, routed_on, Spot, Inbox, Untaken, times, untaken, standing, StandsOnce, Phase, Moves, knows, sender_in, receiver_in}
-use Rattle.dm_rule.proofs.Names.{told_between, IsToken, HasToken, IsIn, id_eq-is, id_eq-same, pid_eq-same}
+use Rattle.dm_rule.proofs.Names.{told_between, HasToken, IsIn, id_eq-is, id_eq-same, pid_eq-same}
 use Rattle.dm_rule.specs.View as view
 use Rattle.dm_rule.proofs.Standing.{spot_cases, once_at, times-append}
 use Rattle.dm_rule.proofs.Once.{one_of}

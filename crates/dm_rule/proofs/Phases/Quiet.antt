@@ -2,6 +2,8 @@
 use Rattle.dm_rule.proofs.Names.{◌≡◌, ℕ, ◌==◌, Bool, true, false, List, [], ◌∷◌, length, refl, ap, ◌∙◌, sym, subst, arith, ⊤, if◌then◌else◌, Option, None, Some, false≢true, Pid, MsgId, MessageKind, Load, Stage, id_eq, plain_kind}
 use Rattle.dm_rule.proofs.Names.{PlainMessage, Label, OneKernel, bind, Line, at_record, without_id, View, Told, own_id, view_after, handled, receiver_of, ends_by, served_told, Receiver, Point, label_of, kernel_after, moved, seen}
 use Rattle.dm_rule.proofs.Names.{after_line, after, Part, Says, Routes, Again, Owns, Transmits, Spelled, lines_of, puts, goes_out, packet_line, behind, spelled, Spot, Queue, times, ids_at, standing, is_between, bind-is, sort_of}
+use Rattle.dm_onekernel.specs.Step as kernel
+use Rattle.dm_rule.specs.View as view
 use Rattle.dm_rule.proofs.Bags.{out_of}
 use Rattle.dm_rule.proofs.Letters.{not_kernels, gone_in}
 use Rattle.dm_rule.proofs.Hushed.{is_put, hushed}
@@ -14,8 +16,6 @@ use Rattle.dm_rule.proofs.Telling.{Sane, plain_not, Sayable, part_sane}
 use Rattle.dm_rule.proofs.Phases.Calm.{Calm, Plain, calm_about, calm_same, calm_trans, calm_others, calm_still}
 use Rattle.dm_rule.proofs.Phases.Lines.{handled_spots, queued_spots, held_spots, dropped_spots, forwarded_spots, queued_known, held_known, dropped_known, forwarded_known, record_times, without_times, put_calm, packet_calm}
 pub use Rattle.dm_rule.proofs.Serving.{is_kill}
-use Rattle.dm_onekernel.specs.Step as kernel
-use Rattle.dm_rule.specs.View as view
 
 -- a message that was told of, and is none of the protocol
 pub record Tame (v : View) (i : MsgId) : Type 0 where
@@ -77,13 +77,30 @@ label_on v w (Label.Served id) c h = record { tame = tame_on v w id c h.tame; sp
 label_on v w _ c h = h
 
 line_on : (v w : View) (l : Line) → Calm v w → QuietLine v l → QuietLine w l
-line_on v w l h1 h2 = search (arith, label_on, tame_on)
+line_on v w (Line.Label l) c h = label_on v w l c h
+line_on v w (Line.Queued i) c h = tame_on v w i c h
+line_on v w (Line.Held i) c h = tame_on v w i c h
+line_on v w (Line.Forwarded i m) c h = tame_on v w i c h
+line_on v w (Line.Updated i n) c h = tame_on v w i c h
+line_on v w (Line.Here i) c h = tame_on v w i c h
+line_on v w (Line.NoMove i) c h = tame_on v w i c h
+line_on v w (Line.Migration Stage.Frozen p) c h = h
+line_on v w _ c h = h
 
 quiet_touches : (v : View) (l : Line) → QuietLine v l → touches l ≡ false
-quiet_touches v l h1 = search arith
+quiet_touches v (Line.Head s) h = absurd h
+quiet_touches v (Line.Put a b i k q) h = absurd h
+quiet_touches v (Line.Packet a b k l) h = absurd h
+quiet_touches v (Line.Taken a b n) h = absurd h
+quiet_touches v (Line.Early a b n) h = absurd h
+quiet_touches v (Line.Acked a b n) h = absurd h
+quiet_touches v (Line.Migration Stage.Frozen p) h = refl
+quiet_touches v _ h = refl
 
 quiet_put : (v : View) (l : Line) → QuietLine v l → is_put l ≡ false
-quiet_put v l h1 = search arith
+quiet_put v (Line.Put a b i k q) h = absurd h
+quiet_put v (Line.Migration Stage.Frozen p) h = refl
+quiet_put v _ h = refl
 
 pub plain_in_bag : (pt : Point) (i : MsgId) (x : PlainMessage) → Sane pt → pt.kernel.bag i ≡ Some x → Plain pt.view i
 plain_in_bag pt i x h there t told = (elim (is_between t.kind) as (λ b. is_between t.kind ≡ b → b ≡ false)
@@ -164,7 +181,11 @@ pub record Settled (v : View) (pt : Point) : Type 0 where
   pub fits : PairsFit pt.view
 
 packet_or_none : (v : View) (pt next : Point) (c d : Bool) (a b k : ℕ) (l : _) → Calm v pt.view → PairsFit pt.view → after pt (if c then [] else if d then Line.Packet a b k l ∷ [] else []) ≡ Some next → (Calm v next.view) × (PairsFit next.view)
-packet_or_none v pt next c d a b k l h1 h2 h3 = search (arith, calm_trans, packet_calm, fits_packet)
+packet_or_none v pt next true d a b k l c h is = let f : pt ≡ next = cc in subst (λ (q : Point). (Calm v q.view) × (PairsFit q.view)) f (c, h)
+packet_or_none v pt next false false a b k l c h is = let f : pt ≡ next = cc in subst (λ (q : Point). (Calm v q.view) × (PairsFit q.view)) f (c, h)
+packet_or_none v pt next false true a b k l c h is =
+    let f : moved pt (Line.Packet a b k l) pt.kernel ≡ next = cc in
+    subst (λ (q : Point). (Calm v q.view) × (PairsFit q.view)) f (calm_trans v pt.view (view_after pt.view (Line.Packet a b k l)) c (packet_calm pt.view a b k l), fits_packet pt.view a b k l h)
 
 puts_calm : (pt next : Point) (b : ℕ) (i : MsgId) (k : MessageKind) (q : Pid) (ls : List Line) → PairsFit pt.view → is_between k ≡ false → Plain pt.view i → Some (puts pt.view b i k q) ≡ Some ls → after pt ls ≡ Some next → (Calm pt.view next.view) × (PairsFit next.view)
 puts_calm pt next b i k q ls fits e plain is leads =
@@ -209,5 +230,10 @@ parts_settle (p ∷ ps) v pt w quiet h is =
     let here : Quiet pt.view p = (elim p as (λ p_. Quiet v p_ → Quiet pt.view p_)
     [ Says l ↦ λ h_. line_on v pt.view l h.calm h_ | Again i b ↦ λ h_. tame_on v pt.view i h.calm h_ | _ ↦ λ h_. h_ ]) quiet.0 in
     let c = part_calm pt next p ls h.sane h.fits here lines leads in
-    let there : Settled v next = (search (arith, calm_trans v pt.view next.view h.calm c.0, part_sane, quiet_put, h.sane, c.1)) in
+    let there : Settled v next = record {
+      calm = calm_trans v pt.view next.view h.calm c.0;
+      sane = part_sane pt next p ls ((elim p as (λ p_. Quiet pt.view p_ → Sayable p_)
+          [ Says l ↦ λ h. quiet_put pt.view l h | _ ↦ λ h. tt ]) here) lines leads h.sane;
+      fits = c.1;
+    } in
     subst (λ (x : Spelled). Settled v x.point) f (parts_settle ps v next z quiet.1 there more)

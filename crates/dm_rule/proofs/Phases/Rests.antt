@@ -1,8 +1,8 @@
 -- The rows of migration that end it, and the one that begins it.
-use Rattle.dm_rule.proofs.Names.{◌≡◌, ◌⊎◌, ℕ, zero, suc, ◌+◌, ◌≤◌, ◌==◌, ◌&&◌, Bool, true, false, not, List, [], ◌∷◌, ◌++◌, refl, ap, ◌∙◌, sym, subst, inl, inr, arith, if◌then◌else◌, Option, None, Some, cases_Bool, false≢true, nat_tests}
-use Rattle.dm_rule.proofs.Names.{Pid, pid_eq, MsgId, MessageKind, Stage, id_eq, Line, at_machine, at_record, View, Told, Of, Known, Unknown, Here, Frozen, Incoming, Forward, view_after, handled_first, released, is_kernels, target_of, Point}
-use Rattle.dm_rule.proofs.Names.{label_of, moved, Says, Spelled, spelled, to_kernel, Spot, Queue, Held, Inbox, Untaken, times, ids_at, standing, is_between, is_restart, is_early, kind_comes, is_away, is_here, is_over, Phase, Nowhere, Rests}
-use Rattle.dm_rule.proofs.Names.{Over, Moves, knows, token_in, receiver_in, id_eq-is, pid_eq-is, pid_eq-same, NothingElse, Target, frozen_for, leaves_for, kind_leaves, sets_off, option_and_then, slice_get}
+use Rattle.dm_rule.proofs.Names.{◌≡◌, ℕ, ◌+◌, ◌≤◌, ◌==◌, ◌&&◌, Bool, true, false, not, List, [], ◌∷◌, ◌++◌, refl, ap, ◌∙◌, sym, subst, inl, inr, arith, if◌then◌else◌, Option, None, Some, cases_Bool, false≢true, nat_tests, Pid, pid_eq}
+use Rattle.dm_rule.proofs.Names.{MsgId, MessageKind, Stage, id_eq, Line, at_machine, at_record, View, Told, Of, Known, Here, Frozen, view_after, handled_first, released, is_kernels, target_of, Point, label_of, moved, Says, Spelled, spelled}
+use Rattle.dm_rule.proofs.Names.{to_kernel, Spot, Queue, Held, Inbox, Untaken, times, ids_at, standing, is_between, is_restart, is_early, kind_comes, is_away, Phase, Rests, Moves, knows, token_in, receiver_in, id_eq-is, pid_eq-is}
+use Rattle.dm_rule.proofs.Names.{pid_eq-same, NothingElse, Target, frozen_for, leaves_for, kind_leaves, sets_off, option_and_then, slice_get}
 use Rattle.dm_rule.proofs.Standing.{times-append}
 use Rattle.dm_rule.proofs.Lines.{Bag, hidden, Stands, Stands-stays, Stands-handled, parts, eq_is, eq_self}
 use Rattle.dm_rule.proofs.Letters.{letters}

@@ -1,6 +1,6 @@
 -- Each process is in a phase; what handles the one message about a process, and what puts the next.
-use Rattle.dm_rule.proofs.Names.{◌≡◌, ◌⊎◌, ℕ, ◌≤◌, Bool, true, false, refl, ap, ◌∙◌, sym, subst, inl, inr, arith, if◌then◌else◌, Option, None, Some, cases_Bool, false≢true, Pid, pid_eq, MsgId, MessageKind, at_pid, View, Told, Of, Spot}
-use Rattle.dm_rule.proofs.Names.{Queue, Held, Inbox, Untaken, standing, is_between, is_apart, Phase, Moves, knows, is_due, token_in, sender_in, receiver_in, told_between, IsToken, HasToken, Alone, IsIn, pid_eq-is, pid_eq-same, nat_tests}
+use Rattle.dm_rule.proofs.Names.{◌≡◌, ℕ, ◌≤◌, Bool, true, false, refl, ap, ◌∙◌, sym, subst, inl, inr, arith, if◌then◌else◌, Option, None, Some, cases_Bool, false≢true, Pid, pid_eq, MsgId, MessageKind, at_pid, View, Told, Of, Spot, Queue}
+use Rattle.dm_rule.proofs.Names.{Held, Inbox, Untaken, standing, is_between, is_apart, Phase, Moves, knows, is_due, token_in, sender_in, receiver_in, told_between, IsToken, HasToken, Alone, IsIn, pid_eq-is, pid_eq-same}
 use Rattle.dm_rule.proofs.Phases.Calm.{Came, Calm, calm_in, between_of, stands_where}
 
 -- all processes, where the next message about at most this one isn't put yet
@@ -71,7 +71,10 @@ pub phase_set : {o : Option Pid} (v w : View) (p : Pid) (next : Phase) (u : Opti
     → ((i : MsgId) (t : Told) → w.told i ≡ Some t → is_between t.kind ≡ true → (q : Pid) × (t.about ≡ Of q)) → PhasesBut u w
 phase_set v w p next u h only now others mine about = record {
   of = at_pid h.of p next;
-  each = λ q. (grind (arith, nat_tests, pid_eq-is));
+  each = λ q. elim (cases_Bool (pid_eq p q)) [
+    | inl same ↦ subst (λ (x : Phase). IsIn w q x) (sym (ap (λ (c : Bool). if c then next else h.of q) same)) (subst (λ (x : Pid). IsIn w x next) (pid_eq-is p q same) mine)
+    | inr apart ↦ subst (λ (x : Phase). IsIn w q x) (sym (ap (λ (c : Bool). if c then next else h.of q) apart)) (others q apart)
+  ];
   about = about;
   put = λ q due. elim (cases_Bool (pid_eq p q)) [
     | inl same ↦ now (sym (ap (λ (c : Bool). is_due (if c then next else h.of q)) same) ∙ due) ∙ ap Some (pid_eq-is p q same)

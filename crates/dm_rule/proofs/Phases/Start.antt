@@ -1,6 +1,6 @@
 -- Before the first line each process of the boot file, and each server, rests where it starts.
-use Rattle.dm_rule.proofs.Names.{◌≡◌, ℕ, ◌==◌, ◌&&◌, ◌||◌, Bool, true, false, List, [], ◌∷◌, refl, ap, ◌∙◌, arith, if◌then◌else◌, None, Some, false≢true, nat_tests, Pid, pid_eq, BootProcess, Boot, switchboard, manager, View, Known, Unknown}
-use Rattle.dm_rule.proofs.Names.{Here, known_at, first_view, Phase, Nowhere, Rests, knows, is_here, is_away, HasToken, is_apart, is_due, pid_eq-is}
+use Rattle.dm_rule.proofs.Names.{◌≡◌, ℕ, ◌==◌, ◌&&◌, ◌||◌, Bool, true, false, List, [], ◌∷◌, refl, ap, ◌∙◌, arith, if◌then◌else◌, None, Some, false≢true, nat_tests, Pid, pid_eq, BootProcess, Boot, switchboard, manager, Known, Unknown, Here}
+use Rattle.dm_rule.proofs.Names.{known_at, first_view, Phase, Nowhere, Rests, knows, is_due, pid_eq-is}
 use Rattle.dm_rule.proofs.Phases.Stand.{InPhases}
 
 abbrev pub starts : List BootProcess → Pid → Bool

@@ -1,7 +1,7 @@
 -- A turn that handles a message of the bag, or serves a process: each process stays in a phase.
 use Rattle.dm_rule.proofs.Names.{◌≡◌, ℕ, ◌+◌, Bool, true, false, List, [], ◌∷◌, refl, ap, ◌∙◌, subst, if◌then◌else◌, Option, None, Some, Pid, pid_of, MsgId, MessageKind, Label, plain_kind, PlainMessage, Boot, Why, first_number, bind}
-use Rattle.dm_rule.proofs.Names.{OneKernel, answer_id, Line, View, Told, Unknown, Here, view_after, Point, label_of, kernel_after, moved, Part, Says, Routes, Spelled, spelled, forwards_on, ◌==◌, NothingElse, Outcome, PlainWhat}
-use Rattle.dm_rule.proofs.Names.{answers_move, leaves_for, machine_in, seen, move_target, arith}
+use Rattle.dm_rule.proofs.Names.{OneKernel, answer_id, Line, View, Told, Unknown, Here, view_after, Point, label_of, kernel_after, moved, Part, Says, Routes, Spelled, spelled, forwards_on, ◌==◌, Outcome, PlainWhat, answers_move, leaves_for}
+use Rattle.dm_rule.proofs.Names.{machine_in, seen, move_target}
 use Rattle.dm_rule.specs.Rule as rule
 use Rattle.dm_rule.proofs.Hushed.{is_put}
 use Rattle.dm_rule.proofs.Pairs.Lines.{touches, pair_same}
@@ -16,7 +16,7 @@ use Rattle.dm_rule.proofs.Handled.{asked_state}
 use Rattle.dm_rule.proofs.Phases.Answers.{Whole}
 use Rattle.dm_rule.proofs.Phases.Rests.{asked_row}
 use Rattle.dm_rule.proofs.Phases.Lives.{end_line_phases, created_phases, killed_phases}
-use Rattle.dm_rule.proofs.Serving.{Stops, by_round, by_handles}
+use Rattle.dm_rule.proofs.Serving.{by_round, by_handles}
 
 pub record Fit (pt : Point) : Type 0 where
   pub phases : InPhases pt.view
@@ -129,7 +129,14 @@ phases_round b o pt m p parts w h here is = by_round (Into pt) b o m p parts (λ
   runs = λ k rest stops w. (
       let l = Line.Label (Label.Ran q k) in
       line_first pt l rest w h refl refl (λ s e. calm_phases pt.view (view_after pt.view l) (line_calm pt s l h.sane tt e) h.phases)
-      (λ s next v more. stops (Into (moved pt l s)) ((search (arith, quiet_parts, ends_row))) v more)
+      (λ s next v more. stops (Into (moved pt l s)) (record {
+        over = λ w. quiet_parts [] (moved pt l s) w next tt;
+        replies = λ n r w. quiet_parts (rule.says (Label.Call q n r) ∷ []) (moved pt l s) w next (tt, tt);
+        sends = λ id w. quiet_parts (rule.says (Label.Send q id) ∷ Routes id ∷ []) (moved pt l s) w next (tt, (tt, tt));
+        waits = λ w. quiet_parts (rule.says (Label.Wait q) ∷ []) (moved pt l s) w next (tt, tt);
+        outputs = λ word w. quiet_parts (rule.says (Label.Out q word) ∷ []) (moved pt l s) w next (tt, tt);
+        ends = λ y w. ends_row (moved pt l s) q y (o.view.queue m q) w next (here q at);
+      }) v more)
       );
   takes = λ mask id first w. quiet_parts (rule.says (Label.Receive q id) ∷ []) pt w h (tt, tt);
   refuses = λ id r w. quiet_parts (rule.says (Label.Refuse q id r) ∷ []) pt w h (tt, tt);

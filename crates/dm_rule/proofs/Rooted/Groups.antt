@@ -1,7 +1,7 @@
 -- Each group keeps that rings list what is here, and that nothing is known of what was never made.
 use Rattle.dm_rule.proofs.Names.{◌≡◌, ℕ, ◌+◌, ◌==◌, Bool, true, false, is_some, nat_lt, List, [], ◌∷◌, length, refl, ap, ◌∙◌, sym, subst, arith, if◌then◌else◌, slice_get, Option, None, Some, false≢true, nat_tests, Pid, pid_of, MsgId}
-use Rattle.dm_rule.proofs.Names.{MessageKind, plain_kind, Boot, first_number, bind, Life, OneKernel, Step, Line, Load, Told, Of, Known, Here, own_id, Receiver, Point, label_of, kernel_after, moved, after_line, after, Part, Says, Routes}
-use Rattle.dm_rule.proofs.Names.{Again, Owns, Transmits, Spelled, lines_of, puts, goes_out, packet_line, behind, spelled, migrates, is_between, Phase, Moves, knows, group_of, Made, bind-is}
+use Rattle.dm_rule.proofs.Names.{MessageKind, plain_kind, Boot, first_number, bind, Life, OneKernel, Step, Line, Load, Told, Known, Here, own_id, Receiver, Point, label_of, kernel_after, moved, after_line, after, Part, Says, Routes, Again}
+use Rattle.dm_rule.proofs.Names.{Owns, Transmits, Spelled, lines_of, puts, goes_out, packet_line, behind, spelled, migrates, is_between, Moves, knows, group_of, Made, bind-is}
 use Rattle.dm_onekernel.specs.Step as kernel
 use Rattle.dm_rule.specs.Rule as rule
 use Rattle.dm_rule.proofs.Groups.{group_is, arrives_net, resends_net}

@@ -1,11 +1,11 @@
 -- Rings list what is here, and nothing is known of what was never made: a line after the other.
-use Rattle.dm_rule.proofs.Names.{◌≡◌, ℕ, ◌+◌, ◌≤◌, ◌==◌, Bool, not, filter, [], ◌∷◌, ◌++◌, refl, ap, ◌∙◌, sym, subst, ⊤, if◌then◌else◌, slice_get, Option, None, Some, Pid, MsgId, MessageKind, Step, Stage, PlainMessage, PlainWhat, Label}
-use Rattle.dm_rule.proofs.Names.{Why, bind, Life, Alive, OneKernel, with_sent, answer_to, without_message, begun, Line, at_machine, at_record, without, moved_back, View, Told, About, Of, Known, Unknown, Here, Frozen, Incoming, Ended}
-use Rattle.dm_rule.proofs.Names.{view_after, handled, receiver_of, ends_by, served_told, target_of, front_of, gone_to, Point, label_of, kernel_after, pid_eq-same, bind-is, when-is, nexts, after_step, at_hand-is, seen, sort_of, arith}
+use Rattle.dm_rule.proofs.Names.{◌≡◌, ℕ, ◌+◌, ◌≤◌, ◌==◌, not, filter, [], ◌∷◌, ◌++◌, refl, ap, ◌∙◌, sym, subst, ⊤, Option, None, Some, Pid, MsgId, MessageKind, Step, Stage, PlainMessage, PlainWhat, Label, bind, Life, Alive, OneKernel, Line}
+use Rattle.dm_rule.proofs.Names.{at_machine, at_record, without, moved_back, View, Told, About, Of, Known, Unknown, Here, Frozen, Incoming, Ended, view_after, handled, receiver_of, ends_by, served_told, front_of, gone_to, Point, label_of}
+use Rattle.dm_rule.proofs.Names.{kernel_after, pid_eq-same, bind-is, when-is, nexts, after_step, at_hand-is, seen, sort_of, arith}
 use Rattle.dm_rule.proofs.Seen.{aim, sets}
 use Rattle.dm_rule.proofs.Telling.{Sane}
 use Rattle.dm_rule.proofs.Rings.{Rings, all_moved, learnt_without, learnt_last, rings_same, rings_ring, rings_learn, rings_known}
-use Rattle.dm_rule.proofs.Lives.{Lives, Lived, Kept, lived_alive, grown_none, lives_same, lives_learn}
+use Rattle.dm_rule.proofs.Lives.{Lives, Lived, Kept, grown_none, lives_same, lives_learn}
 use Rattle.dm_onekernel.specs.Service as service
 use Rattle.dm_onekernel.specs.Step as kernel
 use Rattle.dm_rule.specs.View as view
@@ -67,9 +67,7 @@ asks_idles v (Of p) = record { known = refl; ring = refl }
 asks_idles v _ = idles v
 
 proto_idles : (v : View) (o : Option Told) → Idles v (view.after_proto v o)
-proto_idles v None = record { known = refl; ring = refl }
-proto_idles v (Some t) = let h = elim t.kind as (λ k. Idles v (view.follows_by v t.about (sort_of k)))
-    [ MessageKind.State ↦ asks_idles v t.about | MessageKind.Memory ↦ asks_idles v t.about | _ ↦ idles v ] in record { known = h.known; ring = h.ring }
+proto_idles v o = search (arith, asks_idles, idles)
 
 served_roots : (s : OneKernel) (v : View) (o : Option Told) → ((t : Told) → o ≡ Some t → Lived s t.receiver) → Roots s v → Roots s (served_told v o)
 served_roots s v None lived h = h

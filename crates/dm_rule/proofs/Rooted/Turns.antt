@@ -1,6 +1,5 @@
 -- What a kernel's own message, a turn, and the other directives say needs nothing but for the first line.
-use Rattle.dm_rule.proofs.Names.{◌≡◌, ℕ, List, [], ◌∷◌, ◌++◌, refl, ap, ◌∙◌, Option, None, Some, Pid, MsgId, MessageKind, Stage, PlainMessage, Boot, manager, PlainProcess, OneKernel, Line, Told, Of, Here, Point, Part, Says, Transmits}
-use Rattle.dm_rule.proofs.Names.{to_kernel, sends_on, migrates, arith}
+use Rattle.dm_rule.proofs.Names.{◌≡◌, ℕ, List, [], ◌∷◌, ◌++◌, refl, ap, ◌∙◌, Option, None, Some, Pid, MsgId, MessageKind, Boot, PlainProcess, OneKernel, Line, Told, Of, Here, Point, Part, Says, Transmits, sends_on, migrates, arith}
 use Rattle.dm_onekernel.specs.Step as kernel
 use Rattle.dm_rule.specs.Rule as rule
 use Rattle.dm_rule.proofs.Groups.{IsNetLine, IsNet}

@@ -1,6 +1,6 @@
 -- Each label keeps each address on its trail.
-use Rattle.dm_rule.proofs.Names.{◌≡◌, true, refl, ap, ◌∙◌, sym, subst, Option, None, Some, Pid, Place, MsgId, MessageKind, Line, manager, Label, OneKernel, View, Told, is_kernels, after_label, served_told, ends_by, handled, dropped_for}
-use Rattle.dm_rule.proofs.Names.{receiver_of, Addresses, Receiver, Sender, given, gives, ascends, to_of, Trails, Trail, IsOn, AddressesOn, OwnOn, sort_of, arith, nat_tests}
+use Rattle.dm_rule.proofs.Names.{◌≡◌, true, refl, ap, ◌∙◌, sym, subst, Option, Some, Pid, Place, MsgId, MessageKind, Line, manager, Label, OneKernel, View, Told, is_kernels, after_label, ends_by, Addresses, Receiver, Sender, given, gives}
+use Rattle.dm_rule.proofs.Names.{ascends, to_of, Trails, Trail, IsOn, AddressesOn, OwnOn, sort_of, arith, nat_tests}
 use Rattle.dm_rule.proofs.Hushed.{hushed}
 use Rattle.dm_rule.proofs.Homes.{homes_are, at_home}
 use Rattle.dm_rule.proofs.Homes.Serves.{Named, EndedAt}
@@ -24,9 +24,7 @@ label_pending s t v a tr l is named said trail pending links = (label_on (IsOn t
 
 -- a label tells nothing of messages, and isn't about a place
 kills_topic : (v : View) (k : MessageKind) (o : Option Pid) → (ends_by (sort_of k) v o).topic ≡ v.topic
-kills_topic v MessageKind.Kill (Some p) = refl
-kills_topic v MessageKind.Kill None = refl
-kills_topic v _ o = refl
+kills_topic v k o = grind (arith, nat_tests)
 
 pub label_told : (v : View) (l : Label) → (after_label v l).told ≡ v.told
 label_told v l = (hushed v (Line.Label l) refl).told

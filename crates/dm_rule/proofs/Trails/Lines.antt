@@ -1,9 +1,8 @@
 -- Lines that give addresses beside the kernel keep each on its trail: a message that is forwarded, messages that are sent on, an
 -- update, and the first put of a kernel's own message.
 use Rattle.dm_rule.proofs.Names.{◌≡◌, ℕ, ◌+◌, ◌≤◌, ◌&&◌, Bool, true, false, List, [], ◌∷◌, ◌++◌, refl, ap, ◌∙◌, sym, subst, inl, inr, arith, nat_lt, if◌then◌else◌, slice_get, Option, None, Some, cases_Bool, false≢true, Pid, Place, MsgId}
-use Rattle.dm_rule.proofs.Names.{id_eq, MessageKind, manager, OneKernel, pid_eq-is, id_eq-same, View, Told, About, Known, Frozen, Forward, is_kernels, own_id, Addresses, Holder, Receiver, Sender, Enclosed, AskedBy, given, place_known}
-use Rattle.dm_rule.proofs.Names.{all_follow, is_told_back, told_back_gets, forwards, place_told, belongs_to, leads_to, is_pid, is_behind, updated_to, updated, names, to_of, sender_of, times, Trails, Trail, IsOn, AddressesOn, OwnOn}
-use Rattle.dm_rule.proofs.Names.{nat_tests}
+use Rattle.dm_rule.proofs.Names.{id_eq, MessageKind, manager, OneKernel, pid_eq-is, id_eq-same, View, Told, About, Known, Frozen, Forward, is_kernels, own_id, Addresses, Holder, Receiver, Sender, given, place_known, all_follow}
+use Rattle.dm_rule.proofs.Names.{is_told_back, told_back_gets, forwards, place_told, belongs_to, leads_to, is_pid, is_behind, updated_to, updated, names, times, Trails, Trail, IsOn, AddressesOn, OwnOn, nat_tests}
 use Rattle.dm_rule.proofs.Once.{one_of}
 use Rattle.dm_rule.proofs.Lines.{parts}
 use Rattle.dm_rule.proofs.Trails.Places.{Goes, Comes, Named, Links, Owns, AllAre, AllGet, given_on, all_grown}

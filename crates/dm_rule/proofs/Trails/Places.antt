@@ -1,6 +1,6 @@
 -- Addresses that holders get are on trails, where each of them is.
-use Rattle.dm_rule.proofs.Names.{◌≡◌, ℕ, ◌==◌, Bool, true, List, [], ◌∷◌, ◌++◌, ap, ◌∙◌, sym, subst, inl, inr, ⊤, if◌then◌else◌, slice_get, Some, cases_Bool, Pid, Place, pid_eq, MsgId, id_eq, MessageKind, manager, OneKernel, pid_eq-is}
-use Rattle.dm_rule.proofs.Names.{id_eq-is, View, Told, is_kernels, Addresses, Holder, Slot, Owner, Receiver, Sender, Enclosed, Child, Name, Answer, AskedBy, Gets, given, holder_eq, names, Trails, IsOn, arith}
+use Rattle.dm_rule.proofs.Names.{◌≡◌, ℕ, Bool, true, List, [], ◌∷◌, ◌++◌, ap, ◌∙◌, sym, subst, inl, inr, ⊤, if◌then◌else◌, slice_get, Some, cases_Bool, Pid, Place, MsgId, MessageKind, manager, OneKernel, pid_eq-is, id_eq-is, View, Told}
+use Rattle.dm_rule.proofs.Names.{is_kernels, Addresses, Holder, Receiver, Sender, Gets, given, holder_eq, names, Trails, IsOn, arith}
 use Rattle.dm_rule.proofs.Lines.{eq_is, parts}
 use Rattle.dm_rule.proofs.Trails.Known.{get_more}
 

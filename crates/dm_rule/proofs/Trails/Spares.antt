@@ -1,9 +1,9 @@
 -- No label gives an address to a kernel's own message.
 use Rattle.dm_rule.proofs.Names.{◌≡◌, ℕ, ◌+◌, ◌==◌, ◌&&◌, Bool, true, false, not, List, [], ◌∷◌, ◌++◌, length, map, refl, ap, ◌∙◌, sym, subst, if◌then◌else◌, Option, None, Some, false≢true, Pid, Place, pid_eq, PlainLink, first_empty, MsgId}
-use Rattle.dm_rule.proofs.Names.{id_eq, id_of, PlainMessage, PlainWhat, Label, Reply, switchboard, manager, bind, PlainProcess, reg, NamedLink, OneKernel, with_sent, answer_id, id_eq-is, id_eq-same, sent_at, bind-is, when-is, View}
-use Rattle.dm_rule.proofs.Names.{is_kernels, Addresses, Holder, Slot, Owner, Receiver, Sender, Enclosed, Answer, Gets, gets, given, gives, holder_eq, unmoved, encloses, enclosed_from, sends_burden, fills, fills_by, call_gets}
-use Rattle.dm_rule.proofs.Names.{receives_links, receives_burden, slot_after, landing_gets, serves_burden, child_links, board_finds, board_keeps, board_takes_burden, manager_tells_burden, manager_sends, manager_answers}
-use Rattle.dm_rule.proofs.Names.{manager_takes_burden, both_true, at_hand-is, burden_of, option_map_or, arith, nat_tests}
+use Rattle.dm_rule.proofs.Names.{id_eq, PlainMessage, PlainWhat, Label, Reply, switchboard, manager, bind, PlainProcess, reg, NamedLink, OneKernel, with_sent, answer_id, id_eq-is, id_eq-same, sent_at, bind-is, when-is, View, is_kernels}
+use Rattle.dm_rule.proofs.Names.{Addresses, Holder, Slot, Owner, Receiver, Sender, Enclosed, Answer, Gets, gets, given, gives, holder_eq, encloses, enclosed_from, sends_burden, fills, call_gets, receives_links, slot_after, landing_gets}
+use Rattle.dm_rule.proofs.Names.{serves_burden, child_links, board_finds, board_keeps, board_takes_burden, manager_tells_burden, manager_sends, manager_answers, manager_takes_burden, both_true, at_hand-is, burden_of, option_map_or, arith}
+use Rattle.dm_rule.proofs.Names.{nat_tests}
 use Rattle.dm_rule.proofs.Lines.{not_true}
 use Rattle.dm_onekernel.specs.Calls as calls
 use Rattle.dm_onekernel.specs.Pieces as pieces
@@ -112,10 +112,7 @@ receives_links_spares a p id n slots (l ∷ ls) i =
     (fills_spares p (first_empty slots) (a (Enclosed id n)) i) (receives_links_spares a p id (n + 1) (slot_after slots l (first_empty slots)) ls i)
 
 pub receives_spares : (a : Addresses) (p : Pid) (id : MsgId) (o : Option PlainProcess) (m : Option PlainMessage) (i : MsgId) → spares i (addresses.reception_gets a p id o m) ≡ true
-receives_spares a p id None m i = refl
-receives_spares a p id (Some x) None i = refl
-receives_spares a p id (Some x) (Some m) i = elim m.what as (λ w. spares i (receives_burden a p id x (burden_of w)) ≡ true)
-    [ PlainWhat.User b1 b2 b3 b4 ↦ receives_links_spares a p id 0 x.links b4 i | _ ↦ refl ]
+receives_spares a p id o m i = grind (arith, nat_tests, receives_links_spares)
 
 -- served
 landed_spares : (s t : OneKernel) (v : View) (a : Addresses) (id : MsgId) (m : PlainMessage) (c : pieces.Landed) (i : MsgId) → Outside t → is_kernels i ≡ true → service.landed s id m c ≡ t → spares i (landing_gets v a m.to (Some c)) ≡ true
@@ -130,11 +127,7 @@ lands_spares s t v a id m x i out own e =
     subst (λ (o : Option pieces.Landed). spares i (landing_gets v a m.to o) ≡ true) (sym is) (landed_spares s t v a id m c i out own k)
 
 serve_spares : (s t : OneKernel) (v : View) (a : Addresses) (id : MsgId) (m : PlainMessage) (x : PlainProcess) (w : PlainWhat) (i : MsgId) → Outside t → is_kernels i ≡ true → service.serves s id m x w ≡ Some t → spares i (serves_burden v a id m x (burden_of w)) ≡ true
-serve_spares s t v a id m x (PlainWhat.Read b1 b2) i new own is = two_more i (answer_id id) [] (answers_apart i id own) refl
-serve_spares s t v a id m x (PlainWhat.Write b1 b2) i new own is = two_more i (answer_id id) [] (answers_apart i id own) refl
-serve_spares s t v a id m x (PlainWhat.Block b1) i new own is = lands_spares s t v a id m x i new own is
-serve_spares s t v a id m x PlainWhat.Written i new own is = lands_spares s t v a id m x i new own is
-serve_spares s t v a id m x _ i new own is = refl
+serve_spares s t v a id m x w i h1 h2 h3 = search (arith, two_more, answers_apart, lands_spares)
 
 -- created
 pub creates_what_spares : (a : Addresses) (id : MsgId) (child : Pid) (w : PlainWhat) (i : MsgId) → spares i (addresses.creates_burden a id child (burden_of w)) ≡ true

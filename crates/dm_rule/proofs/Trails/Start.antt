@@ -1,6 +1,6 @@
 -- Before the first line each process's trail is its home, and each address names it.
-use Rattle.dm_rule.proofs.Names.{◌≡◌, ◌≢◌, ℕ, zero, suc, ◌==◌, ◌&&◌, Bool, true, false, [], ◌∷◌, refl, ap, ◌∙◌, sym, subst, arith, if◌then◌else◌, slice_get, None, Some, nat_tests, Pid, Place, Boot, IsValid, Unknown, Here, Forward}
-use Rattle.dm_rule.proofs.Names.{first_view, unmoved, first_point, Trail, StoodOnTrail, IsOn, Trailed, first_trails, both_true}
+use Rattle.dm_rule.proofs.Names.{◌≡◌, ◌≢◌, ℕ, ◌==◌, ◌&&◌, Bool, true, false, [], ◌∷◌, refl, ◌∙◌, sym, arith, if◌then◌else◌, slice_get, None, Some, nat_tests, Pid, Boot, IsValid, Unknown, Here, Forward, first_view, first_point, Trail}
+use Rattle.dm_rule.proofs.Names.{StoodOnTrail, Trailed, first_trails, both_true}
 use Rattle.dm_rule.proofs.Homes.Start.{Homes-start}
 use Rattle.dm_rule.proofs.Phases.Start.{starts, start_known, start_phase}
 

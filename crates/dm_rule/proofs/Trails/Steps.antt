@@ -1,7 +1,7 @@
 -- Each line of a migration, of an end and of a birth keeps what machines know in agreement with the trails.
-use Rattle.dm_rule.proofs.Names.{◌≡◌, ◌≢◌, ℕ, ◌+◌, ◌==◌, ◌&&◌, Bool, true, false, not, List, [], ◌∷◌, ◌++◌, length, refl, ap, ◌∙◌, sym, subst, inl, inr, arith, if◌then◌else◌, slice_get, Option, Some, cases_Bool, false≢true, nat_tests}
-use Rattle.dm_rule.proofs.Names.{append-nil, Pid, pid_eq, MsgId, MessageKind, Line, Stage, at_record, View, Known, Unknown, Here, Frozen, Incoming, Forward, Ended, view_after, front_of, target_of, gone_to, Nowhere, Moves, IsIn, kind_comes}
-use Rattle.dm_rule.proofs.Names.{is_restart, is_early, is_between, is_away, Trails, Trail, StoodOnTrail, destination, trails_after, pid_eq-is, pid_eq-same, kind_leaves}
+use Rattle.dm_rule.proofs.Names.{◌≡◌, ◌≢◌, ℕ, ◌+◌, ◌==◌, Bool, true, false, not, List, [], ◌∷◌, ◌++◌, length, refl, ap, ◌∙◌, sym, subst, inl, inr, arith, if◌then◌else◌, slice_get, Option, Some, cases_Bool, false≢true, append-nil, Pid}
+use Rattle.dm_rule.proofs.Names.{pid_eq, MsgId, MessageKind, Line, Stage, at_record, View, Known, Unknown, Here, Frozen, Incoming, Ended, view_after, front_of, gone_to, Nowhere, Moves, IsIn, kind_comes, is_restart, is_early, is_between}
+use Rattle.dm_rule.proofs.Names.{is_away, Trails, Trail, StoodOnTrail, destination, trails_after, pid_eq-is, pid_eq-same, kind_leaves}
 use Rattle.dm_rule.proofs.Lines.{eq_is, parts, not_true, eq_self}
 use Rattle.dm_rule.proofs.Seen.{aim, sets}
 use Rattle.dm_rule.proofs.Trails.Known.{trail_same, trail_learns, trail_made, trail_grows, trail_left, home_alone}

@@ -2,7 +2,7 @@
 use Rattle.dm_rule.proofs.Names.{◌≡◌, ◌≢◌, ℕ, ◌+◌, ◌≤◌, Bool, true, false, List, ◌++◌, length, refl, ap, ◌∙◌, sym, subst, ⊤, ◌==◌, not, filter, slice_get, Option, None, Some, Pid, MsgId, MessageKind, manager, Label, OneKernel, Step}
 use Rattle.dm_rule.proofs.Names.{bind-is, Line, Stage, View, Told, Known, Unknown, Here, Frozen, Forward, is_kernels, own_id, view_after, after_label, after_head, after_put, after_proto, handled, taken_id, queued_for, held_for}
 use Rattle.dm_rule.proofs.Names.{forwarded_for, forward_about, served_told, ends_by, receiver_of, Addresses, Receiver, Sender, given, forwards, all_follow, own_given, first_gives, addresses_after, ascends, Nowhere, Moves, IsIn, is_restart}
-use Rattle.dm_rule.proofs.Names.{is_early, Point, moved, after_line, times, Trails, Trail, StoodOnTrail, IsOn, AddressesOn, OwnOn, trails_after, PlainMessage, PlainWhat, gives, machine_in, seen, move_target, sort_of, arith}
+use Rattle.dm_rule.proofs.Names.{is_early, Point, moved, after_line, times, Trails, Trail, StoodOnTrail, IsOn, AddressesOn, OwnOn, trails_after, gives, seen, sort_of, arith}
 use Rattle.dm_rule.proofs.Hushed.{hushed}
 use Rattle.dm_rule.proofs.Seen.{sets}
 use Rattle.dm_rule.proofs.Homes.Labels.{SaidOn}

@@ -1,9 +1,8 @@
 -- Only machines that act know processes, and so all machines of a trail are among those of the boot file.
-use Rattle.dm_rule.proofs.Names.{◌≡◌, ◌≢◌, ℕ, ◌+◌, ◌<◌, ◌==◌, ◌&&◌, Bool, refl, ap, ◌∙◌, sym, subst, inl, inr, ⊤, not, filter, if◌then◌else◌, slice_get, Option, None, Some, cases_Bool, Pid, pid_eq, MsgId, MessageKind, Label, Step, Line}
-use Rattle.dm_rule.proofs.Names.{Stage, at_record, View, Told, Known, Unknown, Here, Frozen, Incoming, Ended, actor, view_after, after_label, after_head, handled, taken_id, queued_for, held_for, forwarded_for, served_told, ends_by}
-use Rattle.dm_rule.proofs.Names.{receiver_of, front_of, target_of, gone_to, Trails, Trail, sort_of, arith}
+use Rattle.dm_rule.proofs.Names.{◌≡◌, ◌≢◌, ℕ, ◌+◌, ◌<◌, ◌==◌, refl, ◌∙◌, sym, subst, ⊤, not, filter, slice_get, Option, None, Some, Pid, MsgId, Label, Step, Line, Stage, at_record, View, Told, Known, Unknown, Here, actor, view_after}
+use Rattle.dm_rule.proofs.Names.{after_label, after_head, handled, taken_id, queued_for, held_for, forwarded_for, served_told, receiver_of, Trails, Trail, arith}
 use Rattle.dm_rule.proofs.Lines.{eq_is, parts}
-use Rattle.dm_rule.proofs.Seen.{aim, sets}
+use Rattle.dm_rule.proofs.Seen.{sets}
 use Rattle.dm_rule.proofs.Homes.Lines.{acting_label}
 use Rattle.dm_rule.proofs.Phases.Lines.{queued_known, held_known, dropped_known, forwarded_known}
 use Rattle.dm_rule.proofs.Phases.Pieces.{proto_known, proto_acting}
@@ -44,9 +43,7 @@ taken_within n v b None h = h
 taken_within n v b (Some i) h = record { known = h.known; acting = h.acting }
 
 served_within : (n : ℕ) (v : View) (o : Option Told) → Within n v → Within n (served_told v o)
-served_within n v None h = h
-served_within n v (Some u) h = elim u.kind as (λ k. Within n (ends_by (sort_of k) v (Some u.receiver)))
-    [ MessageKind.Kill ↦ within_set n v (ends_by (sort_of MessageKind.Kill) v (Some u.receiver)) u.receiver Ended refl refl h | _ ↦ h ]
+served_within n v o h1 = search (arith, within_set)
 
 label_within : (n : ℕ) (v : View) (l : Label) → Within n v → Within n (after_label v l)
 label_within n v l h1 = search (arith, within_set, served_within, within_same, dropped_known, acting_label)

@@ -1,7 +1,7 @@
 -- Most lines change nothing of what machines know, of rings, queues and held lists: what must be shown of the others.
-use Rattle.dm_rulelaws.proofs.Names.{◌≡◌, ℕ, ◌+◌, ◌==◌, true, false, not, filter, refl, subst, Option, None, Some, Pid, MsgId, MessageKind, Step, Stage, Label, Reply, Why, OneKernel, Line, View, Told, About, Of, Here, view_after, handled}
-use Rattle.dm_rulelaws.proofs.Names.{receiver_of, is_away, is_here, Point, label_of, kernel_after, moved, hushed, Sane, has_nothing_held, Bool, ap, ◌∙◌, sym, inl, inr, if◌then◌else◌, cases_Bool, false≢true, pid_eq, plain_kind, PlainMessage}
-use Rattle.dm_rulelaws.proofs.Names.{PlainWhat, Alive, Ended, Life, PlainProcess, answer_to, without_message, begun, pid_eq-is, pid_eq-same, is_kill, take, drop, by_step, is_some, seen, sort_of, arith}
+use Rattle.dm_rulelaws.proofs.Names.{◌≡◌, ℕ, ◌+◌, ◌==◌, true, false, not, filter, refl, subst, Option, None, Some, Pid, MsgId, Step, Stage, Label, Reply, Why, OneKernel, Line, View, Told, About, Here, view_after, handled, receiver_of}
+use Rattle.dm_rulelaws.proofs.Names.{is_away, is_here, Point, label_of, kernel_after, moved, hushed, Sane, has_nothing_held, Bool, ap, ◌∙◌, sym, inl, inr, if◌then◌else◌, cases_Bool, false≢true, pid_eq, plain_kind, PlainMessage, PlainWhat}
+use Rattle.dm_rulelaws.proofs.Names.{Alive, Ended, Life, PlainProcess, answer_to, without_message, begun, pid_eq-is, pid_eq-same, is_kill, take, drop, by_step, is_some, seen, arith}
 use Rattle.dm_rule.proofs.Changes.{Lives}
 use Rattle.dm_rulelaws.proofs.Based.Needs.{Resting, Serves, Unborn, Living, Queues, Leaving, Needs, Rides, Keeps}
 use Rattle.dm_onekernel.specs.Step as kernel
@@ -151,8 +151,7 @@ taken_stays : (v : View) (b : ℕ) (o : Option MsgId) → Stays v (view.taken_id
 taken_stays v b o = search (arith, stays)
 
 asks_stays : (v : View) (a : About) → Stays v (view.asks_on v a)
-asks_stays v (Of p) = record { known = refl; ring = refl; queue = refl; held = refl; moves = refl }
-asks_stays v _ = stays v
+asks_stays v a = search (arith, stays)
 
 proto_stays : (v : View) (o : Option Told) → Stays v (view.after_proto v o)
 proto_stays v None = record { known = refl; ring = refl; queue = refl; held = refl; moves = refl }

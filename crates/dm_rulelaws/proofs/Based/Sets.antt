@@ -19,8 +19,7 @@ last_of T i id xs least old new = search (arith, id_eq-is, times-append)
 
 -- a message kills its receiver, or leaves what is known
 pub killed_or : (P : View → Type 0) (k : MessageKind) (v : View) (p : Pid) → (is_kill k ≡ true → P (ended v p)) → (is_kill k ≡ false → P v) → P (ends_by (sort_of k) v (Some p))
-killed_or P MessageKind.Kill v p h g = h refl
-killed_or P _ v p h g = g refl
+killed_or P k v p h1 h2 = search arith
 
 -- rings
 abbrev pub one_if : Bool → ℕ

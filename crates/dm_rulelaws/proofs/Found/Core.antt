@@ -1,9 +1,8 @@
 -- What each line keeps: where addresses lead, what machines know, and where messages stand.
 use Rattle.dm_rulelaws.proofs.Names.{◌≡◌, ◌≢◌, ◌⊎◌, ℕ, ◌<◌, ◌==◌, ◌&&◌, Bool, true, false, is_some, refl, ap, ◌∙◌, sym, subst, inl, inr, ⊤, if◌then◌else◌, Option, Some, cases_Bool, Pid, Place, pid_eq, MsgId, PlainMessage, pid_eq-is}
 use Rattle.dm_rulelaws.proofs.Names.{at_record, View, Told, About, Target, Known, Unknown, Frozen, Incoming, Forward, is_kernels, Addresses, Receiver, ascends, Point, eq_is, parts, is_own, KernelFits, is_fixed, times, receiver_of, ◌≤◌}
-use Rattle.dm_rulelaws.proofs.Names.{None, false≢true, id_eq, MessageKind, Line, manager, OneKernel, id_eq-is, after_put, Sender, given, unmoved, child_number, own_given, first_gives, moved, not_true, put_at, put_told_off, Sort, sort_of}
-use Rattle.dm_rulelaws.proofs.Names.{List, [], ◌∷◌, ◌++◌, arith, own_id, view_after, handled, forwarded_for, forward_about, place_known, all_follow, forwards, updated, Child, Spot, standing, one_of, Named, zero_cases, flip_zero}
-use Rattle.dm_rulelaws.proofs.Names.{option_map_or}
+use Rattle.dm_rulelaws.proofs.Names.{None, false≢true, id_eq, MessageKind, Line, manager, id_eq-is, after_put, Sender, given, own_given, first_gives, moved, not_true, put_at, put_told_off, sort_of, List, [], ◌∷◌, ◌++◌, arith, own_id}
+use Rattle.dm_rulelaws.proofs.Names.{view_after, handled, forwarded_for, forward_about, place_known, all_follow, forwards, updated, Spot, standing, one_of, Named, zero_cases, flip_zero}
 use Rattle.dm_rulelaws.proofs.Found.Lists.{Places, places_put, places_line, places_handled, places_forwarded, AllAre, all_as, put_all, put_routed, put_again, put_tells, routed_gives, forwarded_all, sent_on_all, updated_all, updated_leaves}
 use Rattle.dm_rulelaws.proofs.Found.Lists.{Sends}
 
@@ -183,24 +182,14 @@ pub data NeedsPut (n : ℕ) (pt : Point) (b : ℕ) (id : MsgId) (k : MessageKind
       → (given pt.addresses (own_given pt.kernel pt.view pt.addresses id q (sort_of k)) (Receiver id)).at ≡ b → IsReal n pt.view q → is_own k ≡ true → NeedsPut n pt b id k q
   Routed : is_kernels id ≡ false → is_own k ≡ false → pt.view.told id ≡ None → (pt.addresses (Receiver id)).at ≡ b → NeedsPut n pt b id k q
 
-own_off_by : (s : OneKernel) (v : View) (a : Addresses) (id i : MsgId) (q : Pid) (w : Sort) → id_eq id i ≡ false → given a (own_given s v a id q w) (Receiver i) ≡ a (Receiver i)
-own_off_by s v a id i q Sort.Request e = ap (λ (c : Bool). if c then option_map_or (λ c. a (Child c)) (child_number s q) (unmoved 0) else a (Receiver i)) e
-own_off_by s v a id i q (Sort.Between passage) e = ap (λ (c : Bool). if c then unmoved q.home else a (Receiver i)) e
-own_off_by s v a id i q Sort.Unsent e = ap (λ (c : Bool). if c then unmoved q.home else a (Receiver i)) e
-own_off_by s v a id i q _ e = refl
-
 put_address : (n : ℕ) (pt : Point) (b : ℕ) (id i : MsgId) (k : MessageKind) (q : Pid) → NeedsPut n pt b id k q → is_some (pt.view.told i) ≡ true
     → given pt.addresses (first_gives (pt.view.told id) (own_given pt.kernel pt.view pt.addresses id q (sort_of k))) (Receiver i) ≡ pt.addresses (Receiver i)
 put_address n pt b id i k q (Again u told at) some = ap (λ (o : Option Told). given pt.addresses (first_gives o (own_given pt.kernel pt.view pt.addresses id q (sort_of k))) (Receiver i)) told
-put_address n pt b id i k q (Own bag none to from at real own_) some =
-    ap (λ (o : Option Told). given pt.addresses (first_gives o (own_given pt.kernel pt.view pt.addresses id q (sort_of k))) (Receiver i)) none
-    ∙ own_off_by pt.kernel pt.view pt.addresses id i q (sort_of k) (told_apart pt.view id i none some)
+put_address n pt b id i k q (Own bag none to from at real own_) some = search (arith, sort_of k, told_apart pt.view id i none some, pt.addresses, pt.kernel)
 put_address n pt b id i k q (Routed other plain none at) some = routed_gives pt.kernel pt.view pt.addresses id k q plain (pt.view.told id) (Receiver i)
 
 put_place : (n : ℕ) (pt : Point) (b : ℕ) (id : MsgId) (k : MessageKind) (q : Pid) → NeedsPut n pt b id k q → (given pt.addresses (first_gives (pt.view.told id) (own_given pt.kernel pt.view pt.addresses id q (sort_of k))) (Receiver id)).at ≡ b
-put_place n pt b id k q (Again u told at) = ap (λ (o : Option Told). (given pt.addresses (first_gives o (own_given pt.kernel pt.view pt.addresses id q (sort_of k))) (Receiver id)).at) told ∙ at
-put_place n pt b id k q (Own bag none to from at real own_) = ap (λ (o : Option Told). (given pt.addresses (first_gives o (own_given pt.kernel pt.view pt.addresses id q (sort_of k))) (Receiver id)).at) none ∙ at
-put_place n pt b id k q (Routed other plain none at) = ap (λ (p : Place). p.at) (routed_gives pt.kernel pt.view pt.addresses id k q plain (pt.view.told id) (Receiver id)) ∙ at
+put_place n pt b id k q h1 = search (arith, pt.addresses, pt.kernel, pt.view, routed_gives, pt.view.told)
 
 put_are : (n : ℕ) (pt : Point) (x b : ℕ) (id : MsgId) (k : MessageKind) (q : Pid) → NeedsPut n pt b id k q → LineCore n pt
     → AllAre (Knows pt.view) pt.kernel (after_put pt.view x b id k q) (given pt.addresses (first_gives (pt.view.told id) (own_given pt.kernel pt.view pt.addresses id q (sort_of k))))

@@ -1,13 +1,12 @@
 -- Each label keeps where addresses lead, what machines know, and where messages stand.
-use Rattle.dm_rulelaws.proofs.Names.{◌≡◌, ◌≢◌, ℕ, ◌+◌, ◌<◌, ◌≤◌, true, false, is_some, refl, ap, ◌∙◌, sym, subst, inl, inr, arith, ⊤, Option, None, Some, cases_Bool, false≢true, Pid, Place, MsgId, PlainMessage, MessageKind, Line, Label}
-use Rattle.dm_rulelaws.proofs.Names.{OneKernel, entry, reception, Grown, after_step, View, Told, Unknown, Here, is_kernels, after_label, handled, ends_by, served_told, receiver_of, Holder, Receiver, Sender, given, gives, to_of, Point}
-use Rattle.dm_rulelaws.proofs.Names.{moved, at_record_at, grown_none, not_kernels, AtHome, homes_are, at_home, SaidOn, label_on, ReceivedAt, dropped_known, Sane, Goes, Comes, Links, Outside, gives_spares, spared_receiver, spared_sender}
-use Rattle.dm_rulelaws.proofs.Names.{label_told, label_topic, is_fixed, zero_cases, acting_dropped, ◌⊎◌, Bool, pid_eq, plain_kind, PlainWhat, Alive, PlainProcess, pid_eq-is, bind-is, when-is, is_kill, nat_lt, List, [], length}
-use Rattle.dm_rulelaws.proofs.Names.{if◌then◌else◌, id_eq, id_of, switchboard, manager, bind, answer_id, id_eq-is, Addresses, Gets, landing_gets, serves_burden, board_takes_burden, manager_takes_burden, not_true, nat_tests, unentered}
-use Rattle.dm_rulelaws.proofs.Names.{Sound, id_in, landed_id, served_id, board_id, manager_id, took_id, bag_sends, bag_served, bag_gone, bag_no_space, bag_created, bag_took, spares, spares_both, two_more, made_spares, sends_spares}
-use Rattle.dm_rulelaws.proofs.Names.{receives_spares, creates_what_spares, finds_spares, keeps_spares, manager_takes_spares, KernelFits, topic_by, machine_in, bag_answered, aim, sets, not, filter, ◌==◌, Step, Load, Stage, About, Known}
-use Rattle.dm_rulelaws.proofs.Names.{Frozen, Incoming, view_after, after_head, after_stage, after_proto, queued_for, held_for, taken_id, oldest, gone_to, front_of, label_of, kernel_after, is_put, hushed, queued_known, held_known}
-use Rattle.dm_rulelaws.proofs.Names.{proto_known, proto_acting, burden_of, sort_of, option_map_or}
+use Rattle.dm_rulelaws.proofs.Names.{◌≡◌, ◌≢◌, ℕ, ◌+◌, ◌<◌, ◌≤◌, true, false, is_some, refl, ap, ◌∙◌, sym, subst, inl, inr, arith, ⊤, Option, None, Some, cases_Bool, false≢true, Pid, Place, MsgId, PlainMessage, Line, Label, OneKernel}
+use Rattle.dm_rulelaws.proofs.Names.{entry, reception, Grown, after_step, View, Told, Unknown, Here, is_kernels, after_label, handled, receiver_of, Holder, Receiver, Sender, given, gives, to_of, Point, moved, at_record_at, grown_none}
+use Rattle.dm_rulelaws.proofs.Names.{not_kernels, AtHome, homes_are, at_home, SaidOn, label_on, ReceivedAt, dropped_known, Sane, Goes, Comes, Links, Outside, gives_spares, spared_receiver, spared_sender, label_told, label_topic, is_fixed}
+use Rattle.dm_rulelaws.proofs.Names.{zero_cases, acting_dropped, ◌⊎◌, Bool, pid_eq, plain_kind, PlainWhat, Alive, PlainProcess, pid_eq-is, bind-is, when-is, is_kill, nat_lt, List, [], length, if◌then◌else◌, id_eq, id_of, switchboard}
+use Rattle.dm_rulelaws.proofs.Names.{manager, bind, answer_id, id_eq-is, Addresses, Gets, landing_gets, serves_burden, board_takes_burden, manager_takes_burden, not_true, nat_tests, unentered, Sound, id_in, landed_id, served_id, board_id}
+use Rattle.dm_rulelaws.proofs.Names.{manager_id, took_id, bag_sends, bag_served, bag_gone, bag_no_space, bag_created, bag_took, spares, spares_both, two_more, made_spares, sends_spares, receives_spares, creates_what_spares, finds_spares}
+use Rattle.dm_rulelaws.proofs.Names.{keeps_spares, manager_takes_spares, KernelFits, topic_by, machine_in, bag_answered, aim, sets, not, filter, ◌==◌, Step, Load, Stage, About, Known, Frozen, Incoming, view_after, after_head, after_stage}
+use Rattle.dm_rulelaws.proofs.Names.{after_proto, queued_for, held_for, taken_id, oldest, gone_to, front_of, label_of, kernel_after, is_put, hushed, queued_known, held_known, proto_known, proto_acting, burden_of, option_map_or}
 use Rattle.dm_rule.specs.View.{Ended}
 use Rattle.dm_rule.proofs.Trails.Places.{Owns}
 use Rattle.dm_rulelaws.proofs.Fits.Start.{fits_step}
@@ -38,8 +37,7 @@ serve_spares : (v : View) (a : Addresses) (id : MsgId) (m : PlainMessage) (x : P
 serve_spares v a id m x w i h1 = search (arith, two_more, lands_spares, m.to, x.status)
 
 creates_spares : (v : View) (a : Addresses) (id : MsgId) (child : Pid) (o : Option PlainMessage) (i : MsgId) → id_eq (answer_id id) i ≡ false → spares i (addresses.creation_gets v a id child o) ≡ true
-creates_spares v a id child None i e = refl
-creates_spares v a id child (Some m) i e = two_more i (answer_id id) (addresses.creates_burden a id child (burden_of m.what)) e (creates_what_spares a id child m.what i)
+creates_spares v a id child o i h1 = search (arith, two_more, creates_what_spares)
 
 board_takes_spares : (s : OneKernel) (v : View) (a : Addresses) (id : MsgId) (w : PlainWhat) (i : MsgId) → id_eq (id_of switchboard s.switchboard.sent) i ≡ false → spares i (board_takes_burden s v a id (burden_of w)) ≡ true
 board_takes_spares s v a id (PlainWhat.User b1 b2 b3 b4) i e = search (arith, s.switchboard.sent, s.switchboard.names, two_more, spares_both, finds_spares, keeps_spares)

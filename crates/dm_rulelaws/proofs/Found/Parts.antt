@@ -1,9 +1,9 @@
 -- The parts of a group keep where messages stand, where each has what it needs.
 use Rattle.dm_rulelaws.proofs.Names.{◌≡◌, ℕ, ◌<◌, true, false, List, [], ◌∷◌, refl, ◌∙◌, sym, arith, ⊤, Option, None, Some, Pid, pid_of, MsgId, MessageKind, plain_kind, PlainMessage, PlainWhat, manager, id_eq-same, bind-is, Line, Told}
 use Rattle.dm_rulelaws.proofs.Names.{own_id, Holder, Receiver, Sender, given, goes_between, own_given, Point, moved, after, Part, Says, Routes, Again, Owns, Transmits, Spelled, lines_of, puts, spelled, not_kernels, not_first, Sane}
-use Rattle.dm_rulelaws.proofs.Names.{AllSayable, part_sane, is_own, by_parts, ◌+◌, ap, subst, Label, Boot, first_number, PlainProcess, Forward, forwards_on, Stops, by_round, by_handles, ◌/◌, ◌==◌, Bool, ◌++◌, length, if◌then◌else◌, pid_eq}
-use Rattle.dm_rulelaws.proofs.Names.{Stage, switchboard, bind, About, Of, Known, Unknown, Here, target_of, front_of, to_kernel, accepts, takes_block, leaves, pieces_of, told_step, told_here, told_ended, process_told, told_server}
-use Rattle.dm_rulelaws.proofs.Names.{is_between, is_fixed, Outcome, MoveNote, OneKernel, answers_move, leaves_for, aim, label_of, kernel_after, at_record, at_record_at, tells_asker, View, after_line, packet_line, sort_of}
+use Rattle.dm_rulelaws.proofs.Names.{AllSayable, part_sane, is_own, by_parts, ◌+◌, ap, subst, Label, Boot, first_number, PlainProcess, Forward, forwards_on, Stops, by_round, by_handles, ◌==◌, Bool, ◌++◌, if◌then◌else◌, pid_eq, Stage}
+use Rattle.dm_rulelaws.proofs.Names.{switchboard, bind, About, Of, Known, Unknown, Here, target_of, front_of, to_kernel, accepts, takes_block, leaves, pieces_of, told_step, told_here, process_told, told_server, is_between, is_fixed}
+use Rattle.dm_rulelaws.proofs.Names.{Outcome, MoveNote, OneKernel, answers_move, leaves_for, aim, label_of, kernel_after, at_record, at_record_at, tells_asker, View, after_line, packet_line, sort_of}
 use Rattle.dm_rule.specs.View.{Ended}
 use Rattle.dm_rulelaws.proofs.Found.Core.{Knows, IsReal, LineCore, KnowsAt, IsAt, NeedsPut, put_core}
 use Rattle.dm_rulelaws.proofs.Based.Needs.{by_puts, said_by}
@@ -222,9 +222,7 @@ bind_need n pt (Some x) f h = h x refl
 
 kernel_hears_need : (n : ℕ) (pt : Point) (b : Boot) (o : Point) (m : ℕ) (id : MsgId) (k : MessageKind) (a : About) → ((p : Pid) → a ≡ Of p → is_between k ≡ true → Heard n pt o m id p k)
     → NeedOf n pt (rule.kernel_hears b o m id k a)
-kernel_hears_need n pt b o m id k (Of p) h =
-    bind_need n pt (kernel.alive (o.kernel.processes p)) (λ x. told_step o m id p (rule.fits (rule.free_room b o m) (length x.memory / 256)) x (sort_of k))
-    (λ x alive. told_need n pt o m id p (rule.fits (rule.free_room b o m) (length x.memory / 256)) x k (h p refl))
+kernel_hears_need n pt b o m id k (Of p) h = search (arith, bind_need, told_need)
 kernel_hears_need n pt b o m id k _ h = tt
 
 moves_need : (n : ℕ) (pt : Point) (id : MsgId) (p : Pid) (to : ℕ) (c : Bool) → to < n → (aim pt.view pt.view.topic < n) × (is_fixed p ≡ false)

@@ -169,9 +169,7 @@ can_here C never m o i t MessageKind.Update e num = can_plain C m (begun o m) (u
 can_here C never m o i t _ e num = absurd (grind (arith, nat_tests))
 
 can_over : (C : Type 0) (never : C → ⊥) (m : ℕ) (o : Point) (i : MsgId) (t : Told) (k : MessageKind) → own_sort k t.receiver t.about ≡ true → (t.receiver.num == 0) ≡ false → Can C m (begun o m) (told_ended i (sort_of k))
-can_over C never m o i t MessageKind.Migrate e num = can_plain C m (begun o m) (Says (Line.NoMove i) ∷ []) never (refl, tt) (NoOwns (tt, tt))
-can_over C never m o i t MessageKind.Update e num = can_plain C m (begun o m) (Says (Line.Updated i 0) ∷ []) never (refl, tt) (NoOwns (tt, tt))
-can_over C never m o i t _ e num = absurd (grind (arith, nat_tests))
+can_over C never m o i t k h1 h2 = search (arith, can_plain)
 
 can_known : (C : Type 0) (never : C → ⊥) (b : Boot) (m : ℕ) (o : Point) (i : MsgId) (f : FrontOwn b m o i) (n : Known) → o.view.known m f.told.receiver ≡ n → n ≢ Unknown → (f.told.receiver.num == 0) ≡ false → Can C m (begun o m) (process_told o m i f.told n)
 can_known C never b m o i f Unknown is there num = absurd (there refl)

@@ -2,7 +2,7 @@
 use Rattle.dm_rulelaws.proofs.Names.{◌≡◌, suc, Bool, true, false, List, [], ◌∷◌, ◌++◌, refl, ap, ◌∙◌, sym, subst, arith, Option, Some, false≢true, Pid, MsgId, id_of, Boot, IsValid, Label, OneKernel, bind, start, replay, Step, Line, Spelled}
 use Rattle.dm_rulelaws.proofs.Names.{Point, first_point, labels, moved, LeadsBy, ReceivesInOrder, AreStill, ℕ, ◌+◌, ◌≤◌, inl, inr, if◌then◌else◌, None, cases_Bool, nat_tests, id_eq, PlainMessage, PlainWhat, on_mask, in_bag, counts}
 use Rattle.dm_rulelaws.proofs.Names.{pid_eq-same, id_eq-is, id_eq-same, after_step, without_id, times, untaken, View, after_label, Each, channel_in, is_for_home, are_for_home, About, NothingElse, begins, marked, homes_of, Sane, AskNone}
-use Rattle.dm_rulelaws.proofs.Names.{switchboard, manager, first_view, spelled, burden_of}
+use Rattle.dm_rulelaws.proofs.Names.{first_view, spelled, burden_of}
 use Rattle.dm_rulelaws.proofs.RunLabels.{labels-append, replay-append, group_replay}
 use Rattle.dm_rulelaws.proofs.Goes.Parts.{said, Shape, Quiet, Takes, Goes, Reception, not_receive, no_receive, sane_by, AsksNone, unasked}
 use Rattle.dm_rulelaws.proofs.Goes.Always.{CalmFor, group_on}
