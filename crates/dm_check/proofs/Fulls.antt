@@ -1,7 +1,7 @@
 -- None of the lines at the end says nothing.
 use Rattle.dm_check.proofs.Names.{◌≡◌, ◌≢◌, ℕ, zero, suc, ◌+◌, ◌-◌, ◌*◌, ◌/◌, ◌<◌, ◌≤◌, ◌==◌, Bool, true, false, ◌&&◌, nat_le, if◌then◌else◌, List, [], ◌∷◌, ◌++◌, length, take, drop, get_or, refl, ap, sym, ◌∙◌, subst, arith, Some, None}
 use Rattle.dm_check.proofs.Names.{All, Option, nat_tests, length-take, All-nil, All-cons, All-append, Pid, pid_of, PlainLink, MsgId, id_of, first_number, manager, switchboard, Life, Alive, NamedLink, Pending, PlainProcess, is_name, EndLine}
-use Rattle.dm_check.proofs.Names.{before_zeros, trimmed, block_line, memory_lines, home_with, each_machine, list_line, Addresses, Stood, end_lines, Point, untaken, View, IsFull}
+use Rattle.dm_check.proofs.Names.{before_zeros, trimmed, block_line, memory_lines, home_with, joined_below, list_line, Addresses, Stood, end_lines, Point, untaken, View, IsFull}
 use Rattle.dm_onekernel.specs.Kernel as kernel
 use Rattle.dm_line.specs.declared.end_line.EndLine.TheVariants as end
 use Rattle.dm_rule.specs.Ends as ends
@@ -88,9 +88,9 @@ homes_full : (pt : Point) (f : Pid → List EndLine) (n : ℕ) → ((p : Pid) �
 homes_full pt f zero h = none_full
 homes_full pt f (suc home) h = both_full (ends.homes_with pt f home) (home_with f home (pt.kernel.made home)) (homes_full pt f home h) (home_full f home (pt.kernel.made home) h)
 
-machine_full : (f : ℕ → List EndLine) (n : ℕ) → ((m : ℕ) → AreFull (f m)) → AreFull (each_machine f n)
+machine_full : (f : ℕ → List EndLine) (n : ℕ) → ((m : ℕ) → AreFull (f m)) → AreFull (joined_below f n)
 machine_full f zero h = none_full
-machine_full f (suc m) h = both_full (each_machine f m) (f m) (machine_full f m h) (h m)
+machine_full f (suc m) h = both_full (joined_below f m) (f m) (machine_full f m h) (h m)
 
 list_full : (f : List MsgId → EndLine) (ids : List MsgId) → ((i : MsgId) (is : List MsgId) → IsFull (f (i ∷ is))) → AreFull (list_line f ids)
 list_full f [] h = none_full
@@ -159,7 +159,7 @@ inbox_full pt = machine_full (λ m. list_line (end.Inbox m) (pt.view.inbox m)) p
 
 stream_full : (pt : Point) → AreFull (ends.stream_lines pt)
 stream_full pt =
-    machine_full (λ a. each_machine (λ b. list_line (end.Stream a b) (untaken (pt.view.pair a b))) pt.kernel.machines) pt.kernel.machines
+    machine_full (λ a. joined_below (λ b. list_line (end.Stream a b) (untaken (pt.view.pair a b))) pt.kernel.machines) pt.kernel.machines
     (λ a. machine_full (λ b. list_line (end.Stream a b) (untaken (pt.view.pair a b))) pt.kernel.machines (λ b. list_full (end.Stream a b) (untaken (pt.view.pair a b)) (λ i is. omega arith)))
 
 pub ends_full : (pt : Point) → AreNames pt.kernel.switchboard.names → All IsFull (end_lines pt)

@@ -17,7 +17,7 @@ pub use Rattle.dm_rule.proofs.Names.{Addresses, Directive, IsStep, Line, NamedLi
 pub use Rattle.dm_rule.proofs.Names.{untaken}
 pub use Rattle.dm_kernel.proofs.Names.{All-head, All-tail, take_more}
 pub use Rattle.dm_rulelaws.proofs.Names.{IsRun, labels}
-pub use Rattle.dm_movelaws.proofs.Names.{EndLine, Stood, block_line, each_machine, end_lines, home_with, list_line, memory_lines, or, trimmed}
+pub use Rattle.dm_movelaws.proofs.Names.{EndLine, Stood, block_line, joined_below, end_lines, home_with, list_line, memory_lines, or, trimmed}
 pub use Rattle.dm_settlelaws.proofs.Names.{IsKept, Pass, Two, begin_pass, below, here_or_later, in_pass, is_over, next_and_left, next_delivery, next_directive, next_pass, next_turn, pairs_of, pass_begun, settles, takes_turn, undelivered}
 pub use Rattle.dm_text.proofs.LinesBack.{pieces_of_line}
 pub use Rattle.dm_text.proofs.Names.{EndFits, LineFits, end_text, end_words, line_words, spaced, spelled_line, text}

@@ -35,3 +35,4 @@ pub use Rattle.dm_onekernel.specs.declared.label.Reply.{Reply}
 pub use Rattle.dm_onekernel.specs.declared.label.Why.{Why}
 pub use Rattle.dm_onekernel.specs.declared.request.PendingKind.{PendingKind}
 pub use Rattle.dm_laws.specs.Laws.{CountsOnlyRise, EndedStays, EntersOnce, IsOwnStep, Leads, MoverHasOne, NotedRests, NotesAgree, NotesAlwaysAgree, ReceivesOnce, StaysOrLeaves, entries, entries_on, entry, in_bag, reception, receptions}
+pub use Rattle.std.specs.Option.{option_map_or}

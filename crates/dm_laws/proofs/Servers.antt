@@ -14,6 +14,7 @@ use Rattle.dm_laws.proofs.Notes.{Notes}
 use Rattle.dm_laws.proofs.Grown.{LifeGrows, Went-bag, with_process-lives}
 use Rattle.dm_laws.proofs.Sound.{Sound, Serves, plus, leaves, sends, answers, begins, follows_no_more, server_sends, served_on, born}
 use Rattle.dm_laws.proofs.Steps.{bind-is, when-is, After, quiet, puts, was_none, at_hand-is}
+use Rattle.dm_laws.proofs.Names.{option_map_or}
 
 -- a server's answer: nothing, and its count stays, or a message under its count, which it raises
 abbrev pub ServerSends : Pid → ℕ → Option PlainMessage → ℕ → Type 0
@@ -36,7 +37,7 @@ pub record ManagerSends (g : Manager) (k : manage.ManagerTook) : Type 0 where
   pub sends : ServerSends manager g.sent k.message k.manager.sent
   pub children : length g.children ≤ length k.manager.children
 
-manager_answers : (g h : Manager) (l : PlainLink) (code : ℕ) (links : List PlainLink) → h.sent ≡ g.sent → length g.children ≤ length h.children → ManagerSends g (manage.answers_byte h l code links)
+manager_answers : (g h : Manager) (l : PlainLink) (code : ℕ) (links : List PlainLink) → h.sent ≡ g.sent → length g.children ≤ length h.children → ManagerSends g (manage.answers_over h (Some l) code links)
 manager_answers g h l code links e le = record { sends = (ap (id_of manager) e, ap (λ n. n + 1) e, refl, refl); children = le }
 
 manager_bad : (g : Manager) (links : List PlainLink) → ManagerSends g (manage.bad_request g links)
@@ -69,7 +70,8 @@ control_is false true d w e = let f : PlainWhat.Resume ≡ w = cc in (sym (ap is
 control_is false false true w e = let f : PlainWhat.Kill ≡ w = cc in (sym (ap is_of_memory f), sym (ap is_piece f))
 control_is false false false w e = cc
 
-manager_controls_child : (g : Manager) (child : Pid) (o : Option PlainWhat) (links : List PlainLink) → ((w : PlainWhat) → o ≡ Some w → (is_of_memory w ≡ false) × (is_piece w ≡ false)) → ManagerSends g (manage.tells_child g child o links)
+manager_controls_child : (g : Manager) (child : Pid) (o : Option PlainWhat) (links : List PlainLink) → ((w : PlainWhat) → o ≡ Some w → (is_of_memory w ≡ false) × (is_piece w ≡ false))
+    → ManagerSends g (option_map_or (manage.tells g child) o (manage.bad_request g links))
 manager_controls_child g child None links h = manager_bad g links
 manager_controls_child g child (Some w) links h = let k = h w refl in record { sends = (refl, refl, k.0, k.1); children = omega arith }
 
@@ -77,7 +79,7 @@ manager_controls : (g : Manager) (machines : ℕ) (child : Option Pid) (body : L
 manager_controls g machines (Some child) (a ∷ []) links = manager_controls_child g child (manage.control_of a) links (control_is (a == 2) (a == 3) (a == 4))
 manager_controls g machines (Some child) (a ∷ m ∷ []) links =
     manager_if g (a == 5) (manage.moves_child g machines child m links) (manage.bad_request g links)
-    (manager_if g (nat_lt m machines) (manage.sends_request g PendingKind.Move child (PlainWhat.Move m) (manage.first_link links)) (manage.bad_request g links)
+    (manager_if g (nat_lt m machines) (manage.sends_request g PendingKind.Move child (PlainWhat.Move m) (slice_get links 0)) (manage.bad_request g links)
     (record { sends = (refl, refl, refl, refl); children = omega arith }) (manager_bad g links))
     (manager_bad g links)
 manager_controls g machines None (a ∷ []) links = manager_bad g links
@@ -88,21 +90,21 @@ append-longer : {A : Type 0} (xs : List A) (y : A) → length (xs ++ y ∷ []) �
 append-longer [] y = refl
 append-longer (x ∷ xs) y = omega (arith, append-longer xs y)
 
-manager_created : (g : Manager) (n : ℕ) (child : Pid) (o : Option Pending) (k : manage.ManagerTook) → manage.takes_created g n child o ≡ Some k → ManagerSends g k
+manager_created : (g : Manager) (n : ℕ) (child : Pid) (o : Option Pending) (k : manage.ManagerTook) → (manage.takes_answer g n (g.children ++ child ∷ []) 0 (manage.control_link (length g.children + 1) ∷ [])) o ≡ Some k → ManagerSends g k
 manager_created g n child None k e = cc
 manager_created g n child (Some r) k e =
     let h = record g { children = g.children ++ child ∷ []; pending = manage.without_pending n g.pending } in
     let f : manage.answers_over h r.answer 0 (manage.control_link (length g.children + 1) ∷ []) ≡ k = cc in
     subst (ManagerSends g) f (manager_over g h r.answer 0 (manage.control_link (length g.children + 1) ∷ []) refl (let z = append-longer g.children child in omega (arith, z)))
 
-manager_no_room : (g : Manager) (n : ℕ) (o : Option Pending) (k : manage.ManagerTook) → manage.takes_no_room g n o ≡ Some k → ManagerSends g k
+manager_no_room : (g : Manager) (n : ℕ) (o : Option Pending) (k : manage.ManagerTook) → (manage.takes_answer g n g.children 1 []) o ≡ Some k → ManagerSends g k
 manager_no_room g n None k e = cc
 manager_no_room g n (Some r) k e =
     let h = record g { pending = manage.without_pending n g.pending } in
     let f : manage.answers_over h r.answer 1 [] ≡ k = cc in
     subst (ManagerSends g) f (manager_over g h r.answer 1 [] refl (omega arith))
 
-manager_moved : (g : Manager) (n : ℕ) (outcome : Outcome) (o : Option Pending) (k : manage.ManagerTook) → manage.takes_moved g n outcome o ≡ Some k → ManagerSends g k
+manager_moved : (g : Manager) (n : ℕ) (outcome : Outcome) (o : Option Pending) (k : manage.ManagerTook) → (manage.takes_answer g n g.children (code_of_outcome outcome) []) o ≡ Some k → ManagerSends g k
 manager_moved g n outcome None k e = cc
 manager_moved g n outcome (Some r) k e =
     let h = record g { pending = manage.without_pending n g.pending } in
@@ -311,7 +313,7 @@ created_row r e s t id m child links image there asking memory is h =
     let num : child.num ≡ first_number + s.made m.to.home = ap (λ (v : Pid). v.num) child_is in
     let none : s.processes child ≡ None = ap s.processes child_is ∙ next_is_new s m.to.home h.made in
     let y = begun s.format image links in
-    let made = service.made_one (without_message s id) child.home in
+    let made : ℕ → ℕ = λ n. s.made n + (if child.home == n then 1 else 0) in
     let v = record (with_process s child (Alive y)) { made = made } in
     let same_home : made child.home ≡ s.made m.to.home + 1 = grind (arith, nat_tests) in
     let stands = born r e s child y made none refl (let n = num in grind (arith, nat_tests)) (let n = num in let q = same_home in grind (arith, nat_tests)) (λ n. grind (arith, nat_tests)) h in

@@ -1,7 +1,7 @@
 -- What each step of the kernel without machines keeps.
 use Rattle.dm_laws.proofs.Names.{◌≡◌, ℕ, ◌+◌, ◌≤◌, ◌&&◌, Bool, true, false, refl, ap, ◌∙◌, sym, subst, is_some, is_none, ◌⊎◌, inl, inr, arith, ⊤, if◌then◌else◌, Option, None, Some, cases_Bool, Pid, MsgId, id_eq, id_of, PlainMessage}
 use Rattle.dm_laws.proofs.Names.{PlainWhat, Row, instruction, Label, Reply, Why, bind, when, PlainProcess, PlainStatus, Ready, Waiting, Life, Alive, Ended, MoveNote, OneKernel, with_process, with_sent, without_message, reception, entry}
-use Rattle.dm_laws.proofs.Names.{in_bag}
+use Rattle.dm_laws.proofs.Names.{in_bag, option_map_or}
 use Rattle.dm_onekernel.specs.Calls as calls
 use Rattle.dm_onekernel.specs.Receiving as receiving
 use Rattle.dm_onekernel.specs.Step as step
@@ -97,7 +97,7 @@ alive-is (Some (Alive y)) x e = cc
 alive-is _ x e = cc
 
 -- a process at hand lives, and follows no request
-unless_noted-is : (n : Option MoveNote) (o : Option PlainProcess) (x : PlainProcess) → step.unless_noted n o ≡ Some x → (n ≡ None) × (o ≡ Some x)
+unless_noted-is : (n : Option MoveNote) (o : Option PlainProcess) (x : PlainProcess) → (option_map_or (λ note. None) n o) ≡ Some x → (n ≡ None) × (o ≡ Some x)
 unless_noted-is None o x e = (refl, e)
 unless_noted-is (Some n) o x e = cc
 

@@ -1,2 +1,3 @@
 pub mod Names
 pub mod Below
+pub mod Deliveries

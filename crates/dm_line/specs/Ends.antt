@@ -2,8 +2,8 @@
 use Rattle.std.specs.Prelude.{ℕ, zero, suc, ◌+◌, ◌*◌, ◌==◌, if◌then◌else◌, List, [], ◌∷◌, ◌++◌, take, drop}
 use Rattle.dm_link.specs.declared.Pid.{Pid}
 use Rattle.dm_link.specs.Names.{pid_of}
-use Rattle.dm_message.specs.declared.MsgId.{MsgId}
 use Rattle.dm_onekernel.specs.Boot.{first_number}
+pub use Rattle.dm_line.specs.Each.{joined_below}
 use Rattle.dm_line.specs.declared.end_line.EndLine.{EndLine}
 use Rattle.dm_line.specs.declared.end_line.EndLine.TheVariants as end
 
@@ -16,26 +16,19 @@ abbrev pub trimmed : List ℕ → List ℕ
 trimmed [] = []
 trimmed (x ∷ xs) = before_zeros x (trimmed xs)
 
+-- a list that isn't empty
+abbrev pub list_line : {X : Type 0} → (List X → EndLine) → List X → List EndLine
+list_line f [] = []
+list_line f (x ∷ xs) = f (x ∷ xs) ∷ []
+
 -- the first n blocks of a memory, but for those of zeros alone
 abbrev pub block_line : Pid → ℕ → List ℕ → List EndLine
-block_line p k [] = []
-block_line p k (x ∷ xs) = end.Memory p k (record { items = x ∷ xs }) ∷ []
+block_line p k bytes = list_line (λ xs. end.Memory p k (record { items = xs })) bytes
 
 abbrev pub memory_lines : Pid → List ℕ → ℕ → List EndLine
-memory_lines p bytes zero = []
-memory_lines p bytes (suc k) = memory_lines p bytes k ++ block_line p k (trimmed (take 256 (drop (256 * k) bytes)))
+memory_lines p bytes blocks = joined_below (λ k. block_line p k (trimmed (take 256 (drop (256 * k) bytes)))) blocks
 
 -- so many processes of a home, in order of number
 abbrev pub home_with : (Pid → List EndLine) → ℕ → ℕ → List EndLine
-home_with f home zero = []
-home_with f home (suc n) = home_with f home n ++ f (pid_of home (first_number + n))
+home_with f home made = joined_below (λ n. f (pid_of home (first_number + n))) made
 
--- for each of the first n machines
-abbrev pub each_machine : (ℕ → List EndLine) → ℕ → List EndLine
-each_machine f zero = []
-each_machine f (suc m) = each_machine f m ++ f m
-
--- a list that isn't empty
-abbrev pub list_line : (List MsgId → EndLine) → List MsgId → List EndLine
-list_line f [] = []
-list_line f (i ∷ is) = f (i ∷ is) ∷ []

@@ -1,6 +1,8 @@
 -- What is left to do of the directives, and the elementary one that follows.
 use Rattle.std.specs.Prelude.{ℕ, zero, suc, ◌+◌, Bool, true, false, ◌==◌, if◌then◌else◌, List, [], ◌∷◌, ◌++◌}
 pub use Rattle.std.specs.Option.{option_or as or}
+use Rattle.std.specs.Option.{option_map_or}
+use Rattle.std.specs.List.{flat_map}
 use Rattle.std.specs.declared.option.Option.{Option}
 use Rattle.std.specs.declared.option.Option.TheVariants.{None, Some}
 use Rattle.dm_schedule.specs.declared.Step.{Step}
@@ -33,8 +35,7 @@ pairs_with a [] = []
 pairs_with a (b ∷ bs) = if a == b then pairs_with a bs else record { from = a; to = b } ∷ pairs_with a bs
 
 abbrev pub pairs_of : List ℕ → List ℕ → List Two
-pairs_of [] bs = []
-pairs_of (a ∷ as_) bs = pairs_with a bs ++ pairs_of as_ bs
+pairs_of as_ bs = flat_map (λ a. pairs_with a bs) as_
 
 -- an elementary directive, and what is left then
 pub record Next : Type 0 where
@@ -51,14 +52,10 @@ all_of ds = record { pairs = []; machines = []; pass = Round 0; directives = ds 
 abbrev pub pass_begun : ℕ → Pass → List Directive → Todo
 pass_begun machines p ds = record { pairs = pairs_of (below machines) (below machines); machines = below machines; pass = p; directives = ds }
 
-abbrev pub here_or_later : Two → List Two → Option ℕ → Option (Step × List Two) → Option (Step × List Two)
-here_or_later p ps None later = later
-here_or_later p ps (Some k) later = Some (step.Deliver p.from p.to k, p ∷ ps)
-
 -- the next of some pairs whose wire has a packet that was never delivered; `first` gives the first of each pair
 abbrev pub next_delivery : (ℕ → ℕ → Option ℕ) → List Two → Option (Step × List Two)
 next_delivery first [] = None
-next_delivery first (p ∷ ps) = here_or_later p ps (first p.from p.to) (next_delivery first ps)
+next_delivery first (p ∷ ps) = option_map_or (λ k. Some (step.Deliver p.from p.to k, p ∷ ps)) (first p.from p.to) (next_delivery first ps)
 
 -- in a round each machine takes its turn, in a settle those that have mail
 abbrev pub takes_turn : Pass → (ℕ → Bool) → ℕ → Bool

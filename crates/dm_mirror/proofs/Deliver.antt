@@ -6,7 +6,7 @@ pub mod Goes
 pub mod Outs
 use Rattle.dm_mirror.proofs.Names.{◌≡◌, ◌≢◌, ℕ, ◌+◌, ◌^◌, ◌<◌, ◌≤◌, ◌⊎◌, ◌==◌, nat_le, nat_lt, Bool, true, false, List, [], ◌∷◌, length, refl, ap, ◌∙◌, sym, subst, inl, inr, arith, if◌then◌else◌, slice_get, option_map, Ok, All, Option}
 use Rattle.dm_mirror.proofs.Names.{None, Some, cases_Bool, eqb_tells, nat_tests, All-drop, Message, IsLawfulMessage, Packet, Step, Line, packet_of, spelling, Data, Ack, load_at, MayCome-stands, bytes_at, after_mark, Boot, IsValid, bind}
-use Rattle.dm_mirror.proofs.Names.{Spelled, spelled, Point, moved, behind, kept_from, more, Run, Placed, MayAct, WorldState, acted, arrives, delivers, reads, world_step, MayDeliver, MayRead, CountsStand, History, StandsWith, line_of}
+use Rattle.dm_mirror.proofs.Names.{Spelled, spelled, Point, moved, behind, kept_from, at_least, Run, Placed, MayAct, WorldState, acted, arrives, delivers, reads, world_step, MayDeliver, MayRead, CountsStand, History, StandsWith, line_of}
 use Rattle.dm_mirror.proofs.Names.{load_of, GoesOn, IsNet, arrives_net}
 use Rattle.dm_rule.proofs.Names.{Part}
 use Rattle.dm_stream.specs.Packets.{Load}
@@ -96,7 +96,7 @@ module _ (b : Boot) (w : WorldState) (pt : Point) (l : Placed) (h : History) (a 
       goes_by (Data n x.message) (group.comes a c (pt.view.pair a c) (pt.view.pair c a) (load.Data n)) (read_is p (Data n m) (Packet.Data a c n x.message) is loads x.read) (ap (group.arrives a c (pt.view.pair a c) (pt.view.pair c a)) (said_is p is) ∙ ap (λ (z : Load Message). group.comes a c (pt.view.pair a c) (pt.view.pair c a) (load_of z)) loads) (data_comes n m x.message e x.same)
   goes_with p (Ack n) low_a low_c is loads readable =
       let e : load_at (h.packets a c) k ≡ Some (Ack n) = load_is (h.packets a c) k (Some p) is ∙ ap Some loads in
-      goes_by (Ack n) (Part.Says (Line.Acked a c n) ∷ group.repeats c a (group.let_go (pt.view.pair c a) (more n (pt.view.pair c a).acked))) (read_is p (Ack n) (Packet.Ack a c n) is loads (reads_ack a c n low_a low_c apart (small_ack n e))) (ap (group.arrives a c (pt.view.pair a c) (pt.view.pair c a)) (said_is p is) ∙ ap (λ (z : Load Message). group.comes a c (pt.view.pair a c) (pt.view.pair c a) (load_of z)) loads) (acked_comes b w pt l h a c k s a_in c_in apart n e)
+      goes_by (Ack n) (Part.Says (Line.Acked a c n) ∷ group.repeats c a (group.let_go (pt.view.pair c a) (at_least (pt.view.pair c a).acked n))) (read_is p (Ack n) (Packet.Ack a c n) is loads (reads_ack a c n low_a low_c apart (small_ack n e))) (ap (group.arrives a c (pt.view.pair a c) (pt.view.pair c a)) (said_is p is) ∙ ap (λ (z : Load Message). group.comes a c (pt.view.pair a c) (pt.view.pair c a) (load_of z)) loads) (acked_comes b w pt l h a c k s a_in c_in apart n e)
 
   -- there is no such packet
   goes_none : slice_get (h.packets a c) k ≡ None → GoesOn b w pt (Step.Deliver a c k)

@@ -58,17 +58,17 @@ pub use Rattle.dm_rule.proofs.Letters.{letter_of}
 pub use Rattle.dm_rule.proofs.Moves.Sent.{fits_packet, fits_put}
 pub use Rattle.dm_rule.proofs.Names.{About, Addresses, Again, Child, Completing, Directive, Ended, Fault, Forward, Frozen, Gets, Held, Here, HomeStands, Inbox, Incoming, IsIn, IsStep, IsToken, Known, LandsSo, Leads, Line, Load, Made, Moves}
 pub use Rattle.dm_rule.proofs.Names.{Name, NamedLink, Next, Nexts, NothingElse, Nowhere, Of, Over, Owns, Pair, Phase, Place, Point, Queue, Receiver, Rests, Room, Routes, Says, Sender, SentLoad, ServerSends, Slot, Sound, Spelled, Spot}
-pub use Rattle.dm_rule.proofs.Names.{Stage, StandsAsBag, StandsNowhere, StandsOnce, StandsOutside, StandsRight, Step, Target, Todo, Told, Transmits, Unknown, Untaken, View, actor, addresses_after, after, after_label, after_line}
+pub use Rattle.dm_rule.proofs.Names.{Stage, StandsAsBag, StandsNowhere, StandsOnce, StandsOutside, StandsRight, Step, Target, Todo, Told, Transmits, Unknown, Untaken, View, actor, after, after_label, after_line}
 pub use Rattle.dm_rule.proofs.Names.{after_packet, after_proto, after_put, after_step, alive-is, all_of, answers_move, ascends, at_hand-is, at_id, at_least, at_machine, at_pair, at_pid, at_record, begins, behind, behind_count, bind-is}
 pub use Rattle.dm_rule.proofs.Names.{board_takes_lem, child_number, chunks_of, comes_to, completing, counts, counts_process, dropped_for, ended, ends_move-is, filter, first_gives, first_point, first_view, fits, forward_about, forwarded_for}
 pub use Rattle.dm_rule.proofs.Names.{forwards_on, free_room, front_of, gets, given, goes_out, gone_after, gone_to, group_of, handled, has, has_mail, hears, id_eq-is, id_eq-same, id_eq-swap, ids_at, is_apart, is_away, is_between, is_counted}
 pub use Rattle.dm_rule.proofs.Names.{is_dropped, is_due, is_early, is_here, is_kernels, is_quiet, is_restart, is_told_back, kept_from, kernel_after, kernel_hears, kind_comes, kind_leaves, known_at, knows, label_of, lands-is, leaves_for}
-pub use Rattle.dm_rule.proofs.Names.{left_true, less, lines_of, machine_in, manager_takes_lem, migrates, migrates_child, more, moved, moved_back, next_step, nexts, not_server, numbers_from, oldest, option_and_then, option_map_or, outcome}
+pub use Rattle.dm_rule.proofs.Names.{left_true, less, lines_of, manager_takes_lem, migrates, migrates_child, moved, moved_back, next_step, nexts, not_server, numbers_from, oldest, option_and_then, option_map_or, outcome}
 pub use Rattle.dm_rule.proofs.Names.{own_given, own_id, packet_line, pair_is_quiet, pid_eq-is, pid_eq-same, pieces_of, place_of, place_told, plain_kind, process_told, puts, queued_for, receiver_in, receiver_of, repeats, resends, right_true}
 pub use Rattle.dm_rule.proofs.Names.{ring_at, routed_on, seen, sender_in, sends_on, slice_get_cases, slots_of, slots_with, sort_of, spelled, standing, takes_block, takes_chunk, taking_parts, target_of, times, to_kernel, to_of, token_in}
 pub use Rattle.dm_rule.proofs.Names.{told_between, told_ended, told_here, told_server, told_step, unentered, unmoved, untaken, updates, view_after, when-is, with_pair, without, without_front, without_id}
 pub use Rattle.dm_rule.proofs.Pairs.{Pairs, pair_home, pair_stands, pairs_stand_always}
-pub use Rattle.dm_rule.proofs.Pairs.Comes.{less-right, more-is}
+pub use Rattle.dm_rule.proofs.Pairs.Comes.{less-right}
 pub use Rattle.dm_rule.proofs.Pairs.Lines.{AllFit, forwarded_pair, held_pair, label_pair, onward, pair_same, proto_pair, queued_pair, stage_pair, taken_pair, touches}
 pub use Rattle.dm_rule.proofs.Pairs.Migrating.{migrates_fit}
 pub use Rattle.dm_rule.proofs.Pairs.Stand.{two_of}
@@ -168,7 +168,7 @@ pub use Rattle.dm_node.specs.May.{FitsLoad}
 pub use Rattle.dm_node.specs.Out.{packet_of_load}
 pub use Rattle.dm_node.specs.Wired.{says}
 pub use Rattle.dm_world.proofs.Names.{AreReadBack, EndLine, MayDeliver, MayRead, MayStep, Out, Pass, Said, Sends, Spoken, Two, WorldState, acted, after_mark, arrives, awaited_lines, begin_pass, below, bytes_at, delivers, drop_all}
-pub use Rattle.dm_world.proofs.Names.{each_machine, first_awaited, first_had, first_says, first_unseen, gave_bytes, gave_read, gave_some, here_or_later, home_with, in_pass, is_over, is_pair, lines_in, list_line, names_of, next_delivery}
+pub use Rattle.dm_world.proofs.Names.{joined_below, first_awaited, first_had, first_says, first_unseen, gave_bytes, gave_read, gave_some, here_or_later, home_with, in_pass, is_over, is_pair, lines_in, list_line, names_of, next_delivery}
 pub use Rattle.dm_world.proofs.Names.{next_directive, next_pass, next_turn, or, pairs_of, pairs_with, reads, record_lines, record_queue, settles, slice_get_past, spoken, takes_turn, with_packet, world_step}
 pub use Rattle.dm_world.specs.Ends.{HasPlainEnd, alive_lines, come_lines, come_whole, held_for}
 pub use Rattle.dm_world.specs.Readable.{IsReadable, NodeReads, SenderReads, WiresRead, gave}
@@ -185,3 +185,5 @@ pub use Rattle.dm_mirror.specs.Stands.{AreMessages, ComesStand, CountsStand, Her
 pub use Rattle.dm_mirror.specs.Stands.{servers_at, stream_of}
 pub use Rattle.dm_mirror.specs.Todo.{IsDirective, IsTodo, IsTwo}
 pub use Rattle.dm_mirror.specs.Tokens.{AllRecords, Carries, IsAsked, TokenStands, TokensStand, Wants, chunks, destination_of}
+pub use Rattle.dm_rule.specs.Addresses.{addresses_by}
+pub use Rattle.dm_rule.specs.Point.{move_target}

@@ -2,7 +2,7 @@
 use Rattle.dm_mirror.proofs.Names.{◌≡◌, ◌≢◌, ◌⊎◌, inl, inr, ℕ, ◌+◌, ◌<◌, ◌≤◌, Bool, true, false, List, [], ◌∷◌, ◌++◌, refl, ap, ◌∙◌, sym, subst, is_some, arith, length, if◌then◌else◌, slice_get, Option, None, Some, nat_tests, Pid, pid_eq}
 use Rattle.dm_mirror.proofs.Names.{pid_of, PlainLink, MsgId, PlainMessage, PlainWhat, BootImage, Label, first_number, switchboard, manager, bind, Life, Alive, Manager, OneKernel, answer_to, without_message, pid_eq-is, pid_eq-same, bind-is}
 use Rattle.dm_mirror.proofs.Names.{when-is, ServerSends, manager_takes_lem, take, drop, Why, PlainProcess, NamedLink, Switchboard, with_process, is_dropped, LandsSo, lands-is, board_takes_lem, if_some-is, ends_move-is, at_hand-is, Outcome}
-use Rattle.dm_mirror.proofs.Names.{Pending}
+use Rattle.dm_mirror.proofs.Names.{Pending, code_of_outcome, option_map_or, ◌==◌}
 use Rattle.dm_laws.proofs.Names.{begun}
 use Rattle.dm_onekernel.specs.Kernel.{with_note, with_sent, Ended}
 use Rattle.dm_onekernel.specs.Switchboard as board
@@ -161,7 +161,7 @@ HasAnswer g n w = (child : Pid) (r : Pending) → w ≡ PlainWhat.Created child 
 abbrev Paid : Manager → manage.ManagerTook → Type 0
 Paid g k = length k.manager.children + g.sent ≤ length g.children + k.manager.sent
 
-paid_answers : (g h : Manager) (l : PlainLink) (code : ℕ) (links : List PlainLink) → h.sent ≡ g.sent → length h.children ≤ length g.children + 1 → Paid g (manage.answers_byte h l code links)
+paid_answers : (g h : Manager) (l : PlainLink) (code : ℕ) (links : List PlainLink) → h.sent ≡ g.sent → length h.children ≤ length g.children + 1 → Paid g (manage.answers_over h (Some l) code links)
 paid_answers g h l code links e le = omega (arith, e, le)
 
 paid_over : (g h : Manager) (o : Option PlainLink) (code : ℕ) (links : List PlainLink) → h.sent ≡ g.sent → length h.children ≤ length g.children → Paid g (manage.answers_over h o code links)
@@ -188,7 +188,7 @@ paid_requests : (g : Manager) (machines images : ℕ) (body : List ℕ) (links :
 paid_requests g machines images (a ∷ b ∷ c ∷ d ∷ []) links = search (paid_if, paid_wants, paid_bad)
 paid_requests g machines images _ links = paid_bad g links
 
-paid_control : (g : Manager) (child : Pid) (o : Option PlainWhat) (links : List PlainLink) → Paid g (manage.tells_child g child o links)
+paid_control : (g : Manager) (child : Pid) (o : Option PlainWhat) (links : List PlainLink) → Paid g (option_map_or (manage.tells g child) o (manage.bad_request g links))
 paid_control g child None links = paid_bad g links
 paid_control g child (Some w) links = omega arith
 
@@ -198,15 +198,16 @@ paid_controls g machines (Some child) (a ∷ machine ∷ []) links = grind (arit
 paid_controls g machines None (a ∷ []) links = paid_bad g links
 paid_controls g machines _ _ links = paid_bad g links
 
-paid_created : (g : Manager) (n : ℕ) (child : Pid) (o : Option Pending) (k : manage.ManagerTook) → ((r : Pending) → o ≡ Some r → is_some r.answer ≡ true) → manage.takes_created g n child o ≡ Some k → Paid g k
+paid_created : (g : Manager) (n : ℕ) (child : Pid) (o : Option Pending) (k : manage.ManagerTook) → ((r : Pending) → o ≡ Some r → is_some r.answer ≡ true)
+    → (manage.takes_answer g n (g.children ++ child ∷ []) 0 (manage.control_link (length g.children + 1) ∷ [])) o ≡ Some k → Paid g k
 paid_created g n child None k has e = cc
 paid_created g n child (Some r) k has e = grind (arith, nat_tests, paid_made, append-longer, g.children, g.pending, r.answer)
 
-paid_no_room : (g : Manager) (n : ℕ) (o : Option Pending) (k : manage.ManagerTook) → manage.takes_no_room g n o ≡ Some k → Paid g k
+paid_no_room : (g : Manager) (n : ℕ) (o : Option Pending) (k : manage.ManagerTook) → (manage.takes_answer g n g.children 1 []) o ≡ Some k → Paid g k
 paid_no_room g n None k e = cc
 paid_no_room g n (Some r) k e = grind (arith, nat_tests, paid_over, g.pending, r.answer)
 
-paid_moved : (g : Manager) (n : ℕ) (outcome : Outcome) (o : Option Pending) (k : manage.ManagerTook) → manage.takes_moved g n outcome o ≡ Some k → Paid g k
+paid_moved : (g : Manager) (n : ℕ) (outcome : Outcome) (o : Option Pending) (k : manage.ManagerTook) → (manage.takes_answer g n g.children (code_of_outcome outcome) []) o ≡ Some k → Paid g k
 paid_moved g n outcome None k e = cc
 paid_moved g n outcome (Some r) k e = grind (arith, nat_tests, paid_over, g.pending, r.answer)
 
@@ -320,7 +321,7 @@ makes s id m home links image within =
       machines = refl;
       home = home;
       within = within;
-      made = (let e : service.made_one s home home ≡ s.made home + 1 = grind (arith, nat_tests) in e);
+      made = (let e : (s.made home + (if home == home then 1 else 0)) ≡ s.made home + 1 = grind (arith, nat_tests) in e);
       others = λ h apart. grind (arith, nat_tests);
       there = ap (λ (c : Bool). is_some (if c then Some life else s.processes child)) (pid_eq-same child);
       lives = λ p apart. ap (λ (c : Bool). is_some (if c then Some life else s.processes p)) apart;

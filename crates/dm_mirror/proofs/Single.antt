@@ -1,7 +1,7 @@
 -- Elementary directives, one by one.
 use Rattle.dm_mirror.proofs.Names.{◌≡◌, ℕ, List, [], ◌∷◌, ◌++◌, length, refl, ap, ◌∙◌, sym, subst, arith, map-append, All-nil, Boot, IsValid, received_once, Step, Directive, Line, Todo, all_of, next_step, undelivered, IsKept, IsRun, IsStep}
 use Rattle.dm_mirror.proofs.Names.{Leads, has_mail, is_quiet, Point, first_point, stands_once_always, WorldState, MayStep, AreReadBack, gave, IsTwo, IsTodo, GoesOn, StepsStand, ones, Ran, RanBegins, RanGoesOn, RunIsRan, ◌+◌, ◌<◌, nat_tests}
-use Rattle.dm_mirror.proofs.Names.{pid_of, first_number, EndLine, each_machine, list_line, first_with, pair_home, Run, Placed, History, StandsWith, MadeStands, EndIsSaid, standing_of}
+use Rattle.dm_mirror.proofs.Names.{pid_of, first_number, EndLine, joined_below, list_line, first_with, pair_home, Run, Placed, History, StandsWith, MadeStands, EndIsSaid, standing_of}
 use Rattle.dm_rule.specs.Ends as rule
 use Rattle.dm_rule.specs.Spots as spots
 use Rattle.dm_world.specs.Ends as world
@@ -107,20 +107,20 @@ servers_there : (b : Boot) (w : WorldState) (pt : Point) (l : Placed) (h : Histo
 servers_there b w pt l h f = grind (arith, nat_tests, servers_said)
 
 inboxes_said : (b : Boot) (w : WorldState) (pt : Point) (l : Placed) (h : History) → Final b w pt l h
-    → each_machine (λ m. list_line (EndLine.Inbox m) (world.names_of (w.nodes m).kernel.inbox)) pt.kernel.machines ≡ rule.inbox_lines pt
+    → joined_below (λ m. list_line (EndLine.Inbox m) (world.names_of (w.nodes m).kernel.inbox)) pt.kernel.machines ≡ rule.inbox_lines pt
 inboxes_said b w pt l h f =
     machines_same (λ m. list_line (EndLine.Inbox m) (world.names_of (w.nodes m).kernel.inbox)) (λ m. list_line (EndLine.Inbox m) (pt.view.inbox m)) pt.kernel.machines
     (λ m below. ap (list_line (EndLine.Inbox m)) (names_are l.bag (pt.view.inbox m) (w.nodes m).kernel.inbox (λ i x there. (f.stands.mirrors.places.message i x there).id) ((f.stands.nodes m below).kernel.inbox)))
 
 streams_said : (b : Boot) (w : WorldState) (pt : Point) (l : Placed) (h : History) → Final b w pt l h
-    → each_machine (λ a. each_machine (λ c. world.stream_line w a c) pt.kernel.machines) pt.kernel.machines ≡ rule.stream_lines pt
+    → joined_below (λ a. joined_below (λ c. world.stream_line w a c) pt.kernel.machines) pt.kernel.machines ≡ rule.stream_lines pt
 streams_said b w pt l h f =
-    machines_same (λ a. each_machine (λ c. world.stream_line w a c) pt.kernel.machines) (λ a. each_machine (λ c. list_line (EndLine.Stream a c) (spots.untaken (pt.view.pair a c))) pt.kernel.machines) pt.kernel.machines
+    machines_same (λ a. joined_below (λ c. world.stream_line w a c) pt.kernel.machines) (λ a. joined_below (λ c. list_line (EndLine.Stream a c) (spots.untaken (pt.view.pair a c))) pt.kernel.machines) pt.kernel.machines
     (λ a from. machines_same (λ c. world.stream_line w a c) (λ c. list_line (EndLine.Stream a c) (spots.untaken (pt.view.pair a c))) pt.kernel.machines
     (λ c to. stream_said b pt l w h a c (pair_home pt.view a f.run.based.phased.pairs) (λ apart. f.stands.pairs a c from to apart)))
 
 holdings_said : (b : Boot) (w : WorldState) (pt : Point) (l : Placed) (h : History) → Final b w pt l h
-    → each_machine (λ m. world.homes_with w (world.held_line w m) pt.kernel.machines) pt.kernel.machines ≡ rule.holding_lines pt
+    → joined_below (λ m. world.homes_with w (world.held_line w m) pt.kernel.machines) pt.kernel.machines ≡ rule.holding_lines pt
 holdings_said b w pt l h f =
     machines_same (λ m. world.homes_with w (world.held_line w m) pt.kernel.machines) (λ m. rule.each_process pt (λ p. list_line (EndLine.Holding m p) (pt.view.held m p))) pt.kernel.machines
     (λ m below. homes_same w pt (world.held_line w m) (λ p. list_line (EndLine.Holding m p) (pt.view.held m p)) pt.kernel.machines (λ k less. made_same b w pt l h k less f)
@@ -136,9 +136,9 @@ end_same b w pt l h f =
     let ps = rule.each_process pt (λ p. rule.process_lines pt p (pt.kernel.processes p)) in
     let ss = rule.server_lines pt in
     let qs = world.homes_with w (world.queue_of n w) n in
-    let hs = each_machine (λ m. world.homes_with w (world.held_line w m) n) n in
-    let is = each_machine (λ m. list_line (EndLine.Inbox m) (world.names_of (w.nodes m).kernel.inbox)) n in
-    let ts = each_machine (λ a. each_machine (λ c. world.stream_line w a c) n) n in
+    let hs = joined_below (λ m. world.homes_with w (world.held_line w m) n) n in
+    let is = joined_below (λ m. list_line (EndLine.Inbox m) (world.names_of (w.nodes m).kernel.inbox)) n in
+    let ts = joined_below (λ a. joined_below (λ c. world.stream_line w a c) n) n in
     ap (λ (ls : List EndLine). ending ls (world.server_lines (w.nodes 0).kernel.servers) qs hs is ts w.groups) (processes_said b w pt l h f)
     ∙ (ap (λ (ls : List EndLine). ending ps ls qs hs is ts w.groups) (servers_there b w pt l h f)
     ∙ (ap (λ (ls : List EndLine). ending ps ss ls hs is ts w.groups) (queues_said b w pt l h f)

@@ -1,6 +1,6 @@
 -- The count of an address that a process or a server has doesn't fall until a step gives it a new one.
 use Rattle.dm_movelaws.proofs.Names.{◌≡◌, ℕ, ◌≤◌, ◌||◌, Bool, true, false, List, [], ◌∷◌, refl, ap, ◌∙◌, sym, subst, arith, nat_tests, Option, Some, Pid, Place, MsgId, MessageKind, OneKernel, bind-is, Line, Addresses, Holder, Receiver}
-use Rattle.dm_movelaws.proofs.Names.{Gets, holder_eq, forwards, all_follow, own_given, first_gives, addresses_after, Point, label_of, kernel_after, moved, after_line, after, View, Told, is_owned, gives_to, is_filled, in_next, refilled}
+use Rattle.dm_movelaws.proofs.Names.{Gets, holder_eq, forwards, all_follow, own_given, first_gives, Point, label_of, kernel_after, moved, after_line, after, View, Told, is_owned, gives_to, is_filled, in_next, refilled, act_of, addresses_by}
 use Rattle.dm_movelaws.proofs.Names.{CountsStay, CountsKept, sort_of}
 use Rattle.dm_movelaws.proofs.After.{group_after}
 use Rattle.dm_movelaws.proofs.Updates.Always.{updates_always}
@@ -30,7 +30,7 @@ first_none : (h : Holder) (o : Option Told) (gs : List Gets) → gives_to h gs �
 first_none h o gs e = grind (arith, nat_tests)
 
 -- each line
-by_line : (pt : Point) (l : Line) (h : Holder) → is_owned h ≡ true → is_filled pt (label_of l) h ≡ false → count_of pt.addresses h ≤ count_of (addresses_after pt.kernel pt.view pt.addresses l) h
+by_line : (pt : Point) (l : Line) (h : Holder) → is_owned h ≡ true → is_filled pt (label_of l) h ≡ false → count_of pt.addresses h ≤ count_of (addresses_by pt.kernel pt.view pt.addresses (act_of l)) h
 by_line pt l h h1 h2 = search (arith, same_count, pt.addresses, pt.kernel, pt.view, not_given, forwards_none, follows_none, first_none, own_none)
 
 by_lines : (ls : List Line) (pt end : Point) (h : Holder) → is_owned h ≡ true → after pt ls ≡ Some end → refilled h pt ls ≡ false → count_of pt.addresses h ≤ count_of end.addresses h

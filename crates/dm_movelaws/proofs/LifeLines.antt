@@ -1,7 +1,7 @@
 -- The end lines say of each process once whether it lives.
 use Rattle.dm_movelaws.proofs.Names.{◌≡◌, ◌≢◌, ◌⊎◌, ℕ, zero, suc, ◌+◌, ◌<◌, ◌≤◌, ◌==◌, ◌||◌, Bool, true, false, is_some, nat_le, List, [], ◌∷◌, ◌++◌, refl, ap, ◌∙◌, sym, subst, inl, inr, arith, if◌then◌else◌, Option, None, Some, cases_Bool}
 use Rattle.dm_movelaws.proofs.Names.{nat_tests, append-nil, filter-append, Pid, pid_of, pid_eq, PlainLink, MsgId, Boot, first_number, switchboard, manager, PlainProcess, Life, Alive, NamedLink, Pending, pid_eq-is, pid_eq-same, EndLine}
-use Rattle.dm_movelaws.proofs.Names.{block_line, memory_lines, home_with, each_machine, list_line, Addresses, Stood, standing_of, first_with, stood, doing_of, slot_line, link_lines, state_lines, alive_lines, process_lines, homes_with}
+use Rattle.dm_movelaws.proofs.Names.{block_line, memory_lines, home_with, joined_below, list_line, Addresses, Stood, standing_of, first_with, stood, doing_of, slot_line, link_lines, state_lines, alive_lines, process_lines, homes_with}
 use Rattle.dm_movelaws.proofs.Names.{each_process, name_lines, child_lines, pending_lines, queue_at, queue_lines, holding_lines, inbox_lines, stream_lines, server_lines, end_lines, Point, View, is_server, Run, run_always, tells_life}
 use Rattle.dm_movelaws.proofs.Names.{life_lines, IsSaid, LivesAreSaid, not, ◌&&◌, false≢true, MessageKind, Standing, or, Phase, Nowhere, Rests, Over, Moves, IsIn, knows, is_here, is_restart, is_early, Known, Unknown, agrees, living}
 use Rattle.dm_movelaws.proofs.Names.{stands_by, IsPlace, awaits}
@@ -133,9 +133,9 @@ mute_homes : (p : Pid) (pt : Point) (f : Pid → List EndLine) (n : ℕ) → ((q
 mute_homes p pt f zero h = refl
 mute_homes p pt f (suc home) h = mute_both p (homes_with pt f home) (home_with f home (pt.kernel.made home)) (mute_homes p pt f home h) (mute_home p f home (pt.kernel.made home) h)
 
-mute_machines : (p : Pid) (f : ℕ → List EndLine) (n : ℕ) → ((m : ℕ) → Mute p (f m)) → Mute p (each_machine f n)
+mute_machines : (p : Pid) (f : ℕ → List EndLine) (n : ℕ) → ((m : ℕ) → Mute p (f m)) → Mute p (joined_below f n)
 mute_machines p f zero h = refl
-mute_machines p f (suc m) h = mute_both p (each_machine f m) (f m) (mute_machines p f m h) (h m)
+mute_machines p f (suc m) h = mute_both p (joined_below f m) (f m) (mute_machines p f m h) (h m)
 
 -- all but the lines of processes
 mute_list : (p : Pid) (f : List MsgId → EndLine) (ids : List MsgId) → ((is : List MsgId) → tells_life p (f is) ≡ false) → Mute p (list_line f ids)

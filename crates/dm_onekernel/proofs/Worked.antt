@@ -15,7 +15,7 @@ use Rattle.dm_onekernel.specs.Manager.{control_of}
 use Rattle.dm_onekernel.specs.Pieces.{piece_of}
 use Rattle.dm_onekernel.specs.Service.{gone_what, is_dropped}
 use Rattle.dm_onekernel.specs.Switchboard as board
-use Rattle.dm_onekernel.specs.Switchboard.{code_of_answer}
+use Rattle.dm_onekernel.specs.Switchboard.{answer_row}
 
 -- what register 0 holds after a call
 pub replies :
@@ -45,7 +45,7 @@ pieces = refl
 
 -- the bytes of the switchboard's answers, but for the one with a link
 pub answers :
-    map code_of_answer (board.Registered ∷ board.Unknown ∷ board.Taken ∷ board.BadLink ∷ board.BadRequest ∷ []) ≡ 0 ∷ 2 ∷ 3 ∷ 4 ∷ 5 ∷ []
+    map (λ answer. (answer_row answer).0) (board.Registered ∷ board.Unknown ∷ board.Taken ∷ board.BadLink ∷ board.BadRequest ∷ []) ≡ 0 ∷ 2 ∷ 3 ∷ 4 ∷ 5 ∷ []
 answers = refl
 
 -- what the manager does to a child

@@ -2,7 +2,8 @@
 use Rattle.std.specs.Prelude.{ℕ, ◌+◌, ◌/◌, ◌%◌, Bool, true, false, ◌==◌, ◌&&◌, ◌||◌, nat_lt, if◌then◌else◌, List, [], ◌∷◌, length, filter_map, take, drop, slice_set}
 use Rattle.std.specs.declared.option.Option.{Option}
 use Rattle.std.specs.declared.option.Option.TheVariants.{None, Some}
-use Rattle.std.specs.Option.{is_none}
+use Rattle.std.specs.Option.{is_none, option_map_or}
+use Rattle.std.specs.List.{list_any}
 use Rattle.dm_link.specs.declared.Pid.{Pid}
 use Rattle.dm_link.specs.declared.Kind.{Kind}
 use Rattle.dm_link.specs.declared.Kind.TheVariants as kind
@@ -40,8 +41,7 @@ refused c p = Replies c (replied c p)
 
 -- the first refusal, or what the call does
 abbrev pub unless_refused : Option Reply → PlainProcess → Called → Called
-unless_refused None p called = called
-unless_refused (Some c) p called = refused c p
+unless_refused refusal p called = option_map_or (λ c. refused c p) refusal called
 
 -- the bytes from `base` on, so many, aren't all within the memory
 abbrev pub is_outside : PlainProcess → ℕ → ℕ → Bool
@@ -65,8 +65,7 @@ abbrev pub has_flag : ℕ → ℕ → Bool
 has_flag flag flags = (flags / flag) % 2 == 1
 
 abbrev pub kind_of_flag : Bool → Kind
-kind_of_flag true = kind.Reply
-kind_of_flag false = kind.General
+kind_of_flag reply = if reply then kind.Reply else kind.General
 
 -- call 3, MAKE: a link to the process itself, with code r1, on channel r2, to the area of r5 bytes at r4; r3 is 1 for a
 -- reply link, 2 for the right to read and 4 for the right to write, added up
@@ -113,20 +112,14 @@ listed p = memory_at p (reg p.regs 5) (reg p.regs 4)
 abbrev pub most_body : PlainProcess → ℕ
 most_body p = if length p.links == 32 then 64 else 256
 
-abbrev pub slot_is_empty : List (Option PlainLink) → ℕ → Bool
-slot_is_empty links slot = is_none (link_at links slot)
-
 abbrev pub holds_reply : Option PlainLink → Bool
-holds_reply None = false
-holds_reply (Some l) = is_reply l.kind
+holds_reply link = option_map_or (λ l. is_reply l.kind) link false
 
 abbrev pub any_empty : List (Option PlainLink) → List ℕ → Bool
-any_empty links [] = false
-any_empty links (s ∷ ss) = slot_is_empty links s || any_empty links ss
+any_empty links slots = list_any (λ s. is_none (link_at links s)) slots
 
 abbrev pub is_among : ℕ → List ℕ → Bool
-is_among s [] = false
-is_among s (t ∷ ts) = (s == t) || is_among s ts
+is_among s slots = list_any (λ t. s == t) slots
 
 -- a slot with a reply link stands twice among these
 abbrev pub reply_named_twice : List (Option PlainLink) → List ℕ → Bool

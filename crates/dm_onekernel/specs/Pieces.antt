@@ -12,7 +12,7 @@ use Rattle.dm_process.specs.declared.process.Direction.TheVariants as direction
 use Rattle.dm_onekernel.specs.declared.label.Reply.{Reply}
 use Rattle.dm_onekernel.specs.declared.label.Reply.TheVariants as reply
 use Rattle.dm_onekernel.specs.Codes.{reply_code}
-use Rattle.dm_onekernel.specs.PlainProcess.{PlainProcess, PlainStatus, Ready, Waiting, Moving, setting}
+use Rattle.dm_onekernel.specs.PlainProcess.{PlainProcess, PlainStatus, Ready, Moving, setting}
 
 -- the length of a piece: 256 bytes, or what is left
 abbrev pub piece_of : ℕ → ℕ
@@ -96,5 +96,4 @@ lands_what pid p dir owner base own left w = None
 abbrev pub lands : Pid → PlainProcess → PlainMessage → PlainStatus → Option Landed
 lands pid p m (Moving dir owner base own left pending) =
     if m.id.n == pending then lands_what pid p dir owner base own left m.what else None
-lands pid p m Ready = None
-lands pid p m (Waiting mask base cap) = None
+lands pid p m status = None

@@ -2,7 +2,7 @@
 use Rattle.std.specs.Prelude.{ℕ, ◌+◌, ◌&&◌, nat_lt, if◌then◌else◌, List, [], ◌∷◌, length, count_by, slice_set}
 use Rattle.std.specs.declared.option.Option.{Option}
 use Rattle.std.specs.declared.option.Option.TheVariants.{None, Some}
-use Rattle.std.specs.Option.{is_none}
+use Rattle.std.specs.Option.{is_none, option_map_or}
 use Rattle.dm_link.specs.declared.Pid.{Pid}
 use Rattle.dm_link.specs.Names.{pid_eq}
 use Rattle.dm_link.specs.Plain.{PlainLink}
@@ -13,7 +13,7 @@ use Rattle.dm_processor.specs.declared.registers.Regs.{Regs}
 use Rattle.dm_onekernel.specs.declared.label.Reply.{Reply}
 use Rattle.dm_onekernel.specs.declared.label.Reply.TheVariants as reply
 use Rattle.dm_onekernel.specs.Codes.{reply_code}
-use Rattle.dm_onekernel.specs.PlainProcess.{PlainProcess, PlainStatus, Ready, Waiting, Moving, setting}
+use Rattle.dm_onekernel.specs.PlainProcess.{PlainProcess, PlainStatus, Ready, Waiting, setting}
 use Rattle.dm_onekernel.specs.Pieces.{written_at}
 use Rattle.dm_onekernel.specs.Refusals.{Check, first_failed}
 
@@ -54,8 +54,7 @@ receive_refusals p cap body links =
     ∷ []
 
 abbrev pub completes_unless : Option Reply → PlainProcess → PlainProcess → Completed
-completes_unless None p after = Receives after
-completes_unless (Some c) p after = Refuses c (record p { regs = setting p.regs 0 (reply_code c); status = Ready })
+completes_unless refusal p after = option_map_or (λ c. Refuses c (record p { regs = setting p.regs 0 (reply_code c); status = Ready })) refusal (Receives after)
 
 abbrev pub completes : PlainProcess → ℕ → ℕ → ℕ → ℕ → List ℕ → List PlainLink → Completed
 completes p base cap code channel body links =
@@ -69,8 +68,7 @@ completes_what pid p m mask base cap w = None
 
 abbrev pub completes_status : Pid → PlainProcess → PlainMessage → PlainStatus → Option Completed
 completes_status pid p m (Waiting mask base cap) = completes_what pid p m mask base cap m.what
-completes_status pid p m Ready = None
-completes_status pid p m (Moving dir owner base own left pending) = None
+completes_status pid p m status = None
 
 -- what becomes of the receive of a process that waits, and isn't stopped
 abbrev pub completes_with : Pid → PlainProcess → PlainMessage → Option Completed

@@ -48,12 +48,7 @@ serves s id m p (what.Write base bytes) = bind (pieces.writes p m base bytes) (�
 serves s id m p (what.Block bytes) = bind (pieces.lands m.to p m p.status) (λ r. Some (landed s id m r))
 serves s id m p what.Written = bind (pieces.lands m.to p m p.status) (λ r. Some (landed s id m r))
 serves s id m p what.Gone = bind (pieces.lands m.to p m p.status) (λ r. Some (landed s id m r))
-serves s id m p (what.User code channel body links) = None
-serves s id m p (what.Create image links) = None
-serves s id m p (what.Created pid) = None
-serves s id m p what.NoRoom = None
-serves s id m p (what.Move machine) = None
-serves s id m p (what.Moved outcome) = None
+serves s id m p w = None
 
 -- took: a message for a server
 abbrev pub switchboard_took : OneKernel → MsgId → switchboard_.BoardTook → OneKernel
@@ -73,11 +68,9 @@ abbrev pub is_kernel : OneKernel → Pid → Bool
 is_kernel s p = (p.num == 0) && nat_lt p.home s.machines
 
 -- created: a kernel makes the process that a message asks for, the next of its home, and says its name
-abbrev pub made_one : OneKernel → ℕ → ℕ → ℕ
-made_one s home m = s.made m + (if home == m then 1 else 0)
-
 abbrev pub with_created : OneKernel → Pid → BootImage → List PlainLink → OneKernel
-with_created s child image links = record (with_process s child (Alive (begun s.format image links))) { made = made_one s child.home }
+with_created s child image links =
+    record (with_process s child (Alive (begun s.format image links))) { made = λ m. s.made m + (if child.home == m then 1 else 0) }
 
 abbrev pub creates_of : OneKernel → MsgId → PlainMessage → Pid → List PlainLink → BootImage → Option OneKernel
 creates_of s id m child links image =
@@ -99,16 +92,10 @@ is_dropped (what.User code channel body links) = true
 is_dropped what.Stop = true
 is_dropped what.Resume = true
 is_dropped what.Kill = true
-is_dropped (what.Read base len) = false
-is_dropped (what.Write base bytes) = false
 is_dropped (what.Block bytes) = true
 is_dropped what.Written = true
 is_dropped what.Gone = true
-is_dropped (what.Create image links) = false
-is_dropped (what.Created pid) = false
-is_dropped what.NoRoom = false
-is_dropped (what.Move machine) = false
-is_dropped (what.Moved outcome) = false
+is_dropped w = false
 
 -- gone: what is answered where the receiver has ended, to a request for a piece of its memory, and to one that it move
 abbrev pub gone_what : PlainWhat → Option PlainWhat

@@ -5,7 +5,6 @@ use Rattle.std.specs.declared.option.Option.TheVariants.{None, Some}
 use Rattle.dm_link.specs.declared.Pid.{Pid}
 use Rattle.dm_link.specs.Names.{pid_eq}
 use Rattle.dm_link.specs.Plain.{PlainLink, plain_link}
-use Rattle.dm_processor.specs.declared.registers.Regs.{Regs}
 use Rattle.dm_onekernel.specs.declared.boot.Format.{Format}
 use Rattle.dm_onekernel.specs.declared.boot.BootImage.{BootImage}
 use Rattle.dm_onekernel.specs.declared.boot.BootProcess.{BootProcess}
@@ -22,14 +21,11 @@ memory_of i = i.bytes ++ replicate (256 * i.blocks - length i.bytes) 0
 abbrev pub slots_with : {L : Type 0} → ℕ → List L → List (Option L)
 slots_with slots links = map Some links ++ replicate (slots - length links) None
 
-abbrev pub zero_regs : Regs
-zero_regs = record { r = replicate 16 0; pc = 0 }
-
 -- a process that hasn't executed anything yet
 abbrev pub begun : Format → BootImage → List PlainLink → PlainProcess
 begun f image links =
     record {
-      regs = zero_regs;
+      regs = record { r = replicate 16 0; pc = 0 };
       memory = memory_of image;
       links = slots_with (slots_of f) links;
       status = Ready;

@@ -1,5 +1,6 @@
 -- The steps of the kernel without machines: a row a label.
 use Rattle.std.specs.Prelude.{ℕ, zero, suc, ◌==◌, ◌&&◌, if◌then◌else◌, List, [], ◌∷◌}
+use Rattle.std.specs.Option.{option_map_or}
 use Rattle.std.specs.declared.option.Option.{Option}
 use Rattle.std.specs.declared.option.Option.TheVariants.{None, Some}
 use Rattle.dm_link.specs.declared.Pid.{Pid}
@@ -17,8 +18,8 @@ use Rattle.dm_onekernel.specs.declared.label.Why.{Why}
 use Rattle.dm_onekernel.specs.declared.label.Why.TheVariants as why
 use Rattle.dm_onekernel.specs.Codes.{reply_eq, why_eq}
 use Rattle.dm_onekernel.specs.Options.{bind, when}
-use Rattle.dm_onekernel.specs.PlainProcess.{PlainProcess, PlainStatus, Ready, Waiting, Moving}
-use Rattle.dm_onekernel.specs.Kernel.{Life, Alive, Ended, MoveNote, OneKernel, with_process, with_sent}
+use Rattle.dm_onekernel.specs.PlainProcess.{PlainProcess, PlainStatus, Ready}
+use Rattle.dm_onekernel.specs.Kernel.{Life, Alive, Ended, OneKernel, with_process, with_sent}
 use Rattle.dm_onekernel.specs.Calls as calls
 use Rattle.dm_onekernel.specs.Pieces.{answer_to}
 use Rattle.dm_onekernel.specs.Receiving as receiving
@@ -38,40 +39,29 @@ with_machine p m = record p { regs = m.regs; memory = m.bytes }
 -- after one more instruction, if it is plain
 abbrev pub plain_row : Row → Option Machine
 plain_row (row.Plain regs bytes) = Some (record { regs = regs; bytes = bytes })
-plain_row (row.Calls number regs) = None
-plain_row (row.Faults fault) = None
-
-abbrev pub plain_step : Machine → Option Machine
-plain_step m = plain_row (instruction m.regs m.bytes)
+plain_row r = None
 
 -- after so many plain instructions, if they are
 abbrev pub plain_steps : ℕ → Machine → Option Machine
 plain_steps zero m = Some m
-plain_steps (suc k) m = bind (plain_steps k m) plain_step
+plain_steps (suc k) m = bind (plain_steps k m) (λ n. plain_row (instruction n.regs n.bytes))
 
 abbrev pub alive : Option Life → Option PlainProcess
-alive None = None
 alive (Some (Alive p)) = Some p
-alive (Some (Ended because)) = None
+alive life = None
 
 abbrev pub why_ended : Option Life → Option Why
-why_ended None = None
-why_ended (Some (Alive p)) = None
 why_ended (Some (Ended because)) = Some because
+why_ended life = None
 
 -- a living process that follows no request to move
-abbrev pub unless_noted : Option MoveNote → Option PlainProcess → Option PlainProcess
-unless_noted None o = o
-unless_noted (Some n) o = None
-
 abbrev pub at_hand : OneKernel → Pid → Option PlainProcess
-at_hand s p = unless_noted (s.notes p) (alive (s.processes p))
+at_hand s p = option_map_or (λ note. None) (s.notes p) (alive (s.processes p))
 
 -- a process that executes: it is ready and not stopped
 abbrev pub if_ready : PlainProcess → PlainStatus → Option PlainProcess
 if_ready p Ready = if p.stopped then None else Some p
-if_ready p (Waiting mask base cap) = None
-if_ready p (Moving dir owner base own left pending) = None
+if_ready p status = None
 
 abbrev pub running : OneKernel → Pid → Option PlainProcess
 running s p = bind (at_hand s p) (λ x. if_ready x x.status)

@@ -1,5 +1,7 @@
 -- The switchboard: a list of names, each with a link that is handed out to whoever looks it up.
-use Rattle.std.specs.Prelude.{ℕ, ◌+◌, Bool, true, false, ◌==◌, ◌&&◌, nat_le, if◌then◌else◌, List, [], ◌∷◌, ◌++◌, length}
+use Rattle.std.specs.Str.{bytes_eq}
+use Rattle.std.specs.Option.{option_map_or}
+use Rattle.std.specs.Prelude.{ℕ, ◌+◌, Bool, ◌==◌, ◌&&◌, nat_le, if◌then◌else◌, List, [], ◌∷◌, ◌++◌, length}
 use Rattle.std.specs.declared.option.Option.{Option}
 use Rattle.std.specs.declared.option.Option.TheVariants.{None, Some}
 use Rattle.dm_link.specs.declared.Pid.{Pid}
@@ -19,30 +21,14 @@ pub data Answer : Type 0 where
   BadLink : Answer
   BadRequest : Answer
 
--- the byte of the answer
-abbrev pub code_of_answer : Answer → ℕ
-code_of_answer Registered = 0
-code_of_answer (Found link) = 1
-code_of_answer Unknown = 2
-code_of_answer Taken = 3
-code_of_answer BadLink = 4
-code_of_answer BadRequest = 5
-
--- the link that the answer carries
-abbrev pub links_of_answer : Answer → List PlainLink
-links_of_answer Registered = []
-links_of_answer (Found link) = link ∷ []
-links_of_answer Unknown = []
-links_of_answer Taken = []
-links_of_answer BadLink = []
-links_of_answer BadRequest = []
-
--- the two lists are one
-abbrev pub bytes_eq : List ℕ → List ℕ → Bool
-bytes_eq [] [] = true
-bytes_eq [] (c ∷ cs) = false
-bytes_eq (b ∷ bs) [] = false
-bytes_eq (b ∷ bs) (c ∷ cs) = (b == c) && bytes_eq bs cs
+-- the byte of the answer, and the links that it carries
+abbrev pub answer_row : Answer → ℕ × List PlainLink
+answer_row Registered = (0, [])
+answer_row (Found link) = (1, link ∷ [])
+answer_row Unknown = (2, [])
+answer_row Taken = (3, [])
+answer_row BadLink = (4, [])
+answer_row BadRequest = (5, [])
 
 -- the link that is kept under a name
 abbrev pub link_named : List ℕ → List NamedLink → Option PlainLink
@@ -57,13 +43,9 @@ pub record Asked : Type 0 where
   pub names : List NamedLink
   pub answer : Answer
 
-abbrev pub found_or_unknown : Option PlainLink → Answer
-found_or_unknown None = Unknown
-found_or_unknown (Some l) = Found l
-
 -- operation 2: look a name up
 abbrev pub looks_up : List NamedLink → List ℕ → Asked
-looks_up names name = record { names = names; answer = found_or_unknown (link_named name names) }
+looks_up names name = record { names = names; answer = option_map_or Found (link_named name names) Unknown }
 
 -- operation 1: keep a link under a name that isn't taken
 abbrev pub registers_new : List NamedLink → List ℕ → PlainLink → Option PlainLink → Asked
@@ -81,8 +63,7 @@ board_bad_request names = record { names = names; answer = BadRequest }
 -- a request to register has just the link for the answer and the one to keep, one to look up the first alone
 abbrev pub asks_to_register : List NamedLink → List ℕ → List PlainLink → Asked
 asks_to_register names name (l ∷ []) = if is_name name then registers_name names name l else board_bad_request names
-asks_to_register names name [] = board_bad_request names
-asks_to_register names name (l ∷ k ∷ ks) = board_bad_request names
+asks_to_register names name links = board_bad_request names
 
 abbrev pub asks_to_look_up : List NamedLink → List ℕ → List PlainLink → Asked
 asks_to_look_up names name [] = if is_name name then looks_up names name else board_bad_request names
@@ -110,7 +91,7 @@ abbrev pub board_answers : Switchboard → PlainLink → Asked → BoardTook
 board_answers b l a =
     record {
       switchboard = record { names = a.names; sent = b.sent + 1 };
-      answer = Some (goes_over switchboard b.sent l (code_of_answer a.answer ∷ []) (links_of_answer a.answer));
+      answer = Some (goes_over switchboard b.sent l ((answer_row a.answer).0 ∷ []) (answer_row a.answer).1);
     }
 
 -- a request without links has no effect and no answer

@@ -47,17 +47,17 @@ pub use Rattle.dm_rule.proofs.Homes.Slots.{emptied_link, past_call, set_link}
 pub use Rattle.dm_rule.proofs.Homes.Steps.{OnlySlots, gives_same, made_is, only_gives_by}
 pub use Rattle.dm_rule.proofs.Letters.{not_kernels}
 pub use Rattle.dm_rule.proofs.Names.{About, Addresses, Again, Answer, AskedBy, Child, Enclosed, Fault, Forward, Frozen, Gets, Holder, Inbox, IsStep, Known, Leads, Line, Load, MessageKind, Name, NamedLink, One, Owner, Owns, Pair, Part}
-pub use Rattle.dm_rule.proofs.Names.{Place, Point, Receiver, Routes, Says, Sender, SentLoad, Slot, Sort, Sound, Spelled, Spot, Stage, Step, TellsRight, Told, Transmits, View, acting_place, addresses_after, after, after_head, after_label}
-pub use Rattle.dm_rule.proofs.Names.{after_line, after_step, all_follow, answer_gets, answer_link, ascends, at_hand-is, at_pid, behind, behind_count, belongs_to, bind-is, board_finds, board_keeps, board_takes_burden, burden_of, call_gets}
-pub use Rattle.dm_rule.proofs.Names.{child_from, child_links, child_number, enclosed_from, encloses, ends_move-is, fills, fills_by, filter, filter_map, first_addresses, first_gives, first_point, first_view, forwarded_for, forwards, gets}
+pub use Rattle.dm_rule.proofs.Names.{Place, Point, Receiver, Routes, Says, Sender, SentLoad, Slot, Sort, Sound, Spelled, Spot, Stage, Step, TellsRight, Told, Transmits, View, acting_place, after, after_head, after_label}
+pub use Rattle.dm_rule.proofs.Names.{after_line, after_step, all_follow, answer_gets, ascends, at_hand-is, at_pid, behind, behind_count, belongs_to, bind-is, board_finds, board_keeps, board_takes_burden, call_gets}
+pub use Rattle.dm_rule.proofs.Names.{child_number, enclosed_from, encloses, ends_move-is, fills, fills_by, filter, filter_map, first_addresses, first_gives, first_point, first_view, forwarded_for, forwards, gets, child_links}
 pub use Rattle.dm_rule.proofs.Names.{given, gives, group_of, handled, id_eq-is, id_eq-same, id_eq-swap, is_kernels, is_told_back, kernel_after, label_of, landing_gets, leads_to, lines_of, link_target, links_at, manager_answers}
-pub use Rattle.dm_rule.proofs.Names.{manager_sends, manager_takes_burden, moved, option_map_or, outcome, own_given, own_id, owner_in, owner_of, pid_eq-is, pid_eq-same, place_known, place_named, place_of, place_told, plain_kind, puts}
+pub use Rattle.dm_rule.proofs.Names.{manager_sends, manager_takes_burden, moved, option_map_or, outcome, own_given, own_id, owner_in, pid_eq-is, pid_eq-same, place_known, place_named, place_of, place_told, plain_kind, puts}
 pub use Rattle.dm_rule.proofs.Names.{receiver_of, receives_burden, receives_links, reply_eq, seen, sends_burden, serves_burden, slot_after, slots_of, slots_with, sort_of, spelled, standing, start-sound, times, told_back_gets, unmoved}
 pub use Rattle.dm_rule.proofs.Names.{updated, updated_to, view_after, when-is, why_eq}
 pub use Rattle.dm_rule.proofs.Pairs.Moves.{or_first, or_first as or_second}
 pub use Rattle.dm_rule.proofs.Requests.{by_migrates}
 pub use Rattle.dm_rule.proofs.Worked.{hi}
-pub use Rattle.dm_rule.specs.Addresses.{board_asks}
+pub use Rattle.dm_rule.specs.Addresses.{board_asks, addresses_by}
 pub use Rattle.dm_rule.specs.Migrating.{answers_in, behind_among, holders_numbered, holders_of, slot_holders}
 pub use Rattle.dm_rule.specs.View.{first_told, is_own}
 pub use Rattle.dm_places.specs.Changes.{Changes, StepsChangeLittle, changed, is_named, receiver_in, taken, taken_out}
@@ -67,3 +67,6 @@ pub use Rattle.dm_places.specs.Placed.{AnswerNames, Mirrors, MirrorsKernel, Mirr
 pub use Rattle.dm_places.specs.PlacedStart.{placed_start, started, started_at}
 pub use Rattle.dm_places.specs.PlacedStep.{Acted, acted, acts, after_call, after_done, after_landing, answers, board_took, completed, creates, ends_move, if_ready, lands, machine_of, manager_took, placed_step, ran, running, serves, takes}
 pub use Rattle.dm_places.specs.PlacedStep.{with_acted, with_child, with_machine, with_message, with_note, with_process, with_sent, without_message, without_note}
+pub use Rattle.std.specs.Option.{option_and_then}
+pub use Rattle.std.specs.List.{position_from}
+pub use Rattle.dm_rule.specs.Acts.{act_of}

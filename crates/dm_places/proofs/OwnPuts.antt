@@ -1,7 +1,7 @@
 -- A message that a machine's kernel sends itself, where it is put for the first time.
 use Rattle.dm_places.proofs.Names.{◌≡◌, ℕ, zero, suc, ◌+◌, Bool, false, List, [], ◌∷◌, map, refl, ap, ◌∙◌, sym, subst, ◌⊎◌, inl, inr, arith, if◌then◌else◌, cond, slice_get, Option, None, Some, cases_Bool, Pid, Addr, Place, pid_eq}
 use Rattle.dm_places.proofs.Names.{nat_tests, place_of, MsgId, Message, Line, MessageKind, id_eq, plain_message, plain_child, child_named, Manager, OneKernel, pid_eq-swap, Told, View, own_id, view_after, Addresses, Child, Gets, Receiver}
-use Rattle.dm_places.proofs.Names.{Sender, child_from, child_number, first_gives, given, own_given, Point, moved, SameMessage, SameProcess, SameServers, two, two_off, two_process, two_servers, Placed, Mirrors, MirrorsMessage, enclosed}
+use Rattle.dm_places.proofs.Names.{Sender, child_number, first_gives, given, own_given, Point, moved, SameMessage, SameProcess, SameServers, two, two_off, two_process, two_servers, Placed, Mirrors, MirrorsMessage, enclosed, position_from}
 use Rattle.dm_places.proofs.Names.{MirrorsPoint, with_message, Sort, sort_of}
 use Rattle.dm_places.proofs.Keeps.{stays_message, stays_process, stays_servers}
 use Rattle.dm_places.proofs.Following.Changed.{free_mirrors, kernel_again, places_message, this_message}
@@ -65,33 +65,33 @@ absent_put_mirrors pt l from to id k q h none =
     mirrors_view s v w b l refl now
 
 -- the manager's child of a name, and its number
-child_has : (cs : List Addr) (k : ℕ) (p : Pid) (c : Addr) → child_named p cs ≡ Some c → (j : ℕ) × (child_from k p (map plain_child cs) ≡ Some (k + j)) × (slice_get cs j ≡ Some c)
+child_has : (cs : List Addr) (k : ℕ) (p : Pid) (c : Addr) → child_named p cs ≡ Some c → (j : ℕ) × ((position_from (pid_eq p) k (map plain_child cs)) ≡ Some (k + j)) × (slice_get cs j ≡ Some c)
 child_has [] k p c e = cc
 child_has (d ∷ ds) k p c e = elim (cases_Bool (pid_eq d.pid p)) [
   | inl same ↦
       let f : Some d ≡ Some c = sym (ap (λ (b : Bool). cond b (Some d) (child_named p ds)) same) ∙ e in
       let n : k ≡ k + 0 = omega arith in
-      (zero, ap (λ (b : Bool). if b then Some k else child_from (k + 1) p (map plain_child ds)) (pid_eq-swap p d.pid ∙ same) ∙ ap Some n, f)
+      (zero, ap (λ (b : Bool). if b then Some k else (position_from (pid_eq p) (k + 1) (map plain_child ds))) (pid_eq-swap p d.pid ∙ same) ∙ ap Some n, f)
   | inr apart ↦
       let (j, from, there) = child_has ds (k + 1) p c (sym (ap (λ (b : Bool). cond b (Some d) (child_named p ds)) apart) ∙ e) in
       let n : (k + 1) + j ≡ k + suc j = omega arith in
-      (suc j, ap (λ (b : Bool). if b then Some k else child_from (k + 1) p (map plain_child ds)) (pid_eq-swap p d.pid ∙ apart) ∙ from ∙ ap Some n, there)
+      (suc j, ap (λ (b : Bool). if b then Some k else (position_from (pid_eq p) (k + 1) (map plain_child ds))) (pid_eq-swap p d.pid ∙ apart) ∙ from ∙ ap Some n, there)
 ]
 
-children_are : (s : OneKernel) (v : View) (a : Addresses) (l : Placed) (p : Pid) → Mirrors s v a l → child_number s p ≡ child_from 1 p (map plain_child l.manager.children)
-children_are s v a l p h = ap (λ (g : Manager). child_from 1 p g.children) (sym h.plain.manager)
+children_are : (s : OneKernel) (v : View) (a : Addresses) (l : Placed) (p : Pid) → Mirrors s v a l → child_number s p ≡ (position_from (pid_eq p) 1 (map plain_child l.manager.children))
+children_are s v a l p h = ap (λ (g : Manager). (position_from (pid_eq p) 1 g.children)) (sym h.plain.manager)
 
 pub child_place : (s : OneKernel) (v : View) (a : Addresses) (l : Placed) (p : Pid) (c : Addr) → Mirrors s v a l → child_named p l.manager.children ≡ Some c → (n : ℕ) × (child_number s p ≡ Some n) × (a (Child n) ≡ place_of c)
 child_place s v a l p c h e =
     let (j, from, there) = child_has l.manager.children 1 p c e in
     let n : 1 + j ≡ suc j = omega arith in (suc j, children_are s v a l p h ∙ from ∙ ap Some n, h.places.child (suc j) c there)
 
-child_none : (cs : List Addr) (k : ℕ) (p : Pid) → child_named p cs ≡ None → child_from k p (map plain_child cs) ≡ None
+child_none : (cs : List Addr) (k : ℕ) (p : Pid) → child_named p cs ≡ None → (position_from (pid_eq p) k (map plain_child cs)) ≡ None
 child_none [] k p e = refl
 child_none (d ∷ ds) k p e = elim (cases_Bool (pid_eq d.pid p)) [
   | inl same ↦ absurd (let f : Some d ≡ None = sym (ap (λ (b : Bool). cond b (Some d) (child_named p ds)) same) ∙ e in cc)
   | inr apart ↦
-      ap (λ (b : Bool). if b then Some k else child_from (k + 1) p (map plain_child ds)) (pid_eq-swap p d.pid ∙ apart)
+      ap (λ (b : Bool). if b then Some k else (position_from (pid_eq p) (k + 1) (map plain_child ds))) (pid_eq-swap p d.pid ∙ apart)
       ∙ child_none ds (k + 1) p (sym (ap (λ (b : Bool). cond b (Some d) (child_named p ds)) apart) ∙ e)
 ]
 

@@ -1,5 +1,5 @@
 -- Each step with places, a label after the other.
-use Rattle.dm_places.proofs.Names.{◌≡◌, ◌∙◌, ap, sym, true, ℕ, Some, Label, Line, Manager, OneKernel, View, Addresses, addresses_after, ascends, Point, after_line, moved, bind-is, Placed, Mirrors, placed_step, StepNeeds, StepsFollow}
+use Rattle.dm_places.proofs.Names.{◌≡◌, ◌∙◌, ap, sym, true, ℕ, Some, Label, Line, Manager, OneKernel, View, Addresses, ascends, Point, after_line, moved, bind-is, Placed, Mirrors, placed_step, StepNeeds, StepsFollow, act_of, addresses_by}
 use Rattle.dm_places.proofs.Names.{MirrorsPoint, arith, nat_tests}
 use Rattle.dm_onekernel.specs.Step as kernel
 use Rattle.dm_places.proofs.Lines.{mirrors_view, moves_label}
@@ -34,7 +34,7 @@ steps_follow s t v a l (Label.Answered id o) h needs is = answered_follows s t v
 
 -- the same for a machine that is the one that acts
 pub placed_follows : (s t : OneKernel) (v : View) (a : Addresses) (l : Placed) (here : ℕ) (e : Label) → Mirrors s v a l → v.acting ≡ here → StepNeeds s v e → kernel.step s e ≡ Some t
-    → (m : Placed) × (placed_step here s.format s.images l e ≡ Some m) × Mirrors t v (addresses_after s v a (Line.Label e)) m
+    → (m : Placed) × (placed_step here s.format s.images l e ≡ Some m) × Mirrors t v (addresses_by s v a (act_of (Line.Label e))) m
 placed_follows s t v a l here e h at needs is =
     let (m, step, mirrors) = steps_follow s t v a l e h needs is in
     (m, ap (λ (n : ℕ). placed_step n s.format s.images l e) (sym at) ∙ step, mirrors)

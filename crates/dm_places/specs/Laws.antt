@@ -18,13 +18,15 @@ use Rattle.dm_line.specs.declared.line.Line.{Line}
 use Rattle.dm_line.specs.declared.line.Line.TheVariants as line
 use Rattle.dm_line.specs.declared.line.Stage.TheVariants as stage
 use Rattle.dm_rule.specs.View.{View}
-use Rattle.dm_rule.specs.Addresses.{Addresses, addresses_after, first_gives, own_given}
+use Rattle.dm_rule.specs.Addresses.{Addresses, first_gives, own_given}
 use Rattle.dm_rule.specs.Homes.{ascends}
 use Rattle.dm_rule.specs.Point.{Point, after_line, first_point}
 use Rattle.dm_places.specs.Placed.{Placed, Mirrors}
 use Rattle.dm_places.specs.PlacedStart.{placed_start}
 use Rattle.dm_places.specs.PlacedStep.{placed_step}
 use Rattle.dm_message.specs.Sorts.{sort_of}
+use Rattle.dm_rule.specs.Acts.{act_of}
+use Rattle.dm_rule.specs.Addresses.{addresses_by}
 
 -- what a label needs beside a mirror: the servers act on machine 0, and the manager's requests have ascending numbers; a
 -- process that is made now hasn't moved yet; a request to move has the name of one of the manager's messages, and
@@ -52,7 +54,7 @@ StepNeeds s v (label.Answered id o) =
 abbrev pub StepsFollow : Type 0
 StepsFollow =
     (s t : OneKernel) (v : View) (a : Addresses) (l : Placed) (e : Label) → Mirrors s v a l → StepNeeds s v e → kernel.step s e ≡ Some t
-    → (m : Placed) × (placed_step v.acting s.format s.images l e ≡ Some m) × Mirrors t v (addresses_after s v a (line.Label e)) m
+    → (m : Placed) × (placed_step v.acting s.format s.images l e ≡ Some m) × Mirrors t v (addresses_by s v a (act_of (line.Label e))) m
 
 -- lines that neither are steps nor change addresses or how often a process has moved; a message that is put gets no addresses
 -- then, as it was put before or is one of the kernel's

@@ -9,7 +9,7 @@ pub use Rattle.std.proofs.lemmas.List.Elements.{All-map, All-push}
 pub use Rattle.std.proofs.lemmas.List.Quantifiers.{position-Some}
 pub use Rattle.std.proofs.lemmas.Option.{slice_get-map}
 pub use Rattle.std.specs.List.{All, remove}
-pub use Rattle.std.specs.Option.{IfSome, option_map, option_or}
+pub use Rattle.std.specs.Option.{IfSome, option_map, option_or, option_map_or}
 pub use Rattle.std.specs.Prelude.{IfOk, IsSome, OnErr}
 pub use Rattle.std.specs.declared.option.Option.{Option}
 pub use Rattle.std.specs.declared.result.Result.{Result}

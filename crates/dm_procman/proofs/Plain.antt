@@ -3,7 +3,7 @@ use Rattle.dm_procman.proofs.Names.{◌≡◌, ℕ, zero, suc, ◌+◌, ◌*◌,
 use Rattle.dm_procman.proofs.Names.{option_map, Pid, Addr, Link, retargeted, retargeted_link, PlainLink, plain_link, NoMemory, Message, What, plain_message, plain_what, with_what, Pending, Managing, at_home, plain_child, plain_manager}
 use Rattle.dm_procman.proofs.Names.{plain_pending, retargeted_manager, retargeted_pending, control_link, plain_taken, plainly_taken, Taken, answers, asks_for, bad_request, child_address, controls, controls_child, pending_request, requests}
 use Rattle.dm_procman.proofs.Names.{settled, takes, takes_created, takes_no_room, takes_user, wants_child, without_pending, kernel_at, Outcome, code_of_outcome, PendingKind, message_to, answers_over, asks, first_link, takes_moved}
-use Rattle.dm_procman.proofs.Names.{wants_move}
+use Rattle.dm_procman.proofs.Names.{wants_move, option_map_or, slice_get}
 use Rattle.std.specs.declared.option.Option.TheVariants.{None, Some}
 use Rattle.dm_message.specs.declared.What.TheVariants as what
 use Rattle.dm_message.specs.Plain as plain
@@ -82,13 +82,14 @@ module _ (here : ℕ) where
   abbrev plain_control_by : Bool → Bool → Bool → Option plain.PlainWhat
   plain_control_by b c d = if b then Some plain.Stop else if c then Some plain.Resume else if d then Some plain.Kill else None
 
-  plain_controls_by : (g : Managing) (a : Addr) (b c d : Bool) (ls : List Link) → plainly (controls_child here g a (control_by b c d) ls) ≡ Some (one.tells_child (plain_manager g) a.pid (plain_control_by b c d) (map plain_link ls))
+  plain_controls_by : (g : Managing) (a : Addr) (b c d : Bool) (ls : List Link)
+      → plainly (controls_child here g a (control_by b c d) ls) ≡ Some (option_map_or (one.tells (plain_manager g) a.pid) (plain_control_by b c d) (one.bad_request (plain_manager g) (map plain_link ls)))
   plain_controls_by g a true c d ls = refl
   plain_controls_by g a false true d ls = refl
   plain_controls_by g a false false true ls = refl
   plain_controls_by g a false false false ls = plain_bad g ls
 
-  plain_first : (ls : List Link) → option_map plain_link (first_link ls) ≡ one.first_link (map plain_link ls)
+  plain_first : (ls : List Link) → option_map plain_link (first_link ls) ≡ (slice_get (map plain_link ls) 0)
   plain_first [] = refl
   plain_first (l ∷ ls) = refl
 
@@ -125,7 +126,8 @@ module _ (here : ℕ) where
   abbrev plain_answers : List Pid → List kernel.Pending → ℕ → Option Link → ℕ → List PlainLink → Option one.ManagerTook
   plain_answers cs rs sent o code links = Some (one.answers_over (record { children = cs; pending = rs; sent = sent }) (option_map plain_link o) code links)
 
-  pub plain_created : (g : Managing) (n : ℕ) (p : Pid) (o : Option Pending) (t : Taken) → takes_created here g n p o ≡ Some t → plainly t ≡ one.takes_created (plain_manager g) n p (option_map plain_pending o)
+  pub plain_created : (g : Managing) (n : ℕ) (p : Pid) (o : Option Pending) (t : Taken) → takes_created here g n p o ≡ Some t
+      → plainly t ≡ (one.takes_answer (plain_manager g) n ((plain_manager g).children ++ p ∷ []) 0 (one.control_link (length (plain_manager g).children + 1) ∷ [])) (option_map plain_pending o)
   plain_created g n p None t e = absurd (cc e)
   plain_created g n p (Some r) t e =
       let left : Managing = record (settled g n) { children = g.children ++ at_home p ∷ [] } in
@@ -140,12 +142,12 @@ module _ (here : ℕ) where
       ap plainly (sym same) ∙ plain_over (settled g n) r.answer code []
       ∙ (λ i. plain_answers (map plain_child g.children) (plain_without n g.pending i) g.sent r.answer code [])
 
-  pub plain_no_room : (g : Managing) (n : ℕ) (o : Option Pending) (t : Taken) → takes_no_room here g n o ≡ Some t → plainly t ≡ one.takes_no_room (plain_manager g) n (option_map plain_pending o)
+  pub plain_no_room : (g : Managing) (n : ℕ) (o : Option Pending) (t : Taken) → takes_no_room here g n o ≡ Some t → plainly t ≡ (one.takes_answer (plain_manager g) n (plain_manager g).children 1 []) (option_map plain_pending o)
   plain_no_room g n None t e = absurd (cc e)
   plain_no_room g n (Some r) t e = plain_settled g n r t 1 (cc e)
 
   pub plain_moved : (g : Managing) (n : ℕ) (outcome : Outcome) (o : Option Pending) (t : Taken) → takes_moved here g n outcome o ≡ Some t
-      → plainly t ≡ one.takes_moved (plain_manager g) n outcome (option_map plain_pending o)
+      → plainly t ≡ (one.takes_answer (plain_manager g) n (plain_manager g).children (code_of_outcome outcome) []) (option_map plain_pending o)
   plain_moved g n outcome None t e = absurd (cc e)
   plain_moved g n outcome (Some r) t e = plain_settled g n r t (code_of_outcome outcome) (cc e)
 
@@ -156,15 +158,15 @@ module _ (here : ℕ) where
       ap plainly (sym same) ∙ plain_user g code body.items links.items ∙ sym (ap (λ w. plainly_taken g (with_what m (plain_what w))) is)
   plain_heard g m t (IsCreated p is) e =
       plain_created g m.id.n p (pending_request m.id.n g.pending) t (ap (takes here g m.id.n) (sym is) ∙ e)
-      ∙ ap (one.takes_created (plain_manager g) m.id.n p) (sym (plain_pending_numbered m.id.n g.pending))
+      ∙ ap (one.takes_answer (plain_manager g) m.id.n ((plain_manager g).children ++ p ∷ []) 0 (one.control_link (length (plain_manager g).children + 1) ∷ [])) (sym (plain_pending_numbered m.id.n g.pending))
       ∙ sym (ap (λ w. plainly_taken g (with_what m (plain_what w))) is)
   plain_heard g m t (IsNoRoom is) e =
       plain_no_room g m.id.n (pending_request m.id.n g.pending) t (ap (takes here g m.id.n) (sym is) ∙ e)
-      ∙ ap (one.takes_no_room (plain_manager g) m.id.n) (sym (plain_pending_numbered m.id.n g.pending))
+      ∙ ap (one.takes_answer (plain_manager g) m.id.n (plain_manager g).children 1 []) (sym (plain_pending_numbered m.id.n g.pending))
       ∙ sym (ap (λ w. plainly_taken g (with_what m (plain_what w))) is)
   plain_heard g m t (IsMoved outcome is) e =
       plain_moved g m.id.n outcome (pending_request m.id.n g.pending) t (ap (takes here g m.id.n) (sym is) ∙ e)
-      ∙ ap (one.takes_moved (plain_manager g) m.id.n outcome) (sym (plain_pending_numbered m.id.n g.pending))
+      ∙ ap (one.takes_answer (plain_manager g) m.id.n (plain_manager g).children (code_of_outcome outcome) []) (sym (plain_pending_numbered m.id.n g.pending))
       ∙ sym (ap (λ w. plainly_taken g (with_what m (plain_what w))) is)
 
   -- the manager has the row of the kernel without machines

@@ -2,7 +2,7 @@
 use Rattle.dm_rule.proofs.Names.{◌≡◌, ℕ, ◌+◌, ◌≤◌, ◌==◌, Bool, true, false, List, [], ◌∷◌, refl, ap, ◌∙◌, sym, subst, arith, length, if◌then◌else◌, slice_get, Option, None, Some, Pid, pid_eq, MsgId, Label, PlainMessage, PlainWhat, bind}
 use Rattle.dm_rule.proofs.Names.{OneKernel, Line, at_record, without_id, View, view_after, handled, receiver_of, Point, label_of, kernel_after, moved, Part, Says, Routes, Spelled, spelled, Spot, Queue, times, ids_at, id_eq-same, bind-is}
 use Rattle.dm_rule.proofs.Names.{Boot, BootImage, Why, first_number, switchboard, manager, PlainProcess, PlainStatus, Ready, Waiting, Moving, answer_id, pid_of, forwards_on, says, drop_parts, plain_kind, instruction, NothingElse, Outcome}
-use Rattle.dm_rule.proofs.Names.{Target, answers_move, asked_to_move, leaves_for, machine_in, move_target}
+use Rattle.dm_rule.proofs.Names.{Target, answers_move, asked_to_move, leaves_for, move_target, option_map_or}
 use Rattle.dm_onekernel.specs.Step as kernel
 use Rattle.dm_rule.specs.View as view
 use Rattle.dm_rule.proofs.Lines.{Stands-queued, Stands-dequeued, without_counts}
@@ -132,7 +132,7 @@ asks_row pt m i is msg to w h fits front there what e =
     let k = says_next pt (Line.Label l) (if m == to then answers_move i Outcome.Done else leaves_for msg.to to) w e in
     let next = moved pt (Line.Label l) k.s in
     let asked = asked_state pt i is k.s h front k.is in
-    let topic : next.view.topic ≡ Target to = ap machine_in there ∙ ap move_target what in
+    let topic : next.view.topic ≡ Target to = ap (option_map_or (λ (m : PlainMessage). move_target m.what) there NothingElse) ∙ ap move_target what in
     State-at None k.rest.point w.point k.point (asked_by next i msg.to to (m == to) k.rest asked (fits_as pt.view next.view refl fits) topic k.more)
 
 dropped_row : (pt : Point) (i : MsgId) (is : List MsgId) (w : Spelled) → State None pt → pt.view.inbox pt.view.acting ≡ i ∷ is → spelled pt (says (Label.Dropped i) ∷ []) ≡ Some w → State None w.point

@@ -3,7 +3,7 @@ pub use Rattle.std.proofs.Common.{eq-eqb, eqb-true, lit<, ◌||◌}
 pub use Rattle.std.proofs.lemmas.Bool.{cases_eq, or_cases, or_left, or_right}
 pub use Rattle.std.proofs.lemmas.List.{length-append}
 pub use Rattle.std.proofs.lemmas.Option.{slice_get_cases, slice_get_within}
-pub use Rattle.std.specs.List.{cons_option}
+pub use Rattle.std.specs.List.{cons_option, position_from}
 pub use Rattle.std.specs.Option.{option_map_or}
 pub use Rattle.std.specs.Prelude.{filter, filter_map, option_and_then, slice_set}
 pub use Rattle.dm_link.specs.Names.{Place, place_of}
@@ -52,12 +52,11 @@ pub use Rattle.dm_line.specs.Todo.{Next, Todo, all_of}
 pub use Rattle.dm_line.specs.declared.line.Line.{Line}
 pub use Rattle.dm_line.specs.declared.line.Load.{Load}
 pub use Rattle.dm_line.specs.declared.line.Stage.{Stage}
-pub use Rattle.dm_rule.specs.Addresses.{Addresses, Answer, AskedBy, Child, Enclosed, Gets, Holder, Name, Owner, Receiver, Sender, Slot, acting_place, addresses_after, all_follow, answer_gets, answer_link, belongs_to, board_finds}
-pub use Rattle.dm_rule.specs.Addresses.{board_keeps, board_takes_burden, call_gets, child_from, child_links, child_number, enclosed_from, encloses, fills, fills_by, first_addresses, first_gives, forwards, gets, given, gives, holder_eq}
-pub use Rattle.dm_rule.specs.Addresses.{is_behind, is_pid, is_told_back, landing_gets, leads_to, link_target, links_at, manager_answers, manager_sends, manager_takes_burden, manager_tells_burden, name_link, nth_child, own_given, owner_in}
-pub use Rattle.dm_rule.specs.Addresses.{owner_of, place_known, place_named, place_told, receives_burden, receives_links, sends_burden, serves_burden, slot_after, slot_of, told_back_gets, unmoved, updated, updated_to}
+pub use Rattle.dm_rule.specs.Addresses.{Addresses, Answer, AskedBy, Child, Enclosed, Gets, Holder, Name, Owner, Receiver, Sender, Slot, acting_place, all_follow, answer_gets, belongs_to, board_finds, addresses_by}
+pub use Rattle.dm_rule.specs.Addresses.{board_keeps, board_takes_burden, call_gets, child_number, enclosed_from, encloses, fills, fills_by, first_addresses, first_gives, forwards, gets, given, gives, holder_eq, child_links}
+pub use Rattle.dm_rule.specs.Addresses.{is_behind, is_told_back, landing_gets, leads_to, link_target, links_at, manager_answers, manager_sends, manager_takes_burden, manager_tells_burden, own_given, owner_in}
+pub use Rattle.dm_rule.specs.Addresses.{place_known, place_named, place_told, receives_burden, receives_links, sends_burden, serves_burden, slot_after, told_back_gets, unmoved, updated, updated_to}
 pub use Rattle.dm_rule.specs.Apart.{AllSpare, IsOthers, Spares}
-pub use Rattle.dm_rule.specs.Given.{burden_of}
 pub use Rattle.dm_rule.specs.Good.{next_step}
 pub use Rattle.dm_rule.specs.Homes.{Homes, are_for_home, are_home, ascends, asker_in, enclosed_of, is_for_home, links_in, names, sender_of, to_of}
 pub use Rattle.dm_rule.specs.Laws.{AreStill, AskNone, IsStep, IsStill, IsUnasked, LeadHomeAlways, Leads, LeadsStill, MovingStaysAlways, PairsStandAlways, PhasesAlways, QuietIsTested, StandsOnceAlways, TellsRightAlways}
@@ -67,10 +66,10 @@ pub use Rattle.dm_rule.specs.Pairs.{HomeStands, PairStands}
 pub use Rattle.dm_rule.specs.Parts.{Again, Owns, Part, Routes, Says, Spelled, Transmits, behind, goes_out, lines_of, packet_line, pair_window, puts, spelled}
 pub use Rattle.dm_rule.specs.Phases.{Alone, HasToken, IsIn, IsToken, Moves, Nowhere, Over, Phase, Rests, is_apart, is_away, is_between, is_due, is_early, is_here, is_over, is_restart, kind_comes, kind_leaves, knows, receiver_in, sender_in}
 pub use Rattle.dm_rule.specs.Phases.{token_in, told_between}
-pub use Rattle.dm_rule.specs.Point.{Point, after, after_line, first_point, kernel_after, label_of, machine_in, move_target, moved, seen, topic_by}
+pub use Rattle.dm_rule.specs.Point.{Point, after, after_line, first_point, kernel_after, label_of, move_target, moved, seen, topic_by}
 pub use Rattle.dm_rule.specs.Quiet.{IsQuiet, has_mail, is_quiet, pair_is_quiet}
 pub use Rattle.dm_rule.specs.Rule.{Room, arrives, board_took, called, comes, comes_to, creation_parts, drop_parts, ended_handles, executes, first_awaited, first_runnable, fits, free_room, goes_round, group_of, has, has_room, hears}
-pub use Rattle.dm_rule.specs.Rule.{here_handles, kept_from, kernel_handles, kernel_hears, less, let_go, manager_parts, more, numbers_from, outcome, outstanding_count, process_handles, ran, reception_parts, repeats, resends, routes, says}
+pub use Rattle.dm_rule.specs.Rule.{here_handles, kept_from, kernel_handles, kernel_hears, less, let_go, manager_parts, numbers_from, outcome, outstanding_count, process_handles, ran, reception_parts, repeats, resends, routes, says}
 pub use Rattle.dm_rule.specs.Rule.{serves_status, stops, takes_on, taking_parts, turns}
 pub use Rattle.dm_rule.specs.Spots.{Held, Inbox, Queue, Spot, StandsAsBag, StandsNowhere, StandsOnce, StandsOutside, StandsRight, Untaken, ids_at, standing, times, untaken}
 pub use Rattle.dm_rule.specs.Tells.{TellsRight}
@@ -78,3 +77,4 @@ pub use Rattle.dm_rule.specs.Trails.{AddressesOn, IsOn, LeadsAlong, OwnOn, Stood
 pub use Rattle.dm_rule.specs.View.{About, Ended, Forward, Frozen, Here, Incoming, Known, NothingElse, Of, Pair, SentLoad, Target, Told, Unknown, View, actor, after_head, after_label, after_packet, after_proto, after_put, after_stage}
 pub use Rattle.dm_rule.specs.View.{after_taken, asks_on, at_least, begins, dropped_for, ended, ends_by, first_view, follows_by, forward_about, forwarded_for, front_of, frozen_for, gone_after, gone_to, handled, handled_first, held_for}
 pub use Rattle.dm_rule.specs.View.{is_kernels, knowing, known_at, marked, marked_at, oldest, own_id, queued_for, receiver_of, released, ring_at, routed_on, served_told, sets_off, taken_id, target_of, view_after, with_pair, with_ring}
+pub use Rattle.dm_rule.specs.Acts.{act_of}

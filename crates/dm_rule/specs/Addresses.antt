@@ -1,6 +1,7 @@
 -- Addresses: the place that each link and each message names, folded from the lines beside the kernel without machines.
 use Rattle.std.specs.Prelude.{ℕ, zero, suc, ◌+◌, Bool, false, ◌&&◌, nat_lt, if◌then◌else◌, is_none, option_map, option_and_then, List, [], ◌∷◌, ◌++◌, map, slice_get}
 use Rattle.std.specs.Option.{option_map_or}
+use Rattle.std.specs.List.{position_from}
 use Rattle.std.specs.declared.option.Option.{Option}
 use Rattle.std.specs.declared.option.Option.TheVariants.{None, Some}
 use Rattle.dm_link.specs.declared.Pid.{Pid}
@@ -25,7 +26,7 @@ use Rattle.dm_rule.specs.Acts as act
 use Rattle.dm_rule.specs.View.{View, Told, About, Known, Frozen, Forward}
 use Rattle.dm_rule.specs.View as view
 pub use Rattle.dm_rule.specs.Holders.{Holder, Slot, Owner, Receiver, Sender, Enclosed, Child, Name, Answer, AskedBy, Addresses, holder_eq, Gets, gets, given, acting_place, unmoved}
-pub use Rattle.dm_rule.specs.Given.{encloses, enclosed_from, burden_of, sends_burden, sends_next, send_gets, fills, fills_by, call_gets, slot_after, receives_links, receives_burden, reception_gets, answer_gets, landing_gets, serves_burden, service_gets, child_links, creates_burden, creation_gets, place_named, board_finds, board_keeps, board_asks, board_takes_burden, manager_controls, manager_tells_burden, manager_sends, manager_answers, manager_takes_burden, taking_gets, gives}
+pub use Rattle.dm_rule.specs.Given.{encloses, enclosed_from, sends_burden, sends_next, send_gets, fills, fills_by, call_gets, slot_after, receives_links, receives_burden, reception_gets, answer_gets, landing_gets, serves_burden, service_gets, child_links, creates_burden, creation_gets, place_named, board_finds, board_keeps, board_asks, board_takes_burden, manager_controls, manager_tells_burden, manager_sends, manager_answers, manager_takes_burden, taking_gets, gives}
 
 -- a message that goes on, or that step 6 of a migration sends on, follows its receiver
 abbrev pub place_known : Known → ℕ → Place → Place
@@ -49,14 +50,9 @@ told_back_gets v a id back = if back then gets (Receiver (view.own_id v)) (a (Se
 abbrev pub forwards : View → Addresses → MsgId → Option Told → List Gets
 forwards v a id told = option_map_or (λ t. follows v a t.receiver id ∷ told_back_gets v a id (is_told_back t.kind)) told []
 
--- the number of a child of the manager, counted from n
-abbrev pub child_from : ℕ → Pid → List Pid → Option ℕ
-child_from n p [] = None
-child_from n p (q ∷ qs) = if pid_eq p q then Some n else child_from (n + 1) p qs
-
 -- which child of the manager a process is, if it is one
 abbrev pub child_number : OneKernel → Pid → Option ℕ
-child_number s p = child_from 1 p s.manager.children
+child_number s p = position_from (pid_eq p) 1 s.manager.children
 
 -- from the acting machine's kernel to another, at home
 abbrev pub goes_between : View → MsgId → Pid → List Gets
@@ -93,40 +89,24 @@ belongs_to q h = false
 abbrev pub link_target : Option PlainLink → Option Pid
 link_target link = option_map (λ l. l.to) link
 
--- the link in a slot of a process
-abbrev pub slot_of : Option PlainProcess → ℕ → Option PlainLink
-slot_of process k = option_and_then (λ x. link_at x.links k) process
-
 -- whose area a process moves data to or from
 abbrev pub owner_in : PlainStatus → Option Pid
 owner_in (Moving dir owner base own left pending) = Some owner
 owner_in status = None
 
-abbrev pub owner_of : Option PlainProcess → Option Pid
-owner_of process = option_and_then (λ x. owner_in x.status) process
-
-abbrev pub name_link : Option NamedLink → Option PlainLink
-name_link name = option_map (λ k. k.link) name
-
-abbrev pub answer_link : Option Pending → Option PlainLink
-answer_link request = option_and_then (λ r. r.answer) request
-
 -- the process that a holder's address leads to, a row a holder; a message's addresses are updated on its way, not here, nor is
 -- where the answer to a request to move goes: these have none
 abbrev pub leads_to : OneKernel → Holder → Option Pid
-leads_to s (Slot p k) = link_target (slot_of (kernel.alive (s.processes p)) k)
-leads_to s (Owner p) = owner_of (kernel.alive (s.processes p))
+leads_to s (Slot p k) = link_target (option_and_then (λ x. link_at x.links k) (kernel.alive (s.processes p)))
+leads_to s (Owner p) = option_and_then (λ x. owner_in x.status) (kernel.alive (s.processes p))
 leads_to s (Child n) = manage.child_numbered s.manager.children n
-leads_to s (Name n) = link_target (name_link (slice_get s.switchboard.names n))
-leads_to s (Answer n) = link_target (answer_link (manage.pending_numbered n s.manager.pending))
+leads_to s (Name n) = link_target (option_map (λ k. k.link) (slice_get s.switchboard.names n))
+leads_to s (Answer n) = link_target (option_and_then (λ r. r.answer) (manage.pending_numbered n s.manager.pending))
 leads_to s h = None
-
-abbrev pub is_pid : Pid → Option Pid → Bool
-is_pid p other = option_map_or (pid_eq p) other false
 
 -- an address of q's that leads to p and knows fewer moves of it
 abbrev pub is_behind : OneKernel → Addresses → Pid → Pid → ℕ → Holder → Bool
-is_behind s a q p moves h = belongs_to q h && (is_pid p (leads_to s h) && nat_lt (a h).moves moves)
+is_behind s a q p moves h = belongs_to q h && (option_map_or (pid_eq p) (leads_to s h) false && nat_lt (a h).moves moves)
 
 -- an update at q: each address of q's that is behind names the place told
 abbrev pub updated_to : OneKernel → Addresses → Option Pid → Option (Pid × Place) → Addresses
@@ -145,16 +125,9 @@ addresses_by s v a (act.AllGoOn p) = given a (all_follow v a p (v.queue v.acting
 addresses_by s v a (act.Updates id) = updated s v a (v.told id)
 addresses_by s v a x = a
 
-abbrev pub addresses_after : OneKernel → View → Addresses → Line → Addresses
-addresses_after s v a l = addresses_by s v a (act_of l)
-
 abbrev pub links_at : List BootProcess → Pid → List Link
 links_at [] q = []
 links_at (p ∷ ps) q = if pid_eq p.pid q then p.links else links_at ps q
-
-abbrev pub nth_child : List BootProcess → ℕ → Option BootProcess
-nth_child ps zero = None
-nth_child ps (suc n) = slice_get ps n
 
 -- the boot file gives the first
 abbrev pub first_addresses : Boot → Addresses
@@ -163,7 +136,7 @@ first_addresses b (Owner p) = unmoved 0
 first_addresses b (Receiver id) = unmoved 0
 first_addresses b (Sender id) = unmoved 0
 first_addresses b (Enclosed id k) = unmoved 0
-first_addresses b (Child n) = unmoved (option_map_or (λ p. p.pid.home) (nth_child b.processes n) 0)
+first_addresses b (Child n) = unmoved (option_map_or (λ p. p.pid.home) (manage.child_numbered b.processes n) 0)
 first_addresses b (Name n) = unmoved 0
 first_addresses b (Answer n) = unmoved 0
 first_addresses b (AskedBy p) = unmoved 0

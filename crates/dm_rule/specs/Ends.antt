@@ -20,7 +20,7 @@ use Rattle.dm_line.specs.declared.end_line.Standing.TheVariants as standing
 use Rattle.dm_line.specs.declared.end_line.Doing.{Doing}
 use Rattle.dm_line.specs.declared.end_line.Doing.TheVariants as doing
 use Rattle.dm_line.specs.Todo.{or}
-use Rattle.dm_line.specs.Ends.{memory_lines, home_with, each_machine, list_line}
+use Rattle.dm_line.specs.Ends.{memory_lines, home_with, joined_below, list_line}
 use Rattle.dm_rule.specs.View.{View, Known, Here, Frozen, Incoming}
 use Rattle.dm_rule.specs.Addresses.{Addresses, Slot, Child, Name}
 use Rattle.dm_rule.specs.Point.{Point}
@@ -86,7 +86,7 @@ process_lines pt p (Some (kernel.Ended because)) = end.Ended p because ∷ []
 
 -- all of the first homes
 abbrev pub homes_with : Point → (Pid → List EndLine) → ℕ → List EndLine
-homes_with pt f n = each_machine (λ home. home_with f home (pt.kernel.made home)) n
+homes_with pt f n = joined_below (λ home. home_with f home (pt.kernel.made home)) n
 
 -- for each process that was ever made, by home and by number
 abbrev pub each_process : Point → (Pid → List EndLine) → List EndLine
@@ -111,14 +111,14 @@ abbrev pub queue_lines : Point → List EndLine
 queue_lines pt = each_process pt (λ p. queue_at pt.view p (first_with standing_of pt.view p pt.kernel.machines))
 
 abbrev pub holding_lines : Point → List EndLine
-holding_lines pt = each_machine (λ m. each_process pt (λ p. list_line (end.Holding m p) (pt.view.held m p))) pt.kernel.machines
+holding_lines pt = joined_below (λ m. each_process pt (λ p. list_line (end.Holding m p) (pt.view.held m p))) pt.kernel.machines
 
 abbrev pub inbox_lines : Point → List EndLine
-inbox_lines pt = each_machine (λ m. list_line (end.Inbox m) (pt.view.inbox m)) pt.kernel.machines
+inbox_lines pt = joined_below (λ m. list_line (end.Inbox m) (pt.view.inbox m)) pt.kernel.machines
 
 -- what was routed and not taken
 abbrev pub stream_lines : Point → List EndLine
-stream_lines pt = each_machine (λ a. each_machine (λ b. list_line (end.Stream a b) (untaken (pt.view.pair a b))) pt.kernel.machines) pt.kernel.machines
+stream_lines pt = joined_below (λ a. joined_below (λ b. list_line (end.Stream a b) (untaken (pt.view.pair a b))) pt.kernel.machines) pt.kernel.machines
 
 abbrev pub server_lines : Point → List EndLine
 server_lines pt =

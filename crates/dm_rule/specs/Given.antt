@@ -2,6 +2,7 @@
 use Rattle.std.specs.Prelude.{ℕ, ◌+◌, if◌then◌else◌, List, [], ◌∷◌, ◌++◌, length, map, slice_set}
 use Rattle.std.specs.Option.{option_map_or}
 use Rattle.std.specs.List.{enumerate_from}
+use Rattle.std.specs.Str.{bytes_eq}
 use Rattle.std.specs.declared.option.Option.{Option}
 use Rattle.std.specs.declared.option.Option.TheVariants.{None, Some}
 use Rattle.dm_link.specs.declared.Pid.{Pid}
@@ -28,34 +29,6 @@ use Rattle.dm_onekernel.specs.Step as kernel
 use Rattle.dm_rule.specs.View.{View}
 use Rattle.dm_rule.specs.Holders.{Slot, Owner, Receiver, Sender, Enclosed, Child, Name, Answer, AskedBy, Addresses, Gets, gets, acting_place, unmoved}
 
--- what a message bears, a row a kind: a user's, with what it carries; a request to make a process, with the links that it is to
--- begin with, or that it was made; a request that one move; a request for a piece of a data move, and an answer after which another
--- may follow
-pub data Burden : Type 0 where
-  Letter : (code : ℕ) → (channel : ℕ) → (body : List ℕ) → (links : List PlainLink) → Burden
-  Making : (links : List PlainLink) → Burden
-  Made : (child : Pid) → Burden
-  Going : Burden
-  Asking : Burden
-  Landing : Burden
-  Nothing : Burden
-
-abbrev pub burden_of : PlainWhat → Burden
-burden_of (what.User code channel body links) = Letter code channel body links
-burden_of (what.Create image links) = Making links
-burden_of (what.Created pid) = Made pid
-burden_of (what.Read base len) = Asking
-burden_of (what.Write base bytes) = Asking
-burden_of (what.Block bytes) = Landing
-burden_of what.Written = Landing
-burden_of what.Gone = Nothing
-burden_of what.Stop = Nothing
-burden_of what.Resume = Nothing
-burden_of what.Kill = Nothing
-burden_of what.NoRoom = Nothing
-burden_of (what.Move machine) = Going
-burden_of (what.Moved outcome) = Nothing
-
 -- the links of a message, in order, from places that are given
 abbrev pub encloses : MsgId → ℕ → List Place → List Gets
 encloses id k ps = map (λ e. gets (Enclosed id e.0) e.1) (enumerate_from k ps)
@@ -66,15 +39,15 @@ enclosed_from a id k ls = map (λ e. a (Enclosed id e.0)) (enumerate_from k ls)
 
 -- a process sends: over its link in slot r1, from where it is; the links that it encloses keep their places; what isn't a user
 -- message asks for the first piece of a data move, and the link's place is then the owner's too
-abbrev pub sends_burden : View → Addresses → Pid → PlainProcess → MsgId → Burden → List Gets
-sends_burden v a p x id (Letter code channel body links) =
+abbrev pub sends_burden : View → Addresses → Pid → PlainProcess → MsgId → PlainWhat → List Gets
+sends_burden v a p x id (what.User code channel body links) =
     gets (Receiver id) (a (Slot p (reg x.regs 1))) ∷ gets (Sender id) (acting_place v p) ∷ encloses id 0 (map (λ k. a (Slot p k)) (calls.listed x))
 sends_burden v a p x id w =
     gets (Receiver id) (a (Slot p (reg x.regs 1))) ∷ gets (Sender id) (acting_place v p) ∷ gets (Owner p) (a (Slot p (reg x.regs 1))) ∷ []
 
 -- only a call that sends gives addresses
 abbrev pub sends_next : View → Addresses → Pid → PlainProcess → MsgId → Option kernel.Trap → List Gets
-sends_next v a p x id (Some (kernel.Calls number (calls.Sends m y))) = sends_burden v a p x id (burden_of m.what)
+sends_next v a p x id (Some (kernel.Calls number (calls.Sends m y))) = sends_burden v a p x id m.what
 sends_next v a p x id next = []
 
 -- the send of a process that executes
@@ -85,17 +58,11 @@ send_gets s v a p id process = option_map_or (λ x. sends_next v a p x id (kerne
 abbrev pub fills : Pid → Option ℕ → Place → List Gets
 fills p slot place = option_map_or (λ k. gets (Slot p k) place ∷ []) slot []
 
--- only the calls that make a link or copy one fill a slot; a row a call
+-- only the calls that make a link or copy one fill a slot
 abbrev pub fills_by : View → Addresses → Pid → PlainProcess → calls.CallNumber → List Gets
 fills_by v a p x calls.Make = fills p (first_empty x.links) (acting_place v p)
 fills_by v a p x calls.Copy = fills p (first_empty x.links) (a (Slot p (reg x.regs 1)))
-fills_by v a p x calls.Exit = []
-fills_by v a p x calls.Out = []
-fills_by v a p x calls.Drop = []
-fills_by v a p x calls.Send = []
-fills_by v a p x calls.Receive = []
-fills_by v a p x calls.Move = []
-fills_by v a p x calls.Unknown = []
+fills_by v a p x number = []
 
 -- a call fills a slot only if it is not refused
 abbrev pub call_gets : View → Addresses → Pid → ℕ → Reply → Option PlainProcess → List Gets
@@ -113,14 +80,14 @@ receives_links a p id k slots (l ∷ ls) =
     fills p (first_empty slots) (a (Enclosed id k)) ++ receives_links a p id (k + 1) (slot_after slots l (first_empty slots)) ls
 
 -- only a user message brings links to a process
-abbrev pub receives_burden : Addresses → Pid → MsgId → PlainProcess → Burden → List Gets
-receives_burden a p id x (Letter code channel body links) = receives_links a p id 0 x.links links
+abbrev pub receives_burden : Addresses → Pid → MsgId → PlainProcess → PlainWhat → List Gets
+receives_burden a p id x (what.User code channel body links) = receives_links a p id 0 x.links links
 receives_burden a p id x w = []
 
 -- a living process takes a message of the bag
 abbrev pub reception_gets : Addresses → Pid → MsgId → Option PlainProcess → Option PlainMessage → List Gets
 reception_gets a p id process message =
-    option_map_or (λ x. option_map_or (λ m. receives_burden a p id x (burden_of m.what)) message []) process []
+    option_map_or (λ x. option_map_or (λ m. receives_burden a p id x m.what) message []) process []
 
 -- an answer goes back to where its request came from
 abbrev pub answer_gets : Addresses → MsgId → Place → List Gets
@@ -128,39 +95,40 @@ answer_gets a id sender = gets (Receiver (answer_id id)) (a (Sender id)) ∷ get
 
 -- the next request of a data move goes to its owner
 abbrev pub landing_gets : View → Addresses → Pid → Option pieces.Landed → List Gets
-landing_gets v a p None = []
-landing_gets v a p (Some (pieces.Done reply x)) = []
 landing_gets v a p (Some (pieces.Next request x)) = gets (Receiver request.id) (a (Owner p)) ∷ gets (Sender request.id) (acting_place v p) ∷ []
+landing_gets v a p landed = []
 
 -- what the kernel of a process does with a message for it: an answer, or the next request of its data move
-abbrev pub serves_burden : View → Addresses → MsgId → PlainMessage → PlainProcess → Burden → List Gets
-serves_burden v a id m x Asking = answer_gets a id (acting_place v m.to)
-serves_burden v a id m x Landing = landing_gets v a m.to (pieces.lands m.to x m x.status)
+abbrev pub serves_burden : View → Addresses → MsgId → PlainMessage → PlainProcess → PlainWhat → List Gets
+serves_burden v a id m x (what.Read base len) = answer_gets a id (acting_place v m.to)
+serves_burden v a id m x (what.Write base bytes) = answer_gets a id (acting_place v m.to)
+serves_burden v a id m x (what.Block bytes) = landing_gets v a m.to (pieces.lands m.to x m x.status)
+serves_burden v a id m x what.Written = landing_gets v a m.to (pieces.lands m.to x m x.status)
 serves_burden v a id m x w = []
 
 -- a message of the bag is served, only at a living process
 abbrev pub service_gets : OneKernel → View → Addresses → MsgId → Option PlainMessage → List Gets
 service_gets s v a id message =
-    option_map_or (λ m. option_map_or (λ x. serves_burden v a id m x (burden_of m.what)) (kernel.alive (s.processes m.to)) []) message []
+    option_map_or (λ m. option_map_or (λ x. serves_burden v a id m x m.what) (kernel.alive (s.processes m.to)) []) message []
 
 -- a child begins with the links that its request brought
 abbrev pub child_links : Addresses → Pid → MsgId → ℕ → List PlainLink → List Gets
 child_links a child id k ls = map (λ e. gets (Slot child e.0) (a (Enclosed id e.0))) (enumerate_from k ls)
 
 -- only a request to make a process brings links to it
-abbrev pub creates_burden : Addresses → MsgId → Pid → Burden → List Gets
-creates_burden a id child (Making links) = child_links a child id 0 links
+abbrev pub creates_burden : Addresses → MsgId → Pid → PlainWhat → List Gets
+creates_burden a id child (what.Create image links) = child_links a child id 0 links
 creates_burden a id child w = []
 
 -- a kernel makes a process, and answers
 abbrev pub creation_gets : View → Addresses → MsgId → Pid → Option PlainMessage → List Gets
 creation_gets v a id child message =
-    option_map_or (λ m. answer_gets a id (unmoved v.acting) ++ creates_burden a id child (burden_of m.what)) message []
+    option_map_or (λ m. answer_gets a id (unmoved v.acting) ++ creates_burden a id child m.what) message []
 
 -- the place of a name in the switchboard's list, counted from n
 abbrev pub place_named : List ℕ → List NamedLink → ℕ → ℕ
 place_named name [] n = n
-place_named name (k ∷ ks) n = if board.bytes_eq k.name name then n else place_named name ks (n + 1)
+place_named name (k ∷ ks) n = if bytes_eq k.name name then n else place_named name ks (n + 1)
 
 -- the link that an answer hands out
 abbrev pub board_finds : Addresses → MsgId → List NamedLink → List ℕ → board.Answer → List Gets
@@ -178,8 +146,8 @@ board_asks v a id sent names body asked =
     gets (Receiver sent) (a (Enclosed id 0)) ∷ gets (Sender sent) (unmoved v.acting) ∷ board_finds a sent names body asked.answer ++ board_keeps a id names asked.answer
 
 -- the switchboard answers over the first link; what it hands out keeps its place, and what it keeps too
-abbrev pub board_takes_burden : OneKernel → View → Addresses → MsgId → Burden → List Gets
-board_takes_burden s v a id (Letter code channel body (l ∷ ls)) =
+abbrev pub board_takes_burden : OneKernel → View → Addresses → MsgId → PlainWhat → List Gets
+board_takes_burden s v a id (what.User code channel body (l ∷ ls)) =
     board_asks v a id (id_of switchboard s.switchboard.sent) s.switchboard.names body (board.asks s.switchboard.names body ls)
 board_takes_burden s v a id w = []
 
@@ -189,16 +157,16 @@ manager_controls v a code sent = gets (Receiver sent.id) (a (Child code)) ∷ ge
 
 -- the manager: a request to make a process goes to a kernel, a control message and a request to move over the link to the child,
 -- and an answer over the link that came with the request; the link for the answer to a request is kept, if one came
-abbrev pub manager_tells_burden : View → Addresses → MsgId → ℕ → PlainMessage → Burden → List Gets
-manager_tells_burden v a id code sent (Making links) =
+abbrev pub manager_tells_burden : View → Addresses → MsgId → ℕ → PlainMessage → PlainWhat → List Gets
+manager_tells_burden v a id code sent (what.Create image links) =
     gets (Receiver sent.id) (unmoved sent.to.home) ∷ gets (Sender sent.id) (unmoved v.acting) ∷ gets (Answer sent.id.n) (a (Enclosed id 0)) ∷ encloses sent.id 0 (enclosed_from a id 1 links)
-manager_tells_burden v a id code sent (Letter c channel body links) = gets (Receiver sent.id) (a (Enclosed id 0)) ∷ gets (Sender sent.id) (unmoved v.acting) ∷ []
-manager_tells_burden v a id code sent Going = gets (Answer sent.id.n) (a (Enclosed id 0)) ∷ manager_controls v a code sent
+manager_tells_burden v a id code sent (what.User c channel body links) = gets (Receiver sent.id) (a (Enclosed id 0)) ∷ gets (Sender sent.id) (unmoved v.acting) ∷ []
+manager_tells_burden v a id code sent (what.Move machine) = gets (Answer sent.id.n) (a (Enclosed id 0)) ∷ manager_controls v a code sent
 manager_tells_burden v a id code sent w = manager_controls v a code sent
 
 -- what the manager sends for a user message, if anything
 abbrev pub manager_sends : View → Addresses → MsgId → ℕ → Option PlainMessage → List Gets
-manager_sends v a id code message = option_map_or (λ sent. manager_tells_burden v a id code sent (burden_of sent.what)) message []
+manager_sends v a id code message = option_map_or (λ sent. manager_tells_burden v a id code sent sent.what) message []
 
 -- an answer is passed on to whoever asked that a process be made, or move: over the link that was kept with request n
 abbrev pub manager_answers : View → Addresses → ℕ → Option PlainMessage → List Gets
@@ -206,27 +174,19 @@ manager_answers v a n message =
     option_map_or (λ sent. gets (Receiver sent.id) (a (Answer n)) ∷ gets (Sender sent.id) (unmoved v.acting) ∷ gets (Enclosed sent.id 0) (unmoved v.acting) ∷ []) message []
 
 -- the manager takes a message: a user's, or the answer to a request of its own
-abbrev pub manager_takes_burden : OneKernel → View → Addresses → PlainMessage → Burden → Option manage.ManagerTook → List Gets
+abbrev pub manager_takes_burden : OneKernel → View → Addresses → PlainMessage → PlainWhat → Option manage.ManagerTook → List Gets
 manager_takes_burden s v a m w None = []
-manager_takes_burden s v a m (Letter code channel body links) (Some t) = manager_sends v a m.id code t.message
-manager_takes_burden s v a m (Made child) (Some t) = gets (Child (length s.manager.children + 1)) (unmoved child.home) ∷ manager_answers v a m.id.n t.message
+manager_takes_burden s v a m (what.User code channel body links) (Some t) = manager_sends v a m.id code t.message
+manager_takes_burden s v a m (what.Created child) (Some t) = gets (Child (length s.manager.children + 1)) (unmoved child.home) ∷ manager_answers v a m.id.n t.message
 manager_takes_burden s v a m w (Some t) = manager_answers v a m.id.n t.message
 
 -- a server takes a message of the bag
 abbrev pub taking_gets : OneKernel → View → Addresses → MsgId → Option PlainMessage → List Gets
 taking_gets s v a id message =
-    option_map_or (λ m. if pid_eq m.to switchboard then board_takes_burden s v a id (burden_of m.what)
-    else manager_takes_burden s v a m (burden_of m.what) (manage.manager_takes s.manager s.machines (length s.images) m m.what)) message []
+    option_map_or (λ m. if pid_eq m.to switchboard then board_takes_burden s v a id m.what
+    else manager_takes_burden s v a m m.what (manage.manager_takes s.manager s.machines (length s.images) m m.what)) message []
 
--- a process that follows a request to move knows who sent it
-abbrev pub given_to_follow : Addresses → MsgId → Option PlainMessage → List Gets
-given_to_follow a id message = option_map_or (λ m. gets (AskedBy m.to) (a (Sender id)) ∷ []) message []
-
--- and answers where it is then
-abbrev pub given_at_end : View → Addresses → MsgId → Option Pid → List Gets
-given_at_end v a id process = option_map_or (λ p. gets (Receiver (answer_id id)) (a (AskedBy p)) ∷ gets (Sender (answer_id id)) (acting_place v p) ∷ []) process []
-
--- what each label gives, a row a label
+-- what each label gives, a row a label; a process that follows a request to move knows who sent it, and answers where it is then
 abbrev pub gives : OneKernel → View → Addresses → Label → List Gets
 gives s v a (label.Ran p k) = []
 gives s v a (label.Call p n c) = call_gets v a p n c (kernel.running s p)
@@ -242,5 +202,6 @@ gives s v a (label.Gone id) = answer_gets a id (record { at = v.acting; moves = 
 gives s v a (label.Took id) = taking_gets s v a id (s.bag id)
 gives s v a (label.Created id child) = creation_gets v a id child (s.bag id)
 gives s v a (label.NoSpace id f b) = answer_gets a id (unmoved v.acting)
-gives s v a (label.Asked id) = given_to_follow a id (s.bag id)
-gives s v a (label.Answered id o) = given_at_end v a id (s.noted id)
+gives s v a (label.Asked id) = option_map_or (λ m. gets (AskedBy m.to) (a (Sender id)) ∷ []) (s.bag id) []
+gives s v a (label.Answered id o) =
+    option_map_or (λ p. gets (Receiver (answer_id id)) (a (AskedBy p)) ∷ gets (Sender (answer_id id)) (acting_place v p) ∷ []) (s.noted id) []

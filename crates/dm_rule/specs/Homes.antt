@@ -9,11 +9,9 @@ use Rattle.dm_message.specs.declared.MsgId.{MsgId}
 use Rattle.dm_message.specs.Plain as what
 use Rattle.dm_message.specs.Plain.{PlainMessage, PlainWhat}
 use Rattle.dm_onekernel.specs.Kernel.{MoveNote, Pending, OneKernel}
-use Rattle.dm_onekernel.specs.Manager as manage
-use Rattle.dm_onekernel.specs.Step as kernel
 use Rattle.dm_rule.specs.Point.{Point}
 use Rattle.dm_rule.specs.Spots.{untaken}
-use Rattle.dm_rule.specs.Addresses.{Holder, Slot, Owner, Receiver, Sender, Enclosed, Child, Name, Answer, AskedBy, unmoved, link_target, slot_of, owner_of, name_link, answer_link}
+use Rattle.dm_rule.specs.Addresses.{Holder, Receiver, Sender, Enclosed, AskedBy, unmoved, link_target, leads_to}
 
 -- the links of a message
 abbrev pub links_in : PlainWhat → List PlainLink
@@ -51,15 +49,11 @@ asker_in (Some n) = Some n.asker
 
 -- whom a holder's address is of
 abbrev pub names : OneKernel → Holder → Option Pid
-names s (Slot p k) = link_target (slot_of (kernel.alive (s.processes p)) k)
-names s (Owner p) = owner_of (kernel.alive (s.processes p))
 names s (Receiver id) = to_of (s.bag id)
 names s (Sender id) = sender_of (s.bag id)
 names s (Enclosed id k) = link_target (enclosed_of (s.bag id) k)
-names s (Child n) = manage.child_numbered s.manager.children n
-names s (Name n) = link_target (name_link (slice_get s.switchboard.names n))
-names s (Answer n) = link_target (answer_link (manage.pending_numbered n s.manager.pending))
 names s (AskedBy p) = asker_in (s.notes p)
+names s h = leads_to s h
 
 -- each process of these has this home
 abbrev pub are_home : ℕ → List Pid → Bool

@@ -15,10 +15,10 @@ use Rattle.dm_onekernel.specs.Options.{bind}
 use Rattle.dm_onekernel.specs.Start.{start}
 use Rattle.dm_onekernel.specs.Step as kernel
 use Rattle.dm_line.specs.declared.line.Line.{Line}
-use Rattle.dm_rule.specs.Acts.{Act, act_of}
-use Rattle.dm_rule.specs.Acts as act
+use Rattle.dm_line.specs.declared.line.Line.TheVariants as line
+use Rattle.dm_rule.specs.Acts.{act_of}
 use Rattle.dm_rule.specs.View.{About, NothingElse, Target, View, about, view_after, first_view}
-use Rattle.dm_rule.specs.Addresses.{Addresses, addresses_after, first_addresses}
+use Rattle.dm_rule.specs.Addresses.{Addresses, addresses_by, first_addresses}
 
 -- the machine that a message says its receiver is to move to
 abbrev pub move_target : PlainWhat → About
@@ -32,12 +32,9 @@ pub record Point : Type 0 where
   pub addresses : Addresses
 
 -- the step of the kernel that a line is, if it is one
-abbrev pub step_in : Act → Option Label
-step_in (act.Steps l) = Some l
-step_in x = None
-
 abbrev pub label_of : Line → Option Label
-label_of l = step_in (act_of l)
+label_of (line.Label l) = Some l
+label_of l = None
 
 -- the labels among the lines
 abbrev pub labels : List Line → List Label
@@ -48,11 +45,8 @@ abbrev pub kernel_after : OneKernel → Option Label → Option OneKernel
 kernel_after s label = option_map_or (kernel.step s) label (Some s)
 
 -- where a process goes that is asked to move, no line says: the kernel's message does
-abbrev pub machine_in : Option PlainMessage → About
-machine_in message = option_map_or (λ m. move_target m.what) message NothingElse
-
 abbrev pub topic_by : OneKernel → About → Option Label → About
-topic_by s topic (Some (label.Asked id)) = machine_in (s.bag id)
+topic_by s topic (Some (label.Asked id)) = option_map_or (λ m. move_target m.what) (s.bag id) NothingElse
 topic_by s topic l = topic
 
 -- the view behind a line: what the line changes, and what the group is about then
@@ -61,7 +55,7 @@ seen s v l = about (view_after v l) (topic_by s (view_after v l).topic (label_of
 
 -- the point behind a line, where the kernel behind it is known
 abbrev pub moved : Point → Line → OneKernel → Point
-moved pt l s = record { kernel = s; view = seen pt.kernel pt.view l; addresses = addresses_after pt.kernel pt.view pt.addresses l }
+moved pt l s = record { kernel = s; view = seen pt.kernel pt.view l; addresses = addresses_by pt.kernel pt.view pt.addresses (act_of l) }
 
 -- where a run stands after one more line, if the kernel can take its label
 abbrev pub after_line : Point → Line → Option Point

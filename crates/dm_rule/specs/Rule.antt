@@ -41,8 +41,7 @@ use Rattle.dm_line.specs.declared.line.Line.TheVariants as line
 use Rattle.dm_line.specs.declared.line.Load.{Load}
 use Rattle.dm_line.specs.declared.line.Load.TheVariants as load
 use Rattle.dm_line.specs.Each.{sum_below}
-use Rattle.dm_rule.specs.Given as given
-use Rattle.dm_rule.specs.View.{View, Pair, SentLoad, Told, About, Of, Known, Here, Frozen, Incoming, target_in}
+use Rattle.dm_rule.specs.View.{View, Pair, SentLoad, Told, About, Of, Known, Here, Frozen, Incoming, target_in, at_least}
 use Rattle.dm_rule.specs.Point.{Point, after_line, move_target}
 use Rattle.dm_rule.specs.Parts.{Part, Says, Routes, Transmits, Spelled, spelled, pair_window}
 pub use Rattle.dm_rule.specs.Parts.{behind}
@@ -52,12 +51,12 @@ abbrev pub says : Label → Part
 says l = Says (line.Label l)
 
 -- a user message on a channel of the mask
-abbrev pub burden_is_awaited : ℕ → given.Burden → Bool
-burden_is_awaited mask (given.Letter code channel body links) = on_mask mask channel
+abbrev pub burden_is_awaited : ℕ → PlainWhat → Bool
+burden_is_awaited mask (what.User code channel body links) = on_mask mask channel
 burden_is_awaited mask w = false
 
 abbrev pub is_awaited : ℕ → Option PlainMessage → Bool
-is_awaited mask message = option_map_or (λ m. burden_is_awaited mask (given.burden_of m.what)) message false
+is_awaited mask message = option_map_or (λ m. burden_is_awaited mask m.what) message false
 
 -- the first of the queued messages that a process with this mask may take
 abbrev pub first_awaited : OneKernel → ℕ → List MsgId → Option MsgId
@@ -292,9 +291,6 @@ takes_on a b n others = taking_parts a b (n ∷ others) ++ Transmits b a (load.A
 abbrev pub less : ℕ → ℕ → ℕ
 less m n = if nat_le m n then m else n
 
-abbrev pub more : ℕ → ℕ → ℕ
-more m n = if nat_le m n then n else m
-
 -- an acknowledgement lets messages go that waited, up to the window
 abbrev pub let_go : Pair → ℕ → List ℕ
 let_go p acked = numbers_from p.gone (less (length p.ids - p.gone) (acked + pair_window - p.gone))
@@ -305,7 +301,7 @@ comes a b there back (load.Data n) =
     if nat_lt n there.taken then Says (line.Old a b n) ∷ Transmits b a (load.Ack there.taken) ∷ []
     else if nat_lt there.taken n then Says (line.Early a b n) ∷ Transmits b a (load.Ack there.taken) ∷ []
     else takes_on a b n (kept_from there.kept (n + 1) pair_window)
-comes a b there back (load.Ack n) = Says (line.Acked a b n) ∷ repeats b a (let_go back (more n back.acked))
+comes a b there back (load.Ack n) = Says (line.Acked a b n) ∷ repeats b a (let_go back (at_least back.acked n))
 
 abbrev pub arrives : ℕ → ℕ → Pair → Pair → Option SentLoad → List Part
 arrives a b there back sent = option_map_or (λ s. comes a b there back s.load) sent (Says line.Nothing ∷ [])

@@ -199,9 +199,7 @@ after_taken v a b n =
     taken_id (with_pair v a b (record p { taken = p.taken + 1; kept = filter (λ k. not (k == n)) p.kept })) b (oldest p)
 
 abbrev pub after_early : View → ℕ → ℕ → ℕ → View
-after_early v a b n =
-    let p = v.pair a b in
-    with_pair v a b (record p { kept = n ∷ filter (λ k. not (k == n)) p.kept })
+after_early v a b n = with_pair v a b (record (v.pair a b) { kept = n ∷ filter (λ k. not (k == n)) (v.pair a b).kept })
 
 -- the greater of two numbers
 abbrev pub at_least : ℕ → ℕ → ℕ

@@ -44,14 +44,14 @@ pub use Rattle.dm_rule.proofs.Moves.States.{front_kernels, front_one, front_way,
 pub use Rattle.dm_rule.proofs.Names.{About, Addresses, Again, Answer, AreStill, AskNone, AskedBy, Child, Enclosed, Forward, Frozen, Gets, Held, Here, Holder, Inbox, Incoming, IsIn, IsStep, IsStill, Known, LandsSo, Leads, LifeGrows, Line}
 pub use Rattle.dm_rule.proofs.Names.{Load, Made, MessageKind, Moves, Name, NamedLink, Next, NothingElse, Of, Owner, Owns, Pair, Part, Phase, Place, Point, Queue, Receiver, Regs, Rests, Routes, Runs, Says, Sender, ServerSends, Slot, Sort}
 pub use Rattle.dm_rule.proofs.Names.{Sound, Spelled, Spot, Stage, StandsAsBag, StandsNowhere, StandsOutside, StandsRight, Step, Target, Todo, Told, Transmits, Unknown, Untaken, View, accepts, after, after_head, after_label, after_line}
-pub use Rattle.dm_rule.proofs.Names.{after_proto, after_put, after_stage, after_step, after_taken, alive-is, all_follow, answer_link, answers_move, are_for_home, are_home, ascends, asker_in, at_hand-is, at_id, at_machine, at_pair}
-pub use Rattle.dm_rule.proofs.Names.{at_record, begins, behind, bind-is, board_takes_burden, board_takes_lem, burden_of, child_from, child_number, chunks_of, completing, cons_option, counts, dropped_for, ended, ends_by, ends_move-is}
+pub use Rattle.dm_rule.proofs.Names.{after_proto, after_put, after_stage, after_step, after_taken, alive-is, all_follow, answers_move, are_for_home, are_home, ascends, asker_in, at_hand-is, at_id, at_machine, at_pair}
+pub use Rattle.dm_rule.proofs.Names.{at_record, begins, behind, bind-is, board_takes_burden, board_takes_lem, child_number, chunks_of, completing, cons_option, counts, dropped_for, ended, ends_by, ends_move-is}
 pub use Rattle.dm_rule.proofs.Names.{filter, filter_map, first_gives, first_point, first_view, fits, forward_about, forwarded_for, forwards, forwards_on, free_room, front_of, given, gives, gives_piece, goes_out, gone_to, group_of, handled}
 pub use Rattle.dm_rule.proofs.Names.{handled_first, hears, held_for, holder_eq, id_eq-is, id_eq-same, is_apart, is_away, is_behind, is_between, is_counted, is_dropped, is_early, is_for_home, is_here, is_kernels, is_restart, is_told_back}
-pub use Rattle.dm_rule.proofs.Names.{kernel_after, kernel_hears, kind_comes, kind_leaves, known_at, knows, label_of, landing_gets, lands-is, leaves, leaves_for, length-append, lines_of, link_target, machine_in, manager_takes_burden}
-pub use Rattle.dm_rule.proofs.Names.{manager_takes_lem, marked, migrates, moved, moved_back, names, nexts, not_server, oldest, on_mask, option_and_then, option_map_or, outcome, own_given, own_id, owner_of, packet_line, pending_of}
+pub use Rattle.dm_rule.proofs.Names.{kernel_after, kernel_hears, kind_comes, kind_leaves, known_at, knows, label_of, landing_gets, lands-is, leaves, leaves_for, length-append, lines_of, link_target, manager_takes_burden}
+pub use Rattle.dm_rule.proofs.Names.{manager_takes_lem, marked, migrates, moved, moved_back, names, nexts, not_server, oldest, on_mask, option_and_then, option_map_or, outcome, own_given, own_id, packet_line, pending_of}
 pub use Rattle.dm_rule.proofs.Names.{pid_eq-is, pid_eq-same, pieces_of, place_known, place_told, plain_kind, process_told, puts, queued_for, receiver_in, receiver_of, reply_code, reply_eq, right_true, ring_at, routed_on, seen, sender_in}
-pub use Rattle.dm_rule.proofs.Names.{sender_of, sends_on, sent_at, served_told, serves_burden, slice_set, slot_of, slots_of, slots_with, sort_of, spelled, standing, start-sound, stayed, taken_id, takes_block, takes_chunk, target_of}
+pub use Rattle.dm_rule.proofs.Names.{sender_of, sends_on, sent_at, served_told, serves_burden, slice_set, slots_of, slots_with, sort_of, spelled, standing, start-sound, stayed, taken_id, takes_block, takes_chunk, target_of}
 pub use Rattle.dm_rule.proofs.Names.{tells_asker, times, to_kernel, to_of, told_back_gets, told_between, told_ended, told_here, told_server, told_step, topic_by, unentered, untaken, updated, updated_to, updates, view_after, when-is}
 pub use Rattle.dm_rule.proofs.Names.{without, without_front, without_id, ◌||◌}
 pub use Rattle.dm_rule.proofs.Once.{one_of}
@@ -82,10 +82,10 @@ pub use Rattle.dm_rule.proofs.Trails.Spares.{Outside, creates_what_spares, finds
 pub use Rattle.dm_rule.proofs.Trails.Spares.{spares_both, two_more}
 pub use Rattle.dm_rule.proofs.Trails.Steps.{destination_expects, source_holds}
 pub use Rattle.dm_rule.proofs.Turns.{served_keeps}
-pub use Rattle.dm_rule.specs.Addresses.{goes_between}
+pub use Rattle.dm_rule.specs.Addresses.{goes_between, owner_in}
 pub use Rattle.dm_rule.specs.Good.{IsRun}
 pub use Rattle.dm_rule.specs.Phases.{tells_between, tells_onward}
-pub use Rattle.dm_rule.specs.Point.{labels, with_label}
+pub use Rattle.dm_rule.specs.Point.{labels, with_label, move_target}
 pub use Rattle.dm_rule.specs.View.{first_told, rejoins, target_in}
 pub use Rattle.dm_rulelaws.specs.Fits.{Each, IsPending, KernelFits, LinkFits, Lives, NoteFits, PendingFits, ProcessFits, SlotFits, WhatFits, awaits, gives_no_right, has_bytes, is_for, is_server, kind_eq, move_fits, piece_fits}
 pub use Rattle.dm_rulelaws.specs.Fits.{status_awaits, takes_users}
@@ -93,3 +93,5 @@ pub use Rattle.dm_rulelaws.specs.Found.{Found, ListsStand, has_no_queue, has_not
 pub use Rattle.dm_rulelaws.specs.KnownStands.{KnownStands, agrees, rings, server_at, turns_here}
 pub use Rattle.dm_rulelaws.specs.Laws.{FitsAlways, FoundAlways, GoesOnAlways, KnownAlways, RuleDecides, ShorterBegins}
 pub use Rattle.dm_rulelaws.specs.Order.{LeadsBy, ReceivesInOrder, channel_in}
+pub use Rattle.dm_rule.specs.Holders.{acting_place, gets}
+pub use Rattle.std.specs.List.{position_from}

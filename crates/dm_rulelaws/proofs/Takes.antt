@@ -1,6 +1,6 @@
 -- What the manager does with a message, row by row: whatever holds where each row leads holds of what it does.
 use Rattle.dm_rulelaws.proofs.Names.{◌≡◌, ℕ, ◌+◌, ◌*◌, ◌==◌, ◌&&◌, Bool, true, false, List, [], ◌∷◌, ◌++◌, length, refl, subst, nat_lt, if◌then◌else◌, Option, None, Some, Pid, PlainLink, PlainMessage, PlainWhat, Pending, Manager, Outcome}
-use Rattle.dm_rulelaws.proofs.Names.{PendingKind, code_of_outcome, arith}
+use Rattle.dm_rulelaws.proofs.Names.{PendingKind, code_of_outcome, arith, option_map_or, slice_get}
 use Rattle.dm_onekernel.specs.Manager as manage
 
 -- a user message with these links
@@ -13,9 +13,10 @@ pub record Letter (w : PlainWhat) (links : List PlainLink) : Type 0 where
 -- it sends nothing, refuses, asks for a process, asks a child to move, tells a child to stop, go on or end, or hears that a process was made or not, or how a move ended
 pub record Manages (P : manage.ManagerTook → Type 0) (g : Manager) (machines images : ℕ) (m : PlainMessage) (w : PlainWhat) : Type 1 where
   pub ignores : P (record { manager = g; message = None })
-  pub refuses : (l : PlainLink) (ls : List PlainLink) → Letter w (l ∷ ls) → P (manage.answers_byte g l 2 [])
+  pub refuses : (l : PlainLink) (ls : List PlainLink) → Letter w (l ∷ ls) → P (manage.answers_over g (Some l) 2 [])
   pub asks : (machine image : ℕ) (l : PlainLink) (ls : List PlainLink) → Letter w (l ∷ ls) → (nat_lt machine machines && nat_lt image images) ≡ true → P (manage.asks_for g machine image l ls)
-  pub moves : (code : ℕ) (child : Pid) (machine : ℕ) (links : List PlainLink) → Letter w links → manage.child_numbered g.children code ≡ Some child → nat_lt machine machines ≡ true → P (manage.sends_request g PendingKind.Move child (PlainWhat.Move machine) (manage.first_link links))
+  pub moves : (code : ℕ) (child : Pid) (machine : ℕ) (links : List PlainLink) → Letter w links → manage.child_numbered g.children code ≡ Some child → nat_lt machine machines ≡ true
+      → P (manage.sends_request g PendingKind.Move child (PlainWhat.Move machine) (slice_get links 0))
   pub tells : (code : ℕ) (child : Pid) (v : PlainWhat) → manage.child_numbered g.children code ≡ Some child → ((Q : PlainWhat → Type 0) → Q PlainWhat.Stop → Q PlainWhat.Resume → Q PlainWhat.Kill → Q v) → P (manage.tells g child v)
   pub created : (child : Pid) (r : Pending) → w ≡ PlainWhat.Created child → manage.pending_numbered m.id.n g.pending ≡ Some r
       → P (manage.answers_over (record g { children = g.children ++ child ∷ []; pending = manage.without_pending m.id.n g.pending }) r.answer 0 (manage.control_link (length g.children + 1) ∷ []))
@@ -24,7 +25,8 @@ pub record Manages (P : manage.ManagerTook → Type 0) (g : Manager) (machines i
       → P (manage.answers_over (record g { pending = manage.without_pending m.id.n g.pending }) r.answer (code_of_outcome outcome) [])
 
 -- an answer goes over a link, if there is one
-pub by_over : (P : manage.ManagerTook → Type 0) (g : Manager) (o : Option PlainLink) (code : ℕ) (links : List PlainLink) → P (record { manager = g; message = None }) → ((l : PlainLink) → P (manage.answers_byte g l code links)) → P (manage.answers_over g o code links)
+pub by_over : (P : manage.ManagerTook → Type 0) (g : Manager) (o : Option PlainLink) (code : ℕ) (links : List PlainLink) → P (record { manager = g; message = None }) → ((l : PlainLink) → P (manage.answers_over g (Some l) code links))
+    → P (manage.answers_over g o code links)
 by_over P g None code links h k = h
 by_over P g (Some l) code links h k = k l
 
@@ -49,7 +51,7 @@ by_requests P g machines images m w (a ∷ b ∷ c ∷ d ∷ []) links h u =
 by_requests P g machines images m w _ links h u = by_bad P g machines images m w links h u
 
 by_control : (P : manage.ManagerTook → Type 0) (g : Manager) (machines images : ℕ) (m : PlainMessage) (w : PlainWhat) (code : ℕ) (child : Pid) (b c d : Bool) (links : List PlainLink) → Manages P g machines images m w → Letter w links → manage.child_numbered g.children code ≡ Some child
-    → P (manage.tells_child g child (if b then Some PlainWhat.Stop else if c then Some PlainWhat.Resume else if d then Some PlainWhat.Kill else None) links)
+    → P (option_map_or (manage.tells g child) (if b then Some PlainWhat.Stop else if c then Some PlainWhat.Resume else if d then Some PlainWhat.Kill else None) (manage.bad_request g links))
 by_control P g machines images m w code child true c d links h u is = h.tells code child PlainWhat.Stop is (λ Q stop resume kill. stop)
 by_control P g machines images m w code child false true d links h u is = h.tells code child PlainWhat.Resume is (λ Q stop resume kill. resume)
 by_control P g machines images m w code child false false true links h u is = h.tells code child PlainWhat.Kill is (λ Q stop resume kill. kill)
@@ -61,17 +63,18 @@ by_controls P g machines images m w code (Some child) (a ∷ []) links h u is = 
 by_controls P g machines images m w code (Some child) (a ∷ b ∷ []) links h u is =
     let bad = by_bad P g machines images m w links h u in
     by_test P (a == 5) (manage.moves_child g machines child b links) (manage.bad_request g links)
-    (λ e. by_test P (nat_lt b machines) (manage.sends_request g PendingKind.Move child (PlainWhat.Move b) (manage.first_link links)) (manage.bad_request g links) (h.moves code child b links u is) bad) bad
+    (λ e. by_test P (nat_lt b machines) (manage.sends_request g PendingKind.Move child (PlainWhat.Move b) (slice_get links 0)) (manage.bad_request g links) (h.moves code child b links u is) bad) bad
 by_controls P g machines images m w code None (a ∷ []) links h u is = by_bad P g machines images m w links h u
 by_controls P g machines images m w code None (a ∷ b ∷ []) links h u is = by_bad P g machines images m w links h u
 by_controls P g machines images m w code _ _ links h u is = by_bad P g machines images m w links h u
 
-by_no_room : (P : manage.ManagerTook → Type 0) (g : Manager) (machines images : ℕ) (m : PlainMessage) (o : Option Pending) (k : manage.ManagerTook) → Manages P g machines images m PlainWhat.NoRoom → manage.pending_numbered m.id.n g.pending ≡ o → manage.takes_no_room g m.id.n o ≡ Some k → P k
+by_no_room : (P : manage.ManagerTook → Type 0) (g : Manager) (machines images : ℕ) (m : PlainMessage) (o : Option Pending) (k : manage.ManagerTook) → Manages P g machines images m PlainWhat.NoRoom
+    → manage.pending_numbered m.id.n g.pending ≡ o → (manage.takes_answer g m.id.n g.children 1 []) o ≡ Some k → P k
 by_no_room P g machines images m None k h is e = cc
 by_no_room P g machines images m (Some r) k h is e = given P (manage.answers_over (record g { pending = manage.without_pending m.id.n g.pending }) r.answer 1 []) k (h.no_room r refl is) e
 
 by_moved : (P : manage.ManagerTook → Type 0) (g : Manager) (machines images : ℕ) (m : PlainMessage) (outcome : Outcome) (o : Option Pending) (k : manage.ManagerTook) → Manages P g machines images m (PlainWhat.Moved outcome) → manage.pending_numbered m.id.n g.pending ≡ o
-    → manage.takes_moved g m.id.n outcome o ≡ Some k → P k
+    → (manage.takes_answer g m.id.n g.children (code_of_outcome outcome) []) o ≡ Some k → P k
 by_moved P g machines images m outcome None k h is e = cc
 by_moved P g machines images m outcome (Some r) k h is e = given P (manage.answers_over (record g { pending = manage.without_pending m.id.n g.pending }) r.answer (code_of_outcome outcome) []) k (h.moved outcome r refl is) e
 

@@ -1,7 +1,7 @@
 -- The lines at the end hide nothing: no process and no server has a link to a kernel.
 use Rattle.dm_run.proofs.Names.{◌≡◌, ◌<◌, ℕ, zero, suc, ◌+◌, ◌*◌, ◌/◌, ◌==◌, Bool, true, false, if◌then◌else◌, List, [], ◌∷◌, ◌++◌, length, take, drop, refl, arith, ⊤, All, IfSome, All-nil, All-cons, All-append, All-head, All-tail, Option}
 use Rattle.dm_run.proofs.Names.{None, Some, Addr, Link, Pid, pid_of, MsgId, Process, SlotIsLawful, Regs, Here, Frozen, Incoming, Forward, Named, IsLawfulNamed, Pending, first_number, switchboard, manager, KernelKnown, Servers}
-use Rattle.dm_run.proofs.Names.{IsLawfulKnown, IsLawfulPair, IsLawfulState, Arrival, restarted, Wanted, Chunk, Block, Nothing, EndLine, Standing, or, trimmed, block_line, memory_lines, each_machine, home_with, list_line, HidesNothing}
+use Rattle.dm_run.proofs.Names.{IsLawfulKnown, IsLawfulPair, IsLawfulState, Arrival, restarted, Wanted, Chunk, Block, Nothing, EndLine, Standing, or, trimmed, block_line, memory_lines, joined_below, home_with, list_line, HidesNothing}
 use Rattle.dm_run.proofs.Names.{WorldState, of_known}
 use Rattle.dm_records.specs.declared.record.Record.TheVariants.{Ended}
 use Rattle.dm_line.specs.declared.end_line.EndLine.TheVariants as end
@@ -111,9 +111,9 @@ homes_hide : (w : WorldState) (f : Pid → List EndLine) (n : ℕ) → ((p : Pid
 homes_hide w f zero h = none_hide
 homes_hide w f (suc n) h = both_hide (ends.homes_with w f n) (home_with f n (w.nodes n).kernel.made) (homes_hide w f n h) (home_hides f n (w.nodes n).kernel.made h)
 
-machines_hide : (f : ℕ → List EndLine) (n : ℕ) → ((m : ℕ) → Hide (f m)) → Hide (each_machine f n)
+machines_hide : (f : ℕ → List EndLine) (n : ℕ) → ((m : ℕ) → Hide (f m)) → Hide (joined_below f n)
 machines_hide f zero h = none_hide
-machines_hide f (suc n) h = both_hide (each_machine f n) (f n) (machines_hide f n h) (h n)
+machines_hide f (suc n) h = both_hide (joined_below f n) (f n) (machines_hide f n h) (h n)
 
 names_hide : (ks : List Named) → All IsLawfulNamed ks → Hide (ends.name_lines ks)
 names_hide [] h = none_hide
@@ -152,18 +152,18 @@ queues_hide machines w =
     homes_hide w (ends.queue_of machines w) machines (λ p. lines_hide (ends.first_says (λ m. ends.record_queue p ((w.nodes m).kernel.records p)) machines)
     (first_hides (λ m. ends.record_queue p ((w.nodes m).kernel.records p)) machines (λ m l. queue_hides p ((w.nodes m).kernel.records p))))
 
-held_hides : (machines : ℕ) (w : WorldState) → Hide (each_machine (λ m. ends.homes_with w (ends.held_line w m) machines) machines)
+held_hides : (machines : ℕ) (w : WorldState) → Hide (joined_below (λ m. ends.homes_with w (ends.held_line w m) machines) machines)
 held_hides machines w =
     machines_hide (λ m. ends.homes_with w (ends.held_line w m) machines) machines
     (λ m. homes_hide w (ends.held_line w m) machines (λ p. listed_hides (end.Holding m p) (ends.names_of (ends.held_for ((w.nodes m).kernel.records p))) (λ is. tt)))
 
-inboxes_hide : (machines : ℕ) (w : WorldState) → Hide (each_machine (λ m. list_line (end.Inbox m) (ends.names_of (w.nodes m).kernel.inbox)) machines)
+inboxes_hide : (machines : ℕ) (w : WorldState) → Hide (joined_below (λ m. list_line (end.Inbox m) (ends.names_of (w.nodes m).kernel.inbox)) machines)
 inboxes_hide machines w =
     machines_hide (λ m. list_line (end.Inbox m) (ends.names_of (w.nodes m).kernel.inbox)) machines (λ m. listed_hides (end.Inbox m) (ends.names_of (w.nodes m).kernel.inbox) (λ is. tt))
 
-streams_hide : (machines : ℕ) (w : WorldState) → Hide (each_machine (λ a. each_machine (λ c. ends.stream_line w a c) machines) machines)
+streams_hide : (machines : ℕ) (w : WorldState) → Hide (joined_below (λ a. joined_below (λ c. ends.stream_line w a c) machines) machines)
 streams_hide machines w =
-    machines_hide (λ a. each_machine (λ c. ends.stream_line w a c) machines) machines (λ a. machines_hide (λ c. ends.stream_line w a c) machines (λ c. stream_hides w a c (a == c)))
+    machines_hide (λ a. joined_below (λ c. ends.stream_line w a c) machines) machines (λ a. machines_hide (λ c. ends.stream_line w a c) machines (λ c. stream_hides w a c (a == c)))
 
 -- a list of seven parts, as it is put together
 seven_hide : (a b c d e f g : List EndLine) → Hide a → Hide b → Hide c → Hide d → Hide e → Hide f → Hide g → Hide (a ++ b ++ c ++ d ++ e ++ f ++ g)
@@ -176,9 +176,9 @@ pub end_hides : (machines : ℕ) (w : WorldState) → 0 < machines → ((m : ℕ
 end_hides machines w some lawful =
     and_hide end.Final _ tt
     (seven_hide (ends.homes_with w (ends.process_lines machines w) machines) (ends.server_lines (w.nodes 0).kernel.servers) (ends.homes_with w (ends.queue_of machines w) machines)
-    (each_machine (λ m. ends.homes_with w (ends.held_line w m) machines) machines)
-    (each_machine (λ m. list_line (end.Inbox m) (ends.names_of (w.nodes m).kernel.inbox)) machines)
-    (each_machine (λ a. each_machine (λ c. ends.stream_line w a c) machines) machines)
+    (joined_below (λ m. ends.homes_with w (ends.held_line w m) machines) machines)
+    (joined_below (λ m. list_line (end.Inbox m) (ends.names_of (w.nodes m).kernel.inbox)) machines)
+    (joined_below (λ a. joined_below (λ c. ends.stream_line w a c) machines) machines)
     (end.Groups w.groups ∷ [])
     (processes_hide machines w lawful) (servers_hide (w.nodes 0).kernel.servers (lawful 0 some).servers) (queues_hide machines w) (held_hides machines w) (inboxes_hide machines w) (streams_hide machines w)
     (and_hide (end.Groups w.groups) [] tt none_hide))

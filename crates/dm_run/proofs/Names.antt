@@ -30,7 +30,7 @@ pub use Rattle.dm_places.proofs.Names.{Pending}
 pub use Rattle.dm_kernel.proofs.Names.{All-head, All-tail, Block, Chunk, Forward, Frozen, Global, Here, Incoming, IsLawfulKnown, IsLawfulPair, IsLawfulState, KernelKnown, Nothing, Vec, Wanted}
 pub use Rattle.dm_rulelaws.proofs.Decided.{shorter_begins}
 pub use Rattle.dm_rulelaws.proofs.Names.{IsRun}
-pub use Rattle.dm_movelaws.proofs.Names.{EndLine, Standing, act_of, block_line, each_machine, home_with, list_line, memory_lines, or, trimmed}
+pub use Rattle.dm_movelaws.proofs.Names.{EndLine, Standing, act_of, block_line, joined_below, home_with, list_line, memory_lines, or, trimmed}
 pub use Rattle.dm_settlelaws.proofs.Falls.TurnsFall.{turns_fall}
 pub use Rattle.dm_settlelaws.proofs.FewSteps.Few.{turns_left_few}
 pub use Rattle.dm_settlelaws.proofs.Names.{IsKept, IsSettleStep, Settle, Two, ends_settled, group_after, is_at_rest, stands_once_always, sum_below, turns_left}

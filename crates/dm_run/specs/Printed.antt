@@ -1,6 +1,7 @@
 -- What a run has printed: all of it, or as far as it came.
 use Rattle.std.specs.Prelude.{◌≡◌, ℕ, ◌<◌, ◌⊎◌, true, List, [], ◌++◌, length}
 use Rattle.std.specs.List.{All}
+use Rattle.std.specs.Option.{IsSomeAnd}
 use Rattle.std.specs.declared.option.Option.{Option}
 use Rattle.std.specs.declared.option.Option.TheVariants.{None, Some}
 use Rattle.dm_onekernel.specs.declared.boot.Boot.{Boot}
@@ -23,8 +24,7 @@ use Rattle.dm_outside.specs.Outside.{appended}
 
 -- there is a world: it is one of this boot file, with all its machines, and it stands for where the lines lead
 abbrev pub StandsFor : Boot → Point → Option World → Type 0
-StandsFor b end None = ⊥
-StandsFor b end (Some w) = IsWorld w × (w.boot ≡ b) × Stands b (world_state w) end
+StandsFor b end world = IsSomeAnd world (λ w. IsWorld w × (w.boot ≡ b) × Stands b (world_state w) end)
 
 -- no directive is left
 abbrev pub IsOver : Point → Todo → Type 0

@@ -13,7 +13,8 @@ pub use Rattle.dm_laws.proofs.Names.{Alive, Boot, BootImage, IsValid, Label, Lif
 pub use Rattle.dm_laws.proofs.Names.{first_number, id_eq, id_of, inl, inr, is_some, manager, nat_le, pid_of, switchboard, ⊤, ◌⊎◌}
 pub use Rattle.dm_line.proofs.Names.{eqb_tells}
 pub use Rattle.dm_line.specs.Each.{sum_below}
-pub use Rattle.dm_line.specs.Todo.{Two, begin_pass, below, here_or_later, in_pass, is_over, next_and_left, next_delivery, next_directive, next_pass, next_turn, pairs_of, pairs_with, pass_begun, settles, takes_turn}
+pub use Rattle.dm_line.specs.Todo.{Two, begin_pass, below, in_pass, is_over, next_and_left, next_delivery, next_directive, next_pass, next_turn, pairs_of, pairs_with, pass_begun, settles, takes_turn}
+pub use Rattle.dm_line.proofs.Deliveries.{here_or_later}
 pub use Rattle.dm_line.specs.declared.pass.Pass.{Pass}
 pub use Rattle.dm_line.specs.declared.pass.Pass.TheVariants.{Settle}
 pub use Rattle.dm_rule.proofs.Groups.{stands_once_always}
@@ -23,7 +24,7 @@ pub use Rattle.dm_rule.proofs.Names.{Receiver, Room, Routes, Says, Sender, SentL
 pub use Rattle.dm_rule.proofs.Names.{answers_move, arrives, asks_on, at_id, at_least, at_machine, at_pair, behind, behind_count, bind-is, board_took, chunks_of, comes, comes_to, creation_parts, drop_parts, dropped_for, ended_handles}
 pub use Rattle.dm_rule.proofs.Names.{ends_by, filter, first_point, first_view, fits, follows_by, forwarded_for, forwards_on, free_room, goes_out, gone_after, group_of, handled, has, has_mail, has_room, hears, held_for, here_handles}
 pub use Rattle.dm_rule.proofs.Names.{id_eq-is, id_eq-same, is_between, is_kernels, is_quiet, is_told_back, kept_from, kernel_handles, kernel_hears, leads, leads_on, leaves, leaves_for, less, let_go, lines_of, manager_parts, marked}
-pub use Rattle.dm_rule.proofs.Names.{marked_at, migrates, more, moved, next_step, numbers_from, oldest, outcome, outstanding_count, own_id, packet_line, pair_window, pieces_of, place_told, plain_kind, process_handles, process_told, puts}
+pub use Rattle.dm_rule.proofs.Names.{marked_at, migrates, moved, next_step, numbers_from, oldest, outcome, outstanding_count, own_id, packet_line, pair_window, pieces_of, place_told, plain_kind, process_handles, process_told, puts}
 pub use Rattle.dm_rule.proofs.Names.{queued_for, receiver_of, repeats, resends, right_true, routed_on, routes, says, seen, sends_on, served_told, slice_set, sort_of, spelled, standing, taken_id, takes_block, takes_chunk, takes_on}
 pub use Rattle.dm_rule.proofs.Names.{taking_parts, target_of, tells_asker, times, to_kernel, to_of, told_ended, told_here, told_server, told_step, turns, untaken, view_after, without_front, ◌||◌}
 pub use Rattle.dm_rule.proofs.Pairs.{Pairs, Pairs-always, Pairs-group, Pairs-start, acked_out_by, pair_home, pairs_stand_always}
@@ -46,7 +47,7 @@ pub use Rattle.dm_movelaws.proofs.At.RestOnly.{dropped_known}
 pub use Rattle.dm_movelaws.proofs.At.RestPairs.{routed_always}
 pub use Rattle.dm_movelaws.proofs.Ends.Parts.{count-append}
 pub use Rattle.dm_movelaws.proofs.Ends.Sources.{line_ids}
-pub use Rattle.dm_movelaws.proofs.Names.{AllFit, AtRest, ByHolder, ByOwn, EndLine, GroupIs, IsNamed, Standing, Stood, alive_lines, awaits, based_always, block_line, child_lines, count, doing_of, drop-nil, each_machine, each_process}
+pub use Rattle.dm_movelaws.proofs.Names.{AllFit, AtRest, ByHolder, ByOwn, EndLine, GroupIs, IsNamed, Standing, Stood, alive_lines, awaits, based_always, block_line, child_lines, count, doing_of, drop-nil, joined_below, each_process}
 pub use Rattle.dm_movelaws.proofs.Names.{end_lines, first_with, forwarded_acting, handles, holding_lines, home_with, homes_with, inbox_lines, is_moving, landing_parts, line_view, link_lines, list_line, memory_lines, migrates_fit}
 pub use Rattle.dm_movelaws.proofs.Names.{more_front, name_lines, onward, or, pair_same, pending_lines, process_lines, queue_at, queue_lines, queued_acting, run_always, server_lines, set_is, set_other, slot_line, standing_of, state_lines}
 pub use Rattle.dm_movelaws.proofs.Names.{stood, stood_at, stream_lines, taken_pair, touches, trimmed, turns_fit}

@@ -19,8 +19,7 @@ use Rattle.dm_rule.specs.View.{View}
 abbrev pub IsSettleStep : View → Step → Type 0
 IsSettleStep v (step.Turn m) = has_mail v m ≡ true
 IsSettleStep v (step.Deliver a c k) = undelivered v a c ≡ Some k
-IsSettleStep v (step.Tick m) = ⊥
-IsSettleStep v (step.Migrate p m) = ⊥
+IsSettleStep v s = ⊥
 
 -- how many turns a step of a settle is
 abbrev pub turns_in : Step → ℕ
@@ -39,10 +38,8 @@ pub record SettleGoes (n : ℕ) (v : View) (t : Todo) : Type 0 where
 
 -- the last directive is a settle
 abbrev pub is_settle_directive : Directive → Bool
-is_settle_directive (directive.One s) = false
-is_settle_directive directive.Round = false
-is_settle_directive (directive.Spin n) = false
 is_settle_directive directive.Settle = true
+is_settle_directive d = false
 
 abbrev pub ends_settled : List Directive → Bool
 ends_settled [] = false
@@ -52,8 +49,7 @@ ends_settled (d ∷ e ∷ ds) = ends_settled (e ∷ ds)
 -- a line of the end that says of nothing that it is on its way, and of no process that it leaves or comes
 abbrev pub stands_here : Standing → Bool
 stands_here standing.Here = true
-stands_here standing.Leaving = false
-stands_here standing.Arriving = false
+stands_here s = false
 
 abbrev pub is_at_rest : EndLine → Bool
 is_at_rest end.Final = true

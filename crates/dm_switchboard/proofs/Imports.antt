@@ -8,7 +8,7 @@ pub use Rattle.std.proofs.lemmas.List.Elements.{All-map, All-push}
 pub use Rattle.std.specs.Cmp.Lexicographic.{pointwise}
 pub use Rattle.std.specs.List.{All}
 pub use Rattle.std.specs.Map.{lookup}
-pub use Rattle.std.specs.Option.{IfSome, option_map}
+pub use Rattle.std.specs.Option.{IfSome, option_map, option_map_or}
 pub use Rattle.std.specs.Prelude.{IfOk, OnErr}
 pub use Rattle.std.specs.declared.option.Option.{Option}
 pub use Rattle.std.specs.declared.option.Option.TheVariants.{None}

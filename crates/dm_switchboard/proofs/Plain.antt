@@ -1,7 +1,7 @@
 -- The switchboard's table and that of the kernel without machines.
 use Rattle.dm_switchboard.proofs.Imports.{◌≡◌, ℕ, ◌+◌, Bool, true, false, ◌==◌, if◌then◌else◌, List, [], ◌∷◌, ◌++◌, map, refl, sym, ap, ◌∙◌, arith, Option, None, Result, Ok, Err, IfOk, option_map, ArrayVec, Pid, Link, retargeted_link}
 use Rattle.dm_switchboard.proofs.Imports.{plain_link, NoMemory, Message, plain_message, plain_what, with_what, is_general, switchboard, bytes_eq, is_name, Took, Reply, Board, Named, plain_board, plain_named, retargeted_named, plain_taken}
-use Rattle.dm_switchboard.proofs.Imports.{plainly_taken, Asked, Taken, answer_over, asks, asks_to_look_up, asks_to_register, bad_request, found_or_unknown, link_named, looks_up, registers, registers_new, takes_request}
+use Rattle.dm_switchboard.proofs.Imports.{plainly_taken, Asked, Taken, answer_over, asks, asks_to_look_up, asks_to_register, bad_request, found_or_unknown, link_named, looks_up, registers, registers_new, takes_request, option_map_or}
 use Rattle.std.specs.declared.option.Option.TheVariants.{Some}
 use Rattle.dm_message.specs.declared.What.TheVariants as what
 use Rattle.dm_onekernel.specs.Switchboard as one
@@ -37,12 +37,12 @@ plain_push : (ks : List Named) (k : Named) → map plain_named (ks ++ k ∷ []) 
 plain_push [] k = refl
 plain_push (x ∷ ks) k = ap (λ ns. plain_named x ∷ ns) (plain_push ks k)
 
-plain_found : (o : Option Link) → one.found_or_unknown (option_map plain_link o) ≡ plain_reply (found_or_unknown o)
+plain_found : (o : Option Link) → (option_map_or one.Found (option_map plain_link o) one.Unknown) ≡ plain_reply (found_or_unknown o)
 plain_found None = refl
 plain_found (Some l) = refl
 
 plain_looks_up : (ks : List Named) (name : List ℕ) → one.looks_up (map plain_named ks) name ≡ plain_asked (looks_up ks name)
-plain_looks_up ks name = λ i. record { names = map plain_named ks; answer = (ap one.found_or_unknown (plain_link_named name ks) ∙ plain_found (link_named name ks)) i }
+plain_looks_up ks name = λ i. record { names = map plain_named ks; answer = (ap (option_map_or one.Found (plain_link_named name ks) one.Unknown) ∙ plain_found (link_named name ks)) i }
 
 plain_registers_new : (ks : List Named) (name : List ℕ) (l : Link) (kept : Option Link) → one.registers_new (map plain_named ks) name (plain_link l) (option_map plain_link kept) ≡ plain_asked (registers_new ks name l kept)
 plain_registers_new ks name l None = λ i. record { names = sym (plain_push ks (record { name = name; link = l })) i; answer = one.Registered }
@@ -78,7 +78,7 @@ plain_asks ks (operation ∷ name) ls =
     ∙ sym (done_to_both plain_asked (operation == 2) (asks_to_look_up ks name ls) (bad_request ks)))
     ∙ sym (done_to_both plain_asked (operation == 1) (asks_to_register ks name ls) (looks_or_not ks operation name ls))
 
-pub plain_answer : (here n : ℕ) (l : Link) (r : Reply) → plain_message (answer_over here n l r) ≡ Some (one.goes_over switchboard n (plain_link l) (one.code_of_answer (plain_reply r) ∷ []) (one.links_of_answer (plain_reply r)))
+pub plain_answer : (here n : ℕ) (l : Link) (r : Reply) → plain_message (answer_over here n l r) ≡ Some (one.goes_over switchboard n (plain_link l) (((one.answer_row (plain_reply r)).0) ∷ []) ((one.answer_row (plain_reply r)).1))
 plain_answer here n l reply.Registered = refl
 plain_answer here n l (reply.Found k) = refl
 plain_answer here n l reply.Unknown = refl

@@ -26,8 +26,9 @@ pub use Rattle.dm_procman.proofs.Names.{Boot, IsValid, ◌||◌}
 pub use Rattle.dm_line.proofs.Below.{fails_at}
 pub use Rattle.dm_line.proofs.Names.{all_below, eqb_tells, false≢true}
 pub use Rattle.dm_line.specs.Each.{sum_below}
-pub use Rattle.dm_line.specs.Ends.{before_zeros, each_machine, home_with, list_line, memory_lines, trimmed}
-pub use Rattle.dm_line.specs.Todo.{Next, Todo, Two, begin_pass, below, here_or_later, in_pass, is_over, next_delivery, next_directive, next_pass, next_turn, or, pairs_of, pairs_with, settles, takes_turn}
+pub use Rattle.dm_line.specs.Ends.{before_zeros, joined_below, home_with, list_line, memory_lines, trimmed}
+pub use Rattle.dm_line.specs.Todo.{Next, Todo, Two, begin_pass, below, in_pass, is_over, next_delivery, next_directive, next_pass, next_turn, or, pairs_of, pairs_with, settles, takes_turn}
+pub use Rattle.dm_line.proofs.Deliveries.{here_or_later}
 pub use Rattle.dm_line.specs.declared.end_line.EndLine.{EndLine}
 pub use Rattle.dm_line.specs.declared.pass.Pass.{Pass}
 pub use Rattle.dm_line.specs.declared.pass.Pass.TheVariants.{Round, Settle}

@@ -28,7 +28,7 @@ use Rattle.dm_line.specs.declared.end_line.Standing.TheVariants as standing
 use Rattle.dm_line.specs.declared.end_line.Doing.{Doing}
 use Rattle.dm_line.specs.declared.end_line.Doing.TheVariants as doing
 use Rattle.dm_line.specs.Todo.{or}
-use Rattle.dm_line.specs.Ends.{memory_lines, each_machine, home_with, list_line}
+use Rattle.dm_line.specs.Ends.{memory_lines, joined_below, home_with, list_line}
 use Rattle.dm_kernel.specs.State.{KernelKnown}
 use Rattle.dm_kernel.specs.declared.kernel.Servers.{Servers}
 use Rattle.dm_world.specs.World.{WorldState}
@@ -171,9 +171,9 @@ end_lines machines w =
     ∷ homes_with w (process_lines machines w) machines
     ++ server_lines (w.nodes 0).kernel.servers
     ++ homes_with w (queue_of machines w) machines
-    ++ each_machine (λ m. homes_with w (held_line w m) machines) machines
-    ++ each_machine (λ m. list_line (end.Inbox m) (names_of (w.nodes m).kernel.inbox)) machines
-    ++ each_machine (λ a. each_machine (λ c. stream_line w a c) machines) machines
+    ++ joined_below (λ m. homes_with w (held_line w m) machines) machines
+    ++ joined_below (λ m. list_line (end.Inbox m) (names_of (w.nodes m).kernel.inbox)) machines
+    ++ joined_below (λ a. joined_below (λ c. stream_line w a c) machines) machines
     ++ end.Groups w.groups
     ∷ []
 

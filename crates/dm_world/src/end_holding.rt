@@ -1,7 +1,7 @@
 //! The messages that machines hold at the end of a run for processes that leave or come.
 ghost use Rattle.std.specs.Prelude.{◌≡◌, ◌<◌, ◌++◌, OnOk, length};
 ghost use Rattle.dm_records.specs.Records.{at};
-ghost use Rattle.dm_line.specs.Ends.{each_machine, home_with, list_line};
+ghost use Rattle.dm_line.specs.Ends.{joined_below, home_with, list_line};
 ghost use Rattle.dm_line.specs.declared.end_line.EndLine.TheVariants as end;
 ghost use Rattle.dm_world.specs.Ends.{MayEnd, held_for, held_line, homes_with, names_of};
 ghost use Rattle.dm_world.specs.Meets.{IsWorld, world_state};
@@ -22,7 +22,7 @@ impl World {
         requires world { IsWorld self.now }
         requires may { MayEnd (length self.now.boot.machines) (world_state self.now) }
         ensures { OnOk result (lines.new.items ≡ lines.old.items ++
-            each_machine (λ m. homes_with (world_state self.now) (held_line (world_state self.now) m) (length self.now.boot.machines))
+            joined_below (λ m. homes_with (world_state self.now) (held_line (world_state self.now) m) (length self.now.boot.machines))
             (length self.now.boot.machines)) }
     {
         for m in 0..self.machines() {

@@ -3,7 +3,7 @@ ghost use Rattle.std.specs.Prelude.{◌≡◌, ◌<◌, ◌≤◌, ◌+◌, ◌^
 ghost use Rattle.dm_records.specs.Records.{at};
 ghost use Rattle.dm_node.specs.Meets as node;
 ghost use Rattle.dm_node.specs.Meets.{HasStreams};
-ghost use Rattle.dm_line.specs.Ends.{each_machine, home_with, list_line};
+ghost use Rattle.dm_line.specs.Ends.{joined_below, home_with, list_line};
 ghost use Rattle.dm_line.specs.declared.end_line.EndLine.TheVariants as end;
 ghost use Rattle.dm_world.specs.Ends.{MayEnd, SaysSome, awaited_lines, end_lines, first_awaited, first_had, homes_with, names_of, process_lines, queue_of, record_lines, record_queue, stream_line};
 ghost use Rattle.dm_world.specs.Meets.{IsWorld, world_state};
@@ -179,7 +179,7 @@ impl World {
     fn say_inboxes(&self, lines: &mut Vec<EndLine>) -> Result<(), NoMemory>
         requires { IsWorld self.now }
         ensures { OnOk result (lines.new.items ≡ lines.old.items ++
-            each_machine (λ m. list_line (end.Inbox m) (names_of ((world_state self.now).nodes m).kernel.inbox)) (length self.now.boot.machines)) }
+            joined_below (λ m. list_line (end.Inbox m) (names_of ((world_state self.now).nodes m).kernel.inbox)) (length self.now.boot.machines)) }
     {
         for m in 0..self.machines() {
             say_inbox(self.machine(m), m, lines)?;
@@ -191,7 +191,7 @@ impl World {
     fn say_streams(&self, lines: &mut Vec<EndLine>) -> Result<(), NoMemory>
         requires { IsWorld self.now }
         ensures { OnOk result (lines.new.items ≡ lines.old.items ++
-            each_machine (λ a. each_machine (λ c. stream_line (world_state self.now) a c) (length self.now.boot.machines)) (length self.now.boot.machines)) }
+            joined_below (λ a. joined_below (λ c. stream_line (world_state self.now) a c) (length self.now.boot.machines)) (length self.now.boot.machines)) }
     {
         for from in 0..self.machines() {
             self.say_streams_from(from, lines)?;
@@ -204,7 +204,7 @@ impl World {
         requires world { IsWorld self.now }
         requires within { from < length self.now.boot.machines }
         ensures { OnOk result (lines.new.items ≡ lines.old.items ++
-            each_machine (λ c. stream_line (world_state self.now) from c) (length self.now.boot.machines)) }
+            joined_below (λ c. stream_line (world_state self.now) from c) (length self.now.boot.machines)) }
     {
         for to in 0..self.machines() {
             self.say_stream(from, to, lines)?;

@@ -1,7 +1,7 @@
 -- The delivery of a packet: the machines do what the rule says.
 use Rattle.dm_mirror.proofs.Names.{◌≡◌, ◌≢◌, ℕ, ◌+◌, ◌-◌, ◌<◌, ◌≤◌, List, [], ◌∷◌, length, refl, ap, ◌∙◌, sym, subst, arith, Some, Message, Sending, with_acked, Receiving, after_arrival, Arrived, Data, Ack, load_at, Sent, after_mark, Boot}
-use Rattle.dm_mirror.proofs.Names.{nat_tests, Line, at_pair, Pair, oldest, at_least, Point, moved, has, kept_from, less, more, numbers_from, repeats, taken_pair, Placed, NodeState, here, with_message, with_receiver, with_sender}
-use Rattle.dm_mirror.proofs.Names.{acknowledges, before, lets_go, takes_kept, then_acknowledges, WorldState, History, StandsWith, less-right, more-is, ◌^◌, slice_get, option_map, Ok, Option, slice_get-map, Packet, packet_of, spelling}
+use Rattle.dm_mirror.proofs.Names.{nat_tests, Line, at_pair, Pair, oldest, at_least, Point, moved, has, kept_from, less, numbers_from, repeats, taken_pair, Placed, NodeState, here, with_message, with_receiver, with_sender}
+use Rattle.dm_mirror.proofs.Names.{acknowledges, before, lets_go, takes_kept, then_acknowledges, WorldState, History, StandsWith, less-right, ◌^◌, slice_get, option_map, Ok, Option, slice_get-map, Packet, packet_of, spelling}
 use Rattle.dm_mirror.proofs.Names.{packet_again, load_in, bytes_at, line_of, nat_le, nat_lt, true, drop, Result, PacketError, ◌>>=◌, IsRoute, only_packet, message, read_rest, spell_message, IsField-number, guard_ok, outstanding}
 use Rattle.dm_mirror.proofs.Names.{MayCome-stands, get-drop, IsValid, IsReadable, zero, suc, eqb_tells, bind-is, MsgId, next, due, bind, Spelled, packet_line, spelled, after, at_machine, View, view_after, IsNet, IsNetLine, comes_in}
 use Rattle.dm_mirror.proofs.Names.{lets_next, takes_next, Acted, OneKernel, CountsStand, behind}
@@ -95,7 +95,7 @@ module _ (b : Boot) (w : WorldState) (pt : Point) (l : Placed) (h : History) (a 
       subst (λ (z : Arrived Message). Follows b c (marked_world w a c k) (begun pt a c k) l (node.comes next a n z) (Part.Says (Line.Taken a c n) ∷ taken_parts b l a c apart (pt.view.pair a c).kept (n + 1) 8)) (sym (arrival_taken ((w.nodes c).receivers a) n m is)) (taken_follows 8 n m e is)
 
   -- an acknowledgement
-  pub acked_comes : (n : ℕ) → load_at (h.packets a c) k ≡ Some (Ack n) → Comes (Ack n) (Part.Says (Line.Acked a c n) ∷ repeats c a (group.let_go (pt.view.pair c a) (more n (pt.view.pair c a).acked)))
+  pub acked_comes : (n : ℕ) → load_at (h.packets a c) k ≡ Some (Ack n) → Comes (Ack n) (Part.Says (Line.Acked a c n) ∷ repeats c a (group.let_go (pt.view.pair c a) (at_least (pt.view.pair c a).acked n)))
   acked_comes n e =
       let next : NodeState = with_sender (w.nodes c) a (with_acked ((w.nodes c).senders a) n) in
       let v : WorldState = come_to w a c k next in
@@ -109,8 +109,8 @@ module _ (b : Boot) (w : WorldState) (pt : Point) (l : Placed) (h : History) (a 
       let now : q.view.pair c a ≡ record (pt.view.pair c a) { acked = at_least (pt.view.pair c a).acked n } =
       two_same first c a p ∙ ap (λ (z : Pair). record z { acked = at_least z.acked n }) (two_other pt.view.pair a c mark c a (back_other a c apart)) in
       let old : Pair = pt.view.pair c a in
-      let j : ℕ = less (length old.ids - old.gone) (more n old.acked + 8 - old.gone) in
-      let room : j ≡ room_of (q.view.pair c a) = ap (λ (i : ℕ). less (length old.ids - old.gone) (i + 8 - old.gone)) (more-is old.acked n) ∙ sym (ap room_of now) in
+      let j : ℕ = less (length old.ids - old.gone) (at_least old.acked n + 8 - old.gone) in
+      let room : j ≡ room_of (q.view.pair c a) = sym (ap room_of now) in
       let small : j ≤ 8 = subst (λ (i : ℕ). i ≤ 8) (sym room) (grind (arith, nat_tests, less-right, back_pair b v q l g a c stands a_in c_in apart)) in
       let rest = lets_follow b l a c apart 8 v q g stands a_in c_in j room small in
       let rest_from = subst (λ (i : ℕ). Follows b c v q l (lets_go 8 (v.nodes c) a) (repeats c a (numbers_from i j))) (ap (λ (z : Pair). z.gone) now) rest in

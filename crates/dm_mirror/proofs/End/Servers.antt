@@ -1,7 +1,7 @@
 -- What is said of the servers at the end, and of the messages on the way between two machines.
 use Rattle.dm_mirror.proofs.Names.{◌≡◌, ◌≢◌, ℕ, suc, ◌+◌, ◌-◌, ◌==◌, Bool, true, false, List, [], ◌∷◌, ◌++◌, map, drop, refl, ap, ◌∙◌, sym, arith, if◌then◌else◌, slice_get, Some, nat_tests, drop-drop, drop-map, drop_all, Addr, place_of}
 use Rattle.dm_mirror.proofs.Names.{Place, plain_link, Message, Boot, switchboard, manager, Switchboard, Manager, Named, plain_named, plain_child, plain_pending, plain_manager, EndLine, Addresses, Child, Name, list_line, HomeStands, Point}
-use Rattle.dm_mirror.proofs.Names.{Placed, Mirrors, WorldState, History, PairStands, zero, ◌<◌, Option, None, Pid, pid_of, MsgId, first_number, or, home_with, each_machine, AreMessages, option_map, Link, link_at, Process, plain_process}
+use Rattle.dm_mirror.proofs.Names.{Placed, Mirrors, WorldState, History, PairStands, zero, ◌<◌, Option, None, Pid, pid_of, MsgId, first_number, or, home_with, joined_below, AreMessages, option_map, Link, link_at, Process, plain_process}
 use Rattle.dm_mirror.proofs.Names.{Standing, Slot, ◌⊎◌, subst, inl, inr, cases_Bool, false≢true, MessageKind, Phase, Nowhere, Rests, Over, Moves, IsIn, IsToken, kind_comes, is_away, is_due, is_restart, kind_leaves, View, Known, Unknown}
 use Rattle.dm_mirror.proofs.Names.{Here, Frozen, Incoming, Ended, eq_self, is_it, left_true, not_false, message_id}
 use Rattle.dm_places.proofs.Names.{Pending}
@@ -92,10 +92,10 @@ homes_same w pt f g (suc home) made same =
     ap (λ (ls : List EndLine). ls ++ home_with f home (w.nodes home).kernel.made) (homes_same w pt f g home (λ m h. made m (omega (arith, h))) (λ other n h k. same other n (omega (arith, h)) k))
     ∙ ap (λ (ls : List EndLine). rule.homes_with pt g home ++ ls) (ap (home_with f home) (made home (omega arith)) ∙ home_same f g home (pt.kernel.made home) (λ k h. same home k (omega arith) h))
 
-pub machines_same : (f g : ℕ → List EndLine) (n : ℕ) → ((m : ℕ) → m < n → f m ≡ g m) → each_machine f n ≡ each_machine g n
+pub machines_same : (f g : ℕ → List EndLine) (n : ℕ) → ((m : ℕ) → m < n → f m ≡ g m) → joined_below f n ≡ joined_below g n
 machines_same f g zero same = refl
 machines_same f g (suc n) same =
-    ap (λ (ls : List EndLine). ls ++ f n) (machines_same f g n (λ m h. same m (omega (arith, h)))) ∙ ap (λ (ls : List EndLine). each_machine g n ++ ls) (same n (omega arith))
+    ap (λ (ls : List EndLine). ls ++ f n) (machines_same f g n (λ m h. same m (omega (arith, h)))) ∙ ap (λ (ls : List EndLine). joined_below g n ++ ls) (same n (omega arith))
 
 -- the first of some machines, where at most one says something
 module _ {X : Type 0} where

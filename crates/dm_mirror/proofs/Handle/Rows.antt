@@ -1,8 +1,8 @@
 -- A row of a turn that says one label, by which one process may go on, and sends at most one message.
 use Rattle.dm_mirror.proofs.Names.{◌≡◌, ◌≢◌, ℕ, ◌≤◌, ◌==◌, Bool, true, false, List, [], ◌∷◌, map, refl, ap, ◌∙◌, sym, subst, inl, inr, is_some, arith, if◌then◌else◌, Option, None, Some, cases_Bool, false≢true, Pid, pid_eq, MsgId, nat_tests}
-use Rattle.dm_mirror.proofs.Names.{Message, id_eq, PlainWhat, plain_message, Boot, Label, Life, OneKernel, id_eq-is, pid_eq-is, Line, addresses_after, Point, after, Taken, Room, blocks_of, taken_by, takes_room, without_front, Spot, Queue}
+use Rattle.dm_mirror.proofs.Names.{Message, id_eq, PlainWhat, plain_message, Boot, Label, Life, OneKernel, id_eq-is, pid_eq-is, Line, Point, after, Taken, Room, blocks_of, taken_by, takes_room, without_front, Spot, Queue, act_of}
 use Rattle.dm_mirror.proofs.Names.{Held, Inbox, times, standing, View, Unknown, Here, Ended, handled, is_kernels, Phase, Rests, is_away, is_here, knows, rests_here, InPhases, is_server, StepNeeds, Placed, Mirrors, placed_step, mirrors_view}
-use Rattle.dm_mirror.proofs.Names.{moves_label, plainly, placed_follows, handles, KernelState, KnownStands, servers_at, begun, seen}
+use Rattle.dm_mirror.proofs.Names.{moves_label, plainly, placed_follows, handles, KernelState, KnownStands, servers_at, begun, seen, addresses_by}
 use Rattle.dm_places.specs.PlacedStep.{with_sent, without_message}
 use Rattle.dm_onekernel.specs.Step as kernel
 use Rattle.dm_rule.specs.Rule as rule
@@ -16,7 +16,7 @@ use Rattle.dm_mirror.proofs.Follow.Fronts.{front_gone, elsewhere_apart}
 
 -- where the head of the turn, a label and another view lead
 abbrev pub seen_point : Point → ℕ → Label → OneKernel → View → Point
-seen_point pt m e s v = record { kernel = s; view = v; addresses = addresses_after pt.kernel (begun pt m).view pt.addresses (Line.Label e) }
+seen_point pt m e s v = record { kernel = s; view = v; addresses = (addresses_by pt.kernel (begun pt m).view pt.addresses (act_of (Line.Label e))) }
 
 -- the message is handled
 abbrev pub handled_point : Point → ℕ → MsgId → Label → OneKernel → Point
@@ -26,12 +26,12 @@ pub after_one : (pt : Point) (m : ℕ) (e : Label) (s : OneKernel) (v : View) �
 after_one pt m e s v step is = grind (arith, nat_tests)
 
 pub mirrors_one : (pt : Point) (m : ℕ) (e : Label) (s : OneKernel) (v : View) (l placed : Placed) → kernel.step pt.kernel e ≡ Some s → seen pt.kernel (begun pt m).view (Line.Label e) ≡ v → StepNeeds pt.kernel (begun pt m).view e
-    → placed_step m pt.kernel.format pt.kernel.images l e ≡ Some placed → Mirrors pt.kernel pt.view pt.addresses l → Mirrors s v (addresses_after pt.kernel (begun pt m).view pt.addresses (Line.Label e)) placed
+    → placed_step m pt.kernel.format pt.kernel.images l e ≡ Some placed → Mirrors pt.kernel pt.view pt.addresses l → Mirrors s v (addresses_by pt.kernel (begun pt m).view pt.addresses (act_of (Line.Label e))) placed
 mirrors_one pt m e s v l placed step is needs placed_is h =
     let start = mirrors_view pt.kernel pt.view (begun pt m).view pt.addresses l refl h in
     let (on, found, mirrors) = placed_follows pt.kernel s (begun pt m).view pt.addresses l m e start refl needs step in
     let same : on ≡ placed = let f : Some on ≡ Some placed = sym found ∙ placed_is in cc in
-    let a = addresses_after pt.kernel (begun pt m).view pt.addresses (Line.Label e) in
+    let a = (addresses_by pt.kernel (begun pt m).view pt.addresses (act_of (Line.Label e))) in
     subst (Mirrors s v a) same (mirrors_view s (begun pt m).view v a on (ap (λ (u : View). u.moves) (sym is) ∙ moves_label (begun pt m).view e) mirrors)
 
 -- the head of a turn moves no message

@@ -293,7 +293,7 @@ manager_row b m pt l k y (PlainWhat.Created child) ps c num off is fits goes =
     let t = created_of m l.manager y.id.n child r in
     let taken : manage.takes_created m l.manager y.id.n child (manage.pending_request y.id.n l.manager.pending) ≡ Some t = ap (manage.takes_created m l.manager y.id.n child) found in
     manager_by b m pt l k y (PlainWhat.Created child) t c num off is (ap (manage.takes m l.manager y.id.n) (created_what y.what child c.says) ∙ taken)
-    (ap (one.takes_created s.manager y.id.n child) (numbered s l y.id.n h) ∙ ap (λ (g : Manager). one.takes_created g y.id.n child (option_map plain_pending (manage.pending_request y.id.n l.manager.pending))) (sym h.manager)
+    (ap (one.takes_answer s.manager y.id.n (s.manager.children ++ child ∷ []) 0 (one.control_link (length s.manager.children + 1) ∷ [])) (numbered s l y.id.n h) ∙ ap (λ (g : Manager). (one.takes_answer g y.id.n (g.children ++ child ∷ []) 0 (one.control_link (length g.children + 1) ∷ [])) (option_map plain_pending (manage.pending_request y.id.n l.manager.pending))) (sym h.manager)
     ∙ sym (plain_created m l.manager y.id.n child (manage.pending_request y.id.n l.manager.pending) t taken))
     (answers_plain m (record (manage.settled l.manager y.id.n) { children = l.manager.children ++ at_home child ∷ [] }) r.answer 0 (control_link m (length l.manager.children + 1) ∷ []))
 manager_row b m pt l k y PlainWhat.NoRoom ps c num off is fits goes =
@@ -304,7 +304,7 @@ manager_row b m pt l k y PlainWhat.NoRoom ps c num off is fits goes =
     let t = settled_of m l.manager n 1 r in
     let taken : manage.takes_no_room m l.manager n (manage.pending_request n l.manager.pending) ≡ Some t = ap (manage.takes_no_room m l.manager n) found in
     manager_by b m pt l k y PlainWhat.NoRoom t c num off is (ap (manage.takes m l.manager n) (no_room_what y.what c.says) ∙ taken)
-    (ap (one.takes_no_room s.manager n) (numbered s l n h) ∙ ap (λ (g : Manager). one.takes_no_room g n (option_map plain_pending (manage.pending_request n l.manager.pending))) (sym h.manager)
+    (ap (one.takes_answer s.manager n s.manager.children 1 []) (numbered s l n h) ∙ ap (λ (g : Manager). (one.takes_answer g n g.children 1 []) (option_map plain_pending (manage.pending_request n l.manager.pending))) (sym h.manager)
     ∙ sym (plain_no_room m l.manager n (manage.pending_request n l.manager.pending) t taken))
     (answers_plain m (manage.settled l.manager n) r.answer 1 [])
 manager_row b m pt l k y (PlainWhat.Moved outcome) ps c num off is fits goes =
@@ -315,7 +315,7 @@ manager_row b m pt l k y (PlainWhat.Moved outcome) ps c num off is fits goes =
     let t = settled_of m l.manager n (code_of_outcome outcome) r in
     let taken : manage.takes_moved m l.manager n outcome (manage.pending_request n l.manager.pending) ≡ Some t = ap (manage.takes_moved m l.manager n outcome) found in
     manager_by b m pt l k y (PlainWhat.Moved outcome) t c num off is (ap (manage.takes m l.manager n) (moved_what y.what outcome c.says) ∙ taken)
-    (ap (one.takes_moved s.manager n outcome) (numbered s l n h) ∙ ap (λ (g : Manager). one.takes_moved g n outcome (option_map plain_pending (manage.pending_request n l.manager.pending))) (sym h.manager)
+    (ap (one.takes_answer s.manager n s.manager.children (code_of_outcome outcome) []) (numbered s l n h) ∙ ap (λ (g : Manager). (one.takes_answer g n g.children (code_of_outcome outcome) []) (option_map plain_pending (manage.pending_request n l.manager.pending))) (sym h.manager)
     ∙ sym (plain_moved m l.manager n outcome (manage.pending_request n l.manager.pending) t taken))
     (answers_plain m (manage.settled l.manager n) r.answer (code_of_outcome outcome) [])
 manager_row b m pt l k y w ps c num off is fits goes = absurd (let f : None ≡ Some ps = goes in cc)

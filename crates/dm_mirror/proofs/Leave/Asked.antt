@@ -1,9 +1,9 @@
 -- A process is asked to move: to where it is, which is answered at once, or it is frozen, and the other machine is asked.
 use Rattle.dm_mirror.proofs.Names.{◌≡◌, ◌≢◌, ℕ, ◌≤◌, ◌==◌, Bool, true, false, List, [], ◌∷◌, map, refl, ap, ◌∙◌, sym, subst, inl, inr, is_some, if◌then◌else◌, Option, None, Some, eqb_tells, eq_not, Pid, pid_eq, pid_eq-same, Message, MsgId}
 use Rattle.dm_mirror.proofs.Names.{id_eq-same, id_of, manager, PlainMessage, PlainProcess, PlainWhat, plain_message, Process, Label, Line, Record, Stage, Boot, OneKernel, bind, answer_id, bag_none, zero_if, without_message, Point, Target}
-use Rattle.dm_mirror.proofs.Names.{Here, Spot, Queue, Held, Inbox, standing, times, handled, is_kernels, after, moved, addresses_after, without_front, WhatFits, StepNeeds, Placed, Mirrors, mirrors_view, placed_step, plainly, here_handles}
-use Rattle.dm_mirror.proofs.Names.{turned, KernelState, KnownStands, AllRecords, TokensStand, FreezesReceiverWhole, KnownIsWhole, CanMove, What, begun, Asker, Outcome, asker_of, manager_request, moved_answer, MoveNote, machine_in, seen}
-use Rattle.dm_mirror.proofs.Names.{at_hand_of, ends_move, with_note, without_note, move_what, Part, freezing, with_frozen, nat_tests, arith}
+use Rattle.dm_mirror.proofs.Names.{Here, Spot, Queue, Held, Inbox, standing, times, handled, is_kernels, after, moved, without_front, WhatFits, StepNeeds, Placed, Mirrors, mirrors_view, placed_step, plainly, here_handles, NothingElse}
+use Rattle.dm_mirror.proofs.Names.{turned, KernelState, KnownStands, AllRecords, TokensStand, FreezesReceiverWhole, KnownIsWhole, CanMove, What, begun, Asker, Outcome, asker_of, manager_request, moved_answer, MoveNote, seen, act_of}
+use Rattle.dm_mirror.proofs.Names.{at_hand_of, ends_move, with_note, without_note, move_what, Part, freezing, with_frozen, nat_tests, arith, addresses_by, move_target, option_map_or}
 use Rattle.dm_onekernel.specs.Kernel as one
 use Rattle.dm_onekernel.specs.Service as service
 use Rattle.dm_onekernel.specs.Step as kernel
@@ -43,7 +43,7 @@ asked_kernel s y = one.with_note (without_message s y.id) y.to.pid (record { id 
 
 abbrev asked_point : Point → ℕ → Message → ℕ → Point
 asked_point pt m y machine =
-    record { kernel = asked_kernel pt.kernel y; view = view.about (handled (begun pt m).view y.id) (Target machine); addresses = addresses_after pt.kernel (begun pt m).view pt.addresses (Line.Label (Label.Asked y.id)) }
+    record { kernel = asked_kernel pt.kernel y; view = view.about (handled (begun pt m).view y.id) (Target machine); addresses = (addresses_by pt.kernel (begun pt m).view pt.addresses (act_of (Line.Label (Label.Asked y.id)))) }
 
 abbrev asked_placed : Placed → Message → Placed
 asked_placed l y = with_note (placed.without_message l y.id) y.to.pid y.id (asker_of y)
@@ -65,7 +65,7 @@ follows_on b m pt l k y machine c h =
     ∙ ap (λ (o : Option PlainProcess). bind o (λ (z : PlainProcess). service.follows_request s i x (PlainWhat.Move machine))) (at_hand_of s p _ h.free h.life) in
     let placed_is : placed_step m s.format s.images l e ≡ Some (asked_placed l y) =
     ap (λ (o : Option Message). bind o (λ (q : Message). Some (with_note (placed.without_message l i) q.to.pid i (asker_of q)))) c.there in
-    let seen_is : seen s (begun pt m).view (Line.Label e) ≡ v = λ j. view.about (handled (begun pt m).view i) (machine_in (c.front.there j)) in
+    let seen_is : seen s (begun pt m).view (Line.Label e) ≡ v = λ j. view.about (handled (begun pt m).view i) (option_map_or (λ m. move_target m.what) (c.front.there j) NothingElse) in
     record {
       named = named;
       step = step;

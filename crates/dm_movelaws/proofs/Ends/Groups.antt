@@ -3,8 +3,8 @@ use Rattle.dm_movelaws.proofs.Names.{◌≡◌, ℕ, ◌+◌, Bool, true, List, 
 use Rattle.dm_movelaws.proofs.Names.{View, Told, after_head, after_put, view_after, own_id, Point, Part, Says, Owns, Spelled, behind, spelled, group_of, IsNet, front_way, Phased, told_some, put_spots, put_at, head_calm, put_there, put_spot}
 use Rattle.dm_movelaws.proofs.Names.{InPhases, calm_phases, PairsFit, PacketsKeep, put_told_off, said, Sane, KnownStands, Begins, begins, WalksOf, loose_walks, begun, begun_sane, turned, resting, round_walks, handles_walks, asks, ends}
 use Rattle.dm_movelaws.proofs.Names.{count, first_none, by_migrates, by_outcome, group_is, None, false, label_of, nat_tests, seen_none, MoveNote, Outcome, PlainMessage, PlainWhat, Label, Stage, Target, Frozen, Known, Here, to_kernel}
-use Rattle.dm_movelaws.proofs.Names.{leaves_for, answers_move, said_by, part_sane, machine_in, move_target, sets, aim, asked_off, moved, is_moving, Walks, pid_eq-is, pid_eq-same, own_ends, ◌&&◌, not, ◌++◌, lines_of, LeadsBy, by_parts}
-use Rattle.dm_movelaws.proofs.Names.{is_answered_next, is_answer_by, act_of, hears}
+use Rattle.dm_movelaws.proofs.Names.{leaves_for, answers_move, said_by, part_sane, move_target, sets, aim, asked_off, moved, is_moving, Walks, pid_eq-is, pid_eq-same, own_ends, ◌&&◌, not, ◌++◌, lines_of, LeadsBy, by_parts, NothingElse}
+use Rattle.dm_movelaws.proofs.Names.{is_answered_next, is_answer_by, act_of, hears, option_map_or}
 use Rattle.dm_movelaws.proofs.Ends.Parts.{packet_smooth, one_if, zero_if, parts_count, round_quiet, handles_quiet, Rest, rest_packet, rest_behind, Handled, Quiets, SetsOff, part_count, unit_if, is_migrate, Extends, Still, plain_in_bag}
 use Rattle.dm_movelaws.proofs.Ends.Parts.{own_untold, smooth_same, Tame, still_same, Smooth, smooth_trans, moves_none}
 use Rattle.dm_movelaws.proofs.Ends.Open.{Opens, Adds, Balance, level_balance, smooth_opens, add_opens, moving_in, still_moves, here_stays, Turn, Comes, line_alone, quiet_row, and_off, line_then, other_still, pid_swap, head_smooth}
@@ -197,7 +197,7 @@ leaves_own p d pt h id msg to w unasked sane fits there here what e g ids opens 
     let c = part_leads (λ y. Rest p pt.view y.view) (rest_packet p pt.view) pt n.next (Says l) (rest_behind p pt (Says l) sane fits tt tt) n.steps in
     let mid = n.next.view in
     let sane_ = part_sane pt n.next (Says l) n.steps.lines refl n.steps.are n.steps.leads sane in
-    let topic : mid.topic ≡ Target to = sym (ap (λ (x : Point). x.view.topic) k.is) ∙ ap machine_in there ∙ ap move_target what in
+    let topic : mid.topic ≡ Target to = sym (ap (λ (x : Point). x.view.topic) k.is) ∙ ap (option_map_or (λ (m : PlainMessage). move_target m.what) there NothingElse) ∙ ap move_target what in
     let rest = line_then p n.next l2 ps n.rest refl refl refl sane_ c.fits (tt, (refl, tt)) (loose_walks ps (moved n.next l2 n.next.kernel) (λ y. tt, (λ y. tt, tt))) n.more in
     let set = sets mid q mid.topic in
     let x = Frozen (aim mid mid.topic) in

@@ -2,9 +2,9 @@
 use Rattle.dm_movelaws.proofs.Names.{◌≡◌, ℕ, List, [], ◌∷◌, ◌++◌, refl, ap, sym, subst, inl, inr, arith, Some, Pid, Place, MsgId, Boot, Step, Line, Leads, IsStep, Spelled, Point, after, group_of, Spot, standing, Phased, phased_group}
 use Rattle.dm_movelaws.proofs.Names.{LeadsBy, update_of, nat_tests, ◌⊎◌, ◌≤◌, ◌&&◌, Bool, true, false, ◌∙◌, ⊤, Option, None, cases_Bool, MessageKind, plain_kind, id_eq, id_eq-is, id_eq-same, Stage, View, Told, is_kernels, view_after}
 use Rattle.dm_movelaws.proofs.Names.{label_of, kernel_after, Part, Says, Again, Owns, spelled, times, sends_on, is_put, not_true, parts, touches, pair_same, fits_as, PairsFit, fits_put, fits_packet, Sane, Sayable, part_sane, Steps, said_by}
-use Rattle.dm_movelaws.proofs.Names.{OneKernel, PlainMessage, Addresses, Sender, forwards_on, Loose, loose_round, loose_handles, by_forwards, seen, Label, PlainWhat, to_kernel, moved, leaves_for, machine_in, move_target, Target, length}
+use Rattle.dm_movelaws.proofs.Names.{OneKernel, PlainMessage, Addresses, Sender, forwards_on, Loose, loose_round, loose_handles, by_forwards, seen, Label, PlainWhat, to_kernel, moved, leaves_for, move_target, Target, length, NothingElse}
 use Rattle.dm_movelaws.proofs.Names.{if◌then◌else◌, manager, Known, Unknown, Here, Forward, Ended, process_told, both_lists, last_point, by_hears, behind_count, place_told, answers_move, Outcome, false≢true, migrates, not_kernels, IsNet}
-use Rattle.dm_movelaws.proofs.Names.{fits, under_way, kernels_by, begun, begun_sane, by_migrates, by_outcome, group_is, topic_by, deliver_off, migrate_off, tick_off, turn_off}
+use Rattle.dm_movelaws.proofs.Names.{fits, under_way, kernels_by, begun, begun_sane, by_migrates, by_outcome, group_is, topic_by, deliver_off, migrate_off, tick_off, turn_off, option_map_or}
 use Rattle.dm_rule.specs.Rule as rule
 use Rattle.dm_movelaws.proofs.After.{after-append, group_after}
 use Rattle.dm_movelaws.proofs.Promise.Spots.{Stands, Spares, line_stands, label_stands, put_this, put_stands, packet_stands, Fronts, about_stands, Front, sent_stands, held_this, fronts, net_stands, stands_off, lines_told}
@@ -155,9 +155,9 @@ asks_goes j t pt id msg to h there what w is =
     let n = next_of pt (Says l) (leaves_for msg.to to) w is in
     let k = said_by pt n.next l n.steps in
     let base = base_says j t pt n.next l refl refl h.base n.steps in
-    let was : Stands (moved pt l k.kernel).view j = about_stands (view_after pt.view l) (machine_in (pt.kernel.bag id)) j (label_stands pt k.kernel (Label.Asked id) j h.base.sane k.step h.base.own h.stands) in
+    let was : Stands (moved pt l k.kernel).view j = about_stands (view_after pt.view l) (option_map_or (λ m. move_target m.what) (pt.kernel.bag id) NothingElse) j (label_stands pt k.kernel (Label.Asked id) j h.base.sane k.step h.base.own h.stands) in
     let stands : Stands n.next.view j = subst (λ (x : Point). Stands x.view j) k.is was in
-    let topic : Target to ≡ n.next.view.topic = sym (ap move_target what) ∙ sym (ap machine_in there) ∙ ap (λ (x : Point). x.view.topic) k.is in
+    let topic : Target to ≡ n.next.view.topic = sym (ap move_target what) ∙ sym (ap (option_map_or (λ (m : PlainMessage). move_target m.what) there NothingElse)) ∙ ap (λ (x : Point). x.view.topic) k.is in
     let first = Says (Line.Migration Stage.Frozen msg.to) in
     let ps = Says (Line.Migration Stage.Asked msg.to) ∷ to_kernel MessageKind.Ask to ∷ [] in
     let need : NeedsPart j n.next first = subst (Fronts n.next.view j) topic tt in

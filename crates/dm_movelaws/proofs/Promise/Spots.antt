@@ -1,10 +1,10 @@
 -- A message that stands somewhere is left standing by each line that is no label, unless it is the one that the line takes.
 use Rattle.dm_movelaws.proofs.Names.{◌≡◌, ℕ, ◌+◌, ◌≤◌, ◌==◌, ◌&&◌, false, List, [], ◌∷◌, ◌++◌, refl, ap, ◌∙◌, sym, subst, inl, inr, arith, ⊤, cases_Bool, Pid, pid_eq, MsgId, id_eq, Label, pid_eq-is, Line, Stage, View, view_after, handled}
-use Rattle.dm_movelaws.proofs.Names.{handled_first, released, receiver_of, Spot, Queue, Held, Inbox, Untaken, times, ids_at, standing, at_machine_at, at_machine_off, at_record_off, eq_is, parts, times-append, first_off, home_again}
+use Rattle.dm_movelaws.proofs.Names.{handled_first, released, receiver_of, Spot, Queue, Held, Inbox, Untaken, times, ids_at, standing, at_machine_at, at_machine_off, at_record_off, eq_is, parts, times-append, first_off, home_again, act_of}
 use Rattle.dm_movelaws.proofs.Names.{home_off, proto_off, accepted_off, state_off, memory_off, lacks_off, left_off, restarted_off, handled_spots, queued_spots, held_spots, forwarded_spots, ◌⊎◌, Bool, true, not, filter, if◌then◌else◌}
 use Rattle.dm_movelaws.proofs.Names.{Option, None, Some, false≢true, MessageKind, OneKernel, id_eq-is, id_eq-same, Step, Load, Told, NothingElse, is_kernels, taken_id, held_for, Point, out_of, not_kernels, gone_in, at_record_at, not_true}
 use Rattle.dm_movelaws.proofs.Names.{one_of, PairsFit, served_keeps, serving_off, created_off, IsNetLine, early_off, acked_off, emptied, both_lists, both_times, dropped_spots, put_spots, taken_calm, put_spot, put_there, Sane, packet_off}
-use Rattle.dm_movelaws.proofs.Names.{received_spots, ended_off, nat_tests, About, Target, aim, about_off, after_step, Sound, bind-is, Addresses, Holder, Slot, Gets, gives, all_follow, first_gives, leads_to, updated, addresses_after}
+use Rattle.dm_movelaws.proofs.Names.{received_spots, ended_off, nat_tests, About, Target, aim, about_off, after_step, Sound, bind-is, Addresses, Holder, Slot, Gets, gives, all_follow, first_gives, leads_to, updated, addresses_by}
 use Rattle.dm_movelaws.proofs.Names.{ascends, label_of, kernel_after, after_line, after, moved, hushed, put_at, put_told_off, gives_to, fills, Unfilled, first_kept, ◌≢◌, length, slice_get, Boot, IsValid, Leads, first_point, Trails}
 use Rattle.dm_movelaws.proofs.Names.{AddressesOn, Unknown, is_moving, IsThere}
 use Rattle.dm_rule.proofs.Moves.Sent.{sent_off}
@@ -268,7 +268,7 @@ first_spares o gs p k e = grind (arith, nat_tests)
 told_grows : (s : OneKernel) (v : View) (a : Addresses) (o : Option Told) (h : Holder) → (a h).moves ≤ (updated s v a o h).moves
 told_grows s v a o h = grind (arith, nat_tests)
 
-moves_grow : (pt : Point) (l : Line) (p : Pid) (k : ℕ) → fills pt (Slot p k) l ≡ false → (pt.addresses (Slot p k)).moves ≤ (addresses_after pt.kernel pt.view pt.addresses l (Slot p k)).moves
+moves_grow : (pt : Point) (l : Line) (p : Pid) (k : ℕ) → fills pt (Slot p k) l ≡ false → (pt.addresses (Slot p k)).moves ≤ ((addresses_by pt.kernel pt.view pt.addresses (act_of l)) (Slot p k)).moves
 moves_grow pt l p k e = search (arith, follow_spares, told_grows, first_spares, not_given)
 
 -- what each line needs of the kernel, and keeps

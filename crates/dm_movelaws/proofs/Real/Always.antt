@@ -4,7 +4,7 @@ use Rattle.dm_movelaws.proofs.Names.{OneKernel, Step, IsStep, Spelled, Point, gr
 use Rattle.dm_movelaws.proofs.Names.{named_real, times_self, Run, IsReal, Kernel, Server, Made, IsAboutReal, RealAlways, or_cases, from_kernel, run_always, ◌⊎◌, List, None, false≢true, MessageKind, plain_kind, Stage, Label, id_eq-is}
 use Rattle.dm_movelaws.proofs.Names.{LifeGrows, after_step, Sound, Receiver, Part, Says, Routes, Again, Owns, Transmits, spelled, label_of, kernel_after, moved, About, view_after, after_put, handled, receiver_of, own_id, not_kernels}
 use Rattle.dm_movelaws.proofs.Names.{grown_none, put_at, PacketsKeep, put_told_off, Sane, AllSayable, label_topic, Within, has_bytes, KernelFits, step_constant, fits_step, queued_topic, held_topic, taken_topic, told_kept, [], ◌++◌, ⊤}
-use Rattle.dm_movelaws.proofs.Names.{pid_eq-same, alive-is, to_kernel, sends_on, IsNetLine, by_migrates, by_outcome, by_forwards, by_hears, topic_by, machine_in, sets, InOrder, Loose, loose_handles, HeadIn, counts, first_point, is_put}
+use Rattle.dm_movelaws.proofs.Names.{pid_eq-same, alive-is, to_kernel, sends_on, IsNetLine, by_migrates, by_outcome, by_forwards, by_hears, topic_by, sets, InOrder, Loose, loose_handles, HeadIn, counts, first_point, is_put, NothingElse}
 use Rattle.dm_rulelaws.proofs.Found.Core as core
 use Rattle.dm_rule.specs.View as view
 use Rattle.dm_rule.specs.Rule as rule
@@ -14,6 +14,7 @@ use Rattle.dm_movelaws.proofs.Leading.{Behind, sane_lead, All, Saying, net_says}
 use Rattle.dm_movelaws.proofs.Stages.Rows.{MildLine, AllMild}
 use Rattle.dm_movelaws.proofs.Stages.Steps.{round_mild}
 use Rattle.dm_movelaws.proofs.NumbersAlways.{bag_counted, told_counted}
+use Rattle.dm_movelaws.proofs.Names.{move_target, option_map_or}
 
 -- a row a line, seen from where its group begins
 abbrev pub LineReal : Point → Line → Type 0
@@ -188,7 +189,7 @@ line_topic o pt (Line.Head d) known need h = absurd need
 line_topic o pt (Line.Put a b i k q) known need h = absurd need
 line_topic o pt _ known need h = h.topic
 
-asked_real : (s : OneKernel) (o : Option PlainMessage) → IsAboutReal s (machine_in o)
+asked_real : (s : OneKernel) (o : Option PlainMessage) → IsAboutReal s (option_map_or (λ (m : PlainMessage). move_target m.what) o NothingElse)
 asked_real s None = tt
 asked_real s (Some m) = search (arith, m.what)
 

@@ -3,7 +3,7 @@ use Rattle.dm_movelaws.proofs.Names.{◌≡◌, ℕ, ◌==◌, Bool, true, false
 use Rattle.dm_movelaws.proofs.Names.{Told, About, Of, Known, first_view, target_of, is_between, is_due, Point, first_point, Part, Spelled, spelled, told_step, told_server, process_told, migrates, group_of, bind-is, IsNet, not_true}
 use Rattle.dm_movelaws.proofs.Names.{front_way, Phased, phased_start, phased_group, Calm, calm_same, calm_in, told_some, head_calm, net_parts, migrates_quiet, Tame, plain_in_bag, parts_settle, InPhases, State, PairsFit, Sane, LeadsBy}
 use Rattle.dm_movelaws.proofs.Names.{begun, begun_sane, Mark, marks, in_order, StepsInOrder, plain_by, by_migrates, by_outcome, nat_tests, arith, NothingElse, Label, Says, said_by, moved, calm_about, view_after, line_calm, part_sane}
-use Rattle.dm_movelaws.proofs.Names.{machine_in, move_target, Target, Here, sort_of}
+use Rattle.dm_movelaws.proofs.Names.{move_target, Target, Here, sort_of, option_map_or}
 use Rattle.dm_onekernel.specs.Step as kernel
 use Rattle.dm_rule.specs.Rule as rule
 use Rattle.dm_rule.proofs.Groups as groups
@@ -83,7 +83,7 @@ handled_marked o pt m i is msg ps w h box there (SetsOff to here what are) e p =
     let calm : Calm pt.view n.next.view = subst (λ (x : Point). Calm pt.view x.view) k.is (calm_about pt.view (view_after pt.view l) (moved pt l k.kernel).view.topic (line_calm pt k.kernel l h.sane tt k.step)) in
     let sane = part_sane pt n.next (Says l) n.steps.lines refl n.steps.are n.steps.leads h.sane in
     let fits : PairsFit n.next.view = subst (λ (x : Point). PairsFit x.view) k.is (line_fits pt k.kernel l refl h.fits) in
-    let topic : n.next.view.topic ≡ Target to = sym (ap (λ (x : Point). x.view.topic) k.is) ∙ ap machine_in there ∙ ap move_target what in
+    let topic : n.next.view.topic ≡ Target to = sym (ap (λ (x : Point). x.view.topic) k.is) ∙ ap (option_map_or (λ (m : PlainMessage). move_target m.what) there NothingElse) ∙ ap move_target what in
     let known : n.next.view.known n.next.view.acting q ≡ Here = sym (ap (λ (x : Point). x.view.known x.view.acting q) k.is) ∙ h.same q ∙ here in
     let row = row_marked n.next.view n.rest.point.view q (λ r. marks_of r (freezes q to)) (setting_row n.next q to n.rest sane fits topic known n.more) p in
     subst (λ (xs : List Part). Marked pt.view w.point.view p (marks_of p xs)) (sym are) (subst (λ (x : Point). Marked pt.view x.view p (marks_of p (freezes q to))) n.point (λ a b h k da db. row a b (calm_in pt.view n.next.view p a calm h) k da db))

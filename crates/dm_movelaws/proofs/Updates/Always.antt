@@ -1,10 +1,10 @@
 -- A group that says that an update was handled says nothing else, and where it leads.
 use Rattle.dm_movelaws.proofs.Names.{◌&&◌, ◌≡◌, ◌⊎◌, ℕ, ◌<◌, ◌≤◌, ◌==◌, Bool, true, false, not, [], ◌++◌, refl, ap, ◌∙◌, sym, inl, inr, nat_lt, arith, if◌then◌else◌, cases_Bool, false≢true, nat_tests, Option, None, Some, Pid, Place, pid_eq}
-use Rattle.dm_movelaws.proofs.Names.{MsgId, Boot, switchboard, manager, OneKernel, pid_eq-same, Step, Addresses, Holder, belongs_to, leads_to, is_pid, is_behind, place_told, updated, holders_of, behind_among, behind_count, holders_numbered}
+use Rattle.dm_movelaws.proofs.Names.{MsgId, Boot, switchboard, manager, OneKernel, pid_eq-same, Step, Addresses, Holder, belongs_to, leads_to, is_behind, place_told, updated, holders_of, behind_among, behind_count, holders_numbered}
 use Rattle.dm_movelaws.proofs.Names.{answers_in, slot_holders, Spelled, Point, View, Told, About, Ended, after_head, is_server, KnownStands, Updated, UpdatesAlways, front_own, Both, is_place, own_sort, run_always, pid_there, second, zero}
 use Rattle.dm_movelaws.proofs.Names.{suc, ◌+◌, List, ◌∷◌, length, slice_get, slice_get_cases, PlainLink, link_at, NamedLink, Pending, PlainProcess, pid_eq-is, not_server, alive-is, Slot, Owner, Child, Name, Answer, holder_eq, link_target}
-use Rattle.dm_movelaws.proofs.Names.{slot_of, name_link, ascends, listings, is_owner, group_is, ◌||◌, MessageKind, plain_kind, Line, Part, Says, lines_of, spelled, moved, GroupIs, by_parts, sends_on, IsNetLine, by_migrates, by_hears}
-use Rattle.dm_movelaws.proofs.Names.{by_net, by_outcome, ⊤, PlainMessage, forwards_on, Loose, loose_round, loose_handles, by_forwards}
+use Rattle.dm_movelaws.proofs.Names.{ascends, listings, is_owner, group_is, ◌||◌, MessageKind, plain_kind, Line, Part, Says, lines_of, spelled, moved, GroupIs, by_parts, sends_on, IsNetLine, by_migrates, by_hears, option_and_then}
+use Rattle.dm_movelaws.proofs.Names.{by_net, by_outcome, ⊤, PlainMessage, forwards_on, Loose, loose_round, loose_handles, by_forwards, option_map, option_map_or}
 use Rattle.dm_laws.proofs.Entered.{Made}
 use Rattle.dm_movelaws.proofs.Leading.{lines_are}
 use Rattle.dm_onekernel.specs.Step as kernel
@@ -217,7 +217,7 @@ no_child k n [] = refl
 no_child k n (x ∷ xs) = let f = no_child k (n + 1) xs in omega (arith, f)
 
 -- each by what it belongs to
-slot_link : (o : Option PlainProcess) (k : ℕ) (q : Pid) → link_target (slot_of o k) ≡ Some q → (x : PlainProcess) × (o ≡ Some x) × (k < length x.links)
+slot_link : (o : Option PlainProcess) (k : ℕ) (q : Pid) → link_target (option_and_then (λ x. link_at x.links k) o) ≡ Some q → (x : PlainProcess) × (o ≡ Some x) × (k < length x.links)
 slot_link None k q e = absurd (let f : None ≡ Some q = e in cc)
 slot_link (Some x) k q e = (x, refl, at_place x.links k q e)
   where
@@ -229,7 +229,7 @@ slot_link (Some x) k q e = (x, refl, at_place x.links k q e)
 abbrev listed_as : OneKernel → Pid → Bool → Bool → List Holder
 listed_as s q c d = if c then holders_numbered Name 0 s.switchboard.names else if d then holders_numbered Child 1 s.manager.children ++ answers_in s.manager.pending else slot_holders q (kernel.alive (s.processes q))
 
-named_link : (o : Option NamedLink) (q : Pid) → link_target (name_link o) ≡ Some q → (k : NamedLink) × (o ≡ Some k)
+named_link : (o : Option NamedLink) (q : Pid) → link_target (option_map (λ k. k.link) o) ≡ Some q → (k : NamedLink) × (o ≡ Some k)
 named_link o q e = grind (arith, nat_tests)
 
 not_board : (q : Pid) → pid_eq q manager ≡ true → pid_eq q switchboard ≡ false
@@ -335,7 +335,7 @@ updated_by b pt d w id n both h =
       followed = λ g mine leads less. lag g (behind_is s a t.receiver x.process x.place.moves g true mine leads (let f : nat_lt (a g).moves x.place.moves ≡ true = grind (arith, nat_tests) in f));
       others = λ g most. elim (cases_Bool (behind g)) [
         | inl e ↦
-            let k = three (belongs_to t.receiver g) (is_pid x.process (leads_to s g)) (nat_lt (a g).moves x.place.moves) e in
+            let k = three (belongs_to t.receiver g) (option_map_or (pid_eq x.process) (leads_to s g) false) (nat_lt (a g).moves x.place.moves) e in
             let f = most k.0 (pid_there x.process (leads_to s g) k.1) in
             let less : (a g).moves < x.place.moves = let l = k.2 in grind (arith, nat_tests) in
             absurd (omega (arith, f, less))

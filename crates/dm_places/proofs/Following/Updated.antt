@@ -2,8 +2,8 @@
 use Rattle.dm_places.proofs.Names.{◌≡◌, ℕ, zero, suc, ◌==◌, Bool, true, false, List, [], ◌∷◌, map, refl, ap, ◌∙◌, sym, subst, inl, inr, if◌then◌else◌, nat_lt, option_map, slice_get, Option, None, Some, cases_Bool, slice_get-map, Pid, arith}
 use Rattle.dm_places.proofs.Names.{nat_tests, Addr, Link, pid_eq, place_of, relocated, retargeted, retargeted_link, plain_link, link_at, plain_map_retargeted, applied, status_after, MsgId, Process, Status, Line, manager, switchboard}
 use Rattle.dm_places.proofs.Names.{Manager, NamedLink, OneKernel, plain_process, plain_status, Named, retargeted_named, Pending, plain_child, plain_pending, retargeted_manager, retargeted_pending, child_address, pending_request, pid_eq-is}
-use Rattle.dm_places.proofs.Names.{pid_eq-same, pid_eq-swap, About, Told, View, view_after, Addresses, Answer, Child, Holder, Name, Owner, Slot, answer_link, belongs_to, leads_to, link_target, owner_in, owner_of, updated, updated_to, Point}
-use Rattle.dm_places.proofs.Names.{moved, SameMessage, SameProcess, Placed, Mirrors, MirrorsProcess, owner_at, MirrorsPoint, with_process, AnswerNames}
+use Rattle.dm_places.proofs.Names.{pid_eq-same, pid_eq-swap, About, Told, View, view_after, Addresses, Answer, Child, Holder, Name, Owner, Slot, belongs_to, leads_to, link_target, owner_in, updated, updated_to, Point, PlainProcess}
+use Rattle.dm_places.proofs.Names.{moved, SameMessage, SameProcess, Placed, Mirrors, MirrorsProcess, owner_at, MirrorsPoint, with_process, AnswerNames, option_and_then}
 use Rattle.dm_link.specs.Places as places
 use Rattle.dm_onekernel.specs.Kernel as one
 use Rattle.dm_onekernel.specs.Manager as manage
@@ -63,7 +63,7 @@ told_process s v a q r at moves x alive h = record {
   slots = λ k w e.
       let (u, there, is) = of_map (retargeted_link r at moves) (link_at x.table k) w (sym e ∙ slots_map (retargeted_link r at moves) x.table k) in
       led s a q r at moves (Slot q k) u.addr (pid_eq-same q) (slot_leads s q x k (Some u) alive there) (h.slots k u there) ∙ ap (λ (z : Link). place_of z.addr) is;
-  owner = λ o e. owner_follows s a q r at moves x.status o (ap owner_of alive) h.owner e;
+  owner = λ o e. owner_follows s a q r at moves x.status o (ap (option_and_then (λ (x : PlainProcess). owner_in x.status) alive)) h.owner e;
 }
 
 plain_status_after : (r : Pid) (at moves : ℕ) (st : Status) → plain_status (status_after r at moves st) ≡ plain_status st
@@ -140,8 +140,8 @@ child_leads s v a l (suc n) c h there =
 
 pub answer_leads : (s : OneKernel) (v : View) (a : Addresses) (l : Placed) (n : ℕ) (y : Pending) → Mirrors s v a l → pending_request n l.manager.pending ≡ Some y → leads_to s (Answer n) ≡ link_target (option_map plain_link y.answer)
 answer_leads s v a l n y h there =
-    ap (λ (g : Manager). link_target (answer_link (manage.pending_numbered n g.pending))) (sym h.plain.manager)
-    ∙ ap (λ (o : Option one.Pending). link_target (answer_link o)) (managing.plain_pending_numbered n l.manager.pending ∙ ap (option_map plain_pending) there)
+    ap (λ (g : Manager). link_target (option_and_then (λ (r : Pending). r.answer) (manage.pending_numbered n g.pending))) (sym h.plain.manager)
+    ∙ ap (λ (o : Option one.Pending). link_target (option_and_then (λ r. r.answer) o)) (managing.plain_pending_numbered n l.manager.pending ∙ ap (option_map plain_pending) there)
 
 pending_if : (r : Pid) (at moves n : ℕ) (y : Pending) (ys : List Pending) (b : Bool) → pending_request n (map (retargeted_pending r at moves) ys) ≡ option_map (retargeted_pending r at moves) (pending_request n ys)
     → (if b then Some (retargeted_pending r at moves y) else pending_request n (map (retargeted_pending r at moves) ys)) ≡ option_map (retargeted_pending r at moves) (if b then Some y else pending_request n ys)

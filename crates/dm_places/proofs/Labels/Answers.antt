@@ -3,7 +3,7 @@
 use Rattle.dm_places.proofs.Names.{◌≡◌, ℕ, List, [], ◌∷◌, Bool, refl, ap, ◌∙◌, sym, subst, if◌then◌else◌, slice_get, Option, None, Some, Link, Place, place_of, MsgId, Message, What, Label, PlainMessage, PlainWhat, plain_message, plain_what}
 use Rattle.dm_places.proofs.Names.{arith, bind, OneKernel, answer_id, answer_to, answer, gone_answer, id_eq-same, bind-is, when-is, View, Addresses, answer_gets, given, gives, Receiver, Sender, unmoved, two, two_process, two_servers}
 use Rattle.dm_places.proofs.Names.{two_off, Placed, Mirrors, MirrorsMessage, enclosed, with_sent, without_message, Asker, AskedBy, Gets, MoveNote, Outcome, Pid, PlainProcess, Process, acting_place, asker_of, gets, id_of, manager}
-use Rattle.dm_places.proofs.Names.{moved_answer, pid_eq-same, plain_note, manager_request, with_note, without_note, ends_move-is}
+use Rattle.dm_places.proofs.Names.{moved_answer, pid_eq-same, plain_note, manager_request, with_note, without_note, ends_move-is, option_map_or}
 use Rattle.dm_onekernel.specs.Kernel as kernels
 use Rattle.dm_onekernel.specs.Service as service
 use Rattle.dm_onekernel.specs.Step as kernel
@@ -105,7 +105,7 @@ asked_follows s t v a l id is needs h =
     let on = with_note (without_message l id) m.to.pid id (asker_of m) in (
       on,
       ap (λ (o : Option Message). bind o (λ (n : Message). Some (with_note (without_message l id) n.to.pid id (asker_of n)))) found,
-      subst (λ (gs : List Gets). Mirrors t v (given a gs) on) (ap (giving.given_to_follow a id) (sym there)) (asked_row s t v a l id m k k.what last needs (h.places.message id m found) says h),
+      subst (λ (gs : List Gets). Mirrors t v (given a gs) on) (ap (λ message. option_map_or (λ (m : PlainMessage). gets (AskedBy m.to) (a (Sender id)) ∷ []) message []) (sym there)) (asked_row s t v a l id m k k.what last needs (h.places.message id m found) says h),
     )
 
 pub answered_follows : (s t : OneKernel) (v : View) (a : Addresses) (l : Placed) (id : MsgId) (o : Outcome) → kernel.step s (Label.Answered id o) ≡ Some t
@@ -132,5 +132,5 @@ answered_follows s t v a l id o is needs h =
           ∙ ap (λ (w : Option Asker). bind w (λ (c : Asker). bind (l.processes p) (λ (z : Process). Some (with_sent (without_note l p id) (Some (moved_answer v.acting z o c)))))) waits
           ∙ ap (λ (w : Option Process). bind w (λ (z : Process). Some (with_sent (without_note l p id) (Some (moved_answer v.acting z o k))))) stands,
       mirrors_as (service.move_ended s id p n o) t v (given a (two m.id (a (AskedBy p)) (acting_place v p))) (given a (gives s v a (Label.Answered id o))) on on (ends_move-is s t id p n o last)
-          (ap (λ (i : MsgId). given a (two (answer_id i) (a (AskedBy p)) (acting_place v p))) asked ∙ ap (λ (w : Option Pid). given a (giving.given_at_end v a id w)) (sym noted)) refl done,
+          (ap (λ (i : MsgId). given a (two (answer_id i) (a (AskedBy p)) (acting_place v p))) asked ∙ ap (λ (w : Option Pid). given a (option_map_or (λ (p : Pid). gets (Receiver (answer_id id)) (a (AskedBy p)) ∷ gets (Sender (answer_id id)) (acting_place v p) ∷ []) w [])) (sym noted)) refl done,
     )

@@ -1,8 +1,8 @@
 -- A process that a kernel makes, with places: it begins with the links that its request brought.
 use Rattle.dm_places.proofs.Names.{◌≡◌, ℕ, zero, suc, ◌+◌, ◌-◌, ◌&&◌, List, [], ◌∷◌, ◌++◌, length, refl, ap, ◌∙◌, sym, subst, arith, map, option_map, slice_get, replicate, Option, None, Some, length-map, slice_get-map, Pid, Link, pid_eq}
 use Rattle.dm_places.proofs.Names.{pid_of, PlainLink, plain_link, link_at, plain_slot, MsgId, Message, What, Label, PlainMessage, PlainWhat, plain_message, plain_what, begun_process, Format, BootImage, first_number, slots_of, bind, Alive}
-use Rattle.dm_places.proofs.Names.{OneKernel, plain_process, answer_id, answer_to, memory_of, slots_with, answer, bind-is, when-is, View, Addresses, Gets, Sender, answer_gets, child_links, given, gives, unmoved, two, child_at, only_child}
-use Rattle.dm_places.proofs.Names.{Placed, Mirrors, MirrorsMessage, MirrorsProcess, enclosed, with_child, with_sent, without_message, nat_tests, burden_of}
+use Rattle.dm_places.proofs.Names.{OneKernel, plain_process, answer_id, answer_to, memory_of, slots_with, answer, bind-is, when-is, View, Addresses, Gets, Sender, answer_gets, given, gives, unmoved, two, child_at, only_child, child_links}
+use Rattle.dm_places.proofs.Names.{Placed, Mirrors, MirrorsMessage, MirrorsProcess, enclosed, with_child, with_sent, without_message, nat_tests}
 use Rattle.dm_places.proofs.Keeps.{kernel_out, kernel_process, parts, places_out, places_process, there_of, this_process}
 use Rattle.dm_places.proofs.Labels.Acts.{Follows}
 use Rattle.dm_places.proofs.Labels.Answers.{two_sends}
@@ -69,7 +69,7 @@ created_row s t v a l id m k child image links is none hm says links_are h =
     (subst (λ (i : MsgId). Mirrors (kernels.with_sent u (Some q)) v (given a (two (answer_id i) (a (Sender id)) (unmoved v.acting) ++ child_links a child id 0 ls)) (with_sent on (Some n))) hm.id sent)
 
 creates_row : (s t : OneKernel) (v : View) (a : Addresses) (l : Placed) (id : MsgId) (m : Message) (k : PlainMessage) (child : Pid) (u : PlainWhat) → plain_what m.what ≡ Some u → service.creates s id k child u ≡ Some t → v.moves child ≡ 0 → MirrorsMessage a id m
-    → plain_message m ≡ Some k → Mirrors s v a l → Follows t v (given a (answer_gets a id (unmoved v.acting) ++ addresses.creates_burden a id child (burden_of u))) (placed.creates v.acting s.format s.images (without_message l id) m child m.what)
+    → plain_message m ≡ Some k → Mirrors s v a l → Follows t v (given a (answer_gets a id (unmoved v.acting) ++ addresses.creates_burden a id child u)) (placed.creates v.acting s.format s.images (without_message l id) m child m.what)
 creates_row s t v a l id m k child (PlainWhat.Create number ls) u is none hm says h =
     let w = create_what m.what number ls u in
     let links = w.links.items in

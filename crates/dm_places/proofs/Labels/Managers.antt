@@ -3,7 +3,7 @@ use Rattle.dm_places.proofs.Names.{◌≡◌, ℕ, suc, ◌+◌, ◌==◌, ◌&&
 use Rattle.dm_places.proofs.Names.{slice_get-map, Addr, Link, place_of, plain_link, MsgId, What, id_of, PlainMessage, PlainWhat, plain_message, manager, OneKernel, goes_over, Pending, Managing, plain_child, plain_manager, plain_pending}
 use Rattle.dm_places.proofs.Names.{answer_over, message_to, Taken, child_address, plain_numbered, plain_push, id_eq-same, View, Addresses, gets, given, Receiver, Sender, Enclosed, Child, Answer, unmoved, encloses, enclosed_from}
 use Rattle.dm_places.proofs.Names.{manager_sends, ascends, encloses_servers, encloses_process, encloses_message, encloses_at, two, enclosed_at, Placed, Mirrors, MirrorsKernel, enclosed, manager_took, without_message, AnswerNames, Place}
-use Rattle.dm_places.proofs.Names.{PlainLink, pending_request, ◌++◌, kernel_at, PendingKind, sym, Pid}
+use Rattle.dm_places.proofs.Names.{PlainLink, pending_request, ◌++◌, kernel_at, PendingKind, sym, Pid, option_map_or}
 use Rattle.dm_onekernel.specs.Kernel as kernels
 use Rattle.dm_onekernel.specs.Manager as one
 use Rattle.dm_onekernel.specs.Service as service
@@ -44,7 +44,7 @@ first_names : (a : Addresses) (mid : MsgId) (links : List Link) → LinksKept a 
 first_names a mid [] en = tt
 first_names a mid (w ∷ ws) en = en 0 w refl
 
-first_plainly : (links : List Link) → option_map plain_link (take.first_link links) ≡ one.first_link (map plain_link links)
+first_plainly : (links : List Link) → option_map plain_link (take.first_link links) ≡ (slice_get (map plain_link links) 0)
 first_plainly links = search arith
 
 -- the links that are kept, once one more request is pending
@@ -128,7 +128,7 @@ tells_mirrors s v a l id code child w u says none to h =
 
 control_by : (s : OneKernel) (v : View) (a : Addresses) (l : Placed) (id mid : MsgId) (code : ℕ) (child : Addr) (b c d : Bool) (links : List Link) → a (Child code) ≡ place_of child → LinksKept a mid links → Mirrors s v a l
     → TookAt s v a l id mid code
-    (one.tells_child (plain_manager l.manager) child.pid (if b then Some PlainWhat.Stop else if c then Some PlainWhat.Resume else if d then Some PlainWhat.Kill else None) (map plain_link links))
+    (option_map_or (one.tells (plain_manager l.manager) child.pid) (if b then Some PlainWhat.Stop else if c then Some PlainWhat.Resume else if d then Some PlainWhat.Kill else None) (one.bad_request (plain_manager l.manager) (map plain_link links)))
     (take.controls_child v.acting l.manager child (if b then Some What.Stop else if c then Some What.Resume else if d then Some What.Kill else None) links)
 control_by s v a l id mid code child true c d links to en h = tells_mirrors s v a l id code child What.Stop PlainWhat.Stop refl refl to h
 control_by s v a l id mid code child false true d links to en h = tells_mirrors s v a l id code child What.Resume PlainWhat.Resume refl refl to h
@@ -137,7 +137,7 @@ control_by s v a l id mid code child false false false links to en h = bad_mirro
 
 -- a child is to move
 moves_mirrors : (s : OneKernel) (v : View) (a : Addresses) (l : Placed) (id mid : MsgId) (code : ℕ) (child : Addr) (machine : ℕ) (links : List Link) → a (Child code) ≡ place_of child → LinksKept a mid links → InOrder l.manager → Mirrors s v a l
-    → TookAt s v a l id mid code (one.sends_request (plain_manager l.manager) PendingKind.Move child.pid (PlainWhat.Move machine) (one.first_link (map plain_link links)))
+    → TookAt s v a l id mid code (one.sends_request (plain_manager l.manager) PendingKind.Move child.pid (PlainWhat.Move machine) (slice_get (map plain_link links) 0))
     (take.asks v.acting l.manager PendingKind.Move child (What.Move machine) (take.first_link links))
 moves_mirrors s v a l id mid code child machine links to en order h =
     let g = l.manager in
@@ -146,7 +146,7 @@ moves_mirrors s v a l id mid code child machine links to en order h =
     let pl = a (Enclosed mid 0) in
     let b = given a (gets (Answer n) pl ∷ []) in
     let r : Pending = record { n = n; kind = PendingKind.Move; answer = take.first_link links } in
-    let k = one.sends_request (plain_manager g) PendingKind.Move child.pid (PlainWhat.Move machine) (one.first_link (map plain_link links)) in
+    let k = one.sends_request (plain_manager g) PendingKind.Move child.pid (PlainWhat.Move machine) (slice_get (map plain_link links) 0) in
     let t = take.asks v.acting g PendingKind.Move child (What.Move machine) (take.first_link links) in
     let m = message_to v.acting n child (What.Move machine) in
     let q : PlainMessage = record { id = sent; to = child.pid; sender = manager; what = PlainWhat.Move machine } in
@@ -193,7 +193,7 @@ controls_mirrors s v a l id mid code (Some child) (op ∷ machine ∷ []) links 
     let bad = take.bad_request v.acting g links in
     let refused = bad_mirrors s v a l id mid code links en h in
     took_if s v a l id mid code (op == 5) (one.moves_child (plain_manager g) g.machines child.pid machine (map plain_link links)) one_bad (take.wants_move v.acting g child machine links) bad
-    (took_if s v a l id mid code (nat_lt machine g.machines) (one.sends_request (plain_manager g) PendingKind.Move child.pid (PlainWhat.Move machine) (one.first_link (map plain_link links))) one_bad
+    (took_if s v a l id mid code (nat_lt machine g.machines) (one.sends_request (plain_manager g) PendingKind.Move child.pid (PlainWhat.Move machine) (slice_get (map plain_link links) 0)) one_bad
     (take.asks v.acting g PendingKind.Move child (What.Move machine) (take.first_link links)) bad (moves_mirrors s v a l id mid code child machine links (h.places.child code child is) en order h) refused) refused
 controls_mirrors s v a l id mid code None (b ∷ []) links is en order h = bad_mirrors s v a l id mid code links en h
 controls_mirrors s v a l id mid code None (b ∷ machine ∷ []) links is en order h = bad_mirrors s v a l id mid code links en h

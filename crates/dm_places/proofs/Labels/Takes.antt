@@ -3,7 +3,7 @@ use Rattle.dm_places.proofs.Names.{◌≡◌, ℕ, ◌+◌, Bool, true, false, L
 use Rattle.dm_places.proofs.Names.{pid_eq, place_of, PlainLink, plain_link, MsgId, Message, What, id_of, Label, PlainMessage, PlainWhat, plain_message, plain_what, manager, switchboard, bind, Manager, OneKernel, goes_over, Pending}
 use Rattle.dm_places.proofs.Names.{Managing, at_home, plain_child, plain_manager, plain_pending, answer_over, control_link, Taken, child_address, pending_request, plain_bear, plain_pending_numbered, plain_without, id_eq-same, bind-is, View}
 use Rattle.dm_places.proofs.Names.{Addresses, Gets, gets, given, gives, Receiver, Sender, Enclosed, Child, Name, Answer, unmoved, board_takes_burden, manager_answers, manager_sends, manager_takes_burden, SameProcess, SameMessage, Placed}
-use Rattle.dm_places.proofs.Names.{Mirrors, MirrorsKernel, MirrorsMessage, enclosed, board_took, manager_took, without_message, AnswerNames, AskedBy, Outcome, code_of_outcome, burden_of}
+use Rattle.dm_places.proofs.Names.{Mirrors, MirrorsKernel, MirrorsMessage, enclosed, board_took, manager_took, without_message, AnswerNames, AskedBy, Outcome, code_of_outcome}
 use Rattle.dm_places.proofs.Keeps.{answer_as, came_places, kernel_out, kernel_sent, message_same, parts, places_out, process_same, there_of}
 use Rattle.dm_places.proofs.Labels.Acts.{Follows}
 use Rattle.dm_places.proofs.Labels.Boards.{board_row}
@@ -62,7 +62,7 @@ answers_mirrors s v a c l id n r g k byte ws (Some over) is there order h one_is
     let s' = record (service.without_message s id) { manager = record (plain_manager g) { sent = g.sent + 1 } } in
     let l' = record (without_message l id) { manager = record g { sent = g.sent + 1 } } in
     let plain : MirrorsKernel s' l' = record { processes = u.processes; bag = u.bag; notes = u.notes; noted = u.noted; board = u.board; manager = refl; machines = machines ∙ u.machines; images = images ∙ u.images } in
-    subst (λ (z : Manager). Mirrors (service.manager_took s id (one.answers_byte z (plain_link over) byte (map plain_link ws))) v (given c (manager_answers v a n (one.answers_byte z (plain_link over) byte (map plain_link ws)).message)) (manager_took (without_message l id) (take.answers v.acting g over byte ws))) plain_is
+    subst (λ (z : Manager). Mirrors (service.manager_took s id (one.answers_over z (Some (plain_link over)) byte (map plain_link ws))) v (given c (manager_answers v a n (one.answers_over z (Some (plain_link over)) byte (map plain_link ws)).message)) (manager_took (without_message l id) (take.answers v.acting g over byte ws))) plain_is
     (record {
       plain = kernel_sent s' l' q m refl plain;
       places = record {
@@ -98,7 +98,8 @@ child_first s v a l j pl n None h = h
 child_first s v a l j pl n (Some q) h = search arith
 
 -- the child stands
-created_by : (s : OneKernel) (v : View) (a : Addresses) (l : Placed) (id : MsgId) (n : ℕ) (child : Pid) (p : Option Pending) (k : one.ManagerTook) → pending_request n l.manager.pending ≡ p → one.takes_created s.manager n child (option_map plain_pending p) ≡ Some k
+created_by : (s : OneKernel) (v : View) (a : Addresses) (l : Placed) (id : MsgId) (n : ℕ) (child : Pid) (p : Option Pending) (k : one.ManagerTook) → pending_request n l.manager.pending ≡ p
+    → (one.takes_answer s.manager n (s.manager.children ++ child ∷ []) 0 (one.control_link (length s.manager.children + 1) ∷ [])) (option_map plain_pending p) ≡ Some k
     → InOrder l.manager → Mirrors s v a l
     → TookTo s v (given a (gets (Child (length s.manager.children + 1)) (unmoved child.home) ∷ manager_answers v a n k.message)) l id k (take.takes_created v.acting l.manager n child p)
 created_by s v a l id n child None k is e order h = cc
@@ -145,7 +146,8 @@ ended_by s v a l id n byte r k is f order h =
     (λ q. record { slot = λ i. refl; owner = refl }) (λ i. record { receiver = refl; sender = refl; enclosed = λ i. refl }) (λ i. refl) (λ i. refl) (λ q. refl) h.places.child in
     record { t = t; takes = refl; mirrors = subst (λ (z : one.ManagerTook). Mirrors (service.manager_took s id z) v (given a (manager_answers v a n z.message)) (manager_took (without_message l id) t)) f u }
 
-no_room_by : (s : OneKernel) (v : View) (a : Addresses) (l : Placed) (id : MsgId) (n : ℕ) (p : Option Pending) (k : one.ManagerTook) → pending_request n l.manager.pending ≡ p → one.takes_no_room s.manager n (option_map plain_pending p) ≡ Some k
+no_room_by : (s : OneKernel) (v : View) (a : Addresses) (l : Placed) (id : MsgId) (n : ℕ) (p : Option Pending) (k : one.ManagerTook) → pending_request n l.manager.pending ≡ p
+    → (one.takes_answer s.manager n s.manager.children 1 []) (option_map plain_pending p) ≡ Some k
     → InOrder l.manager → Mirrors s v a l → TookTo s v (given a (manager_answers v a n k.message)) l id k (take.takes_no_room v.acting l.manager n p)
 no_room_by s v a l id n None k is e order h = cc
 no_room_by s v a l id n (Some r) k is e order h =
@@ -153,14 +155,15 @@ no_room_by s v a l id n (Some r) k is e order h =
     ended_by s v a l id n 1 r k is (let f : one.answers_over after (option_map plain_link r.answer) 1 [] ≡ k = cc in f) order h
 
 moved_by : (s : OneKernel) (v : View) (a : Addresses) (l : Placed) (id : MsgId) (n : ℕ) (outcome : Outcome) (p : Option Pending) (k : one.ManagerTook) → pending_request n l.manager.pending ≡ p
-    → one.takes_moved s.manager n outcome (option_map plain_pending p) ≡ Some k → InOrder l.manager → Mirrors s v a l → TookTo s v (given a (manager_answers v a n k.message)) l id k (take.takes_moved v.acting l.manager n outcome p)
+    → (one.takes_answer s.manager n s.manager.children (code_of_outcome outcome) []) (option_map plain_pending p) ≡ Some k → InOrder l.manager → Mirrors s v a l
+    → TookTo s v (given a (manager_answers v a n k.message)) l id k (take.takes_moved v.acting l.manager n outcome p)
 moved_by s v a l id n outcome None k is e order h = cc
 moved_by s v a l id n outcome (Some r) k is e order h =
     let after : Manager = record s.manager { pending = one.without_pending n s.manager.pending } in
     ended_by s v a l id n (code_of_outcome outcome) r k is (let f : one.answers_over after (option_map plain_link r.answer) (code_of_outcome outcome) [] ≡ k = cc in f) order h
 
 abbrev manager_gives : OneKernel → View → Addresses → PlainMessage → PlainWhat → Addresses
-manager_gives s v a k u = given a (manager_takes_burden s v a k (burden_of u) (one.manager_takes s.manager s.machines (length s.images) k u))
+manager_gives s v a k u = given a (manager_takes_burden s v a k u (one.manager_takes s.manager s.machines (length s.images) k u))
 
 -- what the manager takes with places
 abbrev manager_step : ℕ → Placed → MsgId → ℕ → What → Option Placed
@@ -185,42 +188,42 @@ manager_row s t v a l id m k (PlainWhat.User code channel bytes ls) name says hm
     )
 manager_row s t v a l id m k (PlainWhat.Created child) name says hm order h e =
     let n = k.id.n in
-    let o = one.takes_created s.manager n child (one.pending_numbered n s.manager.pending) in
+    let o = (one.takes_answer s.manager n (s.manager.children ++ child ∷ []) 0 (one.control_link (length s.manager.children + 1) ∷ [])) (one.pending_numbered n s.manager.pending) in
     let (z, took, last) = bind-is o (λ (x : one.ManagerTook). Some (service.manager_took s id x)) t e in
     let f : service.manager_took s id z ≡ t = cc in
     let p = pending_request n l.manager.pending in
-    let r = created_by s v a l id n child p z refl (ap (one.takes_created s.manager n child) (sym (pending_is s l n h.plain.manager)) ∙ took) order h in
+    let r = created_by s v a l id n child p z refl (ap (one.takes_answer s.manager n (s.manager.children ++ child ∷ []) 0 (one.control_link (length s.manager.children + 1) ∷ [])) (sym (pending_is s l n h.plain.manager)) ∙ took) order h in
     let on = manager_took (without_message l id) r.t in (
       on,
       (λ i. manager_step v.acting l id (name i).n (created_what m.what child says i)) ∙ ap (λ (x : Option Taken). bind x (λ (y : Taken). Some (manager_took (without_message l id) y))) r.takes,
-      subst (λ (x : OneKernel). Mirrors x v (given a (manager_takes_burden s v a k (burden_of (PlainWhat.Created child)) o)) on) f
-          (subst (λ (x : Option one.ManagerTook). Mirrors (service.manager_took s id z) v (given a (manager_takes_burden s v a k (burden_of (PlainWhat.Created child)) x)) on) (sym took) r.mirrors),
+      subst (λ (x : OneKernel). Mirrors x v (given a (manager_takes_burden s v a k (PlainWhat.Created child) o)) on) f
+          (subst (λ (x : Option one.ManagerTook). Mirrors (service.manager_took s id z) v (given a (manager_takes_burden s v a k (PlainWhat.Created child) x)) on) (sym took) r.mirrors),
     )
 manager_row s t v a l id m k PlainWhat.NoRoom name says hm order h e =
     let n = k.id.n in
-    let o = one.takes_no_room s.manager n (one.pending_numbered n s.manager.pending) in
+    let o = (one.takes_answer s.manager n s.manager.children 1 []) (one.pending_numbered n s.manager.pending) in
     let (z, took, last) = bind-is o (λ (x : one.ManagerTook). Some (service.manager_took s id x)) t e in
     let f : service.manager_took s id z ≡ t = cc in
     let p = pending_request n l.manager.pending in
-    let r = no_room_by s v a l id n p z refl (ap (one.takes_no_room s.manager n) (sym (pending_is s l n h.plain.manager)) ∙ took) order h in
+    let r = no_room_by s v a l id n p z refl (ap (one.takes_answer s.manager n s.manager.children 1 []) (sym (pending_is s l n h.plain.manager)) ∙ took) order h in
     let on = manager_took (without_message l id) r.t in (
       on,
       (λ i. manager_step v.acting l id (name i).n (no_room_what m.what says i)) ∙ ap (λ (x : Option Taken). bind x (λ (y : Taken). Some (manager_took (without_message l id) y))) r.takes,
-      subst (λ (x : OneKernel). Mirrors x v (given a (manager_takes_burden s v a k (burden_of PlainWhat.NoRoom) o)) on) f
-          (subst (λ (x : Option one.ManagerTook). Mirrors (service.manager_took s id z) v (given a (manager_takes_burden s v a k (burden_of PlainWhat.NoRoom) x)) on) (sym took) r.mirrors),
+      subst (λ (x : OneKernel). Mirrors x v (given a (manager_takes_burden s v a k PlainWhat.NoRoom o)) on) f
+          (subst (λ (x : Option one.ManagerTook). Mirrors (service.manager_took s id z) v (given a (manager_takes_burden s v a k PlainWhat.NoRoom x)) on) (sym took) r.mirrors),
     )
 manager_row s t v a l id m k (PlainWhat.Moved outcome) name says hm order h e =
     let n = k.id.n in
-    let o = one.takes_moved s.manager n outcome (one.pending_numbered n s.manager.pending) in
+    let o = (one.takes_answer s.manager n s.manager.children (code_of_outcome outcome) []) (one.pending_numbered n s.manager.pending) in
     let (z, took, last) = bind-is o (λ (x : one.ManagerTook). Some (service.manager_took s id x)) t e in
     let f : service.manager_took s id z ≡ t = cc in
     let p = pending_request n l.manager.pending in
-    let r = moved_by s v a l id n outcome p z refl (ap (one.takes_moved s.manager n outcome) (sym (pending_is s l n h.plain.manager)) ∙ took) order h in
+    let r = moved_by s v a l id n outcome p z refl (ap (one.takes_answer s.manager n s.manager.children (code_of_outcome outcome) []) (sym (pending_is s l n h.plain.manager)) ∙ took) order h in
     let on = manager_took (without_message l id) r.t in (
       on,
       (λ i. manager_step v.acting l id (name i).n (moved_what m.what outcome says i)) ∙ ap (λ (x : Option Taken). bind x (λ (y : Taken). Some (manager_took (without_message l id) y))) r.takes,
-      subst (λ (x : OneKernel). Mirrors x v (given a (manager_takes_burden s v a k (burden_of (PlainWhat.Moved outcome)) o)) on) f
-          (subst (λ (x : Option one.ManagerTook). Mirrors (service.manager_took s id z) v (given a (manager_takes_burden s v a k (burden_of (PlainWhat.Moved outcome)) x)) on) (sym took) r.mirrors),
+      subst (λ (x : OneKernel). Mirrors x v (given a (manager_takes_burden s v a k (PlainWhat.Moved outcome) o)) on) f
+          (subst (λ (x : Option one.ManagerTook). Mirrors (service.manager_took s id z) v (given a (manager_takes_burden s v a k (PlainWhat.Moved outcome) x)) on) (sym took) r.mirrors),
     )
 manager_row s t v a l id m k u name says hm order h e = cc
 
@@ -235,7 +238,7 @@ takes_by : (s t : OneKernel) (v : View) (a : Addresses) (l : Placed) (id : MsgId
     → (if b then bind (boards.board_takes s.switchboard k k.what) (λ (z : boards.BoardTook). Some (service.switchboard_took s id z))
     else if c then bind (one.manager_takes s.manager s.machines (length s.images) k k.what) (λ (z : one.ManagerTook). Some (service.manager_took s id z))
     else None) ≡ Some t
-    → Follows t v (given a (if b then board_takes_burden s v a id (burden_of k.what) else manager_takes_burden s v a k (burden_of k.what) (one.manager_takes s.manager s.machines (length s.images) k k.what))) (takes_if b c v.acting l id m)
+    → Follows t v (given a (if b then board_takes_burden s v a id k.what else manager_takes_burden s v a k k.what (one.manager_takes s.manager s.machines (length s.images) k k.what))) (takes_if b c v.acting l id m)
 takes_by s t v a l id m k true c says hm order h e = board_row s t v a l id m k k.what (parts m k says).what hm h e
 takes_by s t v a l id m k false true says hm order h e = let g = parts m k says in manager_row s t v a l id m k k.what g.id g.what hm order h e
 takes_by s t v a l id m k false false says hm order h e = cc

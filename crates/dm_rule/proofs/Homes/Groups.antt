@@ -112,7 +112,7 @@ takes_good m a b (n ∷ ns) = (tt, takes_good m a b ns)
 
 comes_good : (m a b : ℕ) (p q : Pair) (l : Load) → PartsAnywhere m (rule.comes a b p q l)
 comes_good m a b p q (Load.Data n) = search (arith, by_test, parts_append, takes_good)
-comes_good m a b p q (Load.Ack n) = (tt, repeats_good m b a (rule.let_go q (rule.more n q.acked)))
+comes_good m a b p q (Load.Ack n) = (tt, repeats_good m b a (rule.let_go q (rule.at_least q.acked n)))
 
 pub arrives_good : (m a b : ℕ) (p q : Pair) (o : Option SentLoad) → PartsAnywhere m (rule.arrives a b p q o)
 arrives_good m a b p q None = (tt, tt)

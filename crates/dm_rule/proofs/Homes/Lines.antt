@@ -1,8 +1,8 @@
 -- Each line that is said where it belongs keeps all of it: addresses, rings and lists; so do the parts of a group.
 use Rattle.dm_rule.proofs.Names.{◌≡◌, ℕ, ◌+◌, ◌≤◌, ◌==◌, ◌&&◌, Bool, true, false, List, [], ◌∷◌, length, refl, ap, ◌∙◌, sym, subst, is_some, arith, nat_le, if◌then◌else◌, Option, None, Some, nat_tests, Pid, Place, MsgId, MessageKind}
 use Rattle.dm_rule.proofs.Names.{plain_kind, PlainMessage, Boot, Label, IsValid, OneKernel, entry, in_bag, reception, Sound, bind-is, after_step, start-sound, Line, Load, untaken, View, Pair, Told, after_label, after_put, handled, ◌||◌}
-use Rattle.dm_rule.proofs.Names.{pid_eq, PlainWhat, BootProcess, switchboard, manager, Known, Unknown, Here, known_at, Addresses, Receiver, Gets, given, own_given, first_gives, addresses_after, Point, first_point, after, after_line, moved}
-use Rattle.dm_rule.proofs.Names.{Routes, lines_of, puts, packet_line, goes_out, Homes, is_for_home, gives, topic_by, About, sort_of}
+use Rattle.dm_rule.proofs.Names.{pid_eq, PlainWhat, BootProcess, switchboard, manager, Known, Unknown, Here, known_at, Addresses, Receiver, Gets, given, own_given, first_gives, Point, first_point, after, after_line, moved, act_of}
+use Rattle.dm_rule.proofs.Names.{Routes, lines_of, puts, packet_line, goes_out, Homes, is_for_home, gives, topic_by, About, sort_of, addresses_by}
 use Rattle.std.proofs.Common.{is_none}
 use Rattle.dm_rule.proofs.Homes.{IsHome, AtHome, homes_are}
 use Rattle.dm_rule.proofs.Homes.Start.{start_at_home, Homes-start}
@@ -101,7 +101,7 @@ pub first_none : (o : Option Told) (gs : List Gets) → gs ≡ [] → first_give
 first_none None gs e = e
 first_none (Some t) gs e = refl
 
-put_at_home : (s : OneKernel) (v : View) (a : Addresses) (from b : ℕ) (id : MsgId) (w : PlainWhat) (q : Pid) → AtHome IsHome s a → AtHome IsHome s (addresses_after s v a (Line.Put from b id (plain_kind w) q))
+put_at_home : (s : OneKernel) (v : View) (a : Addresses) (from b : ℕ) (id : MsgId) (w : PlainWhat) (q : Pid) → AtHome IsHome s a → AtHome IsHome s (addresses_by s v a (act_of (Line.Put from b id (plain_kind w) q)))
 put_at_home s v a from b id w q h = subst (AtHome IsHome s) (sym (ap (given a) (first_none (v.told id) (own_given s v a id q (sort_of (plain_kind w))) (own_none s v a id q w)))) h
 
 -- a routed message

@@ -2,7 +2,7 @@
 use Rattle.dm_rule.proofs.Names.{◌≡◌, ℕ, zero, suc, ◌+◌, ◌==◌, ◌&&◌, Bool, true, false, List, [], ◌∷◌, ◌++◌, refl, ap, ◌∙◌, sym, subst, inl, inr, arith, nat_lt, length, if◌then◌else◌, slice_get, Option, None, Some, nat_tests, Pid, Place}
 use Rattle.dm_rule.proofs.Names.{pid_eq, PlainLink, MsgId, id_of, Label, PlainMessage, PlainWhat, bind, OneKernel, without_message, id_eq-same, bind-is, View, Addresses, Gets, gets, given, gives, Receiver, Sender, Enclosed, unmoved, pid_of}
 use Rattle.dm_rule.proofs.Names.{◌*◌, Pending, Manager, switchboard, manager, Child, Name, Answer, encloses, enclosed_from, board_takes_burden, manager_sends, manager_answers, manager_takes_burden, links_in, ascends, AskedBy, Outcome}
-use Rattle.dm_rule.proofs.Names.{code_of_outcome, PendingKind, burden_of}
+use Rattle.dm_rule.proofs.Names.{code_of_outcome, PendingKind, option_map_or}
 use Rattle.dm_rule.proofs.Homes.{place_as, pid_as, acts_at, AtHome}
 use Rattle.dm_rule.proofs.Homes.Rows.{SameProcess, SameMessage, sent_home, at_home_out, process_same, message_same, encloses_servers, encloses_process, encloses_message, encloses_at}
 use Rattle.dm_rule.proofs.Homes.Serves.{two, two_sends, Named, ReceivedAt}
@@ -40,7 +40,7 @@ enclosed_at a id n (l ∷ ls) zero w e = let f : n ≡ n + 0 = omega arith in ap
 enclosed_at a id n (l ∷ ls) (suc k) w e = let f : (n + 1) + k ≡ n + suc k = omega arith in enclosed_at a id (n + 1) ls k w e ∙ ap (λ (i : ℕ). Some (a (Enclosed id i))) f
 
 -- the first link of a message, which is kept with a request
-first_home : (P : Pid → Place → Type 0) (a : Addresses) (mid : MsgId) (links : List PlainLink) (w : PlainLink) → LinksHome P a mid links → manage.first_link links ≡ Some w → P w.to (a (Enclosed mid 0))
+first_home : (P : Pid → Place → Type 0) (a : Addresses) (mid : MsgId) (links : List PlainLink) (w : PlainLink) → LinksHome P a mid links → (slice_get links 0) ≡ Some w → P w.to (a (Enclosed mid 0))
 first_home P a mid links w h1 h2 = search arith
 
 -- the links that are kept, once one more request is pending
@@ -108,7 +108,7 @@ tells_home P s v a id code child w none to at h =
     (counted P s a id h) none to (acts_at P manager v.acting (h.rooted manager) at)
 
 control_by : (P : Pid → Place → Type 0) (s : OneKernel) (v : View) (a : Addresses) (id mid : MsgId) (code : ℕ) (child : Pid) (b c d : Bool) (links : List PlainLink) → P child (a (Child code)) → LinksHome P a mid links → v.acting ≡ 0 → AtHome P s a
-    → TookAt P s v a id mid code (manage.tells_child s.manager child (if b then Some PlainWhat.Stop else if c then Some PlainWhat.Resume else if d then Some PlainWhat.Kill else None) links)
+    → TookAt P s v a id mid code (option_map_or (manage.tells s.manager child) (if b then Some PlainWhat.Stop else if c then Some PlainWhat.Resume else if d then Some PlainWhat.Kill else None) (manage.bad_request s.manager links))
 control_by P s v a id mid code child true c d links to en at h = tells_home P s v a id code child PlainWhat.Stop refl to at h
 control_by P s v a id mid code child false true d links to en at h = tells_home P s v a id code child PlainWhat.Resume refl to at h
 control_by P s v a id mid code child false false true links to en at h = tells_home P s v a id code child PlainWhat.Kill refl to at h
@@ -116,14 +116,14 @@ control_by P s v a id mid code child false false false links to en at h = bad_ho
 
 -- a child is to move
 moves_home : (P : Pid → Place → Type 0) (s : OneKernel) (v : View) (a : Addresses) (id mid : MsgId) (code : ℕ) (child : Pid) (machine : ℕ) (links : List PlainLink) → P child (a (Child code)) → LinksHome P a mid links → v.acting ≡ 0 → AtHome P s a
-    → TookAt P s v a id mid code (manage.sends_request s.manager PendingKind.Move child (PlainWhat.Move machine) (manage.first_link links))
+    → TookAt P s v a id mid code (manage.sends_request s.manager PendingKind.Move child (PlainWhat.Move machine) (slice_get links 0))
 moves_home P s v a id mid code child machine links to en at h =
     let u = at_home_out P s a id h in
     let n = s.manager.sent in
-    let z : Pending = record { n = n; kind = PendingKind.Move; answer = manage.first_link links } in
+    let z : Pending = record { n = n; kind = PendingKind.Move; answer = (slice_get links 0) } in
     let pl = a (Enclosed mid 0) in
     let b = given a (gets (Answer n) pl ∷ []) in
-    let k = manage.sends_request s.manager PendingKind.Move child (PlainWhat.Move machine) (manage.first_link links) in
+    let k = manage.sends_request s.manager PendingKind.Move child (PlainWhat.Move machine) (slice_get links 0) in
     let m : PlainMessage = record { id = id_of manager n; to = child; sender = manager; what = PlainWhat.Move machine } in
     let kept : AtHome P (record (without_message s id) { manager = k.manager }) b = record {
       processes = λ q x e. process_same P a b q x (record { slot = λ i. refl; owner = refl }) (u.processes q x e);
@@ -151,7 +151,7 @@ controls_home : (P : Pid → Place → Type 0) (s : OneKernel) (v : View) (a : A
     → TookAt P s v a id mid code (manage.controls s.manager s.machines o body links)
 controls_home P s v a id mid code (Some child) (op ∷ []) links is en at h = control_by P s v a id mid code child (op == 2) (op == 3) (op == 4) links (h.children code child is) en at h
 controls_home P s v a id mid code (Some child) (op ∷ machine ∷ []) links is en at h =
-    let k = manage.sends_request s.manager PendingKind.Move child (PlainWhat.Move machine) (manage.first_link links) in
+    let k = manage.sends_request s.manager PendingKind.Move child (PlainWhat.Move machine) (slice_get links 0) in
     let bad = bad_home P s v a id mid code links en at h in
     by_test (TookAt P s v a id mid code) (op == 5) (manage.moves_child s.manager s.machines child machine links) (manage.bad_request s.manager links)
     (by_test (TookAt P s v a id mid code) (nat_lt machine s.machines) k (manage.bad_request s.manager links) (moves_home P s v a id mid code child machine links (h.children code child is) en at h) bad) bad
@@ -238,7 +238,7 @@ over_child P t a v n k pl g byte ls (Some l) w = record {
   pending = w.pending;
 }
 
-created_by : (P : Pid → Place → Type 0) (s : OneKernel) (v : View) (a : Addresses) (id : MsgId) (m : PlainMessage) (child : Pid) (o : Option Pending) (k : manage.ManagerTook) → manage.pending_numbered m.id.n s.manager.pending ≡ o → manage.takes_created s.manager m.id.n child o ≡ Some k
+created_by : (P : Pid → Place → Type 0) (s : OneKernel) (v : View) (a : Addresses) (id : MsgId) (m : PlainMessage) (child : Pid) (o : Option Pending) (k : manage.ManagerTook) → manage.pending_numbered m.id.n s.manager.pending ≡ o → (manage.takes_answer s.manager m.id.n (s.manager.children ++ child ∷ []) 0 (manage.control_link (length s.manager.children + 1) ∷ [])) o ≡ Some k
     → v.acting ≡ 0 → AtHome P s a → AtHome P (service.manager_took s id k) (given a (gets (Child (length s.manager.children + 1)) (unmoved child.home) ∷ manager_answers v a m.id.n k.message))
 created_by P s v a id m child None k is e at h = cc
 created_by P s v a id m child (Some r) k is e at h =
@@ -262,7 +262,7 @@ ended_by P s v a id n byte r k is f at h =
     (λ q. record { slot = λ i. refl; owner = refl }) (λ i. record { receiver = refl; sender = refl; enclosed = λ j. refl }) (λ i. refl) (λ i. refl) (λ q. refl) h.children in
     subst (λ (t : manage.ManagerTook). AtHome P (service.manager_took s id t) (given a (manager_answers v a n t.message))) f w
 
-no_room_by : (P : Pid → Place → Type 0) (s : OneKernel) (v : View) (a : Addresses) (id : MsgId) (n : ℕ) (o : Option Pending) (k : manage.ManagerTook) → manage.pending_numbered n s.manager.pending ≡ o → manage.takes_no_room s.manager n o ≡ Some k
+no_room_by : (P : Pid → Place → Type 0) (s : OneKernel) (v : View) (a : Addresses) (id : MsgId) (n : ℕ) (o : Option Pending) (k : manage.ManagerTook) → manage.pending_numbered n s.manager.pending ≡ o → (manage.takes_answer s.manager n s.manager.children 1 []) o ≡ Some k
     → v.acting ≡ 0 → AtHome P s a → AtHome P (service.manager_took s id k) (given a (manager_answers v a n k.message))
 no_room_by P s v a id n None k is e at h = cc
 no_room_by P s v a id n (Some r) k is e at h =
@@ -270,7 +270,7 @@ no_room_by P s v a id n (Some r) k is e at h =
     ended_by P s v a id n 1 r k is (let f : manage.answers_over g r.answer 1 [] ≡ k = cc in f) at h
 
 moved_by : (P : Pid → Place → Type 0) (s : OneKernel) (v : View) (a : Addresses) (id : MsgId) (n : ℕ) (outcome : Outcome) (o : Option Pending) (k : manage.ManagerTook) → manage.pending_numbered n s.manager.pending ≡ o
-    → manage.takes_moved s.manager n outcome o ≡ Some k → v.acting ≡ 0 → AtHome P s a → AtHome P (service.manager_took s id k) (given a (manager_answers v a n k.message))
+    → (manage.takes_answer s.manager n s.manager.children (code_of_outcome outcome) []) o ≡ Some k → v.acting ≡ 0 → AtHome P s a → AtHome P (service.manager_took s id k) (given a (manager_answers v a n k.message))
 moved_by P s v a id n outcome None k is e at h = cc
 moved_by P s v a id n outcome (Some r) k is e at h =
     let g = record s.manager { pending = manage.without_pending n s.manager.pending } in
@@ -278,7 +278,7 @@ moved_by P s v a id n outcome (Some r) k is e at h =
 
 manager_row : (P : Pid → Place → Type 0) (s t : OneKernel) (v : View) (a : Addresses) (id : MsgId) (m : PlainMessage) (w : PlainWhat) → m.what ≡ w → m.id ≡ id → s.bag id ≡ Some m → v.acting ≡ 0 → AtHome P s a
     → bind (manage.manager_takes s.manager s.machines (length s.images) m w) (λ (k : manage.ManagerTook). Some (service.manager_took s id k)) ≡ Some t
-    → AtHome P t (given a (manager_takes_burden s v a m (burden_of w) (manage.manager_takes s.manager s.machines (length s.images) m w)))
+    → AtHome P t (given a (manager_takes_burden s v a m w (manage.manager_takes s.manager s.machines (length s.images) m w)))
 manager_row P s t v a id m (PlainWhat.User code channel body links) is name there at h e =
     let k = manage.takes_user s.manager s.machines (length s.images) code body links in
     let f : service.manager_took s id k ≡ t = cc in
@@ -286,23 +286,23 @@ manager_row P s t v a id m (PlainWhat.User code channel body links) is name ther
     subst (λ (u : OneKernel). AtHome P u (given a (manager_sends v a m.id code k.message))) f
     (user_home P s v a id m.id code body links (λ n w g. place_as P (ap (λ (i : MsgId). a (Enclosed i n)) name) (hm.enclosed n w (ap (λ (x : PlainWhat). slice_get (links_in x) n) is ∙ g))) at h)
 manager_row P s t v a id m (PlainWhat.Created child) is name there at h e =
-    let o = manage.takes_created s.manager m.id.n child (manage.pending_numbered m.id.n s.manager.pending) in
+    let o = (manage.takes_answer s.manager m.id.n (s.manager.children ++ child ∷ []) 0 (manage.control_link (length s.manager.children + 1) ∷ [])) (manage.pending_numbered m.id.n s.manager.pending) in
     let (k, took, last) = bind-is o (λ (x : manage.ManagerTook). Some (service.manager_took s id x)) t e in
     let f : service.manager_took s id k ≡ t = cc in
-    subst (λ (u : OneKernel). AtHome P u (given a (manager_takes_burden s v a m (burden_of (PlainWhat.Created child)) o))) f
-    (subst (λ (p : Option manage.ManagerTook). AtHome P (service.manager_took s id k) (given a (manager_takes_burden s v a m (burden_of (PlainWhat.Created child)) p))) (sym took) (created_by P s v a id m child (manage.pending_numbered m.id.n s.manager.pending) k refl took at h))
+    subst (λ (u : OneKernel). AtHome P u (given a (manager_takes_burden s v a m (PlainWhat.Created child) o))) f
+    (subst (λ (p : Option manage.ManagerTook). AtHome P (service.manager_took s id k) (given a (manager_takes_burden s v a m (PlainWhat.Created child) p))) (sym took) (created_by P s v a id m child (manage.pending_numbered m.id.n s.manager.pending) k refl took at h))
 manager_row P s t v a id m PlainWhat.NoRoom is name there at h e =
-    let o = manage.takes_no_room s.manager m.id.n (manage.pending_numbered m.id.n s.manager.pending) in
+    let o = (manage.takes_answer s.manager m.id.n s.manager.children 1 []) (manage.pending_numbered m.id.n s.manager.pending) in
     let (k, took, last) = bind-is o (λ (x : manage.ManagerTook). Some (service.manager_took s id x)) t e in
     let f : service.manager_took s id k ≡ t = cc in
-    subst (λ (u : OneKernel). AtHome P u (given a (manager_takes_burden s v a m (burden_of PlainWhat.NoRoom) o))) f
-    (subst (λ (p : Option manage.ManagerTook). AtHome P (service.manager_took s id k) (given a (manager_takes_burden s v a m (burden_of PlainWhat.NoRoom) p))) (sym took) (no_room_by P s v a id m.id.n (manage.pending_numbered m.id.n s.manager.pending) k refl took at h))
+    subst (λ (u : OneKernel). AtHome P u (given a (manager_takes_burden s v a m PlainWhat.NoRoom o))) f
+    (subst (λ (p : Option manage.ManagerTook). AtHome P (service.manager_took s id k) (given a (manager_takes_burden s v a m PlainWhat.NoRoom p))) (sym took) (no_room_by P s v a id m.id.n (manage.pending_numbered m.id.n s.manager.pending) k refl took at h))
 manager_row P s t v a id m (PlainWhat.Moved outcome) is name there at h e =
-    let o = manage.takes_moved s.manager m.id.n outcome (manage.pending_numbered m.id.n s.manager.pending) in
+    let o = (manage.takes_answer s.manager m.id.n s.manager.children (code_of_outcome outcome) []) (manage.pending_numbered m.id.n s.manager.pending) in
     let (k, took, last) = bind-is o (λ (x : manage.ManagerTook). Some (service.manager_took s id x)) t e in
     let f : service.manager_took s id k ≡ t = cc in
-    subst (λ (u : OneKernel). AtHome P u (given a (manager_takes_burden s v a m (burden_of (PlainWhat.Moved outcome)) o))) f
-    (subst (λ (p : Option manage.ManagerTook). AtHome P (service.manager_took s id k) (given a (manager_takes_burden s v a m (burden_of (PlainWhat.Moved outcome)) p))) (sym took)
+    subst (λ (u : OneKernel). AtHome P u (given a (manager_takes_burden s v a m (PlainWhat.Moved outcome) o))) f
+    (subst (λ (p : Option manage.ManagerTook). AtHome P (service.manager_took s id k) (given a (manager_takes_burden s v a m (PlainWhat.Moved outcome) p))) (sym took)
     (moved_by P s v a id m.id.n outcome (manage.pending_numbered m.id.n s.manager.pending) k refl took at h))
 manager_row P s t v a id m _ is name there at h e = cc
 
@@ -310,7 +310,7 @@ takes_by : (P : Pid → Place → Type 0) (s t : OneKernel) (v : View) (a : Addr
     → (if b then bind (board.board_takes s.switchboard m m.what) (λ (k : board.BoardTook). Some (service.switchboard_took s id k))
     else if c then bind (manage.manager_takes s.manager s.machines (length s.images) m m.what) (λ (k : manage.ManagerTook). Some (service.manager_took s id k))
     else None) ≡ Some t
-    → AtHome P t (given a (if b then board_takes_burden s v a id (burden_of m.what) else manager_takes_burden s v a m (burden_of m.what) (manage.manager_takes s.manager s.machines (length s.images) m m.what)))
+    → AtHome P t (given a (if b then board_takes_burden s v a id m.what else manager_takes_burden s v a m m.what (manage.manager_takes s.manager s.machines (length s.images) m m.what)))
 takes_by P s t v a id m true c is as_ name there at h e = board_row P s t v a id m m.what refl there (let f : v.acting ≡ 0 = grind (arith, nat_tests) in f) h e
 takes_by P s t v a id m false true is as_ name there at h e = manager_row P s t v a id m m.what refl name there (let f : v.acting ≡ 0 = grind (arith, nat_tests) in f) h e
 takes_by P s t v a id m false false is as_ name there at h e = cc

@@ -1,7 +1,7 @@
 -- What servers do keeps addresses where they may be.
 use Rattle.dm_rule.proofs.Names.{◌≡◌, ℕ, zero, suc, ◌+◌, ◌==◌, ◌&&◌, Bool, true, false, List, [], ◌∷◌, ◌++◌, refl, ap, ◌∙◌, sym, subst, ◌⊎◌, inl, inr, arith, nat_lt, nat_le, length, if◌then◌else◌, slice_get, Option, None, Some, cases_Bool}
 use Rattle.dm_rule.proofs.Names.{nat_tests, Pid, Place, PlainLink, MsgId, id_eq, id_of, PlainMessage, PlainWhat, bind, OneKernel, without_message, id_eq-same, View, Addresses, gets, given, Enclosed, unmoved, NamedLink, Pending, switchboard}
-use Rattle.dm_rule.proofs.Names.{is_general, Child, Name, Answer, AskedBy, place_named, board_finds, board_keeps, board_takes_burden, links_in, ascends, burden_of}
+use Rattle.dm_rule.proofs.Names.{is_general, Child, Name, Answer, AskedBy, place_named, board_finds, board_keeps, board_takes_burden, links_in, ascends, option_map_or}
 use Rattle.dm_rule.proofs.Homes.{place_as, pid_as, acts_at, AtHome}
 use Rattle.dm_rule.proofs.Homes.Rows.{SameProcess, SameMessage, sent_home, at_home_out, process_same}
 use Rattle.dm_rule.proofs.Homes.Serves.{two, two_off}
@@ -120,7 +120,7 @@ still_pending (p ∷ ps) from to n k r e f =
 -- the switchboard
 pub record AskedHome (P : Pid → Place → Type 0) (a b : Addresses) (sent : MsgId) (k : board.Asked) : Type 0 where
   pub named : (n : ℕ) (w : NamedLink) → slice_get k.names n ≡ Some w → P w.link.to (b (Name n))
-  pub enclosed : (n : ℕ) (l : PlainLink) → slice_get (board.links_of_answer k.answer) n ≡ Some l → P l.to (b (Enclosed sent n))
+  pub enclosed : (n : ℕ) (l : PlainLink) → slice_get ((board.answer_row k.answer).1) n ≡ Some l → P l.to (b (Enclosed sent n))
   pub process : (q : Pid) → SameProcess a b q
   pub message : (i : MsgId) → id_eq sent i ≡ false → SameMessage a b i
   pub child : (n : ℕ) → b (Child n) ≡ a (Child n)
@@ -133,7 +133,7 @@ NamesHome P a names = (n : ℕ) (w : NamedLink) → slice_get names n ≡ Some w
 abbrev AsksHome : (Pid → Place → Type 0) → Addresses → MsgId → MsgId → List NamedLink → List ℕ → board.Asked → Type 0
 AsksHome P a id sent names body k = AskedHome P a (given a (board_finds a sent names body k.answer ++ board_keeps a id names k.answer)) sent k
 
-plain_asked : (P : Pid → Place → Type 0) (a : Addresses) (sent : MsgId) (names : List NamedLink) (k : board.Answer) → board.links_of_answer k ≡ [] → NamesHome P a names → AskedHome P a a sent (record { names = names; answer = k })
+plain_asked : (P : Pid → Place → Type 0) (a : Addresses) (sent : MsgId) (names : List NamedLink) (k : board.Answer) → ((board.answer_row k).1) ≡ [] → NamesHome P a names → AskedHome P a a sent (record { names = names; answer = k })
 plain_asked P a sent names k none h = search arith
 
 pub record FoundAt (name : List ℕ) (names : List NamedLink) (n : ℕ) (l : PlainLink) : Type 0 where
@@ -160,7 +160,7 @@ found_one : (P : Pid → Place → Type 0) (a : Addresses) (sent : MsgId) (pl : 
 found_one P a sent pl l h1 n w h2 = search (arith, id_eq-same, place_as, pid_as)
 
 looks_up_home : (P : Pid → Place → Type 0) (a : Addresses) (id sent : MsgId) (names : List NamedLink) (op : ℕ) (name : List ℕ) (o : Option PlainLink) → board.link_named name names ≡ o → NamesHome P a names
-    → AsksHome P a id sent names (op ∷ name) (record { names = names; answer = board.found_or_unknown o })
+    → AsksHome P a id sent names (op ∷ name) (record { names = names; answer = (option_map_or board.Found o board.Unknown) })
 looks_up_home P a id sent names op name None is h = plain_asked P a sent names board.Unknown refl h
 looks_up_home P a id sent names op name (Some l) is h =
     let f = found_at name names 0 l is in
@@ -193,7 +193,7 @@ asks_home P a id sent names (op ∷ name) ls en h =
     (by_test (AsksHome P a id sent names (op ∷ name)) (op == 2) (board.asks_to_look_up names name ls) (board.board_bad_request names) (to_look_up P a id sent names op name ls h) (plain_asked P a sent names board.BadRequest refl h))
 
 board_request : (P : Pid → Place → Type 0) (s : OneKernel) (v : View) (a : Addresses) (id : MsgId) (code channel : ℕ) (body : List ℕ) (links : List PlainLink) → ((n : ℕ) (w : PlainLink) → slice_get links n ≡ Some w → P w.to (a (Enclosed id n))) → v.acting ≡ 0 → AtHome P s a
-    → AtHome P (service.switchboard_took s id (board.takes_request s.switchboard body links)) (given a (board_takes_burden s v a id (burden_of (PlainWhat.User code channel body links))))
+    → AtHome P (service.switchboard_took s id (board.takes_request s.switchboard body links)) (given a (board_takes_burden s v a id (PlainWhat.User code channel body links)))
 board_request P s v a id code channel body [] en at h =
     let u = at_home_out P s a id h in
     record { processes = u.processes; messages = u.messages; children = u.children; named = u.named; answers = u.answers; askers = u.askers; rooted = u.rooted; pending = u.pending }
@@ -205,7 +205,7 @@ board_request P s v a id code channel body (l ∷ ls) en at h =
     let b = given a (board_finds a sent s.switchboard.names body asked.answer ++ board_keeps a id s.switchboard.names asked.answer) in
     let to = a (Enclosed id 0) in
     let from = unmoved v.acting in
-    let m = board.goes_over switchboard s.switchboard.sent l (board.code_of_answer asked.answer ∷ []) (board.links_of_answer asked.answer) in
+    let m = board.goes_over switchboard s.switchboard.sent l (((board.answer_row asked.answer).0) ∷ []) ((board.answer_row asked.answer).1) in
     let t = record (without_message s id) { switchboard = (board.takes_request s.switchboard body (l ∷ ls)).switchboard } in
     record {
       processes = λ q x e. process_same P a (given b (two sent to from)) q x (let w = k.process q in record { slot = w.slot; owner = w.owner }) (h.processes q x e);
@@ -221,10 +221,10 @@ board_request P s v a id code channel body (l ∷ ls) en at h =
     }
 
 pub board_row : (P : Pid → Place → Type 0) (s t : OneKernel) (v : View) (a : Addresses) (id : MsgId) (m : PlainMessage) (w : PlainWhat) → m.what ≡ w → s.bag id ≡ Some m → v.acting ≡ 0 → AtHome P s a
-    → bind (board.board_takes s.switchboard m w) (λ (k : board.BoardTook). Some (service.switchboard_took s id k)) ≡ Some t → AtHome P t (given a (board_takes_burden s v a id (burden_of w)))
+    → bind (board.board_takes s.switchboard m w) (λ (k : board.BoardTook). Some (service.switchboard_took s id k)) ≡ Some t → AtHome P t (given a (board_takes_burden s v a id w))
 board_row P s t v a id m (PlainWhat.User code channel body links) is there at h e =
     let k : service.switchboard_took s id (board.takes_request s.switchboard body links) ≡ t = cc in
     let hm = h.messages id m there in
-    subst (λ (u : OneKernel). AtHome P u (given a (board_takes_burden s v a id (burden_of (PlainWhat.User code channel body links))))) k
+    subst (λ (u : OneKernel). AtHome P u (given a (board_takes_burden s v a id (PlainWhat.User code channel body links)))) k
     (board_request P s v a id code channel body links (λ n w f. hm.enclosed n w (ap (λ (x : PlainWhat). slice_get (links_in x) n) is ∙ f)) at h)
 board_row P s t v a id m _ is there at h e = cc

@@ -2,7 +2,7 @@
 use Rattle.dm_rule.proofs.Names.{◌≡◌, ℕ, zero, suc, ◌+◌, ◌==◌, ◌&&◌, Bool, true, false, List, [], ◌∷◌, ◌++◌, refl, ap, ◌∙◌, sym, subst, arith, nat_le, length, ⊤, if◌then◌else◌, map, slice_get, Option, None, Some, nat_tests, Pid, Place}
 use Rattle.dm_rule.proofs.Names.{pid_eq, PlainLink, link_at, MsgId, id_eq, Label, Why, PlainMessage, PlainWhat, Reply, bind, PlainProcess, PlainStatus, Moving, Alive, OneKernel, with_process, with_sent, without_message, pid_eq-same}
 use Rattle.dm_rule.proofs.Names.{id_eq-same, bind-is, when-is, View, Addresses, Gets, gets, given, gives, Slot, Owner, Receiver, Sender, Enclosed, unmoved, acting_place, replicate, ◌-◌, take, drop, Direction, BootImage, first_number}
-use Rattle.dm_rule.proofs.Names.{answer_id, answer_to, begun, pid_of, answer_gets, serves_burden, landing_gets, child_links, links_in, at_hand-is, AskedBy, MoveNote, Outcome, with_note, without_note, ends_move-is, burden_of, option_map_or}
+use Rattle.dm_rule.proofs.Names.{answer_id, answer_to, begun, pid_of, answer_gets, serves_burden, landing_gets, links_in, at_hand-is, AskedBy, MoveNote, Outcome, with_note, without_note, ends_move-is, option_map_or, child_links}
 use Rattle.dm_onekernel.specs.Kernel.{Ended}
 use Rattle.dm_rule.proofs.Homes.{place_as, pid_as, acts_at, HomeProcess, AtHome}
 use Rattle.dm_rule.proofs.Homes.Rows.{SameProcess, SameMessage, SameServers, sent_home, at_home_process, at_home_out, home_goes, alive_on, message_same, process_same}
@@ -179,7 +179,7 @@ some_is b x y h1 = search arith
 
 -- a row a kind
 serve_row : (P : Pid → Place → Type 0) (s t : OneKernel) (v : View) (a : Addresses) (id : MsgId) (m : PlainMessage) (x : PlainProcess) (w : PlainWhat) → m.what ≡ w → service.serves s id m x w ≡ Some t → s.bag id ≡ Some m → m.id ≡ id → HomeProcess P a m.to x
-    → P m.to (acting_place v m.to) → AtHome P s a → AtHome P t (given a (serves_burden v a id m x (burden_of w)))
+    → P m.to (acting_place v m.to) → AtHome P s a → AtHome P t (given a (serves_burden v a id m x w))
 serve_row P s t v a id m x PlainWhat.Stop w is there name hx at h =
     let k : service.changed s id m (record x { stopped = true }) ≡ t = cc in
     subst (λ (u : OneKernel). AtHome P u a) k (home_goes P (without_message s id) a m.to (record x { stopped = true }) (at_home_out P s a id h) (record { slots = hx.slots; owner = hx.owner }))
@@ -213,8 +213,8 @@ served_home P s t v a id is named at h =
     let (m, there, rest) = bind-is (s.bag id) (λ (w : PlainMessage). bind (kernel.at_hand s w.to) (λ (p : PlainProcess). service.serves s id w p w.what)) t is in
     let (x, hand, last) = bind-is (kernel.at_hand s m.to) (λ (p : PlainProcess). service.serves s id m p m.what) t rest in
     let alive : kernel.alive (s.processes m.to) ≡ Some x = ap kernel.alive (at_hand-is s m.to x hand).1 in
-    let gs_is : serves_burden v a id m x (burden_of m.what) ≡ gives s v a (Label.Served id) =
-    ap (λ (o : Option PlainProcess). option_map_or (λ y. serves_burden v a id m y (burden_of m.what)) o []) (sym alive) ∙ ap (addresses.service_gets s v a id) (sym there) in
+    let gs_is : serves_burden v a id m x m.what ≡ gives s v a (Label.Served id) =
+    ap (λ (o : Option PlainProcess). option_map_or (λ y. serves_burden v a id m y m.what) o []) (sym alive) ∙ ap (addresses.service_gets s v a id) (sym there) in
     subst (λ (gs : List Gets). AtHome P t (given a gs)) gs_is
     (serve_row P s t v a id m x m.what refl last there (named id m there) (h.processes m.to x alive) (at m there) h)
 
@@ -272,7 +272,7 @@ created_row P s t v a id m child links image is there links_are named at h =
     (subst (λ (i : MsgId). AtHome P (with_sent u (Some n)) (given a (two (answer_id i) (a (Sender id)) (unmoved v.acting) ++ child_links a child id 0 links))) name sent)
 
 creates_row : (P : Pid → Place → Type 0) (s t : OneKernel) (v : View) (a : Addresses) (id : MsgId) (m : PlainMessage) (child : Pid) (w : PlainWhat) → m.what ≡ w → service.creates s id m child w ≡ Some t → s.bag id ≡ Some m → Named s → ReceivedAt s v.acting id → AtHome P s a
-    → AtHome P t (given a (answer_gets a id (unmoved v.acting) ++ addresses.creates_burden a id child (burden_of w)))
+    → AtHome P t (given a (answer_gets a id (unmoved v.acting) ++ addresses.creates_burden a id child w))
 creates_row P s t v a id m child (PlainWhat.Create image links) w is there named at h =
     let (i, image_is, last) = bind-is (slice_get s.images image) (service.creates_of s id m child links) t is in
     created_row P s t v a id m child links i last there (ap links_in w) named at h
@@ -309,7 +309,7 @@ pub asked_home : (P : Pid → Place → Type 0) (s t : OneKernel) (v : View) (a 
 asked_home P s t v a id is h =
     let (m, there, rest) = bind-is (s.bag id) (λ (w : PlainMessage). bind (kernel.at_hand s w.to) (λ (p : PlainProcess). service.follows_request s id w w.what)) t is in
     let (x, hand, last) = bind-is (kernel.at_hand s m.to) (λ (p : PlainProcess). service.follows_request s id m m.what) t rest in
-    subst (λ (gs : List Gets). AtHome P t (given a gs)) (ap (giving.given_to_follow a id) (sym there)) (asked_row P s t a id m m.what last there h)
+    subst (λ (gs : List Gets). AtHome P t (given a gs)) (ap (λ message. option_map_or (λ (m : PlainMessage). gets (AskedBy m.to) (a (Sender id)) ∷ []) message []) (sym there)) (asked_row P s t a id m m.what last there h)
 
 -- the process that follows a request is where that is answered
 abbrev pub AnsweredAt : (Pid → Place → Type 0) → OneKernel → View → MsgId → Type 0
@@ -324,4 +324,4 @@ answered_home P s t v a id o is at h =
     let m : PlainMessage = record { id = answer_id id; to = n.asker; sender = p; what = PlainWhat.Moved o } in
     let left : AtHome P u a = search arith in
     subst (λ (w : OneKernel). AtHome P w (given a (gives s v a (Label.Answered id o)))) (ends_move-is s t id p n o last)
-    (subst (λ (gs : List Gets). AtHome P (service.move_ended s id p n o) (given a gs)) (ap (giving.given_at_end v a id) (sym noted)) (two_sends P u a m (a (AskedBy p)) (acting_place v p) left refl (h.askers p n notes) (at p noted)))
+    (subst (λ (gs : List Gets). AtHome P (service.move_ended s id p n o) (given a gs)) (ap (λ process. option_map_or (λ (p : Pid). gets (Receiver (answer_id id)) (a (AskedBy p)) ∷ gets (Sender (answer_id id)) (acting_place v p) ∷ []) process []) (sym noted)) (two_sends P u a m (a (AskedBy p)) (acting_place v p) left refl (h.askers p n notes) (at p noted)))

@@ -1,7 +1,7 @@
 -- Where a run begins, each address names the home of its process.
 use Rattle.dm_rule.proofs.Names.{◌≡◌, ℕ, zero, suc, ◌==◌, ◌&&◌, ◌||◌, Bool, true, false, List, [], ◌∷◌, ◌++◌, length, refl, ap, ◌∙◌, sym, arith, nat_le, inl, inr, if◌then◌else◌, map, option_map, slice_get, replicate, Option, None, Some}
 use Rattle.dm_rule.proofs.Names.{cases_Bool, nat_tests, Pid, Link, place_of, pid_eq, PlainLink, plain_link, link_at, BootProcess, BootImage, Boot, IsValid, switchboard, manager, processes_are_valid, starting_at, slots_of, PlainProcess}
-use Rattle.dm_rule.proofs.Names.{start, life_at, first_life, begun, Alive, pid_eq-is, ring_at, first_point, unmoved, links_at, nth_child, first_addresses, Homes, are_home, left_true, right_true, option_map_or}
+use Rattle.dm_rule.proofs.Names.{start, life_at, first_life, begun, Alive, pid_eq-is, ring_at, first_point, unmoved, links_at, first_addresses, Homes, are_home, left_true, right_true, option_map_or}
 use Rattle.dm_rule.proofs.Homes.{IsHome, HomeProcess, AtHome, homes_are}
 use Rattle.dm_onekernel.specs.Boot as boot
 use Rattle.dm_onekernel.specs.Manager as manage
@@ -77,7 +77,7 @@ child_home_of [] n q e = cc
 child_home_of (p ∷ ps) zero q e = let f : p.pid ≡ q = cc in ap (λ (v : Pid). unmoved v.home) f
 child_home_of (p ∷ ps) (suc n) q e = child_home_of ps n q e
 
-child_home : (ps : List BootProcess) (n : ℕ) (q : Pid) → manage.child_numbered (map (λ (p : BootProcess). p.pid) ps) n ≡ Some q → unmoved (option_map_or (λ (p : BootProcess). p.pid.home) (nth_child ps n) 0) ≡ unmoved q.home
+child_home : (ps : List BootProcess) (n : ℕ) (q : Pid) → manage.child_numbered (map (λ (p : BootProcess). p.pid) ps) n ≡ Some q → unmoved (option_map_or (λ (p : BootProcess). p.pid.home) (manage.child_numbered ps n) 0) ≡ unmoved q.home
 child_home ps zero q e = cc
 child_home ps (suc n) q e = child_home_of ps n q e
 

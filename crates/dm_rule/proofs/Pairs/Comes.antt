@@ -1,7 +1,7 @@
 -- A delivery keeps the pairs of machines.
 use Rattle.dm_rule.proofs.Names.{◌≡◌, ℕ, zero, suc, ◌+◌, ◌-◌, ◌<◌, ◌≤◌, ◌==◌, ◌&&◌, Bool, true, false, List, [], ◌∷◌, ◌++◌, refl, ap, ◌∙◌, sym, subst, nat_lt, inl, inr, arith, length, ◌≢◌, if◌then◌else◌, slice_get, Option, None, Some}
 use Rattle.dm_rule.proofs.Names.{cases_Bool, false≢true, nat_tests, Line, Load, at_pair, View, Pair, SentLoad, with_pair, oldest, at_least, marked, Point, Part, Says, Transmits, Spelled, spelled, pair_window, has, kept_from, taking_parts}
-use Rattle.dm_rule.proofs.Names.{takes_on, less, more, let_go, arrives, numbers_from, repeats, comes}
+use Rattle.dm_rule.proofs.Names.{takes_on, less, let_go, arrives, numbers_from, repeats, comes}
 use Rattle.dm_rule.proofs.Pairs.Stand.{LoadStands, Apart, KeptStands, Stand, WireStands-at, set_same, set_other, two_of, Stand-set}
 use Rattle.dm_rule.proofs.Pairs.Moves.{Paired, Goes, changed, packed, next_goes, acked_goes, off, off_has, or_cases}
 use Rattle.dm_rule.proofs.Pairs.Lines.{Onward, onward, says_view, transmits_view, taken_pair, keeps}
@@ -167,14 +167,11 @@ less-left m n = grind (arith, nat_tests)
 pub less-right : (m n : ℕ) → less m n ≤ n
 less-right m n = grind (arith, nat_tests)
 
-pub more-is : (m n : ℕ) → more n m ≡ at_least m n
-more-is m n = grind (arith, nat_tests)
-
 -- an acknowledgement comes: p is the pair that leads back
 ack_comes : (pt : Point) (a b n : ℕ) (p : Pair) (w : Spelled) → (b == a) ≡ false → pt.view.pair b a ≡ p → n ≤ p.taken → Paired pt.view.pair
-    → spelled pt (Says (Line.Acked a b n) ∷ repeats b a (let_go p (more n p.acked))) ≡ Some w → Paired w.point.view.pair
+    → spelled pt (Says (Line.Acked a b n) ∷ repeats b a (let_go p (at_least p.acked n))) ≡ Some w → Paired w.point.view.pair
 ack_comes pt a b n p w ba is le h e =
-    let top = more n p.acked in
+    let top = at_least p.acked n in
     let k = less (length p.ids - p.gone) (top + pair_window - p.gone) in
     let others = repeats b a (numbers_from p.gone k) in
     let o = onward pt (Says (Line.Acked a b n)) others w e in
@@ -185,7 +182,7 @@ ack_comes pt a b n p w ba is le h e =
     at_two pt.view.pair o.next.view.pair b a (record (pt.view.pair b a) { acked = at_least (pt.view.pair b a).acked n }) pair ∙ ap (λ (q : Pair). record q { acked = at_least q.acked n }) is in
     let out : (o.next.view.pair b a).gone ≡ p.gone = ap (λ (q : Pair). q.gone) here in
     let long : length (o.next.view.pair b a).ids ≡ length p.ids = ap (λ (q : Pair). length q.ids) here in
-    let acked : (o.next.view.pair b a).acked ≡ top = ap (λ (q : Pair). q.acked) here ∙ sym (more-is p.acked n) in
+    let acked : (o.next.view.pair b a).acked ≡ top = ap (λ (q : Pair). q.acked) here in
     let x = goes.paired.stand.apart b a ba in
     let gone = x.gone in
     let full = x.full in

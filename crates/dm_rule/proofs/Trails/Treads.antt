@@ -1,7 +1,7 @@
 -- Each line keeps the trails, what machines know, and all addresses in agreement, where it fits.
-use Rattle.dm_rule.proofs.Names.{◌≡◌, ◌≢◌, ℕ, ◌+◌, ◌≤◌, Bool, true, false, List, ◌++◌, length, refl, ap, ◌∙◌, sym, subst, ⊤, ◌==◌, not, filter, slice_get, Option, None, Some, Pid, MsgId, MessageKind, manager, Label, OneKernel, Step}
+use Rattle.dm_rule.proofs.Names.{◌≡◌, ◌≢◌, ℕ, ◌+◌, ◌≤◌, Bool, true, false, List, ◌++◌, length, refl, ap, ◌∙◌, sym, subst, ⊤, ◌==◌, not, filter, slice_get, Option, None, Some, Pid, MsgId, MessageKind, manager, Label, OneKernel, Step, act_of}
 use Rattle.dm_rule.proofs.Names.{bind-is, Line, Stage, View, Told, Known, Unknown, Here, Frozen, Forward, is_kernels, own_id, view_after, after_label, after_head, after_put, after_proto, handled, taken_id, queued_for, held_for}
-use Rattle.dm_rule.proofs.Names.{forwarded_for, forward_about, served_told, ends_by, receiver_of, Addresses, Receiver, Sender, given, forwards, all_follow, own_given, first_gives, addresses_after, ascends, Nowhere, Moves, IsIn, is_restart}
+use Rattle.dm_rule.proofs.Names.{forwarded_for, forward_about, served_told, ends_by, receiver_of, Addresses, Receiver, Sender, given, forwards, all_follow, own_given, first_gives, ascends, Nowhere, Moves, IsIn, is_restart, addresses_by}
 use Rattle.dm_rule.proofs.Names.{is_early, Point, moved, after_line, times, Trails, Trail, StoodOnTrail, IsOn, AddressesOn, OwnOn, trails_after, gives, seen, sort_of, arith}
 use Rattle.dm_rule.proofs.Hushed.{hushed}
 use Rattle.dm_rule.proofs.Seen.{sets}
@@ -222,7 +222,7 @@ updated_treads : (pt : Point) (t : Trails) (id : MsgId) (n : ℕ) → Treads pt 
 updated_treads pt t id n h =
     let v = pt.view in
     let w = view_after v (Line.Updated id n) in
-    let b = addresses_after pt.kernel v pt.addresses (Line.Updated id n) in
+    let b = (addresses_by pt.kernel v pt.addresses (act_of (Line.Updated id n))) in
     let all = updated_all pt.kernel v pt.addresses t (v.told id) (λ u p m c e f. h.own.about id u p m c e f) (all_are pt.kernel v pt.addresses t h.links h.own) in
     record {
       trail = λ q. handled_trail v t id q (h.trail q);

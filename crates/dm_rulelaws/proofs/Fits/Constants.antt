@@ -3,7 +3,7 @@
 use Rattle.dm_rulelaws.proofs.Names.{by_step, ◌≡◌, ℕ, ◌+◌, ◌++◌, true, List, [], ◌∷◌, length, refl, Option, None, Some, Pid, MsgId, PlainMessage, PlainWhat, Label, Life, OneKernel, Manager, Pending, PlainLink, ascends, ascends_more}
 use Rattle.dm_rulelaws.proofs.Names.{ascends_last, ascends_without, PlainProcess, without_message, PendingKind, answer_id, code_of_outcome, zero, suc, ◌==◌, ◌&&◌, Bool, false, ap, ◌∙◌, sym, subst, nat_lt, arith, ⊤, if◌then◌else◌, slice_get}
 use Rattle.dm_rulelaws.proofs.Names.{nat_tests, manager, NamedLink, with_sent, id_eq-same, stayed, out_at, Sound, Each, Lives, has_bytes, LinkFits, awaits, WhatFits, KernelFits, id_of, IsPending, nat_le, SlotFits, is_for, kind_eq}
-use Rattle.dm_rulelaws.proofs.Names.{PendingFits, numbered_from, pid_of, MoveNote, cases_Bool, in_bag, inl, inr}
+use Rattle.dm_rulelaws.proofs.Names.{PendingFits, numbered_from, pid_of, MoveNote, cases_Bool, in_bag, inl, inr, option_map_or}
 use Rattle.dm_onekernel.specs.Kernel as kernels
 use Rattle.dm_onekernel.specs.Manager as manage
 use Rattle.dm_onekernel.specs.Service as service
@@ -76,7 +76,7 @@ record AskedFits (ps : Lives) (a : board.Asked) : Type 0 where
   names : NamesFit ps a.names
   answer : AnswerFits ps a.answer
 
-named_fits : (ps : Lives) (name : List ℕ) (names : List NamedLink) → NamesFit ps names → AnswerFits ps (board.found_or_unknown (board.link_named name names))
+named_fits : (ps : Lives) (name : List ℕ) (names : List NamedLink) → NamesFit ps names → AnswerFits ps (option_map_or board.Found (board.link_named name names) board.Unknown)
 named_fits ps name [] h = tt
 named_fits ps name (k ∷ ks) h = search (arith, board.bytes_eq k.name name, board.link_named name ks, named_fits ps name ks h.1, k.link, h.0)
 
@@ -194,7 +194,7 @@ asks_for_fits s machine image l ls within f fs order h =
     )) h
 
 -- a child is to move
-first_fits : (ps : Lives) (n : ℕ) (links : List PlainLink) → Each (LinkFits ps) links → PendingFits ps (record { n = n; kind = PendingKind.Move; answer = manage.first_link links })
+first_fits : (ps : Lives) (n : ℕ) (links : List PlainLink) → Each (LinkFits ps) links → PendingFits ps (record { n = n; kind = PendingKind.Move; answer = (slice_get links 0) })
 first_fits ps n links h1 = search arith
 
 Each-get : {X : Type 0} (P : X → Type 0) (xs : List X) (k : ℕ) (x : X) → slice_get xs k ≡ Some x → Each P xs → P x
@@ -267,10 +267,10 @@ manager_row r e s id m w k name there f is h order fits =
     let links : (ls : List PlainLink) → Letter w ls → Each (LinkFits ps) ls = λ ls u. (subst (WhatFits s id m) u.is f).1 in
     by_manager (λ x. KernelFits (service.manager_took s id x)) g s.machines (length s.images) m w k (record {
       ignores = any (record { manager = g; message = None }) (record { answers = fits.answers; children = fits.children; sends = tt; stays = λ kind n t e. e });
-      refuses = λ l ls u. any (manage.answers_byte g l 2 []) (record { answers = fits.answers; children = fits.children; sends = (link_users ps l (links (l ∷ ls) u).0, tt); stays = λ kind n t e. e });
+      refuses = λ l ls u. any (manage.answers_over g (Some l) 2 []) (record { answers = fits.answers; children = fits.children; sends = (link_users ps l (links (l ∷ ls) u).0, tt); stays = λ kind n t e. e });
       asks = λ machine image l ls u within. (let c = links (l ∷ ls) u in any (manage.asks_for g machine image l ls) (asks_for_fits s machine image l ls within c.0 c.1 order fits));
-      moves = λ code child machine ls u of_ within. any (manage.sends_request g PendingKind.Move child (PlainWhat.Move machine) (manage.first_link ls))
-          (asks_fits s PendingKind.Move child (PlainWhat.Move machine) (manage.first_link ls) order (first_fits ps g.sent ls (links ls u)) (λ pending. (child_made ps g.children code child of_ fits.children, within, refl, refl, pending)) fits);
+      moves = λ code child machine ls u of_ within. any (manage.sends_request g PendingKind.Move child (PlainWhat.Move machine) (slice_get ls 0))
+          (asks_fits s PendingKind.Move child (PlainWhat.Move machine) (slice_get ls 0) order (first_fits ps g.sent ls (links ls u)) (λ pending. (child_made ps g.children code child of_ fits.children, within, refl, refl, pending)) fits);
       tells = λ code child v of_ control.
           (let made = child_made ps g.children code child of_ fits.children in
           let u : OneKernel = record s { manager = (manage.tells g child v).manager } in

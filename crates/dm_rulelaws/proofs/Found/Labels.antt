@@ -1,12 +1,12 @@
 -- Each label keeps where addresses lead, what machines know, and where messages stand.
-use Rattle.dm_rulelaws.proofs.Names.{◌≡◌, ◌≢◌, ℕ, ◌+◌, ◌<◌, ◌≤◌, true, false, is_some, refl, ap, ◌∙◌, sym, subst, inl, inr, arith, ⊤, Option, None, Some, cases_Bool, false≢true, Pid, Place, MsgId, PlainMessage, Line, Label, OneKernel}
-use Rattle.dm_rulelaws.proofs.Names.{entry, reception, Grown, after_step, View, Told, Unknown, Here, is_kernels, after_label, handled, receiver_of, Holder, Receiver, Sender, given, gives, to_of, Point, moved, at_record_at, grown_none}
+use Rattle.dm_rulelaws.proofs.Names.{◌≡◌, ◌≢◌, ℕ, ◌+◌, ◌<◌, ◌≤◌, true, false, is_some, refl, ap, ◌∙◌, sym, subst, inl, inr, arith, ⊤, Option, None, Some, cases_Bool, false≢true, Pid, Place, MsgId, PlainMessage, Line, Label, OneKernel, gets}
+use Rattle.dm_rulelaws.proofs.Names.{entry, reception, Grown, after_step, View, Told, Unknown, Here, is_kernels, after_label, handled, receiver_of, Holder, Receiver, Sender, given, gives, to_of, Point, moved, at_record_at, grown_none, ◌∷◌}
 use Rattle.dm_rulelaws.proofs.Names.{not_kernels, AtHome, homes_are, at_home, SaidOn, label_on, ReceivedAt, dropped_known, Sane, Goes, Comes, Links, Outside, gives_spares, spared_receiver, spared_sender, label_told, label_topic, is_fixed}
 use Rattle.dm_rulelaws.proofs.Names.{zero_cases, acting_dropped, ◌⊎◌, Bool, pid_eq, plain_kind, PlainWhat, Alive, PlainProcess, pid_eq-is, bind-is, when-is, is_kill, nat_lt, List, [], length, if◌then◌else◌, id_eq, id_of, switchboard}
 use Rattle.dm_rulelaws.proofs.Names.{manager, bind, answer_id, id_eq-is, Addresses, Gets, landing_gets, serves_burden, board_takes_burden, manager_takes_burden, not_true, nat_tests, unentered, Sound, id_in, landed_id, served_id, board_id}
 use Rattle.dm_rulelaws.proofs.Names.{manager_id, took_id, bag_sends, bag_served, bag_gone, bag_no_space, bag_created, bag_took, spares, spares_both, two_more, made_spares, sends_spares, receives_spares, creates_what_spares, finds_spares}
-use Rattle.dm_rulelaws.proofs.Names.{keeps_spares, manager_takes_spares, KernelFits, topic_by, machine_in, bag_answered, aim, sets, not, filter, ◌==◌, Step, Load, Stage, About, Known, Frozen, Incoming, view_after, after_head, after_stage}
-use Rattle.dm_rulelaws.proofs.Names.{after_proto, queued_for, held_for, taken_id, oldest, gone_to, front_of, label_of, kernel_after, is_put, hushed, queued_known, held_known, proto_known, proto_acting, burden_of, option_map_or}
+use Rattle.dm_rulelaws.proofs.Names.{keeps_spares, manager_takes_spares, KernelFits, topic_by, bag_answered, aim, sets, not, filter, ◌==◌, Step, Load, Stage, About, Known, Frozen, Incoming, view_after, after_head, after_stage, AskedBy}
+use Rattle.dm_rulelaws.proofs.Names.{after_proto, queued_for, held_for, taken_id, oldest, gone_to, front_of, label_of, kernel_after, is_put, hushed, queued_known, held_known, proto_known, proto_acting, option_map_or, NothingElse}
 use Rattle.dm_rule.specs.View.{Ended}
 use Rattle.dm_rule.proofs.Trails.Places.{Owns}
 use Rattle.dm_rulelaws.proofs.Fits.Start.{fits_step}
@@ -23,6 +23,7 @@ use Rattle.dm_onekernel.specs.Switchboard as board
 use Rattle.dm_onekernel.specs.Manager as manage
 use Rattle.dm_rule.specs.Addresses as addresses
 use Rattle.dm_rule.specs.Given as request
+use Rattle.dm_rulelaws.proofs.Names.{acting_place, move_target}
 
 -- what enters is none that was told of
 apart_from : (e : MsgId → ℕ) (i j : MsgId) → 1 ≤ e i → e j ≡ 0 → id_eq j i ≡ false
@@ -33,13 +34,13 @@ lands_spares : (v : View) (a : Addresses) (p : Pid) (o : Option pieces.Landed) (
 lands_spares v a p (Some (pieces.Next n y)) i new = two_more i n.id [] (new n.id refl) refl
 lands_spares v a p _ i new = refl
 
-serve_spares : (v : View) (a : Addresses) (id : MsgId) (m : PlainMessage) (x : PlainProcess) (w : PlainWhat) (i : MsgId) → ((j : MsgId) → served_id id m x w ≡ Some j → id_eq j i ≡ false) → spares i (serves_burden v a id m x (burden_of w)) ≡ true
+serve_spares : (v : View) (a : Addresses) (id : MsgId) (m : PlainMessage) (x : PlainProcess) (w : PlainWhat) (i : MsgId) → ((j : MsgId) → served_id id m x w ≡ Some j → id_eq j i ≡ false) → spares i (serves_burden v a id m x w) ≡ true
 serve_spares v a id m x w i h1 = search (arith, two_more, lands_spares, m.to, x.status)
 
 creates_spares : (v : View) (a : Addresses) (id : MsgId) (child : Pid) (o : Option PlainMessage) (i : MsgId) → id_eq (answer_id id) i ≡ false → spares i (addresses.creation_gets v a id child o) ≡ true
 creates_spares v a id child o i h1 = search (arith, two_more, creates_what_spares)
 
-board_takes_spares : (s : OneKernel) (v : View) (a : Addresses) (id : MsgId) (w : PlainWhat) (i : MsgId) → id_eq (id_of switchboard s.switchboard.sent) i ≡ false → spares i (board_takes_burden s v a id (burden_of w)) ≡ true
+board_takes_spares : (s : OneKernel) (v : View) (a : Addresses) (id : MsgId) (w : PlainWhat) (i : MsgId) → id_eq (id_of switchboard s.switchboard.sent) i ≡ false → spares i (board_takes_burden s v a id w) ≡ true
 board_takes_spares s v a id (PlainWhat.User b1 b2 b3 b4) i e = search (arith, s.switchboard.sent, s.switchboard.names, two_more, spares_both, finds_spares, keeps_spares)
 board_takes_spares s v a id _ i e = refl
 
@@ -51,7 +52,7 @@ takes_spares : (s t : OneKernel) (v : View) (a : Addresses) (id : MsgId) (m : Pl
     → (if b then bind (board.board_takes s.switchboard m m.what) (λ (k : board.BoardTook). Some (service.switchboard_took s id k))
     else if c then bind (manage.manager_takes s.manager s.machines (length s.images) m m.what) (λ (k : manage.ManagerTook). Some (service.manager_took s id k))
     else None) ≡ Some t
-    → spares i (if b then board_takes_burden s v a id (burden_of m.what) else manager_takes_burden s v a m (burden_of m.what) (manage.manager_takes s.manager s.machines (length s.images) m m.what)) ≡ true
+    → spares i (if b then board_takes_burden s v a id m.what else manager_takes_burden s v a m m.what (manage.manager_takes s.manager s.machines (length s.images) m m.what)) ≡ true
 takes_spares s t v a id m b c i h1 h2 h3 = search (arith, board_takes_spares, m.what, s.manager, s.machines, s.images, manager_takes_spares, message_in)
 
 took_spares : (r e : MsgId → ℕ) (s t : OneKernel) (v : View) (a : Addresses) (id : MsgId) (m : PlainMessage) (i : MsgId) → s.bag id ≡ Some m → service.takes s id m ≡ Some t → ((j : MsgId) → took_id s m ≡ Some j → e j ≡ 0) → Sound r e s → 1 ≤ e i
@@ -61,7 +62,8 @@ took_spares r e s t v a id m i there is fresh h least =
     (apart_from e i (id_of switchboard s.switchboard.sent) least (unentered r e s (id_of switchboard s.switchboard.sent) h.entered (let z : nat_lt s.switchboard.sent s.switchboard.sent ≡ false = grind (arith, nat_tests) in z)))
     (λ j f. apart_from e i j least (fresh j f)) is
 
-ended_spares : (v : View) (a : Addresses) (id : MsgId) (o : Option Pid) (i : MsgId) → id_eq (answer_id id) i ≡ false → spares i (request.given_at_end v a id o) ≡ true
+ended_spares : (v : View) (a : Addresses) (id : MsgId) (o : Option Pid) (i : MsgId) → id_eq (answer_id id) i ≡ false
+    → spares i (option_map_or (λ (p : Pid). gets (Receiver (answer_id id)) (a (AskedBy p)) ∷ gets (Sender (answer_id id)) (acting_place v p) ∷ []) o []) ≡ true
 ended_spares v a id None i e = refl
 ended_spares v a id (Some p) i e = two_more i (answer_id id) [] e refl
 
@@ -72,7 +74,8 @@ told_spares r e s t v a (Label.Send p id) i is h least = sends_spares s v a p id
 told_spares r e s t v a (Label.Receive p id) i is h least = receives_spares a p id (kernel.alive (s.processes p)) (s.bag id) i
 told_spares r e s t v a (Label.Served id) i is h least =
     let q = bag_served r e s t id is h in
-    let gs_is : serves_burden v a id q.m q.x (burden_of q.m.what) ≡ gives s v a (Label.Served id) = ap (λ (o : Option PlainProcess). option_map_or (λ y. serves_burden v a id q.m y (burden_of q.m.what)) o []) (sym (ap kernel.alive q.alive)) ∙ ap (addresses.service_gets s v a id) (sym q.there) in
+    let gs_is : serves_burden v a id q.m q.x q.m.what ≡ gives s v a (Label.Served id) = ap (λ (o : Option PlainProcess). option_map_or (λ y. serves_burden v a id q.m y q.m.what) o []) (sym (ap kernel.alive q.alive))
+        ∙ ap (addresses.service_gets s v a id) (sym q.there) in
     subst (λ (gs : List Gets). spares i gs ≡ true) gs_is (serve_spares v a id q.m q.x q.m.what i (λ j f. apart_from e i j least (q.is.fresh j f)))
 told_spares r e s t v a (Label.Gone id) i is h least = two_more i (answer_id id) [] (apart_from e i (answer_id id) least ((bag_gone r e s t id is h).fresh (answer_id id) refl)) refl
 told_spares r e s t v a (Label.Took id) i is h least =
@@ -206,7 +209,7 @@ other_home n pt s w grows made h q some = grows q.home q (h.home q (made q some)
 label_home : (n : ℕ) (pt : Point) (s : OneKernel) (l : Label) → NeedsLabel pt l → kernel.step pt.kernel l ≡ Some s → Grows pt.view (after_label pt.view l) → LineCore n pt → (q : Pid) → is_some (s.processes q) ≡ true → (after_label pt.view l).known q.home q ≢ Unknown
 label_home n pt s l h1 h2 h3 h4 q h5 = search (arith, created_made, pt.kernel, q.home, pt.view, pt.view.acting, received_at, created_for, at_record_at, pt.view.known, other_home, step_made)
 
-asked_within : (n : ℕ) (s : OneKernel) (v : View) (i : MsgId) (o : Option PlainMessage) → s.bag i ≡ o → s.machines ≡ n → KernelFits s → AboutIs n v (machine_in o)
+asked_within : (n : ℕ) (s : OneKernel) (v : View) (i : MsgId) (o : Option PlainMessage) → s.bag i ≡ o → s.machines ≡ n → KernelFits s → AboutIs n v (option_map_or (λ (m : PlainMessage). move_target m.what) o NothingElse)
 asked_within n s v i None there same h = tt
 asked_within n s v i (Some m) there same h = search (arith, m.what)
 

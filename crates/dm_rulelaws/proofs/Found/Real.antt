@@ -1,7 +1,7 @@
 -- Whom addresses are of is a kernel or a server of a machine that there is, or a process that its home knows.
 use Rattle.dm_rulelaws.proofs.Names.{◌≡◌, ◌⊎◌, ℕ, zero, suc, ◌<◌, ◌==◌, ◌||◌, Bool, true, false, is_some, nat_lt, List, [], ◌∷◌, refl, ap, ◌∙◌, sym, subst, inl, inr, arith, if◌then◌else◌, slice_get, Option, None, Some, nat_tests, Pid}
 use Rattle.dm_rulelaws.proofs.Names.{pid_eq, PlainLink, link_at, MsgId, PlainMessage, PlainWhat, switchboard, manager, PlainProcess, Life, Pending, Made, alive-is, View, Holder, Slot, Owner, Receiver, Sender, Enclosed, Child, Name, Answer}
-use Rattle.dm_rulelaws.proofs.Names.{link_target, slot_of, owner_of, answer_link, to_of, sender_of, names, Point, Each, has_bytes, is_server, LinkFits, WhatFits, awaits, is_fixed, or_first, MoveNote, AskedBy, asker_in}
+use Rattle.dm_rulelaws.proofs.Names.{link_target, to_of, sender_of, names, Point, Each, has_bytes, is_server, LinkFits, WhatFits, awaits, is_fixed, or_first, MoveNote, AskedBy, asker_in, option_and_then, owner_in}
 use Rattle.dm_onekernel.specs.Manager as manage
 use Rattle.dm_onekernel.specs.Step as kernel
 use Rattle.dm_rulelaws.proofs.Fits.Rises.{both, slot_link}
@@ -64,13 +64,14 @@ link_there None q e = cc
 link_there (Some l) q e = (l, refl, (let f : l.to ≡ q = cc in f))
 
 -- each kind of holder
-slot_real : (pt : Point) (n : ℕ) (p : Pid) (k : ℕ) (q : Pid) (o : Option PlainProcess) → LineCore n pt → 0 < n → kernel.alive (pt.kernel.processes p) ≡ o → link_target (slot_of o k) ≡ Some q → IsReal n pt.view q
+slot_real : (pt : Point) (n : ℕ) (p : Pid) (k : ℕ) (q : Pid) (o : Option PlainProcess) → LineCore n pt → 0 < n → kernel.alive (pt.kernel.processes p) ≡ o → link_target (option_and_then (λ x. link_at x.links k) o) ≡ Some q
+    → IsReal n pt.view q
 slot_real pt n p k q None h some is e = cc
 slot_real pt n p k q (Some x) h some is e =
     let (l, at, to) = link_there (link_at x.links k) q e in
     subst (IsReal n pt.view) to (link_real pt n l h some (slot_link pt.kernel.processes x.links k l at (h.fits.processes p x (alive-is (pt.kernel.processes p) x is)).slots))
 
-owner_real : (pt : Point) (n : ℕ) (p q : Pid) (o : Option PlainProcess) → LineCore n pt → kernel.alive (pt.kernel.processes p) ≡ o → owner_of o ≡ Some q → IsReal n pt.view q
+owner_real : (pt : Point) (n : ℕ) (p q : Pid) (o : Option PlainProcess) → LineCore n pt → kernel.alive (pt.kernel.processes p) ≡ o → (option_and_then (λ x. owner_in x.status) o) ≡ Some q → IsReal n pt.view q
 owner_real pt n p q None h is e = cc
 owner_real pt n p q (Some x) h is e = search (arith, pt.view, made_real, has_some, pt.kernel.processes, both, (h.fits.processes p x (alive-is (pt.kernel.processes p) x is)).move)
 
@@ -85,7 +86,7 @@ sender_real : (pt : Point) (n : ℕ) (i : MsgId) (q : Pid) (o : Option PlainMess
 sender_real pt n i q None h is e = cc
 sender_real pt n i q (Some m) h is e = let f : m.sender ≡ q = cc in subst (IsReal n pt.view) f (sends_real pt n m.sender h (h.senders i m is))
 
-answer_real : (pt : Point) (n k : ℕ) (q : Pid) (o : Option Pending) → LineCore n pt → 0 < n → manage.pending_numbered k pt.kernel.manager.pending ≡ o → link_target (answer_link o) ≡ Some q → IsReal n pt.view q
+answer_real : (pt : Point) (n k : ℕ) (q : Pid) (o : Option Pending) → LineCore n pt → 0 < n → manage.pending_numbered k pt.kernel.manager.pending ≡ o → link_target (option_and_then (λ r. r.answer) o) ≡ Some q → IsReal n pt.view q
 answer_real pt n k q o h1 h2 h3 h4 = search (arith, link_there, pt.kernel.processes, each_pending, pt.kernel.manager.pending, pt.view, link_real)
 
 asker_real : (pt : Point) (n : ℕ) (p q : Pid) (o : Option MoveNote) → LineCore n pt → 0 < n → pt.kernel.notes p ≡ o → asker_in o ≡ Some q → IsReal n pt.view q

@@ -1,7 +1,7 @@
 -- Wherever all of it holds, each directive has its group.
 use Rattle.dm_rulelaws.proofs.Names.{◌≡◌, ◌≢◌, ℕ, ◌+◌, ◌≤◌, ◌==◌, ◌&&◌, ◌||◌, Bool, true, false, not, List, [], ◌∷◌, refl, ap, ◌∙◌, sym, is_some, inl, inr, arith, ⊤, if◌then◌else◌, Option, None, Some, false≢true, Pid, pid_eq, MsgId}
-use Rattle.dm_rulelaws.proofs.Names.{PlainMessage, Boot, IsValid, Step, Line, MessageKind, child_from, child_number, migrates, Point, moved, Spelled, group_of, Spot, Queue, Inbox, standing, StandsOutside, Told, Target, is_kernels, IsStep}
-use Rattle.dm_rulelaws.proofs.Names.{arrives_net, resends_net, stands_right, StandsAsBag-elsewhere, Each, has_bytes, is_server, is_fixed, Life, OneKernel, pid_eq-is, cases_Bool, by_migrates, rooted}
+use Rattle.dm_rulelaws.proofs.Names.{PlainMessage, Boot, IsValid, Step, Line, MessageKind, child_number, migrates, Point, moved, Spelled, group_of, Spot, Queue, Inbox, standing, StandsOutside, Told, Target, is_kernels, IsStep}
+use Rattle.dm_rulelaws.proofs.Names.{arrives_net, resends_net, stands_right, StandsAsBag-elsewhere, Each, has_bytes, is_server, is_fixed, Life, OneKernel, pid_eq-is, cases_Bool, by_migrates, rooted, position_from}
 pub use Rattle.dm_rule.proofs.Moves.States.{front_one as stands_first}
 use Rattle.dm_rule.specs.Rule as rule
 use Rattle.dm_rule.specs.View as view
@@ -64,11 +64,11 @@ can_turn_by b m o [] is h own = can_turn (Calm m o) b m o (begun o m) refl (λ q
 can_turn_by b m o (i ∷ is) box h own = can_front b m o i is (o.kernel.bag i) refl box h own
 
 -- the manager's children are processes
-child_made : (s : OneKernel) (n k : ℕ) (p : Pid) (qs : List Pid) → child_from n p qs ≡ Some k → Each (λ (q : Pid). has_bytes 0 (s.processes q) ≡ true) qs → has_bytes 0 (s.processes p) ≡ true
+child_made : (s : OneKernel) (n k : ℕ) (p : Pid) (qs : List Pid) → (position_from (pid_eq p) n qs) ≡ Some k → Each (λ (q : Pid). has_bytes 0 (s.processes q) ≡ true) qs → has_bytes 0 (s.processes p) ≡ true
 child_made s n k p [] e h = cc
 child_made s n k p (q ∷ qs) e h = elim (cases_Bool (pid_eq p q)) [
   | inl same ↦ ap (λ (r : Pid). has_bytes 0 (s.processes r)) (pid_eq-is p q same) ∙ h.0
-  | inr off ↦ child_made s (n + 1) k p qs (sym (ap (λ (c : Bool). if c then Some n else child_from (n + 1) p qs) off) ∙ e) h.1
+  | inr off ↦ child_made s (n + 1) k p qs (sym (ap (λ (c : Bool). if c then Some n else (position_from (pid_eq p) (n + 1) qs)) off) ∙ e) h.1
 ]
 
 some_life : (o : Option Life) → has_bytes 0 o ≡ true → is_some o ≡ true

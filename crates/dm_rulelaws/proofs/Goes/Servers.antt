@@ -151,17 +151,17 @@ can_manager b m o i x (PlainWhat.Created child) is num one two f h =
     let g = o.kernel.manager in
     let (r, found) = asked b m o i x PendingKind.Create pending f in
     can_manage b m o i x (PlainWhat.Created child) (manage.answers_over (record g { children = g.children ++ child ∷ []; pending = manage.without_pending x.id.n g.pending }) r.answer 0 (manage.control_link (length g.children + 1) ∷ [])) is one two
-    (ap (manage.takes_created g x.id.n child) found) f
+    (ap (manage.takes_answer g x.id.n (g.children ++ child ∷ []) 0 (manage.control_link (length g.children + 1) ∷ [])) found) f
 can_manager b m o i x PlainWhat.NoRoom is num one two f h =
     let (to, answer, pending) = h in
     let g = o.kernel.manager in
     let (r, found) = asked b m o i x PendingKind.Create pending f in
-    can_manage b m o i x PlainWhat.NoRoom (manage.answers_over (record g { pending = manage.without_pending x.id.n g.pending }) r.answer 1 []) is one two (ap (manage.takes_no_room g x.id.n) found) f
+    can_manage b m o i x PlainWhat.NoRoom (manage.answers_over (record g { pending = manage.without_pending x.id.n g.pending }) r.answer 1 []) is one two (ap (manage.takes_answer g x.id.n g.children 1 []) found) f
 can_manager b m o i x (PlainWhat.Moved outcome) is num one two f h =
     let (to, answer, pending) = h in
     let g = o.kernel.manager in
     let (r, found) = asked b m o i x PendingKind.Move pending f in
-    can_manage b m o i x (PlainWhat.Moved outcome) (manage.answers_over (record g { pending = manage.without_pending x.id.n g.pending }) r.answer (code_of_outcome outcome) []) is one two (ap (manage.takes_moved g x.id.n outcome) found) f
+    can_manage b m o i x (PlainWhat.Moved outcome) (manage.answers_over (record g { pending = manage.without_pending x.id.n g.pending }) r.answer (code_of_outcome outcome) []) is one two (ap (manage.takes_answer g x.id.n g.children (code_of_outcome outcome) []) found) f
 can_manager b m o i x any_ is num one two f h = search (arith, process_not_manager)
 
 -- whoever the message is for

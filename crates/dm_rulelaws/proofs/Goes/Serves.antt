@@ -2,7 +2,7 @@
 use Rattle.dm_rulelaws.proofs.Names.{◌≡◌, ℕ, zero, suc, ◌+◌, ◌≤◌, ◌==◌, ◌&&◌, Bool, true, false, List, [], ◌∷◌, refl, ap, ◌∙◌, sym, is_some, nat_lt, inl, inr, arith, if◌then◌else◌, Option, None, Some, cases_Bool, false≢true, nat_tests, Pid}
 use Rattle.dm_rulelaws.proofs.Names.{pid_eq, MsgId, id_eq, Label, Why, Line, PlainMessage, PlainWhat, on_mask, instruction, Boot, Reply, reply_eq, reply_code, why_code, bind, when, PlainProcess, PlainStatus, Ready, Waiting, Alive, Ended}
 use Rattle.dm_rulelaws.proofs.Names.{OneKernel, with_process, with_sent, without_message, id_eq-is, id_eq-same, pid_eq-same, sent_at, bind-is, alive-is, counts, Point, moved, Part, Routes, times, is_kernels, not_kernels, switchboard}
-use Rattle.dm_rulelaws.proofs.Names.{manager, not_server, nexts, are_home, Sane, eq_self, not_is, zero_if, runnable_home, burden_of, option_map_or}
+use Rattle.dm_rulelaws.proofs.Names.{manager, not_server, nexts, are_home, Sane, eq_self, not_is, zero_if, runnable_home, option_map_or}
 use Rattle.dm_rulelaws.proofs.Fits.Rises.{set_at, both}
 use Rattle.dm_rulelaws.proofs.Goes.Parts.{said, no_receive, Shape, Quiet, Takes, Does, does_nothing, does_label, does_route, sane_by, Can, can_line}
 use Rattle.dm_rulelaws.proofs.Own.Told.{HaveNoOwn}
@@ -18,11 +18,11 @@ pub running_of : (s : OneKernel) (p : Pid) (x : PlainProcess) → s.processes p 
 running_of s p x is free going ready =
     ap (λ (o : Option PlainProcess). bind o (λ (v : PlainProcess). kernel.if_ready v v.status)) (at_hand_of s p x free is) ∙ ap (kernel.if_ready x) ready ∙ ap (λ (c : Bool). if c then None else Some x) going
 
-pub steps_front : (c : ℕ) (m n z : kernel.Machine) → kernel.plain_step m ≡ Some n → kernel.plain_steps c n ≡ Some z → kernel.plain_steps (suc c) m ≡ Some z
+pub steps_front : (c : ℕ) (m n z : kernel.Machine) → (kernel.plain_row (instruction m.regs m.bytes)) ≡ Some n → kernel.plain_steps c n ≡ Some z → kernel.plain_steps (suc c) m ≡ Some z
 steps_front zero m n z e f = e ∙ f
 steps_front (suc c) m n z e f =
-    let (mid, before, last) = bind-is (kernel.plain_steps c n) kernel.plain_step z f in
-    ap (λ (o : Option kernel.Machine). bind o kernel.plain_step) (steps_front c m n mid e before) ∙ last
+    let (mid, before, last) = bind-is (kernel.plain_steps c n) (kernel.plain_row (instruction z.regs z.bytes)) f in
+    ap (λ (o : Option kernel.Machine). bind o (λ m. kernel.plain_row (instruction m.regs m.bytes))) (steps_front c m n mid e before) ∙ last
 
 pub ran_goes : (k : ℕ) (m : kernel.Machine) (o : Option kernel.Machine) → kernel.plain_row (instruction m.regs m.bytes) ≡ o → ((n : kernel.Machine) → kernel.plain_steps (rule.ran k n).count n ≡ Some (rule.ran k n).machine)
     → (let r : rule.Ran = option_map_or (λ (n : kernel.Machine). rule.ran_one_more (rule.ran k n)) o (record { count = 0; machine = m }) in kernel.plain_steps r.count m ≡ Some r.machine)
@@ -109,7 +109,7 @@ does_executes C b pt p queue x is free going ready drops home h =
 pub record Awaited (s : OneKernel) (mask : ℕ) (ids : List MsgId) (i : MsgId) : Type 0 where
   pub x : PlainMessage
   pub there : s.bag i ≡ Some x
-  pub what : rule.burden_is_awaited mask (burden_of x.what) ≡ true
+  pub what : rule.burden_is_awaited mask x.what ≡ true
   pub stands : 1 ≤ times i ids
 
 awaited_if : (s : OneKernel) (mask : ℕ) (j : MsgId) (js : List MsgId) (i : MsgId) (c : Bool) → rule.is_awaited mask (s.bag j) ≡ c → (if c then Some j else rule.first_awaited s mask js) ≡ Some i → (rule.first_awaited s mask js ≡ Some i → Awaited s mask js i) → Awaited s mask (j ∷ js) i
@@ -129,7 +129,7 @@ rest_own : (c : Bool) (ps : List Part) → HaveNoOwn ps → HaveNoOwn (if c then
 rest_own true ps h = tt
 rest_own false ps h = h
 
-completes_what : (p : Pid) (x : PlainProcess) (k : PlainMessage) (mask base size : ℕ) (w : PlainWhat) → rule.burden_is_awaited mask (burden_of w) ≡ true → k.to ≡ p → (c : receiving.Completed) × (receiving.completes_what p x k mask base size w ≡ Some c)
+completes_what : (p : Pid) (x : PlainProcess) (k : PlainMessage) (mask base size : ℕ) (w : PlainWhat) → rule.burden_is_awaited mask w ≡ true → k.to ≡ p → (c : receiving.Completed) × (receiving.completes_what p x k mask base size w ≡ Some c)
 completes_what p x k mask base size (PlainWhat.User code channel body links) e to =
     let c = receiving.completes x base size code channel body links in
     (c, ap (λ (d : Bool). if d && on_mask mask channel then Some c else None) (ap (λ v. pid_eq v p) to ∙ pid_eq-same p) ∙ ap (λ (d : Bool). if d then Some c else None) e)

@@ -1,7 +1,7 @@
 -- What is queued for a process can go with it.
 use Rattle.dm_rulelaws.proofs.Names.{◌≡◌, ℕ, ◌+◌, ◌≤◌, Bool, true, false, List, [], ◌∷◌, refl, ap, ◌∙◌, sym, subst, arith, ⊤, if◌then◌else◌, Option, None, Some, Pid, MsgId, id_eq, Label, Line, PlainMessage, PlainWhat, Boot, Why, Ended}
 use Rattle.dm_rulelaws.proofs.Names.{OneKernel, without_message, is_dropped, id_eq-is, id_eq-same, out_off, Point, moved, Spot, Queue, times, standing, StandsNowhere, StandsOutside, StandsRight, is_kernels, stands_right, kernels_fresh}
-use Rattle.dm_rulelaws.proofs.Names.{not_true, StandsAsBag-one, MoveNote, PlainProcess, Alive}
+use Rattle.dm_rulelaws.proofs.Names.{not_true, StandsAsBag-one, MoveNote, PlainProcess, Alive, option_map_or}
 pub use Rattle.dm_rule.proofs.Phases.Leaves.{first_of as times_self}
 use Rattle.dm_onekernel.specs.Step as kernel
 use Rattle.dm_rule.specs.Rule as rule
@@ -88,4 +88,4 @@ drops_own (i ∷ is) = (tt, drops_own is)
 
 -- a process that lives and follows no request to move
 pub at_hand_of : (s : OneKernel) (p : Pid) (x : PlainProcess) → s.notes p ≡ None → s.processes p ≡ Some (Alive x) → kernel.at_hand s p ≡ Some x
-at_hand_of s p x free alive = ap (λ (n : Option MoveNote). kernel.unless_noted n (kernel.alive (s.processes p))) free ∙ ap kernel.alive alive
+at_hand_of s p x free alive = ap (λ (n : Option MoveNote). (option_map_or (λ note. None) n (kernel.alive (s.processes p)))) free ∙ ap kernel.alive alive

@@ -1,7 +1,7 @@
 -- A packet that was never delivered comes: less is left for the wires, and no more of anything else.
 use Rattle.dm_settlelaws.proofs.Names.{◌≡◌, ◌≢◌, ℕ, zero, suc, ◌+◌, ◌-◌, ◌<◌, ◌≤◌, ◌==◌, Bool, true, false, List, [], ◌∷◌, ◌++◌, drop, length, nat_lt, refl, ap, ◌∙◌, sym, subst, inl, inr, arith, ⊤, if◌then◌else◌, slice_get, slice_set}
 use Rattle.dm_settlelaws.proofs.Names.{Option, None, Some, eqb_tells, nat_tests, MsgId, Boot, Step, Line, Load, sum_below, at_machine, at_pair, first_undelivered, undelivered, Leads, Part, Says, Transmits, Spelled, packet_line, spelled}
-use Rattle.dm_settlelaws.proofs.Names.{pair_window, Point, first_point, moved, arrives, comes, group_of, kept_from, less, let_go, more, numbers_from, repeats, taking_parts, takes_on, untaken, Pair, SentLoad, View, gone_after, marked}
+use Rattle.dm_settlelaws.proofs.Names.{pair_window, Point, first_point, moved, arrives, comes, group_of, kept_from, less, let_go, at_least, numbers_from, repeats, taking_parts, takes_on, untaken, Pair, SentLoad, View, gone_after, marked}
 use Rattle.dm_settlelaws.proofs.Names.{oldest, taken_id, view_after, seen, OneKernel, IsNet, IsNetLine, arrives_net, group_is, hushed, pairs_stand_always, onward, says_view, taken_pair, transmits_view, IsLess, Packets, left, load_left}
 use Rattle.dm_settlelaws.proofs.Names.{one_each, one_let_go, pair_left, weight, weight_of, weight_to, wire_left, less-left}
 use Rattle.dm_rule.specs.View as view
@@ -125,7 +125,7 @@ comes_total n f a b k s (Load.Ack j) from to apart there new carries stands =
     let lost = set_loses pair_left n f a b (marked (f a b) k) (load_left s.load) from to (marked_left (f a b) k s there new) in
     let one : load_left s.load ≡ 1 = ap load_left carries in
     let back : g b a ≡ f b a = off_first f a b (marked (f a b) k) b a apart in
-    let more_ = ack_comes n g a b j (more j (f b a).acked) (f b a) back stands in
+    let more_ = ack_comes n g a b j (at_least (f b a).acked j) (f b a) back stands in
     omega (arith, lost, one, more_)
 
 -- a message that is taken goes from its pair to the inbox
@@ -259,7 +259,7 @@ data_in n a b k t others false false small = takes_in n a b (k ∷ others) (Tran
 
 comes_in_ : (n a b : ℕ) (p q : Pair) (l : Load) → a < n → AllTakeIn n (comes a b p q l)
 comes_in_ n a b p q (Load.Data k) small = data_in n a b k p.taken (kept_from p.kept (k + 1) pair_window) (nat_lt k p.taken) (nat_lt p.taken k) small
-comes_in_ n a b p q (Load.Ack k) small = (tt, repeats_in n b a (let_go q (more k q.acked)))
+comes_in_ n a b p q (Load.Ack k) small = (tt, repeats_in n b a (let_go q (at_least q.acked k)))
 
 arrives_in : (n a b : ℕ) (p q : Pair) (o : Option SentLoad) → a < n → AllTakeIn n (arrives a b p q o)
 arrives_in n a b p q None small = (tt, tt)

@@ -1,6 +1,6 @@
 -- Where nothing is on its way, the lines of the end say so.
 use Rattle.dm_settlelaws.proofs.Names.{◌≡◌, ℕ, zero, suc, ◌+◌, true, false, List, [], ◌∷◌, ◌++◌, take, drop, length, refl, sym, subst, ◌/◌, ◌*◌, All, Option, None, Some, false≢true, All-nil, All-cons, All-append, Pid, pid_of, PlainLink}
-use Rattle.dm_settlelaws.proofs.Names.{MsgId, id_of, first_number, manager, switchboard, PlainProcess, Life, Alive, NamedLink, Pending, EndLine, Standing, block_line, each_machine, home_with, list_line, memory_lines, trimmed, or, Addresses}
+use Rattle.dm_settlelaws.proofs.Names.{MsgId, id_of, first_number, manager, switchboard, PlainProcess, Life, Alive, NamedLink, Pending, EndLine, Standing, block_line, joined_below, home_with, list_line, memory_lines, trimmed, or, Addresses}
 use Rattle.dm_settlelaws.proofs.Names.{Child, Name, Slot, Stood, alive_lines, awaits, child_lines, doing_of, each_process, end_lines, first_with, holding_lines, homes_with, inbox_lines, leading, link_lines, name_lines, pending_lines}
 use Rattle.dm_settlelaws.proofs.Names.{process_lines, queue_at, queue_lines, server_lines, slot_line, state_lines, stood, stood_at, stream_lines, Point, untaken, Known, View, AtRest, is_moving, at_rest_always, EndsAtRest, is_at_rest}
 use Rattle.dm_settlelaws.proofs.Names.{stands_here, standing_of}
@@ -20,9 +20,9 @@ more l ls h k = All-cons Rests l ls h k
 both : (xs ys : List EndLine) → AllRest xs → AllRest ys → AllRest (xs ++ ys)
 both xs ys h k = All-append Rests xs ys h k
 
-machines_rest : (f : ℕ → List EndLine) (n : ℕ) → ((m : ℕ) → AllRest (f m)) → AllRest (each_machine f n)
+machines_rest : (f : ℕ → List EndLine) (n : ℕ) → ((m : ℕ) → AllRest (f m)) → AllRest (joined_below f n)
 machines_rest f zero h = none
-machines_rest f (suc n) h = both (each_machine f n) (f n) (machines_rest f n h) (h n)
+machines_rest f (suc n) h = both (joined_below f n) (f n) (machines_rest f n h) (h n)
 
 home_rest : (f : Pid → List EndLine) (home n : ℕ) → ((p : Pid) → AllRest (f p)) → AllRest (home_with f home n)
 home_rest f home zero h = none
@@ -153,7 +153,7 @@ ends_rest pt rest =
     (machines_rest (λ m. each_process pt (λ p. list_line (EndLine.Holding m p) (pt.view.held m p))) n
     (λ m. homes_rest pt (λ p. list_line (EndLine.Holding m p) (pt.view.held m p)) n (λ p. empty_rests (EndLine.Holding m p) (pt.view.held m p) (rest.held m p)))))
     (machines_rest (λ m. list_line (EndLine.Inbox m) (pt.view.inbox m)) n (λ m. empty_rests (EndLine.Inbox m) (pt.view.inbox m) (rest.inbox m))))
-    (machines_rest (λ a. each_machine (λ c. list_line (EndLine.Stream a c) (untaken (pt.view.pair a c))) n) n
+    (machines_rest (λ a. joined_below (λ c. list_line (EndLine.Stream a c) (untaken (pt.view.pair a c))) n) n
     (λ a. machines_rest (λ c. list_line (EndLine.Stream a c) (untaken (pt.view.pair a c))) n (λ c. empty_rests (EndLine.Stream a c) (untaken (pt.view.pair a c)) (rest.untaken a c)))))
     (more (EndLine.Groups pt.view.groups) [] refl none)
 

@@ -1,6 +1,6 @@
 -- A delivery keeps what has been done on each pair of machines.
 use Rattle.dm_settlelaws.proofs.Names.{◌≡◌, ◌≢◌, ◌⊎◌, ℕ, zero, suc, ◌+◌, ◌<◌, ◌≤◌, ◌==◌, ◌&&◌, ◌||◌, not, Bool, true, false, List, [], ◌∷◌, ◌++◌, length, nat_lt, refl, ap, ◌∙◌, sym, subst, inl, inr, arith, if◌then◌else◌, slice_get, Option}
-use Rattle.dm_settlelaws.proofs.Names.{None, Some, false≢true, eqb_tells, nat_tests, Line, Load, at_pair, Part, Says, Transmits, Spelled, spelled, pair_window, Point, arrives, comes, has, kept_from, let_go, more, repeats, taking_parts}
+use Rattle.dm_settlelaws.proofs.Names.{None, Some, false≢true, eqb_tells, nat_tests, Line, Load, at_pair, Part, Says, Transmits, Spelled, spelled, pair_window, Point, arrives, comes, has, kept_from, let_go, repeats, taking_parts}
 use Rattle.dm_settlelaws.proofs.Names.{takes_on, Pair, SentLoad, View, at_least, marked, view_after, Apart, KeptStands, set_other, set_same, off, off_has, or_cases, onward, says_view, taken_pair, transmits_view, IsNet, IsNetLine, PairRests}
 use Rattle.dm_settlelaws.proofs.Names.{not_true, or_first, or_second}
 use Rattle.dm_rule.specs.View as view
@@ -218,9 +218,6 @@ took_comes p q k n at stands full under =
       ];
     }
 
-more_is : (m n : ℕ) → at_least m n ≡ more n m
-more_is m n = grind (arith, nat_tests)
-
 data_by : (f h : ℕ → ℕ → Pair) (a b k n : ℕ) (s : SentLoad) (old ahead : Bool) → nat_lt n (f a b).taken ≡ old → nat_lt (f a b).taken n ≡ ahead → (a == b) ≡ false → slice_get (f a b).wire k ≡ Some s → s.load ≡ Load.Data n
     → Apart (f a b) (f b a) → KeptStands (f a b) → Rest f
     → h ≡ pairs_parts (at_pair f a b (marked (f a b) k)) (if old then Says (Line.Old a b n) ∷ Transmits b a (Load.Ack (f a b).taken) ∷ []
@@ -251,12 +248,12 @@ data_by f h a b k n s false false is_old is_ahead ab there carries apart kept r 
 
 -- an acknowledgement
 ack_comes : (f h : ℕ → ℕ → Pair) (a b k n : ℕ) (s : SentLoad) → (a == b) ≡ false → slice_get (f a b).wire k ≡ Some s → s.load ≡ Load.Ack n → Apart (f b a) (f a b) → Rest f
-    → h ≡ pairs_parts (at_pair f a b (marked (f a b) k)) (Says (Line.Acked a b n) ∷ repeats b a (let_go (f b a) (more n (f b a).acked))) → Rest h
+    → h ≡ pairs_parts (at_pair f a b (marked (f a b) k)) (Says (Line.Acked a b n) ∷ repeats b a (let_go (f b a) (at_least (f b a).acked n))) → Rest h
 ack_comes f h a b k n s ab there carries apart r e =
     let p = f a b in
     let q = f b a in
     let g = at_pair f a b (marked p k) in
-    let top = more n q.acked in
+    let top = at_least q.acked n in
     let ns = let_go q top in
     let mid = at_pair g b a (acknowledged n (g b a)) in
     let back : g b a ≡ q = set_other f a b (marked p k) b a (not_back a b ab) in
@@ -268,7 +265,7 @@ ack_comes f h a b k n s ab there carries apart r e =
     let ba = flip a b ab in
     subst Rest (sym e)
     (rest_two f (pairs_parts mid (repeats b a ns)) a b (marked p k) (heard_of q n top) (both_change f g (pairs_parts mid (repeats b a ns)) a b k (marked p k) (heard_of q n top) ab (marked_only f a b k) last)
-    (ack_back p q k n top s there carries (r a b ab)) (ack_rests p q k n top s there carries (more_is q.acked n) apart.gone apart.full (r b a ba)) r)
+    (ack_back p q k n top s there carries (r a b ab)) (ack_rests p q k n top s there carries refl apart.gone apart.full (r b a ba)) r)
 
 comes_rest : (f h : ℕ → ℕ → Pair) (a b k : ℕ) (s : SentLoad) (l : Load) → (a == b) ≡ false → slice_get (f a b).wire k ≡ Some s → s.load ≡ l → Apart (f a b) (f b a) → Apart (f b a) (f a b) → KeptStands (f a b) → Rest f
     → h ≡ pairs_parts (at_pair f a b (marked (f a b) k)) (comes a b (f a b) (f b a) l) → Rest h
