@@ -6,7 +6,7 @@ pub mod Goes
 pub mod Outs
 use Rattle.dm_mirror.proofs.Names.{PairStands, stream_of}
 use Rattle.dm_mirror.proofs.Names.{◌≡◌, ◌≢◌, ℕ, ◌+◌, ◌^◌, ◌<◌, ◌≤◌, ◌⊎◌, ◌==◌, nat_le, nat_lt, Bool, true, false, List, [], ◌∷◌, length, refl, ap, ◌∙◌, sym, subst, inl, inr, arith, if◌then◌else◌, slice_get, option_map, Ok, All, Option}
-use Rattle.dm_mirror.proofs.Names.{None, Some, cases_Bool, eqb_tells, nat_tests, All-drop, Message, IsLawfulMessage, Packet, Step, Line, packet_of, spelling, Data, Ack, load_at, MayCome-stands, bytes_at, after_mark, Boot, IsValid, bind}
+use Rattle.dm_mirror.proofs.Names.{None, Some, cases_Bool, eqb_tells, nat_tests, All-drop, Message, IsLawfulMessage, Packet, Step, Line, packet_of, spelling, Data, Ack, load_at, MayCome-stands, bytes_at, after_mark, Boot, IsValid}
 use Rattle.dm_mirror.proofs.Names.{Spelled, spelled, Point, moved, behind, kept_from, more, Run, Placed, MayAct, WorldState, acted, arrives, delivers, reads, world_step, MayDeliver, MayRead, CountsStand, History, StandsWith, line_of}
 use Rattle.dm_mirror.proofs.Names.{load_of, GoesOn, IsNet, arrives_net}
 use Rattle.dm_rule.proofs.Names.{Part}

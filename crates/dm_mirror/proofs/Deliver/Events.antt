@@ -1,11 +1,11 @@
 -- What each event of a delivery makes of a pair: its stream, its wire, and what the lines say of it.
-use Rattle.dm_mirror.proofs.Names.{◌≡◌, ℕ, zero, suc, ◌+◌, ◌-◌, ◌<◌, max, false, List, [], ◌∷◌, ◌++◌, map, drop, refl, ap, ◌∙◌, sym, subst, arith, slice_get, option_map, Option, Some, nat_tests, map-append, slice_get-map, Message, MsgId}
-use Rattle.dm_mirror.proofs.Names.{spelling, due, with_acked, with_sent, kept_once, advanced, next, Data, Ack, just_put, load_at, Stream, GoOut, Deliver, TakeKept, Acknowledge, DeliverBack, OtherAck, OtherData, happens, MayCome-stands}
-use Rattle.dm_mirror.proofs.Names.{get-drop, drop-more, Sent, Boot, Pair, at_least, gone_after, has, Placed, AreMessages, bytes_of, line_of, take, is_some, All, IsLawfulMessage, Sending, Receiving, kept_under, Event, StreamStands-happens}
-use Rattle.dm_mirror.proofs.Names.{Point, WorldState, History, PairStands, ◌≤◌, ◌==◌, ◌&&◌, Bool, not, filter, nat_lt, length, if◌then◌else◌, moved_up, arrival, after_arrival, after_next, Old, Early, place-moved_up, place-kept_same}
+use Rattle.dm_mirror.proofs.Names.{◌≡◌, ℕ, zero, suc, ◌+◌, ◌-◌, ◌<◌, max, false, List, [], ◌∷◌, map, drop, refl, ap, ◌∙◌, sym, subst, arith, slice_get, option_map, Option, Some, nat_tests, slice_get-map, Message, MsgId}
+use Rattle.dm_mirror.proofs.Names.{with_acked, kept_once, advanced, next, Data, Ack, load_at, Stream, Deliver, TakeKept, Acknowledge, DeliverBack, OtherAck, happens}
+use Rattle.dm_mirror.proofs.Names.{get-drop, drop-more, Sent, Boot, Pair, at_least, has, AreMessages, bytes_of, line_of, is_some, Receiving, kept_under, StreamStands-happens}
+use Rattle.dm_mirror.proofs.Names.{◌≤◌, ◌==◌, ◌&&◌, Bool, not, filter, nat_lt, length, if◌then◌else◌, moved_up, arrival, after_arrival, after_next, Old, Early, place-moved_up, place-kept_same}
 use Rattle.dm_mirror.proofs.Names.{place-kept_other, eq_not, message_id, marked}
 use Rattle.dm_stream.specs.Packets.{Packet, Load}
-use Rattle.dm_stream.specs.Stream.{arrives, hears, goes_out}
+use Rattle.dm_stream.specs.Stream.{arrives, hears}
 use Rattle.dm_stream.specs.declared.receiver.Arrived.TheVariants.{Taken}
 use Rattle.dm_rule.proofs.QuietTests.{eq_is}
 pub use Rattle.dm_rule.proofs.Trails.Leads.{less_test}

@@ -1,6 +1,6 @@
 -- The delivery of a packet: the machines do what the rule says.
 use Rattle.dm_mirror.proofs.Names.{PairStands, stream_of}
-use Rattle.dm_mirror.proofs.Names.{◌≡◌, ◌≢◌, ℕ, ◌+◌, ◌-◌, ◌<◌, ◌≤◌, List, [], ◌∷◌, length, refl, ap, ◌∙◌, sym, subst, arith, Some, Message, Sending, with_acked, Receiving, after_arrival, Arrived, Data, Ack, load_at, Sent, after_mark, Boot}
+use Rattle.dm_mirror.proofs.Names.{◌≡◌, ◌≢◌, ℕ, ◌+◌, ◌-◌, ◌<◌, ◌≤◌, List, [], ◌∷◌, length, refl, ap, ◌∙◌, sym, subst, arith, Some, Message, Sending, with_acked, Receiving, after_arrival, Arrived, Data, Ack, load_at, after_mark, Boot}
 use Rattle.dm_mirror.proofs.Names.{nat_tests, Line, at_pair, Pair, oldest, at_least, Point, moved, has, kept_from, less, more, numbers_from, repeats, taken_pair, Placed, NodeState, here, with_message, with_receiver, with_sender}
 use Rattle.dm_mirror.proofs.Names.{acknowledges, before, lets_go, takes_kept, then_acknowledges, WorldState, History, StandsWith, less-right, more-is, ◌^◌, slice_get, option_map, Ok, Option, slice_get-map, Packet, packet_of, spelling}
 use Rattle.dm_mirror.proofs.Names.{packet_again, load_in, bytes_at, line_of, nat_le, nat_lt, true, drop, Result, PacketError, ◌>>=◌, IsRoute, only_packet, message, read_rest, spell_message, IsField-number, guard_ok, outstanding}

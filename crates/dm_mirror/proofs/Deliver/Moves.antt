@@ -1,9 +1,9 @@
 -- What each event of a delivery makes of the world, and that it stands behind it.
 use Rattle.dm_mirror.proofs.Names.{NodeStands, PairStands, Stream, TakeKept, View, after_packet, happens, stream_of}
 use Rattle.dm_mirror.proofs.Names.{◌≡◌, ◌≢◌, ℕ, ◌+◌, ◌<◌, ◌≤◌, ◌==◌, ◌&&◌, Bool, true, false, List, [], ◌∷◌, ◌++◌, refl, ap, ◌∙◌, sym, subst, inl, inr, arith, if◌then◌else◌, slice_get, Option, Some, nat_tests, map-append, All-push}
-use Rattle.dm_mirror.proofs.Names.{All-get_or, get_or_from_slice_get, slice_get_within, Message, MsgId, IsLawfulMessage, Packet, Line, Load, spelling, due, with_sent, advanced, after_next, next, Data, Ack, just_put, after_mark, Boot}
-use Rattle.dm_mirror.proofs.Names.{at_machine, at_pair, Pair, gone_after, oldest, Inbox, times, Point, moved, Placed, lines_keep, with_message, with_receiver, with_sender, WorldState, AreMessages, History, StandsWith, zero, suc, length}
-use Rattle.dm_mirror.proofs.Names.{is_some, None, length-map, Receiving, has, kept_from, taking_parts, taken_pair, NodeState, here, Sends, takes_kept, takes_next, then_acknowledges, bytes_of, line_of, ◌-◌, nat_le, nat_lt, drop, ◌⊎◌}
+use Rattle.dm_mirror.proofs.Names.{All-get_or, get_or_from_slice_get, slice_get_within, Message, MsgId, IsLawfulMessage, Packet, Line, Load, spelling, due, with_sent, after_next, next, Data, Ack, just_put, after_mark, Boot}
+use Rattle.dm_mirror.proofs.Names.{at_machine, at_pair, Pair, gone_after, oldest, times, Point, moved, Placed, with_message, with_receiver, with_sender, WorldState, AreMessages, History, StandsWith, zero, suc, length}
+use Rattle.dm_mirror.proofs.Names.{is_some, None, length-map, Receiving, has, kept_from, taking_parts, taken_pair, NodeState, here, Sends, takes_kept, takes_next, then_acknowledges, ◌-◌, nat_le, nat_lt, drop, ◌⊎◌}
 use Rattle.dm_mirror.proofs.Names.{slice_get_cases, slice_get_past, Sending, numbered, get-drop, less, numbers_from, repeats, before, lets_go, lets_next, message_id}
 use Rattle.dm_rule.proofs.Names.{Part}
 use Rattle.dm_wire.specs.Wire.{after_put}

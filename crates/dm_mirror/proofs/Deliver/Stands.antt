@@ -1,7 +1,7 @@
 -- What a machine gives, in order, is what the rule's parts say, and the world behind it stands.
 use Rattle.dm_mirror.proofs.Names.{Stream, eqb-true}
-use Rattle.dm_mirror.proofs.Names.{◌≡◌, ◌≢◌, ℕ, ◌≤◌, ◌==◌, ◌&&◌, false, List, length, ap, ◌∙◌, sym, subst, inl, inr, arith, Option, All, cases_Bool, eqb_tells, nat_tests, Pid, incoming_of, Message, MsgId, IsLawfulMessage, Sending}
-use Rattle.dm_mirror.proofs.Names.{Receiving, Sent, Boot, About, Pair, Point, Spot, Queue, Held, Inbox, Untaken, standing, times, two_of, Placed, Mirrors, NodeState, WorldState, AreMessages, History, KernelStands, NodeStands, PairStands}
+use Rattle.dm_mirror.proofs.Names.{◌≡◌, ◌≢◌, ℕ, ◌≤◌, ◌==◌, ◌&&◌, false, List, length, ap, ◌∙◌, sym, subst, inl, inr, arith, Option, All, cases_Bool, nat_tests, Pid, incoming_of, Message, MsgId, IsLawfulMessage, Sending}
+use Rattle.dm_mirror.proofs.Names.{Receiving, Sent, Boot, Pair, Point, Spot, Queue, Held, Inbox, Untaken, standing, times, two_of, Placed, NodeState, WorldState, AreMessages, History, NodeStands, PairStands}
 use Rattle.dm_mirror.proofs.Names.{StandsWith, Carries, TokensStand, destination_of, Bool, [], ◌∷◌, refl, if◌then◌else◌, Some, Packet, Line, Load, at_machine, Spelled, spelled, after_line, Sends, Acted, before, spoken, with_packet, zero}
 use Rattle.dm_mirror.proofs.Names.{suc, ◌+◌, ◌++◌, drop, slice_get, id_eq, id_eq-is, id_eq-same, at_pair, untaken, View, oldest, times-append, behind}
 use Rattle.dm_rule.proofs.Names.{Part}
@@ -10,7 +10,7 @@ use Rattle.dm_node.specs.Wired.{packet_line}
 use Rattle.dm_kernel.specs.State as machine
 use Rattle.dm_rule.specs.Parts as rule
 use Rattle.dm_stream.specs.Packets as stream
-use Rattle.dm_mirror.proofs.Streams.{Joined, Stays, apart_is, at_again, at_here, at_other, at_same, kernel_box, mirrors_same, nodes_are, pair_stands, pairs_are}
+use Rattle.dm_mirror.proofs.Streams.{Joined, apart_is, at_again, at_here, at_other, at_same, kernel_box, mirrors_same, nodes_are, pair_stands, pairs_are}
 
 -- the world after machine c has acted, but for the count of directives
 abbrev pub acted_on : WorldState → ℕ → Acted → WorldState

@@ -1,6 +1,6 @@
 -- What a machine has of a process at the end, by what the lines say that it knows.
 use Rattle.dm_mirror.proofs.Names.{◌≡◌, ◌≢◌, ◌⊎◌, ℕ, ◌<◌, true, false, is_some, List, refl, ap, ◌∙◌, sym, subst, inl, inr, arith, option_map, Option, None, Some, nat_tests, Pid, pid_of, MessageKind, Record, About, plain_what, with_what}
-use Rattle.dm_mirror.proofs.Names.{Process, incoming_of, Arrival, Nothing, Boot, Why, Alive, plain_process, EndLine, Standing, or, list_line, Stood, stood_at, first_with, is_away, is_due, Point, Known, Unknown, Incoming, Ended, Told}
+use Rattle.dm_mirror.proofs.Names.{Process, incoming_of, Arrival, Nothing, Boot, Alive, plain_process, EndLine, Standing, or, list_line, Stood, stood_at, first_with, is_away, is_due, Point, Known, Unknown, Incoming, Ended, Told}
 use Rattle.dm_mirror.proofs.Names.{not_true, is_server, Run, Placed, WorldState, alive_lines, awaited_lines, come_lines, first_awaited, first_had, first_says, lines_in, record_lines, record_queue, told_of, History, KnownStands, StandsWith}
 use Rattle.dm_mirror.proofs.Names.{Wants, alive-is, [], Message, MsgId, What, kind_of, Here, Frozen, Forward, come_whole, held_for, names_of, has_nothing_held, AreMessages, ComesStand, Carries, ended_is, ◌≤◌, ◌∷◌, length, map, IfSome}
 use Rattle.dm_mirror.proofs.Names.{IsValid, Manager, plain_child, IsLawfulPair, Servers, Step, Leads, first_point, HasPlainEnd, EndMay, servers_at, Asker}

@@ -3,7 +3,7 @@ use Rattle.dm_mirror.proofs.Names.{◌≡◌, ℕ, ◌+◌, Bool, true, false, L
 use Rattle.dm_mirror.proofs.Names.{What, Record, Line, MessageKind, id_eq, id_of, kind_of, plain_kind, PlainMessage, plain_message, plain_what, with_what, incoming_of, sent_on, Boot, manager, forwards_and, KernelState, id_eq-same}
 use Rattle.dm_mirror.proofs.Names.{id_eq-swap, Addresses, Receiver, Sender, is_told_back, unmoved, forwards_on, process_told, Point, moved, at_machine, Queue, Held, About, Known, Forward, forward_about, forwarded_for, handled, own_id}
 use Rattle.dm_mirror.proofs.Names.{receiver_of, is_fixed, Run, Placed, Mirrors, free_off, plain_sent_on, forwarded_mirrors, moves_forwarded, update_gets, parts, mirrors_view, AllOwnStand, OwnStands, KnownStands, AllRecords, Wants, ◌++◌}
-use Rattle.dm_mirror.proofs.Names.{Wanted, Arrival, Departure, with_known, pid_eq-is, at_record, times, Frozen, Incoming, AreMessages, ComesStand, LeavesStand, is_server, Part}
+use Rattle.dm_mirror.proofs.Names.{Wanted, Arrival, with_known, pid_eq-is, at_record, times, Frozen, Incoming, is_server, Part}
 use Rattle.dm_kernel.specs.State.{with_sent}
 use Rattle.dm_rule.specs.Rule.{process_handles}
 use Rattle.dm_places.specs.PlacedStep.{with_message}

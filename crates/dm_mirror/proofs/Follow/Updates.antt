@@ -3,7 +3,7 @@ use Rattle.dm_mirror.proofs.Names.{◌≡◌, ◌≢◌, ℕ, ◌+◌, ◌≤◌
 use Rattle.dm_mirror.proofs.Names.{slot_is_behind, applied, Message, MsgId, What, Record, Line, kind_of, plain_message, plain_what, with_what, Process, incoming_of, named_is_behind, pending_is_behind, Boot, switchboard, manager, Life}
 use Rattle.dm_mirror.proofs.Names.{Servers, handles, KernelState, with_here, pid_eq-same, place_told, behind_count, told_here, told_server, updates, Phase, Rests, is_away, is_between, is_here, knows, token_in, Point, moved, comes_to, hears}
 use Rattle.dm_mirror.proofs.Names.{Inbox, Spot, standing, Known, Here, Of, Told, rests_here, is_fixed, Run, Placed, Mirrors, mirrors_view, board_told, manager_told, updated_board_mirrors, updated_manager_mirrors, updated_mirrors}
-use Rattle.dm_mirror.proofs.Names.{updated_board_count, updated_count, updated_manager_count, about_of, told_of, HereStands, KnownStands, servers_at, AllRecords, Wants, MessageKind, PlainMessage, Why, Managing, Board, Addresses, told_ended}
+use Rattle.dm_mirror.proofs.Names.{updated_board_count, updated_count, updated_manager_count, about_of, told_of, KnownStands, servers_at, AllRecords, Wants, MessageKind, PlainMessage, Why, Managing, Board, Addresses, told_ended}
 use Rattle.dm_mirror.proofs.Names.{after_line, Ended, updated_ended_mirrors, no_process, Wanted, is_server, Part, sort_of}
 use Rattle.dm_places.specs.PlacedStep.{with_process}
 use Rattle.dm_mirror.proofs.Recorded.{recorded}
