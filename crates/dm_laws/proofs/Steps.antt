@@ -30,7 +30,7 @@ pub record After (r e : MsgId → ℕ) (s : OneKernel) (l : Label) (t : OneKerne
 abbrev pub Sub : OneKernel → OneKernel → Type 0
 Sub t s = (i : MsgId) (x : PlainMessage) → t.bag i ≡ Some x → s.bag i ≡ Some x
 
-abbrev one_if : Bool → ℕ
+abbrev pub one_if : Bool → ℕ
 one_if b = if b then 1 else 0
 
 pub entry_of : (a b : Option PlainMessage) → ((x : PlainMessage) → b ≡ Some x → a ≡ Some x) → one_if (is_none a && is_some b) ≡ 0

@@ -11,6 +11,7 @@ use Rattle.dm_onekernel.specs.Manager as manage
 use Rattle.dm_onekernel.specs.Service as service
 use Rattle.dm_onekernel.specs.Step as step
 use Rattle.dm_rule.proofs.Lines.{hidden}
+pub use Rattle.dm_laws.proofs.Facts.{if_some-is}
 
 -- one message may go, and one may enter: it is there then, and never was before
 pub record BagStep (e : MsgId → ℕ) (s t : OneKernel) (out put : Option MsgId) : Type 0 where

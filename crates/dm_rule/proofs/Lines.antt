@@ -5,6 +5,7 @@ use Rattle.dm_rule.proofs.Names.{handled, receiver_of, Spot, Queue, Inbox, Untak
 use Rattle.dm_rule.specs.View as view
 use Rattle.dm_rule.proofs.Standing.{times-append}
 use Rattle.dm_rule.proofs.Once.{Kept, SameBut, one_of, once_stays, once_comes, once_goes, once_moves}
+pub use Rattle.std.proofs.lemmas.Bool.{and_parts as parts, eqb-true as eq_is, false_from_ne_true as not_true}
 
 -- the messages that are under way, and whom they are for
 abbrev pub Bag : Type 0
@@ -91,7 +92,7 @@ Stands-handled bag v w i is front same told h =
       mine = λ m p j x least k. h.mine m p j x least (hidden_some bag i j x k);
     })
 
-abbrev is_inbox : Spot → Bool
+abbrev pub is_inbox : Spot → Bool
 is_inbox (Inbox m) = true
 is_inbox _ = false
 

@@ -10,6 +10,7 @@ use Rattle.dm_rule.proofs.Letters.{letters, letters_step, letter_of, not_kernels
 use Rattle.dm_rule.proofs.Lines.{Bag, hidden, hidden_off, having, Stands, Stands-same, Stands-stays, Stands-put-home, Stands-put-away, untold_tells, pair_keeps, hidden_at}
 use Rattle.dm_rule.proofs.Seen.{Stands-about}
 use Rattle.dm_rule.proofs.Bags.{BagStep}
+pub use Rattle.std.proofs.lemmas.Bool.{false_from_ne_true as not_true}
 
 -- where a group has come: what is under way, but a message that is still to be routed, stands once
 pub record State (pend : Option MsgId) (pt : Point) : Type 0 where

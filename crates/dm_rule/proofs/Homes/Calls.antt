@@ -10,6 +10,7 @@ use Rattle.dm_rule.proofs.Requests.{by_test}
 use Rattle.dm_onekernel.specs.Calls as calls
 use Rattle.dm_onekernel.specs.Pieces as pieces
 use Rattle.dm_onekernel.specs.Step as kernel
+pub use Rattle.dm_laws.proofs.Facts.{or-left, or-right}
 
 -- the process behind its call
 abbrev pub behind : PlainProcess → PlainProcess

@@ -9,6 +9,7 @@ use Rattle.dm_rule.proofs.Requests.{by_test}
 use Rattle.dm_onekernel.specs.Service as service
 use Rattle.dm_onekernel.specs.Switchboard as board
 use Rattle.dm_onekernel.specs.Manager as manage
+pub use Rattle.std.proofs.lemmas.Bool.{and_parts as and-both}
 
 -- a list with one more at its end
 pub get_last : {A : Type 0} (xs : List A) (y : A) (n : ℕ) (q : A) → slice_get (xs ++ y ∷ []) n ≡ Some q → (((length xs == n) ≡ true) × (y ≡ q)) ⊎ (((length xs == n) ≡ false) × (slice_get xs n ≡ Some q))

@@ -14,6 +14,7 @@ use Rattle.dm_rule.specs.Given as giving
 use Rattle.dm_rule.specs.Addresses as addresses
 use Rattle.dm_onekernel.specs.Pieces as pieces
 use Rattle.dm_onekernel.specs.Service as service
+pub use Rattle.dm_laws.proofs.Facts.{if_some-is as some_is}
 
 -- the receiver and the sender of a new message get places
 abbrev pub two : MsgId → Place → Place → List Gets

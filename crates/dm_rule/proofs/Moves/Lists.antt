@@ -6,6 +6,7 @@ use Rattle.dm_rule.proofs.Standing.{times-append, spot_cases, StandsAsBag-same, 
 use Rattle.dm_rule.proofs.Once.{Kept, one_of, once_moves, one_of-off}
 use Rattle.dm_rule.proofs.Lines.{Bag, Stands, Stands-stays, at_machine_at, at_machine_off, at_record_off, at_record_at, inbox_apart, front_goes, handled_off, handled_at, one_more, queue_apart}
 use Rattle.dm_rule.proofs.Bags.{cases_zero}
+pub use Rattle.dm_rule.proofs.Bags.{cases_zero as zero_cases}
 
 abbrev is_held : Spot → Bool
 is_held (Held m p) = true

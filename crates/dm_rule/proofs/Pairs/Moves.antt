@@ -3,6 +3,7 @@ use Rattle.dm_rule.proofs.Names.{◌≡◌, ℕ, ◌+◌, ◌-◌, ◌<◌, ◌�
 use Rattle.dm_rule.proofs.Names.{at_pair, Pair, routed_on, gone_after, marked, at_least, goes_out, has, HomeStands, or_right}
 use Rattle.std.proofs.Common.{length-append}
 use Rattle.dm_rule.proofs.Pairs.Stand.{LoadStands, Apart, KeptStands, Kept, Stand, Later, Later-trans, WireStands-more, WireStands-put, WireStands-marked, set_same, Stand-set, Stand-home, Kept-set, Later-set}
+pub use Rattle.std.proofs.lemmas.Bool.{or_right as or_first}
 
 pub record Paired (f : ℕ → ℕ → Pair) : Type 0 where
   pub stand : Stand f

@@ -17,6 +17,7 @@ use Rattle.dm_rule.proofs.Phases.Lines.{handled_spots, packet_calm}
 use Rattle.dm_rule.proofs.Phases.Stand.{PhasesBut, InPhases, none_only, calm_phases, token_is, token_at, Learns, learns_phases}
 use Rattle.dm_rule.proofs.Phases.Put.{own_put_phases, put_there, put_spot, of_same}
 pub use Rattle.dm_line.proofs.Below.{right_true as second}
+pub use Rattle.dm_rule.proofs.Phases.Put.{of_same as about_same}
 
 -- what stands between the lines of a group
 pub record WholeBut (o : Option Pid) (pt : Point) : Type 0 where

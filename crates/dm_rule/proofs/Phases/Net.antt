@@ -19,10 +19,10 @@ head_calm v (Step.Tick m) = calm_still v (after_head v (Step.Tick m)) (λ n q. r
 head_calm v (Step.Deliver a b k) = calm_still v (after_head v (Step.Deliver a b k)) (λ n q. refl) (λ i. refl) (λ i z. ap (times i) (deliver_off v a b k z))
 head_calm v (Step.Migrate p m) = calm_still v (after_head v (Step.Migrate p m)) (λ n q. refl) (λ i. refl) (λ i z. ap (times i) (migrate_off v p m z))
 
-abbrev taken_view : View → ℕ → ℕ → ℕ → View
+abbrev pub taken_view : View → ℕ → ℕ → ℕ → View
 taken_view v a b n = with_pair v a b (taken_pair (v.pair a b) n)
 
-none_taken : (p : Pair) (n : ℕ) → slice_get p.ids p.taken ≡ None → untaken (taken_pair p n) ≡ untaken p
+pub none_taken : (p : Pair) (n : ℕ) → slice_get p.ids p.taken ≡ None → untaken (taken_pair p n) ≡ untaken p
 none_taken p n is = let k = past_place p.ids p.taken is in let next : p.taken + 1 ≡ suc p.taken = omega arith in ap (λ m. drop m p.ids) next ∙ k.1 ∙ sym k.0
 
 taken_front : (p : Pair) (n : ℕ) (i : MsgId) → slice_get p.ids p.taken ≡ Some i → untaken p ≡ i ∷ untaken (taken_pair p n)
@@ -54,7 +54,7 @@ inbox_back v a b n i j m front st = elim (cases_Bool (b == m)) [
   | inr off ↦ inl (subst (λ k. 1 ≤ k) (ap (λ (c : Bool). times j (if c then v.inbox b ++ i ∷ [] else v.inbox m)) off) st)
 ]
 
-abbrev came_view : View → ℕ → ℕ → ℕ → MsgId → View
+abbrev pub came_view : View → ℕ → ℕ → ℕ → MsgId → View
 came_view v a b n i = record (taken_view v a b n) { inbox = at_machine v.inbox b (v.inbox b ++ i ∷ []) }
 
 taken_back : (v : View) (a b n : ℕ) (i j : MsgId) (z : Spot) → untaken (v.pair a b) ≡ i ∷ untaken (taken_pair (v.pair a b) n) → 1 ≤ standing (came_view v a b n i) j z → Came v j z
@@ -62,7 +62,7 @@ taken_back v a b n i j (Inbox m) front st = inbox_back v a b n i j m front st
 taken_back v a b n i j (Untaken c d) front st = inl (stream_back v a b n i j c d front st)
 taken_back v a b n i j _ front st = inl st
 
-in_inbox : (v : View) (a b n : ℕ) (i j : MsgId) (m : ℕ) → (b == m) ≡ true → 1 ≤ times j (v.inbox b) + one_of j i → 1 ≤ standing (came_view v a b n i) j (Inbox m)
+pub in_inbox : (v : View) (a b n : ℕ) (i j : MsgId) (m : ℕ) → (b == m) ≡ true → 1 ≤ times j (v.inbox b) + one_of j i → 1 ≤ standing (came_view v a b n i) j (Inbox m)
 in_inbox v a b n i j m same st =
     let now : times j (at_machine v.inbox b (v.inbox b ++ i ∷ []) m) ≡ times j (v.inbox b ++ i ∷ []) = ap (λ (c : Bool). times j (if c then v.inbox b ++ i ∷ [] else v.inbox m)) same in
     let sum = times-append j (v.inbox b) (i ∷ []) in omega (arith, st, now, sum)

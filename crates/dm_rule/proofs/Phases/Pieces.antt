@@ -7,6 +7,7 @@ use Rattle.dm_rule.proofs.Moves.Rows.{goes_first, goes_front, accepted_off, stat
 use Rattle.dm_rule.proofs.Phases.Stand.{InPhases}
 use Rattle.dm_rule.proofs.Phases.Answers.{Whole, Due, answer_row}
 use Rattle.dm_rule.proofs.Lines.{eq_self}
+pub use Rattle.std.proofs.lemmas.Bool.{and_right as and_false, not-true as not_false}
 
 -- two kinds between which no machine learns anything
 leaves_as : (k j : MessageKind) (d : ℕ) (y : Known) → is_restart k ≡ is_restart j → kind_leaves k d y ≡ kind_leaves j d y

@@ -95,10 +95,10 @@ rooted pt sane h = record {
 }
 
 -- a group
-abbrev begun : Point → Step → Point
+abbrev pub begun : Point → Step → Point
 begun pt d = moved pt (Line.Head d) pt.kernel
 
-begun_sane : (pt : Point) (d : Step) → Sane pt → Sane (begun pt d)
+pub begun_sane : (pt : Point) (d : Step) → Sane pt → Sane (begun pt d)
 begun_sane pt d h = sane_line pt (begun pt d) (Line.Head d) refl refl h
 
 begun_ground : (pt : Point) (d : Step) → Sane pt → Grounded pt → Grounded (begun pt d)

@@ -12,6 +12,8 @@ use Rattle.dm_onekernel.specs.Service as service
 use Rattle.dm_onekernel.specs.Step as kernel
 use Rattle.dm_rule.specs.Addresses as addresses
 use Rattle.dm_rule.specs.Given as request
+pub use Rattle.std.proofs.lemmas.Bool.{not-true as not_is}
+pub use Rattle.dm_laws.proofs.Facts.{and_no}
 
 -- these are none of a message's receiver and sender
 abbrev pub spares_one : MsgId → Holder → Bool
