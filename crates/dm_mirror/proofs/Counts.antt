@@ -2,12 +2,12 @@
 pub mod Pairs
 pub mod AtEnds
 pub mod Waiting
-use Rattle.dm_mirror.proofs.Names.{◌≡◌, inl, inr, ℕ, ◌+◌, ◌<◌, ◌≤◌, true, List, [], ◌∷◌, length, nat_le, refl, ap, ◌∙◌, sym, subst, arith, Some, nat_tests, Pid, Boot, IsValid, OneKernel, Step, Line, Stage, Known, ascends, IsStep, Leads}
+use Rattle.dm_mirror.proofs.Names.{◌≡◌, inl, inr, ℕ, ◌+◌, ◌<◌, ◌≤◌, true, List, [], ◌∷◌, length, nat_le, refl, ap, ◌∙◌, sym, subst, arith, Some, nat_tests, Pid, Boot, IsValid, Step, Line, Stage, Known, ascends, IsStep, Leads}
 use Rattle.dm_mirror.proofs.Names.{Says, Spelled, spelled, Point, first_point, moved, group_of, at_pid, at_record, View, actor, view_after, GroupIs, group_is, said, says_next, both, Both, RunGoes, RunStarts, both_group, both_start, Run}
 use Rattle.dm_mirror.proofs.Names.{Label, None, Option, Routes, answer_id, Outcome, MoveNote, Pending}
 use Rattle.dm_rule.proofs.Names.{Part}
 use Rattle.dm_rule.specs.Migrating.{tells_asker}
-use Rattle.dm_mirror.proofs.Counts.AtEnds.{BearEnds, Ends, PutsOne, Under, bear_ends, ends, ends_before, own_puts, routes_next, under_more, under_within, Bears, FrontRestarts, Pays, Restarts, Sort, SortIf, outcome_sort}
+use Rattle.dm_mirror.proofs.Counts.AtEnds.{BearEnds, Ends, PutsOne, Under, bear_ends, ends, ends_before, own_puts, part_next, under_more, under_within, Bears, FrontRestarts, Pays, Restarts, Sort, SortIf, outcome_sort}
 use Rattle.dm_mirror.proofs.Counts.Pairs.{within_group, OwnFew, PairsWithin, own_group, line_still, CountsFew}
 use Rattle.dm_mirror.proofs.Counts.Waiting.{Routed, routed_group, routed_start, waiting_few, first_count, moves_start, pairs_start, under_start, MovesFew, moves_put, moves_restart, moves_still}
 use Rattle.dm_mirror.proofs.Machines.{few_machines, machines_group, some_machine}
@@ -86,7 +86,7 @@ answered None pt w e = subst (Answered pt) (said pt w e) (record { under = λ n 
 answered (Some note) pt w e =
     let l = Line.Label (Label.Answered note.id Outcome.Done) in
     let k = says_next pt l (Routes (answer_id note.id) ∷ []) w e in
-    let r = routes_next (moved pt l k.s) (answer_id note.id) [] k.rest k.more in
+    let r = part_next (moved pt l k.s) (Routes (answer_id note.id)) [] k.rest refl k.more in
     let a = r.after_put in
     let within = (move_answered_raises pt.kernel k.s note.id Outcome.Done k.is).within in
     subst (Answered pt) (said r.next r.rest r.on ∙ r.end ∙ k.point)

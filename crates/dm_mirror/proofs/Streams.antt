@@ -74,10 +74,10 @@ with_bytes a c sent l = sent ++ wire.just_put (spelling (packet_of_load a c l)) 
 abbrev pub with_line : Pair → Load → Pair
 with_line p l = record p { gone = gone_after l p.gone; wire = p.wire ++ record { load = l; delivered = false } ∷ [] }
 
-lines_put : (out : List (stream.Packet Message)) (l : stream.Load Message) (ws : List SentLoad) → map line_of out ≡ ws → map line_of (out ++ stream.just_put l ∷ []) ≡ ws ++ record { load = load_of l; delivered = false } ∷ []
+pub lines_put : (out : List (stream.Packet Message)) (l : stream.Load Message) (ws : List SentLoad) → map line_of out ≡ ws → map line_of (out ++ stream.just_put l ∷ []) ≡ ws ++ record { load = load_of l; delivered = false } ∷ []
 lines_put out l ws e = map-append line_of out (stream.just_put l ∷ []) ∙ ap (λ (xs : List SentLoad). xs ++ record { load = load_of l; delivered = false } ∷ []) e
 
-bytes_put : (a c : ℕ) (out : List (stream.Packet Message)) (l : stream.Load Message) (sent : List wire.Sent) → sent ≡ map (bytes_of a c) out → with_bytes a c sent l ≡ map (bytes_of a c) (out ++ stream.just_put l ∷ [])
+pub bytes_put : (a c : ℕ) (out : List (stream.Packet Message)) (l : stream.Load Message) (sent : List wire.Sent) → sent ≡ map (bytes_of a c) out → with_bytes a c sent l ≡ map (bytes_of a c) (out ++ stream.just_put l ∷ [])
 bytes_put a c out l sent e = ap (λ (xs : List wire.Sent). xs ++ wire.just_put (spelling (packet_of_load a c l)) ∷ []) e ∙ sym (map-append (bytes_of a c) out (stream.just_put l ∷ []))
 
 -- so many have been given

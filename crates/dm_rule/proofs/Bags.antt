@@ -2,7 +2,7 @@
 use Rattle.dm_rule.proofs.Names.{◌≡◌, ℕ, ◌≤◌, Bool, true, false, zero, suc, refl, ap, ◌∙◌, sym, subst, nat_lt, arith, length, ◌⊎◌, inl, inr, if◌then◌else◌, slice_get, take, drop, Option, None, Some, cases_Bool, nat_tests, Pid, pid_eq}
 use Rattle.dm_rule.proofs.Names.{MsgId, id_eq, id_of, Called, PlainMessage, PlainWhat, Label, Why, switchboard, manager, bind, PlainProcess, Alive, OneKernel, with_process, with_sent, answer_id, answer_to, without_message, id_eq-is}
 use Rattle.dm_rule.proofs.Names.{id_eq-same, Entered, request_id, unentered, asks, Sound, not_server, counts_process, bind-is, when-is, at_hand-is, nexts, Nexts, LandsSo, lands-is, ServerSends, in_bag, Outcome, without_note}
-use Rattle.dm_rule.proofs.Names.{board_takes_lem, ends_move-is, manager_takes_lem}
+use Rattle.dm_rule.proofs.Names.{board_takes_lem, ends_move-is, manager_takes_lem, cond_some}
 use Rattle.dm_onekernel.specs.Kernel.{Ended}
 use Rattle.dm_onekernel.specs.Pieces as pieces
 use Rattle.dm_onekernel.specs.Receiving as receiving
@@ -11,6 +11,7 @@ use Rattle.dm_onekernel.specs.Manager as manage
 use Rattle.dm_onekernel.specs.Service as service
 use Rattle.dm_onekernel.specs.Step as step
 use Rattle.dm_rule.proofs.Lines.{hidden}
+pub use Rattle.dm_laws.proofs.Facts.{if_some-is}
 
 -- one message may go, and one may enter: it is there then, and never was before
 pub record BagStep (e : MsgId → ℕ) (s t : OneKernel) (out put : Option MsgId) : Type 0 where
@@ -243,10 +244,6 @@ lands_in : (r e : MsgId → ℕ) (s t : OneKernel) (id : MsgId) (m : PlainMessag
 lands_in r e s t id m x None is last alive h = cc
 lands_in r e s t id m x (Some c) is last alive h = landed_in r e s t id m x c (let f : service.landed s id m c ≡ t = cc in f) alive (lands-is m.to x m x.status c is) h
 
-pub if_some-is : {A : Type 0} (b : Bool) (x y : A) → (if b then Some x else None) ≡ Some y → x ≡ y
-if_some-is true x y e = cc
-if_some-is false x y e = cc
-
 served_in : (r e : MsgId → ℕ) (s t : OneKernel) (id : MsgId) (m : PlainMessage) (x : PlainProcess) (w : PlainWhat) → m.what ≡ w → s.bag id ≡ Some m → s.processes m.to ≡ Some (Alive x) → service.serves s id m x w ≡ Some t → Sound r e s
     → BagStep e s t (Some id) (served_id id m x w)
 served_in r e s t id m x PlainWhat.Stop w there alive is h = out_is e s t (service.changed s id m (record x { stopped = true })) id (let f : service.changed s id m (record x { stopped = true }) ≡ t = cc in f) (λ i. refl)
@@ -254,15 +251,15 @@ served_in r e s t id m x PlainWhat.Resume w there alive is h = out_is e s t (ser
 served_in r e s t id m x PlainWhat.Kill w there alive is h = out_is e s t (with_process (without_message s id) m.to (Ended Why.Killed)) id (let f : with_process (without_message s id) m.to (Ended Why.Killed) ≡ t = cc in f) (λ i. refl)
 served_in r e s t id m x (PlainWhat.Read base len) w there alive is h =
     let (c, served, last) = bind-is (pieces.reads x m base len) (λ v. Some (service.answered s id m v)) t is in
-    let k = if_some-is _ (record { process = x; answer = answer_to m (PlainWhat.Block (take len (drop base x.memory))) }) c served in
+    let k = cond_some _ (record { process = x; answer = answer_to m (PlainWhat.Block (take len (drop base x.memory))) }) c served in
     let f : service.answered s id m c ≡ t = cc in
-    answers_in r e s t (service.changed s id m x) id m (PlainWhat.Block (take len (drop base x.memory))) (ap (service.answered s id m) k ∙ f) (λ i. refl) there (ap asks w) h
+    answers_in r e s t (service.changed s id m x) id m (PlainWhat.Block (take len (drop base x.memory))) (ap (service.answered s id m) k.1 ∙ f) (λ i. refl) there (ap asks w) h
 served_in r e s t id m x (PlainWhat.Write base bytes) w there alive is h =
     let (c, served, last) = bind-is (pieces.writes x m base bytes) (λ v. Some (service.answered s id m v)) t is in
     let y = record x { memory = pieces.written_at x.memory base bytes } in
-    let k = if_some-is _ (record { process = y; answer = answer_to m PlainWhat.Written }) c served in
+    let k = cond_some _ (record { process = y; answer = answer_to m PlainWhat.Written }) c served in
     let f : service.answered s id m c ≡ t = cc in
-    answers_in r e s t (service.changed s id m y) id m PlainWhat.Written (ap (service.answered s id m) k ∙ f) (λ i. refl) there (ap asks w) h
+    answers_in r e s t (service.changed s id m y) id m PlainWhat.Written (ap (service.answered s id m) k.1 ∙ f) (λ i. refl) there (ap asks w) h
 served_in r e s t id m x (PlainWhat.Block bytes) w there alive is h = lands_in r e s t id m x (pieces.lands m.to x m x.status) refl is alive h
 served_in r e s t id m x PlainWhat.Written w there alive is h = lands_in r e s t id m x (pieces.lands m.to x m x.status) refl is alive h
 served_in r e s t id m x PlainWhat.Gone w there alive is h = lands_in r e s t id m x (pieces.lands m.to x m x.status) refl is alive h

@@ -1,8 +1,8 @@
 -- What deliveries and ticks say keeps that each message stands once; and so does every group.
 use Rattle.dm_rule.proofs.Names.{◌≡◌, ℕ, zero, suc, ◌+◌, ◌-◌, ◌≤◌, ◌==◌, Bool, true, false, not, filter, List, [], ◌∷◌, ◌++◌, refl, ap, ◌∙◌, arith, length, ⊤, if◌then◌else◌, slice_get, Option, None, Some, nat_tests, MsgId, bind, OneKernel}
 use Rattle.dm_rule.proofs.Names.{Step, Line, Load, View, Pair, view_after, Point, label_of, kernel_after, moved, after_line, Part, Says, Transmits, Spelled, packet_line, spelled, Spot, Queue, Untaken, ids_at, standing, bind-is, Boot}
-use Rattle.dm_rule.proofs.Names.{group_of, IsValid, SentLoad, after_head, pair_window, first_point, Leads, StandsOnceAlways, start-sound, Pid, PlainMessage, migrates, StandsAsBag, StandsOutside, StandsRight}
-use Rattle.dm_rule.proofs.Lines.{Stands-stays, Stands-taken, pair_keeps, eq_is, eq_self}
+use Rattle.dm_rule.proofs.Names.{group_of, IsValid, SentLoad, after_head, pair_window, first_point, Leads, StandsOnceAlways, start-sound, Pid, PlainMessage, migrates, StandsAsBag, StandsOutside, StandsRight, eqb-true}
+use Rattle.dm_rule.proofs.Lines.{Stands-stays, Stands-taken, pair_keeps, eq_self}
 use Rattle.dm_rule.proofs.States.{State, says_next, transmits_next, said, State-at, by_line, by_packet, PairsFit}
 use Rattle.dm_rule.proofs.Handled.{turns_row}
 use Rattle.dm_rule.proofs.Pairs.{Pairs-group, Pairs-start, pair_stands, pair_home, Pairs}
@@ -193,7 +193,7 @@ State-start b valid = record {
 }
 
 fits_by : (v : View) → Pairs v → (a b : ℕ) (c : Bool) → (a == b) ≡ c → (v.pair a b).taken ≤ length (v.pair a b).ids
-fits_by v h1 a b c h2 = search (arith, eq_is, pair_home, eq_self, pair_stands)
+fits_by v h1 a b c h2 = search (arith, eqb-true, pair_home, eq_self, pair_stands)
 
 -- what the pairs of machines are says that all that was taken was routed
 pub fits : (v : View) → Pairs v → PairsFit v

@@ -132,7 +132,7 @@ asks_row pt m i is msg to w h fits front there what e =
     let k = says_next pt (Line.Label l) (if m == to then answers_move i Outcome.Done else leaves_for msg.to to) w e in
     let next = moved pt (Line.Label l) k.s in
     let asked = asked_state pt i is k.s h front k.is in
-    let topic : next.view.topic ≡ Target to = ap (option_map_or (λ (m : PlainMessage). move_target m.what) there NothingElse) ∙ ap move_target what in
+    let topic : next.view.topic ≡ Target to = ap (λ (o : Option PlainMessage). option_map_or (λ m. move_target m.what) o NothingElse) there ∙ ap move_target what in
     State-at None k.rest.point w.point k.point (asked_by next i msg.to to (m == to) k.rest asked (fits_as pt.view next.view refl fits) topic k.more)
 
 dropped_row : (pt : Point) (i : MsgId) (is : List MsgId) (w : Spelled) → State None pt → pt.view.inbox pt.view.acting ≡ i ∷ is → spelled pt (says (Label.Dropped i) ∷ []) ≡ Some w → State None w.point

@@ -1,10 +1,11 @@
 -- What each kind of line does to the lists that messages stand in.
 use Rattle.dm_rule.proofs.Names.{◌≡◌, ◌≢◌, ℕ, ◌+◌, ◌≤◌, ◌==◌, ◌&&◌, Bool, true, false, zero, suc, not, filter, List, [], ◌∷◌, ◌++◌, refl, ap, ◌∙◌, sym, subst, arith, length, inl, inr, if◌then◌else◌, drop, slice_get, Option, None, Some}
 use Rattle.dm_rule.proofs.Names.{cases_Bool, false≢true, drop-append-le, length-append, drop-length, nat_tests, Pid, pid_eq, MsgId, MessageKind, id_eq, at_machine, at_pair, at_id, at_record, without_id, without_front, View, Pair, Told}
-use Rattle.dm_rule.proofs.Names.{handled, receiver_of, Spot, Queue, Inbox, Untaken, times, untaken, ids_at, standing, StandsAsBag, pid_eq-is, pid_eq-same, id_eq-is, id_eq-same}
+use Rattle.dm_rule.proofs.Names.{handled, receiver_of, Spot, Queue, Inbox, Untaken, times, untaken, ids_at, standing, StandsAsBag, pid_eq-is, pid_eq-same, id_eq-is, id_eq-same, and_parts, eqb-true, false_from_ne_true}
 use Rattle.dm_rule.specs.View as view
 use Rattle.dm_rule.proofs.Standing.{times-append}
 use Rattle.dm_rule.proofs.Once.{Kept, SameBut, one_of, once_stays, once_comes, once_goes, once_moves}
+pub use Rattle.std.proofs.lemmas.Bool.{and_parts as parts, eqb-true as eq_is, false_from_ne_true as not_true}
 
 -- the messages that are under way, and whom they are for
 abbrev pub Bag : Type 0
@@ -48,21 +49,11 @@ eq_self m = grind (arith, nat_tests)
 pub at_record_at : {X : Type 0} (f : ℕ → Pid → X) (m : ℕ) (p : Pid) (x : X) → at_record f m p x m p ≡ x
 at_record_at f m p x = ap (λ (c : Bool). if c && pid_eq p p then x else f m p) (eq_self m) ∙ ap (λ (c : Bool). if c then x else f m p) (pid_eq-same p)
 
-pub eq_is : (m n : ℕ) → (m == n) ≡ true → m ≡ n
-eq_is m n e = grind (arith, nat_tests)
-
-pub not_true : (b : Bool) → (b ≡ true → ⊥) → b ≡ false
-not_true true h = absurd (h refl)
-not_true false h = refl
-
 pub inbox_apart : (m n : ℕ) → Inbox n ≢ Inbox m → (m == n) ≡ false
-inbox_apart m n apart = not_true (m == n) (λ e. apart (ap Inbox (sym (eq_is m n e))))
-
-pub parts : (a b : Bool) → (a && b) ≡ true → (a ≡ true) × (b ≡ true)
-parts a b h1 = grind (arith, nat_tests)
+inbox_apart m n apart = false_from_ne_true (m == n) (λ e. apart (ap Inbox (sym (eqb-true m n e))))
 
 pub queue_apart : (m n : ℕ) (p q : Pid) → Queue n q ≢ Queue m p → ((m == n) && pid_eq p q) ≡ false
-queue_apart m n p q apart = not_true ((m == n) && pid_eq p q) (λ e. let k = parts (m == n) (pid_eq p q) e in apart (ap (λ x. Queue x q) (sym (eq_is m n k.0)) ∙ ap (Queue m) (sym (pid_eq-is p q k.1))))
+queue_apart m n p q apart = false_from_ne_true ((m == n) && pid_eq p q) (λ e. let k = and_parts (m == n) (pid_eq p q) e in apart (ap (λ x. Queue x q) (sym (eqb-true m n k.0)) ∙ ap (Queue m) (sym (pid_eq-is p q k.1))))
 
 -- the front of the acting machine's inbox goes
 pub front_goes : (v : View) (i : MsgId) (is : List MsgId) → v.inbox v.acting ≡ i ∷ is → without_front i (v.inbox v.acting) ≡ is
@@ -101,7 +92,7 @@ Stands-handled bag v w i is front same told h =
       mine = λ m p j x least k. h.mine m p j x least (hidden_some bag i j x k);
     })
 
-abbrev is_inbox : Spot → Bool
+abbrev pub is_inbox : Spot → Bool
 is_inbox (Inbox m) = true
 is_inbox _ = false
 
@@ -123,7 +114,7 @@ one_more j i xs = let a = times-append j xs (i ∷ []) in let b : times j (i ∷
 -- whom a queue's messages are for, once one more stands there
 queue_mine : (bag : Bag) (v : View) (i : MsgId) (x : Pid) (p : Pid) → bag i ≡ Some x → x ≡ p → Stands bag v → (m : ℕ) (q : Pid) (j : MsgId) (y : Pid)
     → 1 ≤ times j (at_record v.queue v.acting p (v.queue v.acting p ++ i ∷ []) m q) → bag j ≡ Some y → y ≡ q
-queue_mine bag v i x p there to h m q j y least is = search (arith, parts, pid_eq-is, one_more, id_eq-is, at_record_off)
+queue_mine bag v i x p there to h m q j y least is = search (arith, and_parts, pid_eq-is, one_more, id_eq-is, at_record_off)
 
 pub Stands-queued : (bag : Bag) (v w : View) (i : MsgId) (is : List MsgId) (x : Pid) → v.inbox v.acting ≡ i ∷ is → bag i ≡ Some x → w ≡ view.queued_for (handled v i) i (receiver_of (v.told i))
     → Stands bag v → Stands bag w
@@ -174,11 +165,11 @@ Stands-dequeued bag v w i p rest counts same told h =
       told = λ j x k. h.told j x (hidden_some bag i j x k);
       mine = λ m q j x least k. h.mine m q j x (elim (cases_Bool ((v.acting == m) && pid_eq p q)) [
         | inl same ↦
-            let both_ = parts (v.acting == m) (pid_eq p q) same in
+            let both_ = and_parts (v.acting == m) (pid_eq p q) same in
             let now : times j (at_record v.queue v.acting p rest m q) ≡ times j rest = ap (times j) (ap (λ (c : Bool). if c then rest else v.queue m q) same) in
             let c = counts j in
             let was : 1 ≤ times j (v.queue v.acting p) = omega (arith, least, now, c) in
-            subst (λ x. 1 ≤ times j (v.queue m x)) (pid_eq-is p q both_.1) (subst (λ x. 1 ≤ times j (v.queue x p)) (eq_is v.acting m both_.0) was)
+            subst (λ x. 1 ≤ times j (v.queue m x)) (pid_eq-is p q both_.1) (subst (λ x. 1 ≤ times j (v.queue x p)) (eqb-true v.acting m both_.0) was)
         | inr apart ↦ subst (λ n. 1 ≤ n) (ap (times j) (at_record_off v.queue v.acting m p q rest apart)) least
       ]) (hidden_some bag i j x k);
     })
@@ -202,14 +193,14 @@ pub pair_at : {X : Type 0} (f : ℕ → ℕ → X) (a b : ℕ) (x : X) → at_pa
 pair_at f a b x = ap (λ (t : Bool). if t && (b == b) then x else f a b) (eq_self a) ∙ ap (λ (t : Bool). if t then x else f a b) (eq_self b)
 
 pub untaken_apart : (a b c d : ℕ) → Untaken c d ≢ Untaken a b → ((a == c) && (b == d)) ≡ false
-untaken_apart a b c d apart = not_true ((a == c) && (b == d)) (λ e. let k = parts (a == c) (b == d) e in apart (ap (λ x. Untaken x d) (sym (eq_is a c k.0)) ∙ ap (Untaken a) (sym (eq_is b d k.1))))
+untaken_apart a b c d apart = false_from_ne_true ((a == c) && (b == d)) (λ e. let k = and_parts (a == c) (b == d) e in apart (ap (λ x. Untaken x d) (sym (eqb-true a c k.0)) ∙ ap (Untaken a) (sym (eqb-true b d k.1))))
 
 -- a pair that is set to one with the same untaken messages
 pub pair_keeps : (f : ℕ → ℕ → Pair) (a b : ℕ) (p : Pair) → untaken p ≡ untaken (f a b) → (c d : ℕ) → untaken (at_pair f a b p c d) ≡ untaken (f c d)
 pair_keeps f a b p same c d = elim (cases_Bool ((a == c) && (b == d))) [
   | inl here ↦
-      let k = parts (a == c) (b == d) here in
-      ap untaken (ap (λ (t : Bool). if t then p else f c d) here) ∙ same ∙ ap (λ x. untaken (f x b)) (eq_is a c k.0) ∙ ap (λ x. untaken (f c x)) (eq_is b d k.1)
+      let k = and_parts (a == c) (b == d) here in
+      ap untaken (ap (λ (t : Bool). if t then p else f c d) here) ∙ same ∙ ap (λ x. untaken (f x b)) (eqb-true a c k.0) ∙ ap (λ x. untaken (f c x)) (eqb-true b d k.1)
   | inr apart ↦ ap untaken (pair_off f a b c d p apart)
 ]
 
@@ -308,7 +299,7 @@ Stands-put-away bag v a b i k x apart none untold within h =
     (λ z off. put_away_off v a b i k x z off inbox) (λ n p. refl) (λ j other. told_off v i j (Some (view.first_told (v.told i) t)) other) (told_at v i t x untold) h
 
 -- a message is taken: the oldest that wasn't goes to the inbox, or there is none
-abbrev taken_pair : Pair → ℕ → Pair
+abbrev pub taken_pair : Pair → ℕ → Pair
 taken_pair p n = record p { taken = p.taken + 1; kept = filter (λ k. not (k == n)) p.kept }
 
 taken_spots : (a b : ℕ) → Untaken a b ≢ Inbox b

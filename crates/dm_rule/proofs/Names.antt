@@ -1,6 +1,6 @@
 -- What the proofs of this crate name of what lies below it.
-pub use Rattle.std.proofs.Common.{eq-eqb, eqb-true, lit<, ◌||◌}
-pub use Rattle.std.proofs.lemmas.Bool.{cases_eq, or_cases, or_left, or_right}
+pub use Rattle.std.proofs.Common.{lit<, ◌||◌}
+pub use Rattle.std.proofs.lemmas.Bool.{and_parts, and_right, cases_eq, eq-eqb, eqb-true, false_from_ne_true, lt-ltb, ne_eqb, not-true, or_cases, or_left, or_parts, or_right}
 pub use Rattle.std.proofs.lemmas.List.{length-append}
 pub use Rattle.std.proofs.lemmas.Option.{slice_get_cases, slice_get_within}
 pub use Rattle.std.specs.List.{cons_option, position_from}
@@ -37,11 +37,11 @@ pub use Rattle.dm_laws.proofs.Equal.{id_eq-is, id_eq-same, id_eq-swap, pid_eq-is
 pub use Rattle.dm_laws.proofs.Grown.{LifeGrows}
 pub use Rattle.dm_laws.proofs.Movers.{sent_at, sent_off, stayed}
 pub use Rattle.dm_laws.proofs.Names.{Alive, Boot, BootImage, BootProcess, CallNumber, Called, Direction, Ends, IsValid, Label, Life, Manager, MoveNote, Moving, MsgId, None, OneKernel, Option, Outcome, Outputs, Pending, PendingKind}
-pub use Rattle.dm_laws.proofs.Names.{PlainLink, PlainMessage, PlainProcess, PlainStatus, PlainWhat, Ready, Replies, Reply, Sends, Some, Waiting, Waits, Why, answer_id, answer_to, begun, bind, cases_Bool, code_of_outcome, direction_numbered}
-pub use Rattle.dm_laws.proofs.Names.{entry, false≢true, first_failed, first_life, first_number, id_eq, id_of, in_bag, inl, inr, is_some, life_at, manager, nat_le, option_map, pid_of, plain_link, processes_are_valid, reception, reg, start}
-pub use Rattle.dm_laws.proofs.Names.{starting_at, switchboard, when, with_note, with_process, with_sent, without_message, without_note, ⊤, ◌⊎◌}
+pub use Rattle.dm_laws.proofs.Names.{PlainLink, PlainMessage, PlainProcess, PlainStatus, PlainWhat, Ready, Replies, Reply, Sends, Some, Waiting, Waits, Why, answer_id, answer_to, begun, bind, cases_Bool, code_of_outcome, cond_some}
+pub use Rattle.dm_laws.proofs.Names.{direction_numbered, entry, false≢true, first_failed, first_life, first_number, id_eq, id_of, in_bag, inl, inr, is_some, life_at, manager, nat_le, option_map, pid_of, plain_link, processes_are_valid}
+pub use Rattle.dm_laws.proofs.Names.{reception, reg, start, starting_at, switchboard, when, with_note, with_process, with_sent, without_message, without_note, ⊤, ◌⊎◌}
 pub use Rattle.dm_laws.proofs.Runs.{after_step, start-sound}
-pub use Rattle.dm_laws.proofs.Servers.{ServerSends, board_takes_lem, ends_move-is, manager_takes_lem, why_ended-is}
+pub use Rattle.dm_laws.proofs.Servers.{ServerSends, board_takes_lem, ends_move-is, manager_takes_lem, next_is_new, why_ended-is}
 pub use Rattle.dm_laws.proofs.Services.{LandsSo, lands-is}
 pub use Rattle.dm_laws.proofs.Sound.{Sound, counts_process, not_server}
 pub use Rattle.dm_laws.proofs.Steps.{Completing, Nexts, Runs, alive-is, at_hand-is, bind-is, completing, nexts, when-is}
@@ -78,3 +78,4 @@ pub use Rattle.dm_rule.specs.View.{About, Ended, Forward, Frozen, Here, Incoming
 pub use Rattle.dm_rule.specs.View.{after_taken, asks_on, at_least, begins, dropped_for, ended, ends_by, first_view, follows_by, forward_about, forwarded_for, front_of, frozen_for, gone_after, gone_to, handled, handled_first, held_for}
 pub use Rattle.dm_rule.specs.View.{is_kernels, knowing, known_at, marked, marked_at, oldest, own_id, queued_for, receiver_of, released, ring_at, routed_on, served_told, sets_off, taken_id, target_of, view_after, with_pair, with_ring}
 pub use Rattle.dm_rule.specs.Acts.{act_of}
+pub use Rattle.std.specs.Str.{bytes_eq}

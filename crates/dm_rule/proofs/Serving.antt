@@ -9,6 +9,7 @@ use Rattle.dm_onekernel.specs.Switchboard as board
 use Rattle.dm_onekernel.specs.Manager as manage
 use Rattle.dm_onekernel.specs.Step as kernel
 use Rattle.dm_rule.specs.Rule as rule
+use Rattle.dm_rule.proofs.Hearing.{given}
 
 -- a process stops: its turn is over, or a call follows, or its end with its queue behind
 pub record Stops (Q : List Part → Type 0) (p : Pid) (queue : List MsgId) : Type 0 where
@@ -24,9 +25,6 @@ pub record Serves (P : List Part → Type 0) (o : Point) (m : ℕ) (p : Pid) : T
   pub runs : (k : ℕ) (ps : List Part) → ((Q : List Part → Type 0) → Stops Q p (o.view.queue m p) → Q ps) → P (says (Label.Ran p k) ∷ ps)
   pub takes : (mask : ℕ) (id : MsgId) → first_awaited o.kernel mask (o.view.queue m p) ≡ Some id → P (says (Label.Receive p id) ∷ [])
   pub refuses : (id : MsgId) (r : Reply) → P (says (Label.Refuse p id r) ∷ [])
-
-given : (P : List Part → Type 0) (qs ps : List Part) → P qs → Some qs ≡ Some ps → P ps
-given P qs ps h e = let k : qs ≡ ps = cc in subst P k h
 
 by_called : (Q : List Part → Type 0) (p : Pid) (n : ℕ) (queue : List MsgId) (c : calls.Called) → Stops Q p queue → Q (called p n queue c)
 by_called Q p n queue c h1 = search arith

@@ -1,14 +1,16 @@
 -- Each group keeps that each message stands once.
 use Rattle.dm_rule.proofs.Names.{◌≡◌, ℕ, ◌+◌, ◌≤◌, ◌==◌, Bool, true, false, List, [], ◌∷◌, refl, ap, ◌∙◌, sym, subst, arith, length, inl, inr, if◌then◌else◌, Option, None, Some, cases_Bool, nat_tests, Pid, MsgId, MessageKind, plain_kind}
 use Rattle.dm_rule.proofs.Names.{id_eq, PlainMessage, Label, bind, OneKernel, Line, Load, View, Told, view_after, Receiver, Point, label_of, kernel_after, moved, seen, after_line, after, Part, Says, Routes, Transmits, Spelled, lines_of}
-use Rattle.dm_rule.proofs.Names.{puts, goes_out, packet_line, behind, spelled, Spot, Untaken, ids_at, entry, in_bag, reception, id_eq-is, Sound, bind-is, after_step, false≢true, pid_of, id_of, at_machine, is_kernels}
+use Rattle.dm_rule.proofs.Names.{puts, goes_out, packet_line, behind, spelled, Spot, Untaken, ids_at, entry, in_bag, reception, id_eq-is, Sound, bind-is, after_step, false≢true, pid_of, id_of, at_machine, is_kernels, false_from_ne_true}
+use Rattle.dm_rule.proofs.Names.{eqb-true}
 use Rattle.dm_onekernel.specs.Step as kernel
 use Rattle.dm_rule.specs.View as view
 use Rattle.dm_rule.proofs.Hushed.{is_put, hushed}
 use Rattle.dm_rule.proofs.Letters.{letters, letters_step, letter_of, not_kernels}
-use Rattle.dm_rule.proofs.Lines.{Bag, hidden, hidden_off, having, Stands, Stands-same, Stands-stays, Stands-put-home, Stands-put-away, untold_tells, pair_keeps, eq_is, hidden_at}
+use Rattle.dm_rule.proofs.Lines.{Bag, hidden, hidden_off, having, Stands, Stands-same, Stands-stays, Stands-put-home, Stands-put-away, untold_tells, pair_keeps, hidden_at}
 use Rattle.dm_rule.proofs.Seen.{Stands-about}
 use Rattle.dm_rule.proofs.Bags.{BagStep}
+pub use Rattle.std.proofs.lemmas.Bool.{false_from_ne_true as not_true}
 
 -- where a group has come: what is under way, but a message that is still to be routed, stands once
 pub record State (pend : Option MsgId) (pt : Point) : Type 0 where
@@ -100,7 +102,7 @@ pub State-at : (pend : Option MsgId) (pt next : Point) → pt ≡ next → State
 State-at pend pt next e h = subst (State pend) e h
 
 -- a packet moves no message
-packet_off : (v : View) (a b k : ℕ) (l : Load) (z : Spot) → ids_at (view_after v (Line.Packet a b k l)) z ≡ ids_at v z
+pub packet_off : (v : View) (a b k : ℕ) (l : Load) (z : Spot) → ids_at (view_after v (Line.Packet a b k l)) z ≡ ids_at v z
 packet_off v a b k l (Untaken c d) = pair_keeps v.pair a b _ refl c d
 packet_off v a b k l _ = refl
 
@@ -125,17 +127,13 @@ in_bag_entered r e s i x is h = let f = h.entered.fewer i in let g : in_bag (s.b
 pub put_told_off : (v : View) (a b : ℕ) (i j : MsgId) (k : MessageKind) (q : Pid) → id_eq i j ≡ false → (view.after_put v a b i k q).told j ≡ v.told j
 put_told_off v a b i j k q apart = ap (λ (c : Bool). if c then Some (view.first_told (v.told i) (record { kind = k; receiver = q; about = v.topic })) else v.told j) apart
 
-pub not_true : (b : Bool) → (b ≡ true → ⊥) → b ≡ false
-not_true true h = absurd (h refl)
-not_true false h = refl
-
 not_same : (e : MsgId → ℕ) (i j : MsgId) → 1 ≤ e i → e j ≡ 0 → id_eq i j ≡ false
-not_same e i j least zero_ = not_true (id_eq i j) (λ k. let is : i ≡ j = id_eq-is i j k in let z : e i ≡ 0 = ap e is ∙ zero_ in absurd (omega (arith, least, z)))
+not_same e i j least zero_ = false_from_ne_true (id_eq i j) (λ k. let is : i ≡ j = id_eq-is i j k in let z : e i ≡ 0 = ap e is ∙ zero_ in absurd (omega (arith, least, z)))
 
 pub put_stands : (bag : Bag) (v : View) (b : ℕ) (i : MsgId) (k : MessageKind) (q : Pid) (c : Bool) → (v.acting == b) ≡ c → bag i ≡ None → (view.first_told (v.told i) (record { kind = k; receiver = q; about = v.topic })).receiver ≡ q
     → PairsFit v → Stands bag v → Stands (having i q bag) (view.after_put v v.acting b i k q)
 put_stands bag v b i k q true is none tells fits h =
-    let e : v.acting ≡ b = eq_is v.acting b is in
+    let e : v.acting ≡ b = eqb-true v.acting b is in
     subst (λ m. Stands (having i q bag) (view.after_put v v.acting m i k q)) e
     (Stands-put-home bag v v.acting i k q none tells (fits.home v.acting) h)
 put_stands bag v b i k q false is none tells fits h = Stands-put-away bag v v.acting b i k q is none tells (fits.within v.acting b) h
@@ -145,7 +143,7 @@ not_own : (i : MsgId) (o : Option Told) → is_kernels i ≡ false → o ≡ Non
 not_own i o h1 h2 = grind (arith, nat_tests)
 
 pub kernels_id : (i : MsgId) (m n : ℕ) → is_kernels i ≡ false → id_eq i (id_of (pid_of m 0) n) ≡ false
-kernels_id i m n k = not_true (id_eq i (id_of (pid_of m 0) n)) (λ e. let is = id_eq-is i (id_of (pid_of m 0) n) e in false≢true (sym k ∙ ap is_kernels is))
+kernels_id i m n k = false_from_ne_true (id_eq i (id_of (pid_of m 0) n)) (λ e. let is = id_eq-is i (id_of (pid_of m 0) n) e in false≢true (sym k ∙ ap is_kernels is))
 
 pub numbered_put : (v : View) (a b : ℕ) (i : MsgId) (k : MessageKind) (q : Pid) → is_kernels i ≡ false → v.told i ≡ None → ((m n : ℕ) → v.count m ≤ n → v.told (id_of (pid_of m 0) n) ≡ None)
     → (m n : ℕ) → (view.after_put v a b i k q).count m ≤ n → (view.after_put v a b i k q).told (id_of (pid_of m 0) n) ≡ None

@@ -1,14 +1,13 @@
 -- Each turn, delivery and tick keeps that each message stands once.
 use Rattle.dm_rule.proofs.Names.{◌≡◌, ◌≢◌, ℕ, ◌≤◌, ◌==◌, ◌&&◌, Bool, true, false, List, [], ◌∷◌, refl, ap, ◌∙◌, subst, arith, inl, inr, if◌then◌else◌, Option, None, Some, cases_Bool, false≢true, Pid, pid_eq, MsgId, MessageKind, Line, Label}
 use Rattle.dm_rule.proofs.Names.{bind, OneKernel, at_machine, at_record, without_front, View, Told, view_after, handled, receiver_of, Point, moved, Spelled, spelled, Spot, Queue, Inbox, times, ids_at, standing, pid_eq-is, pid_eq-same}
-use Rattle.dm_rule.proofs.Names.{id_eq-same, bind-is, is_kernels, drop_parts, sort_of}
+use Rattle.dm_rule.proofs.Names.{id_eq-same, bind-is, is_kernels, drop_parts, sort_of, and_parts, eqb-true}
 use Rattle.dm_rule.proofs.Standing.{StandsAsBag-elsewhere}
-use Rattle.dm_rule.proofs.Lines.{Stands-stays, Stands-handled, Stands-dequeued, front_counts, eq_is, eq_self, spots_differ}
+use Rattle.dm_rule.proofs.Lines.{Stands-stays, Stands-handled, Stands-dequeued, front_counts, eq_self, spots_differ}
 use Rattle.dm_rule.proofs.Bags.{BagStep, out_of, bag_dropped}
 use Rattle.dm_rule.proofs.Letters.{letters, letter_of, not_kernels, gone_in}
 use Rattle.dm_rule.proofs.Once.{one_of}
 use Rattle.dm_rule.proofs.States.{State, says_next, said, State-at, by_label}
-use Rattle.dm_rule.proofs.Homes.Servers.{and-both}
 use Rattle.dm_onekernel.specs.Step as kernel
 use Rattle.dm_rule.specs.View as view
 
@@ -61,8 +60,8 @@ without_front_none i xs h1 = search arith
 pub at_record_same : (f : ℕ → Pid → List MsgId) (m : ℕ) (p : Pid) (x : List MsgId) → x ≡ f m p → (n : ℕ) (q : Pid) → at_record f m p x n q ≡ f n q
 at_record_same f m p x e n q = elim (cases_Bool ((m == n) && pid_eq p q)) [
   | inl same ↦
-      let k = and-both (m == n) (pid_eq p q) same in
-      ap (λ (c : Bool). if c then x else f n q) same ∙ e ∙ ap (λ t. f t p) (eq_is m n k.0) ∙ ap (f n) (pid_eq-is p q k.1)
+      let k = and_parts (m == n) (pid_eq p q) same in
+      ap (λ (c : Bool). if c then x else f n q) same ∙ e ∙ ap (λ t. f t p) (eqb-true m n k.0) ∙ ap (f n) (pid_eq-is p q k.1)
   | inr apart ↦ ap (λ (c : Bool). if c then x else f n q) apart
 ]
 
@@ -89,7 +88,7 @@ front_unqueued pt i is h front m p =
 
 pub machine_same : (f : ℕ → List MsgId) (m : ℕ) (x : List MsgId) → x ≡ f m → (n : ℕ) → at_machine f m x n ≡ f n
 machine_same f m x e n = elim (cases_Bool (m == n)) [
-  | inl same ↦ ap (λ (c : Bool). if c then x else f n) same ∙ e ∙ ap f (eq_is m n same)
+  | inl same ↦ ap (λ (c : Bool). if c then x else f n) same ∙ e ∙ ap f (eqb-true m n same)
   | inr apart ↦ ap (λ (c : Bool). if c then x else f n) apart
 ]
 

@@ -95,3 +95,4 @@ pub use Rattle.dm_rulelaws.specs.Laws.{FitsAlways, FoundAlways, GoesOnAlways, Kn
 pub use Rattle.dm_rulelaws.specs.Order.{LeadsBy, ReceivesInOrder, channel_in}
 pub use Rattle.dm_rule.specs.Holders.{acting_place, gets}
 pub use Rattle.std.specs.List.{position_from}
+pub use Rattle.std.specs.Str.{bytes_eq}

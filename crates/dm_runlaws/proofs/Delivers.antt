@@ -97,7 +97,7 @@ data_back a c p n false false =
 
 comes_back : (a c : ℕ) (p q : Pair) (l : Load) → AllBack a c (rule.comes a c p q l)
 comes_back a c p q (Load.Data n) = data_back a c p n (nat_lt n p.taken) (nat_lt p.taken n)
-comes_back a c p q (Load.Ack n) = (tt, repeats_back a c (rule.let_go q (rule.at_least q.acked n)))
+comes_back a c p q (Load.Ack n) = (tt, repeats_back a c (rule.let_go q (at_least q.acked n)))
 
 arrives_back : (a c : ℕ) (p q : Pair) (o : Option SentLoad) → AllBack a c (rule.arrives a c p q o)
 arrives_back a c p q None = (tt, tt)

@@ -42,7 +42,7 @@ plain_found None = refl
 plain_found (Some l) = refl
 
 plain_looks_up : (ks : List Named) (name : List ℕ) → one.looks_up (map plain_named ks) name ≡ plain_asked (looks_up ks name)
-plain_looks_up ks name = λ i. record { names = map plain_named ks; answer = (ap (option_map_or one.Found (plain_link_named name ks) one.Unknown) ∙ plain_found (link_named name ks)) i }
+plain_looks_up ks name = λ i. record { names = map plain_named ks; answer = (ap (λ o. option_map_or one.Found o one.Unknown) (plain_link_named name ks) ∙ plain_found (link_named name ks)) i }
 
 plain_registers_new : (ks : List Named) (name : List ℕ) (l : Link) (kept : Option Link) → one.registers_new (map plain_named ks) name (plain_link l) (option_map plain_link kept) ≡ plain_asked (registers_new ks name l kept)
 plain_registers_new ks name l None = λ i. record { names = sym (plain_push ks (record { name = name; link = l })) i; answer = one.Registered }

@@ -12,6 +12,7 @@ use Rattle.dm_kernel.specs.State as machine
 use Rattle.dm_mirror.proofs.Come.Frames.{Arrives, Comes, arrives}
 use Rattle.dm_mirror.proofs.Come.Pieces.{room_kept, after_lacks, comes_known, first_gone, outcome_kernel, turn_kernel, turns_memory, turns_state}
 use Rattle.dm_mirror.proofs.Come.Turns.{come_point, come_view, eq_off, eq_self, known_same, turns_answer}
+use Rattle.dm_mirror.proofs.Recorded.{recorded}
 use Rattle.dm_mirror.proofs.Rooms.{taken_changed}
 use Rattle.dm_mirror.proofs.Turning.{TurnsAt}
 use Rattle.dm_mirror.proofs.Handle.Taking.{pid_apart as pid_off, some_same}
@@ -27,9 +28,6 @@ frozen_is d n e = grind (arith, nat_tests)
 
 frozen_unknown : (to : ℕ) → Frozen to ≢ Unknown
 frozen_unknown to e = cc
-
-leaves_by : (pt : Point) (l : Placed) (p : Pid) (queue held_ : List MsgId) (to : ℕ) (r : Option machine.KernelKnown) → KnownStands pt l p queue held_ (Frozen to) r → (x : Process) × (q : List Message) × (l.processes p ≡ Some (record x { queue = q })) × CanMove x
-leaves_by pt l p queue held_ to r h = grind (arith, nat_tests)
 
 -- whatever waits for it
 pub without_queue : (x : Process) → CanMove x → CanMove (record x { queue = [] })
@@ -48,9 +46,9 @@ leaves_where b m pt l k y p a is =
 
 can_by : (b : Boot) (pt : Point) (l : Placed) (s to : ℕ) (z : KernelState) (p : Pid) (x : Process) → pt.view.known s p ≡ Frozen to → is_server p ≡ false → KernelStands b pt l s z → l.processes p ≡ Some x → CanMove (record x { queue = [] })
 can_by b pt l s to z p x frozen server stands there =
-    let (w, q, is, whole) = leaves_by pt l p (pt.view.queue s p) (pt.view.held s p) to (z.records p) (subst (λ (n : Known). KnownStands pt l p (pt.view.queue s p) (pt.view.held s p) n (z.records p)) frozen (stands.known p server)) in
-    let same : record w { queue = q } ≡ x = some_same (record w { queue = q }) x (sym is ∙ there) in
-    subst (λ (u : Process). CanMove (record u { queue = [] })) same (without_queue w whole)
+    let (d, is, leaves) = recorded b pt l s z p (Frozen to) stands server frozen in
+    let same : record d.process { queue = leaves.here.0.0 } ≡ x = some_same (record d.process { queue = leaves.here.0.0 }) x (sym leaves.here.0.1 ∙ there) in
+    subst (λ (u : Process). CanMove (record u { queue = [] })) same (without_queue d.process leaves.whole)
 
 pub can_come : (b : Boot) (m : ℕ) (pt : Point) (l : Placed) (records : AllRecords) (k : KernelState) (y : Message) (p : Pid) → Comes b m pt l records k y p → (a : Arrives b m pt l k y p) → kind_of y.what ≡ MessageKind.Ask
     → ((n : ℕ) → n < pt.kernel.machines → (z : KernelState) × KernelStands b pt l n z) → CanMove (record a.process { queue = [] })

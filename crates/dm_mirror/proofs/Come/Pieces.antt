@@ -9,6 +9,7 @@ use Rattle.dm_kernel.specs.declared.part.Part.TheVariants as part
 use Rattle.dm_kernel.specs.State as machine
 use Rattle.dm_mirror.proofs.Come.Frames.{Arrives, Comes, arrives, asked_after_block, asked_after_chunk, block_last, chunk_last}
 use Rattle.dm_mirror.proofs.Come.Turns.{come_point, come_view, turns_answer, eq_self}
+use Rattle.dm_mirror.proofs.Recorded.{recorded}
 use Rattle.dm_mirror.proofs.Rooms.{taken_same}
 use Rattle.dm_mirror.proofs.Turning.{TurnsAt, begun}
 use Rattle.dm_mirror.proofs.Kernel.Sets.{on_if as if_true}
@@ -27,21 +28,6 @@ comes_known b m pt l k y p a = grind (arith, nat_tests, apart_is, eq_self)
 
 pub known_incoming : (b : Boot) (m : ℕ) (pt : Point) (l : Placed) (k : KernelState) (y : Message) (p : Pid) (a : Arrives b m pt l k y p) → is_early (kind_of y.what) ≡ false → pt.view.known m p ≡ Incoming a.source
 known_incoming b m pt l k y p a late = expects_is (kind_of y.what) a.source (pt.view.known m p) late (comes_known b m pt l k y p a)
-
--- it expects the process
-pub record Expects (l : Placed) (p : Pid) (held_ : List MsgId) (r : Option machine.KernelKnown) : Type 0 where
-  pub arrival : Arrival
-  pub is : r ≡ Some (Record.Incoming arrival)
-  pub comes_ : ComesStand l p held_ arrival
-
-expects_by : (pt : Point) (l : Placed) (p : Pid) (queue held_ : List MsgId) (s : ℕ) (r : Option machine.KernelKnown) → KnownStands pt l p queue held_ (Incoming s) r → Expects l p held_ r
-expects_by pt l p queue held_ s (Some (Record.Incoming a)) h = record { arrival = a; is = refl; comes_ = h }
-expects_by pt l p queue held_ s _ h = absurd h
-
-pub expects : (b : Boot) (m : ℕ) (pt : Point) (l : Placed) (records : AllRecords) (k : KernelState) (y : Message) (p : Pid) (c : Comes b m pt l records k y p) (a : Arrives b m pt l k y p) → is_early (kind_of y.what) ≡ false → Expects l p (pt.view.held m p) (k.records p)
-expects b m pt l records k y p c a late =
-    expects_by pt l p (pt.view.queue m p) (pt.view.held m p) a.source (k.records p)
-    (subst (λ (n : Known). KnownStands pt l p (pt.view.queue m p) (pt.view.held m p) n (k.records p)) (known_incoming b m pt l k y p a late) (c.stands.known p a.server))
 
 pub first_gone : (i : MsgId) (is xs : List MsgId) → xs ≡ i ∷ is → drop 1 xs ≡ is
 first_gone i is xs e = ap (drop 1) e
@@ -162,11 +148,10 @@ pub record Before (b : Boot) (m : ℕ) (pt : Point) (l : Placed) (k : KernelStat
 
 pub before : (b : Boot) (m : ℕ) (pt : Point) (l : Placed) (records : AllRecords) (k : KernelState) (y : Message) (p : Pid) (c : Comes b m pt l records k y p) (a : Arrives b m pt l k y p) (w : Wanted) → is_early (kind_of y.what) ≡ false → Wants (incoming_of (k.records p)) w → Before b m pt l k y p a w
 before b m pt l records k y p c a w late wants =
-    let e = expects b m pt l records k y p c a late in
-    let h = e.comes_ in
+    let (arrival, is, h) = recorded b pt l m k p (Incoming a.source) c.stands a.server (known_incoming b m pt l k y p a late) in
     let same : h.process ≡ a.process = some_same h.process a.process (sym h.there ∙ a.there) in
-    let is_wanted : e.arrival.wanted ≡ w = subst (λ (o : Option machine.KernelKnown). Wants (incoming_of o) w) e.is wants in
-    search (subst (λ (z : Process). CanMove (record z { queue = [] })) same h.whole, h.pieces ∙ (λ i. coming (same i) (l.notes p) e.arrival.held (is_wanted i)))
+    let is_wanted : arrival.wanted ≡ w = subst (λ (o : Option machine.KernelKnown). Wants (incoming_of o) w) is wants in
+    search (subst (λ (z : Process). CanMove (record z { queue = [] })) same h.whole, h.pieces ∙ (λ i. coming (same i) (l.notes p) arrival.held (is_wanted i)))
 
 asked_others : (f : Pid → ℕ) (p q : Pid) (n : ℕ) → pid_eq p q ≡ false → at_pid f p n q ≡ f q
 asked_others f p q n off = ap (λ (d : Bool). if d then n else f q) off

@@ -1,6 +1,6 @@
 -- What a machine has of a process at the end, by what the lines say that it knows.
 use Rattle.dm_mirror.proofs.Names.{◌≡◌, ◌≢◌, ◌⊎◌, ℕ, ◌<◌, true, false, is_some, List, refl, ap, ◌∙◌, sym, subst, inl, inr, arith, option_map, Option, None, Some, nat_tests, Pid, pid_of, MessageKind, Record, About, plain_what, with_what}
-use Rattle.dm_mirror.proofs.Names.{Process, incoming_of, Arrival, Nothing, Boot, Why, Alive, plain_process, EndLine, Standing, or, list_line, Stood, stood_at, first_with, is_away, is_due, Point, Known, Unknown, Incoming, Ended, Told}
+use Rattle.dm_mirror.proofs.Names.{Process, incoming_of, Arrival, Nothing, Boot, Alive, plain_process, EndLine, Standing, or, list_line, Stood, stood_at, first_with, is_away, is_due, Point, Known, Unknown, Incoming, Ended, Told}
 use Rattle.dm_mirror.proofs.Names.{not_true, is_server, Run, Placed, WorldState, alive_lines, awaited_lines, come_lines, first_awaited, first_had, first_says, lines_in, record_lines, record_queue, told_of, History, KnownStands, StandsWith}
 use Rattle.dm_mirror.proofs.Names.{Wants, alive-is, [], Message, MsgId, What, kind_of, Here, Frozen, Forward, come_whole, held_for, names_of, has_nothing_held, AreMessages, ComesStand, Carries, ended_is, ◌≤◌, ◌∷◌, length, map, IfSome}
 use Rattle.dm_mirror.proofs.Names.{IsValid, Manager, plain_child, IsLawfulPair, Servers, Step, Leads, first_point, HasPlainEnd, EndMay, servers_at, Asker}
@@ -13,6 +13,7 @@ pub use Rattle.dm_mirror.proofs.Row.Tokens.{carries_plain as carried_own}
 use Rattle.dm_mirror.proofs.End.Servers.{first_at, first_none, names_are, alive_same, ComesTo, HasIt, OverAt, is_silent, where_is}
 use Rattle.dm_mirror.proofs.Handle.Taking.{some_same}
 pub use Rattle.dm_mirror.proofs.Handle.Kills.{child_off as no_server}
+use Rattle.dm_mirror.proofs.Recorded.{Recorded, recorded}
 use Rattle.dm_mirror.proofs.Machines.{some_machine}
 use Rattle.dm_mirror.proofs.Next.{machines_stay}
 use Rattle.dm_mirror.proofs.Counts.Pairs.{CountsFew}
@@ -44,26 +45,6 @@ is_at pt l p q held m s (Incoming from) (Some (Record.Incoming x)) e h = cc
 is_at pt l p q held m s (Forward at moves) (Some (Record.Forward x y)) e h = cc
 is_at pt l p q held m s Ended (Some (Record.Ended x)) e h = cc
 is_at pt l p q held m s k r e h = absurd h
-
--- a machine where it has ended
-pub record HasEnded (pt : Point) (p : Pid) (r : Option machine.KernelKnown) : Type 0 where
-  pub why : Why
-  pub is : r ≡ Some (Record.Ended why)
-  pub due : kernel.why_ended (pt.kernel.processes p) ≡ Some why
-
-pub has_ended : (pt : Point) (l : Placed) (p : Pid) (q held : List MsgId) (r : Option machine.KernelKnown) → KnownStands pt l p q held Ended r → HasEnded pt p r
-has_ended pt l p q held (Some (Record.Ended x)) h = record { why = x; is = refl; due = h }
-has_ended pt l p q held _ h = absurd h
-
--- a machine that it comes to
-pub record IsComing (l : Placed) (p : Pid) (held : List MsgId) (r : Option machine.KernelKnown) : Type 0 where
-  pub arrival : Arrival
-  pub is : r ≡ Some (Record.Incoming arrival)
-  pub comes : ComesStand l p held arrival
-
-pub is_coming : (pt : Point) (l : Placed) (p : Pid) (q held : List MsgId) (from : ℕ) (r : Option machine.KernelKnown) → KnownStands pt l p q held (Incoming from) r → IsComing l p held r
-is_coming pt l p q held from (Some (Record.Incoming x)) h = record { arrival = x; is = refl; comes = h }
-is_coming pt l p q held from _ h = absurd h
 
 -- the message that lets a process restart tells that all of it has come
 pub restart_wants : (p : Pid) (x : Process) (k : Option Asker) (n : ℕ) (o : Option Arrival) (w : What) → kind_of w ≡ MessageKind.Restart → Carries p x k n o w → Wants o Nothing
@@ -165,33 +146,29 @@ has_queue b w pt l h p a g =
     ∙ ap (rule.queue_at pt.view p) (sym (with_at pt p a.at below a.others ∙ ap (stood_at a.at) a.known))))
 
 -- a process that has ended
-over_machine : (b : Boot) (w : WorldState) (pt : Point) (l : Placed) (h : History) (p : Pid) (a : OverAt pt.view p) → IsOfHome b w pt l h p → HasEnded pt p ((w.nodes a.at).kernel.records p)
-over_machine b w pt l h p a g =
-    has_ended pt l p (pt.view.queue a.at p) (pt.view.held a.at p) ((w.nodes a.at).kernel.records p)
-    (subst (λ (k : Known). KnownStands pt l p (pt.view.queue a.at p) (pt.view.held a.at p) k ((w.nodes a.at).kernel.records p)) a.known (knows_ b w pt l h p a.at g (within_over b pt p a g.run)))
+over_machine : (b : Boot) (w : WorldState) (pt : Point) (l : Placed) (h : History) (p : Pid) (a : OverAt pt.view p) → IsOfHome b w pt l h p → Recorded pt l p (pt.view.queue a.at p) (pt.view.held a.at p) Ended ((w.nodes a.at).kernel.records p)
+over_machine b w pt l h p a g = recorded b pt l a.at (w.nodes a.at).kernel p Ended (g.stands.nodes a.at (within_over b pt p a g.run)).kernel g.server a.known
 
 over_said : (b : Boot) (w : WorldState) (pt : Point) (l : Placed) (h : History) (p : Pid) (a : OverAt pt.view p) → IsOfHome b w pt l h p → world.process_lines pt.kernel.machines w p ≡ rule.process_lines pt p (pt.kernel.processes p)
 over_said b w pt l h p a g =
     let e = over_machine b w pt l h p a g in
-    ap (λ (o : Option (List EndLine)). lines_in (or o (first_awaited pt.kernel.machines w p))) (had_at b w pt l h p a.at g (within_over b pt p a g.run) a.others ∙ ap (record_lines a.at p) e.is)
-    ∙ ap (rule.process_lines pt p) (sym (ended_is (pt.kernel.processes p) e.why e.due))
+    ap (λ (o : Option (List EndLine)). lines_in (or o (first_awaited pt.kernel.machines w p))) (had_at b w pt l h p a.at g (within_over b pt p a g.run) a.others ∙ ap (record_lines a.at p) e.1)
+    ∙ ap (rule.process_lines pt p) (sym (ended_is (pt.kernel.processes p) e.0 e.2))
 
 over_queue : (b : Boot) (w : WorldState) (pt : Point) (l : Placed) (h : History) (p : Pid) (a : OverAt pt.view p) → IsOfHome b w pt l h p
     → world.queue_of pt.kernel.machines w p ≡ rule.queue_at pt.view p (first_with rule.standing_of pt.view p pt.kernel.machines)
 over_queue b w pt l h p a g =
     let below = within_over b pt p a g.run in
     queue_by b w pt l h p a.at g below a.others
-    ∙ (ap (λ (r : Option machine.KernelKnown). lines_in (record_queue p r)) (over_machine b w pt l h p a g).is
+    ∙ (ap (λ (r : Option machine.KernelKnown). lines_in (record_queue p r)) (over_machine b w pt l h p a g).1
     ∙ ap (rule.queue_at pt.view p) (sym (with_at pt p a.at below a.others ∙ ap (λ (k : Known). stood_at a.at (rule.standing_of k)) a.known)))
 
 -- a process that comes: nobody has it
 none_has : (pt : Point) (p : Pid) (a : ComesTo pt.view p) (m : ℕ) → is_silent (pt.view.known m p) ≡ true
 none_has pt p a m = grind (arith, nat_tests)
 
-to_machine : (b : Boot) (w : WorldState) (pt : Point) (l : Placed) (h : History) (p : Pid) (a : ComesTo pt.view p) → IsOfHome b w pt l h p → IsComing l p (pt.view.held a.to p) ((w.nodes a.to).kernel.records p)
-to_machine b w pt l h p a g =
-    is_coming pt l p (pt.view.queue a.to p) (pt.view.held a.to p) a.from ((w.nodes a.to).kernel.records p)
-    (subst (λ (k : Known). KnownStands pt l p (pt.view.queue a.to p) (pt.view.held a.to p) k ((w.nodes a.to).kernel.records p)) a.known (knows_ b w pt l h p a.to g (within_to b pt p a g.run)))
+to_machine : (b : Boot) (w : WorldState) (pt : Point) (l : Placed) (h : History) (p : Pid) (a : ComesTo pt.view p) → IsOfHome b w pt l h p → Recorded pt l p (pt.view.queue a.to p) (pt.view.held a.to p) (Incoming a.from) ((w.nodes a.to).kernel.records p)
+to_machine b w pt l h p a g = recorded b pt l a.to (w.nodes a.to).kernel p (Incoming a.from) (g.stands.nodes a.to (within_to b pt p a g.run)).kernel g.server a.known
 
 -- all of it has come
 all_come : (b : Boot) (w : WorldState) (pt : Point) (l : Placed) (h : History) (p : Pid) (a : ComesTo pt.view p) (g : IsOfHome b w pt l h p) (c : Arrival) → (w.nodes a.to).kernel.records p ≡ Some (Record.Incoming c) → c.wanted ≡ Nothing
@@ -209,16 +186,15 @@ to_said : (b : Boot) (w : WorldState) (pt : Point) (l : Placed) (h : History) (p
 to_said b w pt l h p a g =
     let below = within_to b pt p a g.run in
     let n = pt.kernel.machines in
-    let i = to_machine b w pt l h p a g in
-    let c = i.arrival in
-    let x = i.comes.process in
-    let there_ = i.comes.there in
+    let (c, is, comes) = to_machine b w pt l h p a g in
+    let x = comes.process in
+    let there_ = comes.there in
     let f : ℕ → Option (List EndLine) = λ m. record_lines m p ((w.nodes m).kernel.records p) in
     let v : ℕ → Option (List EndLine) = λ m. awaited_lines m p ((w.nodes m).kernel.records p) in
     let had : first_had n w p ≡ None = first_none (first_says f) f n refl (λ m. refl) (λ m less. silent_machine b w pt l h p m g (none_has pt p a m) less) in
     let awaited : first_awaited n w p ≡ Some (alive_lines a.to p Standing.Arriving (moved x)) =
     first_at (first_says v) v a.to n refl (λ m. refl) below (λ m less apart. away_machine b w pt l h p m g (a.others m apart) less)
-    ∙ (ap (awaited_lines a.to p) i.is ∙ ap (come_lines a.to p) (come_all l p (pt.view.held a.to p) c i.comes (all_come b w pt l h p a g c i.is))) in
+    ∙ (ap (awaited_lines a.to p) is ∙ ap (come_lines a.to p) (come_all l p (pt.view.held a.to p) c comes (all_come b w pt l h p a g c is))) in
     let places = g.stands.mirrors.places.process p x there_ in
     let there : Option Stood = Some (record { at = a.to; standing = Standing.Arriving }) in
     let has : first_with rule.standing_of pt.view p n ≡ None =

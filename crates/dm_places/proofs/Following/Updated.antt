@@ -63,7 +63,7 @@ told_process s v a q r at moves x alive h = record {
   slots = λ k w e.
       let (u, there, is) = of_map (retargeted_link r at moves) (link_at x.table k) w (sym e ∙ slots_map (retargeted_link r at moves) x.table k) in
       led s a q r at moves (Slot q k) u.addr (pid_eq-same q) (slot_leads s q x k (Some u) alive there) (h.slots k u there) ∙ ap (λ (z : Link). place_of z.addr) is;
-  owner = λ o e. owner_follows s a q r at moves x.status o (ap (option_and_then (λ (x : PlainProcess). owner_in x.status) alive)) h.owner e;
+  owner = λ o e. owner_follows s a q r at moves x.status o (ap (option_and_then (λ (x : PlainProcess). owner_in x.status)) alive) h.owner e;
 }
 
 plain_status_after : (r : Pid) (at moves : ℕ) (st : Status) → plain_status (status_after r at moves st) ≡ plain_status st

@@ -74,7 +74,7 @@ group_left b pt d w y h e =
     let k = parts_left pt.kernel y parts (moved pt (Line.Head d) pt.kernel) rest fits fits (ap (λ p. spelled p parts) f ∙ told) in
     subst (λ (x : Spelled). Left pt.kernel y pt x.point x.lines) g (record { spare = (tt, k.spare); same = k.same })
 
-outcome_apart : (b : Boot) (pt : Point) (d : Step) (y : Pid) → Rooted pt → ((m : ℕ) → pid_of m (first_number + pt.kernel.made m) ≢ y) → ((m : ℕ) (p : Pid) → pt.view.known m p ≡ Here → p ≢ y) → ApartOf pt.kernel y (rule.outcome b pt d)
+pub outcome_apart : (b : Boot) (pt : Point) (d : Step) (y : Pid) → Rooted pt → ((m : ℕ) → pid_of m (first_number + pt.kernel.made m) ≢ y) → ((m : ℕ) (p : Pid) → pt.view.known m p ≡ Here → p ≢ y) → ApartOf pt.kernel y (rule.outcome b pt d)
 outcome_apart b pt (Step.Turn m) y h child off = turns_apart y b pt m (pt.view.inbox m) (child m) (off m) (h.served m)
 outcome_apart b pt (Step.Tick m) y h child off = (tt, net_apart y (rule.resends pt.view m pt.kernel.machines) (resends_net pt.view m pt.kernel.machines))
 outcome_apart b pt (Step.Deliver a c k) y h child off =

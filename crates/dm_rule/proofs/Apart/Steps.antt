@@ -1,12 +1,12 @@
 -- A step that is not of a process leaves its plain value.
 use Rattle.dm_rule.proofs.Names.{◌≡◌, ◌≢◌, ℕ, ◌+◌, ◌==◌, ◌&&◌, Bool, true, false, List, refl, ap, ⊤, if◌then◌else◌, slice_get, Option, None, Some, Pid, pid_of, pid_eq, PlainLink, MsgId, id_eq, Called, PlainMessage, PlainWhat, BootImage}
 use Rattle.dm_rule.proofs.Names.{Label, Reply, Why, first_number, reply_eq, bind, when, PlainProcess, Life, Alive, OneKernel, with_process, with_sent, answer_to, without_message, begun, IsOthers, pid_eq-is, MoveNote, Outcome, arith}
+use Rattle.dm_rule.proofs.Names.{false_from_ne_true}
 use Rattle.dm_onekernel.specs.Pieces as pieces
 use Rattle.dm_onekernel.specs.Receiving as receiving
 use Rattle.dm_onekernel.specs.Service as service
 use Rattle.dm_onekernel.specs.Switchboard as board
 use Rattle.dm_onekernel.specs.Step as kernel
-use Rattle.dm_rule.proofs.Lines.{not_true}
 use Rattle.dm_rule.proofs.Requests.{by_test}
 
 -- the next kernel, where there is one, has the process as it was
@@ -24,7 +24,7 @@ keeps_when s p false t h = tt
 
 -- another process is set
 set_off : (s : OneKernel) (q p : Pid) (life : Life) → q ≢ p → (with_process s q life).processes p ≡ s.processes p
-set_off s q p life off = ap (λ (c : Bool). if c then Some life else s.processes p) (not_true (pid_eq q p) (λ e. off (pid_eq-is q p e)))
+set_off s q p life off = ap (λ (c : Bool). if c then Some life else s.processes p) (false_from_ne_true (pid_eq q p) (λ e. off (pid_eq-is q p e)))
 
 sent_off : (s : OneKernel) (o : Option PlainMessage) (p : Pid) → (with_sent s o).processes p ≡ s.processes p
 sent_off s None p = refl

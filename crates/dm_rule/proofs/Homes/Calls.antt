@@ -2,7 +2,7 @@
 use Rattle.dm_rule.proofs.Names.{◌≡◌, ℕ, zero, suc, ◌||◌, Bool, true, false, List, [], ◌∷◌, refl, ap, ◌∙◌, sym, subst, arith, nat_lt, ⊤, if◌then◌else◌, map, slice_get, slice_set, filter_map, cons_option, is_none, Option, None, Some, Pid}
 use Rattle.dm_rule.proofs.Names.{Place, pid_eq, PlainLink, first_empty, link_at, MsgId, id_eq, id_of, PlainMessage, Direction, direction_numbered, Regs, Row, instruction, past, Reply, PlainProcess, reg, setting, OneKernel, CallNumber}
 use Rattle.dm_rule.proofs.Names.{Called, Replies, Sends, Waits, Outputs, Ends, first_failed, pid_eq-same, id_eq-same, bind-is, View, Addresses, Gets, gets, given, Slot, Owner, Receiver, Sender, acting_place, encloses, fills, fills_by}
-use Rattle.dm_rule.proofs.Names.{sends_burden, owner_in, links_in}
+use Rattle.dm_rule.proofs.Names.{sends_burden, owner_in, links_in, or_parts}
 use Rattle.dm_rule.proofs.Homes.{place_as, pid_as, HomeProcess, HomeMessage, AtHome}
 use Rattle.dm_rule.proofs.Homes.Slots.{set_link, emptied_link, without_replies_link, past_call}
 use Rattle.dm_rule.proofs.Homes.Rows.{SameProcess, SameMessage, SameServers, running_home, encloses_servers, encloses_process, encloses_message, encloses_at}
@@ -10,6 +10,7 @@ use Rattle.dm_rule.proofs.Requests.{by_test}
 use Rattle.dm_onekernel.specs.Calls as calls
 use Rattle.dm_onekernel.specs.Pieces as pieces
 use Rattle.dm_onekernel.specs.Step as kernel
+pub use Rattle.dm_laws.proofs.Facts.{or-left, or-right}
 
 -- the process behind its call
 abbrev pub behind : PlainProcess → PlainProcess
@@ -82,14 +83,6 @@ pub record Listed (P : Pid → Place → Type 0) (a : Addresses) (p : Pid) (ss :
   pub there : slice_get (map (λ (n : ℕ). a (Slot p n)) ss) k ≡ Some place
   pub is : P l.to place
 
-pub or-left : (b c : Bool) → (b || c) ≡ false → b ≡ false
-or-left true c e = cc
-or-left false c e = refl
-
-pub or-right : (b c : Bool) → (b || c) ≡ false → c ≡ false
-or-right true c e = cc
-or-right false c e = e
-
 listed_step : (P : Pid → Place → Type 0) (a : Addresses) (p : Pid) (x : PlainProcess) (s : ℕ) (ss : List ℕ) (k : ℕ) (l : PlainLink) (o : Option PlainLink) → HomeProcess P a p x → link_at x.links s ≡ o → is_none o ≡ false
     → ((j : ℕ) → slice_get (filter_map (link_at x.links) ss) j ≡ Some l → Listed P a p ss j l) → slice_get (cons_option o (filter_map (link_at x.links) ss)) k ≡ Some l → Listed P a p (s ∷ ss) k l
 listed_step P a p x s ss k l None h is some rest e = cc
@@ -99,8 +92,8 @@ listed_step P a p x s ss (suc k) l (Some w) h is some rest e = let r = rest k e 
 listed_home : (P : Pid → Place → Type 0) (a : Addresses) (p : Pid) (x : PlainProcess) (ss : List ℕ) (k : ℕ) (l : PlainLink) → HomeProcess P a p x → calls.any_empty x.links ss ≡ false → slice_get (filter_map (link_at x.links) ss) k ≡ Some l → Listed P a p ss k l
 listed_home P a p x [] k l h some e = cc
 listed_home P a p x (s ∷ ss) k l h some e =
-    listed_step P a p x s ss k l (link_at x.links s) h refl (or-left (is_none (link_at x.links s)) (calls.any_empty x.links ss) some)
-    (λ j f. listed_home P a p x ss j l h (or-right (is_none (link_at x.links s)) (calls.any_empty x.links ss) some) f) e
+    listed_step P a p x s ss k l (link_at x.links s) h refl (or_parts (is_none (link_at x.links s)) (calls.any_empty x.links ss) some).0
+    (λ j f. listed_home P a p x ss j l h (or_parts (is_none (link_at x.links s)) (calls.any_empty x.links ss) some).1 f) e
 
 sends_by : (P : Pid → Place → Type 0) (v : View) (a : Addresses) (p : Pid) (x : PlainProcess) (l : PlainLink) (b c d e : Bool) → d ≡ calls.any_empty x.links (calls.listed x) → link_at x.links (reg x.regs 1) ≡ Some l → P p (acting_place v p) → HomeProcess P a p x
     → HomeCalled P v a p x calls.Send (calls.unless_refused

@@ -1,7 +1,7 @@
 -- A group keeps all of it where its first part is said where it belongs.
 use Rattle.dm_rule.proofs.Names.{◌≡◌, ℕ, zero, suc, ◌==◌, true, List, [], ◌∷◌, ◌++◌, refl, ap, ◌∙◌, sym, subst, ◌⊎◌, inl, inr, ⊤, if◌then◌else◌, Option, None, Some, Pid, MsgId, Boot, Label, OneKernel, bind, bind-is, Line, Load, View, Pair}
 use Rattle.dm_rule.proofs.Names.{queued_for, handled, Point, after, after_line, moved, Part, Says, Spelled, behind, spelled, lines_of, slice_get, ◌-◌, Step, actor, begins, marked, SentLoad, NothingElse, group_of, outcome, IsStill, AskNone}
-use Rattle.dm_rule.proofs.Names.{arith, nat_tests}
+use Rattle.dm_rule.proofs.Names.{arith, nat_tests, at_least}
 use Rattle.dm_rule.proofs.Homes.Labels.{SaidAt, RingsHome, rings_same}
 use Rattle.dm_rule.proofs.Homes.Lists.{stands, queue_lists}
 use Rattle.dm_rule.proofs.Homes.Lines.{NoneReplaced, Home, Kept, same_lists, label_keeps}
@@ -112,7 +112,7 @@ takes_good m a b (n ∷ ns) = (tt, takes_good m a b ns)
 
 comes_good : (m a b : ℕ) (p q : Pair) (l : Load) → PartsAnywhere m (rule.comes a b p q l)
 comes_good m a b p q (Load.Data n) = search (arith, by_test, parts_append, takes_good)
-comes_good m a b p q (Load.Ack n) = (tt, repeats_good m b a (rule.let_go q (rule.at_least q.acked n)))
+comes_good m a b p q (Load.Ack n) = (tt, repeats_good m b a (rule.let_go q (at_least q.acked n)))
 
 pub arrives_good : (m a b : ℕ) (p q : Pair) (o : Option SentLoad) → PartsAnywhere m (rule.arrives a b p q o)
 arrives_good m a b p q None = (tt, tt)

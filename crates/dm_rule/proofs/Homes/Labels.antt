@@ -1,6 +1,6 @@
 -- Each label keeps addresses where they may be, as at homes, and what it does to the rings too.
 use Rattle.dm_rule.proofs.Names.{◌≡◌, ℕ, ◌==◌, ◌&&◌, Bool, true, false, not, List, [], ◌∷◌, ◌++◌, refl, ap, ◌∙◌, arith, ⊤, if◌then◌else◌, filter, Option, None, Some, nat_tests, Pid, Place, pid_eq, MsgId, MessageKind, Label, OneKernel}
-use Rattle.dm_rule.proofs.Names.{at_machine, at_record, without, moved_back, View, Told, Known, Frozen, Incoming, Forward, after_label, served_told, ends_by, Addresses, given, gives, acting_place, are_home, sort_of}
+use Rattle.dm_rule.proofs.Names.{at_machine, at_record, without, moved_back, View, Told, Known, Frozen, Incoming, Forward, after_label, served_told, ends_by, Addresses, given, gives, acting_place, are_home, sort_of, and_parts}
 use Rattle.dm_rule.proofs.Homes.{IsHome, AtHome}
 use Rattle.dm_rule.proofs.Homes.Steps.{ran_home, call_home, send_home, wait_home, out_home, end_home}
 use Rattle.dm_rule.proofs.Homes.Receives.{receive_home, refuse_home}
@@ -68,15 +68,10 @@ said_home s v a l h1 h2 h3 = search arith
 pub label_home : (s t : OneKernel) (v : View) (a : Addresses) (l : Label) → kernel.step s l ≡ Some t → Named s → ((q : Pid) → v.moves q ≡ 0) → SaidAt s v.acting l → AtHome IsHome s a → AtHome IsHome t (given a (gives s v a l))
 label_home s t v a l is named still at h = label_on IsHome s t v a l is named (said_home s v a l still at h) h
 
--- rings
-both : (b c : Bool) → (b && c) ≡ true → (b ≡ true) × (c ≡ true)
-both true c e = (refl, e)
-both false c e = cc
-
 filter_home : (m : ℕ) (ps : List Pid) (f : Pid → Bool) → are_home m ps ≡ true → are_home m (filter f ps) ≡ true
 filter_home m [] f h = refl
 filter_home m (p ∷ ps) f h =
-    let k = both (p.home == m) (are_home m ps) h in
+    let k = and_parts (p.home == m) (are_home m ps) h in
     (elim (f p) as (λ b. are_home m (if b then p ∷ (filter f ps) else (filter f ps)) ≡ true)
     [ true ↦ ap (λ (c : Bool). c && are_home m (filter f ps)) k.0 ∙ (filter_home m ps f k.1) | false ↦ (filter_home m ps f k.1) ])
 
@@ -85,7 +80,7 @@ without_home m p ps h = filter_home m ps (λ q. not (pid_eq p q)) h
 
 pub joins_home : (m : ℕ) (p : Pid) (ps : List Pid) → p.home ≡ m → are_home m ps ≡ true → are_home m (ps ++ p ∷ []) ≡ true
 joins_home m p [] e h = grind (arith, nat_tests)
-joins_home m p (q ∷ qs) e h = let k = both (q.home == m) (are_home m qs) h in ap (λ (c : Bool). c && are_home m (qs ++ p ∷ [])) k.0 ∙ joins_home m p qs e k.1
+joins_home m p (q ∷ qs) e h = let k = and_parts (q.home == m) (are_home m qs) h in ap (λ (c : Bool). c && are_home m (qs ++ p ∷ [])) k.0 ∙ joins_home m p qs e k.1
 
 -- rings whose processes are at home, and no process has moved
 -- what a machine knows of a process as long as nothing moves

@@ -1,7 +1,7 @@
 -- Each message stands where its receiver is at home: what lines do to the lists that messages stand in.
 use Rattle.dm_rule.proofs.Names.{◌≡◌, ℕ, zero, suc, ◌+◌, ◌≤◌, ◌==◌, ◌&&◌, Bool, true, false, List, [], ◌∷◌, ◌++◌, drop, refl, ap, ◌∙◌, sym, arith, nat_le, if◌then◌else◌, slice_get, Option, None, Some, nat_tests, Pid, MsgId, id_eq}
 use Rattle.dm_rule.proofs.Names.{MessageKind, PlainMessage, Label, OneKernel, at_machine, at_pair, at_record, without_id, without_front, untaken, View, Pair, after_label, served_told, ends_by, handled, after_put, after_taken, taken_id}
-use Rattle.dm_rule.proofs.Names.{queued_for, is_for_home, are_for_home, both_true, sort_of}
+use Rattle.dm_rule.proofs.Names.{queued_for, is_for_home, are_for_home, both_true, sort_of, and_parts}
 use Rattle.dm_rule.specs.View as view
 
 -- each of these messages has entered, and is for a receiver of this home as long as it is in the bag
@@ -12,29 +12,25 @@ abbrev pub all_stand : OneKernel → (MsgId → ℕ) → ℕ → List MsgId → 
 all_stand s e m [] = true
 all_stand s e m (i ∷ is) = stands s e m i && all_stand s e m is
 
-both : (b c : Bool) → (b && c) ≡ true → (b ≡ true) × (c ≡ true)
-both true c e = (refl, e)
-both false c e = cc
-
 pub are_for : (s : OneKernel) (e : MsgId → ℕ) (m : ℕ) (is : List MsgId) → all_stand s e m is ≡ true → are_for_home s m is ≡ true
 are_for s e m [] h = refl
 are_for s e m (i ∷ is) h =
-    let k = both (stands s e m i) (all_stand s e m is) h in
-    both_true (is_for_home m (s.bag i)) (are_for_home s m is) (both (nat_le 1 (e i)) (is_for_home m (s.bag i)) k.0).1 (are_for s e m is k.1)
+    let k = and_parts (stands s e m i) (all_stand s e m is) h in
+    both_true (is_for_home m (s.bag i)) (are_for_home s m is) (and_parts (nat_le 1 (e i)) (is_for_home m (s.bag i)) k.0).1 (are_for s e m is k.1)
 
 pub all_stand_last : (s : OneKernel) (e : MsgId → ℕ) (m : ℕ) (is : List MsgId) (i : MsgId) → all_stand s e m is ≡ true → stands s e m i ≡ true → all_stand s e m (is ++ i ∷ []) ≡ true
 all_stand_last s e m [] i h k = both_true (stands s e m i) true k refl
 all_stand_last s e m (j ∷ js) i h k =
-    let w = both (stands s e m j) (all_stand s e m js) h in
+    let w = and_parts (stands s e m j) (all_stand s e m js) h in
     both_true (stands s e m j) (all_stand s e m (js ++ i ∷ [])) w.0 (all_stand_last s e m js i w.1 k)
 
 pub all_stand_front : (s : OneKernel) (e : MsgId → ℕ) (m : ℕ) (i : MsgId) (is : List MsgId) → all_stand s e m is ≡ true → all_stand s e m (without_front i is) ≡ true
-all_stand_front s e m i is h1 = search (arith, both)
+all_stand_front s e m i is h1 = search (arith, and_parts)
 
 pub all_stand_without : (s : OneKernel) (e : MsgId → ℕ) (m : ℕ) (i : MsgId) (is : List MsgId) → all_stand s e m is ≡ true → all_stand s e m (without_id i is) ≡ true
 all_stand_without s e m i [] h = refl
 all_stand_without s e m i (j ∷ js) h =
-    let w = both (stands s e m j) (all_stand s e m js) h in
+    let w = and_parts (stands s e m j) (all_stand s e m js) h in
     (elim (id_eq i j) as (λ b. all_stand s e m (if b then js else j ∷ (without_id i js)) ≡ true)
     [ true ↦ w.1 | false ↦ both_true (stands s e m j) (all_stand s e m (without_id i js)) w.0 (all_stand_without s e m i js w.1) ])
 
@@ -45,12 +41,12 @@ drop_last s e m (suc n) (j ∷ js) i h k = drop_last s e m n js i h k
 
 pub drop_one : (s : OneKernel) (e : MsgId → ℕ) (m n : ℕ) (is : List MsgId) → all_stand s e m (drop n is) ≡ true → all_stand s e m (drop (suc n) is) ≡ true
 drop_one s e m n [] h = refl
-drop_one s e m zero (j ∷ js) h = (both (stands s e m j) (all_stand s e m js) h).1
+drop_one s e m zero (j ∷ js) h = (and_parts (stands s e m j) (all_stand s e m js) h).1
 drop_one s e m (suc n) (j ∷ js) h = drop_one s e m n js h
 
 pub drop_first : (s : OneKernel) (e : MsgId → ℕ) (m n : ℕ) (is : List MsgId) (i : MsgId) → slice_get is n ≡ Some i → all_stand s e m (drop n is) ≡ true → stands s e m i ≡ true
 drop_first s e m n [] i f h = cc
-drop_first s e m zero (j ∷ js) i f h = let k : j ≡ i = cc in ap (stands s e m) (sym k) ∙ (both (stands s e m j) (all_stand s e m js) h).0
+drop_first s e m zero (j ∷ js) i f h = let k : j ≡ i = cc in ap (stands s e m) (sym k) ∙ (and_parts (stands s e m j) (all_stand s e m js) h).0
 drop_first s e m (suc n) (j ∷ js) i f h = drop_first s e m n js i f h
 
 -- the kernel goes on: what has entered, and is in the bag, was there already
@@ -64,8 +60,8 @@ for_home_on m a (Some x) h k = sym (ap (is_for_home m) (h x refl)) ∙ k
 pub stand_on : (s t : OneKernel) (e f : MsgId → ℕ) (m : ℕ) (is : List MsgId) → Old e s t → ((i : MsgId) → e i ≤ f i) → all_stand s e m is ≡ true → all_stand t f m is ≡ true
 stand_on s t e f m [] old le h = refl
 stand_on s t e f m (i ∷ is) old le h =
-    let w = both (stands s e m i) (all_stand s e m is) h in
-    let x = both (nat_le 1 (e i)) (is_for_home m (s.bag i)) w.0 in
+    let w = and_parts (stands s e m i) (all_stand s e m is) h in
+    let x = and_parts (nat_le 1 (e i)) (is_for_home m (s.bag i)) w.0 in
     let entered = x.0 in
     let more = le i in
     both_true (stands t f m i) (all_stand t f m is)

@@ -1,7 +1,7 @@
 -- What servers do keeps addresses where they may be.
 use Rattle.dm_rule.proofs.Names.{◌≡◌, ℕ, zero, suc, ◌+◌, ◌==◌, ◌&&◌, Bool, true, false, List, [], ◌∷◌, ◌++◌, refl, ap, ◌∙◌, sym, subst, ◌⊎◌, inl, inr, arith, nat_lt, nat_le, length, if◌then◌else◌, slice_get, Option, None, Some, cases_Bool}
 use Rattle.dm_rule.proofs.Names.{nat_tests, Pid, Place, PlainLink, MsgId, id_eq, id_of, PlainMessage, PlainWhat, bind, OneKernel, without_message, id_eq-same, View, Addresses, gets, given, Enclosed, unmoved, NamedLink, Pending, switchboard}
-use Rattle.dm_rule.proofs.Names.{is_general, Child, Name, Answer, AskedBy, place_named, board_finds, board_keeps, board_takes_burden, links_in, ascends, option_map_or}
+use Rattle.dm_rule.proofs.Names.{is_general, Child, Name, Answer, AskedBy, place_named, board_finds, board_keeps, board_takes_burden, links_in, ascends, and_parts, option_map_or, bytes_eq}
 use Rattle.dm_rule.proofs.Homes.{place_as, pid_as, acts_at, AtHome}
 use Rattle.dm_rule.proofs.Homes.Rows.{SameProcess, SameMessage, sent_home, at_home_out, process_same}
 use Rattle.dm_rule.proofs.Homes.Serves.{two, two_off}
@@ -9,6 +9,7 @@ use Rattle.dm_rule.proofs.Requests.{by_test}
 use Rattle.dm_onekernel.specs.Service as service
 use Rattle.dm_onekernel.specs.Switchboard as board
 use Rattle.dm_onekernel.specs.Manager as manage
+pub use Rattle.std.proofs.lemmas.Bool.{and_parts as and-both}
 
 -- a list with one more at its end
 pub get_last : {A : Type 0} (xs : List A) (y : A) (n : ℕ) (q : A) → slice_get (xs ++ y ∷ []) n ≡ Some q → (((length xs == n) ≡ true) × (y ≡ q)) ⊎ (((length xs == n) ≡ false) × (slice_get xs n ≡ Some q))
@@ -20,41 +21,36 @@ get_last (x ∷ xs) y (suc n) q e = elim (get_last xs y n q e) [
   | inr h ↦ inr (let g = h.0 in let f : (length (x ∷ xs) == suc n) ≡ false = grind (arith, nat_tests) in f, h.1)
 ]
 
--- requests in order
-pub and-both : (b c : Bool) → (b && c) ≡ true → (b ≡ true) × (c ≡ true)
-and-both true c e = (refl, e)
-and-both false c e = cc
-
 ascends_le : (ps : List Pending) (from to : ℕ) → ascends from ps to ≡ true → nat_le from to ≡ true
 ascends_le [] from to e = e
 ascends_le (p ∷ ps) from to e =
-    let k = and-both (nat_le from p.n) (ascends (p.n + 1) ps to) e in
+    let k = and_parts (nat_le from p.n) (ascends (p.n + 1) ps to) e in
     let first = k.0 in
     let rest = ascends_le ps (p.n + 1) to k.1 in grind (arith, nat_tests)
 
 pub ascends_more : (ps : List Pending) (from to : ℕ) → ascends from ps to ≡ true → ascends from ps (to + 1) ≡ true
 ascends_more [] from to e = grind (arith, nat_tests)
 ascends_more (p ∷ ps) from to e =
-    let k = and-both (nat_le from p.n) (ascends (p.n + 1) ps to) e in
+    let k = and_parts (nat_le from p.n) (ascends (p.n + 1) ps to) e in
     ap (λ (b : Bool). b && ascends (p.n + 1) ps (to + 1)) k.0 ∙ ascends_more ps (p.n + 1) to k.1
 
 ascends_less : (ps : List Pending) (from less to : ℕ) → nat_le less from ≡ true → ascends from ps to ≡ true → ascends less ps to ≡ true
 ascends_less [] from less to le e = grind (arith, nat_tests)
 ascends_less (p ∷ ps) from less to le e =
-    let k = and-both (nat_le from p.n) (ascends (p.n + 1) ps to) e in
+    let k = and_parts (nat_le from p.n) (ascends (p.n + 1) ps to) e in
     let first = k.0 in
     let f : nat_le less p.n ≡ true = grind (arith, nat_tests) in ap (λ (b : Bool). b && ascends (p.n + 1) ps to) f ∙ k.1
 
 pub ascends_last : (ps : List Pending) (from : ℕ) (z : Pending) → ascends from ps z.n ≡ true → ascends from (ps ++ z ∷ []) (z.n + 1) ≡ true
 ascends_last [] from z e = grind (arith, nat_tests)
 ascends_last (p ∷ ps) from z e =
-    let k = and-both (nat_le from p.n) (ascends (p.n + 1) ps z.n) e in
+    let k = and_parts (nat_le from p.n) (ascends (p.n + 1) ps z.n) e in
     ap (λ (b : Bool). b && ascends (p.n + 1) (ps ++ z ∷ []) (z.n + 1)) k.0 ∙ ascends_last ps (p.n + 1) z k.1
 
 pub ascends_without : (ps : List Pending) (from to n : ℕ) → ascends from ps to ≡ true → ascends from (manage.without_pending n ps) to ≡ true
 ascends_without [] from to n e = e
 ascends_without (p ∷ ps) from to n e =
-    let k = and-both (nat_le from p.n) (ascends (p.n + 1) ps to) e in
+    let k = and_parts (nat_le from p.n) (ascends (p.n + 1) ps to) e in
     let first = k.0 in
     elim (cases_Bool (p.n == n)) [
       | inl same ↦
@@ -67,7 +63,7 @@ ascends_without (p ∷ ps) from to n e =
 pub numbered_from : (ps : List Pending) (from to n : ℕ) (r : Pending) → ascends from ps to ≡ true → manage.pending_numbered n ps ≡ Some r → (nat_le from n ≡ true) × (nat_lt n to ≡ true)
 numbered_from [] from to n r e f = cc
 numbered_from (p ∷ ps) from to n r e f =
-    let k = and-both (nat_le from p.n) (ascends (p.n + 1) ps to) e in
+    let k = and_parts (nat_le from p.n) (ascends (p.n + 1) ps to) e in
     let first = k.0 in
     elim (cases_Bool (p.n == n)) [
       | inl same ↦
@@ -100,7 +96,7 @@ pending_last (p ∷ ps) n z r h e = elim (cases_Bool (p.n == n)) [
 pub still_pending : (ps : List Pending) (from to n k : ℕ) (r : Pending) → ascends from ps to ≡ true → manage.pending_numbered k (manage.without_pending n ps) ≡ Some r → manage.pending_numbered k ps ≡ Some r
 still_pending [] from to n k r e f = f
 still_pending (p ∷ ps) from to n k r e f =
-    let w = and-both (nat_le from p.n) (ascends (p.n + 1) ps to) e in
+    let w = and_parts (nat_le from p.n) (ascends (p.n + 1) ps to) e in
     elim (cases_Bool (p.n == n)) [
       | inl same ↦
           let g : manage.pending_numbered k ps ≡ Some r = sym (ap (λ (b : Bool). manage.pending_numbered k (if b then ps else p ∷ manage.without_pending n ps)) same) ∙ f in
@@ -145,7 +141,7 @@ pub record FoundAt (name : List ℕ) (names : List NamedLink) (n : ℕ) (l : Pla
 
 pub found_at : (name : List ℕ) (names : List NamedLink) (n : ℕ) (l : PlainLink) → board.link_named name names ≡ Some l → FoundAt name names n l
 found_at name [] n l e = cc
-found_at name (k ∷ ks) n l e = elim (cases_Bool (board.bytes_eq k.name name)) [
+found_at name (k ∷ ks) n l e = elim (cases_Bool (bytes_eq k.name name)) [
   | inl same ↦
       let f : Some k.link ≡ Some l = sym (ap (λ (b : Bool). if b then Some k.link else board.link_named name ks) same) ∙ e in
       record { i = 0; k = k; there = refl; link = let g : k.link ≡ l = cc in g; place = ap (λ (b : Bool). if b then n else place_named name ks (n + 1)) same ∙ (let g : n ≡ n + 0 = omega arith in g) }

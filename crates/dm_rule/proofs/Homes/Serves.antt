@@ -2,7 +2,8 @@
 use Rattle.dm_rule.proofs.Names.{◌≡◌, ℕ, zero, suc, ◌+◌, ◌==◌, ◌&&◌, Bool, true, false, List, [], ◌∷◌, ◌++◌, refl, ap, ◌∙◌, sym, subst, arith, nat_le, length, ⊤, if◌then◌else◌, map, slice_get, Option, None, Some, nat_tests, Pid, Place}
 use Rattle.dm_rule.proofs.Names.{pid_eq, PlainLink, link_at, MsgId, id_eq, Label, Why, PlainMessage, PlainWhat, Reply, bind, PlainProcess, PlainStatus, Moving, Alive, OneKernel, with_process, with_sent, without_message, pid_eq-same}
 use Rattle.dm_rule.proofs.Names.{id_eq-same, bind-is, when-is, View, Addresses, Gets, gets, given, gives, Slot, Owner, Receiver, Sender, Enclosed, unmoved, acting_place, replicate, ◌-◌, take, drop, Direction, BootImage, first_number}
-use Rattle.dm_rule.proofs.Names.{answer_id, answer_to, begun, pid_of, answer_gets, serves_burden, landing_gets, links_in, at_hand-is, AskedBy, MoveNote, Outcome, with_note, without_note, ends_move-is, option_map_or, child_links}
+use Rattle.dm_rule.proofs.Names.{answer_id, answer_to, begun, pid_of, answer_gets, serves_burden, landing_gets, child_links, links_in, at_hand-is, AskedBy, MoveNote, Outcome, with_note, without_note, ends_move-is, option_map_or}
+use Rattle.dm_rule.proofs.Names.{cond_some}
 use Rattle.dm_onekernel.specs.Kernel.{Ended}
 use Rattle.dm_rule.proofs.Homes.{place_as, pid_as, acts_at, HomeProcess, AtHome}
 use Rattle.dm_rule.proofs.Homes.Rows.{SameProcess, SameMessage, SameServers, sent_home, at_home_process, at_home_out, home_goes, alive_on, message_same, process_same}
@@ -13,6 +14,7 @@ use Rattle.dm_rule.specs.Given as giving
 use Rattle.dm_rule.specs.Addresses as addresses
 use Rattle.dm_onekernel.specs.Pieces as pieces
 use Rattle.dm_onekernel.specs.Service as service
+pub use Rattle.dm_laws.proofs.Facts.{if_some-is as some_is}
 
 -- the receiver and the sender of a new message get places
 abbrev pub two : MsgId → Place → Place → List Gets
@@ -174,9 +176,6 @@ gone_row P s t v a id m x what_is hx at h e =
     subst (λ (u : OneKernel). AtHome P u a) k
     (subst (λ (gs : List Gets). AtHome P (service.landed s id m c) (given a gs)) (nothing_lands v a m.to c (gone_lands m.to x m x.status c what_is is)) (landed_home P s v a id m c (lands_home P a m.to x m x.status c refl hx is) at h))
 
-pub some_is : {A : Type 0} (b : Bool) (x y : A) → (if b then Some x else None) ≡ Some y → x ≡ y
-some_is b x y h1 = search arith
-
 -- a row a kind
 serve_row : (P : Pid → Place → Type 0) (s t : OneKernel) (v : View) (a : Addresses) (id : MsgId) (m : PlainMessage) (x : PlainProcess) (w : PlainWhat) → m.what ≡ w → service.serves s id m x w ≡ Some t → s.bag id ≡ Some m → m.id ≡ id → HomeProcess P a m.to x
     → P m.to (acting_place v m.to) → AtHome P s a → AtHome P t (given a (serves_burden v a id m x w))
@@ -192,16 +191,16 @@ serve_row P s t v a id m x PlainWhat.Kill w is there name hx at h =
 serve_row P s t v a id m x (PlainWhat.Read base len) w is there name hx at h =
     let (c, served, last) = bind-is (pieces.reads x m base len) (λ (r : pieces.Served). Some (service.answered s id m r)) t is in
     let bytes = take len (drop base x.memory) in
-    let k = some_is (nat_le (base + len) (length x.memory)) (record { process = x; answer = answer_to m (PlainWhat.Block bytes) }) c served in
+    let k = cond_some (nat_le (base + len) (length x.memory)) (record { process = x; answer = answer_to m (PlainWhat.Block bytes) }) c served in
     let f : service.answered s id m c ≡ t = cc in
-    subst (λ (u : OneKernel). AtHome P u (given a (answer_gets a id (acting_place v m.to)))) (ap (service.answered s id m) k ∙ f)
+    subst (λ (u : OneKernel). AtHome P u (given a (answer_gets a id (acting_place v m.to)))) (ap (service.answered s id m) k.1 ∙ f)
     (answer_sent P s (service.changed s id m x) a id m (PlainWhat.Block bytes) (acting_place v m.to) name there h (home_goes P (without_message s id) a m.to x (at_home_out P s a id h) hx) refl at)
 serve_row P s t v a id m x (PlainWhat.Write base bytes) w is there name hx at h =
     let (c, served, last) = bind-is (pieces.writes x m base bytes) (λ (r : pieces.Served). Some (service.answered s id m r)) t is in
     let y = record x { memory = pieces.written_at x.memory base bytes } in
-    let k = some_is (nat_le (base + length bytes) (length x.memory)) (record { process = y; answer = answer_to m PlainWhat.Written }) c served in
+    let k = cond_some (nat_le (base + length bytes) (length x.memory)) (record { process = y; answer = answer_to m PlainWhat.Written }) c served in
     let f : service.answered s id m c ≡ t = cc in
-    subst (λ (u : OneKernel). AtHome P u (given a (answer_gets a id (acting_place v m.to)))) (ap (service.answered s id m) k ∙ f)
+    subst (λ (u : OneKernel). AtHome P u (given a (answer_gets a id (acting_place v m.to)))) (ap (service.answered s id m) k.1 ∙ f)
     (answer_sent P s (service.changed s id m y) a id m PlainWhat.Written (acting_place v m.to) name there h (home_goes P (without_message s id) a m.to y (at_home_out P s a id h) (record { slots = hx.slots; owner = hx.owner })) refl at)
 serve_row P s t v a id m x (PlainWhat.Block bytes) w is there name hx at h = lands_row P s t v a id m x hx at h is
 serve_row P s t v a id m x PlainWhat.Written w is there name hx at h = lands_row P s t v a id m x hx at h is

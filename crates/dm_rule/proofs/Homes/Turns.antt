@@ -1,7 +1,7 @@
 -- A turn keeps all of it.
 use Rattle.dm_rule.proofs.Names.{◌≡◌, ℕ, ◌+◌, ◌==◌, ◌&&◌, Bool, true, false, List, [], ◌∷◌, refl, ap, ◌∙◌, sym, subst, inl, inr, arith, nat_le, ⊤, if◌then◌else◌, Option, None, Some, nat_tests, Pid, MsgId, PlainMessage, Boot, Label}
 use Rattle.dm_rule.proofs.Names.{OneKernel, after_step, Point, first_point, Part, Routes, Spelled, Homes, is_for_home, are_home, IsStill, LeadHomeAlways, ◌≤◌, false≢true, is_kernels, Step, actor, group_of, pid_of, first_number, Known}
-use Rattle.dm_rule.proofs.Names.{Frozen, Incoming, Forward, AskNone, LeadsStill}
+use Rattle.dm_rule.proofs.Names.{Frozen, Incoming, Forward, AskNone, LeadsStill, and_parts}
 use Rattle.dm_onekernel.specs.Step as kernel
 use Rattle.dm_rule.proofs.Homes.Labels.{SaidAt}
 use Rattle.dm_rule.proofs.Homes.Lists.{stands, all_stand}
@@ -39,13 +39,10 @@ runnable_if : (m : ℕ) (b : Bool) (p : Pid) (o : Option Pid) (q : Pid) → p.ho
 runnable_if m true p o q at h is = let f : p ≡ q = cc in ap (λ (v : Pid). v.home) (sym f) ∙ at
 runnable_if m false p o q at h is = h is
 
-both : (b c : Bool) → (b && c) ≡ true → (b ≡ true) × (c ≡ true)
-both b c h1 = grind (arith, nat_tests)
-
 pub runnable_home : (s : OneKernel) (queue : Pid → List MsgId) (m : ℕ) (ps : List Pid) (q : Pid) → are_home m ps ≡ true → rule.first_runnable s queue ps ≡ Some q → q.home ≡ m
 runnable_home s queue m [] q h is = cc
 runnable_home s queue m (p ∷ ps) q h is =
-    let k = both (p.home == m) (are_home m ps) h in
+    let k = and_parts (p.home == m) (are_home m ps) h in
     let first = k.0 in
     runnable_if m (rule.can_go s (queue p) (kernel.alive (s.processes p))) p (rule.first_runnable s queue ps) q (let f : p.home ≡ m = grind (arith, nat_tests) in f) (runnable_home s queue m ps q k.1) is
 
@@ -103,8 +100,8 @@ pub turns_good : (b : Boot) (r e : MsgId → ℕ) (pt : Point) (m : ℕ) (is : L
 turns_good b r e pt m [] there all h =
     round_good b e pt m (rule.first_runnable pt.kernel (pt.view.queue m) (pt.view.ring m)) (λ p is. runnable_home pt.kernel (pt.view.queue m) m (pt.view.ring m) p (h.rings.ring m) is)
 turns_good b r e pt m (i ∷ is) there all h =
-    let k = both (stands pt.kernel e m i) (all_stand pt.kernel e m is) all in
-    let home = both (nat_le 1 (e i)) (is_for_home m (pt.kernel.bag i)) k.0 in
+    let k = and_parts (stands pt.kernel e m i) (all_stand pt.kernel e m is) all in
+    let home = and_parts (nat_le 1 (e i)) (is_for_home m (pt.kernel.bag i)) k.0 in
     handles_good b e pt m i (pt.kernel.bag i) h.rings (there i is refl home.0) (λ x in_. for_home m (pt.kernel.bag i) x home.1 in_, k.0)
 
 -- what stands at the front of an inbox and has entered is in the bag

@@ -1,10 +1,12 @@
 -- Messages that are held, come back from a held list, or leave a queue and a held list together.
 use Rattle.dm_rule.proofs.Names.{◌≡◌, ◌≢◌, ℕ, ◌+◌, ◌≤◌, ◌==◌, ◌&&◌, Bool, true, false, List, [], ◌∷◌, ◌++◌, refl, ap, ◌∙◌, sym, subst, arith, ◌⊎◌, inl, inr, if◌then◌else◌, Option, None, Some, cases_Bool, false≢true, Pid, pid_eq, MsgId}
 use Rattle.dm_rule.proofs.Names.{id_eq, at_machine, at_record, View, handled, handled_first, receiver_of, held_for, released, Spot, Queue, Held, Inbox, times, ids_at, standing, StandsOnce, StandsNowhere, StandsAsBag, pid_eq-is, id_eq-is}
-use Rattle.dm_rule.proofs.Names.{id_eq-same, drop, nat_tests}
+use Rattle.dm_rule.proofs.Names.{id_eq-same, drop, nat_tests, and_parts, eqb-true, false_from_ne_true}
 use Rattle.dm_rule.proofs.Standing.{times-append, spot_cases, StandsAsBag-same, StandsAsBag-one, StandsAsBag-elsewhere}
 use Rattle.dm_rule.proofs.Once.{Kept, one_of, once_moves, one_of-off}
-use Rattle.dm_rule.proofs.Lines.{Bag, Stands, Stands-stays, at_machine_at, at_machine_off, at_record_off, at_record_at, eq_is, not_true, inbox_apart, parts, front_goes, handled_off, handled_at, one_more, queue_apart}
+use Rattle.dm_rule.proofs.Lines.{Bag, Stands, Stands-stays, at_machine_at, at_machine_off, at_record_off, at_record_at, inbox_apart, front_goes, handled_off, handled_at, one_more, queue_apart}
+use Rattle.dm_rule.proofs.Bags.{cases_zero}
+pub use Rattle.dm_rule.proofs.Bags.{cases_zero as zero_cases}
 
 abbrev is_held : Spot → Bool
 is_held (Held m p) = true
@@ -14,7 +16,7 @@ pub inbox_held : (m n : ℕ) (p : Pid) → Inbox m ≢ Held n p
 inbox_held m n p e = false≢true (ap is_held e)
 
 held_apart : (m n : ℕ) (p q : Pid) → Held n q ≢ Held m p → ((m == n) && pid_eq p q) ≡ false
-held_apart m n p q apart = not_true ((m == n) && pid_eq p q) (λ e. let k = parts (m == n) (pid_eq p q) e in apart (ap (λ x. Held x q) (sym (eq_is m n k.0)) ∙ ap (Held m) (sym (pid_eq-is p q k.1))))
+held_apart m n p q apart = false_from_ne_true ((m == n) && pid_eq p q) (λ e. let k = and_parts (m == n) (pid_eq p q) e in apart (ap (λ x. Held x q) (sym (eqb-true m n k.0)) ∙ ap (Held m) (sym (pid_eq-is p q k.1))))
 
 -- a message goes from the front of the inbox to the back of its receiver's held list
 held_is : (v : View) (i : MsgId) (p : Pid) (o : Option Pid) → o ≡ Some p → held_for (handled v i) i o ≡ record (handled v i) { held = at_record v.held v.acting p (v.held v.acting p ++ i ∷ []) }
@@ -78,7 +80,7 @@ without_all [] bag i = bag i
 without_all (j ∷ js) bag i = if id_eq j i then None else without_all js bag i
 
 pub flip_zero : (i j : MsgId) → one_of i j ≡ 0 → id_eq j i ≡ false
-flip_zero i j e = not_true (id_eq j i) (λ k. let is : j ≡ i = id_eq-is j i k in absurd (let one : one_of i j ≡ 1 = ap (λ x. one_of i x) is ∙ ap (λ (c : Bool). if c then 1 else 0) (id_eq-same i) in omega (arith, e, one)))
+flip_zero i j e = false_from_ne_true (id_eq j i) (λ k. let is : j ≡ i = id_eq-is j i k in absurd (let one : one_of i j ≡ 1 = ap (λ x. one_of i x) is ∙ ap (λ (c : Bool). if c then 1 else 0) (id_eq-same i) in omega (arith, e, one)))
 
 pub without_off : (js : List MsgId) (bag : Bag) (i : MsgId) → times i js ≡ 0 → without_all js bag i ≡ bag i
 without_off [] bag i e = refl
@@ -120,9 +122,6 @@ emptied_queue v p i = ap (times i) (at_record_at v.queue v.acting p [])
 emptied_held : (v : View) (p : Pid) (i : MsgId) → times i (ids_at (emptied v p) (Held v.acting p)) ≡ 0
 emptied_held v p i = ap (times i) (at_record_at v.held v.acting p [])
 
-pub zero_cases : (n : ℕ) → (n ≡ 0) ⊎ (1 ≤ n)
-zero_cases n = grind (arith, nat_tests)
-
 -- how often a message stands in both lists
 pub both_times : (v : View) (p : Pid) (i : MsgId) → times i (both_lists v p) ≡ standing v i (Queue v.acting p) + standing v i (Held v.acting p)
 both_times v p i = times-append i (v.queue v.acting p) (v.held v.acting p)
@@ -130,8 +129,8 @@ both_times v p i = times-append i (v.queue v.acting p) (v.held v.acting p)
 pub both_once : (bag : Bag) (v : View) (p : Pid) (i : MsgId) → Kept bag v → times i (both_lists v p) ≤ 1
 both_once bag v p i kept =
     let sum = both_times v p i in
-    elim (zero_cases (standing v i (Queue v.acting p))) [
-      | inl none ↦ elim (zero_cases (standing v i (Held v.acting p))) [
+    elim (cases_zero (standing v i (Queue v.acting p))) [
+      | inl none ↦ elim (cases_zero (standing v i (Held v.acting p))) [
         | inl nor ↦ omega (arith, sum, none, nor)
         | inr least ↦ let one = StandsAsBag-one (bag i) (standing v i) (Held v.acting p) least (kept i) in omega (arith, sum, none, one)
       ]
@@ -144,7 +143,7 @@ both_once bag v p i kept =
 nowhere_left : (m : Option Pid) (f g : Spot → ℕ) (x y : Spot) → 1 ≤ f x + f y → g x ≡ 0 → g y ≡ 0 → ((z : Spot) → z ≢ x → z ≢ y → g z ≡ f z) → StandsAsBag m f → StandsNowhere g
 nowhere_left m f g x y least gx gy same h z = elim (spot_cases z x) [
   | inl is ↦ ap g is ∙ gx
-  | inr other ↦ search (arith, spot_cases, zero_cases, StandsAsBag-elsewhere)
+  | inr other ↦ search (arith, spot_cases, cases_zero, StandsAsBag-elsewhere)
 ]
 
 emptied_kept : (bag : Bag) (v : View) (p : Pid) → Kept bag v → Kept (without_all (both_lists v p) bag) (emptied v p)
@@ -152,7 +151,7 @@ emptied_kept bag v p kept i =
     let sum = both_times v p i in
     let x = Queue v.acting p in
     let y = Held v.acting p in
-    elim (zero_cases (times i (both_lists v p))) [
+    elim (cases_zero (times i (both_lists v p))) [
       | inl none ↦
           subst (λ (m : Option Pid). StandsAsBag m (standing (emptied v p) i)) (sym (without_off (both_lists v p) bag i none))
           (StandsAsBag-same (bag i) (standing v i) (standing (emptied v p) i) (λ z. elim (spot_cases z x) [

@@ -1,14 +1,14 @@
 -- What migration says keeps that each message stands once: the kernels' own messages come and go, and messages go on.
 use Rattle.dm_rule.proofs.Names.{◌≡◌, ℕ, suc, ◌+◌, ◌≤◌, ◌==◌, Bool, true, false, List, [], ◌∷◌, refl, ap, ◌∙◌, sym, subst, arith, inl, inr, if◌then◌else◌, Option, None, Some, cases_Bool, false≢true, nat_tests, Pid, pid_of, MsgId}
 use Rattle.dm_rule.proofs.Names.{MessageKind, id_eq, id_of, PlainMessage, Line, Load, at_machine, View, Told, view_after, handled_first, receiver_of, is_kernels, own_id, to_of, Point, moved, seen, Spot, Inbox, Untaken, times, ids_at}
-use Rattle.dm_rule.proofs.Names.{standing, id_eq-is, id_eq-same, Sound}
+use Rattle.dm_rule.proofs.Names.{standing, id_eq-is, id_eq-same, Sound, false_from_ne_true}
 use Rattle.dm_rule.specs.View as view
 use Rattle.dm_rule.proofs.Once.{one_of}
-use Rattle.dm_rule.proofs.Lines.{Bag, hidden, having, Stands, Stands-same, Stands-stays, Stands-handled, untold_tells, having_off, pair_keeps, not_true}
+use Rattle.dm_rule.proofs.Lines.{Bag, hidden, having, Stands, Stands-same, Stands-stays, Stands-handled, untold_tells, having_off, pair_keeps}
 use Rattle.dm_rule.proofs.Letters.{letters, letters_own, letters_bag}
 use Rattle.dm_rule.proofs.Seen.{Stands-about}
 use Rattle.dm_rule.proofs.Hushed.{is_put, hushed}
-use Rattle.dm_rule.proofs.States.{State, PairsFit, put_stands, put_told_off, numbered_as}
+use Rattle.dm_rule.proofs.States.{State, PairsFit, put_stands, put_told_off, numbered_as, packet_off}
 use Rattle.dm_rule.proofs.Moves.Lists.{without_all, without_off, under_way, first_off}
 
 -- a kernel's own message goes
@@ -74,11 +74,6 @@ pub record Between (gone : List MsgId) (pt : Point) : Type 0 where
 
 pub arrived : (pt : Point) → Between [] pt → State None pt
 arrived pt h = record { r = h.r; e = h.e; sound = h.sound; own = h.own; stands = h.stands; untold = h.untold; numbered = h.numbered; pending = λ j k. cc; there = λ j k. cc }
-
--- a packet moves no message
-pub packet_off : (v : View) (a b k : ℕ) (l : Load) (z : Spot) → ids_at (view_after v (Line.Packet a b k l)) z ≡ ids_at v z
-packet_off v a b k l (Untaken c d) = pair_keeps v.pair a b _ refl c d
-packet_off v a b k l _ = refl
 
 pub between_packet : (gone : List MsgId) (q : Point) (a b k : ℕ) (l : Load) → Between gone q → Between gone (moved q (Line.Packet a b k l) q.kernel)
 between_packet gone q a b k l h = record {
@@ -158,13 +153,13 @@ own_bag own bag i q k j = elim (cases_Bool (id_eq i j)) [
 ]
 
 other_number : (a c m n : ℕ) → suc c ≤ n → id_eq (id_of (pid_of a 0) c) (id_of (pid_of m 0) n) ≡ false
-other_number a c m n le = not_true (id_eq (id_of (pid_of a 0) c) (id_of (pid_of m 0) n)) (λ e. let f : c ≡ n = ap (λ (i : MsgId). i.n) (id_eq-is (id_of (pid_of a 0) c) (id_of (pid_of m 0) n) e) in absurd (omega (arith, le, f)))
+other_number a c m n le = false_from_ne_true (id_eq (id_of (pid_of a 0) c) (id_of (pid_of m 0) n)) (λ e. let f : c ≡ n = ap (λ (i : MsgId). i.n) (id_eq-is (id_of (pid_of a 0) c) (id_of (pid_of m 0) n) e) in absurd (omega (arith, le, f)))
 
 other_home : (a c m n : ℕ) → (a == m) ≡ false → id_eq (id_of (pid_of a 0) c) (id_of (pid_of m 0) n) ≡ false
-other_home a c m n off = not_true (id_eq (id_of (pid_of a 0) c) (id_of (pid_of m 0) n)) (λ e. let f : a ≡ m = ap (λ (i : MsgId). i.from.home) (id_eq-is (id_of (pid_of a 0) c) (id_of (pid_of m 0) n) e) in absurd (let g : (a == m) ≡ true = grind (arith, nat_tests) in false≢true (sym off ∙ g)))
+other_home a c m n off = false_from_ne_true (id_eq (id_of (pid_of a 0) c) (id_of (pid_of m 0) n)) (λ e. let f : a ≡ m = ap (λ (i : MsgId). i.from.home) (id_eq-is (id_of (pid_of a 0) c) (id_of (pid_of m 0) n) e) in absurd (let g : (a == m) ≡ true = grind (arith, nat_tests) in false≢true (sym off ∙ g)))
 
 own_apart : (v : View) (j : MsgId) → is_kernels j ≡ false → id_eq (own_id v) j ≡ false
-own_apart v j other = not_true (id_eq (own_id v) j) (λ e. false≢true (sym other ∙ sym (ap is_kernels (id_eq-is (own_id v) j e)) ∙ own_kernels v))
+own_apart v j other = false_from_ne_true (id_eq (own_id v) j) (λ e. false≢true (sym other ∙ sym (ap is_kernels (id_eq-is (own_id v) j e)) ∙ own_kernels v))
 
 own_counts : (v : View) (a b : ℕ) (k : MessageKind) (q : Pid) → v.told (own_id v) ≡ None → (view.after_put v a b (own_id v) k q).count ≡ at_machine v.count v.acting (v.count v.acting + 1)
 own_counts v a b k q none = ap (λ (o : Option Told). if view.is_own (own_id v) o then at_machine v.count v.acting (v.count v.acting + 1) else v.count) none

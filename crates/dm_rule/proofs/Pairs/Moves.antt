@@ -1,8 +1,9 @@
 -- What each change of a pair keeps.
 use Rattle.dm_rule.proofs.Names.{◌≡◌, ℕ, ◌+◌, ◌-◌, ◌<◌, ◌≤◌, ◌==◌, ◌||◌, not, Bool, true, false, List, [], ◌∷◌, ◌++◌, refl, ap, ◌∙◌, sym, subst, ◌⊎◌, inl, inr, arith, length, ◌≢◌, if◌then◌else◌, filter, false≢true, nat_tests, MsgId, Load}
-use Rattle.dm_rule.proofs.Names.{at_pair, Pair, routed_on, gone_after, marked, at_least, goes_out, has, HomeStands}
+use Rattle.dm_rule.proofs.Names.{at_pair, Pair, routed_on, gone_after, marked, at_least, goes_out, has, HomeStands, or_right}
 use Rattle.std.proofs.Common.{length-append}
 use Rattle.dm_rule.proofs.Pairs.Stand.{LoadStands, Apart, KeptStands, Kept, Stand, Later, Later-trans, WireStands-more, WireStands-put, WireStands-marked, set_same, Stand-set, Stand-home, Kept-set, Later-set}
+pub use Rattle.std.proofs.lemmas.Bool.{or_right as or_first}
 
 pub record Paired (f : ℕ → ℕ → Pair) : Type 0 where
   pub stand : Stand f
@@ -134,9 +135,6 @@ marked_goes f a b k ab h = search (arith, changed, WireStands-marked)
 abbrev pub off : ℕ → List ℕ → List ℕ
 off n ks = filter (λ k. not (k == n)) ks
 
-pub or_first : (b c : Bool) → c ≡ true → (b || c) ≡ true
-or_first b c h1 = search arith
-
 pub or_cases : (b c : Bool) → (b || c) ≡ true → (b ≡ true) ⊎ ((b ≡ false) × (c ≡ true))
 or_cases true c e = inl refl
 or_cases false c e = inr (refl, e)
@@ -146,7 +144,7 @@ off_cons n j js true e = ap (λ (c : Bool). if not c then j ∷ off n js else of
 off_cons n j js false e = ap (λ (c : Bool). if not c then j ∷ off n js else off n js) e
 
 off_has_at : (n k j : ℕ) (js : List ℕ) (b : Bool) → (j == n) ≡ b → (has k (off n js) ≡ true → (has k js ≡ true) × (k ≢ n)) → has k (if b then off n js else j ∷ off n js) ≡ true → (has k (j ∷ js) ≡ true) × (k ≢ n)
-off_has_at n k j js b h1 h2 h3 = search (arith, or_first, or_cases)
+off_has_at n k j js b h1 h2 h3 = search (arith, or_right, or_cases)
 
 pub off_has : (n k : ℕ) (ks : List ℕ) → has k (off n ks) ≡ true → (has k ks ≡ true) × (k ≢ n)
 off_has n k [] e = absurd (false≢true e)

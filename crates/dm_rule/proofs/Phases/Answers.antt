@@ -15,8 +15,9 @@ use Rattle.dm_rule.proofs.Moves.States.{by_own_put, front_one}
 use Rattle.dm_rule.proofs.Moves.Sent.{line_next, fits_put, fits_packet}
 use Rattle.dm_rule.proofs.Phases.Lines.{handled_spots, packet_calm}
 use Rattle.dm_rule.proofs.Phases.Stand.{PhasesBut, InPhases, none_only, calm_phases, token_is, token_at, Learns, learns_phases}
-use Rattle.dm_rule.proofs.Phases.Put.{own_put_phases, put_there, put_spot}
+use Rattle.dm_rule.proofs.Phases.Put.{own_put_phases, put_there, put_spot, of_same}
 pub use Rattle.dm_line.proofs.Below.{right_true as second}
+pub use Rattle.dm_rule.proofs.Phases.Put.{of_same as about_same}
 
 -- what stands between the lines of a group
 pub record WholeBut (o : Option Pid) (pt : Point) : Type 0 where
@@ -77,9 +78,6 @@ front_gone pt l i is h quiet front off =
     nowhere_of bag i (standing (view_after pt.view l) i)
     ((Stands-handled bag pt.view (view_after pt.view l) i is front (λ z. off z ∙ first_off pt.view i is front z) (λ j. ap (λ (f : MsgId → Option Told). f j) (hushed pt.view l quiet).told) h.stands).kept i)
 
-pub about_same : (p q : Pid) → Of p ≡ Of q → p ≡ q
-about_same p q e = cc
-
 pub first_learns : (pt : Point) (l : Line) (i : MsgId) (is : List MsgId) (t : Told) (p : Pid) (h : State None pt) → is_put l ≡ false → pt.view.inbox pt.view.acting ≡ i ∷ is → pt.view.told i ≡ Some t → (is_between t.kind ≡ true → t.about ≡ Of p)
     → ((z : Spot) → ids_at (view_after pt.view l) z ≡ ids_at (handled_first pt.view) z) → ((m : ℕ) (q : Pid) → pid_eq p q ≡ false → (view_after pt.view l).known m q ≡ pt.view.known m q) → Learns pt.view (view_after pt.view l) p
 first_learns pt l i is t p h quiet front told about off known =
@@ -99,7 +97,7 @@ first_learns pt l i is t p h quiet front told about off known =
             let f : Some t ≡ Some u = sym told ∙ ap pt.view.told ij ∙ e in
             let g : t ≡ u = cc in
             let mine : t.about ≡ Of p = about (ap (λ (x : Told). is_between x.kind) g ∙ b) in
-            let pq : p ≡ q = about_same p q (sym mine ∙ ap (λ (x : Told). x.about) g ∙ ab) in
+            let pq : p ≡ q = of_same p q (sym mine ∙ ap (λ (x : Told). x.about) g ∙ ab) in
             false≢true (sym apart ∙ ap (pid_eq p) (sym pq) ∙ pid_eq-same p))
         | inr off_i ↦ (z, subst (λ n. 1 ≤ n) (sym (ap (times j) (off z ∙ first_off pt.view i is front z) ∙ handled_spots pt.view i j off_i z)) st)
       ];

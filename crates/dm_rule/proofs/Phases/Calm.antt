@@ -1,8 +1,7 @@
 -- What leaves the migrations of all processes as they are.
 use Rattle.dm_rule.proofs.Names.{◌≡◌, ◌⊎◌, ℕ, ◌≤◌, ◌==◌, ◌&&◌, not, true, false, refl, ap, ◌∙◌, sym, subst, inl, inr, Option, Some, false≢true, Pid, MsgId, MessageKind, id_eq, View, Told, Spot, Queue, Held, Inbox, Untaken, standing}
-use Rattle.dm_rule.proofs.Names.{id_eq-is, is_between, is_apart, told_between, Phase, Moves, token_in, sender_in, receiver_in, HasToken, Alone, IsIn, left_true, About, times, arith, nat_tests}
+use Rattle.dm_rule.proofs.Names.{id_eq-is, is_between, is_apart, told_between, Phase, Moves, token_in, sender_in, receiver_in, HasToken, Alone, IsIn, left_true, About, times, arith, nat_tests, false_from_ne_true}
 use Rattle.dm_rule.specs.View as view
-use Rattle.dm_rule.proofs.Lines.{not_true}
 use Rattle.dm_rule.proofs.Seen.{about_off}
 
 -- the machine that a spot is on, or leads to
@@ -79,7 +78,7 @@ abbrev pub Plain : View → MsgId → Type 0
 Plain v i = (t : Told) → v.told i ≡ Some t → is_between t.kind ≡ false
 
 pub other_than : (v : View) (i j : MsgId) (t : Told) → Plain v i → v.told j ≡ Some t → is_between t.kind ≡ true → id_eq i j ≡ false
-other_than v i j t plain told b = not_true (id_eq i j) (λ e. let is : i ≡ j = id_eq-is i j e in false≢true (sym (plain t (ap v.told is ∙ told)) ∙ b))
+other_than v i j t plain told b = false_from_ne_true (id_eq i j) (λ e. let is : i ≡ j = id_eq-is i j e in false≢true (sym (plain t (ap v.told is ∙ told)) ∙ b))
 
 pub calm_others : (v w : View) (i : MsgId) → Plain v i → Plain w i → ((t : Told) → v.told i ≡ Some t → w.told i ≡ Some t) → Others v w i → Calm v w
 calm_others v w i plain after kept h = record {

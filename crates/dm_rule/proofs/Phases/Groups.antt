@@ -20,7 +20,7 @@ pub record Rooted (pt : Point) : Type 0 where
   pub unborn : (m n : ℕ) → pt.view.known n (pid_of m (first_number + pt.kernel.made m)) ≡ Unknown
 
 -- behind the head of a turn
-abbrev turned : Point → ℕ → Point
+abbrev pub turned : Point → ℕ → Point
 turned pt m = moved pt (Line.Head (Step.Turn m)) pt.kernel
 
 turn_fit : (pt : Point) (m : ℕ) → InPhases pt.view → Sane pt → PairsFit pt.view → Fit (turned pt m)

@@ -1,11 +1,11 @@
 -- All of a process is taken: its lists go on, it has left, and the other machine may restart it.
 use Rattle.dm_rule.proofs.Names.{◌≡◌, ℕ, ◌+◌, ◌≤◌, ◌==◌, ◌&&◌, Bool, true, false, not, List, [], ◌∷◌, ◌++◌, length, refl, ap, ◌∙◌, sym, subst, inl, inr, arith, if◌then◌else◌, Option, None, Some, cases_Bool, false≢true, Pid, pid_eq, MsgId}
 use Rattle.dm_rule.proofs.Names.{MessageKind, Line, Stage, id_eq, bind, Load, at_record, View, Told, Known, Frozen, view_after, handled_first, gone_to, receiver_of, is_kernels, Point, moved, after, Part, Says, Again, Spelled, lines_of}
-use Rattle.dm_rule.proofs.Names.{puts, behind, spelled, to_kernel, sends_on, leaves, Spot, times, standing, is_between, Phase, Moves, knows, token_in, sender_in, receiver_in, id_eq-is, id_eq-same, pid_eq-same, bind-is, nat_tests}
+use Rattle.dm_rule.proofs.Names.{puts, behind, spelled, to_kernel, sends_on, leaves, Spot, times, standing, is_between, Phase, Moves, knows, token_in, sender_in, receiver_in, id_eq-is, id_eq-same, pid_eq-same, bind-is, nat_tests, eqb-true}
 use Rattle.dm_rule.specs.View as view
 use Rattle.dm_rule.specs.Phases as phase
 use Rattle.dm_rule.proofs.Once.{one_of}
-use Rattle.dm_rule.proofs.Lines.{Stands-handled, eq_is}
+use Rattle.dm_rule.proofs.Lines.{Stands-handled}
 use Rattle.dm_rule.proofs.Letters.{letters}
 use Rattle.dm_rule.proofs.Pairs.Lines.{pair_same}
 use Rattle.dm_rule.proofs.States.{State, by_line, PutNext, puts_next}
@@ -19,9 +19,10 @@ use Rattle.dm_rule.proofs.Phases.Calm.{Calm}
 use Rattle.dm_rule.proofs.Phases.Lines.{handled_spots, put_calm, packet_calm}
 use Rattle.dm_rule.proofs.Phases.Quiet.{Tame, tame_on, tame_kind}
 use Rattle.dm_rule.proofs.Phases.Stand.{PhasesBut, none_only, some_only, InPhases, calm_phases, queued_plain, held_plain, Learns, learns_phases}
-use Rattle.dm_rule.proofs.Phases.Answers.{WholeBut, Whole, Due, owns_whole, nowhere_of, token_one, about_same}
+use Rattle.dm_rule.proofs.Phases.Answers.{WholeBut, Whole, Due, owns_whole, nowhere_of, token_one}
 use Rattle.dm_rule.proofs.Phases.Pieces.{record_off, same_row, due_apart, to_sender}
 use Rattle.dm_rule.proofs.Bags.{zero_if}
+use Rattle.dm_rule.proofs.Phases.Put.{of_same}
 
 -- where messages are on the way, in the phase of a process
 pub record WayIn (p : Pid) (ph : Phase) (a : ℕ) (gone : List MsgId) (pt : Point) : Type 0 where
@@ -113,7 +114,7 @@ sent_learns pt n i is t h u front told =
             let ij : i ≡ j = id_eq-is i j is_i in
             let f : Some t ≡ Some x = sym told ∙ ap v.told ij ∙ e in
             let g : t ≡ x = cc in
-            let pq : u.p ≡ q = about_same u.p q (sym (ap (λ (y : Told). y.about) u.told) ∙ ap (λ (y : Told). y.about) g ∙ ab) in
+            let pq : u.p ≡ q = of_same u.p q (sym (ap (λ (y : Told). y.about) u.told) ∙ ap (λ (y : Told). y.about) g ∙ ab) in
             false≢true (sym apart ∙ ap (pid_eq u.p) (sym pq) ∙ pid_eq-same u.p))
         | inr off_i ↦ (z, sent_on pt u.p n i is h.phases j x z front off_i e b st)
       ];
@@ -143,7 +144,7 @@ left_known : (s d m n : ℕ) (b : Bool) (y : Known) → (s == m) ≡ b → knows
 left_known s d m n b y h1 h2 = search (arith, left_if)
 
 left_by : (v : View) (a m : ℕ) (p : Pid) (n : ℕ) (b : Bool) → (a == m) ≡ b → (if b && true then gone_to (v.known a p) n else v.known m p) ≡ (if b then gone_to (v.known m p) n else v.known m p)
-left_by v a m p n true e = ap (λ (x : ℕ). gone_to (v.known x p) n) (eq_is a m e)
+left_by v a m p n true e = ap (λ (x : ℕ). gone_to (v.known x p) n) (eqb-true a m e)
 left_by v a m p n false e = refl
 
 left_at : (v : View) (s m : ℕ) (p : Pid) (n : ℕ) → v.acting ≡ s → at_record v.known v.acting p (gone_to (v.known v.acting p) n) m p ≡ (if s == m then gone_to (v.known m p) n else v.known m p)

@@ -1,11 +1,11 @@
 -- Lines that leave the migrations of all processes as they are.
 use Rattle.dm_rule.proofs.Names.{◌≡◌, ℕ, zero, suc, ◌+◌, ◌==◌, ◌&&◌, Bool, true, false, List, [], ◌∷◌, ◌++◌, drop, length, refl, ap, ◌∙◌, sym, subst, inl, inr, arith, if◌then◌else◌, Option, None, Some, cases_Bool, length-append}
 use Rattle.dm_rule.proofs.Names.{drop-length, Pid, MsgId, MessageKind, id_eq, Load, Line, at_machine, at_pair, at_record, without_id, without_front, View, Pair, Told, handled, queued_for, held_for, dropped_for, forwarded_for, view_after}
-use Rattle.dm_rule.proofs.Names.{after_put, routed_on, Spot, Inbox, Untaken, times, untaken, standing, is_between, pid_eq-is, id_eq-is, id_eq-same, id_eq-swap, nat_tests}
+use Rattle.dm_rule.proofs.Names.{after_put, routed_on, Spot, Inbox, Untaken, times, untaken, standing, is_between, pid_eq-is, id_eq-is, id_eq-same, id_eq-swap, nat_tests, and_parts, eqb-true}
 use Rattle.dm_rule.specs.View as view
 use Rattle.dm_rule.proofs.Standing.{times-append}
 use Rattle.dm_rule.proofs.Once.{one_of}
-use Rattle.dm_rule.proofs.Lines.{parts, eq_is, pair_keeps}
+use Rattle.dm_rule.proofs.Lines.{pair_keeps}
 use Rattle.dm_rule.proofs.States.{PairsFit, put_told_off}
 use Rattle.dm_rule.proofs.Phases.Calm.{Calm, Plain, calm_others, calm_still}
 
@@ -36,18 +36,18 @@ drop_times i j (suc n) (x ∷ xs) e = drop_times i j n xs e
 -- one machine's list, one record's, one pair's
 pub machine_times : (f : ℕ → List MsgId) (m : ℕ) (x : List MsgId) (j : MsgId) → times j x ≡ times j (f m) → (n : ℕ) → times j (at_machine f m x n) ≡ times j (f n)
 machine_times f m x j e n = elim (cases_Bool (m == n)) [
-  | inl same ↦ ap (λ (c : Bool). times j (if c then x else f n)) same ∙ e ∙ ap (λ (k : ℕ). times j (f k)) (eq_is m n same)
+  | inl same ↦ ap (λ (c : Bool). times j (if c then x else f n)) same ∙ e ∙ ap (λ (k : ℕ). times j (f k)) (eqb-true m n same)
   | inr apart ↦ ap (λ (c : Bool). times j (if c then x else f n)) apart
 ]
 
 pub record_times : (f : ℕ → Pid → List MsgId) (m : ℕ) (p : Pid) (x : List MsgId) (j : MsgId) → times j x ≡ times j (f m p) → (n : ℕ) (q : Pid) → times j (at_record f m p x n q) ≡ times j (f n q)
-record_times f m p x j e n q = grind (arith, nat_tests, parts, eq_is, pid_eq-is)
+record_times f m p x j e n q = grind (arith, nat_tests, and_parts, eqb-true, pid_eq-is)
 
 pub pair_times : (f : ℕ → ℕ → Pair) (a b : ℕ) (p : Pair) (j : MsgId) → times j (untaken p) ≡ times j (untaken (f a b)) → (c d : ℕ) → times j (untaken (at_pair f a b p c d)) ≡ times j (untaken (f c d))
 pair_times f a b p j e c d = elim (cases_Bool ((a == c) && (b == d))) [
   | inl same ↦
-      let both = parts (a == c) (b == d) same in
-      ap (λ (t : Bool). times j (untaken (if t then p else f c d))) same ∙ e ∙ ap (λ (k : ℕ). times j (untaken (f k b))) (eq_is a c both.0) ∙ ap (λ (k : ℕ). times j (untaken (f c k))) (eq_is b d both.1)
+      let both = and_parts (a == c) (b == d) same in
+      ap (λ (t : Bool). times j (untaken (if t then p else f c d))) same ∙ e ∙ ap (λ (k : ℕ). times j (untaken (f k b))) (eqb-true a c both.0) ∙ ap (λ (k : ℕ). times j (untaken (f c k))) (eqb-true b d both.1)
   | inr apart ↦ ap (λ (t : Bool). times j (untaken (if t then p else f c d))) apart
 ]
 
@@ -99,7 +99,7 @@ put_pair a b p i j false is e full =
     ap (λ (x : Bool). times j (drop (if x then p.taken + 1 else p.taken) (p.ids ++ i ∷ []))) is ∙ drop_times i j p.taken p.ids e
 
 pub home_full : (v : View) (a b : ℕ) → PairsFit v → (a == b) ≡ true → (v.pair a b).taken ≡ length (v.pair a b).ids
-home_full v a b fits is = let e : a ≡ b = eq_is a b is in subst (λ n. (v.pair a n).taken ≡ length (v.pair a n).ids) e (fits.home a)
+home_full v a b fits is = let e : a ≡ b = eqb-true a b is in subst (λ n. (v.pair a n).taken ≡ length (v.pair a n).ids) e (fits.home a)
 
 pub put_spots : (v : View) (a b : ℕ) (i j : MsgId) (k : MessageKind) (q : Pid) → PairsFit v → id_eq i j ≡ false → (z : Spot) → standing (after_put v a b i k q) j z ≡ standing v j z
 put_spots v a b i j k q h1 h2 z = search (arith, put_inbox, pair_times, put_pair, home_full)

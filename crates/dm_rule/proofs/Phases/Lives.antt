@@ -1,8 +1,7 @@
 -- A process ends, and one is made.
 use Rattle.dm_rule.proofs.Names.{◌≡◌, ℕ, ◌≤◌, ◌==◌, Bool, true, false, refl, ap, ◌∙◌, sym, subst, inl, arith, if◌then◌else◌, Option, None, Some, false≢true, nat_tests, Pid, MsgId, MessageKind, Label, Line, id_eq, Why, at_record, View, Told}
 use Rattle.dm_rule.proofs.Names.{Known, Unknown, Here, Ended, view_after, handled, served_told, Spot, times, standing, is_between, is_away, is_here, is_over, kind_comes, Phase, Nowhere, Rests, Over, Moves, knows, token_in, id_eq-is}
-use Rattle.dm_rule.proofs.Names.{kind_leaves}
-use Rattle.dm_rule.proofs.Lines.{not_true}
+use Rattle.dm_rule.proofs.Names.{kind_leaves, false_from_ne_true}
 use Rattle.dm_rule.proofs.Turns.{ended_off, created_off}
 use Rattle.dm_rule.proofs.Phases.Calm.{Plain}
 use Rattle.dm_rule.proofs.Phases.Lines.{handled_spots}
@@ -70,7 +69,7 @@ made_phases v w p h unknown known told spots =
 
 -- by a message at the front of the inbox that is none of the protocol
 front_spots : (v : View) (i j : MsgId) (t : Told) → Plain v i → v.told j ≡ Some t → is_between t.kind ≡ true → (z : Spot) → standing (handled v i) j z ≡ standing v j z
-front_spots v i j t plain told b z = handled_spots v i j (not_true (id_eq i j) (λ e. let is : i ≡ j = id_eq-is i j e in false≢true (sym (plain t (ap v.told is ∙ told)) ∙ b))) z
+front_spots v i j t plain told b z = handled_spots v i j (false_from_ne_true (id_eq i j) (λ e. let is : i ≡ j = id_eq-is i j e in false≢true (sym (plain t (ap v.told is ∙ told)) ∙ b))) z
 
 pub created_phases : (v : View) (i : MsgId) (p : Pid) → InPhases v → Plain v i → ((m : ℕ) → v.known m p ≡ Unknown) → InPhases (view_after v (Line.Label (Label.Created i p)))
 created_phases v i p h plain unknown = made_phases v (view_after v (Line.Label (Label.Created i p))) p h unknown refl refl (λ j t e b z. ap (times j) (created_off v i p z) ∙ front_spots v i j t plain e b z)

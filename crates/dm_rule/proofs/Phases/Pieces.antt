@@ -1,12 +1,13 @@
 -- The rows of migration that answer with the next message: a request, the pieces, and that all is taken.
 use Rattle.dm_rule.proofs.Names.{◌≡◌, ℕ, ◌==◌, ◌&&◌, Bool, true, false, not, List, [], ◌∷◌, refl, ap, ◌∙◌, sym, subst, arith, if◌then◌else◌, Option, None, Some, false≢true, nat_tests, Pid, pid_eq, MsgId, MessageKind, Line, Stage, at_record}
 use Rattle.dm_rule.proofs.Names.{View, Told, About, NothingElse, Known, Incoming, view_after, handled, front_of, after_proto, asks_on, is_kernels, Point, Says, Spelled, spelled, to_kernel, accepts, takes_chunk, takes_block, gives_piece}
-use Rattle.dm_rule.proofs.Names.{Spot, ids_at, is_between, is_apart, is_restart, is_early, kind_comes, is_away, Phase, Moves, knows, sender_in, receiver_in, pid_eq-same, right_true, kind_leaves}
+use Rattle.dm_rule.proofs.Names.{Spot, ids_at, is_between, is_apart, is_restart, is_early, kind_comes, is_away, Phase, Moves, knows, sender_in, receiver_in, pid_eq-same, right_true, kind_leaves, and_right, not-true}
 use Rattle.dm_rule.proofs.Moves.Lists.{first_off}
 use Rattle.dm_rule.proofs.Moves.Rows.{goes_first, goes_front, accepted_off, state_off, memory_off, lacks_off, proto_off}
 use Rattle.dm_rule.proofs.Phases.Stand.{InPhases}
 use Rattle.dm_rule.proofs.Phases.Answers.{Whole, Due, answer_row}
 use Rattle.dm_rule.proofs.Lines.{eq_self}
+pub use Rattle.std.proofs.lemmas.Bool.{and_right as and_false, not-true as not_false}
 
 -- two kinds between which no machine learns anything
 leaves_as : (k j : MessageKind) (d : ℕ) (y : Known) → is_restart k ≡ is_restart j → kind_leaves k d y ≡ kind_leaves j d y
@@ -20,12 +21,8 @@ knows_as k j s d o u m y e f =
     ap (λ (b : Bool). if s == m then b else if d == m then kind_comes k s y else is_away y) (leaves_as k j d y e)
     ∙ ap (λ (b : Bool). if s == m then kind_leaves j d y else if d == m then b else is_away y) (comes_as k j s y f)
 
--- what is known of another process
-pub and_false : (b c : Bool) → c ≡ false → (b && c) ≡ false
-and_false b c h1 = search arith
-
 pub record_off : (f : ℕ → Pid → Known) (a : ℕ) (p : Pid) (x : Known) (m : ℕ) (q : Pid) → pid_eq p q ≡ false → at_record f a p x m q ≡ f m q
-record_off f a p x m q e = ap (λ (b : Bool). if b then x else f m q) (and_false (a == m) (pid_eq p q) e)
+record_off f a p x m q e = ap (λ (b : Bool). if b then x else f m q) (and_right (a == m) (pid_eq p q) e)
 
 -- what the process's machines knew
 pub due_known : (pt : Point) (i : MsgId) (t : Told) (h : InPhases pt.view) (u : Due pt i t h) (m : ℕ) → knows (Moves u.k u.s u.d (Some i)) m (pt.view.known m u.p) ≡ true
@@ -54,10 +51,6 @@ both_self b p x y = ap (λ (c : Bool). if b && c then x else y) (pid_eq-same p) 
 accepted_if : (s d m : ℕ) (b c : Bool) (y : Known) → (s == m) ≡ b → (d == m) ≡ c → (s == d) ≡ false → knows (Moves MessageKind.Ask s d None) m y ≡ true → knows (Moves MessageKind.PullState s d None) m (if c then Incoming s else y) ≡ true
 accepted_if s d m b c y h1 h2 h3 h4 = search (arith, leaves_as, eq_self)
 
-pub not_false : (b : Bool) → not b ≡ true → b ≡ false
-not_false true e = absurd (false≢true e)
-not_false false e = refl
-
 accepted_at : (v : View) (s d m : ℕ) (p : Pid) → v.acting ≡ d → front_of (v.inbox v.acting) ≡ s → (s == d) ≡ false → knows (Moves MessageKind.Ask s d None) m (v.known m p) ≡ true → knows (Moves MessageKind.PullState s d None) m (at_record v.known v.acting p (Incoming (front_of (v.inbox v.acting))) m p) ≡ true
 accepted_at v s d m p at source apart was =
     let f = knows (Moves MessageKind.PullState s d None) m in
@@ -72,7 +65,7 @@ ask_row pt i is t true slots blocks w h u e front told mine is_ =
     let from : i.from.home ≡ u.s = to_sender pt i t h.phases u ∙ ap (λ (k : MessageKind). sender_in k u.s u.d) e in
     let at : v.acting ≡ u.d = u.acting ∙ ap (λ (k : MessageKind). receiver_in k u.s u.d) e in
     let source : front_of (v.inbox v.acting) ≡ u.s = ap front_of front ∙ from in
-    let apart : (u.s == u.d) ≡ false = not_false (u.s == u.d) (right_true (is_between u.k) (not (u.s == u.d)) (due_apart pt i t h.phases u)) in
+    let apart : (u.s == u.d) ≡ false = not-true (u.s == u.d) (right_true (is_between u.k) (not (u.s == u.d)) (due_apart pt i t h.phases u)) in
     let was : (m : ℕ) → knows (Moves MessageKind.Ask u.s u.d None) m (v.known m u.p) ≡ true = same_row pt i t h.phases u MessageKind.Ask v (λ m. refl) (ap is_restart e) (ap is_early e) in
     answer_row pt l i is t MessageKind.PullState i.from.home w h u refl refl refl front told (goes_first pt l i is refl h.state front mine (λ z. accepted_off v u.p z)) (λ z. accepted_off v u.p z)
     (λ m q off. record_off v.known v.acting u.p (Incoming (front_of (v.inbox v.acting))) m q off)

@@ -1,11 +1,11 @@
 -- The next message about a process that moves is put.
 use Rattle.dm_rule.proofs.Names.{◌≡◌, ◌⊎◌, ℕ, ◌+◌, ◌≤◌, ◌==◌, Bool, true, false, List, [], ◌∷◌, ◌++◌, drop, refl, ap, ◌∙◌, sym, subst, inl, inr, arith, if◌then◌else◌, Option, None, Some, cases_Bool, false≢true, drop-append-le, Pid, pid_of}
 use Rattle.dm_rule.proofs.Names.{pid_eq, MsgId, MessageKind, id_eq, at_machine, View, Told, About, Of, own_id, after_put, routed_on, Spot, Inbox, Untaken, times, untaken, standing, StandsOnce, Phase, Moves, knows, sender_in, receiver_in}
-use Rattle.dm_rule.proofs.Names.{told_between, HasToken, IsIn, id_eq-is, id_eq-same, pid_eq-same}
+use Rattle.dm_rule.proofs.Names.{told_between, HasToken, IsIn, id_eq-is, id_eq-same, pid_eq-same, false_from_ne_true}
 use Rattle.dm_rule.specs.View as view
 use Rattle.dm_rule.proofs.Standing.{spot_cases, once_at, times-append}
 use Rattle.dm_rule.proofs.Once.{one_of}
-use Rattle.dm_rule.proofs.Lines.{not_true, at_machine_at, pair_at}
+use Rattle.dm_rule.proofs.Lines.{at_machine_at, pair_at}
 use Rattle.dm_rule.proofs.States.{PairsFit, put_told_off}
 use Rattle.dm_rule.proofs.Phases.Lines.{put_spots, put_at}
 use Rattle.dm_rule.proofs.Phases.Stand.{PhasesBut, InPhases, some_only, phase_set}
@@ -87,7 +87,7 @@ own_put_phases v p k s d h fits phase topic acting untold once =
     let told_i : w.told i ≡ Some u = put_at v v.acting b i k (pid_of b 0) ∙ first_none (v.told i) u untold in
     let told_off : (j : MsgId) → id_eq i j ≡ false → w.told j ≡ v.told j = λ j apart. put_told_off v v.acting b i j k (pid_of b 0) apart in
     let spots : (j : MsgId) → id_eq i j ≡ false → (z : Spot) → standing w j z ≡ standing v j z = λ j apart z. put_spots v v.acting b i j k (pid_of b 0) fits apart z in
-    let kept : (j : MsgId) (t : Told) → v.told j ≡ Some t → id_eq i j ≡ false = λ j t e. not_true (id_eq i j) (λ x. let is : i ≡ j = id_eq-is i j x in let f : None ≡ Some t = sym untold ∙ ap v.told is ∙ e in cc) in
+    let kept : (j : MsgId) (t : Told) → v.told j ≡ Some t → id_eq i j ≡ false = λ j t e. false_from_ne_true (id_eq i j) (λ x. let is : i ≡ j = id_eq-is i j x in let f : None ≡ Some t = sym untold ∙ ap v.told is ∙ e in cc) in
     let mine : IsIn v p (Moves k s d None) = subst (λ (x : Phase). IsIn v p x) phase (h.each p) in
     phase_set v w p (Moves k s d (Some i)) None h (some_only p) (λ e. absurd (false≢true e))
     (λ q off. put_others v w p q (h.of q) i u off (λ m. refl) told_i topic told_off spots kept (h.each q))

@@ -129,7 +129,7 @@ served_known v None t e spares m q = refl
 served_known v (Some s) t e spares m q = let f : s ≡ t = cc in (elim s.kind as (λ k. is_kill k ≡ false → (ends_by (sort_of k) v (Some s.receiver)).known m q ≡ v.known m q)
     [ MessageKind.Kill ↦ λ e. absurd (false≢true (sym e)) | _ ↦ λ e. refl ]) (ap (λ (u : Told). is_kill u.kind) f ∙ spares)
 
-gone_plain : (pt : Point) (s : OneKernel) (l : Label) (i : MsgId) → Sane pt → kernel.step pt.kernel l ≡ Some s → out_of l ≡ Some i → Plain pt.view i
+pub gone_plain : (pt : Point) (s : OneKernel) (l : Label) (i : MsgId) → Sane pt → kernel.step pt.kernel l ≡ Some s → out_of l ≡ Some i → Plain pt.view i
 gone_plain pt s l i h is goes = let g = gone_in pt.kernel s l i is goes in plain_in_bag pt i g.message h g.there
 
 label_calm : (pt : Point) (s : OneKernel) (l : Label) → Sane pt → QuietLabel pt.view l → kernel.step pt.kernel l ≡ Some s → Calm pt.view (view_after pt.view (Line.Label l))

@@ -2,9 +2,9 @@
 use Rattle.dm_rule.proofs.Names.{◌≡◌, ℕ, ◌+◌, ◌≤◌, ◌==◌, ◌&&◌, Bool, true, false, not, List, [], ◌∷◌, ◌++◌, refl, ap, ◌∙◌, sym, subst, inl, inr, arith, if◌then◌else◌, Option, None, Some, cases_Bool, false≢true, nat_tests, Pid, pid_eq}
 use Rattle.dm_rule.proofs.Names.{MsgId, MessageKind, Stage, id_eq, Line, at_machine, at_record, View, Told, Of, Known, Here, Frozen, view_after, handled_first, released, is_kernels, target_of, Point, label_of, moved, Says, Spelled, spelled}
 use Rattle.dm_rule.proofs.Names.{to_kernel, Spot, Queue, Held, Inbox, Untaken, times, ids_at, standing, is_between, is_restart, is_early, kind_comes, is_away, Phase, Rests, Moves, knows, token_in, receiver_in, id_eq-is, pid_eq-is}
-use Rattle.dm_rule.proofs.Names.{pid_eq-same, NothingElse, Target, frozen_for, leaves_for, kind_leaves, sets_off, option_and_then, slice_get}
+use Rattle.dm_rule.proofs.Names.{pid_eq-same, NothingElse, Target, frozen_for, leaves_for, kind_leaves, sets_off, option_and_then, slice_get, and_parts, eqb-true}
 use Rattle.dm_rule.proofs.Standing.{times-append}
-use Rattle.dm_rule.proofs.Lines.{Bag, hidden, Stands, Stands-stays, Stands-handled, parts, eq_is, eq_self}
+use Rattle.dm_rule.proofs.Lines.{Bag, hidden, Stands, Stands-stays, Stands-handled, eq_self}
 use Rattle.dm_rule.proofs.Letters.{letters}
 use Rattle.dm_rule.proofs.Hushed.{is_put, hushed}
 use Rattle.dm_rule.proofs.Pairs.Lines.{touches, pair_same}
@@ -30,7 +30,7 @@ held_back v p j m q st = elim (cases_Bool ((v.acting == m) && pid_eq p q)) [
 inbox_back : (v : View) (p : Pid) (j : MsgId) (m : ℕ) → 1 ≤ times j (at_machine v.inbox v.acting (v.held v.acting p ++ v.inbox v.acting) m) → Came v j (Inbox m)
 inbox_back v p j m st = elim (cases_Bool (v.acting == m)) [
   | inl same ↦
-      let am : v.acting ≡ m = eq_is v.acting m same in
+      let am : v.acting ≡ m = eqb-true v.acting m same in
       let now : times j (at_machine v.inbox v.acting (v.held v.acting p ++ v.inbox v.acting) m) ≡ times j (v.held v.acting p ++ v.inbox v.acting) = ap (λ (c : Bool). times j (if c then (v.held v.acting p ++ v.inbox v.acting) else v.inbox m)) same in
       let sum = times-append j (v.held v.acting p) (v.inbox v.acting) in
       elim (cases_zero (times j (v.held v.acting p))) [
@@ -49,14 +49,14 @@ pub released_on : (v : View) (p : Pid) (j : MsgId) (z : Spot) → 1 ≤ standing
 released_on v p j (Queue m q) st = (Queue m q, st)
 released_on v p j (Held m q) st = elim (cases_Bool ((v.acting == m) && pid_eq p q)) [
   | inl same ↦
-      let both = parts (v.acting == m) (pid_eq p q) same in
-      let here : 1 ≤ times j (v.held v.acting p) = subst (λ (r : Pid). 1 ≤ times j (v.held v.acting r)) (sym (pid_eq-is p q both.1)) (subst (λ (n : ℕ). 1 ≤ times j (v.held n q)) (sym (eq_is v.acting m both.0)) st) in
+      let both = and_parts (v.acting == m) (pid_eq p q) same in
+      let here : 1 ≤ times j (v.held v.acting p) = subst (λ (r : Pid). 1 ≤ times j (v.held v.acting r)) (sym (pid_eq-is p q both.1)) (subst (λ (n : ℕ). 1 ≤ times j (v.held n q)) (sym (eqb-true v.acting m both.0)) st) in
       (Inbox v.acting, in_inbox v p j v.acting (eq_self v.acting) (omega (arith, here)))
   | inr off ↦ (Held m q, subst (λ n. 1 ≤ n) (sym (ap (λ (c : Bool). times j (if c then [] else v.held m q)) off)) st)
 ]
 released_on v p j (Inbox m) st = elim (cases_Bool (v.acting == m)) [
   | inl same ↦
-      let here : 1 ≤ times j (v.inbox v.acting) = subst (λ (n : ℕ). 1 ≤ times j (v.inbox n)) (sym (eq_is v.acting m same)) st in
+      let here : 1 ≤ times j (v.inbox v.acting) = subst (λ (n : ℕ). 1 ≤ times j (v.inbox n)) (sym (eqb-true v.acting m same)) st in
       (Inbox m, in_inbox v p j m same (omega (arith, here)))
   | inr off ↦ (Inbox m, subst (λ n. 1 ≤ n) (sym (ap (λ (c : Bool). times j (if c then (v.held v.acting p ++ v.inbox v.acting) else v.inbox m)) off)) st)
 ]
@@ -163,7 +163,7 @@ away_comes a y c h1 = search arith
 
 -- what is here rests here
 pub rests_here : (phase : Phase) (m : ℕ) → knows phase m Here ≡ true → phase ≡ Rests m
-rests_here phase m h1 = grind (arith, nat_tests, eq_is, moves_if)
+rests_here phase m h1 = grind (arith, nat_tests, eqb-true, moves_if)
 
 -- it is frozen, and the other machine is asked
 frozen_if : (a to m : ℕ) (b : Bool) (y : Known) → (a == m) ≡ b → (a == to) ≡ false → knows (Rests a) m y ≡ true → knows (Moves MessageKind.Ask a to None) m (if b then Frozen to else y) ≡ true

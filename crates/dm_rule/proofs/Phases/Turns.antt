@@ -95,7 +95,7 @@ asks_row pt i msg to w h f what here apart e =
     let next = moved pt l k.s in
     let calm = calm_about pt.view (view_after pt.view l) next.view.topic (line_calm pt k.s l h.sane tt k.is) in
     let whole : Whole next = record { state = asked_state pt i f.others k.s f.state f.front k.is; fits = fits_as pt.view next.view refl h.fits; phases = calm_phases pt.view next.view calm h.phases } in
-    subst (λ (q : Point). InPhases q.view) k.point (asked_row next msg.to to k.rest whole (ap (option_map_or (λ (m : PlainMessage). move_target m.what) f.there NothingElse) ∙ ap move_target what) here apart k.more).phases
+    subst (λ (q : Point). InPhases q.view) k.point (asked_row next msg.to to k.rest whole (ap (λ (o : Option PlainMessage). option_map_or (λ m. move_target m.what) o NothingElse) f.there ∙ ap move_target what) here apart k.more).phases
 
 -- a message of the bag is handled, where nothing is known of the process that would be made next
 pub phases_handles : (b : Boot) (o pt : Point) (m : ℕ) (i : MsgId) (msg : PlainMessage) (parts : List Part) (w : Spelled) (h : Fit pt) → Front pt i msg → ((n : ℕ) → pt.view.known n (pid_of m (first_number + o.kernel.made m)) ≡ Unknown)

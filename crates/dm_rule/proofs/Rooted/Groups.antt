@@ -1,7 +1,7 @@
 -- Each group keeps that rings list what is here, and that nothing is known of what was never made.
 use Rattle.dm_rule.proofs.Names.{◌≡◌, ℕ, ◌+◌, ◌==◌, Bool, true, false, is_some, nat_lt, List, [], ◌∷◌, length, refl, ap, ◌∙◌, sym, subst, arith, if◌then◌else◌, slice_get, Option, None, Some, false≢true, nat_tests, Pid, pid_of, MsgId}
 use Rattle.dm_rule.proofs.Names.{MessageKind, plain_kind, Boot, first_number, bind, Life, OneKernel, Step, Line, Load, Told, Known, Here, own_id, Receiver, Point, label_of, kernel_after, moved, after_line, after, Part, Says, Routes, Again}
-use Rattle.dm_rule.proofs.Names.{Owns, Transmits, Spelled, lines_of, puts, goes_out, packet_line, behind, spelled, migrates, is_between, Moves, knows, group_of, Made, bind-is}
+use Rattle.dm_rule.proofs.Names.{Owns, Transmits, Spelled, lines_of, puts, goes_out, packet_line, behind, spelled, migrates, is_between, Moves, knows, group_of, Made, bind-is, next_is_new}
 use Rattle.dm_onekernel.specs.Step as kernel
 use Rattle.dm_rule.specs.Rule as rule
 use Rattle.dm_rule.proofs.Groups.{group_is, arrives_net, resends_net}
@@ -88,25 +88,17 @@ served_here : (s : OneKernel) (queue : Pid → List MsgId) (f : Pid → Known) (
 served_here s queue f q [] h e = cc
 served_here s queue f q (p ∷ ps) h e = served_if s queue f p q ps (rule.can_go s (queue p) (kernel.alive (s.processes p))) e h.0 (λ k. served_here s queue f q ps h.1 k)
 
--- the next number of a home is no process's
-none_below : (s : OneKernel) (p : Pid) (o : Option Life) → s.processes p ≡ o → (is_some (s.processes p) ≡ true → nat_lt p.num (3 + s.made p.home) ≡ true) → p.num ≡ first_number + s.made p.home → o ≡ None
-none_below s p None e h n = refl
-none_below s p (Some l) e h n = absurd (let k = h (ap is_some e) in let z : nat_lt p.num (3 + s.made p.home) ≡ false = grind (arith, nat_tests) in false≢true (sym z ∙ k))
-
-next_none : (s : OneKernel) (home : ℕ) → Made s → s.processes (pid_of home (first_number + s.made home)) ≡ None
-next_none s home h = none_below s (pid_of home (first_number + s.made home)) (s.processes (pid_of home (first_number + s.made home))) refl (h.most (pid_of home (first_number + s.made home))) refl
-
 pub rooted : (pt : Point) → Sane pt → Grounded pt → Rooted pt
 rooted pt sane h = record {
   served = λ m p is. served_here pt.kernel (pt.view.queue m) (pt.view.known m) p (pt.view.ring m) (h.rings.each m) is;
-  unborn = λ m n. h.lives.none (pid_of m (first_number + pt.kernel.made m)) (next_none pt.kernel m sane.sound.made) (omega arith) n;
+  unborn = λ m n. h.lives.none (pid_of m (first_number + pt.kernel.made m)) (next_is_new pt.kernel m sane.sound.made) (omega arith) n;
 }
 
 -- a group
-abbrev begun : Point → Step → Point
+abbrev pub begun : Point → Step → Point
 begun pt d = moved pt (Line.Head d) pt.kernel
 
-begun_sane : (pt : Point) (d : Step) → Sane pt → Sane (begun pt d)
+pub begun_sane : (pt : Point) (d : Step) → Sane pt → Sane (begun pt d)
 begun_sane pt d h = sane_line pt (begun pt d) (Line.Head d) refl refl h
 
 begun_ground : (pt : Point) (d : Step) → Sane pt → Grounded pt → Grounded (begun pt d)

@@ -5,7 +5,7 @@ use Rattle.dm_rule.specs.Rule as rule
 use Rattle.dm_rule.proofs.Groups.{IsNetLine, IsNet}
 use Rattle.dm_rule.proofs.Lives.{Lives, Lived, lived_alive, lived_here}
 use Rattle.dm_rule.proofs.Rooted.Lines.{Needs}
-use Rattle.dm_rule.proofs.Rooted.Rows.{AllLoose, First, FirstOf, round_first, forwards_first, handles_first}
+use Rattle.dm_rule.proofs.Rooted.Rows.{AllLoose, First, FirstOf, round_first, forwards_first, handles_first, first_of}
 use Rattle.dm_rule.proofs.Requests.{by_migrates}
 use Rattle.dm_rule.proofs.Hearing.{by_hears}
 
@@ -17,10 +17,6 @@ again_loose s to (i ∷ is) ps h = (λ q k. tt, again_loose s to is ps h)
 -- a process that is asked for is here nowhere
 abbrev pub Asks : Point → Told → Type 0
 Asks pt t = t.kind ≡ MessageKind.Ask → (p : Pid) → t.about ≡ Of p → pt.view.known pt.view.acting p ≡ Here → ⊥
-
-first_of : (pt : Point) (o : Option (List Part)) → ((ps : List Part) → o ≡ Some ps → First pt ps) → FirstOf pt o
-first_of pt None h = tt
-first_of pt (Some ps) h = h ps refl
 
 hears_first : (pt : Point) (b : Boot) (o : Point) (m : ℕ) (id : MsgId) (q : Option Told) → pt.kernel ≡ o.kernel → Lives pt.kernel pt.view → ((p : Pid) → pt.view.known pt.view.acting p ≡ o.view.known m p) → ((t : Told) → q ≡ Some t → Asks pt t) → FirstOf pt (rule.hears b o m id q)
 hears_first pt b o m id q same lives known asks = first_of pt (rule.hears b o m id q) (λ ps. by_hears (First pt) b o m id q ps (λ t is. (

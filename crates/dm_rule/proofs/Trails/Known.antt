@@ -1,7 +1,7 @@
 -- What machines learn of a process agrees with its trail.
 use Rattle.dm_rule.proofs.Names.{◌≡◌, ◌≢◌, ◌⊎◌, ℕ, zero, suc, ◌+◌, ◌<◌, ◌==◌, Bool, true, false, List, [], ◌∷◌, ◌++◌, length, refl, ap, ◌∙◌, sym, inl, inr, arith, nat_tests, if◌then◌else◌, slice_get, Some, slice_get_within, Pid, View}
-use Rattle.dm_rule.proofs.Names.{Known, Unknown, Here, Incoming, Forward, Nowhere, Trails, Trail, StoodOnTrail}
-use Rattle.dm_rule.proofs.Lines.{eq_is, eq_self}
+use Rattle.dm_rule.proofs.Names.{Known, Unknown, Here, Incoming, Forward, Nowhere, Trails, Trail, StoodOnTrail, eqb-true}
+use Rattle.dm_rule.proofs.Lines.{eq_self}
 
 -- lists that grow at the end
 pub get_more : {X : Type 0} (xs ys : List X) (c : ℕ) (m : X) → slice_get xs c ≡ Some m → slice_get (xs ++ ys) c ≡ Some m
@@ -87,7 +87,7 @@ trail_left v w t p d known there at long apart h = record {
     less : (m c j : ℕ) → slice_get (t p) c ≡ Some m → (v.acting == m) ≡ true → v.moves p + 1 ≡ j → c < j
     less m c j f s n =
         let within = slice_get_within (t p) c m f in
-        search (arith, eq_is)
+        search (arith, eqb-true)
 
 -- the trail of a process that was never made is its home alone
 pub home_alone : (v : View) (t : Trails) (p : Pid) → Trail v t p → StoodOnTrail v t p Nowhere → (c m : ℕ) → slice_get (t p) c ≡ Some m → m ≡ p.home

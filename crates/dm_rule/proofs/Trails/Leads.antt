@@ -1,7 +1,8 @@
 -- From each place of a trail the forwards lead to the process, in fewer steps than there are machines.
-use Rattle.dm_rule.proofs.Names.{◌≡◌, ◌≢◌, ℕ, zero, suc, ◌+◌, ◌≤◌, ◌<◌, ◌==◌, ◌||◌, Bool, true, false, List, [], ◌∷◌, refl, ap, ◌∙◌, sym, inl, inr, arith, nat_lt, eqb-true, eq-eqb, slice_get, Some, cases_eq, or_cases, or_left, or_right}
-use Rattle.dm_rule.proofs.Names.{false≢true, nat_tests, Pid, Place, View, Known, Unknown, Forward, Trails, Trail, IsOn, leads_on, leads, both_true}
-use Rattle.dm_rule.proofs.Lines.{not_true}
+use Rattle.dm_rule.proofs.Names.{◌≡◌, ◌≢◌, ℕ, zero, suc, ◌+◌, ◌≤◌, ◌<◌, ◌==◌, ◌||◌, Bool, true, false, List, [], ◌∷◌, refl, ap, ◌∙◌, sym, inl, inr, arith, nat_lt, slice_get, Some, cases_eq, or_cases, or_left, or_right, false≢true}
+use Rattle.dm_rule.proofs.Names.{nat_tests, Pid, Place, View, Known, Unknown, Forward, Trails, Trail, IsOn, leads_on, leads, both_true, false_from_ne_true, lt-ltb}
+use Rattle.std.proofs.Common.{eqb-true, eq-eqb}
+pub use Rattle.std.proofs.lemmas.Bool.{lt-ltb as less_test}
 
 -- how many of the first n machines pass a test
 one : Bool → ℕ
@@ -83,15 +84,12 @@ fewer v t p machines c m k j h within at e =
     let rises = h.behind m k j c e at in
     passing_more (ahead (t p) j) (ahead (t p) c) machines m within
     (λ i s. let (a, le, f) = where_ahead (t p) j i s in is_ahead (t p) c a i (omega (arith, rises, le)) f)
-    (not_true (ahead (t p) j m) (λ s. let (a, le, f) = where_ahead (t p) j m s in let before = h.behind m k j a e f in absurd (omega (arith, le, before))))
+    (false_from_ne_true (ahead (t p) j m) (λ s. let (a, le, f) = where_ahead (t p) j m s in let before = h.behind m k j a e f in absurd (omega (arith, le, before))))
     (is_ahead (t p) c c m (omega arith) at)
-
-pub less_test : (m n : ℕ) → m < n → nat_lt m n ≡ true
-less_test m n e = grind (arith, nat_tests)
 
 -- a step
 goes_on : (x : Known) (c : ℕ) (next : ℕ → ℕ → Bool) → x ≢ Unknown → ((k j : ℕ) → x ≡ Forward k j → (c < j) × (next j k ≡ true)) → leads_on x c next ≡ true
-goes_on x c next h1 h2 = search (arith, both_true, less_test)
+goes_on x c next h1 h2 = search (arith, both_true, lt-ltb)
 
 left_some : (xs : List ℕ) (machines j k : ℕ) → k < machines → slice_get xs j ≡ Some k → 0 < left_at xs machines j
 unfolding left_at

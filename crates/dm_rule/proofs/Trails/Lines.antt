@@ -2,9 +2,8 @@
 -- update, and the first put of a kernel's own message.
 use Rattle.dm_rule.proofs.Names.{◌≡◌, ℕ, ◌+◌, ◌≤◌, ◌&&◌, Bool, true, false, List, [], ◌∷◌, ◌++◌, refl, ap, ◌∙◌, sym, subst, inl, inr, arith, nat_lt, if◌then◌else◌, slice_get, Option, None, Some, cases_Bool, false≢true, Pid, Place, MsgId}
 use Rattle.dm_rule.proofs.Names.{id_eq, MessageKind, manager, OneKernel, pid_eq-is, id_eq-same, View, Told, About, Known, Frozen, Forward, is_kernels, own_id, Addresses, Holder, Receiver, Sender, given, place_known, all_follow, pid_eq}
-use Rattle.dm_rule.proofs.Names.{is_told_back, told_back_gets, forwards, place_told, belongs_to, leads_to, is_behind, updated_to, updated, names, times, Trails, Trail, IsOn, AddressesOn, OwnOn, nat_tests, option_map_or}
+use Rattle.dm_rule.proofs.Names.{is_told_back, told_back_gets, forwards, place_told, belongs_to, leads_to, is_behind, updated_to, updated, names, times, Trails, Trail, IsOn, AddressesOn, OwnOn, nat_tests, and_parts, option_map_or}
 use Rattle.dm_rule.proofs.Once.{one_of}
-use Rattle.dm_rule.proofs.Lines.{parts}
 use Rattle.dm_rule.proofs.Trails.Places.{Goes, Comes, Named, Links, Owns, AllAre, AllGet, given_on, all_grown}
 
 -- all of them are on their trails, and each kind of holder's are
@@ -84,8 +83,8 @@ leads_where s v h p q h1 h2 = search (arith, leads_names)
 
 pub behind_where : (s : OneKernel) (a : Addresses) (q p : Pid) (n : ℕ) (h : Holder) → is_behind s a q p n h ≡ true → leads_to s h ≡ Some p
 behind_where s a q p n h e =
-    let x = parts (belongs_to q h) ((option_map_or (pid_eq p) (leads_to s h) false) && nat_lt (a h).moves n) e in
-    let y = parts (option_map_or (pid_eq p) (leads_to s h) false) (nat_lt (a h).moves n) x.1 in pid_there p (leads_to s h) y.0
+    let x = and_parts (belongs_to q h) ((option_map_or (pid_eq p) (leads_to s h) false) && nat_lt (a h).moves n) e in
+    let y = and_parts (option_map_or (pid_eq p) (leads_to s h) false) (nat_lt (a h).moves n) x.1 in pid_there p (leads_to s h) y.0
 
 update_by : (s : OneKernel) (v : View) (a : Addresses) (t : Trails) (r p : Pid) (place : Place) → IsOn t p place → AllAre s v a t → AllAre s v (updated_to s a (Some r) (Some (p, place))) t
 update_by s v a t r p place on h g q e = elim (cases_Bool (is_behind s a r p place.moves g)) [

@@ -94,7 +94,7 @@ plain_gives s v a id q k e = plain_given s v a id q (sort_of k) e
 pub not_own : (k : MessageKind) → is_own k ≡ false → k ≡ MessageKind.Migrate → ⊥
 not_own k plain e = false≢true (sym plain ∙ ap is_own e)
 
-routed_named : (s : OneKernel) (v : View) (x y : ℕ) (id : MsgId) (k : MessageKind) (q : Pid) (h : Holder) (r : Pid) → is_kernels id ≡ false → is_own k ≡ false → v.told id ≡ None → Named s (after_put v x y id k q) h r → Named s v h r
+pub routed_named : (s : OneKernel) (v : View) (x y : ℕ) (id : MsgId) (k : MessageKind) (q : Pid) (h : Holder) (r : Pid) → is_kernels id ≡ false → is_own k ≡ false → v.told id ≡ None → Named s (after_put v x y id k q) h r → Named s v h r
 routed_named s v x y id k q h r other plain none (Links e) = Links e
 routed_named s v x y id k q h r other plain none (Owns (Goes i u is own told to)) = elim (cases_Bool (id_eq id i)) [
   | inl same ↦ absurd (false≢true (sym other ∙ ap is_kernels (id_eq-is id i same) ∙ own))

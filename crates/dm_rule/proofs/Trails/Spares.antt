@@ -2,9 +2,8 @@
 use Rattle.dm_rule.proofs.Names.{◌≡◌, ℕ, ◌+◌, ◌==◌, ◌&&◌, Bool, true, false, not, List, [], ◌∷◌, ◌++◌, length, map, refl, ap, ◌∙◌, sym, subst, if◌then◌else◌, Option, None, Some, false≢true, Pid, Place, pid_eq, PlainLink, first_empty, MsgId}
 use Rattle.dm_rule.proofs.Names.{id_eq, PlainMessage, PlainWhat, Label, Reply, switchboard, manager, bind, PlainProcess, reg, NamedLink, OneKernel, with_sent, answer_id, id_eq-is, id_eq-same, sent_at, bind-is, when-is, View, is_kernels}
 use Rattle.dm_rule.proofs.Names.{Addresses, Holder, Slot, Owner, Receiver, Sender, Enclosed, Answer, Gets, gets, given, gives, holder_eq, encloses, enclosed_from, sends_burden, fills, call_gets, receives_links, slot_after, landing_gets}
-use Rattle.dm_rule.proofs.Names.{serves_burden, board_finds, board_keeps, board_takes_burden, manager_tells_burden, manager_sends, manager_answers, manager_takes_burden, both_true, at_hand-is, option_map_or, arith, child_links, AskedBy}
-use Rattle.dm_rule.proofs.Names.{nat_tests}
-use Rattle.dm_rule.proofs.Lines.{not_true}
+use Rattle.dm_rule.proofs.Names.{serves_burden, child_links, board_finds, board_keeps, board_takes_burden, manager_tells_burden, manager_sends, manager_answers, manager_takes_burden, both_true, at_hand-is, option_map_or, arith, AskedBy}
+use Rattle.dm_rule.proofs.Names.{nat_tests, and_parts, not-true, false_from_ne_true, and_right}
 use Rattle.dm_onekernel.specs.Calls as calls
 use Rattle.dm_onekernel.specs.Pieces as pieces
 use Rattle.dm_onekernel.specs.Switchboard as board
@@ -13,6 +12,8 @@ use Rattle.dm_onekernel.specs.Service as service
 use Rattle.dm_onekernel.specs.Step as kernel
 use Rattle.dm_rule.specs.Addresses as addresses
 use Rattle.dm_rule.specs.Given as request
+pub use Rattle.std.proofs.lemmas.Bool.{not-true as not_is}
+pub use Rattle.dm_laws.proofs.Facts.{and_no}
 
 -- these are none of a message's receiver and sender
 abbrev pub spares_one : MsgId → Holder → Bool
@@ -24,44 +25,33 @@ abbrev pub spares : MsgId → List Gets → Bool
 spares i [] = true
 spares i (g ∷ gs) = spares_one i g.holder && spares i gs
 
-pub not_is : (b : Bool) → not b ≡ true → b ≡ false
-not_is b h1 = search arith
-
-both : (b c : Bool) → (b && c) ≡ true → (b ≡ true) × (c ≡ true)
-both true c e = (refl, e)
-both false c e = absurd (false≢true e)
-
 pub spared_receiver : (a : Addresses) (i : MsgId) (gs : List Gets) → spares i gs ≡ true → given a gs (Receiver i) ≡ a (Receiver i)
 spared_receiver a i [] e = refl
 spared_receiver a i (g ∷ gs) e =
-    let x = both (spares_one i g.holder) (spares i gs) e in
+    let x = and_parts (spares_one i g.holder) (spares i gs) e in
     ap (λ (c : Bool). if c then g.place else given a gs (Receiver i)) ((elim g.holder as (λ h. spares_one i h ≡ true → holder_eq h (Receiver i) ≡ false)
-    [ Receiver j ↦ λ e. not_is (id_eq j i) e | _ ↦ λ e. refl ]) x.0) ∙ spared_receiver a i gs x.1
+    [ Receiver j ↦ λ e. not-true (id_eq j i) e | _ ↦ λ e. refl ]) x.0) ∙ spared_receiver a i gs x.1
 
 pub spared_sender : (a : Addresses) (i : MsgId) (gs : List Gets) → spares i gs ≡ true → given a gs (Sender i) ≡ a (Sender i)
 spared_sender a i [] e = refl
 spared_sender a i (g ∷ gs) e =
-    let x = both (spares_one i g.holder) (spares i gs) e in
+    let x = and_parts (spares_one i g.holder) (spares i gs) e in
     ap (λ (c : Bool). if c then g.place else given a gs (Sender i)) ((elim g.holder as (λ h. spares_one i h ≡ true → holder_eq h (Sender i) ≡ false)
-    [ Sender j ↦ λ e. not_is (id_eq j i) e | _ ↦ λ e. refl ]) x.0) ∙ spared_sender a i gs x.1
+    [ Sender j ↦ λ e. not-true (id_eq j i) e | _ ↦ λ e. refl ]) x.0) ∙ spared_sender a i gs x.1
 
 pub spares_both : (i : MsgId) (xs ys : List Gets) → spares i xs ≡ true → spares i ys ≡ true → spares i (xs ++ ys) ≡ true
 spares_both i [] ys e f = f
-spares_both i (x ∷ xs) ys e f = let z = both (spares_one i x.holder) (spares i xs) e in both_true (spares_one i x.holder) (spares i (xs ++ ys)) z.0 (spares_both i xs ys z.1 f)
+spares_both i (x ∷ xs) ys e f = let z = and_parts (spares_one i x.holder) (spares i xs) e in both_true (spares_one i x.holder) (spares i (xs ++ ys)) z.0 (spares_both i xs ys z.1 f)
 
 -- a message that isn't a kernel's own
 apart : (i j : MsgId) → is_kernels i ≡ true → is_kernels j ≡ false → id_eq j i ≡ false
-apart i j own other = not_true (id_eq j i) (λ e. false≢true (sym other ∙ ap is_kernels (id_eq-is j i e) ∙ own))
+apart i j own other = false_from_ne_true (id_eq j i) (λ e. false≢true (sym other ∙ ap is_kernels (id_eq-is j i e) ∙ own))
 
 pub two_more : (i j : MsgId) (gs : List Gets) → id_eq j i ≡ false → spares i gs ≡ true → (not (id_eq j i) && (not (id_eq j i) && spares i gs)) ≡ true
 two_more i j gs e f = ap (λ (c : Bool). not c && (not c && spares i gs)) e ∙ f
 
-pub and_no : (b : Bool) → (b && false) ≡ false
-and_no true = refl
-and_no false = refl
-
 answers_apart : (i id : MsgId) → is_kernels i ≡ true → id_eq (answer_id id) i ≡ false
-answers_apart i id own = apart i (answer_id id) own (and_no (id.from.num == 0))
+answers_apart i id own = apart i (answer_id id) own (and_right (id.from.num == 0) false refl)
 
 pub encloses_spares : (i id : MsgId) (n : ℕ) (ps : List Place) → spares i (encloses id n ps) ≡ true
 encloses_spares i id n [] = refl

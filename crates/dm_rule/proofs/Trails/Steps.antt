@@ -1,26 +1,26 @@
 -- Each line of a migration, of an end and of a birth keeps what machines know in agreement with the trails.
 use Rattle.dm_rule.proofs.Names.{◌≡◌, ◌≢◌, ℕ, ◌+◌, ◌==◌, Bool, true, false, not, List, [], ◌∷◌, ◌++◌, length, refl, ap, ◌∙◌, sym, subst, inl, inr, arith, if◌then◌else◌, slice_get, Option, Some, cases_Bool, false≢true, append-nil, Pid}
 use Rattle.dm_rule.proofs.Names.{pid_eq, MsgId, MessageKind, Line, Stage, at_record, View, Known, Unknown, Here, Frozen, Incoming, Ended, view_after, front_of, gone_to, Nowhere, Moves, IsIn, kind_comes, is_restart, is_early, is_between}
-use Rattle.dm_rule.proofs.Names.{is_away, Trails, Trail, StoodOnTrail, destination, trails_after, pid_eq-is, pid_eq-same, kind_leaves}
-use Rattle.dm_rule.proofs.Lines.{eq_is, parts, not_true, eq_self}
+use Rattle.dm_rule.proofs.Names.{is_away, Trails, Trail, StoodOnTrail, destination, trails_after, pid_eq-is, pid_eq-same, kind_leaves, and_parts, eqb-true, false_from_ne_true}
+use Rattle.dm_rule.proofs.Lines.{eq_self}
 use Rattle.dm_rule.proofs.Seen.{aim, sets}
 use Rattle.dm_rule.proofs.Trails.Known.{trail_same, trail_learns, trail_made, trail_grows, trail_left, home_alone}
 
 pub holds_is : (k : MessageKind) (d : ℕ) (x : Known) → is_restart k ≡ false → kind_leaves k d x ≡ true → x ≡ Frozen d
-holds_is k d x h1 h2 = search (arith, parts, eq_is)
+holds_is k d x h1 h2 = search (arith, and_parts, eqb-true)
 
 pub expects_is : (k : MessageKind) (s : ℕ) (x : Known) → is_early k ≡ false → kind_comes k s x ≡ true → x ≡ Incoming s
-expects_is k s x h1 h2 = search (arith, parts, eq_is)
+expects_is k s x h1 h2 = search (arith, and_parts, eqb-true)
 
 pub two_apart : (v : View) (p : Pid) (k : MessageKind) (s d : ℕ) (o : Option MsgId) → IsIn v p (Moves k s d o) → d ≢ s
-two_apart v p k s d o h e = let both = parts (is_between k) (not (s == d)) h.apart in false≢true (sym (ap not (ap (λ (n : ℕ). s == n) e ∙ eq_self s)) ∙ both.1)
+two_apart v p k s d o h e = let both = and_parts (is_between k) (not (s == d)) h.apart in false≢true (sym (ap not (ap (λ (n : ℕ). s == n) e ∙ eq_self s)) ∙ both.1)
 
 pub source_holds : (v : View) (p : Pid) (k : MessageKind) (s d : ℕ) (o : Option MsgId) → IsIn v p (Moves k s d o) → is_restart k ≡ false → v.known s p ≡ Frozen d
 source_holds v p k s d o h e = holds_is k d (v.known s p) e (sym (ap (λ (c : Bool). if c then kind_leaves k d (v.known s p) else if d == s then kind_comes k s (v.known s p) else is_away (v.known s p)) (eq_self s)) ∙ h.known s)
 
 pub destination_expects : (v : View) (p : Pid) (k : MessageKind) (s d : ℕ) (o : Option MsgId) → IsIn v p (Moves k s d o) → is_early k ≡ false → v.known d p ≡ Incoming s
 destination_expects v p k s d o h e =
-    let off : (s == d) ≡ false = not_true (s == d) (λ x. two_apart v p k s d o h (sym (eq_is s d x))) in
+    let off : (s == d) ≡ false = false_from_ne_true (s == d) (λ x. two_apart v p k s d o h (sym (eqb-true s d x))) in
     expects_is k s (v.known d p) e
     (sym (ap (λ (c : Bool). if c then kind_leaves k d (v.known d p) else if d == d then kind_comes k s (v.known d p) else is_away (v.known d p)) off ∙ ap (λ (c : Bool). if c then kind_comes k s (v.known d p) else is_away (v.known d p)) (eq_self d)) ∙ h.known d)
 

@@ -110,7 +110,7 @@ own_of s v a t h about topic = record { receiver = receivers_are s v a t h; send
 same_topic : (v w : View) (a : Addresses) (t : Trails) → w.topic ≡ v.topic → OwnOn v a t → (p : Pid) (m c : ℕ) → w.topic ≡ view.Place p m c → slice_get (t p) c ≡ Some m
 same_topic v w a t same h p m c e = h.topic p m c (sym same ∙ e)
 
-abbrev at_view : Point → View → Point
+abbrev pub at_view : Point → View → Point
 at_view pt w = record { kernel = pt.kernel; view = w; addresses = pt.addresses }
 
 learns_treads : (pt : Point) (w : View) (t : Trails) → ((q : Pid) → Trail w t q) → w.told ≡ pt.view.told → ((p : Pid) (m c : ℕ) → w.topic ≡ view.Place p m c → slice_get (t p) c ≡ Some m) → Treads pt t → Treads (at_view pt w) t

@@ -1,7 +1,6 @@
 -- Only machines that act know processes, and so all machines of a trail are among those of the boot file.
 use Rattle.dm_rule.proofs.Names.{◌≡◌, ◌≢◌, ℕ, ◌+◌, ◌<◌, ◌==◌, refl, ◌∙◌, sym, subst, ⊤, not, filter, slice_get, Option, None, Some, Pid, MsgId, Label, Step, Line, Stage, at_record, View, Told, Known, Unknown, Here, actor, view_after}
-use Rattle.dm_rule.proofs.Names.{after_label, after_head, handled, taken_id, queued_for, held_for, forwarded_for, served_told, receiver_of, Trails, Trail, arith}
-use Rattle.dm_rule.proofs.Lines.{eq_is, parts}
+use Rattle.dm_rule.proofs.Names.{after_label, after_head, handled, taken_id, queued_for, held_for, forwarded_for, served_told, receiver_of, Trails, Trail, arith, and_parts, eqb-true}
 use Rattle.dm_rule.proofs.Seen.{sets}
 use Rattle.dm_rule.proofs.Homes.Lines.{acting_label}
 use Rattle.dm_rule.proofs.Phases.Lines.{queued_known, held_known, dropped_known, forwarded_known}
@@ -22,7 +21,7 @@ within_same n v w known acting h = record { known = λ m q there. h.known m q (�
 
 within_set : (n : ℕ) (v w : View) (p : Pid) (x : Known) → w.known ≡ at_record v.known v.acting p x → w.acting ≡ v.acting → Within n v → Within n w
 within_set n v w p x known acting h = record {
-  known = λ m q there. (search (arith, eq_is, parts));
+  known = λ m q there. (search (arith, eqb-true, and_parts));
   acting = subst (λ (a : ℕ). a < n) (sym acting) h.acting;
 }
 

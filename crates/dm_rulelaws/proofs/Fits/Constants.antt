@@ -2,7 +2,7 @@
 -- requests stay in order.
 use Rattle.dm_rulelaws.proofs.Names.{by_step, ◌≡◌, ℕ, ◌+◌, ◌++◌, true, List, [], ◌∷◌, length, refl, Option, None, Some, Pid, MsgId, PlainMessage, PlainWhat, Label, Life, OneKernel, Manager, Pending, PlainLink, ascends, ascends_more}
 use Rattle.dm_rulelaws.proofs.Names.{ascends_last, ascends_without, PlainProcess, without_message, PendingKind, answer_id, code_of_outcome, zero, suc, ◌==◌, ◌&&◌, Bool, false, ap, ◌∙◌, sym, subst, nat_lt, arith, ⊤, if◌then◌else◌, slice_get}
-use Rattle.dm_rulelaws.proofs.Names.{nat_tests, manager, NamedLink, with_sent, id_eq-same, stayed, out_at, Sound, Each, Lives, has_bytes, LinkFits, awaits, WhatFits, KernelFits, id_of, IsPending, nat_le, SlotFits, is_for, kind_eq}
+use Rattle.dm_rulelaws.proofs.Names.{nat_tests, manager, NamedLink, with_sent, id_eq-same, stayed, out_at, Sound, Each, Lives, has_bytes, LinkFits, awaits, WhatFits, KernelFits, id_of, IsPending, nat_le, SlotFits, is_for, kind_eq, bytes_eq}
 use Rattle.dm_rulelaws.proofs.Names.{PendingFits, numbered_from, pid_of, MoveNote, cases_Bool, in_bag, inl, inr, option_map_or}
 use Rattle.dm_onekernel.specs.Kernel as kernels
 use Rattle.dm_onekernel.specs.Manager as manage
@@ -78,7 +78,7 @@ record AskedFits (ps : Lives) (a : board.Asked) : Type 0 where
 
 named_fits : (ps : Lives) (name : List ℕ) (names : List NamedLink) → NamesFit ps names → AnswerFits ps (option_map_or board.Found (board.link_named name names) board.Unknown)
 named_fits ps name [] h = tt
-named_fits ps name (k ∷ ks) h = search (arith, board.bytes_eq k.name name, board.link_named name ks, named_fits ps name ks h.1, k.link, h.0)
+named_fits ps name (k ∷ ks) h = search (arith, bytes_eq k.name name, board.link_named name ks, named_fits ps name ks h.1, k.link, h.0)
 
 bad_asked : (ps : Lives) (names : List NamedLink) → NamesFit ps names → AskedFits ps (board.board_bad_request names)
 bad_asked ps names h = record { names = h; answer = tt }
