@@ -160,7 +160,8 @@ manager_controls v a code sent = gets (Receiver sent.id) (a (Child code)) ∷ ge
 abbrev pub manager_tells_burden : View → Addresses → MsgId → ℕ → PlainMessage → PlainWhat → List Gets
 manager_tells_burden v a id code sent (what.Create image links) =
     gets (Receiver sent.id) (unmoved sent.to.home) ∷ gets (Sender sent.id) (unmoved v.acting) ∷ gets (Answer sent.id.n) (a (Enclosed id 0)) ∷ encloses sent.id 0 (enclosed_from a id 1 links)
-manager_tells_burden v a id code sent (what.User c channel body links) = gets (Receiver sent.id) (a (Enclosed id 0)) ∷ gets (Sender sent.id) (unmoved v.acting) ∷ []
+manager_tells_burden v a id code sent (what.User c channel body links) =
+    gets (Receiver sent.id) (a (Enclosed id 0)) ∷ gets (Sender sent.id) (unmoved v.acting) ∷ []
 manager_tells_burden v a id code sent (what.Move machine) = gets (Answer sent.id.n) (a (Enclosed id 0)) ∷ manager_controls v a code sent
 manager_tells_burden v a id code sent w = manager_controls v a code sent
 
@@ -177,7 +178,8 @@ manager_answers v a n message =
 abbrev pub manager_takes_burden : OneKernel → View → Addresses → PlainMessage → PlainWhat → Option manage.ManagerTook → List Gets
 manager_takes_burden s v a m w None = []
 manager_takes_burden s v a m (what.User code channel body links) (Some t) = manager_sends v a m.id code t.message
-manager_takes_burden s v a m (what.Created child) (Some t) = gets (Child (length s.manager.children + 1)) (unmoved child.home) ∷ manager_answers v a m.id.n t.message
+manager_takes_burden s v a m (what.Created child) (Some t) =
+    gets (Child (length s.manager.children + 1)) (unmoved child.home) ∷ manager_answers v a m.id.n t.message
 manager_takes_burden s v a m w (Some t) = manager_answers v a m.id.n t.message
 
 -- a server takes a message of the bag

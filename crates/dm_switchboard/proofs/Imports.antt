@@ -1,4 +1,5 @@
 -- What the proofs of this crate name of what lies below it.
+pub use Rattle.std.specs.Str.{bytes_eq}
 pub use Rattle.arrayvec.specs.ArrayVec.{ArrayVec}
 pub use Rattle.indexmap.proofs.CallerLemmas.{insert_entry-new}
 pub use Rattle.indexmap.specs.Layout.{set_value_at}
@@ -25,7 +26,7 @@ pub use Rattle.dm_message.specs.Lawful.{IsLawfulMessage, IsLawfulWhat}
 pub use Rattle.dm_message.specs.Plain.{plain_message, plain_what, with_what}
 pub use Rattle.dm_message.specs.declared.Message.{Message}
 pub use Rattle.dm_onekernel.specs.Boot.{is_general, switchboard}
-pub use Rattle.dm_onekernel.specs.Switchboard.{bytes_eq, is_name}
+pub use Rattle.dm_onekernel.specs.Switchboard.{is_name}
 pub use Rattle.dm_switchboard.specs.Board.{Board, Named, listed, named, named_is_behind, plain_board, plain_named, retargeted_named}
 pub use Rattle.dm_switchboard.specs.Following.{Entries, behind_at, counted, followed, told_at}
 pub use Rattle.dm_switchboard.specs.Lawful.{IsLawfulBoard, IsLawfulNamed}

@@ -10,7 +10,8 @@ use Rattle.dm_message.specs.declared.What.{What}
 use Rattle.dm_message.specs.declared.What.TheVariants as what
 use Rattle.dm_message.specs.Ids.{id_of}
 use Rattle.dm_onekernel.specs.Boot.{is_general, switchboard}
-use Rattle.dm_onekernel.specs.Switchboard.{bytes_eq, is_name}
+use Rattle.std.specs.Str.{bytes_eq}
+use Rattle.dm_onekernel.specs.Switchboard.{is_name}
 use Rattle.dm_switchboard.specs.declared.Took.{Took}
 use Rattle.dm_switchboard.specs.declared.reply.Reply.{Reply}
 use Rattle.dm_switchboard.specs.declared.reply.Reply.TheVariants as reply
