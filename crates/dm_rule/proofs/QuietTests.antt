@@ -7,9 +7,6 @@ heard_by : (same : Bool) (p : Pair) → (same ≡ false → p.acked ≡ length p
 heard_by true p h = refl
 heard_by false p h = eq-eqb p.acked (length p.ids) (h refl)
 
-heard_is : (same : Bool) (p : Pair) → same ≡ false → (same || (p.acked == length p.ids)) ≡ true → p.acked ≡ length p.ids
-heard_is same p h1 h2 = search (arith, eqb-true)
-
 pub no_mail_empty : (v : View) (m : ℕ) → not (has_mail v m) ≡ true → v.inbox m ≡ []
 no_mail_empty v m e = none (v.inbox m) e
   where
@@ -30,6 +27,7 @@ quiet_passes n v q =
 
 pub passes_quiet : (n : ℕ) (v : View) → is_quiet n v ≡ true → IsQuiet n v
 passes_quiet n v e =
+    let heard_is : (same : Bool) (p : Pair) → same ≡ false → (same || (p.acked == length p.ids)) ≡ true → p.acked ≡ length p.ids = λ same p h1 h2. search (arith, eqb-true) in
     let each = λ (a : ℕ) (h : a < n). each_of_all n (λ a. not (has_mail v a) && all_below n (λ b. pair_is_quiet (a == b) (v.pair a b))) e a h in
     let pair = λ (a b : ℕ) (h : a < n) (k : b < n). each_of_all n (λ b. pair_is_quiet (a == b) (v.pair a b)) (right_true (not (has_mail v a)) (all_below n (λ b. pair_is_quiet (a == b) (v.pair a b))) (each a h)) b k in
     search (arith, eqb-true, left_true, heard_is, ne_eqb, right_true, no_mail_empty)

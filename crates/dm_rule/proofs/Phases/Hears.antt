@@ -2,7 +2,7 @@
 use Rattle.dm_rule.proofs.Names.{◌≡◌, ℕ, ◌==◌, Bool, true, false, List, [], ◌∷◌, ◌++◌, refl, ap, ◌∙◌, sym, subst, length, arith, ◌/◌, if◌then◌else◌, Option, None, Some, false≢true, nat_tests, Pid, pid_eq, MsgId, MessageKind, Line, Stage}
 use Rattle.dm_rule.proofs.Names.{Boot, switchboard, manager, PlainProcess, View, Told, About, Of, Known, Unknown, Here, Forward, Ended, is_kernels, target_of, Addresses, Sender, is_told_back, Point, Part, Says, Owns, Spelled, spelled}
 use Rattle.dm_rule.proofs.Names.{forwards_on, accepts, takes_chunk, takes_block, gives_piece, told_step, chunks_of, pieces_of, updates, told_here, told_ended, process_told, told_server, fits, free_room, kernel_hears, hears, is_between}
-use Rattle.dm_rule.proofs.Names.{bind-is, Label, MoveNote, NothingElse, Outcome, bind, kernel_after, label_of, leaves_for, moved, tells_asker, sort_of, eq-eqb}
+use Rattle.dm_rule.proofs.Names.{bind-is, Label, MoveNote, NothingElse, Outcome, bind, kernel_after, label_of, leaves_for, moved, tells_asker, sort_of, eq-eqb, receiver_in, knows, Rests, is_early}
 use Rattle.dm_onekernel.specs.Step as kernel
 use Rattle.dm_rule.proofs.Hushed.{is_put}
 use Rattle.dm_rule.proofs.States.{State, State-at}
@@ -13,9 +13,9 @@ use Rattle.dm_rule.proofs.Telling.{Sane, sane_line}
 use Rattle.dm_rule.proofs.Phases.Calm.{calm_same}
 use Rattle.dm_rule.proofs.Phases.Quiet.{Tame, AllQuiet, parts_settle}
 use Rattle.dm_rule.proofs.Phases.Stand.{InPhases, calm_phases}
-use Rattle.dm_rule.proofs.Phases.Answers.{Whole, due}
-use Rattle.dm_rule.proofs.Phases.Pieces.{ask_row, pull_state_row, pull_block_row, chunk_row, block_row}
-use Rattle.dm_rule.proofs.Phases.Rests.{stays_whole, restart_whole, frozen_row}
+use Rattle.dm_rule.proofs.Phases.Answers.{Whole, due, Due}
+use Rattle.dm_rule.proofs.Phases.Pieces.{ask_row, pull_state_row, pull_block_row, chunk_row, block_row, due_known}
+use Rattle.dm_rule.proofs.Phases.Rests.{restart_whole, frozen_row, home_whole, at_acting, refused_if}
 use Rattle.dm_rule.proofs.Phases.Leaves.{leaves_row}
 use Rattle.dm_rule.proofs.Phases.Put.{of_same}
 
@@ -70,6 +70,11 @@ told_row o pt m i is t p room x MessageKind.Refuse parts w h sane state front to
     let ku : u.k ≡ MessageKind.Refuse = sym (ap (λ (y : Told). y.kind) u.told) ∙ e in
     let mine_ : told_step o m i u.p room x (sort_of MessageKind.Refuse) ≡ Some parts = subst (λ (q : Pid). told_step o m i q room x (sort_of MessageKind.Refuse) ≡ Some parts) (sym pu) g in
     let q = o.kernel.notes u.p in
+    let stays_whole : (pt : Point) (i : MsgId) (is : List MsgId) (t : Told) (h : Whole pt) (u : Due pt i t h.phases) → u.k ≡ MessageKind.Refuse → pt.view.inbox pt.view.acting ≡ i ∷ is → pt.view.told i ≡ Some t → is_kernels i ≡ true
+      → Whole (moved pt (Line.Stays u.p) pt.kernel) = λ pt i is t h u e front told mine.
+      let at : pt.view.acting ≡ u.s = u.acting ∙ ap (λ (k : MessageKind). receiver_in k u.s u.d) e in
+      home_whole pt (Line.Stays u.p) i is t u.s h u refl refl refl front told mine (λ z. refl) refl
+      (λ m. ap (knows (Rests u.s) m) (at_acting pt.view u.s m u.p Here at) ∙ refused_if u.k u.s u.d m (Some i) (u.s == m) (pt.view.known m u.p) (ap is_early e) refl (due_known pt i t h.phases u m)) in
     ends_row pt (Line.Stays u.p) q Outcome.Stayed w refl refl (stays_whole pt i is t h u ku front told mine) sane state (given pt (Says (Line.Stays u.p) ∷ tells_asker q Outcome.Stayed) parts w mine_ n)
 told_row o pt m i is t p room x MessageKind.PullState parts w h sane state front told mine sees e about g n =
     let u = due pt i is t h.phases front told (ap is_between e) in
@@ -159,8 +164,7 @@ kernel_row b o pt m i is t _ parts w h sane state front told mine sees about g n
 
 pub plain_by : (pt : Point) (i : MsgId) (is : List MsgId) (t : Told) (h : InPhases pt.view) (b : Bool) → is_between t.kind ≡ b → pt.view.inbox pt.view.acting ≡ i ∷ is → pt.view.told i ≡ Some t → (t.receiver.num == 0) ≡ false → b ≡ false
 plain_by pt i is t h true e front told off =
-    let u = due pt i is t h front told e in
-    absurd (false≢true (sym off ∙ eq-eqb t.receiver.num 0 (ap (λ (y : Told). y.receiver.num) u.told)))
+    absurd (false≢true (sym off ∙ eq-eqb t.receiver.num 0 (ap (λ (y : Told). y.receiver.num) (due pt i is t h front told e).told)))
 plain_by pt i is t h false e front told off = refl
 
 hears_by : (b : Boot) (o pt : Point) (m : ℕ) (i : MsgId) (is : List MsgId) (t : Told) (c d g : Bool) (parts : List Part) (w : Spelled) (h : Whole pt) → Sane pt → State None w.point → (t.receiver.num == 0) ≡ c → pt.view.inbox pt.view.acting ≡ i ∷ is → pt.view.told i ≡ Some t → is_kernels i ≡ true → SeesAll o pt m
