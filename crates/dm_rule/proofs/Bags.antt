@@ -33,8 +33,7 @@ steps_in r e s u out m same zero_ h = record {
   same = λ i. elim (cases_Bool (id_eq m.id i)) [
     | inl here ↦
         let is : m.id ≡ i = id_eq-is m.id i here in
-        let left : hidden (Some m.id) (with_sent u (Some m)).bag i ≡ None = ap (λ (b : Bool). if b then None else (with_sent u (Some m)).bag i) here in
-        let none : s.bag i ≡ None = sym (ap s.bag is) ∙ bag_none r e s m.id zero_ h in left ∙ sym (let e_ : hidden out s.bag i ≡ None = search arith in e_)
+        let none : s.bag i ≡ None = sym (ap s.bag is) ∙ bag_none r e s m.id zero_ h in ap (λ (b : Bool). if b then None else (with_sent u (Some m)).bag i) here ∙ sym (let e_ : hidden out s.bag i ≡ None = search arith in e_)
     | inr apart ↦
         ap (λ (b : Bool). if b then None else (if b then Some m else u.bag i)) apart ∙ same i
   ];
@@ -170,8 +169,7 @@ zero_if n h = elim (cases_zero n) [ inl is ↦ is | inr least ↦ absurd (h leas
 
 answer_fresh : (r e : MsgId → ℕ) (s : OneKernel) (id : MsgId) (m : PlainMessage) → s.bag id ≡ Some m → asks m.what ≡ true → Entered r e s → e (answer_id id) ≡ 0
 answer_fresh r e s id m there asking h = zero_if (e (answer_id id)) (λ least.
-    let back : request_id (answer_id id) ≡ id = (let q : id.answer ≡ false = h.requests id m there asking in grind arith) in
-    let k : None ≡ Some m = sym (sym (ap s.bag back) ∙ h.answers (answer_id id) refl least) ∙ there in cc)
+    let k : None ≡ Some m = sym (sym (ap s.bag (let back : request_id (answer_id id) ≡ id = (let q : id.answer ≡ false = h.requests id m there asking in grind arith) in back)) ∙ h.answers (answer_id id) refl least) ∙ there in cc)
 
 answers_in : (r e : MsgId → ℕ) (s t u : OneKernel) (id : MsgId) (m : PlainMessage) (w : PlainWhat) → with_sent u (Some (answer_to m w)) ≡ t → ((i : MsgId) → u.bag i ≡ (without_message s id).bag i) → s.bag id ≡ Some m → asks m.what ≡ true
     → Sound r e s → BagStep e s t (Some id) (Some (answer_id id))
@@ -238,8 +236,7 @@ served_in r e s t id m x PlainWhat.Kill w there alive is h = out_is e s t (with_
 served_in r e s t id m x (PlainWhat.Read base len) w there alive is h =
     let (c, served, last) = bind-is (pieces.reads x m base len) (λ v. Some (service.answered s id m v)) t is in
     let k = cond_some _ (record { process = x; answer = answer_to m (PlainWhat.Block (take len (drop base x.memory))) }) c served in
-    let f : service.answered s id m c ≡ t = cc in
-    answers_in r e s t (service.changed s id m x) id m (PlainWhat.Block (take len (drop base x.memory))) (ap (service.answered s id m) k.1 ∙ f) (λ i. refl) there (ap asks w) h
+    answers_in r e s t (service.changed s id m x) id m (PlainWhat.Block (take len (drop base x.memory))) (ap (service.answered s id m) k.1 ∙ (let f : service.answered s id m c ≡ t = cc in f)) (λ i. refl) there (ap asks w) h
 served_in r e s t id m x (PlainWhat.Write base bytes) w there alive is h =
     let (c, served, last) = bind-is (pieces.writes x m base bytes) (λ v. Some (service.answered s id m v)) t is in
     let y = record x { memory = pieces.written_at x.memory base bytes } in

@@ -1,6 +1,6 @@
 -- What deliveries and ticks say keeps that each message stands once; and so does every group.
-use Rattle.dm_rule.proofs.Names.{◌≡◌, ℕ, zero, suc, ◌+◌, ◌-◌, ◌≤◌, ◌==◌, Bool, true, false, not, filter, List, [], ◌∷◌, ◌++◌, refl, ap, ◌∙◌, arith, length, ⊤, if◌then◌else◌, slice_get, Option, None, Some, nat_tests, MsgId, bind, OneKernel}
-use Rattle.dm_rule.proofs.Names.{Step, Line, Load, View, Pair, view_after, Point, label_of, kernel_after, moved, after_line, Part, Says, Transmits, Spelled, packet_line, spelled, Spot, Queue, Untaken, ids_at, standing, bind-is, Boot, Child}
+use Rattle.dm_rule.proofs.Names.{◌≡◌, ℕ, zero, suc, ◌+◌, ◌-◌, ◌==◌, Bool, true, false, not, filter, List, [], ◌∷◌, ◌++◌, refl, ap, ◌∙◌, arith, length, ⊤, if◌then◌else◌, slice_get, Option, None, Some, nat_tests, MsgId, bind, OneKernel, Step}
+use Rattle.dm_rule.proofs.Names.{Line, Load, View, Pair, view_after, Point, label_of, kernel_after, moved, after_line, Part, Says, Transmits, Spelled, packet_line, spelled, Spot, Queue, Untaken, ids_at, standing, bind-is, Boot, Child}
 use Rattle.dm_rule.proofs.Names.{group_of, IsValid, SentLoad, after_head, pair_window, first_point, Leads, StandsOnceAlways, start-sound, Pid, PlainMessage, migrates, StandsAsBag, StandsOutside, StandsRight, eqb-true, MessageKind}
 use Rattle.dm_rule.proofs.Lines.{Stands-stays, pair_keeps, eq_self, Bag, Stands, taken_by}
 use Rattle.dm_rule.proofs.States.{State, says_next, transmits_next, said, State-at, by_line, by_packet, PairsFit}
@@ -44,27 +44,21 @@ acked_off v a b n z = grind (arith, nat_tests, pair_keeps)
 
 net_line : (pt : Point) (l : Line) → IsNetLine l → State None pt → (s : OneKernel) → kernel_after pt.kernel (label_of l) ≡ Some s → State None (moved pt l s)
 net_line pt (Line.Taken a b n) is h s k =
-    let g : pt.kernel ≡ s = cc in
     let Stands-taken : (bag : Bag) (v : View) (a b n : ℕ) → Stands bag v → Stands bag (view.after_taken v a b n) = λ bag v a b n h. taken_by bag v a b n (slice_get (v.pair a b).ids (v.pair a b).taken) refl h in
-    State-at None (moved pt (Line.Taken a b n) pt.kernel) (moved pt (Line.Taken a b n) s) (ap (moved pt (Line.Taken a b n)) g)
+    State-at None (moved pt (Line.Taken a b n) pt.kernel) (moved pt (Line.Taken a b n) s) (ap (moved pt (Line.Taken a b n)) (let g : pt.kernel ≡ s = cc in g))
     (by_line None pt (Line.Taken a b n) refl h (Stands-taken (letters h.own pt.kernel.bag) pt.view a b n h.stands) (λ i. taken_told (view.with_pair pt.view a b (record (pt.view.pair a b) { taken = (pt.view.pair a b).taken + 1; kept = filter (λ k. not (k == n)) (pt.view.pair a b).kept })) b (view.oldest (pt.view.pair a b)) i))
 net_line pt (Line.Old a b n) is h s k =
-    let g : pt.kernel ≡ s = cc in
-    State-at None (moved pt (Line.Old a b n) pt.kernel) (moved pt (Line.Old a b n) s) (ap (moved pt (Line.Old a b n)) g) (by_line None pt (Line.Old a b n) refl h h.stands (λ i. refl))
+    State-at None (moved pt (Line.Old a b n) pt.kernel) (moved pt (Line.Old a b n) s) (ap (moved pt (Line.Old a b n)) (let g : pt.kernel ≡ s = cc in g)) (by_line None pt (Line.Old a b n) refl h h.stands (λ i. refl))
 net_line pt (Line.Early a b n) is h s k =
-    let g : pt.kernel ≡ s = cc in
-    State-at None (moved pt (Line.Early a b n) pt.kernel) (moved pt (Line.Early a b n) s) (ap (moved pt (Line.Early a b n)) g)
+    State-at None (moved pt (Line.Early a b n) pt.kernel) (moved pt (Line.Early a b n) s) (ap (moved pt (Line.Early a b n)) (let g : pt.kernel ≡ s = cc in g))
     (by_line None pt (Line.Early a b n) refl h (Stands-stays (letters h.own pt.kernel.bag) pt.view (view_after pt.view (Line.Early a b n)) (λ z. early_off pt.view a b n z) (λ i. refl) h.stands) (λ i. refl))
 net_line pt (Line.Acked a b n) is h s k =
-    let g : pt.kernel ≡ s = cc in
-    State-at None (moved pt (Line.Acked a b n) pt.kernel) (moved pt (Line.Acked a b n) s) (ap (moved pt (Line.Acked a b n)) g)
+    State-at None (moved pt (Line.Acked a b n) pt.kernel) (moved pt (Line.Acked a b n) s) (ap (moved pt (Line.Acked a b n)) (let g : pt.kernel ≡ s = cc in g))
     (by_line None pt (Line.Acked a b n) refl h (Stands-stays (letters h.own pt.kernel.bag) pt.view (view_after pt.view (Line.Acked a b n)) (λ z. acked_off pt.view a b n z) (λ i. refl) h.stands) (λ i. refl))
 net_line pt Line.Nothing is h s k =
-    let g : pt.kernel ≡ s = cc in
-    State-at None (moved pt Line.Nothing pt.kernel) (moved pt Line.Nothing s) (ap (moved pt Line.Nothing) g) (by_line None pt Line.Nothing refl h h.stands (λ i. refl))
+    State-at None (moved pt Line.Nothing pt.kernel) (moved pt Line.Nothing s) (ap (moved pt Line.Nothing) (let g : pt.kernel ≡ s = cc in g)) (by_line None pt Line.Nothing refl h h.stands (λ i. refl))
 net_line pt (Line.Resent m n) is h s k =
-    let g : pt.kernel ≡ s = cc in
-    State-at None (moved pt (Line.Resent m n) pt.kernel) (moved pt (Line.Resent m n) s) (ap (moved pt (Line.Resent m n)) g) (by_line None pt (Line.Resent m n) refl h h.stands (λ i. refl))
+    State-at None (moved pt (Line.Resent m n) pt.kernel) (moved pt (Line.Resent m n) s) (ap (moved pt (Line.Resent m n)) (let g : pt.kernel ≡ s = cc in g)) (by_line None pt (Line.Resent m n) refl h h.stands (λ i. refl))
 net_line pt _ is h s k = absurd is
 
 net_row : (parts : List Part) (pt : Point) (w : Spelled) → IsNet parts → State None pt → spelled pt parts ≡ Some w → State None w.point
@@ -137,9 +131,8 @@ group_is b pt d w e =
     let (parts, is, more) = bind-is (rule.outcome b pt d) (λ parts. bind (after_line pt (Line.Head d)) (λ begun. bind (spelled begun parts) (λ w. Some (rule.behind (Line.Head d ∷ []) w)))) w e in
     let (start, head, last) = bind-is (after_line pt (Line.Head d)) (λ begun. bind (spelled begun parts) (λ w. Some (rule.behind (Line.Head d ∷ []) w))) w more in
     let (rest, told, end) = bind-is (spelled start parts) (λ w. Some (rule.behind (Line.Head d ∷ []) w)) w last in
-    let f : moved pt (Line.Head d) pt.kernel ≡ start = cc in
     let g : rule.behind (Line.Head d ∷ []) rest ≡ w = cc in
-    record { parts = parts; is = is; rest = rest; said = ap (λ p. spelled p parts) f ∙ told; point = ap (λ (x : Spelled). x.point) g; whole = g }
+    record { parts = parts; is = is; rest = rest; said = ap (λ p. spelled p parts) (let f : moved pt (Line.Head d) pt.kernel ≡ start = cc in f) ∙ told; point = ap (λ (x : Spelled). x.point) g; whole = g }
 
 -- every group keeps that each message stands once
 pub State-group : (b : Boot) (pt : Point) (d : Step) (w : Spelled) → group_of b pt d ≡ Some w → PairsFit pt.view → State None pt → State None w.point
@@ -158,11 +151,10 @@ State-group b pt (Step.Tick m) w e fits h =
 State-group b pt (Step.Deliver a c k) w e fits h =
     let g = group_is b pt (Step.Deliver a c k) w e in
     let parts = rule.arrives a c (pt.view.pair a c) (pt.view.pair c a) (slice_get (pt.view.pair a c).wire k) in
-    let f : parts ≡ g.parts = let t = g.is in cc in
     let start = moved pt (Line.Head (Step.Deliver a c k)) pt.kernel in
     State-at None g.rest.point w.point g.point
     (net_row parts start g.rest (arrives_net a c (pt.view.pair a c) (pt.view.pair c a) (slice_get (pt.view.pair a c).wire k))
-    (begun pt (Step.Deliver a c k) h (λ z. deliver_off pt.view a c k z) (λ i. refl)) (ap (spelled start) f ∙ g.said))
+    (begun pt (Step.Deliver a c k) h (λ z. deliver_off pt.view a c k z) (λ i. refl)) (ap (spelled start) (let f : parts ≡ g.parts = let t = g.is in cc in f) ∙ g.said))
 State-group b pt (Step.Migrate p m) w e fits h =
     let g = group_is b pt (Step.Migrate p m) w e in
     let f : migrates pt p ≡ g.parts = let k = g.is in cc in

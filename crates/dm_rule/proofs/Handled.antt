@@ -35,8 +35,7 @@ ends_row : (pt : Point) (p : Pid) (y : Why) (queue : List MsgId) (w : Spelled) �
 ends_row pt p y queue w h is e =
     let l = Label.End p y in
     let k = says_next pt (Line.Label l) (drop_parts queue) w e in
-    let next = moved pt (Line.Label l) k.s in
-    State-at None k.rest.point w.point k.point (all_dropped queue next p k.rest (quiet_label pt l k.s None h k.is (bag_end h.e pt.kernel k.s p y k.is) (λ z. ended_off pt.view p z) (λ i. refl)) is k.more)
+    State-at None k.rest.point w.point k.point (all_dropped queue (moved pt (Line.Label l) k.s) p k.rest (quiet_label pt l k.s None h k.is (bag_end h.e pt.kernel k.s p y k.is) (λ z. ended_off pt.view p z) (λ i. refl)) is k.more)
 
 -- what a call comes to
 called_row : (pt : Point) (p : Pid) (n : ℕ) (queue : List MsgId) (c : calls.Called) (w : Spelled) → State None pt → PairsFit pt.view → pt.view.queue pt.view.acting p ≡ queue → spelled pt (rule.called p n queue c) ≡ Some w → State None w.point
@@ -71,8 +70,7 @@ executes_row pt quantum p queue x r w h fits is e =
 
 awaited_if : (s : OneKernel) (mask : ℕ) (i : MsgId) (is : List MsgId) (id : MsgId) (b : Bool) → (if b then Some i else rule.first_awaited s mask is) ≡ Some id → (rule.first_awaited s mask is ≡ Some id → 1 ≤ times id is) → 1 ≤ times id (i ∷ is)
 awaited_if s mask i is id true e later =
-    let f : i ≡ id = cc in
-    let one : one_of id i ≡ 1 = ap (one_of id) f ∙ ap (λ (c : Bool). if c then 1 else 0) (id_eq-same id) in omega (arith, one)
+    let one : one_of id i ≡ 1 = ap (one_of id) (let f : i ≡ id = cc in f) ∙ ap (λ (c : Bool). if c then 1 else 0) (id_eq-same id) in omega (arith, one)
 awaited_if s mask i is id false e later = let k = later e in omega (arith, k)
 
 -- the message that a waiting process takes stands in its queue
@@ -314,8 +312,7 @@ comes_row : (b : Boot) (o pt : Point) (m : ℕ) (i : MsgId) (is : List MsgId) (t
 comes_row b o pt m i is None parts w h fits topic front sees there e n =
     hears_row b o pt m i is (o.view.told i) parts w h fits topic front (ap (λ (s : OneKernel). s.bag i) (sym sees.kernel) ∙ there) sees e n
 comes_row b o pt m i is (Some msg) parts w h fits topic front sees there e n =
-    let here : pt.kernel.bag i ≡ Some msg = ap (λ (s : OneKernel). s.bag i) (sym sees.kernel) ∙ there in
-    handles_by b o pt m i is msg (msg.to.num == 0) (pid_eq msg.to switchboard) (pid_eq msg.to manager) parts w h fits front here sees.kernel (sees.queue msg.to) refl refl e n
+    handles_by b o pt m i is msg (msg.to.num == 0) (pid_eq msg.to switchboard) (pid_eq msg.to manager) parts w h fits front (ap (λ (s : OneKernel). s.bag i) (sym sees.kernel) ∙ there) sees.kernel (sees.queue msg.to) refl refl e n
 
 pub turns_row : (b : Boot) (o pt : Point) (m : ℕ) (inbox : List MsgId) (parts : List Part) (w : Spelled) (h : State None pt) → PairsFit pt.view → pt.view.topic ≡ NothingElse → pt.view.inbox pt.view.acting ≡ inbox → SeesSame o pt m
     → rule.turns b o m inbox ≡ Some parts → spelled pt parts ≡ Some w → State None w.point

@@ -131,12 +131,10 @@ without_counts j i [] least = absurd (omega arith)
 without_counts j i (y ∷ ys) least = elim (cases_Bool (id_eq i y)) [
   | inl same ↦
       let is : i ≡ y = id_eq-is i y same in
-      let now : without_id i (y ∷ ys) ≡ ys = ap (λ (c : Bool). if c then ys else y ∷ without_id i ys) same in
-      let b : one_of j i ≡ one_of j y = ap (one_of j) is in omega (arith, (let a : times j (without_id i (y ∷ ys)) ≡ times j ys = ap (times j) now in a), b)
+      let b : one_of j i ≡ one_of j y = ap (one_of j) is in omega (arith, (let a : times j (without_id i (y ∷ ys)) ≡ times j ys = ap (times j) (ap (λ (c : Bool). if c then ys else y ∷ without_id i ys) same) in a), b)
   | inr apart ↦
-      let now : without_id i (y ∷ ys) ≡ y ∷ without_id i ys = ap (λ (c : Bool). if c then ys else y ∷ without_id i ys) apart in
       let deeper : 1 ≤ times i ys = omega (arith, least, (let none : one_of i y ≡ 0 = ap (λ (c : Bool). if c then 1 else 0) apart in none)) in
-      let k = without_counts j i ys deeper in omega (arith, (let a : times j (without_id i (y ∷ ys)) ≡ times j (y ∷ without_id i ys) = ap (times j) now in a), k)
+      let k = without_counts j i ys deeper in omega (arith, (let a : times j (without_id i (y ∷ ys)) ≡ times j (y ∷ without_id i ys) = ap (times j) (ap (λ (c : Bool). if c then ys else y ∷ without_id i ys) apart) in a), k)
 ]
 
 queue_off : (v : View) (p : Pid) (rest : List MsgId) (z : Spot) → z ≢ Queue v.acting p → ids_at (record v { queue = at_record v.queue v.acting p rest }) z ≡ ids_at v z
@@ -253,12 +251,10 @@ Stands-put-home bag v m i k x none untold full h =
       λ v m i k q z h1 h2 h3. grind (arith, nat_tests, at_machine_off, inbox_apart, pair_keeps) in
     let w = view.after_put v m m i k x in
     let t : Told = record { kind = k; receiver = x; about = v.topic } in
-    let home : (m == m) ≡ true = eq_self m in
-    let inbox : w.inbox ≡ at_machine v.inbox m (v.inbox m ++ i ∷ []) = ap (λ (c : Bool). if c then at_machine v.inbox m (v.inbox m ++ i ∷ []) else v.inbox) home in
-    let pair_same : untaken (view.routed_on m m (v.pair m m) i) ≡ untaken (v.pair m m) = put_home_untaken m (v.pair m m) i full in
+    let inbox : w.inbox ≡ at_machine v.inbox m (v.inbox m ++ i ∷ []) = ap (λ (c : Bool). if c then at_machine v.inbox m (v.inbox m ++ i ∷ []) else v.inbox) (eq_self m) in
     Stands-comes bag v w i x (Inbox m) none
     (λ j. ap (times j) (ap (λ f. f m) inbox ∙ at_machine_at v.inbox m (v.inbox m ++ i ∷ [])) ∙ one_more j i (v.inbox m))
-    (λ z apart. put_home_off v m i k x z apart inbox pair_same) (λ n p. refl) (λ j apart. told_off v i j (Some (view.first_told (v.told i) t)) apart) (told_at v i t x untold) h
+    (λ z apart. put_home_off v m i k x z apart inbox (put_home_untaken m (v.pair m m) i full)) (λ n p. refl) (λ j apart. told_off v i j (Some (view.first_told (v.told i) t)) apart) (told_at v i t x untold) h
 
 pub Stands-put-away : (bag : Bag) (v : View) (a b : ℕ) (i : MsgId) (k : MessageKind) (x : Pid) → (a == b) ≡ false → bag i ≡ None → (view.first_told (v.told i) (record { kind = k; receiver = x; about = v.topic })).receiver ≡ x → (v.pair a b).taken ≤ length (v.pair a b).ids
     → Stands bag v → Stands (having i x bag) (view.after_put v a b i k x)
@@ -267,11 +263,9 @@ Stands-put-away bag v a b i k x apart none untold within h =
     let t : Told = record { kind = k; receiver = x; about = v.topic } in
     let inbox : w.inbox ≡ v.inbox = ap (λ (c : Bool). if c then at_machine v.inbox b (v.inbox b ++ i ∷ []) else v.inbox) apart in
     let put_away_untaken : (a b : ℕ) (p : Pair) (i : MsgId) → (a == b) ≡ false → p.taken ≤ length p.ids → untaken (view.routed_on a b p i) ≡ untaken p ++ i ∷ [] = λ a b p i apart within.
-      let taken : (view.routed_on a b p i).taken ≡ p.taken = ap (λ (c : Bool). if c then p.taken + 1 else p.taken) apart in
-      ap (λ n. drop n (p.ids ++ i ∷ [])) taken ∙ drop-append-le p.taken p.ids (i ∷ []) within in
-    let more : untaken (view.routed_on a b (v.pair a b) i) ≡ untaken (v.pair a b) ++ i ∷ [] = put_away_untaken a b (v.pair a b) i apart within in
+      ap (λ n. drop n (p.ids ++ i ∷ [])) (ap (λ (c : Bool). if c then p.taken + 1 else p.taken) apart) ∙ drop-append-le p.taken p.ids (i ∷ []) within in
     Stands-comes bag v w i x (Untaken a b) none
-    (λ j. ap (times j) (ap untaken (pair_at v.pair a b (view.routed_on a b (v.pair a b) i)) ∙ more) ∙ one_more j i (untaken (v.pair a b)))
+    (λ j. ap (times j) (ap untaken (pair_at v.pair a b (view.routed_on a b (v.pair a b) i)) ∙ put_away_untaken a b (v.pair a b) i apart within) ∙ one_more j i (untaken (v.pair a b)))
     (λ z off. (let e_ : ids_at (view.after_put v a b i k x) z ≡ ids_at v z = search (arith, pair_off, untaken_apart) in e_)) (λ n p. refl) (λ j other. told_off v i j (Some (view.first_told (v.told i) t)) other) (told_at v i t x untold) h
 
 -- a message is taken: the oldest that wasn't goes to the inbox, or there is none
@@ -282,9 +276,8 @@ pub taken_by : (bag : Bag) (v : View) (a b n : ℕ) (o : Option MsgId) → slice
 taken_by bag v a b n None is h =
     let k = past_place (v.pair a b).ids (v.pair a b).taken is in
     let next : (v.pair a b).taken + 1 ≡ suc (v.pair a b).taken = omega arith in
-    let same : untaken (taken_pair (v.pair a b) n) ≡ untaken (v.pair a b) = ap (λ m. drop m (v.pair a b).ids) next ∙ k.1 ∙ sym k.0 in
     Stands-stays bag v (view.with_pair v a b (taken_pair (v.pair a b) n)) (λ z. elim z as (λ z_. ids_at (view.with_pair v a b (taken_pair (v.pair a b) n)) z_ ≡ ids_at v z_)
-    [ Untaken c d ↦ pair_keeps v.pair a b (taken_pair (v.pair a b) n) same c d | _ ↦ refl ]) (λ j. refl) h
+    [ Untaken c d ↦ pair_keeps v.pair a b (taken_pair (v.pair a b) n) (ap (λ m. drop m (v.pair a b).ids) next ∙ k.1 ∙ sym k.0) c d | _ ↦ refl ]) (λ j. refl) h
 taken_by bag v a b n (Some i) is h =
     let taken_off : (v : View) (a b n : ℕ) (i : MsgId) (z : Spot) → z ≢ Untaken a b → z ≢ Inbox b → ids_at (record (view.with_pair v a b (taken_pair (v.pair a b) n)) { inbox = at_machine v.inbox b (v.inbox b ++ i ∷ []) }) z ≡ ids_at v z =
       λ v a b n i z h1 h2. search (arith, at_machine_off, inbox_apart, pair_off, untaken_apart) in

@@ -5,9 +5,9 @@ pub mod Lines
 pub mod Migrating
 pub mod Turns
 pub mod Comes
-use Rattle.dm_rule.proofs.Names.{◌≡◌, ℕ, ◌≤◌, ◌==◌, ◌&&◌, Bool, true, false, List, [], ◌∷◌, refl, ap, ◌∙◌, sym, subst, arith, ◌≢◌, slice_get, Some, false≢true, nat_tests, Boot, bind, Step, Line, at_pair, View, Pair, first_view, marked}
-use Rattle.dm_rule.proofs.Names.{Point, after_line, first_point, Part, Says, Spelled, spelled, outstanding_count, resends, arrives, outcome, behind, group_of, PairStands, HomeStands, IsStep, Leads, PairsStandAlways, migrates, Pid}
-use Rattle.dm_rule.proofs.Pairs.Stand.{LoadStands, WireStands-at, set_same, set_other, WireStands-marked}
+use Rattle.dm_rule.proofs.Names.{◌≡◌, ℕ, ◌≤◌, ◌==◌, ◌&&◌, Bool, true, false, List, [], ◌∷◌, refl, ap, ◌∙◌, sym, subst, arith, ◌≢◌, slice_get, Some, nat_tests, Boot, bind, Step, Line, at_pair, View, Pair, first_view, marked, Point}
+use Rattle.dm_rule.proofs.Names.{after_line, first_point, Part, Says, Spelled, spelled, outstanding_count, resends, arrives, outcome, behind, group_of, PairStands, HomeStands, IsStep, Leads, PairsStandAlways, migrates, Pid}
+use Rattle.dm_rule.proofs.Pairs.Stand.{WireStands-at, set_same, set_other, WireStands-marked}
 use Rattle.dm_rule.proofs.Pairs.Moves.{Paired, changed, Goes}
 use Rattle.dm_rule.proofs.Pairs.Lines.{bind-is, line_view, AllFit, keeps}
 use Rattle.dm_rule.proofs.Pairs.Turns.{turns_fit, resends_fit}
@@ -59,12 +59,10 @@ deliver_keeps b pt a c k w apart g h =
     let is : g.begun.view.pair ≡ at_pair f a c (marked (f a c) k) = ap (λ (v : View). v.pair) (line_view pt g.begun (Line.Head (Step.Deliver a c k)) g.begins) in
     let goes : Goes f (at_pair f a c (marked (f a c) k)) = search (arith, changed, WireStands-marked) in
     let there : g.begun.view.pair a c ≡ marked (f a c) k = ap (λ (p : ℕ → ℕ → Pair). p a c) is ∙ set_same f a c (marked (f a c) k) in
-    let off : ((a == c) && (c == a)) ≡ false = grind (arith, nat_tests) in
-    let back : g.begun.view.pair c a ≡ f c a = ap (λ (p : ℕ → ℕ → Pair). p c a) is ∙ set_other f a c (marked (f a c) k) c a off in
+    let back : g.begun.view.pair c a ≡ f c a = ap (λ (p : ℕ → ℕ → Pair). p c a) is ∙ set_other f a c (marked (f a c) k) c a (let off : ((a == c) && (c == a)) ≡ false = grind (arith, nat_tests) in off) in
     let parts : arrives a c (f a c) (f c a) (slice_get (f a c).wire k) ≡ g.parts = let x = g.follows in cc in
     let on : spelled g.begun (arrives a c (f a c) (f c a) (slice_get (f a c).wire k)) ≡ Some g.rest = ap (spelled g.begun) parts ∙ g.on in
-    let r : Pairs g.rest.point.view = arrives_keep g.begun a c k (f a c) (f c a) (slice_get (f a c).wire k) g.rest refl ac ca there back (h.stand.apart a c ac) (subst Paired (sym is) goes.paired) on in
-    subst (λ (q : Point). Pairs q.view) g.end r
+    subst (λ (q : Point). Pairs q.view) g.end (arrives_keep g.begun a c k (f a c) (f c a) (slice_get (f a c).wire k) g.rest refl ac ca there back (h.stand.apart a c ac) (subst Paired (sym is) goes.paired) on)
 
 migrate_keeps : (b : Boot) (pt : Point) (p : Pid) (m : ℕ) (w : Spelled) → Group b pt (Step.Migrate p m) w → Pairs pt.view → Pairs w.point.view
 migrate_keeps b pt p m w g h =
@@ -76,8 +74,7 @@ pub Pairs-group : (b : Boot) (pt : Point) (e : Step) (w : Spelled) → IsStep pt
 Pairs-group b pt (Step.Turn m) w fits is h =
     let turn_keeps : (b : Boot) (pt : Point) (m : ℕ) (w : Spelled) → Group b pt (Step.Turn m) w → Pairs pt.view → Pairs w.point.view = λ b pt m w g h.
       let is : g.begun.view.pair ≡ pt.view.pair = ap (λ (v : View). v.pair) (line_view pt g.begun (Line.Head (Step.Turn m)) g.begins) in
-      let k : Pairs g.rest.point.view = keeps g.parts g.begun g.rest (turns_fit g.begun.view.pair b pt m (pt.view.inbox m) g.parts g.follows) (subst Paired (sym is) h) g.on in
-      subst (λ (q : Point). Pairs q.view) g.end k in
+      subst (λ (q : Point). Pairs q.view) g.end (keeps g.parts g.begun g.rest (turns_fit g.begun.view.pair b pt m (pt.view.inbox m) g.parts g.follows) (subst Paired (sym is) h) g.on) in
     turn_keeps b pt m w (group b pt (Step.Turn m) w is) h
 Pairs-group b pt (Step.Tick m) w fits is h = tick_keeps b pt m w (group b pt (Step.Tick m) w is) h
 Pairs-group b pt (Step.Deliver a c k) w fits is h = deliver_keeps b pt a c k w fits.2 (group b pt (Step.Deliver a c k) w is) h

@@ -1,5 +1,5 @@
 -- The test for quiet decides whether all is quiet.
-use Rattle.dm_rule.proofs.Names.{◌≡◌, ◌≢◌, ℕ, ◌<◌, ◌==◌, ◌&&◌, Bool, true, false, not, List, [], ◌∷◌, length, nat_lt, refl, ap, ◌∙◌, sym, arith, ◌||◌, false≢true, nat_tests, MsgId, all_below, all_of_each, both_true, each_of_all, left_true}
+use Rattle.dm_rule.proofs.Names.{◌≡◌, ℕ, ◌<◌, ◌==◌, ◌&&◌, Bool, true, false, not, List, [], ◌∷◌, length, nat_lt, refl, ap, ◌∙◌, sym, arith, ◌||◌, false≢true, nat_tests, MsgId, all_below, all_of_each, both_true, each_of_all, left_true}
 use Rattle.dm_rule.proofs.Names.{right_true, QuietIsTested, IsQuiet, has_mail, is_quiet, pair_is_quiet, Pair, View, eq-eqb, ne_eqb, eqb-true}
 pub use Rattle.std.proofs.lemmas.Bool.{eq-eqb as eq_is, ne_eqb as eq_not}
 

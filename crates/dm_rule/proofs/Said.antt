@@ -1,7 +1,7 @@
 -- A line is said, alone or before a message that is routed.
 use Rattle.dm_rule.proofs.Names.{◌≡◌, [], ◌∷◌, None, Some, MsgId, OneKernel, Line, View, view_after, Point, label_of, kernel_after, moved, seen, Says, Routes, Spelled, spelled, arith, List, Part, bind-is, lines_of, bind, after, behind, ◌∙◌}
-use Rattle.dm_rule.proofs.States.{State, says_next, said, State-at, PairsFit, PutNext, puts_next, by_packet, by_put}
 use Rattle.dm_rule.proofs.Names.{puts, Receiver, plain_kind, sym}
+use Rattle.dm_rule.proofs.States.{State, says_next, said, State-at, PairsFit, PutNext, puts_next, by_packet, by_put}
 
 pub fits_as : (v w : View) → w.pair ≡ v.pair → PairsFit v → PairsFit w
 fits_as v w e h = search arith

@@ -1,8 +1,8 @@
 -- A turn that serves a process, or handles a message of the bag: what comes of it, row by row. Whatever holds of the parts of each row holds of what comes of the turn.
-use Rattle.dm_rule.proofs.Names.{◌≡◌, ℕ, ◌+◌, ◌==◌, ◌||◌, Bool, true, false, List, [], ◌∷◌, refl, subst, length, if◌then◌else◌, slice_get, Option, None, Some, Pid, pid_of, pid_eq, MsgId, MessageKind, Label, Reply, Why, plain_kind}
-use Rattle.dm_rule.proofs.Names.{PlainMessage, PlainWhat, instruction, BootImage, Boot, first_number, switchboard, manager, PlainProcess, PlainStatus, Ready, Waiting, Moving, answer_id, with_machine, Line, Known, Here, Frozen, Incoming}
-use Rattle.dm_rule.proofs.Names.{Forward, Ended, Addresses, Sender, Point, Part, Says, Routes, Again, Owns, forwards_on, Room, says, drop_parts, called, stops, executes, ran, reception_parts, first_awaited, serves_status, goes_round}
-use Rattle.dm_rule.proofs.Names.{free_room, creation_parts, kernel_handles, routes, board_took, manager_parts, here_handles, ended_handles, process_handles, bind-is, Outcome, answers_move, leaves_for, arith, machine_of}
+use Rattle.dm_rule.proofs.Names.{◌≡◌, ℕ, ◌+◌, ◌==◌, ◌||◌, Bool, true, false, List, [], ◌∷◌, refl, length, if◌then◌else◌, Option, None, Some, Pid, pid_of, pid_eq, MsgId, MessageKind, Label, Reply, Why, plain_kind, PlainMessage, PlainWhat}
+use Rattle.dm_rule.proofs.Names.{instruction, Boot, first_number, switchboard, manager, PlainProcess, PlainStatus, Ready, Waiting, Moving, answer_id, with_machine, Line, Known, Here, Frozen, Incoming, Forward, Ended, Addresses, Sender}
+use Rattle.dm_rule.proofs.Names.{Point, Part, Says, Routes, Again, Owns, forwards_on, says, drop_parts, called, stops, executes, ran, first_awaited, serves_status, goes_round, kernel_handles, routes, board_took, manager_parts, here_handles}
+use Rattle.dm_rule.proofs.Names.{ended_handles, process_handles, bind-is, Outcome, answers_move, leaves_for, arith, machine_of}
 use Rattle.dm_onekernel.specs.Calls as calls
 use Rattle.dm_onekernel.specs.Pieces as pieces
 use Rattle.dm_onekernel.specs.Switchboard as board

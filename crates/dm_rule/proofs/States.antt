@@ -1,8 +1,7 @@
 -- Each group keeps that each message stands once.
 use Rattle.dm_rule.proofs.Names.{◌≡◌, ℕ, ◌+◌, ◌≤◌, ◌==◌, Bool, true, false, List, [], ◌∷◌, refl, ap, ◌∙◌, sym, subst, arith, length, inl, inr, if◌then◌else◌, Option, None, Some, cases_Bool, nat_tests, Pid, MsgId, MessageKind, plain_kind}
-use Rattle.dm_rule.proofs.Names.{id_eq, PlainMessage, Label, bind, OneKernel, Line, Load, View, Told, view_after, Receiver, Point, label_of, kernel_after, moved, seen, after_line, after, Part, Says, Routes, Transmits, Spelled, lines_of}
-use Rattle.dm_rule.proofs.Names.{puts, goes_out, packet_line, behind, spelled, Spot, Untaken, ids_at, entry, in_bag, reception, id_eq-is, Sound, bind-is, after_step, false≢true, pid_of, id_of, at_machine, is_kernels, false_from_ne_true}
-use Rattle.dm_rule.proofs.Names.{eqb-true}
+use Rattle.dm_rule.proofs.Names.{id_eq, PlainMessage, Label, bind, OneKernel, Line, Load, View, Told, view_after, Point, label_of, kernel_after, moved, seen, after_line, after, Part, Says, Transmits, Spelled, lines_of, puts, goes_out}
+use Rattle.dm_rule.proofs.Names.{packet_line, behind, spelled, Spot, Untaken, ids_at, entry, in_bag, reception, id_eq-is, Sound, bind-is, after_step, false≢true, pid_of, id_of, at_machine, is_kernels, false_from_ne_true, eqb-true}
 use Rattle.dm_onekernel.specs.Step as kernel
 use Rattle.dm_rule.specs.View as view
 use Rattle.dm_rule.proofs.Hushed.{is_put, hushed}
@@ -135,9 +134,8 @@ pub numbered_put : (v : View) (a b : ℕ) (i : MsgId) (k : MessageKind) (q : Pid
 numbered_put v a b i k q other untold h m n le =
     -- a put of a message that is no kernel's own leaves the kernels' counts, and what is told of theirs
     let not_own : view.is_own i (v.told i) ≡ false = grind (arith, nat_tests) in
-    let count : (view.after_put v a b i k q).count ≡ v.count = ap (λ (c : Bool). if c then at_machine v.count i.from.home (v.count i.from.home + 1) else v.count) not_own in
     let kernels_id : id_eq i (id_of (pid_of m 0) n) ≡ false = false_from_ne_true (id_eq i (id_of (pid_of m 0) n)) (λ e. let is = id_eq-is i (id_of (pid_of m 0) n) e in false≢true (sym other ∙ ap is_kernels is)) in
-    put_told_off v a b i (id_of (pid_of m 0) n) k q kernels_id ∙ h m n (subst (λ (f : ℕ → ℕ). f m ≤ n) count le)
+    put_told_off v a b i (id_of (pid_of m 0) n) k q kernels_id ∙ h m n (subst (λ (f : ℕ → ℕ). f m ≤ n) (ap (λ (c : Bool). if c then at_machine v.count i.from.home (v.count i.from.home + 1) else v.count) not_own) le)
 
 pub by_put : (pt : Point) (b : ℕ) (i : MsgId) (x : PlainMessage) → pt.kernel.bag i ≡ Some x → PairsFit pt.view → State (Some i) pt → State None (moved pt (Line.Put pt.view.acting b i (plain_kind x.what) x.to) pt.kernel)
 by_put pt b i x is fits h =
@@ -149,17 +147,15 @@ by_put pt b i x is fits h =
     let v = pt.view in
     let bag = letters h.own pt.kernel.bag in
     let untold : v.told i ≡ None = h.pending i refl in
-    let least = in_bag_entered h.r h.e pt.kernel i x is h.sound in
-    let others = not_kernels h.r h.e pt.kernel i x is h.sound in
     let there = letter_of h.r h.e h.own pt.kernel i x is h.sound in
     record {
       own = h.own;
-      numbered = numbered_put v v.acting b i (plain_kind x.what) x.to others untold h.numbered;
+      numbered = numbered_put v v.acting b i (plain_kind x.what) x.to (not_kernels h.r h.e pt.kernel i x is h.sound) untold h.numbered;
       r = h.r;
       e = h.e;
       sound = h.sound;
       stands = Stands-same (having i x.to (hidden (Some i) bag)) bag (view_after v l) (having_back bag i x.to there) (put_stands (hidden (Some i) bag) v b i (plain_kind x.what) x.to (v.acting == b) refl (hidden_at bag i) (untold_tells (v.told i) (record { kind = plain_kind x.what; receiver = x.to; about = v.topic }) untold) fits h.stands);
-      untold = λ j zero_ other. put_told_off v v.acting b i j (plain_kind x.what) x.to (not_same h.e i j least zero_) ∙ h.untold j zero_ other;
+      untold = λ j zero_ other. put_told_off v v.acting b i j (plain_kind x.what) x.to (not_same h.e i j (in_bag_entered h.r h.e pt.kernel i x is h.sound) zero_) ∙ h.untold j zero_ other;
       pending = λ j k. cc;
       there = λ j k. cc;
     }

@@ -11,10 +11,10 @@ use Rattle.dm_rule.proofs.Hushed.{is_put, hushed}
 use Rattle.dm_rule.proofs.States.{put_told_off, numbered_as, numbered_put}
 use Rattle.dm_rule.proofs.Moves.States.{not_first, own_numbered}
 use Rattle.dm_rule.specs.Rule as rule
-use Rattle.dm_rule.proofs.Pairs.Lines.{touches, AllFit}
+use Rattle.dm_rule.proofs.Pairs.Lines.{AllFit}
 use Rattle.dm_rule.proofs.Pairs.Turns.{turns_fit}
 use Rattle.dm_rule.proofs.Pairs.Migrating.{migrates_fit}
-use Rattle.dm_rule.proofs.Groups.{IsNetLine, IsNet, arrives_net, resends_net, group_is}
+use Rattle.dm_rule.proofs.Groups.{IsNet, arrives_net, resends_net, group_is}
 use Rattle.dm_rule.proofs.Bags.{cases_zero}
 
 -- a kernel's own numbers from its count on were never put
@@ -164,8 +164,7 @@ AllSayable (p ∷ ps) = Sayable p × AllSayable ps
 
 one_line : (pt next : Point) (l : Line) (ls : List Line) → is_put l ≡ false → Some (l ∷ []) ≡ Some ls → after pt ls ≡ Some next → Sane pt → Sane next
 one_line pt next l ls quiet is leads h =
-    let f : l ∷ [] ≡ ls = cc in
-    let (mid, first, last) = bind-is (after_line pt l) (λ q. after q []) next (ap (after pt) f ∙ leads) in
+    let (mid, first, last) = bind-is (after_line pt l) (λ q. after q []) next (ap (after pt) (let f : l ∷ [] ≡ ls = cc in f) ∙ leads) in
     let g : mid ≡ next = cc in subst Sane g (sane_line pt mid l quiet first h)
 
 pub part_sane : (pt next : Point) (p : Part) (ls : List Line) → Sayable p → lines_of pt p ≡ Some ls → after pt ls ≡ Some next → Sane pt → Sane next

@@ -98,13 +98,10 @@ queue_front pt s j js p h front is =
     let one : 1 ≤ times j (v.queue v.acting p) = (let a : times j (v.queue v.acting p) ≡ times j (j ∷ js) = ap (times j) front in let b : one_of j j ≡ 1 = ap (λ (c : Bool). if c then 1 else 0) (id_eq-same j) in omega (arith, a, b)) in
     let (x, there, rest) = bind-is (pt.kernel.bag j) (λ m. bind (kernel.why_ended (pt.kernel.processes m.to)) (kernel.drops pt.kernel j m)) s is in
     let letter : letters h.own pt.kernel.bag j ≡ Some x.to = letter_of h.r h.e h.own pt.kernel j x there h.sound in
-    let mine : x.to ≡ p = h.stands.mine v.acting p j x.to one letter in
-    let told : receiver_of (v.told j) ≡ Some p = h.stands.told j x.to letter ∙ ap Some mine in
     let no_inbox : times j (v.inbox v.acting) ≡ 0 = StandsAsBag-elsewhere (letters h.own pt.kernel.bag j) (standing v j) (Queue v.acting p) (Inbox v.acting) one (spots_differ v.acting v.acting p) (h.stands.kept j) in
-    let rest_ = without_front j (v.queue v.acting p) in
     by_label pt (Label.Dropped j) s (Some j) None h is (gone_out pt (Label.Dropped j) s j h is refl) (bag_dropped h.e pt.kernel s j is)
-    (Stands-dequeued (letters h.own pt.kernel.bag) v (view_after v (Line.Label (Label.Dropped j))) j p rest_ (λ i. front_counts i j (v.queue v.acting p) js front)
-    (λ z. dequeued_off v j p (receiver_of (v.told j)) told no_inbox z) (λ i. dropped_told v j (receiver_of (v.told j)) i) h.stands)
+    (Stands-dequeued (letters h.own pt.kernel.bag) v (view_after v (Line.Label (Label.Dropped j))) j p (without_front j (v.queue v.acting p)) (λ i. front_counts i j (v.queue v.acting p) js front)
+    (λ z. dequeued_off v j p (receiver_of (v.told j)) (h.stands.told j x.to letter ∙ ap Some (h.stands.mine v.acting p j x.to one letter)) no_inbox z) (λ i. dropped_told v j (receiver_of (v.told j)) i) h.stands)
     (λ i. dropped_told v j (receiver_of (v.told j)) i)
 
 queue_told : (pt : Point) (j : MsgId) (js : List MsgId) (p : Pid) (s : OneKernel) → State None pt → pt.view.queue pt.view.acting p ≡ j ∷ js → kernel.step pt.kernel (Label.Dropped j) ≡ Some s → receiver_of (pt.view.told j) ≡ Some p
@@ -127,5 +124,4 @@ all_dropped (j ∷ js) pt p w h front e =
     [ None ↦ refl | Some p ↦ refl ] in
     -- its queue after one was dropped
     let dropped_queue : (view.dropped_for (handled pt.view j) j (receiver_of (pt.view.told j))).queue pt.view.acting p ≡ js = search (arith, eq_self, pid_eq-same, id_eq-same) in
-    let left : next.view.queue next.view.acting p ≡ js = ap (λ m. next.view.queue m p) acting ∙ dropped_queue in
-    State-at None k.rest.point w.point k.point (all_dropped js next p k.rest (queue_front pt k.s j js p h front is) left k.more)
+    State-at None k.rest.point w.point k.point (all_dropped js next p k.rest (queue_front pt k.s j js p h front is) (ap (λ m. next.view.queue m p) acting ∙ dropped_queue) k.more)

@@ -1,6 +1,6 @@
 -- A step that is not of a process leaves its plain value.
 use Rattle.dm_rule.proofs.Names.{◌≡◌, ◌≢◌, ℕ, ◌+◌, ◌==◌, ◌&&◌, Bool, true, false, List, refl, ap, ⊤, if◌then◌else◌, slice_get, Option, None, Some, Pid, pid_of, pid_eq, PlainLink, MsgId, id_eq, Called, PlainMessage, PlainWhat, BootImage}
-use Rattle.dm_rule.proofs.Names.{Label, Reply, Why, first_number, reply_eq, bind, when, PlainProcess, Life, Alive, OneKernel, with_process, with_sent, answer_to, without_message, begun, IsOthers, pid_eq-is, MoveNote, Outcome, arith}
+use Rattle.dm_rule.proofs.Names.{Label, Reply, first_number, reply_eq, bind, when, PlainProcess, Life, Alive, OneKernel, with_process, with_sent, answer_to, without_message, begun, IsOthers, pid_eq-is, MoveNote, Outcome, arith}
 use Rattle.dm_rule.proofs.Names.{false_from_ne_true}
 use Rattle.dm_onekernel.specs.Pieces as pieces
 use Rattle.dm_onekernel.specs.Receiving as receiving

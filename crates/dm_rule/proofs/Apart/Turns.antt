@@ -1,8 +1,8 @@
 -- A kernel's own message, a turn, and the other directives: the labels of a group are other processes'.
-use Rattle.dm_rule.proofs.Names.{◌≡◌, ◌≢◌, ℕ, ◌+◌, List, [], ◌∷◌, refl, ap, ◌∙◌, sym, Option, None, Some, Pid, pid_of, MsgId, PlainMessage, Boot, first_number, OneKernel, Line, Told, Here, Point, label_of, Part, Says, Transmits, migrates}
-use Rattle.dm_rule.proofs.Names.{Spares, arith}
+use Rattle.dm_rule.proofs.Names.{◌≡◌, ◌≢◌, ℕ, ◌+◌, List, [], ◌∷◌, refl, ap, ◌∙◌, sym, Option, None, Some, Pid, pid_of, MsgId, PlainMessage, Boot, first_number, OneKernel, Line, Here, Point, label_of, Part, Says, Transmits, migrates, Spares}
+use Rattle.dm_rule.proofs.Names.{arith}
 use Rattle.dm_rule.specs.Rule as rule
-use Rattle.dm_rule.proofs.Groups.{IsNetLine, IsNet}
+use Rattle.dm_rule.proofs.Groups.{IsNet}
 use Rattle.dm_rule.proofs.Apart.Rows.{AllApart, ApartOf, apart_first, ForOther, round_apart, handles_apart}
 use Rattle.dm_rule.proofs.Requests.{by_migrates}
 use Rattle.dm_rule.proofs.Hearing.{IsHeardLine, hears_kept}

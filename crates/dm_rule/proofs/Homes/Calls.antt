@@ -159,9 +159,8 @@ HomeNext P v a p x (kernel.Faults fault) = ⊤
 next_row_home : (P : Pid → Place → Type 0) (v : View) (a : Addresses) (p : Pid) (x : PlainProcess) (w : Row) (n : kernel.Trap) → instruction x.regs x.memory ≡ w → kernel.next_row p x w ≡ Some n → P p (acting_place v p) → HomeProcess P a p x → HomeNext P v a p x n
 next_row_home P v a p x (Row.Plain regs bytes) n w e is h = cc
 next_row_home P v a p x (Row.Calls number regs) n w e is h =
-    let f : regs ≡ past x.regs = past_call x.regs x.memory number regs w in
     let g : kernel.Calls number (calls.call p (record x { regs = regs }) number) ≡ n = cc in
-    subst (HomeNext P v a p x) (ap (λ (r : Regs). kernel.Calls number (calls.call p (record x { regs = r }) number)) (sym f) ∙ g) (does_call_home P v a p x (calls.call_number number) is h)
+    subst (HomeNext P v a p x) (ap (λ (r : Regs). kernel.Calls number (calls.call p (record x { regs = r }) number)) (sym (past_call x.regs x.memory number regs w)) ∙ g) (does_call_home P v a p x (calls.call_number number) is h)
 next_row_home P v a p x (Row.Faults fault) n w e is h = let g : kernel.Faults fault ≡ n = cc in subst (HomeNext P v a p x) g tt
 
 pub record Nexts (P : Pid → Place → Type 0) (v : View) (s : OneKernel) (a : Addresses) (p : Pid) (n : kernel.Trap) : Type 0 where

@@ -28,8 +28,7 @@ ask_first (l ∷ ls) ms h = (h.0, ask_first ls ms h.1)
 not_asked : (pt : Point) (id : MsgId) (p : Part) (ls : List Line) → p ≡ Says (Line.Label (Label.Asked id)) → lines_of pt p ≡ Some ls → AskNone ls → ⊥
 not_asked pt id p ls is lines none =
     let f : Some (Line.Label (Label.Asked id) ∷ []) ≡ Some ls = ap (lines_of pt) (sym is) ∙ lines in
-    let g : ls ≡ Line.Label (Label.Asked id) ∷ [] = cc in
-    (subst AskNone g none).0
+    (subst AskNone (let g : ls ≡ Line.Label (Label.Asked id) ∷ [] = cc in g) none).0
 
 rings_queued : (v : View) (id : MsgId) (o : Option Pid) → RingsHome v → RingsHome (queued_for v id o)
 rings_queued v id None h = h
@@ -40,9 +39,8 @@ queued_keeps r e pt pt' id at h is =
     -- queued
     let queue_lists : (s : OneKernel) (e : MsgId → ℕ) (v : View) (id : MsgId) → stands s e v.acting id ≡ true → ListsHome s e v → ListsHome s e (queued_for (handled v id) id (view.receiver_of (v.told id))) =
       λ s e v id at h. search (arith, queue_set, all_stand_last, handled_lists s e v id h) in
-    let f : moved pt (Line.Queued id) pt.kernel ≡ pt' = cc in
     let w = handled pt.view id in
-    subst (Kept pt.view.acting) f ((search (arith, rings_queued, rings_same, queue_lists, queued_acting)))
+    subst (Kept pt.view.acting) (let f : moved pt (Line.Queued id) pt.kernel ≡ pt' = cc in f) ((search (arith, rings_queued, rings_same, queue_lists, queued_acting)))
 
 pub first_keeps : NoneReplaced → (r e : MsgId → ℕ) (pt pt' : Point) (p : Part) (ls : List Line) → FirstGood pt.kernel e pt.view.acting p → Home r e pt → lines_of pt p ≡ Some ls → after pt ls ≡ Some pt' → Kept pt.view.acting pt'
 first_keeps none r e pt pt' p ls good h is next = elim good [
@@ -57,12 +55,11 @@ good_keep none (p ∷ ps) r e m pt w acting at h is ask =
     let (next, comes, last) = bind-is (after pt ls) (λ (q : Point). bind (spelled q ps) (λ (z : Spelled). Some (behind ls z))) w rest in
     let (z, more, end) = bind-is (spelled next ps) (λ (y : Spelled). Some (behind ls y)) w last in
     let f : behind ls z ≡ w = cc in
-    let first : AskNone ls = ask_first ls z.lines (subst (λ (x : Spelled). AskNone x.lines) (sym f) ask) in
     elim at [
       | inl good ↦
           let k = first_keeps none r e pt next p ls (subst (λ (n : ℕ). FirstGood pt.kernel e n p) (sym acting) good.0) h lines comes in
           subst (λ (x : Spelled). Kept m x.point) f (parts_keep none ps k.r k.e m next z (k.acting ∙ acting) good.1 k.home more)
-      | inr asked ↦ absurd (not_asked pt asked.0 p ls asked.1 lines first)
+      | inr asked ↦ absurd (not_asked pt asked.0 p ls asked.1 lines (ask_first ls z.lines (subst (λ (x : Spelled). AskNone x.lines) (sym f) ask)))
     ]
 
 -- the head

@@ -1,6 +1,6 @@
 -- Each label keeps addresses where they may be, as at homes, and what it does to the rings too.
 use Rattle.dm_rule.proofs.Names.{◌≡◌, ℕ, ◌==◌, ◌&&◌, Bool, true, false, not, List, [], ◌∷◌, ◌++◌, refl, ap, ◌∙◌, arith, ⊤, if◌then◌else◌, filter, Option, None, Some, nat_tests, Pid, Place, pid_eq, MsgId, MessageKind, Label, OneKernel, Why}
-use Rattle.dm_rule.proofs.Names.{at_machine, at_record, without, moved_back, View, Told, Known, Frozen, Incoming, Forward, after_label, served_told, ends_by, Addresses, given, gives, acting_place, are_home, sort_of, and_parts, bind-is}
+use Rattle.dm_rule.proofs.Names.{at_machine, at_record, without, moved_back, View, Told, Known, Frozen, Incoming, Forward, served_told, ends_by, Addresses, given, gives, acting_place, are_home, sort_of, and_parts, bind-is}
 use Rattle.dm_rule.proofs.Homes.{IsHome, AtHome}
 use Rattle.dm_rule.proofs.Homes.Steps.{ran_home, call_home, send_home, end_row, wait_home, out_home}
 use Rattle.dm_rule.proofs.Homes.Receives.{receive_home, refuse_home}
@@ -8,9 +8,6 @@ use Rattle.dm_rule.proofs.Homes.Serves.{Named, ReceivedAt, ServedAt, EndedAt, dr
 use Rattle.dm_rule.proofs.Homes.Manager.{took_home}
 use Rattle.dm_onekernel.specs.Step as kernel
 use Rattle.dm_rule.specs.View as view
-use Rattle.dm_rule.proofs.Homes.Rows.{home_goes}
-use Rattle.dm_rule.proofs.Homes.Calls.{next_home}
-use Rattle.dm_rule.proofs.Names.{Reply, when-is}
 
 -- a label is said where its process is at home, or where its message's receiver is
 abbrev pub SaidAt : OneKernel → ℕ → Label → Type 0

@@ -1,12 +1,12 @@
 -- Each line that is said where it belongs keeps all of it: addresses, rings and lists; so do the parts of a group.
 use Rattle.dm_rule.proofs.Names.{◌≡◌, ℕ, ◌+◌, ◌≤◌, ◌==◌, ◌&&◌, Bool, true, false, List, [], ◌∷◌, length, refl, ap, ◌∙◌, sym, subst, is_some, arith, nat_le, if◌then◌else◌, Option, None, Some, nat_tests, Pid, Place, MsgId, MessageKind}
-use Rattle.dm_rule.proofs.Names.{plain_kind, PlainMessage, Boot, Label, IsValid, OneKernel, entry, in_bag, reception, Sound, bind-is, after_step, start-sound, Line, Load, untaken, View, Pair, Told, after_label, after_put, handled, ◌||◌}
-use Rattle.dm_rule.proofs.Names.{pid_eq, PlainWhat, BootProcess, switchboard, manager, Known, Unknown, Here, known_at, Addresses, Receiver, Gets, given, own_given, first_gives, addresses_after, Point, first_point, after, after_line, moved}
-use Rattle.dm_rule.proofs.Names.{Routes, lines_of, puts, packet_line, goes_out, Homes, is_for_home, gives, topic_by, About, sort_of}
+use Rattle.dm_rule.proofs.Names.{plain_kind, PlainMessage, Boot, Label, IsValid, OneKernel, entry, in_bag, reception, Sound, bind-is, after_step, start-sound, Line, Load, untaken, View, Pair, Told, after_label, after_put, handled}
+use Rattle.dm_rule.proofs.Names.{PlainWhat, BootProcess, known_at, Addresses, Receiver, Gets, given, own_given, first_gives, addresses_after, Point, first_point, after, after_line, moved, Routes, lines_of, puts, packet_line, goes_out}
+use Rattle.dm_rule.proofs.Names.{Homes, is_for_home, gives, topic_by, About, sort_of}
 use Rattle.std.proofs.Common.{is_none}
 use Rattle.dm_rule.proofs.Homes.{IsHome, AtHome, homes_are}
 use Rattle.dm_rule.proofs.Homes.Start.{start_at_home, Homes-start}
-use Rattle.dm_rule.proofs.Homes.Labels.{SaidAt, RingsHome, is_still, rings_same, label_on, SaidOn, rings_set, back_home, known_set, without_home, dropped_rings, told_rings, joins_home, label_home}
+use Rattle.dm_rule.proofs.Homes.Labels.{SaidAt, RingsHome, is_still, rings_same, rings_set, back_home, known_set, without_home, dropped_rings, told_rings, joins_home, label_home}
 use Rattle.dm_rule.proofs.Homes.Lists.{stands, ListsHome, Old, label_lists, pair_set, are_for, inbox_if, inbox_set, all_stand_last, routed_stands, stand_on}
 use Rattle.dm_onekernel.specs.Step as kernel
 use Rattle.dm_rule.specs.View as view
@@ -101,12 +101,9 @@ first_none (Some t) gs e = refl
 routed_home : (r e : MsgId → ℕ) (pt : Point) (id : MsgId) (m : PlainMessage) (b : ℕ) → pt.kernel.bag id ≡ Some m → b ≡ m.to.home → Home r e pt → Home r e (moved pt (Line.Put pt.view.acting b id (plain_kind m.what) m.to) pt.kernel)
 routed_home r e pt id m b there is h =
     let w = after_put pt.view pt.view.acting b id (plain_kind m.what) m.to in
-    let few = h.sound.entered.fewer id in
-    let one : in_bag (pt.kernel.bag id) ≡ 1 = ap in_bag there in
-    let entered : 1 ≤ e id = omega (arith, few, one) in
-    let first : nat_le 1 (e id) ≡ true = grind (arith, nat_tests) in
+    let entered : 1 ≤ e id = omega (arith, h.sound.entered.fewer id, ap in_bag there) in
     let second : is_for_home b (pt.kernel.bag id) ≡ true = ap (is_for_home b) there ∙ (let f : (m.to.home == b) ≡ true = grind (arith, nat_tests) in f) in
-    let at : stands pt.kernel e b id ≡ true = ap (λ (c : Bool). c && is_for_home b (pt.kernel.bag id)) first ∙ second in
+    let at : stands pt.kernel e b id ≡ true = ap (λ (c : Bool). c && is_for_home b (pt.kernel.bag id)) (let first : nat_le 1 (e id) ≡ true = grind (arith, nat_tests) in first) ∙ second in
     let put_lists : ListsHome pt.kernel e (after_put pt.view pt.view.acting b id (plain_kind m.what) m.to) = search (arith, inbox_if, inbox_set, all_stand_last, pair_set, routed_stands, h.lists) in
     let put_at_home : (s : OneKernel) (v : View) (a : Addresses) (from b : ℕ) (id : MsgId) (w : PlainWhat) (q : Pid) → AtHome IsHome s a → AtHome IsHome s (addresses_after s v a (Line.Put from b id (plain_kind w) q)) =
       λ s v a from b id w q h. subst (AtHome IsHome s) (sym (ap (given a) (first_none (v.told id) (own_given s v a id q (sort_of (plain_kind w))) (own_none s v a id q w)))) h in
@@ -133,5 +130,4 @@ label_keeps none r e pt pt' l at h is =
     let (mid, first, last) = bind-is (after_line pt (Line.Label l)) (λ (x : Point). after x []) pt' is in
     let (t, step, then_) = bind-is (kernel.step pt.kernel l) (λ (s : OneKernel). Some (moved pt (Line.Label l) s)) mid first in
     let f : moved pt (Line.Label l) t ≡ mid = cc in
-    let g : mid ≡ pt' = cc in
-    subst (Kept pt.view.acting) (f ∙ g) (record { r = λ i. r i + reception i l; e = λ i. e i + entry i pt.kernel t; home = label_line none r e pt l t step at h; acting = acting_label pt.view l })
+    subst (Kept pt.view.acting) (f ∙ (let g : mid ≡ pt' = cc in g)) (record { r = λ i. r i + reception i l; e = λ i. e i + entry i pt.kernel t; home = label_line none r e pt l t step at h; acting = acting_label pt.view l })

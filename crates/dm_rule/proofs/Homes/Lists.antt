@@ -1,7 +1,7 @@
 -- Each message stands where its receiver is at home: what lines do to the lists that messages stand in.
 use Rattle.dm_rule.proofs.Names.{◌≡◌, ℕ, zero, suc, ◌+◌, ◌≤◌, ◌==◌, ◌&&◌, Bool, true, false, List, [], ◌∷◌, ◌++◌, drop, refl, ap, ◌∙◌, sym, arith, nat_le, if◌then◌else◌, slice_get, Option, None, Some, nat_tests, Pid, MsgId, id_eq}
-use Rattle.dm_rule.proofs.Names.{MessageKind, PlainMessage, Label, OneKernel, at_machine, at_pair, at_record, without_id, without_front, untaken, View, Pair, after_label, served_told, ends_by, handled, after_put, after_taken, taken_id}
-use Rattle.dm_rule.proofs.Names.{queued_for, is_for_home, are_for_home, both_true, sort_of, and_parts}
+use Rattle.dm_rule.proofs.Names.{MessageKind, PlainMessage, Label, OneKernel, at_machine, at_pair, at_record, without_id, without_front, untaken, View, Pair, after_label, served_told, ends_by, handled, taken_id, is_for_home, are_for_home}
+use Rattle.dm_rule.proofs.Names.{both_true, sort_of, and_parts}
 use Rattle.dm_rule.specs.View as view
 
 -- each of these messages has entered, and is for a receiver of this home as long as it is in the bag

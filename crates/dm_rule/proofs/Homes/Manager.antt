@@ -1,8 +1,8 @@
 -- What the process manager does keeps addresses where they may be.
-use Rattle.dm_rule.proofs.Names.{◌≡◌, ℕ, zero, suc, ◌+◌, ◌==◌, ◌&&◌, Bool, true, false, List, [], ◌∷◌, ◌++◌, refl, ap, ◌∙◌, sym, subst, inl, inr, arith, nat_lt, length, if◌then◌else◌, slice_get, Option, None, Some, nat_tests, Pid, Place, Holder, Slot}
-use Rattle.dm_rule.proofs.Names.{pid_eq, PlainLink, MsgId, id_of, Label, PlainMessage, PlainWhat, bind, OneKernel, without_message, id_eq-same, bind-is, View, Addresses, Gets, gets, given, gives, Receiver, Sender, Enclosed, unmoved, pid_of}
-use Rattle.dm_rule.proofs.Names.{◌*◌, Pending, Manager, switchboard, manager, Child, Name, Answer, encloses, enclosed_from, board_takes_burden, manager_sends, manager_answers, manager_takes_burden, links_in, ascends, AskedBy, Outcome}
-use Rattle.dm_rule.proofs.Names.{code_of_outcome, PendingKind, burden_of}
+use Rattle.dm_rule.proofs.Names.{◌≡◌, ℕ, zero, suc, ◌+◌, ◌==◌, ◌&&◌, Bool, true, false, List, [], ◌∷◌, ◌++◌, refl, ap, ◌∙◌, sym, subst, inl, inr, arith, nat_lt, length, if◌then◌else◌, slice_get, Option, None, Some, nat_tests, Pid, Place}
+use Rattle.dm_rule.proofs.Names.{Holder, Slot, pid_eq, PlainLink, MsgId, id_of, Label, PlainMessage, PlainWhat, bind, OneKernel, without_message, id_eq-same, bind-is, View, Addresses, Gets, gets, given, gives, Receiver, Sender, Enclosed}
+use Rattle.dm_rule.proofs.Names.{unmoved, pid_of, ◌*◌, Pending, Manager, switchboard, manager, Child, Name, Answer, encloses, enclosed_from, board_takes_burden, manager_sends, manager_answers, manager_takes_burden, links_in, ascends}
+use Rattle.dm_rule.proofs.Names.{AskedBy, Outcome, code_of_outcome, PendingKind, burden_of, fun_ext}
 use Rattle.dm_rule.proofs.Homes.{place_as, pid_as, acts_at, AtHome}
 use Rattle.dm_rule.proofs.Homes.Rows.{SameProcess, SameMessage, sent_home, at_home_out, process_same, message_same, encloses_servers, encloses_process, encloses_message, encloses_at}
 use Rattle.dm_rule.proofs.Homes.Serves.{two, two_sends, Named, ReceivedAt}
@@ -13,7 +13,6 @@ use Rattle.dm_rule.specs.Addresses as addresses
 use Rattle.dm_onekernel.specs.Service as service
 use Rattle.dm_onekernel.specs.Switchboard as board
 use Rattle.dm_onekernel.specs.Manager as manage
-use mathlib.Core.Path.{fun_ext}
 
 abbrev TookAt : (Pid → Place → Type 0) → OneKernel → View → Addresses → MsgId → MsgId → ℕ → manage.ManagerTook → Type 0
 TookAt P s v a id mid code k = AtHome P (service.manager_took s id k) (given a (manager_sends v a mid code k.message))
@@ -220,12 +219,11 @@ created_by P s v a id m child (Some r) k is e at h =
     let g = record s.manager { children = s.manager.children ++ child ∷ []; pending = manage.without_pending m.id.n s.manager.pending } in
     let l = manage.control_link (length s.manager.children + 1) in
     let t = manage.answers_over g r.answer 0 (l ∷ []) in
-    let f : t ≡ k = cc in
     let c = given a (gets (Child (length s.manager.children + 1)) (unmoved child.home) ∷ []) in
     let w = answers_home P s v a c id m.id.n r g 0 (l ∷ []) r.answer refl is at h (one_link P (unmoved v.acting) l (acts_at P l.to v.acting (h.rooted l.to) at)) refl refl
     (λ q. record { slot = λ i. refl; owner = refl }) (λ i. record { receiver = refl; sender = refl; enclosed = λ j. refl }) (λ i. refl) (λ i. refl) (λ q. refl)
     (λ n q there. (let e_ : P q (given a (gets (Child (length s.manager.children + 1)) (unmoved child.home) ∷ []) (Child n)) = search (arith, get_last, place_as, pid_as, h.rooted child, h.children) in e_)) in
-    subst (λ (t : manage.ManagerTook). AtHome P (service.manager_took s id t) (given a (gets (Child (length s.manager.children + 1)) (unmoved child.home) ∷ manager_answers v a m.id.n t.message))) f
+    subst (λ (t : manage.ManagerTook). AtHome P (service.manager_took s id t) (given a (gets (Child (length s.manager.children + 1)) (unmoved child.home) ∷ manager_answers v a m.id.n t.message))) (let f : t ≡ k = cc in f)
     (over_child P (service.manager_took s id t) a v m.id.n (length s.manager.children + 1) (unmoved child.home) g 0 (l ∷ []) r.answer w)
 
 -- a request has ended otherwise
@@ -267,20 +265,17 @@ manager_row P s t v a id m (PlainWhat.User code channel body links) is name ther
 manager_row P s t v a id m (PlainWhat.Created child) is name there at h e =
     let o = manage.takes_created s.manager m.id.n child (manage.pending_numbered m.id.n s.manager.pending) in
     let (k, took, last) = bind-is o (λ (x : manage.ManagerTook). Some (service.manager_took s id x)) t e in
-    let f : service.manager_took s id k ≡ t = cc in
-    subst (λ (u : OneKernel). AtHome P u (given a (manager_takes_burden s v a m (burden_of (PlainWhat.Created child)) o))) f
+    subst (λ (u : OneKernel). AtHome P u (given a (manager_takes_burden s v a m (burden_of (PlainWhat.Created child)) o))) (let f : service.manager_took s id k ≡ t = cc in f)
     (subst (λ (p : Option manage.ManagerTook). AtHome P (service.manager_took s id k) (given a (manager_takes_burden s v a m (burden_of (PlainWhat.Created child)) p))) (sym took) (created_by P s v a id m child (manage.pending_numbered m.id.n s.manager.pending) k refl took at h))
 manager_row P s t v a id m PlainWhat.NoRoom is name there at h e =
     let o = manage.takes_no_room s.manager m.id.n (manage.pending_numbered m.id.n s.manager.pending) in
     let (k, took, last) = bind-is o (λ (x : manage.ManagerTook). Some (service.manager_took s id x)) t e in
-    let f : service.manager_took s id k ≡ t = cc in
-    subst (λ (u : OneKernel). AtHome P u (given a (manager_takes_burden s v a m (burden_of PlainWhat.NoRoom) o))) f
+    subst (λ (u : OneKernel). AtHome P u (given a (manager_takes_burden s v a m (burden_of PlainWhat.NoRoom) o))) (let f : service.manager_took s id k ≡ t = cc in f)
     (subst (λ (p : Option manage.ManagerTook). AtHome P (service.manager_took s id k) (given a (manager_takes_burden s v a m (burden_of PlainWhat.NoRoom) p))) (sym took) (no_room_by P s v a id m.id.n (manage.pending_numbered m.id.n s.manager.pending) k refl took at h))
 manager_row P s t v a id m (PlainWhat.Moved outcome) is name there at h e =
     let o = manage.takes_moved s.manager m.id.n outcome (manage.pending_numbered m.id.n s.manager.pending) in
     let (k, took, last) = bind-is o (λ (x : manage.ManagerTook). Some (service.manager_took s id x)) t e in
-    let f : service.manager_took s id k ≡ t = cc in
-    subst (λ (u : OneKernel). AtHome P u (given a (manager_takes_burden s v a m (burden_of (PlainWhat.Moved outcome)) o))) f
+    subst (λ (u : OneKernel). AtHome P u (given a (manager_takes_burden s v a m (burden_of (PlainWhat.Moved outcome)) o))) (let f : service.manager_took s id k ≡ t = cc in f)
     (subst (λ (p : Option manage.ManagerTook). AtHome P (service.manager_took s id k) (given a (manager_takes_burden s v a m (burden_of (PlainWhat.Moved outcome)) p))) (sym took)
     (moved_by P s v a id m.id.n outcome (manage.pending_numbered m.id.n s.manager.pending) k refl took at h))
 manager_row P s t v a id m _ is name there at h e = cc

@@ -56,8 +56,7 @@ rings_taken v b (Some id) h = record { moves = h.moves; ring = h.ring; known = h
 
 line_keeps : NoneReplaced → (r e : MsgId → ℕ) (pt pt' : Point) (l : Line) → LineAnywhere pt.view.acting l → Home r e pt → after pt (l ∷ []) ≡ Some pt' → Kept pt.view.acting pt'
 line_keeps none r e pt pt' (Line.Label l) at h is =
-    let said_at : (s : OneKernel) (m : ℕ) (l : Label) → SaidAnywhere m l → SaidAt s m l = λ s m l h1. search arith in
-    label_keeps none r e pt pt' l (said_at pt.kernel pt.view.acting l at) h is
+    label_keeps none r e pt pt' l ((let said_at : (s : OneKernel) (m : ℕ) (l : Label) → SaidAnywhere m l → SaidAt s m l = λ s m l h1. search arith in said_at) pt.kernel pt.view.acting l at) h is
 line_keeps none r e pt pt' (Line.Idle n) at h is =
     let f : moved pt (Line.Idle n) pt.kernel ≡ pt' = cc in subst (Kept pt.view.acting) f (record { r = r; e = e; home = still_home r e pt h; acting = refl })
 line_keeps none r e pt pt' (Line.Old a b n) at h is =
@@ -72,11 +71,9 @@ line_keeps none r e pt pt' (Line.Taken a b n) at h is =
     let taken_lists : (s : OneKernel) (e : MsgId → ℕ) (v : View) (a b n : ℕ) → ListsHome s e v → ListsHome s e (after_taken v a b n) = λ s e v a b n h.
       let p = v.pair a b in
       search (arith, taken_with, drop_first, pair_set, drop_one) in
-    let f : moved pt (Line.Taken a b n) pt.kernel ≡ pt' = cc in
     let p = pt.view.pair a b in
-    let q : Pair = record p { taken = p.taken + 1; kept = filter (λ k. not (k == n)) p.kept } in
-    let w = view.with_pair pt.view a b q in
-    subst (Kept pt.view.acting) f (record {
+    let w = view.with_pair pt.view a b (record p { taken = p.taken + 1; kept = filter (λ k. not (k == n)) p.kept }) in
+    subst (Kept pt.view.acting) (let f : moved pt (Line.Taken a b n) pt.kernel ≡ pt' = cc in f) (record {
       r = r;
       e = e;
       home = record { sound = h.sound; at = h.at; rings = rings_taken w b (view.oldest p) (rings_same pt.view w refl refl refl h.rings); lists = taken_lists pt.kernel e pt.view a b n h.lists };

@@ -65,11 +65,9 @@ placed_step P a p id l ls n r t j w (Some slot) rest is en old e =
     let gs = receives_links a p id (n + 1) (slot_after t.links l (Some slot)) ls in
     elim (cases_Bool (slot == j)) [
       | inl same ↦
-          let at : slot ≡ j = grind (arith, nat_tests) in
           let all : (pid_eq p p && (slot == j)) ≡ true = let g = pid_eq-same p in grind (arith, nat_tests) in
-          let f : Some l ≡ Some w = sym (stays ls u (r + 1) j l (ap (λ (i : ℕ). link_at u.links i) (sym at) ∙ set_at t.links slot (Some l) (is_empty t.links slot is).within)) ∙ e in
-          let lw : l ≡ w = cc in
-          place_as P (ap (λ (c : Bool). if c then a (Enclosed id n) else given a gs (Slot p j)) all) (pid_as P (ap (λ (k : PlainLink). k.to) lw) (en 0 n l refl (omega arith)))
+          let f : Some l ≡ Some w = sym (stays ls u (r + 1) j l (ap (λ (i : ℕ). link_at u.links i) (sym (let at : slot ≡ j = grind (arith, nat_tests) in at)) ∙ set_at t.links slot (Some l) (is_empty t.links slot is).within)) ∙ e in
+          place_as P (ap (λ (c : Bool). if c then a (Enclosed id n) else given a gs (Slot p j)) all) (pid_as P (ap (λ (k : PlainLink). k.to) (let lw : l ≡ w = cc in lw)) (en 0 n l refl (omega arith)))
       | inr apart ↦
           place_as P (ap (λ (c : Bool). if c then a (Enclosed id n) else given a gs (Slot p j)) (let all : (pid_eq p p && (slot == j)) ≡ false = grind (arith, nat_tests) in all))
           (rest (n + 1) (r + 1) u j w (after_first P a id n l ls en) (λ f. old (sym (set_off t.links slot j (Some l) apart) ∙ f)) e)
@@ -148,13 +146,12 @@ completing_home P s a p id d h e =
     let (x, hand, rest) = bind-is (kernel.at_hand s p) (λ (y : PlainProcess). bind (s.bag id) (receiving.completes_with p y)) d e in
     let alive : kernel.alive (s.processes p) ≡ Some x = ap kernel.alive (at_hand-is s p x hand).1 in
     let (m, there, last) = bind-is (s.bag id) (receiving.completes_with p x) d rest in
-    let hm = h.messages id m there in
     record {
       x = x;
       m = m;
       alive = alive;
       there = there;
-      home = completes_with_home P a p id x m x.stopped d (h.processes p x alive) (λ k j w f g. let jk : j ≡ k = omega (arith, g) in place_as P (ap (λ (i : ℕ). a (Enclosed id i)) jk) (hm.enclosed k w f)) last;
+      home = completes_with_home P a p id x m x.stopped d (h.processes p x alive) (λ k j w f g. let jk : j ≡ k = omega (arith, g) in place_as P (ap (λ (i : ℕ). a (Enclosed id i)) jk) ((h.messages id m there).enclosed k w f)) last;
     }
 
 receive_row : (P : Pid → Place → Type 0) (s t : OneKernel) (v : View) (a : Addresses) (p : Pid) (id : MsgId) (d : receiving.Completed) → Completing P s a p id d → kernel.receives s p id d ≡ Some t → AtHome P s a → AtHome P t (given a (gives s v a (Label.Receive p id)))

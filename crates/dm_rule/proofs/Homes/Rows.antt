@@ -1,7 +1,7 @@
 -- What processes do keeps addresses where they may be.
 use Rattle.dm_rule.proofs.Names.{◌≡◌, ℕ, zero, suc, ◌+◌, ◌==◌, ◌&&◌, Bool, true, false, List, [], ◌∷◌, refl, ap, ◌∙◌, sym, subst, inl, inr, arith, if◌then◌else◌, slice_get, None, Some, cases_Bool, nat_tests, Pid, Place, pid_eq, MsgId}
-use Rattle.dm_rule.proofs.Names.{id_eq, PlainMessage, PlainProcess, PlainStatus, Life, Alive, OneKernel, with_process, with_sent, without_message, pid_eq-is, id_eq-is, id_eq-same, sent_at, sent_off, stayed, bind-is, Addresses, given, Slot}
-use Rattle.dm_rule.proofs.Names.{Owner, Receiver, Sender, Enclosed, Child, Name, Answer, AskedBy, encloses, at_hand-is}
+use Rattle.dm_rule.proofs.Names.{id_eq, PlainMessage, PlainProcess, Life, Alive, OneKernel, with_process, with_sent, without_message, pid_eq-is, id_eq-is, id_eq-same, sent_at, sent_off, stayed, bind-is, Addresses, given, Slot, Owner}
+use Rattle.dm_rule.proofs.Names.{Receiver, Sender, Enclosed, Child, Name, Answer, AskedBy, encloses, at_hand-is}
 use Rattle.dm_onekernel.specs.Step as kernel
 use Rattle.dm_rule.proofs.Homes.{place_as, HomeProcess, HomeMessage, AtHome}
 
@@ -145,8 +145,7 @@ encloses_message a id n ps i e = record { receiver = encloses_receiver a id n ps
 pub encloses_at : (a : Addresses) (id : MsgId) (n : ℕ) (ps : List Place) (k j : ℕ) (p : Place) → slice_get ps k ≡ Some p → j ≡ n + k → given a (encloses id n ps) (Enclosed id j) ≡ p
 encloses_at a id n [] k j p e f = cc
 encloses_at a id n (x ∷ ps) zero j p e f =
-    let same : (id_eq id id && (n == j)) ≡ true = let g = id_eq-same id in grind (arith, nat_tests) in
-    let is : x ≡ p = cc in ap (λ (c : Bool). if c then x else given a (encloses id (n + 1) ps) (Enclosed id j)) same ∙ is
+    let is : x ≡ p = cc in ap (λ (c : Bool). if c then x else given a (encloses id (n + 1) ps) (Enclosed id j)) (let same : (id_eq id id && (n == j)) ≡ true = let g = id_eq-same id in grind (arith, nat_tests) in same) ∙ is
 encloses_at a id n (x ∷ ps) (suc k) j p e f =
     let apart : (id_eq id id && (n == j)) ≡ false = let g = id_eq-same id in grind (arith, nat_tests) in
     ap (λ (c : Bool). if c then x else given a (encloses id (n + 1) ps) (Enclosed id j)) apart ∙ encloses_at a id (n + 1) ps k j p e (omega (arith, f))

@@ -188,7 +188,6 @@ board_request P s v a id code channel body [] en at h =
     let u = at_home_out P s a id h in
     record { processes = u.processes; messages = u.messages; children = u.children; named = u.named; answers = u.answers; askers = u.askers; rooted = u.rooted; pending = u.pending }
 board_request P s v a id code channel body (l ∷ ls) en at h =
-    let u = at_home_out P s a id h in
     let sent = id_of switchboard s.switchboard.sent in
     let asked = board.asks s.switchboard.names body ls in
     let k = asks_home P a id sent s.switchboard.names body ls (λ n w e. en (suc n) w e) h.named in
@@ -198,7 +197,7 @@ board_request P s v a id code channel body (l ∷ ls) en at h =
     let t = record (without_message s id) { switchboard = (board.takes_request s.switchboard body (l ∷ ls)).switchboard } in
     record {
       processes = λ q x e. process_same P a (given b (two sent to from)) q x (let w = k.process q in record { slot = w.slot; owner = w.owner }) (h.processes q x e);
-      messages = sent_home P t a (given b (two sent to from)) (board.goes_over switchboard s.switchboard.sent l (board.code_of_answer asked.answer ∷ []) (board.links_of_answer asked.answer)) u.messages
+      messages = sent_home P t a (given b (two sent to from)) (board.goes_over switchboard s.switchboard.sent l (board.code_of_answer asked.answer ∷ []) (board.links_of_answer asked.answer)) (at_home_out P s a id h).messages
           (λ i e. let w = k.message i e in let z = two_off b sent to from i e in record { receiver = z.receiver ∙ w.receiver; sender = z.sender ∙ w.sender; enclosed = w.enclosed })
           ((search (arith, place_as, id_eq-same, acts_at)));
       children = λ n q e. place_as P (k.child n) (h.children n q e);

@@ -77,9 +77,8 @@ gone_home P s t v a id is named at h =
     let (m, there, rest) = bind-is (s.bag id) (λ (w : PlainMessage). bind (kernel.why_ended (s.processes w.to)) (kernel.says_gone s id w)) t is in
     let (y, gone, end) = bind-is (kernel.why_ended (s.processes m.to)) (kernel.says_gone s id m) t rest in
     let (w, what, last) = bind-is (service.gone_what m.what) (λ (v : PlainWhat). Some (with_sent (without_message s id) (Some (answer_to m v)))) t end in
-    let k : with_sent (without_message s id) (Some (answer_to m w)) ≡ t = cc in
     let from : Place = record { at = v.acting; moves = (a (Receiver id)).moves } in
-    subst (λ (u : OneKernel). AtHome P u (given a (answer_gets a id from))) k
+    subst (λ (u : OneKernel). AtHome P u (given a (answer_gets a id from))) (let k : with_sent (without_message s id) (Some (answer_to m w)) ≡ t = cc in k)
     (answer_sent P s (without_message s id) a id m w from (named id m there) there h (at_home_out P s a id h) (let e_ : links_in w ≡ [] = search arith in e_) (at m there))
 
 -- no room
@@ -214,9 +213,8 @@ begun_link (x ∷ xs) n (suc k) l e = begun_link xs n k l e
 pub child_at : (a : Addresses) (child : Pid) (id : MsgId) (ls : List PlainLink) (n k j : ℕ) (w : PlainLink) → slice_get ls k ≡ Some w → j ≡ n + k → given a (child_links a child id n ls) (Slot child j) ≡ a (Enclosed id j)
 child_at a child id [] n k j w e f = cc
 child_at a child id (l ∷ ls) n zero j w e f =
-    let nj : n ≡ j = omega (arith, f) in
     let same : (pid_eq child child && (n == j)) ≡ true = let g = pid_eq-same child in grind (arith, nat_tests) in
-    ap (λ (c : Bool). if c then a (Enclosed id n) else given a (child_links a child id (n + 1) ls) (Slot child j)) same ∙ ap (λ (i : ℕ). a (Enclosed id i)) nj
+    ap (λ (c : Bool). if c then a (Enclosed id n) else given a (child_links a child id (n + 1) ls) (Slot child j)) same ∙ ap (λ (i : ℕ). a (Enclosed id i)) (let nj : n ≡ j = omega (arith, f) in nj)
 child_at a child id (l ∷ ls) n (suc k) j w e f =
     let apart : (pid_eq child child && (n == j)) ≡ false = grind (arith, nat_tests) in
     ap (λ (c : Bool). if c then a (Enclosed id n) else given a (child_links a child id (n + 1) ls) (Slot child j)) apart ∙ child_at a child id ls (n + 1) k j w e (omega (arith, f))

@@ -56,10 +56,9 @@ begun_home b earlier (p ∷ ps) q x valid at e =
     let begun_home_of : (b : Boot) (p : BootProcess) (q : Pid) (x : PlainProcess) (o : Option BootImage) → boot.links_are_valid b p.links ≡ true → links_at b.processes q ≡ p.links
       → kernel.alive (option_map (λ image. Alive (begun b.format image (map plain_link p.links))) o) ≡ Some x → HomeProcess IsHome (first_addresses b) q x =
       λ b p q x o h1 h2 h3. search (arith, first_link) in
-    let mine : boot.process_is_valid b (starting_at p.pid.home earlier) p ≡ true = left_true _ _ valid in
     elim (cases_Bool (pid_eq p.pid q)) [
       | inl same ↦
-          begun_home_of b p q x (slice_get b.images p.image) (links_valid b (starting_at p.pid.home earlier) p mine) (at ∙ ap (λ (c : Bool). if c then p.links else links_at ps q) same)
+          begun_home_of b p q x (slice_get b.images p.image) (links_valid b (starting_at p.pid.home earlier) p (left_true _ _ valid)) (at ∙ ap (λ (c : Bool). if c then p.links else links_at ps q) same)
           (sym (ap (λ (c : Bool). kernel.alive (if c then first_life b p else life_at b ps q)) same) ∙ e)
       | inr apart ↦
           begun_home b (earlier ++ p ∷ []) ps q x (right_true _ _ valid) (at ∙ ap (λ (c : Bool). if c then p.links else links_at ps q) apart)

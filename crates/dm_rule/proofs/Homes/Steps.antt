@@ -127,9 +127,7 @@ at_home_ended P s a p y h = at_home_goes P s a p (Ended y) h (λ x e. absurd (le
 
 pub end_row : (P : Pid → Place → Type 0) (s t : OneKernel) (a : Addresses) (p : Pid) (y : Why) (next : kernel.Trap) → kernel.ends s p y next ≡ Some t → AtHome P s a → AtHome P t a
 end_row P s t a p y (kernel.Calls number (calls.Ends because)) is h =
-    let k = when-is (why_eq y because) (with_process s p (Ended y)) t is in
-    subst (λ (u : OneKernel). AtHome P u a) k.1 (at_home_ended P s a p y h)
+    subst (λ (u : OneKernel). AtHome P u a) (when-is (why_eq y because) (with_process s p (Ended y)) t is).1 (at_home_ended P s a p y h)
 end_row P s t a p y (kernel.Faults fault) is h =
-    let k = when-is (why_eq y (Why.Fault fault)) (with_process s p (Ended y)) t is in
-    subst (λ (u : OneKernel). AtHome P u a) k.1 (at_home_ended P s a p y h)
+    subst (λ (u : OneKernel). AtHome P u a) (when-is (why_eq y (Why.Fault fault)) (with_process s p (Ended y)) t is).1 (at_home_ended P s a p y h)
 end_row P s t a p y _ is h = cc

@@ -1,5 +1,5 @@
 -- A turn keeps all of it.
-use Rattle.dm_rule.proofs.Names.{◌≡◌, ℕ, ◌+◌, ◌==◌, ◌&&◌, Bool, true, false, List, [], ◌∷◌, refl, ap, ◌∙◌, sym, subst, inl, inr, arith, nat_le, ⊤, if◌then◌else◌, Option, None, Some, nat_tests, Pid, MsgId, PlainMessage, Boot, Label, Says}
+use Rattle.dm_rule.proofs.Names.{◌≡◌, ℕ, ◌+◌, ◌==◌, Bool, true, false, List, [], ◌∷◌, refl, ap, ◌∙◌, sym, subst, inl, inr, arith, nat_le, ⊤, if◌then◌else◌, Option, None, Some, nat_tests, Pid, MsgId, PlainMessage, Boot, Label, Says}
 use Rattle.dm_rule.proofs.Names.{OneKernel, after_step, Point, first_point, Part, Routes, Spelled, Homes, is_for_home, are_home, IsStill, LeadHomeAlways, ◌≤◌, false≢true, is_kernels, Step, actor, group_of, pid_of, first_number, Known, Line}
 use Rattle.dm_rule.proofs.Names.{Frozen, Incoming, Forward, AskNone, LeadsStill, and_parts}
 use Rattle.dm_onekernel.specs.Step as kernel

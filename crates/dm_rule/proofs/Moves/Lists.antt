@@ -1,7 +1,7 @@
 -- Messages that are held, come back from a held list, or leave a queue and a held list together.
-use Rattle.dm_rule.proofs.Names.{◌≡◌, ◌≢◌, ℕ, ◌+◌, ◌≤◌, ◌==◌, ◌&&◌, Bool, true, false, List, [], ◌∷◌, ◌++◌, refl, ap, ◌∙◌, sym, subst, arith, ◌⊎◌, inl, inr, if◌then◌else◌, Option, None, Some, cases_Bool, false≢true, Pid, pid_eq, MsgId}
-use Rattle.dm_rule.proofs.Names.{id_eq, at_machine, at_record, View, handled, handled_first, receiver_of, held_for, released, Spot, Queue, Held, Inbox, times, ids_at, standing, StandsOnce, StandsNowhere, StandsAsBag, pid_eq-is, id_eq-is}
-use Rattle.dm_rule.proofs.Names.{id_eq-same, drop, nat_tests, and_parts, eqb-true, false_from_ne_true}
+use Rattle.dm_rule.proofs.Names.{◌≡◌, ◌≢◌, ℕ, ◌+◌, ◌≤◌, ◌==◌, ◌&&◌, Bool, true, false, List, [], ◌∷◌, ◌++◌, refl, ap, ◌∙◌, sym, subst, arith, inl, inr, if◌then◌else◌, Option, None, Some, cases_Bool, false≢true, Pid, pid_eq, MsgId, id_eq}
+use Rattle.dm_rule.proofs.Names.{at_machine, at_record, View, handled, handled_first, receiver_of, held_for, released, Spot, Queue, Held, Inbox, times, ids_at, standing, StandsOnce, StandsNowhere, StandsAsBag, pid_eq-is, id_eq-is}
+use Rattle.dm_rule.proofs.Names.{id_eq-same, drop, and_parts, eqb-true, false_from_ne_true}
 use Rattle.dm_rule.proofs.Standing.{times-append, spot_cases, StandsAsBag-same, StandsAsBag-one, StandsAsBag-elsewhere}
 use Rattle.dm_rule.proofs.Once.{Kept, one_of, once_moves, one_of-off}
 use Rattle.dm_rule.proofs.Lines.{Bag, Stands, Stands-stays, at_machine_at, at_machine_off, at_record_off, at_record_at, inbox_apart, front_goes, handled_off, handled_at, one_more, queue_apart}
@@ -29,8 +29,7 @@ Stands-held bag v w i is x front there is_w h =
       λ v i p z h1 h2. search (arith, at_record_off, held_apart, handled_off) in
     let told : receiver_of (v.told i) ≡ Some x = h.told i x there in
     let u = record (handled v i) { held = at_record v.held v.acting x (v.held v.acting x ++ i ∷ []) } in
-    let e : u ≡ w = sym (held_is v i x (receiver_of (v.told i)) told) ∙ sym is_w in
-    subst (Stands bag) e
+    subst (Stands bag) (sym (held_is v i x (receiver_of (v.told i)) told) ∙ sym is_w)
     (record {
       kept = once_moves v u bag bag i (Inbox v.acting) (Held v.acting x) (inbox_held v.acting v.acting x) (λ j. refl) (λ j. handled_at v i is j front)
           (λ j. ap (times j) (at_record_at v.held v.acting x (v.held v.acting x ++ i ∷ [])) ∙ one_more j i (v.held v.acting x)) (λ z a b. held_off v i x z a b) h.kept;
@@ -80,8 +79,7 @@ flip_zero i j e = false_from_ne_true (id_eq j i) (λ k. let is : j ≡ i = id_eq
 pub without_off : (js : List MsgId) (bag : Bag) (i : MsgId) → times i js ≡ 0 → without_all js bag i ≡ bag i
 without_off [] bag i e = refl
 without_off (j ∷ js) bag i e =
-    let first : one_of i j ≡ 0 = omega (arith, e) in
-    ap (λ (c : Bool). if c then None else without_all js bag i) (flip_zero i j first) ∙ without_off js bag i (let rest : times i js ≡ 0 = omega (arith, e) in rest)
+    ap (λ (c : Bool). if c then None else without_all js bag i) (flip_zero i j (let first : one_of i j ≡ 0 = omega (arith, e) in first)) ∙ without_off js bag i (let rest : times i js ≡ 0 = omega (arith, e) in rest)
 
 pub without_at : (js : List MsgId) (bag : Bag) (i : MsgId) → 1 ≤ times i js → without_all js bag i ≡ None
 without_at [] bag i least = absurd (omega arith)

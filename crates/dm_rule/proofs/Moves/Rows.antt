@@ -1,9 +1,9 @@
 -- The rows of migration keep that each message stands once.
 use Rattle.dm_rule.proofs.Names.{◌≡◌, ℕ, ◌==◌, Bool, true, false, List, [], ◌∷◌, ◌++◌, refl, ap, ◌∙◌, sym, subst, length, if◌then◌else◌, Option, None, Some, Pid, pid_of, pid_eq, MsgId, MessageKind, Stage, Boot, switchboard, manager}
 use Rattle.dm_rule.proofs.Names.{PlainProcess, Line, View, Told, About, NothingElse, Known, Unknown, Here, Frozen, Forward, Ended, view_after, handled, handled_first, receiver_of, is_kernels, target_of, with_ring, knowing, released}
-use Rattle.dm_rule.proofs.Names.{after_proto, asks_on, held_for, Addresses, Sender, Child, is_told_back, Point, moved, Part, Says, Again, Owns, Spelled, spelled, to_kernel, forwards_on, accepts, takes_chunk, takes_block, gives_piece}
-use Rattle.dm_rule.proofs.Names.{sends_on, leaves, told_step, chunks_of, pieces_of, told_here, told_ended, process_told, told_server, migrates, kernel_hears, hears, Spot, Queue, ids_at, bind-is, label_of, Label, MoveNote, Outcome, Target}
-use Rattle.dm_rule.proofs.Names.{answer_id, answers_move, frozen_for, leaves_for, tells_asker, sets_off, sort_of, option_and_then, slice_get, arith, nat_tests}
+use Rattle.dm_rule.proofs.Names.{after_proto, asks_on, held_for, Addresses, Sender, is_told_back, Point, moved, Part, Says, Again, Owns, Spelled, spelled, to_kernel, forwards_on, accepts, takes_chunk, takes_block, gives_piece, sends_on}
+use Rattle.dm_rule.proofs.Names.{leaves, told_step, chunks_of, pieces_of, told_here, told_ended, process_told, told_server, kernel_hears, hears, Spot, Queue, ids_at, bind-is, label_of, Label, MoveNote, Outcome, Target, answer_id}
+use Rattle.dm_rule.proofs.Names.{answers_move, frozen_for, leaves_for, tells_asker, sets_off, sort_of, option_and_then, slice_get, arith, nat_tests}
 use Rattle.dm_rule.proofs.Lines.{hidden, Stands-stays}
 use Rattle.dm_rule.proofs.Letters.{letters}
 use Rattle.dm_rule.proofs.Hushed.{is_put, hushed}
@@ -13,7 +13,6 @@ use Rattle.dm_rule.proofs.Said.{fits_as, line_and_route}
 use Rattle.dm_rule.proofs.Moves.Lists.{Stands-held, Stands-released, both_lists, first_off}
 use Rattle.dm_rule.proofs.Moves.States.{Between, by_own, front_way, front_kernels}
 use Rattle.dm_rule.proofs.Moves.Sent.{Way, Steady, steadied, line_next, line_ends, line_owns, owns_ends, again_next, all_again, forwarded_way, sent_way}
-use Rattle.dm_rule.proofs.Requests.{by_migrates}
 use Rattle.dm_rule.proofs.Seen.{about_off}
 use Rattle.dm_rule.proofs.Bags.{bag_answered}
 use Rattle.dm_rule.proofs.Turns.{quiet_label}

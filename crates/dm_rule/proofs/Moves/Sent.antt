@@ -19,8 +19,7 @@ same_two a b c e = (grind (arith, nat_tests), grind (arith, nat_tests))
 pub fits_put : (v : View) (a b : ℕ) (i : MsgId) (k : MessageKind) (q : Pid) → PairsFit v → PairsFit (after_put v a b i k q)
 fits_put v a b i k q h =
     let put_home : (a b : ℕ) (p : Pair) (i : MsgId) → (a == b) ≡ true → p.taken ≡ length p.ids → (routed_on a b p i).taken ≡ length (p.ids ++ i ∷ []) = λ a b p i e is.
-      let t : (routed_on a b p i).taken ≡ p.taken + 1 = ap (λ (c : Bool). if c then p.taken + 1 else p.taken) e in
-      let l = one_more p i in omega (arith, t, l, is) in
+      let l = one_more p i in omega (arith, ap (λ (c : Bool). if c then p.taken + 1 else p.taken) e, l, is) in
     let put_within : (a b : ℕ) (p : Pair) (i : MsgId) (c : Bool) → (a == b) ≡ c → p.taken ≤ length p.ids → (routed_on a b p i).taken ≤ length (p.ids ++ i ∷ []) = λ a b p i c h1 h2. search (arith, one_more) in
     search (arith, set_is, put_within, set_other, same_two, put_home)
 

@@ -1,10 +1,10 @@
 -- What migration says keeps that each message stands once: the kernels' own messages come and go, and messages go on.
-use Rattle.dm_rule.proofs.Names.{◌≡◌, ℕ, suc, ◌+◌, ◌≤◌, ◌==◌, Bool, true, false, List, [], ◌∷◌, refl, ap, ◌∙◌, sym, subst, arith, inl, inr, if◌then◌else◌, Option, None, Some, cases_Bool, false≢true, nat_tests, Pid, pid_of, MsgId}
-use Rattle.dm_rule.proofs.Names.{MessageKind, id_eq, id_of, PlainMessage, Line, Load, at_machine, View, Told, view_after, handled_first, receiver_of, is_kernels, own_id, to_of, Point, moved, seen, Spot, Inbox, Untaken, times, ids_at}
-use Rattle.dm_rule.proofs.Names.{standing, id_eq-is, id_eq-same, Sound, false_from_ne_true}
+use Rattle.dm_rule.proofs.Names.{◌≡◌, ℕ, suc, ◌+◌, ◌≤◌, ◌==◌, Bool, true, false, List, ◌∷◌, refl, ap, ◌∙◌, sym, subst, arith, inl, inr, if◌then◌else◌, Option, None, Some, cases_Bool, false≢true, nat_tests, Pid, pid_of, MsgId, MessageKind}
+use Rattle.dm_rule.proofs.Names.{id_eq, id_of, PlainMessage, Line, Load, at_machine, View, Told, view_after, handled_first, receiver_of, is_kernels, own_id, to_of, Point, moved, seen, Inbox, times, standing, id_eq-is, id_eq-same, Sound}
+use Rattle.dm_rule.proofs.Names.{false_from_ne_true}
 use Rattle.dm_rule.specs.View as view
 use Rattle.dm_rule.proofs.Once.{one_of}
-use Rattle.dm_rule.proofs.Lines.{Bag, hidden, having, Stands, Stands-same, Stands-stays, Stands-handled, untold_tells, having_off, pair_keeps}
+use Rattle.dm_rule.proofs.Lines.{Bag, hidden, having, Stands, Stands-same, Stands-stays, Stands-handled, untold_tells, having_off}
 use Rattle.dm_rule.proofs.Letters.{letters, letters_own, letters_bag}
 use Rattle.dm_rule.proofs.Seen.{Stands-about}
 use Rattle.dm_rule.proofs.Hushed.{is_put, hushed}
@@ -162,7 +162,6 @@ pub by_own_put : (pt : Point) (b : ℕ) (k : MessageKind) (q : Pid) → PairsFit
 by_own_put pt b k q fits h =
     let v = pt.view in
     let i = own_id v in
-    let l = Line.Put v.acting b i k q in
     let bag = letters h.own pt.kernel.bag in
     let untold : v.told i ≡ None = h.numbered v.acting (v.count v.acting) (omega arith) in
     let none : bag i ≡ None = (elim (bag i) as (λ o. bag i ≡ o → o ≡ None)
@@ -172,7 +171,7 @@ by_own_put pt b k q fits h =
       e = h.e;
       sound = h.sound;
       own = having i q h.own;
-      stands = Stands-same (having i q bag) (letters (having i q h.own) pt.kernel.bag) (view_after v l) (own_bag h.own pt.kernel.bag i q (own_kernels v))
+      stands = Stands-same (having i q bag) (letters (having i q h.own) pt.kernel.bag) (view_after v (Line.Put v.acting b i k q)) (own_bag h.own pt.kernel.bag i q (own_kernels v))
           (put_stands bag v b i k q (v.acting == b) refl none (untold_tells (v.told i) (record { kind = k; receiver = q; about = v.topic }) untold) fits h.stands);
       untold = λ j zero_ other. put_told_off v v.acting b i j k q (false_from_ne_true (id_eq (own_id v) j) (λ e. false≢true (sym other ∙ sym (ap is_kernels (id_eq-is (own_id v) j e)) ∙ own_kernels v))) ∙ h.untold j zero_ other;
       numbered = own_numbered v v.acting b k q untold h.numbered;

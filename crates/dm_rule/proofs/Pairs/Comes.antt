@@ -101,8 +101,7 @@ in_order : (pt : Point) (a b n : ℕ) (ks : List ℕ) (w : Spelled) → (a == b)
 in_order pt a b n ks w ab ba is below kept h e =
     -- then the count is acknowledged
     let then_acked : (a b end : ℕ) (w : Spelled) → (b == a) ≡ false → Took a b end (Transmits b a (Load.Ack end) ∷ []) w → Paired w.point.view.pair = λ a b end w ba t.
-      let k : Paired t.rest.point.view.pair = keeps (Transmits b a (Load.Ack end) ∷ []) t.at t.rest ((ba, let y = t.taken in omega (arith, y)), tt) t.paired t.on in
-      subst (λ (q : Point). Paired q.view.pair) t.leads k in
+      subst (λ (q : Point). Paired q.view.pair) t.leads (let k : Paired t.rest.point.view.pair = keeps (Transmits b a (Load.Ack end) ∷ []) t.at t.rest ((ba, let y = t.taken in omega (arith, y)), tt) t.paired t.on in k) in
     let others = kept_from ks (n + 1) pair_window in
     let tail = Transmits b a (Load.Ack (n + 1 + length others)) ∷ [] in
     let o = onward pt (Says (Line.Taken a b n)) (taking_parts a b others ++ tail) w e in
@@ -114,8 +113,7 @@ in_order pt a b n ks w ab ba is below kept h e =
     let full = x.full in
     let acked = x.acked in
     let start : Mid pt.view.pair a b ks = subst (Mid pt.view.pair a b) kept ((search arith)) in
-    let mid : Mid o.next.view.pair a b ks = subst (λ (g : ℕ → ℕ → Pair). Mid g a b ks) (sym pair) (mid_take pt.view.pair a b n ks ab is below start) in
-    let t = takes_keep pair_window (n + 1) a b ks tail o.next o.rest ab (omega arith) (omega arith) mid o.on in
+    let t = takes_keep pair_window (n + 1) a b ks tail o.next o.rest ab (omega arith) (omega arith) (subst (λ (g : ℕ → ℕ → Pair). Mid g a b ks) (sym pair) (mid_take pt.view.pair a b n ks ab is below start)) o.on in
     subst (λ (q : Point). Paired q.view.pair) o.end (then_acked a b (n + 1 + length others) o.rest ba t)
 
 -- data comes
@@ -129,9 +127,8 @@ data_by pt a b n p w true ahead f g ab ba is below kept h e =
 data_by pt a b n p w false true f g ab ba is below kept h e =
     let tail = Transmits b a (Load.Ack p.taken) ∷ [] in
     let o = onward pt (Says (Line.Early a b n)) tail w e in
-    let above : (pt.view.pair a b).taken < n = grind (arith, nat_tests) in
     let goes : Goes pt.view.pair o.next.view.pair =
-    subst (λ (v : View). Goes pt.view.pair v.pair) (sym (says_view pt (Line.Early a b n) tail w o)) (early_goes pt.view.pair a b n ab above below h) in
+    subst (λ (v : View). Goes pt.view.pair v.pair) (sym (says_view pt (Line.Early a b n) tail w o)) (early_goes pt.view.pair a b n ab (let above : (pt.view.pair a b).taken < n = grind (arith, nat_tests) in above) below h) in
     subst (λ (q : Point). Paired q.view.pair) o.end (let k : Paired o.rest.point.view.pair = keeps tail o.next o.rest ((ba, omega (arith, goes.later.taken a b, is)), tt) goes.paired o.on in k)
 data_by pt a b n p w false false f g ab ba is below kept h e =
     let same : p.taken ≡ n = grind (arith, nat_tests) in in_order pt a b n p.kept w ab ba (is ∙ same) below kept h e
@@ -179,14 +176,11 @@ ack_comes pt a b n p w ba is le h e =
     let here : o.next.view.pair b a ≡ record p { acked = at_least p.acked n } =
     at_two pt.view.pair o.next.view.pair b a (record (pt.view.pair b a) { acked = at_least (pt.view.pair b a).acked n }) pair ∙ ap (λ (q : Pair). record q { acked = at_least q.acked n }) is in
     let out : (o.next.view.pair b a).gone ≡ p.gone = ap (λ (q : Pair). q.gone) here in
-    let long : length (o.next.view.pair b a).ids ≡ length p.ids = ap (λ (q : Pair). length q.ids) here in
     let acked : (o.next.view.pair b a).acked ≡ top = ap (λ (q : Pair). q.acked) here ∙ sym (more-is p.acked n) in
     let x = goes.paired.stand.apart b a ba in
-    let gone = x.gone in
-    let full = x.full in
     let left = less-left (length p.ids - p.gone) (top + pair_window - p.gone) in
     let right = less-right (length p.ids - p.gone) (top + pair_window - p.gone) in
-    let r : Paired o.rest.point.view.pair = go_keep k p.gone b a o.next o.rest ba out (omega (arith, gone, out, long, left)) (omega (arith, full, out, acked, right)) goes.paired o.on in
+    let r : Paired o.rest.point.view.pair = go_keep k p.gone b a o.next o.rest ba out (omega (arith, x.gone, out, ap (λ (q : Pair). length q.ids) here, left)) (omega (arith, x.full, out, acked, right)) goes.paired o.on in
     subst (λ (q : Point). Paired q.view.pair) o.end r
 
 -- what comes, where the marked packet's pair is otherwise as it was

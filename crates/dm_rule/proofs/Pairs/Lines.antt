@@ -2,11 +2,11 @@
 use Rattle.dm_rule.proofs.Names.{◌≡◌, ℕ, ◌<◌, ◌≤◌, ◌==◌, Bool, true, false, List, [], ◌∷◌, ◌++◌, refl, ap, ◌∙◌, sym, subst, arith, length, ⊤, if◌then◌else◌, Option, None, Some, Pid, MsgId, MessageKind, plain_kind, Label, bind, Line, Load}
 use Rattle.dm_rule.proofs.Names.{Stage, View, Pair, Told, view_after, after_label, after_stage, after_packet, queued_for, held_for, forwarded_for, ends_by, taken_id, own_id, after_proto, asks_on, About, NothingElse, Target, seen, sets_off}
 use Rattle.dm_rule.proofs.Names.{Receiver, Point, kernel_after, label_of, moved, after_line, after, Part, Says, Routes, Again, Owns, Transmits, Spelled, spelled, behind, lines_of, puts, packet_line, goes_out, IsUnasked, sort_of, nat_tests}
+use Rattle.dm_rule.proofs.Names.{at_pair}
 use Rattle.dm_rule.proofs.Seen.{seen_is}
 use Rattle.dm_rule.proofs.Pairs.Stand.{Later}
 use Rattle.dm_rule.proofs.Pairs.Moves.{Paired, Goes, again_goes, route_out, route_packed, route_home, packed, packed_goes}
 pub use Rattle.dm_laws.proofs.Steps.{bind-is}
-use Rattle.dm_rule.proofs.Names.{at_pair}
 
 -- lines that say something of a pair
 abbrev pub touches : Line → Bool

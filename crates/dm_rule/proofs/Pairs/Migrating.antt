@@ -1,8 +1,8 @@
 -- The parts that migration adds keep the pairs of machines wherever they stand.
-use Rattle.dm_rule.proofs.Names.{◌≡◌, ℕ, false, List, refl, Option, Some, Pid, MsgId, MessageKind, Line, Boot, Pair, Told, Addresses, Point, Part, forwards_on, migrates, hears, arith, nat_tests}
+use Rattle.dm_rule.proofs.Names.{◌≡◌, ℕ, false, refl, Pid, Pair, Point, migrates, arith, nat_tests}
 use Rattle.dm_rule.proofs.Pairs.Lines.{AllFit, touches}
 use Rattle.dm_rule.proofs.Requests.{by_migrates}
-use Rattle.dm_rule.proofs.Hearing.{IsHeardLine, Kept, kept_forward, hears_kept}
+use Rattle.dm_rule.proofs.Hearing.{Kept}
 
 pub fit_kept : (f : ℕ → ℕ → Pair) → Kept (AllFit f)
 fit_kept f = record { none = tt; says = λ l ps h k. ((let e_ : touches l ≡ false = grind (arith, nat_tests) in e_), k); again = λ i to ps k. (tt, k); owns = λ k q to ps h. (tt, h); answers = λ i r. (refl, (tt, tt)) }

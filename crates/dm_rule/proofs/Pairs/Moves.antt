@@ -1,8 +1,8 @@
 -- What each change of a pair keeps.
 use Rattle.dm_rule.proofs.Names.{◌≡◌, ℕ, ◌+◌, ◌-◌, ◌<◌, ◌≤◌, ◌==◌, ◌||◌, not, Bool, true, false, List, [], ◌∷◌, ◌++◌, refl, ap, ◌∙◌, sym, subst, ◌⊎◌, inl, inr, arith, length, ◌≢◌, if◌then◌else◌, filter, false≢true, nat_tests, MsgId, Load}
-use Rattle.dm_rule.proofs.Names.{at_pair, Pair, routed_on, gone_after, marked, at_least, goes_out, has, HomeStands, or_right}
+use Rattle.dm_rule.proofs.Names.{at_pair, Pair, routed_on, gone_after, at_least, goes_out, has, HomeStands, or_right}
 use Rattle.std.proofs.Common.{length-append}
-use Rattle.dm_rule.proofs.Pairs.Stand.{LoadStands, Apart, KeptStands, Kept, Stand, Later, WireStands-more, WireStands-put, WireStands-marked, set_same, Stand-set, Kept-set, Later-set, Apart-at, set_other, set_is}
+use Rattle.dm_rule.proofs.Pairs.Stand.{LoadStands, Apart, KeptStands, Kept, Stand, Later, WireStands-more, WireStands-put, set_same, Stand-set, Kept-set, Later-set, Apart-at, set_other, set_is}
 pub use Rattle.std.proofs.lemmas.Bool.{or_right as or_first}
 
 pub record Paired (f : ℕ → ℕ → Pair) : Type 0 where
@@ -78,12 +78,10 @@ route_packed f a b id ab out h =
     let first : Goes f g = route_out f a b id ab h in
     let is : g a b ≡ routed_out (f a b) id = set_same f a b (routed_on a b (f a b) id) ∙ routed_out-is a b (f a b) id ab in
     let gone : (g a b).gone ≡ (f a b).gone = ap (λ (p : Pair). p.gone) is in
-    let acked : (g a b).acked ≡ (f a b).acked = ap (λ (p : Pair). p.acked) is in
-    let ids : length (g a b).ids ≡ length (f a b).ids + 1 = ap (λ (p : Pair). length p.ids) is ∙ one_more (f a b) id in
     let all : (f a b).gone ≡ length (f a b).ids = grind (arith, nat_tests) in
     let room : (f a b).gone - (f a b).acked < 8 = grind (arith, nat_tests) in
     Goes-on f g (at_pair g a b (packed (Load.Data (length (f a b).ids)) (g a b))) first
-    (next_goes g a b (length (f a b).ids) ab (sym all ∙ sym gone) (omega (arith, ids)) (omega (arith, all, room, acked)) first.paired)
+    (next_goes g a b (length (f a b).ids) ab (sym all ∙ sym gone) (omega (arith, ap (λ (p : Pair). length p.ids) is ∙ one_more (f a b) id)) (omega (arith, all, room, ap (λ (p : Pair). p.acked) is)) first.paired)
 
 route_same : (f : ℕ → ℕ → Pair) (a : ℕ) (id : MsgId) → Paired f → Goes f (at_pair f a a (routed_on a a (f a a) id))
 route_same f a id h =

@@ -1,7 +1,7 @@
 -- Wherever the rule leads, each process is in a phase.
-use Rattle.dm_rule.proofs.Names.{◌≡◌, ℕ, ◌<◌, ◌≤◌, ◌==◌, ◌&&◌, ◌||◌, Bool, true, false, List, [], ◌∷◌, ◌++◌, length, refl, ap, ◌∙◌, sym, subst, inl, inr, arith, if◌then◌else◌, map, option_map, Option, None, Some, cases_Bool}
-use Rattle.dm_rule.proofs.Names.{slice_get_cases, nat_tests, Pid, pid_eq, plain_link, BootImage, BootProcess, Boot, IsValid, processes_are_valid, switchboard, manager, Life, Alive, begun, first_life, life_at, Step, Known, Unknown, Here}
-use Rattle.dm_rule.proofs.Names.{known_at, ring_at, Point, first_point, is_due, IsStep, Leads, PhasesAlways, Spelled, group_of, false_from_ne_true}
+use Rattle.dm_rule.proofs.Names.{◌≡◌, ℕ, ◌<◌, ◌≤◌, ◌==◌, ◌&&◌, ◌||◌, Bool, true, false, List, [], ◌∷◌, ◌++◌, length, refl, ap, ◌∙◌, sym, subst, inl, inr, arith, if◌then◌else◌, map, option_map, None, Some, cases_Bool, slice_get_cases}
+use Rattle.dm_rule.proofs.Names.{nat_tests, Pid, pid_eq, plain_link, BootProcess, Boot, IsValid, processes_are_valid, switchboard, manager, Alive, begun, first_life, life_at, Step, Known, Unknown, Here, known_at, ring_at, Point}
+use Rattle.dm_rule.proofs.Names.{first_point, is_due, IsStep, Leads, PhasesAlways, Spelled, group_of, false_from_ne_true}
 use Rattle.dm_rule.proofs.Pairs.{Pairs, Pairs-start, Pairs-group}
 use Rattle.dm_rule.proofs.States.{State}
 use Rattle.dm_rule.proofs.Groups.{fits, State-start, State-group}
@@ -85,4 +85,6 @@ phased_on b (d ∷ es) pt end (w, fit, is, rest) h = phased_on b es w.point end 
 
 -- wherever the rule leads
 pub phases_always : PhasesAlways
-phases_always b es pt p valid leads = let h = phased_on b es (first_point b) pt leads (phased_start b valid) in (h.phases.of p, h.phases.each p, false_from_ne_true (is_due (h.phases.of p)) (λ e. let f : None ≡ Some p = h.phases.put p e in cc))
+phases_always b es pt p valid leads =
+    let h = phased_on b es (first_point b) pt leads (phased_start b valid) in
+    (h.phases.of p, h.phases.each p, false_from_ne_true (is_due (h.phases.of p)) (λ e. let f : None ≡ Some p = h.phases.put p e in cc))

@@ -106,11 +106,8 @@ sent_learns pt n i is t h u front told =
       ];
       on = λ j x q apart e b ab z st. elim (cases_Bool (id_eq i j)) [
         | inl is_i ↦ absurd (
-            let ij : i ≡ j = id_eq-is i j is_i in
-            let f : Some t ≡ Some x = sym told ∙ ap v.told ij ∙ e in
-            let g : t ≡ x = cc in
-            let pq : u.p ≡ q = of_same u.p q (sym (ap (λ (y : Told). y.about) u.told) ∙ ap (λ (y : Told). y.about) g ∙ ab) in
-            false≢true (sym apart ∙ ap (pid_eq u.p) (sym pq) ∙ pid_eq-same u.p))
+            let f : Some t ≡ Some x = sym told ∙ ap v.told (id_eq-is i j is_i) ∙ e in
+            false≢true (sym apart ∙ ap (pid_eq u.p) (sym (of_same u.p q (sym (ap (λ (y : Told). y.about) u.told) ∙ ap (λ (y : Told). y.about) (let g : t ≡ x = cc in g) ∙ ab))) ∙ pid_eq-same u.p))
         | inr off_i ↦ (z, (let e_ : 1 ≤ standing (view_after pt.view (Line.SentOn u.p n)) j z = grind (arith, nat_tests, queued_plain, held_plain, first_same) in e_))
       ];
     }
@@ -161,8 +158,7 @@ left_row pt p s d b w h apart to e =
     }) refl apart
     (λ m. ap (knows (Moves MessageKind.Restart s d None) m) (left_at v s m p (v.moves p + 1) h.acting) ∙ left_known s d m (v.moves p + 1) (s == m) (v.known m p) refl (was m))
     (λ j x z. absurd (let f : None ≡ Some j = sym (ap token_in h.now) ∙ x in cc)) in
-    let whole : WholeBut (Some p) next = (search (arith, by_line, Stands-stays, left_off, fits_as, pair_same)) in
-    subst Whole n.point (owns_whole next p MessageKind.Restart s d b n.rest whole turned.now refl h.acting to n.more)
+    subst Whole n.point (owns_whole next p MessageKind.Restart s d b n.rest (let whole : WholeBut (Some p) next = (search (arith, by_line, Stands-stays, left_off, fits_as, pair_same)) in whole) turned.now refl h.acting to n.more)
 
 pub leaves_row : (pt : Point) (i : MsgId) (is : List MsgId) (t : Told) (ids : List MsgId) (k : Known) (parts : List Part) (w : Spelled) (h : Whole pt) (u : Due pt i t h.phases) → u.k ≡ MessageKind.AllTaken → pt.view.inbox pt.view.acting ≡ i ∷ is → pt.view.told i ≡ Some t → is_kernels i ≡ true
     → both_lists pt.view u.p ≡ ids → leaves i u.p ids k ≡ Some parts → spelled pt parts ≡ Some w → Whole w.point

@@ -1,8 +1,8 @@
 -- A process ends, and one is made.
-use Rattle.dm_rule.proofs.Names.{◌≡◌, ℕ, ◌≤◌, ◌==◌, Bool, true, false, refl, ap, ◌∙◌, sym, subst, inl, arith, if◌then◌else◌, Option, None, Some, false≢true, nat_tests, Pid, MsgId, MessageKind, Label, Line, id_eq, Why, at_record, View, Told}
+use Rattle.dm_rule.proofs.Names.{◌≡◌, ℕ, ◌≤◌, ◌==◌, Bool, true, false, refl, ap, ◌∙◌, sym, subst, inl, arith, if◌then◌else◌, Option, None, Some, false≢true, nat_tests, Pid, MsgId, MessageKind, Label, Line, id_eq, at_record, View, Told}
 use Rattle.dm_rule.proofs.Names.{Known, Unknown, Here, Ended, view_after, handled, served_told, Spot, times, standing, is_between, is_away, is_here, is_over, kind_comes, Phase, Nowhere, Rests, Over, Moves, knows, token_in, id_eq-is}
 use Rattle.dm_rule.proofs.Names.{kind_leaves, false_from_ne_true}
-use Rattle.dm_rule.proofs.Turns.{ended_off, created_off}
+use Rattle.dm_rule.proofs.Turns.{ended_off}
 use Rattle.dm_rule.proofs.Phases.Calm.{Plain}
 use Rattle.dm_rule.proofs.Phases.Lines.{handled_spots}
 use Rattle.dm_rule.proofs.Phases.Stand.{none_only, InPhases, Learns, learns_phases}
@@ -54,10 +54,9 @@ pub made_phases : (v w : View) (p : Pid) → InPhases v → ((m : ℕ) → v.kno
 made_phases v w p h unknown known told spots =
     let made_of : (a m : ℕ) (b : Bool) → (a == m) ≡ b → knows (Rests a) m (if b then Here else Unknown) ≡ true = λ a m b h1. search arith in
     let a = v.acting in
-    let phase : h.of p ≡ Nowhere = nowhere_known (h.of p) (λ m. sym (ap (knows (h.of p) m) (unknown m)) ∙ (h.each p).known m) in
     (learns_phases v w p (Rests a) h (none_only p) (still_learns v w p Here known told spots) refl refl
     (λ m. ap (λ (f : ℕ → Pid → Known). knows (Rests a) m (f m p)) known ∙ ap (knows (Rests a) m) (set_at v p Here m ∙ ap (λ (y : Known). if a == m then Here else y) (unknown m)) ∙ made_of a m (a == m) refl)
-    (λ j x z. absurd (let f : None ≡ Some j = sym (ap token_in phase) ∙ x in cc))).phases
+    (λ j x z. absurd (let f : None ≡ Some j = sym (ap token_in (nowhere_known (h.of p) (λ m. sym (ap (knows (h.of p) m) (unknown m)) ∙ (h.each p).known m))) ∙ x in cc))).phases
 
 -- by a message at the front of the inbox that is none of the protocol
 pub front_spots : (v : View) (i j : MsgId) (t : Told) → Plain v i → v.told j ≡ Some t → is_between t.kind ≡ true → (z : Spot) → standing (handled v i) j z ≡ standing v j z
@@ -66,6 +65,5 @@ front_spots v i j t plain told b z = handled_spots v i j (false_from_ne_true (id
 -- a kill ends its receiver
 pub killed_phases : (v : View) (i : MsgId) (t : Told) → InPhases v → Plain v i → v.told i ≡ Some t → t.kind ≡ MessageKind.Kill → v.known v.acting t.receiver ≡ Here → InPhases (view_after v (Line.Label (Label.Served i)))
 killed_phases v i t h plain told k here =
-    let w = view.ended (handled v i) t.receiver in
     subst InPhases (sym (let e_ : served_told (handled v i) (v.told i) ≡ view.ended (handled v i) t.receiver = grind (arith, nat_tests) in e_))
-    (ends_phases v w t.receiver h here refl refl (λ j u e b z. ap (times j) (ended_off (handled v i) t.receiver z) ∙ front_spots v i j u plain e b z))
+    (ends_phases v (view.ended (handled v i) t.receiver) t.receiver h here refl refl (λ j u e b z. ap (times j) (ended_off (handled v i) t.receiver z) ∙ front_spots v i j u plain e b z))

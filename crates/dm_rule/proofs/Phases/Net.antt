@@ -1,7 +1,7 @@
 -- Heads, deliveries, ticks and the directive to migrate leave all processes in their phases.
-use Rattle.dm_rule.proofs.Names.{◌≡◌, ℕ, suc, ◌+◌, ◌≤◌, ◌==◌, ◌&&◌, Bool, true, not, filter, List, [], ◌∷◌, ◌++◌, drop, length, refl, ap, ◌∙◌, sym, subst, inl, inr, arith, if◌then◌else◌, slice_get, Option, None, Some, cases_Bool, Pid}
-use Rattle.dm_rule.proofs.Names.{MsgId, Step, Line, at_machine, at_pair, View, Pair, view_after, after_head, taken_id, with_pair, Point, moved, seen, Part, Says, Transmits, Spelled, packet_line, spelled, migrates, Spot, Queue, Held, Inbox}
-use Rattle.dm_rule.proofs.Names.{Untaken, times, untaken, ids_at, standing, and_parts, eqb-true}
+use Rattle.dm_rule.proofs.Names.{◌≡◌, ℕ, suc, ◌+◌, ◌≤◌, ◌==◌, ◌&&◌, Bool, true, List, [], ◌∷◌, ◌++◌, drop, length, refl, ap, ◌∙◌, sym, subst, inl, inr, arith, if◌then◌else◌, slice_get, Option, None, Some, cases_Bool, Pid, MsgId, Step, Line}
+use Rattle.dm_rule.proofs.Names.{at_machine, at_pair, View, Pair, view_after, after_head, taken_id, with_pair, Point, moved, seen, Part, Says, Transmits, Spelled, packet_line, spelled, migrates, Spot, Queue, Held, Inbox, Untaken, times}
+use Rattle.dm_rule.proofs.Names.{untaken, ids_at, standing, and_parts, eqb-true}
 use Rattle.dm_rule.proofs.Standing.{times-append}
 use Rattle.dm_rule.proofs.Once.{one_of}
 use Rattle.dm_rule.proofs.Lines.{at_place, past_place, pair_keeps, eq_self, taken_pair}
@@ -42,10 +42,9 @@ inbox_back : (v : View) (a b n : ℕ) (i j : MsgId) (m : ℕ) → untaken (v.pai
 inbox_back v a b n i j m front st = elim (cases_Bool (b == m)) [
   | inl same ↦
       let bm : b ≡ m = eqb-true b m same in
-      let now : times j (at_machine v.inbox b (v.inbox b ++ i ∷ []) m) ≡ times j (v.inbox b ++ i ∷ []) = ap (λ (c : Bool). times j (if c then v.inbox b ++ i ∷ [] else v.inbox m)) same in
       elim (cases_zero (times j (v.inbox b))) [
         | inl none ↦
-            inr (Untaken a b, omega (arith, st, now, times-append j (v.inbox b) (i ∷ []), none, ap (times j) front), ap (λ (k : ℕ). Inbox k) (sym bm))
+            inr (Untaken a b, omega (arith, st, ap (λ (c : Bool). times j (if c then v.inbox b ++ i ∷ [] else v.inbox m)) same, times-append j (v.inbox b) (i ∷ []), none, ap (times j) front), ap (λ (k : ℕ). Inbox k) (sym bm))
         | inr some ↦ inl (subst (λ (k : ℕ). 1 ≤ times j (v.inbox k)) bm some)
       ]
   | inr off ↦ inl (subst (λ k. 1 ≤ k) (ap (λ (c : Bool). times j (if c then v.inbox b ++ i ∷ [] else v.inbox m)) off) st)

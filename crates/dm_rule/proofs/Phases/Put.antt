@@ -19,8 +19,7 @@ last_there i xs = let a = times-append i xs (i ∷ []) in let one : one_of i i �
 
 put_by : (v : View) (a b : ℕ) (i : MsgId) (k : MessageKind) (q : Pid) (c : Bool) → (a == b) ≡ c → PairsFit v → 1 ≤ standing (after_put v a b i k q) i (if c then Inbox b else Untaken a b)
 put_by v a b i k q true is fits =
-    let e : times i ((after_put v a b i k q).inbox b) ≡ times i (v.inbox b ++ i ∷ []) = ap (λ (c : Bool). times i ((if c then at_machine v.inbox b (v.inbox b ++ i ∷ []) else v.inbox) b)) is ∙ ap (times i) (at_machine_at v.inbox b (v.inbox b ++ i ∷ [])) in
-    let l = last_there i (v.inbox b) in omega (arith, e, l)
+    let l = last_there i (v.inbox b) in omega (arith, ap (λ (c : Bool). times i ((if c then at_machine v.inbox b (v.inbox b ++ i ∷ []) else v.inbox) b)) is ∙ ap (times i) (at_machine_at v.inbox b (v.inbox b ++ i ∷ [])), l)
 put_by v a b i k q false is fits =
     let p = v.pair a b in
     let at : untaken ((after_put v a b i k q).pair a b) ≡ untaken p ++ i ∷ [] = ap untaken (pair_at v.pair a b (routed_on a b p i)) ∙ ap (λ (c : Bool). drop (if c then p.taken + 1 else p.taken) (p.ids ++ i ∷ [])) is ∙ drop-append-le p.taken p.ids (i ∷ []) (fits.within a b) in

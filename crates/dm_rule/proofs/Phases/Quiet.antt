@@ -198,8 +198,7 @@ tame_kind v i t h told = tame_plain v i h t told
 
 part_calm : (pt next : Point) (p : Part) (ls : List Line) → Sane pt → PairsFit pt.view → Quiet pt.view p → lines_of pt p ≡ Some ls → after pt ls ≡ Some next → (Calm pt.view next.view) × (PairsFit next.view)
 part_calm pt next (Says l) ls h fits quiet is leads =
-    let f : l ∷ [] ≡ ls = cc in
-    let (mid, first, last) = bind-is (after_line pt l) (λ q. after q []) next (ap (after pt) f ∙ leads) in
+    let (mid, first, last) = bind-is (after_line pt l) (λ q. after q []) next (ap (after pt) (let f : l ∷ [] ≡ ls = cc in f) ∙ leads) in
     let (s, step, then_) = bind-is (kernel_after pt.kernel (label_of l)) (λ s. Some (moved pt l s)) mid first in
     let g : moved pt l s ≡ mid = cc in
     let e : mid ≡ next = cc in
@@ -214,8 +213,7 @@ part_calm pt next (Owns k q b) ls h fits quiet is leads =
     let own_plain : (pt : Point) → Sane pt → Plain pt.view (own_id pt.view) = λ pt h t told. absurd (let f : None ≡ Some t = sym (h.numbered pt.view.acting (pt.view.count pt.view.acting) (omega arith)) ∙ told in cc) in
     puts_calm pt next b (own_id pt.view) k q ls fits quiet (own_plain pt h) is leads
 part_calm pt next (Transmits a b l) ls h fits quiet is leads =
-    let f : packet_line pt.view a b l ∷ [] ≡ ls = cc in
-    packet_or_none pt.view pt next false true a b (length (pt.view.pair a b).wire) l (calm_same pt.view) fits (ap (after pt) f ∙ leads)
+    packet_or_none pt.view pt next false true a b (length (pt.view.pair a b).wire) l (calm_same pt.view) fits (ap (after pt) (let f : packet_line pt.view a b l ∷ [] ≡ ls = cc in f) ∙ leads)
 
 pub parts_settle : (ps : List Part) (v : View) (pt : Point) (w : Spelled) → AllQuiet v ps → Settled v pt → spelled pt ps ≡ Some w → Settled v w.point
 parts_settle [] v pt w quiet h is = let f : record { lines = []; point = pt } ≡ w = cc in subst (λ (x : Spelled). Settled v x.point) f h

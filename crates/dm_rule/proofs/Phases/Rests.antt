@@ -95,10 +95,8 @@ back_learns pt l i is t p h quiet front told about off known =
       ];
       on = λ j x q apart e b ab z st. elim (cases_Bool (id_eq i j)) [
         | inl is_i ↦ absurd (
-            let ij : i ≡ j = id_eq-is i j is_i in
-            let f : Some t ≡ Some x = sym told ∙ ap v.told ij ∙ e in
-            let g : t ≡ x = cc in
-            let fq : Of p ≡ Of q = sym about ∙ ap (λ (y : Told). y.about) g ∙ ab in
+            let f : Some t ≡ Some x = sym told ∙ ap v.told (id_eq-is i j is_i) ∙ e in
+            let fq : Of p ≡ Of q = sym about ∙ ap (λ (y : Told). y.about) (let g : t ≡ x = cc in g) ∙ ab in
             let pq : p ≡ q = cc in false≢true (sym apart ∙ ap (pid_eq p) (sym pq) ∙ pid_eq-same p))
         | inr off_i ↦
             let (y, s) = released_on u p j z (subst (λ n. 1 ≤ n) (sym (home_spots v i is p j front off_i z)) st) in

@@ -1,7 +1,7 @@
 -- Rings list what is here, and nothing is known of what was never made: a line after the other.
-use Rattle.dm_rule.proofs.Names.{◌≡◌, ℕ, ◌+◌, ◌≤◌, ◌==◌, not, filter, [], ◌∷◌, ◌++◌, refl, ap, ◌∙◌, sym, subst, ⊤, Option, None, Some, Pid, MsgId, MessageKind, Step, Stage, PlainMessage, PlainWhat, Label, bind, Life, Alive, OneKernel, Line}
-use Rattle.dm_rule.proofs.Names.{at_machine, at_record, without, moved_back, View, Told, About, Of, Known, Unknown, Here, Frozen, Incoming, Ended, view_after, handled, receiver_of, ends_by, served_told, front_of, gone_to, Point, label_of}
-use Rattle.dm_rule.proofs.Names.{kernel_after, pid_eq-same, bind-is, when-is, nexts, after_step, at_hand-is, seen, sort_of, arith}
+use Rattle.dm_rule.proofs.Names.{◌≡◌, ℕ, ◌+◌, ◌≤◌, ◌==◌, not, filter, [], ◌∷◌, ◌++◌, refl, ap, ◌∙◌, sym, subst, ⊤, Option, None, Some, Pid, MsgId, MessageKind, Step, Stage, Label, bind, Life, Alive, OneKernel, Line, at_machine, at_record}
+use Rattle.dm_rule.proofs.Names.{without, moved_back, View, Told, About, Of, Known, Unknown, Here, Frozen, Incoming, Ended, view_after, handled, receiver_of, ends_by, served_told, front_of, gone_to, Point, label_of, kernel_after}
+use Rattle.dm_rule.proofs.Names.{pid_eq-same, bind-is, when-is, nexts, after_step, at_hand-is, seen, sort_of, arith}
 use Rattle.dm_rule.proofs.Seen.{aim, sets}
 use Rattle.dm_rule.proofs.Telling.{Sane}
 use Rattle.dm_rule.proofs.Rings.{Rings, all_moved, learnt_without, learnt_last, rings_same, rings_ring, rings_learn, rings_known}

@@ -1,12 +1,11 @@
 -- What a kernel's own message, a turn, and the other directives say needs nothing but for the first line.
-use Rattle.dm_rule.proofs.Names.{◌≡◌, ℕ, List, [], ◌∷◌, ◌++◌, refl, ap, ◌∙◌, Option, None, Some, Pid, MsgId, MessageKind, Boot, PlainProcess, OneKernel, Line, Told, Of, Here, Point, Part, Says, Transmits, sends_on, migrates, arith}
+use Rattle.dm_rule.proofs.Names.{◌≡◌, ℕ, List, [], ◌∷◌, ◌++◌, refl, ap, ◌∙◌, Option, None, Some, Pid, MsgId, MessageKind, Boot, PlainProcess, OneKernel, Told, Of, Here, Point, Part, Says, Transmits, sends_on, arith}
 use Rattle.dm_onekernel.specs.Step as kernel
 use Rattle.dm_rule.specs.Rule as rule
-use Rattle.dm_rule.proofs.Groups.{IsNetLine, IsNet}
+use Rattle.dm_rule.proofs.Groups.{IsNet}
 use Rattle.dm_rule.proofs.Lives.{Lives, Lived, lived_alive, lived_here}
 use Rattle.dm_rule.proofs.Rooted.Lines.{Needs}
 use Rattle.dm_rule.proofs.Rooted.Rows.{AllLoose, First, FirstOf, round_first, forwards_first, handles_first, first_of}
-use Rattle.dm_rule.proofs.Requests.{by_migrates}
 use Rattle.dm_rule.proofs.Hearing.{by_hears}
 
 -- a kernel's own message is handled

@@ -1,9 +1,9 @@
 -- Along lines that fit, and along runs whose groups' lines do.
 use Rattle.dm_rule.proofs.Names.{◌≡◌, ℕ, List, [], ◌∷◌, subst, ⊤, Some, Boot, IsValid, Step, bind-is, Line, IsStep, Spelled, Point, after_line, group_of, Trails, Trodden, first_trodden, along, trails_after, LeadsAlong, TrailsAlways, Holder}
+use Rattle.dm_rule.proofs.Names.{Pid, suc, names, ◌≢◌, Unknown, IsOn, leads, true}
 use Rattle.dm_rule.proofs.Trails.Treads.{Treads, LineFits, line_treads}
 use Rattle.dm_rule.proofs.Trails.Within.{Within, trail_within}
 use Rattle.dm_rule.proofs.Trails.Found.{treads_start}
-use Rattle.dm_rule.proofs.Names.{Pid, suc, names, ◌≢◌, Unknown, IsOn, leads, true}
 use Rattle.dm_rule.proofs.Trails.Leads.{trail_leads}
 
 -- each of these lines fits where the ones before lead

@@ -1,9 +1,7 @@
 -- From each address the forwards lead to its process, in fewer steps than there are machines.
-use Rattle.dm_rule.proofs.Names.{◌≡◌, ◌≢◌, ℕ, suc, true, Some, Pid, Boot, IsValid, Unknown, Holder, names, Point, first_point, Trails, IsOn, first_trails, leads, arith, Trailed}
+use Rattle.dm_rule.proofs.Names.{Boot, IsValid, first_point, first_trails, arith, Trailed}
 use Rattle.dm_rule.proofs.Homes.Start.{Homes-start}
-use Rattle.dm_rule.proofs.Trails.Leads.{trail_leads}
 use Rattle.dm_rule.proofs.Trails.Treads.{Treads}
-use Rattle.dm_rule.proofs.Trails.Within.{Within, trail_within}
 use Rattle.dm_rule.proofs.Trails.Start.{trail_start, stood_start}
 use Rattle.dm_rule.proofs.Phases.Start.{start_phase, starts}
 

@@ -1,6 +1,6 @@
 -- What machines learn of a process agrees with its trail.
 use Rattle.dm_rule.proofs.Names.{◌≡◌, ◌≢◌, ◌⊎◌, ℕ, zero, suc, ◌+◌, ◌<◌, ◌==◌, Bool, true, false, List, [], ◌∷◌, ◌++◌, length, refl, ap, ◌∙◌, sym, inl, inr, arith, nat_tests, if◌then◌else◌, slice_get, Some, slice_get_within, Pid, View}
-use Rattle.dm_rule.proofs.Names.{Known, Unknown, Here, Incoming, Forward, Nowhere, Trails, Trail, StoodOnTrail, eqb-true}
+use Rattle.dm_rule.proofs.Names.{Known, Unknown, Here, Incoming, Forward, Trails, Trail, eqb-true}
 use Rattle.dm_rule.proofs.Lines.{eq_self}
 
 -- lists that grow at the end

@@ -1,6 +1,6 @@
 -- From each place of a trail the forwards lead to the process, in fewer steps than there are machines.
-use Rattle.dm_rule.proofs.Names.{◌≡◌, ◌≢◌, ℕ, zero, suc, ◌+◌, ◌≤◌, ◌<◌, ◌==◌, ◌||◌, Bool, true, false, List, [], ◌∷◌, refl, ap, ◌∙◌, sym, inl, inr, arith, nat_lt, slice_get, Some, cases_eq, or_cases, or_left, or_right, false≢true}
-use Rattle.dm_rule.proofs.Names.{nat_tests, Pid, Place, View, Known, Unknown, Forward, Trails, Trail, IsOn, leads_on, leads, both_true, false_from_ne_true, lt-ltb}
+use Rattle.dm_rule.proofs.Names.{◌≡◌, ◌≢◌, ℕ, zero, suc, ◌+◌, ◌≤◌, ◌<◌, ◌==◌, ◌||◌, Bool, true, false, List, [], ◌∷◌, refl, ap, ◌∙◌, sym, inl, inr, arith, slice_get, Some, cases_eq, or_cases, or_left, or_right, false≢true, Pid, Place, View}
+use Rattle.dm_rule.proofs.Names.{Known, Unknown, Forward, Trails, Trail, IsOn, leads_on, leads, both_true, false_from_ne_true, lt-ltb}
 use Rattle.std.proofs.Common.{eqb-true, eq-eqb}
 pub use Rattle.std.proofs.lemmas.Bool.{lt-ltb as less_test}
 

@@ -2,8 +2,8 @@
 use Rattle.dm_rule.proofs.Names.{◌≡◌, ℕ, ◌+◌, ◌==◌, ◌&&◌, Bool, true, false, not, List, [], ◌∷◌, ◌++◌, length, map, refl, ap, ◌∙◌, sym, subst, if◌then◌else◌, Option, None, Some, false≢true, Pid, Place, pid_eq, PlainLink, first_empty, MsgId}
 use Rattle.dm_rule.proofs.Names.{id_eq, PlainMessage, PlainWhat, Label, Reply, switchboard, manager, bind, PlainProcess, reg, NamedLink, OneKernel, with_sent, answer_id, id_eq-is, id_eq-same, sent_at, bind-is, when-is, View, is_kernels}
 use Rattle.dm_rule.proofs.Names.{Addresses, Holder, Slot, Owner, Receiver, Sender, Enclosed, Answer, Gets, gets, given, gives, holder_eq, encloses, enclosed_from, sends_burden, fills, call_gets, receives_links, slot_after, landing_gets}
-use Rattle.dm_rule.proofs.Names.{serves_burden, child_links, board_finds, board_keeps, board_takes_burden, manager_tells_burden, manager_sends, manager_answers, manager_takes_burden, both_true, at_hand-is, burden_of, option_map_or, arith}
-use Rattle.dm_rule.proofs.Names.{nat_tests, and_parts, not-true, false_from_ne_true, and_right}
+use Rattle.dm_rule.proofs.Names.{serves_burden, child_links, board_finds, board_keeps, board_takes_burden, manager_tells_burden, manager_sends, manager_takes_burden, both_true, at_hand-is, burden_of, option_map_or, arith, nat_tests}
+use Rattle.dm_rule.proofs.Names.{and_parts, not-true, false_from_ne_true, and_right}
 use Rattle.dm_onekernel.specs.Calls as calls
 use Rattle.dm_onekernel.specs.Pieces as pieces
 use Rattle.dm_onekernel.specs.Switchboard as board

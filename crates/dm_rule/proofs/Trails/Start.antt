@@ -1,7 +1,5 @@
 -- Before the first line each process's trail is its home, and each address names it.
-use Rattle.dm_rule.proofs.Names.{◌≡◌, ◌≢◌, ℕ, ◌==◌, ◌&&◌, Bool, true, false, [], ◌∷◌, refl, ◌∙◌, sym, arith, if◌then◌else◌, slice_get, None, Some, nat_tests, Pid, Boot, IsValid, Unknown, Here, Forward, first_view, first_point, Trail}
-use Rattle.dm_rule.proofs.Names.{StoodOnTrail, Trailed, first_trails, both_true}
-use Rattle.dm_rule.proofs.Homes.Start.{Homes-start}
+use Rattle.dm_rule.proofs.Names.{◌≡◌, ◌≢◌, ℕ, ◌==◌, ◌&&◌, Bool, true, false, refl, ◌∙◌, sym, arith, if◌then◌else◌, None, Some, nat_tests, Pid, Boot, Unknown, Here, Forward, first_view, Trail, StoodOnTrail, first_trails, both_true}
 use Rattle.dm_rule.proofs.Phases.Start.{starts, start_known, start_phase}
 
 start_no_forward : (b : Bool) (k j : ℕ) → (if b then Here else Unknown) ≢ Forward k j

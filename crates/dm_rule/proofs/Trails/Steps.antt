@@ -4,7 +4,7 @@ use Rattle.dm_rule.proofs.Names.{pid_eq, MsgId, MessageKind, Line, Stage, at_rec
 use Rattle.dm_rule.proofs.Names.{is_away, Trails, Trail, StoodOnTrail, destination, trails_after, pid_eq-is, pid_eq-same, kind_leaves, and_parts, eqb-true, false_from_ne_true, slice_get_within}
 use Rattle.dm_rule.proofs.Lines.{eq_self}
 use Rattle.dm_rule.proofs.Seen.{aim, sets}
-use Rattle.dm_rule.proofs.Trails.Known.{trail_same, trail_learns, trail_made, trail_left, get_more, get_either, trail_grows}
+use Rattle.dm_rule.proofs.Trails.Known.{trail_same, trail_learns, trail_made, trail_left, trail_grows}
 
 pub holds_is : (k : MessageKind) (d : ℕ) (x : Known) → is_restart k ≡ false → kind_leaves k d x ≡ true → x ≡ Frozen d
 holds_is k d x h1 h2 = search (arith, and_parts, eqb-true)

@@ -5,7 +5,7 @@ use Rattle.dm_rule.proofs.Names.{forwarded_for, forward_about, served_told, ends
 use Rattle.dm_rule.proofs.Names.{is_early, Point, moved, after_line, times, Trails, Trail, StoodOnTrail, IsOn, AddressesOn, OwnOn, trails_after, gives, seen, sort_of, arith}
 use Rattle.dm_rule.proofs.Hushed.{hushed}
 use Rattle.dm_rule.proofs.Seen.{sets}
-use Rattle.dm_rule.proofs.Homes.Labels.{SaidOn, label_on}
+use Rattle.dm_rule.proofs.Homes.Labels.{SaidOn}
 use Rattle.dm_rule.proofs.Phases.Lines.{queued_known, held_known, dropped_known, forwarded_known}
 use Rattle.dm_rule.proofs.Phases.Pieces.{proto_known}
 use Rattle.dm_rule.proofs.Trails.Known.{get_at_end, trail_same}
@@ -18,7 +18,6 @@ use Rattle.dm_rule.proofs.Trails.Labels.{label_links, label_own, label_pending}
 use Rattle.dm_onekernel.specs.Step as kernel
 use Rattle.dm_rule.specs.View as view
 use Rattle.dm_rule.proofs.Homes.Serves as serves
-use Rattle.dm_rule.proofs.Homes.{at_home}
 
 -- what each line keeps
 pub record Treads (pt : Point) (t : Trails) : Type 0 where

@@ -1,6 +1,6 @@
 -- Only machines that act know processes, and so all machines of a trail are among those of the boot file.
-use Rattle.dm_rule.proofs.Names.{◌≡◌, ◌≢◌, ℕ, ◌+◌, ◌<◌, ◌==◌, refl, ◌∙◌, sym, subst, ⊤, not, filter, slice_get, Option, None, Some, Pid, MsgId, Label, Step, Line, Stage, at_record, View, Told, Known, Unknown, Here, actor, view_after}
-use Rattle.dm_rule.proofs.Names.{after_label, after_head, handled, taken_id, queued_for, held_for, forwarded_for, served_told, receiver_of, Trails, Trail, arith, and_parts, eqb-true}
+use Rattle.dm_rule.proofs.Names.{◌≡◌, ◌≢◌, ℕ, ◌+◌, ◌<◌, ◌==◌, refl, ◌∙◌, sym, subst, ⊤, not, filter, slice_get, Option, None, Some, Pid, MsgId, Label, Step, Line, at_record, View, Told, Known, Unknown, Here, actor, view_after, after_label}
+use Rattle.dm_rule.proofs.Names.{after_head, handled, taken_id, queued_for, held_for, forwarded_for, served_told, receiver_of, Trails, Trail, arith, and_parts, eqb-true}
 use Rattle.dm_rule.proofs.Seen.{sets}
 use Rattle.dm_rule.proofs.Homes.Lines.{acting_label}
 use Rattle.dm_rule.proofs.Phases.Lines.{queued_known, held_known, dropped_known, forwarded_known}
