@@ -11,9 +11,10 @@ use Rattle.dm_rule.specs.Rule as rule
 use Rattle.dm_kernel.specs.State as machine
 use Rattle.dm_mirror.proofs.Come.Frames.{Arrives, Comes, arrives}
 use Rattle.dm_mirror.proofs.Come.Pieces.{room_kept, after_lacks, comes_known, first_gone, outcome_kernel, turn_kernel, turns_memory, turns_state}
-use Rattle.dm_mirror.proofs.Come.Turns.{come_point, come_view, eq_off, eq_self, known_same, turns_answer}
+use Rattle.dm_mirror.proofs.Come.Turns.{come_point, come_view, eq_off, eq_self, turns_answer}
 use Rattle.dm_mirror.proofs.Recorded.{recorded}
 use Rattle.dm_mirror.proofs.Rooms.{taken_changed}
+use Rattle.dm_mirror.proofs.Kernel.Sets.{known_at as known_on}
 use Rattle.dm_mirror.proofs.Turning.{TurnsAt}
 use Rattle.dm_mirror.proofs.Handle.Taking.{pid_apart as pid_off, some_same}
 use Rattle.dm_mirror.proofs.Come.Restarts.{turns_restart}
@@ -84,7 +85,7 @@ lacks_row b m pt l records k y p c a is handles none =
       after_lacks pt m p (free_slots k.room) (free_blocks k.room),
       first_gone y.id c.ids (v.inbox m) c.box,
       room_kept b pt m p box v.asked l records k y c,
-      known_same pt (come_view v m p box v.known v.asked) l p (v.queue m p) (v.held m p) (v.known m p) (k.records p) (c.stands.known p a.server),
+      known_on pt next l l p (v.queue m p) (v.held m p) (v.known m p) (k.records p) refl refl refl (λ j least. refl) (λ j least. refl) (c.stands.known p a.server),
     ))
 
 -- there is

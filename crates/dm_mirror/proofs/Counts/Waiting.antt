@@ -71,15 +71,12 @@ remove_length i (y ∷ ys) least = elim (cases_Bool (id_eq i y)) [
       omega (arith, e, remove_length i ys (omega (arith, ap (λ (c : Bool). (if c then 1 else 0) + times i ys) off, least)))
 ]
 
-abbrev one : Bool → ℕ
-one c = if c then 1 else 0
-
-remove_times : (i j : MsgId) (ys : List MsgId) → times j ys ≤ times j (remove i ys) + one (id_eq j i)
+remove_times : (i j : MsgId) (ys : List MsgId) → times j ys ≤ times j (remove i ys) + one_if (id_eq j i)
 remove_times i j [] = omega arith
 remove_times i j (y ∷ ys) = elim (cases_Bool (id_eq i y)) [
   | inl same ↦
       let e : times j (remove i (y ∷ ys)) ≡ times j ys = ap (λ (c : Bool). times j (if c then ys else y ∷ remove i ys)) same in
-      let f : one (id_eq j y) ≡ one (id_eq j i) = ap (λ (g : MsgId). one (id_eq j g)) (sym (id_eq-is i y same)) in
+      let f : one_if (id_eq j y) ≡ one_if (id_eq j i) = ap (λ (g : MsgId). one_if (id_eq j g)) (sym (id_eq-is i y same)) in
       omega (arith, e, f)
   | inr off ↦
       let e : times j (remove i (y ∷ ys)) ≡ times j (y ∷ remove i ys) = ap (λ (c : Bool). times j (if c then ys else y ∷ remove i ys)) off in
@@ -89,7 +86,7 @@ remove_times i j (y ∷ ys) = elim (cases_Bool (id_eq i y)) [
 length_by : (xs ys : List MsgId) → ((i : MsgId) → times i xs ≤ times i ys) → length xs ≤ length ys
 length_by [] ys h = omega arith
 length_by (x ∷ xs) ys h =
-    let first : times x (x ∷ xs) ≡ 1 + times x xs = ap (λ (c : Bool). one c + times x xs) (id_eq-same x) in
+    let first : times x (x ∷ xs) ≡ 1 + times x xs = ap (λ (c : Bool). one_if c + times x xs) (id_eq-same x) in
     let rest = length_by xs (remove x ys) (λ i. let a = h i in let c = remove_times x i ys in omega (arith, a, c)) in
     omega (arith, remove_length x ys (omega (arith, first, h x)), rest)
 

@@ -1,4 +1,5 @@
 -- The delivery of a packet: the machines do what the rule says.
+use Rattle.dm_mirror.proofs.Names.{Early, Old, after_line, arrival}
 use Rattle.dm_mirror.proofs.Names.{PairStands, stream_of}
 use Rattle.dm_mirror.proofs.Names.{◌≡◌, ◌≢◌, ℕ, ◌+◌, ◌-◌, ◌<◌, ◌≤◌, List, [], ◌∷◌, length, refl, ap, ◌∙◌, sym, subst, arith, Some, Message, Sending, with_acked, Receiving, after_arrival, Arrived, Data, Ack, load_at, after_mark, Boot}
 use Rattle.dm_mirror.proofs.Names.{nat_tests, Line, at_pair, Pair, oldest, at_least, Point, moved, has, kept_from, less, more, numbers_from, repeats, taken_pair, Placed, NodeState, here, with_message, with_receiver, with_sender}
@@ -34,37 +35,33 @@ module _ (b : Boot) (w : WorldState) (pt : Point) (l : Placed) (h : History) (a 
   abbrev pub Comes : Load Message → List Part → Type 0
   Comes carried ps = Follows b c (marked_world w a c k) (begun pt a c k) l (node.arrives (w.nodes c) a carried) ps
 
+  -- it is said to be old or early, and what was taken is acknowledged
+  again_comes : (n : ℕ) (x : Message) (said : ℕ → Line) (o : Arrived Message) → arrival ((w.nodes c).receivers a) n x ≡ o → ((z : NodeState) → node.comes z a n o ≡ before (Says (said (here z)) ∷ []) (record { state = z; outs = acknowledges z a }))
+      → (after_arrival ((w.nodes c).receivers a) n x).count ≡ ((w.nodes c).receivers a).count → after_line (begun pt a c k) (said c) ≡ Some (moved (begun pt a c k) (said c) pt.kernel)
+      → StandsWith b (come_to w a c k (with_receiver (w.nodes c) a (after_arrival ((w.nodes c).receivers a) n x))) (moved (begun pt a c k) (said c) pt.kernel) l (marked_in h a c k)
+      → Comes (Data n x) (Part.Says (said c) ∷ Part.Transmits c a (load.Ack (pt.view.pair a c).taken) ∷ [])
+  again_comes n x said o is comes count goes stands =
+      let next : NodeState = with_receiver (w.nodes c) a (after_arrival ((w.nodes c).receivers a) n x) in
+      let v : WorldState = come_to w a c k next in
+      let q : Point = moved (begun pt a c k) (said c) pt.kernel in
+      let ps : List Part = Part.Transmits c a (load.Ack (pt.view.pair a c).taken) ∷ [] in
+      let set : v.nodes c ≡ next = at_here w.nodes c next in
+      let counted : (pt.view.pair a c).taken ≡ ((v.nodes c).receivers a).count =
+      sym there.taken ∙ sym (ap (λ (z : NodeState). (z.receivers a).count) set ∙ ap (λ (z : Receiving Message). z.count) (at_here (w.nodes c).receivers a (after_arrival ((w.nodes c).receivers a) n x)) ∙ count) in
+      let last = acknowledged b l a c apart v q (marked_in h a c k) stands a_in c_in (pt.view.pair a c).taken counted in
+      let whole = says_on b c (marked_world w a c k) (begun pt a c k) q l next (said (here (w.nodes c))) (said c) (record { state = next; outs = acknowledges next a }) ps (ap said (s.nodes c c_in).kernel.here) goes
+      (subst (λ (z : NodeState). Follows b c v q l (record { state = z; outs = acknowledges z a }) ps) set last) in
+      subst (λ (z : Acted). Follows b c (marked_world w a c k) (begun pt a c k) l z (Part.Says (said c) ∷ ps)) (sym (ap (node.comes next a n) is ∙ comes next)) whole
+
   -- what was taken before
   pub old_comes : (n : ℕ) (m x : Message) → load_at (h.packets a c) k ≡ Some (Data n m) → n < ((w.nodes c).receivers a).count → Comes (Data n x) (Part.Says (Line.Old a c n) ∷ Part.Transmits c a (load.Ack (pt.view.pair a c).taken) ∷ [])
   old_comes n m x e lt =
-      let r : Receiving Message = (w.nodes c).receivers a in
-      let next : NodeState = with_receiver (w.nodes c) a (after_arrival r n x) in
-      let v : WorldState = come_to w a c k next in
-      let q : Point = moved (begun pt a c k) (Line.Old a c n) pt.kernel in
-      let g : History = marked_in h a c k in
-      let set : v.nodes c ≡ next = at_here w.nodes c next in
-      let count : (pt.view.pair a c).taken ≡ ((v.nodes c).receivers a).count =
-      sym there.taken ∙ sym (ap (λ (z : NodeState). (z.receivers a).count) set ∙ ap (λ (z : Receiving Message). z.count) (at_here (w.nodes c).receivers a (after_arrival r n x) ∙ after_old_is r n x lt)) in
-      let last = acknowledged b l a c apart v q g (old_stands b w pt l h a c s a_in c_in apart k n m e x lt) a_in c_in (pt.view.pair a c).taken count in
-      let last_here = subst (λ (z : NodeState). Follows b c v q l (record { state = z; outs = acknowledges z a }) (Part.Transmits c a (load.Ack (pt.view.pair a c).taken) ∷ [])) set last in
-      let whole = says_on b c (marked_world w a c k) (begun pt a c k) q l next (Line.Old a (here (w.nodes c)) n) (Line.Old a c n) (record { state = next; outs = acknowledges next a }) (Part.Transmits c a (load.Ack (pt.view.pair a c).taken) ∷ []) (ap (λ (i : ℕ). Line.Old a i n) (s.nodes c c_in).kernel.here) refl last_here in
-      subst (λ (z : Arrived Message). Follows b c (marked_world w a c k) (begun pt a c k) l (node.comes next a n z) (Part.Says (Line.Old a c n) ∷ Part.Transmits c a (load.Ack (pt.view.pair a c).taken) ∷ [])) (sym (arrival_old r n x lt)) whole
+      again_comes n x (λ i. Line.Old a i n) Old (arrival_old ((w.nodes c).receivers a) n x lt) (λ z. refl) (ap (λ (z : Receiving Message). z.count) (after_old_is ((w.nodes c).receivers a) n x lt)) refl (old_stands b w pt l h a c s a_in c_in apart k n m e x lt)
 
   -- what comes early
   pub early_comes : (n : ℕ) (m : Message) → load_at (h.packets a c) k ≡ Some (Data n m) → ((w.nodes c).receivers a).count < n → Comes (Data n m) (Part.Says (Line.Early a c n) ∷ Part.Transmits c a (load.Ack (pt.view.pair a c).taken) ∷ [])
   early_comes n m e gt =
-      let r : Receiving Message = (w.nodes c).receivers a in
-      let next : NodeState = with_receiver (w.nodes c) a (after_arrival r n m) in
-      let v : WorldState = come_to w a c k next in
-      let q : Point = moved (begun pt a c k) (Line.Early a c n) pt.kernel in
-      let g : History = marked_in h a c k in
-      let set : v.nodes c ≡ next = at_here w.nodes c next in
-      let count : (pt.view.pair a c).taken ≡ ((v.nodes c).receivers a).count =
-      sym there.taken ∙ sym (ap (λ (z : NodeState). (z.receivers a).count) set ∙ ap (λ (z : Receiving Message). z.count) (at_here (w.nodes c).receivers a (after_arrival r n m) ∙ after_early_is r n m gt)) in
-      let last = acknowledged b l a c apart v q g (early_stands b w pt l h a c s a_in c_in apart k n m e gt) a_in c_in (pt.view.pair a c).taken count in
-      let last_here = subst (λ (z : NodeState). Follows b c v q l (record { state = z; outs = acknowledges z a }) (Part.Transmits c a (load.Ack (pt.view.pair a c).taken) ∷ [])) set last in
-      let whole = says_on b c (marked_world w a c k) (begun pt a c k) q l next (Line.Early a (here (w.nodes c)) n) (Line.Early a c n) (record { state = next; outs = acknowledges next a }) (Part.Transmits c a (load.Ack (pt.view.pair a c).taken) ∷ []) (ap (λ (i : ℕ). Line.Early a i n) (s.nodes c c_in).kernel.here) refl last_here in
-      subst (λ (z : Arrived Message). Follows b c (marked_world w a c k) (begun pt a c k) l (node.comes next a n z) (Part.Says (Line.Early a c n) ∷ Part.Transmits c a (load.Ack (pt.view.pair a c).taken) ∷ [])) (sym (arrival_early r n m gt)) whole
+      again_comes n m (λ i. Line.Early a i n) Early (arrival_early ((w.nodes c).receivers a) n m gt) (λ z. refl) (ap (λ (z : Receiving Message). z.count) (after_early_is ((w.nodes c).receivers a) n m gt)) refl (early_stands b w pt l h a c s a_in c_in apart k n m e gt)
 
   -- what is next, and so many of those that are kept behind it
   taken_follows : (fuel n : ℕ) (m : Message) → load_at (h.packets a c) k ≡ Some (Data n m) → n ≡ ((w.nodes c).receivers a).count
