@@ -39,10 +39,6 @@ elsewhere_by s d n i k at_source at_destination e f off h = grind (arith, nat_te
 not_elsewhere : (b : Boot) (m : ℕ) (pt : Point) (l : Placed) (k : KernelState) (y : Message) (p : Pid) (a : Arrives b m pt l k y p) (n : ℕ) → kind_of y.what ≡ MessageKind.Restart → n ≢ m → has_process (pt.view.known n p) ≡ false
 not_elsewhere b m pt l k y p a n is apart = grind (arith, nat_tests, elsewhere_by, eq_off)
 
--- where messages stand then
-back_box : (v : View) (m : ℕ) (p : Pid) (i : MsgId) (is : List MsgId) → v.inbox m ≡ i ∷ is → v.held m p ++ at_machine v.inbox m (drop 1 (v.inbox m)) m ≡ v.held m p ++ is
-back_box v m p i is box = ap (λ (xs : List MsgId). v.held m p ++ xs) (machine_self v.inbox m (drop 1 (v.inbox m)) ∙ first_gone i is (v.inbox m) box)
-
 held_fewer : (v : View) (m n : ℕ) (p q : Pid) (j : MsgId) (d : Bool) → times j (if d then [] else v.held n q) ≤ times j (v.held n q)
 held_fewer v m n p q j d = grind (arith, nat_tests)
 
@@ -111,13 +107,15 @@ turns_restart b m pt l records k y p q c e =
     ] in
     let line = Line.Migration Stage.Restarted p in
     let asker : h.arrival.asker ≡ l.notes p = ap (λ (z : Arrival). z.asker) h.pieces in
+    -- where messages stand then
+    let back_box : v.held m p ++ at_machine v.inbox m (drop 1 (v.inbox m)) m ≡ v.held m p ++ c.ids = ap (λ (xs : List MsgId). v.held m p ++ xs) (machine_self v.inbox m (drop 1 (v.inbox m)) ∙ first_gone y.id c.ids (v.inbox m) c.box) in
     let ends : EndsMove b m pt l records k p line state next.view placed = record {
       run = c.run;
       said = refl;
       mirrors = restarted_mirrors (begun pt m) l p x (mirrors_view pt.kernel v (begun pt m).view pt.addresses l refl c.mirrors) a.there;
       kernel = stands_set b pt next l placed m k state p (search (others, set, record_others, mine, keeps)) stands
           (ap (λ ring. ring ++ p ∷ []) stands.ring ∙ sym (machine_self v.ring m (v.ring m ++ p ∷ [])))
-          (subst (λ (is : List MsgId). AreMessages l.bag is (h.arrival.held ++ c.rest)) (sym (machine_self front m (v.held m p ++ front m) ∙ back_box v m p y.id c.ids c.box))
+          (subst (λ (is : List MsgId). AreMessages l.bag is (h.arrival.held ++ c.rest)) (sym (machine_self front m (v.held m p ++ front m) ∙ back_box))
           (are_both l.bag (v.held m p) c.ids h.arrival.held c.rest h.comes_.held c.others))
           stands.made (room_stays k.room _ _ _ (taken_same pt next m refl (λ n. refl) (λ q. taken_at_record pt next m p q Here refl refl (sym (ap takes_room incoming)))) stands.room) stands.servers;
       sent = λ count. count;

@@ -99,18 +99,16 @@ may_answer b m pt l records k y p c a h =
     let here = c.stands.here in
     let id : x.id ≡ id_of (pid_of m 0) (pt.view.count m) = λ i. id_of (pid_of (here i) 0) (c.count i) in
     let untold : pt.view.told x.id ≡ None = ap pt.view.told id ∙ next_untold b pt m c.run in
-    let at_home : unmoved y.sender.pid.home ≡ place_of y.sender = subst (λ (z : Addr). unmoved z.pid.home ≡ place_of z) (sym a.sender) refl in
     let gives = h.gives v x.id y.sender.pid in
-    let comes : destination_of x.id (told_of x) ≡ m = ap (λ (d : Bool). if d then y.sender.pid.home else k.here) h.is_reply ∙ here in
     let known : at_machine records m h.state.records (destination_of x.id (told_of x)) p ≡ h.state.records p =
-    ap (λ (n : ℕ). at_machine records m h.state.records n p) comes ∙ (λ i. machine_self records m h.state.records i p) in
+    ap (λ (n : ℕ). at_machine records m h.state.records n p) (ap (λ (d : Bool). if d then y.sender.pid.home else k.here) h.is_reply ∙ here) ∙ (λ i. machine_self records m h.state.records i p) in
     record {
       id = id;
       plain = ap (with_what x) h.plain;
       encloses = h.encloses;
       bag = fresh_own b pt l x.id c.run c.mirrors c.own refl untold;
       untold = untold;
-      receiver = gets_receiver pt.addresses v x.id y.sender.pid _ gives ∙ at_home;
+      receiver = gets_receiver pt.addresses v x.id y.sender.pid _ gives ∙ (subst (λ (z : Addr). unmoved z.pid.home ≡ place_of z) (sym a.sender) refl);
       sender = gets_sender pt.addresses v x.id y.sender.pid _ gives ∙ ap unmoved (sym here);
       about = sym h.about;
       asker = λ e. absurd (false≢true (sym (ap is_between e) ∙ h.between));

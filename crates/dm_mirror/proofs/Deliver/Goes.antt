@@ -73,7 +73,6 @@ module _ (b : Boot) (w : WorldState) (pt : Point) (l : Placed) (h : History) (a 
       let next : NodeState = with_message (with_receiver (w.nodes c) a (after_arrival r n m)) m in
       let v : WorldState = come_to w a c k next in
       let q : Point = moved (begun pt a c k) (Line.Taken a c n) pt.kernel in
-      let g : History = marked_in h a c k in
       let ks : List ℕ = (pt.view.pair a c).kept in
       let set : v.nodes c ≡ next = at_here w.nodes c next in
       let count : n + 1 ≡ ((v.nodes c).receivers a).count =
@@ -84,7 +83,7 @@ module _ (b : Boot) (w : WorldState) (pt : Point) (l : Placed) (h : History) (a 
       let now : q.view.pair a c ≡ p = ap (λ (f : ℕ → ℕ → Pair). f a c) (taken_pair (view.with_pair (begun pt a c k).view a c p) c (oldest (first a c))) ∙ pair_here first a c p in
       let before_it : (i : ℕ) → n ≤ i → has i ks ≡ has i (first a c).kept = λ i le. ap (λ (z : Pair). has i z.kept) (sym (pair_here pt.view.pair a c mark)) in
       let later : (i : ℕ) → n + 1 ≤ i → has i ks ≡ has i (q.view.pair a c).kept = λ i le. kept_after b l a c apart first n ks before_it i le ∙ ap (λ (z : Pair). has i z.kept) (sym now) in
-      let rest = takes_follow b l a c apart fuel v q g (taken_stands b w pt l h a c s a_in c_in apart k n m e is) a_in c_in ks (n + 1) count later in
+      let rest = takes_follow b l a c apart fuel v q (marked_in h a c k) (taken_stands b w pt l h a c s a_in c_in apart k n m e is) a_in c_in ks (n + 1) count later in
       let rest_here = subst (λ (z : NodeState). Follows b c v q l (then_acknowledges (takes_kept fuel z a) a) (taken_parts b l a c apart ks (n + 1) fuel)) set rest in
       says_on b c (marked_world w a c k) (begun pt a c k) q l next (Line.Taken a (here (w.nodes c)) n) (Line.Taken a c n) (then_acknowledges (takes_kept fuel next a) a) (taken_parts b l a c apart ks (n + 1) fuel) (ap (λ (i : ℕ). Line.Taken a i n) (s.nodes c c_in).kernel.here) refl rest_here
 
@@ -101,7 +100,6 @@ module _ (b : Boot) (w : WorldState) (pt : Point) (l : Placed) (h : History) (a 
       let q : Point = moved (begun pt a c k) (Line.Acked a c n) pt.kernel in
       let g : History = marked_in h a c k in
       let stands : StandsWith b v q l g = acked_stands b w pt l h a c s a_in c_in apart k n e in
-      let set : v.nodes c ≡ next = at_here w.nodes c next in
       let mark : Pair = view.marked (pt.view.pair a c) k in
       let first : ℕ → ℕ → Pair = at_pair pt.view.pair a c mark in
       let p : Pair = record (first c a) { acked = at_least (first c a).acked n } in
@@ -113,7 +111,7 @@ module _ (b : Boot) (w : WorldState) (pt : Point) (l : Placed) (h : History) (a 
       let small : j ≤ 8 = subst (λ (i : ℕ). i ≤ 8) (sym room) (grind (arith, nat_tests, less-right, stands.pairs c a c_in a_in (λ e. apart (sym e)))) in
       let rest = lets_follow b l a c apart 8 v q g stands a_in c_in j room small in
       let rest_from = subst (λ (i : ℕ). Follows b c v q l (lets_go 8 (v.nodes c) a) (repeats c a (numbers_from i j))) (ap (λ (z : Pair). z.gone) now) rest in
-      let rest_here = subst (λ (z : NodeState). Follows b c v q l (lets_go 8 z a) (repeats c a (numbers_from old.gone j))) set rest_from in
+      let rest_here = subst (λ (z : NodeState). Follows b c v q l (lets_go 8 z a) (repeats c a (numbers_from old.gone j))) (at_here w.nodes c next) rest_from in
       says_on b c (marked_world w a c k) (begun pt a c k) q l next (Line.Acked a (here (w.nodes c)) n) (Line.Acked a c n) (lets_go 8 next a) (repeats c a (numbers_from old.gone j)) (ap (λ (i : ℕ). Line.Acked a i n) (s.nodes c c_in).kernel.here) refl rest_here
 
 -- The packet of a delivery is read as it was put, and its machine may take it.
@@ -177,9 +175,6 @@ few b m n valid are lt = let most : nat_le (length b.machines) 16 ≡ true = val
 outstanding_is : (s : Sending Message) (given : List Message) (n : ℕ) (m : Message) → s.unacked ≡ drop s.acked given → s.acked ≤ n → n < s.gone → slice_get given n ≡ Some m → outstanding s (n - s.acked) ≡ Some (n, m)
 outstanding_is s given n m e above below is = grind (arith, nat_tests, slice_get, get-drop, nat_lt, less_test)
 
-put_is : (a c : ℕ) (o : Option (stream.Packet Message)) (carried : Load Message) → load_in o ≡ Some carried → option_map (bytes_for a c) o ≡ Some (spelling (out.packet_of_load a c carried))
-put_is a c o carried e = grind (arith, nat_tests)
-
 pub reads_as : (b : Boot) (w : WorldState) (pt : Point) (l : Placed) (h : History) (a c k : ℕ) → IsValid b → StandsWith b w pt l h → a < pt.kernel.machines → c < pt.kernel.machines → a ≢ c → pt.kernel.machines ≡ length b.machines → IsReadable w → ReadsAs w h a c k
 reads_as b w pt l h a c k valid s a_in c_in apart machines_are readable n m e =
     let there : PairStands b pt l w h a c = s.pairs a c a_in c_in apart in
@@ -188,8 +183,8 @@ reads_as b w pt l h a c k valid s a_in c_in apart machines_are readable n m e =
     let near : n < 2 ^ 32 - 1 = (MayCome-stands (stream_of w h a c) there.stream).numbered k n m e in
     let route : IsRoute a c = record { from = omega arith; to = omega arith; apart = λ same. apart (sym same) } in
     let loads : load_in (slice_get (h.packets a c) k) ≡ Some (Data n m) = sym (load_is (h.packets a c) k (slice_get (h.packets a c) k) refl) ∙ e in
-    let put : bytes_at (w.wires a c) k ≡ Some (spelling (Packet.Data a c n m)) = bytes_are b pt l w h a c k there ∙ put_is a c (slice_get (h.packets a c) k) (Data n m) loads in
-    let (p, read) = readable.reads a c k (spelling (Packet.Data a c n m)) put in
+    let put_is : option_map (bytes_for a c) (slice_get (h.packets a c) k) ≡ Some (spelling (out.packet_of_load a c (Data n m))) = grind (arith, nat_tests) in
+    let (p, read) = readable.reads a c k (spelling (Packet.Data a c n m)) (bytes_are b pt l w h a c k there ∙ put_is) in
     let (x, is) = numbered a c n (message.read (spell_message m)) p (sym (read_on a c n m route (omega arith)) ∙ read) in
     let given : slice_get (h.given a c) n ≡ Some m = there.stream.sent.data_given k n m e in
     record {

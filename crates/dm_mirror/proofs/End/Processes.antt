@@ -1,5 +1,6 @@
 -- What a machine has of a process at the end, by what the lines say that it knows.
-use Rattle.dm_mirror.proofs.Names.{◌≡◌, ◌≢◌, ◌⊎◌, ℕ, ◌<◌, true, false, is_some, List, refl, ap, ◌∙◌, sym, subst, inl, inr, arith, option_map, Option, None, Some, nat_tests, Pid, pid_of, MessageKind, Record, About, plain_what, with_what}
+use Rattle.dm_mirror.proofs.Names.{View}
+use Rattle.dm_mirror.proofs.Names.{◌≡◌, ◌≢◌, ◌⊎◌, ℕ, ◌<◌, true, false, is_some, List, refl, ap, ◌∙◌, sym, subst, inl, inr, arith, option_map, Option, None, Some, nat_tests, Pid, pid_of, MessageKind, Record, About, with_what}
 use Rattle.dm_mirror.proofs.Names.{Process, incoming_of, Arrival, Nothing, Boot, Alive, plain_process, EndLine, Standing, or, list_line, Stood, stood_at, first_with, is_away, is_due, Point, Known, Unknown, Incoming, Ended, Told}
 use Rattle.dm_mirror.proofs.Names.{not_true, is_server, Run, Placed, WorldState, alive_lines, awaited_lines, come_lines, first_awaited, first_had, first_says, lines_in, record_lines, record_queue, told_of, History, KnownStands, StandsWith}
 use Rattle.dm_mirror.proofs.Names.{Wants, alive-is, [], Message, MsgId, What, kind_of, Here, Frozen, Forward, come_whole, held_for, names_of, has_nothing_held, AreMessages, ComesStand, Carries, ended_is, ◌≤◌, ◌∷◌, length, map, IfSome}
@@ -66,6 +67,10 @@ pub record IsOfHome (b : Boot) (w : WorldState) (pt : Point) (l : Placed) (h : H
   pub stands : StandsWith b w pt l h
   pub run : Run b pt
   pub server : is_server p ≡ false
+
+-- where a process comes to a machine, nobody has it
+none_has : (v : View) (p : Pid) (a : ComesTo v p) (m : ℕ) → is_silent (v.known m p) ≡ true
+none_has v p a m = grind (arith, nat_tests)
 
 module _ (b : Boot) (w : WorldState) (pt : Point) (l : Placed) (h : History) (p : Pid) (g : IsOfHome b w pt l h p) where
   -- what machine m knows
@@ -136,7 +141,7 @@ module _ (b : Boot) (w : WorldState) (pt : Point) (l : Placed) (h : History) (p 
       ∙ (alive_same pt.addresses a.at p a.standing x (g.stands.mirrors.places.process p (record x { queue = i.rest }) i.placed).slots
       ∙ (ap (rule.alive_lines pt.addresses p (plain_process x)) (sym stood) ∙ ap (rule.process_lines pt p) (sym (alive_of (record x { queue = i.rest }) i.placed))))
 
-  has_queue : (a : HasIt pt.view p) → IsOfHome b w pt l h p → world.queue_of pt.kernel.machines w p ≡ rule.queue_at pt.view p (first_with rule.standing_of pt.view p pt.kernel.machines)
+  has_queue : (a : HasIt pt.view p) → world.queue_of pt.kernel.machines w p ≡ rule.queue_at pt.view p (first_with rule.standing_of pt.view p pt.kernel.machines)
   has_queue a =
       let below = within_has a in
       let i = at_machine a in
@@ -155,16 +160,12 @@ module _ (b : Boot) (w : WorldState) (pt : Point) (l : Placed) (h : History) (p 
       ap (λ (o : Option (List EndLine)). lines_in (or o (first_awaited pt.kernel.machines w p))) (had_at a.at (within_over a) a.others ∙ ap (record_lines a.at p) e.1)
       ∙ ap (rule.process_lines pt p) (sym (ended_is (pt.kernel.processes p) e.0 e.2))
 
-  over_queue : (a : OverAt pt.view p) → IsOfHome b w pt l h p → world.queue_of pt.kernel.machines w p ≡ rule.queue_at pt.view p (first_with rule.standing_of pt.view p pt.kernel.machines)
+  over_queue : (a : OverAt pt.view p) → world.queue_of pt.kernel.machines w p ≡ rule.queue_at pt.view p (first_with rule.standing_of pt.view p pt.kernel.machines)
   over_queue a =
       let below = within_over a in
       queue_by a.at below a.others
       ∙ (ap (λ (r : Option machine.KernelKnown). lines_in (record_queue p r)) (over_machine a).1
       ∙ ap (rule.queue_at pt.view p) (sym (with_at a.at below a.others ∙ ap (λ (k : Known). stood_at a.at (rule.standing_of k)) a.known)))
-
-  -- a process that comes: nobody has it
-  none_has : (a : ComesTo pt.view p) (m : ℕ) → is_silent (pt.view.known m p) ≡ true
-  none_has a m = grind (arith, nat_tests)
 
   to_machine : (a : ComesTo pt.view p) → Recorded pt l p (pt.view.queue a.to p) (pt.view.held a.to p) (Incoming a.from) ((w.nodes a.to).kernel.records p)
   to_machine a = recorded b pt l a.to (w.nodes a.to).kernel p (Incoming a.from) (g.stands.nodes a.to (within_to a)).kernel g.server a.known
@@ -175,8 +176,7 @@ module _ (b : Boot) (w : WorldState) (pt : Point) (l : Placed) (h : History) (p 
       let told = a.token.told in
       let t = g.stands.tokens p a.id (record { kind = MessageKind.Restart; receiver = pid_of a.to 0; about = About.Of p }) a.token.spot told refl refl a.token.stands in
       let m = t.message in
-      let none : plain_what m.what ≡ None = carried_own p t.process (l.notes p) (pt.view.asked p) (incoming_of ((w.nodes a.to).kernel.records p)) m.what t.carries in
-      let own = g.stands.own a.id m t.is (ap (with_what m) none) in
+      let own = g.stands.own a.id m t.is (ap (with_what m) (carried_own p t.process (l.notes p) (pt.view.asked p) (incoming_of ((w.nodes a.to).kernel.records p)) m.what t.carries)) in
       let same : told_of m ≡ record { kind = MessageKind.Restart; receiver = pid_of a.to 0; about = About.Of p } = some_same (told_of m) (record { kind = MessageKind.Restart; receiver = pid_of a.to 0; about = About.Of p }) (sym own.told ∙ told) in
       subst (λ (o : Option machine.KernelKnown). Wants (incoming_of o) Nothing) is
       (restart_wants p t.process (l.notes p) (pt.view.asked p) (incoming_of ((w.nodes a.to).kernel.records p)) m.what (ap (λ (x : Told). x.kind) same) t.carries)
@@ -190,44 +190,43 @@ module _ (b : Boot) (w : WorldState) (pt : Point) (l : Placed) (h : History) (p 
       let there_ = comes.there in
       let f : ℕ → Option (List EndLine) = λ m. record_lines m p ((w.nodes m).kernel.records p) in
       let v : ℕ → Option (List EndLine) = λ m. awaited_lines m p ((w.nodes m).kernel.records p) in
-      let had : first_had n w p ≡ None = first_none (first_says f) f n refl (λ m. refl) (λ m less. silent_machine m (none_has a m) less) in
+      let had : first_had n w p ≡ None = first_none (first_says f) f n refl (λ m. refl) (λ m less. silent_machine m (none_has pt.view p a m) less) in
       let awaited : first_awaited n w p ≡ Some (alive_lines a.to p Standing.Arriving (moved x)) =
       first_at (first_says v) v a.to n refl (λ m. refl) below (λ m less apart. away_machine m (a.others m apart) less)
       ∙ (ap (awaited_lines a.to p) is ∙ ap (come_lines a.to p) (come_all l p (pt.view.held a.to p) c comes (all_come a c is))) in
-      let places = g.stands.mirrors.places.process p x there_ in
       let there : Option Stood = Some (record { at = a.to; standing = Standing.Arriving }) in
       let has : first_with rule.standing_of pt.view p n ≡ None =
-      first_none (first_with rule.standing_of pt.view p) (λ m. stood_at m (rule.standing_of (pt.view.known m p))) n refl (λ m. refl) (λ m less. ap (stood_at m) (silent_has (pt.view.known m p) (none_has a m))) in
+      first_none (first_with rule.standing_of pt.view p) (λ m. stood_at m (rule.standing_of (pt.view.known m p))) n refl (λ m. refl) (λ m less. ap (stood_at m) (silent_has (pt.view.known m p) (none_has pt.view p a m))) in
       let awaits : first_with rule.awaits pt.view p n ≡ there =
       first_at (first_with rule.awaits pt.view p) (λ m. stood_at m (rule.awaits (pt.view.known m p))) a.to n refl (λ m. refl) below (λ m less apart. ap (stood_at m) (away_awaits (pt.view.known m p) (a.others m apart)))
       ∙ ap (λ (k : Known). stood_at a.to (rule.awaits k)) a.known in
       let stood : rule.stood pt.view p n ≡ there = ap (λ (o : Option Stood). or o (first_with rule.awaits pt.view p n)) has ∙ awaits in
       ap (λ (o : Option (List EndLine)). lines_in (or o (first_awaited n w p))) had
       ∙ (ap lines_in awaited
-      ∙ (alive_same pt.addresses a.to p Standing.Arriving (moved x) places.slots
+      ∙ (alive_same pt.addresses a.to p Standing.Arriving (moved x) (g.stands.mirrors.places.process p x there_).slots
       ∙ (ap (rule.alive_lines pt.addresses p (plain_process x)) (sym stood) ∙ ap (rule.process_lines pt p) (sym (alive_of x there_)))))
 
-  to_queue : (a : ComesTo pt.view p) → IsOfHome b w pt l h p → world.queue_of pt.kernel.machines w p ≡ rule.queue_at pt.view p (first_with rule.standing_of pt.view p pt.kernel.machines)
+  to_queue : (a : ComesTo pt.view p) → world.queue_of pt.kernel.machines w p ≡ rule.queue_at pt.view p (first_with rule.standing_of pt.view p pt.kernel.machines)
   to_queue a =
       let n = pt.kernel.machines in
       let f : ℕ → Option (List EndLine) = λ m. record_queue p ((w.nodes m).kernel.records p) in
       let has : first_with rule.standing_of pt.view p n ≡ None =
-      first_none (first_with rule.standing_of pt.view p) (λ m. stood_at m (rule.standing_of (pt.view.known m p))) n refl (λ m. refl) (λ m less. ap (stood_at m) (silent_has (pt.view.known m p) (none_has a m))) in
-      ap lines_in (first_none (first_says f) f n refl (λ m. refl) (λ m less. no_queue m (none_has a m) less)) ∙ ap (rule.queue_at pt.view p) (sym has)
+      first_none (first_with rule.standing_of pt.view p) (λ m. stood_at m (rule.standing_of (pt.view.known m p))) n refl (λ m. refl) (λ m less. ap (stood_at m) (silent_has (pt.view.known m p) (none_has pt.view p a m))) in
+      ap lines_in (first_none (first_says f) f n refl (λ m. refl) (λ m less. no_queue m (none_has pt.view p a m) less)) ∙ ap (rule.queue_at pt.view p) (sym has)
 
   -- each process that was made is somewhere
-  somewhere : → is_some (pt.kernel.processes p) ≡ true → HasIt pt.view p ⊎ (OverAt pt.view p ⊎ ComesTo pt.view p)
+  somewhere : is_some (pt.kernel.processes p) ≡ true → HasIt pt.view p ⊎ (OverAt pt.view p ⊎ ComesTo pt.view p)
   somewhere made =
       let phases = g.run.based.phased.phases in
       where_is pt.view p (phases.of p) (phases.each p) (not_true (is_due (phases.of p)) (λ e. let f : None ≡ Some p = phases.put p e in cc)) (g.run.based.known.home p g.server made)
 
-  pub process_said : → is_some (pt.kernel.processes p) ≡ true → world.process_lines pt.kernel.machines w p ≡ rule.process_lines pt p (pt.kernel.processes p)
+  pub process_said : is_some (pt.kernel.processes p) ≡ true → world.process_lines pt.kernel.machines w p ≡ rule.process_lines pt p (pt.kernel.processes p)
   process_said made = elim (somewhere made) [
     | inl a ↦ has_said a
     | inr c ↦ elim c [ inl a ↦ over_said a | inr a ↦ to_said a ]
   ]
 
-  pub queue_said : → is_some (pt.kernel.processes p) ≡ true → world.queue_of pt.kernel.machines w p ≡ rule.queue_at pt.view p (first_with rule.standing_of pt.view p pt.kernel.machines)
+  pub queue_said : is_some (pt.kernel.processes p) ≡ true → world.queue_of pt.kernel.machines w p ≡ rule.queue_at pt.view p (first_with rule.standing_of pt.view p pt.kernel.machines)
   queue_said made = elim (somewhere made) [
     | inl a ↦ has_queue a
     | inr c ↦ elim c [ inl a ↦ over_queue a | inr a ↦ to_queue a ]
@@ -249,8 +248,7 @@ plain_end : (l : Placed) (o : Option Servers) → o ≡ servers_at l 0 → lengt
 plain_end l None is few lawful = cc
 plain_end l (Some v) is few lawful =
     let same : v ≡ record { board = l.board; manager = l.manager } = cc in
-    let many : length v.manager.children ≡ length l.manager.children = ap (λ (x : Servers). length x.manager.children) same in
-    record { board = lawful.board; children = omega (arith, many, few) }
+    record { board = lawful.board; children = omega (arith, (ap (λ (x : Servers). length x.manager.children) same), few) }
 
 -- where no pair counts more messages than it may, no count is too great
 abbrev pub FewAlways : Type 0

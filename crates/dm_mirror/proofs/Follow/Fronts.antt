@@ -67,8 +67,7 @@ apart_at b m pt l records k y c s j off least =
 pub apart_behind : (b : Boot) (m : ℕ) (pt : Point) (l : Placed) (records : AllRecords) (k : KernelState) (y : Message) (c : Fronts b m pt l records k y) (j : MsgId) → 1 ≤ times j c.ids → id_eq y.id j ≡ false
 apart_behind b m pt l records k y c j least =
     let is : times y.id (y.id ∷ c.ids) ≡ 1 = ap (times y.id) (sym c.box) ∙ (stands_once b pt y.id (Inbox m) c.run (at_front b m pt l records k y c)).0 in
-    let self : times y.id (y.id ∷ c.ids) ≡ 1 + times y.id c.ids = ap (λ (d : Bool). (if d then 1 else 0) + times y.id c.ids) (id_eq-same y.id) in
-    not_it y.id j (λ (i : MsgId). times i c.ids) (omega (arith, is, self)) least
+    not_it y.id j (λ (i : MsgId). times i c.ids) (omega (arith, is, (ap (λ (d : Bool). (if d then 1 else 0) + times y.id c.ids) (id_eq-same y.id)))) least
 
 -- the inbox behind its front
 pub front_gone : (i : MsgId) (is xs : List MsgId) → xs ≡ i ∷ is → without_front i xs ≡ is
@@ -135,8 +134,7 @@ fronted_by b m pt l records k i is (y ∷ rest) below run own_told mirrors stand
     let name : y.id ≡ i = (mirrors.places.message i y there).id in
     let there_ : l.bag y.id ≡ Some y = ap l.bag name ∙ there in
     let box_ : pt.view.inbox m ≡ y.id ∷ is = box ∙ ap (λ (j : MsgId). j ∷ is) (sym name) in
-    let least : 1 ≤ standing pt.view y.id (Inbox m) = subst (λ (z : List MsgId). 1 ≤ times y.id z) (sym box_) (times_self y.id is) in
-    let t = was_told b m pt l y (plain_message y) run mirrors own there_ least refl in
+    let t = was_told b m pt l y (plain_message y) run mirrors own there_ (subst (λ (z : List MsgId). 1 ≤ times y.id z) (sym box_) (times_self y.id is)) refl in
     record {
       message = y;
       fronts = record {
