@@ -1,8 +1,5 @@
 -- Facts on truths that std hasn't in this form.
-use Rattle.dm_laws.proofs.Names.{◌≡◌, Bool, true, false, refl, if◌then◌else◌, Option, None, Some}
-use Rattle.std.specs.Prelude.{◌&&◌, ◌||◌}
-use Rattle.std.proofs.lemmas.Bool.{or_parts, and_right}
-use Rattle.std.proofs.lemmas.Option.{cond_some}
+use Rattle.dm_laws.proofs.Names.{◌≡◌, Bool, true, false, refl, if◌then◌else◌, Option, None, Some, ◌&&◌, ◌||◌, or_parts, and_right, cond_some}
 
 pub or-left : (b c : Bool) → (b || c) ≡ false → b ≡ false
 or-left b c e = (or_parts b c e).0

@@ -101,26 +101,19 @@ module _ (b : Boot) (w : WorldState) (pt : Point) (l : Placed) (h : History) (a 
   goes_none : slice_get (h.packets a c) k ≡ None → GoesOn b w pt (Step.Deliver a c k)
   goes_none is =
       let none : slice_get (pt.view.pair a c).wire k ≡ None = lines_are b pt l w h a c k there ∙ ap (option_map line_of) is in
-      let no_bytes : bytes_at (w.wires a c) k ≡ None = bytes_are b pt l w h a c k there ∙ ap (option_map (bytes_for a c)) is in
       let z : Spelled = record { lines = Line.Nothing ∷ []; point = moved (begun pt a c k) Line.Nothing pt.kernel } in
       record {
         said = record { state = record w { groups = w.groups + 1 }; lines = Line.Head (Step.Deliver a c k) ∷ Line.Nothing ∷ [] };
-        happens = ap (delivers w (Step.Deliver a c k) a c k) no_bytes;
+        happens = ap (delivers w (Step.Deliver a c k) a c k) (bytes_are b pt l w h a c k there ∙ ap (option_map (bytes_for a c)) is);
         group = behind (Line.Head (Step.Deliver a c k) ∷ []) z;
         due = due_by (Part.Says Line.Nothing ∷ []) z (ap (group.arrives a c (pt.view.pair a c) (pt.view.pair c a)) none) refl;
         lines = refl;
         stands = ((l, h, nothing_stands b w pt l h a c s a_in c_in apart k none), counted);
       }
 
-  goes_of : (o : Option (stream.Packet Message)) → slice_get (h.packets a c) k ≡ o → a < 16 → c < 16 → ReadsAs w h a c k → GoesOn b w pt (Step.Deliver a c k)
+  pub goes_of : (o : Option (stream.Packet Message)) → slice_get (h.packets a c) k ≡ o → a < 16 → c < 16 → ReadsAs w h a c k → GoesOn b w pt (Step.Deliver a c k)
   goes_of None is low_a low_c readable = goes_none is
   goes_of (Some p) is low_a low_c readable = goes_with p p.load low_a low_c is refl readable
-
--- a delivery
-pub deliver_goes : (b : Boot) (w : WorldState) (pt : Point) (l : Placed) (h : History) (a c k : ℕ) → IsValid b → Run b pt → StandsWith b w pt l h → CountsStand w pt → a < pt.kernel.machines → c < pt.kernel.machines → a ≢ c
-    → pt.kernel.machines ≡ length b.machines → ReadsAs w h a c k → GoesOn b w pt (Step.Deliver a c k)
-deliver_goes b w pt l h a c k valid run s counted a_in c_in apart machines_are readable =
-    goes_of b w pt l h a c k s counted a_in c_in apart (slice_get (h.packets a c) k) refl (few b a pt.kernel.machines valid machines_are a_in) (few b c pt.kernel.machines valid machines_are c_in) readable
 
 -- what waits on a machine's streams to itself, and to machines that there aren't, could be put into packets: nothing does
 abbrev pub OthersLawful : WorldState → Point → ℕ → Type 0

@@ -93,9 +93,8 @@ module _ (b : Boot) (pt : Point) (l : Placed) (w : WorldState) (h : History) (m 
   -- the world stands for the point behind the put
   pub stands_gave : m ≢ c → m < pt.kernel.machines → c < pt.kernel.machines → is_worn ((w.nodes m).senders c) ≡ false → l.bag x.id ≡ Some x → IsLawfulMessage x → CoreStands b w pt l h → CoreStands b (world_gave w m c x) next l (with_gift h m c x)
   stands_gave apart small less fresh there lawful st =
-      let off : (m == c) ≡ false = apart_is m c apart in
       let pair : PairStands b pt l w h m c = st.pairs m c small less apart in
-      let box : gave.inbox ≡ pt.view.inbox = ap (λ (t : Bool). if t then at_machine pt.view.inbox c (pt.view.inbox c ++ x.id ∷ []) else pt.view.inbox) off in
+      let box : gave.inbox ≡ pt.view.inbox = ap (λ (t : Bool). if t then at_machine pt.view.inbox c (pt.view.inbox c ++ x.id ∷ []) else pt.view.inbox) (apart_is m c apart) in
       let own : (d : ℕ) → (gave.pair d d).ids ≡ (pt.view.pair d d).ids = λ d. ap (λ (p : Pair). p.ids) (pair_other pt.view.pair m c _ d d (own_apart apart d)) in
       let full : length (pt.view.pair m c).ids ≢ b.numbers = let e : given_count ((w.nodes m).senders c) ≡ length (pt.view.pair m c).ids = count_given b pt l w h m c pair in let f : ((w.nodes m).senders c).numbers ≡ b.numbers = pair.numbers in grind (arith, nat_tests, e, f, fresh) in
       record {

@@ -124,7 +124,7 @@ holdings_said : (b : Boot) (w : WorldState) (pt : Point) (l : Placed) (h : Histo
 holdings_said b w pt l h f =
     machines_same (λ m. world.homes_with w (world.held_line w m) pt.kernel.machines) (λ m. rule.each_process pt (λ p. list_line (EndLine.Holding m p) (pt.view.held m p))) pt.kernel.machines
     (λ m below. homes_same w pt (world.held_line w m) (λ p. list_line (EndLine.Holding m p) (pt.view.held m p)) pt.kernel.machines (λ k less. made_same b w pt l h k less f)
-    (λ home n less fewer. holding_said b w pt l h (pid_of home (first_number + n)) m (of_home b w pt l h home n less f) below))
+    (λ home n less fewer. holding_said b w pt l h (pid_of home (first_number + n)) (of_home b w pt l h home n less f) m below))
 
 -- all lines, part by part
 abbrev ending : List EndLine → List EndLine → List EndLine → List EndLine → List EndLine → List EndLine → ℕ → List EndLine

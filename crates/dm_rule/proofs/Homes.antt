@@ -14,7 +14,7 @@ pub mod Lines
 pub mod Parts
 pub mod Groups
 pub mod Turns
-use Rattle.dm_rule.proofs.Names.{◌≡◌, ℕ, true, refl, ap, ◌∙◌, sym, subst, slice_get, Option, None, Some, Pid, Place, PlainLink, link_at, MsgId, PlainMessage, PlainProcess, NamedLink, Pending, MoveNote, OneKernel, links_in, to_of, sender_of}
+use Rattle.dm_rule.proofs.Names.{◌≡◌, ℕ, true, refl, ap, sym, subst, slice_get, Option, None, Some, Pid, Place, PlainLink, link_at, MsgId, PlainMessage, PlainProcess, NamedLink, Pending, MoveNote, OneKernel, links_in, to_of, sender_of}
 use Rattle.dm_rule.proofs.Names.{enclosed_of, names, ascends, Addresses, Holder, Slot, Owner, Receiver, Sender, Enclosed, Child, Name, Answer, AskedBy, unmoved, link_target, owner_in, asker_in, option_and_then, option_map}
 use Rattle.dm_rule.proofs.Names.{arith}
 use Rattle.dm_onekernel.specs.Manager as manage
@@ -67,7 +67,7 @@ link_home : (P : Pid → Place → Type 0) (pl : Place) (q : Pid) (o : Option Pl
 link_home P pl q None h e = cc
 link_home P pl q (Some l) h e = at_home_of P l.to q pl e (h l refl)
 
-slot_home : (P : Pid → Place → Type 0) (a : Addresses) (p : Pid) (k : ℕ) (q : Pid) (o : Option PlainProcess) → ((x : PlainProcess) → o ≡ Some x → HomeProcess P a p x) → link_target (option_and_then (λ (x : PlainProcess). link_at x.links k) o) ≡ Some q → P q (a (Slot p k))
+slot_home : (P : Pid → Place → Type 0) (a : Addresses) (p : Pid) (k : ℕ) (q : Pid) (o : Option PlainProcess) → ((x : PlainProcess) → o ≡ Some x → HomeProcess P a p x) → link_target (option_and_then (λ x. link_at x.links k) o) ≡ Some q → P q (a (Slot p k))
 slot_home P a p k q None h e = cc
 slot_home P a p k q (Some x) h e = link_home P (a (Slot p k)) q (link_at x.links k) (λ l f. (h x refl).slots k l f) e
 
@@ -87,11 +87,11 @@ enclosed_home : (P : Pid → Place → Type 0) (a : Addresses) (i : MsgId) (k : 
 enclosed_home P a i k q None h e = cc
 enclosed_home P a i k q (Some m) h e = link_home P (a (Enclosed i k)) q (slice_get (links_in m.what) k) (λ l f. (h m refl).enclosed k l f) e
 
-name_home : (P : Pid → Place → Type 0) (a : Addresses) (n : ℕ) (q : Pid) (o : Option NamedLink) → ((k : NamedLink) → o ≡ Some k → P k.link.to (a (Name n))) → link_target (option_map (λ (k : NamedLink). k.link) o) ≡ Some q → P q (a (Name n))
+name_home : (P : Pid → Place → Type 0) (a : Addresses) (n : ℕ) (q : Pid) (o : Option NamedLink) → ((k : NamedLink) → o ≡ Some k → P k.link.to (a (Name n))) → link_target (option_map (λ k. k.link) o) ≡ Some q → P q (a (Name n))
 name_home P a n q None h e = cc
 name_home P a n q (Some k) h e = at_home_of P k.link.to q (a (Name n)) e (h k refl)
 
-answer_home : (P : Pid → Place → Type 0) (a : Addresses) (n : ℕ) (q : Pid) (o : Option Pending) → ((r : Pending) (l : PlainLink) → o ≡ Some r → r.answer ≡ Some l → P l.to (a (Answer n))) → link_target (option_and_then (λ (r : Pending). r.answer) o) ≡ Some q → P q (a (Answer n))
+answer_home : (P : Pid → Place → Type 0) (a : Addresses) (n : ℕ) (q : Pid) (o : Option Pending) → ((r : Pending) (l : PlainLink) → o ≡ Some r → r.answer ≡ Some l → P l.to (a (Answer n))) → link_target (option_and_then (λ r. r.answer) o) ≡ Some q → P q (a (Answer n))
 answer_home P a n q None h e = cc
 answer_home P a n q (Some r) h e = link_home P (a (Answer n)) q r.answer (λ l f. h r l refl f) e
 

@@ -30,12 +30,9 @@ proto_hush : (v : View) (o : Option Told) → Hushed v (after_proto v o)
 proto_hush v None = record { count = refl; told = refl }
 proto_hush v (Some t) = search (arith, asks_hush, hush)
 
-label_hush : (v : View) (l : Label) → Hushed v (after_label v l)
-label_hush v l = search (arith, hush, served_hush)
-
 head_hush : (v : View) (s : Step) → Hushed v (after_head v s)
 head_hush v (Step.Turn m) = record { count = refl; told = refl }
 head_hush v _ = record { count = refl; told = refl }
 
 pub hushed : (v : View) (l : Line) → is_put l ≡ false → Hushed v (view_after v l)
-hushed v l h1 = search (arith, head_hush, hush, label_hush, taken_hush, proto_hush)
+hushed v l h1 = let label_hush : (v : View) (l : Label) → Hushed v (after_label v l) = λ v l. search (arith, hush, served_hush) in search (arith, head_hush, hush, label_hush, taken_hush, proto_hush)

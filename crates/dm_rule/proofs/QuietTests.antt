@@ -1,14 +1,11 @@
 -- The test for quiet decides whether all is quiet.
-use Rattle.dm_rule.proofs.Names.{◌≡◌, ◌≢◌, ℕ, ◌<◌, ◌==◌, ◌&&◌, Bool, true, false, not, List, [], ◌∷◌, length, nat_lt, refl, ap, ◌∙◌, sym, arith, ◌||◌, false≢true, nat_tests, MsgId, all_below, all_of_each, both_true, each_of_all, left_true}
+use Rattle.dm_rule.proofs.Names.{◌≡◌, ℕ, ◌<◌, ◌==◌, ◌&&◌, Bool, true, false, not, List, [], ◌∷◌, length, nat_lt, refl, ap, ◌∙◌, sym, arith, ◌||◌, false≢true, nat_tests, MsgId, all_below, all_of_each, both_true, each_of_all, left_true}
 use Rattle.dm_rule.proofs.Names.{right_true, QuietIsTested, IsQuiet, has_mail, is_quiet, pair_is_quiet, Pair, View, eq-eqb, ne_eqb, eqb-true}
 pub use Rattle.std.proofs.lemmas.Bool.{eq-eqb as eq_is, ne_eqb as eq_not}
 
 heard_by : (same : Bool) (p : Pair) → (same ≡ false → p.acked ≡ length p.ids) → (same || (p.acked == length p.ids)) ≡ true
 heard_by true p h = refl
 heard_by false p h = eq-eqb p.acked (length p.ids) (h refl)
-
-heard_is : (same : Bool) (p : Pair) → same ≡ false → (same || (p.acked == length p.ids)) ≡ true → p.acked ≡ length p.ids
-heard_is same p h1 h2 = search (arith, eqb-true)
 
 pub no_mail_empty : (v : View) (m : ℕ) → not (has_mail v m) ≡ true → v.inbox m ≡ []
 no_mail_empty v m e = none (v.inbox m) e
@@ -30,6 +27,7 @@ quiet_passes n v q =
 
 pub passes_quiet : (n : ℕ) (v : View) → is_quiet n v ≡ true → IsQuiet n v
 passes_quiet n v e =
+    let heard_is : (same : Bool) (p : Pair) → same ≡ false → (same || (p.acked == length p.ids)) ≡ true → p.acked ≡ length p.ids = λ same p h1 h2. search (arith, eqb-true) in
     let each = λ (a : ℕ) (h : a < n). each_of_all n (λ a. not (has_mail v a) && all_below n (λ b. pair_is_quiet (a == b) (v.pair a b))) e a h in
     let pair = λ (a b : ℕ) (h : a < n) (k : b < n). each_of_all n (λ b. pair_is_quiet (a == b) (v.pair a b)) (right_true (not (has_mail v a)) (all_below n (λ b. pair_is_quiet (a == b) (v.pair a b))) (each a h)) b k in
     search (arith, eqb-true, left_true, heard_is, ne_eqb, right_true, no_mail_empty)

@@ -1,6 +1,6 @@
 -- Messages that come, move and go stand once.
-use Rattle.dm_rule.proofs.Names.{◌≡◌, ◌≢◌, ℕ, ◌+◌, ◌≤◌, Bool, true, false, ◌==◌, ◌&&◌, List, [], ◌∷◌, ◌++◌, ap, ◌∙◌, sym, arith, subst, cases_Bool, false≢true, ◌⊎◌, inl, inr, nat_tests, Option, None, Some, pid_eq, MsgId, Spot, Queue, Held}
-use Rattle.dm_rule.proofs.Names.{Inbox, Untaken, times, StandsOnce, StandsNowhere, StandsAsBag, pid_eq-is, pid_eq-same, left_true, right_true, both_true, eqb-true}
+use Rattle.dm_rule.proofs.Names.{◌≡◌, ◌≢◌, ℕ, ◌+◌, ◌≤◌, Bool, true, false, ◌==◌, ◌&&◌, List, [], ◌∷◌, ◌++◌, ap, ◌∙◌, sym, arith, subst, cases_Bool, false≢true, ◌⊎◌, inl, inr, Option, None, Some, pid_eq, MsgId, Spot, Queue, Held, Inbox}
+use Rattle.dm_rule.proofs.Names.{Untaken, times, StandsOnce, StandsNowhere, StandsAsBag, pid_eq-is, pid_eq-same, left_true, right_true, both_true, eqb-true}
 
 pub same_spot : Spot → Spot → Bool
 same_spot (Queue m p) (Queue n q) = (m == n) && pid_eq p q

@@ -10,7 +10,7 @@ use Rattle.dm_rule.specs.Rule as rule
 use Rattle.dm_mirror.proofs.Paying.{Paid, AreMute, PaidIf, forwards_paid, line_within, front_paid, mute_paid, net_paid, round_paid, same_within, tells_paid}
 use Rattle.dm_mirror.proofs.Raises.{Within, sent_of}
 use Rattle.dm_mirror.proofs.Totals.{Grows, grows_on, grows_same, ids_of, line_grows, put_adds, seen_grows}
-use Rattle.dm_mirror.proofs.Counts.Pairs.{Still, bears, line_moves, line_still, seen_still, still_on}
+use Rattle.dm_mirror.proofs.Counts.Pairs.{Still, bears, line_still, still_on}
 
 -- parts without a step, and after which as many moves are counted
 abbrev pub AllBear : List Part → Type 0
@@ -224,15 +224,13 @@ pays n pt mid id w g s under e =
       under = inr (subst (Under (n + 1)) (sym a.kernel) under, puts_before pt.view mid.view k.next.view g a.puts);
     })
 
-routed_ends : (ps : List Part) (n : ℕ) (pt : Point) (w : Spelled) (k : PartNext pt ps w) → Ends n k.next k.rest.point → Ends n pt w.point
-routed_ends ps n pt w k h = subst (Ends n pt) k.end (ends_before n pt k.next k.rest.point k.after_put.grows k.after_put.still h)
-
+-- the topic is no part of it
 pub ends : (ps : List Part) (n : ℕ) (pt : Point) (w : Spelled) → spelled pt ps ≡ Some w → Paid pt.kernel ps → Under n pt.kernel → Ends n pt w.point
 ends [] n pt w e paid under = subst (Ends n pt) (said pt w e) (record { grows = grows_same pt.view pt.view refl; still = record { moves = refl; incoming = λ m p s e. e; forward = λ m p k j e. e }; under = inl under })
 ends (Says l ∷ ps) n pt w e paid under =
     let k = says_next pt l ps w e in
     let g = seen_grows pt.kernel pt.view l in
-    let s = seen_still pt.kernel pt.view l paid.0 in
+    let s : Still pt.view (seen pt.kernel pt.view l) = let h = line_still pt.view l paid.0 in record { moves = h.moves; incoming = h.incoming; forward = h.forward } in
     subst (Ends n pt) k.point
     (elim (paid.1 k.s k.is) [
       | inl h ↦ ends_before n pt (moved pt l k.s) k.rest.point g s (ends ps n (moved pt l k.s) k.rest k.more h.1 (under_within n 0 n pt.kernel k.s (omega arith) h.0 under))
@@ -246,7 +244,7 @@ ends (Transmits a c l ∷ ps) n pt w e paid under =
 ends (p ∷ ps) n pt w e paid under =
     let k = part_next pt p ps w refl e in
     let same = k.after_put.kernel in
-    routed_ends ps n pt w k (ends ps n k.next k.rest k.on (subst (λ s. Paid s ps) (sym same) paid) (subst (Under n) (sym same) under))
+    subst (Ends n pt) k.end (ends_before n pt k.next k.rest.point k.after_put.grows k.after_put.still (ends ps n k.next k.rest k.on (subst (λ s. Paid s ps) (sym same) paid) (subst (Under n) (sym same) under)))
 
 -- parts without a step
 pub record BearEnds (pt end : Point) : Type 0 where
@@ -260,20 +258,17 @@ bears_before pt mid end k g m h = record { kernel = h.kernel ∙ k; grows = grow
 same_kernel : (s t : OneKernel) (o : Option Label) → o ≡ None → kernel_after s o ≡ Some t → t ≡ s
 same_kernel s t o e f = grind (arith, nat_tests)
 
-part_bears : (ps : List Part) (pt : Point) (w : Spelled) (k : PartNext pt ps w) → BearEnds k.next k.rest.point → BearEnds pt w.point
-part_bears ps pt w k h = let a = k.after_put in subst (BearEnds pt) k.end (bears_before pt k.next k.rest.point a.kernel a.grows a.still.moves h)
-
 pub bear_ends : (ps : List Part) (pt : Point) (w : Spelled) → spelled pt ps ≡ Some w → AllBear ps → BearEnds pt w.point
 bear_ends [] pt w e h = subst (BearEnds pt) (said pt w e) (record { kernel = refl; grows = grows_same pt.view pt.view refl; moves = refl })
 bear_ends (Says l ∷ ps) pt w e h =
     let k = says_next pt l ps w e in
     subst (BearEnds pt) k.point (bears_before pt (moved pt l k.s) k.rest.point (same_kernel pt.kernel k.s (label_of l) (grind (arith, nat_tests, h.0)) k.is)
-    (seen_grows pt.kernel pt.view l) (line_moves pt.view l h.0) (bear_ends ps (moved pt l k.s) k.rest k.more h.1))
+    (seen_grows pt.kernel pt.view l) (let e_ : (view_after pt.view l).moves ≡ pt.view.moves = grind (arith, nat_tests, h.0) in e_) (bear_ends ps (moved pt l k.s) k.rest k.more h.1))
 bear_ends (Transmits a c l ∷ ps) pt w e h =
     let k = transmits_next pt a c l ps w e in
     let p = packet_line pt.view a c l in
     subst (BearEnds pt) k.point (bears_before pt (moved pt p pt.kernel) k.rest.point refl (line_grows pt.view p) refl (bear_ends ps (moved pt p pt.kernel) k.rest k.more h))
-bear_ends (p ∷ ps) pt w e h = let k = part_next pt p ps w refl e in part_bears ps pt w k (bear_ends ps k.next k.rest k.on h)
+bear_ends (p ∷ ps) pt w e h = let k = part_next pt p ps w refl e in let a = k.after_put in subst (BearEnds pt) k.end (bears_before pt k.next k.rest.point a.kernel a.grows a.still.moves (bear_ends ps k.next k.rest k.on h))
 
 pub own_puts : (ps : List Part) (pt : Point) (w : Spelled) → spelled pt ps ≡ Some w → AllBear ps → HasOwn ps → PutsOne pt.view w.point.view
 own_puts [] pt w e h own = absurd own

@@ -4,7 +4,7 @@ use Rattle.dm_mirror.proofs.Names.{cases_Bool, false≢true, nat_tests, Pid, Msg
 use Rattle.dm_mirror.proofs.Names.{packet_line, puts, spelled, Point, after, moved, group_of, Spot, Untaken, standing, times, View, Pair, after_put, gone_after, is_kernels, own_id, view_after, routed_on, migrates, to_of}
 use Rattle.dm_mirror.proofs.Names.{machine_of, Pairs, pair_stands, IsNet, IsNetLine, arrives_net, group_is, resends_net, stands_right, AllFit, onward, pair_same, migrates_fit, turns_fit, said, says_next, transmits_next, Run, told_there}
 use Rattle.dm_mirror.proofs.Names.{cases_zero, own_by, taken_pair, OneKernel, after_line, kernel_after, label_of, is_own, hushed, is_put, Stage, Label, About, Known, first_number, Alive, PlainProcess}
-use Rattle.dm_mirror.proofs.Names.{touches, proto_acting, queued_acting, held_acting, forwarded_acting, acting_label, seen}
+use Rattle.dm_mirror.proofs.Names.{proto_acting, queued_acting, held_acting, forwarded_acting, acting_label, seen}
 use Rattle.dm_rule.proofs.Names.{Part, marked}
 use Rattle.dm_rule.proofs.Lines.{parts}
 pub use Rattle.dm_rule.proofs.Lines.{eq_is as same_of}
@@ -40,22 +40,12 @@ is_gone (view.Incoming from) = true
 is_gone (view.Forward at_ moves) = true
 is_gone _ = false
 
-line_known : (v : View) (l : Line) (m : ℕ) (p : Pid) (k : Known) → is_free l ≡ true → is_gone k ≡ true → (view_after v l).known m p ≡ k → v.known m p ≡ k
-line_known v l m p k free gone is = grind (arith, nat_tests)
-
 pub line_still : (v : View) (l : Line) → is_free l ≡ true → Still v (view_after v l)
 line_still v l free = record {
   moves = grind (arith, nat_tests);
-  incoming = λ m p s is. line_known v l m p (view.Incoming s) free refl is;
-  forward = λ m p k j is. line_known v l m p (view.Forward k j) free refl is;
+  incoming = λ m p s is. grind (arith, nat_tests);
+  forward = λ m p k j is. grind (arith, nat_tests);
 }
-
--- the topic is no part of it
-pub seen_still : (s : OneKernel) (v : View) (l : Line) → is_free l ≡ true → Still v (seen s v l)
-seen_still s v l e = let h = line_still v l e in record { moves = h.moves; incoming = h.incoming; forward = h.forward }
-
-pub line_moves : (v : View) (l : Line) → bears l ≡ true → (view_after v l).moves ≡ v.moves
-line_moves v l e = grind (arith, nat_tests)
 
 -- No count is too great.
 
@@ -74,9 +64,6 @@ pub record CountsFew (pt : Point) : Type 0 where
   pub waiting : (m : ℕ) (p : Pid) → length (pt.view.queue m p) + length (pt.view.held m p) < 4294967295
 
 -- The acting machine stays, but for heads and what comes over wires.
-
-pub line_acting : (v : View) (l : Line) → touches l ≡ false → (view_after v l).acting ≡ v.acting
-line_acting v l e = grind (arith, nat_tests, acting_label, queued_acting, held_acting, forwarded_acting, proto_acting)
 
 -- A machine's kernel counts no more messages of its own than were routed in all.
 
@@ -127,14 +114,10 @@ still_own n v l off h = λ within m.
     let g = line_grows v l in
     omega (arith, ap (λ (f : ℕ → ℕ). f m) (hushed v l off).count, h (within_before n v (view_after v l) g within) m, total_grows v (view_after v l) n g)
 
-line_own : (top : ℕ) (v : View) (l : Line) → OwnFew top v → OwnFew top (view_after v l)
+pub line_own : (top : ℕ) (v : View) (l : Line) → OwnFew top v → OwnFew top (view_after v l)
 line_own top v (Line.Put a b i k q) h = λ within m.
-    let few = h (within_before top v (after_put v a b i k q) (line_grows v (Line.Put a b i k q)) within) m in
-    omega (arith, few, count_if v.count i.from.home m (is_own i (v.told i)), put_total top v a b i k q within)
+    omega (arith, h (within_before top v (after_put v a b i k q) (line_grows v (Line.Put a b i k q)) within) m, count_if v.count i.from.home m (is_own i (v.told i)), put_total top v a b i k q within)
 line_own top v any_ h = still_own top v any_ refl h
-
-pub own_group : (n : ℕ) (b : Boot) (pt : Point) (d : Step) (w : Spelled) → group_of b pt d ≡ Some w → OwnFew n pt.view → OwnFew n w.point.view
-own_group n b pt d w e h = group_keeps (OwnFew n) (λ v a k. k) (line_own n) b pt d w e h
 
 -- Only pairs of machines that there are have messages.
 
@@ -179,14 +162,11 @@ fresh_by u m v w a h acting from taken others =
       none = none;
     }
 
-set_other : (f : ℕ → ℕ → Pair) (a b : ℕ) (p : Pair) (c d : ℕ) (t : Bool) → (a == c) ≡ t → c ≢ a → (if t && (b == d) then p else f c d).ids ≡ (f c d).ids
-set_other f a b p c d t e off = grind (arith, nat_tests, same_of)
-
 pub fresh_put : (u : View) (m : ℕ) (v : View) (b : ℕ) (i : MsgId) (k : MessageKind) (q : Pid) → Fresh u m v → Fresh u m (after_put v v.acting b i k q)
 fresh_put u m v b i k q h =
     fresh_by u m v (after_put v v.acting b i k q) v.acting h refl h.acting
     (λ c d off. set_taken v.pair v.acting b (routed_on v.acting b (v.pair v.acting b) i) c d ((v.acting == c) && (b == d)) refl (λ apart. put_taken v v.acting b i apart) off)
-    (λ c d off. ap (λ (ids : List MsgId). length ids) (set_other v.pair v.acting b (routed_on v.acting b (v.pair v.acting b) i) c d (v.acting == c) refl off))
+    (λ c d off. ap (λ (ids : List MsgId). length ids) (let e_ : (if (v.acting == c) && (b == d) then (routed_on v.acting b (v.pair v.acting b) i) else v.pair c d).ids ≡ (v.pair c d).ids = grind (arith, nat_tests, same_of) in e_))
 
 fresh_packet : (u : View) (m : ℕ) (v : View) (a b k : ℕ) (l : Load) → Fresh u m v → Fresh u m (view_after v (Line.Packet a b k l))
 fresh_packet u m v a b k l h =
@@ -213,7 +193,8 @@ fresh_parts : (ps : List Part) (f : ℕ → ℕ → Pair) (u : View) (m : ℕ) (
 fresh_parts [] f u m pt w fits e h = subst (λ (q : Point). Fresh u m q.view) (said pt w e) h
 fresh_parts (Says l ∷ ps) f u m pt w fits e h =
     let k = says_next pt l ps w e in
-    subst (λ (q : Point). Fresh u m q.view) k.point (fresh_parts ps f u m (moved pt l k.s) k.rest fits.1 k.more (fresh_same u m pt.view (seen pt.kernel pt.view l) (line_acting pt.view l fits.0) (pair_same pt.view l fits.0) h))
+    let line_acting : (view_after pt.view l).acting ≡ pt.view.acting = grind (arith, nat_tests, acting_label, queued_acting, held_acting, forwarded_acting, proto_acting, fits.0) in
+    subst (λ (q : Point). Fresh u m q.view) k.point (fresh_parts ps f u m (moved pt l k.s) k.rest fits.1 k.more (fresh_same u m pt.view (seen pt.kernel pt.view l) line_acting (pair_same pt.view l fits.0) h))
 fresh_parts (Routes i ∷ ps) f u m pt w fits e h =
     let o = onward pt (Routes i) ps w e in
     let (x, there, is) = bind-is (pt.kernel.bag i) (λ x. Some (puts pt.view (pt.addresses (Receiver i)).at i (plain_kind x.what) x.to)) o.lines o.lines_are in
@@ -251,9 +232,6 @@ address_within b pt i z None there run stands =
     let (t, told) = told_there (pt.view.told i) (run.found.told i z stands) in
     run.found.own_within i t told (own_by (is_kernels i) (standing pt.view i) z stands (stands_right pt i run.based.phased.state None there))
 
-pub stood_within : (b : Boot) (pt : Point) (i : MsgId) (z : Spot) → Run b pt → 1 ≤ standing pt.view i z → machine_of z < pt.kernel.machines
-stood_within b pt i z run stands = omega (arith, address_within b pt i z (pt.kernel.bag i) refl run stands, run.found.at_ i z stands)
-
 fresh_within : (b : Boot) (u : View) (m n : ℕ) (end : Point) → end.kernel.machines ≡ n → m < n → Run b end → Fresh u m end.view → PairsWithin n u → PairsWithin n end.view
 fresh_within b u m n end machines small run h within = λ a c some.
     elim (h.new a c some) [
@@ -265,7 +243,7 @@ fresh_within b u m n end machines small run h within = λ a c some.
             | inr none ↦
                 let (i, first) = first_of (end.view.pair a c).ids some in
                 let stands : 1 ≤ standing end.view i (Untaken a c) = subst (λ (k : ℕ). 1 ≤ times i (drop k (end.view.pair a c).ids)) (sym none) first in
-                (left, omega (arith, stood_within b end i (Untaken a c) run stands, machines))
+                (left, omega (arith, (let e_ : machine_of (Untaken a c) < end.kernel.machines = omega (arith, address_within b end i (Untaken a c) (end.kernel.bag i) refl run stands, run.found.at_ i (Untaken a c) stands) in e_), machines))
           ]
     ]
 

@@ -1,9 +1,10 @@
 -- What each event of a delivery makes of a pair: its stream, its wire, and what the lines say of it.
-use Rattle.dm_mirror.proofs.Names.{◌≡◌, ℕ, zero, suc, ◌+◌, ◌-◌, ◌<◌, max, false, List, [], ◌∷◌, map, drop, refl, ap, ◌∙◌, sym, subst, arith, slice_get, option_map, Option, Some, nat_tests, slice_get-map, Message, MsgId}
+use Rattle.dm_mirror.proofs.Names.{drop-map}
+use Rattle.dm_mirror.proofs.Names.{◌≡◌, ℕ, zero, suc, ◌+◌, ◌-◌, ◌<◌, max, List, [], ◌∷◌, map, drop, refl, ap, ◌∙◌, sym, subst, arith, slice_get, option_map, Option, Some, nat_tests, slice_get-map, Message, MsgId}
 use Rattle.dm_mirror.proofs.Names.{with_acked, kept_once, advanced, next, Data, Ack, load_at, Stream, Deliver, TakeKept, Acknowledge, DeliverBack, OtherAck, happens}
 use Rattle.dm_mirror.proofs.Names.{get-drop, drop-more, Sent, Boot, Pair, at_least, has, AreMessages, bytes_of, line_of, is_some, Receiving, kept_under, StreamStands-happens}
-use Rattle.dm_mirror.proofs.Names.{◌≤◌, ◌==◌, ◌&&◌, Bool, not, filter, nat_lt, length, if◌then◌else◌, moved_up, arrival, after_arrival, after_next, Old, Early, place-moved_up, place-kept_same}
-use Rattle.dm_mirror.proofs.Names.{place-kept_other, eq_not, message_id, marked}
+use Rattle.dm_mirror.proofs.Names.{◌==◌, ◌&&◌, Bool, not, filter, nat_lt, length, if◌then◌else◌, moved_up, arrival, after_arrival, after_next, Old, Early, place-moved_up, place-kept_same}
+use Rattle.dm_mirror.proofs.Names.{place-kept_other, eq_not, marked}
 use Rattle.dm_stream.specs.Packets.{Packet, Load}
 use Rattle.dm_stream.specs.Stream.{arrives, hears}
 use Rattle.dm_stream.specs.declared.receiver.Arrived.TheVariants.{Taken}
@@ -20,9 +21,6 @@ use Rattle.dm_mirror.proofs.Streams.{Joined, bytes_put, lines_put, with_back, wi
 -- the numbers without this one
 abbrev pub off : ℕ → List ℕ → List ℕ
 off n ks = filter (λ k. not (k == n)) ks
-
-pub not_less_test : (m n : ℕ) → n ≤ m → nat_lt m n ≡ false
-not_less_test m n e = grind (arith, nat_tests)
 
 pub has_off : (j n : ℕ) (ks : List ℕ) → has j (off n ks) ≡ (not (j == n) && has j ks)
 has_off j n [] = grind (arith, nat_tests)
@@ -85,28 +83,17 @@ packets_marked xs ss k e = lines_marked xs k ∙ ap (λ (s : List view.SentLoad)
 wire_marked : (a c : ℕ) (w : List Sent) (xs : List (Packet Message)) (k : ℕ) → w ≡ map (bytes_of a c) xs → wire.marked w k ≡ map (bytes_of a c) (marked xs k)
 wire_marked a c w xs k e = ap (λ (s : List Sent). wire.marked s k) e ∙ bytes_marked a c xs k
 
--- the message that is next to be taken
-pub oldest_is : (given : List Message) (ids : List MsgId) (t : ℕ) (m : Message) → map message_id given ≡ ids → slice_get given t ≡ Some m → slice_get ids t ≡ Some m.id
-oldest_is given ids t m e is = ap (λ (xs : List MsgId). slice_get xs t) (sym e) ∙ slice_get-map message_id given t ∙ ap (option_map message_id) is
-
 pub message_is : (bag : MsgId → Option Message) (ids : List MsgId) (given : List Message) (t : ℕ) (i : MsgId) (m : Message) → AreMessages bag (drop t ids) (drop t given) → slice_get ids t ≡ Some i → slice_get given t ≡ Some m → bag i ≡ Some m
 message_is bag ids given t i m h e is =
     let named : slice_get (drop t ids) 0 ≡ Some i = get-drop t ids 0 t (omega arith) ∙ e in
     let there : slice_get (drop t given) 0 ≡ Some m = get-drop t given 0 t (omega arith) ∙ is in
     let left : slice_get (map bag (drop t ids)) 0 ≡ Some (bag i) = slice_get-map bag (drop t ids) 0 ∙ ap (option_map bag) named in
-    let right : slice_get (map Some (drop t given)) 0 ≡ Some (Some m) = slice_get-map Some (drop t given) 0 ∙ ap (option_map Some) there in
-    let same : Some (bag i) ≡ Some (Some m) = sym left ∙ ap (λ (xs : List (Option Message)). slice_get xs 0) h ∙ right in
+    let same : Some (bag i) ≡ Some (Some m) = sym left ∙ ap (λ (xs : List (Option Message)). slice_get xs 0) h ∙ (slice_get-map Some (drop t given) 0 ∙ ap (option_map Some) there) in
     cc
-
-front_off : (bag : MsgId → Option Message) (ids : List MsgId) (ms : List Message) → AreMessages bag ids ms → AreMessages bag (drop 1 ids) (drop 1 ms)
-front_off bag [] [] e = e
-front_off bag [] (m ∷ ms) e = ap (drop 1) e
-front_off bag (i ∷ ids) [] e = ap (drop 1) e
-front_off bag (i ∷ ids) (m ∷ ms) e = ap (drop 1) e
 
 pub untaken_next : (bag : MsgId → Option Message) (ids : List MsgId) (ms : List Message) (t : ℕ) → AreMessages bag (drop t ids) (drop t ms) → AreMessages bag (drop (t + 1) ids) (drop (t + 1) ms)
 untaken_next bag ids ms t h =
-    let f = front_off bag (drop t ids) (drop t ms) h in
+    let f : AreMessages bag (drop 1 (drop t ids)) (drop 1 (drop t ms)) = sym (drop-map bag 1 (drop t ids)) ∙ ap (drop 1) h ∙ drop-map Some 1 (drop t ms) in
     subst (λ (xs : List MsgId). AreMessages bag xs (drop (t + 1) ms)) (drop-more t 1 (t + 1) ids refl) (subst (λ (xs : List Message). AreMessages bag (drop 1 (drop t ids)) xs) (drop-more t 1 (t + 1) ms refl) f)
 
 max_is : (m n : ℕ) → max m n ≡ at_least m n

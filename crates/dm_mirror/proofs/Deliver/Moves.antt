@@ -1,5 +1,5 @@
 -- What each event of a delivery makes of the world, and that it stands behind it.
-use Rattle.dm_mirror.proofs.Names.{NodeStands, PairStands, Stream, TakeKept, View, after_packet, happens, stream_of}
+use Rattle.dm_mirror.proofs.Names.{NodeStands, PairStands, Stream, TakeKept, View, after_packet, happens, stream_of, slice_get-map, option_map}
 use Rattle.dm_mirror.proofs.Names.{◌≡◌, ◌≢◌, ℕ, ◌+◌, ◌<◌, ◌≤◌, ◌==◌, ◌&&◌, Bool, true, false, List, [], ◌∷◌, ◌++◌, refl, ap, ◌∙◌, sym, subst, inl, inr, arith, if◌then◌else◌, slice_get, Option, Some, nat_tests, map-append, All-push}
 use Rattle.dm_mirror.proofs.Names.{All-get_or, get_or_from_slice_get, slice_get_within, Message, MsgId, IsLawfulMessage, Packet, Line, Load, spelling, due, with_sent, after_next, next, Data, Ack, just_put, after_mark, Boot}
 use Rattle.dm_mirror.proofs.Names.{at_machine, at_pair, Pair, gone_after, oldest, times, Point, moved, Placed, with_message, with_receiver, with_sender, WorldState, AreMessages, History, StandsWith, zero, suc, length}
@@ -11,7 +11,7 @@ use Rattle.dm_wire.specs.Sent as wire
 use Rattle.dm_rule.specs.Parts as rule
 use Rattle.dm_rule.specs.View as view
 use Rattle.dm_node.specs.Acts as node
-use Rattle.dm_mirror.proofs.Deliver.Events.{acknowledges, kept_comes, message_is, oldest_is, other_acknowledges, after_next_is, next_is, off, has_off, less_test, not_less_test}
+use Rattle.dm_mirror.proofs.Deliver.Events.{acknowledges, kept_comes, message_is, other_acknowledges, after_next_is, next_is, off, has_off, less_test}
 use Rattle.dm_mirror.proofs.Streams.{Joined, at_here, at_other, at_same, gone_next, joined, node_same, pair_here, pair_other}
 use Rattle.dm_mirror.proofs.Puts.{point_put, same_senders, stands_put, wire_length, with_put, world_put}
 use Rattle.dm_mirror.proofs.Giving.{due_stands}
@@ -41,10 +41,11 @@ pub record Taking (l : Placed) (p : Pair) (m : Message) : Type 0 where
   pub first : oldest p ≡ Some m.id
   pub lawful : IsLawfulMessage m
 
+-- the message that is next to be taken
 pub taking : (b : Boot) (l : Placed) (a c : ℕ) (x : Stream Message) (sent : List wire.Sent) (p : Pair) (m : Message) → slice_get x.given x.receiver.count ≡ Some m → Joined b l.bag a c x sent p → Taking l p m
 taking b l a c x sent p m is h =
     let at : slice_get x.given p.taken ≡ Some m = ap (slice_get x.given) (sym h.taken) ∙ is in
-    let first : slice_get p.ids p.taken ≡ Some m.id = oldest_is x.given p.ids p.taken m h.ids at in
+    let first : slice_get p.ids p.taken ≡ Some m.id = ap (λ (xs : List MsgId). slice_get xs p.taken) (sym h.ids) ∙ slice_get-map message_id x.given p.taken ∙ ap (option_map message_id) at in
     search (
       message_is l.bag p.ids x.given p.taken m.id m h.untaken first at,
       subst IsLawfulMessage (get_or_from_slice_get x.given p.taken m m at) (All-get_or IsLawfulMessage x.given p.taken m (slice_get_within x.given p.taken m at) h.lawful),
@@ -72,7 +73,6 @@ module _ (b : Boot) (w : WorldState) (pt : Point) (l : Placed) (h : History) (a 
   pub kept_stands : (m : Message) → next ((w.nodes c).receivers a) ≡ Some m → StandsWith b (record w { nodes = at_machine w.nodes c (with_message (with_receiver (w.nodes c) a (after_next ((w.nodes c).receivers a))) m) }) (moved pt (Line.Taken a c ((w.nodes c).receivers a).count) pt.kernel) l h
   kept_stands m e =
       let r : Receiving Message = (w.nodes c).receivers a in
-      let rs : ℕ → Receiving Message = at_machine (w.nodes c).receivers a (after_next r) in
       let p : Pair = record (pt.view.pair a c) { taken = (pt.view.pair a c).taken + 1; kept = off r.count (pt.view.pair a c).kept } in
       let f : ℕ → ℕ → Pair = at_pair pt.view.pair a c p in
       let t : Taking l (pt.view.pair a c) m = taking b l a c (stream_of w h a c) (w.wires a c) (pt.view.pair a c) m (there_joined.stream.in_order.kept r.count m (sym (next_is r) ∙ e)) there_joined in
@@ -82,7 +82,7 @@ module _ (b : Boot) (w : WorldState) (pt : Point) (l : Placed) (h : History) (a 
         ids = ids_set pt.view.pair a c p refl;
         took = took_set pt.view.pair a c p (omega arith);
         came = λ i least. came_in pt.view a c m i t.first least;
-        node = node_takes b pt l f c (w.nodes c) (pt.view.pair a c) m (w.nodes c).senders rs t (ids_set pt.view.pair a c p refl c c) (s.nodes c c_in);
+        node = node_takes b pt l f c (w.nodes c) (pt.view.pair a c) m (w.nodes c).senders (at_machine (w.nodes c).receivers a (after_next r)) t (ids_set pt.view.pair a c p refl c c) (s.nodes c c_in);
         there_stands = kept_comes b l.bag a c (stream_of w h a c) (w.wires a c) (pt.view.pair a c) m e there_joined;
         back_stands = back_joined;
         alone = search (at_here, at_other, pair_here, pair_other, back_other a c apart);
@@ -211,7 +211,7 @@ either_none t o e = grind (arith, nat_tests)
 due_none : (s : Sending Message) (given : List Message) → s.unacked ≡ drop s.acked given → s.acked ≤ s.gone → (length given ≤ s.gone) ⊎ (s.acked + 8 ≤ s.gone) → due s ≡ None
 due_none s given e le (inl all) =
     either_none (nat_lt s.gone (s.acked + 8)) (numbered s.gone (slice_get s.unacked (s.gone - s.acked))) (ap (numbered s.gone) (waits_at s given e le ∙ slice_get_past given s.gone all))
-due_none s given e le (inr full) = ap (λ (t : Bool). if t then numbered s.gone (slice_get s.unacked (s.gone - s.acked)) else None) (not_less_test s.gone (s.acked + 8) full)
+due_none s given e le (inr full) = ap (λ (t : Bool). if t then numbered s.gone (slice_get s.unacked (s.gone - s.acked)) else None) (let e_ : nat_lt s.gone (s.acked + 8) ≡ false = grind (arith, nat_tests) in e_)
 
 module _ (b : Boot) (l : Placed) (a c : ℕ) (apart : a ≢ c) where
   -- so many messages go out, from any world that stands

@@ -27,14 +27,6 @@ record IsOut (s : Sending Message) (j n : ℕ) (m : Message) : Type 0 where
   below : s.acked + j < s.gone
   there : slice_get s.unacked j ≡ Some m
 
-abbrev number_in : Option (ℕ × Message) → ℕ
-number_in None = 0
-number_in (Some p) = p.0
-
-abbrev message_in : Message → Option (ℕ × Message) → Message
-message_in d None = d
-message_in d (Some p) = p.1
-
 -- what a test lets through
 record Through (test : Bool) (number : ℕ) (o : Option Message) (n : ℕ) (m : Message) : Type 0 where
   on : test ≡ true
@@ -42,9 +34,7 @@ record Through (test : Bool) (number : ℕ) (o : Option Message) (n : ℕ) (m : 
   there : o ≡ Some m
 
 through : (t : Bool) (k : ℕ) (o : Option Message) (n : ℕ) (m : Message) → (if t then numbered k o else None) ≡ Some (n, m) → Through t k o n m
-through false k o n m e = cc
-through true k None n m e = cc
-through true k (Some x) n m e = record { on = refl; is = sym (ap number_in e); there = ap (λ (y : Message). Some y) (ap (message_in x) e) }
+through t k o n m e = record { on = grind (arith, nat_tests); is = grind (arith, nat_tests); there = grind (arith, nat_tests) }
 
 is_out : (s : Sending Message) (j n : ℕ) (m : Message) → outstanding s j ≡ Some (n, m) → IsOut s j n m
 is_out s j n m e =
@@ -331,10 +321,9 @@ module _ (b : Boot) (w : WorldState) (pt : Point) (l : Placed) (h : History) (a 
       let r : Receiving Message = (w.nodes c).receivers a in
       let p : Pair = pt.view.pair a c in
       let mark : Pair = view.marked p k in
-      let first : ℕ → ℕ → Pair = at_pair pt.view.pair a c mark in
       let then_ : Pair = record mark { kept = n ∷ off n p.kept } in
       subst (λ (f : ℕ → ℕ → Pair). StandsWith b (come_to w a c k (with_receiver (w.nodes c) a (after_arrival r n m))) (with_pairs head f pt.view.inbox) l (marked_in h a c k))
-      (sym (ap (λ (z : Pair). at_pair first a c (record z { kept = n ∷ off n z.kept })) (pair_here pt.view.pair a c mark) ∙ pair_again pt.view.pair a c mark then_))
+      (sym (ap (λ (z : Pair). at_pair (at_pair pt.view.pair a c mark) a c (record z { kept = n ∷ off n z.kept })) (pair_here pt.view.pair a c mark) ∙ pair_again pt.view.pair a c mark then_))
       (data_stands k n m (after_arrival r n m) then_ pt.view.inbox (w.nodes c).kernel.inbox e refl refl (omega arith)
       (data_comes b l.bag a c (stream_of w h a c) (w.wires a c) p k n m (record { count = r.count; kept = kept_once r.kept (n - r.count) m }) p.taken (n ∷ off n p.kept) e (after_early_is r n m gt) there.taken
       (kept_early r p.kept n m gt ((MayCome-stands (stream_of w h a c) there.stream).in_window k n m e) there.stream.counted.places there.kept) there.untaken there) (λ d off. refl) (λ i least. (Inbox c, least))

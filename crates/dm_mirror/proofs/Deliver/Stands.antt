@@ -1,4 +1,5 @@
 -- What a machine gives, in order, is what the rule's parts say, and the world behind it stands.
+use Rattle.dm_mirror.proofs.Names.{drop-more, ◌-◌}
 use Rattle.dm_mirror.proofs.Names.{Stream, eqb-true}
 use Rattle.dm_mirror.proofs.Names.{◌≡◌, ◌≢◌, ℕ, ◌≤◌, ◌==◌, ◌&&◌, false, List, length, ap, ◌∙◌, sym, subst, inl, inr, arith, Option, All, cases_Bool, nat_tests, Pid, incoming_of, Message, MsgId, IsLawfulMessage, Sending}
 use Rattle.dm_mirror.proofs.Names.{Receiving, Sent, Boot, Pair, Point, Spot, Queue, Held, Inbox, Untaken, standing, times, two_of, Placed, NodeState, WorldState, AreMessages, History, NodeStands, PairStands}
@@ -67,19 +68,13 @@ Stood v i = (z : Spot) × (1 ≤ standing v i z)
 
 -- of what was routed, less is untaken the more was taken
 drop_all : (i : MsgId) (ids : List MsgId) (n : ℕ) → times i (drop n ids) ≤ times i ids
-drop_all i [] n = let e : times i (drop n []) ≡ 0 = none i n in omega (arith, e)
-  where
-    none : (j : MsgId) (k : ℕ) → times j (drop k []) ≡ 0
-    none j zero = refl
-    none j (suc k) = refl
+drop_all i [] zero = omega arith
+drop_all i [] (suc n) = omega arith
 drop_all i (j ∷ js) zero = omega arith
 drop_all i (j ∷ js) (suc n) = let h = drop_all i js n in omega (arith, h)
 
 drop_fewer : (i : MsgId) (ids : List MsgId) (m n : ℕ) → m ≤ n → times i (drop n ids) ≤ times i (drop m ids)
-drop_fewer i ids zero n le = drop_all i ids n
-drop_fewer i [] (suc m) n le = drop_all i [] n
-drop_fewer i (j ∷ js) (suc m) zero le = absurd (omega (arith, le))
-drop_fewer i (j ∷ js) (suc m) (suc n) le = drop_fewer i js m n (omega (arith, le))
+drop_fewer i ids m n le = subst (λ (xs : List MsgId). times i xs ≤ times i (drop m ids)) (drop-more m (n - m) n ids (omega (arith, le))) (drop_all i (drop m ids) (n - m))
 
 pub untaken_stood : (i : MsgId) (p q : Pair) → q.ids ≡ p.ids → p.taken ≤ q.taken → 1 ≤ times i (untaken q) → 1 ≤ times i (untaken p)
 untaken_stood i p q ids more least = grind (arith, nat_tests, drop_fewer)
@@ -94,8 +89,7 @@ get_times i (j ∷ js) (suc n) e = get_times i js n e
 pub came_one : (v : View) (a c : ℕ) (j i : MsgId) → oldest (v.pair a c) ≡ Some j → 1 ≤ times i (v.inbox c ++ j ∷ []) → Stood v i
 came_one v a c j i first least = elim (cases_Bool (id_eq i j)) [
   | inl same ↦
-      let e : i ≡ j = id_eq-is i j same in
-      (Untaken a c, subst (λ (k : MsgId). 1 ≤ times k (untaken (v.pair a c))) (sym e) (get_times j (v.pair a c).ids (v.pair a c).taken first))
+      (Untaken a c, subst (λ (k : MsgId). 1 ≤ times k (untaken (v.pair a c))) (sym (id_eq-is i j same)) (get_times j (v.pair a c).ids (v.pair a c).taken first))
   | inr off ↦ (Inbox c, omega (arith, times-append i (v.inbox c) (j ∷ []), ap (λ (t : Bool). (if t then 1 else 0) + 0) off, least))
 ]
 

@@ -1,6 +1,6 @@
 -- A message for a process that has gone on follows it, and its sender may be told.
 use Rattle.dm_mirror.proofs.Names.{◌≡◌, ℕ, ◌+◌, Bool, true, false, List, [], ◌∷◌, map, refl, ap, ◌∙◌, sym, subst, is_some, arith, if◌then◌else◌, Option, None, Some, false≢true, Pid, pid_of, place_of, update_of, Message, MsgId, nat_tests}
-use Rattle.dm_mirror.proofs.Names.{What, Record, Line, MessageKind, id_eq, id_of, kind_of, plain_kind, PlainMessage, plain_message, plain_what, with_what, incoming_of, sent_on, Boot, manager, forwards_and, KernelState, id_eq-same}
+use Rattle.dm_mirror.proofs.Names.{Record, Line, MessageKind, id_eq, id_of, kind_of, plain_kind, PlainMessage, plain_message, plain_what, with_what, incoming_of, sent_on, Boot, manager, forwards_and, KernelState, id_eq-same}
 use Rattle.dm_mirror.proofs.Names.{id_eq-swap, Addresses, Receiver, Sender, is_told_back, unmoved, forwards_on, process_told, Point, moved, at_machine, Queue, Held, About, Known, Forward, forward_about, forwarded_for, handled, own_id}
 use Rattle.dm_mirror.proofs.Names.{receiver_of, is_fixed, Run, Placed, Mirrors, free_off, plain_sent_on, forwarded_mirrors, moves_forwarded, update_gets, parts, mirrors_view, AllOwnStand, OwnStands, KnownStands, AllRecords, Wants, ◌++◌}
 use Rattle.dm_mirror.proofs.Names.{Wanted, Arrival, with_known, pid_eq-is, at_record, times, Frozen, Incoming, is_server, Part}
@@ -21,10 +21,6 @@ use Rattle.dm_mirror.proofs.Deliver.Moves.{messages_push}
 use Rattle.dm_mirror.proofs.Turning.{AllMayPut, MayOwn, MayPut, On, Own, Route, TurnsAt, begun, owns, part_of, rule_part_of}
 use Rattle.dm_mirror.proofs.Handle.Taking.{held_apart, record_off, record_others}
 
--- of the kernels' own messages only requests to move a process are told back
-own_back : (w : What) → plain_what w ≡ None → is_told_back (kind_of w) ≡ true → kind_of w ≡ MessageKind.Migrate
-own_back w e back = grind (arith, nat_tests)
-
 pub next_untold : (b : Boot) (m : ℕ) (pt : Point) → Run b pt → pt.view.told (id_of (pid_of m 0) (pt.view.count m)) ≡ None
 next_untold b m pt run = run.based.phased.state.numbered m (pt.view.count m) (omega arith)
 
@@ -43,17 +39,14 @@ next_free b m pt l run mirrors own = let i = id_of (pid_of m 0) (pt.view.count m
 own_free : (b : Boot) (m : ℕ) (pt : Point) (l : Placed) (records : AllRecords) (k : KernelState) (y : Message) (c : Fronts b m pt l records k y) → l.bag (own_id (begun pt m).view) ≡ None
 own_free b m pt l records k y c = next_free b m pt l c.run c.mirrors c.own
 
--- both name it alike
-own_named : (b : Boot) (m : ℕ) (pt : Point) (l : Placed) (records : AllRecords) (k : KernelState) (y : Message) (c : Fronts b m pt l records k y) → machine.own_id k ≡ own_id (begun pt m).view
-own_named b m pt l records k y c = λ i. record { from = pid_of (c.stands.here i) 0; n = c.counted i; answer = false }
-
 -- where the line leads
 abbrev forwarded : Point → ℕ → Message → ℕ → Point
 forwarded pt m y at = moved (begun pt m) (Line.Forwarded y.id at) pt.kernel
 
 -- the sender, as the rule names it
+-- of the kernels' own messages only requests to move a process are told back
 sender_is : (b : Boot) (m : ℕ) (pt : Point) (l : Placed) (records : AllRecords) (k : KernelState) (y : Message) (c : Fronts b m pt l records k y) → plain_what y.what ≡ None → is_told_back (kind_of y.what) ≡ true → manager ≡ y.sender.pid
-sender_is b m pt l records k y c none back = sym ((c.own y.id y c.there (ap (with_what y) none)).sender (own_back y.what none back))
+sender_is b m pt l records k y c none back = sym ((c.own y.id y c.there (ap (with_what y) none)).sender (let e_ : kind_of y.what ≡ MessageKind.Migrate = grind (arith, nat_tests) in e_))
 
 none_of : (y : Message) → plain_message y ≡ None → plain_what y.what ≡ None
 none_of y e = grind (arith, nat_tests)
@@ -85,12 +78,13 @@ outcome_forwards b m pt l records k y c id here at moves back z plain has =
     )
 
 -- the update may be put
+-- both name it alike
 update_may : (b : Boot) (m : ℕ) (pt : Point) (l : Placed) (records all : AllRecords) (k : KernelState) (y : Message) (c : Fronts b m pt l records k y) (at moves : ℕ) → pt.view.known m y.to.pid ≡ Forward at moves → is_told_back (kind_of y.what) ≡ true
     → MayOwn (handled_point pt m y.id pt.view.held (About.Place y.to.pid at moves) (forwarded pt m y at).addresses) (with_message l y.id (Some (sent_on at moves y))) all (update_of y (machine.own_id k) k.here at moves)
 update_may b m pt l records all k y c at moves knows has =
     let start = mirrors_view pt.kernel pt.view (begun pt m).view pt.addresses l refl c.mirrors in
     let own = own_id (begun pt m).view in
-    let named = own_named b m pt l records k y c in
+    let named : machine.own_id k ≡ own_id (begun pt m).view = λ i. record { from = pid_of (c.stands.here i) 0; n = c.counted i; answer = false } in
     let free = own_free b m pt l records k y c in
     let places = update_gets (begun pt m) l y.id y c.told at at moves start c.there c.told_is (ap (pt.view.known m) c.receiver ∙ knows) free (ap is_told_back c.kind ∙ has) in
     let off : id_eq y.id own ≡ false = id_eq-swap y.id own ∙ free_off l own y.id y free c.there in
@@ -129,9 +123,6 @@ record Sent (k s : KernelState) (routes : List Route) : Type 0 where
 sent_is : (k : KernelState) (rest : List Message) (y : Message) (id : MsgId) (here at moves : ℕ) (back : Bool) → Sent k (sent_by (record k { inbox = rest }) back) (routes_of y id here at moves back)
 sent_is k rest y id here at moves true = record { here = refl; records = refl; ring = refl; made = refl; room = refl; servers = refl; sent = (let e : k.sent + 1 ≡ k.sent + (0 + (1 + 0)) = omega arith in e) }
 sent_is k rest y id here at moves false = record { here = refl; records = refl; ring = refl; made = refl; room = refl; servers = refl; sent = (let e : k.sent ≡ k.sent + (0 + 0) = omega arith in e) }
-
-inbox_is : (k : KernelState) (rest : List Message) (back : Bool) → (sent_by (record k { inbox = rest }) back).inbox ≡ rest
-inbox_is k rest back = grind (arith, nat_tests)
 
 forward_row : (b : Boot) (m : ℕ) (pt : Point) (l : Placed) (records : AllRecords) (k : KernelState) (y : Message) (c : Fronts b m pt l records k y) (at moves : ℕ) (back : Bool) → IsProcess y.to.pid → pt.view.known m y.to.pid ≡ Forward at moves → is_told_back (kind_of y.what) ≡ back → TurnsAt b m pt l records k
 forward_row b m pt l records k y c at moves back is knows has =
@@ -174,7 +165,7 @@ forward_row b m pt l records k y c at moves back is knows has =
           (λ j least. bag_off j (apart_at b m pt l records k y c (Queue m p) j (queue_apart m m p) least)) (λ j least. bag_off j (apart_at b m pt l records k y c (Held m p) j (held_apart m m p) least)) (c.stands.known p server));
       still = front_still b m pt l records k y c is.number;
       may = all_may b m pt l records (at_machine records m state.records) k y c at moves back is knows has;
-      leaves = search (bag_off, same.here, kept, same.ring, inbox_is k c.rest back, same.made, same.room, same.servers ∙ c.stands.servers, wants);
+      leaves = search (bag_off, same.here, kept, same.ring, (let e_ : (sent_by (record k { inbox = c.rest }) back).inbox ≡ c.rest = grind (arith, nat_tests) in e_), same.made, same.room, same.servers ∙ c.stands.servers, wants);
     })
 
 -- where the process has gone on

@@ -157,7 +157,6 @@ updated_here_turn b m pt l records k y c about fixed knows e =
     let topic = (begun pt m).view.topic in
     let a = (moved (begun pt m) (Line.Updated y.id n) pt.kernel).addresses in
     let count = updated_count pt.kernel pt.view pt.addresses l p r about.at about.moves (about_of y.what) z c.mirrors (ap about_of e) is.board is.manager_ there in
-    let parts_ = rule.Says (Line.Updated y.id n) ∷ [] in
     let processes : (q : Pid) → pid_eq p q ≡ false → placed.processes q ≡ l.processes q = λ q off. ap (λ (t : Bool). if t then Some (applied r about.at about.moves z) else l.processes q) off in
     let apart : (j : ℕ) → j ≢ m → has_process (pt.view.known j p) ≡ true → placed.processes p ≡ l.processes p = λ j off has. absurd (nowhere_else b m j pt p c.run knows off has) in
     let moving : (i : MsgId) (t : Told) (j : Spot) → pt.view.told i ≡ Some t → is_between t.kind ≡ true → t.about ≡ Of p → 1 ≤ standing pt.view i j → placed.processes p ≡ l.processes p =
@@ -174,7 +173,7 @@ updated_here_turn b m pt l records k y c about fixed knows e =
       placed = placed;
       process = p;
       turn = machine_process b s y (Some (Record.Here x)) (Some (record { state = state; parts = Part.Says (Line.Updated y.id n) ∷ [] })) is here.1 (ap (machine_handle.here_handles s y x) e);
-      outcome = rule_process b m pt l records k y c Here (Some parts_) (plain_message y) is knows refl (λ w f. absurd (no_plain y w (ap plain_what e) f))
+      outcome = rule_process b m pt l records k y c Here (Some (rule.Says (Line.Updated y.id n) ∷ [])) (plain_message y) is knows refl (λ w f. absurd (no_plain y w (ap plain_what e) f))
           (λ f. ap (λ (k : MessageKind). told_here pt m y.id c.told (sort_of k)) (c.kind ∙ ap kind_of e) ∙ ap Some (counted_line pt y c.told n was count));
       after = refl;
       mirrors = updated_mirrors (begun pt m) l y.id n (told_of y) r about.at about.moves z start told (ap about_of e) is.board is.manager_ there;
@@ -219,7 +218,6 @@ updated_board_turn b m pt l records k y c about to e =
     let placed = board_told l r about.at about.moves in
     let none = none_by b pt l switchboard (pt.kernel.processes switchboard) c.run c.mirrors refl refl in
     let count = updated_board_count pt.kernel pt.view pt.addresses l y.to.pid r about.at about.moves (about_of y.what) c.mirrors (ap about_of e) to in
-    let plain : pt.kernel.bag y.id ≡ None = plain_there b m pt l records k y c ∙ ap (λ (w : What). with_what y (plain_what w)) e in
     turns_quiet b m pt l records k y c (record {
       said = Line.Updated y.id n;
       addresses = (moved (begun pt m) (Line.Updated y.id n) pt.kernel).addresses;
@@ -227,7 +225,7 @@ updated_board_turn b m pt l records k y c about to e =
       manager = l.manager;
       servers = Some (record v { board = placed.board });
       turn = grind (arith, nat_tests);
-      outcome = ap (comes_to b pt m y.id) plain ∙ ap (hears b pt m y.id) c.told_is
+      outcome = ap (comes_to b pt m y.id) (plain_there b m pt l records k y c ∙ ap (λ (w : What). with_what y (plain_what w)) e) ∙ ap (hears b pt m y.id) c.told_is
           ∙ server_board b pt m y.id c.told (Some (rule.Says (Line.Updated y.id n) ∷ [])) (c.receiver ∙ to) (ap (λ (k : MessageKind). told_server pt y.id c.told (sort_of k)) (c.kind ∙ ap kind_of e) ∙ ap Some (counted_line pt y c.told n was count));
       after = refl;
       mirrors = updated_board_mirrors (begun pt m) l y.id n (told_of y) r about.at about.moves start told (ap about_of e) to none;
@@ -250,7 +248,6 @@ updated_manager_turn b m pt l records k y c about to e =
     let placed = manager_told l r about.at about.moves in
     let none = none_by b pt l manager (pt.kernel.processes manager) c.run c.mirrors refl refl in
     let count = updated_manager_count pt.kernel pt.view pt.addresses l y.to.pid r about.at about.moves (about_of y.what) c.mirrors (ap about_of e) to c.run.based.pending in
-    let plain : pt.kernel.bag y.id ≡ None = plain_there b m pt l records k y c ∙ ap (λ (w : What). with_what y (plain_what w)) e in
     turns_quiet b m pt l records k y c (record {
       said = Line.Updated y.id n;
       addresses = (moved (begun pt m) (Line.Updated y.id n) pt.kernel).addresses;
@@ -258,7 +255,7 @@ updated_manager_turn b m pt l records k y c about to e =
       manager = placed.manager;
       servers = Some (record v { manager = placed.manager });
       turn = grind (arith, nat_tests);
-      outcome = ap (comes_to b pt m y.id) plain ∙ ap (hears b pt m y.id) c.told_is
+      outcome = ap (comes_to b pt m y.id) (plain_there b m pt l records k y c ∙ ap (λ (w : What). with_what y (plain_what w)) e) ∙ ap (hears b pt m y.id) c.told_is
           ∙ server_manager b pt m y.id c.told (Some (rule.Says (Line.Updated y.id n) ∷ [])) (c.receiver ∙ to) (ap (λ (k : MessageKind). told_server pt y.id c.told (sort_of k)) (c.kind ∙ ap kind_of e) ∙ ap Some (counted_line pt y c.told n was count));
       after = refl;
       mirrors = updated_manager_mirrors (begun pt m) l y.id n (told_of y) r about.at about.moves start told (ap about_of e) to none;

@@ -1,6 +1,6 @@
 -- A turn keeps all of it.
-use Rattle.dm_rule.proofs.Names.{◌≡◌, ℕ, ◌+◌, ◌==◌, ◌&&◌, Bool, true, false, List, [], ◌∷◌, refl, ap, ◌∙◌, sym, subst, inl, inr, arith, nat_le, ⊤, if◌then◌else◌, Option, None, Some, nat_tests, Pid, MsgId, PlainMessage, Boot, Label}
-use Rattle.dm_rule.proofs.Names.{OneKernel, after_step, Point, first_point, Part, Routes, Spelled, Homes, is_for_home, are_home, IsStill, LeadHomeAlways, ◌≤◌, false≢true, is_kernels, Step, actor, group_of, pid_of, first_number, Known}
+use Rattle.dm_rule.proofs.Names.{◌≡◌, ℕ, ◌+◌, ◌==◌, Bool, true, false, List, [], ◌∷◌, refl, ap, ◌∙◌, sym, subst, inl, inr, arith, nat_le, ⊤, if◌then◌else◌, Option, None, Some, nat_tests, Pid, MsgId, PlainMessage, Boot, Label, Says}
+use Rattle.dm_rule.proofs.Names.{OneKernel, after_step, Point, first_point, Part, Routes, Spelled, Homes, is_for_home, are_home, IsStill, LeadHomeAlways, ◌≤◌, false≢true, is_kernels, Step, actor, group_of, pid_of, first_number, Known, Line}
 use Rattle.dm_rule.proofs.Names.{Frozen, Incoming, Forward, AskNone, LeadsStill, and_parts}
 use Rattle.dm_onekernel.specs.Step as kernel
 use Rattle.dm_rule.proofs.Homes.Labels.{SaidAt}
@@ -16,7 +16,7 @@ use Rattle.dm_rule.specs.Rule as rule
 use Rattle.dm_rule.proofs.Homes.Parts.{PartsAnywhere}
 use Rattle.dm_onekernel.specs.Pieces as pieces
 use Rattle.dm_rule.proofs.Homes.Serves.{ReceivedAt}
-use Rattle.dm_rule.proofs.Homes.Groups.{PartsGood, group_keeps, tick_keeps, deliver_keeps}
+use Rattle.dm_rule.proofs.Homes.Groups.{PartsGood, group_keeps, deliver_keeps, resends_good}
 use Rattle.dm_rule.proofs.Serving.{by_round, by_handles}
 
 abbrev pub GoodOf : OneKernel → (MsgId → ℕ) → ℕ → Option (List Part) → Type 0
@@ -109,8 +109,7 @@ in_bag_at : (r e : MsgId → ℕ) (pt : Point) (m : ℕ) (i : MsgId) (js : List 
 in_bag_at r e pt m i js front entered state h none =
     let least : 1 ≤ e i = grind (arith, nat_tests) in
     let (q, way) = inbox_way pt m i js state front in
-    let mine : is_kernels i ≡ true = kernels_by state.own pt.kernel.bag i q (is_kernels i) refl none way in
-    let zero_ : e i ≡ 0 = kernels_fresh r e pt.kernel i h.sound mine in absurd (omega (arith, least, zero_))
+    let zero_ : e i ≡ 0 = kernels_fresh r e pt.kernel i h.sound (kernels_by state.own pt.kernel.bag i q (is_kernels i) refl none way) in absurd (omega (arith, least, zero_))
 
 pub turn_keeps : NoneReplaced → (b : Boot) (r e : MsgId → ℕ) (pt : Point) (m : ℕ) (w : Spelled) → group_of b pt (Step.Turn m) ≡ Some w → AskNone w.lines → State None pt → Home r e pt → Kept m w.point
 turn_keeps none b r e pt m w is ask state h =
@@ -120,7 +119,12 @@ turn_keeps none b r e pt m w is ask state h =
 -- each group keeps all of it
 pub home_group : NoneReplaced → (b : Boot) (r e : MsgId → ℕ) (pt : Point) (d : Step) (w : Spelled) → IsStill d → group_of b pt d ≡ Some w → AskNone w.lines → State None pt → Home r e pt → Kept (actor d) w.point
 home_group none b r e pt (Step.Turn m) w still is ask state h = turn_keeps none b r e pt m w is ask state h
-home_group none b r e pt (Step.Tick m) w still is ask state h = tick_keeps none b r e pt m w is ask h
+home_group none b r e pt (Step.Tick m) w still is ask state h =
+    let tick_keeps : NoneReplaced → (b : Boot) (r e : MsgId → ℕ) (pt : Point) (m : ℕ) (w : Spelled) → group_of b pt (Step.Tick m) ≡ Some w → AskNone w.lines → Home r e pt → Kept m w.point = λ none b r e pt m w is ask h.
+      group_keeps none b r e pt (Step.Tick m) w tt is ask h
+      (λ ps comes. let f : Says (Line.Resent m (rule.outstanding_count pt.view m pt.kernel.machines)) ∷ rule.resends pt.view m pt.kernel.machines ≡ ps = cc in
+      subst (PartsGood pt.kernel e m) f (inl (inl tt, resends_good m m pt.view pt.kernel.machines))) in
+    tick_keeps none b r e pt m w is ask h
 home_group none b r e pt (Step.Deliver a c k) w still is ask state h = deliver_keeps none b r e pt a c k w is ask h
 home_group none b r e pt (Step.Migrate p m) w still is ask state h = absurd still
 

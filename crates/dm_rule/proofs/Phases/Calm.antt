@@ -27,15 +27,12 @@ pub record Calm (v w : View) : Type 0 where
 pub calm_same : (v : View) → Calm v v
 calm_same v = record { known = λ m p. refl; fresh = λ i t e b. e; kept = λ i t e. e; back = λ i t e b z s. inl s; on = λ i t e b z s. (z, s) }
 
-came_on : (u v : View) (i : MsgId) (z : Spot) → ((y : Spot) → 1 ≤ standing v i y → Came u i y) → Came v i z → Came u i z
-came_on u v i z h c = grind (arith, nat_tests)
-
 pub calm_trans : (u v w : View) → Calm u v → Calm v w → Calm u w
 calm_trans u v w h k = record {
   known = λ m p. k.known m p ∙ h.known m p;
   fresh = λ i t e b. h.fresh i t (k.fresh i t e b) b;
   kept = λ i t e. k.kept i t (h.kept i t e);
-  back = λ i t e b z s. came_on u v i z (h.back i t e b) (k.back i t (h.kept i t e) b z s);
+  back = λ i t e b z s. grind (arith, nat_tests, h.back i t e b, k.back i t (h.kept i t e) b z s);
   on = λ i t e b z s. (let (y, x) = h.on i t e b z s in k.on i t (h.kept i t e) b y x);
 }
 
@@ -59,13 +56,12 @@ calm_has v w p (Moves k s d (Some id)) a c h =
     }
 calm_has v w p _ a c h = tt
 
-calm_alone : (v w : View) (p : Pid) (o : Option MsgId) → Calm v w → Alone v p o → Alone w p o
-calm_alone v w p o c h i t z told b about st =
-    let was = c.fresh i t told b in
-    elim (c.back i t was b z st) [ inl s ↦ h i t z was b about s | inr x ↦ let (y, s, is) = x in h i t y was b about s ]
-
 pub calm_in : (v w : View) (p : Pid) (phase : Phase) → Calm v w → IsIn v p phase → IsIn w p phase
-calm_in v w p phase c h = search (arith, calm_has v w p phase h.apart c h.token, calm_alone v w p (token_in phase) c h.alone, c.known, h.known)
+calm_in v w p phase c h =
+    let calm_alone : (v w : View) (p : Pid) (o : Option MsgId) → Calm v w → Alone v p o → Alone w p o = λ v w p o c h i t z told b about st.
+      let was = c.fresh i t told b in
+      elim (c.back i t was b z st) [ inl s ↦ h i t z was b about s | inr x ↦ let (y, s, is) = x in h i t y was b about s ] in
+    search (arith, calm_has v w p phase h.apart c h.token, calm_alone v w p (token_in phase) c h.alone, c.known, h.known)
 
 -- only one message stands elsewhere, and it is none of the protocol
 pub record Others (v w : View) (i : MsgId) : Type 0 where

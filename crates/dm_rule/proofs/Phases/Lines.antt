@@ -91,10 +91,8 @@ put_inbox v a b i j false e n = refl
 
 put_pair : (a b : ℕ) (p : Pair) (i j : MsgId) (c : Bool) → (a == b) ≡ c → id_eq i j ≡ false → (c ≡ true → p.taken ≡ length p.ids) → times j (untaken (routed_on a b p i)) ≡ times j (untaken p)
 put_pair a b p i j true is e full =
-    let long : length (p.ids ++ i ∷ []) ≡ p.taken + 1 = length-append p.ids (i ∷ []) ∙ ap (λ k. k + 1) (sym (full refl)) in
-    let gone : drop (p.taken + 1) (p.ids ++ i ∷ []) ≡ [] = subst (λ k. drop k (p.ids ++ i ∷ []) ≡ []) long (drop-length (p.ids ++ i ∷ [])) in
-    let was : drop p.taken p.ids ≡ [] = ap (λ k. drop k p.ids) (full refl) ∙ drop-length p.ids in
-    ap (λ (x : Bool). times j (drop (if x then p.taken + 1 else p.taken) (p.ids ++ i ∷ []))) is ∙ (ap (times j) gone ∙ sym (ap (times j) was))
+    let gone : drop (p.taken + 1) (p.ids ++ i ∷ []) ≡ [] = subst (λ k. drop k (p.ids ++ i ∷ []) ≡ []) (length-append p.ids (i ∷ []) ∙ ap (λ k. k + 1) (sym (full refl))) (drop-length (p.ids ++ i ∷ [])) in
+    ap (λ (x : Bool). times j (drop (if x then p.taken + 1 else p.taken) (p.ids ++ i ∷ []))) is ∙ (ap (times j) gone ∙ sym (ap (times j) (ap (λ k. drop k p.ids) (full refl) ∙ drop-length p.ids)))
 put_pair a b p i j false is e full =
     ap (λ (x : Bool). times j (drop (if x then p.taken + 1 else p.taken) (p.ids ++ i ∷ []))) is ∙ drop_times i j p.taken p.ids e
 
@@ -107,9 +105,6 @@ put_spots v a b i j k q h1 h2 z = search (arith, put_inbox, pair_times, put_pair
 pub put_at : (v : View) (a b : ℕ) (i : MsgId) (k : MessageKind) (q : Pid) → (after_put v a b i k q).told i ≡ Some (view.first_told (v.told i) (record { kind = k; receiver = q; about = v.topic }))
 put_at v a b i k q = ap (λ (c : Bool). if c then Some (view.first_told (v.told i) (record { kind = k; receiver = q; about = v.topic })) else v.told i) (id_eq-same i)
 
-first_plain : (v : View) (i : MsgId) (k : MessageKind) (q : Pid) (o : Option Told) → v.told i ≡ o → is_between k ≡ false → Plain v i → is_between (view.first_told o (record { kind = k; receiver = q; about = v.topic })).kind ≡ false
-first_plain v i k q o h1 h2 h3 = grind (arith, nat_tests)
-
 pub first_kept : (o : Option Told) (u t : Told) → o ≡ Some t → Some (view.first_told o u) ≡ Some t
 first_kept None u t e = cc
 first_kept (Some s) u t e = e
@@ -119,7 +114,7 @@ put_calm v a b i k q fits e plain =
     let u : Told = record { kind = k; receiver = q; about = v.topic } in
     calm_others v (after_put v a b i k q) i plain
     (λ t is. (let f : Some (view.first_told (v.told i) u) ≡ Some t = sym (put_at v a b i k q) ∙ is in let g : view.first_told (v.told i) u ≡ t = cc in
-    subst (λ (s : Told). is_between s.kind ≡ false) g (first_plain v i k q (v.told i) refl e plain)))
+    subst (λ (s : Told). is_between s.kind ≡ false) g (let e_ : is_between (view.first_told (v.told i) (record { kind = k; receiver = q; about = v.topic })).kind ≡ false = grind (arith, nat_tests) in e_)))
     (λ t is. put_at v a b i k q ∙ first_kept (v.told i) u t is)
     (record { known = λ m p. refl; told = λ j apart. put_told_off v a b i j k q apart; spots = λ j apart z. put_spots v a b i j k q fits apart z })
 

@@ -1,7 +1,7 @@
 -- Heads, deliveries, ticks and the directive to migrate leave all processes in their phases.
-use Rattle.dm_rule.proofs.Names.{◌≡◌, ℕ, suc, ◌+◌, ◌≤◌, ◌==◌, ◌&&◌, Bool, true, not, filter, List, [], ◌∷◌, ◌++◌, drop, length, refl, ap, ◌∙◌, sym, subst, inl, inr, arith, if◌then◌else◌, slice_get, Option, None, Some, cases_Bool, Pid}
-use Rattle.dm_rule.proofs.Names.{MsgId, Step, Line, at_machine, at_pair, View, Pair, view_after, after_head, taken_id, with_pair, Point, moved, seen, Part, Says, Transmits, Spelled, packet_line, spelled, migrates, Spot, Queue, Held, Inbox}
-use Rattle.dm_rule.proofs.Names.{Untaken, times, untaken, ids_at, standing, and_parts, eqb-true}
+use Rattle.dm_rule.proofs.Names.{◌≡◌, ℕ, suc, ◌+◌, ◌≤◌, ◌==◌, ◌&&◌, Bool, true, List, [], ◌∷◌, ◌++◌, drop, length, refl, ap, ◌∙◌, sym, subst, inl, inr, arith, if◌then◌else◌, slice_get, Option, None, Some, cases_Bool, Pid, MsgId, Step, Line}
+use Rattle.dm_rule.proofs.Names.{at_machine, at_pair, View, Pair, view_after, after_head, taken_id, with_pair, Point, moved, seen, Part, Says, Transmits, Spelled, packet_line, spelled, migrates, Spot, Queue, Held, Inbox, Untaken, times}
+use Rattle.dm_rule.proofs.Names.{untaken, ids_at, standing, and_parts, eqb-true}
 use Rattle.dm_rule.proofs.Standing.{times-append}
 use Rattle.dm_rule.proofs.Once.{one_of}
 use Rattle.dm_rule.proofs.Lines.{at_place, past_place, pair_keeps, eq_self, taken_pair}
@@ -34,8 +34,7 @@ stream_back v a b n i j c d front st = elim (cases_Bool ((a == c) && (b == d))) 
   | inl same ↦
       let both = and_parts (a == c) (b == d) same in
       let now : times j (untaken (at_pair v.pair a b (taken_pair (v.pair a b) n) c d)) ≡ times j (untaken (taken_pair (v.pair a b) n)) = ap (λ (t : Bool). times j (untaken (if t then taken_pair (v.pair a b) n else v.pair c d))) same in
-      let was : times j (untaken (v.pair a b)) ≡ times j (i ∷ untaken (taken_pair (v.pair a b) n)) = ap (times j) front in
-      subst (λ (k : ℕ). 1 ≤ times j (untaken (v.pair c k))) (eqb-true b d both.1) (subst (λ (k : ℕ). 1 ≤ times j (untaken (v.pair k b))) (eqb-true a c both.0) (omega (arith, st, now, was)))
+      subst (λ (k : ℕ). 1 ≤ times j (untaken (v.pair c k))) (eqb-true b d both.1) (subst (λ (k : ℕ). 1 ≤ times j (untaken (v.pair k b))) (eqb-true a c both.0) (omega (arith, st, now, ap (times j) front)))
   | inr off ↦ subst (λ k. 1 ≤ k) (ap (λ (t : Bool). times j (untaken (if t then taken_pair (v.pair a b) n else v.pair c d))) off) st
 ]
 
@@ -43,12 +42,9 @@ inbox_back : (v : View) (a b n : ℕ) (i j : MsgId) (m : ℕ) → untaken (v.pai
 inbox_back v a b n i j m front st = elim (cases_Bool (b == m)) [
   | inl same ↦
       let bm : b ≡ m = eqb-true b m same in
-      let now : times j (at_machine v.inbox b (v.inbox b ++ i ∷ []) m) ≡ times j (v.inbox b ++ i ∷ []) = ap (λ (c : Bool). times j (if c then v.inbox b ++ i ∷ [] else v.inbox m)) same in
-      let sum = times-append j (v.inbox b) (i ∷ []) in
       elim (cases_zero (times j (v.inbox b))) [
         | inl none ↦
-            let was : times j (untaken (v.pair a b)) ≡ times j (i ∷ untaken (taken_pair (v.pair a b) n)) = ap (times j) front in
-            inr (Untaken a b, omega (arith, st, now, sum, none, was), ap (λ (k : ℕ). Inbox k) (sym bm))
+            inr (Untaken a b, omega (arith, st, ap (λ (c : Bool). times j (if c then v.inbox b ++ i ∷ [] else v.inbox m)) same, times-append j (v.inbox b) (i ∷ []), none, ap (times j) front), ap (λ (k : ℕ). Inbox k) (sym bm))
         | inr some ↦ inl (subst (λ (k : ℕ). 1 ≤ times j (v.inbox k)) bm some)
       ]
   | inr off ↦ inl (subst (λ k. 1 ≤ k) (ap (λ (c : Bool). times j (if c then v.inbox b ++ i ∷ [] else v.inbox m)) off) st)
@@ -64,26 +60,22 @@ taken_back v a b n i j _ front st = inl st
 
 pub in_inbox : (v : View) (a b n : ℕ) (i j : MsgId) (m : ℕ) → (b == m) ≡ true → 1 ≤ times j (v.inbox b) + one_of j i → 1 ≤ standing (came_view v a b n i) j (Inbox m)
 in_inbox v a b n i j m same st =
-    let now : times j (at_machine v.inbox b (v.inbox b ++ i ∷ []) m) ≡ times j (v.inbox b ++ i ∷ []) = ap (λ (c : Bool). times j (if c then v.inbox b ++ i ∷ [] else v.inbox m)) same in
-    let sum = times-append j (v.inbox b) (i ∷ []) in omega (arith, st, now, sum)
+    let sum = times-append j (v.inbox b) (i ∷ []) in omega (arith, st, ap (λ (c : Bool). times j (if c then v.inbox b ++ i ∷ [] else v.inbox m)) same, sum)
 
 taken_on : (v : View) (a b n : ℕ) (i j : MsgId) (z : Spot) → untaken (v.pair a b) ≡ i ∷ untaken (taken_pair (v.pair a b) n) → 1 ≤ standing v j z → (y : Spot) × (1 ≤ standing (came_view v a b n i) j y)
 taken_on v a b n i j (Queue m p) front st = (Queue m p, st)
 taken_on v a b n i j (Held m p) front st = (Held m p, st)
 taken_on v a b n i j (Inbox m) front st = elim (cases_Bool (b == m)) [
   | inl same ↦
-      let here : 1 ≤ times j (v.inbox b) = subst (λ (k : ℕ). 1 ≤ times j (v.inbox k)) (sym (eqb-true b m same)) st in
-      (Inbox m, in_inbox v a b n i j m same (omega (arith, here)))
+      (Inbox m, in_inbox v a b n i j m same (omega (arith, subst (λ (k : ℕ). 1 ≤ times j (v.inbox k)) (sym (eqb-true b m same)) st)))
   | inr off ↦ (Inbox m, subst (λ k. 1 ≤ k) (sym (ap (λ (c : Bool). times j (if c then v.inbox b ++ i ∷ [] else v.inbox m)) off)) st)
 ]
 taken_on v a b n i j (Untaken c d) front st = elim (cases_Bool ((a == c) && (b == d))) [
   | inl same ↦
       let both = and_parts (a == c) (b == d) same in
       let here : 1 ≤ times j (untaken (v.pair a b)) = subst (λ (k : ℕ). 1 ≤ times j (untaken (v.pair k b))) (sym (eqb-true a c both.0)) (subst (λ (k : ℕ). 1 ≤ times j (untaken (v.pair c k))) (sym (eqb-true b d both.1)) st) in
-      let was : times j (untaken (v.pair a b)) ≡ times j (i ∷ untaken (taken_pair (v.pair a b) n)) = ap (times j) front in
-      let now : times j (untaken (at_pair v.pair a b (taken_pair (v.pair a b) n) c d)) ≡ times j (untaken (taken_pair (v.pair a b) n)) = ap (λ (t : Bool). times j (untaken (if t then taken_pair (v.pair a b) n else v.pair c d))) same in
       elim (cases_zero (one_of j i)) [
-        | inl none ↦ (Untaken c d, omega (arith, here, was, now, none))
+        | inl none ↦ (Untaken c d, omega (arith, here, ap (times j) front, ap (λ (t : Bool). times j (untaken (if t then taken_pair (v.pair a b) n else v.pair c d))) same, none))
         | inr some ↦ (Inbox b, in_inbox v a b n i j b (eq_self b) (omega (arith, some)))
       ]
   | inr off ↦ (Untaken c d, subst (λ k. 1 ≤ k) (sym (ap (λ (t : Bool). times j (untaken (if t then taken_pair (v.pair a b) n else v.pair c d))) off)) st)

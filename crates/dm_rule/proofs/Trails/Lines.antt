@@ -20,13 +20,10 @@ pub senders_are : (s : OneKernel) (v : View) (a : Addresses) (t : Trails) → Al
 senders_are s v a t h i u mine told k = h (Sender i) manager (Owns (Comes i u refl mine told k refl))
 
 -- what was told stays
-told_back : (s : OneKernel) (v w : View) (h : Holder) (q : Pid) → ((i : MsgId) → w.told i ≡ v.told i) → Named s w h q → Named s v h q
+pub told_back : (s : OneKernel) (v w : View) (h : Holder) (q : Pid) → ((i : MsgId) → w.told i ≡ v.told i) → Named s w h q → Named s v h q
 told_back s v w h q same (Links e) = Links e
 told_back s v w h q same (Owns (Goes i u is k told r)) = Owns (Goes i u is k (sym (same i) ∙ told) r)
 told_back s v w h q same (Owns (Comes i u is mine told k r)) = Owns (Comes i u is mine (sym (same i) ∙ told) k r)
-
-pub all_as : (s : OneKernel) (v w : View) (a : Addresses) (t : Trails) → ((i : MsgId) → w.told i ≡ v.told i) → AllAre s v a t → AllAre s w a t
-all_as s v w a t same h g q e = h g q (told_back s v w g q same e)
 
 pub unnamed_receiver : (s : OneKernel) (v : View) (i : MsgId) (q : Pid) → s.bag i ≡ None → v.told i ≡ None → Named s v (Receiver i) q → ⊥
 unnamed_receiver s v i q h1 h2 h3 = search arith
@@ -75,16 +72,12 @@ pub pid_there : (p : Pid) (o : Option Pid) → (option_map_or (pid_eq p) o false
 pid_there p None e = absurd (false≢true e)
 pid_there p (Some q) e = ap Some (sym (pid_eq-is p q e))
 
-pub leads_names : (s : OneKernel) (h : Holder) (p : Pid) → leads_to s h ≡ Some p → names s h ≡ Some p
-leads_names s h p h1 = search arith
-
 pub leads_where : (s : OneKernel) (v : View) (h : Holder) (p q : Pid) → leads_to s h ≡ Some p → Named s v h q → p ≡ q
-leads_where s v h p q h1 h2 = search (arith, leads_names)
+leads_where s v h p q h1 h2 = let leads_names : (s : OneKernel) (h : Holder) (p : Pid) → leads_to s h ≡ Some p → names s h ≡ Some p = λ s h p h1. search arith in search (arith, leads_names)
 
 pub behind_where : (s : OneKernel) (a : Addresses) (q p : Pid) (n : ℕ) (h : Holder) → is_behind s a q p n h ≡ true → leads_to s h ≡ Some p
 behind_where s a q p n h e =
-    let x = and_parts (belongs_to q h) ((option_map_or (pid_eq p) (leads_to s h) false) && nat_lt (a h).moves n) e in
-    let y = and_parts (option_map_or (pid_eq p) (leads_to s h) false) (nat_lt (a h).moves n) x.1 in pid_there p (leads_to s h) y.0
+    let y = and_parts (option_map_or (pid_eq p) (leads_to s h) false) (nat_lt (a h).moves n) (and_parts (belongs_to q h) ((option_map_or (pid_eq p) (leads_to s h) false) && nat_lt (a h).moves n) e).1 in pid_there p (leads_to s h) y.0
 
 update_by : (s : OneKernel) (v : View) (a : Addresses) (t : Trails) (r p : Pid) (place : Place) → IsOn t p place → AllAre s v a t → AllAre s v (updated_to s a (Some r) (Some (p, place))) t
 update_by s v a t r p place on h g q e = elim (cases_Bool (is_behind s a r p place.moves g)) [

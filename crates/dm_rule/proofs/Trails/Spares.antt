@@ -2,8 +2,8 @@
 use Rattle.dm_rule.proofs.Names.{◌≡◌, ℕ, ◌+◌, ◌==◌, ◌&&◌, Bool, true, false, not, List, [], ◌∷◌, ◌++◌, length, map, refl, ap, ◌∙◌, sym, subst, if◌then◌else◌, Option, None, Some, false≢true, Pid, Place, pid_eq, PlainLink, first_empty, MsgId}
 use Rattle.dm_rule.proofs.Names.{id_eq, PlainMessage, PlainWhat, Label, Reply, switchboard, manager, bind, PlainProcess, reg, NamedLink, OneKernel, with_sent, answer_id, id_eq-is, id_eq-same, sent_at, bind-is, when-is, View, is_kernels}
 use Rattle.dm_rule.proofs.Names.{Addresses, Holder, Slot, Owner, Receiver, Sender, Enclosed, Answer, Gets, gets, given, gives, holder_eq, encloses, enclosed_from, sends_burden, fills, call_gets, receives_links, slot_after, landing_gets}
-use Rattle.dm_rule.proofs.Names.{serves_burden, child_links, board_finds, board_keeps, board_takes_burden, manager_tells_burden, manager_sends, manager_answers, manager_takes_burden, both_true, at_hand-is, option_map_or, arith, AskedBy}
-use Rattle.dm_rule.proofs.Names.{nat_tests, and_parts, not-true, false_from_ne_true, and_right}
+use Rattle.dm_rule.proofs.Names.{serves_burden, child_links, board_finds, board_keeps, board_takes_burden, manager_tells_burden, manager_sends, manager_takes_burden, both_true, at_hand-is, option_map_or, arith, nat_tests, AskedBy}
+use Rattle.dm_rule.proofs.Names.{and_parts, not-true, false_from_ne_true, and_right}
 use Rattle.dm_onekernel.specs.Calls as calls
 use Rattle.dm_onekernel.specs.Pieces as pieces
 use Rattle.dm_onekernel.specs.Switchboard as board
@@ -113,8 +113,7 @@ lands_spares : (s t : OneKernel) (v : View) (a : Addresses) (id : MsgId) (m : Pl
     → spares i (landing_gets v a m.to (pieces.lands m.to x m x.status)) ≡ true
 lands_spares s t v a id m x i out own e =
     let (c, is, last) = bind-is (pieces.lands m.to x m x.status) (λ (w : pieces.Landed). Some (service.landed s id m w)) t e in
-    let k : service.landed s id m c ≡ t = cc in
-    subst (λ (o : Option pieces.Landed). spares i (landing_gets v a m.to o) ≡ true) (sym is) (landed_spares s t v a id m c i out own k)
+    subst (λ (o : Option pieces.Landed). spares i (landing_gets v a m.to o) ≡ true) (sym is) (landed_spares s t v a id m c i out own (let k : service.landed s id m c ≡ t = cc in k))
 
 serve_spares : (s t : OneKernel) (v : View) (a : Addresses) (id : MsgId) (m : PlainMessage) (x : PlainProcess) (w : PlainWhat) (i : MsgId) → Outside t → is_kernels i ≡ true → service.serves s id m x w ≡ Some t → spares i (serves_burden v a id m x w) ≡ true
 serve_spares s t v a id m x w i h1 h2 h3 = search (arith, two_more, answers_apart, lands_spares)
@@ -145,21 +144,17 @@ pub manager_sends_spares : (v : View) (a : Addresses) (id : MsgId) (code : ℕ) 
 manager_sends_spares v a id code None i e = refl
 manager_sends_spares v a id code (Some sent) i e = tells_spares v a id code sent sent.what i (e sent refl)
 
-pub manager_answers_spares : (v : View) (a : Addresses) (n : ℕ) (o : Option PlainMessage) (i : MsgId) → ((m : PlainMessage) → o ≡ Some m → id_eq m.id i ≡ false) → spares i (manager_answers v a n o) ≡ true
-manager_answers_spares v a n o i h1 = search (arith, two_more)
-
 pub manager_takes_spares : (s : OneKernel) (v : View) (a : Addresses) (m : PlainMessage) (w : PlainWhat) (o : Option manage.ManagerTook) (i : MsgId) → ((k : manage.ManagerTook) → o ≡ Some k → (x : PlainMessage) → k.message ≡ Some x → id_eq x.id i ≡ false) → spares i (manager_takes_burden s v a m w o) ≡ true
 manager_takes_spares s v a m (PlainWhat.User b1 b2 b3 b4) None i e = refl
 manager_takes_spares s v a m (PlainWhat.User b1 b2 b3 b4) (Some k) i e = manager_sends_spares v a m.id b1 k.message i (e k refl)
 manager_takes_spares s v a m _ None i e = refl
-manager_takes_spares s v a m _ (Some k) i e = manager_answers_spares v a m.id.n k.message i (e k refl)
+manager_takes_spares s v a m _ (Some k) i e = search (arith, two_more, e k refl)
 
 took_outside : (s t : OneKernel) (id : MsgId) (k : manage.ManagerTook) (i : MsgId) (o : Option PlainMessage) → k.message ≡ o → Outside t → is_kernels i ≡ true → service.manager_took s id k ≡ t → (x : PlainMessage) → o ≡ Some x → id_eq x.id i ≡ false
 took_outside s t id k i None is out own e x f = cc
 took_outside s t id k i (Some y) is out own e x f =
     let u = record (service.without_message s id) { manager = k.manager } in
-    let g : y ≡ x = cc in
-    subst (λ (z : PlainMessage). id_eq z.id i ≡ false) g (apart i y.id own (new_outside u t y out (ap (with_sent u) (sym is) ∙ e)))
+    subst (λ (z : PlainMessage). id_eq z.id i ≡ false) (let g : y ≡ x = cc in g) (apart i y.id own (new_outside u t y out (ap (with_sent u) (sym is) ∙ e)))
 
 takes_spares : (s t : OneKernel) (v : View) (a : Addresses) (id : MsgId) (m : PlainMessage) (b c : Bool) (i : MsgId) → Outside t → is_kernels i ≡ true
     → (if b then bind (board.board_takes s.switchboard m m.what) (λ (k : board.BoardTook). Some (service.switchboard_took s id k))

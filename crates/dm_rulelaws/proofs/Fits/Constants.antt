@@ -115,7 +115,9 @@ board_fits : (s : OneKernel) (body : List ℕ) (links : List PlainLink) → Each
 board_fits s body links h1 h2 = search (arith, s.processes, s.switchboard.names, link_users, bad_asked, if_asked, register_fits, look_up_fits)
 
 pub board_row : (s : OneKernel) (id : MsgId) (m : PlainMessage) (w : PlainWhat) (k : board.BoardTook) → WhatFits s id m w → board.board_takes s.switchboard m w ≡ Some k → KernelFits s → KernelFits (service.switchboard_took s id k)
-board_row s id m w k h1 h2 h3 = search (arith, s.switchboard, board_on, board_fits)
+board_row s id m (PlainWhat.User code channel body links) k h1 h2 h3 =
+    let e : board.takes_request s.switchboard body links ≡ k = cc in board_on s id k (subst (BoardFits s) e (board_fits s body links h1.1 h3.names)) h3
+board_row s id m w k h1 h2 h3 = absurd (cc)
 
 pub pending_last : (kind : PendingKind) (n : ℕ) (rs : List Pending) (r : Pending) → is_for kind (manage.pending_numbered n rs) ≡ true → is_for kind (manage.pending_numbered n (rs ++ r ∷ [])) ≡ true
 pending_last kind n [] r h = cc
@@ -195,7 +197,8 @@ asks_for_fits s machine image l ls within f fs order h =
 
 -- a child is to move
 first_fits : (ps : Lives) (n : ℕ) (links : List PlainLink) → Each (LinkFits ps) links → PendingFits ps (record { n = n; kind = PendingKind.Move; answer = (slice_get links 0) })
-first_fits ps n links h1 = search arith
+first_fits ps n [] h1 = search arith
+first_fits ps n (l ∷ ls) h1 = search arith
 
 Each-get : {X : Type 0} (P : X → Type 0) (xs : List X) (k : ℕ) (x : X) → slice_get xs k ≡ Some x → Each P xs → P x
 Each-get P [] k x e h = cc
