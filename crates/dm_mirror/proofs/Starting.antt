@@ -173,7 +173,7 @@ none_kept n = grind (arith, nat_tests)
 pair_first : (b : Boot) (a c : ℕ) → IsValid b → c < length b.machines → PairStands b (first_point b) (placed_start b) (first_world b) no_history a c
 pair_first b a c valid lt =
     let within : nat_lt c 16 ≡ true = (let k = few b valid in grind (arith, nat_tests)) in
-    let sender : fresh_sending (if nat_lt c 16 then b.numbers else 0) ≡ fresh_sending b.numbers = ap (λ (t : Bool). fresh_sending (if t then b.numbers else 0)) within in
+    let sender : fresh_sending {M = Message} (if nat_lt c 16 then b.numbers else 0) ≡ fresh_sending b.numbers = ap (λ (t : Bool). fresh_sending (if t then b.numbers else 0)) within in
     search (
       subst (λ (s : Sending Message). order.StreamStands (record { sender = s; receiver = fresh_receiving; given = []; taken = []; out = []; back = [] })) (sym sender) (StreamStands-start b.numbers (small b valid)),
       ap (λ (s : Sending Message). s.gone) sender,

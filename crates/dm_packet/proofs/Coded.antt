@@ -1,6 +1,6 @@
 -- Values that a byte stands for, and values that may be absent.
-use Rattle.dm_packet.proofs.Names.{◌≡◌, ℕ, ◌<◌, Bool, true, false, cond, eqb, List, [], ◌∷◌, ◌++◌, Option, None, Some, is_some, ok_or, option_map, Ok, refl, sym, ap, subst, ◌∙◌, arith, inl, inr, ◌==◌, ◌⊎◌, if◌then◌else◌, find, IfSome, eqb-true, Outcome}
-use Rattle.dm_packet.proofs.Names.{MessageKind, all_kinds, number_of, PacketError, PacketKind, ◌>>=◌, Field, both, number, bit_of, number_of_packet_kind, packet_kind, code_of_outcome, coded}
+use Rattle.dm_packet.proofs.Names.{◌≡◌, ℕ, ◌<◌, Bool, true, false, cond, List, [], ◌∷◌, ◌++◌, Option, None, Some, is_some, ok_or, option_map, Ok, refl, sym, ap, subst, ◌∙◌, arith, inl, inr, ◌==◌, ◌⊎◌, find, IfSome, eqb-true, Outcome}
+use Rattle.dm_packet.proofs.Names.{MessageKind, all_kinds, number_of, PacketError, PacketKind, Field, both, number, bit_of, number_of_packet_kind, packet_kind, code_of_outcome, coded}
 use Rattle.dm_packet.proofs.Names.{held_if, message_kind, optional, outcome_field, yes_or_no}
 use Rattle.dm_message.specs.declared.Outcome.TheVariants as ends
 use Rattle.dm_message.specs.declared.kind.MessageKind.TheVariants as kind

@@ -4,7 +4,7 @@ pub use Rattle.std.proofs.Math.Nat.{pow-le-pow_right}
 pub use Rattle.std.proofs.lemmas.Bool.{lt-ltb}
 pub use Rattle.std.proofs.lemmas.List.{length-drop, length-replicate, take_more_set}
 pub use Rattle.std.proofs.lemmas.Nat.{mod-pow-add, mod_below}
-pub use Rattle.std.specs.Prelude.{nat_lt}
+pub use Rattle.std.specs.Prelude.{nat_lt, ◌&&◌}
 pub use Rattle.dm_processor.proofs.Names.{Bool, List, None, Option, Some, [], ap, arith, common_steps, drop, false, get_or, length, nat_tests, refl, suc, sym, take, take_all, true, zero, ℕ, ◌%◌, ◌*◌, ◌++◌, ◌+◌, ◌-◌, ◌/◌, ◌<◌, ◌^◌, ◌∙◌, ◌∷◌}
 pub use Rattle.dm_processor.proofs.Names.{◌≡◌, ◌≤◌}
 pub use Rattle.dm_processor.specs.declared.registers.Regs.{Regs}

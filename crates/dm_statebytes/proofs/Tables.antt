@@ -1,5 +1,5 @@
 -- A table is read as it is spelled.
-use Rattle.dm_statebytes.proofs.Names.{◌≡◌, ℕ, zero, suc, ◌+◌, ◌*◌, ◌/◌, ◌%◌, ◌^◌, ◌<◌, Bool, true, false, eqb, List, [], ◌∷◌, ◌++◌, length, Option, None, Some, Ok, refl, sym, ap, subst, ◌∙◌, append_assoc, arith, inl, inr, ◌⊎◌, ◌==◌}
+use Rattle.dm_statebytes.proofs.Names.{◌≡◌, ℕ, zero, suc, ◌+◌, ◌*◌, ◌/◌, ◌%◌, ◌^◌, ◌<◌, Bool, true, false, eqb, List, [], ◌∷◌, ◌++◌, length, Option, Ok, refl, sym, ap, subst, ◌∙◌, append_assoc, arith, inl, inr, ◌⊎◌, ◌==◌}
 use Rattle.dm_statebytes.proofs.Names.{nat_lt, AllByRecursion, flat_map, IfSome, mod-eq_of_lt, pow-succ', ltb-true, lt-ltb, flat_map-cons, mod-pow-add, mod_below, Link, ◌>>=◌, both, number, bit_of, link, IsBytes, IsField, IsField-both}
 use Rattle.dm_statebytes.proofs.Names.{IsField-for, IsField-made, IsField-number, IsField-tested, Took, bind_ok, took_same, then_parts, IsSpelledLink, link_is, IsHeld, held_if, held_is, is_some, mask, mask_of, read_slots, slots, spell_slot, table}
 use Rattle.dm_packet.specs.declared.PacketError.TheVariants as bad
