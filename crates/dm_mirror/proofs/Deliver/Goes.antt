@@ -1,10 +1,9 @@
 -- The delivery of a packet: the machines do what the rule says.
-use Rattle.dm_mirror.proofs.Names.{Early, Old, after_line, arrival}
-use Rattle.dm_mirror.proofs.Names.{PairStands, stream_of}
-use Rattle.dm_mirror.proofs.Names.{◌≡◌, ◌≢◌, ℕ, ◌+◌, ◌-◌, ◌<◌, ◌≤◌, List, [], ◌∷◌, length, refl, ap, ◌∙◌, sym, subst, arith, Some, Message, Sending, with_acked, Receiving, after_arrival, Arrived, Data, Ack, load_at, after_mark, Boot}
-use Rattle.dm_mirror.proofs.Names.{nat_tests, Line, at_pair, Pair, oldest, at_least, Point, moved, has, kept_from, less, numbers_from, repeats, taken_pair, Placed, NodeState, here, with_message, with_receiver, with_sender}
-use Rattle.dm_mirror.proofs.Names.{acknowledges, before, lets_go, takes_kept, then_acknowledges, WorldState, History, StandsWith, less-right, ◌^◌, slice_get, option_map, Ok, Option, slice_get-map, Packet, packet_of, spelling}
-use Rattle.dm_mirror.proofs.Names.{packet_again, load_in, bytes_at, line_of, nat_le, nat_lt, true, drop, Result, PacketError, ◌>>=◌, IsRoute, only_packet, message, read_rest, spell_message, IsField-number, guard_ok, outstanding}
+use Rattle.dm_mirror.proofs.Names.{Early, Old, after_line, arrival, PairStands, stream_of, ◌≡◌, ◌≢◌, ℕ, ◌+◌, ◌-◌, ◌<◌, ◌≤◌, List, [], ◌∷◌, length, refl, ap, ◌∙◌, sym, subst, arith, Some, Message, Sending, with_acked, Receiving}
+use Rattle.dm_mirror.proofs.Names.{after_arrival, Arrived, Data, Ack, load_at, after_mark, Boot, nat_tests, Line, at_pair, Pair, oldest, at_least, Point, moved, has, kept_from, less, numbers_from, repeats, taken_pair, Placed}
+use Rattle.dm_mirror.proofs.Names.{NodeState, here, with_message, with_receiver, with_sender, acknowledges, before, lets_go, takes_kept, then_acknowledges, WorldState, History, StandsWith, less-right, ◌^◌, slice_get, option_map, Ok}
+use Rattle.dm_mirror.proofs.Names.{Option, slice_get-map, Packet, packet_of, spelling, packet_again, bytes_at, line_of, nat_le, nat_lt, true, drop, Result, PacketError, ◌>>=◌, IsRoute, only_packet, message, read_rest, spell_message}
+use Rattle.dm_mirror.proofs.Names.{IsField-number, guard_ok, outstanding}
 use Rattle.dm_mirror.proofs.Names.{MayCome-stands, get-drop, IsValid, IsReadable, zero, suc, eqb_tells, bind-is, MsgId, next, due, bind, Spelled, packet_line, spelled, after, at_machine, View, view_after, IsNet, IsNetLine, comes_in}
 use Rattle.dm_mirror.proofs.Names.{lets_next, takes_next, Acted, OneKernel, CountsStand, behind}
 use Rattle.dm_rule.proofs.Names.{Part}
@@ -134,6 +133,9 @@ bytes_are b pt l w h a c k s = grind (arith, nat_tests, option_map, slice_get-ma
 
 pub lines_are : (b : Boot) (pt : Point) (l : Placed) (w : WorldState) (h : History) (a c k : ℕ) → PairStands b pt l w h a c → slice_get (pt.view.pair a c).wire k ≡ option_map line_of (slice_get (h.packets a c) k)
 lines_are b pt l w h a c k s = ap (λ (ss : List view.SentLoad). slice_get ss k) (sym s.packets) ∙ slice_get-map line_of (h.packets a c) k
+
+abbrev load_in : Option (stream.Packet Message) → Option (Load Message)
+load_in o = option_map (λ p. p.load) o
 
 pub load_is : (ps : List (stream.Packet Message)) (k : ℕ) (o : Option (stream.Packet Message)) → slice_get ps k ≡ o → load_at ps k ≡ load_in o
 unfolding load_at
