@@ -11,13 +11,13 @@ pub use Rattle.std.specs.Cmp.Lexicographic.{slice_cmp}
 pub use Rattle.std.specs.List.{position, position_or_len}
 pub use Rattle.std.specs.Option.{option_and_then}
 pub use Rattle.std.specs.Ordering.{nat_cmp}
-pub use Rattle.std.specs.Prelude.{Err, Ok, Result, if◌then◌else◌, is_some, option_map}
+pub use Rattle.std.specs.Prelude.{Err, Ok, Result, if◌then◌else◌, is_some, ok_or, option_map, unwrap_or}
 pub use Rattle.std.specs.Str.{bytes_eq}
 pub use Rattle.dm_memory.specs.Cuts.{cut, ends_line}
 pub use Rattle.dm_processor.proofs.Names.{Bool, List, None, Option, Some, [], ap, arith, common_steps, cond, drop, drop-cons, false, get_or, length, length-drop, length-take-le, nat_tests, refl, replicate, suc, sym, take, take-append_seam}
 pub use Rattle.dm_processor.proofs.Names.{take_all, true, zero, ℕ, ◌*◌, ◌++◌, ◌+◌, ◌-◌, ◌<◌, ◌^◌, ◌∙◌, ◌∷◌, ◌≡◌, ◌≤◌}
 pub use Rattle.dm_processor.specs.declared.opcodes.Opcode.{Opcode}
-pub use Rattle.dm_asm.specs.Assembled.{Answers, StandsBehind, from_line, not_too_long, with_lines}
+pub use Rattle.dm_asm.specs.Assembled.{Answers, StandsBehind, from_line, with_lines}
 unfoldable pub use Rattle.dm_asm.specs.Assembled.{assembled, places_of, with_line}
 pub use Rattle.dm_asm.specs.Forms.{shape_of}
 unfoldable pub use Rattle.dm_asm.specs.Forms.{form_of}
@@ -28,10 +28,10 @@ pub use Rattle.dm_asm.specs.Numbers.{base, digit, number_going_on}
 unfoldable pub use Rattle.dm_asm.specs.Numbers.{literal_value}
 pub use Rattle.dm_asm.specs.Operands.{wanted_number}
 unfoldable pub use Rattle.dm_asm.specs.Operands.{distance_of, fields, number_operand, operand_value, register, target, value}
-pub use Rattle.dm_asm.specs.Places.{behind_label, first_of, form_size, label_of_words, place_from, statement_size, zero_size}
+pub use Rattle.dm_asm.specs.Places.{behind_label, first_of, form_size, label_of_words, place_from, statement_size}
 unfoldable pub use Rattle.dm_asm.specs.Places.{has_label, line_size}
 pub use Rattle.dm_asm.specs.Refusals.{bytes_behind, why_code, ◌>>=◌}
-pub use Rattle.dm_asm.specs.Statements.{form_bytes, instruction_bytes, is_twice, named_bytes, takes_operands}
+pub use Rattle.dm_asm.specs.Statements.{form_bytes, instruction_bytes, is_twice, takes_operands}
 unfoldable pub use Rattle.dm_asm.specs.Statements.{line_bytes, listed_bytes, statement_bytes}
 pub use Rattle.dm_asm.specs.declared.forms.Form.{Form}
 pub use Rattle.dm_asm.specs.declared.forms.Form.TheVariants.{Byte, Instruction, Word, Zero}
@@ -42,4 +42,4 @@ pub use Rattle.dm_asm.specs.declared.labels.Place.{Place}
 pub use Rattle.dm_asm.specs.declared.refusals.AssembleError.{AssembleError}
 pub use Rattle.dm_asm.specs.declared.refusals.AssembleError.TheVariants.{Fault, NoMemory}
 pub use Rattle.dm_asm.specs.declared.refusals.Why.{Why}
-pub use Rattle.dm_asm.specs.declared.refusals.Why.TheVariants.{OperandCount, OutOfRange, TooLong}
+pub use Rattle.dm_asm.specs.declared.refusals.Why.TheVariants.{LabelTwice, OperandCount, OutOfRange, TooLong, UnknownWord}

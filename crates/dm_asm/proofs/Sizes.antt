@@ -1,8 +1,8 @@
 -- A line makes as many bytes as it counts.
 use Rattle.dm_asm.proofs.Names.{ℕ, suc, Bool, true, false, nat_le, ◌≡◌, refl, ap, List, [], ◌∷◌, length, replicate, arith, Option, Some, None, Result, Ok, Err, if◌then◌else◌, nat_tests, length-replicate, Opcode, Form, Instruction, Word}
 use Rattle.dm_asm.proofs.Names.{Byte, Zero, Shape, RegisterValue, TwoRegisters, ThreeRegisters, Access, Jump, Branch, Call, Place, Why, OperandCount, OutOfRange, form_of, shape_of, source_words, without_comment, literal_value, fields}
-use Rattle.dm_asm.proofs.Names.{number_operand, register, target, value, wanted_number, behind_label, form_size, label_of_words, line_size, statement_size, zero_size, ◌>>=◌, form_bytes, instruction_bytes, is_twice, line_bytes, listed_bytes}
-use Rattle.dm_asm.proofs.Names.{named_bytes, statement_bytes, takes_operands}
+use Rattle.dm_asm.proofs.Names.{number_operand, register, target, value, wanted_number, behind_label, form_size, label_of_words, line_size, statement_size, ◌>>=◌, form_bytes, instruction_bytes, is_twice, line_bytes, listed_bytes}
+use Rattle.dm_asm.proofs.Names.{statement_bytes, takes_operands, ok_or, option_map, unwrap_or, UnknownWord, LabelTwice}
 
 -- so many bytes, if any
 abbrev pub HasLength : ℕ → Result (List ℕ) Why → Type 0
@@ -51,7 +51,7 @@ zeros-by : (b : Bool) (n : ℕ) → HasLength (if b then n else 0) (((if b then 
 zeros-by true n = length-replicate n 0
 zeros-by false n = tt
 
-zeros-of : (o : Option ℕ) → HasLength (zero_size o) ((wanted_number 65536 o >>= λ v. Ok (v, [])) >>= λ (m : ℕ × List (List ℕ)). Ok (replicate m.0 0))
+zeros-of : (o : Option ℕ) → HasLength (unwrap_or (option_map (λ n. if nat_le n 65536 then n else 0) o) 0) ((wanted_number 65536 o >>= λ v. Ok (v, [])) >>= λ (m : ℕ × List (List ℕ)). Ok (replicate m.0 0))
 zeros-of None = tt
 zeros-of (Some n) = zeros-by (nat_le n 65536) n
 
@@ -64,7 +64,7 @@ form-length places at Zero [] h = tt
 form-length places at Zero (w ∷ []) h = zeros-of (literal_value w)
 form-length places at Zero (w ∷ v ∷ ws) h = absurd (grind (arith, nat_tests))
 
-named-length : (places : List ℕ → Option Place) (at : ℕ) (twice : Bool) (o : Option Form) (ws : List (List ℕ)) → HasLength (form_size o ws) (named_bytes places at twice o ws)
+named-length : (places : List ℕ → Option Place) (at : ℕ) (twice : Bool) (o : Option Form) (ws : List (List ℕ)) → HasLength (form_size o ws) (ok_or o UnknownWord >>= λ form. if twice then Err LabelTwice else (if takes_operands form (length ws) then form_bytes places at form ws else Err OperandCount))
 named-length places at twice None ws = tt
 named-length places at twice (Some form) ws =
     where_false (form_size (Some form) ws) twice _ _ (where_true (form_size (Some form) ws) (takes_operands form (length ws)) OperandCount _ (form-length places at form ws))

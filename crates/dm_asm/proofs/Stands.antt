@@ -1,6 +1,6 @@
 -- Each label stands behind the bytes of the lines before it.
 use Rattle.dm_asm.proofs.Names.{ℕ, Bool, true, false, ◌+◌, ◌-◌, ◌≤◌, nat_le, ◌≡◌, refl, sym, ap, ◌∙◌, List, [], ◌∷◌, ◌++◌, length, take, append_assoc, arith, subst, suc, Option, Some, Result, Ok, Err, if◌then◌else◌, length-append}
-use Rattle.dm_asm.proofs.Names.{append-nil, take-append_seam, Place, Why, TooLong, StandsBehind, assembled, from_line, not_too_long, places_of, with_line, with_lines, source_lines, has_label, line_size, place_from, ◌>>=◌, bytes_behind}
+use Rattle.dm_asm.proofs.Names.{append-nil, take-append_seam, Place, Why, TooLong, StandsBehind, assembled, from_line, places_of, with_line, with_lines, source_lines, has_label, line_size, place_from, ◌>>=◌}
 use Rattle.dm_asm.proofs.Names.{line_bytes}
 use Rattle.dm_asm.proofs.Sizes.{HasLength, line-length}
 
@@ -21,7 +21,7 @@ short-enough : (b : Bool) (image new : List ℕ) → (if b then Ok image else Er
 short-enough true image new h = cc
 short-enough false image new h = absurd (cc)
 
-longer-by : (image new : List ℕ) (size : ℕ) (r : Result (List ℕ) Why) → HasLength size r → (bytes_behind image r >>= not_too_long) ≡ Ok new → Longer image new size
+longer-by : (image new : List ℕ) (size : ℕ) (r : Result (List ℕ) Why) → HasLength size r → ((r >>= λ more. Ok (image ++ more)) >>= λ longer. if nat_le (length longer) 65536 then Ok longer else Err TooLong) ≡ Ok new → Longer image new size
 longer-by image new size (Ok bytes) e h =
     let same : new ≡ image ++ bytes = short-enough (nat_le (length (image ++ bytes)) 65536) (image ++ bytes) new h in
     record { goes = record { more = bytes; all = same }; length_is = ap length same ∙ length-append image bytes ∙ ap (λ k. length image + k) e }

@@ -1,5 +1,5 @@
 -- The image of a text.
-use Rattle.std.specs.Prelude.{ℕ, ◌≡◌, nat_le, ◌+◌, ◌-◌, if◌then◌else◌, Option, Result, Ok, Err, List, [], ◌∷◌, length, take}
+use Rattle.std.specs.Prelude.{ℕ, ◌≡◌, nat_le, ◌+◌, ◌-◌, if◌then◌else◌, Option, Result, Ok, Err, List, [], ◌∷◌, ◌++◌, length, take}
 use Rattle.dm_asm.specs.declared.labels.Place.{Place}
 use Rattle.dm_asm.specs.declared.refusals.Why.{Why}
 use Rattle.dm_asm.specs.declared.refusals.Why.TheVariants.{TooLong}
@@ -9,18 +9,14 @@ use Rattle.dm_asm.specs.declared.refusals.Stop.{Stop}
 use Rattle.dm_asm.specs.declared.refusals.Stop.TheVariants as stops
 use Rattle.dm_asm.specs.Lines.{source_lines}
 use Rattle.dm_asm.specs.Places.{place_from}
-use Rattle.dm_asm.specs.Refusals.{◌>>=◌, bytes_behind}
+use Rattle.dm_asm.specs.Refusals.{◌>>=◌}
 use Rattle.dm_asm.specs.Statements.{line_bytes}
 
--- an image that is not too long
-abbrev pub not_too_long : List ℕ → Result (List ℕ) Why
-not_too_long image = if nat_le (length image) 65536 then Ok image else Err TooLong
-
--- an image with a line, by its number
+-- an image with a line, by its number, if it isn't too long then
 unfoldable pub with_line : (List ℕ → Option Place) → ℕ → List ℕ → List ℕ → Result (List ℕ) Why
 with_line places number image line = do
-  longer ← bytes_behind image (line_bytes places number (length image) line)
-  not_too_long longer
+  longer ← line_bytes places number (length image) line >>= λ more. Ok (image ++ more)
+  if nat_le (length longer) 65536 then Ok longer else Err TooLong
 
 -- what follows an image, or the line with its reason
 abbrev pub from_line : ℕ → Result (List ℕ) Why → (List ℕ → Result (List ℕ) (ℕ × Why)) → Result (List ℕ) (ℕ × Why)

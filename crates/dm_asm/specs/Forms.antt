@@ -10,16 +10,12 @@ use Rattle.dm_asm.specs.declared.forms.Form.TheVariants.{Instruction, Word, Byte
 use Rattle.dm_asm.specs.declared.forms.Shape.{Shape}
 use Rattle.dm_asm.specs.declared.forms.Shape.TheVariants.{RegisterValue, TwoRegisters, ThreeRegisters, Access, Jump, Branch, Call}
 
--- the instruction that a word names
-abbrev pub opcode_named : List ℕ → Option Opcode
-opcode_named word = find (λ op. bytes_eq word (opcode_word op)) opcodes
-
 -- the instruction or directive that a word names
 unfoldable pub form_of : List ℕ → Option Form
 form_of word =
     if bytes_eq word (codes ".word") then Some Word
     else (if bytes_eq word (codes ".byte") then Some Byte
-    else (if bytes_eq word (codes ".zero") then Some Zero else option_map Instruction (opcode_named word)))
+    else (if bytes_eq word (codes ".zero") then Some Zero else option_map Instruction (find (λ op. bytes_eq word (opcode_word op)) opcodes)))
 
 -- what the operands of an instruction are
 abbrev pub shape_of : Opcode → Shape

@@ -14,10 +14,10 @@ separates c = (c == 32) || (c == 9) || (c == 13) || (c == 44)
 unfoldable pub source_lines : List ℕ → List (List ℕ)
 source_lines text = cut ends_line text
 
--- a line up to its comment
+-- a line up to its comment, which begins at a semicolon
 abbrev pub without_comment : List ℕ → List ℕ
 without_comment [] = []
-without_comment (c ∷ cs) = if is_semicolon c then [] else c ∷ without_comment cs
+without_comment (c ∷ cs) = if c == 59 then [] else c ∷ without_comment cs
 
 -- the words of a piece without a comment
 unfoldable pub source_words : List ℕ → List (List ℕ)

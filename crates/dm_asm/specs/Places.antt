@@ -24,14 +24,9 @@ abbrev pub behind_label : List (List ℕ) → List (List ℕ)
 behind_label [] = []
 behind_label (w ∷ ws) = if is_some (label_in w) then ws else w ∷ ws
 
--- a good number of zeros, else 0
-abbrev pub zero_size : Option ℕ → ℕ
-zero_size None = 0
-zero_size (Some n) = if nat_le n 65536 then n else 0
-
--- how many bytes the operand of .zero asks for
+-- how many bytes the operand of .zero asks for, if that is a good number
 abbrev pub zeros_size : List (List ℕ) → ℕ
-zeros_size (word ∷ []) = zero_size (literal_value word)
+zeros_size (word ∷ []) = unwrap_or (option_map (λ n. if nat_le n 65536 then n else 0) (literal_value word)) 0
 zeros_size _ = 0
 
 -- how many bytes a line counts whose word is this, with these operands

@@ -1,5 +1,5 @@
 -- The bytes of a line.
-use Rattle.std.specs.Prelude.{ℕ, Bool, false, ◌==◌, not, nat_lt, ◌^◌, ◌-◌, if◌then◌else◌, Option, Some, None, unwrap_or, option_map, option_and_then, Result, Ok, Err, List, [], ◌∷◌, length, replicate}
+use Rattle.std.specs.Prelude.{ℕ, Bool, false, ◌==◌, not, nat_lt, ◌^◌, ◌-◌, if◌then◌else◌, Option, Some, None, unwrap_or, option_map, option_and_then, ok_or, Result, Ok, Err, List, [], ◌∷◌, length, replicate}
 use Rattle.dm_processor.specs.declared.opcodes.Opcode.{Opcode}
 use Rattle.dm_processor.specs.Opcodes.{opcode_number}
 use Rattle.dm_processor.specs.Instructions.{word_bytes}
@@ -47,25 +47,17 @@ takes_operands Word n = n == 1
 takes_operands Byte n = nat_lt 0 n
 takes_operands Zero n = n == 1
 
--- the bytes of what a word and its operands say
-abbrev pub named_bytes : (List ℕ → Option Place) → ℕ → Bool → Option Form → List (List ℕ) → Result (List ℕ) Why
-named_bytes places at twice None ws = Err UnknownWord
-named_bytes places at twice (Some form) ws =
-    if twice then Err LabelTwice
-    else (if takes_operands form (length ws) then form_bytes places at form ws else Err OperandCount)
-
 -- the bytes of what stands behind a label, if any; the label may be defined before
 unfoldable pub statement_bytes : (List ℕ → Option Place) → ℕ → Bool → List (List ℕ) → Result (List ℕ) Why
 statement_bytes places at twice [] = if twice then Err LabelTwice else Ok []
-statement_bytes places at twice (w ∷ ws) = named_bytes places at twice (form_of w) ws
-
--- whether the first line with a label is another than this
-abbrev pub is_elsewhere : ℕ → Option Place → Bool
-is_elsewhere line place = unwrap_or (option_map (λ p. not (p.line == line)) place) false
+statement_bytes places at twice (w ∷ ws) =
+    ok_or (form_of w) UnknownWord >>= λ form.
+    if twice then Err LabelTwice
+    else (if takes_operands form (length ws) then form_bytes places at form ws else Err OperandCount)
 
 -- whether a line's label, if any, is defined before
 abbrev pub is_twice : (List ℕ → Option Place) → ℕ → Option (List ℕ) → Bool
-is_twice places line label = is_elsewhere line (option_and_then places label)
+is_twice places line label = unwrap_or (option_map (λ p. not (p.line == line)) (option_and_then places label)) false
 
 -- the bytes of a line at an address
 unfoldable pub line_bytes : (List ℕ → Option Place) → ℕ → ℕ → List ℕ → Result (List ℕ) Why

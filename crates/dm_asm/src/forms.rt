@@ -1,7 +1,9 @@
 //! Instructions and directives by their words.
 ghost use Rattle.std.specs.Prelude.{◌≡◌};
-ghost use Rattle.dm_processor.specs.Opcodes.{opcode_word};
-ghost use Rattle.dm_asm.specs.Forms.{form_of, opcode_named, operand_count, shape_of};
+ghost use Rattle.std.specs.List.{find};
+ghost use Rattle.std.specs.Str.{bytes_eq};
+ghost use Rattle.dm_processor.specs.Opcodes.{opcode_word, opcodes};
+ghost use Rattle.dm_asm.specs.Forms.{form_of, operand_count, shape_of};
 
 use dm_processor::Opcode;
 
@@ -83,7 +85,7 @@ fn word_of(op: Opcode) -> &'static [u8]
 
 /// The instruction that a word names.
 fn opcode_named(word: &[u8]) -> Option<Opcode>
-    ensures { result ≡ opcode_named word.now }
+    ensures { result ≡ find (λ op. bytes_eq word.now (opcode_word op)) opcodes }
 {
     OPCODES.iter().copied().find(|op| word == word_of(*op))
 }

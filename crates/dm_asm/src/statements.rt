@@ -1,9 +1,9 @@
 //! The bytes of statements.
-ghost use Rattle.std.specs.Prelude.{◌≡◌, length};
+ghost use Rattle.std.specs.Prelude.{◌≡◌, ◌==◌, false, length, not, option_map, unwrap_or};
 ghost use Rattle.dm_asm.specs.Labels.{place_in};
 ghost use Rattle.dm_asm.specs.Lines.{source_words};
 ghost use Rattle.dm_asm.specs.Refusals.{Gives, bytes_behind};
-ghost use Rattle.dm_asm.specs.Statements.{form_bytes, instruction_bytes, is_elsewhere, listed_bytes, statement_bytes, takes_operands};
+ghost use Rattle.dm_asm.specs.Statements.{form_bytes, instruction_bytes, listed_bytes, statement_bytes, takes_operands};
 ghost use Rattle.dm_asm.specs.declared.forms.Form.TheVariants.{Byte, Word, Zero};
 
 use crate::forms::{Form, Shape};
@@ -120,7 +120,7 @@ pub fn add_statement(
 
 /// Whether the first line with a label is another than this.
 pub fn stands_elsewhere(line: usize, place: Option<Place>) -> bool
-    ensures { result ≡ is_elsewhere line place }
+    ensures { result ≡ unwrap_or (option_map (λ p. not (p.line == line)) place) false }
 {
     match place {
         None => false,

@@ -11,12 +11,12 @@ pub use Rattle.dm_linktable.proofs.Names.{Link, Pid, list_any, map, position-Som
 pub use Rattle.dm_schedule.proofs.Names.{codes, drop-length, if◌then◌else◌, nat_lt, not, position, position_or_len}
 pub use Rattle.dm_onekernel.specs.declared.label.Reply.{Reply}
 pub use Rattle.dm_line.specs.declared.line.Load.{Load}
-pub use Rattle.dm_text.proofs.EndsBack.{end_words_are}
+pub use Rattle.dm_text.proofs.EndsBack.{end_words_are, left_out, registers_row}
 pub use Rattle.dm_text.proofs.LineBack.{line_words-are}
 pub use Rattle.dm_text.proofs.LinesBack.{line_bytes, pieces_of_words, spelled_bytes}
-pub use Rattle.dm_text.proofs.Names.{All, Direction, EndFits, EndLine, FromArea, IdFits, IntoArea, IsByte, IsWord, Kind, Line, LineFits, LinkFits, MessageKind, MsgId, Option, Outcome, PidFits, Stage, Standing, Step, StepFits, Why}
-pub use Rattle.dm_text.proofs.Names.{code_of_outcome, decimal, direction_word, end_text, end_words, go_word, head_words, hex, hex_digit, id_word, is_padded, kind_word, line_words, link_words, message_named, message_numbered, nat_le}
-pub use Rattle.dm_text.proofs.Names.{number_after, pid_of, pid_word, read_u32, reply_code, rights_word, spaced, spelled_line, stage_word, standing_word, text, why_code, word_of, ◌||◌}
+pub use Rattle.dm_text.proofs.Names.{All, AllFit, Direction, EndFits, EndLine, FromArea, IdFits, IntoArea, IsByte, IsWord, Kind, Line, LineFits, MessageKind, MsgId, Option, Outcome, PidFits, Stage, Standing, Step, Why}
+pub use Rattle.dm_text.proofs.Names.{code_of_outcome, decimal, direction_word, end_text, end_words, go_word, hex, hex_digit, id_word, is_padded, kind_word, line_words, link_words, message_named, message_numbered, nat_le}
+pub use Rattle.dm_text.proofs.Names.{link_row, message_word, number_after, pid_of, pid_word, read_u32, reply_code, rights_word, spaced, spelled_line, spellings, stage_word, standing_word, text, why_code, word_of, ◌||◌}
 pub use Rattle.dm_text.proofs.Pieces.{AreWords, free, free-append, pieces-free}
 pub use Rattle.dm_text.proofs.WordsBack.{outcome_small, read_id_back, read_pid_back, read_u128_back, read_u32_back, read_u64_back, read_u8_back}
 pub use Rattle.dm_text.specs.Reading.{id_in, if_below, longer, pid_in, read_u64, read_u8, ◌<*>◌}

@@ -1,6 +1,6 @@
 -- Printed lines have shapes, and heads are read as what they are.
 use Rattle.dm_shape.proofs.Imports.{◌≡◌, ℕ, Bool, true, false, if◌then◌else◌, List, [], ◌∷◌, ◌++◌, refl, ap, sym, ◌∙◌, subst, Some, None, codes, is_some, list_any, bytes_eq, Option, append_cancel_right, bytes_eq-Decides, Pid, Step, Line}
-use Rattle.dm_shape.proofs.Imports.{EndLine, end_words, LineFits, EndFits, StepFits, head_words, ◌<*>◌, pieces, read_u8, read_u64, read_pid, is, of1, of2, of3, line_words, spaced, spelled_line, text, end_text, end_words_are, line_words-are}
+use Rattle.dm_shape.proofs.Imports.{EndLine, end_words, LineFits, EndFits, ◌<*>◌, pieces, read_u8, read_u64, read_pid, is, of1, of2, of3, line_words, spaced, spelled_line, text, end_text, end_words_are, line_words-are}
 use Rattle.dm_shape.proofs.Imports.{line_bytes, spelled_bytes, pieces_of_words, read_u8_back, read_u64_back, read_pid_back, AreWords, IsFull, head_in, head_named, head_step, IsLine, LinesHaveShapes, EndsHaveShapes, HeadsHaveShapes}
 use Rattle.dm_shape.proofs.Imports.{HeadsAreRead, has_shape, is_of_shape, is_row, row_of, all_shapes, is_of}
 use Rattle.dm_schedule.specs.declared.Step.TheVariants as step
@@ -40,18 +40,18 @@ by_head : (bytes : List ℕ) (ws : List (List ℕ)) → pieces 32 bytes ≡ ws �
 unfolding head_step
 by_head bytes ws e = ap head_in e
 
-head_read : (e : Step) → StepFits e → head_in (head_words e) ≡ Some e
-head_read (step.Turn m) h = rw (read_u8_back m h) refl
-head_read (step.Tick m) h = rw (read_u8_back m h) refl
-head_read (step.Deliver a b k) h = rw (read_u8_back a h.0, read_u8_back b h.1, read_u64_back k h.2) refl
-head_read (step.Migrate p m) h = rw (read_pid_back p h.0, read_u8_back m h.1) refl
+head_read : (e : Step) → LineFits (line.Head e) → head_in (line_words (line.Head e)) ≡ Some e
+head_read (step.Turn m) h = rw (read_u8_back m h.1.0) refl
+head_read (step.Tick m) h = rw (read_u8_back m h.1.0) refl
+head_read (step.Deliver a b k) h = rw (read_u8_back a h.1.0, read_u8_back b h.1.1.0, read_u64_back k h.1.1.1.0) refl
+head_read (step.Migrate p m) h = rw (read_pid_back p h.1.0, read_u8_back m h.1.1.0) refl
 
 head_of_words : (ws : List (List ℕ)) (e : Step) (bytes : List ℕ) → AreWords ws → head_in ws ≡ Some e → IsLine bytes (spelled_line ws) → head_step bytes ≡ Some e
 head_of_words [] e bytes h r is = absurd (cc)
 head_of_words (w ∷ ws) e bytes h r is = by_head bytes (w ∷ ws) (words_of_line w ws bytes h is) ∙ r
 
 pub heads_read : HeadsAreRead
-heads_read e bytes h is = head_of_words (head_words e) e bytes (line_words-are (line.Head e) h) (head_read e h) is
+heads_read e bytes h is = head_of_words (line_words (line.Head e)) e bytes (line_words-are (line.Head e) h) (head_read e h) is
 
 -- values that make one are there
 made_here : {A B : Type 0} (o : Option (A → B)) (x : Option A) (b : B) → (o <*> x) ≡ Some b → is_some x ≡ true

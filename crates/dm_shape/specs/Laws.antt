@@ -5,7 +5,7 @@ use Rattle.dm_schedule.specs.declared.Step.{Step}
 use Rattle.dm_line.specs.declared.line.Line.{Line}
 use Rattle.dm_line.specs.declared.line.Line.TheVariants as line
 use Rattle.dm_line.specs.declared.end_line.EndLine.{EndLine}
-use Rattle.dm_text.specs.Fits.{LineFits, EndFits, StepFits}
+use Rattle.dm_text.specs.Fits.{LineFits, EndFits}
 use Rattle.dm_text.specs.Text.{text, end_text}
 use Rattle.dm_shape.specs.Full.{IsFull}
 use Rattle.dm_shape.specs.Heads.{head_step}
@@ -29,4 +29,4 @@ HeadsHaveShapes = (bytes : List ℕ) (e : Step) → head_step bytes ≡ Some e �
 
 -- the head of a group is read as what it is
 abbrev pub HeadsAreRead : Type 0
-HeadsAreRead = (e : Step) (bytes : List ℕ) → StepFits e → IsLine bytes (text (line.Head e)) → head_step bytes ≡ Some e
+HeadsAreRead = (e : Step) (bytes : List ℕ) → LineFits (line.Head e) → IsLine bytes (text (line.Head e)) → head_step bytes ≡ Some e

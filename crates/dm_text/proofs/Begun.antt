@@ -1,5 +1,8 @@
 -- A line that is put word by word.
-use Rattle.dm_text.proofs.Names.{◌≡◌, ℕ, List, [], ◌∷◌, ◌++◌, ◌∙◌, ap, sym, append_assoc, append-nil, codes, decimal, spaced, spelled_line}
+use Rattle.dm_text.proofs.Names.{◌≡◌, ℕ, List, [], ◌∷◌, ◌++◌, ◌∙◌, ap, sym, append_assoc, append-nil, codes, decimal, spaced, spelled_line, text, load_words}
+use Rattle.dm_line.specs.declared.line.Line.TheVariants as line
+use Rattle.dm_line.specs.declared.line.Load.{Load}
+use Rattle.dm_line.specs.declared.line.Load.TheVariants as load
 use Rattle.dm_text.proofs.Spacing.{spaced-append}
 
 -- behind the text of before, a line has its name and these words
@@ -51,3 +54,8 @@ ended before name ws t now h e =
     ∙ append_assoc (before ++ name) (spaced ws) (codes "\n")
     ∙ append_assoc before name (spaced ws ++ codes "\n")
     ∙ ap (λ s. before ++ s) (sym (append_assoc name (spaced ws) (codes "\n")))
+
+-- the line of a packet
+pub packet_put : (l : Load) (a b k : ℕ) (before now : List ℕ) → now ≡ before ++ spelled_line (codes "packet" ∷ decimal a ∷ decimal b ∷ decimal k ∷ load_words l) → now ≡ before ++ text (line.Packet a b k l)
+packet_put (load.Data n) a b k before now h = h
+packet_put (load.Ack n) a b k before now h = h

@@ -1,21 +1,23 @@
--- Words of lists, read back.
-use Rattle.dm_text.proofs.Names.{◌≡◌, ℕ, suc, true, List, [], ◌∷◌, ◌++◌, map, refl, arith, Some, All, Option, all_read}
-use Rattle.dm_text.proofs.Pieces.{above, AreWords}
+-- Lists of words: how they are spelled, and that each can be read back.
+use Rattle.dm_text.proofs.Names.{◌≡◌, ℕ, suc, List, [], ◌∷◌, ◌++◌, map, refl, ap, sym, ◌∙◌, arith, All, AllFit, LineWord, spellings, spaced}
 
-first_of : {X : Type 0} (P : X → Type 0) (x : X) (xs : List X) → All P (x ∷ xs) → P x
-first_of P x xs h = h 0 x (omega arith)
+-- a word for each
+spellings-map : {X : Type 0} (word : X → LineWord) (xs : List X) → spellings (map word xs) ≡ map (λ x. (word x).spelling) xs
+spellings-map word [] = refl
+spellings-map word (x ∷ xs) = ap (λ ws. (word x).spelling ∷ ws) (spellings-map word xs)
 
-rest_of : {X : Type 0} (P : X → Type 0) (x : X) (xs : List X) → All P (x ∷ xs) → All P xs
-rest_of P x xs h = λ k d b. h (suc k) d (omega arith)
+pub words_put : {X : Type 0} (word : X → LineWord) (xs : List X) (old now : List ℕ) → now ≡ old ++ spaced (map (λ x. (word x).spelling) xs) → now ≡ old ++ spaced (spellings (map word xs))
+words_put word xs old now e = e ∙ ap (λ ws. old ++ spaced ws) (sym (spellings-map word xs))
 
-pub all_back : {X : Type 0} (read : List ℕ → Option X) (write : X → List ℕ) (P : X → Type 0) (back : (x : X) → P x → read (write x) ≡ Some x) → (xs : List X) → All P xs → all_read read (map write xs) ≡ Some xs
-all_back read write P back [] h = refl
-all_back read write P back (x ∷ xs) h = rw (back x (first_of P x xs h), all_back read write P back xs (rest_of P x xs h)) refl
+-- a word for each, and others
+pub spellings-more : {X : Type 0} (word : X → LineWord) (xs : List X) (ws : List LineWord) → spellings (map word xs ++ ws) ≡ map (λ x. (word x).spelling) xs ++ spellings ws
+spellings-more word [] ws = refl
+spellings-more word (x ∷ xs) ws = ap (λ vs. (word x).spelling ∷ vs) (spellings-more word xs ws)
 
-pub all_words : {X : Type 0} (write : X → List ℕ) (P : X → Type 0) (word : (x : X) → P x → above 32 (write x) ≡ true) → (xs : List X) → All P xs → AreWords (map write xs)
-all_words write P word [] h = tt
-all_words write P word (x ∷ xs) h = (word x (first_of P x xs h), all_words write P word xs (rest_of P x xs h))
+pub all_fit : {X : Type 0} (word : X → LineWord) (xs : List X) (ws : List LineWord) → All (λ x. (word x).Fits) xs → AllFit ws → AllFit (map word xs ++ ws)
+all_fit word [] ws h k = k
+all_fit word (x ∷ xs) ws h k = (h 0 x (omega arith), all_fit word xs ws (λ i d b. h (suc i) d (omega arith)) k)
 
-pub words-append : (a b : List (List ℕ)) → AreWords a → AreWords b → AreWords (a ++ b)
-words-append [] b h k = k
-words-append (w ∷ ws) b h k = (h.0, words-append ws b h.1 k)
+pub each_fits : {X : Type 0} (word : X → LineWord) (xs : List X) → All (λ x. (word x).Fits) xs → AllFit (map word xs)
+each_fits word [] h = tt
+each_fits word (x ∷ xs) h = (h 0 x (omega arith), each_fits word xs (λ i d b. h (suc i) d (omega arith)))

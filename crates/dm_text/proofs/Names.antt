@@ -22,7 +22,7 @@ pub use Rattle.dm_message.specs.Outcomes.{code_of_outcome}
 pub use Rattle.dm_message.specs.declared.MsgId.{MsgId}
 pub use Rattle.dm_message.specs.declared.Outcome.{Outcome}
 pub use Rattle.dm_message.specs.declared.kind.MessageKind.{MessageKind}
-pub use Rattle.dm_linktable.proofs.Names.{Link, Pid, map, ◌&&◌, ◌==◌}
+pub use Rattle.dm_linktable.proofs.Names.{Link, Pid, map, subst, ◌&&◌, ◌==◌}
 pub use Rattle.dm_schedule.proofs.Names.{append-nil, append_assoc, codes, if◌then◌else◌, nat_lt}
 pub use Rattle.dm_schedule.specs.declared.Step.{Step}
 pub use Rattle.dm_process.specs.declared.process.Direction.{Direction}
@@ -34,18 +34,17 @@ pub use Rattle.dm_line.specs.declared.end_line.EndLine.{EndLine}
 pub use Rattle.dm_line.specs.declared.end_line.Standing.{Standing}
 pub use Rattle.dm_line.specs.declared.line.Line.{Line}
 pub use Rattle.dm_line.specs.declared.line.Stage.{Stage}
-pub use Rattle.dm_text.specs.Ends.{direction_word, end_words, go_word, hex, hex_digit, kind_word, link_words, rights_word, standing_word}
+pub use Rattle.dm_text.specs.Ends.{direction_word, doing_row, go_word, kind_word, link_row, rights_word, standing_word}
 pub use Rattle.dm_text.specs.EndsOf.{hex_value, link_from, registers_from}
 unfoldable pub use Rattle.dm_text.specs.EndsOf.{read_direction, read_go, read_hex, read_link, read_link_kind, read_rights, read_standing}
-pub use Rattle.dm_text.specs.Fits.{EndFits, IdFits, IsByte, IsWord, LabelFits, LineFits, LinkFits, PidFits, StepFits}
+pub use Rattle.dm_text.specs.Fits.{EndFits, IdFits, IsByte, IsWord, LineFits}
 unfoldable pub use Rattle.dm_text.specs.GroupsOf.{read_stage}
-pub use Rattle.dm_text.specs.Labels.{head_words, label_words}
 pub use Rattle.dm_text.specs.LinesOf.{Trace, at_end, end_of_words, ends_from, line_of_words, lines_from, lines_in, trace_from, trace_in}
 unfoldable pub use Rattle.dm_text.specs.LinesOf.{end_of, line_of, lines_of, trace_of}
 pub use Rattle.dm_text.specs.Reading.{is_padded, message_named, message_numbered, number_after, outcome_with, read_u32, reply_with, why_with}
 unfoldable pub use Rattle.dm_text.specs.Reading.{pieces, read_id, read_kind, read_number, read_outcome, read_pid, read_reply, read_why}
 pub use Rattle.dm_text.specs.Rows.{all_read}
-pub use Rattle.dm_text.specs.Text.{end_text, line_words, spaced, spelled_line, stage_word, text}
+pub use Rattle.dm_text.specs.Text.{end_text, spaced, spelled_line, stage_word, text}
 unfoldable pub use Rattle.dm_text.specs.Text.{text_of_ends, text_of_lines}
-pub use Rattle.dm_text.specs.Words.{id_word, mark, pid_word}
-pub use Rattle.dm_text.specs.Written.{Keeps, word_text}
+pub use Rattle.dm_text.specs.Words.{AllFit, LineWord, PidFits, only_if, hex, hex_digit, id_word, mark, message_word, pid_word, sized}
+pub use Rattle.dm_text.specs.Written.{Keeps, doing_words, end_words, line_words, link_words, load_words, spellings, word_text}

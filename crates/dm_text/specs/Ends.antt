@@ -1,5 +1,5 @@
 -- The lines at the end of a run, as words.
-use Rattle.std.specs.Prelude.{ℕ, ◌+◌, ◌/◌, ◌%◌, nat_lt, Bool, true, false, if◌then◌else◌, codes, List, [], ◌∷◌, ◌++◌, map}
+use Rattle.std.specs.Prelude.{◌≡◌, ℕ, Bool, true, false, if◌then◌else◌, codes, List, [], ◌∷◌, ◌++◌, length, map}
 use Rattle.std.specs.Fmt.{decimal}
 use Rattle.dm_link.specs.declared.Kind.{Kind}
 use Rattle.dm_link.specs.declared.Kind.TheVariants.{General, Reply}
@@ -13,7 +13,7 @@ use Rattle.dm_line.specs.declared.end_line.EndLine.{EndLine}
 use Rattle.dm_line.specs.declared.end_line.EndLine.TheVariants as end
 use Rattle.dm_line.specs.declared.end_line.Standing.{Standing}
 use Rattle.dm_line.specs.declared.end_line.Standing.TheVariants as standing
-use Rattle.dm_text.specs.Words.{pid_word, id_word}
+use Rattle.dm_text.specs.Words.{LineWord, said, sized, process_word, message_word, bytes_word, only_if}
 
 abbrev pub standing_word : Standing → List ℕ
 standing_word standing.Here = codes "here"
@@ -25,24 +25,15 @@ abbrev pub direction_word : Direction → List ℕ
 direction_word FromArea = codes "0"
 direction_word IntoArea = codes "1"
 
-abbrev pub doing_words : Doing → List (List ℕ)
-doing_words doing.Ready = codes "ready" ∷ []
-doing_words (doing.Waiting mask base cap) = codes "waiting" ∷ decimal mask ∷ decimal base ∷ decimal cap ∷ []
-doing_words (doing.Moving dir owner base own left) =
-    codes "moving" ∷ direction_word dir ∷ pid_word owner ∷ decimal base ∷ decimal own ∷ decimal left ∷ []
+abbrev pub doing_row : Doing → List LineWord
+doing_row doing.Ready = said (codes "ready") ∷ []
+doing_row (doing.Waiting mask base cap) = said (codes "waiting") ∷ sized 32 mask ∷ sized 32 base ∷ sized 32 cap ∷ []
+doing_row (doing.Moving dir owner base own left) =
+    said (codes "moving") ∷ said (direction_word dir) ∷ process_word owner ∷ sized 32 base ∷ sized 32 own ∷ sized 32 left ∷ []
 
 -- whether a process is stopped
 abbrev pub go_word : Bool → List ℕ
 go_word stopped = if stopped then codes "stopped" else codes "go"
-
--- 0 to 9, a to f
-abbrev pub hex_digit : ℕ → ℕ
-hex_digit n = if nat_lt n 10 then 48 + n else 87 + n
-
--- two digits a byte
-abbrev pub hex : List ℕ → List ℕ
-hex [] = []
-hex (b ∷ bs) = hex_digit (b / 16) ∷ hex_digit (b % 16) ∷ hex bs
 
 abbrev pub kind_word : Kind → List ℕ
 kind_word General = codes "general"
@@ -55,27 +46,29 @@ rights_word true false = codes "r"
 rights_word false true = codes "w"
 rights_word true true = codes "rw"
 
-abbrev pub link_words : Link → List (List ℕ)
-link_words l =
-    kind_word l.kind ∷ pid_word l.addr.pid ∷ codes "at" ∷ decimal l.addr.at ∷ codes "moves" ∷ decimal l.addr.moves
-    ∷ codes "code" ∷ decimal l.code ∷ codes "channel" ∷ decimal l.channel
-    ∷ codes "area" ∷ decimal l.area.base ∷ decimal l.area.len ∷ rights_word l.area.read l.area.write ∷ []
+-- no process, and no server, holds a link to a kernel: its mark isn't printed
+abbrev pub link_row : Link → List LineWord
+link_row l =
+    said (kind_word l.kind) ∷ process_word l.addr.pid ∷ said (codes "at") ∷ sized 8 l.addr.at ∷ said (codes "moves") ∷ sized 32 l.addr.moves
+    ∷ said (codes "code") ∷ sized 32 l.code ∷ said (codes "channel") ∷ sized 8 l.channel ∷ said (codes "area") ∷ sized 32 l.area.base
+    ∷ sized 32 l.area.len ∷ only_if (l.to_kernel ≡ false) (said (rights_word l.area.read l.area.write)) ∷ []
 
--- the words of each line at the end of a run, a row a line
-abbrev pub end_words : EndLine → List (List ℕ)
-end_words end.Final = codes "final" ∷ []
-end_words (end.Ended p y) = codes "process" ∷ pid_word p ∷ codes "ended" ∷ decimal (why_code y) ∷ []
-end_words (end.Process p m s d stopped sent) =
-    codes "process" ∷ pid_word p ∷ codes "at" ∷ decimal m ∷ standing_word s ∷ (doing_words d ++ go_word stopped ∷ decimal sent ∷ [])
-end_words (end.Registers p r pc) = codes "registers" ∷ pid_word p ∷ (map decimal r ++ decimal pc ∷ [])
-end_words (end.Memory p k bytes) = codes "memory" ∷ pid_word p ∷ decimal k ∷ hex bytes.items ∷ []
-end_words (end.Link p slot l) = codes "link" ∷ pid_word p ∷ decimal slot ∷ link_words l
-end_words (end.Server p sent) = codes "server" ∷ pid_word p ∷ decimal sent ∷ []
-end_words (end.Name name l) = codes "name" ∷ hex name.items ∷ link_words l
-end_words (end.Child n p m) = codes "child" ∷ decimal n ∷ pid_word p ∷ codes "at" ∷ decimal m ∷ []
-end_words (end.Pending id) = codes "pending" ∷ id_word id ∷ []
-end_words (end.Queue p ids) = codes "queue" ∷ pid_word p ∷ map id_word ids
-end_words (end.Holding m p ids) = codes "holding" ∷ decimal m ∷ pid_word p ∷ map id_word ids
-end_words (end.Inbox m ids) = codes "inbox" ∷ decimal m ∷ map id_word ids
-end_words (end.Stream a b ids) = codes "stream" ∷ decimal a ∷ decimal b ∷ map id_word ids
-end_words (end.Groups g) = codes "end" ∷ decimal g ∷ []
+-- the words of each line at the end of a run, a row a line; registers are sixteen
+abbrev pub end_row : EndLine → List LineWord
+end_row end.Final = said (codes "final") ∷ []
+end_row (end.Ended p y) = said (codes "process") ∷ process_word p ∷ said (codes "ended") ∷ said (decimal (why_code y)) ∷ []
+end_row (end.Process p m s d stopped sent) =
+    said (codes "process") ∷ process_word p ∷ said (codes "at") ∷ sized 8 m ∷ said (standing_word s)
+    ∷ (doing_row d ++ said (go_word stopped) ∷ sized 32 sent ∷ [])
+end_row (end.Registers p r pc) = said (codes "registers") ∷ process_word p ∷ (map (sized 32) r ++ only_if (length r ≡ 16) (sized 32 pc) ∷ [])
+end_row (end.Memory p k bytes) = said (codes "memory") ∷ process_word p ∷ sized 8 k ∷ bytes_word bytes.items ∷ []
+end_row (end.Link p slot l) = said (codes "link") ∷ process_word p ∷ sized 8 slot ∷ link_row l
+end_row (end.Server p sent) = said (codes "server") ∷ process_word p ∷ sized 32 sent ∷ []
+end_row (end.Name name l) = said (codes "name") ∷ bytes_word name.items ∷ link_row l
+end_row (end.Child n p m) = said (codes "child") ∷ sized 32 n ∷ process_word p ∷ said (codes "at") ∷ sized 8 m ∷ []
+end_row (end.Pending id) = said (codes "pending") ∷ message_word id ∷ []
+end_row (end.Queue p ids) = said (codes "queue") ∷ process_word p ∷ map message_word ids
+end_row (end.Holding m p ids) = said (codes "holding") ∷ sized 8 m ∷ process_word p ∷ map message_word ids
+end_row (end.Inbox m ids) = said (codes "inbox") ∷ sized 8 m ∷ map message_word ids
+end_row (end.Stream a b ids) = said (codes "stream") ∷ sized 8 a ∷ sized 8 b ∷ map message_word ids
+end_row (end.Groups g) = said (codes "end") ∷ sized 128 g ∷ []

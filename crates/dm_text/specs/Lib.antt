@@ -1,5 +1,4 @@
 pub mod Words
-pub mod Labels
 pub mod Ends
 pub mod Text
 pub mod Written

@@ -1,13 +1,17 @@
 //! Reading lines back.
-ghost use Rattle.std.specs.Prelude.{◌≡◌, ◌<◌, ◌^◌, ◌++◌, List, Some, false};
+ghost use Rattle.std.specs.Prelude.{◌≡◌, ◌<◌, ◌^◌, ◌++◌, List, Some, false, length, map};
 ghost use Rattle.std.specs.List.{All};
 ghost use Rattle.dm_line.specs.declared.end_line.EndLine.{EndLine as TheEndLine};
+ghost use Rattle.dm_line.specs.declared.end_line.EndLine.TheVariants as end;
 ghost use Rattle.dm_line.specs.declared.line.Line.{Line as TheLine};
-ghost use Rattle.dm_text.specs.Fits.{DoingFits, EndFits, HidesNothing, IdFits, IsByte, IsWord, LabelFits, LineFits, LinkFits, LoadFits, PidFits, StepFits};
+ghost use Rattle.dm_line.specs.declared.line.Line.TheVariants as line;
+ghost use Rattle.dm_text.specs.Ends.{link_row};
+ghost use Rattle.dm_text.specs.Fits.{EndFits, HidesNothing, IdFits, IsByte, IsWord, LineFits};
 ghost use Rattle.dm_text.specs.LinesOf.{lines_of, trace_of};
 ghost use Rattle.dm_text.specs.Text.{text_of_ends, text_of_lines};
+ghost use Rattle.dm_text.specs.Words.{AllFit, PidFits, message_word};
 
-use dm_line::end_line::{Doing, EndLine};
+use dm_line::end_line::{Doing, EndLine, Standing};
 use dm_line::line::{Line, Load};
 use dm_link::{Link, Pid};
 use dm_message::MsgId;
@@ -46,8 +50,8 @@ fn pair_fits(a: u8, b: u8, n: u32)
 {}
 
 /// So are the parts of a packet's line.
-fn packet_fits(a: u8, b: u8, k: u64, load: Load)
-    ensures { IsByte a × IsByte b × (k < 2 ^ 64) × LoadFits load }
+fn packet_fits(from: u8, to: u8, k: u64, load: Load)
+    ensures { LineFits (line.Packet from to k load) }
 {}
 
 /// So is the room that is free.
@@ -69,6 +73,13 @@ fn ids_fit(ids: &[MsgId])
     }
 }
 
+/// So are their words.
+fn messages_fit(ids: &[MsgId])
+    ensures { AllFit (map message_word ids.now) }
+{
+    ids_fit(ids);
+}
+
 /// So are several bytes.
 fn bytes_fit(bytes: &[u8])
     ensures { All IsByte bytes.now }
@@ -79,24 +90,50 @@ fn words_fit(words: &[u32])
     ensures { All IsWord words.now }
 {}
 
-/// So are the numbers of a link.
-fn link_fits(link: Link)
-    ensures { link.to_kernel ≡ false → LinkFits link }
+/// Registers are sixteen.
+fn are_sixteen(r: &[u32; 16])
+    ensures { length r.now ≡ 16 }
 {}
 
-/// So are those of what a process does.
-fn doing_fits(doing: Doing)
-    ensures { DoingFits doing }
+/// So are the numbers of the line of a process's registers.
+fn registers_fit(pid: Pid, r: &[u32; 16], pc: u32)
+    ensures { EndFits (end.Registers pid r.now pc) }
+{
+    process_fits(pid, 0, pc);
+    words_fit(r);
+    are_sixteen(r);
+}
+
+/// So are the numbers of a link.
+fn link_fits(link: Link)
+    ensures { link.to_kernel ≡ false → AllFit (link_row link) }
+{
+    process_fits(link.addr.pid, link.addr.at, link.addr.moves);
+    pair_fits(link.channel, 0, link.code);
+    pair_fits(0, 0, link.area.base);
+    pair_fits(0, 0, link.area.len);
+}
+
+/// So are those of the line of a process.
+fn process_line_fits(
+    pid: Pid,
+    at: u8,
+    standing: Standing,
+    doing: Doing,
+    stopped: bool,
+    sent: u32,
+)
+    ensures { EndFits (end.Process pid at standing doing stopped sent) }
 {}
 
 /// So are those of the head of a group.
 fn step_fits(step: Step)
-    ensures { StepFits step }
+    ensures { LineFits (line.Head step) }
 {}
 
 /// So are those of a step of the kernel without machines.
 fn label_fits(label: Label)
-    ensures { LabelFits label }
+    ensures { LineFits (line.Label label) }
 {}
 
 /// So are those of a line at the end, so its text can be read, if it leaves no mark of a link out.
@@ -109,17 +146,16 @@ pub fn end_fits(end: &EndLine)
         EndLine::Process {
             pid,
             at,
+            standing,
             doing,
+            stopped,
             sent,
-            ..
-        } => {
-            process_fits(pid, at, sent);
-            doing_fits(doing);
-        }
-        EndLine::Registers { pid, ref r, pc } => {
-            process_fits(pid, 0, pc);
-            words_fit(r);
-        }
+        } => process_line_fits(pid, at, standing, doing, stopped, sent),
+        EndLine::Registers {
+            ref pid,
+            ref r,
+            ref pc,
+        } => registers_fit(*pid, r, *pc),
         EndLine::Memory {
             pid,
             block,
@@ -141,7 +177,7 @@ pub fn end_fits(end: &EndLine)
         EndLine::Pending(id) => message_fits(id, 0, 0),
         EndLine::Queue { pid, ref ids } => {
             process_fits(pid, 0, 0);
-            ids_fit(ids.as_slice());
+            messages_fit(ids.as_slice());
         }
         EndLine::Holding {
             machine,
@@ -149,15 +185,15 @@ pub fn end_fits(end: &EndLine)
             ref ids,
         } => {
             process_fits(pid, machine, 0);
-            ids_fit(ids.as_slice());
+            messages_fit(ids.as_slice());
         }
         EndLine::Inbox { machine, ref ids } => {
             pair_fits(machine, 0, 0);
-            ids_fit(ids.as_slice());
+            messages_fit(ids.as_slice());
         }
         EndLine::Stream { from, to, ref ids } => {
             pair_fits(from, to, 0);
-            ids_fit(ids.as_slice());
+            messages_fit(ids.as_slice());
         }
         EndLine::Groups(count) => count_fits(count),
     }

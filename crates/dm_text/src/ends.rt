@@ -2,10 +2,10 @@
 ghost use Rattle.std.specs.Prelude.{◌≡◌, ◌∷◌, ◌++◌, [], OnErr, OnOk, codes, map};
 ghost use Rattle.std.specs.Fmt.{decimal};
 ghost use Rattle.dm_line.specs.declared.end_line.EndLine.TheVariants as end;
-ghost use Rattle.dm_text.specs.Ends.{direction_word, doing_words, end_words, go_word, hex, kind_word, link_words, rights_word, standing_word};
+ghost use Rattle.dm_text.specs.Ends.{direction_word, go_word, kind_word, rights_word, standing_word};
 ghost use Rattle.dm_text.specs.Text.{spaced, spelled_line};
-ghost use Rattle.dm_text.specs.Words.{pid_word};
-ghost use Rattle.dm_text.specs.Written.{Keeps, word_text};
+ghost use Rattle.dm_text.specs.Words.{hex, pid_word};
+ghost use Rattle.dm_text.specs.Written.{Keeps, doing_words, end_words, link_words, word_text};
 
 use crate::word::Word::{Byte, Bytes, Message, Name, Number, Process};
 use crate::word::{Word, put_count, put_line, put_listed, put_numbers, put_words};

@@ -1,7 +1,7 @@
 //! The heads of groups and the steps of the kernel without machines, a row a line. Each has room before it is put.
 ghost use Rattle.std.specs.Prelude.{◌≡◌, ◌+◌, ◌≤◌, ◌++◌, vec_capacity, vec_len};
-ghost use Rattle.dm_text.specs.Labels.{head_words, label_words};
-ghost use Rattle.dm_text.specs.Text.{spelled_line};
+ghost use Rattle.dm_line.specs.declared.line.Line.TheVariants as line;
+ghost use Rattle.dm_text.specs.Text.{text};
 
 use crate::rows::{
     put_answered, put_call, put_created, put_machine, put_message, put_message_room,
@@ -14,7 +14,7 @@ use dm_schedule::Step;
 /// Puts the head of a group.
 pub(crate) fn put_head(into: &mut Vec<u8>, step: Step)
     requires { vec_len into.old + LINE_ROOM ≤ vec_capacity into.old }
-    ensures { into.new.items ≡ into.old.items ++ spelled_line (head_words step) }
+    ensures { into.new.items ≡ into.old.items ++ text (line.Head step) }
 {
     match step {
         Step::Turn(m) => put_machine(into, b"turn", m),
@@ -27,7 +27,7 @@ pub(crate) fn put_head(into: &mut Vec<u8>, step: Step)
 /// Puts a step of the kernel without machines.
 pub(crate) fn put_label(into: &mut Vec<u8>, label: Label)
     requires { vec_len into.old + LINE_ROOM ≤ vec_capacity into.old }
-    ensures { into.new.items ≡ into.old.items ++ spelled_line (label_words label) }
+    ensures { into.new.items ≡ into.old.items ++ text (line.Label label) }
 {
     match label {
         Label::Ran { pid, count } => put_process_number(into, b"ran", pid, count),

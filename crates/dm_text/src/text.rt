@@ -2,7 +2,8 @@
 ghost use Rattle.std.specs.Prelude.{◌≡◌, ◌+◌, ◌≤◌, ◌∷◌, ◌++◌, [], OnErr, OnOk, codes, length, vec_capacity, vec_len};
 ghost use Rattle.std.specs.Fmt.{decimal};
 ghost use Rattle.dm_line.specs.declared.line.Line.TheVariants as line;
-ghost use Rattle.dm_text.specs.Text.{end_text, load_words, spaced, stage_word, text, text_of_ends, text_of_lines};
+ghost use Rattle.dm_text.specs.Text.{end_text, spaced, stage_word, text, text_of_ends, text_of_lines};
+ghost use Rattle.dm_text.specs.Written.{load_words};
 
 use crate::ends::put_end;
 use crate::labels::{put_head, put_label};

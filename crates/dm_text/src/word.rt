@@ -1,10 +1,9 @@
 //! Writing the words of a line at the end of a text.
 ghost use Rattle.std.specs.Prelude.{◌≡◌, [], ◌<◌, ◌≤◌, ◌∷◌, ◌++◌, OnErr, OnOk, codes, map};
 ghost use Rattle.std.specs.Fmt.{decimal};
-ghost use Rattle.dm_text.specs.Ends.{hex, hex_digit};
 ghost use Rattle.dm_text.specs.Text.{spaced, spelled_line};
-ghost use Rattle.dm_text.specs.Words.{id_word, pid_word};
-ghost use Rattle.dm_text.specs.Written.{Keeps, word_text};
+ghost use Rattle.dm_text.specs.Words.{hex, hex_digit, id_word, message_word, pid_word};
+ghost use Rattle.dm_text.specs.Written.{Keeps, spellings, word_text};
 
 use dm_link::Pid;
 use dm_memory::{NoMemory, extend_from_slice, push};
@@ -174,7 +173,7 @@ pub(crate) fn put_listed(
     words: &[Word],
     ids: &[MsgId],
 ) -> Result<(), NoMemory>
-    ensures ok { OnOk result (into.new.items ≡ into.old.items ++ spelled_line (name.now ∷ (map word_text words.now ++ map id_word ids.now))) }
+    ensures ok { OnOk result (into.new.items ≡ into.old.items ++ spelled_line (name.now ∷ (map word_text words.now ++ spellings (map message_word ids.now)))) }
     ensures err { OnErr result (Keeps into.old.items into.new.items) }
 {
     extend_from_slice(into, name.as_bytes())?;

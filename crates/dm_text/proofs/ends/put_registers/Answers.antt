@@ -1,10 +1,12 @@
-use Rattle.dm_text.proofs.Names.{[], ◌∷◌, map, decimal, pid_word}
+use Rattle.dm_text.proofs.Names.{◌≡◌, [], ◌∷◌, ◌++◌, codes, length, map, ap, sym, ◌∙◌, decimal, pid_word, only_if, sized, spelled_line}
 use Rattle.dm_text.proofs.Kept.{kept-thrice, listed-more}
+use Rattle.dm_text.proofs.Lists.{spellings-more}
 use Rattle.dm_text.proofs.ends.put_registers.Goals as goal
 
 pub returns-clause-ok : goal.returns-clause-ok
 returns-clause-ok c =
     listed-more _ _ (pid_word c.args.pid ∷ []) (map decimal c.args.r.now) (decimal c.args.pc ∷ []) _ _ _ _ _ c.in_ok-extend_from_slice.ensures.items c.in_ok-put_words.ensures.ok c.in_ok-put_numbers.ensures.ok c.in_ok-put_words-2.ensures.ok c.in_ok-push.ensures.items
+    ∙ ap (λ ws. c.args.into.now.items ++ spelled_line (codes "registers" ∷ pid_word c.args.pid ∷ ws)) (sym (spellings-more (sized 32) c.args.r.now (only_if (length c.args.r.now ≡ 16) (sized 32 c.args.pc) ∷ [])))
 
 pub returns-in_err-put_words-2-clause-err : goal.returns-in_err-put_words-2-clause-err
 returns-in_err-put_words-2-clause-err c =
