@@ -90,7 +90,7 @@ made_here b pt start next ls m n run kernel known comes =
 -- The line of a message that is routed, as the machine says it and as the rule has it.
 
 -- the kind of a message is that of its plain meaning
-kind_plain : (w : What) → IsKindOfPlain w (plain_what w)
+pub kind_plain : (w : What) → IsKindOfPlain w (plain_what w)
 kind_plain (What.Migrate machine) = tt
 kind_plain (What.Update about) = tt
 kind_plain (What.Ask pid blocks moves size asker) = tt

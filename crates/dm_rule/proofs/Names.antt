@@ -3,7 +3,7 @@ pub use Rattle.std.proofs.Common.{lit<}
 pub use Rattle.std.proofs.lemmas.Bool.{and_parts, cases_eq, eq-eqb, eqb-true, false_from_ne_true, lt-ltb, ne_eqb, not-true, or_cases, or_left, or_right}
 pub use Rattle.std.proofs.lemmas.List.{length-append}
 pub use Rattle.std.proofs.lemmas.Option.{slice_get_cases, slice_get_within}
-pub use Rattle.std.specs.List.{cons_option}
+pub use Rattle.std.specs.List.{cons_option, position_from}
 pub use Rattle.std.specs.Option.{option_map_or}
 pub use Rattle.std.specs.Prelude.{filter, filter_map, option_and_then, slice_set}
 pub use Rattle.dm_link.specs.Names.{Place, place_of}

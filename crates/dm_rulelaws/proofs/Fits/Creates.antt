@@ -63,7 +63,7 @@ plain_length w regs bytes m h1 h2 = search arith
 pub steps_length : (k : ℕ) (m n : kernel.Machine) → kernel.plain_steps k m ≡ Some n → length n.bytes ≡ length m.bytes
 steps_length zero m n e = let f : m ≡ n = cc in sym (ap (λ (v : kernel.Machine). length v.bytes) f)
 steps_length (suc k) m n e =
-    let (mid, before, last) = bind-is (kernel.plain_steps k m) (λ (w : kernel.Machine). kernel.plain_row (instruction w.regs w.bytes)) e in
+    let (mid, before, last) = bind-is (kernel.plain_steps k m) (λ (w : kernel.Machine). kernel.plain_row (instruction w.regs w.bytes)) n e in
     plain_length (instruction mid.regs mid.bytes) mid.regs mid.bytes n (instruction-lengths mid.regs mid.bytes) last ∙ steps_length k m mid before
 
 -- a process that goes on, and whose memory doesn't shrink

@@ -21,7 +21,7 @@ running_of s p x is free going ready =
 pub steps_front : (c : ℕ) (m n z : kernel.Machine) → (kernel.plain_row (instruction m.regs m.bytes)) ≡ Some n → kernel.plain_steps c n ≡ Some z → kernel.plain_steps (suc c) m ≡ Some z
 steps_front zero m n z e f = e ∙ f
 steps_front (suc c) m n z e f =
-    let (mid, before, last) = bind-is (kernel.plain_steps c n) (λ (w : kernel.Machine). kernel.plain_row (instruction w.regs w.bytes)) f in
+    let (mid, before, last) = bind-is (kernel.plain_steps c n) (λ (w : kernel.Machine). kernel.plain_row (instruction w.regs w.bytes)) z f in
     ap (λ (o : Option kernel.Machine). bind o (λ (w : kernel.Machine). kernel.plain_row (instruction w.regs w.bytes))) (steps_front c m n mid e before) ∙ last
 
 pub ran_goes : (k : ℕ) (m : kernel.Machine) (o : Option kernel.Machine) → kernel.plain_row (instruction m.regs m.bytes) ≡ o → ((n : kernel.Machine) → kernel.plain_steps (rule.ran k n).count n ≡ Some (rule.ran k n).machine)
