@@ -4,7 +4,9 @@ use Rattle.dm_text.proofs.Lists.{words_put}
 use Rattle.dm_text.proofs.word.put_listed.Goals as goal
 
 pub returns-clause-ok : goal.returns-clause-ok
-returns-clause-ok c = listed _ _ _ _ _ _ _ _ (c.in_ok-extend_from_slice.ensures.items ∙ ap (λ n. c.args.into.now.items ++ n) c.as_bytes.ensures.value) c.in_ok-put_words.ensures.ok (words_put message_word _ _ _ c.in_ok-put_ids.ensures.ok) c.in_ok-push.ensures.items
+returns-clause-ok c =
+    listed _ _ _ _ _ _ _ _ (c.in_ok-extend_from_slice.ensures.items ∙ ap (λ n. c.args.into.now.items ++ n) c.as_bytes.ensures.value) c.in_ok-put_words.ensures.ok
+    (words_put message_word _ _ _ c.in_ok-put_ids.ensures.ok) c.in_ok-push.ensures.items
 
 pub returns-in_err-put_ids-clause-err : goal.returns-in_err-put_ids-clause-err
 returns-in_err-put_ids-clause-err c = kept-twice _ _ _ _ _ _ _ c.in_ok-extend_from_slice.ensures.items c.in_ok-put_words.ensures.ok c.in_err-put_ids.ensures.err
