@@ -167,13 +167,12 @@ cases_zero (suc n) = inr (omega arith)
 pub zero_if : (n : ℕ) → (1 ≤ n → ⊥) → n ≡ 0
 zero_if n h = elim (cases_zero n) [ inl is ↦ is | inr least ↦ absurd (h least) ]
 
-answer_fresh : (r e : MsgId → ℕ) (s : OneKernel) (id : MsgId) (m : PlainMessage) → s.bag id ≡ Some m → asks m.what ≡ true → Entered r e s → e (answer_id id) ≡ 0
-answer_fresh r e s id m there asking h = zero_if (e (answer_id id)) (λ least.
-    let k : None ≡ Some m = sym (sym (ap s.bag (let back : request_id (answer_id id) ≡ id = (let q : id.answer ≡ false = h.requests id m there asking in grind arith) in back)) ∙ h.answers (answer_id id) refl least) ∙ there in cc)
-
 answers_in : (r e : MsgId → ℕ) (s t u : OneKernel) (id : MsgId) (m : PlainMessage) (w : PlainWhat) → with_sent u (Some (answer_to m w)) ≡ t → ((i : MsgId) → u.bag i ≡ (without_message s id).bag i) → s.bag id ≡ Some m → asks m.what ≡ true
     → Sound r e s → BagStep e s t (Some id) (Some (answer_id id))
 answers_in r e s t u id m w is same there asking h =
+    let answer_fresh : (r e : MsgId → ℕ) (s : OneKernel) (id : MsgId) (m : PlainMessage) → s.bag id ≡ Some m → asks m.what ≡ true → Entered r e s → e (answer_id id) ≡ 0 = λ r e s id m there asking h.
+      zero_if (e (answer_id id)) (λ least.
+      let k : None ≡ Some m = sym (sym (ap s.bag (let back : request_id (answer_id id) ≡ id = (let q : id.answer ≡ false = h.requests id m there asking in grind arith) in back)) ∙ h.answers (answer_id id) refl least) ∙ there in cc) in
     let name : (answer_to m w).id ≡ answer_id id = ap answer_id (h.entered.named id m there) in
     let zero_ : e (answer_to m w).id ≡ 0 = ap e name ∙ answer_fresh r e s id m there asking h.entered in
     search (arith, steps_in)

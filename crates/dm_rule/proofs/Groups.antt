@@ -31,10 +31,6 @@ abbrev pub IsNet : List Part → Type 0
 IsNet [] = ⊤
 IsNet (p ∷ ps) = IsNetPart p × IsNet ps
 
-taken_told : (v : View) (b : ℕ) (o : Option MsgId) (i : MsgId) → (view.taken_id v b o).told i ≡ v.told i
-taken_told v b None i = refl
-taken_told v b (Some j) i = refl
-
 pub early_off : (v : View) (a b n : ℕ) (z : Spot) → ids_at (view.after_early v a b n) z ≡ ids_at v z
 early_off v a b n (Untaken c d) = pair_keeps v.pair a b (record (v.pair a b) { kept = n ∷ filter (λ k. not (k == n)) (v.pair a b).kept }) refl c d
 early_off v a b n _ = refl
@@ -45,6 +41,7 @@ acked_off v a b n z = grind (arith, nat_tests, pair_keeps)
 net_line : (pt : Point) (l : Line) → IsNetLine l → State None pt → (s : OneKernel) → kernel_after pt.kernel (label_of l) ≡ Some s → State None (moved pt l s)
 net_line pt (Line.Taken a b n) is h s k =
     let Stands-taken : (bag : Bag) (v : View) (a b n : ℕ) → Stands bag v → Stands bag (view.after_taken v a b n) = λ bag v a b n h. taken_by bag v a b n (slice_get (v.pair a b).ids (v.pair a b).taken) refl h in
+    let taken_told : (v : View) (b : ℕ) (o : Option MsgId) (i : MsgId) → (view.taken_id v b o).told i ≡ v.told i = λ v b o i. elim o as (λ o_. (view.taken_id v b o_).told i ≡ v.told i) [ None ↦ refl | Some j' ↦ refl ] in
     State-at None (moved pt (Line.Taken a b n) pt.kernel) (moved pt (Line.Taken a b n) s) (ap (moved pt (Line.Taken a b n)) (let g : pt.kernel ≡ s = cc in g))
     (by_line None pt (Line.Taken a b n) refl h (Stands-taken (letters h.own pt.kernel.bag) pt.view a b n h.stands) (λ i. taken_told (view.with_pair pt.view a b (record (pt.view.pair a b) { taken = (pt.view.pair a b).taken + 1; kept = filter (λ k. not (k == n)) (pt.view.pair a b).kept })) b (view.oldest (pt.view.pair a b)) i))
 net_line pt (Line.Old a b n) is h s k =

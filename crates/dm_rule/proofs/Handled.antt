@@ -78,12 +78,10 @@ awaited_stands : (s : OneKernel) (mask : ℕ) (queue : List MsgId) (id : MsgId) 
 awaited_stands s mask [] id e = cc
 awaited_stands s mask (i ∷ is) id e = awaited_if s mask i is id (rule.is_awaited mask (s.bag i)) e (λ k. awaited_stands s mask is id k)
 
-received_off : (v : View) (p : Pid) (rest : List MsgId) (z : Spot) → ids_at (record (view.serving v p) { queue = at_record v.queue v.acting p rest }) z ≡ ids_at (record v { queue = at_record v.queue v.acting p rest }) z
-received_off v p rest (Queue m q) = refl
-received_off v p rest _ = refl
-
 completes_row : (pt : Point) (p : Pid) (id : MsgId) (c : receiving.Completed) (w : Spelled) → State None pt → 1 ≤ times id (pt.view.queue pt.view.acting p) → spelled pt (rule.completion_parts p id c) ≡ Some w → State None w.point
 completes_row pt p id (receiving.Receives x) w h there e =
+    let received_off : (v : View) (p : Pid) (rest : List MsgId) (z : Spot) → ids_at (record (view.serving v p) { queue = at_record v.queue v.acting p rest }) z ≡ ids_at (record v { queue = at_record v.queue v.acting p rest }) z =
+      λ v p rest z. elim z as (λ z_. ids_at (record (view.serving v p) { queue = at_record v.queue v.acting p rest }) z_ ≡ ids_at (record v { queue = at_record v.queue v.acting p rest }) z_) [ Queue m' q' ↦ refl | _ ↦ refl ] in
     one_line pt (Line.Label (Label.Receive p id)) w e
     (λ s k. by_label pt (Label.Receive p id) s (Some id) None h k (gone_out pt (Label.Receive p id) s id h k refl) (bag_receive h.e pt.kernel s p id k)
     (Stands-dequeued (letters h.own pt.kernel.bag) pt.view (view_after pt.view (Line.Label (Label.Receive p id))) id p (without_id id (pt.view.queue pt.view.acting p)) (λ j. without_counts j id (pt.view.queue pt.view.acting p) there)
@@ -190,15 +188,12 @@ killed_row pt i is m x w h front there alive none e =
     let there_ = served_label pt i is None k.s h front k.is (subst (BagStep h.e pt.kernel k.s (Some i)) none (served_put pt i m x k.s h there alive k.is)) in
     State-at None k.rest.point w.point k.point (all_dropped (pt.view.queue pt.view.acting m.to) next m.to k.rest there_ (ap (λ a. next.view.queue a m.to) keeps.3 ∙ ap (λ f. f pt.view.acting m.to) keeps.4) k.more)
 
-queued_told : (v : View) (i : MsgId) (o : Option Pid) (j : MsgId) → (view.queued_for (handled v i) i o).told j ≡ v.told j
-queued_told v i None j = refl
-queued_told v i (Some p) j = refl
-
 queued_row : (pt : Point) (i : MsgId) (is : List MsgId) (m : PlainMessage) (w : Spelled) → State None pt → pt.view.inbox pt.view.acting ≡ i ∷ is → pt.kernel.bag i ≡ Some m → spelled pt (Says (Line.Queued i) ∷ []) ≡ Some w → State None w.point
 queued_row pt i is m w h front there e =
     one_line pt (Line.Queued i) w e (λ s k.
     State-at None (moved pt (Line.Queued i) pt.kernel) (moved pt (Line.Queued i) s) (ap (moved pt (Line.Queued i)) (let same : pt.kernel ≡ s = cc in same))
-    (by_line None pt (Line.Queued i) refl h (Stands-queued (letters h.own pt.kernel.bag) pt.view (view_after pt.view (Line.Queued i)) i is m.to front (letter_of h.r h.e h.own pt.kernel i m there h.sound) refl h.stands) (λ j. queued_told pt.view i (receiver_of (pt.view.told i)) j)))
+    (by_line None pt (Line.Queued i) refl h (Stands-queued (letters h.own pt.kernel.bag) pt.view (view_after pt.view (Line.Queued i)) i is m.to front (letter_of h.r h.e h.own pt.kernel i m there h.sound) refl h.stands) (λ j.
+    (elim (receiver_of (pt.view.told i)) as (λ o_. (view.queued_for (handled pt.view i) i o_).told j ≡ pt.view.told j) [ None ↦ refl | Some p' ↦ refl ]))))
 
 -- a message for a process that is here, by its kind; the rule saw the point before the head, which has the same kernel and queues
 here_row : (o pt : Point) (m : ℕ) (i : MsgId) (is : List MsgId) (msg : PlainMessage) (x : PlainProcess) (k : PlainWhat) (parts : List Part) (w : Spelled) (h : State None pt) → PairsFit pt.view → pt.view.inbox pt.view.acting ≡ i ∷ is → pt.kernel.bag i ≡ Some msg

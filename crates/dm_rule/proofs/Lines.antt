@@ -238,11 +238,6 @@ untold_tells (Some u) t e = cc
 told_off : (v : View) (i j : MsgId) (t : Option Told) → id_eq i j ≡ false → at_id v.told i t j ≡ v.told j
 told_off v i j t e = ap (λ (c : Bool). if c then t else v.told j) e
 
-put_home_untaken : (m : ℕ) (p : Pair) (i : MsgId) → p.taken ≡ length p.ids → untaken (view.routed_on m m p i) ≡ untaken p
-put_home_untaken m p i full =
-    let taken : (view.routed_on m m p i).taken ≡ length p.ids + 1 = ap (λ (c : Bool). if c then p.taken + 1 else p.taken) (eq_self m) ∙ ap (λ n. n + 1) full in
-    ap (λ n. drop n (p.ids ++ i ∷ [])) taken ∙ subst (λ n. drop n (p.ids ++ i ∷ []) ≡ []) (length-append p.ids (i ∷ [])) (drop-length (p.ids ++ i ∷ [])) ∙ sym (ap (λ n. drop n p.ids) full ∙ drop-length p.ids)
-
 pub Stands-put-home : (bag : Bag) (v : View) (m : ℕ) (i : MsgId) (k : MessageKind) (x : Pid) → bag i ≡ None → (view.first_told (v.told i) (record { kind = k; receiver = x; about = v.topic })).receiver ≡ x → (v.pair m m).taken ≡ length (v.pair m m).ids
     → Stands bag v → Stands (having i x bag) (view.after_put v m m i k x)
 Stands-put-home bag v m i k x none untold full h =
@@ -252,6 +247,9 @@ Stands-put-home bag v m i k x none untold full h =
     let w = view.after_put v m m i k x in
     let t : Told = record { kind = k; receiver = x; about = v.topic } in
     let inbox : w.inbox ≡ at_machine v.inbox m (v.inbox m ++ i ∷ []) = ap (λ (c : Bool). if c then at_machine v.inbox m (v.inbox m ++ i ∷ []) else v.inbox) (eq_self m) in
+    let put_home_untaken : (m : ℕ) (p : Pair) (i : MsgId) → p.taken ≡ length p.ids → untaken (view.routed_on m m p i) ≡ untaken p = λ m p i full.
+      let taken : (view.routed_on m m p i).taken ≡ length p.ids + 1 = ap (λ (c : Bool). if c then p.taken + 1 else p.taken) (eq_self m) ∙ ap (λ n. n + 1) full in
+      ap (λ n. drop n (p.ids ++ i ∷ [])) taken ∙ subst (λ n. drop n (p.ids ++ i ∷ []) ≡ []) (length-append p.ids (i ∷ [])) (drop-length (p.ids ++ i ∷ [])) ∙ sym (ap (λ n. drop n p.ids) full ∙ drop-length p.ids) in
     Stands-comes bag v w i x (Inbox m) none
     (λ j. ap (times j) (ap (λ f. f m) inbox ∙ at_machine_at v.inbox m (v.inbox m ++ i ∷ [])) ∙ one_more j i (v.inbox m))
     (λ z apart. put_home_off v m i k x z apart inbox (put_home_untaken m (v.pair m m) i full)) (λ n p. refl) (λ j apart. told_off v i j (Some (view.first_told (v.told i) t)) apart) (told_at v i t x untold) h

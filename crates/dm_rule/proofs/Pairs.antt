@@ -5,9 +5,10 @@ pub mod Lines
 pub mod Migrating
 pub mod Turns
 pub mod Comes
-use Rattle.dm_rule.proofs.Names.{◌≡◌, ℕ, ◌≤◌, ◌==◌, ◌&&◌, Bool, true, false, List, [], ◌∷◌, refl, ap, ◌∙◌, sym, subst, arith, ◌≢◌, slice_get, Some, nat_tests, Boot, bind, Step, Line, at_pair, View, Pair, first_view, marked, Point}
-use Rattle.dm_rule.proofs.Names.{after_line, first_point, Part, Says, Spelled, spelled, outstanding_count, resends, arrives, outcome, behind, group_of, PairStands, HomeStands, IsStep, Leads, PairsStandAlways, migrates, Pid}
-use Rattle.dm_rule.proofs.Pairs.Stand.{WireStands-at, set_same, set_other, WireStands-marked}
+use Rattle.dm_rule.proofs.Names.{◌≡◌, ℕ, ◌≤◌, ◌==◌, ◌&&◌, Bool, true, false, List, [], ◌∷◌, refl, ap, ◌∙◌, sym, subst, arith, ◌≢◌, slice_get, Some, nat_tests, Boot, bind, Step, Line, at_pair, View, Pair, first_view, marked, Point, SentLoad}
+use Rattle.dm_rule.proofs.Names.{None, after_line, first_point, Part, Says, Spelled, spelled, outstanding_count, resends, arrives, outcome, behind, group_of, PairStands, HomeStands, IsStep, Leads, PairsStandAlways, migrates, Pid, Option}
+use Rattle.dm_rule.proofs.Names.{marked_at}
+use Rattle.dm_rule.proofs.Pairs.Stand.{WireStands-at, set_same, set_other, WireStands, WireStands-set}
 use Rattle.dm_rule.proofs.Pairs.Moves.{Paired, changed, Goes}
 use Rattle.dm_rule.proofs.Pairs.Lines.{bind-is, line_view, AllFit, keeps}
 use Rattle.dm_rule.proofs.Pairs.Turns.{turns_fit, resends_fit}
@@ -57,6 +58,8 @@ deliver_keeps b pt a c k w apart g h =
     let ca : (c == a) ≡ false = grind (arith, nat_tests) in
     let f = pt.view.pair in
     let is : g.begun.view.pair ≡ at_pair f a c (marked (f a c) k) = ap (λ (v : View). v.pair) (line_view pt g.begun (Line.Head (Step.Deliver a c k)) g.begins) in
+    let WireStands-marked : (g b : ℕ) (ss : List SentLoad) (k : ℕ) (o : Option SentLoad) → slice_get ss k ≡ o → WireStands g b ss → WireStands g b (marked_at ss k o) =
+      λ g b ss k o e h. (elim o as (λ o_. slice_get ss k ≡ o_ → WireStands g b (marked_at ss k o_)) [ None ↦ λ e'. h | Some s' ↦ λ e'. WireStands-set g b ss k (record s' { delivered = true }) (WireStands-at g b ss k s' e' h) h ]) e in
     let goes : Goes f (at_pair f a c (marked (f a c) k)) = search (arith, changed, WireStands-marked) in
     let there : g.begun.view.pair a c ≡ marked (f a c) k = ap (λ (p : ℕ → ℕ → Pair). p a c) is ∙ set_same f a c (marked (f a c) k) in
     let back : g.begun.view.pair c a ≡ f c a = ap (λ (p : ℕ → ℕ → Pair). p c a) is ∙ set_other f a c (marked (f a c) k) c a (let off : ((a == c) && (c == a)) ≡ false = grind (arith, nat_tests) in off) in

@@ -3,10 +3,6 @@ use Rattle.dm_rule.proofs.Names.{◌≡◌, ℕ, ◌<◌, ◌==◌, ◌&&◌, Bo
 use Rattle.dm_rule.proofs.Names.{right_true, QuietIsTested, IsQuiet, has_mail, is_quiet, pair_is_quiet, Pair, View, eq-eqb, ne_eqb, eqb-true}
 pub use Rattle.std.proofs.lemmas.Bool.{eq-eqb as eq_is, ne_eqb as eq_not}
 
-heard_by : (same : Bool) (p : Pair) → (same ≡ false → p.acked ≡ length p.ids) → (same || (p.acked == length p.ids)) ≡ true
-heard_by true p h = refl
-heard_by false p h = eq-eqb p.acked (length p.ids) (h refl)
-
 pub no_mail_empty : (v : View) (m : ℕ) → not (has_mail v m) ≡ true → v.inbox m ≡ []
 no_mail_empty v m e = none (v.inbox m) e
   where
@@ -19,6 +15,8 @@ no_mail_empty v m e = none (v.inbox m) e
 
 pub quiet_passes : (n : ℕ) (v : View) → IsQuiet n v → is_quiet n v ≡ true
 quiet_passes n v q =
+    let heard_by : (same : Bool) (p : Pair) → (same ≡ false → p.acked ≡ length p.ids) → (same || (p.acked == length p.ids)) ≡ true =
+      λ same p h. (elim same as (λ same_. ((same_ ≡ false → p.acked ≡ length p.ids)) → (same_ || (p.acked == length p.ids)) ≡ true) [ true ↦ λ h'. refl | false ↦ λ h'. eq-eqb p.acked (length p.ids) (h' refl) ]) h in
     all_of_each n (λ a. not (has_mail v a) && all_below n (λ b. pair_is_quiet (a == b) (v.pair a b)))
     (λ a h. both_true (not (has_mail v a)) (all_below n (λ b. pair_is_quiet (a == b) (v.pair a b))) (ap (λ (xs : List MsgId). not (nat_lt 0 (length xs))) (q.inbox a h))
     (all_of_each n (λ b. pair_is_quiet (a == b) (v.pair a b))

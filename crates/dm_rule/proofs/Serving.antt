@@ -97,14 +97,12 @@ by_ended P o m id msg w ps h1 h2 h3 = search (arith, given)
 by_process : (P : List Part → Type 0) (o : Point) (m : ℕ) (id : MsgId) (msg : PlainMessage) (k : Known) (ps : List Part) → To o m msg k → Handles P o m id msg → process_handles o m id msg k ≡ Some ps → P ps
 by_process P o m id msg k ps h1 h2 h3 = search (arith, bind-is, by_here, given, by_ended)
 
-or_either : (a c d : Bool) → (c || d) ≡ true → (a || (c || d)) ≡ true
-or_either true c d e = refl
-or_either false c d e = e
-
 by_receiver : (P : List Part → Type 0) (b : Boot) (o : Point) (m : ℕ) (id : MsgId) (msg : PlainMessage) (c d g : Bool) (ps : List Part) → msg.to.num == 0 ≡ c → pid_eq msg.to switchboard ≡ d → pid_eq msg.to manager ≡ g → Handles P o m id msg
     → (if c then kernel_handles b o m id msg.what else if d then board_took id (board.board_takes o.kernel.switchboard msg msg.what)
     else if g then manager_parts id (manage.manager_takes o.kernel.manager o.kernel.machines (length o.kernel.images) msg msg.what) else process_handles o m id msg (o.view.known m msg.to)) ≡ Some ps → P ps
-by_receiver P b o m id msg c d g ps h1 h2 h3 h4 h5 = search (arith, by_asked, by_board, or_either, by_manager, by_process)
+by_receiver P b o m id msg c d g ps h1 h2 h3 h4 h5 =
+    let or_either : (a c d : Bool) → (c || d) ≡ true → (a || (c || d)) ≡ true = λ a c d e. elim a as (λ a_. (a_ || (c || d)) ≡ true) [ true ↦ refl | false ↦ e ] in
+    search (arith, by_asked, by_board, or_either, by_manager, by_process)
 
 pub by_handles : (P : List Part → Type 0) (b : Boot) (o : Point) (m : ℕ) (id : MsgId) (msg : PlainMessage) (ps : List Part) → Handles P o m id msg → rule.handles b o m id msg ≡ Some ps → P ps
 by_handles P b o m id msg ps h e = by_receiver P b o m id msg (msg.to.num == 0) (pid_eq msg.to switchboard) (pid_eq msg.to manager) ps refl refl refl h e

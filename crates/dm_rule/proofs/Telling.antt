@@ -134,10 +134,6 @@ numbered_some v a b i k q t told h m n le =
     let count : (view.after_put v a b i k q).count ≡ v.count = ap (λ (c : Bool). if c then at_machine v.count i.from.home (v.count i.from.home + 1) else v.count) (not_first i (v.told i) t told) in
     search (arith, id_eq-is, put_told_off)
 
-numbered_other : (v : View) (a b : ℕ) (i : MsgId) (k : MessageKind) (q : Pid) (o : Option Told) → v.told i ≡ o → is_kernels i ≡ false → Numbered v → Numbered (view.after_put v a b i k q)
-numbered_other v a b i k q None is other h = numbered_put v a b i k q other is h
-numbered_other v a b i k q (Some t) is other h = numbered_some v a b i k q t is h
-
 -- a put with its packet
 puts_sane : (pt next : Point) (b : ℕ) (i : MsgId) (k : MessageKind) (q : Pid) (c d : Bool) (h : Sane pt) → PutRight pt h.e i k q
     → after pt (Line.Put pt.view.acting b i k q ∷ (if c then [] else if d then packet_line pt.view pt.view.acting b (Load.Data (length (pt.view.pair pt.view.acting b).ids)) ∷ [] else [])) ≡ Some next → Sane next
@@ -171,6 +167,8 @@ pub part_sane : (pt next : Point) (p : Part) (ls : List Line) → Sayable p → 
 part_sane pt next (Says l) ls ok is leads h = one_line pt next l ls ok is leads h
 part_sane pt next (Routes i) ls ok is leads h =
     let (m, there, last) = bind-is (pt.kernel.bag i) (λ m. Some (puts pt.view (pt.addresses (Receiver i)).at i (plain_kind m.what) m.to)) ls is in
+    let numbered_other : (v : View) (a b : ℕ) (i : MsgId) (k : MessageKind) (q : Pid) (o : Option Told) → v.told i ≡ o → is_kernels i ≡ false → Numbered v → Numbered (view.after_put v a b i k q) =
+      λ v a b i k q o is other h. (elim o as (λ o_. v.told i ≡ o_ → Numbered (view.after_put v a b i k q)) [ None ↦ λ is'. numbered_put v a b i k q other is' h | Some t' ↦ λ is'. numbered_some v a b i k q t' is' h ]) is in
     puts_lead pt next (pt.addresses (Receiver i)).at i (plain_kind m.what) m.to ls h (record {
       kind = λ x is. (let f : Some m ≡ Some x = sym there ∙ is in let g : m ≡ x = cc in ap (λ (y : PlainMessage). plain_kind y.what) g);
       receiver = λ x is. (let f : Some m ≡ Some x = sym there ∙ is in let g : m ≡ x = cc in ap (λ (y : PlainMessage). y.to) g);

@@ -140,7 +140,7 @@ child_leads s v a l (suc n) c h there =
 
 pub answer_leads : (s : OneKernel) (v : View) (a : Addresses) (l : Placed) (n : ℕ) (y : Pending) → Mirrors s v a l → pending_request n l.manager.pending ≡ Some y → leads_to s (Answer n) ≡ link_target (option_map plain_link y.answer)
 answer_leads s v a l n y h there =
-    ap (λ (g : Manager). link_target (option_and_then (λ (r : Pending). r.answer) (manage.pending_numbered n g.pending))) (sym h.plain.manager)
+    ap (λ (g : Manager). link_target (option_and_then (λ (r : one.Pending). r.answer) (manage.pending_numbered n g.pending))) (sym h.plain.manager)
     ∙ ap (λ (o : Option one.Pending). link_target (option_and_then (λ r. r.answer) o)) (managing.plain_pending_numbered n l.manager.pending ∙ ap (option_map plain_pending) there)
 
 pending_if : (r : Pid) (at moves n : ℕ) (y : Pending) (ys : List Pending) (b : Bool) → pending_request n (map (retargeted_pending r at moves) ys) ≡ option_map (retargeted_pending r at moves) (pending_request n ys)

@@ -1,6 +1,6 @@
 -- Each label keeps addresses where they may be, as at homes, and what it does to the rings too.
-use Rattle.dm_rule.proofs.Names.{◌≡◌, ℕ, ◌==◌, ◌&&◌, Bool, true, false, not, List, [], ◌∷◌, ◌++◌, refl, ap, ◌∙◌, arith, ⊤, if◌then◌else◌, filter, Option, None, Some, nat_tests, Pid, Place, pid_eq, MsgId, MessageKind, Label, OneKernel, Why}
-use Rattle.dm_rule.proofs.Names.{at_machine, at_record, without, moved_back, View, Told, Known, Frozen, Incoming, Forward, served_told, ends_by, Addresses, given, gives, acting_place, are_home, sort_of, and_parts, bind-is}
+use Rattle.dm_rule.proofs.Names.{◌≡◌, ℕ, ◌==◌, ◌&&◌, Bool, true, false, not, List, [], ◌∷◌, ◌++◌, refl, ap, ◌∙◌, arith, ⊤, if◌then◌else◌, filter, Some, nat_tests, Pid, Place, pid_eq, Label, OneKernel, Why, at_machine, at_record, without}
+use Rattle.dm_rule.proofs.Names.{View, Known, Frozen, Incoming, Forward, Addresses, given, gives, acting_place, are_home, and_parts, bind-is}
 use Rattle.dm_rule.proofs.Homes.{IsHome, AtHome}
 use Rattle.dm_rule.proofs.Homes.Steps.{ran_home, call_home, send_home, end_row, wait_home, out_home}
 use Rattle.dm_rule.proofs.Homes.Receives.{receive_home, refuse_home}
@@ -109,13 +109,3 @@ rings_set v w ps moves ring known h k = record {
 
 pub rings_same : (v w : View) → w.moves ≡ v.moves → w.ring ≡ v.ring → w.known ≡ v.known → RingsHome v → RingsHome w
 rings_same v w moves ring known k = search arith
-
-pub told_rings : (v : View) (o : Option Told) → RingsHome v → RingsHome (served_told v o)
-told_rings v o h1 = let kills_rings : (v : View) (k : MessageKind) (o : Option Pid) → RingsHome v → RingsHome (ends_by (sort_of k) v o) = λ v k o h1. search (arith, rings_set, known_set, without_home) in search (arith, kills_rings)
-
-pub dropped_rings : (v : View) (id : MsgId) (o : Option Pid) → RingsHome v → RingsHome (view.dropped_for v id o)
-dropped_rings v id None h = h
-dropped_rings v id (Some p) h = record { moves = h.moves; ring = h.ring; known = h.known }
-
-pub back_home : (v : View) (p : Pid) → p.home ≡ v.acting → RingsHome v → are_home v.acting (moved_back p (v.ring v.acting)) ≡ true
-back_home v p at h = joins_home v.acting p (without p (v.ring v.acting)) at (without_home v.acting p (v.ring v.acting) (h.ring v.acting))

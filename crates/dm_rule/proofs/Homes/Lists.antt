@@ -53,16 +53,14 @@ drop_first s e m (suc n) (j ∷ js) i f h = drop_first s e m n js i f h
 abbrev pub Old : (MsgId → ℕ) → OneKernel → OneKernel → Type 0
 Old e s t = (i : MsgId) (x : PlainMessage) → nat_le 1 (e i) ≡ true → t.bag i ≡ Some x → s.bag i ≡ Some x
 
-for_home_on : (m : ℕ) (a b : Option PlainMessage) → ((x : PlainMessage) → b ≡ Some x → a ≡ Some x) → is_for_home m a ≡ true → is_for_home m b ≡ true
-for_home_on m a None h k = refl
-for_home_on m a (Some x) h k = sym (ap (is_for_home m) (h x refl)) ∙ k
-
 pub stand_on : (s t : OneKernel) (e f : MsgId → ℕ) (m : ℕ) (is : List MsgId) → Old e s t → ((i : MsgId) → e i ≤ f i) → all_stand s e m is ≡ true → all_stand t f m is ≡ true
 stand_on s t e f m [] old le h = refl
 stand_on s t e f m (i ∷ is) old le h =
     let w = and_parts (stands s e m i) (all_stand s e m is) h in
     let x = and_parts (nat_le 1 (e i)) (is_for_home m (s.bag i)) w.0 in
     let more = le i in
+    let for_home_on : (m : ℕ) (a b : Option PlainMessage) → ((x : PlainMessage) → b ≡ Some x → a ≡ Some x) → is_for_home m a ≡ true → is_for_home m b ≡ true =
+      λ m a b h k. (elim b as (λ b_. (((x : PlainMessage) → b_ ≡ Some x → a ≡ Some x)) → is_for_home m b_ ≡ true) [ None ↦ λ h'. refl | Some x' ↦ λ h'. sym (ap (is_for_home m) (h' x' refl)) ∙ k ]) h in
     both_true (stands t f m i) (all_stand t f m is)
     (both_true (nat_le 1 (f i)) (is_for_home m (t.bag i)) (let g : nat_le 1 (f i) ≡ true = grind (arith, nat_tests) in g) (for_home_on m (s.bag i) (t.bag i) (λ y there. old i y x.0 there) x.1))
     (stand_on s t e f m is old le w.1)
@@ -106,13 +104,11 @@ label_lists s e v (Label.NoSpace id f b) h = handled_lists s e v id h
 label_lists s e v (Label.Asked id) h = handled_lists s e v id h
 label_lists s e v _ h = h
 
--- a pair changes
-pair_if : (s : OneKernel) (e : MsgId → ℕ) (b d : ℕ) (c : Bool) (p q : Pair) → (b == d) ≡ true → all_stand s e b (untaken p) ≡ true → all_stand s e d (untaken q) ≡ true → all_stand s e d (untaken (if c then p else q)) ≡ true
-pair_if s e b d true p q same h k = let at : b ≡ d = grind (arith, nat_tests) in ap (λ (i : ℕ). all_stand s e i (untaken p)) (sym at) ∙ h
-pair_if s e b d false p q same h k = k
-
 pub pair_set : (s : OneKernel) (e : MsgId → ℕ) (f : ℕ → ℕ → Pair) (a b : ℕ) (p : Pair) → all_stand s e b (untaken p) ≡ true → ((c d : ℕ) → all_stand s e d (untaken (f c d)) ≡ true) → (c d : ℕ) → all_stand s e d (untaken (at_pair f a b p c d)) ≡ true
 pair_set s e f a b p h k c d =
+    -- a pair changes
+    let pair_if : (s : OneKernel) (e : MsgId → ℕ) (b d : ℕ) (c : Bool) (p q : Pair) → (b == d) ≡ true → all_stand s e b (untaken p) ≡ true → all_stand s e d (untaken q) ≡ true → all_stand s e d (untaken (if c then p else q)) ≡ true =
+      λ s e b d c p q same h k. elim c as (λ c_. all_stand s e d (untaken (if c_ then p else q)) ≡ true) [ true ↦ let at : b ≡ d = grind (arith, nat_tests) in ap (λ (i : ℕ). all_stand s e i (untaken p)) (sym at) ∙ h | false ↦ k ] in
     ap (λ (x : Bool). all_stand s e d (untaken (if x then p else f c d))) (let e_ : ((a == c) && (b == d)) ≡ ((b == d) && (a == c)) = search arith in e_)
     ∙ (search (arith, pair_if))
 
@@ -120,10 +116,6 @@ pair_set s e f a b p h k c d =
 pub routed_stands : (s : OneKernel) (e : MsgId → ℕ) (a b : ℕ) (p : Pair) (id : MsgId) (c : Bool) → stands s e b id ≡ true → all_stand s e b (untaken p) ≡ true → all_stand s e b (drop (if c then p.taken + 1 else p.taken) (p.ids ++ id ∷ [])) ≡ true
 routed_stands s e a b p id true at h = search (arith, drop_one, drop_last)
 routed_stands s e a b p id false at h = drop_last s e b p.taken p.ids id h at
-
-pub inbox_if : (s : OneKernel) (e : MsgId → ℕ) (f g : ℕ → List MsgId) (c : Bool) → ((n : ℕ) → all_stand s e n (f n) ≡ true) → ((n : ℕ) → all_stand s e n (g n) ≡ true) → (n : ℕ) → all_stand s e n ((if c then f else g) n) ≡ true
-inbox_if s e f g true h k n = h n
-inbox_if s e f g false h k n = k n
 
 -- a message is taken
 pub taken_with : (s : OneKernel) (e : MsgId → ℕ) (v : View) (b : ℕ) (o : Option MsgId) → ((i : MsgId) → o ≡ Some i → stands s e b i ≡ true) → ListsHome s e v → ListsHome s e (taken_id v b o)

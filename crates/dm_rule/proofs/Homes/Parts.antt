@@ -50,10 +50,6 @@ pub acting_taken : (v : View) (b : ℕ) (o : Option MsgId) → (view.taken_id v 
 acting_taken v b None = refl
 acting_taken v b (Some id) = refl
 
-rings_taken : (v : View) (b : ℕ) (o : Option MsgId) → RingsHome v → RingsHome (view.taken_id v b o)
-rings_taken v b None h = h
-rings_taken v b (Some id) h = record { moves = h.moves; ring = h.ring; known = h.known }
-
 line_keeps : NoneReplaced → (r e : MsgId → ℕ) (pt pt' : Point) (l : Line) → LineAnywhere pt.view.acting l → Home r e pt → after pt (l ∷ []) ≡ Some pt' → Kept pt.view.acting pt'
 line_keeps none r e pt pt' (Line.Label l) at h is =
     label_keeps none r e pt pt' l ((let said_at : (s : OneKernel) (m : ℕ) (l : Label) → SaidAnywhere m l → SaidAt s m l = λ s m l h1. search arith in said_at) pt.kernel pt.view.acting l at) h is
@@ -73,6 +69,8 @@ line_keeps none r e pt pt' (Line.Taken a b n) at h is =
       search (arith, taken_with, drop_first, pair_set, drop_one) in
     let p = pt.view.pair a b in
     let w = view.with_pair pt.view a b (record p { taken = p.taken + 1; kept = filter (λ k. not (k == n)) p.kept }) in
+    let rings_taken : (v : View) (b : ℕ) (o : Option MsgId) → RingsHome v → RingsHome (view.taken_id v b o) =
+      λ v b o h. elim o as (λ o_. RingsHome (view.taken_id v b o_)) [ None ↦ h | Some id' ↦ record { moves = h.moves; ring = h.ring; known = h.known } ] in
     subst (Kept pt.view.acting) (let f : moved pt (Line.Taken a b n) pt.kernel ≡ pt' = cc in f) (record {
       r = r;
       e = e;

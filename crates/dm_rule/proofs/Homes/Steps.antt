@@ -44,16 +44,13 @@ pub record OnlySlots (a b : Addresses) (p : Pid) : Type 0 where
 pub only_none : (a : Addresses) (p : Pid) → OnlySlots a a p
 only_none a p = search arith
 
-only_if : (a : Addresses) (p : Pid) (c : Bool) (gs : List Gets) → OnlySlots a (given a gs) p → OnlySlots a (given a (if c then gs else [])) p
-only_if a p true gs h = h
-only_if a p false gs h = only_none a p
-
 pub only_gives_by : (v : View) (a : Addresses) (p : Pid) (x : PlainProcess) (n : calls.CallNumber) (c : Reply) → OnlySlots a (given a (gives_by v a p x n c)) p
 only_gives_by v a p x n c =
     let only_fills_by : (v : View) (a : Addresses) (p : Pid) (x : PlainProcess) (n : calls.CallNumber) → OnlySlots a (given a (fills_by v a p x n)) p = λ v a p x n.
       let only_fills : (a : Addresses) (p : Pid) (o : Option ℕ) (place : Place) → OnlySlots a (given a (fills p o place)) p = λ a p o place. search (arith, only_none, fills_others) in
       search (arith, only_fills, only_none) in
-    subst (λ (gs : List Gets). OnlySlots a (given a gs) p) (sym (gives_code v a p x n c)) (only_if a p (reply_code c == 0) (fills_by v a p x n) (only_fills_by v a p x n))
+    subst (λ (gs : List Gets). OnlySlots a (given a gs) p) (sym (gives_code v a p x n c))
+    (elim (reply_code c == 0) as (λ c_. OnlySlots a (given a (if c_ then (fills_by v a p x n) else [])) p) [ true ↦ (only_fills_by v a p x n) | false ↦ only_none a p ])
 
 reply_row : (P : Pid → Place → Type 0) (s t : OneKernel) (v : View) (a : Addresses) (p : Pid) (n : ℕ) (c : Reply) (next : kernel.Trap) → Nexts P v s a p next → kernel.replies s p n c next ≡ Some t → AtHome P s a → AtHome P t (given a (call_gets v a p n c (kernel.running s p)))
 reply_row P s t v a p n c (kernel.Calls number (calls.Replies d y)) w is h =

@@ -23,10 +23,6 @@ abbrev pub GoodOf : OneKernel → (MsgId → ℕ) → ℕ → Option (List Part)
 GoodOf s e m None = ⊤
 GoodOf s e m (Some ps) = PartsGood s e m ps
 
-pub good_of : (s : OneKernel) (e : MsgId → ℕ) (m : ℕ) (o : Option (List Part)) (ps : List Part) → GoodOf s e m o → o ≡ Some ps → PartsGood s e m ps
-good_of s e m None ps h is = cc
-good_of s e m (Some qs) ps h is = let f : qs ≡ ps = cc in subst (PartsGood s e m) f h
-
 says_first : (s : OneKernel) (e : MsgId → ℕ) (m : ℕ) (l : Label) (ps : List Part) → SaidAt s m l → PartsAnywhere m ps → PartsGood s e m (rule.says l ∷ ps)
 says_first s e m l ps at h = inl (inr (inl (l, refl, at)), h)
 
@@ -34,14 +30,12 @@ drops_good : (m : ℕ) (ids : List MsgId) → PartsAnywhere m (rule.drop_parts i
 drops_good m [] = tt
 drops_good m (i ∷ is) = (tt, drops_good m is)
 
--- the first process of a ring that can be served
-runnable_if : (m : ℕ) (b : Bool) (p : Pid) (o : Option Pid) (q : Pid) → p.home ≡ m → (o ≡ Some q → q.home ≡ m) → (if b then Some p else o) ≡ Some q → q.home ≡ m
-runnable_if m true p o q at h is = let f : p ≡ q = cc in ap (λ (v : Pid). v.home) (sym f) ∙ at
-runnable_if m false p o q at h is = h is
-
 pub runnable_home : (s : OneKernel) (queue : Pid → List MsgId) (m : ℕ) (ps : List Pid) (q : Pid) → are_home m ps ≡ true → rule.first_runnable s queue ps ≡ Some q → q.home ≡ m
 runnable_home s queue m [] q h is = cc
 runnable_home s queue m (p ∷ ps) q h is =
+    -- the first process of a ring that can be served
+    let runnable_if : (m : ℕ) (b : Bool) (p : Pid) (o : Option Pid) (q : Pid) → p.home ≡ m → (o ≡ Some q → q.home ≡ m) → (if b then Some p else o) ≡ Some q → q.home ≡ m =
+      λ m b p o q at h is. (elim b as (λ b_. (if b_ then Some p else o) ≡ Some q → q.home ≡ m) [ true ↦ λ is'. let f : p ≡ q = cc in ap (λ (v : Pid). v.home) (sym f) ∙ at | false ↦ λ is'. h is' ]) is in
     let k = and_parts (p.home == m) (are_home m ps) h in
     let first = k.0 in
     runnable_if m (rule.can_go s (queue p) (kernel.alive (s.processes p))) p (rule.first_runnable s queue ps) q (let f : p.home ≡ m = grind (arith, nat_tests) in f) (runnable_home s queue m ps q k.1) is
@@ -113,6 +107,8 @@ in_bag_at r e pt m i js front entered state h none =
 
 pub turn_keeps : NoneReplaced → (b : Boot) (r e : MsgId → ℕ) (pt : Point) (m : ℕ) (w : Spelled) → group_of b pt (Step.Turn m) ≡ Some w → AskNone w.lines → State None pt → Home r e pt → Kept m w.point
 turn_keeps none b r e pt m w is ask state h =
+    let good_of : (s : OneKernel) (e : MsgId → ℕ) (m : ℕ) (o : Option (List Part)) (ps : List Part) → GoodOf s e m o → o ≡ Some ps → PartsGood s e m ps =
+      λ s e m o ps h is. (elim o as (λ o_. GoodOf s e m o_ → o_ ≡ Some ps → PartsGood s e m ps) [ None ↦ λ h' is'. cc | Some qs' ↦ λ h' is'. let f : qs' ≡ ps = cc in subst (PartsGood s e m) f h' ]) h is in
     group_keeps none b r e pt (Step.Turn m) w tt is ask h
     (λ ps comes. good_of pt.kernel e m (rule.turns b pt m (pt.view.inbox m)) ps (turns_good b r e pt m (pt.view.inbox m) (λ i js front entered. in_bag_at r e pt m i js front entered state h) (h.lists.inbox m) h) comes)
 

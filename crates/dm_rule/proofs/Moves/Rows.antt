@@ -24,15 +24,12 @@ pub record SeesSame (o pt : Point) (m : ℕ) : Type 0 where
   pub held : (q : Pid) → o.view.held m q ≡ pt.view.held pt.view.acting q
 
 -- held
-held_told : (v : View) (i : MsgId) (o : Option Pid) (j : MsgId) → (held_for (handled v i) i o).told j ≡ v.told j
-held_told v i None j = refl
-held_told v i (Some p) j = refl
-
 pub held_row : (pt : Point) (i : MsgId) (is : List MsgId) (w : Spelled) → State None pt → pt.view.inbox pt.view.acting ≡ i ∷ is → spelled pt (Says (Line.Held i) ∷ []) ≡ Some w → State None w.point
 held_row pt i is w h front e =
     let (q, way) = front_way pt i is h front in
     line_ends pt (Line.Held i) w refl
-    (by_line None pt (Line.Held i) refl h (Stands-held (letters h.own pt.kernel.bag) pt.view (view_after pt.view (Line.Held i)) i is q front way refl h.stands) (λ j. held_told pt.view i (receiver_of (pt.view.told i)) j)) e
+    (by_line None pt (Line.Held i) refl h (Stands-held (letters h.own pt.kernel.bag) pt.view (view_after pt.view (Line.Held i)) i is q front way refl h.stands) (λ j.
+    (elim (receiver_of (pt.view.told i)) as (λ o_. (held_for (handled pt.view i) i o_).told j ≡ pt.view.told j) [ None ↦ refl | Some p' ↦ refl ]))) e
 
 -- forwarded
 told_back : (pt : Point) (b : Bool) (q : Pid) (to : ℕ) (w : Spelled) → Steady pt → spelled pt (if b then Owns MessageKind.Update q to ∷ [] else []) ≡ Some w → State None w.point

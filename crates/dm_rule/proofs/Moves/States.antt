@@ -132,10 +132,6 @@ again pt b i is t fits told h =
       once = λ j. (let k = h.once j in omega (arith, k));
     }
 
--- the next message of the acting machine's kernel
-own_kernels : (v : View) → is_kernels (own_id v) ≡ true
-own_kernels v = refl
-
 own_bag : (own : Bag) (bag : MsgId → Option PlainMessage) (i : MsgId) (q : Pid) → is_kernels i ≡ true → (j : MsgId) → letters (having i q own) bag j ≡ having i q (letters own bag) j
 own_bag own bag i q k j = elim (cases_Bool (id_eq i j)) [
   | inl same ↦
@@ -166,6 +162,8 @@ by_own_put pt b k q fits h =
     let untold : v.told i ≡ None = h.numbered v.acting (v.count v.acting) (omega arith) in
     let none : bag i ≡ None = (elim (bag i) as (λ o. bag i ≡ o → o ≡ None)
     [ None ↦ λ is. refl | Some q ↦ λ is. absurd (let f : None ≡ Some q = sym (ap receiver_of untold) ∙ h.stands.told i q is in cc) ]) refl in
+    -- the next message of the acting machine's kernel
+    let own_kernels : (v : View) → is_kernels (own_id v) ≡ true = λ v. refl in
     record {
       r = h.r;
       e = h.e;

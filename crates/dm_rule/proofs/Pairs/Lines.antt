@@ -41,13 +41,9 @@ pub stage_pair : (v : View) (p : Pid) (s : Stage) → (after_stage v p s).pair �
 stage_pair v p Stage.Frozen = elim v.topic as (λ a. (sets_off v p a).pair ≡ v.pair) [ Target m ↦ refl | _ ↦ refl ]
 stage_pair v p _ = refl
 
-pub asks_pair : (v : View) (a : About) → (asks_on v a).pair ≡ v.pair
-asks_pair v NothingElse = refl
-asks_pair v _ = refl
-
 pub proto_pair : (v : View) (o : Option Told) → (after_proto v o).pair ≡ v.pair
 proto_pair v None = refl
-proto_pair v (Some t) = grind (arith, nat_tests, asks_pair)
+proto_pair v (Some t) = let asks_pair : (v : View) (a : About) → (asks_on v a).pair ≡ v.pair = λ v a. elim a as (λ a_. (asks_on v a_).pair ≡ v.pair) [ NothingElse ↦ refl | _ ↦ refl ] in grind (arith, nat_tests, asks_pair)
 
 -- the other lines leave the pairs as they are
 pub pair_same : (v : View) (l : Line) → touches l ≡ false → (view_after v l).pair ≡ v.pair

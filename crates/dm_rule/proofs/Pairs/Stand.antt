@@ -1,6 +1,6 @@
 -- The pairs of machines stand, and what keeps them so.
-use Rattle.dm_rule.proofs.Names.{◌≡◌, ℕ, zero, suc, ◌+◌, ◌<◌, ◌≤◌, ◌==◌, ◌&&◌, Bool, true, false, List, [], ◌∷◌, ◌++◌, ap, ◌∙◌, sym, subst, inl, inr, arith, length, ⊤, if◌then◌else◌, slice_get, slice_set, Option, None, Some, cases_Bool}
-use Rattle.dm_rule.proofs.Names.{nat_tests, Load, at_pair, Pair, SentLoad, marked_at, has, HomeStands}
+use Rattle.dm_rule.proofs.Names.{◌≡◌, ℕ, zero, suc, ◌+◌, ◌<◌, ◌≤◌, ◌==◌, ◌&&◌, Bool, true, false, List, [], ◌∷◌, ◌++◌, ap, ◌∙◌, sym, subst, inl, inr, arith, length, ⊤, if◌then◌else◌, slice_get, slice_set, Some, cases_Bool, nat_tests, Load}
+use Rattle.dm_rule.proofs.Names.{at_pair, Pair, SentLoad, has, HomeStands}
 
 -- what a packet carries: data that has gone out, or a count of messages that were taken on the pair that leads back
 abbrev pub LoadStands : ℕ → ℕ → Load → Type 0
@@ -54,14 +54,10 @@ WireStands-at g b [] k s e h = cc
 WireStands-at g b (t ∷ ss) zero s e h = let f : t ≡ s = cc in subst (λ (v : SentLoad). LoadStands g b v.load) f h.0
 WireStands-at g b (t ∷ ss) (suc k) s e h = WireStands-at g b ss k s e h.1
 
-WireStands-set : (g b : ℕ) (ss : List SentLoad) (k : ℕ) (s : SentLoad) → LoadStands g b s.load → WireStands g b ss → WireStands g b (slice_set ss k s)
+pub WireStands-set : (g b : ℕ) (ss : List SentLoad) (k : ℕ) (s : SentLoad) → LoadStands g b s.load → WireStands g b ss → WireStands g b (slice_set ss k s)
 WireStands-set g b [] k s l h = h
 WireStands-set g b (t ∷ ss) zero s l h = (l, h.1)
 WireStands-set g b (t ∷ ss) (suc k) s l h = (h.0, WireStands-set g b ss k s l h.1)
-
-pub WireStands-marked : (g b : ℕ) (ss : List SentLoad) (k : ℕ) (o : Option SentLoad) → slice_get ss k ≡ o → WireStands g b ss → WireStands g b (marked_at ss k o)
-WireStands-marked g b ss k None e h = h
-WireStands-marked g b ss k (Some s) e h = WireStands-set g b ss k (record s { delivered = true }) (WireStands-at g b ss k s e h) h
 
 -- a pair changes: it is the one that was set, or as it was
 pub set_same : (f : ℕ → ℕ → Pair) (a b : ℕ) (p : Pair) → at_pair f a b p a b ≡ p

@@ -43,16 +43,12 @@ forwards_quiet v a i k sender to tame = (
 )
 
 -- a line that ends a move is followed by the answer, if somebody asked for it
-asker_quiet : (v : View) (q : Option MoveNote) (r : Outcome) → AllQuiet v (tells_asker q r)
-asker_quiet v None r = tt
-asker_quiet v (Some n) r = (tt, (tt, tt))
-
 ends_row : (pt : Point) (l : Line) (q : Option MoveNote) (r : Outcome) (w : Spelled) → label_of l ≡ None → is_put l ≡ false → Whole (moved pt l pt.kernel) → Sane pt → State None w.point → spelled pt (Says l ∷ tells_asker q r) ≡ Some w → Whole w.point
 ends_row pt l q r w none quiet h sane state e =
     let next = moved pt l pt.kernel in
     let n = line_next pt l (tells_asker q r) w none e in
     let sane_ : Sane next = sane_line pt next l quiet (ap (λ (o : Option Label). bind (kernel_after pt.kernel o) (λ s. Some (moved pt l s))) none) sane in
-    subst Whole n.point (quiet_row (tells_asker q r) next n.rest h sane_ (State-at None w.point n.rest.point (sym n.point) state) (asker_quiet next.view q r) n.more)
+    subst Whole n.point (quiet_row (tells_asker q r) next n.rest h sane_ (State-at None w.point n.rest.point (sym n.point) state) (elim q as (λ q_. AllQuiet next.view (tells_asker q_ r)) [ None ↦ tt | Some n' ↦ (tt, (tt, tt)) ]) n.more)
 
 -- a message of the protocol, by its kind
 told_row : (o pt : Point) (m : ℕ) (i : MsgId) (is : List MsgId) (t : Told) (p : Pid) (room : Bool × ℕ × ℕ) (x : PlainProcess) (k : MessageKind) (parts : List Part) (w : Spelled) (h : Whole pt) → Sane pt → State None w.point

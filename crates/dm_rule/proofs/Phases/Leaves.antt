@@ -81,9 +81,6 @@ sent_spot pt p n j z st =
     let emptied_back : (v : View) (p : Pid) (j : MsgId) (z : Spot) → 1 ≤ standing (emptied v p) j z → 1 ≤ standing v j z = λ v p j z h1. search (arith, fewer_record) in
     emptied_back (handled_first pt.view) p j z (subst (λ x. 1 ≤ x) (ap (times j) (sent_off pt.view p n z)) st)
 
-first_same : (v : View) (i : MsgId) (is : List MsgId) (j : MsgId) → v.inbox v.acting ≡ i ∷ is → id_eq i j ≡ false → (z : Spot) → standing (handled_first v) j z ≡ standing v j z
-first_same v i is j front apart z = ap (times j) (first_off v i is front z) ∙ handled_spots v i j apart z
-
 sent_gone : (pt : Point) (p : Pid) (n : ℕ) (i : MsgId) (is : List MsgId) (h : State None pt) → pt.view.inbox pt.view.acting ≡ i ∷ is → (z : Spot) → standing (view_after pt.view (Line.SentOn p n)) i z ≡ 0
 sent_gone pt p n i is h front z =
     let first_gone : (pt : Point) (i : MsgId) (is : List MsgId) (h : State None pt) → pt.view.inbox pt.view.acting ≡ i ∷ is → (z : Spot) → standing (handled_first pt.view) i z ≡ 0 = λ pt i is h front.
@@ -96,6 +93,8 @@ sent_learns : (pt : Point) (n : ℕ) (i : MsgId) (is : List MsgId) (t : Told) (h
 sent_learns pt n i is t h u front told =
     let v = pt.view in
     let w = view_after v (Line.SentOn u.p n) in
+    let first_same : (v : View) (i : MsgId) (is : List MsgId) (j : MsgId) → v.inbox v.acting ≡ i ∷ is → id_eq i j ≡ false → (z : Spot) → standing (handled_first v) j z ≡ standing v j z =
+      λ v i is j front apart z. ap (times j) (first_off v i is front z) ∙ handled_spots v i j apart z in
     record {
       calm = λ m q off. refl;
       fresh = λ j x e b. e;
@@ -127,11 +126,6 @@ lists_tame v p j q h least told =
       plain = (search (arith, least_of, queued_plain, held_plain));
     }
 
--- it has left: the source forwards
-left_if : (d : ℕ) (y : Known) (n : ℕ) → phase.kind_leaves MessageKind.AllTaken d y ≡ true → phase.kind_leaves MessageKind.Restart d (gone_to y n) ≡ true
-left_if d (Frozen to) n e = e
-left_if d _ n e = absurd (false≢true e)
-
 left_by : (v : View) (a m : ℕ) (p : Pid) (n : ℕ) (b : Bool) → (a == m) ≡ b → (if b && true then gone_to (v.known a p) n else v.known m p) ≡ (if b then gone_to (v.known m p) n else v.known m p)
 left_by v a m p n true e = ap (λ (x : ℕ). gone_to (v.known x p) n) (eqb-true a m e)
 left_by v a m p n false e = refl
@@ -139,6 +133,9 @@ left_by v a m p n false e = refl
 left_row : (pt : Point) (p : Pid) (s d b : ℕ) (w : Spelled) (h : WayIn p (Moves MessageKind.AllTaken s d None) s [] pt) → (is_between MessageKind.AllTaken && not (s == d)) ≡ true → b ≡ d → spelled pt (Says (Line.Migration Stage.Left p) ∷ to_kernel MessageKind.Restart b ∷ []) ≡ Some w → Whole w.point
 left_row pt p s d b w h apart to e =
     let left_known : (s d m n : ℕ) (b : Bool) (y : Known) → (s == m) ≡ b → knows (Moves MessageKind.AllTaken s d None) m y ≡ true → knows (Moves MessageKind.Restart s d None) m (if b then gone_to y n else y) ≡ true =
+      -- it has left: the source forwards
+      let left_if : (d : ℕ) (y : Known) (n : ℕ) → phase.kind_leaves MessageKind.AllTaken d y ≡ true → phase.kind_leaves MessageKind.Restart d (gone_to y n) ≡ true =
+        λ d y n e. (elim y as (λ y_. phase.kind_leaves MessageKind.AllTaken d y_ ≡ true → phase.kind_leaves MessageKind.Restart d (gone_to y_ n) ≡ true) [ Frozen to' ↦ λ e'. e' | _ ↦ λ e'. absurd (false≢true e') ]) e in
       λ s d m n b y h1 h2. search (arith, left_if) in
     let v = pt.view in
     let l = Line.Migration Stage.Left p in

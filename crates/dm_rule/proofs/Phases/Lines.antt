@@ -119,9 +119,7 @@ put_calm v a b i k q fits e plain =
     (record { known = λ m p. refl; told = λ j apart. put_told_off v a b i j k q apart; spots = λ j apart z. put_spots v a b i j k q fits apart z })
 
 -- a packet
-packet_spots : (v : View) (a b k : ℕ) (l : Load) (j : MsgId) (z : Spot) → standing (view_after v (Line.Packet a b k l)) j z ≡ standing v j z
-packet_spots v a b k l j (Untaken c d) = ap (times j) (pair_keeps v.pair a b _ refl c d)
-packet_spots v a b k l j _ = refl
-
 pub packet_calm : (v : View) (a b k : ℕ) (l : Load) → Calm v (view_after v (Line.Packet a b k l))
-packet_calm v a b k l = calm_still v (view_after v (Line.Packet a b k l)) (λ m p. refl) (λ i. refl) (λ i z. packet_spots v a b k l i z)
+packet_calm v a b k l =
+    calm_still v (view_after v (Line.Packet a b k l)) (λ m p. refl) (λ i. refl) (λ i z.
+    (elim z as (λ z_. standing (view_after v (Line.Packet a b k l)) i z_ ≡ standing v i z_) [ Untaken c' d' ↦ ap (times i) (pair_keeps v.pair a b _ refl c' d') | _ ↦ refl ]))

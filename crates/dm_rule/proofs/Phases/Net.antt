@@ -53,11 +53,6 @@ inbox_back v a b n i j m front st = elim (cases_Bool (b == m)) [
 abbrev pub came_view : View → ℕ → ℕ → ℕ → MsgId → View
 came_view v a b n i = record (taken_view v a b n) { inbox = at_machine v.inbox b (v.inbox b ++ i ∷ []) }
 
-taken_back : (v : View) (a b n : ℕ) (i j : MsgId) (z : Spot) → untaken (v.pair a b) ≡ i ∷ untaken (taken_pair (v.pair a b) n) → 1 ≤ standing (came_view v a b n i) j z → Came v j z
-taken_back v a b n i j (Inbox m) front st = inbox_back v a b n i j m front st
-taken_back v a b n i j (Untaken c d) front st = inl (stream_back v a b n i j c d front st)
-taken_back v a b n i j _ front st = inl st
-
 pub in_inbox : (v : View) (a b n : ℕ) (i j : MsgId) (m : ℕ) → (b == m) ≡ true → 1 ≤ times j (v.inbox b) + one_of j i → 1 ≤ standing (came_view v a b n i) j (Inbox m)
 in_inbox v a b n i j m same st =
     let sum = times-append j (v.inbox b) (i ∷ []) in omega (arith, st, ap (λ (c : Bool). times j (if c then v.inbox b ++ i ∷ [] else v.inbox m)) same, sum)
@@ -86,7 +81,9 @@ taken_by v a b n None is = calm_still v (taken_view v a b n) (λ m p. refl) (λ 
     [ Untaken c d ↦ pair_keeps v.pair a b (taken_pair (v.pair a b) n) (none_taken (v.pair a b) n is) c d | _ ↦ refl ]))
 taken_by v a b n (Some i) is =
     let front = taken_front (v.pair a b) n i is in
-    record { known = λ m p. refl; fresh = λ j t e c. e; kept = λ j t e. e; back = λ j t e c z st. taken_back v a b n i j z front st; on = λ j t e c z st. taken_on v a b n i j z front st }
+    record { known = λ m p. refl; fresh = λ j t e c. e; kept = λ j t e. e; back = λ j t e c z st.
+    ((elim z as (λ z_. 1 ≤ standing (came_view v a b n i) j z_ → Came v j z_) [ Inbox m' ↦ λ st'. inbox_back v a b n i j m' front st' | Untaken c' d' ↦ λ st'. inl (stream_back v a b n i j c' d' front st') | _ ↦ λ st'. inl st' ]) st);
+    on = λ j t e c z st. taken_on v a b n i j z front st }
 
 pub taken_calm : (v : View) (a b n : ℕ) → Calm v (view_after v (Line.Taken a b n))
 taken_calm v a b n = taken_by v a b n (slice_get (v.pair a b).ids (v.pair a b).taken) refl

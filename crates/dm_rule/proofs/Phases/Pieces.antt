@@ -67,10 +67,6 @@ ask_row pt i is t false slots blocks w h u e front told mine is_ =
     (same_row pt i t h.phases u MessageKind.Refuse (view_after v l) (λ m. refl) (ap is_restart e) (ap is_early e)) refl refl refl
     (ap (λ (k : MessageKind). receiver_in k u.s u.d) e) (to_sender pt i t h.phases u ∙ ap (λ (k : MessageKind). sender_in k u.s u.d) e) is_
 
-pub asks_acting : (v : View) (a : About) → (asks_on v a).acting ≡ v.acting
-asks_acting v NothingElse = refl
-asks_acting v _ = refl
-
 pub proto_known : (v : View) (o : Option Told) (m : ℕ) (p : Pid) → (after_proto v o).known m p ≡ v.known m p
 proto_known v None m p = refl
 proto_known v (Some t) m p =
@@ -79,11 +75,7 @@ proto_known v (Some t) m p =
     search (arith, asks_known)
 
 pub proto_acting : (v : View) (o : Option Told) → (after_proto v o).acting ≡ v.acting
-proto_acting v o = search (arith, asks_acting)
-
-proto_topic : (v : View) (o : Option Told) (t : Told) → o ≡ Some t → (after_proto v o).topic ≡ t.about
-proto_topic v None t e = cc
-proto_topic v (Some s) t e = let f : s ≡ t = cc in ap (λ (x : Told). x.about) f
+proto_acting v o = let asks_acting : (v : View) (a : About) → (asks_on v a).acting ≡ v.acting = λ v a. elim a as (λ a_. (asks_on v a_).acting ≡ v.acting) [ NothingElse ↦ refl | _ ↦ refl ] in search (arith, asks_acting)
 
 pub proto_row : (pt : Point) (i : MsgId) (is : List MsgId) (t : Told) (j : MessageKind) (w : Spelled) (h : Whole pt) (u : Due pt i t h.phases) → is_restart u.k ≡ is_restart j → is_early u.k ≡ is_early j → receiver_in u.k u.s u.d ≡ sender_in j u.s u.d → sender_in u.k u.s u.d ≡ receiver_in j u.s u.d → is_between j ≡ true
     → pt.view.inbox pt.view.acting ≡ i ∷ is → pt.view.told i ≡ Some t → is_kernels i ≡ true → spelled pt (Says (Line.Proto i) ∷ to_kernel j i.from.home ∷ []) ≡ Some w → Whole w.point
@@ -94,7 +86,9 @@ proto_row pt i is t j w h u r e turn back between front told mine is_ =
     let known : (m : ℕ) (q : Pid) → (view_after v l).known m q ≡ v.known m q = λ m q. proto_known (handled v i) (v.told i) m q in
     answer_row pt l i is t j i.from.home w h u refl refl refl front told (goes_front pt l i is refl h.state front mine off) (λ z. off z ∙ sym (first_off v i is front z))
     (λ m q apart. known m q) (same_row pt i t h.phases u j (view_after v l) (λ m. known m u.p) r e) between
-    (proto_topic (handled v i) (v.told i) t told ∙ ap (λ (x : Told). x.about) u.told) (proto_acting (handled v i) (v.told i)) turn (to_sender pt i t h.phases u ∙ back) is_
+    (
+    ((elim (v.told i) as (λ o_. o_ ≡ Some t → (after_proto (handled v i) o_).topic ≡ t.about) [ None ↦ λ e'. cc | Some s' ↦ λ e'. let f : s' ≡ t = cc in ap (λ (x : Told). x.about) f ]) told)
+    ∙ ap (λ (x : Told). x.about) u.told) (proto_acting (handled v i) (v.told i)) turn (to_sender pt i t h.phases u ∙ back) is_
 
 pub pull_state_row : (pt : Point) (i : MsgId) (is : List MsgId) (t : Told) (w : Spelled) (h : Whole pt) (u : Due pt i t h.phases) → u.k ≡ MessageKind.PullState → pt.view.inbox pt.view.acting ≡ i ∷ is → pt.view.told i ≡ Some t → is_kernels i ≡ true
     → spelled pt (gives_piece i MessageKind.State) ≡ Some w → Whole w.point

@@ -97,11 +97,6 @@ quiet_touches v (Line.Acked a b n) h = absurd h
 quiet_touches v (Line.Migration Stage.Frozen p) h = refl
 quiet_touches v _ h = refl
 
-quiet_put : (v : View) (l : Line) → QuietLine v l → is_put l ≡ false
-quiet_put v (Line.Put a b i k q) h = absurd h
-quiet_put v (Line.Migration Stage.Frozen p) h = refl
-quiet_put v _ h = refl
-
 pub plain_in_bag : (pt : Point) (i : MsgId) (x : PlainMessage) → Sane pt → pt.kernel.bag i ≡ Some x → Plain pt.view i
 plain_in_bag pt i x h there t told = (elim (is_between t.kind) as (λ b. is_between t.kind ≡ b → b ≡ false)
     [ true ↦ λ is. absurd (false≢true (sym (not_kernels h.r h.e pt.kernel i x there h.sound) ∙ h.tells.own i t told is)) | false ↦ λ is. refl ]) refl
@@ -227,7 +222,8 @@ parts_settle (p ∷ ps) v pt w quiet h is =
     let there : Settled v next = record {
       calm = calm_trans v pt.view next.view h.calm c.0;
       sane = part_sane pt next p ls ((elim p as (λ p_. Quiet pt.view p_ → Sayable p_)
-          [ Says l ↦ λ h. quiet_put pt.view l h | _ ↦ λ h. tt ]) here) lines leads h.sane;
+          [ Says l ↦ λ h.
+          ((elim l as (λ l_. QuietLine pt.view l_ → is_put l_ ≡ false) [ Line.Put a' b' i' k' q' ↦ λ h'. absurd h' | Line.Migration Stage.Frozen p' ↦ λ h'. refl | _ ↦ λ h'. refl ]) h) | _ ↦ λ h. tt ]) here) lines leads h.sane;
       fits = c.1;
     } in
     subst (λ (x : Spelled). Settled v x.point) (let f : behind ls z ≡ w = cc in f) (parts_settle ps v next z quiet.1 there more)

@@ -72,12 +72,11 @@ back_gone pt l i is p h quiet front off =
     let home : Stands left u = Stands-stays left (handled_first pt.view) u (home_off (handled_first pt.view) p) (λ j. refl) first in
     nowhere_of bag i (standing (view_after pt.view l) i) ((Stands-released left u (view_after pt.view l) p off (λ j. ap (λ (f : MsgId → Option Told). f j) (hushed pt.view l quiet).told) home).kept i)
 
-home_spots : (v : View) (i : MsgId) (is : List MsgId) (p : Pid) (j : MsgId) → v.inbox v.acting ≡ i ∷ is → id_eq i j ≡ false → (z : Spot) → standing (before_home v p) j z ≡ standing v j z
-home_spots v i is p j front apart z = ap (times j) (home_off (handled_first v) p z ∙ first_off v i is front z) ∙ handled_spots v i j apart z
-
 back_learns : (pt : Point) (l : Line) (i : MsgId) (is : List MsgId) (t : Told) (p : Pid) (h : State None pt) → is_put l ≡ false → pt.view.inbox pt.view.acting ≡ i ∷ is → pt.view.told i ≡ Some t → t.about ≡ Of p
     → ((z : Spot) → ids_at (view_after pt.view l) z ≡ ids_at (released (before_home pt.view p) p) z) → ((m : ℕ) (q : Pid) → pid_eq p q ≡ false → (view_after pt.view l).known m q ≡ pt.view.known m q) → Learns pt.view (view_after pt.view l) p
 back_learns pt l i is t p h quiet front told about off known =
+    let home_spots : (v : View) (i : MsgId) (is : List MsgId) (p : Pid) (j : MsgId) → v.inbox v.acting ≡ i ∷ is → id_eq i j ≡ false → (z : Spot) → standing (before_home v p) j z ≡ standing v j z =
+      λ v i is p j front apart z. ap (times j) (home_off (handled_first v) p z ∙ first_off v i is front z) ∙ handled_spots v i j apart z in
     let came_home : (v : View) (i : MsgId) (is : List MsgId) (p : Pid) (j : MsgId) → v.inbox v.acting ≡ i ∷ is → id_eq i j ≡ false → (z : Spot) → Came (before_home v p) j z → Came v j z =
       λ v i is p j front apart z c. search (arith, home_spots) in
     let v = pt.view in

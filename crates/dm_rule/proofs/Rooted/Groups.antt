@@ -20,10 +20,6 @@ use Rattle.dm_rule.proofs.Requests.{by_migrates}
 abbrev pub Grounded : Point → Type 0
 Grounded pt = Roots pt.kernel pt.view
 
--- puts and packets change neither
-quiet_put : (pt : Point) (a b : ℕ) (i : MsgId) (k : MessageKind) (q : Pid) → Grounded pt → Grounded (moved pt (Line.Put a b i k q) pt.kernel)
-quiet_put pt a b i k q h = record { rings = record { each = h.rings.each }; lives = record { none = h.lives.none } }
-
 -- what was made stays so on the way
 record Onto (pt next : Point) : Type 0 where
   ground : Grounded next
@@ -35,6 +31,9 @@ puts_ground pt next b i k q ls h is leads =
       → after pt (Line.Put pt.view.acting b i k q ∷ (if c then [] else if d then packet_line pt.view pt.view.acting b (Load.Data (length (pt.view.pair pt.view.acting b).ids)) ∷ [] else [])) ≡ Some next → Onto pt next =
       λ pt next b i k q c d h1 h2.
       let quiet_packet : (pt : Point) (a b k : ℕ) (l : Load) → Grounded pt → Grounded (moved pt (Line.Packet a b k l) pt.kernel) = λ pt a b k l h. record { rings = record { each = h.rings.each }; lives = record { none = h.lives.none } } in
+      -- puts and packets change neither
+      let quiet_put : (pt : Point) (a b : ℕ) (i : MsgId) (k : MessageKind) (q : Pid) → Grounded pt → Grounded (moved pt (Line.Put a b i k q) pt.kernel) =
+        λ pt a b i k q h. record { rings = record { each = h.rings.each }; lives = record { none = h.lives.none } } in
       search (arith, quiet_put, quiet_packet) in
     puts_by pt next b i k q (pt.view.acting == b) (goes_out (pt.view.pair pt.view.acting b)) h (ap (after pt) (let f : puts pt.view b i k q ≡ ls = cc in f) ∙ leads)
 

@@ -47,19 +47,6 @@ roots_comes s t v w p kept lived known is h = record {
 roots_known : (s t : OneKernel) (v w : View) (p : Pid) (k : Known) → Kept s t → (t.processes p ≡ None → 3 ≤ p.num → k ≡ Unknown) → w.known ≡ at_record v.known v.acting p k → w.ring ≡ v.ring → (v.known v.acting p ≡ Here → k ≡ Here) → Roots s v → Roots t w
 roots_known s t v w p k kept new known is keeps h = record { rings = rings_known v w p k known is keeps h.rings; lives = lives_learn s t v w p k kept known new h.lives }
 
--- lines that do neither
-queued_idles : (v : View) (id : MsgId) (o : Option Pid) → Idles v (view.queued_for v id o)
-queued_idles v id None = idles v
-queued_idles v id (Some p) = record { known = refl; ring = refl }
-
-taken_idles : (v : View) (b : ℕ) (o : Option MsgId) → Idles v (view.taken_id v b o)
-taken_idles v b None = idles v
-taken_idles v b (Some id) = record { known = refl; ring = refl }
-
-asks_idles : (v : View) (a : About) → Idles v (view.asks_on v a)
-asks_idles v (Of p) = record { known = refl; ring = refl }
-asks_idles v _ = idles v
-
 served_roots : (s : OneKernel) (v : View) (o : Option Told) → ((t : Told) → o ≡ Some t → Lived s t.receiver) → Roots s v → Roots s (served_told v o)
 served_roots s v None lived h = h
 served_roots s v (Some t) lived h = elim t.kind as (λ k. Roots s (ends_by (sort_of k) v (Some t.receiver)))
@@ -137,7 +124,10 @@ line_by pt t (Line.Label l) need sane kept e h = label_roots pt t l need sane ke
 line_by pt t (Line.Migration Stage.Asked p) need sane kept e h = roots_idle pt.kernel t pt.view (view_after pt.view (Line.Migration Stage.Asked p)) kept (record { known = refl; ring = refl }) h
 line_by pt t (Line.Migration Stage.StateTaken p) need sane kept e h = roots_idle pt.kernel t pt.view (view_after pt.view (Line.Migration Stage.StateTaken p)) kept (record { known = refl; ring = refl }) h
 line_by pt t (Line.Migration Stage.MemoryTaken p) need sane kept e h = roots_idle pt.kernel t pt.view (view_after pt.view (Line.Migration Stage.MemoryTaken p)) kept (record { known = refl; ring = refl }) h
-line_by pt t (Line.Queued id) need sane kept e h = let i = queued_idles (handled pt.view id) id (receiver_of (pt.view.told id)) in roots_idle pt.kernel t pt.view (view_after pt.view (Line.Queued id)) kept (record { known = i.known; ring = i.ring }) h
+line_by pt t (Line.Queued id) need sane kept e h =
+    -- lines that do neither
+    let queued_idles : (v : View) (id : MsgId) (o : Option Pid) → Idles v (view.queued_for v id o) = λ v id o. elim o as (λ o_. Idles v (view.queued_for v id o_)) [ None ↦ idles v | Some p' ↦ record { known = refl; ring = refl } ] in
+    let i = queued_idles (handled pt.view id) id (receiver_of (pt.view.told id)) in roots_idle pt.kernel t pt.view (view_after pt.view (Line.Queued id)) kept (record { known = i.known; ring = i.ring }) h
 line_by pt t (Line.Held id) need sane kept e h =
     let held_idles : Idles (handled pt.view id) (view.held_for (handled pt.view id) id (receiver_of (pt.view.told id))) = search (arith, idles) in
     let i = held_idles in roots_idle pt.kernel t pt.view (view_after pt.view (Line.Held id)) kept (record { known = i.known; ring = i.ring }) h
@@ -145,10 +135,12 @@ line_by pt t (Line.Forwarded id m) need sane kept e h =
     let forwarded_idles : Idles (handled pt.view id) (view.forwarded_for (handled pt.view id) (receiver_of (pt.view.told id))) = search (arith, idles) in
     let i = forwarded_idles in roots_idle pt.kernel t pt.view (view_after pt.view (Line.Forwarded id m)) kept (record { known = i.known; ring = i.ring }) h
 line_by pt t (Line.Proto id) need sane kept e h =
+    let asks_idles : (v : View) (a : About) → Idles v (view.asks_on v a) = λ v a. elim a as (λ a_. Idles v (view.asks_on v a_)) [ Of p' ↦ record { known = refl; ring = refl } | _ ↦ idles v ] in
     let proto_idles : Idles (handled pt.view id) (view.after_proto (handled pt.view id) (pt.view.told id)) = search (arith, asks_idles, idles) in
     let i = proto_idles in roots_idle pt.kernel t pt.view (view_after pt.view (Line.Proto id)) kept (record { known = i.known; ring = i.ring }) h
 line_by pt t (Line.Taken a b n) need sane kept e h =
     let p = pt.view.pair a b in
+    let taken_idles : (v : View) (b : ℕ) (o : Option MsgId) → Idles v (view.taken_id v b o) = λ v b o. elim o as (λ o_. Idles v (view.taken_id v b o_)) [ None ↦ idles v | Some id' ↦ record { known = refl; ring = refl } ] in
     let i = taken_idles (view.with_pair pt.view a b (record p { taken = p.taken + 1; kept = filter (λ k. not (k == n)) p.kept })) b (view.oldest p) in
     roots_idle pt.kernel t pt.view (view_after pt.view (Line.Taken a b n)) kept (record { known = i.known; ring = i.ring }) h
 line_by pt t (Line.Migration Stage.Frozen p) need sane kept e h =

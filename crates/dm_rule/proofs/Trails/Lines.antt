@@ -1,8 +1,8 @@
 -- Lines that give addresses beside the kernel keep each on its trail: a message that is forwarded, messages that are sent on, an
 -- update, and the first put of a kernel's own message.
-use Rattle.dm_rule.proofs.Names.{◌≡◌, ℕ, ◌+◌, ◌≤◌, ◌&&◌, Bool, true, false, List, [], ◌∷◌, ◌++◌, refl, ap, ◌∙◌, sym, subst, inl, inr, arith, nat_lt, if◌then◌else◌, slice_get, Option, None, Some, cases_Bool, false≢true, Pid, Place, MsgId}
-use Rattle.dm_rule.proofs.Names.{id_eq, MessageKind, manager, OneKernel, pid_eq-is, id_eq-same, View, Told, About, Known, Frozen, Forward, is_kernels, own_id, Addresses, Holder, Receiver, Sender, given, place_known, all_follow, pid_eq}
-use Rattle.dm_rule.proofs.Names.{is_told_back, told_back_gets, forwards, place_told, belongs_to, leads_to, is_behind, updated_to, updated, names, times, Trails, Trail, IsOn, AddressesOn, OwnOn, nat_tests, and_parts, option_map_or}
+use Rattle.dm_rule.proofs.Names.{◌≡◌, ℕ, ◌+◌, ◌≤◌, ◌&&◌, Bool, true, false, List, [], ◌∷◌, ◌++◌, refl, ap, sym, subst, inl, inr, arith, nat_lt, if◌then◌else◌, slice_get, Option, None, Some, cases_Bool, false≢true, Pid, Place, MsgId, id_eq}
+use Rattle.dm_rule.proofs.Names.{MessageKind, manager, OneKernel, pid_eq-is, id_eq-same, View, Told, About, Known, Frozen, Forward, is_kernels, own_id, Addresses, Holder, Receiver, Sender, given, place_known, all_follow, is_told_back}
+use Rattle.dm_rule.proofs.Names.{told_back_gets, forwards, place_told, belongs_to, leads_to, is_behind, updated_to, updated, names, times, Trails, Trail, IsOn, AddressesOn, OwnOn, nat_tests, and_parts, option_map_or, pid_eq}
 use Rattle.dm_rule.proofs.Once.{one_of}
 use Rattle.dm_rule.proofs.Trails.Places.{Goes, Comes, Named, Links, Owns, AllAre, AllGet, given_on, all_grown}
 
@@ -18,12 +18,6 @@ receivers_are s v a t h i u k told = h (Receiver i) u.receiver (Owns (Goes i u r
 
 pub senders_are : (s : OneKernel) (v : View) (a : Addresses) (t : Trails) → AllAre s v a t → (i : MsgId) (u : Told) → is_kernels i ≡ true → v.told i ≡ Some u → u.kind ≡ MessageKind.Migrate → IsOn t manager (a (Sender i))
 senders_are s v a t h i u mine told k = h (Sender i) manager (Owns (Comes i u refl mine told k refl))
-
--- what was told stays
-pub told_back : (s : OneKernel) (v w : View) (h : Holder) (q : Pid) → ((i : MsgId) → w.told i ≡ v.told i) → Named s w h q → Named s v h q
-told_back s v w h q same (Links e) = Links e
-told_back s v w h q same (Owns (Goes i u is k told r)) = Owns (Goes i u is k (sym (same i) ∙ told) r)
-told_back s v w h q same (Owns (Comes i u is mine told k r)) = Owns (Comes i u is mine (sym (same i) ∙ told) k r)
 
 pub unnamed_receiver : (s : OneKernel) (v : View) (i : MsgId) (q : Pid) → s.bag i ≡ None → v.told i ≡ None → Named s v (Receiver i) q → ⊥
 unnamed_receiver s v i q h1 h2 h3 = search arith

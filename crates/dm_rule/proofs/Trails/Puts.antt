@@ -59,15 +59,12 @@ child_is s p n e =
     let next : n ≡ suc j = omega (arith, is) in ap (λ (k : ℕ). names s (Child k)) next ∙ at
 
 -- a message that was put before: nothing changes
-kept_told : (o : Option Told) (u w : Told) → o ≡ Some u → Some (view.first_told o w) ≡ o
-kept_told None u w e = cc
-kept_told (Some v) u w e = refl
-
 pub told_again : (v : View) (x y : ℕ) (id : MsgId) (k : MessageKind) (q : Pid) (u : Told) → v.told id ≡ Some u → (i : MsgId) → (after_put v x y id k q).told i ≡ v.told i
 told_again v x y id k q u told i = elim (cases_Bool (id_eq id i)) [
   | inl same ↦
       let at : id ≡ i = id_eq-is id i same in
-      ap (λ (j : MsgId). (after_put v x y id k q).told j) (sym at) ∙ put_at v x y id k q ∙ kept_told (v.told id) u (record { kind = k; receiver = q; about = v.topic }) told ∙ ap v.told at
+      ap (λ (j : MsgId). (after_put v x y id k q).told j) (sym at) ∙ put_at v x y id k q ∙
+      ((elim (v.told id) as (λ o_. o_ ≡ Some u → Some (view.first_told o_ (record { kind = k; receiver = q; about = v.topic })) ≡ o_) [ None ↦ λ e'. cc | Some v' ↦ λ e'. refl ]) told) ∙ ap v.told at
   | inr apart ↦ put_told_off v x y id i k q apart
 ]
 

@@ -73,13 +73,9 @@ pub sends_what_spares : (v : View) (a : Addresses) (p : Pid) (x : PlainProcess) 
 sends_what_spares v a p x id (PlainWhat.User b1 b2 b3 b4) i e = two_more i id (encloses id 0 (map (λ (n : ℕ). a (Slot p n)) (calls.listed x))) e (encloses_spares i id 0 (map (λ (n : ℕ). a (Slot p n)) (calls.listed x)))
 sends_what_spares v a p x id _ i e = two_more i id (gets (Owner p) (a (Slot p (reg x.regs 1))) ∷ []) e refl
 
-pub sends_next_spares : (v : View) (a : Addresses) (p : Pid) (x : PlainProcess) (id : MsgId) (o : Option kernel.Trap) (i : MsgId) → id_eq id i ≡ false → spares i (addresses.sends_next v a p x id o) ≡ true
-sends_next_spares v a p x id (Some (kernel.Calls number (calls.Sends m y))) i e = sends_what_spares v a p x id m.what i e
-sends_next_spares v a p x id _ i e = refl
-
 pub sends_spares : (s : OneKernel) (v : View) (a : Addresses) (p : Pid) (id : MsgId) (o : Option PlainProcess) (i : MsgId) → id_eq id i ≡ false → spares i (addresses.send_gets s v a p id o) ≡ true
 sends_spares s v a p id None i e = refl
-sends_spares s v a p id (Some x) i e = sends_next_spares v a p x id (kernel.next_trap s p) i e
+sends_spares s v a p id (Some x) i e = (elim (kernel.next_trap s p) as (λ o_. spares i (addresses.sends_next v a p x id o_) ≡ true) [ Some (kernel.Calls number' (calls.Sends m' y')) ↦ sends_what_spares v a p x id m'.what i e | _ ↦ refl ])
 
 -- what a step puts into the bag isn't a kernel's own
 abbrev pub Outside : OneKernel → Type 0

@@ -9,8 +9,8 @@ use Rattle.dm_rule.proofs.Homes.Labels.{SaidOn}
 use Rattle.dm_rule.proofs.Phases.Lines.{queued_known, held_known, dropped_known, forwarded_known}
 use Rattle.dm_rule.proofs.Phases.Pieces.{proto_known}
 use Rattle.dm_rule.proofs.Trails.Known.{get_at_end, trail_same}
-use Rattle.dm_rule.proofs.Trails.Places.{Named, AllAre, on_grown}
-use Rattle.dm_rule.proofs.Trails.Lines.{all_are, links_are, receivers_are, senders_are, forwarded_all, sent_on_all, updated_all, told_back}
+use Rattle.dm_rule.proofs.Trails.Places.{Named, AllAre, on_grown, Links, Goes, Comes, Owns}
+use Rattle.dm_rule.proofs.Trails.Lines.{all_are, links_are, receivers_are, senders_are, forwarded_all, sent_on_all, updated_all}
 use Rattle.dm_rule.proofs.Trails.Puts.{is_own, put_all, put_routed, told_again, about_put}
 use Rattle.dm_rule.proofs.Trails.Steps.{frozen_trail, accepted_trail, stays_trail, ended_trail, born_trail, sent_on_at, sent_on_grows, sent_on_trail, left_line_trail, source_holds, back_trail, destination_expects}
 use Rattle.dm_rule.proofs.Trails.Spares.{Outside}
@@ -230,10 +230,12 @@ updated_treads pt t id n h =
     }
 
 -- a put
+-- what was told stays
 put_are : (pt : Point) (t : Trails) (x y : ℕ) (id : MsgId) (k : MessageKind) (q : Pid) → PutFits pt t id k q → AllAre pt.kernel pt.view pt.addresses t
     → AllAre pt.kernel (after_put pt.view x y id k q) (given pt.addresses (first_gives (pt.view.told id) (own_given pt.kernel pt.view pt.addresses id q (sort_of k)))) t
 put_are pt t x y id k q (Again u told) h =
-    let all_as : (s : OneKernel) (v w : View) (a : Addresses) (t : Trails) → ((i : MsgId) → w.told i ≡ v.told i) → AllAre s v a t → AllAre s w a t = λ s v w a t same h g q e. h g q (told_back s v w g q same e) in
+    let all_as : (s : OneKernel) (v w : View) (a : Addresses) (t : Trails) → ((i : MsgId) → w.told i ≡ v.told i) → AllAre s v a t → AllAre s w a t = λ s v w a t same h g q e. h g q
+    (elim e [ Links e' ↦ Links e' | Owns (Goes i' u' is' k' told' r') ↦ Owns (Goes i' u' is' k' (sym (same i') ∙ told') r') | Owns (Comes i' u' is' mine' told' k' r') ↦ Owns (Comes i' u' is' mine' (sym (same i') ∙ told') k' r') ]) in
     subst (λ (o : Option Told). AllAre pt.kernel (after_put pt.view x y id k q) (given pt.addresses (first_gives o (own_given pt.kernel pt.view pt.addresses id q (sort_of k)))) t) (sym told)
     (all_as pt.kernel pt.view (after_put pt.view x y id k q) pt.addresses t (told_again pt.view x y id k q u told) h)
 put_are pt t x y id k q (Own bag none to from) h = put_all pt.kernel pt.view pt.addresses t x y id k q bag none to from h

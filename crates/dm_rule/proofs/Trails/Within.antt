@@ -37,10 +37,6 @@ pub forwarded_acting : (v : View) (o : Option Pid) → (forwarded_for v o).actin
 forwarded_acting v None = refl
 forwarded_acting v (Some p) = refl
 
-taken_within : (n : ℕ) (v : View) (b : ℕ) (o : Option MsgId) → Within n v → Within n (taken_id v b o)
-taken_within n v b None h = h
-taken_within n v b (Some i) h = record { known = h.known; acting = h.acting }
-
 pub line_within : (n : ℕ) (v : View) (l : Line) → HeadIn n l → Within n v → Within n (view_after v l)
 line_within n v (Line.Head d) e h = (elim d as (λ d_. actor d_ < n → Within n (after_head v d_))
     [ Step.Turn m ↦ λ e_. record { known = h.known; acting = e_ } | _ ↦ λ e_. record { known = h.known; acting = e_ } ]) e
@@ -56,6 +52,8 @@ line_within n v (Line.Held i) e h = within_same n v (view_after v (Line.Held i))
 line_within n v (Line.Forwarded i k) e h = within_same n v (view_after v (Line.Forwarded i k)) (λ m q. forwarded_known (handled v i) (receiver_of (v.told i)) m q) (forwarded_acting (handled v i) (receiver_of (v.told i))) h
 line_within n v (Line.Proto i) e h = within_same n v (view_after v (Line.Proto i)) (λ m q. proto_known (handled v i) (v.told i) m q) (proto_acting (handled v i) (v.told i)) h
 line_within n v (Line.Taken a b k) e h =
+    let taken_within : (n : ℕ) (v : View) (b : ℕ) (o : Option MsgId) → Within n v → Within n (taken_id v b o) =
+      λ n v b o h. elim o as (λ o_. Within n (taken_id v b o_)) [ None ↦ h | Some i' ↦ record { known = h.known; acting = h.acting } ] in
     taken_within n (view.with_pair v a b (record (v.pair a b) { taken = (v.pair a b).taken + 1; kept = filter (λ j. not (j == k)) (v.pair a b).kept })) b (view.oldest (v.pair a b)) (record { known = h.known; acting = h.acting })
 line_within n v (Line.Idle m) e h = h
 line_within n v (Line.Old a b k) e h = h
