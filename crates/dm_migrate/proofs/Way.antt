@@ -1,7 +1,7 @@
 -- Piece by piece, from the first chunk to the process.
 use Rattle.dm_migrate.proofs.Names.{ℕ, zero, suc, ◌≡◌, ◌+◌, ◌-◌, ◌*◌, ◌/◌, ◌<◌, ◌≤◌, Bool, true, false, nat_lt, if◌then◌else◌, List, [], ◌++◌, length, take, drop, Option, Some, ap, sym, subst, ◌∙◌, refl, arith, take-add, take_all}
-use Rattle.dm_migrate.proofs.Names.{nat_tests, Asker, Message, What, Process, IsLawfulProcess, IsLawfulShell, shell_of, FitsShell, shell_is_lawful, shell_again, lawful_size, Wanted, Chunk, Block, Nothing, Arrival, IsNextPiece, after_block}
-use Rattle.dm_migrate.proofs.Names.{after_chunk, pull, restarted, revived_from, with_piece, memory_come, state_come, CanMove, HasBlock, HasChunk, block_bytes, block_of, chunk_bytes, chunk_of, is_last, state_of, ArrivesWhole, ComesByPieces}
+use Rattle.dm_migrate.proofs.Names.{nat_tests, Asker, Message, What, Process, IsLawfulProcess, IsLawfulShell, shell_of, FitsShell, shell_is_lawful, shell_back, shell_ended, lawful_size, Wanted, Chunk, Block, Nothing, Arrival, IsNextPiece, after_block}
+use Rattle.dm_migrate.proofs.Names.{after_chunk, pull, restarted, revived_from, with_piece, memory_come, state_come, CanMove, HasBlock, HasChunk, block_of, chunk_bytes, chunk_of, is_last, state_of, ArrivesWhole, ComesByPieces}
 use Rattle.dm_migrate.proofs.Names.{Goes, HasPiece, coming, count_of_pieces, moved, piece_for}
 use Rattle.dm_message.specs.declared.What.TheVariants as what
 use Rattle.dm_migrate.proofs.Pieces.{memory_waits}
@@ -18,7 +18,7 @@ state_after false s k e =
     let n : 512 * k + 512 ≡ 512 * (k + 1) = omega arith in
     one_more s (512 * k) 512 ∙ ap (λ (x : ℕ). take x s) n
 
-memory_after : (more : Bool) (m : List ℕ) (k : ℕ) → more ≡ nat_lt (k + 1) (length m / 256) → length m ≡ 256 * (length m / 256) → take (256 * k) m ++ block_bytes m k ≡ memory_come (if more then Block (k + 1) else Nothing) m
+memory_after : (more : Bool) (m : List ℕ) (k : ℕ) → more ≡ nat_lt (k + 1) (length m / 256) → length m ≡ 256 * (length m / 256) → take (256 * k) m ++ take 256 (drop (256 * k) m) ≡ memory_come (if more then Block (k + 1) else Nothing) m
 memory_after true m k e w =
     let n : 256 * k + 256 ≡ 256 * (k + 1) = omega arith in
     one_more m (256 * k) 256 ∙ ap (λ (x : ℕ). take x m) n
@@ -65,7 +65,7 @@ module _ (p : Process) (asker : Option Asker) (held : List Message) (h : CanMove
     pid = refl;
     wanted = refl;
     whole = state_of p;
-    state = record { size = refl; shell = shell_of p; read = h.again; pid = refl; blocks = refl; moves = refl };
+    state = record { size = refl; shell = shell_of p; read = shell_ended (length p.table) (state_of p) (shell_of p) h.again; pid = refl; blocks = refl; moves = refl };
     number = n;
     before = refl;
     here = refl;
@@ -101,7 +101,7 @@ module _ (p : Process) (asker : Option Asker) (held : List Message) (h : CanMove
   })
 
   whole : restarted (coming p asker held Nothing) ≡ Some (moved p)
-  whole = ap (λ r. revived_from r p.memory) h.again
+  whole = ap (λ r. revived_from r p.memory) (shell_ended (length p.table) (state_of p) (shell_of p) h.again)
 
   pub by_pieces : ComesByPieces p asker held
   by_pieces = record {
@@ -203,7 +203,7 @@ can_move p l f m =
     record {
       lawful = l;
       moves = m;
-      again = shell_again (length p.table) (shell_of p) l.slots s f;
+      again = shell_back (length p.table) (shell_of p) l.slots s f;
       least = (lawful_size (length p.table) (shell_of p) l.slots s).0;
       most = (lawful_size (length p.table) (shell_of p) l.slots s).1;
     }

@@ -1,5 +1,5 @@
 -- The pieces of a process, computed.
-use Rattle.dm_migrate.proofs.Names.{◌≡◌, ℕ, true, false, List, [], ◌∷◌, ◌++◌, replicate, refl, Chunk, Block, Nothing, after_block, after_chunk, block_bytes, chunk_bytes, is_last}
+use Rattle.dm_migrate.proofs.Names.{◌≡◌, ℕ, true, false, List, [], ◌∷◌, ◌++◌, replicate, refl, Chunk, Block, Nothing, after_block, after_chunk, drop, take, ◌*◌, chunk_bytes, is_last}
 
 -- 512 bytes, then 70 others
 abbrev state : List ℕ
@@ -16,6 +16,9 @@ pub last_of_one : (is_last (replicate 512 7) 0 ∷ is_last (replicate 513 7) 0 �
 last_of_one = refl
 
 -- 256 bytes, then 256 others
+abbrev block_bytes : List ℕ → ℕ → List ℕ
+block_bytes memory k = take 256 (drop (256 * k) memory)
+
 pub two_blocks : (block_bytes (replicate 256 7 ++ replicate 256 8) 0 ∷ block_bytes (replicate 256 7 ++ replicate 256 8) 1 ∷ []) ≡ replicate 256 7 ∷ replicate 256 8 ∷ []
 two_blocks = refl
 

@@ -9,7 +9,7 @@ use Rattle.dm_message.specs.declared.What.{What}
 use Rattle.dm_message.specs.declared.What.TheVariants as what
 use Rattle.dm_process.specs.declared.process.Process.{Process}
 use Rattle.dm_process.specs.Lawful.{IsLawfulProcess}
-use Rattle.dm_statebytes.specs.Shell.{shell_of, shell_of_bytes}
+use Rattle.dm_statebytes.specs.Shell.{shell, shell_of}
 use Rattle.dm_migrate.specs.Pieces.{state_of}
 
 -- the process as it was, the machine that it goes to, who waits to hear how the move ends, and the messages that
@@ -32,11 +32,11 @@ with_held d m = record d { held = d.held ++ m ∷ [] }
 abbrev pub ask_of : Process → Option Asker → What
 ask_of p asker = what.Ask p.pid (length p.memory / 256) p.moves (length (state_of p)) asker
 
--- a process that can move once more; its state bytes are read again as what they were made of
+-- a process that can move once more; its state bytes are read again as what they were made of, and nothing is left
 pub record CanMove (p : Process) : Type 0 where
   pub lawful : IsLawfulProcess p
   pub moves : p.moves < 4294967295
-  pub again : shell_of_bytes (state_of p) (length p.table) ≡ Ok (shell_of p)
+  pub again : (shell (length p.table)).read (state_of p) ≡ Ok (shell_of p, [])
   pub least : 102 ≤ length (state_of p)
   pub most : length (state_of p) ≤ 3201
 

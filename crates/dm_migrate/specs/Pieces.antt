@@ -30,9 +30,6 @@ chunk_of p state k = what.State p k (is_last state k) (record { items = chunk_by
 abbrev pub HasBlock : List ℕ → ℕ → Type 0
 HasBlock memory k = 256 * k < length memory
 
-abbrev pub block_bytes : List ℕ → ℕ → List ℕ
-block_bytes memory k = take 256 (drop (256 * k) memory)
-
 -- the message that brings a block of a process's memory
 abbrev pub block_of : Pid → List ℕ → ℕ → What
-block_of p memory k = what.Memory p k (block_bytes memory k)
+block_of p memory k = what.Memory p k (take 256 (drop (256 * k) memory))

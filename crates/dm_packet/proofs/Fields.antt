@@ -1,23 +1,33 @@
 -- Each field of a packet reads what it spells: names, places, links and bytes.
 use Rattle.dm_packet.proofs.Names.{◌≡◌, ℕ, zero, suc, ◌+◌, ◌^◌, ◌<◌, ◌≤◌, Bool, true, false, length, refl, sym, arith, nat_le, ◌&&◌, AllByRecursion, and_parts, ltb-true, nat_tests, Pid, Addr, Kind, General, Reply, Link, IsMachine}
-use Rattle.dm_packet.proofs.Names.{IsLawfulAddr, IsLawfulEnclosed, PacketError, both, number, run, tested, repeated_field, addr, are_flags, bytes_within, channel, flags, flags_of, len_from, length_within, link, link_of_parts, links}
+use Rattle.dm_packet.proofs.Names.{IsLawfulAddr, IsLawfulEnclosed, PacketError, both, number, number_within, run, tested, repeated_field, addr, are_flags, bytes_within, channel, flags, flags_of, len_from, link, link_of_parts, links}
 use Rattle.dm_packet.proofs.Names.{machine, number_of_flags, parts_of_link, pid, Fits, FitsPid, FitsAddr, FitsLink}
 use Rattle.dm_packet.specs.declared.PacketError.TheVariants as bad
 use Rattle.dm_packet.proofs.Field.{IsField, IsField-both, IsField-counted, IsField-for, IsField-made, IsField-number, IsField-repeated_field, IsField-run, IsField-tested}
 
 -- a number at most so great
-pub at_most_is : (size most : ℕ) (rule : PacketError) → most < 256 ^ size → IsField (tested (number size) (λ n. nat_le n most) rule) (λ n. n ≤ most)
+at_most_is : (size most : ℕ) (rule : PacketError) → most < 256 ^ size → IsField (tested (number size) (λ n. nat_le n most) rule) (λ n. n ≤ most)
 at_most_is size most rule room =
     IsField-for (tested (number size) (λ n. nat_le n most) rule) (λ n. (n < 256 ^ size) × (nat_le n most ≡ true)) (λ n. n ≤ most)
     (IsField-tested (number size) (λ n. n < 256 ^ size) (IsField-number size) (λ n. nat_le n most) rule)
     (λ n fits. grind (arith, nat_tests))
     (λ n fits. (omega arith, grind (arith, nat_tests)))
 
+pub number_within_is : (size least most : ℕ) → most < 256 ^ size → IsField (number_within size least most) (λ n. (least ≤ n) × (n ≤ most))
+number_within_is size least most room =
+    IsField-for (number_within size least most) (λ n. (n < 256 ^ size) × ((nat_le least n && nat_le n most) ≡ true)) (λ n. (least ≤ n) × (n ≤ most))
+    (IsField-tested (number size) (λ n. n < 256 ^ size) (IsField-number size) (λ n. nat_le least n && nat_le n most) bad.Limit)
+    (λ n fits. (grind (arith, nat_tests), grind (arith, nat_tests)))
+    (λ n fits. (omega arith, grind (arith, nat_tests)))
+
+pub most_within_is : (size most : ℕ) → most < 256 ^ size → IsField (number_within size 0 most) (λ n. n ≤ most)
+most_within_is size most room = IsField-for (number_within size 0 most) (λ n. (0 ≤ n) × (n ≤ most)) (λ n. n ≤ most) (number_within_is size 0 most room) (λ n fits. fits.1) (λ n fits. (omega arith, fits))
+
 pub machine_is : IsField machine IsMachine
 machine_is = at_most_is 1 15 bad.Machine (omega arith)
 
 pub channel_is : IsField channel (λ c. c ≤ 31)
-channel_is = at_most_is 1 31 bad.Limit (omega arith)
+channel_is = most_within_is 1 31 (omega arith)
 
 -- names and addresses that are spelled
 abbrev pub IsSpelledPid : Pid → Type 0
@@ -75,12 +85,15 @@ flags_is =
     (λ n fits. (flags_there n fits.1, tt))
     (λ f fits. let back = flags_back f in (back.1, back.0))
 
-pub len_from_is : (base : ℕ) → IsField (len_from base) (λ len. base + len ≤ 65536)
-len_from_is base =
-    IsField-for (len_from base) (λ len. (len < 256 ^ 4) × (nat_le (base + len) 65536 ≡ true)) (λ len. base + len ≤ 65536)
-    (IsField-tested (number 4) (λ len. len < 256 ^ 4) (IsField-number 4) (λ len. nat_le (base + len) 65536) bad.Limit)
-    (λ len fits. grind (arith, nat_tests))
-    (λ len fits. (omega arith, grind (arith, nat_tests)))
+abbrev pub IsLenFrom : ℕ → ℕ → ℕ → Type 0
+IsLenFrom size base len = Fits 4 len × (base + len ≤ size)
+
+pub len_from_is : (size base : ℕ) → IsField (len_from size base) (IsLenFrom size base)
+len_from_is size base =
+    IsField-for (len_from size base) (λ len. Fits 4 len × (nat_le (base + len) size ≡ true)) (IsLenFrom size base)
+    (IsField-tested (number 4) (Fits 4) (IsField-number 4) (λ len. nat_le (base + len) size) bad.Limit)
+    (λ len fits. (fits.0, grind (arith, nat_tests)))
+    (λ len fits. (fits.0, grind (arith, nat_tests)))
 
 abbrev pub IsSpelledLink : Link → Type 0
 IsSpelledLink l = IsLawfulEnclosed l × FitsLink l
@@ -90,26 +103,19 @@ sym_kernel l e i = record { addr = l.addr; kind = l.kind; to_kernel = sym e i; c
 
 pub link_is : IsField link IsSpelledLink
 link_is =
-    let area = IsField-both (number 4) (Fits 4) (IsField-number 4) len_from (λ base len. base + len ≤ 65536) len_from_is in
-    let from_channel = IsField-both channel (λ c. c ≤ 31) channel_is (λ _. both (number 4) len_from) (λ _ a. Fits 4 a.0 × (a.0 + a.1 ≤ 65536)) (λ _. area) in
-    let from_code = IsField-both (number 4) (Fits 4) (IsField-number 4) (λ _. both channel (λ _. both (number 4) len_from)) (λ _ l. (l.0 ≤ 31) × (Fits 4 l.1.0 × (l.1.0 + l.1.1 ≤ 65536))) (λ _. from_channel) in
-    let from_flags = IsField-both flags (λ _. Unit {0}) flags_is (λ _. both (number 4) (λ _. both channel (λ _. both (number 4) len_from))) (λ _ l. Fits 4 l.0 × ((l.1.0 ≤ 31) × (Fits 4 l.1.1.0 × (l.1.1.0 + l.1.1.1 ≤ 65536)))) (λ _. from_code) in
-    let parts = IsField-both addr IsSpelledAddr addr_is (λ _. both flags (λ _. both (number 4) (λ _. both channel (λ _. both (number 4) len_from)))) (λ _ l. Unit {0} × (Fits 4 l.1.0 × ((l.1.1.0 ≤ 31) × (Fits 4 l.1.1.1.0 × (l.1.1.1.0 + l.1.1.1.1 ≤ 65536))))) (λ _. from_flags) in
-    IsField-made (both addr (λ _. both flags (λ _. both (number 4) (λ _. both channel (λ _. both (number 4) len_from))))) (λ l. IsSpelledAddr l.0 × (Unit {0} × (Fits 4 l.1.1.0 × ((l.1.1.1.0 ≤ 31) × (Fits 4 l.1.1.1.1.0 × (l.1.1.1.1.0 + l.1.1.1.1.1 ≤ 65536)))))) parts link_of_parts parts_of_link IsSpelledLink
-    (λ l fits. (refl, (record { link = record { addr = fits.0.0; channel = fits.1.1.1.0; area = fits.1.1.1.1.1 }; not_to_kernel = refl }, (fits.0.1, fits.1.1.0))))
-    (λ l fits. let area_fits = fits.0.link.area in (((fits.0.link.addr, fits.1.0), (tt, (fits.1.1, (fits.0.link.channel, ((omega arith), area_fits))))), sym_kernel l fits.0.not_to_kernel))
+    let area = IsField-both (number 4) (Fits 4) (IsField-number 4) (len_from 65536) (IsLenFrom 65536) (len_from_is 65536) in
+    let from_channel = IsField-both channel (λ c. c ≤ 31) channel_is (λ _. both (number 4) (len_from 65536)) (λ _ a. Fits 4 a.0 × IsLenFrom 65536 a.0 a.1) (λ _. area) in
+    let from_code = IsField-both (number 4) (Fits 4) (IsField-number 4) (λ _. both channel (λ _. both (number 4) (len_from 65536))) (λ _ l. (l.0 ≤ 31) × (Fits 4 l.1.0 × IsLenFrom 65536 l.1.0 l.1.1)) (λ _. from_channel) in
+    let from_flags = IsField-both flags (λ _. Unit {0}) flags_is (λ _. both (number 4) (λ _. both channel (λ _. both (number 4) (len_from 65536)))) (λ _ l. Fits 4 l.0 × ((l.1.0 ≤ 31) × (Fits 4 l.1.1.0 × IsLenFrom 65536 l.1.1.0 l.1.1.1))) (λ _. from_code) in
+    let parts = IsField-both addr IsSpelledAddr addr_is (λ _. both flags (λ _. both (number 4) (λ _. both channel (λ _. both (number 4) (len_from 65536))))) (λ _ l. Unit {0} × (Fits 4 l.1.0 × ((l.1.1.0 ≤ 31) × (Fits 4 l.1.1.1.0 × IsLenFrom 65536 l.1.1.1.0 l.1.1.1.1)))) (λ _. from_flags) in
+    IsField-made (both addr (λ _. both flags (λ _. both (number 4) (λ _. both channel (λ _. both (number 4) (len_from 65536)))))) (λ l. IsSpelledAddr l.0 × (Unit {0} × (Fits 4 l.1.1.0 × ((l.1.1.1.0 ≤ 31) × (Fits 4 l.1.1.1.1.0 × IsLenFrom 65536 l.1.1.1.1.0 l.1.1.1.1.1))))) parts link_of_parts parts_of_link IsSpelledLink
+    (λ l fits. (refl, (record { link = record { addr = fits.0.0; channel = fits.1.1.1.0; area = fits.1.1.1.1.1.1 }; not_to_kernel = refl }, (fits.0.1, fits.1.1.0))))
+    (λ l fits. let area_fits = fits.0.link.area in (((fits.0.link.addr, fits.1.0), (tt, (fits.1.1, (fits.0.link.channel, (omega (arith, area_fits), (omega (arith, area_fits), area_fits)))))), sym_kernel l fits.0.not_to_kernel))
 
 -- links of a list
 pub links_is : (most : ℕ) → most < 256 → IsField (links most) (λ ls. (length ls ≤ most) × AllByRecursion IsSpelledLink ls)
 links_is most room =
-    IsField-counted (tested (number 1) (λ n. nat_le n most) bad.Limit) (λ n. n ≤ most) (at_most_is 1 most bad.Limit room) (λ n. repeated_field link n) (AllByRecursion IsSpelledLink) (λ n. IsField-repeated_field link IsSpelledLink link_is n)
-
-pub length_within_is : (least most : ℕ) → most < 256 ^ 2 → IsField (length_within least most) (λ n. (least ≤ n) × (n ≤ most))
-length_within_is least most room =
-    IsField-for (length_within least most) (λ n. (n < 256 ^ 2) × ((nat_le least n && nat_le n most) ≡ true)) (λ n. (least ≤ n) × (n ≤ most))
-    (IsField-tested (number 2) (λ n. n < 256 ^ 2) (IsField-number 2) (λ n. nat_le least n && nat_le n most) bad.Limit)
-    (λ n fits. (grind (arith, nat_tests), grind (arith, nat_tests)))
-    (λ n fits. (omega arith, grind (arith, nat_tests)))
+    IsField-counted (number_within 1 0 most) (λ n. n ≤ most) (most_within_is 1 most room) (λ n. repeated_field link n) (AllByRecursion IsSpelledLink) (λ n. IsField-repeated_field link IsSpelledLink link_is n)
 
 -- a list of a given length, with nothing more asked
 pub run_is : (n : ℕ) → IsField (run n) (λ xs. (length xs ≡ n) × Unit {0})
@@ -117,5 +123,5 @@ run_is n = IsField-for (run n) (λ xs. length xs ≡ n) (λ xs. (length xs ≡ n
 
 pub bytes_within_is : (least most : ℕ) → most < 256 ^ 2 → IsField (bytes_within least most) (λ xs. (least ≤ length xs) × (length xs ≤ most))
 bytes_within_is least most room =
-    let counts = IsField-counted (length_within least most) (λ n. (least ≤ n) × (n ≤ most)) (length_within_is least most room) run (λ _. Unit {0}) run_is in
+    let counts = IsField-counted (number_within 2 least most) (λ n. (least ≤ n) × (n ≤ most)) (number_within_is 2 least most room) run (λ _. Unit {0}) run_is in
     IsField-for (bytes_within least most) (λ xs. ((least ≤ length xs) × (length xs ≤ most)) × Unit {0}) (λ xs. (least ≤ length xs) × (length xs ≤ most)) counts (λ xs fits. fits.0) (λ xs fits. (fits, tt))

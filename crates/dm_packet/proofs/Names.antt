@@ -16,7 +16,7 @@ pub use Rattle.std.proofs.lemmas.Result.{err_from_is_err_and}
 pub use Rattle.std.specs.Int.{byte_at, bytes_high_first}
 pub use Rattle.std.specs.List.{All, AllByRecursion, find, flat_map}
 pub use Rattle.std.specs.Option.{IfSome}
-pub use Rattle.std.specs.Prelude.{IfOk, OnOk, if◌then◌else◌, nat_le, not, ◌&&◌, ◌==◌, ◌↔◌, ◌≢◌, ◌⊎◌}
+pub use Rattle.std.specs.Prelude.{is_some, ok_or, option_map, IfOk, OnOk, if◌then◌else◌, nat_le, not, ◌&&◌, ◌==◌, ◌↔◌, ◌≢◌, ◌⊎◌}
 pub use Rattle.dm_link.specs.Lawful.{IsLawfulAddr, IsLawfulEnclosed, IsMachine}
 pub use Rattle.dm_link.specs.declared.Addr.{Addr}
 pub use Rattle.dm_link.specs.declared.Kind.{Kind}
@@ -24,7 +24,7 @@ pub use Rattle.dm_link.specs.declared.Kind.TheVariants.{General, Reply}
 pub use Rattle.dm_link.specs.declared.Link.{Link}
 pub use Rattle.dm_link.specs.declared.Pid.{Pid}
 pub use Rattle.dm_message.specs.Ids.{bool_eq}
-pub use Rattle.dm_message.specs.Kinds.{all_kinds, kind_numbered, kind_of, number_of}
+pub use Rattle.dm_message.specs.Kinds.{all_kinds, kind_of, number_of}
 pub use Rattle.dm_message.specs.Lawful.{IsLawfulMessage, IsLawfulWhat, IsPiece, IsServer, IsSize, is_answer}
 pub use Rattle.dm_message.specs.declared.Asker.{Asker}
 pub use Rattle.dm_message.specs.declared.Message.{Message}
@@ -33,14 +33,14 @@ pub use Rattle.dm_message.specs.declared.Outcome.{Outcome}
 pub use Rattle.dm_message.specs.declared.What.{What}
 pub use Rattle.dm_message.specs.declared.What.TheVariants.{Ask, User}
 pub use Rattle.dm_message.specs.declared.kind.MessageKind.{MessageKind}
-pub use Rattle.dm_packet.specs.Field.{Field, both, counted, made, number, read_times, repeated_field, run, tested, ◌>>=◌}
-pub use Rattle.dm_packet.specs.Fields.{addr, are_flags, bit_of, bytes_within, channel, flags, flags_of, len_from, length_within, link, link_of_parts, links, machine, number_of_flags, parts_of_link, pid}
+pub use Rattle.dm_packet.specs.Field.{Field, both, counted, made, number, number_within, read_times, repeated_field, run, tested, version, ◌>>=◌}
+pub use Rattle.dm_packet.specs.Fields.{addr, are_flags, bit_of, bytes_within, channel, flags, flags_of, len_from, link, link_of_parts, links, machine, number_of_flags, parts_of_link, pid}
 pub use Rattle.dm_packet.specs.Lawful.{IsLawfulPacket, IsRoute}
-pub use Rattle.dm_packet.specs.Packets.{head, head_of, head_parts, id, is_named_right, message, number_of_packet_kind, numbered_message, only_packet, opening, opening_of, other_machine, packet_kind, packet_kind_numbered, read_ack}
-pub use Rattle.dm_packet.specs.Packets.{read_data, spell_rest, version, with_head}
+pub use Rattle.dm_packet.specs.Packets.{head, head_of, head_parts, id, message, number_of_packet_kind, numbered_message, only_packet, opening, packet_kind, read_ack}
+pub use Rattle.dm_packet.specs.Packets.{read_data, with_head}
 unfoldable pub use Rattle.dm_packet.specs.Packets.{packet_of, read_message, read_rest, spell_message, spelling}
-pub use Rattle.dm_packet.specs.Whats.{are_blocks_of, ask, asker, at_most, blocks_field, bool_coded, code_of_outcome, coded, create, if_coded, is_server_pid, memory, message_kind, optional, optional_read, optional_spell, outcome_coded}
-pub use Rattle.dm_packet.specs.Whats.{outcome_field, piece_from, pull_block, pull_state, read, read_as, refuse, state, user, write, yes_or_no}
+pub use Rattle.dm_packet.specs.Whats.{ask, asker, blocks_field, code_of_outcome, coded, create, held_if, is_server_pid, memory, message_kind, optional}
+pub use Rattle.dm_packet.specs.Whats.{outcome_field, piece_asked, piece_from, read, read_as, refuse, state, user, write, yes_or_no}
 unfoldable pub use Rattle.dm_packet.specs.Whats.{read_what, spell_what}
 pub use Rattle.dm_packet.specs.Widths.{Fits, FitsAddr, FitsAsker, FitsId, FitsLink, FitsMessage, FitsPacket, FitsPid, FitsWhat}
 pub use Rattle.dm_packet.specs.declared.Packet.{Packet}

@@ -1,8 +1,8 @@
 -- What is read is spelled so, and what is spelled so is read: messages and packets.
 use Rattle.dm_packet.proofs.Names.{◌≡◌, ℕ, ◌^◌, ◌<◌, true, eqb, List, [], ◌++◌, length, Result, Ok, Err, refl, sym, ap, subst, ◌∙◌, append_assoc, arith, ◌≢◌, ◌==◌, IfOk, not, eqb-true, eq-eqb, nat_tests, append-nil, nil_from_length}
 use Rattle.dm_packet.proofs.Names.{IsMachine, MsgId, Message, What, kind_of, IsLawfulMessage, is_answer, PacketError, Packet, Data, Ack, ◌>>=◌, both, number, addr, machine, pid, message_kind, read_what, spell_what, yes_or_no, Head, Opening}
-use Rattle.dm_packet.proofs.Names.{PacketKind, head, head_of, head_parts, id, is_named_right, message, numbered_message, only_packet, opening, opening_of, other_machine, packet_kind, packet_of, read_ack, read_data, read_message, read_rest}
-use Rattle.dm_packet.proofs.Names.{spell_message, spell_rest, spelling, version, with_head, IsLawfulPacket, IsRoute, Fits, FitsId, FitsMessage, FitsPacket}
+use Rattle.dm_packet.proofs.Names.{PacketKind, head, head_of, head_parts, id, message, numbered_message, only_packet, opening, packet_kind, packet_of, read_ack, read_data, read_message, read_rest}
+use Rattle.dm_packet.proofs.Names.{bool_eq, Bool, Field, tested, spell_message, spelling, version, with_head, IsLawfulPacket, IsRoute, Fits, FitsId, FitsMessage, FitsPacket}
 use Rattle.dm_packet.specs.declared.PacketError.TheVariants as bad
 use Rattle.dm_packet.specs.declared.front.PacketKind.TheVariants as kinds
 use Rattle.dm_packet.proofs.Numbers.{IsBytes}
@@ -21,6 +21,9 @@ id_is =
     IsField-made (both pid (λ _. both (number 4) (λ _. yes_or_no bad.Answer))) (λ p. IsSpelledPid p.0 × (Fits 4 p.1.0 × Unit {0})) parts (λ i. record { from = i.0; n = i.1.0; answer = i.1.1 }) (λ i. (i.from, (i.n, i.answer))) IsSpelledId
     (λ i fits. (refl, (fits.0.0, (fits.0.1, fits.1.0))))
     (λ i fits. (((fits.0, fits.1.0), (fits.1.1, tt)), refl))
+
+abbrev is_named_right : Head → Bool
+is_named_right h = bool_eq h.id.answer (is_answer h.kind)
 
 abbrev IsSpelledHead : Head → Type 0
 IsSpelledHead h = IsSpelledId h.id × (IsSpelledAddr h.to × (IsSpelledAddr h.sender × Unit {0}))
@@ -84,6 +87,9 @@ message_is = record { takes = message_takes; again = message_again }
 abbrev IsSpelledOpening : Opening → Type 0
 IsSpelledOpening o = IsRoute o.from o.to
 
+abbrev other_machine : ℕ → Field ℕ
+other_machine from = tested machine (λ to. not (to == from)) bad.Machine
+
 not_same : (a b : ℕ) → not (eqb b a) ≡ true → b ≢ a
 not_same a b e same = absurd (grind (arith, nat_tests))
 
@@ -92,12 +98,12 @@ not_same_test a b apart = grind (arith, nat_tests)
 
 opening_is : IsField opening IsSpelledOpening
 opening_is =
-    let four = IsField-for version (λ v. (v < 256 ^ 1) × (eqb v 4 ≡ true)) (λ v. v ≡ 4) (IsField-tested (number 1) (λ v. v < 256 ^ 1) (IsField-number 1) (λ v. v == 4) bad.Version) (λ v fits. eqb-true v 4 fits.1) (λ v e. (omega (arith, e), eq-eqb v 4 e)) in
+    let four = IsField-for (version 4) (λ v. (v < 256 ^ 1) × (eqb v 4 ≡ true)) (λ v. v ≡ 4) (IsField-tested (number 1) (λ v. v < 256 ^ 1) (IsField-number 1) (λ v. v == 4) bad.Version) (λ v fits. eqb-true v 4 fits.1) (λ v e. (omega (arith, e), eq-eqb v 4 e)) in
     let others = λ (a : ℕ). IsField-for (other_machine a) (λ b. IsMachine b × (not (eqb b a) ≡ true)) (λ b. IsMachine b × (b ≢ a)) (IsField-tested machine IsMachine machine_is (λ b. not (b == a)) bad.Machine) (λ b fits. (fits.0, not_same a b fits.1)) (λ b fits. (fits.0, not_same_test a b fits.1)) in
     let from_machines = IsField-both machine IsMachine machine_is other_machine (λ a b. IsMachine b × (b ≢ a)) others in
     let from_kind = IsField-both packet_kind (λ _. Unit {0}) packet_kind_is (λ _. both machine other_machine) (λ _ m. IsMachine m.0 × (IsMachine m.1 × (m.1 ≢ m.0))) (λ _. from_machines) in
-    let parts = IsField-both version (λ v. v ≡ 4) four (λ _. both packet_kind (λ _. both machine other_machine)) (λ _ o. Unit {0} × (IsMachine o.1.0 × (IsMachine o.1.1 × (o.1.1 ≢ o.1.0)))) (λ _. from_kind) in
-    IsField-made (both version (λ _. both packet_kind (λ _. both machine other_machine))) (λ o. (o.0 ≡ 4) × (Unit {0} × (IsMachine o.1.1.0 × (IsMachine o.1.1.1 × (o.1.1.1 ≢ o.1.1.0))))) parts
+    let parts = IsField-both (version 4) (λ v. v ≡ 4) four (λ _. both packet_kind (λ _. both machine other_machine)) (λ _ o. Unit {0} × (IsMachine o.1.0 × (IsMachine o.1.1 × (o.1.1 ≢ o.1.0)))) (λ _. from_kind) in
+    IsField-made (both (version 4) (λ _. both packet_kind (λ _. both machine other_machine))) (λ o. (o.0 ≡ 4) × (Unit {0} × (IsMachine o.1.1.0 × (IsMachine o.1.1.1 × (o.1.1.1 ≢ o.1.1.0))))) parts
     (λ o. record { kind = o.1.0; from = o.1.1.0; to = o.1.1.1 }) (λ o. (4, (o.kind, (o.from, o.to)))) IsSpelledOpening
     (λ o fits. ((λ i. (sym fits.0 i, o.1)), record { from = fits.1.1.0; to = fits.1.1.1.0; apart = fits.1.1.1.1 }))
     (λ o fits. ((refl, (tt, (fits.from, (fits.to, fits.apart)))), refl))
@@ -106,6 +112,19 @@ opening_is =
 
 numbered_message_is : IsField numbered_message (λ x. Fits 4 x.0 × IsSpelledMessage x.1)
 numbered_message_is = IsField-both (number 4) (Fits 4) (IsField-number 4) (λ _. message) (λ _. IsSpelledMessage) (λ _. message_is)
+
+abbrev opening_of : Packet → Opening
+opening_of (Data from to seq m) = record { kind = kinds.Data; from = from; to = to }
+opening_of (Ack from to count) = record { kind = kinds.Ack; from = from; to = to }
+
+abbrev spell_rest : Packet → List ℕ
+spell_rest (Data from to seq m) = (number 4).spell seq ++ spell_message m
+spell_rest (Ack from to count) = (number 4).spell count
+
+spelled_parts : (p : Packet) → opening.spell (opening_of p) ++ spell_rest p ≡ spelling p
+unfolding spelling
+spelled_parts (Data from to seq m) = refl
+spelled_parts (Ack from to count) = refl
 
 record TookRest (o : Opening) (bytes : List ℕ) (p : Packet) (rest : List ℕ) : Type 0 where
   parts : bytes ≡ spell_rest p ++ rest
@@ -134,7 +153,7 @@ rest_takes kinds.Ack = ack_takes
 
 -- what some bytes are read as is lawful, and they are its spelling
 pub packet_takes : (bytes : List ℕ) (p : Packet) → IsBytes bytes → packet_of bytes ≡ Ok p → (bytes ≡ spelling p) × IsLawfulPacket p × FitsPacket p
-unfolding packet_of spelling
+unfolding packet_of
 packet_takes bytes p h e =
     let o = bind_ok (opening.read bytes) (λ o. read_rest o.0.kind o.0.from o.0.to o.1 >>= only_packet) p e in
     let r = bind_ok (read_rest o.0.0.kind o.0.0.from o.0.0.to o.0.1) only_packet p o.2 in
@@ -147,7 +166,8 @@ packet_takes bytes p h e =
     parts
     ∙ ap (λ (rest : List ℕ). (opening.spell o.0.0 ++ spell_rest r.0.0) ++ rest) nothing
     ∙ append-nil (opening.spell o.0.0 ++ spell_rest r.0.0)
-    ∙ ap (λ (front : Opening). opening.spell front ++ spell_rest r.0.0) (sym u.front) in
+    ∙ ap (λ (front : Opening). opening.spell front ++ spell_rest r.0.0) (sym u.front)
+    ∙ spelled_parts r.0.0 in
     subst (λ (q : Packet). (bytes ≡ spelling q) × IsLawfulPacket q × FitsPacket q) g.1 (whole, u.lawful t.fits, u.fits)
 
 -- the spelling of a lawful packet is read as that packet

@@ -1,14 +1,14 @@
 -- What the messages of each kind carry is read as it is spelled.
-use Rattle.dm_packet.proofs.Names.{◌≡◌, ℕ, ◌+◌, ◌^◌, ◌<◌, ◌≤◌, Bool, true, false, eqb, List, [], ◌∷◌, ◌++◌, length, Option, None, Some, Result, Ok, refl, sym, ap, subst, ◌∙◌, arith, inl, inr, ◌↔◌, ◌&&◌, nat_le, All, AllByRecursion, IfSome}
+use Rattle.dm_packet.proofs.Names.{◌≡◌, ℕ, ◌+◌, ◌^◌, ◌<◌, ◌≤◌, Bool, true, false, eqb, List, [], ◌∷◌, ◌++◌, length, Option, None, Some, Result, Ok, refl, sym, ap, subst, ◌∙◌, arith, inl, inr, ◌↔◌, ◌&&◌, nat_le, ◌==◌, All, AllByRecursion, IfSome}
 use Rattle.dm_packet.proofs.Names.{and_from, and_parts, eq-eqb, eqb-true, le-leb, leb-true, nat_tests, All-from_recursion, recursion_from_All, Pid, Link, IsMachine, IsLawfulAddr, IsLawfulEnclosed, Asker, What, MessageKind, bool_eq, kind_of}
-use Rattle.dm_packet.proofs.Names.{IsLawfulWhat, IsPiece, IsServer, IsSize, PacketError, ◌>>=◌, Field, both, counted, number, run, addr, bytes_within, channel, links, machine, pid, are_blocks_of, ask, asker, at_most, blocks_field, create}
-use Rattle.dm_packet.proofs.Names.{is_server_pid, memory, optional, outcome_field, piece_from, pull_block, pull_state, read, read_as, read_what, refuse, spell_what, state, user, write, yes_or_no, Fits, FitsAsker, FitsLink, FitsWhat}
+use Rattle.dm_packet.proofs.Names.{IsLawfulWhat, IsPiece, IsServer, IsSize, PacketError, ◌>>=◌, Field, both, counted, number, run, addr, bytes_within, channel, links, machine, number_within, pid, ask, asker, blocks_field, create}
+use Rattle.dm_packet.proofs.Names.{is_server_pid, memory, optional, outcome_field, piece_asked, piece_from, read, read_as, read_what, refuse, spell_what, state, user, write, yes_or_no, Fits, FitsAsker, FitsLink, FitsWhat}
 use Rattle.dm_message.specs.declared.What.TheVariants as what
 use Rattle.dm_message.specs.declared.kind.MessageKind.TheVariants as kind
 use Rattle.dm_packet.specs.declared.PacketError.TheVariants as bad
 use Rattle.dm_packet.proofs.Numbers.{IsBytes}
 use Rattle.dm_packet.proofs.Field.{IsField, IsField-both, IsField-counted, IsField-for, IsField-made, IsField-number, IsField-run, IsField-tested, bind_ok, ok_is}
-use Rattle.dm_packet.proofs.Fields.{IsSpelledAddr, IsSpelledLink, IsSpelledPid, addr_is, at_most_is, bytes_within_is, channel_is, links_is, machine_is, pid_is, run_is}
+use Rattle.dm_packet.proofs.Fields.{IsSpelledAddr, IsSpelledLink, IsSpelledPid, addr_is, most_within_is, bytes_within_is, channel_is, links_is, machine_is, pid_is, run_is}
 use Rattle.dm_packet.proofs.Coded.{optional_is, outcome_is, yes_or_no_is}
 
 -- the fields that pieces, sizes and askers have
@@ -44,6 +44,9 @@ both_or_neither : (a b : Bool) (P Q : Type 0) → (a ≡ true → P) → (P → 
 both_or_neither true b P Q ap pa bq qb h = sym (qb (h.0 (ap refl)))
 both_or_neither false true P Q ap pa bq qb h = pa (h.1 (bq refl))
 both_or_neither false false P Q ap pa bq qb h = refl
+
+abbrev are_blocks_of : Pid → ℕ → Bool
+are_blocks_of p n = nat_le n 256 && bool_eq (n == 0) (is_server_pid p)
 
 blocks_of_is : (p : Pid) → IsField (blocks_field p) (IsSize p)
 blocks_of_is p =
@@ -103,20 +106,17 @@ ask_is =
 
 refuse_is : IsField refuse (λ r. IsSpelledPid r.0 × ((r.1.0 ≤ 64) × (r.1.1 ≤ 4096)))
 refuse_is =
-    let room = IsField-both (at_most 1 64) (λ n. n ≤ 64) (at_most_is 1 64 bad.Limit (omega arith)) (λ _. at_most 2 4096) (λ _ n. n ≤ 4096) (λ _. at_most_is 2 4096 bad.Limit (omega arith)) in
-    IsField-both pid IsSpelledPid pid_is (λ _. both (at_most 1 64) (λ _. at_most 2 4096)) (λ _ r. (r.0 ≤ 64) × (r.1 ≤ 4096)) (λ _. room)
+    let room = IsField-both (number_within 1 0 64) (λ n. n ≤ 64) (most_within_is 1 64 (omega arith)) (λ _. number_within 2 0 4096) (λ _ n. n ≤ 4096) (λ _. most_within_is 2 4096 (omega arith)) in
+    IsField-both pid IsSpelledPid pid_is (λ _. both (number_within 1 0 64) (λ _. number_within 2 0 4096)) (λ _ r. (r.0 ≤ 64) × (r.1 ≤ 4096)) (λ _. room)
 
-pull_state_is : IsField pull_state (λ p. IsSpelledPid p.0 × Fits 4 p.1)
-pull_state_is = IsField-both pid IsSpelledPid pid_is (λ _. number 4) (λ _. Fits 4) (λ _. IsField-number 4)
+piece_asked_is : (size : ℕ) → IsField (piece_asked size) (λ p. IsSpelledPid p.0 × Fits size p.1)
+piece_asked_is size = IsField-both pid IsSpelledPid pid_is (λ _. number size) (λ _. Fits size) (λ _. IsField-number size)
 
 state_is : IsField state (λ s. IsSpelledPid s.0 × (Fits 4 s.1.0 × (Unit {0} × IsBodyOf 1 512 s.1.1.1)))
 state_is =
     let from_last = IsField-both (yes_or_no bad.Flags) (λ _. Unit {0}) (yes_or_no_is bad.Flags) (λ _. bytes_within 1 512) (λ _. IsBodyOf 1 512) (λ _. bytes_within_is 1 512 (omega arith)) in
     let from_chunk = IsField-both (number 4) (Fits 4) (IsField-number 4) (λ _. both (yes_or_no bad.Flags) (λ _. bytes_within 1 512)) (λ _ s. Unit {0} × IsBodyOf 1 512 s.1) (λ _. from_last) in
     IsField-both pid IsSpelledPid pid_is (λ _. both (number 4) (λ _. both (yes_or_no bad.Flags) (λ _. bytes_within 1 512))) (λ _ s. Fits 4 s.0 × (Unit {0} × IsBodyOf 1 512 s.1.1)) (λ _. from_chunk)
-
-pull_block_is : IsField pull_block (λ p. IsSpelledPid p.0 × Fits 1 p.1)
-pull_block_is = IsField-both pid IsSpelledPid pid_is (λ _. number 1) (λ _. Fits 1) (λ _. IsField-number 1)
 
 memory_is : IsField memory (λ m. IsSpelledPid m.0 × (Fits 1 m.1.0 × (length m.1.1 ≡ 256)))
 memory_is =
@@ -214,9 +214,9 @@ what_takes kind.Migrate = machine_takes kind.Migrate what.Migrate (λ m. refl) (
 what_takes kind.Update = as_takes kind.Update addr IsSpelledAddr addr_is what.Update (λ x. refl) (λ x. refl) (λ x fits. fits)
 what_takes kind.Ask = as_takes kind.Ask ask (λ a. IsSpelledPid a.0 × (IsSize a.0 a.1.0 × (Fits 4 a.1.1.0 × (Fits 4 a.1.1.1.0 × IfSome a.1.1.1.1 IsSpelledAsker)))) ask_is (λ x. what.Ask x.0 x.1.0 x.1.1.0 x.1.1.1.0 x.1.1.1.1) (λ x. refl) (λ x. refl) (λ x fits. ((fits.0.0, fits.1.0, lawful_asker x.1.1.1.1 fits.1.1.1.1), (fits.0.1, fits.1.1.0, fits.1.1.1.0, fitting_asker x.1.1.1.1 fits.1.1.1.1)))
 what_takes kind.Refuse = as_takes kind.Refuse refuse (λ r. IsSpelledPid r.0 × ((r.1.0 ≤ 64) × (r.1.1 ≤ 4096))) refuse_is (λ x. what.Refuse x.0 x.1.0 x.1.1) (λ x. refl) (λ x. refl) (λ x fits. ((fits.0.0, fits.1.0, fits.1.1), fits.0.1))
-what_takes kind.PullState = as_takes kind.PullState pull_state (λ p. IsSpelledPid p.0 × Fits 4 p.1) pull_state_is (λ x. what.PullState x.0 x.1) (λ x. refl) (λ x. refl) (λ x fits. (fits.0.0, (fits.0.1, fits.1)))
+what_takes kind.PullState = as_takes kind.PullState (piece_asked 4) (λ p. IsSpelledPid p.0 × Fits 4 p.1) (piece_asked_is 4) (λ x. what.PullState x.0 x.1) (λ x. refl) (λ x. refl) (λ x fits. (fits.0.0, (fits.0.1, fits.1)))
 what_takes kind.State = as_takes kind.State state (λ s. IsSpelledPid s.0 × (Fits 4 s.1.0 × (Unit {0} × IsBodyOf 1 512 s.1.1.1))) state_is (λ x. what.State x.0 x.1.0 x.1.1.0 (record { items = x.1.1.1 })) (λ x. refl) (λ x. refl) (λ x fits. ((fits.0.0, fits.1.1.1.0, fits.1.1.1.1), (fits.0.1, fits.1.0)))
-what_takes kind.PullBlock = as_takes kind.PullBlock pull_block (λ p. IsSpelledPid p.0 × Fits 1 p.1) pull_block_is (λ x. what.PullBlock x.0 x.1) (λ x. refl) (λ x. refl) (λ x fits. (fits.0.0, (fits.0.1, fits.1)))
+what_takes kind.PullBlock = as_takes kind.PullBlock (piece_asked 1) (λ p. IsSpelledPid p.0 × Fits 1 p.1) (piece_asked_is 1) (λ x. what.PullBlock x.0 x.1) (λ x. refl) (λ x. refl) (λ x fits. (fits.0.0, (fits.0.1, fits.1)))
 what_takes kind.Memory = as_takes kind.Memory memory (λ m. IsSpelledPid m.0 × (Fits 1 m.1.0 × (length m.1.1 ≡ 256))) memory_is (λ x. what.Memory x.0 x.1.0 x.1.1) (λ x. refl) (λ x. refl) (λ x fits. (fits.0.0, (fits.0.1, fits.1.0, fits.1.1)))
 what_takes kind.AllTaken = pid_takes kind.AllTaken what.AllTaken (λ p. refl) (λ p. refl) (λ p fits. fits)
 what_takes kind.Restart = pid_takes kind.Restart what.Restart (λ p. refl) (λ p. refl) (λ p fits. fits)
@@ -246,9 +246,9 @@ what_again (what.Migrate m) rest lawful fits = as_again machine IsMachine machin
 what_again (what.Update about) rest lawful fits = as_again addr IsSpelledAddr addr_is what.Update about rest (lawful, fits)
 what_again (what.Ask p blocks moves size who) rest lawful fits = as_again ask (λ a. IsSpelledPid a.0 × (IsSize a.0 a.1.0 × (Fits 4 a.1.1.0 × (Fits 4 a.1.1.1.0 × IfSome a.1.1.1.1 IsSpelledAsker)))) ask_is (λ x. what.Ask x.0 x.1.0 x.1.1.0 x.1.1.1.0 x.1.1.1.1) (p, (blocks, (moves, (size, who)))) rest ((lawful.0, fits.0), (lawful.1, (fits.1, (fits.2, spelled_asker who lawful.2 fits.3))))
 what_again (what.Refuse p slots blocks) rest lawful fits = as_again refuse (λ r. IsSpelledPid r.0 × ((r.1.0 ≤ 64) × (r.1.1 ≤ 4096))) refuse_is (λ x. what.Refuse x.0 x.1.0 x.1.1) (p, (slots, blocks)) rest ((lawful.0, fits), (lawful.1, lawful.2))
-what_again (what.PullState p chunk) rest lawful fits = as_again pull_state (λ p. IsSpelledPid p.0 × Fits 4 p.1) pull_state_is (λ x. what.PullState x.0 x.1) (p, chunk) rest ((lawful, fits.0), fits.1)
+what_again (what.PullState p chunk) rest lawful fits = as_again (piece_asked 4) (λ p. IsSpelledPid p.0 × Fits 4 p.1) (piece_asked_is 4) (λ x. what.PullState x.0 x.1) (p, chunk) rest ((lawful, fits.0), fits.1)
 what_again (what.State p chunk last bytes) rest lawful fits = as_again state (λ s. IsSpelledPid s.0 × (Fits 4 s.1.0 × (Unit {0} × IsBodyOf 1 512 s.1.1.1))) state_is (λ x. what.State x.0 x.1.0 x.1.1.0 (record { items = x.1.1.1 })) (p, (chunk, (last, bytes.items))) rest ((lawful.0, fits.0), (fits.1, (tt, (lawful.1, lawful.2))))
-what_again (what.PullBlock p block) rest lawful fits = as_again pull_block (λ p. IsSpelledPid p.0 × Fits 1 p.1) pull_block_is (λ x. what.PullBlock x.0 x.1) (p, block) rest ((lawful, fits.0), fits.1)
+what_again (what.PullBlock p block) rest lawful fits = as_again (piece_asked 1) (λ p. IsSpelledPid p.0 × Fits 1 p.1) (piece_asked_is 1) (λ x. what.PullBlock x.0 x.1) (p, block) rest ((lawful, fits.0), fits.1)
 what_again (what.Memory p block bytes) rest lawful fits = as_again memory (λ m. IsSpelledPid m.0 × (Fits 1 m.1.0 × (length m.1.1 ≡ 256))) memory_is (λ x. what.Memory x.0 x.1.0 x.1.1) (p, (block, bytes)) rest ((lawful, fits.0), (fits.1, fits.2))
 what_again (what.AllTaken p) rest lawful fits = as_again pid IsSpelledPid pid_is what.AllTaken p rest (lawful, fits)
 what_again (what.Restart p) rest lawful fits = as_again pid IsSpelledPid pid_is what.Restart p rest (lawful, fits)

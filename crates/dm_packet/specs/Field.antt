@@ -1,10 +1,10 @@
 -- Fields of a packet, and how they are put together.
-use Rattle.std.specs.Prelude.{ℕ, zero, suc, Bool, List, [], ◌∷◌, ◌++◌, length, take, drop, nat_lt, if◌then◌else◌, Ok, Err}
+use Rattle.std.specs.Prelude.{ℕ, zero, suc, Bool, List, [], ◌∷◌, ◌++◌, length, take, drop, nat_le, nat_lt, ◌==◌, ◌&&◌, if◌then◌else◌, Ok, Err}
 use Rattle.std.specs.declared.result.Result.{Result}
 use Rattle.std.specs.List.{flat_map}
 use Rattle.byteorder.specs.Endian.{big_bytes, big_number}
 use Rattle.dm_packet.specs.declared.PacketError.{PacketError}
-use Rattle.dm_packet.specs.declared.PacketError.TheVariants.{Missing}
+use Rattle.dm_packet.specs.declared.PacketError.TheVariants.{Limit, Missing, Version}
 
 infixl 10 ◌>>=◌
 abbrev pub ◌>>=◌ : {A B : Type 0} → Result A PacketError → (A → Result B PacketError) → Result B PacketError
@@ -36,6 +36,14 @@ tested f test rule = record {
   spell = f.spell;
   read = λ bytes. f.read bytes >>= λ x. if test x.0 then Ok x else Err rule;
 }
+
+-- a number of so many bytes between two limits
+abbrev pub number_within : ℕ → ℕ → ℕ → Field ℕ
+number_within size least most = tested (number size) (λ n. nat_le least n && nat_le n most) Limit
+
+-- the version of a format
+abbrev pub version : ℕ → Field ℕ
+version n = tested (number 1) (λ v. v == n) Version
 
 -- one field, and another, whose form may hang on the first
 abbrev pub both : {X Y : Type 0} → Field X → (X → Field Y) → Field (X × Y)

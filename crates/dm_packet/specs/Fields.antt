@@ -6,7 +6,7 @@ use Rattle.dm_link.specs.declared.Kind.{Kind}
 use Rattle.dm_link.specs.declared.Kind.TheVariants.{General, Reply}
 use Rattle.dm_link.specs.declared.Link.{Link}
 use Rattle.dm_packet.specs.declared.PacketError.TheVariants as bad
-use Rattle.dm_packet.specs.Field.{Field, number, run, tested, both, made, repeated_field, counted}
+use Rattle.dm_packet.specs.Field.{Field, number, number_within, run, tested, both, made, repeated_field, counted}
 
 -- a machine, 0 to 15
 abbrev pub machine : Field ℕ
@@ -43,12 +43,12 @@ number_of_flags f = kind_bit f.0 + 4 * bit_of f.1 + 8 * bit_of f.2
 abbrev pub flags : Field (Kind × Bool × Bool)
 flags = made (tested (number 1) are_flags bad.Flags) flags_of number_of_flags
 
--- a length that keeps what begins at base within the largest memory
-abbrev pub len_from : ℕ → Field ℕ
-len_from base = tested (number 4) (λ len. nat_le (base + len) 65536) bad.Limit
+-- a length that keeps what begins at base within a memory of so many bytes
+abbrev pub len_from : ℕ → ℕ → Field ℕ
+len_from size base = tested (number 4) (λ len. nat_le (base + len) size) bad.Limit
 
 abbrev pub channel : Field ℕ
-channel = tested (number 1) (λ c. nat_le c 31) bad.Limit
+channel = number_within 1 0 31
 
 -- an enclosed link: its address, flags, code, channel, and the first byte and the length of its area
 abbrev pub LinkParts : Type 0
@@ -68,16 +68,12 @@ abbrev pub parts_of_link : Link → LinkParts
 parts_of_link l = (l.addr, ((l.kind, l.area.read, l.area.write), (l.code, (l.channel, (l.area.base, l.area.len)))))
 
 abbrev pub link : Field Link
-link = made (both addr (λ _. both flags (λ _. both (number 4) (λ _. both channel (λ _. both (number 4) len_from))))) link_of_parts parts_of_link
+link = made (both addr (λ _. both flags (λ _. both (number 4) (λ _. both channel (λ _. both (number 4) (len_from 65536)))))) link_of_parts parts_of_link
 
 -- at most so many links
 abbrev pub links : ℕ → Field (List Link)
-links most = counted (tested (number 1) (λ n. nat_le n most) bad.Limit) (λ n. repeated_field link n)
-
--- a number of bytes between two limits
-abbrev pub length_within : ℕ → ℕ → Field ℕ
-length_within least most = tested (number 2) (λ n. nat_le least n && nat_le n most) bad.Limit
+links most = counted (number_within 1 0 most) (λ n. repeated_field link n)
 
 -- bytes behind their number
 abbrev pub bytes_within : ℕ → ℕ → Field (List ℕ)
-bytes_within least most = counted (length_within least most) run
+bytes_within least most = counted (number_within 2 least most) run

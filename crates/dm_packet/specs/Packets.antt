@@ -1,5 +1,5 @@
 -- Packets: the one spelling of each, and what some bytes spell, or the first rule that they break.
-use Rattle.std.specs.Prelude.{ℕ, Bool, List, ◌++◌, length, ◌==◌, not, if◌then◌else◌, Option, None, Some, Ok, Err}
+use Rattle.std.specs.Prelude.{ℕ, List, [], ◌∷◌, ◌++◌, length, ◌==◌, not, if◌then◌else◌, Ok, Err}
 use Rattle.std.specs.declared.result.Result.{Result}
 use Rattle.dm_message.specs.declared.MsgId.{MsgId}
 use Rattle.dm_message.specs.declared.Message.{Message}
@@ -15,7 +15,7 @@ use Rattle.dm_packet.specs.declared.front.Head.{Head}
 use Rattle.dm_packet.specs.declared.front.Opening.{Opening}
 use Rattle.dm_packet.specs.declared.front.PacketKind.{PacketKind}
 use Rattle.dm_packet.specs.declared.front.PacketKind.TheVariants as kinds
-use Rattle.dm_packet.specs.Field.{Field, ◌>>=◌, number, tested, both, made}
+use Rattle.dm_packet.specs.Field.{Field, ◌>>=◌, number, tested, version, both, made}
 use Rattle.dm_packet.specs.Fields.{addr, machine, pid}
 use Rattle.dm_packet.specs.Whats.{coded, message_kind, read_what, spell_what, yes_or_no}
 
@@ -27,11 +27,8 @@ abbrev pub head_parts : Field Head
 head_parts = made (both id (λ _. both addr (λ _. both addr (λ _. message_kind)))) (λ h. record { id = h.0; to = h.1.0; sender = h.1.1.0; kind = h.1.1.1 }) (λ h. (h.id, (h.to, (h.sender, h.kind))))
 
 -- the name says that it is an answer where the kind is that of an answer
-abbrev pub is_named_right : Head → Bool
-is_named_right h = bool_eq h.id.answer (is_answer h.kind)
-
 abbrev pub head : Field Head
-head = tested head_parts is_named_right bad.Answer
+head = tested head_parts (λ h. bool_eq h.id.answer (is_answer h.kind)) bad.Answer
 
 abbrev pub head_of : Message → Head
 head_of m = record { id = m.id; to = m.to; sender = m.sender; kind = kind_of m.what }
@@ -49,41 +46,26 @@ read_message bytes = head.read bytes >>= λ h. read_what h.0.kind h.1 >>= λ w. 
 abbrev pub message : Field Message
 message = record { spell = spell_message; read = read_message }
 
--- the version, whether it is an acknowledgement, and the two machines, which differ
-abbrev pub version : Field ℕ
-version = tested (number 1) (λ v. v == 4) bad.Version
-
-abbrev pub packet_kind_numbered : ℕ → Option PacketKind
-packet_kind_numbered n = if n == 1 then Some kinds.Data else if n == 2 then Some kinds.Ack else None
-
+-- whether it is an acknowledgement
 abbrev pub number_of_packet_kind : PacketKind → ℕ
 number_of_packet_kind kinds.Data = 1
 number_of_packet_kind kinds.Ack = 2
 
 abbrev pub packet_kind : Field PacketKind
-packet_kind = coded packet_kind_numbered number_of_packet_kind bad.PacketKind
+packet_kind = coded (kinds.Data ∷ kinds.Ack ∷ []) number_of_packet_kind bad.PacketKind
 
-abbrev pub other_machine : ℕ → Field ℕ
-other_machine from = tested machine (λ to. not (to == from)) bad.Machine
-
+-- the version, the kind, and the two machines, which differ
 abbrev pub opening : Field Opening
-opening = made (both version (λ _. both packet_kind (λ _. both machine other_machine))) (λ o. record { kind = o.1.0; from = o.1.1.0; to = o.1.1.1 }) (λ o. (4, (o.kind, (o.from, o.to))))
-
-abbrev pub opening_of : Packet → Opening
-opening_of (Data from to seq m) = record { kind = kinds.Data; from = from; to = to }
-opening_of (Ack from to count) = record { kind = kinds.Ack; from = from; to = to }
+opening = made (both (version 4) (λ _. both packet_kind (λ _. both machine (λ from. tested machine (λ to. not (to == from)) bad.Machine)))) (λ o. record { kind = o.1.0; from = o.1.1.0; to = o.1.1.1 }) (λ o. (4, (o.kind, (o.from, o.to))))
 
 -- behind it stands a number, and in a data packet a message
 abbrev pub numbered_message : Field (ℕ × Message)
 numbered_message = both (number 4) (λ _. message)
 
-abbrev pub spell_rest : Packet → List ℕ
-spell_rest (Data from to seq m) = (number 4).spell seq ++ spell_message m
-spell_rest (Ack from to count) = (number 4).spell count
-
 -- the one spelling of a packet
 unfoldable pub spelling : Packet → List ℕ
-spelling p = opening.spell (opening_of p) ++ spell_rest p
+spelling (Data from to seq m) = opening.spell (record { kind = kinds.Data; from = from; to = to }) ++ (number 4).spell seq ++ spell_message m
+spelling (Ack from to count) = opening.spell (record { kind = kinds.Ack; from = from; to = to }) ++ (number 4).spell count
 
 abbrev pub read_data : ℕ → ℕ → List ℕ → Result (Packet × List ℕ) PacketError
 read_data from to bytes = numbered_message.read bytes >>= λ x. Ok (Data from to x.0.0 x.0.1, x.1)

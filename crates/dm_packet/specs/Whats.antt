@@ -1,6 +1,7 @@
 -- What the messages of each kind carry.
-use Rattle.std.specs.Prelude.{ℕ, ◌+◌, Bool, true, false, List, [], ◌∷◌, nat_le, ◌==◌, ◌&&◌, ◌||◌, if◌then◌else◌, Option, None, Some, Ok, Err}
+use Rattle.std.specs.Prelude.{ℕ, ◌+◌, Bool, true, false, List, [], ◌∷◌, nat_le, ◌==◌, ◌&&◌, ◌||◌, if◌then◌else◌, Option, None, Some, is_some, ok_or, option_map, find, Ok}
 use Rattle.std.specs.declared.result.Result.{Result}
+use Rattle.std.specs.Option.{option_map_or}
 use Rattle.dm_link.specs.declared.Pid.{Pid}
 use Rattle.dm_link.specs.declared.Link.{Link}
 use Rattle.dm_message.specs.declared.Asker.{Asker}
@@ -12,50 +13,36 @@ use Rattle.dm_message.specs.declared.kind.MessageKind.{MessageKind}
 use Rattle.dm_message.specs.declared.kind.MessageKind.TheVariants as kind
 use Rattle.dm_message.specs.Ids.{bool_eq}
 pub use Rattle.dm_message.specs.Outcomes.{code_of_outcome}
-use Rattle.dm_message.specs.Kinds.{kind_numbered, number_of}
+use Rattle.dm_message.specs.Kinds.{all_kinds, number_of}
 use Rattle.dm_packet.specs.declared.PacketError.{PacketError}
 use Rattle.dm_packet.specs.declared.PacketError.TheVariants as bad
-use Rattle.dm_packet.specs.Field.{Field, ◌>>=◌, number, run, tested, both, made, counted}
+use Rattle.dm_packet.specs.Field.{Field, ◌>>=◌, number, number_within, run, tested, both, made, counted}
 use Rattle.dm_packet.specs.Fields.{addr, bit_of, bytes_within, channel, links, machine, pid}
 
-abbrev pub if_coded : {X : Type 0} → Option X → List ℕ → PacketError → Result (X × List ℕ) PacketError
-if_coded None rest rule = Err rule
-if_coded (Some x) rest rule = Ok (x, rest)
-
--- a value that a byte stands for, or a rule that is broken
-abbrev pub coded : {X : Type 0} → (ℕ → Option X) → (X → ℕ) → PacketError → Field X
-coded value code rule = record {
+-- one of these values, each of which a byte stands for, or a rule that is broken
+abbrev pub coded : {X : Type 0} → List X → (X → ℕ) → PacketError → Field X
+coded all code rule = record {
   spell = λ x. (number 1).spell (code x);
-  read = λ bytes. (number 1).read bytes >>= λ n. if_coded (value n.0) n.1 rule;
+  read = λ bytes. (number 1).read bytes >>= λ n. ok_or (option_map (λ x. (x, n.1)) (find (λ x. n.0 == code x) all)) rule;
 }
-
-abbrev pub bool_coded : ℕ → Option Bool
-bool_coded n = if n == 0 then Some false else if n == 1 then Some true else None
 
 -- a yes or no, or a rule that is broken
 abbrev pub yes_or_no : PacketError → Field Bool
-yes_or_no rule = coded bool_coded bit_of rule
-
-abbrev pub outcome_coded : ℕ → Option Outcome
-outcome_coded n = if n == 0 then Some ends.Done else if n == 1 then Some ends.Stayed else if n == 3 then Some ends.Ended else None
+yes_or_no rule = coded (false ∷ true ∷ []) bit_of rule
 
 abbrev pub message_kind : Field MessageKind
-message_kind = coded kind_numbered number_of bad.MessageKind
+message_kind = coded all_kinds number_of bad.MessageKind
+
+-- a value, if there is one
+abbrev pub held_if : {X : Type 0} → Field X → Bool → Field (Option X)
+held_if f holds = record {
+  spell = λ o. option_map_or f.spell o [];
+  read = λ bytes. if holds then (f.read bytes >>= λ x. Ok (Some x.0, x.1)) else Ok (None, bytes);
+}
 
 -- a yes and a value, or a no
-abbrev pub optional_spell : {X : Type 0} → Field X → Option X → List ℕ
-optional_spell f None = 0 ∷ []
-optional_spell f (Some x) = 1 ∷ f.spell x
-
-abbrev pub optional_read : {X : Type 0} → Field X → Bool → List ℕ → Result (Option X × List ℕ) PacketError
-optional_read f false bytes = Ok (None, bytes)
-optional_read f true bytes = f.read bytes >>= λ x. Ok (Some x.0, x.1)
-
 abbrev pub optional : {X : Type 0} → Field X → Field (Option X)
-optional f = record {
-  spell = optional_spell f;
-  read = λ bytes. (yes_or_no bad.Flags).read bytes >>= λ b. optional_read f b.0 b.1;
-}
+optional f = made (both (yes_or_no bad.Flags) (held_if f)) (λ p. p.1) (λ o. (is_some o, o))
 
 abbrev pub asker : Field Asker
 asker = made (both (number 4) (λ _. addr)) (λ a. record { n = a.0; addr = a.1 }) (λ a. (a.n, a.addr))
@@ -68,14 +55,8 @@ abbrev pub is_server_pid : Pid → Bool
 is_server_pid p = (p.home == 0) && ((p.num == 1) || (p.num == 2))
 
 -- a process's blocks, 1 to 256; a server has none
-abbrev pub are_blocks_of : Pid → ℕ → Bool
-are_blocks_of p n = nat_le n 256 && bool_eq (n == 0) (is_server_pid p)
-
 abbrev pub blocks_field : Pid → Field ℕ
-blocks_field p = tested (number 2) (are_blocks_of p) bad.Limit
-
-abbrev pub at_most : ℕ → ℕ → Field ℕ
-at_most size most = tested (number size) (λ n. nat_le n most) bad.Limit
+blocks_field p = tested (number 2) (λ n. nat_le n 256 && bool_eq (n == 0) (is_server_pid p)) bad.Limit
 
 -- the fields of the kinds that have more than one
 abbrev pub user : Field (ℕ × (ℕ × (List ℕ × List Link)))
@@ -94,22 +75,20 @@ abbrev pub ask : Field (Pid × (ℕ × (ℕ × (ℕ × Option Asker))))
 ask = both pid (λ p. both (blocks_field p) (λ _. both (number 4) (λ _. both (number 4) (λ _. optional asker))))
 
 abbrev pub refuse : Field (Pid × (ℕ × ℕ))
-refuse = both pid (λ _. both (at_most 1 64) (λ _. at_most 2 4096))
+refuse = both pid (λ _. both (number_within 1 0 64) (λ _. number_within 2 0 4096))
 
-abbrev pub pull_state : Field (Pid × ℕ)
-pull_state = both pid (λ _. number 4)
+-- the number of a chunk or a block, in so many bytes
+abbrev pub piece_asked : ℕ → Field (Pid × ℕ)
+piece_asked size = both pid (λ _. number size)
 
 abbrev pub state : Field (Pid × (ℕ × (Bool × List ℕ)))
 state = both pid (λ _. both (number 4) (λ _. both (yes_or_no bad.Flags) (λ _. bytes_within 1 512)))
-
-abbrev pub pull_block : Field (Pid × ℕ)
-pull_block = both pid (λ _. number 1)
 
 abbrev pub memory : Field (Pid × (ℕ × List ℕ))
 memory = both pid (λ _. both (number 1) (λ _. run 256))
 
 abbrev pub outcome_field : Field Outcome
-outcome_field = coded outcome_coded code_of_outcome bad.Limit
+outcome_field = coded (ends.Done ∷ ends.Stayed ∷ ends.Ended ∷ []) code_of_outcome bad.Limit
 
 -- the one spelling of what a message carries
 unfoldable pub spell_what : What → List ℕ
@@ -123,9 +102,9 @@ spell_what (what.Migrate m) = machine.spell m
 spell_what (what.Update about) = addr.spell about
 spell_what (what.Ask p blocks moves size who) = ask.spell (p, (blocks, (moves, (size, who))))
 spell_what (what.Refuse p slots blocks) = refuse.spell (p, (slots, blocks))
-spell_what (what.PullState p chunk) = pull_state.spell (p, chunk)
+spell_what (what.PullState p chunk) = (piece_asked 4).spell (p, chunk)
 spell_what (what.State p chunk last bytes) = state.spell (p, (chunk, (last, bytes.items)))
-spell_what (what.PullBlock p block) = pull_block.spell (p, block)
+spell_what (what.PullBlock p block) = (piece_asked 1).spell (p, block)
 spell_what (what.Memory p block bytes) = memory.spell (p, (block, bytes))
 spell_what (what.AllTaken p) = pid.spell p
 spell_what (what.Restart p) = pid.spell p
@@ -157,9 +136,9 @@ read_what kind.Migrate bytes = read_as machine what.Migrate bytes
 read_what kind.Update bytes = read_as addr what.Update bytes
 read_what kind.Ask bytes = read_as ask (λ x. what.Ask x.0 x.1.0 x.1.1.0 x.1.1.1.0 x.1.1.1.1) bytes
 read_what kind.Refuse bytes = read_as refuse (λ x. what.Refuse x.0 x.1.0 x.1.1) bytes
-read_what kind.PullState bytes = read_as pull_state (λ x. what.PullState x.0 x.1) bytes
+read_what kind.PullState bytes = read_as (piece_asked 4) (λ x. what.PullState x.0 x.1) bytes
 read_what kind.State bytes = read_as state (λ x. what.State x.0 x.1.0 x.1.1.0 (record { items = x.1.1.1 })) bytes
-read_what kind.PullBlock bytes = read_as pull_block (λ x. what.PullBlock x.0 x.1) bytes
+read_what kind.PullBlock bytes = read_as (piece_asked 1) (λ x. what.PullBlock x.0 x.1) bytes
 read_what kind.Memory bytes = read_as memory (λ x. what.Memory x.0 x.1.0 x.1.1) bytes
 read_what kind.AllTaken bytes = read_as pid what.AllTaken bytes
 read_what kind.Restart bytes = read_as pid what.Restart bytes

@@ -1,6 +1,7 @@
 //! What stands at the front of each packet, and of each message.
 ghost use Rattle.std.specs.Prelude.{◌≡◌};
-ghost use Rattle.dm_packet.specs.Packets.{is_named_right};
+ghost use Rattle.dm_message.specs.Ids.{bool_eq};
+ghost use Rattle.dm_message.specs.Lawful.{is_answer};
 
 use dm_link::Addr;
 use dm_message::{MessageKind, MsgId};
@@ -48,7 +49,7 @@ pub enum Front {
 impl Head {
     /// Whether the message's name says that it is an answer exactly where its kind does.
     pub fn is_named_right(self) -> bool
-        ensures { result ≡ is_named_right self }
+        ensures { result ≡ bool_eq self.id.answer (is_answer self.kind) }
     {
         self.id.answer == self.kind.is_answer()
     }

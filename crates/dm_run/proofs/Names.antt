@@ -10,7 +10,7 @@ pub use Rattle.dm_wire.proofs.Names.{inl, inr}
 pub use Rattle.dm_stream.proofs.Names.{Ack, Data, subst, ◌≢◌, ◌⊎◌}
 pub use Rattle.dm_linktable.proofs.Names.{Link, ◌==◌}
 pub use Rattle.dm_packet.proofs.Field.{ok_is}
-pub use Rattle.dm_packet.proofs.Names.{Addr, All, Field, IfSome, MessageKind, MsgId, OnOk, addr, append-nil, append_assoc, both, channel, flags, len_from, length-append, link, link_of_parts, nat_le, number, optional_read, packet_of}
+pub use Rattle.dm_packet.proofs.Names.{Addr, All, Field, IfSome, MessageKind, MsgId, OnOk, addr, append-nil, append_assoc, both, channel, flags, len_from, length-append, link, link_of_parts, nat_le, number, held_if, packet_of}
 pub use Rattle.dm_packet.proofs.Names.{take-append-drop, ◌>>=◌}
 pub use Rattle.dm_packet.specs.Fields.{LinkParts}
 pub use Rattle.dm_process.proofs.Names.{add-one}

@@ -1,6 +1,6 @@
 -- The links that state bytes spell hide nothing: none leads to a kernel.
 use Rattle.dm_run.proofs.Names.{◌≡◌, ℕ, zero, suc, ◌/◌, ◌%◌, ◌==◌, Bool, true, false, List, [], ◌∷◌, length, refl, sym, ap, subst, ⊤, if◌then◌else◌, All, All-nil, All-cons, Option, None, Some, Result, Ok, Err, Link, Process, PacketError}
-use Rattle.dm_run.proofs.Names.{Field, ◌>>=◌, both, number, LinkParts, addr, channel, flags, len_from, link, link_of_parts, optional_read, bind_ok, ok_is, StateBytesError, Shell, Front, by_rule, only_shell, front, read_shell, shell}
+use Rattle.dm_run.proofs.Names.{Field, ◌>>=◌, both, number, LinkParts, addr, channel, flags, len_from, link, link_of_parts, held_if, bind_ok, ok_is, StateBytesError, Shell, Front, by_rule, only_shell, front, read_shell, shell}
 use Rattle.dm_run.proofs.Names.{shell_of_bytes, shell_with, mask, read_slots, slots, table, Arrival, restarted, revived, revived_from}
 use Rattle.dm_packet.specs.declared.PacketError.TheVariants as bad
 
@@ -13,7 +13,7 @@ abbrev pub TableHides : List (Option Link) → Type 0
 TableHides slots = All SlotHides slots
 
 abbrev link_parts : Field LinkParts
-link_parts = both addr (λ _. both flags (λ _. both (number 4) (λ _. both channel (λ _. both (number 4) len_from))))
+link_parts = both addr (λ _. both flags (λ _. both (number 4) (λ _. both channel (λ _. both (number 4) (len_from 65536)))))
 
 link_hides : (bytes : List ℕ) (r : Link × List ℕ) → link.read bytes ≡ Ok r → r.0.to_kernel ≡ false
 link_hides bytes r e =
@@ -21,7 +21,7 @@ link_hides bytes r e =
     let f : (link_of_parts a.0.0, a.0.1) ≡ r = ok_is (link_of_parts a.0.0, a.0.1) r a.2 in
     ap (λ (x : Link × List ℕ). x.0.to_kernel) (sym f)
 
-slot_hides : (holds : Bool) (bytes : List ℕ) (r : Option Link × List ℕ) → optional_read link holds bytes ≡ Ok r → SlotHides r.0
+slot_hides : (holds : Bool) (bytes : List ℕ) (r : Option Link × List ℕ) → (held_if link holds).read bytes ≡ Ok r → SlotHides r.0
 slot_hides false bytes r e =
     let start : Option Link × List ℕ = (None, bytes) in
     let f : start ≡ r = ok_is start r e in
@@ -38,7 +38,7 @@ slots_hide zero k bytes r e =
     let f : none ≡ r = ok_is none r e in
     subst (λ (x : List (Option Link) × List ℕ). TableHides x.0) f (All-nil SlotHides)
 slots_hide (suc n) k bytes r e =
-    let a = bind_ok (optional_read link (k % 2 == 1) bytes) (λ first. read_slots n (k / 2) first.1 >>= λ others. Ok (first.0 ∷ others.0, others.1)) r e in
+    let a = bind_ok ((held_if link (k % 2 == 1)).read bytes) (λ first. read_slots n (k / 2) first.1 >>= λ others. Ok (first.0 ∷ others.0, others.1)) r e in
     let c = bind_ok (read_slots n (k / 2) a.0.1) (λ others. Ok (a.0.0 ∷ others.0, others.1)) r a.2 in
     let made : List (Option Link) × List ℕ = (a.0.0 ∷ c.0.0, c.0.1) in
     let f : made ≡ r = ok_is made r c.2 in

@@ -1,7 +1,7 @@
 -- Reading and writing place by place, as the loops of the code do.
 use Rattle.dm_statebytes.proofs.Names.{◌≡◌, ℕ, suc, ◌+◌, ◌-◌, ◌/◌, ◌%◌, ◌^◌, ◌<◌, ◌≤◌, true, false, eqb, List, [], ◌∷◌, ◌++◌, length, set, take, drop, Option, None, Some, Result, Ok, Err, refl, sym, ap, subst, ◌∙◌, append_assoc, arith}
 use Rattle.dm_statebytes.proofs.Names.{◌==◌, All, flat_map, pow-le-pow_right, eq-eqb, nat_tests, common_steps, take_at_read, append-nil, length-drop, take_all, take_more_set, Link, link_at, PacketError, ◌>>=◌, link, with_front, all_next}
-use Rattle.dm_statebytes.proofs.Names.{pieces_next, then_put, mask_of, read_slots, slot, spell_slot, FitsSlot}
+use Rattle.dm_statebytes.proofs.Names.{pieces_next, then_put, held_if, mask_of, read_slots, spell_slot, FitsSlot}
 use Rattle.dm_statebytes.proofs.Tables.{mask_of-lt}
 
 pub front_none : {X : Type 0} (read : Result (List X × List ℕ) PacketError) → with_front [] read ≡ read
@@ -16,7 +16,7 @@ regroup front x (Err d) = refl
 abbrev pub ReadUpTo : ℕ → Result (List (Option Link) × List ℕ) PacketError → List (Option Link) → ℕ → ℕ → List ℕ → Type 0
 ReadUpTo cap total table place left rest = (with_front (take place table) (read_slots (cap - place) left rest) ≡ total) × (length table ≡ cap) × ((s : ℕ) → place ≤ s → link_at table s ≡ None)
 
-slots_next : (front : List (Option Link)) (cap i left : ℕ) (rest : List ℕ) (o : Option Link) (after : List ℕ) (total : Result (List (Option Link) × List ℕ) PacketError) → i < cap → (slot (left % 2 == 1)).read rest ≡ Ok (o, after) → with_front front (read_slots (cap - i) left rest) ≡ total
+slots_next : (front : List (Option Link)) (cap i left : ℕ) (rest : List ℕ) (o : Option Link) (after : List ℕ) (total : Result (List (Option Link) × List ℕ) PacketError) → i < cap → (held_if link (left % 2 == 1)).read rest ≡ Ok (o, after) → with_front front (read_slots (cap - i) left rest) ≡ total
     → with_front (front ++ o ∷ []) (read_slots (cap - (i + 1)) (left / 2) after) ≡ total
 slots_next front cap i left rest o after total lt h so_far =
     let k : cap - i ≡ suc (cap - (i + 1)) = omega arith in
@@ -27,7 +27,7 @@ pub slots_fail : (front : List (Option Link)) (cap i left : ℕ) (rest : List �
 slots_fail front cap i left rest d total lt odd h so_far =
     let holds : eqb (left % 2) 1 ≡ true = eq-eqb (left % 2) 1 odd in
     let k : cap - i ≡ suc (cap - (i + 1)) = omega arith in
-    let failed : (slot (left % 2 == 1)).read rest ≡ Err d = rw (holds, h) refl in
+    let failed : (held_if link (left % 2 == 1)).read rest ≡ Err d = rw (holds, h) refl in
     let one : with_front front (read_slots (cap - i) left rest) ≡ Err d = rw (k, failed) refl in
     sym so_far ∙ one
 
@@ -35,7 +35,7 @@ pub slot_held : (cap place left : ℕ) (table : List (Option Link)) (rest : List
     → ReadUpTo cap total (set table place (Some l)) (place + 1) (left / 2) after
 slot_held cap place left table rest l after total lt odd h so_far =
     let holds : eqb (left % 2) 1 ≡ true = eq-eqb (left % 2) 1 odd in
-    let found : (slot (left % 2 == 1)).read rest ≡ Ok (Some l, after) = rw (holds, h) refl in
+    let found : (held_if link (left % 2 == 1)).read rest ≡ Ok (Some l, after) = rw (holds, h) refl in
     let next = slots_next (take place table) cap place left rest (Some l) after total lt found so_far.0 in
     let grown : take (place + 1) (set table place (Some l)) ≡ take place table ++ Some l ∷ [] = take_more_set table place (Some l) (omega (arith, so_far.1)) in
     (rw grown next, grind (arith, common_steps, so_far.1), λ s le. grind (arith, common_steps, so_far.2 s))
@@ -43,7 +43,7 @@ slot_held cap place left table rest l after total lt odd h so_far =
 pub slot_empty : (cap place left : ℕ) (table : List (Option Link)) (rest : List ℕ) (total : Result (List (Option Link) × List ℕ) PacketError) → place < cap → (left % 2 ≡ 1 → ⊥) → ReadUpTo cap total table place left rest → ReadUpTo cap total table (place + 1) (left / 2) rest
 slot_empty cap place left table rest total lt even so_far =
     let holds : eqb (left % 2) 1 ≡ false = grind (arith, nat_tests) in
-    let found : (slot (left % 2 == 1)).read rest ≡ Ok (None, rest) = rw holds refl in
+    let found : (held_if link (left % 2 == 1)).read rest ≡ Ok (None, rest) = rw holds refl in
     let next = slots_next (take place table) cap place left rest None rest total lt found so_far.0 in
     let grown : take (place + 1) table ≡ take place table ++ None ∷ [] = (take_at_read table place None (omega (arith, so_far.1))).1 ∙ ap (λ o. take place table ++ o ∷ []) (so_far.2 place (omega arith)) in
     (rw grown next, so_far.1, λ s le. so_far.2 s (omega arith))

@@ -1,15 +1,15 @@
 -- A process is read as it is spelled.
 use Rattle.dm_statebytes.proofs.Names.{◌≡◌, ℕ, ◌*◌, ◌^◌, ◌<◌, ◌≤◌, true, eqb, List, [], ◌∷◌, ◌++◌, length, Option, None, Some, Result, Ok, Err, refl, sym, ap, subst, ◌∙◌, arith, ◌⊎◌, ◌==◌, IfOk, AllByRecursion, eqb-true, eq-eqb, append-nil}
 use Rattle.dm_statebytes.proofs.Names.{nil_from_length, All-from_recursion, recursion_from_All, Link, Regs, SlotIsLawful, PacketError, ◌>>=◌, both, number, pid, yes_or_no, Fits, IsBytes, IsField, IsField-both, IsField-for, IsField-made}
-use Rattle.dm_statebytes.proofs.Names.{IsField-number, IsField-tested, IsField-repeated_field, bind_ok, guard_ok, IsSpelledPid, length_within_is, pid_is, yes_or_no_is, StateBytesError, Shell, IsLawfulShell, Front, blocks, by_rule}
-use Rattle.dm_statebytes.proofs.Names.{only_shell, front, shell_front, registers, regs, shell, shell_of_bytes, shell_with, shell_spelling, shell_version, status, table, FitsShell, FitsSlot}
+use Rattle.dm_statebytes.proofs.Names.{IsField-number, IsField-tested, IsField-repeated_field, bind_ok, guard_ok, IsSpelledPid, number_within_is, pid_is, yes_or_no_is, StateBytesError, Shell, IsLawfulShell, Front, blocks, by_rule}
+use Rattle.dm_statebytes.proofs.Names.{only_shell, front, shell_front, registers, regs, shell, shell_of_bytes, shell_with, shell_spelling, status, version, table, FitsShell, FitsSlot}
 use Rattle.dm_packet.specs.declared.PacketError.TheVariants as bad
 use Rattle.dm_statebytes.proofs.Statuses.{IsSpelledStatus, status_is}
 use Rattle.dm_statebytes.proofs.Tables.{IsSpelledTable, SlotIsSpelled, table_is}
 
-version_is : IsField shell_version (λ v. v ≡ 3)
+version_is : IsField (version 3) (λ v. v ≡ 3)
 version_is =
-    IsField-for shell_version (λ v. (v < 256 ^ 1) × (eqb v 3 ≡ true)) (λ v. v ≡ 3) (IsField-tested (number 1) (λ v. v < 256 ^ 1) (IsField-number 1) (λ v. v == 3) bad.Version)
+    IsField-for (version 3) (λ v. (v < 256 ^ 1) × (eqb v 3 ≡ true)) (λ v. v ≡ 3) (IsField-tested (number 1) (λ v. v < 256 ^ 1) (IsField-number 1) (λ v. v == 3) bad.Version)
     (λ v fits. eqb-true v 3 fits.1)
     (λ v e. (omega (arith, e), eq-eqb v 3 e))
 
@@ -17,7 +17,7 @@ abbrev IsCount : ℕ → Type 0
 IsCount n = (1 ≤ n) × (n ≤ 256)
 
 blocks_is : IsField blocks IsCount
-blocks_is = length_within_is 1 256 (omega arith)
+blocks_is = number_within_is 2 1 256 (omega arith)
 
 registers_is : IsField registers (λ r. (length r ≡ 16) × AllByRecursion (Fits 4) r)
 unfolding registers
@@ -44,7 +44,7 @@ front_is =
     let from_stopped = λ (n : ℕ). IsField-both (yes_or_no bad.Flags) (λ _. Unit {0}) (yes_or_no_is bad.Flags) (λ _. both (status (256 * n)) (λ _. both (number 4) (λ _. both (number 4) (λ _. regs)))) (λ _ f. IsSpelledStatus (256 * n) f.0 × (Fits 4 f.1.0 × (Fits 4 f.1.1.0 × IsSpelledRegs f.1.1.1))) (λ _. from_status n) in
     let from_blocks = IsField-both blocks IsCount blocks_is (λ n. both (yes_or_no bad.Flags) (λ _. both (status (256 * n)) (λ _. both (number 4) (λ _. both (number 4) (λ _. regs))))) (λ n f. Unit {0} × (IsSpelledStatus (256 * n) f.1.0 × (Fits 4 f.1.1.0 × (Fits 4 f.1.1.1.0 × IsSpelledRegs f.1.1.1.1)))) from_stopped in
     let from_pid = IsField-both pid IsSpelledPid pid_is (λ _. both blocks (λ n. both (yes_or_no bad.Flags) (λ _. both (status (256 * n)) (λ _. both (number 4) (λ _. both (number 4) (λ _. regs)))))) (λ _ f. IsCount f.0 × (Unit {0} × (IsSpelledStatus (256 * f.0) f.1.1.0 × (Fits 4 f.1.1.1.0 × (Fits 4 f.1.1.1.1.0 × IsSpelledRegs f.1.1.1.1.1))))) (λ _. from_blocks) in
-    IsField-both shell_version (λ v. v ≡ 3) version_is (λ _. both pid (λ _. both blocks (λ n. both (yes_or_no bad.Flags) (λ _. both (status (256 * n)) (λ _. both (number 4) (λ _. both (number 4) (λ _. regs))))))) (λ _ f. IsSpelledPid f.0 × (IsCount f.1.0 × (Unit {0} × (IsSpelledStatus (256 * f.1.0) f.1.1.1.0 × (Fits 4 f.1.1.1.1.0 × (Fits 4 f.1.1.1.1.1.0 × IsSpelledRegs f.1.1.1.1.1.1)))))) (λ _. from_pid)
+    IsField-both (version 3) (λ v. v ≡ 3) version_is (λ _. both pid (λ _. both blocks (λ n. both (yes_or_no bad.Flags) (λ _. both (status (256 * n)) (λ _. both (number 4) (λ _. both (number 4) (λ _. regs))))))) (λ _ f. IsSpelledPid f.0 × (IsCount f.1.0 × (Unit {0} × (IsSpelledStatus (256 * f.1.0) f.1.1.1.0 × (Fits 4 f.1.1.1.1.0 × (Fits 4 f.1.1.1.1.1.0 × IsSpelledRegs f.1.1.1.1.1.1)))))) (λ _. from_pid)
 
 -- slots, seen place by place
 
@@ -134,12 +134,18 @@ shell_takes bytes cap s known h e =
     let parts : bytes ≡ (shell cap).spell a.0.0 = t.parts ∙ ap (λ (rest : List ℕ). (shell cap).spell a.0.0 ++ rest) end.0 ∙ append-nil ((shell cap).spell a.0.0) in
     subst (λ (x : Shell). (bytes ≡ (shell cap).spell x) × IsLawfulShell cap x × FitsShell x) end.1 (parts, t.fits.0, t.fits.1)
 
--- the spelling of a lawful process is read as that process
+-- the spelling of a lawful process is read as that process, and nothing is left
+pub shell_back : (cap : ℕ) (s : Shell) → (cap ≡ 32) ⊎ (cap ≡ 128) → IsLawfulShell cap s → FitsShell s → (shell cap).read (shell_spelling s) ≡ Ok (s, [])
+unfolding shell_spelling
+shell_back cap s known lawful fits = ap (shell cap).read (sym (append-nil ((shell cap).spell s))) ∙ (shell_is cap known).again s [] (lawful, fits)
+
+-- bytes that are read so are those of the process
+pub shell_ended : (cap : ℕ) (bytes : List ℕ) (s : Shell) → (shell cap).read bytes ≡ Ok (s, []) → shell_of_bytes bytes cap ≡ Ok s
+unfolding shell_of_bytes
+shell_ended cap bytes s e = ap (λ (r : Result (Shell × List ℕ) PacketError). by_rule (r >>= only_shell)) e
+
 pub shell_again : (cap : ℕ) (s : Shell) → (cap ≡ 32) ⊎ (cap ≡ 128) → IsLawfulShell cap s → FitsShell s → shell_of_bytes (shell_spelling s) cap ≡ Ok s
-unfolding shell_of_bytes shell_spelling
-shell_again cap s known lawful fits =
-    let no_more = append-nil ((shell cap).spell s) in
-    ap (λ (r : Result (Shell × List ℕ) PacketError). by_rule (r >>= only_shell)) (ap (shell cap).read (sym no_more) ∙ (shell_is cap known).again s [] (lawful, fits))
+shell_again cap s known lawful fits = shell_ended cap (shell_spelling s) s (shell_back cap s known lawful fits)
 
 -- what a result that the bytes gave says of them
 pub is_found : (bytes : List ℕ) (cap : ℕ) (r : Result Shell StateBytesError) → (cap ≡ 32) ⊎ (cap ≡ 128) → IsBytes bytes → r ≡ shell_of_bytes bytes cap → IfOk r (λ s. IsLawfulShell cap s × (bytes ≡ shell_spelling s))

@@ -1,8 +1,8 @@
 -- A status is read as it is spelled.
-use Rattle.dm_statebytes.proofs.Names.{◌≡◌, ℕ, ◌+◌, ◌<◌, ◌≤◌, true, List, ◌++◌, None, Some, Result, Ok, refl, ap, arith, append_assoc, ◌∙◌, nat_le, ◌==◌, if◌then◌else◌, nat_tests, Addr, direction_numbered, number_of_direction}
+use Rattle.dm_statebytes.proofs.Names.{◌≡◌, ℕ, ◌+◌, ◌<◌, ◌≤◌, Bool, true, List, [], ◌∷◌, ◌++◌, Some, Result, Ok, refl, ap, arith, append_assoc, ◌∙◌, nat_le, ◌==◌, ◌&&◌, find, nat_tests, Addr, number_of_direction}
 use Rattle.dm_statebytes.proofs.Names.{IsLawfulStatus, Direction, FromArea, IntoArea, Status, Ready, Waiting, Moving, PacketError, ◌>>=◌, both, number, addr, Fits, IsBytes, IsField, IsField-both, IsField-for, IsField-number, IsField-tested}
-use Rattle.dm_statebytes.proofs.Names.{Took, bind_ok, took_same, then_parts, IsSpelledAddr, addr_is, coded_is, none_left, one_or_later, StatusKind, cap_from, direction, is_left, left_from, moving, number_of_status_kind, read_status}
-use Rattle.dm_statebytes.proofs.Names.{spell_status, status, status_kind, status_kind_numbered, waiting, FitsStatus}
+use Rattle.dm_statebytes.proofs.Names.{Took, bind_ok, took_same, then_parts, IsSpelledAddr, addr_is, coded_is, IsLenFrom, len_from_is, StatusKind, len_from, direction, left_from, moving, number_of_status_kind, read_status}
+use Rattle.dm_statebytes.proofs.Names.{spell_status, status, status_kind, waiting, FitsStatus}
 use Rattle.dm_packet.specs.declared.PacketError.TheVariants as bad
 use Rattle.dm_statebytes.specs.declared.status.StatusKind.TheVariants as kinds
 
@@ -13,49 +13,34 @@ kind_small kinds.Ready = omega arith
 kind_small kinds.Waiting = omega arith
 kind_small kinds.Moving = omega arith
 
-kind_there : (k : StatusKind) → status_kind_numbered (number_of_status_kind k) ≡ Some k
+kind_there : (k : StatusKind) → find (λ j. number_of_status_kind k == number_of_status_kind j) (kinds.Ready ∷ kinds.Waiting ∷ kinds.Moving ∷ []) ≡ Some k
 kind_there kinds.Ready = refl
 kind_there kinds.Waiting = refl
 kind_there kinds.Moving = refl
 
-kind_back : (n : ℕ) (k : StatusKind) → status_kind_numbered n ≡ Some k → number_of_status_kind k ≡ n
-kind_back n k =
-    one_or_later number_of_status_kind n 0 kinds.Ready k (if n == 1 then Some kinds.Waiting else if n == 2 then Some kinds.Moving else None) refl
-    (one_or_later number_of_status_kind n 1 kinds.Waiting k (if n == 2 then Some kinds.Moving else None) refl (one_or_later number_of_status_kind n 2 kinds.Moving k None refl (none_left k (number_of_status_kind k ≡ n))))
-
 status_kind_is : IsField status_kind (λ _. Unit {0})
-status_kind_is = coded_is status_kind_numbered number_of_status_kind bad.Flags kind_small kind_there kind_back
+status_kind_is = coded_is (kinds.Ready ∷ kinds.Waiting ∷ kinds.Moving ∷ []) number_of_status_kind bad.Flags kind_small kind_there
 
 direction_small : (d : Direction) → number_of_direction d < 256
 direction_small FromArea = omega arith
 direction_small IntoArea = omega arith
 
-direction_there : (d : Direction) → direction_numbered (number_of_direction d) ≡ Some d
+direction_there : (d : Direction) → find (λ e. number_of_direction d == number_of_direction e) (FromArea ∷ IntoArea ∷ []) ≡ Some d
 direction_there FromArea = refl
 direction_there IntoArea = refl
 
-direction_back : (n : ℕ) (d : Direction) → direction_numbered n ≡ Some d → number_of_direction d ≡ n
-direction_back n d = one_or_later number_of_direction n 0 FromArea d (if n == 1 then Some IntoArea else None) refl (one_or_later number_of_direction n 1 IntoArea d None refl (none_left d (number_of_direction d ≡ n)))
-
 direction_is : IsField direction (λ _. Unit {0})
-direction_is = coded_is direction_numbered number_of_direction bad.Flags direction_small direction_there direction_back
+direction_is = coded_is (FromArea ∷ IntoArea ∷ []) number_of_direction bad.Flags direction_small direction_there
 
 -- what each kind has
 
-abbrev IsCapFrom : ℕ → ℕ → ℕ → Type 0
-IsCapFrom size base cap = Fits 4 cap × (base + cap ≤ size)
-
-cap_from_is : (size base : ℕ) → IsField (cap_from size base) (IsCapFrom size base)
-cap_from_is size base =
-    IsField-for (cap_from size base) (λ cap. Fits 4 cap × (nat_le (base + cap) size ≡ true)) (IsCapFrom size base)
-    (IsField-tested (number 4) (Fits 4) (IsField-number 4) (λ cap. nat_le (base + cap) size) bad.Limit)
-    (λ cap fits. (fits.0, grind (arith, nat_tests)))
-    (λ cap fits. (fits.0, grind (arith, nat_tests)))
-
-waiting_is : (size : ℕ) → IsField (waiting size) (λ w. Fits 4 w.0 × (Fits 4 w.1.0 × IsCapFrom size w.1.0 w.1.1))
+waiting_is : (size : ℕ) → IsField (waiting size) (λ w. Fits 4 w.0 × (Fits 4 w.1.0 × IsLenFrom size w.1.0 w.1.1))
 waiting_is size =
-    let buffer = IsField-both (number 4) (Fits 4) (IsField-number 4) (cap_from size) (IsCapFrom size) (cap_from_is size) in
-    IsField-both (number 4) (Fits 4) (IsField-number 4) (λ _. both (number 4) (cap_from size)) (λ _ b. Fits 4 b.0 × IsCapFrom size b.0 b.1) (λ _. buffer)
+    let buffer = IsField-both (number 4) (Fits 4) (IsField-number 4) (len_from size) (IsLenFrom size) (len_from_is size) in
+    IsField-both (number 4) (Fits 4) (IsField-number 4) (λ _. both (number 4) (len_from size)) (λ _ b. Fits 4 b.0 × IsLenFrom size b.0 b.1) (λ _. buffer)
+
+abbrev is_left : ℕ → ℕ → ℕ → ℕ → Bool
+is_left size base own left = (nat_le 1 left && nat_le left 65536) && (nat_le (base + left) 65536 && nat_le (own + left) size)
 
 abbrev IsLeftFrom : ℕ → ℕ → ℕ → ℕ → Type 0
 IsLeftFrom size base own left = Fits 4 left × ((1 ≤ left) × (left ≤ 65536) × (base + left ≤ 65536) × (own + left ≤ size))

@@ -8,8 +8,8 @@ use Rattle.dm_process.specs.declared.process.Process.{Process}
 use Rattle.dm_process.specs.declared.process.Status.{Status}
 use Rattle.dm_packet.specs.declared.PacketError.{PacketError}
 use Rattle.dm_packet.specs.declared.PacketError.TheVariants as bad
-use Rattle.dm_packet.specs.Field.{Field, ◌>>=◌, number, tested, both, made, repeated_field}
-use Rattle.dm_packet.specs.Fields.{length_within, pid}
+use Rattle.dm_packet.specs.Field.{Field, ◌>>=◌, number, number_within, version, both, made, repeated_field}
+use Rattle.dm_packet.specs.Fields.{pid}
 use Rattle.dm_packet.specs.Whats.{yes_or_no}
 use Rattle.dm_statebytes.specs.declared.StateBytesError.{StateBytesError}
 use Rattle.dm_statebytes.specs.declared.Shell.{Shell}
@@ -30,11 +30,8 @@ shell_of p = record {
   table = p.table;
 }
 
-abbrev pub shell_version : Field ℕ
-shell_version = tested (number 1) (λ v. v == 3) bad.Version
-
 abbrev pub blocks : Field ℕ
-blocks = length_within 1 256
+blocks = number_within 2 1 256
 
 -- sixteen registers
 unfoldable pub registers : Field (List ℕ)
@@ -49,7 +46,7 @@ abbrev pub Front : Type 0
 Front = ℕ × (Pid × (ℕ × (Bool × (Status × (ℕ × (ℕ × Regs))))))
 
 abbrev pub front : Field Front
-front = both shell_version (λ _. both pid (λ _. both blocks (λ n. both (yes_or_no bad.Flags) (λ _. both (status (256 * n)) (λ _. both (number 4) (λ _. both (number 4) (λ _. regs)))))))
+front = both (version 3) (λ _. both pid (λ _. both blocks (λ n. both (yes_or_no bad.Flags) (λ _. both (status (256 * n)) (λ _. both (number 4) (λ _. both (number 4) (λ _. regs)))))))
 
 abbrev pub shell_front : Shell → Front
 shell_front s = (3, (s.pid, (s.blocks, (s.stopped, (s.status, (s.sent, (s.moves, s.regs)))))))

@@ -1,21 +1,19 @@
 -- What a process does when it is served, as bytes.
-use Rattle.std.specs.Prelude.{ℕ, ◌+◌, ◌++◌, Bool, List, nat_le, ◌==◌, ◌&&◌, if◌then◌else◌, Option, None, Some, Ok}
+use Rattle.std.specs.Prelude.{ℕ, ◌+◌, List, [], ◌∷◌, ◌++◌, nat_le, ◌&&◌, Ok}
 use Rattle.std.specs.declared.result.Result.{Result}
 use Rattle.dm_link.specs.declared.Addr.{Addr}
-use Rattle.dm_process.specs.Directions.{direction_numbered, number_of_direction}
+use Rattle.dm_process.specs.Directions.{number_of_direction}
 use Rattle.dm_process.specs.declared.process.Direction.{Direction}
+use Rattle.dm_process.specs.declared.process.Direction.TheVariants.{FromArea, IntoArea}
 use Rattle.dm_process.specs.declared.process.Status.{Status}
 use Rattle.dm_process.specs.declared.process.Status.TheVariants.{Ready, Waiting, Moving}
 use Rattle.dm_packet.specs.declared.PacketError.{PacketError}
 use Rattle.dm_packet.specs.declared.PacketError.TheVariants as bad
 use Rattle.dm_packet.specs.Field.{Field, ◌>>=◌, number, tested, both}
-use Rattle.dm_packet.specs.Fields.{addr}
+use Rattle.dm_packet.specs.Fields.{addr, len_from}
 use Rattle.dm_packet.specs.Whats.{coded}
 use Rattle.dm_statebytes.specs.declared.status.StatusKind.{StatusKind}
 use Rattle.dm_statebytes.specs.declared.status.StatusKind.TheVariants as kinds
-
-abbrev pub status_kind_numbered : ℕ → Option StatusKind
-status_kind_numbered n = if n == 0 then Some kinds.Ready else if n == 1 then Some kinds.Waiting else if n == 2 then Some kinds.Moving else None
 
 abbrev pub number_of_status_kind : StatusKind → ℕ
 number_of_status_kind kinds.Ready = 0
@@ -23,25 +21,18 @@ number_of_status_kind kinds.Waiting = 1
 number_of_status_kind kinds.Moving = 2
 
 abbrev pub status_kind : Field StatusKind
-status_kind = coded status_kind_numbered number_of_status_kind bad.Flags
-
--- the size of a buffer that keeps what begins at base within a memory of so many bytes
-abbrev pub cap_from : ℕ → ℕ → Field ℕ
-cap_from size base = tested (number 4) (λ cap. nat_le (base + cap) size) bad.Limit
+status_kind = coded (kinds.Ready ∷ kinds.Waiting ∷ kinds.Moving ∷ []) number_of_status_kind bad.Flags
 
 -- the channels that are waited for, and the buffer's first byte and size
 abbrev pub waiting : ℕ → Field (ℕ × (ℕ × ℕ))
-waiting size = both (number 4) (λ _. both (number 4) (cap_from size))
+waiting size = both (number 4) (λ _. both (number 4) (len_from size))
 
 abbrev pub direction : Field Direction
-direction = coded direction_numbered number_of_direction bad.Flags
+direction = coded (FromArea ∷ IntoArea ∷ []) number_of_direction bad.Flags
 
 -- how much of a move is left: it begins at base in the owner's memory and at own in the mover's, which has so many bytes
-abbrev pub is_left : ℕ → ℕ → ℕ → ℕ → Bool
-is_left size base own left = (nat_le 1 left && nat_le left 65536) && (nat_le (base + left) 65536 && nat_le (own + left) size)
-
 abbrev pub left_from : ℕ → ℕ → ℕ → Field ℕ
-left_from size base own = tested (number 4) (is_left size base own) bad.Limit
+left_from size base own = tested (number 4) (λ left. (nat_le 1 left && nat_le left 65536) && (nat_le (base + left) 65536 && nat_le (own + left) size)) bad.Limit
 
 -- the direction, the owner, where the piece under way begins there and here, what is left, and the request's number
 abbrev pub moving : ℕ → Field (Direction × (Addr × (ℕ × (ℕ × (ℕ × ℕ)))))

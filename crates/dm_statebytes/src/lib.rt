@@ -1,11 +1,11 @@
 //! A process as bytes, without its memory and its queue: what a machine hands on first when a process moves.
 #![tactic(auto)]
 
-ghost use Rattle.std.specs.Prelude.{◌≡◌, ◌⊎◌, ◌≤◌, IfOk, None, Ok, OnOk, length, replicate};
+ghost use Rattle.std.specs.Prelude.{◌≡◌, ◌⊎◌, ◌≤◌, [], IfOk, None, Ok, OnOk, length, replicate};
 ghost use Rattle.dm_process.specs.Lawful.{IsLawfulProcess};
 ghost use Rattle.dm_statebytes.specs.Lawful.{IsLawfulShell};
 ghost use Rattle.dm_statebytes.specs.Rules.{number_of_rule, rule_of};
-ghost use Rattle.dm_statebytes.specs.Shell.{shell_of, shell_of_bytes, shell_spelling};
+ghost use Rattle.dm_statebytes.specs.Shell.{shell, shell_of, shell_of_bytes, shell_spelling};
 ghost use Rattle.dm_statebytes.specs.Widths.{FitsShell};
 
 mod reading;
@@ -111,7 +111,7 @@ pub fn pack(alloc: Global, process: &Process) -> Result<Vec<u8>, NoMemory>
     ensures size { IfOk result (λ v. (LEAST_STATE ≤ length v.items) × (length v.items ≤ MOST_STATE)) }
     ensures lawful { IsLawfulShell (length process.now.table) (shell_of process.now) }
     // What is packed is unpacked at the table's number of slots.
-    ensures again { IfOk result (λ v. shell_of_bytes v.items (length process.now.table) ≡ Ok (shell_of process.now)) }
+    ensures again { IfOk result (λ v. (shell (length process.now.table)).read v.items ≡ Ok (shell_of process.now, [])) }
 {
     let mut front = Buffer::new();
     put_front(&mut front, process);

@@ -1,9 +1,10 @@
 //! Reading from the left, each field tested as soon as it is there.
 ghost use Rattle.std.specs.Prelude.{◌≡◌, ◌⊎◌, ◌==◌, None, replicate};
-ghost use Rattle.dm_packet.specs.Field.{number};
+ghost use Rattle.dm_packet.specs.Field.{number, version};
+ghost use Rattle.dm_packet.specs.Fields.{len_from};
 ghost use Rattle.dm_packet.specs.Reads.{Reads};
-ghost use Rattle.dm_statebytes.specs.Shell.{blocks, read_shell, registers, regs, shell, shell_of_bytes, shell_version};
-ghost use Rattle.dm_statebytes.specs.Statuses.{cap_from, direction, left_from, moving, read_status, status, status_kind, waiting};
+ghost use Rattle.dm_statebytes.specs.Shell.{blocks, read_shell, registers, regs, shell, shell_of_bytes};
+ghost use Rattle.dm_statebytes.specs.Statuses.{direction, left_from, moving, read_status, status, status_kind, waiting};
 ghost use Rattle.dm_statebytes.specs.Table.{mask, read_slots, table};
 
 use crate::status::StatusKind;
@@ -30,7 +31,7 @@ fn status_kind_at(bytes: &[u8]) -> Result<(StatusKind, &[u8]), PacketError>
 
 /// The size of a buffer at `base` in a memory of `size` bytes.
 fn cap_from_at(bytes: &[u8], size: u32, base: u32) -> Result<(u32, &[u8]), PacketError>
-    ensures { Reads result ((cap_from size base).read bytes.now) }
+    ensures { Reads result ((len_from size base).read bytes.now) }
 {
     let (cap, rest) = u32_at(bytes)?;
     if u64::from(base) + u64::from(cap) > u64::from(size) {
@@ -192,7 +193,7 @@ fn blocks_at(bytes: &[u8]) -> Result<(u16, &[u8]), PacketError>
 }
 
 fn version_at(bytes: &[u8]) -> Result<(u8, &[u8]), PacketError>
-    ensures { Reads result (shell_version.read bytes.now) }
+    ensures { Reads result ((version 3).read bytes.now) }
 {
     let (version, rest) = byte_at(bytes)?;
     if version != 3 {

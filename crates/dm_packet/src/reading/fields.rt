@@ -110,7 +110,7 @@ pub fn channel_at(bytes: &[u8]) -> Result<(u8, &[u8]), PacketError>
 }
 
 fn len_from_at(bytes: &[u8], base: u32) -> Result<(u32, &[u8]), PacketError>
-    ensures { Reads result ((len_from base).read bytes.now) }
+    ensures { Reads result ((len_from 65536 base).read bytes.now) }
 {
     let (len, rest) = u32_at(bytes)?;
     if u64::from(base) + u64::from(len) > 65_536 {

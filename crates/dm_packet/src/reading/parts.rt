@@ -1,8 +1,8 @@
 //! The fields that only some kinds have.
 ghost use Rattle.std.specs.Prelude.{IfOk, length, nat_le, ◌≤◌, ◌&&◌, ◌+◌, ◌==◌, ◌≡◌};
 ghost use Rattle.dm_packet.specs.Reads.{Reads, ReadsSlice};
-ghost use Rattle.dm_packet.specs.Field.{counted, run};
-ghost use Rattle.dm_packet.specs.Whats.{asker, at_most, blocks_field, message_kind, optional, outcome_field, piece_from, yes_or_no};
+ghost use Rattle.dm_packet.specs.Field.{counted, number_within, run};
+ghost use Rattle.dm_packet.specs.Whats.{asker, blocks_field, message_kind, optional, outcome_field, piece_from, yes_or_no};
 
 use super::fields::{addr_at, byte_at, run_at, u16_at, u32_at};
 use crate::PacketError;
@@ -102,7 +102,7 @@ pub fn asker_at(bytes: &[u8]) -> Result<(Option<Asker>, &[u8]), PacketError>
 }
 
 pub fn byte_at_most(bytes: &[u8], most: u8) -> Result<(u8, &[u8]), PacketError>
-    ensures { Reads result ((at_most 1 most).read bytes.now) }
+    ensures { Reads result ((number_within 1 0 most).read bytes.now) }
 {
     let (number, rest) = byte_at(bytes)?;
     if number > most {
@@ -112,7 +112,7 @@ pub fn byte_at_most(bytes: &[u8], most: u8) -> Result<(u8, &[u8]), PacketError>
 }
 
 pub fn u16_at_most(bytes: &[u8], most: u16) -> Result<(u16, &[u8]), PacketError>
-    ensures { Reads result ((at_most 2 most).read bytes.now) }
+    ensures { Reads result ((number_within 2 0 most).read bytes.now) }
 {
     let (number, rest) = u16_at(bytes)?;
     if number > most {

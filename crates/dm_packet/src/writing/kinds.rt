@@ -3,7 +3,7 @@ ghost use Rattle.std.specs.Prelude.{◌≡◌, ◌+◌, ◌<◌, ◌≤◌, leng
 ghost use Rattle.std.specs.List.{All};
 ghost use Rattle.std.specs.Option.{IfSome};
 ghost use Rattle.dm_message.specs.Lawful.{IsLawfulWhat};
-ghost use Rattle.dm_packet.specs.Whats.{ask, asker as asker_field, create, memory, optional, outcome_field, pull_block, pull_state, read, refuse, spell_what, state, user, write};
+ghost use Rattle.dm_packet.specs.Whats.{ask, asker as asker_field, create, memory, optional, outcome_field, piece_asked, read, refuse, spell_what, state, user, write};
 ghost use Rattle.dm_packet.specs.Widths.{Fits, FitsAsker, FitsLink, FitsPid, FitsWhat};
 ghost use Rattle.dm_packet.specs.Writes.{HasRoom, Puts};
 
@@ -106,8 +106,8 @@ fn put_refuse(out: &mut Buffer, pid: Pid, free_slots: u8, free_blocks: u16)
 }
 
 fn put_pull_state(out: &mut Buffer, pid: Pid, chunk: u32)
-    requires room { HasRoom out.old (pull_state.spell (pid, chunk)) }
-    ensures put { Puts out.old out.new (pull_state.spell (pid, chunk)) }
+    requires room { HasRoom out.old ((piece_asked 4).spell (pid, chunk)) }
+    ensures put { Puts out.old out.new ((piece_asked 4).spell (pid, chunk)) }
     ensures pid { FitsPid pid }
     ensures chunk { Fits 4 chunk }
 {
@@ -129,8 +129,8 @@ fn put_state(out: &mut Buffer, pid: Pid, chunk: u32, last: bool, bytes: &[u8])
 }
 
 fn put_pull_block(out: &mut Buffer, pid: Pid, block: u8)
-    requires room { HasRoom out.old (pull_block.spell (pid, block)) }
-    ensures put { Puts out.old out.new (pull_block.spell (pid, block)) }
+    requires room { HasRoom out.old ((piece_asked 1).spell (pid, block)) }
+    ensures put { Puts out.old out.new ((piece_asked 1).spell (pid, block)) }
     ensures pid { FitsPid pid }
     ensures block { Fits 1 block }
 {

@@ -1,6 +1,6 @@
-use Rattle.dm_statebytes.proofs.Names.{◌≡◌, ℕ, List, ◌++◌, length, sym, ap, subst, ◌∙◌, append_assoc, arith, flat_map, number, front, shell_front, shell_of, shell_of_bytes, shell_spelling, mask_of, spell_slot}
+use Rattle.dm_statebytes.proofs.Names.{◌≡◌, ℕ, List, ◌++◌, length, sym, ap, subst, ◌∙◌, append_assoc, arith, flat_map, number, front, shell, shell_front, shell_of, shell_spelling, mask_of, spell_slot}
 use Rattle.dm_statebytes.proofs.Lawful.{shell_is_lawful}
-use Rattle.dm_statebytes.proofs.Shells.{shell_again}
+use Rattle.dm_statebytes.proofs.Shells.{shell_back}
 use Rattle.dm_statebytes.proofs.Sizes.{IsSize, front_size, lawful_size}
 use Rattle.dm_statebytes.proofs.pack.Goals as goal
 
@@ -33,6 +33,6 @@ pub returns-clause-again : goal.returns-clause-again
 returns-clause-again c =
     let p = c.args.process.now in
     let put = c.put_front.ensures in
-    ap (λ (bytes : List ℕ). shell_of_bytes bytes (length p.table)) (returns-clause-ok c)
-    ∙ shell_again (length p.table) (shell_of p) c.requires.lawful.slots (shell_is_lawful p c.requires.lawful)
+    ap (shell (length p.table)).read (returns-clause-ok c)
+    ∙ shell_back (length p.table) (shell_of p) c.requires.lawful.slots (shell_is_lawful p c.requires.lawful)
     (record { pid = put.pid; status = put.status; sent = put.sent; moves = put.moves; registers = put.registers; pc = put.pc; links = c.in_ok-extend_with_links.ensures.fits })
