@@ -1,3 +1,4 @@
+pub mod All
 pub mod Names
 pub mod Running
 pub mod Ringing

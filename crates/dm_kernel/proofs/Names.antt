@@ -71,8 +71,9 @@ pub use Rattle.dm_syscall.specs.declared.Called.{Called}
 pub use Rattle.dm_syscall.specs.declared.Completed.{Completed}
 pub use Rattle.dm_line.specs.Sets.{moved_back, without}
 pub use Rattle.dm_line.specs.declared.line.Line.{Line}
+pub use Rattle.dm_kernel.proofs.All.{with_all}
 pub use Rattle.dm_kernel.specs.Asking.{asks_manager, asks_move, told_to_move}
-pub use Rattle.dm_kernel.specs.Begun.{begins_process, child_of, empty, opened, room_of, with_all, with_child}
+pub use Rattle.dm_kernel.specs.Begun.{begins_process, child_of, empty, opened, room_of, with_child}
 pub use Rattle.dm_kernel.specs.Coming.{accepts, answers_ask, holds_arriving, restarts, restarts_as, takes_piece, took_piece}
 pub use Rattle.dm_kernel.specs.Departing.{asked_to_move, freezes, freezing, gives_piece, holds_leaving, leaves, migrates, stays, tells_asker, with_frozen}
 pub use Rattle.dm_kernel.specs.Following.{board_follows, forwards, forwards_and, manager_follows, process_follows}

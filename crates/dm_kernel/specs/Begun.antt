@@ -1,5 +1,5 @@
 -- A machine as the boot file has it, and the processes that begin on it.
-use Rattle.std.specs.Prelude.{ℕ, ◌+◌, ◌==◌, if◌then◌else◌, List, [], ◌∷◌, ◌++◌, slice_get}
+use Rattle.std.specs.Prelude.{ℕ, ◌+◌, ◌==◌, if◌then◌else◌, List, [], ◌∷◌, ◌++◌, fold, slice_get}
 use Rattle.std.specs.declared.option.Option.{Option}
 use Rattle.std.specs.declared.option.Option.TheVariants.{None, Some}
 use Rattle.dm_link.specs.declared.Link.{Link}
@@ -38,10 +38,6 @@ abbrev pub begins_process : Boot → KernelState → BootProcess → Option Boot
 begins_process b s p None = s
 begins_process b s p (Some i) = if p.pid.home == s.here then with_child s p.pid (child_of b p.pid i p.links) i.blocks else s
 
-abbrev pub with_all : Boot → KernelState → List BootProcess → KernelState
-with_all b s [] = s
-with_all b s (p ∷ ps) = with_all b (begins_process b s p (slice_get b.images p.image)) ps
-
 abbrev pub room_of : Option BootMachine → Taken
 room_of None = nothing_taken 0 0
 room_of (Some r) = nothing_taken r.slots r.blocks
@@ -64,4 +60,4 @@ empty b m =
     }
 
 abbrev pub opened : Boot → ℕ → KernelState
-opened b m = with_all b (empty b m) b.processes
+opened b m = fold (λ s p. begins_process b s p (slice_get b.images p.image)) (empty b m) b.processes

@@ -10,5 +10,6 @@ pub mod Turn
 pub mod May
 pub mod Served
 pub mod Carried
+pub mod Code
 pub mod Meets
 pub mod Lawful

@@ -11,9 +11,7 @@ use Rattle.dm_records.specs.Records.{at}
 use Rattle.dm_kernel.specs.declared.kernel.Kernel.{Kernel}
 use Rattle.dm_kernel.specs.declared.part.Part.{Part}
 use Rattle.dm_kernel.specs.State.{KernelState, Turned}
-
-abbrev pub kernel_state : Kernel → KernelState
-kernel_state k = record { here = k.here; records = at k.records; ring = k.ring; inbox = k.inbox; made = k.made; sent = k.sent; room = k.room; servers = k.servers }
+pub use Rattle.dm_kernel.specs.Code.{kernel_state}
 
 -- the kernel is in this state
 pub record IsIn (k : Kernel) (s : KernelState) : Type 0 where

@@ -13,7 +13,6 @@ pub use Rattle.dm_stream.proofs.Names.{Ack, Acknowledge, Data, Deliver, DeliverB
 pub use Rattle.dm_stream.proofs.Names.{just_put, kept_once, kept_under, marked, max, moved_up, nat_lt, next, outstanding, slice_get_within, subst, window, ◌≢◌, ◌⊎◌}
 pub use Rattle.dm_stream.proofs.Places.{place-kept_other, place-kept_same, place-moved_up}
 pub use Rattle.dm_stream.proofs.Together.{StreamStands-happens, StreamStands-start}
-pub use Rattle.dm_stream.specs.Packets.{load_in}
 unfoldable pub use Rattle.dm_stream.specs.Packets.{load_at}
 pub use Rattle.dm_stream.specs.Receiving.{advanced}
 pub use Rattle.dm_message.specs.Kinds.{IsKindOfPlain}
@@ -159,7 +158,7 @@ pub use Rattle.dm_rulelaws.proofs.RunsAlways.{run_always, run_group, run_start}
 pub use Rattle.dm_rulelaws.proofs.Tables.Always.{format_always, tables_always}
 pub use Rattle.dm_node.proofs.Here.{StaysAt, asks_move_stays, turn_stays}
 pub use Rattle.dm_node.proofs.Names.{Acted, Acts, All-get_or, Arrived, Early, FreezesWhole, Goes, Halt, MayAct, MayArrive, MayAskMove, NodeState, Old, Packet, Part, Servers, Worn, acknowledges, acts, after_arrival, after_next, again}
-pub use Rattle.dm_node.proofs.Names.{all_out, arrival, asked_lawful, before, comes_in, count_out, counts_out, first_out, fresh_receiving, fresh_sender, fresh_sending, get_or_from_slice_get, gives, here, is_worn, lets_next, none_waits}
+pub use Rattle.dm_node.proofs.Names.{all_out, arrival, asked_lawful, before, comes_in, count_out, counts_out, first_out, fresh_receiving, fresh_sending, get_or_from_slice_get, gives, here, is_worn, lets_next, none_waits}
 pub use Rattle.dm_node.proofs.Names.{numbered, put_line, routes, routes_away, routes_home, sends_due, takes_next, then_, then_acknowledges, tick, turn_lawful, with_acked, with_given, with_message, with_receiver, with_sender, with_sent}
 pub use Rattle.dm_node.proofs.Staying.{MayAfter, arrives_may, turn_may}
 pub use Rattle.dm_node.specs.Acts.{sends}
@@ -184,4 +183,4 @@ pub use Rattle.dm_mirror.specs.Run.{GoesOn, RunStands, Steps, StopsWorn, joined}
 pub use Rattle.dm_mirror.specs.Stands.{AreMessages, ComesStand, CountsStand, HereStands, History, KernelStands, KnownStands, LeavesStand, NodeStands, PairStands, RoomStands, Stands, StandsWith, bytes_of, line_of, load_of, message_id}
 pub use Rattle.dm_mirror.specs.Stands.{servers_at, stream_of}
 pub use Rattle.dm_mirror.specs.Todo.{IsDirective, IsTodo, IsTwo}
-pub use Rattle.dm_mirror.specs.Tokens.{AllRecords, Carries, IsAsked, TokenStands, TokensStand, Wants, chunks, destination_of}
+pub use Rattle.dm_mirror.specs.Tokens.{AllRecords, Carries, IsAsked, TokenStands, TokensStand, Wants, destination_of}

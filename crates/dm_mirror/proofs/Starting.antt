@@ -1,7 +1,7 @@
 -- What a machine has as the boot file has it, field by field.
 use Rattle.dm_mirror.proofs.Names.{◌≡◌, ℕ, ◌<◌, ◌==◌, Bool, true, false, List, [], ◌∷◌, length, map, refl, ap, ◌∙◌, sym, subst, is_some, nat_lt, arith, if◌then◌else◌, slice_get, Option, None, Some, nat_tests, All-nil, Pid, pid_eq, Message}
 use Rattle.dm_mirror.proofs.Names.{IsLawfulMessage, Process, Sending, fresh_sending, fresh_receiving, kept_under, StreamStands-start, BootImage, BootMachine, BootProcess, Boot, IsValid, process_named, bind, first_life, KernelState}
-use Rattle.dm_mirror.proofs.Names.{child_of, empty, opened, room_of, with_all, with_child, opened_lawful, Record, fresh_sender, placed_start, started, start_mirrors, first_point, Known, is_server, first_world, History, KernelStands}
+use Rattle.dm_mirror.proofs.Names.{child_of, empty, opened, room_of, with_all, with_child, opened_lawful, Record, placed_start, started, start_mirrors, first_point, Known, is_server, first_world, History, KernelStands}
 use Rattle.dm_mirror.proofs.Names.{KnownStands, PairStands, StartStands, ◌+◌, ◌++◌, append_assoc, append-nil, starting_at, blocks_at, blocks_of_image, processes_are_valid, pid_eq-is, ring_at, begins_process, KernelKnown}
 use Rattle.dm_records.specs.declared.record.Record.TheVariants.{Here}
 use Rattle.dm_stream.specs.Order as order
@@ -173,7 +173,7 @@ none_kept n = grind (arith, nat_tests)
 pair_first : (b : Boot) (a c : ℕ) → IsValid b → c < length b.machines → PairStands b (first_point b) (placed_start b) (first_world b) no_history a c
 pair_first b a c valid lt =
     let within : nat_lt c 16 ≡ true = (let k = few b valid in grind (arith, nat_tests)) in
-    let sender : fresh_sender b.numbers c ≡ fresh_sending b.numbers = ap (λ (t : Bool). fresh_sending (if t then b.numbers else 0)) within in
+    let sender : fresh_sending {M = Message} (if nat_lt c 16 then b.numbers else 0) ≡ fresh_sending b.numbers = ap (λ (t : Bool). fresh_sending (if t then b.numbers else 0)) within in
     search (
       subst (λ (s : Sending Message). order.StreamStands (record { sender = s; receiver = fresh_receiving; given = []; taken = []; out = []; back = [] })) (sym sender) (StreamStands-start b.numbers (small b valid)),
       ap (λ (s : Sending Message). s.gone) sender,

@@ -23,14 +23,10 @@ use Rattle.dm_rule.specs.View.{Of, Told, View}
 use Rattle.dm_places.specs.Placed.{Placed}
 use Rattle.dm_message.specs.Sorts.{sort_of}
 
--- the chunks of a process's state
-abbrev pub chunks : Process → ℕ
-chunks x = (length (state_of x) + 511) / 512
-
--- this is what is asked for once so many pieces were, and it is there
+-- this is what is asked for once so many pieces were, first the chunks of the state and then the blocks, and it is there
 abbrev pub IsAsked : Process → ℕ → Wanted → Type 0
 IsAsked x n (Chunk k) = (n ≡ k + 1) × HasChunk (state_of x) k
-IsAsked x n (Block k) = (n ≡ chunks x + k + 1) × HasBlock x.memory k
+IsAsked x n (Block k) = (n ≡ (length (state_of x) + 511) / 512 + k + 1) × HasBlock x.memory k
 IsAsked x n Nothing = ⊤
 
 -- where it comes to, this is asked for

@@ -1,9 +1,9 @@
 -- A machine as the boot file has it.
 use Rattle.dm_node.proofs.Names.{◌≡◌, ℕ, suc, Bool, List, length, sym, ap, inl, inr, ◌∙◌, arith, if◌then◌else◌, replicate, get_or-replicate, get_or_past, leb_tells, Message, Sending, fresh_sending, Receiving, fresh_receiving, Boot}
-use Rattle.dm_node.proofs.Names.{KernelState, fresh_sender, node_opened, receiver_at, sender_at}
+use Rattle.dm_node.proofs.Names.{KernelState, nat_lt, node_opened, receiver_at, sender_at}
 use Rattle.dm_kernel.specs.Begun as kernel
 
-sixteen_senders : (numbers c : ℕ) → sender_at (replicate 16 (fresh_sending numbers)) c ≡ fresh_sender numbers c
+sixteen_senders : (numbers c : ℕ) → sender_at (replicate 16 (fresh_sending numbers)) c ≡ fresh_sending (if nat_lt c 16 then numbers else 0)
 sixteen_senders numbers c =
     elim (leb_tells (suc c) 16) [
       | inl e ↦ get_or-replicate 16 c (fresh_sending numbers) (fresh_sending 0) e.1 ∙ sym (ap (λ (b : Bool). fresh_sending {M = Message} (if b then numbers else 0)) e.0)

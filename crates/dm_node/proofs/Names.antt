@@ -47,7 +47,7 @@ pub use Rattle.dm_node.specs.Lawful.{ActsLawfully, IsLawfulOut}
 pub use Rattle.dm_node.specs.May.{MayAct, MayArrive, MayArrivePacket, MayAskMove, MayTurn}
 pub use Rattle.dm_node.specs.Meets.{Answers, AnswersSome, Gave, GaveActs, HasStreams, OrNoMemory, node_state, receiver_at, sender_at}
 pub use Rattle.dm_node.specs.Out.{Acted, Acts, Goes, Worn, behind, then_}
-pub use Rattle.dm_node.specs.State.{NodeState, fresh_sender, here, node_opened, with_message, with_receiver, with_sender}
+pub use Rattle.dm_node.specs.State.{NodeState, here, node_opened, with_message, with_receiver, with_sender}
 pub use Rattle.dm_node.specs.declared.node.Node.{Node}
 pub use Rattle.dm_node.specs.declared.out.Out.{Out}
 pub use Rattle.dm_node.specs.declared.out.Out.TheVariants.{Says, Sends}

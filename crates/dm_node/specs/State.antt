@@ -33,9 +33,6 @@ abbrev pub with_receiver : NodeState → ℕ → Receiving Message → NodeState
 with_receiver n a r = record n { receivers = at_machine n.receivers a r }
 
 -- there are streams to 16 machines
-abbrev pub fresh_sender : ℕ → ℕ → Sending Message
-fresh_sender numbers c = fresh_sending (if nat_lt c 16 then numbers else 0)
-
 -- a machine as the boot file has it: nothing was sent yet
 abbrev pub node_opened : Boot → ℕ → NodeState
 node_opened b m =
@@ -44,6 +41,6 @@ node_opened b m =
       machines = length b.machines;
       numbers = b.numbers;
       home = 0;
-      senders = fresh_sender b.numbers;
+      senders = λ c. fresh_sending (if nat_lt c 16 then b.numbers else 0);
       receivers = λ c. fresh_receiving;
     }

@@ -1,8 +1,9 @@
 -- The kernel without machines, with places: processes and messages as machines have them, wherever they are; and when
 -- that mirrors a kernel, a view and addresses.
-use Rattle.std.specs.Prelude.{◌≡◌, ⊤, ℕ, List, [], length, slice_get, option_map}
+use Rattle.std.specs.Prelude.{◌≡◌, ℕ, List, [], length, slice_get, option_map}
 use Rattle.std.specs.declared.option.Option.{Option}
 use Rattle.std.specs.declared.option.Option.TheVariants.{None, Some}
+use Rattle.std.specs.Option.{IfSome}
 use Rattle.dm_link.specs.declared.Pid.{Pid}
 use Rattle.dm_link.specs.declared.Addr.{Addr}
 use Rattle.dm_link.specs.declared.Link.{Link}
@@ -42,9 +43,8 @@ pub record Placed : Type 0 where
 
 -- the other side of a data move
 abbrev pub owner_at : Status → Option Addr
-owner_at status.Ready = None
-owner_at (status.Waiting mask base size) = None
 owner_at (status.Moving dir owner base own left pending) = Some owner
+owner_at s = None
 
 -- the links that a message encloses; messages of other kinds have none
 abbrev pub enclosed : What → List Link
@@ -72,8 +72,7 @@ plain_note k = record { id = manager_request k; asker = k.addr.pid }
 
 -- the link for the answer to a request names this place, if there is one
 abbrev pub AnswerNames : Option Link → Place → Type 0
-AnswerNames None place = ⊤
-AnswerNames (Some l) place = place ≡ place_of l.addr
+AnswerNames o place = IfSome o (λ (l : Link). place ≡ place_of l.addr)
 
 -- without places it is the kernel without machines
 pub record MirrorsKernel (s : OneKernel) (l : Placed) : Type 0 where

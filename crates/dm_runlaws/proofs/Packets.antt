@@ -40,7 +40,7 @@ carries ps ws k n are e = carries_some ps k n (slice_get ps k) refl (ap number_o
 
 carried_at : (ps : List (stream.Packet Message)) (k n : ℕ) (c : Carries ps k n) → load_at ps k ≡ Some (stream.Data n c.message)
 unfolding load_at
-carried_at ps k n c = ap stream.load_in c.there ∙ ap Some c.load
+carried_at ps k n c = ap (option_map (λ (p : stream.Packet Message). p.load)) c.there ∙ ap Some c.load
 
 carried_bytes : (a c : ℕ) (ps : List (stream.Packet Message)) (ws : List wire.Sent) (k n : ℕ) (h : Carries ps k n) → ws ≡ map (bytes_of a c) ps → bytes_at ws k ≡ Some (spelling (packet.Data a c n h.message))
 carried_bytes a c ps ws k n h are =

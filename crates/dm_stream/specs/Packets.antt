@@ -1,5 +1,6 @@
 -- The packets on the wire from one machine to another: a list that only grows, with a mark for what was delivered.
-use Rattle.std.specs.Prelude.{◌≡◌, ℕ, zero, suc, ◌<◌, Bool, true, false, List, [], ◌∷◌, length, slice_get, Option, Some, None, option_map}
+use Rattle.std.specs.Prelude.{◌≡◌, ℕ, zero, suc, ◌<◌, Bool, true, false, List, [], ◌∷◌, length, slice_get, Option, Some, option_map}
+use Rattle.std.specs.Option.{option_map_or}
 
 -- what a packet carries: a message with its number, or the count of an acknowledgement
 pub data Load (M : Type 0) : Type 0 where
@@ -25,20 +26,13 @@ module _ {M : Type 0} where
   marked (p ∷ wire) zero = with_mark p ∷ wire
   marked (p ∷ wire) (suc k) = p ∷ marked wire k
 
-  abbrev pub load_in : Option (Packet M) → Option (Load M)
-  load_in o = option_map (λ p. p.load) o
-
-  abbrev pub delivered_in : Option (Packet M) → Bool
-  delivered_in None = false
-  delivered_in (Some p) = p.delivered
-
   -- what the packet at this place carries
   unfoldable pub load_at : List (Packet M) → ℕ → Option (Load M)
-  load_at wire k = load_in (slice_get wire k)
+  load_at wire k = option_map (λ p. p.load) (slice_get wire k)
 
   -- there is a packet at this place, and it was delivered
   unfoldable pub delivered_at : List (Packet M) → ℕ → Bool
-  delivered_at wire k = delivered_in (slice_get wire k)
+  delivered_at wire k = option_map_or (λ p. p.delivered) (slice_get wire k) false
 
   -- some packet that was sent carries this message under this number
   abbrev pub HasData : List (Packet M) → ℕ → M → Type 0

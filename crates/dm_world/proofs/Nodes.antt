@@ -2,7 +2,7 @@
 use Rattle.dm_world.proofs.Names.{◌≡◌, ◌≢◌, ℕ, suc, ◌+◌, ◌<◌, ◌≤◌, Bool, List, [], ◌∷◌, ◌++◌, length, refl, sym, ap, subst, ◌∙◌, inl, inr, arith, length-set, get_or, get_or-set_same, get_or-set_other, length-append, get_or-append_seam}
 use Rattle.dm_world.proofs.Names.{get_or_append_left, set, ◌⊎◌, if◌then◌else◌, slice_get, slice_index_or, All, Option, None, Some, Err, eqb_tells, leb_tells, leb-true, All-weaker, get_or_from_slice_get, slice_get-get_or, slice_get_cases}
 use Rattle.dm_world.proofs.Names.{slice_get_past, slice_get_within, Boot, Packet, Data, Ack, at_machine, Node, Stop, Out, NodeState, here, node_opened, Acted, Acts, Goes, Worn, arrives_packet, MayArrivePacket, arrives_lawfully}
-use Rattle.dm_world.proofs.Names.{ActsLawfully, IsLawfulOut, AnswersSome, Gave, GaveSome, World, ActedAt, ActedSome, AreNodes, IsNode, IsSendable, IsWorld, TurnAnswers, node_in, node_or}
+use Rattle.dm_world.proofs.Names.{ActsLawfully, IsLawfulOut, AnswersSome, Gave, GaveSome, World, ActedAt, ActedSome, AreNodes, IsNode, IsSendable, IsWorld, TurnAnswers, node_in, option_map_or}
 use Rattle.dm_packet.specs.declared.Packet.TheVariants as packet
 use Rattle.dm_node.specs.declared.stop.Stop.TheVariants as stop
 use Rattle.dm_node.specs.declared.out.Out.TheVariants as out
@@ -22,6 +22,9 @@ set_get_other xs i j v apart =
           let past : length xs ≤ j = omega (arith, e.1) in
           slice_get_past (set xs i v) j (rw (length-set xs i v) past) ∙ sym (slice_get_past xs j past)
     ]
+
+abbrev node_or : Boot → ℕ → Option Node → NodeState
+node_or b m o = option_map_or node_state o (node_opened b m)
 
 -- the machine at a place
 pub node_there : (b : Boot) (nodes : List Node) (m : ℕ) (n : Node) → slice_get nodes m ≡ Some n → node_in b nodes m ≡ node_state n

@@ -3,6 +3,7 @@ pub mod May
 pub mod Next
 pub mod Ends
 pub mod Meets
+pub mod Spoke
 pub mod Local
 pub mod Cursor
 pub mod Readable

@@ -1,12 +1,12 @@
 -- The world of the code, over the plain one.
-use Rattle.std.specs.Prelude.{◌≡◌, ⊤, ℕ, List, ◌++◌, Vec, length, slice_get}
+use Rattle.std.specs.Prelude.{◌≡◌, ⊤, ℕ, List, Vec, length, slice_get}
+use Rattle.std.specs.Option.{option_map_or}
 use Rattle.std.specs.declared.alloc.Global.{Global}
 use Rattle.std.specs.declared.option.Option.{Option}
 use Rattle.std.specs.declared.option.Option.TheVariants.{None, Some}
 use Rattle.std.specs.declared.result.Result.{Result}
 use Rattle.std.specs.declared.result.Result.TheVariants.{Ok, Err}
 use Rattle.dm_packet.specs.Lawful.{IsLawfulPacket}
-use Rattle.dm_wire.specs.Sent.{Sent}
 use Rattle.dm_wire.specs.Wire.{packets_on}
 use Rattle.dm_onekernel.specs.declared.boot.Boot.{Boot}
 use Rattle.dm_onekernel.specs.Boot.{IsValid}
@@ -21,17 +21,12 @@ use Rattle.dm_node.specs.State.{NodeState, node_opened}
 use Rattle.dm_node.specs.Out.{Acted, Acts, Goes, Worn}
 use Rattle.dm_node.specs.Meets as node
 use Rattle.dm_node.specs.Meets.{HasStreams, IsWornSome}
-use Rattle.dm_node.specs.Wired.{Spoken}
 use Rattle.dm_world.specs.declared.world.World.{World}
 use Rattle.dm_world.specs.World.{WorldState, Happened, Says, WornOut}
 
 -- machine m of these; those past the end are as the boot file has them
-abbrev pub node_or : Boot → ℕ → Option Node → NodeState
-node_or b m None = node_opened b m
-node_or b m (Some n) = node.node_state n
-
 unfoldable pub node_in : Boot → List Node → ℕ → NodeState
-node_in b nodes m = node_or b m (slice_get nodes m)
+node_in b nodes m = option_map_or node.node_state (slice_get nodes m) (node_opened b m)
 
 abbrev pub world_state : World → WorldState
 world_state w = record { nodes = node_in w.boot w.nodes.items; wires = packets_on w.wires; groups = w.groups }
@@ -71,11 +66,6 @@ TurnAnswers (Err (stop.NoMemory e)) b old new m o = ⊤
 abbrev pub IsSendable : Out → Type 0
 IsSendable (out.Says l) = ⊤
 IsSendable (out.Sends p) = IsLawfulPacket p
-
--- these lines are said behind those that there were, and these packets put on the wires
-pub record Spoke (old new : List Line) (now : ℕ → ℕ → List Sent) (s : Spoken) : Type 0 where
-  pub lines : new ≡ old ++ s.lines
-  pub wires : (a c : ℕ) → now a c ≡ s.wires a c
 
 -- the world is in this state, and the lines are these
 pub record Meets (w : WorldState) (lines : List Line) (h : Happened) : Type 0 where

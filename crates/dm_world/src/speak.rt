@@ -6,7 +6,8 @@ ghost use Rattle.dm_packet.specs.Packets.{packet_of, spelling};
 ghost use Rattle.dm_line.specs.declared.line.Line.TheVariants as line_;
 ghost use Rattle.dm_wire.specs.Wire.{packets_on};
 ghost use Rattle.dm_node.specs.Wired.{packet_line, spoken, with_packet};
-ghost use Rattle.dm_world.specs.Meets.{IsSendable, Spoke};
+ghost use Rattle.dm_world.specs.Meets.{IsSendable};
+ghost use Rattle.dm_world.specs.Spoke.{Spoke};
 ghost use Rattle.dm_world.specs.Readable.{AreReadBack};
 
 use dm_line::line::{Line, Load};

@@ -4,7 +4,7 @@ use Rattle.dm_mirror.proofs.Names.{MsgId, MessageKind, kind_of, PlainMessage, pl
 use Rattle.dm_mirror.proofs.Names.{told_between, Point, Spot, Inbox, StandsOnce, StandsOutside, standing, times, Of, Told, is_kernels, stands_right, not_kernels, token_is, token_at, is_server, Run, Placed, Mirrors, KernelState, MadeStands}
 use Rattle.dm_mirror.proofs.Names.{AllOwnStand, OwnStands, about_of, told_of, AreMessages, KernelStands, AllRecords, Carries, TokensStand, destination_of, inbox_is, about_same, ◌*◌, ◌/◌, ◌<◌, ◌==◌, not, [], length, map, nat_lt, nat_le}
 use Rattle.dm_mirror.proofs.Names.{flat_map, length-append, flat_map-cons, Link, plain_link, Shell, registers, shell_of, spell_slot, numbers_size, Chunk, Block, Nothing, after_block, after_chunk, is_last, state_of, HasPiece, plain_status}
-use Rattle.dm_mirror.proofs.Names.{chunks_of, links_size, pieces_of, status_size, IsAsked, chunks, shell_spelling, sort_of, option_map_or}
+use Rattle.dm_mirror.proofs.Names.{chunks_of, links_size, pieces_of, status_size, IsAsked, shell_spelling, sort_of, option_map_or}
 use Rattle.dm_rule.proofs.QuietTests.{eq_is}
 use Rattle.dm_onekernel.specs.Step as kernel
 use Rattle.dm_mirror.proofs.Leave.Goes.{life_some as alive_made}
@@ -147,7 +147,7 @@ shell_length : (s : Shell) → length s.regs.r ≡ 16 → length (shell_spelling
 unfolding shell_spelling
 shell_length s sixteen = grind (arith, nat_tests, flat_map, length-append, registers_length, slots_length)
 
-pub chunks_same : (x : Process) → length x.regs.r ≡ 16 → chunks x ≡ chunks_of (plain_process x)
+pub chunks_same : (x : Process) → length x.regs.r ≡ 16 → (length (state_of x) + 511) / 512 ≡ chunks_of (plain_process x)
 chunks_same x sixteen = ap (λ (n : ℕ). (n + 511) / 512) (shell_length (shell_of x) sixteen)
 
 least_of : (a c : ℕ) → nat_le a c ≡ true → a ≤ c
@@ -164,7 +164,7 @@ chunk_last x n k sixteen asked =
 -- what is asked for then
 chunk_next : (last : Bool) (x : Process) (n k : ℕ) → nat_le (length (state_of x)) (512 * (k + 1)) ≡ last → IsAsked x n (Chunk k) → HasPiece x (after_chunk k last) → IsAsked x (n + 1) (after_chunk k last)
 chunk_next true x n k e asked there =
-    let f : chunks x ≡ k + 1 = (let g = least_of (length (state_of x)) (512 * (k + 1)) e in let h = asked.1 in omega (arith, g, h)) in
+    let f : (length (state_of x) + 511) / 512 ≡ k + 1 = (let g = least_of (length (state_of x)) (512 * (k + 1)) e in let h = asked.1 in omega (arith, g, h)) in
     (omega (arith, f, asked.0), there)
 chunk_next false x n k e asked there = (omega (arith, asked.0), there)
 

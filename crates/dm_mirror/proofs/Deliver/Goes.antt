@@ -2,7 +2,7 @@
 use Rattle.dm_mirror.proofs.Names.{◌≡◌, ◌≢◌, ℕ, ◌+◌, ◌-◌, ◌<◌, ◌≤◌, List, [], ◌∷◌, length, refl, ap, ◌∙◌, sym, subst, arith, Some, Message, Sending, with_acked, Receiving, after_arrival, Arrived, Data, Ack, load_at, Sent, after_mark, Boot}
 use Rattle.dm_mirror.proofs.Names.{nat_tests, Line, at_pair, Pair, oldest, at_least, Point, moved, has, kept_from, less, more, numbers_from, repeats, taken_pair, Placed, NodeState, here, with_message, with_receiver, with_sender}
 use Rattle.dm_mirror.proofs.Names.{acknowledges, before, lets_go, takes_kept, then_acknowledges, WorldState, History, StandsWith, less-right, more-is, ◌^◌, slice_get, option_map, Ok, Option, slice_get-map, Packet, packet_of, spelling}
-use Rattle.dm_mirror.proofs.Names.{packet_again, load_in, bytes_at, line_of, nat_le, nat_lt, true, drop, Result, PacketError, ◌>>=◌, IsRoute, only_packet, message, read_rest, spell_message, IsField-number, guard_ok, outstanding}
+use Rattle.dm_mirror.proofs.Names.{packet_again, bytes_at, line_of, nat_le, nat_lt, true, drop, Result, PacketError, ◌>>=◌, IsRoute, only_packet, message, read_rest, spell_message, IsField-number, guard_ok, outstanding}
 use Rattle.dm_mirror.proofs.Names.{MayCome-stands, get-drop, IsValid, IsReadable, zero, suc, eqb_tells, bind-is, MsgId, next, due, bind, Spelled, packet_line, spelled, after, at_machine, View, view_after, IsNet, IsNetLine, comes_in}
 use Rattle.dm_mirror.proofs.Names.{lets_next, takes_next, Acted, OneKernel, CountsStand, behind}
 use Rattle.dm_rule.proofs.Names.{Part}
@@ -137,6 +137,9 @@ bytes_are b l a c x sent p k h = grind (arith, nat_tests, option_map, slice_get-
 
 pub lines_are : (b : Boot) (l : Placed) (a c : ℕ) (x : Ends) (sent : List Sent) (p : Pair) (k : ℕ) → PairIs b l a c x sent p → slice_get p.wire k ≡ option_map line_of (slice_get x.out k)
 lines_are b l a c x sent p k h = ap (λ (ss : List view.SentLoad). slice_get ss k) (sym h.packets) ∙ slice_get-map line_of x.out k
+
+abbrev load_in : Option (stream.Packet Message) → Option (Load Message)
+load_in o = option_map (λ p. p.load) o
 
 pub load_is : (ps : List (stream.Packet Message)) (k : ℕ) (o : Option (stream.Packet Message)) → slice_get ps k ≡ o → load_at ps k ≡ load_in o
 unfolding load_at
