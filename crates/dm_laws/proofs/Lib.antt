@@ -1,5 +1,6 @@
 pub mod Names
 pub mod Equal
+pub mod Facts
 pub mod Counted
 pub mod Entered
 pub mod Movers

@@ -1,7 +1,8 @@
 -- What the proofs of this crate name of what lies below it.
 pub use Rattle.std.proofs.Common.{inl, inr, is_none, is_some, nat_le, nat_lt, ◌⊎◌}
-pub use Rattle.std.proofs.lemmas.Bool.{cases_Bool, false≢true}
-pub use Rattle.std.specs.Prelude.{if◌then◌else◌, option_map, ⊤}
+pub use Rattle.std.proofs.lemmas.Bool.{and_right, cases_Bool, false≢true, or_parts}
+pub use Rattle.std.proofs.lemmas.Option.{cond_some}
+pub use Rattle.std.specs.Prelude.{if◌then◌else◌, option_map, ⊤, ◌||◌}
 pub use Rattle.std.specs.declared.option.Option.{Option}
 pub use Rattle.std.specs.declared.option.Option.TheVariants.{None, Some}
 pub use mathlib.Core.Path.{fun_ext}

@@ -88,7 +88,7 @@ stays_or_leaves b ls s t l id m valid is next there =
     let a = after_step (λ i. 0 + receptions i ls) first.e' s t l next first.sound in
     stays_or_leaves_of (t.bag id) m (λ x then_. a.only id m x there then_)
 
-ended_stays_of : (l m : Option Life) (y : Why) → LifeGrows l m → l ≡ Some (Ended y) → m ≡ Some (Ended y)
+pub ended_stays_of : (l m : Option Life) (y : Why) → LifeGrows l m → l ≡ Some (Ended y) → m ≡ Some (Ended y)
 ended_stays_of (Some (Ended z)) m y g e = g ∙ e
 ended_stays_of _ m y g e = cc
 

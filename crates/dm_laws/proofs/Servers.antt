@@ -285,12 +285,12 @@ after_no_space r e s t id a b is h =
     let (m, there, rest) = bind-is (s.bag id) (λ v. service.has_no_room s id v v.what) t is in
     no_room_row r e s t id m m.what a b refl there rest h
 
-none_below : (s : OneKernel) (p : Pid) (o : Option Life) → s.processes p ≡ o → (is_some (s.processes p) ≡ true → nat_lt p.num (3 + s.made p.home) ≡ true) → p.num ≡ first_number + s.made p.home → o ≡ None
+pub none_below : (s : OneKernel) (p : Pid) (o : Option Life) → s.processes p ≡ o → (is_some (s.processes p) ≡ true → nat_lt p.num (3 + s.made p.home) ≡ true) → p.num ≡ first_number + s.made p.home → o ≡ None
 none_below s p None e h n = refl
 none_below s p (Some l) e h n = absurd (let k = h (ap is_some e) in let z : nat_lt p.num (3 + s.made p.home) ≡ false = grind (arith, nat_tests) in false≢true (sym z ∙ k))
 
 -- the next number of a home is no process's
-next_is_new : (s : OneKernel) (home : ℕ) → Made s → s.processes (pid_of home (first_number + s.made home)) ≡ None
+pub next_is_new : (s : OneKernel) (home : ℕ) → Made s → s.processes (pid_of home (first_number + s.made home)) ≡ None
 next_is_new s home h = none_below s (pid_of home (first_number + s.made home)) (s.processes (pid_of home (first_number + s.made home))) refl (h.most (pid_of home (first_number + s.made home))) refl
 
 unborn : (e : MsgId → ℕ) (s : OneKernel) (p q : Pid) (n : MoveNote) → s.processes p ≡ None → s.notes q ≡ Some n → Notes e s → pid_eq p q ≡ false

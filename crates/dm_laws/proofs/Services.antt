@@ -1,6 +1,6 @@
 -- What the steps of kernels and servers keep.
 use Rattle.dm_laws.proofs.Names.{◌≡◌, ℕ, ◌+◌, ◌-◌, ◌==◌, Bool, true, false, refl, ap, ◌∙◌, sym, subst, inl, inr, arith, if◌then◌else◌, take, drop, Option, None, Some, fun_ext, false≢true, Pid, pid_eq, MsgId, id_of, PlainMessage, PlainWhat}
-use Rattle.dm_laws.proofs.Names.{Direction, Label, bind, PlainProcess, PlainStatus, Ready, Moving, Life, Alive, Ended, OneKernel, with_process, with_sent, answer_id, answer_to, without_message, reception, Reply, Why}
+use Rattle.dm_laws.proofs.Names.{Direction, Label, bind, PlainProcess, PlainStatus, Ready, Moving, Life, Alive, Ended, OneKernel, with_process, with_sent, answer_id, answer_to, without_message, reception, Reply, Why, cond_some}
 use Rattle.dm_onekernel.specs.Pieces as pieces
 use Rattle.dm_onekernel.specs.Service as service
 use Rattle.dm_onekernel.specs.Step as step
@@ -126,10 +126,6 @@ after_lands r e s id m x (pieces.Next request y) l there is free piece lands non
     (was_none r e s t request.id request (sent_at (with_process (without_message s id) m.to (Alive y)) request request.id (id_eq-same request.id)) after h)
     (stayed s id) (Went-process s t m.to x (Alive y) is (omega (arith, count)) free (λ q. refl) (λ n. refl) refl refl) after
 
-if_some-is : {A : Type 0} (b : Bool) (x y : A) → (if b then Some x else None) ≡ Some y → x ≡ y
-if_some-is true x y e = cc
-if_some-is false x y e = cc
-
 lands_row : (r e : MsgId → ℕ) (s t : OneKernel) (id : MsgId) (m : PlainMessage) (x : PlainProcess) → s.bag id ≡ Some m → s.processes m.to ≡ Some (Alive x) → s.notes m.to ≡ None → is_piece m.what ≡ true
     → bind (pieces.lands m.to x m x.status) (λ c. Some (service.landed s id m c)) ≡ Some t → Sound r e s → After r e s (Label.Served id) t
 lands_row r e s t id m x there is free piece e_ h =
@@ -157,16 +153,16 @@ after_serves r e s t id m x PlainWhat.Kill w there is free e_ h =
     (quiet r e s v (Label.Served id) (λ i. refl) (stayed s id) (Went-process s v m.to x (Ended Why.Killed) is tt free (λ q. refl) (λ n. refl) refl refl) (ending r e u m.to x Why.Killed is free (leaves r e s id un h)))
 after_serves r e s t id m x (PlainWhat.Read base len) w there is free e_ h =
     let (c, served, last) = bind-is (pieces.reads x m base len) (λ v. Some (service.answered s id m v)) t e_ in
-    let k = if_some-is _ (record { process = x; answer = answer_to m (PlainWhat.Block (take len (drop base x.memory))) }) c served in
+    let k = cond_some _ (record { process = x; answer = answer_to m (PlainWhat.Block (take len (drop base x.memory))) }) c served in
     let f : service.answered s id m c ≡ t = cc in
-    subst (After r e s (Label.Served id)) (ap (service.answered s id m) k ∙ f)
+    subst (After r e s (Label.Served id)) (ap (service.answered s id m) k.1 ∙ f)
     (serves_piece r e s id m x x (PlainWhat.Block (take len (drop base x.memory))) (Label.Served id) there is free refl refl (ap is_of_memory w) (ap asks w) refl refl refl (λ i. refl) h)
 after_serves r e s t id m x (PlainWhat.Write base bytes) w there is free e_ h =
     let (c, served, last) = bind-is (pieces.writes x m base bytes) (λ v. Some (service.answered s id m v)) t e_ in
     let y = record x { memory = pieces.written_at x.memory base bytes } in
-    let k = if_some-is _ (record { process = y; answer = answer_to m PlainWhat.Written }) c served in
+    let k = cond_some _ (record { process = y; answer = answer_to m PlainWhat.Written }) c served in
     let f : service.answered s id m c ≡ t = cc in
-    subst (After r e s (Label.Served id)) (ap (service.answered s id m) k ∙ f)
+    subst (After r e s (Label.Served id)) (ap (service.answered s id m) k.1 ∙ f)
     (serves_piece r e s id m x y PlainWhat.Written (Label.Served id) there is free refl refl (ap is_of_memory w) (ap asks w) refl refl refl (λ i. refl) h)
 after_serves r e s t id m x (PlainWhat.Block bytes) w there is free e_ h = lands_row r e s t id m x there is free (ap is_piece w) e_ h
 after_serves r e s t id m x PlainWhat.Written w there is free e_ h = lands_row r e s t id m x there is free (ap is_piece w) e_ h

@@ -79,7 +79,7 @@ not_server s p x is h = let k = h.least p (alive_is_some s p x is) in (grind (ar
 pub counts_process : (s : OneKernel) (p : Pid) (i : MsgId) → i.from ≡ p → (pid_eq p switchboard ≡ false) × (pid_eq p manager ≡ false) → counts s i ≡ is_counted i.n (s.processes p)
 counts_process s p i e f = let a = f.0 in let b = f.1 in grind (arith, nat_tests)
 
-process_at : (s : OneKernel) (p : Pid) (life : Life) → (with_process s p life).processes p ≡ Some life
+pub process_at : (s : OneKernel) (p : Pid) (life : Life) → (with_process s p life).processes p ≡ Some life
 process_at s p life = ap (λ (b : Bool). if b then Some life else s.processes p) (pid_eq-same p)
 
 enters_by : (s : OneKernel) (p : Pid) (x y : PlainProcess) (m : PlainMessage) → s.processes p ≡ Some (Alive x) → Sent p x m y → Made s → ((i : MsgId) → counts s i ≡ true → counts (with_process s p (Alive y)) i ≡ true)

@@ -1,7 +1,7 @@
 -- What each step of the kernel without machines keeps.
 use Rattle.dm_laws.proofs.Names.{◌≡◌, ℕ, ◌+◌, ◌≤◌, ◌&&◌, Bool, true, false, refl, ap, ◌∙◌, sym, subst, is_some, is_none, ◌⊎◌, inl, inr, arith, ⊤, if◌then◌else◌, Option, None, Some, cases_Bool, Pid, MsgId, id_eq, id_of, PlainMessage}
 use Rattle.dm_laws.proofs.Names.{PlainWhat, Row, instruction, Label, Reply, Why, bind, when, PlainProcess, PlainStatus, Ready, Waiting, Life, Alive, Ended, MoveNote, OneKernel, with_process, with_sent, without_message, reception, entry}
-use Rattle.dm_laws.proofs.Names.{in_bag}
+use Rattle.dm_laws.proofs.Names.{in_bag, cond_some}
 use Rattle.dm_onekernel.specs.Calls as calls
 use Rattle.dm_onekernel.specs.Receiving as receiving
 use Rattle.dm_onekernel.specs.Step as step
@@ -30,7 +30,7 @@ pub record After (r e : MsgId → ℕ) (s : OneKernel) (l : Label) (t : OneKerne
 abbrev pub Sub : OneKernel → OneKernel → Type 0
 Sub t s = (i : MsgId) (x : PlainMessage) → t.bag i ≡ Some x → s.bag i ≡ Some x
 
-abbrev one_if : Bool → ℕ
+abbrev pub one_if : Bool → ℕ
 one_if b = if b then 1 else 0
 
 pub entry_of : (a b : Option PlainMessage) → ((x : PlainMessage) → b ≡ Some x → a ≡ Some x) → one_if (is_none a && is_some b) ≡ 0
@@ -238,14 +238,10 @@ pub record Completing (s : OneKernel) (p : Pid) (id : MsgId) (c : receiving.Comp
 abbrev UserCompletes : PlainProcess → PlainMessage → receiving.Completed → Type 0
 UserCompletes x m c = (is_of_memory m.what ≡ false) × (is_piece m.what ≡ false) × Completes x c
 
-if_some : {A : Type 0} (b : Bool) (x y : A) → (if b then Some x else None) ≡ Some y → x ≡ y
-if_some true x y e = cc
-if_some false x y e = cc
-
 completes_what-is : (p : Pid) (x : PlainProcess) (m : PlainMessage) (mask base size : ℕ) (w : PlainWhat) (c : receiving.Completed) → receiving.completes_what p x m mask base size w ≡ Some c
     → (is_of_memory w ≡ false) × (is_piece w ≡ false) × Completes x c
 completes_what-is p x m mask base size (PlainWhat.User code channel body links) c e =
-    (refl, refl, subst (Completes x) (if_some _ (receiving.completes x base size code channel body links) c e) (completes-is x base size code channel body links))
+    (refl, refl, subst (Completes x) (cond_some _ (receiving.completes x base size code channel body links) c e).1 (completes-is x base size code channel body links))
 completes_what-is p x m mask base size _ c e = cc
 
 completes_status-is : (p : Pid) (x : PlainProcess) (m : PlainMessage) (st : PlainStatus) (c : receiving.Completed) → receiving.completes_status p x m st ≡ Some c → UserCompletes x m c

@@ -2,14 +2,14 @@
 pub mod Pairs
 pub mod AtEnds
 pub mod Waiting
-use Rattle.dm_mirror.proofs.Names.{◌≡◌, inl, inr, ℕ, ◌+◌, ◌<◌, ◌≤◌, true, List, [], ◌∷◌, length, nat_le, refl, ap, ◌∙◌, sym, subst, arith, Some, nat_tests, Pid, Boot, IsValid, OneKernel, Step, Line, Stage, Known, ascends, IsStep, Leads}
-use Rattle.dm_mirror.proofs.Names.{Says, Spelled, spelled, Point, first_point, moved, group_of, at_pid, at_record, View, actor, view_after, GroupIs, group_is, said, says_next, both, Both, RunGoes, RunStarts, both_group, both_start, Run}
+use Rattle.dm_mirror.proofs.Names.{◌≡◌, inl, inr, ℕ, ◌+◌, ◌<◌, ◌≤◌, true, List, [], ◌∷◌, length, nat_le, refl, ap, ◌∙◌, sym, subst, arith, Some, nat_tests, Pid, Boot, IsValid, Step, Line, Stage, Known, ascends, IsStep, Leads, false≢true}
+use Rattle.dm_mirror.proofs.Names.{Says, Spelled, spelled, Point, first_point, moved, group_of, at_pid, at_record, actor, view_after, GroupIs, group_is, said, says_next, both, Both, RunGoes, RunStarts, both_group, both_start, Run}
 use Rattle.dm_mirror.proofs.Names.{Label, None, Option, Routes, answer_id, Outcome, MoveNote, Pending}
 use Rattle.dm_rule.proofs.Names.{Part}
 use Rattle.dm_rule.specs.Migrating.{tells_asker}
-use Rattle.dm_mirror.proofs.Counts.AtEnds.{BearEnds, Ends, PutsOne, Under, bear_ends, ends, ends_before, own_puts, routes_next, under_more, under_within, Bears, FrontRestarts, Pays, Restarts, Sort, SortIf, outcome_sort}
-use Rattle.dm_mirror.proofs.Counts.Pairs.{within_group, OwnFew, PairsWithin, own_group, line_still, CountsFew}
-use Rattle.dm_mirror.proofs.Counts.Waiting.{Routed, routed_group, routed_start, waiting_few, first_count, moves_start, pairs_start, under_start, MovesFew, moves_put, moves_restart, moves_still}
+use Rattle.dm_mirror.proofs.Counts.AtEnds.{BearEnds, Ends, PutsOne, Under, bear_ends, ends, ends_before, own_puts, part_next, under_more, under_within, Bears, FrontRestarts, Pays, Restarts, Sort, SortIf, outcome_sort}
+use Rattle.dm_mirror.proofs.Counts.Pairs.{within_group, OwnFew, PairsWithin, line_still, CountsFew, group_keeps, line_own}
+use Rattle.dm_mirror.proofs.Counts.Waiting.{Routed, waiting_few, first_count, moves_start, under_start, MovesFew, moves_put, moves_restart, moves_still, line_routed}
 use Rattle.dm_mirror.proofs.Machines.{few_machines, machines_group, some_machine}
 use Rattle.dm_mirror.proofs.Raises.{sent_of}
 use Rattle.dm_mirror.proofs.RaisesMade.{move_answered_raises}
@@ -30,10 +30,9 @@ record Rises (n : ℕ) (pt : Point) : Type 0 where
 
 paid_rises : (n : ℕ) (pt end : Point) → PairsWithin n end.view → Ends (first_count + total pt.view n) pt end → MovesFew n pt.view → Rises n end
 paid_rises n pt end within h moves =
-    let more = total_grows pt.view end.view n h.grows in
     record {
       under = elim h.under [
-        | inl u ↦ under_more (first_count + total pt.view n) (first_count + total end.view n) end.kernel (omega (arith, more)) u
+        | inl u ↦ under_more (first_count + total pt.view n) (first_count + total end.view n) end.kernel (omega (arith, total_grows pt.view end.view n h.grows)) u
         | inr u ↦
             let adds : total pt.view n + 1 ≤ total end.view n = grind (arith, nat_tests, total_adds, h.grows, u.1) in
             under_more (first_count + total pt.view n + 1) (first_count + total end.view n) end.kernel (omega (arith, adds)) u.0
@@ -68,12 +67,6 @@ begun pt d = moved pt (Line.Head d) pt.kernel
 head_moves : (pt : Point) (d : Step) → (begun pt d).view.moves ≡ pt.view.moves
 head_moves pt d = (line_still pt.view (Line.Head d) refl).moves
 
-head_known : (v : View) (d : Step) → (view_after v (Line.Head d)).known ≡ v.known
-head_known v d = grind (arith, nat_tests)
-
-head_acting : (v : View) (d : Step) → (view_after v (Line.Head d)).acting ≡ actor d
-head_acting v d = grind (arith, nat_tests)
-
 -- whoever asked for a move is told that it has ended: no count is raised, and nothing moves
 record Answered (pt end : Point) : Type 0 where
   under : (n : ℕ) → Under n pt.kernel → Under n end.kernel
@@ -86,7 +79,7 @@ answered None pt w e = subst (Answered pt) (said pt w e) (record { under = λ n 
 answered (Some note) pt w e =
     let l = Line.Label (Label.Answered note.id Outcome.Done) in
     let k = says_next pt l (Routes (answer_id note.id) ∷ []) w e in
-    let r = routes_next (moved pt l k.s) (answer_id note.id) [] k.rest k.more in
+    let r = part_next (moved pt l k.s) (Routes (answer_id note.id)) [] k.rest refl k.more in
     let a = r.after_put in
     let within = (move_answered_raises pt.kernel k.s note.id Outcome.Done k.is).within in
     subst (Answered pt) (said r.next r.rest r.on ∙ r.end ∙ k.point)
@@ -123,9 +116,10 @@ rises b pt d w n g (Bears all own) run after within under moves =
 rises b pt d w n g (Restarts p front asked is) run after within under moves =
     let start = begun pt d in
     let r = subst (Restarted start p) g.point (restarted start p asked g.parts g.rest is g.said) in
+    let head_known : (view_after pt.view (Line.Head d)).known ≡ pt.view.known = grind (arith, nat_tests) in
     restart_rises b n (actor d) pt w.point p run after front r.under (grows_on pt.view start.view w.point.view (line_grows pt.view (Line.Head d)) r.grows)
     (r.moves ∙ ap (λ (f : Pid → ℕ). at_pid f p (f p + 1)) (head_moves pt d))
-    (r.known ∙ ap (λ (m : ℕ). at_record start.view.known m p Known.Here) (head_acting pt.view d) ∙ ap (λ f. at_record f (actor d) p Known.Here) (head_known pt.view d)) under moves
+    (r.known ∙ ap (λ (m : ℕ). at_record start.view.known m p Known.Here) (let e_ : (view_after pt.view (Line.Head d)).acting ≡ actor d = grind (arith, nat_tests) in e_) ∙ ap (λ f. at_record f (actor d) p Known.Here) head_known) under moves
 
 -- each group
 few_group : (b : Boot) (pt : Point) (d : Step) (w : Spelled) (n : ℕ) → 0 < n → pt.kernel.machines ≡ n → IsStep n d → group_of b pt d ≡ Some w → Run b pt → Run b w.point → Few n pt → Few n w.point
@@ -133,11 +127,12 @@ few_group b pt d w n some machines fit is run after h =
     let g = group_is b pt d w is in
     let within = within_group b pt d w n some machines (machines_group b pt d w is ∙ machines) fit is run.based.phased.pairs after h.within in
     let r = rises b pt d w n g (subst (SortIf pt (actor d)) g.is (outcome_sort b pt d run)) run after within h.under h.moves in
-    record { within = within; own = own_group n b pt d w is h.own; under = r.under; moves = r.moves; routed = routed_group b pt d w is h.routed }
+    let routed_group : Routed w.point.view = group_keeps Routed (λ v a k i told. let r = k i told in record { from = r.from; to = r.to; there = r.there }) line_routed b pt d w is h.routed in
+    record { within = within; own = group_keeps (OwnFew n) (λ v a k. k) (line_own n) b pt d w is h.own; under = r.under; moves = r.moves; routed = routed_group }
 
 few_start : (b : Boot) (n : ℕ) → IsValid b → Few n (first_point b)
 few_start b n valid =
-    record { within = pairs_start b n; own = λ within m. omega arith; under = under_start b n valid; moves = moves_start b n; routed = routed_start b }
+    record { within = λ a c some. absurd (omega (arith, some)); own = λ within m. omega arith; under = under_start b n valid; moves = moves_start b n; routed = (λ i told. absurd (false≢true told)) }
 
 few_on : RunGoes → (b : Boot) (es : List Step) (pt end : Point) (n : ℕ) → IsValid b → 0 < n → pt.kernel.machines ≡ n → Leads b pt es end → Both b pt → Few n pt → Few n end
 few_on goes b [] pt end n valid some machines leads both h = subst (Few n) leads h
@@ -147,8 +142,7 @@ few_on goes b (d ∷ ds) pt end n valid some machines (w, fit, is, more) both h 
 
 pub few_always : RunStarts → RunGoes → (b : Boot) (es : List Step) (pt : Point) → IsValid b → Leads b (first_point b) es pt → Few (length b.machines) pt
 few_always starts goes b es pt valid leads =
-    let some = some_machine b valid in
-    few_on goes b es (first_point b) pt (length b.machines) valid (omega (arith, some)) refl leads (both_start starts b valid) (few_start b (length b.machines) valid)
+    few_on goes b es (first_point b) pt (length b.machines) valid (omega (arith, some_machine b valid)) refl leads (both_start starts b valid) (few_start b (length b.machines) valid)
 
 -- the manager's pending requests are among what it has sent
 pending_few : (from : ℕ) (rs : List Pending) (to : ℕ) → ascends from rs to ≡ true → from + length rs ≤ to
@@ -170,7 +164,6 @@ counts_by b pt valid run h counts =
     let manager = under.manager in
     let children = under.children in
     let names = under.names in
-    let pending = pending_few 0 pt.kernel.manager.pending pt.kernel.manager.sent run.based.pending in
     record {
       sent = λ p x is. let e : sent_of (pt.kernel.processes p) ≡ x.sent = ap sent_of is in let k = under.sent p in omega (arith, e, k, all);
       board = omega (arith, board, all);
@@ -178,7 +171,7 @@ counts_by b pt valid run h counts =
       children = omega (arith, children, all);
       made = λ home. let k = under.made home in omega (arith, k, all);
       names = omega (arith, names, all);
-      managed = omega (arith, children, pending, manager, all);
+      managed = omega (arith, children, pending_few 0 pt.kernel.manager.pending pt.kernel.manager.sent run.based.pending, manager, all);
       own = λ m. let k = h.own h.within m in omega (arith, k, all);
       moves = λ p. let k = h.moves.moves p in omega (arith, k, all);
       waiting = λ m p. let k = waiting_few b pt n run h.within h.routed m p in omega (arith, k, all);

@@ -4,15 +4,14 @@ pub mod Stands
 pub mod Moves
 pub mod Goes
 pub mod Outs
+use Rattle.dm_mirror.proofs.Names.{PairStands, stream_of}
 use Rattle.dm_mirror.proofs.Names.{◌≡◌, ◌≢◌, ℕ, ◌+◌, ◌^◌, ◌<◌, ◌≤◌, ◌⊎◌, ◌==◌, nat_le, nat_lt, Bool, true, false, List, [], ◌∷◌, length, refl, ap, ◌∙◌, sym, subst, inl, inr, arith, if◌then◌else◌, slice_get, option_map, Ok, All, Option}
-use Rattle.dm_mirror.proofs.Names.{None, Some, cases_Bool, eqb_tells, nat_tests, All-drop, Message, IsLawfulMessage, Packet, Step, Line, packet_of, spelling, Data, Ack, load_at, MayCome-stands, bytes_at, after_mark, Boot, IsValid, bind}
+use Rattle.dm_mirror.proofs.Names.{None, Some, cases_Bool, eqb_tells, nat_tests, All-drop, Message, IsLawfulMessage, Packet, Step, Line, packet_of, spelling, Data, Ack, load_at, MayCome-stands, bytes_at, after_mark, Boot, IsValid}
 use Rattle.dm_mirror.proofs.Names.{Spelled, spelled, Point, moved, behind, kept_from, more, Run, Placed, MayAct, WorldState, acted, arrives, delivers, reads, world_step, MayDeliver, MayRead, CountsStand, History, StandsWith, line_of}
 use Rattle.dm_mirror.proofs.Names.{load_of, GoesOn, IsNet, arrives_net}
 use Rattle.dm_rule.proofs.Names.{Part}
 use Rattle.dm_stream.specs.Packets.{Load}
-use Rattle.dm_mirror.proofs.Deliver.Moves.{back_pair, there_pair}
 use Rattle.dm_mirror.proofs.Deliver.Goes.{Comes, acked_comes, early_comes, old_comes, taken_comes, IsReadAs, ReadsAs, bytes_are, bytes_for, lines_are, load_is, reads_ack, Same, arrives_sent, counts_on, net_same, few}
-use Rattle.dm_mirror.proofs.Deliver.Events.{PairIs, ends_of, stream_with}
 use Rattle.dm_mirror.proofs.Deliver.Outs.{begun, nothing_stands}
 use Rattle.dm_stream.specs.Packets as stream
 use Rattle.dm_line.specs.declared.line.Load.TheVariants as load
@@ -21,8 +20,8 @@ use Rattle.dm_node.specs.Acts as node
 use Rattle.dm_node.specs.Out as out
 
 module _ (b : Boot) (w : WorldState) (pt : Point) (l : Placed) (h : History) (a c k : ℕ) (s : StandsWith b w pt l h) (counted : CountsStand w pt) (a_in : a < pt.kernel.machines) (c_in : c < pt.kernel.machines) (apart : a ≢ c) where
-  there : PairIs b l a c (ends_of w h a c) (w.wires a c) (pt.view.pair a c)
-  there = there_pair b w pt l h a c s a_in c_in apart
+  there : PairStands b pt l w h a c
+  there = s.pairs a c a_in c_in apart
 
   abbrev Does : Load Message → List Part → Type 0
   Does carried ps = Comes b w pt l h a c k s a_in c_in apart carried ps
@@ -78,11 +77,11 @@ module _ (b : Boot) (w : WorldState) (pt : Point) (l : Placed) (h : History) (a 
       → world_step b w (Step.Deliver a c k) ≡ reads (record w { wires = after_mark w.wires a c k }) (Step.Deliver a c k) a c (Ok x)
   read_is p carried x is loads read =
       let put : bytes_at (w.wires a c) k ≡ Some (spelling (out.packet_of_load a c carried)) =
-      bytes_are b l a c (ends_of w h a c) (w.wires a c) (pt.view.pair a c) k there ∙ ap (option_map (bytes_for a c)) is ∙ ap (λ (z : Load Message). Some (spelling (out.packet_of_load a c z))) loads in
+      bytes_are b pt l w h a c k there ∙ ap (option_map (bytes_for a c)) is ∙ ap (λ (z : Load Message). Some (spelling (out.packet_of_load a c z))) loads in
       ap (delivers w (Step.Deliver a c k) a c k) put ∙ ap (reads (record w { wires = after_mark w.wires a c k }) (Step.Deliver a c k) a c) read
 
   said_is : (p : stream.Packet Message) → slice_get (h.packets a c) k ≡ Some p → slice_get (pt.view.pair a c).wire k ≡ Some (line_of p)
-  said_is p is = lines_are b l a c (ends_of w h a c) (w.wires a c) (pt.view.pair a c) k there ∙ ap (option_map line_of) is
+  said_is p is = lines_are b pt l w h a c k there ∙ ap (option_map line_of) is
 
   -- each count that was ever acknowledged is small
   small_ack : (n : ℕ) → load_at (h.packets a c) k ≡ Some (Ack n) → n < 2 ^ 32
@@ -101,27 +100,20 @@ module _ (b : Boot) (w : WorldState) (pt : Point) (l : Placed) (h : History) (a 
   -- there is no such packet
   goes_none : slice_get (h.packets a c) k ≡ None → GoesOn b w pt (Step.Deliver a c k)
   goes_none is =
-      let none : slice_get (pt.view.pair a c).wire k ≡ None = lines_are b l a c (ends_of w h a c) (w.wires a c) (pt.view.pair a c) k there ∙ ap (option_map line_of) is in
-      let no_bytes : bytes_at (w.wires a c) k ≡ None = bytes_are b l a c (ends_of w h a c) (w.wires a c) (pt.view.pair a c) k there ∙ ap (option_map (bytes_for a c)) is in
+      let none : slice_get (pt.view.pair a c).wire k ≡ None = lines_are b pt l w h a c k there ∙ ap (option_map line_of) is in
       let z : Spelled = record { lines = Line.Nothing ∷ []; point = moved (begun pt a c k) Line.Nothing pt.kernel } in
       record {
         said = record { state = record w { groups = w.groups + 1 }; lines = Line.Head (Step.Deliver a c k) ∷ Line.Nothing ∷ [] };
-        happens = ap (delivers w (Step.Deliver a c k) a c k) no_bytes;
+        happens = ap (delivers w (Step.Deliver a c k) a c k) (bytes_are b pt l w h a c k there ∙ ap (option_map (bytes_for a c)) is);
         group = behind (Line.Head (Step.Deliver a c k) ∷ []) z;
         due = due_by (Part.Says Line.Nothing ∷ []) z (ap (group.arrives a c (pt.view.pair a c) (pt.view.pair c a)) none) refl;
         lines = refl;
         stands = ((l, h, nothing_stands b w pt l h a c s a_in c_in apart k none), counted);
       }
 
-  goes_of : (o : Option (stream.Packet Message)) → slice_get (h.packets a c) k ≡ o → a < 16 → c < 16 → ReadsAs w h a c k → GoesOn b w pt (Step.Deliver a c k)
+  pub goes_of : (o : Option (stream.Packet Message)) → slice_get (h.packets a c) k ≡ o → a < 16 → c < 16 → ReadsAs w h a c k → GoesOn b w pt (Step.Deliver a c k)
   goes_of None is low_a low_c readable = goes_none is
   goes_of (Some p) is low_a low_c readable = goes_with p p.load low_a low_c is refl readable
-
--- a delivery
-pub deliver_goes : (b : Boot) (w : WorldState) (pt : Point) (l : Placed) (h : History) (a c k : ℕ) → IsValid b → Run b pt → StandsWith b w pt l h → CountsStand w pt → a < pt.kernel.machines → c < pt.kernel.machines → a ≢ c
-    → pt.kernel.machines ≡ length b.machines → ReadsAs w h a c k → GoesOn b w pt (Step.Deliver a c k)
-deliver_goes b w pt l h a c k valid run s counted a_in c_in apart machines_are readable =
-    goes_of b w pt l h a c k s counted a_in c_in apart (slice_get (h.packets a c) k) refl (few b a pt.kernel.machines valid machines_are a_in) (few b c pt.kernel.machines valid machines_are c_in) readable
 
 -- what waits on a machine's streams to itself, and to machines that there aren't, could be put into packets: nothing does
 abbrev pub OthersLawful : WorldState → Point → ℕ → Type 0
@@ -155,14 +147,14 @@ module _ (b : Boot) (w : WorldState) (pt : Point) (l : Placed) (h : History) (a 
   may_read : (p : stream.Packet Message) (carried : Load Message) (x : Packet) → slice_get (h.packets a c) k ≡ Some p → p.load ≡ carried → packet_of (spelling (out.packet_of_load a c carried)) ≡ Ok x → MayRead w a c (Ok x) → MayDeliver w a c (bytes_at (w.wires a c) k)
   may_read p carried x is loads read may =
       let put : bytes_at (w.wires a c) k ≡ Some (spelling (out.packet_of_load a c carried)) =
-      bytes_are b l a c (ends_of w h a c) (w.wires a c) (pt.view.pair a c) k (there_pair b w pt l h a c s a_in c_in apart) ∙ ap (option_map (bytes_for a c)) is ∙ ap (λ (z : Load Message). Some (spelling (out.packet_of_load a c z))) loads in
+      bytes_are b pt l w h a c k (s.pairs a c a_in c_in apart) ∙ ap (option_map (bytes_for a c)) is ∙ ap (λ (z : Load Message). Some (spelling (out.packet_of_load a c z))) loads in
       subst (MayDeliver w a c) (sym put) (subst (MayRead w a c) (sym read) may)
 
   may_with : (p : stream.Packet Message) (carried : Load Message) → a < 16 → c < 16 → slice_get (h.packets a c) k ≡ Some p → p.load ≡ carried → MayAct (w.nodes c) → ReadsAs w h a c k → MayDeliver w a c (bytes_at (w.wires a c) k)
   may_with p (Data n m) low_a low_c is loads acts readable =
       let e : load_at (h.packets a c) k ≡ Some (Data n m) = load_is (h.packets a c) k (Some p) is ∙ ap Some loads in
       let x : IsReadAs w a c n m = readable n m e in
-      let come = MayCome-stands (stream_with (ends_of w h a c)) (there_pair b w pt l h a c s a_in c_in apart).stream in
+      let come = MayCome-stands (stream_of w h a c) (s.pairs a c a_in c_in apart).stream in
       may_read p (Data n m) (Packet.Data a c n x.message) is loads x.read (
         refl,
         (
@@ -172,7 +164,7 @@ module _ (b : Boot) (w : WorldState) (pt : Point) (l : Placed) (h : History) (a 
       )
   may_with p (Ack n) low_a low_c is loads acts readable =
       let e : load_at (h.packets a c) k ≡ Some (Ack n) = load_is (h.packets a c) k (Some p) is ∙ ap Some loads in
-      let come = MayCome-stands (stream_with (ends_of w h c a)) (back_pair b w pt l h a c s a_in c_in apart).stream in
+      let come = MayCome-stands (stream_of w h c a) (s.pairs c a c_in a_in (λ e. apart (sym e))).stream in
       may_read p (Ack n) (Packet.Ack a c n) is loads (reads_ack a c n low_a low_c apart (small_ack b w pt l h a c k s counted a_in c_in apart n e)) (
         refl,
         (
@@ -182,7 +174,7 @@ module _ (b : Boot) (w : WorldState) (pt : Point) (l : Placed) (h : History) (a 
       )
 
   may_of : (o : Option (stream.Packet Message)) → slice_get (h.packets a c) k ≡ o → a < 16 → c < 16 → MayAct (w.nodes c) → ReadsAs w h a c k → MayDeliver w a c (bytes_at (w.wires a c) k)
-  may_of None is low_a low_c acts readable = subst (MayDeliver w a c) (sym (bytes_are b l a c (ends_of w h a c) (w.wires a c) (pt.view.pair a c) k (there_pair b w pt l h a c s a_in c_in apart) ∙ ap (option_map (bytes_for a c)) is)) tt
+  may_of None is low_a low_c acts readable = subst (MayDeliver w a c) (sym (bytes_are b pt l w h a c k (s.pairs a c a_in c_in apart) ∙ ap (option_map (bytes_for a c)) is)) tt
   may_of (Some p) is low_a low_c acts readable = may_with p p.load low_a low_c is refl acts readable
 
 -- machine c may take the packet

@@ -1,11 +1,11 @@
 -- What the laws rest on.
 use Rattle.dm_mirror.proofs.Names.{◌≡◌, ℕ, ◌<◌, true, List, length, ap, ◌∙◌, sym, subst, inl, nat_le, arith, option_map, Some, nat_tests, length-map, Pid, IsMachine, plain_link, Boot, IsValid, slots_of, Alive, plain_process, PlainProcess}
 use Rattle.dm_mirror.proofs.Names.{Step, Leads, Point, first_point, run_always, run_group, run_start, format_always, tables_always, Placed, MayStep, AreWhole, WorldState, EndIsSaid, EndMay, RunGoesOn, StepsStand, Steps, History, Stands}
-use Rattle.dm_mirror.proofs.Names.{StandsWith, RanGoesOn, alive-is, ◌==◌, [], ◌∷◌, ◌++◌, refl, Inbox, tells_right_always, is_server, GroupNeeds, group_needs, places_follow_by, PlacesFollow, or_second}
+use Rattle.dm_mirror.proofs.Names.{StandsWith, RanGoesOn, alive-is, ◌==◌, [], ◌∷◌, ◌++◌, refl, Inbox, tells_right_always, is_server, GroupNeeds, group_needs, places_follow_by, PlacesFollow, or_second, slice_get}
 use Rattle.dm_onekernel.specs.Step as kernel
 use Rattle.dm_mirror.proofs.Counts.{counts_few}
 use Rattle.dm_mirror.proofs.Leave.Asked.{asked_by_manager}
-use Rattle.dm_mirror.proofs.Deliver.{OthersLawful, deliver_goes, may_deliver}
+use Rattle.dm_mirror.proofs.Deliver.{OthersLawful, may_deliver, goes_of}
 use Rattle.dm_mirror.proofs.Follow.Asks.{asks_turn}
 use Rattle.dm_mirror.proofs.Going.{run_goes_on_by, leads_last}
 use Rattle.dm_mirror.proofs.Single.{ran_goes_on_by, end_is_said_by}
@@ -13,7 +13,7 @@ use Rattle.dm_mirror.proofs.Machines.{machines_are, made_always}
 use Rattle.dm_mirror.proofs.May.{all_lawful, may_step_migrate, may_step_turn, may_step_tick}
 use Rattle.dm_mirror.proofs.Ticks.{tick_goes}
 use Rattle.dm_mirror.proofs.TurnAll.{turns_all}
-use Rattle.dm_mirror.proofs.Deliver.Goes.{reads_as}
+use Rattle.dm_mirror.proofs.Deliver.Goes.{reads_as, few}
 use Rattle.dm_mirror.proofs.TurnSteps.{move_goes, turn_goes}
 use Rattle.dm_mirror.proofs.Come.Answers.{Around}
 use Rattle.dm_mirror.proofs.End.Processes.{FewAlways, end_may_by}
@@ -53,6 +53,7 @@ move_stands b es w pt p m valid leads ((l, h, st), sent) lt may =
     move_goes run_group b w pt l h p m valid both.run both.own may.1.kernel.here machine st sent first (below b es pt m leads lt)
     (asks_turn b pt l (λ n. (w.nodes n).kernel.records) (w.nodes 0).kernel p m (search (sent 0 first)))
 
+-- a delivery
 steps_stand_by : FewAlways → TablesAlways → StepsStand
 steps_stand_by fews tables b es w pt (Step.Turn m) valid leads stands able readable lt =
     let both = run_always b es pt valid leads in
@@ -61,14 +62,13 @@ steps_stand_by fews tables b es w pt (Step.Turn m) valid leads stands able reada
 steps_stand_by fews tables b es w pt (Step.Tick m) valid leads ((l, h, s), sent) able readable lt =
     (may_step_tick b w m able lt, λ whole. inl (tick_goes b w pt l h m s sent (below b es pt m leads lt)))
 steps_stand_by fews tables b es w pt (Step.Deliver a c k) valid leads ((l, h, s), sent) able readable (a_lt, c_lt, apart) =
-    let run = (run_always b es pt valid leads).run in
     let machines = machines_are b es pt leads in
     let a_in = below b es pt a leads a_lt in
     let c_in = below b es pt c leads c_lt in
     let reads = reads_as b w pt l h a c k valid s a_in c_in apart machines readable in
     let others : OthersLawful w pt c = λ y small o. all_lawful b w c able c_lt y small in (
-      (a_lt, c_lt, apart, may_deliver b w pt l h a c k valid run s sent a_in c_in apart machines others reads),
-      (λ whole. inl (deliver_goes b w pt l h a c k valid run s sent a_in c_in apart machines reads)),
+      (a_lt, c_lt, apart, may_deliver b w pt l h a c k valid (run_always b es pt valid leads).run s sent a_in c_in apart machines others reads),
+      (λ whole. inl (goes_of b w pt l h a c k s sent a_in c_in apart (slice_get (h.packets a c) k) refl (few b a pt.kernel.machines valid machines a_in) (few b c pt.kernel.machines valid machines c_in) reads)),
     )
 steps_stand_by fews tables b es w pt (Step.Migrate p m) valid leads stands able readable lt =
     let may = may_step_migrate b es w pt p m valid leads (fews b es pt valid leads stands.0.2.counts) stands able lt in

@@ -93,9 +93,8 @@ module _ (b : Boot) (pt : Point) (l : Placed) (w : WorldState) (h : History) (m 
   -- the world stands for the point behind the put
   pub stands_gave : m ≢ c → m < pt.kernel.machines → c < pt.kernel.machines → is_worn ((w.nodes m).senders c) ≡ false → l.bag x.id ≡ Some x → IsLawfulMessage x → CoreStands b w pt l h → CoreStands b (world_gave w m c x) next l (with_gift h m c x)
   stands_gave apart small less fresh there lawful st =
-      let off : (m == c) ≡ false = apart_is m c apart in
       let pair : PairStands b pt l w h m c = st.pairs m c small less apart in
-      let box : gave.inbox ≡ pt.view.inbox = ap (λ (t : Bool). if t then at_machine pt.view.inbox c (pt.view.inbox c ++ x.id ∷ []) else pt.view.inbox) off in
+      let box : gave.inbox ≡ pt.view.inbox = ap (λ (t : Bool). if t then at_machine pt.view.inbox c (pt.view.inbox c ++ x.id ∷ []) else pt.view.inbox) (apart_is m c apart) in
       let own : (d : ℕ) → (gave.pair d d).ids ≡ (pt.view.pair d d).ids = λ d. ap (λ (p : Pair). p.ids) (pair_other pt.view.pair m c _ d d (own_apart apart d)) in
       let full : length (pt.view.pair m c).ids ≢ b.numbers = let e : given_count ((w.nodes m).senders c) ≡ length (pt.view.pair m c).ids = count_given b pt l w h m c pair in let f : ((w.nodes m).senders c).numbers ≡ b.numbers = pair.numbers in grind (arith, nat_tests, e, f, fresh) in
       record {
@@ -116,20 +115,23 @@ same_records w m n d t e same = grind (arith, nat_tests, eqb-true)
 abbrev pub node_went : WorldState → ℕ → ℕ → Message → NodeState
 node_went w m c x = with_sender (node_gave w m c x) c (with_sent ((node_gave w m c x).senders c))
 
+pub due_stands : (b : Boot) (pt : Point) (l : Placed) (w : WorldState) (h : History) (m c n : ℕ) (x : Message) → m ≢ c → m < pt.kernel.machines → c < pt.kernel.machines → due ((w.nodes m).senders c) ≡ Some (n, x) → StandsWith b w pt l h
+    → StandsWith b (world_put w m c (at_machine w.nodes m (with_sender (w.nodes m) c (with_sent ((w.nodes m).senders c)))) (Load.Data n x)) (point_put pt m c (Load.Data n x)) l (with_put h m c (Load.Data n x))
+due_stands b pt l w h m c n x apart small less out st =
+    let s : Sending Message = with_sent ((w.nodes m).senders c) in
+    let g : NodeState = with_sender (w.nodes m) c s in
+    stands_put b pt l w h m c (at_machine w.nodes m g) s (Load.Data n x) apart (one_sender w m c g s refl refl) (λ z e. at_other w.nodes m g z e) (λ d. same_records w m g d (m == d) refl refl)
+    (subst (λ (z : NodeState). NodeStands b (point_put pt m c (Load.Data n x)) l m z) (sym (at_here w.nodes m g))
+    (node_streams b (point_put pt m c (Load.Data n x)) l m (w.nodes m) g.senders (w.nodes m).receivers (node_same b pt l (after_packet pt.view m c (load.Data n)) m (w.nodes m) refl (ids_same pt.view.pair m c _ refl m m) (st.nodes m small))))
+    (went_out b l.bag m c (stream_of w h m c) (w.wires m c) (pt.view.pair m c) n x out (joined b pt l w h m c (st.pairs m c small less apart)))
+    (put_back b l.bag c m (stream_of w h c m) (w.wires c m) (pt.view.pair c m) n x (joined b pt l w h c m (st.pairs c m less small (λ e. apart (sym e))))) st
+
 pub stands_went : (b : Boot) (pt : Point) (l : Placed) (w : WorldState) (h : History) (m c n : ℕ) (x : Message) → m ≢ c → m < pt.kernel.machines → c < pt.kernel.machines → due (with_given ((w.nodes m).senders c) x) ≡ Some (n, x)
     → StandsWith b (world_gave w m c x) pt l h → StandsWith b (world_put (world_gave w m c x) m c (at_machine w.nodes m (node_went w m c x)) (Load.Data n x)) (point_put pt m c (Load.Data n x)) l (with_put h m c (Load.Data n x))
 stands_went b pt l w h m c n x apart small less out st =
     let u : WorldState = world_gave w m c x in
-    let g : NodeState = node_gave w m c x in
-    let is : u.nodes m ≡ g = at_here w.nodes m g in
+    let is : u.nodes m ≡ node_gave w m c x = at_here w.nodes m (node_gave w m c x) in
     let given : (u.nodes m).senders c ≡ with_given ((w.nodes m).senders c) x = (λ i. (is i).senders c) ∙ at_here (w.nodes m).senders c (with_given ((w.nodes m).senders c) x) in
-    let pair : PairStands b pt l u h m c = st.pairs m c small less apart in
-    let senders : Senders u m c (at_machine u.nodes m (node_went w m c x)) (with_sent ((u.nodes m).senders c)) = grind (arith, nat_tests, one_sender) in
-    let goes : StandsWith b (world_put u m c (at_machine u.nodes m (node_went w m c x)) (Load.Data n x)) (point_put pt m c (Load.Data n x)) l (with_put h m c (Load.Data n x)) =
-    stands_put b pt l u h m c (at_machine u.nodes m (node_went w m c x)) (with_sent ((u.nodes m).senders c)) (Load.Data n x) apart senders (λ z e. at_other u.nodes m _ z e)
-    (λ d. same_records u m (node_went w m c x) d (m == d) refl (λ i. (sym is i).kernel.records))
-    (subst (λ (z : NodeState). NodeStands b (point_put pt m c (Load.Data n x)) l m z) (sym (at_here u.nodes m (node_went w m c x)))
-    (node_streams b (point_put pt m c (Load.Data n x)) l m g (node_went w m c x).senders (w.nodes m).receivers (node_same b pt l (after_packet pt.view m c (load.Data n)) m g refl (ids_same pt.view.pair m c _ refl m m) (subst (λ (z : NodeState). NodeStands b pt l m z) is (st.nodes m small)))))
-    (went_out b l.bag m c (stream_of u h m c) (u.wires m c) (pt.view.pair m c) n x (ap due given ∙ out) (joined b pt l u h m c pair))
-    (put_back b l.bag c m (stream_of u h c m) (u.wires c m) (pt.view.pair c m) n x (joined b pt l u h c m (st.pairs c m less small (λ e. apart (sym e))))) st in
-    subst (λ (f : ℕ → NodeState). StandsWith b (world_put u m c f (Load.Data n x)) (point_put pt m c (Load.Data n x)) l (with_put h m c (Load.Data n x))) (at_again w.nodes m g (node_went w m c x)) goes
+    let nodes : at_machine u.nodes m (with_sender (u.nodes m) c (with_sent ((u.nodes m).senders c))) ≡ at_machine w.nodes m (node_went w m c x) =
+    ap (λ (z : NodeState). at_machine u.nodes m (with_sender z c (with_sent (z.senders c)))) is ∙ at_again w.nodes m (node_gave w m c x) (node_went w m c x) in
+    subst (λ (f : ℕ → NodeState). StandsWith b (world_put u m c f (Load.Data n x)) (point_put pt m c (Load.Data n x)) l (with_put h m c (Load.Data n x))) nodes (due_stands b pt l u h m c n x apart small less (ap due given ∙ out) st)

@@ -2,7 +2,7 @@
 use Rattle.dm_mirror.proofs.Names.{◌≡◌, ℕ, List, [], ◌∷◌, ◌++◌, length, refl, ap, ◌∙◌, sym, subst, append_assoc, arith, Some, append-nil, All-nil, Boot, IsValid, start, replay, received_once, Step, Directive, Line, Todo, Next, all_of}
 use Rattle.dm_mirror.proofs.Names.{next_step, IsKept, IsRun, IsStep, Leads, Spelled, Point, first_point, labels, group_of, stands_once_always, group_replay, labels-append, replay-append, WorldState, IsTwo, joined, GoesOn, RunStands}
 use Rattle.dm_mirror.proofs.Names.{StepsStand, RunBegins, RunGoesOn, AreReadBack, gave, MayStep, zero, suc, Bool, if◌then◌else◌, option_map, Option, None, Pass, Two, begin_pass, below, in_pass, next_delivery, next_directive, next_pass}
-use Rattle.dm_mirror.proofs.Names.{next_turn, or, pairs_of, pass_begun, settles, next_and_left, nat_tests}
+use Rattle.dm_mirror.proofs.Names.{next_turn, or, pairs_of, pass_begun, settles, nat_tests}
 use Rattle.dm_world.specs.Next as world
 use Rattle.dm_mirror.proofs.May.{acts_start, acts_step}
 use Rattle.dm_mirror.proofs.Next.{NextFits, machines_stay, next_fits, next_is_said}
@@ -78,13 +78,9 @@ behind more t = record t { directives = t.directives ++ more }
 abbrev pub next_behind : List Directive → Next → Next
 next_behind more n = record { step = n.step; left = behind more n.left }
 
-turn_or_behind : (more : List Directive) (t : Todo) (m : ℕ) (ms : List ℕ) (b : Bool) (o p : Option Next) → p ≡ option_map (next_behind more) o
-    → (if b then next_and_left (Step.Turn m) (record (behind more t) { pairs = []; machines = ms }) else p) ≡ option_map (next_behind more) (if b then next_and_left (Step.Turn m) (record t { pairs = []; machines = ms }) else o)
-turn_or_behind more t m ms b o p e = grind (arith, nat_tests)
-
 turn_behind : (takes : ℕ → Bool) (more : List Directive) (t : Todo) (ms : List ℕ) → next_turn takes (behind more t) ms ≡ option_map (next_behind more) (next_turn takes t ms)
 turn_behind takes more t [] = refl
-turn_behind takes more t (m ∷ ms) = turn_or_behind more t m ms (takes m) (next_turn takes t ms) (next_turn takes (behind more t) ms) (turn_behind takes more t ms)
+turn_behind takes more t (m ∷ ms) = grind (arith, nat_tests, turn_behind takes more t ms)
 
 pass_behind : (mail : ℕ → Bool) (more : List Directive) (t : Todo) (o : Option (Step × List Two)) → in_pass mail (behind more t) o ≡ option_map (next_behind more) (in_pass mail t o)
 pass_behind mail more t o = grind (arith, nat_tests, turn_behind)

@@ -1,14 +1,11 @@
 -- A message that is routed to its own machine comes into the inbox at once.
-use Rattle.dm_mirror.proofs.Names.{◌≡◌, ◌≢◌, ℕ, ◌+◌, ◌<◌, ◌==◌, ◌&&◌, Bool, List, [], ◌∷◌, ◌++◌, length, refl, ap, ◌∙◌, sym, subst, arith, if◌then◌else◌, Option, Some, eqb-true, eq-eqb, nat_tests, length-append, map-append, All-push, Pid}
+use Rattle.dm_mirror.proofs.Names.{◌≡◌, ◌≢◌, ℕ, ◌+◌, ◌<◌, ◌==◌, ◌&&◌, Bool, List, [], ◌∷◌, ◌++◌, length, refl, ap, ◌∙◌, sym, subst, arith, if◌then◌else◌, Some, eqb-true, eq-eqb, nat_tests, length-append, All-push, Pid}
 use Rattle.dm_mirror.proofs.Names.{Message, MsgId, MessageKind, IsLawfulMessage, Boot, IsLawfulState, KernelState, NodeState, with_message, at_machine, Pair, View, after_put, routed_on, Point, Placed, WorldState, AreMessages, History}
 use Rattle.dm_mirror.proofs.Names.{NodeStands}
 use Rattle.dm_mirror.proofs.Streams.{pair_stays, at_here, at_other, kernel_box, nodes_are, pair_here, pair_other}
+use Rattle.dm_mirror.proofs.Deliver.Moves.{messages_push}
 use Rattle.dm_mirror.proofs.Giving.{more_if, one_more}
 use Rattle.dm_mirror.proofs.Route.Puts.{CoreStands}
-
--- one message more
-messages_more : (bag : MsgId → Option Message) (ids : List MsgId) (xs : List Message) (x : Message) → bag x.id ≡ Some x → AreMessages bag ids xs → AreMessages bag (ids ++ x.id ∷ []) (xs ++ x ∷ [])
-messages_more bag ids xs x there e = map-append bag ids (x.id ∷ []) ∙ (λ i. e i ++ there i ∷ []) ∙ sym (map-append Some xs (x ∷ []))
 
 lawful_more : (k : KernelState) (x : Message) → IsLawfulMessage x → IsLawfulState k → IsLawfulState (record k { inbox = k.inbox ++ x ∷ [] })
 lawful_more k x lawful h = record { records = h.records; room = h.room; inbox = All-push IsLawfulMessage k.inbox x h.inbox lawful; servers = h.servers }
@@ -35,7 +32,7 @@ module _ (b : Boot) (pt : Point) (l : Placed) (w : WorldState) (h : History) (m 
 
   node_more : l.bag x.id ≡ Some x → IsLawfulMessage x → NodeStands b pt l m (w.nodes m) → NodeStands b next l m (node_home (w.nodes m) x)
   node_more there lawful h = record {
-    kernel = kernel_box b pt l gave m (w.nodes m).kernel ((w.nodes m).kernel.inbox ++ x ∷ []) (subst (λ (is : List MsgId). AreMessages l.bag is ((w.nodes m).kernel.inbox ++ x ∷ [])) (sym ((λ i. box_is i m) ∙ at_here pt.view.inbox m (pt.view.inbox m ++ x.id ∷ []))) (messages_more l.bag (pt.view.inbox m) (w.nodes m).kernel.inbox x there h.kernel.inbox)) h.kernel;
+    kernel = kernel_box b pt l gave m (w.nodes m).kernel ((w.nodes m).kernel.inbox ++ x ∷ []) (subst (λ (is : List MsgId). AreMessages l.bag is ((w.nodes m).kernel.inbox ++ x ∷ [])) (sym ((λ i. box_is i m) ∙ at_here pt.view.inbox m (pt.view.inbox m ++ x.id ∷ []))) (messages_push l.bag (pt.view.inbox m) (w.nodes m).kernel.inbox x.id x h.kernel.inbox there)) h.kernel;
     lawful = lawful_more (w.nodes m).kernel x lawful h.lawful;
     machines = h.machines;
     numbers = h.numbers;

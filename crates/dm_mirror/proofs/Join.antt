@@ -79,21 +79,18 @@ pub made_here : (b : Boot) (pt start next : Point) (ls : List Line) (m n : ℕ) 
 made_here b pt start next ls m n run kernel known comes =
     let s : OneKernel = pt.kernel in
     let sane = run.based.phased.sane in
-    let replays = after_replay ls start next comes in
-    let grown = (reached sane.r sane.e start.kernel next.kernel (labels ls) replays (subst (λ (k : OneKernel). Sound sane.r sane.e k) (sym kernel) sane.sound)).grown in
     record {
-      more = grown.made m;
+      more = (reached sane.r sane.e start.kernel next.kernel (labels ls) (after_replay ls start next comes) (subst (λ (k : OneKernel). Sound sane.r sane.e k) (sym kernel) sane.sound)).grown.made m;
       fresh = λ k le.
           let p : Pid = pid_of m (first_number + k) in
-          let less : s.made m ≤ k = subst (λ (f : OneKernel). f.made m ≤ k) kernel le in
-          let none : s.processes p ≡ None = unmade_by s p (s.processes p) refl (sane.sound.made.most p) (omega (arith, less)) in
+          let none : s.processes p ≡ None = unmade_by s p (s.processes p) refl (sane.sound.made.most p) (omega (arith, (subst (λ (f : OneKernel). f.made m ≤ k) kernel le))) in
           ap (λ (f : ℕ → Pid → Known). f n p) known ∙ run.based.phased.ground.lives.none p none (omega arith) n;
     }
 
 -- The line of a message that is routed, as the machine says it and as the rule has it.
 
 -- the kind of a message is that of its plain meaning
-kind_plain : (w : What) → IsKindOfPlain w (plain_what w)
+pub kind_plain : (w : What) → IsKindOfPlain w (plain_what w)
 kind_plain (What.Migrate machine) = tt
 kind_plain (What.Update about) = tt
 kind_plain (What.Ask pid blocks moves size asker) = tt

@@ -1,6 +1,7 @@
 pub mod Names
 pub mod Turning
 pub mod Rooms
+pub mod Recorded
 pub mod Kernel
 pub mod Serve
 pub mod Serving

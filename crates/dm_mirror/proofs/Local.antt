@@ -1,7 +1,7 @@
 -- A directive acts on one machine.
 use Rattle.dm_mirror.proofs.Names.{◌≡◌, ℕ, zero, suc, ◌+◌, ◌==◌, ◌&&◌, Bool, true, false, List, [], ◌∷◌, map, refl, ap, ◌∙◌, sym, subst, arith, ⊤, if◌then◌else◌, Option, None, Some, Result, Err, nat_tests, append-nil, All-nil, Message}
 use Rattle.dm_mirror.proofs.Names.{Packet, Line, PacketError, packet_of, Sent, bytes_at, after_mark, Data, Ack, Boot, Step, KernelState, Turned, Pid, NodeState, here, Acted, Acts, Goes, StaysAt, asks_move_stays, WorldState, Said, acted}
-use Rattle.dm_mirror.proofs.Names.{arrives, reads, delivers, world_step, IsFresh, PutsFrom, marked_by, ActsLocally, SamePacket, unnumbered, DoesSame, ReadsLocally, NothingComes}
+use Rattle.dm_mirror.proofs.Names.{arrives, reads, delivers, world_step, IsFresh, PutsFrom, marked_by, ActsLocally, SamePacket, unnumbered, DoesSame, ReadsLocally, NothingComes, AsLong, length_marked, actor}
 use Rattle.std.specs.declared.result.Result.TheVariants.{Ok}
 use Rattle.dm_wire.specs.Sent.{marked}
 use Rattle.dm_stream.specs.Packets.{Load}
@@ -9,7 +9,7 @@ use Rattle.dm_world.specs.World.{Says, turned}
 use Rattle.dm_kernel.specs.Turn as kernel
 use Rattle.dm_kernel.specs.Asking as asking
 use Rattle.dm_node.specs.Acts as machine
-use Rattle.dm_mirror.proofs.LocalLines.{acted_unnumbered, acted_exact, marked_long}
+use Rattle.dm_mirror.proofs.LocalLines.{spoken_unnumbered, spoken_same}
 use Rattle.dm_mirror.proofs.Outs.{IsFrom, ActsFrom, acts_from, tick_from, arrives_from, packets_to, all_fresh, spoken_off, spoken_on}
 
 -- a kernel stays on its machine, whatever a turn gives
@@ -25,9 +25,6 @@ acted_puts w e m d h = record {
   fresh = λ c. all_fresh c d.outs;
   groups = refl;
 }
-
-acted_node : (w : WorldState) (e : Step) (m : ℕ) (d : Acted) → (acted w e m d).state.nodes m ≡ d.state
-acted_node w e m d = ap (λ (c : Bool). if c then d.state else w.nodes m) (let f : (m == m) ≡ true = grind (arith, nat_tests) in f)
 
 -- a turn
 abbrev ActsSome : ℕ → Option Acts → Type 0
@@ -48,17 +45,11 @@ turns_from : (n : NodeState) (m : ℕ) (o : Option Turned) → here n ≡ m → 
 turns_from n m None is stays = tt
 turns_from n m (Some t) is stays = acts_from m t.parts (record n { kernel = t.state }) (stays t refl ∙ is)
 
-turn_is : KernelStays → (b : Boot) (w : WorldState) (m : ℕ) (s : Said) → here (w.nodes m) ≡ m → world_step b w (Step.Turn m) ≡ Some (Says s) → Turns (Step.Turn m) m w (machine.turn b (w.nodes m)) s
-turn_is stays b w m s is happens =
-    turned_is (Step.Turn m) m w (machine.turn b (w.nodes m)) s (turns_from (w.nodes m) m (kernel.turn b (w.nodes m).kernel) is (λ t e. stays b (w.nodes m).kernel t e)) happens
-
--- the machine with the manager has it tell a process to move
-asks_here : (o : Option Turned) (h : ℕ) → StaysAt h o → (t : Turned) → o ≡ Some t → t.state.here ≡ h
-asks_here o h stays t e = subst (StaysAt h) e stays
-
 asks_is : (w : WorldState) (p : Pid) (m : ℕ) (s : Said) → here (w.nodes 0) ≡ 0 → turned w (Step.Migrate p m) 0 (machine.asks_move (w.nodes 0) p m) ≡ Some (Says s) → Turns (Step.Migrate p m) 0 w (machine.asks_move (w.nodes 0) p m) s
 asks_is w p m s is happens =
     let k = (w.nodes 0).kernel in
+    -- the machine with the manager has it tell a process to move
+    let asks_here : (o : Option Turned) (h : ℕ) → StaysAt h o → (t : Turned) → o ≡ Some t → t.state.here ≡ h = λ o h stays t e. subst (StaysAt h) e stays in
     turned_is (Step.Migrate p m) 0 w (machine.asks_move (w.nodes 0) p m) s
     (turns_from (w.nodes 0) 0 (asking.asks_move k p m) is (asks_here (asking.asks_move k p m) k.here (asks_move_stays k p m))) happens
 
@@ -94,6 +85,29 @@ nothing_puts w a c k none = record {
 pub nothing_comes : NothingComes
 nothing_comes b w a c k none = ap (delivers w (Step.Deliver a c k) a c k) none
 
+-- an event that gives the same to both worlds
+acted_same : (b : Boot) (w u : WorldState) (e : Step) (s : Said) (d : Acted) → IsFrom (actor e) d → s ≡ acted (marked_by e w) e (actor e) d → world_step b u e ≡ Some (Says (acted (marked_by e u) e (actor e) d)) → DoesSame b w u e s
+acted_same b w u e s d from said happens =
+    let marked_long : (m : ℕ) (e : Step) (w u : WorldState) → AsLong m w u → AsLong m (marked_by e w) (marked_by e u) = λ m e w u h n. grind (arith, nat_tests, length_marked) in
+    let acted_node : (w : WorldState) (e : Step) (m : ℕ) (d : Acted) → (acted w e m d).state.nodes m ≡ d.state = λ w e m d. ap (λ (c : Bool). if c then d.state else w.nodes m) (let f : (m == m) ≡ true = grind (arith, nat_tests) in f) in
+    let m = actor e in
+    let x = marked_by e w in
+    let y = marked_by e u in
+    let acted_unnumbered : (w u : WorldState) (e : Step) (m : ℕ) (d : Acted) → map unnumbered (acted u e m d).lines ≡ map unnumbered (acted w e m d).lines =
+      λ w u e m d. ap (λ (ls : List Line). unnumbered (Line.Head e) ∷ ls) (spoken_unnumbered u.wires w.wires d.outs) in
+    let acted_exact : (w u : WorldState) (e : Step) (m : ℕ) (d : Acted) → IsFrom m d → AsLong m w u → (acted u e m d).lines ≡ (acted w e m d).lines =
+      λ w u e m d from long. ap (λ (ls : List Line). Line.Head e ∷ ls) (spoken_same m u.wires w.wires d.outs from.outs long) in
+    record {
+      said = acted y e m d;
+      happens = happens;
+      node = acted_node y e m d ∙ sym (ap (λ (z : Said). z.state.nodes m) said ∙ acted_node x e m d);
+      more = λ n. packets_to n d.outs;
+      puts = subst (λ (z : Said). PutsFrom m (λ n. packets_to n d.outs) x z.state) (sym said) (acted_puts x e m d from);
+      puts_there = acted_puts y e m d from;
+      lines = acted_unnumbered x y e m d ∙ ap (λ (z : Said). map unnumbered z.lines) (sym said);
+      exact = λ long. acted_exact x y e m d from (marked_long m e w u long) ∙ ap (λ (z : Said). z.lines) (sym said);
+    }
+
 -- the same machine does the same
 delivers_same : (b : Boot) (w u : WorldState) (a c k : ℕ) (s : Said) (o : Option (List ℕ)) → bytes_at (w.wires a c) k ≡ o → bytes_at (u.wires a c) k ≡ o → here (w.nodes c) ≡ c → u.nodes c ≡ w.nodes c
     → delivers w (Step.Deliver a c k) a c k o ≡ Some (Says s) → DoesSame b w u (Step.Deliver a c k) s
@@ -117,77 +131,25 @@ delivers_same b w u a c k s (Some bytes) here_is there_is is node happens =
     let y = marked_by e u in
     let p = comes x e a c (packet_of bytes) s happens in
     let d = machine.arrives (w.nodes c) a p.load in
-    let from = arrives_from c (w.nodes c) a p.load is in
     let same : machine.arrives (u.nodes c) a p.load ≡ d = ap (λ (n : NodeState). machine.arrives n a p.load) node in
-    record {
-      said = acted y e c d;
-      happens = ap (delivers u e a c k) there_is ∙ (p.is y ∙ ap (λ (v : Acted). Some (Says (acted y e c v))) same);
-      node = acted_node y e c d ∙ sym (ap (λ (z : Said). z.state.nodes c) p.said ∙ acted_node x e c d);
-      more = λ n. packets_to n d.outs;
-      puts = subst (λ (z : Said). PutsFrom c (λ n. packets_to n d.outs) x z.state) (sym p.said) (acted_puts x e c d from);
-      puts_there = acted_puts y e c d from;
-      lines = acted_unnumbered x y e c d ∙ ap (λ (z : Said). map unnumbered z.lines) (sym p.said);
-      exact = λ long. acted_exact x y e c d from (marked_long c e w u long) ∙ ap (λ (z : Said). z.lines) (sym p.said);
-    }
-
-tick_same : (b : Boot) (w u : WorldState) (m : ℕ) (s : Said) → here (w.nodes m) ≡ m → u.nodes m ≡ w.nodes m → world_step b w (Step.Tick m) ≡ Some (Says s) → DoesSame b w u (Step.Tick m) s
-tick_same b w u m s is node happens =
-    let e = Step.Tick m in
-    let d = machine.tick (w.nodes m) in
-    let from = tick_from m (w.nodes m) is in
-    let said : s ≡ acted w e m d = cc in
-    record {
-      said = acted u e m d;
-      happens = ap (λ (n : NodeState). Some (Says (acted u e m (machine.tick n)))) node;
-      node = acted_node u e m d ∙ sym (ap (λ (z : Said). z.state.nodes m) said ∙ acted_node w e m d);
-      more = λ n. packets_to n d.outs;
-      puts = subst (λ (z : Said). PutsFrom m (λ n. packets_to n d.outs) w z.state) (sym said) (acted_puts w e m d from);
-      puts_there = acted_puts u e m d from;
-      lines = acted_unnumbered w u e m d ∙ ap (λ (z : Said). map unnumbered z.lines) (sym said);
-      exact = λ long. acted_exact w u e m d from long ∙ ap (λ (z : Said). z.lines) (sym said);
-    }
-
-migrate_same : (b : Boot) (w u : WorldState) (p : Pid) (m : ℕ) (s : Said) → here (w.nodes 0) ≡ 0 → u.nodes 0 ≡ w.nodes 0 → world_step b w (Step.Migrate p m) ≡ Some (Says s) → DoesSame b w u (Step.Migrate p m) s
-migrate_same b w u p m s is node happens =
-    let e = Step.Migrate p m in
-    let t = asks_is w p m s is happens in
-    let d = t.acted_ in
-    record {
-      said = acted u e 0 d;
-      happens = ap (turned u e 0) (ap (λ (n : NodeState). machine.asks_move n p m) node ∙ t.is);
-      node = acted_node u e 0 d ∙ sym (ap (λ (z : Said). z.state.nodes 0) t.said ∙ acted_node w e 0 d);
-      more = λ n. packets_to n d.outs;
-      puts = subst (λ (z : Said). PutsFrom 0 (λ n. packets_to n d.outs) w z.state) (sym t.said) (acted_puts w e 0 d t.from);
-      puts_there = acted_puts u e 0 d t.from;
-      lines = acted_unnumbered w u e 0 d ∙ ap (λ (z : Said). map unnumbered z.lines) (sym t.said);
-      exact = λ long. acted_exact w u e 0 d t.from long ∙ ap (λ (z : Said). z.lines) (sym t.said);
-    }
+    acted_same b w u e s d (arrives_from c (w.nodes c) a p.load is) p.said (ap (delivers u e a c k) there_is ∙ (p.is y ∙ ap (λ (v : Acted). Some (Says (acted y e c v))) same))
 
 pub reads_locally : KernelStays → ReadsLocally
 reads_locally stays b w u (Step.Turn m) s is node same happens =
-    let e = Step.Turn m in
+    let turn_is : KernelStays → (b : Boot) (w : WorldState) (m : ℕ) (s : Said) → here (w.nodes m) ≡ m → world_step b w (Step.Turn m) ≡ Some (Says s) → Turns (Step.Turn m) m w (machine.turn b (w.nodes m)) s =
+      λ stays b w m s is happens. turned_is (Step.Turn m) m w (machine.turn b (w.nodes m)) s (turns_from (w.nodes m) m (kernel.turn b (w.nodes m).kernel) is (λ t e. stays b (w.nodes m).kernel t e)) happens in
     let t = turn_is stays b w m s is happens in
-    let d = t.acted_ in
-    record {
-      said = acted u e m d;
-      happens = ap (turned u e m) (ap (machine.turn b) node ∙ t.is);
-      node = acted_node u e m d ∙ sym (ap (λ (z : Said). z.state.nodes m) t.said ∙ acted_node w e m d);
-      more = λ n. packets_to n d.outs;
-      puts = subst (λ (z : Said). PutsFrom m (λ n. packets_to n d.outs) w z.state) (sym t.said) (acted_puts w e m d t.from);
-      puts_there = acted_puts u e m d t.from;
-      lines = acted_unnumbered w u e m d ∙ ap (λ (z : Said). map unnumbered z.lines) (sym t.said);
-      exact = λ long. acted_exact w u e m d t.from long ∙ ap (λ (z : Said). z.lines) (sym t.said);
-    }
-reads_locally stays b w u (Step.Tick m) s is node same happens = tick_same b w u m s is node happens
+    acted_same b w u (Step.Turn m) s t.acted_ t.from t.said (ap (turned u (Step.Turn m) m) (ap (machine.turn b) node ∙ t.is))
+reads_locally stays b w u (Step.Tick m) s is node same happens =
+    let said : s ≡ acted w (Step.Tick m) m (machine.tick (w.nodes m)) = cc in
+    acted_same b w u (Step.Tick m) s (machine.tick (w.nodes m)) (tick_from m (w.nodes m) is) said (ap (λ (n : NodeState). Some (Says (acted u (Step.Tick m) m (machine.tick n)))) node)
 reads_locally stays b w u (Step.Deliver a c k) s is node same happens = delivers_same b w u a c k s (bytes_at (w.wires a c) k) refl same is node happens
-reads_locally stays b w u (Step.Migrate p m) s is node same happens = migrate_same b w u p m s is node happens
+reads_locally stays b w u (Step.Migrate p m) s is node same happens =
+    let t = asks_is w p m s is happens in
+    acted_same b w u (Step.Migrate p m) s t.acted_ t.from t.said (ap (turned u (Step.Migrate p m) 0) (ap (λ (n : NodeState). machine.asks_move n p m) node ∙ t.is))
 
 -- a world does what it does
-same_packet : (e : Step) (w : WorldState) → SamePacket e w w
-same_packet (Step.Deliver a c k) w = refl
-same_packet _ w = tt
-
 pub acts_locally : KernelStays → ActsLocally
 acts_locally stays b w e s is happens =
-    let d = reads_locally stays b w w e s is refl (same_packet e w) happens in
+    let d = reads_locally stays b w w e s is refl (let e_ : SamePacket e w w = grind (arith, nat_tests) in e_) happens in
     (d.more, d.puts)

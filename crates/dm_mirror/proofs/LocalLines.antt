@@ -10,40 +10,21 @@ use Rattle.dm_mirror.proofs.Outs.{AreFrom, IsFrom}
 abbrev Wires : Type 0
 Wires = ℕ → ℕ → List Sent
 
-spoken_unnumbered : (v w : Wires) (outs : List Out) → map unnumbered (spoken v outs).lines ≡ map unnumbered (spoken w outs).lines
+pub spoken_unnumbered : (v w : Wires) (outs : List Out) → map unnumbered (spoken v outs).lines ≡ map unnumbered (spoken w outs).lines
 spoken_unnumbered v w [] = refl
 spoken_unnumbered v w (Says l ∷ outs) = ap (λ (ls : List Line). unnumbered l ∷ ls) (spoken_unnumbered v w outs)
 spoken_unnumbered v w (Sends p ∷ outs) =
     ap (λ (l : Line). l ∷ map unnumbered (spoken (with_packet v p) outs).lines) (grind (arith, nat_tests))
     ∙ ap (λ (ls : List Line). unnumbered (packet_line w p) ∷ ls) (spoken_unnumbered (with_packet v p) (with_packet w p) outs)
 
-pub acted_unnumbered : (w u : WorldState) (e : Step) (m : ℕ) (d : Acted) → map unnumbered (acted u e m d).lines ≡ map unnumbered (acted w e m d).lines
-acted_unnumbered w u e m d = ap (λ (ls : List Line). unnumbered (Line.Head e) ∷ ls) (spoken_unnumbered u.wires w.wires d.outs)
-
 -- where as many packets are on the machine's wires
 abbrev Long : ℕ → Wires → Wires → Type 0
 Long m v w = (c : ℕ) → length (v m c) ≡ length (w m c)
 
-put_long : (m : ℕ) (v w : Wires) (a c : ℕ) (bytes : List ℕ) → Long m v w → Long m (after_put v a c bytes) (after_put w a c bytes)
-put_long m v w a c bytes h n = grind (arith, nat_tests, length-append)
-
-packet_long : (m : ℕ) (v w : Wires) (p : Packet) → Long m v w → Long m (with_packet v p) (with_packet w p)
-packet_long m v w (Packet.Data a c k x) h = put_long m v w a c (spelling (Packet.Data a c k x)) h
-packet_long m v w (Packet.Ack a c k) h = put_long m v w a c (spelling (Packet.Ack a c k)) h
-
-spoken_same : (m : ℕ) (v w : Wires) (outs : List Out) → AreFrom m outs → Long m v w → (spoken v outs).lines ≡ (spoken w outs).lines
+pub spoken_same : (m : ℕ) (v w : Wires) (outs : List Out) → AreFrom m outs → Long m v w → (spoken v outs).lines ≡ (spoken w outs).lines
 spoken_same m v w [] from h = refl
 spoken_same m v w (Says l ∷ outs) from h = ap (λ (ls : List Line). l ∷ ls) (spoken_same m v w outs from h)
 spoken_same m v w (Sends p ∷ outs) from h =
+    let packet_long : (m : ℕ) (v w : Wires) (p : Packet) → Long m v w → Long m (with_packet v p) (with_packet w p) = λ m v w p h n. grind (arith, nat_tests, length-append) in
     ap (λ (l : Line). l ∷ (spoken (with_packet v p) outs).lines) (grind (arith, nat_tests))
     ∙ ap (λ (ls : List Line). packet_line w p ∷ ls) (spoken_same m (with_packet v p) (with_packet w p) outs from.1 (packet_long m v w p h))
-
-pub acted_exact : (w u : WorldState) (e : Step) (m : ℕ) (d : Acted) → IsFrom m d → AsLong m w u → (acted u e m d).lines ≡ (acted w e m d).lines
-acted_exact w u e m d from long = ap (λ (ls : List Line). Line.Head e ∷ ls) (spoken_same m u.wires w.wires d.outs from.outs long)
-
-mark_by : (ps : List Sent) (k : ℕ) (here : Bool) → length (if here then marked ps k else ps) ≡ length ps
-mark_by ps k here = grind (arith, nat_tests, length_marked)
-
-pub marked_long : (m : ℕ) (e : Step) (w u : WorldState) → AsLong m w u → AsLong m (marked_by e w) (marked_by e u)
-marked_long m (Step.Deliver a c k) w u h = λ n. mark_by (u.wires m n) k (is_pair a c m n) ∙ h n ∙ sym (mark_by (w.wires m n) k (is_pair a c m n))
-marked_long m _ w u h = h

@@ -32,17 +32,6 @@ plainly_is s l i x e there = sym (ap (λ (o : Option Message). bind o plain_mess
 
 -- Wherever the rule leads, the processes are those that each home made, numbered from the first number on.
 
--- nobody is made
-stays_stands : (s t : OneKernel) → Stays s t → MadeStands s → MadeStands t
-stays_stands s t k h =
-    let machines = k.machines in
-    record {
-      home = λ p there. let w = h.home p (sym (k.lives p) ∙ there) in omega (arith, w, machines);
-      first = λ p there. h.first p (sym (k.lives p) ∙ there);
-      below = λ p there. let w = h.below p (sym (k.lives p) ∙ there) in let e = k.made p.home in omega (arith, w, e);
-      all = λ home n within below. let e = k.made home in k.lives (pid_of home (first_number + n)) ∙ h.all home n (omega (arith, within, machines)) (omega (arith, below, e));
-    }
-
 -- one is
 abbrev child_of : (s t : OneKernel) → Makes s t → Pid
 child_of s t k = pid_of k.home (first_number + s.made k.home)
@@ -77,17 +66,12 @@ makes_stands s t k h = record {
 }
 
 -- each step, and each group
-pub made_step : (s t : OneKernel) (l : Label) → kernel.step s l ≡ Some t → MadeStands s → MadeStands t
-made_step s t l is h = elim (step_makes s t l is) [ inl k ↦ stays_stands s t k h | inr k ↦ makes_stands s t k h ]
-
+-- nobody is made
 pub made_replay : (ls : List Label) (s t : OneKernel) → replay s ls ≡ Some t → MadeStands s → MadeStands t
 made_replay [] s t is h = let k : s ≡ t = cc in subst MadeStands k h
 made_replay (l ∷ ls) s t is h =
     let (u, first, rest) = bind-is (kernel.step s l) (λ v. replay v ls) t is in
-    made_replay ls u t rest (made_step s u l first h)
-
-pub made_group : (b : Boot) (pt : Point) (d : Step) (w : Spelled) → group_of b pt d ≡ Some w → MadeStands pt.kernel → MadeStands w.point.kernel
-made_group b pt d w is h = made_replay (labels w.lines) pt.kernel w.point.kernel (group_replay b pt d w is) h
+    made_replay ls u t rest (elim (step_makes s u l first) [ inl k ↦ (let e_ : MadeStands u = grind (arith, nat_tests) in e_) | inr k ↦ makes_stands s u k h ])
 
 -- where a run begins
 start_life : (b : Boot) (p : Pid) (o : Option BootProcess) → process_named p b.processes ≡ o → is_some ((start b).processes p) ≡ true → (x : BootProcess) × (process_named p b.processes ≡ Some x)
@@ -110,7 +94,7 @@ made_start b valid = record {
 
 made_leads : (b : Boot) (es : List Step) (pt end : Point) → Leads b pt es end → MadeStands pt.kernel → MadeStands end.kernel
 made_leads b [] pt end leads h = subst (λ (v : Point). MadeStands v.kernel) leads h
-made_leads b (d ∷ ds) pt end (w, fit, is, more) h = made_leads b ds w.point end more (made_group b pt d w is h)
+made_leads b (d ∷ ds) pt end (w, fit, is, more) h = made_leads b ds w.point end more (made_replay (labels w.lines) pt.kernel w.point.kernel (group_replay b pt d w is) h)
 
 pub made_always : (b : Boot) (es : List Step) (pt : Point) → IsValid b → Leads b (first_point b) es pt → MadeStands pt.kernel
 made_always b es pt valid leads = made_leads b es (first_point b) pt leads (made_start b valid)

@@ -81,13 +81,9 @@ acts_start b valid = record {
 abbrev pub KernelsStay : Type 0
 KernelsStay = (b : Boot) (k : KernelState) (t : Turned) → kernel.turn b k ≡ Some t → t.state.here ≡ k.here
 
-node_if : (w : WorldState) (n : NodeState) (m i : ℕ) (c : Bool) → (m == i) ≡ c → MayAct n → MayAct (w.nodes i) → MayAct (if c then n else w.nodes i)
-node_if w n m i true e h k = h
-node_if w n m i false e h k = k
-
 acted_may : (b : Boot) (w : WorldState) (e : Step) (m : ℕ) (d : Acted) (s : Said) → acted w e m d ≡ s → MayAct d.state → AllMayAct b w → AllMayAct b s.state
 acted_may b w e m d s is h acts =
-    subst (λ (v : Said). AllMayAct b v.state) is (record { each = λ i lt. node_if w d.state m i (m == i) refl h (acts.each i lt) })
+    subst (λ (v : Said). AllMayAct b v.state) is (record { each = λ i lt. (let e_ : MayAct (if (m == i) then d.state else w.nodes i) = grind (arith, nat_tests, acts.each i lt) in e_) })
 
 turned_may : (b : Boot) (w : WorldState) (e : Step) (m : ℕ) (a : Acts) (s : Said) → turned w e m (Some a) ≡ Some (Says s) → MayAfter a → AllMayAct b w → AllMayAct b s.state
 turned_may b w e m (Goes d) s is h acts = acted_may b w e m d s (let f : acted w e m d ≡ s = cc in f) h acts
@@ -100,14 +96,12 @@ turn_stays b w m (Some t) s stays valid e is may lawful acts =
     let fit = turn_lawful b (w.nodes m).kernel t valid.images may.kernel lawful e in
     turned_may b w (Step.Turn m) m (node.acts (record (w.nodes m) { kernel = t.state }) t.parts) s is (turn_may (w.nodes m) t (stays b (w.nodes m).kernel t e) fit.parts.each may.acts) acts
 
-manager_here : (s : KernelState) (p : Pid) (m : ℕ) (o : Option Servers) (t : Turned) → asks_manager s p m o ≡ Some t → t.state.here ≡ s.here
-manager_here s p m o t e = grind (arith, nat_tests)
-
 ask_stays : (b : Boot) (w : WorldState) (p : Pid) (m : ℕ) (o : Option Turned) (s : Said) → asks_move (w.nodes 0).kernel p m ≡ o → turned w (Step.Migrate p m) 0 (node.turns (w.nodes 0) o) ≡ Some (Says s) → m < 16 → MayAskMove (w.nodes 0) → IsLawfulState (w.nodes 0).kernel → AllMayAct b w → AllMayAct b s.state
 ask_stays b w p m None s e is to may lawful acts = cc
 ask_stays b w p m (Some t) s e is to may lawful acts =
     let fit = asked_lawful (w.nodes 0).kernel p m t may.kernel.here (omega (arith, to)) lawful e in
-    turned_may b w (Step.Migrate p m) 0 (node.acts (record (w.nodes 0) { kernel = t.state }) t.parts) s is (turn_may (w.nodes 0) t (manager_here (w.nodes 0).kernel p m (w.nodes 0).kernel.servers t e) fit.parts.each may.acts) acts
+    let manager_here : t.state.here ≡ (w.nodes 0).kernel.here = grind (arith, nat_tests) in
+    turned_may b w (Step.Migrate p m) 0 (node.acts (record (w.nodes 0) { kernel = t.state }) t.parts) s is (turn_may (w.nodes 0) t manager_here fit.parts.each may.acts) acts
 
 arrived_may : (b : Boot) (w u : WorldState) (e : Step) (a c : ℕ) (l : Load Message) (s : Said) → u.nodes ≡ w.nodes → arrives u e a c l ≡ Some (Says s) → MayArrive (w.nodes c) a l → AllMayAct b w → AllMayAct b s.state
 arrived_may b w u e a c l s same is may acts =

@@ -1,5 +1,6 @@
 -- What the proofs of this crate name of what lies below it.
 pub use Rattle.std.proofs.lemmas.List.{drop-drop, drop-map}
+pub use Rattle.std.proofs.lemmas.Option.{cond_some as some_is}
 pub use Rattle.dm_records.proofs.Names.{Bool, IsSome, Option, Pid, Some, ap, arith, common_steps, cond, false, if◌then◌else◌, pid_eq, refl, sym, true, ◌∙◌, ◌≡◌}
 pub use Rattle.dm_records.specs.declared.record.Record.{Record}
 pub use Rattle.dm_processor.proofs.Names.{List, Row, [], drop, drop-append-le, instruction, length, nat_tests, suc, take, zero, ℕ, ◌*◌, ◌++◌, ◌+◌, ◌-◌, ◌/◌, ◌<◌, ◌^◌, ◌∷◌, ◌≤◌}
@@ -9,8 +10,8 @@ pub use Rattle.dm_wire.proofs.Cursor.{length_marked}
 pub use Rattle.dm_wire.proofs.Names.{Sent, inl, inr}
 pub use Rattle.dm_stream.proofs.Follows.{MayCome-stands}
 pub use Rattle.dm_stream.proofs.Lists.{drop-more, get-drop}
-pub use Rattle.dm_stream.proofs.Names.{Ack, Acknowledge, Data, Deliver, DeliverBack, Event, Give, GoAgain, GoOut, OtherAck, OtherData, Receiving, Sending, Stream, TakeKept, cases_Bool, due, given_count, goes_again, happens, is_some}
-pub use Rattle.dm_stream.proofs.Names.{just_put, kept_once, kept_under, marked, max, moved_up, nat_lt, next, outstanding, slice_get_within, subst, window, ◌≢◌, ◌⊎◌}
+pub use Rattle.dm_stream.proofs.Names.{Ack, Acknowledge, Data, Deliver, DeliverBack, Give, GoAgain, GoOut, OtherAck, OtherData, Receiving, Sending, Stream, TakeKept, cases_Bool, due, given_count, goes_again, happens, is_some, just_put}
+pub use Rattle.dm_stream.proofs.Names.{kept_once, kept_under, marked, max, moved_up, nat_lt, next, outstanding, slice_get_within, subst, window, ◌≢◌, ◌⊎◌}
 pub use Rattle.dm_stream.proofs.Places.{place-kept_other, place-kept_same, place-moved_up}
 pub use Rattle.dm_stream.proofs.Together.{StreamStands-happens, StreamStands-start}
 unfoldable pub use Rattle.dm_stream.specs.Packets.{load_at}
@@ -55,20 +56,20 @@ pub use Rattle.dm_rule.proofs.Groups.{GroupIs, stands_once_always}
 pub use Rattle.dm_rule.proofs.Homes.Lines.{acting_label}
 pub use Rattle.dm_rule.proofs.Letters.{letter_of}
 pub use Rattle.dm_rule.proofs.Moves.Sent.{fits_packet, fits_put}
-pub use Rattle.dm_rule.proofs.Names.{About, Addresses, Again, Child, Completing, Directive, Ended, Fault, Forward, Frozen, Gets, Held, Here, HomeStands, Inbox, Incoming, IsIn, IsStep, IsToken, Known, LandsSo, Leads, Line, Load, Made, Moves}
-pub use Rattle.dm_rule.proofs.Names.{Name, NamedLink, Next, Nexts, NothingElse, Nowhere, Of, Over, Owns, Pair, Phase, Place, Point, Queue, Receiver, Rests, Room, Routes, Says, Sender, SentLoad, ServerSends, Slot, Sound, Spelled, Spot}
-pub use Rattle.dm_rule.proofs.Names.{Stage, StandsAsBag, StandsNowhere, StandsOnce, StandsOutside, StandsRight, Step, Target, Todo, Told, Transmits, Unknown, Untaken, View, actor, addresses_after, after, after_label, after_line}
-pub use Rattle.dm_rule.proofs.Names.{after_packet, after_proto, after_put, after_step, alive-is, all_of, answers_move, ascends, at_hand-is, at_id, at_least, at_machine, at_pair, at_pid, at_record, begins, behind, behind_count, bind-is}
-pub use Rattle.dm_rule.proofs.Names.{board_takes_lem, child_number, chunks_of, comes_to, completing, counts, counts_process, dropped_for, ended, ends_move-is, filter, first_gives, first_point, first_view, fits, forward_about, forwarded_for}
-pub use Rattle.dm_rule.proofs.Names.{forwards_on, free_room, front_of, gets, given, goes_out, gone_after, gone_to, group_of, handled, has, has_mail, hears, id_eq-is, id_eq-same, id_eq-swap, ids_at, is_apart, is_away, is_between, is_counted}
-pub use Rattle.dm_rule.proofs.Names.{is_dropped, is_due, is_early, is_here, is_kernels, is_quiet, is_restart, is_told_back, kept_from, kernel_after, kernel_hears, kind_comes, kind_leaves, known_at, knows, label_of, lands-is, leaves_for}
-pub use Rattle.dm_rule.proofs.Names.{left_true, less, lines_of, machine_in, manager_takes_lem, migrates, migrates_child, more, moved, moved_back, next_step, nexts, not_server, numbers_from, oldest, option_and_then, option_map_or, outcome}
-pub use Rattle.dm_rule.proofs.Names.{own_given, own_id, packet_line, pair_is_quiet, pid_eq-is, pid_eq-same, pieces_of, place_of, place_told, plain_kind, process_told, puts, queued_for, receiver_in, receiver_of, repeats, resends, right_true}
-pub use Rattle.dm_rule.proofs.Names.{ring_at, routed_on, seen, sender_in, sends_on, slice_get_cases, slots_of, slots_with, sort_of, spelled, standing, takes_block, takes_chunk, taking_parts, target_of, times, to_kernel, to_of, token_in}
-pub use Rattle.dm_rule.proofs.Names.{told_between, told_ended, told_here, told_server, told_step, unentered, unmoved, untaken, updates, view_after, when-is, with_pair, without, without_front, without_id}
+pub use Rattle.dm_rule.proofs.Names.{About, Addresses, Again, Child, Completing, Directive, Ended, Fault, Forward, Frozen, Gets, Held, Here, HomeStands, Inbox, Incoming, IsIn, IsStep, IsToken, Known, LandsSo, Leads, Line, Load, Moves, Name}
+pub use Rattle.dm_rule.proofs.Names.{NamedLink, Next, Nexts, NothingElse, Nowhere, Of, Over, Owns, Pair, Phase, Place, Point, Queue, Receiver, Rests, Room, Routes, Says, Sender, SentLoad, ServerSends, Slot, Sound, Spelled, Spot, Stage}
+pub use Rattle.dm_rule.proofs.Names.{StandsAsBag, StandsNowhere, StandsOnce, StandsOutside, StandsRight, Step, Target, Todo, Told, Transmits, Unknown, Untaken, View, actor, addresses_after, after, after_label, after_line, after_packet}
+pub use Rattle.dm_rule.proofs.Names.{after_proto, after_put, after_step, alive-is, all_of, answers_move, ascends, at_hand-is, at_id, at_least, at_machine, at_pair, at_pid, at_record, begins, behind, behind_count, bind-is, board_takes_lem}
+pub use Rattle.dm_rule.proofs.Names.{child_number, chunks_of, comes_to, completing, counts, counts_process, dropped_for, ended, ends_move-is, filter, first_gives, first_point, first_view, fits, forward_about, forwarded_for, forwards_on}
+pub use Rattle.dm_rule.proofs.Names.{free_room, front_of, gets, given, goes_out, gone_after, gone_to, group_of, handled, has, has_mail, hears, id_eq-is, id_eq-same, id_eq-swap, ids_at, is_apart, is_away, is_between, is_counted, is_dropped}
+pub use Rattle.dm_rule.proofs.Names.{is_due, is_early, is_here, is_kernels, is_quiet, is_restart, is_told_back, kept_from, kernel_after, kernel_hears, kind_comes, kind_leaves, known_at, knows, label_of, lands-is, leaves_for, left_true}
+pub use Rattle.dm_rule.proofs.Names.{less, lines_of, machine_in, manager_takes_lem, migrates, migrates_child, more, moved, moved_back, next_step, nexts, not_server, numbers_from, oldest, option_and_then, option_map_or, outcome, own_given}
+pub use Rattle.dm_rule.proofs.Names.{own_id, packet_line, pair_is_quiet, pid_eq-is, pid_eq-same, pieces_of, place_of, place_told, plain_kind, process_told, puts, queued_for, receiver_in, receiver_of, repeats, resends, right_true, ring_at}
+pub use Rattle.dm_rule.proofs.Names.{routed_on, seen, sender_in, sends_on, slice_get_cases, slots_of, slots_with, sort_of, spelled, standing, takes_block, takes_chunk, taking_parts, target_of, times, to_kernel, to_of, token_in}
+pub use Rattle.dm_rule.proofs.Names.{told_between, told_ended, told_here, told_server, told_step, unentered, unmoved, untaken, updates, view_after, when-is, without, without_front, without_id}
 pub use Rattle.dm_rule.proofs.Pairs.{Pairs, pair_home, pair_stands, pairs_stand_always}
 pub use Rattle.dm_rule.proofs.Pairs.Comes.{less-right, more-is}
-pub use Rattle.dm_rule.proofs.Pairs.Lines.{AllFit, forwarded_pair, held_pair, label_pair, onward, pair_same, proto_pair, queued_pair, stage_pair, taken_pair, touches}
+pub use Rattle.dm_rule.proofs.Pairs.Lines.{AllFit, forwarded_pair, held_pair, label_pair, onward, pair_same, proto_pair, queued_pair, stage_pair, taken_pair}
 pub use Rattle.dm_rule.proofs.Pairs.Migrating.{migrates_fit}
 pub use Rattle.dm_rule.proofs.Pairs.Stand.{two_of}
 pub use Rattle.dm_rule.proofs.Pairs.Turns.{turns_fit}
@@ -137,6 +138,7 @@ pub use Rattle.dm_rulelaws.proofs.Fits.Rises.{both, set_at}
 pub use Rattle.dm_rulelaws.proofs.Fits.Start.{get_some}
 pub use Rattle.dm_rulelaws.proofs.Found.Groups.{told_there}
 pub use Rattle.dm_rulelaws.proofs.Found.Lists.{more_front}
+pub use Rattle.dm_rulelaws.proofs.Found.Real.{each_pending}
 pub use Rattle.dm_rulelaws.proofs.Goes.Always.{front, goes_on, own_by, stands_first}
 pub use Rattle.dm_rulelaws.proofs.Goes.Front.{ForWhom, Front, begun, for_whom, here_free, home_of, is_manager, served_is, told_receiver}
 pub use Rattle.dm_rulelaws.proofs.Goes.Own.{apart_is, is_it, source_knows}
@@ -145,11 +147,11 @@ pub use Rattle.dm_rulelaws.proofs.Goes.Runs.{Both, RunGoes, RunStarts, both_grou
 pub use Rattle.dm_rulelaws.proofs.Goes.Servers.{can_handle, pending_is, server_fixed}
 pub use Rattle.dm_rulelaws.proofs.Goes.Serves.{reply_same, running_of}
 pub use Rattle.dm_rulelaws.proofs.Goes.Turns.{Droppable, IsFor, at_hand_of, droppable_on, dropped_is, queue_drops, user_dropped}
-pub use Rattle.dm_rulelaws.proofs.Names.{AllSayable, Each, InPhases, IsNet, IsNetLine, IsPending, IsRun, LeadsBy, PendingFits, Phased, Sane, Sayable, StandsAsBag-elsewhere, StandsAsBag-one, WhatFits, about_same, agrees, aim, arrives_net}
+pub use Rattle.dm_rulelaws.proofs.Names.{AllSayable, Each, InPhases, IsNet, IsNetLine, IsPending, IsRun, LeadsBy, PendingFits, Phased, Sane, Sayable, StandsAsBag-elsewhere, StandsAsBag-one, WhatFits, about_same, agrees, arrives_net}
 pub use Rattle.dm_rulelaws.proofs.Names.{at_record_at, awaits, bag_answered, bag_created, bag_gone, bag_no_space, bag_served, by_hears, eq_is, eq_self, goes_between, group_is, has_bytes, has_no_queue, has_nothing_held, hushed, if_some-is}
 pub use Rattle.dm_rulelaws.proofs.Names.{inbox_is, is_fixed, is_for, is_put, is_server, kernels_fresh, kind_eq, labels, least_of, letters, machine_of, not_false, not_first, not_true, out_off, outcome_sayable, pair_keeps, part_sane}
-pub use Rattle.dm_rulelaws.proofs.Names.{piece_fits, proto_acting, put_at, put_told_off, resends_net, rests_here, rings, sane_line, served_id, sets, stands_right, status_awaits, tells_onward, times-append, token_at, token_is, told_some}
-pub use Rattle.dm_rulelaws.proofs.Names.{why_code, zero_if}
+pub use Rattle.dm_rulelaws.proofs.Names.{piece_fits, proto_acting, put_at, put_told_off, resends_net, rests_here, rings, sane_line, served_id, stands_right, status_awaits, tells_onward, times-append, token_at, token_is, told_some, why_code}
+pub use Rattle.dm_rulelaws.proofs.Names.{zero_if}
 pub use Rattle.dm_rulelaws.proofs.Own.Told.{OwnTold, is_place, is_target, own_server, own_sort}
 pub use Rattle.dm_rulelaws.proofs.Queued.{IsQueued}
 pub use Rattle.dm_rulelaws.proofs.RunLabels.{after_replay, group_replay, labels-append, replay-append}

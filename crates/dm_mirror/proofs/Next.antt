@@ -72,8 +72,7 @@ abbrev SameMail : ℕ → (ℕ → Bool) → (ℕ → Bool) → Type 0
 SameMail machines f g = (m : ℕ) → m < machines → f m ≡ g m
 
 takes_same : (machines : ℕ) (p : Pass) (f g : ℕ → Bool) → SameMail machines f g → SameMail machines (takes_turn p f) (takes_turn p g)
-takes_same machines (Pass.Round k) f g same m h = refl
-takes_same machines Pass.Settle f g same m h = same m h
+takes_same machines p f g same m h = grind (arith, nat_tests)
 
 turn_same : (machines : ℕ) (f g : ℕ → Bool) (t : Todo) (ms : List ℕ) → SameMail machines f g → All (IsBelow machines) ms → next_turn f t ms ≡ next_turn g t ms
 turn_same machines f g t [] same fit = refl
@@ -102,18 +101,15 @@ directive_same machines f g mail mail' quiet (Directive.Settle ∷ ds) first sam
     ∙ ap (settles quiet (begin_pass machines g mail' Pass.Settle ds)) (directive_same machines f g mail mail' quiet ds first same)
 directive_same machines f g mail mail' quiet _ first same = refl
 
-later_same : (machines : ℕ) (f g : ℕ → ℕ → Option ℕ) (mail mail' : ℕ → Bool) (quiet : Bool) (p : Pass) (ds : List Directive) → Agrees machines f g → SameMail machines mail mail'
-    → next_pass machines f mail quiet p ds ≡ next_pass machines g mail' quiet p ds
-later_same machines f g mail mail' quiet p ds first same = grind (arith, nat_tests, directive_same, begin_same)
-
 following_same : (machines : ℕ) (f g : ℕ → ℕ → Option ℕ) (mail mail' : ℕ → Bool) (quiet : Bool) (t : Todo) → Agrees machines f g → SameMail machines mail mail' → All (IsTwo machines) t.pairs → All (IsBelow machines) t.machines
     → following machines f mail quiet t ≡ following machines g mail' quiet t
 following_same machines f g mail mail' quiet t first same fit below =
     let over = is_over t.pass quiet in
     let later = next_pass machines f mail quiet t.pass t.directives in
+    let later_same : next_pass machines f mail quiet t.pass t.directives ≡ next_pass machines g mail' quiet t.pass t.directives = grind (arith, nat_tests, directive_same, begin_same) in
     ap (λ (d : Option (Step × List Two)). or (if over then None else in_pass mail t d) later) (delivery_same machines f g t.pairs first fit)
     ∙ ap (λ (o : Option Next). or (if over then None else o) later) (in_same machines mail mail' t (next_delivery g t.pairs) same below)
-    ∙ ap (or (if over then None else in_pass mail' t (next_delivery g t.pairs))) (later_same machines f g mail mail' quiet t.pass t.directives first same)
+    ∙ ap (or (if over then None else in_pass mail' t (next_delivery g t.pairs))) later_same
 
 -- what follows is for the machines that there are
 pub record NextFits (machines : ℕ) (n : Next) : Type 0 where
@@ -128,17 +124,9 @@ abbrev DeliveryFits : ℕ → Option (Step × List Two) → Type 0
 DeliveryFits machines None = ⊤
 DeliveryFits machines (Some d) = IsStep machines d.0 × All (IsTwo machines) d.1
 
-here_fits : (machines : ℕ) (p : Two) (ps : List Two) (o : Option ℕ) (later : Option (Step × List Two)) → All (IsTwo machines) (p ∷ ps) → DeliveryFits machines later → DeliveryFits machines (here_or_later p ps o later)
-here_fits machines p ps None later fit h = h
-here_fits machines p ps (Some k) later fit h = let one = All-head (IsTwo machines) p ps fit in ((one.from, one.to, one.apart), fit)
-
 delivery_fits : (machines : ℕ) (first : ℕ → ℕ → Option ℕ) (ps : List Two) → All (IsTwo machines) ps → DeliveryFits machines (next_delivery first ps)
 delivery_fits machines first [] fit = tt
-delivery_fits machines first (p ∷ ps) fit = here_fits machines p ps (first p.from p.to) (next_delivery first ps) fit (delivery_fits machines first ps (All-tail (IsTwo machines) p ps fit))
-
-or_fits : (machines : ℕ) (x y : Option Next) → Fits machines x → Fits machines y → Fits machines (or x y)
-or_fits machines None y h k = k
-or_fits machines (Some n) y h k = h
+delivery_fits machines first (p ∷ ps) fit = grind (arith, nat_tests, All-head, delivery_fits machines first ps (All-tail (IsTwo machines) p ps fit))
 
 turn_or_later : (machines : ℕ) (t : Todo) (m : ℕ) (ms : List ℕ) (b : Bool) (o : Option Next) → IsTodo machines t → All (IsBelow machines) (m ∷ ms) → Fits machines o
     → Fits machines (if b then next_and_left (Step.Turn m) (record t { pairs = []; machines = ms }) else o)
@@ -161,8 +149,7 @@ begun_fits machines first mail p ds h =
     (delivery_fits machines first (pairs_of (below machines) (below machines)) (all_pairs machines))
 
 settles_fit : (machines : ℕ) (quiet : Bool) (x y : Option Next) → Fits machines x → Fits machines y → Fits machines (settles quiet x y)
-settles_fit machines true x y h k = k
-settles_fit machines false x y h k = or_fits machines x y h k
+settles_fit machines quiet x y h k = grind (arith, nat_tests)
 
 directive_fits : (machines : ℕ) (first : ℕ → ℕ → Option ℕ) (mail : ℕ → Bool) (quiet : Bool) (ds : List Directive) → All (IsDirective machines) ds → Fits machines (next_directive machines first mail quiet ds)
 directive_fits machines first mail quiet [] h = tt
@@ -181,16 +168,14 @@ later_fits machines first mail quiet (Pass.Round (suc k)) ds h = begun_fits mach
 later_fits machines first mail quiet Pass.Settle ds h =
     settles_fit machines quiet (begin_pass machines first mail Pass.Settle ds) (next_directive machines first mail quiet ds) (begun_fits machines first mail Pass.Settle ds h) (directive_fits machines first mail quiet ds h)
 
-unless_fits : (machines : ℕ) (over : Bool) (o : Option Next) → Fits machines o → Fits machines (if over then None else o)
-unless_fits machines true o h = tt
-unless_fits machines false o h = h
-
 pub next_fits : (machines : ℕ) (first : ℕ → ℕ → Option ℕ) (mail : ℕ → Bool) (quiet : Bool) (t : Todo) (n : Next) → IsTodo machines t → following machines first mail quiet t ≡ Some n → NextFits machines n
 next_fits machines first mail quiet t n h is =
+    let or_fits : (machines : ℕ) (x y : Option Next) → Fits machines x → Fits machines y → Fits machines (or x y) = λ machines x y h k. grind (arith, nat_tests) in
     let here = in_pass mail t (next_delivery first t.pairs) in
+    let unless_fits : Fits machines (if (is_over t.pass quiet) then None else here) = grind (arith, nat_tests, pass_fits machines mail t (next_delivery first t.pairs) h (delivery_fits machines first t.pairs h.pairs)) in
     subst (Fits machines) is
     (or_fits machines (if is_over t.pass quiet then None else here) (next_pass machines first mail quiet t.pass t.directives)
-    (unless_fits machines (is_over t.pass quiet) here (pass_fits machines mail t (next_delivery first t.pairs) h (delivery_fits machines first t.pairs h.pairs)))
+    unless_fits
     (later_fits machines first mail quiet t.pass t.directives h.directives))
 
 -- where the world stands for a point

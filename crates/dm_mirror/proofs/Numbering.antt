@@ -2,7 +2,7 @@
 use Rattle.dm_mirror.proofs.Names.{◌≡◌, inl, inr, ℕ, ◌+◌, ◌<◌, ◌≤◌, ◌==◌, Bool, true, false, List, [], ◌∷◌, ◌++◌, length, refl, ap, ◌∙◌, sym, subst, is_some, nat_le, nat_lt, arith, ◌&&◌, if◌then◌else◌, slice_get, Option, None, Some}
 use Rattle.dm_mirror.proofs.Names.{cases_Bool, nat_tests, Pid, pid_of, pid_eq, BootImage, BootProcess, Boot, starting_at, slots_of, links_are_valid, processes_are_valid, process_is_valid, process_named, Life, bind, first_life, life_at}
 use Rattle.dm_mirror.proofs.Names.{started, started_at, pid_eq-is, both, get_some, ◌||◌, map, option_map, plain_link, IsValid, switchboard, manager, Alive, first_point, Known, known_at, is_server, servers_known}
-use Rattle.dm_laws.proofs.Names.{begun}
+pub use Rattle.dm_rulelaws.proofs.Based.Start.{known_first, known_of_life, one_if, starting-last}
 
 pub life_named : (b : Boot) (ps : List BootProcess) (q : Pid) → life_at b ps q ≡ bind (process_named q ps) (first_life b)
 life_named b [] q = refl
@@ -34,13 +34,6 @@ listed b earlier p ps h =
     let number = second.0 in
     let (image, there) = some_of (slice_get b.images p.image) (get_some b.images p.image three.0) in
     record { home = grind (arith, nat_tests); number = grind (arith, nat_tests); image = image; there = there; rest = k.1 }
-
-abbrev pub one_if : Bool → ℕ
-one_if c = if c then 1 else 0
-
-pub starting-last : (m : ℕ) (ps : List BootProcess) (p : BootProcess) → starting_at m (ps ++ p ∷ []) ≡ starting_at m ps + one_if (p.pid.home == m)
-starting-last m [] p = omega arith
-starting-last m (q ∷ qs) p = let h = starting-last m qs p in omega (arith, h)
 
 -- the number of the process that comes next
 pub number_of : (b : Boot) (earlier : List BootProcess) (p : BootProcess) (ps : List BootProcess) (q : Pid) → Listed b earlier p ps → p.pid ≡ q → q.num ≡ 3 + starting_at q.home earlier
@@ -101,40 +94,6 @@ named_all b earlier (p ∷ ps) home n h least most = elim (cases_Bool (pid_eq p.
 ]
 
 -- What machines know at the start: the home of each process of the boot file has it, and nobody else knows anything of it.
-
--- a process is here while it lives
-abbrev pub known_of_life : Option Life → Known
-known_of_life None = Known.Unknown
-known_of_life (Some (Alive x)) = Known.Here
-known_of_life (Some (Life.Ended y)) = Known.Ended
-
-alive_first : (b : Boot) (p : BootProcess) (i : BootImage) → slice_get b.images p.image ≡ Some i → known_of_life (first_life b p) ≡ Known.Here
-alive_first b p i there = ap (λ (o : Option BootImage). known_of_life (option_map (λ (image : BootImage). Alive (begun b.format image (map plain_link p.links))) o)) there
-
-known_first : (b : Boot) (earlier ps : List BootProcess) (m : ℕ) (q : Pid) → processes_are_valid b earlier ps ≡ true → known_at ps m q ≡ (if q.home == m then (if is_server q then Known.Here else known_of_life (life_at b ps q)) else Known.Unknown)
-known_first b earlier [] m q h = servers_known q m (is_server q) refl
-known_first b earlier (p ∷ ps) m q h = elim (cases_Bool (pid_eq p.pid q)) [
-  | inl same ↦
-      let k = listed b earlier p ps h in
-      let is : p.pid ≡ q = pid_eq-is p.pid q same in
-      let number : q.num ≡ 3 + starting_at q.home earlier = sym (ap (λ (v : Pid). v.num) is) ∙ k.number ∙ ap (λ (v : Pid). 3 + starting_at v.home earlier) is in
-      let server : is_server q ≡ false = (let e : pid_eq q switchboard ≡ false = grind (arith, nat_tests) in let d : pid_eq q manager ≡ false = grind (arith, nat_tests) in ap (λ (c : Bool). c || pid_eq q manager) e ∙ d) in
-      let life : known_of_life (life_at b (p ∷ ps) q) ≡ Known.Here = ap (λ (c : Bool). known_of_life (if c then first_life b p else life_at b ps q)) same ∙ alive_first b p k.image k.there in
-      let rest = known_first b (earlier ++ p ∷ []) ps m q k.rest in
-      ap (λ (c : Bool). if c && (p.pid.home == m) then Known.Here else known_at ps m q) same
-      ∙ ap (λ (v : Pid). if v.home == m then Known.Here else known_at ps m q) is
-      ∙ here_or (q.home == m) (known_at ps m q) (if is_server q then Known.Here else known_of_life (life_at b ps q)) rest
-      ∙ ap (λ (v : Known). if q.home == m then v else Known.Unknown) (sym life)
-      ∙ ap (λ (c : Bool). if q.home == m then (if c then Known.Here else known_of_life (life_at b (p ∷ ps) q)) else Known.Unknown) (sym server)
-  | inr apart ↦
-      let k = listed b earlier p ps h in
-      ap (λ (c : Bool). if c && (p.pid.home == m) then Known.Here else known_at ps m q) apart ∙ known_first b (earlier ++ p ∷ []) ps m q k.rest
-      ∙ ap (λ (c : Bool). if q.home == m then (if is_server q then Known.Here else known_of_life (if c then first_life b p else life_at b ps q)) else Known.Unknown) (sym apart)
-]
-  where
-    here_or : (c : Bool) (x y : Known) → x ≡ (if c then y else Known.Unknown) → (if c then Known.Here else x) ≡ (if c then Known.Here else Known.Unknown)
-    here_or true x y e = refl
-    here_or false x y e = e
 
 pub first_known : (b : Boot) (m : ℕ) (q : Pid) → IsValid b → (first_point b).view.known m q ≡ (if q.home == m then (if is_server q then Known.Here else known_of_life (bind (process_named q b.processes) (first_life b))) else Known.Unknown)
 first_known b m q valid =

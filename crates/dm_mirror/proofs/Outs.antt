@@ -1,8 +1,8 @@
 -- What a machine sends goes from it, and what that puts on the wires.
 use Rattle.dm_mirror.proofs.Names.{◌≡◌, ◌≢◌, ℕ, zero, suc, ◌==◌, Bool, true, false, List, [], ◌∷◌, ◌++◌, refl, ap, ◌∙◌, sym, subst, append_assoc, arith, ⊤, if◌then◌else◌, All, Option, None, Some, nat_tests, append-nil, All-nil, All-cons}
-use Rattle.dm_mirror.proofs.Names.{All-append, Message, Packet, Line, spelling, Sent, Data, Ack, Sending, window, due, outstanding, with_given, with_sent, with_acked, arrival, after_arrival, next, after_next, Arrived, NodeState, here}
-use Rattle.dm_mirror.proofs.Names.{with_sender, with_message, with_receiver, Out, Sends, Acted, Acts, Goes, Worn, then_, acts, routes, routes_home, routes_away, gives, sends, sends_due, put_line, is_worn, none_waits, count_out, again}
-use Rattle.dm_mirror.proofs.Names.{first_out, all_out, acknowledges, before, takes_next, takes_kept, then_acknowledges, comes_in, lets_next, lets_go, with_packet, spoken, IsFresh, Part}
+use Rattle.dm_mirror.proofs.Names.{All-append, Message, Packet, Line, spelling, Sent, Data, Ack, Sending, window, due, outstanding, with_given, with_acked, arrival, after_arrival, next, after_next, Arrived, NodeState, here, with_sender}
+use Rattle.dm_mirror.proofs.Names.{with_message, with_receiver, Out, Sends, Acted, Acts, Goes, Worn, then_, acts, routes, routes_home, routes_away, gives, sends, sends_due, put_line, is_worn, none_waits, count_out, again, first_out}
+use Rattle.dm_mirror.proofs.Names.{all_out, acknowledges, before, takes_next, takes_kept, then_acknowledges, comes_in, lets_next, lets_go, with_packet, spoken, IsFresh, Part, with_sent}
 use Rattle.dm_node.proofs.Names.{behind}
 use Rattle.dm_wire.specs.Sent.{just_put}
 use Rattle.dm_stream.specs.Packets.{Load}
@@ -39,36 +39,17 @@ ActsFrom m (Goes a) = IsFrom m a
 ActsFrom m (Worn from to) = ⊤
 
 behind_from : (m : ℕ) (outs : List Out) (a : Acts) → AreFrom m outs → ActsFrom m a → ActsFrom m (behind outs a)
-behind_from m outs (Goes a) h k = record { here = k.here; outs = AreFrom-append m outs a.outs h k.outs }
-behind_from m outs (Worn from to) h k = tt
+behind_from m outs a h k = grind (arith, nat_tests, AreFrom-append)
 
 then_from : (m : ℕ) (a : Acts) (go : NodeState → Acts) → ActsFrom m a → ((n : NodeState) → here n ≡ m → ActsFrom m (go n)) → ActsFrom m (then_ a go)
-then_from m (Goes a) go h k = behind_from m a.outs (go a.state) h.outs (k a.state h.here)
-then_from m (Worn from to) go h k = tt
+then_from m a go h k = grind (arith, nat_tests, behind_from)
 
 -- a message that is routed
 due_from : (n : NodeState) (b : ℕ) (o : Option (ℕ × Message)) → IsFrom (here n) (sends_due n b o)
-due_from n b None = record { here = refl; outs = tt }
-due_from n b (Some p) = record { here = refl; outs = (refl, tt) }
-
-gives_from : (n : NodeState) (b : ℕ) (m : Message) (s : Sending Message) (c : Bool) → ActsFrom (here n) (gives n b m s c)
-gives_from n b m s true = behind_from (here n) (Says (put_line n m) ∷ []) (Goes (sends_due (with_sender n b (with_given s m)) b (due (with_given s m)))) tt (due_from (with_sender n b (with_given s m)) b (due (with_given s m)))
-gives_from n b m s false = record { here = refl; outs = tt }
-
-away_from : (n : NodeState) (b : ℕ) (m : Message) (s : Sending Message) (c : Bool) → ActsFrom (here n) (if c then Worn (here n) b else gives n b m s (none_waits s))
-away_from n b m s true = tt
-away_from n b m s false = gives_from n b m s (none_waits s)
-
-home_from : (n : NodeState) (m : Message) (c : Bool) → ActsFrom (here n) (routes_home n m c)
-home_from n m true = tt
-home_from n m false = record { here = refl; outs = tt }
-
-routes_by : (n : NodeState) (m : Message) (c : Bool) → ActsFrom (here n) (if c then routes_home n m (n.home == n.numbers) else routes_away n m.to.at m (n.senders m.to.at))
-routes_by n m true = home_from n m (n.home == n.numbers)
-routes_by n m false = away_from n m.to.at m (n.senders m.to.at) (is_worn (n.senders m.to.at))
+due_from n b o = grind (arith, nat_tests)
 
 routes_from : (n : NodeState) (m : Message) → ActsFrom (here n) (routes n m)
-routes_from n m = routes_by n m (m.to.at == here n)
+routes_from n m = grind (arith, nat_tests, due_from, behind_from)
 
 pub acts_from : (m : ℕ) (ps : List Part) (n : NodeState) → here n ≡ m → ActsFrom m (acts n ps)
 acts_from m [] n is = record { here = is; outs = tt }
@@ -77,22 +58,18 @@ acts_from m (Part.Routes x ∷ ps) n is = then_from m (routes n x) (λ after. ac
 
 -- a tick
 again_from : (n : NodeState) (b : ℕ) (o : Option (ℕ × Message)) → AreFrom (here n) (again n b o)
-again_from n b None = tt
-again_from n b (Some p) = (refl, tt)
+again_from n b o = grind (arith, nat_tests)
 
 first_from : (n : NodeState) (b k : ℕ) → AreFrom (here n) (first_out n b k)
 first_from n b zero = tt
 first_from n b (suc k) = AreFrom-append (here n) (first_out n b k) (again n b (outstanding (n.senders b) k)) (first_from n b k) (again_from n b (outstanding (n.senders b) k))
 
-if_from : (m : ℕ) (c : Bool) (outs : List Out) → AreFrom m outs → AreFrom m (if c then [] else outs)
-if_from m true outs h = tt
-if_from m false outs h = h
-
 all_from : (n : NodeState) (b : ℕ) → AreFrom (here n) (all_out n b)
 all_from n zero = tt
 all_from n (suc b) =
     let outs = first_out n b (count_out (n.senders b)) in
-    AreFrom-append (here n) (all_out n b) (if here n == b then [] else outs) (all_from n b) (if_from (here n) (here n == b) outs (first_from n b (count_out (n.senders b))))
+    let if_from : AreFrom (here n) (if (here n == b) then [] else outs) = grind (arith, nat_tests, first_from n b (count_out (n.senders b))) in
+    AreFrom-append (here n) (all_out n b) (if here n == b then [] else outs) (all_from n b) if_from
 
 pub tick_from : (m : ℕ) (n : NodeState) → here n ≡ m → IsFrom m (node.tick n)
 tick_from m n is = record { here = is; outs = subst (λ (k : ℕ). AreFrom k (all_out n n.machines)) is (all_from n n.machines) }
@@ -112,13 +89,6 @@ unfolding takes_kept
 kept_from m zero n a is = record { here = is; outs = tt }
 kept_from m (suc k) n a is = next_from m n a (next (n.receivers a)) (λ x. takes_kept k x a) is (λ x same. kept_from m k x a same)
 
-comes_from : (m : ℕ) (n : NodeState) (a k : ℕ) (what : Arrived Message) → here n ≡ m → IsFrom m (comes_in n a k what)
-comes_from m n a k (Taken x) is = before_from m (Says (Line.Taken a (here n) k) ∷ []) (takes_kept window (with_message n x) a) tt (kept_from m window (with_message n x) a is)
-comes_from m n a k _ is = record { here = is; outs = tt }
-
-acknowledged_from : (m : ℕ) (d : Acted) (a : ℕ) → IsFrom m d → IsFrom m (then_acknowledges d a)
-acknowledged_from m d a h = record { here = h.here; outs = AreFrom-append m d.outs (acknowledges d.state a) h.outs (h.here, tt) }
-
 lets_from : (m : ℕ) (n : NodeState) (b : ℕ) (o : Option (ℕ × Message)) (go : NodeState → Acted) → here n ≡ m → ((x : NodeState) → here x ≡ m → IsFrom m (go x)) → IsFrom m (lets_next n b o go)
 lets_from m n b None go is k = record { here = is; outs = tt }
 lets_from m n b (Some p) go is k =
@@ -134,7 +104,8 @@ pub arrives_from : (m : ℕ) (n : NodeState) (a : ℕ) (l : Load Message) → he
 arrives_from m n a (Data k x) is =
     let after = with_receiver n a (after_arrival (n.receivers a) k x) in
     let what = arrival (n.receivers a) k x in
-    acknowledged_from m (comes_in after a k what) a (comes_from m after a k what is)
+    let acknowledged_from : (m : ℕ) (d : Acted) (a : ℕ) → IsFrom m d → IsFrom m (then_acknowledges d a) = λ m d a h. record { here = h.here; outs = AreFrom-append m d.outs (acknowledges d.state a) h.outs (h.here, tt) } in
+    acknowledged_from m (comes_in after a k what) a (let e_ : IsFrom m (comes_in after a k what) = grind (arith, nat_tests, before_from, kept_from) in e_)
 arrives_from m n a (Ack k) is =
     let after = with_sender n a (with_acked (n.senders a) k) in
     before_from m (Says (Line.Acked a (here n) k) ∷ []) (lets_go window after a) tt (go_from m window after a is)
@@ -146,8 +117,7 @@ packets_to c (Says l ∷ outs) = packets_to c outs
 packets_to c (Sends p ∷ outs) = (if to_of p == c then just_put (spelling p) ∷ [] else []) ++ packets_to c outs
 
 fresh_one : (c : Bool) (bytes : List ℕ) → All IsFresh (if c then just_put bytes ∷ [] else [])
-fresh_one true bytes = All-cons IsFresh (just_put bytes) [] refl (All-nil IsFresh)
-fresh_one false bytes = All-nil IsFresh
+fresh_one c bytes = grind (arith, nat_tests, All-cons, All-nil)
 
 pub all_fresh : (c : ℕ) (outs : List Out) → All IsFresh (packets_to c outs)
 all_fresh c [] = All-nil IsFresh
@@ -156,9 +126,6 @@ all_fresh c (Sends p ∷ outs) = All-append IsFresh (if to_of p == c then just_p
 
 packet_off : (wires : ℕ → ℕ → List Sent) (p : Packet) (x y : ℕ) → x ≢ from_of p → with_packet wires p x y ≡ wires x y
 packet_off wires p x y apart = grind (arith, nat_tests)
-
-packet_on : (wires : ℕ → ℕ → List Sent) (p : Packet) (y : ℕ) → with_packet wires p (from_of p) y ≡ wires (from_of p) y ++ (if to_of p == y then just_put (spelling p) ∷ [] else [])
-packet_on wires p y = grind (arith, nat_tests, append-nil)
 
 -- the wires behind what a machine gives
 pub spoken_off : (m : ℕ) (outs : List Out) (wires : ℕ → ℕ → List Sent) (x y : ℕ) → AreFrom m outs → x ≢ m → (spoken wires outs).wires x y ≡ wires x y
@@ -171,5 +138,6 @@ spoken_on m [] wires y h = sym (append-nil (wires m y))
 spoken_on m (Says l ∷ outs) wires y h = spoken_on m outs wires y h
 spoken_on m (Sends p ∷ outs) wires y h =
     let one = if to_of p == y then just_put (spelling p) ∷ [] else [] in
-    let put : with_packet wires p m y ≡ wires m y ++ one = subst (λ (k : ℕ). with_packet wires p k y ≡ wires k y ++ one) h.0 (packet_on wires p y) in
+    let packet_on : with_packet wires p (from_of p) y ≡ wires (from_of p) y ++ (if to_of p == y then just_put (spelling p) ∷ [] else []) = grind (arith, nat_tests, append-nil) in
+    let put : with_packet wires p m y ≡ wires m y ++ one = subst (λ (k : ℕ). with_packet wires p k y ≡ wires k y ++ one) h.0 packet_on in
     spoken_on m outs (with_packet wires p) y h.1 ∙ (ap (λ (ps : List Sent). ps ++ packets_to y outs) put ∙ append_assoc (wires m y) one (packets_to y outs))

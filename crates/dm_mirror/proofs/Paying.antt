@@ -2,7 +2,7 @@
 use Rattle.dm_mirror.proofs.Names.{Run, ◌≡◌, ◌⊎◌, inl, inr, ℕ, ◌+◌, ◌==◌, Bool, true, false, List, [], ◌∷◌, length, refl, ap, ◌∙◌, sym, subst, arith, ⊤, if◌then◌else◌, slice_get, Option, None, Some, Pid, pid_eq, pid_of, MsgId, Why}
 use Rattle.dm_mirror.proofs.Names.{PlainMessage, PlainWhat, Boot, BootImage, Label, first_number, switchboard, manager, bind, PlainProcess, PlainStatus, Ready, Waiting, Moving, OneKernel, answer_id, Point, label_of, kernel_after, Says}
 use Rattle.dm_mirror.proofs.Names.{Routes, Again, Owns, Transmits, IsNet, Addresses, Sender, is_told_back, forwards_on, plain_kind, MessageKind, nat_tests, Outcome, PendingKind, MoveNote, Pending, Each, PendingFits, WhatFits, is_for}
-use Rattle.dm_mirror.proofs.Names.{kind_eq, answers_move, leaves_for}
+use Rattle.dm_mirror.proofs.Names.{kind_eq, answers_move, leaves_for, option_map, each_pending}
 use Rattle.dm_rule.proofs.Names.{Part}
 use Rattle.dm_onekernel.specs.Calls as calls
 use Rattle.dm_onekernel.specs.Pieces as pieces
@@ -60,49 +60,37 @@ stops_paid s p queue (Some (kernel.Calls n c)) = called_paid s p n queue c
 stops_paid s p queue (Some (kernel.Faults fault)) = (refl, λ t e. inl ((end_raises s t p (Why.Fault fault) e).within, drops_paid queue t))
 
 unless_paid : (s : OneKernel) (c : Bool) (ps : List Part) → Paid s ps → Paid s (if c then [] else ps)
-unless_paid s true ps h = tt
-unless_paid s false ps h = h
+unless_paid s c ps h = grind (arith, nat_tests)
 
-completes_paid : (s : OneKernel) (p : Pid) (i : MsgId) (c : receiving.Completed) → Paid s (rule.completion_parts p i c)
-completes_paid s p i (receiving.Receives x) = (refl, λ t e. inl ((receive_raises s t p i e).within, tt))
-completes_paid s p i (receiving.Refuses reply x) = (refl, λ t e. inl ((refuse_raises s t p i reply e).within, tt))
+-- parts that come of an option
+paid_if : {A : Type 0} (s : OneKernel) (o : Option A) (go : A → Option (List Part)) → ((x : A) → o ≡ Some x → PaidIf s (go x)) → PaidIf s (bind o go)
+paid_if s None go h = tt
+paid_if s (Some x) go h = h x refl
 
-completed_paid : (s : OneKernel) (p : Pid) (i : MsgId) (o : Option receiving.Completed) → PaidIf s (bind o (λ c. Some (rule.completion_parts p i c)))
-completed_paid s p i None = tt
-completed_paid s p i (Some c) = completes_paid s p i c
-
-received_paid : (s : OneKernel) (p : Pid) (i : MsgId) (x : PlainProcess) (o : Option PlainMessage) → PaidIf s (bind o (λ m. bind (receiving.completes_with p x m) (λ c. Some (rule.completion_parts p i c))))
-received_paid s p i x None = tt
-received_paid s p i x (Some m) = completed_paid s p i (receiving.completes_with p x m)
-
-receives_paid : (s : OneKernel) (p : Pid) (x : PlainProcess) (o : Option MsgId) → PaidIf s (rule.reception_parts s p x o)
-receives_paid s p x None = tt
-receives_paid s p x (Some i) = received_paid s p i x (s.bag i)
+paid_map : {A : Type 0} (s : OneKernel) (o : Option A) (go : A → List Part) → ((x : A) → o ≡ Some x → Paid s (go x)) → PaidIf s (option_map go o)
+paid_map s None go h = tt
+paid_map s (Some x) go h = h x refl
 
 status_paid : (quantum : ℕ) (s : OneKernel) (p : Pid) (queue : List MsgId) (x : PlainProcess) (st : PlainStatus) → PaidIf s (rule.serves_status quantum s p queue x st)
 status_paid quantum s p queue x Ready = grind (arith, nat_tests, ran_raises, unless_paid, stops_paid)
-status_paid quantum s p queue x (Waiting mask base size) = receives_paid s p x (rule.first_awaited s mask queue)
+status_paid quantum s p queue x (Waiting mask base size) =
+    let completes_paid : (s : OneKernel) (p : Pid) (i : MsgId) (c : receiving.Completed) → Paid s (rule.completion_parts p i c) = λ s p i c. grind (arith, nat_tests, receive_raises, refuse_raises) in
+    paid_if s (rule.first_awaited s mask queue) _ (λ i is. paid_if s (s.bag i) _ (λ m there. paid_if s (receiving.completes_with p x m) _ (λ c done. completes_paid s p i c)))
 status_paid quantum s p queue x (Moving dir owner base own left pending) = tt
-
-served_paid : (b : Boot) (pt : Point) (m : ℕ) (p : Pid) (o : Option PlainProcess) → PaidIf pt.kernel (bind o (λ x. rule.serves_status b.quantum pt.kernel p (pt.view.queue m p) x x.status))
-served_paid b pt m p None = tt
-served_paid b pt m p (Some x) = status_paid b.quantum pt.kernel p (pt.view.queue m p) x x.status
 
 pub round_paid : (b : Boot) (pt : Point) (m : ℕ) (o : Option Pid) → PaidIf pt.kernel (rule.goes_round b pt m o)
 round_paid b pt m None = (refl, λ t e. inl (line_within pt.kernel t None refl e, tt))
-round_paid b pt m (Some p) = served_paid b pt m p (kernel.alive (pt.kernel.processes p))
+round_paid b pt m (Some p) = paid_if pt.kernel (kernel.alive (pt.kernel.processes p)) _ (λ x is. status_paid b.quantum pt.kernel p (pt.view.queue m p) x x.status)
 
 -- a kernel makes a process, or has no room
 created_paid : (s : OneKernel) (i : MsgId) (child : Pid) (slots blocks : ℕ) (c : Bool) (j : MsgId) → Paid s ((if c then rule.says (Label.Created i child) else rule.says (Label.NoSpace i slots blocks)) ∷ Routes j ∷ [])
 created_paid s i child slots blocks true j = (refl, λ t e. inr ((created_makes s t i child e).counts, (j, refl)))
 created_paid s i child slots blocks false j = (refl, λ t e. inl ((no_space_raises s t i slots blocks e).within, tt))
 
-creates_paid : (pt : Point) (m : ℕ) (i : MsgId) (r : rule.Room) (o : Option BootImage) → PaidIf pt.kernel (rule.creation_parts pt m i r o)
-creates_paid pt m i r None = tt
-creates_paid pt m i r (Some image) = created_paid pt.kernel i (pid_of m (first_number + pt.kernel.made m)) r.slots r.blocks (rule.has_room r image.blocks) (answer_id i)
-
 kernel_paid : (b : Boot) (pt : Point) (m : ℕ) (i : MsgId) (w : PlainWhat) → PaidIf pt.kernel (rule.kernel_handles b pt m i w)
-kernel_paid b pt m i (PlainWhat.Create image links) = creates_paid pt m i (rule.free_room b pt m) (slice_get b.images image)
+kernel_paid b pt m i (PlainWhat.Create image links) =
+    let r = rule.free_room b pt m in
+    paid_map pt.kernel (slice_get b.images image) _ (λ g is. created_paid pt.kernel i (pid_of m (first_number + pt.kernel.made m)) r.slots r.blocks (rule.has_room r g.blocks) (answer_id i))
 kernel_paid b pt m i _ = tt
 
 -- a server takes a message
@@ -118,14 +106,6 @@ took_paid s i m o has there is = (refl, λ t e. by o is t (within t e))
     by : (o : Option PlainMessage) → took_raise s m ≡ sent_raise o → (t : OneKernel) → Within (took_raise s m) s t → (Within 0 s t × Paid t (rule.routes o)) ⊎ (Within 1 s t × RoutesOne (rule.routes o))
     by None e t w = inl (subst (λ n. Within n s t) e w, tt)
     by (Some x) e t w = inr (subst (λ n. Within n s t) e w, (x.id, refl))
-
-board_paid : (s : OneKernel) (i : MsgId) (m : PlainMessage) (o : Option board.BoardTook) → HasAnswer s.manager m.id.n m.what → s.bag i ≡ Some m → took_raise s m ≡ board_raise o → PaidIf s (rule.board_took i o)
-board_paid s i m None has there is = tt
-board_paid s i m (Some k) has there is = took_paid s i m k.answer has there is
-
-manager_paid : (s : OneKernel) (i : MsgId) (m : PlainMessage) (o : Option manage.ManagerTook) → HasAnswer s.manager m.id.n m.what → s.bag i ≡ Some m → took_raise s m ≡ manager_raise o → PaidIf s (rule.manager_parts i o)
-manager_paid s i m None has there is = tt
-manager_paid s i m (Some k) has there is = took_paid s i m k.message has there is
 
 -- a message for a living process's kernel
 serves_paid : (s : OneKernel) (i : MsgId) (m : PlainMessage) (x : PlainProcess) (t : OneKernel) → s.bag i ≡ Some m → kernel.alive (s.processes m.to) ≡ Some x → kernel.step s (Label.Served i) ≡ Some t → Within (served_raise m x m.what) s t
@@ -147,8 +127,7 @@ asked_paid s m i p to false = (refl, λ t e. inl ((asked_raises s t i e).within,
 
 -- who asked for a move is told
 pub tells_paid : (s : OneKernel) (n : Option MoveNote) (o : Outcome) → Paid s (tells_asker n o)
-tells_paid s None o = tt
-tells_paid s (Some n) o = (refl, λ t e. inl ((move_answered_raises s t n.id o e).within, tt))
+tells_paid s n o = grind (arith, nat_tests, move_answered_raises)
 
 here_paid : (pt : Point) (m : ℕ) (i : MsgId) (msg : PlainMessage) (x : PlainProcess) (w : PlainWhat) → msg.what ≡ w → pt.kernel.bag i ≡ Some msg → kernel.alive (pt.kernel.processes msg.to) ≡ Some x → PaidIf pt.kernel (rule.here_handles pt m i msg x w)
 here_paid pt m i msg x (PlainWhat.User code channel body links) w there alive = (refl, λ t e. inl (line_within pt.kernel t None refl e, tt))
@@ -174,20 +153,15 @@ ended_paid s i (PlainWhat.Move machine) = (refl, λ t e. inl ((gone_raises s t i
 ended_paid s i (PlainWhat.Moved outcome) = tt
 ended_paid s i _ = (refl, λ t e. inl ((dropped_raises s t i e).within, tt))
 
-alive_paid : (pt : Point) (m : ℕ) (i : MsgId) (msg : PlainMessage) (o : Option PlainProcess) → kernel.alive (pt.kernel.processes msg.to) ≡ o → pt.kernel.bag i ≡ Some msg → PaidIf pt.kernel (bind o (λ x. rule.here_handles pt m i msg x msg.what))
-alive_paid pt m i msg None e there = tt
-alive_paid pt m i msg (Some x) e there = here_paid pt m i msg x msg.what refl there e
-
 told_paid : (s : OneKernel) (a : Addresses) (i : MsgId) (c : Bool) (sender : Pid) → Paid s (if c then Owns MessageKind.Update sender (a (Sender i)).at ∷ [] else [])
-told_paid s a i true sender = tt
-told_paid s a i false sender = tt
+told_paid s a i c sender = grind (arith, nat_tests)
 
 pub forwards_paid : (s : OneKernel) (a : Addresses) (i : MsgId) (k : MessageKind) (sender : Pid) (to : ℕ) → Paid s (forwards_on a i k sender to)
 forwards_paid s a i k sender to = (refl, λ t e. inl (line_within s t None refl e, told_paid t a i (is_told_back k) sender))
 
 process_paid : (pt : Point) (m : ℕ) (i : MsgId) (msg : PlainMessage) (k : view.Known) → pt.kernel.bag i ≡ Some msg → PaidIf pt.kernel (rule.process_handles pt m i msg k)
 process_paid pt m i msg view.Unknown there = tt
-process_paid pt m i msg view.Here there = alive_paid pt m i msg (kernel.alive (pt.kernel.processes msg.to)) refl there
+process_paid pt m i msg view.Here there = paid_if pt.kernel (kernel.alive (pt.kernel.processes msg.to)) _ (λ x alive. here_paid pt m i msg x msg.what refl there alive)
 process_paid pt m i msg (view.Forward at moves) there = forwards_paid pt.kernel pt.addresses i (plain_kind msg.what) msg.sender at
 process_paid pt m i msg view.Ended there = ended_paid pt.kernel i msg.what
 process_paid pt m i msg _ there = (refl, λ t e. inl (line_within pt.kernel t None refl e, tt))
@@ -199,24 +173,14 @@ handles_paid : (b : Boot) (pt : Point) (m : ℕ) (i : MsgId) (msg : PlainMessage
     else rule.process_handles pt m i msg (pt.view.known m msg.to))
 handles_paid b pt m i msg true d e is has there = kernel_paid b pt m i msg.what
 handles_paid b pt m i msg false true e is has there =
-    board_paid pt.kernel i msg (board.board_takes pt.kernel.switchboard msg msg.what) has there
-    (ap (λ (c : Bool). if c then board_raise (board.board_takes pt.kernel.switchboard msg msg.what) else manager_raise (manage.manager_takes pt.kernel.manager pt.kernel.machines (length pt.kernel.images) msg msg.what)) is)
+    let board_ = board.board_takes pt.kernel.switchboard msg msg.what in
+    let manager_ = manage.manager_takes pt.kernel.manager pt.kernel.machines (length pt.kernel.images) msg msg.what in
+    paid_map pt.kernel board_ _ (λ k took. took_paid pt.kernel i msg k.answer has there (ap (λ (c : Bool). if c then board_raise board_ else manager_raise manager_) is ∙ ap board_raise took))
 handles_paid b pt m i msg false false true is has there =
-    manager_paid pt.kernel i msg (manage.manager_takes pt.kernel.manager pt.kernel.machines (length pt.kernel.images) msg msg.what) has there
-    (ap (λ (c : Bool). if c then board_raise (board.board_takes pt.kernel.switchboard msg msg.what) else manager_raise (manage.manager_takes pt.kernel.manager pt.kernel.machines (length pt.kernel.images) msg msg.what)) is)
+    let board_ = board.board_takes pt.kernel.switchboard msg msg.what in
+    let manager_ = manage.manager_takes pt.kernel.manager pt.kernel.machines (length pt.kernel.images) msg msg.what in
+    paid_map pt.kernel manager_ _ (λ k took. took_paid pt.kernel i msg k.message has there (ap (λ (c : Bool). if c then board_raise board_ else manager_raise manager_) is ∙ ap manager_raise took))
 handles_paid b pt m i msg false false false is has there = process_paid pt m i msg (pt.view.known m msg.to) there
-
--- a request to make a process has a link for the answer
-each_pending : (P : Pending → Type 0) (rs : List Pending) (k : ℕ) (r : Pending) → Each P rs → manage.pending_numbered k rs ≡ Some r → P r
-each_pending P [] k r h e = cc
-each_pending P (x ∷ xs) k r h e = by (x.n == k) (each_pending P xs k r h.1) e
-  where
-    by : (c : Bool) → (manage.pending_numbered k xs ≡ Some r → P r) → (if c then Some x else manage.pending_numbered k xs) ≡ Some r → P r
-    by true more f = let g : x ≡ r = cc in subst P g h.0
-    by false more f = more f
-
-creates_kind : (k : PendingKind) → kind_eq PendingKind.Create k ≡ true → k ≡ PendingKind.Create
-creates_kind k e = grind (arith, nat_tests)
 
 has_answer : (b : Boot) (pt : Point) (i : MsgId) (msg : PlainMessage) → Run b pt → pt.kernel.bag i ≡ Some msg → HasAnswer pt.kernel.manager msg.id.n msg.what
 has_answer b pt i msg run there child r is found =
@@ -224,7 +188,8 @@ has_answer b pt i msg run there child r is found =
     let name : msg.id ≡ i = run.based.phased.sane.sound.entered.named i msg there in
     let fits = subst (WhatFits pt.kernel i msg) is (run.based.fits.messages i msg there) in
     let asked : manage.pending_numbered i.n rs ≡ Some r = ap (λ (j : MsgId). manage.pending_numbered j.n rs) (sym name) ∙ found in
-    let kind = creates_kind r.kind (sym (ap (is_for PendingKind.Create) asked) ∙ fits.2.pending) in
+    let same : kind_eq PendingKind.Create r.kind ≡ true = sym (ap (is_for PendingKind.Create) asked) ∙ fits.2.pending in
+    let kind : r.kind ≡ PendingKind.Create = grind (arith, nat_tests) in
     (each_pending (PendingFits pt.kernel.processes) rs msg.id.n r run.based.fits.answers found).making kind
 
 pub front_paid : (b : Boot) (pt : Point) (m : ℕ) (i : MsgId) (msg : PlainMessage) → Run b pt → pt.kernel.bag i ≡ Some msg → PaidIf pt.kernel (rule.handles b pt m i msg)

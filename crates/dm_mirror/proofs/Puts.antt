@@ -31,10 +31,6 @@ wires_put wires a c l x y = grind (arith, nat_tests)
 wire_other : (wires : ℕ → ℕ → List wire.Sent) (a c : ℕ) (l : stream.Load Message) (x y : ℕ) → ((a == x) && (c == y)) ≡ false → with_packet wires (packet_of_load a c l) x y ≡ wires x y
 wire_other wires a c l x y e = wires_put wires a c l x y ∙ ap (λ (t : Bool). if t then wires x y ++ wire.just_put (spelling (packet_of_load a c l)) ∷ [] else wires x y) e
 
--- the line is the same
-pub line_put : (wires : ℕ → ℕ → List wire.Sent) (a c k : ℕ) (l : stream.Load Message) → length (wires a c) ≡ k → packet_line wires (packet_of_load a c l) ≡ Line.Packet a c k (load_of l)
-line_put wires a c k l e = grind (arith, nat_tests)
-
 pub wire_length : (b : Boot) (pt : Point) (l : Placed) (w : WorldState) (h : History) (a c : ℕ) → PairStands b pt l w h a c → length (w.wires a c) ≡ length (pt.view.pair a c).wire
 wire_length b pt l w h a c s = ap length s.bytes ∙ length-map (h.packets a c) _ ∙ sym (ap length (sym s.packets) ∙ length-map (h.packets a c) _)
 
@@ -124,12 +120,10 @@ stands_put b pt l w h m c nodes s ld apart senders others records here there bac
       tokens = tokens_same pt.view (after_packet pt.view m c (load_of ld)) l (λ d. (w.nodes d).kernel.records) (λ d. (nodes d).kernel.records) (λ i. refl) (λ p. refl) (λ i z. put_standing pt.view m c (load_of ld) i z) records st.tokens;
     }
 
-begins_standing : (v : View) (m : ℕ) (a : About) (i : MsgId) (z : Spot) → standing (begins v m a) i z ≡ standing v i z
-begins_standing v m a i z = grind (arith, nat_tests)
-
 -- behind the head of a directive the world stands
 pub stands_begins : (b : Boot) (w : WorldState) (pt : Point) (l : Placed) (h : History) (m : ℕ) (a : About) → StandsWith b w pt l h → StandsWith b (record w { groups = w.groups + 1 }) (record pt { view = begins pt.view m a }) l h
 stands_begins b w pt l h m a st =
+    let begins_standing : (v : View) (m : ℕ) (a : About) (i : MsgId) (z : Spot) → standing (begins v m a) i z ≡ standing v i z = λ v m a i z. grind (arith, nat_tests) in
     let next : Point = record pt { view = begins pt.view m a } in
     record {
       mirrors = mirrors_same b pt l (begins pt.view m a) st.mirrors;

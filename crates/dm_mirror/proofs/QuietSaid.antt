@@ -11,14 +11,12 @@ heard_same : (b : Boot) (w : WorldState) (pt : Point) (l : Placed) (h : History)
     → (same || (length ((w.nodes a).senders c).unacked == 0)) ≡ pair_is_quiet same (pt.view.pair a c)
 heard_same b w pt l h a c same e home apart = grind (arith, nat_tests, length-map)
 
-is_home : (v : ℕ → ℕ → Pair) (a c : ℕ) → (a == c) ≡ true → HomeStands (v a a) → HomeStands (v a c)
-is_home v a c e h = let same : a ≡ c = grind (arith, nat_tests) in subst (λ (k : ℕ). HomeStands (v a k)) same h
-
 pub not_same : (a c : ℕ) → (a == c) ≡ false → a ≢ c
 not_same a c e = grind (arith, nat_tests)
 
 pub quiet_same : (b : Boot) (es : List Step) (w : WorldState) (pt : Point) → IsValid b → Leads b (first_point b) es pt → Stands b w pt → world.world_is_quiet (length b.machines) w ≡ is_quiet (length b.machines) pt.view
 quiet_same b es w pt valid leads ((l, h, s), counts) =
+    let is_home : (v : ℕ → ℕ → Pair) (a c : ℕ) → (a == c) ≡ true → HomeStands (v a a) → HomeStands (v a c) = λ v a c e h. let same : a ≡ c = grind (arith, nat_tests) in subst (λ (k : ℕ). HomeStands (v a k)) same h in
     let n = length b.machines in
     let machines = machines_are b es pt leads in
     let home = λ (a : ℕ). (pairs_stand_always b es pt a (suc a) leads (λ same. absurd (let f : a < a = omega (arith, same) in omega (arith, f)))).1 in

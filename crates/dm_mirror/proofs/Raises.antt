@@ -78,14 +78,12 @@ set_raises s t p x life k is le processes made board manager machines =
 goes_raises : (s t : OneKernel) (p : Pid) (x y : PlainProcess) → step.goes_on s p y ≡ t → s.processes p ≡ Some (Alive x) → y.sent ≡ x.sent → Raises 0 s t
 goes_raises s t p x y e is sent = subst (Raises 0 s) e (set_raises s (step.goes_on s p y) p x (Alive y) 0 is (omega (arith, sent)) (λ q. refl) (λ h. refl) refl refl refl)
 
-runs : (s : OneKernel) (p : Pid) (x : PlainProcess) → step.running s p ≡ Some x → s.processes p ≡ Some (Alive x)
-runs s p x e = grind (arith, nat_tests, at_hand-is)
-
 pub ran_raises : (s t : OneKernel) (p : Pid) (k : ℕ) → step.step s (Label.Ran p k) ≡ Some t → Raises 0 s t
 ran_raises s t p k is =
     let (x, running, rest) = bind-is (step.running s p) (λ v. bind (step.plain_steps k (step.machine_of v)) (λ m. Some (step.goes_on s p (step.with_machine v m)))) t is in
     let (m, plain, last) = bind-is (step.plain_steps k (step.machine_of x)) (λ m. Some (step.goes_on s p (step.with_machine x m))) t rest in
-    goes_raises s t p x (step.with_machine x m) (let e : step.goes_on s p (step.with_machine x m) ≡ t = cc in e) (runs s p x running) refl
+    let runs : s.processes p ≡ Some (Alive x) = grind (arith, nat_tests, at_hand-is) in
+    goes_raises s t p x (step.with_machine x m) (let e : step.goes_on s p (step.with_machine x m) ≡ t = cc in e) runs refl
 
 replies_raise : (s t : OneKernel) (p : Pid) (n : ℕ) (c : Reply) (next : step.Trap) → Nexts s p next → step.replies s p n c next ≡ Some t → Raises 0 s t
 replies_raise s t p n c (step.Calls number (Called.Replies reply y)) w is =

@@ -4,7 +4,8 @@ use Rattle.dm_mirror.proofs.Names.{pid_of, PlainLink, MsgId, PlainMessage, Plain
 use Rattle.dm_mirror.proofs.Names.{when-is, ServerSends, manager_takes_lem, take, drop, Why, PlainProcess, NamedLink, Switchboard, with_process, is_dropped, LandsSo, lands-is, board_takes_lem, if_some-is, ends_move-is, at_hand-is, Outcome}
 use Rattle.dm_mirror.proofs.Names.{Pending}
 use Rattle.dm_laws.proofs.Names.{begun}
-use Rattle.dm_onekernel.specs.Kernel.{with_note, with_sent, Ended}
+pub use Rattle.std.proofs.lemmas.List.{length_push as append-longer}
+use Rattle.dm_onekernel.specs.Kernel.{with_note, Ended, with_sent}
 use Rattle.dm_onekernel.specs.Switchboard as board
 use Rattle.dm_onekernel.specs.Manager as manage
 use Rattle.dm_onekernel.specs.Service as service
@@ -125,31 +126,25 @@ abbrev pub sent_raise : Option PlainMessage → ℕ
 sent_raise None = 0
 sent_raise (Some m) = 1
 
--- a request keeps at most one name more
-pub append-longer : {A : Type 0} (xs : List A) (y : A) → length (xs ++ y ∷ []) ≡ length xs + 1
-append-longer [] y = refl
-append-longer (x ∷ xs) y = omega (arith, append-longer xs y)
-
-names_registered : (names : List NamedLink) (name : List ℕ) (others : List PlainLink) → length (board.asks_to_register names name others).names ≤ length names + 1
-names_registered names name others = grind (arith, nat_tests, append-longer)
-
-names_asked : (names : List NamedLink) (body : List ℕ) (others : List PlainLink) → length (board.asks names body others).names ≤ length names + 1
-names_asked names body others = grind (arith, nat_tests, names_registered)
-
-board_raises_of : (s : OneKernel) (id : MsgId) (b : Switchboard) (o : Option PlainMessage) (k : ℕ) → b.sent ≡ s.switchboard.sent + k → length b.names ≤ length s.switchboard.names + k → Raises k s (with_sent (record (without_message s id) { switchboard = b }) o)
-board_raises_of s id b None k e n = record {
-  within = record { sent = λ p. omega arith; board = omega (arith, e); manager = omega arith; children = omega arith; made = λ h. omega arith; names = omega (arith, n) };
+-- a server takes a message, and what it sends enters
+servers_raise : (s : OneKernel) (id : MsgId) (b : Switchboard) (g : Manager) (o : Option PlainMessage) (k : ℕ) → b.sent ≤ s.switchboard.sent + k → length b.names ≤ length s.switchboard.names + k → g.sent ≤ s.manager.sent + k
+    → length g.children ≤ length s.manager.children + k → Raises k s (with_sent (record (without_message s id) { switchboard = b; manager = g }) o)
+servers_raise s id b g None k sent names manages children = record {
+  within = record { sent = λ p. omega arith; board = sent; manager = manages; children = children; made = λ h. omega arith; names = names };
   stays = record { machines = refl; made = λ h. refl; lives = λ p. refl };
 }
-board_raises_of s id b (Some m) k e n = record {
-  within = record { sent = λ p. omega arith; board = omega (arith, e); manager = omega arith; children = omega arith; made = λ h. omega arith; names = omega (arith, n) };
+servers_raise s id b g (Some m) k sent names manages children = record {
+  within = record { sent = λ p. omega arith; board = sent; manager = manages; children = children; made = λ h. omega arith; names = names };
   stays = record { machines = refl; made = λ h. refl; lives = λ p. refl };
 }
 
 pub board_raises : (s : OneKernel) (id : MsgId) (m : PlainMessage) (k : board.BoardTook) → board.board_takes s.switchboard m m.what ≡ Some k → Raises (sent_raise k.answer) s (service.switchboard_took s id k)
 board_raises s id m k took =
+    let names_registered : (names : List NamedLink) (name : List ℕ) (others : List PlainLink) → length (board.asks_to_register names name others).names ≤ length names + 1 = λ names name others. grind (arith, nat_tests, append-longer) in
+    let names_asked : (names : List NamedLink) (body : List ℕ) (others : List PlainLink) → length (board.asks names body others).names ≤ length names + 1 = λ names body others. grind (arith, nat_tests, names_registered) in
     let (memory, piece, sends) = board_takes_lem s.switchboard m m.what k took in
-    board_raises_of s id k.switchboard k.answer (sent_raise k.answer) (grind (arith, nat_tests)) (grind (arith, nat_tests, names_asked))
+    let count : k.switchboard.sent ≡ s.switchboard.sent + sent_raise k.answer = grind (arith, nat_tests) in
+    servers_raise s id k.switchboard s.manager k.answer (sent_raise k.answer) (omega (arith, count)) (grind (arith, nat_tests, names_asked)) (omega arith) (omega arith)
 
 -- How much a step raises counts: what the manager says, and a process that is made.
 
@@ -161,82 +156,25 @@ HasAnswer g n w = (child : Pid) (r : Pending) → w ≡ PlainWhat.Created child 
 abbrev Paid : Manager → manage.ManagerTook → Type 0
 Paid g k = length k.manager.children + g.sent ≤ length g.children + k.manager.sent
 
-paid_answers : (g h : Manager) (l : PlainLink) (code : ℕ) (links : List PlainLink) → h.sent ≡ g.sent → length h.children ≤ length g.children + 1 → Paid g (manage.answers_byte h l code links)
-paid_answers g h l code links e le = omega (arith, e, le)
-
-paid_over : (g h : Manager) (o : Option PlainLink) (code : ℕ) (links : List PlainLink) → h.sent ≡ g.sent → length h.children ≤ length g.children → Paid g (manage.answers_over h o code links)
-paid_over g h None code links e le = omega (arith, e, le)
-paid_over g h (Some l) code links e le = paid_answers g h l code links e (omega (arith, le))
-
 paid_made : (g h : Manager) (o : Option PlainLink) (code : ℕ) (links : List PlainLink) → is_some o ≡ true → h.sent ≡ g.sent → length h.children ≤ length g.children + 1 → Paid g (manage.answers_over h o code links)
 paid_made g h None code links has e le = cc
-paid_made g h (Some l) code links has e le = paid_answers g h l code links e le
-
-paid_bad : (g : Manager) (links : List PlainLink) → Paid g (manage.bad_request g links)
-paid_bad g [] = omega arith
-paid_bad g (l ∷ ls) = paid_answers g g l 2 [] refl (omega arith)
-
-paid_if : (g : Manager) (b : Bool) (x y : manage.ManagerTook) → Paid g x → Paid g y → Paid g (if b then x else y)
-paid_if g true x y h k = h
-paid_if g false x y h k = k
-
-paid_wants : (g : Manager) (machines images machine image : ℕ) (links : List PlainLink) → Paid g (manage.wants_child g machines images machine image links)
-paid_wants g machines images machine image [] = paid_bad g []
-paid_wants g machines images machine image (l ∷ ls) = grind (arith, nat_tests, paid_if, paid_bad)
-
-paid_requests : (g : Manager) (machines images : ℕ) (body : List ℕ) (links : List PlainLink) → Paid g (manage.requests_child g machines images body links)
-paid_requests g machines images (a ∷ b ∷ c ∷ d ∷ []) links = search (paid_if, paid_wants, paid_bad)
-paid_requests g machines images _ links = paid_bad g links
-
-paid_control : (g : Manager) (child : Pid) (o : Option PlainWhat) (links : List PlainLink) → Paid g (manage.tells_child g child o links)
-paid_control g child None links = paid_bad g links
-paid_control g child (Some w) links = omega arith
-
-paid_controls : (g : Manager) (machines : ℕ) (child : Option Pid) (body : List ℕ) (links : List PlainLink) → Paid g (manage.controls g machines child body links)
-paid_controls g machines (Some child) (a ∷ []) links = paid_control g child (manage.control_of a) links
-paid_controls g machines (Some child) (a ∷ machine ∷ []) links = grind (arith, nat_tests, paid_bad, paid_if)
-paid_controls g machines None (a ∷ []) links = paid_bad g links
-paid_controls g machines _ _ links = paid_bad g links
+paid_made g h (Some l) code links has e le = omega (arith, e, le)
 
 paid_created : (g : Manager) (n : ℕ) (child : Pid) (o : Option Pending) (k : manage.ManagerTook) → ((r : Pending) → o ≡ Some r → is_some r.answer ≡ true) → manage.takes_created g n child o ≡ Some k → Paid g k
 paid_created g n child None k has e = cc
 paid_created g n child (Some r) k has e = grind (arith, nat_tests, paid_made, append-longer, g.children, g.pending, r.answer)
 
-paid_no_room : (g : Manager) (n : ℕ) (o : Option Pending) (k : manage.ManagerTook) → manage.takes_no_room g n o ≡ Some k → Paid g k
-paid_no_room g n None k e = cc
-paid_no_room g n (Some r) k e = grind (arith, nat_tests, paid_over, g.pending, r.answer)
-
-paid_moved : (g : Manager) (n : ℕ) (outcome : Outcome) (o : Option Pending) (k : manage.ManagerTook) → manage.takes_moved g n outcome o ≡ Some k → Paid g k
-paid_moved g n outcome None k e = cc
-paid_moved g n outcome (Some r) k e = grind (arith, nat_tests, paid_over, g.pending, r.answer)
-
 paid_takes : (g : Manager) (machines images : ℕ) (m : PlainMessage) (w : PlainWhat) (k : manage.ManagerTook) → HasAnswer g m.id.n w → manage.manager_takes g machines images m w ≡ Some k → Paid g k
-paid_takes g machines images m (PlainWhat.User code channel body links) k has e = grind (arith, nat_tests, paid_if, paid_requests, paid_controls, g.children)
 paid_takes g machines images m (PlainWhat.Created child) k has e = paid_created g m.id.n child (manage.pending_numbered m.id.n g.pending) k (λ r there. has child r refl there) e
-paid_takes g machines images m PlainWhat.NoRoom k has e = paid_no_room g m.id.n (manage.pending_numbered m.id.n g.pending) k e
-paid_takes g machines images m (PlainWhat.Moved outcome) k has e = paid_moved g m.id.n outcome (manage.pending_numbered m.id.n g.pending) k e
-paid_takes g machines images m _ k has e = cc
-
-manager_sent : (n after : ℕ) (o : Option PlainMessage) → ServerSends manager n o after → after ≡ n + sent_raise o
-manager_sent n after o h = grind (arith, nat_tests)
-
-manager_raises_of : (s : OneKernel) (id : MsgId) (g : Manager) (o : Option PlainMessage) (k : ℕ) → g.sent ≡ s.manager.sent + k → length g.children ≤ length s.manager.children + k → Raises k s (with_sent (record (without_message s id) { manager = g }) o)
-manager_raises_of s id g None k e le = record {
-  within = record { sent = λ p. omega arith; board = omega arith; manager = omega (arith, e); children = le; made = λ h. omega arith; names = omega arith };
-  stays = record { machines = refl; made = λ h. refl; lives = λ p. refl };
-}
-manager_raises_of s id g (Some m) k e le = record {
-  within = record { sent = λ p. omega arith; board = omega arith; manager = omega (arith, e); children = le; made = λ h. omega arith; names = omega arith };
-  stays = record { machines = refl; made = λ h. refl; lives = λ p. refl };
-}
+paid_takes g machines images m w k has e = grind (arith, nat_tests)
 
 manager_raises : (s : OneKernel) (id : MsgId) (m : PlainMessage) (k : manage.ManagerTook) → HasAnswer s.manager m.id.n m.what
     → manage.manager_takes s.manager s.machines (length s.images) m m.what ≡ Some k → Raises (sent_raise k.message) s (service.manager_took s id k)
 manager_raises s id m k has took =
     let (memory, piece, sends) = manager_takes_lem s.manager s.machines (length s.images) m m.what k took in
-    let count = manager_sent s.manager.sent k.manager.sent k.message sends.sends in
+    let count : k.manager.sent ≡ s.manager.sent + sent_raise k.message = grind (arith, nat_tests, sends.sends) in
     let paid = paid_takes s.manager s.machines (length s.images) m m.what k has took in
-    manager_raises_of s id k.manager k.message (sent_raise k.message) count (omega (arith, count, paid))
+    servers_raise s id s.switchboard k.manager k.message (sent_raise k.message) (omega arith) (omega arith) (omega (arith, count)) (omega (arith, count, paid))
 
 -- what the servers' messages raise
 abbrev pub board_raise : Option board.BoardTook → ℕ
@@ -305,15 +243,11 @@ pub record Makes (s t : OneKernel) : Type 0 where
   pub lives : (p : Pid) → pid_eq (pid_of home (first_number + s.made home)) p ≡ false → is_some (t.processes p) ≡ is_some (s.processes p)
   pub counts : Within 1 s t
 
-child_sent : (s : OneKernel) (c : Bool) (p : Pid) (life : Life) → sent_of (Some life) ≡ 0 → sent_of (if c then Some life else s.processes p) ≤ sent_of (s.processes p) + 1
-child_sent s c p life e = grind (arith, nat_tests)
-
-made_more : (n : ℕ) (c : Bool) → n + (if c then 1 else 0) ≤ n + 1
-made_more n c = grind (arith, nat_tests)
-
 makes : (s : OneKernel) (id : MsgId) (m : PlainMessage) (home : ℕ) (links : List PlainLink) (image : BootImage) → home < s.machines
     → Makes s (with_sent (service.with_created (without_message s id) (pid_of home (first_number + s.made home)) image links) (Some (answer_to m (PlainWhat.Created (pid_of home (first_number + s.made home))))))
 makes s id m home links image within =
+    let child_sent : (s : OneKernel) (c : Bool) (p : Pid) (life : Life) → sent_of (Some life) ≡ 0 → sent_of (if c then Some life else s.processes p) ≤ sent_of (s.processes p) + 1 = λ s c p life e. grind (arith, nat_tests) in
+    let made_more : (n : ℕ) (c : Bool) → n + (if c then 1 else 0) ≤ n + 1 = λ n c. grind (arith, nat_tests) in
     let child = pid_of home (first_number + s.made home) in
     let life = Alive (begun s.format image links) in
     record {

@@ -10,7 +10,7 @@ number_apart : (home n : ℕ) (p : Pid) → n ≢ p.num → pid_of home n ≢ p
 number_apart home n p h e = h (ap (λ (q : Pid). q.num) e)
 
 -- the first processes of a home take the same
-same_home : (pt next : Point) (m home n : ℕ) → ((k : ℕ) → k < n → taken_by next m (pid_of home (first_number + k)) ≡ taken_by pt m (pid_of home (first_number + k)))
+pub same_home : (pt next : Point) (m home n : ℕ) → ((k : ℕ) → k < n → taken_by next m (pid_of home (first_number + k)) ≡ taken_by pt m (pid_of home (first_number + k)))
     → taken_of_home next m home n ≡ taken_of_home pt m home n
 same_home pt next m home zero f = refl
 same_home pt next m home (suc n) f = λ i. and (same_home pt next m home n (λ k h. f k (omega arith)) i) (f n (omega arith) i)
@@ -20,7 +20,7 @@ same_made : (pt next : Point) (m home : ℕ) → next.kernel.made home ≡ pt.ke
 same_made pt next m home e f = ap (taken_of_home next m home) e ∙ same_home pt next m home (pt.kernel.made home) (λ k h. f (first_number + k))
 
 -- the first homes
-same_homes : (pt next : Point) (m homes : ℕ)
+pub same_homes : (pt next : Point) (m homes : ℕ)
     → ((home : ℕ) → home < homes → taken_of_home next m home (next.kernel.made home) ≡ taken_of_home pt m home (pt.kernel.made home))
     → taken_at next m homes ≡ taken_at pt m homes
 same_homes pt next m zero f = refl
@@ -105,13 +105,6 @@ pub taken_changed : (pt next : Point) (m : ℕ) (p : Pid) → next.kernel.machin
     × ((taken_at next m next.kernel.machines).blocks + (taken_by pt m p).blocks ≡ (taken_at pt m pt.kernel.machines).blocks + (taken_by next m p).blocks)
 taken_changed pt next m p machines made within first below others = grind (arith, nat_tests, changed_homes)
 
--- the order of what is added
-and_first : (r s t : Room) → and (and r s) t ≡ and (and r t) s
-and_first r s t = grind (arith, nat_tests)
-
-and_second : (r s t : Room) → and r (and s t) ≡ and (and r s) t
-and_second r s t = grind (arith, nat_tests)
-
 made_home : (pt next : Point) (m home : ℕ) → next.kernel.made home ≡ pt.kernel.made home + 1
     → ((q : Pid) → q ≢ pid_of home (first_number + pt.kernel.made home) → taken_by next m q ≡ taken_by pt m q)
     → taken_of_home next m home (next.kernel.made home) ≡ and (taken_of_home pt m home (pt.kernel.made home)) (taken_by next m (pid_of home (first_number + pt.kernel.made home)))
@@ -122,7 +115,7 @@ made_home pt next m home made others =
     ∙ ap (λ (r : Room). and r (taken_by next m (pid_of home (first_number + n))))
     (same_home pt next m home n (λ k less. others (pid_of home (first_number + k)) (number_apart home (first_number + k) (pid_of home (first_number + n)) (λ e. omega (arith, e, less)))))
 
-made_homes : (pt next : Point) (m home homes : ℕ) → home < homes → next.kernel.made home ≡ pt.kernel.made home + 1 → ((h : ℕ) → h ≢ home → next.kernel.made h ≡ pt.kernel.made h)
+pub made_homes : (pt next : Point) (m home homes : ℕ) → home < homes → next.kernel.made home ≡ pt.kernel.made home + 1 → ((h : ℕ) → h ≢ home → next.kernel.made h ≡ pt.kernel.made h)
     → ((q : Pid) → q ≢ pid_of home (first_number + pt.kernel.made home) → taken_by next m q ≡ taken_by pt m q)
     → taken_at next m homes ≡ and (taken_at pt m homes) (taken_by next m (pid_of home (first_number + pt.kernel.made home)))
 made_homes pt next m home zero within one made others = absurd (omega (arith, within))
@@ -133,15 +126,11 @@ made_homes pt next m home (suc h) within one made others =
       | inl e ↦
           let below = same_homes pt next m h (λ k low. apart k (let f : h ≡ home = e.1 in λ z. omega (arith, f, z, low))) in
           let here : taken_of_home next m h (next.kernel.made h) ≡ and (taken_of_home pt m h (pt.kernel.made h)) new = grind (arith, nat_tests, made_home) in
-          (λ i. and (below i) (here i)) ∙ and_second (taken_at pt m h) (taken_of_home pt m h (pt.kernel.made h)) new
+          let and_second : and (taken_at pt m h) (and (taken_of_home pt m h (pt.kernel.made h)) new) ≡ and (and (taken_at pt m h) (taken_of_home pt m h (pt.kernel.made h))) new = grind (arith, nat_tests) in
+          (λ i. and (below i) (here i)) ∙ and_second
       | inr e ↦
+          -- the order of what is added
+          let and_first : and (and (taken_at pt m h) new) (taken_of_home pt m h (pt.kernel.made h)) ≡ and (and (taken_at pt m h) (taken_of_home pt m h (pt.kernel.made h))) new = grind (arith, nat_tests) in
           (λ i. and (made_homes pt next m home h (let f : h ≢ home = e.1 in omega (arith, f, within)) one made others i) (apart h e.1 i))
-          ∙ and_first (taken_at pt m h) new (taken_of_home pt m h (pt.kernel.made h))
+          ∙ and_first
     ]
-
--- a process is made, the next of its home
-pub taken_made : (pt next : Point) (m home : ℕ) → next.kernel.machines ≡ pt.kernel.machines → home < pt.kernel.machines
-    → next.kernel.made home ≡ pt.kernel.made home + 1 → ((h : ℕ) → h ≢ home → next.kernel.made h ≡ pt.kernel.made h)
-    → ((q : Pid) → q ≢ pid_of home (first_number + pt.kernel.made home) → taken_by next m q ≡ taken_by pt m q)
-    → taken_at next m next.kernel.machines ≡ and (taken_at pt m pt.kernel.machines) (taken_by next m (pid_of home (first_number + pt.kernel.made home)))
-taken_made pt next m home machines within one made others = ap (taken_at next m) machines ∙ made_homes pt next m home pt.kernel.machines within one made others

@@ -224,15 +224,12 @@ module _ (b : Boot) (w : WorldState) (pt : Point) (l : Placed) (h : History) (m 
 
 -- Lines and then parts: what a machine gives, what the wires have of it, and what the rule spells.
 
--- what a machine gives
-none_behind : (a : Acts) → behind [] a ≡ a
-none_behind a = grind (arith, nat_tests)
-
 one_behind : (o : Out) (outs : List Out) (a : Acts) → behind (o ∷ []) (behind outs a) ≡ behind (o ∷ outs) a
 one_behind o outs a = grind (arith, nat_tests)
 
+-- what a machine gives
 pub acts_say : (n : NodeState) (ls : List Line) (ps : List Part) → acts n (map Part.Says ls ++ ps) ≡ behind (map Out.Says ls) (acts n ps)
-acts_say n [] ps = sym (none_behind (acts n ps))
+acts_say n [] ps = sym (let e_ : behind [] (acts n ps) ≡ (acts n ps) = grind (arith, nat_tests) in e_)
 acts_say n (l ∷ ls) ps = ap (behind (Out.Says l ∷ [])) (acts_say n ls ps) ∙ one_behind (Out.Says l) (map Out.Says ls) (acts n ps)
 
 -- what is printed of it, and what the wires have
@@ -240,20 +237,12 @@ pub spoken_says : (wires : ℕ → ℕ → List Sent) (ls : List Line) (outs : L
 spoken_says wires [] outs = refl
 spoken_says wires (l ∷ ls) outs = ap (says l) (spoken_says wires ls outs)
 
--- a line that is no put wears nothing out
-pub no_put : (numbers : ℕ) (v : View) (l : Line) → is_put l ≡ false → full_route numbers v (act_of l) ≡ None
-no_put numbers v l e = grind (arith, nat_tests)
-
 -- which pair is worn out depends on how many messages the pairs have, and on nothing else
 abbrev pub SameIds : View → View → Type 0
 SameIds v w = (a c : ℕ) → (w.pair a c).ids ≡ (v.pair a c).ids
 
-put_alike : (v w : View) (a b : ℕ) (i : MsgId) (c d : ℕ) (t : Bool) → SameIds v w → (if t then routed_on a b (w.pair a b) i else w.pair c d).ids ≡ (if t then routed_on a b (v.pair a b) i else v.pair c d).ids
-put_alike v w a b i c d t h = grind (arith, nat_tests)
-
 line_alike : (v w : View) (l : Line) → SameIds v w → SameIds (view_after v l) (view_after w l)
-line_alike v w (Line.Put a b i k q) h c d = put_alike v w a b i c d ((a == c) && (b == d)) h
-line_alike v w any_ h c d = line_ids w any_ refl c d ∙ h c d ∙ sym (line_ids v any_ refl c d)
+line_alike v w l h c d = grind (arith, nat_tests, line_ids)
 
 full_alike : (numbers : ℕ) (v w : View) (x : Act) → SameIds v w → full_route numbers w x ≡ full_route numbers v x
 full_alike numbers v w x h = grind (arith, nat_tests, nat_le)
@@ -263,6 +252,7 @@ worn_alike numbers [] v w h = refl
 worn_alike numbers (l ∷ ls) v w h = λ i. or (full_alike numbers v w (act_of l) h i) (worn_alike numbers ls (view_after v l) (view_after w l) (line_alike v w l h) i)
 
 -- such lines wear no pair out
+-- a line that is no put wears nothing out
 pub worn_behind : (numbers : ℕ) (ls : List Line) (pt next : Point) (ms : List Line) (ps : List rule.Part) → AllSayable (map rule.Says ls ++ ps) → after pt ls ≡ Some next
     → worn_in numbers pt.view (ls ++ ms) ≡ worn_in numbers next.view ms
 worn_behind numbers [] pt next ms ps fits comes = let same : pt ≡ next = cc in ap (λ (n : Point). worn_in numbers n.view ms) same
@@ -270,7 +260,7 @@ worn_behind numbers (l ∷ ls) pt next ms ps fits comes =
     let (n, one, more) = bind-is (after_line pt l) (λ (n : Point). after n ls) next comes in
     let (s, there, is) = bind-is (kernel_after pt.kernel (label_of l)) (λ (s : OneKernel). Some (moved pt l s)) n one in
     let same : moved pt l s ≡ n = cc in
-    ap (λ (o : Option Two). or o (worn_in numbers (view_after pt.view l) (ls ++ ms))) (no_put numbers pt.view l fits.0)
+    ap (λ (o : Option Two). or o (worn_in numbers (view_after pt.view l) (ls ++ ms))) (let e_ : full_route numbers pt.view (act_of l) ≡ None = grind (arith, nat_tests, fits.0) in e_)
     ∙ worn_alike numbers (ls ++ ms) (seen pt.kernel pt.view l) (view_after pt.view l) (λ a c. refl)
     ∙ ap (λ (k : Point). worn_in numbers k.view (ls ++ ms)) same ∙ worn_behind numbers ls n next ms ps fits.1 more
 

@@ -48,15 +48,33 @@ acts_as b m pt l k p t u ps qs e f h = search (e ∙ h.turn, f ∙ h.outcome)
 abbrev pub moved_round : KernelState → Pid → KernelState
 moved_round k p = record k { ring = moved_back p k.ring }
 
--- the process goes on, and is at the ring's back
-pub served_goes : (b : Boot) (m : ℕ) (pt next : Point) (l placed : Placed) (k : KernelState) (p : Pid) (x y : Process) (queue : List Message) → Served b m pt l k p x → Leaves m (is_queue_of m p) p pt l next placed → next.view.known m p ≡ pt.view.known m p
-    → next.view.ring m ≡ moved_back p (pt.view.ring m) → next.kernel.processes p ≡ Some (Alive (plain_process y)) → placed.processes p ≡ Some (with_queue y queue) → AreMessages placed.bag (next.view.queue m p) y.queue → length y.memory ≡ length x.memory
-    → KernelStands b next placed m (with_here (moved_round k p) p y)
-served_goes b m pt next l placed k p x y queue s leaves known ring alive there messages memory =
-    goes_stands b m (is_queue_of m p) p pt next l placed k (with_here (moved_round k p) p y) x y queue s.at leaves
-    (record { here = refl; records = λ q off. off_if (pid_eq p q) (Some (Record.Here y)) (k.records q) off; made = refl; servers = refl }) (λ q off. queue_of_others m p q off) (λ q. refl)
-    (on_if (pid_eq p p) (Some (Record.Here y)) (k.records p) (pid_eq-same p)) refl (ap (moved_back p) s.stands.ring ∙ sym ring) (inbox_stands m (is_queue_of m p) p pt next l placed k.inbox leaves refl s.stands.inbox) known alive there
-    messages memory s.stands
+-- the process goes on as y behind these lines, is at the ring's back, and sends at most one message
+pub goes_on_acts : (b : Boot) (m : ℕ) (pt next : Point) (l placed : Placed) (k : KernelState) (p : Pid) (x y : Process) (queue : List Message) (says : List Line) (route : Option Message) → Served b m pt l k p x → after pt says ≡ Some next
+    → Mirrors next.kernel next.view next.addresses placed → Leaves m (is_queue_of m p) p pt l next placed → next.view.known m p ≡ pt.view.known m p → next.view.ring m ≡ moved_back p (pt.view.ring m)
+    → next.kernel.processes p ≡ Some (Alive (plain_process y)) → placed.processes p ≡ Some (with_queue y queue) → AreMessages placed.bag (next.view.queue m p) y.queue
+    → length y.memory ≡ length x.memory → IsSent placed route → are_still says ≡ true
+    → Acts b m pt l k p (Some (record { state = with_here (moved_round k p) p y; parts = map Part.Says says ++ routed route })) (Some (map rule.Says says ++ rule_routed route))
+goes_on_acts b m pt next l placed k p x y queue says route s leads mirrors leaves known ring alive there messages memory sent still =
+    let records : (q : Pid) → pid_eq p q ≡ false → (with_here (moved_round k p) p y).records q ≡ k.records q = λ q off. off_if (pid_eq p q) (Some (Record.Here y)) (k.records q) off in
+    record {
+      state = with_here (moved_round k p) p y;
+      says = says;
+      route = route;
+      turn = refl;
+      outcome = refl;
+      next = next;
+      after = leads;
+      placed = placed;
+      mirrors = mirrors;
+      kernel = goes_stands b m (is_queue_of m p) p pt next l placed k (with_here (moved_round k p) p y) x y queue s.at leaves (record { here = refl; records = records; made = refl; servers = refl })
+          (λ q off. queue_of_others m p q off) (λ q. refl) (on_if (pid_eq p p) (Some (Record.Here y)) (k.records p) (pid_eq-same p)) refl (ap (moved_back p) s.stands.ring ∙ sym ring)
+          (inbox_stands m (is_queue_of m p) p pt next l placed k.inbox leaves refl s.stands.inbox) known alive there messages memory s.stands;
+      leaves = leaves;
+      sent = sent;
+      still = still;
+      count = refl;
+      records = records;
+    }
 
 -- the messages of its queue are for it, and stand nowhere else
 pub is_for : (s : OneKernel) (p : Pid) (ids : List MsgId) (i : MsgId) → Droppable s p ids → 1 ≤ times i ids → IsFor s p i

@@ -91,27 +91,6 @@ of_home b w pt l h home n below f = record { stands = f.stands; run = f.run; ser
 made_same : (b : Boot) (w : WorldState) (pt : Point) (l : Placed) (h : History) (m : ℕ) → m < pt.kernel.machines → Final b w pt l h → (w.nodes m).kernel.made ≡ pt.kernel.made m
 made_same b w pt l h m below f = (f.stands.nodes m below).kernel.made
 
-processes_said : (b : Boot) (w : WorldState) (pt : Point) (l : Placed) (h : History) → Final b w pt l h
-    → world.homes_with w (world.process_lines pt.kernel.machines w) pt.kernel.machines ≡ rule.each_process pt (λ p. rule.process_lines pt p (pt.kernel.processes p))
-processes_said b w pt l h f =
-    homes_same w pt (world.process_lines pt.kernel.machines w) (λ p. rule.process_lines pt p (pt.kernel.processes p)) pt.kernel.machines (λ m below. made_same b w pt l h m below f)
-    (λ home n below fewer. process_said b w pt l h (pid_of home (first_number + n)) (of_home b w pt l h home n below f) (f.made.all home n below fewer))
-
-queues_said : (b : Boot) (w : WorldState) (pt : Point) (l : Placed) (h : History) → Final b w pt l h → world.homes_with w (world.queue_of pt.kernel.machines w) pt.kernel.machines ≡ rule.queue_lines pt
-queues_said b w pt l h f =
-    homes_same w pt (world.queue_of pt.kernel.machines w) (λ p. rule.queue_at pt.view p (first_with standing_of pt.view p pt.kernel.machines)) pt.kernel.machines (λ m below. made_same b w pt l h m below f)
-    (λ home n below fewer. queue_said b w pt l h (pid_of home (first_number + n)) (of_home b w pt l h home n below f) (f.made.all home n below fewer))
-
--- the servers are on machine 0
-servers_there : (b : Boot) (w : WorldState) (pt : Point) (l : Placed) (h : History) → Final b w pt l h → world.server_lines (w.nodes 0).kernel.servers ≡ rule.server_lines pt
-servers_there b w pt l h f = grind (arith, nat_tests, servers_said)
-
-inboxes_said : (b : Boot) (w : WorldState) (pt : Point) (l : Placed) (h : History) → Final b w pt l h
-    → each_machine (λ m. list_line (EndLine.Inbox m) (world.names_of (w.nodes m).kernel.inbox)) pt.kernel.machines ≡ rule.inbox_lines pt
-inboxes_said b w pt l h f =
-    machines_same (λ m. list_line (EndLine.Inbox m) (world.names_of (w.nodes m).kernel.inbox)) (λ m. list_line (EndLine.Inbox m) (pt.view.inbox m)) pt.kernel.machines
-    (λ m below. ap (list_line (EndLine.Inbox m)) (names_are l.bag (pt.view.inbox m) (w.nodes m).kernel.inbox (λ i x there. (f.stands.mirrors.places.message i x there).id) ((f.stands.nodes m below).kernel.inbox)))
-
 streams_said : (b : Boot) (w : WorldState) (pt : Point) (l : Placed) (h : History) → Final b w pt l h
     → each_machine (λ a. each_machine (λ c. world.stream_line w a c) pt.kernel.machines) pt.kernel.machines ≡ rule.stream_lines pt
 streams_said b w pt l h f =
@@ -124,12 +103,13 @@ holdings_said : (b : Boot) (w : WorldState) (pt : Point) (l : Placed) (h : Histo
 holdings_said b w pt l h f =
     machines_same (λ m. world.homes_with w (world.held_line w m) pt.kernel.machines) (λ m. rule.each_process pt (λ p. list_line (EndLine.Holding m p) (pt.view.held m p))) pt.kernel.machines
     (λ m below. homes_same w pt (world.held_line w m) (λ p. list_line (EndLine.Holding m p) (pt.view.held m p)) pt.kernel.machines (λ k less. made_same b w pt l h k less f)
-    (λ home n less fewer. holding_said b w pt l h (pid_of home (first_number + n)) m (of_home b w pt l h home n less f) below))
+    (λ home n less fewer. holding_said b w pt l h (pid_of home (first_number + n)) (of_home b w pt l h home n less f) m below))
 
 -- all lines, part by part
 abbrev ending : List EndLine → List EndLine → List EndLine → List EndLine → List EndLine → List EndLine → ℕ → List EndLine
 ending ps ss qs hs is ts groups = EndLine.Final ∷ ps ++ ss ++ qs ++ hs ++ is ++ ts ++ EndLine.Groups groups ∷ []
 
+-- the servers are on machine 0
 end_same : (b : Boot) (w : WorldState) (pt : Point) (l : Placed) (h : History) → Final b w pt l h → world.end_lines pt.kernel.machines w ≡ rule.end_lines pt
 end_same b w pt l h f =
     let n = pt.kernel.machines in
@@ -139,8 +119,19 @@ end_same b w pt l h f =
     let hs = each_machine (λ m. world.homes_with w (world.held_line w m) n) n in
     let is = each_machine (λ m. list_line (EndLine.Inbox m) (world.names_of (w.nodes m).kernel.inbox)) n in
     let ts = each_machine (λ a. each_machine (λ c. world.stream_line w a c) n) n in
+    let processes_said : (b : Boot) (w : WorldState) (pt : Point) (l : Placed) (h : History) → Final b w pt l h
+      → world.homes_with w (world.process_lines pt.kernel.machines w) pt.kernel.machines ≡ rule.each_process pt (λ p. rule.process_lines pt p (pt.kernel.processes p)) = λ b w pt l h f.
+      homes_same w pt (world.process_lines pt.kernel.machines w) (λ p. rule.process_lines pt p (pt.kernel.processes p)) pt.kernel.machines (λ m below. made_same b w pt l h m below f)
+      (λ home n below fewer. process_said b w pt l h (pid_of home (first_number + n)) (of_home b w pt l h home n below f) (f.made.all home n below fewer)) in
+    let queues_said : (b : Boot) (w : WorldState) (pt : Point) (l : Placed) (h : History) → Final b w pt l h → world.homes_with w (world.queue_of pt.kernel.machines w) pt.kernel.machines ≡ rule.queue_lines pt = λ b w pt l h f.
+      homes_same w pt (world.queue_of pt.kernel.machines w) (λ p. rule.queue_at pt.view p (first_with standing_of pt.view p pt.kernel.machines)) pt.kernel.machines (λ m below. made_same b w pt l h m below f)
+      (λ home n below fewer. queue_said b w pt l h (pid_of home (first_number + n)) (of_home b w pt l h home n below f) (f.made.all home n below fewer)) in
+    let inboxes_said : (b : Boot) (w : WorldState) (pt : Point) (l : Placed) (h : History) → Final b w pt l h
+      → each_machine (λ m. list_line (EndLine.Inbox m) (world.names_of (w.nodes m).kernel.inbox)) pt.kernel.machines ≡ rule.inbox_lines pt = λ b w pt l h f.
+      machines_same (λ m. list_line (EndLine.Inbox m) (world.names_of (w.nodes m).kernel.inbox)) (λ m. list_line (EndLine.Inbox m) (pt.view.inbox m)) pt.kernel.machines
+      (λ m below. ap (list_line (EndLine.Inbox m)) (names_are l.bag (pt.view.inbox m) (w.nodes m).kernel.inbox (λ i x there. (f.stands.mirrors.places.message i x there).id) ((f.stands.nodes m below).kernel.inbox))) in
     ap (λ (ls : List EndLine). ending ls (world.server_lines (w.nodes 0).kernel.servers) qs hs is ts w.groups) (processes_said b w pt l h f)
-    ∙ (ap (λ (ls : List EndLine). ending ps ls qs hs is ts w.groups) (servers_there b w pt l h f)
+    ∙ (ap (λ (ls : List EndLine). ending ps ls qs hs is ts w.groups) (let e_ : world.server_lines (w.nodes 0).kernel.servers ≡ rule.server_lines pt = grind (arith, nat_tests, servers_said) in e_)
     ∙ (ap (λ (ls : List EndLine). ending ps ss ls hs is ts w.groups) (queues_said b w pt l h f)
     ∙ (ap (λ (ls : List EndLine). ending ps ss (rule.queue_lines pt) ls is ts w.groups) (holdings_said b w pt l h f)
     ∙ (ap (λ (ls : List EndLine). ending ps ss (rule.queue_lines pt) (rule.holding_lines pt) ls ts w.groups) (inboxes_said b w pt l h f)

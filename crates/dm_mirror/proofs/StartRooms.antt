@@ -11,11 +11,9 @@ nothing = record { slots = 0; blocks = 0 }
 pub first_apart : (b : Boot) (m : ℕ) (q : Pid) → IsValid b → (q.home == m) ≡ false → (first_point b).view.known m q ≡ Known.Unknown
 first_apart b m q valid off = first_known b m q valid ∙ ap (λ (c : Bool). if c then (if is_server q then Known.Here else known_of_life (bind (process_named q b.processes) (first_life b))) else Known.Unknown) off
 
-no_server : (q : Pid) → 3 ≤ q.num → is_server q ≡ false
-no_server q least = grind (arith, nat_tests)
-
 pub first_mine : (b : Boot) (m : ℕ) (q : Pid) (p : BootProcess) → IsValid b → (q.home == m) ≡ true → process_named q b.processes ≡ Some p → (first_point b).view.known m q ≡ Known.Here
 first_mine b m q p valid on named =
+    let no_server : (q : Pid) → 3 ≤ q.num → is_server q ≡ false = λ q least. grind (arith, nat_tests) in
     let n = named_is b [] b.processes q p valid.processes named in
     first_known b m q valid
     ∙ ap (λ (c : Bool). if c then (if is_server q then Known.Here else known_of_life (bind (process_named q b.processes) (first_life b))) else Known.Unknown) on
@@ -23,14 +21,12 @@ first_mine b m q p valid on named =
     ∙ ap (λ (o : Option BootProcess). known_of_life (bind o (first_life b))) named
     ∙ ap known_of_life (first_alive b p n.image n.there)
 
--- a process elsewhere takes nothing
-taken_off : (b : Boot) (m : ℕ) (q : Pid) → IsValid b → (q.home == m) ≡ false → taken_by (first_point b) m q ≡ nothing
-taken_off b m q valid off = grind (arith, nat_tests, first_apart)
-
 home_off : (b : Boot) (m home n : ℕ) → IsValid b → (home == m) ≡ false → taken_of_home (first_point b) m home n ≡ nothing
 home_off b m home zero valid off = refl
 home_off b m home (suc n) valid off =
-    ap (λ r. and r (taken_by (first_point b) m (pid_of home (3 + n)))) (home_off b m home n valid off) ∙ ap (and nothing) (taken_off b m (pid_of home (3 + n)) valid off)
+    -- a process elsewhere takes nothing
+    let taken_off : taken_by (first_point b) m (pid_of home (3 + n)) ≡ nothing = grind (arith, nat_tests, first_apart) in
+    ap (λ r. and r (taken_by (first_point b) m (pid_of home (3 + n)))) (home_off b m home n valid off) ∙ ap (and nothing) taken_off
 
 -- a process here takes a slot, and the blocks of its image
 pub memory_blocks : (i : BootImage) → image_is_valid i ≡ true → length (memory_of i) / 256 ≡ i.blocks

@@ -70,9 +70,6 @@ records_then : (b : Boot) (m : ℕ) (q : Pid) (p : BootProcess) (c : Bool) (o : 
     → mid ≡ first_record b m q (if c then Some p else None) before → after ≡ first_record b m q o mid → after ≡ first_record b m q (if c then Some p else o) before
 records_then b m q p c o before mid after none e f = grind (arith, nat_tests)
 
-ring_then : (p : BootProcess) (ps : List BootProcess) (m : ℕ) (c : Bool) → (if c then p.pid ∷ [] else []) ++ ring_at ps m ≡ (if c then p.pid ∷ ring_at ps m else ring_at ps m)
-ring_then p ps m c = grind (arith, nat_tests)
-
 pub opens_all : (b : Boot) (m : ℕ) (earlier ps : List BootProcess) (s : KernelState) → processes_are_valid b earlier ps ≡ true → s.here ≡ m → Opens b m ps s (with_all b s ps)
 opens_all b m earlier [] s h here = search (sym (append-nil s.ring), arith)
 opens_all b m earlier (p ∷ ps) s h here =
@@ -83,10 +80,11 @@ opens_all b m earlier (p ∷ ps) s h here =
     let made = one.made in let made_ = rest.made in
     let slots = one.taken_slots in let slots_ = rest.taken_slots in
     let blocks = one.taken_blocks in let blocks_ = rest.taken_blocks in
+    let ring_then : (if (p.pid.home == m) then p.pid ∷ [] else []) ++ ring_at ps m ≡ (if (p.pid.home == m) then p.pid ∷ ring_at ps m else ring_at ps m) = grind (arith, nat_tests) in
     record {
       here = rest.here;
       records = λ q. records_then b m q p (pid_eq p.pid q) (process_named q ps) (s.records q) (u.records q) ((with_all b u ps).records q) (λ same. none_again b earlier p ps q k same) (one.records q) (rest.records q);
-      ring = rest.ring ∙ ap (λ r. r ++ ring_at ps m) one.ring ∙ append_assoc s.ring (if p.pid.home == m then p.pid ∷ [] else []) (ring_at ps m) ∙ ap (λ r. s.ring ++ r) (ring_then p ps m (p.pid.home == m));
+      ring = rest.ring ∙ ap (λ r. r ++ ring_at ps m) one.ring ∙ append_assoc s.ring (if p.pid.home == m then p.pid ∷ [] else []) (ring_at ps m) ∙ ap (λ r. s.ring ++ r) ring_then;
       inbox = rest.inbox ∙ one.inbox;
       made = omega (arith, made, made_);
       slots = rest.slots ∙ one.slots;
@@ -125,25 +123,16 @@ known_first b m q true on server valid = grind (arith, nat_tests, first_known, k
 known_first b m q false off server valid = grind (arith, nat_tests, first_known, apart_record, b.processes)
 
 -- servers aren't named
-server_low : (q : Pid) → is_server q ≡ true → q.num < 3
-server_low q e = grind (arith, nat_tests)
-
 no_server_named : (b : Boot) (m : ℕ) (q : Pid) → IsValid b → is_server q ≡ true → first_record b m q (process_named q b.processes) None ≡ None
-no_server_named b m q valid server = ap (λ o. first_record b m q o None) (none_below b [] b.processes q valid.processes (let low = server_low q server in omega (arith, low)))
+no_server_named b m q valid server = ap (λ o. first_record b m q o None) (none_below b [] b.processes q valid.processes (let low : q.num < 3 = grind (arith, nat_tests) in omega (arith, low)))
 
 -- the room
-empty_slots : (o : Option BootMachine) → (room_of o).taken_slots ≡ 0
-empty_slots o = grind (arith, nat_tests)
-
-empty_blocks : (o : Option BootMachine) → (room_of o).taken_blocks ≡ 0
-empty_blocks o = grind (arith, nat_tests)
-
 kernel_first : (b : Boot) (m : ℕ) → IsValid b → m < length b.machines → KernelStands b (first_point b) (placed_start b) m (opened b m)
 kernel_first b m valid lt =
     let o = opens_all b m [] b.processes (empty b m) valid.processes refl in
     let t = first_taken b m valid lt in
-    let slots = o.taken_slots in let slots_ = t.slots in let none = empty_slots (slice_get b.machines m) in
-    let blocks = o.taken_blocks in let blocks_ = t.blocks in let none_ = empty_blocks (slice_get b.machines m) in
+    let slots = o.taken_slots in let slots_ = t.slots in let none : (room_of (slice_get b.machines m)).taken_slots ≡ 0 = grind (arith, nat_tests) in
+    let blocks = o.taken_blocks in let blocks_ = t.blocks in let none_ : (room_of (slice_get b.machines m)).taken_blocks ≡ 0 = grind (arith, nat_tests) in
     let made = o.made in
     record {
       here = o.here;
@@ -167,11 +156,9 @@ sent_all b (p ∷ ps) s = sent_all b ps (begins_process b s p (slice_get b.image
 abbrev no_history : History
 no_history = record { given = λ a c. []; packets = λ a c. [] }
 
-none_kept : (n : ℕ) → is_some (kept_under (fresh_receiving {M = Message}) n) ≡ false
-none_kept n = grind (arith, nat_tests)
-
 pair_first : (b : Boot) (a c : ℕ) → IsValid b → c < length b.machines → PairStands b (first_point b) (placed_start b) (first_world b) no_history a c
 pair_first b a c valid lt =
+    let none_kept : (n : ℕ) → is_some (kept_under (fresh_receiving {M = Message}) n) ≡ false = λ n. grind (arith, nat_tests) in
     let within : nat_lt c 16 ≡ true = (let k = few b valid in grind (arith, nat_tests)) in
     let sender : fresh_sending {M = Message} (if nat_lt c 16 then b.numbers else 0) ≡ fresh_sending b.numbers = ap (λ (t : Bool). fresh_sending (if t then b.numbers else 0)) within in
     search (

@@ -1,15 +1,16 @@
 -- An event of a stream, and what stands of its pair of machines behind it.
 use Rattle.dm_mirror.proofs.Names.{◌≡◌, ℕ, ◌+◌, ◌<◌, ◌≤◌, nat_lt, Bool, true, false, List, [], ◌∷◌, ◌++◌, length, map, drop, is_some, refl, ap, ◌∙◌, sym, subst, arith, if◌then◌else◌, All, Option, None, Some, nat_tests, map-append}
-use Rattle.dm_mirror.proofs.Names.{drop-append-le, length-map, All-push, Message, MsgId, IsLawfulMessage, due, outstanding, numbered, with_given, with_sent, kept_under, Stream, Give, GoOut, GoAgain, OtherData, goes_again}
-use Rattle.dm_mirror.proofs.Names.{StreamStands-happens, spelling, Boot, Load, Pair, gone_after, Point, has, Placed, WorldState, AreMessages, History, PairStands, bytes_of, line_of, load_of, stream_of, zero, suc, ◌==◌, ◌&&◌, slice_get}
-use Rattle.dm_mirror.proofs.Names.{eqb-true, eq-eqb, Pid, pid_of, first_number, KernelState, room_of, NodeState, at_machine, at_pair, Spot, standing, View, and, taken_at, taken_by, taken_of_home, Mirrors, incoming_of, KernelStands}
-use Rattle.dm_mirror.proofs.Names.{NodeStands, RoomStands, AllRecords, Carries, TokensStand, destination_of, two_of, packet_of_load, SentLoad, message_id}
+use Rattle.dm_mirror.proofs.Names.{drop-append-le, length-map, All-push, Message, MsgId, IsLawfulMessage, due, outstanding, numbered, with_given, kept_under, Stream, Give, GoOut, GoAgain, OtherData, goes_again, StreamStands-happens}
+use Rattle.dm_mirror.proofs.Names.{spelling, Boot, Load, Pair, gone_after, Point, has, Placed, WorldState, AreMessages, History, PairStands, bytes_of, line_of, load_of, stream_of, zero, suc, ◌==◌, ◌&&◌, slice_get, eqb-true, eq-eqb, Pid}
+use Rattle.dm_mirror.proofs.Names.{pid_of, first_number, KernelState, room_of, NodeState, at_machine, at_pair, Spot, standing, View, and, taken_at, taken_by, taken_of_home, Mirrors, incoming_of, KernelStands, NodeStands, RoomStands}
+use Rattle.dm_mirror.proofs.Names.{AllRecords, Carries, TokensStand, destination_of, two_of, packet_of_load, SentLoad, message_id, with_sent}
 use Rattle.dm_stream.specs.Stream.{gives, goes_out, is_worn}
 pub use Rattle.dm_rule.proofs.QuietTests.{eq_not as apart_is}
 use Rattle.dm_stream.specs.Packets as stream
 use Rattle.dm_stream.specs.Order as order
 use Rattle.dm_wire.specs.Sent as wire
 use Rattle.dm_kernel.specs.State as machine
+use Rattle.dm_mirror.proofs.Rooms.{taken_same}
 
 -- what stands of a pair, over its stream, the bytes on its wire, and what the lines say of it
 pub record Joined (b : Boot) (bag : MsgId → Option Message) (a c : ℕ) (s : Stream Message) (sent : List wire.Sent) (p : Pair) : Type 0 where
@@ -28,9 +29,6 @@ pub record Joined (b : Boot) (bag : MsgId → Option Message) (a c : ℕ) (s : S
 pub joined : (b : Boot) (pt : Point) (l : Placed) (w : WorldState) (h : History) (a c : ℕ) → PairStands b pt l w h a c → Joined b l.bag a c (stream_of w h a c) (w.wires a c) (pt.view.pair a c)
 joined b pt l w h a c s = search
 
-pair_of : (b : Boot) (pt : Point) (l : Placed) (w : WorldState) (h : History) (a c : ℕ) → Joined b l.bag a c (stream_of w h a c) (w.wires a c) (pt.view.pair a c) → PairStands b pt l w h a c
-pair_of b pt l w h a c s = search
-
 -- where the world, the history and the view have this stream, these bytes and this pair, the pair stands; what was taken is
 -- the beginning of what was given
 pub record Has (pt : Point) (w : WorldState) (h : History) (a c : ℕ) (s : Stream Message) (sent : List wire.Sent) (p : Pair) : Type 0 where
@@ -44,22 +42,16 @@ pub record Has (pt : Point) (w : WorldState) (h : History) (a c : ℕ) (s : Stre
 
 pub pair_stands : (b : Boot) (pt : Point) (l : Placed) (w : WorldState) (h : History) (a c : ℕ) (s : Stream Message) (sent : List wire.Sent) (p : Pair) → Has pt w h a c s sent p → Joined b l.bag a c s sent p → PairStands b pt l w h a c
 pair_stands b pt l w h a c s sent p e j =
+    let pair_of : (b : Boot) (pt : Point) (l : Placed) (w : WorldState) (h : History) (a c : ℕ) → Joined b l.bag a c (stream_of w h a c) (w.wires a c) (pt.view.pair a c) → PairStands b pt l w h a c = λ b pt l w h a c s. search in
     let whole : stream_of w h a c ≡ s = grind (arith, nat_tests, j.stream.in_order.taken) in
     pair_of b pt l w h a c (subst (λ (z : Stream Message). Joined b l.bag a c z (w.wires a c) (pt.view.pair a c)) (sym whole) (subst (λ (z : List wire.Sent). Joined b l.bag a c s z (pt.view.pair a c)) (sym e.wire) (subst (λ (z : Pair). Joined b l.bag a c s sent z) (sym e.pair) j)))
 
 -- a pair that is as it was
-pub record Stays (pt : Point) (w : WorldState) (h : History) (next : Point) (after : WorldState) (later : History) (a c : ℕ) : Type 0 where
-  pub sender : (after.nodes a).senders c ≡ (w.nodes a).senders c
-  pub receiver : (after.nodes c).receivers a ≡ (w.nodes c).receivers a
-  pub given : later.given a c ≡ h.given a c
-  pub out : later.packets a c ≡ h.packets a c
-  pub back : later.packets c a ≡ h.packets c a
-  pub wire : after.wires a c ≡ w.wires a c
-  pub pair : next.view.pair a c ≡ pt.view.pair a c
+abbrev pub Stays : Point → WorldState → History → Point → WorldState → History → ℕ → ℕ → Type 0
+Stays pt w h next after later a c = Has next after later a c (stream_of w h a c) (w.wires a c) (pt.view.pair a c)
 
 pub pair_stays : (b : Boot) (pt next : Point) (l : Placed) (w after : WorldState) (h later : History) (a c : ℕ) → Stays pt w h next after later a c → PairStands b pt l w h a c → PairStands b next l after later a c
-pair_stays b pt next l w after h later a c e s =
-    pair_stands b next l after later a c (stream_of w h a c) (w.wires a c) (pt.view.pair a c) (record { sender = e.sender; receiver = e.receiver; given = e.given; out = e.out; back = e.back; wire = e.wire; pair = e.pair }) (joined b pt l w h a c s)
+pair_stays b pt next l w after h later a c e s = pair_stands b next l after later a c (stream_of w h a c) (w.wires a c) (pt.view.pair a c) e (joined b pt l w h a c s)
 
 -- a packet goes on the wire out, and on the wire back
 abbrev pub with_out : Stream Message → stream.Load Message → Stream Message
@@ -74,10 +66,10 @@ with_bytes a c sent l = sent ++ wire.just_put (spelling (packet_of_load a c l)) 
 abbrev pub with_line : Pair → Load → Pair
 with_line p l = record p { gone = gone_after l p.gone; wire = p.wire ++ record { load = l; delivered = false } ∷ [] }
 
-lines_put : (out : List (stream.Packet Message)) (l : stream.Load Message) (ws : List SentLoad) → map line_of out ≡ ws → map line_of (out ++ stream.just_put l ∷ []) ≡ ws ++ record { load = load_of l; delivered = false } ∷ []
+pub lines_put : (out : List (stream.Packet Message)) (l : stream.Load Message) (ws : List SentLoad) → map line_of out ≡ ws → map line_of (out ++ stream.just_put l ∷ []) ≡ ws ++ record { load = load_of l; delivered = false } ∷ []
 lines_put out l ws e = map-append line_of out (stream.just_put l ∷ []) ∙ ap (λ (xs : List SentLoad). xs ++ record { load = load_of l; delivered = false } ∷ []) e
 
-bytes_put : (a c : ℕ) (out : List (stream.Packet Message)) (l : stream.Load Message) (sent : List wire.Sent) → sent ≡ map (bytes_of a c) out → with_bytes a c sent l ≡ map (bytes_of a c) (out ++ stream.just_put l ∷ [])
+pub bytes_put : (a c : ℕ) (out : List (stream.Packet Message)) (l : stream.Load Message) (sent : List wire.Sent) → sent ≡ map (bytes_of a c) out → with_bytes a c sent l ≡ map (bytes_of a c) (out ++ stream.just_put l ∷ [])
 bytes_put a c out l sent e = ap (λ (xs : List wire.Sent). xs ++ wire.just_put (spelling (packet_of_load a c l)) ∷ []) e ∙ sym (map-append (bytes_of a c) out (stream.just_put l ∷ []))
 
 -- so many have been given
@@ -167,21 +159,9 @@ abbrev pub with_view : Point → View → Point
 with_view pt v = record pt { view = record v { known = pt.view.known; ring = pt.view.ring; queue = pt.view.queue; held = pt.view.held; moves = pt.view.moves } }
 
 module _ (b : Boot) (pt : Point) (l : Placed) (v : View) where
-  home_same : (m home k : ℕ) → taken_of_home (with_view pt v) m home k ≡ taken_of_home pt m home k
-  home_same m home zero = refl
-  home_same m home (suc k) = ap (λ r. and r (taken_by pt m (pid_of home (first_number + k)))) (home_same m home k)
-
-  taken_same : (m n : ℕ) → taken_at (with_view pt v) m n ≡ taken_at pt m n
-  taken_same m zero = refl
-  taken_same m (suc n) = λ i. and (taken_same m n i) (home_same m n (pt.kernel.made n) i)
-
-  room_same : (m : ℕ) (k : KernelState) → RoomStands k.room (room_of (slice_get b.machines m)) (taken_at pt m pt.kernel.machines)
-      → RoomStands k.room (room_of (slice_get b.machines m)) (taken_at (with_view pt v) m pt.kernel.machines)
-  room_same m k h = subst (λ r. RoomStands k.room (room_of (slice_get b.machines m)) r) (sym (taken_same m pt.kernel.machines)) h
-
   -- the kernel with this inbox
   pub kernel_box : (m : ℕ) (k : KernelState) (box : List Message) → AreMessages l.bag (v.inbox m) box → KernelStands b pt l m k → KernelStands b (with_view pt v) l m (record k { inbox = box })
-  kernel_box m k box e h = search (h.known, room_same m k h.room)
+  kernel_box m k box e h = search (h.known, subst (RoomStands k.room (room_of (slice_get b.machines m))) (sym (taken_same pt (with_view pt v) m refl (λ n. refl) (λ p. refl))) h.room)
 
   pub kernel_same : (m : ℕ) (k : KernelState) → v.inbox m ≡ pt.view.inbox m → KernelStands b pt l m k → KernelStands b (with_view pt v) l m k
   kernel_same m k e h = kernel_box m k k.inbox (subst (λ (is : List MsgId). AreMessages l.bag is k.inbox) (sym e) h.inbox) h

@@ -1,20 +1,18 @@
 -- A tick: what is out and not acknowledged goes out again, by the machine and by the rule.
-use Rattle.dm_mirror.proofs.Names.{◌≡◌, ◌≢◌, ℕ, zero, suc, ◌+◌, ◌-◌, ◌<◌, ◌≤◌, ◌==◌, nat_lt, Bool, true, false, List, [], ◌∷◌, ◌++◌, length, refl, ap, ◌∙◌, sym, subst, arith, if◌then◌else◌, slice_get, Option, None, Some, nat_tests}
+use Rattle.dm_mirror.proofs.Names.{◌≡◌, ◌≢◌, ℕ, zero, suc, ◌+◌, ◌-◌, ◌<◌, ◌≤◌, ◌==◌, nat_lt, Bool, true, false, List, [], ◌∷◌, ◌++◌, length, refl, ap, ◌∙◌, sym, subst, arith, if◌then◌else◌, slice_get, Option, None, Some, nat_tests, load_of}
 use Rattle.dm_mirror.proofs.Names.{append-nil, length-drop, map-append, Message, Data, outstanding, numbered, Stream, Boot, bind, Step, Load, NodeState, here, Out, Sends, again, all_out, count_out, counts_out, first_out, sends, tick}
 use Rattle.dm_mirror.proofs.Names.{spoken, Line, View, NothingElse, after_packet, begins, Transmits, Spelled, spelled, Point, behind, numbers_from, repeats, resends, Placed, WorldState, acted, at_machine, CountsStand, History, PairStands}
 use Rattle.dm_mirror.proofs.Names.{StandsWith, stream_of, GoesOn, packet_of_load}
 use Rattle.dm_rule.proofs.Names.{Part}
 use Rattle.std.proofs.lemmas.List.{append_assoc}
 use Rattle.dm_mirror.proofs.Streams.{joined, put_back, went_again, at_same, node_same}
-use Rattle.dm_mirror.proofs.Puts.{ids_same, line_put, same_senders, spelled_on, spoken-append, stands_begins, stands_put, wire_length}
+use Rattle.dm_mirror.proofs.Puts.{ids_same, spelled_on, spoken-append, stands_begins, stands_put, wire_length, Senders, same_senders}
 use Rattle.dm_mirror.proofs.Deliver.Moves.{given_at as get_there}
 use Rattle.dm_mirror.proofs.QuietSaid.{not_same as apart_of}
 use Rattle.dm_stream.specs.Order as order
 use Rattle.dm_rule.specs.Parts as rule
 use Rattle.dm_rule.specs.Rule as rules
-
-pub stands_begun : (b : Boot) (w : WorldState) (pt : Point) (l : Placed) (h : History) (m : ℕ) → StandsWith b w pt l h → StandsWith b (record w { groups = w.groups + 1 }) (record pt { view = begins pt.view m NothingElse }) l h
-stands_begun b w pt l h m st = stands_begins b w pt l h m NothingElse st
+use Rattle.dm_node.specs.Wired.{packet_line}
 
 -- what goes out again, and the parts that the rule has for it
 record Again (b : Boot) (l : Placed) (w : WorldState) (pt : Point) (outs : List Out) (ps : List Part) : Type 0 where
@@ -55,11 +53,13 @@ again_one b l w pt h m c k n x apart small less out st =
     let pair : PairStands b pt l w h m c = st.pairs m c small less apart in
     let next : Point = record pt { view = after_packet pt.view m c (Load.Data n) } in
     let is : Again b l w pt (Sends (packet_of_load m c (Data n x)) ∷ []) (Transmits m c (Load.Data n) ∷ []) =
+    -- the line is the same
+    let line_put : packet_line w.wires (packet_of_load m c (Data n x)) ≡ Line.Packet m c (length (pt.view.pair m c).wire) (load_of (Data n x)) = grind (arith, nat_tests, wire_length b pt l w h m c pair) in
     record {
       lines = rule.packet_line pt.view m c (Load.Data n) ∷ [];
       next = next;
       spells = λ qs v e. spelled_on pt next (Transmits m c (Load.Data n)) (rule.packet_line pt.view m c (Load.Data n) ∷ []) qs v refl refl e;
-      said = ap (λ (z : Line). z ∷ []) (line_put w.wires m c (length (pt.view.pair m c).wire) (Data n x) (wire_length b pt l w h m c pair));
+      said = ap (λ (z : Line). z ∷ []) line_put;
       history = _;
       stands = stands_put b pt l w h m c w.nodes ((w.nodes m).senders c) (Data n x) apart (same_senders w m c) (λ d e. refl) (λ d. refl) (node_same b pt l (after_packet pt.view m c (Load.Data n)) m (w.nodes m) refl (ids_same pt.view.pair m c _ refl m m) (st.nodes m small))
           (went_again b l.bag m c (stream_of w h m c) (w.wires m c) (pt.view.pair m c) k n x out (joined b pt l w h m c pair))
@@ -147,7 +147,7 @@ tick_goes b w pt l h m st sent small =
     let n : NodeState = w.nodes m in
     let begun : Point = record pt { view = begins pt.view m NothingElse } in
     let later : WorldState = record w { groups = w.groups + 1 } in
-    let stood : StandsWith b later begun l h = stands_begun b w pt l h m st in
+    let stood : StandsWith b later begun l h = stands_begins b w pt l h m NothingElse st in
     let machines : n.machines ≡ pt.kernel.machines = (st.nodes m small).machines in
     let a : Again b l later begun (all_out n n.machines) (resends pt.view m pt.kernel.machines) = subst (λ (z : ℕ). Again b l later begun (all_out n z) (resends pt.view m pt.kernel.machines)) (sym machines) (all_on b l later m begun h small stood pt.kernel.machines (omega arith)) in
     let count : counts_out n n.machines ≡ rules.outstanding_count pt.view m pt.kernel.machines = ap (counts_out n) machines ∙ counts_same b l w m pt h small st pt.kernel.machines (omega arith) in

@@ -8,9 +8,9 @@ use Rattle.dm_mirror.proofs.Turning.{TurnsAt}
 use Rattle.dm_mirror.proofs.Handle.Ended.{is_here}
 use Rattle.dm_mirror.proofs.Handle.Taking.{IsProcess, Taking, took}
 use Rattle.dm_mirror.proofs.Leave.Asked.{asked_turn}
-use Rattle.dm_mirror.proofs.Leave.Asks.{hears_migrate, hears_pull_block, hears_pull_state}
-use Rattle.dm_mirror.proofs.Leave.Goes.{hears_all_taken}
-use Rattle.dm_mirror.proofs.Leave.Stays.{hears_refuse}
+use Rattle.dm_mirror.proofs.Leave.Asks.{gives_block, gives_chunk, hears_migrate}
+use Rattle.dm_mirror.proofs.Leave.Goes.{goes}
+use Rattle.dm_mirror.proofs.Leave.Stays.{refuses}
 use Rattle.dm_mirror.proofs.Row.Tokens.{row_turns, serve_turns}
 use Rattle.dm_mirror.proofs.Handle.Created.{BagFor, ForFixed, ForHere, ForEnded, bag_row}
 use Rattle.dm_mirror.proofs.Come.Answers.{Around, turns_come}
@@ -25,15 +25,8 @@ module _ (b : Boot) (m : ℕ) (pt : Point) (l : Placed) (records : AllRecords) (
   comes p w e between source about = turns_come b m pt l records k y p (search
       (ap (λ (x : What). is_between (kind_of x)) e ∙ between, ap (λ (x : What). tells_onward (sort_of (kind_of x))) e ∙ source, ap about_of e ∙ about)) around
 
-  -- the process at hand can be carried whole
-  receiver_whole : FreezesReceiverWhole k y
-  receiver_whole = subst (FreezesWhole k) h.inbox whole
-
   migrates : (machine : ℕ) (w : Known) → y.what ≡ What.Migrate machine → pt.view.known m y.to.pid ≡ w → TurnsAt b m pt l records k
-  migrates machine Here e knows = hears_migrate b m pt l records k y machine h e knows receiver_whole
-  migrates machine (Frozen to) e knows = migrate_apart b m pt l records k y fronts machine (Frozen to) e knows (λ (f : Frozen to ≡ Here). cc)
-  migrates machine (Incoming from) e knows = migrate_apart b m pt l records k y fronts machine (Incoming from) e knows (λ (f : Incoming from ≡ Here). cc)
-  migrates machine (Forward at moves) e knows = migrate_apart b m pt l records k y fronts machine (Forward at moves) e knows (λ (f : Forward at moves ≡ Here). cc)
+  migrates machine Here e knows = hears_migrate b m pt l records k y machine h e knows (subst (FreezesWhole k) h.inbox whole)
   migrates machine any_ e knows = migrate_apart b m pt l records k y fronts machine any_ e knows (λ (f : any_ ≡ Here). cc)
 
   -- a message with a plain meaning is none of the kernel's own
@@ -45,16 +38,19 @@ module _ (b : Boot) (m : ℕ) (pt : Point) (l : Placed) (records : AllRecords) (
   not_sent w e none =
       absurd (false≢true (sym none ∙ ap (λ (x : What). own_sort (kind_of x) y.to.pid (about_of x)) (sym e) ∙ h.sorts.own y.id (told_of y) h.told h.mine))
 
+  as_is : (w : What) → y.what ≡ w → Hearing b m pt l records k (record y { what = w })
+  as_is w e = subst (Hearing b m pt l records k) (ap (λ (x : What). record y { what = x }) e) h
+
   by_what : (w : What) → y.what ≡ w → TurnsAt b m pt l records k
   by_what (What.Migrate machine) e = migrates machine (pt.view.known m y.to.pid) e refl
   by_what (What.Update about) e = update_turn b m pt l records k y fronts about e
   by_what (What.Ask pid blocks moves size asker) e = comes pid (What.Ask pid blocks moves size asker) e refl refl refl
-  by_what (What.Refuse pid slots blocks) e = hears_refuse b m pt l records k y pid slots blocks h e
-  by_what (What.PullState pid chunk) e = hears_pull_state b m pt l records k y pid chunk h e
+  by_what (What.Refuse pid slots blocks) e = refuses b m pt l records k y pid slots blocks (as_is _ e)
+  by_what (What.PullState pid chunk) e = gives_chunk b m pt l records k y pid chunk (as_is _ e)
   by_what (What.State pid chunk last bytes) e = comes pid (What.State pid chunk last bytes) e refl refl refl
-  by_what (What.PullBlock pid block) e = hears_pull_block b m pt l records k y pid block h e
+  by_what (What.PullBlock pid block) e = gives_block b m pt l records k y pid block (as_is _ e)
   by_what (What.Memory pid block bytes) e = comes pid (What.Memory pid block bytes) e refl refl refl
-  by_what (What.AllTaken pid) e = hears_all_taken b m pt l records k y pid h made e
+  by_what (What.AllTaken pid) e = goes b m pt l records k y pid (as_is _ e) made
   by_what (What.Restart pid) e = comes pid (What.Restart pid) e refl refl refl
   by_what (What.CallOff pid) e = not_sent (What.CallOff pid) e refl
   by_what (What.Bury pid) e = not_sent (What.Bury pid) e refl

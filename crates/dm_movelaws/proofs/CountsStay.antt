@@ -16,22 +16,18 @@ same_count a c h e = let f : count_of c h ≡ count_of a h = ap (λ (p : Place).
 no_receiver : (i : MsgId) (h : Holder) → is_owned h ≡ true → holder_eq (Receiver i) h ≡ false
 no_receiver i h e = grind (arith, nat_tests)
 
-forwards_none : (v : View) (a : Addresses) (id : MsgId) (h : Holder) (o : Option Told) → is_owned h ≡ true → gives_to h (forwards v a id o) ≡ false
-forwards_none v a id h o e = grind (arith, nat_tests, no_receiver)
-
 follows_none : (v : View) (a : Addresses) (p : Pid) (h : Holder) (is : List MsgId) → is_owned h ≡ true → gives_to h (all_follow v a p is) ≡ false
 follows_none v a p h [] e = refl
 follows_none v a p h (i ∷ is) e = ap (λ (c : Bool). c || gives_to h (all_follow v a p is)) (no_receiver i h e) ∙ follows_none v a p h is e
 
-own_none : (s : OneKernel) (v : View) (a : Addresses) (id : MsgId) (r : Pid) (h : Holder) (x : MessageKind) → is_owned h ≡ true → gives_to h (own_given s v a id r (sort_of x)) ≡ false
-own_none s v a id r h x e = grind (arith, nat_tests)
-
-first_none : (h : Holder) (o : Option Told) (gs : List Gets) → gives_to h gs ≡ false → gives_to h (first_gives o gs) ≡ false
-first_none h o gs e = grind (arith, nat_tests)
-
 -- each line
 by_line : (pt : Point) (l : Line) (h : Holder) → is_owned h ≡ true → is_filled pt (label_of l) h ≡ false → count_of pt.addresses h ≤ count_of (addresses_after pt.kernel pt.view pt.addresses l) h
-by_line pt l h h1 h2 = search (arith, same_count, pt.addresses, pt.kernel, pt.view, not_given, forwards_none, follows_none, first_none, own_none)
+by_line pt l h h1 h2 =
+    let forwards_none : (v : View) (a : Addresses) (id : MsgId) (h : Holder) (o : Option Told) → is_owned h ≡ true → gives_to h (forwards v a id o) ≡ false = λ v a id h o e. grind (arith, nat_tests, no_receiver) in
+    let own_none : (s : OneKernel) (v : View) (a : Addresses) (id : MsgId) (r : Pid) (h : Holder) (x : MessageKind) → is_owned h ≡ true → gives_to h (own_given s v a id r (sort_of x)) ≡ false =
+      λ s v a id r h x e. grind (arith, nat_tests) in
+    let first_none : (h : Holder) (o : Option Told) (gs : List Gets) → gives_to h gs ≡ false → gives_to h (first_gives o gs) ≡ false = λ h o gs e. grind (arith, nat_tests) in
+    search (arith, same_count, pt.addresses, pt.kernel, pt.view, not_given, forwards_none, follows_none, first_none, own_none)
 
 by_lines : (ls : List Line) (pt end : Point) (h : Holder) → is_owned h ≡ true → after pt ls ≡ Some end → refilled h pt ls ≡ false → count_of pt.addresses h ≤ count_of end.addresses h
 by_lines [] pt end h mine is e = let f : pt ≡ end = cc in same_count pt.addresses end.addresses h (sym (ap (λ (x : Point). x.addresses h) f))

@@ -131,11 +131,10 @@ NetPart (Says l) = IsNetLine l
 NetPart (Transmits a b l) = ⊤
 NetPart _ = ⊥
 
-net_behind : (P : Point → Type 0) → ((pt : Point) (s : OneKernel) (l : Line) → IsNetLine l → P pt → P (moved pt l s)) → (pt : Point) (p : Part) → NetPart p → P pt → Behind P pt p
-net_behind P one pt e net h = grind (arith, nat_tests)
-
 pub net_lead : (P : Point → Type 0) → PacketsKeep P → ((pt : Point) (s : OneKernel) (l : Line) → IsNetLine l → P pt → P (moved pt l s)) → (ps : List Part) (pt : Point) (w : Spelled) → IsNet ps → spelled pt ps ≡ Some w → P pt → P w.point
-net_lead P keeps one ps pt w net = parts_lead P keeps NetPart (net_behind P one) ps pt w (by_net (All NetPart) tt (λ l ps net h. (net, h)) (λ a b l ps h. (tt, h)) ps net)
+net_lead P keeps one ps pt w net =
+    let net_behind : (P : Point → Type 0) → ((pt : Point) (s : OneKernel) (l : Line) → IsNetLine l → P pt → P (moved pt l s)) → (pt : Point) (p : Part) → NetPart p → P pt → Behind P pt p = λ P one pt e net h. grind (arith, nat_tests) in
+    parts_lead P keeps NetPart (net_behind P one) ps pt w (by_net (All NetPart) tt (λ l ps net h. (net, h)) (λ a b l ps h. (tt, h)) ps net)
 
 -- the first part, and what is spelled behind it
 pub record Next (pt : Point) (p : Part) (ps : List Part) (w : Spelled) : Type 0 where

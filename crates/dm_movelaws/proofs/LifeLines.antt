@@ -26,27 +26,22 @@ first_or : (f : Known → Option Standing) (v : View) (p : Pid) (n : ℕ) → Fi
 first_or f v p zero = inr (record { is = refl; none = λ m less. absurd (omega (arith, less)) })
 first_or f v p (suc n) = grind (arith, nat_tests, first_or f v p n)
 
--- a process is where it is found
-has_stands : (k : Known) (x : Standing) → standing_of k ≡ Some x → stands_by k ≡ Some x
-has_stands k x e = grind (arith, nat_tests)
-
-awaits_stands : (k : Known) (x : Standing) → awaits k ≡ Some x → stands_by k ≡ Some x
-awaits_stands k x e = grind (arith, nat_tests)
-
 -- a process that stands on some machine is found
 pub record Placed (pt : Point) (p : Pid) : Type 0 where
   pub at : Stood
   pub is : stood pt.view p pt.kernel.machines ≡ Some at
   pub place : IsPlace pt p at
 
+-- a process is where it is found
 placed : (pt : Point) (p : Pid) (m : ℕ) (x : Standing) → m < pt.kernel.machines → stands_by (pt.view.known m p) ≡ Some x → Placed pt p
 placed pt p m x less some =
+    let awaits_stands : (k : Known) (x : Standing) → awaits k ≡ Some x → stands_by k ≡ Some x = λ k x e. grind (arith, nat_tests) in
     let n = pt.kernel.machines in
     elim (first_or standing_of pt.view p n) [
       | inl found ↦ record {
         at = found.at;
         is = ap (λ (y : Option Stood). or y (first_with awaits pt.view p n)) found.is;
-        place = record { machine = found.within; stands = has_stands (pt.view.known found.at.at p) found.at.standing found.stands };
+        place = record { machine = found.within; stands = (let e_ : stands_by (pt.view.known found.at.at p) ≡ Some found.at.standing = grind (arith, nat_tests, found.stands) in e_) };
       }
       | inr none ↦ elim (first_or awaits pt.view p n) [
         | inl found ↦ (search (arith, pt.view, awaits_stands, pt.view.known))
@@ -60,11 +55,9 @@ record Somewhere (v : View) (p : Pid) : Type 0 where
   standing : Standing
   stands : stands_by (v.known machine p) ≡ Some standing
 
-here_stands : (k : Known) → is_here k ≡ true → stands_by k ≡ Some Standing.Here
-here_stands k e = grind (arith, nat_tests)
-
 rests_stands : (v : View) (p : Pid) (at : ℕ) → knows (Rests at) at (v.known at p) ≡ true → Somewhere v p
 rests_stands v p at e =
+    let here_stands : (k : Known) → is_here k ≡ true → stands_by k ≡ Some Standing.Here = λ k e. grind (arith, nat_tests) in
     let same : (at == at) ≡ true = grind (arith, nat_tests) in
     record { machine = at; standing = Standing.Here; stands = here_stands (v.known at p) (sym (ap (λ (c : Bool). if c then is_here (v.known at p) else phases.is_away (v.known at p)) same) ∙ e) }
 
@@ -153,31 +146,12 @@ mute_pending : (p : Pid) (rs : List Pending) → Mute p (pending_lines rs)
 mute_pending p [] = refl
 mute_pending p (r ∷ rs) = mute_pending p rs
 
-mute_servers : (p : Pid) (pt : Point) → Mute p (server_lines pt)
-mute_servers p pt = search (mute_both, mute_names, mute_children, mute_pending)
-
-mute_queue : (p : Pid) (v : View) (q : Pid) (o : Option Stood) → Mute p (queue_at v q o)
-mute_queue p v q o = grind (arith, nat_tests, mute_list)
-
-mute_queues : (p : Pid) (pt : Point) → Mute p (queue_lines pt)
-mute_queues p pt = search (mute_homes, mute_queue)
-
-mute_holding : (p : Pid) (pt : Point) → Mute p (holding_lines pt)
-mute_holding p pt = search (mute_machines, mute_homes, mute_list)
-
-mute_inboxes : (p : Pid) (pt : Point) → Mute p (inbox_lines pt)
-mute_inboxes p pt = mute_machines p (λ m. list_line (EndLine.Inbox m) (pt.view.inbox m)) pt.kernel.machines (λ m. mute_list p (EndLine.Inbox m) (pt.view.inbox m) (λ is. refl))
-
-mute_streams : (p : Pid) (pt : Point) → Mute p (stream_lines pt)
-mute_streams p pt = search (mute_machines, mute_list)
-
--- the lines of a process, but for the first
-mute_block : (p q : Pid) (k : ℕ) (bytes : List ℕ) → Mute p (block_line q k bytes)
-mute_block p q k bytes = grind (arith, nat_tests)
-
 mute_memory : (p q : Pid) (bytes : List ℕ) (k : ℕ) → Mute p (memory_lines q bytes k)
 mute_memory p q bytes zero = refl
-mute_memory p q bytes (suc k) = search (mute_both, mute_block, mute_memory p q bytes k)
+mute_memory p q bytes (suc k) =
+    -- the lines of a process, but for the first
+    let mute_block : (p q : Pid) (k : ℕ) (bytes : List ℕ) → Mute p (block_line q k bytes) = λ p q k bytes. grind (arith, nat_tests) in
+    search (mute_both, mute_block, mute_memory p q bytes k)
 
 mute_links : (p : Pid) (a : Addresses) (q : Pid) (k : ℕ) (ls : List (Option PlainLink)) → Mute p (link_lines a q k ls)
 mute_links p a q k [] = refl
@@ -271,17 +245,23 @@ of_processes pt q = process_lines pt q (pt.kernel.processes q)
 
 end_by : (p : Pid) (pt : Point) (ls : List EndLine) → life_lines p (each_process pt (of_processes pt)) ≡ ls → life_lines p (end_lines pt) ≡ ls
 end_by p pt ls h =
+    let mute_queues : (p : Pid) (pt : Point) → Mute p (queue_lines pt) =
+      λ p pt. let mute_queue : (p : Pid) (v : View) (q : Pid) (o : Option Stood) → Mute p (queue_at v q o) = λ p v q o. grind (arith, nat_tests, mute_list) in search (mute_homes, mute_queue) in
     let lives = EndLine.Final ∷ each_process pt (of_processes pt) in
     let servers = lives ++ server_lines pt in
     let queues = servers ++ queue_lines pt in
     let holding = queues ++ holding_lines pt in
     let inboxes = holding ++ inbox_lines pt in
     let streams = inboxes ++ stream_lines pt in
+    let mute_streams : Mute p (stream_lines pt) = search (mute_machines, mute_list) in
+    let mute_holding : Mute p (holding_lines pt) = search (mute_machines, mute_homes, mute_list) in
+    let mute_servers : Mute p (server_lines pt) = search (mute_both, mute_names, mute_children, mute_pending) in
+    let mute_inboxes : Mute p (inbox_lines pt) = mute_machines p (λ m. list_line (EndLine.Inbox m) (pt.view.inbox m)) pt.kernel.machines (λ m. mute_list p (EndLine.Inbox m) (pt.view.inbox m) (λ is. refl)) in
     one_first p streams (EndLine.Groups pt.view.groups ∷ []) ls
     (one_first p inboxes (stream_lines pt) ls
     (one_first p holding (inbox_lines pt) ls
     (one_first p queues (holding_lines pt) ls
-    (one_first p servers (queue_lines pt) ls (one_first p lives (server_lines pt) ls h (mute_servers p pt)) (mute_queues p pt)) (mute_holding p pt)) (mute_inboxes p pt)) (mute_streams p pt)) refl
+    (one_first p servers (queue_lines pt) ls (one_first p lives (server_lines pt) ls h mute_servers) (mute_queues p pt)) mute_holding) mute_inboxes) mute_streams) refl
 
 -- a process that was made is among those of its home
 made_among : (b : Boot) (pt : Point) (p : Pid) → Run b pt → is_some (pt.kernel.processes p) ≡ true → life_lines p (each_process pt (of_processes pt)) ≡ life_lines p (of_processes pt p)

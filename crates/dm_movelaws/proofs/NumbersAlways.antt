@@ -21,12 +21,11 @@ told_counted pt i t h told other = elim (cases_zero (h.e i)) [
   | inr some ↦ h.sound.entered.counted i some
 ]
 
--- a kernel's own message is named by its machine
-pub own_name : (i : MsgId) → is_kernels i ≡ true → id_of (pid_of i.from.home 0) i.n ≡ i
-own_name i e = grind (arith, nat_tests)
-
 own_below : (pt : Point) (i : MsgId) (t : Told) → Sane pt → pt.view.told i ≡ Some t → is_kernels i ≡ true → i.n < pt.view.count i.from.home
-own_below pt i t h told own = grind (arith, nat_tests, own_name)
+own_below pt i t h told own =
+    -- a kernel's own message is named by its machine
+    let own_name : (i : MsgId) → is_kernels i ≡ true → id_of (pid_of i.from.home 0) i.n ≡ i = λ i e. grind (arith, nat_tests) in
+    grind (arith, nat_tests, own_name)
 
 -- wherever the rule leads
 pub numbers_always : NumbersAlways

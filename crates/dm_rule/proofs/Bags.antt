@@ -2,7 +2,7 @@
 use Rattle.dm_rule.proofs.Names.{◌≡◌, ℕ, ◌≤◌, Bool, true, false, zero, suc, refl, ap, ◌∙◌, sym, subst, nat_lt, arith, length, ◌⊎◌, inl, inr, if◌then◌else◌, slice_get, take, drop, Option, None, Some, cases_Bool, nat_tests, Pid, pid_eq}
 use Rattle.dm_rule.proofs.Names.{MsgId, id_eq, id_of, Called, PlainMessage, PlainWhat, Label, Why, switchboard, manager, bind, PlainProcess, Alive, OneKernel, with_process, with_sent, answer_id, answer_to, without_message, id_eq-is}
 use Rattle.dm_rule.proofs.Names.{id_eq-same, Entered, request_id, unentered, asks, Sound, not_server, counts_process, bind-is, when-is, at_hand-is, nexts, Nexts, LandsSo, lands-is, ServerSends, in_bag, Outcome, without_note}
-use Rattle.dm_rule.proofs.Names.{board_takes_lem, ends_move-is, manager_takes_lem}
+use Rattle.dm_rule.proofs.Names.{board_takes_lem, ends_move-is, manager_takes_lem, cond_some}
 use Rattle.dm_onekernel.specs.Kernel.{Ended}
 use Rattle.dm_onekernel.specs.Pieces as pieces
 use Rattle.dm_onekernel.specs.Receiving as receiving
@@ -11,6 +11,7 @@ use Rattle.dm_onekernel.specs.Manager as manage
 use Rattle.dm_onekernel.specs.Service as service
 use Rattle.dm_onekernel.specs.Step as step
 use Rattle.dm_rule.proofs.Lines.{hidden}
+pub use Rattle.dm_laws.proofs.Facts.{if_some-is}
 
 -- one message may go, and one may enter: it is there then, and never was before
 pub record BagStep (e : MsgId → ℕ) (s t : OneKernel) (out put : Option MsgId) : Type 0 where
@@ -26,17 +27,13 @@ pub bag_none : (r e : MsgId → ℕ) (s : OneKernel) (i : MsgId) → e i ≡ 0 �
 bag_none r e s i zero_ h = (elim (s.bag i) as (λ o. s.bag i ≡ o → o ≡ None)
     [ None ↦ λ f. refl | Some m ↦ λ f. absurd (let k = h.fewer i in let g : in_bag (s.bag i) ≡ 1 = ap in_bag f in omega (arith, k, g, zero_)) ]) refl
 
-hidden_none : (out : Option MsgId) (bag : MsgId → Option PlainMessage) (i : MsgId) → bag i ≡ None → hidden out bag i ≡ None
-hidden_none out bag i h1 = search arith
-
 -- a message enters, and maybe one goes
 pub steps_in : (r e : MsgId → ℕ) (s u : OneKernel) (out : Option MsgId) (m : PlainMessage) → ((i : MsgId) → u.bag i ≡ hidden out s.bag i) → e m.id ≡ 0 → Entered r e s → BagStep e s (with_sent u (Some m)) out (Some m.id)
 steps_in r e s u out m same zero_ h = record {
   same = λ i. elim (cases_Bool (id_eq m.id i)) [
     | inl here ↦
         let is : m.id ≡ i = id_eq-is m.id i here in
-        let left : hidden (Some m.id) (with_sent u (Some m)).bag i ≡ None = ap (λ (b : Bool). if b then None else (with_sent u (Some m)).bag i) here in
-        let none : s.bag i ≡ None = sym (ap s.bag is) ∙ bag_none r e s m.id zero_ h in left ∙ sym (hidden_none out s.bag i none)
+        let none : s.bag i ≡ None = sym (ap s.bag is) ∙ bag_none r e s m.id zero_ h in ap (λ (b : Bool). if b then None else (with_sent u (Some m)).bag i) here ∙ sym (let e_ : hidden out s.bag i ≡ None = search arith in e_)
     | inr apart ↦
         ap (λ (b : Bool). if b then None else (if b then Some m else u.bag i)) apart ∙ same i
   ];
@@ -126,9 +123,6 @@ outputs_quiet : (e : MsgId → ℕ) (s t : OneKernel) (p : Pid) (w : ℕ) (next 
 outputs_quiet e s t p w (step.Calls number (Called.Outputs word y)) is = quiet_is e s t (step.goes_on s p y) (when-is _ (step.goes_on s p y) t is).1 (λ i. refl)
 outputs_quiet e s t p w _ is = cc
 
-ends_quiet : (e : MsgId → ℕ) (s t : OneKernel) (p : Pid) (y : Why) (next : step.Trap) → step.ends s p y next ≡ Some t → BagStep e s t None None
-ends_quiet e s t p y next h1 = search (arith, quiet_is, when-is)
-
 pub bag_call : (e : MsgId → ℕ) (s t : OneKernel) (p : Pid) (n : ℕ) (c : _) → step.step s (Label.Call p n c) ≡ Some t → BagStep e s t None None
 bag_call e s t p n c is = let (x, next, rest) = bind-is (step.next_trap s p) (step.replies s p n c) t is in replies_quiet e s t p n c x rest
 
@@ -139,7 +133,7 @@ pub bag_out : (e : MsgId → ℕ) (s t : OneKernel) (p : Pid) (w : ℕ) → step
 bag_out e s t p w is = let (x, next, rest) = bind-is (step.next_trap s p) (step.outputs s p w) t is in outputs_quiet e s t p w x rest
 
 pub bag_end : (e : MsgId → ℕ) (s t : OneKernel) (p : Pid) (y : Why) → step.step s (Label.End p y) ≡ Some t → BagStep e s t None None
-bag_end e s t p y is = let (x, next, rest) = bind-is (step.next_trap s p) (step.ends s p y) t is in ends_quiet e s t p y x rest
+bag_end e s t p y is = let (x, next, rest) = bind-is (step.next_trap s p) (step.ends s p y) t is in search (arith, quiet_is, when-is)
 
 refuses_quiet : (e : MsgId → ℕ) (s t : OneKernel) (p : Pid) (c : _) (done : receiving.Completed) → step.refuses s p c done ≡ Some t → BagStep e s t None None
 refuses_quiet e s t p c (receiving.Receives x) is = cc
@@ -173,38 +167,29 @@ cases_zero (suc n) = inr (omega arith)
 pub zero_if : (n : ℕ) → (1 ≤ n → ⊥) → n ≡ 0
 zero_if n h = elim (cases_zero n) [ inl is ↦ is | inr least ↦ absurd (h least) ]
 
-answer_fresh : (r e : MsgId → ℕ) (s : OneKernel) (id : MsgId) (m : PlainMessage) → s.bag id ≡ Some m → asks m.what ≡ true → Entered r e s → e (answer_id id) ≡ 0
-answer_fresh r e s id m there asking h = zero_if (e (answer_id id)) (λ least.
-    let back : request_id (answer_id id) ≡ id = (let q : id.answer ≡ false = h.requests id m there asking in grind arith) in
-    let gone : s.bag id ≡ None = sym (ap s.bag back) ∙ h.answers (answer_id id) refl least in
-    let k : None ≡ Some m = sym gone ∙ there in cc)
-
 answers_in : (r e : MsgId → ℕ) (s t u : OneKernel) (id : MsgId) (m : PlainMessage) (w : PlainWhat) → with_sent u (Some (answer_to m w)) ≡ t → ((i : MsgId) → u.bag i ≡ (without_message s id).bag i) → s.bag id ≡ Some m → asks m.what ≡ true
     → Sound r e s → BagStep e s t (Some id) (Some (answer_id id))
 answers_in r e s t u id m w is same there asking h =
+    let answer_fresh : (r e : MsgId → ℕ) (s : OneKernel) (id : MsgId) (m : PlainMessage) → s.bag id ≡ Some m → asks m.what ≡ true → Entered r e s → e (answer_id id) ≡ 0 = λ r e s id m there asking h.
+      zero_if (e (answer_id id)) (λ least.
+      let k : None ≡ Some m = sym (sym (ap s.bag (let back : request_id (answer_id id) ≡ id = (let q : id.answer ≡ false = h.requests id m there asking in grind arith) in back)) ∙ h.answers (answer_id id) refl least) ∙ there in cc) in
     let name : (answer_to m w).id ≡ answer_id id = ap answer_id (h.entered.named id m there) in
     let zero_ : e (answer_to m w).id ≡ 0 = ap e name ∙ answer_fresh r e s id m there asking h.entered in
     search (arith, steps_in)
-
-gone_asks : (v w : PlainWhat) → service.gone_what v ≡ Some w → asks v ≡ true
-gone_asks v w h1 = search arith
 
 pub bag_gone : (r e : MsgId → ℕ) (s t : OneKernel) (id : MsgId) → step.step s (Label.Gone id) ≡ Some t → Sound r e s → BagStep e s t (Some id) (Some (answer_id id))
 bag_gone r e s t id is h =
     let (m, there, rest) = bind-is (s.bag id) (λ v. bind (step.why_ended (s.processes v.to)) (step.says_gone s id v)) t is in
     let (y, gone, last) = bind-is (step.why_ended (s.processes m.to)) (step.says_gone s id m) t rest in
     let (w, answer, end) = bind-is (service.gone_what m.what) (λ v. Some (with_sent (without_message s id) (Some (answer_to m v)))) t last in
-    answers_in r e s t (without_message s id) id m w (let f : with_sent (without_message s id) (Some (answer_to m w)) ≡ t = cc in f) (λ i. refl) there (gone_asks m.what w answer) h
+    answers_in r e s t (without_message s id) id m w (let f : with_sent (without_message s id) (Some (answer_to m w)) ≡ t = cc in f) (λ i. refl) there (let e_ : asks m.what ≡ true = search arith in e_) h
 
 -- a process begins to follow a request: that goes; the answer to it enters where it ends
-follows_out : (e : MsgId → ℕ) (s t : OneKernel) (id : MsgId) (m : PlainMessage) (w : PlainWhat) → service.follows_request s id m w ≡ Some t → BagStep e s t (Some id) None
-follows_out e s t id m w h1 = search (arith, out_is)
-
 pub bag_asked : (e : MsgId → ℕ) (s t : OneKernel) (id : MsgId) → step.step s (Label.Asked id) ≡ Some t → BagStep e s t (Some id) None
 bag_asked e s t id is =
     let (m, there, rest) = bind-is (s.bag id) (λ v. bind (step.at_hand s v.to) (λ p. service.follows_request s id v v.what)) t is in
     let (x, hand, last) = bind-is (step.at_hand s m.to) (λ p. service.follows_request s id m m.what) t rest in
-    follows_out e s t id m m.what last
+    search (arith, out_is)
 
 pub bag_answered : (r e : MsgId → ℕ) (s t : OneKernel) (id : MsgId) (o : Outcome) → step.step s (Label.Answered id o) ≡ Some t → Sound r e s → BagStep e s t None (Some (answer_id id))
 bag_answered r e s t id o is h =
@@ -234,18 +219,13 @@ bag_created r e s t id child is h = let (m, there, rest) = bind-is (s.bag id) (�
 -- an answer has landed: the next request enters, or nothing
 landed_in : (r e : MsgId → ℕ) (s t : OneKernel) (id : MsgId) (m : PlainMessage) (x : PlainProcess) (c : pieces.Landed) → service.landed s id m c ≡ t → s.processes m.to ≡ Some (Alive x) → LandsSo m.to x c → Sound r e s → BagStep e s t (Some id) (landed_id (Some c))
 landed_in r e s t id m x (pieces.Next request y) is alive lands h =
-    let zero_ : e request.id ≡ 0 = ap e lands.0.id ∙ own_fresh r e s m.to x x.sent alive refl h in
-    subst (λ v. BagStep e s v (Some id) (Some request.id)) is (steps_in r e s (service.changed s id m y) (Some id) request (λ i. refl) zero_ h.entered)
+    subst (λ v. BagStep e s v (Some id) (Some request.id)) is (steps_in r e s (service.changed s id m y) (Some id) request (λ i. refl) (ap e lands.0.id ∙ own_fresh r e s m.to x x.sent alive refl h) h.entered)
 landed_in r e s t id m x (pieces.Done reply y) is alive lands h = out_is e s t (service.changed s id m y) id is (λ i. refl)
 
 lands_in : (r e : MsgId → ℕ) (s t : OneKernel) (id : MsgId) (m : PlainMessage) (x : PlainProcess) (o : Option pieces.Landed) → pieces.lands m.to x m x.status ≡ o → bind o (λ c. Some (service.landed s id m c)) ≡ Some t → s.processes m.to ≡ Some (Alive x) → Sound r e s
     → BagStep e s t (Some id) (landed_id o)
 lands_in r e s t id m x None is last alive h = cc
 lands_in r e s t id m x (Some c) is last alive h = landed_in r e s t id m x c (let f : service.landed s id m c ≡ t = cc in f) alive (lands-is m.to x m x.status c is) h
-
-pub if_some-is : {A : Type 0} (b : Bool) (x y : A) → (if b then Some x else None) ≡ Some y → x ≡ y
-if_some-is true x y e = cc
-if_some-is false x y e = cc
 
 served_in : (r e : MsgId → ℕ) (s t : OneKernel) (id : MsgId) (m : PlainMessage) (x : PlainProcess) (w : PlainWhat) → m.what ≡ w → s.bag id ≡ Some m → s.processes m.to ≡ Some (Alive x) → service.serves s id m x w ≡ Some t → Sound r e s
     → BagStep e s t (Some id) (served_id id m x w)
@@ -254,15 +234,13 @@ served_in r e s t id m x PlainWhat.Resume w there alive is h = out_is e s t (ser
 served_in r e s t id m x PlainWhat.Kill w there alive is h = out_is e s t (with_process (without_message s id) m.to (Ended Why.Killed)) id (let f : with_process (without_message s id) m.to (Ended Why.Killed) ≡ t = cc in f) (λ i. refl)
 served_in r e s t id m x (PlainWhat.Read base len) w there alive is h =
     let (c, served, last) = bind-is (pieces.reads x m base len) (λ v. Some (service.answered s id m v)) t is in
-    let k = if_some-is _ (record { process = x; answer = answer_to m (PlainWhat.Block (take len (drop base x.memory))) }) c served in
-    let f : service.answered s id m c ≡ t = cc in
-    answers_in r e s t (service.changed s id m x) id m (PlainWhat.Block (take len (drop base x.memory))) (ap (service.answered s id m) k ∙ f) (λ i. refl) there (ap asks w) h
+    let k = cond_some _ (record { process = x; answer = answer_to m (PlainWhat.Block (take len (drop base x.memory))) }) c served in
+    answers_in r e s t (service.changed s id m x) id m (PlainWhat.Block (take len (drop base x.memory))) (ap (service.answered s id m) k.1 ∙ (let f : service.answered s id m c ≡ t = cc in f)) (λ i. refl) there (ap asks w) h
 served_in r e s t id m x (PlainWhat.Write base bytes) w there alive is h =
     let (c, served, last) = bind-is (pieces.writes x m base bytes) (λ v. Some (service.answered s id m v)) t is in
     let y = record x { memory = pieces.written_at x.memory base bytes } in
-    let k = if_some-is _ (record { process = y; answer = answer_to m PlainWhat.Written }) c served in
-    let f : service.answered s id m c ≡ t = cc in
-    answers_in r e s t (service.changed s id m y) id m PlainWhat.Written (ap (service.answered s id m) k ∙ f) (λ i. refl) there (ap asks w) h
+    let k = cond_some _ (record { process = y; answer = answer_to m PlainWhat.Written }) c served in
+    answers_in r e s t (service.changed s id m y) id m PlainWhat.Written (ap (service.answered s id m) k.1 ∙ (let f : service.answered s id m c ≡ t = cc in f)) (λ i. refl) there (ap asks w) h
 served_in r e s t id m x (PlainWhat.Block bytes) w there alive is h = lands_in r e s t id m x (pieces.lands m.to x m x.status) refl is alive h
 served_in r e s t id m x PlainWhat.Written w there alive is h = lands_in r e s t id m x (pieces.lands m.to x m x.status) refl is alive h
 served_in r e s t id m x PlainWhat.Gone w there alive is h = lands_in r e s t id m x (pieces.lands m.to x m x.status) refl is alive h
@@ -305,13 +283,6 @@ manager_took : (r e : MsgId → ℕ) (s t : OneKernel) (id : MsgId) (m : PlainMe
 manager_took r e s t id m None is last h = cc
 manager_took r e s t id m (Some k) is last h = manager_in r e s t id k k.message refl (manager_takes_lem s.manager s.machines (length s.images) m m.what k is).2.sends (let f : service.manager_took s id k ≡ t = cc in f) h
 
-took_by : (r e : MsgId → ℕ) (s t : OneKernel) (id : MsgId) (m : PlainMessage) (b c : Bool)
-    → (if b then bind (board.board_takes s.switchboard m m.what) (λ k. Some (service.switchboard_took s id k))
-    else if c then bind (manage.manager_takes s.manager s.machines (length s.images) m m.what) (λ k. Some (service.manager_took s id k))
-    else None) ≡ Some t → Sound r e s
-    → BagStep e s t (Some id) (if b then board_id (board.board_takes s.switchboard m m.what) else if c then manager_id (manage.manager_takes s.manager s.machines (length s.images) m m.what) else None)
-took_by r e s t id m b c h1 h2 = search (arith, board_took, manager_took)
-
 pub record TookStep (e : MsgId → ℕ) (s t : OneKernel) (id : MsgId) : Type 0 where
   pub m : PlainMessage
   pub there : s.bag id ≡ Some m
@@ -319,5 +290,11 @@ pub record TookStep (e : MsgId → ℕ) (s t : OneKernel) (id : MsgId) : Type 0 
 
 pub bag_took : (r e : MsgId → ℕ) (s t : OneKernel) (id : MsgId) → step.step s (Label.Took id) ≡ Some t → Sound r e s → TookStep e s t id
 bag_took r e s t id is h =
+    let took_by : (r e : MsgId → ℕ) (s t : OneKernel) (id : MsgId) (m : PlainMessage) (b c : Bool)
+      → (if b then bind (board.board_takes s.switchboard m m.what) (λ k. Some (service.switchboard_took s id k))
+      else if c then bind (manage.manager_takes s.manager s.machines (length s.images) m m.what) (λ k. Some (service.manager_took s id k))
+      else None) ≡ Some t → Sound r e s
+      → BagStep e s t (Some id) (if b then board_id (board.board_takes s.switchboard m m.what) else if c then manager_id (manage.manager_takes s.manager s.machines (length s.images) m m.what) else None) =
+      λ r e s t id m b c h1 h2. search (arith, board_took, manager_took) in
     let (m, there, rest) = bind-is (s.bag id) (service.takes s id) t is in
     record { m = m; there = there; is = took_by r e s t id m (pid_eq m.to switchboard) (pid_eq m.to manager) rest h }

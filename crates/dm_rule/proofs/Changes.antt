@@ -1,7 +1,7 @@
 -- A step of the kernel without machines: where it leads, row by row. Whatever holds where each row leads holds where the step leads.
 use Rattle.dm_rule.proofs.Names.{◌≡◌, ℕ, ◌+◌, ◌==◌, ◌&&◌, Bool, true, false, take, drop, refl, subst, length, if◌then◌else◌, slice_get, Option, None, Some, Pid, pid_of, pid_eq, MsgId, id_eq, Label, Reply, Why, reply_eq, why_eq}
 use Rattle.dm_rule.proofs.Names.{PlainMessage, PlainWhat, BootImage, first_number, switchboard, manager, bind, PlainProcess, PlainStatus, Ready, Alive, OneKernel, with_process, with_sent, without_message, answer_to, plain_kind, bind-is}
-use Rattle.dm_rule.proofs.Names.{when-is, at_hand-is, Nexts, nexts, is_dropped, why_ended-is, Runs, Completing, completing, pending_of, MoveNote, Outcome, with_note, arith, nat_tests}
+use Rattle.dm_rule.proofs.Names.{when-is, at_hand-is, Nexts, nexts, is_dropped, why_ended-is, Runs, Completing, completing, pending_of, MoveNote, Outcome, with_note, arith, nat_tests, and_parts}
 use Rattle.dm_onekernel.specs.Kernel.{Ended}
 use Rattle.dm_onekernel.specs.Calls as calls
 use Rattle.dm_onekernel.specs.Manager as manage
@@ -11,7 +11,6 @@ use Rattle.dm_onekernel.specs.Service as service
 use Rattle.dm_onekernel.specs.Step as kernel
 use Rattle.dm_onekernel.specs.Switchboard as board
 use Rattle.dm_rule.proofs.Serving.{is_kill}
-use Rattle.dm_rule.proofs.Homes.Servers.{and-both}
 
 -- what a process does next
 pub record Next (s : OneKernel) (p : Pid) (next : kernel.Trap) : Type 0 where
@@ -137,7 +136,7 @@ takes_step : (P : OneKernel → Type 0) (s t : OneKernel) (id : MsgId) (m : Plai
 takes_step P s t id m c d h1 h2 h3 h4 h5 = search (arith, bind-is, given)
 
 creates_step : (P : OneKernel → Type 0) (s t : OneKernel) (id : MsgId) (m : PlainMessage) (child : Pid) (w : PlainWhat) → m.what ≡ w → Changes P s (Label.Created id child) → s.bag id ≡ Some m → service.creates s id m child w ≡ Some t → P t
-creates_step P s t id m child w h1 h2 h3 h4 = search (arith, bind-is, when-is, and-both)
+creates_step P s t id m child w h1 h2 h3 h4 = search (arith, bind-is, when-is, and_parts)
 
 no_room_step : (P : OneKernel → Type 0) (s t : OneKernel) (id : MsgId) (a b : ℕ) (m : PlainMessage) (w : PlainWhat) → m.what ≡ w → Changes P s (Label.NoSpace id a b) → s.bag id ≡ Some m → service.has_no_room s id m w ≡ Some t → P t
 no_room_step P s t id a b m w h1 h2 h3 h4 = search (arith, when-is)

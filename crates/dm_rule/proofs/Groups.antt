@@ -1,15 +1,16 @@
 -- What deliveries and ticks say keeps that each message stands once; and so does every group.
-use Rattle.dm_rule.proofs.Names.{◌≡◌, ℕ, zero, suc, ◌+◌, ◌-◌, ◌≤◌, ◌==◌, Bool, true, false, not, filter, List, [], ◌∷◌, ◌++◌, refl, ap, ◌∙◌, arith, length, ⊤, if◌then◌else◌, slice_get, Option, None, Some, nat_tests, MsgId, bind, OneKernel}
-use Rattle.dm_rule.proofs.Names.{Step, Line, Load, View, Pair, view_after, Point, label_of, kernel_after, moved, after_line, Part, Says, Transmits, Spelled, packet_line, spelled, Spot, Queue, Untaken, ids_at, standing, bind-is, Boot}
-use Rattle.dm_rule.proofs.Names.{group_of, IsValid, SentLoad, after_head, pair_window, first_point, Leads, StandsOnceAlways, start-sound, Pid, PlainMessage, migrates, StandsAsBag, StandsOutside, StandsRight}
-use Rattle.dm_rule.proofs.Lines.{Stands-stays, Stands-taken, pair_keeps, eq_is, eq_self}
+use Rattle.dm_rule.proofs.Names.{◌≡◌, ℕ, zero, suc, ◌+◌, ◌-◌, ◌==◌, Bool, true, false, not, filter, List, [], ◌∷◌, ◌++◌, refl, ap, ◌∙◌, arith, length, ⊤, if◌then◌else◌, slice_get, Option, None, Some, nat_tests, MsgId, bind, OneKernel, Step}
+use Rattle.dm_rule.proofs.Names.{Line, Load, View, Pair, view_after, Point, label_of, kernel_after, moved, after_line, Part, Says, Transmits, Spelled, packet_line, spelled, Spot, Queue, Untaken, ids_at, standing, bind-is, Boot, Child}
+use Rattle.dm_rule.proofs.Names.{group_of, IsValid, SentLoad, after_head, pair_window, first_point, Leads, StandsOnceAlways, start-sound, Pid, PlainMessage, migrates, StandsAsBag, StandsOutside, StandsRight, eqb-true, MessageKind}
+use Rattle.dm_rule.proofs.Lines.{Stands-stays, pair_keeps, eq_self, Bag, Stands, taken_by}
 use Rattle.dm_rule.proofs.States.{State, says_next, transmits_next, said, State-at, by_line, by_packet, PairsFit}
 use Rattle.dm_rule.proofs.Handled.{turns_row}
 use Rattle.dm_rule.proofs.Pairs.{Pairs-group, Pairs-start, pair_stands, pair_home, Pairs}
 use Rattle.dm_rule.proofs.Letters.{letters, letter_of}
-use Rattle.dm_rule.proofs.Moves.Rows.{migrates_row}
 use Rattle.dm_rule.specs.View as view
 use Rattle.dm_rule.specs.Rule as rule
+use Rattle.dm_rule.proofs.Requests.{by_migrates}
+use Rattle.dm_rule.proofs.Moves.Sent.{line_ends, owns_ends}
 
 -- lines of deliveries and ticks
 abbrev pub IsNetLine : Line → Type 0
@@ -30,10 +31,6 @@ abbrev pub IsNet : List Part → Type 0
 IsNet [] = ⊤
 IsNet (p ∷ ps) = IsNetPart p × IsNet ps
 
-taken_told : (v : View) (b : ℕ) (o : Option MsgId) (i : MsgId) → (view.taken_id v b o).told i ≡ v.told i
-taken_told v b None i = refl
-taken_told v b (Some j) i = refl
-
 pub early_off : (v : View) (a b n : ℕ) (z : Spot) → ids_at (view.after_early v a b n) z ≡ ids_at v z
 early_off v a b n (Untaken c d) = pair_keeps v.pair a b (record (v.pair a b) { kept = n ∷ filter (λ k. not (k == n)) (v.pair a b).kept }) refl c d
 early_off v a b n _ = refl
@@ -43,26 +40,22 @@ acked_off v a b n z = grind (arith, nat_tests, pair_keeps)
 
 net_line : (pt : Point) (l : Line) → IsNetLine l → State None pt → (s : OneKernel) → kernel_after pt.kernel (label_of l) ≡ Some s → State None (moved pt l s)
 net_line pt (Line.Taken a b n) is h s k =
-    let g : pt.kernel ≡ s = cc in
-    State-at None (moved pt (Line.Taken a b n) pt.kernel) (moved pt (Line.Taken a b n) s) (ap (moved pt (Line.Taken a b n)) g)
+    let Stands-taken : (bag : Bag) (v : View) (a b n : ℕ) → Stands bag v → Stands bag (view.after_taken v a b n) = λ bag v a b n h. taken_by bag v a b n (slice_get (v.pair a b).ids (v.pair a b).taken) refl h in
+    let taken_told : (v : View) (b : ℕ) (o : Option MsgId) (i : MsgId) → (view.taken_id v b o).told i ≡ v.told i = λ v b o i. elim o as (λ o_. (view.taken_id v b o_).told i ≡ v.told i) [ None ↦ refl | Some j' ↦ refl ] in
+    State-at None (moved pt (Line.Taken a b n) pt.kernel) (moved pt (Line.Taken a b n) s) (ap (moved pt (Line.Taken a b n)) (let g : pt.kernel ≡ s = cc in g))
     (by_line None pt (Line.Taken a b n) refl h (Stands-taken (letters h.own pt.kernel.bag) pt.view a b n h.stands) (λ i. taken_told (view.with_pair pt.view a b (record (pt.view.pair a b) { taken = (pt.view.pair a b).taken + 1; kept = filter (λ k. not (k == n)) (pt.view.pair a b).kept })) b (view.oldest (pt.view.pair a b)) i))
 net_line pt (Line.Old a b n) is h s k =
-    let g : pt.kernel ≡ s = cc in
-    State-at None (moved pt (Line.Old a b n) pt.kernel) (moved pt (Line.Old a b n) s) (ap (moved pt (Line.Old a b n)) g) (by_line None pt (Line.Old a b n) refl h h.stands (λ i. refl))
+    State-at None (moved pt (Line.Old a b n) pt.kernel) (moved pt (Line.Old a b n) s) (ap (moved pt (Line.Old a b n)) (let g : pt.kernel ≡ s = cc in g)) (by_line None pt (Line.Old a b n) refl h h.stands (λ i. refl))
 net_line pt (Line.Early a b n) is h s k =
-    let g : pt.kernel ≡ s = cc in
-    State-at None (moved pt (Line.Early a b n) pt.kernel) (moved pt (Line.Early a b n) s) (ap (moved pt (Line.Early a b n)) g)
+    State-at None (moved pt (Line.Early a b n) pt.kernel) (moved pt (Line.Early a b n) s) (ap (moved pt (Line.Early a b n)) (let g : pt.kernel ≡ s = cc in g))
     (by_line None pt (Line.Early a b n) refl h (Stands-stays (letters h.own pt.kernel.bag) pt.view (view_after pt.view (Line.Early a b n)) (λ z. early_off pt.view a b n z) (λ i. refl) h.stands) (λ i. refl))
 net_line pt (Line.Acked a b n) is h s k =
-    let g : pt.kernel ≡ s = cc in
-    State-at None (moved pt (Line.Acked a b n) pt.kernel) (moved pt (Line.Acked a b n) s) (ap (moved pt (Line.Acked a b n)) g)
+    State-at None (moved pt (Line.Acked a b n) pt.kernel) (moved pt (Line.Acked a b n) s) (ap (moved pt (Line.Acked a b n)) (let g : pt.kernel ≡ s = cc in g))
     (by_line None pt (Line.Acked a b n) refl h (Stands-stays (letters h.own pt.kernel.bag) pt.view (view_after pt.view (Line.Acked a b n)) (λ z. acked_off pt.view a b n z) (λ i. refl) h.stands) (λ i. refl))
 net_line pt Line.Nothing is h s k =
-    let g : pt.kernel ≡ s = cc in
-    State-at None (moved pt Line.Nothing pt.kernel) (moved pt Line.Nothing s) (ap (moved pt Line.Nothing) g) (by_line None pt Line.Nothing refl h h.stands (λ i. refl))
+    State-at None (moved pt Line.Nothing pt.kernel) (moved pt Line.Nothing s) (ap (moved pt Line.Nothing) (let g : pt.kernel ≡ s = cc in g)) (by_line None pt Line.Nothing refl h h.stands (λ i. refl))
 net_line pt (Line.Resent m n) is h s k =
-    let g : pt.kernel ≡ s = cc in
-    State-at None (moved pt (Line.Resent m n) pt.kernel) (moved pt (Line.Resent m n) s) (ap (moved pt (Line.Resent m n)) g) (by_line None pt (Line.Resent m n) refl h h.stands (λ i. refl))
+    State-at None (moved pt (Line.Resent m n) pt.kernel) (moved pt (Line.Resent m n) s) (ap (moved pt (Line.Resent m n)) (let g : pt.kernel ≡ s = cc in g)) (by_line None pt (Line.Resent m n) refl h h.stands (λ i. refl))
 net_line pt _ is h s k = absurd is
 
 net_row : (parts : List Part) (pt : Point) (w : Spelled) → IsNet parts → State None pt → spelled pt parts ≡ Some w → State None w.point
@@ -135,9 +128,8 @@ group_is b pt d w e =
     let (parts, is, more) = bind-is (rule.outcome b pt d) (λ parts. bind (after_line pt (Line.Head d)) (λ begun. bind (spelled begun parts) (λ w. Some (rule.behind (Line.Head d ∷ []) w)))) w e in
     let (start, head, last) = bind-is (after_line pt (Line.Head d)) (λ begun. bind (spelled begun parts) (λ w. Some (rule.behind (Line.Head d ∷ []) w))) w more in
     let (rest, told, end) = bind-is (spelled start parts) (λ w. Some (rule.behind (Line.Head d ∷ []) w)) w last in
-    let f : moved pt (Line.Head d) pt.kernel ≡ start = cc in
     let g : rule.behind (Line.Head d ∷ []) rest ≡ w = cc in
-    record { parts = parts; is = is; rest = rest; said = ap (λ p. spelled p parts) f ∙ told; point = ap (λ (x : Spelled). x.point) g; whole = g }
+    record { parts = parts; is = is; rest = rest; said = ap (λ p. spelled p parts) (let f : moved pt (Line.Head d) pt.kernel ≡ start = cc in f) ∙ told; point = ap (λ (x : Spelled). x.point) g; whole = g }
 
 -- every group keeps that each message stands once
 pub State-group : (b : Boot) (pt : Point) (d : Step) (w : Spelled) → group_of b pt d ≡ Some w → PairsFit pt.view → State None pt → State None w.point
@@ -156,15 +148,18 @@ State-group b pt (Step.Tick m) w e fits h =
 State-group b pt (Step.Deliver a c k) w e fits h =
     let g = group_is b pt (Step.Deliver a c k) w e in
     let parts = rule.arrives a c (pt.view.pair a c) (pt.view.pair c a) (slice_get (pt.view.pair a c).wire k) in
-    let f : parts ≡ g.parts = let t = g.is in cc in
     let start = moved pt (Line.Head (Step.Deliver a c k)) pt.kernel in
     State-at None g.rest.point w.point g.point
     (net_row parts start g.rest (arrives_net a c (pt.view.pair a c) (pt.view.pair c a) (slice_get (pt.view.pair a c).wire k))
-    (begun pt (Step.Deliver a c k) h (λ z. deliver_off pt.view a c k z) (λ i. refl)) (ap (spelled start) f ∙ g.said))
+    (begun pt (Step.Deliver a c k) h (λ z. deliver_off pt.view a c k z) (λ i. refl)) (ap (spelled start) (let f : parts ≡ g.parts = let t = g.is in cc in f) ∙ g.said))
 State-group b pt (Step.Migrate p m) w e fits h =
     let g = group_is b pt (Step.Migrate p m) w e in
     let f : migrates pt p ≡ g.parts = let k = g.is in cc in
     let start = moved pt (Line.Head (Step.Migrate p m)) pt.kernel in
+    -- the directive to migrate
+    let migrates_row : (o pt : Point) (p : Pid) (w : Spelled) → State None pt → PairsFit pt.view → spelled pt (migrates o p) ≡ Some w → State None w.point = λ o pt p w h fit.
+      by_migrates (λ (ps : List Part). spelled pt ps ≡ Some w → State None w.point) o p (λ e. line_ends pt (Line.Pinned p) w refl (by_line None pt (Line.Pinned p) refl h h.stands (λ j. refl)) e)
+      (λ e. line_ends pt (Line.NoChild p) w refl (by_line None pt (Line.NoChild p) refl h h.stands (λ j. refl)) e) (λ n off is e. owns_ends pt MessageKind.Migrate p (o.addresses (Child n)).at w (record { state = h; fits = fit }) e) in
     State-at None g.rest.point w.point g.point
     (migrates_row pt start p g.rest (begun pt (Step.Migrate p m) h (λ z. migrate_off pt.view p m z) (λ i. refl)) (record { within = fits.within; home = fits.home }) (ap (spelled start) f ∙ g.said))
 
@@ -192,24 +187,20 @@ State-start b valid = record {
   there = λ j k. cc;
 }
 
-fits_by : (v : View) → Pairs v → (a b : ℕ) (c : Bool) → (a == b) ≡ c → (v.pair a b).taken ≤ length (v.pair a b).ids
-fits_by v h1 a b c h2 = search (arith, eq_is, pair_home, eq_self, pair_stands)
-
 -- what the pairs of machines are says that all that was taken was routed
 pub fits : (v : View) → Pairs v → PairsFit v
-fits v h = record { within = λ a b. fits_by v h a b (a == b) refl; home = λ a. (pair_home v a h).taken }
+fits v h = record { within = λ a b. search (arith, eqb-true, pair_home, eq_self, pair_stands); home = λ a. (pair_home v a h).taken }
 
 run_keeps : (es : List Step) (b : Boot) (pt : Point) (end : Point) → Leads b pt es end → Pairs pt.view → State None pt → State None end
 run_keeps [] b pt end leads pairs h = State-at None pt end leads h
 run_keeps (d ∷ ds) b pt end (w, step_, group, more) pairs h =
     run_keeps ds b w.point end more (Pairs-group b pt d w step_ group pairs) (State-group b pt d w group (fits pt.view pairs) h)
 
--- a message of the bag is under way, one that isn't is a kernel's own or stands nowhere
-right_by : (i : MsgId) (own : Option Pid) (c : Bool) (f : Spot → ℕ) → StandsAsBag (if c then own else None) f → StandsOutside c f
-right_by i own c f h1 = search arith
-
 pub stands_right : (pt : Point) (i : MsgId) (h : State None pt) (o : Option PlainMessage) → pt.kernel.bag i ≡ o → StandsRight i o (standing pt.view i)
-stands_right pt i h o h1 = search (arith, right_by, letter_of)
+stands_right pt i h o h1 =
+    -- a message of the bag is under way, one that isn't is a kernel's own or stands nowhere
+    let right_by : (i : MsgId) (own : Option Pid) (c : Bool) (f : Spot → ℕ) → StandsAsBag (if c then own else None) f → StandsOutside c f = λ i own c f h1. search arith in
+    search (arith, right_by, letter_of)
 
 pub stands_once_always : StandsOnceAlways
 stands_once_always b es pt id valid leads = stands_right pt id (run_keeps es b (first_point b) pt leads (Pairs-start b) (State-start b valid)) (pt.kernel.bag id) refl

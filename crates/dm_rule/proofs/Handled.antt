@@ -17,7 +17,7 @@ use Rattle.dm_rule.specs.Rule as rule
 use Rattle.dm_rule.proofs.Bags.{served_id, landed_id, board_id, manager_id, took_id, id_in, bag_ran, bag_call, bag_sends, bag_wait, bag_out, bag_end, bag_receive, bag_refuse, bag_dropped, bag_served, bag_gone, bag_asked, bag_took}
 use Rattle.dm_rule.proofs.Bags.{bag_created, bag_no_space}
 use Rattle.dm_rule.proofs.States.{State, says_next, said, State-at, by_label, by_line, PairsFit}
-use Rattle.dm_rule.proofs.Turns.{served_keeps, serving_off, created_off, quiet_label, front_label, dropped_off, dropped_told, front_unqueued, all_dropped, ended_off, gone_out}
+use Rattle.dm_rule.proofs.Turns.{served_keeps, serving_off, created_off, quiet_label, front_label, dropped_told, front_unqueued, all_dropped, ended_off, gone_out, at_record_same, without_front_none}
 use Rattle.dm_rule.proofs.Letters.{letters, letter_of}
 use Rattle.dm_rule.proofs.Said.{fits_as, one_line, line_and_route}
 use Rattle.dm_rule.proofs.Moves.Rows.{held_row, forwards_row, hears_row, answers_row, SeesSame}
@@ -35,9 +35,7 @@ ends_row : (pt : Point) (p : Pid) (y : Why) (queue : List MsgId) (w : Spelled) �
 ends_row pt p y queue w h is e =
     let l = Label.End p y in
     let k = says_next pt (Line.Label l) (drop_parts queue) w e in
-    let next = moved pt (Line.Label l) k.s in
-    let there = quiet_label pt l k.s None h k.is (bag_end h.e pt.kernel k.s p y k.is) (λ z. ended_off pt.view p z) (λ i. refl) in
-    State-at None k.rest.point w.point k.point (all_dropped queue next p k.rest there is k.more)
+    State-at None k.rest.point w.point k.point (all_dropped queue (moved pt (Line.Label l) k.s) p k.rest (quiet_label pt l k.s None h k.is (bag_end h.e pt.kernel k.s p y k.is) (λ z. ended_off pt.view p z) (λ i. refl)) is k.more)
 
 -- what a call comes to
 called_row : (pt : Point) (p : Pid) (n : ℕ) (queue : List MsgId) (c : calls.Called) (w : Spelled) → State None pt → PairsFit pt.view → pt.view.queue pt.view.acting p ≡ queue → spelled pt (rule.called p n queue c) ≡ Some w → State None w.point
@@ -64,8 +62,7 @@ maybe_stops pt p queue false o w h fits is e = stops_row pt p queue o w h fits i
 executes_row : (pt : Point) (quantum : ℕ) (p : Pid) (queue : List MsgId) (x : PlainProcess) (r : rule.Ran) (w : Spelled) → State None pt → PairsFit pt.view → pt.view.queue pt.view.acting p ≡ queue → spelled pt (rule.executes quantum p queue x r) ≡ Some w → State None w.point
 executes_row pt quantum p queue x r w h fits is e =
     let l = Label.Ran p r.count in
-    let others = if r.count == quantum then [] else rule.stops p queue (kernel.next_row p (kernel.with_machine x r.machine) (instruction r.machine.regs r.machine.bytes)) in
-    let k = says_next pt (Line.Label l) others w e in
+    let k = says_next pt (Line.Label l) (if r.count == quantum then [] else rule.stops p queue (kernel.next_row p (kernel.with_machine x r.machine) (instruction r.machine.regs r.machine.bytes))) w e in
     let next = moved pt (Line.Label l) k.s in
     let there = quiet_label pt l k.s None h k.is (bag_ran h.e pt.kernel k.s p r.count k.is) (λ z. serving_off pt.view p z) (λ i. refl) in
     State-at None k.rest.point w.point k.point
@@ -73,8 +70,7 @@ executes_row pt quantum p queue x r w h fits is e =
 
 awaited_if : (s : OneKernel) (mask : ℕ) (i : MsgId) (is : List MsgId) (id : MsgId) (b : Bool) → (if b then Some i else rule.first_awaited s mask is) ≡ Some id → (rule.first_awaited s mask is ≡ Some id → 1 ≤ times id is) → 1 ≤ times id (i ∷ is)
 awaited_if s mask i is id true e later =
-    let f : i ≡ id = cc in
-    let one : one_of id i ≡ 1 = ap (one_of id) f ∙ ap (λ (c : Bool). if c then 1 else 0) (id_eq-same id) in omega (arith, one)
+    let one : one_of id i ≡ 1 = ap (one_of id) (let f : i ≡ id = cc in f) ∙ ap (λ (c : Bool). if c then 1 else 0) (id_eq-same id) in omega (arith, one)
 awaited_if s mask i is id false e later = let k = later e in omega (arith, k)
 
 -- the message that a waiting process takes stands in its queue
@@ -82,12 +78,10 @@ awaited_stands : (s : OneKernel) (mask : ℕ) (queue : List MsgId) (id : MsgId) 
 awaited_stands s mask [] id e = cc
 awaited_stands s mask (i ∷ is) id e = awaited_if s mask i is id (rule.is_awaited mask (s.bag i)) e (λ k. awaited_stands s mask is id k)
 
-received_off : (v : View) (p : Pid) (rest : List MsgId) (z : Spot) → ids_at (record (view.serving v p) { queue = at_record v.queue v.acting p rest }) z ≡ ids_at (record v { queue = at_record v.queue v.acting p rest }) z
-received_off v p rest (Queue m q) = refl
-received_off v p rest _ = refl
-
 completes_row : (pt : Point) (p : Pid) (id : MsgId) (c : receiving.Completed) (w : Spelled) → State None pt → 1 ≤ times id (pt.view.queue pt.view.acting p) → spelled pt (rule.completion_parts p id c) ≡ Some w → State None w.point
 completes_row pt p id (receiving.Receives x) w h there e =
+    let received_off : (v : View) (p : Pid) (rest : List MsgId) (z : Spot) → ids_at (record (view.serving v p) { queue = at_record v.queue v.acting p rest }) z ≡ ids_at (record v { queue = at_record v.queue v.acting p rest }) z =
+      λ v p rest z. elim z as (λ z_. ids_at (record (view.serving v p) { queue = at_record v.queue v.acting p rest }) z_ ≡ ids_at (record v { queue = at_record v.queue v.acting p rest }) z_) [ Queue m' q' ↦ refl | _ ↦ refl ] in
     one_line pt (Line.Label (Label.Receive p id)) w e
     (λ s k. by_label pt (Label.Receive p id) s (Some id) None h k (gone_out pt (Label.Receive p id) s id h k refl) (bag_receive h.e pt.kernel s p id k)
     (Stands-dequeued (letters h.own pt.kernel.bag) pt.view (view_after pt.view (Line.Label (Label.Receive p id))) id p (without_id id (pt.view.queue pt.view.acting p)) (λ j. without_counts j id (pt.view.queue pt.view.acting p) there)
@@ -100,8 +94,7 @@ receives_row pt p x mask None parts w h first is e = cc
 receives_row pt p x mask (Some id) parts w h first is e =
     let (m, there, rest) = bind-is (pt.kernel.bag id) (λ m. bind (receiving.completes_with p x m) (λ c. Some (rule.completion_parts p id c))) parts is in
     let (c, done, last) = bind-is (receiving.completes_with p x m) (λ c. Some (rule.completion_parts p id c)) parts rest in
-    let f : rule.completion_parts p id c ≡ parts = cc in
-    completes_row pt p id c w h (awaited_stands pt.kernel mask (pt.view.queue pt.view.acting p) id first) (ap (spelled pt) f ∙ e)
+    completes_row pt p id c w h (awaited_stands pt.kernel mask (pt.view.queue pt.view.acting p) id first) (ap (spelled pt) (let f : rule.completion_parts p id c ≡ parts = cc in f) ∙ e)
 
 serves_row : (pt : Point) (quantum : ℕ) (p : Pid) (x : PlainProcess) (st : PlainStatus) (parts : List Part) (w : Spelled) → State None pt → PairsFit pt.view → rule.serves_status quantum pt.kernel p (pt.view.queue pt.view.acting p) x st ≡ Some parts → spelled pt parts ≡ Some w → State None w.point
 serves_row pt quantum p x Ready parts w h fits is e =
@@ -131,12 +124,13 @@ asks_row pt m i is msg to w h fits front there what e =
     let l = Label.Asked i in
     let k = says_next pt (Line.Label l) (if m == to then answers_move i Outcome.Done else leaves_for msg.to to) w e in
     let next = moved pt (Line.Label l) k.s in
-    let asked = asked_state pt i is k.s h front k.is in
-    let topic : next.view.topic ≡ Target to = ap machine_in there ∙ ap move_target what in
-    State-at None k.rest.point w.point k.point (asked_by next i msg.to to (m == to) k.rest asked (fits_as pt.view next.view refl fits) topic k.more)
+    State-at None k.rest.point w.point k.point (asked_by next i msg.to to (m == to) k.rest (asked_state pt i is k.s h front k.is) (fits_as pt.view next.view refl fits) (ap machine_in there ∙ ap move_target what) k.more)
 
 dropped_row : (pt : Point) (i : MsgId) (is : List MsgId) (w : Spelled) → State None pt → pt.view.inbox pt.view.acting ≡ i ∷ is → spelled pt (says (Label.Dropped i) ∷ []) ≡ Some w → State None w.point
 dropped_row pt i is w h front e =
+    -- a message that stands in the inbox is at the front of no queue
+    let dropped_off : (v : View) (i : MsgId) (o : Option Pid) → ((m : ℕ) (p : Pid) → times i (v.queue m p) ≡ 0) → (z : Spot) → ids_at (view.dropped_for (handled v i) i o) z ≡ ids_at (handled v i) z =
+      λ v i o h1 z. search (arith, at_record_same, without_front_none) in
     one_line pt (Line.Label (Label.Dropped i)) w e
     (λ s k. front_label pt (Label.Dropped i) s i is None h front k refl (bag_dropped h.e pt.kernel s i k) (λ z. dropped_off pt.view i (receiver_of (pt.view.told i)) (front_unqueued pt i is h front) z) (λ j. dropped_told pt.view i (receiver_of (pt.view.told i)) j))
 
@@ -162,8 +156,7 @@ served_put : (pt : Point) (i : MsgId) (m : PlainMessage) (x : PlainProcess) (s :
 served_put pt i m x s h there alive k =
     let q = bag_served h.r h.e pt.kernel s i k h.sound in
     let same : q.m ≡ m = let t = q.there in let u : Some q.m ≡ Some m = sym t ∙ there in cc in
-    let was : kernel.alive (pt.kernel.processes m.to) ≡ Some q.x = ap (λ (y : PlainMessage). kernel.alive (pt.kernel.processes y.to)) (sym same) ∙ ap kernel.alive q.alive in
-    let also : q.x ≡ x = let u : Some q.x ≡ Some x = sym was ∙ alive in cc in
+    let also : q.x ≡ x = let u : Some q.x ≡ Some x = sym (ap (λ (y : PlainMessage). kernel.alive (pt.kernel.processes y.to)) (sym same) ∙ ap kernel.alive q.alive) ∙ alive in cc in
     subst (λ y. BagStep h.e pt.kernel s (Some i) (served_id i m y m.what)) also (subst (λ (n : PlainMessage). BagStep h.e pt.kernel s (Some i) (served_id i n q.x n.what)) same q.is)
 
 served_alone : (pt : Point) (i : MsgId) (is : List MsgId) (m : PlainMessage) (x : PlainProcess) (w : Spelled) (h : State None pt) → pt.view.inbox pt.view.acting ≡ i ∷ is → pt.kernel.bag i ≡ Some m → kernel.alive (pt.kernel.processes m.to) ≡ Some x
@@ -181,11 +174,9 @@ lands_row : (pt : Point) (i : MsgId) (is : List MsgId) (m : PlainMessage) (x : P
     → served_id i m x m.what ≡ landed_id o → rule.landing_parts i o ≡ Some parts → spelled pt parts ≡ Some w → State None w.point
 lands_row pt i is m x None parts w h fits front there alive put e k = cc
 lands_row pt i is m x (Some (pieces.Next request y)) parts w h fits front there alive put e k =
-    let f : says (Label.Served i) ∷ Routes request.id ∷ [] ≡ parts = cc in
-    served_routes pt i is m x request.id w h fits front there alive put (ap (spelled pt) f ∙ k)
+    served_routes pt i is m x request.id w h fits front there alive put (ap (spelled pt) (let f : says (Label.Served i) ∷ Routes request.id ∷ [] ≡ parts = cc in f) ∙ k)
 lands_row pt i is m x (Some (pieces.Done reply y)) parts w h fits front there alive put e k =
-    let f : says (Label.Served i) ∷ [] ≡ parts = cc in
-    served_alone pt i is m x w h front there alive put (ap (spelled pt) f ∙ k)
+    served_alone pt i is m x w h front there alive put (ap (spelled pt) (let f : says (Label.Served i) ∷ [] ≡ parts = cc in f) ∙ k)
 
 killed_row : (pt : Point) (i : MsgId) (is : List MsgId) (m : PlainMessage) (x : PlainProcess) (w : Spelled) (h : State None pt) → pt.view.inbox pt.view.acting ≡ i ∷ is → pt.kernel.bag i ≡ Some m → kernel.alive (pt.kernel.processes m.to) ≡ Some x
     → served_id i m x m.what ≡ None → spelled pt (says (Label.Served i) ∷ drop_parts (pt.view.queue pt.view.acting m.to)) ≡ Some w → State None w.point
@@ -195,19 +186,14 @@ killed_row pt i is m x w h front there alive none e =
     let next = moved pt (Line.Label l) k.s in
     let keeps = served_keeps (handled pt.view i) (pt.view.told i) in
     let there_ = served_label pt i is None k.s h front k.is (subst (BagStep h.e pt.kernel k.s (Some i)) none (served_put pt i m x k.s h there alive k.is)) in
-    let queue : next.view.queue next.view.acting m.to ≡ pt.view.queue pt.view.acting m.to = ap (λ a. next.view.queue a m.to) keeps.3 ∙ ap (λ f. f pt.view.acting m.to) keeps.4 in
-    State-at None k.rest.point w.point k.point (all_dropped (pt.view.queue pt.view.acting m.to) next m.to k.rest there_ queue k.more)
-
-queued_told : (v : View) (i : MsgId) (o : Option Pid) (j : MsgId) → (view.queued_for (handled v i) i o).told j ≡ v.told j
-queued_told v i None j = refl
-queued_told v i (Some p) j = refl
+    State-at None k.rest.point w.point k.point (all_dropped (pt.view.queue pt.view.acting m.to) next m.to k.rest there_ (ap (λ a. next.view.queue a m.to) keeps.3 ∙ ap (λ f. f pt.view.acting m.to) keeps.4) k.more)
 
 queued_row : (pt : Point) (i : MsgId) (is : List MsgId) (m : PlainMessage) (w : Spelled) → State None pt → pt.view.inbox pt.view.acting ≡ i ∷ is → pt.kernel.bag i ≡ Some m → spelled pt (Says (Line.Queued i) ∷ []) ≡ Some w → State None w.point
 queued_row pt i is m w h front there e =
     one_line pt (Line.Queued i) w e (λ s k.
-    let same : pt.kernel ≡ s = cc in
-    State-at None (moved pt (Line.Queued i) pt.kernel) (moved pt (Line.Queued i) s) (ap (moved pt (Line.Queued i)) same)
-    (by_line None pt (Line.Queued i) refl h (Stands-queued (letters h.own pt.kernel.bag) pt.view (view_after pt.view (Line.Queued i)) i is m.to front (letter_of h.r h.e h.own pt.kernel i m there h.sound) refl h.stands) (λ j. queued_told pt.view i (receiver_of (pt.view.told i)) j)))
+    State-at None (moved pt (Line.Queued i) pt.kernel) (moved pt (Line.Queued i) s) (ap (moved pt (Line.Queued i)) (let same : pt.kernel ≡ s = cc in same))
+    (by_line None pt (Line.Queued i) refl h (Stands-queued (letters h.own pt.kernel.bag) pt.view (view_after pt.view (Line.Queued i)) i is m.to front (letter_of h.r h.e h.own pt.kernel i m there h.sound) refl h.stands) (λ j.
+    (elim (receiver_of (pt.view.told i)) as (λ o_. (view.queued_for (handled pt.view i) i o_).told j ≡ pt.view.told j) [ None ↦ refl | Some p' ↦ refl ]))))
 
 -- a message for a process that is here, by its kind; the rule saw the point before the head, which has the same kernel and queues
 here_row : (o pt : Point) (m : ℕ) (i : MsgId) (is : List MsgId) (msg : PlainMessage) (x : PlainProcess) (k : PlainWhat) (parts : List Part) (w : Spelled) (h : State None pt) → PairsFit pt.view → pt.view.inbox pt.view.acting ≡ i ∷ is → pt.kernel.bag i ≡ Some msg
@@ -245,8 +231,7 @@ process_row o pt m i is msg view.Here parts w h fits front there same queue e n 
     let (x, alive, rest) = bind-is (kernel.alive (o.kernel.processes msg.to)) (λ x. rule.here_handles o m i msg x msg.what) parts e in
     here_row o pt m i is msg x msg.what parts w h fits front there (ap (λ (s : OneKernel). kernel.alive (s.processes msg.to)) (sym same) ∙ alive) refl queue rest n
 process_row o pt m i is msg (view.Forward at moves) parts w h fits front there same queue e n =
-    let f : forwards_on o.addresses i (plain_kind msg.what) msg.sender at ≡ parts = cc in
-    forwards_row pt o.addresses i is (plain_kind msg.what) msg.sender at w h fits front (ap (spelled pt) f ∙ n)
+    forwards_row pt o.addresses i is (plain_kind msg.what) msg.sender at w h fits front (ap (spelled pt) (let f : forwards_on o.addresses i (plain_kind msg.what) msg.sender at ≡ parts = cc in f) ∙ n)
 process_row o pt m i is msg view.Ended parts w h fits front there same queue e n = ended_row pt i is msg.what parts w h fits front e n
 process_row o pt m i is msg _ parts w h fits front there same queue e n = let f : Says (Line.Held i) ∷ [] ≡ parts = cc in held_row pt i is w h front (ap (spelled pt) f ∙ n)
 
@@ -322,8 +307,7 @@ comes_row : (b : Boot) (o pt : Point) (m : ℕ) (i : MsgId) (is : List MsgId) (t
 comes_row b o pt m i is None parts w h fits topic front sees there e n =
     hears_row b o pt m i is (o.view.told i) parts w h fits topic front (ap (λ (s : OneKernel). s.bag i) (sym sees.kernel) ∙ there) sees e n
 comes_row b o pt m i is (Some msg) parts w h fits topic front sees there e n =
-    let here : pt.kernel.bag i ≡ Some msg = ap (λ (s : OneKernel). s.bag i) (sym sees.kernel) ∙ there in
-    handles_by b o pt m i is msg (msg.to.num == 0) (pid_eq msg.to switchboard) (pid_eq msg.to manager) parts w h fits front here sees.kernel (sees.queue msg.to) refl refl e n
+    handles_by b o pt m i is msg (msg.to.num == 0) (pid_eq msg.to switchboard) (pid_eq msg.to manager) parts w h fits front (ap (λ (s : OneKernel). s.bag i) (sym sees.kernel) ∙ there) sees.kernel (sees.queue msg.to) refl refl e n
 
 pub turns_row : (b : Boot) (o pt : Point) (m : ℕ) (inbox : List MsgId) (parts : List Part) (w : Spelled) (h : State None pt) → PairsFit pt.view → pt.view.topic ≡ NothingElse → pt.view.inbox pt.view.acting ≡ inbox → SeesSame o pt m
     → rule.turns b o m inbox ≡ Some parts → spelled pt parts ≡ Some w → State None w.point

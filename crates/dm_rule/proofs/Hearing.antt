@@ -48,7 +48,7 @@ pub record Heard (P : List Part → Type 0) (o : Point) (m : ℕ) (id : MsgId) (
   pub stays_here : At o m t Here → P (Says (Line.Here id) ∷ [])
   pub frozen : (to : ℕ) → At o m t Here → P (leaves_for t.receiver to)
 
-given : (P : List Part → Type 0) (qs ps : List Part) → P qs → Some qs ≡ Some ps → P ps
+pub given : (P : List Part → Type 0) (qs ps : List Part) → P qs → Some qs ≡ Some ps → P ps
 given P qs ps h e = let k : qs ≡ ps = cc in subst P k h
 
 -- whoever asked for a move is told how it ended, if somebody asked

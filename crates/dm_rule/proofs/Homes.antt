@@ -14,7 +14,7 @@ pub mod Lines
 pub mod Parts
 pub mod Groups
 pub mod Turns
-use Rattle.dm_rule.proofs.Names.{◌≡◌, ℕ, true, refl, ap, ◌∙◌, sym, subst, slice_get, Option, None, Some, Pid, Place, PlainLink, link_at, MsgId, PlainMessage, PlainProcess, NamedLink, Pending, MoveNote, OneKernel, links_in, to_of, sender_of}
+use Rattle.dm_rule.proofs.Names.{◌≡◌, ℕ, true, refl, ap, sym, subst, slice_get, Option, None, Some, Pid, Place, PlainLink, link_at, MsgId, PlainMessage, PlainProcess, NamedLink, Pending, MoveNote, OneKernel, links_in, to_of, sender_of}
 use Rattle.dm_rule.proofs.Names.{enclosed_of, names, ascends, Addresses, Holder, Slot, Owner, Receiver, Sender, Enclosed, Child, Name, Answer, AskedBy, unmoved, link_target, slot_of, owner_in, owner_of, name_link, answer_link, asker_in}
 use Rattle.dm_rule.proofs.Names.{arith}
 use Rattle.dm_onekernel.specs.Manager as manage

@@ -29,11 +29,8 @@ not_counted s i z h =
 pub kernels_fresh : (r e : MsgId → ℕ) (s : OneKernel) (i : MsgId) → Sound r e s → is_kernels i ≡ true → e i ≡ 0
 kernels_fresh r e s i h k = unentered r e s i h.entered (not_counted s i (from_kernel i k) h.made)
 
-not_by : (r e : MsgId → ℕ) (s : OneKernel) (i : MsgId) (x : PlainMessage) (b : Bool) → is_kernels i ≡ b → s.bag i ≡ Some x → Sound r e s → b ≡ false
-not_by r e s i x b h1 h2 h3 = grind (arith, nat_tests, kernels_fresh)
-
 pub not_kernels : (r e : MsgId → ℕ) (s : OneKernel) (i : MsgId) (x : PlainMessage) → s.bag i ≡ Some x → Sound r e s → is_kernels i ≡ false
-not_kernels r e s i x is h = not_by r e s i x (is_kernels i) refl is h
+not_kernels r e s i x is h = grind (arith, nat_tests, kernels_fresh)
 
 -- a message of the bag is under way to its receiver
 pub letter_of : (r e : MsgId → ℕ) (own : Bag) (s : OneKernel) (i : MsgId) (x : PlainMessage) → s.bag i ≡ Some x → Sound r e s → letters own s.bag i ≡ Some x.to

@@ -1,10 +1,11 @@
 -- What each kind of line does to the lists that messages stand in.
 use Rattle.dm_rule.proofs.Names.{◌≡◌, ◌≢◌, ℕ, ◌+◌, ◌≤◌, ◌==◌, ◌&&◌, Bool, true, false, zero, suc, not, filter, List, [], ◌∷◌, ◌++◌, refl, ap, ◌∙◌, sym, subst, arith, length, inl, inr, if◌then◌else◌, drop, slice_get, Option, None, Some}
 use Rattle.dm_rule.proofs.Names.{cases_Bool, false≢true, drop-append-le, length-append, drop-length, nat_tests, Pid, pid_eq, MsgId, MessageKind, id_eq, at_machine, at_pair, at_id, at_record, without_id, without_front, View, Pair, Told}
-use Rattle.dm_rule.proofs.Names.{handled, receiver_of, Spot, Queue, Inbox, Untaken, times, untaken, ids_at, standing, StandsAsBag, pid_eq-is, pid_eq-same, id_eq-is, id_eq-same}
+use Rattle.dm_rule.proofs.Names.{handled, receiver_of, Spot, Queue, Inbox, Untaken, times, untaken, ids_at, standing, StandsAsBag, pid_eq-is, pid_eq-same, id_eq-is, id_eq-same, and_parts, eqb-true, false_from_ne_true}
 use Rattle.dm_rule.specs.View as view
 use Rattle.dm_rule.proofs.Standing.{times-append}
 use Rattle.dm_rule.proofs.Once.{Kept, SameBut, one_of, once_stays, once_comes, once_goes, once_moves}
+pub use Rattle.std.proofs.lemmas.Bool.{and_parts as parts, eqb-true as eq_is, false_from_ne_true as not_true}
 
 -- the messages that are under way, and whom they are for
 abbrev pub Bag : Type 0
@@ -48,21 +49,11 @@ eq_self m = grind (arith, nat_tests)
 pub at_record_at : {X : Type 0} (f : ℕ → Pid → X) (m : ℕ) (p : Pid) (x : X) → at_record f m p x m p ≡ x
 at_record_at f m p x = ap (λ (c : Bool). if c && pid_eq p p then x else f m p) (eq_self m) ∙ ap (λ (c : Bool). if c then x else f m p) (pid_eq-same p)
 
-pub eq_is : (m n : ℕ) → (m == n) ≡ true → m ≡ n
-eq_is m n e = grind (arith, nat_tests)
-
-pub not_true : (b : Bool) → (b ≡ true → ⊥) → b ≡ false
-not_true true h = absurd (h refl)
-not_true false h = refl
-
 pub inbox_apart : (m n : ℕ) → Inbox n ≢ Inbox m → (m == n) ≡ false
-inbox_apart m n apart = not_true (m == n) (λ e. apart (ap Inbox (sym (eq_is m n e))))
-
-pub parts : (a b : Bool) → (a && b) ≡ true → (a ≡ true) × (b ≡ true)
-parts a b h1 = grind (arith, nat_tests)
+inbox_apart m n apart = false_from_ne_true (m == n) (λ e. apart (ap Inbox (sym (eqb-true m n e))))
 
 pub queue_apart : (m n : ℕ) (p q : Pid) → Queue n q ≢ Queue m p → ((m == n) && pid_eq p q) ≡ false
-queue_apart m n p q apart = not_true ((m == n) && pid_eq p q) (λ e. let k = parts (m == n) (pid_eq p q) e in apart (ap (λ x. Queue x q) (sym (eq_is m n k.0)) ∙ ap (Queue m) (sym (pid_eq-is p q k.1))))
+queue_apart m n p q apart = false_from_ne_true ((m == n) && pid_eq p q) (λ e. let k = and_parts (m == n) (pid_eq p q) e in apart (ap (λ x. Queue x q) (sym (eqb-true m n k.0)) ∙ ap (Queue m) (sym (pid_eq-is p q k.1))))
 
 -- the front of the acting machine's inbox goes
 pub front_goes : (v : View) (i : MsgId) (is : List MsgId) → v.inbox v.acting ≡ i ∷ is → without_front i (v.inbox v.acting) ≡ is
@@ -101,18 +92,11 @@ Stands-handled bag v w i is front same told h =
       mine = λ m p j x least k. h.mine m p j x least (hidden_some bag i j x k);
     })
 
-abbrev is_inbox : Spot → Bool
+abbrev pub is_inbox : Spot → Bool
 is_inbox (Inbox m) = true
 is_inbox _ = false
 
 -- a message goes from the front of the inbox to the back of its receiver's queue
-
-queued_is : (v : View) (i : MsgId) (p : Pid) (o : Option Pid) → o ≡ Some p → view.queued_for (handled v i) i o ≡ record (handled v i) { queue = at_record v.queue v.acting p (v.queue v.acting p ++ i ∷ []) }
-queued_is v i p o h1 = search arith
-
-queued_off : (v : View) (i : MsgId) (p : Pid) (z : Spot) → z ≢ Inbox v.acting → z ≢ Queue v.acting p
-    → ids_at (record (handled v i) { queue = at_record v.queue v.acting p (v.queue v.acting p ++ i ∷ []) }) z ≡ ids_at v z
-queued_off v i p z h1 h2 = search (arith, at_record_off, queue_apart, at_machine_off, inbox_apart)
 
 pub spots_differ : (m n : ℕ) (p : Pid) → Inbox m ≢ Queue n p
 spots_differ m n p e = let k : true ≡ false = ap is_inbox e in false≢true (sym k)
@@ -120,17 +104,19 @@ spots_differ m n p e = let k : true ≡ false = ap is_inbox e in false≢true (s
 pub one_more : (j i : MsgId) (xs : List MsgId) → times j (xs ++ i ∷ []) ≡ times j xs + one_of j i
 one_more j i xs = let a = times-append j xs (i ∷ []) in let b : times j (i ∷ []) ≡ one_of j i + 0 = refl in omega (arith, a, b)
 
--- whom a queue's messages are for, once one more stands there
-queue_mine : (bag : Bag) (v : View) (i : MsgId) (x : Pid) (p : Pid) → bag i ≡ Some x → x ≡ p → Stands bag v → (m : ℕ) (q : Pid) (j : MsgId) (y : Pid)
-    → 1 ≤ times j (at_record v.queue v.acting p (v.queue v.acting p ++ i ∷ []) m q) → bag j ≡ Some y → y ≡ q
-queue_mine bag v i x p there to h m q j y least is = search (arith, parts, pid_eq-is, one_more, id_eq-is, at_record_off)
-
 pub Stands-queued : (bag : Bag) (v w : View) (i : MsgId) (is : List MsgId) (x : Pid) → v.inbox v.acting ≡ i ∷ is → bag i ≡ Some x → w ≡ view.queued_for (handled v i) i (receiver_of (v.told i))
     → Stands bag v → Stands bag w
 Stands-queued bag v w i is x front there is_w h =
+    -- whom a queue's messages are for, once one more stands there
+    let queue_mine : (bag : Bag) (v : View) (i : MsgId) (x : Pid) (p : Pid) → bag i ≡ Some x → x ≡ p → Stands bag v → (m : ℕ) (q : Pid) (j : MsgId) (y : Pid)
+      → 1 ≤ times j (at_record v.queue v.acting p (v.queue v.acting p ++ i ∷ []) m q) → bag j ≡ Some y → y ≡ q =
+      λ bag v i x p there to h m q j y least is. search (arith, and_parts, pid_eq-is, one_more, id_eq-is, at_record_off) in
+    let queued_off : (v : View) (i : MsgId) (p : Pid) (z : Spot) → z ≢ Inbox v.acting → z ≢ Queue v.acting p
+      → ids_at (record (handled v i) { queue = at_record v.queue v.acting p (v.queue v.acting p ++ i ∷ []) }) z ≡ ids_at v z =
+      λ v i p z h1 h2. search (arith, at_record_off, queue_apart, at_machine_off, inbox_apart) in
     let told : receiver_of (v.told i) ≡ Some x = h.told i x there in
     let u = record (handled v i) { queue = at_record v.queue v.acting x (v.queue v.acting x ++ i ∷ []) } in
-    let e : u ≡ w = sym (queued_is v i x (receiver_of (v.told i)) told) ∙ sym is_w in
+    let e : u ≡ w = sym (let e_ : view.queued_for (handled v i) i (receiver_of (v.told i)) ≡ record (handled v i) { queue = at_record v.queue v.acting x (v.queue v.acting x ++ i ∷ []) } = search arith in e_) ∙ sym is_w in
     subst (Stands bag) e
     (record {
       kept = once_moves v u bag bag i (Inbox v.acting) (Queue v.acting x) (spots_differ v.acting v.acting x) (λ j. refl) (λ j. handled_at v i is j front)
@@ -145,19 +131,11 @@ without_counts j i [] least = absurd (omega arith)
 without_counts j i (y ∷ ys) least = elim (cases_Bool (id_eq i y)) [
   | inl same ↦
       let is : i ≡ y = id_eq-is i y same in
-      let now : without_id i (y ∷ ys) ≡ ys = ap (λ (c : Bool). if c then ys else y ∷ without_id i ys) same in
-      let a : times j (without_id i (y ∷ ys)) ≡ times j ys = ap (times j) now in
-      let b : one_of j i ≡ one_of j y = ap (one_of j) is in omega (arith, a, b)
+      let b : one_of j i ≡ one_of j y = ap (one_of j) is in omega (arith, (let a : times j (without_id i (y ∷ ys)) ≡ times j ys = ap (times j) (ap (λ (c : Bool). if c then ys else y ∷ without_id i ys) same) in a), b)
   | inr apart ↦
-      let now : without_id i (y ∷ ys) ≡ y ∷ without_id i ys = ap (λ (c : Bool). if c then ys else y ∷ without_id i ys) apart in
-      let a : times j (without_id i (y ∷ ys)) ≡ times j (y ∷ without_id i ys) = ap (times j) now in
-      let none : one_of i y ≡ 0 = ap (λ (c : Bool). if c then 1 else 0) apart in
-      let deeper : 1 ≤ times i ys = omega (arith, least, none) in
-      let k = without_counts j i ys deeper in omega (arith, a, k)
+      let deeper : 1 ≤ times i ys = omega (arith, least, (let none : one_of i y ≡ 0 = ap (λ (c : Bool). if c then 1 else 0) apart in none)) in
+      let k = without_counts j i ys deeper in omega (arith, (let a : times j (without_id i (y ∷ ys)) ≡ times j (y ∷ without_id i ys) = ap (times j) (ap (λ (c : Bool). if c then ys else y ∷ without_id i ys) apart) in a), k)
 ]
-
-pub front_counts : (j i : MsgId) (xs ys : List MsgId) → xs ≡ i ∷ ys → times j xs ≡ times j (without_front i xs) + one_of j i
-front_counts j i xs ys e = search (arith, id_eq-same)
 
 queue_off : (v : View) (p : Pid) (rest : List MsgId) (z : Spot) → z ≢ Queue v.acting p → ids_at (record v { queue = at_record v.queue v.acting p rest }) z ≡ ids_at v z
 queue_off v p rest (Queue m q) a = at_record_off v.queue v.acting m p q rest (queue_apart v.acting m p q a)
@@ -174,11 +152,9 @@ Stands-dequeued bag v w i p rest counts same told h =
       told = λ j x k. h.told j x (hidden_some bag i j x k);
       mine = λ m q j x least k. h.mine m q j x (elim (cases_Bool ((v.acting == m) && pid_eq p q)) [
         | inl same ↦
-            let both_ = parts (v.acting == m) (pid_eq p q) same in
-            let now : times j (at_record v.queue v.acting p rest m q) ≡ times j rest = ap (times j) (ap (λ (c : Bool). if c then rest else v.queue m q) same) in
-            let c = counts j in
-            let was : 1 ≤ times j (v.queue v.acting p) = omega (arith, least, now, c) in
-            subst (λ x. 1 ≤ times j (v.queue m x)) (pid_eq-is p q both_.1) (subst (λ x. 1 ≤ times j (v.queue x p)) (eq_is v.acting m both_.0) was)
+            let both_ = and_parts (v.acting == m) (pid_eq p q) same in
+            let was : 1 ≤ times j (v.queue v.acting p) = omega (arith, least, ap (times j) (ap (λ (c : Bool). if c then rest else v.queue m q) same), counts j) in
+            subst (λ x. 1 ≤ times j (v.queue m x)) (pid_eq-is p q both_.1) (subst (λ x. 1 ≤ times j (v.queue x p)) (eqb-true v.acting m both_.0) was)
         | inr apart ↦ subst (λ n. 1 ≤ n) (ap (times j) (at_record_off v.queue v.acting m p q rest apart)) least
       ]) (hidden_some bag i j x k);
     })
@@ -202,14 +178,14 @@ pub pair_at : {X : Type 0} (f : ℕ → ℕ → X) (a b : ℕ) (x : X) → at_pa
 pair_at f a b x = ap (λ (t : Bool). if t && (b == b) then x else f a b) (eq_self a) ∙ ap (λ (t : Bool). if t then x else f a b) (eq_self b)
 
 pub untaken_apart : (a b c d : ℕ) → Untaken c d ≢ Untaken a b → ((a == c) && (b == d)) ≡ false
-untaken_apart a b c d apart = not_true ((a == c) && (b == d)) (λ e. let k = parts (a == c) (b == d) e in apart (ap (λ x. Untaken x d) (sym (eq_is a c k.0)) ∙ ap (Untaken a) (sym (eq_is b d k.1))))
+untaken_apart a b c d apart = false_from_ne_true ((a == c) && (b == d)) (λ e. let k = and_parts (a == c) (b == d) e in apart (ap (λ x. Untaken x d) (sym (eqb-true a c k.0)) ∙ ap (Untaken a) (sym (eqb-true b d k.1))))
 
 -- a pair that is set to one with the same untaken messages
 pub pair_keeps : (f : ℕ → ℕ → Pair) (a b : ℕ) (p : Pair) → untaken p ≡ untaken (f a b) → (c d : ℕ) → untaken (at_pair f a b p c d) ≡ untaken (f c d)
 pair_keeps f a b p same c d = elim (cases_Bool ((a == c) && (b == d))) [
   | inl here ↦
-      let k = parts (a == c) (b == d) here in
-      ap untaken (ap (λ (t : Bool). if t then p else f c d) here) ∙ same ∙ ap (λ x. untaken (f x b)) (eq_is a c k.0) ∙ ap (λ x. untaken (f c x)) (eq_is b d k.1)
+      let k = and_parts (a == c) (b == d) here in
+      ap untaken (ap (λ (t : Bool). if t then p else f c d) here) ∙ same ∙ ap (λ x. untaken (f x b)) (eqb-true a c k.0) ∙ ap (λ x. untaken (f c x)) (eqb-true b d k.1)
   | inr apart ↦ ap untaken (pair_off f a b c d p apart)
 ]
 
@@ -225,9 +201,8 @@ comes_told : (bag : Bag) (v w : View) (i : MsgId) (x : Pid) → ((j : MsgId) →
     → (j : MsgId) (y : Pid) → having i x bag j ≡ Some y → receiver_of (w.told j) ≡ Some y
 comes_told bag v w i x others mine h j y is = elim (cases_Bool (id_eq i j)) [
   | inl same ↦
-      let e : i ≡ j = id_eq-is i j same in
       let k : Some x ≡ Some y = sym (ap (λ (c : Bool). if c then Some x else bag j) same) ∙ is in
-      let xy : x ≡ y = cc in sym (ap (λ t. receiver_of (w.told t)) e) ∙ mine ∙ ap (λ (t : Pid). Some t) xy
+      let xy : x ≡ y = cc in sym (ap (λ t. receiver_of (w.told t)) (id_eq-is i j same)) ∙ mine ∙ ap (λ (t : Pid). Some t) xy
   | inr apart ↦ ap receiver_of (others j apart) ∙ h.told j y (sym (having_off i x bag j apart) ∙ is)
 ]
 
@@ -263,38 +238,21 @@ untold_tells (Some u) t e = cc
 told_off : (v : View) (i j : MsgId) (t : Option Told) → id_eq i j ≡ false → at_id v.told i t j ≡ v.told j
 told_off v i j t e = ap (λ (c : Bool). if c then t else v.told j) e
 
-put_home_untaken : (m : ℕ) (p : Pair) (i : MsgId) → p.taken ≡ length p.ids → untaken (view.routed_on m m p i) ≡ untaken p
-put_home_untaken m p i full =
-    let home : (m == m) ≡ true = eq_self m in
-    let taken : (view.routed_on m m p i).taken ≡ length p.ids + 1 = ap (λ (c : Bool). if c then p.taken + 1 else p.taken) home ∙ ap (λ n. n + 1) full in
-    let long : length (p.ids ++ i ∷ []) ≡ length p.ids + 1 = length-append p.ids (i ∷ []) in
-    let gone : drop (length p.ids + 1) (p.ids ++ i ∷ []) ≡ [] = subst (λ n. drop n (p.ids ++ i ∷ []) ≡ []) long (drop-length (p.ids ++ i ∷ [])) in
-    let was : drop p.taken p.ids ≡ [] = ap (λ n. drop n p.ids) full ∙ drop-length p.ids in
-    ap (λ n. drop n (p.ids ++ i ∷ [])) taken ∙ gone ∙ sym was
-
-put_home_off : (v : View) (m : ℕ) (i : MsgId) (k : MessageKind) (q : Pid) (z : Spot) → z ≢ Inbox m → (view.after_put v m m i k q).inbox ≡ at_machine v.inbox m (v.inbox m ++ i ∷ [])
-    → untaken (view.routed_on m m (v.pair m m) i) ≡ untaken (v.pair m m) → ids_at (view.after_put v m m i k q) z ≡ ids_at v z
-put_home_off v m i k q z h1 h2 h3 = grind (arith, nat_tests, at_machine_off, inbox_apart, pair_keeps)
-
-put_away_untaken : (a b : ℕ) (p : Pair) (i : MsgId) → (a == b) ≡ false → p.taken ≤ length p.ids → untaken (view.routed_on a b p i) ≡ untaken p ++ i ∷ []
-put_away_untaken a b p i apart within =
-    let taken : (view.routed_on a b p i).taken ≡ p.taken = ap (λ (c : Bool). if c then p.taken + 1 else p.taken) apart in
-    ap (λ n. drop n (p.ids ++ i ∷ [])) taken ∙ drop-append-le p.taken p.ids (i ∷ []) within
-
-put_away_off : (v : View) (a b : ℕ) (i : MsgId) (k : MessageKind) (q : Pid) (z : Spot) → z ≢ Untaken a b → (view.after_put v a b i k q).inbox ≡ v.inbox → ids_at (view.after_put v a b i k q) z ≡ ids_at v z
-put_away_off v a b i k q z h1 h2 = search (arith, pair_off, untaken_apart)
-
 pub Stands-put-home : (bag : Bag) (v : View) (m : ℕ) (i : MsgId) (k : MessageKind) (x : Pid) → bag i ≡ None → (view.first_told (v.told i) (record { kind = k; receiver = x; about = v.topic })).receiver ≡ x → (v.pair m m).taken ≡ length (v.pair m m).ids
     → Stands bag v → Stands (having i x bag) (view.after_put v m m i k x)
 Stands-put-home bag v m i k x none untold full h =
+    let put_home_off : (v : View) (m : ℕ) (i : MsgId) (k : MessageKind) (q : Pid) (z : Spot) → z ≢ Inbox m → (view.after_put v m m i k q).inbox ≡ at_machine v.inbox m (v.inbox m ++ i ∷ [])
+      → untaken (view.routed_on m m (v.pair m m) i) ≡ untaken (v.pair m m) → ids_at (view.after_put v m m i k q) z ≡ ids_at v z =
+      λ v m i k q z h1 h2 h3. grind (arith, nat_tests, at_machine_off, inbox_apart, pair_keeps) in
     let w = view.after_put v m m i k x in
     let t : Told = record { kind = k; receiver = x; about = v.topic } in
-    let home : (m == m) ≡ true = eq_self m in
-    let inbox : w.inbox ≡ at_machine v.inbox m (v.inbox m ++ i ∷ []) = ap (λ (c : Bool). if c then at_machine v.inbox m (v.inbox m ++ i ∷ []) else v.inbox) home in
-    let pair_same : untaken (view.routed_on m m (v.pair m m) i) ≡ untaken (v.pair m m) = put_home_untaken m (v.pair m m) i full in
+    let inbox : w.inbox ≡ at_machine v.inbox m (v.inbox m ++ i ∷ []) = ap (λ (c : Bool). if c then at_machine v.inbox m (v.inbox m ++ i ∷ []) else v.inbox) (eq_self m) in
+    let put_home_untaken : (m : ℕ) (p : Pair) (i : MsgId) → p.taken ≡ length p.ids → untaken (view.routed_on m m p i) ≡ untaken p = λ m p i full.
+      let taken : (view.routed_on m m p i).taken ≡ length p.ids + 1 = ap (λ (c : Bool). if c then p.taken + 1 else p.taken) (eq_self m) ∙ ap (λ n. n + 1) full in
+      ap (λ n. drop n (p.ids ++ i ∷ [])) taken ∙ subst (λ n. drop n (p.ids ++ i ∷ []) ≡ []) (length-append p.ids (i ∷ [])) (drop-length (p.ids ++ i ∷ [])) ∙ sym (ap (λ n. drop n p.ids) full ∙ drop-length p.ids) in
     Stands-comes bag v w i x (Inbox m) none
     (λ j. ap (times j) (ap (λ f. f m) inbox ∙ at_machine_at v.inbox m (v.inbox m ++ i ∷ [])) ∙ one_more j i (v.inbox m))
-    (λ z apart. put_home_off v m i k x z apart inbox pair_same) (λ n p. refl) (λ j apart. told_off v i j (Some (view.first_told (v.told i) t)) apart) (told_at v i t x untold) h
+    (λ z apart. put_home_off v m i k x z apart inbox (put_home_untaken m (v.pair m m) i full)) (λ n p. refl) (λ j apart. told_off v i j (Some (view.first_told (v.told i) t)) apart) (told_at v i t x untold) h
 
 pub Stands-put-away : (bag : Bag) (v : View) (a b : ℕ) (i : MsgId) (k : MessageKind) (x : Pid) → (a == b) ≡ false → bag i ≡ None → (view.first_told (v.told i) (record { kind = k; receiver = x; about = v.topic })).receiver ≡ x → (v.pair a b).taken ≤ length (v.pair a b).ids
     → Stands bag v → Stands (having i x bag) (view.after_put v a b i k x)
@@ -302,33 +260,30 @@ Stands-put-away bag v a b i k x apart none untold within h =
     let w = view.after_put v a b i k x in
     let t : Told = record { kind = k; receiver = x; about = v.topic } in
     let inbox : w.inbox ≡ v.inbox = ap (λ (c : Bool). if c then at_machine v.inbox b (v.inbox b ++ i ∷ []) else v.inbox) apart in
-    let more : untaken (view.routed_on a b (v.pair a b) i) ≡ untaken (v.pair a b) ++ i ∷ [] = put_away_untaken a b (v.pair a b) i apart within in
+    let put_away_untaken : (a b : ℕ) (p : Pair) (i : MsgId) → (a == b) ≡ false → p.taken ≤ length p.ids → untaken (view.routed_on a b p i) ≡ untaken p ++ i ∷ [] = λ a b p i apart within.
+      ap (λ n. drop n (p.ids ++ i ∷ [])) (ap (λ (c : Bool). if c then p.taken + 1 else p.taken) apart) ∙ drop-append-le p.taken p.ids (i ∷ []) within in
     Stands-comes bag v w i x (Untaken a b) none
-    (λ j. ap (times j) (ap untaken (pair_at v.pair a b (view.routed_on a b (v.pair a b) i)) ∙ more) ∙ one_more j i (untaken (v.pair a b)))
-    (λ z off. put_away_off v a b i k x z off inbox) (λ n p. refl) (λ j other. told_off v i j (Some (view.first_told (v.told i) t)) other) (told_at v i t x untold) h
+    (λ j. ap (times j) (ap untaken (pair_at v.pair a b (view.routed_on a b (v.pair a b) i)) ∙ put_away_untaken a b (v.pair a b) i apart within) ∙ one_more j i (untaken (v.pair a b)))
+    (λ z off. (let e_ : ids_at (view.after_put v a b i k x) z ≡ ids_at v z = search (arith, pair_off, untaken_apart) in e_)) (λ n p. refl) (λ j other. told_off v i j (Some (view.first_told (v.told i) t)) other) (told_at v i t x untold) h
 
 -- a message is taken: the oldest that wasn't goes to the inbox, or there is none
-abbrev taken_pair : Pair → ℕ → Pair
+abbrev pub taken_pair : Pair → ℕ → Pair
 taken_pair p n = record p { taken = p.taken + 1; kept = filter (λ k. not (k == n)) p.kept }
 
-taken_spots : (a b : ℕ) → Untaken a b ≢ Inbox b
-taken_spots a b e = false≢true (ap is_inbox e)
-
-taken_off : (v : View) (a b n : ℕ) (i : MsgId) (z : Spot) → z ≢ Untaken a b → z ≢ Inbox b → ids_at (record (view.with_pair v a b (taken_pair (v.pair a b) n)) { inbox = at_machine v.inbox b (v.inbox b ++ i ∷ []) }) z ≡ ids_at v z
-taken_off v a b n i z h1 h2 = search (arith, at_machine_off, inbox_apart, pair_off, untaken_apart)
-
-taken_by : (bag : Bag) (v : View) (a b n : ℕ) (o : Option MsgId) → slice_get (v.pair a b).ids (v.pair a b).taken ≡ o → Stands bag v → Stands bag (view.taken_id (view.with_pair v a b (taken_pair (v.pair a b) n)) b o)
+pub taken_by : (bag : Bag) (v : View) (a b n : ℕ) (o : Option MsgId) → slice_get (v.pair a b).ids (v.pair a b).taken ≡ o → Stands bag v → Stands bag (view.taken_id (view.with_pair v a b (taken_pair (v.pair a b) n)) b o)
 taken_by bag v a b n None is h =
     let k = past_place (v.pair a b).ids (v.pair a b).taken is in
     let next : (v.pair a b).taken + 1 ≡ suc (v.pair a b).taken = omega arith in
-    let same : untaken (taken_pair (v.pair a b) n) ≡ untaken (v.pair a b) = ap (λ m. drop m (v.pair a b).ids) next ∙ k.1 ∙ sym k.0 in
     Stands-stays bag v (view.with_pair v a b (taken_pair (v.pair a b) n)) (λ z. elim z as (λ z_. ids_at (view.with_pair v a b (taken_pair (v.pair a b) n)) z_ ≡ ids_at v z_)
-    [ Untaken c d ↦ pair_keeps v.pair a b (taken_pair (v.pair a b) n) same c d | _ ↦ refl ]) (λ j. refl) h
+    [ Untaken c d ↦ pair_keeps v.pair a b (taken_pair (v.pair a b) n) (ap (λ m. drop m (v.pair a b).ids) next ∙ k.1 ∙ sym k.0) c d | _ ↦ refl ]) (λ j. refl) h
 taken_by bag v a b n (Some i) is h =
+    let taken_off : (v : View) (a b n : ℕ) (i : MsgId) (z : Spot) → z ≢ Untaken a b → z ≢ Inbox b → ids_at (record (view.with_pair v a b (taken_pair (v.pair a b) n)) { inbox = at_machine v.inbox b (v.inbox b ++ i ∷ []) }) z ≡ ids_at v z =
+      λ v a b n i z h1 h2. search (arith, at_machine_off, inbox_apart, pair_off, untaken_apart) in
     let u = record (view.with_pair v a b (taken_pair (v.pair a b) n)) { inbox = at_machine v.inbox b (v.inbox b ++ i ∷ []) } in
     let next : (v.pair a b).taken + 1 ≡ suc (v.pair a b).taken = omega arith in
     let front : untaken (v.pair a b) ≡ i ∷ drop (suc (v.pair a b).taken) (v.pair a b).ids = at_place (v.pair a b).ids (v.pair a b).taken i is in
     let now : ids_at u (Untaken a b) ≡ drop (suc (v.pair a b).taken) (v.pair a b).ids = ap untaken (pair_at v.pair a b (taken_pair (v.pair a b) n)) ∙ ap (λ m. drop m (v.pair a b).ids) next in
+    let taken_spots : (a b : ℕ) → Untaken a b ≢ Inbox b = λ a b e. false≢true (ap is_inbox e) in
     record {
       kept = once_moves v u bag bag i (Untaken a b) (Inbox b) (taken_spots a b) (λ j. refl)
           (λ j. let x : times j (untaken (v.pair a b)) ≡ times j (i ∷ drop (suc (v.pair a b).taken) (v.pair a b).ids) = ap (times j) front in let y : times j (ids_at u (Untaken a b)) ≡ times j (drop (suc (v.pair a b).taken) (v.pair a b).ids) = ap (times j) now in omega (arith, x, y))
@@ -336,6 +291,3 @@ taken_by bag v a b n (Some i) is h =
       told = h.told;
       mine = h.mine;
     }
-
-pub Stands-taken : (bag : Bag) (v : View) (a b n : ℕ) → Stands bag v → Stands bag (view.after_taken v a b n)
-Stands-taken bag v a b n h = taken_by bag v a b n (slice_get (v.pair a b).ids (v.pair a b).taken) refl h

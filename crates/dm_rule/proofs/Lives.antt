@@ -1,7 +1,6 @@
 -- Nothing is known of a process that was never made.
-use Rattle.dm_rule.proofs.Names.{◌≡◌, ℕ, ◌≤◌, ap, ◌∙◌, sym, Option, None, Some, Pid, PlainProcess, Life, OneKernel, at_record, View, Known, Unknown, Here, pid_eq-is, LifeGrows, arith}
+use Rattle.dm_rule.proofs.Names.{◌≡◌, ℕ, ◌≤◌, ap, ◌∙◌, sym, Option, None, Some, Pid, PlainProcess, Life, OneKernel, at_record, View, Known, Unknown, Here, pid_eq-is, LifeGrows, arith, and_parts}
 use Rattle.dm_onekernel.specs.Step as kernel
-use Rattle.dm_rule.proofs.Lines.{parts}
 
 -- processes are numbered from 3; the servers are none
 pub record Lives (s : OneKernel) (v : View) : Type 0 where
@@ -30,5 +29,5 @@ lives_same s t v w kept known h = record { none = λ p is le n. ap (λ (f : ℕ 
 
 pub lives_learn : (s t : OneKernel) (v w : View) (p : Pid) (k : Known) → Kept s t → w.known ≡ at_record v.known v.acting p k → (t.processes p ≡ None → 3 ≤ p.num → k ≡ Unknown) → Lives s v → Lives t w
 lives_learn s t v w p k kept known new h = record {
-  none = λ q is le n. ap (λ (f : ℕ → Pid → Known). f n q) known ∙ (search (arith, pid_eq-is, parts));
+  none = λ q is le n. ap (λ (f : ℕ → Pid → Known). f n q) known ∙ (search (arith, pid_eq-is, and_parts));
 }

@@ -1,6 +1,6 @@
 -- What the proofs of this crate name of what lies below it.
-pub use Rattle.std.proofs.Common.{eq-eqb, eqb-true, lit<, ◌||◌}
-pub use Rattle.std.proofs.lemmas.Bool.{cases_eq, or_cases, or_left, or_right}
+pub use Rattle.std.proofs.Common.{lit<}
+pub use Rattle.std.proofs.lemmas.Bool.{and_parts, cases_eq, eq-eqb, eqb-true, false_from_ne_true, lt-ltb, ne_eqb, not-true, or_cases, or_left, or_right}
 pub use Rattle.std.proofs.lemmas.List.{length-append}
 pub use Rattle.std.proofs.lemmas.Option.{slice_get_cases, slice_get_within}
 pub use Rattle.std.specs.List.{cons_option}
@@ -37,11 +37,11 @@ pub use Rattle.dm_laws.proofs.Equal.{id_eq-is, id_eq-same, id_eq-swap, pid_eq-is
 pub use Rattle.dm_laws.proofs.Grown.{LifeGrows}
 pub use Rattle.dm_laws.proofs.Movers.{sent_at, sent_off, stayed}
 pub use Rattle.dm_laws.proofs.Names.{Alive, Boot, BootImage, BootProcess, CallNumber, Called, Direction, Ends, IsValid, Label, Life, Manager, MoveNote, Moving, MsgId, None, OneKernel, Option, Outcome, Outputs, Pending, PendingKind}
-pub use Rattle.dm_laws.proofs.Names.{PlainLink, PlainMessage, PlainProcess, PlainStatus, PlainWhat, Ready, Replies, Reply, Sends, Some, Waiting, Waits, Why, answer_id, answer_to, begun, bind, cases_Bool, code_of_outcome, direction_numbered}
-pub use Rattle.dm_laws.proofs.Names.{entry, false≢true, first_failed, first_life, first_number, id_eq, id_of, in_bag, inl, inr, is_some, life_at, manager, nat_le, option_map, pid_of, plain_link, processes_are_valid, reception, reg, start}
-pub use Rattle.dm_laws.proofs.Names.{starting_at, switchboard, when, with_note, with_process, with_sent, without_message, without_note, ⊤, ◌⊎◌}
+pub use Rattle.dm_laws.proofs.Names.{PlainLink, PlainMessage, PlainProcess, PlainStatus, PlainWhat, Ready, Replies, Reply, Sends, Some, Waiting, Waits, Why, and_right, answer_id, answer_to, begun, bind, cases_Bool, code_of_outcome}
+pub use Rattle.dm_laws.proofs.Names.{cond_some, direction_numbered, entry, false≢true, first_failed, first_life, first_number, fun_ext, id_eq, id_of, in_bag, inl, inr, is_some, life_at, manager, nat_le, option_map, or_parts, pid_of}
+pub use Rattle.dm_laws.proofs.Names.{plain_link, processes_are_valid, reception, reg, start, starting_at, switchboard, when, with_note, with_process, with_sent, without_message, without_note, ⊤, ◌||◌, ◌⊎◌}
 pub use Rattle.dm_laws.proofs.Runs.{after_step, start-sound}
-pub use Rattle.dm_laws.proofs.Servers.{ServerSends, board_takes_lem, ends_move-is, manager_takes_lem, why_ended-is}
+pub use Rattle.dm_laws.proofs.Servers.{ServerSends, board_takes_lem, ends_move-is, manager_takes_lem, next_is_new, why_ended-is}
 pub use Rattle.dm_laws.proofs.Services.{LandsSo, lands-is}
 pub use Rattle.dm_laws.proofs.Sound.{Sound, counts_process, not_server}
 pub use Rattle.dm_laws.proofs.Steps.{Completing, Nexts, Runs, alive-is, at_hand-is, bind-is, completing, nexts, when-is}
@@ -70,8 +70,8 @@ pub use Rattle.dm_rule.specs.Phases.{token_in, told_between}
 pub use Rattle.dm_rule.specs.Point.{Point, after, after_line, first_point, kernel_after, label_of, machine_in, move_target, moved, seen, topic_by}
 pub use Rattle.dm_rule.specs.Quiet.{IsQuiet, has_mail, is_quiet, pair_is_quiet}
 pub use Rattle.dm_rule.specs.Rule.{Room, arrives, board_took, called, comes, comes_to, creation_parts, drop_parts, ended_handles, executes, first_awaited, first_runnable, fits, free_room, goes_round, group_of, has, has_room, hears}
-pub use Rattle.dm_rule.specs.Rule.{here_handles, kept_from, kernel_handles, kernel_hears, less, let_go, manager_parts, more, numbers_from, outcome, outstanding_count, process_handles, ran, reception_parts, repeats, resends, routes, says}
-pub use Rattle.dm_rule.specs.Rule.{serves_status, stops, takes_on, taking_parts, turns}
+pub use Rattle.dm_rule.specs.Rule.{here_handles, kept_from, kernel_handles, kernel_hears, less, let_go, manager_parts, more, numbers_from, outcome, outstanding_count, process_handles, ran, repeats, resends, routes, says, serves_status}
+pub use Rattle.dm_rule.specs.Rule.{stops, takes_on, taking_parts, turns}
 pub use Rattle.dm_rule.specs.Spots.{Held, Inbox, Queue, Spot, StandsAsBag, StandsNowhere, StandsOnce, StandsOutside, StandsRight, Untaken, ids_at, standing, times, untaken}
 pub use Rattle.dm_rule.specs.Tells.{TellsRight}
 pub use Rattle.dm_rule.specs.Trails.{AddressesOn, IsOn, LeadsAlong, OwnOn, StoodOnTrail, Trail, Trailed, Trails, TrailsAlways, Trodden, along, destination, first_trails, first_trodden, leads, leads_on, trails_after}

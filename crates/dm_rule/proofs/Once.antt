@@ -20,15 +20,6 @@ one_of-off i id e = let h : id_eq i id ≡ false = id_eq-swap i id ∙ e in grin
 pub one_of-same : (id : MsgId) → one_of id id ≡ 1
 one_of-same id = let h : id_eq id id ≡ true = id_eq-same id in grind (arith, nat_tests)
 
-some_once : (m : Option Pid) (pm : Pid) (f : Spot → ℕ) → m ≡ Some pm → StandsOnce f → StandsAsBag m f
-some_once m pm f e h = subst (λ (n : Option Pid). StandsAsBag n f) (sym e) h
-
-none_nowhere : (m : Option Pid) (f : Spot → ℕ) → m ≡ None → StandsNowhere f → StandsAsBag m f
-none_nowhere m f e h = subst (λ (n : Option Pid). StandsAsBag n f) (sym e) h
-
-nowhere : (m : Option Pid) (f : Spot → ℕ) → m ≡ None → StandsAsBag m f → StandsNowhere f
-nowhere m f e h = subst (λ (n : Option Pid). StandsAsBag n f) e h
-
 pub once_stays : (v v' : View) (bag bag' : MsgId → Option Pid) → ((i : MsgId) → bag' i ≡ bag i) → ((z : Spot) → ids_at v' z ≡ ids_at v z) → Kept bag v → Kept bag' v'
 once_stays v v' bag bag' same off kept i =
     subst (λ (m : Option Pid). StandsAsBag m (standing v' i)) (sym (same i)) (StandsAsBag-same (bag i) (standing v i) (standing v' i) (λ z. ap (times i) (off z)) (kept i))
@@ -39,10 +30,11 @@ pub once_comes : (v v' : View) (bag bag' : MsgId → Option Pid) (id : MsgId) (y
     → ((z : Spot) → z ≢ y → ids_at v' z ≡ ids_at v z) → Kept bag v → Kept bag' v'
 once_comes v v' bag bag' id y pm fresh new same at_y off kept i = elim (cases_Bool (id_eq id i)) [
   | inl is ↦
+      let some_once : (m : Option Pid) (pm : Pid) (f : Spot → ℕ) → m ≡ Some pm → StandsOnce f → StandsAsBag m f = λ m pm f e h. subst (λ (n : Option Pid). StandsAsBag n f) (sym e) h in
       subst (λ (j : MsgId). StandsAsBag (bag' j) (standing v' j)) (id_eq-is id i is)
       (some_once (bag' id) pm (standing v' id) new
       (comes (standing v id) (standing v' id) y (at_y id ∙ ap (λ (n : ℕ). standing v id y + n) (one_of-same id)) (λ z apart. ap (times id) (off z apart))
-      (nowhere (bag id) (standing v id) fresh (kept id))))
+      (subst (λ (n : Option Pid). StandsAsBag n (standing v id)) fresh (kept id))))
   | inr apart ↦
       subst (λ (m : Option Pid). StandsAsBag m (standing v' i)) (sym (same i apart))
       (StandsAsBag-same (bag i) (standing v i) (standing v' i) (λ z. (search (arith, spot_cases, one_of-off))) (kept i))
@@ -54,6 +46,7 @@ pub once_goes : (v v' : View) (bag bag' : MsgId → Option Pid) (id : MsgId) (x 
     → ((z : Spot) → z ≢ x → ids_at v' z ≡ ids_at v z) → Kept bag v → Kept bag' v'
 once_goes v v' bag bag' id x gone same at_x off kept i = elim (cases_Bool (id_eq id i)) [
   | inl is ↦
+      let none_nowhere : (m : Option Pid) (f : Spot → ℕ) → m ≡ None → StandsNowhere f → StandsAsBag m f = λ m f e h. subst (λ (n : Option Pid). StandsAsBag n f) (sym e) h in
       subst (λ (j : MsgId). StandsAsBag (bag' j) (standing v' j)) (id_eq-is id i is)
       (none_nowhere (bag' id) (standing v' id) gone
       (let e : standing v id x ≡ standing v' id x + 1 = at_x id ∙ ap (λ (n : ℕ). standing v' id x + n) (one_of-same id) in
@@ -72,10 +65,9 @@ pub once_moves : (v v' : View) (bag bag' : MsgId → Option Pid) (id : MsgId) (x
 once_moves v v' bag bag' id x y ne same at_x at_y off kept i = subst (λ (m : Option Pid). StandsAsBag m (standing v' i)) (sym (same i)) (elim (cases_Bool (id_eq id i)) [
   | inl is ↦
       let e : standing v id x ≡ standing v' id x + 1 = at_x id ∙ ap (λ (n : ℕ). standing v' id x + n) (one_of-same id) in
-      let d : standing v' id y ≡ standing v id y + 1 = at_y id ∙ ap (λ (n : ℕ). standing v id y + n) (one_of-same id) in
       subst (λ (j : MsgId). StandsAsBag (bag j) (standing v' j)) (id_eq-is id i is)
       (once_as (bag id) (standing v id) (standing v' id) x (omega (arith, e)) (kept id)
-      (moves (standing v id) (standing v' id) x y ne e d (λ z other apart. ap (times id) (off z other apart))))
+      (moves (standing v id) (standing v' id) x y ne e (at_y id ∙ ap (λ (n : ℕ). standing v id y + n) (one_of-same id)) (λ z other apart. ap (times id) (off z other apart))))
   | inr apart ↦
       StandsAsBag-same (bag i) (standing v i) (standing v' i) (λ z. (search (arith, spot_cases, one_of-off))) (kept i)
 ])

@@ -3,6 +3,7 @@ use Rattle.dm_rule.proofs.Names.{◌≡◌, ℕ, List, [], ◌∷◌, refl, subs
 use Rattle.dm_rule.proofs.Names.{moved, group_of, arith}
 use Rattle.dm_rule.proofs.Groups.{IsNetLine, IsNet, arrives_net, resends_net, group_is}
 use Rattle.dm_rule.specs.Rule as rule
+use Rattle.dm_rule.proofs.Hearing.{given}
 
 -- what deliveries and repeats say and transmit, part by part
 pub by_net : (P : List Part → Type 0) → P [] → ((l : Line) (ps : List Part) → IsNetLine l → P ps → P (Says l ∷ ps)) → ((a b : ℕ) (l : Load) (ps : List Part) → P ps → P (Transmits a b l ∷ ps)) → (ps : List Part) → IsNet ps → P ps
@@ -19,9 +20,6 @@ pub record Outcomes (P : Step → List Part → Type 0) (b : Boot) (o : Point) :
   pub ticks : (m : ℕ) (ps : List Part) → IsNet ps → P (Step.Tick m) ps
   pub delivers : (a c k : ℕ) (ps : List Part) → IsNet ps → P (Step.Deliver a c k) ps
   pub asks : (p : Pid) (m : ℕ) → P (Step.Migrate p m) (migrates o p)
-
-given : (P : List Part → Type 0) (qs ps : List Part) → P qs → Some qs ≡ Some ps → P ps
-given P qs ps h e = let k : qs ≡ ps = cc in subst P k h
 
 by_front : (P : Step → List Part → Type 0) (b : Boot) (o : Point) (m : ℕ) (i : MsgId) (is : List MsgId) (q : Option PlainMessage) (ps : List Part) → o.view.inbox m ≡ i ∷ is → o.kernel.bag i ≡ q → Outcomes P b o → rule.comes_to b o m i q ≡ Some ps → P (Step.Turn m) ps
 by_front P b o m i is None ps box there h e = h.hears m i is ps box there e

@@ -1,7 +1,6 @@
 -- What the ring of a machine lists is here.
 use Rattle.dm_rule.proofs.Names.{◌≡◌, ℕ, ◌==◌, ◌&&◌, Bool, true, false, not, List, [], ◌∷◌, ◌++◌, refl, ap, ◌∙◌, sym, subst, ⊤, if◌then◌else◌, false≢true, Pid, pid_eq, at_machine, at_record, without, moved_back, View, Known, Here}
-use Rattle.dm_rule.proofs.Names.{pid_eq-is, pid_eq-same, arith}
-use Rattle.dm_rule.proofs.Lines.{eq_is}
+use Rattle.dm_rule.proofs.Names.{pid_eq-is, pid_eq-same, arith, eqb-true}
 
 abbrev pub AllHere : (Pid → Known) → List Pid → Type 0
 AllHere f [] = ⊤
@@ -50,7 +49,7 @@ ring_if f false x y h k = k refl
 
 -- what one machine knows
 known_if : (v : View) (p : Pid) (k : Known) (m : ℕ) (xs : List Pid) (c : Bool) → (v.acting == m) ≡ c → (c ≡ true → AllHere (learnt (v.known v.acting) p k) xs) → (c ≡ false → AllHere (v.known m) xs) → AllHere (λ q. if c && pid_eq p q then k else v.known m q) xs
-known_if v p k m xs true e h off = subst (λ (n : ℕ). AllHere (learnt (v.known n) p k) xs) (eq_is v.acting m e) (h refl)
+known_if v p k m xs true e h off = subst (λ (n : ℕ). AllHere (learnt (v.known n) p k) xs) (eqb-true v.acting m e) (h refl)
 known_if v p k m xs false e h off = off refl
 
 pub rings_same : (v w : View) → w.known ≡ v.known → w.ring ≡ v.ring → Rings v → Rings w
@@ -61,7 +60,7 @@ rings_same v w known ring h = record {
 pub rings_ring : (v w : View) (ring : List Pid) → w.known ≡ v.known → w.ring ≡ at_machine v.ring v.acting ring → AllHere (v.known v.acting) ring → Rings v → Rings w
 rings_ring v w ring known is here h = record {
   each = λ m. subst (λ (f : ℕ → Pid → Known). AllHere (f m) (w.ring m)) (sym known) (subst (λ (r : ℕ → List Pid). AllHere (v.known m) (r m)) (sym is)
-      (ring_if (v.known m) (v.acting == m) ring (v.ring m) (λ same. subst (λ (n : ℕ). AllHere (v.known n) ring) (eq_is v.acting m same) here) (λ off. h.each m)));
+      (ring_if (v.known m) (v.acting == m) ring (v.ring m) (λ same. subst (λ (n : ℕ). AllHere (v.known n) ring) (eqb-true v.acting m same) here) (λ off. h.each m)));
 }
 
 pub rings_learn : (v w : View) (p : Pid) (k : Known) (ring : List Pid) → w.known ≡ at_record v.known v.acting p k → w.ring ≡ at_machine v.ring v.acting ring → AllHere (learnt (v.known v.acting) p k) ring → Rings v → Rings w
@@ -76,6 +75,6 @@ pub rings_known : (v w : View) (p : Pid) (k : Known) → w.known ≡ at_record v
 rings_known v w p k known is keeps h = record {
   each = λ m. subst (λ (f : ℕ → Pid → Known). AllHere (f m) (w.ring m)) (sym known) (subst (λ (r : ℕ → List Pid). AllHere (at_record v.known v.acting p k m) (r m)) (sym is)
       (known_if v p k m (v.ring m) (v.acting == m) refl
-      (λ same. subst (λ (n : ℕ). AllHere (learnt (v.known v.acting) p k) (v.ring n)) (eq_is v.acting m same) (all_learnt (v.known v.acting) p k (v.ring v.acting) keeps (h.each v.acting)))
+      (λ same. subst (λ (n : ℕ). AllHere (learnt (v.known v.acting) p k) (v.ring n)) (eqb-true v.acting m same) (all_learnt (v.known v.acting) p k (v.ring v.acting) keeps (h.each v.acting)))
       (λ off. h.each m)));
 }

@@ -4,11 +4,8 @@ use Rattle.dm_rule.proofs.Names.{IsUnasked, option_and_then, slice_get, arith}
 use Rattle.dm_rule.proofs.Lines.{Bag, Stands, Stands-stays}
 use Rattle.dm_rule.specs.View as view
 
-topic_is : (s : OneKernel) (a : About) (o : Option Label) → IsUnasked o → topic_by s a o ≡ a
-topic_is s a o h1 = search arith
-
 pub seen_is : (s : OneKernel) (v : View) (l : Line) → IsUnasked (label_of l) → seen s v l ≡ view_after v l
-seen_is s v l h = ap (view.about (view_after v l)) (topic_is s (view_after v l).topic (label_of l) h)
+seen_is s v l h = ap (view.about (view_after v l)) (let e_ : topic_by s (view_after v l).topic (label_of l) ≡ (view_after v l).topic = search arith in e_)
 
 -- so it is behind a line that is no step
 pub seen_none : (s : OneKernel) (v : View) (l : Line) → label_of l ≡ None → seen s v l ≡ view_after v l

@@ -1,14 +1,15 @@
 -- A turn that serves a process, or handles a message of the bag: what comes of it, row by row. Whatever holds of the parts of each row holds of what comes of the turn.
-use Rattle.dm_rule.proofs.Names.{◌≡◌, ℕ, ◌+◌, ◌==◌, ◌||◌, Bool, true, false, List, [], ◌∷◌, refl, subst, length, if◌then◌else◌, slice_get, Option, None, Some, Pid, pid_of, pid_eq, MsgId, MessageKind, Label, Reply, Why, plain_kind}
-use Rattle.dm_rule.proofs.Names.{PlainMessage, PlainWhat, instruction, BootImage, Boot, first_number, switchboard, manager, PlainProcess, PlainStatus, Ready, Waiting, Moving, answer_id, with_machine, Line, Known, Here, Frozen, Incoming}
-use Rattle.dm_rule.proofs.Names.{Forward, Ended, Addresses, Sender, Point, Part, Says, Routes, Again, Owns, forwards_on, Room, says, drop_parts, called, stops, executes, ran, reception_parts, first_awaited, serves_status, goes_round}
-use Rattle.dm_rule.proofs.Names.{free_room, creation_parts, kernel_handles, routes, board_took, manager_parts, here_handles, ended_handles, process_handles, bind-is, Outcome, answers_move, leaves_for, arith, machine_of}
+use Rattle.dm_rule.proofs.Names.{◌≡◌, ℕ, ◌+◌, ◌==◌, ◌||◌, Bool, true, false, List, [], ◌∷◌, refl, length, if◌then◌else◌, Option, None, Some, Pid, pid_of, pid_eq, MsgId, MessageKind, Label, Reply, Why, plain_kind, PlainMessage, PlainWhat}
+use Rattle.dm_rule.proofs.Names.{instruction, Boot, first_number, switchboard, manager, PlainProcess, PlainStatus, Ready, Waiting, Moving, answer_id, with_machine, Line, Known, Here, Frozen, Incoming, Forward, Ended, Addresses, Sender}
+use Rattle.dm_rule.proofs.Names.{Point, Part, Says, Routes, Again, Owns, forwards_on, says, drop_parts, called, stops, executes, ran, first_awaited, serves_status, goes_round, kernel_handles, routes, board_took, manager_parts, here_handles}
+use Rattle.dm_rule.proofs.Names.{ended_handles, process_handles, bind-is, Outcome, answers_move, leaves_for, arith, machine_of}
 use Rattle.dm_onekernel.specs.Calls as calls
 use Rattle.dm_onekernel.specs.Pieces as pieces
 use Rattle.dm_onekernel.specs.Switchboard as board
 use Rattle.dm_onekernel.specs.Manager as manage
 use Rattle.dm_onekernel.specs.Step as kernel
 use Rattle.dm_rule.specs.Rule as rule
+use Rattle.dm_rule.proofs.Hearing.{given}
 
 -- a process stops: its turn is over, or a call follows, or its end with its queue behind
 pub record Stops (Q : List Part → Type 0) (p : Pid) (queue : List MsgId) : Type 0 where
@@ -25,24 +26,14 @@ pub record Serves (P : List Part → Type 0) (o : Point) (m : ℕ) (p : Pid) : T
   pub takes : (mask : ℕ) (id : MsgId) → first_awaited o.kernel mask (o.view.queue m p) ≡ Some id → P (says (Label.Receive p id) ∷ [])
   pub refuses : (id : MsgId) (r : Reply) → P (says (Label.Refuse p id r) ∷ [])
 
-given : (P : List Part → Type 0) (qs ps : List Part) → P qs → Some qs ≡ Some ps → P ps
-given P qs ps h e = let k : qs ≡ ps = cc in subst P k h
-
-by_called : (Q : List Part → Type 0) (p : Pid) (n : ℕ) (queue : List MsgId) (c : calls.Called) → Stops Q p queue → Q (called p n queue c)
-by_called Q p n queue c h1 = search arith
-
-by_stops : (Q : List Part → Type 0) (p : Pid) (queue : List MsgId) (full : Bool) (o : Option kernel.Trap) → Stops Q p queue → Q (if full then [] else stops p queue o)
-by_stops Q p queue full o h1 = search (arith, by_called)
-
-by_receives : (P : List Part → Type 0) (o : Point) (m mask : ℕ) (p : Pid) (x : PlainProcess) (i : Option MsgId) (ps : List Part) → first_awaited o.kernel mask (o.view.queue m p) ≡ i → Serves P o m p → reception_parts o.kernel p x i ≡ Some ps → P ps
-by_receives P o m mask p x i ps h1 h2 h3 = search (arith, bind-is, given)
-
 by_status : (P : List Part → Type 0) (quantum : ℕ) (o : Point) (m : ℕ) (p : Pid) (x : PlainProcess) (st : PlainStatus) (ps : List Part) → Serves P o m p → serves_status quantum o.kernel p (o.view.queue m p) x st ≡ Some ps → P ps
 by_status P quantum o m p x Ready ps h e =
+    let by_stops : (Q : List Part → Type 0) (p : Pid) (queue : List MsgId) (full : Bool) (o : Option kernel.Trap) → Stops Q p queue → Q (if full then [] else stops p queue o) =
+      λ Q p queue full o h1. let by_called : (Q : List Part → Type 0) (p : Pid) (n : ℕ) (queue : List MsgId) (c : calls.Called) → Stops Q p queue → Q (called p n queue c) = λ Q p n queue c h1. search arith in search (arith, by_called) in
     let r = ran quantum (machine_of x) in
     let next = kernel.next_row p (with_machine x r.machine) (instruction r.machine.regs r.machine.bytes) in
     given P (executes quantum p (o.view.queue m p) x r) ps (h.runs r.count (if r.count == quantum then [] else stops p (o.view.queue m p) next) (λ Q. by_stops Q p (o.view.queue m p) (r.count == quantum) next)) e
-by_status P quantum o m p x (Waiting mask base size) ps h e = by_receives P o m mask p x (first_awaited o.kernel mask (o.view.queue m p)) ps refl h e
+by_status P quantum o m p x (Waiting mask base size) ps h e = search (arith, bind-is, given)
 by_status P quantum o m p x (Moving dir owner base own left pending) ps h e = cc
 
 pub by_round : (P : List Part → Type 0) (b : Boot) (o : Point) (m : ℕ) (q : Option Pid) (ps : List Part) → P (Says (Line.Idle m) ∷ []) → ((p : Pid) (x : PlainProcess) → q ≡ Some p → kernel.alive (o.kernel.processes p) ≡ Some x → Serves P o m p)
@@ -82,11 +73,8 @@ pub record Handles (P : List Part → Type 0) (o : Point) (m : ℕ) (id : MsgId)
   pub coming : (from : ℕ) → To o m msg (Incoming from) → P (Says (Line.Held id) ∷ [])
   pub forwarded : (to moves : ℕ) → To o m msg (Forward to moves) → P (forwards_on o.addresses id (plain_kind msg.what) msg.sender to)
 
-by_creates : (P : List Part → Type 0) (o : Point) (m : ℕ) (id : MsgId) (msg : PlainMessage) (r : Room) (i : Option BootImage) (ps : List Part) → IsFixed msg.to → Handles P o m id msg → creation_parts o m id r i ≡ Some ps → P ps
-by_creates P o m id msg r i ps h1 h2 h3 = search (arith, given)
-
 by_asked : (P : List Part → Type 0) (b : Boot) (o : Point) (m : ℕ) (id : MsgId) (msg : PlainMessage) (w : PlainWhat) (ps : List Part) → IsFixed msg.to → Handles P o m id msg → kernel_handles b o m id w ≡ Some ps → P ps
-by_asked P b o m id msg (PlainWhat.Create image links) ps fixed h e = by_creates P o m id msg (free_room b o m) (slice_get b.images image) ps fixed h e
+by_asked P b o m id msg (PlainWhat.Create image links) ps fixed h e = search (arith, given)
 by_asked P b o m id msg _ ps fixed h e = cc
 
 by_board : (P : List Part → Type 0) (id : MsgId) (t : Option board.BoardTook) (ps : List Part) → ((sent : Option PlainMessage) → P (says (Label.Took id) ∷ routes sent)) → board_took id t ≡ Some ps → P ps
@@ -109,14 +97,12 @@ by_ended P o m id msg w ps h1 h2 h3 = search (arith, given)
 by_process : (P : List Part → Type 0) (o : Point) (m : ℕ) (id : MsgId) (msg : PlainMessage) (k : Known) (ps : List Part) → To o m msg k → Handles P o m id msg → process_handles o m id msg k ≡ Some ps → P ps
 by_process P o m id msg k ps h1 h2 h3 = search (arith, bind-is, by_here, given, by_ended)
 
-or_either : (a c d : Bool) → (c || d) ≡ true → (a || (c || d)) ≡ true
-or_either true c d e = refl
-or_either false c d e = e
-
 by_receiver : (P : List Part → Type 0) (b : Boot) (o : Point) (m : ℕ) (id : MsgId) (msg : PlainMessage) (c d g : Bool) (ps : List Part) → msg.to.num == 0 ≡ c → pid_eq msg.to switchboard ≡ d → pid_eq msg.to manager ≡ g → Handles P o m id msg
     → (if c then kernel_handles b o m id msg.what else if d then board_took id (board.board_takes o.kernel.switchboard msg msg.what)
     else if g then manager_parts id (manage.manager_takes o.kernel.manager o.kernel.machines (length o.kernel.images) msg msg.what) else process_handles o m id msg (o.view.known m msg.to)) ≡ Some ps → P ps
-by_receiver P b o m id msg c d g ps h1 h2 h3 h4 h5 = search (arith, by_asked, by_board, or_either, by_manager, by_process)
+by_receiver P b o m id msg c d g ps h1 h2 h3 h4 h5 =
+    let or_either : (a c d : Bool) → (c || d) ≡ true → (a || (c || d)) ≡ true = λ a c d e. elim a as (λ a_. (a_ || (c || d)) ≡ true) [ true ↦ refl | false ↦ e ] in
+    search (arith, by_asked, by_board, or_either, by_manager, by_process)
 
 pub by_handles : (P : List Part → Type 0) (b : Boot) (o : Point) (m : ℕ) (id : MsgId) (msg : PlainMessage) (ps : List Part) → Handles P o m id msg → rule.handles b o m id msg ≡ Some ps → P ps
 by_handles P b o m id msg ps h e = by_receiver P b o m id msg (msg.to.num == 0) (pid_eq msg.to switchboard) (pid_eq msg.to manager) ps refl refl refl h e

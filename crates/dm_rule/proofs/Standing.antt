@@ -1,6 +1,6 @@
 -- Messages that come, move and go stand once.
-use Rattle.dm_rule.proofs.Names.{◌≡◌, ◌≢◌, ℕ, ◌+◌, ◌≤◌, Bool, true, false, ◌==◌, ◌&&◌, List, [], ◌∷◌, ◌++◌, ap, ◌∙◌, sym, arith, subst, cases_Bool, false≢true, ◌⊎◌, inl, inr, nat_tests, Option, None, Some, pid_eq, MsgId, Spot, Queue, Held}
-use Rattle.dm_rule.proofs.Names.{Inbox, Untaken, times, StandsOnce, StandsNowhere, StandsAsBag, pid_eq-is, pid_eq-same, left_true, right_true, both_true}
+use Rattle.dm_rule.proofs.Names.{◌≡◌, ◌≢◌, ℕ, ◌+◌, ◌≤◌, Bool, true, false, ◌==◌, ◌&&◌, List, [], ◌∷◌, ◌++◌, ap, ◌∙◌, sym, arith, subst, cases_Bool, false≢true, ◌⊎◌, inl, inr, Option, None, Some, pid_eq, MsgId, Spot, Queue, Held, Inbox}
+use Rattle.dm_rule.proofs.Names.{Untaken, times, StandsOnce, StandsNowhere, StandsAsBag, pid_eq-is, pid_eq-same, left_true, right_true, both_true, eqb-true}
 
 pub same_spot : Spot → Spot → Bool
 same_spot (Queue m p) (Queue n q) = (m == n) && pid_eq p q
@@ -9,12 +9,9 @@ same_spot (Inbox m) (Inbox n) = m == n
 same_spot (Untaken a b) (Untaken c d) = (a == c) && (b == d)
 same_spot x y = false
 
-eq_is : (m n : ℕ) → (m == n) ≡ true → m ≡ n
-eq_is m n e = grind (arith, nat_tests)
-
 same_spot-is : (x y : Spot) → same_spot x y ≡ true → x ≡ y
 unfolding same_spot
-same_spot-is x y h1 = search (arith, eq_is, left_true, pid_eq-is, right_true)
+same_spot-is x y h1 = search (arith, eqb-true, left_true, pid_eq-is, right_true)
 
 same_spot-same : (x : Spot) → same_spot x x ≡ true
 unfolding same_spot

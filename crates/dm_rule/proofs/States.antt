@@ -1,14 +1,15 @@
 -- Each group keeps that each message stands once.
 use Rattle.dm_rule.proofs.Names.{◌≡◌, ℕ, ◌+◌, ◌≤◌, ◌==◌, Bool, true, false, List, [], ◌∷◌, refl, ap, ◌∙◌, sym, subst, arith, length, inl, inr, if◌then◌else◌, Option, None, Some, cases_Bool, nat_tests, Pid, MsgId, MessageKind, plain_kind}
-use Rattle.dm_rule.proofs.Names.{id_eq, PlainMessage, Label, bind, OneKernel, Line, Load, View, Told, view_after, Receiver, Point, label_of, kernel_after, moved, seen, after_line, after, Part, Says, Routes, Transmits, Spelled, lines_of}
-use Rattle.dm_rule.proofs.Names.{puts, goes_out, packet_line, behind, spelled, Spot, Untaken, ids_at, entry, in_bag, reception, id_eq-is, Sound, bind-is, after_step, false≢true, pid_of, id_of, at_machine, is_kernels}
+use Rattle.dm_rule.proofs.Names.{id_eq, PlainMessage, Label, bind, OneKernel, Line, Load, View, Told, view_after, Point, label_of, kernel_after, moved, seen, after_line, after, Part, Says, Transmits, Spelled, lines_of, puts, goes_out}
+use Rattle.dm_rule.proofs.Names.{packet_line, behind, spelled, Spot, Untaken, ids_at, entry, in_bag, reception, id_eq-is, Sound, bind-is, after_step, false≢true, pid_of, id_of, at_machine, is_kernels, false_from_ne_true, eqb-true}
 use Rattle.dm_onekernel.specs.Step as kernel
 use Rattle.dm_rule.specs.View as view
 use Rattle.dm_rule.proofs.Hushed.{is_put, hushed}
 use Rattle.dm_rule.proofs.Letters.{letters, letters_step, letter_of, not_kernels}
-use Rattle.dm_rule.proofs.Lines.{Bag, hidden, hidden_off, having, Stands, Stands-same, Stands-stays, Stands-put-home, Stands-put-away, untold_tells, pair_keeps, eq_is, hidden_at}
+use Rattle.dm_rule.proofs.Lines.{Bag, hidden, hidden_off, having, Stands, Stands-same, Stands-stays, Stands-put-home, Stands-put-away, untold_tells, pair_keeps, hidden_at}
 use Rattle.dm_rule.proofs.Seen.{Stands-about}
 use Rattle.dm_rule.proofs.Bags.{BagStep}
+pub use Rattle.std.proofs.lemmas.Bool.{false_from_ne_true as not_true}
 
 -- where a group has come: what is under way, but a message that is still to be routed, stands once
 pub record State (pend : Option MsgId) (pt : Point) : Type 0 where
@@ -80,8 +81,7 @@ says_next pt l ps w e =
     let (next, took, rest) = bind-is (after pt (l ∷ [])) (λ n. bind (spelled n ps) (λ v. Some (behind (l ∷ []) v))) w e in
     let (v, more, last) = bind-is (spelled next ps) (λ v. Some (behind (l ∷ []) v)) w rest in
     let (s, is, same) = line_is pt l next took in
-    let f : behind (l ∷ []) v ≡ w = cc in
-    record { s = s; is = is; rest = v; more = ap (λ n. spelled n ps) same ∙ more; point = ap (λ (x : Spelled). x.point) f }
+    record { s = s; is = is; rest = v; more = ap (λ n. spelled n ps) same ∙ more; point = ap (λ (x : Spelled). x.point) (let f : behind (l ∷ []) v ≡ w = cc in f) }
 
 -- the first part is a packet
 pub record SentNext (pt : Point) (a b : ℕ) (l : Load) (ps : List Part) (w : Spelled) : Type 0 where
@@ -100,7 +100,7 @@ pub State-at : (pend : Option MsgId) (pt next : Point) → pt ≡ next → State
 State-at pend pt next e h = subst (State pend) e h
 
 -- a packet moves no message
-packet_off : (v : View) (a b k : ℕ) (l : Load) (z : Spot) → ids_at (view_after v (Line.Packet a b k l)) z ≡ ids_at v z
+pub packet_off : (v : View) (a b k : ℕ) (l : Load) (z : Spot) → ids_at (view_after v (Line.Packet a b k l)) z ≡ ids_at v z
 packet_off v a b k l (Untaken c d) = pair_keeps v.pair a b _ refl c d
 packet_off v a b k l _ = refl
 
@@ -119,57 +119,43 @@ having_back bag i x e j = elim (cases_Bool (id_eq i j)) [
   | inr apart ↦ sym (hidden_off bag i j apart) ∙ sym (ap (λ (c : Bool). if c then Some x else hidden (Some i) bag j) apart)
 ]
 
-in_bag_entered : (r e : MsgId → ℕ) (s : OneKernel) (i : MsgId) (x : PlainMessage) → s.bag i ≡ Some x → Sound r e s → 1 ≤ e i
-in_bag_entered r e s i x is h = let f = h.entered.fewer i in let g : in_bag (s.bag i) ≡ 1 = ap in_bag is in omega (arith, f, g)
-
 pub put_told_off : (v : View) (a b : ℕ) (i j : MsgId) (k : MessageKind) (q : Pid) → id_eq i j ≡ false → (view.after_put v a b i k q).told j ≡ v.told j
 put_told_off v a b i j k q apart = ap (λ (c : Bool). if c then Some (view.first_told (v.told i) (record { kind = k; receiver = q; about = v.topic })) else v.told j) apart
-
-pub not_true : (b : Bool) → (b ≡ true → ⊥) → b ≡ false
-not_true true h = absurd (h refl)
-not_true false h = refl
-
-not_same : (e : MsgId → ℕ) (i j : MsgId) → 1 ≤ e i → e j ≡ 0 → id_eq i j ≡ false
-not_same e i j least zero_ = not_true (id_eq i j) (λ k. let is : i ≡ j = id_eq-is i j k in let z : e i ≡ 0 = ap e is ∙ zero_ in absurd (omega (arith, least, z)))
 
 pub put_stands : (bag : Bag) (v : View) (b : ℕ) (i : MsgId) (k : MessageKind) (q : Pid) (c : Bool) → (v.acting == b) ≡ c → bag i ≡ None → (view.first_told (v.told i) (record { kind = k; receiver = q; about = v.topic })).receiver ≡ q
     → PairsFit v → Stands bag v → Stands (having i q bag) (view.after_put v v.acting b i k q)
 put_stands bag v b i k q true is none tells fits h =
-    let e : v.acting ≡ b = eq_is v.acting b is in
-    subst (λ m. Stands (having i q bag) (view.after_put v v.acting m i k q)) e
+    subst (λ m. Stands (having i q bag) (view.after_put v v.acting m i k q)) (eqb-true v.acting b is)
     (Stands-put-home bag v v.acting i k q none tells (fits.home v.acting) h)
 put_stands bag v b i k q false is none tells fits h = Stands-put-away bag v v.acting b i k q is none tells (fits.within v.acting b) h
-
--- a put of a message that is no kernel's own leaves the kernels' counts, and what is told of theirs
-not_own : (i : MsgId) (o : Option Told) → is_kernels i ≡ false → o ≡ None → view.is_own i o ≡ false
-not_own i o h1 h2 = grind (arith, nat_tests)
-
-pub kernels_id : (i : MsgId) (m n : ℕ) → is_kernels i ≡ false → id_eq i (id_of (pid_of m 0) n) ≡ false
-kernels_id i m n k = not_true (id_eq i (id_of (pid_of m 0) n)) (λ e. let is = id_eq-is i (id_of (pid_of m 0) n) e in false≢true (sym k ∙ ap is_kernels is))
 
 pub numbered_put : (v : View) (a b : ℕ) (i : MsgId) (k : MessageKind) (q : Pid) → is_kernels i ≡ false → v.told i ≡ None → ((m n : ℕ) → v.count m ≤ n → v.told (id_of (pid_of m 0) n) ≡ None)
     → (m n : ℕ) → (view.after_put v a b i k q).count m ≤ n → (view.after_put v a b i k q).told (id_of (pid_of m 0) n) ≡ None
 numbered_put v a b i k q other untold h m n le =
-    let count : (view.after_put v a b i k q).count ≡ v.count = ap (λ (c : Bool). if c then at_machine v.count i.from.home (v.count i.from.home + 1) else v.count) (not_own i (v.told i) other untold) in
-    put_told_off v a b i (id_of (pid_of m 0) n) k q (kernels_id i m n other) ∙ h m n (subst (λ (f : ℕ → ℕ). f m ≤ n) count le)
+    -- a put of a message that is no kernel's own leaves the kernels' counts, and what is told of theirs
+    let not_own : view.is_own i (v.told i) ≡ false = grind (arith, nat_tests) in
+    let kernels_id : id_eq i (id_of (pid_of m 0) n) ≡ false = false_from_ne_true (id_eq i (id_of (pid_of m 0) n)) (λ e. let is = id_eq-is i (id_of (pid_of m 0) n) e in false≢true (sym other ∙ ap is_kernels is)) in
+    put_told_off v a b i (id_of (pid_of m 0) n) k q kernels_id ∙ h m n (subst (λ (f : ℕ → ℕ). f m ≤ n) (ap (λ (c : Bool). if c then at_machine v.count i.from.home (v.count i.from.home + 1) else v.count) not_own) le)
 
 pub by_put : (pt : Point) (b : ℕ) (i : MsgId) (x : PlainMessage) → pt.kernel.bag i ≡ Some x → PairsFit pt.view → State (Some i) pt → State None (moved pt (Line.Put pt.view.acting b i (plain_kind x.what) x.to) pt.kernel)
 by_put pt b i x is fits h =
+    let not_same : (e : MsgId → ℕ) (i j : MsgId) → 1 ≤ e i → e j ≡ 0 → id_eq i j ≡ false =
+      λ e i j least zero_. false_from_ne_true (id_eq i j) (λ k. let is : i ≡ j = id_eq-is i j k in let z : e i ≡ 0 = ap e is ∙ zero_ in absurd (omega (arith, least, z))) in
+    let in_bag_entered : (r e : MsgId → ℕ) (s : OneKernel) (i : MsgId) (x : PlainMessage) → s.bag i ≡ Some x → Sound r e s → 1 ≤ e i =
+      λ r e s i x is h. let f = h.entered.fewer i in let g : in_bag (s.bag i) ≡ 1 = ap in_bag is in omega (arith, f, g) in
     let l = Line.Put pt.view.acting b i (plain_kind x.what) x.to in
     let v = pt.view in
     let bag = letters h.own pt.kernel.bag in
     let untold : v.told i ≡ None = h.pending i refl in
-    let least = in_bag_entered h.r h.e pt.kernel i x is h.sound in
-    let others = not_kernels h.r h.e pt.kernel i x is h.sound in
     let there = letter_of h.r h.e h.own pt.kernel i x is h.sound in
     record {
       own = h.own;
-      numbered = numbered_put v v.acting b i (plain_kind x.what) x.to others untold h.numbered;
+      numbered = numbered_put v v.acting b i (plain_kind x.what) x.to (not_kernels h.r h.e pt.kernel i x is h.sound) untold h.numbered;
       r = h.r;
       e = h.e;
       sound = h.sound;
       stands = Stands-same (having i x.to (hidden (Some i) bag)) bag (view_after v l) (having_back bag i x.to there) (put_stands (hidden (Some i) bag) v b i (plain_kind x.what) x.to (v.acting == b) refl (hidden_at bag i) (untold_tells (v.told i) (record { kind = plain_kind x.what; receiver = x.to; about = v.topic }) untold) fits h.stands);
-      untold = λ j zero_ other. put_told_off v v.acting b i j (plain_kind x.what) x.to (not_same h.e i j least zero_) ∙ h.untold j zero_ other;
+      untold = λ j zero_ other. put_told_off v v.acting b i j (plain_kind x.what) x.to (not_same h.e i j (in_bag_entered h.r h.e pt.kernel i x is h.sound) zero_) ∙ h.untold j zero_ other;
       pending = λ j k. cc;
       there = λ j k. cc;
     }
@@ -200,8 +186,7 @@ packets_or_none P keep v b ls ps w mid false true h e =
     let (r, more, last) = bind-is (spelled n ps) (λ r. Some (behind ls r)) w rest in
     let (s, is, same_) = line_is mid l n took in
     let f : behind ls r ≡ w = cc in
-    let kept : mid.kernel ≡ s = let k = is in cc in
-    let at : moved mid l mid.kernel ≡ n = ap (moved mid l) kept ∙ same_ in
+    let at : moved mid l mid.kernel ≡ n = ap (moved mid l) (let kept : mid.kernel ≡ s = let k = is in cc in kept) ∙ same_ in
     record { next = n; stands = subst P at (keep mid v.acting b (length (v.pair v.acting b).wire) (Load.Data (length (v.pair v.acting b).ids)) h); rest = r; more = more; point = ap (λ (t : Spelled). t.point) f }
 
 pub puts_next : (P : Point → Type 0) (keep : PacketsKeep P) (pt : Point) (part : Part) (b : ℕ) (i : MsgId) (k : MessageKind) (q : Pid) (ps : List Part) (w : Spelled) → lines_of pt part ≡ Some (puts pt.view b i k q)
@@ -209,10 +194,3 @@ pub puts_next : (P : Point → Type 0) (keep : PacketsKeep P) (pt : Point) (part
 puts_next P keep pt part b i k q ps w lines h e =
     let whole : bind (Some (puts pt.view b i k q)) (λ ls. bind (after pt ls) (λ n. bind (spelled n ps) (λ r. Some (behind ls r)))) ≡ Some w = ap (λ o. bind o (λ ls. bind (after pt ls) (λ n. bind (spelled n ps) (λ r. Some (behind ls r))))) (sym lines) ∙ e in
     packets_or_none P keep pt.view b (puts pt.view b i k q) ps w (moved pt (Line.Put pt.view.acting b i k q) pt.kernel) (pt.view.acting == b) (goes_out (pt.view.pair pt.view.acting b)) h whole
-
--- a message of the bag is routed
-pub routes_next : (pt : Point) (i : MsgId) (ps : List Part) (w : Spelled) → State (Some i) pt → PairsFit pt.view → spelled pt (Routes i ∷ ps) ≡ Some w → PutNext (State None) ps w
-routes_next pt i ps w h fits e =
-    let (ls, lines, rest) = bind-is (lines_of pt (Routes i)) (λ ls. bind (after pt ls) (λ n. bind (spelled n ps) (λ v. Some (behind ls v)))) w e in
-    let (x, there, last) = bind-is (pt.kernel.bag i) (λ m. Some (puts pt.view (pt.addresses (Receiver i)).at i (plain_kind m.what) m.to)) ls lines in
-    puts_next (State None) (by_packet None) pt (Routes i) (pt.addresses (Receiver i)).at i (plain_kind x.what) x.to ps w (lines ∙ sym last) (by_put pt (pt.addresses (Receiver i)).at i x there fits h) e

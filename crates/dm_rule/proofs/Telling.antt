@@ -11,10 +11,10 @@ use Rattle.dm_rule.proofs.Hushed.{is_put, hushed}
 use Rattle.dm_rule.proofs.States.{put_told_off, numbered_as, numbered_put}
 use Rattle.dm_rule.proofs.Moves.States.{not_first, own_numbered}
 use Rattle.dm_rule.specs.Rule as rule
-use Rattle.dm_rule.proofs.Pairs.Lines.{touches, AllFit}
+use Rattle.dm_rule.proofs.Pairs.Lines.{AllFit}
 use Rattle.dm_rule.proofs.Pairs.Turns.{turns_fit}
 use Rattle.dm_rule.proofs.Pairs.Migrating.{migrates_fit}
-use Rattle.dm_rule.proofs.Groups.{IsNetLine, IsNet, arrives_net, resends_net, group_is}
+use Rattle.dm_rule.proofs.Groups.{IsNet, arrives_net, resends_net, group_is}
 use Rattle.dm_rule.proofs.Bags.{cases_zero}
 
 -- a kernel's own numbers from its count on were never put
@@ -60,12 +60,11 @@ sane_quiet pt l quiet h =
 sane_by : (pt : Point) (l : Line) (o : Option Label) (s : OneKernel) → is_put l ≡ false → kernel_after pt.kernel o ≡ Some s → Sane pt → Sane (moved pt l s)
 sane_by pt l None s quiet is h = let f : pt.kernel ≡ s = cc in subst (λ (k : OneKernel). Sane (moved pt l k)) f (sane_quiet pt l quiet h)
 sane_by pt l (Some x) s quiet is h =
-    let a = after_step h.r h.e pt.kernel s x is h.sound in
     let same : (i : MsgId) → (view_after pt.view l).told i ≡ pt.view.told i = λ i. ap (λ (f : MsgId → Option Told). f i) (hushed pt.view l quiet).told in
     record {
       r = λ i. h.r i + reception i x;
       e = λ i. h.e i + entry i pt.kernel s;
-      sound = a.sound;
+      sound = (after_step h.r h.e pt.kernel s x is h.sound).sound;
       untold = λ i zero_ other. same i ∙ h.untold i (omega (arith, zero_)) other;
       numbered = (let hush = hushed pt.view l quiet in numbered_as pt.view (view_after pt.view l) hush.count hush.told h.numbered);
       tells = record {
@@ -92,17 +91,12 @@ some_entered : (r e : MsgId → ℕ) (s : OneKernel) (i : MsgId) (o : Option Pla
 some_entered r e s i None is some h = absurd (false≢true some)
 some_entered r e s i (Some x) is some h = let f = h.entered.fewer i in let g : in_bag (s.bag i) ≡ 1 = ap in_bag is in omega (arith, f, g)
 
--- what is told of the message itself
-put_at : (v : View) (a b : ℕ) (i : MsgId) (k : MessageKind) (q : Pid) → (view.after_put v a b i k q).told i ≡ Some (view.first_told (v.told i) (record { kind = k; receiver = q; about = v.topic }))
-put_at v a b i k q = ap (λ (c : Bool). if c then Some (view.first_told (v.told i) (record { kind = k; receiver = q; about = v.topic })) else v.told i) (id_eq-same i)
-
--- an earlier put told it, or this one
-put_by : (pt : Point) (i : MsgId) (k : MessageKind) (q : Pid) (o : Option Told) (t : Told) (P : Told → Type 0) → pt.view.told i ≡ o → Some (view.first_told o (record { kind = k; receiver = q; about = pt.view.topic })) ≡ Some t
-    → ((u : Told) → pt.view.told i ≡ Some u → P u) → P (record { kind = k; receiver = q; about = pt.view.topic }) → P t
-put_by pt i k q o t P h1 h2 h3 h4 = search arith
-
 pub sane_put : (pt : Point) (a b : ℕ) (i : MsgId) (k : MessageKind) (q : Pid) (h : Sane pt) → PutRight pt h.e i k q → Sane (moved pt (Line.Put a b i k q) pt.kernel)
 sane_put pt a b i k q h right =
+    -- an earlier put told it, or this one
+    let put_by : (pt : Point) (i : MsgId) (k : MessageKind) (q : Pid) (o : Option Told) (t : Told) (P : Told → Type 0) → pt.view.told i ≡ o → Some (view.first_told o (record { kind = k; receiver = q; about = pt.view.topic })) ≡ Some t
+      → ((u : Told) → pt.view.told i ≡ Some u → P u) → P (record { kind = k; receiver = q; about = pt.view.topic }) → P t =
+      λ pt i k q o t P h1 h2 h3 h4. search arith in
     let v = pt.view in
     let w = view.after_put v a b i k q in
     let u : Told = record { kind = k; receiver = q; about = v.topic } in
@@ -110,6 +104,9 @@ sane_put pt a b i k q h right =
     λ j t P e was now. elim (cases_Bool (id_eq i j)) [
       | inl same ↦
           let is : i ≡ j = id_eq-is i j same in
+          -- what is told of the message itself
+          let put_at : (v : View) (a b : ℕ) (i : MsgId) (k : MessageKind) (q : Pid) → (view.after_put v a b i k q).told i ≡ Some (view.first_told (v.told i) (record { kind = k; receiver = q; about = v.topic })) =
+            λ v a b i k q. ap (λ (c : Bool). if c then Some (view.first_told (v.told i) (record { kind = k; receiver = q; about = v.topic })) else v.told i) (id_eq-same i) in
           put_by pt j k q (v.told j) t (P j) refl (sym (put_at v a b j k q) ∙ ap (λ (x : MsgId). (view.after_put v a b x k q).told j) (sym is) ∙ e) was (subst (λ (x : MsgId). P x u) is now)
       | inr apart ↦ was t (sym (put_told_off v a b i j k q apart) ∙ e)
     ] in
@@ -137,10 +134,6 @@ numbered_some v a b i k q t told h m n le =
     let count : (view.after_put v a b i k q).count ≡ v.count = ap (λ (c : Bool). if c then at_machine v.count i.from.home (v.count i.from.home + 1) else v.count) (not_first i (v.told i) t told) in
     search (arith, id_eq-is, put_told_off)
 
-numbered_other : (v : View) (a b : ℕ) (i : MsgId) (k : MessageKind) (q : Pid) (o : Option Told) → v.told i ≡ o → is_kernels i ≡ false → Numbered v → Numbered (view.after_put v a b i k q)
-numbered_other v a b i k q None is other h = numbered_put v a b i k q other is h
-numbered_other v a b i k q (Some t) is other h = numbered_some v a b i k q t is h
-
 -- a put with its packet
 puts_sane : (pt next : Point) (b : ℕ) (i : MsgId) (k : MessageKind) (q : Pid) (c d : Bool) (h : Sane pt) → PutRight pt h.e i k q
     → after pt (Line.Put pt.view.acting b i k q ∷ (if c then [] else if d then packet_line pt.view pt.view.acting b (Load.Data (length (pt.view.pair pt.view.acting b).ids)) ∷ [] else [])) ≡ Some next → Sane next
@@ -154,8 +147,7 @@ puts_sane pt next b i k q false true h right is =
 
 puts_lead : (pt next : Point) (b : ℕ) (i : MsgId) (k : MessageKind) (q : Pid) (ls : List Line) (h : Sane pt) → PutRight pt h.e i k q → Some (puts pt.view b i k q) ≡ Some ls → after pt ls ≡ Some next → Sane next
 puts_lead pt next b i k q ls h right is leads =
-    let f : puts pt.view b i k q ≡ ls = cc in
-    puts_sane pt next b i k q (pt.view.acting == b) (goes_out (pt.view.pair pt.view.acting b)) h right (ap (after pt) f ∙ leads)
+    puts_sane pt next b i k q (pt.view.acting == b) (goes_out (pt.view.pair pt.view.acting b)) h right (ap (after pt) (let f : puts pt.view b i k q ≡ ls = cc in f) ∙ leads)
 
 -- no part says a put by itself
 abbrev pub Sayable : Part → Type 0
@@ -168,14 +160,15 @@ AllSayable (p ∷ ps) = Sayable p × AllSayable ps
 
 one_line : (pt next : Point) (l : Line) (ls : List Line) → is_put l ≡ false → Some (l ∷ []) ≡ Some ls → after pt ls ≡ Some next → Sane pt → Sane next
 one_line pt next l ls quiet is leads h =
-    let f : l ∷ [] ≡ ls = cc in
-    let (mid, first, last) = bind-is (after_line pt l) (λ q. after q []) next (ap (after pt) f ∙ leads) in
+    let (mid, first, last) = bind-is (after_line pt l) (λ q. after q []) next (ap (after pt) (let f : l ∷ [] ≡ ls = cc in f) ∙ leads) in
     let g : mid ≡ next = cc in subst Sane g (sane_line pt mid l quiet first h)
 
 pub part_sane : (pt next : Point) (p : Part) (ls : List Line) → Sayable p → lines_of pt p ≡ Some ls → after pt ls ≡ Some next → Sane pt → Sane next
 part_sane pt next (Says l) ls ok is leads h = one_line pt next l ls ok is leads h
 part_sane pt next (Routes i) ls ok is leads h =
     let (m, there, last) = bind-is (pt.kernel.bag i) (λ m. Some (puts pt.view (pt.addresses (Receiver i)).at i (plain_kind m.what) m.to)) ls is in
+    let numbered_other : (v : View) (a b : ℕ) (i : MsgId) (k : MessageKind) (q : Pid) (o : Option Told) → v.told i ≡ o → is_kernels i ≡ false → Numbered v → Numbered (view.after_put v a b i k q) =
+      λ v a b i k q o is other h. (elim o as (λ o_. v.told i ≡ o_ → Numbered (view.after_put v a b i k q)) [ None ↦ λ is'. numbered_put v a b i k q other is' h | Some t' ↦ λ is'. numbered_some v a b i k q t' is' h ]) is in
     puts_lead pt next (pt.addresses (Receiver i)).at i (plain_kind m.what) m.to ls h (record {
       kind = λ x is. (let f : Some m ≡ Some x = sym there ∙ is in let g : m ≡ x = cc in ap (λ (y : PlainMessage). plain_kind y.what) g);
       receiver = λ x is. (let f : Some m ≡ Some x = sym there ∙ is in let g : m ≡ x = cc in ap (λ (y : PlainMessage). y.to) g);
@@ -201,27 +194,20 @@ parts_sane (p ∷ ps) pt w ok is h =
     let (ls, lines, rest) = bind-is (lines_of pt p) (λ (xs : List Line). bind (after pt xs) (λ (q : Point). bind (spelled q ps) (λ (z : Spelled). Some (behind xs z)))) w is in
     let (next, leads, last) = bind-is (after pt ls) (λ (q : Point). bind (spelled q ps) (λ (z : Spelled). Some (behind ls z))) w rest in
     let (z, more, end) = bind-is (spelled next ps) (λ (y : Spelled). Some (behind ls y)) w last in
-    let f : behind ls z ≡ w = cc in
-    subst (λ (x : Spelled). Sane x.point) f (parts_sane ps next z ok.1 more (part_sane pt next p ls ok.0 lines leads h))
+    subst (λ (x : Spelled). Sane x.point) (let f : behind ls z ≡ w = cc in f) (parts_sane ps next z ok.1 more (part_sane pt next p ls ok.0 lines leads h))
 
 -- what keeps pairs, and what deliveries say, is no put
-quiet_of : (l : Line) → touches l ≡ false → is_put l ≡ false
-quiet_of l h1 = search arith
-
 fit_sayable : (f : ℕ → ℕ → Pair) (ps : List Part) → AllFit f ps → AllSayable ps
 fit_sayable f [] h = tt
-fit_sayable f (Says l ∷ ps) h = (quiet_of l h.0, fit_sayable f ps h.1)
+fit_sayable f (Says l ∷ ps) h = ((let e_ : is_put l ≡ false = search (arith, h.0) in e_), fit_sayable f ps h.1)
 fit_sayable f (Routes i ∷ ps) h = (tt, fit_sayable f ps h.1)
 fit_sayable f (Again i b ∷ ps) h = (tt, fit_sayable f ps h.1)
 fit_sayable f (Owns k q b ∷ ps) h = (tt, fit_sayable f ps h.1)
 fit_sayable f (Transmits a b l ∷ ps) h = (tt, fit_sayable f ps h.1)
 
-net_quiet : (l : Line) → IsNetLine l → is_put l ≡ false
-net_quiet l h1 = search arith
-
 net_sayable : (ps : List Part) → IsNet ps → AllSayable ps
 net_sayable [] h = tt
-net_sayable (Says l ∷ ps) h = (net_quiet l h.0, net_sayable ps h.1)
+net_sayable (Says l ∷ ps) h = ((let e_ : is_put l ≡ false = search (arith, h.0) in e_), net_sayable ps h.1)
 net_sayable (Transmits a b l ∷ ps) h = (tt, net_sayable ps h.1)
 net_sayable _ h = absurd h.0
 
@@ -229,8 +215,7 @@ pub outcome_sayable : (b : Boot) (pt : Point) (d : Step) (ps : List Part) → ou
 outcome_sayable b pt (Step.Turn m) ps is = fit_sayable pt.view.pair ps (turns_fit pt.view.pair b pt m (pt.view.inbox m) ps is)
 outcome_sayable b pt (Step.Tick m) ps is =
     let qs = Says (Line.Resent m (rule.outstanding_count pt.view m pt.kernel.machines)) ∷ rule.resends pt.view m pt.kernel.machines in
-    let f : qs ≡ ps = cc in
-    subst AllSayable f (refl, net_sayable (rule.resends pt.view m pt.kernel.machines) (resends_net pt.view m pt.kernel.machines))
+    subst AllSayable (let f : qs ≡ ps = cc in f) (refl, net_sayable (rule.resends pt.view m pt.kernel.machines) (resends_net pt.view m pt.kernel.machines))
 outcome_sayable b pt (Step.Deliver a c k) ps is =
     let qs = rule.arrives a c (pt.view.pair a c) (pt.view.pair c a) (slice_get (pt.view.pair a c).wire k) in
     search (arith, net_sayable, arrives_net)

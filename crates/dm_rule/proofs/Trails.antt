@@ -13,5 +13,3 @@ pub mod Treads
 pub mod Within
 pub mod Found
 pub mod Along
-pub mod Net
-pub mod Asked

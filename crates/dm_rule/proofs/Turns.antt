@@ -1,14 +1,13 @@
 -- Each turn, delivery and tick keeps that each message stands once.
 use Rattle.dm_rule.proofs.Names.{◌≡◌, ◌≢◌, ℕ, ◌≤◌, ◌==◌, ◌&&◌, Bool, true, false, List, [], ◌∷◌, refl, ap, ◌∙◌, subst, arith, inl, inr, if◌then◌else◌, Option, None, Some, cases_Bool, false≢true, Pid, pid_eq, MsgId, MessageKind, Line, Label}
-use Rattle.dm_rule.proofs.Names.{bind, OneKernel, at_machine, at_record, without_front, View, Told, view_after, handled, receiver_of, Point, moved, Spelled, spelled, Spot, Queue, Inbox, times, ids_at, standing, pid_eq-is, pid_eq-same}
-use Rattle.dm_rule.proofs.Names.{id_eq-same, bind-is, is_kernels, drop_parts, sort_of}
+use Rattle.dm_rule.proofs.Names.{bind, OneKernel, at_machine, at_record, without_front, View, Told, view_after, handled, receiver_of, Point, moved, Spelled, spelled, Spot, Queue, Inbox, times, ids_at, standing, pid_eq-is, pid_eq-same, ◌+◌}
+use Rattle.dm_rule.proofs.Names.{id_eq-same, bind-is, is_kernels, drop_parts, sort_of, and_parts, eqb-true}
 use Rattle.dm_rule.proofs.Standing.{StandsAsBag-elsewhere}
-use Rattle.dm_rule.proofs.Lines.{Stands-stays, Stands-handled, Stands-dequeued, front_counts, eq_is, eq_self, spots_differ}
+use Rattle.dm_rule.proofs.Lines.{Stands-stays, Stands-handled, Stands-dequeued, eq_self, spots_differ}
 use Rattle.dm_rule.proofs.Bags.{BagStep, out_of, bag_dropped}
 use Rattle.dm_rule.proofs.Letters.{letters, letter_of, not_kernels, gone_in}
 use Rattle.dm_rule.proofs.Once.{one_of}
 use Rattle.dm_rule.proofs.States.{State, says_next, said, State-at, by_label}
-use Rattle.dm_rule.proofs.Homes.Servers.{and-both}
 use Rattle.dm_onekernel.specs.Step as kernel
 use Rattle.dm_rule.specs.View as view
 
@@ -61,21 +60,14 @@ without_front_none i xs h1 = search arith
 pub at_record_same : (f : ℕ → Pid → List MsgId) (m : ℕ) (p : Pid) (x : List MsgId) → x ≡ f m p → (n : ℕ) (q : Pid) → at_record f m p x n q ≡ f n q
 at_record_same f m p x e n q = elim (cases_Bool ((m == n) && pid_eq p q)) [
   | inl same ↦
-      let k = and-both (m == n) (pid_eq p q) same in
-      ap (λ (c : Bool). if c then x else f n q) same ∙ e ∙ ap (λ t. f t p) (eq_is m n k.0) ∙ ap (f n) (pid_eq-is p q k.1)
+      let k = and_parts (m == n) (pid_eq p q) same in
+      ap (λ (c : Bool). if c then x else f n q) same ∙ e ∙ ap (λ t. f t p) (eqb-true m n k.0) ∙ ap (f n) (pid_eq-is p q k.1)
   | inr apart ↦ ap (λ (c : Bool). if c then x else f n q) apart
 ]
 
 abbrev is_box : Spot → Bool
 is_box (Inbox m) = true
 is_box _ = false
-
-queue_spot : (m n : ℕ) (p : Pid) → Queue m p ≢ Inbox n
-queue_spot m n p e = false≢true (ap is_box e)
-
--- a message that stands in the inbox is at the front of no queue
-pub dropped_off : (v : View) (i : MsgId) (o : Option Pid) → ((m : ℕ) (p : Pid) → times i (v.queue m p) ≡ 0) → (z : Spot) → ids_at (view.dropped_for (handled v i) i o) z ≡ ids_at (handled v i) z
-dropped_off v i o h1 z = search (arith, at_record_same, without_front_none)
 
 pub dropped_told : (v : View) (i : MsgId) (o : Option Pid) (j : MsgId) → (view.dropped_for (handled v i) i o).told j ≡ v.told j
 dropped_told v i None j = refl
@@ -84,39 +76,33 @@ dropped_told v i (Some p) j = refl
 -- the message at the front of the inbox stands in no queue
 pub front_unqueued : (pt : Point) (i : MsgId) (is : List MsgId) (h : State None pt) → pt.view.inbox pt.view.acting ≡ i ∷ is → (m : ℕ) (p : Pid) → times i (pt.view.queue m p) ≡ 0
 front_unqueued pt i is h front m p =
+    let queue_spot : (m n : ℕ) (p : Pid) → Queue m p ≢ Inbox n = λ m n p e. false≢true (ap is_box e) in
     let one : 1 ≤ standing pt.view i (Inbox pt.view.acting) = (let a : times i (pt.view.inbox pt.view.acting) ≡ times i (i ∷ is) = ap (times i) front in let b : one_of i i ≡ 1 = ap (λ (c : Bool). if c then 1 else 0) (id_eq-same i) in omega (arith, a, b)) in
     StandsAsBag-elsewhere (letters h.own pt.kernel.bag i) (standing pt.view i) (Inbox pt.view.acting) (Queue m p) one (queue_spot m pt.view.acting p) (h.stands.kept i)
 
 pub machine_same : (f : ℕ → List MsgId) (m : ℕ) (x : List MsgId) → x ≡ f m → (n : ℕ) → at_machine f m x n ≡ f n
 machine_same f m x e n = elim (cases_Bool (m == n)) [
-  | inl same ↦ ap (λ (c : Bool). if c then x else f n) same ∙ e ∙ ap f (eq_is m n same)
+  | inl same ↦ ap (λ (c : Bool). if c then x else f n) same ∙ e ∙ ap f (eqb-true m n same)
   | inr apart ↦ ap (λ (c : Bool). if c then x else f n) apart
 ]
-
--- the queue's front goes, and the inbox keeps what it has
-dequeued_off : (v : View) (j : MsgId) (p : Pid) (o : Option Pid) → o ≡ Some p → times j (v.inbox v.acting) ≡ 0 → (z : Spot)
-    → ids_at (view.dropped_for (handled v j) j o) z ≡ ids_at (record v { queue = at_record v.queue v.acting p (without_front j (v.queue v.acting p)) }) z
-dequeued_off v j p o h1 h2 z = search (arith, machine_same, without_front_none)
 
 -- one message of the queue of a process that has ended is dropped
 queue_front : (pt : Point) (s : OneKernel) (j : MsgId) (js : List MsgId) (p : Pid) (h : State None pt) → pt.view.queue pt.view.acting p ≡ j ∷ js → kernel.step pt.kernel (Label.Dropped j) ≡ Some s → State None (moved pt (Line.Label (Label.Dropped j)) s)
 queue_front pt s j js p h front is =
+    -- the queue's front goes, and the inbox keeps what it has
+    let dequeued_off : (v : View) (j : MsgId) (p : Pid) (o : Option Pid) → o ≡ Some p → times j (v.inbox v.acting) ≡ 0 → (z : Spot)
+      → ids_at (view.dropped_for (handled v j) j o) z ≡ ids_at (record v { queue = at_record v.queue v.acting p (without_front j (v.queue v.acting p)) }) z =
+      λ v j p o h1 h2 z. search (arith, machine_same, without_front_none) in
+    let front_counts : (j i : MsgId) (xs ys : List MsgId) → xs ≡ i ∷ ys → times j xs ≡ times j (without_front i xs) + one_of j i = λ j i xs ys e. search (arith, id_eq-same) in
     let v = pt.view in
     let one : 1 ≤ times j (v.queue v.acting p) = (let a : times j (v.queue v.acting p) ≡ times j (j ∷ js) = ap (times j) front in let b : one_of j j ≡ 1 = ap (λ (c : Bool). if c then 1 else 0) (id_eq-same j) in omega (arith, a, b)) in
     let (x, there, rest) = bind-is (pt.kernel.bag j) (λ m. bind (kernel.why_ended (pt.kernel.processes m.to)) (kernel.drops pt.kernel j m)) s is in
     let letter : letters h.own pt.kernel.bag j ≡ Some x.to = letter_of h.r h.e h.own pt.kernel j x there h.sound in
-    let mine : x.to ≡ p = h.stands.mine v.acting p j x.to one letter in
-    let told : receiver_of (v.told j) ≡ Some p = h.stands.told j x.to letter ∙ ap Some mine in
     let no_inbox : times j (v.inbox v.acting) ≡ 0 = StandsAsBag-elsewhere (letters h.own pt.kernel.bag j) (standing v j) (Queue v.acting p) (Inbox v.acting) one (spots_differ v.acting v.acting p) (h.stands.kept j) in
-    let rest_ = without_front j (v.queue v.acting p) in
     by_label pt (Label.Dropped j) s (Some j) None h is (gone_out pt (Label.Dropped j) s j h is refl) (bag_dropped h.e pt.kernel s j is)
-    (Stands-dequeued (letters h.own pt.kernel.bag) v (view_after v (Line.Label (Label.Dropped j))) j p rest_ (λ i. front_counts i j (v.queue v.acting p) js front)
-    (λ z. dequeued_off v j p (receiver_of (v.told j)) told no_inbox z) (λ i. dropped_told v j (receiver_of (v.told j)) i) h.stands)
+    (Stands-dequeued (letters h.own pt.kernel.bag) v (view_after v (Line.Label (Label.Dropped j))) j p (without_front j (v.queue v.acting p)) (λ i. front_counts i j (v.queue v.acting p) js front)
+    (λ z. dequeued_off v j p (receiver_of (v.told j)) (h.stands.told j x.to letter ∙ ap Some (h.stands.mine v.acting p j x.to one letter)) no_inbox z) (λ i. dropped_told v j (receiver_of (v.told j)) i) h.stands)
     (λ i. dropped_told v j (receiver_of (v.told j)) i)
-
--- its queue after one was dropped
-dropped_queue : (v : View) (j : MsgId) (js : List MsgId) (p : Pid) (o : Option Pid) → o ≡ Some p → v.queue v.acting p ≡ j ∷ js → (view.dropped_for (handled v j) j o).queue v.acting p ≡ js
-dropped_queue v j js p o h1 h2 = search (arith, eq_self, pid_eq-same, id_eq-same)
 
 queue_told : (pt : Point) (j : MsgId) (js : List MsgId) (p : Pid) (s : OneKernel) → State None pt → pt.view.queue pt.view.acting p ≡ j ∷ js → kernel.step pt.kernel (Label.Dropped j) ≡ Some s → receiver_of (pt.view.told j) ≡ Some p
 queue_told pt j js p s h front is =
@@ -136,5 +122,6 @@ all_dropped (j ∷ js) pt p w h front e =
     let told = queue_told pt j js p k.s h front is in
     let acting : next.view.acting ≡ pt.view.acting = elim (receiver_of (pt.view.told j)) as (λ o. (view.dropped_for (handled pt.view j) j o).acting ≡ pt.view.acting)
     [ None ↦ refl | Some p ↦ refl ] in
-    let left : next.view.queue next.view.acting p ≡ js = ap (λ m. next.view.queue m p) acting ∙ dropped_queue pt.view j js p (receiver_of (pt.view.told j)) told front in
-    State-at None k.rest.point w.point k.point (all_dropped js next p k.rest (queue_front pt k.s j js p h front is) left k.more)
+    -- its queue after one was dropped
+    let dropped_queue : (view.dropped_for (handled pt.view j) j (receiver_of (pt.view.told j))).queue pt.view.acting p ≡ js = search (arith, eq_self, pid_eq-same, id_eq-same) in
+    State-at None k.rest.point w.point k.point (all_dropped js next p k.rest (queue_front pt k.s j js p h front is) (ap (λ m. next.view.queue m p) acting ∙ dropped_queue) k.more)

@@ -1,7 +1,7 @@
 -- A machine is asked to take a process: there is room for it, or what is free is said.
-use Rattle.dm_mirror.proofs.Names.{◌≡◌, ◌≢◌, ℕ, ◌+◌, ◌/◌, ◌<◌, ◌==◌, ◌&&◌, Bool, true, false, nat_le, List, [], length, map, refl, ap, ◌∙◌, sym, subst, arith, if◌then◌else◌, slice_get, Option, Some, false≢true, All-nil, Pid, pid_eq}
-use Rattle.dm_mirror.proofs.Names.{Message, MsgId, What, Record, Line, Stage, MessageKind, kind_of, IsLawfulMessage, Process, Taken, free_blocks, free_slots, with_reserved, incoming_of, Chunk, expected, CanMove, HasChunk, state_of, coming}
-use Rattle.dm_mirror.proofs.Names.{Boot, slots_of, plain_process, PlainProcess, pid_eq-same, told_step, Moves, kind_comes, knows, kind_leaves, Point, Room, fits, free_room, taken_at, taken_by, at_pid, at_record, Known, Unknown, Frozen}
+use Rattle.dm_mirror.proofs.Names.{◌≡◌, ◌≢◌, ℕ, ◌+◌, ◌/◌, ◌<◌, ◌==◌, ◌&&◌, Bool, true, false, nat_le, List, [], length, map, refl, ap, ◌∙◌, sym, subst, arith, if◌then◌else◌, slice_get, Option, Some, false≢true, All-nil, Pid, pid_eq, after}
+use Rattle.dm_mirror.proofs.Names.{Message, MsgId, What, Record, Line, Stage, MessageKind, kind_of, IsLawfulMessage, Process, free_blocks, free_slots, with_reserved, incoming_of, Chunk, expected, CanMove, HasChunk, state_of, coming}
+use Rattle.dm_mirror.proofs.Names.{Boot, slots_of, plain_process, PlainProcess, pid_eq-same, told_step, Moves, kind_comes, knows, kind_leaves, Point, Room, fits, free_room, taken_at, taken_by, at_pid, at_record, Known, Unknown, Frozen, ◌∷◌}
 use Rattle.dm_mirror.proofs.Names.{Incoming, Forward, front_of, is_server, has_nothing_held, Placed, room_of, accepts, with_expected, kernel_handles, KernelState, KnownStands, KernelStands, RoomStands, AllRecords, Carries, source_knows}
 use Rattle.dm_mirror.proofs.Names.{and_false, tells_onward, nat_tests, sort_of, drop}
 use Rattle.dm_room.specs.Room as room_
@@ -10,16 +10,15 @@ use Rattle.dm_rule.specs.Migrating as rule_moves
 use Rattle.dm_rule.specs.Rule as rule
 use Rattle.dm_kernel.specs.State as machine
 use Rattle.dm_mirror.proofs.Come.Frames.{Arrives, Comes, arrives}
-use Rattle.dm_mirror.proofs.Come.Pieces.{room_kept, after_lacks, comes_known, first_gone, outcome_kernel, turn_kernel, turns_memory, turns_state}
-use Rattle.dm_mirror.proofs.Come.Turns.{come_point, come_view, eq_off, eq_self, known_same, turns_answer}
+use Rattle.dm_mirror.proofs.Come.Pieces.{room_kept, comes_known, first_gone, outcome_kernel, turn_kernel, turns_memory, turns_state}
+use Rattle.dm_mirror.proofs.Come.Turns.{come_point, come_view, eq_off, eq_self, turns_answer}
+use Rattle.dm_mirror.proofs.Recorded.{recorded}
 use Rattle.dm_mirror.proofs.Rooms.{taken_changed}
-use Rattle.dm_mirror.proofs.Turning.{TurnsAt}
+use Rattle.dm_mirror.proofs.Kernel.Sets.{known_at as known_on}
+use Rattle.dm_mirror.proofs.Turning.{TurnsAt, begun}
 use Rattle.dm_mirror.proofs.Handle.Taking.{pid_apart as pid_off, some_same}
 use Rattle.dm_mirror.proofs.Come.Restarts.{turns_restart}
 use Rattle.dm_mirror.proofs.Handle.Kills.{free_of as free_as}
-
-room_as : (t : Taken) (r : Room) (n : ℕ) → (free_slots t ≡ r.slots) × (free_blocks t ≡ r.blocks) → room_.has_room t n ≡ rule.has_room r n
-room_as t r n h = λ i. nat_le 1 (h.0 i) && nat_le n (h.1 i)
 
 -- the machine that it leaves holds it back
 frozen_is : (d : ℕ) (n : Known) → kind_leaves MessageKind.Ask d n ≡ true → (to : ℕ) × (n ≡ Frozen to)
@@ -27,9 +26,6 @@ frozen_is d n e = grind (arith, nat_tests)
 
 frozen_unknown : (to : ℕ) → Frozen to ≢ Unknown
 frozen_unknown to e = cc
-
-leaves_by : (pt : Point) (l : Placed) (p : Pid) (queue held_ : List MsgId) (to : ℕ) (r : Option machine.KernelKnown) → KnownStands pt l p queue held_ (Frozen to) r → (x : Process) × (q : List Message) × (l.processes p ≡ Some (record x { queue = q })) × CanMove x
-leaves_by pt l p queue held_ to r h = grind (arith, nat_tests)
 
 -- whatever waits for it
 pub without_queue : (x : Process) → CanMove x → CanMove (record x { queue = [] })
@@ -48,9 +44,9 @@ leaves_where b m pt l k y p a is =
 
 can_by : (b : Boot) (pt : Point) (l : Placed) (s to : ℕ) (z : KernelState) (p : Pid) (x : Process) → pt.view.known s p ≡ Frozen to → is_server p ≡ false → KernelStands b pt l s z → l.processes p ≡ Some x → CanMove (record x { queue = [] })
 can_by b pt l s to z p x frozen server stands there =
-    let (w, q, is, whole) = leaves_by pt l p (pt.view.queue s p) (pt.view.held s p) to (z.records p) (subst (λ (n : Known). KnownStands pt l p (pt.view.queue s p) (pt.view.held s p) n (z.records p)) frozen (stands.known p server)) in
-    let same : record w { queue = q } ≡ x = some_same (record w { queue = q }) x (sym is ∙ there) in
-    subst (λ (u : Process). CanMove (record u { queue = [] })) same (without_queue w whole)
+    let (d, is, leaves) = recorded b pt l s z p (Frozen to) stands server frozen in
+    let same : record d.process { queue = leaves.here.0.0 } ≡ x = some_same (record d.process { queue = leaves.here.0.0 }) x (sym leaves.here.0.1 ∙ there) in
+    subst (λ (u : Process). CanMove (record u { queue = [] })) same (without_queue d.process leaves.whole)
 
 pub can_come : (b : Boot) (m : ℕ) (pt : Point) (l : Placed) (records : AllRecords) (k : KernelState) (y : Message) (p : Pid) → Comes b m pt l records k y p → (a : Arrives b m pt l k y p) → kind_of y.what ≡ MessageKind.Ask
     → ((n : ℕ) → n < pt.kernel.machines → (z : KernelState) × KernelStands b pt l n z) → CanMove (record a.process { queue = [] })
@@ -83,10 +79,10 @@ lacks_row b m pt l records k y p c a is handles none =
     turns_answer b m pt l records k y p c a (search (
       turn_kernel b m pt l records k y p c a (accepts b s y p (length a.process.memory / 256) a.process.moves (length (state_of a.process)) (l.notes p) false) handles,
       outcome_kernel b m pt l records k y p c a _ (ap (λ (k : MessageKind). told_step pt m y.id p (fits r (length a.process.memory / 256)) (plain_process a.process) (sort_of k)) is ∙ ap (λ (d : Bool). Some (rule_moves.accepts y.id.from.home p d r.slots r.blocks)) none ∙ (λ i. Some (rule_moves.accepts y.id.from.home p false (sym free.0 i) (sym free.1 i)))),
-      after_lacks pt m p (free_slots k.room) (free_blocks k.room),
+      (let e_ : after (begun pt m) (Line.Lacks p (free_slots k.room) (free_blocks k.room) ∷ []) ≡ Some (come_point pt (come_view pt.view m p (drop 1 (pt.view.inbox m)) pt.view.known pt.view.asked)) = refl in e_),
       first_gone y.id c.ids (v.inbox m) c.box,
       room_kept b pt m p box v.asked l records k y c,
-      known_same pt (come_view v m p box v.known v.asked) l p (v.queue m p) (v.held m p) (v.known m p) (k.records p) (c.stands.known p a.server),
+      known_on pt next l l p (v.queue m p) (v.held m p) (v.known m p) (k.records p) refl refl refl (λ j least. refl) (λ j least. refl) (c.stands.known p a.server),
     ))
 
 -- there is
@@ -144,8 +140,7 @@ accepts_row b m pt l records k y p c a is handles some_ whole table =
     let next = come_point pt (come_view v m p box now asked) in
     let new = expected p (length x.memory / 256) x.moves (length (state_of x)) (l.notes p) (slots_of b.format) in
     let state = machine.with_sent (with_expected b s p (length x.memory / 256) x.moves (length (state_of x)) (l.notes p)) in
-    let named = a.named in
-    let pieces : new ≡ coming x (l.notes p) [] (Chunk 0) = λ i. expected (sym named i) (length x.memory / 256) x.moves (length (state_of x)) (l.notes p) (sym table i) in
+    let pieces : new ≡ coming x (l.notes p) [] (Chunk 0) = λ i. expected (sym a.named i) (length x.memory / 256) x.moves (length (state_of x)) (l.notes p) (sym table i) in
     let there : state.records p ≡ Some (Record.Incoming new) = ap (λ (d : Bool). if d then Some (Record.Incoming new) else k.records p) (pid_eq-same p) in
     let one : asked p ≡ 1 = ap (λ (d : Bool). if d then 1 else v.asked p) (pid_eq-same p) in
     let held : v.held m p ≡ [] = c.run.based.lists.held m p none.held in
@@ -199,13 +194,12 @@ turns_ask b m pt l records k y p q blocks moves size asker c e nodes tables =
     let a = arrives b m pt l records k y p c in
     let x = a.process in
     let s = record k { inbox = c.rest } in
-    let r = free_room b pt m in
     let carried = subst (λ (w : What). Carries p x (l.notes p) (pt.view.asked p) (incoming_of (k.records p)) w) e a.carries in
     let is : kind_of y.what ≡ MessageKind.Ask = ap kind_of e in
     let free = free_as k.room (slice_get b.machines m) (taken_at pt m pt.kernel.machines) c.stands.room in
-    ask_by b m pt l records k y p c a (rule.has_room r (length x.memory / 256)) is (ap (kernel_handles b s y) (e ∙ carried)
+    ask_by b m pt l records k y p c a (rule.has_room (free_room b pt m) (length x.memory / 256)) is (ap (kernel_handles b s y) (e ∙ carried)
     ∙ ap (λ (z : Pid). accepts b s y z (length x.memory / 256) x.moves (length (state_of x)) (l.notes p) (room_.has_room k.room (length x.memory / 256))) a.named
-    ∙ ap (accepts b s y p (length x.memory / 256) x.moves (length (state_of x)) (l.notes p)) (room_as k.room r (length x.memory / 256) free))
+    ∙ ap (accepts b s y p (length x.memory / 256) x.moves (length (state_of x)) (l.notes p)) (λ i. nat_le 1 (free.0 i) && nat_le (length x.memory / 256) (free.1 i)))
     refl (can_come b m pt l records k y p c a is nodes) (tables x a.there)
 
 -- A turn that handles what the machine that a process leaves tells the machine that it comes to.

@@ -1,8 +1,8 @@
 -- A message about a process that comes to a machine, at the front of its inbox: what is known then.
 use Rattle.dm_mirror.proofs.Names.{◌≡◌, ℕ, ◌+◌, ◌≤◌, Bool, true, false, List, ◌∷◌, refl, ap, ◌∙◌, sym, subst, inl, inr, is_some, arith, if◌then◌else◌, option_map, Option, None, Some, false≢true, nat_tests, Pid, pid_of, kernel_at, Message}
-use Rattle.dm_mirror.proofs.Names.{MsgId, MessageKind, kind_of, PlainMessage, plain_message, Process, incoming_of, Boot, OneKernel, bind, plain_process, Made, id_eq-same, is_between, tells_onward, Moves, IsIn, receiver_in, sender_in}
+use Rattle.dm_mirror.proofs.Names.{MsgId, MessageKind, kind_of, PlainMessage, plain_message, Process, incoming_of, Boot, bind, plain_process, id_eq-same, is_between, tells_onward, Moves, IsIn, receiver_in, sender_in}
 use Rattle.dm_mirror.proofs.Names.{told_between, Point, Spot, Inbox, StandsOnce, StandsOutside, standing, times, Of, Told, is_kernels, stands_right, not_kernels, token_is, token_at, is_server, Run, Placed, Mirrors, KernelState, MadeStands}
-use Rattle.dm_mirror.proofs.Names.{AllOwnStand, OwnStands, about_of, told_of, AreMessages, KernelStands, AllRecords, Carries, TokensStand, destination_of, inbox_is, about_same, ◌*◌, ◌/◌, ◌<◌, ◌==◌, not, [], length, map, nat_lt, nat_le}
+use Rattle.dm_mirror.proofs.Names.{AllOwnStand, OwnStands, about_of, told_of, AreMessages, KernelStands, AllRecords, Carries, TokensStand, destination_of, inbox_is, about_same, ◌*◌, ◌/◌, ◌==◌, not, [], length, map, nat_lt, nat_le}
 use Rattle.dm_mirror.proofs.Names.{flat_map, length-append, flat_map-cons, Link, plain_link, Shell, registers, shell_of, spell_slot, numbers_size, Chunk, Block, Nothing, after_block, after_chunk, is_last, state_of, HasPiece, plain_status}
 use Rattle.dm_mirror.proofs.Names.{chunks_of, links_size, pieces_of, status_size, IsAsked, shell_spelling, sort_of, option_map_or}
 use Rattle.dm_rule.proofs.QuietTests.{eq_is}
@@ -72,15 +72,11 @@ fresh_own b pt l i run mirrors own mine untold = by_bag (l.bag i) refl
     by_plain x there None plain = let e : None ≡ Some (told_of x) = sym untold ∙ (own i x there plain).told in cc
     by_plain x there (Some v) plain =
         let sane = run.based.phased.sane in
-        let in_bag : pt.kernel.bag i ≡ Some v = sym (mirrors.plain.bag i) ∙ ap (λ (o : Option Message). bind o plain_message) there ∙ plain in
-        false≢true (sym (not_kernels sane.r sane.e pt.kernel i v in_bag sane.sound) ∙ mine)
+        false≢true (sym (not_kernels sane.r sane.e pt.kernel i v (sym (mirrors.plain.bag i) ∙ ap (λ (o : Option Message). bind o plain_message) there ∙ plain) sane.sound) ∙ mine)
 
     by_bag : (o : Option Message) → l.bag i ≡ o → l.bag i ≡ None
     by_bag None e = e
     by_bag (Some x) e = absurd (by_plain x e (plain_message x) refl)
-
-no_server : (s : OneKernel) (p : Pid) → Made s → is_some (s.processes p) ≡ true → is_server p ≡ false
-no_server s p h there = grind (arith, nat_tests)
 
 -- what is known of it
 record Token (pt : Point) (m : ℕ) (y : Message) (p : Pid) : Type 0 where
@@ -127,7 +123,7 @@ arrives b m pt l records k y p c =
       subst (λ (x : Message). Carries p token.process (l.notes p) (pt.view.asked p) (incoming_of (k.records p)) x.what) same
           (subst (λ o. Carries p token.process (l.notes p) (pt.view.asked p) (incoming_of o) token.message.what) records_is token.carries),
       (c.mirrors.places.process p token.process token.there).pid,
-      no_server pt.kernel p c.run.based.phased.sane.sound.made is_made,
+      (let e_ : is_server p ≡ false = grind (arith, nat_tests, c.run.based.phased.sane.sound.made) in e_),
     )
 
 -- How many pieces a process that moves has, by its bytes and by the rule, and which of them is asked for next.
@@ -135,9 +131,8 @@ arrives b m pt l records k y p c =
 slots_length : (xs : List (Option Link)) → length (flat_map spell_slot xs) ≡ links_size (map (option_map plain_link) xs)
 slots_length [] = omega arith
 slots_length (x ∷ xs) =
-    let one : length (flat_map spell_slot (x ∷ xs)) ≡ length (spell_slot x) + length (flat_map spell_slot xs) = ap length (flat_map-cons spell_slot x xs) ∙ length-append (spell_slot x) (flat_map spell_slot xs) in
     let slot_length : length (spell_slot x) ≡ option_map_or (λ _. 24) (option_map plain_link x) 0 = grind (arith, nat_tests) in
-    omega (arith, one, slot_length, slots_length xs)
+    omega (arith, (ap length (flat_map-cons spell_slot x xs) ∙ length-append (spell_slot x) (flat_map spell_slot xs)), slot_length, slots_length xs)
 
 registers_length : (xs : List ℕ) → length xs ≡ 16 → length (registers.spell xs) ≡ 64
 unfolding registers
@@ -154,22 +149,16 @@ least_of : (a c : ℕ) → nat_le a c ≡ true → a ≤ c
 least_of a c e = grind (arith, nat_tests)
 
 -- a chunk is the last where as many were asked for as there are
-pub chunk_count : (last : Bool) (n k size : ℕ) → nat_le size (512 * (k + 1)) ≡ last → n ≡ k + 1 → 512 * k < size → (n == (size + 511) / 512) ≡ last
-chunk_count last n k size e asked there = grind (arith, nat_tests, least_of, eq_is)
-
 pub chunk_last : (x : Process) (n k : ℕ) → length x.regs.r ≡ 16 → IsAsked x n (Chunk k) → (n == chunks_of (plain_process x)) ≡ is_last (state_of x) k
 chunk_last x n k sixteen asked =
-    ap (λ (c : ℕ). n == c) (sym (chunks_same x sixteen)) ∙ chunk_count (is_last (state_of x) k) n k (length (state_of x)) refl asked.0 asked.1
+    ap (λ (c : ℕ). n == c) (sym (chunks_same x sixteen)) ∙ (let e_ : (n == ((length (state_of x)) + 511) / 512) ≡ (is_last (state_of x) k) = grind (arith, nat_tests, least_of, eq_is, asked.0, asked.1) in e_)
 
 -- what is asked for then
-chunk_next : (last : Bool) (x : Process) (n k : ℕ) → nat_le (length (state_of x)) (512 * (k + 1)) ≡ last → IsAsked x n (Chunk k) → HasPiece x (after_chunk k last) → IsAsked x (n + 1) (after_chunk k last)
+pub chunk_next : (last : Bool) (x : Process) (n k : ℕ) → nat_le (length (state_of x)) (512 * (k + 1)) ≡ last → IsAsked x n (Chunk k) → HasPiece x (after_chunk k last) → IsAsked x (n + 1) (after_chunk k last)
 chunk_next true x n k e asked there =
     let f : (length (state_of x) + 511) / 512 ≡ k + 1 = (let g = least_of (length (state_of x)) (512 * (k + 1)) e in let h = asked.1 in omega (arith, g, h)) in
     (omega (arith, f, asked.0), there)
 chunk_next false x n k e asked there = (omega (arith, asked.0), there)
-
-pub asked_after_chunk : (x : Process) (n k : ℕ) → IsAsked x n (Chunk k) → HasPiece x (after_chunk k (is_last (state_of x) k)) → IsAsked x (n + 1) (after_chunk k (is_last (state_of x) k))
-asked_after_chunk x n k asked there = chunk_next (is_last (state_of x) k) x n k refl asked there
 
 pub block_last : (x : Process) (n j : ℕ) → length x.regs.r ≡ 16 → length x.memory ≡ 256 * (length x.memory / 256) → IsAsked x n (Block j) → (n == pieces_of (plain_process x)) ≡ not (nat_lt (j + 1) (length x.memory / 256))
 block_last x n j sixteen whole asked = grind (arith, nat_tests, chunks_same, nat_lt)

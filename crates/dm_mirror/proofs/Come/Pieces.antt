@@ -7,8 +7,9 @@ use Rattle.dm_mirror.proofs.Names.{takes_block, takes_chunk, Wants, Asker, sort_
 use Rattle.dm_rule.proofs.Names.{Part}
 use Rattle.dm_kernel.specs.declared.part.Part.TheVariants as part
 use Rattle.dm_kernel.specs.State as machine
-use Rattle.dm_mirror.proofs.Come.Frames.{Arrives, Comes, arrives, asked_after_block, asked_after_chunk, block_last, chunk_last}
+use Rattle.dm_mirror.proofs.Come.Frames.{Arrives, Comes, arrives, asked_after_block, block_last, chunk_last, chunk_next}
 use Rattle.dm_mirror.proofs.Come.Turns.{come_point, come_view, turns_answer, eq_self}
+use Rattle.dm_mirror.proofs.Recorded.{recorded}
 use Rattle.dm_mirror.proofs.Rooms.{taken_same}
 use Rattle.dm_mirror.proofs.Turning.{TurnsAt, begun}
 use Rattle.dm_mirror.proofs.Kernel.Sets.{on_if as if_true}
@@ -28,33 +29,8 @@ comes_known b m pt l k y p a = grind (arith, nat_tests, apart_is, eq_self)
 pub known_incoming : (b : Boot) (m : ℕ) (pt : Point) (l : Placed) (k : KernelState) (y : Message) (p : Pid) (a : Arrives b m pt l k y p) → is_early (kind_of y.what) ≡ false → pt.view.known m p ≡ Incoming a.source
 known_incoming b m pt l k y p a late = expects_is (kind_of y.what) a.source (pt.view.known m p) late (comes_known b m pt l k y p a)
 
--- it expects the process
-pub record Expects (l : Placed) (p : Pid) (held_ : List MsgId) (r : Option machine.KernelKnown) : Type 0 where
-  pub arrival : Arrival
-  pub is : r ≡ Some (Record.Incoming arrival)
-  pub comes_ : ComesStand l p held_ arrival
-
-expects_by : (pt : Point) (l : Placed) (p : Pid) (queue held_ : List MsgId) (s : ℕ) (r : Option machine.KernelKnown) → KnownStands pt l p queue held_ (Incoming s) r → Expects l p held_ r
-expects_by pt l p queue held_ s (Some (Record.Incoming a)) h = record { arrival = a; is = refl; comes_ = h }
-expects_by pt l p queue held_ s _ h = absurd h
-
-pub expects : (b : Boot) (m : ℕ) (pt : Point) (l : Placed) (records : AllRecords) (k : KernelState) (y : Message) (p : Pid) (c : Comes b m pt l records k y p) (a : Arrives b m pt l k y p) → is_early (kind_of y.what) ≡ false → Expects l p (pt.view.held m p) (k.records p)
-expects b m pt l records k y p c a late =
-    expects_by pt l p (pt.view.queue m p) (pt.view.held m p) a.source (k.records p)
-    (subst (λ (n : Known). KnownStands pt l p (pt.view.queue m p) (pt.view.held m p) n (k.records p)) (known_incoming b m pt l k y p a late) (c.stands.known p a.server))
-
 pub first_gone : (i : MsgId) (is xs : List MsgId) → xs ≡ i ∷ is → drop 1 xs ≡ is
 first_gone i is xs e = ap (drop 1) e
-
--- where the lines lead
-pub after_state_taken : (pt : Point) (m : ℕ) (p : Pid) → after (begun pt m) (Line.Migration Stage.StateTaken p ∷ []) ≡ Some (come_point pt (come_view pt.view m p (drop 1 (pt.view.inbox m)) pt.view.known (at_pid pt.view.asked p (pt.view.asked p + 1))))
-after_state_taken pt m p = refl
-
-pub after_memory_taken : (pt : Point) (m : ℕ) (p : Pid) → after (begun pt m) (Line.Migration Stage.MemoryTaken p ∷ []) ≡ Some (come_point pt (come_view pt.view m p (drop 1 (pt.view.inbox m)) pt.view.known pt.view.asked))
-after_memory_taken pt m p = refl
-
-pub after_lacks : (pt : Point) (m : ℕ) (p : Pid) (slots blocks : ℕ) → after (begun pt m) (Line.Lacks p slots blocks ∷ []) ≡ Some (come_point pt (come_view pt.view m p (drop 1 (pt.view.inbox m)) pt.view.known pt.view.asked))
-after_lacks pt m p slots blocks = refl
 
 -- a piece that isn't the last
 pub after_piece : (pt : Point) (m : ℕ) (p q : Pid) (i : MsgId) (k : MessageKind) → (k ≡ MessageKind.State) → pt.view.told i ≡ Some (record { kind = k; receiver = q; about = Of p })
@@ -72,9 +48,6 @@ told_about b m pt l records k y p c a = a.told ∙ ap (λ (x : About). Some (rec
 
 -- A piece comes of a process that comes, and the next is asked for, or all is said to have come.
 
-pull_about : (p : Pid) (w : Wanted) → about_of (pull p w) ≡ Of p
-pull_about p w = grind (arith, nat_tests)
-
 pull_carries : (p : Pid) (x : Process) (k : Option Asker) (n : ℕ) (held : List Message) (w : Wanted) → x.pid ≡ p → IsAsked x n w → Carries p x k n (Some (coming x k held w)) (pull x.pid w)
 pull_carries p x k n held Nothing named asked = (named, refl)
 pull_carries p x k n held _ named asked = (named, asked, refl)
@@ -83,8 +56,7 @@ pull_carries p x k n held _ named asked = (named, asked, refl)
 pub room_kept : (b : Boot) (pt : Point) (m : ℕ) (p : Pid) (box : List MsgId) (asked : Pid → ℕ) (l : Placed) (records : AllRecords) (k : KernelState) (y : Message) (c : Comes b m pt l records k y p)
     → RoomStands k.room (room_of (slice_get b.machines m)) (taken_at (come_point pt (come_view pt.view m p box pt.view.known asked)) m pt.kernel.machines)
 room_kept b pt m p box asked l records k y c =
-    let next = come_point pt (come_view pt.view m p box pt.view.known asked) in
-    subst (RoomStands k.room (room_of (slice_get b.machines m))) (sym (taken_same pt next m refl (λ h. refl) (λ q. refl))) c.stands.room
+    subst (RoomStands k.room (room_of (slice_get b.machines m))) (sym (taken_same pt (come_point pt (come_view pt.view m p box pt.view.known asked)) m refl (λ h. refl) (λ q. refl))) c.stands.room
 
 -- a piece has come, and this is asked for then
 pub record Piece (b : Boot) (m : ℕ) (pt : Point) (l : Placed) (records : AllRecords) (k : KernelState) (y : Message) (p : Pid) (c : Comes b m pt l records k y p) (a : Arrives b m pt l k y p) : Type 0 where
@@ -142,7 +114,7 @@ turns_piece b m pt l records k y p c a h =
           (record { process = a.process; there = a.there; whole = h.whole; pieces = refl; held = h.held.held }));
       between = grind (arith, nat_tests);
       is_reply = grind (arith, nat_tests);
-      about = pull_about a.process.pid h.wanted ∙ ap Of a.named;
+      about = (let e_ : about_of (pull a.process.pid h.wanted) ≡ Of a.process.pid = grind (arith, nat_tests) in e_) ∙ ap Of a.named;
       plain = grind (arith, nat_tests);
       encloses = grind (arith, nat_tests);
       gives = λ v i q. grind (arith, nat_tests);
@@ -162,16 +134,16 @@ pub record Before (b : Boot) (m : ℕ) (pt : Point) (l : Placed) (k : KernelStat
 
 pub before : (b : Boot) (m : ℕ) (pt : Point) (l : Placed) (records : AllRecords) (k : KernelState) (y : Message) (p : Pid) (c : Comes b m pt l records k y p) (a : Arrives b m pt l k y p) (w : Wanted) → is_early (kind_of y.what) ≡ false → Wants (incoming_of (k.records p)) w → Before b m pt l k y p a w
 before b m pt l records k y p c a w late wants =
-    let e = expects b m pt l records k y p c a late in
-    let h = e.comes_ in
+    let (arrival, is, h) = recorded b pt l m k p (Incoming a.source) c.stands a.server (known_incoming b m pt l k y p a late) in
     let same : h.process ≡ a.process = some_same h.process a.process (sym h.there ∙ a.there) in
-    let is_wanted : e.arrival.wanted ≡ w = subst (λ (o : Option machine.KernelKnown). Wants (incoming_of o) w) e.is wants in
-    search (subst (λ (z : Process). CanMove (record z { queue = [] })) same h.whole, h.pieces ∙ (λ i. coming (same i) (l.notes p) e.arrival.held (is_wanted i)))
+    let is_wanted : arrival.wanted ≡ w = subst (λ (o : Option machine.KernelKnown). Wants (incoming_of o) w) is wants in
+    search (subst (λ (z : Process). CanMove (record z { queue = [] })) same h.whole, h.pieces ∙ (λ i. coming (same i) (l.notes p) arrival.held (is_wanted i)))
 
 asked_others : (f : Pid → ℕ) (p q : Pid) (n : ℕ) → pid_eq p q ≡ false → at_pid f p n q ≡ f q
 asked_others f p q n off = ap (λ (d : Bool). if d then n else f q) off
 
 -- a chunk, the last or another
+-- where the lines lead
 state_by : (b : Boot) (m : ℕ) (pt : Point) (l : Placed) (records : AllRecords) (k : KernelState) (y : Message) (p : Pid) (c : Comes b m pt l records k y p) (a : Arrives b m pt l k y p) (chunk : ℕ) (h : Before b m pt l k y p a (Chunk chunk)) (d : Bool)
     → kind_of y.what ≡ MessageKind.State → kernel_handles b (record k { inbox = c.rest }) y y.what ≡ bind (incoming_of (k.records p)) (takes_piece (record k { inbox = c.rest }) y p)
     → with_piece h.arrival y.what ≡ Some (coming a.process (l.notes p) h.arrival.held (after_chunk chunk d))
@@ -182,7 +154,7 @@ state_by b m pt l records k y p c a chunk h true is takes took asked test =
       ap is_early is,
       at_pid v.asked p (v.asked p + 1),
       ap (λ (k : MessageKind). told_step pt m y.id p (fits (free_room b pt m) (length a.process.memory / 256)) (plain_process a.process) (sort_of k)) is ∙ ap (λ (e : Bool). Some (takes_chunk y.id p e)) test,
-      after_state_taken pt m p,
+      (let e_ : after (begun pt m) (Line.Migration Stage.StateTaken p ∷ []) ≡ Some (come_point pt (come_view pt.view m p (drop 1 (pt.view.inbox m)) pt.view.known (at_pid pt.view.asked p (pt.view.asked p + 1)))) = refl in e_),
       first_gone y.id c.ids (v.inbox m) c.box,
       asked_others,
       subst (λ (n : ℕ). IsAsked a.process n (Block 0)) (sym (ap (λ (d : Bool). if d then (v.asked p + 1) else v.asked p) (pid_eq-same p))) asked,
@@ -213,7 +185,7 @@ turns_state b m pt l records k y p q chunk last bytes c e =
     state_by b m pt l records k y p c a chunk h (is_last (state_of x) chunk) is
     (ap (kernel_handles b s y) e ∙ ap (λ (z : Pid). bind (incoming_of (k.records z)) (takes_piece s y z)) (chunk_pid ∙ a.named))
     ((λ i. with_piece (h.pieces i) ((e ∙ carried.0) i)) ∙ pieces.chunk_taken chunk carried.1.1)
-    (asked_after_chunk x (pt.view.asked p) chunk carried.1 (pieces.after_chunk chunk carried.1.1))
+    (chunk_next (is_last (state_of x) chunk) x (pt.view.asked p) chunk refl carried.1 (pieces.after_chunk chunk carried.1.1))
     (chunk_last x (pt.view.asked p) chunk h.whole.lawful.registers carried.1)
 
 -- a block, another or the last
@@ -238,7 +210,7 @@ memory_by b m pt l records k y p c a block h false is takes took asked test late
     turns_piece b m pt l records k y p c a (search (
       ap is_early is,
       ap (λ (k : MessageKind). told_step pt m y.id p (fits (free_room b pt m) (length a.process.memory / 256)) (plain_process a.process) (sort_of k)) is ∙ ap (λ (e : Bool). Some (takes_block y.id p e)) test,
-      after_memory_taken pt m p,
+      (let e_ : after (begun pt m) (Line.Migration Stage.MemoryTaken p ∷ []) ≡ Some (come_point pt (come_view pt.view m p (drop 1 (pt.view.inbox m)) pt.view.known pt.view.asked)) = refl in e_),
       first_gone y.id c.ids (pt.view.inbox m) c.box,
     ))
 

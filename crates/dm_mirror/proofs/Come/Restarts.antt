@@ -1,19 +1,22 @@
 -- A process that has come goes on: it is here, at the ring's back, and what was held for it comes before the inbox.
-use Rattle.dm_mirror.proofs.Names.{◌≡◌, ◌≢◌, ℕ, ◌+◌, ◌/◌, ◌≤◌, ◌==◌, Bool, true, false, List, [], ◌∷◌, ◌++◌, length, map, refl, ap, ◌∙◌, sym, subst, inl, inr, arith, if◌then◌else◌, slice_get, Option, None, Some, cases_Bool, nat_tests}
-use Rattle.dm_mirror.proofs.Names.{false≢true, Pid, pid_eq, Message, MsgId, What, Record, Line, Stage, MessageKind, kind_of, Process, incoming_of, with_record, Nothing, restarted, ComesByPieces, by_pieces, Boot, bind, plain_process}
-use Rattle.dm_mirror.proofs.Names.{pid_eq-is, pid_eq-same, told_step, Moves, is_early, knows, Point, moved, Room, fits, free_room, taken_at, taken_by, at_machine, at_record, Spot, Held, Inbox, standing, times, Known, Unknown, Here, Frozen}
-use Rattle.dm_mirror.proofs.Names.{Incoming, Forward, Ended, Of, View, once_at, times-append, is_server, has_no_queue, Placed, restarted_mirrors, mirrors_view, room_of, restarts, restarts_as, kernel_handles, KernelState, AreMessages}
-use Rattle.dm_mirror.proofs.Names.{KnownStands, RoomStands, AllRecords, Carries, TokensStand, destination_of, and_false, least_of, at_record_at, Asker, Outcome, Arrival, coming, tells_asker, Told, is_between, sort_of, drop}
+use Rattle.dm_mirror.proofs.Names.{takes_room}
+use Rattle.dm_mirror.proofs.Names.{◌≡◌, ◌≢◌, ℕ, ◌+◌, ◌/◌, ◌≤◌, ◌==◌, Bool, true, false, List, [], ◌∷◌, ◌++◌, length, map, refl, ap, ◌∙◌, sym, subst, inl, inr, arith, if◌then◌else◌, Option, Some, cases_Bool, nat_tests}
+use Rattle.dm_mirror.proofs.Names.{false≢true, Pid, pid_eq, Message, MsgId, What, Record, Line, Stage, MessageKind, kind_of, incoming_of, with_record, Nothing, restarted, ComesByPieces, by_pieces, Boot, bind, plain_process}
+use Rattle.dm_mirror.proofs.Names.{pid_eq-is, pid_eq-same, told_step, Moves, is_early, knows, Point, moved, fits, free_room, at_machine, Spot, Held, Inbox, standing, times, Known, Here}
+use Rattle.dm_mirror.proofs.Names.{Of, View, once_at, times-append, is_server, has_no_queue, Placed, restarted_mirrors, mirrors_view, restarts, restarts_as, kernel_handles, KernelState, AreMessages}
+use Rattle.dm_mirror.proofs.Names.{KnownStands, AllRecords, Carries, least_of, at_record_at, Outcome, Arrival, tells_asker, Told, is_between, sort_of, drop}
 use Rattle.dm_rule.proofs.Names.{Part}
 use Rattle.dm_places.specs.PlacedStep.{with_process}
 use Rattle.dm_mirror.proofs.Leave.Answered.{EndsMove, ends_move_row}
 use Rattle.dm_mirror.proofs.Come.Frames.{Arrives, Comes, arrives, own_once}
-use Rattle.dm_mirror.proofs.Come.Turns.{come_view, eq_off, fewer, gone, machine_self, others_known}
+use Rattle.dm_mirror.proofs.Come.Turns.{come_view, eq_off, fewer, gone, machine_self}
 use Rattle.dm_mirror.proofs.Rooms.{taken_same}
 use Rattle.dm_mirror.proofs.Turning.{TurnsAt, begun, has_process}
 use Rattle.dm_mirror.proofs.Leave.Stays.{messages_append as are_both}
 use Rattle.dm_mirror.proofs.Come.Pieces.{first_gone, known_incoming, outcome_kernel, turn_kernel, before}
-use Rattle.dm_mirror.proofs.Handle.Taking.{machine_off, record_off as record_away}
+use Rattle.dm_mirror.proofs.Handle.Taking.{machine_off, record_off as record_away, record_others, stands_set}
+use Rattle.dm_mirror.proofs.Leave.Asks.{room_stays, taken_at_record}
+use Rattle.dm_mirror.proofs.Leave.Fronts.{records_as, tokens_one}
 use Rattle.dm_migrate.specs.Way as way
 use Rattle.dm_onekernel.specs.Step as kernel
 use Rattle.dm_rule.specs.Rule as group
@@ -23,29 +26,6 @@ use Rattle.dm_rule.specs.Migrating as migrating
 
 abbrev pub back_point : Point → ℕ → Pid → Point
 back_point pt m p = moved (begun pt m) (Line.Migration Stage.Restarted p) pt.kernel
-
--- what is known of another process
-known_apart : (pt next : Point) (l placed : Placed) (p : Pid) (queue held_ : List MsgId) (k : Known) (r : Option machine.KernelKnown)
-    → placed.processes p ≡ l.processes p → placed.notes p ≡ l.notes p → placed.bag ≡ l.bag → next.kernel.processes p ≡ pt.kernel.processes p
-    → KnownStands pt l p queue held_ k r → KnownStands next placed p queue held_ k r
-known_apart pt next l placed p queue held_ Unknown None same notes bag life h = tt
-known_apart pt next l placed p queue held_ Here (Some (Record.Here x)) same notes bag life h = ((h.0.0, same ∙ h.0.1), ap (λ f. map f queue) bag ∙ h.1)
-known_apart pt next l placed p queue held_ (Frozen to) (Some (Record.Frozen d)) same notes bag life h = search
-    (h.asker ∙ sym notes, same ∙ h.here.0.1, ap (λ f. map f queue) bag ∙ h.here.1, ap (λ f. map f held_) bag ∙ h.held)
-known_apart pt next l placed p queue held_ (Incoming from) (Some (Record.Incoming a)) same notes bag life h =
-    record {
-      process = h.process;
-      there = same ∙ h.there;
-      whole = h.whole;
-      pieces = h.pieces ∙ ap (λ (k : Option Asker). coming h.process k a.held a.wanted) (sym notes);
-      held = ap (λ f. map f held_) bag ∙ h.held;
-    }
-known_apart pt next l placed p queue held_ (Forward at_ moves) (Some (Record.Forward to count)) same notes bag life h = h
-known_apart pt next l placed p queue held_ Ended (Some (Record.Ended y)) same notes bag life h = ap kernel.why_ended life ∙ h
-known_apart pt next l placed p queue held_ k r same notes bag life h = absurd h
-
-record_off : {X : Type 0} (f : ℕ → Pid → X) (m n : ℕ) (p q : Pid) (x : X) → pid_eq p q ≡ false → at_record f m p x n q ≡ f n q
-record_off f m n p q x off = ap (λ (d : Bool). if d then x else f n q) (and_false (m == n) (pid_eq p q) off)
 
 set_off : {X : Type 0} (f : Pid → X) (p q : Pid) (x : X) → pid_eq p q ≡ false → (if pid_eq p q then x else f q) ≡ f q
 set_off f p q x off = ap (λ (d : Bool). if d then x else f q) off
@@ -58,10 +38,6 @@ elsewhere_by s d n i k at_source at_destination e f off h = grind (arith, nat_te
 
 not_elsewhere : (b : Boot) (m : ℕ) (pt : Point) (l : Placed) (k : KernelState) (y : Message) (p : Pid) (a : Arrives b m pt l k y p) (n : ℕ) → kind_of y.what ≡ MessageKind.Restart → n ≢ m → has_process (pt.view.known n p) ≡ false
 not_elsewhere b m pt l k y p a n is apart = grind (arith, nat_tests, elsewhere_by, eq_off)
-
--- where messages stand then
-back_box : (v : View) (m : ℕ) (p : Pid) (i : MsgId) (is : List MsgId) → v.inbox m ≡ i ∷ is → v.held m p ++ at_machine v.inbox m (drop 1 (v.inbox m)) m ≡ v.held m p ++ is
-back_box v m p i is box = ap (λ (xs : List MsgId). v.held m p ++ xs) (machine_self v.inbox m (drop 1 (v.inbox m)) ∙ first_gone i is (v.inbox m) box)
 
 held_fewer : (v : View) (m n : ℕ) (p q : Pid) (j : MsgId) (d : Bool) → times j (if d then [] else v.held n q) ≤ times j (v.held n q)
 held_fewer v m n p q j d = grind (arith, nat_tests)
@@ -99,60 +75,6 @@ none_back b m pt l records k y p c a i t z told between about st =
     let held : standing v i (Held m p) ≡ 0 = ap (λ (j : MsgId). standing v j (Held m p)) (sym is) ∙ one.1 (Held m p) (λ x. cc) in
     omega (arith, back_standing pt m p i z, none, held, st)
 
--- the tokens of other processes
-tokens_back : (b : Boot) (m : ℕ) (pt : Point) (l : Placed) (records : AllRecords) (k : KernelState) (y : Message) (p : Pid) (c : Comes b m pt l records k y p) (a : Arrives b m pt l k y p) (o : Option Process) (s : KernelState)
-    → ((q : Pid) → pid_eq p q ≡ false → s.records q ≡ k.records q)
-    → TokensStand (back_point pt m p).view (with_process l p o) (at_machine records m s.records)
-tokens_back b m pt l records k y p c a o s records_off q i t z told between about st = elim (cases_Bool (pid_eq p q)) [
-  | inl same ↦ absurd (none_back b m pt l records k y p c a i t z told between (about ∙ ap Of (sym (pid_eq-is p q same))) st)
-  | inr off ↦
-      let (where_, least) = back_stood b m pt l records k y p c i z st in
-      let h = c.tokens q i t where_ told between about least in
-      let n = destination_of i t in
-      let r : at_machine records m s.records n q ≡ records n q = others_known records m n s k q c.mine (records_off q off) (m == n) refl in
-      search (
-        set_off l.processes p q o off ∙ h.there,
-        subst (λ (x : Option machine.KernelKnown). Carries q h.process (l.notes q) (pt.view.asked q) (incoming_of x) h.message.what) (sym r) h.carries,
-      )
-]
-
--- what the machine knows then
-known_back : (b : Boot) (m : ℕ) (pt : Point) (l : Placed) (records : AllRecords) (k : KernelState) (y : Message) (p : Pid) (c : Comes b m pt l records k y p) (a : Arrives b m pt l k y p) (s : KernelState) (q : Pid) → pt.view.known m p ≡ Incoming a.source → s.records p ≡ Some (Record.Here (way.moved a.process))
-    → ((r : Pid) → pid_eq p r ≡ false → s.records r ≡ k.records r) → is_server q ≡ false
-    → KnownStands (back_point pt m p) (with_process l p (Some (way.moved a.process))) q ((back_point pt m p).view.queue m q) ((back_point pt m p).view.held m q) ((back_point pt m p).view.known m q) (s.records q)
-known_back b m pt l records k y p c a s q incoming there records_off server =
-    let v = pt.view in
-    let next = back_point pt m p in
-    let placed = with_process l p (Some (way.moved a.process)) in
-    elim (cases_Bool (pid_eq p q)) [
-      | inl same ↦
-          subst (λ (z : Pid). KnownStands next placed z (next.view.queue m z) (next.view.held m z) (next.view.known m z) (s.records z)) (pid_eq-is p q same)
-          (subst (KnownStands next placed p (v.queue m p) (next.view.held m p) (next.view.known m p)) (sym there)
-          (subst (λ (n : Known). KnownStands next placed p (v.queue m p) (next.view.held m p) n (Some (Record.Here (way.moved a.process)))) (sym (at_record_at v.known m p Here))
-          (([], set_self l.processes p (Some (way.moved a.process))), ap (map l.bag) (c.run.based.lists.queue m p (ap has_no_queue incoming)))))
-      | inr off ↦
-          subst (KnownStands next placed q (v.queue m q) (next.view.held m q) (next.view.known m q)) (sym (records_off q off))
-          (subst (λ (n : Known). KnownStands next placed q (v.queue m q) (next.view.held m q) n (k.records q)) (sym (record_off v.known m m p q Here off))
-          (subst (λ (x : List MsgId). KnownStands next placed q (v.queue m q) x (v.known m q) (k.records q)) (sym (record_off v.held m m p q [] off))
-          (known_apart pt next l placed q (v.queue m q) (v.held m q) (v.known m q) (k.records q) (set_off l.processes p q (Some (way.moved a.process)) off) refl refl refl (c.stands.known q server))))
-    ]
-
--- it takes what it took
-taken_back : (b : Boot) (m : ℕ) (pt : Point) (l : Placed) (k : KernelState) (y : Message) (p : Pid) (a : Arrives b m pt l k y p) → pt.view.known m p ≡ Incoming a.source → taken_at (back_point pt m p) m pt.kernel.machines ≡ taken_at pt m pt.kernel.machines
-taken_back b m pt l k y p a incoming = taken_same pt (back_point pt m p) m refl (λ h. refl) each
-  where
-    takes_as : Known → ℕ → Room
-    takes_as n d = record { slots = group.takes_room n; blocks = if group.takes_room n == 0 then 0 else d }
-
-    each : (q : Pid) → taken_by (back_point pt m p) m q ≡ taken_by pt m q
-    each q = elim (cases_Bool (pid_eq p q)) [
-      | inl same ↦
-          subst (λ (z : Pid). taken_by (back_point pt m p) m z ≡ taken_by pt m z) (pid_eq-is p q same)
-          (ap (λ (n : Known). takes_as n (group.blocks_of (kernel.alive (pt.kernel.processes p)))) (at_record_at pt.view.known m p Here)
-          ∙ sym (ap (λ (n : Known). takes_as n (group.blocks_of (kernel.alive (pt.kernel.processes p)))) incoming))
-      | inr off ↦ ap (λ (n : Known). takes_as n (group.blocks_of (kernel.alive (pt.kernel.processes q)))) (record_off pt.view.known m m p q Here off)
-    ]
-
 pub turns_restart : (b : Boot) (m : ℕ) (pt : Point) (l : Placed) (records : AllRecords) (k : KernelState) (y : Message) (p : Pid) (q : Pid) → Comes b m pt l records k y p → y.what ≡ What.Restart q → TurnsAt b m pt l records k
 turns_restart b m pt l records k y p q c e =
     let v = pt.view in
@@ -172,33 +94,38 @@ turns_restart b m pt l records k y p q c e =
     let stands = c.stands in
     let there : state.records p ≡ Some (Record.Here (way.moved x)) = set_self k.records p (Some (Record.Here (way.moved x))) in
     let others : (r : Pid) → pid_eq p r ≡ false → state.records r ≡ k.records r = λ r off. set_off k.records p r (Some (Record.Here (way.moved x))) off in
+    let set : (r : Pid) → pid_eq p r ≡ false → placed.processes r ≡ l.processes r = λ r off. set_off l.processes p r (Some (way.moved x)) off in
+    let mine : KnownStands next placed p (v.queue m p) (next.view.held m p) (next.view.known m p) (state.records p) =
+    subst (KnownStands next placed p (v.queue m p) (next.view.held m p) (next.view.known m p)) (sym there)
+    (subst (λ (n : Known). KnownStands next placed p (v.queue m p) (next.view.held m p) n (Some (Record.Here (way.moved x)))) (sym (at_record_at v.known m p Here))
+    (([], set_self l.processes p (Some (way.moved x))), ap (map l.bag) (c.run.based.lists.queue m p (ap has_no_queue incoming)))) in
+    let keeps : is_server p ≡ true → state.records p ≡ k.records p = λ is. absurd (false≢true (sym a.server ∙ is)) in
     let boxes : (n : ℕ) → n ≢ m → at_machine front m (v.held m p ++ front m) n ≡ v.inbox n = λ n off. machine_off front m n (v.held m p ++ front m) off ∙ machine_off v.inbox m n (drop 1 (v.inbox m)) off in
     let processes : (n : ℕ) (r : Pid) → n ≢ m → has_process (v.known n r) ≡ true → placed.processes r ≡ l.processes r = λ n r off has. elim (cases_Bool (pid_eq p r)) [
       | inl same ↦ absurd (false≢true (sym (not_elsewhere b m pt l k y p a n is off) ∙ ap (λ (z : Pid). has_process (v.known n z)) (pid_eq-is p r same) ∙ has))
-      | inr apart ↦ set_off l.processes p r (Some (way.moved x)) apart
+      | inr apart ↦ set r apart
     ] in
     let line = Line.Migration Stage.Restarted p in
     let asker : h.arrival.asker ≡ l.notes p = ap (λ (z : Arrival). z.asker) h.pieces in
+    -- where messages stand then
+    let back_box : v.held m p ++ at_machine v.inbox m (drop 1 (v.inbox m)) m ≡ v.held m p ++ c.ids = ap (λ (xs : List MsgId). v.held m p ++ xs) (machine_self v.inbox m (drop 1 (v.inbox m)) ∙ first_gone y.id c.ids (v.inbox m) c.box) in
     let ends : EndsMove b m pt l records k p line state next.view placed = record {
       run = c.run;
       said = refl;
       mirrors = restarted_mirrors (begun pt m) l p x (mirrors_view pt.kernel v (begun pt m).view pt.addresses l refl c.mirrors) a.there;
-      kernel = record {
-        here = stands.here;
-        known = λ r server. known_back b m pt l records k y p c a state r incoming there others server;
-        no_server = λ r server. grind (arith, nat_tests, pid_eq-is);
-        ring = ap (λ ring. ring ++ p ∷ []) stands.ring ∙ sym (machine_self v.ring m (v.ring m ++ p ∷ []));
-        inbox =
-            subst (λ (is : List MsgId). AreMessages l.bag is (h.arrival.held ++ c.rest)) (sym (machine_self front m (v.held m p ++ front m) ∙ back_box v m p y.id c.ids c.box))
-            (are_both l.bag (v.held m p) c.ids h.arrival.held c.rest h.comes_.held c.others);
-        made = stands.made;
-        room = subst (RoomStands k.room (room_of (slice_get b.machines m))) (sym (taken_back b m pt l k y p a incoming)) stands.room;
-        servers = stands.servers;
-      };
+      kernel = stands_set b pt next l placed m k state p (search (others, set, record_others, mine, keeps)) stands
+          (ap (λ ring. ring ++ p ∷ []) stands.ring ∙ sym (machine_self v.ring m (v.ring m ++ p ∷ [])))
+          (subst (λ (is : List MsgId). AreMessages l.bag is (h.arrival.held ++ c.rest)) (sym (machine_self front m (v.held m p ++ front m) ∙ back_box))
+          (are_both l.bag (v.held m p) c.ids h.arrival.held c.rest h.comes_.held c.others))
+          stands.made (room_stays k.room _ _ _ (taken_same pt next m refl (λ n. refl) (λ q. taken_at_record pt next m p q Here refl refl (sym (ap takes_room incoming)))) stands.room) stands.servers;
       sent = λ count. count;
       elsewhere = search (boxes, machine_off, record_away, processes);
       own = λ i z f plain. let g = c.own i z f plain in record { told = g.told; mine = g.mine; sender = g.sender };
-      tokens = tokens_back b m pt l records k y p c a (Some (way.moved x)) state others;
+      tokens = tokens_one v next.view l placed records (at_machine records m state.records) p (record {
+        stays = search (set, λ (n : ℕ) (r : Pid) (off : pid_eq p r ≡ false). records_as records m n k.records state.records r c.mine (others r off));
+        came = λ i t z told between st. (back_stood b m pt l records k y p c i z st, refl);
+        none = none_back b m pt l records k y p c a;
+      }) c.tokens;
       process = way.moved x;
       is = there;
       known = at_record_at v.known m p Here;

@@ -1,34 +1,22 @@
 -- A turn that handles such a message says a line and answers, or says a line alone; what it leaves as it was.
-use Rattle.dm_mirror.proofs.Names.{◌≡◌, ◌≢◌, ℕ, ◌+◌, ◌≤◌, ◌==◌, Bool, true, false, List, [], ◌∷◌, map, refl, ap, ◌∙◌, sym, subst, inl, inr, arith, if◌then◌else◌, slice_get, Option, None, Some, cases_Bool, false≢true, nat_tests, Addr, Pid}
-use Rattle.dm_mirror.proofs.Names.{pid_eq, pid_of, place_of, kernel_at, Message, MsgId, What, id_of, kind_of, plain_what, with_what, Record, Step, incoming_of, Boot, id_eq-same, pid_eq-is, Line, Addresses, Gets, Receiver, Sender, given}
-use Rattle.dm_mirror.proofs.Names.{goes_between, own_given, unmoved, to_kernel, is_between, tells_onward, Point, after, outcome, taken_at, at_machine, Spot, Inbox, standing, times, Known, Unknown, Here, Frozen, Incoming, Forward, Ended, Of}
+use Rattle.dm_mirror.proofs.Names.{◌≡◌, ◌≢◌, ℕ, ◌+◌, ◌≤◌, ◌==◌, Bool, true, false, List, [], ◌∷◌, map, refl, ap, ◌∙◌, sym, subst, arith, if◌then◌else◌, slice_get, Option, None, Some, false≢true, nat_tests, Addr, Pid}
+use Rattle.dm_mirror.proofs.Names.{pid_eq, pid_of, place_of, kernel_at, Message, MsgId, What, id_of, kind_of, plain_what, with_what, Step, incoming_of, Boot, id_eq-same, Line, Addresses, Gets, Receiver, Sender, given}
+use Rattle.dm_mirror.proofs.Names.{goes_between, own_given, unmoved, to_kernel, is_between, tells_onward, Point, after, outcome, taken_at, at_machine, Spot, Inbox, standing, times, Known, Of}
 use Rattle.dm_mirror.proofs.Names.{View, once_at, is_server, Placed, enclosed, mirrors_view, room_of, KernelState, own, turn, about_of, told_of, KnownStands, RoomStands, AllRecords, Carries, TokensStand, destination_of, eq_is, sort_of}
 use Rattle.dm_rule.proofs.Names.{Part}
 pub use Rattle.dm_rule.proofs.Lines.{eq_self, at_machine_at as machine_self}
+pub use Rattle.dm_mirror.proofs.Leave.Answered.{with_view as come_point}
 use Rattle.dm_mirror.proofs.Come.Frames.{Arrives, Comes, fresh_own, own_once, times_self}
 use Rattle.dm_mirror.proofs.Turning.{IsCarried, MayOwn, Nothing, Own, TurnsAt, begun}
 pub use Rattle.dm_mirror.proofs.End.Servers.{off as eq_off}
 use Rattle.dm_mirror.proofs.Handle.Taking.{machine_off, stands_set}
-use Rattle.dm_mirror.proofs.Leave.Fronts.{untold_next as next_untold}
+use Rattle.dm_mirror.proofs.Leave.Fronts.{records_as, tokens_one, untold_next as next_untold}
 use Rattle.dm_kernel.specs.declared.part.Part.TheVariants as part
 use Rattle.dm_kernel.specs.State as machine
 
 -- the view behind the line: the message is handled, and what is known of p here and asked for of it may be new
 abbrev pub come_view : View → ℕ → Pid → List MsgId → (ℕ → Pid → Known) → (Pid → ℕ) → View
 come_view v m p box known asked = record v { acting = m; groups = v.groups + 1; topic = Of p; inbox = at_machine v.inbox m box; known = known; asked = asked }
-
-abbrev pub come_point : Point → View → Point
-come_point pt v = record { kernel = pt.kernel; view = v; addresses = pt.addresses }
-
--- what is known of a process that stays
-pub known_same : (pt : Point) (v : View) (l : Placed) (p : Pid) (queue held : List MsgId) (k : Known) (r : Option machine.KernelKnown) → KnownStands pt l p queue held k r → KnownStands (come_point pt v) l p queue held k r
-known_same pt v l p queue held Unknown None h = tt
-known_same pt v l p queue held Here (Some (Record.Here x)) h = h
-known_same pt v l p queue held (Frozen to) (Some (Record.Frozen d)) h = h
-known_same pt v l p queue held (Incoming from) (Some (Record.Incoming a)) h = h
-known_same pt v l p queue held (Forward at_ moves) (Some (Record.Forward to count)) h = h
-known_same pt v l p queue held Ended (Some (Record.Ended y)) h = h
-known_same pt v l p queue held k r h = absurd h
 
 pub fewer : (v : View) (m : ℕ) (p : Pid) (is box : List MsgId) (known : ℕ → Pid → Known) (asked : Pid → ℕ) (i j : MsgId) (z : Spot) → v.inbox m ≡ i ∷ is → box ≡ is → standing (come_view v m p box known asked) j z ≤ standing v j z
 fewer v m p is box known asked i j z e b = grind (arith, nat_tests, eq_is)
@@ -85,31 +73,22 @@ pub record Answer (b : Boot) (m : ℕ) (pt : Point) (l : Placed) (records : AllR
   pub gives : (v : View) (id : MsgId) (q : Pid) → own_given pt.kernel v pt.addresses id q (sort_of (kind_of what)) ≡ goes_between v id q
   pub carries : Carries p a.process (l.notes p) (asked p) (incoming_of (state.records p)) what
 
--- the records of all machines then
-pub others_known : (records : AllRecords) (m n : ℕ) (s : KernelState) (k : KernelState) (q : Pid) → records m ≡ k.records → s.records q ≡ k.records q → (c : Bool) → (m == n) ≡ c → (if c then s.records else records n) q ≡ records n q
-others_known records m n s k q mine same c e = grind (arith, nat_tests, eq_is)
-
 -- the token that was handled was the only one of its process, and those of others carry what they carried
 pub tokens_kept : (b : Boot) (m : ℕ) (pt : Point) (l : Placed) (records : AllRecords) (k : KernelState) (y : Message) (p : Pid) (c : Comes b m pt l records k y p) (a : Arrives b m pt l k y p) (box : List MsgId) (known : ℕ → Pid → Known) (asked : Pid → ℕ) (s : KernelState)
     → box ≡ c.ids → ((q : Pid) → pid_eq p q ≡ false → asked q ≡ pt.view.asked q) → ((q : Pid) → pid_eq p q ≡ false → s.records q ≡ k.records q)
     → TokensStand (come_view pt.view m p box known asked) l (at_machine records m s.records)
-tokens_kept b m pt l records k y p c a box known asked s is_box asked_off records_off q i t z told between about st =
-    let v = pt.view in
-    let least : 1 ≤ standing v i z = (let f = fewer v m p c.ids box known asked y.id i z c.box is_box in omega (arith, f, st)) in
-    elim (cases_Bool (pid_eq p q)) [
-      | inl same ↦
-          let mine : Some y.id ≡ Some i = a.phase.alone i t z told between (about ∙ ap Of (sym (pid_eq-is p q same))) least in
+tokens_kept b m pt l records k y p c a box known asked s is_box asked_off records_off =
+    let w = come_view pt.view m p box known asked in
+    let before : (i : MsgId) (z : Spot) → 1 ≤ standing w i z → 1 ≤ standing pt.view i z = λ i z st. (let f = fewer pt.view m p c.ids box known asked y.id i z c.box is_box in omega (arith, f, st)) in
+    tokens_one pt.view w l l records (at_machine records m s.records) p (record {
+      stays = search (asked_off, λ (n : ℕ) (q : Pid) (off : pid_eq p q ≡ false). records_as records m n k.records s.records q c.mine (records_off q off));
+      came = λ i t z told between st. ((z, before i z st), refl);
+      none = λ i t z told between about st.
+          let mine : Some y.id ≡ Some i = a.phase.alone i t z told between about (before i z st) in
           let is : y.id ≡ i = cc in
-          let one = once_at (standing v y.id) (Inbox m) (own_once b pt y.id (Inbox m) c.run a.unplain a.mine a.first) a.first in
-          let none : standing (come_view v m p box known asked) i z ≡ 0 = ap (λ (j : MsgId). standing (come_view v m p box known asked) j z) (sym is) ∙ gone v m p c.ids box known asked y.id z c.box is_box one.0 one.1 in
-          absurd (omega (arith, none, st))
-      | inr off ↦
-          let h = c.tokens q i t z told between about least in
-          let n = destination_of i t in
-          let r : at_machine records m s.records n q ≡ records n q = others_known records m n s k q c.mine (records_off q off) (m == n) refl in
-          search (subst (λ (o : Option machine.KernelKnown). Carries q h.process (l.notes q) (asked q) (incoming_of o) h.message.what) (sym r)
-          (subst (λ (j : ℕ). Carries q h.process (l.notes q) j (incoming_of (records n q)) h.message.what) (sym (asked_off q off)) h.carries))
-    ]
+          let one = once_at (standing pt.view y.id) (Inbox m) (own_once b pt y.id (Inbox m) c.run a.unplain a.mine a.first) a.first in
+          omega (arith, ap (λ (j : MsgId). standing w j z) (sym is) ∙ gone pt.view m p c.ids box known asked y.id z c.box is_box one.0 one.1, st);
+    }) c.tokens
 
 -- the next message of the kernel may be put
 may_answer : (b : Boot) (m : ℕ) (pt : Point) (l : Placed) (records : AllRecords) (k : KernelState) (y : Message) (p : Pid) (c : Comes b m pt l records k y p) (a : Arrives b m pt l k y p) (h : Answer b m pt l records k y p c a)
@@ -120,18 +99,16 @@ may_answer b m pt l records k y p c a h =
     let here = c.stands.here in
     let id : x.id ≡ id_of (pid_of m 0) (pt.view.count m) = λ i. id_of (pid_of (here i) 0) (c.count i) in
     let untold : pt.view.told x.id ≡ None = ap pt.view.told id ∙ next_untold b pt m c.run in
-    let at_home : unmoved y.sender.pid.home ≡ place_of y.sender = subst (λ (z : Addr). unmoved z.pid.home ≡ place_of z) (sym a.sender) refl in
     let gives = h.gives v x.id y.sender.pid in
-    let comes : destination_of x.id (told_of x) ≡ m = ap (λ (d : Bool). if d then y.sender.pid.home else k.here) h.is_reply ∙ here in
     let known : at_machine records m h.state.records (destination_of x.id (told_of x)) p ≡ h.state.records p =
-    ap (λ (n : ℕ). at_machine records m h.state.records n p) comes ∙ (λ i. machine_self records m h.state.records i p) in
+    ap (λ (n : ℕ). at_machine records m h.state.records n p) (ap (λ (d : Bool). if d then y.sender.pid.home else k.here) h.is_reply ∙ here) ∙ (λ i. machine_self records m h.state.records i p) in
     record {
       id = id;
       plain = ap (with_what x) h.plain;
       encloses = h.encloses;
       bag = fresh_own b pt l x.id c.run c.mirrors c.own refl untold;
       untold = untold;
-      receiver = gets_receiver pt.addresses v x.id y.sender.pid _ gives ∙ at_home;
+      receiver = gets_receiver pt.addresses v x.id y.sender.pid _ gives ∙ (subst (λ (z : Addr). unmoved z.pid.home ≡ place_of z) (sym a.sender) refl);
       sender = gets_sender pt.addresses v x.id y.sender.pid _ gives ∙ ap unmoved (sym here);
       about = sym h.about;
       asker = λ e. absurd (false≢true (sym (ap is_between e) ∙ h.between));

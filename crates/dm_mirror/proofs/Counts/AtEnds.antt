@@ -1,4 +1,5 @@
 -- What a group may do to counts: raise them and route a message, put a message of a kernel's own, or restart a process.
+use Rattle.dm_mirror.proofs.Names.{false≢true}
 use Rattle.dm_mirror.proofs.Names.{Run, ◌≡◌, ◌⊎◌, inl, inr, ℕ, ◌+◌, ◌≤◌, ◌==◌, Bool, true, false, List, [], ◌∷◌, length, refl, ap, ◌∙◌, sym, subst, arith, if◌then◌else◌, Option, None, Some, Pid, MsgId, MessageKind, plain_kind, Label}
 use Rattle.dm_mirror.proofs.Names.{OneKernel, bind-is, Line, Stage, Load, Receiver, Says, Routes, Again, Owns, Transmits, Spelled, goes_out, packet_line, puts, spelled, Point, after, kernel_after, label_of, moved, View, own_id, view_after}
 use Rattle.dm_mirror.proofs.Names.{onward, said, says_next, transmits_next, ◌++◌, ⊤, slice_get, PlainMessage, Boot, manager, Step, migrates, sends_on, to_kernel, updates, outcome, About, Told, actor, arrives_net, resends_net, by_migrates}
@@ -6,28 +7,22 @@ use Rattle.dm_mirror.proofs.Names.{by_hears, nat_tests, Outcome, MoveNote, leave
 use Rattle.dm_rule.proofs.Names.{Part}
 use Rattle.dm_rule.specs.Migrating.{tells_asker}
 use Rattle.dm_rule.specs.Rule as rule
-use Rattle.dm_mirror.proofs.Paying.{Paid, AreMute, PaidIf, forwards_paid, line_within, front_paid, mute_paid, net_paid, round_paid, tells_paid}
+use Rattle.dm_mirror.proofs.Paying.{Paid, AreMute, PaidIf, forwards_paid, line_within, front_paid, mute_paid, net_paid, round_paid, same_within, tells_paid}
 use Rattle.dm_mirror.proofs.Raises.{Within, sent_of}
 use Rattle.dm_mirror.proofs.Totals.{Grows, grows_on, grows_same, ids_of, line_grows, put_adds, seen_grows}
-use Rattle.dm_mirror.proofs.Counts.Pairs.{Still, bears, line_moves, line_still, seen_still, still_on, still_self}
+use Rattle.dm_mirror.proofs.Counts.Pairs.{Still, bears, line_still, still_on}
 
 -- parts without a step, and after which as many moves are counted
 abbrev pub AllBear : List Part → Type 0
 AllBear [] = ⊤
 AllBear (Says l ∷ ps) = (bears l ≡ true) × AllBear ps
-AllBear (Routes i ∷ ps) = AllBear ps
-AllBear (Again i b ∷ ps) = AllBear ps
-AllBear (Owns k q b ∷ ps) = AllBear ps
-AllBear (Transmits a c l ∷ ps) = AllBear ps
+AllBear (p ∷ ps) = AllBear ps
 
 -- a message of a kernel's own is put
 abbrev pub HasOwn : List Part → Type 0
 HasOwn [] = ⊥
-HasOwn (Says l ∷ ps) = HasOwn ps
-HasOwn (Routes i ∷ ps) = HasOwn ps
-HasOwn (Again i b ∷ ps) = HasOwn ps
 HasOwn (Owns k q b ∷ ps) = ⊤
-HasOwn (Transmits a c l ∷ ps) = HasOwn ps
+HasOwn (p ∷ ps) = HasOwn ps
 
 -- the front message says that a process may restart
 pub record FrontRestarts (pt : Point) (m : ℕ) (p : Pid) : Type 0 where
@@ -135,14 +130,7 @@ under_within n k m s t le w h = record {
 }
 
 pub under_more : (n m : ℕ) (s : OneKernel) → n ≤ m → Under n s → Under m s
-under_more n m s le h = record {
-  sent = λ p. omega (arith, le, h.sent p);
-  board = omega (arith, le, h.board);
-  manager = omega (arith, le, h.manager);
-  children = omega (arith, le, h.children);
-  made = λ p. omega (arith, le, h.made p);
-  names = omega (arith, le, h.names);
-}
+under_more n m s le h = under_within n 0 m s s (omega (arith, le)) (same_within s) h
 
 -- a message was routed on the way
 pub record PutsOne (v w : View) : Type 0 where
@@ -192,22 +180,25 @@ pub record PartNext (pt : Point) (ps : List Part) (w : Spelled) : Type 0 where
   pub on : spelled next ps ≡ Some rest
   pub end : rest.point ≡ w.point
 
-pub routes_next : (pt : Point) (i : MsgId) (ps : List Part) (w : Spelled) → spelled pt (Routes i ∷ ps) ≡ Some w → PartNext pt ps w
-routes_next pt i ps w e =
+-- a part that puts a message
+abbrev pub is_route : Part → Bool
+is_route (Says l) = false
+is_route (Transmits a c l) = false
+is_route _ = true
+
+pub part_next : (pt : Point) (p : Part) (ps : List Part) (w : Spelled) → is_route p ≡ true → spelled pt (p ∷ ps) ≡ Some w → PartNext pt ps w
+part_next pt (Routes i) ps w route e =
     let o = onward pt (Routes i) ps w e in
     let (x, there, is) = bind-is (pt.kernel.bag i) (λ x. Some (puts pt.view (pt.addresses (Receiver i)).at i (plain_kind x.what) x.to)) o.lines o.lines_are in
     record { next = o.next; after_put = put_next pt o.next (pt.addresses (Receiver i)).at i (plain_kind x.what) x.to o.lines is o.leads; rest = o.rest; on = o.on; end = o.end }
-
-again_next : (pt : Point) (i : MsgId) (b : ℕ) (ps : List Part) (w : Spelled) → spelled pt (Again i b ∷ ps) ≡ Some w → PartNext pt ps w
-again_next pt i b ps w e =
+part_next pt (Again i b) ps w route e =
     let o = onward pt (Again i b) ps w e in
     let (t, there, is) = bind-is (pt.view.told i) (λ t. Some (puts pt.view b i t.kind t.receiver)) o.lines o.lines_are in
     record { next = o.next; after_put = put_next pt o.next b i t.kind t.receiver o.lines is o.leads; rest = o.rest; on = o.on; end = o.end }
-
-owns_next : (pt : Point) (k : MessageKind) (q : Pid) (b : ℕ) (ps : List Part) (w : Spelled) → spelled pt (Owns k q b ∷ ps) ≡ Some w → PartNext pt ps w
-owns_next pt k q b ps w e =
+part_next pt (Owns k q b) ps w route e =
     let o = onward pt (Owns k q b) ps w e in
     record { next = o.next; after_put = put_next pt o.next b (own_id pt.view) k q o.lines o.lines_are o.leads; rest = o.rest; on = o.on; end = o.end }
+part_next pt p ps w route e = absurd (false≢true route)
 
 -- parts that pay, from where all counts are at most n
 pub record Ends (n : ℕ) (pt end : Point) : Type 0 where
@@ -224,7 +215,7 @@ ends_before n pt mid end g s h = record {
 
 pays : (n : ℕ) (pt mid : Point) (id : MsgId) (w : Spelled) → Grows pt.view mid.view → Still pt.view mid.view → Under (n + 1) mid.kernel → spelled mid (Routes id ∷ []) ≡ Some w → Ends n pt w.point
 pays n pt mid id w g s under e =
-    let k = routes_next mid id [] w e in
+    let k = part_next mid (Routes id) [] w refl e in
     let a = k.after_put in
     subst (Ends n pt) (said k.next k.rest k.on ∙ k.end)
     (record {
@@ -233,37 +224,27 @@ pays n pt mid id w g s under e =
       under = inr (subst (Under (n + 1)) (sym a.kernel) under, puts_before pt.view mid.view k.next.view g a.puts);
     })
 
-routed_ends : (ps : List Part) (n : ℕ) (pt : Point) (w : Spelled) (k : PartNext pt ps w) → Ends n k.next k.rest.point → Ends n pt w.point
-routed_ends ps n pt w k h = subst (Ends n pt) k.end (ends_before n pt k.next k.rest.point k.after_put.grows k.after_put.still h)
-
+-- the topic is no part of it
 pub ends : (ps : List Part) (n : ℕ) (pt : Point) (w : Spelled) → spelled pt ps ≡ Some w → Paid pt.kernel ps → Under n pt.kernel → Ends n pt w.point
-ends [] n pt w e paid under = subst (Ends n pt) (said pt w e) (record { grows = grows_same pt.view pt.view refl; still = still_self pt.view; under = inl under })
+ends [] n pt w e paid under = subst (Ends n pt) (said pt w e) (record { grows = grows_same pt.view pt.view refl; still = record { moves = refl; incoming = λ m p s e. e; forward = λ m p k j e. e }; under = inl under })
 ends (Says l ∷ ps) n pt w e paid under =
     let k = says_next pt l ps w e in
     let g = seen_grows pt.kernel pt.view l in
-    let s = seen_still pt.kernel pt.view l paid.0 in
+    let s : Still pt.view (seen pt.kernel pt.view l) = let h = line_still pt.view l paid.0 in record { moves = h.moves; incoming = h.incoming; forward = h.forward } in
     subst (Ends n pt) k.point
     (elim (paid.1 k.s k.is) [
       | inl h ↦ ends_before n pt (moved pt l k.s) k.rest.point g s (ends ps n (moved pt l k.s) k.rest k.more h.1 (under_within n 0 n pt.kernel k.s (omega arith) h.0 under))
       | inr h ↦ pays n pt (moved pt l k.s) h.1.0 k.rest g s (under_within n 1 (n + 1) pt.kernel k.s (omega arith) h.0 under) (ap (spelled (moved pt l k.s)) (sym h.1.1) ∙ k.more)
     ])
-ends (Routes i ∷ ps) n pt w e paid under =
-    let k = routes_next pt i ps w e in
-    let same = k.after_put.kernel in
-    routed_ends ps n pt w k (ends ps n k.next k.rest k.on (subst (λ s. Paid s ps) (sym same) paid) (subst (Under n) (sym same) under))
-ends (Again i b ∷ ps) n pt w e paid under =
-    let k = again_next pt i b ps w e in
-    let same = k.after_put.kernel in
-    routed_ends ps n pt w k (ends ps n k.next k.rest k.on (subst (λ s. Paid s ps) (sym same) paid) (subst (Under n) (sym same) under))
-ends (Owns c q b ∷ ps) n pt w e paid under =
-    let k = owns_next pt c q b ps w e in
-    let same = k.after_put.kernel in
-    routed_ends ps n pt w k (ends ps n k.next k.rest k.on (subst (λ s. Paid s ps) (sym same) paid) (subst (Under n) (sym same) under))
 ends (Transmits a c l ∷ ps) n pt w e paid under =
     let k = transmits_next pt a c l ps w e in
     let p = packet_line pt.view a c l in
     subst (Ends n pt) k.point
     (ends_before n pt (moved pt p pt.kernel) k.rest.point (line_grows pt.view p) (line_still pt.view p refl) (ends ps n (moved pt p pt.kernel) k.rest k.more paid under))
+ends (p ∷ ps) n pt w e paid under =
+    let k = part_next pt p ps w refl e in
+    let same = k.after_put.kernel in
+    subst (Ends n pt) k.end (ends_before n pt k.next k.rest.point k.after_put.grows k.after_put.still (ends ps n k.next k.rest k.on (subst (λ s. Paid s ps) (sym same) paid) (subst (Under n) (sym same) under)))
 
 -- parts without a step
 pub record BearEnds (pt end : Point) : Type 0 where
@@ -277,34 +258,28 @@ bears_before pt mid end k g m h = record { kernel = h.kernel ∙ k; grows = grow
 same_kernel : (s t : OneKernel) (o : Option Label) → o ≡ None → kernel_after s o ≡ Some t → t ≡ s
 same_kernel s t o e f = grind (arith, nat_tests)
 
-part_bears : (ps : List Part) (pt : Point) (w : Spelled) (k : PartNext pt ps w) → BearEnds k.next k.rest.point → BearEnds pt w.point
-part_bears ps pt w k h = let a = k.after_put in subst (BearEnds pt) k.end (bears_before pt k.next k.rest.point a.kernel a.grows a.still.moves h)
-
 pub bear_ends : (ps : List Part) (pt : Point) (w : Spelled) → spelled pt ps ≡ Some w → AllBear ps → BearEnds pt w.point
 bear_ends [] pt w e h = subst (BearEnds pt) (said pt w e) (record { kernel = refl; grows = grows_same pt.view pt.view refl; moves = refl })
 bear_ends (Says l ∷ ps) pt w e h =
     let k = says_next pt l ps w e in
     subst (BearEnds pt) k.point (bears_before pt (moved pt l k.s) k.rest.point (same_kernel pt.kernel k.s (label_of l) (grind (arith, nat_tests, h.0)) k.is)
-    (seen_grows pt.kernel pt.view l) (line_moves pt.view l h.0) (bear_ends ps (moved pt l k.s) k.rest k.more h.1))
-bear_ends (Routes i ∷ ps) pt w e h = let k = routes_next pt i ps w e in part_bears ps pt w k (bear_ends ps k.next k.rest k.on h)
-bear_ends (Again i b ∷ ps) pt w e h = let k = again_next pt i b ps w e in part_bears ps pt w k (bear_ends ps k.next k.rest k.on h)
-bear_ends (Owns c q b ∷ ps) pt w e h = let k = owns_next pt c q b ps w e in part_bears ps pt w k (bear_ends ps k.next k.rest k.on h)
+    (seen_grows pt.kernel pt.view l) (let e_ : (view_after pt.view l).moves ≡ pt.view.moves = grind (arith, nat_tests, h.0) in e_) (bear_ends ps (moved pt l k.s) k.rest k.more h.1))
 bear_ends (Transmits a c l ∷ ps) pt w e h =
     let k = transmits_next pt a c l ps w e in
     let p = packet_line pt.view a c l in
     subst (BearEnds pt) k.point (bears_before pt (moved pt p pt.kernel) k.rest.point refl (line_grows pt.view p) refl (bear_ends ps (moved pt p pt.kernel) k.rest k.more h))
+bear_ends (p ∷ ps) pt w e h = let k = part_next pt p ps w refl e in let a = k.after_put in subst (BearEnds pt) k.end (bears_before pt k.next k.rest.point a.kernel a.grows a.still.moves (bear_ends ps k.next k.rest k.on h))
 
 pub own_puts : (ps : List Part) (pt : Point) (w : Spelled) → spelled pt ps ≡ Some w → AllBear ps → HasOwn ps → PutsOne pt.view w.point.view
 own_puts [] pt w e h own = absurd own
 own_puts (Says l ∷ ps) pt w e h own =
     let k = says_next pt l ps w e in
     subst (λ (q : Point). PutsOne pt.view q.view) k.point (puts_before pt.view (seen pt.kernel pt.view l) k.rest.point.view (seen_grows pt.kernel pt.view l) (own_puts ps (moved pt l k.s) k.rest k.more h.1 own))
-own_puts (Routes i ∷ ps) pt w e h own = let k = routes_next pt i ps w e in subst (λ (q : Point). PutsOne pt.view q.view) k.end (puts_before pt.view k.next.view k.rest.point.view k.after_put.grows (own_puts ps k.next k.rest k.on h own))
-own_puts (Again i b ∷ ps) pt w e h own = let k = again_next pt i b ps w e in subst (λ (q : Point). PutsOne pt.view q.view) k.end (puts_before pt.view k.next.view k.rest.point.view k.after_put.grows (own_puts ps k.next k.rest k.on h own))
 own_puts (Owns c q b ∷ ps) pt w e h own =
-    let k = owns_next pt c q b ps w e in
+    let k = part_next pt (Owns c q b) ps w refl e in
     subst (λ (r : Point). PutsOne pt.view r.view) k.end (puts_behind pt.view k.next.view k.rest.point.view (bear_ends ps k.next k.rest k.on h).grows k.after_put.puts)
 own_puts (Transmits a c l ∷ ps) pt w e h own =
     let k = transmits_next pt a c l ps w e in
     let p = packet_line pt.view a c l in
     subst (λ (q : Point). PutsOne pt.view q.view) k.point (puts_before pt.view (view_after pt.view p) k.rest.point.view (line_grows pt.view p) (own_puts ps (moved pt p pt.kernel) k.rest k.more h own))
+own_puts (p ∷ ps) pt w e h own = let k = part_next pt p ps w refl e in subst (λ (q : Point). PutsOne pt.view q.view) k.end (puts_before pt.view k.next.view k.rest.point.view k.after_put.grows (own_puts ps k.next k.rest k.on h own))

@@ -1,10 +1,10 @@
 -- Which lines leave what has moved, comes or has gone on.
-use Rattle.dm_mirror.proofs.Names.{◌≡◌, ◌≢◌, ◌⊎◌, inl, inr, ℕ, ◌+◌, ◌<◌, ◌≤◌, ◌==◌, ◌&&◌, Bool, true, false, List, [], ◌∷◌, ◌++◌, length, drop, filter, not, refl, ap, ◌∙◌, sym, subst, arith, if◌then◌else◌, slice_get, Option, None, Some}
+use Rattle.dm_mirror.proofs.Names.{◌≡◌, ◌≢◌, ◌⊎◌, inl, inr, ℕ, ◌+◌, ◌<◌, ◌≤◌, ◌==◌, ◌&&◌, Bool, true, false, List, [], ◌∷◌, ◌++◌, length, drop, refl, ap, ◌∙◌, sym, subst, arith, if◌then◌else◌, slice_get, Option, None, Some}
 use Rattle.dm_mirror.proofs.Names.{cases_Bool, false≢true, nat_tests, Pid, MsgId, MessageKind, plain_kind, PlainMessage, Boot, id_eq-same, bind-is, Step, Line, Load, Receiver, IsStep, Says, Routes, Again, Owns, Transmits, Spelled, goes_out}
-use Rattle.dm_mirror.proofs.Names.{packet_line, puts, spelled, Point, after, moved, group_of, Spot, Untaken, standing, times, View, Pair, after_put, gone_after, is_kernels, oldest, own_id, view_after, routed_on, with_pair, migrates, to_of}
+use Rattle.dm_mirror.proofs.Names.{packet_line, puts, spelled, Point, after, moved, group_of, Spot, Untaken, standing, times, View, Pair, after_put, gone_after, is_kernels, own_id, view_after, routed_on, migrates, to_of}
 use Rattle.dm_mirror.proofs.Names.{machine_of, Pairs, pair_stands, IsNet, IsNetLine, arrives_net, group_is, resends_net, stands_right, AllFit, onward, pair_same, migrates_fit, turns_fit, said, says_next, transmits_next, Run, told_there}
-use Rattle.dm_mirror.proofs.Names.{cases_zero, own_by, taken_pair, OneKernel, after_line, kernel_after, label_of, is_own, hushed, is_put, pid_eq, Stage, Label, at_record, About, Known, Told, handled, first_number, Alive, PlainProcess}
-use Rattle.dm_mirror.proofs.Names.{touches, proto_acting, queued_acting, held_acting, forwarded_acting, acting_label, aim, sets, seen, sort_of}
+use Rattle.dm_mirror.proofs.Names.{cases_zero, own_by, taken_pair, OneKernel, after_line, kernel_after, label_of, is_own, hushed, is_put, Stage, Label, About, Known, first_number, Alive, PlainProcess}
+use Rattle.dm_mirror.proofs.Names.{proto_acting, queued_acting, held_acting, forwarded_acting, acting_label, seen}
 use Rattle.dm_rule.proofs.Names.{Part, marked}
 use Rattle.dm_rule.proofs.Lines.{parts}
 pub use Rattle.dm_rule.proofs.Lines.{eq_is as same_of}
@@ -34,112 +34,18 @@ pub record Still (v w : View) : Type 0 where
 pub still_on : (u v w : View) → Still u v → Still v w → Still u w
 still_on u v w h k = record { moves = k.moves ∙ h.moves; incoming = λ m p s e. h.incoming m p s (k.incoming m p s e); forward = λ m p c j e. h.forward m p c j (k.forward m p c j e) }
 
-record Same (v w : View) : Type 0 where
-  moves : w.moves ≡ v.moves
-  known : w.known ≡ v.known
-
-still_same : (v w : View) → Same v w → Still v w
-still_same v w h = record {
-  moves = h.moves;
-  incoming = λ m p s e. sym (ap (λ (f : ℕ → Pid → Known). f m p) h.known) ∙ e;
-  forward = λ m p k j e. sym (ap (λ (f : ℕ → Pid → Known). f m p) h.known) ∙ e;
-}
-
-pub still_self : (v : View) → Still v v
-still_self v = still_same v v (record { moves = refl; known = refl })
-
--- one machine knows something else of a process
+-- what is known of a process that comes, or has gone on
 abbrev is_gone : Known → Bool
 is_gone (view.Incoming from) = true
 is_gone (view.Forward at_ moves) = true
 is_gone _ = false
 
-set_known : (f : ℕ → Pid → Known) (x y : Known) (m : ℕ) (p : Pid) (c : Bool) → is_gone x ≡ false → is_gone y ≡ true → (if c then x else f m p) ≡ y → f m p ≡ y
-set_known f x y m p c e g is = grind (arith, nat_tests)
-
-still_set : (v w : View) (a : ℕ) (q : Pid) (x : Known) → w.moves ≡ v.moves → w.known ≡ at_record v.known a q x → is_gone x ≡ false → Still v w
-still_set v w a q x moves known e = record {
-  moves = moves;
-  incoming = λ m p s is. set_known v.known x (view.Incoming s) m p ((a == m) && pid_eq q p) e refl (sym (ap (λ (f : ℕ → Pid → Known). f m p) known) ∙ is);
-  forward = λ m p k j is. set_known v.known x (view.Forward k j) m p ((a == m) && pid_eq q p) e refl (sym (ap (λ (f : ℕ → Pid → Known). f m p) known) ∙ is);
-}
-
-dropped_same : (v : View) (i : MsgId) (o : Option Pid) → Same v (view.dropped_for v i o)
-dropped_same v i None = record { moves = refl; known = refl }
-dropped_same v i (Some p) = record { moves = refl; known = refl }
-
-queued_same : (v : View) (i : MsgId) (o : Option Pid) → Same v (view.queued_for v i o)
-queued_same v i None = record { moves = refl; known = refl }
-queued_same v i (Some p) = record { moves = refl; known = refl }
-
-held_same : (v : View) (i : MsgId) (o : Option Pid) → Same v (view.held_for v i o)
-held_same v i None = record { moves = refl; known = refl }
-held_same v i (Some p) = record { moves = refl; known = refl }
-
-forwarded_same : (v : View) (o : Option Pid) → Same v (view.forwarded_for v o)
-forwarded_same v None = record { moves = refl; known = refl }
-forwarded_same v (Some p) = record { moves = refl; known = refl }
-
-taken_same : (v : View) (b : ℕ) (o : Option MsgId) → Same v (view.taken_id v b o)
-taken_same v b None = record { moves = refl; known = refl }
-taken_same v b (Some i) = record { moves = refl; known = refl }
-
-asks_same : (v : View) (a : About) → Same v (view.asks_on v a)
-asks_same v (view.Place p at_ moves) = record { moves = refl; known = refl }
-asks_same v _ = record { moves = refl; known = refl }
-
-follows_same : (v : View) (a : About) (k : MessageKind) → Same v (view.follows_by v a (sort_of k))
-follows_same v a MessageKind.State = asks_same v a
-follows_same v a MessageKind.Memory = asks_same v a
-follows_same v a _ = record { moves = refl; known = refl }
-
-proto_same : (v : View) (o : Option Told) → Same v (view.after_proto v o)
-proto_same v None = record { moves = refl; known = refl }
-proto_same v (Some t) = let h = follows_same v t.about t.kind in record { moves = h.moves; known = h.known }
-
-kills_still : (v : View) (p : Pid) (k : MessageKind) → Still v (view.ends_by (sort_of k) v (Some p))
-kills_still v p MessageKind.Kill = still_set v (view.ended v p) v.acting p view.Ended refl refl refl
-kills_still v p _ = still_same v v (record { moves = refl; known = refl })
-
-served_still : (v : View) (o : Option Told) → Still v (view.served_told v o)
-served_still v None = still_same v v (record { moves = refl; known = refl })
-served_still v (Some t) = kills_still v t.receiver t.kind
-
-head_still : (v : View) (d : Step) → Still v (view.after_head v d)
-head_still v (Step.Turn m) = still_same v (view.after_head v (Step.Turn m)) (record { moves = refl; known = refl })
-head_still v any_ = still_same v (view.after_head v any_) (record { moves = refl; known = refl })
-
-label_still : (v : View) (l : Label) → Still v (view.after_label v l)
-label_still v (Label.End p y) = still_set v (view.after_label v (Label.End p y)) v.acting p view.Ended refl refl refl
-label_still v (Label.Dropped i) = still_same v (view.after_label v (Label.Dropped i)) (let h = dropped_same (handled v i) i (view.receiver_of (v.told i)) in record { moves = h.moves; known = h.known })
-label_still v (Label.Served i) = let h = served_still (handled v i) (v.told i) in record { moves = h.moves; incoming = h.incoming; forward = h.forward }
-label_still v (Label.Created i p) = still_set v (view.after_label v (Label.Created i p)) v.acting p view.Here refl refl refl
-label_still v any_ = still_same v (view.after_label v any_) (record { moves = refl; known = refl })
-
 pub line_still : (v : View) (l : Line) → is_free l ≡ true → Still v (view_after v l)
-line_still v (Line.Head d) e = head_still v d
-line_still v (Line.Label x) e = label_still v x
-line_still v (Line.Taken a b n) e = still_same v (view_after v (Line.Taken a b n)) (let h = taken_same (view.with_pair v a b (record (v.pair a b) { taken = (v.pair a b).taken + 1; kept = filter (λ k. not (k == n)) (v.pair a b).kept })) b (view.oldest (v.pair a b)) in record { moves = h.moves; known = h.known })
-line_still v (Line.Queued i) e = still_same v (view_after v (Line.Queued i)) (let h = queued_same (handled v i) i (view.receiver_of (v.told i)) in record { moves = h.moves; known = h.known })
-line_still v (Line.Held i) e = still_same v (view_after v (Line.Held i)) (let h = held_same (handled v i) i (view.receiver_of (v.told i)) in record { moves = h.moves; known = h.known })
-line_still v (Line.Forwarded i m) e = still_same v (view_after v (Line.Forwarded i m)) (let h = forwarded_same (handled v i) (view.receiver_of (v.told i)) in record { moves = h.moves; known = h.known })
-line_still v (Line.Migration Stage.Frozen p) e = let h = sets v p v.topic in still_set v (view_after v (Line.Migration Stage.Frozen p)) v.acting p (view.Frozen (aim v v.topic)) h.moves h.known refl
-line_still v (Line.Migration Stage.Asked p) e = still_same v (view_after v (Line.Migration Stage.Asked p)) (record { moves = refl; known = refl })
-line_still v (Line.Migration Stage.Accepted p) e = absurd (false≢true e)
-line_still v (Line.Migration Stage.StateTaken p) e = still_same v (view_after v (Line.Migration Stage.StateTaken p)) (record { moves = refl; known = refl })
-line_still v (Line.Migration Stage.MemoryTaken p) e = still_same v (view_after v (Line.Migration Stage.MemoryTaken p)) (record { moves = refl; known = refl })
-line_still v (Line.Migration Stage.Left p) e = absurd (false≢true e)
-line_still v (Line.Migration Stage.Restarted p) e = absurd (false≢true e)
-line_still v (Line.Stays p) e = still_set v (view_after v (Line.Stays p)) v.acting p view.Here refl refl refl
-line_still v (Line.Proto i) e = still_same v (view_after v (Line.Proto i)) (let h = proto_same (handled v i) (v.told i) in record { moves = h.moves; known = h.known })
-line_still v any_ e = still_same v (view_after v any_) (record { moves = refl; known = refl })
-
--- the topic is no part of it
-pub seen_still : (s : OneKernel) (v : View) (l : Line) → is_free l ≡ true → Still v (seen s v l)
-seen_still s v l e = let h = line_still v l e in record { moves = h.moves; incoming = h.incoming; forward = h.forward }
-
-pub line_moves : (v : View) (l : Line) → bears l ≡ true → (view_after v l).moves ≡ v.moves
-line_moves v l e = grind (arith, nat_tests)
+line_still v l free = record {
+  moves = grind (arith, nat_tests);
+  incoming = λ m p s is. grind (arith, nat_tests);
+  forward = λ m p k j is. grind (arith, nat_tests);
+}
 
 -- No count is too great.
 
@@ -158,9 +64,6 @@ pub record CountsFew (pt : Point) : Type 0 where
   pub waiting : (m : ℕ) (p : Pid) → length (pt.view.queue m p) + length (pt.view.held m p) < 4294967295
 
 -- The acting machine stays, but for heads and what comes over wires.
-
-pub line_acting : (v : View) (l : Line) → touches l ≡ false → (view_after v l).acting ≡ v.acting
-line_acting v l e = grind (arith, nat_tests, acting_label, queued_acting, held_acting, forwarded_acting, proto_acting)
 
 -- A machine's kernel counts no more messages of its own than were routed in all.
 
@@ -211,14 +114,10 @@ still_own n v l off h = λ within m.
     let g = line_grows v l in
     omega (arith, ap (λ (f : ℕ → ℕ). f m) (hushed v l off).count, h (within_before n v (view_after v l) g within) m, total_grows v (view_after v l) n g)
 
-line_own : (top : ℕ) (v : View) (l : Line) → OwnFew top v → OwnFew top (view_after v l)
+pub line_own : (top : ℕ) (v : View) (l : Line) → OwnFew top v → OwnFew top (view_after v l)
 line_own top v (Line.Put a b i k q) h = λ within m.
-    let few = h (within_before top v (after_put v a b i k q) (line_grows v (Line.Put a b i k q)) within) m in
-    omega (arith, few, count_if v.count i.from.home m (is_own i (v.told i)), put_total top v a b i k q within)
+    omega (arith, h (within_before top v (after_put v a b i k q) (line_grows v (Line.Put a b i k q)) within) m, count_if v.count i.from.home m (is_own i (v.told i)), put_total top v a b i k q within)
 line_own top v any_ h = still_own top v any_ refl h
-
-pub own_group : (n : ℕ) (b : Boot) (pt : Point) (d : Step) (w : Spelled) → group_of b pt d ≡ Some w → OwnFew n pt.view → OwnFew n w.point.view
-own_group n b pt d w e h = group_keeps (OwnFew n) (λ v a k. k) (line_own n) b pt d w e h
 
 -- Only pairs of machines that there are have messages.
 
@@ -263,14 +162,11 @@ fresh_by u m v w a h acting from taken others =
       none = none;
     }
 
-set_other : (f : ℕ → ℕ → Pair) (a b : ℕ) (p : Pair) (c d : ℕ) (t : Bool) → (a == c) ≡ t → c ≢ a → (if t && (b == d) then p else f c d).ids ≡ (f c d).ids
-set_other f a b p c d t e off = grind (arith, nat_tests, same_of)
-
 pub fresh_put : (u : View) (m : ℕ) (v : View) (b : ℕ) (i : MsgId) (k : MessageKind) (q : Pid) → Fresh u m v → Fresh u m (after_put v v.acting b i k q)
 fresh_put u m v b i k q h =
     fresh_by u m v (after_put v v.acting b i k q) v.acting h refl h.acting
     (λ c d off. set_taken v.pair v.acting b (routed_on v.acting b (v.pair v.acting b) i) c d ((v.acting == c) && (b == d)) refl (λ apart. put_taken v v.acting b i apart) off)
-    (λ c d off. ap (λ (ids : List MsgId). length ids) (set_other v.pair v.acting b (routed_on v.acting b (v.pair v.acting b) i) c d (v.acting == c) refl off))
+    (λ c d off. ap (λ (ids : List MsgId). length ids) (let e_ : (if (v.acting == c) && (b == d) then (routed_on v.acting b (v.pair v.acting b) i) else v.pair c d).ids ≡ (v.pair c d).ids = grind (arith, nat_tests, same_of) in e_))
 
 fresh_packet : (u : View) (m : ℕ) (v : View) (a b k : ℕ) (l : Load) → Fresh u m v → Fresh u m (view_after v (Line.Packet a b k l))
 fresh_packet u m v a b k l h =
@@ -297,7 +193,8 @@ fresh_parts : (ps : List Part) (f : ℕ → ℕ → Pair) (u : View) (m : ℕ) (
 fresh_parts [] f u m pt w fits e h = subst (λ (q : Point). Fresh u m q.view) (said pt w e) h
 fresh_parts (Says l ∷ ps) f u m pt w fits e h =
     let k = says_next pt l ps w e in
-    subst (λ (q : Point). Fresh u m q.view) k.point (fresh_parts ps f u m (moved pt l k.s) k.rest fits.1 k.more (fresh_same u m pt.view (seen pt.kernel pt.view l) (line_acting pt.view l fits.0) (pair_same pt.view l fits.0) h))
+    let line_acting : (view_after pt.view l).acting ≡ pt.view.acting = grind (arith, nat_tests, acting_label, queued_acting, held_acting, forwarded_acting, proto_acting, fits.0) in
+    subst (λ (q : Point). Fresh u m q.view) k.point (fresh_parts ps f u m (moved pt l k.s) k.rest fits.1 k.more (fresh_same u m pt.view (seen pt.kernel pt.view l) line_acting (pair_same pt.view l fits.0) h))
 fresh_parts (Routes i ∷ ps) f u m pt w fits e h =
     let o = onward pt (Routes i) ps w e in
     let (x, there, is) = bind-is (pt.kernel.bag i) (λ x. Some (puts pt.view (pt.addresses (Receiver i)).at i (plain_kind x.what) x.to)) o.lines o.lines_are in
@@ -335,9 +232,6 @@ address_within b pt i z None there run stands =
     let (t, told) = told_there (pt.view.told i) (run.found.told i z stands) in
     run.found.own_within i t told (own_by (is_kernels i) (standing pt.view i) z stands (stands_right pt i run.based.phased.state None there))
 
-pub stood_within : (b : Boot) (pt : Point) (i : MsgId) (z : Spot) → Run b pt → 1 ≤ standing pt.view i z → machine_of z < pt.kernel.machines
-stood_within b pt i z run stands = omega (arith, address_within b pt i z (pt.kernel.bag i) refl run stands, run.found.at_ i z stands)
-
 fresh_within : (b : Boot) (u : View) (m n : ℕ) (end : Point) → end.kernel.machines ≡ n → m < n → Run b end → Fresh u m end.view → PairsWithin n u → PairsWithin n end.view
 fresh_within b u m n end machines small run h within = λ a c some.
     elim (h.new a c some) [
@@ -349,7 +243,7 @@ fresh_within b u m n end machines small run h within = λ a c some.
             | inr none ↦
                 let (i, first) = first_of (end.view.pair a c).ids some in
                 let stands : 1 ≤ standing end.view i (Untaken a c) = subst (λ (k : ℕ). 1 ≤ times i (drop k (end.view.pair a c).ids)) (sym none) first in
-                (left, omega (arith, stood_within b end i (Untaken a c) run stands, machines))
+                (left, omega (arith, (let e_ : machine_of (Untaken a c) < end.kernel.machines = omega (arith, address_within b end i (Untaken a c) (end.kernel.bag i) refl run stands, run.found.at_ i (Untaken a c) stands) in e_), machines))
           ]
     ]
 

@@ -1,12 +1,12 @@
 -- What waits for a process was routed: it is no more than all that was.
 use Rattle.dm_mirror.proofs.Names.{◌≡◌, ◌≢◌, inl, inr, ℕ, zero, suc, ◌+◌, ◌<◌, ◌≤◌, ◌==◌, ◌&&◌, Bool, true, false, List, [], ◌∷◌, ◌++◌, length, is_some, refl, ap, ◌∙◌, sym, subst, arith, if◌then◌else◌, Option, Some, cases_Bool, false≢true}
-use Rattle.dm_mirror.proofs.Names.{nat_tests, Pid, id_eq, MsgId, MessageKind, Boot, id_eq-is, id_eq-same, Step, Line, Spelled, Point, group_of, Held, Queue, standing, times, View, Pair, Told, after_put, first_told, first_view, routed_on}
+use Rattle.dm_mirror.proofs.Names.{nat_tests, Pid, id_eq, MsgId, MessageKind, Boot, id_eq-is, id_eq-same, Line, Point, Held, Queue, standing, times, View, Pair, Told, after_put, first_told, first_view, routed_on}
 use Rattle.dm_mirror.proofs.Names.{view_after, hushed, is_put, StandsAsBag-elsewhere, StandsAsBag-one, times-append, letters, Run, cases_zero, last_there, ◌*◌, map, option_map, slice_get, None, pid_eq, plain_link, BootImage, BootProcess}
 use Rattle.dm_mirror.proofs.Names.{IsValid, processes_are_valid, starting_at, Alive, life_at, first_point, Known, known_at, room_from, pid_eq-is, Phase, Rests, kind_comes, is_between, knows, kind_leaves, at_pid, at_record, rests_here}
 use Rattle.dm_mirror.proofs.Names.{InPhases, stands_first}
 use Rattle.dm_laws.proofs.Names.{begun}
 use Rattle.std.proofs.Common.{length-append}
-use Rattle.dm_mirror.proofs.Counts.Pairs.{line_ids, same_of, PairsWithin, group_keeps, Still}
+use Rattle.dm_mirror.proofs.Counts.Pairs.{line_ids, same_of, PairsWithin, Still}
 use Rattle.dm_mirror.proofs.Totals.{from_one, ids_of, sum_to, total, sum_more, Grows, total_grows}
 use Rattle.dm_mirror.proofs.Counts.AtEnds.{Under, FrontRestarts}
 use Rattle.dm_mirror.proofs.Machines.{few_machines}
@@ -32,9 +32,6 @@ still_routed v l off h = λ i told.
 more_times : (j i : MsgId) (ids : List MsgId) → times j ids ≤ times j (ids ++ i ∷ [])
 more_times j i ids = let e = times-append j ids (i ∷ []) in omega (arith, e)
 
-put_more : (f : ℕ → ℕ → Pair) (a b : ℕ) (i j : MsgId) (c d : ℕ) (t : Bool) → ((a == c) && (b == d)) ≡ t → 1 ≤ times j (f c d).ids → 1 ≤ times j (if t then routed_on a b (f a b) i else f c d).ids
-put_more f a b i j c d t e least = grind (arith, nat_tests, same_of, more_times)
-
 put_there : (f : ℕ → ℕ → Pair) (a b : ℕ) (i : MsgId) → 1 ≤ times i (if (a == a) && (b == b) then routed_on a b (f a b) i else f a b).ids
 put_there f a b i = grind (arith, nat_tests, last_there)
 
@@ -42,20 +39,13 @@ put_routed : (v : View) (a b : ℕ) (i : MsgId) (k : MessageKind) (q : Pid) → 
 put_routed v a b i k q h = λ j told. elim (cases_Bool (id_eq i j)) [
   | inl same ↦ record { from = a; to = b; there = subst (λ (g : MsgId). 1 ≤ times g ((after_put v a b i k q).pair a b).ids) (id_eq-is i j same) (put_there v.pair a b i) }
   | inr off ↦
-      let was : is_some (v.told j) ≡ true = sym (ap (λ (c : Bool). is_some (if c then Some (first_told (v.told i) (record { kind = k; receiver = q; about = v.topic })) else v.told j)) off) ∙ told in
-      let r = h j was in
-      record { from = r.from; to = r.to; there = put_more v.pair a b i j r.from r.to ((a == r.from) && (b == r.to)) refl r.there }
+      let r = h j (sym (ap (λ (c : Bool). is_some (if c then Some (first_told (v.told i) (record { kind = k; receiver = q; about = v.topic })) else v.told j)) off) ∙ told) in
+      record { from = r.from; to = r.to; there = (let e_ : 1 ≤ times j (if ((a == r.from) && (b == r.to)) then routed_on a b (v.pair a b) i else v.pair r.from r.to).ids = grind (arith, nat_tests, same_of, more_times, r.there) in e_) }
 ]
 
-line_routed : (v : View) (l : Line) → Routed v → Routed (view_after v l)
+pub line_routed : (v : View) (l : Line) → Routed v → Routed (view_after v l)
 line_routed v (Line.Put a b i k q) h = put_routed v a b i k q h
 line_routed v any_ h = still_routed v any_ refl h
-
-pub routed_group : (b : Boot) (pt : Point) (d : Step) (w : Spelled) → group_of b pt d ≡ Some w → Routed pt.view → Routed w.point.view
-routed_group b pt d w e h = group_keeps Routed (λ v a k i told. let r = k i told in record { from = r.from; to = r.to; there = r.there }) line_routed b pt d w e h
-
-pub routed_start : (b : Boot) → Routed (first_view b)
-routed_start b = λ i told. absurd (false≢true told)
 
 -- a list whose elements are among another's is no longer
 abbrev remove : MsgId → List MsgId → List MsgId
@@ -67,29 +57,22 @@ remove_length i [] least = absurd (omega (arith, least))
 remove_length i (y ∷ ys) least = elim (cases_Bool (id_eq i y)) [
   | inl same ↦ let e = ap (λ (c : Bool). length (if c then ys else y ∷ remove i ys)) same in omega (arith, e)
   | inr off ↦
-      let e = ap (λ (c : Bool). length (if c then ys else y ∷ remove i ys)) off in
-      omega (arith, e, remove_length i ys (omega (arith, ap (λ (c : Bool). (if c then 1 else 0) + times i ys) off, least)))
+      omega (arith, (ap (λ (c : Bool). length (if c then ys else y ∷ remove i ys)) off), remove_length i ys (omega (arith, ap (λ (c : Bool). (if c then 1 else 0) + times i ys) off, least)))
 ]
 
-abbrev one : Bool → ℕ
-one c = if c then 1 else 0
-
-remove_times : (i j : MsgId) (ys : List MsgId) → times j ys ≤ times j (remove i ys) + one (id_eq j i)
+remove_times : (i j : MsgId) (ys : List MsgId) → times j ys ≤ times j (remove i ys) + one_if (id_eq j i)
 remove_times i j [] = omega arith
 remove_times i j (y ∷ ys) = elim (cases_Bool (id_eq i y)) [
   | inl same ↦
-      let e : times j (remove i (y ∷ ys)) ≡ times j ys = ap (λ (c : Bool). times j (if c then ys else y ∷ remove i ys)) same in
-      let f : one (id_eq j y) ≡ one (id_eq j i) = ap (λ (g : MsgId). one (id_eq j g)) (sym (id_eq-is i y same)) in
-      omega (arith, e, f)
+      omega (arith, (ap (λ (c : Bool). times j (if c then ys else y ∷ remove i ys)) same), (ap (λ (g : MsgId). one_if (id_eq j g)) (sym (id_eq-is i y same))))
   | inr off ↦
-      let e : times j (remove i (y ∷ ys)) ≡ times j (y ∷ remove i ys) = ap (λ (c : Bool). times j (if c then ys else y ∷ remove i ys)) off in
-      omega (arith, e, remove_times i j ys)
+      omega (arith, (ap (λ (c : Bool). times j (if c then ys else y ∷ remove i ys)) off), remove_times i j ys)
 ]
 
 length_by : (xs ys : List MsgId) → ((i : MsgId) → times i xs ≤ times i ys) → length xs ≤ length ys
 length_by [] ys h = omega arith
 length_by (x ∷ xs) ys h =
-    let first : times x (x ∷ xs) ≡ 1 + times x xs = ap (λ (c : Bool). one c + times x xs) (id_eq-same x) in
+    let first : times x (x ∷ xs) ≡ 1 + times x xs = ap (λ (c : Bool). one_if c + times x xs) (id_eq-same x) in
     let rest = length_by xs (remove x ys) (λ i. let a = h i in let c = remove_times x i ys in omega (arith, a, c)) in
     omega (arith, remove_length x ys (omega (arith, first, h x)), rest)
 
@@ -123,9 +106,7 @@ routed_in : (v : View) (n : ℕ) (i : MsgId) → PairsWithin n v → IsRouted v 
 routed_in v n i within r =
     let there = r.there in
     let at_ = within r.from r.to (some_times i (v.pair r.from r.to).ids there) in
-    let inner = list_times n (λ c. (v.pair r.from c).ids) i r.to at_.1 in
-    let outer = list_times n (from_machine v n) i r.from at_.0 in
-    omega (arith, there, inner, outer)
+    omega (arith, there, (list_times n (λ c. (v.pair r.from c).ids) i r.to at_.1), list_times n (from_machine v n) i r.from at_.0)
 
 queue_held : (m : ℕ) (p : Pid) → Held m p ≢ Queue m p
 queue_held m p e = cc
@@ -142,9 +123,7 @@ waits_once b pt m p i run =
         | inr some ↦ let e = StandsAsBag-one o f (Held m p) some kept in omega (arith, z, e)
       ]
       | inr some ↦
-          let e = StandsAsBag-one o f (Queue m p) some kept in
-          let none = StandsAsBag-elsewhere o f (Queue m p) (Held m p) some (queue_held m p) kept in
-          omega (arith, e, none)
+          omega (arith, StandsAsBag-one o f (Queue m p) some kept, StandsAsBag-elsewhere o f (Queue m p) (Held m p) some (queue_held m p) kept)
     ]
 
 waits_among : (b : Boot) (pt : Point) (n m : ℕ) (p : Pid) (i : MsgId) → Run b pt → PairsWithin n pt.view → Routed pt.view → times i (pt.view.queue m p) + times i (pt.view.held m p) ≤ times i (all_ids pt.view n)
@@ -162,10 +141,8 @@ pub waiting_few : (b : Boot) (pt : Point) (n : ℕ) → Run b pt → PairsWithin
 waiting_few b pt n run within routed m p =
     let xs = pt.view.queue m p in
     let ys = pt.view.held m p in
-    let long = length-append xs ys in
     let most = length_by (xs ++ ys) (all_ids pt.view n) (λ i. let e = times-append i xs ys in let k = waits_among b pt n m p i run within routed in omega (arith, e, k)) in
-    let all = list_length n (from_machine pt.view n) (from_one pt.view n) (λ a. list_length n (λ c. (pt.view.pair a c).ids) (ids_of pt.view a) (λ c. refl)) in
-    omega (arith, long, most, all)
+    omega (arith, length-append xs ys, most, (list_length n (from_machine pt.view n) (from_one pt.view n) (λ a. list_length n (λ c. (pt.view.pair a c).ids) (ids_of pt.view a) (λ c. refl))))
 
 -- No process has moved more often than messages were routed in all.
 
@@ -200,14 +177,12 @@ may_move : (b : Boot) (pt : Point) (m : ℕ) (p : Pid) (n : ℕ) → Run b pt �
 may_move b pt m p n run f h =
     let c = is_moved b pt m f.id f.told p run f.told_is (ap is_between f.kind_is) f.about (stands_first pt.view m f.id f.rest f.box) in
     let (k, j, at_s) = forward_at c.d (pt.view.known c.s p) (ap (λ (x : MessageKind). kind_leaves x c.d (pt.view.known c.s p)) (sym f.kind_is) ∙ c.source) in
-    let at_d = incoming_from c.s (pt.view.known c.d p) (ap (λ (x : MessageKind). kind_comes x c.s (pt.view.known c.d p)) (sym f.kind_is) ∙ c.destination) in
-    h.moving p c.d c.s k j at_d at_s
+    h.moving p c.d c.s k j (incoming_from c.s (pt.view.known c.d p) (ap (λ (x : MessageKind). kind_comes x c.s (pt.view.known c.d p)) (sym f.kind_is) ∙ c.destination)) at_s
 
 rests_alone : (v : View) (m d s : ℕ) (p : Pid) → InPhases v → v.known m p ≡ Known.Here → v.known d p ≡ Known.Incoming s → ⊥
 rests_alone v m d s p h here incoming =
     let rests : h.of p ≡ Rests m = rests_here (h.of p) m (sym (ap (knows (h.of p) m) here) ∙ (h.each p).known m) in
-    let known : knows (Rests m) d (Known.Incoming s) ≡ true = sym (ap (λ (f : Phase). knows f d (Known.Incoming s)) rests) ∙ sym (ap (knows (h.of p) d) incoming) ∙ (h.each p).known d in
-    false≢true (sym (either (m == d)) ∙ known)
+    false≢true (sym (either (m == d)) ∙ (sym (ap (λ (f : Phase). knows f d (Known.Incoming s)) rests) ∙ sym (ap (knows (h.of p) d) incoming) ∙ (h.each p).known d))
   where
     either : (c : Bool) → (if c then false else false) ≡ false
     either true = refl
@@ -219,9 +194,7 @@ known_here f m p = ap (λ (c : Bool). if c then Known.Here else f m p) (let t : 
 moving_by : (n m : ℕ) (v w : View) (p q : Pid) (d s k j : ℕ) (c : Bool) → pid_eq p q ≡ c → total v n ≤ total w n → w.moves ≡ at_pid v.moves p (v.moves p + 1) → w.known ≡ at_record v.known m p Known.Here → InPhases w → MovesFew n v
     → w.known d q ≡ Known.Incoming s → w.known s q ≡ Known.Forward k j → w.moves q + 1 ≤ total w n
 moving_by n m v w p q d s k j true e more moves known phases h at_d at_s =
-    let same = pid_eq-is p q e in
-    let here : w.known m q ≡ Known.Here = ap (w.known m) (sym same) ∙ ap (λ (f : ℕ → Pid → Known). f m p) known ∙ known_here v.known m p in
-    absurd (rests_alone w m d s q phases here at_d)
+    absurd (rests_alone w m d s q phases (ap (w.known m) (sym (pid_eq-is p q e)) ∙ ap (λ (f : ℕ → Pid → Known). f m p) known ∙ known_here v.known m p) at_d)
 moving_by n m v w p q d s k j false e more moves known phases h at_d at_s = grind (arith, nat_tests)
 
 pub moves_restart : (b : Boot) (pt : Point) (m n : ℕ) (p : Pid) (w : View) → Run b pt → FrontRestarts pt m p → total pt.view n ≤ total w n → w.moves ≡ at_pid pt.view.moves p (pt.view.moves p + 1) → w.known ≡ at_record pt.view.known m p Known.Here → InPhases w → MovesFew n pt.view → MovesFew n w
@@ -250,8 +223,7 @@ all_processes b earlier [] h = omega arith
 all_processes b earlier (p ∷ ps) h =
     let k = listed b earlier p ps h in
     let mine : starting_at p.pid.home ps + 1 ≤ starting_at p.pid.home (p ∷ ps) = (let e : (p.pid.home == p.pid.home) ≡ true = grind (arith, nat_tests) in let f : one_if (p.pid.home == p.pid.home) ≡ 1 = ap one_if e in omega (arith, f)) in
-    let more = sum_more (length b.machines) (λ m. starting_at m ps) (λ m. starting_at m (p ∷ ps)) p.pid.home (λ m. starting_one m p ps) k.home mine in
-    omega (arith, all_processes b (earlier ++ p ∷ []) ps k.rest, more)
+    omega (arith, all_processes b (earlier ++ p ∷ []) ps k.rest, (sum_more (length b.machines) (λ m. starting_at m ps) (λ m. starting_at m (p ∷ ps)) p.pid.home (λ m. starting_one m p ps) k.home mine))
 
 sum_within : (n k : ℕ) (f : ℕ → ℕ) → n ≤ k → ((i : ℕ) → i < k → f i ≤ 64) → sum_to n f ≤ n * 64
 sum_within zero k f le h = omega arith
@@ -294,9 +266,6 @@ under_start b n valid =
       made = λ h. let k = starting_few h b.processes in omega (arith, few, k);
       names = omega arith;
     }
-
-pub pairs_start : (b : Boot) (n : ℕ) → PairsWithin n (first_view b)
-pairs_start b n = λ a c some. absurd (omega (arith, some))
 
 -- nothing comes at first
 abbrev comes_now : Known → Bool

@@ -1,5 +1,7 @@
 -- The delivery of a packet: the machines do what the rule says.
-use Rattle.dm_mirror.proofs.Names.{◌≡◌, ◌≢◌, ℕ, ◌+◌, ◌-◌, ◌<◌, ◌≤◌, List, [], ◌∷◌, length, refl, ap, ◌∙◌, sym, subst, arith, Some, Message, Sending, with_acked, Receiving, after_arrival, Arrived, Data, Ack, load_at, Sent, after_mark, Boot}
+use Rattle.dm_mirror.proofs.Names.{Early, Old, after_line, arrival}
+use Rattle.dm_mirror.proofs.Names.{PairStands, stream_of}
+use Rattle.dm_mirror.proofs.Names.{◌≡◌, ◌≢◌, ℕ, ◌+◌, ◌-◌, ◌<◌, ◌≤◌, List, [], ◌∷◌, length, refl, ap, ◌∙◌, sym, subst, arith, Some, Message, Sending, with_acked, Receiving, after_arrival, Arrived, Data, Ack, load_at, after_mark, Boot}
 use Rattle.dm_mirror.proofs.Names.{nat_tests, Line, at_pair, Pair, oldest, at_least, Point, moved, has, kept_from, less, more, numbers_from, repeats, taken_pair, Placed, NodeState, here, with_message, with_receiver, with_sender}
 use Rattle.dm_mirror.proofs.Names.{acknowledges, before, lets_go, takes_kept, then_acknowledges, WorldState, History, StandsWith, less-right, more-is, ◌^◌, slice_get, option_map, Ok, Option, slice_get-map, Packet, packet_of, spelling}
 use Rattle.dm_mirror.proofs.Names.{packet_again, bytes_at, line_of, nat_le, nat_lt, true, drop, Result, PacketError, ◌>>=◌, IsRoute, only_packet, message, read_rest, spell_message, IsField-number, guard_ok, outstanding}
@@ -15,9 +17,10 @@ use Rattle.dm_rule.specs.Rule as group
 use Rattle.dm_node.specs.Acts as node
 use Rattle.dm_stream.specs.Packets as stream
 use Rattle.dm_node.specs.Out as out
-use Rattle.dm_mirror.proofs.Deliver.Moves.{back_other, back_pair, there_pair, two_other, two_same, acknowledged, kept_after, taken_parts, takes_follow, lets_follow, room_of}
-use Rattle.dm_mirror.proofs.Deliver.Events.{Ends, PairIs, ends_of, after_early_is, after_old_is, after_taken_is, arrival_early, arrival_old, arrival_taken, off, stream_with, less_test}
-use Rattle.dm_mirror.proofs.Deliver.Stands.{Follows, machine_same, says_on}
+use Rattle.dm_mirror.proofs.Streams.{at_here, pair_here, pair_other}
+use Rattle.dm_mirror.proofs.Deliver.Moves.{back_other, acknowledged, kept_after, taken_parts, takes_follow, lets_follow, room_of}
+use Rattle.dm_mirror.proofs.Deliver.Events.{after_early_is, after_old_is, after_taken_is, arrival_early, arrival_old, arrival_taken, off, less_test}
+use Rattle.dm_mirror.proofs.Deliver.Stands.{Follows, says_on}
 use Rattle.dm_mirror.proofs.Deliver.Outs.{acked_stands, begun, come_to, early_stands, marked_in, old_stands, taken_stands}
 
 -- the world of a delivery before the machine acts
@@ -25,44 +28,40 @@ abbrev marked_world : WorldState → ℕ → ℕ → ℕ → WorldState
 marked_world w a c k = record { nodes = w.nodes; wires = after_mark w.wires a c k; groups = w.groups + 1 }
 
 module _ (b : Boot) (w : WorldState) (pt : Point) (l : Placed) (h : History) (a c k : ℕ) (s : StandsWith b w pt l h) (a_in : a < pt.kernel.machines) (c_in : c < pt.kernel.machines) (apart : a ≢ c) where
-  there : PairIs b l a c (ends_of w h a c) (w.wires a c) (pt.view.pair a c)
-  there = there_pair b w pt l h a c s a_in c_in apart
+  there : PairStands b pt l w h a c
+  there = s.pairs a c a_in c_in apart
 
   -- what comes makes the machine do what the rule's parts say
   abbrev pub Comes : Load Message → List Part → Type 0
   Comes carried ps = Follows b c (marked_world w a c k) (begun pt a c k) l (node.arrives (w.nodes c) a carried) ps
 
+  -- it is said to be old or early, and what was taken is acknowledged
+  again_comes : (n : ℕ) (x : Message) (said : ℕ → Line) (o : Arrived Message) → arrival ((w.nodes c).receivers a) n x ≡ o → ((z : NodeState) → node.comes z a n o ≡ before (Says (said (here z)) ∷ []) (record { state = z; outs = acknowledges z a }))
+      → (after_arrival ((w.nodes c).receivers a) n x).count ≡ ((w.nodes c).receivers a).count → after_line (begun pt a c k) (said c) ≡ Some (moved (begun pt a c k) (said c) pt.kernel)
+      → StandsWith b (come_to w a c k (with_receiver (w.nodes c) a (after_arrival ((w.nodes c).receivers a) n x))) (moved (begun pt a c k) (said c) pt.kernel) l (marked_in h a c k)
+      → Comes (Data n x) (Part.Says (said c) ∷ Part.Transmits c a (load.Ack (pt.view.pair a c).taken) ∷ [])
+  again_comes n x said o is comes count goes stands =
+      let next : NodeState = with_receiver (w.nodes c) a (after_arrival ((w.nodes c).receivers a) n x) in
+      let v : WorldState = come_to w a c k next in
+      let q : Point = moved (begun pt a c k) (said c) pt.kernel in
+      let ps : List Part = Part.Transmits c a (load.Ack (pt.view.pair a c).taken) ∷ [] in
+      let set : v.nodes c ≡ next = at_here w.nodes c next in
+      let counted : (pt.view.pair a c).taken ≡ ((v.nodes c).receivers a).count =
+      sym there.taken ∙ sym (ap (λ (z : NodeState). (z.receivers a).count) set ∙ ap (λ (z : Receiving Message). z.count) (at_here (w.nodes c).receivers a (after_arrival ((w.nodes c).receivers a) n x)) ∙ count) in
+      let last = acknowledged b l a c apart v q (marked_in h a c k) stands a_in c_in (pt.view.pair a c).taken counted in
+      let whole = says_on b c (marked_world w a c k) (begun pt a c k) q l next (said (here (w.nodes c))) (said c) (record { state = next; outs = acknowledges next a }) ps (ap said (s.nodes c c_in).kernel.here) goes
+      (subst (λ (z : NodeState). Follows b c v q l (record { state = z; outs = acknowledges z a }) ps) set last) in
+      subst (λ (z : Acted). Follows b c (marked_world w a c k) (begun pt a c k) l z (Part.Says (said c) ∷ ps)) (sym (ap (node.comes next a n) is ∙ comes next)) whole
+
   -- what was taken before
   pub old_comes : (n : ℕ) (m x : Message) → load_at (h.packets a c) k ≡ Some (Data n m) → n < ((w.nodes c).receivers a).count → Comes (Data n x) (Part.Says (Line.Old a c n) ∷ Part.Transmits c a (load.Ack (pt.view.pair a c).taken) ∷ [])
   old_comes n m x e lt =
-      let r : Receiving Message = (w.nodes c).receivers a in
-      let next : NodeState = with_receiver (w.nodes c) a (after_arrival r n x) in
-      let v : WorldState = come_to w a c k next in
-      let q : Point = moved (begun pt a c k) (Line.Old a c n) pt.kernel in
-      let g : History = marked_in h a c k in
-      let set : v.nodes c ≡ next = machine_same w.nodes c next in
-      let count : (pt.view.pair a c).taken ≡ ((v.nodes c).receivers a).count =
-      sym there.taken ∙ sym (ap (λ (z : NodeState). (z.receivers a).count) set ∙ ap (λ (z : Receiving Message). z.count) (machine_same (w.nodes c).receivers a (after_arrival r n x) ∙ after_old_is r n x lt)) in
-      let last = acknowledged b l a c apart v q g (old_stands b w pt l h a c s a_in c_in apart k n m e x lt) a_in c_in (pt.view.pair a c).taken count in
-      let last_here = subst (λ (z : NodeState). Follows b c v q l (record { state = z; outs = acknowledges z a }) (Part.Transmits c a (load.Ack (pt.view.pair a c).taken) ∷ [])) set last in
-      let whole = says_on b c (marked_world w a c k) (begun pt a c k) q l next (Line.Old a (here (w.nodes c)) n) (Line.Old a c n) (record { state = next; outs = acknowledges next a }) (Part.Transmits c a (load.Ack (pt.view.pair a c).taken) ∷ []) (ap (λ (i : ℕ). Line.Old a i n) (s.nodes c c_in).kernel.here) refl last_here in
-      subst (λ (z : Arrived Message). Follows b c (marked_world w a c k) (begun pt a c k) l (node.comes next a n z) (Part.Says (Line.Old a c n) ∷ Part.Transmits c a (load.Ack (pt.view.pair a c).taken) ∷ [])) (sym (arrival_old r n x lt)) whole
+      again_comes n x (λ i. Line.Old a i n) Old (arrival_old ((w.nodes c).receivers a) n x lt) (λ z. refl) (ap (λ (z : Receiving Message). z.count) (after_old_is ((w.nodes c).receivers a) n x lt)) refl (old_stands b w pt l h a c s a_in c_in apart k n m e x lt)
 
   -- what comes early
   pub early_comes : (n : ℕ) (m : Message) → load_at (h.packets a c) k ≡ Some (Data n m) → ((w.nodes c).receivers a).count < n → Comes (Data n m) (Part.Says (Line.Early a c n) ∷ Part.Transmits c a (load.Ack (pt.view.pair a c).taken) ∷ [])
   early_comes n m e gt =
-      let r : Receiving Message = (w.nodes c).receivers a in
-      let next : NodeState = with_receiver (w.nodes c) a (after_arrival r n m) in
-      let v : WorldState = come_to w a c k next in
-      let q : Point = moved (begun pt a c k) (Line.Early a c n) pt.kernel in
-      let g : History = marked_in h a c k in
-      let set : v.nodes c ≡ next = machine_same w.nodes c next in
-      let count : (pt.view.pair a c).taken ≡ ((v.nodes c).receivers a).count =
-      sym there.taken ∙ sym (ap (λ (z : NodeState). (z.receivers a).count) set ∙ ap (λ (z : Receiving Message). z.count) (machine_same (w.nodes c).receivers a (after_arrival r n m) ∙ after_early_is r n m gt)) in
-      let last = acknowledged b l a c apart v q g (early_stands b w pt l h a c s a_in c_in apart k n m e gt) a_in c_in (pt.view.pair a c).taken count in
-      let last_here = subst (λ (z : NodeState). Follows b c v q l (record { state = z; outs = acknowledges z a }) (Part.Transmits c a (load.Ack (pt.view.pair a c).taken) ∷ [])) set last in
-      let whole = says_on b c (marked_world w a c k) (begun pt a c k) q l next (Line.Early a (here (w.nodes c)) n) (Line.Early a c n) (record { state = next; outs = acknowledges next a }) (Part.Transmits c a (load.Ack (pt.view.pair a c).taken) ∷ []) (ap (λ (i : ℕ). Line.Early a i n) (s.nodes c c_in).kernel.here) refl last_here in
-      subst (λ (z : Arrived Message). Follows b c (marked_world w a c k) (begun pt a c k) l (node.comes next a n z) (Part.Says (Line.Early a c n) ∷ Part.Transmits c a (load.Ack (pt.view.pair a c).taken) ∷ [])) (sym (arrival_early r n m gt)) whole
+      again_comes n m (λ i. Line.Early a i n) Early (arrival_early ((w.nodes c).receivers a) n m gt) (λ z. refl) (ap (λ (z : Receiving Message). z.count) (after_early_is ((w.nodes c).receivers a) n m gt)) refl (early_stands b w pt l h a c s a_in c_in apart k n m e gt)
 
   -- what is next, and so many of those that are kept behind it
   taken_follows : (fuel n : ℕ) (m : Message) → load_at (h.packets a c) k ≡ Some (Data n m) → n ≡ ((w.nodes c).receivers a).count
@@ -74,18 +73,17 @@ module _ (b : Boot) (w : WorldState) (pt : Point) (l : Placed) (h : History) (a 
       let next : NodeState = with_message (with_receiver (w.nodes c) a (after_arrival r n m)) m in
       let v : WorldState = come_to w a c k next in
       let q : Point = moved (begun pt a c k) (Line.Taken a c n) pt.kernel in
-      let g : History = marked_in h a c k in
       let ks : List ℕ = (pt.view.pair a c).kept in
-      let set : v.nodes c ≡ next = machine_same w.nodes c next in
+      let set : v.nodes c ≡ next = at_here w.nodes c next in
       let count : n + 1 ≡ ((v.nodes c).receivers a).count =
-      ap (λ (i : ℕ). i + 1) is ∙ sym (ap (λ (z : NodeState). (z.receivers a).count) set ∙ ap (λ (z : Receiving Message). z.count) (machine_same (w.nodes c).receivers a (after_arrival r n m) ∙ after_taken_is r n m is)) in
+      ap (λ (i : ℕ). i + 1) is ∙ sym (ap (λ (z : NodeState). (z.receivers a).count) set ∙ ap (λ (z : Receiving Message). z.count) (at_here (w.nodes c).receivers a (after_arrival r n m) ∙ after_taken_is r n m is)) in
       let mark : Pair = view.marked (pt.view.pair a c) k in
       let first : ℕ → ℕ → Pair = at_pair pt.view.pair a c mark in
       let p : Pair = record (first a c) { taken = (first a c).taken + 1; kept = off n (first a c).kept } in
-      let now : q.view.pair a c ≡ p = ap (λ (f : ℕ → ℕ → Pair). f a c) (taken_pair (view.with_pair (begun pt a c k).view a c p) c (oldest (first a c))) ∙ two_same first a c p in
-      let before_it : (i : ℕ) → n ≤ i → has i ks ≡ has i (first a c).kept = λ i le. ap (λ (z : Pair). has i z.kept) (sym (two_same pt.view.pair a c mark)) in
+      let now : q.view.pair a c ≡ p = ap (λ (f : ℕ → ℕ → Pair). f a c) (taken_pair (view.with_pair (begun pt a c k).view a c p) c (oldest (first a c))) ∙ pair_here first a c p in
+      let before_it : (i : ℕ) → n ≤ i → has i ks ≡ has i (first a c).kept = λ i le. ap (λ (z : Pair). has i z.kept) (sym (pair_here pt.view.pair a c mark)) in
       let later : (i : ℕ) → n + 1 ≤ i → has i ks ≡ has i (q.view.pair a c).kept = λ i le. kept_after b l a c apart first n ks before_it i le ∙ ap (λ (z : Pair). has i z.kept) (sym now) in
-      let rest = takes_follow b l a c apart fuel v q g (taken_stands b w pt l h a c s a_in c_in apart k n m e is) a_in c_in ks (n + 1) count later in
+      let rest = takes_follow b l a c apart fuel v q (marked_in h a c k) (taken_stands b w pt l h a c s a_in c_in apart k n m e is) a_in c_in ks (n + 1) count later in
       let rest_here = subst (λ (z : NodeState). Follows b c v q l (then_acknowledges (takes_kept fuel z a) a) (taken_parts b l a c apart ks (n + 1) fuel)) set rest in
       says_on b c (marked_world w a c k) (begun pt a c k) q l next (Line.Taken a (here (w.nodes c)) n) (Line.Taken a c n) (then_acknowledges (takes_kept fuel next a) a) (taken_parts b l a c apart ks (n + 1) fuel) (ap (λ (i : ℕ). Line.Taken a i n) (s.nodes c c_in).kernel.here) refl rest_here
 
@@ -102,19 +100,18 @@ module _ (b : Boot) (w : WorldState) (pt : Point) (l : Placed) (h : History) (a 
       let q : Point = moved (begun pt a c k) (Line.Acked a c n) pt.kernel in
       let g : History = marked_in h a c k in
       let stands : StandsWith b v q l g = acked_stands b w pt l h a c s a_in c_in apart k n e in
-      let set : v.nodes c ≡ next = machine_same w.nodes c next in
       let mark : Pair = view.marked (pt.view.pair a c) k in
       let first : ℕ → ℕ → Pair = at_pair pt.view.pair a c mark in
       let p : Pair = record (first c a) { acked = at_least (first c a).acked n } in
       let now : q.view.pair c a ≡ record (pt.view.pair c a) { acked = at_least (pt.view.pair c a).acked n } =
-      two_same first c a p ∙ ap (λ (z : Pair). record z { acked = at_least z.acked n }) (two_other pt.view.pair a c mark c a (back_other a c apart)) in
+      pair_here first c a p ∙ ap (λ (z : Pair). record z { acked = at_least z.acked n }) (pair_other pt.view.pair a c mark c a (back_other a c apart)) in
       let old : Pair = pt.view.pair c a in
       let j : ℕ = less (length old.ids - old.gone) (more n old.acked + 8 - old.gone) in
       let room : j ≡ room_of (q.view.pair c a) = ap (λ (i : ℕ). less (length old.ids - old.gone) (i + 8 - old.gone)) (more-is old.acked n) ∙ sym (ap room_of now) in
-      let small : j ≤ 8 = subst (λ (i : ℕ). i ≤ 8) (sym room) (grind (arith, nat_tests, less-right, back_pair b v q l g a c stands a_in c_in apart)) in
+      let small : j ≤ 8 = subst (λ (i : ℕ). i ≤ 8) (sym room) (grind (arith, nat_tests, less-right, stands.pairs c a c_in a_in (λ e. apart (sym e)))) in
       let rest = lets_follow b l a c apart 8 v q g stands a_in c_in j room small in
       let rest_from = subst (λ (i : ℕ). Follows b c v q l (lets_go 8 (v.nodes c) a) (repeats c a (numbers_from i j))) (ap (λ (z : Pair). z.gone) now) rest in
-      let rest_here = subst (λ (z : NodeState). Follows b c v q l (lets_go 8 z a) (repeats c a (numbers_from old.gone j))) set rest_from in
+      let rest_here = subst (λ (z : NodeState). Follows b c v q l (lets_go 8 z a) (repeats c a (numbers_from old.gone j))) (at_here w.nodes c next) rest_from in
       says_on b c (marked_world w a c k) (begun pt a c k) q l next (Line.Acked a (here (w.nodes c)) n) (Line.Acked a c n) (lets_go 8 next a) (repeats c a (numbers_from old.gone j)) (ap (λ (i : ℕ). Line.Acked a i n) (s.nodes c c_in).kernel.here) refl rest_here
 
 -- The packet of a delivery is read as it was put, and its machine may take it.
@@ -132,11 +129,11 @@ pub record IsReadAs (w : WorldState) (a c n : ℕ) (m : Message) : Type 0 where
 abbrev pub ReadsAs : WorldState → History → ℕ → ℕ → ℕ → Type 0
 ReadsAs w h a c k = (n : ℕ) (m : Message) → load_at (h.packets a c) k ≡ Some (Data n m) → IsReadAs w a c n m
 
-pub bytes_are : (b : Boot) (l : Placed) (a c : ℕ) (x : Ends) (sent : List Sent) (p : Pair) (k : ℕ) → PairIs b l a c x sent p → bytes_at sent k ≡ option_map (bytes_for a c) (slice_get x.out k)
-bytes_are b l a c x sent p k h = grind (arith, nat_tests, option_map, slice_get-map, slice_get)
+pub bytes_are : (b : Boot) (pt : Point) (l : Placed) (w : WorldState) (h : History) (a c k : ℕ) → PairStands b pt l w h a c → bytes_at (w.wires a c) k ≡ option_map (bytes_for a c) (slice_get (h.packets a c) k)
+bytes_are b pt l w h a c k s = grind (arith, nat_tests, option_map, slice_get-map, slice_get)
 
-pub lines_are : (b : Boot) (l : Placed) (a c : ℕ) (x : Ends) (sent : List Sent) (p : Pair) (k : ℕ) → PairIs b l a c x sent p → slice_get p.wire k ≡ option_map line_of (slice_get x.out k)
-lines_are b l a c x sent p k h = ap (λ (ss : List view.SentLoad). slice_get ss k) (sym h.packets) ∙ slice_get-map line_of x.out k
+pub lines_are : (b : Boot) (pt : Point) (l : Placed) (w : WorldState) (h : History) (a c k : ℕ) → PairStands b pt l w h a c → slice_get (pt.view.pair a c).wire k ≡ option_map line_of (slice_get (h.packets a c) k)
+lines_are b pt l w h a c k s = ap (λ (ss : List view.SentLoad). slice_get ss k) (sym s.packets) ∙ slice_get-map line_of (h.packets a c) k
 
 abbrev load_in : Option (stream.Packet Message) → Option (Load Message)
 load_in o = option_map (λ p. p.load) o
@@ -181,19 +178,16 @@ few b m n valid are lt = let most : nat_le (length b.machines) 16 ≡ true = val
 outstanding_is : (s : Sending Message) (given : List Message) (n : ℕ) (m : Message) → s.unacked ≡ drop s.acked given → s.acked ≤ n → n < s.gone → slice_get given n ≡ Some m → outstanding s (n - s.acked) ≡ Some (n, m)
 outstanding_is s given n m e above below is = grind (arith, nat_tests, slice_get, get-drop, nat_lt, less_test)
 
-put_is : (a c : ℕ) (o : Option (stream.Packet Message)) (carried : Load Message) → load_in o ≡ Some carried → option_map (bytes_for a c) o ≡ Some (spelling (out.packet_of_load a c carried))
-put_is a c o carried e = grind (arith, nat_tests)
-
 pub reads_as : (b : Boot) (w : WorldState) (pt : Point) (l : Placed) (h : History) (a c k : ℕ) → IsValid b → StandsWith b w pt l h → a < pt.kernel.machines → c < pt.kernel.machines → a ≢ c → pt.kernel.machines ≡ length b.machines → IsReadable w → ReadsAs w h a c k
 reads_as b w pt l h a c k valid s a_in c_in apart machines_are readable n m e =
-    let there : PairIs b l a c (ends_of w h a c) (w.wires a c) (pt.view.pair a c) = there_pair b w pt l h a c s a_in c_in apart in
+    let there : PairStands b pt l w h a c = s.pairs a c a_in c_in apart in
     let low_a : a < 16 = few b a pt.kernel.machines valid machines_are a_in in
     let low_c : c < 16 = few b c pt.kernel.machines valid machines_are c_in in
-    let near : n < 2 ^ 32 - 1 = (MayCome-stands (stream_with (ends_of w h a c)) there.stream).numbered k n m e in
+    let near : n < 2 ^ 32 - 1 = (MayCome-stands (stream_of w h a c) there.stream).numbered k n m e in
     let route : IsRoute a c = record { from = omega arith; to = omega arith; apart = λ same. apart (sym same) } in
     let loads : load_in (slice_get (h.packets a c) k) ≡ Some (Data n m) = sym (load_is (h.packets a c) k (slice_get (h.packets a c) k) refl) ∙ e in
-    let put : bytes_at (w.wires a c) k ≡ Some (spelling (Packet.Data a c n m)) = bytes_are b l a c (ends_of w h a c) (w.wires a c) (pt.view.pair a c) k there ∙ put_is a c (slice_get (h.packets a c) k) (Data n m) loads in
-    let (p, read) = readable.reads a c k (spelling (Packet.Data a c n m)) put in
+    let put_is : option_map (bytes_for a c) (slice_get (h.packets a c) k) ≡ Some (spelling (out.packet_of_load a c (Data n m))) = grind (arith, nat_tests) in
+    let (p, read) = readable.reads a c k (spelling (Packet.Data a c n m)) (bytes_are b pt l w h a c k there ∙ put_is) in
     let (x, is) = numbered a c n (message.read (spell_message m)) p (sym (read_on a c n m route (omega arith)) ∙ read) in
     let given : slice_get (h.given a c) n ≡ Some m = there.stream.sent.data_given k n m e in
     record {

@@ -1,35 +1,28 @@
 -- What each event of a delivery makes of the world, and that it stands behind it.
+use Rattle.dm_mirror.proofs.Names.{NodeStands, PairStands, Stream, TakeKept, View, after_packet, happens, stream_of, slice_get-map, option_map}
 use Rattle.dm_mirror.proofs.Names.{◌≡◌, ◌≢◌, ℕ, ◌+◌, ◌<◌, ◌≤◌, ◌==◌, ◌&&◌, Bool, true, false, List, [], ◌∷◌, ◌++◌, refl, ap, ◌∙◌, sym, subst, inl, inr, arith, if◌then◌else◌, slice_get, Option, Some, nat_tests, map-append, All-push}
-use Rattle.dm_mirror.proofs.Names.{All-get_or, get_or_from_slice_get, slice_get_within, Message, MsgId, IsLawfulMessage, Packet, Line, Load, spelling, due, with_sent, advanced, after_next, next, Data, Ack, just_put, after_mark, Boot}
-use Rattle.dm_mirror.proofs.Names.{at_machine, at_pair, Pair, gone_after, oldest, Inbox, times, Point, moved, Placed, lines_keep, with_message, with_receiver, with_sender, WorldState, AreMessages, History, StandsWith, zero, suc, length}
-use Rattle.dm_mirror.proofs.Names.{is_some, None, length-map, Receiving, has, kept_from, taking_parts, taken_pair, NodeState, here, Sends, takes_kept, takes_next, then_acknowledges, bytes_of, line_of, ◌-◌, nat_le, nat_lt, drop, ◌⊎◌}
+use Rattle.dm_mirror.proofs.Names.{All-get_or, get_or_from_slice_get, slice_get_within, Message, MsgId, IsLawfulMessage, Packet, Line, Load, spelling, due, with_sent, after_next, next, Data, Ack, just_put, after_mark, Boot}
+use Rattle.dm_mirror.proofs.Names.{at_machine, at_pair, Pair, gone_after, oldest, times, Point, moved, Placed, with_message, with_receiver, with_sender, WorldState, AreMessages, History, StandsWith, zero, suc, length}
+use Rattle.dm_mirror.proofs.Names.{is_some, None, length-map, Receiving, has, kept_from, taking_parts, taken_pair, NodeState, here, Sends, takes_kept, takes_next, then_acknowledges, ◌-◌, nat_le, nat_lt, drop, ◌⊎◌}
 use Rattle.dm_mirror.proofs.Names.{slice_get_cases, slice_get_past, Sending, numbered, get-drop, less, numbers_from, repeats, before, lets_go, lets_next, message_id}
 use Rattle.dm_rule.proofs.Names.{Part}
 use Rattle.dm_wire.specs.Wire.{after_put}
-pub use Rattle.dm_rule.proofs.Lines.{pair_at as two_same}
 use Rattle.dm_wire.specs.Sent as wire
 use Rattle.dm_rule.specs.Parts as rule
 use Rattle.dm_rule.specs.View as view
 use Rattle.dm_node.specs.Acts as node
-use Rattle.dm_mirror.proofs.Deliver.Events.{acknowledges, due_goes, kept_comes, message_is, oldest_is, other_acknowledges, other_goes, gone_is, Ends, PairIs, ends_of, pair_is, after_next_is, next_is, off, has_off, less_test}
-use Rattle.dm_mirror.proofs.Deliver.Stands.{IsOther, Moves, moves_stand, machine_same, machine_other, Follows, nothing, says_on, sends_on, came_one, took_set}
+use Rattle.dm_mirror.proofs.Deliver.Events.{acknowledges, kept_comes, message_is, other_acknowledges, after_next_is, next_is, off, has_off, less_test}
+use Rattle.dm_mirror.proofs.Streams.{Joined, at_here, at_other, at_same, gone_next, joined, node_same, pair_here, pair_other}
+use Rattle.dm_mirror.proofs.Puts.{point_put, same_senders, stands_put, wire_length, with_put, world_put}
+use Rattle.dm_mirror.proofs.Giving.{due_stands}
+use Rattle.dm_mirror.proofs.Deliver.Stands.{IsOther, Moves, moves_stand, Follows, Stood, nothing, says_on, sends_on, came_one, took_set, node_on, with_pairs}
 pub use Rattle.dm_mirror.proofs.Puts.{ids_same as ids_set}
-use Rattle.dm_mirror.proofs.Deliver.Events.{not_less_test}
-
-pub two_other : {X : Type 0} (f : ℕ → ℕ → X) (a c : ℕ) (x : X) (m n : ℕ) → IsOther a c m n → at_pair f a c x m n ≡ f m n
-two_other f a c x m n e = ap (λ (t : Bool). if t then x else f m n) e
 
 pub mark_same : (f : ℕ → ℕ → List wire.Sent) (a c k : ℕ) → after_mark f a c k a c ≡ wire.marked (f a c) k
 mark_same f a c k = let e : ((a == a) && (c == c)) ≡ true = grind (arith, nat_tests) in ap (λ (t : Bool). if t then wire.marked (f a c) k else f a c) e
 
 pub mark_other : (f : ℕ → ℕ → List wire.Sent) (a c k m n : ℕ) → IsOther a c m n → after_mark f a c k m n ≡ f m n
 mark_other f a c k m n e = ap (λ (t : Bool). if t then wire.marked (f m n) k else f m n) e
-
-pub put_same : (f : ℕ → ℕ → List wire.Sent) (a c : ℕ) (bytes : List ℕ) → after_put f a c bytes a c ≡ f a c ++ wire.just_put bytes ∷ []
-put_same f a c bytes = let e : ((a == a) && (c == c)) ≡ true = grind (arith, nat_tests) in ap (λ (t : Bool). if t then f a c ++ wire.just_put bytes ∷ [] else f a c) e
-
-pub put_other : (f : ℕ → ℕ → List wire.Sent) (a c : ℕ) (bytes : List ℕ) (m n : ℕ) → IsOther a c m n → after_put f a c bytes m n ≡ f m n
-put_other f a c bytes m n e = ap (λ (t : Bool). if t then f m n ++ wire.just_put bytes ∷ [] else f m n) e
 
 -- the pair that leads back is another one
 pub back_other : (a c : ℕ) → a ≢ c → IsOther a c c a
@@ -48,140 +41,65 @@ pub record Taking (l : Placed) (p : Pair) (m : Message) : Type 0 where
   pub first : oldest p ≡ Some m.id
   pub lawful : IsLawfulMessage m
 
-pub taking : (b : Boot) (l : Placed) (a c : ℕ) (x : Ends) (sent : List wire.Sent) (p : Pair) (m : Message) → slice_get x.given x.receiver.count ≡ Some m → PairIs b l a c x sent p → Taking l p m
+-- the message that is next to be taken
+pub taking : (b : Boot) (l : Placed) (a c : ℕ) (x : Stream Message) (sent : List wire.Sent) (p : Pair) (m : Message) → slice_get x.given x.receiver.count ≡ Some m → Joined b l.bag a c x sent p → Taking l p m
 taking b l a c x sent p m is h =
     let at : slice_get x.given p.taken ≡ Some m = ap (slice_get x.given) (sym h.taken) ∙ is in
-    let first : slice_get p.ids p.taken ≡ Some m.id = oldest_is x.given p.ids p.taken m h.ids at in
+    let first : slice_get p.ids p.taken ≡ Some m.id = ap (λ (xs : List MsgId). slice_get xs p.taken) (sym h.ids) ∙ slice_get-map message_id x.given p.taken ∙ ap (option_map message_id) at in
     search (
       message_is l.bag p.ids x.given p.taken m.id m h.untaken first at,
       subst IsLawfulMessage (get_or_from_slice_get x.given p.taken m m at) (All-get_or IsLawfulMessage x.given p.taken m (slice_get_within x.given p.taken m at) h.lawful),
     )
 
-module _ (b : Boot) (w : WorldState) (pt : Point) (l : Placed) (h : History) (a c : ℕ) (s : StandsWith b w pt l h) (a_in : a < pt.kernel.machines) (c_in : c < pt.kernel.machines) (apart : a ≢ c) where
-  pub there_pair : PairIs b l a c (ends_of w h a c) (w.wires a c) (pt.view.pair a c)
-  there_pair = pair_is b pt l w h a c (s.pairs a c a_in c_in apart)
+-- a message comes into the inbox of machine c, and the machine's streams are so then
+pub node_takes : (b : Boot) (pt : Point) (l : Placed) (pair : ℕ → ℕ → Pair) (c : ℕ) (n : NodeState) (p : Pair) (m : Message) (ss : ℕ → Sending Message) (rs : ℕ → Receiving Message) → Taking l p m → (pair c c).ids ≡ (pt.view.pair c c).ids → NodeStands b pt l c n
+    → NodeStands b (with_pairs pt pair (at_machine pt.view.inbox c (pt.view.inbox c ++ m.id ∷ []))) l c (record n { kernel = record n.kernel { inbox = n.kernel.inbox ++ m ∷ [] }; senders = ss; receivers = rs })
+node_takes b pt l pair c n p m ss rs t ids h =
+    node_on b pt l pair (at_machine pt.view.inbox c (pt.view.inbox c ++ m.id ∷ [])) c n (n.kernel.inbox ++ m ∷ []) ss rs
+    (subst (λ (is : List MsgId). AreMessages l.bag is (n.kernel.inbox ++ m ∷ [])) (sym (at_here pt.view.inbox c (pt.view.inbox c ++ m.id ∷ []))) (messages_push l.bag (pt.view.inbox c) n.kernel.inbox m.id m h.kernel.inbox t.there))
+    (All-push IsLawfulMessage n.kernel.inbox m h.lawful.inbox t.lawful) ids h
 
-  pub back_pair : PairIs b l c a (ends_of w h c a) (w.wires c a) (pt.view.pair c a)
-  back_pair = pair_is b pt l w h c a (s.pairs c a c_in a_in (λ e. apart (sym e)))
+pub came_in : (v : View) (a c : ℕ) (m : Message) (i : MsgId) → oldest (v.pair a c) ≡ Some m.id → 1 ≤ times i (at_machine v.inbox c (v.inbox c ++ m.id ∷ []) c) → Stood v i
+came_in v a c m i first least = came_one v a c m.id i first (subst (λ (ids : List MsgId). 1 ≤ times i ids) (at_here v.inbox c (v.inbox c ++ m.id ∷ [])) least)
+
+module _ (b : Boot) (w : WorldState) (pt : Point) (l : Placed) (h : History) (a c : ℕ) (s : StandsWith b w pt l h) (a_in : a < pt.kernel.machines) (c_in : c < pt.kernel.machines) (apart : a ≢ c) where
+  pub there_joined : Joined b l.bag a c (stream_of w h a c) (w.wires a c) (pt.view.pair a c)
+  there_joined = joined b pt l w h a c (s.pairs a c a_in c_in apart)
+
+  pub back_joined : Joined b l.bag c a (stream_of w h c a) (w.wires c a) (pt.view.pair c a)
+  back_joined = joined b pt l w h c a (s.pairs c a c_in a_in (λ e. apart (sym e)))
 
   -- a message that is kept is taken
   pub kept_stands : (m : Message) → next ((w.nodes c).receivers a) ≡ Some m → StandsWith b (record w { nodes = at_machine w.nodes c (with_message (with_receiver (w.nodes c) a (after_next ((w.nodes c).receivers a))) m) }) (moved pt (Line.Taken a c ((w.nodes c).receivers a).count) pt.kernel) l h
   kept_stands m e =
-      let p : Pair = record (pt.view.pair a c) { taken = (pt.view.pair a c).taken + 1; kept = off ((w.nodes c).receivers a).count (pt.view.pair a c).kept } in
-      let is : slice_get (h.given a c) ((w.nodes c).receivers a).count ≡ Some m = there_pair.stream.in_order.kept ((w.nodes c).receivers a).count m (sym (next_is ((w.nodes c).receivers a)) ∙ e) in
-      let t : Taking l (pt.view.pair a c) m = taking b l a c (ends_of w h a c) (w.wires a c) (pt.view.pair a c) m is there_pair in
-      let k : Moves b w pt l h a c (record w { nodes = at_machine w.nodes c (with_message (with_receiver (w.nodes c) a (after_next ((w.nodes c).receivers a))) m) }) (moved pt (Line.Taken a c ((w.nodes c).receivers a).count) pt.kernel) h = record {
-        acting = pt.view.acting;
-        groups = pt.view.groups;
-        topic = pt.view.topic;
-        pair = at_pair pt.view.pair a c p;
-        inbox = at_machine pt.view.inbox c (pt.view.inbox c ++ m.id ∷ []);
-        messages = (w.nodes c).kernel.inbox ++ m ∷ [];
-        senders = (w.nodes c).senders;
-        receivers = at_machine (w.nodes c).receivers a (after_next ((w.nodes c).receivers a));
-        there = record (ends_of w h a c) { receiver = advanced ((w.nodes c).receivers a) };
-        there_wire = w.wires a c;
-        there_pair = p;
-        back = ends_of w h c a;
-        back_wire = w.wires c a;
-        back_pair = pt.view.pair c a;
-        point = ap (λ (o : Option MsgId). record { kernel = pt.kernel; view = view.taken_id (view.with_pair pt.view a c p) c o; addresses = pt.addresses }) t.first;
-        counted = s.groups;
-        mirrors = lines_keep pt (moved pt (Line.Taken a c ((w.nodes c).receivers a).count) pt.kernel) l (Line.Taken a c ((w.nodes c).receivers a).count) tt s.mirrors refl;
-        pairs = λ x y t k. two_other pt.view.pair a c p x y t;
+      let r : Receiving Message = (w.nodes c).receivers a in
+      let p : Pair = record (pt.view.pair a c) { taken = (pt.view.pair a c).taken + 1; kept = off r.count (pt.view.pair a c).kept } in
+      let f : ℕ → ℕ → Pair = at_pair pt.view.pair a c p in
+      let t : Taking l (pt.view.pair a c) m = taking b l a c (stream_of w h a c) (w.wires a c) (pt.view.pair a c) m (there_joined.stream.in_order.kept r.count m (sym (next_is r) ∙ e)) there_joined in
+      let inbox : ℕ → List MsgId = at_machine pt.view.inbox c (pt.view.inbox c ++ m.id ∷ []) in
+      let k : Moves b w pt l h a c (with_message (with_receiver (w.nodes c) a (after_next r)) m) w.wires h.packets f inbox (happens (stream_of w h a c) TakeKept) (w.wires a c) p (stream_of w h c a) (w.wires c a) (pt.view.pair c a) = record {
+        pairs = λ x y t k. pair_other pt.view.pair a c p x y t;
         ids = ids_set pt.view.pair a c p refl;
         took = took_set pt.view.pair a c p (omega arith);
-        came = λ i least. came_one pt.view a c m.id i t.first (subst (λ (ids : List MsgId). 1 ≤ times i ids) (machine_same pt.view.inbox c (pt.view.inbox c ++ m.id ∷ [])) least);
-        box = subst (λ (ids : List MsgId). AreMessages l.bag ids ((w.nodes c).kernel.inbox ++ m ∷ [])) (sym (machine_same pt.view.inbox c (pt.view.inbox c ++ m.id ∷ []))) (messages_push l.bag (pt.view.inbox c) (w.nodes c).kernel.inbox m.id m (s.nodes c c_in).kernel.inbox t.there);
-        lawful = All-push IsLawfulMessage (w.nodes c).kernel.inbox m (s.nodes c c_in).lawful.inbox t.lawful;
-        there_stands = kept_comes b l a c (ends_of w h a c) (w.wires a c) (pt.view.pair a c) ((w.nodes c).receivers a).count m e refl there_pair;
-        there_receiver = machine_same (w.nodes c).receivers a (after_next ((w.nodes c).receivers a)) ∙ after_next_is ((w.nodes c).receivers a) m e;
-        there_said = two_same pt.view.pair a c p;
-        back_stands = back_pair;
-        back_said = two_other pt.view.pair a c p c a (back_other a c apart);
-        alone = search (machine_same, machine_other);
+        came = λ i least. came_in pt.view a c m i t.first least;
+        node = node_takes b pt l f c (w.nodes c) (pt.view.pair a c) m (w.nodes c).senders (at_machine (w.nodes c).receivers a (after_next r)) t (ids_set pt.view.pair a c p refl c c) (s.nodes c c_in);
+        there_stands = kept_comes b l.bag a c (stream_of w h a c) (w.wires a c) (pt.view.pair a c) m e there_joined;
+        back_stands = back_joined;
+        alone = search (at_here, at_other, pair_here, pair_other, back_other a c apart);
       } in
-      moves_stand b w pt l h a c (record w { nodes = at_machine w.nodes c (with_message (with_receiver (w.nodes c) a (after_next ((w.nodes c).receivers a))) m) }) (moved pt (Line.Taken a c ((w.nodes c).receivers a).count) pt.kernel) h k s apart
+      subst (λ (v : View). StandsWith b (record w { nodes = at_machine w.nodes c (with_message (with_receiver (w.nodes c) a (after_next r)) m) }) (record pt { view = v }) l h) (ap (view.taken_id (view.with_pair pt.view a c p) c) (sym t.first))
+      (moves_stand b w pt l h a c (with_message (with_receiver (w.nodes c) a (after_next r)) m) w.wires h.packets f inbox (happens (stream_of w h a c) TakeKept) (w.wires a c) p (stream_of w h c a) (w.wires c a) (pt.view.pair c a) k s apart)
 
   -- what was taken is acknowledged
-  pub acknowledged_stands : StandsWith b (record w { nodes = at_machine w.nodes c (w.nodes c); wires = after_put w.wires c a (spelling (Packet.Ack c a ((w.nodes c).receivers a).count)) }) (moved pt (rule.packet_line pt.view c a (Load.Ack ((w.nodes c).receivers a).count)) pt.kernel) l (record h { packets = at_pair h.packets c a (h.packets c a ++ just_put (Ack ((w.nodes c).receivers a).count) ∷ []) })
+  pub acknowledged_stands : StandsWith b (world_put w c a (at_machine w.nodes c (w.nodes c)) (Ack ((w.nodes c).receivers a).count)) (point_put pt c a (Ack ((w.nodes c).receivers a).count)) l (with_put h c a (Ack ((w.nodes c).receivers a).count))
   acknowledged_stands =
-      let p : Pair = record (pt.view.pair c a) { gone = gone_after (Load.Ack ((w.nodes c).receivers a).count) (pt.view.pair c a).gone; wire = (pt.view.pair c a).wire ++ record { load = Load.Ack ((w.nodes c).receivers a).count; delivered = false } ∷ [] } in
-      let k : Moves b w pt l h a c (record w { nodes = at_machine w.nodes c (w.nodes c); wires = after_put w.wires c a (spelling (Packet.Ack c a ((w.nodes c).receivers a).count)) }) (moved pt (rule.packet_line pt.view c a (Load.Ack ((w.nodes c).receivers a).count)) pt.kernel) (record h { packets = at_pair h.packets c a (h.packets c a ++ just_put (Ack ((w.nodes c).receivers a).count) ∷ []) }) = record {
-        acting = pt.view.acting;
-        groups = pt.view.groups;
-        topic = pt.view.topic;
-        pair = at_pair pt.view.pair c a p;
-        inbox = pt.view.inbox;
-        messages = (w.nodes c).kernel.inbox;
-        senders = (w.nodes c).senders;
-        receivers = (w.nodes c).receivers;
-        there = record (ends_of w h a c) { back = h.packets c a ++ just_put (Ack ((w.nodes c).receivers a).count) ∷ [] };
-        there_wire = w.wires a c;
-        there_pair = pt.view.pair a c;
-        back = record (ends_of w h c a) { out = h.packets c a ++ just_put (Ack ((w.nodes c).receivers a).count) ∷ [] };
-        back_wire = w.wires c a ++ wire.just_put (spelling (Packet.Ack c a ((w.nodes c).receivers a).count)) ∷ [];
-        back_pair = p;
-        point = refl;
-        counted = s.groups;
-        mirrors = lines_keep pt (moved pt (rule.packet_line pt.view c a (Load.Ack ((w.nodes c).receivers a).count)) pt.kernel) l (rule.packet_line pt.view c a (Load.Ack ((w.nodes c).receivers a).count)) tt s.mirrors refl;
-        pairs = λ x y t k. two_other pt.view.pair c a p x y k;
-        ids = ids_set pt.view.pair c a p refl;
-        took = took_set pt.view.pair c a p (omega arith);
-        came = λ i least. (Inbox c, least);
-        box = (s.nodes c c_in).kernel.inbox;
-        lawful = (s.nodes c c_in).lawful.inbox;
-        there_stands = acknowledges b l a c (ends_of w h a c) (w.wires a c) (pt.view.pair a c) there_pair;
-        there_receiver = refl;
-        there_said = two_other pt.view.pair c a p a c (there_other a c apart);
-        back_stands = other_acknowledges b l c a (ends_of w h c a) (w.wires c a) (pt.view.pair c a) ((w.nodes c).receivers a).count back_pair;
-        back_said = two_same pt.view.pair c a p;
-        alone = search (machine_same, machine_other, put_same, put_other, two_same, two_other, there_other a c apart);
-      } in
-      moves_stand b w pt l h a c (record w { nodes = at_machine w.nodes c (w.nodes c); wires = after_put w.wires c a (spelling (Packet.Ack c a ((w.nodes c).receivers a).count)) }) (moved pt (rule.packet_line pt.view c a (Load.Ack ((w.nodes c).receivers a).count)) pt.kernel) (record h { packets = at_pair h.packets c a (h.packets c a ++ just_put (Ack ((w.nodes c).receivers a).count) ∷ []) }) k s apart
-
-  -- the message that is due to machine a goes out
-  pub gone_stands : (n : ℕ) (m : Message) → due ((w.nodes c).senders a) ≡ Some (n, m) → n ≡ ((w.nodes c).senders a).gone → StandsWith b (record w { nodes = at_machine w.nodes c (with_sender (w.nodes c) a (with_sent ((w.nodes c).senders a))); wires = after_put w.wires c a (spelling (Packet.Data c a n m)) }) (moved pt (rule.packet_line pt.view c a (Load.Data n)) pt.kernel) l (record h { packets = at_pair h.packets c a (h.packets c a ++ just_put (Data n m) ∷ []) })
-  gone_stands n m e is =
-      let p : Pair = record (pt.view.pair c a) { gone = gone_after (Load.Data n) (pt.view.pair c a).gone; wire = (pt.view.pair c a).wire ++ record { load = Load.Data n; delivered = false } ∷ [] } in
-      let k : Moves b w pt l h a c (record w { nodes = at_machine w.nodes c (with_sender (w.nodes c) a (with_sent ((w.nodes c).senders a))); wires = after_put w.wires c a (spelling (Packet.Data c a n m)) }) (moved pt (rule.packet_line pt.view c a (Load.Data n)) pt.kernel) (record h { packets = at_pair h.packets c a (h.packets c a ++ just_put (Data n m) ∷ []) }) = record {
-        acting = pt.view.acting;
-        groups = pt.view.groups;
-        topic = pt.view.topic;
-        pair = at_pair pt.view.pair c a p;
-        inbox = pt.view.inbox;
-        messages = (w.nodes c).kernel.inbox;
-        senders = at_machine (w.nodes c).senders a (with_sent ((w.nodes c).senders a));
-        receivers = (w.nodes c).receivers;
-        there = record (ends_of w h a c) { back = h.packets c a ++ just_put (Data n m) ∷ [] };
-        there_wire = w.wires a c;
-        there_pair = pt.view.pair a c;
-        back = record (ends_of w h c a) { sender = with_sent ((w.nodes c).senders a); out = h.packets c a ++ just_put (Data n m) ∷ [] };
-        back_wire = w.wires c a ++ wire.just_put (spelling (Packet.Data c a n m)) ∷ [];
-        back_pair = p;
-        point = refl;
-        counted = s.groups;
-        mirrors = lines_keep pt (moved pt (rule.packet_line pt.view c a (Load.Data n)) pt.kernel) l (rule.packet_line pt.view c a (Load.Data n)) tt s.mirrors refl;
-        pairs = λ x y t k. two_other pt.view.pair c a p x y k;
-        ids = ids_set pt.view.pair c a p refl;
-        took = took_set pt.view.pair c a p (omega arith);
-        came = λ i least. (Inbox c, least);
-        box = (s.nodes c c_in).kernel.inbox;
-        lawful = (s.nodes c c_in).lawful.inbox;
-        there_stands = other_goes b l a c (ends_of w h a c) (w.wires a c) (pt.view.pair a c) n m there_pair;
-        there_receiver = refl;
-        there_said = two_other pt.view.pair c a p a c (there_other a c apart);
-        back_stands = due_goes b l c a (ends_of w h c a) (w.wires c a) (pt.view.pair c a) n m e is back_pair;
-        back_said = two_same pt.view.pair c a p;
-        alone = search (machine_same, machine_other, put_same, put_other, two_same, two_other, there_other a c apart);
-      } in
-      moves_stand b w pt l h a c (record w { nodes = at_machine w.nodes c (with_sender (w.nodes c) a (with_sent ((w.nodes c).senders a))); wires = after_put w.wires c a (spelling (Packet.Data c a n m)) }) (moved pt (rule.packet_line pt.view c a (Load.Data n)) pt.kernel) (record h { packets = at_pair h.packets c a (h.packets c a ++ just_put (Data n m) ∷ []) }) k s apart
+      let n : ℕ = ((w.nodes c).receivers a).count in
+      subst (λ (f : ℕ → NodeState). StandsWith b (world_put w c a f (Ack n)) (point_put pt c a (Ack n)) l (with_put h c a (Ack n))) (sym (at_same w.nodes c))
+      (stands_put b pt l w h c a w.nodes ((w.nodes c).senders a) (Ack n) (λ e. apart (sym e)) (same_senders w c a) (λ d e. refl) (λ d. refl)
+      (node_same b pt l (after_packet pt.view c a (Load.Ack n)) c (w.nodes c) refl (ids_set pt.view.pair c a _ refl c c) (s.nodes c c_in))
+      (other_acknowledges b l.bag c a (stream_of w h c a) (w.wires c a) (pt.view.pair c a) n back_joined) (acknowledges b l.bag a c (stream_of w h a c) (w.wires a c) (pt.view.pair a c) there_joined) s)
 
 -- The messages that were kept are taken once their turn has come, and all that was taken is acknowledged.
-
--- as many packets on a wire as the lines say
-pub wire_length : (b : Boot) (l : Placed) (a c : ℕ) (x : Ends) (sent : List wire.Sent) (p : Pair) → PairIs b l a c x sent p → length sent ≡ length p.wire
-wire_length b l a c x sent p h = ap length h.bytes ∙ length-map x.out (bytes_of a c) ∙ sym (length-map x.out line_of) ∙ ap length h.packets
 
 module _ (b : Boot) (l : Placed) (a c : ℕ) (apart : a ≢ c) where
   -- what was taken is acknowledged, and nothing more
@@ -193,8 +111,8 @@ module _ (b : Boot) (l : Placed) (a c : ℕ) (apart : a ≢ c) where
       let v : WorldState = record w { nodes = at_machine w.nodes c (w.nodes c); wires = after_put w.wires c a (spelling (Packet.Ack c a count)) } in
       let g : History = record h { packets = at_pair h.packets c a (h.packets c a ++ just_put (Ack count) ∷ []) } in
       let on : StandsWith b v q l g = acknowledged_stands b w pt l h a c s a_in c_in apart in
-      let long : length (w.wires c a) ≡ length (pt.view.pair c a).wire = wire_length b l c a (ends_of w h c a) (w.wires c a) (pt.view.pair c a) (back_pair b w pt l h a c s a_in c_in apart) in
-      let last : Follows b c v q l (record { state = w.nodes c; outs = [] }) [] = nothing b c v q l g (w.nodes c) (machine_same w.nodes c (w.nodes c)) on in
+      let long : length (w.wires c a) ≡ length (pt.view.pair c a).wire = wire_length b pt l w h c a (s.pairs c a c_in a_in (λ e. apart (sym e))) in
+      let last : Follows b c v q l (record { state = w.nodes c; outs = [] }) [] = nothing b c v q l g (w.nodes c) (at_here w.nodes c (w.nodes c)) on in
       let whole : Follows b c w pt l (record { state = w.nodes c; outs = Sends (Packet.Ack c a count) ∷ [] }) (rule.Transmits c a (Load.Ack count) ∷ []) =
       sends_on b c w pt q l (w.nodes c) (Packet.Ack c a count) c a (Load.Ack count) (record { state = w.nodes c; outs = [] }) [] (λ i. Line.Packet c a (long i) (Load.Ack count)) refl last in
       let at_here : Follows b c w pt l (record { state = w.nodes c; outs = Sends (Packet.Ack (here (w.nodes c)) a count) ∷ [] }) (rule.Transmits c a (Load.Ack count) ∷ []) =
@@ -236,11 +154,11 @@ module _ (b : Boot) (l : Placed) (a c : ℕ) (apart : a ≢ c) where
       let v : WorldState = record w { nodes = at_machine w.nodes c n } in
       let q : Point = moved pt (Line.Taken a c m) pt.kernel in
       let stands : StandsWith b v q l h = subst (λ (i : ℕ). StandsWith b v (moved pt (Line.Taken a c i) pt.kernel) l h) (sym e) (kept_stands b w pt l h a c s a_in c_in apart x some) in
-      let set : v.nodes c ≡ n = machine_same w.nodes c n in
+      let set : v.nodes c ≡ n = at_here w.nodes c n in
       let count : m + 1 ≡ ((v.nodes c).receivers a).count =
-      ap (λ (i : ℕ). i + 1) e ∙ sym (ap (λ (z : NodeState). (z.receivers a).count) set ∙ ap (λ (z : Receiving Message). z.count) (machine_same (w.nodes c).receivers a (after_next r) ∙ after_next_is r x some)) in
+      ap (λ (i : ℕ). i + 1) e ∙ sym (ap (λ (z : NodeState). (z.receivers a).count) set ∙ ap (λ (z : Receiving Message). z.count) (at_here (w.nodes c).receivers a (after_next r) ∙ after_next_is r x some)) in
       let p : Pair = record (pt.view.pair a c) { taken = (pt.view.pair a c).taken + 1; kept = off m (pt.view.pair a c).kept } in
-      let now : q.view.pair a c ≡ p = ap (λ (f : ℕ → ℕ → Pair). f a c) (taken_pair (view.with_pair pt.view a c p) c (oldest (pt.view.pair a c))) ∙ two_same pt.view.pair a c p in
+      let now : q.view.pair a c ≡ p = ap (λ (f : ℕ → ℕ → Pair). f a c) (taken_pair (view.with_pair pt.view a c p) c (oldest (pt.view.pair a c))) ∙ pair_here pt.view.pair a c p in
       let later : (i : ℕ) → m + 1 ≤ i → has i ks ≡ has i (q.view.pair a c).kept = λ i le. kept_after pt.view.pair m ks same i le ∙ ap (λ (z : Pair). has i z.kept) (sym now) in
       let rest : Follows b c v q l (then_acknowledges (takes_kept fuel (v.nodes c) a) a) (taken_parts ks (m + 1) fuel) = on v q h stands a_in c_in ks (m + 1) count later in
       let rest_here : Follows b c v q l (then_acknowledges (takes_kept fuel n a) a) (taken_parts ks (m + 1) fuel) = subst (λ (z : NodeState). Follows b c v q l (then_acknowledges (takes_kept fuel z a) a) (taken_parts ks (m + 1) fuel)) set rest in
@@ -293,7 +211,7 @@ either_none t o e = grind (arith, nat_tests)
 due_none : (s : Sending Message) (given : List Message) → s.unacked ≡ drop s.acked given → s.acked ≤ s.gone → (length given ≤ s.gone) ⊎ (s.acked + 8 ≤ s.gone) → due s ≡ None
 due_none s given e le (inl all) =
     either_none (nat_lt s.gone (s.acked + 8)) (numbered s.gone (slice_get s.unacked (s.gone - s.acked))) (ap (numbered s.gone) (waits_at s given e le ∙ slice_get_past given s.gone all))
-due_none s given e le (inr full) = ap (λ (t : Bool). if t then numbered s.gone (slice_get s.unacked (s.gone - s.acked)) else None) (not_less_test s.gone (s.acked + 8) full)
+due_none s given e le (inr full) = ap (λ (t : Bool). if t then numbered s.gone (slice_get s.unacked (s.gone - s.acked)) else None) (let e_ : nat_lt s.gone (s.acked + 8) ≡ false = grind (arith, nat_tests) in e_)
 
 module _ (b : Boot) (l : Placed) (a c : ℕ) (apart : a ≢ c) where
   -- so many messages go out, from any world that stands
@@ -313,14 +231,14 @@ module _ (b : Boot) (l : Placed) (a c : ℕ) (apart : a ≢ c) where
 
   waits : (w : WorldState) (pt : Point) (h : History) (s : StandsWith b w pt l h) (a_in : a < pt.kernel.machines) (c_in : c < pt.kernel.machines) → Waits w pt h
   waits w pt h s a_in c_in =
-      let k : PairIs b l c a (ends_of w h c a) (w.wires c a) (pt.view.pair c a) = back_pair b w pt l h a c s a_in c_in apart in
+      let k : PairStands b pt l w h c a = s.pairs c a c_in a_in (λ e. apart (sym e)) in
       record {
         unacked = k.stream.in_order.unacked;
         acked_gone = omega (arith, k.stream.in_order.acked_taken, k.stream.in_order.taken_gone);
         ids = ap length (sym k.ids) ∙ length-map (h.given c a) message_id;
         gone = k.gone;
         acked = k.acked;
-        wire = wire_length b l c a (ends_of w h c a) (w.wires c a) (pt.view.pair c a) k;
+        wire = wire_length b pt l w h c a k;
       }
 
   lets_none : (fuel : ℕ) (w : WorldState) (pt : Point) (h : History) (s : StandsWith b w pt l h) (a_in : a < pt.kernel.machines) (c_in : c < pt.kernel.machines) → 0 ≡ room_of (pt.view.pair c a)
@@ -348,13 +266,13 @@ module _ (b : Boot) (l : Placed) (a c : ℕ) (apart : a ≢ c) where
       let q : Point = moved pt (rule.packet_line pt.view c a (Load.Data n)) pt.kernel in
       let v : WorldState = record w { nodes = at_machine w.nodes c next; wires = after_put w.wires c a (spelling (Packet.Data c a n m)) } in
       let g : History = record h { packets = at_pair h.packets c a (h.packets c a ++ just_put (Data n m) ∷ []) } in
-      let stands : StandsWith b v q l g = gone_stands b w pt l h a c s a_in c_in apart n m goes refl in
+      let stands : StandsWith b v q l g = due_stands b pt l w h c a n m (λ e. apart (sym e)) c_in a_in goes s in
       let p : Pair = record back { gone = gone_after (Load.Data n) back.gone; wire = back.wire ++ record { load = Load.Data n; delivered = false } ∷ [] } in
-      let now : q.view.pair c a ≡ p = two_same pt.view.pair c a p in
-      let gone : p.gone ≡ back.gone + 1 = sym (gone_is n back.gone k.gone) in
+      let now : q.view.pair c a ≡ p = pair_here pt.view.pair c a p in
+      let gone : p.gone ≡ back.gone + 1 = sym (gone_next n back.gone k.gone) in
       let left : j ≡ room_of (q.view.pair c a) = room.0 ∙ ap (λ (i : ℕ). less (length back.ids - i) (back.acked + 8 - i)) (sym gone) ∙ sym (ap room_of now) in
       let rest : Follows b c v q l (lets_go fuel (v.nodes c) a) (repeats c a (numbers_from (q.view.pair c a).gone j)) = on v q g stands a_in c_in j left le in
-      let rest_here : Follows b c v q l (lets_go fuel next a) (repeats c a (numbers_from (q.view.pair c a).gone j)) = subst (λ (z : NodeState). Follows b c v q l (lets_go fuel z a) (repeats c a (numbers_from (q.view.pair c a).gone j))) (machine_same w.nodes c next) rest in
+      let rest_here : Follows b c v q l (lets_go fuel next a) (repeats c a (numbers_from (q.view.pair c a).gone j)) = subst (λ (z : NodeState). Follows b c v q l (lets_go fuel z a) (repeats c a (numbers_from (q.view.pair c a).gone j))) (at_here w.nodes c next) rest in
       let rest_from : Follows b c v q l (lets_go fuel next a) (repeats c a (numbers_from (back.gone + 1) j)) = subst (λ (i : ℕ). Follows b c v q l (lets_go fuel next a) (repeats c a (numbers_from i j))) (ap (λ (z : Pair). z.gone) now ∙ gone) rest_here in
       let whole = sends_on b c w pt q l next (Packet.Data c a n m) c a (Load.Data n) (lets_go fuel next a) (repeats c a (numbers_from (back.gone + 1) j)) (λ i. Line.Packet c a (k.wire i) (Load.Data n)) refl rest_from in
       let at_here = subst (λ (i : ℕ). Follows b c w pt l (before (Sends (Packet.Data i a n m) ∷ []) (lets_go fuel next a)) (rule.Transmits c a (Load.Data n) ∷ repeats c a (numbers_from (back.gone + 1) j))) (sym (s.nodes c c_in).kernel.here) whole in

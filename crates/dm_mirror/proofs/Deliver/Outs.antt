@@ -1,11 +1,13 @@
 -- Where what a machine sends is read as it was put, so is all that it has out and not acknowledged, and each packet on the wires
 -- is read: each event keeps it.
+use Rattle.dm_mirror.proofs.Names.{MayCome-stands, NodeStands, Receiving, begins, has, stream_of, two_of}
+use Rattle.dm_stream.specs.Stream as flow
 use Rattle.dm_mirror.proofs.Names.{◌≡◌, ◌⊎◌, ℕ, zero, suc, ◌==◌, ◌&&◌, Bool, true, false, List, [], ◌∷◌, ◌++◌, refl, ap, ◌∙◌, sym, subst, inl, inr, ⊤, if◌then◌else◌, Ok, Option, None, Some, eqb_tells, Message, Packet, packet_of, spelling}
 use Rattle.dm_mirror.proofs.Names.{Data, Ack, Sending, due, window, with_acked, with_given, with_sent, after_arrival, after_next, arrival, next, Arrived, Sent, bytes_at, after_mark, Turned, Out, NodeState, here, with_message, with_receiver}
 use Rattle.dm_mirror.proofs.Names.{with_sender, Acted, Acts, Goes, Worn, then_, acts, comes_in, gives, is_worn, lets_go, lets_next, none_waits, routes, routes_away, routes_home, sends_due, takes_kept, takes_next, FitsLoad, spoken}
 use Rattle.dm_mirror.proofs.Names.{with_packet, AreReadBack, NodeReads, SenderReads, WiresRead, ◌+◌, nat_lt, arith, fresh_sending, Boot, Step, tick, WorldState, acted, first_world, IsReadable, ◌-◌, ◌<◌, ◌≤◌, length, slice_get, cases_Bool}
-use Rattle.dm_mirror.proofs.Names.{nat_tests, length-append, length-drop, slice_get_within, numbered, outstanding, get-drop, ◌≢◌, All-push, MsgId, IsLawfulMessage, advanced, kept_once, load_at, Line, at_machine, at_pair, NothingElse, Pair}
-use Rattle.dm_mirror.proofs.Names.{at_least, oldest, Inbox, times, Point, moved, Placed, lines_keep, AreMessages, History, StandsWith, marked, Part}
+use Rattle.dm_mirror.proofs.Names.{nat_tests, length-append, length-drop, slice_get_within, numbered, outstanding, get-drop, ◌≢◌, MsgId, advanced, kept_once, load_at, Line, at_machine, at_pair, NothingElse, Pair}
+use Rattle.dm_mirror.proofs.Names.{at_least, oldest, Inbox, times, Point, moved, Placed, History, StandsWith, marked, Part}
 use Rattle.dm_node.proofs.Names.{behind}
 use Rattle.dm_stream.specs.Packets.{Load}
 use Rattle.dm_stream.specs.declared.receiver.Arrived.TheVariants.{Taken}
@@ -13,23 +15,17 @@ use Rattle.dm_wire.specs.Wire.{after_put}
 use Rattle.dm_node.specs.Acts.{arrives}
 use Rattle.dm_wire.specs.Sent as wire
 use Rattle.dm_rule.specs.View as view
-use Rattle.dm_mirror.proofs.Deliver.Stands.{machine_same, Moves, moves_stand, machine_other, came_one, took_set}
-use Rattle.dm_mirror.proofs.Deliver.Events.{less_test, acked_comes, back_comes, early_comes, old_comes, other_comes, taken_comes, PairIs, ends_of, after_early_is, after_old_is, after_taken_is, off}
-use Rattle.dm_mirror.proofs.Deliver.Moves.{Taking, back_other, back_pair, ids_set, mark_other, mark_same, messages_push, taking, there_other, there_pair, two_other, two_same}
+use Rattle.dm_mirror.proofs.Streams.{Joined, at_here, at_other, pair_here, pair_other}
+use Rattle.dm_mirror.proofs.Puts.{stands_begins}
+use Rattle.dm_mirror.proofs.Deliver.Stands.{Stood, moves_stand, node_on, took_set, with_pairs}
+use Rattle.dm_mirror.proofs.Deliver.Events.{less_test, acked_comes, back_comes, data_comes, other_comes, untaken_next, kept_early, kept_taken, after_early_is, after_old_is, after_taken_is, off}
+use Rattle.dm_mirror.proofs.Deliver.Moves.{Taking, back_joined, back_other, came_in, ids_set, mark_other, mark_same, node_takes, taking, there_joined, there_other}
 
 -- an outstanding message, by its place
 record IsOut (s : Sending Message) (j n : ℕ) (m : Message) : Type 0 where
   number : n ≡ s.acked + j
   below : s.acked + j < s.gone
   there : slice_get s.unacked j ≡ Some m
-
-abbrev number_in : Option (ℕ × Message) → ℕ
-number_in None = 0
-number_in (Some p) = p.0
-
-abbrev message_in : Message → Option (ℕ × Message) → Message
-message_in d None = d
-message_in d (Some p) = p.1
 
 -- what a test lets through
 record Through (test : Bool) (number : ℕ) (o : Option Message) (n : ℕ) (m : Message) : Type 0 where
@@ -38,9 +34,7 @@ record Through (test : Bool) (number : ℕ) (o : Option Message) (n : ℕ) (m : 
   there : o ≡ Some m
 
 through : (t : Bool) (k : ℕ) (o : Option Message) (n : ℕ) (m : Message) → (if t then numbered k o else None) ≡ Some (n, m) → Through t k o n m
-through false k o n m e = cc
-through true k None n m e = cc
-through true k (Some x) n m e = record { on = refl; is = sym (ap number_in e); there = ap (λ (y : Message). Some y) (ap (message_in x) e) }
+through t k o n m e = record { on = grind (arith, nat_tests); is = grind (arith, nat_tests); there = grind (arith, nat_tests) }
 
 is_out : (s : Sending Message) (j n : ℕ) (m : Message) → outstanding s j ≡ Some (n, m) → IsOut s j n m
 is_out s j n m e =
@@ -137,7 +131,7 @@ gives_reads n b m none h =
     let s : Sending Message = with_given (n.senders b) m in
     let given : NodeReads (with_sender n b s) = sender_reads n b s (given_reads (here n) b (n.senders b) m (h b)) h in
     elim none as (λ (t : Bool). ReadsOn (gives n b m (n.senders b) t)) [
-      | true ↦ λ read. due_reads (with_sender n b s) b (due s) (ap due (machine_same n.senders b s)) given read
+      | true ↦ λ read. due_reads (with_sender n b s) b (due s) (ap due (at_here n.senders b s)) given read
       | false ↦ λ read. given
     ]
 
@@ -266,130 +260,93 @@ come_to w a c k n = record { nodes = at_machine w.nodes c n; wires = after_mark 
 abbrev pub marked_in : History → ℕ → ℕ → ℕ → History
 marked_in h a c k = record h { packets = at_pair h.packets a c (marked (h.packets a c) k) }
 
-module _ (b : Boot) (w : WorldState) (pt : Point) (l : Placed) (h : History) (a c : ℕ) (s : StandsWith b w pt l h) (a_in : a < pt.kernel.machines) (c_in : c < pt.kernel.machines) (apart : a ≢ c) where
-  there_pair_is : PairIs b l a c (ends_of w h a c) (w.wires a c) (pt.view.pair a c)
-  there_pair_is = there_pair b w pt l h a c s a_in c_in apart
+-- set again, and set to what it was
+pair_again : {X : Type 0} (f : ℕ → ℕ → X) (a c : ℕ) (x y : X) → at_pair (at_pair f a c x) a c y ≡ at_pair f a c y
+pair_again f a c x y = grind (arith, nat_tests)
 
-  back_pair_is : PairIs b l c a (ends_of w h c a) (w.wires c a) (pt.view.pair c a)
-  back_pair_is = back_pair b w pt l h a c s a_in c_in apart
+pair_kept : {X : Type 0} (f : ℕ → ℕ → X) (a c : ℕ) → at_pair f a c (f a c) ≡ f
+pair_kept f a c = grind (arith, nat_tests, two_of)
+
+module _ (b : Boot) (w : WorldState) (pt : Point) (l : Placed) (h : History) (a c : ℕ) (s : StandsWith b w pt l h) (a_in : a < pt.kernel.machines) (c_in : c < pt.kernel.machines) (apart : a ≢ c) where
+  abbrev headed : WorldState
+  headed = record w { groups = w.groups + 1 }
+
+  abbrev head : Point
+  head = record pt { view = begins pt.view c NothingElse }
+
+  head_stands : StandsWith b headed head l h
+  head_stands = stands_begins b w pt l h c NothingElse s
+
+  there : Joined b l.bag a c (stream_of w h a c) (w.wires a c) (pt.view.pair a c)
+  there = there_joined b w pt l h a c s a_in c_in apart
+
+  back : Joined b l.bag c a (stream_of w h c a) (w.wires c a) (pt.view.pair c a)
+  back = back_joined b w pt l h a c s a_in c_in apart
+
+  -- machine c where its inbox is as it was
+  node_kept : (pair : ℕ → ℕ → Pair) (ss : ℕ → Sending Message) (rs : ℕ → Receiving Message) → (pair c c).ids ≡ (pt.view.pair c c).ids → NodeStands b (with_pairs head pair pt.view.inbox) l c (record (w.nodes c) { senders = ss; receivers = rs })
+  node_kept pair ss rs ids = let n = head_stands.nodes c c_in in node_on b head l pair pt.view.inbox c (w.nodes c) (w.nodes c).kernel.inbox ss rs n.kernel.inbox n.lawful.inbox ids n
+
+  -- a message comes: the receiver, the pair and the inbox are so then
+  data_stands : (k n : ℕ) (m : Message) (r : Receiving Message) (p : Pair) (inbox : ℕ → List MsgId) (ms : List Message) → load_at (h.packets a c) k ≡ Some (Data n m) → r ≡ after_arrival ((w.nodes c).receivers a) n m → p.ids ≡ (pt.view.pair a c).ids → (pt.view.pair a c).taken ≤ p.taken
+      → Joined b l.bag a c (flow.arrives (record (stream_of w h a c) { out = marked (h.packets a c) k }) (Some (Data n m))) (wire.marked (w.wires a c) k) p → ((d : ℕ) → (c == d) ≡ false → inbox d ≡ pt.view.inbox d) → ((i : MsgId) → 1 ≤ times i (inbox c) → Stood pt.view i)
+      → NodeStands b (with_pairs head (at_pair pt.view.pair a c p) inbox) l c (record (w.nodes c) { kernel = record (w.nodes c).kernel { inbox = ms }; receivers = at_machine (w.nodes c).receivers a r })
+      → StandsWith b (come_to w a c k (record (w.nodes c) { kernel = record (w.nodes c).kernel { inbox = ms }; receivers = at_machine (w.nodes c).receivers a r })) (with_pairs head (at_pair pt.view.pair a c p) inbox) l (marked_in h a c k)
+  data_stands k n m r p inbox ms e same ids more comes boxes came node =
+      moves_stand b headed head l h a c (record (w.nodes c) { kernel = record (w.nodes c).kernel { inbox = ms }; receivers = at_machine (w.nodes c).receivers a r }) (after_mark w.wires a c k) (at_pair h.packets a c (marked (h.packets a c) k)) (at_pair pt.view.pair a c p) inbox
+      (flow.arrives (record (stream_of w h a c) { out = marked (h.packets a c) k }) (Some (Data n m))) (wire.marked (w.wires a c) k) p (record (stream_of w h c a) { back = marked (h.packets a c) k }) (w.wires c a) (pt.view.pair c a) (record {
+        pairs = λ x y t u. pair_other pt.view.pair a c p x y t;
+        ids = ids_set pt.view.pair a c p ids;
+        took = took_set pt.view.pair a c p more;
+        came = came;
+        node = node;
+        there_stands = comes;
+        back_stands = back_comes b l.bag c a (stream_of w h c a) (w.wires c a) (pt.view.pair c a) k n m e back;
+        alone = search (at_here, at_other, mark_same, mark_other, pair_here, pair_other, back_other a c apart, at_here (w.nodes c).receivers a r ∙ same);
+      }) head_stands apart
 
   -- a message that was taken before, whatever is read of it
   pub old_stands : (k n : ℕ) (m : Message) → load_at (h.packets a c) k ≡ Some (Data n m) → (x : Message) → n < ((w.nodes c).receivers a).count → StandsWith b (come_to w a c k (with_receiver (w.nodes c) a (after_arrival ((w.nodes c).receivers a) n x))) (moved (begun pt a c k) (Line.Old a c n) pt.kernel) l (marked_in h a c k)
   old_stands k n m e x lt =
-      let mark : Pair = view.marked (pt.view.pair a c) k in
-      let go : Moves b w pt l h a c (come_to w a c k (with_receiver (w.nodes c) a (after_arrival ((w.nodes c).receivers a) n x))) (moved (begun pt a c k) (Line.Old a c n) pt.kernel) (marked_in h a c k) = record {
-        acting = c;
-        groups = pt.view.groups + 1;
-        topic = NothingElse;
-        pair = at_pair pt.view.pair a c mark;
-        inbox = pt.view.inbox;
-        messages = (w.nodes c).kernel.inbox;
-        senders = (w.nodes c).senders;
-        receivers = at_machine (w.nodes c).receivers a (after_arrival ((w.nodes c).receivers a) n x);
-        there = record (ends_of w h a c) { out = marked (h.packets a c) k };
-        there_wire = wire.marked (w.wires a c) k;
-        there_pair = mark;
-        back = record (ends_of w h c a) { back = marked (h.packets a c) k };
-        back_wire = w.wires c a;
-        back_pair = pt.view.pair c a;
-        point = refl;
-        counted = ap (λ (i : ℕ). i + 1) s.groups;
-        mirrors = lines_keep (begun pt a c k) (moved (begun pt a c k) (Line.Old a c n) pt.kernel) l (Line.Old a c n) tt (lines_keep pt (begun pt a c k) l (Line.Head (Step.Deliver a c k)) tt s.mirrors refl) refl;
-        pairs = λ x y t u. two_other pt.view.pair a c mark x y t;
-        ids = ids_set pt.view.pair a c mark refl;
-        took = took_set pt.view.pair a c mark (omega arith);
-        came = λ i least. (Inbox c, least);
-        box = (s.nodes c c_in).kernel.inbox;
-        lawful = (s.nodes c c_in).lawful.inbox;
-        there_stands = old_comes b l a c (ends_of w h a c) (w.wires a c) (pt.view.pair a c) k n m e lt there_pair_is;
-        there_receiver = machine_same (w.nodes c).receivers a (after_arrival ((w.nodes c).receivers a) n x) ∙ after_old_is ((w.nodes c).receivers a) n x lt;
-        there_said = two_same pt.view.pair a c mark;
-        back_stands = back_comes b l c a (ends_of w h c a) (w.wires c a) (pt.view.pair c a) k n m e back_pair_is;
-        back_said = two_other pt.view.pair a c mark c a (back_other a c apart);
-        alone = search (machine_same, machine_other, mark_same, mark_other, two_same, two_other, back_other a c apart);
-      } in
-      moves_stand b w pt l h a c (come_to w a c k (with_receiver (w.nodes c) a (after_arrival ((w.nodes c).receivers a) n x))) (moved (begun pt a c k) (Line.Old a c n) pt.kernel) (marked_in h a c k) go s apart
+      let r : Receiving Message = (w.nodes c).receivers a in
+      let p : Pair = pt.view.pair a c in
+      let mark : Pair = view.marked p k in
+      data_stands k n m (after_arrival r n x) mark pt.view.inbox (w.nodes c).kernel.inbox e (after_old_is r n x lt ∙ sym (after_old_is r n m lt)) refl (omega arith)
+      (data_comes b l.bag a c (stream_of w h a c) (w.wires a c) p k n m r p.taken p.kept e (after_old_is r n m lt) there.taken there.kept there.untaken there) (λ d off. refl) (λ i least. (Inbox c, least))
+      (node_kept (at_pair pt.view.pair a c mark) (w.nodes c).senders (at_machine (w.nodes c).receivers a (after_arrival r n x)) (ids_set pt.view.pair a c mark refl c c))
 
   -- a message that comes early
   pub early_stands : (k n : ℕ) (m : Message) → load_at (h.packets a c) k ≡ Some (Data n m) → ((w.nodes c).receivers a).count < n → StandsWith b (come_to w a c k (with_receiver (w.nodes c) a (after_arrival ((w.nodes c).receivers a) n m))) (moved (begun pt a c k) (Line.Early a c n) pt.kernel) l (marked_in h a c k)
   early_stands k n m e gt =
-      let mark : Pair = view.marked (pt.view.pair a c) k in
-      let first : ℕ → ℕ → Pair = at_pair pt.view.pair a c mark in
-      let p : Pair = record (first a c) { kept = n ∷ off n (first a c).kept } in
-      let go : Moves b w pt l h a c (come_to w a c k (with_receiver (w.nodes c) a (after_arrival ((w.nodes c).receivers a) n m))) (moved (begun pt a c k) (Line.Early a c n) pt.kernel) (marked_in h a c k) = record {
-        acting = c;
-        groups = pt.view.groups + 1;
-        topic = NothingElse;
-        pair = at_pair first a c p;
-        inbox = pt.view.inbox;
-        messages = (w.nodes c).kernel.inbox;
-        senders = (w.nodes c).senders;
-        receivers = at_machine (w.nodes c).receivers a (after_arrival ((w.nodes c).receivers a) n m);
-        there = record (ends_of w h a c) { receiver = record { count = ((w.nodes c).receivers a).count; kept = kept_once ((w.nodes c).receivers a).kept (n - ((w.nodes c).receivers a).count) m }; out = marked (h.packets a c) k };
-        there_wire = wire.marked (w.wires a c) k;
-        there_pair = record mark { kept = n ∷ off n (pt.view.pair a c).kept };
-        back = record (ends_of w h c a) { back = marked (h.packets a c) k };
-        back_wire = w.wires c a;
-        back_pair = pt.view.pair c a;
-        point = refl;
-        counted = ap (λ (i : ℕ). i + 1) s.groups;
-        mirrors = lines_keep (begun pt a c k) (moved (begun pt a c k) (Line.Early a c n) pt.kernel) l (Line.Early a c n) tt (lines_keep pt (begun pt a c k) l (Line.Head (Step.Deliver a c k)) tt s.mirrors refl) refl;
-        pairs = λ x y t u. two_other first a c p x y t ∙ two_other pt.view.pair a c mark x y t;
-        ids = λ x y. ids_set first a c p refl x y ∙ ids_set pt.view.pair a c mark refl x y;
-        took = λ x y. let one = took_set pt.view.pair a c mark (omega arith) x y in let two = took_set first a c p (omega arith) x y in omega (arith, one, two);
-        came = λ i least. (Inbox c, least);
-        box = (s.nodes c c_in).kernel.inbox;
-        lawful = (s.nodes c c_in).lawful.inbox;
-        there_stands = early_comes b l a c (ends_of w h a c) (w.wires a c) (pt.view.pair a c) k n m e gt there_pair_is;
-        there_receiver = machine_same (w.nodes c).receivers a (after_arrival ((w.nodes c).receivers a) n m) ∙ after_early_is ((w.nodes c).receivers a) n m gt;
-        there_said = two_same first a c p ∙ ap (λ (z : Pair). record z { kept = n ∷ off n z.kept }) (two_same pt.view.pair a c mark);
-        back_stands = back_comes b l c a (ends_of w h c a) (w.wires c a) (pt.view.pair c a) k n m e back_pair_is;
-        back_said = two_other first a c p c a (back_other a c apart) ∙ two_other pt.view.pair a c mark c a (back_other a c apart);
-        alone = search (machine_same, machine_other, mark_same, mark_other, two_same, two_other, back_other a c apart);
-      } in
-      moves_stand b w pt l h a c (come_to w a c k (with_receiver (w.nodes c) a (after_arrival ((w.nodes c).receivers a) n m))) (moved (begun pt a c k) (Line.Early a c n) pt.kernel) (marked_in h a c k) go s apart
+      let r : Receiving Message = (w.nodes c).receivers a in
+      let p : Pair = pt.view.pair a c in
+      let mark : Pair = view.marked p k in
+      let then_ : Pair = record mark { kept = n ∷ off n p.kept } in
+      subst (λ (f : ℕ → ℕ → Pair). StandsWith b (come_to w a c k (with_receiver (w.nodes c) a (after_arrival r n m))) (with_pairs head f pt.view.inbox) l (marked_in h a c k))
+      (sym (ap (λ (z : Pair). at_pair (at_pair pt.view.pair a c mark) a c (record z { kept = n ∷ off n z.kept })) (pair_here pt.view.pair a c mark) ∙ pair_again pt.view.pair a c mark then_))
+      (data_stands k n m (after_arrival r n m) then_ pt.view.inbox (w.nodes c).kernel.inbox e refl refl (omega arith)
+      (data_comes b l.bag a c (stream_of w h a c) (w.wires a c) p k n m (record { count = r.count; kept = kept_once r.kept (n - r.count) m }) p.taken (n ∷ off n p.kept) e (after_early_is r n m gt) there.taken
+      (kept_early r p.kept n m gt ((MayCome-stands (stream_of w h a c) there.stream).in_window k n m e) there.stream.counted.places there.kept) there.untaken there) (λ d off. refl) (λ i least. (Inbox c, least))
+      (node_kept (at_pair pt.view.pair a c then_) (w.nodes c).senders (at_machine (w.nodes c).receivers a (after_arrival r n m)) (ids_set pt.view.pair a c then_ refl c c)))
 
   -- the message that is next
   pub taken_stands : (k n : ℕ) (m : Message) → load_at (h.packets a c) k ≡ Some (Data n m) → n ≡ ((w.nodes c).receivers a).count → StandsWith b (come_to w a c k (with_message (with_receiver (w.nodes c) a (after_arrival ((w.nodes c).receivers a) n m)) m)) (moved (begun pt a c k) (Line.Taken a c n) pt.kernel) l (marked_in h a c k)
   taken_stands k n m e is =
-      let mark : Pair = view.marked (pt.view.pair a c) k in
-      let first : ℕ → ℕ → Pair = at_pair pt.view.pair a c mark in
-      let p : Pair = record (first a c) { taken = (first a c).taken + 1; kept = off n (first a c).kept } in
-      let given : slice_get (h.given a c) ((w.nodes c).receivers a).count ≡ Some m = ap (slice_get (h.given a c)) (sym is) ∙ there_pair_is.stream.sent.data_given k n m e in
-      let t : Taking l (pt.view.pair a c) m = taking b l a c (ends_of w h a c) (w.wires a c) (pt.view.pair a c) m given there_pair_is in
-      let oldest_one : oldest (first a c) ≡ Some m.id = ap oldest (two_same pt.view.pair a c mark) ∙ t.first in
-      let go : Moves b w pt l h a c (come_to w a c k (with_message (with_receiver (w.nodes c) a (after_arrival ((w.nodes c).receivers a) n m)) m)) (moved (begun pt a c k) (Line.Taken a c n) pt.kernel) (marked_in h a c k) = record {
-        acting = c;
-        groups = pt.view.groups + 1;
-        topic = NothingElse;
-        pair = at_pair first a c p;
-        inbox = at_machine pt.view.inbox c (pt.view.inbox c ++ m.id ∷ []);
-        messages = (w.nodes c).kernel.inbox ++ m ∷ [];
-        senders = (w.nodes c).senders;
-        receivers = at_machine (w.nodes c).receivers a (after_arrival ((w.nodes c).receivers a) n m);
-        there = record (ends_of w h a c) { receiver = advanced ((w.nodes c).receivers a); out = marked (h.packets a c) k };
-        there_wire = wire.marked (w.wires a c) k;
-        there_pair = record mark { taken = (pt.view.pair a c).taken + 1; kept = off n (pt.view.pair a c).kept };
-        back = record (ends_of w h c a) { back = marked (h.packets a c) k };
-        back_wire = w.wires c a;
-        back_pair = pt.view.pair c a;
-        point = ap (λ (o : Option MsgId). record { kernel = pt.kernel; view = view.taken_id (view.with_pair (begun pt a c k).view a c p) c o; addresses = pt.addresses }) oldest_one;
-        counted = ap (λ (i : ℕ). i + 1) s.groups;
-        mirrors = lines_keep (begun pt a c k) (moved (begun pt a c k) (Line.Taken a c n) pt.kernel) l (Line.Taken a c n) tt (lines_keep pt (begun pt a c k) l (Line.Head (Step.Deliver a c k)) tt s.mirrors refl) refl;
-        pairs = λ x y t u. two_other first a c p x y t ∙ two_other pt.view.pair a c mark x y t;
-        ids = λ x y. ids_set first a c p refl x y ∙ ids_set pt.view.pair a c mark refl x y;
-        took = λ x y. let one = took_set pt.view.pair a c mark (omega arith) x y in let two = took_set first a c p (omega arith) x y in omega (arith, one, two);
-        came = λ i least. came_one pt.view a c m.id i t.first (subst (λ (ids : List MsgId). 1 ≤ times i ids) (machine_same pt.view.inbox c (pt.view.inbox c ++ m.id ∷ [])) least);
-        box = subst (λ (ids : List MsgId). AreMessages l.bag ids ((w.nodes c).kernel.inbox ++ m ∷ [])) (sym (machine_same pt.view.inbox c (pt.view.inbox c ++ m.id ∷ []))) (messages_push l.bag (pt.view.inbox c) (w.nodes c).kernel.inbox m.id m (s.nodes c c_in).kernel.inbox t.there);
-        lawful = All-push IsLawfulMessage (w.nodes c).kernel.inbox m (s.nodes c c_in).lawful.inbox t.lawful;
-        there_stands = taken_comes b l a c (ends_of w h a c) (w.wires a c) (pt.view.pair a c) k n m e is there_pair_is;
-        there_receiver = machine_same (w.nodes c).receivers a (after_arrival ((w.nodes c).receivers a) n m) ∙ after_taken_is ((w.nodes c).receivers a) n m is;
-        there_said = two_same first a c p ∙ ap (λ (z : Pair). record z { taken = z.taken + 1; kept = off n z.kept }) (two_same pt.view.pair a c mark);
-        back_stands = back_comes b l c a (ends_of w h c a) (w.wires c a) (pt.view.pair c a) k n m e back_pair_is;
-        back_said = two_other first a c p c a (back_other a c apart) ∙ two_other pt.view.pair a c mark c a (back_other a c apart);
-        alone = search (machine_same, machine_other, mark_same, mark_other, two_same, two_other, back_other a c apart);
-      } in
-      moves_stand b w pt l h a c (come_to w a c k (with_message (with_receiver (w.nodes c) a (after_arrival ((w.nodes c).receivers a) n m)) m)) (moved (begun pt a c k) (Line.Taken a c n) pt.kernel) (marked_in h a c k) go s apart
+      let r : Receiving Message = (w.nodes c).receivers a in
+      let p : Pair = pt.view.pair a c in
+      let mark : Pair = view.marked p k in
+      let then_ : Pair = record mark { taken = p.taken + 1; kept = off n p.kept } in
+      let t : Taking l p m = taking b l a c (stream_of w h a c) (w.wires a c) p m (ap (slice_get (h.given a c)) (sym is) ∙ there.stream.sent.data_given k n m e) there in
+      let inbox : ℕ → List MsgId = at_machine pt.view.inbox c (pt.view.inbox c ++ m.id ∷ []) in
+      subst (λ (q : Point). StandsWith b (come_to w a c k (with_message (with_receiver (w.nodes c) a (after_arrival r n m)) m)) q l (marked_in h a c k)) (sym (
+        ap (λ (z : Pair). record pt { view = view.taken_id (view.with_pair (begun pt a c k).view a c (record z { taken = z.taken + 1; kept = off n z.kept })) c (oldest z) }) (pair_here pt.view.pair a c mark)
+        ∙ ap (λ (o : Option MsgId). record pt { view = view.taken_id (view.with_pair (begun pt a c k).view a c then_) c o }) t.first
+        ∙ ap (λ (f : ℕ → ℕ → Pair). with_pairs head f inbox) (pair_again pt.view.pair a c mark then_)))
+      (data_stands k n m (after_arrival r n m) then_ inbox ((w.nodes c).kernel.inbox ++ m ∷ []) e refl refl (omega arith)
+      (data_comes b l.bag a c (stream_of w h a c) (w.wires a c) p k n m (advanced r) (p.taken + 1) (off n p.kept) e (after_taken_is r n m is) (ap (λ (i : ℕ). i + 1) there.taken)
+      (λ j. kept_taken r p.kept there.kept j ∙ ap (λ (i : ℕ). has j (off i p.kept)) (sym is)) (untaken_next l.bag p.ids (h.given a c) p.taken there.untaken) there)
+      (at_other pt.view.inbox c (pt.view.inbox c ++ m.id ∷ [])) (λ i least. came_in pt.view a c m i t.first least)
+      (node_takes b head l (at_pair pt.view.pair a c then_) c (w.nodes c) p m (w.nodes c).senders (at_machine (w.nodes c).receivers a (after_arrival r n m)) t (ids_set pt.view.pair a c then_ refl c c) (head_stands.nodes c c_in)))
 
   -- an acknowledgement
   pub acked_stands : (k n : ℕ) → load_at (h.packets a c) k ≡ Some (Ack n) → StandsWith b (come_to w a c k (with_sender (w.nodes c) a (with_acked ((w.nodes c).senders a) n))) (moved (begun pt a c k) (Line.Acked a c n) pt.kernel) l (marked_in h a c k)
@@ -397,72 +354,26 @@ module _ (b : Boot) (w : WorldState) (pt : Point) (l : Placed) (h : History) (a 
       let mark : Pair = view.marked (pt.view.pair a c) k in
       let first : ℕ → ℕ → Pair = at_pair pt.view.pair a c mark in
       let p : Pair = record (first c a) { acked = at_least (first c a).acked n } in
-      let go : Moves b w pt l h a c (come_to w a c k (with_sender (w.nodes c) a (with_acked ((w.nodes c).senders a) n))) (moved (begun pt a c k) (Line.Acked a c n) pt.kernel) (marked_in h a c k) = record {
-        acting = c;
-        groups = pt.view.groups + 1;
-        topic = NothingElse;
-        pair = at_pair first c a p;
-        inbox = pt.view.inbox;
-        messages = (w.nodes c).kernel.inbox;
-        senders = at_machine (w.nodes c).senders a (with_acked ((w.nodes c).senders a) n);
-        receivers = (w.nodes c).receivers;
-        there = record (ends_of w h a c) { out = marked (h.packets a c) k };
-        there_wire = wire.marked (w.wires a c) k;
-        there_pair = mark;
-        back = record (ends_of w h c a) { sender = with_acked ((w.nodes c).senders a) n; back = marked (h.packets a c) k };
-        back_wire = w.wires c a;
-        back_pair = record (pt.view.pair c a) { acked = at_least (pt.view.pair c a).acked n };
-        point = refl;
-        counted = ap (λ (i : ℕ). i + 1) s.groups;
-        mirrors = lines_keep (begun pt a c k) (moved (begun pt a c k) (Line.Acked a c n) pt.kernel) l (Line.Acked a c n) tt (lines_keep pt (begun pt a c k) l (Line.Head (Step.Deliver a c k)) tt s.mirrors refl) refl;
-        pairs = λ x y t u. two_other first c a p x y u ∙ two_other pt.view.pair a c mark x y t;
-        ids = λ x y. ids_set first c a p refl x y ∙ ids_set pt.view.pair a c mark refl x y;
+      let ids : (x y : ℕ) → (at_pair first c a p x y).ids ≡ (pt.view.pair x y).ids = λ x y. ids_set first c a p refl x y ∙ ids_set pt.view.pair a c mark refl x y in
+      let ss : ℕ → Sending Message = at_machine (w.nodes c).senders a (with_acked ((w.nodes c).senders a) n) in
+      moves_stand b headed head l h a c (record (w.nodes c) { senders = ss }) (after_mark w.wires a c k) (at_pair h.packets a c (marked (h.packets a c) k)) (at_pair first c a p) pt.view.inbox
+      (record (stream_of w h a c) { out = marked (h.packets a c) k }) (wire.marked (w.wires a c) k) mark (record (stream_of w h c a) { sender = with_acked ((w.nodes c).senders a) n; back = marked (h.packets a c) k }) (w.wires c a) (record (pt.view.pair c a) { acked = at_least (pt.view.pair c a).acked n }) (record {
+        pairs = λ x y t u. pair_other first c a p x y u ∙ pair_other pt.view.pair a c mark x y t;
+        ids = ids;
         took = λ x y. let one = took_set pt.view.pair a c mark (omega arith) x y in let two = took_set first c a p (omega arith) x y in omega (arith, one, two);
         came = λ i least. (Inbox c, least);
-        box = (s.nodes c c_in).kernel.inbox;
-        lawful = (s.nodes c c_in).lawful.inbox;
-        there_stands = other_comes b l a c (ends_of w h a c) (w.wires a c) (pt.view.pair a c) k n e there_pair_is;
-        there_receiver = refl;
-        there_said = two_other first c a p a c (there_other a c apart) ∙ two_same pt.view.pair a c mark;
-        back_stands = acked_comes b l c a (ends_of w h c a) (w.wires c a) (pt.view.pair c a) k n e back_pair_is;
-        back_said = two_same first c a p ∙ ap (λ (z : Pair). record z { acked = at_least z.acked n }) (two_other pt.view.pair a c mark c a (back_other a c apart));
-        alone = search (machine_same, machine_other, mark_same, mark_other, two_same, two_other, back_other a c apart);
-      } in
-      moves_stand b w pt l h a c (come_to w a c k (with_sender (w.nodes c) a (with_acked ((w.nodes c).senders a) n))) (moved (begun pt a c k) (Line.Acked a c n) pt.kernel) (marked_in h a c k) go s apart
+        node = node_kept (at_pair first c a p) ss (w.nodes c).receivers (ids c c);
+        there_stands = other_comes b l.bag a c (stream_of w h a c) (w.wires a c) (pt.view.pair a c) k n e there;
+        back_stands = acked_comes b l.bag c a (stream_of w h c a) (w.wires c a) (pt.view.pair c a) k n e back;
+        alone = search (
+          at_here, at_other, mark_same, mark_other, pair_here, pair_other, back_other a c apart,
+          pair_other first c a p a c (there_other a c apart) ∙ pair_here pt.view.pair a c mark,
+          pair_here first c a p ∙ ap (λ (z : Pair). record z { acked = at_least z.acked n }) (pair_other pt.view.pair a c mark c a (back_other a c apart)),
+        );
+      }) head_stands apart
 
   -- there is no such packet
   pub nothing_stands : (k : ℕ) → slice_get (pt.view.pair a c).wire k ≡ None → StandsWith b (record w { groups = w.groups + 1 }) (moved (begun pt a c k) Line.Nothing pt.kernel) l h
   nothing_stands k e =
-      let mark : Pair = view.marked (pt.view.pair a c) k in
-      let go : Moves b w pt l h a c (record w { groups = w.groups + 1 }) (moved (begun pt a c k) Line.Nothing pt.kernel) h = record {
-        acting = c;
-        groups = pt.view.groups + 1;
-        topic = NothingElse;
-        pair = at_pair pt.view.pair a c mark;
-        inbox = pt.view.inbox;
-        messages = (w.nodes c).kernel.inbox;
-        senders = (w.nodes c).senders;
-        receivers = (w.nodes c).receivers;
-        there = ends_of w h a c;
-        there_wire = w.wires a c;
-        there_pair = pt.view.pair a c;
-        back = ends_of w h c a;
-        back_wire = w.wires c a;
-        back_pair = pt.view.pair c a;
-        point = refl;
-        counted = ap (λ (i : ℕ). i + 1) s.groups;
-        mirrors = lines_keep (begun pt a c k) (moved (begun pt a c k) Line.Nothing pt.kernel) l Line.Nothing tt (lines_keep pt (begun pt a c k) l (Line.Head (Step.Deliver a c k)) tt s.mirrors refl) refl;
-        pairs = λ x y t u. two_other pt.view.pair a c mark x y t;
-        ids = ids_set pt.view.pair a c mark refl;
-        took = took_set pt.view.pair a c mark (omega arith);
-        came = λ i least. (Inbox c, least);
-        box = (s.nodes c c_in).kernel.inbox;
-        lawful = (s.nodes c c_in).lawful.inbox;
-        there_stands = there_pair_is;
-        there_receiver = refl;
-        there_said = two_same pt.view.pair a c mark ∙ ap (λ (o : Option view.SentLoad). record (pt.view.pair a c) { wire = view.marked_at (pt.view.pair a c).wire k o }) e;
-        back_stands = back_pair_is;
-        back_said = two_other pt.view.pair a c mark c a (back_other a c apart);
-        alone = search;
-      } in
-      moves_stand b w pt l h a c (record w { groups = w.groups + 1 }) (moved (begun pt a c k) Line.Nothing pt.kernel) h go s apart
+      subst (λ (f : ℕ → ℕ → Pair). StandsWith b headed (with_pairs head f pt.view.inbox) l h)
+      (sym (ap (λ (o : Option view.SentLoad). at_pair pt.view.pair a c (record (pt.view.pair a c) { wire = view.marked_at (pt.view.pair a c).wire k o })) e ∙ pair_kept pt.view.pair a c)) head_stands

@@ -1,6 +1,7 @@
 -- What a machine has of a process at the end, by what the lines say that it knows.
-use Rattle.dm_mirror.proofs.Names.{◌≡◌, ◌≢◌, ◌⊎◌, ℕ, ◌<◌, true, false, is_some, List, refl, ap, ◌∙◌, sym, subst, inl, inr, arith, option_map, Option, None, Some, nat_tests, Pid, pid_of, MessageKind, Record, About, plain_what, with_what}
-use Rattle.dm_mirror.proofs.Names.{Process, incoming_of, Arrival, Nothing, Boot, Why, Alive, plain_process, EndLine, Standing, or, list_line, Stood, stood_at, first_with, is_away, is_due, Point, Known, Unknown, Incoming, Ended, Told}
+use Rattle.dm_mirror.proofs.Names.{View}
+use Rattle.dm_mirror.proofs.Names.{◌≡◌, ◌≢◌, ◌⊎◌, ℕ, ◌<◌, true, false, is_some, List, refl, ap, ◌∙◌, sym, subst, inl, inr, arith, option_map, Option, None, Some, nat_tests, Pid, pid_of, MessageKind, Record, About, with_what}
+use Rattle.dm_mirror.proofs.Names.{Process, incoming_of, Arrival, Nothing, Boot, Alive, plain_process, EndLine, Standing, or, list_line, Stood, stood_at, first_with, is_away, is_due, Point, Known, Unknown, Incoming, Ended, Told}
 use Rattle.dm_mirror.proofs.Names.{not_true, is_server, Run, Placed, WorldState, alive_lines, awaited_lines, come_lines, first_awaited, first_had, first_says, lines_in, record_lines, record_queue, told_of, History, KnownStands, StandsWith}
 use Rattle.dm_mirror.proofs.Names.{Wants, alive-is, [], Message, MsgId, What, kind_of, Here, Frozen, Forward, come_whole, held_for, names_of, has_nothing_held, AreMessages, ComesStand, Carries, ended_is, ◌≤◌, ◌∷◌, length, map, IfSome}
 use Rattle.dm_mirror.proofs.Names.{IsValid, Manager, plain_child, IsLawfulPair, Servers, Step, Leads, first_point, HasPlainEnd, EndMay, servers_at, Asker}
@@ -13,6 +14,7 @@ pub use Rattle.dm_mirror.proofs.Row.Tokens.{carries_plain as carried_own}
 use Rattle.dm_mirror.proofs.End.Servers.{first_at, first_none, names_are, alive_same, ComesTo, HasIt, OverAt, is_silent, where_is}
 use Rattle.dm_mirror.proofs.Handle.Taking.{some_same}
 pub use Rattle.dm_mirror.proofs.Handle.Kills.{child_off as no_server}
+use Rattle.dm_mirror.proofs.Recorded.{Recorded, recorded}
 use Rattle.dm_mirror.proofs.Machines.{some_machine}
 use Rattle.dm_mirror.proofs.Next.{machines_stay}
 use Rattle.dm_mirror.proofs.Counts.Pairs.{CountsFew}
@@ -45,26 +47,6 @@ is_at pt l p q held m s (Forward at moves) (Some (Record.Forward x y)) e h = cc
 is_at pt l p q held m s Ended (Some (Record.Ended x)) e h = cc
 is_at pt l p q held m s k r e h = absurd h
 
--- a machine where it has ended
-pub record HasEnded (pt : Point) (p : Pid) (r : Option machine.KernelKnown) : Type 0 where
-  pub why : Why
-  pub is : r ≡ Some (Record.Ended why)
-  pub due : kernel.why_ended (pt.kernel.processes p) ≡ Some why
-
-pub has_ended : (pt : Point) (l : Placed) (p : Pid) (q held : List MsgId) (r : Option machine.KernelKnown) → KnownStands pt l p q held Ended r → HasEnded pt p r
-has_ended pt l p q held (Some (Record.Ended x)) h = record { why = x; is = refl; due = h }
-has_ended pt l p q held _ h = absurd h
-
--- a machine that it comes to
-pub record IsComing (l : Placed) (p : Pid) (held : List MsgId) (r : Option machine.KernelKnown) : Type 0 where
-  pub arrival : Arrival
-  pub is : r ≡ Some (Record.Incoming arrival)
-  pub comes : ComesStand l p held arrival
-
-pub is_coming : (pt : Point) (l : Placed) (p : Pid) (q held : List MsgId) (from : ℕ) (r : Option machine.KernelKnown) → KnownStands pt l p q held (Incoming from) r → IsComing l p held r
-is_coming pt l p q held from (Some (Record.Incoming x)) h = record { arrival = x; is = refl; comes = h }
-is_coming pt l p q held from _ h = absurd h
-
 -- the message that lets a process restart tells that all of it has come
 pub restart_wants : (p : Pid) (x : Process) (k : Option Asker) (n : ℕ) (o : Option Arrival) (w : What) → kind_of w ≡ MessageKind.Restart → Carries p x k n o w → Wants o Nothing
 restart_wants p x k n o (What.Restart pid) e h = h.1
@@ -86,185 +68,175 @@ pub record IsOfHome (b : Boot) (w : WorldState) (pt : Point) (l : Placed) (h : H
   pub run : Run b pt
   pub server : is_server p ≡ false
 
--- what machine m knows
-abbrev Stood_ : WorldState → Point → Placed → Pid → ℕ → Type 0
-Stood_ w pt l p m = KnownStands pt l p (pt.view.queue m p) (pt.view.held m p) (pt.view.known m p) ((w.nodes m).kernel.records p)
+-- where a process comes to a machine, nobody has it
+none_has : (v : View) (p : Pid) (a : ComesTo v p) (m : ℕ) → is_silent (v.known m p) ≡ true
+none_has v p a m = grind (arith, nat_tests)
 
-knows_ : (b : Boot) (w : WorldState) (pt : Point) (l : Placed) (h : History) (p : Pid) (m : ℕ) → IsOfHome b w pt l h p → m < pt.kernel.machines → Stood_ w pt l p m
-knows_ b w pt l h p m g below = (g.stands.nodes m below).kernel.known p g.server
+module _ (b : Boot) (w : WorldState) (pt : Point) (l : Placed) (h : History) (p : Pid) (g : IsOfHome b w pt l h p) where
+  -- what machine m knows
+  abbrev Stood_ : ℕ → Type 0
+  Stood_ m = KnownStands pt l p (pt.view.queue m p) (pt.view.held m p) (pt.view.known m p) ((w.nodes m).kernel.records p)
 
--- a machine that says nothing
-silent_machine : (b : Boot) (w : WorldState) (pt : Point) (l : Placed) (h : History) (p : Pid) (m : ℕ) → IsOfHome b w pt l h p → is_silent (pt.view.known m p) ≡ true → m < pt.kernel.machines → record_lines m p ((w.nodes m).kernel.records p) ≡ None
-silent_machine b w pt l h p m g silent below = grind (arith, nat_tests)
+  knows_ : (m : ℕ) → m < pt.kernel.machines → Stood_ m
+  knows_ m below = (g.stands.nodes m below).kernel.known p g.server
 
-no_queue : (b : Boot) (w : WorldState) (pt : Point) (l : Placed) (h : History) (p : Pid) (m : ℕ) → IsOfHome b w pt l h p → is_silent (pt.view.known m p) ≡ true → m < pt.kernel.machines → record_queue p ((w.nodes m).kernel.records p) ≡ None
-no_queue b w pt l h p m g silent below = grind (arith, nat_tests)
+  -- a machine that says nothing
+  silent_machine : (m : ℕ) → is_silent (pt.view.known m p) ≡ true → m < pt.kernel.machines → record_lines m p ((w.nodes m).kernel.records p) ≡ None
+  silent_machine m silent below = grind (arith, nat_tests)
 
-away_machine : (b : Boot) (w : WorldState) (pt : Point) (l : Placed) (h : History) (p : Pid) (m : ℕ) → IsOfHome b w pt l h p → is_away (pt.view.known m p) ≡ true → m < pt.kernel.machines → awaited_lines m p ((w.nodes m).kernel.records p) ≡ None
-away_machine b w pt l h p m g away below = grind (arith, nat_tests)
+  no_queue : (m : ℕ) → is_silent (pt.view.known m p) ≡ true → m < pt.kernel.machines → record_queue p ((w.nodes m).kernel.records p) ≡ None
+  no_queue m silent below = grind (arith, nat_tests)
 
--- the machine that says the first thing
-had_at : (b : Boot) (w : WorldState) (pt : Point) (l : Placed) (h : History) (p : Pid) (at : ℕ) → IsOfHome b w pt l h p → at < pt.kernel.machines → ((m : ℕ) → m ≢ at → is_silent (pt.view.known m p) ≡ true)
-    → first_had pt.kernel.machines w p ≡ record_lines at p ((w.nodes at).kernel.records p)
-had_at b w pt l h p at g below others =
-    let f : ℕ → Option (List EndLine) = λ m. record_lines m p ((w.nodes m).kernel.records p) in
-    first_at (first_says f) f at pt.kernel.machines refl (λ m. refl) below (λ m less apart. silent_machine b w pt l h p m g (others m apart) less)
+  away_machine : (m : ℕ) → is_away (pt.view.known m p) ≡ true → m < pt.kernel.machines → awaited_lines m p ((w.nodes m).kernel.records p) ≡ None
+  away_machine m away below = grind (arith, nat_tests)
 
-queue_by : (b : Boot) (w : WorldState) (pt : Point) (l : Placed) (h : History) (p : Pid) (at : ℕ) → IsOfHome b w pt l h p → at < pt.kernel.machines → ((m : ℕ) → m ≢ at → is_silent (pt.view.known m p) ≡ true)
-    → world.queue_of pt.kernel.machines w p ≡ lines_in (record_queue p ((w.nodes at).kernel.records p))
-queue_by b w pt l h p at g below others =
-    let f : ℕ → Option (List EndLine) = λ m. record_queue p ((w.nodes m).kernel.records p) in
-    ap lines_in (first_at (first_says f) f at pt.kernel.machines refl (λ m. refl) below (λ m less apart. no_queue b w pt l h p m g (others m apart) less))
+  -- the machine that says the first thing
+  had_at : (at : ℕ) → at < pt.kernel.machines → ((m : ℕ) → m ≢ at → is_silent (pt.view.known m p) ≡ true)
+      → first_had pt.kernel.machines w p ≡ record_lines at p ((w.nodes at).kernel.records p)
+  had_at at below others =
+      let f : ℕ → Option (List EndLine) = λ m. record_lines m p ((w.nodes m).kernel.records p) in
+      first_at (first_says f) f at pt.kernel.machines refl (λ m. refl) below (λ m less apart. silent_machine m (others m apart) less)
 
-with_at : (pt : Point) (p : Pid) (at : ℕ) → at < pt.kernel.machines → ((m : ℕ) → m ≢ at → is_silent (pt.view.known m p) ≡ true)
-    → first_with rule.standing_of pt.view p pt.kernel.machines ≡ stood_at at (rule.standing_of (pt.view.known at p))
-with_at pt p at below others =
-    first_at (first_with rule.standing_of pt.view p) (λ m. stood_at m (rule.standing_of (pt.view.known m p))) at pt.kernel.machines refl (λ m. refl) below
-    (λ m less apart. ap (stood_at m) (silent_has (pt.view.known m p) (others m apart)))
+  queue_by : (at : ℕ) → at < pt.kernel.machines → ((m : ℕ) → m ≢ at → is_silent (pt.view.known m p) ≡ true)
+      → world.queue_of pt.kernel.machines w p ≡ lines_in (record_queue p ((w.nodes at).kernel.records p))
+  queue_by at below others =
+      let f : ℕ → Option (List EndLine) = λ m. record_queue p ((w.nodes m).kernel.records p) in
+      ap lines_in (first_at (first_says f) f at pt.kernel.machines refl (λ m. refl) below (λ m less apart. no_queue m (others m apart) less))
 
--- a machine that knows something is one of them
-has_known : (k : Known) (s : Standing) → rule.standing_of k ≡ Some s → k ≢ Unknown
-has_known k s e is = let f : rule.standing_of Unknown ≡ Some s = sym (ap rule.standing_of is) ∙ e in cc
+  with_at : (at : ℕ) → at < pt.kernel.machines → ((m : ℕ) → m ≢ at → is_silent (pt.view.known m p) ≡ true)
+      → first_with rule.standing_of pt.view p pt.kernel.machines ≡ stood_at at (rule.standing_of (pt.view.known at p))
+  with_at at below others =
+      first_at (first_with rule.standing_of pt.view p) (λ m. stood_at m (rule.standing_of (pt.view.known m p))) at pt.kernel.machines refl (λ m. refl) below
+      (λ m less apart. ap (stood_at m) (silent_has (pt.view.known m p) (others m apart)))
 
-within_has : (b : Boot) (pt : Point) (p : Pid) (a : HasIt pt.view p) → Run b pt → a.at < pt.kernel.machines
-within_has b pt p a run = run.found.known_within a.at p (has_known (pt.view.known a.at p) a.standing a.known)
+  -- a machine that knows something is one of them
+  has_known : (k : Known) (s : Standing) → rule.standing_of k ≡ Some s → k ≢ Unknown
+  has_known k s e is = let f : rule.standing_of Unknown ≡ Some s = sym (ap rule.standing_of is) ∙ e in cc
 
-within_over : (b : Boot) (pt : Point) (p : Pid) (a : OverAt pt.view p) → Run b pt → a.at < pt.kernel.machines
-within_over b pt p a run = run.found.known_within a.at p (λ is. let f : Ended ≡ Unknown = sym a.known ∙ is in cc)
+  within_has : (a : HasIt pt.view p) → a.at < pt.kernel.machines
+  within_has a = g.run.found.known_within a.at p (has_known (pt.view.known a.at p) a.standing a.known)
 
-within_to : (b : Boot) (pt : Point) (p : Pid) (a : ComesTo pt.view p) → Run b pt → a.to < pt.kernel.machines
-within_to b pt p a run = run.found.known_within a.to p (λ is. let f : Incoming a.from ≡ Unknown = sym a.known ∙ is in cc)
+  within_over : (a : OverAt pt.view p) → a.at < pt.kernel.machines
+  within_over a = g.run.found.known_within a.at p (λ is. let f : Ended ≡ Unknown = sym a.known ∙ is in cc)
 
-alive_of : (b : Boot) (w : WorldState) (pt : Point) (l : Placed) (h : History) (p : Pid) (x : Process) → IsOfHome b w pt l h p → l.processes p ≡ Some x → pt.kernel.processes p ≡ Some (Alive (plain_process x))
-alive_of b w pt l h p x g placed = alive-is (pt.kernel.processes p) (plain_process x) (g.stands.mirrors.plain.processes p ∙ ap (option_map plain_process) placed)
+  within_to : (a : ComesTo pt.view p) → a.to < pt.kernel.machines
+  within_to a = g.run.found.known_within a.to p (λ is. let f : Incoming a.from ≡ Unknown = sym a.known ∙ is in cc)
 
--- a process that a machine has
-at_machine : (b : Boot) (w : WorldState) (pt : Point) (l : Placed) (h : History) (p : Pid) (a : HasIt pt.view p) → IsOfHome b w pt l h p → IsAt l p (pt.view.queue a.at p) a.at a.standing ((w.nodes a.at).kernel.records p)
-at_machine b w pt l h p a g =
-    is_at pt l p (pt.view.queue a.at p) (pt.view.held a.at p) a.at a.standing (pt.view.known a.at p) ((w.nodes a.at).kernel.records p) a.known (knows_ b w pt l h p a.at g (within_has b pt p a g.run))
+  alive_of : (x : Process) → l.processes p ≡ Some x → pt.kernel.processes p ≡ Some (Alive (plain_process x))
+  alive_of x placed = alive-is (pt.kernel.processes p) (plain_process x) (g.stands.mirrors.plain.processes p ∙ ap (option_map plain_process) placed)
 
-has_said : (b : Boot) (w : WorldState) (pt : Point) (l : Placed) (h : History) (p : Pid) (a : HasIt pt.view p) → IsOfHome b w pt l h p → world.process_lines pt.kernel.machines w p ≡ rule.process_lines pt p (pt.kernel.processes p)
-has_said b w pt l h p a g =
-    let below = within_has b pt p a g.run in
-    let i = at_machine b w pt l h p a g in
-    let x = i.process in
-    let stood : rule.stood pt.view p pt.kernel.machines ≡ (Some (record { at = a.at; standing = a.standing })) =
-    ap (λ (o : Option Stood). or o (first_with rule.awaits pt.view p pt.kernel.machines)) (with_at pt p a.at below a.others ∙ ap (stood_at a.at) a.known) in
-    ap (λ (o : Option (List EndLine)). lines_in (or o (first_awaited pt.kernel.machines w p))) (had_at b w pt l h p a.at g below a.others ∙ i.lines)
-    ∙ (alive_same pt.addresses a.at p a.standing x (g.stands.mirrors.places.process p (record x { queue = i.rest }) i.placed).slots
-    ∙ (ap (rule.alive_lines pt.addresses p (plain_process x)) (sym stood) ∙ ap (rule.process_lines pt p) (sym (alive_of b w pt l h p (record x { queue = i.rest }) g i.placed))))
+  -- a process that a machine has
+  at_machine : (a : HasIt pt.view p) → IsAt l p (pt.view.queue a.at p) a.at a.standing ((w.nodes a.at).kernel.records p)
+  at_machine a =
+      is_at pt l p (pt.view.queue a.at p) (pt.view.held a.at p) a.at a.standing (pt.view.known a.at p) ((w.nodes a.at).kernel.records p) a.known (knows_ a.at (within_has a))
 
-has_queue : (b : Boot) (w : WorldState) (pt : Point) (l : Placed) (h : History) (p : Pid) (a : HasIt pt.view p) → IsOfHome b w pt l h p
-    → world.queue_of pt.kernel.machines w p ≡ rule.queue_at pt.view p (first_with rule.standing_of pt.view p pt.kernel.machines)
-has_queue b w pt l h p a g =
-    let below = within_has b pt p a g.run in
-    let i = at_machine b w pt l h p a g in
-    queue_by b w pt l h p a.at g below a.others
-    ∙ (ap lines_in i.queue
-    ∙ (ap (list_line (EndLine.Queue p)) (names_are l.bag (pt.view.queue a.at p) i.process.queue (λ j m there. (g.stands.mirrors.places.message j m there).id) i.waits)
-    ∙ ap (rule.queue_at pt.view p) (sym (with_at pt p a.at below a.others ∙ ap (stood_at a.at) a.known))))
+  has_said : (a : HasIt pt.view p) → world.process_lines pt.kernel.machines w p ≡ rule.process_lines pt p (pt.kernel.processes p)
+  has_said a =
+      let below = within_has a in
+      let i = at_machine a in
+      let x = i.process in
+      let stood : rule.stood pt.view p pt.kernel.machines ≡ (Some (record { at = a.at; standing = a.standing })) =
+      ap (λ (o : Option Stood). or o (first_with rule.awaits pt.view p pt.kernel.machines)) (with_at a.at below a.others ∙ ap (stood_at a.at) a.known) in
+      ap (λ (o : Option (List EndLine)). lines_in (or o (first_awaited pt.kernel.machines w p))) (had_at a.at below a.others ∙ i.lines)
+      ∙ (alive_same pt.addresses a.at p a.standing x (g.stands.mirrors.places.process p (record x { queue = i.rest }) i.placed).slots
+      ∙ (ap (rule.alive_lines pt.addresses p (plain_process x)) (sym stood) ∙ ap (rule.process_lines pt p) (sym (alive_of (record x { queue = i.rest }) i.placed))))
 
--- a process that has ended
-over_machine : (b : Boot) (w : WorldState) (pt : Point) (l : Placed) (h : History) (p : Pid) (a : OverAt pt.view p) → IsOfHome b w pt l h p → HasEnded pt p ((w.nodes a.at).kernel.records p)
-over_machine b w pt l h p a g =
-    has_ended pt l p (pt.view.queue a.at p) (pt.view.held a.at p) ((w.nodes a.at).kernel.records p)
-    (subst (λ (k : Known). KnownStands pt l p (pt.view.queue a.at p) (pt.view.held a.at p) k ((w.nodes a.at).kernel.records p)) a.known (knows_ b w pt l h p a.at g (within_over b pt p a g.run)))
+  has_queue : (a : HasIt pt.view p) → world.queue_of pt.kernel.machines w p ≡ rule.queue_at pt.view p (first_with rule.standing_of pt.view p pt.kernel.machines)
+  has_queue a =
+      let below = within_has a in
+      let i = at_machine a in
+      queue_by a.at below a.others
+      ∙ (ap lines_in i.queue
+      ∙ (ap (list_line (EndLine.Queue p)) (names_are l.bag (pt.view.queue a.at p) i.process.queue (λ j m there. (g.stands.mirrors.places.message j m there).id) i.waits)
+      ∙ ap (rule.queue_at pt.view p) (sym (with_at a.at below a.others ∙ ap (stood_at a.at) a.known))))
 
-over_said : (b : Boot) (w : WorldState) (pt : Point) (l : Placed) (h : History) (p : Pid) (a : OverAt pt.view p) → IsOfHome b w pt l h p → world.process_lines pt.kernel.machines w p ≡ rule.process_lines pt p (pt.kernel.processes p)
-over_said b w pt l h p a g =
-    let e = over_machine b w pt l h p a g in
-    ap (λ (o : Option (List EndLine)). lines_in (or o (first_awaited pt.kernel.machines w p))) (had_at b w pt l h p a.at g (within_over b pt p a g.run) a.others ∙ ap (record_lines a.at p) e.is)
-    ∙ ap (rule.process_lines pt p) (sym (ended_is (pt.kernel.processes p) e.why e.due))
+  -- a process that has ended
+  over_machine : (a : OverAt pt.view p) → Recorded pt l p (pt.view.queue a.at p) (pt.view.held a.at p) Ended ((w.nodes a.at).kernel.records p)
+  over_machine a = recorded b pt l a.at (w.nodes a.at).kernel p Ended (g.stands.nodes a.at (within_over a)).kernel g.server a.known
 
-over_queue : (b : Boot) (w : WorldState) (pt : Point) (l : Placed) (h : History) (p : Pid) (a : OverAt pt.view p) → IsOfHome b w pt l h p
-    → world.queue_of pt.kernel.machines w p ≡ rule.queue_at pt.view p (first_with rule.standing_of pt.view p pt.kernel.machines)
-over_queue b w pt l h p a g =
-    let below = within_over b pt p a g.run in
-    queue_by b w pt l h p a.at g below a.others
-    ∙ (ap (λ (r : Option machine.KernelKnown). lines_in (record_queue p r)) (over_machine b w pt l h p a g).is
-    ∙ ap (rule.queue_at pt.view p) (sym (with_at pt p a.at below a.others ∙ ap (λ (k : Known). stood_at a.at (rule.standing_of k)) a.known)))
+  over_said : (a : OverAt pt.view p) → world.process_lines pt.kernel.machines w p ≡ rule.process_lines pt p (pt.kernel.processes p)
+  over_said a =
+      let e = over_machine a in
+      ap (λ (o : Option (List EndLine)). lines_in (or o (first_awaited pt.kernel.machines w p))) (had_at a.at (within_over a) a.others ∙ ap (record_lines a.at p) e.1)
+      ∙ ap (rule.process_lines pt p) (sym (ended_is (pt.kernel.processes p) e.0 e.2))
 
--- a process that comes: nobody has it
-none_has : (pt : Point) (p : Pid) (a : ComesTo pt.view p) (m : ℕ) → is_silent (pt.view.known m p) ≡ true
-none_has pt p a m = grind (arith, nat_tests)
+  over_queue : (a : OverAt pt.view p) → world.queue_of pt.kernel.machines w p ≡ rule.queue_at pt.view p (first_with rule.standing_of pt.view p pt.kernel.machines)
+  over_queue a =
+      let below = within_over a in
+      queue_by a.at below a.others
+      ∙ (ap (λ (r : Option machine.KernelKnown). lines_in (record_queue p r)) (over_machine a).1
+      ∙ ap (rule.queue_at pt.view p) (sym (with_at a.at below a.others ∙ ap (λ (k : Known). stood_at a.at (rule.standing_of k)) a.known)))
 
-to_machine : (b : Boot) (w : WorldState) (pt : Point) (l : Placed) (h : History) (p : Pid) (a : ComesTo pt.view p) → IsOfHome b w pt l h p → IsComing l p (pt.view.held a.to p) ((w.nodes a.to).kernel.records p)
-to_machine b w pt l h p a g =
-    is_coming pt l p (pt.view.queue a.to p) (pt.view.held a.to p) a.from ((w.nodes a.to).kernel.records p)
-    (subst (λ (k : Known). KnownStands pt l p (pt.view.queue a.to p) (pt.view.held a.to p) k ((w.nodes a.to).kernel.records p)) a.known (knows_ b w pt l h p a.to g (within_to b pt p a g.run)))
+  to_machine : (a : ComesTo pt.view p) → Recorded pt l p (pt.view.queue a.to p) (pt.view.held a.to p) (Incoming a.from) ((w.nodes a.to).kernel.records p)
+  to_machine a = recorded b pt l a.to (w.nodes a.to).kernel p (Incoming a.from) (g.stands.nodes a.to (within_to a)).kernel g.server a.known
 
--- all of it has come
-all_come : (b : Boot) (w : WorldState) (pt : Point) (l : Placed) (h : History) (p : Pid) (a : ComesTo pt.view p) (g : IsOfHome b w pt l h p) (c : Arrival) → (w.nodes a.to).kernel.records p ≡ Some (Record.Incoming c) → c.wanted ≡ Nothing
-all_come b w pt l h p a g c is =
-    let told = a.token.told in
-    let t = g.stands.tokens p a.id (record { kind = MessageKind.Restart; receiver = pid_of a.to 0; about = About.Of p }) a.token.spot told refl refl a.token.stands in
-    let m = t.message in
-    let none : plain_what m.what ≡ None = carried_own p t.process (l.notes p) (pt.view.asked p) (incoming_of ((w.nodes a.to).kernel.records p)) m.what t.carries in
-    let own = g.stands.own a.id m t.is (ap (with_what m) none) in
-    let same : told_of m ≡ record { kind = MessageKind.Restart; receiver = pid_of a.to 0; about = About.Of p } = some_same (told_of m) (record { kind = MessageKind.Restart; receiver = pid_of a.to 0; about = About.Of p }) (sym own.told ∙ told) in
-    subst (λ (o : Option machine.KernelKnown). Wants (incoming_of o) Nothing) is
-    (restart_wants p t.process (l.notes p) (pt.view.asked p) (incoming_of ((w.nodes a.to).kernel.records p)) m.what (ap (λ (x : Told). x.kind) same) t.carries)
+  -- all of it has come
+  all_come : (a : ComesTo pt.view p) (c : Arrival) → (w.nodes a.to).kernel.records p ≡ Some (Record.Incoming c) → c.wanted ≡ Nothing
+  all_come a c is =
+      let told = a.token.told in
+      let t = g.stands.tokens p a.id (record { kind = MessageKind.Restart; receiver = pid_of a.to 0; about = About.Of p }) a.token.spot told refl refl a.token.stands in
+      let m = t.message in
+      let own = g.stands.own a.id m t.is (ap (with_what m) (carried_own p t.process (l.notes p) (pt.view.asked p) (incoming_of ((w.nodes a.to).kernel.records p)) m.what t.carries)) in
+      let same : told_of m ≡ record { kind = MessageKind.Restart; receiver = pid_of a.to 0; about = About.Of p } = some_same (told_of m) (record { kind = MessageKind.Restart; receiver = pid_of a.to 0; about = About.Of p }) (sym own.told ∙ told) in
+      subst (λ (o : Option machine.KernelKnown). Wants (incoming_of o) Nothing) is
+      (restart_wants p t.process (l.notes p) (pt.view.asked p) (incoming_of ((w.nodes a.to).kernel.records p)) m.what (ap (λ (x : Told). x.kind) same) t.carries)
 
-to_said : (b : Boot) (w : WorldState) (pt : Point) (l : Placed) (h : History) (p : Pid) (a : ComesTo pt.view p) → IsOfHome b w pt l h p → world.process_lines pt.kernel.machines w p ≡ rule.process_lines pt p (pt.kernel.processes p)
-to_said b w pt l h p a g =
-    let below = within_to b pt p a g.run in
-    let n = pt.kernel.machines in
-    let i = to_machine b w pt l h p a g in
-    let c = i.arrival in
-    let x = i.comes.process in
-    let there_ = i.comes.there in
-    let f : ℕ → Option (List EndLine) = λ m. record_lines m p ((w.nodes m).kernel.records p) in
-    let v : ℕ → Option (List EndLine) = λ m. awaited_lines m p ((w.nodes m).kernel.records p) in
-    let had : first_had n w p ≡ None = first_none (first_says f) f n refl (λ m. refl) (λ m less. silent_machine b w pt l h p m g (none_has pt p a m) less) in
-    let awaited : first_awaited n w p ≡ Some (alive_lines a.to p Standing.Arriving (moved x)) =
-    first_at (first_says v) v a.to n refl (λ m. refl) below (λ m less apart. away_machine b w pt l h p m g (a.others m apart) less)
-    ∙ (ap (awaited_lines a.to p) i.is ∙ ap (come_lines a.to p) (come_all l p (pt.view.held a.to p) c i.comes (all_come b w pt l h p a g c i.is))) in
-    let places = g.stands.mirrors.places.process p x there_ in
-    let there : Option Stood = Some (record { at = a.to; standing = Standing.Arriving }) in
-    let has : first_with rule.standing_of pt.view p n ≡ None =
-    first_none (first_with rule.standing_of pt.view p) (λ m. stood_at m (rule.standing_of (pt.view.known m p))) n refl (λ m. refl) (λ m less. ap (stood_at m) (silent_has (pt.view.known m p) (none_has pt p a m))) in
-    let awaits : first_with rule.awaits pt.view p n ≡ there =
-    first_at (first_with rule.awaits pt.view p) (λ m. stood_at m (rule.awaits (pt.view.known m p))) a.to n refl (λ m. refl) below (λ m less apart. ap (stood_at m) (away_awaits (pt.view.known m p) (a.others m apart)))
-    ∙ ap (λ (k : Known). stood_at a.to (rule.awaits k)) a.known in
-    let stood : rule.stood pt.view p n ≡ there = ap (λ (o : Option Stood). or o (first_with rule.awaits pt.view p n)) has ∙ awaits in
-    ap (λ (o : Option (List EndLine)). lines_in (or o (first_awaited n w p))) had
-    ∙ (ap lines_in awaited
-    ∙ (alive_same pt.addresses a.to p Standing.Arriving (moved x) places.slots
-    ∙ (ap (rule.alive_lines pt.addresses p (plain_process x)) (sym stood) ∙ ap (rule.process_lines pt p) (sym (alive_of b w pt l h p x g there_)))))
+  to_said : (a : ComesTo pt.view p) → world.process_lines pt.kernel.machines w p ≡ rule.process_lines pt p (pt.kernel.processes p)
+  to_said a =
+      let below = within_to a in
+      let n = pt.kernel.machines in
+      let (c, is, comes) = to_machine a in
+      let x = comes.process in
+      let there_ = comes.there in
+      let f : ℕ → Option (List EndLine) = λ m. record_lines m p ((w.nodes m).kernel.records p) in
+      let v : ℕ → Option (List EndLine) = λ m. awaited_lines m p ((w.nodes m).kernel.records p) in
+      let had : first_had n w p ≡ None = first_none (first_says f) f n refl (λ m. refl) (λ m less. silent_machine m (none_has pt.view p a m) less) in
+      let awaited : first_awaited n w p ≡ Some (alive_lines a.to p Standing.Arriving (moved x)) =
+      first_at (first_says v) v a.to n refl (λ m. refl) below (λ m less apart. away_machine m (a.others m apart) less)
+      ∙ (ap (awaited_lines a.to p) is ∙ ap (come_lines a.to p) (come_all l p (pt.view.held a.to p) c comes (all_come a c is))) in
+      let there : Option Stood = Some (record { at = a.to; standing = Standing.Arriving }) in
+      let has : first_with rule.standing_of pt.view p n ≡ None =
+      first_none (first_with rule.standing_of pt.view p) (λ m. stood_at m (rule.standing_of (pt.view.known m p))) n refl (λ m. refl) (λ m less. ap (stood_at m) (silent_has (pt.view.known m p) (none_has pt.view p a m))) in
+      let awaits : first_with rule.awaits pt.view p n ≡ there =
+      first_at (first_with rule.awaits pt.view p) (λ m. stood_at m (rule.awaits (pt.view.known m p))) a.to n refl (λ m. refl) below (λ m less apart. ap (stood_at m) (away_awaits (pt.view.known m p) (a.others m apart)))
+      ∙ ap (λ (k : Known). stood_at a.to (rule.awaits k)) a.known in
+      let stood : rule.stood pt.view p n ≡ there = ap (λ (o : Option Stood). or o (first_with rule.awaits pt.view p n)) has ∙ awaits in
+      ap (λ (o : Option (List EndLine)). lines_in (or o (first_awaited n w p))) had
+      ∙ (ap lines_in awaited
+      ∙ (alive_same pt.addresses a.to p Standing.Arriving (moved x) (g.stands.mirrors.places.process p x there_).slots
+      ∙ (ap (rule.alive_lines pt.addresses p (plain_process x)) (sym stood) ∙ ap (rule.process_lines pt p) (sym (alive_of x there_)))))
 
-to_queue : (b : Boot) (w : WorldState) (pt : Point) (l : Placed) (h : History) (p : Pid) (a : ComesTo pt.view p) → IsOfHome b w pt l h p
-    → world.queue_of pt.kernel.machines w p ≡ rule.queue_at pt.view p (first_with rule.standing_of pt.view p pt.kernel.machines)
-to_queue b w pt l h p a g =
-    let n = pt.kernel.machines in
-    let f : ℕ → Option (List EndLine) = λ m. record_queue p ((w.nodes m).kernel.records p) in
-    let has : first_with rule.standing_of pt.view p n ≡ None =
-    first_none (first_with rule.standing_of pt.view p) (λ m. stood_at m (rule.standing_of (pt.view.known m p))) n refl (λ m. refl) (λ m less. ap (stood_at m) (silent_has (pt.view.known m p) (none_has pt p a m))) in
-    ap lines_in (first_none (first_says f) f n refl (λ m. refl) (λ m less. no_queue b w pt l h p m g (none_has pt p a m) less)) ∙ ap (rule.queue_at pt.view p) (sym has)
+  to_queue : (a : ComesTo pt.view p) → world.queue_of pt.kernel.machines w p ≡ rule.queue_at pt.view p (first_with rule.standing_of pt.view p pt.kernel.machines)
+  to_queue a =
+      let n = pt.kernel.machines in
+      let f : ℕ → Option (List EndLine) = λ m. record_queue p ((w.nodes m).kernel.records p) in
+      let has : first_with rule.standing_of pt.view p n ≡ None =
+      first_none (first_with rule.standing_of pt.view p) (λ m. stood_at m (rule.standing_of (pt.view.known m p))) n refl (λ m. refl) (λ m less. ap (stood_at m) (silent_has (pt.view.known m p) (none_has pt.view p a m))) in
+      ap lines_in (first_none (first_says f) f n refl (λ m. refl) (λ m less. no_queue m (none_has pt.view p a m) less)) ∙ ap (rule.queue_at pt.view p) (sym has)
 
--- each process that was made is somewhere
-somewhere : (b : Boot) (w : WorldState) (pt : Point) (l : Placed) (h : History) (p : Pid) → IsOfHome b w pt l h p → is_some (pt.kernel.processes p) ≡ true → HasIt pt.view p ⊎ (OverAt pt.view p ⊎ ComesTo pt.view p)
-somewhere b w pt l h p g made =
-    let phases = g.run.based.phased.phases in
-    where_is pt.view p (phases.of p) (phases.each p) (not_true (is_due (phases.of p)) (λ e. let f : None ≡ Some p = phases.put p e in cc)) (g.run.based.known.home p g.server made)
+  -- each process that was made is somewhere
+  somewhere : is_some (pt.kernel.processes p) ≡ true → HasIt pt.view p ⊎ (OverAt pt.view p ⊎ ComesTo pt.view p)
+  somewhere made =
+      let phases = g.run.based.phased.phases in
+      where_is pt.view p (phases.of p) (phases.each p) (not_true (is_due (phases.of p)) (λ e. let f : None ≡ Some p = phases.put p e in cc)) (g.run.based.known.home p g.server made)
 
-pub process_said : (b : Boot) (w : WorldState) (pt : Point) (l : Placed) (h : History) (p : Pid) → IsOfHome b w pt l h p → is_some (pt.kernel.processes p) ≡ true → world.process_lines pt.kernel.machines w p ≡ rule.process_lines pt p (pt.kernel.processes p)
-process_said b w pt l h p g made = elim (somewhere b w pt l h p g made) [
-  | inl a ↦ has_said b w pt l h p a g
-  | inr c ↦ elim c [ inl a ↦ over_said b w pt l h p a g | inr a ↦ to_said b w pt l h p a g ]
-]
+  pub process_said : is_some (pt.kernel.processes p) ≡ true → world.process_lines pt.kernel.machines w p ≡ rule.process_lines pt p (pt.kernel.processes p)
+  process_said made = elim (somewhere made) [
+    | inl a ↦ has_said a
+    | inr c ↦ elim c [ inl a ↦ over_said a | inr a ↦ to_said a ]
+  ]
 
-pub queue_said : (b : Boot) (w : WorldState) (pt : Point) (l : Placed) (h : History) (p : Pid) → IsOfHome b w pt l h p → is_some (pt.kernel.processes p) ≡ true
-    → world.queue_of pt.kernel.machines w p ≡ rule.queue_at pt.view p (first_with rule.standing_of pt.view p pt.kernel.machines)
-queue_said b w pt l h p g made = elim (somewhere b w pt l h p g made) [
-  | inl a ↦ has_queue b w pt l h p a g
-  | inr c ↦ elim c [ inl a ↦ over_queue b w pt l h p a g | inr a ↦ to_queue b w pt l h p a g ]
-]
+  pub queue_said : is_some (pt.kernel.processes p) ≡ true → world.queue_of pt.kernel.machines w p ≡ rule.queue_at pt.view p (first_with rule.standing_of pt.view p pt.kernel.machines)
+  queue_said made = elim (somewhere made) [
+    | inl a ↦ has_queue a
+    | inr c ↦ elim c [ inl a ↦ over_queue a | inr a ↦ to_queue a ]
+  ]
 
--- what a machine holds for it
-pub holding_said : (b : Boot) (w : WorldState) (pt : Point) (l : Placed) (h : History) (p : Pid) (m : ℕ) → IsOfHome b w pt l h p → m < pt.kernel.machines → world.held_line w m p ≡ list_line (EndLine.Holding m p) (pt.view.held m p)
-holding_said b w pt l h p m g below =
-    ap (list_line (EndLine.Holding m p))
-    (held_said pt l p (pt.view.queue m p) (pt.view.held m p) (pt.view.known m p) ((w.nodes m).kernel.records p) (λ i x there. (g.stands.mirrors.places.message i x there).id) (λ e. g.run.based.lists.held m p e) (knows_ b w pt l h p m g below))
+  -- what a machine holds for it
+  pub holding_said : (m : ℕ) → m < pt.kernel.machines → world.held_line w m p ≡ list_line (EndLine.Holding m p) (pt.view.held m p)
+  holding_said m below =
+      ap (list_line (EndLine.Holding m p))
+      (held_said pt l p (pt.view.queue m p) (pt.view.held m p) (pt.view.known m p) ((w.nodes m).kernel.records p) (λ i x there. (g.stands.mirrors.places.message i x there).id) (λ e. g.run.based.lists.held m p e) (knows_ m below))
 
 -- Where the world stands, its lines at the end can be said.
 
@@ -276,8 +248,7 @@ plain_end : (l : Placed) (o : Option Servers) → o ≡ servers_at l 0 → lengt
 plain_end l None is few lawful = cc
 plain_end l (Some v) is few lawful =
     let same : v ≡ record { board = l.board; manager = l.manager } = cc in
-    let many : length v.manager.children ≡ length l.manager.children = ap (λ (x : Servers). length x.manager.children) same in
-    record { board = lawful.board; children = omega (arith, many, few) }
+    record { board = lawful.board; children = omega (arith, (ap (λ (x : Servers). length x.manager.children) same), few) }
 
 -- where no pair counts more messages than it may, no count is too great
 abbrev pub FewAlways : Type 0

@@ -189,13 +189,6 @@ restart_comes s x e = grind (arith, nat_tests)
 pub off : (a m : ℕ) → m ≢ a → (a == m) ≡ false
 off a m apart = grind (arith, nat_tests)
 
--- by the phase
-rests_has : (v : View) (p : Pid) (at : ℕ) → IsIn v p (Rests at) → HasIt v p
-rests_has v p at h = record { at = at; standing = Standing.Here; known = grind (arith, nat_tests); others = λ m apart. grind (arith, nat_tests) }
-
-over_has : (v : View) (p : Pid) (at : ℕ) → IsIn v p (Over at) → OverAt v p
-over_has v p at h = record { at = at; known = grind (arith, nat_tests); others = λ m apart. grind (arith, nat_tests) }
-
 other_silent : (k : MessageKind) (s : ℕ) (x : Known) (c : Bool) → (if c then kind_comes k s x else is_away x) ≡ true → is_silent x ≡ true
 other_silent k s x c e = grind (arith, nat_tests)
 
@@ -215,10 +208,11 @@ restart_to v p s d id h =
     let (from, is) = restart_comes s (v.known d p) (grind (arith, nat_tests, eq_self)) in
     record { source = s; to = d; id = id; from = from; known = is; others = λ m other. grind (arith, nat_tests, off); token = h.token }
 
+-- by the phase
 pub where_is : (v : View) (p : Pid) (phase : Phase) → IsIn v p phase → is_due phase ≡ false → v.known p.home p ≢ Unknown → HasIt v p ⊎ (OverAt v p ⊎ ComesTo v p)
 where_is v p Nowhere h put home = absurd (home (grind (arith, nat_tests)))
-where_is v p (Rests at) h put home = inl (rests_has v p at h)
-where_is v p (Over at) h put home = inr (inl (over_has v p at h))
+where_is v p (Rests at) h put home = inl (let e_ : HasIt v p = record { at = at; standing = Standing.Here; known = grind (arith, nat_tests); others = λ m apart. grind (arith, nat_tests) } in e_)
+where_is v p (Over at) h put home = inr (inl (let e_ : OverAt v p = record { at = at; known = grind (arith, nat_tests); others = λ m apart. grind (arith, nat_tests) } in e_))
 where_is v p (Moves k s d None) h put home = absurd (false≢true (sym put))
 where_is v p (Moves k s d (Some id)) h put home = elim (cases_Bool (is_restart k)) [
   | inl last ↦ inr (inr (restart_to v p s d id (subst (λ (x : MessageKind). IsIn v p (Moves x s d (Some id))) (is_it k last) h)))

@@ -1,7 +1,7 @@
 -- A directive to move a process: the manager's message goes to its child, or a line says why none does.
 use Rattle.dm_mirror.proofs.Names.{Child, ◌≡◌, ℕ, ◌+◌, ◌≤◌, ◌==◌, ◌||◌, Bool, true, false, List, [], ◌∷◌, refl, ap, ◌∙◌, sym, subst, inl, inr, arith, if◌then◌else◌, cond, Option, None, Some, Err, cases_Bool, false≢true, nat_tests, Addr}
-use Rattle.dm_mirror.proofs.Names.{Pid, pid_eq, pid_of, place_of, Message, MsgId, What, MessageKind, MoveError, Step, id_of, incoming_of, Boot, manager, switchboard, address_at, child_named, moves_child, tells_to_move, asks_manager}
-use Rattle.dm_mirror.proofs.Names.{asks_move, told_to_move, KernelState, id_eq-same, pid_eq-is, Line, Receiver, Sender, child_number, unmoved, migrates, migrates_child, Point, after, moved, at_machine, Spot, standing, Run, Placed, Mirrors}
+use Rattle.dm_mirror.proofs.Names.{Pid, pid_eq, pid_of, place_of, Message, What, MessageKind, MoveError, Step, id_of, incoming_of, Boot, manager, switchboard, address_at, child_named, moves_child, tells_to_move, asks_manager}
+use Rattle.dm_mirror.proofs.Names.{asks_move, told_to_move, KernelState, id_eq-same, pid_eq-is, Line, Receiver, Sender, child_number, unmoved, migrates, migrates_child, Point, after, moved, at_machine, standing, Run, Placed, Mirrors}
 use Rattle.dm_mirror.proofs.Names.{mirrors_view, child_place, no_child, AllOwnStand, KernelStands, AllRecords, TokensStand, Wants, destination_of, ◌≢◌, ◌&&◌, not, kind_of, plain_what, Known, Unknown, Here, Frozen, Incoming, Forward, Ended}
 use Rattle.dm_mirror.proofs.Names.{is_server, is_fixed, is_place, is_target, own_sort, Part, option_map_or}
 use Rattle.dm_kernel.specs.State.{with_sent}
@@ -27,19 +27,13 @@ pub record Asks (b : Boot) (pt : Point) (l : Placed) (records : AllRecords) (k :
   -- the kernel has counted its own messages as the lines have
   pub counted : k.sent ≡ pt.view.count 0
 
-same_records : (records : AllRecords) (k : KernelState) (n : ℕ) (e : Bool) → records 0 ≡ k.records → (0 == n) ≡ e → (if e then k.records else records n) ≡ records n
-same_records records k n e mine is = grind (arith, nat_tests)
-
-stood : (pt : Point) (p : Pid) (to : ℕ) (i : MsgId) (z : Spot) → 1 ≤ standing (asked_point pt p to).view i z → 1 ≤ standing pt.view i z
-stood pt p to i z least = grind (arith, nat_tests)
-
 tokens_asked : (b : Boot) (pt : Point) (l : Placed) (records : AllRecords) (k : KernelState) (c : Asks b pt l records k) (p : Pid) (to : ℕ) → TokensStand (asked_point pt p to).view l (at_machine records 0 k.records)
 tokens_asked b pt l records k c p to q i t z told between about least =
-    let one = c.tokens q i t z told between about (stood pt p to i z least) in
+    let one = c.tokens q i t z told between about (let e_ : 1 ≤ standing pt.view i z = grind (arith, nat_tests) in e_) in
     let n = destination_of i t in
     search
     (carries_on q one.process (l.notes q) (pt.view.asked q) (incoming_of (records n q)) (incoming_of (at_machine records 0 k.records n q)) one.message.what
-    (λ u w. subst (λ (f : Pid → Option machine.KernelKnown). Wants (incoming_of (f q)) u) (sym (same_records records k n (0 == n) c.mine refl)) w) one.carries)
+    (λ u w. subst (λ (f : Pid → Option machine.KernelKnown). Wants (incoming_of (f q)) u) (sym (let e_ : (if (0 == n) then k.records else records n) ≡ records n = grind (arith, nat_tests, c.mine) in e_)) w) one.carries)
 
 own_asked : (b : Boot) (pt : Point) (l : Placed) (records : AllRecords) (k : KernelState) (c : Asks b pt l records k) (p : Pid) (to : ℕ) → AllOwnStand (asked_point pt p to).view l
 own_asked b pt l records k c p to i x there plain = let o = c.own i x there plain in record { told = o.told; mine = o.mine; sender = o.sender }
@@ -128,14 +122,13 @@ asked_other b pt l records k c p to None found turn is =
     (is ∙ ap (migrates_child pt.addresses p) (no_child pt.kernel pt.view pt.addresses l p c.mirrors found)) refl
 asked_other b pt l records k c p to (Some child) found turn is =
     let (n, number, place) = child_place pt.kernel pt.view pt.addresses l p child c.mirrors found in
-    let who : p ≡ child.pid = sym (named_is l.manager.children p child found) in
     record {
       state = with_sent k;
       says = [];
       routes = Own (move_of k child to) ∷ [];
       late = Nothing;
       turn = turn ∙ ap (λ (o : Option Addr). told_to_move k p (tells_to_move (machine.own_id k) to o)) found;
-      outcome = ap Some (is ∙ ap (migrates_child pt.addresses p) number ∙ (λ i. rule.Owns MessageKind.Migrate (who i) (place i).at ∷ []));
+      outcome = ap Some (is ∙ ap (migrates_child pt.addresses p) number ∙ (λ i. rule.Owns MessageKind.Migrate ((sym (named_is l.manager.children p child found)) i) (place i).at ∷ []));
       next = asked_point pt p to;
       after = refl;
       placed = l;

@@ -1,9 +1,9 @@
 -- A message for a process that has gone on follows it, and its sender may be told.
 use Rattle.dm_mirror.proofs.Names.{◌≡◌, ℕ, ◌+◌, Bool, true, false, List, [], ◌∷◌, map, refl, ap, ◌∙◌, sym, subst, is_some, arith, if◌then◌else◌, Option, None, Some, false≢true, Pid, pid_of, place_of, update_of, Message, MsgId, nat_tests}
-use Rattle.dm_mirror.proofs.Names.{What, Record, Line, MessageKind, id_eq, id_of, kind_of, plain_kind, PlainMessage, plain_message, plain_what, with_what, incoming_of, sent_on, Boot, manager, forwards_and, KernelState, id_eq-same}
+use Rattle.dm_mirror.proofs.Names.{Record, Line, MessageKind, id_eq, id_of, kind_of, plain_kind, PlainMessage, plain_message, plain_what, with_what, incoming_of, sent_on, Boot, manager, forwards_and, KernelState, id_eq-same}
 use Rattle.dm_mirror.proofs.Names.{id_eq-swap, Addresses, Receiver, Sender, is_told_back, unmoved, forwards_on, process_told, Point, moved, at_machine, Queue, Held, About, Known, Forward, forward_about, forwarded_for, handled, own_id}
 use Rattle.dm_mirror.proofs.Names.{receiver_of, is_fixed, Run, Placed, Mirrors, free_off, plain_sent_on, forwarded_mirrors, moves_forwarded, update_gets, parts, mirrors_view, AllOwnStand, OwnStands, KnownStands, AllRecords, Wants, ◌++◌}
-use Rattle.dm_mirror.proofs.Names.{Wanted, Arrival, Departure, with_known, pid_eq-is, at_record, times, Frozen, Incoming, AreMessages, ComesStand, LeavesStand, is_server, Part}
+use Rattle.dm_mirror.proofs.Names.{Wanted, Arrival, with_known, pid_eq-is, at_record, times, Frozen, Incoming, is_server, Part}
 use Rattle.dm_kernel.specs.State.{with_sent}
 use Rattle.dm_rule.specs.Rule.{process_handles}
 use Rattle.dm_places.specs.PlacedStep.{with_message}
@@ -14,14 +14,12 @@ use Rattle.dm_rule.specs.Parts as rule
 use Rattle.dm_migrate.specs.Arrival as arrival
 use Rattle.dm_migrate.specs.Departure as departure
 use Rattle.dm_kernel.specs.Handle as machine_handle
+use Rattle.dm_mirror.proofs.Recorded.{recorded}
 use Rattle.dm_mirror.proofs.Follow.Fronts.{IsProcess, front_still, is_process_of, plain_kinds, Fronts, apart_at, known_on, queue_apart, machine_process, rule_process, set_self, set_other, handled_point, handled_view}
 use Rattle.dm_mirror.proofs.Follow.Fronts.{turns_follow}
+use Rattle.dm_mirror.proofs.Deliver.Moves.{messages_push}
 use Rattle.dm_mirror.proofs.Turning.{AllMayPut, MayOwn, MayPut, On, Own, Route, TurnsAt, begun, owns, part_of, rule_part_of}
 use Rattle.dm_mirror.proofs.Handle.Taking.{held_apart, record_off, record_others}
-
--- of the kernels' own messages only requests to move a process are told back
-own_back : (w : What) → plain_what w ≡ None → is_told_back (kind_of w) ≡ true → kind_of w ≡ MessageKind.Migrate
-own_back w e back = grind (arith, nat_tests)
 
 pub next_untold : (b : Boot) (m : ℕ) (pt : Point) → Run b pt → pt.view.told (id_of (pid_of m 0) (pt.view.count m)) ≡ None
 next_untold b m pt run = run.based.phased.state.numbered m (pt.view.count m) (omega arith)
@@ -41,21 +39,14 @@ next_free b m pt l run mirrors own = let i = id_of (pid_of m 0) (pt.view.count m
 own_free : (b : Boot) (m : ℕ) (pt : Point) (l : Placed) (records : AllRecords) (k : KernelState) (y : Message) (c : Fronts b m pt l records k y) → l.bag (own_id (begun pt m).view) ≡ None
 own_free b m pt l records k y c = next_free b m pt l c.run c.mirrors c.own
 
--- both name it alike
-own_named : (b : Boot) (m : ℕ) (pt : Point) (l : Placed) (records : AllRecords) (k : KernelState) (y : Message) (c : Fronts b m pt l records k y) → machine.own_id k ≡ own_id (begun pt m).view
-own_named b m pt l records k y c = λ i. record { from = pid_of (c.stands.here i) 0; n = c.counted i; answer = false }
-
--- what the machine knows
-forward_of : (pt : Point) (l : Placed) (p : Pid) (queue held_ : List MsgId) (at moves : ℕ) (r : Option machine.KernelKnown) → KnownStands pt l p queue held_ (Forward at moves) r → r ≡ Some (Record.Forward at moves)
-forward_of pt l p queue held_ at moves r h = grind (arith, nat_tests)
-
 -- where the line leads
 abbrev forwarded : Point → ℕ → Message → ℕ → Point
 forwarded pt m y at = moved (begun pt m) (Line.Forwarded y.id at) pt.kernel
 
 -- the sender, as the rule names it
+-- of the kernels' own messages only requests to move a process are told back
 sender_is : (b : Boot) (m : ℕ) (pt : Point) (l : Placed) (records : AllRecords) (k : KernelState) (y : Message) (c : Fronts b m pt l records k y) → plain_what y.what ≡ None → is_told_back (kind_of y.what) ≡ true → manager ≡ y.sender.pid
-sender_is b m pt l records k y c none back = sym ((c.own y.id y c.there (ap (with_what y) none)).sender (own_back y.what none back))
+sender_is b m pt l records k y c none back = sym ((c.own y.id y c.there (ap (with_what y) none)).sender (let e_ : kind_of y.what ≡ MessageKind.Migrate = grind (arith, nat_tests) in e_))
 
 none_of : (y : Message) → plain_message y ≡ None → plain_what y.what ≡ None
 none_of y e = grind (arith, nat_tests)
@@ -87,12 +78,13 @@ outcome_forwards b m pt l records k y c id here at moves back z plain has =
     )
 
 -- the update may be put
+-- both name it alike
 update_may : (b : Boot) (m : ℕ) (pt : Point) (l : Placed) (records all : AllRecords) (k : KernelState) (y : Message) (c : Fronts b m pt l records k y) (at moves : ℕ) → pt.view.known m y.to.pid ≡ Forward at moves → is_told_back (kind_of y.what) ≡ true
     → MayOwn (handled_point pt m y.id pt.view.held (About.Place y.to.pid at moves) (forwarded pt m y at).addresses) (with_message l y.id (Some (sent_on at moves y))) all (update_of y (machine.own_id k) k.here at moves)
 update_may b m pt l records all k y c at moves knows has =
     let start = mirrors_view pt.kernel pt.view (begun pt m).view pt.addresses l refl c.mirrors in
     let own = own_id (begun pt m).view in
-    let named = own_named b m pt l records k y c in
+    let named : machine.own_id k ≡ own_id (begun pt m).view = λ i. record { from = pid_of (c.stands.here i) 0; n = c.counted i; answer = false } in
     let free = own_free b m pt l records k y c in
     let places = update_gets (begun pt m) l y.id y c.told at at moves start c.there c.told_is (ap (pt.view.known m) c.receiver ∙ knows) free (ap is_told_back c.kind ∙ has) in
     let off : id_eq y.id own ≡ false = id_eq-swap y.id own ∙ free_off l own y.id y free c.there in
@@ -132,9 +124,6 @@ sent_is : (k : KernelState) (rest : List Message) (y : Message) (id : MsgId) (he
 sent_is k rest y id here at moves true = record { here = refl; records = refl; ring = refl; made = refl; room = refl; servers = refl; sent = (let e : k.sent + 1 ≡ k.sent + (0 + (1 + 0)) = omega arith in e) }
 sent_is k rest y id here at moves false = record { here = refl; records = refl; ring = refl; made = refl; room = refl; servers = refl; sent = (let e : k.sent ≡ k.sent + (0 + 0) = omega arith in e) }
 
-inbox_is : (k : KernelState) (rest : List Message) (back : Bool) → (sent_by (record k { inbox = rest }) back).inbox ≡ rest
-inbox_is k rest back = grind (arith, nat_tests)
-
 forward_row : (b : Boot) (m : ℕ) (pt : Point) (l : Placed) (records : AllRecords) (k : KernelState) (y : Message) (c : Fronts b m pt l records k y) (at moves : ℕ) (back : Bool) → IsProcess y.to.pid → pt.view.known m y.to.pid ≡ Forward at moves → is_told_back (kind_of y.what) ≡ back → TurnsAt b m pt l records k
 forward_row b m pt l records k y c at moves back is knows has =
     let p = y.to.pid in
@@ -144,7 +133,7 @@ forward_row b m pt l records k y c at moves back is knows has =
     let topic = About.Place p at moves in
     let next = forwarded pt m y at in
     let placed = with_message l y.id (Some (sent_on at moves y)) in
-    let r = forward_of pt l p (pt.view.queue m p) (pt.view.held m p) at moves (k.records p) (subst (λ (j : Known). KnownStands pt l p (pt.view.queue m p) (pt.view.held m p) j (k.records p)) knows (c.stands.known p is.server)) in
+    let r = recorded b pt l m k p (Forward at moves) c.stands is.server knows in
     let out = outcome_forwards b m pt l records k y c (machine.own_id k) k.here at moves back (plain_message y) refl has in
     let start = mirrors_view pt.kernel pt.view (begun pt m).view pt.addresses l refl c.mirrors in
     let gone = forwarded_mirrors (begun pt m) l y.id y c.told at at moves start c.there c.told_is (ap (pt.view.known m) c.receiver ∙ knows) (own_free b m pt l records k y c) in
@@ -176,7 +165,7 @@ forward_row b m pt l records k y c at moves back is knows has =
           (λ j least. bag_off j (apart_at b m pt l records k y c (Queue m p) j (queue_apart m m p) least)) (λ j least. bag_off j (apart_at b m pt l records k y c (Held m p) j (held_apart m m p) least)) (c.stands.known p server));
       still = front_still b m pt l records k y c is.number;
       may = all_may b m pt l records (at_machine records m state.records) k y c at moves back is knows has;
-      leaves = search (bag_off, same.here, kept, same.ring, inbox_is k c.rest back, same.made, same.room, same.servers ∙ c.stands.servers, wants);
+      leaves = search (bag_off, same.here, kept, same.ring, (let e_ : (sent_by (record k { inbox = c.rest }) back).inbox ≡ c.rest = grind (arith, nat_tests) in e_), same.made, same.room, same.servers ∙ c.stands.servers, wants);
     })
 
 -- where the process has gone on
@@ -184,18 +173,6 @@ pub forwards_turn : (b : Boot) (m : ℕ) (pt : Point) (l : Placed) (records : Al
 forwards_turn b m pt l records k y c at moves fixed knows = forward_row b m pt l records k y c at moves (is_told_back (kind_of y.what)) (is_process_of y.to.pid fixed) knows refl
 
 -- A message for a process that leaves a machine or comes to it is held there.
-
--- a list with one message more
-map_both : (f : MsgId → Option Message) (is js : List MsgId) → map f (is ++ js) ≡ map f is ++ map f js
-map_both f [] js = refl
-map_both f (i ∷ is) js = ap (λ (xs : List (Option Message)). f i ∷ xs) (map_both f is js)
-
-some_both : (xs ys : List Message) → map Some (xs ++ ys) ≡ map Some xs ++ map Some ys
-some_both [] ys = refl
-some_both (x ∷ xs) ys = ap (λ (os : List (Option Message)). Some x ∷ os) (some_both xs ys)
-
-pub are_more : (bag : MsgId → Option Message) (is : List MsgId) (ms : List Message) (i : MsgId) (y : Message) → AreMessages bag is ms → bag i ≡ Some y → AreMessages bag (is ++ i ∷ []) (ms ++ y ∷ [])
-are_more bag is ms i y e there = map_both bag is (i ∷ []) ∙ (λ j. e j ++ there j ∷ []) ∙ sym (some_both ms (y ∷ []))
 
 times_other : (i j : MsgId) (is : List MsgId) → id_eq i j ≡ false → times i (is ++ j ∷ []) ≡ times i is
 times_other i j [] off = ap (λ (c : Bool). (if c then 1 else 0) + 0) off
@@ -245,43 +222,20 @@ held_row b m pt l records k y c w r new is knows there turn bag own known wants 
       leaves = search (record_off, record_others, more, set_other, c.stands.servers, keeps, asked);
     })
 
--- what the machine has of a process that leaves, or comes
-record Leaves (l : Placed) (p : Pid) (queue held_ : List MsgId) (to : ℕ) (r : Option machine.KernelKnown) : Type 0 where
-  leaving : Departure
-  is : r ≡ Some (Record.Frozen leaving)
-  stands : LeavesStand l p queue held_ to leaving
-
-leaves_of : (pt : Point) (l : Placed) (p : Pid) (queue held_ : List MsgId) (to : ℕ) (r : Option machine.KernelKnown) → KnownStands pt l p queue held_ (Frozen to) r → Leaves l p queue held_ to r
-leaves_of pt l p queue held_ to (Some (Record.Frozen d)) h = record { leaving = d; is = refl; stands = h }
-leaves_of pt l p queue held_ to r h = absurd h
-
-record Comes (l : Placed) (p : Pid) (held_ : List MsgId) (r : Option machine.KernelKnown) : Type 0 where
-  arriving : Arrival
-  is : r ≡ Some (Record.Incoming arriving)
-  stands : ComesStand l p held_ arriving
-
-comes_of : (pt : Point) (l : Placed) (p : Pid) (queue held_ : List MsgId) (from : ℕ) (r : Option machine.KernelKnown) → KnownStands pt l p queue held_ (Incoming from) r → Comes l p held_ r
-comes_of pt l p queue held_ from (Some (Record.Incoming a)) h = record { arriving = a; is = refl; stands = h }
-comes_of pt l p queue held_ from r h = absurd h
-
 -- held where the process leaves
 pub held_leaving : (b : Boot) (m : ℕ) (pt : Point) (l : Placed) (records : AllRecords) (k : KernelState) (y : Message) (c : Fronts b m pt l records k y) (to : ℕ) → is_fixed y.to.pid ≡ false → pt.view.known m y.to.pid ≡ Frozen to → TurnsAt b m pt l records k
 held_leaving b m pt l records k y c to fixed knows =
     let p = y.to.pid in
     let is = is_process_of p fixed in
-    let leave = leaves_of pt l p (pt.view.queue m p) (pt.view.held m p) to (k.records p) (subst (λ (j : Known). KnownStands pt l p (pt.view.queue m p) (pt.view.held m p) j (k.records p)) knows (c.stands.known p is.server)) in
-    let d = leave.leaving in
-    let s = leave.stands in
-    held_row b m pt l records k y c (Frozen to) (Record.Frozen d) (Record.Frozen (departure.with_held d y)) is knows leave.is refl (λ x. refl) refl
-    (record { to = s.to; asker = s.asker; here = s.here; held = are_more l.bag (pt.view.held m p) d.held y.id y s.held c.there; whole = s.whole }) (λ u h. h)
+    let (d, there, s) = recorded b pt l m k p (Frozen to) c.stands is.server knows in
+    held_row b m pt l records k y c (Frozen to) (Record.Frozen d) (Record.Frozen (departure.with_held d y)) is knows there refl (λ x. refl) refl
+    (record { to = s.to; asker = s.asker; here = s.here; held = messages_push l.bag (pt.view.held m p) d.held y.id y s.held c.there; whole = s.whole }) (λ u h. h)
 
 -- held where it comes
 pub held_coming : (b : Boot) (m : ℕ) (pt : Point) (l : Placed) (records : AllRecords) (k : KernelState) (y : Message) (c : Fronts b m pt l records k y) (from : ℕ) → is_fixed y.to.pid ≡ false → pt.view.known m y.to.pid ≡ Incoming from → TurnsAt b m pt l records k
 held_coming b m pt l records k y c from fixed knows =
     let p = y.to.pid in
     let is = is_process_of p fixed in
-    let come = comes_of pt l p (pt.view.queue m p) (pt.view.held m p) from (k.records p) (subst (λ (j : Known). KnownStands pt l p (pt.view.queue m p) (pt.view.held m p) j (k.records p)) knows (c.stands.known p is.server)) in
-    let a = come.arriving in
-    let s = come.stands in
-    held_row b m pt l records k y c (Incoming from) (Record.Incoming a) (Record.Incoming (arrival.with_held a y)) is knows come.is refl (λ x. refl) refl
-    (record { process = s.process; there = s.there; whole = s.whole; pieces = ap (λ (z : Arrival). arrival.with_held z y) s.pieces; held = are_more l.bag (pt.view.held m p) a.held y.id y s.held c.there }) (λ u h. h)
+    let (a, there, s) = recorded b pt l m k p (Incoming from) c.stands is.server knows in
+    held_row b m pt l records k y c (Incoming from) (Record.Incoming a) (Record.Incoming (arrival.with_held a y)) is knows there refl (λ x. refl) refl
+    (record { process = s.process; there = s.there; whole = s.whole; pieces = ap (λ (z : Arrival). arrival.with_held z y) s.pieces; held = messages_push l.bag (pt.view.held m p) a.held y.id y s.held c.there }) (λ u h. h)

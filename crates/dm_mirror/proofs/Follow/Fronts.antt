@@ -1,13 +1,14 @@
 -- The kernel of a machine still stands where the message at its front is held, goes on or makes links follow.
-use Rattle.dm_mirror.proofs.Names.{◌≡◌, ℕ, ◌≤◌, ◌<◌, ◌==◌, ◌||◌, Bool, true, false, List, [], ◌∷◌, map, refl, ap, ◌∙◌, sym, subst, Option, None, Some, false≢true, Pid, pid_eq, MsgId, Message, What, MessageKind, kind_of, plain_kind}
+use Rattle.dm_mirror.proofs.Names.{◌≡◌, ℕ, ◌≤◌, ◌<◌, ◌==◌, Bool, true, false, List, [], ◌∷◌, map, refl, ap, ◌∙◌, sym, subst, Option, None, Some, false≢true, Pid, pid_eq, MsgId, Message, What, MessageKind, kind_of, plain_kind}
 use Rattle.dm_mirror.proofs.Names.{PlainMessage, PlainWhat, plain_message, plain_what, with_what, Boot, switchboard, manager, bind, KernelState, is_between, Point, Inbox, times, standing, About, Told, is_server, is_fixed, OwnTold, own_sort}
 use Rattle.dm_mirror.proofs.Names.{Run, Placed, Mirrors, parts, AllOwnStand, told_of, AreMessages, KernelStands, AllRecords, TokensStand, told_there, ◌≢◌, ◌+◌, inl, inr, arith, if◌then◌else◌, cases_Bool, nat_tests, id_eq, id_eq-is}
 use Rattle.dm_mirror.proofs.Names.{id_eq-same, at_machine, without_front, Spot, Held, StandsOnce, StandsOutside, StandsRight, Known, is_kernels, stands_right, once_at, KnownStands, with_record, handles, Turned, pid_eq-same, process_told}
-use Rattle.dm_mirror.proofs.Names.{comes_to, not, ◌++◌, slice_get, Process, incoming_of, Taken, Wanted, Arrival, room_of, turns, pid_eq-is, Line, Addresses, after, after_line, taken_at, Queue, Of, View, handled, OwnStands, RoomStands}
+use Rattle.dm_mirror.proofs.Names.{comes_to, not, slice_get, Process, incoming_of, Taken, Wanted, Arrival, room_of, turns, pid_eq-is, Line, Addresses, after, after_line, taken_at, Queue, Of, View, handled, OwnStands, RoomStands}
 use Rattle.dm_mirror.proofs.Names.{servers_at, Carries, Wants, destination_of, Part, Asker}
 pub use Rattle.dm_rulelaws.proofs.Goes.Turns.{times_self, times_more}
 pub use Rattle.dm_rule.proofs.Lines.{eq_self, at_machine_at as machine_self}
 pub use Rattle.dm_rulelaws.proofs.Goes.Always.{queue_apart}
+pub use Rattle.dm_mirror.proofs.Names.{append-nil as append_none}
 use Rattle.dm_rule.specs.Rule.{process_handles}
 use Rattle.dm_kernel.specs.State as machine
 use Rattle.dm_kernel.specs.Handle as machine_handle
@@ -66,8 +67,7 @@ apart_at b m pt l records k y c s j off least =
 pub apart_behind : (b : Boot) (m : ℕ) (pt : Point) (l : Placed) (records : AllRecords) (k : KernelState) (y : Message) (c : Fronts b m pt l records k y) (j : MsgId) → 1 ≤ times j c.ids → id_eq y.id j ≡ false
 apart_behind b m pt l records k y c j least =
     let is : times y.id (y.id ∷ c.ids) ≡ 1 = ap (times y.id) (sym c.box) ∙ (stands_once b pt y.id (Inbox m) c.run (at_front b m pt l records k y c)).0 in
-    let self : times y.id (y.id ∷ c.ids) ≡ 1 + times y.id c.ids = ap (λ (d : Bool). (if d then 1 else 0) + times y.id c.ids) (id_eq-same y.id) in
-    not_it y.id j (λ (i : MsgId). times i c.ids) (omega (arith, is, self)) least
+    not_it y.id j (λ (i : MsgId). times i c.ids) (omega (arith, is, (ap (λ (d : Bool). (if d then 1 else 0) + times y.id c.ids) (id_eq-same y.id)))) least
 
 -- the inbox behind its front
 pub front_gone : (i : MsgId) (is xs : List MsgId) → xs ≡ i ∷ is → without_front i xs ≡ is
@@ -89,14 +89,8 @@ pub record IsProcess (p : Pid) : Type 0 where
   pub manager_ : pid_eq p manager ≡ false
   pub server : is_server p ≡ false
 
-neither : (a b : Bool) → (a || b) ≡ false → (a ≡ false) × (b ≡ false)
-neither a b e = grind (arith, nat_tests)
-
 pub is_process_of : (p : Pid) → is_fixed p ≡ false → IsProcess p
-is_process_of p e =
-    let first = neither (p.num == 0) (is_server p) e in
-    let second = neither (pid_eq p switchboard) (pid_eq p manager) first.1 in
-    record { number = first.0; board = second.0; manager_ = second.1; server = first.1 }
+is_process_of p e = record { number = grind (arith, nat_tests); board = grind (arith, nat_tests); manager_ = grind (arith, nat_tests); server = grind (arith, nat_tests) }
 
 -- what the bag without places has of it
 pub plain_there : (b : Boot) (m : ℕ) (pt : Point) (l : Placed) (records : AllRecords) (k : KernelState) (y : Message) (c : Fronts b m pt l records k y) → pt.kernel.bag y.id ≡ plain_message y
@@ -140,8 +134,7 @@ fronted_by b m pt l records k i is (y ∷ rest) below run own_told mirrors stand
     let name : y.id ≡ i = (mirrors.places.message i y there).id in
     let there_ : l.bag y.id ≡ Some y = ap l.bag name ∙ there in
     let box_ : pt.view.inbox m ≡ y.id ∷ is = box ∙ ap (λ (j : MsgId). j ∷ is) (sym name) in
-    let least : 1 ≤ standing pt.view y.id (Inbox m) = subst (λ (z : List MsgId). 1 ≤ times y.id z) (sym box_) (times_self y.id is) in
-    let t = was_told b m pt l y (plain_message y) run mirrors own there_ least refl in
+    let t = was_told b m pt l y (plain_message y) run mirrors own there_ (subst (λ (z : List MsgId). 1 ≤ times y.id z) (sym box_) (times_self y.id is)) refl in
     record {
       message = y;
       fronts = record {
@@ -268,10 +261,6 @@ pub record Follows (b : Boot) (m : ℕ) (pt : Point) (l : Placed) (records : All
   pub still : is_between (kind_of y.what) ≡ false
   pub may : AllMayPut (handled_point pt m y.id held topic addresses) placed (at_machine records m state.records) routes
   pub leaves : FollowLeaves m pt l k c.rest y.id process held placed state
-
-pub append_none : {X : Type 0} (xs : List X) → xs ++ [] ≡ xs
-append_none [] = refl
-append_none (x ∷ xs) = ap (λ (ys : List _). x ∷ ys) (append_none xs)
 
 pub elsewhere_apart : (m : ℕ) (s : Spot) → is_elsewhere m s ≡ true → s ≢ Inbox m
 elsewhere_apart m s is e = false≢true (sym (ap not (eq_self m)) ∙ ap (is_elsewhere m) (sym e) ∙ is)

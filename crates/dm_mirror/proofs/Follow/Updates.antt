@@ -3,9 +3,10 @@ use Rattle.dm_mirror.proofs.Names.{◌≡◌, ◌≢◌, ℕ, ◌+◌, ◌≤◌
 use Rattle.dm_mirror.proofs.Names.{slot_is_behind, applied, Message, MsgId, What, Record, Line, kind_of, plain_message, plain_what, with_what, Process, incoming_of, named_is_behind, pending_is_behind, Boot, switchboard, manager, Life}
 use Rattle.dm_mirror.proofs.Names.{Servers, handles, KernelState, with_here, pid_eq-same, place_told, behind_count, told_here, told_server, updates, Phase, Rests, is_away, is_between, is_here, knows, token_in, Point, moved, comes_to, hears}
 use Rattle.dm_mirror.proofs.Names.{Inbox, Spot, standing, Known, Here, Of, Told, rests_here, is_fixed, Run, Placed, Mirrors, mirrors_view, board_told, manager_told, updated_board_mirrors, updated_manager_mirrors, updated_mirrors}
-use Rattle.dm_mirror.proofs.Names.{updated_board_count, updated_count, updated_manager_count, about_of, told_of, HereStands, KnownStands, servers_at, AllRecords, Wants, MessageKind, PlainMessage, Why, Managing, Board, Addresses, told_ended}
+use Rattle.dm_mirror.proofs.Names.{updated_board_count, updated_count, updated_manager_count, about_of, told_of, KnownStands, servers_at, AllRecords, Wants, MessageKind, PlainMessage, Why, Managing, Board, Addresses, told_ended}
 use Rattle.dm_mirror.proofs.Names.{after_line, Ended, updated_ended_mirrors, no_process, Wanted, is_server, Part, sort_of}
 use Rattle.dm_places.specs.PlacedStep.{with_process}
+use Rattle.dm_mirror.proofs.Recorded.{recorded}
 use Rattle.dm_mirror.proofs.Follow.Fronts.{front_still, is_process_of, plain_there, Fronts, at_front, eq_off, known_on, machine_process, rule_process, set_other, set_self, handled_point, turns_follow, handled_view}
 use Rattle.dm_mirror.proofs.Turning.{TurnsAt, begun, has_process}
 use Rattle.dm_mirror.proofs.Kernel.Sets.{away_process as away_not}
@@ -69,18 +70,8 @@ turns_quiet b m pt l records k y c h =
 pub no_plain : (y : Message) (x : PlainMessage) → plain_what y.what ≡ None → plain_message y ≡ Some x → ⊥
 no_plain y x none e = let f : None ≡ Some x = sym (ap (with_what y) none) ∙ e in cc
 
--- a process that has ended
-pub record Gone (l : Placed) (p : Pid) (r : Option machine.KernelKnown) : Type 0 where
-  pub because : Why
-  pub is : r ≡ Some (Record.Ended because)
-  pub none : l.processes p ≡ None
-
 not_alive : (o : Option Life) (y : Why) → kernel.why_ended o ≡ Some y → kernel.alive o ≡ None
 not_alive o y e = grind (arith, nat_tests)
-
-gone_of : (pt : Point) (l : Placed) (p : Pid) (queue held_ : List MsgId) (r : Option machine.KernelKnown) → Mirrors pt.kernel pt.view pt.addresses l → KnownStands pt l p queue held_ Ended r → Gone l p r
-gone_of pt l p queue held_ (Some (Record.Ended y)) mirrors h = record { because = y; is = refl; none = no_process (l.processes p) (sym (mirrors.plain.processes p) ∙ not_alive (pt.kernel.processes p) y h) }
-gone_of pt l p queue held_ r mirrors h = absurd h
 
 -- at a process that has ended
 pub ended_quiet : (b : Boot) (m : ℕ) (pt : Point) (l : Placed) (records : AllRecords) (k : KernelState) (y : Message) (c : Fronts b m pt l records k y) (said : Line) (a : Addresses) → is_fixed y.to.pid ≡ false → pt.view.known m y.to.pid ≡ Ended → plain_what y.what ≡ None
@@ -90,17 +81,17 @@ ended_quiet b m pt l records k y c said a fixed knows none turn told after mirro
     let p = y.to.pid in
     let is = is_process_of p fixed in
     let s = record k { inbox = c.rest } in
-    let gone = gone_of pt l p (pt.view.queue m p) (pt.view.held m p) (k.records p) c.mirrors (subst (λ (j : Known). KnownStands pt l p (pt.view.queue m p) (pt.view.held m p) j (k.records p)) knows (c.stands.known p is.server)) in
+    let (because, there, over) = recorded b pt l m k p Ended c.stands is.server knows in
     turns_quiet b m pt l records k y c (record {
       said = said;
       addresses = a;
       board = l.board;
       manager = l.manager;
       servers = k.servers;
-      turn = machine_process b s y (Some (Record.Ended gone.because)) (Some (record { state = s; parts = Part.Says said ∷ [] })) is gone.is turn;
+      turn = machine_process b s y (Some (Record.Ended because)) (Some (record { state = s; parts = Part.Says said ∷ [] })) is there turn;
       outcome = rule_process b m pt l records k y c Ended (Some (rule.Says said ∷ [])) (plain_message y) is knows refl (λ x e. absurd (no_plain y x none e)) (λ e. ap (λ (t : MessageKind). told_ended y.id (sort_of t)) c.kind ∙ told);
       after = after;
-      mirrors = mirrors gone.none;
+      mirrors = mirrors (no_process (l.processes p) (sym (c.mirrors.plain.processes p) ∙ not_alive (pt.kernel.processes p) because over));
       board_stays = λ off. refl;
       manager_stays = λ off. refl;
       same = c.stands.servers;
@@ -140,16 +131,6 @@ none_under_way b m pt p i t z run here told between about least =
     let f : None ≡ Some i = sym (ap token_in (rests_at b m pt p run here)) ∙ (run.based.phased.phases.each p).alone i t z told between about least in
     cc
 
--- what the machine has of a process that is here
-record IsHere (l : Placed) (p : Pid) (queue : List MsgId) (r : Option machine.KernelKnown) : Type 0 where
-  process : Process
-  is : r ≡ Some (Record.Here process)
-  stands : HereStands l p queue process
-
-here_of : (pt : Point) (l : Placed) (p : Pid) (queue held_ : List MsgId) (r : Option machine.KernelKnown) → KnownStands pt l p queue held_ Here r → IsHere l p queue r
-here_of pt l p queue held_ (Some (Record.Here x)) h = record { process = x; is = refl; stands = h }
-here_of pt l p queue held_ r h = absurd h
-
 -- the rule's line
 counted_line : (pt : Point) (y : Message) (t : Told) (n : ℕ) → t ≡ told_of y → behind_count pt.kernel pt.addresses y.to.pid (place_told (about_of y.what)) ≡ n → updates pt y.id t ≡ rule.Says (Line.Updated y.id n) ∷ []
 counted_line pt y t n is count = grind (arith, nat_tests)
@@ -159,10 +140,10 @@ pub updated_here_turn : (b : Boot) (m : ℕ) (pt : Point) (l : Placed) (records 
 updated_here_turn b m pt l records k y c about fixed knows e =
     let p = y.to.pid in
     let is = is_process_of p fixed in
-    let here = here_of pt l p (pt.view.queue m p) (pt.view.held m p) (k.records p) (subst (λ (j : Known). KnownStands pt l p (pt.view.queue m p) (pt.view.held m p) j (k.records p)) knows (c.stands.known p is.server)) in
-    let x = here.process in
-    let z : Process = record x { queue = here.stands.0.0 } in
-    let there : l.processes p ≡ Some z = here.stands.0.1 in
+    let here = recorded b pt l m k p Here c.stands is.server knows in
+    let x = here.0 in
+    let z : Process = record x { queue = here.2.0.0 } in
+    let there : l.processes p ≡ Some z = here.2.0.1 in
     let r = about.pid in
     let next = applied r about.at about.moves x in
     let s = record k { inbox = c.rest } in
@@ -176,13 +157,12 @@ updated_here_turn b m pt l records k y c about fixed knows e =
     let topic = (begun pt m).view.topic in
     let a = (moved (begun pt m) (Line.Updated y.id n) pt.kernel).addresses in
     let count = updated_count pt.kernel pt.view pt.addresses l p r about.at about.moves (about_of y.what) z c.mirrors (ap about_of e) is.board is.manager_ there in
-    let parts_ = rule.Says (Line.Updated y.id n) ∷ [] in
     let processes : (q : Pid) → pid_eq p q ≡ false → placed.processes q ≡ l.processes q = λ q off. ap (λ (t : Bool). if t then Some (applied r about.at about.moves z) else l.processes q) off in
     let apart : (j : ℕ) → j ≢ m → has_process (pt.view.known j p) ≡ true → placed.processes p ≡ l.processes p = λ j off has. absurd (nowhere_else b m j pt p c.run knows off has) in
     let moving : (i : MsgId) (t : Told) (j : Spot) → pt.view.told i ≡ Some t → is_between t.kind ≡ true → t.about ≡ Of p → 1 ≤ standing pt.view i j → placed.processes p ≡ l.processes p =
     λ i t j told_ between about_ least. absurd (none_under_way b m pt p i t j c.run knows told_ between about_ least) in
     let keeps : is_server p ≡ true → state.records p ≡ k.records p = λ server. absurd (false≢true (sym is.server ∙ server)) in
-    let wants : (u : Wanted) → Wants (incoming_of (k.records p)) u → Wants (incoming_of (state.records p)) u = λ u h. absurd (subst (λ (o : Option machine.KernelKnown). Wants (incoming_of o) u) here.is h) in
+    let wants : (u : Wanted) → Wants (incoming_of (k.records p)) u → Wants (incoming_of (state.records p)) u = λ u h. absurd (subst (λ (o : Option machine.KernelKnown). Wants (incoming_of o) u) here.1 h) in
     turns_follow b m pt l records k y c (record {
       state = state;
       said = Line.Updated y.id n;
@@ -192,8 +172,8 @@ updated_here_turn b m pt l records k y c about fixed knows e =
       addresses = a;
       placed = placed;
       process = p;
-      turn = machine_process b s y (Some (Record.Here x)) (Some (record { state = state; parts = Part.Says (Line.Updated y.id n) ∷ [] })) is here.is (ap (machine_handle.here_handles s y x) e);
-      outcome = rule_process b m pt l records k y c Here (Some parts_) (plain_message y) is knows refl (λ w f. absurd (no_plain y w (ap plain_what e) f))
+      turn = machine_process b s y (Some (Record.Here x)) (Some (record { state = state; parts = Part.Says (Line.Updated y.id n) ∷ [] })) is here.1 (ap (machine_handle.here_handles s y x) e);
+      outcome = rule_process b m pt l records k y c Here (Some (rule.Says (Line.Updated y.id n) ∷ [])) (plain_message y) is knows refl (λ w f. absurd (no_plain y w (ap plain_what e) f))
           (λ f. ap (λ (k : MessageKind). told_here pt m y.id c.told (sort_of k)) (c.kind ∙ ap kind_of e) ∙ ap Some (counted_line pt y c.told n was count));
       after = refl;
       mirrors = updated_mirrors (begun pt m) l y.id n (told_of y) r about.at about.moves z start told (ap about_of e) is.board is.manager_ there;
@@ -202,7 +182,7 @@ updated_here_turn b m pt l records k y c about fixed knows e =
       single = omega arith;
       known = λ server. subst (KnownStands (handled_point pt m y.id held topic a) placed p (pt.view.queue m p) (pt.view.held m p) (pt.view.known m p)) (sym (set_self k.records p (Record.Here next)))
           (subst (λ (j : Known). KnownStands (handled_point pt m y.id held topic a) placed p (pt.view.queue m p) (pt.view.held m p) j (Some (Record.Here next))) (sym knows)
-          ((here.stands.0.0, ap (λ (t : Bool). if t then Some (applied r about.at about.moves z) else l.processes p) (pid_eq-same p)), here.stands.1));
+          ((here.2.0.0, ap (λ (t : Bool). if t then Some (applied r about.at about.moves z) else l.processes p) (pid_eq-same p)), here.2.1));
       still = front_still b m pt l records k y c is.number;
       may = tt;
       leaves = search (processes, apart, moving, set_other, c.stands.servers, keeps, wants);
@@ -238,7 +218,6 @@ updated_board_turn b m pt l records k y c about to e =
     let placed = board_told l r about.at about.moves in
     let none = none_by b pt l switchboard (pt.kernel.processes switchboard) c.run c.mirrors refl refl in
     let count = updated_board_count pt.kernel pt.view pt.addresses l y.to.pid r about.at about.moves (about_of y.what) c.mirrors (ap about_of e) to in
-    let plain : pt.kernel.bag y.id ≡ None = plain_there b m pt l records k y c ∙ ap (λ (w : What). with_what y (plain_what w)) e in
     turns_quiet b m pt l records k y c (record {
       said = Line.Updated y.id n;
       addresses = (moved (begun pt m) (Line.Updated y.id n) pt.kernel).addresses;
@@ -246,7 +225,7 @@ updated_board_turn b m pt l records k y c about to e =
       manager = l.manager;
       servers = Some (record v { board = placed.board });
       turn = grind (arith, nat_tests);
-      outcome = ap (comes_to b pt m y.id) plain ∙ ap (hears b pt m y.id) c.told_is
+      outcome = ap (comes_to b pt m y.id) (plain_there b m pt l records k y c ∙ ap (λ (w : What). with_what y (plain_what w)) e) ∙ ap (hears b pt m y.id) c.told_is
           ∙ server_board b pt m y.id c.told (Some (rule.Says (Line.Updated y.id n) ∷ [])) (c.receiver ∙ to) (ap (λ (k : MessageKind). told_server pt y.id c.told (sort_of k)) (c.kind ∙ ap kind_of e) ∙ ap Some (counted_line pt y c.told n was count));
       after = refl;
       mirrors = updated_board_mirrors (begun pt m) l y.id n (told_of y) r about.at about.moves start told (ap about_of e) to none;
@@ -269,7 +248,6 @@ updated_manager_turn b m pt l records k y c about to e =
     let placed = manager_told l r about.at about.moves in
     let none = none_by b pt l manager (pt.kernel.processes manager) c.run c.mirrors refl refl in
     let count = updated_manager_count pt.kernel pt.view pt.addresses l y.to.pid r about.at about.moves (about_of y.what) c.mirrors (ap about_of e) to c.run.based.pending in
-    let plain : pt.kernel.bag y.id ≡ None = plain_there b m pt l records k y c ∙ ap (λ (w : What). with_what y (plain_what w)) e in
     turns_quiet b m pt l records k y c (record {
       said = Line.Updated y.id n;
       addresses = (moved (begun pt m) (Line.Updated y.id n) pt.kernel).addresses;
@@ -277,7 +255,7 @@ updated_manager_turn b m pt l records k y c about to e =
       manager = placed.manager;
       servers = Some (record v { manager = placed.manager });
       turn = grind (arith, nat_tests);
-      outcome = ap (comes_to b pt m y.id) plain ∙ ap (hears b pt m y.id) c.told_is
+      outcome = ap (comes_to b pt m y.id) (plain_there b m pt l records k y c ∙ ap (λ (w : What). with_what y (plain_what w)) e) ∙ ap (hears b pt m y.id) c.told_is
           ∙ server_manager b pt m y.id c.told (Some (rule.Says (Line.Updated y.id n) ∷ [])) (c.receiver ∙ to) (ap (λ (k : MessageKind). told_server pt y.id c.told (sort_of k)) (c.kind ∙ ap kind_of e) ∙ ap Some (counted_line pt y c.told n was count));
       after = refl;
       mirrors = updated_manager_mirrors (begun pt m) l y.id n (told_of y) r about.at about.moves start told (ap about_of e) to none;

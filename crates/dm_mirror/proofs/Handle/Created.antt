@@ -3,9 +3,9 @@ use Rattle.dm_mirror.proofs.Names.{◌≡◌, ◌≢◌, ℕ, ◌+◌, ◌≤◌
 use Rattle.dm_mirror.proofs.Names.{pid_eq, PlainLink, MsgId, Message, What, Record, Label, Line, PlainMessage, PlainWhat, plain_message, Process, begun_process, answer, Boot, BootImage, first_number, image_is_valid, slots_of, Alive}
 use Rattle.dm_mirror.proofs.Names.{OneKernel, bind, answer_id, answer_to, without_message, memory_of, slots_with, pid_eq-same, Routes, Point, Room, and, taken_at, taken_by, at_record, without_front, Spot, Queue, Held, Inbox, standing}
 use Rattle.dm_mirror.proofs.Names.{Known, after_label, is_kernels, bag_none, bag_created, has_no_queue, fresh_child, Placed, plainly, create_what, child_of, with_child, next_pid, KernelState, turned, KnownStands, ◌<◌, ◌||◌, IsValid}
-use Rattle.dm_mirror.proofs.Names.{manager, switchboard, plain_process, is_server, WhatFits, is_fixed, can_handle, OwnTold, Run, Mirrors, plainly_is, MadeStands, AllOwnStand, KernelStands, nat_le, times, begun}
-use Rattle.dm_rule.proofs.Names.{Part}
+use Rattle.dm_mirror.proofs.Names.{manager, switchboard, plain_process, is_server, WhatFits, is_fixed, can_handle, OwnTold, Run, Mirrors, plainly_is, MadeStands, AllOwnStand, KernelStands, nat_le, times, begun, Unknown}
 use Rattle.dm_onekernel.specs.Kernel.{with_sent}
+use Rattle.dm_rule.proofs.Names.{Part}
 use Rattle.dm_onekernel.specs.Service as service
 use Rattle.dm_onekernel.specs.Start as one
 use Rattle.dm_onekernel.specs.Step as kernel
@@ -13,10 +13,9 @@ use Rattle.dm_rule.specs.Rule as rule
 use Rattle.dm_places.specs.PlacedStep as placed
 use Rattle.dm_kernel.specs.declared.part.Part.TheVariants as part
 use Rattle.dm_kernel.specs.State as state
-use Rattle.dm_mirror.proofs.Handle.Rows.{IsLeft, Elsewhere, Over, Moves, unknown_left, after_one, kept_at, kept_behind, mirrors_one, own_back, own_kept, seen_point, standing_begun}
+use Rattle.dm_mirror.proofs.Handle.Rows.{IsLeft, Elsewhere, Over, Moves, after_one, kept_at, kept_behind, mirrors_one, own_back, own_kept, seen_point, standing_begun, other_than}
 use Rattle.dm_mirror.proofs.Handle.Taking.{Taking, outcome_is, sane_of, sent_other, sent_there, turn_is, held_apart, queue_apart, eq_off, eq_self, machine_off, machine_self, map_same, pid_apart, record_off, record_others, record_self}
 use Rattle.dm_mirror.proofs.Handle.Taking.{stands_set, took, IsProcess, not_server, rule_to_board, rule_to_kernel, rule_to_manager}
-use Rattle.dm_mirror.proofs.Rooms.{taken_made}
 use Rattle.dm_mirror.proofs.Turning.{Row, has_process, is_elsewhere}
 use Rattle.dm_mirror.proofs.Handle.Ended.{ended_row, is_ended, IsHere, here_outcome, is_here}
 use Rattle.dm_mirror.proofs.Handle.Kills.{kill_row, no_room_row, valid_at, free_of, kernel_is, create_turn, kernel_home, child_off, user_row}
@@ -24,6 +23,7 @@ use Rattle.dm_mirror.proofs.Handle.Landings.{block_row, gone_row, written_row, r
 use Rattle.dm_mirror.proofs.Handle.Servers.{board_row, manager_row}
 use Rattle.dm_mirror.proofs.Follow.Fronts.{front_gone, elsewhere_apart}
 use Rattle.dm_mirror.proofs.StartRooms.{memory_blocks}
+use Rattle.dm_mirror.proofs.Rooms.{made_homes}
 
 -- it is made
 abbrev made_point : Point → ℕ → MsgId → Pid → OneKernel → Point
@@ -39,6 +39,7 @@ made_known b m pt l k y w c next on p held x r none is empty there known here =
 pub created_row : (b : Boot) (m : ℕ) (pt : Point) (l : Placed) (k : KernelState) (y : Message) (image : ℕ) (ls : List PlainLink) (g : BootImage) → Taking b m pt l k y (PlainWhat.Create image ls) → (y.to.pid.num == 0) ≡ true → slice_get b.images image ≡ Some g
     → rule.has_room (rule.free_room b pt m) g.blocks ≡ true → image_is_valid g ≡ true → Row b m pt l k
 created_row b m pt l k y image ls g c num found some valid =
+    let unknown_left : (pt : Point) (m : ℕ) (p q : Pid) → ((n : ℕ) → pt.view.known n p ≡ Unknown) → IsLeft m pt q → pid_eq p q ≡ false = λ pt m p q h is. other_than p q (λ e. grind (arith, nat_tests)) in
     let s = pt.kernel in
     let p = y.to.pid in
     let v = (begun pt m).view in
@@ -91,6 +92,12 @@ created_row b m pt l k y image ls g c num found some valid =
     let others_live : (q : Pid) → pid_eq child q ≡ false → next.processes q ≡ s.processes q = λ q o. ap (λ (d : Bool). if d then Some (Alive first) else s.processes q) o in
     let made_here : next.made m ≡ s.made m + 1 = ap (λ (d : Bool). s.made m + (if d then 1 else 0)) (eq_self m) in
     let made_off : (n : ℕ) → n ≢ m → next.made n ≡ s.made n = λ n apart. (let o = eq_off m n apart in ap (λ (d : Bool). s.made n + (if d then 1 else 0)) o ∙ (let f : s.made n + 0 ≡ s.made n = omega arith in f)) in
+    -- a process is made, the next of its home
+    let taken_made : (pt next : Point) (m home : ℕ) → next.kernel.machines ≡ pt.kernel.machines → home < pt.kernel.machines
+      → next.kernel.made home ≡ pt.kernel.made home + 1 → ((h : ℕ) → h ≢ home → next.kernel.made h ≡ pt.kernel.made h)
+      → ((q : Pid) → q ≢ pid_of home (first_number + pt.kernel.made home) → taken_by next m q ≡ taken_by pt m q)
+      → taken_at next m next.kernel.machines ≡ and (taken_at pt m pt.kernel.machines) (taken_by next m (pid_of home (first_number + pt.kernel.made home))) =
+      λ pt next m home machines within one made others. ap (taken_at next m) machines ∙ made_homes pt next m home pt.kernel.machines within one made others in
     let all = taken_made pt goal m m refl c.below made_here made_off others ∙ ap (and (taken_at pt m s.machines)) takes in
     let sets : (q : Pid) → pid_eq child q ≡ false → (with_child k0 child z g.blocks).records q ≡ k.records q = λ q off. ap (λ (c : Bool). if c then Some (Record.Here z) else k.records q) off in
     let queues : (q : Pid) (j : MsgId) → pid_eq child q ≡ false → 1 ≤ times j (pt.view.queue m q) → on.bag j ≡ l.bag j = λ q j o least. kept (Queue m q) j (queue_apart m m q) least in

@@ -4,6 +4,7 @@ use Rattle.dm_mirror.proofs.Names.{answer_to, without_message, is_dropped, Point
 use Rattle.dm_mirror.proofs.Names.{block_what, stop_what, resume_what, kill_what, written_what, gone_what, What, handles, process_handles, ended_handles, KernelState, Turned, turned, KnownStands, gone_is, ◌/◌, Bool, length, map}
 use Rattle.dm_mirror.proofs.Names.{if◌then◌else◌, plain_kind, PlainMessage, arith, nat_tests, Process, Alive, Life, OneKernel, plain_process, PlainProcess, pid_eq-same, blocks_of, alive_of, served_is, of_map, with_queue, here_handles}
 use Rattle.dm_mirror.proofs.Names.{with_here, AreMessages, is_server, pid_eq, false, begun, Outcome, move_what, here_free, sort_of}
+use Rattle.dm_mirror.proofs.Recorded.{recorded}
 use Rattle.dm_rule.proofs.Names.{Part}
 use Rattle.dm_onekernel.specs.Kernel.{Ended, with_sent}
 use Rattle.dm_kernel.specs.declared.part.Part.TheVariants.{Routes}
@@ -11,7 +12,7 @@ pub use Rattle.dm_rule.proofs.Turns.{without_front_none as front_none, at_record
 use Rattle.dm_mirror.proofs.Handle.Rows.{IsLeft, turns_row, handled_point, here_left}
 use Rattle.dm_mirror.proofs.Handle.Taking.{Taking, sane_of, known_on, map_same, IsProcess, no_kernel, not_server, to_process, rule_to_process}
 use Rattle.dm_mirror.proofs.Turning.{Row, routed, rule_routed}
-use Rattle.dm_mirror.proofs.Handle.Servers.{sent_processes, sent_made, sent_machines, placed_processes, placed_bag, placed_notes, placed_servers}
+use Rattle.dm_mirror.proofs.Handle.Servers.{placed_bag, placed_leaves, placed_processes, sent_leaves}
 use Rattle.dm_rule.specs.Rule as rule
 use Rattle.dm_rule.specs.View as view
 use Rattle.dm_places.specs.PlacedStep as placed
@@ -30,15 +31,12 @@ pub record IsEnded (b : Boot) (m : ℕ) (pt : Point) (l : Placed) (k : KernelSta
   pub why : Why
   pub there : k.records p ≡ Some (Record.Ended why)
 
-ended_record : (pt : Point) (l : Placed) (p : Pid) (queue held : List MsgId) (r : Option state.KernelKnown) → KnownStands pt l p queue held view.Ended r → (y : Why) × (r ≡ Some (Record.Ended y))
-ended_record pt l p queue held r h = grind (arith, nat_tests)
-
 pub is_ended : (b : Boot) (m : ℕ) (pt : Point) (l : Placed) (k : KernelState) (y : Message) (w : PlainWhat) → Taking b m pt l k y w → IsProcess y.to.pid → pt.view.known m y.to.pid ≡ view.Ended → IsEnded b m pt l k y.to.pid
 is_ended b m pt l k y w c h known =
     let p = y.to.pid in
     let server = not_server p h in
     let (z, life) = ended_of (pt.kernel.processes p) (sym (ap (λ (n : Known). agrees n (pt.kernel.processes p)) known) ∙ c.run.based.known.agree m p server) in
-    let (q, there) = ended_record pt l p (pt.view.queue m p) (pt.view.held m p) (k.records p) (subst (λ (n : Known). KnownStands pt l p (pt.view.queue m p) (pt.view.held m p) n (k.records p)) known (c.stands.known p server)) in
+    let (q, there, gone) = recorded b pt l m k p view.Ended c.stands server known in
     record { process = h; because = z; life = life; known = known; why = q; there = there }
 
 -- the rows' parts
@@ -151,26 +149,16 @@ pub record IsHere (b : Boot) (m : ℕ) (pt : Point) (l : Placed) (k : KernelStat
   pub known : pt.view.known m p ≡ view.Here
   pub pid : x.pid ≡ p
 
-record Found (pt : Point) (l : Placed) (p : Pid) (queue : List MsgId) (r : Option state.KernelKnown) : Type 0 where
-  x : Process
-  q : List Message
-  there : r ≡ Some (Record.Here x)
-  placed : l.processes p ≡ Some (with_queue x q)
-  waits : AreMessages l.bag queue x.queue
-
-here_record : (pt : Point) (l : Placed) (p : Pid) (queue held : List MsgId) (r : Option state.KernelKnown) → KnownStands pt l p queue held view.Here r → Found pt l p queue r
-here_record pt l p queue held (Some (Record.Here x)) h = record { x = x; q = h.0.0; there = refl; placed = h.0.1; waits = h.1 }
-here_record pt l p queue held r h = absurd h
-
 pub is_here : (b : Boot) (m : ℕ) (pt : Point) (l : Placed) (k : KernelState) (y : Message) (w : PlainWhat) → Taking b m pt l k y w → IsProcess y.to.pid → pt.view.known m y.to.pid ≡ view.Here → IsHere b m pt l k y.to.pid
 is_here b m pt l k y w c h known =
     let p = y.to.pid in
     let server = not_server p h in
     let (z, life) = alive_of (pt.kernel.processes p) (sym (ap (λ (n : Known). agrees n (pt.kernel.processes p)) known) ∙ c.run.based.known.agree m p server) in
-    let f = here_record pt l p (pt.view.queue m p) (pt.view.held m p) (k.records p) (subst (λ (n : Known). KnownStands pt l p (pt.view.queue m p) (pt.view.held m p) n (k.records p)) known (c.stands.known p server)) in
+    let (x, there, stands) = recorded b pt l m k p view.Here c.stands server known in
     let (g, found, same) = of_map plain_process (l.processes p) z (sym (ap kernel.alive life) ∙ c.mirrors.plain.processes p) in
-    let e : g ≡ with_queue f.x f.q = let d : Some g ≡ Some (with_queue f.x f.q) = sym found ∙ f.placed in cc in
-    search (here_free pt.kernel pt.view m p c.run.based.noted known, life ∙ ap (λ (n : PlainProcess). Some (Alive n)) (sym same ∙ ap plain_process e), (c.mirrors.places.process p (with_queue f.x f.q) f.placed).pid)
+    let e : g ≡ with_queue x stands.0.0 = let d : Some g ≡ Some (with_queue x stands.0.0) = sym found ∙ stands.0.1 in cc in
+    let whole : plain_process (with_queue x stands.0.0) ≡ z = ap plain_process (sym e) ∙ same in
+    search (there, stands.1, here_free pt.kernel pt.view m p c.run.based.noted known, life ∙ ap (λ (n : PlainProcess). Some (Alive n)) (sym whole), (c.mirrors.places.process p (with_queue x stands.0.0) stands.0.1).pid)
 
 -- the rows' parts
 pub here_turn : (b : Boot) (m : ℕ) (pt : Point) (l : Placed) (k : KernelState) (y : Message) (w : PlainWhat) (c : Taking b m pt l k y w) (h : IsHere b m pt l k y.to.pid) (o : Option Turned) → here_handles (record k { inbox = c.rest }) y h.x y.what ≡ o → handles b (record k { inbox = c.rest }) y ≡ o
@@ -218,8 +206,8 @@ served_row b m pt l k y w c h d =
     let on = placed.with_sent set d.o in
     let e = Label.Served y.id in
     let v = handled (begun pt m).view y.id in
-    let alive : next.processes p ≡ Some (Alive d.pz) = sent_processes u d.q p ∙ ap (λ (g : Bool). if g then Some (Alive d.pz) else s.processes p) (pid_eq-same p) in
-    let lives : (q : Pid) → pid_eq p q ≡ false → next.processes q ≡ s.processes q = λ q off. sent_processes u d.q q ∙ ap (λ (g : Bool). if g then Some (Alive d.pz) else s.processes q) off in
+    let alive : next.processes p ≡ Some (Alive d.pz) = (sent_leaves u d.q).0 p ∙ ap (λ (g : Bool). if g then Some (Alive d.pz) else s.processes p) (pid_eq-same p) in
+    let lives : (q : Pid) → pid_eq p q ≡ false → next.processes q ≡ s.processes q = λ q off. (sent_leaves u d.q).0 q ∙ ap (λ (g : Bool). if g then Some (Alive d.pz) else s.processes q) off in
     let processes : (q : Pid) → pid_eq p q ≡ false → on.processes q ≡ l.processes q = λ q off. placed_processes set d.o q ∙ ap (λ (g : Bool). if g then Some (with_queue d.z h.queue) else l.processes q) off in
     let records : (q : Pid) → pid_eq p q ≡ false → (with_here k0 p d.z).records q ≡ k.records q = λ q off. ap (λ (g : Bool). if g then Some (Record.Here d.z) else k.records q) off in
     let keeps : is_server p ≡ true → (with_here k0 p d.z).records p ≡ k.records p = λ server. absurd (false≢true (sym (not_server p h.process) ∙ server)) in
@@ -243,9 +231,9 @@ served_row b m pt l k y w c h d =
           (placed_processes set d.o p ∙ ap (λ (g : Bool). if g then Some (with_queue d.z h.queue) else l.processes p) (pid_eq-same p))
           (map_same l.bag on.bag (pt.view.queue m p) same ∙ h.waits ∙ ap (map Some) (sym d.queue));
       leaves = search (
-        placed_notes set d.o,
-        sent_machines u d.q,
-        sent_made u d.q,
+        (placed_leaves set d.o).0,
+        (sent_leaves u d.q).2,
+        (sent_leaves u d.q).1,
         lives,
         ap (λ (o : Option Life). blocks_of (kernel.alive o)) alive ∙ ap (λ (n : ℕ). n / 256) d.memory ∙ ap (λ (o : Option Life). blocks_of (kernel.alive o)) (sym h.life),
         processes,
@@ -253,7 +241,7 @@ served_row b m pt l k y w c h d =
         board_of set d.o,
         manager_of set d.o,
         records,
-        c.stands.servers ∙ sym (placed_servers set d.o m),
+        c.stands.servers ∙ sym ((placed_leaves set d.o).1 m),
         keeps,
         λ (q : Pid) (is : IsLeft m pt q). here_left pt m p q c.run.based.phased.phases h.known is,
       );

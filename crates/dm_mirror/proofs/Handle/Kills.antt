@@ -5,7 +5,8 @@ use Rattle.dm_mirror.proofs.Names.{blocks_of, taken_at, taken_by, takes_room, wi
 use Rattle.dm_mirror.proofs.Names.{droppable_on, Run, Placed, Mirrors, with_queue, plainly, kill_what, room_of, here_handles, KernelState, turned, without_process, KnownStands, RoomStands, told_there, zero_if, inl, inr, cases_Bool, id_eq}
 use Rattle.dm_mirror.proofs.Names.{id_eq-is, id_eq-same, Droppable, dropped_is, mirrors_view, placed_follows, AreMessages, user_dropped, machine_same, zero, suc, ◌||◌, nat_le, nat_lt, pid_of, PlainLink, What, PlainMessage, PlainWhat}
 use Rattle.dm_mirror.proofs.Names.{free_slots, free_blocks, answer, BootImage, BootMachine, first_number, images_are_valid, image_is_valid, when, answer_id, answer_to, bag_none, bag_no_space, is_server, home_of, create_what, handles, makes}
-use Rattle.dm_mirror.proofs.Names.{and-both, Says, told_receiver, user_what, queued, with_here, begun, Part}
+use Rattle.dm_mirror.proofs.Names.{and-both, Says, told_receiver, user_what, queued, with_here, begun, Part, append-nil, StandsRight}
+use Rattle.dm_mirror.proofs.Leave.Asks.{room_stays}
 use Rattle.dm_onekernel.specs.Kernel.{Ended, with_sent}
 use Rattle.dm_message.specs.Plain as said
 use Rattle.dm_onekernel.specs.Step as kernel
@@ -18,127 +19,18 @@ use Rattle.dm_kernel.specs.State as state
 use Rattle.dm_onekernel.specs.Service as service
 use Rattle.dm_kernel.specs.Handle as machine
 use Rattle.dm_mirror.proofs.Handle.Rows.{IsLeft, Elsewhere, Over, Moves, here_left, kept_at, kept_behind, mirrors_one, own_back, own_kept, seen_point, standing_begun, handled_point, turns_row}
-use Rattle.dm_mirror.proofs.Handle.Taking.{Taking, apart_at, outcome_is, sane_of, turn_is, held_apart, held_no_queue, queue_apart, waits, eq_off, eq_self, machine_off, machine_self, map_same, pid_apart, record_off, record_others}
+use Rattle.dm_mirror.proofs.Handle.Taking.{Taking, apart_at, outcome_is, sane_of, turn_is, held_apart, queue_apart, waits, eq_off, eq_self, machine_off, machine_self, map_same, pid_apart, record_off, record_others}
 use Rattle.dm_mirror.proofs.Handle.Taking.{record_self, stands_set, times_more, times_self, not_server, known_on, to_kernel, rule_to_kernel}
 use Rattle.dm_mirror.proofs.Rooms.{taken_changed, taken_same}
+use Rattle.dm_mirror.proofs.Kernel.Sets.{is_queue_of, left_off, queue_not_elsewhere, queue_of_others, right_off}
+use Rattle.dm_mirror.proofs.Row.Lines.{ended_fewer, handled_fewer}
+use Rattle.dm_mirror.proofs.Serve.Runs.{AreAlone, Drops, drop_lines, drops_stand, drops_still, machine_drops, rule_drops}
+use Rattle.dm_mirror.proofs.Serving.{queue_alone}
 use Rattle.dm_mirror.proofs.Turning.{is_elsewhere, Row, are_still, has_process}
-use Rattle.dm_mirror.proofs.Leave.Goes.{other_queue, elsewhere_queue, room_released}
+use Rattle.dm_mirror.proofs.Leave.Goes.{room_released}
 use Rattle.dm_mirror.proofs.Handle.Ended.{front_none, IsHere, here_outcome, here_turn, served_placed, served_step, here_known}
 use Rattle.dm_mirror.proofs.Follow.Fronts.{front_gone, elsewhere_apart}
 pub use Rattle.dm_mirror.proofs.Deliver.Moves.{messages_push as last_message}
-
-abbrev pub drop_line : MsgId → Line
-drop_line i = Line.Label (Label.Dropped i)
-
--- what the drops leave
-pub record Drops (pt : Point) (l : Placed) (p : Pid) (ids : List MsgId) : Type 0 where
-  pub next : Point
-  pub on : Placed
-  pub after : after pt (map drop_line ids) ≡ Some next
-  pub mirrors : Mirrors next.kernel next.view next.addresses on
-  pub acting : next.view.acting ≡ pt.view.acting
-  pub groups : next.view.groups ≡ pt.view.groups
-  pub pair : (a c : ℕ) → next.view.pair a c ≡ pt.view.pair a c
-  pub inbox : (n : ℕ) → next.view.inbox n ≡ pt.view.inbox n
-  pub ring : (n : ℕ) → next.view.ring n ≡ pt.view.ring n
-  pub known : (n : ℕ) (q : Pid) → next.view.known n q ≡ pt.view.known n q
-  pub held : (n : ℕ) (q : Pid) → next.view.held n q ≡ pt.view.held n q
-  pub count : (n : ℕ) → next.view.count n ≡ pt.view.count n
-  pub told : next.view.told ≡ pt.view.told
-  pub empty : next.view.queue pt.view.acting p ≡ []
-  pub queue : (n : ℕ) (q : Pid) → ((pt.view.acting == n) && pid_eq p q) ≡ false → next.view.queue n q ≡ pt.view.queue n q
-  pub machines : next.kernel.machines ≡ pt.kernel.machines
-  pub made : (n : ℕ) → next.kernel.made n ≡ pt.kernel.made n
-  pub lives : (q : Pid) → next.kernel.processes q ≡ pt.kernel.processes q
-  pub processes : (q : Pid) → on.processes q ≡ l.processes q
-  pub notes : (q : Pid) → on.notes q ≡ l.notes q
-  pub bag : (j : MsgId) → times j ids ≡ 0 → on.bag j ≡ l.bag j
-  pub back : (j : MsgId) (x : Message) → on.bag j ≡ Some x → l.bag j ≡ Some x
-  pub board : on.board ≡ l.board
-  pub manager : on.manager ≡ l.manager
-
--- a message that isn't there
-pub times_off : (j i : MsgId) (is : List MsgId) → times j (i ∷ is) ≡ 0 → (id_eq i j ≡ false) × (times j is ≡ 0)
-times_off j i is none = grind (arith, nat_tests, id_eq-is, times_self, times_more)
-
--- the view after one
-abbrev dropped_view : View → MsgId → Pid → View
-dropped_view v j p = view.dropped_for (handled v j) j (Some p)
-
-abbrev dropped_point : Point → MsgId → Pid → Point
-dropped_point pt j p = record { kernel = without_message pt.kernel j; view = dropped_view pt.view j p; addresses = pt.addresses }
-
-one_after : (pt : Point) (j : MsgId) (p : Pid) (rest : List Line) → kernel.step pt.kernel (Label.Dropped j) ≡ Some (without_message pt.kernel j) → view.receiver_of (pt.view.told j) ≡ Some p → after pt (drop_line j ∷ rest) ≡ after (dropped_point pt j p) rest
-one_after pt j p rest step told = grind (arith, nat_tests)
-
-one_mirrors : (pt : Point) (l : Placed) (j : MsgId) (p : Pid) → kernel.step pt.kernel (Label.Dropped j) ≡ Some (without_message pt.kernel j) → Mirrors pt.kernel pt.view pt.addresses l
-    → Mirrors (without_message pt.kernel j) (dropped_view pt.view j p) pt.addresses (placed.without_message l j)
-one_mirrors pt l j p step h =
-    let (on, found, mirrors) = placed_follows pt.kernel (without_message pt.kernel j) pt.view pt.addresses l pt.view.acting (Label.Dropped j) h refl tt step in
-    let same : on ≡ placed.without_message l j = let f : Some on ≡ Some (placed.without_message l j) = sym found in cc in
-    subst (Mirrors (without_message pt.kernel j) (dropped_view pt.view j p) pt.addresses) same (mirrors_view (without_message pt.kernel j) pt.view (dropped_view pt.view j p) pt.addresses on refl mirrors)
-
-pub all_dropped : (ids : List MsgId) (pt : Point) (l : Placed) (p : Pid) (y : Why) → pt.view.queue pt.view.acting p ≡ ids → pt.kernel.processes p ≡ Some (Ended y) → Droppable pt.kernel p ids
-    → ((j : MsgId) → 1 ≤ times j ids → view.receiver_of (pt.view.told j) ≡ Some p) → ((j : MsgId) → 1 ≤ times j ids → times j (pt.view.inbox pt.view.acting) ≡ 0) → Mirrors pt.kernel pt.view pt.addresses l → Drops pt l p ids
-all_dropped [] pt l p y front ended drops told inbox h = search
-all_dropped (j ∷ js) pt l p y front ended drops told inbox h =
-    let s = pt.kernel in
-    let v = pt.view in
-    let m = v.acting in
-    let step = dropped_is s j drops.0.x y drops.0.there (ap s.processes drops.0.to ∙ ended) (user_dropped drops.0.x.what drops.0.user) in
-    let mid = dropped_point pt j p in
-    let boxes = machine_same v.inbox m (without_front j (v.inbox m)) (front_none j (v.inbox m) (inbox j (times_self j js))) in
-    let left : mid.view.queue m p ≡ js = grind (arith, nat_tests, record_self, pid_eq-same, id_eq-same, v.queue) in
-    let more : (i : MsgId) → 1 ≤ times i js → 1 ≤ times i (j ∷ js) = λ i least. (let f = times_more i j js in omega (arith, least, f)) in
-    let off : (i : MsgId) → 1 ≤ times i js → id_eq j i ≡ false = λ i least. (elim (cases_Bool (id_eq j i)) [
-      | inl same ↦ absurd (let e : times j js ≡ times i js = ap (λ (z : MsgId). times z js) (id_eq-is j i same) in let none : times j js ≡ 0 = drops.1 in omega (arith, least, e, none))
-      | inr apart ↦ apart
-    ]) in
-    let g = all_dropped js mid (placed.without_message l j) p y left ended (droppable_on s (without_message s j) p js (λ i least. out_off s j i (off i least)) drops.2) (λ i least. told i (more i least))
-    (λ i least. ap (times i) (boxes m) ∙ inbox i (more i least)) (one_mirrors pt l j p step h) in
-    record {
-      next = g.next;
-      on = g.on;
-      after = one_after pt j p (map drop_line js) step (told j (times_self j js)) ∙ g.after;
-      mirrors = g.mirrors;
-      acting = g.acting;
-      groups = g.groups;
-      pair = g.pair;
-      inbox = λ n. g.inbox n ∙ boxes n;
-      ring = g.ring;
-      known = g.known;
-      held = g.held;
-      count = g.count;
-      told = g.told;
-      empty = g.empty;
-      queue = λ n q apart. g.queue n q apart ∙ ap (λ (c : Bool). if c then without_front j (v.queue m p) else v.queue n q) apart;
-      machines = g.machines;
-      made = g.made;
-      lives = g.lives;
-      processes = g.processes;
-      notes = g.notes;
-      bag = λ i none. let f = times_off i j js none in g.bag i f.1 ∙ ap (λ (c : Bool). if c then None else l.bag i) f.0;
-      back = λ i x there. grind (arith, nat_tests);
-      board = g.board;
-      manager = g.manager;
-    }
-
--- the parts
-pub drops_are : (bag : MsgId → Option Message) (ids : List MsgId) (ms : List Message) → ((i : MsgId) (x : Message) → bag i ≡ Some x → x.id ≡ i) → AreMessages bag ids ms → state.drops ms ≡ map Part.Says (map drop_line ids) ++ []
-drops_are bag [] [] names h = refl
-drops_are bag (j ∷ js) (z ∷ zs) names h =
-    let rest : map bag js ≡ map Some zs = cc in
-    λ i. state.says (Label.Dropped ((names j z (cc)) i)) ∷ (drops_are bag js zs names rest) i
-drops_are bag [] (z ∷ zs) names h = cc
-drops_are bag (j ∷ js) [] names h = cc
-
-pub rule_drops : (ids : List MsgId) → rule.drop_parts ids ≡ map rule_part.Says (map drop_line ids) ++ []
-rule_drops [] = refl
-rule_drops (j ∷ js) = ap (λ (ps : List rule_part.Part). rule.says (Label.Dropped j) ∷ ps) (rule_drops js)
-
-pub drops_still : (ids : List MsgId) → are_still (map drop_line ids) ≡ true
-drops_still [] = refl
-drops_still (j ∷ js) = drops_still js
 
 -- A process that is here is killed: it ends, and its queue is dropped.
 
@@ -155,29 +47,14 @@ ended_point pt m i p = seen_point pt m (Label.Served i) (ended_kernel pt i p) (e
 abbrev ended_placed : Placed → MsgId → Pid → Placed
 ended_placed l i p = placed.with_process (placed.without_message l i) p None
 
-in_queue : (pt : Point) (m : ℕ) (p : Pid) (s : Spot) (j : MsgId) (b : Boot) (l : Placed) (k : KernelState) (y : Message) (w : said.PlainWhat) → Taking b m pt l k y w → s ≢ Queue m p → 1 ≤ standing pt.view j s → times j (pt.view.queue m p) ≡ 0
-in_queue pt m p s j b l k y w c apart least =
-    zero_if (times j (pt.view.queue m p)) (λ there.
-    let q = waits b pt m p j c.run there in
-    let once : StandsAsBag (Some q.x) (standing pt.view j) = stands_right pt j c.run.based.phased.state (Some q.x) q.there in
-    let none : times j (pt.view.queue m p) ≡ 0 = StandsAsBag-elsewhere (Some q.x) (standing pt.view j) s (Queue m p) least (λ e. apart (sym e)) once in
-    omega (arith, there, none))
-
--- nor is a kernel's own message in it
-own_unqueued : (b : Boot) (pt : Point) (m : ℕ) (p : Pid) (l : Placed) (j : MsgId) (x : Message) → Run b pt → Mirrors pt.kernel pt.view pt.addresses l → plain_message x ≡ None → l.bag j ≡ Some x → times j (pt.view.queue m p) ≡ 0
-own_unqueued b pt m p l j x run mirrors none there =
-    zero_if (times j (pt.view.queue m p)) (λ least.
-    let q = waits b pt m p j run least in
-    let is : Some q.x ≡ None = sym q.there ∙ sym (mirrors.plain.bag j) ∙ ap (λ (o : Option Message). bind o plain_message) there ∙ none in
-    cc)
+-- what is elsewhere stands behind the kill as before
+ended_stands : (pt : Point) (m : ℕ) (i : MsgId) (p : Pid) (j : MsgId) (z : Spot) → is_elsewhere m z ≡ true → standing (ended_view pt m i p) j z ≡ standing (begun pt m).view j z
+ended_stands pt m i p j (Inbox n) off = grind (arith, nat_tests)
+ended_stands pt m i p j z off = refl
 
 -- what is known of it then
 ended_known : (next : Point) (on : Placed) (p : Pid) (queue held : List MsgId) (z : Why) (r : Option state.KernelKnown) (n : Known) → r ≡ Some (Record.Ended z) → n ≡ view.Ended → kernel.why_ended (next.kernel.processes p) ≡ Some z → KnownStands next on p queue held n r
 ended_known next on p queue held z r n is gone ended = subst (λ (v : Known). KnownStands next on p queue held v r) (sym gone) (subst (KnownStands next on p queue held view.Ended) (sym is) ended)
-
--- what it took is free again
-ended_taken : (m : ℕ) (next : Point) (p : Pid) → next.view.known m p ≡ view.Ended → taken_by next m p ≡ record { slots = 0; blocks = 0 }
-ended_taken m next p gone = ap (λ (z : Known). record { slots = takes_room z; blocks = if takes_room z == 0 then 0 else blocks_of (kernel.alive (next.kernel.processes p)) }) gone
 
 queued_told : (b : Boot) (m : ℕ) (pt : Point) (l : Placed) (k : KernelState) (y : Message) (w : said.PlainWhat) → Taking b m pt l k y w → (p : Pid) (j : MsgId) → 1 ≤ times j (pt.view.queue m p) → view.receiver_of (pt.view.told j) ≡ Some p
 queued_told b m pt l k y w c p j least =
@@ -189,7 +66,7 @@ queued_told b m pt l k y w c p j least =
 record Goes (b : Boot) (m : ℕ) (pt : Point) (l : Placed) (k : KernelState) (y : Message) (c : Taking b m pt l k y said.Kill) (h : IsHere b m pt l k y.to.pid) : Type 0 where
   view : after_label (begun pt m).view (Label.Served y.id) ≡ ended_view pt m y.id y.to.pid
   step : kernel.step pt.kernel (Label.Served y.id) ≡ Some (ended_kernel pt y.id y.to.pid)
-  drops : Drops (ended_point pt m y.id y.to.pid) (ended_placed l y.id y.to.pid) y.to.pid (pt.view.queue m y.to.pid)
+  drops : Drops m (is_queue_of m y.to.pid) y.to.pid (ended_point pt m y.id y.to.pid) (ended_placed l y.id y.to.pid) (pt.view.queue m y.to.pid)
 
 goes : (b : Boot) (m : ℕ) (pt : Point) (l : Placed) (k : KernelState) (y : Message) (c : Taking b m pt l k y said.Kill) (h : IsHere b m pt l k y.to.pid) → Goes b m pt l k y c h
 goes b m pt l k y c h =
@@ -208,15 +85,14 @@ goes b m pt l k y c h =
     let mirrors = mirrors_one pt m (Label.Served i) t (ended_view pt m i p) l on step view_is tt placed_is c.mirrors in
     let ended : t.processes p ≡ Some (Ended Why.Killed) = ap (λ (d : Bool). if d then Some (Ended Why.Killed) else s.processes p) (pid_eq-same p) in
     let off : (j : MsgId) → 1 ≤ times j ids → t.bag j ≡ s.bag j = λ j least. out_off s i j (apart_at b m pt l k y w c (Queue m p) j (queue_apart m m p) least) in
-    let told : (j : MsgId) → 1 ≤ times j ids → view.receiver_of (pt.view.told j) ≡ Some p = λ j least. queued_told b m pt l k y w c p j least in
-    let inbox : (j : MsgId) → 1 ≤ times j ids → times j (mid.view.inbox m) ≡ 0 = λ j least. (
-    let q = waits b pt m p j c.run least in
-    let once : StandsAsBag (Some q.x) (standing pt.view j) = stands_right pt j c.run.based.phased.state (Some q.x) q.there in
-    let none : times j (pt.view.inbox m) ≡ 0 = StandsAsBag-elsewhere (Some q.x) (standing pt.view j) (Queue m p) (Inbox m) least (λ e. queue_apart m m p (sym e)) once in
-    let all : times j (i ∷ c.ids) ≡ 0 = ap (times j) (sym c.box) ∙ none in
-    let behind : times j c.ids ≡ 0 = omega (arith, all, times_more j i c.ids) in
-    ap (times j) (machine_self pt.view.inbox m (without_front i (pt.view.inbox m)) ∙ front_gone i c.ids (pt.view.inbox m) c.box) ∙ behind) in
-    record { view = view_is; step = step; drops = all_dropped ids mid on p Why.Killed refl ended (droppable_on s t p ids off (c.front.drops p)) told inbox mirrors }
+    let right : (j : MsgId) → StandsRight j (s.bag j) (standing pt.view j) = λ j. stands_right pt j c.run.based.phased.state (s.bag j) refl in
+    let alone : AreAlone (is_queue_of m p) mid.view ids = λ j least n z apart there. (
+    let a = handled_fewer (begun pt m).view i n z in
+    let e = ended_fewer (handled (begun pt m).view i) p n z in
+    let same = standing_begun pt m n z in
+    queue_alone m p s pt.view right j least n z apart (omega (arith, there, a, e, same))) in
+    let drops = drops_stand m (is_queue_of m p) p Why.Killed ids mid on (λ n q apart. apart) (λ n. refl) mirrors refl ended (droppable_on s t p ids off (c.front.drops p)) alone (λ j least. queued_told b m pt l k y w c p j least) in
+    record { view = view_is; step = step; drops = drops }
 
 pub kill_row : (b : Boot) (m : ℕ) (pt : Point) (l : Placed) (k : KernelState) (y : Message) (c : Taking b m pt l k y said.Kill) → IsHere b m pt l k y.to.pid → Row b m pt l k
 kill_row b m pt l k y c h =
@@ -228,97 +104,97 @@ kill_row b m pt l k y c h =
     let k0 = record k { inbox = c.rest } in
     let on = ended_placed l i p in
     let ids = pt.view.queue m p in
+    let mid = ended_point pt m i p in
     let all = goes b m pt l k y c h in
     let g = all.drops in
+    let views = g.leaves.view in
+    let kernels = g.leaves.kernel in
+    let bags = g.leaves.placed_ in
     let end = without_process k0 p h.x Why.Killed in
-    let says = Line.Label e ∷ map drop_line ids in
-    let drops = drops_are l.bag ids h.x.queue (λ j z there. (c.mirrors.places.message j z there).id) h.waits in
+    let says = Line.Label e ∷ drop_lines ids in
+    let drops = machine_drops l ids h.x.queue (λ j z there. (c.mirrors.places.message j z there).id) h.waits ∙ sym (append-nil (map Part.Says (drop_lines ids))) in
     let kept : (q : Spot) (j : MsgId) → q ≢ Inbox m → 1 ≤ standing pt.view j q → on.bag j ≡ l.bag j = kept_at b m pt l k y w c on None (λ j. refl) (λ a f. absurd (cc)) in
-    let behind : (j : MsgId) → 1 ≤ times j c.ids → g.on.bag j ≡ l.bag j = λ j least. (
-    let there : 1 ≤ standing pt.view j (Inbox m) = subst (λ (z : List MsgId). 1 ≤ times j z) (sym c.box) (omega (arith, least, times_more j i c.ids)) in
-    g.bag j (in_queue pt m p (Inbox m) j b l k y w c (λ f. queue_apart m m p (sym f)) there) ∙ kept_behind b m pt l k y w c on None (λ n. refl) (λ a f. absurd (cc)) j least) in
-    let known : g.next.view.known m p ≡ view.Ended = g.known m p ∙ record_self pt.view.known m p view.Ended (pid_eq-same p) in
-    let life : g.next.kernel.processes p ≡ Some (Ended Why.Killed) = g.lives p ∙ ap (λ (d : Bool). if d then Some (Ended Why.Killed) else s.processes p) (pid_eq-same p) in
-    let others_known : (q : Pid) → pid_eq p q ≡ false → g.next.view.known m q ≡ pt.view.known m q = λ q off. g.known m q ∙ record_others pt.view.known m p q view.Ended off in
-    let others_live : (q : Pid) → pid_eq p q ≡ false → g.next.kernel.processes q ≡ s.processes q = λ q off. g.lives q ∙ ap (λ (d : Bool). if d then Some (Ended Why.Killed) else s.processes q) off in
-    let others_placed : (q : Pid) → pid_eq p q ≡ false → g.on.processes q ≡ l.processes q = λ q off. g.processes q ∙ ap (λ (d : Bool). if d then None else l.processes q) off in
+    let box : mid.view.inbox m ≡ c.ids = machine_self pt.view.inbox m (without_front i (pt.view.inbox m)) ∙ front_gone i c.ids (pt.view.inbox m) c.box in
+    let behind : (j : MsgId) → 1 ≤ times j c.ids → g.placed.bag j ≡ l.bag j =
+    λ j least. bags.bag j (Inbox m) refl (subst (λ (js : List MsgId). 1 ≤ times j js) (sym box) least) ∙ kept_behind b m pt l k y w c on None (λ n. refl) (λ a f. absurd (cc)) j least in
+    let known : g.next.view.known m p ≡ view.Ended = g.known ∙ record_self pt.view.known m p view.Ended (pid_eq-same p) in
+    let life : g.next.kernel.processes p ≡ Some (Ended Why.Killed) = g.process ∙ ap (λ (d : Bool). if d then Some (Ended Why.Killed) else s.processes p) (pid_eq-same p) in
+    let others_known : (q : Pid) → pid_eq p q ≡ false → g.next.view.known m q ≡ pt.view.known m q = λ q off. views.known m q (right_off (m == m) (pid_eq p q) off) ∙ record_others pt.view.known m p q view.Ended off in
+    let others_live : (q : Pid) → pid_eq p q ≡ false → g.next.kernel.processes q ≡ s.processes q = λ q off. kernels.life q off ∙ ap (λ (d : Bool). if d then Some (Ended Why.Killed) else s.processes q) off in
+    let others_placed : (q : Pid) → pid_eq p q ≡ false → g.placed.processes q ≡ l.processes q = λ q off. bags.process q off ∙ ap (λ (d : Bool). if d then None else l.processes q) off in
     let left : (q : Pid) → IsLeft m pt q → pid_eq p q ≡ false = λ q is. here_left pt m p q c.run.based.phased.phases h.known is in
     let there : is_some (s.processes p) ≡ true = ap is_some h.life in
-    let taken = taken_changed pt g.next m p g.machines g.made (c.made.home p there) (c.made.first p there) (c.made.below p there)
+    let taken = taken_changed pt g.next m p kernels.machines kernels.made (c.made.home p there) (c.made.first p there) (c.made.below p there)
     (λ q apart. (let off = pid_apart p q apart in
     (λ n. record {
       slots = takes_room (others_known q off n);
       blocks = if takes_room (others_known q off n) == 0 then 0 else blocks_of (kernel.alive (others_live q off n));
     }))) in
     let was : taken_by pt m p ≡ record { slots = 1; blocks = length h.x.memory / 256 } = grind (arith, nat_tests, h.known, h.life) in
-    let is = ended_taken m g.next p known in
+    -- what it took is free again
+    let ended_taken : taken_by g.next m p ≡ record { slots = 0; blocks = 0 } = ap (λ (z : Known). record { slots = takes_room z; blocks = if takes_room z == 0 then 0 else blocks_of (kernel.alive (g.next.kernel.processes p)) }) known in
+    let is = ended_taken in
     let now = taken_at g.next m g.next.kernel.machines in
     let before = taken_at pt m s.machines in
     let slots : now.slots + 1 ≡ before.slots + 0 = ap (λ (r : Room). now.slots + r.slots) (sym was) ∙ taken.0 ∙ ap (λ (r : Room). before.slots + r.slots) is in
     let blocks : now.blocks + length h.x.memory / 256 ≡ before.blocks + 0 = ap (λ (r : Room). now.blocks + r.blocks) (sym was) ∙ taken.1 ∙ ap (λ (r : Room). before.blocks + r.blocks) is in
-    let stays : (j : MsgId) (q : Spot) → is_elsewhere m q ≡ true → 1 ≤ standing (begun pt m).view j q → g.on.bag j ≡ l.bag j = λ j q off least. (
+    let stays : (j : MsgId) (q : Spot) → is_elsewhere m q ≡ true → 1 ≤ standing (begun pt m).view j q → g.placed.bag j ≡ l.bag j = λ j q off least. (
     let stands : 1 ≤ standing pt.view j q = subst (λ (n : ℕ). 1 ≤ n) (standing_begun pt m j q) least in
-    g.bag j (in_queue pt m p q j b l k y w c (elsewhere_queue m p q off) stands) ∙ kept q j (elsewhere_apart m q off) stands) in
+    bags.bag j q (queue_not_elsewhere m p q off) (subst (λ (n : ℕ). 1 ≤ n) (sym (ended_stands pt m i p j q off)) least) ∙ kept q j (elsewhere_apart m q off) stands) in
     record {
       state = end;
       says = says;
       route = None;
       turn = turn_is b m pt l k y w c (turned end (map Part.Says says ++ [])) (here_turn b m pt l k y w c h (turned end (map Part.Says says ++ []))
           (ap (here_handles k0 y h.x) (kill_what y.what c.says) ∙ ap (λ (ps : List part_.Part). turned end (state.says e ∷ ps)) drops));
-      outcome = outcome_is b m pt l k y w c (Some (map rule_part.Says says ++ [])) (here_outcome b m pt l k y w h (Some (map rule_part.Says says ++ [])) (ap (λ (ps : List rule_part.Part). Some (rule.says e ∷ ps)) (rule_drops ids)));
+      outcome = outcome_is b m pt l k y w c (Some (map rule_part.Says says ++ [])) (here_outcome b m pt l k y w h (Some (map rule_part.Says says ++ []))
+          (ap (λ (ps : List rule_part.Part). Some (rule.says e ∷ ps)) (rule_drops ids ∙ sym (append-nil (map rule_part.Says (drop_lines ids))))));
       next = g.next;
-      after = ap (λ (o : Option OneKernel). bind (bind o (λ (z : OneKernel). Some (moved (begun pt m) (Line.Label e) z))) (λ (n : Point). after n (map drop_line ids))) all.step
-          ∙ ap (λ (u : View). after (seen_point pt m e (ended_kernel pt i p) u) (map drop_line ids)) all.view ∙ g.after;
-      placed = g.on;
+      after = ap (λ (o : Option OneKernel). bind (bind o (λ (z : OneKernel). Some (moved (begun pt m) (Line.Label e) z))) (λ (n : Point). after n (drop_lines ids))) all.step
+          ∙ ap (λ (u : View). after (seen_point pt m e (ended_kernel pt i p) u) (drop_lines ids)) all.view ∙ g.after;
+      placed = g.placed;
       mirrors = g.mirrors;
-      kernel = stands_set b pt g.next l g.on m k end p
+      kernel = stands_set b pt g.next l g.placed m k end p
           (record {
             here = refl;
             records = λ q off. ap (λ (d : Bool). if d then Some (Record.Ended Why.Killed) else k.records q) off;
-            queue = λ q off. g.queue m q (ap (λ (d : Bool). d && pid_eq p q) (eq_self m) ∙ off);
-            held = λ q off. g.held m q;
+            queue = λ q off. views.lists (Queue m q) (queue_of_others m p q off);
+            held = λ q off. views.held m q;
             known = others_known;
             processes = others_placed;
-            notes = λ q off. g.notes q;
+            notes = λ q off. bags.notes q;
             lives = others_live;
-            bag = λ q j off least. g.bag j (in_queue pt m p (Queue m q) j b l k y w c (other_queue m p q off) least) ∙ kept (Queue m q) j (queue_apart m m q) least;
-            holds = λ q j off least. g.bag j (in_queue pt m p (Held m q) j b l k y w c (held_no_queue m m p q) least) ∙ kept (Held m q) j (held_apart m m q) least;
-            mine = λ off. ended_known g.next g.on p (g.next.view.queue m p) (g.next.view.held m p) Why.Killed (end.records p) (g.next.view.known m p) (ap (λ (d : Bool). if d then Some (Record.Ended Why.Killed) else k.records p) (pid_eq-same p)) known (ap kernel.why_ended life);
+            bag = λ q j off least. bags.bag j (Queue m q) (queue_of_others m p q off) least ∙ kept (Queue m q) j (queue_apart m m q) least;
+            holds = λ q j off least. bags.bag j (Held m q) refl least ∙ kept (Held m q) j (held_apart m m q) least;
+            mine = λ off. ended_known g.next g.placed p (g.next.view.queue m p) (g.next.view.held m p) Why.Killed (end.records p) (g.next.view.known m p)
+                (ap (λ (d : Bool). if d then Some (Record.Ended Why.Killed) else k.records p) (pid_eq-same p)) known (ap kernel.why_ended life);
             keeps = λ server. absurd (false≢true (sym (not_server p h.process) ∙ server));
           }) c.stands
-          (ap (without p) c.stands.ring ∙ sym (g.ring m ∙ machine_self pt.view.ring m (without p (pt.view.ring m))))
-          (ap (map g.on.bag) (g.inbox m ∙ machine_self pt.view.inbox m (without_front i (pt.view.inbox m)) ∙ front_gone i c.ids (pt.view.inbox m) c.box) ∙ map_same l.bag g.on.bag c.ids behind ∙ c.others)
-          (c.stands.made ∙ sym (g.made m))
+          (ap (without p) c.stands.ring ∙ sym (g.ring ∙ machine_self pt.view.ring m (without p (pt.view.ring m))))
+          (ap (map g.placed.bag) (views.lists (Inbox m) refl ∙ box) ∙ map_same l.bag g.placed.bag c.ids behind ∙ c.others)
+          (c.stands.made ∙ sym (kernels.made m))
           (room_released k.room (room_of (slice_get b.machines m)) before now (length h.x.memory / 256) c.stands.room slots blocks)
-          (c.stands.servers ∙ (λ n. if m == 0 then Some (record { board = sym g.board n; manager = sym g.manager n }) else None));
+          (c.stands.servers ∙ (λ n. if m == 0 then Some (record { board = sym bags.board n; manager = sym bags.manager n }) else None));
       elsewhere = search (
-        g.acting,
-        g.groups,
-        g.pair,
-        g.held,
-        g.count,
-        g.told,
-        g.machines,
-        g.made,
-        g.board,
-        g.manager,
-        λ (n : ℕ) (off : n ≢ m). g.inbox n ∙ machine_off pt.view.inbox m n (without_front i (pt.view.inbox m)) off,
-        λ (n : ℕ) (off : n ≢ m). g.ring n ∙ machine_off pt.view.ring m n (without p (pt.view.ring m)) off,
-        λ (n : ℕ) (q : Pid) (off : n ≢ m). g.known n q ∙ record_off pt.view.known m n p q view.Ended off,
-        λ (n : ℕ) (q : Pid) (off : n ≢ m). g.queue n q (ap (λ (d : Bool). d && pid_eq p q) (eq_off m n off)),
+        views.held,
+        kernels.made,
+        bags.notes,
+        λ (n : ℕ) (off : n ≢ m). views.lists (Inbox n) refl ∙ machine_off pt.view.inbox m n (without_front i (pt.view.inbox m)) off,
+        λ (n : ℕ) (off : n ≢ m). views.ring n off ∙ machine_off pt.view.ring m n (without p (pt.view.ring m)) off,
+        λ (n : ℕ) (q : Pid) (off : n ≢ m). views.known n q (left_off (m == n) (pid_eq p q) (eq_off m n off)) ∙ record_off pt.view.known m n p q view.Ended off,
+        λ (n : ℕ) (q : Pid) (off : n ≢ m). views.lists (Queue n q) (left_off (m == n) (pid_eq p q) (eq_off m n off)),
         λ (n : ℕ) (q : Pid) (off : n ≢ m) (has : has_process (pt.view.known n q) ≡ true). left q (Elsewhere n off has),
         λ (n : ℕ) (q : Pid) (off : n ≢ m) (over : pt.view.known n q ≡ view.Ended). left q (Over n off over),
         others_placed,
-        g.notes,
         others_live,
         stays,
       );
       sent = tt;
       still = drops_still ids;
       count = refl;
-      moving = λ q is. let off = left q (Moves is) in (others_placed q off, ap (λ (d : Bool). if d then Some (Record.Ended Why.Killed) else k.records q) off, g.notes q);
-      own = λ j a none there. g.bag j (own_unqueued b pt m p l j a c.run c.mirrors none there) ∙ own_kept b m pt l k y w c on None (λ n. refl) (λ z f. absurd (cc)) j a none there;
-      own_back = λ j a none there. own_back l on i None (λ n. refl) (λ z f. absurd (cc)) j a none (g.back j a there);
+      moving = λ q is. let off = left q (Moves is) in (others_placed q off, ap (λ (d : Bool). if d then Some (Record.Ended Why.Killed) else k.records q) off, bags.notes q);
+      own = λ j a none there. bags.own j a none (own_kept b m pt l k y w c on None (λ n. refl) (λ z f. absurd (cc)) j a none there);
+      own_back = λ j a none there. own_back l on i None (λ n. refl) (λ z f. absurd (cc)) j a none (bags.own_back j a none there);
     }
 
 -- A message for the kernel itself: what is free and what a new process is, and the answer where there is no room for it.
@@ -388,10 +264,6 @@ valid_at (x ∷ xs) (suc n) g e h = valid_at xs n g e (and-both (image_is_valid 
 
 -- A user message for a process that is here: it is queued.
 
--- the view's queue
-pub told_is : (b : Boot) (m : ℕ) (pt : Point) (l : Placed) (k : KernelState) (y : Message) (w : said.PlainWhat) (c : Taking b m pt l k y w) → view.receiver_of (pt.view.told y.id) ≡ Some y.to.pid
-told_is b m pt l k y w c = ap view.receiver_of c.front.told_is ∙ ap Some (told_receiver b m pt y.id (plainly y w) c.front)
-
 pub user_row : (b : Boot) (m : ℕ) (pt : Point) (l : Placed) (k : KernelState) (y : Message) (code channel : ℕ) (bytes : List ℕ) (ls : List PlainLink) (c : Taking b m pt l k y (said.User code channel bytes ls)) → IsHere b m pt l k y.to.pid → Row b m pt l k
 user_row b m pt l k y code channel bytes ls c h =
     let w = said.User code channel bytes ls in
@@ -410,6 +282,8 @@ user_row b m pt l k y code channel bytes ls c h =
     let mine : KnownStands next l p (next.view.queue m p) (next.view.held m p) (next.view.known m p) ((with_here k0 p z).records p) =
     grind (arith, nat_tests, here_known, pid_eq-same, record_self, last_message) in
     let keeps : is_server p ≡ true → (with_here k0 p z).records p ≡ k.records p = λ server. absurd (false≢true (sym (not_server p h.process) ∙ server)) in
+    -- the view's queue
+    let told_is : view.receiver_of (pt.view.told y.id) ≡ Some y.to.pid = ap view.receiver_of c.front.told_is ∙ ap Some (told_receiver b m pt y.id (plainly y w) c.front) in
     record {
       state = with_here k0 p z;
       says = Line.Queued i ∷ [];
@@ -417,7 +291,7 @@ user_row b m pt l k y code channel bytes ls c h =
       turn = turn_is b m pt l k y w c (turned (with_here k0 p z) (Part.Says (Line.Queued i) ∷ [])) (here_turn b m pt l k y w c h (turned (with_here k0 p z) (Part.Says (Line.Queued i) ∷ [])) (ap (here_handles k0 y h.x) is));
       outcome = outcome_is b m pt l k y w c (Some (Says (Line.Queued i) ∷ [])) (here_outcome b m pt l k y w h (Some (Says (Line.Queued i) ∷ [])) refl);
       next = next;
-      after = ap (λ (o : Option Pid). Some (record { kernel = pt.kernel; view = view.queued_for v i o; addresses = pt.addresses })) (told_is b m pt l k y w c);
+      after = ap (λ (o : Option Pid). Some (record { kernel = pt.kernel; view = view.queued_for v i o; addresses = pt.addresses })) told_is;
       placed = l;
       mirrors = mirrors_view pt.kernel pt.view u pt.addresses l refl c.mirrors;
       kernel = stands_set b pt next l l m k (with_here k0 p z) p
@@ -425,12 +299,7 @@ user_row b m pt l k y code channel bytes ls c h =
           c.stands.ring
           (ap (map l.bag) (machine_self pt.view.inbox m (without_front i (pt.view.inbox m)) ∙ front_gone i c.ids (pt.view.inbox m) c.box) ∙ c.others)
           c.stands.made
-          (record {
-            slots = c.stands.room.slots;
-            blocks = c.stands.room.blocks;
-            taken_slots = c.stands.room.taken_slots ∙ ap (λ (r : Room). r.slots) (sym taken);
-            taken_blocks = c.stands.room.taken_blocks ∙ ap (λ (r : Room). r.blocks) (sym taken);
-          }) c.stands.servers;
+          (room_stays k.room _ _ _ taken c.stands.room) c.stands.servers;
       elsewhere = search (machine_off, pt.view.inbox, record_off);
       sent = tt;
       still = refl;

@@ -3,7 +3,7 @@ use Rattle.dm_mirror.proofs.Names.{◌≡◌, ℕ, ◌+◌, ◌≤◌, ◌==◌,
 use Rattle.dm_mirror.proofs.Names.{What, id_of, plain_kind, Label, Reply, PlainMessage, PlainWhat, plain_message, plain_what, Process, Direction, Status, Landed, Rest, Landing, plain_landed, ends_plainly, goes_on_plainly, length-written}
 use Rattle.dm_mirror.proofs.Names.{Boot, Alive, OneKernel, bind, piece_of, written_at, plain_process, plain_status, PlainProcess, counts, is_counted, unentered, lands-is, counts_process, not_server, bind-is, Routes, Point, View, bag_none}
 use Rattle.dm_mirror.proofs.Names.{both, Placed, after_landing, parts, lands_match, with_queue, plainly, block_what, written_what, gone_what, here_handles, KernelState, take, drop, after_serving, answer, answer_of, answer_with}
-use Rattle.dm_mirror.proofs.Names.{serving_answer, answer_id, answer_to, bag_served, served_id, has_bytes, WhatFits, answers_match, read_what, write_what, stop_what, resume_what, sort_of}
+use Rattle.dm_mirror.proofs.Names.{serving_answer, answer_id, answer_to, bag_served, served_id, has_bytes, WhatFits, answers_match, read_what, write_what, stop_what, resume_what, sort_of, some_is}
 use Rattle.dm_rule.proofs.Names.{Part}
 use Rattle.dm_mirror.proofs.Handle.Taking.{Taking, sane_of}
 use Rattle.dm_mirror.proofs.Turning.{Row}
@@ -26,30 +26,16 @@ record Lands (p : Pid) (x : Process) (o : Option Landing) (c : pieces.Landed) : 
   queue : d.process.queue ≡ x.queue
   memory : length d.process.memory ≡ length x.memory
 
-record Same (x : Process) (d : Landing) : Type 0 where
-  queue : d.process.queue ≡ x.queue
-  memory : d.process.memory ≡ x.memory
-
-if_same : (x : Process) (b : Bool) (c d : Landing) → Same x c → Same x d → Same x (if b then c else d)
-if_same x true c d h k = h
-if_same x false c d h k = k
-
-goes_same : (here : ℕ) (x : Process) (r : Rest) → Same x (landing.goes_on here x r)
-goes_same here x r = search if_same
-
 goes_lands : (here : ℕ) (p : Pid) (x y : Process) (o : Option Landing) (r : Rest) (c : pieces.Landed) → o ≡ Some (landing.goes_on here y r) → y.pid ≡ p → y.queue ≡ x.queue → length y.memory ≡ length x.memory
     → pieces.move_goes_on p (plain_process y) r.dir r.owner.pid r.base r.own r.left (piece_of r.left) ≡ c → Lands p x o c
 goes_lands here p x y o r c e pid queue memory f =
-    let g = goes_same here y r in
+    let queue_ : (landing.goes_on here y r).process.queue ≡ y.queue = grind (arith, nat_tests) in
+    let memory_ : (landing.goes_on here y r).process.memory ≡ y.memory = grind (arith, nat_tests) in
     search (
       goes_on_plainly here y r ∙ ap (λ (q : Pid). Some (pieces.move_goes_on q (plain_process y) r.dir r.owner.pid r.base r.own r.left (piece_of r.left))) pid ∙ ap Some f,
-      g.queue ∙ queue,
-      ap length g.memory ∙ memory,
+      queue_ ∙ queue,
+      ap length memory_ ∙ memory,
     )
-
--- the test of a landing holds
-some_is : (b : Bool) (x y : pieces.Landed) → (if b then Some x else None) ≡ Some y → (b ≡ true) × (x ≡ y)
-some_is b x y e = grind (arith, nat_tests)
 
 lands_what_of : (here : ℕ) (p : Pid) (x : Process) (dir : Direction) (owner : Addr) (base own left : ℕ) (w : What) (u : PlainWhat) (c : pieces.Landed) → plain_what w ≡ Some u → x.pid ≡ p
     → pieces.lands_what p (plain_process x) dir owner.pid base own left u ≡ Some c → Lands p x (landing.lands_what here x (record { dir = dir; owner = owner; base = base; own = own; left = left }) dir w) c

@@ -2,7 +2,7 @@
 use Rattle.dm_mirror.proofs.Names.{◌≡◌, ◌≢◌, ℕ, ◌≤◌, ◌==◌, Bool, true, false, List, [], ◌∷◌, map, refl, ap, ◌∙◌, sym, subst, inl, inr, is_some, arith, if◌then◌else◌, Option, None, Some, cases_Bool, false≢true, Pid, pid_eq, MsgId, nat_tests}
 use Rattle.dm_mirror.proofs.Names.{Message, id_eq, PlainWhat, plain_message, Boot, Label, Life, OneKernel, id_eq-is, pid_eq-is, Line, addresses_after, Point, after, Taken, Room, blocks_of, taken_by, takes_room, without_front, Spot, Queue}
 use Rattle.dm_mirror.proofs.Names.{Held, Inbox, times, standing, View, Unknown, Here, Ended, handled, is_kernels, Phase, Rests, is_away, is_here, knows, rests_here, InPhases, is_server, StepNeeds, Placed, Mirrors, placed_step, mirrors_view}
-use Rattle.dm_mirror.proofs.Names.{moves_label, plainly, placed_follows, handles, KernelState, KnownStands, servers_at, begun, seen}
+use Rattle.dm_mirror.proofs.Names.{moves_label, plainly, placed_follows, handles, KernelState, KnownStands, servers_at, begun, seen, RoomStands, room_of, slice_get, taken_at}
 use Rattle.dm_places.specs.PlacedStep.{with_sent, without_message}
 use Rattle.dm_onekernel.specs.Step as kernel
 use Rattle.dm_rule.specs.Rule as rule
@@ -59,15 +59,12 @@ here_not pt m p h here (Elsewhere n apart has) = has_none (pt.view.known n p) (a
 here_not pt m p h here (Over n apart ended) = false≢true (sym (ap is_away ended) ∙ away_elsewhere pt m n p h here apart)
 here_not pt m p h here (Moves moving) = false≢true (sym (ap is_moving here) ∙ moving)
 
-other_than : (p q : Pid) → (p ≡ q → ⊥) → pid_eq p q ≡ false
+pub other_than : (p q : Pid) → (p ≡ q → ⊥) → pid_eq p q ≡ false
 other_than p q off = grind (arith, nat_tests, pid_eq-is)
 
 -- so it is none of these
 pub here_left : (pt : Point) (m : ℕ) (p q : Pid) → InPhases pt.view → pt.view.known m p ≡ Here → IsLeft m pt q → pid_eq p q ≡ false
 here_left pt m p q h here is = other_than p q (λ e. here_not pt m p h here (subst (IsLeft m pt) (sym e) is))
-
-pub unknown_left : (pt : Point) (m : ℕ) (p q : Pid) → ((n : ℕ) → pt.view.known n p ≡ Unknown) → IsLeft m pt q → pid_eq p q ≡ false
-unknown_left pt m p q h is = other_than p q (λ e. grind (arith, nat_tests))
 
 -- what such a row leaves of both kernels and of the machine, but for the process that may go on
 pub record RowLeaves (m : ℕ) (pt : Point) (l : Placed) (k : KernelState) (rest : List Message) (i : MsgId) (process : Pid) (next : OneKernel) (placed : Placed) (state : KernelState) (route : Option Message) : Type 0 where
@@ -144,12 +141,9 @@ own_kept b m pt l k y w c n o bag other j x none there =
     sent_apart a is false e = refl
     sent_apart a is true e = absurd (false≢true (sym (other a is) ∙ ap is_kernels (id_eq-is a.id j e) ∙ (c.own j x there none).mine))
 
-own_at : (l : Placed) (i : MsgId) (o : Option Message) (j : MsgId) (x : Message) → ((a : Message) → o ≡ Some a → is_some (plain_message a) ≡ true) → plain_message x ≡ None → (with_sent (without_message l i) o).bag j ≡ Some x → l.bag j ≡ Some x
-own_at l i o j x plain none there = grind (arith, nat_tests)
-
 pub own_back : (l n : Placed) (i : MsgId) (o : Option Message) → ((j : MsgId) → n.bag j ≡ (with_sent (without_message l i) o).bag j) → ((a : Message) → o ≡ Some a → is_some (plain_message a) ≡ true)
     → (j : MsgId) (x : Message) → plain_message x ≡ None → n.bag j ≡ Some x → l.bag j ≡ Some x
-own_back l n i o bag plain j x none there = own_at l i o j x plain none (sym (bag j) ∙ there)
+own_back l n i o bag plain j x none there = let was = sym (bag j) ∙ there in grind (arith, nat_tests)
 
 -- what the processes take of the room stays
 same_taken : (b : Boot) (m : ℕ) (pt : Point) (l : Placed) (k : KernelState) (y : Message) (w : PlainWhat) (c : Taking b m pt l k y w) (h : Labelled b m pt l k y w c) (q : Pid) → taken_by (handled_point pt m y.id h.label h.next) m q ≡ taken_by pt m q
@@ -191,12 +185,8 @@ turns_row b m pt l k y w c h =
           (ap (map h.placed.bag) (machine_self pt.view.inbox m (without_front y.id (pt.view.inbox m)) ∙ front_gone y.id c.ids (pt.view.inbox m) c.box)
           ∙ map_same l.bag h.placed.bag c.ids behind ∙ c.others ∙ ap (map Some) (sym h.leaves.inbox))
           (h.leaves.count ∙ stands.made ∙ sym (h.leaves.made m))
-          (record {
-            slots = ap (λ (t : Taken). t.slots) h.leaves.room ∙ stands.room.slots;
-            blocks = ap (λ (t : Taken). t.blocks) h.leaves.room ∙ stands.room.blocks;
-            taken_slots = ap (λ (t : Taken). t.taken_slots) h.leaves.room ∙ stands.room.taken_slots ∙ ap (λ (r : Room). r.slots) (sym taken);
-            taken_blocks = ap (λ (t : Taken). t.taken_blocks) h.leaves.room ∙ stands.room.taken_blocks ∙ ap (λ (r : Room). r.blocks) (sym taken);
-          }) h.leaves.servers;
+          (subst (λ (t : Taken). RoomStands t (room_of (slice_get b.machines m)) (taken_at next m next.kernel.machines)) (sym h.leaves.room) (subst (RoomStands k.room (room_of (slice_get b.machines m))) (sym taken) stands.room))
+          h.leaves.servers;
       elsewhere = search (
         machine_off,
         h.leaves.made,

@@ -3,7 +3,7 @@ use Rattle.dm_mirror.proofs.Names.{◌≡◌, ℕ, ◌+◌, ◌==◌, ◌||◌, 
 use Rattle.dm_mirror.proofs.Names.{Message, Label, PlainMessage, PlainWhat, plain_message, Boot, switchboard, manager, Life, Manager, OneKernel, bind, plain_board, plain_request, control_link, Managing, at_home, plain_manager}
 use Rattle.dm_mirror.proofs.Names.{plain_pending, plain_created, plain_no_room, plain_pending_numbered, plain_user, counts, unentered, ServerSends, board_takes_lem, manager_takes_lem, Point, blocks_of, bag_none, is_server, IsPending}
 use Rattle.dm_mirror.proofs.Names.{WhatFits, home_of, StepNeeds, Placed, MirrorsKernel, board_took, manager_took, of_map, parts, plainly, user_what, created_what, no_room_what, Servers, handles, board_handles, manager_handles, KernelState}
-use Rattle.dm_mirror.proofs.Names.{turned, servers_at, server_fixed, pending_is, is_some, Addr, Link, What, plain_what, Board, answer_over, ◌≢◌, begun, code_of_outcome, PendingKind, moved_what, plain_moved}
+use Rattle.dm_mirror.proofs.Names.{turned, servers_at, server_fixed, pending_is, is_some, Addr, Link, What, plain_what, Board, answer_over, ◌≢◌, begun, code_of_outcome, PendingKind, moved_what, plain_moved, Switchboard}
 use Rattle.dm_places.proofs.Names.{Pending}
 use Rattle.dm_rule.proofs.Names.{Part}
 pub use Rattle.dm_places.proofs.Frames.{kept_processes as placed_processes}
@@ -20,7 +20,7 @@ use Rattle.dm_kernel.specs.declared.part.Part as parts_
 use Rattle.dm_kernel.specs.Handle as machine
 use Rattle.dm_kernel.specs.State as state
 use Rattle.dm_mirror.proofs.Handle.Rows.{turns_row}
-use Rattle.dm_mirror.proofs.Handle.Taking.{Taking, sane_of, some_of, to_board, to_manager, rule_to_board, rule_to_manager}
+use Rattle.dm_mirror.proofs.Handle.Taking.{Taking, sane_of, some_of, rule_to_board, rule_to_manager}
 use Rattle.dm_mirror.proofs.Turning.{routed, Row, rule_routed}
 use Rattle.dm_mirror.proofs.Follow.Updates.{first_servers as servers_zero}
 
@@ -34,94 +34,46 @@ routes_plainly o h = grind (arith, nat_tests, some_of)
 pub plain_one : (a : Message) → is_some (plain_message a) ≡ true → IsPlain (Some a)
 plain_one a h x e = let f : a ≡ x = cc in ap (λ (n : Message). is_some (plain_message n)) (sym f) ∙ h
 
--- what the switchboard sends
-pub board_plain : (here : ℕ) (g : Board) (body : List ℕ) (ls : List Link) → IsPlain (board.takes_request here g body ls).took.answer
-board_plain here g body [] a e = cc
-board_plain here g body (k ∷ ks) a e = plain_one (board.answer_over here g.sent k (board.asks g.names body ks).reply) refl a e
-
 -- what the manager sends
-none_plain : IsPlain None
-none_plain a e = cc
-
 pub answers_plain : (here : ℕ) (g : Managing) (o : Option Link) (code : ℕ) (ls : List Link) → IsPlain (manage.answers_over here g o code ls).message
-answers_plain here g None code ls = none_plain
-answers_plain here g (Some l) code ls = plain_one (answer_over here g.sent l code ls) refl
+answers_plain here g o code ls = grind (arith, nat_tests, plain_one)
 
-bad_plain : (here : ℕ) (g : Managing) (ls : List Link) → IsPlain (manage.bad_request here g ls).message
-bad_plain here g [] = none_plain
-bad_plain here g (k ∷ ks) = answers_plain here g (Some k) 2 []
-
-wants_plain : (here : ℕ) (g : Managing) (machine image : ℕ) (ls : List Link) → IsPlain (manage.wants_child here g machine image ls).message
-wants_plain here g machine image [] = bad_plain here g []
-wants_plain here g machine image (k ∷ ks) = grind (arith, nat_tests, plain_one, bad_plain, g.machines, g.images, g.sent)
-
-requests_plain : (here : ℕ) (g : Managing) (body : List ℕ) (ls : List Link) → IsPlain (manage.requests here g body ls).message
-requests_plain here g (operation ∷ machine ∷ high ∷ low ∷ []) ls = grind (arith, nat_tests, wants_plain, bad_plain)
-requests_plain here g _ ls = bad_plain here g ls
-
-control_plain : (here : ℕ) (g : Managing) (child : Addr) (o : Option What) (ls : List Link) → ((w : What) → o ≡ Some w → is_some (plain_what w) ≡ true) → IsPlain (manage.controls_child here g child o ls).message
-control_plain here g child None ls h = bad_plain here g ls
-control_plain here g child (Some w) ls h = grind (arith, nat_tests, plain_one, g.sent)
-
-control_of_plain : (operation : ℕ) (w : What) → manage.control_of operation ≡ Some w → is_some (plain_what w) ≡ true
-control_of_plain operation w e = grind (arith, nat_tests, is_some)
-
-plain_if : (c : Bool) (t u : manage.Taken) → IsPlain t.message → IsPlain u.message → IsPlain (if c then t else u).message
-plain_if true t u h k = h
-plain_if false t u h k = k
-
-controls_plain : (here : ℕ) (g : Managing) (o : Option Addr) (body : List ℕ) (ls : List Link) → IsPlain (manage.controls here g o body ls).message
-controls_plain here g (Some child) (operation ∷ []) ls = control_plain here g child (manage.control_of operation) ls (control_of_plain operation)
-controls_plain here g (Some child) (operation ∷ machine ∷ []) ls = search (bad_plain, plain_if, plain_one)
-controls_plain here g None body ls = bad_plain here g ls
-controls_plain here g (Some child) _ ls = bad_plain here g ls
-
-pub user_plain : (here : ℕ) (g : Managing) (code : ℕ) (body : List ℕ) (ls : List Link) → IsPlain (manage.takes_user here g code body ls).message
-user_plain here g code body ls = grind (arith, nat_tests, requests_plain, controls_plain, g.children)
+user_plain : (here : ℕ) (g : Managing) (code : ℕ) (body : List ℕ) (ls : List Link) → IsPlain (manage.takes_user here g code body ls).message
+user_plain here g code body ls = grind (arith, nat_tests, plain_one)
 
 -- Messages that a server takes, and what it sends.
 
--- a message that is sent, if any
-routes_same : (o : Option Message) → machine.routes o ≡ routed o
-routes_same o = grind (arith, nat_tests)
-
-pub sent_processes : (u : OneKernel) (o : Option PlainMessage) (q : Pid) → (kernels.with_sent u o).processes q ≡ u.processes q
-sent_processes u o q = grind (arith, nat_tests)
-
-pub sent_made : (u : OneKernel) (o : Option PlainMessage) (n : ℕ) → (kernels.with_sent u o).made n ≡ u.made n
-sent_made u o n = grind (arith, nat_tests)
-
-pub sent_machines : (u : OneKernel) (o : Option PlainMessage) → (kernels.with_sent u o).machines ≡ u.machines
-sent_machines u o = grind (arith, nat_tests)
+-- what is sent changes but the bag
+pub sent_leaves : (u : OneKernel) (o : Option PlainMessage) → ((q : Pid) → (kernels.with_sent u o).processes q ≡ u.processes q) × ((n : ℕ) → (kernels.with_sent u o).made n ≡ u.made n) × ((kernels.with_sent u o).machines ≡ u.machines)
+sent_leaves u None = (λ q. refl, λ n. refl, refl)
+sent_leaves u (Some x) = (λ q. refl, λ n. refl, refl)
 
 pub placed_bag : (l n : Placed) (o : Option Message) (j : MsgId) → l.bag j ≡ n.bag j → (placed.with_sent l o).bag j ≡ (placed.with_sent n o).bag j
 placed_bag l n o j e = grind (arith, nat_tests)
 
-pub placed_notes : (l : Placed) (o : Option Message) (q : Pid) → (placed.with_sent l o).notes q ≡ l.notes q
-placed_notes l o q = grind (arith, nat_tests)
+pub placed_leaves : (l : Placed) (o : Option Message) → ((q : Pid) → (placed.with_sent l o).notes q ≡ l.notes q) × ((m : ℕ) → servers_at (placed.with_sent l o) m ≡ servers_at l m)
+placed_leaves l None = (λ q. refl, λ m. refl)
+placed_leaves l (Some x) = (λ q. refl, λ m. refl)
 
-pub placed_servers : (l : Placed) (o : Option Message) (m : ℕ) → servers_at (placed.with_sent l o) m ≡ servers_at l m
-placed_servers l o m = grind (arith, nat_tests)
+-- the kernels where a server has taken a message, before what it sends enters
+abbrev took_kernel : OneKernel → MsgId → Switchboard → Manager → OneKernel
+took_kernel s i g h = record (service.without_message s i) { switchboard = g; manager = h }
 
--- a server takes the message: u and on are the kernels then, before what it sends enters
+abbrev took_placed : Placed → MsgId → Servers → Placed
+took_placed l i v = record (placed.without_message l i) { board = v.board; manager = v.manager }
+
+-- a server takes the message
 pub record Takes (b : Boot) (m : ℕ) (pt : Point) (l : Placed) (k : KernelState) (y : Message) (w : PlainWhat) (c : Taking b m pt l k y w) : Type 0 where
-  pub u : OneKernel
-  pub on : Placed
+  pub board : Switchboard
+  pub manages : Manager
   pub sent : Option Message
   pub servers : Servers
   pub home : m ≡ 0
   pub server : is_server y.to.pid ≡ true
-  pub step : kernel.step pt.kernel (Label.Took y.id) ≡ Some (kernels.with_sent u (bind sent plain_message))
-  pub placed_is : placed.placed_step m pt.kernel.format pt.kernel.images l (Label.Took y.id) ≡ Some (placed.with_sent on sent)
+  pub step : kernel.step pt.kernel (Label.Took y.id) ≡ Some (kernels.with_sent (took_kernel pt.kernel y.id board manages) (bind sent plain_message))
+  pub placed_is : placed.placed_step m pt.kernel.format pt.kernel.images l (Label.Took y.id) ≡ Some (placed.with_sent (took_placed l y.id servers) sent)
   pub turn : handles b (record k { inbox = c.rest }) y ≡ turned (record k { inbox = c.rest; servers = Some servers }) (state.says (Label.Took y.id) ∷ machine.routes sent)
   pub outcome : rule.handles b pt m y.id (plainly y w) ≡ Some (rule.says (Label.Took y.id) ∷ rule.routes (bind sent plain_message))
-  pub machines : u.machines ≡ pt.kernel.machines
-  pub made : (n : ℕ) → u.made n ≡ pt.kernel.made n
-  pub lives : (q : Pid) → u.processes q ≡ pt.kernel.processes q
-  pub processes : (q : Pid) → on.processes q ≡ l.processes q
-  pub notes : (q : Pid) → on.notes q ≡ l.notes q
-  pub bag : (j : MsgId) → on.bag j ≡ (placed.without_message l y.id).bag j
-  pub servers_is : Some servers ≡ servers_at on m
   pub plain : IsPlain sent
   pub fresh : (q : PlainMessage) → bind sent plain_message ≡ Some q → counts pt.kernel q.id ≡ false
 
@@ -131,14 +83,18 @@ took_row b m pt l k y w c h =
     let p = y.to.pid in
     let e = Label.Took y.id in
     let said = bind h.sent plain_message in
-    let next = kernels.with_sent h.u said in
-    let on = placed.with_sent h.on h.sent in
+    let u = took_kernel s y.id h.board h.manages in
+    let before = took_placed l y.id h.servers in
+    let next = kernels.with_sent u said in
+    let on = placed.with_sent before h.sent in
     let seen = sane_of b m pt l k y w c in
     let needs : StepNeeds s (begun pt m).view e = (h.home, c.run.based.pending) in
-    let lives : (q : Pid) → next.processes q ≡ s.processes q = λ q. sent_processes h.u said q ∙ h.lives q in
-    let processes : (q : Pid) → on.processes q ≡ l.processes q = λ q. placed_processes h.on h.sent q ∙ h.processes q in
+    let lives : (q : Pid) → next.processes q ≡ s.processes q = (sent_leaves u said).0 in
+    let processes : (q : Pid) → on.processes q ≡ l.processes q = placed_processes before h.sent in
     let board : m ≢ 0 → on.board ≡ l.board = λ off. absurd (off h.home) in
     let manager : m ≢ 0 → on.manager ≡ l.manager = λ off. absurd (off h.home) in
+    -- a message that is sent, if any
+    let routes_same : machine.routes h.sent ≡ routed h.sent = grind (arith, nat_tests) in
     turns_row b m pt l k y w c (record {
       label = e;
       next = next;
@@ -150,7 +106,7 @@ took_row b m pt l k y w c h =
       view = refl;
       needs = needs;
       placed_is = h.placed_is;
-      turn = h.turn ∙ ap (λ (ps : List parts_.Part). turned (record k { inbox = c.rest; servers = Some h.servers }) (state.says e ∷ ps)) (routes_same h.sent);
+      turn = h.turn ∙ ap (λ (ps : List parts_.Part). turned (record k { inbox = c.rest; servers = Some h.servers }) (state.says e ∷ ps)) routes_same;
       outcome = h.outcome ∙ ap (λ (ps : List Part). Some (rule.says e ∷ ps)) (routes_plainly h.sent h.plain);
       fresh = λ a is.
           let (q, plain) = some_of (plain_message a) (h.plain a is) in
@@ -159,19 +115,20 @@ took_row b m pt l k y w c h =
       plain = h.plain;
       mine = λ off bag holds. absurd (false≢true (sym off ∙ h.server));
       leaves = search (
-        sent_machines h.u said ∙ h.machines,
-        λ (n : ℕ). sent_made h.u said n ∙ h.made n,
+        (sent_leaves u said).2,
+        (sent_leaves u said).1,
         lives,
         ap (λ (o : Option Life). blocks_of (kernel.alive o)) (lives p),
         processes,
-        λ (q : Pid). placed_notes h.on h.sent q ∙ h.notes q,
-        λ (j : MsgId). placed_bag h.on (placed.without_message l y.id) h.sent j (h.bag j),
+        (placed_leaves before h.sent).0,
+        λ (j : MsgId). placed_bag before (placed.without_message l y.id) h.sent j refl,
         board,
         manager,
-        h.servers_is ∙ sym (placed_servers h.on h.sent m),
+        sym ((placed_leaves before h.sent).1 m ∙ servers_zero before m h.home),
       );
     })
 
+-- what the switchboard sends
 pub board_row : (b : Boot) (m : ℕ) (pt : Point) (l : Placed) (k : KernelState) (y : Message) (w : PlainWhat) (ps : List Part) → Taking b m pt l k y w → (y.to.pid.num == 0) ≡ false → pid_eq y.to.pid switchboard ≡ true
     → rule.board_took y.id (boards.board_takes pt.kernel.switchboard (plainly y w) w) ≡ Some ps → Row b m pt l k
 board_row b m pt l k y (PlainWhat.User code channel bytes ls) ps c num is goes =
@@ -188,8 +145,8 @@ board_row b m pt l k y (PlainWhat.User code channel bytes ls) ps c num is goes =
     let takes : boards.board_takes s.switchboard x w ≡ Some kk = grind (arith, nat_tests, plain_request) in
     let taken : board.takes m l.board y.what ≡ Some t = ap (board.takes m l.board) u.is in
     took_row b m pt l k y w c (record {
-      u = record (service.without_message s y.id) { switchboard = kk.switchboard };
-      on = record (placed.without_message l y.id) { board = t.board };
+      board = kk.switchboard;
+      manages = s.manager;
       sent = t.took.answer;
       servers = record v { board = t.board };
       home = at;
@@ -201,17 +158,10 @@ board_row b m pt l k y (PlainWhat.User code channel bytes ls) ps c num is goes =
           ∙ ap (λ (d : Bool). if d then bind (board.takes m l.board y.what) (λ (z : board.Taken). Some (board_took (placed.without_message l y.id) z))
           else if pid_eq y.to.pid manager then bind (manage.takes m l.manager y.id.n y.what) (λ (z : manage.Taken). Some (manager_took (placed.without_message l y.id) z)) else None) is
           ∙ ap (λ (o : Option board.Taken). bind o (λ (z : board.Taken). Some (board_took (placed.without_message l y.id) z))) taken;
-      turn = to_board b k0 y num is ∙ ap (board_handles k0 y) (c.stands.servers ∙ servers_zero l m at)
+      turn = (let e_ : handles b k0 y ≡ board_handles k0 y k0.servers = grind (arith, nat_tests) in e_) ∙ ap (board_handles k0 y) (c.stands.servers ∙ servers_zero l m at)
           ∙ ap (λ (n : ℕ). machine.board_took k0 y v (board.takes n l.board y.what)) c.stands.here ∙ ap (machine.board_took k0 y v) taken;
       outcome = rule_to_board b pt m y.id x num is ∙ ap (rule.board_took y.id) takes;
-      machines = refl;
-      made = λ n. refl;
-      lives = λ q. refl;
-      processes = λ q. refl;
-      notes = λ q. refl;
-      bag = λ j. refl;
-      servers_is = sym (servers_zero (record (placed.without_message l y.id) { board = t.board }) m at);
-      plain = board_plain m l.board u.body.items u.links.items;
+      plain = grind (arith, nat_tests, plain_one);
       fresh = λ q e.
           let sends = subst (λ (o : Option PlainMessage). ServerSends switchboard s.switchboard.sent o kk.switchboard.sent) e (board_takes_lem s.switchboard x w kk takes).2 in
           ap (counts s) sends.0 ∙ (let z : nat_lt s.switchboard.sent s.switchboard.sent ≡ false = grind (arith, nat_tests) in z);
@@ -230,8 +180,8 @@ manager_by b m pt l k y w t c num off is taken takes plain =
     let v : Servers = record { board = l.board; manager = l.manager } in
     let kk : one.ManagerTook = record { manager = plain_manager t.manager; message = bind t.message plain_message } in
     took_row b m pt l k y w c (record {
-      u = record (service.without_message s y.id) { manager = kk.manager };
-      on = record (placed.without_message l y.id) { manager = t.manager };
+      board = s.switchboard;
+      manages = kk.manager;
       sent = t.message;
       servers = record v { manager = t.manager };
       home = at;
@@ -245,16 +195,9 @@ manager_by b m pt l k y w t c num off is taken takes plain =
           else if pid_eq y.to.pid manager then bind (manage.takes m l.manager y.id.n y.what) (λ (z : manage.Taken). Some (manager_took (placed.without_message l y.id) z)) else None) off
           ∙ ap (λ (d : Bool). if d then bind (manage.takes m l.manager y.id.n y.what) (λ (z : manage.Taken). Some (manager_took (placed.without_message l y.id) z)) else None) is
           ∙ ap (λ (o : Option manage.Taken). bind o (λ (z : manage.Taken). Some (manager_took (placed.without_message l y.id) z))) taken;
-      turn = to_manager b k0 y num off is ∙ ap (manager_handles k0 y) (c.stands.servers ∙ servers_zero l m at)
+      turn = (let e_ : handles b k0 y ≡ manager_handles k0 y k0.servers = search in e_) ∙ ap (manager_handles k0 y) (c.stands.servers ∙ servers_zero l m at)
           ∙ ap (λ (n : ℕ). machine.manager_took k0 y v (manage.takes n l.manager y.id.n y.what)) c.stands.here ∙ ap (machine.manager_took k0 y v) taken;
       outcome = rule_to_manager b pt m y.id x num off is ∙ ap (rule.manager_parts y.id) takes;
-      machines = refl;
-      made = λ n. refl;
-      lives = λ q. refl;
-      processes = λ q. refl;
-      notes = λ q. refl;
-      bag = λ j. refl;
-      servers_is = sym (servers_zero (record (placed.without_message l y.id) { manager = t.manager }) m at);
       plain = plain;
       fresh = λ q e.
           let sends = subst (λ (o : Option PlainMessage). ServerSends manager s.manager.sent o kk.manager.sent) e (manager_takes_lem s.manager s.machines (length s.images) x w kk takes).2.sends in

@@ -4,9 +4,8 @@ use Rattle.dm_mirror.proofs.Names.{nat_tests, PlainMessage, PlainWhat, plain_mes
 use Rattle.dm_mirror.proofs.Names.{times, standing, StandsAsBag, StandsNowhere, StandsOutside, StandsRight, is_kernels, stands_right, kernels_fresh, not_kernels, Sane, StandsAsBag-elsewhere, StandsAsBag-one, front, OwnTold, IsQueued, Run}
 use Rattle.dm_mirror.proofs.Names.{Front, Placed, Mirrors, MirrorsKernel, parts, there_of, plainly, plainly_is, handles, KernelState, Turned, turn, turns, MadeStands, AllOwnStand, AreMessages, KernelStands, ◌==◌, ◌&&◌, [], slice_get}
 use Rattle.dm_mirror.proofs.Names.{pid_eq, room_of, pid_eq-is, taken_at, at_machine, at_record, Known, is_server, KnownStands, RoomStands, servers_at, ◌||◌, length, switchboard, manager, kernel_handles, board_handles, manager_handles}
-use Rattle.dm_mirror.proofs.Names.{process_handles}
+use Rattle.dm_mirror.proofs.Names.{process_handles, not_true}
 use Rattle.dm_rule.proofs.Names.{Part}
-use Rattle.dm_rule.proofs.States.{not_true}
 use Rattle.dm_places.specs.PlacedStep.{with_sent, without_message}
 pub use Rattle.dm_rulelaws.proofs.Goes.Always.{queue_apart}
 pub use Rattle.dm_rulelaws.proofs.Goes.Turns.{times_self, times_more}
@@ -16,12 +15,10 @@ use Rattle.dm_rule.specs.Parts as part_of_rule
 use Rattle.dm_rule.specs.Rule as rule
 use Rattle.dm_onekernel.specs.Manager as manage
 use Rattle.dm_onekernel.specs.Switchboard as board
+pub use Rattle.std.proofs.lemmas.Option.{same_Some as some_same}
 pub use Rattle.dm_mirror.proofs.Kernel.Sets.{known_at as known_on, map_same}
 pub use Rattle.dm_mirror.proofs.Join.{some_plain as some_of}
 pub use Rattle.dm_mirror.proofs.End.Servers.{off as eq_off}
-
-pub some_same : {X : Type 0} (x y : X) → Some x ≡ Some y → x ≡ y
-some_same x y e = cc
 
 -- the message at the front
 pub record FrontOf (bag : MsgId → Option Message) (i : MsgId) (is : List MsgId) (ms : List Message) : Type 0 where
@@ -109,15 +106,8 @@ pub record Taking (b : Boot) (m : ℕ) (pt : Point) (l : Placed) (k : KernelStat
   pub others : AreMessages l.bag ids rest
   pub front : Front b m pt y.id (plainly y w)
 
-abbrev is_held : Spot → Bool
-is_held (Held m p) = true
-is_held _ = false
-
 pub held_apart : (m n : ℕ) (p : Pid) → Held n p ≢ Inbox m
-held_apart m n p e = false≢true (sym (ap is_held e))
-
-pub held_no_queue : (m n : ℕ) (p q : Pid) → Held n q ≢ Queue m p
-held_no_queue m n p q e = false≢true (sym (ap is_held e))
+held_apart m n p e = cc
 
 -- the front of the inbox is a message of the bag
 pub record Took (b : Boot) (m : ℕ) (pt : Point) (l : Placed) (k : KernelState) (i : MsgId) (x : PlainMessage) : Type 0 where
@@ -228,12 +218,6 @@ not_server p h = ap (λ (c : Bool). c || pid_eq p manager) h.no_board ∙ h.no_m
 
 pub to_kernel : (b : Boot) (s : KernelState) (y : Message) → (y.to.pid.num == 0) ≡ true → handles b s y ≡ kernel_handles b s y y.what
 to_kernel b s y num = grind (arith, nat_tests)
-
-pub to_board : (b : Boot) (s : KernelState) (y : Message) → (y.to.pid.num == 0) ≡ false → pid_eq y.to.pid switchboard ≡ true → handles b s y ≡ board_handles s y s.servers
-to_board b s y num one = grind (arith, nat_tests)
-
-pub to_manager : (b : Boot) (s : KernelState) (y : Message) → (y.to.pid.num == 0) ≡ false → pid_eq y.to.pid switchboard ≡ false → pid_eq y.to.pid manager ≡ true → handles b s y ≡ manager_handles s y s.servers
-to_manager b s y num one two = search
 
 pub to_process : (b : Boot) (s : KernelState) (y : Message) → IsProcess y.to.pid → handles b s y ≡ process_handles s y (s.records y.to.pid)
 to_process b s y h = search

@@ -4,9 +4,10 @@ use Rattle.dm_mirror.proofs.Names.{◌≡◌, ◌≢◌, ℕ, ◌≤◌, ◌==�
 use Rattle.dm_mirror.proofs.Names.{nat_tests, Pid, pid_eq, Message, MsgId, plain_message, Taken, with_released, Record, Boot, Life, OneKernel, KernelState, room_of, pid_eq-is, Point, Room, taken_at, taken_by, takes_room, blocks_of, Spot}
 use Rattle.dm_mirror.proofs.Names.{Queue, Held, Inbox, times, ids_at, standing, View, Known, Unknown, Here, Frozen, Incoming, Forward, Ended, is_away, is_server, Placed, MadeStands, AreMessages, KnownStands, KernelStands, RoomStands}
 use Rattle.dm_mirror.proofs.Names.{servers_at, coming, ◌/◌, length, Process, Why, Alive, plain_process, with_queue, id_eq, PlainMessage, Label, bind, id_eq-is, pid_eq-same, Line, moved, after, at_machine, at_record, without, without_front}
-use Rattle.dm_mirror.proofs.Names.{moved_back, StandsNowhere, StandsOutside, StandsRight, serving, handled, is_kernels, Mirrors, MirrorsKernel, placed_step, StepNeeds, mirrors_view, moves_label, placed_follows, ended, Asker}
+use Rattle.dm_mirror.proofs.Names.{moved_back, StandsNowhere, StandsOutside, StandsRight, serving, handled, is_kernels, Mirrors, MirrorsKernel, placed_step, StepNeeds, mirrors_view, moves_label, placed_follows, ended, Asker, HereStands}
 pub use Rattle.dm_rulelaws.proofs.Goes.Turns.{times_self, times_more}
 pub use Rattle.dm_rule.proofs.Lines.{eq_self}
+pub use Rattle.std.proofs.lemmas.Bool.{and_left as left_off, cond-false as off_if, cond-true as on_if}
 pub use Rattle.dm_rule.proofs.Trails.Spares.{not_is}
 pub use Rattle.dm_rule.proofs.Phases.Pieces.{and_false as right_off}
 use Rattle.dm_places.specs.PlacedStep.{with_message, with_process, with_sent, without_message}
@@ -18,16 +19,6 @@ use Rattle.dm_onekernel.specs.Service as service
 use Rattle.dm_mirror.proofs.Turning.{Elsewhere, is_elsewhere, has_process}
 use Rattle.dm_mirror.proofs.Rooms.{taken_same, taken_changed}
 pub use Rattle.dm_mirror.proofs.End.Servers.{off as eq_apart}
-
--- small tests
-pub off_if : {A : Type 0} (c : Bool) (x y : A) → c ≡ false → (if c then x else y) ≡ y
-off_if c x y e = ap (λ (b : Bool). if b then x else y) e
-
-pub on_if : {A : Type 0} (c : Bool) (x y : A) → c ≡ true → (if c then x else y) ≡ x
-on_if c x y e = ap (λ (b : Bool). if b then x else y) e
-
-pub left_off : (a b : Bool) → a ≡ false → (a && b) ≡ false
-left_off a b e = ap (λ (c : Bool). c && b) e
 
 -- the queue of process p on machine m
 abbrev pub is_queue_of : ℕ → Pid → Spot → Bool
@@ -155,18 +146,29 @@ map_same f g (i ∷ is) h = λ j. h i (times_self i is) j ∷ (map_same f g is (
 pub messages_on : (f g : MsgId → Option Message) (ids : List MsgId) (ms : List Message) → ((i : MsgId) → 1 ≤ times i ids → g i ≡ f i) → AreMessages f ids ms → AreMessages g ids ms
 messages_on f g ids ms same h = map_same f g ids same ∙ h
 
+-- a process stays with its messages, and what is known of it
+module _ (pt next : Point) (l placed : Placed) (p : Pid) (ids js : List MsgId) (queue : (i : MsgId) → 1 ≤ times i ids → placed.bag i ≡ l.bag i) (held : (i : MsgId) → 1 ≤ times i js → placed.bag i ≡ l.bag i) where
+  here_stays : (x : Process) → placed.processes p ≡ l.processes p → HereStands l p ids x → HereStands placed p ids x
+  here_stays x process h = ((h.0.0, process ∙ h.0.1), messages_on l.bag placed.bag ids x.queue queue h.1)
+
+  pub known_same : (k : Known) (r : Option machine.KernelKnown) → (has_process k ≡ true → placed.processes p ≡ l.processes p) → (has_process k ≡ true → placed.notes p ≡ l.notes p)
+      → (k ≡ Ended → next.kernel.processes p ≡ pt.kernel.processes p)
+      → KnownStands pt l p ids js k r → KnownStands next placed p ids js k r
+  known_same Unknown None process notes ended h = tt
+  known_same Here (Some (Record.Here x)) process notes ended h = here_stays x (process refl) h
+  known_same (Frozen to) (Some (Record.Frozen d)) process notes ended h =
+      record { to = h.to; asker = h.asker ∙ sym (notes refl); here = here_stays d.process (process refl) h.here; held = messages_on l.bag placed.bag js d.held held h.held; whole = h.whole }
+  known_same (Incoming from) (Some (Record.Incoming a)) process notes ended h =
+      let pieces = h.pieces ∙ ap (λ (k : Option Asker). coming h.process k a.held a.wanted) (sym (notes refl)) in
+      record { process = h.process; there = process refl ∙ h.there; whole = h.whole; pieces = pieces; held = messages_on l.bag placed.bag js a.held held h.held }
+  known_same (Forward at_ moves) (Some (Record.Forward to n)) process notes ended h = h
+  known_same Ended (Some (Record.Ended y)) process notes ended h = ap kernel.why_ended (ended refl) ∙ h
+  known_same k r process notes ended h = h
+
 -- what a machine knows of a process that stays
 pub known_at : (pt next : Point) (l placed : Placed) (q : Pid) (ids held_ : List MsgId) (w : Known) (r : Option machine.KernelKnown) → placed.processes q ≡ l.processes q → placed.notes q ≡ l.notes q
     → next.kernel.processes q ≡ pt.kernel.processes q → ((i : MsgId) → 1 ≤ times i ids → placed.bag i ≡ l.bag i) → ((i : MsgId) → 1 ≤ times i held_ → placed.bag i ≡ l.bag i) → KnownStands pt l q ids held_ w r → KnownStands next placed q ids held_ w r
-known_at pt next l placed q ids held_ Unknown None p n e b c h = tt
-known_at pt next l placed q ids held_ Here (Some (Record.Here x)) p n e b c h = ((h.0.0, p ∙ h.0.1), messages_on l.bag placed.bag ids x.queue b h.1)
-known_at pt next l placed q ids held_ (Frozen to) (Some (Record.Frozen d)) p n e b c h = search
-    (h.asker ∙ sym n, p ∙ h.here.0.1, messages_on l.bag placed.bag ids d.process.queue b h.here.1, messages_on l.bag placed.bag held_ d.held c h.held)
-known_at pt next l placed q ids held_ (Incoming from) (Some (Record.Incoming a)) p n e b c h = search
-    (p ∙ h.there, h.pieces ∙ ap (λ (o : Option Asker). coming h.process o a.held a.wanted) (sym n), messages_on l.bag placed.bag held_ a.held c h.held)
-known_at pt next l placed q ids held_ (Forward at moves) (Some (Record.Forward to count)) p n e b c h = h
-known_at pt next l placed q ids held_ Ended (Some (Record.Ended y)) p n e b c h = ap kernel.why_ended e ∙ h
-known_at pt next l placed q ids held_ w r p n e b c h = absurd h
+known_at pt next l placed q ids held_ w r p n e b c h = known_same pt next l placed q ids held_ b c w r (λ is. p) (λ is. n) (λ is. e) h
 
 -- what a machine keeps where process p changes
 pub record Stays (k n : KernelState) (p : Pid) : Type 0 where
@@ -265,25 +267,16 @@ pub record LivesHere (m : ℕ) (pt : Point) (l : Placed) (k : KernelState) (p : 
   pub there : l.processes p ≡ Some (with_queue x queue)
   pub messages : AreMessages l.bag (pt.view.queue m p) x.queue
 
--- what is known of it
-pub known_here : (next : Point) (placed : Placed) (m : ℕ) (n : KernelState) (p : Pid) (y : Process) (queue : List Message) → n.records p ≡ Some (Record.Here y) → next.view.known m p ≡ view.Here → placed.processes p ≡ Some (with_queue y queue)
-    → AreMessages placed.bag (next.view.queue m p) y.queue → KnownStands next placed p (next.view.queue m p) (next.view.held m p) (next.view.known m p) (n.records p)
-known_here next placed m n p y queue e known there messages = grind (arith, nat_tests, next.view.queue, next.view.held, next.view.known)
-
-pub known_ended : (next : Point) (placed : Placed) (m : ℕ) (n : KernelState) (p : Pid) (y : Why) → n.records p ≡ Some (Record.Ended y) → next.view.known m p ≡ view.Ended → next.kernel.processes p ≡ Some (Life.Ended y)
-    → KnownStands next placed p (next.view.queue m p) (next.view.held m p) (next.view.known m p) (n.records p)
-known_ended next placed m n p y e known life = grind (arith, nat_tests, next.view.queue, next.view.held, next.view.known)
-
-blocks_same : (x y : Process) → length y.memory ≡ length x.memory → blocks_of (Some (plain_process y)) ≡ blocks_of (Some (plain_process x))
-blocks_same x y e = ap (λ (n : ℕ). n / 256) e
-
 -- it goes on, with as much memory
 pub goes_stands : (b : Boot) (m : ℕ) (t : Spot → Bool) (p : Pid) (pt next : Point) (l placed : Placed) (k n : KernelState) (x y : Process) (queue : List Message) → LivesHere m pt l k p x → Leaves m t p pt l next placed → Stays k n p
     → ((q : Pid) → pid_eq p q ≡ false → t (Queue m q) ≡ false) → ((q : Pid) → t (Held m q) ≡ false) → n.records p ≡ Some (Record.Here y) → n.room ≡ k.room → n.ring ≡ next.view.ring m → AreMessages placed.bag (next.view.inbox m) n.inbox → next.view.known m p ≡ pt.view.known m p
     → next.kernel.processes p ≡ Some (Alive (plain_process y)) → placed.processes p ≡ Some (with_queue y queue) → AreMessages placed.bag (next.view.queue m p) y.queue → length y.memory ≡ length x.memory → KernelStands b pt l m k → KernelStands b next placed m n
 goes_stands b m t p pt next l placed k n x y queue at g s queues helds e room ring inbox known alive there messages memory h =
+    let blocks_same : (x y : Process) → length y.memory ≡ length x.memory → blocks_of (Some (plain_process y)) ≡ blocks_of (Some (plain_process x)) = λ x y e. ap (λ (n : ℕ). n / 256) e in
     let takes : taken_by next m p ≡ taken_by pt m p = grind (arith, nat_tests, takes_as, blocks_same) in
-    set_stands b m t p pt next l placed k n g s queues helds at.server (known_here next placed m n p y queue e (known ∙ at.known) there messages) ring inbox (room_same b m t p pt next l placed k n g room takes h.room) h
+    -- what is known of it
+    let known_here : KnownStands next placed p (next.view.queue m p) (next.view.held m p) (next.view.known m p) (n.records p) = grind (arith, nat_tests, next.view.queue, next.view.held, next.view.known, known ∙ at.known) in
+    set_stands b m t p pt next l placed k n g s queues helds at.server known_here ring inbox (room_same b m t p pt next l placed k n g room takes h.room) h
 
 -- it ends, and its slot and its blocks are free again
 pub ends_stands : (b : Boot) (m : ℕ) (t : Spot → Bool) (p : Pid) (pt next : Point) (l placed : Placed) (k n : KernelState) (x y : Process) (because : Why) → LivesHere m pt l k p x → Leaves m t p pt l next placed → Stays k n p
@@ -291,7 +284,8 @@ pub ends_stands : (b : Boot) (m : ℕ) (t : Spot → Bool) (p : Pid) (pt next : 
     → next.view.known m p ≡ view.Ended → next.kernel.processes p ≡ Some (Life.Ended because) → length y.memory ≡ length x.memory → MadeStands pt.kernel → KernelStands b pt l m k → KernelStands b next placed m n
 ends_stands b m t p pt next l placed k n x y because at g s queues helds e room ring inbox known ended memory made h =
     let after : taken_by next m p ≡ record { slots = 0; blocks = 0 } = grind (arith, nat_tests) in
-    set_stands b m t p pt next l placed k n g s queues helds at.server (known_ended next placed m n p because e known ended) ring inbox
+    let known_ended : KnownStands next placed p (next.view.queue m p) (next.view.held m p) (next.view.known m p) (n.records p) = grind (arith, nat_tests, next.view.queue, next.view.held, next.view.known) in
+    set_stands b m t p pt next l placed k n g s queues helds at.server known_ended ring inbox
     (room_released b m t p pt next l placed k n (machine.blocks_of y) g room (grind (arith, nat_tests)) after (ap is_some at.alive) made h.room) h
 
 -- What each way in which a label changes view, kernel and kernel with places leaves; and a label as a step with places.
@@ -349,15 +343,9 @@ kernel_sets p s life = record { machines = refl; made = λ n. refl; life = λ q 
 pub kernel_out : (p : Pid) (s : OneKernel) (id : MsgId) → KernelLeaves p s (service.without_message s id)
 kernel_out p s id = record { machines = refl; made = λ n. refl; life = λ q off. refl }
 
-pub kernel_puts : (p : Pid) (s : OneKernel) (x : PlainMessage) → KernelLeaves p s (kernels.with_sent s (Some x))
-kernel_puts p s x = record { machines = refl; made = λ n. refl; life = λ q off. refl }
-
 -- a message with a plain meaning, or none
 abbrev pub NotOwn : Option Message → Type 0
 NotOwn o = (x : Message) → o ≡ Some x → plain_message x ≡ None → ⊥
-
-pub not_own_none : NotOwn None
-not_own_none x e none = cc
 
 pub not_own_some : (w : Message) (u : PlainMessage) → plain_message w ≡ Some u → NotOwn (Some w)
 not_own_some w u says x e none = let f : w ≡ x = cc in let g : None ≡ Some u = sym none ∙ ap plain_message (sym f) ∙ says in cc
@@ -391,7 +379,7 @@ placed_message t p v l id x was is alone = record {
 }
 
 pub placed_out : (t : Spot → Bool) (p : Pid) (v : View) (l : Placed) (id : MsgId) → NotOwn (l.bag id) → ((i : MsgId) (s : Spot) → t s ≡ false → 1 ≤ standing v i s → id_eq id i ≡ false) → PlacedLeaves t p v l (without_message l id)
-placed_out t p v l id was alone = placed_message t p v l id None was not_own_none alone
+placed_out t p v l id was alone = let not_own_none : NotOwn None = λ x e none. cc in placed_message t p v l id None was not_own_none alone
 
 pub placed_puts : (t : Spot → Bool) (p : Pid) (v : View) (l : Placed) (x : Message) (u : PlainMessage) → NotOwn (l.bag x.id) → plain_message x ≡ Some u → ((i : MsgId) (s : Spot) → t s ≡ false → 1 ≤ standing v i s → id_eq x.id i ≡ false)
     → PlacedLeaves t p v l (with_sent l (Some x))

@@ -27,10 +27,6 @@ use Rattle.dm_mirror.proofs.Leave.Asks.{room_stays, off_state, off_view, sets_of
 pub asked_by_manager : (s : OneKernel) (i : MsgId) (x : PlainMessage) (machine : ℕ) → x.what ≡ PlainWhat.Move machine → WhatFits s i x x.what → i ≡ id_of manager i.n
 asked_by_manager s i x machine is fits = grind (arith, nat_tests)
 
--- what the bag doesn't have it doesn't have without a message
-still_none : (c : Bool) (o : Option Message) → o ≡ None → (if c then None else o) ≡ None
-still_none c o e = grind (arith, nat_tests)
-
 -- from now on the process follows the request
 record Asked (b : Boot) (m : ℕ) (pt : Point) (l : Placed) (k : KernelState) (y : Message) (machine : ℕ) (next : OneKernel) (mid : Point) (on : Placed) : Type 0 where
   named : y.id ≡ id_of manager y.id.n
@@ -78,6 +74,8 @@ asked_other : (b : Boot) (m : ℕ) (pt : Point) (l : Placed) (records : AllRecor
     → TokensStand pt.view l records → records m ≡ k.records → k.sent ≡ pt.view.count m
     → m ≢ machine → CanMove h.x → TurnsAt b m pt l records k
 asked_other b m pt l records k y machine c h tokens mine counted apart whole =
+    -- what the bag doesn't have it doesn't have without a message
+    let still_none : (c : Bool) (o : Option Message) → o ≡ None → (if c then None else o) ≡ None = λ c o e. grind (arith, nat_tests) in
     let i = y.id in
     let p = y.to.pid in
     let w = PlainWhat.Move machine in
@@ -95,13 +93,7 @@ asked_other b m pt l records k y machine c h tokens mine counted apart whole =
     let sent_off = turned (off_state k c.rest p h.x machine asker) (kernels.says (Label.Asked i) ∷ freezing s0 p h.x machine asker) in
     let next : Point = record { kernel = mid.kernel; view = off_view pt m p box machine; addresses = mid.addresses } in
     sets_off b m pt l records k p machine asker (Line.Label (Label.Asked i) ∷ frozen) mid.kernel mid.addresses box machine on (record {
-      run = c.run;
-      mirrors = c.mirrors;
-      stands = c.stands;
-      own = c.own;
-      tokens = tokens;
-      records_here = mine;
-      sent = counted;
+      before = record { run = c.run; mirrors = c.mirrors; stands = c.stands; own = c.own; tokens = tokens; records_here = mine; sent = counted };
       process = h.x;
       is = h.there;
       here = ((h.queue, h.placed), h.waits);
@@ -121,12 +113,7 @@ asked_other b m pt l records k y machine c h tokens mine counted apart whole =
           (ap (λ (d : Bool). Some (rule.Says (Line.Label (Label.Asked i)) ∷ (if d then migrating.answers_move i Outcome.Done else migrating.leaves_for p machine))) off_rule));
       after = after_label (begun pt m) (Label.Asked i) mid.kernel frozen next f.step (ap (λ (q : Point). after q frozen) f.point);
       on_mirrors = mirrors_view mid.kernel mid.view next.view mid.addresses on refl f.mirrors;
-      lives = λ q. refl;
-      made = λ n. refl;
-      machines = refl;
-      processes = λ q. refl;
-      board = refl;
-      manager = refl;
+      spared = record { lives = λ q. refl; made = λ n. refl; machines = refl; processes = λ q. refl; board = refl; manager = refl };
       note = on_if (pid_eq p p) asker (l.notes p) (pid_eq-same p);
       notes = λ q off. off_if (pid_eq p q) asker (l.notes q) off;
       kept = kept_at b m pt l k y w c on None (λ j. refl) (λ a is. cc);

@@ -7,10 +7,11 @@ use Rattle.dm_mirror.proofs.Names.{incoming_of, Departure, block_of, chunk_of, s
 use Rattle.dm_mirror.proofs.Names.{tells_onward, fits, free_room, kernel_hears, Inbox, standing, Told, View, after_proto, handled, Run, enclosed, about_of, Carries, destination_of, false≢true, ◌++◌, turn, outcome, after, Step}
 use Rattle.dm_mirror.proofs.Names.{plain_message, HereStands, Mirrors, AllOwnStand, KernelStands, TokensStand, AreMessages, Spot, Queue, Held, spot_cases, Asker, plain_note, leaves_for, here_free, Part, sort_of, drop, slice_get}
 use Rattle.dm_mirror.proofs.Names.{option_and_then}
+use Rattle.dm_mirror.proofs.Recorded.{Recorded, recorded}
 use Rattle.dm_kernel.specs.State.{with_sent}
 use Rattle.dm_mirror.proofs.Rooms.{taken_same}
-use Rattle.dm_mirror.proofs.Leave.Fronts.{FrontGone, Hearing, none_rests, outcome_hears, stood, turn_hears, Leaving, front_nowhere, leaving, stands_first, absent_next, may_between, own_is, process_hears, records_as, three_off, to_process}
-use Rattle.dm_mirror.proofs.Leave.Fronts.{untold_next, to_kernel_hears, here_is, own_stays, tokens_one, IsLeaving, leaving_is, front_rest}
+use Rattle.dm_mirror.proofs.Leave.Fronts.{FrontGone, Hearing, Present, leaving_none, none_rests, outcome_hears, stood, turn_hears, Leaving, leaving, stands_first, absent_next, may_between, own_is, process_hears, records_as, three_off, to_process}
+use Rattle.dm_mirror.proofs.Leave.Fronts.{untold_next, to_kernel_hears, own_stays, tokens_one, front_rest}
 use Rattle.dm_mirror.proofs.Turning.{Nothing, Own, TurnsAt, begun, has_process, is_elsewhere, late_parts, late_rule_parts, part_of, rule_part_of}
 use Rattle.dm_mirror.proofs.Handle.Taking.{eq_self, machine_self, machine_off, record_self, record_off, record_others, some_same, stands_set, held_apart, map_same, queue_apart}
 use Rattle.dm_mirror.proofs.Handle.Rows.{Elsewhere, here_left, standing_begun}
@@ -27,11 +28,8 @@ pub room_stays : (room given : Taken) (r s : Room) → s ≡ r → RoomStands ro
 room_stays room given r s e h = subst (RoomStands room given) (sym e) h
 
 -- a process that is told to move is no kernel and no server
-loose_if : (c : Bool) → (not c && true) ≡ true → c ≡ false
-loose_if c e = grind (arith, nat_tests)
-
 migrates_loose : (b : Boot) (m : ℕ) (pt : Point) (l : Placed) (records : AllRecords) (k : KernelState) (y : Message) (machine : ℕ) → Hearing b m pt l records k (record y { what = What.Migrate machine }) → is_fixed y.to.pid ≡ false
-migrates_loose b m pt l records k y machine h = loose_if (is_fixed y.to.pid) (h.sorts.own y.id (told_of (record y { what = What.Migrate machine })) h.told h.mine)
+migrates_loose b m pt l records k y machine h = grind (arith, nat_tests, h.sorts.own y.id (told_of (record y { what = What.Migrate machine })) h.told h.mine)
 
 -- to where it is
 here_already : (b : Boot) (m : ℕ) (pt : Point) (l : Placed) (records : AllRecords) (k : KernelState) (y : Message) (machine : ℕ) → Hearing b m pt l records k (record y { what = What.Migrate machine }) → pt.view.known m y.to.pid ≡ Here → m ≡ machine → TurnsAt b m pt l records k
@@ -41,7 +39,7 @@ here_already b m pt l records k y machine h at_m is =
     let s : KernelState = record k { inbox = h.rest } in
     let loose = migrates_loose b m pt l records k y machine h in
     let server : is_server p ≡ false = or-right (p.num == 0) (is_server p) loose in
-    let x = here_is pt l p (pt.view.queue m p) (pt.view.held m p) (k.records p) (subst (λ (n : Known). KnownStands pt l p (pt.view.queue m p) (pt.view.held m p) n (k.records p)) at_m (h.stands.known p server)) in
+    let (x, is_here, stands) = recorded b pt l m k p Here h.stands server at_m in
     let next : Point = moved (begun pt m) (Line.Here y.id) pt.kernel in
     let box : next.view.inbox m ≡ h.ids = machine_self pt.view.inbox m (without_front y.id (pt.view.inbox m)) ∙ front_off y.id h.ids (pt.view.inbox m) h.box in
     let gone : FrontGone m h.ids pt.view next.view = search (front_rest m h.ids pt.view next.view box, machine_off) in
@@ -54,7 +52,7 @@ here_already b m pt l records k y machine h at_m is =
       routes = [];
       late = Nothing;
       turn = turn_hears b m pt l records k z h (turned s (Part.Says (Line.Here y.id) ∷ []))
-          (to_process b s z (Some (Record.Here x.process)) loose x.is ∙ ap (λ (c : Bool). if c then turned s (Part.Says (Line.Here y.id) ∷ []) else freezes s p x.process machine) to_here);
+          (to_process b s z (Some (Record.Here x)) loose is_here ∙ ap (λ (c : Bool). if c then turned s (Part.Says (Line.Here y.id) ∷ []) else freezes s p x machine) to_here);
       outcome = outcome_hears b m pt l records k z h (Some (rule.Says (Line.Here y.id) ∷ [])) (process_hears b pt m y.id (told_of z) Here loose at_m
           ∙ ap (λ (c : Bool). Some (if c then rule.Says (Line.Here y.id) ∷ [] else rule.Says (Line.Migration Stage.Frozen p) ∷ rule.Says (Line.Migration Stage.Asked p) ∷ to_kernel MessageKind.Ask machine ∷ [])) same);
       next = next;
@@ -91,16 +89,20 @@ off_state k rest p x machine asker = with_sent (with_frozen (record k { inbox = 
 abbrev pub off_ask : KernelState → ℕ → Process → Option Asker → Message
 off_ask k machine x asker = own k (kernel_at machine) (ask_of x asker)
 
+-- both kernels stay but for the message that goes, and for who waits to hear
+pub record Spared (s t : OneKernel) (l on : Placed) : Type 0 where
+  pub lives : (q : Pid) → t.processes q ≡ s.processes q
+  pub made : (n : ℕ) → t.made n ≡ s.made n
+  pub machines : t.machines ≡ s.machines
+  pub processes : (q : Pid) → on.processes q ≡ l.processes q
+  pub board : on.board ≡ l.board
+  pub manager : on.manager ≡ l.manager
+
 -- a process that is here is frozen, and another machine is asked: told to move or asked to, and after these lines
 pub record SetsOff (b : Boot) (m : ℕ) (pt : Point) (l : Placed) (records : AllRecords) (k : KernelState) (p : Pid) (machine : ℕ) (asker : Option Asker) (says : List Line) (t : OneKernel) (a : Addresses) (box : List MsgId)
     (to : ℕ) (on : Placed) : Type 0 where
-  pub run : Run b pt
-  pub mirrors : Mirrors pt.kernel pt.view pt.addresses l
-  pub stands : KernelStands b pt l m k
-  pub own : AllOwnStand pt.view l
-  pub tokens : TokensStand pt.view l records
-  pub records_here : records m ≡ k.records
-  pub sent : k.sent ≡ pt.view.count m
+  pub before : Present b m pt l records k
+  pub open before use *
   pub process : Process
   pub is : k.records p ≡ Some (Record.Here process)
   pub here : HereStands l p (pt.view.queue m p) process
@@ -120,13 +122,8 @@ pub record SetsOff (b : Boot) (m : ℕ) (pt : Point) (l : Placed) (records : All
   pub outcome : outcome b pt (Step.Turn m) ≡ Some (map rule.Says says ++ map rule_part_of (Own (off_ask k machine process asker) ∷ []) ++ late_rule_parts Nothing)
   pub after : after (begun pt m) says ≡ Some (record { kernel = t; view = off_view pt m p box to; addresses = a })
   pub on_mirrors : Mirrors t (off_view pt m p box to) a on
-  -- both kernels stay but for the message that goes, and for who waits to hear
-  pub lives : (q : Pid) → t.processes q ≡ pt.kernel.processes q
-  pub made : (n : ℕ) → t.made n ≡ pt.kernel.made n
-  pub machines : t.machines ≡ pt.kernel.machines
-  pub processes : (q : Pid) → on.processes q ≡ l.processes q
-  pub board : on.board ≡ l.board
-  pub manager : on.manager ≡ l.manager
+  pub spared : Spared pt.kernel t l on
+  pub open spared use *
   pub note : on.notes p ≡ asker
   pub notes : (q : Pid) → pid_eq p q ≡ false → on.notes q ≡ l.notes q
   pub kept : (z : Spot) (j : MsgId) → z ≢ Inbox m → 1 ≤ standing pt.view j z → on.bag j ≡ l.bag j
@@ -215,11 +212,8 @@ sets_off b m pt l records k p machine asker says t a box to on h =
           }) h.tokens;
     }
 
--- nobody waits to hear of a process that is here
-nobody : (o : Option Asker) → option_map plain_note o ≡ None → o ≡ None
-nobody o e = grind (arith, nat_tests)
-
 -- to another machine
+-- nobody waits to hear of a process that is here
 asks_other : (b : Boot) (m : ℕ) (pt : Point) (l : Placed) (records : AllRecords) (k : KernelState) (y : Message) (machine : ℕ)
     → Hearing b m pt l records k (record y { what = What.Migrate machine }) → pt.view.known m y.to.pid ≡ Here → m ≢ machine
     → ((x : Process) → k.records y.to.pid ≡ Some (Record.Here x) → CanMove x) → TurnsAt b m pt l records k
@@ -230,25 +224,17 @@ asks_other b m pt l records k y machine h at_m apart whole =
     let s : KernelState = record k { inbox = h.rest } in
     let loose = migrates_loose b m pt l records k y machine h in
     let server : is_server p ≡ false = or-right (p.num == 0) (is_server p) loose in
-    let here =
-    here_is pt l p (v.queue m p) (v.held m p) (k.records p) (subst (λ (n : Known). KnownStands pt l p (v.queue m p) (v.held m p) n (k.records p)) at_m (h.stands.known p server)) in
-    let x = here.process in
+    let (x, is_here, stands) = recorded b pt l m k p Here h.stands server at_m in
     let to : ℕ = target_of (option_and_then v.told (slice_get (v.inbox m) 0)) in
     let next : Point = moved (moved (begun pt m) (Line.Migration Stage.Frozen p) pt.kernel) (Line.Migration Stage.Asked p) pt.kernel in
     let off_here : (machine == k.here) ≡ false = ap (λ (n : ℕ). machine == n) h.stands.here ∙ eq_not machine m (λ e. apart (sym e)) in
     let off_rule : (m == machine) ≡ false = eq_not m machine apart in
     sets_off b m pt l records k p machine None (Line.Migration Stage.Frozen p ∷ Line.Migration Stage.Asked p ∷ []) pt.kernel pt.addresses (drop 1 (v.inbox m)) to l (record {
-      run = h.run;
-      mirrors = h.mirrors;
-      stands = h.stands;
-      own = h.own;
-      tokens = h.tokens;
-      records_here = h.records_here;
-      sent = h.sent;
+      before = h.present;
       process = x;
-      is = here.is;
-      here = here.stands;
-      whole = whole x here.is;
+      is = is_here;
+      here = stands;
+      whole = whole x is_here;
       at_m = at_m;
       server = server;
       to_is = ap (λ (ids : List MsgId). target_of (option_and_then v.told (slice_get ids 0))) h.box ∙ ap target_of h.told;
@@ -259,18 +245,13 @@ asks_other b m pt l records k y machine h at_m apart whole =
       rest = h.rest;
       others = h.others;
       turn = turn_hears b m pt l records k z h (freezes s p x machine)
-          (to_process b s z (Some (Record.Here x)) loose here.is ∙ ap (λ (c : Bool). if c then turned s (Part.Says (Line.Here y.id) ∷ []) else freezes s p x machine) off_here);
+          (to_process b s z (Some (Record.Here x)) loose is_here ∙ ap (λ (c : Bool). if c then turned s (Part.Says (Line.Here y.id) ∷ []) else freezes s p x machine) off_here);
       outcome = outcome_hears b m pt l records k z h (Some (leaves_for p machine))
           (process_hears b pt m y.id (told_of z) Here loose at_m ∙ ap (λ (c : Bool). Some (if c then rule.Says (Line.Here y.id) ∷ [] else leaves_for p machine)) off_rule);
       after = refl;
       on_mirrors = mirrors_view pt.kernel v next.view pt.addresses l refl h.mirrors;
-      lives = λ q. refl;
-      made = λ n. refl;
-      machines = refl;
-      processes = λ q. refl;
-      board = refl;
-      manager = refl;
-      note = nobody (l.notes p) (h.mirrors.plain.notes p ∙ here_free pt.kernel pt.view m p h.run.based.noted at_m);
+      spared = record { lives = λ q. refl; made = λ n. refl; machines = refl; processes = λ q. refl; board = refl; manager = refl };
+      note = grind (arith, nat_tests, h.mirrors.plain.notes p ∙ here_free pt.kernel pt.view m p h.run.based.noted at_m);
       notes = λ q off. refl;
       kept = λ spot j off least. refl;
       behind = λ j least. refl;
@@ -301,10 +282,9 @@ pub leaves_no_server : (b : Boot) (pt : Point) (m to : ℕ) (p : Pid) → Run b 
 leaves_no_server b pt m to p run known = grind (arith, nat_tests)
 
 -- the record of a process that leaves
-pub departing : (b : Boot) (m : ℕ) (pt : Point) (l : Placed) (records : AllRecords) (k : KernelState) (y : Message) (p : Pid) → Hearing b m pt l records k y → (g : Leaving m pt y p) → IsLeaving l p (pt.view.queue m p) (pt.view.held m p) g.to (k.records p)
-departing b m pt l records k y p h g =
-    leaving_is pt l p (pt.view.queue m p) (pt.view.held m p) g.to (k.records p)
-    (subst (λ (n : Known). KnownStands pt l p (pt.view.queue m p) (pt.view.held m p) n (k.records p)) g.known (h.stands.known p (leaves_no_server b pt m g.to p h.run g.known)))
+pub departing : (b : Boot) (m : ℕ) (pt : Point) (l : Placed) (records : AllRecords) (k : KernelState) (y : Message) (p : Pid) → Hearing b m pt l records k y → (g : Leaving m pt y p)
+    → Recorded pt l p (pt.view.queue m p) (pt.view.held m p) (Frozen g.to) (k.records p)
+departing b m pt l records k y p h g = recorded b pt l m k p (Frozen g.to) h.stands (leaves_no_server b pt m g.to p h.run g.known) g.known
 
 -- what is heard carries what it was sent with
 pub record Carried (pt : Point) (l : Placed) (records : AllRecords) (p : Pid) (y : Message) : Type 0 where
@@ -390,10 +370,7 @@ gives b m pt l records k y p w h g piece c turn hears proto x there carries =
           (record {
             stays = search (λ (n : ℕ) (q : Pid) (off : pid_eq p q ≡ false). records_as records m n k.records state.records q h.records_here refl);
             came = λ i t spot told between least. (let d = stood m y.id h.ids v next.view i spot h.box gone least in ((d.spot, d.stands), refl));
-            none = λ i t spot told between about least. (
-                let d = stood m y.id h.ids v next.view i spot h.box gone least in
-                let is : i ≡ y.id = g.alone i t d.spot told between about d.stands in
-                front_nowhere b m pt l records k y h next.view spot gone (subst (λ (j : MsgId). 1 ≤ standing next.view j spot) is least));
+            none = leaving_none b m pt l records k y p h g next.view gone;
           }) h.tokens;
     }
 
@@ -402,40 +379,36 @@ pub leaves_alive : (b : Boot) (m : ℕ) (pt : Point) (l : Placed) (p : Pid) (x :
     → told_step pt m i p (fits (free_room b pt m) (length x.memory / 256)) (plain_process x) (sort_of k) ≡ o → kernel_hears b pt m i k (Of p) ≡ o
 leaves_alive b m pt l p x i k o there plain told = grind (arith, nat_tests, option_map)
 
-gives_chunk : (b : Boot) (m : ℕ) (pt : Point) (l : Placed) (records : AllRecords) (k : KernelState) (y : Message) (p : Pid) (chunk : ℕ) → Hearing b m pt l records k (record y { what = What.PullState p chunk }) → TurnsAt b m pt l records k
+pub gives_chunk : (b : Boot) (m : ℕ) (pt : Point) (l : Placed) (records : AllRecords) (k : KernelState) (y : Message) (p : Pid) (chunk : ℕ) → Hearing b m pt l records k (record y { what = What.PullState p chunk })
+    → TurnsAt b m pt l records k
 gives_chunk b m pt l records k y p chunk h =
     let z : Message = record y { what = What.PullState p chunk } in
     let s : KernelState = record k { inbox = h.rest } in
     let g = leaving b m pt l records k z p h refl refl refl refl in
-    let d = departing b m pt l records k z p h g in
+    let (departure, record_is, stands) = departing b m pt l records k z p h g in
     let c = carried b m pt l records k z p h refl refl in
-    let x = d.departure.process in
-    let same : record x { queue = d.stands.here.0.0 } ≡ c.process = process_same (l.processes p) (record x { queue = d.stands.here.0.0 }) c.process d.stands.here.0.1 c.there in
-    let name : x.pid ≡ p = (h.mirrors.places.process p (record x { queue = d.stands.here.0.0 }) d.stands.here.0.1).pid in
+    let x = departure.process in
+    let same : record x { queue = stands.here.0.0 } ≡ c.process = process_same (l.processes p) (record x { queue = stands.here.0.0 }) c.process stands.here.0.1 c.there in
+    let name : x.pid ≡ p = (h.mirrors.places.process p (record x { queue = stands.here.0.0 }) stands.here.0.1).pid in
     gives b m pt l records k z p (chunk_of x.pid (state_of x) chunk) h g
     (record { about = ap Of name; plain = refl; encloses = refl; gives = λ o v a i q. refl; of_source = refl }) c
-    (ap (λ (r : Option machine.KernelKnown). bind (frozen_of r) (λ (e : Departure). gives_piece s z (chunk_of e.process.pid (state_of e.process) chunk))) d.is)
+    (ap (λ (r : Option machine.KernelKnown). bind (frozen_of r) (λ (e : Departure). gives_piece s z (chunk_of e.process.pid (state_of e.process) chunk))) record_is)
     (leaves_alive b m pt l p c.process y.id MessageKind.PullState (Some (migrating.gives_piece y.id MessageKind.State)) c.there (h.mirrors.plain.processes p) refl)
     refl c.process c.there (ap (λ (u : Process). chunk_of u.pid (state_of u) chunk) same, c.carries.1, c.carries.2)
 
-gives_block : (b : Boot) (m : ℕ) (pt : Point) (l : Placed) (records : AllRecords) (k : KernelState) (y : Message) (p : Pid) (block : ℕ) → Hearing b m pt l records k (record y { what = What.PullBlock p block }) → TurnsAt b m pt l records k
+pub gives_block : (b : Boot) (m : ℕ) (pt : Point) (l : Placed) (records : AllRecords) (k : KernelState) (y : Message) (p : Pid) (block : ℕ) → Hearing b m pt l records k (record y { what = What.PullBlock p block })
+    → TurnsAt b m pt l records k
 gives_block b m pt l records k y p block h =
     let z : Message = record y { what = What.PullBlock p block } in
     let s : KernelState = record k { inbox = h.rest } in
     let g = leaving b m pt l records k z p h refl refl refl refl in
-    let d = departing b m pt l records k z p h g in
+    let (departure, record_is, stands) = departing b m pt l records k z p h g in
     let c = carried b m pt l records k z p h refl refl in
-    let x = d.departure.process in
-    let same : record x { queue = d.stands.here.0.0 } ≡ c.process = process_same (l.processes p) (record x { queue = d.stands.here.0.0 }) c.process d.stands.here.0.1 c.there in
-    let name : x.pid ≡ p = (h.mirrors.places.process p (record x { queue = d.stands.here.0.0 }) d.stands.here.0.1).pid in
+    let x = departure.process in
+    let same : record x { queue = stands.here.0.0 } ≡ c.process = process_same (l.processes p) (record x { queue = stands.here.0.0 }) c.process stands.here.0.1 c.there in
+    let name : x.pid ≡ p = (h.mirrors.places.process p (record x { queue = stands.here.0.0 }) stands.here.0.1).pid in
     gives b m pt l records k z p (block_of x.pid x.memory block) h g
     (record { about = ap Of name; plain = refl; encloses = refl; gives = λ o v a i q. refl; of_source = refl }) c
-    (ap (λ (r : Option machine.KernelKnown). bind (frozen_of r) (λ (e : Departure). gives_piece s z (block_of e.process.pid e.process.memory block))) d.is)
+    (ap (λ (r : Option machine.KernelKnown). bind (frozen_of r) (λ (e : Departure). gives_piece s z (block_of e.process.pid e.process.memory block))) record_is)
     (leaves_alive b m pt l p c.process y.id MessageKind.PullBlock (Some (migrating.gives_piece y.id MessageKind.Memory)) c.there (h.mirrors.plain.processes p) refl)
     refl c.process c.there (ap (λ (u : Process). block_of u.pid u.memory block) same, c.carries.1, c.carries.2)
-
-pub hears_pull_state : (b : Boot) (m : ℕ) (pt : Point) (l : Placed) (records : AllRecords) (k : KernelState) (y : Message) (p : Pid) (chunk : ℕ) → Hearing b m pt l records k y → y.what ≡ What.PullState p chunk → TurnsAt b m pt l records k
-hears_pull_state b m pt l records k y p chunk h is = gives_chunk b m pt l records k y p chunk (subst (Hearing b m pt l records k) (ap (λ (w : What). record y { what = w }) is) h)
-
-pub hears_pull_block : (b : Boot) (m : ℕ) (pt : Point) (l : Placed) (records : AllRecords) (k : KernelState) (y : Message) (p : Pid) (block : ℕ) → Hearing b m pt l records k y → y.what ≡ What.PullBlock p block → TurnsAt b m pt l records k
-hears_pull_block b m pt l records k y p block h is = gives_block b m pt l records k y p block (subst (Hearing b m pt l records k) (ap (λ (w : What). record y { what = w }) is) h)

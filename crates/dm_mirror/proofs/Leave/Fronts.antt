@@ -13,16 +13,21 @@ use Rattle.dm_rule.specs.Parts as rule
 use Rattle.dm_rule.specs.Rule as ruled
 use Rattle.dm_kernel.specs.State as machine
 
--- machine m hears message y, which is no message of the kernel without machines
-pub record Hearing (b : Boot) (m : ℕ) (pt : Point) (l : Placed) (records : AllRecords) (k : KernelState) (y : Message) : Type 0 where
+-- what stands of machine m and its kernel
+pub record Present (b : Boot) (m : ℕ) (pt : Point) (l : Placed) (records : AllRecords) (k : KernelState) : Type 0 where
   pub run : Run b pt
-  pub sorts : OwnTold pt
   pub mirrors : Mirrors pt.kernel pt.view pt.addresses l
   pub stands : KernelStands b pt l m k
   pub own : AllOwnStand pt.view l
   pub tokens : TokensStand pt.view l records
   pub records_here : records m ≡ k.records
   pub sent : k.sent ≡ pt.view.count m
+
+-- machine m hears message y, which is no message of the kernel without machines
+pub record Hearing (b : Boot) (m : ℕ) (pt : Point) (l : Placed) (records : AllRecords) (k : KernelState) (y : Message) : Type 0 where
+  pub present : Present b m pt l records k
+  pub open present use *
+  pub sorts : OwnTold pt
   pub there : l.bag y.id ≡ Some y
   pub told : pt.view.told y.id ≡ Some (told_of y)
   pub mine : is_kernels y.id ≡ true
@@ -163,6 +168,13 @@ leaving b m pt l records k y p h between source restart about =
       phase = λ n. sym (ap (λ (x : Phase). knows x n (v.known n p)) (phase ∙ (λ i. Moves (kind i) (sym here i) d (Some y.id)))) ∙ each.known n;
     }
 
+-- none of the messages of its migration stands behind it
+pub leaving_none : (b : Boot) (m : ℕ) (pt : Point) (l : Placed) (records : AllRecords) (k : KernelState) (y : Message) (p : Pid) (h : Hearing b m pt l records k y) → Leaving m pt y p → (w : View) → FrontGone m h.ids pt.view w
+    → (i : MsgId) (t : Told) (z : Spot) → pt.view.told i ≡ Some t → is_between t.kind ≡ true → t.about ≡ Of p → 1 ≤ standing w i z → ⊥
+leaving_none b m pt l records k y p h g w gone i t z told between about least =
+    let e = stood m y.id h.ids pt.view w i z h.box gone least in
+    front_nowhere b m pt l records k y h w z gone (subst (λ (j : MsgId). 1 ≤ standing w j z) (g.alone i t e.spot told between about e.stands) least)
+
 -- The next message of a machine's kernel, where it goes to another kernel and is about a process that leaves.
 
 -- what a kernel has not counted was not told, and isn't in the bag
@@ -201,14 +213,12 @@ pub record Between (pt : Point) (placed : Placed) (records : AllRecords) (m c : 
   pub there : placed.processes p ≡ Some process
   pub carries : Carries p process (placed.notes p) (pt.view.asked p) (incoming_of (records (destination_of x.id (told_of x)) p)) x.what
 
-carried_of : (pt : Point) (placed : Placed) (records : AllRecords) (m c : ℕ) (p : Pid) (x : Message) → Between pt placed records m c p x → IsCarried placed (pt.view.asked p) records p x
-carried_of pt placed records m c p x h = record { process = h.process; there = h.there; sender = h.sender ∙ ap kernel_at (sym h.from); carries = h.carries }
-
 pub may_between : (pt : Point) (placed : Placed) (records : AllRecords) (m c : ℕ) (p : Pid) (x : Message) → Between pt placed records m c p x → MayOwn pt placed records x
 may_between pt placed records m c p x h =
     let a = pt.addresses in
     let q = x.to.pid in
     let second : List Gets = gets (Sender x.id) (unmoved pt.view.acting) ∷ [] in
+    let carried_of : IsCarried placed (pt.view.asked p) records p x = record { process = h.process; there = h.there; sender = h.sender ∙ ap kernel_at (sym h.from); carries = h.carries } in
     record {
       id = h.id;
       plain = h.plain;
@@ -221,7 +231,7 @@ may_between pt placed records m c p x h =
           ∙ ap unmoved h.acting ∙ ap place_of (sym h.sender);
       about = h.topic ∙ sym h.about;
       asker = λ e. absurd (grind (arith, nat_tests, h.carries));
-      carried = λ between r of_r. subst (λ (z : Pid). IsCarried placed (pt.view.asked z) records z x) (about_same p r (sym h.about ∙ of_r)) (carried_of pt placed records m c p x h);
+      carried = λ between r of_r. subst (λ (z : Pid). IsCarried placed (pt.view.asked z) records z x) (about_same p r (sym h.about ∙ of_r)) carried_of;
     }
 
 -- the receiver is a process, or the kernel
@@ -242,25 +252,6 @@ pub records_as : (records : AllRecords) (m n : ℕ) (f g : Pid → Option machin
 records_as records m n f g q is same = grind (arith, nat_tests, eqb_tells, machine_self, machine_off)
 
 -- What is known of processes where at most one of them changes, and what the messages of migrations under way still carry.
-
--- a process that is here, and one that leaves
-pub record IsHere (l : Placed) (p : Pid) (queue : List MsgId) (r : Option machine.KernelKnown) : Type 0 where
-  pub process : Process
-  pub is : r ≡ Some (Record.Here process)
-  pub stands : HereStands l p queue process
-
-pub here_is : (pt : Point) (l : Placed) (p : Pid) (queue held : List MsgId) (r : Option machine.KernelKnown) → KnownStands pt l p queue held Here r → IsHere l p queue r
-here_is pt l p queue held (Some (Record.Here x)) h = record { process = x; is = refl; stands = h }
-here_is pt l p queue held _ h = absurd h
-
-pub record IsLeaving (l : Placed) (p : Pid) (queue held : List MsgId) (to : ℕ) (r : Option machine.KernelKnown) : Type 0 where
-  pub departure : Departure
-  pub is : r ≡ Some (Record.Frozen departure)
-  pub stands : LeavesStand l p queue held to departure
-
-pub leaving_is : (pt : Point) (l : Placed) (p : Pid) (queue held : List MsgId) (to : ℕ) (r : Option machine.KernelKnown) → KnownStands pt l p queue held (Frozen to) r → IsLeaving l p queue held to r
-leaving_is pt l p queue held to (Some (Record.Frozen d)) h = record { departure = d; is = refl; stands = h }
-leaving_is pt l p queue held to _ h = absurd h
 
 -- what it leaves of other processes
 pub record TokensStay (v w : View) (l placed : Placed) (before after : AllRecords) (p : Pid) : Type 0 where

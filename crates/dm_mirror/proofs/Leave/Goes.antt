@@ -6,8 +6,10 @@ use Rattle.dm_mirror.proofs.Names.{times, Forward, Frozen, Known, gone_to, own_i
 use Rattle.dm_mirror.proofs.Names.{cases_Bool, id_eq, IsKindOfPlain, kind_of, PlainMessage, plain_message, plain_what, with_what, sent_on, id_eq-swap, is_between, Told, View, letters, held_plain, queued_plain, StandsAsBag-elsewhere, Run}
 use Rattle.dm_mirror.proofs.Names.{Mirrors, is_among, among_times, parts, AllOwnStand, told_there, more_front, leaves, is_server, Part, drop}
 use Rattle.dm_kernel.specs.State.{with_sent}
+use Rattle.dm_mirror.proofs.Join.{kind_plain}
+use Rattle.dm_mirror.proofs.Handle.Rows.{standing_begun}
 use Rattle.dm_mirror.proofs.Rooms.{taken_changed}
-use Rattle.dm_mirror.proofs.Leave.Fronts.{FrontGone, Hearing, front_nowhere, leaving, outcome_hears, stood, turn_hears, absent_next, may_between, own_is, records_as, to_kernel_hears, untold_next, tokens_one}
+use Rattle.dm_mirror.proofs.Leave.Fronts.{FrontGone, Hearing, leaving, leaving_none, outcome_hears, stood, turn_hears, absent_next, may_between, own_is, records_as, to_kernel_hears, untold_next, tokens_one}
 use Rattle.dm_mirror.proofs.Leave.Stays.{messages_append, in_one}
 use Rattle.dm_mirror.proofs.Turning.{Leaves, On, TurnsAt, begun, is_elsewhere, part_of, rule_part_of, AllMayPut, MayPut, owns}
 use Rattle.dm_mirror.proofs.Leave.Asks.{carried, departing, kernel_number, leaves_alive, leaves_no_server}
@@ -26,13 +28,6 @@ times_among i (j ∷ js) e = elim (cases_Bool (id_eq j i)) [
   | inr apart ↦ omega (arith, times_among i js (sym (ap (λ (c : Bool). c || is_among i js) apart) ∙ e))
 ]
 
--- what goes on, and what doesn't
-pub bag_on : (l : Placed) (at moves : ℕ) (ids : List MsgId) (i : MsgId) (x : Message) → 1 ≤ times i ids → l.bag i ≡ Some x → (sent_all l at moves ids).bag i ≡ Some (sent_on at moves x)
-bag_on l at moves ids i x least is = ap (λ (c : Bool). if c then option_map (sent_on at moves) (l.bag i) else l.bag i) (among_times i ids least) ∙ ap (option_map (sent_on at moves)) is
-
-pub bag_absent : (l : Placed) (at moves : ℕ) (ids : List MsgId) (i : MsgId) → l.bag i ≡ None → (sent_all l at moves ids).bag i ≡ None
-bag_absent l at moves ids i none = grind (arith, nat_tests, option_map)
-
 pub bag_off : (b : Boot) (pt : Point) (m : ℕ) (p : Pid) (l : Placed) (at moves : ℕ) (z : Spot) (j : MsgId) → Run b pt → z ≢ Queue m p → z ≢ Held m p → 1 ≤ standing pt.view j z → (sent_all l at moves (pt.view.queue m p ++ pt.view.held m p)).bag j ≡ l.bag j
 bag_off b pt m p l at moves z j run queue held least =
     let v = pt.view in
@@ -45,13 +40,6 @@ bag_off b pt m p l at moves z j run queue held least =
       ]
       | inr off ↦ ap (λ (c : Bool). if c then option_map (sent_on at moves) (l.bag j) else l.bag j) off
     ]
-
--- no message of a migration waits in a queue or is held
-pub not_queued : (b : Boot) (pt : Point) (m : ℕ) (p : Pid) (z : Spot) (i : MsgId) (t : Told) → Run b pt → pt.view.told i ≡ Some t → is_between t.kind ≡ true → 1 ≤ standing pt.view i z → z ≢ Queue m p
-not_queued b pt m p z i t run told between least e = false≢true (sym (queued_plain pt.view m p i t run.based.phased.phases told (subst (λ (y : Spot). 1 ≤ standing pt.view i y) e least)) ∙ between)
-
-pub not_held : (b : Boot) (pt : Point) (m : ℕ) (p : Pid) (z : Spot) (i : MsgId) (t : Told) → Run b pt → pt.view.told i ≡ Some t → is_between t.kind ≡ true → 1 ≤ standing pt.view i z → z ≢ Held m p
-not_held b pt m p z i t run told between least e = false≢true (sym (held_plain pt.view m p i t run.based.phased.phases told (subst (λ (y : Spot). 1 ≤ standing pt.view i y) e least)) ∙ between)
 
 own_if : (v : View) (l : Placed) (at moves : ℕ) (i : MsgId) (x : Message) (o : Option Message) → l.bag i ≡ o → option_map (sent_on at moves) o ≡ Some x → (y : Message) × (l.bag i ≡ Some y) × (sent_on at moves y ≡ x)
 own_if v l at moves i x o is e = grind (arith, nat_tests, some_same)
@@ -109,21 +97,6 @@ pub record IsTold (v : View) (i : MsgId) (x : Message) : Type 0 where
   pub kind : told.kind ≡ kind_of x.what
   pub receiver : told.receiver ≡ x.to.pid
 
-kinds_of : (w : What) → IsKindOfPlain w (plain_what w)
-kinds_of (What.Migrate machine) = tt
-kinds_of (What.Update about) = tt
-kinds_of (What.Ask pid blocks moves size asker) = tt
-kinds_of (What.Refuse pid slots blocks) = tt
-kinds_of (What.PullState pid chunk) = tt
-kinds_of (What.State pid chunk last bytes) = tt
-kinds_of (What.PullBlock pid block) = tt
-kinds_of (What.Memory pid block bytes) = tt
-kinds_of (What.AllTaken pid) = tt
-kinds_of (What.Restart pid) = tt
-kinds_of (What.CallOff pid) = tt
-kinds_of (What.Bury pid) = tt
-kinds_of _ = refl
-
 told_by : (b : Boot) (pt : Point) (l : Placed) (i : MsgId) (x : Message) (z : Spot) (o : Option PlainMessage) → Run b pt → Mirrors pt.kernel pt.view pt.addresses l → AllOwnStand pt.view l → 1 ≤ standing pt.view i z → l.bag i ≡ Some x → plain_message x ≡ o → IsTold pt.view i x
 told_by b pt l i x z None run mirrors own least there plain = record { told = told_of x; is = (own i x there plain).told; kind = refl; receiver = refl }
 told_by b pt l i x z (Some w) run mirrors own least there plain =
@@ -131,7 +104,7 @@ told_by b pt l i x z (Some w) run mirrors own least there plain =
     let bag : pt.kernel.bag i ≡ Some w = sym (mirrors.plain.bag i) ∙ ap (λ (y : Option Message). bind y plain_message) there ∙ plain in
     let tells = run.based.phased.sane.tells in
     let p = parts x w plain in
-    record { told = t; is = told; kind = tells.kind i w t bag told ∙ subst (IsKindOfPlain x.what) p.what (kinds_of x.what); receiver = tells.receiver i w t bag told ∙ sym p.to }
+    record { told = t; is = told; kind = tells.kind i w t bag told ∙ subst (IsKindOfPlain x.what) p.what (kind_plain x.what); receiver = tells.receiver i w t bag told ∙ sym p.to }
 
 -- each of them may be put again
 pub on_may : (b : Boot) (pt end : Point) (m : ℕ) (p : Pid) (l : Placed) (records : AllRecords) (at moves : ℕ) (i : MsgId) (x : Message) → Run b pt → Mirrors pt.kernel pt.view pt.addresses l → AllOwnStand pt.view l → end.view.told ≡ pt.view.told
@@ -141,7 +114,8 @@ on_may b pt end m p l records at moves i x run mirrors own e least there =
     let ids = v.queue m p ++ v.held m p in
     let name : x.id ≡ i = (mirrors.places.message i x there).id in
     let phases = run.based.phased.phases in
-    let put : (sent_all l at moves ids).bag x.id ≡ Some (sent_on at moves x) = ap (sent_all l at moves ids).bag name ∙ bag_on l at moves ids i x least there in
+    let put : (sent_all l at moves ids).bag x.id ≡ Some (sent_on at moves x) = ap (sent_all l at moves ids).bag name
+    ∙ ap (λ (c : Bool). if c then option_map (sent_on at moves) (l.bag i) else l.bag i) (among_times i ids least) ∙ ap (option_map (sent_on at moves)) there in
     elim (in_one i (v.queue m p) (v.held m p) least) [
       | inl kept ↦
           let t = told_by b pt l i x (Held m p) (plain_message x) run mirrors own kept there refl in
@@ -153,10 +127,6 @@ on_may b pt end m p l records at moves i x run mirrors own e least there =
 
 -- A process has gone: the messages for it go on, and the other machine may restart it.
 
--- what a process that leaves took is free again
-gone_taken : (m : ℕ) (end : Point) (p : Pid) (to moves : ℕ) → end.view.known m p ≡ Forward to moves → taken_by end m p ≡ record { slots = 0; blocks = 0 }
-gone_taken m end p to moves known = ap (λ (n : Known). record { slots = takes_room n; blocks = if takes_room n == 0 then 0 else blocks_of (kernel.alive (end.kernel.processes p)) }) known
-
 pub room_released : (t given : Taken) (o n : Room) (blocks : ℕ) → RoomStands t given o → n.slots + 1 ≡ o.slots + 0 → n.blocks + blocks ≡ o.blocks + 0 → RoomStands (with_released t blocks) given n
 room_released t given o n blocks h slots pieces =
     record { slots = h.slots; blocks = h.blocks; taken_slots = omega (arith, h.taken_slots, slots); taken_blocks = omega (arith, h.taken_blocks, pieces) }
@@ -164,63 +134,36 @@ room_released t given o n blocks h slots pieces =
 pub life_some : (o : Option Life) (x : PlainProcess) → kernel.alive o ≡ Some x → is_some o ≡ true
 life_some o x e = grind (arith, nat_tests)
 
--- spots of other machines and of other processes
-pub elsewhere_queue : (m : ℕ) (p : Pid) (z : Spot) → is_elsewhere m z ≡ true → z ≢ Queue m p
-elsewhere_queue m p z is e = false≢true (sym (ap not (eq_self m)) ∙ ap (is_elsewhere m) (sym e) ∙ is)
-
-elsewhere_held : (m : ℕ) (p : Pid) (z : Spot) → is_elsewhere m z ≡ true → z ≢ Held m p
-elsewhere_held m p z is e = false≢true (sym (ap not (eq_self m)) ∙ ap (is_elsewhere m) (sym e) ∙ is)
-
 abbrev pid_in : Spot → Pid → Pid
 pid_in (Queue m p) q = p
 pid_in (Held m p) q = p
 pid_in _ q = q
 
-pub other_queue : (m : ℕ) (p q : Pid) → pid_eq p q ≡ false → Queue m q ≢ Queue m p
-other_queue m p q off e = false≢true (sym off ∙ ap (pid_eq p) (ap (λ (z : Spot). pid_in z p) e) ∙ pid_eq-same p)
-
-other_held : (m : ℕ) (p q : Pid) → pid_eq p q ≡ false → Held m q ≢ Held m p
-other_held m p q off e = false≢true (sym off ∙ ap (pid_eq p) (ap (λ (z : Spot). pid_in z p) e) ∙ pid_eq-same p)
-
-queue_held : (m : ℕ) (p q : Pid) → Queue m q ≢ Held m p
-queue_held m p q e = cc
-
-held_queue : (m : ℕ) (p q : Pid) → Held m q ≢ Queue m p
-held_queue m p q e = cc
-
-inbox_queue : (m : ℕ) (p : Pid) → Inbox m ≢ Queue m p
-inbox_queue m p e = cc
-
-inbox_held : (m : ℕ) (p : Pid) → Inbox m ≢ Held m p
-inbox_held m p e = cc
-
-begun_standing : (pt : Point) (m : ℕ) (i : MsgId) (z : Spot) → standing (begun pt m).view i z ≡ standing pt.view i z
-begun_standing pt m i z = grind (arith, nat_tests)
-
-goes : (b : Boot) (m : ℕ) (pt : Point) (l : Placed) (records : AllRecords) (k : KernelState) (y : Message) (p : Pid) → Hearing b m pt l records k (record y { what = What.AllTaken p }) → MadeStands pt.kernel → TurnsAt b m pt l records k
+pub goes : (b : Boot) (m : ℕ) (pt : Point) (l : Placed) (records : AllRecords) (k : KernelState) (y : Message) (p : Pid) → Hearing b m pt l records k (record y { what = What.AllTaken p }) → MadeStands pt.kernel → TurnsAt b m pt l records k
 goes b m pt l records k y p h made =
+    let bag_absent : (l : Placed) (at moves : ℕ) (ids : List MsgId) (i : MsgId) → l.bag i ≡ None → (sent_all l at moves ids).bag i ≡ None = λ l at moves ids i none. grind (arith, nat_tests, option_map) in
     let z : Message = record y { what = What.AllTaken p } in
     let v = pt.view in
     let s : KernelState = record k { inbox = h.rest } in
     let g = leaving b m pt l records k z p h refl refl refl refl in
-    let d = departing b m pt l records k z p h g in
+    let (departure, record_is, stands) = departing b m pt l records k z p h g in
     let c = carried b m pt l records k z p h refl refl in
     let num = kernel_number m y.to.pid g.receiver in
     let server = leaves_no_server b pt m g.to p h.run g.known in
-    let x : Process = d.departure.process in
-    let to : ℕ = d.departure.to in
+    let x : Process = departure.process in
+    let to : ℕ = departure.to in
     let moves : ℕ = x.moves + 1 in
-    let there = d.stands.here.0.1 in
-    let known_is : v.known m p ≡ Frozen to = g.known ∙ ap Frozen (sym d.stands.to) in
-    let from_is : y.id.from.home ≡ to = ap (λ (q : Pid). q.home) g.from ∙ sym d.stands.to in
-    let apart : to ≢ m = λ (e : to ≡ m). g.apart (sym d.stands.to ∙ e) in
-    let moves_is : x.moves ≡ v.moves p = (h.mirrors.places.process p (record x { queue = d.stands.here.0.0 }) there).moves in
+    let there = stands.here.0.1 in
+    let known_is : v.known m p ≡ Frozen to = g.known ∙ ap Frozen (sym stands.to) in
+    let from_is : y.id.from.home ≡ to = ap (λ (q : Pid). q.home) g.from ∙ sym stands.to in
+    let apart : to ≢ m = λ (e : to ≡ m). g.apart (sym stands.to ∙ e) in
+    let moves_is : x.moves ≡ v.moves p = (h.mirrors.places.process p (record x { queue = stands.here.0.0 }) there).moves in
     let ids : List MsgId = v.queue m p ++ v.held m p in
-    let ms : List Message = x.queue ++ d.departure.held in
-    let lists : AreMessages l.bag ids ms = messages_append l.bag (v.queue m p) (v.held m p) x.queue d.departure.held d.stands.here.1 d.stands.held in
-    let on : List Message = all_sent_on d.departure in
+    let ms : List Message = x.queue ++ departure.held in
+    let lists : AreMessages l.bag ids ms = messages_append l.bag (v.queue m p) (v.held m p) x.queue departure.held stands.here.1 stands.held in
+    let on : List Message = all_sent_on departure in
     let n : ℕ = length on in
-    let state : KernelState = with_sent (without_leaving s p d.departure) in
+    let state : KernelState = with_sent (without_leaving s p departure) in
     let restart : Message = own s (kernel_at to) (What.Restart p) in
     let next : Point = moved (begun pt m) (Line.SentOn p n) pt.kernel in
     let end : Point = moved next (Line.Migration Stage.Left p) next.kernel in
@@ -243,13 +186,13 @@ goes b m pt l records k y p h made =
     (subst (λ (r : Known). KnownStands end placed p (end.view.queue m p) (end.view.held m p) r (Some (Record.Forward to moves))) (sym forward_known) (refl, ap (λ (r : ℕ). r + 1) moves_is)) in
     let stays : (q : Spot) (j : MsgId) → q ≢ Queue m p → q ≢ Held m p → 1 ≤ standing v j q → placed.bag j ≡ l.bag j = λ q j queue held least. bag_off b pt m p l to moves q j h.run queue held least in
     let behind : (j : MsgId) → 1 ≤ times j h.ids → placed.bag j ≡ l.bag j =
-    λ j least. (let more = times_more j y.id h.ids in stays (Inbox m) j (inbox_queue m p) (inbox_held m p) (subst (λ (is : List MsgId). 1 ≤ times j is) (sym h.box) (omega (arith, least, more)))) in
+    λ j least. (let more = times_more j y.id h.ids in stays (Inbox m) j (λ e. cc) (λ e. cc) (subst (λ (is : List MsgId). 1 ≤ times j is) (sym h.box) (omega (arith, least, more)))) in
     let some = life_some (pt.kernel.processes p) (plain_process x) (h.mirrors.plain.processes p ∙ ap (option_map plain_process) there) in
     let others_known : (q : Pid) → pid_eq p q ≡ false → end.view.known m q ≡ v.known m q = λ q off. record_others v.known m p q forward off in
     let taken = taken_changed pt end m p refl (λ r. refl) (made.home p some) (made.first p some) (made.below p some)
     (λ q off. (let e = others_known q (pid_apart p q off) in (λ i. record { slots = takes_room (e i); blocks = if takes_room (e i) == 0 then 0 else blocks_of (kernel.alive (pt.kernel.processes q)) }))) in
     let was : taken_by pt m p ≡ record { slots = 1; blocks = length (plain_process x).memory / 256 } = grind (arith, nat_tests) in
-    let is = gone_taken m end p to (v.moves p + 1) forward_known in
+    let is : taken_by end m p ≡ record { slots = 0; blocks = 0 } = ap (λ (n : Known). record { slots = takes_room n; blocks = if takes_room n == 0 then 0 else blocks_of (kernel.alive (end.kernel.processes p)) }) forward_known in
     let now : Room = taken_at end m end.kernel.machines in
     let before : Room = taken_at pt m pt.kernel.machines in
     let slots : now.slots + 1 ≡ before.slots + 0 = ap (λ (r : Room). now.slots + r.slots) (sym was) ∙ taken.0 ∙ ap (λ (r : Room). before.slots + r.slots) is in
@@ -261,19 +204,23 @@ goes b m pt l records k y p h made =
     let last : List rule.Part = rule.Says (Line.Migration Stage.Left p) ∷ to_kernel MessageKind.Restart to ∷ [] in
     let owned : turning.owns (map On on) ≡ 0 = on_owns on in
     let sets : (q : Pid) → pid_eq p q ≡ false → state.records q ≡ k.records q = λ q off. ap (λ (c : Bool). if c then Some (Record.Forward to moves) else k.records q) off in
-    let waits : (q : Pid) (j : MsgId) → pid_eq p q ≡ false → 1 ≤ times j (v.queue m q) → placed.bag j ≡ l.bag j = λ q j off least. stays (Queue m q) j (other_queue m p q off) (queue_held m p q) least in
-    let holds : (q : Pid) (j : MsgId) → pid_eq p q ≡ false → 1 ≤ times j (v.held m q) → placed.bag j ≡ l.bag j = λ q j off least. stays (Held m q) j (held_queue m p q) (other_held m p q off) least in
+    let other_queue : (m : ℕ) (p q : Pid) → pid_eq p q ≡ false → Queue m q ≢ Queue m p = λ m p q off e. false≢true (sym off ∙ ap (pid_eq p) (ap (λ (z : Spot). pid_in z p) e) ∙ pid_eq-same p) in
+    let waits : (q : Pid) (j : MsgId) → pid_eq p q ≡ false → 1 ≤ times j (v.queue m q) → placed.bag j ≡ l.bag j = λ q j off least. stays (Queue m q) j (other_queue m p q off) (λ e. cc) least in
+    let holds : (q : Pid) (j : MsgId) → pid_eq p q ≡ false → 1 ≤ times j (v.held m q) → placed.bag j ≡ l.bag j =
+    λ q j off least. stays (Held m q) j (λ e. cc) (λ e. false≢true (sym off ∙ ap (pid_eq p) (ap (λ (z : Spot). pid_in z p) e) ∙ pid_eq-same p)) least in
     let keeps : is_server p ≡ true → state.records p ≡ k.records p = λ is. absurd (false≢true (sym server ∙ is)) in
+    -- spots of other machines and of other processes
+    let elsewhere_queue : (m : ℕ) (p : Pid) (z : Spot) → is_elsewhere m z ≡ true → z ≢ Queue m p = λ m p z is e. false≢true (sym (ap not (eq_self m)) ∙ ap (is_elsewhere m) (sym e) ∙ is) in
     record {
       state = state;
       says = Line.SentOn p n ∷ [];
       routes = map On on;
       late = Leaves p restart;
       turn = turn_hears b m pt l records k z h (turned state (Part.Says (Line.SentOn p n) ∷ map part_of (map On on) ++ sends))
-          (owns.to_kernel b s z num ∙ ap (λ (r : Option machine.KernelKnown). bind (frozen_of r) (leaves s p)) d.is ∙ ap (λ (ps : List Part). turned state (Part.Says (Line.SentOn p n) ∷ ps ++ sends)) (sym (on_parts on)));
+          (owns.to_kernel b s z num ∙ ap (λ (r : Option machine.KernelKnown). bind (frozen_of r) (leaves s p)) record_is ∙ ap (λ (ps : List Part). turned state (Part.Says (Line.SentOn p n) ∷ ps ++ sends)) (sym (on_parts on)));
       outcome = outcome_hears b m pt l records k z h (Some (rule.Says (Line.SentOn p n) ∷ map rule_part_of (map On on) ++ last))
           (to_kernel_hears b pt m y.id (told_of z) num
-          ∙ leaves_alive b m pt l p (record x { queue = d.stands.here.0.0 }) y.id MessageKind.AllTaken (Some (rule.Says (Line.SentOn p n) ∷ map rule_part_of (map On on) ++ last)) there (h.mirrors.plain.processes p)
+          ∙ leaves_alive b m pt l p (record x { queue = stands.here.0.0 }) y.id MessageKind.AllTaken (Some (rule.Says (Line.SentOn p n) ∷ map rule_part_of (map On on) ++ last)) there (h.mirrors.plain.processes p)
           (ap (migrating.leaves y.id p ids) known_is
           ∙ ap (λ (r : ℕ). Some (rule.Says (Line.SentOn p (length ids)) ∷ sends_on to ids ++ rule.Says (Line.Migration Stage.Left p) ∷ to_kernel MessageKind.Restart r ∷ [])) from_is
           ∙ ap (λ (r : ℕ). Some (rule.Says (Line.SentOn p r) ∷ sends_on to ids ++ last)) (sym (on_length l.bag to moves ids ms lists))
@@ -290,7 +237,7 @@ goes b m pt l records k y p h made =
       elsewhere = search (
         record_off,
         λ (i : MsgId) (spot : Spot) (away : is_elsewhere m spot ≡ true) (least : 1 ≤ standing (begun pt m).view i spot).
-            stays spot i (elsewhere_queue m p spot away) (elsewhere_held m p spot away) (subst (λ (r : ℕ). 1 ≤ r) (begun_standing pt m i spot) least),
+            stays spot i (elsewhere_queue m p spot away) (λ e. false≢true (sym (ap not (eq_self m)) ∙ ap (is_elsewhere m) (sym e) ∙ away)) (subst (λ (r : ℕ). 1 ≤ r) (standing_begun pt m i spot) least),
       );
       may = all_may end placed after_records to moves l.bag ids ms (λ i a least e. on_may b pt end m p l after_records to moves i a h.run h.mirrors h.own refl least e) lists;
       single = omega (arith, owned);
@@ -307,13 +254,10 @@ goes b m pt l records k y p h made =
             stays = search (λ (r : ℕ) (q : Pid) (off : pid_eq p q ≡ false). records_as records m r k.records state.records q h.records_here (sets q off));
             came = λ i t spot told between least. (
                 let e = stood m y.id h.ids v end.view i spot h.box gone least in
-                ((e.spot, e.stands), stays e.spot i (not_queued b pt m p e.spot i t h.run told between e.stands) (not_held b pt m p e.spot i t h.run told between e.stands) e.stands));
-            none = λ i t spot told between about least. (
-                let e = stood m y.id h.ids v end.view i spot h.box gone least in
-                let same : i ≡ y.id = g.alone i t e.spot told between about e.stands in
-                front_nowhere b m pt l records k z h end.view spot gone (subst (λ (j : MsgId). 1 ≤ standing end.view j spot) same least));
+                let phases = h.run.based.phased.phases in
+                let none : is_between t.kind ≡ false → ⊥ = λ off. false≢true (sym off ∙ between) in
+                ((e.spot, e.stands), stays e.spot i (λ f. none (queued_plain v m p i t phases told (subst (λ (y : Spot). 1 ≤ standing v i y) f e.stands)))
+                (λ f. none (held_plain v m p i t phases told (subst (λ (y : Spot). 1 ≤ standing v i y) f e.stands))) e.stands));
+            none = leaving_none b m pt l records k z p h g end.view gone;
           }) h.tokens;
     }
-
-pub hears_all_taken : (b : Boot) (m : ℕ) (pt : Point) (l : Placed) (records : AllRecords) (k : KernelState) (y : Message) (p : Pid) → Hearing b m pt l records k y → MadeStands pt.kernel → y.what ≡ What.AllTaken p → TurnsAt b m pt l records k
-hears_all_taken b m pt l records k y p h made is = goes b m pt l records k y p (subst (Hearing b m pt l records k) (ap (λ (w : What). record y { what = w }) is) h) made

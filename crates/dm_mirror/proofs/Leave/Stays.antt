@@ -4,7 +4,7 @@ use Rattle.dm_mirror.proofs.Names.{MessageKind, Record, Line, frozen_of, with_re
 use Rattle.dm_mirror.proofs.Names.{told_of, AreMessages, KnownStands, AllRecords, is_server, false≢true, ◌==◌, Moves, Spot, Told, is_between, knows, Of, turned, Outcome, tells_asker, drop}
 use Rattle.dm_mirror.proofs.Leave.Answered.{ends_move_row}
 use Rattle.dm_mirror.proofs.Rooms.{taken_same}
-use Rattle.dm_mirror.proofs.Leave.Fronts.{FrontGone, Hearing, front_nowhere, leaving, outcome_hears, stood, turn_hears, records_as, to_kernel, to_kernel_hears, own_stays, tokens_one}
+use Rattle.dm_mirror.proofs.Leave.Fronts.{FrontGone, Hearing, leaving, leaving_none, outcome_hears, stood, turn_hears, records_as, to_kernel, to_kernel_hears, own_stays, tokens_one}
 use Rattle.dm_mirror.proofs.Leave.Asks.{room_stays, taken_at_record, departing, kernel_number, leaves_alive, leaves_no_server}
 use Rattle.dm_mirror.proofs.Turning.{TurnsAt, begun, has_process}
 use Rattle.dm_mirror.proofs.Handle.Taking.{eq_off, machine_self, machine_off, record_self, record_off, record_others, stands_set}
@@ -30,18 +30,19 @@ in_one j is js least = grind (arith, nat_tests, nat_le, times-append)
 refused_away : (m d n : ℕ) (i : Option MsgId) (k : Known) (at_source at_destination : Bool) → (m == n) ≡ at_source → (d == n) ≡ at_destination → at_source ≡ false → knows (Moves MessageKind.Refuse m d i) n k ≡ true → has_process k ≡ false
 refused_away m d n i k at_source at_destination e f off h = grind (arith, nat_tests)
 
-refuses : (b : Boot) (m : ℕ) (pt : Point) (l : Placed) (records : AllRecords) (k : KernelState) (y : Message) (p : Pid) (slots blocks : ℕ) → Hearing b m pt l records k (record y { what = What.Refuse p slots blocks }) → TurnsAt b m pt l records k
+pub refuses : (b : Boot) (m : ℕ) (pt : Point) (l : Placed) (records : AllRecords) (k : KernelState) (y : Message) (p : Pid) (slots blocks : ℕ) → Hearing b m pt l records k (record y { what = What.Refuse p slots blocks })
+    → TurnsAt b m pt l records k
 refuses b m pt l records k y p slots blocks h =
     let z : Message = record y { what = What.Refuse p slots blocks } in
     let v = pt.view in
     let s : KernelState = record k { inbox = h.rest } in
     let g = leaving b m pt l records k z p h refl refl refl refl in
-    let d = departing b m pt l records k z p h g in
-    let x = d.departure.process in
-    let there = d.stands.here.0.1 in
+    let (departure, record_is, stands) = departing b m pt l records k z p h g in
+    let x = departure.process in
+    let there = stands.here.0.1 in
     let num = kernel_number m y.to.pid g.receiver in
     let server = leaves_no_server b pt m g.to p h.run g.known in
-    let state : KernelState = record s { records = with_record s.records p (Record.Here x); ring = s.ring ++ p ∷ []; inbox = d.departure.held ++ s.inbox } in
+    let state : KernelState = record s { records = with_record s.records p (Record.Here x); ring = s.ring ++ p ∷ []; inbox = departure.held ++ s.inbox } in
     let next : Point = moved (begun pt m) (Line.Stays p) pt.kernel in
     let after_records : AllRecords = at_machine records m state.records in
     let first : List MsgId = at_machine v.inbox m (drop 1 (v.inbox m)) m in
@@ -62,15 +63,11 @@ refuses b m pt l records k y p slots blocks h =
     let here_record : state.records p ≡ Some (Record.Here x) = ap (λ (c : Bool). if c then Some (Record.Here x) else k.records p) (pid_eq-same p) in
     let mine : KnownStands next l p (v.queue m p) (next.view.held m p) (next.view.known m p) (state.records p) =
     subst (KnownStands next l p (v.queue m p) (next.view.held m p) (next.view.known m p)) (sym here_record)
-    (subst (λ (n : Known). KnownStands next l p (v.queue m p) (next.view.held m p) n (Some (Record.Here x))) (sym here_known) d.stands.here) in
+    (subst (λ (n : Known). KnownStands next l p (v.queue m p) (next.view.held m p) n (Some (Record.Here x))) (sym here_known) stands.here) in
     let taken = taken_same pt next m refl (λ n. refl) (λ q. taken_at_record pt next m p q Here refl refl (sym (ap takes_room g.known))) in
     let sets : (q : Pid) → pid_eq p q ≡ false → state.records q ≡ k.records q = λ q off. ap (λ (c : Bool). if c then Some (Record.Here x) else k.records q) off in
     let keeps : is_server p ≡ true → state.records p ≡ k.records p = λ is. absurd (false≢true (sym server ∙ is)) in
-    let none : (i : MsgId) (t : Told) (spot : Spot) → v.told i ≡ Some t → is_between t.kind ≡ true → t.about ≡ Of p → 1 ≤ standing next.view i spot → ⊥ =
-    λ i t spot told between about least. (
-    let e = stood m y.id h.ids v next.view i spot h.box gone least in
-    let is : i ≡ y.id = g.alone i t e.spot told between about e.stands in
-    front_nowhere b m pt l records k z h next.view spot gone (subst (λ (j : MsgId). 1 ≤ standing next.view j spot) is least)) in
+    let none = leaving_none b m pt l records k z p h g next.view gone in
     let away : (n : ℕ) → n ≢ m → has_process (v.known n p) ≡ false =
     λ n off. refused_away m g.to n (Some y.id) (v.known n p) (m == n) (g.to == n) refl refl (eq_off m n off) (g.phase n) in
     ends_move_row b m pt l records k p (Line.Stays p) state next.view l (record {
@@ -79,7 +76,7 @@ refuses b m pt l records k y p slots blocks h =
       mirrors = mirrors_view pt.kernel v next.view pt.addresses l refl h.mirrors;
       kernel = stands_set b pt next l l m k state p (search (sets, record_others, mine, keeps)) h.stands
           (ap (λ (ring : List Pid). ring ++ p ∷ []) h.stands.ring ∙ sym (machine_self v.ring m (v.ring m ++ p ∷ [])))
-          (ap (map l.bag) box ∙ messages_append l.bag (v.held m p) h.ids d.departure.held h.rest d.stands.held h.others)
+          (ap (map l.bag) box ∙ messages_append l.bag (v.held m p) h.ids departure.held h.rest stands.held h.others)
           h.stands.made (room_stays k.room _ _ _ taken h.stands.room)
           h.stands.servers;
       sent = λ e. e;
@@ -98,12 +95,9 @@ refuses b m pt l records k y p slots blocks h =
       alone = away;
       stood = λ i spot least. (let e = stood m y.id h.ids v next.view i spot h.box gone least in (e.spot, e.stands));
       none = none;
-    }) Outcome.Stayed d.departure.asker (sym d.stands.asker) (λ n. refl)
-    (turn_hears b m pt l records k z h (stays s p d.departure) (to_kernel b s z num ∙ ap (λ (r : Option machine.KernelKnown). bind (frozen_of r) (stays s p)) d.is)
-    ∙ ap (λ (n : ℕ). turned state (part.Part.Says (Line.Stays p) ∷ tells_asker n x Outcome.Stayed d.departure.asker)) h.stands.here)
+    }) Outcome.Stayed departure.asker (sym stands.asker) (λ n. refl)
+    (turn_hears b m pt l records k z h (stays s p departure) (to_kernel b s z num ∙ ap (λ (r : Option machine.KernelKnown). bind (frozen_of r) (stays s p)) record_is)
+    ∙ ap (λ (n : ℕ). turned state (part.Part.Says (Line.Stays p) ∷ tells_asker n x Outcome.Stayed departure.asker)) h.stands.here)
     (outcome_hears b m pt l records k z h (Some (rule.Says (Line.Stays p) ∷ migrating.tells_asker (pt.kernel.notes p) Outcome.Stayed))
     (to_kernel_hears b pt m y.id (told_of z) num
-    ∙ leaves_alive b m pt l p (record x { queue = d.stands.here.0.0 }) y.id MessageKind.Refuse (Some (rule.Says (Line.Stays p) ∷ migrating.tells_asker (pt.kernel.notes p) Outcome.Stayed)) there (h.mirrors.plain.processes p) refl))
-
-pub hears_refuse : (b : Boot) (m : ℕ) (pt : Point) (l : Placed) (records : AllRecords) (k : KernelState) (y : Message) (p : Pid) (slots blocks : ℕ) → Hearing b m pt l records k y → y.what ≡ What.Refuse p slots blocks → TurnsAt b m pt l records k
-hears_refuse b m pt l records k y p slots blocks h is = refuses b m pt l records k y p slots blocks (subst (Hearing b m pt l records k) (ap (λ (w : What). record y { what = w }) is) h)
+    ∙ leaves_alive b m pt l p (record x { queue = stands.here.0.0 }) y.id MessageKind.Refuse (Some (rule.Says (Line.Stays p) ∷ migrating.tells_asker (pt.kernel.notes p) Outcome.Stayed)) there (h.mirrors.plain.processes p) refl))

@@ -57,9 +57,6 @@ abbrev is_user : PlainWhat → Bool
 is_user (PlainWhat.User code channel body links) = true
 is_user w = false
 
-board_user : (s : OneKernel) (x : PlainMessage) (w : PlainWhat) → ForWhom s x w → MadeStands s → x.to ≡ switchboard → is_user w ≡ true
-board_user s x w e made to = grind (arith, nat_tests)
-
 -- the manager takes user messages and answers
 abbrev is_managed : PlainWhat → Bool
 is_managed (PlainWhat.User code channel body links) = true
@@ -67,9 +64,6 @@ is_managed (PlainWhat.Created child) = true
 is_managed PlainWhat.NoRoom = true
 is_managed (PlainWhat.Moved outcome) = true
 is_managed w = false
-
-manager_managed : (s : OneKernel) (x : PlainMessage) (w : PlainWhat) → ForWhom s x w → MadeStands s → x.to ≡ manager → is_managed w ≡ true
-manager_managed s x w e made to = grind (arith, nat_tests)
 
 -- for a kernel
 pub kernel_row : (b : Boot) (pt : Point) (k : KernelState) (i : MsgId) (x : Message) (p : PlainMessage) (w : PlainWhat) → plain_what x.what ≡ Some w → is_create w ≡ true → WhatFits pt.kernel i p w → pt.kernel.images ≡ b.images → first_number + k.made < 4294967295 → FitsKernel b k x.what
@@ -80,22 +74,13 @@ kernel_row b pt k i x p (PlainWhat.Create image links) e c fits images made =
     subst (FitsKernel b k) (sym (create_what x.what image links e).is) (within, made)
 kernel_row b pt k i x p _ e c fits images made = cc
 
-user_kind : (x : Message) (w : PlainWhat) → plain_what x.what ≡ Some w → is_user w ≡ true → kind_of x.what ≡ MessageKind.User
-user_kind x w e c = grind (arith, nat_tests)
-
-pending_plainly_if : (n : ℕ) (r : Pending) (c : Bool) (o : Option one.Pending) (p : Option Pending) → is_some o ≡ is_some p → is_some (if c then Some (plain_pending r) else o) ≡ is_some (if c then Some r else p)
-pending_plainly_if n r c o p e = grind (arith, nat_tests)
-
 pending_plainly : (n : ℕ) (ps : List Pending) → is_some (manage.pending_numbered n (map plain_pending ps)) ≡ is_some (pending_request n ps)
 pending_plainly n [] = refl
-pending_plainly n (r ∷ rs) = pending_plainly_if n r (r.n == n) (manage.pending_numbered n (map plain_pending rs)) (pending_request n rs) (pending_plainly n rs)
-
-for_some : (kind : PendingKind) (o : Option one.Pending) → is_for kind o ≡ true → is_some o ≡ true
-for_some kind o e = grind (arith, nat_tests)
+pending_plainly n (r ∷ rs) = grind (arith, nat_tests, pending_plainly n rs)
 
 is_pending : (s : OneKernel) (l : Placed) (kind : PendingKind) (i : MsgId) (n : ℕ) → n ≡ i.n → plain_manager l.manager ≡ s.manager → IsPending s kind i → is_some (pending_request n l.manager.pending) ≡ true
 is_pending s l kind i n same e h =
-    let pending = for_some kind (manage.pending_numbered i.n s.manager.pending) h.pending in
+    let pending : is_some (manage.pending_numbered i.n s.manager.pending) ≡ true = grind (arith, nat_tests, h.pending) in
     grind (arith, nat_tests, pending_plainly)
 
 managed_row : (s : OneKernel) (l : Placed) (i : MsgId) (x : Message) (p : PlainMessage) (w : PlainWhat) → plain_what x.what ≡ Some w → is_managed w ≡ true → WhatFits s i p w → x.id ≡ i → plain_manager l.manager ≡ s.manager → IsForManager l.manager x.id.n x.what
@@ -111,7 +96,8 @@ for_board pt l m k x i p made counts mirrors servers f to =
     let is : k.servers ≡ Some (record { board = l.board; manager = l.manager }) = servers ∙ servers_here l m here in
     let sent : l.board.sent ≡ pt.kernel.switchboard.sent = ap (λ (v : Switchboard). v.sent) mirrors.plain.board in
     let few = counts.board in
-    subst (FitsBoard x) (sym is) (user_fits (record { board = l.board; manager = l.manager }) x.what (user_kind x p.what f.what_is (board_user pt.kernel p p.what (for_whom pt.kernel i p p.what f.fits) made to)) (omega (arith, sent, few)))
+    let user_kind : kind_of x.what ≡ MessageKind.User = grind (arith, nat_tests, f.what_is, (let e_ : is_user p.what ≡ true = grind (arith, nat_tests, for_whom pt.kernel i p p.what f.fits) in e_)) in
+    subst (FitsBoard x) (sym is) (user_fits (record { board = l.board; manager = l.manager }) x.what user_kind (omega (arith, sent, few)))
 
 pub for_manager : (pt : Point) (l : Placed) (m : ℕ) (k : KernelState) (x : Message) (i : MsgId) (p : PlainMessage) → MadeStands pt.kernel → CountsFew pt → Mirrors pt.kernel pt.view pt.addresses l → k.servers ≡ servers_at l m → FrontSo pt m i x p → p.to ≡ manager → FitsManager x k.servers
 for_manager pt l m k x i p made counts mirrors servers f to =
@@ -121,7 +107,7 @@ for_manager pt l m k x i p made counts mirrors servers f to =
     let children : length l.manager.children ≡ length pt.kernel.manager.children = sym (length-map l.manager.children plain_child) ∙ ap (λ (v : Manager). length v.children) mirrors.plain.manager in
     let few = counts.manager in
     let few_ = counts.children in
-    let managed = manager_managed pt.kernel p p.what (for_whom pt.kernel i p p.what f.fits) made to in
+    let managed : is_managed p.what ≡ true = grind (arith, nat_tests, for_whom pt.kernel i p p.what f.fits) in
     subst (FitsManager x) (sym is)
     (managed_fits (record { board = l.board; manager = l.manager }) x.id.n x.what (managed_row pt.kernel l i x p p.what f.what_is managed f.fits f.id mirrors.plain.manager) (omega (arith, sent, few)) (omega (arith, children, few_)))
 
@@ -276,27 +262,14 @@ here_row k pt y i x p (PlainWhat.Create image links) e fits life id num other fe
 here_row k pt y i x p (PlainWhat.Move machine_) e fits life id num other few = subst (FitsHere k x y) (sym (move_what x.what machine_ e)) few
 here_row k pt y i x p _ e fits life id num other few = absurd (false≢true (sym other ∙ (ap (λ (q : Pid). pid_eq q manager) fits.0 ∙ pid_eq-same manager)))
 
--- it has ended
-ended_row : (pt : Point) (i : MsgId) (x : Message) (p : PlainMessage) (w : PlainWhat) → plain_what x.what ≡ Some w → WhatFits pt.kernel i p w → (p.to.num == 0) ≡ false → pid_eq p.to manager ≡ false → FitsEnded x.what
-ended_row pt i x p (PlainWhat.User code channel body links) e fits num other = subst FitsEnded (sym (user_what x.what code channel body links e).is) tt
-ended_row pt i x p PlainWhat.Stop e fits num other = subst FitsEnded (sym (stop_what x.what e)) tt
-ended_row pt i x p PlainWhat.Resume e fits num other = subst FitsEnded (sym (resume_what x.what e)) tt
-ended_row pt i x p PlainWhat.Kill e fits num other = subst FitsEnded (sym (kill_what x.what e)) tt
-ended_row pt i x p (PlainWhat.Read base len) e fits num other = subst FitsEnded (sym (read_what x.what base len e)) tt
-ended_row pt i x p (PlainWhat.Write base bytes) e fits num other = subst FitsEnded (sym (write_what x.what base bytes e).is) tt
-ended_row pt i x p (PlainWhat.Block bytes) e fits num other = subst FitsEnded (sym (block_what x.what bytes e).is) tt
-ended_row pt i x p PlainWhat.Written e fits num other = subst FitsEnded (sym (written_what x.what e)) tt
-ended_row pt i x p PlainWhat.Gone e fits num other = subst FitsEnded (sym (gone_what x.what e)) tt
-ended_row pt i x p (PlainWhat.Create image links) e fits num other = absurd (let z : p.to.num ≡ 0 = fits.0 in let t : (p.to.num == 0) ≡ true = grind (arith, nat_tests) in false≢true (sym num ∙ t))
-ended_row pt i x p (PlainWhat.Move machine_) e fits num other = subst FitsEnded (sym (move_what x.what machine_ e)) tt
-ended_row pt i x p _ e fits num other = absurd (false≢true (sym other ∙ (ap (λ (q : Pid). pid_eq q manager) fits.0 ∙ pid_eq-same manager)))
-
 -- where nothing is known of a process there is no record of it, and only there
 pub known_some : (pt : Point) (l : Placed) (p : Pid) (ids held_ : List MsgId) (k : Known) → KnownStands pt l p ids held_ k None → k ≡ Known.Unknown
 known_some pt l p ids held_ k h = grind (arith, nat_tests)
 
 -- what the machine knows of it
-process_row : (b : Boot) (pt : Point) (l : Placed) (m : ℕ) (k : KernelState) (i : MsgId) (x : Message) (p : PlainMessage) (o : Option machine.KernelKnown) → Mirrors pt.kernel pt.view pt.addresses l → KernelStands b pt l m k → CountsFew pt
+-- it has ended
+pub process_row : (b : Boot) (pt : Point) (l : Placed) (m : ℕ) (k : KernelState) (i : MsgId) (x : Message) (p : PlainMessage) (o : Option machine.KernelKnown) → Mirrors pt.kernel pt.view pt.addresses l → KernelStands b pt l m k
+    → CountsFew pt
     → k.sent < 4294967295 → FrontSo pt m i x p
     → (p.to.num == 0) ≡ false → pid_eq p.to manager ≡ false → is_server p.to ≡ false → k.records p.to ≡ o → FitsKnown k x o
 process_row b pt l m k i x p None mirrors h counts sent f num other server is =
@@ -306,13 +279,8 @@ process_row b pt l m k i x p (Some (Record.Here y)) mirrors h counts sent f num 
     let moves = (mirrors.places.process p.to (record y { queue = so.queue }) so.there).moves in
     here_row k pt y i x p p.what f.what_is f.fits so.life f.id num other (omega (arith, moves, counts.moves p.to), sent)
 process_row b pt l m k i x p (Some (Record.Forward place moves)) mirrors h counts sent f num other server is = sent
-process_row b pt l m k i x p (Some (Record.Ended y)) mirrors h counts sent f num other server is = ended_row pt i x p p.what f.what_is f.fits num other
+process_row b pt l m k i x p (Some (Record.Ended y)) mirrors h counts sent f num other server is = grind (arith, nat_tests, pid_eq-same, f.what_is, f.fits)
 process_row b pt l m k i x p _ mirrors h counts sent f num other server is = tt
-
-pub for_process : (b : Boot) (pt : Point) (l : Placed) (m : ℕ) (k : KernelState) (i : MsgId) (x : Message) (p : PlainMessage) → Mirrors pt.kernel pt.view pt.addresses l → KernelStands b pt l m k → CountsFew pt → k.sent < 4294967295
-    → FrontSo pt m i x p
-    → (p.to.num == 0) ≡ false → pid_eq p.to manager ≡ false → is_server p.to ≡ false → FitsKnown k x (k.records p.to)
-for_process b pt l m k i x p mirrors h counts sent f num other server = process_row b pt l m k i x p (k.records p.to) mirrors h counts sent f num other server refl
 
 -- A kernel's own message at the front of a machine's inbox is one that the machine can handle: for a process or a server.
 
@@ -338,25 +306,8 @@ own_here k x y q (What.Update about) e num few sent = tt
 own_here k x y q _ e num few sent = absurd (grind (arith, nat_tests))
 
 -- or has ended
-own_ended : (q : Pid) (w : What) → own_sort (kind_of w) q (about_of w) ≡ true → (q.num == 0) ≡ false → FitsEnded w
-own_ended q (What.Ask pid blocks moves size asker) e num = absurd (false≢true (sym (ap (λ (d : Bool). d && true) num) ∙ e))
-own_ended q (What.Refuse pid slots blocks) e num = absurd (false≢true (sym (ap (λ (d : Bool). d && true) num) ∙ e))
-own_ended q (What.PullState pid chunk) e num = absurd (false≢true (sym (ap (λ (d : Bool). d && true) num) ∙ e))
-own_ended q (What.State pid chunk last bytes) e num = absurd (false≢true (sym (ap (λ (d : Bool). d && true) num) ∙ e))
-own_ended q (What.PullBlock pid block) e num = absurd (false≢true (sym (ap (λ (d : Bool). d && true) num) ∙ e))
-own_ended q (What.Memory pid block bytes) e num = absurd (false≢true (sym (ap (λ (d : Bool). d && true) num) ∙ e))
-own_ended q (What.AllTaken pid) e num = absurd (false≢true (sym (ap (λ (d : Bool). d && true) num) ∙ e))
-own_ended q (What.Restart pid) e num = absurd (false≢true (sym (ap (λ (d : Bool). d && true) num) ∙ e))
-own_ended q (What.CallOff pid) e num = absurd (false≢true e)
-own_ended q (What.Bury pid) e num = absurd (false≢true e)
-own_ended q (What.Create image links) e num = absurd (false≢true e)
-own_ended q (What.Created pid) e num = absurd (false≢true e)
-own_ended q What.NoRoom e num = absurd (false≢true e)
-own_ended q (What.Move machine_) e num = absurd (false≢true e)
-own_ended q (What.Moved outcome) e num = absurd (false≢true e)
-own_ended q _ e num = tt
-
-own_row : (b : Boot) (pt : Point) (l : Placed) (m : ℕ) (k : KernelState) (i : MsgId) (x : Message) (o : Option machine.KernelKnown) → Mirrors pt.kernel pt.view pt.addresses l → KernelStands b pt l m k → CountsFew pt → k.sent < 4294967295 → OwnFront pt l m i x
+pub own_row : (b : Boot) (pt : Point) (l : Placed) (m : ℕ) (k : KernelState) (i : MsgId) (x : Message) (o : Option machine.KernelKnown) → Mirrors pt.kernel pt.view pt.addresses l → KernelStands b pt l m k → CountsFew pt
+    → k.sent < 4294967295 → OwnFront pt l m i x
     → (x.to.pid.num == 0) ≡ false → is_server x.to.pid ≡ false → k.records x.to.pid ≡ o → FitsKnown k x o
 own_row b pt l m k i x None mirrors h counts sent f num server is =
     let p = x.to.pid in
@@ -367,12 +318,8 @@ own_row b pt l m k i x (Some (Record.Here y)) mirrors h counts sent f num server
     let moves = (mirrors.places.process p (record y { queue = so.queue }) so.there).moves in
     own_here k x y p x.what f.sort num (omega (arith, moves, counts.moves p)) sent
 own_row b pt l m k i x (Some (Record.Forward place moves)) mirrors h counts sent f num server is = sent
-own_row b pt l m k i x (Some (Record.Ended y)) mirrors h counts sent f num server is = own_ended x.to.pid x.what f.sort num
+own_row b pt l m k i x (Some (Record.Ended y)) mirrors h counts sent f num server is = grind (arith, nat_tests, f.sort)
 own_row b pt l m k i x _ mirrors h counts sent f num server is = tt
-
-pub own_process : (b : Boot) (pt : Point) (l : Placed) (m : ℕ) (k : KernelState) (i : MsgId) (x : Message) → Mirrors pt.kernel pt.view pt.addresses l → KernelStands b pt l m k → CountsFew pt → k.sent < 4294967295 → OwnFront pt l m i x
-    → (x.to.pid.num == 0) ≡ false → is_server x.to.pid ≡ false → FitsKnown k x (k.records x.to.pid)
-own_process b pt l m k i x mirrors h counts sent f num server = own_row b pt l m k i x (k.records x.to.pid) mirrors h counts sent f num server refl
 
 -- at a server: the places that it keeps can be counted
 board_update : (v : Servers) (w : What) → kind_of w ≡ MessageKind.Update → length v.board.names < 2147483648 → FitsBoardWhat v w
@@ -383,9 +330,6 @@ manager_update : (v : Servers) (n : ℕ) (w : What) → kind_of w ≡ MessageKin
 manager_update v n (What.Update about) e few = few
 manager_update v n w e few = absurd (cc)
 
-is_update : (x : Message) → own_sort (kind_of x.what) x.to.pid (about_of x.what) ≡ true → (x.to.pid.num == 0) ≡ false → is_server x.to.pid ≡ true → kind_of x.what ≡ MessageKind.Update
-is_update x e num server = own_server (kind_of x.what) x.to.pid (about_of x.what) e num server
-
 pub own_board : (pt : Point) (l : Placed) (m : ℕ) (k : KernelState) (i : MsgId) (x : Message) → CountsFew pt → Mirrors pt.kernel pt.view pt.addresses l → k.servers ≡ servers_at l m → OwnFront pt l m i x → x.to.pid ≡ switchboard → FitsBoard x k.servers
 own_board pt l m k i x counts mirrors servers f to =
     let server : is_server x.to.pid ≡ true = ap is_server to in
@@ -394,7 +338,7 @@ own_board pt l m k i x counts mirrors servers f to =
     let is : k.servers ≡ Some (record { board = l.board; manager = l.manager }) = servers ∙ servers_here l m here in
     let names : length l.board.names ≡ length pt.kernel.switchboard.names = sym (length-map l.board.names plain_named) ∙ ap (λ (v : Switchboard). length v.names) mirrors.plain.board in
     let few = counts.names in
-    subst (FitsBoard x) (sym is) (board_update (record { board = l.board; manager = l.manager }) x.what (is_update x f.sort num server) (omega (arith, names, few)))
+    subst (FitsBoard x) (sym is) (board_update (record { board = l.board; manager = l.manager }) x.what (own_server (kind_of x.what) x.to.pid (about_of x.what) f.sort num server) (omega (arith, names, few)))
 
 pub own_manager : (pt : Point) (l : Placed) (m : ℕ) (k : KernelState) (i : MsgId) (x : Message) → CountsFew pt → Mirrors pt.kernel pt.view pt.addresses l → k.servers ≡ servers_at l m → OwnFront pt l m i x → x.to.pid ≡ manager → FitsManager x k.servers
 own_manager pt l m k i x counts mirrors servers f to =
@@ -405,4 +349,4 @@ own_manager pt l m k i x counts mirrors servers f to =
     let children : length l.manager.children ≡ length pt.kernel.manager.children = sym (length-map l.manager.children plain_child) ∙ ap (λ (v : Manager). length v.children) mirrors.plain.manager in
     let pending : length l.manager.pending ≡ length pt.kernel.manager.pending = sym (length-map l.manager.pending plain_pending) ∙ ap (λ (v : Manager). length v.pending) mirrors.plain.manager in
     let few = counts.managed in
-    subst (FitsManager x) (sym is) (manager_update (record { board = l.board; manager = l.manager }) x.id.n x.what (is_update x f.sort num server) (omega (arith, children, pending, few)))
+    subst (FitsManager x) (sym is) (manager_update (record { board = l.board; manager = l.manager }) x.id.n x.what (own_server (kind_of x.what) x.to.pid (about_of x.what) f.sort num server) (omega (arith, children, pending, few)))

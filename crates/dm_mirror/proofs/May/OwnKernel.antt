@@ -10,6 +10,7 @@ use Rattle.dm_migrate.specs.Way.{moved}
 use Rattle.dm_mirror.proofs.May.Own.{OwnFront, has_taken, life_is}
 use Rattle.dm_mirror.proofs.Turning.{is_moving}
 use Rattle.dm_mirror.proofs.Leave.Asks.{process_same as same_process}
+use Rattle.dm_mirror.proofs.Recorded.{recorded}
 use Rattle.dm_mirror.proofs.Counts.Pairs.{CountsFew}
 use Rattle.dm_kernel.specs.State as machine
 
@@ -53,9 +54,6 @@ is_moved b pt m i t p run told between about first =
 pub frozen_at : (k : MessageKind) (d : ℕ) (n : Known) → kind_leaves k d n ≡ true → is_restart k ≡ false → (to : ℕ) × (n ≡ Frozen to)
 frozen_at k d n e r = grind (arith, nat_tests)
 
-incoming_at : (k : MessageKind) (s : ℕ) (n : Known) → kind_comes k s n ≡ true → is_early k ≡ false → (from : ℕ) × (n ≡ Incoming from)
-incoming_at k s n e r = grind (arith, nat_tests)
-
 pub not_server : (b : Boot) (pt : Point) (n : ℕ) (p : Pid) (c : Bool) → is_server p ≡ c → Run b pt → is_moving (pt.view.known n p) ≡ true → is_server p ≡ false
 not_server b pt n p c e run moves = grind (arith, nat_tests)
 
@@ -67,28 +65,16 @@ pub record Leaves (pt : Point) (l : Placed) (n : ℕ) (k : KernelState) (p : Pid
   pub is : k.records p ≡ Some (Record.Frozen departure)
   pub stands : LeavesStand l p (pt.view.queue n p) (pt.view.held n p) to departure
 
-leaving : (pt : Point) (l : Placed) (n : ℕ) (k : KernelState) (p : Pid) (to : ℕ) (o : Option machine.KernelKnown) → pt.view.known n p ≡ Frozen to → k.records p ≡ o → KnownStands pt l p (pt.view.queue n p) (pt.view.held n p) (Frozen to) o → Leaves pt l n k p
-leaving pt l n k p to (Some (Record.Frozen d)) known is h = record { to = to; known = known; departure = d; is = is; stands = h }
-leaving pt l n k p to _ known is h = absurd h
-
 pub leaves_at : (b : Boot) (pt : Point) (l : Placed) (n : ℕ) (k : KernelState) (p : Pid) (to : ℕ) → Run b pt → KernelStands b pt l n k → pt.view.known n p ≡ Frozen to → Leaves pt l n k p
 leaves_at b pt l n k p to run h known =
     let server = not_server b pt n p (is_server p) refl run (ap is_moving known) in
-    leaving pt l n k p to (k.records p) known refl (subst (λ (v : Known). KnownStands pt l p (pt.view.queue n p) (pt.view.held n p) v (k.records p)) known (h.known p server))
+    let (d, is, stands) = recorded b pt l n k p (Frozen to) h server known in
+    record { to = to; known = known; departure = d; is = is; stands = stands }
 
 pub record Comes (pt : Point) (l : Placed) (n : ℕ) (k : KernelState) (p : Pid) : Type 0 where
   pub arrival : Arrival
   pub is : k.records p ≡ Some (Record.Incoming arrival)
   pub stands : ComesStand l p (pt.view.held n p) arrival
-
-coming_to : (pt : Point) (l : Placed) (n : ℕ) (k : KernelState) (p : Pid) (from : ℕ) (o : Option machine.KernelKnown) → k.records p ≡ o → KnownStands pt l p (pt.view.queue n p) (pt.view.held n p) (Incoming from) o → Comes pt l n k p
-coming_to pt l n k p from (Some (Record.Incoming a)) is h = record { arrival = a; is = is; stands = h }
-coming_to pt l n k p from _ is h = absurd h
-
-pub comes_at : (b : Boot) (pt : Point) (l : Placed) (n : ℕ) (k : KernelState) (p : Pid) (from : ℕ) → Run b pt → KernelStands b pt l n k → pt.view.known n p ≡ Incoming from → Comes pt l n k p
-comes_at b pt l n k p from run h known =
-    let server = not_server b pt n p (is_server p) refl run (ap is_moving known) in
-    coming_to pt l n k p from (k.records p) refl (subst (λ (v : Known). KnownStands pt l p (pt.view.queue n p) (pt.view.held n p) v (k.records p)) known (h.known p server))
 
 -- the message of the migration, and what its machines know
 pub record IsToken (pt : Point) (l : Placed) (ks : ℕ → KernelState) (m : ℕ) (i : MsgId) (x : Message) (w : What) (p : Pid) : Type 0 where
@@ -129,7 +115,11 @@ source_leaves b pt l m k p c run stands h side early =
 pub destination_comes : (b : Boot) (pt : Point) (l : Placed) (m : ℕ) (k : KernelState) (p : Pid) (c : MessageKind) → Run b pt → KernelStands b pt l m k → (h : IsMoved pt m p c) → tells_onward (sort_of c) ≡ true → is_early c ≡ false → Comes pt l m k p
 destination_comes b pt l m k p c run stands h side early =
     let here : m ≡ h.d = h.here ∙ ap (λ (d : Bool). if d then h.d else h.s) side in
-    let (from, known) = incoming_at c h.s (pt.view.known h.d p) h.destination early in
+    let (from, known) = (let e_ : (from : ℕ) × ((pt.view.known h.d p) ≡ Incoming from) = grind (arith, nat_tests, h.destination) in e_) in
+    let comes_at : (b : Boot) (pt : Point) (l : Placed) (n : ℕ) (k : KernelState) (p : Pid) (from : ℕ) → Run b pt → KernelStands b pt l n k → pt.view.known n p ≡ Incoming from → Comes pt l n k p = λ b pt l n k p from run h known.
+      let server = not_server b pt n p (is_server p) refl run (ap is_moving known) in
+      let (a, is, stands) = recorded b pt l n k p (Incoming from) h server known in
+      record { arrival = a; is = is; stands = stands } in
     comes_at b pt l m k p from run stands (ap (λ (n : ℕ). pt.view.known n p) here ∙ known)
 
 -- it asks to come
@@ -173,11 +163,6 @@ next_block z y k a w n whole same pieces wanted is there =
     let come : a ≡ coming z k a.held (Block n) = pieces ∙ ap (coming z k a.held) wanted in
     subst (λ (v : Arrival). IsNextPiece v w) (sym come) (subst (IsNextPiece (coming z k a.held (Block n))) (sym is_) ((by_pieces (record z { queue = [] }) k a.held whole).block_asked n there_))
 
-all_come : (z : Process) (k : Option Asker) (a : Arrival) → CanMove (record z { queue = [] }) → a ≡ coming z k a.held a.wanted → a.wanted ≡ Nothing → MayRestart a
-all_come z k a whole pieces wanted =
-    let come : a ≡ coming z k a.held Nothing = pieces ∙ ap (coming z k a.held) wanted in
-    record { whole = wanted; process = moved z; restarts = ap restarted come ∙ (by_pieces (record z { queue = [] }) k a.held whole).whole; lawful = moved_lawful (record z { queue = [] }) whole.lawful }
-
 -- the machine is the receiver's home
 home_is : (b : Boot) (pt : Point) (l : Placed) (ks : ℕ → KernelState) (m : ℕ) (i : MsgId) (x : Message) → Around b pt l ks m i x → (x.to.pid.num == 0) ≡ true → x.to.pid.home ≡ m
 home_is b pt l ks m i x h num = sym (h.front.home (ap (λ (c : Bool). c || is_server x.to.pid) num))
@@ -195,15 +180,12 @@ leaves_here b pt l ks m i x p h d =
     }
 
 -- it asks to come, and can move
-not_unknown : (to : ℕ) → Frozen to ≡ Unknown → ⊥
-not_unknown to e = cc
-
 asks_to_come : (b : Boot) (pt : Point) (l : Placed) (ks : ℕ → KernelState) (m : ℕ) (i : MsgId) (x : Message) (w : What) (p : Pid) → Around b pt l ks m i x → (t : IsToken pt l ks m i x w p) → kind_of w ≡ MessageKind.Ask
     → w ≡ ask_of t.process (l.notes p) → IsAskOfProcess w
 asks_to_come b pt l ks m i x w p h t is asked =
     let s = t.moved.s in
     let (to, known) = frozen_at (kind_of w) t.moved.d (pt.view.known s p) t.moved.source (ap is_restart is) in
-    let within : s < pt.kernel.machines = h.run.found.known_within s p (λ none. not_unknown to (sym known ∙ none)) in
+    let within : s < pt.kernel.machines = h.run.found.known_within s p (λ none. (let e_ : ⊥ = cc (sym known ∙ none) in e_)) in
     let d = leaves_at b pt l s (ks s) p to h.run (h.nodes s within) known in
     let same = same_process (l.processes p) t.process (record d.departure.process { queue = d.stands.here.0.0 }) t.there d.stands.here.0.1 in
     subst IsAskOfProcess (sym (asked ∙ ap (λ (v : Process). ask_of v (l.notes p)) same)) (whole_asks d.departure.process (l.notes p) d.stands.whole)
@@ -251,6 +233,9 @@ kernel_row b pt l ks m i x (What.Restart pid) e h num sent =
     let t = token_of b pt l ks m i x (What.Restart pid) pid e h.run h.tokens h.front refl refl in
     let c = destination_comes b pt l m (ks m) pid MessageKind.Restart h.run (h.nodes m h.within) t.moved refl refl in
     let wanted = subst (λ (v : Option Arrival). Wants v Nothing) (ap (λ (n : ℕ). incoming_of ((ks n).records pid)) (home_is b pt l ks m i x h num) ∙ ap incoming_of c.is) t.carries.1 in
+    let all_come : (z : Process) (k : Option Asker) (a : Arrival) → CanMove (record z { queue = [] }) → a ≡ coming z k a.held a.wanted → a.wanted ≡ Nothing → MayRestart a = λ z k a whole pieces wanted.
+      let come : a ≡ coming z k a.held Nothing = pieces ∙ ap (coming z k a.held) wanted in
+      record { whole = wanted; process = moved z; restarts = ap restarted come ∙ (by_pieces (record z { queue = [] }) k a.held whole).whole; lawful = moved_lawful (record z { queue = [] }) whole.lawful } in
     incoming_is (ks m) pid c.arrival MayRestart c.is (all_come c.stands.process (l.notes pid) c.arrival c.stands.whole c.stands.pieces wanted)
 kernel_row b pt l ks m i x (What.Migrate machine_) e h num sent = absurd (false≢true (sym (ap (λ (c : Bool). not (c || is_server x.to.pid) && true) num) ∙ sorted_of b pt l ks m i x (What.Migrate machine_) e h))
 kernel_row b pt l ks m i x (What.Update about) e h num sent = absurd (false≢true (sym (ap (λ (c : Bool). not c && true) num) ∙ sorted_of b pt l ks m i x (What.Update about) e h))

@@ -2,7 +2,7 @@
 use Rattle.dm_mirror.proofs.Names.{◌≡◌, ℕ, ◌<◌, ◌==◌, ◌||◌, Bool, true, false, List, [], ◌∷◌, map, refl, ap, ◌∙◌, sym, subst, arith, All, Option, None, Some, nat_tests, All-head, Pid, pid_eq, Message, MsgId, IsLawfulMessage, PlainMessage}
 use Rattle.dm_mirror.proofs.Names.{plain_message, Boot, manager, switchboard, pid_eq-is, Point, is_server, OwnTold, Run, for_whom, Placed, Mirrors, IsLawfulState, FitsKnown, FrontMay, MayHandle, MayTurn, KernelState, MadeStands}
 use Rattle.dm_mirror.proofs.Names.{KernelStands, AllOwnStand, TokensStand}
-use Rattle.dm_mirror.proofs.May.Own.{own_board, own_front, own_manager, own_process, for_process, may_act, FrontSo, for_board, for_manager, front_so, kernel_create, kernel_row}
+use Rattle.dm_mirror.proofs.May.Own.{own_board, own_front, own_manager, own_row, process_row, may_act, FrontSo, for_board, for_manager, front_so, kernel_create, kernel_row}
 use Rattle.dm_mirror.proofs.May.OwnKernel.{Around, own_kernel}
 use Rattle.dm_mirror.proofs.Counts.Pairs.{CountsFew}
 
@@ -22,7 +22,7 @@ handles b pt l m k i x p run made counts mirrors h sent lawful f = record {
       let board_ : pid_eq p.to switchboard ≡ false = ap (λ (q : Pid). pid_eq q switchboard) (sym f.to) ∙ board in
       let other_ : pid_eq p.to manager ≡ false = ap (λ (q : Pid). pid_eq q manager) (sym f.to) ∙ other in
       let server : is_server p.to ≡ false = ap (λ (c : Bool). c || pid_eq p.to manager) board_ ∙ other_ in
-      subst (λ (q : Pid). FitsKnown k x (k.records q)) (sym f.to) (for_process b pt l m k i x p mirrors h counts sent f num_ other_ server);
+      subst (λ (q : Pid). FitsKnown k x (k.records q)) (sym f.to) (process_row b pt l m k i x p (k.records p.to) mirrors h counts sent f num_ other_ server refl);
 }
 
 -- or a kernel's own
@@ -34,7 +34,7 @@ own_handles b pt l ks m i x h sent lawful =
       for_kernel = λ num. own_kernel b pt l ks m i x h num sent;
       for_board = λ is. own_board pt l m (ks m) i x h.counts h.mirrors stands.servers h.front (pid_eq-is x.to.pid switchboard is);
       for_manager = λ is. own_manager pt l m (ks m) i x h.counts h.mirrors stands.servers h.front (pid_eq-is x.to.pid manager is);
-      for_process = λ num board other. own_process b pt l m (ks m) i x h.mirrors stands h.counts sent h.front num (ap (λ (c : Bool). c || pid_eq x.to.pid manager) board ∙ other);
+      for_process = λ num board other. own_row b pt l m (ks m) i x ((ks m).records x.to.pid) h.mirrors stands h.counts sent h.front num (ap (λ (c : Bool). c || pid_eq x.to.pid manager) board ∙ other) refl;
     }
 
 -- all that stands where machine m takes a turn

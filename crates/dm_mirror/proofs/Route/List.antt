@@ -78,8 +78,7 @@ pair_place : (m c : ℕ) (t : Bool) → machine_of (if t then Inbox c else Untak
 pair_place m c t = grind (arith, nat_tests)
 
 sayable : (r : Route) → Sayable (rule_part_of r)
-sayable (First x) = tt
-sayable _ = tt
+sayable r = grind (arith, nat_tests)
 
 pub late_count : (q : Point) (late : Late) → (late_point q late).view.count ≡ q.view.count
 late_count q late = grind (arith, nat_tests)

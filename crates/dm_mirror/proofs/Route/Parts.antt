@@ -13,9 +13,6 @@ use Rattle.dm_mirror.proofs.Turning as turning
 more_times : (j : MsgId) (xs ys : List MsgId) → 1 ≤ times j xs → 1 ≤ times j (xs ++ ys)
 more_times j xs ys h = let a = times-append j xs ys in omega (arith, a, h)
 
-box_grows : (f : ℕ → List MsgId) (b n : ℕ) (i j : MsgId) (s t : Bool) → (b == n) ≡ t → 1 ≤ times j (f n) → 1 ≤ times j ((if s then (λ (d : ℕ). if b == d then f b ++ i ∷ [] else f d) else f) n)
-box_grows f b n i j s t e h = grind (arith, nat_tests, eqb-true, more_times)
-
 all_gone : (i j : MsgId) (xs : List MsgId) (n : ℕ) → n ≡ length xs → 1 ≤ times j (drop n xs) → ⊥
 all_gone i j [] zero e h = omega (arith, h)
 all_gone i j [] (suc n) e h = omega (arith, e)
@@ -25,12 +22,9 @@ all_gone i j (x ∷ xs) (suc n) e h = all_gone i j xs n (omega (arith, e)) h
 pair_grows : (a b : ℕ) (p : Pair) (i j : MsgId) (c : Bool) → (a == b) ≡ c → p.taken ≤ length p.ids → (c ≡ true → p.taken ≡ length p.ids) → 1 ≤ times j (untaken p) → 1 ≤ times j (untaken (routed_on a b p i))
 pair_grows a b p i j c e few full h = grind (arith, nat_tests, all_gone, drop-append-le, more_times)
 
-pair_if : (f : ℕ → ℕ → Pair) (a b c d : ℕ) (i j : MsgId) (t : Bool) → ((a == c) && (b == d)) ≡ t → (f a b).taken ≤ length (f a b).ids → ((a == b) ≡ true → (f a b).taken ≡ length (f a b).ids) → 1 ≤ times j (untaken (f c d)) → 1 ≤ times j (untaken (if t then routed_on a b (f a b) i else f c d))
-pair_if f a b c d i j t e few full h = grind (arith, nat_tests, two_of, pair_grows)
-
 pub put_grows : (v : View) (a b : ℕ) (i j : MsgId) (k : MessageKind) (q : Pid) → PairsFit v → (z : Spot) → 1 ≤ standing v j z → 1 ≤ standing (after_put v a b i k q) j z
-put_grows v a b i j k q fits (Inbox n) h = box_grows v.inbox b n i j (a == b) (b == n) refl h
-put_grows v a b i j k q fits (Untaken c d) h = pair_if v.pair a b c d i j ((a == c) && (b == d)) refl (fits.within a b) (home_full v a b fits) h
+put_grows v a b i j k q fits (Inbox n) h = grind (arith, nat_tests, eqb-true, more_times)
+put_grows v a b i j k q fits (Untaken c d) h = grind (arith, nat_tests, two_of, pair_grows, fits.within a b, home_full v a b fits)
 put_grows v a b i j k q fits _ h = h
 
 -- behind the lines of a message that is put, with its packet
@@ -39,13 +33,11 @@ end_fits q m c x true out h = fits_put q.view m c x.id (kind_of x.what) x.to.pid
 end_fits q m c x false false h = fits_put q.view m c x.id (kind_of x.what) x.to.pid h
 end_fits q m c x false true h = fits_packet (after_put q.view m c x.id (kind_of x.what) x.to.pid) m c (length (q.view.pair m c).wire) (Load.Data (length (q.view.pair m c).ids)) (fits_put q.view m c x.id (kind_of x.what) x.to.pid h)
 
-packet_grows : (v : View) (m c n : ℕ) (j : MsgId) (z : Spot) → 1 ≤ standing v j z → 1 ≤ standing (after_packet v m c (Load.Data n)) j z
-packet_grows v m c n j z h = subst (λ (k : ℕ). 1 ≤ k) (sym (put_standing v m c (Load.Data n) j z)) h
-
 pub end_there : (q : Point) (m c : ℕ) (x : Message) (home out : Bool) → PairsFit q.view → 1 ≤ standing (put_end q m c x home out).view x.id (put_spot m c)
 end_there q m c x true out fits = put_there q.view m c x.id (kind_of x.what) x.to.pid fits
 end_there q m c x false false fits = put_there q.view m c x.id (kind_of x.what) x.to.pid fits
 end_there q m c x false true fits =
+    let packet_grows : (v : View) (m c n : ℕ) (j : MsgId) (z : Spot) → 1 ≤ standing v j z → 1 ≤ standing (after_packet v m c (Load.Data n)) j z = λ v m c n j z h. subst (λ (k : ℕ). 1 ≤ k) (sym (put_standing v m c (Load.Data n) j z)) h in
     packet_grows (after_put q.view m c x.id (kind_of x.what) x.to.pid) m c (length (q.view.pair m c).ids) x.id (put_spot m c) (put_there q.view m c x.id (kind_of x.what) x.to.pid fits)
 
 -- What may be put still may behind the put of another message.
@@ -62,18 +54,12 @@ pub record SameEnd (put end : Point) : Type 0 where
   pub groups : end.view.groups ≡ put.view.groups
 
 pub same_end : (q : Point) (m c : ℕ) (x : Message) (home out : Bool) → SameEnd (put_point q m c x) (put_end q m c x home out)
-same_end q m c x true out = record { kernel = refl; addresses = refl; acting = refl; count = refl; told = refl; topic = refl; asked = refl; groups = refl }
-same_end q m c x false false = record { kernel = refl; addresses = refl; acting = refl; count = refl; told = refl; topic = refl; asked = refl; groups = refl }
-same_end q m c x false true = record { kernel = refl; addresses = refl; acting = refl; count = refl; told = refl; topic = refl; asked = refl; groups = refl }
-
-not_own : (i : MsgId) (o : Option Told) → is_kernels i ≡ false → is_own i o ≡ false
-not_own i None e = e
-not_own i (Some t) e = refl
+same_end q m c x home out = grind (arith, nat_tests)
 
 pub first_not_own : (pt : Point) (l : Placed) (records : AllRecords) (x : Message) → Sane pt → Mirrors pt.kernel pt.view pt.addresses l → MayPut pt l records (First x) → is_own x.id (pt.view.told x.id) ≡ false
 first_not_own pt l records x sane mirrors may =
     let there = plain_of pt l x mirrors may.0 may.1 in
-    not_own x.id (pt.view.told x.id) (not_kernels sane.r sane.e pt.kernel x.id there.m there.there sane.sound)
+    grind (arith, nat_tests, not_kernels sane.r sane.e pt.kernel x.id there.m there.there sane.sound)
 
 pub on_not_own : (pt : Point) (l : Placed) (records : AllRecords) (x : Message) → MayPut pt l records (On x) → is_own x.id (pt.view.told x.id) ≡ false
 on_not_own pt l records x may = not_first x.id (pt.view.told x.id) may.1.0 may.1.1
@@ -184,9 +170,6 @@ grows_then q mid end a c = record { fits = c.fits; spots = λ i z h. c.spots i z
 grows_packet : (q : Point) (a c k n : ℕ) → PairsFit q.view → Grows q (moved q (Line.Packet a c k (Load.Data n)) q.kernel)
 grows_packet q a c k n fits = record { fits = fits_packet q.view a c k (Load.Data n) fits; spots = λ i z h. subst (λ (j : ℕ). 1 ≤ j) (sym (put_standing q.view a c (Load.Data n) i z)) h; kernel = refl }
 
-grows_put : (q : Point) (a c : ℕ) (id : MsgId) (k : MessageKind) (t : Pid) → PairsFit q.view → Grows q (moved q (Line.Put a c id k t) q.kernel)
-grows_put q a c id k t fits = record { fits = fits_put q.view a c id k t fits; spots = λ i z h. put_grows q.view a c id i k t fits z h; kernel = refl }
-
 grows_more : (mid end : Point) (a c k n : ℕ) (s t : Bool) → after mid (if s then [] else if t then Line.Packet a c k (Load.Data n) ∷ [] else []) ≡ Some end → PairsFit mid.view → Grows mid end
 grows_more mid end a c k n true t e fits = let f : mid ≡ end = cc in subst (Grows mid) f (grows_same mid fits)
 grows_more mid end a c k n false false e fits = let f : mid ≡ end = cc in subst (Grows mid) f (grows_same mid fits)
@@ -199,7 +182,7 @@ grows_puts q end c id k t ls is leads fits =
     let a : ℕ = q.view.acting in
     let mid : Point = moved q (Line.Put a c id k t) q.kernel in
     let f : puts q.view c id k t ≡ ls = cc in
-    let g = grows_put q a c id k t fits in
+    let g : Grows q (moved q (Line.Put a c id k t) q.kernel) = record { fits = fits_put q.view a c id k t fits; spots = λ i z h. put_grows q.view a c id i k t fits z h; kernel = refl } in
     grows_then q mid end g (grows_more mid end a c (length (q.view.pair a c).wire) (length (q.view.pair a c).ids) (a == c) (goes_out (q.view.pair a c)) (ap (after q) f ∙ leads) g.fits)
 
 route_grows : (q end : Point) (r : Route) (ls : List Line) → rule.lines_of q (rule_part_of r) ≡ Some ls → after q ls ≡ Some end → PairsFit q.view → Grows q end
@@ -212,12 +195,10 @@ route_grows q end (On x) ls is leads fits =
     grows_puts q end x.to.at x.id t.kind t.receiver ls last leads fits
 route_grows q end (Own x) ls is leads fits = grows_puts q end x.to.at (own_id q.view) (kind_of x.what) x.to.pid ls is leads fits
 
--- a process leaves
-left_spots : (q : Point) (p : Pid) (i : MsgId) (z : Spot) → standing (moved q (Line.Migration Stage.Left p) q.kernel).view i z ≡ standing q.view i z
-left_spots q p i z = grind (arith, nat_tests)
-
 left_grows : (q end : Point) (p : Pid) (ls : List Line) → rule.lines_of q (rule.Says (Line.Migration Stage.Left p)) ≡ Some ls → after q ls ≡ Some end → PairsFit q.view → Grows q end
 left_grows q end p ls is leads fits =
+    -- a process leaves
+    let left_spots : (q : Point) (p : Pid) (i : MsgId) (z : Spot) → standing (moved q (Line.Migration Stage.Left p) q.kernel).view i z ≡ standing q.view i z = λ q p i z. grind (arith, nat_tests) in
     let l : Line = Line.Migration Stage.Left p in
     let f : l ∷ [] ≡ ls = cc in
     let same : Some (moved q l q.kernel) ≡ Some end = ap (after q) f ∙ leads in

@@ -11,6 +11,7 @@ pub use Rattle.dm_rulelaws.proofs.Based.Queues.{told_kept as told_stays}
 use Rattle.dm_mirror.proofs.Turning.{Route, First, On, Own, MayOwn, MayPut, IsCarried, message_of, rule_part_of, Late, Nothing, Leaves, LateTopic, late_point}
 use Rattle.dm_mirror.proofs.Join.{IsPlain, line_put, plain_of, put_point, lines_put, put_end}
 use Rattle.dm_kernel.specs.State as machine
+use Rattle.dm_mirror.proofs.Rooms.{taken_same}
 use Rattle.dm_rule.specs.Parts as rule
 use Rattle.dm_mirror.proofs.Turning as turning
 
@@ -43,14 +44,6 @@ messages_more f g more (i ∷ is) (x ∷ xs) e =
 module _ (b : Boot) (pt : Point) (l u : Placed) (a : Addresses) (e : MoreBag l u) where
   abbrev next : Point
   next = record pt { addresses = a }
-
-  home_same : (m home k : ℕ) → taken_of_home next m home k ≡ taken_of_home pt m home k
-  home_same m home zero = refl
-  home_same m home (suc k) = ap (λ r. and r (taken_by pt m (pid_of home (first_number + k)))) (home_same m home k)
-
-  taken_same : (m n : ℕ) → taken_at next m n ≡ taken_at pt m n
-  taken_same m zero = refl
-  taken_same m (suc n) = λ i. and (taken_same m n i) (home_same m n (pt.kernel.made n) i)
 
   here_more : (p : Pid) (queue : List MsgId) (x : Process) → HereStands l p queue x → HereStands u p queue x
   here_more p queue x h = ((h.0.0, e.processes p ∙ h.0.1), messages_more l.bag u.bag e.bag queue x.queue h.1)
@@ -85,7 +78,7 @@ module _ (b : Boot) (pt : Point) (l u : Placed) (a : Addresses) (e : MoreBag l u
     known_more,
     h.known,
     messages_more l.bag u.bag e.bag (pt.view.inbox m) k.inbox h.inbox,
-    subst (RoomStands k.room (room_of (slice_get b.machines m))) (sym (taken_same m pt.kernel.machines)) h.room,
+    subst (RoomStands k.room (room_of (slice_get b.machines m))) (sym (taken_same pt next m refl (λ n. refl) (λ p. refl))) h.room,
     h.servers ∙ sym (servers_more m),
   )
 
@@ -303,7 +296,4 @@ late_end q (Leaves p y) m c x false false e = left_put q p m c x e
 late_end q (Leaves p y) m c x false true e = λ i. moved (left_put q p m c x e i) (Line.Packet m c (length (q.view.pair m c).wire) (Load.Data (length (q.view.pair m c).ids))) q.kernel
 
 pub late_topic : (q : Point) (late : Late) (m c : ℕ) (x : Message) (home out : Bool) → LateTopic q late → LateTopic (put_end q m c x home out) late
-late_topic q Nothing m c x home out e = tt
-late_topic q (Leaves p y) m c x true out e = e
-late_topic q (Leaves p y) m c x false false e = e
-late_topic q (Leaves p y) m c x false true e = e
+late_topic q late m c x home out e = grind (arith, nat_tests)

@@ -20,53 +20,38 @@ id_fewer i j [] = omega arith
 id_fewer i j (x ∷ xs) = grind (arith, nat_tests, (id_fewer i j xs))
 
 -- no message stands more often
-abbrev Fewer : View → View → Type 0
+abbrev pub Fewer : View → View → Type 0
 Fewer v w = (j : MsgId) (z : Spot) → standing w j z ≤ standing v j z
 
 fewer_on : (u v w : View) → Fewer u v → Fewer v w → Fewer u w
 fewer_on u v w g h j z = let a = g j z in let b = h j z in omega (arith, a, b)
 
-handled_fewer : (v : View) (i : MsgId) → Fewer v (handled v i)
-handled_fewer v i j (Inbox m) = grind (arith, nat_tests, eq_is, front_fewer i j (v.inbox v.acting))
-handled_fewer v i j _ = omega arith
+pub handled_fewer : (v : View) (i : MsgId) → Fewer v (handled v i)
+handled_fewer v i j z = grind (arith, nat_tests, eq_is, front_fewer)
 
 dropped_fewer : (v : View) (i : MsgId) (o : Option Pid) → Fewer v (dropped_for v i o)
-dropped_fewer v i None j z = omega arith
-dropped_fewer v i (Some p) j (Queue m q) = grind (arith, nat_tests, parts, pid_eq-is, eq_is, front_fewer i j (v.queue v.acting p))
-dropped_fewer v i (Some p) j _ = omega arith
-
-serving_fewer : (v : View) (p : Pid) → Fewer v (view.serving v p)
-serving_fewer v p j (Queue m q) = omega arith
-serving_fewer v p j _ = omega arith
+dropped_fewer v i o j z = grind (arith, nat_tests, parts, pid_eq-is, eq_is, front_fewer)
 
 received_fewer : (v : View) (p : Pid) (i : MsgId) → Fewer v (after_label v (Label.Receive p i))
-received_fewer v p i j (Queue m q) = grind (arith, nat_tests, parts, pid_eq-is, eq_is, id_fewer i j (v.queue v.acting p))
-received_fewer v p i j _ = omega arith
+received_fewer v p i j z = grind (arith, nat_tests, parts, pid_eq-is, eq_is, id_fewer)
 
-ended_fewer : (v : View) (p : Pid) → Fewer v (view.ended v p)
-ended_fewer v p j (Queue m q) = omega arith
-ended_fewer v p j _ = omega arith
+pub ended_fewer : (v : View) (p : Pid) → Fewer v (view.ended v p)
+ended_fewer v p j z = grind (arith, nat_tests)
 
 same_fewer : (v : View) → Fewer v v
 same_fewer v j z = omega arith
 
-kills_fewer : (v : View) (k : MessageKind) (p : Pid) → Fewer v (view.ends_by (sort_of k) v (Some p))
-kills_fewer v MessageKind.Kill p = ended_fewer v p
-kills_fewer v k p = same_fewer v
-
 told_fewer : (v : View) (o : Option Told) → Fewer v (view.served_told v o)
-told_fewer v None = same_fewer v
-told_fewer v (Some t) = kills_fewer v t.kind t.receiver
+told_fewer v o j z = grind (arith, nat_tests)
 
 created_fewer : (v : View) (i : MsgId) (p : Pid) → Fewer (handled v i) (after_label v (Label.Created i p))
-created_fewer v i p j (Queue m q) = omega arith
-created_fewer v i p j _ = omega arith
+created_fewer v i p j z = grind (arith, nat_tests)
 
 label_fewer : (v : View) (e : Label) → Fewer v (after_label v e)
-label_fewer v (Label.Ran p k) = serving_fewer v p
+label_fewer v (Label.Ran p k) = let serving_fewer : (v : View) (p : Pid) → Fewer v (view.serving v p) = λ v p j z. grind (arith, nat_tests) in serving_fewer v p
 label_fewer v (Label.End p y) = ended_fewer v p
 label_fewer v (Label.Receive p id) = received_fewer v p id
-label_fewer v (Label.Refuse p id c) = serving_fewer v p
+label_fewer v (Label.Refuse p id c) = let serving_fewer : (v : View) (p : Pid) → Fewer v (view.serving v p) = λ v p j z. grind (arith, nat_tests) in serving_fewer v p
 label_fewer v (Label.Dropped id) = fewer_on v (handled v id) (after_label v (Label.Dropped id)) (handled_fewer v id) (dropped_fewer (handled v id) id (receiver_of (v.told id)))
 label_fewer v (Label.Served id) = fewer_on v (handled v id) (after_label v (Label.Served id)) (handled_fewer v id) (told_fewer (handled v id) (v.told id))
 label_fewer v (Label.Gone id) = handled_fewer v id
@@ -150,13 +135,10 @@ hears_loud b pt m id o = loud_of (rule.hears b pt m id o) (λ ps. by_hears Loud 
 abbrev pub still_parts : List Line → Option Message → List Part
 still_parts says route = map Part.Says says ++ rule_routed route
 
-still_first : (c d : Bool) → (c && d) ≡ true → not c ≡ true → ⊥
-still_first c d e f = grind (arith, nat_tests)
-
 still_not_loud : (says : List Line) (route : Option Message) → are_still says ≡ true → Loud (still_parts says route) → ⊥
 still_not_loud [] None e h = h
 still_not_loud [] (Some x) e h = false≢true h
-still_not_loud (l ∷ ls) route e h = still_first (is_still l) (are_still ls) e h
+still_not_loud (l ∷ ls) route e h = grind (arith, nat_tests)
 
 -- each line of it has what it needs
 comes_walk : (b : Boot) (pt : Point) (m : ℕ) (i : MsgId) (o : Option PlainMessage) (says : List Line) (route : Option Message) → Begins pt m → pt.kernel.bag i ≡ o → are_still says ≡ true → rule.comes_to b pt m i o ≡ Some (still_parts says route)

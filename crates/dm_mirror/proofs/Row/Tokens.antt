@@ -15,30 +15,12 @@ use Rattle.dm_rule.specs.Parts as rule
 pub carries_plain : (p : Pid) (x : Process) (k : Option Asker) (n : ℕ) (a : Option Arrival) (w : What) → Carries p x k n a w → plain_what w ≡ None
 carries_plain p x k n a w h = grind (arith, nat_tests)
 
--- what it carries depends on what comes only once that was accepted
-carries_on : (p : Pid) (x : Process) (k : Option Asker) (n : ℕ) (a c : Option Arrival) (w : What) → (is_early (kind_of w) ≡ false → a ≡ c) → Carries p x k n a w → Carries p x k n c w
-carries_on p x k n a c (What.Ask pid blocks moves size asker) same h = h
-carries_on p x k n a c (What.Refuse pid slots blocks) same h = h
-carries_on p x k n a c (What.PullState pid chunk) same h = subst (λ (o : Option Arrival). Carries p x k n o (What.PullState pid chunk)) (same refl) h
-carries_on p x k n a c (What.State pid chunk last bytes) same h = subst (λ (o : Option Arrival). Carries p x k n o (What.State pid chunk last bytes)) (same refl) h
-carries_on p x k n a c (What.PullBlock pid block) same h = subst (λ (o : Option Arrival). Carries p x k n o (What.PullBlock pid block)) (same refl) h
-carries_on p x k n a c (What.Memory pid block bytes) same h = subst (λ (o : Option Arrival). Carries p x k n o (What.Memory pid block bytes)) (same refl) h
-carries_on p x k n a c (What.AllTaken pid) same h = subst (λ (o : Option Arrival). Carries p x k n o (What.AllTaken pid)) (same refl) h
-carries_on p x k n a c (What.Restart pid) same h = subst (λ (o : Option Arrival). Carries p x k n o (What.Restart pid)) (same refl) h
-carries_on p x k n a c w same h = absurd h
-
-at_source : (k : MessageKind) (s d : ℕ) (i : MsgId) (x : Known) → knows (Moves k s d (Some i)) s x ≡ true → kind_leaves k d x ≡ true
-at_source k s d i x h = sym (on_if (s == s) (kind_leaves k d x) (if d == s then kind_comes k s x else is_away x) (eq_self s)) ∙ h
-
 at_destination : (k : MessageKind) (s d : ℕ) (i : MsgId) (x : Known) → (s == d) ≡ false → knows (Moves k s d (Some i)) d x ≡ true → kind_comes k s x ≡ true
 at_destination k s d i x apart h = sym (off_if (s == d) (kind_leaves k d x) (if d == d then kind_comes k s x else is_away x) apart ∙ on_if (d == d) (kind_comes k s x) (is_away x) (eq_self d)) ∙ h
 
 -- the machine that it comes to
 destination_if : (c : Bool) (s d : ℕ) → (if c then (if c then d else s) else (if c then s else d)) ≡ d
 destination_if c s d = grind (arith, nat_tests)
-
-destination_is : (i : MsgId) (p : Pid) (k : MessageKind) (s d : ℕ) → i.from ≡ pid_of (sender_in k s d) 0 → destination_of i (told_between p k s d) ≡ d
-destination_is i p k s d from = ap (λ (q : Pid). if tells_onward (sort_of k) then (receiver_in k s d) else q.home) from ∙ destination_if (tells_onward (sort_of k)) s d
 
 -- a process that moves leaves a machine or comes to one
 pub record Moving (v : View) (p : Pid) (i : MsgId) (t : Told) : Type 0 where
@@ -51,13 +33,13 @@ moving_by : (v : View) (p : Pid) (i : MsgId) (t : Told) (k : MessageKind) (s d :
     → Moving v p i t
 moving_by v p i t k s d is from apart known true early = record {
   at = s;
-  moving = grind (arith, nat_tests, left_true, (at_source k s d i (v.known s p) (known s)));
+  moving = grind (arith, nat_tests, left_true, (sym (on_if (s == s) (kind_leaves k d (v.known s p)) (if d == s then kind_comes k s (v.known s p) else is_away (v.known s p)) (eq_self s)) ∙ (known s)));
   comes_ = λ late. absurd (false≢true (sym late ∙ ap (λ (u : Told). is_early u.kind) is ∙ early));
 }
 moving_by v p i t k s d is from apart known false late = record {
   at = d;
   moving = grind (arith, nat_tests, (at_destination k s d i (v.known d p) apart (known d)));
-  comes_ = λ e. sym (ap (destination_of i) is ∙ destination_is i p k s d from);
+  comes_ = λ e. sym (ap (destination_of i) is ∙ (ap (λ (q : Pid). if tells_onward (sort_of k) then (receiver_in k s d) else q.home) from ∙ destination_if (tells_onward (sort_of k)) s d));
 }
 
 pub moving_of : (v : View) (p : Pid) (i : MsgId) (t : Told) (z : Spot) → InPhases v → v.told i ≡ Some t → is_between t.kind ≡ true → t.about ≡ Of p → 1 ≤ standing v i z → Moving v p i t
@@ -81,6 +63,7 @@ pub record LeavesMoving (pt : Point) (l : Placed) (records : AllRecords) (next :
   pub lines : StillKeeps pt.view next.view
   pub own : (i : MsgId) (x : Message) → plain_message x ≡ None → l.bag i ≡ Some x → placed.bag i ≡ Some x
 
+-- what it carries depends on what comes only once that was accepted
 token_keeps : (pt : Point) (l : Placed) (records : AllRecords) (next : Point) (placed : Placed) (after : AllRecords) (p : Pid) (i : MsgId) (t : Told) → LeavesMoving pt l records next placed after → AllOwnStand pt.view l → Moving pt.view p i t → pt.view.told i ≡ Some t
     → TokenStands pt.view l records p i t → TokenStands next.view placed after p i t
 token_keeps pt l records next placed after p i t g own h told s =
@@ -97,7 +80,7 @@ token_keeps pt l records next placed after p i t g own h told s =
       g.own i x none s.is,
       subst (λ (o : Option Asker). Carries p s.process o (next.view.asked p) (incoming_of (after (destination_of i t) p)) x.what) (sym (g.notes h.at p h.moving))
           (subst (λ (n : ℕ). Carries p s.process (l.notes p) n (incoming_of (after (destination_of i t) p)) x.what) (ap (λ (f : Pid → ℕ). f p) (sym g.lines.asked))
-          (carries_on p s.process (l.notes p) (pt.view.asked p) (incoming_of (records (destination_of i t) p)) (incoming_of (after (destination_of i t) p)) x.what same s.carries)),
+          (let e_ : Carries p s.process (l.notes p) (pt.view.asked p) (incoming_of (after (destination_of i t) p)) x.what = grind (arith, nat_tests, s.carries) in e_)),
     )
 
 -- a message of the protocol is a kernel's own
@@ -126,10 +109,6 @@ routes_rule_parts o = grind (arith, nat_tests)
 
 routes_owns : (o : Option Message) → owns (first_route o) ≡ 0
 routes_owns o = grind (arith, nat_tests)
-
-routes_may : (pt : Point) (placed : Placed) (records : AllRecords) (o : Option Message) → IsSent placed o → AllMayPut pt placed records (first_route o)
-routes_may pt placed records None h = tt
-routes_may pt placed records (Some x) h = (h, tt)
 
 -- what it leaves of what moves, on its machine and elsewhere
 row_leaves : (b : Boot) (m : ℕ) (pt : Point) (l : Placed) (records : AllRecords) (k : KernelState) → Run b pt → records m ≡ k.records → (r : Row b m pt l k) → LeavesMoving pt l records r.next r.placed (at_machine records m r.state.records)
@@ -171,7 +150,7 @@ row_turns b m pt l records k run own tokens same r = record {
   kernel = r.kernel;
   sent = λ e. (let a = r.count in let c : r.next.view.count m ≡ pt.view.count m = r.elsewhere.count m in let z = routes_owns r.route in omega (arith, e, a, c, z));
   elsewhere = r.elsewhere;
-  may = routes_may r.next r.placed (at_machine records m r.state.records) r.route r.sent;
+  may = grind (arith, nat_tests, r.sent);
   late_may = tt;
   single = (let z = routes_owns r.route in omega (arith, z));
   topic = tt;

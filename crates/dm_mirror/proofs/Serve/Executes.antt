@@ -1,7 +1,7 @@
 -- A ready process is served: all that it can come to.
 use Rattle.dm_mirror.proofs.Names.{◌≡◌, ℕ, ◌<◌, ◌==◌, Bool, true, false, List, [], ◌∷◌, length, refl, ap, ◌∙◌, sym, arith, if◌then◌else◌, Option, Some, nat_tests, Pid, Message, PlainMessage, plain_message, Regs, Fault, Row, instruction}
 use Rattle.dm_mirror.proofs.Names.{Status, Label, Why, Process, Boot, why_code, bind, when, with_process, plain_process, Machine, plain_called, plain_sent, call_plainly, bind-is, Point, Placed, acted_with, call_matches, fault_matches}
-use Rattle.dm_mirror.proofs.Names.{with_queue, calls_with, KernelState, turned, with_here, call_keeps, ran_keeps, reply_same, Part}
+use Rattle.dm_mirror.proofs.Names.{with_queue, calls_with, KernelState, turned, with_here, call_keeps, ran_keeps, reply_same, Part, subst}
 use Rattle.dm_onekernel.specs.Kernel.{Ended}
 use Rattle.dm_syscall.specs.declared.Called.{Called}
 use Rattle.dm_onekernel.specs.Calls as calls
@@ -28,47 +28,39 @@ message_acts : (b : Boot) (m : ℕ) (pt : Point) (l : Placed) (k : KernelState) 
 message_acts b m pt l k p x y z c n w cl s r plain next with_ queue memory =
     let (u, says, last) = bind-is (plain_message w) (λ (v : PlainMessage). Some (calls.Sends v (plain_process z))) cl plain in
     let f : cl ≡ calls.Sends u (plain_process z) = cc in
-    let t = turned (with_here (moved_round k p) p z) (machine.says (Label.Ran p c) ∷ machine.says (Label.Send p w.id) ∷ Part.Routes w ∷ []) in
-    acts_as b m pt l k p t t (Some (rule.says (Label.Ran p c) ∷ rule.called p n (pt.view.queue m p) cl)) (Some (rule.says (Label.Ran p c) ∷ rule.says (Label.Send p u.id) ∷ rule_part.Routes u.id ∷ [])) refl
-    (ap (λ (v : calls.Called). Some (rule.says (Label.Ran p c) ∷ rule.called p n (pt.view.queue m p) v)) f) (sends_acts b m pt l k p x y z c n w u s r says (next ∙ ap (λ (v : calls.Called). Some (kernel.Calls n v)) f) with_ queue memory)
+    let sent = turned (with_here (moved_round k p) p z) (machine.says (Label.Ran p c) ∷ machine.says (Label.Send p w.id) ∷ Part.Routes w ∷ []) in
+    subst (λ (v : calls.Called). Acts b m pt l k p sent (Some (rule.says (Label.Ran p c) ∷ rule.called p n (pt.view.queue m p) v))) (sym f)
+    (sends_acts b m pt l k p x y z c n w u s r says (next ∙ ap (λ (v : calls.Called). Some (kernel.Calls n v)) f) with_ queue memory)
 
 called_acts : (b : Boot) (m : ℕ) (pt : Point) (l : Placed) (k : KernelState) (p : Pid) (x y z : Process) (c n : ℕ) (w : Called) (cl : calls.Called) (s : Served b m pt l k p x) → Ran m pt l p x s.at.queue c y → plain_called w z ≡ Some cl
     → kernel.next_trap (ran_kernel pt p y) p ≡ Some (kernel.Calls n cl) → placed.acts m (ran_placed l p y s.at.queue) p ≡ Some (placed.with_acted (ran_placed l p y s.at.queue) p (acted_with s.at.queue (placed.after_call w z)))
     → z.queue ≡ x.queue → length z.memory ≡ length x.memory → ActsCalled b m pt l k p z c n w cl
 called_acts b m pt l k p x y z c n (Called.Replied reply) cl s r plain next with_ queue memory =
     let f : cl ≡ calls.Replies reply (plain_process z) = cc in
-    let t = serve.called_with (with_here (moved_round k p) p z) p c n z (Called.Replied reply) in
     let u = ran_kernel pt p y in
     let goes = kernel.goes_on u p (plain_process z) in
-    acts_as b m pt l k p t t (Some (rule.says (Label.Ran p c) ∷ rule.called p n (pt.view.queue m p) cl)) (Some (rule.says (Label.Ran p c) ∷ rule.says (Label.Call p n reply) ∷ [])) refl
-    (ap (λ (v : calls.Called). Some (rule.says (Label.Ran p c) ∷ rule.called p n (pt.view.queue m p) v)) f)
+    subst (ActsCalled b m pt l k p z c n (Called.Replied reply)) (sym f)
     (goes_acts b m pt l k p x y z c (Label.Call p n reply) s r (λ u v. refl) tt
     (ap (λ (o : Option kernel.Trap). bind o (kernel.replies u p n reply)) (next ∙ ap (λ (v : calls.Called). Some (kernel.Calls n v)) f) ∙ ap (λ (d : Bool). when d goes) (reply_same n reply)) with_ queue memory)
 called_acts b m pt l k p x y z c n (Called.Sent w) cl s r plain next with_ queue memory = message_acts b m pt l k p x y z c n w cl s r plain next with_ queue memory
 called_acts b m pt l k p x y z c n (Called.Moving w) cl s r plain next with_ queue memory = message_acts b m pt l k p x y z c n w cl s r plain next with_ queue memory
 called_acts b m pt l k p x y z c n Called.Waits cl s r plain next with_ queue memory =
     let f : cl ≡ calls.Waits (plain_process z) = cc in
-    let t = serve.called_with (with_here (moved_round k p) p z) p c n z Called.Waits in
     let u = ran_kernel pt p y in
-    acts_as b m pt l k p t t (Some (rule.says (Label.Ran p c) ∷ rule.called p n (pt.view.queue m p) cl)) (Some (rule.says (Label.Ran p c) ∷ rule.says (Label.Wait p) ∷ [])) refl
-    (ap (λ (v : calls.Called). Some (rule.says (Label.Ran p c) ∷ rule.called p n (pt.view.queue m p) v)) f)
+    subst (ActsCalled b m pt l k p z c n Called.Waits) (sym f)
     (goes_acts b m pt l k p x y z c (Label.Wait p) s r (λ u v. refl) tt (ap (λ (o : Option kernel.Trap). bind o (kernel.waits u p)) (next ∙ ap (λ (v : calls.Called). Some (kernel.Calls n v)) f)) with_ queue memory)
 called_acts b m pt l k p x y z c n (Called.Out word) cl s r plain next with_ queue memory =
     let f : cl ≡ calls.Outputs word (plain_process z) = cc in
-    let t = serve.called_with (with_here (moved_round k p) p z) p c n z (Called.Out word) in
     let u = ran_kernel pt p y in
     let goes = kernel.goes_on u p (plain_process z) in
-    acts_as b m pt l k p t t (Some (rule.says (Label.Ran p c) ∷ rule.called p n (pt.view.queue m p) cl)) (Some (rule.says (Label.Ran p c) ∷ rule.says (Label.Out p word) ∷ [])) refl
-    (ap (λ (v : calls.Called). Some (rule.says (Label.Ran p c) ∷ rule.called p n (pt.view.queue m p) v)) f)
+    subst (ActsCalled b m pt l k p z c n (Called.Out word)) (sym f)
     (goes_acts b m pt l k p x y z c (Label.Out p word) s r (λ u v. refl) tt
     (ap (λ (o : Option kernel.Trap). bind o (kernel.outputs u p word)) (next ∙ ap (λ (v : calls.Called). Some (kernel.Calls n v)) f) ∙ ap (λ (d : Bool). when d goes) (eq_self word)) with_ queue memory)
 called_acts b m pt l k p x y z c n (Called.Ended because) cl s r plain next with_ queue memory =
     let f : cl ≡ calls.Ends because = cc in
-    let t = serve.called_with (with_here (moved_round k p) p z) p c n z (Called.Ended because) in
     let u = ran_kernel pt p y in
     let gone = with_process u p (Ended because) in
-    acts_as b m pt l k p t t (Some (rule.says (Label.Ran p c) ∷ rule.called p n (pt.view.queue m p) cl)) (Some (rule.says (Label.Ran p c) ∷ rule.says (Label.End p because) ∷ rule.drop_parts (pt.view.queue m p))) refl
-    (ap (λ (v : calls.Called). Some (rule.says (Label.Ran p c) ∷ rule.called p n (pt.view.queue m p) v)) f)
+    subst (ActsCalled b m pt l k p z c n (Called.Ended because)) (sym f)
     (ends_acts b m pt l k p x y z c because s r
     (ap (λ (o : Option kernel.Trap). bind o (kernel.ends u p because)) (next ∙ ap (λ (v : calls.Called). Some (kernel.Calls n v)) f) ∙ ap (λ (d : Bool). when d gone) (eq_self (why_code because))) with_ queue memory)
 

@@ -19,7 +19,7 @@ use Rattle.dm_kernel.specs.Turn as turn
 use Rattle.dm_mirror.proofs.Kernel.Sets.{Leaves, view_leaves_on, kernel_leaves_on, placed_leaves_on, is_queue_of, off_if, on_if, messages_on, eq_self, IsAway, elsewhere_of, queue_not_elsewhere, not_is, view_serving, view_queue}
 use Rattle.dm_mirror.proofs.Kernel.Sets.{kernel_sets, kernel_out, placed_sets, placed_out, NotOwn, not_own_some, machine_on, record_on, label_mirrors, after_label, view_same, kernel_same, placed_same}
 use Rattle.dm_mirror.proofs.Serve.Runs.{Found, found, here_of, in_ring, first_runs, first_same}
-use Rattle.dm_mirror.proofs.Serving.{Served, Acts, acts_as, moved_round, served_goes, is_for, queue_alone}
+use Rattle.dm_mirror.proofs.Serving.{Served, Acts, acts_as, moved_round, goes_on_acts, is_for, queue_alone}
 use Rattle.dm_mirror.proofs.Turning.{Elsewhere, Row, begun, is_moving}
 use Rattle.dm_mirror.proofs.Serve.Executes.{executes_acts}
 use Rattle.dm_mirror.proofs.Follow.Updates.{rests_away as away_of}
@@ -32,17 +32,10 @@ record UserIs (w : What) : Type 0 where
   links : ArrayVec Link
   is : w ≡ What.User code channel body links
 
-user_is : (mask : ℕ) (w : What) → what_is_on mask w ≡ true → UserIs w
-user_is mask (What.User code channel body links) e = record { code = code; channel = channel; body = body; links = links; is = refl }
-user_is mask w e = cc
-
 -- a message that stood once has left the list
-gone_if : (i j : MsgId) (js : List MsgId) (c : Bool) → id_eq i j ≡ c → times i (j ∷ js) ≤ 1 → (times i js ≤ 1 → times i (without_id i js) ≡ 0) → times i (if c then js else j ∷ without_id i js) ≡ 0
-gone_if i j js c e few rest = grind (arith, nat_tests)
-
 gone_from : (i : MsgId) (ids : List MsgId) → times i ids ≤ 1 → times i (without_id i ids) ≡ 0
 gone_from i [] few = refl
-gone_from i (j ∷ js) few = gone_if i j js (id_eq i j) refl few (gone_from i js)
+gone_from i (j ∷ js) few = grind (arith, nat_tests, gone_from i js)
 
 -- the message that it waits for, in the kernel without machines
 record Comes (s : OneKernel) (l : Placed) (p : Pid) (ids : List MsgId) (w : Message) : Type 0 where
@@ -123,24 +116,11 @@ receive_row b m pt l k p x mask base size w code channel body links None s lawfu
     let reach : base + size ≤ length x.memory = subst (IsLawfulStatus (length x.memory)) waits lawful.status in
     let short : length body ≤ size = grind (arith, nat_tests) in
     acts_as b m pt l k p (serve.receives (moved_round k p) p x mask (Some w)) (turned (with_here (moved_round k p) p z) (machine.says (Label.Receive p id) ∷ [])) (rule.reception_parts pt.kernel p (plain_process x) (Some id)) (Some (rule.says (Label.Receive p id) ∷ []))
-    (ap (serve.received_by (moved_round k p) p x mask w) e) c.parts (record {
-      state = with_here (moved_round k p) p z;
-      says = Line.Label (Label.Receive p id) ∷ [];
-      route = None;
-      turn = refl;
-      outcome = refl;
-      next = next;
-      after = after_label pt (Label.Receive p id) u [] next step refl;
-      placed = on;
-      mirrors = label_mirrors pt l on m (Label.Receive p id) u s.mirrors s.acting tt step (ap (λ (v : Option Completion). bind v (λ (q : Completion). Some (placed.with_process lm p (Some q.process)))) c.ends.is);
-      kernel = served_goes b m pt next l on k p x z c.ends.queue s leaves refl (ring_on m p pt.view s.acting) (set_at out p (Alive (plain_process z))) (on_if (pid_eq p p) (Some (with_queue z c.ends.queue)) (lm.processes p) (pid_eq-same p)) messages
-          (length-written x.memory base body (omega (arith, reach, short)));
-      leaves = leaves;
-      sent = tt;
-      still = refl;
-      count = refl;
-      records = λ q off. off_if (pid_eq p q) (Some (Record.Here z)) (k.records q) off;
-    })
+    (ap (serve.received_by (moved_round k p) p x mask w) e) c.parts
+    (goes_on_acts b m pt next l on k p x z c.ends.queue (Line.Label (Label.Receive p id) ∷ []) None s (after_label pt (Label.Receive p id) u [] next step refl)
+    (label_mirrors pt l on m (Label.Receive p id) u s.mirrors s.acting tt step (ap (λ (v : Option Completion). bind v (λ (q : Completion). Some (placed.with_process lm p (Some q.process)))) c.ends.is))
+    leaves refl (ring_on m p pt.view s.acting)
+    (set_at out p (Alive (plain_process z))) (on_if (pid_eq p p) (Some (with_queue z c.ends.queue)) (lm.processes p) (pid_eq-same p)) messages (length-written x.memory base body (omega (arith, reach, short))) tt refl)
   where
     apart : (i : MsgId) (js : List MsgId) → times w.id js ≡ 0 → 1 ≤ times i js → id_eq w.id i ≡ false
     apart i js none least = elim (cases_Bool (id_eq w.id i)) [
@@ -159,29 +139,17 @@ receive_row b m pt l k p x mask base size w code channel body links (Some reply)
     let on = placed.with_process l p (Some (with_queue z c.ends.queue)) in
     let leaves : Leaves m t p pt l next on = record { view = view_serving m t p pt.view s.acting; kernel = kernel_sets p pt.kernel (Alive (plain_process z)); placed_ = placed_sets t p pt.view l (Some (with_queue z c.ends.queue)) } in
     acts_as b m pt l k p (serve.receives (moved_round k p) p x mask (Some w)) (turned (with_here (moved_round k p) p z) (machine.says (Label.Refuse p id reply) ∷ [])) (rule.reception_parts pt.kernel p (plain_process x) (Some id)) (Some (rule.says (Label.Refuse p id reply) ∷ []))
-    (ap (serve.received_by (moved_round k p) p x mask w) e) c.parts (record {
-      state = with_here (moved_round k p) p z;
-      says = Line.Label (Label.Refuse p id reply) ∷ [];
-      route = None;
-      turn = refl;
-      outcome = refl;
-      next = next;
-      after = after_label pt (Label.Refuse p id reply) u [] next step refl;
-      placed = on;
-      mirrors = label_mirrors pt l on m (Label.Refuse p id reply) u s.mirrors s.acting tt step (ap (λ (v : Option Completion). bind v (λ (q : Completion). Some (placed.with_process l p (Some q.process)))) c.ends.is);
-      kernel = served_goes b m pt next l on k p x z c.ends.queue s leaves refl (ring_on m p pt.view s.acting) (set_at pt.kernel p (Alive (plain_process z))) (on_if (pid_eq p p) (Some (with_queue z c.ends.queue)) (l.processes p) (pid_eq-same p)) s.at.messages refl;
-      leaves = leaves;
-      sent = tt;
-      still = refl;
-      count = refl;
-      records = λ q off. off_if (pid_eq p q) (Some (Record.Here z)) (k.records q) off;
-    })
+    (ap (serve.received_by (moved_round k p) p x mask w) e) c.parts
+    (goes_on_acts b m pt next l on k p x z c.ends.queue (Line.Label (Label.Refuse p id reply) ∷ []) None s (after_label pt (Label.Refuse p id reply) u [] next step refl)
+    (label_mirrors pt l on m (Label.Refuse p id reply) u s.mirrors s.acting tt step (ap (λ (v : Option Completion). bind v (λ (q : Completion). Some (placed.with_process l p (Some q.process)))) c.ends.is))
+    leaves refl (ring_on m p pt.view s.acting)
+    (set_at pt.kernel p (Alive (plain_process z))) (on_if (pid_eq p p) (Some (with_queue z c.ends.queue)) (l.processes p) (pid_eq-same p)) s.at.messages refl tt refl)
 
 pub receives_acts : (b : Boot) (m : ℕ) (pt : Point) (l : Placed) (k : KernelState) (p : Pid) (x : Process) (mask base size : ℕ) (w : Message) → Served b m pt l k p x → IsLawfulProcess x → x.status ≡ Status.Waiting mask base size → first_on mask x.queue ≡ Some w
     → Acts b m pt l k p (serve.receives (moved_round k p) p x mask (Some w)) (rule.reception_parts pt.kernel p (plain_process x) (Some w.id))
 receives_acts b m pt l k p x mask base size w s lawful waits first =
     let f = found l mask (pt.view.queue m p) x.queue w (λ i n there. (s.mirrors.places.message i n there).id) s.at.messages first in
-    let v = user_is mask w.what f.on in
+    let v : UserIs w.what = grind (arith, nat_tests, f.on) in
     let o = first_failed (receive_refusals (plain_process x) size v.body.items (map plain_link v.links.items)) in
     receive_row b m pt l k p x mask base size w v.code v.channel v.body.items v.links.items o s lawful waits f refl
     (ap (λ (st : Status). completing.completion x 0 st (Some w)) waits ∙ ap (completing.completes x 0 w.id base size) v.is)
@@ -311,10 +279,6 @@ idle_acts b m pt l k p mirrors stands = record {
   records = λ q off. refl;
 }
 
--- a process that is here doesn't move
-here_apart : (v : View) (m : ℕ) (p q : Pid) → v.known m p ≡ view.Here → is_moving (v.known m q) ≡ true → pid_eq p q ≡ false
-here_apart v m p q here is = grind (arith, nat_tests, pid_eq-is)
-
 round_of : (b : Boot) (m : ℕ) (pt : Point) (l : Placed) (k : KernelState) (o : Option Pid) → turn.first_runnable k.records k.ring ≡ o → Ready b m pt l k → Round b m pt l k o
 round_of b m pt l k None first h = record {
   p = pid_of m 0;
@@ -323,6 +287,8 @@ round_of b m pt l k None first h = record {
   moving = λ q is. (refl, refl, refl);
 }
 round_of b m pt l k (Some p) first h =
+    -- a process that is here doesn't move
+    let here_apart : (v : View) (m : ℕ) (p q : Pid) → v.known m p ≡ view.Here → is_moving (v.known m q) ≡ true → pid_eq p q ≡ false = λ v m p q here is. grind (arith, nat_tests, pid_eq-is) in
     let c = chosen b m pt l k p h first in
     let s = c.served in
     let a = serves_acts b m pt l k p h.lawful c in

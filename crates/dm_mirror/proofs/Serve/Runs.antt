@@ -19,22 +19,12 @@ use Rattle.dm_kernel.specs.Turn as turn
 use Rattle.dm_onekernel.specs.Service as service
 use Rattle.dm_rule.specs.Parts as rule_part
 
--- a message is awaited without its places where it is on the mask with them
-awaited_what : (mask : ℕ) (m : Message) (w : What) → rule.is_awaited mask (with_what m (plain_what w)) ≡ what_is_on mask w
-awaited_what mask m w = grind (arith, nat_tests)
-
-awaited_on : (s : OneKernel) (l : Placed) (mask : ℕ) (i : MsgId) (m : Message) → MirrorsKernel s l → l.bag i ≡ Some m → rule.is_awaited mask (s.bag i) ≡ is_on mask m
-awaited_on s l mask i m h there = ap (rule.is_awaited mask) (sym (h.bag i) ∙ ap (λ (o : Option Message). bind o plain_message) there) ∙ awaited_what mask m m.what
-
 -- the messages of a list are known under their names
 abbrev pub Names : Placed → Type 0
 Names l = (i : MsgId) (m : Message) → l.bag i ≡ Some m → m.id ≡ i
 
 abbrev id_in : Message → MsgId
 id_in m = m.id
-
-both_if : (c d : Bool) (i : MsgId) (m : Message) (o : Option MsgId) (u : Option Message) → c ≡ d → m.id ≡ i → o ≡ option_map id_in u → (if c then Some i else o) ≡ option_map id_in (if d then Some m else u)
-both_if c d i m o u e name rest = grind (arith, nat_tests)
 
 pub first_same : (s : OneKernel) (l : Placed) (mask : ℕ) (ids : List MsgId) (ms : List Message) → MirrorsKernel s l → Names l → AreMessages l.bag ids ms → rule.first_awaited s mask ids ≡ option_map id_in (first_on mask ms)
 first_same s l mask [] [] h names are = refl
@@ -43,7 +33,10 @@ first_same s l mask (i ∷ is) [] h names are = cc
 first_same s l mask (i ∷ is) (m ∷ ms) h names are =
     let there : l.bag i ≡ Some m = cc in
     let rest : AreMessages l.bag is ms = cc in
-    both_if (rule.is_awaited mask (s.bag i)) (is_on mask m) i m (rule.first_awaited s mask is) (first_on mask ms) (awaited_on s l mask i m h there) (names i m there) (first_same s l mask is ms h names rest)
+    -- a message is awaited without its places where it is on the mask with them
+    let awaited_what : rule.is_awaited mask (with_what m (plain_what m.what)) ≡ what_is_on mask m.what = grind (arith, nat_tests) in
+    let awaited_on : rule.is_awaited mask (s.bag i) ≡ is_on mask m = ap (rule.is_awaited mask) (sym (h.bag i) ∙ ap (λ (o : Option Message). bind o plain_message) there) ∙ awaited_what in
+    grind (arith, nat_tests, names i m there, first_same s l mask is ms h names rest)
 
 -- the message that is found, and what is left of the lists
 pub record Found (l : Placed) (mask : ℕ) (ids : List MsgId) (ms : List Message) (m : Message) : Type 0 where
@@ -139,23 +132,15 @@ pub record Rings (pt : Point) (m : ℕ) (p : Pid) : Type 0 where
   pub z : PlainProcess
   pub alive : pt.kernel.processes p ≡ Some (Alive z)
 
-record Turns (c : Bool) (k : view.Known) : Type 0 where
-  server : c ≡ false
-  here : k ≡ view.Here
-
-turns_of : (c : Bool) (k : view.Known) → 1 ≤ rings.turns_here c k → Turns c k
-turns_of true k least = absurd (omega (arith, least))
-turns_of false view.Here least = record { server = refl; here = refl }
-turns_of false _ least = absurd (omega (arith, least))
-
 rings_of : (pt : Point) (m : ℕ) (p : Pid) (o : Option Life) → pt.kernel.processes p ≡ o → is_server p ≡ false → pt.view.known m p ≡ view.Here → rings.agrees view.Here o ≡ true → Rings pt m p
 rings_of pt m p (Some (Alive z)) e server here agree = record { server = server; here = here; z = z; alive = e }
 rings_of pt m p _ e server here agree = cc
 
 pub in_ring : (pt : Point) (m : ℕ) (p : Pid) → rings.KnownStands pt.kernel pt.view → 1 ≤ rings p (pt.view.ring m) → Rings pt m p
 in_ring pt m p h least =
+    let turns_of : (c : Bool) (k : view.Known) → 1 ≤ rings.turns_here c k → (c ≡ false) × (k ≡ view.Here) = λ c k least. grind (arith, nat_tests) in
     let t = turns_of (is_server p) (pt.view.known m p) (subst (λ (n : ℕ). 1 ≤ n) (h.ring m p) least) in
-    rings_of pt m p (pt.kernel.processes p) refl t.server t.here (subst (λ (k : view.Known). rings.agrees k (pt.kernel.processes p) ≡ true) t.here (h.agree m p t.server))
+    rings_of pt m p (pt.kernel.processes p) refl t.0 t.1 (subst (λ (k : view.Known). rings.agrees k (pt.kernel.processes p) ≡ true) t.1 (h.agree m p t.0))
 
 pub first_runs : (b : Boot) (pt : Point) (l : Placed) (m : ℕ) (k : KernelState) → KernelStands b pt l m k → MirrorsKernel pt.kernel l → Names l → rings.KnownStands pt.kernel pt.view
     → rule.first_runnable pt.kernel (pt.view.queue m) (pt.view.ring m) ≡ turn.first_runnable k.records k.ring
@@ -189,11 +174,8 @@ comes (suc k) m = comes_row k m (instruction m.regs m.bytes) refl (comes k)
 -- The queue of a process that has ended is dropped, message by message.
 
 -- the lines, as the rule and as the machine say them
-abbrev pub drop_line : MsgId → Line
-drop_line i = Line.Label (Label.Dropped i)
-
 abbrev pub drop_lines : List MsgId → List Line
-drop_lines ids = map drop_line ids
+drop_lines ids = map (λ i. Line.Label (Label.Dropped i)) ids
 
 pub rule_drops : (ids : List MsgId) → rule.drop_parts ids ≡ map rule_part.Says (drop_lines ids)
 rule_drops [] = refl

@@ -12,8 +12,8 @@ use Rattle.dm_places.specs.PlacedStep as placed
 use Rattle.dm_kernel.specs.State as machine
 use Rattle.dm_kernel.specs.Serve as serve
 use Rattle.dm_mirror.proofs.Kernel.Sets.{Leaves, leaves_on, kernel_leaves_on, placed_leaves_on, is_queue_of, off_if, on_if, queue_of_others, inbox_stands, messages_on, ViewLeaves, ends_stands, view_same, view_ended, kernel_sets}
-use Rattle.dm_mirror.proofs.Kernel.Sets.{kernel_puts, placed_sets, placed_puts, NotOwn, machine_on, record_on, nowhere_alone, label_mirrors, after_label, view_serving}
-use Rattle.dm_mirror.proofs.Serving.{Served, Acts, moved_round, served_goes, is_for, queue_alone}
+use Rattle.dm_mirror.proofs.Kernel.Sets.{placed_sets, placed_puts, NotOwn, machine_on, record_on, nowhere_alone, label_mirrors, after_label, view_serving}
+use Rattle.dm_mirror.proofs.Serving.{Served, Acts, moved_round, goes_on_acts, is_for, queue_alone}
 use Rattle.dm_mirror.proofs.Serve.Runs.{drop_lines, drops_stand, drops_still, rule_drops, machine_drops}
 pub use Rattle.dm_mirror.proofs.Follow.Fronts.{append_none as nothing_more}
 
@@ -60,24 +60,10 @@ ran_of b m pt l k p x c n s ready steps memory =
 -- the quantum is used up
 pub whole_acts : (b : Boot) (m : ℕ) (pt : Point) (l : Placed) (k : KernelState) (p : Pid) (x y : Process) (c : ℕ) (s : Served b m pt l k p x) → Ran m pt l p x s.at.queue c y
     → Acts b m pt l k p (turned (with_here (moved_round k p) p y) (machine.says (Label.Ran p c) ∷ [])) (Some (rule.says (Label.Ran p c) ∷ []))
-whole_acts b m pt l k p x y c s r = record {
-  state = with_here (moved_round k p) p y;
-  says = Line.Label (Label.Ran p c) ∷ [];
-  route = None;
-  turn = refl;
-  outcome = refl;
-  next = ran_point pt p c y;
-  after = after_label pt (Label.Ran p c) (ran_kernel pt p y) [] (ran_point pt p c y) r.step refl;
-  placed = ran_placed l p y s.at.queue;
-  mirrors = r.mirrors;
-  kernel = served_goes b m pt (ran_point pt p c y) l (ran_placed l p y s.at.queue) k p x y s.at.queue s r.leaves refl r.ring (set_at pt.kernel p (Alive (plain_process y))) r.there
-      (subst (AreMessages l.bag (pt.view.queue m p)) (sym r.same_queue) s.at.messages) r.memory;
-  leaves = r.leaves;
-  sent = tt;
-  still = refl;
-  count = refl;
-  records = λ q off. off_if (pid_eq p q) (Some (Record.Here y)) (k.records q) off;
-}
+whole_acts b m pt l k p x y c s r =
+    goes_on_acts b m pt (ran_point pt p c y) l (ran_placed l p y s.at.queue) k p x y s.at.queue (Line.Label (Label.Ran p c) ∷ []) None s
+    (after_label pt (Label.Ran p c) (ran_kernel pt p y) [] (ran_point pt p c y) r.step refl) r.mirrors r.leaves refl r.ring
+    (set_at pt.kernel p (Alive (plain_process y))) r.there (subst (AreMessages l.bag (pt.view.queue m p)) (sym r.same_queue) s.at.messages) r.memory tt refl
 
 -- a call after which it goes on, and sends nothing
 pub goes_acts : (b : Boot) (m : ℕ) (pt : Point) (l : Placed) (k : KernelState) (p : Pid) (x y z : Process) (c : ℕ) (e : Label) (s : Served b m pt l k p x) → Ran m pt l p x s.at.queue c y
@@ -95,36 +81,16 @@ goes_acts b m pt l k p x y z c e s r still needs step with_ queue_is memory =
     let on = placed.with_process lm p (Some (with_queue z queue)) in
     let same : next.view ≡ o.view = still (ran_kernel pt p y) o.view in
     let second : Leaves m t p o lm next on = record { view = subst (λ (v : View). ViewLeaves m t p o.view v) (sym same) (view_same m t p o.view); kernel = kernel_sets p (ran_kernel pt p y) (Alive (plain_process z)); placed_ = placed_sets t p o.view lm (Some (with_queue z queue)) } in
-    let leaves = leaves_on m t p pt o next l lm on r.leaves second in
-    record {
-      state = with_here (moved_round k p) p z;
-      says = Line.Label (Label.Ran p c) ∷ Line.Label e ∷ [];
-      route = None;
-      turn = refl;
-      outcome = refl;
-      next = next;
-      after = after_label pt (Label.Ran p c) (ran_kernel pt p y) (Line.Label e ∷ []) next r.step (after_label o e u [] next step refl);
-      placed = on;
-      mirrors = label_mirrors o lm on m e u r.mirrors s.acting needs step with_;
-      kernel = served_goes b m pt next l on k p x z queue s leaves (ap (λ (v : View). v.known m p) same) (ap (λ (v : View). v.ring m) same ∙ r.ring) (set_at (ran_kernel pt p y) p (Alive (plain_process z)))
-          (on_if (pid_eq p p) (Some (with_queue z queue)) (lm.processes p) (pid_eq-same p))
-          (subst (λ (v : View). AreMessages l.bag (v.queue m p) z.queue) (sym same) (subst (AreMessages l.bag (pt.view.queue m p)) (sym queue_is) s.at.messages)) memory;
-      leaves = leaves;
-      sent = tt;
-      still = refl;
-      count = refl;
-      records = λ q off. off_if (pid_eq p q) (Some (Record.Here z)) (k.records q) off;
-    }
+    goes_on_acts b m pt next l on k p x z queue (Line.Label (Label.Ran p c) ∷ Line.Label e ∷ []) None s (after_label pt (Label.Ran p c) (ran_kernel pt p y) (Line.Label e ∷ []) next r.step (after_label o e u [] next step refl))
+    (label_mirrors o lm on m e u r.mirrors s.acting needs step with_) (leaves_on m t p pt o next l lm on r.leaves second) (ap (λ (v : View). v.known m p) same) (ap (λ (v : View). v.ring m) same ∙ r.ring)
+    (set_at (ran_kernel pt p y) p (Alive (plain_process z))) (on_if (pid_eq p p) (Some (with_queue z queue)) (lm.processes p) (pid_eq-same p))
+    (subst (λ (v : View). AreMessages l.bag (v.queue m p) z.queue) (sym same) (subst (AreMessages l.bag (pt.view.queue m p)) (sym queue_is) s.at.messages)) memory tt refl
 
 -- A ready process stops at a call that sends, or ends; and all that it can come to.
 
 -- a message that is sent is new, and no kernel's own
-record IsFresh (s : OneKernel) (i : MsgId) : Type 0 where
-  none : s.bag i ≡ None
-  own : is_kernels i ≡ false
-
 fresh_message : (b : Boot) (m : ℕ) (pt : Point) (l : Placed) (k : KernelState) (p : Pid) (x y : Process) (c n : ℕ) (w : PlainMessage) (z : PlainProcess) (s : Served b m pt l k p x) → kernel.step pt.kernel (Label.Ran p c) ≡ Some (ran_kernel pt p y)
-    → kernel.next_trap (ran_kernel pt p y) p ≡ Some (kernel.Calls n (Called.Sends w z)) → IsFresh pt.kernel w.id
+    → kernel.next_trap (ran_kernel pt p y) p ≡ Some (kernel.Calls n (Called.Sends w z)) → (pt.kernel.bag w.id ≡ None) × (is_kernels w.id ≡ false)
 fresh_message b m pt l k p x y c n w z s step next =
     let t = ran_kernel pt p y in
     let a = after_ran s.r s.e pt.kernel t p c step s.sound in
@@ -134,14 +100,8 @@ fresh_message b m pt l k p x y c n w z s step next =
     let number : w.id.n ≡ v.sent = ap (λ (i : MsgId). i.n) counted.id in
     let made : nat_le 3 p.num ≡ true = s.sound.made.least p (ap is_some s.at.alive) in
     let num : w.id.from.num ≡ p.num = ap (λ (q : Pid). q.num) from in
-    record {
-      none = not_counted (λ i. s.r i + _) (λ i. s.e i + _) t w.id (grind (arith, nat_tests, counts_process, not_server)) a.sound.entered;
-      own = (let e : (w.id.from.num == 0) ≡ false = grind (arith, nat_tests) in ap (λ (d : Bool). d && not w.id.answer) e);
-    }
-
--- none of the messages with places has its name
-not_own_fresh : (v : View) (l : Placed) (i : MsgId) → AllOwnStand v l → is_kernels i ≡ false → NotOwn (l.bag i)
-not_own_fresh v l i h off x there none = false≢true (sym off ∙ (h i x there none).mine)
+    (not_counted (λ i. s.r i + _) (λ i. s.e i + _) t w.id (grind (arith, nat_tests, counts_process, not_server)) a.sound.entered,
+    let e : (w.id.from.num == 0) ≡ false = grind (arith, nat_tests) in ap (λ (d : Bool). d && not w.id.answer) e)
 
 -- a call that sends a message
 pub sends_acts : (b : Boot) (m : ℕ) (pt : Point) (l : Placed) (k : KernelState) (p : Pid) (x y z : Process) (c n : ℕ) (w : Message) (u : PlainMessage) (s : Served b m pt l k p x) → Ran m pt l p x s.at.queue c y → plain_message w ≡ Some u
@@ -162,36 +122,25 @@ sends_acts b m pt l k p x y z c n w u s r says next with_ queue_is memory =
     let mid = placed.with_process lm p (Some (with_queue z queue)) in
     let on = placed.with_sent mid (Some w) in
     let new = fresh_message b m pt l k p x y c n u (plain_process z) s r.step next in
-    let fresh : pt.kernel.bag w.id ≡ None = ap pt.kernel.bag name ∙ new.none in
-    let mine : is_kernels w.id ≡ false = ap is_kernels name ∙ new.own in
+    let fresh : pt.kernel.bag w.id ≡ None = ap pt.kernel.bag name ∙ new.0 in
+    let mine : is_kernels w.id ≡ false = ap is_kernels name ∙ new.1 in
     let alone : (t : Spot → Bool) (i : MsgId) (spot : Spot) → t spot ≡ false → 1 ≤ standing pt.view i spot → id_eq w.id i ≡ false = nowhere_alone pt.view w.id (pt.kernel.bag w.id) mine fresh (s.kept w.id) in
+    -- none of the messages with places has its name
+    let not_own_fresh : (v : View) (l : Placed) (i : MsgId) → AllOwnStand v l → is_kernels i ≡ false → NotOwn (l.bag i) = λ v l i h off x there none. false≢true (sym off ∙ (h i x there none).mine) in
     let second : Leaves m t p o lm next_ on = record {
       view = view_same m t p o.view;
-      kernel = kernel_leaves_on p (ran_kernel pt p y) goes after_ (kernel_sets p (ran_kernel pt p y) (Alive (plain_process z))) (kernel_puts p goes u);
+      kernel = kernel_leaves_on p (ran_kernel pt p y) goes after_ (kernel_sets p (ran_kernel pt p y) (Alive (plain_process z))) (record { machines = refl; made = λ n. refl; life = λ q off. refl });
       placed_ = placed_leaves_on t p o.view lm mid on (placed_sets t p o.view lm (Some (with_queue z queue)))
           (placed_puts t p o.view mid w u (not_own_fresh pt.view l w.id s.own mine) says (λ i spot off least. alone t i spot off (subst (λ (v : ℕ). 1 ≤ v) (ap (times i) (r.leaves.view.lists spot off)) least)));
     } in
-    let leaves = leaves_on m t p pt o next_ l lm on r.leaves second in
     let messages : AreMessages on.bag (pt.view.queue m p) z.queue =
     messages_on l.bag on.bag (pt.view.queue m p) z.queue (λ i least. off_if (id_eq w.id i) (Some w) (l.bag i) (alone (λ spot. false) i (Queue m p) refl least)) (subst (AreMessages l.bag (pt.view.queue m p)) (sym queue_is) s.at.messages)
     in
-    record {
-      state = with_here (moved_round k p) p z;
-      says = Line.Label (Label.Ran p c) ∷ Line.Label e ∷ [];
-      route = Some w;
-      turn = refl;
-      outcome = ap (λ (i : MsgId). Some (rule.says (Label.Ran p c) ∷ rule.says (Label.Send p i) ∷ rule_part.Routes i ∷ [])) (sym name);
-      next = next_;
-      after = after_label pt (Label.Ran p c) (ran_kernel pt p y) (Line.Label e ∷ []) next_ r.step (after_label o e after_ [] next_ step refl);
-      placed = on;
-      mirrors = label_mirrors o lm on m e after_ r.mirrors s.acting tt step with_;
-      kernel = served_goes b m pt next_ l on k p x z queue s leaves refl r.ring (set_at (ran_kernel pt p y) p (Alive (plain_process z))) (on_if (pid_eq p p) (Some (with_queue z queue)) (lm.processes p) (pid_eq-same p)) messages memory;
-      leaves = leaves;
-      sent = (on_if (id_eq w.id w.id) (Some w) (mid.bag w.id) (id_eq-same w.id), ap is_some says);
-      still = refl;
-      count = refl;
-      records = λ q off. off_if (pid_eq p q) (Some (Record.Here z)) (k.records q) off;
-    }
+    subst (λ (i : MsgId). Acts b m pt l k p (turned (with_here (moved_round k p) p z) (machine.says (Label.Ran p c) ∷ machine.says e ∷ Part.Routes w ∷ []))
+    (Some (rule.says (Label.Ran p c) ∷ rule.says (Label.Send p i) ∷ rule_part.Routes i ∷ []))) name
+    (goes_on_acts b m pt next_ l on k p x z queue (Line.Label (Label.Ran p c) ∷ Line.Label e ∷ []) (Some w) s (after_label pt (Label.Ran p c) (ran_kernel pt p y) (Line.Label e ∷ []) next_ r.step (after_label o e after_ [] next_ step refl))
+    (label_mirrors o lm on m e after_ r.mirrors s.acting tt step with_) (leaves_on m t p pt o next_ l lm on r.leaves second) refl r.ring (set_at (ran_kernel pt p y) p (Alive (plain_process z)))
+    (on_if (pid_eq p p) (Some (with_queue z queue)) (lm.processes p) (pid_eq-same p)) messages memory (on_if (id_eq w.id w.id) (Some w) (mid.bag w.id) (id_eq-same w.id), ap is_some says) refl)
 
 pub ends_acts : (b : Boot) (m : ℕ) (pt : Point) (l : Placed) (k : KernelState) (p : Pid) (x y z : Process) (c : ℕ) (because : Why) (s : Served b m pt l k p x) → Ran m pt l p x s.at.queue c y
     → kernel.step (ran_kernel pt p y) (Label.End p because) ≡ Some (with_process (ran_kernel pt p y) p (Ended because)) → placed.acts m (ran_placed l p y s.at.queue) p ≡ Some (placed.with_process (ran_placed l p y s.at.queue) p None)

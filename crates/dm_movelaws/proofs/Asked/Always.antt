@@ -1,10 +1,10 @@
 -- Wherever the rule leads, each request to move is asked once at most, and answered as often where nothing is on its way.
-use Rattle.dm_movelaws.proofs.Names.{◌≡◌, ℕ, ◌+◌, List, [], ◌∷◌, refl, ap, ◌∙◌, sym, arith, Option, None, Some, Pid, MsgId, Label, Line, first_point, labels, label_of, with_label, after_replay, start, start-sound, in_bag}
+use Rattle.dm_movelaws.proofs.Names.{◌≡◌, ℕ, ◌+◌, List, [], ◌∷◌, refl, ap, ◌∙◌, sym, arith, Option, None, Some, Pid, MsgId, Label, Line, first_point, labels, label_of, with_label, after_replay, start, start-sound, in_bag, OneKernel}
 use Rattle.dm_movelaws.proofs.Names.{notes_always_agree, count, AnsweredAlways, asks_move}
 use Rattle.dm_movelaws.specs.Asked.{answers_move}
 use Rattle.dm_movelaws.proofs.At.RestAlways.{at_rest_always}
 use Rattle.dm_movelaws.proofs.Open.Moves.{leads_of, run_after}
-use Rattle.dm_movelaws.proofs.Asked.Following.{asked_by, answered_by, of_labels, one_for, run_counts, counted_start}
+use Rattle.dm_movelaws.proofs.Asked.Following.{asked_by, answered_by, of_labels, one_for, run_counts, Counted}
 
 -- lines, by their labels
 line_asked : (i : MsgId) (l : Line) (ks : List Label) → of_labels (asked_by i) (with_label (label_of l) ks) ≡ one_for (asks_move i l) + of_labels (asked_by i) ks
@@ -32,6 +32,8 @@ none_noted (Some p) h = absurd (h p refl)
 -- wherever the rule leads
 pub answered_always : AnsweredAlways
 answered_always b es ls pt i valid leads =
+    let counted_start : (i : MsgId) (s : OneKernel) → s.bag i ≡ None → s.noted i ≡ None → Counted i (λ j. 0) s 0 0 =
+      λ i s none free. let x : in_bag (s.bag i) ≡ 0 = ap in_bag none in let y : in_bag (s.noted i) ≡ 0 = ap in_bag free in record { once = omega (arith, x); sum = omega (arith, y) } in
     let replayed = after_replay ls (first_point b) pt (run_after b es ls (first_point b) pt leads) in
     let c = run_counts i (labels ls) (λ j. 0) (λ j. 0) (start b) pt.kernel 0 0 replayed (start-sound b valid) (counted_start i (start b) refl refl) in
     let once = c.once in

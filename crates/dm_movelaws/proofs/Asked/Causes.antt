@@ -14,9 +14,6 @@ use Rattle.dm_movelaws.proofs.Asked.Following.{Row, Plain, Ends, IsHere, Leaves,
 abbrev Unsaid : Line → Type 0
 Unsaid l = is_answer_by (act_of l) ≡ false
 
-parts_unsaid : (ps : List Part) (pt : Point) (w : Spelled) → All (Saying Unsaid) ps → spelled pt ps ≡ Some w → AllLines Unsaid w.lines
-parts_unsaid = parts_say Unsaid (λ a b i k q. refl) (λ a b n l. refl)
-
 unmarked_unsaid : (ps : List Part) → AllUnmarked ps → All (Saying Unsaid) ps
 unmarked_unsaid [] so = tt
 unmarked_unsaid (Says l ∷ ps) so = (unmarked_answer l so.0, unmarked_unsaid ps so.1)
@@ -112,23 +109,23 @@ has_cause told d l earlier i j o r q s (t, was, for_) cause =
 
 row_cause : (b : Boot) (pt : Point) (d : Step) (ps : List Part) (w : Spelled) (earlier g : List Line) (i : MsgId) (o : Outcome) → Run b pt → NotesTold pt → spelled (begun pt d) ps ≡ Some w
     → (Line.Head d ∷ w.lines) ≡ earlier ++ Line.Label (Label.Answered i o) ∷ g → Row pt d ps → HasCause pt.view.told earlier i o
-row_cause b pt d ps w earlier g i o run h e split (Plain so) = absurd (none_answers (Line.Head d ∷ w.lines) earlier g i o (refl, parts_unsaid ps (begun pt d) w (unmarked_unsaid ps so) e) split)
+row_cause b pt d ps w earlier g i o run h e split (Plain so) = absurd (none_answers (Line.Head d ∷ w.lines) earlier g i o (refl, (parts_say Unsaid (λ a b i k q. refl) (λ a b n l. refl)) ps (begun pt d) w (unmarked_unsaid ps so) e) split)
 row_cause b pt d ps w earlier g i o run h e split (Ends q n l r noted end are) =
     let (next, rest, more, lines) = says_lines (begun pt d) l (answers_move n.id r) w (ap (spelled (begun pt d)) (sym are) ∙ e) in
     let (last, end_, more_, lines_) = says_lines next (Line.Label (Label.Answered n.id r)) (Routes (answer_id n.id) ∷ []) rest more in
     let all : Line.Head d ∷ l ∷ Line.Label (Label.Answered n.id r) ∷ end_.lines ≡ earlier ++ Line.Label (Label.Answered i o) ∷ g = ap (λ (ls : List Line). Line.Head d ∷ l ∷ ls) lines_ ∙ ap (λ (ls : List Line). Line.Head d ∷ ls) lines ∙ split in
-    let s = only_answer (Line.Head d ∷ l ∷ []) end_.lines earlier g n.id i r o (refl, (end_unsaid q r l end, tt)) (parts_unsaid (Routes (answer_id n.id) ∷ []) last end_ (tt, tt) more_) all in
+    let s = only_answer (Line.Head d ∷ l ∷ []) end_.lines earlier g n.id i r o (refl, (end_unsaid q r l end, tt)) ((parts_say Unsaid (λ a b i k q. refl) (λ a b n l. refl)) (Routes (answer_id n.id) ∷ []) last end_ (tt, tt) more_) all in
     has_cause pt.view.told d l earlier i n.id o r q s (h q n noted) (cause_is n.id q r l end)
 row_cause b pt d ps w earlier g i o run h e split (IsHere id msg there here are) =
     let l = Line.Label (Label.Asked id) in
     let (next, rest, more, lines) = says_lines (begun pt d) l (answers_move id Outcome.Done) w (ap (spelled (begun pt d)) (sym are) ∙ e) in
     let (last, end_, more_, lines_) = says_lines next (Line.Label (Label.Answered id Outcome.Done)) (Routes (answer_id id) ∷ []) rest more in
     let all : Line.Head d ∷ l ∷ Line.Label (Label.Answered id Outcome.Done) ∷ end_.lines ≡ earlier ++ Line.Label (Label.Answered i o) ∷ g = ap (λ (ls : List Line). Line.Head d ∷ l ∷ ls) lines_ ∙ ap (λ (ls : List Line). Line.Head d ∷ ls) lines ∙ split in
-    let s = only_answer (Line.Head d ∷ l ∷ []) end_.lines earlier g id i Outcome.Done o (refl, (refl, tt)) (parts_unsaid (Routes (answer_id id) ∷ []) last end_ (tt, tt) more_) all in
+    let s = only_answer (Line.Head d ∷ l ∷ []) end_.lines earlier g id i Outcome.Done o (refl, (refl, tt)) ((parts_say Unsaid (λ a b i k q. refl) (λ a b n l. refl)) (Routes (answer_id id) ∷ []) last end_ (tt, tt) more_) all in
     has_cause pt.view.told d l earlier i id o Outcome.Done msg.to s (in_bag_told b pt run id msg there) (inr refl)
 row_cause b pt d ps w earlier g i o run h e split (Leaves id msg to unasked there here what are) =
     let ok : All (Saying Unsaid) ps = subst (All (Saying Unsaid)) (sym are) (refl, (refl, (refl, (tt, tt)))) in
-    absurd (none_answers (Line.Head d ∷ w.lines) earlier g i o (refl, parts_unsaid ps (begun pt d) w ok e) split)
+    absurd (none_answers (Line.Head d ∷ w.lines) earlier g i o (refl, (parts_say Unsaid (λ a b i k q. refl) (λ a b n l. refl)) ps (begun pt d) w ok e) split)
 
 group_cause : (b : Boot) (pt : Point) (d : Step) (w : Spelled) (earlier g : List Line) (i : MsgId) (o : Outcome) → Run b pt → NotesTold pt → group_of b pt d ≡ Some w → w.lines ≡ earlier ++ Line.Label (Label.Answered i o) ∷ g
     → HasCause pt.view.told earlier i o

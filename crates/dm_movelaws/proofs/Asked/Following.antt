@@ -158,14 +158,12 @@ sent_notes : (u : OneKernel) (o : Option PlainMessage) (p : Pid) → (with_sent 
 sent_notes u None p = refl
 sent_notes u (Some m) p = refl
 
-step_notes : (p : Pid) (s t : OneKernel) (l : Label) → marks_note (Some l) ≡ false → kernel.step s l ≡ Some t → t.notes p ≡ s.notes p
-step_notes p s t l quiet = by_step (λ u. u.notes p ≡ s.notes p) s t l (search (arith, sent_notes))
-
-notes_behind : (p : Pid) (x : Option MoveNote) (pt : Point) (q : Part) → Saying IsUnmarked q → pt.kernel.notes p ≡ x → Behind (λ z. z.kernel.notes p ≡ x) pt q
-notes_behind p x pt q so h = search (arith, whatever_put, pt.kernel, step_notes)
-
 pub plain_notes : (p : Pid) (ps : List Part) (pt : Point) (w : Spelled) → AllUnmarked ps → spelled pt ps ≡ Some w → w.point.kernel.notes p ≡ pt.kernel.notes p
-plain_notes p ps pt w so is = parts_lead (λ z. z.kernel.notes p ≡ pt.kernel.notes p) (λ q a b k l h. h) (Saying IsUnmarked) (notes_behind p (pt.kernel.notes p)) ps pt w so is refl
+plain_notes p ps pt w so is =
+    let notes_behind : (p : Pid) (x : Option MoveNote) (pt : Point) (q : Part) → Saying IsUnmarked q → pt.kernel.notes p ≡ x → Behind (λ z. z.kernel.notes p ≡ x) pt q = λ p x pt q so h.
+      let step_notes : (p : Pid) (s t : OneKernel) (l : Label) → marks_note (Some l) ≡ false → kernel.step s l ≡ Some t → t.notes p ≡ s.notes p = λ p s t l quiet. by_step (λ u. u.notes p ≡ s.notes p) s t l (search (arith, sent_notes)) in
+      search (arith, whatever_put, pt.kernel, step_notes) in
+    parts_lead (λ z. z.kernel.notes p ≡ pt.kernel.notes p) (λ q a b k l h. h) (Saying IsUnmarked) (notes_behind p (pt.kernel.notes p)) ps pt w so is refl
 
 abbrev pub noted_if : Pid → Pid → Option MoveNote → Option MoveNote → Option MoveNote
 noted_if q p now was = if pid_eq q p then now else was
@@ -216,16 +214,15 @@ abbrev pub of_labels : (Label → Bool) → List Label → ℕ
 of_labels f [] = 0
 of_labels f (l ∷ ls) = one_for (f l) + of_labels f ls
 
-swap : (i j : MsgId) → id_eq i j ≡ false → id_eq j i ≡ false
-swap i j off = not_true (id_eq j i) (λ e. false≢true (sym off ∙ ap (id_eq i) (id_eq-is j i e) ∙ id_eq-same i))
-
 -- any other step leaves who follows it
 sent_noted : (u : OneKernel) (o : Option PlainMessage) (i : MsgId) → (with_sent u o).noted i ≡ u.noted i
 sent_noted u None i = refl
 sent_noted u (Some m) i = refl
 
 step_noted : (i : MsgId) (s t : OneKernel) (l : Label) → asked_by i l ≡ false → answered_by i l ≡ false → kernel.step s l ≡ Some t → t.noted i ≡ s.noted i
-step_noted i s t l one two = by_step (λ u. u.noted i ≡ s.noted i) s t l (search (arith, s.noted, swap, sent_noted))
+step_noted i s t l one two =
+    let swap : (i j : MsgId) → id_eq i j ≡ false → id_eq j i ≡ false = λ i j off. not_true (id_eq j i) (λ e. false≢true (sym off ∙ ap (id_eq i) (id_eq-is j i e) ∙ id_eq-same i)) in
+    by_step (λ u. u.noted i ≡ s.noted i) s t l (search (arith, s.noted, swap, sent_noted))
 
 -- it is asked
 record Begins (s t : OneKernel) (i : MsgId) : Type 0 where
@@ -234,17 +231,11 @@ record Begins (s t : OneKernel) (i : MsgId) : Type 0 where
   gone : t.bag i ≡ None
   noted : t.noted i ≡ Some message.to
 
-begins_at : (s t : OneKernel) (i : MsgId) → kernel.step s (Label.Asked i) ≡ Some t → Begins s t i
-begins_at s t i is = search (arith, bind-is, s.bag, asked_noted, id_eq-same)
-
 -- it is answered
 record Closes (s t : OneKernel) (i : MsgId) : Type 0 where
   process : Pid
   was : s.noted i ≡ Some process
   now : t.noted i ≡ None
-
-closes_at : (s t : OneKernel) (i : MsgId) (o : Outcome) → kernel.step s (Label.Answered i o) ≡ Some t → Closes s t i
-closes_at s t i o is = search (arith, bind-is, s.noted, s.notes, ends_move-is, id_eq-same)
 
 -- how often it was asked and answered, by what has entered and who follows it
 pub record Counted (i : MsgId) (e : MsgId → ℕ) (s : OneKernel) (a b : ℕ) : Type 0 where
@@ -254,6 +245,7 @@ pub record Counted (i : MsgId) (e : MsgId → ℕ) (s : OneKernel) (a b : ℕ) :
 counted_step : (i : MsgId) (r e : MsgId → ℕ) (s t : OneKernel) (l : Label) (a b : ℕ) (c d : Bool) → asked_by i l ≡ c → answered_by i l ≡ d → kernel.step s l ≡ Some t → Sound r e s → Counted i e s a b
     → Counted i (λ j. e j + entry j s t) t (a + one_for c) (b + one_for d)
 counted_step i r e s t (Label.Asked j) a b true d one two is h k =
+    let begins_at : (s t : OneKernel) (i : MsgId) → kernel.step s (Label.Asked i) ≡ Some t → Begins s t i = λ s t i is. search (arith, bind-is, s.bag, asked_noted, id_eq-same) in
     let at_ : j ≡ i = sym (id_eq-is i j one) in
     let g = begins_at s t i (ap (λ (x : MsgId). kernel.step s (Label.Asked x)) (sym at_) ∙ is) in
     let free : in_bag (s.noted i) ≡ 0 = ap in_bag (unnoted_in r e s i g.message h g.there) in
@@ -264,7 +256,9 @@ counted_step i r e s t (Label.Asked j) a b true d one two is h k =
     let once = k.once in
     let sum = k.sum in
     record { once = omega (arith, once, was, gone); sum = omega (arith, sum, free, now, none) }
-counted_step i r e s t (Label.Answered j o) a b c true one two is h k = search (arith, id_eq-is, closes_at, s.noted, t.noted, k.once, k.sum, t.bag, s.bag)
+counted_step i r e s t (Label.Answered j o) a b c true one two is h k =
+    let closes_at : (s t : OneKernel) (i : MsgId) (o : Outcome) → kernel.step s (Label.Answered i o) ≡ Some t → Closes s t i = λ s t i o is. search (arith, bind-is, s.noted, s.notes, ends_move-is, id_eq-same) in
+    search (arith, id_eq-is, closes_at, s.noted, t.noted, k.once, k.sum, t.bag, s.bag)
 counted_step i r e s t l a b false false one two is h k =
     let same : in_bag (t.noted i) ≡ in_bag (s.noted i) = ap in_bag (step_noted i s t l one two is) in
     let once = k.once in
@@ -289,6 +283,3 @@ run_counts i (l ∷ ls) r e s t a b is h k =
     let once = c.once in
     let sum = c.sum in
     record { once = omega (arith, once); sum = omega (arith, sum) }
-
-pub counted_start : (i : MsgId) (s : OneKernel) → s.bag i ≡ None → s.noted i ≡ None → Counted i (λ j. 0) s 0 0
-counted_start i s none free = let x : in_bag (s.bag i) ≡ 0 = ap in_bag none in let y : in_bag (s.noted i) ≡ 0 = ap in_bag free in record { once = omega (arith, x); sum = omega (arith, y) }

@@ -44,15 +44,8 @@ calm b pt h routed quiet = record {
 no_token : (v : View) (p : Pid) (k : MessageKind) (s d : ℕ) (id : MsgId) → Calm v → IsToken v p k s d id → ⊥
 no_token v p k s d id h t = grind (arith, nat_tests)
 
-phase_still : (v : View) (p : Pid) (phase : Phase) (m : ℕ) → Calm v → IsIn v p phase → is_due phase ≡ false → is_moving (v.known m p) ≡ false
-phase_still v p phase m h is due = grind (arith, nat_tests, no_token)
-
 pub still_held : (k : Known) → is_moving k ≡ false → has_nothing_held k ≡ true
 still_held k e = grind (arith, nat_tests)
-
--- a queue is where a process is
-still_queue : (k : Known) → is_moving k ≡ false → has_no_queue k ≡ false → (k ≡ Ended → ⊥) → k ≡ Here
-still_queue k e f lives = grind (arith, nat_tests)
 
 -- all that stands stands in a queue
 pub record Rest (pt : Point) : Type 0 where
@@ -63,6 +56,8 @@ pub record Rest (pt : Point) : Type 0 where
 
 waits_in : (b : Boot) (pt : Point) (i : MsgId) (x : PlainMessage) (m : ℕ) (p : Pid) → Run b pt → Rest pt → pt.kernel.bag i ≡ Some x → standing pt.view i (Queue m p) ≡ 1 → ((z : Spot) → z ≢ Queue m p → standing pt.view i z ≡ 0) → IsWaiting pt i x
 waits_in b pt i x m p h rest there one others =
+    -- a queue is where a process is
+    let still_queue : (k : Known) → is_moving k ≡ false → has_no_queue k ≡ false → (k ≡ Ended → ⊥) → k ≡ Here = λ k e f lives. grind (arith, nat_tests) in
     let q = h.based.queued m p i (omega (arith, one)) in
     let k = q.is x there in
     let same : p ≡ x.to = sym k.0 in
@@ -84,9 +79,6 @@ waits_at b pt i x (Queue m p) h rest there one others = waits_in b pt i x m p h 
 waits_at b pt i x (Held m p) h rest there one others = absurd (let f : times i (pt.view.held m p) ≡ 0 = ap (times i) (rest.held m p) in omega (arith, one, f))
 waits_at b pt i x (Inbox m) h rest there one others = absurd (let f : times i (pt.view.inbox m) ≡ 0 = ap (times i) (rest.calm.inbox m) in omega (arith, one, f))
 waits_at b pt i x (Untaken c d) h rest there one others = absurd (let f : times i (untaken (pt.view.pair c d)) ≡ 0 = ap (times i) (rest.calm.untaken c d) in omega (arith, one, f))
-
-own_nowhere : (b : Boot) (pt : Point) (i : MsgId) (z : Spot) → Run b pt → Rest pt → is_kernels i ≡ true → standing pt.view i z ≡ 0
-own_nowhere b pt i z h1 h2 h3 = search (arith, kernels_fresh)
 
 -- where a living process is
 pub is_here_is : (k : Known) → is_here k ≡ true → k ≡ Here
@@ -122,6 +114,8 @@ unasked_at b pt p (Some n) phase h calm_ noted is due =
 
 pub at_rest_always : AtRestAlways
 at_rest_always b es pt valid leads quiet =
+    let phase_still : (v : View) (p : Pid) (phase : Phase) (m : ℕ) → Calm v → IsIn v p phase → is_due phase ≡ false → is_moving (v.known m p) ≡ false = λ v p phase m h is due. grind (arith, nat_tests, no_token) in
+    let own_nowhere : (b : Boot) (pt : Point) (i : MsgId) (z : Spot) → Run b pt → Rest pt → is_kernels i ≡ true → standing pt.view i z ≡ 0 = λ b pt i z h1 h2 h3. search (arith, kernels_fresh) in
     let h = (run_always b es pt valid leads).run in
     let routed = subst (λ (n : ℕ). Routed n pt.view) (sym h.based.machines) (routed_always b es pt valid leads) in
     let calm_ = calm b pt h routed quiet in

@@ -1,7 +1,7 @@
 -- Where a process has ended nothing comes to its queue: each group keeps it.
-use Rattle.dm_movelaws.proofs.Names.{◌≡◌, ℕ, ◌+◌, Bool, true, false, List, [], ◌∷◌, refl, ap, ◌∙◌, sym, false≢true, Option, None, Some, Pid, MsgId, MessageKind, plain_kind, Label, Step, Line, Stage, migrates, Part, Says, Routes, Spelled}
-use Rattle.dm_movelaws.proofs.Names.{spelled, Point, at_record, View, Told, Known, Here, Ended, view_after, handled, receiver_of, IsNetLine, set_all, by_migrates, ◌++◌, ⊤, PlainMessage, Boot, manager, Addresses, forwards_on, sends_on}
-use Rattle.dm_movelaws.proofs.Names.{is_kill, Sane, by_hears, by_round, by_handles, by_forwards, queued_known, held_known, forwarded_known, proto_known, nat_tests, arith, aim, sets, Frozen, subst, PlainProcess, Life, Alive, OneKernel}
+use Rattle.dm_movelaws.proofs.Names.{◌≡◌, ℕ, ◌+◌, Bool, true, false, List, [], ◌∷◌, refl, ap, ◌∙◌, sym, false≢true, Option, None, Some, Pid, MsgId, MessageKind, plain_kind, Label, Step, Line, Stage, Part, Says, Routes, Spelled}
+use Rattle.dm_movelaws.proofs.Names.{spelled, Point, at_record, View, Told, Known, Here, Ended, view_after, handled, receiver_of, IsNetLine, set_all, ◌++◌, ⊤, PlainMessage, Boot, manager, Addresses, forwards_on, sends_on}
+use Rattle.dm_movelaws.proofs.Names.{is_kill, Sane, by_hears, by_round, by_handles, by_forwards, queued_known, held_known, forwarded_known, proto_known, nat_tests, arith, aim, sets, Frozen, subst, Life, OneKernel}
 use Rattle.dm_movelaws.proofs.Names.{after_step, is_away, kernel_after, label_of, group_of, without_id, without_front, Incoming, served_told, front_of, gone_to, Phased, KnownStands, group_keeps, Loud, keeps_by, killed_or}
 use Rattle.dm_rule.specs.View as view
 use Rattle.dm_rule.specs.Rule as rule
@@ -50,9 +50,6 @@ same s q e = e
 frozen_off : (to : ℕ) → Frozen to ≡ Ended → ⊥
 frozen_off to e = cc
 
-lives_off : (before : Knows) (s : OneKernel) (v : View) (p : Pid) (x : PlainProcess) → Buried before s v → s.processes p ≡ Some (Alive x) → before v.acting p ≡ Ended → ⊥
-lives_off before s v p x h alive e = false≢true (sym (ap is_dead alive) ∙ h.dead v.acting p e)
-
 dropped : (before : Knows) (s t : OneKernel) (v : View) (id : MsgId) (o : Option Pid) → Dies s t → Buried before s v → Buried before t (view.dropped_for (handled v id) id o)
 dropped before s t v id None dies h = as_ before s t v (handled v id) dies refl refl h
 dropped before s t v id (Some p) dies h =
@@ -94,8 +91,8 @@ loud before = record {
       learns before pt.kernel pt.kernel pt.view (view.after_stage pt.view p Stage.Left) p (gone_to (pt.view.known pt.view.acting p) (pt.view.moves p + 1)) (same pt.kernel) refl refl
       (λ e. absurd ((frozen_off leaves.to) (sym leaves.frozen ∙ h.known pt.view.acting p e))) h;
   restarted = λ pt p lives off h.
-      learns before pt.kernel pt.kernel pt.view (view.after_stage pt.view p Stage.Restarted) p Here (same pt.kernel) refl refl (λ e. absurd (lives_off before pt.kernel pt.view p lives.process h lives.alive e)) h;
-  stays_ = λ pt p lives off h. learns before pt.kernel pt.kernel pt.view (view_after pt.view (Line.Stays p)) p Here (same pt.kernel) refl refl (λ e. absurd (lives_off before pt.kernel pt.view p lives.process h lives.alive e)) h;
+      learns before pt.kernel pt.kernel pt.view (view.after_stage pt.view p Stage.Restarted) p Here (same pt.kernel) refl refl (λ e. absurd (false≢true (sym (ap is_dead lives.alive) ∙ h.dead pt.view.acting p e))) h;
+  stays_ = λ pt p lives off h. learns before pt.kernel pt.kernel pt.view (view_after pt.view (Line.Stays p)) p Here (same pt.kernel) refl refl (λ e. absurd (false≢true (sym (ap is_dead lives.alive) ∙ h.dead pt.view.acting p e))) h;
   sent_on = λ pt p n h. queues before pt.kernel pt.kernel pt.view (view_after pt.view (Line.SentOn p n)) p [] (same pt.kernel) refl refl (λ e. refl) h;
 }
 
@@ -220,43 +217,31 @@ only_set before v w p k known new h = record {
 pub dropped_known : (v : View) (i : MsgId) (o : Option Pid) → (view.dropped_for v i o).known ≡ v.known
 dropped_known v i o = grind (arith, nat_tests)
 
-head_known : (v : View) (d : Step) → (view.after_head v d).known ≡ v.known
-head_known v d = grind (arith, nat_tests)
-
-gone_ended : (k : Known) (n : ℕ) → view.gone_to k n ≡ Ended → k ≡ Ended
-gone_ended k n e = grind (arith, nat_tests)
-
 here_not : (T : Type 0) → Here ≡ Ended → T
 here_not T e = cc
 
-frozen_not : (T : Type 0) (to : ℕ) → Frozen to ≡ Ended → T
-frozen_not T to e = cc
-
-stage_only : (before : Knows) (v : View) (p : Pid) (s : Stage) → Only before v → Only before (view.after_stage v p s)
-stage_only before v p s h1 = grind (arith, nat_tests, v.topic, only_set, sets, frozen_not, v.known, v.acting, v.moves, gone_ended, here_not)
-
 line_only : (before : Knows) (v : View) (l : Line) → is_ending l ≡ false → Only before v → Only before (view_after v l)
 line_only before v (Line.Label l) e h = grind (arith, nat_tests, only_as, dropped_known, only_set, here_not)
-line_only before v (Line.Head d) e h = only_as before v (view_after v (Line.Head d)) (λ n q. ap (λ (f : Knows). f n q) (head_known v d)) h
+line_only before v (Line.Head d) e h = only_as before v (view_after v (Line.Head d)) (λ n q. ap (λ (f : Knows). f n q) (let e_ : (view.after_head v d).known ≡ v.known = grind (arith, nat_tests) in e_)) h
 line_only before v (Line.Taken a b k) e h = grind (arith, nat_tests, only_as)
 line_only before v (Line.Queued id) e h = only_as before v (view_after v (Line.Queued id)) (λ n q. queued_known (handled v id) id (receiver_of (v.told id)) n q) h
 line_only before v (Line.Held id) e h = only_as before v (view_after v (Line.Held id)) (λ n q. held_known (handled v id) id (receiver_of (v.told id)) n q) h
 line_only before v (Line.Forwarded id m) e h = only_as before v (view_after v (Line.Forwarded id m)) (λ n q. forwarded_known (handled v id) (receiver_of (v.told id)) n q) h
 line_only before v (Line.Proto id) e h = only_as before v (view_after v (Line.Proto id)) (λ n q. proto_known (handled v id) (v.told id) n q) h
-line_only before v (Line.Migration s p) e h = stage_only before v p s h
+line_only before v (Line.Migration s p) e h =
+    let stage_only : (before : Knows) (v : View) (p : Pid) (s : Stage) → Only before v → Only before (view.after_stage v p s) = λ before v p s h1.
+      let gone_ended : (k : Known) (n : ℕ) → view.gone_to k n ≡ Ended → k ≡ Ended = λ k n e. grind (arith, nat_tests) in
+      let frozen_not : (T : Type 0) (to : ℕ) → Frozen to ≡ Ended → T = λ T to e. cc in grind (arith, nat_tests, v.topic, only_set, sets, frozen_not, v.known, v.acting, v.moves, gone_ended, here_not) in
+    stage_only before v p s h
 line_only before v (Line.Stays p) e h = only_set before v (view_after v (Line.Stays p)) p Here refl (here_not (v.known v.acting p ≡ Ended)) h
 line_only before v any_ e h = only_as before v (view_after v any_) (λ n q. refl) h
 
--- parts that end nothing
-only_behind : (before : Knows) (pt : Point) (p : Part) → PartStays p → Only before pt.view → Behind (λ q. Only before q.view) pt p
-only_behind before pt p stays h = grind (arith, nat_tests, whatever_put, line_only)
-
 pub parts_only : (before : Knows) (ps : List Part) (pt : Point) (w : Spelled) → AllStay ps → spelled pt ps ≡ Some w → Only before pt.view → Only before w.point.view
-parts_only before = parts_lead (λ q. Only before q.view) (λ q a b k l h. line_only before q.view (Line.Packet a b k l) refl h) PartStays (only_behind before)
+parts_only before =
+    -- parts that end nothing
+    let only_behind : (before : Knows) (pt : Point) (p : Part) → PartStays p → Only before pt.view → Behind (λ q. Only before q.view) pt p = λ before pt p stays h. grind (arith, nat_tests, whatever_put, line_only) in
+    parts_lead (λ q. Only before q.view) (λ q a b k l h. line_only before q.view (Line.Packet a b k l) refl h) PartStays (only_behind before)
 
 -- all directives but turns are so
 pub net_stays : (l : Line) → IsNetLine l → is_ending l ≡ false
 net_stays l h = grind (arith, nat_tests)
-
-pub migrates_stay : (pt : Point) (p : Pid) → AllStay (migrates pt p)
-migrates_stay pt p = by_migrates AllStay pt p (refl, tt) (refl, tt) (λ n off is. (tt, tt))

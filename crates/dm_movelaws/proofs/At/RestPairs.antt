@@ -38,26 +38,19 @@ calm_line n v l calm h =
 abbrev PartCalm : Part → Type 0
 PartCalm = Saying (λ l. is_calm l ≡ true)
 
-calm_of : (l : Line) → touches l ≡ false → is_calm l ≡ true
-calm_of l e = grind (arith, nat_tests)
-
-net_calm : (l : Line) → IsNetLine l → is_calm l ≡ true
-net_calm l h = grind (arith, nat_tests)
-
 routed_behind : (n : ℕ) (pt : Point) (p : Part) → PartCalm p → Routed n pt.view → Behind (λ q. Routed n q.view) pt p
 routed_behind n pt p calm h = whatever_put (λ q. Routed n q.view) pt p (λ l is s step. record { acting = (calm_line n pt.view l (subst PartCalm is calm) h).acting; none = (calm_line n pt.view l (subst PartCalm is calm) h).none }) (λ b i k q. put_routed n pt.view b i k q h) h
 
-parts_routed : (n : ℕ) (ps : List Part) (pt : Point) (w : Spelled) → All PartCalm ps → spelled pt ps ≡ Some w → Routed n pt.view → Routed n w.point.view
-parts_routed n = parts_lead (λ q. Routed n q.view) (λ q a b k l h. packet_routed n q.view a b k l h) PartCalm (routed_behind n)
-
--- a group
-head_routed : (n : ℕ) (v : View) (d : Step) → IsStep n d → Routed n v → Routed n (after_head v d)
-head_routed n v d fit h = grind (arith, nat_tests, kept)
-
 routed_group : (n : ℕ) (b : Boot) (pt : Point) (d : Step) (w : Spelled) → IsStep n d → group_of b pt d ≡ Some w → Routed n pt.view → Routed n w.point.view
 routed_group n b pt d w fit is h =
+    let net_calm : (l : Line) → IsNetLine l → is_calm l ≡ true = λ l h. grind (arith, nat_tests) in
+    let calm_of : (l : Line) → touches l ≡ false → is_calm l ≡ true = λ l e. grind (arith, nat_tests) in
     let g = group_is b pt d w is in
-    subst (λ (q : Point). Routed n q.view) g.point (parts_routed n g.parts (moved pt (Line.Head d) pt.kernel) g.rest (outcome_says (λ l. is_calm l ≡ true) calm_of net_calm b pt d g.parts g.is) g.said (head_routed n pt.view d fit h))
+    -- a group
+    let head_routed : Routed n (after_head pt.view d) = grind (arith, nat_tests, kept) in
+    let parts_routed : (n : ℕ) (ps : List Part) (pt : Point) (w : Spelled) → All PartCalm ps → spelled pt ps ≡ Some w → Routed n pt.view → Routed n w.point.view =
+      λ n. parts_lead (λ q. Routed n q.view) (λ q a b k l h. packet_routed n q.view a b k l h) PartCalm (routed_behind n) in
+    subst (λ (q : Point). Routed n q.view) g.point (parts_routed n g.parts (moved pt (Line.Head d) pt.kernel) g.rest (outcome_says (λ l. is_calm l ≡ true) calm_of net_calm b pt d g.parts g.is) g.said head_routed)
 
 -- wherever the rule leads
 pub routed_always : (b : Boot) (es : List Step) (pt : Point) → IsValid b → Leads b (first_point b) es pt → Routed (length b.machines) pt.view

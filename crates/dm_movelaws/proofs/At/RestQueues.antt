@@ -1,12 +1,12 @@
 -- Where a process has ended no message is queued for it.
-use Rattle.dm_movelaws.proofs.Names.{◌≡◌, ◌⊎◌, ℕ, ◌≤◌, true, false, List, [], ◌∷◌, refl, ap, ◌∙◌, sym, subst, inl, inr, arith, cases_Bool, false≢true, nat_tests, Option, None, Some, Pid, MsgId, MessageKind, Boot, Label, id_eq-same, Step}
+use Rattle.dm_movelaws.proofs.Names.{◌≡◌, ◌⊎◌, ℕ, ◌≤◌, false, List, [], ◌∷◌, refl, ap, ◌∙◌, sym, subst, inl, inr, arith, cases_Bool, false≢true, nat_tests, Option, None, Some, Pid, MsgId, Boot, Label, id_eq-same, Step}
 use Rattle.dm_movelaws.proofs.Names.{Line, Part, Says, Spelled, spelled, Point, moved, group_of, at_record, times, View, Told, Ended, view_after, handled, PlainMessage, IsValid, Leads, first_point, Spot, Queue, Inbox, standing, StandsRight}
-use Rattle.dm_movelaws.proofs.Names.{is_kernels, group_is, arrives_net, resends_net, stands_right, kernels_fresh, not_true, is_kill, says_next, DropsAlways, killed_or, stands_first, Run, told_of, more_front, sort_of}
+use Rattle.dm_movelaws.proofs.Names.{is_kernels, group_is, arrives_net, resends_net, stands_right, kernels_fresh, not_true, is_kill, says_next, DropsAlways, killed_or, stands_first, Run, told_of, more_front, migrates, by_migrates}
 use Rattle.dm_laws.proofs.Equal as equal
 use Rattle.dm_rule.specs.Rule as rule
 use Rattle.dm_rule.specs.View as view
 use Rattle.dm_rule.proofs.Lines as lines
-use Rattle.dm_movelaws.proofs.At.RestOnly.{AllStay, LineEnds, LastEnds, Ends, Once, Runs, turns_ends, Only, only_as, parts_only, migrates_stay, is_ending, net_stays, Knows, buried_group}
+use Rattle.dm_movelaws.proofs.At.RestOnly.{AllStay, LineEnds, LastEnds, Ends, Once, Runs, turns_ends, Only, only_as, parts_only, is_ending, net_stays, Knows, buried_group}
 use Rattle.dm_movelaws.proofs.After.{keeps_always}
 use Rattle.dm_movelaws.proofs.Leading.{net_says}
 
@@ -33,9 +33,6 @@ record Cleared (before : Knows) (v : View) : Type 0 where
 cleared_only : (before : Knows) (v : View) → Only before v → Cleared before v
 cleared_only before v h = record { each = λ n q e. inl (h.only n q e) }
 
-cleared_left : (a : ℕ) (p : Pid) (before : Knows) (v : View) → Left a p (at_record before a p Ended) v [] → Cleared before v
-cleared_left a p before v h = grind (arith, nat_tests, lines.parts, lines.eq_is, equal.pid_eq-is)
-
 -- where a turn begins
 record Starts (o : Point) (a : ℕ) (v : View) : Type 0 where
   acting : v.acting ≡ a
@@ -47,6 +44,7 @@ record Starts (o : Point) (a : ℕ) (v : View) : Type 0 where
 ends_left : (o : Point) (a : ℕ) (p : Pid) (pt mid : Point) (ps : List Part) (rest : Spelled) → Starts o a pt.view → ps ≡ rule.drop_parts (o.view.queue a p) → spelled mid ps ≡ Some rest
     → mid.view.acting ≡ pt.view.acting → mid.view.known ≡ at_record pt.view.known pt.view.acting p Ended → mid.view.queue ≡ pt.view.queue → mid.view.told ≡ pt.view.told → Cleared o.view.known rest.point.view
 ends_left o a p pt mid ps rest h drops more acting known queue told =
+    let cleared_left : (a : ℕ) (p : Pid) (before : Knows) (v : View) → Left a p (at_record before a p Ended) v [] → Cleared before v = λ a p before v h. grind (arith, nat_tests, lines.parts, lines.eq_is, equal.pid_eq-is) in
     cleared_left a p o.view.known rest.point.view (drops_left a p (at_record o.view.known a p Ended) (o.view.queue a p) mid rest (ap (spelled mid) (sym drops) ∙ more) (grind (arith, nat_tests)))
 
 begins_only : (o : Point) (a : ℕ) (v : View) → Starts o a v → Only o.view.known v
@@ -56,22 +54,16 @@ stays_cleared : (o : Point) (a : ℕ) (ps : List Part) (pt : Point) (w : Spelled
 stays_cleared o a ps pt w h stays is = cleared_only o.view.known w.point.view (parts_only o.view.known ps pt w stays is (begins_only o a pt.view h))
 
 -- a message kills its receiver, or doesn't
-kills_is : (k : MessageKind) (v : View) (p : Pid) → is_kill k ≡ true → view.ends_by (sort_of k) v (Some p) ≡ view.ended v p
-kills_is k v p on = killed_or (λ w. w ≡ view.ended v p) k v p (λ e. refl) (λ e. absurd (false≢true (sym e ∙ on)))
-
-kills_not : (k : MessageKind) (v : View) (p : Pid) → is_kill k ≡ false → view.ends_by (sort_of k) v (Some p) ≡ v
-kills_not k v p off = killed_or (λ w. w ≡ v) k v p (λ e. absurd (false≢true (sym off ∙ e))) (λ e. refl)
-
 served_cleared : (o : Point) (a : ℕ) (id : MsgId) (ps : List Part) (pt mid : Point) (rest : Spelled) (x : Option Told) → Starts o a pt.view → pt.view.told id ≡ x → mid.view ≡ view.served_told (handled pt.view id) x → LineEnds o a (Line.Label (Label.Served id)) ps → spelled mid ps ≡ Some rest → Cleared o.view.known rest.point.view
 served_cleared o a id ps pt mid rest None h told now ends more = grind (arith, nat_tests, only_as, begins_only, cleared_only, parts_only)
 served_cleared o a id ps pt mid rest (Some t) h told now ends more =
     let here : o.view.told id ≡ Some t = sym (ap (λ (g : MsgId → Option Told). g id) h.told) ∙ told in
     elim (cases_Bool (is_kill t.kind)) [
       | inl on ↦
-          let look : mid.view ≡ view.ended (handled pt.view id) t.receiver = now ∙ kills_is t.kind (handled pt.view id) t.receiver on in
+          let look : mid.view ≡ view.ended (handled pt.view id) t.receiver = now ∙ killed_or (λ w. w ≡ view.ended (handled pt.view id) t.receiver) t.kind (handled pt.view id) t.receiver (λ e. refl) (λ e. absurd (false≢true (sym e ∙ on))) in
           ends_left o a t.receiver pt mid ps rest h (ends.0 t here on) more (ap (λ (v : View). v.acting) look) (ap (λ (v : View). v.known) look) (ap (λ (v : View). v.queue) look) (ap (λ (v : View). v.told) look)
       | inr off ↦
-          let look : mid.view ≡ handled pt.view id = now ∙ kills_not t.kind (handled pt.view id) t.receiver off in
+          let look : mid.view ≡ handled pt.view id = now ∙ killed_or (λ w. w ≡ (handled pt.view id)) t.kind (handled pt.view id) t.receiver (λ e. absurd (false≢true (sym off ∙ e))) (λ e. refl) in
           let none : (u : Told) → o.view.told id ≡ Some u → is_kill u.kind ≡ false = λ u is. (let f : Some t ≡ Some u = sym here ∙ is in let g : t ≡ u = cc in sym (ap (λ (y : Told). is_kill y.kind) g) ∙ off) in
           let start : Only o.view.known mid.view = only_as o.view.known pt.view mid.view (λ n q. ap (λ (v : View). v.known n q) look) (begins_only o a pt.view h) in
           cleared_only o.view.known rest.point.view (parts_only o.view.known ps mid rest (ends.1 none) more start)
@@ -111,11 +103,9 @@ ends_cleared o a ps pt z h (Runs p k rest form ends) is =
     let start : Starts o a (moved pt (Line.Label (Label.Ran p k)) n.s).view = record { acting = h.acting; known = h.known; queue = h.queue; told = h.told; receivers = h.receivers } in
     subst (λ (q : Point). Cleared o.view.known q.view) n.point (last_cleared o a rest (moved pt (Line.Label (Label.Ran p k)) n.s) n.rest start ends n.more)
 
-in_bag : (i : MsgId) (x : Option PlainMessage) (f : Spot → ℕ) (z : Spot) → 1 ≤ f z → is_kernels i ≡ false → StandsRight i x f → (m : PlainMessage) × (x ≡ Some m)
-in_bag i x f z least off h = grind (arith, nat_tests)
-
 receivers : (b : Boot) (pt : Point) (a : ℕ) (p : Pid) (i : MsgId) → Run b pt → 1 ≤ times i (pt.view.queue a p) → (t : Told) × (pt.view.told i ≡ Some t) × (t.receiver ≡ p)
 receivers b pt a p i h least =
+    let in_bag : (i : MsgId) (x : Option PlainMessage) (f : Spot → ℕ) (z : Spot) → 1 ≤ f z → is_kernels i ≡ false → StandsRight i x f → (m : PlainMessage) × (x ≡ Some m) = λ i x f z least off h. grind (arith, nat_tests) in
     let q = h.based.queued a p i least in
     let entered = q.entered in
     let state = h.based.phased.state in
@@ -137,6 +127,7 @@ group_cleared b pt (Step.Deliver a c k) w is h =
     grind (arith, nat_tests, net_says (λ l. is_ending l ≡ false) net_stays, arrives_net, cleared_only, parts_only)
 group_cleared b pt (Step.Migrate p m) w is h =
     let g = group_is b pt (Step.Migrate p m) w is in
+    let migrates_stay : (pt : Point) (p : Pid) → AllStay (migrates pt p) = λ pt p. by_migrates AllStay pt p (refl, tt) (refl, tt) (λ n off is. (tt, tt)) in
     grind (arith, nat_tests, migrates_stay, cleared_only, parts_only)
 
 -- no message waits for a process where it has ended

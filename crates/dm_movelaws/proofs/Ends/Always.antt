@@ -80,9 +80,6 @@ open_own p pt b h i is =
     let (q, way) = under_way (letters state.own pt.kernel.bag i) (standing pt.view i) z st (state.stands.kept i) in
     kernels_by state.own pt.kernel.bag i q (is_kernels i) refl (outside p pt b h i (pt.kernel.bag i) is refl) way
 
-pub none_open : (p : Pid) (b : Boot) (pt : Point) (h : Run b pt) (n : ℕ) → pt.kernel.machines ≡ n → IsQuiet n pt.view → Sources n pt.view → (i : MsgId) → IsOpen p pt.view i → ⊥
-none_open p b pt h n is quiet sources i k = let (z, st) = k.stands in quiet_own b pt h n is quiet sources i k.told k.is (open_own p pt b h i k) z st
-
 pub empty_by : (p : Pid) (v : View) (ids : List MsgId) → ((i : MsgId) → IsOpen p v i → ⊥) → Opens p v ids → length ids ≡ 0
 empty_by p v [] none h = refl
 empty_by p v (i ∷ is) none h = absurd (none i (h.each i (times_self i is)))
@@ -138,14 +135,11 @@ ran p b (d ∷ ds) pt end ls ids valid h sources opens (w, rest, fit, is, split,
           omega (arith, s, z, a, c));
     }
 
-start_stays : (b : Boot) (p : Pid) (h : Both b (first_point b)) → moving_at b (first_point b) h p ≡ 0
-start_stays b p h = owned_zero ((first_point b).kernel.notes p) (moving_in (h.run.based.phased.phases.of p)) (grind (arith, nat_tests, waits_or))
-
 pub ends_always : EndsAlways
 ends_always b es ls pt p valid leads =
     let h = both_start run_start b valid in
     let r = ran p b es (first_point b) pt ls [] valid h (λ x y le. refl) (grind (arith, nat_tests)) leads in
-    let zero_ = start_stays b p h in
+    let zero_ : moving_at b (first_point b) h p ≡ 0 = owned_zero ((first_point b).kernel.notes p) (moving_in (h.run.based.phased.phases.of p)) (grind (arith, nat_tests, waits_or)) in
     let sum = r.sum in
     record {
       few = omega (arith, zero_, sum);
@@ -153,6 +147,8 @@ ends_always b es ls pt p valid leads =
           let n = length b.machines in
           let is = r.both.run.based.machines in
           let still : IsQuiet n pt.view = subst (λ (k : ℕ). IsQuiet k pt.view) is quiet in
+          let none_open : (p : Pid) (b : Boot) (pt : Point) (h : Run b pt) (n : ℕ) → pt.kernel.machines ≡ n → IsQuiet n pt.view → Sources n pt.view → (i : MsgId) → IsOpen p pt.view i → ⊥ =
+            λ p b pt h n is quiet sources i k. let (z, st) = k.stands in quiet_own b pt h n is quiet sources i k.told k.is (open_own p pt b h i k) z st in
           let none = empty_by p pt.view r.left (none_open p b pt r.both.run n is still r.sources) r.opens in
           let rests = owned_zero (pt.kernel.notes p) (moving_in (r.both.run.based.phased.phases.of p)) (quiet_stays b pt r.both.run n is still r.sources p) in
           omega (arith, zero_, sum, none, rests);

@@ -4,12 +4,12 @@ use Rattle.dm_movelaws.proofs.Names.{View, Told, after_head, after_put, view_aft
 use Rattle.dm_movelaws.proofs.Names.{InPhases, calm_phases, PairsFit, PacketsKeep, put_told_off, said, Sane, KnownStands, Begins, begins, WalksOf, loose_walks, begun, begun_sane, turned, resting, round_walks, handles_walks, asks, ends}
 use Rattle.dm_movelaws.proofs.Names.{count, first_none, by_migrates, by_outcome, group_is, None, false, label_of, nat_tests, seen_none, MoveNote, Outcome, PlainMessage, PlainWhat, Label, Stage, Target, Frozen, Known, Here, to_kernel}
 use Rattle.dm_movelaws.proofs.Names.{leaves_for, answers_move, said_by, part_sane, machine_in, move_target, sets, aim, asked_off, moved, is_moving, Walks, pid_eq-is, pid_eq-same, own_ends, ◌&&◌, not, ◌++◌, lines_of, LeadsBy, by_parts}
-use Rattle.dm_movelaws.proofs.Names.{is_answered_next, is_answer_by, act_of, hears}
-use Rattle.dm_movelaws.proofs.Ends.Parts.{packet_smooth, one_if, zero_if, parts_count, round_quiet, handles_quiet, Rest, rest_packet, rest_behind, Handled, Quiets, SetsOff, part_count, unit_if, is_migrate, Extends, Still, plain_in_bag}
-use Rattle.dm_movelaws.proofs.Ends.Parts.{own_untold, smooth_same, Tame, still_same, Smooth, smooth_trans, moves_none}
-use Rattle.dm_movelaws.proofs.Ends.Open.{Opens, Adds, Balance, level_balance, smooth_opens, add_opens, moving_in, still_moves, here_stays, Turn, Comes, line_alone, quiet_row, and_off, line_then, other_still, pid_swap, head_smooth}
-use Rattle.dm_movelaws.proofs.Ends.Open.{net_level, net_asks, net_ends}
-use Rattle.dm_movelaws.proofs.Ends.Hears.{ComesOf, kernel_comes, of_if, process_comes, server_comes}
+use Rattle.dm_movelaws.proofs.Names.{is_answered_next, is_answer_by, act_of, hears, line_next, loose_round, loose_handles, by_forwards, plain_kind, turn_off, tick_off, deliver_off, migrate_off}
+use Rattle.dm_movelaws.proofs.Ends.Parts.{packet_smooth, one_if, zero_if, Rest, rest_packet, rest_behind, Handled, Quiets, SetsOff, part_count, unit_if, is_migrate, Extends, Still, plain_in_bag, AllQuiet, quiet_loose, Silent, count-append}
+use Rattle.dm_movelaws.proofs.Ends.Parts.{own_untold, smooth_same, Tame, still_same, Smooth, smooth_trans, moves_none, lines_count, smooth_still}
+use Rattle.dm_movelaws.proofs.Ends.Open.{Opens, Adds, Balance, level_balance, smooth_opens, add_opens, moving_in, still_moves, here_stays, Turn, Comes, quiet_row, and_off, line_then, other_still, pid_swap, Neither, net_none}
+use Rattle.dm_movelaws.proofs.Ends.Open.{net_level}
+use Rattle.dm_movelaws.proofs.Ends.Hears.{ComesOf, kernel_comes, process_comes, server_comes}
 use Rattle.dm_movelaws.proofs.Leading.{next_of, part_leads, net_says, lines_are, asker_known}
 use Rattle.dm_movelaws.proofs.Asked.Following.{Row, Plain, Ends, IsHere, Leaves, outcome_row, plain_notes, ends_notes, here_notes, leaves_notes, AllUnmarked, IsUnmarked, net_unmarked, EndLine}
 use Rattle.dm_rule.specs.Rule as rule
@@ -39,12 +39,9 @@ unmarked_next [] so = refl
 unmarked_next (Says l ∷ ps) so = unmarked_answer l so.0
 unmarked_next (x ∷ ps) so = refl
 
-and_true : (a b : Bool) → b ≡ false → unit_if (a && not b) ≡ unit_if a
-and_true a b e = grind (arith, nat_tests)
-
 pub own_same : (f : MsgId → Option Told) (p : Pid) (ps : List Part) → AllUnmarked ps → own_count f p ps ≡ part_count (ends f p) ps
 own_same f p [] so = refl
-own_same f p (Says l ∷ ps) so = let a = and_true (ends f p l) (is_answer_part ps) (unmarked_next ps so.1) in let h = own_same f p ps so.1 in omega (arith, a, h)
+own_same f p (Says l ∷ ps) so = let a : unit_if ((ends f p l) && not (is_answer_part ps)) ≡ unit_if (ends f p l) = grind (arith, nat_tests, unmarked_next ps so.1) in let h = own_same f p ps so.1 in omega (arith, a, h)
 own_same f p (x ∷ ps) so = own_same f p ps so.1
 
 -- a move is a process's own, unless it follows a request
@@ -78,9 +75,6 @@ end_ends f p q Outcome.Ended l e = absurd e
 pub asker_here : (pt : Point) (id : MsgId) (r : Outcome) (q : Pid) (w : Spelled) → spelled pt (rule.says (Label.Asked id) ∷ answers_move id r) ≡ Some w → pt.view.known pt.view.acting q ≡ Here → w.point.view.known pt.view.acting q ≡ Here
 asker_here pt id r q w e here = search (arith, next_of, said_by, pt.view.acting, asker_known)
 
-pub head_still : (p : Pid) (v : View) (d : Step) → Still p v (after_head v d)
-head_still p v d m = grind (arith, nat_tests)
-
 -- lists of lines, one after another
 pub own-append : (f : MsgId → Option Told) (p : Pid) (xs ys : List Line) → is_answered_next ys ≡ false → own_ends f p (xs ++ ys) ≡ own_ends f p xs + own_ends f p ys
 own-append f p [] ys e = omega arith
@@ -108,6 +102,9 @@ front_turn o m i is h s fits front =
 -- a delivery or a tick
 net_comes : (p : Pid) (pt : Point) (h : InPhases pt.view) (ps : List Part) (w : Spelled) → IsNet ps → spelled pt ps ≡ Some w → Comes p pt h ps w
 net_comes p pt h ps w net e g ids opens =
+    let net_ends : (g : MsgId → Option Told) (p : Pid) (ps : List Part) → IsNet ps → part_count (ends g p) ps ≡ 0 =
+      λ g p ps h. let net_line_ends : (g : MsgId → Option Told) (p : Pid) → Neither (ends g p) = λ g p l h. grind (arith, nat_tests) in net_none (ends g p) (net_line_ends g p) ps h in
+    let net_asks : (p : Pid) (ps : List Part) → IsNet ps → part_count (asks p) ps ≡ 0 = λ p ps h. let net_line_asks : (p : Pid) → Neither (asks p) = λ p l h. grind (arith, nat_tests) in net_none (asks p) (net_line_asks p) ps h in
     let s = net_level p ps pt w net e in
     level_balance p pt.view w.point.view ids (moving_in (h.of p)) (moving_in (g.of p)) ps s.smooth opens (still_moves p pt.view w.point.view h g s.still) (net_asks p ps net) (λ f ext. net_ends f p ps net)
 
@@ -122,7 +119,7 @@ said_comes : (p q : Pid) (m : ℕ) (pt : Point) (l : Line) (h : InPhases pt.view
     → Directed p (Step.Migrate q m) pt h (Says l ∷ []) w
 said_comes p q m pt l h w none alike plain ended e g ids opens =
     let v = pt.view in
-    let at : v ≡ w.point.view = sym alike ∙ sym (seen_none pt.kernel v l none) ∙ ap (λ (x : Point). x.view) (line_alone pt l w none e) in
+    let at : v ≡ w.point.view = sym alike ∙ sym (seen_none pt.kernel v l none) ∙ ap (λ (x : Point). x.view) (let n = line_next pt l [] w none e in said (moved pt l pt.kernel) n.rest n.more ∙ n.point) in
     let same = still_moves p v w.point.view h g (subst (Still p v) at (still_same p v)) in
     grind (arith, nat_tests, zero_if, smooth_opens, smooth_same)
 
@@ -130,9 +127,6 @@ said_comes p q m pt l h w none alike plain ended e g ids opens =
 record Added (p : Pid) (v : View) (ids : List MsgId) (w : View) : Type 0 where
   opens : Opens p w ids
   still : Still p v w
-
-added_packet : (p : Pid) (v : View) (ids : List MsgId) → PacketsKeep (λ q. Added p v ids q.view)
-added_packet p v ids q a b k l h = record { opens = smooth_opens p q.view (view_after q.view (Line.Packet a b k l)) ids (packet_smooth p q.view a b k l) h.opens; still = h.still }
 
 request_adds : (p q : Pid) (pt : Point) (b : ℕ) → Sane pt → PairsFit pt.view → pid_eq p q ≡ true → Adds p pt.view (after_put pt.view pt.view.acting b (own_id pt.view) MessageKind.Migrate q) (own_id pt.view)
 request_adds p q pt b sane fits same =
@@ -155,6 +149,8 @@ request_comes p q m b pt h w sane fits same e g ids opens =
     let at : n.next ≡ w.point = said n.next n.rest n.more ∙ n.point in
     let first : Added p v (i ∷ ids) (after_put v v.acting b i MessageKind.Migrate q) = record { opens = add_opens p v (after_put v v.acting b i MessageKind.Migrate q) ids i (request_adds p q pt b sane fits same) opens; still = λ n. refl } in
     let to : Point → Type 0 = λ x. Added p v (i ∷ ids) x.view in
+    let added_packet : (p : Pid) (v : View) (ids : List MsgId) → PacketsKeep (λ q. Added p v ids q.view) =
+      λ p v ids q a b k l h. record { opens = smooth_opens p q.view (view_after q.view (Line.Packet a b k l)) ids (packet_smooth p q.view a b k l) h.opens; still = h.still } in
     let there : Added p v (i ∷ ids) w.point.view = subst to at (part_leads to (added_packet p v (i ∷ ids)) pt n.next (Owns MessageKind.Migrate q b) first n.steps) in
     let mv = still_moves p v w.point.view h g there.still in
     let one : asked_by p (Step.Migrate q m) ≡ 1 = ap (λ (c : Bool). if c then 1 else 0) same in
@@ -286,24 +282,29 @@ handled_own p pt m id msg h ps w sane fits there row walks e (Quiets quiet) = ow
 handled_own p pt m id msg h ps w sane fits there row walks e (SetsOff to here what are) =
     subst (λ (xs : List Part). OwnDirected p (Step.Turn m) (turned pt m) h xs w) (sym are) (leaves_own p (Step.Turn m) (turned pt m) h id msg to w refl sane fits there here what (ap (spelled (turned pt m)) (sym are) ∙ e))
 
-pub hears_comes : (p : Pid) (b : Boot) (o : Point) (m : ℕ) (i : MsgId) (is : List MsgId) (t : Told) (h : Turn (turned o m) i is t) → ComesOf p (turned o m) h.phases (hears b o m i (Some t))
-hears_comes p b o m i is t h = search (of_if, kernel_comes, server_comes, process_comes)
-
 -- what comes of a directive
 directed : (p : Pid) (b : Boot) (pt : Point) (d : Step) (parts : List Part) (w : Spelled) (h : InPhases pt.view) → Phased pt → KnownStands pt.kernel pt.view → PairsFit pt.view → rule.outcome b pt d ≡ Some parts
     → spelled (begun pt d) parts ≡ Some w → OwnDirected p d (begun pt d) (begun_phases pt d h) parts w
 directed p b pt d parts w h phased known fits is =
+    let hears_comes : (p : Pid) (b : Boot) (o : Point) (m : ℕ) (i : MsgId) (is : List MsgId) (t : Told) (h : Turn (turned o m) i is t) → ComesOf p (turned o m) h.phases (hears b o m i (Some t)) = λ p b o m i is t h.
+      let of_if : (p : Pid) (pt : Point) (h : InPhases pt.view) (c : Bool) (x y : Option (List Part)) → ComesOf p pt h x → ComesOf p pt h y → ComesOf p pt h (if c then x else y) = λ p pt h c x y k l. grind (arith, nat_tests) in
+      search (of_if, kernel_comes, server_comes, process_comes) in
     by_outcome (λ x ps. (u : Spelled) → Row pt x ps → spelled (begun pt x) ps ≡ Some u → OwnDirected p x (begun pt x) (begun_phases pt x h) ps u) b pt d parts (record {
       round = λ m ps box e u row said.
           (let s = begins pt m phased known in
           let q = rule.first_runnable pt.kernel (pt.view.queue m) (pt.view.ring m) in
           let pairs : PairsFit (turned pt m).view = record { within = fits.within; home = fits.home } in
-          own_of p pt (Step.Turn m) (begun_phases pt (Step.Turn m) h) ps u s.sane pairs row said (quiet_row p (turned pt m) (begun_phases pt (Step.Turn m) h) ps u s.sane pairs (round_quiet p (turned pt m).view b pt m q ps e)
+          let round_quiet : AllQuiet p (turned pt m).view ps = loose_round (AllQuiet p (turned pt m).view) (quiet_loose p (turned pt m).view) b pt m q ps (tt, tt) e in
+          own_of p pt (Step.Turn m) (begun_phases pt (Step.Turn m) h) ps u s.sane pairs row said (quiet_row p (turned pt m) (begun_phases pt (Step.Turn m) h) ps u s.sane pairs round_quiet
           (subst (WalksOf (turned pt m)) e (round_walks (turned pt m) b pt m q (λ r is. resting (turned pt m).view r s.phases (s.rooted.served m r is)))) said));
       handles = λ m i is msg ps box there e u row said.
           (let s = begins pt m phased known in
           let (t, turn) = front_turn pt m i is h s fits box in
           let tame : Tame p (turned pt m).view i = record { what = t; told = turn.told; plain = plain_in_bag p (turned pt m) i msg s.sane there t turn.told } in
+          let handles_quiet : (p : Pid) (v : View) (b : Boot) (o : Point) (m : ℕ) (id : MsgId) (msg : PlainMessage) (ps : List Part) → Tame p v id → rule.handles b o m id msg ≡ Some ps → Handled p v o m id msg ps =
+            λ p v b o m id msg ps h e.
+            loose_handles (Handled p v o m id msg) (AllQuiet p v) (quiet_loose p v) (λ qs k. Quiets k) b o m id msg ps (λ here. Quiets (h, tt)) (Quiets (h, tt)) (λ to here what apart. SetsOff to here.known what refl)
+            (λ to moves at_. Quiets (by_forwards (AllQuiet p v) o.addresses id (plain_kind msg.what) msg.sender to (h, (h, tt)) (h, (h, (refl, tt))))) e in
           handled_own p pt m i msg (begun_phases pt (Step.Turn m) h) ps u s.sane turn.fits there row
           (subst (WalksOf (turned pt m)) e (handles_walks b pt m i msg s.sane s.phases s.rooted known (record { there = there; told = t; is = turn.told }))) said (handles_quiet p (turned pt m).view b pt m i msg ps tame e));
       hears = λ m i is ps box none e u row said.
@@ -336,6 +337,8 @@ whole_balance p d parts ids before behind start rest e h = record {
   opens = h.opens;
   sum = λ f ext.
       let s = h.sum f ext in
+      let parts_count : (f : Line → Bool) → Silent f → (ps : List Part) (pt : Point) (w : Spelled) → spelled pt ps ≡ Some w → count f w.lines ≡ part_count f ps =
+        λ f h. by_parts (λ ps pt w. count f w.lines ≡ part_count f ps) (λ pt. refl) (λ x ps pt next ls z lines leads rest. count-append f ls z.lines ∙ ap (λ n. count f ls + n) rest ∙ lines_count f pt x ps ls h lines) in
       let a = parts_count (asks p) (record { put = λ a b i k q. refl; packet = λ a b k l. refl }) parts start rest e in
       let q = h.quiet in
       let o = (own_is f p parts start rest e).0 in
@@ -346,8 +349,10 @@ pub group_balance : (p : Pid) (b : Boot) (pt : Point) (d : Step) (w : Spelled) (
     → group_of b pt d ≡ Some w → Opens p pt.view ids → Follows p pt h → Follows p w.point g
     → GroupBalance p w ids (owned (pt.kernel.notes p) (moving_in (h.of p))) (owned (w.point.kernel.notes p) (moving_in (g.of p)))
 group_balance p b pt d w h g ids phased known fits e opens before behind =
+    let head_still : (p : Pid) (v : View) (d : Step) → Still p v (after_head v d) = λ p v d m. grind (arith, nat_tests) in
     let k = group_is b pt d w e in
-    let start : Opens p (begun pt d).view ids = smooth_opens p pt.view (begun pt d).view ids (head_smooth p pt.view d) opens in
+    let head_smooth : Smooth p pt.view (after_head pt.view d) = grind (arith, nat_tests, smooth_still, turn_off, tick_off, deliver_off, migrate_off) in
+    let start : Opens p (begun pt d).view ids = smooth_opens p pt.view (begun pt d).view ids head_smooth opens in
     let back : InPhases k.rest.point.view = subst (λ (x : Spelled). InPhases x.point.view) (sym k.whole) g in
     let same : moving_in (back.of p) ≡ moving_in (g.of p) = still_moves p k.rest.point.view w.point.view back g (subst (λ (x : Spelled). Still p k.rest.point.view x.point.view) k.whole (still_same p k.rest.point.view)) in
     let notes : k.rest.point.kernel.notes p ≡ w.point.kernel.notes p = ap (λ (x : Spelled). x.point.kernel.notes p) k.whole in

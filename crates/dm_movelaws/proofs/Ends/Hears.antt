@@ -6,12 +6,12 @@ use Rattle.dm_movelaws.proofs.Names.{pair_same, handled_spots, held_known, forwa
 use Rattle.dm_movelaws.proofs.Names.{is_for, frozen_off, ◌+◌, ◌++◌, ⊤, pid_of, PlainProcess, accepts, takes_chunk, takes_block, sends_on, chunks_of, pieces_of, Incoming, rejoins, front_of, gone_to, is_between, parts, at_record_off, due}
 use Rattle.dm_movelaws.proofs.Names.{Walks, asks, ends, accepted_off, state_off, memory_off, lacks_off, left_off, leaves, label_of, is_put, touches, nat_tests, sets, aim, at_record, MoveNote, Outcome, tells_asker, restarted_off, times}
 use Rattle.dm_movelaws.proofs.Names.{sort_of}
-use Rattle.dm_movelaws.proofs.Ends.Parts.{AllQuiet, Rest, rest_packet, Settled, parts_settle, quiet_count, quiet_asks, told_quiet, zero_if, first_off as first_off_and, is_migrate, asks_for, kind_not, Smooth, Still, smooth_trans, told_by}
-use Rattle.dm_movelaws.proofs.Ends.Parts.{Tame, Foreign, still_by, smooth_still, moves_none}
+use Rattle.dm_movelaws.proofs.Ends.Parts.{AllQuiet, Rest, rest_packet, Settled, parts_settle, quiet_count, quiet_asks, zero_if, first_off as first_off_and, is_migrate, asks_for, kind_not, Smooth, Still, smooth_trans, told_by, Plain}
+use Rattle.dm_movelaws.proofs.Ends.Parts.{Tame, Foreign, still_by, smooth_still, moves_none, smooth_others}
 use Rattle.dm_movelaws.proofs.Ends.Open.{IsOpen, level_balance, close_opens, smooth_opens, moving_in, waits_moves, here_stays, still_moves, not_false, target_waits, Turn, plain_one, front_one, stands_front, first_smooth, first_closes}
-use Rattle.dm_movelaws.proofs.Ends.Open.{line_then, and_off, other_still, set_here, level_row, level_still, quiet_row, end_row, Comes, between_plain, due_moves, about_same}
+use Rattle.dm_movelaws.proofs.Ends.Open.{line_then, and_off, other_still, set_here, level_row, level_still, quiet_row, end_row, Comes, between_plain, due_moves, about_same, first_spots}
 use Rattle.dm_movelaws.proofs.Leading.{next_of, part_leads, asker_known}
-use Rattle.dm_movelaws.proofs.Ends.Sources.{smooth_moves, held_smooth, again_told, all_sent, sent_smooth, sends_count, sent_begins, handled_smooth, rejoins_smooth}
+use Rattle.dm_movelaws.proofs.Ends.Sources.{smooth_moves, held_smooth, again_told, all_sent, sends_count, sent_begins, rejoins_smooth, Sending}
 use Rattle.dm_rule.specs.View as view
 
 abbrev pub ComesOf : Pid → (pt : Point) → InPhases pt.view → Option (List Part) → Type 0
@@ -43,21 +43,15 @@ accepted_comes p pt i is t q b h between about w e =
       | inr off ↦ level_still p pt h.phases l w (λ m. other_still p q v.known v.acting x off m) rest g
     ])
 
-lacks_comes : (p : Pid) (pt : Point) (i : MsgId) (is : List MsgId) (t : Told) (q : Pid) (x y b : ℕ) (h : Turn pt i is t) → is_between t.kind ≡ true → ComesOf p pt h.phases (Some (Says (Line.Lacks q x y) ∷ to_kernel MessageKind.Refuse b ∷ []))
-lacks_comes p pt i is t q x y b h between = step_comes p pt i is t (Line.Lacks q x y) MessageKind.Refuse b h between refl refl refl (lacks_off pt.view q x y) (λ m. refl) refl (λ f. refl) refl
-
 accepts_comes : (p : Pid) (pt : Point) (i : MsgId) (is : List MsgId) (t : Told) (q : Pid) (room : Bool) (x y b : ℕ) (h : Turn pt i is t) → is_between t.kind ≡ true → t.about ≡ Of q → ComesOf p pt h.phases (Some (accepts b q room x y))
 accepts_comes p pt i is t q true x y b h between about = accepted_comes p pt i is t q b h between about
-accepts_comes p pt i is t q false x y b h between about = lacks_comes p pt i is t q x y b h between
-
-tame_one : (p : Pid) (pt : Point) (i : MsgId) (is : List MsgId) (t : Told) → Turn pt i is t → is_between t.kind ≡ true → Tame p pt.view i
-tame_one p pt i is t h between = record { what = t; told = h.told; plain = between_plain p pt.view i t h.told between t h.told }
+accepts_comes p pt i is t q false x y b h between about = step_comes p pt i is t (Line.Lacks q x y) MessageKind.Refuse b h between refl refl refl (lacks_off pt.view q x y) (λ m. refl) refl (λ f. refl) refl
 
 -- a message that is no step
 piece_comes : (p : Pid) (pt : Point) (i : MsgId) (is : List MsgId) (t : Told) (k : MessageKind) (b : ℕ) (h : Turn pt i is t) → is_between t.kind ≡ true → is_migrate k ≡ false → ComesOf p pt h.phases (Some (Says (Line.Proto i) ∷ to_kernel k b ∷ []))
 piece_comes p pt i is t k b h between plain w e =
     let ps = Says (Line.Proto i) ∷ to_kernel k b ∷ [] in
-    quiet_row p pt h.phases ps w h.sane h.fits (tame_one p pt i is t h between, kernel_quiet p pt.view k b plain) (loose_walks ps pt (λ q. tt, (λ q. tt, tt))) e
+    quiet_row p pt h.phases ps w h.sane h.fits (record { what = t; told = h.told; plain = between_plain p pt.view i t h.told between t h.told }, kernel_quiet p pt.view k b plain) (loose_walks ps pt (λ q. tt, (λ q. tt, tt))) e
 
 chunk_comes : (p : Pid) (pt : Point) (i : MsgId) (is : List MsgId) (t : Told) (q : Pid) (last : Bool) (h : Turn pt i is t) → is_between t.kind ≡ true → ComesOf p pt h.phases (Some (takes_chunk i q last))
 chunk_comes p pt i is t q true h between = step_comes p pt i is t (Line.Migration Stage.StateTaken q) MessageKind.PullBlock i.from.home h between refl refl refl (state_off pt.view q) (λ m. refl) refl (λ f. refl) refl
@@ -87,6 +81,8 @@ comes_back p pt i is t q l a r h between about none quiet calm off known ended p
     let u = w.point.view in
     let ps = tells_asker a r in
     let back = rejoins (handled_first v) q in
+    let handled_smooth : (p : Pid) (v : View) (i : MsgId) (is : List MsgId) → v.inbox v.acting ≡ i ∷ is → Plain p v i → Smooth p v (handled_first v) =
+      λ p v i is front plain. smooth_others p v (handled_first v) i plain plain (λ t e. e) (record { told = λ j a. refl; spots = first_spots v (handled_first v) i is front (λ z. refl) }) in
     let first : Smooth p v mid = smooth_trans p v back mid (smooth_trans p v (handled_first v) back (handled_smooth p v i is h.front (between_plain p v i t h.told between)) (rejoins_smooth p (handled_first v) q))
     (smooth_still p back mid (told_by v l quiet) (λ j z. ap (times j) (off z))) in
     let at_ : (m : ℕ) → mid.known m p ≡ at_record v.known v.acting q Here m p = λ m. ap (λ (f : ℕ → Pid → Known). f m p) known in
@@ -120,6 +116,7 @@ target_expects p q pt i is t h all about same =
 
 left_comes : (p : Pid) (pt : Point) (i : MsgId) (is : List MsgId) (t : Told) (q : Pid) (to : ℕ) (h : Turn pt i is t) → t.kind ≡ MessageKind.AllTaken → t.about ≡ Of q → ComesOf p pt h.phases (Some (leaving to i q (pt.view.queue pt.view.acting q ++ pt.view.held pt.view.acting q)))
 left_comes p pt i is t q to h all about w e g listed opens =
+    let sent_smooth : (p : Pid) (v w : View) → Sending p v [] w → Smooth p v w = λ p v w h. grind (arith, nat_tests) in
     let v = pt.view in
     let ids = v.queue v.acting q ++ v.held v.acting q in
     let b = i.from.home in
@@ -205,7 +202,7 @@ forwards_settle p pt i is t to b ps w h quiet loose e =
 forwards_comes : (p : Pid) (pt : Point) (i : MsgId) (is : List MsgId) (t : Told) (a : Addresses) (k : MessageKind) (sender : Pid) (to : ℕ) (h : Turn pt i is t) → ComesOf p pt h.phases (Some (forwards_on a i k sender to))
 forwards_comes p pt i is t a k sender to h w e g ids opens =
     let ps = if is_told_back k then Owns MessageKind.Update sender (a (Sender i)).at ∷ [] else [] in
-    let quiet : (v : View) → AllQuiet p v ps = λ v. told_quiet p v (is_told_back k) sender (a (Sender i)).at in
+    let quiet : (v : View) → AllQuiet p v ps = λ v. (let e_ : AllQuiet p v (if (is_told_back k) then Owns MessageKind.Update sender (a (Sender i)).at ∷ [] else []) = grind (arith, nat_tests) in e_) in
     let s = forwards_settle p pt i is t to to ps w h quiet (grind (arith, nat_tests)) e in
     let u = w.point.view in
     level_balance p pt.view u ids (moving_in (h.phases.of p)) (moving_in (g.of p)) (forwards_on a i k sender to) s.smooth opens (still_moves p pt.view u h.phases g s.still)
@@ -299,9 +296,6 @@ process_comes p o m i is t _ h known = held_comes p (turned o m) i is t h
 
 of_bind : {X : Type 0} (p : Pid) (pt : Point) (h : InPhases pt.view) (x : Option X) (f : X → Option (List Part)) → ((y : X) → ComesOf p pt h (f y)) → ComesOf p pt h (bind x f)
 of_bind p pt h x f k = grind (arith, nat_tests)
-
-pub of_if : (p : Pid) (pt : Point) (h : InPhases pt.view) (c : Bool) (x y : Option (List Part)) → ComesOf p pt h x → ComesOf p pt h y → ComesOf p pt h (if c then x else y)
-of_if p pt h c x y k l = grind (arith, nat_tests)
 
 pub kernel_comes : (p : Pid) (b : Boot) (o : Point) (m : ℕ) (i : MsgId) (is : List MsgId) (t : Told) (a : About) (h : Turn (turned o m) i is t) → t.about ≡ a → ComesOf p (turned o m) h.phases (kernel_hears b o m i t.kind a)
 kernel_comes p b o m i is t (Of q) h about = search (of_bind, told_comes)

@@ -1,10 +1,10 @@
 -- Heads, deliveries and ticks leave all requests to move a process under way.
 use Rattle.dm_movelaws.proofs.Names.{◌≡◌, ℕ, suc, ◌+◌, ◌≤◌, Bool, true, false, List, [], ◌∷◌, length, refl, ◌∙◌, sym, subst, inl, inr, arith, if◌then◌else◌, Option, None, Some, cases_Bool, Pid, MsgId, id_eq, id_eq-is, Part, without_id}
 use Rattle.dm_movelaws.proofs.Names.{Spot, times, standing, View, Told, not_true, without_counts, asks, ends, one_of-same, off_zero, nat_tests, ◌⊎◌, ◌==◌, ◌&&◌, not, ap, false≢true, MessageKind, Known, Here, Phase, Nowhere, Rests, Over}
-use Rattle.dm_movelaws.proofs.Names.{Moves, knows, kind_comes, is_away, is_here, is_over, is_restart, is_early, is_between, IsIn, parts, InPhases, rests_here, is_moving, source_knows, pid_eq, Label, OneKernel, bind, pid_eq-is, pid_eq-same}
+use Rattle.dm_movelaws.proofs.Names.{Moves, knows, kind_comes, is_away, is_restart, is_early, is_between, IsIn, parts, InPhases, rests_here, is_moving, source_knows, pid_eq, Label, OneKernel, bind, pid_eq-is, pid_eq-same}
 use Rattle.dm_movelaws.proofs.Names.{Line, Of, view_after, handled_first, Point, label_of, kernel_after, moved, after_line, Says, Spelled, spelled, at_record, Inbox, ids_at, is_put, at_record_at, at_record_off, first_off, line_next}
-use Rattle.dm_movelaws.proofs.Names.{touches, due, front_gone, handled_spots, State, PairsFit, said, Sane, sane_line, Walks, seen_none, NothingElse, filter, ◌++◌, slice_get, Step, at_machine, at_pair, Pair, after_head, taken_id, with_pair}
-use Rattle.dm_movelaws.proofs.Names.{Queue, Held, Untaken, untaken, times-append, one_of, eq_is, eq_self, at_place, past_place, pair_keeps, IsNetLine, IsNet, early_off, acked_off, turn_off, tick_off, deliver_off, migrate_off, PacketsKeep}
+use Rattle.dm_movelaws.proofs.Names.{touches, due, front_gone, handled_spots, State, PairsFit, Sane, sane_line, Walks, seen_none, NothingElse, filter, ◌++◌, slice_get, at_machine, at_pair, Pair, taken_id, with_pair}
+use Rattle.dm_movelaws.proofs.Names.{Queue, Held, Untaken, untaken, times-append, one_of, eq_is, eq_self, at_place, past_place, pair_keeps, IsNetLine, IsNet, early_off, acked_off, PacketsKeep}
 pub use Rattle.dm_rulelaws.proofs.Goes.Own.{destination_knows as knows_target}
 pub use Rattle.dm_rule.proofs.Phases.Pieces.{not_false, and_false as and_off}
 pub use Rattle.dm_rule.proofs.Phases.Answers.{about_same}
@@ -14,9 +14,6 @@ use Rattle.dm_movelaws.proofs.Ends.Parts.{part_count, asks_for, Somewhere, Exten
 use Rattle.dm_movelaws.proofs.Ends.Parts.{smooth_trans, hushed_smooth, told_by, told_one, still_trans, packet_smooth, none_count, smooth_same, smooth_still, moves_none, smooth_about}
 use Rattle.dm_movelaws.proofs.Stages.Spares.{restart_late}
 use Rattle.dm_movelaws.proofs.Leading.{line_fits, Saying, net_says, net_lead}
-
-pub head_smooth : (p : Pid) (v : View) (s : Step) → Smooth p v (after_head v s)
-head_smooth p v s = grind (arith, nat_tests, smooth_still, turn_off, tick_off, deliver_off, migrate_off)
 
 -- a message is taken: it comes from the stream to the inbox
 abbrev one_taken : Pair → ℕ → Pair
@@ -29,9 +26,6 @@ none_taken : (p : Pair) (n : ℕ) → slice_get p.ids p.taken ≡ None → untak
 none_taken p n is =
     let k = past_place p.ids p.taken is in
     grind (arith, nat_tests)
-
-none_off : (v : View) (a b n : ℕ) (z : Spot) → untaken (one_taken (v.pair a b) n) ≡ untaken (v.pair a b) → ids_at (taken_view v a b n) z ≡ ids_at v z
-none_off v a b n z same = grind (arith, nat_tests, pair_keeps)
 
 inbox_back : (v : View) (a b n : ℕ) (i j : MsgId) (m : ℕ) → untaken (v.pair a b) ≡ i ∷ untaken (one_taken (v.pair a b) n) → 1 ≤ times j (at_machine v.inbox b (v.inbox b ++ i ∷ []) m) → Somewhere v j
 inbox_back v a b n i j m front st = elim (cases_Bool (b == m)) [
@@ -83,7 +77,7 @@ taken_on v a b n i j front (Untaken c d) st = elim (cases_Bool ((a == c) && (b =
 ]
 
 taken_by : (p : Pid) (v : View) (a b n : ℕ) (o : Option MsgId) → slice_get (v.pair a b).ids (v.pair a b).taken ≡ o → Smooth p v (taken_id (taken_view v a b n) b o)
-taken_by p v a b n None is = smooth_still p v (taken_view v a b n) (λ i. refl) (λ i z. ap (times i) (none_off v a b n z (none_taken (v.pair a b) n is)))
+taken_by p v a b n None is = smooth_still p v (taken_view v a b n) (λ i. refl) (λ i z. ap (times i) (let e_ : ids_at (taken_view v a b n) z ≡ ids_at v z = grind (arith, nat_tests, pair_keeps, none_taken (v.pair a b) n is) in e_))
 taken_by p v a b n (Some i) is =
     let front : untaken (v.pair a b) ≡ i ∷ untaken (one_taken (v.pair a b) n) = grind (arith, nat_tests, at_place) in
     record { kept = λ j t e. e; fresh = λ j t e c. e; on = λ j t e c s. taken_on v a b n i j front s.0 s.1; back = λ j t e c s. taken_back v a b n i j front s.0 s.1 }
@@ -111,26 +105,14 @@ net_level p ps pt w net is = net_lead (λ q. Level p pt.view q.view) (level_pack
     ps pt w net is (record { smooth = smooth_same p pt.view; still = λ m. refl })
 
 -- and their lines are no directives and end no request
-abbrev Neither : (f : Line → Bool) → Type 0
+abbrev pub Neither : (f : Line → Bool) → Type 0
 Neither f = (l : Line) → IsNetLine l → f l ≡ false
 
 abbrev NetPart : Part → Type 0
 NetPart = Saying IsNetLine
 
-net_none : (f : Line → Bool) → Neither f → (ps : List Part) → IsNet ps → part_count f ps ≡ 0
+pub net_none : (f : Line → Bool) → Neither f → (ps : List Part) → IsNet ps → part_count f ps ≡ 0
 net_none f n ps h = none_count f NetPart n ps (net_says IsNetLine (λ l net. net) ps h)
-
-net_line_asks : (p : Pid) → Neither (asks p)
-net_line_asks p l h = grind (arith, nat_tests)
-
-net_line_ends : (g : MsgId → Option Told) (p : Pid) → Neither (ends g p)
-net_line_ends g p l h = grind (arith, nat_tests)
-
-pub net_asks : (p : Pid) (ps : List Part) → IsNet ps → part_count (asks p) ps ≡ 0
-net_asks p ps h = net_none (asks p) (net_line_asks p) ps h
-
-pub net_ends : (g : MsgId → Option Told) (p : Pid) (ps : List Part) → IsNet ps → part_count (ends g p) ps ≡ 0
-net_ends g p ps h = net_none (ends g p) (net_line_ends g p) ps h
 
 -- The requests to move a process that are under way, listed.
 
@@ -146,17 +128,14 @@ pub record Opens (p : Pid) (v : View) (ids : List MsgId) : Type 0 where
   pub each : (i : MsgId) → 1 ≤ times i ids → IsOpen p v i
   pub all : (i : MsgId) → IsOpen p v i → times i ids ≡ 1
 
--- none comes and none goes
-smooth_on : (p : Pid) (v w : View) (i : MsgId) → Smooth p v w → IsOpen p v i → IsOpen p w i
-smooth_on p v w i c h = record { told = h.told; is = c.kept i h.told h.is; asks = h.asks; stands = c.on i h.told h.is h.asks h.stands }
-
-smooth_back : (p : Pid) (v w : View) (i : MsgId) → Smooth p v w → IsOpen p w i → IsOpen p v i
-smooth_back p v w i c h =
-    let was = c.fresh i h.told h.is h.asks in
-    record { told = h.told; is = was; asks = h.asks; stands = c.back i h.told was h.asks h.stands }
-
 pub smooth_opens : (p : Pid) (v w : View) (ids : List MsgId) → Smooth p v w → Opens p v ids → Opens p w ids
-smooth_opens p v w ids c h = record { each = λ i least. smooth_on p v w i c (h.each i least); all = λ i is. h.all i (smooth_back p v w i c is) }
+smooth_opens p v w ids c h =
+    -- none comes and none goes
+    let smooth_on : (p : Pid) (v w : View) (i : MsgId) → Smooth p v w → IsOpen p v i → IsOpen p w i = λ p v w i c h. record { told = h.told; is = c.kept i h.told h.is; asks = h.asks; stands = c.on i h.told h.is h.asks h.stands } in
+    let smooth_back : (p : Pid) (v w : View) (i : MsgId) → Smooth p v w → IsOpen p w i → IsOpen p v i = λ p v w i c h.
+      let was = c.fresh i h.told h.is h.asks in
+      record { told = h.told; is = was; asks = h.asks; stands = c.back i h.told was h.asks h.stands } in
+    record { each = λ i least. smooth_on p v w i c (h.each i least); all = λ i is. h.all i (smooth_back p v w i c is) }
 
 -- one goes
 pub record Closes (p : Pid) (v w : View) (i : MsgId) : Type 0 where
@@ -221,9 +200,6 @@ pub record Adds (p : Pid) (v w : View) (i : MsgId) : Type 0 where
 adds_on : (p : Pid) (v w : View) (i j : MsgId) → Adds p v w i → id_eq i j ≡ false → IsOpen p v j → IsOpen p w j
 adds_on p v w i j c apart h = record { told = h.told; is = c.told j apart ∙ h.is; asks = h.asks; stands = stands_as v w j (c.spots j apart) h.stands }
 
-adds_back : (p : Pid) (v w : View) (i j : MsgId) → Adds p v w i → id_eq i j ≡ false → IsOpen p w j → IsOpen p v j
-adds_back p v w i j c apart h = record { told = h.told; is = sym (c.told j apart) ∙ h.is; asks = h.asks; stands = stands_was v w j (c.spots j apart) h.stands }
-
 pub add_opens : (p : Pid) (v w : View) (ids : List MsgId) (i : MsgId) → Adds p v w i → Opens p v ids → Opens p w (i ∷ ids)
 add_opens p v w ids i c h = record {
   each = λ j some. grind (arith, nat_tests, id_eq-is, off_zero, adds_on);
@@ -234,7 +210,7 @@ add_opens p v w ids i c h = record {
         subst (λ (x : MsgId). times x (i ∷ ids) ≡ 1) (id_eq-is i j same) (omega (arith, self, zero_))
     | inr apart ↦
         let none = off_zero i j apart in
-        let was : times j ids ≡ 1 = h.all j (adds_back p v w i j c apart now) in
+        let was : times j ids ≡ 1 = h.all j (record { told = now.told; is = sym (c.told j apart) ∙ now.is; asks = now.asks; stands = stands_was v w j (c.spots j apart) now.stands }) in
         omega (arith, none, was)
   ];
 }
@@ -266,12 +242,6 @@ some_waits k s d o f false e apart h = (s, (let e_ : is_moving (f s) ≡ true = 
 pub away_rests : (x : Known) → is_away x ≡ true → is_moving x ≡ false
 away_rests x e = grind (arith, nat_tests)
 
-pub at_rests : (c : Bool) (x : Known) → (if c then is_here x else is_away x) ≡ true → is_moving x ≡ false
-at_rests c x e = grind (arith, nat_tests, away_rests)
-
-pub at_over : (c : Bool) (x : Known) → (if c then is_over x else is_away x) ≡ true → is_moving x ≡ false
-at_over c x e = grind (arith, nat_tests, away_rests)
-
 -- a phase, and who waits
 pub record Waiting (v : View) (p : Pid) (n : ℕ) : Type 0 where
   pub one : n ≡ 1
@@ -284,8 +254,8 @@ pub record Resting (v : View) (p : Pid) (n : ℕ) : Type 0 where
 
 pub waits_or : (v : View) (p : Pid) (x : Phase) → IsIn v p x → Waiting v p (moving_in x) ⊎ Resting v p (moving_in x)
 waits_or v p Nowhere h = inr (record { none = refl; rests = λ m. (let e_ : is_moving (v.known m p) ≡ false = grind (arith, nat_tests, (h.known m)) in e_) })
-waits_or v p (Rests at) h = inr (record { none = refl; rests = λ m. at_rests (at == m) (v.known m p) (h.known m) })
-waits_or v p (Over at) h = inr (record { none = refl; rests = λ m. at_over (at == m) (v.known m p) (h.known m) })
+waits_or v p (Rests at) h = inr (record { none = refl; rests = λ m. (let e_ : is_moving (v.known m p) ≡ false = grind (arith, nat_tests, away_rests, h.known m) in e_) })
+waits_or v p (Over at) h = inr (record { none = refl; rests = λ m. (let e_ : is_moving (v.known m p) ≡ false = grind (arith, nat_tests, away_rests, h.known m) in e_) })
 waits_or v p (Moves k s d o) h =
     let (m, waits) = some_waits k s d o (λ n. v.known n p) (is_restart k) refl h.apart h.known in
     inl (record { one = refl; machine = m; waits = waits })
@@ -351,9 +321,6 @@ line_then p pt l ps w none quiet calm sane fits q walks e =
     let same : next.view ≡ view_after pt.view l = seen_none pt.kernel pt.view l none in
     let there = settled_same p next (sane_line pt next l quiet leads sane) (line_fits pt pt.kernel l calm fits) in
     subst (λ (v : View). Settled p v w.point) same (subst (λ (x : Point). Settled p next.view x) n.point (parts_settle p ps next.view next n.rest (subst (λ (v : View). AllQuiet p v ps) (sym same) q) walks there n.more))
-
-pub line_alone : (pt : Point) (l : Line) (w : Spelled) → label_of l ≡ None → spelled pt (Says l ∷ []) ≡ Some w → moved pt l pt.kernel ≡ w.point
-line_alone pt l w none e = let n = line_next pt l [] w none e in said (moved pt l pt.kernel) n.rest n.more ∙ n.point
 
 pub due_moves : (p q : Pid) (pt : Point) (i : MsgId) (is : List MsgId) (t : Told) (h : Turn pt i is t) → is_between t.kind ≡ true → t.about ≡ Of q → pid_eq p q ≡ true → moving_in (h.phases.of p) ≡ 1
 due_moves p q pt i is t h b about same =

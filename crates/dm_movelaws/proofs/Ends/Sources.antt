@@ -6,7 +6,7 @@ use Rattle.dm_movelaws.proofs.Names.{Queue, Held, Inbox, Untaken, times, ids_at,
 use Rattle.dm_movelaws.proofs.Names.{part_sane, pid_eq-is, last_there, fewer_record}
 pub use Rattle.dm_rule.proofs.Moves.States.{again_told}
 use Rattle.dm_rule.specs.View as view
-use Rattle.dm_movelaws.proofs.Ends.Parts.{first_kept, Extends, told_by, packet_smooth, part_count, asks_for, Somewhere, Smooth, Plain, smooth_trans, smooth_still, smooth_others, stands_as, stands_was, other_than as other_front}
+use Rattle.dm_movelaws.proofs.Ends.Parts.{first_kept, Extends, told_by, packet_smooth, part_count, asks_for, Somewhere, Smooth, Plain, smooth_trans, smooth_still, stands_as, stands_was, other_than as other_front}
 use Rattle.dm_movelaws.proofs.Leading.{All, Behind, whatever_put, parts_lead, Saying, outcome_says, next_of, part_leads}
 use Rattle.dm_movelaws.proofs.Ends.Open.{front_one, first_spots, zero_cases}
 
@@ -38,15 +38,6 @@ pub record Acts (n : ℕ) (f : MsgId → Option Told) (v : View) : Type 0 where
 line_acts : (n : ℕ) (f : MsgId → Option Told) (v : View) (l : Line) → is_head l ≡ false → is_put l ≡ false → Acts n f v → Acts n f (view_after v l)
 line_acts n f v l head quiet h = grind (arith, nat_tests, line_ids, told_by)
 
-other_source : (a c n : ℕ) → a < n → n ≤ c → (a == c) ≡ false
-other_source a c n less le = grind (arith, nat_tests, eq_is)
-
-put_grows : (v : View) (a b : ℕ) (i : MsgId) (k : MessageKind) (q : Pid) → Extends v.told (after_put v a b i k q).told
-put_grows v a b i k q j t e = grind (arith, nat_tests, id_eq-is, put_at, first_kept, put_told_off)
-
-put_acts : (n : ℕ) (f : MsgId → Option Told) (v : View) (b : ℕ) (i : MsgId) (k : MessageKind) (q : Pid) → Acts n f v → Acts n f (after_put v v.acting b i k q)
-put_acts n f v b i k q h = grind (arith, nat_tests, other_source, put_grows)
-
 -- parts
 abbrev IsSaid : Line → Type 0
 IsSaid l = (is_head l ≡ false) × (is_put l ≡ false)
@@ -54,28 +45,24 @@ IsSaid l = (is_head l ≡ false) × (is_put l ≡ false)
 abbrev Goes : Part → Type 0
 Goes = Saying IsSaid
 
-acts_about : (n : ℕ) (f : MsgId → Option Told) (v : View) (a : About) → Acts n f v → Acts n f (view.about v a)
-acts_about n f v a h = record { acting = h.acting; sources = h.sources; grows = h.grows }
-
 acts_behind : (n : ℕ) (f : MsgId → Option Told) (pt : Point) (p : Part) → Goes p → Acts n f pt.view → Behind (λ q. Acts n f q.view) pt p
 acts_behind n f pt p ok h =
+    let put_acts : (n : ℕ) (f : MsgId → Option Told) (v : View) (b : ℕ) (i : MsgId) (k : MessageKind) (q : Pid) → Acts n f v → Acts n f (after_put v v.acting b i k q) = λ n f v b i k q h.
+      let put_grows : (v : View) (a b : ℕ) (i : MsgId) (k : MessageKind) (q : Pid) → Extends v.told (after_put v a b i k q).told = λ v a b i k q j t e. grind (arith, nat_tests, id_eq-is, put_at, first_kept, put_told_off) in
+      let other_source : (a c n : ℕ) → a < n → n ≤ c → (a == c) ≡ false = λ a c n less le. grind (arith, nat_tests, eq_is) in grind (arith, nat_tests, other_source, put_grows) in
+    let acts_about : (n : ℕ) (f : MsgId → Option Told) (v : View) (a : About) → Acts n f v → Acts n f (view.about v a) = λ n f v a h. record { acting = h.acting; sources = h.sources; grows = h.grows } in
     whatever_put (λ q. Acts n f q.view) pt p (λ l is s step. let k = subst Goes is ok in acts_about n f (view_after pt.view l) (moved pt l s).view.topic (line_acts n f pt.view l k.0 k.1 h)) (λ b i k q. put_acts n f pt.view b i k q h) h
-
-parts_act : (n : ℕ) (f : MsgId → Option Told) (ps : List Part) (pt : Point) (w : Spelled) → All Goes ps → spelled pt ps ≡ Some w → Acts n f pt.view → Acts n f w.point.view
-parts_act n f = parts_lead (λ q. Acts n f q.view) (λ q a b k l h. line_acts n f q.view (Line.Packet a b k l) refl refl h) Goes (acts_behind n f)
-
--- what the parts of a group are
-fit_goes : (l : Line) → touches l ≡ false → (is_head l ≡ false) × (is_put l ≡ false)
-fit_goes l e = grind (arith, nat_tests)
-
-net_goes : (l : Line) → IsNetLine l → (is_head l ≡ false) × (is_put l ≡ false)
-net_goes l e = grind (arith, nat_tests)
 
 -- each group
 pub group_acts : (n : ℕ) (b : Boot) (pt : Point) (d : Step) (w : Spelled) → IsStep n d → group_of b pt d ≡ Some w → Sources n pt.view → Acts n pt.view.told w.point.view
 group_acts n b pt d w fit e h =
+    -- what the parts of a group are
+    let net_goes : (l : Line) → IsNetLine l → (is_head l ≡ false) × (is_put l ≡ false) = λ l e. grind (arith, nat_tests) in
+    let fit_goes : (l : Line) → touches l ≡ false → (is_head l ≡ false) × (is_put l ≡ false) = λ l e. grind (arith, nat_tests) in
     let g = group_is b pt d w e in
     let start : Acts n pt.view.told (begun pt d).view = record { acting = grind (arith, nat_tests); sources = λ x y le. head_ids pt.view d x y ∙ h x y le; grows = λ i t told. told_by pt.view (Line.Head d) refl i ∙ told } in
+    let parts_act : (n : ℕ) (f : MsgId → Option Told) (ps : List Part) (pt : Point) (w : Spelled) → All Goes ps → spelled pt ps ≡ Some w → Acts n f pt.view → Acts n f w.point.view =
+      λ n f. parts_lead (λ q. Acts n f q.view) (λ q a b k l h. line_acts n f q.view (Line.Packet a b k l) refl refl h) Goes (acts_behind n f) in
     subst (λ (q : Point). Acts n pt.view.told q.view) g.point (parts_act n pt.view.told g.parts (begun pt d) g.rest (outcome_says IsSaid fit_goes net_goes b pt d g.parts g.is) g.said start)
 
 -- Messages that go on, those that are held, and those that come back from a held list: all stand somewhere again.
@@ -115,12 +102,6 @@ pub record Sending (p : Pid) (v : View) (js : List MsgId) (w : View) : Type 0 wh
   pub fits : PairsFit w
   pub acting : w.acting ≡ v.acting
 
-pub sending_packet : (p : Pid) (v : View) (js : List MsgId) → PacketsKeep (λ q. Sending p v js q.view)
-sending_packet p v js q a b k l h = grind (arith, nat_tests, packet_smooth, fits_packet)
-
-one_apart : (i j : MsgId) → id_eq i j ≡ false → one_of i j ≡ 0
-one_apart i j e = ap (λ (c : Bool). if c then 1 else 0) e
-
 pub sending_put : (p : Pid) (v : View) (j : MsgId) (js : List MsgId) (w : View) (b : ℕ) (u : Told) → w.told j ≡ Some u → Sending p v (j ∷ js) w → Sending p v js (after_put w w.acting b j u.kind u.receiver)
 sending_put p v j js w b u told h =
     let n = after_put w w.acting b j u.kind u.receiver in
@@ -134,7 +115,7 @@ sending_put p v j js w b u told h =
         | inl is ↦ inl (subst (λ (x : MsgId). Somewhere n x) (sym (id_eq-is i j is)) there)
         | inr apart ↦ elim (h.on i t e c st) [
           | inl x ↦ grind (arith, nat_tests, id_eq-is, stands_as)
-          | inr x ↦ let none = one_apart i j apart in inr (omega (arith, x, none))
+          | inr x ↦ let none : one_of i j ≡ 0 = ap (λ (c : Bool). if c then 1 else 0) apart in inr (omega (arith, x, none))
         ]
       ];
       back = λ i t e c st. elim (cases_Bool (id_eq j i)) [
@@ -162,13 +143,11 @@ pub record Sent (p : Pid) (v : View) (ps : List Part) (w : Spelled) : Type 0 whe
 pub all_sent : (p : Pid) (v : View) (js : List MsgId) (b : ℕ) (ps : List Part) (pt : Point) (w : Spelled) → Sending p v js pt.view → Sane pt → spelled pt (sends_on b js ++ ps) ≡ Some w → Sent p v ps w
 all_sent p v [] b ps pt w h sane e = record { next = pt; sending = h; sane = sane; rest = w; more = e; point = refl }
 all_sent p v (j ∷ js) b ps pt w h sane e =
+    let sending_packet : (p : Pid) (v : View) (js : List MsgId) → PacketsKeep (λ q. Sending p v js q.view) = λ p v js q a b k l h. grind (arith, nat_tests, packet_smooth, fits_packet) in
     let n = next_of pt (Again j b) (sends_on b js ++ ps) w e in
     let step = part_leads (λ (q : Point). Sending p v js q.view) (sending_packet p v js) pt n.next (Again j b) (λ t there. sending_put p v j js pt.view b t there h) n.steps in
     let r = all_sent p v js b ps n.next n.rest step (part_sane pt n.next (Again j b) n.steps.lines tt n.steps.are n.steps.leads sane) n.more in
     record { next = r.next; sending = r.sending; sane = r.sane; rest = r.rest; more = r.more; point = ◌∙◌ {a = r.rest.point} r.point n.point }
-
-pub sent_smooth : (p : Pid) (v w : View) → Sending p v [] w → Smooth p v w
-sent_smooth p v w h = grind (arith, nat_tests)
 
 pub sends_count : (f : Line → Bool) (b : ℕ) (js : List MsgId) (ps : List Part) → part_count f (sends_on b js ++ ps) ≡ part_count f ps
 sends_count f b [] ps = refl
@@ -259,16 +238,9 @@ released_back v q i (Inbox m) st = elim (cases_Bool (v.acting == m)) [
 ]
 released_back v q i (Untaken a b) st = (Untaken a b, st)
 
-pub released_smooth : (p : Pid) (v : View) (q : Pid) → Smooth p v (released v q)
-released_smooth p v q = record { kept = λ i t e. e; fresh = λ i t e a. e; on = λ i t e a s. released_on v q i s.0 s.1; back = λ i t e a s. released_back v q i s.0 s.1 }
-
-pub handled_smooth : (p : Pid) (v : View) (i : MsgId) (is : List MsgId) → v.inbox v.acting ≡ i ∷ is → Plain p v i → Smooth p v (handled_first v)
-handled_smooth p v i is front plain = smooth_others p v (handled_first v) i plain plain (λ t e. e) (record { told = λ j a. refl; spots = first_spots v (handled_first v) i is front (λ z. refl) })
-
-here_off : (v : View) (q : Pid) (ring : List Pid) (z : Spot) → ids_at (with_ring (knowing v q Here) ring) z ≡ ids_at v z
-here_off v q ring z = grind (arith, nat_tests)
-
 pub rejoins_smooth : (p : Pid) (v : View) (q : Pid) → Smooth p v (view.rejoins v q)
 rejoins_smooth p v q =
+    let here_off : (v : View) (q : Pid) (ring : List Pid) (z : Spot) → ids_at (with_ring (knowing v q Here) ring) z ≡ ids_at v z = λ v q ring z. grind (arith, nat_tests) in
     let u = with_ring (knowing v q Here) (v.ring v.acting ++ q ∷ []) in
-    smooth_trans p v u (released u q) (smooth_still p v u (λ i. refl) (λ i z. ap (times i) (here_off v q (v.ring v.acting ++ q ∷ []) z))) (released_smooth p u q)
+    let released_smooth : Smooth p u (released u q) = record { kept = λ i t e. e; fresh = λ i t e a. e; on = λ i t e a s. released_on u q i s.0 s.1; back = λ i t e a s. released_back u q i s.0 s.1 } in
+    smooth_trans p v u (released u q) (smooth_still p v u (λ i. refl) (λ i z. ap (times i) (here_off v q (v.ring v.acting ++ q ∷ []) z))) released_smooth

@@ -18,12 +18,6 @@ made_on b (d ∷ es) pt end q r e (w, fit, is, rest) h there =
 
 -- what a machine forwards for is a process that was made
 
-forwarded_made : (s : OneKernel) (v : View) (m : ℕ) (q : Pid) (to moves : ℕ) → KnownStands s v → v.known m q ≡ Forward to moves → (is_server q ≡ false) × (is_some (s.processes q) ≡ true)
-forwarded_made s v m q to moves h known = grind (arith, nat_tests)
-
-forwarded_some : (v : View) (m : ℕ) (q : Pid) (to moves : ℕ) → v.known m q ≡ Forward to moves → v.known m q ≢ Unknown
-forwarded_some v m q to moves known e = let f : Forward to moves ≡ Unknown = sym known ∙ e in cc
-
 -- where all is at rest, a process is where the update tells, or has moved on
 record AtPlace (v : View) (q : Pid) (place : Place) : Type 0 where
   least : place.moves ≤ v.moves q
@@ -40,6 +34,9 @@ at_place pt t id p q place on rest told known =
 -- wherever the rule leads
 pub counts_promise : CountsPromise
 counts_promise b before between start pt d sent p q place valid comes forwards known goes quiet =
+    let forwarded_some : (v : View) (m : ℕ) (q : Pid) (to moves : ℕ) → v.known m q ≡ Forward to moves → v.known m q ≢ Unknown = λ v m q to moves known e. let f : Forward to moves ≡ Unknown = sym known ∙ e in cc in
+    let forwarded_made : (s : OneKernel) (v : View) (m : ℕ) (q : Pid) (to moves : ℕ) → KnownStands s v → v.known m q ≡ Forward to moves → (is_server q ≡ false) × (is_some (s.processes q) ≡ true) =
+      λ s v m q to moves h known. grind (arith, nat_tests) in
     let run = (run_always b before start valid comes).run in
     let t = forwards_tell b before start d sent p q place.at valid comes forwards in
     let moves : t.moves ≡ place.moves = cc (sym t.known ∙ known) in

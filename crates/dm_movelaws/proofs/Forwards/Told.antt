@@ -2,7 +2,7 @@
 use Rattle.dm_movelaws.proofs.Names.{◌≡◌, ℕ, Bool, true, List, [], ◌∷◌, ◌++◌, refl, ap, ◌∙◌, sym, subst, if◌then◌else◌, None, Some, Pid, Place, MsgId, MessageKind, plain_kind, PlainMessage, Boot, manager, Step, Line, Sender, is_told_back}
 use Rattle.dm_movelaws.proofs.Names.{Part, Says, Again, Owns, Spelled, lines_of, spelled, Point, View, Told, About, Forward, own_id, actor, fits, fits_put, fits_packet, pair_same, put_at, fits_as, PairsFit, Sane, part_sane, Steps, begun}
 use Rattle.dm_movelaws.proofs.Names.{begun_sane, said_by, again_rides, again_same, own_fresh, front, Run, Tells, ForwardsTell, RequestsTell, update_of, IsUnderWay, run_always, last_point, first_none, forwarded_own, GroupIs, group_is}
-use Rattle.dm_movelaws.proofs.Names.{by_parts, Addresses, forwards_on, sends_on, IsNetLine, by_migrates, Loose, loose_round, loose_handles, by_forwards, by_net, by_outcome, by_hears, nat_tests, arith}
+use Rattle.dm_movelaws.proofs.Names.{by_parts, Addresses, forwards_on, sends_on, by_migrates, Loose, loose_round, loose_handles, by_forwards, by_net, by_outcome, by_hears, nat_tests, arith}
 use Rattle.dm_rule.specs.View as view
 use Rattle.dm_rule.specs.Rule as rule
 use Rattle.dm_movelaws.proofs.Leading.{next_of, puts_lead, lines_are}
@@ -32,10 +32,6 @@ quiet_loose = record { none = refl; label = λ l ps h. h; routes = λ i ps h. h 
 sends_none : (to : ℕ) (ids : List MsgId) (ps : List Part) → forwards_of (sends_on to ids ++ ps) ≡ forwards_of ps
 sends_none to [] ps = refl
 sends_none to (i ∷ is) ps = sends_none to is ps
-
--- the other directives
-net_none : (l : Line) (fs : List Onward) → IsNetLine l → with_forward l fs ≡ fs
-net_none l fs h = grind (arith, nat_tests)
 
 -- a message goes on, and its sender may be told
 pub goes_on : (a : Addresses) (id : MsgId) (k : MessageKind) (sender : Pid) (to : ℕ) → forwards_of (forwards_on a id k sender to) ≡ (id, to) ∷ []
@@ -94,13 +90,14 @@ hears_form b o m id ps none = by_hears (Form o (Step.Turn m)) b o m id (o.view.t
   frozen = λ to at_. Nothing refl;
 })
 
+-- the other directives
 pub outcome_form : (b : Boot) (o : Point) (d : Step) (ps : List Part) → rule.outcome b o d ≡ Some ps → Form o d ps
 outcome_form b o d ps = by_outcome (Form o) b o d ps (record {
   round = λ m xs box e. round_form b o m xs e;
   handles = λ m i is msg xs box there e. handles_form b o m i is msg xs box there e;
   hears = λ m i is xs box none e. hears_form b o m i xs none e;
-  ticks = λ m xs net. Nothing ((by_net (λ ps. forwards_of ps ≡ []) refl (λ l ps net h. net_none l (forwards_of ps) net ∙ h) (λ a b l ps h. h)) xs net);
-  delivers = λ a c k xs net. Nothing ((by_net (λ ps. forwards_of ps ≡ []) refl (λ l ps net h. net_none l (forwards_of ps) net ∙ h) (λ a b l ps h. h)) xs net);
+  ticks = λ m xs net. Nothing ((by_net (λ ps. forwards_of ps ≡ []) refl (λ l ps net h. (let e_ : with_forward l (forwards_of ps) ≡ (forwards_of ps) = grind (arith, nat_tests) in e_) ∙ h) (λ a b l ps h. h)) xs net);
+  delivers = λ a c k xs net. Nothing ((by_net (λ ps. forwards_of ps ≡ []) refl (λ l ps net h. (let e_ : with_forward l (forwards_of ps) ≡ (forwards_of ps) = grind (arith, nat_tests) in e_) ∙ h) (λ a b l ps h. h)) xs net);
   asks = λ p m. Nothing (by_migrates (λ (ps : List Part). forwards_of ps ≡ []) o p refl refl (λ n off is. refl));
 })
 
@@ -116,12 +113,11 @@ sent_append : (xs ys : List Line) → sent_on (xs ++ ys) ≡ sent_on xs ++ sent_
 sent_append [] ys = refl
 sent_append (x ∷ xs) ys = ap (with_forward x) (sent_append xs ys) ∙ with_append x (sent_on xs) (sent_on ys)
 
--- those of a group's lines are those of its parts
-part_sends : (pt : Point) (p : Part) (ls : List Line) (fs : List Onward) → lines_of pt p ≡ Some ls → sent_on ls ++ fs ≡ part_forwards p fs
-part_sends pt p ls fs is = grind (arith, nat_tests, lines_are, with_append)
-
 parts_send : (ps : List Part) (pt : Point) (w : Spelled) → spelled pt ps ≡ Some w → sent_on w.lines ≡ forwards_of ps
-parts_send = by_parts (λ ps pt w. sent_on w.lines ≡ forwards_of ps) (λ pt. refl) (λ p ps pt next ls z lines leads rest. sent_append ls z.lines ∙ ap (λ (fs : List Onward). sent_on ls ++ fs) rest ∙ part_sends pt p ls (forwards_of ps) lines)
+parts_send =
+    -- those of a group's lines are those of its parts
+    let part_sends : (pt : Point) (p : Part) (ls : List Line) (fs : List Onward) → lines_of pt p ≡ Some ls → sent_on ls ++ fs ≡ part_forwards p fs = λ pt p ls fs is. grind (arith, nat_tests, lines_are, with_append) in
+    by_parts (λ ps pt w. sent_on w.lines ≡ forwards_of ps) (λ pt. refl) (λ p ps pt next ls z lines leads rest. sent_append ls z.lines ∙ ap (λ (fs : List Onward). sent_on ls ++ fs) rest ∙ part_sends pt p ls (forwards_of ps) lines)
 
 -- the only one of a list
 none_there : (xs ys : List Onward) (f : Onward) → xs ++ f ∷ ys ≡ [] → ⊥
@@ -233,15 +229,11 @@ tells pt w id sender place back t q sane fit told receiver known is =
     let to : Point → Type 0 = λ x. New pt.view x.view sender q place in
     subst to n.point (subst to k.point (subst to z.point (subst to (last_point z.next z.rest z.more) new)))
 
--- it goes on, and its sender is told
-told_parts : (o : Point) (d : Step) (ps : List Part) (h : GoesOn o d ps) → is_told_back (plain_kind h.message.what) ≡ true
-    → ps ≡ Says (Line.Forwarded h.id h.to) ∷ Again h.id h.to ∷ Owns MessageKind.Update h.message.sender (o.addresses (Sender h.id)).at ∷ []
-told_parts o d ps h back = search
-
 -- where the group begins
 turn_fits : (v : View) (m : ℕ) → PairsFit v → PairsFit (view.after_head v (Step.Turn m))
 turn_fits v m h = record { within = h.within; home = h.home }
 
+-- it goes on, and its sender is told
 sent_tells : (b : Boot) (o : Point) (d : Step) (w : Spelled) (g : GroupIs b o d w) (h : GoesOn o d g.parts) → Run b o → is_told_back (plain_kind h.message.what) ≡ true → Tells d o w.point h.message.sender h.message.to h.to
 sent_tells b o d w g h run back =
     let p = h.message.sender in
@@ -253,7 +245,7 @@ sent_tells b o d w g h run back =
     let known : (begun o d).view.known (begun o d).view.acting q ≡ Forward h.to h.moves = ap (λ (v : View). v.known v.acting q) begins ∙ h.known in
     let told : (begun o d).view.told h.id ≡ Some f.told = ap (λ (v : View). v.told h.id) begins ∙ f.told_is in
     let fit : PairsFit (begun o d).view = subst PairsFit (sym begins) (turn_fits o.view h.machine (fits o.view run.based.phased.pairs)) in
-    let said = sym (ap (spelled (begun o d)) (told_parts o d g.parts h back)) ∙ g.said in
+    let said = sym (ap (spelled (begun o d)) (let e_ : g.parts ≡ Says (Line.Forwarded h.id h.to) ∷ Again h.id h.to ∷ Owns MessageKind.Update h.message.sender (o.addresses (Sender h.id)).at ∷ [] = search in e_)) ∙ g.said in
     let t = tells (begun o d) g.rest h.id p place (o.addresses (Sender h.id)).at f.told q (begun_sane o d sane) fit told (sane.tells.receiver h.id h.message f.told h.there f.told_is) known said in
     record {
       turn = h.acts ∙ ap (λ (e : Step). Step.Turn (actor e)) (sym h.acts);
@@ -282,9 +274,6 @@ forwards_tell b es pt d w p q to valid leads f =
     (subst (λ (r : Pid). Tells d pt w.point h.message.sender r h.to) receiver t))
 
 -- a request to move goes on, and the manager is told
-own_parts : (o : Point) (d : Step) (ps : List Part) (h : GoesOnOwn o d ps) → is_told_back h.told.kind ≡ true → ps ≡ Says (Line.Forwarded h.id h.to) ∷ Again h.id h.to ∷ Owns MessageKind.Update manager (o.addresses (Sender h.id)).at ∷ []
-own_parts o d ps h back = h.are ∙ ap (λ (c : Bool). Says (Line.Forwarded h.id h.to) ∷ Again h.id h.to ∷ (if c then Owns MessageKind.Update manager (o.addresses (Sender h.id)).at ∷ [] else [])) back
-
 own_tells : (b : Boot) (o : Point) (d : Step) (w : Spelled) (g : GroupIs b o d w) (h : GoesOnOwn o d g.parts) → Run b o → is_told_back h.told.kind ≡ true → Tells d o w.point manager h.told.receiver h.to
 own_tells b o d w g h run back =
     let q = h.told.receiver in
@@ -294,7 +283,7 @@ own_tells b o d w g h run back =
     let known : (begun o d).view.known (begun o d).view.acting q ≡ Forward h.to h.moves = ap (λ (v : View). v.known v.acting q) begins ∙ h.known in
     let told : (begun o d).view.told h.id ≡ Some h.told = ap (λ (v : View). v.told h.id) begins ∙ h.told_is in
     let fit : PairsFit (begun o d).view = subst PairsFit (sym begins) (turn_fits o.view h.machine (fits o.view run.based.phased.pairs)) in
-    let said = sym (ap (spelled (begun o d)) (own_parts o d g.parts h back)) ∙ g.said in
+    let said = sym (ap (spelled (begun o d)) (h.are ∙ ap (λ (c : Bool). Says (Line.Forwarded h.id h.to) ∷ Again h.id h.to ∷ (if c then Owns MessageKind.Update manager (o.addresses (Sender h.id)).at ∷ [] else [])) back)) ∙ g.said in
     let t = tells (begun o d) g.rest h.id manager place (o.addresses (Sender h.id)).at h.told q (begun_sane o d sane) fit told refl known said in
     record {
       turn = h.acts ∙ ap (λ (e : Step). Step.Turn (actor e)) (sym h.acts);

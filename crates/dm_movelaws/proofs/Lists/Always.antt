@@ -26,9 +26,6 @@ net_ok : (ok : MsgId → Type 0) (l : Line) → IsNetLine l → LineOk ok l
 net_ok ok (Line.Queued i) h = absurd h
 net_ok ok _ h = tt
 
-pub nets_ok : (ok : MsgId → Type 0) (ps : List Part) → IsNet ps → AllOk ok ps
-nets_ok ok = net_says (LineOk ok) (net_ok ok)
-
 -- a message that was told of is for no server
 pub record ForProcess (v : View) (i : MsgId) : Type 0 where
   pub what : Told
@@ -48,9 +45,6 @@ set_queue before v w q xs told queue new h = record {
   told = λ i t e. ap (λ (f : MsgId → Option Told). f i) told ∙ h.told i t e;
   none = λ m p e. ap (λ (f : ℕ → Pid → List MsgId). f m p) queue ∙ set_all (λ n r ys. is_server r ≡ true → ys ≡ []) v.queue v.acting q xs new (λ n r off. h.none n r) m p e;
 }
-
-taken_queue : (v : View) (b : ℕ) (o : Option MsgId) → (view.taken_id v b o).queue ≡ v.queue
-taken_queue v b o = grind (arith, nat_tests)
 
 stage_queue : (v : View) (p : Pid) (s : Stage) → (view.after_stage v p s).queue ≡ v.queue
 stage_queue v p Stage.Frozen = (sets v p v.topic).queue
@@ -76,7 +70,7 @@ line_queues before v (Line.Queued id) e h = search (arith, e.process, set_queue)
 line_queues before v (Line.Put a b id k q) e h = record { told = λ j t f. told_kept v a b id k q j t (h.told j t f); none = h.none }
 line_queues before v (Line.SentOn p k) e h = set_queue before v (view_after v (Line.SentOn p k)) p [] refl refl (λ f. refl) h
 line_queues before v (Line.Head d) e h = quiet_queues before v (Line.Head d) refl (grind (arith, nat_tests)) h
-line_queues before v (Line.Taken a b k) e h = search (quiet_queues, taken_queue)
+line_queues before v (Line.Taken a b k) e h = let taken_queue : (v : View) (b : ℕ) (o : Option MsgId) → (view.taken_id v b o).queue ≡ v.queue = λ v b o. grind (arith, nat_tests) in search (quiet_queues, taken_queue)
 line_queues before v (Line.Held id) e h = quiet_queues before v (Line.Held id) refl (grind (arith, nat_tests)) h
 line_queues before v (Line.Forwarded id m) e h = quiet_queues before v (Line.Forwarded id m) refl (grind (arith, nat_tests)) h
 line_queues before v (Line.Proto id) e h = quiet_queues before v (Line.Proto id) refl (grind (arith, nat_tests)) h
@@ -99,10 +93,6 @@ part_ok : (ok : MsgId → Type 0) (pt : Point) (p : Part) (ls : List Line) → P
 part_ok ok pt p ls h is = lines_are (LinesOk ok) pt p ls
     (record { says = λ l e. (subst (PartOk ok) e h, tt); put = λ none a b i k q. (tt, tt); goes = λ none a b n i k q l. (tt, (tt, tt)); packet = λ none a b n l. (tt, tt) }) is
 
-pub parts_queues : (before : View) (ps : List Part) (pt : Point) (w : Spelled) → AllOk (ForProcess before) ps → spelled pt ps ≡ Some w → NoQueues before pt.view → NoQueues before w.point.view
-parts_queues before qs q w ok is h = by_parts (λ ps pt v. AllOk (ForProcess before) ps → NoQueues before pt.view → NoQueues before v.point.view) (λ pt ok h. h)
-    (λ p ps pt next ls z lines leads rest ok h. rest ok.1 (lines_queues before ls pt next (part_ok (ForProcess before) pt p ls ok.0 lines) leads h)) qs q w is ok h
-
 ok_line : (ok : MsgId → Type 0) (l : Line) → IsHeardLine l → LineOk ok l
 ok_line ok (Line.Queued i) h = absurd h
 ok_line ok _ h = tt
@@ -110,32 +100,27 @@ ok_line ok _ h = tt
 ok_kept : (ok : MsgId → Type 0) → Kept (AllOk ok)
 ok_kept ok = record { none = tt; says = λ l ps h k. (ok_line ok l h, k); again = λ i to ps k. (tt, k); owns = λ k q to ps h. (tt, h); answers = λ i r. (tt, (tt, tt)) }
 
-pub hears_ok : (ok : MsgId → Type 0) (b : Boot) (pt : Point) (m : ℕ) (id : MsgId) (o : Option Told) (ps : List Part) → hears b pt m id o ≡ Some ps → AllOk ok ps
-hears_ok ok b pt m id o ps e = hears_kept (AllOk ok) (ok_kept ok) b pt m id o ps e
-
-pub migrates_ok : (ok : MsgId → Type 0) (pt : Point) (p : Pid) → AllOk ok (migrates pt p)
-migrates_ok ok pt p = by_migrates (AllOk ok) pt p (tt, tt) (tt, tt) (λ n off is. (tt, tt))
-
 ok_loose : (ok : MsgId → Type 0) → Loose (AllOk ok)
 ok_loose ok = record { none = tt; label = λ l ps h. (tt, h); routes = λ i ps h. (tt, h) }
 
-pub round_ok : (ok : MsgId → Type 0) (b : Boot) (pt : Point) (m : ℕ) (o : Option Pid) (ps : List Part) → goes_round b pt m o ≡ Some ps → AllOk ok ps
-round_ok ok b pt m o ps e = loose_round (AllOk ok) (ok_loose ok) b pt m o ps (tt, tt) e
-
-pub handles_ok : (ok : MsgId → Type 0) (b : Boot) (pt : Point) (m : ℕ) (id : MsgId) (msg : PlainMessage) (ps : List Part) → (is_server msg.to ≡ false → ok id) → handles b pt m id msg ≡ Some ps → AllOk ok ps
-handles_ok ok b pt m id msg ps need e =
-    loose_handles (AllOk ok) (AllOk ok) (ok_loose ok) (λ qs h. h) b pt m id msg ps (λ here. (need here.process, tt)) (tt, tt) (λ to here what apart. (tt, (tt, (tt, (tt, tt)))))
-    (λ to moves at_. kept_forward (AllOk ok) (ok_kept ok) pt.addresses id (plain_kind msg.what) msg.sender to) e
-
 -- Messages wait only where a machine has a list for them.
 
-front_process : (b : Boot) (pt : Point) (m : ℕ) (i : MsgId) (is : List MsgId) (msg : PlainMessage) → Run b pt → pt.view.inbox m ≡ i ∷ is → pt.kernel.bag i ≡ Some msg → is_server msg.to ≡ false → ForProcess pt.view i
-front_process b pt m i is msg h box there process =
-    let (t, told) = some_is (pt.view.told i) (h.found.told i (Inbox m) (grind (arith, nat_tests, id_eq-same))) in
-    record { what = t; told = told; process = ap is_server (h.based.phased.sane.tells.receiver i msg t there told) ∙ process }
-
 outcome_ok : (b : Boot) (pt : Point) (d : Step) (ps : List Part) → Run b pt → rule.outcome b pt d ≡ Some ps → AllOk (ForProcess pt.view) ps
-outcome_ok b pt d ps h is = by_outcome (λ x. AllOk (ForProcess pt.view)) b pt d ps (search (round_ok, handles_ok, front_process, hears_ok, nets_ok, migrates_ok)) is
+outcome_ok b pt d ps h is =
+    let front_process : (b : Boot) (pt : Point) (m : ℕ) (i : MsgId) (is : List MsgId) (msg : PlainMessage) → Run b pt → pt.view.inbox m ≡ i ∷ is → pt.kernel.bag i ≡ Some msg → is_server msg.to ≡ false → ForProcess pt.view i =
+      λ b pt m i is msg h box there process.
+      let (t, told) = some_is (pt.view.told i) (h.found.told i (Inbox m) (grind (arith, nat_tests, id_eq-same))) in
+      record { what = t; told = told; process = ap is_server (h.based.phased.sane.tells.receiver i msg t there told) ∙ process } in
+    let nets_ok : (ok : MsgId → Type 0) (ps : List Part) → IsNet ps → AllOk ok ps = λ ok. net_says (LineOk ok) (net_ok ok) in
+    let hears_ok : (ok : MsgId → Type 0) (b : Boot) (pt : Point) (m : ℕ) (id : MsgId) (o : Option Told) (ps : List Part) → hears b pt m id o ≡ Some ps → AllOk ok ps =
+      λ ok b pt m id o ps e. hears_kept (AllOk ok) (ok_kept ok) b pt m id o ps e in
+    let round_ok : (ok : MsgId → Type 0) (b : Boot) (pt : Point) (m : ℕ) (o : Option Pid) (ps : List Part) → goes_round b pt m o ≡ Some ps → AllOk ok ps = λ ok b pt m o ps e. loose_round (AllOk ok) (ok_loose ok) b pt m o ps (tt, tt) e in
+    let migrates_ok : (ok : MsgId → Type 0) (pt : Point) (p : Pid) → AllOk ok (migrates pt p) = λ ok pt p. by_migrates (AllOk ok) pt p (tt, tt) (tt, tt) (λ n off is. (tt, tt)) in
+    let handles_ok : (ok : MsgId → Type 0) (b : Boot) (pt : Point) (m : ℕ) (id : MsgId) (msg : PlainMessage) (ps : List Part) → (is_server msg.to ≡ false → ok id) → handles b pt m id msg ≡ Some ps → AllOk ok ps =
+      λ ok b pt m id msg ps need e.
+      loose_handles (AllOk ok) (AllOk ok) (ok_loose ok) (λ qs h. h) b pt m id msg ps (λ here. (need here.process, tt)) (tt, tt) (λ to here what apart. (tt, (tt, (tt, (tt, tt)))))
+      (λ to moves at_. kept_forward (AllOk ok) (ok_kept ok) pt.addresses id (plain_kind msg.what) msg.sender to) e in
+    by_outcome (λ x. AllOk (ForProcess pt.view)) b pt d ps (search (round_ok, handles_ok, front_process, hears_ok, nets_ok, migrates_ok)) is
 
 abbrev NoneQueued : View → Type 0
 NoneQueued v = (m : ℕ) (p : Pid) → is_server p ≡ true → v.queue m p ≡ []
@@ -143,6 +128,9 @@ NoneQueued v = (m : ℕ) (p : Pid) → is_server p ≡ true → v.queue m p ≡ 
 queues_group : (b : Boot) (pt : Point) (d : Step) (w : Spelled) → group_of b pt d ≡ Some w → Run b pt → NoneQueued pt.view → NoneQueued w.point.view
 queues_group b pt d w e h none = by_group (λ v. NoneQueued v.point.view) b pt d w (λ ps rest is said. (
     let first : NoQueues pt.view pt.view = record { told = λ i t f. f; none = none } in
+    let parts_queues : (before : View) (ps : List Part) (pt : Point) (w : Spelled) → AllOk (ForProcess before) ps → spelled pt ps ≡ Some w → NoQueues before pt.view → NoQueues before w.point.view = λ before qs q w ok is h.
+      by_parts (λ ps pt v. AllOk (ForProcess before) ps → NoQueues before pt.view → NoQueues before v.point.view) (λ pt ok h. h)
+      (λ p ps pt next ls z lines leads rest ok h. rest ok.1 (lines_queues before ls pt next (part_ok (ForProcess before) pt p ls ok.0 lines) leads h)) qs q w is ok h in
     (parts_queues pt.view ps (moved pt (Line.Head d) pt.kernel) rest (outcome_ok b pt d ps h is) said (line_queues pt.view pt.view (Line.Head d) tt first)).none
     )) e
 
@@ -167,15 +155,13 @@ queued_by b pt p i z None h is q least =
     nowhere true e k = false≢true (sym e)
     nowhere false e k = let none = k z in omega (arith, none, least)
 
-held_by : (b : Boot) (pt : Point) (m : ℕ) (p : Pid) (i : MsgId) → Run b pt → 1 ≤ standing pt.view i (Held m p) → IsFor pt p i
-held_by b pt m p i h least =
-    let (t, told, to) = h.based.held m p i least in
-    record { told = t; is = told; receiver = to; of_bag = λ x there. sym (h.based.phased.sane.tells.receiver i x t there told) ∙ to }
-
 -- wherever the rule leads
 pub lists_for_theirs : ListsForTheirs
 lists_for_theirs b es pt valid leads =
     let h = (run_always b es pt valid leads).run in
+    let held_by : (b : Boot) (pt : Point) (m : ℕ) (p : Pid) (i : MsgId) → Run b pt → 1 ≤ standing pt.view i (Held m p) → IsFor pt p i = λ b pt m p i h least.
+      let (t, told, to) = h.based.held m p i least in
+      record { told = t; is = told; receiver = to; of_bag = λ x there. sym (h.based.phased.sane.tells.receiver i x t there told) ∙ to } in
     record {
       queue = λ m p i least. queued_by b pt p i (Queue m p) (pt.kernel.bag i) h refl (h.based.queued m p i least) least;
       held = λ m p i least. held_by b pt m p i h least;

@@ -3,12 +3,12 @@ use Rattle.dm_movelaws.proofs.Names.{◌≡◌, ℕ, ◌+◌, ◌==◌, true, fa
 use Rattle.dm_movelaws.proofs.Names.{PlainStatus, Moving, Life, Alive, OneKernel, answer_id, is_of_memory, replay, Step, Point, labels, entry, reception, is_piece, pending_of, after_step, Sound, bind-is, piece_fits, status_awaits, WhatFits}
 use Rattle.dm_movelaws.proofs.Names.{KernelFits, based_always, both, fits_step, group_replay, Based, HasEnded, HasPiece, MoversHavePieces, Spelled, group_of, InOrder, step_constant, ◌⊎◌, Bool, length, take, drop, inl, inr, ⊤, if◌then◌else◌}
 use Rattle.dm_movelaws.proofs.Names.{PlainLink, switchboard, manager, Reply, Why, with_process, with_sent, Called, Sends, answer_to, first_failed, without_message, ServerSends, board_takes_lem, manager_takes_lem, lands-is, by_step, Lives}
-use Rattle.dm_movelaws.proofs.Names.{Grown, LifeGrows, stayed, came, Outcome, without_note, answers_piece, asks_piece, plain_kind}
+use Rattle.dm_movelaws.proofs.Names.{Grown, stayed, came, Outcome, without_note, answers_piece, asks_piece, plain_kind}
 use Rattle.dm_rulelaws.proofs.Names.{awaits}
 use Rattle.dm_movelaws.specs.Movers.{Moves}
 use Rattle.dm_rule.proofs.Names.{begun}
 use Rattle.dm_onekernel.specs.Kernel.{Ended}
-use Rattle.dm_movelaws.proofs.Movers.Says.{other_end, Begins, StatusSays, Says, AllSay, still_says, fresh_says, ended_says, out_says, other_says, answer_says, Requests, request_says, set_says}
+use Rattle.dm_movelaws.proofs.Movers.Says.{other_end, Begins, StatusSays, Says, AllSay, fresh_says, out_says, other_says, answer_says, Requests, request_says, set_says, unawaited_says}
 use Rattle.dm_movelaws.proofs.After.{keeps_always}
 use Rattle.dm_onekernel.specs.Step as kernel
 use Rattle.dm_onekernel.specs.Calls as calls
@@ -23,21 +23,9 @@ CallSends p _ = ⊤
 unless_sends : (p : Pid) (x : PlainProcess) (o : Option Reply) (c : Called) → CallSends p c → CallSends p (calls.unless_refused o x c)
 unless_sends p x o c h = grind (arith, nat_tests)
 
-if_sends : (p : Pid) (b : Bool) (c d : Called) → CallSends p c → CallSends p d → CallSends p (if b then c else d)
-if_sends p b c d h k = grind (arith, nat_tests)
-
-drops_sends : (p : Pid) (x : PlainProcess) (o : Option PlainLink) → CallSends p (calls.drop_call x o)
-drops_sends p x o = grind (arith, nat_tests)
-
 sends_sends : (p : Pid) (x : PlainProcess) (o : Option PlainLink) → CallSends p (calls.send_call p x o)
 sends_sends p x None = tt
 sends_sends p x (Some l) = unless_sends p x (first_failed (calls.send_refusals x)) (Sends (calls.message_over p x l) (calls.after_send x)) (inl refl)
-
-moves_over_sends : (p : Pid) (x : PlainProcess) (l : PlainLink) (o : Option Direction) → CallSends p (calls.moves_over p x l o)
-moves_over_sends p x l o = grind (arith, nat_tests, unless_sends)
-
-moves_sends : (p : Pid) (x : PlainProcess) (o : Option PlainLink) → CallSends p (calls.move_call p x o)
-moves_sends p x o = grind (arith, nat_tests, moves_over_sends)
 
 -- and the next instruction
 abbrev NextSends : Pid → kernel.Trap → Type 0
@@ -45,7 +33,13 @@ NextSends p (kernel.Calls number called) = CallSends p called
 NextSends p (kernel.Faults fault) = ⊤
 
 next_sends : (s : OneKernel) (p : Pid) (n : kernel.Trap) → kernel.next_trap s p ≡ Some n → NextSends p n
-next_sends s p n e = search (arith, bind-is, unless_sends, drops_sends, sends_sends, if_sends, moves_sends)
+next_sends s p n e =
+    let moves_sends : (p : Pid) (x : PlainProcess) (o : Option PlainLink) → CallSends p (calls.move_call p x o) = λ p x o.
+      let moves_over_sends : (p : Pid) (x : PlainProcess) (l : PlainLink) (o : Option Direction) → CallSends p (calls.moves_over p x l o) = λ p x l o. grind (arith, nat_tests, unless_sends) in
+      grind (arith, nat_tests, moves_over_sends) in
+    let if_sends : (p : Pid) (b : Bool) (c d : Called) → CallSends p c → CallSends p d → CallSends p (if b then c else d) = λ p b c d h k. grind (arith, nat_tests) in
+    let drops_sends : (p : Pid) (x : PlainProcess) (o : Option PlainLink) → CallSends p (calls.drop_call x o) = λ p x o. grind (arith, nat_tests) in
+    search (arith, bind-is, unless_sends, drops_sends, sends_sends, if_sends, moves_sends)
 
 -- what a landing sends
 abbrev LandsSends : Pid → pieces.Landed → Type 0
@@ -85,25 +79,23 @@ gone_says s id m v name there (PlainWhat.Move machine) is e h =
     subst (λ (x : PlainWhat). AllSay (with_sent (without_message s id) (Some (answer_to m x)))) f (other_says (without_message s id) (answer_to m (PlainWhat.Moved Outcome.Ended)) refl (out_says s id h))
 gone_says s id m v name there _ is e h = cc
 
--- what a server sends
-server_says : (u : OneKernel) (p : Pid) (o : Option PlainMessage) (n after : ℕ) → ServerSends p n o after → AllSay u → AllSay (with_sent u o)
-server_says u p o n after sends h = grind (arith, nat_tests, other_says)
-
--- a process goes on waiting for the same
-pub same_says : (s : OneKernel) (p : Pid) (x y : PlainProcess) → s.processes p ≡ Some (Alive x) → y.status ≡ x.status → AllSay s → AllSay (with_process s p (Alive y))
-same_says s p x y is status h = grind (arith, nat_tests, set_says)
-
-lands_sends : (p : Pid) (x : PlainProcess) (m : PlainMessage) (st : PlainStatus) (c : pieces.Landed) → pieces.lands p x m st ≡ Some c → LandsSends p c
-lands_sends p x m st c e = grind (arith, nat_tests, if_lands_what)
-
 -- every step
 pub step_says : (r e : MsgId → ℕ) (s t : OneKernel) (l : Label) → kernel.step s l ≡ Some t → Sound r e s → KernelFits t → AllSay s → AllSay t
 step_says r e s t l is_ sound =
+    -- a process goes on waiting for the same
+    -- what a server sends
+    -- it waits for nothing
+    let still_says : (s : OneKernel) (p : Pid) (y : PlainProcess) → pending_of y.status ≡ None → AllSay s → AllSay (with_process s p (Alive y)) =
+      λ s p y still h. set_says s p (Alive y) (λ i m q there from k. unawaited_says y.status i.n q m.what (λ e. let f : None ≡ Some i.n = sym still ∙ e in cc)) h in
+    let server_says : (u : OneKernel) (p : Pid) (o : Option PlainMessage) (n after : ℕ) → ServerSends p n o after → AllSay u → AllSay (with_sent u o) = λ u p o n after sends h. grind (arith, nat_tests, other_says) in
+    let lands_sends : (p : Pid) (x : PlainProcess) (m : PlainMessage) (st : PlainStatus) (c : pieces.Landed) → pieces.lands p x m st ≡ Some c → LandsSends p c = λ p x m st c e. grind (arith, nat_tests, if_lands_what) in
+    let same_says : (s : OneKernel) (p : Pid) (x y : PlainProcess) → s.processes p ≡ Some (Alive x) → y.status ≡ x.status → AllSay s → AllSay (with_process s p (Alive y)) = λ s p x y is status h. grind (arith, nat_tests, set_says) in
     let answered : (id : MsgId) (m : PlainMessage) (x y : PlainProcess) (w : PlainWhat) → Lives s id m x → y.status ≡ x.status → other_end m m.what ≡ Some m.to → other_end (answer_to m w) w ≡ Some m.to → ((base left : ℕ) → Begins base left w) → AllSay s
     → AllSay (with_sent (service.changed s id m y) (Some (answer_to m w))) = λ id m x y w v same asked end starts h. (
     let on : AllSay (with_process s m.to (Alive y)) = same_says s m.to x y v.alive same h in
     answer_says (service.changed s id m y) id m w (sound.entered.named id m v.there) (on id m m.to v.there asked) end starts (out_says (with_process s m.to (Alive y)) id on)
     ) in
+    let ended_says : (s : OneKernel) (p : Pid) (y : Why) → AllSay s → AllSay (with_process s p (Ended y)) = λ s p y h. set_says s p (Ended y) (λ i m q there from k. tt) h in
     by_step (λ u. KernelFits u → AllSay s → AllSay u) s t l (record {
       ran = λ p k x m is w fits h. same_says s p x (kernel.with_machine x m) w.alive refl h;
       replies = λ p n k c d y is w fits h. (let (z, sent, pending, counted) = w.so.counts in still_says s p y (counted.1 ∙ pending ∙ w.so.is.still) h);
@@ -200,12 +192,9 @@ step_came s t l = by_step (Came s) s t l (record {
 })
 
 -- whoever has ended stays so
-stays : (l m : Option Life) (y : Why) → LifeGrows l m → l ≡ Some (Ended y) → m ≡ Some (Ended y)
-stays l m y g e = grind (arith, nat_tests)
-
 pub step_gone : (s t : OneKernel) (l : Label) → kernel.step s l ≡ Some t → Grown s t → GoneEnded s → GoneEnded t
 step_gone s t l is grown h i m there gone = elim (step_came s t l is i m there) [
-  | inl was ↦ let (y, ended) = h i m was gone in (y, stays (s.processes m.sender) (t.processes m.sender) y (grown.lives m.sender) ended)
+  | inl was ↦ let (y, ended) = h i m was gone in (y, (let e_ : (t.processes m.sender) ≡ Some (Ended y) = grind (arith, nat_tests, grown.lives m.sender) in e_))
   | inr new ↦ new gone
 ]
 
@@ -219,9 +208,6 @@ replay_says (l ∷ ls) r e s t is fits order sound h =
     let next = fits_step r e s u l first sound order fits in
     let after = after_step r e s u l first sound in
     replay_says ls (λ i. r i + reception i l) (λ i. e i + entry i s u) u t rest next ((step_constant s u l first).pending order) after.sound (step_says r e s u l first sound next h.0, step_gone s u l first after.grown h.1)
-
-says_on : (b : Boot) (pt : Point) (d : Step) (w : Spelled) → group_of b pt d ≡ Some w → Based b pt → AllSay pt.kernel × GoneEnded pt.kernel → AllSay w.point.kernel × GoneEnded w.point.kernel
-says_on b pt d w is based h = let sane = based.phased.sane in replay_says (labels w.lines) sane.r sane.e pt.kernel w.point.kernel (group_replay b pt d w is) based.fits based.pending sane.sound h
 
 -- what fits is awaited
 memory_awaits : (s : OneKernel) (i : MsgId) (m : PlainMessage) (w : PlainWhat) → is_of_memory w ≡ true → WhatFits s i m w → awaits (s.processes i.from) i.n w ≡ true
@@ -283,19 +269,17 @@ answers_move r e s i m x there piece alive sound fits =
     let name : i ≡ answer_id (id_of m.to i.n) = λ j. record { from = sym back.0 j; n = i.n; answer = back.1 j } in
     (id_of m.to i.n, name, moves_by m.to x i x.status m.what refl waits)
 
--- messages of kinds
-kind_memory : (w : PlainWhat) → asks_piece (plain_kind w) ≡ true → is_of_memory w ≡ true
-kind_memory w e = grind (arith, nat_tests)
-
-kind_piece : (w : PlainWhat) → answers_piece (plain_kind w) ≡ true → is_piece w ≡ true
-kind_piece w e = grind (arith, nat_tests)
-
 -- wherever the rule leads
 pub movers_have_pieces : MoversHavePieces
 movers_have_pieces b es pt valid leads =
+    -- messages of kinds
+    let kind_memory : (w : PlainWhat) → asks_piece (plain_kind w) ≡ true → is_of_memory w ≡ true = λ w e. grind (arith, nat_tests) in
+    let kind_piece : (w : PlainWhat) → answers_piece (plain_kind w) ≡ true → is_piece w ≡ true = λ w e. grind (arith, nat_tests) in
     let based = based_always b es pt valid leads in
     let s = pt.kernel in
     let sane = based.phased.sane in
+    let says_on : (b : Boot) (pt : Point) (d : Step) (w : Spelled) → group_of b pt d ≡ Some w → Based b pt → AllSay pt.kernel × GoneEnded pt.kernel → AllSay w.point.kernel × GoneEnded w.point.kernel =
+      λ b pt d w is based h. let sane = based.phased.sane in replay_says (labels w.lines) sane.r sane.e pt.kernel w.point.kernel (group_replay b pt d w is) based.fits based.pending sane.sound h in
     let says = keeps_always b (λ q. AllSay q.kernel × GoneEnded q.kernel) (λ q d w fit is run h. says_on b q d w is run.based h) valid (λ i m q there e. absurd (let f : None ≡ Some m = there in cc), λ i m there e. absurd (let f : None ≡ Some m = there in cc)) es pt leads in
     record {
       has = λ p x dir owner base own left pending alive status. has_piece sane.r sane.e s p x dir owner base own left pending alive status sane.sound based.fits says.0 says.1;

@@ -1,6 +1,6 @@
 -- What a message of a data move says of the mover's status: the ways in which that stays.
 use Rattle.dm_movelaws.proofs.Names.{◌≡◌, ℕ, ◌+◌, ◌≤◌, true, false, length, take, drop, refl, ap, ◌∙◌, sym, subst, nat_le, nat_lt, arith, ⊤, Option, None, Some, nat_tests, length-take, length-drop, Pid, MsgId, PlainMessage, PlainWhat}
-use Rattle.dm_movelaws.proofs.Names.{Direction, Why, PlainProcess, PlainStatus, Ready, Waiting, Moving, Life, Alive, OneKernel, with_process, with_sent, piece_of, answer_to, without_message, pending_of, counts, is_counted, stayed, came}
+use Rattle.dm_movelaws.proofs.Names.{Direction, PlainProcess, PlainStatus, Ready, Waiting, Moving, Life, Alive, OneKernel, with_process, with_sent, piece_of, answer_to, without_message, pending_of, counts, is_counted, stayed, came}
 use Rattle.dm_movelaws.proofs.Names.{Sound, not_server, counts_process, not_counted, has_bytes, move_fits, KernelFits, both, set_if, set_at}
 use Rattle.dm_rulelaws.proofs.Names.{Lives}
 use Rattle.dm_onekernel.specs.Kernel.{Ended}
@@ -38,15 +38,11 @@ abbrev pub AllSay : OneKernel → Type 0
 AllSay s = (i : MsgId) (m : PlainMessage) (q : Pid) → s.bag i ≡ Some m → other_end m m.what ≡ Some q → Says (s.processes i.from) i.n q m.what
 
 -- nobody waits for it
-unawaited_says : (st : PlainStatus) (n : ℕ) (q : Pid) (w : PlainWhat) → (pending_of st ≡ Some n → ⊥) → StatusSays st n q w
+pub unawaited_says : (st : PlainStatus) (n : ℕ) (q : Pid) (w : PlainWhat) → (pending_of st ≡ Some n → ⊥) → StatusSays st n q w
 unawaited_says st n q w f = grind (arith, nat_tests)
 
 pub set_says : (s : OneKernel) (p : Pid) (l : Life) → ((i : MsgId) (m : PlainMessage) (q : Pid) → s.bag i ≡ Some m → i.from ≡ p → Says (s.processes p) i.n q m.what → Says (Some l) i.n q m.what) → AllSay s → AllSay (with_process s p l)
 set_says s p l f h i m q there e = set_if (λ (o : Option Life). Says o i.n q m.what) s p i.from l (λ same. f i m q there same) (h i m q there e)
-
--- it waits for nothing
-pub still_says : (s : OneKernel) (p : Pid) (y : PlainProcess) → pending_of y.status ≡ None → AllSay s → AllSay (with_process s p (Alive y))
-still_says s p y still h = set_says s p (Alive y) (λ i m q there from k. unawaited_says y.status i.n q m.what (λ e. let f : None ≡ Some i.n = sym still ∙ e in cc)) h
 
 -- it waits for a number that it gives anew
 pub fresh_says : (r e : MsgId → ℕ) (s : OneKernel) (p : Pid) (x y : PlainProcess) → s.processes p ≡ Some (Alive x) → pending_of y.status ≡ Some x.sent → Sound r e s → AllSay s → AllSay (with_process s p (Alive y))
@@ -59,9 +55,6 @@ fresh_says r e s p x y is pending sound h =
     let fresh : counts s i ≡ false = counted ∙ (let z : nat_lt i.n x.sent ≡ false = grind (arith, nat_tests) in z) in
     let none : None ≡ Some m = sym (not_counted r e s i fresh sound.entered) ∙ there in
     cc)) h
-
-pub ended_says : (s : OneKernel) (p : Pid) (y : Why) → AllSay s → AllSay (with_process s p (Ended y))
-ended_says s p y h = set_says s p (Ended y) (λ i m q there from k. tt) h
 
 -- messages
 pub out_says : (s : OneKernel) (id : MsgId) → AllSay s → AllSay (without_message s id)

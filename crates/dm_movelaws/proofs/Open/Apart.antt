@@ -1,6 +1,6 @@
 -- Each line of a group leaves a process that moves alone, where it stands.
 use Rattle.dm_movelaws.proofs.Names.{◌≡◌, ◌≢◌, ℕ, ◌+◌, ◌==◌, Bool, true, false, List, [], ◌∷◌, ◌++◌, refl, ap, ◌∙◌, sym, subst, ⊤, Option, Some, false≢true, Pid, pid_of, MsgId, MessageKind, PlainMessage, Boot, Label, Why, first_number}
-use Rattle.dm_movelaws.proofs.Names.{OneKernel, bind, bind-is, Step, Line, Spares, migrates, Part, Spelled, lines_of, spelled, Moves, knows, IsIn, Point, label_of, kernel_after, moved, after_line, after, group_of, Here, SparesPart}
+use Rattle.dm_movelaws.proofs.Names.{OneKernel, bind, bind-is, Step, Line, Spares, migrates, Part, Spelled, spelled, Moves, knows, IsIn, Point, label_of, kernel_after, moved, after_line, after, group_of, Here}
 use Rattle.dm_movelaws.proofs.Names.{FirstApart, ApartOf, apart_first, turns_apart, net_apart, migrates_apart, arrives_net, resends_net, Rooted, nowhere_known, moves_away, is_fixed, IsAnothersIf, moves_known, by_parts, by_group, is_some}
 use Rattle.dm_movelaws.proofs.Names.{IsValid, start, replay, ended_stays, Phase, is_between, is_restart, kind_comes, first_point, labels, moving_stays_always, is_server, LeadsBy, after_replay, Run, run_always, mark_while, IsSpared}
 use Rattle.dm_movelaws.proofs.Names.{OpenSpares, apart_is, destination_knows, server_leaves, why_ended-is, kind_leaves, nat_tests, arith}
@@ -30,9 +30,6 @@ after-rest (x ∷ xs) ys pt mid end e f =
     let (next, first, rest) = bind-is (after_line pt x) (λ (q : Point). after q xs) mid e in
     after-rest xs ys next mid end rest (sym (ap (λ (o : Option Point). bind o (λ (q : Point). after q (xs ++ ys))) first) ∙ f)
 
-pub dropped_over : (s t : OneKernel) (id : MsgId) (m : PlainMessage) → kernel.step s (Label.Dropped id) ≡ Some t → s.bag id ≡ Some m → (y : Why) × (s.processes m.to ≡ Some (Ended y))
-dropped_over s t id m is there = grind (arith, nat_tests, bind-is, why_ended-is)
-
 -- a group that keeps the process drops no message for it
 dropped_for_other : (b : Boot) (ls earlier later : List Line) (pt before end : Point) (p : Pid) (id : MsgId) (m : PlainMessage) → IsValid b → ((y : Why) → pt.kernel.processes p ≡ Some (Ended y) → ⊥) → end.kernel.processes p ≡ pt.kernel.processes p
     → after (first_point b) ls ≡ Some pt → after pt earlier ≡ Some before → after before (Line.Label (Label.Dropped id) ∷ later) ≡ Some end → before.kernel.bag id ≡ Some m → m.to ≢ p
@@ -40,7 +37,7 @@ dropped_for_other b ls earlier later pt before end p id m valid lives same first
     let l = Line.Label (Label.Dropped id) in
     let (mid, line_, rest) = bind-is (after_line before l) (λ (q : Point). after q later) end goes in
     let (t, step_, last) = bind-is (kernel_after before.kernel (label_of l)) (λ (s : OneKernel). Some (moved before l s)) mid line_ in
-    let (y, over) = dropped_over before.kernel t id m step_ there in
+    let (y, over) = (let e_ : (y : Why) × (before.kernel.processes m.to ≡ Some (Ended y)) = grind (arith, nat_tests, bind-is, why_ended-is) in e_) in
     let ended : before.kernel.processes p ≡ Some (Ended y) = ap before.kernel.processes (sym to) ∙ over in
     let to_here : replay (start b) (labels (ls ++ earlier)) ≡ Some before.kernel = after_replay (ls ++ earlier) (first_point b) before (after-append ls earlier (first_point b) pt before first comes) in
     lives y (sym same ∙ ended_stays b (labels (ls ++ earlier)) (labels (l ∷ later)) before.kernel end.kernel p y valid (to_here, after_replay (l ∷ later) before end goes) ended)
@@ -75,14 +72,12 @@ alone_append : (y : Pid) (xs ys : List Line) (pt : Point) → AllAlone y pt xs �
 alone_append y [] ys pt h k = k pt refl
 alone_append y (x ∷ xs) ys pt h k = (h.0, λ next e. alone_append y xs ys next (h.1 next e) (λ end f. k end (ap (λ (o : Option Point). bind o (λ (q : Point). after q xs)) e ∙ f)))
 
--- the lines of a part
-part_alone : (y : Pid) (pt : Point) (p : Part) (ls : List Line) → SparesPart pt.kernel y p → lines_of pt p ≡ Some ls → AllAlone y pt ls
-part_alone y pt p ls h is = grind (arith, nat_tests, lines_are)
-
 parts_alone : (y : Pid) (ps : List Part) (pt : Point) (w : Spelled) → FirstApart pt.kernel y ps → spelled pt ps ≡ Some w → AllAlone y pt w.lines
 parts_alone y qs p w h is = by_parts (λ ps pt v. FirstApart pt.kernel y ps → AllAlone y pt v.lines) (λ pt h. tt) (λ x ps pt next ls z lines leads rest h. (
     let others : AllAlone y next z.lines = rest (apart_first next.kernel y ps h.1) in
-    alone_append y ls z.lines pt (part_alone y pt x ls h.0 lines) (λ mid e. let g : next ≡ mid = (let k : Some next ≡ Some mid = sym leads ∙ e in cc) in subst (λ (q : Point). AllAlone y q z.lines) g others)
+    -- the lines of a part
+    let part_alone : AllAlone y pt ls = grind (arith, nat_tests, lines_are, h.0) in
+    alone_append y ls z.lines pt part_alone (λ mid e. let g : next ≡ mid = (let k : Some next ≡ Some mid = sym leads ∙ e in cc) in subst (λ (q : Point). AllAlone y q z.lines) g others)
     )) qs p w is h
 
 group_alone : (b : Boot) (pt : Point) (d : Step) (w : Spelled) (y : Pid) → ApartOf pt.kernel y (rule.outcome b pt d) → group_of b pt d ≡ Some w → AllAlone y pt w.lines

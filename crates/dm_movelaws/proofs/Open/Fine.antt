@@ -145,7 +145,7 @@ quiet_shut p o (Transmits a b l ∷ ps) h = (tt, quiet_shut p o ps h.1)
 abbrev no_mark : Option Mark
 no_mark = None
 
-none_open : (l : Line) → is_some no_mark ≡ true → label_of l ≡ None
+pub none_open : (l : Line) → is_some no_mark ≡ true → label_of l ≡ None
 none_open l e = absurd (false≢true e)
 
 mild_shut : (p : Pid) (front : Option MsgId) (ps : List Part) → AllMild p front ps → ShutParts p None ps
@@ -156,14 +156,11 @@ mild_shut p front (Again i b ∷ ps) h = (tt, mild_shut p front ps h.1)
 mild_shut p front (Owns k q b ∷ ps) h = (tt, mild_shut p front ps h.1)
 mild_shut p front (Transmits a b l ∷ ps) h = (tt, mild_shut p front ps h.1)
 
--- a line that ends a migration, and its answer
-closes : (p q : Pid) (m : Mark) → left_open m ≡ None → open_after None (mark_for p q m []) ≡ None
-closes p q m e = search arith
-
 sends_quiet : (to : ℕ) (ids : List MsgId) (ps : List Part) → QuietParts ps → QuietParts (sends_on to ids ++ ps)
 sends_quiet to [] ps h = h
 sends_quiet to (i ∷ is) ps h = (tt, sends_quiet to is ps h)
 
+-- a line that ends a migration, and its answer
 hears_shut : (p : Pid) (b : Boot) (o : Point) (m : ℕ) (i : MsgId) (q : Option Told) (ps : List Part) → rule.hears b o m i q ≡ Some ps → ShutParts p None ps
 hears_shut p b o m i q ps =
     let quiet : (qs : List Part) → QuietParts qs → ShutParts p None qs = λ qs h. quiet_shut p None qs h in
@@ -173,7 +170,7 @@ hears_shut p b o m i q ps =
         accepted = λ ask. quiet (Says (Line.Migration Stage.Accepted r) ∷ to_kernel MessageKind.PullState i.from.home ∷ []) (refl, (tt, tt));
         lacks = λ slots blocks. quiet (Says (Line.Lacks r slots blocks) ∷ to_kernel MessageKind.Refuse i.from.home ∷ []) (refl, (tt, tt));
         stays = λ kind free. quiet (Says (Line.Stays r) ∷ []) (refl, tt);
-        stays_asked = λ kind n noted. (none_open (Line.Stays r), (λ e. absurd (false≢true (sym (ap is_some (closes p r Staying refl)) ∙ e)), (tt, tt)));
+        stays_asked = λ kind n noted. (none_open (Line.Stays r), (λ e. absurd (false≢true (sym (ap is_some (let e_ : open_after None (mark_for p r Staying []) ≡ None = search arith in e_)) ∙ e)), (tt, tt)));
         state = quiet (gives_piece i MessageKind.State) (refl, (tt, tt));
         next_chunk = quiet (Says (Line.Proto i) ∷ to_kernel MessageKind.PullState i.from.home ∷ []) (refl, (tt, tt));
         last_chunk = quiet (Says (Line.Migration Stage.StateTaken r) ∷ to_kernel MessageKind.PullBlock i.from.home ∷ []) (refl, (tt, tt));
@@ -182,7 +179,7 @@ hears_shut p b o m i q ps =
         last_block = quiet (Says (Line.Migration Stage.MemoryTaken r) ∷ to_kernel MessageKind.AllTaken i.from.home ∷ []) (refl, (tt, tt));
         left = λ ids to leaves. quiet (left_parts i r ids to) (refl, sends_quiet to ids (Says (Line.Migration Stage.Left r) ∷ to_kernel MessageKind.Restart i.from.home ∷ []) (refl, (tt, tt)));
         restarted = λ kind free. quiet (Says (Line.Migration Stage.Restarted r) ∷ []) (refl, tt);
-        restarted_asked = λ kind n noted. (none_open (Line.Migration Stage.Restarted r), (λ e. absurd (false≢true (sym (ap is_some (closes p r (Reached 8) refl)) ∙ e)), (tt, tt)));
+        restarted_asked = λ kind n noted. (none_open (Line.Migration Stage.Restarted r), (λ e. absurd (false≢true (sym (ap is_some (let e_ : open_after None (mark_for p r (Reached 8) []) ≡ None = search arith in e_)) ∙ e)), (tt, tt)));
       };
       updated = λ kind. quiet (updates o i t) (refl, tt);
       updated_none = λ kind at_. quiet (Says (Line.Updated i 0) ∷ []) (refl, tt);
@@ -213,7 +210,7 @@ handled_shut : (p : Pid) (o : Point) (m : ℕ) (i : MsgId) (msg : PlainMessage) 
 handled_shut p o m i msg ps (Spared mild) = mild_shut p (Some i) ps (mild p)
 handled_shut p o m i msg ps (SetsOff to here what are) = subst (ShutParts p None) (sym are) (none_open (Line.Label (Label.Asked i)), quiet_shut p None (leaves_for msg.to to) (refl, (refl, (tt, tt))))
 
-outcome_shut : (p : Pid) (b : Boot) (o : Point) (d : Step) (ps : List Part) → rule.outcome b o d ≡ Some ps → ShutParts p None ps
+pub outcome_shut : (p : Pid) (b : Boot) (o : Point) (d : Step) (ps : List Part) → rule.outcome b o d ≡ Some ps → ShutParts p None ps
 outcome_shut p b o d ps = by_outcome (λ x. ShutParts p None) b o d ps (record {
   round = λ m xs box e. mild_shut p None xs (round_mild p None b o m (rule.first_runnable o.kernel (o.view.queue m) (o.view.ring m)) xs e);
   handles = λ m i is msg xs box there e. handled_shut p o m i msg xs (handles_mild b o m i msg xs e);
@@ -235,17 +232,12 @@ record Silent (p : Pid) (ls : List Line) : Type 0 where
   shut : (o : Option Mark) → Shut p o ls
   none : marks p ls ≡ []
 
-puts_silent : (p : Pid) (pt : Point) (b : ℕ) (i : MsgId) (k : MessageKind) (q : Pid) (ls : List Line) → Some (puts pt.view b i k q) ≡ Some ls → Silent p ls
-puts_silent p pt b i k q ls is = search arith
-
-part_shut : (p : Pid) (o : Option Mark) (pt : Point) (q : Part) (ls zs : List Line) → ShutPart o q → lines_of pt q ≡ Some ls → Shut p (mark_behind p o q) zs → Shut p o (ls ++ zs)
-part_shut p o pt q ls zs h1 h2 h3 = search (arith, bind-is, pt.kernel.bag, pt.view, pt.addresses, puts_silent, shut_append, pt.view.told)
-
-parts_shut : (p : Pid) (ps : List Part) (pt : Point) (w : Spelled) → ShutParts p None ps → spelled pt ps ≡ Some w → Shut p None w.lines
-parts_shut p qs q w h is = by_parts (λ ps pt v. (o : Option Mark) → ShutParts p o ps → Shut p o v.lines) (λ pt o h. tt) (λ x ps pt next ls z lines leads rest o h. part_shut p o pt x ls z.lines h.0 lines (rest (mark_behind p o x) h.1)) qs q w is None h
-
-pub group_shut : (p : Pid) (b : Boot) (pt : Point) (d : Step) (w : Spelled) → group_of b pt d ≡ Some w → Shut p None w.lines
-group_shut p b pt d w = by_group (λ v. Shut p None v.lines) b pt d w (λ ps rest is said. (none_open (Line.Head d), parts_shut p ps (moved pt (Line.Head d) pt.kernel) rest (outcome_shut p b pt d ps is) said))
+pub parts_shut : (p : Pid) (ps : List Part) (pt : Point) (w : Spelled) → ShutParts p None ps → spelled pt ps ≡ Some w → Shut p None w.lines
+parts_shut p qs q w h is =
+    let part_shut : (p : Pid) (o : Option Mark) (pt : Point) (q : Part) (ls zs : List Line) → ShutPart o q → lines_of pt q ≡ Some ls → Shut p (mark_behind p o q) zs → Shut p o (ls ++ zs) = λ p o pt q ls zs h1 h2 h3.
+      let puts_silent : (p : Pid) (pt : Point) (b : ℕ) (i : MsgId) (k : MessageKind) (q : Pid) (ls : List Line) → Some (puts pt.view b i k q) ≡ Some ls → Silent p ls = λ p pt b i k q ls is. search arith in
+      search (arith, bind-is, pt.kernel.bag, pt.view, pt.addresses, puts_silent, shut_append, pt.view.told) in
+    by_parts (λ ps pt v. (o : Option Mark) → ShutParts p o ps → Shut p o v.lines) (λ pt o h. tt) (λ x ps pt next ls z lines leads rest o h. part_shut p o pt x ls z.lines h.0 lines (rest (mark_behind p o x) h.1)) qs q w is None h
 
 -- at a line
 pub shut_at : (p : Pid) (o : Option Mark) (earlier g : List Line) (l : Line) → Shut p o (earlier ++ l ∷ g) → is_some (open_after o (marks p earlier)) ≡ true → label_of l ≡ None

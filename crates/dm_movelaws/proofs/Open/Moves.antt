@@ -21,9 +21,6 @@ pub open_is : (o : Option Mark) (ms : List Mark) → open_mark o ms ≡ open_aft
 open_is o [] = refl
 open_is o (m ∷ ms) = open_is (left_open m) ms
 
-pub mark_is : (phase : Phase) → mark_in phase ≡ mark_while phase
-mark_is phase = grind (arith, nat_tests)
-
 -- between groups no message is due
 
 -- where a run has come, with this open mark
@@ -50,6 +47,7 @@ run_open b (d ∷ ds) ls pt end p (w, rest, fit, is, split, more) h =
 -- wherever the rule leads
 pub open_moves : OpenMoves
 open_moves b es ls pt p valid leads =
+    let mark_is : (phase : Phase) → mark_in phase ≡ mark_while phase = λ phase. grind (arith, nat_tests) in
     let h = phased_start b valid in
     let none : mark_in (h.phases.of p) ≡ None = grind (arith, nat_tests, (h.phases.each p), (none_due (first_view b) h.phases p)) in
     let o = run_open b es ls (first_point b) pt p leads h in

@@ -1,13 +1,13 @@
 -- Each line between a process's step 1 and its step 8 or `stays` is another's, and leaves its plain value.
-use Rattle.dm_movelaws.proofs.Names.{◌≡◌, ℕ, true, false, List, [], ◌∷◌, ◌++◌, is_some, refl, ap, ◌∙◌, sym, subst, Option, None, Some, Pid, MsgId, MessageKind, Boot, Label, IsValid, OneKernel, bind, bind-is, Step, Line, Spelled, Moves}
+use Rattle.dm_movelaws.proofs.Names.{◌≡◌, ℕ, true, false, List, [], ◌∷◌, ◌++◌, is_some, refl, ap, ◌∙◌, sym, subst, Option, None, Some, Pid, MsgId, MessageKind, Boot, IsValid, OneKernel, bind, bind-is, Step, Line, Spelled, Moves}
 use Rattle.dm_movelaws.proofs.Names.{IsIn, Point, label_of, kernel_after, moved, after_line, after, first_point, group_of, first_view, rooted, is_fixed, LeadsBy, Both, both_start, both_group, after_replay, Run, run_start, run_group}
-use Rattle.dm_movelaws.proofs.Names.{IsAnothersIf, OpenStays, Mark, marks, append_assoc, start, replay, with_label, labels, labels-append, replay-append, AllOpen, OpenKeeps, nat_tests, arith, Known, KnownIs, View, kind_leaves}
+use Rattle.dm_movelaws.proofs.Names.{IsAnothersIf, OpenStays, Mark, marks, append_assoc, start, replay, labels, labels-append, replay-append, AllOpen, OpenKeeps, nat_tests, arith, Known, KnownIs, View, kind_leaves, by_group}
 use Rattle.dm_movelaws.proofs.After.{after-append, group_after}
 use Rattle.dm_movelaws.proofs.Open.Apart.{AllAlone, moving_off, moving_alone, kernel_same, alone_rest, anothers_if, source_knows, moving_lives}
 use Rattle.dm_movelaws.proofs.Open.Moves.{open_is, none_due}
 use Rattle.dm_movelaws.proofs.Stages.Always.{group_marked}
 use Rattle.dm_movelaws.proofs.Stages.Spares.{mark_in, open_after, open-append, marks-append}
-use Rattle.dm_movelaws.proofs.Open.Fine.{Fine, group_fine, fine_at, Shut, group_shut, shut_at}
+use Rattle.dm_movelaws.proofs.Open.Fine.{Fine, group_fine, fine_at, Shut, shut_at, none_open, parts_shut, outcome_shut}
 
 -- a line behind others, from some point on
 record At (pt : Point) (earlier : List Line) (l : Line) (p : Pid) : Type 0 where
@@ -35,13 +35,11 @@ meets (x ∷ xs) ys l pt end e =
     let k = meets xs ys l next end rest in
     record { mid = k.mid; comes = ap (λ (o : Option Point). bind o (λ (q : Point). after q xs)) first ∙ k.comes; next = k.next; goes = k.goes }
 
--- a group of a process that moves
-leaves_free : (n : ℕ) (v : View) (m : ℕ) (p : Pid) (k : MessageKind) (d : ℕ) (x : Known) → kind_leaves k d x ≡ true → KnownIs n v m p x → is_fixed p ≡ false
-leaves_free n v m p k d x e h = grind (arith, nat_tests)
-
 moving_at : (b : Boot) (pt : Point) (d : Step) (w : Spelled) (p : Pid) (k : MessageKind) (s t : ℕ) (id : Option MsgId) (earlier g : List Line) (l : Line) → Run b pt → IsIn pt.view p (Moves k s t id) → group_of b pt d ≡ Some w
     → w.lines ≡ earlier ++ l ∷ g → is_some (open_after (mark_in (Moves k s t id)) (marks p earlier)) ≡ true → At pt earlier l p
 moving_at b pt d w p k s t id earlier g l run phase e split begun =
+    -- a group of a process that moves
+    let leaves_free : (n : ℕ) (v : View) (m : ℕ) (p : Pid) (k : MessageKind) (d : ℕ) (x : Known) → kind_leaves k d x ≡ true → KnownIs n v m p x → is_fixed p ≡ false = λ n v m p k d x e h. grind (arith, nat_tests) in
     let m = meets earlier g l pt w.point (ap (after pt) (sym split) ∙ group_after b pt d w e) in
     let phased = run.based.phased in
     let alone = moving_alone b pt d w p k s t id (rooted pt phased.sane phased.ground) phase e in
@@ -60,6 +58,8 @@ moving_at b pt d w p k s t id earlier g l run phase e split begun =
 resting_at : (b : Boot) (pt : Point) (d : Step) (w : Spelled) (p : Pid) (earlier g : List Line) (l : Line) → group_of b pt d ≡ Some w → w.lines ≡ earlier ++ l ∷ g → is_some (open_after None (marks p earlier)) ≡ true → At pt earlier l p
 resting_at b pt d w p earlier g l e split begun =
     let m = meets earlier g l pt w.point (ap (after pt) (sym split) ∙ group_after b pt d w e) in
+    let group_shut : (p : Pid) (b : Boot) (pt : Point) (d : Step) (w : Spelled) → group_of b pt d ≡ Some w → Shut p None w.lines =
+      λ p b pt d w. by_group (λ v. Shut p None v.lines) b pt d w (λ ps rest is said. (none_open (Line.Head d), parts_shut p ps (moved pt (Line.Head d) pt.kernel) rest (outcome_shut p b pt d ps is) said)) in
     let none = shut_at p None earlier g l (subst (Shut p None) split (group_shut p b pt d w e)) begun in
     search (arith, m.mid, m.comes, m.next, m.goes, m.mid.kernel)
 
@@ -120,10 +120,6 @@ open_stays b es ls earlier later l pt p valid leads split begun =
     let at = run_at b es ls earlier later l (first_point b) pt p valid leads h split (ap (λ (o : Option Mark). is_some (open_after o (marks p earlier))) none ∙ ap is_some (sym (open_is None (marks p earlier))) ∙ begun) in
     record { before = at.mid.kernel; comes = after_replay earlier (first_point b) at.mid at.comes; behind = at.next; goes = at.goes; anothers = at.anothers; same = at.same }
 
--- one line
-rest_of : (o : Option Label) (ls : List Label) (s u t : OneKernel) → kernel_after s o ≡ Some u → replay s (with_label o ls) ≡ Some t → replay u ls ≡ Some t
-rest_of o ls s u t e f = grind (arith, nat_tests, bind-is)
-
 keeps : (b : Boot) (es : List Step) (ls earlier between later : List Line) (pt : Point) (p : Pid) (s t : OneKernel) → IsValid b → LeadsBy b (first_point b) es ls pt → ls ≡ earlier ++ (between ++ later) → AllOpen p earlier between → replay (start b) (labels earlier) ≡ Some s
     → replay s (labels between) ≡ Some t → t.processes p ≡ s.processes p
 keeps b es ls earlier [] later pt p s t valid leads split on e f = let g : t ≡ s = cc in ap (λ (k : OneKernel). k.processes p) g
@@ -134,7 +130,9 @@ keeps b es ls earlier (l ∷ between) later pt p s t valid leads split on e f =
     let here : replay (start b) (labels (earlier ++ l ∷ [])) ≡ Some a.behind =
     ap (replay (start b)) (labels-append earlier (l ∷ [])) ∙ replay-append (labels earlier) (labels (l ∷ [])) (start b) s a.behind e (grind (arith, nat_tests)) in
     let more : ls ≡ (earlier ++ l ∷ []) ++ (between ++ later) = split ∙ sym (append_assoc earlier (l ∷ []) (between ++ later)) in
-    keeps b es ls (earlier ++ l ∷ []) between later pt p a.behind t valid leads more on.1 here (rest_of (label_of l) (labels between) s a.behind t goes f) ∙ a.same ∙ ap (λ (k : OneKernel). k.processes p) at
+    -- one line
+    let rest_of : replay a.behind (labels between) ≡ Some t = grind (arith, nat_tests, bind-is) in
+    keeps b es ls (earlier ++ l ∷ []) between later pt p a.behind t valid leads more on.1 here rest_of ∙ a.same ∙ ap (λ (k : OneKernel). k.processes p) at
 
 -- wherever the rule leads
 pub open_keeps : OpenKeeps

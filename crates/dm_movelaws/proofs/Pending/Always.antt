@@ -1,9 +1,9 @@
 -- Each step of a process or of its kernel keeps one message under each pending request's number.
 use Rattle.dm_movelaws.proofs.Names.{◌≡◌, ◌⊎◌, ℕ, ◌+◌, ◌<◌, ◌≤◌, ◌==◌, Bool, true, false, List, [], ◌∷◌, ◌++◌, length, is_some, refl, ap, ◌∙◌, subst, inl, inr, arith, if◌then◌else◌, Option, None, Some, cases_Bool, false≢true, nat_tests}
-use Rattle.dm_movelaws.proofs.Names.{Pid, PlainLink, MsgId, id_of, plain_kind, PlainMessage, PlainWhat, manager, Boot, Label, Manager, Pending, OneKernel, with_sent, without_message, replay, entry, reception, after_step, ServerSends}
-use Rattle.dm_movelaws.proofs.Names.{manager_takes_lem, Sound, bind-is, Step, ascends, Point, View, still_pending, WhatFits, KernelFits, based_always, fits_step, group_replay, Based, is_pending, HasOne, IsOfPending, PendingHasOne, Spelled}
-use Rattle.dm_movelaws.proofs.Names.{group_of, PendingAscends, requests, Outcome, answer_id, sym, PendingKind, IsPending, asked_by, answered_by, sort_of, take, drop, pid_eq, bind, PlainProcess, Alive, answer_to, lands-is, not_server}
-use Rattle.dm_movelaws.proofs.Names.{by_step, is_served, MoveNote, Follows, note-is}
+use Rattle.dm_movelaws.proofs.Names.{Pid, PlainLink, MsgId, id_of, plain_kind, PlainMessage, PlainWhat, manager, Label, Manager, Pending, OneKernel, with_sent, without_message, replay, entry, reception, after_step, ServerSends}
+use Rattle.dm_movelaws.proofs.Names.{manager_takes_lem, Sound, bind-is, ascends, View, still_pending, WhatFits, KernelFits, based_always, fits_step, group_replay, is_pending, HasOne, IsOfPending, PendingHasOne}
+use Rattle.dm_movelaws.proofs.Names.{PendingAscends, requests, Outcome, answer_id, sym, PendingKind, IsPending, asked_by, answered_by, sort_of, take, drop, pid_eq, bind, PlainProcess, Alive, answer_to, lands-is, not_server}
+use Rattle.dm_movelaws.proofs.Names.{by_step, is_served, MoveNote, Follows, note-is, without_note, id_eq-is, sent_off, id_eq-same, with_note, out_off}
 use Rattle.dm_rulelaws.specs.Fits.{is_for}
 use Rattle.dm_laws.proofs.Entered.{asks}
 use Rattle.dm_onekernel.specs.Manager as manage
@@ -12,9 +12,11 @@ use Rattle.dm_onekernel.specs.Step as kernel
 use Rattle.dm_onekernel.specs.Switchboard as board
 use Rattle.dm_onekernel.specs.Pieces as pieces
 use Rattle.dm_onekernel.specs.Receiving as receiving
-use Rattle.dm_movelaws.proofs.Pending.Pairs.{is_request, Neither, neither, answer_of, Ones, off_both, out_ones, put_ones, from_other, took_pair, asked_pair, PairAt, is_answer, answered_ones, made_ones, Off, noted_ones, unnoted_ones}
+use Rattle.dm_movelaws.proofs.Pending.Pairs.{is_request, Neither, neither, answer_of, Ones, off_both, out_ones, put_ones, from_other, took_pair, asked_pair, PairAt, is_answer, answered_ones, made_ones, Off, followed_pair, off_by}
 use Rattle.dm_movelaws.proofs.After.{keeps_always}
 use Rattle.dm_movelaws.proofs.Promise.Slots.{step_pending}
+use Rattle.dm_rule.proofs.Trails.Spares.{and_no as and_false}
+use Rattle.dm_movelaws.proofs.Pending.Pairs.{to_process}
 
 -- a request is answered where its receiver has ended: for a piece, or to move
 gone_ones : (r e : MsgId → ℕ) (s : OneKernel) (id : MsgId) (m : PlainMessage) (v w : PlainWhat) → m.what ≡ v → service.gone_what v ≡ Some w → s.bag id ≡ Some m → Sound r e s → Ones s
@@ -28,14 +30,6 @@ gone_ones r e s id m (PlainWhat.Move machine) w is f there h ones =
     made_ones r e s (without_message s id) (with_sent (without_message s id) (Some (answer_to m w))) id m w refl (λ j. refl) (λ j. refl) (λ n p. p) there (ap asks is) (sym (ap is_answer g)) h ones
 gone_ones r e s id m _ w is f there h ones = cc
 
--- what the kernel of a living process serves
-served_neither : (v w : PlainWhat) → v ≡ w → is_served w ≡ true → Neither v
-served_neither v w e s = grind (arith, nat_tests, neither)
-
--- a name of a process's own
-own_off : (r e : MsgId → ℕ) (s : OneKernel) (p : Pid) (x : PlainProcess) (i : MsgId) (k : ℕ) → Sound r e s → s.processes p ≡ Some (Alive x) → i ≡ id_of p k → (n : ℕ) → Off i n
-own_off r e s p x i k sound alive is n = from_other i n (ap (λ (j : MsgId). pid_eq j.from manager) is ∙ (not_server s p x alive sound.made).1)
-
 -- every label but what a server takes
 pub record Takes (s : OneKernel) : Type 0 where
   pub board : (id : MsgId) (m : PlainMessage) (k : board.BoardTook) → s.bag id ≡ Some m → board.board_takes s.switchboard m m.what ≡ Some k → Ones (service.switchboard_took s id k)
@@ -43,7 +37,18 @@ pub record Takes (s : OneKernel) : Type 0 where
 
 pub label_ones : (r e : MsgId → ℕ) (s t : OneKernel) (l : Label) → Sound r e s → ((p : Pid) (n : MoveNote) → s.notes p ≡ Some n → n.id.answer ≡ false) → Ones s → Takes s → kernel.step s l ≡ Some t → Ones t
 label_ones r e s t l sound requests h takes =
+    -- what the kernel of a living process serves
+    -- and hears how that ended
+    -- a process follows the request from now on
+    let noted_ones : (r e : MsgId → ℕ) (s : OneKernel) (id : MsgId) (m : PlainMessage) (q : Pid) (k : MoveNote) → s.bag id ≡ Some m → k.id ≡ id → asks m.what ≡ true → Sound r e s → Ones s → Ones (with_note (without_message s id) q k) =
+      λ r e s id m q k there name asked h ones n p. search (arith, id_eq-is, id.from, id.n, h.entered.requests, and_false, s.noted, to_process, s.bag, out_off) in
+    let unnoted_ones : (s : OneKernel) (id : MsgId) (q : Pid) (x : PlainMessage) → s.noted id ≡ Some q → id.answer ≡ false → x.id ≡ answer_id id → is_answer x.what ≡ true → Ones s → Ones (with_sent (without_note s q id) (Some x)) =
+      λ s id q x noted asked name answers ones n p. search (arith, id_eq-is, x.id, followed_pair, s.bag, s.noted, sent_off, and_false, id_eq-same, off_by) in
+    let served_neither : (v w : PlainWhat) → v ≡ w → is_served w ≡ true → Neither v = λ v w e s. grind (arith, nat_tests, neither) in
     let unanswered : (id : MsgId) (o : Outcome) (p : Pid) (n : MoveNote) → Follows s id o p n → id.answer ≡ false = λ id o p n f. ap (λ (i : MsgId). i.answer) (sym (note-is e s id p n f.noted f.notes sound.notes)) ∙ requests p n f.notes in
+    -- a name of a process's own
+    let own_off : (r e : MsgId → ℕ) (s : OneKernel) (p : Pid) (x : PlainProcess) (i : MsgId) (k : ℕ) → Sound r e s → s.processes p ≡ Some (Alive x) → i ≡ id_of p k → (n : ℕ) → Off i n =
+      λ r e s p x i k sound alive is n. from_other i n (ap (λ (j : MsgId). pid_eq j.from manager) is ∙ (not_server s p x alive sound.made).1) in
     by_step Ones s t l (record {
       ran = λ p k x m is w. h;
       replies = λ p n k c d y is w. h;
@@ -83,9 +88,6 @@ label_ones r e s t l sound requests h takes =
 
 -- Wherever the rule leads, each pending request of the manager's has one message under its number.
 
-board_ones : (s : OneKernel) (id : MsgId) (m : PlainMessage) (k : board.BoardTook) → s.bag id ≡ Some m → board.board_takes s.switchboard m m.what ≡ Some k → Ones s → Ones (service.switchboard_took s id k)
-board_ones s id m k there is h = grind (arith, nat_tests, k.switchboard, k.answer, s.switchboard.sent, k.switchboard.sent, put_ones, from_other)
-
 -- the manager takes a user message: its requests stay, or there is one more, which it sends
 record Asked (g : Manager) (k : manage.ManagerTook) : Type 0 where
   link : Option PlainLink
@@ -107,9 +109,6 @@ if_took g c x y h k = grind (arith, nat_tests)
 
 wants_took : (g : Manager) (machines images machine image : ℕ) (links : List PlainLink) → UserTook g (manage.wants_child g machines images machine image links)
 wants_took g machines images machine image links = grind (arith, nat_tests, bad_took, if_took)
-
-requests_took : (g : Manager) (machines images : ℕ) (body : List ℕ) (links : List PlainLink) → UserTook g (manage.requests_child g machines images body links)
-requests_took g machines images body links = grind (arith, nat_tests, if_took, wants_took, bad_took)
 
 controls_took : (g : Manager) (machines : ℕ) (child : Option Pid) (body : List ℕ) (links : List PlainLink) → UserTook g (manage.controls g machines child body links)
 controls_took g machines (Some child) (operation ∷ []) links = grind (arith, nat_tests, bad_took)
@@ -161,6 +160,8 @@ user_ones r e s id m k there w (inr asked) sends up sound h n p = grind (arith, 
 manager_kind : (r e : MsgId → ℕ) (s : OneKernel) (id : MsgId) (m : PlainMessage) (k : manage.ManagerTook) (w : PlainWhat) → m.what ≡ w → manage.manager_takes s.manager s.machines (length s.images) m w ≡ Some k → s.bag id ≡ Some m → WhatFits s id m w → ServerSends manager s.manager.sent k.message k.manager.sent
     → ascends 0 s.manager.pending s.manager.sent ≡ true → Sound r e s → Ones s → Ones (service.manager_took s id k)
 manager_kind r e s id m k (PlainWhat.User code channel body links) w is there fits sends up sound h =
+    let requests_took : (g : Manager) (machines images : ℕ) (body : List ℕ) (links : List PlainLink) → UserTook g (manage.requests_child g machines images body links) =
+      λ g machines images body links. grind (arith, nat_tests, if_took, wants_took, bad_took) in
     let f : manage.takes_user s.manager s.machines (length s.images) code body links ≡ k = cc in
     user_ones r e s id m k there (neither m.what (PlainWhat.User code channel body links) w refl refl) (subst (UserTook s.manager) f (search (if_took, requests_took, controls_took))) sends up sound h
 manager_kind r e s id m k (PlainWhat.Created child) w is there fits sends up sound h =
@@ -174,7 +175,7 @@ manager_kind r e s id m k v w is there fits sends up sound h = cc
 step_ones : (r e : MsgId → ℕ) (s t : OneKernel) (l : Label) → kernel.step s l ≡ Some t → KernelFits s → ascends 0 s.manager.pending s.manager.sent ≡ true → Sound r e s → Ones s → Ones t
 step_ones r e s t l is fits up sound h =
     label_ones r e s t l sound (λ p n is_. (fits.notes p n is_).unanswered) h (record {
-      board = λ id m k there took. board_ones s id m k there took h;
+      board = λ id m k there took. grind (arith, nat_tests, k.switchboard, k.answer, s.switchboard.sent, k.switchboard.sent, put_ones, from_other);
       manager = λ id m k there took. manager_kind r e s id m k m.what refl took there (fits.messages id m there) (manager_takes_lem s.manager s.machines (length s.images) m m.what k took).2.sends up sound h;
     }) is
 
@@ -185,9 +186,6 @@ replay_ones (l ∷ ls) r e s t v is fits up sound h =
     let (u, first, rest) = bind-is (kernel.step s l) (λ (x : OneKernel). replay x ls) t is in
     let a = after_step r e s u l first sound in
     replay_ones ls (λ i. r i + reception i l) (λ i. e i + entry i s u) u t v rest (fits_step r e s u l first sound up fits) (step_pending s u v l first sound.entered.named up) a.sound (step_ones r e s u l first fits up sound h)
-
-ones_on : (b : Boot) (pt : Point) (d : Step) (w : Spelled) → group_of b pt d ≡ Some w → Based b pt → Ones pt.kernel → Ones w.point.kernel
-ones_on b pt d w is based h = search (replay_ones, group_replay)
 
 -- of which kind the request is
 kind_is : (k : PendingKind) (o : Option Pending) (r : Pending) → is_for k o ≡ true → o ≡ Some r → k ≡ r.kind
@@ -237,27 +235,21 @@ for_some k o e = grind (arith, nat_tests)
 id_as : (i : MsgId) (p : Pid) → i.from ≡ p → i.answer ≡ false → i ≡ id_of p i.n
 id_as i p from asked = λ j. record { from = from j; n = i.n; answer = asked j }
 
-answer_as : (i : MsgId) (p : Pid) → i.from ≡ p → i.answer ≡ true → i ≡ answer_id (id_of p i.n)
-answer_as i p from answers = λ j. record { from = from j; n = i.n; answer = answers j }
-
 is_asked : (s : OneKernel) (i : MsgId) (k : PendingKind) → i.answer ≡ false → IsPending s k i → IsOfPending s i
 is_asked s i k asked h = record { name = inl (id_as i manager h.from asked); pending = for_some k (manage.pending_numbered i.n s.manager.pending) h.pending }
 
 is_answered : (s : OneKernel) (i : MsgId) (k : PendingKind) → i.answer ≡ true → IsPending s k i → IsOfPending s i
-is_answered s i k answers h = record { name = inr (answer_as i manager h.from answers); pending = for_some k (manage.pending_numbered i.n s.manager.pending) h.pending }
-
-of_pending : (s : OneKernel) (i : MsgId) (m : PlainMessage) (w : PlainWhat) → WhatFits s i m w → (asks w ≡ true → i.answer ≡ false) → requests (plain_kind w) ≡ true → IsOfPending s i
-of_pending s i m w h1 h2 h3 = search (arith, is_asked, is_answered)
+is_answered s i k answers h = record { name = inr (λ j. record { from = h.from j; n = i.n; answer = answers j }); pending = for_some k (manage.pending_numbered i.n s.manager.pending) h.pending }
 
 -- wherever the rule leads
 pub pending_has_one : PendingHasOne
 pending_has_one b es pt valid leads =
     let based = based_always b es pt valid leads in
     let sane = based.phased.sane in
-    let ones = keeps_always b (λ q. Ones q.kernel) (λ q d w fit is run h. ones_on b q d w is run.based h) valid (λ n p. absurd (false≢true p)) es pt leads in
+    let ones = keeps_always b (λ q. Ones q.kernel) (λ q d w fit is run h. (let e_ : Ones w.point.kernel = search (replay_ones, group_replay, run.based) in e_)) valid (λ n p. absurd (false≢true p)) es pt leads in
     record {
       has = λ n r is. has_one sane.r sane.e pt.kernel n r is based.fits sane.sound (ones n (ap is_some is));
-      only = λ i m there e. of_pending pt.kernel i m m.what (based.fits.messages i m there) (sane.sound.entered.requests i m there) e;
+      only = λ i m there e. search (arith, is_asked, is_answered, based.fits.messages i m there, sane.sound.entered.requests i m there);
       followed = λ i p noted.
           let (k, notes, name) = sane.sound.notes.follows i p noted in
           let f = based.fits.notes p k notes in (

@@ -1,7 +1,7 @@
 -- Under a pending request's number there is the request or its answer: what keeps that.
 use Rattle.dm_movelaws.proofs.Names.{◌≡◌, ℕ, ◌<◌, ◌==◌, ◌&&◌, Bool, true, false, is_some, refl, ap, ◌∙◌, sym, subst, inl, inr, arith, if◌then◌else◌, Option, None, Some, cases_Bool, false≢true, nat_tests, pid_eq, MsgId, id_eq, id_of}
 use Rattle.dm_movelaws.proofs.Names.{bool_eq, PlainMessage, PlainWhat, manager, Pending, OneKernel, with_sent, answer_id, answer_to, without_message, id_eq-is, id_eq-same, ServerSends, Sound, not_counted, ascends, numbered_from, not_true}
-use Rattle.dm_movelaws.proofs.Names.{parts, is_pending, out_off, sent_off, manager_took, Pid, MoveNote, with_note, without_note, Notes-agree, ⊤, ◌≤◌, counts}
+use Rattle.dm_movelaws.proofs.Names.{parts, is_pending, out_off, sent_off, manager_took, Pid, Notes-agree, ⊤, ◌≤◌, counts}
 use Rattle.dm_laws.proofs.Entered.{asks}
 pub use Rattle.dm_rule.proofs.Trails.Spares.{and_no as and_false}
 use Rattle.dm_onekernel.specs.Manager as manage
@@ -75,7 +75,7 @@ from_other i n e = (ap (λ (c : Bool). (c && (i.n == n)) && bool_eq i.answer fal
 pub answer_off : (id : MsgId) (n : ℕ) → id.answer ≡ false → id_eq id (id_of manager n) ≡ false → Off (answer_id id) n
 answer_off id n asked off = (and_false (pid_eq id.from manager && (id.n == n)), sym (ap (λ (a : Bool). (pid_eq id.from manager && (id.n == n)) && bool_eq a false) asked) ∙ off)
 
-off_by : (i j : MsgId) (n : ℕ) → i ≡ j → Off j n → Off i n
+pub off_by : (i j : MsgId) (n : ℕ) → i ≡ j → Off j n → Off i n
 off_by i j n e h = subst (λ (k : MsgId). Off k n) (sym e) h
 
 -- a message is answered that is no request to make a process
@@ -111,58 +111,41 @@ pending_some : (s : OneKernel) (n : ℕ) (o : Option Pending) → manage.pending
 pending_some s n None is p up = absurd (false≢true p)
 pending_some s n (Some r) is p up = let k = (numbered_from s.manager.pending 0 s.manager.sent n r up is).1 in grind (arith, nat_tests)
 
-pub pending_less : (s : OneKernel) (n : ℕ) → is_pending s n ≡ true → ascends 0 s.manager.pending s.manager.sent ≡ true → n < s.manager.sent
-pending_less s n p up = pending_some s n (manage.pending_numbered n s.manager.pending) refl p up
-
 took_at : (s u : OneKernel) (id i : MsgId) (o : Option PlainMessage) → u.bag i ≡ (without_message s id).bag i → id_eq id i ≡ false → ((x : PlainMessage) → o ≡ Some x → id_eq x.id i ≡ false) → (with_sent u o).bag i ≡ s.bag i
 took_at s u id i o same off put = grind (arith, nat_tests, out_off, sent_off)
 
 -- the manager takes a message: a request that was pending has what it had
 pub took_pair : (s : OneKernel) (id : MsgId) (k : manage.ManagerTook) (n : ℕ) → ServerSends manager s.manager.sent k.message k.manager.sent → ascends 0 s.manager.pending s.manager.sent ≡ true → is_pending s n ≡ true → Off id n → Ones s
     → PairAt (manager_took s id k) n
-took_pair s id k n sends up p off h = grind (arith, nat_tests, pending_less, off_by, by_same, took_at)
-
--- it asks for a process: the request is the new one's
-none_out : (s : OneKernel) (id i : MsgId) (c : Bool) → s.bag i ≡ None → (if c then None else s.bag i) ≡ None
-none_out s id i c e = grind (arith, nat_tests)
-
-new_pair : (a b : Option PlainMessage) (c : Option Pid) (x : PlainMessage) → is_request x.what ≡ true → a ≡ Some x → b ≡ None → c ≡ None → Pair a b c
-new_pair a b c x e f g k = grind (arith, nat_tests)
-
--- nothing has come under its next number
-fresh_answer : (r e : MsgId → ℕ) (s : OneKernel) → Sound r e s → s.bag (answer_of s.manager.sent) ≡ None
-fresh_answer r e s h = grind (arith, nat_tests, not_counted)
-
-next_uncounted : (e : MsgId → ℕ) (s : OneKernel) → ((i : MsgId) → 1 ≤ e i → counts s i ≡ true) → 1 ≤ e (id_of manager s.manager.sent) → ⊥
-next_uncounted e s counted least = grind (arith, nat_tests)
+took_pair s id k n sends up p off h =
+    let pending_less : (s : OneKernel) (n : ℕ) → is_pending s n ≡ true → ascends 0 s.manager.pending s.manager.sent ≡ true → n < s.manager.sent = λ s n p up. pending_some s n (manage.pending_numbered n s.manager.pending) refl p up in
+    grind (arith, nat_tests, pending_less, off_by, by_same, took_at)
 
 unfollowed : (r e : MsgId → ℕ) (s : OneKernel) (i : MsgId) (o : Option Pid) → s.noted i ≡ o → Sound r e s → i ≡ id_of manager s.manager.sent → o ≡ None
 unfollowed r e s i None is h at_ = refl
-unfollowed r e s i (Some p) is h at_ = absurd (next_uncounted e s h.entered.counted (subst (λ (j : MsgId). 1 ≤ e j) at_ (h.notes.followed i p is).entered))
+unfollowed r e s i (Some p) is h at_ =
+    let next_uncounted : (e : MsgId → ℕ) (s : OneKernel) → ((i : MsgId) → 1 ≤ e i → counts s i ≡ true) → 1 ≤ e (id_of manager s.manager.sent) → ⊥ = λ e s counted least. grind (arith, nat_tests) in
+    absurd (next_uncounted e s h.entered.counted (subst (λ (j : MsgId). 1 ≤ e j) at_ (h.notes.followed i p is).entered))
 
+-- nothing has come under its next number
 pub asked_pair : (r e : MsgId → ℕ) (s : OneKernel) (id : MsgId) (k : manage.ManagerTook) (x : PlainMessage) → k.message ≡ Some x → x.id ≡ id_of manager s.manager.sent → is_request x.what ≡ true → Sound r e s
     → PairAt (manager_took s id k) s.manager.sent
 asked_pair r e s id k x sends name creates h =
+    let new_pair : (a b : Option PlainMessage) (c : Option Pid) (x : PlainMessage) → is_request x.what ≡ true → a ≡ Some x → b ≡ None → c ≡ None → Pair a b c = λ a b c x e f g k. grind (arith, nat_tests) in
     let n = s.manager.sent in
     let i = id_of manager n in
     let u = record (without_message s id) { manager = k.manager } in
     let off : id_eq x.id (answer_of n) ≡ false = ap (λ (j : MsgId). id_eq j (answer_of n)) name ∙ and_false (pid_eq manager manager && (n == n)) in
+    -- it asks for a process: the request is the new one's
+    let none_out : (if (id_eq id (answer_of n)) then None else s.bag (answer_of n)) ≡ None = grind (arith, nat_tests, (let e_ : s.bag (answer_of s.manager.sent) ≡ None = grind (arith, nat_tests, not_counted) in e_)) in
     new_pair ((manager_took s id k).bag i) ((manager_took s id k).bag (answer_of n)) ((manager_took s id k).noted i) x creates
     (ap (λ (o : Option PlainMessage). (with_sent u o).bag i) sends ∙ ap (λ (c : Bool). if c then Some x else u.bag i) (ap (λ (j : MsgId). id_eq j i) name ∙ id_eq-same i))
-    (ap (λ (o : Option PlainMessage). (with_sent u o).bag (answer_of n)) sends ∙ sent_off u x (answer_of n) off ∙ none_out s id (answer_of n) (id_eq id (answer_of n)) (fresh_answer r e s h))
+    (ap (λ (o : Option PlainMessage). (with_sent u o).bag (answer_of n)) sends ∙ sent_off u x (answer_of n) off ∙ none_out)
     (ap (λ (o : Option PlainMessage). (with_sent u o).noted i) sends ∙ unfollowed r e s i (s.noted i) refl h refl)
 
 -- the request goes from the bag to the process, and from there into its answer
-to_process : (a b : Option PlainMessage) (c : Option Pid) (m : PlainMessage) (a_ b_ : Option PlainMessage) (q : Pid) → a ≡ Some m → Pair a b c → a_ ≡ None → b_ ≡ b → Pair a_ b_ (Some q)
+pub to_process : (a b : Option PlainMessage) (c : Option Pid) (m : PlainMessage) (a_ b_ : Option PlainMessage) (q : Pid) → a ≡ Some m → Pair a b c → a_ ≡ None → b_ ≡ b → Pair a_ b_ (Some q)
 to_process a b c m a_ b_ q e h f g = grind (arith, nat_tests)
 
-followed_pair : (a a_ b b_ : Option PlainMessage) (c c_ : Option Pid) (q : Pid) (x : PlainMessage) → Pair a b c → c ≡ Some q → c_ ≡ None → a_ ≡ a → b_ ≡ Some x → is_answer x.what ≡ true → Pair a_ b_ c_
+pub followed_pair : (a a_ b b_ : Option PlainMessage) (c c_ : Option Pid) (q : Pid) (x : PlainMessage) → Pair a b c → c ≡ Some q → c_ ≡ None → a_ ≡ a → b_ ≡ Some x → is_answer x.what ≡ true → Pair a_ b_ c_
 followed_pair a a_ b b_ c c_ q x h e f g k answers = grind (arith, nat_tests)
-
--- a process follows the request from now on
-pub noted_ones : (r e : MsgId → ℕ) (s : OneKernel) (id : MsgId) (m : PlainMessage) (q : Pid) (k : MoveNote) → s.bag id ≡ Some m → k.id ≡ id → asks m.what ≡ true → Sound r e s → Ones s → Ones (with_note (without_message s id) q k)
-noted_ones r e s id m q k there name asked h ones n p = search (arith, id_eq-is, id.from, id.n, h.entered.requests, and_false, s.noted, to_process, s.bag, out_off)
-
--- and hears how that ended
-pub unnoted_ones : (s : OneKernel) (id : MsgId) (q : Pid) (x : PlainMessage) → s.noted id ≡ Some q → id.answer ≡ false → x.id ≡ answer_id id → is_answer x.what ≡ true → Ones s → Ones (with_sent (without_note s q id) (Some x))
-unnoted_ones s id q x noted asked name answers ones n p = search (arith, id_eq-is, x.id, followed_pair, s.bag, s.noted, sent_off, and_false, id_eq-same, off_by)

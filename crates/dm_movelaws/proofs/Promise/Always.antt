@@ -26,9 +26,6 @@ kept_place pt t id p q place k on rest told same leads least =
     let said : slice_get (t q) place.moves ≡ Some place.at = on.about id (update_of p q place) q place.at place.moves told refl in
     λ i. record { at = (same_some a.at place.at (sym there ∙ ap (slice_get (t q)) moves ∙ said)) i; moves = moves i }
 
-grounds_of : (b : Boot) (pt : Point) → Based b pt → Grounds pt.kernel
-grounds_of b pt h = record { r = h.phased.sane.r; e = h.phased.sane.e; sound = h.phased.sane.sound; pending = h.pending }
-
 promised_by : UpdatesAlways → TrailKnown → (b : Boot) (before between : List Step) (told pt : Point) (id : MsgId) (p q : Pid) (place : Place) → IsValid b → Leads b (first_point b) before told → Leads b (first_point b) (before ++ between) pt → AtRest pt
     → told.view.told id ≡ Some (update_of p q place) → Handles b told pt between id → Promised b told pt between id p q place
 promised_by updates trail b before between told pt id p q place valid comes all rest is h =
@@ -38,6 +35,7 @@ promised_by updates trail b before between told pt id p q place valid comes all 
     let told_group : h.group.point.view.told id ≡ Some (update_of p q place) = lines_told h.group.lines h.handled h.group.point id (update_of p q place) (group_after b h.handled h.directive h.group h.is) told_handled in
     let late = lines_by b h.late h.group.point pt h.rest in
     let told_end : pt.view.told id ≡ Some (update_of p q place) = lines_told late.lines h.group.point pt id (update_of p q place) late.leads told_group in
+    let grounds_of : (b : Boot) (pt : Point) → Based b pt → Grounds pt.kernel = λ b pt h. record { r = h.phased.sane.r; e = h.phased.sane.e; sound = h.phased.sane.sound; pending = h.pending } in
     let grounds = grounds_of b h.group.point (based_group b h.handled h.directive h.group h.fit h.is (based_always b (before ++ h.early) h.handled valid first)) in
     let update = (updates b (before ++ h.early) h.handled h.directive h.group id h.count (Line.Head h.directive ∷ []) [] valid first h.is h.says).1 in
     let (t, on) = trail b (before ++ between) pt valid all in

@@ -46,36 +46,32 @@ all_loose (p ∷ ps) = is_loose p && all_loose ps
 spares_quiet : (j : MsgId) (v : View) (l : Line) → Spares j v l → (touches l ≡ false) × (is_put l ≡ false)
 spares_quiet j v l e = grind (arith, nat_tests)
 
--- pairs that fit
-says_fit : (pt next : Point) (l : Line) → touches l ≡ false → PairsFit pt.view → Steps pt (Says l) next → PairsFit next.view
-says_fit pt next l quiet h s =
-    let k = said_by pt next l s in
-    subst (λ (x : Point). PairsFit x.view) k.is (fits_as pt.view (seen pt.kernel pt.view l) (pair_same pt.view l quiet) h)
-
-fits_behind : (j : MsgId) (pt : Point) (p : Part) → NeedsPart j pt p → PairsFit pt.view → Behind (λ x. PairsFit x.view) pt p
-fits_behind j pt p need h = grind (arith, nat_tests, whatever_put, fits_as, pair_same, spares_quiet, fits_put)
-
-part_fits : (j : MsgId) (pt next : Point) (p : Part) → NeedsPart j pt p → PairsFit pt.view → Steps pt p next → PairsFit next.view
-part_fits j pt next p need h s = part_leads (λ x. PairsFit x.view) (λ x a c n l f. fits_packet x.view a c n l f) pt next p (fits_behind j pt p need h) s
-
 base_on : (j : MsgId) (t : Told) (pt next : Point) (p : Part) → Sayable p → PairsFit next.view → Base j t pt → Steps pt p next → Base j t next
 base_on j t pt next p ok fits h s = search (part_sane, lines_told)
 
 -- a line that touches no pair
 pub base_says : (j : MsgId) (t : Told) (pt next : Point) (l : Line) → touches l ≡ false → is_put l ≡ false → Base j t pt → Steps pt (Says l) next → Base j t next
-base_says j t pt next l quiet ok h s = base_on j t pt next (Says l) ok (says_fit pt next l quiet h.fits s) h s
+base_says j t pt next l quiet ok h s =
+    -- pairs that fit
+    let says_fit : (pt next : Point) (l : Line) → touches l ≡ false → PairsFit pt.view → Steps pt (Says l) next → PairsFit next.view = λ pt next l quiet h s.
+      let k = said_by pt next l s in
+      subst (λ (x : Point). PairsFit x.view) k.is (fits_as pt.view (seen pt.kernel pt.view l) (pair_same pt.view l quiet) h) in
+    base_on j t pt next (Says l) ok (says_fit pt next l quiet h.fits s) h s
 
 part_base : (j : MsgId) (t : Told) (pt next : Point) (p : Part) → NeedsPart j pt p → Base j t pt → Steps pt p next → Base j t next
-part_base j t pt next p need h s = base_on j t pt next p (grind (arith, nat_tests, spares_quiet)) (part_fits j pt next p need h.fits s) h s
-
--- and it stands
-line_behind : (j : MsgId) (pt : Point) (s : OneKernel) (l : Line) → Spares j pt.view l → Sane pt → is_kernels j ≡ true → Stands pt.view j → kernel_after pt.kernel (label_of l) ≡ Some s → Stands (view_after pt.view l) j
-line_behind j pt s l need sane own h step =
-    line_stands pt.view j l need
-    (λ x is. subst (λ (y : Line). Stands (view_after pt.view y) j) (sym is) (label_stands pt s x j sane (ap (λ (y : Line). kernel_after pt.kernel (label_of y)) (sym is) ∙ step) own h)) h
+part_base j t pt next p need h s =
+    let part_fits : (j : MsgId) (pt next : Point) (p : Part) → NeedsPart j pt p → PairsFit pt.view → Steps pt p next → PairsFit next.view = λ j pt next p need h s.
+      let fits_behind : Behind (λ x. PairsFit x.view) pt p = grind (arith, nat_tests, whatever_put, fits_as, pair_same, spares_quiet, fits_put) in
+      part_leads (λ x. PairsFit x.view) (λ x a c n l f. fits_packet x.view a c n l f) pt next p fits_behind s in
+    base_on j t pt next p (grind (arith, nat_tests, spares_quiet)) (part_fits j pt next p need h.fits s) h s
 
 part_stands : (j : MsgId) (t : Told) (pt next : Point) (p : Part) → NeedsPart j pt p → Base j t pt → Stands pt.view j → Steps pt p next → Stands next.view j
 part_stands j t pt next p need base h s =
+    -- and it stands
+    let line_behind : (j : MsgId) (pt : Point) (s : OneKernel) (l : Line) → Spares j pt.view l → Sane pt → is_kernels j ≡ true → Stands pt.view j → kernel_after pt.kernel (label_of l) ≡ Some s → Stands (view_after pt.view l) j =
+      λ j pt s l need sane own h step.
+      line_stands pt.view j l need
+      (λ x is. subst (λ (y : Line). Stands (view_after pt.view y) j) (sym is) (label_stands pt s x j sane (ap (λ (y : Line). kernel_after pt.kernel (label_of y)) (sym is) ∙ step) own h)) h in
     part_leads (λ x. Stands x.view j) (λ x a c n l f. packet_stands x.view a c n l j f) pt next p
     (whatever_put (λ x. Stands x.view j) pt p (λ l is k step. about_stands (view_after pt.view l) (moved pt l k).view.topic j (line_behind j pt k l (subst (NeedsPart j pt) is need) base.sane base.own h step)) (λ b i k q. put_stands pt.view pt.view.acting b i k q j base.fits h) h) s
 
@@ -102,11 +98,6 @@ loose_stands (p ∷ ps) j t pt w e base h is =
     let need : NeedsPart j pt p = grind (arith, nat_tests, both.0) in
     subst (λ (x : Point). Stands x.view j) n.point (loose_stands ps j t n.next n.rest both.1 (part_base j t pt n.next p need base n.steps) (part_stands j t pt n.next p need base h n.steps) n.more)
 
-pub first_goes : (j : MsgId) (t : Told) (pt : Point) (p : Part) (ps : List Part) → NeedsPart j pt p → all_loose ps ≡ true → Base j t pt → Stands pt.view j → Goes j pt (p ∷ ps)
-first_goes j t pt p ps need e base h w is =
-    let n = next_of pt p ps w is in
-    inl (subst (λ (x : Point). Stands x.view j) n.point (loose_stands ps j t n.next n.rest e (part_base j t pt n.next p need base n.steps) (part_stands j t pt n.next p need base h n.steps) n.more))
-
 pub sends_stand : (ids : List MsgId) (j : MsgId) (t : Told) (to : ℕ) (ps : List Part) (pt : Point) (w : Spelled) → all_loose ps ≡ true → Base j t pt → Stands pt.view j ⊎ (1 ≤ times j ids) → spelled pt (sends_on to ids ++ ps) ≡ Some w → Stands w.point.view j
 sends_stand [] j t to ps pt w e base h is = elim h [
   | inl there ↦ loose_stands ps j t pt w e base there is
@@ -130,7 +121,11 @@ pub record Waits (j : MsgId) (t : Told) (pt : Point) : Type 0 where
   pub stands : Stands pt.view j
 
 pub first_row : (j : MsgId) (t : Told) (pt : Point) (p : Part) (ps : List Part) → Waits j t pt → NeedsPart j pt p → all_loose ps ≡ true → Goes j pt (p ∷ ps)
-first_row j t pt p ps h need e = first_goes j t pt p ps need e h.base h.stands
+first_row j t pt p ps h need e =
+    let first_goes : (j : MsgId) (t : Told) (pt : Point) (p : Part) (ps : List Part) → NeedsPart j pt p → all_loose ps ≡ true → Base j t pt → Stands pt.view j → Goes j pt (p ∷ ps) = λ j t pt p ps need e base h w is.
+      let n = next_of pt p ps w is in
+      inl (subst (λ (x : Point). Stands x.view j) n.point (loose_stands ps j t n.next n.rest e (part_base j t pt n.next p need base n.steps) (part_stands j t pt n.next p need base h n.steps) n.more)) in
+    first_goes j t pt p ps need e h.base h.stands
 
 pub loose_row : (j : MsgId) (t : Told) (pt : Point) (ps : List Part) → Waits j t pt → all_loose ps ≡ true → Goes j pt ps
 loose_row j t pt ps h e = (λ w is. inl (loose_stands ps j t pt w e h.base h.stands is))
@@ -163,12 +158,6 @@ asks_goes j t pt id msg to h there what w is =
     let need : NeedsPart j n.next first = subst (Fronts n.next.view j) topic tt in
     let o = next_of n.next first ps n.rest n.more in
     inl (subst (λ (x : Point). Stands x.view j) (o.point ∙ n.point) (loose_stands ps j t o.next o.rest refl (part_base j t n.next o.next first need base o.steps) (part_stands j t n.next o.next first need base stands o.steps) o.more))
-
-pub handles_goes : (j : MsgId) (t : Told) (pt : Point) (b : Boot) (o : Point) (m : ℕ) (id : MsgId) (msg : PlainMessage) (ps : List Part) → Waits j t pt → pt.kernel.bag id ≡ Some msg → id_eq id j ≡ false
-    → rule.handles b o m id msg ≡ Some ps → Goes j pt ps
-handles_goes j t pt b o m id msg ps h there off e =
-    loose_handles (Goes j pt) (λ xs. all_loose xs ≡ true) quiet_loose (λ xs. loose_row j t pt xs h) b o m id msg ps (λ here. first_row j t pt (Says (Line.Queued id)) [] h off refl) (first_row j t pt (Says (Line.Held id)) [] h off refl)
-    (λ to here what apart. asks_goes j t pt id msg to h there what) (λ to moves at_. forwards_goes j t pt o.addresses id (plain_kind msg.what) msg.sender to h off) e
 
 -- A turn that handles a kernel's own message leaves another standing; an update that it handles goes on, or that is said alone.
 
@@ -222,16 +211,11 @@ hears_goes j t pt b o m i q ps are h k =
     })
 
 -- the update itself
-one_line : (xs ys zs : List Line) (l : Line) → Some (l ∷ []) ≡ Some xs → ys ≡ [] → xs ++ ys ≡ zs → zs ≡ l ∷ []
-one_line xs ys zs l is none all = let f : l ∷ [] ≡ xs = cc in sym (ap (λ (us : List Line). us ++ ys) f ∙ all) ∙ ap (λ (us : List Line). l ∷ us) none
-
-no_lines : (pt : Point) (w : Spelled) → spelled pt [] ≡ Some w → w.lines ≡ []
-no_lines pt w is = let f : record { lines = []; point = pt } ≡ w = cc in sym (ap (λ (x : Spelled). x.lines) f)
-
 updates_this : (j : MsgId) (pt : Point) (n : ℕ) → Goes j pt (Says (Line.Updated j n) ∷ [])
 updates_this j pt n w is =
+    let no_lines : (pt : Point) (w : Spelled) → spelled pt [] ≡ Some w → w.lines ≡ [] = λ pt w is. let f : record { lines = []; point = pt } ≡ w = cc in sym (ap (λ (x : Spelled). x.lines) f) in
     let k = next_of pt (Says (Line.Updated j n)) [] w is in
-    inr (n, one_line k.steps.lines k.rest.lines w.lines (Line.Updated j n) k.steps.are (no_lines k.next k.rest k.more) k.lines)
+    inr (n, let f : (Line.Updated j n) ∷ [] ≡ k.steps.lines = cc in sym (ap (λ (us : List Line). us ++ k.rest.lines) f ∙ k.lines) ∙ ap (λ (us : List Line). (Line.Updated j n) ∷ us) (no_lines k.next k.rest k.more))
 
 forwarded_goes : (j : MsgId) (t : Told) (pt : Point) (to : ℕ) → Waits j t pt → Goes j pt (Says (Line.Forwarded j to) ∷ Again j to ∷ [])
 forwarded_goes j t pt to h w is =
@@ -243,18 +227,12 @@ forwarded_goes j t pt to h w is =
     let last : k.next ≡ k.rest.point = last_point k.next k.rest k.more in
     inl (subst (λ (x : Point). Stands x.view j) (last ∙ end) there)
 
-goes_if : (j : MsgId) (pt : Point) (c : Bool) (x y : Option (List Part)) → GoesOf j pt x → GoesOf j pt y → GoesOf j pt (if c then x else y)
-goes_if j pt c x y h k = grind (arith, nat_tests)
-
 process_this : (j : MsgId) (pt o : Point) (m : ℕ) (p q : Pid) (place : Place) (c : Known) → Waits j (update_of p q place) pt → GoesOf j pt (process_told o m j (update_of p q place) c)
 process_this j pt o m p q place Unknown h = tt
 process_this j pt o m p q place Here h = updates_this j pt _
 process_this j pt o m p q place (Forward at moves) h = forwarded_goes j (update_of p q place) pt at h
 process_this j pt o m p q place Ended h = updates_this j pt 0
 process_this j pt o m p q place _ h = search (arith, next_of, said_by, held_this, loose_stands, base_says)
-
-pub hears_this : (j : MsgId) (pt : Point) (b : Boot) (o : Point) (m : ℕ) (p q : Pid) (place : Place) → Waits j (update_of p q place) pt → GoesOf j pt (rule.hears b o m j (Some (update_of p q place)))
-hears_this j pt b o m p q place h = search (goes_if, updates_this, process_this)
 
 -- Each group leaves an update that is under way standing somewhere, or says that it was handled, and nothing else.
 
@@ -266,13 +244,13 @@ update_own pt j t None there update told h phased = grind (arith, nat_tests, und
 -- a turn
 turned_by : (b : Boot) (o : Point) (m : ℕ) (j : MsgId) (p q : Pid) (place : Place) (i : MsgId) (is : List MsgId) (ps : List Part) (c : Bool) → id_eq i j ≡ c → o.view.inbox m ≡ i ∷ is → Waits j (update_of p q place) (begun o (Step.Turn m)) → rule.hears b o m i (o.view.told i) ≡ Some ps → Goes j (begun o (Step.Turn m)) ps
 turned_by b o m j p q place i is ps true e front h said =
+    let hears_this : (j : MsgId) (pt : Point) (b : Boot) (o : Point) (m : ℕ) (p q : Pid) (place : Place) → Waits j (update_of p q place) pt → GoesOf j pt (rule.hears b o m j (Some (update_of p q place))) = λ j pt b o m p q place h.
+      let goes_if : (j : MsgId) (pt : Point) (c : Bool) (x y : Option (List Part)) → GoesOf j pt x → GoesOf j pt y → GoesOf j pt (if c then x else y) = λ j pt c x y h k. grind (arith, nat_tests) in
+      search (goes_if, updates_this, process_this) in
     let same : i ≡ j = id_eq-is i j e in
     let pt = begun o (Step.Turn m) in
     subst (GoesOf j pt) (ap (rule.hears b o m j) (sym h.base.told) ∙ ap (λ (x : MsgId). rule.hears b o m x (o.view.told x)) (sym same) ∙ said) (hears_this j pt b o m p q place h)
 turned_by b o m j p q place i is ps false e front h said = search hears_goes
-
-bag_apart : (pt : Point) (i j : MsgId) (x : PlainMessage) → Sane pt → pt.kernel.bag i ≡ Some x → is_kernels j ≡ true → id_eq i j ≡ false
-bag_apart pt i j x h there own = not_true (id_eq i j) (λ f. false≢true (sym (not_kernels h.r h.e pt.kernel i x there h.sound) ∙ ap is_kernels (id_eq-is i j f) ∙ own))
 
 -- packets and what they bring
 net_goes : (ps : List Part) (j : MsgId) (pt : Point) (w : Spelled) → IsNet ps → Stands pt.view j → spelled pt ps ≡ Some w → Stands w.point.view j
@@ -280,28 +258,27 @@ net_goes ps j pt w net h is = net_lead (λ x. Stands x.view j) (λ x a c n l f. 
     (λ q s l line there. about_stands (view_after q.view l) (topic_by q.kernel (view_after q.view l).topic (label_of l)) j (net_stands q.view l j line there)) ps pt w net is h
 
 -- a directive to move a process
-migrates_loose : (o : Point) (p : Pid) → all_loose (migrates o p) ≡ true
-migrates_loose o p = by_migrates (λ (ps : List Part). all_loose ps ≡ true) o p refl refl (λ n off is. refl)
-
 outcome_goes : (b : Boot) (o : Point) (d : Step) (ps : List Part) (j : MsgId) (p q : Pid) (place : Place) → ((e : Step) → Waits j (update_of p q place) (begun o e)) → rule.outcome b o d ≡ Some ps → Goes j (begun o d) ps
 outcome_goes b o d ps j p q place h = by_outcome (λ e. Goes j (begun o e)) b o d ps (record {
   round = λ m xs box e. round_goes j (update_of p q place) (begun o (Step.Turn m)) b o m (rule.first_runnable o.kernel (o.view.queue m) (o.view.ring m)) xs (h (Step.Turn m)) e;
   handles = λ m i is msg xs box there e.
       (let w = h (Step.Turn m) in
-      handles_goes j (update_of p q place) (begun o (Step.Turn m)) b o m i msg xs w there (bag_apart (begun o (Step.Turn m)) i j msg w.base.sane there w.base.own) e);
+      let bag_apart : id_eq i j ≡ false = not_true (id_eq i j) (λ f. false≢true (sym (not_kernels w.base.sane.r w.base.sane.e (begun o (Step.Turn m)).kernel i msg there w.base.sane.sound) ∙ ap is_kernels (id_eq-is i j f) ∙ w.base.own)) in
+      let handles_goes : (j : MsgId) (t : Told) (pt : Point) (b : Boot) (o : Point) (m : ℕ) (id : MsgId) (msg : PlainMessage) (ps : List Part) → Waits j t pt → pt.kernel.bag id ≡ Some msg → id_eq id j ≡ false
+        → rule.handles b o m id msg ≡ Some ps → Goes j pt ps = λ j t pt b o m id msg ps h there off e.
+        loose_handles (Goes j pt) (λ xs. all_loose xs ≡ true) quiet_loose (λ xs. loose_row j t pt xs h) b o m id msg ps (λ here. first_row j t pt (Says (Line.Queued id)) [] h off refl) (first_row j t pt (Says (Line.Held id)) [] h off refl)
+        (λ to here what apart. asks_goes j t pt id msg to h there what) (λ to moves at_. forwards_goes j t pt o.addresses id (plain_kind msg.what) msg.sender to h off) e in
+      handles_goes j (update_of p q place) (begun o (Step.Turn m)) b o m i msg xs w there bag_apart e);
   hears = λ m i is xs box none e. turned_by b o m j p q place i is xs (id_eq i j) refl box (h (Step.Turn m)) e;
   ticks = λ m xs net w is. inl (net_goes xs j (begun o (Step.Tick m)) w net (h (Step.Tick m)).stands is);
   delivers = λ a c k xs net w is. inl (net_goes xs j (begun o (Step.Deliver a c k)) w net (h (Step.Deliver a c k)).stands is);
-  asks = λ r m. loose_row j (update_of p q place) (begun o (Step.Migrate r m)) (migrates o r) (h (Step.Migrate r m)) (migrates_loose o r);
+  asks = λ r m. loose_row j (update_of p q place) (begun o (Step.Migrate r m)) (migrates o r) (h (Step.Migrate r m)) (by_migrates (λ (ps : List Part). all_loose ps ≡ true) o r refl refl (λ n off is. refl));
 })
 
 -- a head leaves the streams as they are
-head_fits : (o : Point) (d : Step) → PairsFit o.view → PairsFit (begun o d).view
-head_fits o d h = grind (arith, nat_tests)
-
 waits_begun : (o : Point) (d : Step) (j : MsgId) (t : Told) → t.kind ≡ MessageKind.Update → o.view.told j ≡ Some t → Stands o.view j → Phased o → Waits j t (begun o d)
 waits_begun o d j t update told h phased = record {
-  base = record { sane = begun_sane o d phased.sane; fits = head_fits o d (fits o.view phased.pairs); own = update_own o j t (o.kernel.bag j) refl update told h phased; told = told_stays o.view (Line.Head d) j t told };
+  base = record { sane = begun_sane o d phased.sane; fits = grind (arith, nat_tests, fits o.view phased.pairs); own = update_own o j t (o.kernel.bag j) refl update told h phased; told = told_stays o.view (Line.Head d) j t told };
   stands = grind (arith, nat_tests, stands_off, turn_off, tick_off, deliver_off, migrate_off);
 }
 

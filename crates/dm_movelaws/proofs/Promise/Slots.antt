@@ -25,9 +25,6 @@ holders-append : (xs ys : List Gets) → holders (xs ++ ys) ≡ holders xs ++ ho
 holders-append [] ys = refl
 holders-append (x ∷ xs) ys = ap (λ (hs : List Holder). x.holder ∷ hs) (holders-append xs ys)
 
-both_same : (xs ys zs ws : List Gets) → holders xs ≡ holders ys → holders zs ≡ holders ws → holders (xs ++ zs) ≡ holders (ys ++ ws)
-both_same xs ys zs ws e f = holders-append xs zs ∙ ap (λ (hs : List Holder). hs ++ holders zs) e ∙ ap (λ (hs : List Holder). holders ys ++ hs) f ∙ sym (holders-append ys ws)
-
 -- messages that are sent
 encloses_same : (id : MsgId) (n : ℕ) (f g : ℕ → Place) (ks : List ℕ) → holders (encloses id n (map f ks)) ≡ holders (encloses id n (map g ks))
 encloses_same id n f g [] = refl
@@ -46,17 +43,17 @@ sends_next_same v w a b p x id o = grind (arith, nat_tests, sends_what_same)
 sends_same : (s : OneKernel) (v w : View) (a b : Addresses) (p : Pid) (id : MsgId) (o : Option PlainProcess) → holders (addresses.send_gets s v a p id o) ≡ holders (addresses.send_gets s w b p id o)
 sends_same s v w a b p id o = grind (arith, nat_tests, sends_next_same)
 
--- calls
-fills_same : (p : Pid) (o : Option ℕ) (x y : Place) → holders (addresses.fills p o x) ≡ holders (addresses.fills p o y)
-fills_same p o x y = grind (arith, nat_tests)
-
 -- links that are received
 links_same : (a b : Addresses) (p : Pid) (id : MsgId) (n : ℕ) (slots : List (Option PlainLink)) (ls : List PlainLink) → holders (receives_links a p id n slots ls) ≡ holders (receives_links b p id n slots ls)
 links_same a b p id n slots [] = refl
 links_same a b p id n slots (l ∷ ls) =
+    -- calls
+    let fills_same : holders (addresses.fills p (first_empty slots) (a (Enclosed id n))) ≡ holders (addresses.fills p (first_empty slots) (b (Enclosed id n))) = grind (arith, nat_tests) in
+    let both_same : (xs ys zs ws : List Gets) → holders xs ≡ holders ys → holders zs ≡ holders ws → holders (xs ++ zs) ≡ holders (ys ++ ws) =
+      λ xs ys zs ws e f. holders-append xs zs ∙ ap (λ (hs : List Holder). hs ++ holders zs) e ∙ ap (λ (hs : List Holder). holders ys ++ hs) f ∙ sym (holders-append ys ws) in
     both_same (addresses.fills p (first_empty slots) (a (Enclosed id n))) (addresses.fills p (first_empty slots) (b (Enclosed id n)))
     (receives_links a p id (n + 1) (slot_after slots l (first_empty slots)) ls) (receives_links b p id (n + 1) (slot_after slots l (first_empty slots)) ls)
-    (fills_same p (first_empty slots) (a (Enclosed id n)) (b (Enclosed id n))) (links_same a b p id (n + 1) (slot_after slots l (first_empty slots)) ls)
+    fills_same (links_same a b p id (n + 1) (slot_after slots l (first_empty slots)) ls)
 
 receives_what_same : (a b : Addresses) (p : Pid) (id : MsgId) (x : PlainProcess) (u : PlainWhat) → holders (receives_burden a p id x (burden_of u)) ≡ holders (receives_burden b p id x (burden_of u))
 receives_what_same a b p id x u = grind (arith, nat_tests, links_same)
@@ -91,10 +88,6 @@ takes_same s v w a b id o = grind (arith, nat_tests, manager_takes_same)
 ends_same : (v w : View) (a b : Addresses) (id : MsgId) (o : Option Pid) → holders (request.given_at_end v a id o) ≡ holders (request.given_at_end w b id o)
 ends_same v w a b id None = refl
 ends_same v w a b id (Some p) = refl
-
--- a row a label
-pub gives_same : (s : OneKernel) (v w : View) (a b : Addresses) (l : Label) → holders (gives s v a l) ≡ holders (gives s w b l)
-gives_same s v w a b l = search (arith, sends_same, receives_same, serves_same, takes_same, creates_same, ends_same)
 
 -- Where no line gives a slot an address, a link in it was there before.
 
@@ -131,17 +124,11 @@ Was s p k q place = place.moves ≡ 1 → leads_to s (Slot p k) ≡ Some q
 none_was : (s : OneKernel) (p : Pid) (k : ℕ) (q : Pid) (place : Place) → place.moves ≡ 0 → Was s p k q place
 none_was s p k q place zero_ one = absurd (omega (arith, zero_, one))
 
-slot_same : (p : Pid) (k : ℕ) → holder_eq (Slot p k) (Slot p k) ≡ true
-slot_same p k = ap (λ (c : Bool). c && (k == k)) (pid_eq-same p) ∙ eq_self k
-
-marks_are : (s : OneKernel) (p : Pid) (k : ℕ) → HomesAre (Was s p k) s (marked p k)
-marks_are s p k h q e = grind (arith, nat_tests, none_was)
-
-said_marked : (s : OneKernel) (v : View) (p : Pid) (k : ℕ) (l : Label) → SaidOn (Was s p k) s (still_view s v l) (marked p k) l
-said_marked s v p k l = grind (arith, nat_tests)
-
 marked_home : (s t : OneKernel) (v : View) (l : Label) (p : Pid) (k : ℕ) → kernel.step s l ≡ Some t → Named s → ascends 0 s.manager.pending s.manager.sent ≡ true → AtHome (Was s p k) t (given (marked p k) (gives s (still_view s v l) (marked p k) l))
-marked_home s t v l p k is named pending = search (label_on, said_marked, at_home, none_was, marks_are)
+marked_home s t v l p k is named pending =
+    let marks_are : (s : OneKernel) (p : Pid) (k : ℕ) → HomesAre (Was s p k) s (marked p k) = λ s p k h q e. grind (arith, nat_tests, none_was) in
+    let said_marked : (s : OneKernel) (v : View) (p : Pid) (k : ℕ) (l : Label) → SaidOn (Was s p k) s (still_view s v l) (marked p k) l = λ s v p k l. grind (arith, nat_tests) in
+    search (label_on, said_marked, at_home, none_was, marks_are)
 
 -- the manager's requests stay in their order
 pub step_pending : (s t : OneKernel) (v : View) (l : Label) → kernel.step s l ≡ Some t → Named s → ascends 0 s.manager.pending s.manager.sent ≡ true → ascends 0 t.manager.pending t.manager.sent ≡ true
@@ -152,7 +139,9 @@ pub led_before : (s t : OneKernel) (v : View) (a : Addresses) (l : Label) (p q :
     → leads_to s (Slot p k) ≡ Some q
 led_before s t v a l p q k is named pending spared leads =
     let gs = gives s (still_view s v l) (marked p k) l in
-    let off : gives_to (Slot p k) gs ≡ false = same_given (Slot p k) gs (gives s v a l) (gives_same s (still_view s v l) v (marked p k) a l) ∙ spared in
+    -- a row a label
+    let gives_same : holders (gives s (still_view s v l) (marked p k) l) ≡ holders (gives s v a l) = search (arith, sends_same, receives_same, serves_same, takes_same, creates_same, ends_same) in
+    let off : gives_to (Slot p k) gs ≡ false = same_given (Slot p k) gs (gives s v a l) gives_same ∙ spared in
     let at : given (marked p k) gs (Slot p k) ≡ marked p k (Slot p k) = not_given (marked p k) (Slot p k) gs off in
-    let one : (marked p k (Slot p k)).moves ≡ 1 = ap (λ (c : Bool). (if c then record { at = 0; moves = 1 } else unmoved 0).moves) (slot_same p k) in
+    let one : (marked p k (Slot p k)).moves ≡ 1 = ap (λ (c : Bool). (if c then record { at = 0; moves = 1 } else unmoved 0).moves) (ap (λ (c : Bool). c && (k == k)) (pid_eq-same p) ∙ eq_self k) in
     homes_are (Was s p k) t (given (marked p k) gs) (marked_home s t v l p k is named pending) (Slot p k) q leads (ap (λ (x : Place). x.moves) at ∙ one)

@@ -32,9 +32,6 @@ pub record Front (v : View) (j : MsgId) : Type 0 where
 pub first_stands : (v : View) (j : MsgId) → Front v j → Stands v j → Stands (handled_first v) j
 first_stands v j f h = stands_as v (handled_first v) j (λ z. ap (times j) (first_off v f.first f.rest f.is z) ∙ handled_spots v f.first j f.apart z) h
 
-handled_stands : (v : View) (i j : MsgId) → id_eq i j ≡ false → Stands v j → Stands (handled v i) j
-handled_stands v i j e h = stands_as v (handled v i) j (λ z. handled_spots v i j e z) h
-
 -- behind the line that a process is asked to move, what it takes is taken already
 abbrev pub Fronts : View → MsgId → About → Type 0
 Fronts v j (Target m) = ⊤
@@ -81,13 +78,10 @@ Spares j v (Line.Taken a b n) = ⊥
 Spares j v _ = ⊤
 
 -- held messages come to the front of the inbox
-both_there : (j : MsgId) (xs ys : List MsgId) → 1 ≤ times j xs + times j ys → 1 ≤ times j (xs ++ ys)
-both_there j xs ys e = let f = times-append j xs ys in omega (arith, e, f)
-
 released_inbox : (v : View) (p : Pid) (j : MsgId) → 1 ≤ times j (v.held v.acting p) + times j (v.inbox v.acting) → Stands (released v p) j
 released_inbox v p j e =
     let f : times j ((released v p).inbox v.acting) ≡ times j (v.held v.acting p ++ v.inbox v.acting) = ap (times j) (at_machine_at v.inbox v.acting (v.held v.acting p ++ v.inbox v.acting)) in
-    let g = both_there j (v.held v.acting p) (v.inbox v.acting) e in
+    let g : 1 ≤ times j ((v.held v.acting p) ++ (v.inbox v.acting)) = let f = times-append j (v.held v.acting p) (v.inbox v.acting) in omega (arith, e, f) in
     record { spot = Inbox v.acting; least = omega (arith, f, g) }
 
 released_held : (v : View) (p : Pid) (j : MsgId) (m : ℕ) (q : Pid) → 1 ≤ times j (v.held m q) → Stands (released v p) j
@@ -134,13 +128,13 @@ line_stands v j (Line.NoChild p) e step_ h = h
 line_stands v j (Line.Pinned p) e step_ h = h
 line_stands v j (Line.Migration Stage.Asked p) e step_ h = h
 line_stands v j (Line.Migration Stage.Left p) e step_ h = stands_off v (view_after v (Line.Migration Stage.Left p)) j (λ z. left_off v p z) h
-line_stands v j (Line.Queued i) e step_ h = stands_as (handled v i) (view_after v (Line.Queued i)) j (λ z. queued_spots (handled v i) i j (receiver_of (v.told i)) e z) (handled_stands v i j e h)
-line_stands v j (Line.Held i) e step_ h = stands_as (handled v i) (view_after v (Line.Held i)) j (λ z. held_spots (handled v i) i j (receiver_of (v.told i)) e z) (handled_stands v i j e h)
-line_stands v j (Line.Forwarded i m) e step_ h = stands_as (handled v i) (view_after v (Line.Forwarded i m)) j (λ z. forwarded_spots (handled v i) j (receiver_of (v.told i)) z) (handled_stands v i j e h)
-line_stands v j (Line.Updated i n) e step_ h = handled_stands v i j e h
-line_stands v j (Line.Here i) e step_ h = handled_stands v i j e h
-line_stands v j (Line.NoMove i) e step_ h = handled_stands v i j e h
-line_stands v j (Line.Proto i) e step_ h = stands_off (handled v i) (view_after v (Line.Proto i)) j (λ z. proto_off (handled v i) (v.told i) z) (handled_stands v i j e h)
+line_stands v j (Line.Queued i) e step_ h = stands_as (handled v i) (view_after v (Line.Queued i)) j (λ z. queued_spots (handled v i) i j (receiver_of (v.told i)) e z) (stands_as v (handled v i) j (λ z. handled_spots v i j e z) h)
+line_stands v j (Line.Held i) e step_ h = stands_as (handled v i) (view_after v (Line.Held i)) j (λ z. held_spots (handled v i) i j (receiver_of (v.told i)) e z) (stands_as v (handled v i) j (λ z. handled_spots v i j e z) h)
+line_stands v j (Line.Forwarded i m) e step_ h = stands_as (handled v i) (view_after v (Line.Forwarded i m)) j (λ z. forwarded_spots (handled v i) j (receiver_of (v.told i)) z) (stands_as v (handled v i) j (λ z. handled_spots v i j e z) h)
+line_stands v j (Line.Updated i n) e step_ h = stands_as v (handled v i) j (λ z. handled_spots v i j e z) h
+line_stands v j (Line.Here i) e step_ h = stands_as v (handled v i) j (λ z. handled_spots v i j e z) h
+line_stands v j (Line.NoMove i) e step_ h = stands_as v (handled v i) j (λ z. handled_spots v i j e z) h
+line_stands v j (Line.Proto i) e step_ h = stands_off (handled v i) (view_after v (Line.Proto i)) j (λ z. proto_off (handled v i) (v.told i) z) (stands_as v (handled v i) j (λ z. handled_spots v i j e z) h)
 line_stands v j (Line.Migration Stage.Frozen p) e step_ h = sets_stands v j p v.topic e h
 line_stands v j (Line.Migration Stage.Accepted p) e step_ h = stands_off (handled_first v) (view_after v (Line.Migration Stage.Accepted p)) j (λ z. accepted_off v p z) (first_stands v j e h)
 line_stands v j (Line.Migration Stage.StateTaken p) e step_ h = stands_off (handled_first v) (view_after v (Line.Migration Stage.StateTaken p)) j (λ z. state_off v p z) (first_stands v j e h)
@@ -151,11 +145,8 @@ line_stands v j (Line.Stays p) e step_ h = back_stands v p j e h
 line_stands v j _ e step_ h = absurd e
 
 -- a label takes a message of the bag, which is no kernel's own
-own_apart : (i j : MsgId) → is_kernels i ≡ false → is_kernels j ≡ true → id_eq i j ≡ false
-own_apart i j other own = not_true (id_eq i j) (λ f. false≢true (sym other ∙ ap is_kernels (id_eq-is i j f) ∙ own))
-
 bag_apart : (pt : Point) (t : OneKernel) (l : Label) (i j : MsgId) → Sane pt → kernel.step pt.kernel l ≡ Some t → out_of l ≡ Some i → is_kernels j ≡ true → id_eq i j ≡ false
-bag_apart pt t l i j h is goes own = (let g = gone_in pt.kernel t l i is goes in own_apart i j (not_kernels h.r h.e pt.kernel i g.message g.there h.sound) own)
+bag_apart pt t l i j h is goes own = (let g = gone_in pt.kernel t l i is goes in not_true (id_eq i j) (λ f. false≢true (sym (not_kernels h.r h.e pt.kernel i g.message g.there h.sound) ∙ ap is_kernels (id_eq-is i j f) ∙ own)))
 
 label_spots : (pt : Point) (t : OneKernel) (l : Label) (j : MsgId) → Sane pt → kernel.step pt.kernel l ≡ Some t → is_kernels j ≡ true → (z : Spot) → standing (view_after pt.view (Line.Label l)) j z ≡ standing pt.view j z
 label_spots pt t (Label.Ran p k) j h is own z = ap (times j) (serving_off pt.view p z)
@@ -228,19 +219,15 @@ held_this v i t e = held_by (handled v i) i (receiver_of (v.told i)) t.receiver 
 abbrev all_asks : View → View
 all_asks v = record v { told = λ i. Some (record { kind = MessageKind.Ask; receiver = record { home = 0; num = 0 }; about = NothingElse }) }
 
-taken_same : (v : View) (b : ℕ) (o : Option MsgId) (z : Spot) → ids_at (taken_id v b o) z ≡ ids_at (taken_id (all_asks v) b o) z
-taken_same v b o z = grind (arith, nat_tests)
-
-same_at : (v : View) (j : MsgId) (z : Spot) → 1 ≤ standing v j z → 1 ≤ standing (all_asks v) j z
-same_at v j z e = grind (arith, nat_tests)
-
 abbrev taking : View → ℕ → ℕ → ℕ → View
 taking v a b n = let p = v.pair a b in view.with_pair v a b (record p { taken = p.taken + 1; kept = filter (λ k. not (k == n)) p.kept })
 
 taken_stands : (v : View) (a b n : ℕ) (j : MsgId) → Stands v j → Stands (view_after v (Line.Taken a b n)) j
 taken_stands v a b n j h =
-    let (y, least) = (taken_calm (all_asks v) a b n).on j (record { kind = MessageKind.Ask; receiver = record { home = 0; num = 0 }; about = NothingElse }) refl refl h.spot (same_at v j h.spot h.least) in
-    record { spot = y; least = subst (λ (ids : List MsgId). 1 ≤ times j ids) (sym (taken_same (taking v a b n) b (view.oldest (v.pair a b)) y)) least }
+    let same_at : 1 ≤ standing (all_asks v) j h.spot = grind (arith, nat_tests, h.least) in
+    let (y, least) = (taken_calm (all_asks v) a b n).on j (record { kind = MessageKind.Ask; receiver = record { home = 0; num = 0 }; about = NothingElse }) refl refl h.spot same_at in
+    let taken_same : ids_at (taken_id (taking v a b n) b (view.oldest (v.pair a b))) y ≡ ids_at (taken_id (all_asks (taking v a b n)) b (view.oldest (v.pair a b))) y = grind (arith, nat_tests) in
+    record { spot = y; least = subst (λ (ids : List MsgId). 1 ≤ times j ids) (sym taken_same) least }
 
 pub net_stands : (v : View) (l : Line) (j : MsgId) → IsNetLine l → Stands v j → Stands (view_after v l) j
 net_stands v (Line.Taken a b n) j is h = taken_stands v a b n j h
@@ -262,14 +249,11 @@ follow_spares : (v : View) (a : Addresses) (r : Pid) (ids : List MsgId) (p : Pid
 follow_spares v a r [] p k = refl
 follow_spares v a r (i ∷ is) p k = follow_spares v a r is p k
 
-first_spares : (o : Option Told) (gs : List Gets) (p : Pid) (k : ℕ) → gives_to (Slot p k) gs ≡ false → gives_to (Slot p k) (first_gives o gs) ≡ false
-first_spares o gs p k e = grind (arith, nat_tests)
-
-told_grows : (s : OneKernel) (v : View) (a : Addresses) (o : Option Told) (h : Holder) → (a h).moves ≤ (updated s v a o h).moves
-told_grows s v a o h = grind (arith, nat_tests)
-
 moves_grow : (pt : Point) (l : Line) (p : Pid) (k : ℕ) → fills pt (Slot p k) l ≡ false → (pt.addresses (Slot p k)).moves ≤ (addresses_after pt.kernel pt.view pt.addresses l (Slot p k)).moves
-moves_grow pt l p k e = search (arith, follow_spares, told_grows, first_spares, not_given)
+moves_grow pt l p k e =
+    let first_spares : (o : Option Told) (gs : List Gets) (p : Pid) (k : ℕ) → gives_to (Slot p k) gs ≡ false → gives_to (Slot p k) (first_gives o gs) ≡ false = λ o gs p k e. grind (arith, nat_tests) in
+    let told_grows : (s : OneKernel) (v : View) (a : Addresses) (o : Option Told) (h : Holder) → (a h).moves ≤ (updated s v a o h).moves = λ s v a o h. grind (arith, nat_tests) in
+    search (arith, follow_spares, told_grows, first_spares, not_given)
 
 -- what each line needs of the kernel, and keeps
 pub record Grounds (s : OneKernel) : Type 0 where
@@ -292,11 +276,10 @@ led_by : (pt : Point) (t : OneKernel) (l : Line) (o : Option Label) (p q : Pid) 
 led_by pt t l None p q k of is h spared leads = let f : pt.kernel ≡ t = cc in ap (λ (s : OneKernel). leads_to s (Slot p k)) f ∙ leads
 led_by pt t l (Some x) p q k of is h spared leads = led_before pt.kernel t pt.view pt.addresses x p q k is h.sound.entered.named h.pending (spared x refl) leads
 
-spared_by : (pt : Point) (l : Line) (p : Pid) (k : ℕ) (x : Label) → label_of l ≡ Some x → fills pt (Slot p k) l ≡ false → gives_to (Slot p k) (gives pt.kernel pt.view pt.addresses x) ≡ false
-spared_by pt l p k x of e = grind (arith, nat_tests)
-
 line_before : (pt next : Point) (l : Line) (p q : Pid) (k moves : ℕ) → after_line pt l ≡ Some next → Grounds pt.kernel → fills pt (Slot p k) l ≡ false → Before next p q k moves → Before pt p q k moves
 line_before pt next l p q k moves is h e before =
+    let spared_by : (pt : Point) (l : Line) (p : Pid) (k : ℕ) (x : Label) → label_of l ≡ Some x → fills pt (Slot p k) l ≡ false → gives_to (Slot p k) (gives pt.kernel pt.view pt.addresses x) ≡ false =
+      λ pt l p k x of e. grind (arith, nat_tests) in
     let (s, comes, last) = bind-is (kernel_after pt.kernel (label_of l)) (λ s. Some (moved pt l s)) next is in
     let f : moved pt l s ≡ next = cc in
     let was : Before (moved pt l s) p q k moves = subst (λ (x : Point). Before x p q k moves) (sym f) before in

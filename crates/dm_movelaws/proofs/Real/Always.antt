@@ -2,7 +2,7 @@
 use Rattle.dm_movelaws.proofs.Names.{◌≡◌, ◌≢◌, ℕ, ◌<◌, ◌≤◌, true, false, ◌∷◌, is_some, refl, ap, ◌∙◌, sym, subst, inl, inr, arith, Option, Some, cases_Bool, nat_tests, Pid, MsgId, Line, PlainMessage, PlainWhat, Boot, manager, Life}
 use Rattle.dm_movelaws.proofs.Names.{OneKernel, Step, IsStep, Spelled, Point, group_of, Inbox, times, View, Told, Unknown, Here, after_head, is_kernels, actor, group_is, outcome_sayable, line_within, is_server, WhatFits, begun, begun_sane}
 use Rattle.dm_movelaws.proofs.Names.{named_real, times_self, Run, IsReal, Kernel, Server, Made, IsAboutReal, RealAlways, or_cases, from_kernel, run_always, ◌⊎◌, List, None, false≢true, MessageKind, plain_kind, Stage, Label, id_eq-is}
-use Rattle.dm_movelaws.proofs.Names.{LifeGrows, after_step, Sound, Receiver, Part, Says, Routes, Again, Owns, Transmits, spelled, label_of, kernel_after, moved, About, view_after, after_put, handled, receiver_of, own_id, not_kernels}
+use Rattle.dm_movelaws.proofs.Names.{LifeGrows, after_step, Sound, Receiver, Part, Says, Routes, Again, Owns, Transmits, spelled, label_of, kernel_after, moved, About, view_after, handled, receiver_of, own_id, not_kernels}
 use Rattle.dm_movelaws.proofs.Names.{grown_none, put_at, PacketsKeep, put_told_off, Sane, AllSayable, label_topic, Within, has_bytes, KernelFits, step_constant, fits_step, queued_topic, held_topic, taken_topic, told_kept, [], ◌++◌, ⊤}
 use Rattle.dm_movelaws.proofs.Names.{pid_eq-same, alive-is, to_kernel, sends_on, IsNetLine, by_migrates, by_outcome, by_forwards, by_hears, topic_by, machine_in, sets, InOrder, Loose, loose_handles, HeadIn, counts, first_point, is_put}
 use Rattle.dm_rulelaws.proofs.Found.Core as core
@@ -100,13 +100,11 @@ hears_real b o m i q ps told here = by_hears (AllReal o) b o m i q ps (λ t is. 
   frozen = λ to at_. (let h = here m t.receiver at_.known in (h, (h, (tt, tt))));
 })
 
--- what a turn says of a message of the bag
-real_loose : (o : Point) → Loose (AllReal o)
-real_loose o = record { none = tt; label = λ l ps h. (tt, h); routes = λ i ps h. (tt, h) }
-
 handles_real : (b : Boot) (o : Point) (m : ℕ) (i : MsgId) (msg : PlainMessage) (ps : List Part) → FrontTold o (Some i) → HereReal o → rule.handles b o m i msg ≡ Some ps → AllReal o ps
 handles_real b o m i msg ps told here e =
-    loose_handles (AllReal o) (AllReal o) (real_loose o) (λ qs h. h) b o m i msg ps (λ at_. (tt, tt)) (tt, tt) (λ to at_ what apart. (let h = here m msg.to at_.known in (tt, (h, (h, (tt, tt))))))
+    -- what a turn says of a message of the bag
+    let real_loose : Loose (AllReal o) = record { none = tt; label = λ l ps h. (tt, h); routes = λ i ps h. (tt, h) } in
+    loose_handles (AllReal o) (AllReal o) real_loose (λ qs h. h) b o m i msg ps (λ at_. (tt, tt)) (tt, tt) (λ to at_ what apart. (let h = here m msg.to at_.known in (tt, (h, (h, (tt, tt))))))
     (λ to moves at_. by_forwards (AllReal o) o.addresses i (plain_kind msg.what) msg.sender to (told i refl, (tt, tt)) (told i refl, (tt, (tt, tt)))) e
 
 -- what stands in an inbox was told of
@@ -145,12 +143,6 @@ step_rises r e s t None is h order fits = let f : s ≡ t = cc in subst (λ (u :
 step_rises r e s t (Some l) is h order fits =
     (record { machines = (step_constant s t l is).machines; made = λ q some. made_by (s.processes q) (t.processes q) ((after_step r e s t l is h).grown.lives q) some }, (step_constant s t l is).pending order, fits_step r e s t l is h order fits)
 
-has_made : (s : OneKernel) (q : Pid) (n : ℕ) (l : Option Life) → s.processes q ≡ l → has_bytes n l ≡ true → IsReal s q
-has_made s q n l is e = grind (arith, nat_tests)
-
-pub receiver_real : (s : OneKernel) (i : MsgId) (m : PlainMessage) (w : PlainWhat) → WhatFits s i m w → IsReal s m.to
-receiver_real s i m w h1 = search (arith, or_cases, has_made, m.to, s.processes)
-
 -- what stands between the lines of a group that begins at o
 pub record Reals (o pt : Point) : Type 0 where
   pub within : Within pt.kernel.machines pt.view
@@ -167,9 +159,6 @@ pub record Reals (o pt : Point) : Type 0 where
 abbrev pub Receivers : Point → Type 0
 Receivers o = (i : MsgId) (t : Told) → o.view.told i ≡ Some t → IsReal o.kernel t.receiver
 
-proto_real : (s : OneKernel) (v : View) (q : Option Told) → ((t : Told) → q ≡ Some t → IsAboutReal s t.about) → IsAboutReal s (view.after_proto v q).topic
-proto_real s v q h = grind (arith, nat_tests)
-
 line_topic : (o pt : Point) (l : Line) → Receivers o → LineReal o l → Reals o pt → IsAboutReal pt.kernel (view_after pt.view l).topic
 line_topic o pt (Line.Migration Stage.Frozen p) known need h = subst (IsAboutReal pt.kernel) (sym (sets pt.view p pt.view.topic).topic) (real_rises o.kernel pt.kernel p h.rises need)
 line_topic o pt (Line.Migration Stage.Accepted p) known need h = real_rises o.kernel pt.kernel p h.rises need
@@ -179,7 +168,9 @@ line_topic o pt (Line.Migration Stage.Left p) known need h = real_rises o.kernel
 line_topic o pt (Line.SentOn p n) known need h = real_rises o.kernel pt.kernel p h.rises need
 line_topic o pt (Line.Lacks p a b) known need h = real_rises o.kernel pt.kernel p h.rises need
 line_topic o pt (Line.Forwarded i m) known need h = search (arith, pt.kernel, real_rises, o.kernel, h.rises, h.topic)
-line_topic o pt (Line.Proto i) known need h = proto_real pt.kernel (handled pt.view i) (pt.view.told i) (λ t e. h.about i t e)
+line_topic o pt (Line.Proto i) known need h =
+    let proto_real : (s : OneKernel) (v : View) (q : Option Told) → ((t : Told) → q ≡ Some t → IsAboutReal s t.about) → IsAboutReal s (view.after_proto v q).topic = λ s v q h. grind (arith, nat_tests) in
+    proto_real pt.kernel (handled pt.view i) (pt.view.told i) (λ t e. h.about i t e)
 line_topic o pt (Line.Label l) known need h = subst (IsAboutReal pt.kernel) (sym (label_topic pt.view l)) h.topic
 line_topic o pt (Line.Queued i) known need h = subst (IsAboutReal pt.kernel) (sym (queued_topic (handled pt.view i) i (receiver_of (pt.view.told i)))) h.topic
 line_topic o pt (Line.Held i) known need h = subst (IsAboutReal pt.kernel) (sym (held_topic (handled pt.view i) i (receiver_of (pt.view.told i)))) h.topic
@@ -197,25 +188,17 @@ topic_real s a None h = h
 topic_real s a (Some (Label.Asked i)) h = asked_real s (s.bag i)
 topic_real s a (Some _) h = h
 
-no_put : (o : Point) (l : Line) → LineReal o l → is_put l ≡ false
-no_put o l h = grind (arith, nat_tests)
-
-no_head : (o : Point) (n : ℕ) (l : Line) → LineReal o l → HeadIn n l
-no_head o n l h = grind (arith, nat_tests)
-
-rises_on : (s t u : OneKernel) → Rises s t → Rises t u → Rises s u
-rises_on s t u h k = record { machines = k.machines ∙ h.machines; made = λ q e. k.made q (h.made q e) }
-
-about_rises : (s t : OneKernel) (a : About) → Rises s t → IsAboutReal s a → IsAboutReal t a
-about_rises s t a h e = grind (arith, nat_tests, real_rises)
-
 line_reals : (o pt : Point) (t : OneKernel) (l : Line) → Receivers o → LineReal o l → kernel_after pt.kernel (label_of l) ≡ Some t → Sane pt → Reals o pt → Reals o (moved pt l t)
 line_reals o pt t l known need is sane h =
+    let about_rises : (s t : OneKernel) (a : About) → Rises s t → IsAboutReal s a → IsAboutReal t a = λ s t a h e. grind (arith, nat_tests, real_rises) in
+    let no_head : (o : Point) (n : ℕ) (l : Line) → LineReal o l → HeadIn n l = λ o n l h. grind (arith, nat_tests) in
+    let no_put : (o : Point) (l : Line) → LineReal o l → is_put l ≡ false = λ o l h. grind (arith, nat_tests) in
     let s = pt.kernel in
     let w = view_after pt.view l in
     let same : (i : MsgId) → w.told i ≡ pt.view.told i = told_by pt.view l (no_put o l need) in
     let (rises, order, fits) = step_rises sane.r sane.e s t (label_of l) is sane.sound h.order h.fits in
     let within = line_within s.machines pt.view l (no_head o s.machines l need) h.within in
+    let rises_on : (s t u : OneKernel) → Rises s t → Rises t u → Rises s u = λ s t u h k. record { machines = k.machines ∙ h.machines; made = λ q e. k.made q (h.made q e) } in
     record {
       within = subst (λ (k : ℕ). Within k (moved pt l t).view) (sym rises.machines) (record { known = within.known; acting = within.acting });
       fits = fits;
@@ -232,9 +215,6 @@ line_reals o pt t l known need is sane h =
 abbrev put_of : View → MessageKind → Pid → Told
 put_of v k q = record { kind = k; receiver = q; about = v.topic }
 
-put_or : (v : View) (a b : ℕ) (i : MsgId) (k : MessageKind) (q : Pid) (j : MsgId) (t : Told) → (after_put v a b i k q).told j ≡ Some t → (v.told j ≡ Some t) ⊎ ((i ≡ j) × (v.told i ≡ None) × (put_of v k q ≡ t))
-put_or v a b i k q j t e = grind (arith, nat_tests, id_eq-is, put_at, put_told_off)
-
 -- what is put for the first time is a kernel's own, or for somebody
 record Puts (pt : Point) (i : MsgId) (q : Pid) : Type 0 where
   mine : pt.view.told i ≡ None → is_kernels i ≡ true → i.from.home < pt.kernel.machines
@@ -250,28 +230,29 @@ put_reals o pt b i k q new h =
       order = h.order;
       rises = h.rises;
       kept = λ j t e. told_kept v v.acting b i k q j t (h.kept j t e);
-      own = λ j t e mine. elim (put_or v v.acting b i k q j t e) [
+      own = λ j t e mine. elim (let e_ : (v.told j ≡ Some t) ⊎ ((i ≡ j) × (v.told i ≡ None) × (put_of v k q ≡ t)) = grind (arith, nat_tests, id_eq-is, put_at, put_told_off) in e_) [
         | inl old ↦ h.own j t old mine
         | inr put ↦ subst (λ (x : MsgId). x.from.home < s.machines) put.0 (new.mine put.1 (ap is_kernels put.0 ∙ mine))
       ];
-      receiver = λ j t e other. elim (put_or v v.acting b i k q j t e) [
+      receiver = λ j t e other. elim (let e_ : (v.told j ≡ Some t) ⊎ ((i ≡ j) × (v.told i ≡ None) × (put_of v k q ≡ t)) = grind (arith, nat_tests, id_eq-is, put_at, put_told_off) in e_) [
         | inl old ↦ h.receiver j t old other
         | inr put ↦ subst (λ (u : Told). IsReal s u.receiver) put.2 (new.other put.1 (ap is_kernels put.0 ∙ other))
       ];
-      about = λ j t e. elim (put_or v v.acting b i k q j t e) [
+      about = λ j t e. elim (let e_ : (v.told j ≡ Some t) ⊎ ((i ≡ j) × (v.told i ≡ None) × (put_of v k q ≡ t)) = grind (arith, nat_tests, id_eq-is, put_at, put_told_off) in e_) [
         | inl old ↦ h.about j t old
         | inr put ↦ subst (λ (u : Told). IsAboutReal s u.about) put.2 h.topic
       ];
       topic = h.topic;
     }
 
-packet_reals : (o : Point) → PacketsKeep (Reals o)
-packet_reals o pt a b k l h = search
-
 -- a part
 reals_behind : (o pt : Point) (p : Part) → Receivers o → PartReal o p → Sane pt → Reals o pt → Behind (Reals o) pt p
 reals_behind o pt (Says l) known need sane h = λ s step. line_reals o pt s l known need step sane h
-reals_behind o pt (Routes i) known need sane h = λ m there.
+reals_behind o pt (Routes i) known need sane h =
+    let receiver_real : (s : OneKernel) (i : MsgId) (m : PlainMessage) (w : PlainWhat) → WhatFits s i m w → IsReal s m.to = λ s i m w h1.
+      let has_made : (s : OneKernel) (q : Pid) (n : ℕ) (l : Option Life) → s.processes q ≡ l → has_bytes n l ≡ true → IsReal s q = λ s q n l is e. grind (arith, nat_tests) in
+      search (arith, or_cases, has_made, m.to, s.processes) in
+    λ m there.
     put_reals o pt (pt.addresses (Receiver i)).at i (plain_kind m.what) m.to
     (record {
       mine = λ none own. absurd (false≢true (sym (not_kernels sane.r sane.e pt.kernel i m there sane.sound) ∙ own));
@@ -280,9 +261,6 @@ reals_behind o pt (Routes i) known need sane h = λ m there.
 reals_behind o pt (Again i b) known need sane h = λ t there. put_reals o pt b i t.kind t.receiver (record { mine = λ none own. cc; other = λ none other. cc }) h
 reals_behind o pt (Owns k q b) known need sane h = put_reals o pt b (own_id pt.view) k q (record { mine = λ none own. h.within.acting; other = λ none other. absurd (false≢true (sym other)) }) h
 reals_behind o pt (Transmits a b l) known need sane h = h
-
-pub parts_reals : (o : Point) (ps : List Part) (pt : Point) (w : Spelled) → Receivers o → AllReal o ps → AllSayable ps → Sane pt → spelled pt ps ≡ Some w → Reals o pt → Reals o w.point
-parts_reals o qs q w known need ok sane is h = sane_lead (Reals o) (packet_reals o) (PartReal o) (λ pt p so say fine. reals_behind o pt p known so fine) qs q w need ok sane is h
 
 -- Wherever the rule leads, whoever is named is a kernel of a machine that there is, a server, or a process that was made.
 
@@ -310,14 +288,6 @@ receivers b pt run h i t told = elim (cases_Bool (is_kernels i)) [
   | inr other ↦ h.receiver i t told other
 ]
 
--- a group
-here_real : (b : Boot) (pt : Point) → Run b pt → HereReal pt
-here_real b pt run m q here = known_real b pt m q run (λ e. let f : Here ≡ Unknown = sym here ∙ e in cc)
-
-inbox_told : (b : Boot) (pt : Point) → Run b pt → InboxTold pt
-inbox_told b pt run m i is at =
-    run.found.told i (Inbox m) (let a : times i (pt.view.inbox m) ≡ times i (i ∷ is) = ap (times i) at in let c = times_self i is in subst (λ (n : ℕ). 1 ≤ n) (sym a) c)
-
 pub head_less : (n : ℕ) (d : Step) → IsStep n d → actor d < n
 head_less n d h = grind (arith, nat_tests)
 
@@ -338,24 +308,25 @@ begins_real b pt d fit run h =
 
 real_group : (b : Boot) (pt : Point) (d : Step) (w : Spelled) → IsStep pt.kernel.machines d → group_of b pt d ≡ Some w → Run b pt → RealAt pt → RealAt w.point
 real_group b pt d w fit e run h =
+    -- a group
+    let parts_reals : (o : Point) (ps : List Part) (pt : Point) (w : Spelled) → Receivers o → AllReal o ps → AllSayable ps → Sane pt → spelled pt ps ≡ Some w → Reals o pt → Reals o w.point = λ o qs q w known need ok sane is h.
+      let packet_reals : (o : Point) → PacketsKeep (Reals o) = λ o pt a b k l h. search in
+      sane_lead (Reals o) (packet_reals o) (PartReal o) (λ pt p so say fine. reals_behind o pt p known so fine) qs q w need ok sane is h in
+    let here_real : (b : Boot) (pt : Point) → Run b pt → HereReal pt = λ b pt run m q here. known_real b pt m q run (λ e. let f : Here ≡ Unknown = sym here ∙ e in cc) in
     let g = group_is b pt d w e in
+    let inbox_told : (b : Boot) (pt : Point) → Run b pt → InboxTold pt =
+      λ b pt run m i is at. run.found.told i (Inbox m) (let a : times i (pt.view.inbox m) ≡ times i (i ∷ is) = ap (times i) at in let c = times_self i is in subst (λ (n : ℕ). 1 ≤ n) (sym a) c) in
     let k = parts_reals pt g.parts (begun pt d) g.rest (receivers b pt run h) (outcome_real b pt d g.parts (inbox_told b pt run) (here_real b pt run) g.is) (outcome_sayable b pt d g.parts g.is) (begun_sane pt d run.based.phased.sane) g.said (begins_real b pt d fit run h) in
     subst RealAt g.point (record { own = k.own; receiver = k.receiver; about = k.about })
-
--- a run
-start_real : (b : Boot) → RealAt (first_point b)
-start_real b = grind (arith, nat_tests)
-
-counted_real : (s : OneKernel) (i : MsgId) → counts s i ≡ true → IsReal s i.from
-counted_real s i e = search arith
-
--- a child that is named was made
-child_made : (s : OneKernel) (i : MsgId) (m : PlainMessage) (w : PlainWhat) (p : Pid) → w ≡ PlainWhat.Created p → WhatFits s i m w → IsReal s p
-child_made s i m w p is fits = grind (arith, nat_tests)
 
 -- wherever the rule leads
 pub real_always : RealAlways
 real_always b es pt valid leads =
+    -- a run
+    -- a child that is named was made
+    let child_made : (s : OneKernel) (i : MsgId) (m : PlainMessage) (w : PlainWhat) (p : Pid) → w ≡ PlainWhat.Created p → WhatFits s i m w → IsReal s p = λ s i m w p is fits. grind (arith, nat_tests) in
+    let start_real : (b : Boot) → RealAt (first_point b) = λ b. grind (arith, nat_tests) in
+    let counted_real : (s : OneKernel) (i : MsgId) → counts s i ≡ true → IsReal s i.from = λ s i e. search arith in
     let real = keeps_always b RealAt (λ q d w fit is h. real_group b q d w fit is h) valid (start_real b) es pt leads in
     let run = (run_always b es pt valid leads).run in
     let sane = run.based.phased.sane in

@@ -59,9 +59,6 @@ set_quiet s t p x life is fewer b g set = grind (arith, nat_tests, pid_eq-is)
 alive_fewer : (x y : PlainProcess) → y.sent ≡ x.sent → (n : ℕ) → has_sent n (Some (Alive y)) ≡ true → nat_lt n x.sent ≡ true
 alive_fewer x y e n h = less n x.sent y.sent (sym e) h
 
-ended_fewer : (x : PlainProcess) (y : Why) (n : ℕ) → has_sent n (Some (Ended y)) ≡ true → nat_lt n x.sent ≡ true
-ended_fewer x y n h = absurd (false≢true h)
-
 next_sent : (u : OneKernel) (m : PlainMessage) (p : Pid) (n after : ℕ) (i : MsgId) → m.id ≡ id_of p n → after ≡ n + 1 → i.answer ≡ false → i.from ≡ p → nat_lt i.n after ≡ true → Was (nat_lt i.n n) ((with_sent u (Some m)).bag i)
 next_sent u m p n after i id count ask from h = grind (arith, nat_tests, name_is, sent_at, id_eq-same)
 
@@ -83,23 +80,23 @@ counts_manager : (s : OneKernel) (id : MsgId) (g : kernels.Manager) (o : Option 
 counts_manager s id g None h i ask = counts_quiet s (record (without_message s id) { manager = g }) (record { board = refl; manager_ = sym h; process = λ q n e. e }) i ask
 counts_manager s id g (Some m) h i ask = grind (arith, nat_tests, counts_by, next_sent, pid_eq-is)
 
-goes_counts : (s : OneKernel) (p : Pid) (x y : PlainProcess) → s.processes p ≡ Some (Alive x) → y.sent ≡ x.sent → CountsSo s (kernel.goes_on s p y)
-goes_counts s p x y is sent = counts_quiet s (kernel.goes_on s p y) (set_quiet s (kernel.goes_on s p y) p x (Alive y) is (alive_fewer x y sent) refl refl refl)
-
 -- the receiver of a message goes on
 changed_counts : (s t : OneKernel) (id : MsgId) (m : PlainMessage) (x y : PlainProcess) → s.processes m.to ≡ Some (Alive x) → y.sent ≡ x.sent → t.switchboard ≡ s.switchboard → t.manager ≡ s.manager → t.processes ≡ (with_process s m.to (Alive y)).processes → CountsSo s t
 changed_counts s t id m x y is sent b g set = counts_quiet s t (set_quiet s t m.to x (Alive y) is (alive_fewer x y sent) b g set)
-
--- a kernel makes a process
-born_fewer : (s : OneKernel) (p : Pid) (y : PlainProcess) (q : Pid) (n : ℕ) → y.sent ≡ 0 → has_sent n ((with_process s p (Alive y)).processes q) ≡ true → has_sent n (s.processes q) ≡ true
-born_fewer s p y q n none e = grind (arith, nat_tests, less)
 
 answers_counts : (s : OneKernel) (id : MsgId) (o : Option PlainMessage) → CountsSo s (with_sent (without_message s id) o)
 answers_counts s id None = counts_quiet s (without_message s id) (grind (arith, nat_tests))
 answers_counts s id (Some m) = counts_quiet s (with_sent (without_message s id) (Some m)) (grind (arith, nat_tests))
 
 pub step_counts : (s t : OneKernel) (l : Label) → kernel.step s l ≡ Some t → CountsSo s t
-step_counts s t l = by_step (CountsSo s) s t l (record {
+step_counts s t l =
+    -- a kernel makes a process
+    let born_fewer : (s : OneKernel) (p : Pid) (y : PlainProcess) (q : Pid) (n : ℕ) → y.sent ≡ 0 → has_sent n ((with_process s p (Alive y)).processes q) ≡ true → has_sent n (s.processes q) ≡ true =
+      λ s p y q n none e. grind (arith, nat_tests, less) in
+    let ended_fewer : (x : PlainProcess) (y : Why) (n : ℕ) → has_sent n (Some (Ended y)) ≡ true → nat_lt n x.sent ≡ true = λ x y n h. absurd (false≢true h) in
+    let goes_counts : (s : OneKernel) (p : Pid) (x y : PlainProcess) → s.processes p ≡ Some (Alive x) → y.sent ≡ x.sent → CountsSo s (kernel.goes_on s p y) =
+      λ s p x y is sent. counts_quiet s (kernel.goes_on s p y) (set_quiet s (kernel.goes_on s p y) p x (Alive y) is (alive_fewer x y sent) refl refl refl) in
+    by_step (CountsSo s) s t l (record {
   ran = λ p k x m is w. goes_counts s p x (kernel.with_machine x m) w.alive refl;
   replies = λ p n k c d y is w. (let (z, sent, pending, counted) = w.so.counts in goes_counts s p w.so.x y w.so.is.alive (counted.0 ∙ sent));
   sends = λ p id k m y is same w. (let (z, sent, pending, counted) = w.so.counts in counts_sends s (kernel.goes_on s p y) p w.so.x y m w.so.is.alive (Sent-from p w.so.x z m y sent pending counted) refl refl refl);
@@ -264,11 +261,6 @@ counted_line v pt any_ t quiet outs is sane h = counted_quiet v pt any_ t quiet 
 counted_rides : (v : View) → Rides (Counted v)
 counted_rides v = search (arith, counted_quiet, put_told_off)
 
--- a part, and the parts of a group
-counted_behind : (v : View) (pt : Point) (p : Part) → PartOuts (IsTold v) p → Sayable p → Sane pt → Counted v pt → Behind (Counted v) pt p
-counted_behind v pt p outs ok sane h =
-    whatever_put (Counted v) pt p (λ l is t step. counted_line v pt l t (subst Sayable is ok) (subst (PartOuts (IsTold v)) is outs) step sane h) (λ b i k q. (counted_rides v).put pt pt.view.acting b i k q h) h
-
 -- between groups
 abbrev pub AllTold : Point → Type 0
 AllTold pt = (i : MsgId) → i.answer ≡ false → is_sent pt.kernel i ≡ true → IsTold pt.view i
@@ -284,6 +276,9 @@ told_group b pt d w e run next h i ask sent =
     let sane = run.based.phased.sane in
     let first : Counted pt.view (begun pt d) = counted_quiet pt.view pt (Line.Head d) pt.kernel refl refl (record { kept = λ j k. k; each = λ j a s. inl (h j a s) }) in
     let outs = outcome_outs (IsTold pt.view) b pt d g.parts (λ m j least. run.found.told j (Inbox m) least) (λ m p j least. run.found.told j (Queue m p) least) g.is in
+    -- a part, and the parts of a group
+    let counted_behind : (v : View) (pt : Point) (p : Part) → PartOuts (IsTold v) p → Sayable p → Sane pt → Counted v pt → Behind (Counted v) pt p =
+      λ v pt p outs ok sane h. whatever_put (Counted v) pt p (λ l is t step. counted_line v pt l t (subst Sayable is ok) (subst (PartOuts (IsTold v)) is outs) step sane h) (λ b i k q. (counted_rides v).put pt pt.view.acting b i k q h) h in
     let last = sane_lead (Counted pt.view) (counted_rides pt.view).packet (PartOuts (IsTold pt.view)) (counted_behind pt.view) g.parts (begun pt d) g.rest outs (outcome_sayable b pt d g.parts g.is) (begun_sane pt d sane) g.said first in
     elim ((subst (Counted pt.view) g.point last).each i ask sent) [
       | inl told ↦ told
@@ -330,26 +325,20 @@ record ToldBy (pt end : Point) (ls : List Line) : Type 0 where
   all : AllTold end
   put : (i : MsgId) → IsTold end.view i → IsTold pt.view i ⊎ (1 ≤ times i (routed ls))
 
-put_behind : (ls earlier later : List Line) (pt mid : Point) (i : MsgId) → ls ≡ earlier ++ later → after pt earlier ≡ Some mid → IsTold mid.view i ⊎ (1 ≤ times i (routed later)) → IsTold pt.view i ⊎ (1 ≤ times i (routed ls))
-put_behind ls earlier later pt mid i are leads e = grind (arith, nat_tests, more_last, put_among, more_first)
-
 told_on : (b : Boot) (es : List Step) (ls : List Line) (pt end : Point) → IsValid b → LeadsBy b pt es ls end → Both b pt → AllTold pt → ToldBy pt end ls
 told_on b [] ls pt end valid (none, same) both h = record { all = subst AllTold same h; put = λ i t. inl (subst (λ (x : Point). IsTold x.view i) (sym same) t) }
 told_on b (d ∷ ds) ls pt end valid (w, rest, fit, is, are, more) both h =
     let next = both_group run_group b pt d w valid fit is both in
     let k = told_on b ds rest w.point end valid more next (told_group b pt d w is both.run next.run h) in
-    record { all = k.all; put = λ i t. put_behind ls w.lines rest pt w.point i are (group_after b pt d w is) (k.put i t) }
+    record { all = k.all; put = λ i t. (let e_ : IsTold pt.view i ⊎ (1 ≤ times i (routed ls)) = grind (arith, nat_tests, more_last, put_among, more_first, group_after b pt d w is, k.put i t) in e_) }
 
 -- so many names are so many messages
-one_off : (p : Pid) (k n : ℕ) → k < n → one_of (id_of p k) (id_of p n) ≡ 0
-one_off p k n less = grind (arith, nat_tests, id_eq-is)
-
 few : (n : ℕ) (p : Pid) (ids : List MsgId) → ((k : ℕ) → k < n → 1 ≤ times (id_of p k) ids) → n ≤ length ids
 few zero p ids h = omega arith
 few (suc n) p ids h =
     let here = h n (omega arith) in
     let rest = few n p (without_id (id_of p n) ids)
-    (λ k less. let c = without_counts (id_of p k) (id_of p n) ids here in let off = one_off p k n less in let m = h k (omega (arith, less)) in omega (arith, c, off, m)) in
+    (λ k less. let c = without_counts (id_of p k) (id_of p n) ids here in let off : one_of (id_of p k) (id_of p n) ≡ 0 = grind (arith, nat_tests, id_eq-is) in let m = h k (omega (arith, less)) in omega (arith, c, off, m)) in
     grind (arith, nat_tests, without_length)
 
 are_routed : (ls : List Line) (p : Pid) (n : ℕ) → ((k : ℕ) → k < n → 1 ≤ times (id_of p k) (routed ls)) → AreRouted ls p n

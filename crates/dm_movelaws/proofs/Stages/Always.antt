@@ -3,13 +3,13 @@ use Rattle.dm_movelaws.proofs.Names.{◌≡◌, ℕ, ◌==◌, Bool, true, false
 use Rattle.dm_movelaws.proofs.Names.{Told, About, Of, Known, first_view, target_of, is_between, is_due, Point, first_point, Part, Spelled, spelled, told_step, told_server, process_told, migrates, group_of, bind-is, IsNet, not_true}
 use Rattle.dm_movelaws.proofs.Names.{front_way, Phased, phased_start, phased_group, Calm, calm_same, calm_in, told_some, head_calm, net_parts, migrates_quiet, Tame, plain_in_bag, parts_settle, InPhases, State, PairsFit, Sane, LeadsBy}
 use Rattle.dm_movelaws.proofs.Names.{begun, begun_sane, Mark, marks, in_order, StepsInOrder, plain_by, by_migrates, by_outcome, nat_tests, arith, NothingElse, Label, Says, said_by, moved, calm_about, view_after, line_calm, part_sane}
-use Rattle.dm_movelaws.proofs.Names.{machine_in, move_target, Target, Here, sort_of}
+use Rattle.dm_movelaws.proofs.Names.{machine_in, move_target, Target, Here, sort_of, MessageKind}
 use Rattle.dm_onekernel.specs.Step as kernel
 use Rattle.dm_rule.specs.Rule as rule
 use Rattle.dm_rule.proofs.Groups as groups
 use Rattle.dm_movelaws.proofs.Stages.Spares.{mark_in, spares_same, spares_calm, Marked, none_marked, order-append, marks-append, marks_of, group_says}
 use Rattle.dm_movelaws.proofs.Stages.Rows.{about_others, plain_others, row_marked, AllMild, mild_marks, net_marks, TameAt, parts_spare}
-use Rattle.dm_movelaws.proofs.Stages.Steps.{freezes_row, setting_row, told_marked, round_mild, handles_mild, Hears, Calms, Freezes, Handled, Spared, SetsOff, freezes, server_mild, process_hears}
+use Rattle.dm_movelaws.proofs.Stages.Steps.{freezes_row, setting_row, told_marked, round_mild, handles_mild, Hears, Calms, Freezes, Handled, Spared, SetsOff, freezes, forwards_mild}
 use Rattle.dm_movelaws.proofs.Leading.{next_of, line_fits}
 
 -- where the parts of a turn begin
@@ -54,12 +54,16 @@ hears_by : (b : Boot) (o pt : Point) (m : ℕ) (i : MsgId) (is : List MsgId) (t 
     → (if c then rule.kernel_hears b o m i t.kind t.about else if d then told_server o i t (sort_of t.kind) else if g then told_server o i t (sort_of t.kind) else process_told o m i t (o.view.known m t.receiver)) ≡ Some ps → spelled pt ps ≡ Some w → MarkedBy pt w ps
 hears_by b o pt m i is t true d g ps w h c front told e n = kernel_marked b o pt m i is t t.about ps w h front told refl e n
 hears_by b o pt m i is t false true g ps w h c front told e n =
+    let server_mild : (o : Point) (id : MsgId) (t : Told) (k : MessageKind) (ps : List Part) → told_server o id t (sort_of k) ≡ Some ps → (me : Pid) → AllMild me (Some id) ps = λ o id t k ps e me. grind (arith, nat_tests) in
     let plain = plain_by pt i is t h.phases (is_between t.kind) refl front told c in
     mild_marked pt (Some i) ps w h.sane h.fits (tame_front pt.view i (record { what = t; told = told; plain = plain })) (server_mild o i t t.kind ps e) n
 hears_by b o pt m i is t false false true ps w h c front told e n =
+    let server_mild : (o : Point) (id : MsgId) (t : Told) (k : MessageKind) (ps : List Part) → told_server o id t (sort_of k) ≡ Some ps → (me : Pid) → AllMild me (Some id) ps = λ o id t k ps e me. grind (arith, nat_tests) in
     let plain = plain_by pt i is t h.phases (is_between t.kind) refl front told c in
     mild_marked pt (Some i) ps w h.sane h.fits (tame_front pt.view i (record { what = t; told = told; plain = plain })) (server_mild o i t t.kind ps e) n
-hears_by b o pt m i is t false false false ps w h c front told e n = search (process_marked, plain_by, process_hears)
+hears_by b o pt m i is t false false false ps w h c front told e n =
+    let process_hears : (o : Point) (m : ℕ) (id : MsgId) (t : Told) (k : Known) (ps : List Part) → process_told o m id t k ≡ Some ps → Hears k id t ps = λ o m id t k ps e. grind (arith, nat_tests, forwards_mild) in
+    search (process_marked, plain_by, process_hears)
 
 hears_marked : (b : Boot) (o pt : Point) (m : ℕ) (i : MsgId) (is : List MsgId) (q : Option Told) (ps : List Part) (w : Spelled) → Turning o pt m → pt.view.inbox pt.view.acting ≡ i ∷ is → pt.view.told i ≡ q → rule.hears b o m i q ≡ Some ps → spelled pt ps ≡ Some w → MarkedBy pt w ps
 hears_marked b o pt m i is None ps w h front told e n = cc
@@ -88,19 +92,14 @@ handled_marked o pt m i is msg ps w h box there (SetsOff to here what are) e p =
     let row = row_marked n.next.view n.rest.point.view q (λ r. marks_of r (freezes q to)) (setting_row n.next q to n.rest sane fits topic known n.more) p in
     subst (λ (xs : List Part). Marked pt.view w.point.view p (marks_of p xs)) (sym are) (subst (λ (x : Point). Marked pt.view x.view p (marks_of p (freezes q to))) n.point (λ a b h k da db. row a b (calm_in pt.view n.next.view p a calm h) k da db))
 
-turning : (o : Point) (m : ℕ) → Phased o → Turning o (begun o (Step.Turn m)) m
-turning o m h = grind (arith, nat_tests, groups.fits, begun_sane, groups.begun, groups.turn_off, head_calm)
-
--- the directive to migrate
-migrates_marks : (p : Pid) (o : Point) (q : Pid) → marks_of p (migrates o q) ≡ []
-migrates_marks p o q = by_migrates (λ (ps : List Part). marks_of p ps ≡ []) o q refl refl (λ n off is. refl)
-
-net_marked : (pt : Point) (ps : List Part) (w : Spelled) → IsNet ps → spelled pt ps ≡ Some w → MarkedBy pt w ps
-net_marked pt ps w net n p = none_marked pt.view w.point.view p (marks_of p ps) (net_marks p ps net) (spares_calm pt.view w.point.view p (net_parts ps pt w net n))
-
 -- behind the head of a group
+-- the directive to migrate
 outcome_marked : (b : Boot) (pt : Point) (d : Step) (ps : List Part) (w : Spelled) → Phased pt → rule.outcome b pt d ≡ Some ps → spelled (begun pt d) ps ≡ Some w → MarkedBy (begun pt d) w ps
-outcome_marked b pt d ps w h is = by_outcome (λ x xs. (u : Spelled) → spelled (begun pt x) xs ≡ Some u → MarkedBy (begun pt x) u xs) b pt d ps (record {
+outcome_marked b pt d ps w h is =
+    let turning : (o : Point) (m : ℕ) → Phased o → Turning o (begun o (Step.Turn m)) m = λ o m h. grind (arith, nat_tests, groups.fits, begun_sane, groups.begun, groups.turn_off, head_calm) in
+    let net_marked : (pt : Point) (ps : List Part) (w : Spelled) → IsNet ps → spelled pt ps ≡ Some w → MarkedBy pt w ps =
+      λ pt ps w net n p. none_marked pt.view w.point.view p (marks_of p ps) (net_marks p ps net) (spares_calm pt.view w.point.view p (net_parts ps pt w net n)) in
+    by_outcome (λ x xs. (u : Spelled) → spelled (begun pt x) xs ≡ Some u → MarkedBy (begun pt x) u xs) b pt d ps (record {
   round = λ m xs box e u. (
       let t = turning pt m h in
       mild_marked (begun pt (Step.Turn m)) None xs u t.sane t.fits (λ i k. cc) (λ p. round_mild p None b pt m (rule.first_runnable pt.kernel (pt.view.queue m) (pt.view.ring m)) xs e)
@@ -117,18 +116,16 @@ outcome_marked b pt d ps w h is = by_outcome (λ x xs. (u : Spelled) → spelled
       let start = begun pt (Step.Migrate q m) in
       let fits = groups.fits pt.view h.pairs in
       let settled = parts_settle (migrates pt q) start.view start u (migrates_quiet start.view pt q) (record { calm = calm_same start.view; sane = begun_sane pt (Step.Migrate q m) h.sane; fits = record { within = fits.within; home = fits.home } }) n in
-      none_marked start.view u.point.view p (marks_of p (migrates pt q)) (migrates_marks p pt q) (spares_calm start.view u.point.view p settled.calm)
+      none_marked start.view u.point.view p (marks_of p (migrates pt q)) (by_migrates (λ (ps : List Part). marks_of p ps ≡ []) pt q refl refl (λ n off is. refl)) (spares_calm start.view u.point.view p settled.calm)
       );
 }) is w
-
--- a message of the bag
-head_marked : (u v w : View) (p : Pid) (ms : List Mark) → Calm u v → Marked v w p ms → Marked u w p ms
-head_marked u v w p ms c m a b h k da db = m a b (calm_in u v p a c h) k da db
 
 -- a group
 pub group_marked : (b : Boot) (pt : Point) (d : Step) (w : Spelled) → group_of b pt d ≡ Some w → Phased pt → (p : Pid) → Marked pt.view w.point.view p (marks p w.lines)
 group_marked b pt d w e h p =
     let g = group_says b pt d w e in
+    -- a message of the bag
+    let head_marked : (u v w : View) (p : Pid) (ms : List Mark) → Calm u v → Marked v w p ms → Marked u w p ms = λ u v w p ms c m a b h k da db. m a b (calm_in u v p a c h) k da db in
     subst (Marked pt.view w.point.view p) (sym (g.marked p))
     (subst (λ (x : Point). Marked pt.view x.view p (marks_of p g.parts)) g.point
     (head_marked pt.view (begun pt d).view g.rest.point.view p (marks_of p g.parts) (head_calm pt.view d) (outcome_marked b pt d g.parts g.rest h g.is g.said p)))

@@ -1,6 +1,6 @@
 -- Lines that leave the migration of a process as it is.
 use Rattle.dm_movelaws.proofs.Names.{◌≡◌, ℕ, ◌≤◌, Bool, true, false, List, [], ◌∷◌, ◌++◌, refl, ap, ◌∙◌, sym, subst, inl, inr, arith, if◌then◌else◌, Option, None, Some, cases_Bool, false≢true, Pid, pid_eq, MsgId, MessageKind, id_eq, bind}
-use Rattle.dm_movelaws.proofs.Names.{Line, Load, View, Told, Of, own_id, view_after, handled, is_between, Point, label_of, kernel_after, moved, Part, Says, Owns, Spelled, behind, spelled, Spot, Inbox, times, ids_at, id_eq-is, id_eq-same}
+use Rattle.dm_movelaws.proofs.Names.{Line, View, Told, Of, own_id, view_after, handled, is_between, Point, label_of, kernel_after, moved, Part, Says, Owns, Spelled, behind, spelled, Spot, Inbox, times, ids_at, id_eq-is, id_eq-same}
 use Rattle.dm_movelaws.proofs.Names.{pid_eq-is, pid_eq-same, is_put, not_true, line_next, one_of, touches, onward, handled_spots, packet_calm, put_at, put_there, put_spot, PairsFit, puts_next, said, Sane, sane_line, Mark, with_mark}
 use Rattle.dm_movelaws.proofs.Names.{in_order, first_none, nat_tests, seen_none, ⊤, Stage, Label, OneKernel, at_record, Known, served_told, Transmits, standing, pid_eq-swap, out_of, IsNet, hushed, gone_in, Plain, record_off, Tame}
 use Rattle.dm_movelaws.proofs.Names.{line_calm, plain_in_bag, created_off, served_keeps, other_than, fits_put, fits_packet, Sayable, part_sane, by_parts, Steps, PacketsKeep}
@@ -90,9 +90,6 @@ line_spares pt s (Line.Migration Stage.Asked q) p o h tame mild is = spares_same
 line_spares pt s (Line.Migration Stage.Left q) p o h tame mild is = search (spares_line, same_spot, record_off)
 line_spares pt s _ p o h tame mild is = absurd mild
 
-mild_touches : (p : Pid) (o : Option MsgId) (l : Line) → MildLine p o l → touches l ≡ false
-mild_touches p o l h = grind (arith, nat_tests)
-
 -- what parts keep
 pub record Kept (v : View) (p : Pid) (o : Option MsgId) (pt : Point) : Type 0 where
   pub spares : Spares v pt.view p
@@ -100,30 +97,25 @@ pub record Kept (v : View) (p : Pid) (o : Option MsgId) (pt : Point) : Type 0 wh
   pub fits : PairsFit pt.view
   pub tame : TameAt v o
 
-tame_on : (v w : View) (p : Pid) (o : Option MsgId) → Spares v w p → TameAt v o → TameAt w o
-tame_on v w p o h tame i e = let t = tame i e in record { what = t.what; told = h.kept i t.what t.told; plain = t.plain }
-
 -- behind a part
 abbrev Spared : Pid → View → Point → Type 0
 Spared p v q = Spares v q.view p × PairsFit q.view
 
-spared_packet : (p : Pid) (v : View) → PacketsKeep (Spared p v)
-spared_packet p v q a b k l h = search (spares_trans, spares_calm, packet_calm, fits_packet)
-
 part_spares : (p : Pid) (o : Option MsgId) (pt next : Point) (q : Part) → Sane pt → PairsFit pt.view → TameAt pt.view o → Mild p o q → Steps pt q next → Spared p pt.view next
 part_spares p o pt next q h fits tame mild =
+    let spared_packet : (p : Pid) (v : View) → PacketsKeep (Spared p v) = λ p v q a b k l h. search (spares_trans, spares_calm, packet_calm, fits_packet) in
+    let mild_touches : (p : Pid) (o : Option MsgId) (l : Line) → MildLine p o l → touches l ≡ false = λ p o l h. grind (arith, nat_tests) in
     part_leads (Spared p pt.view) (spared_packet p pt.view) pt next q
     (whatever_put (Spared p pt.view) pt q
     (λ l is s step. let m = subst (Mild p o) is mild in (spares_about pt.view (view_after pt.view l) (moved pt l s).view.topic p (line_spares pt s l p o h tame m step), line_fits pt s l (mild_touches p o l m) fits))
     (λ b i k r. (spares_put pt.view b i k r p fits, fits_put pt.view pt.view.acting b i k r fits)) (spares_same pt.view p, fits))
 
-sayable_of : (p : Pid) (o : Option MsgId) (q : Part) → Mild p o q → Sayable q
-sayable_of p o q h = grind (arith, nat_tests)
-
 pub parts_spare : (p : Pid) (o : Option MsgId) (ps : List Part) (v : View) (pt : Point) (w : Spelled) → AllMild p o ps → Kept v p o pt → spelled pt ps ≡ Some w → Kept v p o w.point
-parts_spare p o qs v x w mild h is = by_parts (λ ps pt u. AllMild p o ps → Kept v p o pt → Kept v p o u.point) (λ pt mild h. h) (λ q ps pt next ls z lines leads rest mild h. (
+parts_spare p o qs v x w mild h is =
+    let tame_on : (v w : View) (p : Pid) (o : Option MsgId) → Spares v w p → TameAt v o → TameAt w o = λ v w p o h tame i e. let t = tame i e in record { what = t.what; told = h.kept i t.what t.told; plain = t.plain } in
+    by_parts (λ ps pt u. AllMild p o ps → Kept v p o pt → Kept v p o u.point) (λ pt mild h. h) (λ q ps pt next ls z lines leads rest mild h. (
     let c = part_spares p o pt next q h.sane h.fits (tame_on v pt.view p o h.spares h.tame) mild.0 (record { lines = ls; are = lines; leads = leads }) in
-    rest mild.1 (record { spares = spares_trans v pt.view next.view p h.spares c.0; sane = part_sane pt next q ls (sayable_of p o q mild.0) lines leads h.sane; fits = c.1; tame = h.tame })
+    rest mild.1 (record { spares = spares_trans v pt.view next.view p h.spares c.0; sane = part_sane pt next q ls (let e_ : Sayable q = grind (arith, nat_tests, mild.0) in e_) lines leads h.sane; fits = c.1; tame = h.tame })
     )) qs x w is mild h
 
 -- A line that handles the message about a process, and what follows it: what that says of the marks of each process.
@@ -168,9 +160,6 @@ first_spares pt i is q p l h apart quiet off known =
     (λ j t z told b a st. same_spot v (view_after v l) j z (ap (times j) (off z) ∙ handled_spots v i j (h.others p j t apart told b a) z) st)
     (λ m e. ap is_settled (known m) ∙ e)
 
-token_packet : (q : Pid) (k : MessageKind) (x : Point) (a b n : ℕ) (l : Load) → TokenOf x.view q k → TokenOf (view_after x.view (Line.Packet a b n l)) q k
-token_packet q k x a b n l h = grind (arith, nat_tests, packet_calm)
-
 pub owns_token : (pt : Point) (k : MessageKind) (q r : Pid) (b : ℕ) (w : Spelled) → Sane pt → PairsFit pt.view → is_between k ≡ true → pt.view.topic ≡ Of q → spelled pt (Owns k r b ∷ []) ≡ Some w → TokenOf w.point.view q k
 owns_token pt k q r b w sane fits between topic e =
     let v = pt.view in
@@ -188,7 +177,7 @@ owns_token pt k q r b w sane fits between topic e =
       spot = put_spot v.acting b;
       stands = put_there v v.acting b i k r fits;
     } in
-    let n = puts_next (λ (x : Point). TokenOf x.view q k) (λ x c d m l h. token_packet q k x c d m l h) pt (Owns k r b) b i k r [] w refl token e in
+    let n = puts_next (λ (x : Point). TokenOf x.view q k) (λ x c d m l h. (let e_ : TokenOf (view_after x.view (Line.Packet c d m l)) q k = grind (arith, nat_tests, packet_calm) in e_)) pt (Owns k r b) b i k r [] w refl token e in
     subst (λ (x : Point). TokenOf x.view q k) n.point (subst (λ (x : Point). TokenOf x.view q k) (said n.next n.rest n.more) n.stands)
 
 -- what a line that is no step keeps

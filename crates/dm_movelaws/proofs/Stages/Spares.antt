@@ -21,12 +21,9 @@ open-append o [] ys = refl
 open-append o (x ∷ xs) ys = open-append (left_open x) xs ys
 
 -- marks of lists
-with-append : (p : Pid) (l : Line) (xs ys : List Mark) → with_mark p l (xs ++ ys) ≡ with_mark p l xs ++ ys
-with-append p l xs ys = grind (arith, nat_tests)
-
 pub marks-append : (p : Pid) (xs ys : List Line) → marks p (xs ++ ys) ≡ marks p xs ++ marks p ys
 marks-append p [] ys = refl
-marks-append p (l ∷ xs) ys = ap (with_mark p l) (marks-append p xs ys) ∙ with-append p l (marks p xs) (marks p ys)
+marks-append p (l ∷ xs) ys = ap (with_mark p l) (marks-append p xs ys) ∙ (let e_ : with_mark p l ((marks p xs) ++ (marks p ys)) ≡ with_mark p l (marks p xs) ++ (marks p ys) = grind (arith, nat_tests) in e_)
 
 -- the marks that parts say
 abbrev pub mark_part : Pid → Part → List Mark → List Mark
@@ -36,12 +33,6 @@ mark_part p _ ms = ms
 abbrev pub marks_of : Pid → List Part → List Mark
 marks_of p [] = []
 marks_of p (q ∷ ps) = mark_part p q (marks_of p ps)
-
-part_marks : (p : Pid) (pt : Point) (q : Part) (ls zs : List Line) → lines_of pt q ≡ Some ls → marks p (ls ++ zs) ≡ mark_part p q (marks p zs)
-part_marks p pt q ls zs is = grind (arith, nat_tests, lines_are)
-
-pub spelled_marks : (p : Pid) (ps : List Part) (pt : Point) (w : Spelled) → spelled pt ps ≡ Some w → marks p w.lines ≡ marks_of p ps
-spelled_marks p = by_parts (λ ps pt w. marks p w.lines ≡ marks_of p ps) (λ pt. refl) (λ q ps pt next ls z lines leads rest. part_marks p pt q ls z.lines lines ∙ ap (mark_part p q) rest)
 
 -- a group, its head and its parts
 pub record GroupSays (b : Boot) (pt : Point) (d : Step) (w : Spelled) : Type 0 where
@@ -54,6 +45,9 @@ pub record GroupSays (b : Boot) (pt : Point) (d : Step) (w : Spelled) : Type 0 w
 
 pub group_says : (b : Boot) (pt : Point) (d : Step) (w : Spelled) → group_of b pt d ≡ Some w → GroupSays b pt d w
 group_says b pt d w e =
+    let spelled_marks : (p : Pid) (ps : List Part) (pt : Point) (w : Spelled) → spelled pt ps ≡ Some w → marks p w.lines ≡ marks_of p ps = λ p.
+      let part_marks : (p : Pid) (pt : Point) (q : Part) (ls zs : List Line) → lines_of pt q ≡ Some ls → marks p (ls ++ zs) ≡ mark_part p q (marks p zs) = λ p pt q ls zs is. grind (arith, nat_tests, lines_are) in
+      by_parts (λ ps pt w. marks p w.lines ≡ marks_of p ps) (λ pt. refl) (λ q ps pt next ls z lines leads rest. part_marks p pt q ls z.lines lines ∙ ap (mark_part p q) rest) in
     let g = group_is b pt d w e in
     record { parts = g.parts; is = g.is; rest = g.rest; said = g.said; point = g.point; marked = λ p. ap (λ (x : Spelled). marks p x.lines) (sym g.whole) ∙ spelled_marks p g.parts (moved pt (Line.Head d) pt.kernel) g.rest g.said }
 
@@ -176,9 +170,6 @@ token_mark v p k t a h due = grind (arith, nat_tests)
 pub here_mark : (v : View) (p : Pid) (m : ℕ) → v.known m p ≡ Here → HasMark v p None
 here_mark v p m here a h due = ap mark_in (rests_here a m (sym (ap (knows a m) here) ∙ h.known m))
 
-settled_mark : (v : View) (p : Pid) → ((m : ℕ) → is_settled (v.known m p) ≡ true) → HasMark v p None
-settled_mark v p settled e h due = grind (arith, nat_tests, moves_unsettled)
-
 pub spares_mark : (v w : View) (p : Pid) (a b : Phase) → Spares v w p → IsIn v p a → IsIn w p b → is_due a ≡ false → is_due b ≡ false → mark_in b ≡ mark_in a
 spares_mark v w p (Moves c m n None) b s h k da db = cc
 spares_mark v w p (Moves c m n (Some i)) b s h k da db =
@@ -187,7 +178,9 @@ spares_mark v w p (Moves c m n (Some i)) b s h k da db =
     let (y, x) = s.on i t h.token.spot h.token.told between refl h.token.stands in
     let token : TokenOf w p c = record { id = i; what = t; told = s.kept i t h.token.told; kind = refl; between = between; about = refl; spot = y; stands = x } in
     token_mark w p c token b k db
-spares_mark v w p any_ b s h k da db = settled_mark w p (λ m. s.still m (rest_settled any_ m (v.known m p) da refl (h.known m))) b k db
+spares_mark v w p any_ b s h k da db =
+    let settled_mark : (v : View) (p : Pid) → ((m : ℕ) → is_settled (v.known m p) ≡ true) → HasMark v p None = λ v p settled e h due. grind (arith, nat_tests, moves_unsettled) in
+    settled_mark w p (λ m. s.still m (rest_settled any_ m (v.known m p) da refl (h.known m))) b k db
 
 -- from one view to another with these marks of a process
 abbrev pub Marked : View → View → Pid → List Mark → Type 0

@@ -4,7 +4,7 @@ use Rattle.dm_movelaws.proofs.Names.{Frozen, view_after, handled_first, released
 use Rattle.dm_movelaws.proofs.Names.{pid_eq-swap, is_put, at_record_at, first_off, home_again, home_off, frozen_off, line_next, touches, handled_spots, record_off, InPhases, queued_plain, held_plain, Mark, Reached, mark_for, with_mark}
 use Rattle.dm_movelaws.proofs.Names.{in_order, released_on, nat_tests, arith, ◌==◌, Bool, PlainProcess, Incoming, handled, front_of, accepts, gives_piece, takes_chunk, takes_block, told_step, chunks_of, pieces_of, Owns, accepted_off}
 use Rattle.dm_movelaws.proofs.Names.{state_off, memory_off, lacks_off, proto_off, restarted_off, proto_known, Lacking, Staying, leaves, sets, MoveNote, Outcome, NothingElse, tells_asker, aim, PairsFit, Sane, Target, asked_off, target_of}
-use Rattle.dm_movelaws.proofs.Names.{forwards_on, process_told, told_server, plain_kind, PlainMessage, Boot, goes_round, handles, Addresses, loose_round, loose_handles, by_forwards, Label, PlainWhat, sort_of}
+use Rattle.dm_movelaws.proofs.Names.{forwards_on, plain_kind, PlainMessage, Boot, goes_round, handles, Addresses, loose_round, loose_handles, by_forwards, Label, PlainWhat, sort_of}
 use Rattle.dm_movelaws.proofs.Stages.Spares.{is_settled, Spares, spares_same, TokenOf, HasMark, token_mark, here_mark, some_marked, mark_of, Marked, open_after, marks_of, mark_same, mark_other, marks_sent}
 use Rattle.dm_movelaws.proofs.Stages.Rows.{Handling, first_spares, owns_token, line_sane, line_and_parts, Row, split, front_token, row_marked, answer, AllMild, spares_line, same_spot, Kept, parts_spare}
 use Rattle.dm_movelaws.proofs.Leading.{line_fits, asker_known}
@@ -33,12 +33,6 @@ handles_mild b o m id msg ps e =
 pub data Hears (k : Known) (id : MsgId) (t : Told) (ps : List Part) : Type 0 where
   Calms : ((me : Pid) → AllMild me (Some id) ps) → Hears k id t ps
   Freezes : k ≡ Here → ps ≡ freezes t.receiver (target_of (Some t)) → Hears k id t ps
-
-pub server_mild : (o : Point) (id : MsgId) (t : Told) (k : MessageKind) (ps : List Part) → told_server o id t (sort_of k) ≡ Some ps → (me : Pid) → AllMild me (Some id) ps
-server_mild o id t k ps e me = grind (arith, nat_tests)
-
-pub process_hears : (o : Point) (m : ℕ) (id : MsgId) (t : Told) (k : Known) (ps : List Part) → process_told o m id t k ≡ Some ps → Hears k id t ps
-process_hears o m id t k ps e = grind (arith, nat_tests, forwards_mild)
 
 -- The rows of a migration that freeze a process, send on what waits for it, and bring it home.
 
@@ -80,14 +74,8 @@ comes_home pt i is q l a r ns x w h none quiet calm off known unmarked marked be
   mine = some_marked pt.view w.point.view q (marks_of q (Says l ∷ tells_asker a r)) ns x None (ap (with_mark q l) (asker_marks q a r) ∙ marked) before (here_mark w.point.view q pt.view.acting (home_known pt l a r w q none known e)) order ends;
 }
 
--- a process is frozen
-frozen_unmarked : (p q : Pid) (to : ℕ) → pid_eq q p ≡ false → marks_of p (freezes q to) ≡ []
-frozen_unmarked p q to e = grind (arith, nat_tests, pid_eq-swap, mark_other)
-
-frozen_marked : (q : Pid) (to : ℕ) → marks_of q (freezes q to) ≡ Reached 1 ∷ Reached 2 ∷ []
-frozen_marked q to = mark_same q (Reached 1) (mark_for q q (Reached 2) []) ∙ ap (λ (ms : List Mark). Reached 1 ∷ ms) (mark_same q (Reached 2) [])
-
 -- wherever its request stood, if the others are left alone
+-- a process is frozen
 pub sets_row : (pt : Point) (q : Pid) (to : ℕ) (w : Spelled) → Sane pt → PairsFit pt.view → pt.view.known pt.view.acting q ≡ Here
     → ((p : Pid) → pid_eq q p ≡ false → Spares pt.view (view_after pt.view (Line.Migration Stage.Frozen q)) p) → spelled pt (freezes q to) ≡ Some w
     → Row pt.view w.point.view q (λ p. marks_of p (freezes q to))
@@ -103,9 +91,10 @@ sets_row pt q to w sane fits here spared e =
     let sane_ = line_sane next k refl refl (line_sane pt l refl refl sane) in
     let token : TokenOf w.point.view q MessageKind.Ask = subst (λ (y : Point). TokenOf y.view q MessageKind.Ask) (o.point ∙ n.point)
     (owns_token last MessageKind.Ask q (pid_of to 0) to o.rest sane_ (line_fits next next.kernel k refl (line_fits pt pt.kernel l refl fits)) refl (sets v q v.topic).topic o.more) in
+    let frozen_marked : marks_of q (freezes q to) ≡ Reached 1 ∷ Reached 2 ∷ [] = mark_same q (Reached 1) (mark_for q q (Reached 2) []) ∙ ap (λ (ms : List Mark). Reached 1 ∷ ms) (mark_same q (Reached 2) []) in
     record {
-      others = λ p apart. (frozen_unmarked p q to apart, line_and_parts pt p l ps w refl refl refl sane fits (spared p apart) (apart, (tt, tt)) e);
-      mine = some_marked v w.point.view q (marks_of q (freezes q to)) (Reached 1 ∷ Reached 2 ∷ []) None (Some (Reached 2)) (frozen_marked q to) (here_mark v q v.acting here) (token_mark w.point.view q MessageKind.Ask token) refl refl;
+      others = λ p apart. ((let e_ : marks_of p (freezes q to) ≡ [] = grind (arith, nat_tests, pid_eq-swap, mark_other) in e_), line_and_parts pt p l ps w refl refl refl sane fits (spared p apart) (apart, (tt, tt)) e);
+      mine = some_marked v w.point.view q (marks_of q (freezes q to)) (Reached 1 ∷ Reached 2 ∷ []) None (Some (Reached 2)) frozen_marked (here_mark v q v.acting here) (token_mark w.point.view q MessageKind.Ask token) refl refl;
     }
 
 pub freezes_row : (pt : Point) (i : MsgId) (is : List MsgId) (q : Pid) (to : ℕ) (w : Spelled) → Handling pt i is q → pt.view.topic ≡ NothingElse → pt.view.known pt.view.acting q ≡ Here → spelled pt (freezes q to) ≡ Some w
@@ -131,9 +120,6 @@ departs q to ids from = Says (Line.SentOn q (length ids)) ∷ sends_on to ids ++
 
 departs_marks : (p q : Pid) (to : ℕ) (ids : List MsgId) (from : ℕ) → marks_of p (departs q to ids from) ≡ mark_for p q (Reached 6) (mark_for p q (Reached 7) [])
 departs_marks p q to ids from = ap (mark_for p q (Reached 6)) (marks_sent p to ids (Says (Line.Migration Stage.Left q) ∷ to_kernel MessageKind.Restart from ∷ []))
-
-departs_marked : (q : Pid) (to : ℕ) (ids : List MsgId) (from : ℕ) → marks_of q (departs q to ids from) ≡ Reached 6 ∷ Reached 7 ∷ []
-departs_marked q to ids from = departs_marks q q to ids from ∙ mark_same q (Reached 6) (mark_for q q (Reached 7) []) ∙ ap (λ (ms : List Mark). Reached 6 ∷ ms) (mark_same q (Reached 7) [])
 
 -- what is of the protocol stands in no list
 sent_spot : (pt : Point) (i : MsgId) (is : List MsgId) (q p : Pid) (n : ℕ) (j : MsgId) (t : Told) (z : Spot) → Handling pt i is q → InPhases pt.view → pid_eq q p ≡ false → pt.view.told j ≡ Some t → is_between t.kind ≡ true → t.about ≡ Of p → 1 ≤ standing pt.view j z
@@ -169,6 +155,8 @@ departs_row pt i is q to ids from w h phases before e =
     let o = line_next mid k (to_kernel MessageKind.Restart from ∷ []) s.rest refl s.more in
     let token : TokenOf w.point.view q MessageKind.Restart = subst (λ (y : Point). TokenOf y.view q MessageKind.Restart) (o.point ∙ s.point ∙ n.point)
     (owns_token last MessageKind.Restart q (pid_of from 0) from o.rest (line_sane mid k refl refl kept.sane) (line_fits mid mid.kernel k refl kept.fits) refl refl o.more) in
+    let departs_marked : (q : Pid) (to : ℕ) (ids : List MsgId) (from : ℕ) → marks_of q (departs q to ids from) ≡ Reached 6 ∷ Reached 7 ∷ [] =
+      λ q to ids from. departs_marks q q to ids from ∙ mark_same q (Reached 6) (mark_for q q (Reached 7) []) ∙ ap (λ (ms : List Mark). Reached 6 ∷ ms) (mark_same q (Reached 7) []) in
     record {
       others = λ p apart. (
         (let e_ : marks_of p (departs q to ids from) ≡ [] = grind (arith, nat_tests, pid_eq-swap, departs_marks, mark_other) in e_),
@@ -216,16 +204,13 @@ asked_row pt i is t q false slots blocks w h e =
     step_row pt i is t q (Line.Lacks q slots blocks) Lacking MessageKind.Ask MessageKind.Refuse w h e refl refl refl refl (lacks_off pt.view q slots blocks) (λ m r apart. refl) refl refl (λ r. refl) refl refl
 
 -- a piece goes or comes, and says no more than that
-proto_topic : (pt : Point) (i : MsgId) (is : List MsgId) (t : Told) (q : Pid) → Heard pt i is t q → (view_after pt.view (Line.Proto i)).topic ≡ Of q
-proto_topic pt i is t q h = search
-
 proto_row : (pt : Point) (i : MsgId) (is : List MsgId) (t : Told) (q : Pid) (j k : MessageKind) (w : Spelled) → Heard pt i is t q → t.kind ≡ j → is_between j ≡ true → is_between k ≡ true → mark_of j ≡ mark_of k
     → spelled pt (Says (Line.Proto i) ∷ Owns k (pid_of i.from.home 0) i.from.home ∷ []) ≡ Some w → MarkedBy pt w (Says (Line.Proto i) ∷ Owns k (pid_of i.from.home 0) i.from.home ∷ [])
 proto_row pt i is t q j k w h e between next same n p =
     let v = pt.view in
     row_marked v w.point.view q (λ r. [])
     (answer pt i is q (pid_of i.from.home 0) (Line.Proto i) k i.from.home [] (mark_of j) w h.at refl refl refl (λ z. proto_off (handled v i) (v.told i) z) (λ m r apart. proto_known (handled v i) (v.told i) m r)
-    (proto_topic pt i is t q h) next (λ r apart. refl) refl (heard_mark pt i is t q j h e between) refl same n) p
+    (let e_ : (view_after pt.view (Line.Proto i)).topic ≡ Of q = search in e_) next (λ r apart. refl) refl (heard_mark pt i is t q j h e between) refl same n) p
 
 chunk_row : (pt : Point) (i : MsgId) (is : List MsgId) (t : Told) (q : Pid) (last : Bool) (w : Spelled) → Heard pt i is t q → t.kind ≡ MessageKind.State → spelled pt (takes_chunk i q last) ≡ Some w → MarkedBy pt w (takes_chunk i q last)
 chunk_row pt i is t q true w h e = step_row pt i is t q (Line.Migration Stage.StateTaken q) (Reached 4) MessageKind.State MessageKind.PullBlock w h e refl refl refl refl (state_off pt.view q) (λ m r apart. refl) refl refl (λ r. refl) refl refl

@@ -86,17 +86,14 @@ long_in v t p (Rests at) h on still = on.long at (grind (arith, nat_tests, (at_s
 long_in v t p (Over at) h on still = on.long at (grind (arith, nat_tests, (at_self at (is_over (v.known at p)) (is_away (v.known at p)) (h.known at))))
 long_in v t p (Moves k s d o) h on still = absurd (never_moves v p k s d o h still)
 
-away_at : (x y c : Bool) → c ≡ false → (if c then x else y) ≡ true → y ≡ true
-away_at x y c off e = sym (ap (λ (d : Bool). if d then x else y) off) ∙ e
-
 there_in : (v : View) (t : Trails) (p : Pid) (phase : Phase) (n : ℕ) → IsIn v p phase → Placed v t p → ((m : ℕ) → is_moving (v.known m p) ≡ false) → v.known n p ≢ Unknown → (m : ℕ) × (slice_get (t p) (v.moves p) ≡ Some m) × IsThere v p m
 there_in v t p Nowhere n h on still some = absurd (some (unknown_is (v.known n p) (h.known n)))
 there_in v t p (Rests at) n h on still some =
     let here = at_self at (is_here (v.known at p)) (is_away (v.known at p)) (h.known at) in
-    (at, on.now at (grind (arith, nat_tests)), record { now = inl (here_is (v.known at p) here); away = λ m off. away_at (is_here (v.known m p)) (is_away (v.known m p)) (at == m) off (h.known m) })
+    (at, on.now at (grind (arith, nat_tests)), record { now = inl (here_is (v.known at p) here); away = λ m off. (sym (ap (λ (d : Bool). if d then (is_here (v.known m p)) else (is_away (v.known m p))) off) ∙ (h.known m)) })
 there_in v t p (Over at) n h on still some =
     let over = at_self at (is_over (v.known at p)) (is_away (v.known at p)) (h.known at) in
-    (at, on.now at (grind (arith, nat_tests)), record { now = inr (grind (arith, nat_tests)); away = λ m off. away_at (is_over (v.known m p)) (is_away (v.known m p)) (at == m) off (h.known m) })
+    (at, on.now at (grind (arith, nat_tests)), record { now = inr (grind (arith, nat_tests)); away = λ m off. (sym (ap (λ (d : Bool). if d then (is_over (v.known m p)) else (is_away (v.known m p))) off) ∙ (h.known m)) })
 there_in v t p (Moves k s d o) n h on still some = absurd (never_moves v p k s d o h still)
 
 -- wherever the rule leads
@@ -155,26 +152,20 @@ goes_by pt t (Some l) h e p some = goes_label pt t l h e p some
 no_place : (T : Type 0) (a : About) (p : Pid) (m c : ℕ) → a ≡ NothingElse → a ≡ view.Place p m c → T
 no_place T a p m c e f = absurd (let g : NothingElse ≡ view.Place p m c = sym e ∙ f in cc)
 
-forwarded_made : (s : OneKernel) (v : View) (o : Option Pid) (p : Pid) (m c : ℕ) → Passing s v → (view.forwarded_for v o).topic ≡ view.Place p m c → WasMade s p
-forwarded_made s v o p m c h e = grind (arith, nat_tests)
-
 stage_made : (s : OneKernel) (v : View) (q : Pid) (k : Stage) (p : Pid) (m c : ℕ) → Passing s v → (view.after_stage v q k).topic ≡ view.Place p m c → WasMade s p
 stage_made s v q Stage.Asked p m c h e = h.topic p m c e
 stage_made s v q Stage.Restarted p m c h e = h.topic p m c e
 stage_made s v q Stage.Frozen p m c h e = cc (sym (sets v q v.topic).topic ∙ e)
 stage_made s v q _ p m c h e = cc
 
-head_made : (s : OneKernel) (v : View) (d : Step) (p : Pid) (m c : ℕ) → (view.after_head v d).topic ≡ view.Place p m c → WasMade s p
-head_made s v d p m c e = grind (arith, nat_tests, no_place)
-
-proto_made : (s : OneKernel) (v : View) (i : MsgId) (o : Option Told) (p : Pid) (m c : ℕ) → v.told i ≡ o → Passing s v → (view.after_proto (handled v i) o).topic ≡ view.Place p m c → WasMade s p
-proto_made s v i o p m c is h e = grind (arith, nat_tests, no_place)
-
-no_of : (T : Type 0) (q p : Pid) (m c : ℕ) → Of q ≡ view.Place p m c → T
-no_of T q p m c e = cc
-
 line_made : (s : OneKernel) (v : View) (l : Line) → Passing s v → (p : Pid) (m c : ℕ) → (view_after v l).topic ≡ view.Place p m c → WasMade s p
-line_made s v l h1 p m c h2 = search (arith, head_made, label_topic, forwarded_made, proto_made, v.told, stage_made, no_of, queued_topic, held_topic)
+line_made s v l h1 p m c h2 =
+    let proto_made : (s : OneKernel) (v : View) (i : MsgId) (o : Option Told) (p : Pid) (m c : ℕ) → v.told i ≡ o → Passing s v → (view.after_proto (handled v i) o).topic ≡ view.Place p m c → WasMade s p =
+      λ s v i o p m c is h e. grind (arith, nat_tests, no_place) in
+    let head_made : (s : OneKernel) (v : View) (d : Step) (p : Pid) (m c : ℕ) → (view.after_head v d).topic ≡ view.Place p m c → WasMade s p = λ s v d p m c e. grind (arith, nat_tests, no_place) in
+    let forwarded_made : (s : OneKernel) (v : View) (o : Option Pid) (p : Pid) (m c : ℕ) → Passing s v → (view.forwarded_for v o).topic ≡ view.Place p m c → WasMade s p = λ s v o p m c h e. grind (arith, nat_tests) in
+    let no_of : (T : Type 0) (q p : Pid) (m c : ℕ) → Of q ≡ view.Place p m c → T = λ T q p m c e. cc in
+    search (arith, head_made, label_topic, forwarded_made, proto_made, v.told, stage_made, no_of, queued_topic, held_topic)
 
 -- a line after which the same leave
 line_passing : (pt : Point) (t : OneKernel) (l : Line) → Goes pt.kernel t → ((m : ℕ) (p : Pid) → passes ((view_after pt.view l).known m p) ≡ true → WasMade pt.kernel p) → (view_after pt.view l).told ≡ pt.view.told → Passing pt.kernel pt.view

@@ -1,7 +1,7 @@
 -- Lines, puts and packets that fit the trails anywhere, and leave each process where it is.
 use Rattle.dm_movelaws.proofs.Names.{◌≡◌, ℕ, ◌+◌, ◌==◌, Bool, true, false, List, [], ◌∷◌, length, refl, ap, ◌∙◌, sym, subst, if◌then◌else◌, Option, None, Some, Pid, pid_of, MsgId, MessageKind, Stage, plain_kind, Label, OneKernel, entry}
 use Rattle.dm_movelaws.proofs.Names.{reception, id_eq-same, after_step, bind-is, Line, Load, View, Told, own_id, view_after, handled, receiver_of, Receiver, goes_between, own_given, Point, moved, after, Part, Says, Routes, Owns, Transmits}
-use Rattle.dm_movelaws.proofs.Names.{puts, goes_out, packet_line, to_kernel, Trails, IsOn, trails_after, IsNet, IsNetLine, SaidOn, not_kernels, queued_known, held_known, dropped_known, proto_known, Sane, Outside, Treads, LineFits}
+use Rattle.dm_movelaws.proofs.Names.{puts, goes_out, packet_line, to_kernel, Trails, IsOn, trails_after, IsNet, IsNetLine, SaidOn, not_kernels, queued_known, held_known, dropped_known, Sane, Outside, Treads, LineFits}
 use Rattle.dm_movelaws.proofs.Names.{LabelFits, KnownFits, PutFits, Rides, Steps, said_by, own_outside, own_fresh, queued_moves, held_moves, dropped_moves, nat_tests, arith, ◌++◌, ⊤, PlainMessage, bind, after_line, Again, Spelled, lines_of}
 use Rattle.dm_movelaws.proofs.Names.{spelled, Trodden, along, AllSayable, part_sane, line_treads, Said, plain_own, by_parts, Addresses, Sort, is_between, sort_of, false≢true, tells_between, seen, ◌≢◌, ◌≤◌, length-append, slice_get, pid_eq}
 use Rattle.dm_movelaws.proofs.Names.{Known, Frozen, Incoming, Forward, forwarded_for, gone_to, Sender, is_told_back, forwards_on, sends_on, Moves, IsIn, times, destination, both_lists, forwarded_known, get_at_end, forwarded_back, Named}
@@ -142,11 +142,10 @@ between_loose k m gives none = record {
   leaves = λ pt next t s h. owns_leave k (pid_of m 0) m pt next t s h;
 }
 
-gives_between : (s : OneKernel) (v : View) (a : Addresses) (id : MsgId) (m : ℕ) (w : Sort) → tells_between w ≡ true → own_given s v a id (pid_of m 0) w ≡ goes_between v id (pid_of m 0)
-gives_between s v a id m w e = grind (arith, nat_tests)
-
 pub to_between : (k : MessageKind) (m : ℕ) → is_between k ≡ true → AllLoose (to_kernel k m ∷ [])
-to_between k m b = (between_loose k m (λ pt. gives_between pt.kernel pt.view pt.addresses (own_id pt.view) m (sort_of k) b) (λ e. false≢true (sym (ap is_between e) ∙ b)), tt)
+to_between k m b =
+    let gives_between : (s : OneKernel) (v : View) (a : Addresses) (id : MsgId) (m : ℕ) (w : Sort) → tells_between w ≡ true → own_given s v a id (pid_of m 0) w ≡ goes_between v id (pid_of m 0) = λ s v a id m w e. grind (arith, nat_tests) in
+    (between_loose k m (λ pt. gives_between pt.kernel pt.view pt.addresses (own_id pt.view) m (sort_of k) b) (λ e. false≢true (sym (ap is_between e) ∙ b)), tt)
 
 -- lines that say nothing of where processes are
 pub line_loose : (l : Line) → ((pt : Point) (t : Trails) → Sane pt → Treads pt t → LineFits pt t l) → ((v : View) (t : Trails) → Places v t → Places (view_after v l) (trails_after v t l)) → Loose (Says l)
@@ -155,44 +154,17 @@ line_loose l fits leaves = record {
   leaves = λ pt next t s h. (let k = said_by pt next l s in subst (λ (q : Point). Places q.view (trails_after pt.view t l)) k.is (places_same (view_after pt.view l) (seen pt.kernel pt.view l) (trails_after pt.view t l) (λ m q. refl) (λ q. refl) (leaves pt.view t h)));
 }
 
-at_pid : (f g : Pid → ℕ) (q : Pid) → f ≡ g → f q ≡ g q
+pub at_pid : (f g : Pid → ℕ) (q : Pid) → f ≡ g → f q ≡ g q
 at_pid f g q e = ap (λ (h : Pid → ℕ). h q) e
 
 pub quiet : (l : Line) → ((pt : Point) (t : Trails) → LineFits pt t l) → ((v : View) (t : Trails) → trails_after v t l ≡ t) → ((v : View) (m : ℕ) (q : Pid) → (view_after v l).known m q ≡ v.known m q) → ((v : View) (q : Pid) → (view_after v l).moves q ≡ v.moves q) → Loose (Says l)
 quiet l fits same known moves = line_loose l (λ pt t sane on. fits pt t) (λ v t h. subst (Places (view_after v l)) (sym (same v t)) (places_same v (view_after v l) t (known v) (moves v) h))
-
-pub idle_loose : (m : ℕ) → Loose (Says (Line.Idle m))
-idle_loose m = quiet (Line.Idle m) (λ pt t. tt) (λ v t. refl) (λ v n q. refl) (λ v q. refl)
 
 pub queued_loose : (i : MsgId) → Loose (Says (Line.Queued i))
 queued_loose i = quiet (Line.Queued i) (λ pt t. tt) (λ v t. refl) (λ v n q. queued_known (handled v i) i (receiver_of (v.told i)) n q) (λ v q. at_pid (view_after v (Line.Queued i)).moves v.moves q (queued_moves (handled v i) i (receiver_of (v.told i))))
 
 pub held_loose : (i : MsgId) → Loose (Says (Line.Held i))
 held_loose i = quiet (Line.Held i) (λ pt t. tt) (λ v t. refl) (λ v n q. held_known (handled v i) i (receiver_of (v.told i)) n q) (λ v q. at_pid (view_after v (Line.Held i)).moves v.moves q (held_moves (handled v i) i (receiver_of (v.told i))))
-
-pub updated_loose : (i : MsgId) (k : ℕ) → Loose (Says (Line.Updated i k))
-updated_loose i k = quiet (Line.Updated i k) (λ pt t. tt) (λ v t. refl) (λ v n q. refl) (λ v q. refl)
-
-pub lacks_loose : (p : Pid) (a b : ℕ) → Loose (Says (Line.Lacks p a b))
-lacks_loose p a b = quiet (Line.Lacks p a b) (λ pt t. tt) (λ v t. refl) (λ v n q. refl) (λ v q. refl)
-
-pub proto_loose : (i : MsgId) → Loose (Says (Line.Proto i))
-proto_loose i = quiet (Line.Proto i) (λ pt t. tt) (λ v t. refl) (λ v n q. proto_known (handled v i) (v.told i) n q) (λ v q. at_pid (view_after v (Line.Proto i)).moves v.moves q (grind (arith, nat_tests)))
-
-pub asked_loose : (p : Pid) → Loose (Says (Line.Migration Stage.Asked p))
-asked_loose p = quiet (Line.Migration Stage.Asked p) (λ pt t. tt) (λ v t. refl) (λ v n q. refl) (λ v q. refl)
-
-pub state_loose : (p : Pid) → Loose (Says (Line.Migration Stage.StateTaken p))
-state_loose p = quiet (Line.Migration Stage.StateTaken p) (λ pt t. tt) (λ v t. refl) (λ v n q. refl) (λ v q. refl)
-
-pub memory_loose : (p : Pid) → Loose (Says (Line.Migration Stage.MemoryTaken p))
-memory_loose p = quiet (Line.Migration Stage.MemoryTaken p) (λ pt t. tt) (λ v t. refl) (λ v n q. refl) (λ v q. refl)
-
-pub no_child_loose : (p : Pid) → Loose (Says (Line.NoChild p))
-no_child_loose p = quiet (Line.NoChild p) (λ pt t. tt) (λ v t. refl) (λ v n q. refl) (λ v q. refl)
-
-pub pinned_loose : (p : Pid) → Loose (Says (Line.Pinned p))
-pinned_loose p = quiet (Line.Pinned p) (λ pt t. tt) (λ v t. refl) (λ v n q. refl) (λ v q. refl)
 
 -- what the net says
 net_line : (l : Line) → IsNetLine l → Loose (Says l)
@@ -277,13 +249,12 @@ left_places q u p d h =
     places_set v w u u p (gone_to (v.known v.acting p) n) refl (λ r apart. refl) (λ r apart. refl) h.others
     (λ learnt. placed_left v w u p d n (λ m. learnt m ∙ ap (λ (x : Known). if v.acting == m then gone_to x n else v.known m p) h.holds) refl h.at h.long h.none h.only)
 
-left_walks : (q : Point) (u : Trails) (p : Pid) (d from : ℕ) → Sent q u p d → Walks q u (Says (Line.Migration Stage.Left p) ∷ to_kernel MessageKind.Restart from ∷ [])
-left_walks q u p d from h =
-    first_walks (Line.Migration Stage.Left p) (to_kernel MessageKind.Restart from ∷ []) q u
-    (λ sane on. (record { d = d; holds = h.holds; at = h.at; long = h.long; apart = h.apart }, λ next s. subst (λ (z : Point). Places z.view u) s.is (left_places q u p d h))) (to_between MessageKind.Restart from refl)
-
 agains_walks : (u : Trails) (p : Pid) (d from to : ℕ) (ids : List MsgId) (q : Point) → Sent q u p d → Walks q u (sends_on to ids ++ Says (Line.Migration Stage.Left p) ∷ to_kernel MessageKind.Restart from ∷ [])
-agains_walks u p d from to [] q h = left_walks q u p d from h
+agains_walks u p d from to [] q h =
+    let left_walks : (q : Point) (u : Trails) (p : Pid) (d from : ℕ) → Sent q u p d → Walks q u (Says (Line.Migration Stage.Left p) ∷ to_kernel MessageKind.Restart from ∷ []) = λ q u p d from h.
+      first_walks (Line.Migration Stage.Left p) (to_kernel MessageKind.Restart from ∷ []) q u
+      (λ sane on. (record { d = d; holds = h.holds; at = h.at; long = h.long; apart = h.apart }, λ next s. subst (λ (z : Point). Places z.view u) s.is (left_places q u p d h))) (to_between MessageKind.Restart from refl) in
+    left_walks q u p d from h
 agains_walks u p d from to (i ∷ is) q h = λ sane on. (tt, λ next s. agains_walks u p d from to is next (again_rides (λ (z : Point). Sent z u p d) (sent_rides u p d) q next i to s h))
 
 sent_first : (pt : Point) (t : Trails) (p : Pid) (n s d : ℕ) (o : Option MsgId) (next : Point) → next.view ≡ view_after pt.view (Line.SentOn p n) → IsIn pt.view p (Moves MessageKind.AllTaken s d o) → pt.view.acting ≡ s → Places pt.view t → Sent next (trails_after pt.view t (Line.SentOn p n)) p d

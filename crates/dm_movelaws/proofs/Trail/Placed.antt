@@ -1,6 +1,6 @@
 -- Where a process is on its trail: at the end, or one machine before it while the message that restarts it is under way.
 use Rattle.dm_movelaws.proofs.Names.{◌≡◌, ◌≢◌, ◌⊎◌, ℕ, ◌+◌, ◌==◌, Bool, true, false, length, refl, ap, ◌∙◌, sym, subst, inl, inr, arith, cases_Bool, false≢true, if◌then◌else◌, slice_get, Option, Some, Pid, pid_eq, MsgId, MessageKind}
-use Rattle.dm_movelaws.proofs.Names.{pid_eq-is, at_record, View, Known, Unknown, Here, Frozen, Incoming, Forward, Ended, Moves, IsIn, knows, kind_comes, is_restart, is_away, Trails, eq_is, parts, eq_self, set_off, kind_leaves, nat_tests}
+use Rattle.dm_movelaws.proofs.Names.{pid_eq-is, at_record, View, Known, Unknown, Here, Frozen, Incoming, Forward, Ended, Moves, IsIn, knows, kind_comes, is_restart, is_away, Trails, eq_is, eq_self, set_off, kind_leaves, nat_tests}
 use Rattle.dm_rule.proofs.Trails.Steps.{set_at}
 
 -- a machine has a process, or had it last
@@ -134,10 +134,3 @@ incoming_by k s d m from b c is e = grind (arith, nat_tests, eq_is)
 -- and its destination alone expects it
 pub moves_comes : (v : View) (p : Pid) (k : MessageKind) (s d m from : ℕ) (o : Option MsgId) → IsIn v p (Moves k s d o) → v.known m p ≡ Incoming from → m ≡ d
 moves_comes v p k s d m from o h at = incoming_by k s d m from (s == m) (d == m) refl (sym (ap (λ (x : Known). knows (Moves k s d o) m x) at) ∙ h.known m)
-
-forward_by : (k : MessageKind) (d : ℕ) (x : Known) → is_restart k ≡ true → kind_leaves k d x ≡ true → (c : ℕ) × (x ≡ Forward d c)
-forward_by k d x on e = grind (arith, nat_tests, parts, eq_is)
-
--- then its source forwards
-pub moves_forward : (v : View) (p : Pid) (k : MessageKind) (s d : ℕ) (o : Option MsgId) → IsIn v p (Moves k s d o) → is_restart k ≡ true → (c : ℕ) × (v.known s p ≡ Forward d c)
-moves_forward v p k s d o h on = grind (arith, nat_tests, forward_by, eq_self)

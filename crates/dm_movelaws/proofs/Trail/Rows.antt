@@ -1,18 +1,18 @@
 -- What a turn says of a kernel's own message fits the trails.
-use Rattle.dm_movelaws.proofs.Names.{◌≡◌, ℕ, ◌+◌, Bool, true, false, List, [], ◌∷◌, refl, ap, ◌∙◌, sym, subst, arith, ◌||◌, if◌then◌else◌, slice_get, Option, None, Some, Pid, pid_of, MsgId, MessageKind, Label, Line, plain_kind}
-use Rattle.dm_movelaws.proofs.Names.{PlainMessage, Boot, Why, first_number, View, Told, Unknown, Here, Forward, Ended, handled, ends_by, served_told, view_after, Receiver, Point, moved, Part, Says, Routes, Nowhere, forwards_on, Trails}
+use Rattle.dm_movelaws.proofs.Names.{◌≡◌, ℕ, ◌+◌, Bool, true, false, List, [], ◌∷◌, refl, ap, ◌∙◌, sym, subst, arith, ◌||◌, if◌then◌else◌, slice_get, Option, None, Some, Pid, pid_of, MsgId, MessageKind, Label, Line, plain_kind, proto_known}
+use Rattle.dm_movelaws.proofs.Names.{PlainMessage, Boot, first_number, View, Told, Unknown, Here, Forward, Ended, handled, ends_by, served_told, view_after, Receiver, Point, moved, Part, Says, Routes, Nowhere, forwards_on, Trails}
 use Rattle.dm_movelaws.proofs.Names.{Trail, ReceivedAt, ended_on, is_fixed, Unborn, said_by, Stops, by_round, by_handles, StoodOnTrail, nat_tests, ◌≤◌, inl, inr, PutFits, manager, Step, Of, is_kernels, own_id, after_head, front_of, Child}
-use Rattle.dm_movelaws.proofs.Names.{Sender, to_of, sender_of, Spelled, IsIn, is_between, group_of, Inbox, Queue, Held, times, standing, both_lists, both_times, front_kernels, Phased, due, outcome_sayable, Named, Links, child_is}
+use Rattle.dm_movelaws.proofs.Names.{Sender, to_of, sender_of, Spelled, IsIn, is_between, group_of, Inbox, Queue, Held, times, standing, both_lists, both_times, front_kernels, Phased, due, outcome_sayable, Named, Links, child_is, parts}
 use Rattle.dm_movelaws.proofs.Names.{migrate_to, migrate_from, Treads, line_treads, KnownStands, Begins, begins, begun, begun_sane, turned, unborn, FoundBy, KnowsAt, moves_back, own_outside, own_fresh, told_there, about_same, stands_first}
 use Rattle.dm_movelaws.proofs.Names.{queued_for, told_for, either, fixed_home, by_migrates, migrates, by_outcome, by_group, answers_move, leaves_for, Outcome, asked_noted, ◌++◌, false≢true, Stage, pid_eq-same, Frozen, Incoming, to_kernel}
 use Rattle.dm_movelaws.proofs.Names.{Moves, receiver_in, sender_in, Sane, source_holds, destination_expects, by_hears, place_told, behind_count, left_parts, MoveNote, OneKernel, Known, label_of, kernel_after, at_record, at_record_at, Said}
-use Rattle.dm_movelaws.proofs.Names.{aim, sets, sort_of}
+use Rattle.dm_movelaws.proofs.Names.{aim, sets, sort_of, is_restart, kind_leaves, eq_is, eq_self}
 use Rattle.dm_onekernel.specs.Pieces as pieces
 use Rattle.dm_rule.specs.Rule as rule
 use Rattle.dm_rule.proofs.Hearing as hearing
-use Rattle.dm_movelaws.proofs.Trail.Placed.{is_held, Placed, Places, Learnt, placed_held, places_set, places_held, placed_comes, placed_restarts, moves_held, moves_comes, moves_forward}
-use Rattle.dm_movelaws.proofs.Trail.Loose.{Walks, AllLoose, loose_walks, places_same, label_fits, label_walks, routes_loose, idle_loose, queued_loose, held_loose, dropped_loose, drops_loose, AllGood, parts_good, owns_leave, no_child_loose}
-use Rattle.dm_movelaws.proofs.Trail.Loose.{pinned_loose, net_loose, first_walks, updated_loose, lacks_loose, proto_loose, to_between, asked_loose, state_loose, memory_loose, Loose, quiet, forwards_walks}
+use Rattle.dm_movelaws.proofs.Trail.Placed.{is_held, Placed, Places, Learnt, placed_held, places_set, places_held, placed_comes, placed_restarts, moves_held, moves_comes}
+use Rattle.dm_movelaws.proofs.Trail.Loose.{Walks, AllLoose, loose_walks, places_same, label_fits, label_walks, routes_loose, queued_loose, held_loose, dropped_loose, drops_loose, AllGood, parts_good, owns_leave, at_pid}
+use Rattle.dm_movelaws.proofs.Trail.Loose.{net_loose, first_walks, to_between, Loose, quiet, forwards_walks}
 use Rattle.dm_movelaws.proofs.Trail.Loose.{leaves_walks}
 
 pub at_end : (pt : Point) (t : Trails) (p : Pid) → pt.view.known pt.view.acting p ≡ Here → Places pt.view t → slice_get (t p) (pt.view.moves p) ≡ Some pt.view.acting
@@ -32,6 +32,7 @@ pub freezes_walks : (pt : Point) (t : Trails) (p : Pid) (to : ℕ) → pt.view.k
 freezes_walks pt t p to here h =
     let v = pt.view in
     let set = sets v p v.topic in
+    let asked_loose : (p : Pid) → Loose (Says (Line.Migration Stage.Asked p)) = λ p. quiet (Line.Migration Stage.Asked p) (λ pt t. tt) (λ v t. refl) (λ v n q. refl) (λ v q. refl) in
     first_walks (Line.Migration Stage.Frozen p) (Says (Line.Migration Stage.Asked p) ∷ to_kernel MessageKind.Ask to ∷ []) pt t
     (λ sane on. (here, λ next s. subst (λ (z : Point). Places z.view t) s.is (places_held v (view_after v (Line.Migration Stage.Frozen p)) t p (Frozen (aim v v.topic)) set.known set.moves refl (ap is_held here) h))) (asked_loose p, to_between MessageKind.Ask to refl)
 
@@ -68,6 +69,10 @@ stays_walks pt t p u h =
 
 restarted_places : (pt : Point) (t : Trails) (p : Pid) → Heard pt p MessageKind.Restart → Places pt.view t → Places (view_after pt.view (Line.Migration Stage.Restarted p)) t
 restarted_places pt t p u h =
+    -- then its source forwards
+    let moves_forward : (v : View) (p : Pid) (k : MessageKind) (s d : ℕ) (o : Option MsgId) → IsIn v p (Moves k s d o) → is_restart k ≡ true → (c : ℕ) × (v.known s p ≡ Forward d c) = λ v p k s d o h on.
+      let forward_by : (k : MessageKind) (d : ℕ) (x : Known) → is_restart k ≡ true → kind_leaves k d x ≡ true → (c : ℕ) × (x ≡ Forward d c) = λ k d x on e. grind (arith, nat_tests, parts, eq_is) in
+      grind (arith, nat_tests, forward_by, eq_self) in
     let v = pt.view in
     let w = view_after v (Line.Migration Stage.Restarted p) in
     let (c, away) = moves_forward v p MessageKind.Restart u.s u.d u.o u.phase refl in
@@ -106,14 +111,20 @@ pub hears_walks : (pt : Point) (b : Boot) (o : Point) (t : Trails) (m : ℕ) (id
     → ((p : Pid) (n : MoveNote) → o.kernel.notes p ≡ Some n → pt.kernel.notes p ≡ Some n) → pt.view.known pt.view.acting u.receiver ≡ o.view.known m u.receiver
     → ((p : Pid) → u.about ≡ Of p → is_between u.kind ≡ true → Heard pt p u.kind) → ((to c : ℕ) → o.view.known m u.receiver ≡ Forward to c → Walks pt t (forwards_on o.addresses id u.kind manager to)) → Places pt.view t → rule.hears b o m id (Some u) ≡ Some ps → Walks pt t ps
 hears_walks pt b o t m id u ps same notes known kernels forwards h =
+    let proto_loose : (i : MsgId) → Loose (Says (Line.Proto i)) =
+      λ i. quiet (Line.Proto i) (λ pt t. tt) (λ v t. refl) (λ v n q. proto_known (handled v i) (v.told i) n q) (λ v q. at_pid (view_after v (Line.Proto i)).moves v.moves q (grind (arith, nat_tests))) in
     let home = id.from.home in
     let proto : (k : MessageKind) → AllLoose (to_kernel k home ∷ []) → Walks pt t (Says (Line.Proto id) ∷ to_kernel k home ∷ []) = λ k loose. loose_walks (Says (Line.Proto id) ∷ to_kernel k home ∷ []) pt t (proto_loose id, loose) h in
     let one : (l : Line) → Loose (Says l) → Walks pt t (Says l ∷ []) = λ l loose. loose_walks (Says l ∷ []) pt t (loose, tt) h in
     by_hears (Walks pt t) b o m id (Some u) ps (λ v is. (
     let e : u ≡ v = cc in
+    let updated_loose : (i : MsgId) (k : ℕ) → Loose (Says (Line.Updated i k)) = λ i k. quiet (Line.Updated i k) (λ pt t. tt) (λ v t. refl) (λ v n q. refl) (λ v q. refl) in
     subst (AnotherHeard pt o t m id) e (record {
       told = λ p x about alive. (
           let at : (k : MessageKind) → u.kind ≡ k → is_between k ≡ true → Heard pt p k = λ k kind between. subst (Heard pt p) kind (kernels p about (ap is_between kind ∙ between)) in
+          let lacks_loose : (p : Pid) (a b : ℕ) → Loose (Says (Line.Lacks p a b)) = λ p a b. quiet (Line.Lacks p a b) (λ pt t. tt) (λ v t. refl) (λ v n q. refl) (λ v q. refl) in
+          let memory_loose : Loose (Says (Line.Migration Stage.MemoryTaken p)) = quiet (Line.Migration Stage.MemoryTaken p) (λ pt t. tt) (λ v t. refl) (λ v n q. refl) (λ v q. refl) in
+          let state_loose : Loose (Says (Line.Migration Stage.StateTaken p)) = quiet (Line.Migration Stage.StateTaken p) (λ pt t. tt) (λ v t. refl) (λ v n q. refl) (λ v q. refl) in
           record {
             accepted = λ ask. accepts_walks pt t home p (at MessageKind.Ask ask refl) h;
             lacks = λ slots blocks. loose_walks (Says (Line.Lacks p slots blocks) ∷ to_kernel MessageKind.Refuse home ∷ []) pt t (lacks_loose p slots blocks, to_between MessageKind.Refuse home refl) h;
@@ -122,10 +133,10 @@ hears_walks pt b o t m id u ps same notes known kernels forwards h =
             restarted_asked = λ kind n noted. restarts_asked pt t p n (at MessageKind.Restart kind refl) (notes p n noted) h;
             state = proto MessageKind.State (to_between MessageKind.State home refl);
             next_chunk = proto MessageKind.PullState (to_between MessageKind.PullState home refl);
-            last_chunk = loose_walks (Says (Line.Migration Stage.StateTaken p) ∷ to_kernel MessageKind.PullBlock home ∷ []) pt t (state_loose p, to_between MessageKind.PullBlock home refl) h;
+            last_chunk = loose_walks (Says (Line.Migration Stage.StateTaken p) ∷ to_kernel MessageKind.PullBlock home ∷ []) pt t (state_loose, to_between MessageKind.PullBlock home refl) h;
             memory = proto MessageKind.Memory (to_between MessageKind.Memory home refl);
             next_block = proto MessageKind.PullBlock (to_between MessageKind.PullBlock home refl);
-            last_block = loose_walks (Says (Line.Migration Stage.MemoryTaken p) ∷ to_kernel MessageKind.AllTaken home ∷ []) pt t (memory_loose p, to_between MessageKind.AllTaken home refl) h;
+            last_block = loose_walks (Says (Line.Migration Stage.MemoryTaken p) ∷ to_kernel MessageKind.AllTaken home ∷ []) pt t (memory_loose, to_between MessageKind.AllTaken home refl) h;
             left = λ ids to leaves.
                 (let k = at MessageKind.AllTaken leaves.kind refl in
                 subst (λ (js : List MsgId). Walks pt t (left_parts id p js to)) (same p ∙ sym leaves.lists) (leaves_walks pt t id p (Frozen to) k.s k.d k.o k.phase k.acts h k.for_it));
@@ -149,10 +160,6 @@ hears_walks pt b o t m id u ps same notes known kernels forwards h =
 -- What each row of a turn says fits the trails: processes that run, and messages of the bag.
 
 -- a process that runs
-end_walks : (pt : Point) (t : Trails) (p : Pid) (queue : List MsgId) (y : Why) → pt.view.known pt.view.acting p ≡ Here → Places pt.view t → Walks pt t (rule.says (Label.End p y) ∷ rule.drop_parts queue)
-end_walks pt t p queue y here h =
-    label_walks pt t (Label.End p y) (rule.drop_parts queue) (λ on. (tt, here, places_held pt.view (view_after pt.view (Line.Label (Label.End p y))) t p Ended refl refl refl (ap is_held here) h)) (drops_loose queue)
-
 runs_stops : (pt : Point) (t : Trails) (p : Pid) (queue : List MsgId) → pt.view.known pt.view.acting p ≡ Here → Places pt.view t → Stops (Walks pt t) p queue
 runs_stops pt t p queue here h = record {
   over = h;
@@ -160,11 +167,11 @@ runs_stops pt t p queue here h = record {
   sends = λ id. label_walks pt t (Label.Send p id) (Routes id ∷ []) (λ on. (at_end pt t p here h, tt, places_same pt.view (view_after pt.view (Line.Label (Label.Send p id))) t (λ n q. refl) (λ q. refl) h)) (routes_loose id, tt);
   waits = label_walks pt t (Label.Wait p) [] (λ on. (at_end pt t p here h, tt, places_same pt.view (view_after pt.view (Line.Label (Label.Wait p))) t (λ m q. refl) (λ q. refl) h)) tt;
   outputs = λ word. label_walks pt t (Label.Out p word) [] (λ on. (at_end pt t p here h, tt, places_same pt.view (view_after pt.view (Line.Label (Label.Out p word))) t (λ m q. refl) (λ q. refl) h)) tt;
-  ends = λ y. end_walks pt t p queue y here h;
+  ends = λ y. label_walks pt t (Label.End p y) (rule.drop_parts queue) (λ on. (tt, here, places_held pt.view (view_after pt.view (Line.Label (Label.End p y))) t p Ended refl refl refl (ap is_held here) h)) (drops_loose queue);
 }
 
 pub round_walks : (pt : Point) (t : Trails) (b : Boot) (o : Point) (m : ℕ) (q : Option Pid) (ps : List Part) → ((p : Pid) → q ≡ Some p → pt.view.known pt.view.acting p ≡ Here) → Places pt.view t → rule.goes_round b o m q ≡ Some ps → Walks pt t ps
-round_walks pt t b o m q ps here h = by_round (Walks pt t) b o m q ps (loose_walks (Says (Line.Idle m) ∷ []) pt t (idle_loose m, tt) h) (λ p x is alive. record {
+round_walks pt t b o m q ps here h = by_round (Walks pt t) b o m q ps (loose_walks (Says (Line.Idle m) ∷ []) pt t (quiet (Line.Idle m) (λ pt t. tt) (λ v t. refl) (λ v n q. refl) (λ v q. refl), tt) h) (λ p x is alive. record {
   runs = λ k rest stops sane on. (
     label_fits pt t (Label.Ran p k) sane tt tt,
     (λ next s.
@@ -187,9 +194,6 @@ pub record Front (pt : Point) (t : Trails) (id : MsgId) (k : PlainMessage) : Typ
 received : (pt : Point) (t : Trails) (id : MsgId) (k : PlainMessage) → Front pt t id k → is_fixed k.to ≡ true → ReceivedAt pt.kernel pt.view.acting id
 received pt t id k f fixed m there = let g : Some k ≡ Some m = sym f.there ∙ there in let e : k ≡ m = cc in ap (λ (x : PlainMessage). x.to.home) (sym e) ∙ f.fixed fixed
 
-took_walks : (pt : Point) (t : Trails) (id : MsgId) (k : PlainMessage) (ps : List Part) → Front pt t id k → is_fixed k.to ≡ true → AllLoose ps → Walks pt t (rule.says (Label.Took id) ∷ ps)
-took_walks pt t id k ps f fixed loose = label_walks pt t (Label.Took id) ps (λ on. (received pt t id k f fixed, tt, places_same pt.view (handled pt.view id) t (λ m q. refl) (λ q. refl) f.places)) loose
-
 gone_walks : (pt : Point) (t : Trails) (id : MsgId) (k : PlainMessage) → Front pt t id k → Walks pt t (rule.says (Label.Gone id) ∷ Routes (pieces.answer_id id) ∷ [])
 gone_walks pt t id k f =
     label_walks pt t (Label.Gone id) (Routes (pieces.answer_id id) ∷ []) (λ on. (ended_on pt.kernel pt.view pt.addresses t id f.at on.links, tt, places_same pt.view (handled pt.view id) t (λ m q. refl) (λ q. refl) f.places)) (routes_loose (pieces.answer_id id), tt)
@@ -199,11 +203,10 @@ kills_places : (v : View) (t : Trails) (k : MessageKind) (p : Pid) → (k ≡ Me
 kills_places v t MessageKind.Kill p here h = places_held v (ends_by (sort_of MessageKind.Kill) v (Some p)) t p Ended refl refl refl (ap is_held (here refl)) h
 kills_places v t _ p here h = h
 
-served_places : (v : View) (t : Trails) (o : Option Told) → ((u : Told) → o ≡ Some u → u.kind ≡ MessageKind.Kill → v.known v.acting u.receiver ≡ Here) → Places v t → Places (served_told v o) t
-served_places v t o here h = grind (arith, nat_tests, kills_places)
-
 served_walks : (pt : Point) (t : Trails) (id : MsgId) (k : PlainMessage) (ps : List Part) → Front pt t id k → pt.view.known pt.view.acting k.to ≡ Here → AllLoose ps → Walks pt t (rule.says (Label.Served id) ∷ ps)
 served_walks pt t id k ps f here loose =
+    let served_places : (v : View) (t : Trails) (o : Option Told) → ((u : Told) → o ≡ Some u → u.kind ≡ MessageKind.Kill → v.known v.acting u.receiver ≡ Here) → Places v t → Places (served_told v o) t =
+      λ v t o here h. grind (arith, nat_tests, kills_places) in
     let known : (u : Told) → pt.view.told id ≡ Some u → u.kind ≡ MessageKind.Kill → pt.view.known pt.view.acting u.receiver ≡ Here = λ u told kill. ap (pt.view.known pt.view.acting) (f.receiver u told) ∙ here in
     label_walks pt t (Label.Served id) ps (λ on. (
       (λ m there. let g : Some k ≡ Some m = sym f.there ∙ there in let e : k ≡ m = cc in subst (λ (x : PlainMessage). slice_get (t x.to) (pt.view.moves x.to) ≡ Some pt.view.acting) e (at_end pt t k.to here f.places)),
@@ -211,18 +214,14 @@ served_walks pt t id k ps f here loose =
       served_places (handled pt.view id) t (pt.view.told id) known (places_same pt.view (handled pt.view id) t (λ m q. refl) (λ q. refl) f.places),
     )) loose
 
--- a process is made at home
-born_stood : (v : View) (t : Trails) (p : Pid) → ((n : ℕ) → v.known n p ≡ Unknown) → Trail v t p → Placed v t p → StoodOnTrail v t p Nowhere
-born_stood v t p unknown trail h = grind (arith, nat_tests)
-
-born_places : (v w : View) (t : Trails) (p : Pid) → Unborn v p → Trail v t p → Places v t → (Learnt v w p Here → w.moves p ≡ v.moves p → Placed w t p)
-born_places v w t p born trail h learnt moves =
-    let k = (h p).unmade born.unknown in
-    grind (arith, nat_tests, placed_held)
-
 creates_walks : (pt o : Point) (t : Trails) (m : ℕ) (id : MsgId) (k : PlainMessage) (r : rule.Room) (c : Bool) → Front pt t id k → is_fixed k.to ≡ true → Unborn pt.view (pid_of m (first_number + o.kernel.made m))
     → Walks pt t ((if c then rule.says (Label.Created id (pid_of m (first_number + o.kernel.made m))) else rule.says (Label.NoSpace id r.slots r.blocks)) ∷ Routes (pieces.answer_id id) ∷ [])
 creates_walks pt o t m id k r true f fixed born =
+    -- a process is made at home
+    let born_places : (v w : View) (t : Trails) (p : Pid) → Unborn v p → Trail v t p → Places v t → (Learnt v w p Here → w.moves p ≡ v.moves p → Placed w t p) = λ v w t p born trail h learnt moves.
+      let k = (h p).unmade born.unknown in
+      grind (arith, nat_tests, placed_held) in
+    let born_stood : (v : View) (t : Trails) (p : Pid) → ((n : ℕ) → v.known n p ≡ Unknown) → Trail v t p → Placed v t p → StoodOnTrail v t p Nowhere = λ v t p unknown trail h. grind (arith, nat_tests) in
     let child = pid_of m (first_number + o.kernel.made m) in
     let w = view_after pt.view (Line.Label (Label.Created id child)) in
     label_walks pt t (Label.Created id child) (Routes (pieces.answer_id id) ∷ []) (λ on. (
@@ -253,7 +252,7 @@ pub handles_walks : (pt : Point) (b : Boot) (o : Point) (t : Trails) (m : ℕ) (
 handles_walks pt b o t m id k ps f born known forwards = by_handles (Walks pt t) b o m id k ps (record {
   created = λ fixed. creates_walks pt o t m id k (record { slots = 0; blocks = 0 }) true f fixed born;
   no_space = λ fixed slots blocks. creates_walks pt o t m id k (record { slots = slots; blocks = blocks }) false f fixed born;
-  took = λ fixed sent. took_walks pt t id k (rule.routes sent) f fixed (grind (arith, nat_tests, routes_loose));
+  took = λ fixed sent. label_walks pt t (Label.Took id) (rule.routes sent) (λ on. (received pt t id k f fixed, tt, places_same pt.view (handled pt.view id) t (λ m q. refl) (λ q. refl) f.places)) (grind (arith, nat_tests, routes_loose));
   queued = λ to user. loose_walks (Says (Line.Queued id) ∷ []) pt t (queued_loose id, tt) f.places;
   served = λ to mild. served_walks pt t id k [] f (known ∙ to.known) tt;
   answers = λ to mild i. served_walks pt t id k (Routes i ∷ []) f (known ∙ to.known) (routes_loose i, tt);
@@ -326,7 +325,9 @@ own_walks b o t m i is ps start h at front there e =
 -- a directive to move a process
 migrates_walks : (pt : Point) (t : Trails) (p : Pid) → pt.view.acting ≡ 0 → Places pt.view t → Walks pt t (migrates pt p)
 migrates_walks pt t p first h =
-    by_migrates (Walks pt t) pt p (loose_walks (Says (Line.Pinned p) ∷ []) pt t (pinned_loose p, tt) h) (loose_walks (Says (Line.NoChild p) ∷ []) pt t (no_child_loose p, tt) h) (λ n off child sane on. (
+    let pinned_loose : Loose (Says (Line.Pinned p)) = quiet (Line.Pinned p) (λ pt t. tt) (λ v t. refl) (λ v n q. refl) (λ v q. refl) in
+    let no_child_loose : Loose (Says (Line.NoChild p)) = quiet (Line.NoChild p) (λ pt t. tt) (λ v t. refl) (λ v n q. refl) (λ v q. refl) in
+    by_migrates (Walks pt t) pt p (loose_walks (Says (Line.Pinned p) ∷ []) pt t (pinned_loose, tt) h) (loose_walks (Says (Line.NoChild p) ∷ []) pt t (no_child_loose, tt) h) (λ n off child sane on. (
       PutFits.Own (own_outside pt sane) (own_fresh pt sane) (migrate_to pt.kernel pt.view pt.addresses t (own_id pt.view) p n child (on.links (Child n) p (child_is pt.kernel p n child)))
           (λ k. migrate_from pt.kernel pt.view pt.addresses t (own_id pt.view) p first (on.trail manager)),
       (λ next s. owns_leave MessageKind.Migrate p (pt.addresses (Child n)).at pt next t s h),

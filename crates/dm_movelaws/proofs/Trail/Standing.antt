@@ -1,5 +1,5 @@
 -- The trails that printed lines lay stand, and from each place that is named for a process the forwarding addresses lead to it.
-use Rattle.dm_movelaws.proofs.Names.{◌≡◌, ◌≢◌, ℕ, suc, ◌-◌, ◌<◌, ◌==◌, true, false, List, [], ◌∷◌, ◌++◌, length, refl, ap, ◌∙◌, sym, subst, inl, inr, arith, cases_Bool, slice_get_within, slice_get, Option, None, Some, Pid, Place, Boot}
+use Rattle.dm_movelaws.proofs.Names.{◌≡◌, ◌≢◌, ℕ, suc, ◌-◌, ◌==◌, true, false, List, [], ◌∷◌, ◌++◌, length, refl, ap, ◌∙◌, sym, subst, inl, inr, arith, cases_Bool, slice_get_within, slice_get, Option, None, Some, Pid, Place, Boot}
 use Rattle.dm_movelaws.proofs.Names.{IsValid, OneKernel, bind, Step, bind-is, Line, unmoved, Leads, Point, first_point, after, after_line, Trails, Trail, IsOn, Trodden, first_trodden, along, trails_after, View, Known, Unknown, Here}
 use Rattle.dm_movelaws.proofs.Names.{Forward, along_treads, treads_start, trail_leads, Treads, Within, trail_within, is_server, is_fixed, KnownStands, agrees, LeadsBy, made_free, server_fixed, is_made, ends_walk, IsNamed, Reaches, IsLast}
 use Rattle.dm_movelaws.proofs.Names.{TrailStands, TrailsStand, IsLed, AddressesLead, nat_tests, has_it}
@@ -29,18 +29,14 @@ record Laid (b : Boot) (pt : Point) (t : Trails) (ls : List Line) (end : Point) 
   holds : Holds b (trodden end trails)
   treads : Treads end trails
 
-laid_none : (b : Boot) (pt : Point) (t : Trails) → Holds b (trodden pt t) → Treads pt t → Laid b pt t [] pt
-laid_none b pt t h on = record { trails = t; lays = refl; holds = h; treads = on }
-
-laid_more : (b : Boot) (pt mid end : Point) (t u : Trails) (xs ys : List Line) → along (trodden pt t) xs ≡ Some (trodden mid u) → Laid b mid u ys end → Laid b pt t (xs ++ ys) end
-laid_more b pt mid end t u xs ys first k = record { trails = k.trails; lays = along-append xs ys (trodden pt t) (trodden mid u) first ∙ k.lays; holds = k.holds; treads = k.treads }
-
 laid_by : (b : Boot) (es : List Step) (ls : List Line) (pt end : Point) (t : Trails) → LeadsBy b pt es ls end → Holds b (trodden pt t) → Treads pt t → Laid b pt t ls end
-laid_by b [] ls pt end t (none, same) h on = subst (λ (xs : List Line). Laid b pt t xs end) (sym none) (subst (Laid b pt t []) same (laid_none b pt t h on))
+laid_by b [] ls pt end t (none, same) h on = subst (λ (xs : List Line). Laid b pt t xs end) (sym none) (subst (Laid b pt t []) same (record { trails = t; lays = refl; holds = h; treads = on }))
 laid_by b (e ∷ es) ls pt end t (w, rest, fit, is, are, more) h on =
     let (u, comes) = along_there w.lines pt w.point t (group_after b pt e w is) in
     let holds = carries.keeps b (trodden pt t) (trodden w.point u) e w fit is comes h on in
     let treads = along_treads w.lines (trodden pt t) (trodden w.point u) comes (carries.fits b (trodden pt t) e w fit is h on) on in
+    let laid_more : (b : Boot) (pt mid end : Point) (t u : Trails) (xs ys : List Line) → along (trodden pt t) xs ≡ Some (trodden mid u) → Laid b mid u ys end → Laid b pt t (xs ++ ys) end =
+      λ b pt mid end t u xs ys first k. record { trails = k.trails; lays = along-append xs ys (trodden pt t) (trodden mid u) first ∙ k.lays; holds = k.holds; treads = k.treads } in
     subst (λ (xs : List Line). Laid b pt t xs end) (sym are) (laid_more b pt w.point end t u w.lines rest comes (laid_by b es rest w.point end u more holds treads))
 
 laid_first : (b : Boot) (es : List Step) (ls : List Line) (pt : Point) → IsValid b → LeadsBy b (first_point b) es ls pt → Laid b (first_point b) (first_trodden b).trails ls pt
@@ -56,20 +52,11 @@ one_place : (xs : List ℕ) (m : ℕ) → length xs ≡ 1 → slice_get xs 0 ≡
 one_place (x ∷ []) m long e = let f : x ≡ m = cc in ap (λ (y : ℕ). y ∷ []) f
 one_place _ m long e = absurd (omega (arith, long))
 
-only_place : (m c k : ℕ) → slice_get (m ∷ []) c ≡ Some k → (c ≡ 0) × (k ≡ m)
-only_place m c k e = grind (arith, nat_tests)
-
-place_is : (place : Place) (m : ℕ) → place.moves ≡ 0 → place.at ≡ m → place ≡ unmoved m
-place_is place m moves at = λ i. record { at = at i; moves = moves i }
-
--- what was never made
-agrees_none : (k : Known) → agrees k None ≡ true → k ≡ Unknown
-agrees_none k e = grind (arith, nat_tests)
-
 -- the last machine of a trail doesn't forward
 walk_ends : (k : Known) → k ≢ Unknown → ((m c : ℕ) → k ≡ Forward m c → ⊥) → ends_walk k ≡ true
 walk_ends k some off = grind (arith, nat_tests)
 
+-- what was never made
 alone_long : (b : Boot) (pt : Point) (t : Trails) (p : Pid) → Holds b (trodden pt t) → pt.kernel.processes p ≡ None → length (t p) ≡ 1
 alone_long b pt t p h none = elim (cases_Bool (is_server p)) [
   | inl server ↦
@@ -77,7 +64,7 @@ alone_long b pt t p h none = elim (cases_Bool (is_server p)) [
       let long = (h.places p).long 0 (ap is_held here) in
       let moves = h.both.run.based.unmoved p none in
       omega (arith, long, moves)
-  | inr process ↦ ((h.places p).unmade (λ m. agrees_none (pt.view.known m p) (sym (ap (agrees (pt.view.known m p)) none) ∙ h.both.run.based.known.agree m p process))).1
+  | inr process ↦ ((h.places p).unmade (λ m. (let e_ : (pt.view.known m p) ≡ Unknown = grind (arith, nat_tests, sym (ap (agrees (pt.view.known m p)) none) ∙ h.both.run.based.known.agree m p process) in e_))).1
 ]
 
 -- what was made is known at home
@@ -91,15 +78,12 @@ no_further v t p place m c trail is e =
     let less = slice_get_within (t p) c m (trail.named place.at m c e) in
     grind (arith, nat_tests)
 
-some_machines : (n k : ℕ) → k < n → n ≡ suc (n - 1)
-some_machines n k less = omega (arith, less)
-
 reaches : (b : Boot) (pt : Point) (t : Trails) (p : Pid) (place : Place) → Holds b (trodden pt t) → Treads pt t → is_made pt.kernel p ≡ true → IsOn t p place → Reaches pt p place
 reaches b pt t p place h on made is =
     let n = pt.kernel.machines - 1 in
     let known = at_home pt.kernel pt.view p h.both.run.based.known made in
     let all : Within pt.kernel.machines pt.view = carries.within b (trodden pt t) h in
-    let within : Within (suc n) pt.view = subst (λ (k : ℕ). Within k pt.view) (some_machines pt.kernel.machines pt.view.acting all.acting) all in
+    let within : Within (suc n) pt.view = subst (λ (k : ℕ). Within k pt.view) (let e_ : pt.kernel.machines ≡ suc (pt.kernel.machines - 1) = omega (arith, all.acting, all.acting) in e_) all in
     trail_leads pt.view t p n p.home place (on.trail p) known (trail_within (suc n) pt.view t p p.home within (on.trail p) known) is
 
 alone : (b : Boot) (pt : Point) (t : Trails) (p : Pid) → Holds b (trodden pt t) → Treads pt t → pt.kernel.processes p ≡ None → t p ≡ p.home ∷ []
@@ -137,8 +121,9 @@ trails_stand b es ls pt valid way = let k = laid_first b es ls pt valid way in (
 -- who has only been at home is named there
 home_only : (pt : Point) (t : Trails) (q : Pid) (place : Place) → TrailStands pt t → IsNamed pt q place → is_fixed q ≡ true → place ≡ unmoved q.home
 home_only pt t q place s named fixed =
+    let only_place : (m c k : ℕ) → slice_get (m ∷ []) c ≡ Some k → (c ≡ 0) × (k ≡ m) = λ m c k e. grind (arith, nat_tests) in
     let k = only_place q.home place.moves place.at (sym (ap (λ (xs : List ℕ). slice_get xs place.moves) (s.fixed q fixed)) ∙ s.named q place named) in
-    place_is place q.home k.0 k.1
+    λ i. record { at = k.1 i; moves = k.0 i }
 
 led_by : (pt : Point) (t : Trails) (q : Pid) (place : Place) → TrailStands pt t → IsNamed pt q place → ((q.num == 0) ≡ false → is_made pt.kernel q ≡ true) → IsLed pt q place
 led_by pt t q place s named made = record {
@@ -147,11 +132,8 @@ led_by pt t q place s named made = record {
   made = made;
 }
 
-pub named_made : (b : Boot) (es : List Step) (pt : Point) (q : Pid) (place : Place) → IsValid b → Leads b (first_point b) es pt → (q.num == 0) ≡ false → IsNamed pt q place → is_made pt.kernel q ≡ true
-named_made b es pt q place valid way other named = made_by b pt q place (passed_always b es pt valid way) other named
-
 pub addresses_lead : AddressesLead
 addresses_lead b es pt q place valid way named =
     let (ls, lines) = lines_there b es (first_point b) pt way in
     let k = laid_first b es ls pt valid lines in
-    led_by pt k.trails q place (stand_at b pt k.trails k.holds k.treads) named (λ other. named_made b es pt q place valid way other named)
+    led_by pt k.trails q place (stand_at b pt k.trails k.holds k.treads) named (λ other. made_by b pt q place (passed_always b es pt valid way) other named)

@@ -3,7 +3,7 @@ use Rattle.dm_movelaws.proofs.Names.{◌&&◌, ◌≡◌, ◌⊎◌, ℕ, ◌<�
 use Rattle.dm_movelaws.proofs.Names.{MsgId, Boot, switchboard, manager, OneKernel, pid_eq-same, Step, Addresses, Holder, belongs_to, leads_to, is_pid, is_behind, place_told, updated, holders_of, behind_among, behind_count, holders_numbered}
 use Rattle.dm_movelaws.proofs.Names.{answers_in, slot_holders, Spelled, Point, View, Told, About, Ended, after_head, is_server, KnownStands, Updated, UpdatesAlways, front_own, Both, is_place, own_sort, run_always, pid_there, second, zero}
 use Rattle.dm_movelaws.proofs.Names.{suc, ◌+◌, List, ◌∷◌, length, slice_get, slice_get_cases, PlainLink, link_at, NamedLink, Pending, PlainProcess, pid_eq-is, not_server, alive-is, Slot, Owner, Child, Name, Answer, holder_eq, link_target}
-use Rattle.dm_movelaws.proofs.Names.{slot_of, name_link, ascends, listings, is_owner, group_is, ◌||◌, MessageKind, plain_kind, Line, Part, Says, lines_of, spelled, moved, GroupIs, by_parts, sends_on, IsNetLine, by_migrates, by_hears}
+use Rattle.dm_movelaws.proofs.Names.{slot_of, ascends, listings, is_owner, group_is, ◌||◌, MessageKind, plain_kind, Line, Part, Says, lines_of, spelled, moved, GroupIs, by_parts, sends_on, by_migrates, by_hears}
 use Rattle.dm_movelaws.proofs.Names.{by_net, by_outcome, ⊤, PlainMessage, forwards_on, Loose, loose_round, loose_handles, by_forwards}
 use Rattle.dm_laws.proofs.Entered.{Made}
 use Rattle.dm_movelaws.proofs.Leading.{lines_are}
@@ -64,15 +64,12 @@ pub record Front (o : Point) (m : ℕ) (id : MsgId) (t : Told) : Type 0 where
   pub box : o.view.inbox m ≡ id ∷ rest
   pub none : o.kernel.bag id ≡ None
 
-counted : (o : Point) (m : ℕ) (id : MsgId) (t : Told) → Front o m id t → t.kind ≡ MessageKind.Update → Handles o m id (behind_count o.kernel o.addresses t.receiver (place_told t.about))
-counted o m id t f k = record { told = t; is = f.is; update = k; counts = inl refl; rest = f.rest; box = f.box; none = f.none }
-
 hears_shape : (b : Boot) (o : Point) (m : ℕ) (id : MsgId) (is : List MsgId) (q : Option Told) (ps : List Part) → o.view.told id ≡ q → o.view.inbox m ≡ id ∷ is → o.kernel.bag id ≡ None → rule.hears b o m id q ≡ Some ps → Shape o ps
 hears_shape b o m id is q ps told box none = by_hears (Shape o) b o m id q ps (λ t there. (
     let f : Front o m id t = record { is = told ∙ there; rest = is; box = box; none = none } in
     record {
       told = λ p x about alive. grind (arith, nat_tests, sends_quiet);
-      updated = λ kind. Updates m id (behind_count o.kernel o.addresses t.receiver (place_told t.about)) refl (counted o m id t f kind);
+      updated = λ kind. Updates m id (behind_count o.kernel o.addresses t.receiver (place_told t.about)) refl (record { told = t; is = f.is; update = kind; counts = inl refl; rest = f.rest; box = f.box; none = f.none });
       updated_none = λ kind at_. Updates m id 0 refl (record { told = t; is = f.is; update = kind; counts = inr (refl, at_.server, at_.known); rest = f.rest; box = f.box; none = f.none });
       no_move = λ at_. Quiet (refl, tt);
       leaving = λ to at_. Quiet (refl, tt);
@@ -84,16 +81,13 @@ hears_shape b o m id is q ps told box none = by_hears (Shape o) b o m id q ps (�
     ))
 
 -- the other directives
-net_line : (l : Line) → IsNetLine l → is_updated l ≡ false
-net_line l h = grind (arith, nat_tests)
-
 pub outcome_shape : (b : Boot) (o : Point) (d : Step) (ps : List Part) → rule.outcome b o d ≡ Some ps → Shape o ps
 outcome_shape b o d ps = by_outcome (λ x. Shape o) b o d ps (record {
   round = λ m xs box e. Quiet (loose_round AllQuiet quiet_loose b o m (rule.first_runnable o.kernel (o.view.queue m) (o.view.ring m)) xs (refl, tt) e);
   handles = λ m i is msg xs box there e. handles_shape b o m i msg xs e;
   hears = λ m i is xs box none e. hears_shape b o m i is (o.view.told i) xs refl box none e;
-  ticks = λ m xs net. Quiet ((by_net AllQuiet tt (λ l ps net h. (net_line l net, h)) (λ a b l ps h. (tt, h))) xs net);
-  delivers = λ a c k xs net. Quiet ((by_net AllQuiet tt (λ l ps net h. (net_line l net, h)) (λ a b l ps h. (tt, h))) xs net);
+  ticks = λ m xs net. Quiet ((by_net AllQuiet tt (λ l ps net h. ((let e_ : is_updated l ≡ false = grind (arith, nat_tests) in e_), h)) (λ a b l ps h. (tt, h))) xs net);
+  delivers = λ a c k xs net. Quiet ((by_net AllQuiet tt (λ l ps net h. ((let e_ : is_updated l ≡ false = grind (arith, nat_tests) in e_), h)) (λ a b l ps h. (tt, h))) xs net);
   asks = λ p m. Quiet (by_migrates AllQuiet o p (refl, tt) (refl, tt) (λ n off is. (tt, tt)));
 })
 
@@ -109,18 +103,11 @@ has_in : (xs ys : List Line) (id : MsgId) (n : ℕ) → has (xs ++ Line.Updated 
 has_in [] ys id n = refl
 has_in (x ∷ xs) ys id n = ap (λ (c : Bool). is_updated x || c) (has_in xs ys id n) ∙ (let e_ : ((is_updated x) || true) ≡ true = grind (arith, nat_tests) in e_)
 
-neither_if : (c : Bool) (xs ys zs : List Line) → (has xs ≡ false → has zs ≡ false) → (c || has xs) ≡ false → (c || has zs) ≡ false
-neither_if c xs ys zs rest e = grind (arith, nat_tests)
-
 neither : (xs ys : List Line) → has xs ≡ false → has ys ≡ false → has (xs ++ ys) ≡ false
 neither [] ys e f = f
-neither (x ∷ xs) ys e f = neither_if (is_updated x) xs ys (xs ++ ys) (λ g. neither xs ys g f) e
-
-part_has : (pt : Point) (p : Part) (ls : List Line) → PartQuiet p → lines_of pt p ≡ Some ls → has ls ≡ false
-part_has pt p ls quiet is = grind (arith, nat_tests, lines_are)
-
-parts_have : (ps : List Part) (pt : Point) (w : Spelled) → AllQuiet ps → spelled pt ps ≡ Some w → has w.lines ≡ false
-parts_have ps pt w quiet is = by_parts (λ qs q v. AllQuiet qs → has v.lines ≡ false) (λ q h. refl) (λ x qs q next ls z lines leads rest h. neither ls z.lines (part_has q x ls h.0 lines) (rest h.1)) ps pt w is quiet
+neither (x ∷ xs) ys e f =
+    let neither_if : (c : Bool) (xs ys zs : List Line) → (has xs ≡ false → has zs ≡ false) → (c || has xs) ≡ false → (c || has zs) ≡ false = λ c xs ys zs rest e. grind (arith, nat_tests) in
+    neither_if (is_updated x) xs ys (xs ++ ys) (λ g. neither xs ys g f) e
 
 -- what was handled, and where it leads
 pub record Handled (b : Boot) (pt : Point) (d : Step) (w : Spelled) (id : MsgId) (n : ℕ) : Type 0 where
@@ -143,6 +130,9 @@ same_line d (x ∷ y ∷ zs) ys id i n k e =
 
 pub by_shape : (b : Boot) (pt : Point) (d : Step) (w : Spelled) (id : MsgId) (n : ℕ) (xs ys : List Line) (g : GroupIs b pt d w) → w.lines ≡ xs ++ Line.Updated id n ∷ ys → Shape pt g.parts → Handled b pt d w id n
 by_shape b pt d w id n xs ys g there (Quiet quiet) =
+    let parts_have : (ps : List Part) (pt : Point) (w : Spelled) → AllQuiet ps → spelled pt ps ≡ Some w → has w.lines ≡ false = λ ps pt w quiet is.
+      let part_has : (pt : Point) (p : Part) (ls : List Line) → PartQuiet p → lines_of pt p ≡ Some ls → has ls ≡ false = λ pt p ls quiet is. grind (arith, nat_tests, lines_are) in
+      by_parts (λ qs q v. AllQuiet qs → has v.lines ≡ false) (λ q h. refl) (λ x qs q next ls z lines leads rest h. neither ls z.lines (part_has q x ls h.0 lines) (rest h.1)) ps pt w is quiet in
     absurd (false≢true (sym (parts_have g.parts (begun pt d) g.rest quiet g.said) ∙ ap (λ (x : Spelled). has x.lines) g.whole ∙ ap has there ∙ has_in xs ys id n))
 by_shape b pt d w id n xs ys g there (Updates m i k form handles) = search (arith, pt.kernel, g.rest, g.said, w.lines, g.whole, w.point, same_line)
 
@@ -229,9 +219,6 @@ slot_link (Some x) k q e = (x, refl, at_place x.links k q e)
 abbrev listed_as : OneKernel → Pid → Bool → Bool → List Holder
 listed_as s q c d = if c then holders_numbered Name 0 s.switchboard.names else if d then holders_numbered Child 1 s.manager.children ++ answers_in s.manager.pending else slot_holders q (kernel.alive (s.processes q))
 
-named_link : (o : Option NamedLink) (q : Pid) → link_target (name_link o) ≡ Some q → (k : NamedLink) × (o ≡ Some k)
-named_link o q e = grind (arith, nat_tests)
-
 not_board : (q : Pid) → pid_eq q manager ≡ true → pid_eq q switchboard ≡ false
 not_board q e = grind (arith, nat_tests)
 
@@ -259,7 +246,7 @@ listed s q (Child (suc n)) r made up mine other leads =
     ∙ ap (λ (c : Bool). listings (Child (suc n)) (listed_as s q false c)) mine
     ∙ (let f : listings (Child (suc n)) (holders_numbered Child 1 s.manager.children ++ answers_in s.manager.pending) ≡ 1 = omega (arith, once, none, sum) in f)
 listed s q (Name n) r made up mine other leads =
-    let (k, there) = named_link (slice_get s.switchboard.names n) r leads in
+    let (k, there) = (let e_ : (k : NamedLink) × ((slice_get s.switchboard.names n) ≡ Some k) = grind (arith, nat_tests) in e_) in
     ap (λ (c : Bool). listings (Name n) (listed_as s q c (pid_eq q manager))) mine
     ∙ numbered_once Name n 0 s.switchboard.names (record { eq = λ i j. refl }) (omega arith) (let f = got s.switchboard.names n k there in omega (arith, f))
 listed s q (Answer n) r made up mine other leads = grind (arith, nat_tests, answers_once, no_child, listings-append, not_board)
@@ -281,32 +268,24 @@ record Kept (v w : View) : Type 0 where
   held : w.held ≡ v.held
   ring : w.ring ≡ v.ring
 
-head_kept : (v : View) (d : Step) → Kept v (after_head v d)
-head_kept v d = grind (arith, nat_tests)
-
-address : (s : OneKernel) (v w : View) (a : Addresses) (id : MsgId) (t : Told) (p : Pid) (at_ : Place) (h : Holder) → w.told ≡ v.told → v.told id ≡ Some t → t.about ≡ view.Place p at_.at at_.moves
-    → updated s w a (w.told id) h ≡ (if is_behind s a t.receiver p at_.moves h then at_ else a h)
-address s v w a id t p at_ h same told about = search
-
 behind_is : (s : OneKernel) (a : Addresses) (q p : Pid) (c : ℕ) (h : Holder) (x : Bool) → belongs_to q h ≡ true → leads_to s h ≡ Some p → nat_lt (a h).moves c ≡ x → is_behind s a q p c h ≡ x
 behind_is s a q p c h x mine leads e = grind (arith, nat_tests)
 
--- an ended process has no links
-count_is : (s : OneKernel) (v : View) (a : Addresses) (t : Told) (p : Pid) (at_ : Place) (m n : ℕ) → t.about ≡ view.Place p at_.at at_.moves → KnownStands s v
-    → (n ≡ behind_count s a t.receiver (place_told t.about)) ⊎ ((n ≡ 0) × (is_server t.receiver ≡ false) × (v.known m t.receiver ≡ Ended))
-    → behind_among (is_behind s a t.receiver p at_.moves) (holders_of s t.receiver) ≡ n
-count_is s v a t p at_ m n about known counts = grind (arith, nat_tests)
-
--- the head changes nothing that it reads
-head_told : (v : View) (d : Step) → (after_head v d).told ≡ v.told
-head_told v d = grind (arith, nat_tests)
-
--- whether an address is behind
-three : (a b c : Bool) → (a && (b && c)) ≡ true → (a ≡ true) × (b ≡ true) × (c ≡ true)
-three a b c e = grind (arith, nat_tests)
-
 updated_by : (b : Boot) (pt : Point) (d : Step) (w : Spelled) (id : MsgId) (n : ℕ) → Both b pt → Handled b pt d w id n → Updated pt w.point id n
 updated_by b pt d w id n both h =
+    -- the head changes nothing that it reads
+    -- whether an address is behind
+    -- an ended process has no links
+    let count_is : (s : OneKernel) (v : View) (a : Addresses) (t : Told) (p : Pid) (at_ : Place) (m n : ℕ) → t.about ≡ view.Place p at_.at at_.moves → KnownStands s v
+      → (n ≡ behind_count s a t.receiver (place_told t.about)) ⊎ ((n ≡ 0) × (is_server t.receiver ≡ false) × (v.known m t.receiver ≡ Ended))
+      → behind_among (is_behind s a t.receiver p at_.moves) (holders_of s t.receiver) ≡ n =
+      λ s v a t p at_ m n about known counts. grind (arith, nat_tests) in
+    let address : (s : OneKernel) (v w : View) (a : Addresses) (id : MsgId) (t : Told) (p : Pid) (at_ : Place) (h : Holder) → w.told ≡ v.told → v.told id ≡ Some t → t.about ≡ view.Place p at_.at at_.moves
+      → updated s w a (w.told id) h ≡ (if is_behind s a t.receiver p at_.moves h then at_ else a h) =
+      λ s v w a id t p at_ h same told about. search in
+    let three : (a b c : Bool) → (a && (b && c)) ≡ true → (a ≡ true) × (b ≡ true) × (c ≡ true) = λ a b c e. grind (arith, nat_tests) in
+    let head_told : (v : View) (d : Step) → (after_head v d).told ≡ v.told = λ v d. grind (arith, nat_tests) in
+    let head_kept : (v : View) (d : Step) → Kept v (after_head v d) = λ v d. grind (arith, nat_tests) in
     let u = h.handles in
     let t = u.told in
     let s = pt.kernel in

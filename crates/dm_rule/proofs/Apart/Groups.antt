@@ -26,18 +26,16 @@ kernel_same s t y o h1 h2 = search (arith, keeps_step)
 
 one_left : (z : OneKernel) (y : Pid) (pt next : Point) (l : Line) (ls : List Line) → Spares pt.kernel y (label_of l) → Spares z y (label_of l) → Some (l ∷ []) ≡ Some ls → after pt ls ≡ Some next → Left z y pt next ls
 one_left z y pt next l ls here there is leads =
-    let f : l ∷ [] ≡ ls = cc in
-    let (mid, first, last) = bind-is (after_line pt l) (λ q. after q []) next (ap (after pt) f ∙ leads) in
+    let (mid, first, last) = bind-is (after_line pt l) (λ q. after q []) next (ap (after pt) (let f : l ∷ [] ≡ ls = cc in f) ∙ leads) in
     let (s, step_, then_) = bind-is (kernel_after pt.kernel (label_of l)) (λ s. Some (moved pt l s)) mid first in
     search (arith, kernel_same)
 
-puts_by : (z : OneKernel) (y : Pid) (pt next : Point) (b : ℕ) (i : MsgId) (k : MessageKind) (q : Pid) (c d : Bool)
-    → after pt (Line.Put pt.view.acting b i k q ∷ (if c then [] else if d then packet_line pt.view pt.view.acting b (Load.Data (length (pt.view.pair pt.view.acting b).ids)) ∷ [] else [])) ≡ Some next
-    → Left z y pt next (Line.Put pt.view.acting b i k q ∷ (if c then [] else if d then packet_line pt.view pt.view.acting b (Load.Data (length (pt.view.pair pt.view.acting b).ids)) ∷ [] else []))
-puts_by z y pt next b i k q c d h1 = search arith
-
 puts_left : (z : OneKernel) (y : Pid) (pt next : Point) (b : ℕ) (i : MsgId) (k : MessageKind) (q : Pid) (ls : List Line) → Some (puts pt.view b i k q) ≡ Some ls → after pt ls ≡ Some next → Left z y pt next ls
 puts_left z y pt next b i k q ls is leads =
+    let puts_by : (z : OneKernel) (y : Pid) (pt next : Point) (b : ℕ) (i : MsgId) (k : MessageKind) (q : Pid) (c d : Bool)
+      → after pt (Line.Put pt.view.acting b i k q ∷ (if c then [] else if d then packet_line pt.view pt.view.acting b (Load.Data (length (pt.view.pair pt.view.acting b).ids)) ∷ [] else [])) ≡ Some next
+      → Left z y pt next (Line.Put pt.view.acting b i k q ∷ (if c then [] else if d then packet_line pt.view pt.view.acting b (Load.Data (length (pt.view.pair pt.view.acting b).ids)) ∷ [] else [])) =
+      λ z y pt next b i k q c d h1. search arith in
     let f : puts pt.view b i k q ≡ ls = cc in
     subst (Left z y pt next) f (puts_by z y pt next b i k q (pt.view.acting == b) (goes_out (pt.view.pair pt.view.acting b)) (ap (after pt) f ∙ leads))
 
@@ -58,23 +56,20 @@ parts_left z y (p ∷ ps) pt w here there is =
     let (ls, lines, rest) = bind-is (lines_of pt p) (λ (xs : List Line). bind (after pt xs) (λ (q : Point). bind (spelled q ps) (λ (v : Spelled). Some (behind xs v)))) w is in
     let (next, leads, last) = bind-is (after pt ls) (λ (q : Point). bind (spelled q ps) (λ (v : Spelled). Some (behind ls v))) w rest in
     let (v, more, end) = bind-is (spelled next ps) (λ (x : Spelled). Some (behind ls x)) w last in
-    let f : behind ls v ≡ w = cc in
     let one = part_left z y pt next p ls here.0 there.0 lines leads in
     let others = parts_left z y ps next v (apart_first next.kernel y ps here.1) (apart_first z y ps there.1) more in
-    subst (λ (x : Spelled). Left z y pt x.point x.lines) f (record { spare = spare_append z y ls v.lines one.spare others.spare; same = others.same ∙ one.same })
+    subst (λ (x : Spelled). Left z y pt x.point x.lines) (let f : behind ls v ≡ w = cc in f) (record { spare = spare_append z y ls v.lines one.spare others.spare; same = others.same ∙ one.same })
 
 group_left : (b : Boot) (pt : Point) (d : Step) (w : Spelled) (y : Pid) → ApartOf pt.kernel y (rule.outcome b pt d) → group_of b pt d ≡ Some w → Left pt.kernel y pt w.point w.lines
 group_left b pt d w y h e =
     let (parts, is, more) = bind-is (rule.outcome b pt d) (λ parts. bind (after_line pt (Line.Head d)) (λ begun. bind (spelled begun parts) (λ w. Some (rule.behind (Line.Head d ∷ []) w)))) w e in
     let (start, head, last) = bind-is (after_line pt (Line.Head d)) (λ begun. bind (spelled begun parts) (λ w. Some (rule.behind (Line.Head d ∷ []) w))) w more in
     let (rest, told, end) = bind-is (spelled start parts) (λ w. Some (rule.behind (Line.Head d ∷ []) w)) w last in
-    let f : moved pt (Line.Head d) pt.kernel ≡ start = cc in
-    let g : rule.behind (Line.Head d ∷ []) rest ≡ w = cc in
     let fits = subst (ApartOf pt.kernel y) is h in
-    let k = parts_left pt.kernel y parts (moved pt (Line.Head d) pt.kernel) rest fits fits (ap (λ p. spelled p parts) f ∙ told) in
-    subst (λ (x : Spelled). Left pt.kernel y pt x.point x.lines) g (record { spare = (tt, k.spare); same = k.same })
+    let k = parts_left pt.kernel y parts (moved pt (Line.Head d) pt.kernel) rest fits fits (ap (λ p. spelled p parts) (let f : moved pt (Line.Head d) pt.kernel ≡ start = cc in f) ∙ told) in
+    subst (λ (x : Spelled). Left pt.kernel y pt x.point x.lines) (let g : rule.behind (Line.Head d ∷ []) rest ≡ w = cc in g) (record { spare = (tt, k.spare); same = k.same })
 
-outcome_apart : (b : Boot) (pt : Point) (d : Step) (y : Pid) → Rooted pt → ((m : ℕ) → pid_of m (first_number + pt.kernel.made m) ≢ y) → ((m : ℕ) (p : Pid) → pt.view.known m p ≡ Here → p ≢ y) → ApartOf pt.kernel y (rule.outcome b pt d)
+pub outcome_apart : (b : Boot) (pt : Point) (d : Step) (y : Pid) → Rooted pt → ((m : ℕ) → pid_of m (first_number + pt.kernel.made m) ≢ y) → ((m : ℕ) (p : Pid) → pt.view.known m p ≡ Here → p ≢ y) → ApartOf pt.kernel y (rule.outcome b pt d)
 outcome_apart b pt (Step.Turn m) y h child off = turns_apart y b pt m (pt.view.inbox m) (child m) (off m) (h.served m)
 outcome_apart b pt (Step.Tick m) y h child off = (tt, net_apart y (rule.resends pt.view m pt.kernel.machines) (resends_net pt.view m pt.kernel.machines))
 outcome_apart b pt (Step.Deliver a c k) y h child off =

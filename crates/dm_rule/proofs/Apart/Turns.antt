@@ -1,8 +1,8 @@
 -- A kernel's own message, a turn, and the other directives: the labels of a group are other processes'.
-use Rattle.dm_rule.proofs.Names.{◌≡◌, ◌≢◌, ℕ, ◌+◌, List, [], ◌∷◌, refl, ap, ◌∙◌, sym, Option, None, Some, Pid, pid_of, MsgId, PlainMessage, Boot, first_number, OneKernel, Line, Told, Here, Point, label_of, Part, Says, Transmits, migrates}
-use Rattle.dm_rule.proofs.Names.{Spares, arith}
+use Rattle.dm_rule.proofs.Names.{◌≡◌, ◌≢◌, ℕ, ◌+◌, List, [], ◌∷◌, refl, ap, ◌∙◌, sym, Option, None, Some, Pid, pid_of, MsgId, PlainMessage, Boot, first_number, OneKernel, Line, Here, Point, label_of, Part, Says, Transmits, migrates, Spares}
+use Rattle.dm_rule.proofs.Names.{arith}
 use Rattle.dm_rule.specs.Rule as rule
-use Rattle.dm_rule.proofs.Groups.{IsNetLine, IsNet}
+use Rattle.dm_rule.proofs.Groups.{IsNet}
 use Rattle.dm_rule.proofs.Apart.Rows.{AllApart, ApartOf, apart_first, ForOther, round_apart, handles_apart}
 use Rattle.dm_rule.proofs.Requests.{by_migrates}
 use Rattle.dm_rule.proofs.Hearing.{IsHeardLine, hears_kept}
@@ -13,16 +13,12 @@ apart_line : (y : Pid) (l : Line) → IsHeardLine l → (z : OneKernel) → Spar
 apart_line y (Line.Label l) h z = absurd h
 apart_line y _ h z = tt
 
-hears_apart : (z : OneKernel) (y : Pid) (b : Boot) (o : Point) (m : ℕ) (id : MsgId) (q : Option Told) → ApartOf z y (rule.hears b o m id q)
-hears_apart z y b o m id q =
-    apart_of z y (rule.hears b o m id q) (λ ps e. apart_first z y ps (hears_kept (AllApart y) ((search (arith, apart_line))) b o m id q ps e))
-
 -- a turn
 other_is : (z : OneKernel) (y : Pid) (id : MsgId) (msg : PlainMessage) → z.bag id ≡ Some msg → msg.to ≢ y → ForOther z y id
 other_is z y id msg there off n is e = off (let f : Some msg ≡ Some n = sym there ∙ is in let g : msg ≡ n = cc in ap (λ (x : PlainMessage). x.to) g ∙ e)
 
 comes_apart : (y : Pid) (b : Boot) (o : Point) (m : ℕ) (id : MsgId) (q : Option PlainMessage) → o.kernel.bag id ≡ q → pid_of m (first_number + o.kernel.made m) ≢ y → ((p : Pid) → o.view.known m p ≡ Here → p ≢ y) → ApartOf o.kernel y (rule.comes_to b o m id q)
-comes_apart y b o m id None there child off = hears_apart o.kernel y b o m id (o.view.told id)
+comes_apart y b o m id None there child off = apart_of o.kernel y (rule.hears b o m id (o.view.told id)) (λ ps e. apart_first o.kernel y ps (hears_kept (AllApart y) ((search (arith, apart_line))) b o m id (o.view.told id) ps e))
 comes_apart y b o m id (Some msg) there child off = handles_apart o.kernel y b o m id msg child (λ here. other_is o.kernel y id msg there (off msg.to here))
 
 pub turns_apart : (y : Pid) (b : Boot) (o : Point) (m : ℕ) (inbox : List MsgId) → pid_of m (first_number + o.kernel.made m) ≢ y → ((p : Pid) → o.view.known m p ≡ Here → p ≢ y)
@@ -31,12 +27,9 @@ turns_apart y b o m [] child off served = round_apart o.kernel y b o m (rule.fir
 turns_apart y b o m (i ∷ is) child off served = comes_apart y b o m i (o.kernel.bag i) refl child off
 
 -- the other directives
-net_spares : (l : Line) → IsNetLine l → (z : OneKernel) (y : Pid) → Spares z y (label_of l)
-net_spares l h1 z y = search arith
-
 pub net_apart : (y : Pid) (ps : List Part) → IsNet ps → AllApart y ps
 net_apart y [] h = tt
-net_apart y (Says l ∷ ps) h = (λ z. net_spares l h.0 z y, net_apart y ps h.1)
+net_apart y (Says l ∷ ps) h = (λ z. (let e_ : Spares z y (label_of l) = search (arith, h.0) in e_), net_apart y ps h.1)
 net_apart y (Transmits a b l ∷ ps) h = (λ z. tt, net_apart y ps h.1)
 net_apart y _ h = absurd h.0
 

@@ -2,7 +2,7 @@
 use Rattle.dm_rule.proofs.Names.{◌≡◌, ℕ, zero, suc, ◌||◌, Bool, true, false, List, [], ◌∷◌, refl, ap, ◌∙◌, sym, subst, arith, nat_lt, ⊤, if◌then◌else◌, map, slice_get, slice_set, filter_map, cons_option, is_none, Option, None, Some, Pid}
 use Rattle.dm_rule.proofs.Names.{Place, pid_eq, PlainLink, first_empty, link_at, MsgId, id_eq, id_of, PlainMessage, Direction, direction_numbered, Regs, Row, instruction, past, Reply, PlainProcess, reg, setting, OneKernel, CallNumber}
 use Rattle.dm_rule.proofs.Names.{Called, Replies, Sends, Waits, Outputs, Ends, first_failed, pid_eq-same, id_eq-same, bind-is, View, Addresses, Gets, gets, given, Slot, Owner, Receiver, Sender, acting_place, encloses, fills, fills_by}
-use Rattle.dm_rule.proofs.Names.{sends_burden, owner_in, links_in, burden_of}
+use Rattle.dm_rule.proofs.Names.{sends_burden, owner_in, links_in, burden_of, or_parts}
 use Rattle.dm_rule.proofs.Homes.{place_as, pid_as, HomeProcess, HomeMessage, AtHome}
 use Rattle.dm_rule.proofs.Homes.Slots.{set_link, emptied_link, without_replies_link, past_call}
 use Rattle.dm_rule.proofs.Homes.Rows.{SameProcess, SameMessage, SameServers, running_home, encloses_servers, encloses_process, encloses_message, encloses_at}
@@ -10,6 +10,7 @@ use Rattle.dm_rule.proofs.Requests.{by_test}
 use Rattle.dm_onekernel.specs.Calls as calls
 use Rattle.dm_onekernel.specs.Pieces as pieces
 use Rattle.dm_onekernel.specs.Step as kernel
+pub use Rattle.dm_laws.proofs.Facts.{or-left, or-right}
 
 -- the process behind its call
 abbrev pub behind : PlainProcess → PlainProcess
@@ -82,14 +83,6 @@ pub record Listed (P : Pid → Place → Type 0) (a : Addresses) (p : Pid) (ss :
   pub there : slice_get (map (λ (n : ℕ). a (Slot p n)) ss) k ≡ Some place
   pub is : P l.to place
 
-pub or-left : (b c : Bool) → (b || c) ≡ false → b ≡ false
-or-left true c e = cc
-or-left false c e = refl
-
-pub or-right : (b c : Bool) → (b || c) ≡ false → c ≡ false
-or-right true c e = cc
-or-right false c e = e
-
 listed_step : (P : Pid → Place → Type 0) (a : Addresses) (p : Pid) (x : PlainProcess) (s : ℕ) (ss : List ℕ) (k : ℕ) (l : PlainLink) (o : Option PlainLink) → HomeProcess P a p x → link_at x.links s ≡ o → is_none o ≡ false
     → ((j : ℕ) → slice_get (filter_map (link_at x.links) ss) j ≡ Some l → Listed P a p ss j l) → slice_get (cons_option o (filter_map (link_at x.links) ss)) k ≡ Some l → Listed P a p (s ∷ ss) k l
 listed_step P a p x s ss k l None h is some rest e = cc
@@ -99,8 +92,8 @@ listed_step P a p x s ss (suc k) l (Some w) h is some rest e = let r = rest k e 
 listed_home : (P : Pid → Place → Type 0) (a : Addresses) (p : Pid) (x : PlainProcess) (ss : List ℕ) (k : ℕ) (l : PlainLink) → HomeProcess P a p x → calls.any_empty x.links ss ≡ false → slice_get (filter_map (link_at x.links) ss) k ≡ Some l → Listed P a p ss k l
 listed_home P a p x [] k l h some e = cc
 listed_home P a p x (s ∷ ss) k l h some e =
-    listed_step P a p x s ss k l (link_at x.links s) h refl (or-left (is_none (link_at x.links s)) (calls.any_empty x.links ss) some)
-    (λ j f. listed_home P a p x ss j l h (or-right (is_none (link_at x.links s)) (calls.any_empty x.links ss) some) f) e
+    listed_step P a p x s ss k l (link_at x.links s) h refl (or_parts (is_none (link_at x.links s)) (calls.any_empty x.links ss) some).0
+    (λ j f. listed_home P a p x ss j l h (or_parts (is_none (link_at x.links s)) (calls.any_empty x.links ss) some).1 f) e
 
 sends_by : (P : Pid → Place → Type 0) (v : View) (a : Addresses) (p : Pid) (x : PlainProcess) (l : PlainLink) (b c d e : Bool) → d ≡ calls.any_empty x.links (calls.listed x) → link_at x.links (reg x.regs 1) ≡ Some l → P p (acting_place v p) → HomeProcess P a p x
     → HomeCalled P v a p x calls.Send (calls.unless_refused
@@ -113,14 +106,13 @@ sends_by P v a p x l false false false true f over is h = regs_home P a p x (cal
 sends_by P v a p x l false false false false f over is h =
     let id = id_of p x.sent in
     let ps = map (λ (k : ℕ). a (Slot p k)) (calls.listed x) in
-    let to = a (Slot p (reg x.regs 1)) in
     record {
       process = record {
         slots = λ k w e. place_as P ((encloses_process a id 0 ps p).slot k) (h.slots k w (without_replies_link (reg x.regs 1 ∷ calls.listed x) x.links k w e));
         owner = λ q e. place_as P (encloses_process a id 0 ps p).owner (h.owner q e);
       };
       message = record {
-        receiver = place_as P (ap (λ (c : Bool). if c then to else given a (encloses id 0 ps) (Receiver id)) (id_eq-same id)) (h.slots (reg x.regs 1) l over);
+        receiver = place_as P (ap (λ (c : Bool). if c then (a (Slot p (reg x.regs 1))) else given a (encloses id 0 ps) (Receiver id)) (id_eq-same id)) (h.slots (reg x.regs 1) l over);
         sender = place_as P (ap (λ (c : Bool). if c then acting_place v p else given a (encloses id 0 ps) (Sender id)) (id_eq-same id)) is;
         enclosed = λ k w e.
             let r = listed_home P a p x (calls.listed x) k w h (sym f) e in
@@ -130,9 +122,6 @@ sends_by P v a p x l false false false false f over is h =
       messages = λ i e. let s = encloses_message a id 0 ps i e in (search arith);
       servers = let s = encloses_servers a id 0 ps in record { child = s.child; name = s.name; answer = s.answer; asked = s.asked };
     }
-
-sends_home : (P : Pid → Place → Type 0) (v : View) (a : Addresses) (p : Pid) (x : PlainProcess) (o : Option PlainLink) → link_at x.links (reg x.regs 1) ≡ o → P p (acting_place v p) → HomeProcess P a p x → HomeCalled P v a p x calls.Send (calls.send_call p (behind x) o)
-sends_home P v a p x o h1 h2 h3 = search (arith, regs_home, sends_by)
 
 -- a data move begins, with the owner of the link in slot r1
 move_sent : (P : Pid → Place → Type 0) (v : View) (a : Addresses) (p : Pid) (m : PlainMessage) (x y : PlainProcess) (to : Place) → P m.to to → m.sender ≡ p → links_in m.what ≡ [] → y.links ≡ x.links → owner_in y.status ≡ Some m.to → P p (acting_place v p) → HomeProcess P a p x
@@ -157,7 +146,7 @@ does_call_home P v a p x calls.Out is h = regs_home P a p x (calls.replied Reply
 does_call_home P v a p x calls.Make is h = makes_by P v a p x (nat_lt 7 (reg x.regs 3)) (nat_lt 31 (reg x.regs 2) || calls.is_outside x (reg x.regs 4) (reg x.regs 5)) is h
 does_call_home P v a p x calls.Copy is h = copies_home P v a p x (link_at x.links (reg x.regs 1)) refl h
 does_call_home P v a p x calls.Drop is h = drops_home P v a p x (link_at x.links (reg x.regs 1)) h
-does_call_home P v a p x calls.Send is h = sends_home P v a p x (link_at x.links (reg x.regs 1)) refl is h
+does_call_home P v a p x calls.Send is h = search (arith, regs_home, sends_by)
 does_call_home P v a p x calls.Receive is h = search (arith, by_test, regs_home)
 does_call_home P v a p x calls.Move is h = moves_home P v a p x (link_at x.links (reg x.regs 1)) refl is h
 does_call_home P v a p x _ is h = tt
@@ -170,9 +159,8 @@ HomeNext P v a p x (kernel.Faults fault) = ⊤
 next_row_home : (P : Pid → Place → Type 0) (v : View) (a : Addresses) (p : Pid) (x : PlainProcess) (w : Row) (n : kernel.Trap) → instruction x.regs x.memory ≡ w → kernel.next_row p x w ≡ Some n → P p (acting_place v p) → HomeProcess P a p x → HomeNext P v a p x n
 next_row_home P v a p x (Row.Plain regs bytes) n w e is h = cc
 next_row_home P v a p x (Row.Calls number regs) n w e is h =
-    let f : regs ≡ past x.regs = past_call x.regs x.memory number regs w in
     let g : kernel.Calls number (calls.call p (record x { regs = regs }) number) ≡ n = cc in
-    subst (HomeNext P v a p x) (ap (λ (r : Regs). kernel.Calls number (calls.call p (record x { regs = r }) number)) (sym f) ∙ g) (does_call_home P v a p x (calls.call_number number) is h)
+    subst (HomeNext P v a p x) (ap (λ (r : Regs). kernel.Calls number (calls.call p (record x { regs = r }) number)) (sym (past_call x.regs x.memory number regs w)) ∙ g) (does_call_home P v a p x (calls.call_number number) is h)
 next_row_home P v a p x (Row.Faults fault) n w e is h = let g : kernel.Faults fault ≡ n = cc in subst (HomeNext P v a p x) g tt
 
 pub record Nexts (P : Pid → Place → Type 0) (v : View) (s : OneKernel) (a : Addresses) (p : Pid) (n : kernel.Trap) : Type 0 where

@@ -1,9 +1,9 @@
 -- A group keeps all of it where its first part is said where it belongs.
 use Rattle.dm_rule.proofs.Names.{◌≡◌, ℕ, zero, suc, ◌==◌, true, List, [], ◌∷◌, ◌++◌, refl, ap, ◌∙◌, sym, subst, ◌⊎◌, inl, inr, ⊤, if◌then◌else◌, Option, None, Some, Pid, MsgId, Boot, Label, OneKernel, bind, bind-is, Line, Load, View, Pair}
-use Rattle.dm_rule.proofs.Names.{queued_for, handled, Point, after, after_line, moved, Part, Says, Spelled, behind, spelled, lines_of, slice_get, ◌-◌, Step, actor, begins, marked, SentLoad, NothingElse, group_of, outcome, IsStill, AskNone}
-use Rattle.dm_rule.proofs.Names.{arith, nat_tests}
+use Rattle.dm_rule.proofs.Names.{queued_for, handled, Point, after, after_line, moved, Part, Says, Spelled, behind, spelled, lines_of, slice_get, ◌-◌, Step, actor, begins, marked, NothingElse, group_of, outcome, IsStill, AskNone, arith}
+use Rattle.dm_rule.proofs.Names.{nat_tests}
 use Rattle.dm_rule.proofs.Homes.Labels.{SaidAt, RingsHome, rings_same}
-use Rattle.dm_rule.proofs.Homes.Lists.{stands, queue_lists}
+use Rattle.dm_rule.proofs.Homes.Lists.{stands, ListsHome, queue_set, all_stand_last, handled_lists}
 use Rattle.dm_rule.proofs.Homes.Lines.{NoneReplaced, Home, Kept, same_lists, label_keeps}
 use Rattle.dm_rule.proofs.Homes.Parts.{PartAnywhere, PartsAnywhere, parts_keep, part_keeps}
 use Rattle.dm_rule.proofs.Trails.Within.{queued_acting}
@@ -28,18 +28,17 @@ ask_first (l ∷ ls) ms h = (h.0, ask_first ls ms h.1)
 not_asked : (pt : Point) (id : MsgId) (p : Part) (ls : List Line) → p ≡ Says (Line.Label (Label.Asked id)) → lines_of pt p ≡ Some ls → AskNone ls → ⊥
 not_asked pt id p ls is lines none =
     let f : Some (Line.Label (Label.Asked id) ∷ []) ≡ Some ls = ap (lines_of pt) (sym is) ∙ lines in
-    let g : ls ≡ Line.Label (Label.Asked id) ∷ [] = cc in
-    (subst AskNone g none).0
-
-rings_queued : (v : View) (id : MsgId) (o : Option Pid) → RingsHome v → RingsHome (queued_for v id o)
-rings_queued v id None h = h
-rings_queued v id (Some p) h = record { moves = h.moves; ring = h.ring; known = h.known }
+    (subst AskNone (let g : ls ≡ Line.Label (Label.Asked id) ∷ [] = cc in g) none).0
 
 queued_keeps : (r e : MsgId → ℕ) (pt pt' : Point) (id : MsgId) → stands pt.kernel e pt.view.acting id ≡ true → Home r e pt → after pt (Line.Queued id ∷ []) ≡ Some pt' → Kept pt.view.acting pt'
 queued_keeps r e pt pt' id at h is =
-    let f : moved pt (Line.Queued id) pt.kernel ≡ pt' = cc in
+    -- queued
+    let queue_lists : (s : OneKernel) (e : MsgId → ℕ) (v : View) (id : MsgId) → stands s e v.acting id ≡ true → ListsHome s e v → ListsHome s e (queued_for (handled v id) id (view.receiver_of (v.told id))) =
+      λ s e v id at h. search (arith, queue_set, all_stand_last, handled_lists s e v id h) in
     let w = handled pt.view id in
-    subst (Kept pt.view.acting) f ((search (arith, rings_queued, rings_same, queue_lists, queued_acting)))
+    let rings_queued : (v : View) (id : MsgId) (o : Option Pid) → RingsHome v → RingsHome (queued_for v id o) =
+      λ v id o h. elim o as (λ o_. RingsHome (queued_for v id o_)) [ None ↦ h | Some p' ↦ record { moves = h.moves; ring = h.ring; known = h.known } ] in
+    subst (Kept pt.view.acting) (let f : moved pt (Line.Queued id) pt.kernel ≡ pt' = cc in f) ((search (arith, rings_queued, rings_same, queue_lists, queued_acting)))
 
 pub first_keeps : NoneReplaced → (r e : MsgId → ℕ) (pt pt' : Point) (p : Part) (ls : List Line) → FirstGood pt.kernel e pt.view.acting p → Home r e pt → lines_of pt p ≡ Some ls → after pt ls ≡ Some pt' → Kept pt.view.acting pt'
 first_keeps none r e pt pt' p ls good h is next = elim good [
@@ -54,12 +53,11 @@ good_keep none (p ∷ ps) r e m pt w acting at h is ask =
     let (next, comes, last) = bind-is (after pt ls) (λ (q : Point). bind (spelled q ps) (λ (z : Spelled). Some (behind ls z))) w rest in
     let (z, more, end) = bind-is (spelled next ps) (λ (y : Spelled). Some (behind ls y)) w last in
     let f : behind ls z ≡ w = cc in
-    let first : AskNone ls = ask_first ls z.lines (subst (λ (x : Spelled). AskNone x.lines) (sym f) ask) in
     elim at [
       | inl good ↦
           let k = first_keeps none r e pt next p ls (subst (λ (n : ℕ). FirstGood pt.kernel e n p) (sym acting) good.0) h lines comes in
           subst (λ (x : Spelled). Kept m x.point) f (parts_keep none ps k.r k.e m next z (k.acting ∙ acting) good.1 k.home more)
-      | inr asked ↦ absurd (not_asked pt asked.0 p ls asked.1 lines first)
+      | inr asked ↦ absurd (not_asked pt asked.0 p ls asked.1 lines (ask_first ls z.lines (subst (λ (x : Spelled). AskNone x.lines) (sym f) ask)))
     ]
 
 -- the head
@@ -114,23 +112,10 @@ comes_good : (m a b : ℕ) (p q : Pair) (l : Load) → PartsAnywhere m (rule.com
 comes_good m a b p q (Load.Data n) = search (arith, by_test, parts_append, takes_good)
 comes_good m a b p q (Load.Ack n) = (tt, repeats_good m b a (rule.let_go q (rule.more n q.acked)))
 
-pub arrives_good : (m a b : ℕ) (p q : Pair) (o : Option SentLoad) → PartsAnywhere m (rule.arrives a b p q o)
-arrives_good m a b p q None = (tt, tt)
-arrives_good m a b p q (Some s) = comes_good m a b p q s.load
-
-pub anywhere_good : (s : OneKernel) (e : MsgId → ℕ) (m : ℕ) (ps : List Part) → PartsAnywhere m ps → PartsGood s e m ps
-anywhere_good s e m [] h = tt
-anywhere_good s e m (p ∷ ps) h = inl (inl h.0, h.1)
-
-pub tick_keeps : NoneReplaced → (b : Boot) (r e : MsgId → ℕ) (pt : Point) (m : ℕ) (w : Spelled) → group_of b pt (Step.Tick m) ≡ Some w → AskNone w.lines → Home r e pt → Kept m w.point
-tick_keeps none b r e pt m w is ask h =
-    group_keeps none b r e pt (Step.Tick m) w tt is ask h
-    (λ ps comes. let f : Says (Line.Resent m (rule.outstanding_count pt.view m pt.kernel.machines)) ∷ rule.resends pt.view m pt.kernel.machines ≡ ps = cc in
-    subst (PartsGood pt.kernel e m) f (inl (inl tt, resends_good m m pt.view pt.kernel.machines)))
-
 pub deliver_keeps : NoneReplaced → (b : Boot) (r e : MsgId → ℕ) (pt : Point) (a c k : ℕ) (w : Spelled) → group_of b pt (Step.Deliver a c k) ≡ Some w → AskNone w.lines → Home r e pt → Kept c w.point
 deliver_keeps none b r e pt a c k w is ask h =
     group_keeps none b r e pt (Step.Deliver a c k) w tt is ask h
     (λ ps comes. let parts = rule.arrives a c (pt.view.pair a c) (pt.view.pair c a) (slice_get (pt.view.pair a c).wire k) in
-    let f : parts ≡ ps = cc in
-    subst (PartsGood pt.kernel e c) f (anywhere_good pt.kernel e c parts (arrives_good c a c (pt.view.pair a c) (pt.view.pair c a) (slice_get (pt.view.pair a c).wire k))))
+    subst (PartsGood pt.kernel e c) (let f : parts ≡ ps = cc in f)
+    ((elim parts as (λ ps_. PartsAnywhere c ps_ → PartsGood pt.kernel e c ps_) [ [] ↦ λ h'. tt | p' ∷ ps' ↦ λ h'. inl (inl h'.0, h'.1) ])
+    (elim (slice_get (pt.view.pair a c).wire k) as (λ o_. PartsAnywhere c (rule.arrives a c (pt.view.pair a c) (pt.view.pair c a) o_)) [ None ↦ (tt, tt) | Some s' ↦ comes_good c a c (pt.view.pair a c) (pt.view.pair c a) s'.load ])))

@@ -1,8 +1,8 @@
 -- Each label keeps addresses where they may be, as at homes, and what it does to the rings too.
-use Rattle.dm_rule.proofs.Names.{◌≡◌, ℕ, ◌==◌, ◌&&◌, Bool, true, false, not, List, [], ◌∷◌, ◌++◌, refl, ap, ◌∙◌, arith, ⊤, if◌then◌else◌, filter, Option, None, Some, nat_tests, Pid, Place, pid_eq, MsgId, MessageKind, Label, OneKernel}
-use Rattle.dm_rule.proofs.Names.{at_machine, at_record, without, moved_back, View, Told, Known, Frozen, Incoming, Forward, after_label, served_told, ends_by, Addresses, given, gives, acting_place, are_home, sort_of}
+use Rattle.dm_rule.proofs.Names.{◌≡◌, ℕ, ◌==◌, ◌&&◌, Bool, true, false, not, List, [], ◌∷◌, ◌++◌, refl, ap, ◌∙◌, arith, ⊤, if◌then◌else◌, filter, Some, nat_tests, Pid, Place, pid_eq, Label, OneKernel, Why, at_machine, at_record, without}
+use Rattle.dm_rule.proofs.Names.{View, Known, Frozen, Incoming, Forward, Addresses, given, gives, acting_place, are_home, and_parts, bind-is}
 use Rattle.dm_rule.proofs.Homes.{IsHome, AtHome}
-use Rattle.dm_rule.proofs.Homes.Steps.{ran_home, call_home, send_home, wait_home, out_home, end_home}
+use Rattle.dm_rule.proofs.Homes.Steps.{ran_home, call_home, send_home, end_row, wait_home, out_home}
 use Rattle.dm_rule.proofs.Homes.Receives.{receive_home, refuse_home}
 use Rattle.dm_rule.proofs.Homes.Serves.{Named, ReceivedAt, ServedAt, EndedAt, dropped_home, gone_home, no_space_home, served_home, created_home, AnsweredAt, asked_home, answered_home}
 use Rattle.dm_rule.proofs.Homes.Manager.{took_home}
@@ -49,7 +49,10 @@ label_on P s t v a (Label.Call p n c) is named at h = call_home P s t v a p n c 
 label_on P s t v a (Label.Send p id) is named at h = send_home P s t v a p id is at h
 label_on P s t v a (Label.Wait p) is named at h = wait_home P s t v a p is at h
 label_on P s t v a (Label.Out p w) is named at h = out_home P s t v a p w is at h
-label_on P s t v a (Label.End p y) is named at h = end_home P s t a p y is h
+label_on P s t v a (Label.End p y) is named at h =
+    let end_home : (P : Pid → Place → Type 0) (s t : OneKernel) (a : Addresses) (p : Pid) (y : Why) → kernel.step s (Label.End p y) ≡ Some t → AtHome P s a → AtHome P t a =
+      λ P s t a p y is h. let (x, next, rest) = bind-is (kernel.next_trap s p) (kernel.ends s p y) t is in end_row P s t a p y x rest h in
+    end_home P s t a p y is h
 label_on P s t v a (Label.Receive p id) is named at h = receive_home P s t v a p id is h
 label_on P s t v a (Label.Refuse p id c) is named at h = refuse_home P s t a p id c is h
 label_on P s t v a (Label.Dropped id) is named at h = dropped_home P s t a id is h
@@ -61,22 +64,16 @@ label_on P s t v a (Label.NoSpace id f b) is named at h = no_space_home P s t v 
 label_on P s t v a (Label.Asked id) is named at h = asked_home P s t v a id is h
 label_on P s t v a (Label.Answered id o) is named at h = answered_home P s t v a id o is at h
 
--- as long as nothing moves
-said_home : (s : OneKernel) (v : View) (a : Addresses) (l : Label) → ((q : Pid) → v.moves q ≡ 0) → SaidAt s v.acting l → AtHome IsHome s a → SaidOn IsHome s v a l
-said_home s v a l h1 h2 h3 = search arith
-
 pub label_home : (s t : OneKernel) (v : View) (a : Addresses) (l : Label) → kernel.step s l ≡ Some t → Named s → ((q : Pid) → v.moves q ≡ 0) → SaidAt s v.acting l → AtHome IsHome s a → AtHome IsHome t (given a (gives s v a l))
-label_home s t v a l is named still at h = label_on IsHome s t v a l is named (said_home s v a l still at h) h
-
--- rings
-both : (b c : Bool) → (b && c) ≡ true → (b ≡ true) × (c ≡ true)
-both true c e = (refl, e)
-both false c e = cc
+label_home s t v a l is named still at h =
+    -- as long as nothing moves
+    let said_home : (s : OneKernel) (v : View) (a : Addresses) (l : Label) → ((q : Pid) → v.moves q ≡ 0) → SaidAt s v.acting l → AtHome IsHome s a → SaidOn IsHome s v a l = λ s v a l h1 h2 h3. search arith in
+    label_on IsHome s t v a l is named (said_home s v a l still at h) h
 
 filter_home : (m : ℕ) (ps : List Pid) (f : Pid → Bool) → are_home m ps ≡ true → are_home m (filter f ps) ≡ true
 filter_home m [] f h = refl
 filter_home m (p ∷ ps) f h =
-    let k = both (p.home == m) (are_home m ps) h in
+    let k = and_parts (p.home == m) (are_home m ps) h in
     (elim (f p) as (λ b. are_home m (if b then p ∷ (filter f ps) else (filter f ps)) ≡ true)
     [ true ↦ ap (λ (c : Bool). c && are_home m (filter f ps)) k.0 ∙ (filter_home m ps f k.1) | false ↦ (filter_home m ps f k.1) ])
 
@@ -85,7 +82,7 @@ without_home m p ps h = filter_home m ps (λ q. not (pid_eq p q)) h
 
 pub joins_home : (m : ℕ) (p : Pid) (ps : List Pid) → p.home ≡ m → are_home m ps ≡ true → are_home m (ps ++ p ∷ []) ≡ true
 joins_home m p [] e h = grind (arith, nat_tests)
-joins_home m p (q ∷ qs) e h = let k = both (q.home == m) (are_home m qs) h in ap (λ (c : Bool). c && are_home m (qs ++ p ∷ [])) k.0 ∙ joins_home m p qs e k.1
+joins_home m p (q ∷ qs) e h = let k = and_parts (q.home == m) (are_home m qs) h in ap (λ (c : Bool). c && are_home m (qs ++ p ∷ [])) k.0 ∙ joins_home m p qs e k.1
 
 -- rings whose processes are at home, and no process has moved
 -- what a machine knows of a process as long as nothing moves
@@ -100,7 +97,7 @@ pub record RingsHome (v : View) : Type 0 where
   pub ring : (m : ℕ) → are_home m (v.ring m) ≡ true
   pub known : (m : ℕ) (p : Pid) → is_still (v.known m p) ≡ true
 
-known_set : (v : View) (a : ℕ) (p : Pid) (k : Known) → is_still k ≡ true → RingsHome v → (m : ℕ) (q : Pid) → is_still (at_record v.known a p k m q) ≡ true
+pub known_set : (v : View) (a : ℕ) (p : Pid) (k : Known) → is_still k ≡ true → RingsHome v → (m : ℕ) (q : Pid) → is_still (at_record v.known a p k m q) ≡ true
 known_set v a p k h r m q = elim ((a == m) && pid_eq p q) as (λ b. is_still (if b then k else (v.known m q)) ≡ true) [ true ↦ h | false ↦ (r.known m q) ]
 
 pub rings_set : (v w : View) (ps : List Pid) → w.moves ≡ v.moves → w.ring ≡ at_machine v.ring v.acting ps → ((m : ℕ) (p : Pid) → is_still (w.known m p) ≡ true) → are_home v.acting ps ≡ true → RingsHome v → RingsHome w
@@ -112,19 +109,3 @@ rings_set v w ps moves ring known h k = record {
 
 pub rings_same : (v w : View) → w.moves ≡ v.moves → w.ring ≡ v.ring → w.known ≡ v.known → RingsHome v → RingsHome w
 rings_same v w moves ring known k = search arith
-
-kills_rings : (v : View) (k : MessageKind) (o : Option Pid) → RingsHome v → RingsHome (ends_by (sort_of k) v o)
-kills_rings v k o h1 = search (arith, rings_set, known_set, without_home)
-
-told_rings : (v : View) (o : Option Told) → RingsHome v → RingsHome (served_told v o)
-told_rings v o h1 = search (arith, kills_rings)
-
-dropped_rings : (v : View) (id : MsgId) (o : Option Pid) → RingsHome v → RingsHome (view.dropped_for v id o)
-dropped_rings v id None h = h
-dropped_rings v id (Some p) h = record { moves = h.moves; ring = h.ring; known = h.known }
-
-back_home : (v : View) (p : Pid) → p.home ≡ v.acting → RingsHome v → are_home v.acting (moved_back p (v.ring v.acting)) ≡ true
-back_home v p at h = joins_home v.acting p (without p (v.ring v.acting)) at (without_home v.acting p (v.ring v.acting) (h.ring v.acting))
-
-pub label_rings : (s : OneKernel) (v : View) (l : Label) → SaidAt s v.acting l → RingsHome v → RingsHome (after_label v l)
-label_rings s v l h1 h2 = search (arith, rings_set, back_home, known_set, without_home, dropped_rings, told_rings, joins_home)

@@ -1,13 +1,13 @@
 -- Each line that is said where it belongs keeps all of it: addresses, rings and lists; so do the parts of a group.
 use Rattle.dm_rule.proofs.Names.{◌≡◌, ℕ, ◌+◌, ◌≤◌, ◌==◌, ◌&&◌, Bool, true, false, List, [], ◌∷◌, length, refl, ap, ◌∙◌, sym, subst, is_some, arith, nat_le, if◌then◌else◌, Option, None, Some, nat_tests, Pid, Place, MsgId, MessageKind}
-use Rattle.dm_rule.proofs.Names.{plain_kind, PlainMessage, Boot, Label, IsValid, OneKernel, entry, in_bag, reception, Sound, bind-is, after_step, start-sound, Line, Load, untaken, View, Pair, Told, after_label, after_put, handled, ◌||◌}
-use Rattle.dm_rule.proofs.Names.{pid_eq, PlainWhat, BootProcess, switchboard, manager, Known, Unknown, Here, known_at, Addresses, Receiver, Gets, given, own_given, first_gives, addresses_after, Point, first_point, after, after_line, moved}
-use Rattle.dm_rule.proofs.Names.{Routes, lines_of, puts, packet_line, goes_out, Homes, is_for_home, gives, topic_by, About, sort_of}
+use Rattle.dm_rule.proofs.Names.{plain_kind, PlainMessage, Boot, Label, IsValid, OneKernel, entry, in_bag, reception, Sound, bind-is, after_step, start-sound, Line, Load, untaken, View, Pair, Told, after_label, after_put, handled, are_home}
+use Rattle.dm_rule.proofs.Names.{PlainWhat, BootProcess, known_at, Addresses, Receiver, Gets, given, own_given, first_gives, addresses_after, Point, first_point, after, after_line, moved, Routes, lines_of, puts, packet_line, goes_out}
+use Rattle.dm_rule.proofs.Names.{Homes, is_for_home, gives, topic_by, About, sort_of, moved_back, without, served_told, ends_by}
 use Rattle.std.proofs.Common.{is_none}
 use Rattle.dm_rule.proofs.Homes.{IsHome, AtHome, homes_are}
 use Rattle.dm_rule.proofs.Homes.Start.{start_at_home, Homes-start}
-use Rattle.dm_rule.proofs.Homes.Labels.{SaidAt, label_home, RingsHome, is_still, rings_same, label_rings}
-use Rattle.dm_rule.proofs.Homes.Lists.{stands, ListsHome, Old, lists_on, label_lists, put_lists, pair_set, are_for}
+use Rattle.dm_rule.proofs.Homes.Labels.{SaidAt, RingsHome, is_still, rings_same, rings_set, known_set, without_home, joins_home, label_home}
+use Rattle.dm_rule.proofs.Homes.Lists.{stands, ListsHome, Old, label_lists, pair_set, are_for, inbox_set, all_stand_last, routed_stands, stand_on, all_stand}
 use Rattle.dm_onekernel.specs.Step as kernel
 use Rattle.dm_rule.specs.View as view
 
@@ -33,12 +33,9 @@ homes_of r e pt h = record {
   untaken = λ a m. are_for pt.kernel e m (untaken (pt.view.pair a m)) (h.lists.untaken a m);
 }
 
-start_if : (c : Bool) (k : Known) → is_still k ≡ true → is_still (if c then Here else k) ≡ true
-start_if c k h1 = search arith
-
 start_known : (ps : List BootProcess) (m : ℕ) (q : Pid) → is_still (known_at ps m q) ≡ true
-start_known [] m q = start_if ((m == 0) && (pid_eq q switchboard || pid_eq q manager)) Unknown refl
-start_known (p ∷ ps) m q = start_if (pid_eq p.pid q && (p.pid.home == m)) (known_at ps m q) (start_known ps m q)
+start_known [] m q = search arith
+start_known (p ∷ ps) m q = search (arith, start_known ps m q)
 
 pub home_start : (b : Boot) → IsValid b → Home (λ i. 0) (λ i. 0) (first_point b)
 home_start b valid = search (arith, start-sound, start_at_home, Homes-start, start_known)
@@ -55,14 +52,22 @@ old_of (Some y) b e x entered once there same = ap Some (same y refl)
 old_of None None e x entered once there same = cc
 old_of None (Some z) e x entered once there same = absurd (let f : 1 ≤ e = grind (arith, nat_tests) in omega (arith, f, once))
 
--- what a group is about changes none of it
-topic_home : (r e : MsgId → ℕ) (s : OneKernel) (v : View) (t : About) (a : Addresses) → Home r e (record { kernel = s; view = v; addresses = a }) → Home r e (record { kernel = s; view = view.about v t; addresses = a })
-topic_home r e s v t a h = search arith
-
 -- a label
 label_line : NoneReplaced → (r e : MsgId → ℕ) (pt : Point) (l : Label) (t : OneKernel) → kernel.step pt.kernel l ≡ Some t → SaidAt pt.kernel pt.view.acting l → Home r e pt
     → Home (λ i. r i + reception i l) (λ i. e i + entry i pt.kernel t) (moved pt (Line.Label l) t)
 label_line none r e pt l t is at h =
+    -- what a group is about changes none of it
+    let told_rings : (v : View) (o : Option Told) → RingsHome v → RingsHome (served_told v o) =
+      λ v o h1. let kills_rings : (v : View) (k : MessageKind) (o : Option Pid) → RingsHome v → RingsHome (ends_by (sort_of k) v o) = λ v k o h1. search (arith, rings_set, known_set, without_home) in search (arith, kills_rings) in
+    let label_rings : (s : OneKernel) (v : View) (l : Label) → SaidAt s v.acting l → RingsHome v → RingsHome (after_label v l) =
+      let back_home : (v : View) (p : Pid) → p.home ≡ v.acting → RingsHome v → are_home v.acting (moved_back p (v.ring v.acting)) ≡ true =
+        λ v p at h. joins_home v.acting p (without p (v.ring v.acting)) at (without_home v.acting p (v.ring v.acting) (h.ring v.acting)) in
+      let dropped_rings : (v : View) (id : MsgId) (o : Option Pid) → RingsHome v → RingsHome (view.dropped_for v id o) =
+        λ v id o h. elim o as (λ o_. RingsHome (view.dropped_for v id o_)) [ None ↦ h | Some p' ↦ record { moves = h.moves; ring = h.ring; known = h.known } ] in
+      λ s v l h1 h2. search (arith, rings_set, back_home, known_set, without_home, dropped_rings, told_rings, joins_home) in
+    let lists_on : (s t : OneKernel) (e f : MsgId → ℕ) (v : View) → Old e s t → ((i : MsgId) → e i ≤ f i) → ListsHome s e v → ListsHome t f v = λ s t e f v old le h. search (arith, stand_on) in
+    let topic_home : (r e : MsgId → ℕ) (s : OneKernel) (v : View) (t : About) (a : Addresses) → Home r e (record { kernel = s; view = v; addresses = a }) → Home r e (record { kernel = s; view = view.about v t; addresses = a }) =
+      λ r e s v t a h. search arith in
     let a = after_step r e pt.kernel t l is h.sound in
     let old : Old e pt.kernel t = λ i x entered there. old_of (pt.kernel.bag i) (t.bag i) (e i) x entered (a.sound.entered.once i) there (λ y was. none r e pt.kernel t l is h.sound i y x was there) in
     topic_home (λ i. r i + reception i l) (λ i. e i + entry i pt.kernel t) t (after_label pt.view l) (topic_by pt.kernel (after_label pt.view l).topic (Some l)) (given pt.addresses (gives pt.kernel pt.view pt.addresses l))
@@ -73,16 +78,13 @@ label_line none r e pt l t is at h =
       lists = lists_on pt.kernel t e (λ i. e i + entry i pt.kernel t) (after_label pt.view l) old (λ i. omega arith) (label_lists pt.kernel e pt.view l h.lists);
     })
 
-acting_kills : (v : View) (k : MessageKind) (o : Option Pid) → (view.ends_by (sort_of k) v o).acting ≡ v.acting
-acting_kills v k o = search arith
-
 pub acting_dropped : (v : View) (id : MsgId) (o : Option Pid) → (view.dropped_for v id o).acting ≡ v.acting
 acting_dropped v id None = refl
 acting_dropped v id (Some p) = refl
 
 pub acting_label : (v : View) (l : Label) → (after_label v l).acting ≡ v.acting
 acting_label v (Label.Dropped id) = acting_dropped (handled v id) id (view.receiver_of (v.told id))
-acting_label v (Label.Served id) = grind (arith, nat_tests, acting_kills)
+acting_label v (Label.Served id) = let acting_kills : (v : View) (k : MessageKind) (o : Option Pid) → (view.ends_by (sort_of k) v o).acting ≡ v.acting = λ v k o. search arith in grind (arith, nat_tests, acting_kills)
 acting_label v _ = refl
 
 -- a pair whose messages stay
@@ -101,44 +103,39 @@ pub first_none : (o : Option Told) (gs : List Gets) → gs ≡ [] → first_give
 first_none None gs e = e
 first_none (Some t) gs e = refl
 
-put_at_home : (s : OneKernel) (v : View) (a : Addresses) (from b : ℕ) (id : MsgId) (w : PlainWhat) (q : Pid) → AtHome IsHome s a → AtHome IsHome s (addresses_after s v a (Line.Put from b id (plain_kind w) q))
-put_at_home s v a from b id w q h = subst (AtHome IsHome s) (sym (ap (given a) (first_none (v.told id) (own_given s v a id q (sort_of (plain_kind w))) (own_none s v a id q w)))) h
-
 -- a routed message
 routed_home : (r e : MsgId → ℕ) (pt : Point) (id : MsgId) (m : PlainMessage) (b : ℕ) → pt.kernel.bag id ≡ Some m → b ≡ m.to.home → Home r e pt → Home r e (moved pt (Line.Put pt.view.acting b id (plain_kind m.what) m.to) pt.kernel)
 routed_home r e pt id m b there is h =
     let w = after_put pt.view pt.view.acting b id (plain_kind m.what) m.to in
-    let few = h.sound.entered.fewer id in
-    let one : in_bag (pt.kernel.bag id) ≡ 1 = ap in_bag there in
-    let entered : 1 ≤ e id = omega (arith, few, one) in
-    let first : nat_le 1 (e id) ≡ true = grind (arith, nat_tests) in
+    let entered : 1 ≤ e id = omega (arith, h.sound.entered.fewer id, ap in_bag there) in
     let second : is_for_home b (pt.kernel.bag id) ≡ true = ap (is_for_home b) there ∙ (let f : (m.to.home == b) ≡ true = grind (arith, nat_tests) in f) in
-    let at : stands pt.kernel e b id ≡ true = ap (λ (c : Bool). c && is_for_home b (pt.kernel.bag id)) first ∙ second in
-    record { sound = h.sound; at = put_at_home pt.kernel pt.view pt.addresses pt.view.acting b id m.what m.to h.at; rings = rings_same pt.view w refl refl refl h.rings; lists = put_lists pt.kernel e pt.view pt.view.acting b id (plain_kind m.what) m.to at h.lists }
+    let at : stands pt.kernel e b id ≡ true = ap (λ (c : Bool). c && is_for_home b (pt.kernel.bag id)) (let first : nat_le 1 (e id) ≡ true = grind (arith, nat_tests) in first) ∙ second in
+    let inbox_if : (s : OneKernel) (e : MsgId → ℕ) (f g : ℕ → List MsgId) (c : Bool) → ((n : ℕ) → all_stand s e n (f n) ≡ true) → ((n : ℕ) → all_stand s e n (g n) ≡ true) → (n : ℕ) → all_stand s e n ((if c then f else g) n) ≡ true =
+      λ s e f g c h k n. elim c as (λ c_. all_stand s e n ((if c_ then f else g) n) ≡ true) [ true ↦ h n | false ↦ k n ] in
+    let put_lists : ListsHome pt.kernel e (after_put pt.view pt.view.acting b id (plain_kind m.what) m.to) = search (arith, inbox_if, inbox_set, all_stand_last, pair_set, routed_stands, h.lists) in
+    let put_at_home : (s : OneKernel) (v : View) (a : Addresses) (from b : ℕ) (id : MsgId) (w : PlainWhat) (q : Pid) → AtHome IsHome s a → AtHome IsHome s (addresses_after s v a (Line.Put from b id (plain_kind w) q)) =
+      λ s v a from b id w q h. subst (AtHome IsHome s) (sym (ap (given a) (first_none (v.told id) (own_given s v a id q (sort_of (plain_kind w))) (own_none s v a id q w)))) h in
+    record { sound = h.sound; at = put_at_home pt.kernel pt.view pt.addresses pt.view.acting b id m.what m.to h.at; rings = rings_same pt.view w refl refl refl h.rings; lists = put_lists }
 
 -- its packet goes out at once, or later
 packet_if : (r e : MsgId → ℕ) (pt pt' : Point) (c d : Bool) (a b k : ℕ) (l : Load) → Home r e pt → after pt (if c then [] else if d then Line.Packet a b k l ∷ [] else []) ≡ Some pt' → Kept pt.view.acting pt'
 packet_if r e pt pt' true d a b k l h is = let f : pt ≡ pt' = cc in subst (Kept pt.view.acting) f (record { r = r; e = e; home = h; acting = refl })
 packet_if r e pt pt' false false a b k l h is = let f : pt ≡ pt' = cc in subst (Kept pt.view.acting) f (record { r = r; e = e; home = h; acting = refl })
 packet_if r e pt pt' false true a b k l h is =
-    let f : moved pt (Line.Packet a b k l) pt.kernel ≡ pt' = cc in
-    subst (Kept pt.view.acting) f (record { r = r; e = e; home = packet_line_home r e pt a b k l h; acting = refl })
+    subst (Kept pt.view.acting) (let f : moved pt (Line.Packet a b k l) pt.kernel ≡ pt' = cc in f) (record { r = r; e = e; home = packet_line_home r e pt a b k l h; acting = refl })
 
 pub routes_keep : (r e : MsgId → ℕ) (pt pt' : Point) (id : MsgId) (ls : List Line) → Home r e pt → lines_of pt (Routes id) ≡ Some ls → after pt ls ≡ Some pt' → Kept pt.view.acting pt'
 routes_keep r e pt pt' id ls h is next =
     let b = (pt.addresses (Receiver id)).at in
     let (m, there, last) = bind-is (pt.kernel.bag id) (λ (x : PlainMessage). Some (puts pt.view b id (plain_kind x.what) x.to)) ls is in
-    let f : puts pt.view b id (plain_kind m.what) m.to ≡ ls = cc in
-    let at : b ≡ m.to.home = ap (λ (p : Place). p.at) (h.at.messages id m there).receiver in
     let c = pt.view.acting in
     let rest = if (c == b) then [] else if goes_out (pt.view.pair c b) then packet_line pt.view c b (Load.Data (length (pt.view.pair c b).ids)) ∷ [] else [] in
     packet_if r e (moved pt (Line.Put c b id (plain_kind m.what) m.to) pt.kernel) pt' (c == b) (goes_out (pt.view.pair c b)) c b (length (pt.view.pair c b).wire) (Load.Data (length (pt.view.pair c b).ids))
-    (routed_home r e pt id m b there at h) (ap (after pt) f ∙ next)
+    (routed_home r e pt id m b there (ap (λ (p : Place). p.at) (h.at.messages id m there).receiver) h) (ap (after pt) (let f : puts pt.view b id (plain_kind m.what) m.to ≡ ls = cc in f) ∙ next)
 
 pub label_keeps : NoneReplaced → (r e : MsgId → ℕ) (pt pt' : Point) (l : Label) → SaidAt pt.kernel pt.view.acting l → Home r e pt → after pt (Line.Label l ∷ []) ≡ Some pt' → Kept pt.view.acting pt'
 label_keeps none r e pt pt' l at h is =
     let (mid, first, last) = bind-is (after_line pt (Line.Label l)) (λ (x : Point). after x []) pt' is in
     let (t, step, then_) = bind-is (kernel.step pt.kernel l) (λ (s : OneKernel). Some (moved pt (Line.Label l) s)) mid first in
     let f : moved pt (Line.Label l) t ≡ mid = cc in
-    let g : mid ≡ pt' = cc in
-    subst (Kept pt.view.acting) (f ∙ g) (record { r = λ i. r i + reception i l; e = λ i. e i + entry i pt.kernel t; home = label_line none r e pt l t step at h; acting = acting_label pt.view l })
+    subst (Kept pt.view.acting) (f ∙ (let g : mid ≡ pt' = cc in g)) (record { r = λ i. r i + reception i l; e = λ i. e i + entry i pt.kernel t; home = label_line none r e pt l t step at h; acting = acting_label pt.view l })

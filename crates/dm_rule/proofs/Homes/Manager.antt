@@ -1,8 +1,8 @@
 -- What the process manager does keeps addresses where they may be.
 use Rattle.dm_rule.proofs.Names.{◌≡◌, ℕ, zero, suc, ◌+◌, ◌==◌, ◌&&◌, Bool, true, false, List, [], ◌∷◌, ◌++◌, refl, ap, ◌∙◌, sym, subst, inl, inr, arith, nat_lt, length, if◌then◌else◌, slice_get, Option, None, Some, nat_tests, Pid, Place}
-use Rattle.dm_rule.proofs.Names.{pid_eq, PlainLink, MsgId, id_of, Label, PlainMessage, PlainWhat, bind, OneKernel, without_message, id_eq-same, bind-is, View, Addresses, Gets, gets, given, gives, Receiver, Sender, Enclosed, unmoved, pid_of}
-use Rattle.dm_rule.proofs.Names.{◌*◌, Pending, Manager, switchboard, manager, Child, Name, Answer, encloses, enclosed_from, board_takes_burden, manager_sends, manager_answers, manager_takes_burden, links_in, ascends, AskedBy, Outcome}
-use Rattle.dm_rule.proofs.Names.{code_of_outcome, PendingKind, burden_of}
+use Rattle.dm_rule.proofs.Names.{Holder, Slot, pid_eq, PlainLink, MsgId, id_of, Label, PlainMessage, PlainWhat, bind, OneKernel, without_message, id_eq-same, bind-is, View, Addresses, Gets, gets, given, gives, Receiver, Sender, Enclosed}
+use Rattle.dm_rule.proofs.Names.{unmoved, pid_of, ◌*◌, Pending, Manager, switchboard, manager, Child, Name, Answer, encloses, enclosed_from, board_takes_burden, manager_sends, manager_answers, manager_takes_burden, links_in, ascends}
+use Rattle.dm_rule.proofs.Names.{AskedBy, Outcome, code_of_outcome, PendingKind, burden_of, fun_ext}
 use Rattle.dm_rule.proofs.Homes.{place_as, pid_as, acts_at, AtHome}
 use Rattle.dm_rule.proofs.Homes.Rows.{SameProcess, SameMessage, sent_home, at_home_out, process_same, message_same, encloses_servers, encloses_process, encloses_message, encloses_at}
 use Rattle.dm_rule.proofs.Homes.Serves.{two, two_sends, Named, ReceivedAt}
@@ -19,6 +19,10 @@ TookAt P s v a id mid code k = AtHome P (service.manager_took s id k) (given a (
 
 abbrev LinksHome : (Pid → Place → Type 0) → Addresses → MsgId → List PlainLink → Type 0
 LinksHome P a id links = (n : ℕ) (w : PlainLink) → slice_get links n ≡ Some w → P w.to (a (Enclosed id n))
+
+-- the same addresses
+at_home_as : (P : Pid → Place → Type 0) (s : OneKernel) {a b : Addresses} → ((h : Holder) → a h ≡ b h) → AtHome P s a → AtHome P s b
+at_home_as P s same = subst (AtHome P s) (fun_ext same)
 
 -- its count rises
 counted : (P : Pid → Place → Type 0) (s : OneKernel) (a : Addresses) (id : MsgId) → AtHome P s a → AtHome P (record (without_message s id) { manager = record s.manager { sent = s.manager.sent + 1 } }) a
@@ -55,7 +59,6 @@ asked_answers P s a c z pl same count new h k r w e f =
 asks_for_home : (P : Pid → Place → Type 0) (s : OneKernel) (v : View) (a : Addresses) (id mid : MsgId) (code machine image : ℕ) (l : PlainLink) (ls : List PlainLink) → LinksHome P a mid (l ∷ ls) → v.acting ≡ 0 → AtHome P s a
     → TookAt P s v a id mid code (manage.asks_for s.manager machine image l ls)
 asks_for_home P s v a id mid code machine image l ls en at h =
-    let u = at_home_out P s a id h in
     let n = s.manager.sent in
     let sent = id_of manager n in
     let ps = enclosed_from a mid 1 ls in
@@ -64,14 +67,13 @@ asks_for_home P s v a id mid code machine image l ls en at h =
     let pl = a (Enclosed mid 0) in
     let c = given a (encloses sent 0 ps) in
     let b = given c (gets (Receiver sent) to ∷ gets (Sender sent) from ∷ gets (Answer n) pl ∷ []) in
-    let k = manage.asks_for s.manager machine image l ls in
     let z : Pending = record { n = n; kind = PendingKind.Create; answer = Some l } in
     let m : PlainMessage = record { id = sent; to = pid_of machine 0; sender = manager; what = PlainWhat.Create image ls } in
-    let t = record (without_message s id) { manager = k.manager } in
+    let t = record (without_message s id) { manager = (manage.asks_for s.manager machine image l ls).manager } in
     let servers = encloses_servers a sent 0 ps in
     record {
       processes = λ q x e. process_same P a b q x (let w = encloses_process a sent 0 ps q in record { slot = w.slot; owner = w.owner }) (h.processes q x e);
-      messages = sent_home P t a b m u.messages
+      messages = sent_home P t a b m (at_home_out P s a id h).messages
           (λ i e. let w = encloses_message a sent 0 ps i e in (search arith))
           (record {
             receiver = place_as P (ap (λ (d : Bool). if d then to else c (Receiver sent)) (id_eq-same sent)) (h.rooted (pid_of machine 0));
@@ -135,17 +137,8 @@ moves_home P s v a id mid code child machine links to en at h =
       rooted = h.rooted;
       pending = ascends_last s.manager.pending 0 z h.pending;
     } in
-    let w = two_sends P (record (without_message s id) { manager = k.manager }) b m (a (Child code)) (unmoved v.acting) kept refl to (acts_at P manager v.acting (h.rooted manager) at) in
-    record {
-      processes = λ q x there. let y = w.processes q x there in record { slots = y.slots; owner = y.owner };
-      messages = λ i x there. let y = w.messages i x there in record { receiver = y.receiver; sender = y.sender; enclosed = y.enclosed };
-      children = w.children;
-      named = w.named;
-      answers = w.answers;
-      askers = w.askers;
-      rooted = w.rooted;
-      pending = w.pending;
-    }
+    at_home_as P (service.manager_took s id k) (λ h. elim h as (λ h_. given b (two m.id (a (Child code)) (unmoved v.acting)) h_ ≡ given a (manager_sends v a mid code k.message) h_) [ Slot q j ↦ refl | _ ↦ refl ])
+    (two_sends P (record (without_message s id) { manager = k.manager }) b m (a (Child code)) (unmoved v.acting) kept refl to (acts_at P manager v.acting (h.rooted manager) at))
 
 controls_home : (P : Pid → Place → Type 0) (s : OneKernel) (v : View) (a : Addresses) (id mid : MsgId) (code : ℕ) (o : Option Pid) (body : List ℕ) (links : List PlainLink) → manage.child_numbered s.manager.children code ≡ o → LinksHome P a mid links → v.acting ≡ 0 → AtHome P s a
     → TookAt P s v a id mid code (manage.controls s.manager s.machines o body links)
@@ -158,12 +151,6 @@ controls_home P s v a id mid code (Some child) (op ∷ machine ∷ []) links is 
 controls_home P s v a id mid code None (b ∷ []) links is en at h = bad_home P s v a id mid code links en at h
 controls_home P s v a id mid code None (b ∷ machine ∷ []) links is en at h = bad_home P s v a id mid code links en at h
 controls_home P s v a id mid code _ _ links is en at h = bad_home P s v a id mid code links en at h
-
-user_home : (P : Pid → Place → Type 0) (s : OneKernel) (v : View) (a : Addresses) (id mid : MsgId) (code : ℕ) (body : List ℕ) (links : List PlainLink) → LinksHome P a mid links → v.acting ≡ 0 → AtHome P s a
-    → TookAt P s v a id mid code (manage.takes_user s.manager s.machines (length s.images) code body links)
-user_home P s v a id mid code body links en at h =
-    by_test (TookAt P s v a id mid code) (code == 0) (manage.requests_child s.manager s.machines (length s.images) body links) (manage.controls s.manager s.machines (manage.child_numbered s.manager.children code) body links)
-    (requests_home P s v a id mid code body links en at h) (controls_home P s v a id mid code (manage.child_numbered s.manager.children code) body links refl en at h)
 
 -- an answer about a child
 enclosed_one : (P : Pid → Place → Type 0) (a : Addresses) (sent : MsgId) (pl : Place) (ls : List PlainLink) → ((k : ℕ) (w : PlainLink) → slice_get ls k ≡ Some w → (k ≡ 0) × (P w.to pl)) → (k : ℕ) (w : PlainLink) → slice_get ls k ≡ Some w
@@ -194,12 +181,10 @@ answers_home P s v a c id n r g byte ls (Some over) is there at h one count pend
     let from = unmoved v.acting in
     let to = a (Answer n) in
     let b = given c (gets (Receiver sent) to ∷ gets (Sender sent) from ∷ gets (Enclosed sent 0) from ∷ []) in
-    let m = board.goes_over manager g.sent over (byte ∷ []) ls in
-    let u = at_home_out P s a id h in
     let t = record (without_message s id) { manager = record g { sent = g.sent + 1 } } in
     record {
       processes = λ q x e. process_same P a b q x (let w = process q in record { slot = w.slot; owner = w.owner }) (h.processes q x e);
-      messages = sent_home P t a b m u.messages
+      messages = sent_home P t a b (board.goes_over manager g.sent over (byte ∷ []) ls) (at_home_out P s a id h).messages
           (λ i e. let w = message i in (search arith))
           (record {
             receiver = place_as P (ap (λ (d : Bool). if d then to else c (Receiver sent)) (id_eq-same sent)) (h.answers n r over there is);
@@ -215,10 +200,6 @@ answers_home P s v a c id n r g byte ls (Some over) is there at h one count pend
           ∙ ascends_more (manage.without_pending n s.manager.pending) 0 s.manager.sent (ascends_without s.manager.pending 0 s.manager.sent n h.pending);
     }
 
-child_last : (P : Pid → Place → Type 0) (ps : List Pid) (child : Pid) (n : ℕ) (q : Pid) (a : Addresses) → P child (unmoved child.home) → ((k : ℕ) (w : Pid) → manage.child_numbered ps k ≡ Some w → P w (a (Child k))) → manage.child_numbered (ps ++ child ∷ []) n ≡ Some q
-    → P q (given a (gets (Child (length ps + 1)) (unmoved child.home) ∷ []) (Child n))
-child_last P ps child n q a h1 h2 h3 = search (arith, get_last, place_as, pid_as)
-
 one_link : (P : Pid → Place → Type 0) (place : Place) (l : PlainLink) → P l.to place → (k : ℕ) (w : PlainLink) → slice_get (l ∷ []) k ≡ Some w → (k ≡ 0) × (P w.to place)
 one_link P place l at zero w e = let f : l ≡ w = cc in (refl, pid_as P (ap (λ (u : PlainLink). u.to) f) at)
 one_link P place l at (suc k) w e = absurd (let f : None ≡ Some w = e in cc)
@@ -227,16 +208,9 @@ one_link P place l at (suc k) w e = absurd (let f : None ≡ Some w = e in cc)
 over_child : (P : Pid → Place → Type 0) (t : OneKernel) (a : Addresses) (v : View) (n k : ℕ) (pl : Place) (g : Manager) (byte : ℕ) (ls : List PlainLink) (o : Option PlainLink)
     → AtHome P t (given (given a (gets (Child k) pl ∷ [])) (manager_answers v a n (manage.answers_over g o byte ls).message)) → AtHome P t (given a (gets (Child k) pl ∷ manager_answers v a n (manage.answers_over g o byte ls).message))
 over_child P t a v n k pl g byte ls None w = w
-over_child P t a v n k pl g byte ls (Some l) w = record {
-  processes = λ q x there. let z = w.processes q x there in record { slots = z.slots; owner = z.owner };
-  messages = λ i x there. let z = w.messages i x there in record { receiver = z.receiver; sender = z.sender; enclosed = z.enclosed };
-  children = w.children;
-  named = w.named;
-  answers = w.answers;
-  askers = w.askers;
-  rooted = w.rooted;
-  pending = w.pending;
-}
+over_child P t a v n k pl g byte ls (Some l) w =
+    let ys = manager_answers v a n (manage.answers_over g (Some l) byte ls).message in
+    at_home_as P t (λ h. elim h as (λ h_. given (given a (gets (Child k) pl ∷ [])) ys h_ ≡ given a (gets (Child k) pl ∷ ys) h_) [ Slot q j ↦ refl | _ ↦ refl ]) w
 
 created_by : (P : Pid → Place → Type 0) (s : OneKernel) (v : View) (a : Addresses) (id : MsgId) (m : PlainMessage) (child : Pid) (o : Option Pending) (k : manage.ManagerTook) → manage.pending_numbered m.id.n s.manager.pending ≡ o → manage.takes_created s.manager m.id.n child o ≡ Some k
     → v.acting ≡ 0 → AtHome P s a → AtHome P (service.manager_took s id k) (given a (gets (Child (length s.manager.children + 1)) (unmoved child.home) ∷ manager_answers v a m.id.n k.message))
@@ -245,12 +219,11 @@ created_by P s v a id m child (Some r) k is e at h =
     let g = record s.manager { children = s.manager.children ++ child ∷ []; pending = manage.without_pending m.id.n s.manager.pending } in
     let l = manage.control_link (length s.manager.children + 1) in
     let t = manage.answers_over g r.answer 0 (l ∷ []) in
-    let f : t ≡ k = cc in
     let c = given a (gets (Child (length s.manager.children + 1)) (unmoved child.home) ∷ []) in
     let w = answers_home P s v a c id m.id.n r g 0 (l ∷ []) r.answer refl is at h (one_link P (unmoved v.acting) l (acts_at P l.to v.acting (h.rooted l.to) at)) refl refl
     (λ q. record { slot = λ i. refl; owner = refl }) (λ i. record { receiver = refl; sender = refl; enclosed = λ j. refl }) (λ i. refl) (λ i. refl) (λ q. refl)
-    (λ n q there. child_last P s.manager.children child n q a (h.rooted child) h.children there) in
-    subst (λ (t : manage.ManagerTook). AtHome P (service.manager_took s id t) (given a (gets (Child (length s.manager.children + 1)) (unmoved child.home) ∷ manager_answers v a m.id.n t.message))) f
+    (λ n q there. (let e_ : P q (given a (gets (Child (length s.manager.children + 1)) (unmoved child.home) ∷ []) (Child n)) = search (arith, get_last, place_as, pid_as, h.rooted child, h.children) in e_)) in
+    subst (λ (t : manage.ManagerTook). AtHome P (service.manager_took s id t) (given a (gets (Child (length s.manager.children + 1)) (unmoved child.home) ∷ manager_answers v a m.id.n t.message))) (let f : t ≡ k = cc in f)
     (over_child P (service.manager_took s id t) a v m.id.n (length s.manager.children + 1) (unmoved child.home) g 0 (l ∷ []) r.answer w)
 
 -- a request has ended otherwise
@@ -283,25 +256,26 @@ manager_row P s t v a id m (PlainWhat.User code channel body links) is name ther
     let k = manage.takes_user s.manager s.machines (length s.images) code body links in
     let f : service.manager_took s id k ≡ t = cc in
     let hm = h.messages id m there in
+    let user_home : (P : Pid → Place → Type 0) (s : OneKernel) (v : View) (a : Addresses) (id mid : MsgId) (code : ℕ) (body : List ℕ) (links : List PlainLink) → LinksHome P a mid links → v.acting ≡ 0 → AtHome P s a
+      → TookAt P s v a id mid code (manage.takes_user s.manager s.machines (length s.images) code body links) = λ P s v a id mid code body links en at h.
+      by_test (TookAt P s v a id mid code) (code == 0) (manage.requests_child s.manager s.machines (length s.images) body links) (manage.controls s.manager s.machines (manage.child_numbered s.manager.children code) body links)
+      (requests_home P s v a id mid code body links en at h) (controls_home P s v a id mid code (manage.child_numbered s.manager.children code) body links refl en at h) in
     subst (λ (u : OneKernel). AtHome P u (given a (manager_sends v a m.id code k.message))) f
     (user_home P s v a id m.id code body links (λ n w g. place_as P (ap (λ (i : MsgId). a (Enclosed i n)) name) (hm.enclosed n w (ap (λ (x : PlainWhat). slice_get (links_in x) n) is ∙ g))) at h)
 manager_row P s t v a id m (PlainWhat.Created child) is name there at h e =
     let o = manage.takes_created s.manager m.id.n child (manage.pending_numbered m.id.n s.manager.pending) in
     let (k, took, last) = bind-is o (λ (x : manage.ManagerTook). Some (service.manager_took s id x)) t e in
-    let f : service.manager_took s id k ≡ t = cc in
-    subst (λ (u : OneKernel). AtHome P u (given a (manager_takes_burden s v a m (burden_of (PlainWhat.Created child)) o))) f
+    subst (λ (u : OneKernel). AtHome P u (given a (manager_takes_burden s v a m (burden_of (PlainWhat.Created child)) o))) (let f : service.manager_took s id k ≡ t = cc in f)
     (subst (λ (p : Option manage.ManagerTook). AtHome P (service.manager_took s id k) (given a (manager_takes_burden s v a m (burden_of (PlainWhat.Created child)) p))) (sym took) (created_by P s v a id m child (manage.pending_numbered m.id.n s.manager.pending) k refl took at h))
 manager_row P s t v a id m PlainWhat.NoRoom is name there at h e =
     let o = manage.takes_no_room s.manager m.id.n (manage.pending_numbered m.id.n s.manager.pending) in
     let (k, took, last) = bind-is o (λ (x : manage.ManagerTook). Some (service.manager_took s id x)) t e in
-    let f : service.manager_took s id k ≡ t = cc in
-    subst (λ (u : OneKernel). AtHome P u (given a (manager_takes_burden s v a m (burden_of PlainWhat.NoRoom) o))) f
+    subst (λ (u : OneKernel). AtHome P u (given a (manager_takes_burden s v a m (burden_of PlainWhat.NoRoom) o))) (let f : service.manager_took s id k ≡ t = cc in f)
     (subst (λ (p : Option manage.ManagerTook). AtHome P (service.manager_took s id k) (given a (manager_takes_burden s v a m (burden_of PlainWhat.NoRoom) p))) (sym took) (no_room_by P s v a id m.id.n (manage.pending_numbered m.id.n s.manager.pending) k refl took at h))
 manager_row P s t v a id m (PlainWhat.Moved outcome) is name there at h e =
     let o = manage.takes_moved s.manager m.id.n outcome (manage.pending_numbered m.id.n s.manager.pending) in
     let (k, took, last) = bind-is o (λ (x : manage.ManagerTook). Some (service.manager_took s id x)) t e in
-    let f : service.manager_took s id k ≡ t = cc in
-    subst (λ (u : OneKernel). AtHome P u (given a (manager_takes_burden s v a m (burden_of (PlainWhat.Moved outcome)) o))) f
+    subst (λ (u : OneKernel). AtHome P u (given a (manager_takes_burden s v a m (burden_of (PlainWhat.Moved outcome)) o))) (let f : service.manager_took s id k ≡ t = cc in f)
     (subst (λ (p : Option manage.ManagerTook). AtHome P (service.manager_took s id k) (given a (manager_takes_burden s v a m (burden_of (PlainWhat.Moved outcome)) p))) (sym took)
     (moved_by P s v a id m.id.n outcome (manage.pending_numbered m.id.n s.manager.pending) k refl took at h))
 manager_row P s t v a id m _ is name there at h e = cc

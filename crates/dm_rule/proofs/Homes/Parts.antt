@@ -1,10 +1,10 @@
 -- The parts of a group keep all of it.
 use Rattle.dm_rule.proofs.Names.{◌≡◌, ℕ, ◌+◌, ◌==◌, List, [], ◌∷◌, refl, ap, ◌∙◌, sym, subst, ⊤, Option, None, Some, MsgId, Label, OneKernel, bind, bind-is, Line, View, Pair, Point, after, moved, Part, Says, Routes, Again, Owns, Transmits}
-use Rattle.dm_rule.proofs.Names.{Spelled, behind, spelled, lines_of, packet_line, not, filter, arith}
+use Rattle.dm_rule.proofs.Names.{Spelled, behind, spelled, lines_of, packet_line, not, filter, arith, after_taken}
 use Rattle.dm_rule.specs.View as view
 use Rattle.dm_rule.proofs.Homes.Labels.{SaidAt, RingsHome, rings_same}
-use Rattle.dm_rule.proofs.Homes.Lists.{taken_lists}
 use Rattle.dm_rule.proofs.Homes.Lines.{NoneReplaced, Home, Kept, same_lists, packet_line_home, routes_keep, label_keeps}
+use Rattle.dm_rule.proofs.Homes.Lists.{ListsHome, taken_with, drop_first, pair_set, drop_one}
 
 -- labels that may stand anywhere in a group of a machine: a process's, where it is at home, and what drops messages
 abbrev pub SaidAnywhere : ℕ → Label → Type 0
@@ -18,9 +18,6 @@ SaidAnywhere m (Label.Receive p id) = p.home ≡ m
 SaidAnywhere m (Label.Refuse p id c) = p.home ≡ m
 SaidAnywhere m (Label.Dropped id) = ⊤
 SaidAnywhere m _ = ⊥
-
-pub said_at : (s : OneKernel) (m : ℕ) (l : Label) → SaidAnywhere m l → SaidAt s m l
-said_at s m l h1 = search arith
 
 -- lines that may stand anywhere in a group
 abbrev pub LineAnywhere : ℕ → Line → Type 0
@@ -53,12 +50,9 @@ pub acting_taken : (v : View) (b : ℕ) (o : Option MsgId) → (view.taken_id v 
 acting_taken v b None = refl
 acting_taken v b (Some id) = refl
 
-rings_taken : (v : View) (b : ℕ) (o : Option MsgId) → RingsHome v → RingsHome (view.taken_id v b o)
-rings_taken v b None h = h
-rings_taken v b (Some id) h = record { moves = h.moves; ring = h.ring; known = h.known }
-
 line_keeps : NoneReplaced → (r e : MsgId → ℕ) (pt pt' : Point) (l : Line) → LineAnywhere pt.view.acting l → Home r e pt → after pt (l ∷ []) ≡ Some pt' → Kept pt.view.acting pt'
-line_keeps none r e pt pt' (Line.Label l) at h is = label_keeps none r e pt pt' l (said_at pt.kernel pt.view.acting l at) h is
+line_keeps none r e pt pt' (Line.Label l) at h is =
+    label_keeps none r e pt pt' l ((let said_at : (s : OneKernel) (m : ℕ) (l : Label) → SaidAnywhere m l → SaidAt s m l = λ s m l h1. search arith in said_at) pt.kernel pt.view.acting l at) h is
 line_keeps none r e pt pt' (Line.Idle n) at h is =
     let f : moved pt (Line.Idle n) pt.kernel ≡ pt' = cc in subst (Kept pt.view.acting) f (record { r = r; e = e; home = still_home r e pt h; acting = refl })
 line_keeps none r e pt pt' (Line.Old a b n) at h is =
@@ -70,11 +64,14 @@ line_keeps none r e pt pt' (Line.Resent n c) at h is =
 line_keeps none r e pt pt' (Line.Packet a b k l) at h is =
     let f : moved pt (Line.Packet a b k l) pt.kernel ≡ pt' = cc in subst (Kept pt.view.acting) f (record { r = r; e = e; home = packet_line_home r e pt a b k l h; acting = refl })
 line_keeps none r e pt pt' (Line.Taken a b n) at h is =
-    let f : moved pt (Line.Taken a b n) pt.kernel ≡ pt' = cc in
+    let taken_lists : (s : OneKernel) (e : MsgId → ℕ) (v : View) (a b n : ℕ) → ListsHome s e v → ListsHome s e (after_taken v a b n) = λ s e v a b n h.
+      let p = v.pair a b in
+      search (arith, taken_with, drop_first, pair_set, drop_one) in
     let p = pt.view.pair a b in
-    let q : Pair = record p { taken = p.taken + 1; kept = filter (λ k. not (k == n)) p.kept } in
-    let w = view.with_pair pt.view a b q in
-    subst (Kept pt.view.acting) f (record {
+    let w = view.with_pair pt.view a b (record p { taken = p.taken + 1; kept = filter (λ k. not (k == n)) p.kept }) in
+    let rings_taken : (v : View) (b : ℕ) (o : Option MsgId) → RingsHome v → RingsHome (view.taken_id v b o) =
+      λ v b o h. elim o as (λ o_. RingsHome (view.taken_id v b o_)) [ None ↦ h | Some id' ↦ record { moves = h.moves; ring = h.ring; known = h.known } ] in
+    subst (Kept pt.view.acting) (let f : moved pt (Line.Taken a b n) pt.kernel ≡ pt' = cc in f) (record {
       r = r;
       e = e;
       home = record { sound = h.sound; at = h.at; rings = rings_taken w b (view.oldest p) (rings_same pt.view w refl refl refl h.rings); lists = taken_lists pt.kernel e pt.view a b n h.lists };
@@ -103,12 +100,10 @@ part_keeps none r e pt pt' _ ls at h is next = absurd at
 
 pub parts_keep : NoneReplaced → (ps : List Part) (r e : MsgId → ℕ) (m : ℕ) (pt : Point) (w : Spelled) → pt.view.acting ≡ m → PartsAnywhere m ps → Home r e pt → spelled pt ps ≡ Some w → Kept m w.point
 parts_keep none [] r e m pt w acting at h is =
-    let z : Spelled = record { lines = []; point = pt } in
-    let f : z ≡ w = cc in subst (λ (x : Spelled). Kept m x.point) f (record { r = r; e = e; home = h; acting = acting })
+    let f : (record { lines = []; point = pt }) ≡ w = cc in subst (λ (x : Spelled). Kept m x.point) f (record { r = r; e = e; home = h; acting = acting })
 parts_keep none (p ∷ ps) r e m pt w acting at h is =
     let (ls, lines, rest) = bind-is (lines_of pt p) (λ (xs : List Line). bind (after pt xs) (λ (q : Point). bind (spelled q ps) (λ (z : Spelled). Some (behind xs z)))) w is in
     let (next, comes, last) = bind-is (after pt ls) (λ (q : Point). bind (spelled q ps) (λ (z : Spelled). Some (behind ls z))) w rest in
     let (z, more, end) = bind-is (spelled next ps) (λ (y : Spelled). Some (behind ls y)) w last in
-    let f : behind ls z ≡ w = cc in
     let k = part_keeps none r e pt next p ls (subst (λ (n : ℕ). PartAnywhere n p) (sym acting) at.0) h lines comes in
-    subst (λ (x : Spelled). Kept m x.point) f (parts_keep none ps k.r k.e m next z (k.acting ∙ acting) at.1 k.home more)
+    subst (λ (x : Spelled). Kept m x.point) (let f : behind ls z ≡ w = cc in f) (parts_keep none ps k.r k.e m next z (k.acting ∙ acting) at.1 k.home more)

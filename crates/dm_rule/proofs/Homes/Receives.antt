@@ -25,8 +25,7 @@ set_off (x ∷ xs) (suc k) (suc j) y e = set_off xs k j y (let f : (k == j) ≡ 
 
 empty_at : {L : Type 0} (slots : List (Option L)) → link_at slots (position_or_len is_none slots) ≡ None
 empty_at (Some x ∷ xs) =
-    let next : 1 + position_or_len is_none xs ≡ suc (position_or_len is_none xs) = omega arith in
-    ap (λ (n : ℕ). link_at (Some x ∷ xs) n) next ∙ empty_at xs
+    ap (λ (n : ℕ). link_at (Some x ∷ xs) n) (let next : 1 + position_or_len is_none xs ≡ suc (position_or_len is_none xs) = omega arith in next) ∙ empty_at xs
 empty_at _ = refl
 
 pub record IsEmptySlot {L : Type 0} (slots : List (Option L)) (k : ℕ) : Type 0 where
@@ -40,12 +39,9 @@ pub is_empty : {L : Type 0} (slots : List (Option L)) (k : ℕ) → first_empty 
 is_empty slots k e = empty_if slots (position_or_len is_none slots) k (nat_lt (position_or_len is_none slots) (length slots)) refl (empty_at slots) e
 
 -- a link that stands in a slot stays while others are placed
-stays_step : (t : receiving.RegsAndLinks) (r : ℕ) (l : PlainLink) (j : ℕ) (w : PlainLink) (o : Option ℕ) → first_empty t.links ≡ o → link_at t.links j ≡ Some w → link_at (receiving.place_into t r l o).links j ≡ Some w
-stays_step t r l j w o h1 h2 = search (arith, is_empty, set_off)
-
 stays : (ls : List PlainLink) (t : receiving.RegsAndLinks) (r : ℕ) (j : ℕ) (w : PlainLink) → link_at t.links j ≡ Some w → link_at (receiving.place_links t r ls).links j ≡ Some w
 stays [] t r j w e = e
-stays (l ∷ ls) t r j w e = stays ls (receiving.place_into t r l (first_empty t.links)) (r + 1) j w (stays_step t r l j w (first_empty t.links) refl e)
+stays (l ∷ ls) t r j w e = stays ls (receiving.place_into t r l (first_empty t.links)) (r + 1) j w (let e_ : link_at (receiving.place_into t r l (first_empty t.links)).links j ≡ Some w = search (arith, is_empty, set_off) in e_)
 
 -- the links of a message from number n on name homes
 abbrev EnclosedHome : (Pid → Place → Type 0) → Addresses → MsgId → ℕ → List PlainLink → Type 0
@@ -69,15 +65,11 @@ placed_step P a p id l ls n r t j w (Some slot) rest is en old e =
     let gs = receives_links a p id (n + 1) (slot_after t.links l (Some slot)) ls in
     elim (cases_Bool (slot == j)) [
       | inl same ↦
-          let at : slot ≡ j = grind (arith, nat_tests) in
           let all : (pid_eq p p && (slot == j)) ≡ true = let g = pid_eq-same p in grind (arith, nat_tests) in
-          let stood : link_at u.links j ≡ Some l = ap (λ (i : ℕ). link_at u.links i) (sym at) ∙ set_at t.links slot (Some l) (is_empty t.links slot is).within in
-          let f : Some l ≡ Some w = sym (stays ls u (r + 1) j l stood) ∙ e in
-          let lw : l ≡ w = cc in
-          place_as P (ap (λ (c : Bool). if c then a (Enclosed id n) else given a gs (Slot p j)) all) (pid_as P (ap (λ (k : PlainLink). k.to) lw) (en 0 n l refl (omega arith)))
+          let f : Some l ≡ Some w = sym (stays ls u (r + 1) j l (ap (λ (i : ℕ). link_at u.links i) (sym (let at : slot ≡ j = grind (arith, nat_tests) in at)) ∙ set_at t.links slot (Some l) (is_empty t.links slot is).within)) ∙ e in
+          place_as P (ap (λ (c : Bool). if c then a (Enclosed id n) else given a gs (Slot p j)) all) (pid_as P (ap (λ (k : PlainLink). k.to) (let lw : l ≡ w = cc in lw)) (en 0 n l refl (omega arith)))
       | inr apart ↦
-          let all : (pid_eq p p && (slot == j)) ≡ false = grind (arith, nat_tests) in
-          place_as P (ap (λ (c : Bool). if c then a (Enclosed id n) else given a gs (Slot p j)) all)
+          place_as P (ap (λ (c : Bool). if c then a (Enclosed id n) else given a gs (Slot p j)) (let all : (pid_eq p p && (slot == j)) ≡ false = grind (arith, nat_tests) in all))
           (rest (n + 1) (r + 1) u j w (after_first P a id n l ls en) (λ f. old (sym (set_off t.links slot j (Some l) apart) ∙ f)) e)
     ]
 
@@ -154,22 +146,20 @@ completing_home P s a p id d h e =
     let (x, hand, rest) = bind-is (kernel.at_hand s p) (λ (y : PlainProcess). bind (s.bag id) (receiving.completes_with p y)) d e in
     let alive : kernel.alive (s.processes p) ≡ Some x = ap kernel.alive (at_hand-is s p x hand).1 in
     let (m, there, last) = bind-is (s.bag id) (receiving.completes_with p x) d rest in
-    let hm = h.messages id m there in
     record {
       x = x;
       m = m;
       alive = alive;
       there = there;
-      home = completes_with_home P a p id x m x.stopped d (h.processes p x alive) (λ k j w f g. let jk : j ≡ k = omega (arith, g) in place_as P (ap (λ (i : ℕ). a (Enclosed id i)) jk) (hm.enclosed k w f)) last;
+      home = completes_with_home P a p id x m x.stopped d (h.processes p x alive) (λ k j w f g. let jk : j ≡ k = omega (arith, g) in place_as P (ap (λ (i : ℕ). a (Enclosed id i)) jk) ((h.messages id m there).enclosed k w f)) last;
     }
 
 receive_row : (P : Pid → Place → Type 0) (s t : OneKernel) (v : View) (a : Addresses) (p : Pid) (id : MsgId) (d : receiving.Completed) → Completing P s a p id d → kernel.receives s p id d ≡ Some t → AtHome P s a → AtHome P t (given a (gives s v a (Label.Receive p id)))
 receive_row P s t v a p id (receiving.Receives y) w e h =
-    let eq : kernel.goes_on (without_message s id) p y ≡ t = cc in
     let gs = receives_burden a p id w.x (burden_of w.m.what) in
     let gs_is : gs ≡ gives s v a (Label.Receive p id) = ap (addresses.reception_gets a p id (Some w.x)) (sym w.there) ∙ ap (λ (o : Option PlainProcess). addresses.reception_gets a p id o (s.bag id)) (sym w.alive) in
     let o = w.home.only in
-    subst (λ (u : OneKernel). AtHome P u (given a (gives s v a (Label.Receive p id)))) eq
+    subst (λ (u : OneKernel). AtHome P u (given a (gives s v a (Label.Receive p id)))) (let eq : kernel.goes_on (without_message s id) p y ≡ t = cc in eq)
     (subst (λ (g : List Gets). AtHome P (kernel.goes_on (without_message s id) p y) (given a g)) gs_is
     (at_home_process P (without_message s id) a (given a gs) p (Alive y) (at_home_out P s a id h) o.others (alive_on P (given a gs) p y w.home.process) o.messages o.servers))
 receive_row P s t v a p id (receiving.Refuses c y) w e h = cc

@@ -1,7 +1,7 @@
 -- What processes do keeps addresses where they may be.
 use Rattle.dm_rule.proofs.Names.{◌≡◌, ℕ, zero, suc, ◌+◌, ◌==◌, ◌&&◌, Bool, true, false, List, [], ◌∷◌, refl, ap, ◌∙◌, sym, subst, inl, inr, arith, if◌then◌else◌, slice_get, None, Some, cases_Bool, nat_tests, Pid, Place, pid_eq, MsgId}
-use Rattle.dm_rule.proofs.Names.{id_eq, PlainMessage, PlainProcess, PlainStatus, Life, Alive, OneKernel, with_process, with_sent, without_message, pid_eq-is, id_eq-is, id_eq-same, sent_at, sent_off, stayed, bind-is, Addresses, given, Slot}
-use Rattle.dm_rule.proofs.Names.{Owner, Receiver, Sender, Enclosed, Child, Name, Answer, AskedBy, encloses, at_hand-is}
+use Rattle.dm_rule.proofs.Names.{id_eq, PlainMessage, PlainProcess, Life, Alive, OneKernel, with_process, with_sent, without_message, pid_eq-is, id_eq-is, id_eq-same, sent_at, sent_off, stayed, bind-is, Addresses, given, Slot, Owner}
+use Rattle.dm_rule.proofs.Names.{Receiver, Sender, Enclosed, Child, Name, Answer, AskedBy, encloses, at_hand-is}
 use Rattle.dm_onekernel.specs.Step as kernel
 use Rattle.dm_rule.proofs.Homes.{place_as, HomeProcess, HomeMessage, AtHome}
 
@@ -44,8 +44,7 @@ pub sent_home : (P : Pid → Place → Type 0) (s : OneKernel) (a b : Addresses)
 sent_home P s a b m h off on i x e = elim (cases_Bool (id_eq m.id i)) [
   | inl same ↦
       let f : Some m ≡ Some x = sym (sent_at s m i same) ∙ e in
-      let g : m ≡ x = cc in
-      subst (λ (v : PlainMessage). HomeMessage P b i v) g (subst (λ (j : MsgId). HomeMessage P b j m) (id_eq-is m.id i same) on)
+      subst (λ (v : PlainMessage). HomeMessage P b i v) (let g : m ≡ x = cc in g) (subst (λ (j : MsgId). HomeMessage P b j m) (id_eq-is m.id i same) on)
   | inr apart ↦ message_same P a b i x (off i apart) (h i x (sym (sent_off s m i apart) ∙ e))
 ]
 
@@ -90,13 +89,10 @@ running_home_if : (P : Pid → Place → Type 0) (a : Addresses) (p : Pid) (y : 
 running_home_if P a p y true x h e = cc
 running_home_if P a p y false x h e = let f : y ≡ x = cc in subst (HomeProcess P a p) f h
 
-running_home_of : (P : Pid → Place → Type 0) (a : Addresses) (p : Pid) (y : PlainProcess) (st : PlainStatus) (x : PlainProcess) → HomeProcess P a p y → kernel.if_ready y st ≡ Some x → HomeProcess P a p x
-running_home_of P a p y st x h1 h2 = search (arith, running_home_if)
-
 pub running_home : (P : Pid → Place → Type 0) (s : OneKernel) (a : Addresses) (p : Pid) (x : PlainProcess) → AtHome P s a → kernel.running s p ≡ Some x → HomeProcess P a p x
 running_home P s a p x h e =
     let (y, is, ready) = bind-is (kernel.at_hand s p) (λ (v : PlainProcess). kernel.if_ready v v.status) x e in
-    running_home_of P a p y y.status x (h.processes p y (ap kernel.alive (at_hand-is s p y is).1)) ready
+    search (arith, running_home_if, h.processes p y (ap kernel.alive (at_hand-is s p y is).1))
 
 -- links of an enclosing list
 encloses_slot : (a : Addresses) (id : MsgId) (n : ℕ) (ps : List Place) (q : Pid) (k : ℕ) → given a (encloses id n ps) (Slot q k) ≡ a (Slot q k)
@@ -149,8 +145,7 @@ encloses_message a id n ps i e = record { receiver = encloses_receiver a id n ps
 pub encloses_at : (a : Addresses) (id : MsgId) (n : ℕ) (ps : List Place) (k j : ℕ) (p : Place) → slice_get ps k ≡ Some p → j ≡ n + k → given a (encloses id n ps) (Enclosed id j) ≡ p
 encloses_at a id n [] k j p e f = cc
 encloses_at a id n (x ∷ ps) zero j p e f =
-    let same : (id_eq id id && (n == j)) ≡ true = let g = id_eq-same id in grind (arith, nat_tests) in
-    let is : x ≡ p = cc in ap (λ (c : Bool). if c then x else given a (encloses id (n + 1) ps) (Enclosed id j)) same ∙ is
+    let is : x ≡ p = cc in ap (λ (c : Bool). if c then x else given a (encloses id (n + 1) ps) (Enclosed id j)) (let same : (id_eq id id && (n == j)) ≡ true = let g = id_eq-same id in grind (arith, nat_tests) in same) ∙ is
 encloses_at a id n (x ∷ ps) (suc k) j p e f =
     let apart : (id_eq id id && (n == j)) ≡ false = let g = id_eq-same id in grind (arith, nat_tests) in
     ap (λ (c : Bool). if c then x else given a (encloses id (n + 1) ps) (Enclosed id j)) apart ∙ encloses_at a id (n + 1) ps k j p e (omega (arith, f))

@@ -1,7 +1,7 @@
 -- What servers do keeps addresses where they may be.
 use Rattle.dm_rule.proofs.Names.{◌≡◌, ℕ, zero, suc, ◌+◌, ◌==◌, ◌&&◌, Bool, true, false, List, [], ◌∷◌, ◌++◌, refl, ap, ◌∙◌, sym, subst, ◌⊎◌, inl, inr, arith, nat_lt, nat_le, length, if◌then◌else◌, slice_get, Option, None, Some, cases_Bool}
 use Rattle.dm_rule.proofs.Names.{nat_tests, Pid, Place, PlainLink, MsgId, id_eq, id_of, PlainMessage, PlainWhat, bind, OneKernel, without_message, id_eq-same, View, Addresses, gets, given, Enclosed, unmoved, NamedLink, Pending, switchboard}
-use Rattle.dm_rule.proofs.Names.{is_general, Child, Name, Answer, AskedBy, place_named, board_finds, board_keeps, board_takes_burden, links_in, ascends, burden_of}
+use Rattle.dm_rule.proofs.Names.{is_general, Child, Name, Answer, AskedBy, place_named, board_finds, board_keeps, board_takes_burden, links_in, ascends, burden_of, and_parts}
 use Rattle.dm_rule.proofs.Homes.{place_as, pid_as, acts_at, AtHome}
 use Rattle.dm_rule.proofs.Homes.Rows.{SameProcess, SameMessage, sent_home, at_home_out, process_same}
 use Rattle.dm_rule.proofs.Homes.Serves.{two, two_off}
@@ -9,6 +9,7 @@ use Rattle.dm_rule.proofs.Requests.{by_test}
 use Rattle.dm_onekernel.specs.Service as service
 use Rattle.dm_onekernel.specs.Switchboard as board
 use Rattle.dm_onekernel.specs.Manager as manage
+pub use Rattle.std.proofs.lemmas.Bool.{and_parts as and-both}
 
 -- a list with one more at its end
 pub get_last : {A : Type 0} (xs : List A) (y : A) (n : ℕ) (q : A) → slice_get (xs ++ y ∷ []) n ≡ Some q → (((length xs == n) ≡ true) × (y ≡ q)) ⊎ (((length xs == n) ≡ false) × (slice_get xs n ≡ Some q))
@@ -20,41 +21,36 @@ get_last (x ∷ xs) y (suc n) q e = elim (get_last xs y n q e) [
   | inr h ↦ inr (let g = h.0 in let f : (length (x ∷ xs) == suc n) ≡ false = grind (arith, nat_tests) in f, h.1)
 ]
 
--- requests in order
-pub and-both : (b c : Bool) → (b && c) ≡ true → (b ≡ true) × (c ≡ true)
-and-both true c e = (refl, e)
-and-both false c e = cc
-
 ascends_le : (ps : List Pending) (from to : ℕ) → ascends from ps to ≡ true → nat_le from to ≡ true
 ascends_le [] from to e = e
 ascends_le (p ∷ ps) from to e =
-    let k = and-both (nat_le from p.n) (ascends (p.n + 1) ps to) e in
+    let k = and_parts (nat_le from p.n) (ascends (p.n + 1) ps to) e in
     let first = k.0 in
     let rest = ascends_le ps (p.n + 1) to k.1 in grind (arith, nat_tests)
 
 pub ascends_more : (ps : List Pending) (from to : ℕ) → ascends from ps to ≡ true → ascends from ps (to + 1) ≡ true
 ascends_more [] from to e = grind (arith, nat_tests)
 ascends_more (p ∷ ps) from to e =
-    let k = and-both (nat_le from p.n) (ascends (p.n + 1) ps to) e in
+    let k = and_parts (nat_le from p.n) (ascends (p.n + 1) ps to) e in
     ap (λ (b : Bool). b && ascends (p.n + 1) ps (to + 1)) k.0 ∙ ascends_more ps (p.n + 1) to k.1
 
 ascends_less : (ps : List Pending) (from less to : ℕ) → nat_le less from ≡ true → ascends from ps to ≡ true → ascends less ps to ≡ true
 ascends_less [] from less to le e = grind (arith, nat_tests)
 ascends_less (p ∷ ps) from less to le e =
-    let k = and-both (nat_le from p.n) (ascends (p.n + 1) ps to) e in
+    let k = and_parts (nat_le from p.n) (ascends (p.n + 1) ps to) e in
     let first = k.0 in
     let f : nat_le less p.n ≡ true = grind (arith, nat_tests) in ap (λ (b : Bool). b && ascends (p.n + 1) ps to) f ∙ k.1
 
 pub ascends_last : (ps : List Pending) (from : ℕ) (z : Pending) → ascends from ps z.n ≡ true → ascends from (ps ++ z ∷ []) (z.n + 1) ≡ true
 ascends_last [] from z e = grind (arith, nat_tests)
 ascends_last (p ∷ ps) from z e =
-    let k = and-both (nat_le from p.n) (ascends (p.n + 1) ps z.n) e in
+    let k = and_parts (nat_le from p.n) (ascends (p.n + 1) ps z.n) e in
     ap (λ (b : Bool). b && ascends (p.n + 1) (ps ++ z ∷ []) (z.n + 1)) k.0 ∙ ascends_last ps (p.n + 1) z k.1
 
 pub ascends_without : (ps : List Pending) (from to n : ℕ) → ascends from ps to ≡ true → ascends from (manage.without_pending n ps) to ≡ true
 ascends_without [] from to n e = e
 ascends_without (p ∷ ps) from to n e =
-    let k = and-both (nat_le from p.n) (ascends (p.n + 1) ps to) e in
+    let k = and_parts (nat_le from p.n) (ascends (p.n + 1) ps to) e in
     let first = k.0 in
     elim (cases_Bool (p.n == n)) [
       | inl same ↦
@@ -67,7 +63,7 @@ ascends_without (p ∷ ps) from to n e =
 pub numbered_from : (ps : List Pending) (from to n : ℕ) (r : Pending) → ascends from ps to ≡ true → manage.pending_numbered n ps ≡ Some r → (nat_le from n ≡ true) × (nat_lt n to ≡ true)
 numbered_from [] from to n r e f = cc
 numbered_from (p ∷ ps) from to n r e f =
-    let k = and-both (nat_le from p.n) (ascends (p.n + 1) ps to) e in
+    let k = and_parts (nat_le from p.n) (ascends (p.n + 1) ps to) e in
     let first = k.0 in
     elim (cases_Bool (p.n == n)) [
       | inl same ↦
@@ -87,8 +83,7 @@ pending_last [] n z r h e = elim (cases_Bool (z.n == n)) [
 pending_last (p ∷ ps) n z r h e = elim (cases_Bool (p.n == n)) [
   | inl same ↦
       let one : manage.pending_numbered n (p ∷ ps) ≡ Some p = ap (λ (b : Bool). if b then Some p else manage.pending_numbered n ps) same in
-      let f : Some p ≡ Some r = sym (ap (λ (b : Bool). if b then Some p else manage.pending_numbered n (ps ++ z ∷ [])) same) ∙ e in
-      inr (h p one, one ∙ f)
+      inr (h p one, one ∙ (sym (ap (λ (b : Bool). if b then Some p else manage.pending_numbered n (ps ++ z ∷ [])) same) ∙ e))
   | inr apart ↦
       let off : manage.pending_numbered n (p ∷ ps) ≡ manage.pending_numbered n ps = ap (λ (b : Bool). if b then Some p else manage.pending_numbered n ps) apart in
       elim (pending_last ps n z r (λ q f. h q (off ∙ f)) (sym (ap (λ (b : Bool). if b then Some p else manage.pending_numbered n (ps ++ z ∷ [])) apart) ∙ e)) [
@@ -100,13 +95,12 @@ pending_last (p ∷ ps) n z r h e = elim (cases_Bool (p.n == n)) [
 pub still_pending : (ps : List Pending) (from to n k : ℕ) (r : Pending) → ascends from ps to ≡ true → manage.pending_numbered k (manage.without_pending n ps) ≡ Some r → manage.pending_numbered k ps ≡ Some r
 still_pending [] from to n k r e f = f
 still_pending (p ∷ ps) from to n k r e f =
-    let w = and-both (nat_le from p.n) (ascends (p.n + 1) ps to) e in
+    let w = and_parts (nat_le from p.n) (ascends (p.n + 1) ps to) e in
     elim (cases_Bool (p.n == n)) [
       | inl same ↦
           let g : manage.pending_numbered k ps ≡ Some r = sym (ap (λ (b : Bool). manage.pending_numbered k (if b then ps else p ∷ manage.without_pending n ps)) same) ∙ f in
           let above = (numbered_from ps (p.n + 1) to k r w.1 g).0 in
-          let off : (p.n == k) ≡ false = grind (arith, nat_tests) in
-          ap (λ (b : Bool). if b then Some p else manage.pending_numbered k ps) off ∙ g
+          ap (λ (b : Bool). if b then Some p else manage.pending_numbered k ps) (let off : (p.n == k) ≡ false = grind (arith, nat_tests) in off) ∙ g
       | inr apart ↦
           let g : manage.pending_numbered k (p ∷ manage.without_pending n ps) ≡ Some r = sym (ap (λ (b : Bool). manage.pending_numbered k (if b then ps else p ∷ manage.without_pending n ps)) apart) ∙ f in
           elim (cases_Bool (p.n == k)) [
@@ -151,9 +145,8 @@ found_at name (k ∷ ks) n l e = elim (cases_Bool (board.bytes_eq k.name name)) 
       record { i = 0; k = k; there = refl; link = let g : k.link ≡ l = cc in g; place = ap (λ (b : Bool). if b then n else place_named name ks (n + 1)) same ∙ (let g : n ≡ n + 0 = omega arith in g) }
   | inr apart ↦
       let h = found_at name ks (n + 1) l (sym (ap (λ (b : Bool). if b then Some k.link else board.link_named name ks) apart) ∙ e) in
-      let hp = h.place in
       let hi = h.i in
-      record { i = suc hi; k = h.k; there = h.there; link = h.link; place = ap (λ (b : Bool). if b then n else place_named name ks (n + 1)) apart ∙ hp ∙ (let g : (n + 1) + hi ≡ n + suc hi = omega arith in g) }
+      record { i = suc hi; k = h.k; there = h.there; link = h.link; place = ap (λ (b : Bool). if b then n else place_named name ks (n + 1)) apart ∙ h.place ∙ (let g : (n + 1) + hi ≡ n + suc hi = omega arith in g) }
 ]
 
 found_one : (P : Pid → Place → Type 0) (a : Addresses) (sent : MsgId) (pl : Place) (l : PlainLink) → P l.to pl → (n : ℕ) (w : PlainLink) → slice_get (l ∷ []) n ≡ Some w → P w.to (given a (gets (Enclosed sent 0) pl ∷ []) (Enclosed sent n))
@@ -166,16 +159,13 @@ looks_up_home P a id sent names op name (Some l) is h =
     let f = found_at name names 0 l is in
     search (arith, place_as, pid_as, found_one)
 
-registers_home : (P : Pid → Place → Type 0) (a : Addresses) (id sent : MsgId) (names : List NamedLink) (op : ℕ) (name : List ℕ) (l : PlainLink) (o : Option PlainLink) → P l.to (a (Enclosed id 1)) → NamesHome P a names
-    → AsksHome P a id sent names (op ∷ name) (board.registers_new names name l o)
-registers_home P a id sent names op name l o h1 h2 = search (arith, plain_asked, get_last, place_as, pid_as)
-
 to_register : (P : Pid → Place → Type 0) (a : Addresses) (id sent : MsgId) (names : List NamedLink) (op : ℕ) (name : List ℕ) (ls : List PlainLink) → ((n : ℕ) (w : PlainLink) → slice_get ls n ≡ Some w → P w.to (a (Enclosed id (suc n)))) → NamesHome P a names
     → AsksHome P a id sent names (op ∷ name) (board.asks_to_register names name ls)
 to_register P a id sent names op name (l ∷ []) en h =
+    let registers_home : AsksHome P a id sent names (op ∷ name) (board.registers_new names name l (board.link_named name names)) = search (arith, plain_asked, get_last, place_as, pid_as, en 0 l refl) in
     by_test (AsksHome P a id sent names (op ∷ name)) (board.is_name name) (board.registers_name names name l) (board.board_bad_request names)
     (by_test (AsksHome P a id sent names (op ∷ name)) (is_general l.kind) (board.registers_new names name l (board.link_named name names)) (record { names = names; answer = board.BadLink })
-    (registers_home P a id sent names op name l (board.link_named name names) (en 0 l refl) h) (plain_asked P a sent names board.BadLink refl h))
+    registers_home (plain_asked P a sent names board.BadLink refl h))
     (plain_asked P a sent names board.BadRequest refl h)
 to_register P a id sent names op name _ en h = plain_asked P a sent names board.BadRequest refl h
 
@@ -198,18 +188,16 @@ board_request P s v a id code channel body [] en at h =
     let u = at_home_out P s a id h in
     record { processes = u.processes; messages = u.messages; children = u.children; named = u.named; answers = u.answers; askers = u.askers; rooted = u.rooted; pending = u.pending }
 board_request P s v a id code channel body (l ∷ ls) en at h =
-    let u = at_home_out P s a id h in
     let sent = id_of switchboard s.switchboard.sent in
     let asked = board.asks s.switchboard.names body ls in
     let k = asks_home P a id sent s.switchboard.names body ls (λ n w e. en (suc n) w e) h.named in
     let b = given a (board_finds a sent s.switchboard.names body asked.answer ++ board_keeps a id s.switchboard.names asked.answer) in
     let to = a (Enclosed id 0) in
     let from = unmoved v.acting in
-    let m = board.goes_over switchboard s.switchboard.sent l (board.code_of_answer asked.answer ∷ []) (board.links_of_answer asked.answer) in
     let t = record (without_message s id) { switchboard = (board.takes_request s.switchboard body (l ∷ ls)).switchboard } in
     record {
       processes = λ q x e. process_same P a (given b (two sent to from)) q x (let w = k.process q in record { slot = w.slot; owner = w.owner }) (h.processes q x e);
-      messages = sent_home P t a (given b (two sent to from)) m u.messages
+      messages = sent_home P t a (given b (two sent to from)) (board.goes_over switchboard s.switchboard.sent l (board.code_of_answer asked.answer ∷ []) (board.links_of_answer asked.answer)) (at_home_out P s a id h).messages
           (λ i e. let w = k.message i e in let z = two_off b sent to from i e in record { receiver = z.receiver ∙ w.receiver; sender = z.sender ∙ w.sender; enclosed = w.enclosed })
           ((search (arith, place_as, id_eq-same, acts_at)));
       children = λ n q e. place_as P (k.child n) (h.children n q e);
@@ -224,7 +212,6 @@ pub board_row : (P : Pid → Place → Type 0) (s t : OneKernel) (v : View) (a :
     → bind (board.board_takes s.switchboard m w) (λ (k : board.BoardTook). Some (service.switchboard_took s id k)) ≡ Some t → AtHome P t (given a (board_takes_burden s v a id (burden_of w)))
 board_row P s t v a id m (PlainWhat.User code channel body links) is there at h e =
     let k : service.switchboard_took s id (board.takes_request s.switchboard body links) ≡ t = cc in
-    let hm = h.messages id m there in
     subst (λ (u : OneKernel). AtHome P u (given a (board_takes_burden s v a id (burden_of (PlainWhat.User code channel body links))))) k
-    (board_request P s v a id code channel body links (λ n w f. hm.enclosed n w (ap (λ (x : PlainWhat). slice_get (links_in x) n) is ∙ f)) at h)
+    (board_request P s v a id code channel body links (λ n w f. (h.messages id m there).enclosed n w (ap (λ (x : PlainWhat). slice_get (links_in x) n) is ∙ f)) at h)
 board_row P s t v a id m _ is there at h e = cc

@@ -3,6 +3,7 @@ use Rattle.dm_rule.proofs.Names.{◌≡◌, ℕ, zero, suc, ◌+◌, ◌==◌, �
 use Rattle.dm_rule.proofs.Names.{pid_eq, PlainLink, link_at, MsgId, id_eq, Label, Why, PlainMessage, PlainWhat, Reply, bind, PlainProcess, PlainStatus, Moving, Alive, OneKernel, with_process, with_sent, without_message, pid_eq-same}
 use Rattle.dm_rule.proofs.Names.{id_eq-same, bind-is, when-is, View, Addresses, Gets, gets, given, gives, Slot, Owner, Receiver, Sender, Enclosed, unmoved, acting_place, replicate, ◌-◌, take, drop, Direction, BootImage, first_number}
 use Rattle.dm_rule.proofs.Names.{answer_id, answer_to, begun, pid_of, answer_gets, serves_burden, landing_gets, child_links, links_in, at_hand-is, AskedBy, MoveNote, Outcome, with_note, without_note, ends_move-is, burden_of, option_map_or}
+use Rattle.dm_rule.proofs.Names.{cond_some}
 use Rattle.dm_onekernel.specs.Kernel.{Ended}
 use Rattle.dm_rule.proofs.Homes.{place_as, pid_as, acts_at, HomeProcess, AtHome}
 use Rattle.dm_rule.proofs.Homes.Rows.{SameProcess, SameMessage, SameServers, sent_home, at_home_process, at_home_out, home_goes, alive_on, message_same, process_same}
@@ -13,6 +14,7 @@ use Rattle.dm_rule.specs.Given as giving
 use Rattle.dm_rule.specs.Addresses as addresses
 use Rattle.dm_onekernel.specs.Pieces as pieces
 use Rattle.dm_onekernel.specs.Service as service
+pub use Rattle.dm_laws.proofs.Facts.{if_some-is as some_is}
 
 -- the receiver and the sender of a new message get places
 abbrev pub two : MsgId → Place → Place → List Gets
@@ -52,8 +54,7 @@ pub dropped_home : (P : Pid → Place → Type 0) (s t : OneKernel) (a : Address
 dropped_home P s t a id is h =
     let (m, there, rest) = bind-is (s.bag id) (λ (w : PlainMessage). bind (kernel.why_ended (s.processes w.to)) (kernel.drops s id w)) t is in
     let (y, gone, last) = bind-is (kernel.why_ended (s.processes m.to)) (kernel.drops s id m) t rest in
-    let k = when-is (service.is_dropped m.what) (without_message s id) t last in
-    subst (λ (u : OneKernel). AtHome P u a) k.1 (at_home_out P s a id h)
+    subst (λ (u : OneKernel). AtHome P u a) (when-is (service.is_dropped m.what) (without_message s id) t last).1 (at_home_out P s a id h)
 
 -- the names of messages are their own
 abbrev pub Named : OneKernel → Type 0
@@ -71,25 +72,20 @@ abbrev pub EndedAt : (Pid → Place → Type 0) → OneKernel → View → Addre
 EndedAt P s v a id = (m : PlainMessage) → s.bag id ≡ Some m → P m.to (record { at = v.acting; moves = (a (Receiver id)).moves })
 
 -- gone
-gone_links : (v w : PlainWhat) → service.gone_what v ≡ Some w → links_in w ≡ []
-gone_links v w h1 = search arith
-
 pub gone_home : (P : Pid → Place → Type 0) (s t : OneKernel) (v : View) (a : Addresses) (id : MsgId) → kernel.step s (Label.Gone id) ≡ Some t → Named s → EndedAt P s v a id → AtHome P s a → AtHome P t (given a (gives s v a (Label.Gone id)))
 gone_home P s t v a id is named at h =
     let (m, there, rest) = bind-is (s.bag id) (λ (w : PlainMessage). bind (kernel.why_ended (s.processes w.to)) (kernel.says_gone s id w)) t is in
     let (y, gone, end) = bind-is (kernel.why_ended (s.processes m.to)) (kernel.says_gone s id m) t rest in
     let (w, what, last) = bind-is (service.gone_what m.what) (λ (v : PlainWhat). Some (with_sent (without_message s id) (Some (answer_to m v)))) t end in
-    let k : with_sent (without_message s id) (Some (answer_to m w)) ≡ t = cc in
     let from : Place = record { at = v.acting; moves = (a (Receiver id)).moves } in
-    subst (λ (u : OneKernel). AtHome P u (given a (answer_gets a id from))) k
-    (answer_sent P s (without_message s id) a id m w from (named id m there) there h (at_home_out P s a id h) (gone_links m.what w what) (at m there))
+    subst (λ (u : OneKernel). AtHome P u (given a (answer_gets a id from))) (let k : with_sent (without_message s id) (Some (answer_to m w)) ≡ t = cc in k)
+    (answer_sent P s (without_message s id) a id m w from (named id m there) there h (at_home_out P s a id h) (let e_ : links_in w ≡ [] = search arith in e_) (at m there))
 
 -- no room
 no_room_row : (P : Pid → Place → Type 0) (s t : OneKernel) (v : View) (a : Addresses) (id : MsgId) (m : PlainMessage) (w : PlainWhat) → service.has_no_room s id m w ≡ Some t → s.bag id ≡ Some m → Named s → ReceivedAt s v.acting id → AtHome P s a
     → AtHome P t (given a (answer_gets a id (unmoved v.acting)))
 no_room_row P s t v a id m (PlainWhat.Create image links) is there named at h =
-    let k = when-is (service.is_kernel s m.to) (with_sent (without_message s id) (Some (answer_to m PlainWhat.NoRoom))) t is in
-    subst (λ (u : OneKernel). AtHome P u (given a (answer_gets a id (unmoved v.acting)))) k.1
+    subst (λ (u : OneKernel). AtHome P u (given a (answer_gets a id (unmoved v.acting)))) (when-is (service.is_kernel s m.to) (with_sent (without_message s id) (Some (answer_to m PlainWhat.NoRoom))) t is).1
     (answer_sent P s (without_message s id) a id m PlainWhat.NoRoom (unmoved v.acting) (named id m there) there h (at_home_out P s a id h) refl (acts_at P m.to v.acting (h.rooted m.to) (sym (at m there))))
 no_room_row P s t v a id m _ is there named at h = cc
 
@@ -119,13 +115,9 @@ some_landed : (P : Pid → Place → Type 0) (a : Addresses) (p : Pid) (b : Bool
 some_landed P a p true c d h e = let f : c ≡ d = cc in subst (LandedHome P a p) f h
 some_landed P a p false c d h e = cc
 
-lands_what_home : (P : Pid → Place → Type 0) (a : Addresses) (p : Pid) (x : PlainProcess) (dir : Direction) (owner : Pid) (base own left : ℕ) (w : PlainWhat) (d : pieces.Landed) → HomeProcess P a p x → P owner (a (Owner p))
-    → pieces.lands_what p x dir owner base own left w ≡ Some d → LandedHome P a p d
-lands_what_home P a p x dir owner base own left w d h1 h2 h3 = search (arith, some_landed, goes_on_home, done_home)
-
 if_lands_home : (P : Pid → Place → Type 0) (a : Addresses) (p : Pid) (x : PlainProcess) (b : Bool) (dir : Direction) (owner : Pid) (base own left : ℕ) (w : PlainWhat) (d : pieces.Landed) → HomeProcess P a p x → P owner (a (Owner p))
     → (if b then pieces.lands_what p x dir owner base own left w else None) ≡ Some d → LandedHome P a p d
-if_lands_home P a p x true dir owner base own left w d h at e = lands_what_home P a p x dir owner base own left w d h at e
+if_lands_home P a p x true dir owner base own left w d h at e = search (arith, some_landed, goes_on_home, done_home)
 if_lands_home P a p x false dir owner base own left w d h at e = cc
 
 lands_home : (P : Pid → Place → Type 0) (a : Addresses) (p : Pid) (x : PlainProcess) (m : PlainMessage) (st : PlainStatus) (d : pieces.Landed) → x.status ≡ st → HomeProcess P a p x → pieces.lands p x m st ≡ Some d → LandedHome P a p d
@@ -141,8 +133,7 @@ lands_row : (P : Pid → Place → Type 0) (s t : OneKernel) (v : View) (a : Add
     → bind (pieces.lands m.to x m x.status) (λ (c : pieces.Landed). Some (service.landed s id m c)) ≡ Some t → AtHome P t (given a (landing_gets v a m.to (pieces.lands m.to x m x.status)))
 lands_row P s t v a id m x hx at h e =
     let (c, is, last) = bind-is (pieces.lands m.to x m x.status) (λ (w : pieces.Landed). Some (service.landed s id m w)) t e in
-    let k : service.landed s id m c ≡ t = cc in
-    subst (λ (u : OneKernel). AtHome P u (given a (landing_gets v a m.to (pieces.lands m.to x m x.status)))) k
+    subst (λ (u : OneKernel). AtHome P u (given a (landing_gets v a m.to (pieces.lands m.to x m x.status)))) (let k : service.landed s id m c ≡ t = cc in k)
     (subst (λ (o : Option pieces.Landed). AtHome P (service.landed s id m c) (given a (landing_gets v a m.to o))) (sym is) (landed_home P s v a id m c (lands_home P a m.to x m x.status c refl hx is) at h))
 
 -- where the owner has ended, the move ends, and nothing is sent
@@ -170,12 +161,8 @@ gone_row : (P : Pid → Place → Type 0) (s t : OneKernel) (v : View) (a : Addr
     → bind (pieces.lands m.to x m x.status) (λ (c : pieces.Landed). Some (service.landed s id m c)) ≡ Some t → AtHome P t a
 gone_row P s t v a id m x what_is hx at h e =
     let (c, is, last) = bind-is (pieces.lands m.to x m x.status) (λ (w : pieces.Landed). Some (service.landed s id m w)) t e in
-    let k : service.landed s id m c ≡ t = cc in
-    subst (λ (u : OneKernel). AtHome P u a) k
+    subst (λ (u : OneKernel). AtHome P u a) (let k : service.landed s id m c ≡ t = cc in k)
     (subst (λ (gs : List Gets). AtHome P (service.landed s id m c) (given a gs)) (nothing_lands v a m.to c (gone_lands m.to x m x.status c what_is is)) (landed_home P s v a id m c (lands_home P a m.to x m x.status c refl hx is) at h))
-
-pub some_is : {A : Type 0} (b : Bool) (x y : A) → (if b then Some x else None) ≡ Some y → x ≡ y
-some_is b x y h1 = search arith
 
 -- a row a kind
 serve_row : (P : Pid → Place → Type 0) (s t : OneKernel) (v : View) (a : Addresses) (id : MsgId) (m : PlainMessage) (x : PlainProcess) (w : PlainWhat) → m.what ≡ w → service.serves s id m x w ≡ Some t → s.bag id ≡ Some m → m.id ≡ id → HomeProcess P a m.to x
@@ -187,21 +174,18 @@ serve_row P s t v a id m x PlainWhat.Resume w is there name hx at h =
     let k : service.changed s id m (record x { stopped = false }) ≡ t = cc in
     subst (λ (u : OneKernel). AtHome P u a) k (home_goes P (without_message s id) a m.to (record x { stopped = false }) (at_home_out P s a id h) (record { slots = hx.slots; owner = hx.owner }))
 serve_row P s t v a id m x PlainWhat.Kill w is there name hx at h =
-    let k : with_process (without_message s id) m.to (Ended Why.Killed) ≡ t = cc in
-    subst (λ (u : OneKernel). AtHome P u a) k (at_home_ended P (without_message s id) a m.to Why.Killed (at_home_out P s a id h))
+    subst (λ (u : OneKernel). AtHome P u a) (let k : with_process (without_message s id) m.to (Ended Why.Killed) ≡ t = cc in k) (at_home_ended P (without_message s id) a m.to Why.Killed (at_home_out P s a id h))
 serve_row P s t v a id m x (PlainWhat.Read base len) w is there name hx at h =
     let (c, served, last) = bind-is (pieces.reads x m base len) (λ (r : pieces.Served). Some (service.answered s id m r)) t is in
     let bytes = take len (drop base x.memory) in
-    let k = some_is (nat_le (base + len) (length x.memory)) (record { process = x; answer = answer_to m (PlainWhat.Block bytes) }) c served in
-    let f : service.answered s id m c ≡ t = cc in
-    subst (λ (u : OneKernel). AtHome P u (given a (answer_gets a id (acting_place v m.to)))) (ap (service.answered s id m) k ∙ f)
+    let k = cond_some (nat_le (base + len) (length x.memory)) (record { process = x; answer = answer_to m (PlainWhat.Block bytes) }) c served in
+    subst (λ (u : OneKernel). AtHome P u (given a (answer_gets a id (acting_place v m.to)))) (ap (service.answered s id m) k.1 ∙ (let f : service.answered s id m c ≡ t = cc in f))
     (answer_sent P s (service.changed s id m x) a id m (PlainWhat.Block bytes) (acting_place v m.to) name there h (home_goes P (without_message s id) a m.to x (at_home_out P s a id h) hx) refl at)
 serve_row P s t v a id m x (PlainWhat.Write base bytes) w is there name hx at h =
     let (c, served, last) = bind-is (pieces.writes x m base bytes) (λ (r : pieces.Served). Some (service.answered s id m r)) t is in
     let y = record x { memory = pieces.written_at x.memory base bytes } in
-    let k = some_is (nat_le (base + length bytes) (length x.memory)) (record { process = y; answer = answer_to m PlainWhat.Written }) c served in
-    let f : service.answered s id m c ≡ t = cc in
-    subst (λ (u : OneKernel). AtHome P u (given a (answer_gets a id (acting_place v m.to)))) (ap (service.answered s id m) k ∙ f)
+    let k = cond_some (nat_le (base + length bytes) (length x.memory)) (record { process = y; answer = answer_to m PlainWhat.Written }) c served in
+    subst (λ (u : OneKernel). AtHome P u (given a (answer_gets a id (acting_place v m.to)))) (ap (service.answered s id m) k.1 ∙ (let f : service.answered s id m c ≡ t = cc in f))
     (answer_sent P s (service.changed s id m y) a id m PlainWhat.Written (acting_place v m.to) name there h (home_goes P (without_message s id) a m.to y (at_home_out P s a id h) (record { slots = hx.slots; owner = hx.owner })) refl at)
 serve_row P s t v a id m x (PlainWhat.Block bytes) w is there name hx at h = lands_row P s t v a id m x hx at h is
 serve_row P s t v a id m x PlainWhat.Written w is there name hx at h = lands_row P s t v a id m x hx at h is
@@ -229,9 +213,8 @@ begun_link (x ∷ xs) n (suc k) l e = begun_link xs n k l e
 pub child_at : (a : Addresses) (child : Pid) (id : MsgId) (ls : List PlainLink) (n k j : ℕ) (w : PlainLink) → slice_get ls k ≡ Some w → j ≡ n + k → given a (child_links a child id n ls) (Slot child j) ≡ a (Enclosed id j)
 child_at a child id [] n k j w e f = cc
 child_at a child id (l ∷ ls) n zero j w e f =
-    let nj : n ≡ j = omega (arith, f) in
     let same : (pid_eq child child && (n == j)) ≡ true = let g = pid_eq-same child in grind (arith, nat_tests) in
-    ap (λ (c : Bool). if c then a (Enclosed id n) else given a (child_links a child id (n + 1) ls) (Slot child j)) same ∙ ap (λ (i : ℕ). a (Enclosed id i)) nj
+    ap (λ (c : Bool). if c then a (Enclosed id n) else given a (child_links a child id (n + 1) ls) (Slot child j)) same ∙ ap (λ (i : ℕ). a (Enclosed id i)) (let nj : n ≡ j = omega (arith, f) in nj)
 child_at a child id (l ∷ ls) n (suc k) j w e f =
     let apart : (pid_eq child child && (n == j)) ≡ false = grind (arith, nat_tests) in
     ap (λ (c : Bool). if c then a (Enclosed id n) else given a (child_links a child id (n + 1) ls) (Slot child j)) apart ∙ child_at a child id ls (n + 1) k j w e (omega (arith, f))
@@ -240,9 +223,8 @@ pub only_child : (a : Addresses) (child : Pid) (id : MsgId) (ls : List PlainLink
 only_child a child id [] n = only_none a child
 only_child a child id (l ∷ ls) n =
     let h = only_child a child id ls (n + 1) in
-    let b = given a (child_links a child id (n + 1) ls) in
     record {
-      others = λ q e. let w = h.others q e in record { slot = λ k. ap (λ (c : Bool). if c && (n == k) then a (Enclosed id n) else b (Slot q k)) e ∙ w.slot k; owner = w.owner };
+      others = λ q e. let w = h.others q e in record { slot = λ k. ap (λ (c : Bool). if c && (n == k) then a (Enclosed id n) else (given a (child_links a child id (n + 1) ls)) (Slot q k)) e ∙ w.slot k; owner = w.owner };
       messages = λ i. let w = h.messages i in record { receiver = w.receiver; sender = w.sender; enclosed = w.enclosed };
       servers = let w = h.servers in record { child = w.child; name = w.name; answer = w.answer; asked = w.asked };
     }
@@ -265,11 +247,10 @@ created_row P s t v a id m child links image is there links_are named at h =
     let b = given a (child_links a child id 0 links) in
     let n = answer_to m (PlainWhat.Created child) in
     let k = when-is (service.is_kernel s m.to && pid_eq child (pid_of m.to.home (first_number + s.made m.to.home))) (with_sent u (Some n)) t is in
-    let name : m.id ≡ id = named id m there in
     let sent : AtHome P (with_sent u (Some n)) (given b (two n.id (a (Sender id)) (unmoved v.acting))) =
     two_sends P u b n (a (Sender id)) (unmoved v.acting) (begun_at_home P s a id m child image links h there links_are) refl (h.messages id m there).sender (acts_at P m.to v.acting (h.rooted m.to) (sym (at m there))) in
     subst (λ (w : OneKernel). AtHome P w (given a (answer_gets a id (unmoved v.acting) ++ child_links a child id 0 links))) k.1
-    (subst (λ (i : MsgId). AtHome P (with_sent u (Some n)) (given a (two (answer_id i) (a (Sender id)) (unmoved v.acting) ++ child_links a child id 0 links))) name sent)
+    (subst (λ (i : MsgId). AtHome P (with_sent u (Some n)) (given a (two (answer_id i) (a (Sender id)) (unmoved v.acting) ++ child_links a child id 0 links))) (named id m there) sent)
 
 creates_row : (P : Pid → Place → Type 0) (s t : OneKernel) (v : View) (a : Addresses) (id : MsgId) (m : PlainMessage) (child : Pid) (w : PlainWhat) → m.what ≡ w → service.creates s id m child w ≡ Some t → s.bag id ≡ Some m → Named s → ReceivedAt s v.acting id → AtHome P s a
     → AtHome P t (given a (answer_gets a id (unmoved v.acting) ++ addresses.creates_burden a id child (burden_of w)))
@@ -288,10 +269,8 @@ asked_row : (P : Pid → Place → Type 0) (s t : OneKernel) (a : Addresses) (id
     → AtHome P t (given a (gets (AskedBy m.to) (a (Sender id)) ∷ []))
 asked_row P s t a id m (PlainWhat.Move machine) is there h =
     let u = at_home_out P s a id h in
-    let n : MoveNote = record { id = id; asker = m.sender } in
-    let pl = a (Sender id) in
-    let b = given a (gets (AskedBy m.to) pl ∷ []) in
-    let k : with_note (without_message s id) m.to n ≡ t = cc in
+    let b = given a (gets (AskedBy m.to) (a (Sender id)) ∷ []) in
+    let k : with_note (without_message s id) m.to (record { id = id; asker = m.sender }) ≡ t = cc in
     subst (λ (v : OneKernel). AtHome P v b) k
     (record {
       processes = λ q x e. process_same P a b q x (record { slot = λ i. refl; owner = refl }) (u.processes q x e);

@@ -37,11 +37,8 @@ past_if b w f n r q h1 h2 = search arith
 past_word : (bytes : List ℕ) (at n : ℕ) (w : Row) (r q : Regs) → (w ≡ row.Calls n r → r ≡ q) → row.word_row bytes at w ≡ row.Calls n r → r ≡ q
 past_word bytes at n w r q h e = past_if (nat_le (at + 4) (length bytes)) (if at % 4 == 0 then w else row.Faults Fault.Unaligned) Fault.OutOfRange n r q (λ f. past_if (at % 4 == 0) w Fault.Unaligned n r q h f) e
 
-plain_no : (x : Regs) (y : List ℕ) (n : ℕ) (r q : Regs) → row.Plain x y ≡ row.Calls n r → r ≡ q
-plain_no x y n r q e = cc
-
 past_effect : (o : Opcode) (regs : Regs) (m : List ℕ) (a b c n : ℕ) (r : Regs) → row.effect o regs m a b c ≡ row.Calls n r → r ≡ past regs
-past_effect o regs m a b c n r h1 = search (arith, past_word, plain_no, past_if)
+past_effect o regs m a b c n r h1 = let plain_no : (x : Regs) (y : List ℕ) (n : ℕ) (r q : Regs) → row.Plain x y ≡ row.Calls n r → r ≡ q = λ x y n r q e. cc in search (arith, past_word, plain_no, past_if)
 
 past_operation : (o : Option Opcode) (regs : Regs) (m : List ℕ) (a b c n : ℕ) (r : Regs) → row.operation_row o regs m a b c ≡ row.Calls n r → r ≡ past regs
 past_operation o regs m a b c n r h1 = grind (arith, nat_tests, past_if, past_effect)

@@ -29,10 +29,9 @@ somewhere_by b l false false is as_ e = process_at b l (boot.process_named l.add
 link_home : (b : Boot) (l : Link) → boot.link_is_valid b l ≡ true → place_of l.addr ≡ unmoved l.addr.pid.home
 link_home b l e =
     let first : (l.addr.moves == 0) ≡ true = left_true (l.addr.moves == 0) _ e in
-    let none : l.addr.moves ≡ 0 = grind (arith, nat_tests) in
     let rest : boot.leads_somewhere b l ≡ true = right_true (nat_le l.channel 31) (boot.leads_somewhere b l) (right_true _ _ (right_true (l.addr.moves == 0) _ e)) in
     let at : l.addr.at ≡ l.addr.pid.home = somewhere_by b l (pid_eq l.addr.pid switchboard) (pid_eq l.addr.pid manager) refl refl rest in
-    ap (λ (n : ℕ). record { at = n; moves = l.addr.moves }) at ∙ ap (λ (n : ℕ). record { at = l.addr.pid.home; moves = n }) none
+    ap (λ (n : ℕ). record { at = n; moves = l.addr.moves }) at ∙ ap (λ (n : ℕ). record { at = l.addr.pid.home; moves = n }) (let none : l.addr.moves ≡ 0 = grind (arith, nat_tests) in none)
 
 -- the links of a process as it begins
 empty_slot : (n k : ℕ) (l : PlainLink) → link_at (replicate n None) k ≡ Some l → ⊥
@@ -43,29 +42,23 @@ empty_slot (suc n) (suc k) l e = empty_slot n k l e
 first_link : (b : Boot) (ls : List Link) (n k : ℕ) (l : PlainLink) → boot.links_are_valid b ls ≡ true → link_at (map Some (map plain_link ls) ++ replicate n None) k ≡ Some l → option_map_or (λ w. place_of w.addr) (slice_get ls k) (unmoved 0) ≡ unmoved l.to.home
 first_link b [] n k l valid e = absurd (empty_slot n k l e)
 first_link b (x ∷ xs) n zero l valid e =
-    let f : plain_link x ≡ l = cc in
-    let g : x.addr.pid.home ≡ l.to.home = ap (λ (v : PlainLink). v.to.home) f in
-    link_home b x (left_true (boot.link_is_valid b x) (boot.links_are_valid b xs) valid) ∙ ap unmoved g
+    link_home b x (left_true (boot.link_is_valid b x) (boot.links_are_valid b xs) valid) ∙ ap unmoved (ap (λ (v : PlainLink). v.to.home) (let f : plain_link x ≡ l = cc in f))
 first_link b (x ∷ xs) n (suc k) l valid e = first_link b xs n k l (right_true (boot.link_is_valid b x) (boot.links_are_valid b xs) valid) e
-
-begun_home_of : (b : Boot) (p : BootProcess) (q : Pid) (x : PlainProcess) (o : Option BootImage) → boot.links_are_valid b p.links ≡ true → links_at b.processes q ≡ p.links
-    → kernel.alive (option_map (λ image. Alive (begun b.format image (map plain_link p.links))) o) ≡ Some x → HomeProcess IsHome (first_addresses b) q x
-begun_home_of b p q x o h1 h2 h3 = search (arith, first_link)
-
-links_valid : (b : Boot) (n : ℕ) (p : BootProcess) → boot.process_is_valid b n p ≡ true → boot.links_are_valid b p.links ≡ true
-links_valid b n p e =
-    let last = boot.links_are_valid b p.links in
-    let few = nat_le (length p.links) (slots_of b.format) in
-    search (arith, right_true)
 
 begun_home : (b : Boot) (earlier ps : List BootProcess) (q : Pid) (x : PlainProcess) → processes_are_valid b earlier ps ≡ true → links_at b.processes q ≡ links_at ps q
     → kernel.alive (life_at b ps q) ≡ Some x → HomeProcess IsHome (first_addresses b) q x
 begun_home b earlier [] q x valid at e = cc
 begun_home b earlier (p ∷ ps) q x valid at e =
-    let mine : boot.process_is_valid b (starting_at p.pid.home earlier) p ≡ true = left_true _ _ valid in
+    let links_valid : (b : Boot) (n : ℕ) (p : BootProcess) → boot.process_is_valid b n p ≡ true → boot.links_are_valid b p.links ≡ true = λ b n p e.
+      let last = boot.links_are_valid b p.links in
+      let few = nat_le (length p.links) (slots_of b.format) in
+      search (arith, right_true) in
+    let begun_home_of : (b : Boot) (p : BootProcess) (q : Pid) (x : PlainProcess) (o : Option BootImage) → boot.links_are_valid b p.links ≡ true → links_at b.processes q ≡ p.links
+      → kernel.alive (option_map (λ image. Alive (begun b.format image (map plain_link p.links))) o) ≡ Some x → HomeProcess IsHome (first_addresses b) q x =
+      λ b p q x o h1 h2 h3. search (arith, first_link) in
     elim (cases_Bool (pid_eq p.pid q)) [
       | inl same ↦
-          begun_home_of b p q x (slice_get b.images p.image) (links_valid b (starting_at p.pid.home earlier) p mine) (at ∙ ap (λ (c : Bool). if c then p.links else links_at ps q) same)
+          begun_home_of b p q x (slice_get b.images p.image) (links_valid b (starting_at p.pid.home earlier) p (left_true _ _ valid)) (at ∙ ap (λ (c : Bool). if c then p.links else links_at ps q) same)
           (sym (ap (λ (c : Bool). kernel.alive (if c then first_life b p else life_at b ps q)) same) ∙ e)
       | inr apart ↦
           begun_home b (earlier ++ p ∷ []) ps q x (right_true _ _ valid) (at ∙ ap (λ (c : Bool). if c then p.links else links_at ps q) apart)

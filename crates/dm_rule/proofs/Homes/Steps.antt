@@ -15,9 +15,8 @@ pub ran_home : (P : Pid → Place → Type 0) (s t : OneKernel) (v : View) (a : 
 ran_home P s t v a p k is h =
     let (x, running, rest) = bind-is (kernel.running s p) (λ (w : PlainProcess). bind (kernel.plain_steps k (kernel.machine_of w)) (λ (m : kernel.Machine). Some (kernel.goes_on s p (kernel.with_machine w m)))) t is in
     let (m, plain, last) = bind-is (kernel.plain_steps k (kernel.machine_of x)) (λ (m : kernel.Machine). Some (kernel.goes_on s p (kernel.with_machine x m))) t rest in
-    let eq : kernel.goes_on s p (kernel.with_machine x m) ≡ t = cc in
     let w = running_home P s a p x h running in
-    subst (λ (u : OneKernel). AtHome P u a) eq (home_goes P s a p (kernel.with_machine x m) h (record { slots = w.slots; owner = w.owner }))
+    subst (λ (u : OneKernel). AtHome P u a) (let eq : kernel.goes_on s p (kernel.with_machine x m) ≡ t = cc in eq) (home_goes P s a p (kernel.with_machine x m) h (record { slots = w.slots; owner = w.owner }))
 
 pub made_is : (v : View) (a : Addresses) (p : Pid) (n : ℕ) (c : Reply) (x : PlainProcess) → call_gets v a p n c (Some x) ≡ gives_by v a p x (calls.call_number n) c
 made_is v a p n Reply.Done x = refl
@@ -29,8 +28,7 @@ gives_code v a p x n _ = refl
 
 pub gives_same : (v : View) (a : Addresses) (p : Pid) (x : PlainProcess) (n : calls.CallNumber) (c d : Reply) → reply_eq c d ≡ true → gives_by v a p x n c ≡ gives_by v a p x n d
 gives_same v a p x n c d e =
-    let k : reply_code c ≡ reply_code d = grind (arith, nat_tests) in
-    gives_code v a p x n c ∙ ap (λ (i : ℕ). if i == 0 then fills_by v a p x n else []) k ∙ sym (gives_code v a p x n d)
+    gives_code v a p x n c ∙ ap (λ (i : ℕ). if i == 0 then fills_by v a p x n else []) (let k : reply_code c ≡ reply_code d = grind (arith, nat_tests) in k) ∙ sym (gives_code v a p x n d)
 
 -- what a reply gives is a slot of the process's own
 fills_others : (a : Addresses) (p : Pid) (o : Option ℕ) (place : Place) (q : Pid) → pid_eq p q ≡ false → SameProcess a (given a (fills p o place)) q
@@ -46,19 +44,13 @@ pub record OnlySlots (a b : Addresses) (p : Pid) : Type 0 where
 pub only_none : (a : Addresses) (p : Pid) → OnlySlots a a p
 only_none a p = search arith
 
-only_fills : (a : Addresses) (p : Pid) (o : Option ℕ) (place : Place) → OnlySlots a (given a (fills p o place)) p
-only_fills a p o place = search (arith, only_none, fills_others)
-
-only_fills_by : (v : View) (a : Addresses) (p : Pid) (x : PlainProcess) (n : calls.CallNumber) → OnlySlots a (given a (fills_by v a p x n)) p
-only_fills_by v a p x n = search (arith, only_fills, only_none)
-
-only_if : (a : Addresses) (p : Pid) (c : Bool) (gs : List Gets) → OnlySlots a (given a gs) p → OnlySlots a (given a (if c then gs else [])) p
-only_if a p true gs h = h
-only_if a p false gs h = only_none a p
-
 pub only_gives_by : (v : View) (a : Addresses) (p : Pid) (x : PlainProcess) (n : calls.CallNumber) (c : Reply) → OnlySlots a (given a (gives_by v a p x n c)) p
 only_gives_by v a p x n c =
-    subst (λ (gs : List Gets). OnlySlots a (given a gs) p) (sym (gives_code v a p x n c)) (only_if a p (reply_code c == 0) (fills_by v a p x n) (only_fills_by v a p x n))
+    let only_fills_by : (v : View) (a : Addresses) (p : Pid) (x : PlainProcess) (n : calls.CallNumber) → OnlySlots a (given a (fills_by v a p x n)) p = λ v a p x n.
+      let only_fills : (a : Addresses) (p : Pid) (o : Option ℕ) (place : Place) → OnlySlots a (given a (fills p o place)) p = λ a p o place. search (arith, only_none, fills_others) in
+      search (arith, only_fills, only_none) in
+    subst (λ (gs : List Gets). OnlySlots a (given a gs) p) (sym (gives_code v a p x n c))
+    (elim (reply_code c == 0) as (λ c_. OnlySlots a (given a (if c_ then (fills_by v a p x n) else [])) p) [ true ↦ (only_fills_by v a p x n) | false ↦ only_none a p ])
 
 reply_row : (P : Pid → Place → Type 0) (s t : OneKernel) (v : View) (a : Addresses) (p : Pid) (n : ℕ) (c : Reply) (next : kernel.Trap) → Nexts P v s a p next → kernel.replies s p n c next ≡ Some t → AtHome P s a → AtHome P t (given a (call_gets v a p n c (kernel.running s p)))
 reply_row P s t v a p n c (kernel.Calls number (calls.Replies d y)) w is h =
@@ -86,11 +78,10 @@ send_row : (P : Pid → Place → Type 0) (s t : OneKernel) (v : View) (a : Addr
     → AtHome P t (given a (gives s v a (Label.Send p id)))
 send_row P s t v a p id (kernel.Calls number (calls.Sends m y)) nx w is h =
     let k = when-is (id_eq id m.id) (with_sent (kernel.goes_on s p y) (Some m)) t is in
-    let name : m.id ≡ id = sym (id_eq-is id m.id k.0) in
     let x = w.x in
     let gs = sends_burden v a p x m.id (burden_of m.what) in
     let gs_is : gs ≡ gives s v a (Label.Send p id) =
-    ap (λ (i : MsgId). sends_burden v a p x i (burden_of m.what)) name ∙ ap (addresses.sends_next v a p x id) (sym nx) ∙ ap (addresses.send_gets s v a p id) (sym w.running) in
+    ap (λ (i : MsgId). sends_burden v a p x i (burden_of m.what)) (sym (id_eq-is id m.id k.0)) ∙ ap (addresses.sends_next v a p x id) (sym nx) ∙ ap (addresses.send_gets s v a p id) (sym w.running) in
     let o = w.home in
     subst (λ (u : OneKernel). AtHome P u (given a (gives s v a (Label.Send p id)))) k.1
     (subst (λ (g : List Gets). AtHome P (with_sent (kernel.goes_on s p y) (Some m)) (given a g)) gs_is
@@ -111,12 +102,11 @@ send_home P s t v a p id is at h =
     let (x, next, rest) = bind-is (kernel.next_trap s p) (kernel.sends s p id) t is in
     send_row P s t v a p id x next (next_home P v s a p x h at next) rest h
 
--- a receive begins
-wait_row : (P : Pid → Place → Type 0) (s t : OneKernel) (v : View) (a : Addresses) (p : Pid) (next : kernel.Trap) → Nexts P v s a p next → kernel.waits s p next ≡ Some t → AtHome P s a → AtHome P t a
-wait_row P s t v a p next h1 h2 h3 = search (arith, home_goes)
-
 pub wait_home : (P : Pid → Place → Type 0) (s t : OneKernel) (v : View) (a : Addresses) (p : Pid) → kernel.step s (Label.Wait p) ≡ Some t → P p (acting_place v p) → AtHome P s a → AtHome P t a
 wait_home P s t v a p is at h =
+    -- a receive begins
+    let wait_row : (P : Pid → Place → Type 0) (s t : OneKernel) (v : View) (a : Addresses) (p : Pid) (next : kernel.Trap) → Nexts P v s a p next → kernel.waits s p next ≡ Some t → AtHome P s a → AtHome P t a =
+      λ P s t v a p next h1 h2 h3. search (arith, home_goes) in
     let (x, next, rest) = bind-is (kernel.next_trap s p) (kernel.waits s p) t is in
     wait_row P s t v a p x (next_home P v s a p x h at next) rest h
 
@@ -132,14 +122,9 @@ out_home P s t v a p word is at h =
 pub at_home_ended : (P : Pid → Place → Type 0) (s : OneKernel) (a : Addresses) (p : Pid) (y : Why) → AtHome P s a → AtHome P (with_process s p (Ended y)) a
 at_home_ended P s a p y h = at_home_goes P s a p (Ended y) h (λ x e. absurd (let f : None ≡ Some x = e in cc))
 
-end_row : (P : Pid → Place → Type 0) (s t : OneKernel) (a : Addresses) (p : Pid) (y : Why) (next : kernel.Trap) → kernel.ends s p y next ≡ Some t → AtHome P s a → AtHome P t a
+pub end_row : (P : Pid → Place → Type 0) (s t : OneKernel) (a : Addresses) (p : Pid) (y : Why) (next : kernel.Trap) → kernel.ends s p y next ≡ Some t → AtHome P s a → AtHome P t a
 end_row P s t a p y (kernel.Calls number (calls.Ends because)) is h =
-    let k = when-is (why_eq y because) (with_process s p (Ended y)) t is in
-    subst (λ (u : OneKernel). AtHome P u a) k.1 (at_home_ended P s a p y h)
+    subst (λ (u : OneKernel). AtHome P u a) (when-is (why_eq y because) (with_process s p (Ended y)) t is).1 (at_home_ended P s a p y h)
 end_row P s t a p y (kernel.Faults fault) is h =
-    let k = when-is (why_eq y (Why.Fault fault)) (with_process s p (Ended y)) t is in
-    subst (λ (u : OneKernel). AtHome P u a) k.1 (at_home_ended P s a p y h)
+    subst (λ (u : OneKernel). AtHome P u a) (when-is (why_eq y (Why.Fault fault)) (with_process s p (Ended y)) t is).1 (at_home_ended P s a p y h)
 end_row P s t a p y _ is h = cc
-
-pub end_home : (P : Pid → Place → Type 0) (s t : OneKernel) (a : Addresses) (p : Pid) (y : Why) → kernel.step s (Label.End p y) ≡ Some t → AtHome P s a → AtHome P t a
-end_home P s t a p y is h = let (x, next, rest) = bind-is (kernel.next_trap s p) (kernel.ends s p y) t is in end_row P s t a p y x rest h

@@ -1,7 +1,7 @@
 -- A turn keeps all of it.
-use Rattle.dm_rule.proofs.Names.{◌≡◌, ℕ, ◌+◌, ◌==◌, ◌&&◌, Bool, true, false, List, [], ◌∷◌, refl, ap, ◌∙◌, sym, subst, inl, inr, arith, nat_le, ⊤, if◌then◌else◌, Option, None, Some, nat_tests, Pid, MsgId, PlainMessage, Boot, Label}
-use Rattle.dm_rule.proofs.Names.{OneKernel, after_step, Point, first_point, Part, Routes, Spelled, Homes, is_for_home, are_home, IsStill, LeadHomeAlways, ◌≤◌, false≢true, is_kernels, Step, actor, group_of, pid_of, first_number, Known}
-use Rattle.dm_rule.proofs.Names.{Frozen, Incoming, Forward, AskNone, LeadsStill}
+use Rattle.dm_rule.proofs.Names.{◌≡◌, ℕ, ◌+◌, ◌==◌, Bool, true, false, List, [], ◌∷◌, refl, ap, ◌∙◌, sym, subst, inl, inr, arith, nat_le, ⊤, if◌then◌else◌, Option, None, Some, nat_tests, Pid, MsgId, PlainMessage, Boot, Label, Says}
+use Rattle.dm_rule.proofs.Names.{OneKernel, after_step, Point, first_point, Part, Routes, Spelled, Homes, is_for_home, are_home, IsStill, LeadHomeAlways, ◌≤◌, false≢true, is_kernels, Step, actor, group_of, pid_of, first_number, Known, Line}
+use Rattle.dm_rule.proofs.Names.{Frozen, Incoming, Forward, AskNone, LeadsStill, and_parts}
 use Rattle.dm_onekernel.specs.Step as kernel
 use Rattle.dm_rule.proofs.Homes.Labels.{SaidAt}
 use Rattle.dm_rule.proofs.Homes.Lists.{stands, all_stand}
@@ -16,16 +16,12 @@ use Rattle.dm_rule.specs.Rule as rule
 use Rattle.dm_rule.proofs.Homes.Parts.{PartsAnywhere}
 use Rattle.dm_onekernel.specs.Pieces as pieces
 use Rattle.dm_rule.proofs.Homes.Serves.{ReceivedAt}
-use Rattle.dm_rule.proofs.Homes.Groups.{PartsGood, group_keeps, tick_keeps, deliver_keeps}
+use Rattle.dm_rule.proofs.Homes.Groups.{PartsGood, group_keeps, deliver_keeps, resends_good}
 use Rattle.dm_rule.proofs.Serving.{by_round, by_handles}
 
 abbrev pub GoodOf : OneKernel → (MsgId → ℕ) → ℕ → Option (List Part) → Type 0
 GoodOf s e m None = ⊤
 GoodOf s e m (Some ps) = PartsGood s e m ps
-
-pub good_of : (s : OneKernel) (e : MsgId → ℕ) (m : ℕ) (o : Option (List Part)) (ps : List Part) → GoodOf s e m o → o ≡ Some ps → PartsGood s e m ps
-good_of s e m None ps h is = cc
-good_of s e m (Some qs) ps h is = let f : qs ≡ ps = cc in subst (PartsGood s e m) f h
 
 says_first : (s : OneKernel) (e : MsgId → ℕ) (m : ℕ) (l : Label) (ps : List Part) → SaidAt s m l → PartsAnywhere m ps → PartsGood s e m (rule.says l ∷ ps)
 says_first s e m l ps at h = inl (inr (inl (l, refl, at)), h)
@@ -34,18 +30,13 @@ drops_good : (m : ℕ) (ids : List MsgId) → PartsAnywhere m (rule.drop_parts i
 drops_good m [] = tt
 drops_good m (i ∷ is) = (tt, drops_good m is)
 
--- the first process of a ring that can be served
-runnable_if : (m : ℕ) (b : Bool) (p : Pid) (o : Option Pid) (q : Pid) → p.home ≡ m → (o ≡ Some q → q.home ≡ m) → (if b then Some p else o) ≡ Some q → q.home ≡ m
-runnable_if m true p o q at h is = let f : p ≡ q = cc in ap (λ (v : Pid). v.home) (sym f) ∙ at
-runnable_if m false p o q at h is = h is
-
-both : (b c : Bool) → (b && c) ≡ true → (b ≡ true) × (c ≡ true)
-both b c h1 = grind (arith, nat_tests)
-
 pub runnable_home : (s : OneKernel) (queue : Pid → List MsgId) (m : ℕ) (ps : List Pid) (q : Pid) → are_home m ps ≡ true → rule.first_runnable s queue ps ≡ Some q → q.home ≡ m
 runnable_home s queue m [] q h is = cc
 runnable_home s queue m (p ∷ ps) q h is =
-    let k = both (p.home == m) (are_home m ps) h in
+    -- the first process of a ring that can be served
+    let runnable_if : (m : ℕ) (b : Bool) (p : Pid) (o : Option Pid) (q : Pid) → p.home ≡ m → (o ≡ Some q → q.home ≡ m) → (if b then Some p else o) ≡ Some q → q.home ≡ m =
+      λ m b p o q at h is. (elim b as (λ b_. (if b_ then Some p else o) ≡ Some q → q.home ≡ m) [ true ↦ λ is'. let f : p ≡ q = cc in ap (λ (v : Pid). v.home) (sym f) ∙ at | false ↦ λ is'. h is' ]) is in
+    let k = and_parts (p.home == m) (are_home m ps) h in
     let first = k.0 in
     runnable_if m (rule.can_go s (queue p) (kernel.alive (s.processes p))) p (rule.first_runnable s queue ps) q (let f : p.home ≡ m = grind (arith, nat_tests) in f) (runnable_home s queue m ps q k.1) is
 
@@ -103,8 +94,8 @@ pub turns_good : (b : Boot) (r e : MsgId → ℕ) (pt : Point) (m : ℕ) (is : L
 turns_good b r e pt m [] there all h =
     round_good b e pt m (rule.first_runnable pt.kernel (pt.view.queue m) (pt.view.ring m)) (λ p is. runnable_home pt.kernel (pt.view.queue m) m (pt.view.ring m) p (h.rings.ring m) is)
 turns_good b r e pt m (i ∷ is) there all h =
-    let k = both (stands pt.kernel e m i) (all_stand pt.kernel e m is) all in
-    let home = both (nat_le 1 (e i)) (is_for_home m (pt.kernel.bag i)) k.0 in
+    let k = and_parts (stands pt.kernel e m i) (all_stand pt.kernel e m is) all in
+    let home = and_parts (nat_le 1 (e i)) (is_for_home m (pt.kernel.bag i)) k.0 in
     handles_good b e pt m i (pt.kernel.bag i) h.rings (there i is refl home.0) (λ x in_. for_home m (pt.kernel.bag i) x home.1 in_, k.0)
 
 -- what stands at the front of an inbox and has entered is in the bag
@@ -112,18 +103,24 @@ in_bag_at : (r e : MsgId → ℕ) (pt : Point) (m : ℕ) (i : MsgId) (js : List 
 in_bag_at r e pt m i js front entered state h none =
     let least : 1 ≤ e i = grind (arith, nat_tests) in
     let (q, way) = inbox_way pt m i js state front in
-    let mine : is_kernels i ≡ true = kernels_by state.own pt.kernel.bag i q (is_kernels i) refl none way in
-    let zero_ : e i ≡ 0 = kernels_fresh r e pt.kernel i h.sound mine in absurd (omega (arith, least, zero_))
+    let zero_ : e i ≡ 0 = kernels_fresh r e pt.kernel i h.sound (kernels_by state.own pt.kernel.bag i q (is_kernels i) refl none way) in absurd (omega (arith, least, zero_))
 
 pub turn_keeps : NoneReplaced → (b : Boot) (r e : MsgId → ℕ) (pt : Point) (m : ℕ) (w : Spelled) → group_of b pt (Step.Turn m) ≡ Some w → AskNone w.lines → State None pt → Home r e pt → Kept m w.point
 turn_keeps none b r e pt m w is ask state h =
+    let good_of : (s : OneKernel) (e : MsgId → ℕ) (m : ℕ) (o : Option (List Part)) (ps : List Part) → GoodOf s e m o → o ≡ Some ps → PartsGood s e m ps =
+      λ s e m o ps h is. (elim o as (λ o_. GoodOf s e m o_ → o_ ≡ Some ps → PartsGood s e m ps) [ None ↦ λ h' is'. cc | Some qs' ↦ λ h' is'. let f : qs' ≡ ps = cc in subst (PartsGood s e m) f h' ]) h is in
     group_keeps none b r e pt (Step.Turn m) w tt is ask h
     (λ ps comes. good_of pt.kernel e m (rule.turns b pt m (pt.view.inbox m)) ps (turns_good b r e pt m (pt.view.inbox m) (λ i js front entered. in_bag_at r e pt m i js front entered state h) (h.lists.inbox m) h) comes)
 
 -- each group keeps all of it
 pub home_group : NoneReplaced → (b : Boot) (r e : MsgId → ℕ) (pt : Point) (d : Step) (w : Spelled) → IsStill d → group_of b pt d ≡ Some w → AskNone w.lines → State None pt → Home r e pt → Kept (actor d) w.point
 home_group none b r e pt (Step.Turn m) w still is ask state h = turn_keeps none b r e pt m w is ask state h
-home_group none b r e pt (Step.Tick m) w still is ask state h = tick_keeps none b r e pt m w is ask h
+home_group none b r e pt (Step.Tick m) w still is ask state h =
+    let tick_keeps : NoneReplaced → (b : Boot) (r e : MsgId → ℕ) (pt : Point) (m : ℕ) (w : Spelled) → group_of b pt (Step.Tick m) ≡ Some w → AskNone w.lines → Home r e pt → Kept m w.point = λ none b r e pt m w is ask h.
+      group_keeps none b r e pt (Step.Tick m) w tt is ask h
+      (λ ps comes. let f : Says (Line.Resent m (rule.outstanding_count pt.view m pt.kernel.machines)) ∷ rule.resends pt.view m pt.kernel.machines ≡ ps = cc in
+      subst (PartsGood pt.kernel e m) f (inl (inl tt, resends_good m m pt.view pt.kernel.machines))) in
+    tick_keeps none b r e pt m w is ask h
 home_group none b r e pt (Step.Deliver a c k) w still is ask state h = deliver_keeps none b r e pt a c k w is ask h
 home_group none b r e pt (Step.Migrate p m) w still is ask state h = absurd still
 

@@ -1,10 +1,12 @@
 -- Messages that are held, come back from a held list, or leave a queue and a held list together.
-use Rattle.dm_rule.proofs.Names.{◌≡◌, ◌≢◌, ℕ, ◌+◌, ◌≤◌, ◌==◌, ◌&&◌, Bool, true, false, List, [], ◌∷◌, ◌++◌, refl, ap, ◌∙◌, sym, subst, arith, ◌⊎◌, inl, inr, if◌then◌else◌, Option, None, Some, cases_Bool, false≢true, Pid, pid_eq, MsgId}
-use Rattle.dm_rule.proofs.Names.{id_eq, at_machine, at_record, View, handled, handled_first, receiver_of, held_for, released, Spot, Queue, Held, Inbox, times, ids_at, standing, StandsOnce, StandsNowhere, StandsAsBag, pid_eq-is, id_eq-is}
-use Rattle.dm_rule.proofs.Names.{id_eq-same, drop, nat_tests}
+use Rattle.dm_rule.proofs.Names.{◌≡◌, ◌≢◌, ℕ, ◌+◌, ◌≤◌, ◌==◌, ◌&&◌, Bool, true, false, List, [], ◌∷◌, ◌++◌, refl, ap, ◌∙◌, sym, subst, arith, inl, inr, if◌then◌else◌, Option, None, Some, cases_Bool, false≢true, Pid, pid_eq, MsgId, id_eq}
+use Rattle.dm_rule.proofs.Names.{at_machine, at_record, View, handled, handled_first, receiver_of, held_for, released, Spot, Queue, Held, Inbox, times, ids_at, standing, StandsOnce, StandsNowhere, StandsAsBag, pid_eq-is, id_eq-is}
+use Rattle.dm_rule.proofs.Names.{id_eq-same, drop, and_parts, eqb-true, false_from_ne_true}
 use Rattle.dm_rule.proofs.Standing.{times-append, spot_cases, StandsAsBag-same, StandsAsBag-one, StandsAsBag-elsewhere}
 use Rattle.dm_rule.proofs.Once.{Kept, one_of, once_moves, one_of-off}
-use Rattle.dm_rule.proofs.Lines.{Bag, Stands, Stands-stays, at_machine_at, at_machine_off, at_record_off, at_record_at, eq_is, not_true, inbox_apart, parts, front_goes, handled_off, handled_at, one_more, queue_apart}
+use Rattle.dm_rule.proofs.Lines.{Bag, Stands, Stands-stays, at_machine_at, at_machine_off, at_record_off, at_record_at, inbox_apart, front_goes, handled_off, handled_at, one_more, queue_apart}
+use Rattle.dm_rule.proofs.Bags.{cases_zero}
+pub use Rattle.dm_rule.proofs.Bags.{cases_zero as zero_cases}
 
 abbrev is_held : Spot → Bool
 is_held (Held m p) = true
@@ -14,22 +16,20 @@ pub inbox_held : (m n : ℕ) (p : Pid) → Inbox m ≢ Held n p
 inbox_held m n p e = false≢true (ap is_held e)
 
 held_apart : (m n : ℕ) (p q : Pid) → Held n q ≢ Held m p → ((m == n) && pid_eq p q) ≡ false
-held_apart m n p q apart = not_true ((m == n) && pid_eq p q) (λ e. let k = parts (m == n) (pid_eq p q) e in apart (ap (λ x. Held x q) (sym (eq_is m n k.0)) ∙ ap (Held m) (sym (pid_eq-is p q k.1))))
+held_apart m n p q apart = false_from_ne_true ((m == n) && pid_eq p q) (λ e. let k = and_parts (m == n) (pid_eq p q) e in apart (ap (λ x. Held x q) (sym (eqb-true m n k.0)) ∙ ap (Held m) (sym (pid_eq-is p q k.1))))
 
 -- a message goes from the front of the inbox to the back of its receiver's held list
 held_is : (v : View) (i : MsgId) (p : Pid) (o : Option Pid) → o ≡ Some p → held_for (handled v i) i o ≡ record (handled v i) { held = at_record v.held v.acting p (v.held v.acting p ++ i ∷ []) }
 held_is v i p None e = cc
 held_is v i p (Some q) e = let f : q ≡ p = cc in ap (λ x. record (handled v i) { held = at_record v.held v.acting x (v.held v.acting x ++ i ∷ []) }) f
 
-held_off : (v : View) (i : MsgId) (p : Pid) (z : Spot) → z ≢ Inbox v.acting → z ≢ Held v.acting p → ids_at (record (handled v i) { held = at_record v.held v.acting p (v.held v.acting p ++ i ∷ []) }) z ≡ ids_at v z
-held_off v i p z h1 h2 = search (arith, at_record_off, held_apart, handled_off)
-
 pub Stands-held : (bag : Bag) (v w : View) (i : MsgId) (is : List MsgId) (x : Pid) → v.inbox v.acting ≡ i ∷ is → bag i ≡ Some x → w ≡ held_for (handled v i) i (receiver_of (v.told i)) → Stands bag v → Stands bag w
 Stands-held bag v w i is x front there is_w h =
+    let held_off : (v : View) (i : MsgId) (p : Pid) (z : Spot) → z ≢ Inbox v.acting → z ≢ Held v.acting p → ids_at (record (handled v i) { held = at_record v.held v.acting p (v.held v.acting p ++ i ∷ []) }) z ≡ ids_at v z =
+      λ v i p z h1 h2. search (arith, at_record_off, held_apart, handled_off) in
     let told : receiver_of (v.told i) ≡ Some x = h.told i x there in
     let u = record (handled v i) { held = at_record v.held v.acting x (v.held v.acting x ++ i ∷ []) } in
-    let e : u ≡ w = sym (held_is v i x (receiver_of (v.told i)) told) ∙ sym is_w in
-    subst (Stands bag) e
+    subst (Stands bag) (sym (held_is v i x (receiver_of (v.told i)) told) ∙ sym is_w)
     (record {
       kept = once_moves v u bag bag i (Inbox v.acting) (Held v.acting x) (inbox_held v.acting v.acting x) (λ j. refl) (λ j. handled_at v i is j front)
           (λ j. ap (times j) (at_record_at v.held v.acting x (v.held v.acting x ++ i ∷ [])) ∙ one_more j i (v.held v.acting x)) (λ z a b. held_off v i x z a b) h.kept;
@@ -41,10 +41,9 @@ Stands-held bag v w i is x front there is_w h =
 gathers : (f g : Spot → ℕ) (x y : Spot) → x ≢ y → g x ≡ 0 → g y ≡ f x + f y → ((z : Spot) → z ≢ x → z ≢ y → g z ≡ f z) → StandsOnce f → StandsOnce g
 gathers f g x y apart gone all same (spot, one, others) = elim (spot_cases spot x) [
   | inl at_x ↦
-      let fx : f x ≡ 1 = ap f (sym at_x) ∙ one in
       let fy : f y ≡ 0 = others y (λ e. apart (sym at_x ∙ sym e)) in (
         y,
-        omega (arith, all, fx, fy),
+        omega (arith, all, ap f (sym at_x) ∙ one, fy),
         λ z off. elim (spot_cases z x) [ inl is ↦ ap g is ∙ gone | inr other ↦ same z other off ∙ others z (λ e. other (e ∙ at_x)) ],
       )
   | inr off_x ↦
@@ -57,9 +56,6 @@ gathers_as None f g x y apart gone all same h = λ z. (search (arith, spot_cases
 gathers_as (Some k) f g x y apart gone all same h = gathers f g x y apart gone all same h
 
 -- the held messages of a process come to the front of the inbox
-released_off : (v : View) (p : Pid) (z : Spot) → z ≢ Held v.acting p → z ≢ Inbox v.acting → ids_at (released v p) z ≡ ids_at v z
-released_off v p z h1 h2 = search (arith, at_record_off, held_apart, at_machine_off, inbox_apart)
-
 pub Stands-released : (bag : Bag) (v w : View) (p : Pid) → ((z : Spot) → ids_at w z ≡ ids_at (released v p) z) → ((i : MsgId) → w.told i ≡ v.told i) → Stands bag v → Stands bag w
 Stands-released bag v w p same told h =
     Stands-stays bag (released v p) w same told
@@ -67,7 +63,7 @@ Stands-released bag v w p same told h =
       kept = λ i. gathers_as (bag i) (standing v i) (standing (released v p) i) (Held v.acting p) (Inbox v.acting) (λ e. inbox_held v.acting v.acting p (sym e))
           (ap (times i) (at_record_at v.held v.acting p []))
           (ap (times i) (at_machine_at v.inbox v.acting (v.held v.acting p ++ v.inbox v.acting)) ∙ times-append i (v.held v.acting p) (v.inbox v.acting))
-          (λ z a b. ap (times i) (released_off v p z a b)) (h.kept i);
+          (λ z a b. ap (times i) (let e_ : ids_at (released v p) z ≡ ids_at v z = search (arith, at_record_off, held_apart, at_machine_off, inbox_apart) in e_)) (h.kept i);
       told = h.told;
       mine = h.mine;
     })
@@ -78,23 +74,19 @@ without_all [] bag i = bag i
 without_all (j ∷ js) bag i = if id_eq j i then None else without_all js bag i
 
 pub flip_zero : (i j : MsgId) → one_of i j ≡ 0 → id_eq j i ≡ false
-flip_zero i j e = not_true (id_eq j i) (λ k. let is : j ≡ i = id_eq-is j i k in absurd (let one : one_of i j ≡ 1 = ap (λ x. one_of i x) is ∙ ap (λ (c : Bool). if c then 1 else 0) (id_eq-same i) in omega (arith, e, one)))
+flip_zero i j e = false_from_ne_true (id_eq j i) (λ k. let is : j ≡ i = id_eq-is j i k in absurd (let one : one_of i j ≡ 1 = ap (λ x. one_of i x) is ∙ ap (λ (c : Bool). if c then 1 else 0) (id_eq-same i) in omega (arith, e, one)))
 
 pub without_off : (js : List MsgId) (bag : Bag) (i : MsgId) → times i js ≡ 0 → without_all js bag i ≡ bag i
 without_off [] bag i e = refl
 without_off (j ∷ js) bag i e =
-    let first : one_of i j ≡ 0 = omega (arith, e) in
-    let rest : times i js ≡ 0 = omega (arith, e) in
-    ap (λ (c : Bool). if c then None else without_all js bag i) (flip_zero i j first) ∙ without_off js bag i rest
+    ap (λ (c : Bool). if c then None else without_all js bag i) (flip_zero i j (let first : one_of i j ≡ 0 = omega (arith, e) in first)) ∙ without_off js bag i (let rest : times i js ≡ 0 = omega (arith, e) in rest)
 
 pub without_at : (js : List MsgId) (bag : Bag) (i : MsgId) → 1 ≤ times i js → without_all js bag i ≡ None
 without_at [] bag i least = absurd (omega arith)
 without_at (j ∷ js) bag i least = elim (cases_Bool (id_eq j i)) [
   | inl same ↦ ap (λ (c : Bool). if c then None else without_all js bag i) same
   | inr apart ↦
-      let zero_ : one_of i j ≡ 0 = one_of-off i j apart in
-      let rest : 1 ≤ times i js = omega (arith, least, zero_) in
-      ap (λ (c : Bool). if c then None else without_all js bag i) apart ∙ without_at js bag i rest
+      ap (λ (c : Bool). if c then None else without_all js bag i) apart ∙ without_at js bag i (let rest : 1 ≤ times i js = omega (arith, least, one_of-off i j apart) in rest)
 ]
 
 pub without_some : (js : List MsgId) (bag : Bag) (i : MsgId) (x : Pid) → without_all js bag i ≡ Some x → bag i ≡ Some x
@@ -111,18 +103,6 @@ emptied v p = record v { queue = at_record v.queue v.acting p []; held = at_reco
 abbrev pub both_lists : View → Pid → List MsgId
 both_lists v p = v.queue v.acting p ++ v.held v.acting p
 
-emptied_off : (v : View) (p : Pid) (z : Spot) → z ≢ Queue v.acting p → z ≢ Held v.acting p → ids_at (emptied v p) z ≡ ids_at v z
-emptied_off v p z h1 h2 = search (arith, at_record_off, queue_apart, held_apart)
-
-emptied_queue : (v : View) (p : Pid) (i : MsgId) → times i (ids_at (emptied v p) (Queue v.acting p)) ≡ 0
-emptied_queue v p i = ap (times i) (at_record_at v.queue v.acting p [])
-
-emptied_held : (v : View) (p : Pid) (i : MsgId) → times i (ids_at (emptied v p) (Held v.acting p)) ≡ 0
-emptied_held v p i = ap (times i) (at_record_at v.held v.acting p [])
-
-pub zero_cases : (n : ℕ) → (n ≡ 0) ⊎ (1 ≤ n)
-zero_cases n = grind (arith, nat_tests)
-
 -- how often a message stands in both lists
 pub both_times : (v : View) (p : Pid) (i : MsgId) → times i (both_lists v p) ≡ standing v i (Queue v.acting p) + standing v i (Held v.acting p)
 both_times v p i = times-append i (v.queue v.acting p) (v.held v.acting p)
@@ -130,47 +110,40 @@ both_times v p i = times-append i (v.queue v.acting p) (v.held v.acting p)
 pub both_once : (bag : Bag) (v : View) (p : Pid) (i : MsgId) → Kept bag v → times i (both_lists v p) ≤ 1
 both_once bag v p i kept =
     let sum = both_times v p i in
-    elim (zero_cases (standing v i (Queue v.acting p))) [
-      | inl none ↦ elim (zero_cases (standing v i (Held v.acting p))) [
+    elim (cases_zero (standing v i (Queue v.acting p))) [
+      | inl none ↦ elim (cases_zero (standing v i (Held v.acting p))) [
         | inl nor ↦ omega (arith, sum, none, nor)
         | inr least ↦ let one = StandsAsBag-one (bag i) (standing v i) (Held v.acting p) least (kept i) in omega (arith, sum, none, one)
       ]
       | inr least ↦
           let one = StandsAsBag-one (bag i) (standing v i) (Queue v.acting p) least (kept i) in
-          let none = StandsAsBag-elsewhere (bag i) (standing v i) (Queue v.acting p) (Held v.acting p) least (λ e. false≢true (ap is_held (sym e))) (kept i) in
-          omega (arith, sum, one, none)
+          omega (arith, sum, one, StandsAsBag-elsewhere (bag i) (standing v i) (Queue v.acting p) (Held v.acting p) least (λ e. false≢true (ap is_held (sym e))) (kept i))
     ]
 
 nowhere_left : (m : Option Pid) (f g : Spot → ℕ) (x y : Spot) → 1 ≤ f x + f y → g x ≡ 0 → g y ≡ 0 → ((z : Spot) → z ≢ x → z ≢ y → g z ≡ f z) → StandsAsBag m f → StandsNowhere g
 nowhere_left m f g x y least gx gy same h z = elim (spot_cases z x) [
   | inl is ↦ ap g is ∙ gx
-  | inr other ↦ search (arith, spot_cases, zero_cases, StandsAsBag-elsewhere)
+  | inr other ↦ search (arith, spot_cases, cases_zero, StandsAsBag-elsewhere)
 ]
 
-emptied_kept : (bag : Bag) (v : View) (p : Pid) → Kept bag v → Kept (without_all (both_lists v p) bag) (emptied v p)
+pub emptied_kept : (bag : Bag) (v : View) (p : Pid) → Kept bag v → Kept (without_all (both_lists v p) bag) (emptied v p)
 emptied_kept bag v p kept i =
+    let emptied_off : (v : View) (p : Pid) (z : Spot) → z ≢ Queue v.acting p → z ≢ Held v.acting p → ids_at (emptied v p) z ≡ ids_at v z = λ v p z h1 h2. search (arith, at_record_off, queue_apart, held_apart) in
     let sum = both_times v p i in
     let x = Queue v.acting p in
     let y = Held v.acting p in
-    elim (zero_cases (times i (both_lists v p))) [
+    let emptied_held : (v : View) (p : Pid) (i : MsgId) → times i (ids_at (emptied v p) (Held v.acting p)) ≡ 0 = λ v p i. ap (times i) (at_record_at v.held v.acting p []) in
+    elim (cases_zero (times i (both_lists v p))) [
       | inl none ↦
           subst (λ (m : Option Pid). StandsAsBag m (standing (emptied v p) i)) (sym (without_off (both_lists v p) bag i none))
           (StandsAsBag-same (bag i) (standing v i) (standing (emptied v p) i) (λ z. elim (spot_cases z x) [
-            | inl is ↦ ap (standing (emptied v p) i) is ∙ emptied_queue v p i ∙ (let fx : standing v i x ≡ 0 = omega (arith, sum, none) in sym fx) ∙ ap (standing v i) (sym is)
+            | inl is ↦ ap (standing (emptied v p) i) is ∙ ap (times i) (at_record_at v.queue v.acting p []) ∙ (let fx : standing v i x ≡ 0 = omega (arith, sum, none) in sym fx) ∙ ap (standing v i) (sym is)
             | inr other ↦ search (arith, spot_cases, emptied_held, emptied_off)
           ]) (kept i))
       | inr least ↦
           subst (λ (m : Option Pid). StandsAsBag m (standing (emptied v p) i)) (sym (without_at (both_lists v p) bag i least))
-          (nowhere_left (bag i) (standing v i) (standing (emptied v p) i) x y (omega (arith, sum, least)) (emptied_queue v p i) (emptied_held v p i) (λ z a b. ap (times i) (emptied_off v p z a b)) (kept i))
+          (nowhere_left (bag i) (standing v i) (standing (emptied v p) i) x y (omega (arith, sum, least)) (ap (times i) (at_record_at v.queue v.acting p [])) (emptied_held v p i) (λ z a b. ap (times i) (emptied_off v p z a b)) (kept i))
     ]
-
-emptied_fewer : (v : View) (p : Pid) (m : ℕ) (q : Pid) (j : MsgId) → 1 ≤ times j (at_record v.queue v.acting p [] m q) → 1 ≤ times j (v.queue m q)
-emptied_fewer v p m q j least = grind (arith, nat_tests, at_record_off)
-
-pub Stands-emptied : (bag : Bag) (v w : View) (p : Pid) → ((z : Spot) → ids_at w z ≡ ids_at (emptied v p) z) → ((i : MsgId) → w.told i ≡ v.told i) → Stands bag v → Stands (without_all (both_lists v p) bag) w
-Stands-emptied bag v w p same told h =
-    Stands-stays (without_all (both_lists v p) bag) (emptied v p) w same told
-    ((search (arith, emptied_kept, without_some, emptied_fewer)))
 
 -- what stands somewhere is under way
 pub under_way : (m : Option Pid) (f : Spot → ℕ) (x : Spot) → 1 ≤ f x → StandsAsBag m f → (q : Pid) × (m ≡ Some q)

@@ -1,9 +1,9 @@
 -- The rows of migration keep that each message stands once.
 use Rattle.dm_rule.proofs.Names.{◌≡◌, ℕ, ◌==◌, Bool, true, false, List, [], ◌∷◌, ◌++◌, refl, ap, ◌∙◌, sym, subst, length, if◌then◌else◌, Option, None, Some, Pid, pid_of, pid_eq, MsgId, MessageKind, Stage, Boot, switchboard, manager}
 use Rattle.dm_rule.proofs.Names.{PlainProcess, Line, View, Told, About, NothingElse, Known, Unknown, Here, Frozen, Forward, Ended, view_after, handled, handled_first, receiver_of, is_kernels, target_of, with_ring, knowing, released}
-use Rattle.dm_rule.proofs.Names.{after_proto, asks_on, held_for, Addresses, Sender, Child, is_told_back, Point, moved, Part, Says, Again, Owns, Spelled, spelled, to_kernel, forwards_on, accepts, takes_chunk, takes_block, gives_piece}
-use Rattle.dm_rule.proofs.Names.{sends_on, leaves, told_step, chunks_of, pieces_of, told_here, told_ended, process_told, told_server, migrates, kernel_hears, hears, Spot, Queue, ids_at, bind-is, label_of, Label, MoveNote, Outcome, Target}
-use Rattle.dm_rule.proofs.Names.{answer_id, answers_move, frozen_for, leaves_for, tells_asker, sets_off, sort_of, option_and_then, slice_get, arith, nat_tests}
+use Rattle.dm_rule.proofs.Names.{after_proto, asks_on, held_for, Addresses, Sender, is_told_back, Point, moved, Part, Says, Again, Owns, Spelled, spelled, to_kernel, forwards_on, accepts, takes_chunk, takes_block, gives_piece, sends_on}
+use Rattle.dm_rule.proofs.Names.{leaves, told_step, chunks_of, pieces_of, told_here, told_ended, process_told, told_server, kernel_hears, hears, Spot, Queue, ids_at, bind-is, label_of, Label, MoveNote, Outcome, Target, answer_id}
+use Rattle.dm_rule.proofs.Names.{answers_move, frozen_for, leaves_for, tells_asker, sets_off, sort_of, option_and_then, slice_get, arith, nat_tests}
 use Rattle.dm_rule.proofs.Lines.{hidden, Stands-stays}
 use Rattle.dm_rule.proofs.Letters.{letters}
 use Rattle.dm_rule.proofs.Hushed.{is_put, hushed}
@@ -13,7 +13,6 @@ use Rattle.dm_rule.proofs.Said.{fits_as, line_and_route}
 use Rattle.dm_rule.proofs.Moves.Lists.{Stands-held, Stands-released, both_lists, first_off}
 use Rattle.dm_rule.proofs.Moves.States.{Between, by_own, front_way, front_kernels}
 use Rattle.dm_rule.proofs.Moves.Sent.{Way, Steady, steadied, line_next, line_ends, line_owns, owns_ends, again_next, all_again, forwarded_way, sent_way}
-use Rattle.dm_rule.proofs.Requests.{by_migrates}
 use Rattle.dm_rule.proofs.Seen.{about_off}
 use Rattle.dm_rule.proofs.Bags.{bag_answered}
 use Rattle.dm_rule.proofs.Turns.{quiet_label}
@@ -25,15 +24,12 @@ pub record SeesSame (o pt : Point) (m : ℕ) : Type 0 where
   pub held : (q : Pid) → o.view.held m q ≡ pt.view.held pt.view.acting q
 
 -- held
-held_told : (v : View) (i : MsgId) (o : Option Pid) (j : MsgId) → (held_for (handled v i) i o).told j ≡ v.told j
-held_told v i None j = refl
-held_told v i (Some p) j = refl
-
 pub held_row : (pt : Point) (i : MsgId) (is : List MsgId) (w : Spelled) → State None pt → pt.view.inbox pt.view.acting ≡ i ∷ is → spelled pt (Says (Line.Held i) ∷ []) ≡ Some w → State None w.point
 held_row pt i is w h front e =
     let (q, way) = front_way pt i is h front in
     line_ends pt (Line.Held i) w refl
-    (by_line None pt (Line.Held i) refl h (Stands-held (letters h.own pt.kernel.bag) pt.view (view_after pt.view (Line.Held i)) i is q front way refl h.stands) (λ j. held_told pt.view i (receiver_of (pt.view.told i)) j)) e
+    (by_line None pt (Line.Held i) refl h (Stands-held (letters h.own pt.kernel.bag) pt.view (view_after pt.view (Line.Held i)) i is q front way refl h.stands) (λ j.
+    (elim (receiver_of (pt.view.told i)) as (λ o_. (held_for (handled pt.view i) i o_).told j ≡ pt.view.told j) [ None ↦ refl | Some p' ↦ refl ]))) e
 
 -- forwarded
 told_back : (pt : Point) (b : Bool) (q : Pid) (to : ℕ) (w : Spelled) → Steady pt → spelled pt (if b then Owns MessageKind.Update q to ∷ [] else []) ≡ Some w → State None w.point
@@ -56,12 +52,9 @@ goes_first pt l i is quiet h front mine off =
 pub goes_front : (pt : Point) (l : Line) (i : MsgId) (is : List MsgId) → is_put l ≡ false → State None pt → pt.view.inbox pt.view.acting ≡ i ∷ is → is_kernels i ≡ true → ((z : Spot) → ids_at (view_after pt.view l) z ≡ ids_at (handled pt.view i) z) → State None (moved pt l pt.kernel)
 goes_front pt l i is quiet h front mine off = goes_first pt l i is quiet h front mine (λ z. off z ∙ sym (first_off pt.view i is front z))
 
-pub asks_off : (v : View) (a : About) (z : Spot) → ids_at (asks_on v a) z ≡ ids_at v z
-asks_off v a z = search arith
-
 pub proto_off : (v : View) (o : Option Told) (z : Spot) → ids_at (after_proto v o) z ≡ ids_at v z
 proto_off v None z = about_off v NothingElse z
-proto_off v (Some t) z = search (arith, about_off, asks_off)
+proto_off v (Some t) z = let asks_off : (v : View) (a : About) (z : Spot) → ids_at (asks_on v a) z ≡ ids_at v z = λ v a z. search arith in search (arith, about_off, asks_off)
 
 for_off : (v : View) (p : Pid) (to : ℕ) (z : Spot) → ids_at (frozen_for v p to) z ≡ ids_at v z
 for_off v p to (Queue m q) = refl
@@ -162,13 +155,6 @@ block_row pt i is p true w h fit front mine e =
     line_owns pt (Line.Migration Stage.MemoryTaken p) MessageKind.AllTaken (pid_of i.from.home 0) i.from.home w refl refl fit (goes_first pt (Line.Migration Stage.MemoryTaken p) i is refl h front mine (λ z. memory_off pt.view p z)) e
 block_row pt i is p false w h fit front mine e = proto_row pt i is MessageKind.PullBlock w h fit front mine e
 
--- a process has left, and may be restarted
-left_row : (pt : Point) (i : MsgId) (p : Pid) (w : Spelled) → Steady pt → spelled pt (Says (Line.Migration Stage.Left p) ∷ to_kernel MessageKind.Restart i.from.home ∷ []) ≡ Some w → State None w.point
-left_row pt i p w h e =
-    let l = Line.Migration Stage.Left p in
-    line_owns pt l MessageKind.Restart (pid_of i.from.home 0) i.from.home w refl refl h.fits
-    (by_line None pt l refl h.state (Stands-stays (letters h.state.own pt.kernel.bag) pt.view (view_after pt.view l) (λ z. left_off pt.view p z) (λ j. refl) h.state.stands) (λ j. refl)) e
-
 -- the lists of a process that has left go on
 leaves_row : (pt : Point) (i : MsgId) (is : List MsgId) (p : Pid) (ids : List MsgId) (k : Known) (parts : List Part) (w : Spelled) → State None pt → PairsFit pt.view → pt.view.inbox pt.view.acting ≡ i ∷ is → is_kernels i ≡ true → both_lists pt.view p ≡ ids → leaves i p ids k ≡ Some parts → spelled pt parts ≡ Some w → State None w.point
 leaves_row pt i is p ids (Frozen to) parts w h fit front mine same e n =
@@ -180,6 +166,11 @@ leaves_row pt i is p ids (Frozen to) parts w h fit front mine same e n =
     let fit' : PairsFit next.view = fits_as pt.view next.view (pair_same pt.view l refl) fit in
     let way : Way ids next = record { between = subst (λ (js : List MsgId). Between js next) same (sent_way pt p (length ids) i is h front mine); fits = fit' } in
     let a = all_again ids next to end k.rest way k.more in
+    -- a process has left, and may be restarted
+    let left_row : (pt : Point) (i : MsgId) (p : Pid) (w : Spelled) → Steady pt → spelled pt (Says (Line.Migration Stage.Left p) ∷ to_kernel MessageKind.Restart i.from.home ∷ []) ≡ Some w → State None w.point = λ pt i p w h e.
+      let l = Line.Migration Stage.Left p in
+      line_owns pt l MessageKind.Restart (pid_of i.from.home 0) i.from.home w refl refl h.fits
+      (by_line None pt l refl h.state (Stands-stays (letters h.state.own pt.kernel.bag) pt.view (view_after pt.view l) (λ z. left_off pt.view p z) (λ j. refl) h.state.stands) (λ j. refl)) e in
     State-at None k.rest.point w.point k.point (State-at None a.rest.point k.rest.point a.point (left_row a.next i p a.rest (steadied a.next a.stands) a.more))
 leaves_row pt i is p ids _ parts w h fit front mine same e n = cc
 
@@ -235,14 +226,10 @@ process_row o pt m i is t (Forward at moves) parts w h fit topic front mine e n 
 process_row o pt m i is t Ended parts w h fit topic front mine e n = ended_row pt i is t.kind parts w h front mine e n
 process_row o pt m i is t _ parts w h fit topic front mine e n = held_row pt i is w h front (given pt (Says (Line.Held i) ∷ []) parts w e n)
 
-kernel_row : (b : Boot) (o pt : Point) (m : ℕ) (i : MsgId) (is : List MsgId) (k : MessageKind) (a : About) (parts : List Part) (w : Spelled) → State None pt → PairsFit pt.view → pt.view.inbox pt.view.acting ≡ i ∷ is → is_kernels i ≡ true → SeesSame o pt m
-    → kernel_hears b o m i k a ≡ Some parts → spelled pt parts ≡ Some w → State None w.point
-kernel_row b o pt m i is k a parts w h1 h2 h3 h4 h5 h6 h7 = search (arith, bind-is, told_row)
-
 hears_by : (b : Boot) (o pt : Point) (m : ℕ) (i : MsgId) (is : List MsgId) (t : Told) (c d g : Bool) (parts : List Part) (w : Spelled) → State None pt → PairsFit pt.view → pt.view.topic ≡ NothingElse → pt.view.inbox pt.view.acting ≡ i ∷ is
     → is_kernels i ≡ true → SeesSame o pt m
     → (if c then kernel_hears b o m i t.kind t.about else if d then told_server o i t (sort_of t.kind) else if g then told_server o i t (sort_of t.kind) else process_told o m i t (o.view.known m t.receiver)) ≡ Some parts → spelled pt parts ≡ Some w → State None w.point
-hears_by b o pt m i is t true d g parts w h fit topic front mine sees e n = kernel_row b o pt m i is t.kind t.about parts w h fit front mine sees e n
+hears_by b o pt m i is t true d g parts w h fit topic front mine sees e n = search (arith, bind-is, told_row)
 hears_by b o pt m i is t false true g parts w h fit topic front mine sees e n = server_row o pt i is t t.kind parts w h front mine e n
 hears_by b o pt m i is t false false true parts w h fit topic front mine sees e n = server_row o pt i is t t.kind parts w h front mine e n
 hears_by b o pt m i is t false false false parts w h fit topic front mine sees e n = process_row o pt m i is t (o.view.known m t.receiver) parts w h fit topic front mine e n
@@ -253,9 +240,3 @@ pub hears_row : (b : Boot) (o pt : Point) (m : ℕ) (i : MsgId) (is : List MsgId
 hears_row b o pt m i is None parts w h fit topic front none sees e n = cc
 hears_row b o pt m i is (Some t) parts w h fit topic front none sees e n =
     hears_by b o pt m i is t (t.receiver.num == 0) (pid_eq t.receiver switchboard) (pid_eq t.receiver manager) parts w h fit topic front (front_kernels pt i is h front none) sees e n
-
--- the directive to migrate
-pub migrates_row : (o pt : Point) (p : Pid) (w : Spelled) → State None pt → PairsFit pt.view → spelled pt (migrates o p) ≡ Some w → State None w.point
-migrates_row o pt p w h fit =
-    by_migrates (λ (ps : List Part). spelled pt ps ≡ Some w → State None w.point) o p (λ e. line_ends pt (Line.Pinned p) w refl (by_line None pt (Line.Pinned p) refl h h.stands (λ j. refl)) e)
-    (λ e. line_ends pt (Line.NoChild p) w refl (by_line None pt (Line.NoChild p) refl h h.stands (λ j. refl)) e) (λ n off is e. owns_ends pt MessageKind.Migrate p (o.addresses (Child n)).at w (record { state = h; fits = fit }) e)

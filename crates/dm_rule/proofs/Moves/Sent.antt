@@ -1,31 +1,27 @@
 -- Messages that go on: one that is forwarded, and all that stand in the lists of a process that has left.
 use Rattle.dm_rule.proofs.Names.{◌≡◌, ℕ, ◌+◌, ◌≤◌, ◌==◌, ◌&&◌, Bool, true, false, List, [], ◌∷◌, ◌++◌, refl, ap, ◌∙◌, sym, subst, arith, length, ◌⊎◌, inl, inr, if◌then◌else◌, Option, None, Some, nat_tests, Pid, MsgId, MessageKind, id_eq}
 use Rattle.dm_rule.proofs.Names.{bind, Line, Load, View, Pair, Told, view_after, handled, handled_first, receiver_of, is_kernels, own_id, forwarded_for, routed_on, after_put, Point, label_of, moved, seen, after, Part, Says, Again, Owns}
-use Rattle.dm_rule.proofs.Names.{Spelled, lines_of, puts, behind, spelled, sends_on, Spot, Queue, Held, times, ids_at, standing, id_eq-is, bind-is}
-use Rattle.dm_rule.proofs.Lines.{Bag, hidden, Stands, Stands-same, Stands-handled}
+use Rattle.dm_rule.proofs.Names.{Spelled, lines_of, puts, behind, spelled, sends_on, Spot, Queue, Held, times, ids_at, standing, id_eq-is, bind-is, at_record}
+use Rattle.dm_rule.proofs.Lines.{Bag, hidden, Stands, Stands-same, Stands-handled, at_record_off, Stands-stays}
 use Rattle.dm_rule.proofs.Letters.{letters}
 use Rattle.dm_rule.proofs.Hushed.{hushed}
 use Rattle.dm_rule.proofs.Pairs.Stand.{set_is, set_other}
 use Rattle.dm_rule.proofs.Pairs.Lines.{touches, pair_same}
 use Rattle.dm_rule.proofs.States.{State, PairsFit, says_next, said, State-at, by_packet, numbered_as, PutNext, puts_next}
 use Rattle.dm_rule.proofs.Said.{fits_as}
-use Rattle.dm_rule.proofs.Moves.Lists.{without_all, both_lists, both_once, both_times, emptied, Stands-emptied, under_way, first_off}
-use Rattle.dm_rule.proofs.Moves.States.{hidden_letters, front_way, Between, between_packet, arrived, again, by_own_put}
+use Rattle.dm_rule.proofs.Moves.Lists.{without_all, both_lists, both_once, both_times, emptied, under_way, first_off, emptied_kept, without_some}
+use Rattle.dm_rule.proofs.Moves.States.{hidden_letters, front_way, Between, between_packet, again, by_own_put}
 use Rattle.dm_rule.proofs.Pairs.Moves.{one_more}
-
-put_within : (a b : ℕ) (p : Pair) (i : MsgId) (c : Bool) → (a == b) ≡ c → p.taken ≤ length p.ids → (routed_on a b p i).taken ≤ length (p.ids ++ i ∷ [])
-put_within a b p i c h1 h2 = search (arith, one_more)
-
-put_home : (a b : ℕ) (p : Pair) (i : MsgId) → (a == b) ≡ true → p.taken ≡ length p.ids → (routed_on a b p i).taken ≡ length (p.ids ++ i ∷ [])
-put_home a b p i e is =
-    let t : (routed_on a b p i).taken ≡ p.taken + 1 = ap (λ (c : Bool). if c then p.taken + 1 else p.taken) e in
-    let l = one_more p i in omega (arith, t, l, is)
 
 same_two : (a b c : ℕ) → ((a == c) && (b == c)) ≡ true → (a ≡ b) × ((a == b) ≡ true)
 same_two a b c e = (grind (arith, nat_tests), grind (arith, nat_tests))
 
 pub fits_put : (v : View) (a b : ℕ) (i : MsgId) (k : MessageKind) (q : Pid) → PairsFit v → PairsFit (after_put v a b i k q)
-fits_put v a b i k q h = search (arith, set_is, put_within, set_other, same_two, put_home)
+fits_put v a b i k q h =
+    let put_home : (a b : ℕ) (p : Pair) (i : MsgId) → (a == b) ≡ true → p.taken ≡ length p.ids → (routed_on a b p i).taken ≡ length (p.ids ++ i ∷ []) = λ a b p i e is.
+      let l = one_more p i in omega (arith, ap (λ (c : Bool). if c then p.taken + 1 else p.taken) e, l, is) in
+    let put_within : (a b : ℕ) (p : Pair) (i : MsgId) (c : Bool) → (a == b) ≡ c → p.taken ≤ length p.ids → (routed_on a b p i).taken ≤ length (p.ids ++ i ∷ []) = λ a b p i c h1 h2. search (arith, one_more) in
+    search (arith, set_is, put_within, set_other, same_two, put_home)
 
 pub fits_packet : (v : View) (a b k : ℕ) (l : Load) → PairsFit v → PairsFit (view_after v (Line.Packet a b k l))
 fits_packet v a b k l h = search (arith, set_is, set_other, same_two)
@@ -42,9 +38,6 @@ pub record Steady (pt : Point) : Type 0 where
 pub way_packet : (gone : List MsgId) (q : Point) (a b k : ℕ) (l : Load) → Way gone q → Way gone (moved q (Line.Packet a b k l) q.kernel)
 way_packet gone q a b k l h = record { between = between_packet gone q a b k l h.between; fits = fits_packet q.view a b k l h.fits }
 
-steady_packet : (q : Point) (a b k : ℕ) (l : Load) → Steady q → Steady (moved q (Line.Packet a b k l) q.kernel)
-steady_packet q a b k l h = record { state = by_packet None q a b k l h.state; fits = fits_packet q.view a b k l h.fits }
-
 -- a line that is no step
 pub record LineNext (pt : Point) (l : Line) (ps : List Part) (w : Spelled) : Type 0 where
   pub rest : Spelled
@@ -59,14 +52,13 @@ line_ends pt l w none h e =
     let k = line_next pt l [] w none e in
     State-at None k.rest.point w.point k.point (State-at None (moved pt l pt.kernel) k.rest.point (said (moved pt l pt.kernel) k.rest k.more) h)
 
--- the next message of the kernel is put
-pub owns_next : (pt : Point) (k : MessageKind) (q : Pid) (b : ℕ) (ps : List Part) (w : Spelled) → Steady pt → spelled pt (Owns k q b ∷ ps) ≡ Some w → PutNext Steady ps w
-owns_next pt k q b ps w h e =
-    puts_next Steady steady_packet pt (Owns k q b) b (own_id pt.view) k q ps w refl
-    (record { state = by_own_put pt b k q h.fits h.state; fits = fits_put pt.view pt.view.acting b (own_id pt.view) k q h.fits }) e
-
 pub owns_ends : (pt : Point) (k : MessageKind) (q : Pid) (b : ℕ) (w : Spelled) → Steady pt → spelled pt (Owns k q b ∷ []) ≡ Some w → State None w.point
 owns_ends pt k q b w h e =
+    -- the next message of the kernel is put
+    let owns_next : (pt : Point) (k : MessageKind) (q : Pid) (b : ℕ) (ps : List Part) (w : Spelled) → Steady pt → spelled pt (Owns k q b ∷ ps) ≡ Some w → PutNext Steady ps w = λ pt k q b ps w h e.
+      let steady_packet : (q : Point) (a b k : ℕ) (l : Load) → Steady q → Steady (moved q (Line.Packet a b k l) q.kernel) = λ q a b k l h. record { state = by_packet None q a b k l h.state; fits = fits_packet q.view a b k l h.fits } in
+      puts_next Steady steady_packet pt (Owns k q b) b (own_id pt.view) k q ps w refl
+      (record { state = by_own_put pt b k q h.fits h.state; fits = fits_put pt.view pt.view.acting b (own_id pt.view) k q h.fits }) e in
     let n = owns_next pt k q b [] w h e in
     State-at None n.rest.point w.point n.point (State-at None n.next n.rest.point (said n.next n.rest n.more) n.stands.state)
 
@@ -93,7 +85,9 @@ all_again (i ∷ is) pt b ps w h e =
     record { next = m.next; stands = m.stands; rest = m.rest; more = m.more; point = m.point ∙ n.point }
 
 pub steadied : (pt : Point) → Way [] pt → Steady pt
-steadied pt h = record { state = arrived pt h.between; fits = h.fits }
+steadied pt h =
+    let arrived : (pt : Point) → Between [] pt → State None pt = λ pt h. record { r = h.r; e = h.e; sound = h.sound; own = h.own; stands = h.stands; untold = h.untold; numbered = h.numbered; pending = λ j k. cc; there = λ j k. cc } in
+    record { state = arrived pt h.between; fits = h.fits }
 
 -- a message is forwarded
 forwarded_off : (v : View) (i : MsgId) (o : Option Pid) (z : Spot) → ids_at (forwarded_for (handled v i) o) z ≡ ids_at (handled v i) z
@@ -136,14 +130,17 @@ least_of m n h1 = search arith
 
 lists_way : (bag : Bag) (v : View) (p : Pid) (j : MsgId) → 1 ≤ times j (both_lists v p) → Stands bag v → (q : Pid) × (bag j ≡ Some q)
 lists_way bag v p j least h =
-    let sum = both_times v p j in
-    elim (least_of (standing v j (Queue v.acting p)) (standing v j (Held v.acting p)) (subst (λ n. 1 ≤ n) sum least)) [
+    elim (least_of (standing v j (Queue v.acting p)) (standing v j (Held v.acting p)) (subst (λ n. 1 ≤ n) (both_times v p j) least)) [
       | inl x ↦ under_way (bag j) (standing v j) (Queue v.acting p) x (h.kept j)
       | inr y ↦ under_way (bag j) (standing v j) (Held v.acting p) y (h.kept j)
     ]
 
 pub sent_way : (pt : Point) (p : Pid) (n : ℕ) (i : MsgId) (is : List MsgId) → State None pt → pt.view.inbox pt.view.acting ≡ i ∷ is → is_kernels i ≡ true → Between (both_lists pt.view p) (moved pt (Line.SentOn p n) pt.kernel)
 sent_way pt p n i is h front mine =
+    let Stands-emptied : (bag : Bag) (v w : View) (p : Pid) → ((z : Spot) → ids_at w z ≡ ids_at (emptied v p) z) → ((i : MsgId) → w.told i ≡ v.told i) → Stands bag v → Stands (without_all (both_lists v p) bag) w = λ bag v w p same told h.
+      let emptied_fewer : (v : View) (p : Pid) (m : ℕ) (q : Pid) (j : MsgId) → 1 ≤ times j (at_record v.queue v.acting p [] m q) → 1 ≤ times j (v.queue m q) = λ v p m q j least. grind (arith, nat_tests, at_record_off) in
+      Stands-stays (without_all (both_lists v p) bag) (emptied v p) w same told
+      ((search (arith, emptied_kept, without_some, emptied_fewer))) in
     let v = pt.view in
     let l = Line.SentOn p n in
     let bag = letters h.own pt.kernel.bag in

@@ -1,14 +1,14 @@
 -- What migration says keeps that each message stands once: the kernels' own messages come and go, and messages go on.
-use Rattle.dm_rule.proofs.Names.{◌≡◌, ℕ, suc, ◌+◌, ◌≤◌, ◌==◌, Bool, true, false, List, [], ◌∷◌, refl, ap, ◌∙◌, sym, subst, arith, inl, inr, if◌then◌else◌, Option, None, Some, cases_Bool, false≢true, nat_tests, Pid, pid_of, MsgId}
-use Rattle.dm_rule.proofs.Names.{MessageKind, id_eq, id_of, PlainMessage, Line, Load, at_machine, View, Told, view_after, handled_first, receiver_of, is_kernels, own_id, to_of, Point, moved, seen, Spot, Inbox, Untaken, times, ids_at}
-use Rattle.dm_rule.proofs.Names.{standing, id_eq-is, id_eq-same, Sound}
+use Rattle.dm_rule.proofs.Names.{◌≡◌, ℕ, suc, ◌+◌, ◌≤◌, ◌==◌, Bool, true, false, List, ◌∷◌, refl, ap, ◌∙◌, sym, subst, arith, inl, inr, if◌then◌else◌, Option, None, Some, cases_Bool, false≢true, nat_tests, Pid, pid_of, MsgId, MessageKind}
+use Rattle.dm_rule.proofs.Names.{id_eq, id_of, PlainMessage, Line, Load, at_machine, View, Told, view_after, handled_first, receiver_of, is_kernels, own_id, to_of, Point, moved, seen, Inbox, times, standing, id_eq-is, id_eq-same, Sound}
+use Rattle.dm_rule.proofs.Names.{false_from_ne_true}
 use Rattle.dm_rule.specs.View as view
 use Rattle.dm_rule.proofs.Once.{one_of}
-use Rattle.dm_rule.proofs.Lines.{Bag, hidden, having, Stands, Stands-same, Stands-stays, Stands-handled, untold_tells, having_off, pair_keeps, not_true}
+use Rattle.dm_rule.proofs.Lines.{Bag, hidden, having, Stands, Stands-same, Stands-stays, Stands-handled, untold_tells, having_off}
 use Rattle.dm_rule.proofs.Letters.{letters, letters_own, letters_bag}
 use Rattle.dm_rule.proofs.Seen.{Stands-about}
 use Rattle.dm_rule.proofs.Hushed.{is_put, hushed}
-use Rattle.dm_rule.proofs.States.{State, PairsFit, put_stands, put_told_off, numbered_as}
+use Rattle.dm_rule.proofs.States.{State, PairsFit, put_stands, put_told_off, numbered_as, packet_off}
 use Rattle.dm_rule.proofs.Moves.Lists.{without_all, without_off, under_way, first_off}
 
 -- a kernel's own message goes
@@ -24,8 +24,7 @@ hidden_letters own bag i k j = elim (cases_Bool (id_eq i j)) [
 -- the message at the front of the inbox stands there
 pub front_one : (v : View) (m : ℕ) (i : MsgId) (is : List MsgId) → v.inbox m ≡ i ∷ is → 1 ≤ standing v i (Inbox m)
 front_one v m i is front =
-    let a : times i (v.inbox m) ≡ times i (i ∷ is) = ap (times i) front in
-    let b : one_of i i ≡ 1 = ap (λ (c : Bool). if c then 1 else 0) (id_eq-same i) in omega (arith, a, b)
+    let b : one_of i i ≡ 1 = ap (λ (c : Bool). if c then 1 else 0) (id_eq-same i) in omega (arith, ap (times i) front, b)
 
 pub inbox_way : (pt : Point) (m : ℕ) (i : MsgId) (is : List MsgId) (h : State None pt) → pt.view.inbox m ≡ i ∷ is → (q : Pid) × (letters h.own pt.kernel.bag i ≡ Some q)
 inbox_way pt m i is h front = under_way (letters h.own pt.kernel.bag i) (standing pt.view i) (Inbox m) (front_one pt.view m i is front) (h.stands.kept i)
@@ -72,14 +71,6 @@ pub record Between (gone : List MsgId) (pt : Point) : Type 0 where
   pub way : (i : MsgId) → 1 ≤ times i gone → (q : Pid) × (letters own pt.kernel.bag i ≡ Some q) × (receiver_of (pt.view.told i) ≡ Some q)
   pub once : (i : MsgId) → times i gone ≤ 1
 
-pub arrived : (pt : Point) → Between [] pt → State None pt
-arrived pt h = record { r = h.r; e = h.e; sound = h.sound; own = h.own; stands = h.stands; untold = h.untold; numbered = h.numbered; pending = λ j k. cc; there = λ j k. cc }
-
--- a packet moves no message
-pub packet_off : (v : View) (a b k : ℕ) (l : Load) (z : Spot) → ids_at (view_after v (Line.Packet a b k l)) z ≡ ids_at v z
-packet_off v a b k l (Untaken c d) = pair_keeps v.pair a b _ refl c d
-packet_off v a b k l _ = refl
-
 pub between_packet : (gone : List MsgId) (q : Point) (a b k : ℕ) (l : Load) → Between gone q → Between gone (moved q (Line.Packet a b k l) q.kernel)
 between_packet gone q a b k l h = record {
   r = h.r;
@@ -105,17 +96,15 @@ not_first i (Some s) t e = refl
 pub again_told : (v : View) (a b : ℕ) (i : MsgId) (t : Told) → v.told i ≡ Some t → (j : MsgId) → (view.after_put v a b i t.kind t.receiver).told j ≡ v.told j
 again_told v a b i t is j = elim (cases_Bool (id_eq i j)) [
   | inl same ↦
-      let ij : i ≡ j = id_eq-is i j same in
       ap (λ (c : Bool). if c then Some (view.first_told (v.told i) (record { kind = t.kind; receiver = t.receiver; about = v.topic })) else v.told j) same
-      ∙ ap Some (told_same (v.told i) t (record { kind = t.kind; receiver = t.receiver; about = v.topic }) is) ∙ sym is ∙ ap v.told ij
+      ∙ ap Some (told_same (v.told i) t (record { kind = t.kind; receiver = t.receiver; about = v.topic }) is) ∙ sym is ∙ ap v.told (id_eq-is i j same)
   | inr apart ↦ put_told_off v a b i j t.kind t.receiver apart
 ]
 
 again_bag : (i : MsgId) (is : List MsgId) (q : Pid) (bag : Bag) → bag i ≡ Some q → times i is ≡ 0 → (j : MsgId) → without_all is bag j ≡ having i q (without_all (i ∷ is) bag) j
 again_bag i is q bag there none j = elim (cases_Bool (id_eq i j)) [
   | inl same ↦
-      let ij : i ≡ j = id_eq-is i j same in
-      subst (λ (x : MsgId). without_all is bag x ≡ Some q) ij (without_off is bag i none ∙ there) ∙ sym (ap (λ (c : Bool). if c then Some q else without_all (i ∷ is) bag j) same)
+      subst (λ (x : MsgId). without_all is bag x ≡ Some q) (id_eq-is i j same) (without_off is bag i none ∙ there) ∙ sym (ap (λ (c : Bool). if c then Some q else without_all (i ∷ is) bag j) same)
   | inr apart ↦ sym (ap (λ (c : Bool). if c then None else without_all is bag j) apart) ∙ sym (having_off i q (without_all (i ∷ is) bag) j apart)
 ]
 
@@ -129,8 +118,7 @@ again pt b i is t fits told h =
     let to : t.receiver ≡ q = (let f : Some t.receiver ≡ Some q = sym (ap receiver_of told) ∙ tells in cc) in
     let none : times i is ≡ 0 = (let k = h.once i in omega (arith, mine, k)) in
     let same : (view.first_told (v.told i) (record { kind = t.kind; receiver = t.receiver; about = v.topic })).receiver ≡ t.receiver = ap (λ (u : Told). u.receiver) (told_same (v.told i) t (record { kind = t.kind; receiver = t.receiver; about = v.topic }) told) in
-    let out : without_all (i ∷ is) bag i ≡ None = ap (λ (c : Bool). if c then None else without_all is bag i) (id_eq-same i) in
-    let put = put_stands (without_all (i ∷ is) bag) v b i t.kind t.receiver (v.acting == b) refl out same fits h.stands in
+    let put = put_stands (without_all (i ∷ is) bag) v b i t.kind t.receiver (v.acting == b) refl (ap (λ (c : Bool). if c then None else without_all is bag i) (id_eq-same i)) same fits h.stands in
     let count : (view_after v l).count ≡ v.count = ap (λ (c : Bool). if c then at_machine v.count i.from.home (v.count i.from.home + 1) else v.count) (not_first i (v.told i) t told) in
     record {
       r = h.r;
@@ -144,10 +132,6 @@ again pt b i is t fits told h =
       once = λ j. (let k = h.once j in omega (arith, k));
     }
 
--- the next message of the acting machine's kernel
-own_kernels : (v : View) → is_kernels (own_id v) ≡ true
-own_kernels v = refl
-
 own_bag : (own : Bag) (bag : MsgId → Option PlainMessage) (i : MsgId) (q : Pid) → is_kernels i ≡ true → (j : MsgId) → letters (having i q own) bag j ≡ having i q (letters own bag) j
 own_bag own bag i q k j = elim (cases_Bool (id_eq i j)) [
   | inl same ↦
@@ -158,13 +142,10 @@ own_bag own bag i q k j = elim (cases_Bool (id_eq i j)) [
 ]
 
 other_number : (a c m n : ℕ) → suc c ≤ n → id_eq (id_of (pid_of a 0) c) (id_of (pid_of m 0) n) ≡ false
-other_number a c m n le = not_true (id_eq (id_of (pid_of a 0) c) (id_of (pid_of m 0) n)) (λ e. let f : c ≡ n = ap (λ (i : MsgId). i.n) (id_eq-is (id_of (pid_of a 0) c) (id_of (pid_of m 0) n) e) in absurd (omega (arith, le, f)))
+other_number a c m n le = false_from_ne_true (id_eq (id_of (pid_of a 0) c) (id_of (pid_of m 0) n)) (λ e. let f : c ≡ n = ap (λ (i : MsgId). i.n) (id_eq-is (id_of (pid_of a 0) c) (id_of (pid_of m 0) n) e) in absurd (omega (arith, le, f)))
 
 other_home : (a c m n : ℕ) → (a == m) ≡ false → id_eq (id_of (pid_of a 0) c) (id_of (pid_of m 0) n) ≡ false
-other_home a c m n off = not_true (id_eq (id_of (pid_of a 0) c) (id_of (pid_of m 0) n)) (λ e. let f : a ≡ m = ap (λ (i : MsgId). i.from.home) (id_eq-is (id_of (pid_of a 0) c) (id_of (pid_of m 0) n) e) in absurd (let g : (a == m) ≡ true = grind (arith, nat_tests) in false≢true (sym off ∙ g)))
-
-own_apart : (v : View) (j : MsgId) → is_kernels j ≡ false → id_eq (own_id v) j ≡ false
-own_apart v j other = not_true (id_eq (own_id v) j) (λ e. false≢true (sym other ∙ sym (ap is_kernels (id_eq-is (own_id v) j e)) ∙ own_kernels v))
+other_home a c m n off = false_from_ne_true (id_eq (id_of (pid_of a 0) c) (id_of (pid_of m 0) n)) (λ e. let f : a ≡ m = ap (λ (i : MsgId). i.from.home) (id_eq-is (id_of (pid_of a 0) c) (id_of (pid_of m 0) n) e) in absurd (let g : (a == m) ≡ true = grind (arith, nat_tests) in false≢true (sym off ∙ g)))
 
 own_counts : (v : View) (a b : ℕ) (k : MessageKind) (q : Pid) → v.told (own_id v) ≡ None → (view.after_put v a b (own_id v) k q).count ≡ at_machine v.count v.acting (v.count v.acting + 1)
 own_counts v a b k q none = ap (λ (o : Option Told). if view.is_own (own_id v) o then at_machine v.count v.acting (v.count v.acting + 1) else v.count) none
@@ -177,19 +158,20 @@ pub by_own_put : (pt : Point) (b : ℕ) (k : MessageKind) (q : Pid) → PairsFit
 by_own_put pt b k q fits h =
     let v = pt.view in
     let i = own_id v in
-    let l = Line.Put v.acting b i k q in
     let bag = letters h.own pt.kernel.bag in
     let untold : v.told i ≡ None = h.numbered v.acting (v.count v.acting) (omega arith) in
     let none : bag i ≡ None = (elim (bag i) as (λ o. bag i ≡ o → o ≡ None)
     [ None ↦ λ is. refl | Some q ↦ λ is. absurd (let f : None ≡ Some q = sym (ap receiver_of untold) ∙ h.stands.told i q is in cc) ]) refl in
+    -- the next message of the acting machine's kernel
+    let own_kernels : (v : View) → is_kernels (own_id v) ≡ true = λ v. refl in
     record {
       r = h.r;
       e = h.e;
       sound = h.sound;
       own = having i q h.own;
-      stands = Stands-same (having i q bag) (letters (having i q h.own) pt.kernel.bag) (view_after v l) (own_bag h.own pt.kernel.bag i q (own_kernels v))
+      stands = Stands-same (having i q bag) (letters (having i q h.own) pt.kernel.bag) (view_after v (Line.Put v.acting b i k q)) (own_bag h.own pt.kernel.bag i q (own_kernels v))
           (put_stands bag v b i k q (v.acting == b) refl none (untold_tells (v.told i) (record { kind = k; receiver = q; about = v.topic }) untold) fits h.stands);
-      untold = λ j zero_ other. put_told_off v v.acting b i j k q (own_apart v j other) ∙ h.untold j zero_ other;
+      untold = λ j zero_ other. put_told_off v v.acting b i j k q (false_from_ne_true (id_eq (own_id v) j) (λ e. false≢true (sym other ∙ sym (ap is_kernels (id_eq-is (own_id v) j e)) ∙ own_kernels v))) ∙ h.untold j zero_ other;
       numbered = own_numbered v v.acting b k q untold h.numbered;
       pending = λ j x. cc;
       there = λ j x. cc;

@@ -3,18 +3,16 @@ use Rattle.dm_rule.proofs.Names.{◌≡◌, ℕ, zero, suc, ◌+◌, ◌-◌, �
 use Rattle.dm_rule.proofs.Names.{cases_Bool, false≢true, nat_tests, Line, Load, at_pair, View, Pair, SentLoad, with_pair, oldest, at_least, marked, Point, Part, Says, Transmits, Spelled, spelled, pair_window, has, kept_from, taking_parts}
 use Rattle.dm_rule.proofs.Names.{takes_on, less, more, let_go, arrives, numbers_from, repeats, comes}
 use Rattle.dm_rule.proofs.Pairs.Stand.{LoadStands, Apart, KeptStands, Stand, WireStands-at, set_same, set_other, two_of, Stand-set}
-use Rattle.dm_rule.proofs.Pairs.Moves.{Paired, Goes, changed, packed, next_goes, acked_goes, off, off_has, or_cases}
+use Rattle.dm_rule.proofs.Pairs.Moves.{Paired, Goes, changed, packed, next_goes, off, off_has, or_cases, at_least-more}
 use Rattle.dm_rule.proofs.Pairs.Lines.{Onward, onward, says_view, transmits_view, taken_pair, keeps}
 
 -- a number comes early
 abbrev early : ℕ → Pair → Pair
 early n p = record p { kept = n ∷ off n p.kept }
 
-early_kept : (n : ℕ) (p : Pair) → p.taken < n → n < p.gone → KeptStands p → KeptStands (early n p)
-early_kept n p above below h k e = grind (arith, nat_tests, or_cases, off_has)
-
 early_goes : (f : ℕ → ℕ → Pair) (a b n : ℕ) → (a == b) ≡ false → (f a b).taken < n → n < (f a b).gone → Paired f → Goes f (at_pair f a b (early n (f a b)))
 early_goes f a b n ab above below h =
+    let early_kept : (n : ℕ) (p : Pair) → p.taken < n → n < p.gone → KeptStands p → KeptStands (early n p) = λ n p above below h k e. grind (arith, nat_tests, or_cases, off_has) in
     let x = h.stand.apart a b ab in
     changed f a b (early n (f a b)) ab (record { acked = x.acked; taken = x.taken; gone = x.gone; full = x.full; wire = x.wire }) (omega arith) (omega arith) (early_kept n (f a b) above below (h.kept a b)) h
 
@@ -28,11 +26,10 @@ record Mid (f : ℕ → ℕ → Pair) (a b : ℕ) (ks : List ℕ) : Type 0 where
 abbrev took : ℕ → Pair → Pair
 took n p = record p { taken = p.taken + 1; kept = off n p.kept }
 
-took_here : (n : ℕ) (p : Pair) (ks : List ℕ) → p.taken ≡ n → ((k : ℕ) → has k p.kept ≡ true → (p.taken ≤ k) × (has k ks ≡ true)) → (k : ℕ) → has k (off n p.kept) ≡ true → (p.taken + 1 ≤ k) × (has k ks ≡ true)
-took_here n p ks is h k e = let x = off_has n k p.kept e in let y = h k x.0 in (omega (arith, x.1, y.0), y.1)
-
 mid_take : (f : ℕ → ℕ → Pair) (a b n : ℕ) (ks : List ℕ) → (a == b) ≡ false → (f a b).taken ≡ n → n < (f a b).gone → Mid f a b ks → Mid (at_pair f a b (took n (f a b))) a b ks
 mid_take f a b n ks ab is below h =
+    let took_here : (n : ℕ) (p : Pair) (ks : List ℕ) → p.taken ≡ n → ((k : ℕ) → has k p.kept ≡ true → (p.taken ≤ k) × (has k ks ≡ true)) → (k : ℕ) → has k (off n p.kept) ≡ true → (p.taken + 1 ≤ k) × (has k ks ≡ true) =
+      λ n p ks is h k e. let x = off_has n k p.kept e in let y = h k x.0 in (omega (arith, x.1, y.0), y.1) in
     let same : took n (f a b) ≡ at_pair f a b (took n (f a b)) a b = sym (set_same f a b (took n (f a b))) in
     record {
       stand = Stand-set f a b (took n (f a b)) ab ((search arith)) (omega arith) h.stand;
@@ -66,9 +63,6 @@ took_pair pt a b n ps w o =
 at_two : (f g : ℕ → ℕ → Pair) (a b : ℕ) (p : Pair) → g ≡ at_pair f a b p → g a b ≡ p
 at_two f g a b p e = ap (λ (h : ℕ → ℕ → Pair). h a b) e ∙ set_same f a b p
 
-none_next : (f : ℕ → ℕ → Pair) (a b m : ℕ) (ks : List ℕ) → (f a b).taken ≡ m → has m ks ≡ false → (k : ℕ) → has k ks ≡ true → (f a b).taken ≢ k
-none_next f a b m ks is lacks k e same = false≢true (sym lacks ∙ ap (λ (n : ℕ). has n ks) (sym is ∙ same) ∙ e)
-
 takes_keep : (fuel m a b : ℕ) (ks : List ℕ) (tail : List Part) (pt : Point) (w : Spelled) → (a == b) ≡ false → (pt.view.pair a b).taken ≡ m → (pt.view.pair a b).gone ≤ m + fuel → Mid pt.view.pair a b ks
     → spelled pt (taking_parts a b (kept_from ks m fuel) ++ tail) ≡ Some w → Took a b (m + length (kept_from ks m fuel)) tail w
 takes_keep zero m a b ks tail pt w ab is gone h e = record {
@@ -96,19 +90,18 @@ takes_keep (suc fuel) m a b ks tail pt w ab is gone h e = elim (cases_Bool (has 
       let others = kept_from ks (m + 1) fuel in
       let e' : spelled pt tail ≡ Some w = subst (λ (c : Bool). spelled pt (taking_parts a b (if c then m ∷ others else []) ++ tail) ≡ Some w) lacks e in
       let long : length (if has m ks then m ∷ others else []) ≡ 0 = ap (λ (c : Bool). length (if c then m ∷ others else [])) lacks in
+      let none_next : (f : ℕ → ℕ → Pair) (a b m : ℕ) (ks : List ℕ) → (f a b).taken ≡ m → has m ks ≡ false → (k : ℕ) → has k ks ≡ true → (f a b).taken ≢ k =
+        λ f a b m ks is lacks k e same. false≢true (sym lacks ∙ ap (λ (n : ℕ). has n ks) (sym is ∙ same) ∙ e) in
       record { at = pt; paired = mid_end pt.view.pair a b ks (none_next pt.view.pair a b m ks is lacks) h; taken = omega (arith, is, long); rest = w; on = e'; leads = refl }
 ]
-
--- then the count is acknowledged
-then_acked : (a b end : ℕ) (w : Spelled) → (b == a) ≡ false → Took a b end (Transmits b a (Load.Ack end) ∷ []) w → Paired w.point.view.pair
-then_acked a b end w ba t =
-    let k : Paired t.rest.point.view.pair = keeps (Transmits b a (Load.Ack end) ∷ []) t.at t.rest ((ba, let y = t.taken in omega (arith, y)), tt) t.paired t.on in
-    subst (λ (q : Point). Paired q.view.pair) t.leads k
 
 -- data that comes in order
 in_order : (pt : Point) (a b n : ℕ) (ks : List ℕ) (w : Spelled) → (a == b) ≡ false → (b == a) ≡ false → (pt.view.pair a b).taken ≡ n → n < (pt.view.pair a b).gone → (pt.view.pair a b).kept ≡ ks → Paired pt.view.pair
     → spelled pt (takes_on a b n (kept_from ks (n + 1) pair_window)) ≡ Some w → Paired w.point.view.pair
 in_order pt a b n ks w ab ba is below kept h e =
+    -- then the count is acknowledged
+    let then_acked : (a b end : ℕ) (w : Spelled) → (b == a) ≡ false → Took a b end (Transmits b a (Load.Ack end) ∷ []) w → Paired w.point.view.pair = λ a b end w ba t.
+      subst (λ (q : Point). Paired q.view.pair) t.leads (let k : Paired t.rest.point.view.pair = keeps (Transmits b a (Load.Ack end) ∷ []) t.at t.rest ((ba, let y = t.taken in omega (arith, y)), tt) t.paired t.on in k) in
     let others = kept_from ks (n + 1) pair_window in
     let tail = Transmits b a (Load.Ack (n + 1 + length others)) ∷ [] in
     let o = onward pt (Says (Line.Taken a b n)) (taking_parts a b others ++ tail) w e in
@@ -120,8 +113,7 @@ in_order pt a b n ks w ab ba is below kept h e =
     let full = x.full in
     let acked = x.acked in
     let start : Mid pt.view.pair a b ks = subst (Mid pt.view.pair a b) kept ((search arith)) in
-    let mid : Mid o.next.view.pair a b ks = subst (λ (g : ℕ → ℕ → Pair). Mid g a b ks) (sym pair) (mid_take pt.view.pair a b n ks ab is below start) in
-    let t = takes_keep pair_window (n + 1) a b ks tail o.next o.rest ab (omega arith) (omega arith) mid o.on in
+    let t = takes_keep pair_window (n + 1) a b ks tail o.next o.rest ab (omega arith) (omega arith) (subst (λ (g : ℕ → ℕ → Pair). Mid g a b ks) (sym pair) (mid_take pt.view.pair a b n ks ab is below start)) o.on in
     subst (λ (q : Point). Paired q.view.pair) o.end (then_acked a b (n + 1 + length others) o.rest ba t)
 
 -- data comes
@@ -135,12 +127,9 @@ data_by pt a b n p w true ahead f g ab ba is below kept h e =
 data_by pt a b n p w false true f g ab ba is below kept h e =
     let tail = Transmits b a (Load.Ack p.taken) ∷ [] in
     let o = onward pt (Says (Line.Early a b n)) tail w e in
-    let above : (pt.view.pair a b).taken < n = grind (arith, nat_tests) in
     let goes : Goes pt.view.pair o.next.view.pair =
-    subst (λ (v : View). Goes pt.view.pair v.pair) (sym (says_view pt (Line.Early a b n) tail w o)) (early_goes pt.view.pair a b n ab above below h) in
-    let later = goes.later.taken a b in
-    let k : Paired o.rest.point.view.pair = keeps tail o.next o.rest ((ba, omega (arith, later, is)), tt) goes.paired o.on in
-    subst (λ (q : Point). Paired q.view.pair) o.end k
+    subst (λ (v : View). Goes pt.view.pair v.pair) (sym (says_view pt (Line.Early a b n) tail w o)) (early_goes pt.view.pair a b n ab (let above : (pt.view.pair a b).taken < n = grind (arith, nat_tests) in above) below h) in
+    subst (λ (q : Point). Paired q.view.pair) o.end (let k : Paired o.rest.point.view.pair = keeps tail o.next o.rest ((ba, omega (arith, goes.later.taken a b, is)), tt) goes.paired o.on in k)
 data_by pt a b n p w false false f g ab ba is below kept h e =
     let same : p.taken ≡ n = grind (arith, nat_tests) in in_order pt a b n p.kept w ab ba (is ∙ same) below kept h e
 
@@ -158,8 +147,7 @@ go_keep (suc k) n a b pt w ab is ids full h e =
     let out' : (o.next.view.pair a b).gone ≡ n + 1 = grind (arith, nat_tests) in
     let long : length (o.next.view.pair a b).ids ≡ length (pt.view.pair a b).ids = ap (λ (p : Pair). length p.ids) here in
     let acked : (o.next.view.pair a b).acked ≡ (pt.view.pair a b).acked = ap (λ (p : Pair). p.acked) here in
-    let r : Paired o.rest.point.view.pair = go_keep k (n + 1) a b o.next o.rest ab out' (omega arith) (omega arith) goes.paired o.on in
-    subst (λ (q : Point). Paired q.view.pair) o.end r
+    subst (λ (q : Point). Paired q.view.pair) o.end (let r : Paired o.rest.point.view.pair = go_keep k (n + 1) a b o.next o.rest ab out' (omega arith) (omega arith) goes.paired o.on in r)
 
 pub less-left : (m n : ℕ) → less m n ≤ m
 less-left m n = grind (arith, nat_tests)
@@ -174,6 +162,10 @@ more-is m n = grind (arith, nat_tests)
 ack_comes : (pt : Point) (a b n : ℕ) (p : Pair) (w : Spelled) → (b == a) ≡ false → pt.view.pair b a ≡ p → n ≤ p.taken → Paired pt.view.pair
     → spelled pt (Says (Line.Acked a b n) ∷ repeats b a (let_go p (more n p.acked))) ≡ Some w → Paired w.point.view.pair
 ack_comes pt a b n p w ba is le h e =
+    let acked_goes : (f : ℕ → ℕ → Pair) (a b n : ℕ) → (a == b) ≡ false → n ≤ (f a b).taken → Paired f → Goes f (at_pair f a b (record (f a b) { acked = at_least (f a b).acked n })) = λ f a b n ab le h.
+      let x = h.stand.apart a b ab in
+      changed f a b (record (f a b) { acked = at_least (f a b).acked n }) ab
+      ((search (arith, at_least-more))) (omega arith) (omega arith) (h.kept a b) h in
     let top = more n p.acked in
     let k = less (length p.ids - p.gone) (top + pair_window - p.gone) in
     let others = repeats b a (numbers_from p.gone k) in
@@ -184,22 +176,18 @@ ack_comes pt a b n p w ba is le h e =
     let here : o.next.view.pair b a ≡ record p { acked = at_least p.acked n } =
     at_two pt.view.pair o.next.view.pair b a (record (pt.view.pair b a) { acked = at_least (pt.view.pair b a).acked n }) pair ∙ ap (λ (q : Pair). record q { acked = at_least q.acked n }) is in
     let out : (o.next.view.pair b a).gone ≡ p.gone = ap (λ (q : Pair). q.gone) here in
-    let long : length (o.next.view.pair b a).ids ≡ length p.ids = ap (λ (q : Pair). length q.ids) here in
     let acked : (o.next.view.pair b a).acked ≡ top = ap (λ (q : Pair). q.acked) here ∙ sym (more-is p.acked n) in
     let x = goes.paired.stand.apart b a ba in
-    let gone = x.gone in
-    let full = x.full in
     let left = less-left (length p.ids - p.gone) (top + pair_window - p.gone) in
     let right = less-right (length p.ids - p.gone) (top + pair_window - p.gone) in
-    let r : Paired o.rest.point.view.pair = go_keep k p.gone b a o.next o.rest ba out (omega (arith, gone, out, long, left)) (omega (arith, full, out, acked, right)) goes.paired o.on in
+    let r : Paired o.rest.point.view.pair = go_keep k p.gone b a o.next o.rest ba out (omega (arith, x.gone, out, ap (λ (q : Pair). length q.ids) here, left)) (omega (arith, x.full, out, acked, right)) goes.paired o.on in
     subst (λ (q : Point). Paired q.view.pair) o.end r
 
 -- what comes, where the marked packet's pair is otherwise as it was
 comes_keep : (pt : Point) (a b k : ℕ) (p back : Pair) (l : Load) (w : Spelled) → (a == b) ≡ false → (b == a) ≡ false → pt.view.pair a b ≡ marked p k → pt.view.pair b a ≡ back → LoadStands p.gone back.taken l → Paired pt.view.pair
     → spelled pt (comes a b p back l) ≡ Some w → Paired w.point.view.pair
 comes_keep pt a b k p back (Load.Data n) w ab ba is other stands h e =
-    let out : (pt.view.pair a b).gone ≡ p.gone = ap (λ (q : Pair). q.gone) is in
-    data_by pt a b n p w (nat_lt n p.taken) (nat_lt p.taken n) refl refl ab ba (ap (λ (q : Pair). q.taken) is) (omega (arith, out, stands)) (ap (λ (q : Pair). q.kept) is) h e
+    data_by pt a b n p w (nat_lt n p.taken) (nat_lt p.taken n) refl refl ab ba (ap (λ (q : Pair). q.taken) is) (omega (arith, ap (λ (q : Pair). q.gone) is, stands)) (ap (λ (q : Pair). q.kept) is) h e
 comes_keep pt a b k p back (Load.Ack n) w ab ba is other stands h e = ack_comes pt a b n back w ba other stands h e
 
 pub arrives_keep : (pt : Point) (a b k : ℕ) (p back : Pair) (o : Option SentLoad) (w : Spelled) → slice_get p.wire k ≡ o → (a == b) ≡ false → (b == a) ≡ false → pt.view.pair a b ≡ marked p k → pt.view.pair b a ≡ back → Apart p back → Paired pt.view.pair

@@ -2,9 +2,10 @@
 use Rattle.dm_rule.proofs.Names.{◌≡◌, ℕ, ◌<◌, ◌≤◌, ◌==◌, Bool, true, false, List, [], ◌∷◌, ◌++◌, refl, ap, ◌∙◌, sym, subst, arith, length, ⊤, if◌then◌else◌, Option, None, Some, Pid, MsgId, MessageKind, plain_kind, Label, bind, Line, Load}
 use Rattle.dm_rule.proofs.Names.{Stage, View, Pair, Told, view_after, after_label, after_stage, after_packet, queued_for, held_for, forwarded_for, ends_by, taken_id, own_id, after_proto, asks_on, About, NothingElse, Target, seen, sets_off}
 use Rattle.dm_rule.proofs.Names.{Receiver, Point, kernel_after, label_of, moved, after_line, after, Part, Says, Routes, Again, Owns, Transmits, Spelled, spelled, behind, lines_of, puts, packet_line, goes_out, IsUnasked, sort_of, nat_tests}
+use Rattle.dm_rule.proofs.Names.{at_pair}
 use Rattle.dm_rule.proofs.Seen.{seen_is}
-use Rattle.dm_rule.proofs.Pairs.Stand.{Later, Later-same}
-use Rattle.dm_rule.proofs.Pairs.Moves.{Paired, Goes, again_goes, ack_goes, route_out, route_packed, route_home}
+use Rattle.dm_rule.proofs.Pairs.Stand.{Later}
+use Rattle.dm_rule.proofs.Pairs.Moves.{Paired, Goes, again_goes, route_out, route_packed, route_home, packed, packed_goes}
 pub use Rattle.dm_laws.proofs.Steps.{bind-is}
 
 -- lines that say something of a pair
@@ -33,23 +34,16 @@ pub taken_pair : (v : View) (b : ℕ) (o : Option MsgId) → (taken_id v b o).pa
 taken_pair v b None = refl
 taken_pair v b (Some id) = refl
 
-kills_pair : (k : MessageKind) (v : View) (o : Option Pid) → (ends_by (sort_of k) v o).pair ≡ v.pair
-kills_pair k v o = search arith
-
 pub label_pair : (v : View) (l : Label) → (after_label v l).pair ≡ v.pair
-label_pair v l = grind (arith, nat_tests, kills_pair)
+label_pair v l = let kills_pair : (k : MessageKind) (v : View) (o : Option Pid) → (ends_by (sort_of k) v o).pair ≡ v.pair = λ k v o. search arith in grind (arith, nat_tests, kills_pair)
 
 pub stage_pair : (v : View) (p : Pid) (s : Stage) → (after_stage v p s).pair ≡ v.pair
 stage_pair v p Stage.Frozen = elim v.topic as (λ a. (sets_off v p a).pair ≡ v.pair) [ Target m ↦ refl | _ ↦ refl ]
 stage_pair v p _ = refl
 
-pub asks_pair : (v : View) (a : About) → (asks_on v a).pair ≡ v.pair
-asks_pair v NothingElse = refl
-asks_pair v _ = refl
-
 pub proto_pair : (v : View) (o : Option Told) → (after_proto v o).pair ≡ v.pair
 proto_pair v None = refl
-proto_pair v (Some t) = grind (arith, nat_tests, asks_pair)
+proto_pair v (Some t) = let asks_pair : (v : View) (a : About) → (asks_on v a).pair ≡ v.pair = λ v a. elim a as (λ a_. (asks_on v a_).pair ≡ v.pair) [ NothingElse ↦ refl | _ ↦ refl ] in grind (arith, nat_tests, asks_pair)
 
 -- the other lines leave the pairs as they are
 pub pair_same : (v : View) (l : Line) → touches l ≡ false → (view_after v l).pair ≡ v.pair
@@ -86,16 +80,14 @@ onward pt p ps w e =
     let (ls, lines, more) = bind-is (lines_of pt p) (λ ls. bind (after pt ls) (λ next. bind (spelled next ps) (λ rest. Some (behind ls rest)))) w e in
     let (next, leads, last) = bind-is (after pt ls) (λ next. bind (spelled next ps) (λ rest. Some (behind ls rest))) w more in
     let (rest, on, is) = bind-is (spelled next ps) (λ rest. Some (behind ls rest)) w last in
-    let f : behind ls rest ≡ w = cc in
-    record { lines = ls; lines_are = lines; next = next; leads = leads; rest = rest; on = on; end = ap (λ (x : Spelled). x.point) f }
+    record { lines = ls; lines_are = lines; next = next; leads = leads; rest = rest; on = on; end = ap (λ (x : Spelled). x.point) (let f : behind ls rest ≡ w = cc in f) }
 
 pub says_view : (pt : Point) (l : Line) (ps : List Part) (w : Spelled) (o : Onward pt (Says l) ps w) → o.next.view ≡ seen pt.kernel pt.view l
 says_view pt l ps w o = let f : l ∷ [] ≡ o.lines = let g = o.lines_are in cc in one_view pt o.next l (ap (after pt) f ∙ o.leads)
 
 pub transmits_view : (pt : Point) (a b : ℕ) (l : Load) (ps : List Part) (w : Spelled) (o : Onward pt (Transmits a b l) ps w) → o.next.view ≡ after_packet pt.view a b l
 transmits_view pt a b l ps w o =
-    let f : packet_line pt.view a b l ∷ [] ≡ o.lines = let g = o.lines_are in cc in
-    one_view pt o.next (packet_line pt.view a b l) (ap (after pt) f ∙ o.leads)
+    one_view pt o.next (packet_line pt.view a b l) (ap (after pt) (let f : packet_line pt.view a b l ∷ [] ≡ o.lines = let g = o.lines_are in cc in f) ∙ o.leads)
 
 -- a route keeps
 puts_goes : (pt next : Point) (b : ℕ) (id : MsgId) (k : MessageKind) (q : Pid) (home out : Bool) → (pt.view.acting == b) ≡ home → goes_out (pt.view.pair pt.view.acting b) ≡ out
@@ -111,8 +103,7 @@ puts_goes pt next b id k q false true e f is h =
 
 puts_lead : (pt next : Point) (b : ℕ) (id : MsgId) (k : MessageKind) (q : Pid) (ls : List Line) → Some (puts pt.view b id k q) ≡ Some ls → after pt ls ≡ Some next → Paired pt.view.pair → Goes pt.view.pair next.view.pair
 puts_lead pt next b id k q ls is leads h =
-    let f : puts pt.view b id k q ≡ ls = cc in
-    puts_goes pt next b id k q (pt.view.acting == b) (goes_out (pt.view.pair pt.view.acting b)) refl refl (ap (after pt) f ∙ leads) h
+    puts_goes pt next b id k q (pt.view.acting == b) (goes_out (pt.view.pair pt.view.acting b)) refl refl (ap (after pt) (let f : puts pt.view b id k q ≡ ls = cc in f) ∙ leads) h
 
 -- parts that keep the pairs wherever they stand: a line that says nothing of pairs, a route, a packet that may go again, an
 -- acknowledgement of what was taken
@@ -126,12 +117,9 @@ abbrev pub AllFit : (ℕ → ℕ → Pair) → List Part → Type 0
 AllFit f [] = ⊤
 AllFit f (p ∷ ps) = Fits f p × AllFit f ps
 
-Fits-later : (f g : ℕ → ℕ → Pair) (p : Part) → Later f g → Fits f p → Fits g p
-Fits-later f g p h1 h2 = search arith
-
 pub AllFit-later : (f g : ℕ → ℕ → Pair) (ps : List Part) → Later f g → AllFit f ps → AllFit g ps
 AllFit-later f g [] k h = h
-AllFit-later f g (p ∷ ps) k h = (Fits-later f g p k h.0, AllFit-later f g ps k h.1)
+AllFit-later f g (p ∷ ps) k h = ((let e_ : Fits g p = search (arith, h.0) in e_), AllFit-later f g ps k h.1)
 
 pub AllFit-both : (f : ℕ → ℕ → Pair) (ps qs : List Part) → AllFit f ps → AllFit f qs → AllFit f (ps ++ qs)
 AllFit-both f [] qs h k = k
@@ -140,7 +128,7 @@ AllFit-both f (p ∷ ps) qs h k = (h.0, AllFit-both f ps qs h.1 k)
 pub fitting_goes : (pt : Point) (p : Part) (ps : List Part) (w : Spelled) (o : Onward pt p ps w) → Fits pt.view.pair p → Paired pt.view.pair → Goes pt.view.pair o.next.view.pair
 fitting_goes pt (Says l) ps w o fits h =
     let is : o.next.view.pair ≡ pt.view.pair = ap (λ (v : View). v.pair) (says_view pt l ps w o) ∙ pair_same pt.view l fits in
-    subst (Goes pt.view.pair) (sym is) (record { paired = h; later = Later-same pt.view.pair })
+    subst (Goes pt.view.pair) (sym is) (record { paired = h; later = (let e_ : Later pt.view.pair pt.view.pair = record { taken = λ a b. omega arith; gone = λ a b. omega arith } in e_) })
 fitting_goes pt (Routes id) ps w o fits h =
     let at = (pt.addresses (Receiver id)).at in
     let (m, there, is) = bind-is (pt.kernel.bag id) (λ m. Some (puts pt.view at id (plain_kind m.what) m.to)) o.lines o.lines_are in
@@ -152,6 +140,8 @@ fitting_goes pt (Owns k q b) ps w o fits h = puts_lead pt o.next b (own_id pt.vi
 fitting_goes pt (Transmits a b (Load.Data n)) ps w o fits h =
     subst (λ (v : View). Goes pt.view.pair v.pair) (sym (transmits_view pt a b (Load.Data n) ps w o)) (again_goes pt.view.pair a b n fits.0 fits.1 h)
 fitting_goes pt (Transmits a b (Load.Ack n)) ps w o fits h =
+    let ack_goes : (f : ℕ → ℕ → Pair) (a b n : ℕ) → (a == b) ≡ false → n ≤ (f b a).taken → Paired f → Goes f (at_pair f a b (packed (Load.Ack n) (f a b))) =
+      λ f a b n ab le h. let x = h.stand.apart a b ab in packed_goes f a b (Load.Ack n) ab le (omega arith) x.gone x.full h in
     subst (λ (v : View). Goes pt.view.pair v.pair) (sym (transmits_view pt a b (Load.Ack n) ps w o)) (ack_goes pt.view.pair a b n fits.0 fits.1 h)
 
 pub keeps : (ps : List Part) (pt : Point) (w : Spelled) → AllFit pt.view.pair ps → Paired pt.view.pair → spelled pt ps ≡ Some w → Paired w.point.view.pair
@@ -159,5 +149,4 @@ keeps [] pt w fits h e = let f : record { lines = []; point = pt } ≡ w = cc in
 keeps (p ∷ ps) pt w fits h e =
     let o = onward pt p ps w e in
     let g = fitting_goes pt p ps w o fits.0 h in
-    let k : Paired o.rest.point.view.pair = keeps ps o.next o.rest (AllFit-later pt.view.pair o.next.view.pair ps g.later fits.1) g.paired o.on in
-    subst (λ (x : Point). Paired x.view.pair) o.end k
+    subst (λ (x : Point). Paired x.view.pair) o.end (keeps ps o.next o.rest (AllFit-later pt.view.pair o.next.view.pair ps g.later fits.1) g.paired o.on)

@@ -1,8 +1,9 @@
 -- What each change of a pair keeps.
 use Rattle.dm_rule.proofs.Names.{◌≡◌, ℕ, ◌+◌, ◌-◌, ◌<◌, ◌≤◌, ◌==◌, ◌||◌, not, Bool, true, false, List, [], ◌∷◌, ◌++◌, refl, ap, ◌∙◌, sym, subst, ◌⊎◌, inl, inr, arith, length, ◌≢◌, if◌then◌else◌, filter, false≢true, nat_tests, MsgId, Load}
-use Rattle.dm_rule.proofs.Names.{at_pair, Pair, routed_on, gone_after, marked, at_least, goes_out, has, HomeStands}
+use Rattle.dm_rule.proofs.Names.{at_pair, Pair, routed_on, gone_after, at_least, goes_out, has, HomeStands, or_right}
 use Rattle.std.proofs.Common.{length-append}
-use Rattle.dm_rule.proofs.Pairs.Stand.{LoadStands, Apart, KeptStands, Kept, Stand, Later, Later-trans, WireStands-more, WireStands-put, WireStands-marked, set_same, Stand-set, Stand-home, Kept-set, Later-set}
+use Rattle.dm_rule.proofs.Pairs.Stand.{LoadStands, Apart, KeptStands, Kept, Stand, Later, WireStands-more, WireStands-put, set_same, Stand-set, Kept-set, Later-set, Apart-at, set_other, set_is}
+pub use Rattle.std.proofs.lemmas.Bool.{or_right as or_first}
 
 pub record Paired (f : ℕ → ℕ → Pair) : Type 0 where
   pub stand : Stand f
@@ -12,9 +13,6 @@ pub record Paired (f : ℕ → ℕ → Pair) : Type 0 where
 pub record Goes (f g : ℕ → ℕ → Pair) : Type 0 where
   pub paired : Paired g
   pub later : Later f g
-
-pub Goes-on : (f g h : ℕ → ℕ → Pair) → Goes f g → Goes g h → Goes f h
-Goes-on f g h x y = record { paired = y.paired; later = Later-trans f g h x.later y.later }
 
 -- a pair of different machines changes
 pub changed : (f : ℕ → ℕ → Pair) (a b : ℕ) (p : Pair) → (a == b) ≡ false → Apart p (f b a) → (f a b).taken ≤ p.taken → (f a b).gone ≤ p.gone → KeptStands p → Paired f → Goes f (at_pair f a b p)
@@ -33,12 +31,10 @@ packed_apart l p back stands more ids full h = record {
   wire = WireStands-put (gone_after l p.gone) back.taken p.wire (record { load = l; delivered = false }) (WireStands-more p.gone back.taken (gone_after l p.gone) back.taken p.wire more (omega arith) h.wire) stands;
 }
 
-packed_kept : (l : Load) (p : Pair) → p.gone ≤ gone_after l p.gone → KeptStands p → KeptStands (packed l p)
-packed_kept l p more h k e = let x = h k e in (x.0, omega (arith, x.1, more))
-
-packed_goes : (f : ℕ → ℕ → Pair) (a b : ℕ) (l : Load) → (a == b) ≡ false → LoadStands (gone_after l (f a b).gone) (f b a).taken l → (f a b).gone ≤ gone_after l (f a b).gone → gone_after l (f a b).gone ≤ length (f a b).ids
+pub packed_goes : (f : ℕ → ℕ → Pair) (a b : ℕ) (l : Load) → (a == b) ≡ false → LoadStands (gone_after l (f a b).gone) (f b a).taken l → (f a b).gone ≤ gone_after l (f a b).gone → gone_after l (f a b).gone ≤ length (f a b).ids
     → gone_after l (f a b).gone ≤ (f a b).acked + 8 → Paired f → Goes f (at_pair f a b (packed l (f a b)))
 packed_goes f a b l ab stands more ids full h =
+    let packed_kept : (l : Load) (p : Pair) → p.gone ≤ gone_after l p.gone → KeptStands p → KeptStands (packed l p) = λ l p more h k e. let x = h k e in (x.0, omega (arith, x.1, more)) in
     changed f a b (packed l (f a b)) ab (packed_apart l (f a b) (f b a) stands more ids full (h.stand.apart a b ab)) (omega arith) more (packed_kept l (f a b) more (h.kept a b)) h
 
 -- data that has gone out goes out again; the next data goes out; how many were taken is acknowledged
@@ -46,17 +42,12 @@ pub again_goes : (f : ℕ → ℕ → Pair) (a b n : ℕ) → (a == b) ≡ false
 again_goes f a b n ab less h =
     let same : gone_after (Load.Data n) (f a b).gone ≡ (f a b).gone = grind (arith, nat_tests) in
     let x = h.stand.apart a b ab in
-    let ids = x.gone in
-    let full = x.full in
-    packed_goes f a b (Load.Data n) ab (omega (arith, same, less)) (omega (arith, same)) (omega (arith, same, ids)) (omega (arith, same, full)) h
+    packed_goes f a b (Load.Data n) ab (omega (arith, same, less)) (omega (arith, same)) (omega (arith, same, x.gone)) (omega (arith, same, x.full)) h
 
 pub next_goes : (f : ℕ → ℕ → Pair) (a b n : ℕ) → (a == b) ≡ false → n ≡ (f a b).gone → n + 1 ≤ length (f a b).ids → n + 1 ≤ (f a b).acked + 8 → Paired f → Goes f (at_pair f a b (packed (Load.Data n) (f a b)))
 next_goes f a b n ab is ids full h =
     let same : gone_after (Load.Data n) (f a b).gone ≡ n + 1 = grind (arith, nat_tests) in
     packed_goes f a b (Load.Data n) ab (omega (arith, same)) (omega (arith, same, is)) (omega (arith, same, ids)) (omega (arith, same, full)) h
-
-pub ack_goes : (f : ℕ → ℕ → Pair) (a b n : ℕ) → (a == b) ≡ false → n ≤ (f b a).taken → Paired f → Goes f (at_pair f a b (packed (Load.Ack n) (f a b)))
-ack_goes f a b n ab le h = let x = h.stand.apart a b ab in packed_goes f a b (Load.Ack n) ab le (omega arith) x.gone x.full h
 
 -- a route
 abbrev pub routed_out : Pair → MsgId → Pair
@@ -68,17 +59,13 @@ routed_home p id = record p { ids = p.ids ++ id ∷ []; taken = p.taken + 1; gon
 routed_out-is : (a b : ℕ) (p : Pair) (id : MsgId) → (a == b) ≡ false → routed_on a b p id ≡ routed_out p id
 routed_out-is a b p id e = ap (λ (c : Bool). record p { ids = p.ids ++ id ∷ []; taken = if c then p.taken + 1 else p.taken; gone = if c then p.gone + 1 else p.gone; acked = if c then p.acked + 1 else p.acked }) e
 
-routed_home-is : (a b : ℕ) (p : Pair) (id : MsgId) → (a == b) ≡ true → routed_on a b p id ≡ routed_home p id
-routed_home-is a b p id e = ap (λ (c : Bool). record p { ids = p.ids ++ id ∷ []; taken = if c then p.taken + 1 else p.taken; gone = if c then p.gone + 1 else p.gone; acked = if c then p.acked + 1 else p.acked }) e
-
 pub one_more : (p : Pair) (id : MsgId) → length (p.ids ++ id ∷ []) ≡ length p.ids + 1
 one_more p id = simp length-append refl
 
-routed_apart : (p back : Pair) (id : MsgId) → Apart p back → Apart (routed_out p id) back
-routed_apart p back id h = record { acked = h.acked; taken = h.taken; gone = let x = one_more p id in let y = h.gone in omega arith; full = h.full; wire = h.wire }
-
 pub route_out : (f : ℕ → ℕ → Pair) (a b : ℕ) (id : MsgId) → (a == b) ≡ false → Paired f → Goes f (at_pair f a b (routed_on a b (f a b) id))
 route_out f a b id ab h =
+    let routed_apart : (p back : Pair) (id : MsgId) → Apart p back → Apart (routed_out p id) back =
+      λ p back id h. record { acked = h.acked; taken = h.taken; gone = let x = one_more p id in let y = h.gone in omega arith; full = h.full; wire = h.wire } in
     subst (λ (p : Pair). Goes f (at_pair f a b p)) (sym (routed_out-is a b (f a b) id ab))
     (changed f a b (routed_out (f a b) id) ab (routed_apart (f a b) (f b a) id (h.stand.apart a b ab)) (omega arith) (omega arith) (h.kept a b) h)
 
@@ -86,56 +73,40 @@ route_out f a b id ab h =
 pub route_packed : (f : ℕ → ℕ → Pair) (a b : ℕ) (id : MsgId) → (a == b) ≡ false → goes_out (f a b) ≡ true → Paired f
     → Goes f (at_pair (at_pair f a b (routed_on a b (f a b) id)) a b (packed (Load.Data (length (f a b).ids)) (at_pair f a b (routed_on a b (f a b) id) a b)))
 route_packed f a b id ab out h =
+    let Goes-on : (f g h : ℕ → ℕ → Pair) → Goes f g → Goes g h → Goes f h = λ f g h x y. record { paired = y.paired; later = (let e_ : Later f h = search (arith, x.later, y.later) in e_) } in
     let g = at_pair f a b (routed_on a b (f a b) id) in
     let first : Goes f g = route_out f a b id ab h in
     let is : g a b ≡ routed_out (f a b) id = set_same f a b (routed_on a b (f a b) id) ∙ routed_out-is a b (f a b) id ab in
     let gone : (g a b).gone ≡ (f a b).gone = ap (λ (p : Pair). p.gone) is in
-    let acked : (g a b).acked ≡ (f a b).acked = ap (λ (p : Pair). p.acked) is in
-    let ids : length (g a b).ids ≡ length (f a b).ids + 1 = ap (λ (p : Pair). length p.ids) is ∙ one_more (f a b) id in
     let all : (f a b).gone ≡ length (f a b).ids = grind (arith, nat_tests) in
     let room : (f a b).gone - (f a b).acked < 8 = grind (arith, nat_tests) in
     Goes-on f g (at_pair g a b (packed (Load.Data (length (f a b).ids)) (g a b))) first
-    (next_goes g a b (length (f a b).ids) ab (sym all ∙ sym gone) (omega (arith, ids)) (omega (arith, all, room, acked)) first.paired)
-
-home_routed : (p : Pair) (id : MsgId) → HomeStands p → HomeStands (routed_home p id)
-home_routed p id h =
-    let x = one_more p id in
-    search arith
-
-none_kept : (p : Pair) → p.kept ≡ [] → KeptStands p
-none_kept p e k is = absurd (false≢true (ap (has k) (sym e) ∙ is))
+    (next_goes g a b (length (f a b).ids) ab (sym all ∙ sym gone) (omega (arith, ap (λ (p : Pair). length p.ids) is ∙ one_more (f a b) id)) (omega (arith, all, room, ap (λ (p : Pair). p.acked) is)) first.paired)
 
 route_same : (f : ℕ → ℕ → Pair) (a : ℕ) (id : MsgId) → Paired f → Goes f (at_pair f a a (routed_on a a (f a a) id))
 route_same f a id h =
+    let home_routed : (p : Pair) (id : MsgId) → HomeStands p → HomeStands (routed_home p id) = λ p id h.
+      let x = one_more p id in
+      search arith in
+    let Stand-home : (f : ℕ → ℕ → Pair) (a : ℕ) (p : Pair) → HomeStands p → Stand f → Stand (at_pair f a a p) = λ f a p new h. search (arith, Apart-at, set_other, set_is) in
     let e : (a == a) ≡ true = grind (arith, nat_tests) in
     let new = home_routed (f a a) id (h.stand.home a) in
+    let none_kept : (p : Pair) → p.kept ≡ [] → KeptStands p = λ p e k is. absurd (false≢true (ap (has k) (sym e) ∙ is)) in
+    let routed_home-is : (a b : ℕ) (p : Pair) (id : MsgId) → (a == b) ≡ true → routed_on a b p id ≡ routed_home p id =
+      λ a b p id e. ap (λ (c : Bool). record p { ids = p.ids ++ id ∷ []; taken = if c then p.taken + 1 else p.taken; gone = if c then p.gone + 1 else p.gone; acked = if c then p.acked + 1 else p.acked }) e in
     subst (λ (p : Pair). Goes f (at_pair f a a p)) (sym (routed_home-is a a (f a a) id e))
     ((search (arith, Stand-home, Kept-set, none_kept, Later-set)))
 
 pub route_home : (f : ℕ → ℕ → Pair) (a b : ℕ) (id : MsgId) → (a == b) ≡ true → Paired f → Goes f (at_pair f a b (routed_on a b (f a b) id))
 route_home f a b id e h =
-    let is : a ≡ b = grind (arith, nat_tests) in
-    subst (λ (n : ℕ). Goes f (at_pair f a n (routed_on a n (f a n) id))) is (route_same f a id h)
+    subst (λ (n : ℕ). Goes f (at_pair f a n (routed_on a n (f a n) id))) (let is : a ≡ b = grind (arith, nat_tests) in is) (route_same f a id h)
 
 pub at_least-more : (m n : ℕ) → m ≤ at_least m n
 at_least-more m n = grind (arith, nat_tests)
 
-pub acked_goes : (f : ℕ → ℕ → Pair) (a b n : ℕ) → (a == b) ≡ false → n ≤ (f a b).taken → Paired f → Goes f (at_pair f a b (record (f a b) { acked = at_least (f a b).acked n }))
-acked_goes f a b n ab le h =
-    let x = h.stand.apart a b ab in
-    changed f a b (record (f a b) { acked = at_least (f a b).acked n }) ab
-    ((search (arith, at_least-more))) (omega arith) (omega arith) (h.kept a b) h
-
--- a delivery marks a packet
-pub marked_goes : (f : ℕ → ℕ → Pair) (a b k : ℕ) → (a == b) ≡ false → Paired f → Goes f (at_pair f a b (marked (f a b) k))
-marked_goes f a b k ab h = search (arith, changed, WireStands-marked)
-
 -- the numbers that are kept without one
 abbrev pub off : ℕ → List ℕ → List ℕ
 off n ks = filter (λ k. not (k == n)) ks
-
-pub or_first : (b c : Bool) → c ≡ true → (b || c) ≡ true
-or_first b c h1 = search arith
 
 pub or_cases : (b c : Bool) → (b || c) ≡ true → (b ≡ true) ⊎ ((b ≡ false) × (c ≡ true))
 or_cases true c e = inl refl
@@ -145,9 +116,6 @@ off_cons : (n j : ℕ) (js : List ℕ) (b : Bool) → (j == n) ≡ b → off n (
 off_cons n j js true e = ap (λ (c : Bool). if not c then j ∷ off n js else off n js) e
 off_cons n j js false e = ap (λ (c : Bool). if not c then j ∷ off n js else off n js) e
 
-off_has_at : (n k j : ℕ) (js : List ℕ) (b : Bool) → (j == n) ≡ b → (has k (off n js) ≡ true → (has k js ≡ true) × (k ≢ n)) → has k (if b then off n js else j ∷ off n js) ≡ true → (has k (j ∷ js) ≡ true) × (k ≢ n)
-off_has_at n k j js b h1 h2 h3 = search (arith, or_first, or_cases)
-
 pub off_has : (n k : ℕ) (ks : List ℕ) → has k (off n ks) ≡ true → (has k ks ≡ true) × (k ≢ n)
 off_has n k [] e = absurd (false≢true e)
-off_has n k (j ∷ js) e = off_has_at n k j js (j == n) refl (off_has n k js) (ap (has k) (sym (off_cons n j js (j == n) refl)) ∙ e)
+off_has n k (j ∷ js) e = search (arith, or_right, or_cases, off_has n k js, ap (has k) (sym (off_cons n j js (j == n) refl)) ∙ e)

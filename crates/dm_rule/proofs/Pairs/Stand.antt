@@ -1,6 +1,6 @@
 -- The pairs of machines stand, and what keeps them so.
-use Rattle.dm_rule.proofs.Names.{◌≡◌, ℕ, zero, suc, ◌+◌, ◌<◌, ◌≤◌, ◌==◌, ◌&&◌, Bool, true, false, List, [], ◌∷◌, ◌++◌, ap, ◌∙◌, sym, subst, inl, inr, arith, length, ⊤, if◌then◌else◌, slice_get, slice_set, Option, None, Some, cases_Bool}
-use Rattle.dm_rule.proofs.Names.{nat_tests, Load, at_pair, Pair, SentLoad, marked_at, has, HomeStands}
+use Rattle.dm_rule.proofs.Names.{◌≡◌, ℕ, zero, suc, ◌+◌, ◌<◌, ◌≤◌, ◌==◌, ◌&&◌, Bool, true, false, List, [], ◌∷◌, ◌++◌, ap, ◌∙◌, sym, subst, inl, inr, arith, length, ⊤, if◌then◌else◌, slice_get, slice_set, Some, cases_Bool, nat_tests, Load}
+use Rattle.dm_rule.proofs.Names.{at_pair, Pair, SentLoad, has, HomeStands}
 
 -- what a packet carries: data that has gone out, or a count of messages that were taken on the pair that leads back
 abbrev pub LoadStands : ℕ → ℕ → Load → Type 0
@@ -35,12 +35,6 @@ pub record Later (f g : ℕ → ℕ → Pair) : Type 0 where
   pub taken : (a b : ℕ) → (f a b).taken ≤ (g a b).taken
   pub gone : (a b : ℕ) → (f a b).gone ≤ (g a b).gone
 
-pub Later-same : (f : ℕ → ℕ → Pair) → Later f f
-Later-same f = record { taken = λ a b. omega arith; gone = λ a b. omega arith }
-
-pub Later-trans : (f g h : ℕ → ℕ → Pair) → Later f g → Later g h → Later f h
-Later-trans f g h k l = search arith
-
 pub WireStands-more : (g b g' b' : ℕ) (ss : List SentLoad) → g ≤ g' → b ≤ b' → WireStands g b ss → WireStands g' b' ss
 WireStands-more g b g' b' [] x y h = h
 WireStands-more g b g' b' (s ∷ ss) x y h = (
@@ -60,14 +54,10 @@ WireStands-at g b [] k s e h = cc
 WireStands-at g b (t ∷ ss) zero s e h = let f : t ≡ s = cc in subst (λ (v : SentLoad). LoadStands g b v.load) f h.0
 WireStands-at g b (t ∷ ss) (suc k) s e h = WireStands-at g b ss k s e h.1
 
-WireStands-set : (g b : ℕ) (ss : List SentLoad) (k : ℕ) (s : SentLoad) → LoadStands g b s.load → WireStands g b ss → WireStands g b (slice_set ss k s)
+pub WireStands-set : (g b : ℕ) (ss : List SentLoad) (k : ℕ) (s : SentLoad) → LoadStands g b s.load → WireStands g b ss → WireStands g b (slice_set ss k s)
 WireStands-set g b [] k s l h = h
 WireStands-set g b (t ∷ ss) zero s l h = (l, h.1)
 WireStands-set g b (t ∷ ss) (suc k) s l h = (h.0, WireStands-set g b ss k s l h.1)
-
-pub WireStands-marked : (g b : ℕ) (ss : List SentLoad) (k : ℕ) (o : Option SentLoad) → slice_get ss k ≡ o → WireStands g b ss → WireStands g b (marked_at ss k o)
-WireStands-marked g b ss k None e h = h
-WireStands-marked g b ss k (Some s) e h = WireStands-set g b ss k (record s { delivered = true }) (WireStands-at g b ss k s e h) h
 
 -- a pair changes: it is the one that was set, or as it was
 pub set_same : (f : ℕ → ℕ → Pair) (a b : ℕ) (p : Pair) → at_pair f a b p a b ≡ p
@@ -86,7 +76,7 @@ two_of a b c d e = (grind (arith, nat_tests), grind (arith, nat_tests))
 Apart-back : (p q r : Pair) → q.taken ≤ r.taken → Apart p q → Apart p r
 Apart-back p q r le h = record { acked = h.acked; taken = h.taken; gone = h.gone; full = h.full; wire = WireStands-more p.gone q.taken p.gone r.taken p.wire (omega arith) le h.wire }
 
-Apart-at : (x y x' y' : Pair) → x' ≡ x → y' ≡ y → Apart x y → Apart x' y'
+pub Apart-at : (x y x' y' : Pair) → x' ≡ x → y' ≡ y → Apart x y → Apart x' y'
 Apart-at x y x' y' e g h = subst (λ (v : Pair). Apart v y') (sym e) (subst (λ (v : Pair). Apart x v) (sym g) h)
 
 -- the pair that is looked at is the one that changed, the one that leads back, or another
@@ -95,8 +85,7 @@ set_apart f a b p c d ab cd new le h = elim (cases_Bool ((a == c) && (b == d))) 
   | inl same ↦
       let two = two_of a b c d same in
       let off : ((a == d) && (b == c)) ≡ false = let x = two.0 in let y = two.1 in grind (arith, nat_tests) in
-      let back : at_pair f a b p d c ≡ f b a = set_other f a b p d c off ∙ ap (λ (n : ℕ). f n c) (sym two.1) ∙ ap (λ (n : ℕ). f b n) (sym two.0) in
-      Apart-at p (f b a) (at_pair f a b p c d) (at_pair f a b p d c) (set_is f a b p c d same) back new
+      Apart-at p (f b a) (at_pair f a b p c d) (at_pair f a b p d c) (set_is f a b p c d same) (set_other f a b p d c off ∙ ap (λ (n : ℕ). f n c) (sym two.1) ∙ ap (λ (n : ℕ). f b n) (sym two.0)) new
   | inr off ↦ elim (cases_Bool ((a == d) && (b == c))) [
     | inl same ↦
         let two = two_of a b d c same in
@@ -111,9 +100,6 @@ Stand-set f a b p ab new le h = record {
   apart = λ c d cd. set_apart f a b p c d ab cd new le h;
   home = λ c. let e : ((a == c) && (b == c)) ≡ false = grind (arith, nat_tests) in subst HomeStands (sym (set_other f a b p c c e)) (h.home c);
 }
-
-pub Stand-home : (f : ℕ → ℕ → Pair) (a : ℕ) (p : Pair) → HomeStands p → Stand f → Stand (at_pair f a a p)
-Stand-home f a p new h = search (arith, Apart-at, set_other, set_is)
 
 pub Kept-set : (f : ℕ → ℕ → Pair) (a b : ℕ) (p : Pair) → KeptStands p → Kept f → Kept (at_pair f a b p)
 Kept-set f a b p new h c d = grind (arith, nat_tests, set_is, set_other)

@@ -1,16 +1,18 @@
 -- The parts of turns and ticks keep the pairs of machines wherever they stand.
-use Rattle.dm_rule.proofs.Names.{◌≡◌, ℕ, zero, suc, ◌+◌, ◌-◌, ◌≤◌, ◌==◌, Bool, true, false, List, [], ◌∷◌, refl, arith, if◌then◌else◌, Option, None, Some, MsgId, plain_kind, PlainMessage, Boot, View, Pair, Point, Part, first_runnable}
-use Rattle.dm_rule.proofs.Names.{comes_to, turns, numbers_from, repeats, resends}
+use Rattle.dm_rule.proofs.Names.{◌≡◌, ℕ, zero, suc, ◌+◌, ◌-◌, ◌≤◌, ◌==◌, Bool, true, false, List, [], ◌∷◌, refl, arith, if◌then◌else◌, Option, None, Some, MsgId, plain_kind, PlainMessage, Boot, View, Pair, Point, Part, first_runnable, Pid}
+use Rattle.dm_rule.proofs.Names.{comes_to, turns, numbers_from, repeats, resends, Addresses, MessageKind, forwards_on}
 use Rattle.dm_rule.proofs.Pairs.Lines.{AllFit, AllFit-both}
-use Rattle.dm_rule.proofs.Pairs.Migrating.{forwards_fit, hears_fit}
 use Rattle.dm_rule.proofs.Serving.{Loose, loose_round, loose_handles}
+use Rattle.dm_rule.proofs.Hearing.{hears_kept, kept_forward}
+use Rattle.dm_rule.proofs.Pairs.Migrating.{fit_kept}
 
 fit_loose : (f : ℕ → ℕ → Pair) → Loose (AllFit f)
 fit_loose f = record { none = tt; label = λ l ps h. (refl, h); routes = λ i ps h. (tt, h) }
 
 comes_fit : (f : ℕ → ℕ → Pair) (b : Boot) (pt : Point) (m : ℕ) (id : MsgId) (o : Option PlainMessage) (ps : List Part) → comes_to b pt m id o ≡ Some ps → AllFit f ps
-comes_fit f b pt m id None ps e = hears_fit f b pt m id (pt.view.told id) ps e
+comes_fit f b pt m id None ps e = hears_kept (AllFit f) (fit_kept f) b pt m id (pt.view.told id) ps e
 comes_fit f b pt m id (Some msg) ps e =
+    let forwards_fit : (f : ℕ → ℕ → Pair) (a : Addresses) (id : MsgId) (k : MessageKind) (sender : Pid) (to : ℕ) → AllFit f (forwards_on a id k sender to) = λ f a id k sender to. kept_forward (AllFit f) (fit_kept f) a id k sender to in
     loose_handles (AllFit f) (AllFit f) (fit_loose f) (λ qs h. h) b pt m id msg ps (λ here. (refl, tt)) (refl, tt) (λ to here is apart. (refl, (refl, (refl, (tt, tt))))) (λ to moves at_. forwards_fit f pt.addresses id (plain_kind msg.what) msg.sender to) e
 
 pub turns_fit : (f : ℕ → ℕ → Pair) (b : Boot) (pt : Point) (m : ℕ) (ids : List MsgId) (ps : List Part) → turns b pt m ids ≡ Some ps → AllFit f ps

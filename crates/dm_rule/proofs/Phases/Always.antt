@@ -1,8 +1,7 @@
 -- Wherever the rule leads, each process is in a phase.
-use Rattle.dm_rule.proofs.Names.{◌≡◌, ℕ, ◌<◌, ◌≤◌, ◌==◌, ◌&&◌, ◌||◌, Bool, true, false, List, [], ◌∷◌, ◌++◌, length, refl, ap, ◌∙◌, sym, subst, inl, inr, arith, if◌then◌else◌, map, option_map, Option, None, Some, cases_Bool}
-use Rattle.dm_rule.proofs.Names.{slice_get_cases, nat_tests, Pid, pid_eq, plain_link, BootImage, BootProcess, Boot, IsValid, processes_are_valid, switchboard, manager, Life, Alive, begun, first_life, life_at, Step, Known, Unknown, Here}
-use Rattle.dm_rule.proofs.Names.{known_at, ring_at, Point, first_point, is_due, IsStep, Leads, PhasesAlways, Spelled, group_of}
-use Rattle.dm_rule.proofs.Lines.{not_true}
+use Rattle.dm_rule.proofs.Names.{◌≡◌, ℕ, ◌<◌, ◌≤◌, ◌==◌, ◌&&◌, ◌||◌, Bool, true, false, List, [], ◌∷◌, ◌++◌, length, refl, ap, ◌∙◌, sym, subst, inl, inr, arith, if◌then◌else◌, map, option_map, None, Some, cases_Bool, slice_get_cases}
+use Rattle.dm_rule.proofs.Names.{nat_tests, Pid, pid_eq, plain_link, BootProcess, Boot, IsValid, processes_are_valid, switchboard, manager, Alive, begun, first_life, life_at, Step, Known, Unknown, Here, known_at, ring_at, Point}
+use Rattle.dm_rule.proofs.Names.{first_point, is_due, IsStep, Leads, PhasesAlways, Spelled, group_of, false_from_ne_true}
 use Rattle.dm_rule.proofs.Pairs.{Pairs, Pairs-start, Pairs-group}
 use Rattle.dm_rule.proofs.States.{State}
 use Rattle.dm_rule.proofs.Groups.{fits, State-start, State-group}
@@ -18,16 +17,13 @@ more_here : (f g : Pid → Known) (ps : List Pid) → ((q : Pid) → f q ≡ Her
 more_here f g [] more h = tt
 more_here f g (p ∷ ps) more h = (more p h.0, more_here f g ps more h.1)
 
-first_here : (p : Pid) (m : ℕ) (k : Known) → (p.home == m) ≡ true → (if pid_eq p p && (p.home == m) then Here else k) ≡ Here
-first_here p m k e = ap (λ (c : Bool). if c then Here else k) (let f : (pid_eq p p && (p.home == m)) ≡ true = grind (arith, nat_tests) in f)
-
-ring_row : (f : Pid → Known) (p : Pid) (ps : List Pid) (c : Bool) → (c ≡ true → f p ≡ Here) → AllHere f ps → AllHere f (if c then p ∷ ps else ps)
-ring_row f p ps true here h = (here refl, h)
-ring_row f p ps false here h = h
-
 rings_first : (ps : List BootProcess) (m : ℕ) → AllHere (known_at ps m) (ring_at ps m)
 rings_first [] m = tt
 rings_first (p ∷ ps) m =
+    let first_here : (p : Pid) (m : ℕ) (k : Known) → (p.home == m) ≡ true → (if pid_eq p p && (p.home == m) then Here else k) ≡ Here =
+      λ p m k e. ap (λ (c : Bool). if c then Here else k) (let f : (pid_eq p p && (p.home == m)) ≡ true = grind (arith, nat_tests) in f) in
+    let ring_row : (f : Pid → Known) (p : Pid) (ps : List Pid) (c : Bool) → (c ≡ true → f p ≡ Here) → AllHere f ps → AllHere f (if c then p ∷ ps else ps) =
+      λ f p ps c here h. (elim c as (λ c_. ((c_ ≡ true → f p ≡ Here)) → AllHere f (if c_ then p ∷ ps else ps)) [ true ↦ λ here'. (here' refl, h) | false ↦ λ here'. h ]) here in
     ring_row (known_at (p ∷ ps) m) p.pid (ring_at ps m) (p.pid.home == m) (first_here p.pid m (known_at ps m p.pid))
     (more_here (known_at ps m) (known_at (p ∷ ps) m) (ring_at ps m) (λ q e. elim (pid_eq p.pid q && (p.pid.home == m)) as (λ c. (if c then Here else (known_at ps m q)) ≡ Here)
     [ true ↦ refl | false ↦ e ]) (rings_first ps m))
@@ -37,8 +33,7 @@ image_there : (b : Boot) (p : BootProcess) → p.image < length b.images → fir
 image_there b p le none = elim (slice_get_cases b.images p.image).1 [
   | inl w ↦
       let (i, within, is, got) = w in
-      let life : Option BootImage → Option Life = option_map (λ image. Alive (begun b.format image (map plain_link p.links))) in
-      let f : None ≡ Some (Alive (begun b.format i (map plain_link p.links))) = sym none ∙ ap life is in
+      let f : None ≡ Some (Alive (begun b.format i (map plain_link p.links))) = sym none ∙ ap (option_map (λ image. Alive (begun b.format image (map plain_link p.links)))) is in
       cc
   | inr w ↦ let past = w.0 in omega (arith, le, past)
 ]
@@ -47,8 +42,7 @@ known_first : (b : Boot) (earlier ps : List BootProcess) (m : ℕ) (q : Pid) →
 known_first b earlier [] m q valid none le = ap (λ (c : Bool). if c then Here else Unknown) (let f : ((m == 0) && (pid_eq q switchboard || pid_eq q manager)) ≡ false = grind (arith, nat_tests) in f)
 known_first b earlier (p ∷ ps) m q valid none le = elim (cases_Bool (pid_eq p.pid q)) [
   | inl same ↦
-      let image : p.image < length b.images = grind (arith, nat_tests) in
-      absurd (image_there b p image (sym (ap (λ (c : Bool). if c then first_life b p else life_at b ps q) same) ∙ none))
+      absurd (image_there b p (let image : p.image < length b.images = grind (arith, nat_tests) in image) (sym (ap (λ (c : Bool). if c then first_life b p else life_at b ps q) same) ∙ none))
   | inr off ↦
       let rest : processes_are_valid b (earlier ++ p ∷ []) ps ≡ true = grind (arith, nat_tests) in
       ap (λ (c : Bool). if c && (p.pid.home == m) then Here else known_at ps m q) off
@@ -89,4 +83,6 @@ phased_on b (d ∷ es) pt end (w, fit, is, rest) h = phased_on b es w.point end 
 
 -- wherever the rule leads
 pub phases_always : PhasesAlways
-phases_always b es pt p valid leads = let h = phased_on b es (first_point b) pt leads (phased_start b valid) in (h.phases.of p, h.phases.each p, not_true (is_due (h.phases.of p)) (λ e. let f : None ≡ Some p = h.phases.put p e in cc))
+phases_always b es pt p valid leads =
+    let h = phased_on b es (first_point b) pt leads (phased_start b valid) in
+    (h.phases.of p, h.phases.each p, false_from_ne_true (is_due (h.phases.of p)) (λ e. let f : None ≡ Some p = h.phases.put p e in cc))

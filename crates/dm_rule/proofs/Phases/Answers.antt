@@ -15,8 +15,9 @@ use Rattle.dm_rule.proofs.Moves.States.{by_own_put, front_one}
 use Rattle.dm_rule.proofs.Moves.Sent.{line_next, fits_put, fits_packet}
 use Rattle.dm_rule.proofs.Phases.Lines.{handled_spots, packet_calm}
 use Rattle.dm_rule.proofs.Phases.Stand.{PhasesBut, InPhases, none_only, calm_phases, token_is, token_at, Learns, learns_phases}
-use Rattle.dm_rule.proofs.Phases.Put.{own_put_phases, put_there, put_spot}
+use Rattle.dm_rule.proofs.Phases.Put.{own_put_phases, put_there, put_spot, of_same}
 pub use Rattle.dm_line.proofs.Below.{right_true as second}
+pub use Rattle.dm_rule.proofs.Phases.Put.{of_same as about_same}
 
 -- what stands between the lines of a group
 pub record WholeBut (o : Option Pid) (pt : Point) : Type 0 where
@@ -26,9 +27,6 @@ pub record WholeBut (o : Option Pid) (pt : Point) : Type 0 where
 
 abbrev pub Whole : Point → Type 0
 Whole pt = WholeBut None pt
-
-pub whole_packet : (q : Point) (a b k : ℕ) (l : Load) → Whole q → Whole (moved q (Line.Packet a b k l) q.kernel)
-whole_packet q a b k l h = record { state = by_packet None q a b k l h.state; fits = fits_packet q.view a b k l h.fits; phases = calm_phases q.view (view_after q.view (Line.Packet a b k l)) (packet_calm q.view a b k l) h.phases }
 
 -- the next message is put at the group's end
 pub owns_whole : (pt : Point) (p : Pid) (k : MessageKind) (s d b : ℕ) (w : Spelled) (h : WholeBut (Some p) pt) → h.phases.of p ≡ Moves k s d None → pt.view.topic ≡ Of p → pt.view.acting ≡ sender_in k s d → b ≡ receiver_in k s d
@@ -41,6 +39,8 @@ owns_whole pt p k s d b w h phase topic acting to e =
     let untold : v.told (own_id v) ≡ None = h.state.numbered v.acting (v.count v.acting) (omega arith) in
     let once = StandsAsBag-once (letters there.own next.kernel.bag (own_id v)) (standing next.view (own_id v)) (put_spot v.acting c) (put_there v v.acting c (own_id v) k (pid_of c 0) h.fits) (there.stands.kept (own_id v)) in
     let whole : Whole next = record { state = there; fits = fits_put v v.acting c (own_id v) k (pid_of c 0) h.fits; phases = own_put_phases v p k s d h.phases h.fits phase topic acting untold once } in
+    let whole_packet : (q : Point) (a b k : ℕ) (l : Load) → Whole q → Whole (moved q (Line.Packet a b k l) q.kernel) =
+      λ q a b k l h. record { state = by_packet None q a b k l h.state; fits = fits_packet q.view a b k l h.fits; phases = calm_phases q.view (view_after q.view (Line.Packet a b k l)) (packet_calm q.view a b k l) h.phases } in
     let n = puts_next Whole whole_packet pt (Owns k (pid_of c 0) c) c (own_id v) k (pid_of c 0) [] w refl whole (ap (λ (m : ℕ). spelled pt (Owns k (pid_of m 0) m ∷ [])) (sym to) ∙ e) in
     subst Whole n.point (subst Whole (said n.next n.rest n.more) n.stands)
 
@@ -77,9 +77,6 @@ front_gone pt l i is h quiet front off =
     nowhere_of bag i (standing (view_after pt.view l) i)
     ((Stands-handled bag pt.view (view_after pt.view l) i is front (λ z. off z ∙ first_off pt.view i is front z) (λ j. ap (λ (f : MsgId → Option Told). f j) (hushed pt.view l quiet).told) h.stands).kept i)
 
-pub about_same : (p q : Pid) → Of p ≡ Of q → p ≡ q
-about_same p q e = cc
-
 pub first_learns : (pt : Point) (l : Line) (i : MsgId) (is : List MsgId) (t : Told) (p : Pid) (h : State None pt) → is_put l ≡ false → pt.view.inbox pt.view.acting ≡ i ∷ is → pt.view.told i ≡ Some t → (is_between t.kind ≡ true → t.about ≡ Of p)
     → ((z : Spot) → ids_at (view_after pt.view l) z ≡ ids_at (handled_first pt.view) z) → ((m : ℕ) (q : Pid) → pid_eq p q ≡ false → (view_after pt.view l).known m q ≡ pt.view.known m q) → Learns pt.view (view_after pt.view l) p
 first_learns pt l i is t p h quiet front told about off known =
@@ -95,12 +92,9 @@ first_learns pt l i is t p h quiet front told about off known =
       ];
       on = λ j u q apart e b ab z st. elim (cases_Bool (id_eq i j)) [
         | inl is_i ↦ absurd (
-            let ij : i ≡ j = id_eq-is i j is_i in
-            let f : Some t ≡ Some u = sym told ∙ ap pt.view.told ij ∙ e in
+            let f : Some t ≡ Some u = sym told ∙ ap pt.view.told (id_eq-is i j is_i) ∙ e in
             let g : t ≡ u = cc in
-            let mine : t.about ≡ Of p = about (ap (λ (x : Told). is_between x.kind) g ∙ b) in
-            let pq : p ≡ q = about_same p q (sym mine ∙ ap (λ (x : Told). x.about) g ∙ ab) in
-            false≢true (sym apart ∙ ap (pid_eq p) (sym pq) ∙ pid_eq-same p))
+            false≢true (sym apart ∙ ap (pid_eq p) (sym (of_same p q (sym (about (ap (λ (x : Told). is_between x.kind) g ∙ b)) ∙ ap (λ (x : Told). x.about) g ∙ ab))) ∙ pid_eq-same p))
         | inr off_i ↦ (z, subst (λ n. 1 ≤ n) (sym (ap (times j) (off z ∙ first_off pt.view i is front z) ∙ handled_spots pt.view i j off_i z)) st)
       ];
     }
@@ -121,8 +115,7 @@ answer_row pt l i is t k b w h u none quiet calm front told there off others kno
     let same : next.view ≡ view_after v l = seen_none pt.kernel v l none in
     let learns = subst (λ (x : View). Learns v x u.p) (sym same) (first_learns pt l i is t u.p h.state quiet front told (λ x. ap (λ (y : Told). y.about) u.told) off others) in
     let was : (is_between u.k && not (u.s == u.d)) ≡ true = sym (ap is_apart u.phase) ∙ (h.phases.each u.p).apart in
-    let apart : is_apart (Moves k u.s u.d None) ≡ true = both_true (is_between k) (not (u.s == u.d)) between (second (is_between u.k) (not (u.s == u.d)) was) in
-    let turned = learns_phases v next.view u.p (Moves k u.s u.d None) h.phases (none_only u.p) learns refl apart known
+    let turned = learns_phases v next.view u.p (Moves k u.s u.d None) h.phases (none_only u.p) learns refl (both_true (is_between k) (not (u.s == u.d)) between (second (is_between u.k) (not (u.s == u.d)) was)) known
     (λ j x z. ap (λ (y : View). standing y j z) same ∙ subst (λ (y : MsgId). standing (view_after v l) y z ≡ 0) (token_one (h.phases.of u.p) u.k u.s u.d i j u.phase x) (front_gone pt l i is h.state quiet front off z)) in
     let whole : WholeBut (Some u.p) next = record { state = there; fits = fits_as v next.view (pair_same v l calm) h.fits; phases = turned.phases } in
     subst Whole n.point (owns_whole next u.p k u.s u.d b n.rest whole turned.now (ap (λ (x : View). x.topic) same ∙ topic) (acting ∙ u.acting ∙ turn) to n.more)

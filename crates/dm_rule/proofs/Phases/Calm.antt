@@ -1,8 +1,7 @@
 -- What leaves the migrations of all processes as they are.
 use Rattle.dm_rule.proofs.Names.{◌≡◌, ◌⊎◌, ℕ, ◌≤◌, ◌==◌, ◌&&◌, not, true, false, refl, ap, ◌∙◌, sym, subst, inl, inr, Option, Some, false≢true, Pid, MsgId, MessageKind, id_eq, View, Told, Spot, Queue, Held, Inbox, Untaken, standing}
-use Rattle.dm_rule.proofs.Names.{id_eq-is, is_between, is_apart, told_between, Phase, Moves, token_in, sender_in, receiver_in, HasToken, Alone, IsIn, left_true, About, times, arith, nat_tests}
+use Rattle.dm_rule.proofs.Names.{id_eq-is, is_between, is_apart, told_between, Phase, Moves, token_in, sender_in, receiver_in, HasToken, Alone, IsIn, left_true, About, times, arith, nat_tests, false_from_ne_true}
 use Rattle.dm_rule.specs.View as view
-use Rattle.dm_rule.proofs.Lines.{not_true}
 use Rattle.dm_rule.proofs.Seen.{about_off}
 
 -- the machine that a spot is on, or leads to
@@ -28,15 +27,12 @@ pub record Calm (v w : View) : Type 0 where
 pub calm_same : (v : View) → Calm v v
 calm_same v = record { known = λ m p. refl; fresh = λ i t e b. e; kept = λ i t e. e; back = λ i t e b z s. inl s; on = λ i t e b z s. (z, s) }
 
-came_on : (u v : View) (i : MsgId) (z : Spot) → ((y : Spot) → 1 ≤ standing v i y → Came u i y) → Came v i z → Came u i z
-came_on u v i z h c = grind (arith, nat_tests)
-
 pub calm_trans : (u v w : View) → Calm u v → Calm v w → Calm u w
 calm_trans u v w h k = record {
   known = λ m p. k.known m p ∙ h.known m p;
   fresh = λ i t e b. h.fresh i t (k.fresh i t e b) b;
   kept = λ i t e. k.kept i t (h.kept i t e);
-  back = λ i t e b z s. came_on u v i z (h.back i t e b) (k.back i t (h.kept i t e) b z s);
+  back = λ i t e b z s. grind (arith, nat_tests, h.back i t e b, k.back i t (h.kept i t e) b z s);
   on = λ i t e b z s. (let (y, x) = h.on i t e b z s in k.on i t (h.kept i t e) b y x);
 }
 
@@ -60,13 +56,12 @@ calm_has v w p (Moves k s d (Some id)) a c h =
     }
 calm_has v w p _ a c h = tt
 
-calm_alone : (v w : View) (p : Pid) (o : Option MsgId) → Calm v w → Alone v p o → Alone w p o
-calm_alone v w p o c h i t z told b about st =
-    let was = c.fresh i t told b in
-    elim (c.back i t was b z st) [ inl s ↦ h i t z was b about s | inr x ↦ let (y, s, is) = x in h i t y was b about s ]
-
 pub calm_in : (v w : View) (p : Pid) (phase : Phase) → Calm v w → IsIn v p phase → IsIn w p phase
-calm_in v w p phase c h = search (arith, calm_has v w p phase h.apart c h.token, calm_alone v w p (token_in phase) c h.alone, c.known, h.known)
+calm_in v w p phase c h =
+    let calm_alone : (v w : View) (p : Pid) (o : Option MsgId) → Calm v w → Alone v p o → Alone w p o = λ v w p o c h i t z told b about st.
+      let was = c.fresh i t told b in
+      elim (c.back i t was b z st) [ inl s ↦ h i t z was b about s | inr x ↦ let (y, s, is) = x in h i t y was b about s ] in
+    search (arith, calm_has v w p phase h.apart c h.token, calm_alone v w p (token_in phase) c h.alone, c.known, h.known)
 
 -- only one message stands elsewhere, and it is none of the protocol
 pub record Others (v w : View) (i : MsgId) : Type 0 where
@@ -79,7 +74,7 @@ abbrev pub Plain : View → MsgId → Type 0
 Plain v i = (t : Told) → v.told i ≡ Some t → is_between t.kind ≡ false
 
 pub other_than : (v : View) (i j : MsgId) (t : Told) → Plain v i → v.told j ≡ Some t → is_between t.kind ≡ true → id_eq i j ≡ false
-other_than v i j t plain told b = not_true (id_eq i j) (λ e. let is : i ≡ j = id_eq-is i j e in false≢true (sym (plain t (ap v.told is ∙ told)) ∙ b))
+other_than v i j t plain told b = false_from_ne_true (id_eq i j) (λ e. let is : i ≡ j = id_eq-is i j e in false≢true (sym (plain t (ap v.told is ∙ told)) ∙ b))
 
 pub calm_others : (v w : View) (i : MsgId) → Plain v i → Plain w i → ((t : Told) → v.told i ≡ Some t → w.told i ≡ Some t) → Others v w i → Calm v w
 calm_others v w i plain after kept h = record {

@@ -20,7 +20,7 @@ pub record Rooted (pt : Point) : Type 0 where
   pub unborn : (m n : ℕ) → pt.view.known n (pid_of m (first_number + pt.kernel.made m)) ≡ Unknown
 
 -- behind the head of a turn
-abbrev turned : Point → ℕ → Point
+abbrev pub turned : Point → ℕ → Point
 turned pt m = moved pt (Line.Head (Step.Turn m)) pt.kernel
 
 turn_fit : (pt : Point) (m : ℕ) → InPhases pt.view → Sane pt → PairsFit pt.view → Fit (turned pt m)
@@ -34,11 +34,10 @@ comes_row b pt m i is None parts w h state sane fits rooted front there e n =
     (phases_hears b pt (turned pt m) m i is (pt.view.told i) parts w whole f.sane front there refl
     (record { same = record { kernel = refl; queue = λ q. refl; held = λ q. refl }; acting = refl; known = λ q. refl; topic = refl }) e n).phases
 comes_row b pt m i is (Some msg) parts w h state sane fits rooted front there e n =
-    let f = turn_fit pt m h sane fits in
     let begun_ = begun pt (Step.Turn m) state (λ z. turn_off pt.view m z) (λ i. refl) in
     let (q, way) = front_way (turned pt m) i is begun_ front in
     let (t, told) = told_some (pt.view.told i) q (begun_.stands.told i q way) in
-    phases_handles b pt (turned pt m) m i msg parts w f (record { there = there; told = t; is = told; state = begun_; others = is; front = front }) (λ k. rooted.unborn m k) refl refl e n
+    phases_handles b pt (turned pt m) m i msg parts w (turn_fit pt m h sane fits) (record { there = there; told = t; is = told; state = begun_; others = is; front = front }) (λ k. rooted.unborn m k) refl refl e n
 
 turn_row : (b : Boot) (pt : Point) (m : ℕ) (inbox : List MsgId) (parts : List Part) (w : Spelled) → InPhases pt.view → State None pt → Sane pt → PairsFit pt.view → Rooted pt → pt.view.inbox m ≡ inbox
     → rule.turns b pt m inbox ≡ Some parts → spelled (turned pt m) parts ≡ Some w → InPhases w.point.view
@@ -66,11 +65,10 @@ phases_group b pt (Step.Deliver a c k) w e h state sane fits rooted =
     (calm_phases pt.view g.rest.point.view (calm_trans pt.view start.view g.rest.point.view (head_calm pt.view (Step.Deliver a c k)) (net_parts qs start g.rest (arrives_net a c (pt.view.pair a c) (pt.view.pair c a) (slice_get (pt.view.pair a c).wire k)) (ap (spelled start) f ∙ g.said))) h)
 phases_group b pt (Step.Migrate p m) w e h state sane fits rooted =
     let g = group_is b pt (Step.Migrate p m) w e in
-    let f : migrates pt p ≡ g.parts = let k = g.is in cc in
     let start = moved pt (Line.Head (Step.Migrate p m)) pt.kernel in
     let fit : Fit start = record {
       phases = calm_phases pt.view (after_head pt.view (Step.Migrate p m)) (head_calm pt.view (Step.Migrate p m)) h;
       sane = sane_line pt start (Line.Head (Step.Migrate p m)) refl refl sane;
       fits = record { within = fits.within; home = fits.home };
     } in
-    subst (λ (q : Point). InPhases q.view) g.point (quiet_parts (migrates pt p) start g.rest fit (migrates_quiet start.view pt p) (ap (spelled start) f ∙ g.said))
+    subst (λ (q : Point). InPhases q.view) g.point (quiet_parts (migrates pt p) start g.rest fit (migrates_quiet start.view pt p) (ap (spelled start) (let f : migrates pt p ≡ g.parts = let k = g.is in cc in f) ∙ g.said))

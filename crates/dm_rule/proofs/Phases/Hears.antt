@@ -1,8 +1,8 @@
 -- A kernel's own message is handled: each process stays in a phase.
-use Rattle.dm_rule.proofs.Names.{◌≡◌, ℕ, ◌==◌, Bool, true, false, List, [], ◌∷◌, ◌++◌, refl, ap, ◌∙◌, sym, subst, length, arith, ◌/◌, if◌then◌else◌, Option, None, Some, false≢true, nat_tests, Pid, pid_eq, MsgId, MessageKind, Line, Stage}
-use Rattle.dm_rule.proofs.Names.{Boot, switchboard, manager, PlainProcess, View, Told, About, Of, Known, Unknown, Here, Forward, Ended, is_kernels, target_of, Addresses, Sender, is_told_back, Point, Part, Says, Owns, Spelled, spelled}
-use Rattle.dm_rule.proofs.Names.{forwards_on, accepts, takes_chunk, takes_block, gives_piece, told_step, chunks_of, pieces_of, updates, told_here, told_ended, process_told, told_server, fits, free_room, kernel_hears, hears, is_between}
-use Rattle.dm_rule.proofs.Names.{bind-is, Label, MoveNote, NothingElse, Outcome, bind, kernel_after, label_of, leaves_for, moved, tells_asker, sort_of}
+use Rattle.dm_rule.proofs.Names.{◌≡◌, ℕ, ◌==◌, Bool, true, false, List, [], ◌∷◌, ◌++◌, refl, ap, ◌∙◌, sym, subst, length, ◌/◌, if◌then◌else◌, Option, None, Some, false≢true, Pid, pid_eq, MsgId, MessageKind, Line, Stage, Boot, switchboard}
+use Rattle.dm_rule.proofs.Names.{manager, PlainProcess, View, Told, About, Of, Known, Unknown, Here, Forward, Ended, is_kernels, target_of, Addresses, Sender, is_told_back, Point, Part, Says, Owns, Spelled, spelled, forwards_on, accepts}
+use Rattle.dm_rule.proofs.Names.{takes_chunk, takes_block, gives_piece, told_step, chunks_of, pieces_of, updates, told_here, told_ended, process_told, told_server, fits, free_room, kernel_hears, hears, is_between, bind-is, Label, MoveNote}
+use Rattle.dm_rule.proofs.Names.{NothingElse, Outcome, bind, kernel_after, label_of, leaves_for, moved, tells_asker, sort_of, eq-eqb, receiver_in, knows, Rests, is_early}
 use Rattle.dm_onekernel.specs.Step as kernel
 use Rattle.dm_rule.proofs.Hushed.{is_put}
 use Rattle.dm_rule.proofs.States.{State, State-at}
@@ -13,10 +13,11 @@ use Rattle.dm_rule.proofs.Telling.{Sane, sane_line}
 use Rattle.dm_rule.proofs.Phases.Calm.{calm_same}
 use Rattle.dm_rule.proofs.Phases.Quiet.{Tame, AllQuiet, parts_settle}
 use Rattle.dm_rule.proofs.Phases.Stand.{InPhases, calm_phases}
-use Rattle.dm_rule.proofs.Phases.Answers.{Whole, due, about_same}
-use Rattle.dm_rule.proofs.Phases.Pieces.{ask_row, pull_state_row, pull_block_row, chunk_row, block_row}
-use Rattle.dm_rule.proofs.Phases.Rests.{stays_whole, restart_whole, frozen_row}
+use Rattle.dm_rule.proofs.Phases.Answers.{Whole, due, Due}
+use Rattle.dm_rule.proofs.Phases.Pieces.{ask_row, pull_state_row, pull_block_row, chunk_row, block_row, due_known}
+use Rattle.dm_rule.proofs.Phases.Rests.{restart_whole, frozen_row, home_whole, at_acting, refused_if}
 use Rattle.dm_rule.proofs.Phases.Leaves.{leaves_row}
+use Rattle.dm_rule.proofs.Phases.Put.{of_same}
 
 -- what the rule saw before the head is what stands behind it
 pub record SeesAll (o pt : Point) (m : ℕ) : Type 0 where
@@ -42,16 +43,12 @@ forwards_quiet v a i k sender to tame = (
 )
 
 -- a line that ends a move is followed by the answer, if somebody asked for it
-asker_quiet : (v : View) (q : Option MoveNote) (r : Outcome) → AllQuiet v (tells_asker q r)
-asker_quiet v None r = tt
-asker_quiet v (Some n) r = (tt, (tt, tt))
-
 ends_row : (pt : Point) (l : Line) (q : Option MoveNote) (r : Outcome) (w : Spelled) → label_of l ≡ None → is_put l ≡ false → Whole (moved pt l pt.kernel) → Sane pt → State None w.point → spelled pt (Says l ∷ tells_asker q r) ≡ Some w → Whole w.point
 ends_row pt l q r w none quiet h sane state e =
     let next = moved pt l pt.kernel in
     let n = line_next pt l (tells_asker q r) w none e in
     let sane_ : Sane next = sane_line pt next l quiet (ap (λ (o : Option Label). bind (kernel_after pt.kernel o) (λ s. Some (moved pt l s))) none) sane in
-    subst Whole n.point (quiet_row (tells_asker q r) next n.rest h sane_ (State-at None w.point n.rest.point (sym n.point) state) (asker_quiet next.view q r) n.more)
+    subst Whole n.point (quiet_row (tells_asker q r) next n.rest h sane_ (State-at None w.point n.rest.point (sym n.point) state) (elim q as (λ q_. AllQuiet next.view (tells_asker q_ r)) [ None ↦ tt | Some n' ↦ (tt, (tt, tt)) ]) n.more)
 
 -- a message of the protocol, by its kind
 told_row : (o pt : Point) (m : ℕ) (i : MsgId) (is : List MsgId) (t : Told) (p : Pid) (room : Bool × ℕ × ℕ) (x : PlainProcess) (k : MessageKind) (parts : List Part) (w : Spelled) (h : Whole pt) → Sane pt → State None w.point
@@ -59,55 +56,53 @@ told_row : (o pt : Point) (m : ℕ) (i : MsgId) (is : List MsgId) (t : Told) (p 
     → t.kind ≡ k → t.about ≡ Of p → told_step o m i p room x (sort_of k) ≡ Some parts → spelled pt parts ≡ Some w → Whole w.point
 told_row o pt m i is t p room x MessageKind.Ask parts w h sane state front told mine sees e about g n =
     let u = due pt i is t h.phases front told (ap is_between e) in
-    let pu : u.p ≡ p = about_same u.p p (sym (ap (λ (y : Told). y.about) u.told) ∙ about) in
-    let ku : u.k ≡ MessageKind.Ask = sym (ap (λ (y : Told). y.kind) u.told) ∙ e in
+    let pu : u.p ≡ p = of_same u.p p (sym (ap (λ (y : Told). y.about) u.told) ∙ about) in
     let mine_ : told_step o m i u.p room x (sort_of MessageKind.Ask) ≡ Some parts = subst (λ (q : Pid). told_step o m i q room x (sort_of MessageKind.Ask) ≡ Some parts) (sym pu) g in
-    ask_row pt i is t room.0 room.1 room.2 w h u ku front told mine (given pt (accepts i.from.home u.p room.0 room.1 room.2) parts w mine_ n)
+    ask_row pt i is t room.0 room.1 room.2 w h u (sym (ap (λ (y : Told). y.kind) u.told) ∙ e) front told mine (given pt (accepts i.from.home u.p room.0 room.1 room.2) parts w mine_ n)
 told_row o pt m i is t p room x MessageKind.Refuse parts w h sane state front told mine sees e about g n =
     let u = due pt i is t h.phases front told (ap is_between e) in
-    let pu : u.p ≡ p = about_same u.p p (sym (ap (λ (y : Told). y.about) u.told) ∙ about) in
+    let pu : u.p ≡ p = of_same u.p p (sym (ap (λ (y : Told). y.about) u.told) ∙ about) in
     let ku : u.k ≡ MessageKind.Refuse = sym (ap (λ (y : Told). y.kind) u.told) ∙ e in
     let mine_ : told_step o m i u.p room x (sort_of MessageKind.Refuse) ≡ Some parts = subst (λ (q : Pid). told_step o m i q room x (sort_of MessageKind.Refuse) ≡ Some parts) (sym pu) g in
     let q = o.kernel.notes u.p in
+    let stays_whole : (pt : Point) (i : MsgId) (is : List MsgId) (t : Told) (h : Whole pt) (u : Due pt i t h.phases) → u.k ≡ MessageKind.Refuse → pt.view.inbox pt.view.acting ≡ i ∷ is → pt.view.told i ≡ Some t → is_kernels i ≡ true
+      → Whole (moved pt (Line.Stays u.p) pt.kernel) = λ pt i is t h u e front told mine.
+      let at : pt.view.acting ≡ u.s = u.acting ∙ ap (λ (k : MessageKind). receiver_in k u.s u.d) e in
+      home_whole pt (Line.Stays u.p) i is t u.s h u refl refl refl front told mine (λ z. refl) refl
+      (λ m. ap (knows (Rests u.s) m) (at_acting pt.view u.s m u.p Here at) ∙ refused_if u.k u.s u.d m (Some i) (u.s == m) (pt.view.known m u.p) (ap is_early e) refl (due_known pt i t h.phases u m)) in
     ends_row pt (Line.Stays u.p) q Outcome.Stayed w refl refl (stays_whole pt i is t h u ku front told mine) sane state (given pt (Says (Line.Stays u.p) ∷ tells_asker q Outcome.Stayed) parts w mine_ n)
 told_row o pt m i is t p room x MessageKind.PullState parts w h sane state front told mine sees e about g n =
     let u = due pt i is t h.phases front told (ap is_between e) in
-    let pu : u.p ≡ p = about_same u.p p (sym (ap (λ (y : Told). y.about) u.told) ∙ about) in
+    let pu : u.p ≡ p = of_same u.p p (sym (ap (λ (y : Told). y.about) u.told) ∙ about) in
     let ku : u.k ≡ MessageKind.PullState = sym (ap (λ (y : Told). y.kind) u.told) ∙ e in
-    let mine_ : told_step o m i u.p room x (sort_of MessageKind.PullState) ≡ Some parts = subst (λ (q : Pid). told_step o m i q room x (sort_of MessageKind.PullState) ≡ Some parts) (sym pu) g in
-    pull_state_row pt i is t w h u ku front told mine (given pt (gives_piece i MessageKind.State) parts w mine_ n)
+    pull_state_row pt i is t w h u ku front told mine (given pt (gives_piece i MessageKind.State) parts w (subst (λ (q : Pid). told_step o m i q room x (sort_of MessageKind.PullState) ≡ Some parts) (sym pu) g) n)
 told_row o pt m i is t p room x MessageKind.State parts w h sane state front told mine sees e about g n =
     let u = due pt i is t h.phases front told (ap is_between e) in
-    let pu : u.p ≡ p = about_same u.p p (sym (ap (λ (y : Told). y.about) u.told) ∙ about) in
-    let ku : u.k ≡ MessageKind.State = sym (ap (λ (y : Told). y.kind) u.told) ∙ e in
+    let pu : u.p ≡ p = of_same u.p p (sym (ap (λ (y : Told). y.about) u.told) ∙ about) in
     let mine_ : told_step o m i u.p room x (sort_of MessageKind.State) ≡ Some parts = subst (λ (q : Pid). told_step o m i q room x (sort_of MessageKind.State) ≡ Some parts) (sym pu) g in
-    chunk_row pt i is t (o.view.asked u.p == chunks_of x) w h u ku front told mine (given pt (takes_chunk i u.p (o.view.asked u.p == chunks_of x)) parts w mine_ n)
+    chunk_row pt i is t (o.view.asked u.p == chunks_of x) w h u (sym (ap (λ (y : Told). y.kind) u.told) ∙ e) front told mine (given pt (takes_chunk i u.p (o.view.asked u.p == chunks_of x)) parts w mine_ n)
 told_row o pt m i is t p room x MessageKind.PullBlock parts w h sane state front told mine sees e about g n =
     let u = due pt i is t h.phases front told (ap is_between e) in
-    let pu : u.p ≡ p = about_same u.p p (sym (ap (λ (y : Told). y.about) u.told) ∙ about) in
+    let pu : u.p ≡ p = of_same u.p p (sym (ap (λ (y : Told). y.about) u.told) ∙ about) in
     let ku : u.k ≡ MessageKind.PullBlock = sym (ap (λ (y : Told). y.kind) u.told) ∙ e in
-    let mine_ : told_step o m i u.p room x (sort_of MessageKind.PullBlock) ≡ Some parts = subst (λ (q : Pid). told_step o m i q room x (sort_of MessageKind.PullBlock) ≡ Some parts) (sym pu) g in
-    pull_block_row pt i is t w h u ku front told mine (given pt (gives_piece i MessageKind.Memory) parts w mine_ n)
+    pull_block_row pt i is t w h u ku front told mine (given pt (gives_piece i MessageKind.Memory) parts w (subst (λ (q : Pid). told_step o m i q room x (sort_of MessageKind.PullBlock) ≡ Some parts) (sym pu) g) n)
 told_row o pt m i is t p room x MessageKind.Memory parts w h sane state front told mine sees e about g n =
     let u = due pt i is t h.phases front told (ap is_between e) in
-    let pu : u.p ≡ p = about_same u.p p (sym (ap (λ (y : Told). y.about) u.told) ∙ about) in
-    let ku : u.k ≡ MessageKind.Memory = sym (ap (λ (y : Told). y.kind) u.told) ∙ e in
+    let pu : u.p ≡ p = of_same u.p p (sym (ap (λ (y : Told). y.about) u.told) ∙ about) in
     let mine_ : told_step o m i u.p room x (sort_of MessageKind.Memory) ≡ Some parts = subst (λ (q : Pid). told_step o m i q room x (sort_of MessageKind.Memory) ≡ Some parts) (sym pu) g in
-    block_row pt i is t (o.view.asked u.p == pieces_of x) w h u ku front told mine (given pt (takes_block i u.p (o.view.asked u.p == pieces_of x)) parts w mine_ n)
+    block_row pt i is t (o.view.asked u.p == pieces_of x) w h u (sym (ap (λ (y : Told). y.kind) u.told) ∙ e) front told mine (given pt (takes_block i u.p (o.view.asked u.p == pieces_of x)) parts w mine_ n)
 told_row o pt m i is t p room x MessageKind.AllTaken parts w h sane state front told mine sees e about g n =
     let u = due pt i is t h.phases front told (ap is_between e) in
-    let pu : u.p ≡ p = about_same u.p p (sym (ap (λ (y : Told). y.about) u.told) ∙ about) in
-    let ku : u.k ≡ MessageKind.AllTaken = sym (ap (λ (y : Told). y.kind) u.told) ∙ e in
+    let pu : u.p ≡ p = of_same u.p p (sym (ap (λ (y : Told). y.about) u.told) ∙ about) in
     let mine_ : told_step o m i u.p room x (sort_of MessageKind.AllTaken) ≡ Some parts = subst (λ (q : Pid). told_step o m i q room x (sort_of MessageKind.AllTaken) ≡ Some parts) (sym pu) g in
-    leaves_row pt i is t (o.view.queue m u.p ++ o.view.held m u.p) (o.view.known m u.p) parts w h u ku front told mine (both_same o pt m u.p sees.same) mine_ n
+    leaves_row pt i is t (o.view.queue m u.p ++ o.view.held m u.p) (o.view.known m u.p) parts w h u (sym (ap (λ (y : Told). y.kind) u.told) ∙ e) front told mine (both_same o pt m u.p sees.same) mine_ n
 told_row o pt m i is t p room x MessageKind.Restart parts w h sane state front told mine sees e about g n =
     let u = due pt i is t h.phases front told (ap is_between e) in
-    let pu : u.p ≡ p = about_same u.p p (sym (ap (λ (y : Told). y.about) u.told) ∙ about) in
-    let ku : u.k ≡ MessageKind.Restart = sym (ap (λ (y : Told). y.kind) u.told) ∙ e in
+    let pu : u.p ≡ p = of_same u.p p (sym (ap (λ (y : Told). y.about) u.told) ∙ about) in
     let mine_ : told_step o m i u.p room x (sort_of MessageKind.Restart) ≡ Some parts = subst (λ (q : Pid). told_step o m i q room x (sort_of MessageKind.Restart) ≡ Some parts) (sym pu) g in
     let q = o.kernel.notes u.p in
     let l = Line.Migration Stage.Restarted u.p in
-    ends_row pt l q Outcome.Done w refl refl (restart_whole pt i is t h u ku front told mine) sane state (given pt (Says l ∷ tells_asker q Outcome.Done) parts w mine_ n)
+    ends_row pt l q Outcome.Done w refl refl (restart_whole pt i is t h u (sym (ap (λ (y : Told). y.kind) u.told) ∙ e) front told mine) sane state (given pt (Says l ∷ tells_asker q Outcome.Done) parts w mine_ n)
 told_row o pt m i is t p room x _ parts w h sane state front told mine sees e about g n = cc
 
 -- the others, at a process or a server
@@ -156,14 +151,9 @@ kernel_row b o pt m i is t (Of p) parts w h sane state front told mine sees abou
     told_row o pt m i is t p (fits (free_room b o m) (length x.memory / 256)) x t.kind parts w h sane state front told mine sees refl about last n
 kernel_row b o pt m i is t _ parts w h sane state front told mine sees about g n = cc
 
--- what isn't for a kernel is none of the protocol
-pub zero_num : (n : ℕ) → n ≡ 0 → (n == 0) ≡ true
-zero_num n e = grind (arith, nat_tests)
-
 pub plain_by : (pt : Point) (i : MsgId) (is : List MsgId) (t : Told) (h : InPhases pt.view) (b : Bool) → is_between t.kind ≡ b → pt.view.inbox pt.view.acting ≡ i ∷ is → pt.view.told i ≡ Some t → (t.receiver.num == 0) ≡ false → b ≡ false
 plain_by pt i is t h true e front told off =
-    let u = due pt i is t h front told e in
-    absurd (false≢true (sym off ∙ zero_num t.receiver.num (ap (λ (y : Told). y.receiver.num) u.told)))
+    absurd (false≢true (sym off ∙ eq-eqb t.receiver.num 0 (ap (λ (y : Told). y.receiver.num) (due pt i is t h front told e).told)))
 plain_by pt i is t h false e front told off = refl
 
 hears_by : (b : Boot) (o pt : Point) (m : ℕ) (i : MsgId) (is : List MsgId) (t : Told) (c d g : Bool) (parts : List Part) (w : Spelled) (h : Whole pt) → Sane pt → State None w.point → (t.receiver.num == 0) ≡ c → pt.view.inbox pt.view.acting ≡ i ∷ is → pt.view.told i ≡ Some t → is_kernels i ≡ true → SeesAll o pt m

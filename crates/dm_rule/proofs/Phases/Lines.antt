@@ -1,11 +1,11 @@
 -- Lines that leave the migrations of all processes as they are.
 use Rattle.dm_rule.proofs.Names.{◌≡◌, ℕ, zero, suc, ◌+◌, ◌==◌, ◌&&◌, Bool, true, false, List, [], ◌∷◌, ◌++◌, drop, length, refl, ap, ◌∙◌, sym, subst, inl, inr, arith, if◌then◌else◌, Option, None, Some, cases_Bool, length-append}
 use Rattle.dm_rule.proofs.Names.{drop-length, Pid, MsgId, MessageKind, id_eq, Load, Line, at_machine, at_pair, at_record, without_id, without_front, View, Pair, Told, handled, queued_for, held_for, dropped_for, forwarded_for, view_after}
-use Rattle.dm_rule.proofs.Names.{after_put, routed_on, Spot, Inbox, Untaken, times, untaken, standing, is_between, pid_eq-is, id_eq-is, id_eq-same, id_eq-swap, nat_tests}
+use Rattle.dm_rule.proofs.Names.{after_put, routed_on, Spot, Inbox, Untaken, times, untaken, standing, is_between, pid_eq-is, id_eq-is, id_eq-same, id_eq-swap, nat_tests, and_parts, eqb-true}
 use Rattle.dm_rule.specs.View as view
 use Rattle.dm_rule.proofs.Standing.{times-append}
 use Rattle.dm_rule.proofs.Once.{one_of}
-use Rattle.dm_rule.proofs.Lines.{parts, eq_is, pair_keeps}
+use Rattle.dm_rule.proofs.Lines.{pair_keeps}
 use Rattle.dm_rule.proofs.States.{PairsFit, put_told_off}
 use Rattle.dm_rule.proofs.Phases.Calm.{Calm, Plain, calm_others, calm_still}
 
@@ -36,18 +36,18 @@ drop_times i j (suc n) (x ∷ xs) e = drop_times i j n xs e
 -- one machine's list, one record's, one pair's
 pub machine_times : (f : ℕ → List MsgId) (m : ℕ) (x : List MsgId) (j : MsgId) → times j x ≡ times j (f m) → (n : ℕ) → times j (at_machine f m x n) ≡ times j (f n)
 machine_times f m x j e n = elim (cases_Bool (m == n)) [
-  | inl same ↦ ap (λ (c : Bool). times j (if c then x else f n)) same ∙ e ∙ ap (λ (k : ℕ). times j (f k)) (eq_is m n same)
+  | inl same ↦ ap (λ (c : Bool). times j (if c then x else f n)) same ∙ e ∙ ap (λ (k : ℕ). times j (f k)) (eqb-true m n same)
   | inr apart ↦ ap (λ (c : Bool). times j (if c then x else f n)) apart
 ]
 
 pub record_times : (f : ℕ → Pid → List MsgId) (m : ℕ) (p : Pid) (x : List MsgId) (j : MsgId) → times j x ≡ times j (f m p) → (n : ℕ) (q : Pid) → times j (at_record f m p x n q) ≡ times j (f n q)
-record_times f m p x j e n q = grind (arith, nat_tests, parts, eq_is, pid_eq-is)
+record_times f m p x j e n q = grind (arith, nat_tests, and_parts, eqb-true, pid_eq-is)
 
 pub pair_times : (f : ℕ → ℕ → Pair) (a b : ℕ) (p : Pair) (j : MsgId) → times j (untaken p) ≡ times j (untaken (f a b)) → (c d : ℕ) → times j (untaken (at_pair f a b p c d)) ≡ times j (untaken (f c d))
 pair_times f a b p j e c d = elim (cases_Bool ((a == c) && (b == d))) [
   | inl same ↦
-      let both = parts (a == c) (b == d) same in
-      ap (λ (t : Bool). times j (untaken (if t then p else f c d))) same ∙ e ∙ ap (λ (k : ℕ). times j (untaken (f k b))) (eq_is a c both.0) ∙ ap (λ (k : ℕ). times j (untaken (f c k))) (eq_is b d both.1)
+      let both = and_parts (a == c) (b == d) same in
+      ap (λ (t : Bool). times j (untaken (if t then p else f c d))) same ∙ e ∙ ap (λ (k : ℕ). times j (untaken (f k b))) (eqb-true a c both.0) ∙ ap (λ (k : ℕ). times j (untaken (f c k))) (eqb-true b d both.1)
   | inr apart ↦ ap (λ (t : Bool). times j (untaken (if t then p else f c d))) apart
 ]
 
@@ -91,24 +91,19 @@ put_inbox v a b i j false e n = refl
 
 put_pair : (a b : ℕ) (p : Pair) (i j : MsgId) (c : Bool) → (a == b) ≡ c → id_eq i j ≡ false → (c ≡ true → p.taken ≡ length p.ids) → times j (untaken (routed_on a b p i)) ≡ times j (untaken p)
 put_pair a b p i j true is e full =
-    let long : length (p.ids ++ i ∷ []) ≡ p.taken + 1 = length-append p.ids (i ∷ []) ∙ ap (λ k. k + 1) (sym (full refl)) in
-    let gone : drop (p.taken + 1) (p.ids ++ i ∷ []) ≡ [] = subst (λ k. drop k (p.ids ++ i ∷ []) ≡ []) long (drop-length (p.ids ++ i ∷ [])) in
-    let was : drop p.taken p.ids ≡ [] = ap (λ k. drop k p.ids) (full refl) ∙ drop-length p.ids in
-    ap (λ (x : Bool). times j (drop (if x then p.taken + 1 else p.taken) (p.ids ++ i ∷ []))) is ∙ (ap (times j) gone ∙ sym (ap (times j) was))
+    let gone : drop (p.taken + 1) (p.ids ++ i ∷ []) ≡ [] = subst (λ k. drop k (p.ids ++ i ∷ []) ≡ []) (length-append p.ids (i ∷ []) ∙ ap (λ k. k + 1) (sym (full refl))) (drop-length (p.ids ++ i ∷ [])) in
+    ap (λ (x : Bool). times j (drop (if x then p.taken + 1 else p.taken) (p.ids ++ i ∷ []))) is ∙ (ap (times j) gone ∙ sym (ap (times j) (ap (λ k. drop k p.ids) (full refl) ∙ drop-length p.ids)))
 put_pair a b p i j false is e full =
     ap (λ (x : Bool). times j (drop (if x then p.taken + 1 else p.taken) (p.ids ++ i ∷ []))) is ∙ drop_times i j p.taken p.ids e
 
 pub home_full : (v : View) (a b : ℕ) → PairsFit v → (a == b) ≡ true → (v.pair a b).taken ≡ length (v.pair a b).ids
-home_full v a b fits is = let e : a ≡ b = eq_is a b is in subst (λ n. (v.pair a n).taken ≡ length (v.pair a n).ids) e (fits.home a)
+home_full v a b fits is = let e : a ≡ b = eqb-true a b is in subst (λ n. (v.pair a n).taken ≡ length (v.pair a n).ids) e (fits.home a)
 
 pub put_spots : (v : View) (a b : ℕ) (i j : MsgId) (k : MessageKind) (q : Pid) → PairsFit v → id_eq i j ≡ false → (z : Spot) → standing (after_put v a b i k q) j z ≡ standing v j z
 put_spots v a b i j k q h1 h2 z = search (arith, put_inbox, pair_times, put_pair, home_full)
 
 pub put_at : (v : View) (a b : ℕ) (i : MsgId) (k : MessageKind) (q : Pid) → (after_put v a b i k q).told i ≡ Some (view.first_told (v.told i) (record { kind = k; receiver = q; about = v.topic }))
 put_at v a b i k q = ap (λ (c : Bool). if c then Some (view.first_told (v.told i) (record { kind = k; receiver = q; about = v.topic })) else v.told i) (id_eq-same i)
-
-first_plain : (v : View) (i : MsgId) (k : MessageKind) (q : Pid) (o : Option Told) → v.told i ≡ o → is_between k ≡ false → Plain v i → is_between (view.first_told o (record { kind = k; receiver = q; about = v.topic })).kind ≡ false
-first_plain v i k q o h1 h2 h3 = grind (arith, nat_tests)
 
 pub first_kept : (o : Option Told) (u t : Told) → o ≡ Some t → Some (view.first_told o u) ≡ Some t
 first_kept None u t e = cc
@@ -119,14 +114,12 @@ put_calm v a b i k q fits e plain =
     let u : Told = record { kind = k; receiver = q; about = v.topic } in
     calm_others v (after_put v a b i k q) i plain
     (λ t is. (let f : Some (view.first_told (v.told i) u) ≡ Some t = sym (put_at v a b i k q) ∙ is in let g : view.first_told (v.told i) u ≡ t = cc in
-    subst (λ (s : Told). is_between s.kind ≡ false) g (first_plain v i k q (v.told i) refl e plain)))
+    subst (λ (s : Told). is_between s.kind ≡ false) g (let e_ : is_between (view.first_told (v.told i) (record { kind = k; receiver = q; about = v.topic })).kind ≡ false = grind (arith, nat_tests) in e_)))
     (λ t is. put_at v a b i k q ∙ first_kept (v.told i) u t is)
     (record { known = λ m p. refl; told = λ j apart. put_told_off v a b i j k q apart; spots = λ j apart z. put_spots v a b i j k q fits apart z })
 
 -- a packet
-packet_spots : (v : View) (a b k : ℕ) (l : Load) (j : MsgId) (z : Spot) → standing (view_after v (Line.Packet a b k l)) j z ≡ standing v j z
-packet_spots v a b k l j (Untaken c d) = ap (times j) (pair_keeps v.pair a b _ refl c d)
-packet_spots v a b k l j _ = refl
-
 pub packet_calm : (v : View) (a b k : ℕ) (l : Load) → Calm v (view_after v (Line.Packet a b k l))
-packet_calm v a b k l = calm_still v (view_after v (Line.Packet a b k l)) (λ m p. refl) (λ i. refl) (λ i z. packet_spots v a b k l i z)
+packet_calm v a b k l =
+    calm_still v (view_after v (Line.Packet a b k l)) (λ m p. refl) (λ i. refl) (λ i z.
+    (elim z as (λ z_. standing (view_after v (Line.Packet a b k l)) i z_ ≡ standing v i z_) [ Untaken c' d' ↦ ap (times i) (pair_keeps v.pair a b _ refl c' d') | _ ↦ refl ]))

@@ -1,9 +1,8 @@
 -- A process ends, and one is made.
-use Rattle.dm_rule.proofs.Names.{◌≡◌, ℕ, ◌≤◌, ◌==◌, Bool, true, false, refl, ap, ◌∙◌, sym, subst, inl, arith, if◌then◌else◌, Option, None, Some, false≢true, nat_tests, Pid, MsgId, MessageKind, Label, Line, id_eq, Why, at_record, View, Told}
+use Rattle.dm_rule.proofs.Names.{◌≡◌, ℕ, ◌≤◌, ◌==◌, Bool, true, false, refl, ap, ◌∙◌, sym, subst, inl, arith, if◌then◌else◌, Option, None, Some, false≢true, nat_tests, Pid, MsgId, MessageKind, Label, Line, id_eq, at_record, View, Told}
 use Rattle.dm_rule.proofs.Names.{Known, Unknown, Here, Ended, view_after, handled, served_told, Spot, times, standing, is_between, is_away, is_here, is_over, kind_comes, Phase, Nowhere, Rests, Over, Moves, knows, token_in, id_eq-is}
-use Rattle.dm_rule.proofs.Names.{kind_leaves}
-use Rattle.dm_rule.proofs.Lines.{not_true}
-use Rattle.dm_rule.proofs.Turns.{ended_off, created_off}
+use Rattle.dm_rule.proofs.Names.{kind_leaves, false_from_ne_true}
+use Rattle.dm_rule.proofs.Turns.{ended_off}
 use Rattle.dm_rule.proofs.Phases.Calm.{Plain}
 use Rattle.dm_rule.proofs.Phases.Lines.{handled_spots}
 use Rattle.dm_rule.proofs.Phases.Stand.{none_only, InPhases, Learns, learns_phases}
@@ -36,51 +35,35 @@ ends_phases v w p h here known told spots =
     (λ m. ap (λ (f : ℕ → Pid → Known). knows (Over a) m (f m p)) known ∙ ap (knows (Over a) m) (set_at v p Ended m) ∙ over_of a m (a == m) (v.known m p) refl (rested m))
     (λ j x z. absurd (let f : None ≡ Some j = sym (ap token_in phase) ∙ x in cc))).phases
 
--- an end by a call or a fault
-pub end_line_phases : (v : View) (p : Pid) (y : Why) → InPhases v → v.known v.acting p ≡ Here → InPhases (view_after v (Line.Label (Label.End p y)))
-end_line_phases v p y h here = ends_phases v (view_after v (Line.Label (Label.End p y))) p h here refl refl (λ j t e b z. ap (times j) (ended_off v p z))
-
--- nothing is known of a process that was never made
-rests_if : (m : ℕ) → (if m == m then is_here Unknown else is_away Unknown) ≡ false
-rests_if m = ap (λ (c : Bool). if c then is_here Unknown else is_away Unknown) (let e : (m == m) ≡ true = grind (arith, nat_tests) in e)
-
-over_if : (m : ℕ) → (if m == m then is_over Unknown else is_away Unknown) ≡ false
-over_if m = ap (λ (c : Bool). if c then is_over Unknown else is_away Unknown) (let e : (m == m) ≡ true = grind (arith, nat_tests) in e)
-
 moves_if : (k : MessageKind) (s d : ℕ) → (if s == s then kind_leaves k d Unknown else if d == s then kind_comes k s Unknown else is_away Unknown) ≡ false
 moves_if k s d = ap (λ (c : Bool). if c then kind_leaves k d Unknown else if d == s then kind_comes k s Unknown else is_away Unknown) (let e : (s == s) ≡ true = grind (arith, nat_tests) in e)
 
 pub nowhere_known : (phase : Phase) → ((m : ℕ) → knows phase m Unknown ≡ true) → phase ≡ Nowhere
 nowhere_known Nowhere h = refl
-nowhere_known (Rests at) h = absurd (false≢true (sym (rests_if at) ∙ h at))
-nowhere_known (Over at) h = absurd (false≢true (sym (over_if at) ∙ h at))
+nowhere_known (Rests at) h =
+    -- nothing is known of a process that was never made
+    let rests_if : (if at == at then is_here Unknown else is_away Unknown) ≡ false = ap (λ (c : Bool). if c then is_here Unknown else is_away Unknown) (let e : (at == at) ≡ true = grind (arith, nat_tests) in e) in
+    absurd (false≢true (sym rests_if ∙ h at))
+nowhere_known (Over at) h =
+    let over_if : (if at == at then is_over Unknown else is_away Unknown) ≡ false = ap (λ (c : Bool). if c then is_over Unknown else is_away Unknown) (let e : (at == at) ≡ true = grind (arith, nat_tests) in e) in
+    absurd (false≢true (sym over_if ∙ h at))
 nowhere_known (Moves k s d o) h = absurd (false≢true (sym (moves_if k s d) ∙ h s))
-
-made_of : (a m : ℕ) (b : Bool) → (a == m) ≡ b → knows (Rests a) m (if b then Here else Unknown) ≡ true
-made_of a m b h1 = search arith
 
 -- one is made on the acting machine
 pub made_phases : (v w : View) (p : Pid) → InPhases v → ((m : ℕ) → v.known m p ≡ Unknown) → w.known ≡ at_record v.known v.acting p Here → w.told ≡ v.told → ((j : MsgId) (t : Told) → v.told j ≡ Some t → is_between t.kind ≡ true → (z : Spot) → standing w j z ≡ standing v j z) → InPhases w
 made_phases v w p h unknown known told spots =
+    let made_of : (a m : ℕ) (b : Bool) → (a == m) ≡ b → knows (Rests a) m (if b then Here else Unknown) ≡ true = λ a m b h1. search arith in
     let a = v.acting in
-    let phase : h.of p ≡ Nowhere = nowhere_known (h.of p) (λ m. sym (ap (knows (h.of p) m) (unknown m)) ∙ (h.each p).known m) in
     (learns_phases v w p (Rests a) h (none_only p) (still_learns v w p Here known told spots) refl refl
     (λ m. ap (λ (f : ℕ → Pid → Known). knows (Rests a) m (f m p)) known ∙ ap (knows (Rests a) m) (set_at v p Here m ∙ ap (λ (y : Known). if a == m then Here else y) (unknown m)) ∙ made_of a m (a == m) refl)
-    (λ j x z. absurd (let f : None ≡ Some j = sym (ap token_in phase) ∙ x in cc))).phases
+    (λ j x z. absurd (let f : None ≡ Some j = sym (ap token_in (nowhere_known (h.of p) (λ m. sym (ap (knows (h.of p) m) (unknown m)) ∙ (h.each p).known m))) ∙ x in cc))).phases
 
 -- by a message at the front of the inbox that is none of the protocol
-front_spots : (v : View) (i j : MsgId) (t : Told) → Plain v i → v.told j ≡ Some t → is_between t.kind ≡ true → (z : Spot) → standing (handled v i) j z ≡ standing v j z
-front_spots v i j t plain told b z = handled_spots v i j (not_true (id_eq i j) (λ e. let is : i ≡ j = id_eq-is i j e in false≢true (sym (plain t (ap v.told is ∙ told)) ∙ b))) z
-
-pub created_phases : (v : View) (i : MsgId) (p : Pid) → InPhases v → Plain v i → ((m : ℕ) → v.known m p ≡ Unknown) → InPhases (view_after v (Line.Label (Label.Created i p)))
-created_phases v i p h plain unknown = made_phases v (view_after v (Line.Label (Label.Created i p))) p h unknown refl refl (λ j t e b z. ap (times j) (created_off v i p z) ∙ front_spots v i j t plain e b z)
+pub front_spots : (v : View) (i j : MsgId) (t : Told) → Plain v i → v.told j ≡ Some t → is_between t.kind ≡ true → (z : Spot) → standing (handled v i) j z ≡ standing v j z
+front_spots v i j t plain told b z = handled_spots v i j (false_from_ne_true (id_eq i j) (λ e. let is : i ≡ j = id_eq-is i j e in false≢true (sym (plain t (ap v.told is ∙ told)) ∙ b))) z
 
 -- a kill ends its receiver
-killed_is : (v : View) (t : Told) (o : Option Told) → o ≡ Some t → t.kind ≡ MessageKind.Kill → served_told v o ≡ view.ended v t.receiver
-killed_is v t o h1 h2 = grind (arith, nat_tests)
-
 pub killed_phases : (v : View) (i : MsgId) (t : Told) → InPhases v → Plain v i → v.told i ≡ Some t → t.kind ≡ MessageKind.Kill → v.known v.acting t.receiver ≡ Here → InPhases (view_after v (Line.Label (Label.Served i)))
 killed_phases v i t h plain told k here =
-    let w = view.ended (handled v i) t.receiver in
-    subst InPhases (sym (killed_is (handled v i) t (v.told i) told k))
-    (ends_phases v w t.receiver h here refl refl (λ j u e b z. ap (times j) (ended_off (handled v i) t.receiver z) ∙ front_spots v i j u plain e b z))
+    subst InPhases (sym (let e_ : served_told (handled v i) (v.told i) ≡ view.ended (handled v i) t.receiver = grind (arith, nat_tests) in e_))
+    (ends_phases v (view.ended (handled v i) t.receiver) t.receiver h here refl refl (λ j u e b z. ap (times j) (ended_off (handled v i) t.receiver z) ∙ front_spots v i j u plain e b z))

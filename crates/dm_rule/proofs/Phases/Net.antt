@@ -1,10 +1,10 @@
 -- Heads, deliveries, ticks and the directive to migrate leave all processes in their phases.
-use Rattle.dm_rule.proofs.Names.{◌≡◌, ℕ, suc, ◌+◌, ◌≤◌, ◌==◌, ◌&&◌, Bool, true, not, filter, List, [], ◌∷◌, ◌++◌, drop, length, refl, ap, ◌∙◌, sym, subst, inl, inr, arith, if◌then◌else◌, slice_get, Option, None, Some, cases_Bool, Pid}
-use Rattle.dm_rule.proofs.Names.{MsgId, Step, Line, at_machine, at_pair, View, Pair, view_after, after_head, taken_id, with_pair, Point, moved, seen, Part, Says, Transmits, Spelled, packet_line, spelled, migrates, Spot, Queue, Held, Inbox}
-use Rattle.dm_rule.proofs.Names.{Untaken, times, untaken, ids_at, standing}
+use Rattle.dm_rule.proofs.Names.{◌≡◌, ℕ, suc, ◌+◌, ◌≤◌, ◌==◌, ◌&&◌, Bool, true, List, [], ◌∷◌, ◌++◌, drop, length, refl, ap, ◌∙◌, sym, subst, inl, inr, arith, if◌then◌else◌, slice_get, Option, None, Some, cases_Bool, Pid, MsgId, Step, Line}
+use Rattle.dm_rule.proofs.Names.{at_machine, at_pair, View, Pair, view_after, after_head, taken_id, with_pair, Point, moved, seen, Part, Says, Transmits, Spelled, packet_line, spelled, migrates, Spot, Queue, Held, Inbox, Untaken, times}
+use Rattle.dm_rule.proofs.Names.{untaken, ids_at, standing, and_parts, eqb-true}
 use Rattle.dm_rule.proofs.Standing.{times-append}
 use Rattle.dm_rule.proofs.Once.{one_of}
-use Rattle.dm_rule.proofs.Lines.{parts, eq_is, at_place, past_place, pair_keeps, eq_self}
+use Rattle.dm_rule.proofs.Lines.{at_place, past_place, pair_keeps, eq_self, taken_pair}
 use Rattle.dm_rule.proofs.States.{says_next, transmits_next, said}
 use Rattle.dm_rule.proofs.Groups.{IsNetLine, IsNet, early_off, acked_off, turn_off, tick_off, deliver_off, migrate_off}
 use Rattle.dm_rule.proofs.Phases.Calm.{Came, Calm, calm_about, calm_same, calm_trans, calm_still}
@@ -19,86 +19,71 @@ head_calm v (Step.Tick m) = calm_still v (after_head v (Step.Tick m)) (λ n q. r
 head_calm v (Step.Deliver a b k) = calm_still v (after_head v (Step.Deliver a b k)) (λ n q. refl) (λ i. refl) (λ i z. ap (times i) (deliver_off v a b k z))
 head_calm v (Step.Migrate p m) = calm_still v (after_head v (Step.Migrate p m)) (λ n q. refl) (λ i. refl) (λ i z. ap (times i) (migrate_off v p m z))
 
--- a message is taken: it comes from the stream to the inbox
-abbrev one_taken : Pair → ℕ → Pair
-one_taken p n = record p { taken = p.taken + 1; kept = filter (λ k. not (k == n)) p.kept }
+abbrev pub taken_view : View → ℕ → ℕ → ℕ → View
+taken_view v a b n = with_pair v a b (taken_pair (v.pair a b) n)
 
-abbrev taken_view : View → ℕ → ℕ → ℕ → View
-taken_view v a b n = with_pair v a b (one_taken (v.pair a b) n)
-
-none_taken : (p : Pair) (n : ℕ) → slice_get p.ids p.taken ≡ None → untaken (one_taken p n) ≡ untaken p
+pub none_taken : (p : Pair) (n : ℕ) → slice_get p.ids p.taken ≡ None → untaken (taken_pair p n) ≡ untaken p
 none_taken p n is = let k = past_place p.ids p.taken is in let next : p.taken + 1 ≡ suc p.taken = omega arith in ap (λ m. drop m p.ids) next ∙ k.1 ∙ sym k.0
 
-taken_front : (p : Pair) (n : ℕ) (i : MsgId) → slice_get p.ids p.taken ≡ Some i → untaken p ≡ i ∷ untaken (one_taken p n)
+taken_front : (p : Pair) (n : ℕ) (i : MsgId) → slice_get p.ids p.taken ≡ Some i → untaken p ≡ i ∷ untaken (taken_pair p n)
 taken_front p n i is = let next : suc p.taken ≡ p.taken + 1 = omega arith in at_place p.ids p.taken i is ∙ ap (λ m. i ∷ drop m p.ids) next
 
 -- the stream has one less, and the inbox one more
-stream_back : (v : View) (a b n : ℕ) (i j : MsgId) (c d : ℕ) → untaken (v.pair a b) ≡ i ∷ untaken (one_taken (v.pair a b) n) → 1 ≤ times j (untaken (at_pair v.pair a b (one_taken (v.pair a b) n) c d)) → 1 ≤ times j (untaken (v.pair c d))
+stream_back : (v : View) (a b n : ℕ) (i j : MsgId) (c d : ℕ) → untaken (v.pair a b) ≡ i ∷ untaken (taken_pair (v.pair a b) n) → 1 ≤ times j (untaken (at_pair v.pair a b (taken_pair (v.pair a b) n) c d)) → 1 ≤ times j (untaken (v.pair c d))
 stream_back v a b n i j c d front st = elim (cases_Bool ((a == c) && (b == d))) [
   | inl same ↦
-      let both = parts (a == c) (b == d) same in
-      let now : times j (untaken (at_pair v.pair a b (one_taken (v.pair a b) n) c d)) ≡ times j (untaken (one_taken (v.pair a b) n)) = ap (λ (t : Bool). times j (untaken (if t then one_taken (v.pair a b) n else v.pair c d))) same in
-      let was : times j (untaken (v.pair a b)) ≡ times j (i ∷ untaken (one_taken (v.pair a b) n)) = ap (times j) front in
-      subst (λ (k : ℕ). 1 ≤ times j (untaken (v.pair c k))) (eq_is b d both.1) (subst (λ (k : ℕ). 1 ≤ times j (untaken (v.pair k b))) (eq_is a c both.0) (omega (arith, st, now, was)))
-  | inr off ↦ subst (λ k. 1 ≤ k) (ap (λ (t : Bool). times j (untaken (if t then one_taken (v.pair a b) n else v.pair c d))) off) st
+      let both = and_parts (a == c) (b == d) same in
+      let now : times j (untaken (at_pair v.pair a b (taken_pair (v.pair a b) n) c d)) ≡ times j (untaken (taken_pair (v.pair a b) n)) = ap (λ (t : Bool). times j (untaken (if t then taken_pair (v.pair a b) n else v.pair c d))) same in
+      subst (λ (k : ℕ). 1 ≤ times j (untaken (v.pair c k))) (eqb-true b d both.1) (subst (λ (k : ℕ). 1 ≤ times j (untaken (v.pair k b))) (eqb-true a c both.0) (omega (arith, st, now, ap (times j) front)))
+  | inr off ↦ subst (λ k. 1 ≤ k) (ap (λ (t : Bool). times j (untaken (if t then taken_pair (v.pair a b) n else v.pair c d))) off) st
 ]
 
-inbox_back : (v : View) (a b n : ℕ) (i j : MsgId) (m : ℕ) → untaken (v.pair a b) ≡ i ∷ untaken (one_taken (v.pair a b) n) → 1 ≤ times j (at_machine v.inbox b (v.inbox b ++ i ∷ []) m) → Came v j (Inbox m)
+inbox_back : (v : View) (a b n : ℕ) (i j : MsgId) (m : ℕ) → untaken (v.pair a b) ≡ i ∷ untaken (taken_pair (v.pair a b) n) → 1 ≤ times j (at_machine v.inbox b (v.inbox b ++ i ∷ []) m) → Came v j (Inbox m)
 inbox_back v a b n i j m front st = elim (cases_Bool (b == m)) [
   | inl same ↦
-      let bm : b ≡ m = eq_is b m same in
-      let now : times j (at_machine v.inbox b (v.inbox b ++ i ∷ []) m) ≡ times j (v.inbox b ++ i ∷ []) = ap (λ (c : Bool). times j (if c then v.inbox b ++ i ∷ [] else v.inbox m)) same in
-      let sum = times-append j (v.inbox b) (i ∷ []) in
+      let bm : b ≡ m = eqb-true b m same in
       elim (cases_zero (times j (v.inbox b))) [
         | inl none ↦
-            let was : times j (untaken (v.pair a b)) ≡ times j (i ∷ untaken (one_taken (v.pair a b) n)) = ap (times j) front in
-            inr (Untaken a b, omega (arith, st, now, sum, none, was), ap (λ (k : ℕ). Inbox k) (sym bm))
+            inr (Untaken a b, omega (arith, st, ap (λ (c : Bool). times j (if c then v.inbox b ++ i ∷ [] else v.inbox m)) same, times-append j (v.inbox b) (i ∷ []), none, ap (times j) front), ap (λ (k : ℕ). Inbox k) (sym bm))
         | inr some ↦ inl (subst (λ (k : ℕ). 1 ≤ times j (v.inbox k)) bm some)
       ]
   | inr off ↦ inl (subst (λ k. 1 ≤ k) (ap (λ (c : Bool). times j (if c then v.inbox b ++ i ∷ [] else v.inbox m)) off) st)
 ]
 
-abbrev came_view : View → ℕ → ℕ → ℕ → MsgId → View
+abbrev pub came_view : View → ℕ → ℕ → ℕ → MsgId → View
 came_view v a b n i = record (taken_view v a b n) { inbox = at_machine v.inbox b (v.inbox b ++ i ∷ []) }
 
-taken_back : (v : View) (a b n : ℕ) (i j : MsgId) (z : Spot) → untaken (v.pair a b) ≡ i ∷ untaken (one_taken (v.pair a b) n) → 1 ≤ standing (came_view v a b n i) j z → Came v j z
-taken_back v a b n i j (Inbox m) front st = inbox_back v a b n i j m front st
-taken_back v a b n i j (Untaken c d) front st = inl (stream_back v a b n i j c d front st)
-taken_back v a b n i j _ front st = inl st
-
-in_inbox : (v : View) (a b n : ℕ) (i j : MsgId) (m : ℕ) → (b == m) ≡ true → 1 ≤ times j (v.inbox b) + one_of j i → 1 ≤ standing (came_view v a b n i) j (Inbox m)
+pub in_inbox : (v : View) (a b n : ℕ) (i j : MsgId) (m : ℕ) → (b == m) ≡ true → 1 ≤ times j (v.inbox b) + one_of j i → 1 ≤ standing (came_view v a b n i) j (Inbox m)
 in_inbox v a b n i j m same st =
-    let now : times j (at_machine v.inbox b (v.inbox b ++ i ∷ []) m) ≡ times j (v.inbox b ++ i ∷ []) = ap (λ (c : Bool). times j (if c then v.inbox b ++ i ∷ [] else v.inbox m)) same in
-    let sum = times-append j (v.inbox b) (i ∷ []) in omega (arith, st, now, sum)
+    let sum = times-append j (v.inbox b) (i ∷ []) in omega (arith, st, ap (λ (c : Bool). times j (if c then v.inbox b ++ i ∷ [] else v.inbox m)) same, sum)
 
-taken_on : (v : View) (a b n : ℕ) (i j : MsgId) (z : Spot) → untaken (v.pair a b) ≡ i ∷ untaken (one_taken (v.pair a b) n) → 1 ≤ standing v j z → (y : Spot) × (1 ≤ standing (came_view v a b n i) j y)
+taken_on : (v : View) (a b n : ℕ) (i j : MsgId) (z : Spot) → untaken (v.pair a b) ≡ i ∷ untaken (taken_pair (v.pair a b) n) → 1 ≤ standing v j z → (y : Spot) × (1 ≤ standing (came_view v a b n i) j y)
 taken_on v a b n i j (Queue m p) front st = (Queue m p, st)
 taken_on v a b n i j (Held m p) front st = (Held m p, st)
 taken_on v a b n i j (Inbox m) front st = elim (cases_Bool (b == m)) [
   | inl same ↦
-      let here : 1 ≤ times j (v.inbox b) = subst (λ (k : ℕ). 1 ≤ times j (v.inbox k)) (sym (eq_is b m same)) st in
-      (Inbox m, in_inbox v a b n i j m same (omega (arith, here)))
+      (Inbox m, in_inbox v a b n i j m same (omega (arith, subst (λ (k : ℕ). 1 ≤ times j (v.inbox k)) (sym (eqb-true b m same)) st)))
   | inr off ↦ (Inbox m, subst (λ k. 1 ≤ k) (sym (ap (λ (c : Bool). times j (if c then v.inbox b ++ i ∷ [] else v.inbox m)) off)) st)
 ]
 taken_on v a b n i j (Untaken c d) front st = elim (cases_Bool ((a == c) && (b == d))) [
   | inl same ↦
-      let both = parts (a == c) (b == d) same in
-      let here : 1 ≤ times j (untaken (v.pair a b)) = subst (λ (k : ℕ). 1 ≤ times j (untaken (v.pair k b))) (sym (eq_is a c both.0)) (subst (λ (k : ℕ). 1 ≤ times j (untaken (v.pair c k))) (sym (eq_is b d both.1)) st) in
-      let was : times j (untaken (v.pair a b)) ≡ times j (i ∷ untaken (one_taken (v.pair a b) n)) = ap (times j) front in
-      let now : times j (untaken (at_pair v.pair a b (one_taken (v.pair a b) n) c d)) ≡ times j (untaken (one_taken (v.pair a b) n)) = ap (λ (t : Bool). times j (untaken (if t then one_taken (v.pair a b) n else v.pair c d))) same in
+      let both = and_parts (a == c) (b == d) same in
+      let here : 1 ≤ times j (untaken (v.pair a b)) = subst (λ (k : ℕ). 1 ≤ times j (untaken (v.pair k b))) (sym (eqb-true a c both.0)) (subst (λ (k : ℕ). 1 ≤ times j (untaken (v.pair c k))) (sym (eqb-true b d both.1)) st) in
       elim (cases_zero (one_of j i)) [
-        | inl none ↦ (Untaken c d, omega (arith, here, was, now, none))
+        | inl none ↦ (Untaken c d, omega (arith, here, ap (times j) front, ap (λ (t : Bool). times j (untaken (if t then taken_pair (v.pair a b) n else v.pair c d))) same, none))
         | inr some ↦ (Inbox b, in_inbox v a b n i j b (eq_self b) (omega (arith, some)))
       ]
-  | inr off ↦ (Untaken c d, subst (λ k. 1 ≤ k) (sym (ap (λ (t : Bool). times j (untaken (if t then one_taken (v.pair a b) n else v.pair c d))) off)) st)
+  | inr off ↦ (Untaken c d, subst (λ k. 1 ≤ k) (sym (ap (λ (t : Bool). times j (untaken (if t then taken_pair (v.pair a b) n else v.pair c d))) off)) st)
 ]
 
 taken_by : (v : View) (a b n : ℕ) (o : Option MsgId) → slice_get (v.pair a b).ids (v.pair a b).taken ≡ o → Calm v (taken_id (taken_view v a b n) b o)
 taken_by v a b n None is = calm_still v (taken_view v a b n) (λ m p. refl) (λ i. refl) (λ i z. ap (times i) (elim z as (λ z_. ids_at (taken_view v a b n) z_ ≡ ids_at v z_)
-    [ Untaken c d ↦ pair_keeps v.pair a b (one_taken (v.pair a b) n) (none_taken (v.pair a b) n is) c d | _ ↦ refl ]))
+    [ Untaken c d ↦ pair_keeps v.pair a b (taken_pair (v.pair a b) n) (none_taken (v.pair a b) n is) c d | _ ↦ refl ]))
 taken_by v a b n (Some i) is =
     let front = taken_front (v.pair a b) n i is in
-    record { known = λ m p. refl; fresh = λ j t e c. e; kept = λ j t e. e; back = λ j t e c z st. taken_back v a b n i j z front st; on = λ j t e c z st. taken_on v a b n i j z front st }
+    record { known = λ m p. refl; fresh = λ j t e c. e; kept = λ j t e. e; back = λ j t e c z st.
+    ((elim z as (λ z_. 1 ≤ standing (came_view v a b n i) j z_ → Came v j z_) [ Inbox m' ↦ λ st'. inbox_back v a b n i j m' front st' | Untaken c' d' ↦ λ st'. inl (stream_back v a b n i j c' d' front st') | _ ↦ λ st'. inl st' ]) st);
+    on = λ j t e c z st. taken_on v a b n i j z front st }
 
 pub taken_calm : (v : View) (a b n : ℕ) → Calm v (view_after v (Line.Taken a b n))
 taken_calm v a b n = taken_by v a b n (slice_get (v.pair a b).ids (v.pair a b).taken) refl

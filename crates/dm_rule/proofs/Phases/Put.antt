@@ -1,11 +1,11 @@
 -- The next message about a process that moves is put.
 use Rattle.dm_rule.proofs.Names.{◌≡◌, ◌⊎◌, ℕ, ◌+◌, ◌≤◌, ◌==◌, Bool, true, false, List, [], ◌∷◌, ◌++◌, drop, refl, ap, ◌∙◌, sym, subst, inl, inr, arith, if◌then◌else◌, Option, None, Some, cases_Bool, false≢true, drop-append-le, Pid, pid_of}
 use Rattle.dm_rule.proofs.Names.{pid_eq, MsgId, MessageKind, id_eq, at_machine, View, Told, About, Of, own_id, after_put, routed_on, Spot, Inbox, Untaken, times, untaken, standing, StandsOnce, Phase, Moves, knows, sender_in, receiver_in}
-use Rattle.dm_rule.proofs.Names.{told_between, HasToken, IsIn, id_eq-is, id_eq-same, pid_eq-same}
+use Rattle.dm_rule.proofs.Names.{told_between, HasToken, IsIn, id_eq-is, id_eq-same, pid_eq-same, false_from_ne_true}
 use Rattle.dm_rule.specs.View as view
 use Rattle.dm_rule.proofs.Standing.{spot_cases, once_at, times-append}
 use Rattle.dm_rule.proofs.Once.{one_of}
-use Rattle.dm_rule.proofs.Lines.{not_true, at_machine_at, pair_at}
+use Rattle.dm_rule.proofs.Lines.{at_machine_at, pair_at}
 use Rattle.dm_rule.proofs.States.{PairsFit, put_told_off}
 use Rattle.dm_rule.proofs.Phases.Lines.{put_spots, put_at}
 use Rattle.dm_rule.proofs.Phases.Stand.{PhasesBut, InPhases, some_only, phase_set}
@@ -19,14 +19,11 @@ last_there i xs = let a = times-append i xs (i ∷ []) in let one : one_of i i �
 
 put_by : (v : View) (a b : ℕ) (i : MsgId) (k : MessageKind) (q : Pid) (c : Bool) → (a == b) ≡ c → PairsFit v → 1 ≤ standing (after_put v a b i k q) i (if c then Inbox b else Untaken a b)
 put_by v a b i k q true is fits =
-    let e : times i ((after_put v a b i k q).inbox b) ≡ times i (v.inbox b ++ i ∷ []) = ap (λ (c : Bool). times i ((if c then at_machine v.inbox b (v.inbox b ++ i ∷ []) else v.inbox) b)) is ∙ ap (times i) (at_machine_at v.inbox b (v.inbox b ++ i ∷ [])) in
-    let l = last_there i (v.inbox b) in omega (arith, e, l)
+    let l = last_there i (v.inbox b) in omega (arith, ap (λ (c : Bool). times i ((if c then at_machine v.inbox b (v.inbox b ++ i ∷ []) else v.inbox) b)) is ∙ ap (times i) (at_machine_at v.inbox b (v.inbox b ++ i ∷ [])), l)
 put_by v a b i k q false is fits =
     let p = v.pair a b in
     let at : untaken ((after_put v a b i k q).pair a b) ≡ untaken p ++ i ∷ [] = ap untaken (pair_at v.pair a b (routed_on a b p i)) ∙ ap (λ (c : Bool). drop (if c then p.taken + 1 else p.taken) (p.ids ++ i ∷ [])) is ∙ drop-append-le p.taken p.ids (i ∷ []) (fits.within a b) in
-    let l = last_there i (untaken p) in
-    let e : times i (untaken ((after_put v a b i k q).pair a b)) ≡ times i (untaken p ++ i ∷ []) = ap (times i) at in
-    omega (arith, e, l)
+    omega (arith, ap (times i) at, last_there i (untaken p))
 
 pub put_there : (v : View) (a b : ℕ) (i : MsgId) (k : MessageKind) (q : Pid) → PairsFit v → 1 ≤ standing (after_put v a b i k q) i (put_spot a b)
 put_there v a b i k q fits = put_by v a b i k q (a == b) refl fits
@@ -66,11 +63,8 @@ put_others v w p q phase i u off same told_i about told spots kept h = record {
   token = others_has v w q phase i kept told spots h.token;
   alone = λ j t z tj bt ab st. elim (cases_Bool (id_eq i j)) [
     | inl is ↦
-        let e : i ≡ j = id_eq-is i j is in
-        let f : Some u ≡ Some t = sym told_i ∙ ap w.told e ∙ tj in
-        let g : u ≡ t = cc in
-        let pq : p ≡ q = of_same p q (sym about ∙ ap (λ (x : Told). x.about) g ∙ ab) in
-        absurd (false≢true (sym off ∙ ap (pid_eq p) (sym pq) ∙ pid_eq-same p))
+        let f : Some u ≡ Some t = sym told_i ∙ ap w.told (id_eq-is i j is) ∙ tj in
+        absurd (false≢true (sym off ∙ ap (pid_eq p) (sym (of_same p q (sym about ∙ ap (λ (x : Told). x.about) (let g : u ≡ t = cc in g) ∙ ab))) ∙ pid_eq-same p))
     | inr apart ↦ h.alone j t z (sym (told j apart) ∙ tj) bt ab (subst (λ n. 1 ≤ n) (spots j apart z) st)
   ];
   apart = h.apart;
@@ -87,7 +81,7 @@ own_put_phases v p k s d h fits phase topic acting untold once =
     let told_i : w.told i ≡ Some u = put_at v v.acting b i k (pid_of b 0) ∙ first_none (v.told i) u untold in
     let told_off : (j : MsgId) → id_eq i j ≡ false → w.told j ≡ v.told j = λ j apart. put_told_off v v.acting b i j k (pid_of b 0) apart in
     let spots : (j : MsgId) → id_eq i j ≡ false → (z : Spot) → standing w j z ≡ standing v j z = λ j apart z. put_spots v v.acting b i j k (pid_of b 0) fits apart z in
-    let kept : (j : MsgId) (t : Told) → v.told j ≡ Some t → id_eq i j ≡ false = λ j t e. not_true (id_eq i j) (λ x. let is : i ≡ j = id_eq-is i j x in let f : None ≡ Some t = sym untold ∙ ap v.told is ∙ e in cc) in
+    let kept : (j : MsgId) (t : Told) → v.told j ≡ Some t → id_eq i j ≡ false = λ j t e. false_from_ne_true (id_eq i j) (λ x. let is : i ≡ j = id_eq-is i j x in let f : None ≡ Some t = sym untold ∙ ap v.told is ∙ e in cc) in
     let mine : IsIn v p (Moves k s d None) = subst (λ (x : Phase). IsIn v p x) phase (h.each p) in
     phase_set v w p (Moves k s d (Some i)) None h (some_only p) (λ e. absurd (false≢true e))
     (λ q off. put_others v w p q (h.of q) i u off (λ m. refl) told_i topic told_off spots kept (h.each q))
@@ -108,8 +102,7 @@ own_put_phases v p k s d h fits phase topic acting untold once =
     })
     (λ j t told bt. elim (cases_Bool (id_eq i j)) [
       | inl same ↦
-          let is : i ≡ j = id_eq-is i j same in
-          let f : Some u ≡ Some t = sym told_i ∙ ap w.told is ∙ told in
+          let f : Some u ≡ Some t = sym told_i ∙ ap w.told (id_eq-is i j same) ∙ told in
           let g : u ≡ t = cc in (p, sym (ap (λ (x : Told). x.about) g) ∙ topic)
       | inr apart ↦ h.about j t (sym (told_off j apart) ∙ told) bt
     ])

@@ -97,11 +97,6 @@ quiet_touches v (Line.Acked a b n) h = absurd h
 quiet_touches v (Line.Migration Stage.Frozen p) h = refl
 quiet_touches v _ h = refl
 
-quiet_put : (v : View) (l : Line) → QuietLine v l → is_put l ≡ false
-quiet_put v (Line.Put a b i k q) h = absurd h
-quiet_put v (Line.Migration Stage.Frozen p) h = refl
-quiet_put v _ h = refl
-
 pub plain_in_bag : (pt : Point) (i : MsgId) (x : PlainMessage) → Sane pt → pt.kernel.bag i ≡ Some x → Plain pt.view i
 plain_in_bag pt i x h there t told = (elim (is_between t.kind) as (λ b. is_between t.kind ≡ b → b ≡ false)
     [ true ↦ λ is. absurd (false≢true (sym (not_kernels h.r h.e pt.kernel i x there h.sound) ∙ h.tells.own i t told is)) | false ↦ λ is. refl ]) refl
@@ -129,7 +124,7 @@ served_known v None t e spares m q = refl
 served_known v (Some s) t e spares m q = let f : s ≡ t = cc in (elim s.kind as (λ k. is_kill k ≡ false → (ends_by (sort_of k) v (Some s.receiver)).known m q ≡ v.known m q)
     [ MessageKind.Kill ↦ λ e. absurd (false≢true (sym e)) | _ ↦ λ e. refl ]) (ap (λ (u : Told). is_kill u.kind) f ∙ spares)
 
-gone_plain : (pt : Point) (s : OneKernel) (l : Label) (i : MsgId) → Sane pt → kernel.step pt.kernel l ≡ Some s → out_of l ≡ Some i → Plain pt.view i
+pub gone_plain : (pt : Point) (s : OneKernel) (l : Label) (i : MsgId) → Sane pt → kernel.step pt.kernel l ≡ Some s → out_of l ≡ Some i → Plain pt.view i
 gone_plain pt s l i h is goes = let g = gone_in pt.kernel s l i is goes in plain_in_bag pt i g.message h g.there
 
 label_calm : (pt : Point) (s : OneKernel) (l : Label) → Sane pt → QuietLabel pt.view l → kernel.step pt.kernel l ≡ Some s → Calm pt.view (view_after pt.view (Line.Label l))
@@ -190,21 +185,15 @@ packet_or_none v pt next false true a b k l c h is =
 puts_calm : (pt next : Point) (b : ℕ) (i : MsgId) (k : MessageKind) (q : Pid) (ls : List Line) → PairsFit pt.view → is_between k ≡ false → Plain pt.view i → Some (puts pt.view b i k q) ≡ Some ls → after pt ls ≡ Some next → (Calm pt.view next.view) × (PairsFit next.view)
 puts_calm pt next b i k q ls fits e plain is leads =
     let v = pt.view in
-    let f : puts v b i k q ≡ ls = cc in
-    let mid = moved pt (Line.Put v.acting b i k q) pt.kernel in
-    packet_or_none v mid next (v.acting == b) (goes_out (v.pair v.acting b)) v.acting b (length (v.pair v.acting b).wire) (Load.Data (length (v.pair v.acting b).ids))
-    (put_calm v v.acting b i k q fits e plain) (fits_put v v.acting b i k q fits) (ap (after pt) f ∙ leads)
+    packet_or_none v (moved pt (Line.Put v.acting b i k q) pt.kernel) next (v.acting == b) (goes_out (v.pair v.acting b)) v.acting b (length (v.pair v.acting b).wire) (Load.Data (length (v.pair v.acting b).ids))
+    (put_calm v v.acting b i k q fits e plain) (fits_put v v.acting b i k q fits) (ap (after pt) (let f : puts v b i k q ≡ ls = cc in f) ∙ leads)
 
 pub tame_kind : (v : View) (i : MsgId) (t : Told) → Tame v i → v.told i ≡ Some t → is_between t.kind ≡ false
 tame_kind v i t h told = tame_plain v i h t told
 
-own_plain : (pt : Point) → Sane pt → Plain pt.view (own_id pt.view)
-own_plain pt h t told = absurd (let f : None ≡ Some t = sym (h.numbered pt.view.acting (pt.view.count pt.view.acting) (omega arith)) ∙ told in cc)
-
 part_calm : (pt next : Point) (p : Part) (ls : List Line) → Sane pt → PairsFit pt.view → Quiet pt.view p → lines_of pt p ≡ Some ls → after pt ls ≡ Some next → (Calm pt.view next.view) × (PairsFit next.view)
 part_calm pt next (Says l) ls h fits quiet is leads =
-    let f : l ∷ [] ≡ ls = cc in
-    let (mid, first, last) = bind-is (after_line pt l) (λ q. after q []) next (ap (after pt) f ∙ leads) in
+    let (mid, first, last) = bind-is (after_line pt l) (λ q. after q []) next (ap (after pt) (let f : l ∷ [] ≡ ls = cc in f) ∙ leads) in
     let (s, step, then_) = bind-is (kernel_after pt.kernel (label_of l)) (λ s. Some (moved pt l s)) mid first in
     let g : moved pt l s ≡ mid = cc in
     let e : mid ≡ next = cc in
@@ -215,10 +204,11 @@ part_calm pt next (Routes i) ls h fits quiet is leads =
 part_calm pt next (Again i b) ls h fits quiet is leads =
     let (t, there, last) = bind-is (pt.view.told i) (λ t. Some (puts pt.view b i t.kind t.receiver)) ls is in
     puts_calm pt next b i t.kind t.receiver ls fits (tame_kind pt.view i t quiet there) (tame_plain pt.view i quiet) last leads
-part_calm pt next (Owns k q b) ls h fits quiet is leads = puts_calm pt next b (own_id pt.view) k q ls fits quiet (own_plain pt h) is leads
+part_calm pt next (Owns k q b) ls h fits quiet is leads =
+    let own_plain : (pt : Point) → Sane pt → Plain pt.view (own_id pt.view) = λ pt h t told. absurd (let f : None ≡ Some t = sym (h.numbered pt.view.acting (pt.view.count pt.view.acting) (omega arith)) ∙ told in cc) in
+    puts_calm pt next b (own_id pt.view) k q ls fits quiet (own_plain pt h) is leads
 part_calm pt next (Transmits a b l) ls h fits quiet is leads =
-    let f : packet_line pt.view a b l ∷ [] ≡ ls = cc in
-    packet_or_none pt.view pt next false true a b (length (pt.view.pair a b).wire) l (calm_same pt.view) fits (ap (after pt) f ∙ leads)
+    packet_or_none pt.view pt next false true a b (length (pt.view.pair a b).wire) l (calm_same pt.view) fits (ap (after pt) (let f : packet_line pt.view a b l ∷ [] ≡ ls = cc in f) ∙ leads)
 
 pub parts_settle : (ps : List Part) (v : View) (pt : Point) (w : Spelled) → AllQuiet v ps → Settled v pt → spelled pt ps ≡ Some w → Settled v w.point
 parts_settle [] v pt w quiet h is = let f : record { lines = []; point = pt } ≡ w = cc in subst (λ (x : Spelled). Settled v x.point) f h
@@ -226,14 +216,14 @@ parts_settle (p ∷ ps) v pt w quiet h is =
     let (ls, lines, rest) = bind-is (lines_of pt p) (λ (xs : List Line). bind (after pt xs) (λ (q : Point). bind (spelled q ps) (λ (z : Spelled). Some (behind xs z)))) w is in
     let (next, leads, last) = bind-is (after pt ls) (λ (q : Point). bind (spelled q ps) (λ (z : Spelled). Some (behind ls z))) w rest in
     let (z, more, end) = bind-is (spelled next ps) (λ (y : Spelled). Some (behind ls y)) w last in
-    let f : behind ls z ≡ w = cc in
     let here : Quiet pt.view p = (elim p as (λ p_. Quiet v p_ → Quiet pt.view p_)
     [ Says l ↦ λ h_. line_on v pt.view l h.calm h_ | Again i b ↦ λ h_. tame_on v pt.view i h.calm h_ | _ ↦ λ h_. h_ ]) quiet.0 in
     let c = part_calm pt next p ls h.sane h.fits here lines leads in
     let there : Settled v next = record {
       calm = calm_trans v pt.view next.view h.calm c.0;
       sane = part_sane pt next p ls ((elim p as (λ p_. Quiet pt.view p_ → Sayable p_)
-          [ Says l ↦ λ h. quiet_put pt.view l h | _ ↦ λ h. tt ]) here) lines leads h.sane;
+          [ Says l ↦ λ h.
+          ((elim l as (λ l_. QuietLine pt.view l_ → is_put l_ ≡ false) [ Line.Put a' b' i' k' q' ↦ λ h'. absurd h' | Line.Migration Stage.Frozen p' ↦ λ h'. refl | _ ↦ λ h'. refl ]) h) | _ ↦ λ h. tt ]) here) lines leads h.sane;
       fits = c.1;
     } in
-    subst (λ (x : Spelled). Settled v x.point) f (parts_settle ps v next z quiet.1 there more)
+    subst (λ (x : Spelled). Settled v x.point) (let f : behind ls z ≡ w = cc in f) (parts_settle ps v next z quiet.1 there more)

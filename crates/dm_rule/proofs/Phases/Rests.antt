@@ -2,9 +2,9 @@
 use Rattle.dm_rule.proofs.Names.{◌≡◌, ℕ, ◌+◌, ◌≤◌, ◌==◌, ◌&&◌, Bool, true, false, not, List, [], ◌∷◌, ◌++◌, refl, ap, ◌∙◌, sym, subst, inl, inr, arith, if◌then◌else◌, Option, None, Some, cases_Bool, false≢true, nat_tests, Pid, pid_eq}
 use Rattle.dm_rule.proofs.Names.{MsgId, MessageKind, Stage, id_eq, Line, at_machine, at_record, View, Told, Of, Known, Here, Frozen, view_after, handled_first, released, is_kernels, target_of, Point, label_of, moved, Says, Spelled, spelled}
 use Rattle.dm_rule.proofs.Names.{to_kernel, Spot, Queue, Held, Inbox, Untaken, times, ids_at, standing, is_between, is_restart, is_early, kind_comes, is_away, Phase, Rests, Moves, knows, token_in, receiver_in, id_eq-is, pid_eq-is}
-use Rattle.dm_rule.proofs.Names.{pid_eq-same, NothingElse, Target, frozen_for, leaves_for, kind_leaves, sets_off, option_and_then, slice_get}
+use Rattle.dm_rule.proofs.Names.{pid_eq-same, NothingElse, Target, frozen_for, leaves_for, kind_leaves, sets_off, option_and_then, slice_get, and_parts, eqb-true}
 use Rattle.dm_rule.proofs.Standing.{times-append}
-use Rattle.dm_rule.proofs.Lines.{Bag, hidden, Stands, Stands-stays, Stands-handled, parts, eq_is, eq_self}
+use Rattle.dm_rule.proofs.Lines.{Bag, hidden, Stands, Stands-stays, Stands-handled, eq_self}
 use Rattle.dm_rule.proofs.Letters.{letters}
 use Rattle.dm_rule.proofs.Hushed.{is_put, hushed}
 use Rattle.dm_rule.proofs.Pairs.Lines.{touches, pair_same}
@@ -30,11 +30,10 @@ held_back v p j m q st = elim (cases_Bool ((v.acting == m) && pid_eq p q)) [
 inbox_back : (v : View) (p : Pid) (j : MsgId) (m : ℕ) → 1 ≤ times j (at_machine v.inbox v.acting (v.held v.acting p ++ v.inbox v.acting) m) → Came v j (Inbox m)
 inbox_back v p j m st = elim (cases_Bool (v.acting == m)) [
   | inl same ↦
-      let am : v.acting ≡ m = eq_is v.acting m same in
+      let am : v.acting ≡ m = eqb-true v.acting m same in
       let now : times j (at_machine v.inbox v.acting (v.held v.acting p ++ v.inbox v.acting) m) ≡ times j (v.held v.acting p ++ v.inbox v.acting) = ap (λ (c : Bool). times j (if c then (v.held v.acting p ++ v.inbox v.acting) else v.inbox m)) same in
-      let sum = times-append j (v.held v.acting p) (v.inbox v.acting) in
       elim (cases_zero (times j (v.held v.acting p))) [
-        | inl none ↦ inl (subst (λ (n : ℕ). 1 ≤ times j (v.inbox n)) am (omega (arith, st, now, sum, none)))
+        | inl none ↦ inl (subst (λ (n : ℕ). 1 ≤ times j (v.inbox n)) am (omega (arith, st, now, times-append j (v.held v.acting p) (v.inbox v.acting), none)))
         | inr some ↦ inr (Held v.acting p, some, ap (λ (n : ℕ). Inbox n) (sym am))
       ]
   | inr off ↦ inl (subst (λ n. 1 ≤ n) (ap (λ (c : Bool). times j (if c then (v.held v.acting p ++ v.inbox v.acting) else v.inbox m)) off) st)
@@ -42,22 +41,20 @@ inbox_back v p j m st = elim (cases_Bool (v.acting == m)) [
 
 pub in_inbox : (v : View) (p : Pid) (j : MsgId) (m : ℕ) → (v.acting == m) ≡ true → 1 ≤ times j (v.held v.acting p) + times j (v.inbox v.acting) → 1 ≤ standing (released v p) j (Inbox m)
 in_inbox v p j m same st =
-    let now : times j (at_machine v.inbox v.acting (v.held v.acting p ++ v.inbox v.acting) m) ≡ times j (v.held v.acting p ++ v.inbox v.acting) = ap (λ (c : Bool). times j (if c then (v.held v.acting p ++ v.inbox v.acting) else v.inbox m)) same in
-    let sum = times-append j (v.held v.acting p) (v.inbox v.acting) in omega (arith, st, now, sum)
+    let sum = times-append j (v.held v.acting p) (v.inbox v.acting) in omega (arith, st, ap (λ (c : Bool). times j (if c then (v.held v.acting p ++ v.inbox v.acting) else v.inbox m)) same, sum)
 
 pub released_on : (v : View) (p : Pid) (j : MsgId) (z : Spot) → 1 ≤ standing v j z → (y : Spot) × (1 ≤ standing (released v p) j y)
 released_on v p j (Queue m q) st = (Queue m q, st)
 released_on v p j (Held m q) st = elim (cases_Bool ((v.acting == m) && pid_eq p q)) [
   | inl same ↦
-      let both = parts (v.acting == m) (pid_eq p q) same in
-      let here : 1 ≤ times j (v.held v.acting p) = subst (λ (r : Pid). 1 ≤ times j (v.held v.acting r)) (sym (pid_eq-is p q both.1)) (subst (λ (n : ℕ). 1 ≤ times j (v.held n q)) (sym (eq_is v.acting m both.0)) st) in
+      let both = and_parts (v.acting == m) (pid_eq p q) same in
+      let here : 1 ≤ times j (v.held v.acting p) = subst (λ (r : Pid). 1 ≤ times j (v.held v.acting r)) (sym (pid_eq-is p q both.1)) (subst (λ (n : ℕ). 1 ≤ times j (v.held n q)) (sym (eqb-true v.acting m both.0)) st) in
       (Inbox v.acting, in_inbox v p j v.acting (eq_self v.acting) (omega (arith, here)))
   | inr off ↦ (Held m q, subst (λ n. 1 ≤ n) (sym (ap (λ (c : Bool). times j (if c then [] else v.held m q)) off)) st)
 ]
 released_on v p j (Inbox m) st = elim (cases_Bool (v.acting == m)) [
   | inl same ↦
-      let here : 1 ≤ times j (v.inbox v.acting) = subst (λ (n : ℕ). 1 ≤ times j (v.inbox n)) (sym (eq_is v.acting m same)) st in
-      (Inbox m, in_inbox v p j m same (omega (arith, here)))
+      (Inbox m, in_inbox v p j m same (omega (arith, subst (λ (n : ℕ). 1 ≤ times j (v.inbox n)) (sym (eqb-true v.acting m same)) st)))
   | inr off ↦ (Inbox m, subst (λ n. 1 ≤ n) (sym (ap (λ (c : Bool). times j (if c then (v.held v.acting p ++ v.inbox v.acting) else v.inbox m)) off)) st)
 ]
 released_on v p j (Untaken a b) st = (Untaken a b, st)
@@ -75,15 +72,13 @@ back_gone pt l i is p h quiet front off =
     let home : Stands left u = Stands-stays left (handled_first pt.view) u (home_off (handled_first pt.view) p) (λ j. refl) first in
     nowhere_of bag i (standing (view_after pt.view l) i) ((Stands-released left u (view_after pt.view l) p off (λ j. ap (λ (f : MsgId → Option Told). f j) (hushed pt.view l quiet).told) home).kept i)
 
-home_spots : (v : View) (i : MsgId) (is : List MsgId) (p : Pid) (j : MsgId) → v.inbox v.acting ≡ i ∷ is → id_eq i j ≡ false → (z : Spot) → standing (before_home v p) j z ≡ standing v j z
-home_spots v i is p j front apart z = ap (times j) (home_off (handled_first v) p z ∙ first_off v i is front z) ∙ handled_spots v i j apart z
-
-came_home : (v : View) (i : MsgId) (is : List MsgId) (p : Pid) (j : MsgId) → v.inbox v.acting ≡ i ∷ is → id_eq i j ≡ false → (z : Spot) → Came (before_home v p) j z → Came v j z
-came_home v i is p j front apart z c = search (arith, home_spots)
-
 back_learns : (pt : Point) (l : Line) (i : MsgId) (is : List MsgId) (t : Told) (p : Pid) (h : State None pt) → is_put l ≡ false → pt.view.inbox pt.view.acting ≡ i ∷ is → pt.view.told i ≡ Some t → t.about ≡ Of p
     → ((z : Spot) → ids_at (view_after pt.view l) z ≡ ids_at (released (before_home pt.view p) p) z) → ((m : ℕ) (q : Pid) → pid_eq p q ≡ false → (view_after pt.view l).known m q ≡ pt.view.known m q) → Learns pt.view (view_after pt.view l) p
 back_learns pt l i is t p h quiet front told about off known =
+    let home_spots : (v : View) (i : MsgId) (is : List MsgId) (p : Pid) (j : MsgId) → v.inbox v.acting ≡ i ∷ is → id_eq i j ≡ false → (z : Spot) → standing (before_home v p) j z ≡ standing v j z =
+      λ v i is p j front apart z. ap (times j) (home_off (handled_first v) p z ∙ first_off v i is front z) ∙ handled_spots v i j apart z in
+    let came_home : (v : View) (i : MsgId) (is : List MsgId) (p : Pid) (j : MsgId) → v.inbox v.acting ≡ i ∷ is → id_eq i j ≡ false → (z : Spot) → Came (before_home v p) j z → Came v j z =
+      λ v i is p j front apart z c. search (arith, home_spots) in
     let v = pt.view in
     let w = view_after v l in
     let u = before_home v p in
@@ -99,10 +94,8 @@ back_learns pt l i is t p h quiet front told about off known =
       ];
       on = λ j x q apart e b ab z st. elim (cases_Bool (id_eq i j)) [
         | inl is_i ↦ absurd (
-            let ij : i ≡ j = id_eq-is i j is_i in
-            let f : Some t ≡ Some x = sym told ∙ ap v.told ij ∙ e in
-            let g : t ≡ x = cc in
-            let fq : Of p ≡ Of q = sym about ∙ ap (λ (y : Told). y.about) g ∙ ab in
+            let f : Some t ≡ Some x = sym told ∙ ap v.told (id_eq-is i j is_i) ∙ e in
+            let fq : Of p ≡ Of q = sym about ∙ ap (λ (y : Told). y.about) (let g : t ≡ x = cc in g) ∙ ab in
             let pq : p ≡ q = cc in false≢true (sym apart ∙ ap (pid_eq p) (sym pq) ∙ pid_eq-same p))
         | inr off_i ↦
             let (y, s) = released_on u p j z (subst (λ n. 1 ≤ n) (sym (home_spots v i is p j front off_i z)) st) in
@@ -110,24 +103,17 @@ back_learns pt l i is t p h quiet front told about off known =
       ];
     }
 
--- it rests on the acting machine
-early_away : (k : MessageKind) (s : ℕ) (y : Known) → is_early k ≡ true → kind_comes k s y ≡ true → is_away y ≡ true
-early_away k s y h1 h2 = search arith
+pub refused_if : (k : MessageKind) (s d m : ℕ) (o : Option MsgId) (b : Bool) (y : Known) → is_early k ≡ true → (s == m) ≡ b → knows (Moves k s d o) m y ≡ true → knows (Rests s) m (if b then Here else y) ≡ true
+refused_if k s d m o b y h1 h2 h3 =
+    -- it rests on the acting machine
+    let early_away : (k : MessageKind) (s : ℕ) (y : Known) → is_early k ≡ true → kind_comes k s y ≡ true → is_away y ≡ true = λ k s y h1 h2. search arith in
+    search (arith, early_away)
 
-left_away : (k : MessageKind) (d : ℕ) (y : Known) (c : Bool) → is_restart k ≡ true → (if c then kind_leaves k d y else is_away y) ≡ true → is_away y ≡ true
-left_away k d y c h1 h2 = grind (arith, nat_tests)
-
-refused_if : (k : MessageKind) (s d m : ℕ) (o : Option MsgId) (b : Bool) (y : Known) → is_early k ≡ true → (s == m) ≡ b → knows (Moves k s d o) m y ≡ true → knows (Rests s) m (if b then Here else y) ≡ true
-refused_if k s d m o b y h1 h2 h3 = search (arith, early_away)
-
-restarted_if : (k : MessageKind) (s d m : ℕ) (o : Option MsgId) (b : Bool) (y : Known) → is_restart k ≡ true → (d == m) ≡ b → knows (Moves k s d o) m y ≡ true → knows (Rests d) m (if b then Here else y) ≡ true
-restarted_if k s d m o b y h1 h2 h3 = search (arith, left_away)
-
-at_acting : (v : View) (a m : ℕ) (p : Pid) (x : Known) → v.acting ≡ a → at_record v.known v.acting p x m p ≡ (if a == m then x else v.known m p)
+pub at_acting : (v : View) (a m : ℕ) (p : Pid) (x : Known) → v.acting ≡ a → at_record v.known v.acting p x m p ≡ (if a == m then x else v.known m p)
 at_acting v a m p x e = ap (λ (n : ℕ). at_record v.known n p x m p) e ∙ ap (λ (c : Bool). if (a == m) && c then x else v.known m p) (pid_eq-same p) ∙ and_true (a == m) x (v.known m p)
 
 -- a line brings it home
-home_whole : (pt : Point) (l : Line) (i : MsgId) (is : List MsgId) (t : Told) (at : ℕ) (h : Whole pt) (u : Due pt i t h.phases) → label_of l ≡ None → is_put l ≡ false → touches l ≡ false → pt.view.inbox pt.view.acting ≡ i ∷ is
+pub home_whole : (pt : Point) (l : Line) (i : MsgId) (is : List MsgId) (t : Told) (at : ℕ) (h : Whole pt) (u : Due pt i t h.phases) → label_of l ≡ None → is_put l ≡ false → touches l ≡ false → pt.view.inbox pt.view.acting ≡ i ∷ is
     → pt.view.told i ≡ Some t → is_kernels i ≡ true
     → ((z : Spot) → ids_at (view_after pt.view l) z ≡ ids_at (released (before_home pt.view u.p) u.p) z) → (view_after pt.view l).known ≡ at_record pt.view.known pt.view.acting u.p Here → ((m : ℕ) → knows (Rests at) m (at_record pt.view.known pt.view.acting u.p Here m u.p) ≡ true)
     → Whole (moved pt l pt.kernel)
@@ -141,39 +127,31 @@ home_whole pt l i is t at h u none quiet calm front told mine off learned known 
     (λ j x z. ap (λ (y : View). standing y j z) same ∙ subst (λ (y : MsgId). standing (view_after v l) y z ≡ 0) (token_one (h.phases.of u.p) u.k u.s u.d i j u.phase x) (back_gone pt l i is u.p h.state quiet front off z)) in
     record { state = comes_back pt l i is u.p quiet h.state front mine off; fits = fits_as v next.view (pair_same v l calm) h.fits; phases = turned.phases }
 
-pub stays_whole : (pt : Point) (i : MsgId) (is : List MsgId) (t : Told) (h : Whole pt) (u : Due pt i t h.phases) → u.k ≡ MessageKind.Refuse → pt.view.inbox pt.view.acting ≡ i ∷ is → pt.view.told i ≡ Some t → is_kernels i ≡ true
-    → Whole (moved pt (Line.Stays u.p) pt.kernel)
-stays_whole pt i is t h u e front told mine =
-    let at : pt.view.acting ≡ u.s = u.acting ∙ ap (λ (k : MessageKind). receiver_in k u.s u.d) e in
-    home_whole pt (Line.Stays u.p) i is t u.s h u refl refl refl front told mine (λ z. refl) refl
-    (λ m. ap (knows (Rests u.s) m) (at_acting pt.view u.s m u.p Here at) ∙ refused_if u.k u.s u.d m (Some i) (u.s == m) (pt.view.known m u.p) (ap is_early e) refl (due_known pt i t h.phases u m))
-
 pub restart_whole : (pt : Point) (i : MsgId) (is : List MsgId) (t : Told) (h : Whole pt) (u : Due pt i t h.phases) → u.k ≡ MessageKind.Restart → pt.view.inbox pt.view.acting ≡ i ∷ is → pt.view.told i ≡ Some t → is_kernels i ≡ true
     → Whole (moved pt (Line.Migration Stage.Restarted u.p) pt.kernel)
 restart_whole pt i is t h u e front told mine =
+    let restarted_if : (k : MessageKind) (s d m : ℕ) (o : Option MsgId) (b : Bool) (y : Known) → is_restart k ≡ true → (d == m) ≡ b → knows (Moves k s d o) m y ≡ true → knows (Rests d) m (if b then Here else y) ≡ true =
+      λ k s d m o b y h1 h2 h3.
+      let left_away : (k : MessageKind) (d : ℕ) (y : Known) (c : Bool) → is_restart k ≡ true → (if c then kind_leaves k d y else is_away y) ≡ true → is_away y ≡ true = λ k d y c h1 h2. grind (arith, nat_tests) in
+      search (arith, left_away) in
     let at : pt.view.acting ≡ u.d = u.acting ∙ ap (λ (k : MessageKind). receiver_in k u.s u.d) e in
     home_whole pt (Line.Migration Stage.Restarted u.p) i is t u.d h u refl refl refl front told mine (λ z. restarted_off pt.view u.p z) refl
     (λ m. ap (knows (Rests u.d) m) (at_acting pt.view u.d m u.p Here at) ∙ restarted_if u.k u.s u.d m (Some i) (u.d == m) (pt.view.known m u.p) (ap is_restart e) refl (due_known pt i t h.phases u m))
 
-moves_if : (k : MessageKind) (s d : ℕ) (b c : Bool) → (if b then kind_leaves k d Here else if c then kind_comes k s Here else is_away Here) ≡ false
-moves_if k s d b c = search arith
-
-away_comes : (a : ℕ) (y : Known) (c : Bool) → is_away y ≡ true → (if c then kind_comes MessageKind.Ask a y else is_away y) ≡ true
-away_comes a y c h1 = search arith
-
 -- what is here rests here
 pub rests_here : (phase : Phase) (m : ℕ) → knows phase m Here ≡ true → phase ≡ Rests m
-rests_here phase m h1 = grind (arith, nat_tests, eq_is, moves_if)
-
--- it is frozen, and the other machine is asked
-frozen_if : (a to m : ℕ) (b : Bool) (y : Known) → (a == m) ≡ b → (a == to) ≡ false → knows (Rests a) m y ≡ true → knows (Moves MessageKind.Ask a to None) m (if b then Frozen to else y) ≡ true
-frozen_if a to m b y h1 h2 h3 = search (arith, eq_self, away_comes)
+rests_here phase m h1 =
+    let moves_if : (k : MessageKind) (s d : ℕ) (b c : Bool) → (if b then kind_leaves k d Here else if c then kind_comes k s Here else is_away Here) ≡ false = λ k s d b c. search arith in
+    grind (arith, nat_tests, eqb-true, moves_if)
 
 -- the view behind step 1 is that of a process frozen, seen from a view that knows and does the same
 frozen_ends : (pt : Point) (p : Pid) (to : ℕ) (w : Spelled) (h : Whole pt) → State None (moved pt (Line.Migration Stage.Frozen p) pt.kernel) → Learns pt.view (view_after pt.view (Line.Migration Stage.Frozen p)) p
     → pt.view.known pt.view.acting p ≡ Here → (pt.view.acting == to) ≡ false
     → (u : View) → view_after pt.view (Line.Migration Stage.Frozen p) ≡ frozen_for u p to → u.known ≡ pt.view.known → u.acting ≡ pt.view.acting → spelled pt (leaves_for p to) ≡ Some w → Whole w.point
 frozen_ends pt p to w h there learns here apart u at known acting e =
+    -- it is frozen, and the other machine is asked
+    let frozen_if : (a to m : ℕ) (b : Bool) (y : Known) → (a == m) ≡ b → (a == to) ≡ false → knows (Rests a) m y ≡ true → knows (Moves MessageKind.Ask a to None) m (if b then Frozen to else y) ≡ true =
+      λ a to m b y h1 h2 h3. let away_comes : (a : ℕ) (y : Known) (c : Bool) → is_away y ≡ true → (if c then kind_comes MessageKind.Ask a y else is_away y) ≡ true = λ a y c h1. search arith in search (arith, eq_self, away_comes) in
     let v = pt.view in
     let a = v.acting in
     let l = Line.Migration Stage.Frozen p in

@@ -56,8 +56,7 @@ is_list _ = true
 listed_free : (v : View) (h : InPhases v) (i : MsgId) (t : Told) (z : Spot) → is_list z ≡ true → v.told i ≡ Some t → 1 ≤ standing v i z → (b : Bool) → is_between t.kind ≡ b → b ≡ false
 listed_free v h i t z l told st true b =
     let (p, k, s, d, about, is) = token_is v h i t z told b st in
-    let token = token_at v p (h.of p) k s d i is (h.each p) in
-    absurd (false≢true (sym (elim (token.ways z st) [ inl x ↦ ap is_list x | inr x ↦ ap is_list x ]) ∙ l))
+    absurd (false≢true (sym (elim ((token_at v p (h.of p) k s d i is (h.each p)).ways z st) [ inl x ↦ ap is_list x | inr x ↦ ap is_list x ]) ∙ l))
 listed_free v h i t z l told st false b = refl
 
 pub queued_plain : (v : View) (m : ℕ) (p : Pid) (i : MsgId) (t : Told) → InPhases v → v.told i ≡ Some t → 1 ≤ standing v i (Queue m p) → is_between t.kind ≡ false

@@ -10,18 +10,14 @@ starts (p ∷ ps) q = pid_eq p.pid q || starts ps q
 abbrev at_home : Bool → Pid → ℕ → Known
 at_home b q m = if b && (q.home == m) then Here else Unknown
 
-server_home : (q : Pid) (m : ℕ) → (if (m == 0) && (pid_eq q switchboard || pid_eq q manager) then Here else Unknown) ≡ at_home (pid_eq q switchboard || pid_eq q manager) q m
-server_home q m = ap (λ (b : Bool). if b then Here else Unknown) (let e : ((m == 0) && (pid_eq q switchboard || pid_eq q manager)) ≡ ((pid_eq q switchboard || pid_eq q manager) && (q.home == m)) = grind (arith, nat_tests) in e)
-
-again_if : (c s : Bool) → (if c then Here else (if s && c then Here else Unknown)) ≡ (if c then Here else Unknown)
-again_if c s = search arith
-
 start_if : (p q : Pid) (m : ℕ) (b : Bool) (s : Bool) → pid_eq p q ≡ b → (if b && (p.home == m) then Here else at_home s q m) ≡ at_home (b || s) q m
-start_if p q m true s e = let is : p ≡ q = pid_eq-is p q e in ap (λ (r : Pid). if r.home == m then Here else at_home s q m) is ∙ again_if (q.home == m) s
+start_if p q m true s e =
+    let again_if : (if (q.home == m) then Here else (if s && (q.home == m) then Here else Unknown)) ≡ (if (q.home == m) then Here else Unknown) = search arith in
+    let is : p ≡ q = pid_eq-is p q e in ap (λ (r : Pid). if r.home == m then Here else at_home s q m) is ∙ again_if
 start_if p q m false s e = refl
 
 pub start_known : (ps : List BootProcess) (m : ℕ) (q : Pid) → known_at ps m q ≡ at_home (starts ps q) q m
-start_known [] m q = server_home q m
+start_known [] m q = ap (λ (b : Bool). if b then Here else Unknown) (let e : ((m == 0) && (pid_eq q switchboard || pid_eq q manager)) ≡ ((pid_eq q switchboard || pid_eq q manager) && (q.home == m)) = grind (arith, nat_tests) in e)
 start_known (p ∷ ps) m q = ap (λ (k : Known). if pid_eq p.pid q && (p.pid.home == m) then Here else k) (start_known ps m q) ∙ start_if p.pid q m (pid_eq p.pid q) (starts ps q) refl
 
 abbrev pub start_phase : Bool → Pid → Phase

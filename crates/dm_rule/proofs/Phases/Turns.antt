@@ -1,5 +1,5 @@
 -- A turn that handles a message of the bag, or serves a process: each process stays in a phase.
-use Rattle.dm_rule.proofs.Names.{◌≡◌, ℕ, ◌+◌, Bool, true, false, List, [], ◌∷◌, refl, ap, ◌∙◌, subst, if◌then◌else◌, Option, None, Some, Pid, pid_of, MsgId, MessageKind, Label, plain_kind, PlainMessage, Boot, Why, first_number, bind}
+use Rattle.dm_rule.proofs.Names.{◌≡◌, ℕ, ◌+◌, Bool, true, false, List, [], ◌∷◌, refl, ap, ◌∙◌, subst, if◌then◌else◌, Option, None, Some, Pid, pid_of, MsgId, MessageKind, Label, plain_kind, PlainMessage, Boot, Why, first_number, bind, times}
 use Rattle.dm_rule.proofs.Names.{OneKernel, answer_id, Line, View, Told, Unknown, Here, view_after, Point, label_of, kernel_after, moved, Part, Says, Routes, Spelled, spelled, forwards_on, ◌==◌, Outcome, PlainWhat, answers_move, leaves_for}
 use Rattle.dm_rule.proofs.Names.{machine_in, seen, move_target}
 use Rattle.dm_rule.specs.Rule as rule
@@ -8,15 +8,16 @@ use Rattle.dm_rule.proofs.Pairs.Lines.{touches, pair_same}
 use Rattle.dm_rule.proofs.States.{PairsFit, State, says_next}
 use Rattle.dm_rule.proofs.Said.{fits_as}
 use Rattle.dm_rule.proofs.Telling.{Sane, sane_line}
-use Rattle.dm_rule.proofs.Phases.Calm.{calm_about, calm_same}
+use Rattle.dm_rule.proofs.Phases.Calm.{calm_about, calm_same, Plain}
 use Rattle.dm_rule.proofs.Phases.Quiet.{Tame, Mild, is_kill, AllQuiet, parts_settle, plain_in_bag, line_calm}
 use Rattle.dm_rule.proofs.Phases.Stand.{InPhases, calm_phases}
 use Rattle.dm_rule.proofs.Phases.Hears.{forwards_quiet}
 use Rattle.dm_rule.proofs.Handled.{asked_state}
 use Rattle.dm_rule.proofs.Phases.Answers.{Whole}
 use Rattle.dm_rule.proofs.Phases.Rests.{asked_row}
-use Rattle.dm_rule.proofs.Phases.Lives.{end_line_phases, created_phases, killed_phases}
+use Rattle.dm_rule.proofs.Phases.Lives.{killed_phases, made_phases, front_spots, ends_phases}
 use Rattle.dm_rule.proofs.Serving.{by_round, by_handles}
+use Rattle.dm_rule.proofs.Turns.{created_off, ended_off}
 
 pub record Fit (pt : Point) : Type 0 where
   pub phases : InPhases pt.view
@@ -45,7 +46,9 @@ drops_quiet v (i ∷ is) = (tt, drops_quiet v is)
 -- a process ends, and its queue is dropped
 ends_row : (pt : Point) (p : Pid) (y : Why) (queue : List MsgId) (w : Spelled) → Fit pt → pt.view.known pt.view.acting p ≡ Here → spelled pt (rule.says (Label.End p y) ∷ rule.drop_parts queue) ≡ Some w → InPhases w.point.view
 ends_row pt p y queue w h here e =
-    line_first pt (Line.Label (Label.End p y)) (rule.drop_parts queue) w h refl refl (λ s k. end_line_phases pt.view p y h.phases here)
+    -- an end by a call or a fault
+    let end_line_phases : InPhases (view_after pt.view (Line.Label (Label.End p y))) = ends_phases pt.view (view_after pt.view (Line.Label (Label.End p y))) p h.phases here refl refl (λ j t e b z. ap (times j) (ended_off pt.view p z)) in
+    line_first pt (Line.Label (Label.End p y)) (rule.drop_parts queue) w h refl refl (λ s k. end_line_phases)
     (λ s next rest more. quiet_parts (rule.drop_parts queue) (moved pt (Line.Label (Label.End p y)) s) rest next (drops_quiet (view_after pt.view (Line.Label (Label.End p y))) queue) more) e
 
 -- the phases behind parts
@@ -82,6 +85,8 @@ creates_row : (pt : Point) (i : MsgId) (msg : PlainMessage) (child : Pid) (room 
     → spelled pt ((if room then rule.says (Label.Created i child) else rule.says (Label.NoSpace i slots blocks)) ∷ Routes (answer_id i) ∷ []) ≡ Some w → InPhases w.point.view
 creates_row pt i msg child true slots blocks w h f unknown e =
     let l = Line.Label (Label.Created i child) in
+    let created_phases : (v : View) (i : MsgId) (p : Pid) → InPhases v → Plain v i → ((m : ℕ) → v.known m p ≡ Unknown) → InPhases (view_after v (Line.Label (Label.Created i p))) =
+      λ v i p h plain unknown. made_phases v (view_after v (Line.Label (Label.Created i p))) p h unknown refl refl (λ j t e b z. ap (times j) (created_off v i p z) ∙ front_spots v i j t plain e b z) in
     line_first pt l (Routes (answer_id i) ∷ []) w h refl refl (λ s k. created_phases pt.view i child h.phases (plain_in_bag pt i msg h.sane f.there) unknown)
     (λ s next rest more. quiet_parts (Routes (answer_id i) ∷ []) (moved pt l s) rest next (tt, tt) more) e
 creates_row pt i msg child false slots blocks w h f unknown e = quiet_parts (rule.says (Label.NoSpace i slots blocks) ∷ Routes (answer_id i) ∷ []) pt w h (tt, (tt, tt)) e

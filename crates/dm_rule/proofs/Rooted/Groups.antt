@@ -1,7 +1,7 @@
 -- Each group keeps that rings list what is here, and that nothing is known of what was never made.
-use Rattle.dm_rule.proofs.Names.{◌≡◌, ℕ, ◌+◌, ◌==◌, Bool, true, false, is_some, nat_lt, List, [], ◌∷◌, length, refl, ap, ◌∙◌, sym, subst, arith, if◌then◌else◌, slice_get, Option, None, Some, false≢true, nat_tests, Pid, pid_of, MsgId}
-use Rattle.dm_rule.proofs.Names.{MessageKind, plain_kind, Boot, first_number, bind, Life, OneKernel, Step, Line, Load, Told, Known, Here, own_id, Receiver, Point, label_of, kernel_after, moved, after_line, after, Part, Says, Routes, Again}
-use Rattle.dm_rule.proofs.Names.{Owns, Transmits, Spelled, lines_of, puts, goes_out, packet_line, behind, spelled, migrates, is_between, Moves, knows, group_of, Made, bind-is}
+use Rattle.dm_rule.proofs.Names.{◌≡◌, ℕ, ◌+◌, ◌==◌, Bool, false, List, [], ◌∷◌, length, refl, ap, ◌∙◌, subst, arith, if◌then◌else◌, slice_get, Option, Some, nat_tests, Pid, pid_of, MsgId, MessageKind, plain_kind, Boot, first_number, bind}
+use Rattle.dm_rule.proofs.Names.{OneKernel, Step, Line, Load, Told, Known, Here, own_id, Receiver, Point, label_of, kernel_after, moved, after_line, after, Part, Says, Routes, Again, Owns, Transmits, Spelled, lines_of, puts, goes_out}
+use Rattle.dm_rule.proofs.Names.{packet_line, behind, spelled, migrates, is_between, Moves, knows, group_of, bind-is, next_is_new}
 use Rattle.dm_onekernel.specs.Step as kernel
 use Rattle.dm_rule.specs.Rule as rule
 use Rattle.dm_rule.proofs.Groups.{group_is, arrives_net, resends_net}
@@ -13,41 +13,35 @@ use Rattle.dm_rule.proofs.Phases.Groups.{Rooted}
 use Rattle.dm_rule.proofs.Lives.{Kept}
 use Rattle.dm_rule.proofs.Rings.{AllHere}
 use Rattle.dm_rule.proofs.Rooted.Lines.{Roots, Needs, kept_by, line_roots}
-use Rattle.dm_rule.proofs.Rooted.Rows.{NeedsPart, First, FirstOf, loose_first}
-use Rattle.dm_rule.proofs.Rooted.Turns.{Asks, turns_first, net_loose, migrates_loose}
+use Rattle.dm_rule.proofs.Rooted.Rows.{NeedsPart, First, FirstOf, loose_first, AllLoose}
+use Rattle.dm_rule.proofs.Rooted.Turns.{Asks, turns_first, net_loose}
+use Rattle.dm_rule.proofs.Requests.{by_migrates}
 
 abbrev pub Grounded : Point → Type 0
 Grounded pt = Roots pt.kernel pt.view
-
--- puts and packets change neither
-quiet_put : (pt : Point) (a b : ℕ) (i : MsgId) (k : MessageKind) (q : Pid) → Grounded pt → Grounded (moved pt (Line.Put a b i k q) pt.kernel)
-quiet_put pt a b i k q h = record { rings = record { each = h.rings.each }; lives = record { none = h.lives.none } }
-
-quiet_packet : (pt : Point) (a b k : ℕ) (l : Load) → Grounded pt → Grounded (moved pt (Line.Packet a b k l) pt.kernel)
-quiet_packet pt a b k l h = record { rings = record { each = h.rings.each }; lives = record { none = h.lives.none } }
 
 -- what was made stays so on the way
 record Onto (pt next : Point) : Type 0 where
   ground : Grounded next
   kept : Kept pt.kernel next.kernel
 
-puts_by : (pt next : Point) (b : ℕ) (i : MsgId) (k : MessageKind) (q : Pid) (c d : Bool) → Grounded pt
-    → after pt (Line.Put pt.view.acting b i k q ∷ (if c then [] else if d then packet_line pt.view pt.view.acting b (Load.Data (length (pt.view.pair pt.view.acting b).ids)) ∷ [] else [])) ≡ Some next → Onto pt next
-puts_by pt next b i k q c d h1 h2 = search (arith, quiet_put, quiet_packet)
-
 puts_ground : (pt next : Point) (b : ℕ) (i : MsgId) (k : MessageKind) (q : Pid) (ls : List Line) → Grounded pt → Some (puts pt.view b i k q) ≡ Some ls → after pt ls ≡ Some next → Onto pt next
 puts_ground pt next b i k q ls h is leads =
-    let f : puts pt.view b i k q ≡ ls = cc in
-    puts_by pt next b i k q (pt.view.acting == b) (goes_out (pt.view.pair pt.view.acting b)) h (ap (after pt) f ∙ leads)
+    let puts_by : (pt next : Point) (b : ℕ) (i : MsgId) (k : MessageKind) (q : Pid) (c d : Bool) → Grounded pt
+      → after pt (Line.Put pt.view.acting b i k q ∷ (if c then [] else if d then packet_line pt.view pt.view.acting b (Load.Data (length (pt.view.pair pt.view.acting b).ids)) ∷ [] else [])) ≡ Some next → Onto pt next =
+      λ pt next b i k q c d h1 h2.
+      let quiet_packet : (pt : Point) (a b k : ℕ) (l : Load) → Grounded pt → Grounded (moved pt (Line.Packet a b k l) pt.kernel) = λ pt a b k l h. record { rings = record { each = h.rings.each }; lives = record { none = h.lives.none } } in
+      -- puts and packets change neither
+      let quiet_put : (pt : Point) (a b : ℕ) (i : MsgId) (k : MessageKind) (q : Pid) → Grounded pt → Grounded (moved pt (Line.Put a b i k q) pt.kernel) =
+        λ pt a b i k q h. record { rings = record { each = h.rings.each }; lives = record { none = h.lives.none } } in
+      search (arith, quiet_put, quiet_packet) in
+    puts_by pt next b i k q (pt.view.acting == b) (goes_out (pt.view.pair pt.view.acting b)) h (ap (after pt) (let f : puts pt.view b i k q ≡ ls = cc in f) ∙ leads)
 
 one_line : (pt next : Point) (l : Line) (ls : List Line) → Needs pt l → Sane pt → Some (l ∷ []) ≡ Some ls → after pt ls ≡ Some next → Grounded pt → Onto pt next
 one_line pt next l ls need sane is leads h =
-    let f : l ∷ [] ≡ ls = cc in
-    let (mid, first, last) = bind-is (after_line pt l) (λ q. after q []) next (ap (after pt) f ∙ leads) in
+    let (mid, first, last) = bind-is (after_line pt l) (λ q. after q []) next (ap (after pt) (let f : l ∷ [] ≡ ls = cc in f) ∙ leads) in
     let (s, step_, then_) = bind-is (kernel_after pt.kernel (label_of l)) (λ s. Some (moved pt l s)) mid first in
-    let g : moved pt l s ≡ mid = cc in
-    let e : mid ≡ next = cc in
-    subst (Onto pt) (g ∙ e) (record { ground = line_roots pt s l need sane step_ h; kept = kept_by pt.kernel s (label_of l) pt sane refl step_ })
+    subst (Onto pt) ((let g : moved pt l s ≡ mid = cc in g) ∙ (let e : mid ≡ next = cc in e)) (record { ground = line_roots pt s l need sane step_ h; kept = kept_by pt.kernel s (label_of l) pt sane refl step_ })
 
 part_ground : (pt next : Point) (p : Part) (ls : List Line) → NeedsPart pt p → Sane pt → lines_of pt p ≡ Some ls → after pt ls ≡ Some next → Grounded pt → Onto pt next
 part_ground pt next (Says l) ls need sane is leads h = one_line pt next l ls need sane is leads h
@@ -66,19 +60,12 @@ parts_ground (p ∷ ps) pt w ok need sane is h =
     let (ls, lines, rest) = bind-is (lines_of pt p) (λ (xs : List Line). bind (after pt xs) (λ (q : Point). bind (spelled q ps) (λ (z : Spelled). Some (behind xs z)))) w is in
     let (next, leads, last) = bind-is (after pt ls) (λ (q : Point). bind (spelled q ps) (λ (z : Spelled). Some (behind ls z))) w rest in
     let (z, more, end) = bind-is (spelled next ps) (λ (y : Spelled). Some (behind ls y)) w last in
-    let f : behind ls z ≡ w = cc in
     let onto = part_ground pt next p ls need.0 sane lines leads h in
-    subst (λ (x : Spelled). Grounded x.point) f (parts_ground ps next z ok.1 (loose_first pt.kernel next ps onto.kept need.1) (part_sane pt next p ls ok.0 lines leads sane) more onto.ground)
+    subst (λ (x : Spelled). Grounded x.point) (let f : behind ls z ≡ w = cc in f) (parts_ground ps next z ok.1 (loose_first pt.kernel next ps onto.kept need.1) (part_sane pt next p ls ok.0 lines leads sane) more onto.ground)
 
 -- what the phases say: a process that is asked for is here nowhere
 pub moves_away : (k : MessageKind) (s d m : ℕ) (o : Option MsgId) (b c : Bool) → (s == m) ≡ b → (d == m) ≡ c → knows (Moves k s d o) m Here ≡ false
 moves_away k s d m o b c h1 h2 = search arith
-
-asks_by : (pt : Point) (i : MsgId) (is : List MsgId) (t : Told) → InPhases pt.view → pt.view.inbox pt.view.acting ≡ i ∷ is → pt.view.told i ≡ Some t → Asks pt t
-asks_by pt i is t h front told e p about here =
-    let v = pt.view in
-    let u = due pt i is t h front told (ap is_between e) in
-    search (arith, moves_away)
 
 -- what is served is in the ring
 served_if : (s : OneKernel) (queue : Pid → List MsgId) (f : Pid → Known) (p q : Pid) (ps : List Pid) (c : Bool) → (if c then Some p else rule.first_runnable s queue ps) ≡ Some q → f p ≡ Here → (rule.first_runnable s queue ps ≡ Some q → f q ≡ Here) → f q ≡ Here
@@ -88,25 +75,17 @@ served_here : (s : OneKernel) (queue : Pid → List MsgId) (f : Pid → Known) (
 served_here s queue f q [] h e = cc
 served_here s queue f q (p ∷ ps) h e = served_if s queue f p q ps (rule.can_go s (queue p) (kernel.alive (s.processes p))) e h.0 (λ k. served_here s queue f q ps h.1 k)
 
--- the next number of a home is no process's
-none_below : (s : OneKernel) (p : Pid) (o : Option Life) → s.processes p ≡ o → (is_some (s.processes p) ≡ true → nat_lt p.num (3 + s.made p.home) ≡ true) → p.num ≡ first_number + s.made p.home → o ≡ None
-none_below s p None e h n = refl
-none_below s p (Some l) e h n = absurd (let k = h (ap is_some e) in let z : nat_lt p.num (3 + s.made p.home) ≡ false = grind (arith, nat_tests) in false≢true (sym z ∙ k))
-
-next_none : (s : OneKernel) (home : ℕ) → Made s → s.processes (pid_of home (first_number + s.made home)) ≡ None
-next_none s home h = none_below s (pid_of home (first_number + s.made home)) (s.processes (pid_of home (first_number + s.made home))) refl (h.most (pid_of home (first_number + s.made home))) refl
-
 pub rooted : (pt : Point) → Sane pt → Grounded pt → Rooted pt
 rooted pt sane h = record {
   served = λ m p is. served_here pt.kernel (pt.view.queue m) (pt.view.known m) p (pt.view.ring m) (h.rings.each m) is;
-  unborn = λ m n. h.lives.none (pid_of m (first_number + pt.kernel.made m)) (next_none pt.kernel m sane.sound.made) (omega arith) n;
+  unborn = λ m n. h.lives.none (pid_of m (first_number + pt.kernel.made m)) (next_is_new pt.kernel m sane.sound.made) (omega arith) n;
 }
 
 -- a group
-abbrev begun : Point → Step → Point
+abbrev pub begun : Point → Step → Point
 begun pt d = moved pt (Line.Head d) pt.kernel
 
-begun_sane : (pt : Point) (d : Step) → Sane pt → Sane (begun pt d)
+pub begun_sane : (pt : Point) (d : Step) → Sane pt → Sane (begun pt d)
 begun_sane pt d h = sane_line pt (begun pt d) (Line.Head d) refl refl h
 
 begun_ground : (pt : Point) (d : Step) → Sane pt → Grounded pt → Grounded (begun pt d)
@@ -122,12 +101,15 @@ group_ground b pt d w e first sane h =
 
 pub roots_group : (b : Boot) (pt : Point) (d : Step) (w : Spelled) → group_of b pt d ≡ Some w → InPhases pt.view → Sane pt → Grounded pt → Grounded w.point
 roots_group b pt (Step.Turn m) w e phases sane h =
+    let asks_by : (pt : Point) (i : MsgId) (is : List MsgId) (t : Told) → InPhases pt.view → pt.view.inbox pt.view.acting ≡ i ∷ is → pt.view.told i ≡ Some t → Asks pt t = λ pt i is t h front told e p about here.
+      let v = pt.view in
+      let u = due pt i is t h front told (ap is_between e) in
+      search (arith, moves_away) in
     let start = begun pt (Step.Turn m) in
-    let ground = begun_ground pt (Step.Turn m) sane h in
     let there : InPhases start.view = calm_phases pt.view start.view (head_calm pt.view (Step.Turn m)) phases in
     group_ground b pt (Step.Turn m) w e
     (λ ps is. first_some start (rule.turns b pt m (pt.view.inbox m)) ps is
-    (turns_first start b pt m (pt.view.inbox m) refl ground.lives (λ p. refl) (λ p runs. (rooted pt sane h).served m p runs) (λ i is t front told. asks_by start i is t there front told))) sane h
+    (turns_first start b pt m (pt.view.inbox m) refl (begun_ground pt (Step.Turn m) sane h).lives (λ p. refl) (λ p runs. (rooted pt sane h).served m p runs) (λ i is t front told. asks_by start i is t there front told))) sane h
 roots_group b pt (Step.Tick m) w e phases sane h =
     group_ground b pt (Step.Tick m) w e
     (λ ps is. first_some (begun pt (Step.Tick m)) (rule.outcome b pt (Step.Tick m)) ps is (tt, net_loose pt.kernel (rule.resends pt.view m pt.kernel.machines) (resends_net pt.view m pt.kernel.machines))) sane h
@@ -138,5 +120,6 @@ roots_group b pt (Step.Deliver a c k) w e phases sane h =
     (λ ps is. first_some start (rule.outcome b pt (Step.Deliver a c k)) ps is (loose_first pt.kernel start qs (λ q none. none) (net_loose pt.kernel qs (arrives_net a c (pt.view.pair a c) (pt.view.pair c a) (slice_get (pt.view.pair a c).wire k))))) sane h
 roots_group b pt (Step.Migrate p m) w e phases sane h =
     let start = begun pt (Step.Migrate p m) in
+    let migrates_loose : (s : OneKernel) (o : Point) (p : Pid) → AllLoose s (migrates o p) = λ s o p. by_migrates (AllLoose s) o p (λ pt k. tt, tt) (λ pt k. tt, tt) (λ n off is. (λ pt k. tt, tt)) in
     group_ground b pt (Step.Migrate p m) w e
     (λ ps is. first_some start (rule.outcome b pt (Step.Migrate p m)) ps is (loose_first pt.kernel start (migrates pt p) (λ q none. none) (migrates_loose pt.kernel pt p))) sane h

@@ -1,7 +1,7 @@
 -- Rings list what is here, and nothing is known of what was never made: a line after the other.
-use Rattle.dm_rule.proofs.Names.{◌≡◌, ℕ, ◌+◌, ◌≤◌, ◌==◌, not, filter, [], ◌∷◌, ◌++◌, refl, ap, ◌∙◌, sym, subst, ⊤, Option, None, Some, Pid, MsgId, MessageKind, Step, Stage, PlainMessage, PlainWhat, Label, bind, Life, Alive, OneKernel, Line}
-use Rattle.dm_rule.proofs.Names.{at_machine, at_record, without, moved_back, View, Told, About, Of, Known, Unknown, Here, Frozen, Incoming, Ended, view_after, handled, receiver_of, ends_by, served_told, front_of, gone_to, Point, label_of}
-use Rattle.dm_rule.proofs.Names.{kernel_after, pid_eq-same, bind-is, when-is, nexts, after_step, at_hand-is, seen, sort_of, arith}
+use Rattle.dm_rule.proofs.Names.{◌≡◌, ℕ, ◌+◌, ◌≤◌, ◌==◌, not, filter, [], ◌∷◌, ◌++◌, refl, ap, ◌∙◌, sym, subst, ⊤, Option, None, Some, Pid, MsgId, MessageKind, Step, Stage, Label, bind, Life, Alive, OneKernel, Line, at_machine, at_record}
+use Rattle.dm_rule.proofs.Names.{without, moved_back, View, Told, About, Of, Known, Unknown, Here, Frozen, Incoming, Ended, view_after, handled, receiver_of, ends_by, served_told, front_of, gone_to, Point, label_of, kernel_after}
+use Rattle.dm_rule.proofs.Names.{pid_eq-same, bind-is, when-is, nexts, after_step, at_hand-is, seen, sort_of, arith}
 use Rattle.dm_rule.proofs.Seen.{aim, sets}
 use Rattle.dm_rule.proofs.Telling.{Sane}
 use Rattle.dm_rule.proofs.Rings.{Rings, all_moved, learnt_without, learnt_last, rings_same, rings_ring, rings_learn, rings_known}
@@ -47,28 +47,6 @@ roots_comes s t v w p kept lived known is h = record {
 roots_known : (s t : OneKernel) (v w : View) (p : Pid) (k : Known) → Kept s t → (t.processes p ≡ None → 3 ≤ p.num → k ≡ Unknown) → w.known ≡ at_record v.known v.acting p k → w.ring ≡ v.ring → (v.known v.acting p ≡ Here → k ≡ Here) → Roots s v → Roots t w
 roots_known s t v w p k kept new known is keeps h = record { rings = rings_known v w p k known is keeps h.rings; lives = lives_learn s t v w p k kept known new h.lives }
 
--- lines that do neither
-queued_idles : (v : View) (id : MsgId) (o : Option Pid) → Idles v (view.queued_for v id o)
-queued_idles v id None = idles v
-queued_idles v id (Some p) = record { known = refl; ring = refl }
-
-held_idles : (v : View) (id : MsgId) (o : Option Pid) → Idles v (view.held_for v id o)
-held_idles v id o = search (arith, idles)
-
-forwarded_idles : (v : View) (o : Option Pid) → Idles v (view.forwarded_for v o)
-forwarded_idles v o = search (arith, idles)
-
-taken_idles : (v : View) (b : ℕ) (o : Option MsgId) → Idles v (view.taken_id v b o)
-taken_idles v b None = idles v
-taken_idles v b (Some id) = record { known = refl; ring = refl }
-
-asks_idles : (v : View) (a : About) → Idles v (view.asks_on v a)
-asks_idles v (Of p) = record { known = refl; ring = refl }
-asks_idles v _ = idles v
-
-proto_idles : (v : View) (o : Option Told) → Idles v (view.after_proto v o)
-proto_idles v o = search (arith, asks_idles, idles)
-
 served_roots : (s : OneKernel) (v : View) (o : Option Told) → ((t : Told) → o ≡ Some t → Lived s t.receiver) → Roots s v → Roots s (served_told v o)
 served_roots s v None lived h = h
 served_roots s v (Some t) lived h = elim t.kind as (λ k. Roots s (ends_by (sort_of k) v (Some t.receiver)))
@@ -78,8 +56,7 @@ served_roots s v (Some t) lived h = elim t.kind as (λ k. Roots s (ends_by (sort
 pub kept_by : (s t : OneKernel) (l : Option Label) (pt : Point) → Sane pt → pt.kernel ≡ s → kernel_after s l ≡ Some t → Kept s t
 kept_by s t None pt h is e p none = ap (λ (k : OneKernel). k.processes p) (let f : s ≡ t = cc in f) ∙ none
 kept_by s t (Some l) pt h is e p none =
-    let a = after_step h.r h.e pt.kernel t l (ap (λ (k : OneKernel). kernel.step k l) is ∙ e) h.sound in
-    ap (λ (k : OneKernel). k.processes p) (sym is) ∙ grown_none (pt.kernel.processes p) (t.processes p) (a.grown.lives p) none
+    ap (λ (k : OneKernel). k.processes p) (sym is) ∙ grown_none (pt.kernel.processes p) (t.processes p) ((after_step h.r h.e pt.kernel t l (ap (λ (k : OneKernel). kernel.step k l) is ∙ e) h.sound).grown.lives p) none
 
 alive_lived : (s t : OneKernel) (p : Pid) (l : Life) → Kept s t → s.processes p ≡ Some l → Lived t p
 alive_lived s t p l kept is none le = absurd (let f : Some l ≡ None = sym is ∙ kept p none in cc)
@@ -91,12 +68,6 @@ served_lived pt t id h kept e u told none le =
     let (free, alive) = at_hand-is pt.kernel m.to x hand in
     let to : u.receiver ≡ m.to = h.tells.receiver id m u there told in
     alive_lived pt.kernel t m.to (Alive x) kept alive (ap t.processes (sym to) ∙ none) (subst (λ (q : Pid). 3 ≤ q.num) to le)
-
-created_some : (s t : OneKernel) (id : MsgId) (m : PlainMessage) (child : Pid) (w : PlainWhat) → service.creates s id m child w ≡ Some t → Lived t child
-created_some s t id m child w h1 = search (arith, bind-is, when-is, pid_eq-same)
-
-created_lived : (s t : OneKernel) (id : MsgId) (child : Pid) → kernel.step s (Label.Created id child) ≡ Some t → Lived t child
-created_lived s t id child e = let (m, there, rest) = bind-is (s.bag id) (λ m. service.creates s id m child m.what) t e in created_some s t id m child m.what rest
 
 -- what a line needs: a process that is served is here, one that migrates was made, and one that is accepted isn't here yet
 abbrev pub NeedsLabel : Point → Label → Type 0
@@ -134,7 +105,8 @@ label_roots pt t (Label.Served id) need sane kept e h =
 label_roots pt t (Label.Gone id) need sane kept e h = roots_idle pt.kernel t pt.view (handled pt.view id) kept (record { known = refl; ring = refl }) h
 label_roots pt t (Label.Took id) need sane kept e h = roots_idle pt.kernel t pt.view (handled pt.view id) kept (record { known = refl; ring = refl }) h
 label_roots pt t (Label.Created id p) need sane kept e h =
-    roots_comes pt.kernel t pt.view (view_after pt.view (Line.Label (Label.Created id p))) p kept (created_lived pt.kernel t id p e) refl refl h
+    let created_lived : Lived t p = let (m, there, rest) = bind-is (pt.kernel.bag id) (λ m. service.creates pt.kernel id m p m.what) t e in search (arith, bind-is, when-is, pid_eq-same) in
+    roots_comes pt.kernel t pt.view (view_after pt.view (Line.Label (Label.Created id p))) p kept created_lived refl refl h
 label_roots pt t (Label.NoSpace id a b) need sane kept e h = roots_idle pt.kernel t pt.view (handled pt.view id) kept (record { known = refl; ring = refl }) h
 label_roots pt t (Label.Asked id) need sane kept e h = roots_idle pt.kernel t pt.view (handled pt.view id) kept (record { known = refl; ring = refl }) h
 label_roots pt t _ need sane kept e h = record { rings = h.rings; lives = lives_same pt.kernel t pt.view pt.view kept refl h.lives }
@@ -152,12 +124,23 @@ line_by pt t (Line.Label l) need sane kept e h = label_roots pt t l need sane ke
 line_by pt t (Line.Migration Stage.Asked p) need sane kept e h = roots_idle pt.kernel t pt.view (view_after pt.view (Line.Migration Stage.Asked p)) kept (record { known = refl; ring = refl }) h
 line_by pt t (Line.Migration Stage.StateTaken p) need sane kept e h = roots_idle pt.kernel t pt.view (view_after pt.view (Line.Migration Stage.StateTaken p)) kept (record { known = refl; ring = refl }) h
 line_by pt t (Line.Migration Stage.MemoryTaken p) need sane kept e h = roots_idle pt.kernel t pt.view (view_after pt.view (Line.Migration Stage.MemoryTaken p)) kept (record { known = refl; ring = refl }) h
-line_by pt t (Line.Queued id) need sane kept e h = let i = queued_idles (handled pt.view id) id (receiver_of (pt.view.told id)) in roots_idle pt.kernel t pt.view (view_after pt.view (Line.Queued id)) kept (record { known = i.known; ring = i.ring }) h
-line_by pt t (Line.Held id) need sane kept e h = let i = held_idles (handled pt.view id) id (receiver_of (pt.view.told id)) in roots_idle pt.kernel t pt.view (view_after pt.view (Line.Held id)) kept (record { known = i.known; ring = i.ring }) h
-line_by pt t (Line.Forwarded id m) need sane kept e h = let i = forwarded_idles (handled pt.view id) (receiver_of (pt.view.told id)) in roots_idle pt.kernel t pt.view (view_after pt.view (Line.Forwarded id m)) kept (record { known = i.known; ring = i.ring }) h
-line_by pt t (Line.Proto id) need sane kept e h = let i = proto_idles (handled pt.view id) (pt.view.told id) in roots_idle pt.kernel t pt.view (view_after pt.view (Line.Proto id)) kept (record { known = i.known; ring = i.ring }) h
+line_by pt t (Line.Queued id) need sane kept e h =
+    -- lines that do neither
+    let queued_idles : (v : View) (id : MsgId) (o : Option Pid) → Idles v (view.queued_for v id o) = λ v id o. elim o as (λ o_. Idles v (view.queued_for v id o_)) [ None ↦ idles v | Some p' ↦ record { known = refl; ring = refl } ] in
+    let i = queued_idles (handled pt.view id) id (receiver_of (pt.view.told id)) in roots_idle pt.kernel t pt.view (view_after pt.view (Line.Queued id)) kept (record { known = i.known; ring = i.ring }) h
+line_by pt t (Line.Held id) need sane kept e h =
+    let held_idles : Idles (handled pt.view id) (view.held_for (handled pt.view id) id (receiver_of (pt.view.told id))) = search (arith, idles) in
+    let i = held_idles in roots_idle pt.kernel t pt.view (view_after pt.view (Line.Held id)) kept (record { known = i.known; ring = i.ring }) h
+line_by pt t (Line.Forwarded id m) need sane kept e h =
+    let forwarded_idles : Idles (handled pt.view id) (view.forwarded_for (handled pt.view id) (receiver_of (pt.view.told id))) = search (arith, idles) in
+    let i = forwarded_idles in roots_idle pt.kernel t pt.view (view_after pt.view (Line.Forwarded id m)) kept (record { known = i.known; ring = i.ring }) h
+line_by pt t (Line.Proto id) need sane kept e h =
+    let asks_idles : (v : View) (a : About) → Idles v (view.asks_on v a) = λ v a. elim a as (λ a_. Idles v (view.asks_on v a_)) [ Of p' ↦ record { known = refl; ring = refl } | _ ↦ idles v ] in
+    let proto_idles : Idles (handled pt.view id) (view.after_proto (handled pt.view id) (pt.view.told id)) = search (arith, asks_idles, idles) in
+    let i = proto_idles in roots_idle pt.kernel t pt.view (view_after pt.view (Line.Proto id)) kept (record { known = i.known; ring = i.ring }) h
 line_by pt t (Line.Taken a b n) need sane kept e h =
     let p = pt.view.pair a b in
+    let taken_idles : (v : View) (b : ℕ) (o : Option MsgId) → Idles v (view.taken_id v b o) = λ v b o. elim o as (λ o_. Idles v (view.taken_id v b o_)) [ None ↦ idles v | Some id' ↦ record { known = refl; ring = refl } ] in
     let i = taken_idles (view.with_pair pt.view a b (record p { taken = p.taken + 1; kept = filter (λ k. not (k == n)) p.kept })) b (view.oldest p) in
     roots_idle pt.kernel t pt.view (view_after pt.view (Line.Taken a b n)) kept (record { known = i.known; ring = i.ring }) h
 line_by pt t (Line.Migration Stage.Frozen p) need sane kept e h =
@@ -169,8 +152,7 @@ line_by pt t (Line.Migration Stage.Restarted p) need sane kept e h = roots_comes
 line_by pt t (Line.Stays p) need sane kept e h = roots_comes pt.kernel t pt.view (view_after pt.view (Line.Stays p)) p kept (λ none le. need (kept p none) le) refl refl h
 line_by pt t any_ need sane kept e h = roots_idle pt.kernel t pt.view (view_after pt.view any_) kept (record { known = refl; ring = refl }) h
 
-roots_about : (s : OneKernel) (v : View) (a : About) → Roots s v → Roots s (view.about v a)
-roots_about s v a h = record { rings = record { each = h.rings.each }; lives = record { none = h.lives.none } }
-
 pub line_roots : (pt : Point) (t : OneKernel) (l : Line) → Needs pt l → Sane pt → kernel_after pt.kernel (label_of l) ≡ Some t → Roots pt.kernel pt.view → Roots t (seen pt.kernel pt.view l)
-line_roots pt t l need sane e h = roots_about t (view_after pt.view l) (seen pt.kernel pt.view l).topic (line_by pt t l need sane (kept_by pt.kernel t (label_of l) pt sane refl e) e h)
+line_roots pt t l need sane e h =
+    let roots_about : (s : OneKernel) (v : View) (a : About) → Roots s v → Roots s (view.about v a) = λ s v a h. record { rings = record { each = h.rings.each }; lives = record { none = h.lives.none } } in
+    roots_about t (view_after pt.view l) (seen pt.kernel pt.view l).topic (line_by pt t l need sane (kept_by pt.kernel t (label_of l) pt sane refl e) e h)

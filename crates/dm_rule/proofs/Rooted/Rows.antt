@@ -56,16 +56,14 @@ round_first pt b o m q here = first_of pt (rule.goes_round b o m q) (λ ps. by_r
   refuses = λ id r. (here p is, tt);
 }))
 
--- a message of the bag is handled
-routes_loose : (s : OneKernel) (o : Option PlainMessage) → AllLoose s (rule.routes o)
-routes_loose s None = tt
-routes_loose s (Some m) = (λ pt k. tt, tt)
-
 pub forwards_first : (pt : Point) (a : Addresses) (id : MsgId) (k : MessageKind) (sender : Pid) (to : ℕ) → First pt (forwards_on a id k sender to)
 forwards_first pt a id k sender to = by_forwards (First pt) a id k sender to (tt, (λ q k. tt, tt)) (tt, (λ q k. tt, (λ q k. tt, tt)))
 
 pub handles_first : (pt : Point) (b : Boot) (o : Point) (m : ℕ) (id : MsgId) (msg : PlainMessage) → Lives pt.kernel pt.view → ((p : Pid) → pt.view.known pt.view.acting p ≡ o.view.known m p) → FirstOf pt (rule.handles b o m id msg)
-handles_first pt b o m id msg lives known = first_of pt (rule.handles b o m id msg) (λ ps. by_handles (First pt) b o m id msg ps (record {
+handles_first pt b o m id msg lives known =
+    -- a message of the bag is handled
+    let routes_loose : (s : OneKernel) (o : Option PlainMessage) → AllLoose s (rule.routes o) = λ s o. elim o as (λ o_. AllLoose s (rule.routes o_)) [ None ↦ tt | Some m' ↦ (λ pt k. tt, tt) ] in
+    first_of pt (rule.handles b o m id msg) (λ ps. by_handles (First pt) b o m id msg ps (record {
   created = λ fixed. (tt, (λ q k. tt, tt));
   no_space = λ fixed slots blocks. (tt, (λ q k. tt, tt));
   took = λ fixed sent. (tt, routes_loose pt.kernel sent);

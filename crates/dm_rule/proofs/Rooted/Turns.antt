@@ -1,12 +1,11 @@
 -- What a kernel's own message, a turn, and the other directives say needs nothing but for the first line.
-use Rattle.dm_rule.proofs.Names.{◌≡◌, ℕ, List, [], ◌∷◌, ◌++◌, refl, ap, ◌∙◌, Option, None, Some, Pid, MsgId, MessageKind, Boot, PlainProcess, OneKernel, Line, Told, Of, Here, Point, Part, Says, Transmits, sends_on, migrates, arith}
+use Rattle.dm_rule.proofs.Names.{◌≡◌, ℕ, List, [], ◌∷◌, ◌++◌, refl, ap, ◌∙◌, Option, None, Some, Pid, MsgId, MessageKind, Boot, PlainProcess, OneKernel, Told, Of, Here, Point, Part, Says, Transmits, sends_on, arith}
 use Rattle.dm_onekernel.specs.Step as kernel
 use Rattle.dm_rule.specs.Rule as rule
-use Rattle.dm_rule.proofs.Groups.{IsNetLine, IsNet}
+use Rattle.dm_rule.proofs.Groups.{IsNet}
 use Rattle.dm_rule.proofs.Lives.{Lives, Lived, lived_alive, lived_here}
 use Rattle.dm_rule.proofs.Rooted.Lines.{Needs}
-use Rattle.dm_rule.proofs.Rooted.Rows.{AllLoose, First, FirstOf, round_first, forwards_first, handles_first}
-use Rattle.dm_rule.proofs.Requests.{by_migrates}
+use Rattle.dm_rule.proofs.Rooted.Rows.{AllLoose, First, FirstOf, round_first, forwards_first, handles_first, first_of}
 use Rattle.dm_rule.proofs.Hearing.{by_hears}
 
 -- a kernel's own message is handled
@@ -17,10 +16,6 @@ again_loose s to (i ∷ is) ps h = (λ q k. tt, again_loose s to is ps h)
 -- a process that is asked for is here nowhere
 abbrev pub Asks : Point → Told → Type 0
 Asks pt t = t.kind ≡ MessageKind.Ask → (p : Pid) → t.about ≡ Of p → pt.view.known pt.view.acting p ≡ Here → ⊥
-
-first_of : (pt : Point) (o : Option (List Part)) → ((ps : List Part) → o ≡ Some ps → First pt ps) → FirstOf pt o
-first_of pt None h = tt
-first_of pt (Some ps) h = h ps refl
 
 hears_first : (pt : Point) (b : Boot) (o : Point) (m : ℕ) (id : MsgId) (q : Option Told) → pt.kernel ≡ o.kernel → Lives pt.kernel pt.view → ((p : Pid) → pt.view.known pt.view.acting p ≡ o.view.known m p) → ((t : Told) → q ≡ Some t → Asks pt t) → FirstOf pt (rule.hears b o m id q)
 hears_first pt b o m id q same lives known asks = first_of pt (rule.hears b o m id q) (λ ps. by_hears (First pt) b o m id q ps (λ t is. (
@@ -37,14 +32,8 @@ turns_first pt b o m (i ∷ is) same lives known served asks = elim (o.kernel.ba
     [ None ↦ hears_first pt b o m i (o.view.told i) same lives known (λ t told. asks i is t refl told) | Some msg ↦ handles_first pt b o m i msg lives known ]
 
 -- the other directives
-net_needs : (l : Line) → IsNetLine l → (pt : Point) → Needs pt l
-net_needs l h1 pt = search arith
-
 pub net_loose : (s : OneKernel) (ps : List Part) → IsNet ps → AllLoose s ps
 net_loose s [] h = tt
-net_loose s (Says l ∷ ps) h = (λ pt k. net_needs l h.0 pt, net_loose s ps h.1)
+net_loose s (Says l ∷ ps) h = (λ pt k. (let e_ : Needs pt l = search (arith, h.0) in e_), net_loose s ps h.1)
 net_loose s (Transmits a b l ∷ ps) h = (λ pt k. tt, net_loose s ps h.1)
 net_loose s _ h = absurd h.0
-
-pub migrates_loose : (s : OneKernel) (o : Point) (p : Pid) → AllLoose s (migrates o p)
-migrates_loose s o p = by_migrates (AllLoose s) o p (λ pt k. tt, tt) (λ pt k. tt, tt) (λ n off is. (λ pt k. tt, tt))

@@ -1,8 +1,10 @@
 -- Along lines that fit, and along runs whose groups' lines do.
-use Rattle.dm_rule.proofs.Names.{◌≡◌, ℕ, List, [], ◌∷◌, subst, ⊤, Some, Boot, IsValid, Step, bind-is, Line, IsStep, Spelled, Point, after_line, group_of, Trails, Trodden, first_trodden, along, trails_after, LeadsAlong, TrailsAlways}
+use Rattle.dm_rule.proofs.Names.{◌≡◌, ℕ, List, [], ◌∷◌, subst, ⊤, Some, Boot, IsValid, Step, bind-is, Line, IsStep, Spelled, Point, after_line, group_of, Trails, Trodden, first_trodden, along, trails_after, LeadsAlong, TrailsAlways, Holder}
+use Rattle.dm_rule.proofs.Names.{Pid, suc, names, ◌≢◌, Unknown, IsOn, leads, true}
 use Rattle.dm_rule.proofs.Trails.Treads.{Treads, LineFits, line_treads}
-use Rattle.dm_rule.proofs.Trails.Within.{Within}
-use Rattle.dm_rule.proofs.Trails.Found.{treads_start, address_leads}
+use Rattle.dm_rule.proofs.Trails.Within.{Within, trail_within}
+use Rattle.dm_rule.proofs.Trails.Found.{treads_start}
+use Rattle.dm_rule.proofs.Trails.Leads.{trail_leads}
 
 -- each of these lines fits where the ones before lead
 abbrev pub AllFit : Point → Trails → List Line → Type 0
@@ -30,4 +32,9 @@ run_treads Holds c b (e ∷ es) x end (w, y, step, group, comes, rest) g h =
 pub trails_always_by : (Holds : Boot → Trodden → Type 0) → Carries Holds → TrailsAlways
 trails_always_by Holds c b es x h q n m valid way named there machines =
     let (g, t) = run_treads Holds c b es (first_trodden b) x way (c.start b valid) (treads_start b valid) in
+    -- where no more than so many machines know processes
+    let address_leads : (pt : Point) (t : Trails) (h : Holder) (q : Pid) (n m : ℕ) → Treads pt t → Within (suc n) pt.view → names pt.kernel h ≡ Some q → pt.view.known m q ≢ Unknown
+      → IsOn t q (pt.addresses h) × (leads pt.view q n (pt.addresses h).moves (pt.addresses h).at ≡ true) = λ pt t h q n m x within named there.
+      let on = x.links h q named in
+      (on, trail_leads pt.view t q n m (pt.addresses h) (x.trail q) there (trail_within (suc n) pt.view t q m within (x.trail q) there) on) in
     address_leads x.point x.trails h q n m t (subst (λ (k : ℕ). Within k x.point.view) machines (c.within b x g)) named there

@@ -1,7 +1,7 @@
 -- What machines learn of a process agrees with its trail.
 use Rattle.dm_rule.proofs.Names.{◌≡◌, ◌≢◌, ◌⊎◌, ℕ, zero, suc, ◌+◌, ◌<◌, ◌==◌, Bool, true, false, List, [], ◌∷◌, ◌++◌, length, refl, ap, ◌∙◌, sym, inl, inr, arith, nat_tests, if◌then◌else◌, slice_get, Some, slice_get_within, Pid, View}
-use Rattle.dm_rule.proofs.Names.{Known, Unknown, Here, Incoming, Forward, Nowhere, Trails, Trail, StoodOnTrail}
-use Rattle.dm_rule.proofs.Lines.{eq_is, eq_self}
+use Rattle.dm_rule.proofs.Names.{Known, Unknown, Here, Incoming, Forward, Trails, Trail, eqb-true}
+use Rattle.dm_rule.proofs.Lines.{eq_self}
 
 -- lists that grow at the end
 pub get_more : {X : Type 0} (xs ys : List X) (c : ℕ) (m : X) → slice_get xs c ≡ Some m → slice_get (xs ++ ys) c ≡ Some m
@@ -53,9 +53,7 @@ trail_made v w t p known unknown only h = record {
   named = λ m k j e. h.named m k j (not_forward (v.acting == m) Here (v.known m p) k j (λ x. cc) (sym (known m) ∙ e));
   behind = λ m k j c e f. h.behind m k j c (not_forward (v.acting == m) Here (v.known m p) k j (λ x. cc) (sym (known m) ∙ e)) f;
   kept = λ m i c e f g.
-      let at : m ≡ v.acting = only c m f in
-      let here : w.known v.acting p ≡ Here = known v.acting ∙ ap (λ (b : Bool). if b then Here else v.known v.acting p) (eq_self v.acting) in
-      let none : Here ≡ Unknown = sym here ∙ sym (ap (λ (k : ℕ). w.known k p) at) ∙ g in cc;
+      let none : Here ≡ Unknown = sym (known v.acting ∙ ap (λ (b : Bool). if b then Here else v.known v.acting p) (eq_self v.acting)) ∙ sym (ap (λ (k : ℕ). w.known k p) (only c m f)) ∙ g in cc;
 }
 
 -- its messages are sent on to a machine where it comes: the trail has one machine more
@@ -87,10 +85,4 @@ trail_left v w t p d known there at long apart h = record {
     less : (m c j : ℕ) → slice_get (t p) c ≡ Some m → (v.acting == m) ≡ true → v.moves p + 1 ≡ j → c < j
     less m c j f s n =
         let within = slice_get_within (t p) c m f in
-        search (arith, eq_is)
-
--- the trail of a process that was never made is its home alone
-pub home_alone : (v : View) (t : Trails) (p : Pid) → Trail v t p → StoodOnTrail v t p Nowhere → (c m : ℕ) → slice_get (t p) c ≡ Some m → m ≡ p.home
-home_alone v t p h s c m e =
-    let within = slice_get_within (t p) c m e in
-    search arith
+        search (arith, eqb-true)

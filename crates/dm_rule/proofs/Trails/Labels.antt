@@ -22,15 +22,14 @@ pub label_pending : (s t : OneKernel) (v : View) (a : Addresses) (tr : Trails) (
     → ascends 0 t.manager.pending t.manager.sent ≡ true
 label_pending s t v a tr l is named said trail pending links = (label_on (IsOn tr) s t v a l is named said (at_home (IsOn tr) s a (λ q. (trail q).begins) links pending)).pending
 
--- a label tells nothing of messages, and isn't about a place
-kills_topic : (v : View) (k : MessageKind) (o : Option Pid) → (ends_by (sort_of k) v o).topic ≡ v.topic
-kills_topic v k o = grind (arith, nat_tests)
-
 pub label_told : (v : View) (l : Label) → (after_label v l).told ≡ v.told
 label_told v l = (hushed v (Line.Label l) refl).told
 
 pub label_topic : (v : View) (l : Label) → (after_label v l).topic ≡ v.topic
-label_topic v l = search (arith, kills_topic)
+label_topic v l =
+    -- a label tells nothing of messages, and isn't about a place
+    let kills_topic : (v : View) (k : MessageKind) (o : Option Pid) → (ends_by (sort_of k) v o).topic ≡ v.topic = λ v k o. grind (arith, nat_tests) in
+    search (arith, kills_topic)
 
 -- kernels' own messages keep theirs
 pub own_same : (v w : View) (a b : Addresses) (t u : Trails) → w.told ≡ v.told → w.topic ≡ v.topic → ((i : MsgId) → is_kernels i ≡ true → b (Receiver i) ≡ a (Receiver i)) → ((i : MsgId) → is_kernels i ≡ true → b (Sender i) ≡ a (Sender i))

@@ -1,7 +1,8 @@
 -- From each place of a trail the forwards lead to the process, in fewer steps than there are machines.
-use Rattle.dm_rule.proofs.Names.{◌≡◌, ◌≢◌, ℕ, zero, suc, ◌+◌, ◌≤◌, ◌<◌, ◌==◌, ◌||◌, Bool, true, false, List, [], ◌∷◌, refl, ap, ◌∙◌, sym, inl, inr, arith, nat_lt, eqb-true, eq-eqb, slice_get, Some, cases_eq, or_cases, or_left, or_right}
-use Rattle.dm_rule.proofs.Names.{false≢true, nat_tests, Pid, Place, View, Known, Unknown, Forward, Trails, Trail, IsOn, leads_on, leads, both_true}
-use Rattle.dm_rule.proofs.Lines.{not_true}
+use Rattle.dm_rule.proofs.Names.{◌≡◌, ◌≢◌, ℕ, zero, suc, ◌+◌, ◌≤◌, ◌<◌, ◌==◌, ◌||◌, Bool, true, false, List, [], ◌∷◌, refl, ap, ◌∙◌, sym, inl, inr, arith, slice_get, Some, cases_eq, or_cases, or_left, or_right, false≢true, Pid, Place, View}
+use Rattle.dm_rule.proofs.Names.{Known, Unknown, Forward, Trails, Trail, IsOn, leads_on, leads, both_true, false_from_ne_true, lt-ltb}
+use Rattle.std.proofs.Common.{eqb-true, eq-eqb}
+pub use Rattle.std.proofs.lemmas.Bool.{lt-ltb as less_test}
 
 -- how many of the first n machines pass a test
 one : Bool → ℕ
@@ -37,13 +38,10 @@ unfolding passing one
 passing_more f g zero x less h off on = absurd (omega (arith, less))
 passing_more f g (suc n) x less h off on = elim (cases_eq x n) [
   | inl last ↦
-      let a : one (f n) ≡ 0 = ap (λ (k : ℕ). one (f k)) (sym last) ∙ ap one off in
-      let b : one (g n) ≡ 1 = ap (λ (k : ℕ). one (g k)) (sym last) ∙ ap one on in
-      let c = passing_grows f g n h in omega (arith, a, b, c)
+      let c = passing_grows f g n h in omega (arith, ap (λ (k : ℕ). one (f k)) (sym last) ∙ ap one off, ap (λ (k : ℕ). one (g k)) (sym last) ∙ ap one on, c)
   | inr other ↦
       let before : x < n = omega (arith, less, other) in
-      let a = passing_more f g n x before h off on in
-      let b = one_grows (f n) (g n) (h n) in omega (arith, a, b)
+      let b = one_grows (f n) (g n) (h n) in omega (arith, passing_more f g n x before h off on, b)
 ]
 
 passing_some : (f : ℕ → Bool) (n x : ℕ) → x < n → f x ≡ true → 0 < passing f n
@@ -80,18 +78,14 @@ left_at xs machines c = passing (ahead xs c) machines
 fewer : (v : View) (t : Trails) (p : Pid) (machines c m k j : ℕ) → Trail v t p → m < machines → slice_get (t p) c ≡ Some m → v.known m p ≡ Forward k j → left_at (t p) machines j < left_at (t p) machines c
 unfolding left_at
 fewer v t p machines c m k j h within at e =
-    let rises = h.behind m k j c e at in
     passing_more (ahead (t p) j) (ahead (t p) c) machines m within
-    (λ i s. let (a, le, f) = where_ahead (t p) j i s in is_ahead (t p) c a i (omega (arith, rises, le)) f)
-    (not_true (ahead (t p) j m) (λ s. let (a, le, f) = where_ahead (t p) j m s in let before = h.behind m k j a e f in absurd (omega (arith, le, before))))
+    (λ i s. let (a, le, f) = where_ahead (t p) j i s in is_ahead (t p) c a i (omega (arith, h.behind m k j c e at, le)) f)
+    (false_from_ne_true (ahead (t p) j m) (λ s. let (a, le, f) = where_ahead (t p) j m s in let before = h.behind m k j a e f in absurd (omega (arith, le, before))))
     (is_ahead (t p) c c m (omega arith) at)
-
-pub less_test : (m n : ℕ) → m < n → nat_lt m n ≡ true
-less_test m n e = grind (arith, nat_tests)
 
 -- a step
 goes_on : (x : Known) (c : ℕ) (next : ℕ → ℕ → Bool) → x ≢ Unknown → ((k j : ℕ) → x ≡ Forward k j → (c < j) × (next j k ≡ true)) → leads_on x c next ≡ true
-goes_on x c next h1 h2 = search (arith, both_true, less_test)
+goes_on x c next h1 h2 = search (arith, both_true, lt-ltb)
 
 left_some : (xs : List ℕ) (machines j k : ℕ) → k < machines → slice_get xs j ≡ Some k → 0 < left_at xs machines j
 unfolding left_at
@@ -102,14 +96,12 @@ walk : (v : View) (t : Trails) (p : Pid) (machines n c m : ℕ) → Trail v t p 
 walk v t p machines zero c m h there most at le =
     goes_on (v.known m p) c (λ d k. false) (there c m at)
     (λ k j e.
-    let less = fewer v t p machines c m k j h (most c m at) at e in
     let next = h.named m k j e in
-    let some = left_some (t p) machines j k (most j k next) next in absurd (omega (arith, le, less, some)))
+    let some = left_some (t p) machines j k (most j k next) next in absurd (omega (arith, le, fewer v t p machines c m k j h (most c m at) at e, some)))
 walk v t p machines (suc n) c m h there most at le =
     goes_on (v.known m p) c (leads v p n) (there c m at)
     (λ k j e.
-    let less = fewer v t p machines c m k j h (most c m at) at e in
-    let next = h.named m k j e in (h.behind m k j c e at, walk v t p machines n j k h there most next (omega (arith, le, less))))
+    let next = h.named m k j e in (h.behind m k j c e at, walk v t p machines n j k h there most next (omega (arith, le, fewer v t p machines c m k j h (most c m at) at e))))
 
 left_most : (xs : List ℕ) (machines c : ℕ) → left_at xs machines c ≤ machines
 unfolding left_at

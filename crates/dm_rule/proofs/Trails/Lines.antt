@@ -1,10 +1,9 @@
 -- Lines that give addresses beside the kernel keep each on its trail: a message that is forwarded, messages that are sent on, an
 -- update, and the first put of a kernel's own message.
-use Rattle.dm_rule.proofs.Names.{◌≡◌, ℕ, ◌+◌, ◌≤◌, ◌&&◌, Bool, true, false, List, [], ◌∷◌, ◌++◌, refl, ap, ◌∙◌, sym, subst, inl, inr, arith, nat_lt, if◌then◌else◌, slice_get, Option, None, Some, cases_Bool, false≢true, Pid, Place, MsgId}
-use Rattle.dm_rule.proofs.Names.{id_eq, MessageKind, manager, OneKernel, pid_eq-is, id_eq-same, View, Told, About, Known, Frozen, Forward, is_kernels, own_id, Addresses, Holder, Receiver, Sender, given, place_known, all_follow}
-use Rattle.dm_rule.proofs.Names.{is_told_back, told_back_gets, forwards, place_told, belongs_to, leads_to, is_pid, is_behind, updated_to, updated, names, times, Trails, Trail, IsOn, AddressesOn, OwnOn, nat_tests}
+use Rattle.dm_rule.proofs.Names.{◌≡◌, ℕ, ◌+◌, ◌≤◌, ◌&&◌, Bool, true, false, List, [], ◌∷◌, ◌++◌, refl, ap, sym, subst, inl, inr, arith, nat_lt, if◌then◌else◌, slice_get, Option, None, Some, cases_Bool, false≢true, Pid, Place, MsgId, id_eq}
+use Rattle.dm_rule.proofs.Names.{MessageKind, manager, OneKernel, pid_eq-is, id_eq-same, View, Told, About, Known, Frozen, Forward, is_kernels, own_id, Addresses, Holder, Receiver, Sender, given, place_known, all_follow, is_told_back}
+use Rattle.dm_rule.proofs.Names.{told_back_gets, forwards, place_told, belongs_to, leads_to, is_pid, is_behind, updated_to, updated, names, times, Trails, Trail, IsOn, AddressesOn, OwnOn, nat_tests, and_parts}
 use Rattle.dm_rule.proofs.Once.{one_of}
-use Rattle.dm_rule.proofs.Lines.{parts}
 use Rattle.dm_rule.proofs.Trails.Places.{Goes, Comes, Named, Links, Owns, AllAre, AllGet, given_on, all_grown}
 
 -- all of them are on their trails, and each kind of holder's are
@@ -19,15 +18,6 @@ receivers_are s v a t h i u k told = h (Receiver i) u.receiver (Owns (Goes i u r
 
 pub senders_are : (s : OneKernel) (v : View) (a : Addresses) (t : Trails) → AllAre s v a t → (i : MsgId) (u : Told) → is_kernels i ≡ true → v.told i ≡ Some u → u.kind ≡ MessageKind.Migrate → IsOn t manager (a (Sender i))
 senders_are s v a t h i u mine told k = h (Sender i) manager (Owns (Comes i u refl mine told k refl))
-
--- what was told stays
-told_back : (s : OneKernel) (v w : View) (h : Holder) (q : Pid) → ((i : MsgId) → w.told i ≡ v.told i) → Named s w h q → Named s v h q
-told_back s v w h q same (Links e) = Links e
-told_back s v w h q same (Owns (Goes i u is k told r)) = Owns (Goes i u is k (sym (same i) ∙ told) r)
-told_back s v w h q same (Owns (Comes i u is mine told k r)) = Owns (Comes i u is mine (sym (same i) ∙ told) k r)
-
-pub all_as : (s : OneKernel) (v w : View) (a : Addresses) (t : Trails) → ((i : MsgId) → w.told i ≡ v.told i) → AllAre s v a t → AllAre s w a t
-all_as s v w a t same h g q e = h g q (told_back s v w g q same e)
 
 pub unnamed_receiver : (s : OneKernel) (v : View) (i : MsgId) (q : Pid) → s.bag i ≡ None → v.told i ≡ None → Named s v (Receiver i) q → ⊥
 unnamed_receiver s v i q h1 h2 h3 = search arith
@@ -76,16 +66,12 @@ pub pid_there : (p : Pid) (o : Option Pid) → is_pid p o ≡ true → o ≡ Som
 pid_there p None e = absurd (false≢true e)
 pid_there p (Some q) e = ap Some (sym (pid_eq-is p q e))
 
-pub leads_names : (s : OneKernel) (h : Holder) (p : Pid) → leads_to s h ≡ Some p → names s h ≡ Some p
-leads_names s h p h1 = search arith
-
 pub leads_where : (s : OneKernel) (v : View) (h : Holder) (p q : Pid) → leads_to s h ≡ Some p → Named s v h q → p ≡ q
-leads_where s v h p q h1 h2 = search (arith, leads_names)
+leads_where s v h p q h1 h2 = let leads_names : (s : OneKernel) (h : Holder) (p : Pid) → leads_to s h ≡ Some p → names s h ≡ Some p = λ s h p h1. search arith in search (arith, leads_names)
 
 pub behind_where : (s : OneKernel) (a : Addresses) (q p : Pid) (n : ℕ) (h : Holder) → is_behind s a q p n h ≡ true → leads_to s h ≡ Some p
 behind_where s a q p n h e =
-    let x = parts (belongs_to q h) (is_pid p (leads_to s h) && nat_lt (a h).moves n) e in
-    let y = parts (is_pid p (leads_to s h)) (nat_lt (a h).moves n) x.1 in pid_there p (leads_to s h) y.0
+    let y = and_parts (is_pid p (leads_to s h)) (nat_lt (a h).moves n) (and_parts (belongs_to q h) (is_pid p (leads_to s h) && nat_lt (a h).moves n) e).1 in pid_there p (leads_to s h) y.0
 
 update_by : (s : OneKernel) (v : View) (a : Addresses) (t : Trails) (r p : Pid) (place : Place) → IsOn t p place → AllAre s v a t → AllAre s v (updated_to s a (Some r) (Some (p, place))) t
 update_by s v a t r p place on h g q e = elim (cases_Bool (is_behind s a r p place.moves g)) [

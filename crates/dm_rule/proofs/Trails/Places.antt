@@ -1,12 +1,11 @@
 -- Addresses that holders get are on trails, where each of them is.
 use Rattle.dm_rule.proofs.Names.{◌≡◌, ℕ, Bool, true, List, [], ◌∷◌, ◌++◌, ap, ◌∙◌, sym, subst, inl, inr, ⊤, if◌then◌else◌, slice_get, Some, cases_Bool, Pid, Place, MsgId, MessageKind, manager, OneKernel, pid_eq-is, id_eq-is, View, Told}
-use Rattle.dm_rule.proofs.Names.{is_kernels, Addresses, Holder, Receiver, Sender, Gets, given, holder_eq, names, Trails, IsOn, arith}
-use Rattle.dm_rule.proofs.Lines.{eq_is, parts}
+use Rattle.dm_rule.proofs.Names.{is_kernels, Addresses, Holder, Receiver, Sender, Gets, given, holder_eq, names, Trails, IsOn, arith, and_parts, eqb-true}
 use Rattle.dm_rule.proofs.Trails.Known.{get_more}
 
 -- holders that test as one are one
 pub holder_is : (g h : Holder) → holder_eq g h ≡ true → g ≡ h
-holder_is g h h1 = search (arith, parts, pid_eq-is, eq_is, id_eq-is)
+holder_is g h h1 = search (arith, and_parts, pid_eq-is, eqb-true, id_eq-is)
 
 -- whose address a holder has, of the kernel without machines and of kernels' own messages
 pub data Owned (v : View) (h : Holder) (q : Pid) : Type 0 where

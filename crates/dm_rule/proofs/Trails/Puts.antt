@@ -29,15 +29,12 @@ put_named s v x y id k q h r none (Owns (Comes i u is mine told move to)) = elim
   | inr apart ↦ inl (Owns (Comes i u is mine (sym (put_told_off v x y id i k q apart) ∙ told) move to))
 ]
 
-own_gets_by : (s : OneKernel) (v : View) (a : Addresses) (t : Trails) (id : MsgId) (q : Pid) (w : Sort) → s.bag id ≡ None → v.told id ≡ None → AllGet s v t (own_given s v a id q w)
-own_gets_by s v a t id q w h1 h2 = search (arith, unnamed_receiver, unnamed_sender)
-
 pub put_all : (s : OneKernel) (v : View) (a : Addresses) (t : Trails) (x y : ℕ) (id : MsgId) (k : MessageKind) (q : Pid) → s.bag id ≡ None → v.told id ≡ None → IsOn t q (given a (own_given s v a id q (sort_of k)) (Receiver id))
     → (k ≡ MessageKind.Migrate → IsOn t manager (given a (own_given s v a id q (sort_of k)) (Sender id))) → AllAre s v a t → AllAre s (after_put v x y id k q) (given a (first_gives (v.told id) (own_given s v a id q (sort_of k)))) t
 put_all s v a t x y id k q bag none to from h g r e =
     subst (λ (o : Option Told). IsOn t r (given a (first_gives o (own_given s v a id q (sort_of k))) g)) (sym none)
     (elim (put_named s v x y id k q g r none e) [
-      | inl old ↦ given_on s v a t (own_given s v a id q (sort_of k)) h (own_gets_by s v a t id q (sort_of k) bag none) g r old
+      | inl old ↦ given_on s v a t (own_given s v a id q (sort_of k)) h (let e_ : AllGet s v t (own_given s v a id q (sort_of k)) = search (arith, unnamed_receiver, unnamed_sender) in e_) g r old
       | inr new ↦ elim new [
         | inl way ↦ subst (λ (i : Holder). IsOn t r (given a (own_given s v a id q (sort_of k)) i)) (sym way.0) (subst (λ (p : Pid). IsOn t p (given a (own_given s v a id q (sort_of k)) (Receiver id))) way.1 to)
         | inr way ↦ subst (λ (i : Holder). IsOn t r (given a (own_given s v a id q (sort_of k)) i)) (sym way.0) (subst (λ (p : Pid). IsOn t p (given a (own_given s v a id q (sort_of k)) (Sender id))) way.2 (from way.1))
@@ -62,15 +59,12 @@ child_is s p n e =
     let next : n ≡ suc j = omega (arith, is) in ap (λ (k : ℕ). names s (Child k)) next ∙ at
 
 -- a message that was put before: nothing changes
-kept_told : (o : Option Told) (u w : Told) → o ≡ Some u → Some (view.first_told o w) ≡ o
-kept_told None u w e = cc
-kept_told (Some v) u w e = refl
-
 pub told_again : (v : View) (x y : ℕ) (id : MsgId) (k : MessageKind) (q : Pid) (u : Told) → v.told id ≡ Some u → (i : MsgId) → (after_put v x y id k q).told i ≡ v.told i
 told_again v x y id k q u told i = elim (cases_Bool (id_eq id i)) [
   | inl same ↦
       let at : id ≡ i = id_eq-is id i same in
-      ap (λ (j : MsgId). (after_put v x y id k q).told j) (sym at) ∙ put_at v x y id k q ∙ kept_told (v.told id) u (record { kind = k; receiver = q; about = v.topic }) told ∙ ap v.told at
+      ap (λ (j : MsgId). (after_put v x y id k q).told j) (sym at) ∙ put_at v x y id k q ∙
+      ((elim (v.told id) as (λ o_. o_ ≡ Some u → Some (view.first_told o_ (record { kind = k; receiver = q; about = v.topic })) ≡ o_) [ None ↦ λ e'. cc | Some v' ↦ λ e'. refl ]) told) ∙ ap v.told at
   | inr apart ↦ put_told_off v x y id i k q apart
 ]
 
@@ -85,16 +79,13 @@ is_own_sort _ = false
 abbrev pub is_own : MessageKind → Bool
 is_own k = is_own_sort (sort_of k)
 
-plain_given : (s : OneKernel) (v : View) (a : Addresses) (id : MsgId) (q : Pid) (w : Sort) → is_own_sort w ≡ false → own_given s v a id q w ≡ []
-plain_given s v a id q w h1 = search arith
-
 pub plain_gives : (s : OneKernel) (v : View) (a : Addresses) (id : MsgId) (q : Pid) (k : MessageKind) → is_own k ≡ false → own_given s v a id q (sort_of k) ≡ []
-plain_gives s v a id q k e = plain_given s v a id q (sort_of k) e
+plain_gives s v a id q k e = search arith
 
 pub not_own : (k : MessageKind) → is_own k ≡ false → k ≡ MessageKind.Migrate → ⊥
 not_own k plain e = false≢true (sym plain ∙ ap is_own e)
 
-routed_named : (s : OneKernel) (v : View) (x y : ℕ) (id : MsgId) (k : MessageKind) (q : Pid) (h : Holder) (r : Pid) → is_kernels id ≡ false → is_own k ≡ false → v.told id ≡ None → Named s (after_put v x y id k q) h r → Named s v h r
+pub routed_named : (s : OneKernel) (v : View) (x y : ℕ) (id : MsgId) (k : MessageKind) (q : Pid) (h : Holder) (r : Pid) → is_kernels id ≡ false → is_own k ≡ false → v.told id ≡ None → Named s (after_put v x y id k q) h r → Named s v h r
 routed_named s v x y id k q h r other plain none (Links e) = Links e
 routed_named s v x y id k q h r other plain none (Owns (Goes i u is own told to)) = elim (cases_Bool (id_eq id i)) [
   | inl same ↦ absurd (false≢true (sym other ∙ ap is_kernels (id_eq-is id i same) ∙ own))

@@ -2,9 +2,8 @@
 use Rattle.dm_rule.proofs.Names.{◌≡◌, ℕ, ◌+◌, ◌==◌, ◌&&◌, Bool, true, false, not, List, [], ◌∷◌, ◌++◌, length, map, refl, ap, ◌∙◌, sym, subst, if◌then◌else◌, Option, None, Some, false≢true, Pid, Place, pid_eq, PlainLink, first_empty, MsgId}
 use Rattle.dm_rule.proofs.Names.{id_eq, PlainMessage, PlainWhat, Label, Reply, switchboard, manager, bind, PlainProcess, reg, NamedLink, OneKernel, with_sent, answer_id, id_eq-is, id_eq-same, sent_at, bind-is, when-is, View, is_kernels}
 use Rattle.dm_rule.proofs.Names.{Addresses, Holder, Slot, Owner, Receiver, Sender, Enclosed, Answer, Gets, gets, given, gives, holder_eq, encloses, enclosed_from, sends_burden, fills, call_gets, receives_links, slot_after, landing_gets}
-use Rattle.dm_rule.proofs.Names.{serves_burden, child_links, board_finds, board_keeps, board_takes_burden, manager_tells_burden, manager_sends, manager_answers, manager_takes_burden, both_true, at_hand-is, burden_of, option_map_or, arith}
-use Rattle.dm_rule.proofs.Names.{nat_tests}
-use Rattle.dm_rule.proofs.Lines.{not_true}
+use Rattle.dm_rule.proofs.Names.{serves_burden, child_links, board_finds, board_keeps, board_takes_burden, manager_tells_burden, manager_sends, manager_takes_burden, both_true, at_hand-is, burden_of, option_map_or, arith, nat_tests}
+use Rattle.dm_rule.proofs.Names.{and_parts, not-true, false_from_ne_true, and_right}
 use Rattle.dm_onekernel.specs.Calls as calls
 use Rattle.dm_onekernel.specs.Pieces as pieces
 use Rattle.dm_onekernel.specs.Switchboard as board
@@ -13,6 +12,8 @@ use Rattle.dm_onekernel.specs.Service as service
 use Rattle.dm_onekernel.specs.Step as kernel
 use Rattle.dm_rule.specs.Addresses as addresses
 use Rattle.dm_rule.specs.Given as request
+pub use Rattle.std.proofs.lemmas.Bool.{not-true as not_is}
+pub use Rattle.dm_laws.proofs.Facts.{and_no}
 
 -- these are none of a message's receiver and sender
 abbrev pub spares_one : MsgId → Holder → Bool
@@ -24,44 +25,33 @@ abbrev pub spares : MsgId → List Gets → Bool
 spares i [] = true
 spares i (g ∷ gs) = spares_one i g.holder && spares i gs
 
-pub not_is : (b : Bool) → not b ≡ true → b ≡ false
-not_is b h1 = search arith
-
-both : (b c : Bool) → (b && c) ≡ true → (b ≡ true) × (c ≡ true)
-both true c e = (refl, e)
-both false c e = absurd (false≢true e)
-
 pub spared_receiver : (a : Addresses) (i : MsgId) (gs : List Gets) → spares i gs ≡ true → given a gs (Receiver i) ≡ a (Receiver i)
 spared_receiver a i [] e = refl
 spared_receiver a i (g ∷ gs) e =
-    let x = both (spares_one i g.holder) (spares i gs) e in
+    let x = and_parts (spares_one i g.holder) (spares i gs) e in
     ap (λ (c : Bool). if c then g.place else given a gs (Receiver i)) ((elim g.holder as (λ h. spares_one i h ≡ true → holder_eq h (Receiver i) ≡ false)
-    [ Receiver j ↦ λ e. not_is (id_eq j i) e | _ ↦ λ e. refl ]) x.0) ∙ spared_receiver a i gs x.1
+    [ Receiver j ↦ λ e. not-true (id_eq j i) e | _ ↦ λ e. refl ]) x.0) ∙ spared_receiver a i gs x.1
 
 pub spared_sender : (a : Addresses) (i : MsgId) (gs : List Gets) → spares i gs ≡ true → given a gs (Sender i) ≡ a (Sender i)
 spared_sender a i [] e = refl
 spared_sender a i (g ∷ gs) e =
-    let x = both (spares_one i g.holder) (spares i gs) e in
+    let x = and_parts (spares_one i g.holder) (spares i gs) e in
     ap (λ (c : Bool). if c then g.place else given a gs (Sender i)) ((elim g.holder as (λ h. spares_one i h ≡ true → holder_eq h (Sender i) ≡ false)
-    [ Sender j ↦ λ e. not_is (id_eq j i) e | _ ↦ λ e. refl ]) x.0) ∙ spared_sender a i gs x.1
+    [ Sender j ↦ λ e. not-true (id_eq j i) e | _ ↦ λ e. refl ]) x.0) ∙ spared_sender a i gs x.1
 
 pub spares_both : (i : MsgId) (xs ys : List Gets) → spares i xs ≡ true → spares i ys ≡ true → spares i (xs ++ ys) ≡ true
 spares_both i [] ys e f = f
-spares_both i (x ∷ xs) ys e f = let z = both (spares_one i x.holder) (spares i xs) e in both_true (spares_one i x.holder) (spares i (xs ++ ys)) z.0 (spares_both i xs ys z.1 f)
+spares_both i (x ∷ xs) ys e f = let z = and_parts (spares_one i x.holder) (spares i xs) e in both_true (spares_one i x.holder) (spares i (xs ++ ys)) z.0 (spares_both i xs ys z.1 f)
 
 -- a message that isn't a kernel's own
 apart : (i j : MsgId) → is_kernels i ≡ true → is_kernels j ≡ false → id_eq j i ≡ false
-apart i j own other = not_true (id_eq j i) (λ e. false≢true (sym other ∙ ap is_kernels (id_eq-is j i e) ∙ own))
+apart i j own other = false_from_ne_true (id_eq j i) (λ e. false≢true (sym other ∙ ap is_kernels (id_eq-is j i e) ∙ own))
 
 pub two_more : (i j : MsgId) (gs : List Gets) → id_eq j i ≡ false → spares i gs ≡ true → (not (id_eq j i) && (not (id_eq j i) && spares i gs)) ≡ true
 two_more i j gs e f = ap (λ (c : Bool). not c && (not c && spares i gs)) e ∙ f
 
-pub and_no : (b : Bool) → (b && false) ≡ false
-and_no true = refl
-and_no false = refl
-
 answers_apart : (i id : MsgId) → is_kernels i ≡ true → id_eq (answer_id id) i ≡ false
-answers_apart i id own = apart i (answer_id id) own (and_no (id.from.num == 0))
+answers_apart i id own = apart i (answer_id id) own (and_right (id.from.num == 0) false refl)
 
 pub encloses_spares : (i id : MsgId) (n : ℕ) (ps : List Place) → spares i (encloses id n ps) ≡ true
 encloses_spares i id n [] = refl
@@ -83,13 +73,9 @@ pub sends_what_spares : (v : View) (a : Addresses) (p : Pid) (x : PlainProcess) 
 sends_what_spares v a p x id (PlainWhat.User b1 b2 b3 b4) i e = two_more i id (encloses id 0 (map (λ (n : ℕ). a (Slot p n)) (calls.listed x))) e (encloses_spares i id 0 (map (λ (n : ℕ). a (Slot p n)) (calls.listed x)))
 sends_what_spares v a p x id _ i e = two_more i id (gets (Owner p) (a (Slot p (reg x.regs 1))) ∷ []) e refl
 
-pub sends_next_spares : (v : View) (a : Addresses) (p : Pid) (x : PlainProcess) (id : MsgId) (o : Option kernel.Trap) (i : MsgId) → id_eq id i ≡ false → spares i (addresses.sends_next v a p x id o) ≡ true
-sends_next_spares v a p x id (Some (kernel.Calls number (calls.Sends m y))) i e = sends_what_spares v a p x id m.what i e
-sends_next_spares v a p x id _ i e = refl
-
 pub sends_spares : (s : OneKernel) (v : View) (a : Addresses) (p : Pid) (id : MsgId) (o : Option PlainProcess) (i : MsgId) → id_eq id i ≡ false → spares i (addresses.send_gets s v a p id o) ≡ true
 sends_spares s v a p id None i e = refl
-sends_spares s v a p id (Some x) i e = sends_next_spares v a p x id (kernel.next_trap s p) i e
+sends_spares s v a p id (Some x) i e = (elim (kernel.next_trap s p) as (λ o_. spares i (addresses.sends_next v a p x id o_) ≡ true) [ Some (kernel.Calls number' (calls.Sends m' y')) ↦ sends_what_spares v a p x id m'.what i e | _ ↦ refl ])
 
 -- what a step puts into the bag isn't a kernel's own
 abbrev pub Outside : OneKernel → Type 0
@@ -123,8 +109,7 @@ lands_spares : (s t : OneKernel) (v : View) (a : Addresses) (id : MsgId) (m : Pl
     → spares i (landing_gets v a m.to (pieces.lands m.to x m x.status)) ≡ true
 lands_spares s t v a id m x i out own e =
     let (c, is, last) = bind-is (pieces.lands m.to x m x.status) (λ (w : pieces.Landed). Some (service.landed s id m w)) t e in
-    let k : service.landed s id m c ≡ t = cc in
-    subst (λ (o : Option pieces.Landed). spares i (landing_gets v a m.to o) ≡ true) (sym is) (landed_spares s t v a id m c i out own k)
+    subst (λ (o : Option pieces.Landed). spares i (landing_gets v a m.to o) ≡ true) (sym is) (landed_spares s t v a id m c i out own (let k : service.landed s id m c ≡ t = cc in k))
 
 serve_spares : (s t : OneKernel) (v : View) (a : Addresses) (id : MsgId) (m : PlainMessage) (x : PlainProcess) (w : PlainWhat) (i : MsgId) → Outside t → is_kernels i ≡ true → service.serves s id m x w ≡ Some t → spares i (serves_burden v a id m x (burden_of w)) ≡ true
 serve_spares s t v a id m x w i h1 h2 h3 = search (arith, two_more, answers_apart, lands_spares)
@@ -155,21 +140,17 @@ pub manager_sends_spares : (v : View) (a : Addresses) (id : MsgId) (code : ℕ) 
 manager_sends_spares v a id code None i e = refl
 manager_sends_spares v a id code (Some sent) i e = tells_spares v a id code sent sent.what i (e sent refl)
 
-pub manager_answers_spares : (v : View) (a : Addresses) (n : ℕ) (o : Option PlainMessage) (i : MsgId) → ((m : PlainMessage) → o ≡ Some m → id_eq m.id i ≡ false) → spares i (manager_answers v a n o) ≡ true
-manager_answers_spares v a n o i h1 = search (arith, two_more)
-
 pub manager_takes_spares : (s : OneKernel) (v : View) (a : Addresses) (m : PlainMessage) (w : PlainWhat) (o : Option manage.ManagerTook) (i : MsgId) → ((k : manage.ManagerTook) → o ≡ Some k → (x : PlainMessage) → k.message ≡ Some x → id_eq x.id i ≡ false) → spares i (manager_takes_burden s v a m (burden_of w) o) ≡ true
 manager_takes_spares s v a m (PlainWhat.User b1 b2 b3 b4) None i e = refl
 manager_takes_spares s v a m (PlainWhat.User b1 b2 b3 b4) (Some k) i e = manager_sends_spares v a m.id b1 k.message i (e k refl)
 manager_takes_spares s v a m _ None i e = refl
-manager_takes_spares s v a m _ (Some k) i e = manager_answers_spares v a m.id.n k.message i (e k refl)
+manager_takes_spares s v a m _ (Some k) i e = search (arith, two_more, e k refl)
 
 took_outside : (s t : OneKernel) (id : MsgId) (k : manage.ManagerTook) (i : MsgId) (o : Option PlainMessage) → k.message ≡ o → Outside t → is_kernels i ≡ true → service.manager_took s id k ≡ t → (x : PlainMessage) → o ≡ Some x → id_eq x.id i ≡ false
 took_outside s t id k i None is out own e x f = cc
 took_outside s t id k i (Some y) is out own e x f =
     let u = record (service.without_message s id) { manager = k.manager } in
-    let g : y ≡ x = cc in
-    subst (λ (z : PlainMessage). id_eq z.id i ≡ false) g (apart i y.id own (new_outside u t y out (ap (with_sent u) (sym is) ∙ e)))
+    subst (λ (z : PlainMessage). id_eq z.id i ≡ false) (let g : y ≡ x = cc in g) (apart i y.id own (new_outside u t y out (ap (with_sent u) (sym is) ∙ e)))
 
 takes_spares : (s t : OneKernel) (v : View) (a : Addresses) (id : MsgId) (m : PlainMessage) (b c : Bool) (i : MsgId) → Outside t → is_kernels i ≡ true
     → (if b then bind (board.board_takes s.switchboard m m.what) (λ (k : board.BoardTook). Some (service.switchboard_took s id k))

@@ -1,15 +1,10 @@
 -- Before the first line each process's trail is its home, and each address names it.
-use Rattle.dm_rule.proofs.Names.{◌≡◌, ◌≢◌, ℕ, ◌==◌, ◌&&◌, Bool, true, false, [], ◌∷◌, refl, ◌∙◌, sym, arith, if◌then◌else◌, slice_get, None, Some, nat_tests, Pid, Boot, IsValid, Unknown, Here, Forward, first_view, first_point, Trail}
-use Rattle.dm_rule.proofs.Names.{StoodOnTrail, Trailed, first_trails, both_true}
-use Rattle.dm_rule.proofs.Homes.Start.{Homes-start}
+use Rattle.dm_rule.proofs.Names.{◌≡◌, ◌≢◌, ℕ, ◌==◌, ◌&&◌, Bool, true, false, refl, ◌∙◌, sym, arith, if◌then◌else◌, None, Some, nat_tests, Pid, Boot, Unknown, Here, Forward, first_view, Trail, StoodOnTrail, first_trails, both_true}
 use Rattle.dm_rule.proofs.Phases.Start.{starts, start_known, start_phase}
 
 start_no_forward : (b : Bool) (k j : ℕ) → (if b then Here else Unknown) ≢ Forward k j
 start_no_forward true k j = λ e. cc
 start_no_forward false k j = λ e. cc
-
-start_place : (p : Pid) (c m : ℕ) → slice_get (p.home ∷ []) c ≡ Some m → (p.home == m) ≡ true
-start_place p c m h1 = search arith
 
 here_not : (b : Bool) → b ≡ true → (if b then Here else Unknown) ≢ Unknown
 here_not b h1 = grind (arith, nat_tests)
@@ -22,12 +17,9 @@ trail_start b p = record {
   kept = λ m n c e f g.
       let some : starts b.processes p ≡ true = (elim (starts b.processes p) as (λ b_. (if b_ && (p.home == n) then Here else Unknown) ≢ Unknown → b_ ≡ true)
       [ true ↦ λ e_. refl | false ↦ λ e_. absurd (e_ refl) ]) (λ x. e (start_known b.processes n p ∙ x)) in
-      here_not (starts b.processes p && (p.home == m)) (both_true (starts b.processes p) (p.home == m) some (start_place p c m f)) (sym (start_known b.processes m p) ∙ g);
+      here_not (starts b.processes p && (p.home == m)) (both_true (starts b.processes p) (p.home == m) some (let e_ : (p.home == m) ≡ true = search arith in e_)) (sym (start_known b.processes m p) ∙ g);
 }
 
-stood_start : (b : Boot) (p : Pid) (s : Bool) → StoodOnTrail (first_view b) first_trails p (start_phase s p)
+pub stood_start : (b : Boot) (p : Pid) (s : Bool) → StoodOnTrail (first_view b) first_trails p (start_phase s p)
 stood_start b p true = record { now = refl; next = λ d e. absurd (let f : None ≡ Some d = e in cc); long = refl; unmade = λ e. refl }
 stood_start b p false = record { now = refl; next = λ d e. absurd (let f : None ≡ Some d = e in cc); long = refl; unmade = λ e. refl }
-
-pub trailed_start : (b : Boot) → IsValid b → Trailed (first_point b) first_trails (λ p. start_phase (starts b.processes p) p)
-trailed_start b valid = search (arith, trail_start b, stood_start, b.processes, Homes-start)

@@ -1,26 +1,26 @@
 -- Each line of a migration, of an end and of a birth keeps what machines know in agreement with the trails.
 use Rattle.dm_rule.proofs.Names.{◌≡◌, ◌≢◌, ℕ, ◌+◌, ◌==◌, Bool, true, false, not, List, [], ◌∷◌, ◌++◌, length, refl, ap, ◌∙◌, sym, subst, inl, inr, arith, if◌then◌else◌, slice_get, Option, Some, cases_Bool, false≢true, append-nil, Pid}
 use Rattle.dm_rule.proofs.Names.{pid_eq, MsgId, MessageKind, Line, Stage, at_record, View, Known, Unknown, Here, Frozen, Incoming, Ended, view_after, front_of, gone_to, Nowhere, Moves, IsIn, kind_comes, is_restart, is_early, is_between}
-use Rattle.dm_rule.proofs.Names.{is_away, Trails, Trail, StoodOnTrail, destination, trails_after, pid_eq-is, pid_eq-same, kind_leaves}
-use Rattle.dm_rule.proofs.Lines.{eq_is, parts, not_true, eq_self}
+use Rattle.dm_rule.proofs.Names.{is_away, Trails, Trail, StoodOnTrail, destination, trails_after, pid_eq-is, pid_eq-same, kind_leaves, and_parts, eqb-true, false_from_ne_true, slice_get_within}
+use Rattle.dm_rule.proofs.Lines.{eq_self}
 use Rattle.dm_rule.proofs.Seen.{aim, sets}
-use Rattle.dm_rule.proofs.Trails.Known.{trail_same, trail_learns, trail_made, trail_grows, trail_left, home_alone}
+use Rattle.dm_rule.proofs.Trails.Known.{trail_same, trail_learns, trail_made, trail_left, trail_grows}
 
 pub holds_is : (k : MessageKind) (d : ℕ) (x : Known) → is_restart k ≡ false → kind_leaves k d x ≡ true → x ≡ Frozen d
-holds_is k d x h1 h2 = search (arith, parts, eq_is)
+holds_is k d x h1 h2 = search (arith, and_parts, eqb-true)
 
 pub expects_is : (k : MessageKind) (s : ℕ) (x : Known) → is_early k ≡ false → kind_comes k s x ≡ true → x ≡ Incoming s
-expects_is k s x h1 h2 = search (arith, parts, eq_is)
+expects_is k s x h1 h2 = search (arith, and_parts, eqb-true)
 
 pub two_apart : (v : View) (p : Pid) (k : MessageKind) (s d : ℕ) (o : Option MsgId) → IsIn v p (Moves k s d o) → d ≢ s
-two_apart v p k s d o h e = let both = parts (is_between k) (not (s == d)) h.apart in false≢true (sym (ap not (ap (λ (n : ℕ). s == n) e ∙ eq_self s)) ∙ both.1)
+two_apart v p k s d o h e = let both = and_parts (is_between k) (not (s == d)) h.apart in false≢true (sym (ap not (ap (λ (n : ℕ). s == n) e ∙ eq_self s)) ∙ both.1)
 
 pub source_holds : (v : View) (p : Pid) (k : MessageKind) (s d : ℕ) (o : Option MsgId) → IsIn v p (Moves k s d o) → is_restart k ≡ false → v.known s p ≡ Frozen d
 source_holds v p k s d o h e = holds_is k d (v.known s p) e (sym (ap (λ (c : Bool). if c then kind_leaves k d (v.known s p) else if d == s then kind_comes k s (v.known s p) else is_away (v.known s p)) (eq_self s)) ∙ h.known s)
 
 pub destination_expects : (v : View) (p : Pid) (k : MessageKind) (s d : ℕ) (o : Option MsgId) → IsIn v p (Moves k s d o) → is_early k ≡ false → v.known d p ≡ Incoming s
 destination_expects v p k s d o h e =
-    let off : (s == d) ≡ false = not_true (s == d) (λ x. two_apart v p k s d o h (sym (eq_is s d x))) in
+    let off : (s == d) ≡ false = false_from_ne_true (s == d) (λ x. two_apart v p k s d o h (sym (eqb-true s d x))) in
     expects_is k s (v.known d p) e
     (sym (ap (λ (c : Bool). if c then kind_leaves k d (v.known d p) else if d == d then kind_comes k s (v.known d p) else is_away (v.known d p)) off ∙ ap (λ (c : Bool). if c then kind_comes k s (v.known d p) else is_away (v.known d p)) (eq_self d)) ∙ h.known d)
 
@@ -53,12 +53,8 @@ accepted_trail v t p q k s d o phase e h =
     (λ known on. trail_learns v (view_after v (Line.Migration Stage.Accepted p)) t p x s known (λ i j f. cc) (λ f. cc) (λ f. let g : Frozen d ≡ Unknown = sym (source_holds v p k s d o phase e) ∙ f in cc) on) h
 
 -- it is here again: step 8, or it stays
-back_trail : (v w : View) (t : Trails) (p q : Pid) (n : ℕ) → w.known ≡ at_record v.known v.acting p Here → v.known n p ≢ Unknown → Trail v t q → Trail w t q
+pub back_trail : (v w : View) (t : Trails) (p q : Pid) (n : ℕ) → w.known ≡ at_record v.known v.acting p Here → v.known n p ≢ Unknown → Trail v t q → Trail w t q
 back_trail v w t p q n known there h = set_trail v w t p q Here known (λ at on. trail_learns v w t p Here n at (λ i j f. cc) (λ f. cc) there on) h
-
-pub restarted_trail : (v : View) (t : Trails) (p q : Pid) (k : MessageKind) (s d : ℕ) (o : Option MsgId) → IsIn v p (Moves k s d o) → is_early k ≡ false → Trail v t q → Trail (view_after v (Line.Migration Stage.Restarted p)) t q
-restarted_trail v t p q k s d o phase e h =
-    back_trail v (view_after v (Line.Migration Stage.Restarted p)) t p q d refl (λ f. let g : Incoming s ≡ Unknown = sym (destination_expects v p k s d o phase e) ∙ f in cc) h
 
 pub stays_trail : (v : View) (t : Trails) (p q : Pid) (k : MessageKind) (s d : ℕ) (o : Option MsgId) → IsIn v p (Moves k s d o) → is_restart k ≡ false → Trail v t q → Trail (view_after v (Line.Stays p)) t q
 stays_trail v t p q k s d o phase e h = back_trail v (view_after v (Line.Stays p)) t p q s refl (λ f. let g : Frozen d ≡ Unknown = sym (source_holds v p k s d o phase e) ∙ f in cc) h
@@ -70,6 +66,10 @@ ended_trail v w t p q known here h = set_trail v w t p q Ended known (λ at on. 
 -- it is made at home
 pub born_trail : (v w : View) (t : Trails) (p q : Pid) → w.known ≡ at_record v.known v.acting p Here → ((m : ℕ) → v.known m p ≡ Unknown) → p.home ≡ v.acting → StoodOnTrail v t p Nowhere → Trail v t q → Trail w t q
 born_trail v w t p q known unknown home stood h =
+    -- the trail of a process that was never made is its home alone
+    let home_alone : (v : View) (t : Trails) (p : Pid) → Trail v t p → StoodOnTrail v t p Nowhere → (c m : ℕ) → slice_get (t p) c ≡ Some m → m ≡ p.home = λ v t p h s c m e.
+      let within = slice_get_within (t p) c m e in
+      search arith in
     set_trail v w t p q Here known (λ at on. trail_made v w t p at unknown (λ c m e. home_alone v t p on stood c m e ∙ home) on) h
 
 -- step 6: what came for it is sent on, and its trail is longer by its destination

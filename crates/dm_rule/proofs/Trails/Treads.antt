@@ -1,6 +1,6 @@
 -- Each line keeps the trails, what machines know, and all addresses in agreement, where it fits.
 use Rattle.dm_rule.proofs.Names.{◌≡◌, ◌≢◌, ℕ, ◌+◌, ◌≤◌, Bool, true, false, List, ◌++◌, length, refl, ap, ◌∙◌, sym, subst, ⊤, ◌==◌, not, filter, slice_get, Option, None, Some, Pid, MsgId, MessageKind, manager, Label, OneKernel, Step}
-use Rattle.dm_rule.proofs.Names.{bind-is, Line, Stage, View, Told, Known, Unknown, Here, Frozen, Forward, is_kernels, own_id, view_after, after_label, after_head, after_put, after_proto, handled, taken_id, queued_for, held_for}
+use Rattle.dm_rule.proofs.Names.{bind-is, Line, Stage, View, Told, Known, Unknown, Here, Frozen, Forward, is_kernels, own_id, view_after, after_label, after_head, after_put, after_proto, handled, taken_id, queued_for, held_for, Incoming}
 use Rattle.dm_rule.proofs.Names.{forwarded_for, forward_about, served_told, ends_by, receiver_of, Addresses, Receiver, Sender, given, forwards, all_follow, own_given, first_gives, addresses_after, ascends, Nowhere, Moves, IsIn, is_restart}
 use Rattle.dm_rule.proofs.Names.{is_early, Point, moved, after_line, times, Trails, Trail, StoodOnTrail, IsOn, AddressesOn, OwnOn, trails_after, gives, seen, sort_of, arith}
 use Rattle.dm_rule.proofs.Hushed.{hushed}
@@ -9,12 +9,12 @@ use Rattle.dm_rule.proofs.Homes.Labels.{SaidOn}
 use Rattle.dm_rule.proofs.Phases.Lines.{queued_known, held_known, dropped_known, forwarded_known}
 use Rattle.dm_rule.proofs.Phases.Pieces.{proto_known}
 use Rattle.dm_rule.proofs.Trails.Known.{get_at_end, trail_same}
-use Rattle.dm_rule.proofs.Trails.Places.{Named, AllAre, on_grown}
-use Rattle.dm_rule.proofs.Trails.Lines.{all_are, links_are, receivers_are, senders_are, all_as, forwarded_all, sent_on_all, updated_all}
+use Rattle.dm_rule.proofs.Trails.Places.{Named, AllAre, on_grown, Links, Goes, Comes, Owns}
+use Rattle.dm_rule.proofs.Trails.Lines.{all_are, links_are, receivers_are, senders_are, forwarded_all, sent_on_all, updated_all}
 use Rattle.dm_rule.proofs.Trails.Puts.{is_own, put_all, put_routed, told_again, about_put}
-use Rattle.dm_rule.proofs.Trails.Steps.{frozen_trail, accepted_trail, restarted_trail, stays_trail, ended_trail, born_trail, sent_on_at, sent_on_grows, sent_on_trail, left_line_trail, source_holds}
+use Rattle.dm_rule.proofs.Trails.Steps.{frozen_trail, accepted_trail, stays_trail, ended_trail, born_trail, sent_on_at, sent_on_grows, sent_on_trail, left_line_trail, source_holds, back_trail, destination_expects}
 use Rattle.dm_rule.proofs.Trails.Spares.{Outside}
-use Rattle.dm_rule.proofs.Trails.Labels.{label_links, label_pending, label_own}
+use Rattle.dm_rule.proofs.Trails.Labels.{label_links, label_own, label_pending}
 use Rattle.dm_onekernel.specs.Step as kernel
 use Rattle.dm_rule.specs.View as view
 use Rattle.dm_rule.proofs.Homes.Serves as serves
@@ -110,7 +110,7 @@ own_of s v a t h about topic = record { receiver = receivers_are s v a t h; send
 same_topic : (v w : View) (a : Addresses) (t : Trails) → w.topic ≡ v.topic → OwnOn v a t → (p : Pid) (m c : ℕ) → w.topic ≡ view.Place p m c → slice_get (t p) c ≡ Some m
 same_topic v w a t same h p m c e = h.topic p m c (sym same ∙ e)
 
-abbrev at_view : Point → View → Point
+abbrev pub at_view : Point → View → Point
 at_view pt w = record { kernel = pt.kernel; view = w; addresses = pt.addresses }
 
 learns_treads : (pt : Point) (w : View) (t : Trails) → ((q : Pid) → Trail w t q) → w.told ≡ pt.view.told → ((p : Pid) (m c : ℕ) → w.topic ≡ view.Place p m c → slice_get (t p) c ≡ Some m) → Treads pt t → Treads (at_view pt w) t
@@ -200,7 +200,6 @@ forwarded_treads pt t id m fits h =
 sent_on_treads : (pt : Point) (t : Trails) (p : Pid) (n : ℕ) → SentOnFits pt t p → Treads pt t → Treads (moved pt (Line.SentOn p n) pt.kernel) (trails_after pt.view t (Line.SentOn p n))
 sent_on_treads pt t p n fits h =
     let v = pt.view in
-    let w = view_after v (Line.SentOn p n) in
     let u = trails_after v t (Line.SentOn p n) in
     let ids = v.queue v.acting p ++ v.held v.acting p in
     let b = given pt.addresses (all_follow v pt.addresses p ids) in
@@ -211,7 +210,7 @@ sent_on_treads pt t p n fits h =
     record {
       trail = λ q. sent_on_trail v t p q n fits.s fits.d fits.o fits.phase fits.acts (h.trail q);
       links = links_are pt.kernel v b u all;
-      own = own_as v w b u refl (λ r m c e. cc) (own_of pt.kernel v b u all
+      own = own_as v (view_after v (Line.SentOn p n)) b u refl (λ r m c e. cc) (own_of pt.kernel v b u all
           (λ i x r m c e f. let (ds, more) = grows r in on_grown t u r (record { at = m; moves = c }) ds more (h.own.about i x r m c e f))
           (λ r m c e. let (ds, more) = grows r in on_grown t u r (record { at = m; moves = c }) ds more (h.own.topic r m c e)));
       pending = h.pending;
@@ -221,20 +220,22 @@ sent_on_treads pt t p n fits h =
 updated_treads : (pt : Point) (t : Trails) (id : MsgId) (n : ℕ) → Treads pt t → Treads (moved pt (Line.Updated id n) pt.kernel) t
 updated_treads pt t id n h =
     let v = pt.view in
-    let w = view_after v (Line.Updated id n) in
     let b = addresses_after pt.kernel v pt.addresses (Line.Updated id n) in
     let all = updated_all pt.kernel v pt.addresses t (v.told id) (λ u p m c e f. h.own.about id u p m c e f) (all_are pt.kernel v pt.addresses t h.links h.own) in
     record {
       trail = λ q. handled_trail v t id q (h.trail q);
       links = links_are pt.kernel v b t all;
-      own = own_as v w b t refl h.own.topic (own_of pt.kernel v b t all h.own.about h.own.topic);
+      own = own_as v (view_after v (Line.Updated id n)) b t refl h.own.topic (own_of pt.kernel v b t all h.own.about h.own.topic);
       pending = h.pending;
     }
 
 -- a put
+-- what was told stays
 put_are : (pt : Point) (t : Trails) (x y : ℕ) (id : MsgId) (k : MessageKind) (q : Pid) → PutFits pt t id k q → AllAre pt.kernel pt.view pt.addresses t
     → AllAre pt.kernel (after_put pt.view x y id k q) (given pt.addresses (first_gives (pt.view.told id) (own_given pt.kernel pt.view pt.addresses id q (sort_of k)))) t
 put_are pt t x y id k q (Again u told) h =
+    let all_as : (s : OneKernel) (v w : View) (a : Addresses) (t : Trails) → ((i : MsgId) → w.told i ≡ v.told i) → AllAre s v a t → AllAre s w a t = λ s v w a t same h g q e. h g q
+    (elim e [ Links e' ↦ Links e' | Owns (Goes i' u' is' k' told' r') ↦ Owns (Goes i' u' is' k' (sym (same i') ∙ told') r') | Owns (Comes i' u' is' mine' told' k' r') ↦ Owns (Comes i' u' is' mine' (sym (same i') ∙ told') k' r') ]) in
     subst (λ (o : Option Told). AllAre pt.kernel (after_put pt.view x y id k q) (given pt.addresses (first_gives o (own_given pt.kernel pt.view pt.addresses id q (sort_of k)))) t) (sym told)
     (all_as pt.kernel pt.view (after_put pt.view x y id k q) pt.addresses t (told_again pt.view x y id k q u told) h)
 put_are pt t x y id k q (Own bag none to from) h = put_all pt.kernel pt.view pt.addresses t x y id k q bag none to from h
@@ -261,15 +262,17 @@ stage_treads pt t p Stage.Frozen here h =
 stage_treads pt t p Stage.Asked fits h = quiet_treads pt (view_after pt.view (Line.Migration Stage.Asked p)) t (λ m q. refl) refl h.own.topic h
 stage_treads pt t p Stage.Accepted fits h = learns_treads pt (view_after pt.view (Line.Migration Stage.Accepted p)) t (λ q. accepted_trail pt.view t p q fits.k fits.s fits.d fits.o fits.phase fits.off (h.trail q)) refl (λ r m c e. cc) h
 stage_treads pt t p Stage.Left fits h = learns_treads pt (view_after pt.view (Line.Migration Stage.Left p)) t (λ q. left_line_trail pt.view t p q fits.d fits.holds fits.at fits.long fits.apart (h.trail q)) refl (λ r m c e. cc) h
-stage_treads pt t p Stage.Restarted fits h = learns_treads pt (view_after pt.view (Line.Migration Stage.Restarted p)) t (λ q. restarted_trail pt.view t p q fits.k fits.s fits.d fits.o fits.phase fits.off (h.trail q)) refl h.own.topic h
+stage_treads pt t p Stage.Restarted fits h =
+    let restarted_trail : (v : View) (t : Trails) (p q : Pid) (k : MessageKind) (s d : ℕ) (o : Option MsgId) → IsIn v p (Moves k s d o) → is_early k ≡ false → Trail v t q → Trail (view_after v (Line.Migration Stage.Restarted p)) t q =
+      λ v t p q k s d o phase e h. back_trail v (view_after v (Line.Migration Stage.Restarted p)) t p q d refl (λ f. let g : Incoming s ≡ Unknown = sym (destination_expects v p k s d o phase e) ∙ f in cc) h in
+    learns_treads pt (view_after pt.view (Line.Migration Stage.Restarted p)) t (λ q. restarted_trail pt.view t p q fits.k fits.s fits.d fits.o fits.phase fits.off (h.trail q)) refl h.own.topic h
 stage_treads pt t p any_ fits h = quiet_treads pt (view_after pt.view (Line.Migration any_ p)) t (λ m q. refl) refl (λ r m c e. cc) h
 
 -- each line
 pub line_treads : (pt next : Point) (t : Trails) (l : Line) → after_line pt l ≡ Some next → LineFits pt t l → Treads pt t → Treads next (trails_after pt.view t l)
 line_treads pt next t (Line.Label l) is fits h =
     let (s, comes, last) = bind-is (kernel.step pt.kernel l) (λ (s : OneKernel). Some (moved pt (Line.Label l) s)) next is in
-    let f : moved pt (Line.Label l) s ≡ next = cc in
-    subst (λ (n : Point). Treads n t) f (label_treads pt s t l comes fits h)
+    subst (λ (n : Point). Treads n t) (let f : moved pt (Line.Label l) s ≡ next = cc in f) (label_treads pt s t l comes fits h)
 line_treads pt next t (Line.Head d) is fits h = let f : moved pt (Line.Head d) pt.kernel ≡ next = cc in subst (λ (z : Point). Treads z (trails_after pt.view t (Line.Head d))) f (head_treads pt t d h)
 line_treads pt next t (Line.Taken a b n) is fits h = let f : moved pt (Line.Taken a b n) pt.kernel ≡ next = cc in subst (λ (z : Point). Treads z (trails_after pt.view t (Line.Taken a b n))) f (quiet_treads pt (view_after pt.view (Line.Taken a b n)) t (λ m q. taken_known (taken_pair pt.view a b n) b (view.oldest (pt.view.pair a b)) m q) (hushed pt.view (Line.Taken a b n) refl).told (same_topic pt.view (view_after pt.view (Line.Taken a b n)) pt.addresses t (taken_topic (taken_pair pt.view a b n) b (view.oldest (pt.view.pair a b))) h.own) h)
 line_treads pt next t (Line.Queued i) is fits h = let f : moved pt (Line.Queued i) pt.kernel ≡ next = cc in subst (λ (z : Point). Treads z (trails_after pt.view t (Line.Queued i))) f (quiet_treads pt (view_after pt.view (Line.Queued i)) t (λ m q. queued_known (handled pt.view i) i (receiver_of (pt.view.told i)) m q) (hushed pt.view (Line.Queued i) refl).told (same_topic pt.view (view_after pt.view (Line.Queued i)) pt.addresses t (queued_topic (handled pt.view i) i (receiver_of (pt.view.told i))) h.own) h)

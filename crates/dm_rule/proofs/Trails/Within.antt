@@ -1,7 +1,6 @@
 -- Only machines that act know processes, and so all machines of a trail are among those of the boot file.
-use Rattle.dm_rule.proofs.Names.{◌≡◌, ◌≢◌, ℕ, ◌+◌, ◌<◌, ◌==◌, refl, ◌∙◌, sym, subst, ⊤, not, filter, slice_get, Option, None, Some, Pid, MsgId, Label, Step, Line, Stage, at_record, View, Told, Known, Unknown, Here, actor, view_after}
-use Rattle.dm_rule.proofs.Names.{after_label, after_head, handled, taken_id, queued_for, held_for, forwarded_for, served_told, receiver_of, Trails, Trail, arith}
-use Rattle.dm_rule.proofs.Lines.{eq_is, parts}
+use Rattle.dm_rule.proofs.Names.{◌≡◌, ◌≢◌, ℕ, ◌+◌, ◌<◌, ◌==◌, refl, ◌∙◌, sym, subst, ⊤, not, filter, slice_get, Option, None, Some, Pid, MsgId, Label, Step, Line, at_record, View, Told, Known, Unknown, Here, actor, view_after, after_label}
+use Rattle.dm_rule.proofs.Names.{after_head, handled, taken_id, queued_for, held_for, forwarded_for, served_told, receiver_of, Trails, Trail, arith, and_parts, eqb-true}
 use Rattle.dm_rule.proofs.Seen.{sets}
 use Rattle.dm_rule.proofs.Homes.Lines.{acting_label}
 use Rattle.dm_rule.proofs.Phases.Lines.{queued_known, held_known, dropped_known, forwarded_known}
@@ -22,7 +21,7 @@ within_same n v w known acting h = record { known = λ m q there. h.known m q (�
 
 within_set : (n : ℕ) (v w : View) (p : Pid) (x : Known) → w.known ≡ at_record v.known v.acting p x → w.acting ≡ v.acting → Within n v → Within n w
 within_set n v w p x known acting h = record {
-  known = λ m q there. (search (arith, eq_is, parts));
+  known = λ m q there. (search (arith, eqb-true, and_parts));
   acting = subst (λ (a : ℕ). a < n) (sym acting) h.acting;
 }
 
@@ -38,30 +37,23 @@ pub forwarded_acting : (v : View) (o : Option Pid) → (forwarded_for v o).actin
 forwarded_acting v None = refl
 forwarded_acting v (Some p) = refl
 
-taken_within : (n : ℕ) (v : View) (b : ℕ) (o : Option MsgId) → Within n v → Within n (taken_id v b o)
-taken_within n v b None h = h
-taken_within n v b (Some i) h = record { known = h.known; acting = h.acting }
-
-served_within : (n : ℕ) (v : View) (o : Option Told) → Within n v → Within n (served_told v o)
-served_within n v o h1 = search (arith, within_set)
-
-label_within : (n : ℕ) (v : View) (l : Label) → Within n v → Within n (after_label v l)
-label_within n v l h1 = search (arith, within_set, served_within, within_same, dropped_known, acting_label)
-
-stage_within : (n : ℕ) (v : View) (p : Pid) (s : Stage) → Within n v → Within n (view_after v (Line.Migration s p))
-stage_within n v p s h1 = search (arith, sets, within_set)
-
 pub line_within : (n : ℕ) (v : View) (l : Line) → HeadIn n l → Within n v → Within n (view_after v l)
 line_within n v (Line.Head d) e h = (elim d as (λ d_. actor d_ < n → Within n (after_head v d_))
     [ Step.Turn m ↦ λ e_. record { known = h.known; acting = e_ } | _ ↦ λ e_. record { known = h.known; acting = e_ } ]) e
-line_within n v (Line.Label l) e h = label_within n v l h
-line_within n v (Line.Migration s p) e h = stage_within n v p s h
+line_within n v (Line.Label l) e h =
+    let label_within : (n : ℕ) (v : View) (l : Label) → Within n v → Within n (after_label v l) = λ n v l h1.
+      let served_within : (n : ℕ) (v : View) (o : Option Told) → Within n v → Within n (served_told v o) = λ n v o h1. search (arith, within_set) in
+      search (arith, within_set, served_within, within_same, dropped_known, acting_label) in
+    label_within n v l h
+line_within n v (Line.Migration s p) e h = search (arith, sets, within_set)
 line_within n v (Line.Stays p) e h = within_set n v (view_after v (Line.Stays p)) p Here refl refl h
 line_within n v (Line.Queued i) e h = within_same n v (view_after v (Line.Queued i)) (λ m q. queued_known (handled v i) i (receiver_of (v.told i)) m q) (queued_acting (handled v i) i (receiver_of (v.told i))) h
 line_within n v (Line.Held i) e h = within_same n v (view_after v (Line.Held i)) (λ m q. held_known (handled v i) i (receiver_of (v.told i)) m q) (held_acting (handled v i) i (receiver_of (v.told i))) h
 line_within n v (Line.Forwarded i k) e h = within_same n v (view_after v (Line.Forwarded i k)) (λ m q. forwarded_known (handled v i) (receiver_of (v.told i)) m q) (forwarded_acting (handled v i) (receiver_of (v.told i))) h
 line_within n v (Line.Proto i) e h = within_same n v (view_after v (Line.Proto i)) (λ m q. proto_known (handled v i) (v.told i) m q) (proto_acting (handled v i) (v.told i)) h
 line_within n v (Line.Taken a b k) e h =
+    let taken_within : (n : ℕ) (v : View) (b : ℕ) (o : Option MsgId) → Within n v → Within n (taken_id v b o) =
+      λ n v b o h. elim o as (λ o_. Within n (taken_id v b o_)) [ None ↦ h | Some i' ↦ record { known = h.known; acting = h.acting } ] in
     taken_within n (view.with_pair v a b (record (v.pair a b) { taken = (v.pair a b).taken + 1; kept = filter (λ j. not (j == k)) (v.pair a b).kept })) b (view.oldest (v.pair a b)) (record { known = h.known; acting = h.acting })
 line_within n v (Line.Idle m) e h = h
 line_within n v (Line.Old a b k) e h = h

@@ -5,11 +5,11 @@ use Rattle.dm_rulelaws.proofs.Names.{pid_eq-is, pid_eq-same, pid_eq-swap, first_
 use Rattle.dm_rulelaws.proofs.Fits.Rises.{both}
 use Rattle.dm_rulelaws.proofs.Fits.Start.{get_some}
 
-abbrev one_if : Bool → ℕ
+abbrev pub one_if : Bool → ℕ
 one_if c = if c then 1 else 0
 
 -- a process is here while it lives
-abbrev known_of_life : Option Life → Known
+abbrev pub known_of_life : Option Life → Known
 known_of_life None = Known.Unknown
 known_of_life (Some (Alive x)) = Known.Here
 known_of_life (Some (Life.Ended y)) = Known.Ended
@@ -27,7 +27,7 @@ record Listed (b : Boot) (earlier : List BootProcess) (p : BootProcess) (ps : Li
 listed : (b : Boot) (earlier : List BootProcess) (p : BootProcess) (ps : List BootProcess) → processes_are_valid b earlier (p ∷ ps) ≡ true → Listed b earlier p ps
 listed b earlier p ps h = search (arith, both, p.pid.home, b.machines, p.pid.num, p.image, b.images, p.links, b.format, get_some)
 
-starting-last : (m : ℕ) (ps : List BootProcess) (p : BootProcess) → starting_at m (ps ++ p ∷ []) ≡ starting_at m ps + one_if (p.pid.home == m)
+pub starting-last : (m : ℕ) (ps : List BootProcess) (p : BootProcess) → starting_at m (ps ++ p ∷ []) ≡ starting_at m ps + one_if (p.pid.home == m)
 starting-last m [] p = omega arith
 starting-last m (q ∷ qs) p = let h = starting-last m qs p in omega (arith, h)
 
@@ -59,7 +59,8 @@ alive_first b p o h1 = search arith
 pub servers_known : (q : Pid) (m : ℕ) (c : Bool) → is_server q ≡ c → (if (m == 0) && c then Known.Here else Known.Unknown) ≡ (if q.home == m then (if c then Known.Here else Known.Unknown) else Known.Unknown)
 servers_known q m c h1 = search (arith, q.home)
 
-known_first : (b : Boot) (earlier ps : List BootProcess) (m : ℕ) (q : Pid) → processes_are_valid b earlier ps ≡ true → known_at ps m q ≡ (if q.home == m then (if is_server q then Known.Here else known_of_life (life_at b ps q)) else Known.Unknown)
+pub known_first : (b : Boot) (earlier ps : List BootProcess) (m : ℕ) (q : Pid) → processes_are_valid b earlier ps ≡ true
+    → known_at ps m q ≡ (if q.home == m then (if is_server q then Known.Here else known_of_life (life_at b ps q)) else Known.Unknown)
 known_first b earlier [] m q h = servers_known q m (is_server q) refl
 known_first b earlier (p ∷ ps) m q h = elim (cases_Bool (pid_eq p.pid q)) [
   | inl same ↦

@@ -51,7 +51,7 @@ each_get P [] k x h e = cc
 each_get P (y ∷ ys) zero x h e = let f : y ≡ x = cc in subst P f h.0
 each_get P (y ∷ ys) (suc k) x h e = each_get P ys k x h.1 e
 
-each_pending : (P : Pending → Type 0) (rs : List Pending) (k : ℕ) (r : Pending) → Each P rs → manage.pending_numbered k rs ≡ Some r → P r
+pub each_pending : (P : Pending → Type 0) (rs : List Pending) (k : ℕ) (r : Pending) → Each P rs → manage.pending_numbered k rs ≡ Some r → P r
 each_pending P [] k r h e = cc
 each_pending P (x ∷ xs) k r h e = by (x.n == k) (each_pending P xs k r h.1) e
   where

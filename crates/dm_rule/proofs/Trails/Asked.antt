@@ -1,1 +1,0 @@
--- A directive to move a process keeps trails.

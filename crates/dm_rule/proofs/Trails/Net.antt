@@ -1,1 +1,0 @@
--- Ticks and deliveries keep trails: their lines fit anywhere.
