@@ -64,7 +64,8 @@ form-length places at Zero [] h = tt
 form-length places at Zero (w ∷ []) h = zeros-of (literal_value w)
 form-length places at Zero (w ∷ v ∷ ws) h = absurd (grind (arith, nat_tests))
 
-named-length : (places : List ℕ → Option Place) (at : ℕ) (twice : Bool) (o : Option Form) (ws : List (List ℕ)) → HasLength (form_size o ws) (ok_or o UnknownWord >>= λ form. if twice then Err LabelTwice else (if takes_operands form (length ws) then form_bytes places at form ws else Err OperandCount))
+named-length : (places : List ℕ → Option Place) (at : ℕ) (twice : Bool) (o : Option Form) (ws : List (List ℕ))
+    → HasLength (form_size o ws) (ok_or o UnknownWord >>= λ form. if twice then Err LabelTwice else (if takes_operands form (length ws) then form_bytes places at form ws else Err OperandCount))
 named-length places at twice None ws = tt
 named-length places at twice (Some form) ws =
     where_false (form_size (Some form) ws) twice _ _ (where_true (form_size (Some form) ws) (takes_operands form (length ws)) OperandCount _ (form-length places at form ws))

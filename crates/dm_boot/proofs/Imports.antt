@@ -6,11 +6,11 @@ pub use Rattle.std.proofs.lemmas.List.{drop_more}
 pub use Rattle.std.proofs.lemmas.Str.{IsUtf8-from_is_utf8, is_utf8-from_IsUtf8}
 pub use Rattle.std.specs.List.{list_all, list_any}
 pub use Rattle.std.specs.Map.{keys_of}
-pub use Rattle.std.specs.Option.{is_some, option_or}
+pub use Rattle.std.specs.Option.{is_some, option_map, option_or, unwrap_or}
 pub use Rattle.std.specs.Result.{IfOk}
 pub use Rattle.toml.proofs.Views.{items_view-drop, view-Table}
 pub use Rattle.std.proofs.lemmas.Map.Text.{hash_map_updates_str}
-pub use Rattle.toml.specs.Data.{Data, Items, Members, array, as_integer, as_str, boolean, datetime, float, get, get_item, integer, item, member, no_items, no_members, string, table}
+pub use Rattle.toml.specs.Data.{Data, Items, Members, array, as_integer, as_str, as_table, boolean, datetime, float, get, get_item, integer, item, member, no_items, no_members, string, table}
 pub use Rattle.toml.specs.View.{items_view, members_view, view}
 pub use Rattle.toml.specs.declared.value.Value.{Value}
 pub use Rattle.dm_link.specs.Names.{pid_eq, pid_of}
@@ -25,18 +25,19 @@ pub use Rattle.dm_onekernel.specs.declared.boot.Boot.{Boot}
 pub use Rattle.dm_onekernel.specs.declared.boot.BootImage.{BootImage}
 pub use Rattle.dm_onekernel.specs.declared.boot.BootMachine.{BootMachine}
 pub use Rattle.dm_onekernel.specs.declared.boot.BootProcess.{BootProcess}
+pub use Rattle.dm_boot.proofs.Said.{broken_or, integer_in, is_below, linked, links_of, number_or, pid_of_start, system_of}
 pub use Rattle.dm_boot.specs.Before.{before_images}
-pub use Rattle.dm_boot.specs.Boot.{Answers, boot_of_document, document_of, unless}
+pub use Rattle.dm_boot.specs.Boot.{Answers, document_of, unless}
 unfoldable pub use Rattle.dm_boot.specs.Boot.{boot_of, boot_of_table, unless_at}
-pub use Rattle.dm_boot.specs.Build.{base_in, blocks_in, channel_in, code_in, format_number, format_of, home_of, image_blocks, image_place, image_tables, images_of, is_control, len_in, link_tables, linked, links_of, machine_number}
-pub use Rattle.dm_boot.specs.Build.{machine_tables, machines_of, numbers_of, pid_of_start, process_tables, processes_of, quantum_of, slots_in, system_of}
+pub use Rattle.dm_boot.specs.Build.{base_in, blocks_in, channel_in, code_in, format_number, format_of, home_of, image_blocks, image_place, image_tables, images_of, is_control, len_in, link_tables, machine_number}
+pub use Rattle.dm_boot.specs.Build.{machine_tables, machines_of, numbers_of, process_tables, processes_of, quantum_of, slots_in}
 unfoldable pub use Rattle.dm_boot.specs.Build.{boot_machine, image_of, link_of, link_of_control, link_to, linked_all, pid_named, start_of, starts_from, starts_of, system_with}
 pub use Rattle.dm_boot.specs.Named.{place_in}
-pub use Rattle.dm_boot.specs.Rules.{assembles, broken_or, fits_machine, image_rules, is_below, link_rules, process_rules, rules}
+pub use Rattle.dm_boot.specs.Rules.{assembles, fits_machine, image_rules, link_rules, process_rules, rules}
 unfoldable pub use Rattle.dm_boot.specs.Rules.{broken_at, first_broken, first_long, first_unassembled, fits_after, has_area, has_good_image_count, has_good_machine_count, has_good_room, has_good_settings, has_link_count, has_machine}
 unfoldable pub use Rattle.dm_boot.specs.Rules.{is_link}
 unfoldable pub use Rattle.dm_boot.specs.Rules.{has_place, has_target, image_fits, is_limited, is_plain, keeps, memory_size_of, rule_of, subjects}
-pub use Rattle.dm_boot.specs.Tables.{all_items, all_known, count, element_place_from, in_range, integer_in, is_known, is_named, is_table, lone_member, number_or, or_zero, text_at, truth_at}
+pub use Rattle.dm_boot.specs.Tables.{all_items, all_known, count, element_place_from, in_range, is_known, is_named, lone_member, or_zero, text_at, truth_at}
 pub use Rattle.dm_boot.specs.Sound.{all_sound, general_link, has_sound_links}
 unfoldable pub use Rattle.dm_boot.specs.Sound.{is_sound}
 unfoldable pub use Rattle.dm_boot.specs.Tables.{element_place, first_failing, map_items, named, number_at}
@@ -45,6 +46,7 @@ unfoldable pub use Rattle.dm_boot.specs.Text.{is_server_name}
 pub use Rattle.dm_boot.specs.declared.rules.BootError.{BootError}
 pub use Rattle.dm_boot.specs.declared.rules.BootError.TheVariants.{NoMemory, Refused}
 pub use Rattle.dm_boot.specs.declared.rules.BootRule.{BootRule}
-pub use Rattle.dm_boot.specs.declared.rules.BootRule.TheVariants.{ImageBlocks, ImageBytes, ImageCount, ImageKeys, ImageName, ImageText, LinkCount, LinkLimits, LinkTarget, MachineCount, MachineKeys, MachineRoom, ProcessImage, ProcessKeys}
+pub use Rattle.dm_boot.specs.declared.rules.BootRule.TheVariants.{Document, ImageBlocks, ImageBytes, ImageCount, ImageKeys, ImageName, ImageText, LinkCount, LinkLimits, LinkTarget, MachineCount, MachineKeys, MachineRoom}
+pub use Rattle.dm_boot.specs.declared.rules.BootRule.TheVariants.{ProcessImage, ProcessKeys}
 pub use Rattle.dm_boot.specs.declared.rules.BootRule.TheVariants.{ProcessMachine, ProcessName, ProcessRoom, Settings, TopKeys}
 pub use Rattle.dm_boot.specs.declared.rules.TableRule.{TableRule}

@@ -1,3 +1,4 @@
+pub mod Said
 pub mod Imports
 pub mod Keys
 pub mod Elements

@@ -6,7 +6,7 @@ use Rattle.dm_boot.proofs.Imports.{ImageCount, ImageKeys, ImageName, ImageBlocks
 use Rattle.dm_boot.proofs.Imports.{all_items, first_failing, map_items, machine_tables, image_tables, process_tables, link_tables, numbers_of, quantum_of, format_number, format_of, slots_in, blocks_in, boot_machine, machines_of}
 use Rattle.dm_boot.proofs.Imports.{image_blocks, image_of, images_of, machine_number, home_of, image_place, start_of, starts_from, starts_of, links_of, link_of, linked, linked_all, processes_of, is_control, system_of, system_with, keeps}
 use Rattle.dm_boot.proofs.Imports.{subjects, broken_at, first_broken, rules, has_good_settings, has_good_machine_count, has_good_room, has_good_image_count, image_fits, is_below, has_machine, has_link_count, has_target, is_limited, Answers}
-use Rattle.dm_boot.proofs.Imports.{boot_of, boot_of_table, boot_of_document, document_of}
+use Rattle.dm_boot.proofs.Imports.{boot_of, boot_of_table, document_of, option_map, unwrap_or, Document}
 use Rattle.dm_boot.proofs.Parts.{none-head, at_top, unless-ok}
 use Rattle.dm_boot.proofs.Bounds.{if-none, none-is, number-bounds, both-pass, length-map, place-within}
 use Rattle.dm_boot.proofs.Rooms.{AllFit, fit-none, fit-from}
@@ -236,7 +236,7 @@ table-valid d b h =
     let (none, built) = unless-ok (first_broken rules d) (system_of d) b h in
     subst IsValid built (valid d (kept d none))
 
-document-valid : (o : Option Members) (b : Boot) → boot_of_document o ≡ Ok b → IsValid b
+document-valid : (o : Option Members) (b : Boot) → unwrap_or (option_map (λ ms. boot_of_table (table ms)) o) (Err (Document, 0)) ≡ Ok b → IsValid b
 document-valid None b h = absurd (cc)
 document-valid (Some ms) b h = table-valid (table ms) b h
 

@@ -1,5 +1,5 @@
 -- The system that a boot file describes, or the first rule that it breaks.
-use Rattle.std.specs.Prelude.{ℕ, ◌≡◌, List, Some, None, if◌then◌else◌}
+use Rattle.std.specs.Prelude.{ℕ, ◌≡◌, List, Some, None, if◌then◌else◌, option_map, unwrap_or}
 use Rattle.std.specs.Str.{is_utf8}
 use Rattle.std.specs.declared.option.Option.{Option}
 use Rattle.std.specs.declared.result.Result.{Result}
@@ -11,7 +11,7 @@ use Rattle.dm_boot.specs.declared.rules.BootRule.{BootRule}
 use Rattle.dm_boot.specs.declared.rules.BootRule.TheVariants.{Document}
 use Rattle.dm_boot.specs.declared.rules.BootError.{BootError}
 use Rattle.dm_boot.specs.declared.rules.BootError.TheVariants.{Refused, NoMemory}
-use Rattle.dm_boot.specs.Build.{system_of}
+use Rattle.dm_boot.specs.Build.{images_of, machines_of, processes_of, system_with}
 use Rattle.dm_boot.specs.Rules.{rules, first_broken}
 
 -- what was built, unless a rule is broken
@@ -26,12 +26,7 @@ unless_at rule (Some place) built = Err (rule, place)
 
 -- the system of the top table
 unfoldable pub boot_of_table : Data → Result Boot (BootRule × ℕ)
-boot_of_table d = unless (first_broken rules d) (system_of d)
-
--- the system of a document
-abbrev pub boot_of_document : Option Members → Result Boot (BootRule × ℕ)
-boot_of_document None = Err (Document, 0)
-boot_of_document (Some ms) = boot_of_table (table ms)
+boot_of_table d = unless (first_broken rules d) (system_with d (machines_of d) (images_of d) (processes_of d))
 
 -- the document in these bytes
 abbrev pub document_of : List ℕ → Option Members
@@ -39,7 +34,7 @@ document_of bytes = if is_utf8 bytes then parse_document bytes else None
 
 -- the system of a boot file, or the rule that it breaks, with the place
 unfoldable pub boot_of : List ℕ → Result Boot (BootRule × ℕ)
-boot_of bytes = boot_of_document (document_of bytes)
+boot_of bytes = unwrap_or (option_map (λ ms. boot_of_table (table ms)) (document_of bytes)) (Err (Document, 0))
 
 -- an answer is what was wanted; want of memory says nothing
 abbrev pub Answers : {A : Type 0} → Result A (BootRule × ℕ) → Result A BootError → Type 0

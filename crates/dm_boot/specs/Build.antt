@@ -1,7 +1,7 @@
 -- What the tables of a boot file build, where no rule is broken.
-use Rattle.std.specs.Prelude.{ℕ, ◌+◌, ◌==◌, Bool, true, false, List, [], ◌∷◌, ◌++◌, codes, slice_get, Some, None, unwrap_or, if◌then◌else◌}
+use Rattle.std.specs.Prelude.{ℕ, ◌+◌, ◌==◌, Bool, true, false, List, [], ◌∷◌, ◌++◌, codes, slice_get, option_map, unwrap_or, if◌then◌else◌}
 use Rattle.std.specs.declared.option.Option.{Option}
-use Rattle.toml.specs.Data.{Data, Items, no_items, item}
+use Rattle.toml.specs.Data.{Data, Items, no_items, item, as_str}
 use Rattle.dm_link.specs.declared.Pid.{Pid}
 use Rattle.dm_link.specs.declared.Area.{Area}
 use Rattle.dm_link.specs.declared.Link.{Link}
@@ -15,7 +15,8 @@ use Rattle.dm_onekernel.specs.declared.boot.BootImage.{BootImage}
 use Rattle.dm_onekernel.specs.declared.boot.BootProcess.{BootProcess}
 use Rattle.dm_onekernel.specs.declared.boot.Boot.{Boot}
 use Rattle.dm_onekernel.specs.Boot.{first_number, starting_at, switchboard, manager}
-use Rattle.dm_boot.specs.Tables.{has_value, is_text, text_at, truth_at, number_at, or_zero, items_at, map_items, element_place}
+use Rattle.dm_onekernel.specs.Calls.{kind_of_flag}
+use Rattle.dm_boot.specs.Tables.{has_value, text_at, truth_at, number_at, or_zero, items_at, map_items, element_place}
 use Rattle.dm_boot.specs.Text.{bytes_of_image, is_switchboard, is_manager}
 
 -- the tables of the machines, the images and the processes
@@ -94,17 +95,12 @@ starts_from d earlier (item t ts) = start_of d earlier t ∷ starts_from d (earl
 unfoldable pub starts_of : Data → List BootProcess
 starts_of d = starts_from d [] (process_tables d)
 
--- the name of the process at a place
-abbrev pub pid_of_start : Option BootProcess → Pid
-pid_of_start None = pid_of 0 0
-pid_of_start (Some p) = p.pid
-
 -- the process or server with a name
 unfoldable pub pid_named : Data → List BootProcess → List ℕ → Pid
 pid_named d starts name =
     if is_switchboard name then switchboard
     else if is_manager name then manager
-    else pid_of_start (slice_get starts (or_zero (element_place name (process_tables d))))
+    else unwrap_or (option_map (λ p. p.pid) (slice_get starts (or_zero (element_place name (process_tables d))))) (pid_of 0 0)
 
 -- the numbers of a link; 0 where the table has none
 abbrev pub code_in : ℕ → Data → Option ℕ
@@ -119,9 +115,6 @@ base_in most t = number_at 0 0 most (codes "base") t
 abbrev pub len_in : ℕ → Data → Option ℕ
 len_in most t = number_at 0 0 most (codes "len") t
 
-abbrev pub kind_with : Bool → Kind
-kind_with reply = if reply then Reply else General
-
 -- a link to a process where it starts
 abbrev pub link_at_home : Pid → Kind → ℕ → ℕ → Area → Link
 link_at_home p kind code channel area =
@@ -129,7 +122,7 @@ link_at_home p kind code channel area =
 
 -- the link to a process that a table says
 unfoldable pub link_to : Pid → Data → Link
-link_to p t = link_at_home p (kind_with (truth_at (codes "reply") t)) (or_zero (code_in 4294967295 t)) (or_zero (channel_in t)) (record {
+link_to p t = link_at_home p (kind_of_flag (truth_at (codes "reply") t)) (or_zero (code_in 4294967295 t)) (or_zero (channel_in t)) (record {
   base = or_zero (base_in 65536 t);
   len = or_zero (len_in 65536 t);
   read = truth_at (codes "read") t;
@@ -142,7 +135,7 @@ link_of_control child = link_at_home manager General child 0 (record { base = 0;
 
 -- the link controls a child
 abbrev pub is_control : Data → Bool
-is_control t = has_value is_text (codes "control") t
+is_control t = has_value as_str (codes "control") t
 
 unfoldable pub link_of : Data → List BootProcess → Data → Link
 link_of d starts t =
@@ -153,19 +146,11 @@ link_of d starts t =
 abbrev pub link_tables : Data → Items
 link_tables t = items_at (codes "links") t
 
--- its links, the first in slot 0
-abbrev pub links_of : Data → List BootProcess → Data → List Link
-links_of d starts t = map_items (link_of d starts) (link_tables t)
-
--- a process with the links of its table
-abbrev pub linked : BootProcess → List Link → BootProcess
-linked p links = record { pid = p.pid; image = p.image; links = links }
-
 -- these processes, each with the links of its table
 unfoldable pub linked_all : Data → List BootProcess → List BootProcess → Items → List BootProcess
 linked_all d starts [] ts = []
 linked_all d starts (p ∷ ps) no_items = []
-linked_all d starts (p ∷ ps) (item t ts) = linked p (links_of d starts t) ∷ linked_all d starts ps ts
+linked_all d starts (p ∷ ps) (item t ts) = record p { links = map_items (link_of d starts) (link_tables t) } ∷ linked_all d starts ps ts
 
 abbrev pub processes_of : Data → List BootProcess
 processes_of d = linked_all d (starts_of d) (starts_of d) (process_tables d)
@@ -180,7 +165,3 @@ system_with d machines images processes = record {
   images = images;
   processes = processes;
 }
-
--- the system of the top table
-abbrev pub system_of : Data → Boot
-system_of d = system_with d (machines_of d) (images_of d) (processes_of d)

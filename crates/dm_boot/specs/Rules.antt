@@ -1,8 +1,8 @@
 -- The rules that a boot file keeps, and the first that it breaks.
-use Rattle.std.specs.Prelude.{ℕ, ◌+◌, ◌*◌, ◌&&◌, ◌||◌, not, Bool, true, false, nat_le, nat_lt, List, [], ◌∷◌, ◌++◌, codes, length, take, slice_get, Some, None, if◌then◌else◌}
-use Rattle.std.specs.Option.{is_some}
+use Rattle.std.specs.Prelude.{ℕ, ◌+◌, ◌*◌, ◌==◌, ◌&&◌, ◌||◌, not, Bool, true, false, nat_le, nat_lt, List, [], ◌∷◌, ◌++◌, codes, length, take, slice_get, Some, None, if◌then◌else◌}
+use Rattle.std.specs.Option.{is_some, option_and_then, option_map, option_or, unwrap_or}
 use Rattle.std.specs.declared.option.Option.{Option}
-use Rattle.toml.specs.Data.{Data, Items, no_items, item}
+use Rattle.toml.specs.Data.{Data, Items, no_items, item, as_array, as_bool, as_integer, as_str, as_table}
 use Rattle.dm_onekernel.specs.declared.boot.BootMachine.{BootMachine}
 use Rattle.dm_onekernel.specs.declared.boot.BootImage.{BootImage}
 use Rattle.dm_onekernel.specs.declared.boot.BootProcess.{BootProcess}
@@ -11,19 +11,19 @@ use Rattle.dm_boot.specs.declared.rules.BootRule.{BootRule}
 use Rattle.dm_boot.specs.declared.rules.BootRule.TheVariants.{Document, TopKeys, Settings, MachineCount, MachineKeys, MachineRoom, ImageCount, ImageKeys, ImageName, ImageBlocks, ImageText, ImageBytes, ProcessKeys, ProcessName, ProcessMachine, ProcessImage, ProcessRoom, LinkCount, LinkTarget, LinkLimits}
 use Rattle.dm_boot.specs.declared.rules.TableRule.{TableRule}
 use Rattle.dm_boot.specs.declared.rules.TableRule.TheVariants as of_tables
-use Rattle.dm_boot.specs.Tables.{has_only, is_integer, is_text, is_truth, is_array, is_table, holds, has_value, may_have, text_at, truth_at, or_zero, count, all_items, first_failing, element_place, named, is_place, items_at}
+use Rattle.dm_boot.specs.Tables.{has_only, has_value, may_have, text_at, truth_at, or_zero, count, all_items, first_failing, element_place, named, items_at}
 use Rattle.dm_boot.specs.Text.{is_boot_name, is_server_name, bytes_of_image}
 use Rattle.dm_boot.specs.Build.{machine_tables, image_tables, process_tables, link_tables, numbers_of, quantum_of, format_number, format_of, slots_in, blocks_in, machines_of, image_blocks, image_of, images_of, machine_number, image_place, start_of, starts_of, code_in, channel_in, base_in, len_in, is_control}
 
 -- an array of tables, or nothing
 unfoldable pub may_have_tables : List ℕ → Data → Bool
-may_have_tables key d = may_have is_array key d && all_items is_table (items_at key d)
+may_have_tables key d = may_have as_array key d && all_items (λ t. is_some (as_table t)) (items_at key d)
 
 -- the top table has only its keys, and they have the right types
 unfoldable pub is_top : Data → Bool
 is_top d =
     has_only (codes "format" ∷ codes "numbers" ∷ codes "quantum" ∷ codes "machine" ∷ codes "image" ∷ codes "process" ∷ []) d
-    && (may_have is_integer (codes "format") d && (may_have is_integer (codes "numbers") d && (may_have is_integer (codes "quantum") d
+    && (may_have as_integer (codes "format") d && (may_have as_integer (codes "numbers") d && (may_have as_integer (codes "quantum") d
     && (may_have_tables (codes "machine") d && (may_have_tables (codes "image") d && may_have_tables (codes "process") d)))))
 
 -- the settings lie within their limits
@@ -40,7 +40,7 @@ has_good_image_count d = nat_le (count (image_tables d)) 256
 
 -- the keys of a machine, and their types
 unfoldable pub is_machine : Data → Bool
-is_machine t = has_only (codes "slots" ∷ codes "blocks" ∷ []) t && (has_value is_integer (codes "slots") t && has_value is_integer (codes "blocks") t)
+is_machine t = has_only (codes "slots" ∷ codes "blocks" ∷ []) t && (has_value as_integer (codes "slots") t && has_value as_integer (codes "blocks") t)
 
 -- its room is within the limits
 unfoldable pub has_good_room : Data → Bool
@@ -50,11 +50,11 @@ has_good_room t = is_some (slots_in t) && is_some (blocks_in t)
 unfoldable pub is_image : Data → Bool
 is_image t =
     has_only (codes "name" ∷ codes "blocks" ∷ codes "text" ∷ []) t
-    && (has_value is_text (codes "name") t && (has_value is_integer (codes "blocks") t && has_value is_text (codes "text") t))
+    && (has_value as_str (codes "name") t && (has_value as_integer (codes "blocks") t && has_value as_str (codes "text") t))
 
 -- the name of element i is a name, and no earlier one of these has it
 unfoldable pub has_own_name : Items → ℕ → Data → Bool
-has_own_name ts i t = is_boot_name (text_at (codes "name") t) && is_place i (element_place (text_at (codes "name") t) ts)
+has_own_name ts i t = is_boot_name (text_at (codes "name") t) && unwrap_or (option_map (λ k. k == i) (element_place (text_at (codes "name") t) ts)) false
 
 -- the assembler takes an image's text
 unfoldable pub assembles : Data → Bool
@@ -77,12 +77,12 @@ first_long i (image ∷ images) = if image_fits image then first_long (i + 1) im
 abbrev pub is_link_to : Data → Bool
 is_link_to t =
     has_only (codes "to" ∷ codes "code" ∷ codes "channel" ∷ codes "base" ∷ codes "len" ∷ codes "reply" ∷ codes "read" ∷ codes "write" ∷ []) t
-    && (has_value is_text (codes "to") t
-    && ((may_have is_integer (codes "code") t && (may_have is_integer (codes "channel") t && (may_have is_integer (codes "base") t && may_have is_integer (codes "len") t)))
-    && (may_have is_truth (codes "reply") t && (may_have is_truth (codes "read") t && may_have is_truth (codes "write") t))))
+    && (has_value as_str (codes "to") t
+    && ((may_have as_integer (codes "code") t && (may_have as_integer (codes "channel") t && (may_have as_integer (codes "base") t && may_have as_integer (codes "len") t)))
+    && (may_have as_bool (codes "reply") t && (may_have as_bool (codes "read") t && may_have as_bool (codes "write") t))))
 
 abbrev pub is_control_link : Data → Bool
-is_control_link t = has_only (codes "control" ∷ []) t && has_value is_text (codes "control") t
+is_control_link t = has_only (codes "control" ∷ []) t && has_value as_str (codes "control") t
 
 unfoldable pub is_link : Data → Bool
 is_link t = is_link_to t || is_control_link t
@@ -91,24 +91,20 @@ is_link t = is_link_to t || is_control_link t
 unfoldable pub is_process : Data → Bool
 is_process t =
     has_only (codes "name" ∷ codes "image" ∷ codes "machine" ∷ codes "links" ∷ []) t
-    && (has_value is_text (codes "name") t && (has_value is_text (codes "image") t && (has_value is_integer (codes "machine") t
-    && (may_have is_array (codes "links") t && all_items is_link (link_tables t)))))
+    && (has_value as_str (codes "name") t && (has_value as_str (codes "image") t && (has_value as_integer (codes "machine") t
+    && (may_have as_array (codes "links") t && all_items is_link (link_tables t)))))
 
 -- its name is its own, and no server's
 unfoldable pub has_process_name : Items → ℕ → Data → Bool
 has_process_name ts i t = has_own_name ts i t && not (is_server_name (text_at (codes "name") t))
 
--- a machine of the file
-abbrev pub is_below : ℕ → Option ℕ → Bool
-is_below n m = holds (λ k. nat_lt k n) m
-
 unfoldable pub has_machine : Data → Data → Bool
-has_machine d t = is_below (count (machine_tables d)) (machine_number t)
+has_machine d t = unwrap_or (option_map (λ m. nat_lt m (count (machine_tables d))) (machine_number t)) false
 
 -- there is a free slot on this machine after these processes, and so many free blocks
 abbrev pub fits_machine : Option BootMachine → ℕ → ℕ → ℕ → Bool
 fits_machine machine taken_slots taken_blocks blocks =
-    holds (λ m. nat_lt taken_slots m.slots && nat_le (taken_blocks + blocks) m.blocks) machine
+    unwrap_or (option_map (λ m. nat_lt taken_slots m.slots && nat_le (taken_blocks + blocks) m.blocks) machine) false
 
 -- a process fits its machine with the earlier ones
 unfoldable pub fits_after : List BootMachine → List BootImage → List BootProcess → BootProcess → Bool
@@ -129,18 +125,10 @@ has_target d l =
     if is_control l then is_some (element_place (text_at (codes "control") l) (process_tables d))
     else is_server_name (text_at (codes "to") l) || is_some (element_place (text_at (codes "to") l) (process_tables d))
 
--- the blocks of the image of this process
-abbrev pub blocks_of_named : Option Data → ℕ
-blocks_of_named None = 0
-blocks_of_named (Some t) = or_zero (image_blocks t)
-
-abbrev pub blocks_of_process : Data → Option Data → ℕ
-blocks_of_process d None = 0
-blocks_of_process d (Some t) = blocks_of_named (named (text_at (codes "image") t) (image_tables d))
-
 -- the bytes of the memory of the process with this name
 unfoldable pub memory_size_of : Data → List ℕ → ℕ
-memory_size_of d name = 256 * blocks_of_process d (named name (process_tables d))
+memory_size_of d name =
+    256 * or_zero (option_and_then image_blocks (option_and_then (λ t. named (text_at (codes "image") t) (image_tables d)) (named name (process_tables d))))
 
 -- a link's area within so many bytes
 unfoldable pub has_area : ℕ → Data → Bool
@@ -200,15 +188,10 @@ keeps rule d i t = (rule_row rule).2 d i t
 unfoldable pub broken_at : BootRule → Data → Option ℕ
 broken_at rule d = first_failing (keeps rule d) 0 (subjects rule d)
 
--- a rule that is broken, or else what follows
-abbrev pub broken_or : BootRule → Option ℕ → Option (BootRule × ℕ) → Option (BootRule × ℕ)
-broken_or rule None rest = rest
-broken_or rule (Some place) rest = Some (rule, place)
-
 -- the first of these rules that is broken, and its first place
 unfoldable pub first_broken : List BootRule → Data → Option (BootRule × ℕ)
 first_broken [] d = None
-first_broken (rule ∷ rules) d = broken_or rule (broken_at rule d) (first_broken rules d)
+first_broken (rule ∷ rules) d = option_or (option_map (λ place. (rule, place)) (broken_at rule d)) (first_broken rules d)
 
 -- the rules of the top table, the machines and the images
 abbrev pub image_rules : List BootRule

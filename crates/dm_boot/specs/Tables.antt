@@ -1,10 +1,10 @@
 -- What tables of the boot file hold at their keys.
-use Rattle.std.specs.Prelude.{ℕ, ◌+◌, ◌==◌, ◌&&◌, Bool, true, false, nat_le, ℤ, pos, negsuc, List, [], ◌∷◌, codes, Some, None, unwrap_or, option_map, option_and_then, if◌then◌else◌}
+use Rattle.std.specs.Prelude.{ℕ, ◌+◌, ◌&&◌, ◌||◌, Bool, true, false, nat_le, ℤ, pos, negsuc, List, [], ◌∷◌, codes, Some, None, unwrap_or, option_map, option_and_then, if◌then◌else◌}
 use Rattle.std.specs.List.{list_any}
-use Rattle.std.specs.Option.{is_some}
+use Rattle.std.specs.Option.{is_none, is_some}
 use Rattle.std.specs.Str.{bytes_eq}
 use Rattle.std.specs.declared.option.Option.{Option}
-use Rattle.toml.specs.Data.{Data, table, array, Items, no_items, item, Members, no_members, member, get, get_item, as_str, as_integer, as_bool, as_array, as_table}
+use Rattle.toml.specs.Data.{Data, table, array, Items, no_items, item, Members, no_members, member, get, get_item, as_str, as_integer, as_bool, as_array}
 
 -- a key is among these
 abbrev pub is_known : List (List ℕ) → List ℕ → Bool
@@ -20,34 +20,13 @@ abbrev pub has_only : List (List ℕ) → Data → Bool
 has_only keys (table ms) = all_known keys ms
 has_only keys _ = false
 
--- the types of values
-abbrev pub is_integer : Data → Bool
-is_integer d = is_some (as_integer d)
+-- the key has a value that is read so: an integer, a text, a truth, an array
+abbrev pub has_value : {A : Type 0} → (Data → Option A) → List ℕ → Data → Bool
+has_value read key d = is_some (option_and_then read (get key d))
 
-abbrev pub is_text : Data → Bool
-is_text d = is_some (as_str d)
-
-abbrev pub is_truth : Data → Bool
-is_truth d = is_some (as_bool d)
-
-abbrev pub is_array : Data → Bool
-is_array d = is_some (as_array d)
-
-abbrev pub is_table : Data → Bool
-is_table d = is_some (as_table d)
-
--- there is a value, and it passes a test
-abbrev pub holds : {A : Type 0} → (A → Bool) → Option A → Bool
-holds test None = false
-holds test (Some d) = test d
-
--- the key has a value of this type
-abbrev pub has_value : (Data → Bool) → List ℕ → Data → Bool
-has_value test key d = holds test (get key d)
-
--- the key is missing, or has a value of this type
-abbrev pub may_have : (Data → Bool) → List ℕ → Data → Bool
-may_have test key d = unwrap_or (option_map test (get key d)) true
+-- the key is missing, or has such a value
+abbrev pub may_have : {A : Type 0} → (Data → Option A) → List ℕ → Data → Bool
+may_have read key d = is_none (get key d) || has_value read key d
 
 -- the text at a key; empty where there is none
 abbrev pub text_at : List ℕ → Data → List ℕ
@@ -72,17 +51,10 @@ abbrev pub in_range : ℕ → ℕ → ℤ → Option ℕ
 in_range least most (pos n) = if nat_le least n && nat_le n most then Some n else None
 in_range least most (negsuc n) = None
 
-abbrev pub integer_in : ℕ → ℕ → Option ℤ → Option ℕ
-integer_in least most z = option_and_then (in_range least most) z
-
--- an integer within these bounds, or this number where there is no value
-abbrev pub number_or : ℕ → ℕ → ℕ → Option Data → Option ℕ
-number_or default least most None = Some default
-number_or default least most (Some d) = integer_in least most (as_integer d)
-
 -- the integer at a key, where it lies within these bounds; the first number where the key is missing
 unfoldable pub number_at : ℕ → ℕ → ℕ → List ℕ → Data → Option ℕ
-number_at default least most key d = number_or default least most (get key d)
+number_at default least most key d =
+    unwrap_or (option_map (λ v. option_and_then (in_range least most) (as_integer v)) (get key d)) (Some default)
 
 -- a number; 0 where there is none
 abbrev pub or_zero : Option ℕ → ℕ
@@ -128,7 +100,3 @@ element_place name ds = element_place_from 0 name ds
 -- the first element with this name
 unfoldable pub named : List ℕ → Items → Option Data
 named name ds = option_and_then (λ k. get_item k ds) (element_place name ds)
-
--- a name stands first at this place
-abbrev pub is_place : ℕ → Option ℕ → Bool
-is_place i place = holds (λ k. k == i) place

@@ -1,18 +1,15 @@
 -- Names, and the bytes of an image's text.
-use Rattle.std.specs.Prelude.{ℕ, ◌==◌, ◌&&◌, ◌||◌, Bool, nat_le, List, length, codes}
+use Rattle.std.specs.Prelude.{ℕ, ◌&&◌, ◌||◌, Bool, nat_le, List, length, codes}
 use Rattle.std.specs.List.{list_all}
 use Rattle.std.specs.Str.{bytes_eq}
 use Rattle.std.specs.declared.option.Option.{Option}
 use Rattle.std.specs.Result.{result_ok}
 use Rattle.dm_asm.specs.Assembled.{assembled}
+use Rattle.dm_asm.specs.Numbers.{is_name_part}
 
--- `a` to `z`, `0` to `9`, or `_`
-abbrev pub is_name_byte : ℕ → Bool
-is_name_byte b = ((nat_le 97 b && nat_le b 122) || (nat_le 48 b && nat_le b 57)) || (b == 95)
-
--- a name has 1 to 16 of these
+-- a name has 1 to 16 of `a` to `z`, `0` to `9` and `_`
 abbrev pub is_boot_name : List ℕ → Bool
-is_boot_name name = (nat_le 1 (length name) && nat_le (length name) 16) && list_all is_name_byte name
+is_boot_name name = (nat_le 1 (length name) && nat_le (length name) 16) && list_all is_name_part name
 
 -- the names of the servers
 abbrev pub is_switchboard : List ℕ → Bool

@@ -1,7 +1,7 @@
 //! What the elements of a boot file must be, one function for each rule.
-ghost use Rattle.std.specs.Prelude.{◌≡◌, ◌<◌, ◌≤◌, IfSome};
+ghost use Rattle.std.specs.Prelude.{◌≡◌, ◌<◌, ◌≤◌, ◌==◌, IfSome, false, option_map, unwrap_or};
 ghost use Rattle.toml.specs.View.{view};
-ghost use Rattle.dm_boot.specs.Tables.{count, is_place};
+ghost use Rattle.dm_boot.specs.Tables.{count};
 ghost use Rattle.dm_boot.specs.Build.{format_number, format_of, image_blocks, image_place, image_tables, machine_number, numbers_of, process_tables, quantum_of};
 ghost use Rattle.dm_boot.specs.Rules.{has_good_image_count, has_good_machine_count, has_good_room, has_good_settings, has_link_count, has_machine, has_own_name, has_process_name};
 
@@ -90,7 +90,7 @@ pub fn has_image_name(document: &Document<'_>, place: usize, image: &Value) -> b
 
 /// Whether a place is the first that was found.
 fn is_place(first: Option<usize>, place: usize) -> bool
-    ensures { result ≡ is_place place first }
+    ensures { result ≡ unwrap_or (option_map (λ k. k == place) first) false }
 {
     match first {
         Some(first) => first == place,

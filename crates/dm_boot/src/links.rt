@@ -1,9 +1,11 @@
 //! The links.
-ghost use Rattle.std.specs.Prelude.{◌≡◌, ◌≤◌, ◌||◌, IfOk, false, is_some, slice_get, true};
+ghost use Rattle.std.specs.Prelude.{◌≡◌, ◌≤◌, ◌||◌, IfOk, false, is_some, option_map, slice_get, true, unwrap_or};
 ghost use Rattle.toml.specs.View.{view};
-ghost use Rattle.dm_boot.specs.Tables.{count, element_place};
+ghost use Rattle.dm_link.specs.Names.{pid_of};
+ghost use Rattle.dm_onekernel.specs.Calls.{kind_of_flag};
+ghost use Rattle.dm_boot.specs.Tables.{count, element_place, map_items};
 ghost use Rattle.dm_boot.specs.Text.{is_server_name};
-ghost use Rattle.dm_boot.specs.Build.{is_control, kind_with, link_of, link_to, links_of, pid_named, pid_of_start, process_tables};
+ghost use Rattle.dm_boot.specs.Build.{is_control, link_of, link_tables, link_to, pid_named, process_tables};
 ghost use Rattle.dm_boot.specs.Sound.{general_link, has_sound_links, is_sound};
 
 use crate::document::Document;
@@ -48,7 +50,7 @@ pub fn links_of(
     process: &Value,
 ) -> Result<ReadLinks, NoMemory>
     requires { count (process_tables (view document.now.top.now)) ≤ 4294967294 }
-    ensures links { IfOk result (λ read. read.links ≡ links_of (view document.now.top.now) starts.now (view process.now)) }
+    ensures links { IfOk result (λ read. read.links ≡ map_items (link_of (view document.now.top.now) starts.now) (link_tables (view process.now))) }
     ensures sound { IfOk result (λ read. read.sound ≡ has_sound_links (view document.now.top.now) (view process.now)) }
 {
     let tables = items_at(process, "links");
@@ -151,7 +153,7 @@ fn led_to(document: &Document<'_>, starts: &[BootProcess], name: &str) -> Led
 /// The name of the process at a place.
 #[tactic(auto, using(std::proofs::lemmas::Option::gets))]
 fn pid_of_start(starts: &[BootProcess], place: usize) -> Pid
-    ensures { result ≡ pid_of_start (slice_get starts.now place) }
+    ensures { result ≡ unwrap_or (option_map (λ p. p.pid) (slice_get starts.now place)) (pid_of 0 0) }
 {
     if place >= starts.len() {
         return Pid { home: 0, num: 0 };
@@ -184,7 +186,7 @@ fn link_to(pid: Pid, link: &Value) -> Link
 }
 
 fn kind_with(reply: bool) -> Kind
-    ensures { result ≡ kind_with reply }
+    ensures { result ≡ kind_of_flag reply }
 {
     if reply { Kind::Reply } else { Kind::General }
 }

@@ -1,7 +1,8 @@
 //! Names.
 ghost use Rattle.std.specs.Prelude.{◌≡◌};
 ghost use Rattle.std.specs.List.{list_all};
-ghost use Rattle.dm_boot.specs.Text.{is_boot_name, is_manager, is_name_byte, is_server_name, is_switchboard};
+ghost use Rattle.dm_asm.specs.Numbers.{is_name_part};
+ghost use Rattle.dm_boot.specs.Text.{is_boot_name, is_manager, is_server_name, is_switchboard};
 
 /// Whether a text is a name: 1 to 16 of `a` to `z`, `0` to `9` and `_`.
 pub fn is_name(text: &str) -> bool
@@ -12,13 +13,13 @@ pub fn is_name(text: &str) -> bool
 }
 
 fn are_name_bytes(bytes: &[u8]) -> bool
-    ensures { result ≡ list_all is_name_byte bytes.now }
+    ensures { result ≡ list_all is_name_part bytes.now }
 {
     bytes.iter().all(|b| is_name_byte(*b))
 }
 
 fn is_name_byte(b: u8) -> bool
-    ensures { result ≡ is_name_byte b }
+    ensures { result ≡ is_name_part b }
 {
     b'a' <= b && b <= b'z' || b'0' <= b && b <= b'9' || b == b'_'
 }

@@ -1,7 +1,8 @@
 //! The keys of tables, and the types of their values.
-ghost use Rattle.std.specs.Prelude.{◌≡◌};
+ghost use Rattle.std.specs.Prelude.{◌≡◌, is_some};
+ghost use Rattle.toml.specs.Data.{as_table};
 ghost use Rattle.toml.specs.View.{items_view, view};
-ghost use Rattle.dm_boot.specs.Tables.{all_items, is_table};
+ghost use Rattle.dm_boot.specs.Tables.{all_items};
 ghost use Rattle.dm_boot.specs.Rules.{is_control_link, is_image, is_link, is_link_to, is_machine, is_process, is_top, may_have_tables};
 
 use crate::tables::{
@@ -38,7 +39,7 @@ fn may_have_tables(value: &Value, key: &str) -> bool
 /// Whether each of these is a table.
 #[tactic(auto, using(crate::proofs::Elements::all_lemmas))]
 fn are_tables(items: &[Value]) -> bool
-    ensures { result ≡ all_items is_table (items_view items.now) }
+    ensures { result ≡ all_items (λ t. is_some (as_table t)) (items_view items.now) }
 {
     for item in items {
         if !item.is_table() {

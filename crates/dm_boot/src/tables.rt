@@ -3,9 +3,9 @@ ghost use Rattle.std.specs.Prelude.{◌≡◌, ◌≤◌, IfSome, map, option_co
 ghost use Rattle.std.specs.List.{list_all, list_any};
 ghost use Rattle.std.specs.Str.{bytes_eq};
 ghost use Rattle.std.specs.BTreeMap.{keys};
-ghost use Rattle.toml.specs.Data.{member, no_members, string, table};
+ghost use Rattle.toml.specs.Data.{as_array, as_bool, as_integer, as_str, member, no_members, string, table};
 ghost use Rattle.toml.specs.View.{items_view, table_view, view};
-ghost use Rattle.dm_boot.specs.Tables.{all_known, has_only, has_value, in_range, is_array, is_integer, is_known, is_text, is_truth, items_at, lone_member, lone_text, may_have, number_at, text_at, truth_at};
+ghost use Rattle.dm_boot.specs.Tables.{all_known, has_only, has_value, in_range, is_known, items_at, lone_member, lone_text, may_have, number_at, text_at, truth_at};
 
 use toml::{Table, Value};
 
@@ -51,7 +51,7 @@ fn names_any(known: &[&str], key: &str) -> bool
 
 /// Whether the key has an integer.
 pub fn has_integer(value: &Value, key: &str) -> bool
-    ensures { result ≡ has_value is_integer key.now (view value.now) }
+    ensures { result ≡ has_value as_integer key.now (view value.now) }
 {
     match value.get(key) {
         Some(found) => found.is_integer(),
@@ -61,7 +61,7 @@ pub fn has_integer(value: &Value, key: &str) -> bool
 
 /// Whether the key is missing or has an integer.
 pub fn may_have_integer(value: &Value, key: &str) -> bool
-    ensures { result ≡ may_have is_integer key.now (view value.now) }
+    ensures { result ≡ may_have as_integer key.now (view value.now) }
 {
     match value.get(key) {
         Some(found) => found.is_integer(),
@@ -71,7 +71,7 @@ pub fn may_have_integer(value: &Value, key: &str) -> bool
 
 /// Whether the key has a text.
 pub fn has_text(value: &Value, key: &str) -> bool
-    ensures { result ≡ has_value is_text key.now (view value.now) }
+    ensures { result ≡ has_value as_str key.now (view value.now) }
 {
     match value.get(key) {
         Some(found) => found.is_str(),
@@ -81,7 +81,7 @@ pub fn has_text(value: &Value, key: &str) -> bool
 
 /// Whether the key is missing or has a truth.
 pub fn may_have_truth(value: &Value, key: &str) -> bool
-    ensures { result ≡ may_have is_truth key.now (view value.now) }
+    ensures { result ≡ may_have as_bool key.now (view value.now) }
 {
     match value.get(key) {
         Some(found) => found.is_bool(),
@@ -91,7 +91,7 @@ pub fn may_have_truth(value: &Value, key: &str) -> bool
 
 /// Whether the key is missing or has an array.
 pub fn may_have_array(value: &Value, key: &str) -> bool
-    ensures { result ≡ may_have is_array key.now (view value.now) }
+    ensures { result ≡ may_have as_array key.now (view value.now) }
 {
     match value.get(key) {
         Some(found) => found.is_array(),

@@ -1,9 +1,9 @@
 //! Where links lead, and the limits of their numbers.
-ghost use Rattle.std.specs.Prelude.{◌≡◌, ◌≤◌, IfSome, option_map};
+ghost use Rattle.std.specs.Prelude.{◌≡◌, ◌≤◌, IfSome, codes, option_and_then, option_map};
 ghost use Rattle.toml.specs.View.{items_view, view};
-ghost use Rattle.dm_boot.specs.Tables.{all_items};
-ghost use Rattle.dm_boot.specs.Build.{base_in, channel_in, code_in, is_control, len_in};
-ghost use Rattle.dm_boot.specs.Rules.{blocks_of_named, blocks_of_process, has_area, has_target, is_limited, is_plain, memory_size_of};
+ghost use Rattle.dm_boot.specs.Tables.{all_items, named, or_zero, text_at};
+ghost use Rattle.dm_boot.specs.Build.{base_in, channel_in, code_in, image_blocks, image_tables, is_control, len_in};
+ghost use Rattle.dm_boot.specs.Rules.{has_area, has_target, is_limited, is_plain, memory_size_of};
 
 use crate::document::Document;
 use crate::limits::image_blocks;
@@ -99,7 +99,7 @@ fn is_plain(link: &Value) -> bool
 
 /// The blocks of an image that was found.
 fn blocks_of_named(image: Option<&Value>) -> u32
-    ensures blocks { result ≡ blocks_of_named (option_map (λ v. view v.now) image.entry) }
+    ensures blocks { result ≡ or_zero (option_and_then image_blocks (option_map (λ v. view v.now) image.entry)) }
     ensures few { result ≤ 256 }
 {
     match image {
@@ -110,7 +110,8 @@ fn blocks_of_named(image: Option<&Value>) -> u32
 
 /// The blocks of a process that was found.
 fn blocks_of_process(document: &Document<'_>, process: Option<&Value>) -> u32
-    ensures blocks { result ≡ blocks_of_process (view document.now.top.now) (option_map (λ v. view v.now) process.entry) }
+    ensures blocks { result ≡ or_zero (option_and_then image_blocks
+        (option_and_then (λ t. named (text_at (codes "image") t) (image_tables (view document.now.top.now))) (option_map (λ v. view v.now) process.entry))) }
     ensures few { result ≤ 256 }
 {
     match process {

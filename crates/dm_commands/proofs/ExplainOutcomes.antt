@@ -66,10 +66,8 @@ before_run files boot (Some schedule) text old new Done h = inl (
     system = h.system;
     directives = h.schedule_told.tells.directives;
     says = record {
-      says = record {
-        says_boot = says_boot files boot h.system h.first h.boot_told;
-        says_directives = record { bytes = h.schedule_told.bytes; file = h.schedule_told.file; says = h.schedule_told.tells.says };
-      };
+      says_boot = says_boot files boot h.system h.first h.boot_told;
+      says_directives = record { bytes = h.schedule_told.bytes; file = h.schedule_told.file; says = h.schedule_told.tells.says };
     };
   },
 )
@@ -123,7 +121,7 @@ is_end files boot None old new s quiet some h = elim h [
   | inr why ↦ no_boot files boot old new s quiet some why
 ]
 is_end files boot (Some schedule) old new s quiet some h = elim h [
-  | inl said ↦ said_files files boot schedule said.1.system said.1.directives said.1.says.says ∙ sym said.0
+  | inl said ↦ said_files files boot schedule said.1.system said.1.directives said.1.says ∙ sym said.0
   | inr why ↦ no_files files boot schedule old new s quiet some why
 ]
 

@@ -66,7 +66,7 @@ unfoldable pub use Rattle.dm_commands.specs.Drills.{directives_of_drill}
 pub use Rattle.dm_commands.specs.Ended.{ended_with}
 pub use Rattle.dm_commands.specs.Explains.{AsksNamed, BeforeRun, ExplainsSystem, FailsNamed, NoInputs, SaysInputs, TellsFiles, TellsRead, TellsSchedule, Wrote}
 pub use Rattle.dm_commands.specs.Files.{IsLonger, SoFar, StartsSo}
-pub use Rattle.dm_commands.specs.Inputs.{AcceptsFiles, AfterBoot, HasFile, NoBoot, NoDirectives, NoFiles, RefusesBoot, RefusesSchedule, SaysBoot, SaysDirectives, SaysFiles, most_boot, most_schedule}
+pub use Rattle.dm_commands.specs.Inputs.{AcceptsFiles, AfterBoot, HasFile, NoBoot, NoDirectives, NoFiles, RefusesBoot, RefusesSchedule, SaysBoot, SaysDirectives, most_boot, most_schedule}
 pub use Rattle.dm_commands.specs.Laws.{DrillsCheck, IsGoodDrill, IsGoodWornDrill, IsKept, RunsCheck, SaysItIs, WornRunsCheck}
 pub use Rattle.dm_commands.specs.Outside.{NeverFails, Outside}
 pub use Rattle.dm_commands.specs.Runs.{RunSays}

@@ -1,7 +1,7 @@
 -- Files say one thing: why there is no run is a function of them, where no read fails and memory is there.
 use Rattle.dm_commands.proofs.Names.{◌≡◌, ◌⊎◌, inl, inr, ◌≤◌, ◌<◌, ℕ, true, false, List, length, refl, ap, ap₂, sym, subst, ◌∙◌, cond, nat_lt, arith, nat_tests, Option, Some, Result, Ok, Err, Boot, BootRule, rule_number, Directive}
 use Rattle.dm_commands.proofs.Names.{Schedule, Accepted, Refused, RoseOrFull, Status, Done, Usage, ReadFault, NoMemory, WriteFault, BootRefused, ScheduleRefused, TooLong, Worn, TraceRefused, AcceptsFiles, AfterBoot, HasFile, NoFiles}
-use Rattle.dm_commands.proofs.Names.{RefusesBoot, RefusesSchedule, SaysBoot, SaysDirectives, SaysFiles, most_boot, most_schedule, IsLonger, BlamesSink, IsWant, None}
+use Rattle.dm_commands.proofs.Names.{RefusesBoot, RefusesSchedule, SaysBoot, SaysDirectives, most_boot, most_schedule, IsLonger, BlamesSink, IsWant, None}
 use Rattle.dm_boot.specs.Boot.{boot_of}
 use Rattle.dm_schedule.specs.Schedule.{directives_of, number_of_fault}
 use Rattle.dm_words.specs.declared.status.Input.TheVariants as input
@@ -76,7 +76,7 @@ said_directives : (files : Files) (schedule : List ℕ) (machines : ℕ) (ds : L
 said_directives files schedule machines ds k h = read_schedule_file files schedule h.bytes machines (Accepted ds) k h.file h.says
 
 -- files that say a system and directives
-pub said_files : (files : Files) (boot schedule : List ℕ) (b : Boot) (ds : List Directive) → SaysFiles (Some files) boot schedule b ds → outcome files boot schedule ≡ Done
+pub said_files : (files : Files) (boot schedule : List ℕ) (b : Boot) (ds : List Directive) → AcceptsFiles (Some files) boot schedule b ds → outcome files boot schedule ≡ Done
 said_files files boot schedule b ds h =
     said_boot files boot b (λ x. schedule_part (files schedule) (length x.machines) last_part) h.says_boot
     ∙ said_directives files schedule (length b.machines) ds last_part h.says_directives
@@ -193,8 +193,8 @@ same_directives files x y m n ds es e f h k =
 pub same_inputs : (boot schedule : List ℕ) (told : Option Files) (files : Files) (b c : Boot) (ds es : List Directive) → told ≡ Some files → AcceptsFiles told boot schedule b ds → AcceptsFiles (Some files) boot schedule c es → SaysSame b c ds es
 same_inputs boot schedule told files b c ds es is h k =
     let g : AcceptsFiles (Some files) boot schedule b ds = subst (λ f. AcceptsFiles f boot schedule b ds) is h in
-    let boots : b ≡ c = same_boot files boot boot b c refl g.says.says_boot k.says.says_boot in
+    let boots : b ≡ c = same_boot files boot boot b c refl g.says_boot k.says_boot in
     record {
       boots = boots;
-      directives = same_directives files schedule schedule (length b.machines) (length c.machines) ds es refl (ap (λ (x : Boot). length x.machines) boots) g.says.says_directives k.says.says_directives;
+      directives = same_directives files schedule schedule (length b.machines) (length c.machines) ds es refl (ap (λ (x : Boot). length x.machines) boots) g.says_directives k.says_directives;
     }

@@ -21,7 +21,7 @@ kept_trace boot trace run check b bytes k says written =
 said_of : (boot schedule trace : List ℕ) (run check : Outside) (s : Status) (b : Boot) (ds : List Directive) (bytes : List ℕ) (groups : ℕ) (ended : Bool) (k : IsKept boot trace run check) → AcceptsFiles (Some k.files) boot schedule b ds
     → run.after ≡ appended run.before bytes → verdict b bytes ≡ good_verdict groups ended → Accepts boot trace check s → NeverFails check → SaysItIs ended check s ⊎ IsWant s
 said_of boot schedule trace run check s b ds bytes groups ended k accepts written good promise never =
-    let gives : GivesGood k.later boot trace groups ended = record { system = b; bytes = bytes; has = kept_trace boot trace run check b bytes k accepts.says.says_boot written; good = good } in
+    let gives : GivesGood k.later boot trace groups ended = record { system = b; bytes = bytes; has = kept_trace boot trace run check b bytes k accepts.says_boot written; good = good } in
     elim (promise k.later groups ended k.at_check gives never) [
       | inl said ↦ inl (record { groups = groups; done = said.0; said = said.1 })
       | inr want ↦ inr want
@@ -36,7 +36,7 @@ runs_check boot schedule trace run check s says kept promise never = elim says [
       let a : AcceptsFiles (Some kept.files) boot schedule r.system r.directives = accepted boot schedule trace run check r.system r.directives kept r.accepts in
       let w : IsWhole r.system r.directives run.before run.after run.world = r.says.1 in
       said_of boot schedule trace run check s r.system r.directives _ (length w.groups) true kept a w.written
-      (runs_ended r.system r.directives w.groups w.end w.left r.within (homes_of _ schedule (length r.system.machines) r.directives a.says.says_directives) w.good w.fits w.ends_fit) promise never
+      (runs_ended r.system r.directives w.groups w.end w.left r.within (homes_of _ schedule (length r.system.machines) r.directives a.says_directives) w.good w.fits w.ends_fit) promise never
   | inr r ↦ absurd r.why
 ]
 
@@ -47,6 +47,6 @@ worn_runs_check boot schedule trace run check from to s says kept promise never 
       let w : RunWears r.system r.directives run.before run.after from to = r.says in
       let good : IsGood r.system r.directives (w.groups ++ []) w.wears.end w.wears.left = subst (λ (gs : List (List Line)). IsGood r.system r.directives gs w.wears.end w.wears.left) (sym (append-nil w.groups)) w.wears.good in
       said_of boot schedule trace run check s r.system r.directives _ (length w.groups) false kept a w.written
-      (beginnings_open r.system r.directives w.groups [] w.wears.end w.wears.left r.within (homes_of _ schedule (length r.system.machines) r.directives a.says.says_directives) good w.fits) promise never
+      (beginnings_open r.system r.directives w.groups [] w.wears.end w.wears.left r.within (homes_of _ schedule (length r.system.machines) r.directives a.says_directives) good w.fits) promise never
   | inr r ↦ absurd r.why
 ]

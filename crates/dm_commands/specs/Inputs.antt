@@ -55,11 +55,6 @@ pub record RefusesSchedule (files : Option (List ℕ → Option (List ℕ))) (na
   pub refused : directives_of bytes machines ≡ Refused line fault
   pub why_is : why ≡ number_of_fault fault
 
--- files of these names say this system and these directives
-pub record SaysFiles (files : Option (List ℕ → Option (List ℕ))) (boot schedule : List ℕ) (b : Boot) (ds : List Directive) : Type 0 where
-  pub says_boot : SaysBoot files boot b
-  pub says_directives : SaysDirectives files schedule (length b.machines) ds
-
 -- why the boot file of this name gives no system
 abbrev pub NoBoot : Option (List ℕ → Option (List ℕ)) → List ℕ → ℕ → ℕ → Status → Type 0
 NoBoot files name old new (status.ReadFault input.Boot) = RoseOrFull old new
@@ -95,4 +90,5 @@ NoFiles files boot schedule old new _ = ⊥
 
 -- files of these names say this system and these directives
 pub record AcceptsFiles (files : Option (List ℕ → Option (List ℕ))) (boot schedule : List ℕ) (b : Boot) (ds : List Directive) : Type 0 where
-  pub says : SaysFiles files boot schedule b ds
+  pub says_boot : SaysBoot files boot b
+  pub says_directives : SaysDirectives files schedule (length b.machines) ds

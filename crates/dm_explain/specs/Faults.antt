@@ -3,8 +3,8 @@ use Rattle.std.specs.Prelude.{ℕ, not, Bool, if◌then◌else◌, ℤ, codes, L
 use Rattle.std.specs.List.{concat, flat_map}
 use Rattle.std.specs.Option.{is_some, option_and_then}
 use Rattle.std.specs.Fmt.{decimal}
-use Rattle.toml.specs.Data.{Data, get, as_integer}
-use Rattle.dm_boot.specs.Tables.{has_only, is_integer, is_text, is_truth, is_array, number_at}
+use Rattle.toml.specs.Data.{Data, get, as_array, as_bool, as_integer, as_str}
+use Rattle.dm_boot.specs.Tables.{has_only, number_at}
 use Rattle.dm_explain.specs.declared.wanted.Sort.{Sort}
 use Rattle.dm_explain.specs.declared.wanted.Sort.TheVariants.{Integer, Text, Truth, Array}
 use Rattle.dm_explain.specs.Parts.{integer_text}
@@ -12,10 +12,10 @@ use Rattle.dm_explain.specs.Wanted.{Wish, Limit, sort_words}
 
 -- the key has what it must be
 abbrev pub is_sort : Sort → Data → Bool
-is_sort Integer d = is_integer d
-is_sort Text d = is_text d
-is_sort Truth d = is_truth d
-is_sort Array d = is_array d
+is_sort Integer d = is_some (as_integer d)
+is_sort Text d = is_some (as_str d)
+is_sort Truth d = is_some (as_bool d)
+is_sort Array d = is_some (as_array d)
 
 abbrev pub met_by : Wish → Option Data → Bool
 met_by w None = not w.needed

@@ -63,25 +63,9 @@ IsWant s = (lack : TheNoMemory) × (s ≡ NoMemory lack)
 -- the shelf's count of faults is as it was, unless it is blamed: then it rose
 abbrev pub BlamesShelf : ℕ → ℕ → Status → Type 0
 BlamesShelf old new (ReadFault input) = RoseOrFull old new
-BlamesShelf old new Done = new ≡ old
-BlamesShelf old new Usage = new ≡ old
-BlamesShelf old new (NoMemory lack) = new ≡ old
-BlamesShelf old new WriteFault = new ≡ old
-BlamesShelf old new (BootRefused number place) = new ≡ old
-BlamesShelf old new (ScheduleRefused line why) = new ≡ old
-BlamesShelf old new (TooLong input) = new ≡ old
-BlamesShelf old new (Worn from to) = new ≡ old
-BlamesShelf old new (TraceRefused line why) = new ≡ old
+BlamesShelf old new _ = new ≡ old
 
 -- and so the sink's
 abbrev pub BlamesSink : ℕ → ℕ → Status → Type 0
 BlamesSink old new WriteFault = RoseOrFull old new
-BlamesSink old new Done = new ≡ old
-BlamesSink old new Usage = new ≡ old
-BlamesSink old new (ReadFault input) = new ≡ old
-BlamesSink old new (NoMemory lack) = new ≡ old
-BlamesSink old new (BootRefused number place) = new ≡ old
-BlamesSink old new (ScheduleRefused line why) = new ≡ old
-BlamesSink old new (TooLong input) = new ≡ old
-BlamesSink old new (Worn from to) = new ≡ old
-BlamesSink old new (TraceRefused line why) = new ≡ old
+BlamesSink old new _ = new ≡ old
