@@ -31,4 +31,3 @@ memory_lines p bytes blocks = joined_below (λ k. block_line p k (trimmed (take 
 -- so many processes of a home, in order of number
 abbrev pub home_with : (Pid → List EndLine) → ℕ → ℕ → List EndLine
 home_with f home made = joined_below (λ n. f (pid_of home (first_number + n))) made
-

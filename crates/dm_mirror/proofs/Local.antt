@@ -94,9 +94,9 @@ acted_same b w u e s d from said happens =
     let x = marked_by e w in
     let y = marked_by e u in
     let acted_unnumbered : (w u : WorldState) (e : Step) (m : ℕ) (d : Acted) → map unnumbered (acted u e m d).lines ≡ map unnumbered (acted w e m d).lines =
-      λ w u e m d. ap (λ (ls : List Line). unnumbered (Line.Head e) ∷ ls) (spoken_unnumbered u.wires w.wires d.outs) in
+    λ w u e m d. ap (λ (ls : List Line). unnumbered (Line.Head e) ∷ ls) (spoken_unnumbered u.wires w.wires d.outs) in
     let acted_exact : (w u : WorldState) (e : Step) (m : ℕ) (d : Acted) → IsFrom m d → AsLong m w u → (acted u e m d).lines ≡ (acted w e m d).lines =
-      λ w u e m d from long. ap (λ (ls : List Line). Line.Head e ∷ ls) (spoken_same m u.wires w.wires d.outs from.outs long) in
+    λ w u e m d from long. ap (λ (ls : List Line). Line.Head e ∷ ls) (spoken_same m u.wires w.wires d.outs from.outs long) in
     record {
       said = acted y e m d;
       happens = happens;
@@ -137,7 +137,7 @@ delivers_same b w u a c k s (Some bytes) here_is there_is is node happens =
 pub reads_locally : KernelStays → ReadsLocally
 reads_locally stays b w u (Step.Turn m) s is node same happens =
     let turn_is : KernelStays → (b : Boot) (w : WorldState) (m : ℕ) (s : Said) → here (w.nodes m) ≡ m → world_step b w (Step.Turn m) ≡ Some (Says s) → Turns (Step.Turn m) m w (machine.turn b (w.nodes m)) s =
-      λ stays b w m s is happens. turned_is (Step.Turn m) m w (machine.turn b (w.nodes m)) s (turns_from (w.nodes m) m (kernel.turn b (w.nodes m).kernel) is (λ t e. stays b (w.nodes m).kernel t e)) happens in
+    λ stays b w m s is happens. turned_is (Step.Turn m) m w (machine.turn b (w.nodes m)) s (turns_from (w.nodes m) m (kernel.turn b (w.nodes m).kernel) is (λ t e. stays b (w.nodes m).kernel t e)) happens in
     let t = turn_is stays b w m s is happens in
     acted_same b w u (Step.Turn m) s t.acted_ t.from t.said (ap (turned u (Step.Turn m) m) (ap (machine.turn b) node ∙ t.is))
 reads_locally stays b w u (Step.Tick m) s is node same happens =

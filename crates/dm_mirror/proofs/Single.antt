@@ -120,16 +120,16 @@ end_same b w pt l h f =
     let is = joined_below (λ m. list_line (EndLine.Inbox m) (world.names_of (w.nodes m).kernel.inbox)) n in
     let ts = joined_below (λ a. joined_below (λ c. world.stream_line w a c) n) n in
     let processes_said : (b : Boot) (w : WorldState) (pt : Point) (l : Placed) (h : History) → Final b w pt l h
-      → world.homes_with w (world.process_lines pt.kernel.machines w) pt.kernel.machines ≡ rule.each_process pt (λ p. rule.process_lines pt p (pt.kernel.processes p)) = λ b w pt l h f.
-      homes_same w pt (world.process_lines pt.kernel.machines w) (λ p. rule.process_lines pt p (pt.kernel.processes p)) pt.kernel.machines (λ m below. made_same b w pt l h m below f)
-      (λ home n below fewer. process_said b w pt l h (pid_of home (first_number + n)) (of_home b w pt l h home n below f) (f.made.all home n below fewer)) in
+    → world.homes_with w (world.process_lines pt.kernel.machines w) pt.kernel.machines ≡ rule.each_process pt (λ p. rule.process_lines pt p (pt.kernel.processes p)) = λ b w pt l h f.
+    homes_same w pt (world.process_lines pt.kernel.machines w) (λ p. rule.process_lines pt p (pt.kernel.processes p)) pt.kernel.machines (λ m below. made_same b w pt l h m below f)
+    (λ home n below fewer. process_said b w pt l h (pid_of home (first_number + n)) (of_home b w pt l h home n below f) (f.made.all home n below fewer)) in
     let queues_said : (b : Boot) (w : WorldState) (pt : Point) (l : Placed) (h : History) → Final b w pt l h → world.homes_with w (world.queue_of pt.kernel.machines w) pt.kernel.machines ≡ rule.queue_lines pt = λ b w pt l h f.
-      homes_same w pt (world.queue_of pt.kernel.machines w) (λ p. rule.queue_at pt.view p (first_with standing_of pt.view p pt.kernel.machines)) pt.kernel.machines (λ m below. made_same b w pt l h m below f)
-      (λ home n below fewer. queue_said b w pt l h (pid_of home (first_number + n)) (of_home b w pt l h home n below f) (f.made.all home n below fewer)) in
+    homes_same w pt (world.queue_of pt.kernel.machines w) (λ p. rule.queue_at pt.view p (first_with standing_of pt.view p pt.kernel.machines)) pt.kernel.machines (λ m below. made_same b w pt l h m below f)
+    (λ home n below fewer. queue_said b w pt l h (pid_of home (first_number + n)) (of_home b w pt l h home n below f) (f.made.all home n below fewer)) in
     let inboxes_said : (b : Boot) (w : WorldState) (pt : Point) (l : Placed) (h : History) → Final b w pt l h
-      → joined_below (λ m. list_line (EndLine.Inbox m) (world.names_of (w.nodes m).kernel.inbox)) pt.kernel.machines ≡ rule.inbox_lines pt = λ b w pt l h f.
-      machines_same (λ m. list_line (EndLine.Inbox m) (world.names_of (w.nodes m).kernel.inbox)) (λ m. list_line (EndLine.Inbox m) (pt.view.inbox m)) pt.kernel.machines
-      (λ m below. ap (list_line (EndLine.Inbox m)) (names_are l.bag (pt.view.inbox m) (w.nodes m).kernel.inbox (λ i x there. (f.stands.mirrors.places.message i x there).id) ((f.stands.nodes m below).kernel.inbox))) in
+    → joined_below (λ m. list_line (EndLine.Inbox m) (world.names_of (w.nodes m).kernel.inbox)) pt.kernel.machines ≡ rule.inbox_lines pt = λ b w pt l h f.
+    machines_same (λ m. list_line (EndLine.Inbox m) (world.names_of (w.nodes m).kernel.inbox)) (λ m. list_line (EndLine.Inbox m) (pt.view.inbox m)) pt.kernel.machines
+    (λ m below. ap (list_line (EndLine.Inbox m)) (names_are l.bag (pt.view.inbox m) (w.nodes m).kernel.inbox (λ i x there. (f.stands.mirrors.places.message i x there).id) ((f.stands.nodes m below).kernel.inbox))) in
     ap (λ (ls : List EndLine). ending ls (world.server_lines (w.nodes 0).kernel.servers) qs hs is ts w.groups) (processes_said b w pt l h f)
     ∙ (ap (λ (ls : List EndLine). ending ps ls qs hs is ts w.groups) (let e_ : world.server_lines (w.nodes 0).kernel.servers ≡ rule.server_lines pt = grind (arith, nat_tests, servers_said) in e_)
     ∙ (ap (λ (ls : List EndLine). ending ps ss ls hs is ts w.groups) (queues_said b w pt l h f)

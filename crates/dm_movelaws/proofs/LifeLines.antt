@@ -246,7 +246,7 @@ of_processes pt q = process_lines pt q (pt.kernel.processes q)
 end_by : (p : Pid) (pt : Point) (ls : List EndLine) → life_lines p (each_process pt (of_processes pt)) ≡ ls → life_lines p (end_lines pt) ≡ ls
 end_by p pt ls h =
     let mute_queues : (p : Pid) (pt : Point) → Mute p (queue_lines pt) =
-      λ p pt. let mute_queue : (p : Pid) (v : View) (q : Pid) (o : Option Stood) → Mute p (queue_at v q o) = λ p v q o. grind (arith, nat_tests, mute_list) in search (mute_homes, mute_queue) in
+    λ p pt. let mute_queue : (p : Pid) (v : View) (q : Pid) (o : Option Stood) → Mute p (queue_at v q o) = λ p v q o. grind (arith, nat_tests, mute_list) in search (mute_homes, mute_queue) in
     let lives = EndLine.Final ∷ each_process pt (of_processes pt) in
     let servers = lives ++ server_lines pt in
     let queues = servers ++ queue_lines pt in

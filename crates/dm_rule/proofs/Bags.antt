@@ -171,8 +171,8 @@ answers_in : (r e : MsgId → ℕ) (s t u : OneKernel) (id : MsgId) (m : PlainMe
     → Sound r e s → BagStep e s t (Some id) (Some (answer_id id))
 answers_in r e s t u id m w is same there asking h =
     let answer_fresh : (r e : MsgId → ℕ) (s : OneKernel) (id : MsgId) (m : PlainMessage) → s.bag id ≡ Some m → asks m.what ≡ true → Entered r e s → e (answer_id id) ≡ 0 = λ r e s id m there asking h.
-      zero_if (e (answer_id id)) (λ least.
-      let k : None ≡ Some m = sym (sym (ap s.bag (let back : request_id (answer_id id) ≡ id = (let q : id.answer ≡ false = h.requests id m there asking in grind arith) in back)) ∙ h.answers (answer_id id) refl least) ∙ there in cc) in
+    zero_if (e (answer_id id)) (λ least.
+    let k : None ≡ Some m = sym (sym (ap s.bag (let back : request_id (answer_id id) ≡ id = (let q : id.answer ≡ false = h.requests id m there asking in grind arith) in back)) ∙ h.answers (answer_id id) refl least) ∙ there in cc) in
     let name : (answer_to m w).id ≡ answer_id id = ap answer_id (h.entered.named id m there) in
     let zero_ : e (answer_to m w).id ≡ 0 = ap e name ∙ answer_fresh r e s id m there asking h.entered in
     search (arith, steps_in)
@@ -291,10 +291,10 @@ pub record TookStep (e : MsgId → ℕ) (s t : OneKernel) (id : MsgId) : Type 0 
 pub bag_took : (r e : MsgId → ℕ) (s t : OneKernel) (id : MsgId) → step.step s (Label.Took id) ≡ Some t → Sound r e s → TookStep e s t id
 bag_took r e s t id is h =
     let took_by : (r e : MsgId → ℕ) (s t : OneKernel) (id : MsgId) (m : PlainMessage) (b c : Bool)
-      → (if b then bind (board.board_takes s.switchboard m m.what) (λ k. Some (service.switchboard_took s id k))
-      else if c then bind (manage.manager_takes s.manager s.machines (length s.images) m m.what) (λ k. Some (service.manager_took s id k))
-      else None) ≡ Some t → Sound r e s
-      → BagStep e s t (Some id) (if b then board_id (board.board_takes s.switchboard m m.what) else if c then manager_id (manage.manager_takes s.manager s.machines (length s.images) m m.what) else None) =
-      λ r e s t id m b c h1 h2. search (arith, board_took, manager_took) in
+    → (if b then bind (board.board_takes s.switchboard m m.what) (λ k. Some (service.switchboard_took s id k))
+    else if c then bind (manage.manager_takes s.manager s.machines (length s.images) m m.what) (λ k. Some (service.manager_took s id k))
+    else None) ≡ Some t → Sound r e s
+    → BagStep e s t (Some id) (if b then board_id (board.board_takes s.switchboard m m.what) else if c then manager_id (manage.manager_takes s.manager s.machines (length s.images) m m.what) else None) =
+    λ r e s t id m b c h1 h2. search (arith, board_took, manager_took) in
     let (m, there, rest) = bind-is (s.bag id) (service.takes s id) t is in
     record { m = m; there = there; is = took_by r e s t id m (pid_eq m.to switchboard) (pid_eq m.to manager) rest h }

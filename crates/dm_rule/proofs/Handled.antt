@@ -81,7 +81,7 @@ awaited_stands s mask (i ∷ is) id e = awaited_if s mask i is id (rule.is_await
 completes_row : (pt : Point) (p : Pid) (id : MsgId) (c : receiving.Completed) (w : Spelled) → State None pt → 1 ≤ times id (pt.view.queue pt.view.acting p) → spelled pt (rule.completion_parts p id c) ≡ Some w → State None w.point
 completes_row pt p id (receiving.Receives x) w h there e =
     let received_off : (v : View) (p : Pid) (rest : List MsgId) (z : Spot) → ids_at (record (view.serving v p) { queue = at_record v.queue v.acting p rest }) z ≡ ids_at (record v { queue = at_record v.queue v.acting p rest }) z =
-      λ v p rest z. elim z as (λ z_. ids_at (record (view.serving v p) { queue = at_record v.queue v.acting p rest }) z_ ≡ ids_at (record v { queue = at_record v.queue v.acting p rest }) z_) [ Queue m' q' ↦ refl | _ ↦ refl ] in
+    λ v p rest z. elim z as (λ z_. ids_at (record (view.serving v p) { queue = at_record v.queue v.acting p rest }) z_ ≡ ids_at (record v { queue = at_record v.queue v.acting p rest }) z_) [ Queue m' q' ↦ refl | _ ↦ refl ] in
     one_line pt (Line.Label (Label.Receive p id)) w e
     (λ s k. by_label pt (Label.Receive p id) s (Some id) None h k (gone_out pt (Label.Receive p id) s id h k refl) (bag_receive h.e pt.kernel s p id k)
     (Stands-dequeued (letters h.own pt.kernel.bag) pt.view (view_after pt.view (Line.Label (Label.Receive p id))) id p (without_id id (pt.view.queue pt.view.acting p)) (λ j. without_counts j id (pt.view.queue pt.view.acting p) there)
@@ -130,7 +130,7 @@ dropped_row : (pt : Point) (i : MsgId) (is : List MsgId) (w : Spelled) → State
 dropped_row pt i is w h front e =
     -- a message that stands in the inbox is at the front of no queue
     let dropped_off : (v : View) (i : MsgId) (o : Option Pid) → ((m : ℕ) (p : Pid) → times i (v.queue m p) ≡ 0) → (z : Spot) → ids_at (view.dropped_for (handled v i) i o) z ≡ ids_at (handled v i) z =
-      λ v i o h1 z. search (arith, at_record_same, without_front_none) in
+    λ v i o h1 z. search (arith, at_record_same, without_front_none) in
     one_line pt (Line.Label (Label.Dropped i)) w e
     (λ s k. front_label pt (Label.Dropped i) s i is None h front k refl (bag_dropped h.e pt.kernel s i k) (λ z. dropped_off pt.view i (receiver_of (pt.view.told i)) (front_unqueued pt i is h front) z) (λ j. dropped_told pt.view i (receiver_of (pt.view.told i)) j))
 

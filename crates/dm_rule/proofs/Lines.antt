@@ -109,11 +109,11 @@ pub Stands-queued : (bag : Bag) (v w : View) (i : MsgId) (is : List MsgId) (x : 
 Stands-queued bag v w i is x front there is_w h =
     -- whom a queue's messages are for, once one more stands there
     let queue_mine : (bag : Bag) (v : View) (i : MsgId) (x : Pid) (p : Pid) → bag i ≡ Some x → x ≡ p → Stands bag v → (m : ℕ) (q : Pid) (j : MsgId) (y : Pid)
-      → 1 ≤ times j (at_record v.queue v.acting p (v.queue v.acting p ++ i ∷ []) m q) → bag j ≡ Some y → y ≡ q =
-      λ bag v i x p there to h m q j y least is. search (arith, and_parts, pid_eq-is, one_more, id_eq-is, at_record_off) in
+    → 1 ≤ times j (at_record v.queue v.acting p (v.queue v.acting p ++ i ∷ []) m q) → bag j ≡ Some y → y ≡ q =
+    λ bag v i x p there to h m q j y least is. search (arith, and_parts, pid_eq-is, one_more, id_eq-is, at_record_off) in
     let queued_off : (v : View) (i : MsgId) (p : Pid) (z : Spot) → z ≢ Inbox v.acting → z ≢ Queue v.acting p
-      → ids_at (record (handled v i) { queue = at_record v.queue v.acting p (v.queue v.acting p ++ i ∷ []) }) z ≡ ids_at v z =
-      λ v i p z h1 h2. search (arith, at_record_off, queue_apart, at_machine_off, inbox_apart) in
+    → ids_at (record (handled v i) { queue = at_record v.queue v.acting p (v.queue v.acting p ++ i ∷ []) }) z ≡ ids_at v z =
+    λ v i p z h1 h2. search (arith, at_record_off, queue_apart, at_machine_off, inbox_apart) in
     let told : receiver_of (v.told i) ≡ Some x = h.told i x there in
     let u = record (handled v i) { queue = at_record v.queue v.acting x (v.queue v.acting x ++ i ∷ []) } in
     let e : u ≡ w = sym (let e_ : view.queued_for (handled v i) i (receiver_of (v.told i)) ≡ record (handled v i) { queue = at_record v.queue v.acting x (v.queue v.acting x ++ i ∷ []) } = search arith in e_) ∙ sym is_w in
@@ -242,14 +242,14 @@ pub Stands-put-home : (bag : Bag) (v : View) (m : ℕ) (i : MsgId) (k : MessageK
     → Stands bag v → Stands (having i x bag) (view.after_put v m m i k x)
 Stands-put-home bag v m i k x none untold full h =
     let put_home_off : (v : View) (m : ℕ) (i : MsgId) (k : MessageKind) (q : Pid) (z : Spot) → z ≢ Inbox m → (view.after_put v m m i k q).inbox ≡ at_machine v.inbox m (v.inbox m ++ i ∷ [])
-      → untaken (view.routed_on m m (v.pair m m) i) ≡ untaken (v.pair m m) → ids_at (view.after_put v m m i k q) z ≡ ids_at v z =
-      λ v m i k q z h1 h2 h3. grind (arith, nat_tests, at_machine_off, inbox_apart, pair_keeps) in
+    → untaken (view.routed_on m m (v.pair m m) i) ≡ untaken (v.pair m m) → ids_at (view.after_put v m m i k q) z ≡ ids_at v z =
+    λ v m i k q z h1 h2 h3. grind (arith, nat_tests, at_machine_off, inbox_apart, pair_keeps) in
     let w = view.after_put v m m i k x in
     let t : Told = record { kind = k; receiver = x; about = v.topic } in
     let inbox : w.inbox ≡ at_machine v.inbox m (v.inbox m ++ i ∷ []) = ap (λ (c : Bool). if c then at_machine v.inbox m (v.inbox m ++ i ∷ []) else v.inbox) (eq_self m) in
     let put_home_untaken : (m : ℕ) (p : Pair) (i : MsgId) → p.taken ≡ length p.ids → untaken (view.routed_on m m p i) ≡ untaken p = λ m p i full.
-      let taken : (view.routed_on m m p i).taken ≡ length p.ids + 1 = ap (λ (c : Bool). if c then p.taken + 1 else p.taken) (eq_self m) ∙ ap (λ n. n + 1) full in
-      ap (λ n. drop n (p.ids ++ i ∷ [])) taken ∙ subst (λ n. drop n (p.ids ++ i ∷ []) ≡ []) (length-append p.ids (i ∷ [])) (drop-length (p.ids ++ i ∷ [])) ∙ sym (ap (λ n. drop n p.ids) full ∙ drop-length p.ids) in
+    let taken : (view.routed_on m m p i).taken ≡ length p.ids + 1 = ap (λ (c : Bool). if c then p.taken + 1 else p.taken) (eq_self m) ∙ ap (λ n. n + 1) full in
+    ap (λ n. drop n (p.ids ++ i ∷ [])) taken ∙ subst (λ n. drop n (p.ids ++ i ∷ []) ≡ []) (length-append p.ids (i ∷ [])) (drop-length (p.ids ++ i ∷ [])) ∙ sym (ap (λ n. drop n p.ids) full ∙ drop-length p.ids) in
     Stands-comes bag v w i x (Inbox m) none
     (λ j. ap (times j) (ap (λ f. f m) inbox ∙ at_machine_at v.inbox m (v.inbox m ++ i ∷ [])) ∙ one_more j i (v.inbox m))
     (λ z apart. put_home_off v m i k x z apart inbox (put_home_untaken m (v.pair m m) i full)) (λ n p. refl) (λ j apart. told_off v i j (Some (view.first_told (v.told i) t)) apart) (told_at v i t x untold) h
@@ -261,7 +261,7 @@ Stands-put-away bag v a b i k x apart none untold within h =
     let t : Told = record { kind = k; receiver = x; about = v.topic } in
     let inbox : w.inbox ≡ v.inbox = ap (λ (c : Bool). if c then at_machine v.inbox b (v.inbox b ++ i ∷ []) else v.inbox) apart in
     let put_away_untaken : (a b : ℕ) (p : Pair) (i : MsgId) → (a == b) ≡ false → p.taken ≤ length p.ids → untaken (view.routed_on a b p i) ≡ untaken p ++ i ∷ [] = λ a b p i apart within.
-      ap (λ n. drop n (p.ids ++ i ∷ [])) (ap (λ (c : Bool). if c then p.taken + 1 else p.taken) apart) ∙ drop-append-le p.taken p.ids (i ∷ []) within in
+    ap (λ n. drop n (p.ids ++ i ∷ [])) (ap (λ (c : Bool). if c then p.taken + 1 else p.taken) apart) ∙ drop-append-le p.taken p.ids (i ∷ []) within in
     Stands-comes bag v w i x (Untaken a b) none
     (λ j. ap (times j) (ap untaken (pair_at v.pair a b (view.routed_on a b (v.pair a b) i)) ∙ put_away_untaken a b (v.pair a b) i apart within) ∙ one_more j i (untaken (v.pair a b)))
     (λ z off. (let e_ : ids_at (view.after_put v a b i k x) z ≡ ids_at v z = search (arith, pair_off, untaken_apart) in e_)) (λ n p. refl) (λ j other. told_off v i j (Some (view.first_told (v.told i) t)) other) (told_at v i t x untold) h
@@ -278,7 +278,7 @@ taken_by bag v a b n None is h =
     [ Untaken c d ↦ pair_keeps v.pair a b (taken_pair (v.pair a b) n) (ap (λ m. drop m (v.pair a b).ids) next ∙ k.1 ∙ sym k.0) c d | _ ↦ refl ]) (λ j. refl) h
 taken_by bag v a b n (Some i) is h =
     let taken_off : (v : View) (a b n : ℕ) (i : MsgId) (z : Spot) → z ≢ Untaken a b → z ≢ Inbox b → ids_at (record (view.with_pair v a b (taken_pair (v.pair a b) n)) { inbox = at_machine v.inbox b (v.inbox b ++ i ∷ []) }) z ≡ ids_at v z =
-      λ v a b n i z h1 h2. search (arith, at_machine_off, inbox_apart, pair_off, untaken_apart) in
+    λ v a b n i z h1 h2. search (arith, at_machine_off, inbox_apart, pair_off, untaken_apart) in
     let u = record (view.with_pair v a b (taken_pair (v.pair a b) n)) { inbox = at_machine v.inbox b (v.inbox b ++ i ∷ []) } in
     let next : (v.pair a b).taken + 1 ≡ suc (v.pair a b).taken = omega arith in
     let front : untaken (v.pair a b) ≡ i ∷ drop (suc (v.pair a b).taken) (v.pair a b).ids = at_place (v.pair a b).ids (v.pair a b).taken i is in

@@ -59,7 +59,7 @@ deliver_keeps b pt a c k w apart g h =
     let f = pt.view.pair in
     let is : g.begun.view.pair ≡ at_pair f a c (marked (f a c) k) = ap (λ (v : View). v.pair) (line_view pt g.begun (Line.Head (Step.Deliver a c k)) g.begins) in
     let WireStands-marked : (g b : ℕ) (ss : List SentLoad) (k : ℕ) (o : Option SentLoad) → slice_get ss k ≡ o → WireStands g b ss → WireStands g b (marked_at ss k o) =
-      λ g b ss k o e h. (elim o as (λ o_. slice_get ss k ≡ o_ → WireStands g b (marked_at ss k o_)) [ None ↦ λ e'. h | Some s' ↦ λ e'. WireStands-set g b ss k (record s' { delivered = true }) (WireStands-at g b ss k s' e' h) h ]) e in
+    λ g b ss k o e h. (elim o as (λ o_. slice_get ss k ≡ o_ → WireStands g b (marked_at ss k o_)) [ None ↦ λ e'. h | Some s' ↦ λ e'. WireStands-set g b ss k (record s' { delivered = true }) (WireStands-at g b ss k s' e' h) h ]) e in
     let goes : Goes f (at_pair f a c (marked (f a c) k)) = search (arith, changed, WireStands-marked) in
     let there : g.begun.view.pair a c ≡ marked (f a c) k = ap (λ (p : ℕ → ℕ → Pair). p a c) is ∙ set_same f a c (marked (f a c) k) in
     let back : g.begun.view.pair c a ≡ f c a = ap (λ (p : ℕ → ℕ → Pair). p c a) is ∙ set_other f a c (marked (f a c) k) c a (let off : ((a == c) && (c == a)) ≡ false = grind (arith, nat_tests) in off) in
@@ -76,8 +76,8 @@ migrate_keeps b pt p m w g h =
 pub Pairs-group : (b : Boot) (pt : Point) (e : Step) (w : Spelled) → IsStep pt.kernel.machines e → group_of b pt e ≡ Some w → Pairs pt.view → Pairs w.point.view
 Pairs-group b pt (Step.Turn m) w fits is h =
     let turn_keeps : (b : Boot) (pt : Point) (m : ℕ) (w : Spelled) → Group b pt (Step.Turn m) w → Pairs pt.view → Pairs w.point.view = λ b pt m w g h.
-      let is : g.begun.view.pair ≡ pt.view.pair = ap (λ (v : View). v.pair) (line_view pt g.begun (Line.Head (Step.Turn m)) g.begins) in
-      subst (λ (q : Point). Pairs q.view) g.end (keeps g.parts g.begun g.rest (turns_fit g.begun.view.pair b pt m (pt.view.inbox m) g.parts g.follows) (subst Paired (sym is) h) g.on) in
+    let is : g.begun.view.pair ≡ pt.view.pair = ap (λ (v : View). v.pair) (line_view pt g.begun (Line.Head (Step.Turn m)) g.begins) in
+    subst (λ (q : Point). Pairs q.view) g.end (keeps g.parts g.begun g.rest (turns_fit g.begun.view.pair b pt m (pt.view.inbox m) g.parts g.follows) (subst Paired (sym is) h) g.on) in
     turn_keeps b pt m w (group b pt (Step.Turn m) w is) h
 Pairs-group b pt (Step.Tick m) w fits is h = tick_keeps b pt m w (group b pt (Step.Tick m) w is) h
 Pairs-group b pt (Step.Deliver a c k) w fits is h = deliver_keeps b pt a c k w fits.2 (group b pt (Step.Deliver a c k) w is) h

@@ -16,7 +16,7 @@ no_mail_empty v m e = none (v.inbox m) e
 pub quiet_passes : (n : ℕ) (v : View) → IsQuiet n v → is_quiet n v ≡ true
 quiet_passes n v q =
     let heard_by : (same : Bool) (p : Pair) → (same ≡ false → p.acked ≡ length p.ids) → (same || (p.acked == length p.ids)) ≡ true =
-      λ same p h. (elim same as (λ same_. ((same_ ≡ false → p.acked ≡ length p.ids)) → (same_ || (p.acked == length p.ids)) ≡ true) [ true ↦ λ h'. refl | false ↦ λ h'. eq-eqb p.acked (length p.ids) (h' refl) ]) h in
+    λ same p h. (elim same as (λ same_. ((same_ ≡ false → p.acked ≡ length p.ids)) → (same_ || (p.acked == length p.ids)) ≡ true) [ true ↦ λ h'. refl | false ↦ λ h'. eq-eqb p.acked (length p.ids) (h' refl) ]) h in
     all_of_each n (λ a. not (has_mail v a) && all_below n (λ b. pair_is_quiet (a == b) (v.pair a b)))
     (λ a h. both_true (not (has_mail v a)) (all_below n (λ b. pair_is_quiet (a == b) (v.pair a b))) (ap (λ (xs : List MsgId). not (nat_lt 0 (length xs))) (q.inbox a h))
     (all_of_each n (λ b. pair_is_quiet (a == b) (v.pair a b))

@@ -15,5 +15,5 @@ by_child P a p (Some n) none asks = asks n refl
 pub by_migrates : (P : List Part → Type 0) (pt : Point) (p : Pid) → P (Says (Line.Pinned p) ∷ []) → P (Says (Line.NoChild p) ∷ []) → ((n : ℕ) → (pid_eq p switchboard || pid_eq p manager) ≡ false → child_number pt.kernel p ≡ Some n → P (Owns MessageKind.Migrate p (pt.addresses (Child n)).at ∷ [])) → P (migrates pt p)
 by_migrates P pt p pinned none asks =
     let by_tests : (P : List Part → Type 0) (p : Pid) (c d : Bool) (ps : List Part) → P (Says (Line.Pinned p) ∷ []) → ((c || d) ≡ false → P ps) → P (if c then Says (Line.Pinned p) ∷ [] else if d then Says (Line.Pinned p) ∷ [] else ps) =
-      λ P p c d ps h1 h2. search arith in
+    λ P p c d ps h1 h2. search arith in
     by_tests P p (pid_eq p switchboard) (pid_eq p manager) (migrates_child pt.addresses p (child_number pt.kernel p)) pinned (λ off. by_child P pt.addresses p (child_number pt.kernel p) none (λ n. asks n off))

@@ -19,8 +19,8 @@ line_and_route pt l i w e pair fits h =
     let k = says_next pt l (Routes i ∷ []) w e in
     -- a message of the bag is routed
     let routes_next : (pt : Point) (i : MsgId) (ps : List Part) (w : Spelled) → State (Some i) pt → PairsFit pt.view → spelled pt (Routes i ∷ ps) ≡ Some w → PutNext (State None) ps w = λ pt i ps w h fits e.
-      let (ls, lines, rest) = bind-is (lines_of pt (Routes i)) (λ ls. bind (after pt ls) (λ n. bind (spelled n ps) (λ v. Some (behind ls v)))) w e in
-      let (x, there, last) = bind-is (pt.kernel.bag i) (λ m. Some (puts pt.view (pt.addresses (Receiver i)).at i (plain_kind m.what) m.to)) ls lines in
-      puts_next (State None) (by_packet None) pt (Routes i) (pt.addresses (Receiver i)).at i (plain_kind x.what) x.to ps w (lines ∙ sym last) (by_put pt (pt.addresses (Receiver i)).at i x there fits h) e in
+    let (ls, lines, rest) = bind-is (lines_of pt (Routes i)) (λ ls. bind (after pt ls) (λ n. bind (spelled n ps) (λ v. Some (behind ls v)))) w e in
+    let (x, there, last) = bind-is (pt.kernel.bag i) (λ m. Some (puts pt.view (pt.addresses (Receiver i)).at i (plain_kind m.what) m.to)) ls lines in
+    puts_next (State None) (by_packet None) pt (Routes i) (pt.addresses (Receiver i)).at i (plain_kind x.what) x.to ps w (lines ∙ sym last) (by_put pt (pt.addresses (Receiver i)).at i x there fits h) e in
     let n = routes_next (moved pt l k.s) i [] k.rest (h k.s k.is) (fits_as pt.view (seen pt.kernel pt.view l) pair fits) k.more in
     State-at None k.rest.point w.point k.point (State-at None n.rest.point k.rest.point n.point (State-at None n.next n.rest.point (said n.next n.rest n.more) n.stands))

@@ -29,7 +29,7 @@ pub record Serves (P : List Part → Type 0) (o : Point) (m : ℕ) (p : Pid) : T
 by_status : (P : List Part → Type 0) (quantum : ℕ) (o : Point) (m : ℕ) (p : Pid) (x : PlainProcess) (st : PlainStatus) (ps : List Part) → Serves P o m p → serves_status quantum o.kernel p (o.view.queue m p) x st ≡ Some ps → P ps
 by_status P quantum o m p x Ready ps h e =
     let by_stops : (Q : List Part → Type 0) (p : Pid) (queue : List MsgId) (full : Bool) (o : Option kernel.Trap) → Stops Q p queue → Q (if full then [] else stops p queue o) =
-      λ Q p queue full o h1. let by_called : (Q : List Part → Type 0) (p : Pid) (n : ℕ) (queue : List MsgId) (c : calls.Called) → Stops Q p queue → Q (called p n queue c) = λ Q p n queue c h1. search arith in search (arith, by_called) in
+    λ Q p queue full o h1. let by_called : (Q : List Part → Type 0) (p : Pid) (n : ℕ) (queue : List MsgId) (c : calls.Called) → Stops Q p queue → Q (called p n queue c) = λ Q p n queue c h1. search arith in search (arith, by_called) in
     let r = ran quantum (machine_of x) in
     let next = kernel.next_row p (with_machine x r.machine) (instruction r.machine.regs r.machine.bytes) in
     given P (executes quantum p (o.view.queue m p) x r) ps (h.runs r.count (if r.count == quantum then [] else stops p (o.view.queue m p) next) (λ Q. by_stops Q p (o.view.queue m p) (r.count == quantum) next)) e

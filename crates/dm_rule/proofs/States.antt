@@ -140,9 +140,9 @@ numbered_put v a b i k q other untold h m n le =
 pub by_put : (pt : Point) (b : ℕ) (i : MsgId) (x : PlainMessage) → pt.kernel.bag i ≡ Some x → PairsFit pt.view → State (Some i) pt → State None (moved pt (Line.Put pt.view.acting b i (plain_kind x.what) x.to) pt.kernel)
 by_put pt b i x is fits h =
     let not_same : (e : MsgId → ℕ) (i j : MsgId) → 1 ≤ e i → e j ≡ 0 → id_eq i j ≡ false =
-      λ e i j least zero_. false_from_ne_true (id_eq i j) (λ k. let is : i ≡ j = id_eq-is i j k in let z : e i ≡ 0 = ap e is ∙ zero_ in absurd (omega (arith, least, z))) in
+    λ e i j least zero_. false_from_ne_true (id_eq i j) (λ k. let is : i ≡ j = id_eq-is i j k in let z : e i ≡ 0 = ap e is ∙ zero_ in absurd (omega (arith, least, z))) in
     let in_bag_entered : (r e : MsgId → ℕ) (s : OneKernel) (i : MsgId) (x : PlainMessage) → s.bag i ≡ Some x → Sound r e s → 1 ≤ e i =
-      λ r e s i x is h. let f = h.entered.fewer i in let g : in_bag (s.bag i) ≡ 1 = ap in_bag is in omega (arith, f, g) in
+    λ r e s i x is h. let f = h.entered.fewer i in let g : in_bag (s.bag i) ≡ 1 = ap in_bag is in omega (arith, f, g) in
     let l = Line.Put pt.view.acting b i (plain_kind x.what) x.to in
     let v = pt.view in
     let bag = letters h.own pt.kernel.bag in

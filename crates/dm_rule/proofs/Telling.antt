@@ -95,8 +95,8 @@ pub sane_put : (pt : Point) (a b : ℕ) (i : MsgId) (k : MessageKind) (q : Pid) 
 sane_put pt a b i k q h right =
     -- an earlier put told it, or this one
     let put_by : (pt : Point) (i : MsgId) (k : MessageKind) (q : Pid) (o : Option Told) (t : Told) (P : Told → Type 0) → pt.view.told i ≡ o → Some (view.first_told o (record { kind = k; receiver = q; about = pt.view.topic })) ≡ Some t
-      → ((u : Told) → pt.view.told i ≡ Some u → P u) → P (record { kind = k; receiver = q; about = pt.view.topic }) → P t =
-      λ pt i k q o t P h1 h2 h3 h4. search arith in
+    → ((u : Told) → pt.view.told i ≡ Some u → P u) → P (record { kind = k; receiver = q; about = pt.view.topic }) → P t =
+    λ pt i k q o t P h1 h2 h3 h4. search arith in
     let v = pt.view in
     let w = view.after_put v a b i k q in
     let u : Told = record { kind = k; receiver = q; about = v.topic } in
@@ -106,7 +106,7 @@ sane_put pt a b i k q h right =
           let is : i ≡ j = id_eq-is i j same in
           -- what is told of the message itself
           let put_at : (v : View) (a b : ℕ) (i : MsgId) (k : MessageKind) (q : Pid) → (view.after_put v a b i k q).told i ≡ Some (view.first_told (v.told i) (record { kind = k; receiver = q; about = v.topic })) =
-            λ v a b i k q. ap (λ (c : Bool). if c then Some (view.first_told (v.told i) (record { kind = k; receiver = q; about = v.topic })) else v.told i) (id_eq-same i) in
+          λ v a b i k q. ap (λ (c : Bool). if c then Some (view.first_told (v.told i) (record { kind = k; receiver = q; about = v.topic })) else v.told i) (id_eq-same i) in
           put_by pt j k q (v.told j) t (P j) refl (sym (put_at v a b j k q) ∙ ap (λ (x : MsgId). (view.after_put v a b x k q).told j) (sym is) ∙ e) was (subst (λ (x : MsgId). P x u) is now)
       | inr apart ↦ was t (sym (put_told_off v a b i j k q apart) ∙ e)
     ] in
@@ -168,7 +168,7 @@ part_sane pt next (Says l) ls ok is leads h = one_line pt next l ls ok is leads 
 part_sane pt next (Routes i) ls ok is leads h =
     let (m, there, last) = bind-is (pt.kernel.bag i) (λ m. Some (puts pt.view (pt.addresses (Receiver i)).at i (plain_kind m.what) m.to)) ls is in
     let numbered_other : (v : View) (a b : ℕ) (i : MsgId) (k : MessageKind) (q : Pid) (o : Option Told) → v.told i ≡ o → is_kernels i ≡ false → Numbered v → Numbered (view.after_put v a b i k q) =
-      λ v a b i k q o is other h. (elim o as (λ o_. v.told i ≡ o_ → Numbered (view.after_put v a b i k q)) [ None ↦ λ is'. numbered_put v a b i k q other is' h | Some t' ↦ λ is'. numbered_some v a b i k q t' is' h ]) is in
+    λ v a b i k q o is other h. (elim o as (λ o_. v.told i ≡ o_ → Numbered (view.after_put v a b i k q)) [ None ↦ λ is'. numbered_put v a b i k q other is' h | Some t' ↦ λ is'. numbered_some v a b i k q t' is' h ]) is in
     puts_lead pt next (pt.addresses (Receiver i)).at i (plain_kind m.what) m.to ls h (record {
       kind = λ x is. (let f : Some m ≡ Some x = sym there ∙ is in let g : m ≡ x = cc in ap (λ (y : PlainMessage). plain_kind y.what) g);
       receiver = λ x is. (let f : Some m ≡ Some x = sym there ∙ is in let g : m ≡ x = cc in ap (λ (y : PlainMessage). y.to) g);

@@ -91,8 +91,8 @@ queue_front : (pt : Point) (s : OneKernel) (j : MsgId) (js : List MsgId) (p : Pi
 queue_front pt s j js p h front is =
     -- the queue's front goes, and the inbox keeps what it has
     let dequeued_off : (v : View) (j : MsgId) (p : Pid) (o : Option Pid) → o ≡ Some p → times j (v.inbox v.acting) ≡ 0 → (z : Spot)
-      → ids_at (view.dropped_for (handled v j) j o) z ≡ ids_at (record v { queue = at_record v.queue v.acting p (without_front j (v.queue v.acting p)) }) z =
-      λ v j p o h1 h2 z. search (arith, machine_same, without_front_none) in
+    → ids_at (view.dropped_for (handled v j) j o) z ≡ ids_at (record v { queue = at_record v.queue v.acting p (without_front j (v.queue v.acting p)) }) z =
+    λ v j p o h1 h2 z. search (arith, machine_same, without_front_none) in
     let front_counts : (j i : MsgId) (xs ys : List MsgId) → xs ≡ i ∷ ys → times j xs ≡ times j (without_front i xs) + one_of j i = λ j i xs ys e. search (arith, id_eq-same) in
     let v = pt.view in
     let one : 1 ≤ times j (v.queue v.acting p) = (let a : times j (v.queue v.acting p) ≡ times j (j ∷ js) = ap (times j) front in let b : one_of j j ≡ 1 = ap (λ (c : Bool). if c then 1 else 0) (id_eq-same j) in omega (arith, a, b)) in

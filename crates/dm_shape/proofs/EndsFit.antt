@@ -11,9 +11,22 @@ use Rattle.dm_shape.proofs.WordsFit.{machine_fits, number_fits, process_fits, me
 -- the words of a link
 link_fits : (l : Link) → AllFit (link_row l) → fit link_sorts false (link_words l) ≡ true
 link_fits l h =
-    rw (link_kind_fits l.kind, process_fits l.addr.pid h.1.0, at_fits, machine_fits l.addr.at h.1.1.1.0, moves_fits, number_fits l.addr.moves h.1.1.1.1.1.0, code_fits,
-    number_fits l.code h.1.1.1.1.1.1.1.0, channel_fits, small_fits l.channel h.1.1.1.1.1.1.1.1.1.0, area_fits, number_fits l.area.base h.1.1.1.1.1.1.1.1.1.1.1.0,
-    number_fits l.area.len h.1.1.1.1.1.1.1.1.1.1.1.1.0, rights_fit l.area.read l.area.write) refl
+    rw (
+      link_kind_fits l.kind,
+      process_fits l.addr.pid h.1.0,
+      at_fits,
+      machine_fits l.addr.at h.1.1.1.0,
+      moves_fits,
+      number_fits l.addr.moves h.1.1.1.1.1.0,
+      code_fits,
+      number_fits l.code h.1.1.1.1.1.1.1.0,
+      channel_fits,
+      small_fits l.channel h.1.1.1.1.1.1.1.1.1.0,
+      area_fits,
+      number_fits l.area.base h.1.1.1.1.1.1.1.1.1.1.1.0,
+      number_fits l.area.len h.1.1.1.1.1.1.1.1.1.1.1.1.0,
+      rights_fit l.area.read l.area.write,
+    ) refl
 
 -- so many numbers, and one more
 numbers_fit : (So : Type 0) (n k : ℕ) (xs : List ℕ) → length xs ≡ n → AllFit (registers_row So xs k) → fit (numbers (suc n)) false (spellings (registers_row So xs k)) ≡ true
@@ -34,14 +47,41 @@ ids_fit (i ∷ is) h l = are_messages (i ∷ is) h
 pub end_has_row : (e : EndLine) → EndFits e → IsFull e → has_row (end_words e) ≡ true
 end_has_row end.Final h f = listed (λ x. is_row (row_of x) (end_words end.Final)) shape.Final (refl)
 end_has_row (end.Ended p y) h f = listed (λ x. is_row (row_of x) (end_words (end.Ended p y))) shape.Ended (rw (process_fits p h.1.0, ended_fits, why_fits y) refl)
-end_has_row (end.Process p m s doing.Ready go sent) h f = listed (λ x. is_row (row_of x) (end_words (end.Process p m s doing.Ready go sent))) shape.Ready (rw (process_fits p h.1.0, at_fits,
-    machine_fits m h.1.1.1.0, standing_fits s, ready_fits, go_fits go, number_fits sent h.1.1.1.1.1.1.1.0) refl)
-end_has_row (end.Process p m s (doing.Waiting a b c) go sent) h f = listed (λ x. is_row (row_of x) (end_words (end.Process p m s (doing.Waiting a b c) go sent))) shape.Waiting (rw (process_fits p h.1.0,
-    at_fits, machine_fits m h.1.1.1.0, standing_fits s, waiting_fits, number_fits a h.1.1.1.1.1.1.0, number_fits b h.1.1.1.1.1.1.1.0, number_fits c h.1.1.1.1.1.1.1.1.0, go_fits go,
-    number_fits sent h.1.1.1.1.1.1.1.1.1.1.0) refl)
-end_has_row (end.Process p m s (doing.Moving d q a b c) go sent) h f = listed (λ x. is_row (row_of x) (end_words (end.Process p m s (doing.Moving d q a b c) go sent))) shape.Moving (rw (process_fits p h.1.0,
-    at_fits, machine_fits m h.1.1.1.0, standing_fits s, moving_fits, direction_fits d, process_fits q h.1.1.1.1.1.1.1.0, number_fits a h.1.1.1.1.1.1.1.1.0, number_fits b h.1.1.1.1.1.1.1.1.1.0,
-    number_fits c h.1.1.1.1.1.1.1.1.1.1.0, go_fits go, number_fits sent h.1.1.1.1.1.1.1.1.1.1.1.1.0) refl)
+end_has_row (end.Process p m s doing.Ready go sent) h f = listed (λ x. is_row (row_of x) (end_words (end.Process p m s doing.Ready go sent))) shape.Ready (rw (
+  process_fits p h.1.0,
+  at_fits,
+  machine_fits m h.1.1.1.0,
+  standing_fits s,
+  ready_fits,
+  go_fits go,
+  number_fits sent h.1.1.1.1.1.1.1.0,
+) refl)
+end_has_row (end.Process p m s (doing.Waiting a b c) go sent) h f = listed (λ x. is_row (row_of x) (end_words (end.Process p m s (doing.Waiting a b c) go sent))) shape.Waiting (rw (
+  process_fits p h.1.0,
+  at_fits,
+  machine_fits m h.1.1.1.0,
+  standing_fits s,
+  waiting_fits,
+  number_fits a h.1.1.1.1.1.1.0,
+  number_fits b h.1.1.1.1.1.1.1.0,
+  number_fits c h.1.1.1.1.1.1.1.1.0,
+  go_fits go,
+  number_fits sent h.1.1.1.1.1.1.1.1.1.1.0,
+) refl)
+end_has_row (end.Process p m s (doing.Moving d q a b c) go sent) h f = listed (λ x. is_row (row_of x) (end_words (end.Process p m s (doing.Moving d q a b c) go sent))) shape.Moving (rw (
+  process_fits p h.1.0,
+  at_fits,
+  machine_fits m h.1.1.1.0,
+  standing_fits s,
+  moving_fits,
+  direction_fits d,
+  process_fits q h.1.1.1.1.1.1.1.0,
+  number_fits a h.1.1.1.1.1.1.1.1.0,
+  number_fits b h.1.1.1.1.1.1.1.1.1.0,
+  number_fits c h.1.1.1.1.1.1.1.1.1.1.0,
+  go_fits go,
+  number_fits sent h.1.1.1.1.1.1.1.1.1.1.1.1.0,
+) refl)
 end_has_row (end.Registers p r pc) h f = listed (λ x. is_row (row_of x) (end_words (end.Registers p r pc))) shape.Registers (rw (process_fits p h.1.0, numbers_fit (length r ≡ 16) 16 pc r (left_out (length r ≡ 16) r pc h.1.1) h.1.1) refl)
 end_has_row (end.Memory p k bytes) h f = listed (λ x. is_row (row_of x) (end_words (end.Memory p k bytes))) shape.Memory (rw (process_fits p h.1.0, small_fits k h.1.1.0, block_fits bytes.items h.1.1.1.0 f.0 f.1 f.2) refl)
 end_has_row (end.Link p slot l) h f = listed (λ x. is_row (row_of x) (end_words (end.Link p slot l))) shape.Link (rw (process_fits p h.1.0, small_fits slot h.1.1.0, link_fits l h.1.1.1) refl)

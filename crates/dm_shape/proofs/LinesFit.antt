@@ -31,10 +31,20 @@ line_has_row (line.Label (label.NoSpace i s b)) h = listed (λ x. is_row (row_of
 line_has_row (line.Label (label.Asked i)) h = listed (λ x. is_row (row_of x) (line_words (line.Label (label.Asked i)))) shape.Asked (rw (message_fits i h.1.0) refl)
 line_has_row (line.Label (label.Answered i o)) h = listed (λ x. is_row (row_of x) (line_words (line.Label (label.Answered i o)))) shape.Answered (rw (message_fits i h.1.0, outcome_fits o) refl)
 line_has_row (line.Put a b i k q) h = listed (λ x. is_row (row_of x) (line_words (line.Put a b i k q))) shape.Put (rw (machine_fits a h.1.0, machine_fits b h.1.1.0, message_fits i h.1.1.1.0, kind_fits k, process_fits q h.1.1.1.1.1.0) refl)
-line_has_row (line.Packet a b k (load.Data n)) h = listed (λ x. is_row (row_of x) (line_words (line.Packet a b k (load.Data n)))) shape.Packet (rw (machine_fits a h.1.0, machine_fits b h.1.1.0,
-    packet_fits k h.1.1.1.0, data_fits, number_fits n h.1.1.1.1.1.0) refl)
-line_has_row (line.Packet a b k (load.Ack n)) h = listed (λ x. is_row (row_of x) (line_words (line.Packet a b k (load.Ack n)))) shape.Packet (rw (machine_fits a h.1.0, machine_fits b h.1.1.0,
-    packet_fits k h.1.1.1.0, ack_fits, number_fits n h.1.1.1.1.1.0) refl)
+line_has_row (line.Packet a b k (load.Data n)) h = listed (λ x. is_row (row_of x) (line_words (line.Packet a b k (load.Data n)))) shape.Packet (rw (
+  machine_fits a h.1.0,
+  machine_fits b h.1.1.0,
+  packet_fits k h.1.1.1.0,
+  data_fits,
+  number_fits n h.1.1.1.1.1.0,
+) refl)
+line_has_row (line.Packet a b k (load.Ack n)) h = listed (λ x. is_row (row_of x) (line_words (line.Packet a b k (load.Ack n)))) shape.Packet (rw (
+  machine_fits a h.1.0,
+  machine_fits b h.1.1.0,
+  packet_fits k h.1.1.1.0,
+  ack_fits,
+  number_fits n h.1.1.1.1.1.0,
+) refl)
 line_has_row (line.Taken a b n) h = listed (λ x. is_row (row_of x) (line_words (line.Taken a b n))) shape.Taken (rw (machine_fits a h.1.0, machine_fits b h.1.1.0, number_fits n h.1.1.1.0) refl)
 line_has_row (line.Old a b n) h = listed (λ x. is_row (row_of x) (line_words (line.Old a b n))) shape.Old (rw (machine_fits a h.1.0, machine_fits b h.1.1.0, number_fits n h.1.1.1.0) refl)
 line_has_row (line.Early a b n) h = listed (λ x. is_row (row_of x) (line_words (line.Early a b n))) shape.Early (rw (machine_fits a h.1.0, machine_fits b h.1.1.0, number_fits n h.1.1.1.0) refl)

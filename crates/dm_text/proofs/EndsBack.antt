@@ -63,10 +63,49 @@ read_rights_back false true = refl
 read_rights_back true true = refl
 
 link_words_are : (l : Link) → AllFit (link_row l) → AreWords (link_words l)
-link_words_are l h =
-    (word_link_kind l.kind, (word_pid 32 l.addr.pid (omega arith) h.1.0, (refl, (word_u8 l.addr.at h.1.1.1.0, (refl, (word_u32 l.addr.moves h.1.1.1.1.1.0, (refl, (word_u32 l.code h.1.1.1.1.1.1.1.0,
-    (refl, (word_u8 l.channel h.1.1.1.1.1.1.1.1.1.0, (refl, (word_u32 l.area.base h.1.1.1.1.1.1.1.1.1.1.1.0, (word_u32 l.area.len h.1.1.1.1.1.1.1.1.1.1.1.1.0, (word_rights l.area.read l.area.write,
-    tt))))))))))))))
+link_words_are l h = (
+  word_link_kind l.kind,
+  (
+    word_pid 32 l.addr.pid (omega arith) h.1.0,
+    (
+      refl,
+      (
+        word_u8 l.addr.at h.1.1.1.0,
+        (
+          refl,
+          (
+            word_u32 l.addr.moves h.1.1.1.1.1.0,
+            (
+              refl,
+              (
+                word_u32 l.code h.1.1.1.1.1.1.1.0,
+                (
+                  refl,
+                  (
+                    word_u8 l.channel h.1.1.1.1.1.1.1.1.1.0,
+                    (
+                      refl,
+                      (
+                        word_u32 l.area.base h.1.1.1.1.1.1.1.1.1.1.1.0,
+                        (
+                          word_u32 l.area.len h.1.1.1.1.1.1.1.1.1.1.1.1.0,
+                          (
+                            word_rights l.area.read l.area.write,
+                            tt,
+                          ),
+                        ),
+                      ),
+                    ),
+                  ),
+                ),
+              ),
+            ),
+          ),
+        ),
+      ),
+    ),
+  ),
+)
 
 -- the mark that isn't printed
 unmarked : (l : Link) → l.to_kernel ≡ false → link_from l.kind l.addr.pid l.addr.at l.addr.moves l.code l.channel l.area.base l.area.len (l.area.read, l.area.write) ≡ l
@@ -75,8 +114,17 @@ unmarked l h = ap (λ (b : Bool). record l { to_kernel = b }) (sym h)
 read_link_back : (l : Link) → AllFit (link_row l) → read_link (link_words l) ≡ Some l
 unfolding read_link
 read_link_back l h =
-    rw (read_link_kind_back l.kind, read_pid_back l.addr.pid h.1.0, read_u8_back l.addr.at h.1.1.1.0, read_u32_back l.addr.moves h.1.1.1.1.1.0, read_u32_back l.code h.1.1.1.1.1.1.1.0,
-    read_u8_back l.channel h.1.1.1.1.1.1.1.1.1.0, read_u32_back l.area.base h.1.1.1.1.1.1.1.1.1.1.1.0, read_u32_back l.area.len h.1.1.1.1.1.1.1.1.1.1.1.1.0, read_rights_back l.area.read l.area.write)
+    rw (
+      read_link_kind_back l.kind,
+      read_pid_back l.addr.pid h.1.0,
+      read_u8_back l.addr.at h.1.1.1.0,
+      read_u32_back l.addr.moves h.1.1.1.1.1.0,
+      read_u32_back l.code h.1.1.1.1.1.1.1.0,
+      read_u8_back l.channel h.1.1.1.1.1.1.1.1.1.0,
+      read_u32_back l.area.base h.1.1.1.1.1.1.1.1.1.1.1.0,
+      read_u32_back l.area.len h.1.1.1.1.1.1.1.1.1.1.1.1.0,
+      read_rights_back l.area.read l.area.write,
+    )
     (ap (λ (x : Link). Some x) (unmarked l h.1.1.1.1.1.1.1.1.1.1.1.1.1.0.0))
 
 ids_words : (ids : List MsgId) → AllFit (map message_word ids) → AreWords (spellings (map message_word ids))
@@ -117,12 +165,59 @@ pub end_words_are : (e : EndLine) → EndFits e → AreWords (end_words e)
 end_words_are end.Final h = (refl, tt)
 end_words_are (end.Ended p y) h = (refl, (word_pid 32 p (omega arith) h.1.0, (refl, (word_why y, tt))))
 end_words_are (end.Process p m s doing.Ready go sent) h = (refl, (word_pid 32 p (omega arith) h.1.0, (refl, (word_u8 m h.1.1.1.0, (word_standing s, (refl, (word_go go, (word_u32 sent h.1.1.1.1.1.1.1.0, tt))))))))
-end_words_are (end.Process p m s (doing.Waiting a b c) go sent) h =
-    (refl, (word_pid 32 p (omega arith) h.1.0, (refl, (word_u8 m h.1.1.1.0, (word_standing s, (refl, (word_u32 a h.1.1.1.1.1.1.0, (word_u32 b h.1.1.1.1.1.1.1.0, (word_u32 c h.1.1.1.1.1.1.1.1.0,
-    (word_go go, (word_u32 sent h.1.1.1.1.1.1.1.1.1.1.0, tt)))))))))))
-end_words_are (end.Process p m s (doing.Moving d q a b c) go sent) h =
-    (refl, (word_pid 32 p (omega arith) h.1.0, (refl, (word_u8 m h.1.1.1.0, (word_standing s, (refl, (word_direction d, (word_pid 32 q (omega arith) h.1.1.1.1.1.1.1.0,
-    (word_u32 a h.1.1.1.1.1.1.1.1.0, (word_u32 b h.1.1.1.1.1.1.1.1.1.0, (word_u32 c h.1.1.1.1.1.1.1.1.1.1.0, (word_go go, (word_u32 sent h.1.1.1.1.1.1.1.1.1.1.1.1.0, tt)))))))))))))
+end_words_are (end.Process p m s (doing.Waiting a b c) go sent) h = (
+  refl,
+  (
+    word_pid 32 p (omega arith) h.1.0,
+    (
+      refl,
+      (
+        word_u8 m h.1.1.1.0,
+        (
+          word_standing s,
+          (
+            refl,
+            (
+              word_u32 a h.1.1.1.1.1.1.0,
+              (
+                word_u32 b h.1.1.1.1.1.1.1.0,
+                (
+                  word_u32 c h.1.1.1.1.1.1.1.1.0,
+                  (word_go go, (word_u32 sent h.1.1.1.1.1.1.1.1.1.1.0, tt)),
+                ),
+              ),
+            ),
+          ),
+        ),
+      ),
+    ),
+  ),
+)
+end_words_are (end.Process p m s (doing.Moving d q a b c) go sent) h = (
+  refl,
+  (
+    word_pid 32 p (omega arith) h.1.0,
+    (
+      refl,
+      (
+        word_u8 m h.1.1.1.0,
+        (
+          word_standing s,
+          (
+            refl,
+            (
+              word_direction d,
+              (
+                word_pid 32 q (omega arith) h.1.1.1.1.1.1.1.0,
+                (word_u32 a h.1.1.1.1.1.1.1.1.0, (word_u32 b h.1.1.1.1.1.1.1.1.1.0, (word_u32 c h.1.1.1.1.1.1.1.1.1.1.0, (word_go go, (word_u32 sent h.1.1.1.1.1.1.1.1.1.1.1.1.0, tt))))),
+              ),
+            ),
+          ),
+        ),
+      ),
+    ),
+  ),
+)
 end_words_are (end.Registers p r pc) h = (refl, (word_pid 32 p (omega arith) h.1.0, registers_words (length r ≡ 16) r pc h.1.1))
 end_words_are (end.Memory p k bytes) h = (refl, (word_pid 32 p (omega arith) h.1.0, (word_u8 k h.1.1.0, (word_hex bytes.items, tt))))
 end_words_are (end.Link p slot l) h = (refl, (word_pid 32 p (omega arith) h.1.0, (word_u8 slot h.1.1.0, link_words_are l h.1.1.1)))
@@ -141,11 +236,29 @@ end_back end.Final h = refl
 end_back (end.Ended p y) h = rw (read_pid_back p h.1.0, read_why_back y) refl
 end_back (end.Process p m s doing.Ready go sent) h = rw (read_pid_back p h.1.0, read_u8_back m h.1.1.1.0, read_standing_back s, read_go_back go, read_u32_back sent h.1.1.1.1.1.1.1.0) refl
 end_back (end.Process p m s (doing.Waiting a b c) go sent) h =
-    rw (read_pid_back p h.1.0, read_u8_back m h.1.1.1.0, read_standing_back s, read_u32_back a h.1.1.1.1.1.1.0, read_u32_back b h.1.1.1.1.1.1.1.0, read_u32_back c h.1.1.1.1.1.1.1.1.0,
-    read_go_back go, read_u32_back sent h.1.1.1.1.1.1.1.1.1.1.0) refl
+    rw (
+      read_pid_back p h.1.0,
+      read_u8_back m h.1.1.1.0,
+      read_standing_back s,
+      read_u32_back a h.1.1.1.1.1.1.0,
+      read_u32_back b h.1.1.1.1.1.1.1.0,
+      read_u32_back c h.1.1.1.1.1.1.1.1.0,
+      read_go_back go,
+      read_u32_back sent h.1.1.1.1.1.1.1.1.1.1.0,
+    ) refl
 end_back (end.Process p m s (doing.Moving d q a b c) go sent) h =
-    rw (read_pid_back p h.1.0, read_u8_back m h.1.1.1.0, read_standing_back s, read_direction_back d, read_pid_back q h.1.1.1.1.1.1.1.0, read_u32_back a h.1.1.1.1.1.1.1.1.0,
-    read_u32_back b h.1.1.1.1.1.1.1.1.1.0, read_u32_back c h.1.1.1.1.1.1.1.1.1.1.0, read_go_back go, read_u32_back sent h.1.1.1.1.1.1.1.1.1.1.1.1.0) refl
+    rw (
+      read_pid_back p h.1.0,
+      read_u8_back m h.1.1.1.0,
+      read_standing_back s,
+      read_direction_back d,
+      read_pid_back q h.1.1.1.1.1.1.1.0,
+      read_u32_back a h.1.1.1.1.1.1.1.1.0,
+      read_u32_back b h.1.1.1.1.1.1.1.1.1.0,
+      read_u32_back c h.1.1.1.1.1.1.1.1.1.1.0,
+      read_go_back go,
+      read_u32_back sent h.1.1.1.1.1.1.1.1.1.1.1.1.0,
+    ) refl
 end_back (end.Registers p r pc) h = registers_back p r pc h
 end_back (end.Memory p k bytes) h = rw (read_pid_back p h.1.0, read_u8_back k h.1.1.0, read_hex_back bytes.items h.1.1.1.0) refl
 end_back (end.Link p slot l) h = rw (read_pid_back p h.1.0, read_u8_back slot h.1.1.0, read_link_back l h.1.1.1) refl

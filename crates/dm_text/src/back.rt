@@ -115,14 +115,7 @@ fn link_fits(link: Link)
 }
 
 /// So are those of the line of a process.
-fn process_line_fits(
-    pid: Pid,
-    at: u8,
-    standing: Standing,
-    doing: Doing,
-    stopped: bool,
-    sent: u32,
-)
+fn process_line_fits(pid: Pid, at: u8, standing: Standing, doing: Doing, stopped: bool, sent: u32)
     ensures { EndFits (end.Process pid at standing doing stopped sent) }
 {}
 

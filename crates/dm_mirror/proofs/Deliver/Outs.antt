@@ -339,9 +339,9 @@ module _ (b : Boot) (w : WorldState) (pt : Point) (l : Placed) (h : History) (a 
       let t : Taking l p m = taking b l a c (stream_of w h a c) (w.wires a c) p m (ap (slice_get (h.given a c)) (sym is) ∙ there.stream.sent.data_given k n m e) there in
       let inbox : ℕ → List MsgId = at_machine pt.view.inbox c (pt.view.inbox c ++ m.id ∷ []) in
       subst (λ (q : Point). StandsWith b (come_to w a c k (with_message (with_receiver (w.nodes c) a (after_arrival r n m)) m)) q l (marked_in h a c k)) (sym (
-        ap (λ (z : Pair). record pt { view = view.taken_id (view.with_pair (begun pt a c k).view a c (record z { taken = z.taken + 1; kept = off n z.kept })) c (oldest z) }) (pair_here pt.view.pair a c mark)
-        ∙ ap (λ (o : Option MsgId). record pt { view = view.taken_id (view.with_pair (begun pt a c k).view a c then_) c o }) t.first
-        ∙ ap (λ (f : ℕ → ℕ → Pair). with_pairs head f inbox) (pair_again pt.view.pair a c mark then_)))
+      ap (λ (z : Pair). record pt { view = view.taken_id (view.with_pair (begun pt a c k).view a c (record z { taken = z.taken + 1; kept = off n z.kept })) c (oldest z) }) (pair_here pt.view.pair a c mark)
+      ∙ ap (λ (o : Option MsgId). record pt { view = view.taken_id (view.with_pair (begun pt a c k).view a c then_) c o }) t.first
+      ∙ ap (λ (f : ℕ → ℕ → Pair). with_pairs head f inbox) (pair_again pt.view.pair a c mark then_)))
       (data_stands k n m (after_arrival r n m) then_ inbox ((w.nodes c).kernel.inbox ++ m ∷ []) e refl refl (omega arith)
       (data_comes b l.bag a c (stream_of w h a c) (w.wires a c) p k n m (advanced r) (p.taken + 1) (off n p.kept) e (after_taken_is r n m is) (ap (λ (i : ℕ). i + 1) there.taken)
       (λ j. kept_taken r p.kept there.kept j ∙ ap (λ (i : ℕ). has j (off i p.kept)) (sym is)) (untaken_next l.bag p.ids (h.given a c) p.taken there.untaken) there)
@@ -366,7 +366,13 @@ module _ (b : Boot) (w : WorldState) (pt : Point) (l : Placed) (h : History) (a 
         there_stands = other_comes b l.bag a c (stream_of w h a c) (w.wires a c) (pt.view.pair a c) k n e there;
         back_stands = acked_comes b l.bag c a (stream_of w h c a) (w.wires c a) (pt.view.pair c a) k n e back;
         alone = search (
-          at_here, at_other, mark_same, mark_other, pair_here, pair_other, back_other a c apart,
+          at_here,
+          at_other,
+          mark_same,
+          mark_other,
+          pair_here,
+          pair_other,
+          back_other a c apart,
           pair_other first c a p a c (there_other a c apart) ∙ pair_here pt.view.pair a c mark,
           pair_here first c a p ∙ ap (λ (z : Pair). record z { acked = at_least z.acked n }) (pair_other pt.view.pair a c mark c a (back_other a c apart)),
         );

@@ -94,10 +94,10 @@ created_row b m pt l k y image ls g c num found some valid =
     let made_off : (n : ℕ) → n ≢ m → next.made n ≡ s.made n = λ n apart. (let o = eq_off m n apart in ap (λ (d : Bool). s.made n + (if d then 1 else 0)) o ∙ (let f : s.made n + 0 ≡ s.made n = omega arith in f)) in
     -- a process is made, the next of its home
     let taken_made : (pt next : Point) (m home : ℕ) → next.kernel.machines ≡ pt.kernel.machines → home < pt.kernel.machines
-      → next.kernel.made home ≡ pt.kernel.made home + 1 → ((h : ℕ) → h ≢ home → next.kernel.made h ≡ pt.kernel.made h)
-      → ((q : Pid) → q ≢ pid_of home (first_number + pt.kernel.made home) → taken_by next m q ≡ taken_by pt m q)
-      → taken_at next m next.kernel.machines ≡ and (taken_at pt m pt.kernel.machines) (taken_by next m (pid_of home (first_number + pt.kernel.made home))) =
-      λ pt next m home machines within one made others. ap (taken_at next m) machines ∙ made_homes pt next m home pt.kernel.machines within one made others in
+    → next.kernel.made home ≡ pt.kernel.made home + 1 → ((h : ℕ) → h ≢ home → next.kernel.made h ≡ pt.kernel.made h)
+    → ((q : Pid) → q ≢ pid_of home (first_number + pt.kernel.made home) → taken_by next m q ≡ taken_by pt m q)
+    → taken_at next m next.kernel.machines ≡ and (taken_at pt m pt.kernel.machines) (taken_by next m (pid_of home (first_number + pt.kernel.made home))) =
+    λ pt next m home machines within one made others. ap (taken_at next m) machines ∙ made_homes pt next m home pt.kernel.machines within one made others in
     let all = taken_made pt goal m m refl c.below made_here made_off others ∙ ap (and (taken_at pt m s.machines)) takes in
     let sets : (q : Pid) → pid_eq child q ≡ false → (with_child k0 child z g.blocks).records q ≡ k.records q = λ q off. ap (λ (c : Bool). if c then Some (Record.Here z) else k.records q) off in
     let queues : (q : Pid) (j : MsgId) → pid_eq child q ≡ false → 1 ≤ times j (pt.view.queue m q) → on.bag j ≡ l.bag j = λ q j o least. kept (Queue m q) j (queue_apart m m q) least in

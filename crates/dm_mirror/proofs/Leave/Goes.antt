@@ -255,9 +255,11 @@ goes b m pt l records k y p h made =
             came = λ i t spot told between least. (
                 let e = stood m y.id h.ids v end.view i spot h.box gone least in
                 let phases = h.run.based.phased.phases in
-                let none : is_between t.kind ≡ false → ⊥ = λ off. false≢true (sym off ∙ between) in
-                ((e.spot, e.stands), stays e.spot i (λ f. none (queued_plain v m p i t phases told (subst (λ (y : Spot). 1 ≤ standing v i y) f e.stands)))
-                (λ f. none (held_plain v m p i t phases told (subst (λ (y : Spot). 1 ≤ standing v i y) f e.stands))) e.stands));
+                let none : is_between t.kind ≡ false → ⊥ = λ off. false≢true (sym off ∙ between) in (
+                  (e.spot, e.stands),
+                  stays e.spot i (λ f. none (queued_plain v m p i t phases told (subst (λ (y : Spot). 1 ≤ standing v i y) f e.stands)))
+                      (λ f. none (held_plain v m p i t phases told (subst (λ (y : Spot). 1 ≤ standing v i y) f e.stands))) e.stands,
+                ));
             none = leaving_none b m pt l records k z p h g end.view gone;
           }) h.tokens;
     }

@@ -117,9 +117,9 @@ destination_comes b pt l m k p c run stands h side early =
     let here : m ≡ h.d = h.here ∙ ap (λ (d : Bool). if d then h.d else h.s) side in
     let (from, known) = (let e_ : (from : ℕ) × ((pt.view.known h.d p) ≡ Incoming from) = grind (arith, nat_tests, h.destination) in e_) in
     let comes_at : (b : Boot) (pt : Point) (l : Placed) (n : ℕ) (k : KernelState) (p : Pid) (from : ℕ) → Run b pt → KernelStands b pt l n k → pt.view.known n p ≡ Incoming from → Comes pt l n k p = λ b pt l n k p from run h known.
-      let server = not_server b pt n p (is_server p) refl run (ap is_moving known) in
-      let (a, is, stands) = recorded b pt l n k p (Incoming from) h server known in
-      record { arrival = a; is = is; stands = stands } in
+    let server = not_server b pt n p (is_server p) refl run (ap is_moving known) in
+    let (a, is, stands) = recorded b pt l n k p (Incoming from) h server known in
+    record { arrival = a; is = is; stands = stands } in
     comes_at b pt l m k p from run stands (ap (λ (n : ℕ). pt.view.known n p) here ∙ known)
 
 -- it asks to come
@@ -234,8 +234,8 @@ kernel_row b pt l ks m i x (What.Restart pid) e h num sent =
     let c = destination_comes b pt l m (ks m) pid MessageKind.Restart h.run (h.nodes m h.within) t.moved refl refl in
     let wanted = subst (λ (v : Option Arrival). Wants v Nothing) (ap (λ (n : ℕ). incoming_of ((ks n).records pid)) (home_is b pt l ks m i x h num) ∙ ap incoming_of c.is) t.carries.1 in
     let all_come : (z : Process) (k : Option Asker) (a : Arrival) → CanMove (record z { queue = [] }) → a ≡ coming z k a.held a.wanted → a.wanted ≡ Nothing → MayRestart a = λ z k a whole pieces wanted.
-      let come : a ≡ coming z k a.held Nothing = pieces ∙ ap (coming z k a.held) wanted in
-      record { whole = wanted; process = moved z; restarts = ap restarted come ∙ (by_pieces (record z { queue = [] }) k a.held whole).whole; lawful = moved_lawful (record z { queue = [] }) whole.lawful } in
+    let come : a ≡ coming z k a.held Nothing = pieces ∙ ap (coming z k a.held) wanted in
+    record { whole = wanted; process = moved z; restarts = ap restarted come ∙ (by_pieces (record z { queue = [] }) k a.held whole).whole; lawful = moved_lawful (record z { queue = [] }) whole.lawful } in
     incoming_is (ks m) pid c.arrival MayRestart c.is (all_come c.stands.process (l.notes pid) c.arrival c.stands.whole c.stands.pieces wanted)
 kernel_row b pt l ks m i x (What.Migrate machine_) e h num sent = absurd (false≢true (sym (ap (λ (c : Bool). not (c || is_server x.to.pid) && true) num) ∙ sorted_of b pt l ks m i x (What.Migrate machine_) e h))
 kernel_row b pt l ks m i x (What.Update about) e h num sent = absurd (false≢true (sym (ap (λ (c : Bool). not c && true) num) ∙ sorted_of b pt l ks m i x (What.Update about) e h))

@@ -99,9 +99,10 @@ fresh_message b m pt l k p x y c n w z s step next =
     let from : w.id.from ≡ p = ap (λ (i : MsgId). i.from) counted.id in
     let number : w.id.n ≡ v.sent = ap (λ (i : MsgId). i.n) counted.id in
     let made : nat_le 3 p.num ≡ true = s.sound.made.least p (ap is_some s.at.alive) in
-    let num : w.id.from.num ≡ p.num = ap (λ (q : Pid). q.num) from in
-    (not_counted (λ i. s.r i + _) (λ i. s.e i + _) t w.id (grind (arith, nat_tests, counts_process, not_server)) a.sound.entered,
-    let e : (w.id.from.num == 0) ≡ false = grind (arith, nat_tests) in ap (λ (d : Bool). d && not w.id.answer) e)
+    let num : w.id.from.num ≡ p.num = ap (λ (q : Pid). q.num) from in (
+      not_counted (λ i. s.r i + _) (λ i. s.e i + _) t w.id (grind (arith, nat_tests, counts_process, not_server)) a.sound.entered,
+      let e : (w.id.from.num == 0) ≡ false = grind (arith, nat_tests) in ap (λ (d : Bool). d && not w.id.answer) e,
+    )
 
 -- a call that sends a message
 pub sends_acts : (b : Boot) (m : ℕ) (pt : Point) (l : Placed) (k : KernelState) (p : Pid) (x y z : Process) (c n : ℕ) (w : Message) (u : PlainMessage) (s : Served b m pt l k p x) → Ran m pt l p x s.at.queue c y → plain_message w ≡ Some u

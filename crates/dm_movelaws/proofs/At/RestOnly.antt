@@ -230,8 +230,8 @@ line_only before v (Line.Forwarded id m) e h = only_as before v (view_after v (L
 line_only before v (Line.Proto id) e h = only_as before v (view_after v (Line.Proto id)) (λ n q. proto_known (handled v id) (v.told id) n q) h
 line_only before v (Line.Migration s p) e h =
     let stage_only : (before : Knows) (v : View) (p : Pid) (s : Stage) → Only before v → Only before (view.after_stage v p s) = λ before v p s h1.
-      let gone_ended : (k : Known) (n : ℕ) → view.gone_to k n ≡ Ended → k ≡ Ended = λ k n e. grind (arith, nat_tests) in
-      let frozen_not : (T : Type 0) (to : ℕ) → Frozen to ≡ Ended → T = λ T to e. cc in grind (arith, nat_tests, v.topic, only_set, sets, frozen_not, v.known, v.acting, v.moves, gone_ended, here_not) in
+    let gone_ended : (k : Known) (n : ℕ) → view.gone_to k n ≡ Ended → k ≡ Ended = λ k n e. grind (arith, nat_tests) in
+    let frozen_not : (T : Type 0) (to : ℕ) → Frozen to ≡ Ended → T = λ T to e. cc in grind (arith, nat_tests, v.topic, only_set, sets, frozen_not, v.known, v.acting, v.moves, gone_ended, here_not) in
     stage_only before v p s h
 line_only before v (Line.Stays p) e h = only_set before v (view_after v (Line.Stays p)) p Here refl (here_not (v.known v.acting p ≡ Ended)) h
 line_only before v any_ e h = only_as before v (view_after v any_) (λ n q. refl) h

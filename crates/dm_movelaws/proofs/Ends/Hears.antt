@@ -82,7 +82,7 @@ comes_back p pt i is t q l a r h between about none quiet calm off known ended p
     let ps = tells_asker a r in
     let back = rejoins (handled_first v) q in
     let handled_smooth : (p : Pid) (v : View) (i : MsgId) (is : List MsgId) → v.inbox v.acting ≡ i ∷ is → Plain p v i → Smooth p v (handled_first v) =
-      λ p v i is front plain. smooth_others p v (handled_first v) i plain plain (λ t e. e) (record { told = λ j a. refl; spots = first_spots v (handled_first v) i is front (λ z. refl) }) in
+    λ p v i is front plain. smooth_others p v (handled_first v) i plain plain (λ t e. e) (record { told = λ j a. refl; spots = first_spots v (handled_first v) i is front (λ z. refl) }) in
     let first : Smooth p v mid = smooth_trans p v back mid (smooth_trans p v (handled_first v) back (handled_smooth p v i is h.front (between_plain p v i t h.told between)) (rejoins_smooth p (handled_first v) q))
     (smooth_still p back mid (told_by v l quiet) (λ j z. ap (times j) (off z))) in
     let at_ : (m : ℕ) → mid.known m p ≡ at_record v.known v.acting q Here m p = λ m. ap (λ (f : ℕ → Pid → Known). f m p) known in

@@ -235,8 +235,8 @@ record Silent (p : Pid) (ls : List Line) : Type 0 where
 pub parts_shut : (p : Pid) (ps : List Part) (pt : Point) (w : Spelled) → ShutParts p None ps → spelled pt ps ≡ Some w → Shut p None w.lines
 parts_shut p qs q w h is =
     let part_shut : (p : Pid) (o : Option Mark) (pt : Point) (q : Part) (ls zs : List Line) → ShutPart o q → lines_of pt q ≡ Some ls → Shut p (mark_behind p o q) zs → Shut p o (ls ++ zs) = λ p o pt q ls zs h1 h2 h3.
-      let puts_silent : (p : Pid) (pt : Point) (b : ℕ) (i : MsgId) (k : MessageKind) (q : Pid) (ls : List Line) → Some (puts pt.view b i k q) ≡ Some ls → Silent p ls = λ p pt b i k q ls is. search arith in
-      search (arith, bind-is, pt.kernel.bag, pt.view, pt.addresses, puts_silent, shut_append, pt.view.told) in
+    let puts_silent : (p : Pid) (pt : Point) (b : ℕ) (i : MsgId) (k : MessageKind) (q : Pid) (ls : List Line) → Some (puts pt.view b i k q) ≡ Some ls → Silent p ls = λ p pt b i k q ls is. search arith in
+    search (arith, bind-is, pt.kernel.bag, pt.view, pt.addresses, puts_silent, shut_append, pt.view.told) in
     by_parts (λ ps pt v. (o : Option Mark) → ShutParts p o ps → Shut p o v.lines) (λ pt o h. tt) (λ x ps pt next ls z lines leads rest o h. part_shut p o pt x ls z.lines h.0 lines (rest (mark_behind p o x) h.1)) qs q w is None h
 
 -- at a line

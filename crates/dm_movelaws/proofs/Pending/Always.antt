@@ -41,14 +41,14 @@ label_ones r e s t l sound requests h takes =
     -- and hears how that ended
     -- a process follows the request from now on
     let noted_ones : (r e : MsgId → ℕ) (s : OneKernel) (id : MsgId) (m : PlainMessage) (q : Pid) (k : MoveNote) → s.bag id ≡ Some m → k.id ≡ id → asks m.what ≡ true → Sound r e s → Ones s → Ones (with_note (without_message s id) q k) =
-      λ r e s id m q k there name asked h ones n p. search (arith, id_eq-is, id.from, id.n, h.entered.requests, and_false, s.noted, to_process, s.bag, out_off) in
+    λ r e s id m q k there name asked h ones n p. search (arith, id_eq-is, id.from, id.n, h.entered.requests, and_false, s.noted, to_process, s.bag, out_off) in
     let unnoted_ones : (s : OneKernel) (id : MsgId) (q : Pid) (x : PlainMessage) → s.noted id ≡ Some q → id.answer ≡ false → x.id ≡ answer_id id → is_answer x.what ≡ true → Ones s → Ones (with_sent (without_note s q id) (Some x)) =
-      λ s id q x noted asked name answers ones n p. search (arith, id_eq-is, x.id, followed_pair, s.bag, s.noted, sent_off, and_false, id_eq-same, off_by) in
+    λ s id q x noted asked name answers ones n p. search (arith, id_eq-is, x.id, followed_pair, s.bag, s.noted, sent_off, and_false, id_eq-same, off_by) in
     let served_neither : (v w : PlainWhat) → v ≡ w → is_served w ≡ true → Neither v = λ v w e s. grind (arith, nat_tests, neither) in
     let unanswered : (id : MsgId) (o : Outcome) (p : Pid) (n : MoveNote) → Follows s id o p n → id.answer ≡ false = λ id o p n f. ap (λ (i : MsgId). i.answer) (sym (note-is e s id p n f.noted f.notes sound.notes)) ∙ requests p n f.notes in
     -- a name of a process's own
     let own_off : (r e : MsgId → ℕ) (s : OneKernel) (p : Pid) (x : PlainProcess) (i : MsgId) (k : ℕ) → Sound r e s → s.processes p ≡ Some (Alive x) → i ≡ id_of p k → (n : ℕ) → Off i n =
-      λ r e s p x i k sound alive is n. from_other i n (ap (λ (j : MsgId). pid_eq j.from manager) is ∙ (not_server s p x alive sound.made).1) in
+    λ r e s p x i k sound alive is n. from_other i n (ap (λ (j : MsgId). pid_eq j.from manager) is ∙ (not_server s p x alive sound.made).1) in
     by_step Ones s t l (record {
       ran = λ p k x m is w. h;
       replies = λ p n k c d y is w. h;
@@ -161,7 +161,7 @@ manager_kind : (r e : MsgId → ℕ) (s : OneKernel) (id : MsgId) (m : PlainMess
     → ascends 0 s.manager.pending s.manager.sent ≡ true → Sound r e s → Ones s → Ones (service.manager_took s id k)
 manager_kind r e s id m k (PlainWhat.User code channel body links) w is there fits sends up sound h =
     let requests_took : (g : Manager) (machines images : ℕ) (body : List ℕ) (links : List PlainLink) → UserTook g (manage.requests_child g machines images body links) =
-      λ g machines images body links. grind (arith, nat_tests, if_took, wants_took, bad_took) in
+    λ g machines images body links. grind (arith, nat_tests, if_took, wants_took, bad_took) in
     let f : manage.takes_user s.manager s.machines (length s.images) code body links ≡ k = cc in
     user_ones r e s id m k there (neither m.what (PlainWhat.User code channel body links) w refl refl) (subst (UserTook s.manager) f (search (if_took, requests_took, controls_took))) sends up sound h
 manager_kind r e s id m k (PlainWhat.Created child) w is there fits sends up sound h =

@@ -51,7 +51,7 @@ links_same a b p id n slots (l ∷ ls) =
     -- calls
     let fills_same : holders (addresses.fills p (first_empty slots) (a (Enclosed id n))) ≡ holders (addresses.fills p (first_empty slots) (b (Enclosed id n))) = grind (arith, nat_tests) in
     let both_same : (xs ys zs ws : List Gets) → holders xs ≡ holders ys → holders zs ≡ holders ws → holders (xs ++ zs) ≡ holders (ys ++ ws) =
-      λ xs ys zs ws e f. holders-append xs zs ∙ ap (λ (hs : List Holder). hs ++ holders zs) e ∙ ap (λ (hs : List Holder). holders ys ++ hs) f ∙ sym (holders-append ys ws) in
+    λ xs ys zs ws e f. holders-append xs zs ∙ ap (λ (hs : List Holder). hs ++ holders zs) e ∙ ap (λ (hs : List Holder). holders ys ++ hs) f ∙ sym (holders-append ys ws) in
     both_same (addresses.fills p (first_empty slots) (a (Enclosed id n))) (addresses.fills p (first_empty slots) (b (Enclosed id n)))
     (receives_links a p id (n + 1) (slot_after slots l (first_empty slots)) ls) (receives_links b p id (n + 1) (slot_after slots l (first_empty slots)) ls)
     fills_same (links_same a b p id (n + 1) (slot_after slots l (first_empty slots)) ls)

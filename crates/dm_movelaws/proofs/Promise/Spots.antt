@@ -279,7 +279,7 @@ led_by pt t l (Some x) p q k of is h spared leads = led_before pt.kernel t pt.vi
 line_before : (pt next : Point) (l : Line) (p q : Pid) (k moves : ℕ) → after_line pt l ≡ Some next → Grounds pt.kernel → fills pt (Slot p k) l ≡ false → Before next p q k moves → Before pt p q k moves
 line_before pt next l p q k moves is h e before =
     let spared_by : (pt : Point) (l : Line) (p : Pid) (k : ℕ) (x : Label) → label_of l ≡ Some x → fills pt (Slot p k) l ≡ false → gives_to (Slot p k) (gives pt.kernel pt.view pt.addresses x) ≡ false =
-      λ pt l p k x of e. grind (arith, nat_tests) in
+    λ pt l p k x of e. grind (arith, nat_tests) in
     let (s, comes, last) = bind-is (kernel_after pt.kernel (label_of l)) (λ s. Some (moved pt l s)) next is in
     let f : moved pt l s ≡ next = cc in
     let was : Before (moved pt l s) p q k moves = subst (λ (x : Point). Before x p q k moves) (sym f) before in

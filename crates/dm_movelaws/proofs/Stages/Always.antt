@@ -98,27 +98,27 @@ outcome_marked : (b : Boot) (pt : Point) (d : Step) (ps : List Part) (w : Spelle
 outcome_marked b pt d ps w h is =
     let turning : (o : Point) (m : ℕ) → Phased o → Turning o (begun o (Step.Turn m)) m = λ o m h. grind (arith, nat_tests, groups.fits, begun_sane, groups.begun, groups.turn_off, head_calm) in
     let net_marked : (pt : Point) (ps : List Part) (w : Spelled) → IsNet ps → spelled pt ps ≡ Some w → MarkedBy pt w ps =
-      λ pt ps w net n p. none_marked pt.view w.point.view p (marks_of p ps) (net_marks p ps net) (spares_calm pt.view w.point.view p (net_parts ps pt w net n)) in
+    λ pt ps w net n p. none_marked pt.view w.point.view p (marks_of p ps) (net_marks p ps net) (spares_calm pt.view w.point.view p (net_parts ps pt w net n)) in
     by_outcome (λ x xs. (u : Spelled) → spelled (begun pt x) xs ≡ Some u → MarkedBy (begun pt x) u xs) b pt d ps (record {
-  round = λ m xs box e u. (
-      let t = turning pt m h in
-      mild_marked (begun pt (Step.Turn m)) None xs u t.sane t.fits (λ i k. cc) (λ p. round_mild p None b pt m (rule.first_runnable pt.kernel (pt.view.queue m) (pt.view.ring m)) xs e)
-      );
-  handles = λ m i is msg xs box there e u. (
-      let start = begun pt (Step.Turn m) in
-      let t = turning pt m h in
-      handled_marked pt start m i is msg xs u t box there (handles_mild b pt m i msg xs e)
-      );
-  hears = λ m i is xs box none e u. hears_marked b pt (begun pt (Step.Turn m)) m i is (pt.view.told i) xs u (turning pt m h) box refl e;
-  ticks = λ m xs net u. net_marked (begun pt (Step.Tick m)) xs u net;
-  delivers = λ a c k xs net u. net_marked (begun pt (Step.Deliver a c k)) xs u net;
-  asks = λ q m u n p. (
-      let start = begun pt (Step.Migrate q m) in
-      let fits = groups.fits pt.view h.pairs in
-      let settled = parts_settle (migrates pt q) start.view start u (migrates_quiet start.view pt q) (record { calm = calm_same start.view; sane = begun_sane pt (Step.Migrate q m) h.sane; fits = record { within = fits.within; home = fits.home } }) n in
-      none_marked start.view u.point.view p (marks_of p (migrates pt q)) (by_migrates (λ (ps : List Part). marks_of p ps ≡ []) pt q refl refl (λ n off is. refl)) (spares_calm start.view u.point.view p settled.calm)
-      );
-}) is w
+      round = λ m xs box e u. (
+          let t = turning pt m h in
+          mild_marked (begun pt (Step.Turn m)) None xs u t.sane t.fits (λ i k. cc) (λ p. round_mild p None b pt m (rule.first_runnable pt.kernel (pt.view.queue m) (pt.view.ring m)) xs e)
+          );
+      handles = λ m i is msg xs box there e u. (
+          let start = begun pt (Step.Turn m) in
+          let t = turning pt m h in
+          handled_marked pt start m i is msg xs u t box there (handles_mild b pt m i msg xs e)
+          );
+      hears = λ m i is xs box none e u. hears_marked b pt (begun pt (Step.Turn m)) m i is (pt.view.told i) xs u (turning pt m h) box refl e;
+      ticks = λ m xs net u. net_marked (begun pt (Step.Tick m)) xs u net;
+      delivers = λ a c k xs net u. net_marked (begun pt (Step.Deliver a c k)) xs u net;
+      asks = λ q m u n p. (
+          let start = begun pt (Step.Migrate q m) in
+          let fits = groups.fits pt.view h.pairs in
+          let settled = parts_settle (migrates pt q) start.view start u (migrates_quiet start.view pt q) (record { calm = calm_same start.view; sane = begun_sane pt (Step.Migrate q m) h.sane; fits = record { within = fits.within; home = fits.home } }) n in
+          none_marked start.view u.point.view p (marks_of p (migrates pt q)) (by_migrates (λ (ps : List Part). marks_of p ps ≡ []) pt q refl refl (λ n off is. refl)) (spares_calm start.view u.point.view p settled.calm)
+          );
+    }) is w
 
 -- a group
 pub group_marked : (b : Boot) (pt : Point) (d : Step) (w : Spelled) → group_of b pt d ≡ Some w → Phased pt → (p : Pid) → Marked pt.view w.point.view p (marks p w.lines)

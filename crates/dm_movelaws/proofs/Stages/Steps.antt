@@ -156,7 +156,7 @@ departs_row pt i is q to ids from w h phases before e =
     let token : TokenOf w.point.view q MessageKind.Restart = subst (λ (y : Point). TokenOf y.view q MessageKind.Restart) (o.point ∙ s.point ∙ n.point)
     (owns_token last MessageKind.Restart q (pid_of from 0) from o.rest (line_sane mid k refl refl kept.sane) (line_fits mid mid.kernel k refl kept.fits) refl refl o.more) in
     let departs_marked : (q : Pid) (to : ℕ) (ids : List MsgId) (from : ℕ) → marks_of q (departs q to ids from) ≡ Reached 6 ∷ Reached 7 ∷ [] =
-      λ q to ids from. departs_marks q q to ids from ∙ mark_same q (Reached 6) (mark_for q q (Reached 7) []) ∙ ap (λ (ms : List Mark). Reached 6 ∷ ms) (mark_same q (Reached 7) []) in
+    λ q to ids from. departs_marks q q to ids from ∙ mark_same q (Reached 6) (mark_for q q (Reached 7) []) ∙ ap (λ (ms : List Mark). Reached 6 ∷ ms) (mark_same q (Reached 7) []) in
     record {
       others = λ p apart. (
         (let e_ : marks_of p (departs q to ids from) ≡ [] = grind (arith, nat_tests, pid_eq-swap, departs_marks, mark_other) in e_),

@@ -161,7 +161,7 @@ stage_made s v q _ p m c h e = cc
 line_made : (s : OneKernel) (v : View) (l : Line) → Passing s v → (p : Pid) (m c : ℕ) → (view_after v l).topic ≡ view.Place p m c → WasMade s p
 line_made s v l h1 p m c h2 =
     let proto_made : (s : OneKernel) (v : View) (i : MsgId) (o : Option Told) (p : Pid) (m c : ℕ) → v.told i ≡ o → Passing s v → (view.after_proto (handled v i) o).topic ≡ view.Place p m c → WasMade s p =
-      λ s v i o p m c is h e. grind (arith, nat_tests, no_place) in
+    λ s v i o p m c is h e. grind (arith, nat_tests, no_place) in
     let head_made : (s : OneKernel) (v : View) (d : Step) (p : Pid) (m c : ℕ) → (view.after_head v d).topic ≡ view.Place p m c → WasMade s p = λ s v d p m c e. grind (arith, nat_tests, no_place) in
     let forwarded_made : (s : OneKernel) (v : View) (o : Option Pid) (p : Pid) (m c : ℕ) → Passing s v → (view.forwarded_for v o).topic ≡ view.Place p m c → WasMade s p = λ s v o p m c h e. grind (arith, nat_tests) in
     let no_of : (T : Type 0) (q p : Pid) (m c : ℕ) → Of q ≡ view.Place p m c → T = λ T q p m c e. cc in

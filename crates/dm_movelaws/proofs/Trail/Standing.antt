@@ -36,7 +36,7 @@ laid_by b (e ∷ es) ls pt end t (w, rest, fit, is, are, more) h on =
     let holds = carries.keeps b (trodden pt t) (trodden w.point u) e w fit is comes h on in
     let treads = along_treads w.lines (trodden pt t) (trodden w.point u) comes (carries.fits b (trodden pt t) e w fit is h on) on in
     let laid_more : (b : Boot) (pt mid end : Point) (t u : Trails) (xs ys : List Line) → along (trodden pt t) xs ≡ Some (trodden mid u) → Laid b mid u ys end → Laid b pt t (xs ++ ys) end =
-      λ b pt mid end t u xs ys first k. record { trails = k.trails; lays = along-append xs ys (trodden pt t) (trodden mid u) first ∙ k.lays; holds = k.holds; treads = k.treads } in
+    λ b pt mid end t u xs ys first k. record { trails = k.trails; lays = along-append xs ys (trodden pt t) (trodden mid u) first ∙ k.lays; holds = k.holds; treads = k.treads } in
     subst (λ (xs : List Line). Laid b pt t xs end) (sym are) (laid_more b pt w.point end t u w.lines rest comes (laid_by b es rest w.point end u more holds treads))
 
 laid_first : (b : Boot) (es : List Step) (ls : List Line) (pt : Point) → IsValid b → LeadsBy b (first_point b) es ls pt → Laid b (first_point b) (first_trodden b).trails ls pt

@@ -207,7 +207,7 @@ served_follows s t v a l id is h =
     let (x, stands, x_is) = alive_of s l m.to.pid z h.plain alive in
     let gs_is : serves_burden v a id (plainly m u) (plain_process x) u ≡ gives s v a (Label.Served id) =
     ap (λ (p : PlainProcess). serves_burden v a id (plainly m u) p u) x_is ∙ ap (λ (o : Option PlainProcess). option_map_or (λ y. serves_burden v a id (plainly m u) y u) o []) (sym alive)
-        ∙ ap (λ (w : PlainMessage). addresses.service_gets s v a id (Some w)) (sym km) ∙ ap (addresses.service_gets s v a id) (sym there) in
+    ∙ ap (λ (w : PlainMessage). addresses.service_gets s v a id (Some w)) (sym km) ∙ ap (addresses.service_gets s v a id) (sym there) in
     let (on, step, mirrors) = serve_row s t v a l id m x u (parts m k says).what (ap (λ (p : PlainProcess). service.serves s id (plainly m u) p u) x_is ∙ last) (h.places.message id m found) (h.places.process m.to.pid x stands) h in (
       on,
       ap (λ (o : Option Message). bind o (λ (n : Message). bind (l.processes n.to.pid) (λ (y : Process). placed.serves v.acting (without_message l id) n y n.what))) found

@@ -33,9 +33,9 @@ one_left z y pt next l ls here there is leads =
 puts_left : (z : OneKernel) (y : Pid) (pt next : Point) (b : ℕ) (i : MsgId) (k : MessageKind) (q : Pid) (ls : List Line) → Some (puts pt.view b i k q) ≡ Some ls → after pt ls ≡ Some next → Left z y pt next ls
 puts_left z y pt next b i k q ls is leads =
     let puts_by : (z : OneKernel) (y : Pid) (pt next : Point) (b : ℕ) (i : MsgId) (k : MessageKind) (q : Pid) (c d : Bool)
-      → after pt (Line.Put pt.view.acting b i k q ∷ (if c then [] else if d then packet_line pt.view pt.view.acting b (Load.Data (length (pt.view.pair pt.view.acting b).ids)) ∷ [] else [])) ≡ Some next
-      → Left z y pt next (Line.Put pt.view.acting b i k q ∷ (if c then [] else if d then packet_line pt.view pt.view.acting b (Load.Data (length (pt.view.pair pt.view.acting b).ids)) ∷ [] else [])) =
-      λ z y pt next b i k q c d h1. search arith in
+    → after pt (Line.Put pt.view.acting b i k q ∷ (if c then [] else if d then packet_line pt.view pt.view.acting b (Load.Data (length (pt.view.pair pt.view.acting b).ids)) ∷ [] else [])) ≡ Some next
+    → Left z y pt next (Line.Put pt.view.acting b i k q ∷ (if c then [] else if d then packet_line pt.view pt.view.acting b (Load.Data (length (pt.view.pair pt.view.acting b).ids)) ∷ [] else [])) =
+    λ z y pt next b i k q c d h1. search arith in
     let f : puts pt.view b i k q ≡ ls = cc in
     subst (Left z y pt next) f (puts_by z y pt next b i k q (pt.view.acting == b) (goes_out (pt.view.pair pt.view.acting b)) (ap (after pt) f ∙ leads))
 

@@ -60,8 +60,8 @@ keeps_step s p (Label.Dropped id) off =
     (λ m there. keeps_bind s p (kernel.why_ended (s.processes m.to)) (kernel.drops s id m) (λ y is. keeps_when s p (service.is_dropped m.what) (without_message s id) refl))
 keeps_step s p (Label.Served id) off =
     let keeps_serves : (s : OneKernel) (p : Pid) (id : MsgId) (m : PlainMessage) (x : PlainProcess) (k : PlainWhat) → m.to ≢ p → Keeps s p (service.serves s id m x k) = λ s p id m x k h1.
-      let landed_off : (s : OneKernel) (p : Pid) (id : MsgId) (m : PlainMessage) (r : pieces.Landed) → m.to ≢ p → (service.landed s id m r).processes p ≡ s.processes p = λ s p id m r h1. search (arith, changed_off) in
-      search (arith, changed_off, set_off, keeps_bind, landed_off) in
+    let landed_off : (s : OneKernel) (p : Pid) (id : MsgId) (m : PlainMessage) (r : pieces.Landed) → m.to ≢ p → (service.landed s id m r).processes p ≡ s.processes p = λ s p id m r h1. search (arith, changed_off) in
+    search (arith, changed_off, set_off, keeps_bind, landed_off) in
     keeps_bind s p (s.bag id) (λ m. bind (kernel.at_hand s m.to) (λ x. service.serves s id m x m.what))
     (λ m there. keeps_bind s p (kernel.at_hand s m.to) (λ x. service.serves s id m x m.what) (λ x is. keeps_serves s p id m x m.what (off m there)))
 keeps_step s p (Label.Gone id) off =
@@ -69,14 +69,14 @@ keeps_step s p (Label.Gone id) off =
     (λ m there. keeps_bind s p (kernel.why_ended (s.processes m.to)) (kernel.says_gone s id m) (λ y is. keeps_bind s p (service.gone_what m.what) (λ w. Some (with_sent (without_message s id) (Some (answer_to m w)))) (λ w e. refl)))
 keeps_step s p (Label.Took id) off =
     let keeps_takes : (s : OneKernel) (p : Pid) (id : MsgId) (m : PlainMessage) → Keeps s p (service.takes s id m) = λ s p id m.
-      let to_board = bind (board.board_takes s.switchboard m m.what) (λ t. Some (service.switchboard_took s id t)) in
-      search (arith, by_test, keeps_bind, sent_off) in
+    let to_board = bind (board.board_takes s.switchboard m m.what) (λ t. Some (service.switchboard_took s id t)) in
+    search (arith, by_test, keeps_bind, sent_off) in
     keeps_bind s p (s.bag id) (service.takes s id) (λ m there. keeps_takes s p id m)
 keeps_step s p (Label.Created id q) off =
     -- a process is made
     let keeps_image : (s : OneKernel) (p child : Pid) (id : MsgId) (m : PlainMessage) (links : List PlainLink) (i : BootImage) → child ≢ p → Keeps s p (service.creates_of s id m child links i) = λ s p child id m links i off.
-      keeps_when s p (service.is_kernel s m.to && pid_eq child (pid_of m.to.home (first_number + s.made m.to.home))) (with_sent (service.with_created (without_message s id) child i links) (Some (answer_to m (PlainWhat.Created child))))
-      (set_off (without_message s id) child p (Alive (begun s.format i links)) off) in
+    keeps_when s p (service.is_kernel s m.to && pid_eq child (pid_of m.to.home (first_number + s.made m.to.home))) (with_sent (service.with_created (without_message s id) child i links) (Some (answer_to m (PlainWhat.Created child))))
+    (set_off (without_message s id) child p (Alive (begun s.format i links)) off) in
     keeps_bind s p (s.bag id) (λ m. service.creates s id m q m.what) (λ m there. elim m.what as (λ k. Keeps s p (service.creates s id m q k))
     [ PlainWhat.Create x1 x2 ↦ keeps_bind s p (slice_get s.images x1) (service.creates_of s id m q x2) (λ i is. keeps_image s p q id m x2 i off) | _ ↦ tt ])
 keeps_step s p (Label.NoSpace id a b) off =

@@ -34,10 +34,10 @@ queued_keeps : (r e : MsgId → ℕ) (pt pt' : Point) (id : MsgId) → stands pt
 queued_keeps r e pt pt' id at h is =
     -- queued
     let queue_lists : (s : OneKernel) (e : MsgId → ℕ) (v : View) (id : MsgId) → stands s e v.acting id ≡ true → ListsHome s e v → ListsHome s e (queued_for (handled v id) id (view.receiver_of (v.told id))) =
-      λ s e v id at h. search (arith, queue_set, all_stand_last, handled_lists s e v id h) in
+    λ s e v id at h. search (arith, queue_set, all_stand_last, handled_lists s e v id h) in
     let w = handled pt.view id in
     let rings_queued : (v : View) (id : MsgId) (o : Option Pid) → RingsHome v → RingsHome (queued_for v id o) =
-      λ v id o h. elim o as (λ o_. RingsHome (queued_for v id o_)) [ None ↦ h | Some p' ↦ record { moves = h.moves; ring = h.ring; known = h.known } ] in
+    λ v id o h. elim o as (λ o_. RingsHome (queued_for v id o_)) [ None ↦ h | Some p' ↦ record { moves = h.moves; ring = h.ring; known = h.known } ] in
     subst (Kept pt.view.acting) (let f : moved pt (Line.Queued id) pt.kernel ≡ pt' = cc in f) ((search (arith, rings_queued, rings_same, queue_lists, queued_acting)))
 
 pub first_keeps : NoneReplaced → (r e : MsgId → ℕ) (pt pt' : Point) (p : Part) (ls : List Line) → FirstGood pt.kernel e pt.view.acting p → Home r e pt → lines_of pt p ≡ Some ls → after pt ls ≡ Some pt' → Kept pt.view.acting pt'

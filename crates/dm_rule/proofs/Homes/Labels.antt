@@ -51,7 +51,7 @@ label_on P s t v a (Label.Wait p) is named at h = wait_home P s t v a p is at h
 label_on P s t v a (Label.Out p w) is named at h = out_home P s t v a p w is at h
 label_on P s t v a (Label.End p y) is named at h =
     let end_home : (P : Pid → Place → Type 0) (s t : OneKernel) (a : Addresses) (p : Pid) (y : Why) → kernel.step s (Label.End p y) ≡ Some t → AtHome P s a → AtHome P t a =
-      λ P s t a p y is h. let (x, next, rest) = bind-is (kernel.next_trap s p) (kernel.ends s p y) t is in end_row P s t a p y x rest h in
+    λ P s t a p y is h. let (x, next, rest) = bind-is (kernel.next_trap s p) (kernel.ends s p y) t is in end_row P s t a p y x rest h in
     end_home P s t a p y is h
 label_on P s t v a (Label.Receive p id) is named at h = receive_home P s t v a p id is h
 label_on P s t v a (Label.Refuse p id c) is named at h = refuse_home P s t a p id c is h

@@ -58,16 +58,16 @@ label_line : NoneReplaced → (r e : MsgId → ℕ) (pt : Point) (l : Label) (t 
 label_line none r e pt l t is at h =
     -- what a group is about changes none of it
     let told_rings : (v : View) (o : Option Told) → RingsHome v → RingsHome (served_told v o) =
-      λ v o h1. let kills_rings : (v : View) (k : MessageKind) (o : Option Pid) → RingsHome v → RingsHome (ends_by (sort_of k) v o) = λ v k o h1. search (arith, rings_set, known_set, without_home) in search (arith, kills_rings) in
+    λ v o h1. let kills_rings : (v : View) (k : MessageKind) (o : Option Pid) → RingsHome v → RingsHome (ends_by (sort_of k) v o) = λ v k o h1. search (arith, rings_set, known_set, without_home) in search (arith, kills_rings) in
     let label_rings : (s : OneKernel) (v : View) (l : Label) → SaidAt s v.acting l → RingsHome v → RingsHome (after_label v l) =
-      let back_home : (v : View) (p : Pid) → p.home ≡ v.acting → RingsHome v → are_home v.acting (moved_back p (v.ring v.acting)) ≡ true =
-        λ v p at h. joins_home v.acting p (without p (v.ring v.acting)) at (without_home v.acting p (v.ring v.acting) (h.ring v.acting)) in
-      let dropped_rings : (v : View) (id : MsgId) (o : Option Pid) → RingsHome v → RingsHome (view.dropped_for v id o) =
-        λ v id o h. elim o as (λ o_. RingsHome (view.dropped_for v id o_)) [ None ↦ h | Some p' ↦ record { moves = h.moves; ring = h.ring; known = h.known } ] in
-      λ s v l h1 h2. search (arith, rings_set, back_home, known_set, without_home, dropped_rings, told_rings, joins_home) in
+    let back_home : (v : View) (p : Pid) → p.home ≡ v.acting → RingsHome v → are_home v.acting (moved_back p (v.ring v.acting)) ≡ true =
+    λ v p at h. joins_home v.acting p (without p (v.ring v.acting)) at (without_home v.acting p (v.ring v.acting) (h.ring v.acting)) in
+    let dropped_rings : (v : View) (id : MsgId) (o : Option Pid) → RingsHome v → RingsHome (view.dropped_for v id o) =
+    λ v id o h. elim o as (λ o_. RingsHome (view.dropped_for v id o_)) [ None ↦ h | Some p' ↦ record { moves = h.moves; ring = h.ring; known = h.known } ] in
+    λ s v l h1 h2. search (arith, rings_set, back_home, known_set, without_home, dropped_rings, told_rings, joins_home) in
     let lists_on : (s t : OneKernel) (e f : MsgId → ℕ) (v : View) → Old e s t → ((i : MsgId) → e i ≤ f i) → ListsHome s e v → ListsHome t f v = λ s t e f v old le h. search (arith, stand_on) in
     let topic_home : (r e : MsgId → ℕ) (s : OneKernel) (v : View) (t : About) (a : Addresses) → Home r e (record { kernel = s; view = v; addresses = a }) → Home r e (record { kernel = s; view = view.about v t; addresses = a }) =
-      λ r e s v t a h. search arith in
+    λ r e s v t a h. search arith in
     let a = after_step r e pt.kernel t l is h.sound in
     let old : Old e pt.kernel t = λ i x entered there. old_of (pt.kernel.bag i) (t.bag i) (e i) x entered (a.sound.entered.once i) there (λ y was. none r e pt.kernel t l is h.sound i y x was there) in
     topic_home (λ i. r i + reception i l) (λ i. e i + entry i pt.kernel t) t (after_label pt.view l) (topic_by pt.kernel (after_label pt.view l).topic (Some l)) (given pt.addresses (gives pt.kernel pt.view pt.addresses l))
@@ -111,10 +111,10 @@ routed_home r e pt id m b there is h =
     let second : is_for_home b (pt.kernel.bag id) ≡ true = ap (is_for_home b) there ∙ (let f : (m.to.home == b) ≡ true = grind (arith, nat_tests) in f) in
     let at : stands pt.kernel e b id ≡ true = ap (λ (c : Bool). c && is_for_home b (pt.kernel.bag id)) (let first : nat_le 1 (e id) ≡ true = grind (arith, nat_tests) in first) ∙ second in
     let inbox_if : (s : OneKernel) (e : MsgId → ℕ) (f g : ℕ → List MsgId) (c : Bool) → ((n : ℕ) → all_stand s e n (f n) ≡ true) → ((n : ℕ) → all_stand s e n (g n) ≡ true) → (n : ℕ) → all_stand s e n ((if c then f else g) n) ≡ true =
-      λ s e f g c h k n. elim c as (λ c_. all_stand s e n ((if c_ then f else g) n) ≡ true) [ true ↦ h n | false ↦ k n ] in
+    λ s e f g c h k n. elim c as (λ c_. all_stand s e n ((if c_ then f else g) n) ≡ true) [ true ↦ h n | false ↦ k n ] in
     let put_lists : ListsHome pt.kernel e (after_put pt.view pt.view.acting b id (plain_kind m.what) m.to) = search (arith, inbox_if, inbox_set, all_stand_last, pair_set, routed_stands, h.lists) in
     let put_at_home : (s : OneKernel) (v : View) (a : Addresses) (from b : ℕ) (id : MsgId) (w : PlainWhat) (q : Pid) → AtHome IsHome s a → AtHome IsHome s (addresses_by s v a (act_of (Line.Put from b id (plain_kind w) q))) =
-      λ s v a from b id w q h. subst (AtHome IsHome s) (sym (ap (given a) (first_none (v.told id) (own_given s v a id q (sort_of (plain_kind w))) (own_none s v a id q w)))) h in
+    λ s v a from b id w q h. subst (AtHome IsHome s) (sym (ap (given a) (first_none (v.told id) (own_given s v a id q (sort_of (plain_kind w))) (own_none s v a id q w)))) h in
     record { sound = h.sound; at = put_at_home pt.kernel pt.view pt.addresses pt.view.acting b id m.what m.to h.at; rings = rings_same pt.view w refl refl refl h.rings; lists = put_lists }
 
 -- its packet goes out at once, or later

@@ -60,7 +60,7 @@ stand_on s t e f m (i ∷ is) old le h =
     let x = and_parts (nat_le 1 (e i)) (is_for_home m (s.bag i)) w.0 in
     let more = le i in
     let for_home_on : (m : ℕ) (a b : Option PlainMessage) → ((x : PlainMessage) → b ≡ Some x → a ≡ Some x) → is_for_home m a ≡ true → is_for_home m b ≡ true =
-      λ m a b h k. (elim b as (λ b_. (((x : PlainMessage) → b_ ≡ Some x → a ≡ Some x)) → is_for_home m b_ ≡ true) [ None ↦ λ h'. refl | Some x' ↦ λ h'. sym (ap (is_for_home m) (h' x' refl)) ∙ k ]) h in
+    λ m a b h k. (elim b as (λ b_. (((x : PlainMessage) → b_ ≡ Some x → a ≡ Some x)) → is_for_home m b_ ≡ true) [ None ↦ λ h'. refl | Some x' ↦ λ h'. sym (ap (is_for_home m) (h' x' refl)) ∙ k ]) h in
     both_true (stands t f m i) (all_stand t f m is)
     (both_true (nat_le 1 (f i)) (is_for_home m (t.bag i)) (let g : nat_le 1 (f i) ≡ true = grind (arith, nat_tests) in g) (for_home_on m (s.bag i) (t.bag i) (λ y there. old i y x.0 there) x.1))
     (stand_on s t e f m is old le w.1)
@@ -108,7 +108,7 @@ pub pair_set : (s : OneKernel) (e : MsgId → ℕ) (f : ℕ → ℕ → Pair) (a
 pair_set s e f a b p h k c d =
     -- a pair changes
     let pair_if : (s : OneKernel) (e : MsgId → ℕ) (b d : ℕ) (c : Bool) (p q : Pair) → (b == d) ≡ true → all_stand s e b (untaken p) ≡ true → all_stand s e d (untaken q) ≡ true → all_stand s e d (untaken (if c then p else q)) ≡ true =
-      λ s e b d c p q same h k. elim c as (λ c_. all_stand s e d (untaken (if c_ then p else q)) ≡ true) [ true ↦ let at : b ≡ d = grind (arith, nat_tests) in ap (λ (i : ℕ). all_stand s e i (untaken p)) (sym at) ∙ h | false ↦ k ] in
+    λ s e b d c p q same h k. elim c as (λ c_. all_stand s e d (untaken (if c_ then p else q)) ≡ true) [ true ↦ let at : b ≡ d = grind (arith, nat_tests) in ap (λ (i : ℕ). all_stand s e i (untaken p)) (sym at) ∙ h | false ↦ k ] in
     ap (λ (x : Bool). all_stand s e d (untaken (if x then p else f c d))) (let e_ : ((a == c) && (b == d)) ≡ ((b == d) && (a == c)) = search arith in e_)
     ∙ (search (arith, pair_if))
 

@@ -257,9 +257,9 @@ manager_row P s t v a id m (PlainWhat.User code channel body links) is name ther
     let f : service.manager_took s id k ≡ t = cc in
     let hm = h.messages id m there in
     let user_home : (P : Pid → Place → Type 0) (s : OneKernel) (v : View) (a : Addresses) (id mid : MsgId) (code : ℕ) (body : List ℕ) (links : List PlainLink) → LinksHome P a mid links → v.acting ≡ 0 → AtHome P s a
-      → TookAt P s v a id mid code (manage.takes_user s.manager s.machines (length s.images) code body links) = λ P s v a id mid code body links en at h.
-      by_test (TookAt P s v a id mid code) (code == 0) (manage.requests_child s.manager s.machines (length s.images) body links) (manage.controls s.manager s.machines (manage.child_numbered s.manager.children code) body links)
-      (requests_home P s v a id mid code body links en at h) (controls_home P s v a id mid code (manage.child_numbered s.manager.children code) body links refl en at h) in
+    → TookAt P s v a id mid code (manage.takes_user s.manager s.machines (length s.images) code body links) = λ P s v a id mid code body links en at h.
+    by_test (TookAt P s v a id mid code) (code == 0) (manage.requests_child s.manager s.machines (length s.images) body links) (manage.controls s.manager s.machines (manage.child_numbered s.manager.children code) body links)
+    (requests_home P s v a id mid code body links en at h) (controls_home P s v a id mid code (manage.child_numbered s.manager.children code) body links refl en at h) in
     subst (λ (u : OneKernel). AtHome P u (given a (manager_sends v a m.id code k.message))) f
     (user_home P s v a id m.id code body links (λ n w g. place_as P (ap (λ (i : MsgId). a (Enclosed i n)) name) (hm.enclosed n w (ap (λ (x : PlainWhat). slice_get (links_in x) n) is ∙ g))) at h)
 manager_row P s t v a id m (PlainWhat.Created child) is name there at h e =

@@ -65,12 +65,12 @@ line_keeps none r e pt pt' (Line.Packet a b k l) at h is =
     let f : moved pt (Line.Packet a b k l) pt.kernel ≡ pt' = cc in subst (Kept pt.view.acting) f (record { r = r; e = e; home = packet_line_home r e pt a b k l h; acting = refl })
 line_keeps none r e pt pt' (Line.Taken a b n) at h is =
     let taken_lists : (s : OneKernel) (e : MsgId → ℕ) (v : View) (a b n : ℕ) → ListsHome s e v → ListsHome s e (after_taken v a b n) = λ s e v a b n h.
-      let p = v.pair a b in
-      search (arith, taken_with, drop_first, pair_set, drop_one) in
+    let p = v.pair a b in
+    search (arith, taken_with, drop_first, pair_set, drop_one) in
     let p = pt.view.pair a b in
     let w = view.with_pair pt.view a b (record p { taken = p.taken + 1; kept = filter (λ k. not (k == n)) p.kept }) in
     let rings_taken : (v : View) (b : ℕ) (o : Option MsgId) → RingsHome v → RingsHome (view.taken_id v b o) =
-      λ v b o h. elim o as (λ o_. RingsHome (view.taken_id v b o_)) [ None ↦ h | Some id' ↦ record { moves = h.moves; ring = h.ring; known = h.known } ] in
+    λ v b o h. elim o as (λ o_. RingsHome (view.taken_id v b o_)) [ None ↦ h | Some id' ↦ record { moves = h.moves; ring = h.ring; known = h.known } ] in
     subst (Kept pt.view.acting) (let f : moved pt (Line.Taken a b n) pt.kernel ≡ pt' = cc in f) (record {
       r = r;
       e = e;

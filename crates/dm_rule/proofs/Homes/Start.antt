@@ -50,12 +50,12 @@ begun_home : (b : Boot) (earlier ps : List BootProcess) (q : Pid) (x : PlainProc
 begun_home b earlier [] q x valid at e = cc
 begun_home b earlier (p ∷ ps) q x valid at e =
     let links_valid : (b : Boot) (n : ℕ) (p : BootProcess) → boot.process_is_valid b n p ≡ true → boot.links_are_valid b p.links ≡ true = λ b n p e.
-      let last = boot.links_are_valid b p.links in
-      let few = nat_le (length p.links) (slots_of b.format) in
-      search (arith, right_true) in
+    let last = boot.links_are_valid b p.links in
+    let few = nat_le (length p.links) (slots_of b.format) in
+    search (arith, right_true) in
     let begun_home_of : (b : Boot) (p : BootProcess) (q : Pid) (x : PlainProcess) (o : Option BootImage) → boot.links_are_valid b p.links ≡ true → links_at b.processes q ≡ p.links
-      → kernel.alive (option_map (λ image. Alive (begun b.format image (map plain_link p.links))) o) ≡ Some x → HomeProcess IsHome (first_addresses b) q x =
-      λ b p q x o h1 h2 h3. search (arith, first_link) in
+    → kernel.alive (option_map (λ image. Alive (begun b.format image (map plain_link p.links))) o) ≡ Some x → HomeProcess IsHome (first_addresses b) q x =
+    λ b p q x o h1 h2 h3. search (arith, first_link) in
     elim (cases_Bool (pid_eq p.pid q)) [
       | inl same ↦
           begun_home_of b p q x (slice_get b.images p.image) (links_valid b (starting_at p.pid.home earlier) p (left_true _ _ valid)) (at ∙ ap (λ (c : Bool). if c then p.links else links_at ps q) same)

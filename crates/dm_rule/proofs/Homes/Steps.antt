@@ -47,8 +47,8 @@ only_none a p = search arith
 pub only_gives_by : (v : View) (a : Addresses) (p : Pid) (x : PlainProcess) (n : calls.CallNumber) (c : Reply) → OnlySlots a (given a (gives_by v a p x n c)) p
 only_gives_by v a p x n c =
     let only_fills_by : (v : View) (a : Addresses) (p : Pid) (x : PlainProcess) (n : calls.CallNumber) → OnlySlots a (given a (fills_by v a p x n)) p = λ v a p x n.
-      let only_fills : (a : Addresses) (p : Pid) (o : Option ℕ) (place : Place) → OnlySlots a (given a (fills p o place)) p = λ a p o place. search (arith, only_none, fills_others) in
-      search (arith, only_fills, only_none) in
+    let only_fills : (a : Addresses) (p : Pid) (o : Option ℕ) (place : Place) → OnlySlots a (given a (fills p o place)) p = λ a p o place. search (arith, only_none, fills_others) in
+    search (arith, only_fills, only_none) in
     subst (λ (gs : List Gets). OnlySlots a (given a gs) p) (sym (gives_code v a p x n c))
     (elim (reply_code c == 0) as (λ c_. OnlySlots a (given a (if c_ then (fills_by v a p x n) else [])) p) [ true ↦ (only_fills_by v a p x n) | false ↦ only_none a p ])
 
@@ -106,7 +106,7 @@ pub wait_home : (P : Pid → Place → Type 0) (s t : OneKernel) (v : View) (a :
 wait_home P s t v a p is at h =
     -- a receive begins
     let wait_row : (P : Pid → Place → Type 0) (s t : OneKernel) (v : View) (a : Addresses) (p : Pid) (next : kernel.Trap) → Nexts P v s a p next → kernel.waits s p next ≡ Some t → AtHome P s a → AtHome P t a =
-      λ P s t v a p next h1 h2 h3. search (arith, home_goes) in
+    λ P s t v a p next h1 h2 h3. search (arith, home_goes) in
     let (x, next, rest) = bind-is (kernel.next_trap s p) (kernel.waits s p) t is in
     wait_row P s t v a p x (next_home P v s a p x h at next) rest h
 

@@ -35,7 +35,7 @@ runnable_home s queue m [] q h is = cc
 runnable_home s queue m (p ∷ ps) q h is =
     -- the first process of a ring that can be served
     let runnable_if : (m : ℕ) (b : Bool) (p : Pid) (o : Option Pid) (q : Pid) → p.home ≡ m → (o ≡ Some q → q.home ≡ m) → (if b then Some p else o) ≡ Some q → q.home ≡ m =
-      λ m b p o q at h is. (elim b as (λ b_. (if b_ then Some p else o) ≡ Some q → q.home ≡ m) [ true ↦ λ is'. let f : p ≡ q = cc in ap (λ (v : Pid). v.home) (sym f) ∙ at | false ↦ λ is'. h is' ]) is in
+    λ m b p o q at h is. (elim b as (λ b_. (if b_ then Some p else o) ≡ Some q → q.home ≡ m) [ true ↦ λ is'. let f : p ≡ q = cc in ap (λ (v : Pid). v.home) (sym f) ∙ at | false ↦ λ is'. h is' ]) is in
     let k = and_parts (p.home == m) (are_home m ps) h in
     let first = k.0 in
     runnable_if m (rule.can_go s (queue p) (kernel.alive (s.processes p))) p (rule.first_runnable s queue ps) q (let f : p.home ≡ m = grind (arith, nat_tests) in f) (runnable_home s queue m ps q k.1) is
@@ -108,7 +108,7 @@ in_bag_at r e pt m i js front entered state h none =
 pub turn_keeps : NoneReplaced → (b : Boot) (r e : MsgId → ℕ) (pt : Point) (m : ℕ) (w : Spelled) → group_of b pt (Step.Turn m) ≡ Some w → AskNone w.lines → State None pt → Home r e pt → Kept m w.point
 turn_keeps none b r e pt m w is ask state h =
     let good_of : (s : OneKernel) (e : MsgId → ℕ) (m : ℕ) (o : Option (List Part)) (ps : List Part) → GoodOf s e m o → o ≡ Some ps → PartsGood s e m ps =
-      λ s e m o ps h is. (elim o as (λ o_. GoodOf s e m o_ → o_ ≡ Some ps → PartsGood s e m ps) [ None ↦ λ h' is'. cc | Some qs' ↦ λ h' is'. let f : qs' ≡ ps = cc in subst (PartsGood s e m) f h' ]) h is in
+    λ s e m o ps h is. (elim o as (λ o_. GoodOf s e m o_ → o_ ≡ Some ps → PartsGood s e m ps) [ None ↦ λ h' is'. cc | Some qs' ↦ λ h' is'. let f : qs' ≡ ps = cc in subst (PartsGood s e m) f h' ]) h is in
     group_keeps none b r e pt (Step.Turn m) w tt is ask h
     (λ ps comes. good_of pt.kernel e m (rule.turns b pt m (pt.view.inbox m)) ps (turns_good b r e pt m (pt.view.inbox m) (λ i js front entered. in_bag_at r e pt m i js front entered state h) (h.lists.inbox m) h) comes)
 
@@ -117,9 +117,9 @@ pub home_group : NoneReplaced → (b : Boot) (r e : MsgId → ℕ) (pt : Point) 
 home_group none b r e pt (Step.Turn m) w still is ask state h = turn_keeps none b r e pt m w is ask state h
 home_group none b r e pt (Step.Tick m) w still is ask state h =
     let tick_keeps : NoneReplaced → (b : Boot) (r e : MsgId → ℕ) (pt : Point) (m : ℕ) (w : Spelled) → group_of b pt (Step.Tick m) ≡ Some w → AskNone w.lines → Home r e pt → Kept m w.point = λ none b r e pt m w is ask h.
-      group_keeps none b r e pt (Step.Tick m) w tt is ask h
-      (λ ps comes. let f : Says (Line.Resent m (rule.outstanding_count pt.view m pt.kernel.machines)) ∷ rule.resends pt.view m pt.kernel.machines ≡ ps = cc in
-      subst (PartsGood pt.kernel e m) f (inl (inl tt, resends_good m m pt.view pt.kernel.machines))) in
+    group_keeps none b r e pt (Step.Tick m) w tt is ask h
+    (λ ps comes. let f : Says (Line.Resent m (rule.outstanding_count pt.view m pt.kernel.machines)) ∷ rule.resends pt.view m pt.kernel.machines ≡ ps = cc in
+    subst (PartsGood pt.kernel e m) f (inl (inl tt, resends_good m m pt.view pt.kernel.machines))) in
     tick_keeps none b r e pt m w is ask h
 home_group none b r e pt (Step.Deliver a c k) w still is ask state h = deliver_keeps none b r e pt a c k w is ask h
 home_group none b r e pt (Step.Migrate p m) w still is ask state h = absurd still

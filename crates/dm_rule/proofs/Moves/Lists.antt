@@ -26,7 +26,7 @@ held_is v i p (Some q) e = let f : q ≡ p = cc in ap (λ x. record (handled v i
 pub Stands-held : (bag : Bag) (v w : View) (i : MsgId) (is : List MsgId) (x : Pid) → v.inbox v.acting ≡ i ∷ is → bag i ≡ Some x → w ≡ held_for (handled v i) i (receiver_of (v.told i)) → Stands bag v → Stands bag w
 Stands-held bag v w i is x front there is_w h =
     let held_off : (v : View) (i : MsgId) (p : Pid) (z : Spot) → z ≢ Inbox v.acting → z ≢ Held v.acting p → ids_at (record (handled v i) { held = at_record v.held v.acting p (v.held v.acting p ++ i ∷ []) }) z ≡ ids_at v z =
-      λ v i p z h1 h2. search (arith, at_record_off, held_apart, handled_off) in
+    λ v i p z h1 h2. search (arith, at_record_off, held_apart, handled_off) in
     let told : receiver_of (v.told i) ≡ Some x = h.told i x there in
     let u = record (handled v i) { held = at_record v.held v.acting x (v.held v.acting x ++ i ∷ []) } in
     subst (Stands bag) (sym (held_is v i x (receiver_of (v.told i)) told) ∙ sym is_w)

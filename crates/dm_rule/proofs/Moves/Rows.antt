@@ -168,9 +168,9 @@ leaves_row pt i is p ids (Frozen to) parts w h fit front mine same e n =
     let a = all_again ids next to end k.rest way k.more in
     -- a process has left, and may be restarted
     let left_row : (pt : Point) (i : MsgId) (p : Pid) (w : Spelled) → Steady pt → spelled pt (Says (Line.Migration Stage.Left p) ∷ to_kernel MessageKind.Restart i.from.home ∷ []) ≡ Some w → State None w.point = λ pt i p w h e.
-      let l = Line.Migration Stage.Left p in
-      line_owns pt l MessageKind.Restart (pid_of i.from.home 0) i.from.home w refl refl h.fits
-      (by_line None pt l refl h.state (Stands-stays (letters h.state.own pt.kernel.bag) pt.view (view_after pt.view l) (λ z. left_off pt.view p z) (λ j. refl) h.state.stands) (λ j. refl)) e in
+    let l = Line.Migration Stage.Left p in
+    line_owns pt l MessageKind.Restart (pid_of i.from.home 0) i.from.home w refl refl h.fits
+    (by_line None pt l refl h.state (Stands-stays (letters h.state.own pt.kernel.bag) pt.view (view_after pt.view l) (λ z. left_off pt.view p z) (λ j. refl) h.state.stands) (λ j. refl)) e in
     State-at None k.rest.point w.point k.point (State-at None a.rest.point k.rest.point a.point (left_row a.next i p a.rest (steadied a.next a.stands) a.more))
 leaves_row pt i is p ids _ parts w h fit front mine same e n = cc
 

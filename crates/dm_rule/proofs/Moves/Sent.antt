@@ -19,7 +19,7 @@ same_two a b c e = (grind (arith, nat_tests), grind (arith, nat_tests))
 pub fits_put : (v : View) (a b : ℕ) (i : MsgId) (k : MessageKind) (q : Pid) → PairsFit v → PairsFit (after_put v a b i k q)
 fits_put v a b i k q h =
     let put_home : (a b : ℕ) (p : Pair) (i : MsgId) → (a == b) ≡ true → p.taken ≡ length p.ids → (routed_on a b p i).taken ≡ length (p.ids ++ i ∷ []) = λ a b p i e is.
-      let l = one_more p i in omega (arith, ap (λ (c : Bool). if c then p.taken + 1 else p.taken) e, l, is) in
+    let l = one_more p i in omega (arith, ap (λ (c : Bool). if c then p.taken + 1 else p.taken) e, l, is) in
     let put_within : (a b : ℕ) (p : Pair) (i : MsgId) (c : Bool) → (a == b) ≡ c → p.taken ≤ length p.ids → (routed_on a b p i).taken ≤ length (p.ids ++ i ∷ []) = λ a b p i c h1 h2. search (arith, one_more) in
     search (arith, set_is, put_within, set_other, same_two, put_home)
 
@@ -56,9 +56,9 @@ pub owns_ends : (pt : Point) (k : MessageKind) (q : Pid) (b : ℕ) (w : Spelled)
 owns_ends pt k q b w h e =
     -- the next message of the kernel is put
     let owns_next : (pt : Point) (k : MessageKind) (q : Pid) (b : ℕ) (ps : List Part) (w : Spelled) → Steady pt → spelled pt (Owns k q b ∷ ps) ≡ Some w → PutNext Steady ps w = λ pt k q b ps w h e.
-      let steady_packet : (q : Point) (a b k : ℕ) (l : Load) → Steady q → Steady (moved q (Line.Packet a b k l) q.kernel) = λ q a b k l h. record { state = by_packet None q a b k l h.state; fits = fits_packet q.view a b k l h.fits } in
-      puts_next Steady steady_packet pt (Owns k q b) b (own_id pt.view) k q ps w refl
-      (record { state = by_own_put pt b k q h.fits h.state; fits = fits_put pt.view pt.view.acting b (own_id pt.view) k q h.fits }) e in
+    let steady_packet : (q : Point) (a b k : ℕ) (l : Load) → Steady q → Steady (moved q (Line.Packet a b k l) q.kernel) = λ q a b k l h. record { state = by_packet None q a b k l h.state; fits = fits_packet q.view a b k l h.fits } in
+    puts_next Steady steady_packet pt (Owns k q b) b (own_id pt.view) k q ps w refl
+    (record { state = by_own_put pt b k q h.fits h.state; fits = fits_put pt.view pt.view.acting b (own_id pt.view) k q h.fits }) e in
     let n = owns_next pt k q b [] w h e in
     State-at None n.rest.point w.point n.point (State-at None n.next n.rest.point (said n.next n.rest n.more) n.stands.state)
 
@@ -138,9 +138,9 @@ lists_way bag v p j least h =
 pub sent_way : (pt : Point) (p : Pid) (n : ℕ) (i : MsgId) (is : List MsgId) → State None pt → pt.view.inbox pt.view.acting ≡ i ∷ is → is_kernels i ≡ true → Between (both_lists pt.view p) (moved pt (Line.SentOn p n) pt.kernel)
 sent_way pt p n i is h front mine =
     let Stands-emptied : (bag : Bag) (v w : View) (p : Pid) → ((z : Spot) → ids_at w z ≡ ids_at (emptied v p) z) → ((i : MsgId) → w.told i ≡ v.told i) → Stands bag v → Stands (without_all (both_lists v p) bag) w = λ bag v w p same told h.
-      let emptied_fewer : (v : View) (p : Pid) (m : ℕ) (q : Pid) (j : MsgId) → 1 ≤ times j (at_record v.queue v.acting p [] m q) → 1 ≤ times j (v.queue m q) = λ v p m q j least. grind (arith, nat_tests, at_record_off) in
-      Stands-stays (without_all (both_lists v p) bag) (emptied v p) w same told
-      ((search (arith, emptied_kept, without_some, emptied_fewer))) in
+    let emptied_fewer : (v : View) (p : Pid) (m : ℕ) (q : Pid) (j : MsgId) → 1 ≤ times j (at_record v.queue v.acting p [] m q) → 1 ≤ times j (v.queue m q) = λ v p m q j least. grind (arith, nat_tests, at_record_off) in
+    Stands-stays (without_all (both_lists v p) bag) (emptied v p) w same told
+    ((search (arith, emptied_kept, without_some, emptied_fewer))) in
     let v = pt.view in
     let l = Line.SentOn p n in
     let bag = letters h.own pt.kernel.bag in

@@ -29,7 +29,7 @@ took n p = record p { taken = p.taken + 1; kept = off n p.kept }
 mid_take : (f : ℕ → ℕ → Pair) (a b n : ℕ) (ks : List ℕ) → (a == b) ≡ false → (f a b).taken ≡ n → n < (f a b).gone → Mid f a b ks → Mid (at_pair f a b (took n (f a b))) a b ks
 mid_take f a b n ks ab is below h =
     let took_here : (n : ℕ) (p : Pair) (ks : List ℕ) → p.taken ≡ n → ((k : ℕ) → has k p.kept ≡ true → (p.taken ≤ k) × (has k ks ≡ true)) → (k : ℕ) → has k (off n p.kept) ≡ true → (p.taken + 1 ≤ k) × (has k ks ≡ true) =
-      λ n p ks is h k e. let x = off_has n k p.kept e in let y = h k x.0 in (omega (arith, x.1, y.0), y.1) in
+    λ n p ks is h k e. let x = off_has n k p.kept e in let y = h k x.0 in (omega (arith, x.1, y.0), y.1) in
     let same : took n (f a b) ≡ at_pair f a b (took n (f a b)) a b = sym (set_same f a b (took n (f a b))) in
     record {
       stand = Stand-set f a b (took n (f a b)) ab ((search arith)) (omega arith) h.stand;
@@ -91,7 +91,7 @@ takes_keep (suc fuel) m a b ks tail pt w ab is gone h e = elim (cases_Bool (has 
       let e' : spelled pt tail ≡ Some w = subst (λ (c : Bool). spelled pt (taking_parts a b (if c then m ∷ others else []) ++ tail) ≡ Some w) lacks e in
       let long : length (if has m ks then m ∷ others else []) ≡ 0 = ap (λ (c : Bool). length (if c then m ∷ others else [])) lacks in
       let none_next : (f : ℕ → ℕ → Pair) (a b m : ℕ) (ks : List ℕ) → (f a b).taken ≡ m → has m ks ≡ false → (k : ℕ) → has k ks ≡ true → (f a b).taken ≢ k =
-        λ f a b m ks is lacks k e same. false≢true (sym lacks ∙ ap (λ (n : ℕ). has n ks) (sym is ∙ same) ∙ e) in
+      λ f a b m ks is lacks k e same. false≢true (sym lacks ∙ ap (λ (n : ℕ). has n ks) (sym is ∙ same) ∙ e) in
       record { at = pt; paired = mid_end pt.view.pair a b ks (none_next pt.view.pair a b m ks is lacks) h; taken = omega (arith, is, long); rest = w; on = e'; leads = refl }
 ]
 
@@ -101,7 +101,7 @@ in_order : (pt : Point) (a b n : ℕ) (ks : List ℕ) (w : Spelled) → (a == b)
 in_order pt a b n ks w ab ba is below kept h e =
     -- then the count is acknowledged
     let then_acked : (a b end : ℕ) (w : Spelled) → (b == a) ≡ false → Took a b end (Transmits b a (Load.Ack end) ∷ []) w → Paired w.point.view.pair = λ a b end w ba t.
-      subst (λ (q : Point). Paired q.view.pair) t.leads (let k : Paired t.rest.point.view.pair = keeps (Transmits b a (Load.Ack end) ∷ []) t.at t.rest ((ba, let y = t.taken in omega (arith, y)), tt) t.paired t.on in k) in
+    subst (λ (q : Point). Paired q.view.pair) t.leads (let k : Paired t.rest.point.view.pair = keeps (Transmits b a (Load.Ack end) ∷ []) t.at t.rest ((ba, let y = t.taken in omega (arith, y)), tt) t.paired t.on in k) in
     let others = kept_from ks (n + 1) pair_window in
     let tail = Transmits b a (Load.Ack (n + 1 + length others)) ∷ [] in
     let o = onward pt (Says (Line.Taken a b n)) (taking_parts a b others ++ tail) w e in
@@ -160,9 +160,9 @@ ack_comes : (pt : Point) (a b n : ℕ) (p : Pair) (w : Spelled) → (b == a) ≡
     → spelled pt (Says (Line.Acked a b n) ∷ repeats b a (let_go p (at_least p.acked n))) ≡ Some w → Paired w.point.view.pair
 ack_comes pt a b n p w ba is le h e =
     let acked_goes : (f : ℕ → ℕ → Pair) (a b n : ℕ) → (a == b) ≡ false → n ≤ (f a b).taken → Paired f → Goes f (at_pair f a b (record (f a b) { acked = at_least (f a b).acked n })) = λ f a b n ab le h.
-      let x = h.stand.apart a b ab in
-      changed f a b (record (f a b) { acked = at_least (f a b).acked n }) ab
-      ((search (arith, at_least-more))) (omega arith) (omega arith) (h.kept a b) h in
+    let x = h.stand.apart a b ab in
+    changed f a b (record (f a b) { acked = at_least (f a b).acked n }) ab
+    ((search (arith, at_least-more))) (omega arith) (omega arith) (h.kept a b) h in
     let top = at_least p.acked n in
     let k = less (length p.ids - p.gone) (top + pair_window - p.gone) in
     let others = repeats b a (numbers_from p.gone k) in

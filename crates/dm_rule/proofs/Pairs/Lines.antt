@@ -141,7 +141,7 @@ fitting_goes pt (Transmits a b (Load.Data n)) ps w o fits h =
     subst (λ (v : View). Goes pt.view.pair v.pair) (sym (transmits_view pt a b (Load.Data n) ps w o)) (again_goes pt.view.pair a b n fits.0 fits.1 h)
 fitting_goes pt (Transmits a b (Load.Ack n)) ps w o fits h =
     let ack_goes : (f : ℕ → ℕ → Pair) (a b n : ℕ) → (a == b) ≡ false → n ≤ (f b a).taken → Paired f → Goes f (at_pair f a b (packed (Load.Ack n) (f a b))) =
-      λ f a b n ab le h. let x = h.stand.apart a b ab in packed_goes f a b (Load.Ack n) ab le (omega arith) x.gone x.full h in
+    λ f a b n ab le h. let x = h.stand.apart a b ab in packed_goes f a b (Load.Ack n) ab le (omega arith) x.gone x.full h in
     subst (λ (v : View). Goes pt.view.pair v.pair) (sym (transmits_view pt a b (Load.Ack n) ps w o)) (ack_goes pt.view.pair a b n fits.0 fits.1 h)
 
 pub keeps : (ps : List Part) (pt : Point) (w : Spelled) → AllFit pt.view.pair ps → Paired pt.view.pair → spelled pt ps ≡ Some w → Paired w.point.view.pair

@@ -65,7 +65,7 @@ one_more p id = simp length-append refl
 pub route_out : (f : ℕ → ℕ → Pair) (a b : ℕ) (id : MsgId) → (a == b) ≡ false → Paired f → Goes f (at_pair f a b (routed_on a b (f a b) id))
 route_out f a b id ab h =
     let routed_apart : (p back : Pair) (id : MsgId) → Apart p back → Apart (routed_out p id) back =
-      λ p back id h. record { acked = h.acked; taken = h.taken; gone = let x = one_more p id in let y = h.gone in omega arith; full = h.full; wire = h.wire } in
+    λ p back id h. record { acked = h.acked; taken = h.taken; gone = let x = one_more p id in let y = h.gone in omega arith; full = h.full; wire = h.wire } in
     subst (λ (p : Pair). Goes f (at_pair f a b p)) (sym (routed_out-is a b (f a b) id ab))
     (changed f a b (routed_out (f a b) id) ab (routed_apart (f a b) (f b a) id (h.stand.apart a b ab)) (omega arith) (omega arith) (h.kept a b) h)
 
@@ -86,14 +86,14 @@ route_packed f a b id ab out h =
 route_same : (f : ℕ → ℕ → Pair) (a : ℕ) (id : MsgId) → Paired f → Goes f (at_pair f a a (routed_on a a (f a a) id))
 route_same f a id h =
     let home_routed : (p : Pair) (id : MsgId) → HomeStands p → HomeStands (routed_home p id) = λ p id h.
-      let x = one_more p id in
-      search arith in
+    let x = one_more p id in
+    search arith in
     let Stand-home : (f : ℕ → ℕ → Pair) (a : ℕ) (p : Pair) → HomeStands p → Stand f → Stand (at_pair f a a p) = λ f a p new h. search (arith, Apart-at, set_other, set_is) in
     let e : (a == a) ≡ true = grind (arith, nat_tests) in
     let new = home_routed (f a a) id (h.stand.home a) in
     let none_kept : (p : Pair) → p.kept ≡ [] → KeptStands p = λ p e k is. absurd (false≢true (ap (has k) (sym e) ∙ is)) in
     let routed_home-is : (a b : ℕ) (p : Pair) (id : MsgId) → (a == b) ≡ true → routed_on a b p id ≡ routed_home p id =
-      λ a b p id e. ap (λ (c : Bool). record p { ids = p.ids ++ id ∷ []; taken = if c then p.taken + 1 else p.taken; gone = if c then p.gone + 1 else p.gone; acked = if c then p.acked + 1 else p.acked }) e in
+    λ a b p id e. ap (λ (c : Bool). record p { ids = p.ids ++ id ∷ []; taken = if c then p.taken + 1 else p.taken; gone = if c then p.gone + 1 else p.gone; acked = if c then p.acked + 1 else p.acked }) e in
     subst (λ (p : Pair). Goes f (at_pair f a a p)) (sym (routed_home-is a a (f a a) id e))
     ((search (arith, Stand-home, Kept-set, none_kept, Later-set)))
 

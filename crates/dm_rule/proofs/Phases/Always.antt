@@ -21,9 +21,9 @@ rings_first : (ps : List BootProcess) (m : ℕ) → AllHere (known_at ps m) (rin
 rings_first [] m = tt
 rings_first (p ∷ ps) m =
     let first_here : (p : Pid) (m : ℕ) (k : Known) → (p.home == m) ≡ true → (if pid_eq p p && (p.home == m) then Here else k) ≡ Here =
-      λ p m k e. ap (λ (c : Bool). if c then Here else k) (let f : (pid_eq p p && (p.home == m)) ≡ true = grind (arith, nat_tests) in f) in
+    λ p m k e. ap (λ (c : Bool). if c then Here else k) (let f : (pid_eq p p && (p.home == m)) ≡ true = grind (arith, nat_tests) in f) in
     let ring_row : (f : Pid → Known) (p : Pid) (ps : List Pid) (c : Bool) → (c ≡ true → f p ≡ Here) → AllHere f ps → AllHere f (if c then p ∷ ps else ps) =
-      λ f p ps c here h. (elim c as (λ c_. ((c_ ≡ true → f p ≡ Here)) → AllHere f (if c_ then p ∷ ps else ps)) [ true ↦ λ here'. (here' refl, h) | false ↦ λ here'. h ]) here in
+    λ f p ps c here h. (elim c as (λ c_. ((c_ ≡ true → f p ≡ Here)) → AllHere f (if c_ then p ∷ ps else ps)) [ true ↦ λ here'. (here' refl, h) | false ↦ λ here'. h ]) here in
     ring_row (known_at (p ∷ ps) m) p.pid (ring_at ps m) (p.pid.home == m) (first_here p.pid m (known_at ps m p.pid))
     (more_here (known_at ps m) (known_at (p ∷ ps) m) (ring_at ps m) (λ q e. elim (pid_eq p.pid q && (p.pid.home == m)) as (λ c. (if c then Here else (known_at ps m q)) ≡ Here)
     [ true ↦ refl | false ↦ e ]) (rings_first ps m))

@@ -40,7 +40,7 @@ owns_whole pt p k s d b w h phase topic acting to e =
     let once = StandsAsBag-once (letters there.own next.kernel.bag (own_id v)) (standing next.view (own_id v)) (put_spot v.acting c) (put_there v v.acting c (own_id v) k (pid_of c 0) h.fits) (there.stands.kept (own_id v)) in
     let whole : Whole next = record { state = there; fits = fits_put v v.acting c (own_id v) k (pid_of c 0) h.fits; phases = own_put_phases v p k s d h.phases h.fits phase topic acting untold once } in
     let whole_packet : (q : Point) (a b k : ℕ) (l : Load) → Whole q → Whole (moved q (Line.Packet a b k l) q.kernel) =
-      λ q a b k l h. record { state = by_packet None q a b k l h.state; fits = fits_packet q.view a b k l h.fits; phases = calm_phases q.view (view_after q.view (Line.Packet a b k l)) (packet_calm q.view a b k l) h.phases } in
+    λ q a b k l h. record { state = by_packet None q a b k l h.state; fits = fits_packet q.view a b k l h.fits; phases = calm_phases q.view (view_after q.view (Line.Packet a b k l)) (packet_calm q.view a b k l) h.phases } in
     let n = puts_next Whole whole_packet pt (Owns k (pid_of c 0) c) c (own_id v) k (pid_of c 0) [] w refl whole (ap (λ (m : ℕ). spelled pt (Owns k (pid_of m 0) m ∷ [])) (sym to) ∙ e) in
     subst Whole n.point (subst Whole (said n.next n.rest n.more) n.stands)
 

@@ -59,8 +59,8 @@ calm_has v w p _ a c h = tt
 pub calm_in : (v w : View) (p : Pid) (phase : Phase) → Calm v w → IsIn v p phase → IsIn w p phase
 calm_in v w p phase c h =
     let calm_alone : (v w : View) (p : Pid) (o : Option MsgId) → Calm v w → Alone v p o → Alone w p o = λ v w p o c h i t z told b about st.
-      let was = c.fresh i t told b in
-      elim (c.back i t was b z st) [ inl s ↦ h i t z was b about s | inr x ↦ let (y, s, is) = x in h i t y was b about s ] in
+    let was = c.fresh i t told b in
+    elim (c.back i t was b z st) [ inl s ↦ h i t z was b about s | inr x ↦ let (y, s, is) = x in h i t y was b about s ] in
     search (arith, calm_has v w p phase h.apart c h.token, calm_alone v w p (token_in phase) c h.alone, c.known, h.known)
 
 -- only one message stands elsewhere, and it is none of the protocol

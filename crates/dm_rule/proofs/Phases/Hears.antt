@@ -66,10 +66,10 @@ told_row o pt m i is t p room x MessageKind.Refuse parts w h sane state front to
     let mine_ : told_step o m i u.p room x (sort_of MessageKind.Refuse) ≡ Some parts = subst (λ (q : Pid). told_step o m i q room x (sort_of MessageKind.Refuse) ≡ Some parts) (sym pu) g in
     let q = o.kernel.notes u.p in
     let stays_whole : (pt : Point) (i : MsgId) (is : List MsgId) (t : Told) (h : Whole pt) (u : Due pt i t h.phases) → u.k ≡ MessageKind.Refuse → pt.view.inbox pt.view.acting ≡ i ∷ is → pt.view.told i ≡ Some t → is_kernels i ≡ true
-      → Whole (moved pt (Line.Stays u.p) pt.kernel) = λ pt i is t h u e front told mine.
-      let at : pt.view.acting ≡ u.s = u.acting ∙ ap (λ (k : MessageKind). receiver_in k u.s u.d) e in
-      home_whole pt (Line.Stays u.p) i is t u.s h u refl refl refl front told mine (λ z. refl) refl
-      (λ m. ap (knows (Rests u.s) m) (at_acting pt.view u.s m u.p Here at) ∙ refused_if u.k u.s u.d m (Some i) (u.s == m) (pt.view.known m u.p) (ap is_early e) refl (due_known pt i t h.phases u m)) in
+    → Whole (moved pt (Line.Stays u.p) pt.kernel) = λ pt i is t h u e front told mine.
+    let at : pt.view.acting ≡ u.s = u.acting ∙ ap (λ (k : MessageKind). receiver_in k u.s u.d) e in
+    home_whole pt (Line.Stays u.p) i is t u.s h u refl refl refl front told mine (λ z. refl) refl
+    (λ m. ap (knows (Rests u.s) m) (at_acting pt.view u.s m u.p Here at) ∙ refused_if u.k u.s u.d m (Some i) (u.s == m) (pt.view.known m u.p) (ap is_early e) refl (due_known pt i t h.phases u m)) in
     ends_row pt (Line.Stays u.p) q Outcome.Stayed w refl refl (stays_whole pt i is t h u ku front told mine) sane state (given pt (Says (Line.Stays u.p) ∷ tells_asker q Outcome.Stayed) parts w mine_ n)
 told_row o pt m i is t p room x MessageKind.PullState parts w h sane state front told mine sees e about g n =
     let u = due pt i is t h.phases front told (ap is_between e) in

@@ -84,8 +84,8 @@ sent_spot pt p n j z st =
 sent_gone : (pt : Point) (p : Pid) (n : ℕ) (i : MsgId) (is : List MsgId) (h : State None pt) → pt.view.inbox pt.view.acting ≡ i ∷ is → (z : Spot) → standing (view_after pt.view (Line.SentOn p n)) i z ≡ 0
 sent_gone pt p n i is h front z =
     let first_gone : (pt : Point) (i : MsgId) (is : List MsgId) (h : State None pt) → pt.view.inbox pt.view.acting ≡ i ∷ is → (z : Spot) → standing (handled_first pt.view) i z ≡ 0 = λ pt i is h front.
-      let bag = letters h.own pt.kernel.bag in
-      nowhere_of bag i (standing (handled_first pt.view) i) ((Stands-handled bag pt.view (handled_first pt.view) i is front (first_off pt.view i is front) (λ j. refl) h.stands).kept i) in
+    let bag = letters h.own pt.kernel.bag in
+    nowhere_of bag i (standing (handled_first pt.view) i) ((Stands-handled bag pt.view (handled_first pt.view) i is front (first_off pt.view i is front) (λ j. refl) h.stands).kept i) in
     zero_if (standing (view_after pt.view (Line.SentOn p n)) i z) (λ st. let none = first_gone pt i is h front z in let some = sent_spot pt p n i z st in absurd (omega (arith, none, some)))
 
 -- what is of the protocol stands in no list, and stays where it is
@@ -94,7 +94,7 @@ sent_learns pt n i is t h u front told =
     let v = pt.view in
     let w = view_after v (Line.SentOn u.p n) in
     let first_same : (v : View) (i : MsgId) (is : List MsgId) (j : MsgId) → v.inbox v.acting ≡ i ∷ is → id_eq i j ≡ false → (z : Spot) → standing (handled_first v) j z ≡ standing v j z =
-      λ v i is j front apart z. ap (times j) (first_off v i is front z) ∙ handled_spots v i j apart z in
+    λ v i is j front apart z. ap (times j) (first_off v i is front z) ∙ handled_spots v i j apart z in
     record {
       calm = λ m q off. refl;
       fresh = λ j x e b. e;
@@ -133,10 +133,10 @@ left_by v a m p n false e = refl
 left_row : (pt : Point) (p : Pid) (s d b : ℕ) (w : Spelled) (h : WayIn p (Moves MessageKind.AllTaken s d None) s [] pt) → (is_between MessageKind.AllTaken && not (s == d)) ≡ true → b ≡ d → spelled pt (Says (Line.Migration Stage.Left p) ∷ to_kernel MessageKind.Restart b ∷ []) ≡ Some w → Whole w.point
 left_row pt p s d b w h apart to e =
     let left_known : (s d m n : ℕ) (b : Bool) (y : Known) → (s == m) ≡ b → knows (Moves MessageKind.AllTaken s d None) m y ≡ true → knows (Moves MessageKind.Restart s d None) m (if b then gone_to y n else y) ≡ true =
-      -- it has left: the source forwards
-      let left_if : (d : ℕ) (y : Known) (n : ℕ) → phase.kind_leaves MessageKind.AllTaken d y ≡ true → phase.kind_leaves MessageKind.Restart d (gone_to y n) ≡ true =
-        λ d y n e. (elim y as (λ y_. phase.kind_leaves MessageKind.AllTaken d y_ ≡ true → phase.kind_leaves MessageKind.Restart d (gone_to y_ n) ≡ true) [ Frozen to' ↦ λ e'. e' | _ ↦ λ e'. absurd (false≢true e') ]) e in
-      λ s d m n b y h1 h2. search (arith, left_if) in
+    -- it has left: the source forwards
+    let left_if : (d : ℕ) (y : Known) (n : ℕ) → phase.kind_leaves MessageKind.AllTaken d y ≡ true → phase.kind_leaves MessageKind.Restart d (gone_to y n) ≡ true =
+    λ d y n e. (elim y as (λ y_. phase.kind_leaves MessageKind.AllTaken d y_ ≡ true → phase.kind_leaves MessageKind.Restart d (gone_to y_ n) ≡ true) [ Frozen to' ↦ λ e'. e' | _ ↦ λ e'. absurd (false≢true e') ]) e in
+    λ s d m n b y h1 h2. search (arith, left_if) in
     let v = pt.view in
     let l = Line.Migration Stage.Left p in
     let next = moved pt l pt.kernel in
@@ -144,8 +144,8 @@ left_row pt p s d b w h apart to e =
     let steady = steadied pt h.way in
     let was : (m : ℕ) → knows (Moves MessageKind.AllTaken s d None) m (v.known m p) ≡ true = λ m. subst (λ (x : Phase). knows x m (v.known m p) ≡ true) h.now ((h.phases.each p).known m) in
     let left_at : (v : View) (s m : ℕ) (p : Pid) (n : ℕ) → v.acting ≡ s → at_record v.known v.acting p (gone_to (v.known v.acting p) n) m p ≡ (if s == m then gone_to (v.known m p) n else v.known m p) = λ v s m p n e.
-      ap (λ (c : Bool). if (v.acting == m) && c then gone_to (v.known v.acting p) n else v.known m p) (pid_eq-same p)
-      ∙ left_by v v.acting m p n (v.acting == m) refl ∙ ap (λ (x : ℕ). if x == m then gone_to (v.known m p) n else v.known m p) e in
+    ap (λ (c : Bool). if (v.acting == m) && c then gone_to (v.known v.acting p) n else v.known m p) (pid_eq-same p)
+    ∙ left_by v v.acting m p n (v.acting == m) refl ∙ ap (λ (x : ℕ). if x == m then gone_to (v.known m p) n else v.known m p) e in
     let turned = learns_phases v next.view p (Moves MessageKind.Restart s d None) h.phases (some_only p) (record {
       calm = λ m q off. record_off v.known v.acting p (gone_to (v.known v.acting p) (v.moves p + 1)) m q off;
       fresh = λ j x e b. e;

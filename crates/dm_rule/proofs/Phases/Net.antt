@@ -81,9 +81,14 @@ taken_by v a b n None is = calm_still v (taken_view v a b n) (λ m p. refl) (λ 
     [ Untaken c d ↦ pair_keeps v.pair a b (taken_pair (v.pair a b) n) (none_taken (v.pair a b) n is) c d | _ ↦ refl ]))
 taken_by v a b n (Some i) is =
     let front = taken_front (v.pair a b) n i is in
-    record { known = λ m p. refl; fresh = λ j t e c. e; kept = λ j t e. e; back = λ j t e c z st.
-    ((elim z as (λ z_. 1 ≤ standing (came_view v a b n i) j z_ → Came v j z_) [ Inbox m' ↦ λ st'. inbox_back v a b n i j m' front st' | Untaken c' d' ↦ λ st'. inl (stream_back v a b n i j c' d' front st') | _ ↦ λ st'. inl st' ]) st);
-    on = λ j t e c z st. taken_on v a b n i j z front st }
+    record {
+      known = λ m p. refl;
+      fresh = λ j t e c. e;
+      kept = λ j t e. e;
+      back = λ j t e c z st.
+          ((elim z as (λ z_. 1 ≤ standing (came_view v a b n i) j z_ → Came v j z_) [ Inbox m' ↦ λ st'. inbox_back v a b n i j m' front st' | Untaken c' d' ↦ λ st'. inl (stream_back v a b n i j c' d' front st') | _ ↦ λ st'. inl st' ]) st);
+      on = λ j t e c z st. taken_on v a b n i j z front st;
+    }
 
 pub taken_calm : (v : View) (a b n : ℕ) → Calm v (view_after v (Line.Taken a b n))
 taken_calm v a b n = taken_by v a b n (slice_get (v.pair a b).ids (v.pair a b).taken) refl

@@ -31,8 +31,8 @@ pub same_row : (pt : Point) (i : MsgId) (t : Told) (h : InPhases pt.view) (u : D
     → (m : ℕ) → knows (Moves j u.s u.d None) m (w.known m u.p) ≡ true
 same_row pt i t h u j w same e f m =
     let knows_as : (k j : MessageKind) (s d : ℕ) (o u : Option MsgId) (m : ℕ) (y : Known) → is_restart k ≡ is_restart j → is_early k ≡ is_early j → knows (Moves k s d o) m y ≡ knows (Moves j s d u) m y = λ k j s d o u m y e f.
-      ap (λ (b : Bool). if s == m then b else if d == m then kind_comes k s y else is_away y) (leaves_as k j d y e)
-      ∙ ap (λ (b : Bool). if s == m then kind_leaves j d y else if d == m then b else is_away y) (let e_ : kind_comes k s y ≡ kind_comes j s y = search arith in e_) in
+    ap (λ (b : Bool). if s == m then b else if d == m then kind_comes k s y else is_away y) (leaves_as k j d y e)
+    ∙ ap (λ (b : Bool). if s == m then kind_leaves j d y else if d == m then b else is_away y) (let e_ : kind_comes k s y ≡ kind_comes j s y = search arith in e_) in
     ap (knows (Moves j u.s u.d None) m) (same m) ∙ sym (knows_as u.k j u.s u.d (Some i) None m (pt.view.known m u.p) e f) ∙ due_known pt i t h u m
 
 pub and_true : (b : Bool) (x y : Known) → (if b && true then x else y) ≡ (if b then x else y)

@@ -221,9 +221,11 @@ parts_settle (p ∷ ps) v pt w quiet h is =
     let c = part_calm pt next p ls h.sane h.fits here lines leads in
     let there : Settled v next = record {
       calm = calm_trans v pt.view next.view h.calm c.0;
-      sane = part_sane pt next p ls ((elim p as (λ p_. Quiet pt.view p_ → Sayable p_)
-          [ Says l ↦ λ h.
-          ((elim l as (λ l_. QuietLine pt.view l_ → is_put l_ ≡ false) [ Line.Put a' b' i' k' q' ↦ λ h'. absurd h' | Line.Migration Stage.Frozen p' ↦ λ h'. refl | _ ↦ λ h'. refl ]) h) | _ ↦ λ h. tt ]) here) lines leads h.sane;
+      sane = part_sane pt next p ls ((elim p as (λ p_. Quiet pt.view p_ → Sayable p_) [
+        | Says l ↦ λ h.
+            ((elim l as (λ l_. QuietLine pt.view l_ → is_put l_ ≡ false) [ Line.Put a' b' i' k' q' ↦ λ h'. absurd h' | Line.Migration Stage.Frozen p' ↦ λ h'. refl | _ ↦ λ h'. refl ]) h)
+        | _ ↦ λ h. tt
+      ]) here) lines leads h.sane;
       fits = c.1;
     } in
     subst (λ (x : Spelled). Settled v x.point) (let f : behind ls z ≡ w = cc in f) (parts_settle ps v next z quiet.1 there more)

@@ -76,9 +76,9 @@ back_learns : (pt : Point) (l : Line) (i : MsgId) (is : List MsgId) (t : Told) (
     → ((z : Spot) → ids_at (view_after pt.view l) z ≡ ids_at (released (before_home pt.view p) p) z) → ((m : ℕ) (q : Pid) → pid_eq p q ≡ false → (view_after pt.view l).known m q ≡ pt.view.known m q) → Learns pt.view (view_after pt.view l) p
 back_learns pt l i is t p h quiet front told about off known =
     let home_spots : (v : View) (i : MsgId) (is : List MsgId) (p : Pid) (j : MsgId) → v.inbox v.acting ≡ i ∷ is → id_eq i j ≡ false → (z : Spot) → standing (before_home v p) j z ≡ standing v j z =
-      λ v i is p j front apart z. ap (times j) (home_off (handled_first v) p z ∙ first_off v i is front z) ∙ handled_spots v i j apart z in
+    λ v i is p j front apart z. ap (times j) (home_off (handled_first v) p z ∙ first_off v i is front z) ∙ handled_spots v i j apart z in
     let came_home : (v : View) (i : MsgId) (is : List MsgId) (p : Pid) (j : MsgId) → v.inbox v.acting ≡ i ∷ is → id_eq i j ≡ false → (z : Spot) → Came (before_home v p) j z → Came v j z =
-      λ v i is p j front apart z c. search (arith, home_spots) in
+    λ v i is p j front apart z c. search (arith, home_spots) in
     let v = pt.view in
     let w = view_after v l in
     let u = before_home v p in
@@ -131,9 +131,9 @@ pub restart_whole : (pt : Point) (i : MsgId) (is : List MsgId) (t : Told) (h : W
     → Whole (moved pt (Line.Migration Stage.Restarted u.p) pt.kernel)
 restart_whole pt i is t h u e front told mine =
     let restarted_if : (k : MessageKind) (s d m : ℕ) (o : Option MsgId) (b : Bool) (y : Known) → is_restart k ≡ true → (d == m) ≡ b → knows (Moves k s d o) m y ≡ true → knows (Rests d) m (if b then Here else y) ≡ true =
-      λ k s d m o b y h1 h2 h3.
-      let left_away : (k : MessageKind) (d : ℕ) (y : Known) (c : Bool) → is_restart k ≡ true → (if c then kind_leaves k d y else is_away y) ≡ true → is_away y ≡ true = λ k d y c h1 h2. grind (arith, nat_tests) in
-      search (arith, left_away) in
+    λ k s d m o b y h1 h2 h3.
+    let left_away : (k : MessageKind) (d : ℕ) (y : Known) (c : Bool) → is_restart k ≡ true → (if c then kind_leaves k d y else is_away y) ≡ true → is_away y ≡ true = λ k d y c h1 h2. grind (arith, nat_tests) in
+    search (arith, left_away) in
     let at : pt.view.acting ≡ u.d = u.acting ∙ ap (λ (k : MessageKind). receiver_in k u.s u.d) e in
     home_whole pt (Line.Migration Stage.Restarted u.p) i is t u.d h u refl refl refl front told mine (λ z. restarted_off pt.view u.p z) refl
     (λ m. ap (knows (Rests u.d) m) (at_acting pt.view u.d m u.p Here at) ∙ restarted_if u.k u.s u.d m (Some i) (u.d == m) (pt.view.known m u.p) (ap is_restart e) refl (due_known pt i t h.phases u m))
@@ -151,7 +151,7 @@ frozen_ends : (pt : Point) (p : Pid) (to : ℕ) (w : Spelled) (h : Whole pt) →
 frozen_ends pt p to w h there learns here apart u at known acting e =
     -- it is frozen, and the other machine is asked
     let frozen_if : (a to m : ℕ) (b : Bool) (y : Known) → (a == m) ≡ b → (a == to) ≡ false → knows (Rests a) m y ≡ true → knows (Moves MessageKind.Ask a to None) m (if b then Frozen to else y) ≡ true =
-      λ a to m b y h1 h2 h3. let away_comes : (a : ℕ) (y : Known) (c : Bool) → is_away y ≡ true → (if c then kind_comes MessageKind.Ask a y else is_away y) ≡ true = λ a y c h1. search arith in search (arith, eq_self, away_comes) in
+    λ a to m b y h1 h2 h3. let away_comes : (a : ℕ) (y : Known) (c : Bool) → is_away y ≡ true → (if c then kind_comes MessageKind.Ask a y else is_away y) ≡ true = λ a y c h1. search arith in search (arith, eq_self, away_comes) in
     let v = pt.view in
     let a = v.acting in
     let l = Line.Migration Stage.Frozen p in

@@ -86,7 +86,7 @@ creates_row : (pt : Point) (i : MsgId) (msg : PlainMessage) (child : Pid) (room 
 creates_row pt i msg child true slots blocks w h f unknown e =
     let l = Line.Label (Label.Created i child) in
     let created_phases : (v : View) (i : MsgId) (p : Pid) → InPhases v → Plain v i → ((m : ℕ) → v.known m p ≡ Unknown) → InPhases (view_after v (Line.Label (Label.Created i p))) =
-      λ v i p h plain unknown. made_phases v (view_after v (Line.Label (Label.Created i p))) p h unknown refl refl (λ j t e b z. ap (times j) (created_off v i p z) ∙ front_spots v i j t plain e b z) in
+    λ v i p h plain unknown. made_phases v (view_after v (Line.Label (Label.Created i p))) p h unknown refl refl (λ j t e b z. ap (times j) (created_off v i p z) ∙ front_spots v i j t plain e b z) in
     line_first pt l (Routes (answer_id i) ∷ []) w h refl refl (λ s k. created_phases pt.view i child h.phases (plain_in_bag pt i msg h.sane f.there) unknown)
     (λ s next rest more. quiet_parts (Routes (answer_id i) ∷ []) (moved pt l s) rest next (tt, tt) more) e
 creates_row pt i msg child false slots blocks w h f unknown e = quiet_parts (rule.says (Label.NoSpace i slots blocks) ∷ Routes (answer_id i) ∷ []) pt w h (tt, (tt, tt)) e

@@ -28,13 +28,13 @@ record Onto (pt next : Point) : Type 0 where
 puts_ground : (pt next : Point) (b : ℕ) (i : MsgId) (k : MessageKind) (q : Pid) (ls : List Line) → Grounded pt → Some (puts pt.view b i k q) ≡ Some ls → after pt ls ≡ Some next → Onto pt next
 puts_ground pt next b i k q ls h is leads =
     let puts_by : (pt next : Point) (b : ℕ) (i : MsgId) (k : MessageKind) (q : Pid) (c d : Bool) → Grounded pt
-      → after pt (Line.Put pt.view.acting b i k q ∷ (if c then [] else if d then packet_line pt.view pt.view.acting b (Load.Data (length (pt.view.pair pt.view.acting b).ids)) ∷ [] else [])) ≡ Some next → Onto pt next =
-      λ pt next b i k q c d h1 h2.
-      let quiet_packet : (pt : Point) (a b k : ℕ) (l : Load) → Grounded pt → Grounded (moved pt (Line.Packet a b k l) pt.kernel) = λ pt a b k l h. record { rings = record { each = h.rings.each }; lives = record { none = h.lives.none } } in
-      -- puts and packets change neither
-      let quiet_put : (pt : Point) (a b : ℕ) (i : MsgId) (k : MessageKind) (q : Pid) → Grounded pt → Grounded (moved pt (Line.Put a b i k q) pt.kernel) =
-        λ pt a b i k q h. record { rings = record { each = h.rings.each }; lives = record { none = h.lives.none } } in
-      search (arith, quiet_put, quiet_packet) in
+    → after pt (Line.Put pt.view.acting b i k q ∷ (if c then [] else if d then packet_line pt.view pt.view.acting b (Load.Data (length (pt.view.pair pt.view.acting b).ids)) ∷ [] else [])) ≡ Some next → Onto pt next =
+    λ pt next b i k q c d h1 h2.
+    let quiet_packet : (pt : Point) (a b k : ℕ) (l : Load) → Grounded pt → Grounded (moved pt (Line.Packet a b k l) pt.kernel) = λ pt a b k l h. record { rings = record { each = h.rings.each }; lives = record { none = h.lives.none } } in
+    -- puts and packets change neither
+    let quiet_put : (pt : Point) (a b : ℕ) (i : MsgId) (k : MessageKind) (q : Pid) → Grounded pt → Grounded (moved pt (Line.Put a b i k q) pt.kernel) =
+    λ pt a b i k q h. record { rings = record { each = h.rings.each }; lives = record { none = h.lives.none } } in
+    search (arith, quiet_put, quiet_packet) in
     puts_by pt next b i k q (pt.view.acting == b) (goes_out (pt.view.pair pt.view.acting b)) h (ap (after pt) (let f : puts pt.view b i k q ≡ ls = cc in f) ∙ leads)
 
 one_line : (pt next : Point) (l : Line) (ls : List Line) → Needs pt l → Sane pt → Some (l ∷ []) ≡ Some ls → after pt ls ≡ Some next → Grounded pt → Onto pt next
@@ -102,9 +102,9 @@ group_ground b pt d w e first sane h =
 pub roots_group : (b : Boot) (pt : Point) (d : Step) (w : Spelled) → group_of b pt d ≡ Some w → InPhases pt.view → Sane pt → Grounded pt → Grounded w.point
 roots_group b pt (Step.Turn m) w e phases sane h =
     let asks_by : (pt : Point) (i : MsgId) (is : List MsgId) (t : Told) → InPhases pt.view → pt.view.inbox pt.view.acting ≡ i ∷ is → pt.view.told i ≡ Some t → Asks pt t = λ pt i is t h front told e p about here.
-      let v = pt.view in
-      let u = due pt i is t h front told (ap is_between e) in
-      search (arith, moves_away) in
+    let v = pt.view in
+    let u = due pt i is t h front told (ap is_between e) in
+    search (arith, moves_away) in
     let start = begun pt (Step.Turn m) in
     let there : InPhases start.view = calm_phases pt.view start.view (head_calm pt.view (Step.Turn m)) phases in
     group_ground b pt (Step.Turn m) w e

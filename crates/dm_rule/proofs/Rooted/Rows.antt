@@ -64,18 +64,18 @@ handles_first pt b o m id msg lives known =
     -- a message of the bag is handled
     let routes_loose : (s : OneKernel) (o : Option PlainMessage) → AllLoose s (rule.routes o) = λ s o. elim o as (λ o_. AllLoose s (rule.routes o_)) [ None ↦ tt | Some m' ↦ (λ pt k. tt, tt) ] in
     first_of pt (rule.handles b o m id msg) (λ ps. by_handles (First pt) b o m id msg ps (record {
-  created = λ fixed. (tt, (λ q k. tt, tt));
-  no_space = λ fixed slots blocks. (tt, (λ q k. tt, tt));
-  took = λ fixed sent. (tt, routes_loose pt.kernel sent);
-  queued = λ to user. (tt, tt);
-  served = λ to mild. (tt, tt);
-  answers = λ to mild i. (tt, (λ q k. tt, tt));
-  kills = λ to kills. (tt, drops_loose pt.kernel (o.view.queue m msg.to));
-  moved = λ to what. (tt, (λ q k. tt, (λ q k. tt, tt)));
-  sets_off = λ machine to what apart. (tt, (λ q k none le. lived_here pt.kernel pt.view msg.to pt.view.acting lives (known msg.to ∙ to.known) (k msg.to none) le, (λ q k. tt, (λ q k. tt, tt))));
-  gone = λ to. (tt, (λ q k. tt, tt));
-  dropped = λ to. (tt, tt);
-  leaving = λ n to. (tt, tt);
-  coming = λ n to. (tt, tt);
-  forwarded = λ n c to. forwards_first pt o.addresses id (plain_kind msg.what) msg.sender n;
-}))
+      created = λ fixed. (tt, (λ q k. tt, tt));
+      no_space = λ fixed slots blocks. (tt, (λ q k. tt, tt));
+      took = λ fixed sent. (tt, routes_loose pt.kernel sent);
+      queued = λ to user. (tt, tt);
+      served = λ to mild. (tt, tt);
+      answers = λ to mild i. (tt, (λ q k. tt, tt));
+      kills = λ to kills. (tt, drops_loose pt.kernel (o.view.queue m msg.to));
+      moved = λ to what. (tt, (λ q k. tt, (λ q k. tt, tt)));
+      sets_off = λ machine to what apart. (tt, (λ q k none le. lived_here pt.kernel pt.view msg.to pt.view.acting lives (known msg.to ∙ to.known) (k msg.to none) le, (λ q k. tt, (λ q k. tt, tt))));
+      gone = λ to. (tt, (λ q k. tt, tt));
+      dropped = λ to. (tt, tt);
+      leaving = λ n to. (tt, tt);
+      coming = λ n to. (tt, tt);
+      forwarded = λ n c to. forwards_first pt o.addresses id (plain_kind msg.what) msg.sender n;
+    }))

@@ -34,7 +34,7 @@ trails_always_by Holds c b es x h q n m valid way named there machines =
     let (g, t) = run_treads Holds c b es (first_trodden b) x way (c.start b valid) (treads_start b valid) in
     -- where no more than so many machines know processes
     let address_leads : (pt : Point) (t : Trails) (h : Holder) (q : Pid) (n m : ℕ) → Treads pt t → Within (suc n) pt.view → names pt.kernel h ≡ Some q → pt.view.known m q ≢ Unknown
-      → IsOn t q (pt.addresses h) × (leads pt.view q n (pt.addresses h).moves (pt.addresses h).at ≡ true) = λ pt t h q n m x within named there.
-      let on = x.links h q named in
-      (on, trail_leads pt.view t q n m (pt.addresses h) (x.trail q) there (trail_within (suc n) pt.view t q m within (x.trail q) there) on) in
+    → IsOn t q (pt.addresses h) × (leads pt.view q n (pt.addresses h).moves (pt.addresses h).at ≡ true) = λ pt t h q n m x within named there.
+    let on = x.links h q named in
+    (on, trail_leads pt.view t q n m (pt.addresses h) (x.trail q) there (trail_within (suc n) pt.view t q m within (x.trail q) there) on) in
     address_leads x.point x.trails h q n m t (subst (λ (k : ℕ). Within k x.point.view) machines (c.within b x g)) named there

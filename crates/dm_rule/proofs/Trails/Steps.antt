@@ -68,8 +68,8 @@ pub born_trail : (v w : View) (t : Trails) (p q : Pid) → w.known ≡ at_record
 born_trail v w t p q known unknown home stood h =
     -- the trail of a process that was never made is its home alone
     let home_alone : (v : View) (t : Trails) (p : Pid) → Trail v t p → StoodOnTrail v t p Nowhere → (c m : ℕ) → slice_get (t p) c ≡ Some m → m ≡ p.home = λ v t p h s c m e.
-      let within = slice_get_within (t p) c m e in
-      search arith in
+    let within = slice_get_within (t p) c m e in
+    search arith in
     set_trail v w t p q Here known (λ at on. trail_made v w t p at unknown (λ c m e. home_alone v t p on stood c m e ∙ home) on) h
 
 -- step 6: what came for it is sent on, and its trail is longer by its destination

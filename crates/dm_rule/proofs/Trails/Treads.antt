@@ -264,7 +264,7 @@ stage_treads pt t p Stage.Accepted fits h = learns_treads pt (view_after pt.view
 stage_treads pt t p Stage.Left fits h = learns_treads pt (view_after pt.view (Line.Migration Stage.Left p)) t (λ q. left_line_trail pt.view t p q fits.d fits.holds fits.at fits.long fits.apart (h.trail q)) refl (λ r m c e. cc) h
 stage_treads pt t p Stage.Restarted fits h =
     let restarted_trail : (v : View) (t : Trails) (p q : Pid) (k : MessageKind) (s d : ℕ) (o : Option MsgId) → IsIn v p (Moves k s d o) → is_early k ≡ false → Trail v t q → Trail (view_after v (Line.Migration Stage.Restarted p)) t q =
-      λ v t p q k s d o phase e h. back_trail v (view_after v (Line.Migration Stage.Restarted p)) t p q d refl (λ f. let g : Incoming s ≡ Unknown = sym (destination_expects v p k s d o phase e) ∙ f in cc) h in
+    λ v t p q k s d o phase e h. back_trail v (view_after v (Line.Migration Stage.Restarted p)) t p q d refl (λ f. let g : Incoming s ≡ Unknown = sym (destination_expects v p k s d o phase e) ∙ f in cc) h in
     learns_treads pt (view_after pt.view (Line.Migration Stage.Restarted p)) t (λ q. restarted_trail pt.view t p q fits.k fits.s fits.d fits.o fits.phase fits.off (h.trail q)) refl h.own.topic h
 stage_treads pt t p any_ fits h = quiet_treads pt (view_after pt.view (Line.Migration any_ p)) t (λ m q. refl) refl (λ r m c e. cc) h
 

@@ -42,8 +42,8 @@ line_within n v (Line.Head d) e h = (elim d as (λ d_. actor d_ < n → Within n
     [ Step.Turn m ↦ λ e_. record { known = h.known; acting = e_ } | _ ↦ λ e_. record { known = h.known; acting = e_ } ]) e
 line_within n v (Line.Label l) e h =
     let label_within : (n : ℕ) (v : View) (l : Label) → Within n v → Within n (after_label v l) = λ n v l h1.
-      let served_within : (n : ℕ) (v : View) (o : Option Told) → Within n v → Within n (served_told v o) = λ n v o h1. search (arith, within_set) in
-      search (arith, within_set, served_within, within_same, dropped_known, acting_label) in
+    let served_within : (n : ℕ) (v : View) (o : Option Told) → Within n v → Within n (served_told v o) = λ n v o h1. search (arith, within_set) in
+    search (arith, within_set, served_within, within_same, dropped_known, acting_label) in
     label_within n v l h
 line_within n v (Line.Migration s p) e h = search (arith, sets, within_set)
 line_within n v (Line.Stays p) e h = within_set n v (view_after v (Line.Stays p)) p Here refl refl h
@@ -53,7 +53,7 @@ line_within n v (Line.Forwarded i k) e h = within_same n v (view_after v (Line.F
 line_within n v (Line.Proto i) e h = within_same n v (view_after v (Line.Proto i)) (λ m q. proto_known (handled v i) (v.told i) m q) (proto_acting (handled v i) (v.told i)) h
 line_within n v (Line.Taken a b k) e h =
     let taken_within : (n : ℕ) (v : View) (b : ℕ) (o : Option MsgId) → Within n v → Within n (taken_id v b o) =
-      λ n v b o h. elim o as (λ o_. Within n (taken_id v b o_)) [ None ↦ h | Some i' ↦ record { known = h.known; acting = h.acting } ] in
+    λ n v b o h. elim o as (λ o_. Within n (taken_id v b o_)) [ None ↦ h | Some i' ↦ record { known = h.known; acting = h.acting } ] in
     taken_within n (view.with_pair v a b (record (v.pair a b) { taken = (v.pair a b).taken + 1; kept = filter (λ j. not (j == k)) (v.pair a b).kept })) b (view.oldest (v.pair a b)) (record { known = h.known; acting = h.acting })
 line_within n v (Line.Idle m) e h = h
 line_within n v (Line.Old a b k) e h = h

@@ -75,7 +75,7 @@ told_spares r e s t v a (Label.Receive p id) i is h least = receives_spares a p 
 told_spares r e s t v a (Label.Served id) i is h least =
     let q = bag_served r e s t id is h in
     let gs_is : serves_burden v a id q.m q.x q.m.what ≡ gives s v a (Label.Served id) = ap (λ (o : Option PlainProcess). option_map_or (λ y. serves_burden v a id q.m y q.m.what) o []) (sym (ap kernel.alive q.alive))
-        ∙ ap (addresses.service_gets s v a id) (sym q.there) in
+    ∙ ap (addresses.service_gets s v a id) (sym q.there) in
     subst (λ (gs : List Gets). spares i gs ≡ true) gs_is (serve_spares v a id q.m q.x q.m.what i (λ j f. apart_from e i j least (q.is.fresh j f)))
 told_spares r e s t v a (Label.Gone id) i is h least = two_more i (answer_id id) [] (apart_from e i (answer_id id) least ((bag_gone r e s t id is h).fresh (answer_id id) refl)) refl
 told_spares r e s t v a (Label.Took id) i is h least =
