@@ -3,7 +3,7 @@ use Rattle.dm_mirror.proofs.Names.{◌≡◌, ◌≢◌, ◌⊎◌, inl, inr, �
 use Rattle.dm_mirror.proofs.Names.{cases_Bool, false≢true, nat_tests, Pid, MsgId, MessageKind, plain_kind, PlainMessage, Boot, id_eq-same, bind-is, Step, Line, Load, Receiver, IsStep, Says, Routes, Again, Owns, Transmits, Spelled, goes_out}
 use Rattle.dm_mirror.proofs.Names.{packet_line, puts, spelled, Point, after, moved, group_of, Spot, Untaken, standing, times, View, Pair, after_put, gone_after, is_kernels, own_id, view_after, routed_on, migrates, to_of}
 use Rattle.dm_mirror.proofs.Names.{machine_of, Pairs, pair_stands, IsNet, IsNetLine, arrives_net, group_is, resends_net, stands_right, AllFit, onward, pair_same, migrates_fit, turns_fit, said, says_next, transmits_next, Run, told_there}
-use Rattle.dm_mirror.proofs.Names.{cases_zero, own_by, taken_pair, OneKernel, after_line, kernel_after, label_of, is_own, hushed, is_put, Stage, Label, About, Known, first_number, Alive, PlainProcess}
+use Rattle.dm_mirror.proofs.Names.{cases_zero, own_by, taken_pair, OneKernel, after_line, kernel_after, label_of, is_own, hushed, is_put, Stage, Label, About, first_number, Alive, PlainProcess}
 use Rattle.dm_mirror.proofs.Names.{proto_acting, queued_acting, held_acting, forwarded_acting, acting_label, seen}
 use Rattle.dm_rule.proofs.Names.{Part, marked}
 use Rattle.dm_rule.proofs.Lines.{parts}
@@ -33,12 +33,6 @@ pub record Still (v w : View) : Type 0 where
 
 pub still_on : (u v w : View) → Still u v → Still v w → Still u w
 still_on u v w h k = record { moves = k.moves ∙ h.moves; incoming = λ m p s e. h.incoming m p s (k.incoming m p s e); forward = λ m p c j e. h.forward m p c j (k.forward m p c j e) }
-
--- what is known of a process that comes, or has gone on
-abbrev is_gone : Known → Bool
-is_gone (view.Incoming from) = true
-is_gone (view.Forward at_ moves) = true
-is_gone _ = false
 
 pub line_still : (v : View) (l : Line) → is_free l ≡ true → Still v (view_after v l)
 line_still v l free = record {
