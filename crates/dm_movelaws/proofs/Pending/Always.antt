@@ -10,6 +10,7 @@ use Rattle.dm_onekernel.specs.Manager as manage
 use Rattle.dm_onekernel.specs.Service as service
 use Rattle.dm_onekernel.specs.Step as kernel
 use Rattle.dm_onekernel.specs.Switchboard as board
+use Rattle.dm_onekernel.specs.Kernel.{Switchboard}
 use Rattle.dm_onekernel.specs.Pieces as pieces
 use Rattle.dm_onekernel.specs.Receiving as receiving
 use Rattle.dm_movelaws.proofs.Pending.Pairs.{is_request, Neither, neither, answer_of, Ones, off_both, out_ones, put_ones, from_other, took_pair, asked_pair, PairAt, is_answer, answered_ones, made_ones, Off, followed_pair, off_by}
@@ -172,10 +173,15 @@ manager_kind r e s id m k (PlainWhat.Moved outcome) w is there fits sends up sou
     answered_took s id m k (sound.entered.named id m there) fits.1 (grind (arith, nat_tests)) sends up h
 manager_kind r e s id m k v w is there fits sends up sound h = cc
 
+board_ones : (s : OneKernel) (id : MsgId) (m : PlainMessage) (b : Switchboard) (o : Option PlainMessage) → s.bag id ≡ Some m → board.board_takes s.switchboard m m.what ≡ Some (record { switchboard = b; answer = o }) → Ones s
+    → Ones (service.switchboard_took s id (record { switchboard = b; answer = o }))
+board_ones s id m b None there took h = grind (arith, nat_tests, s.switchboard.sent, b.sent, put_ones, from_other)
+board_ones s id m b (Some x) there took h = grind (arith, nat_tests, s.switchboard.sent, b.sent, put_ones, from_other)
+
 step_ones : (r e : MsgId → ℕ) (s t : OneKernel) (l : Label) → kernel.step s l ≡ Some t → KernelFits s → ascends 0 s.manager.pending s.manager.sent ≡ true → Sound r e s → Ones s → Ones t
 step_ones r e s t l is fits up sound h =
     label_ones r e s t l sound (λ p n is_. (fits.notes p n is_).unanswered) h (record {
-      board = λ id m k there took. grind (arith, nat_tests, k.switchboard, k.answer, s.switchboard.sent, k.switchboard.sent, put_ones, from_other);
+      board = λ id m k there took. board_ones s id m k.switchboard k.answer there took h;
       manager = λ id m k there took. manager_kind r e s id m k m.what refl took there (fits.messages id m there) (manager_takes_lem s.manager s.machines (length s.images) m m.what k took).2.sends up sound h;
     }) is
 
