@@ -1,7 +1,7 @@
 -- Piece by piece, from the first chunk to the process.
 use Rattle.dm_migrate.proofs.Names.{ℕ, zero, suc, ◌≡◌, ◌+◌, ◌-◌, ◌*◌, ◌/◌, ◌<◌, ◌≤◌, Bool, true, false, nat_lt, if◌then◌else◌, List, [], ◌++◌, length, take, drop, Option, Some, ap, sym, subst, ◌∙◌, refl, arith, take-add, take_all}
-use Rattle.dm_migrate.proofs.Names.{nat_tests, Asker, Message, What, Process, IsLawfulProcess, IsLawfulShell, shell_of, FitsShell, shell_is_lawful, shell_back, shell_ended, lawful_size, Wanted, Chunk, Block, Nothing, Arrival, IsNextPiece, after_block}
-use Rattle.dm_migrate.proofs.Names.{after_chunk, pull, restarted, revived_from, with_piece, memory_come, state_come, CanMove, HasBlock, HasChunk, block_of, chunk_bytes, chunk_of, is_last, state_of, ArrivesWhole, ComesByPieces}
+use Rattle.dm_migrate.proofs.Names.{nat_tests, Asker, Message, What, Process, IsLawfulProcess, IsLawfulShell, shell_of, shell_of_bytes, Ok, FitsShell, shell_is_lawful, shell_back, shell_ended, lawful_size, Wanted, Chunk, Block, Nothing, Arrival, IsNextPiece, after_block}
+use Rattle.dm_migrate.proofs.Names.{after_chunk, pull, restarted, revived_from, with_piece, memory_come, state_come, CanMove, IsReadAgain, HasBlock, HasChunk, block_of, chunk_bytes, chunk_of, is_last, state_of, ArrivesWhole, ComesByPieces}
 use Rattle.dm_migrate.proofs.Names.{Goes, HasPiece, coming, count_of_pieces, moved, piece_for}
 use Rattle.dm_message.specs.declared.What.TheVariants as what
 use Rattle.dm_migrate.proofs.Pieces.{memory_waits}
@@ -59,13 +59,17 @@ piece_after_block true p k h e =
     omega (arith, w.all, j)
 piece_after_block false p k h e = tt
 
+read_again : (p : Process) → IsReadAgain p → shell_of_bytes (state_of p) (length p.table) ≡ Ok (shell_of p)
+unfolding IsReadAgain
+read_again p again = shell_ended (length p.table) (state_of p) (shell_of p) again
+
 module _ (p : Process) (asker : Option Asker) (held : List Message) (h : CanMove p) where
   chunk_asked : (k : ℕ) → HasChunk (state_of p) k → IsNextPiece (coming p asker held (Chunk k)) (chunk_of p.pid (state_of p) k)
   chunk_asked k n = record {
     pid = refl;
     wanted = refl;
     whole = state_of p;
-    state = record { size = refl; shell = shell_of p; read = shell_ended (length p.table) (state_of p) (shell_of p) h.again; pid = refl; blocks = refl; moves = refl };
+    state = record { size = refl; shell = shell_of p; read = read_again p h.again; pid = refl; blocks = refl; moves = refl };
     number = n;
     before = refl;
     here = refl;
@@ -101,7 +105,7 @@ module _ (p : Process) (asker : Option Asker) (held : List Message) (h : CanMove
   })
 
   whole : restarted (coming p asker held Nothing) ≡ Some (moved p)
-  whole = ap (λ r. revived_from r p.memory) (shell_ended (length p.table) (state_of p) (shell_of p) h.again)
+  whole = ap (λ r. revived_from r p.memory) (read_again p h.again)
 
   pub by_pieces : ComesByPieces p asker held
   by_pieces = record {
@@ -196,6 +200,10 @@ arrives p asker h = record {
   );
 }
 
+is_read_again : (p : Process) → IsLawfulProcess p → IsLawfulShell (length p.table) (shell_of p) → FitsShell (shell_of p) → IsReadAgain p
+unfolding IsReadAgain
+is_read_again p l s f = shell_back (length p.table) (shell_of p) l.slots s f
+
 -- every lawful process can move
 pub can_move : (p : Process) → IsLawfulProcess p → FitsShell (shell_of p) → p.moves < 4294967295 → CanMove p
 can_move p l f m =
@@ -203,7 +211,7 @@ can_move p l f m =
     record {
       lawful = l;
       moves = m;
-      again = shell_back (length p.table) (shell_of p) l.slots s f;
+      again = is_read_again p l s f;
       least = (lawful_size (length p.table) (shell_of p) l.slots s).0;
       most = (lawful_size (length p.table) (shell_of p) l.slots s).1;
     }

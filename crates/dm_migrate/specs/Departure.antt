@@ -32,11 +32,15 @@ with_held d m = record d { held = d.held ++ m ∷ [] }
 abbrev pub ask_of : Process → Option Asker → What
 ask_of p asker = what.Ask p.pid (length p.memory / 256) p.moves (length (state_of p)) asker
 
--- a process that can move once more; its state bytes are read again as what they were made of, and nothing is left
+-- the state bytes of a process are read again as what they were made of, and nothing is left
+unfoldable pub IsReadAgain : Process → Type 0
+IsReadAgain p = (shell (length p.table)).read (state_of p) ≡ Ok (shell_of p, [])
+
+-- a process that can move once more
 pub record CanMove (p : Process) : Type 0 where
   pub lawful : IsLawfulProcess p
   pub moves : p.moves < 4294967295
-  pub again : (shell (length p.table)).read (state_of p) ≡ Ok (shell_of p, [])
+  pub again : IsReadAgain p
   pub least : 102 ≤ length (state_of p)
   pub most : length (state_of p) ≤ 3201
 

@@ -43,6 +43,7 @@ impl Model for Leaving {
 
 /// Freezes a process that is to go to a machine, and gives what is to be asked there. It takes the memory of the
 /// state bytes; where there is none, the process is handed back.
+#[tactic(auto, unfolding(crate::specs::Departure::IsReadAgain))]
 pub fn freeze(
     alloc: Global,
     process: Process,
