@@ -19,6 +19,7 @@ use Rattle.dm_mirror.proofs.Turning.{TurnsAt, begun}
 use Rattle.dm_mirror.proofs.Handle.Taking.{pid_apart as pid_off, some_same}
 use Rattle.dm_mirror.proofs.Come.Restarts.{turns_restart}
 use Rattle.dm_mirror.proofs.Handle.Kills.{free_of as free_as}
+unfoldable use Rattle.dm_migrate.specs.Departure.{IsReadAgain}
 
 -- the machine that it leaves holds it back
 frozen_is : (d : ℕ) (n : Known) → kind_leaves MessageKind.Ask d n ≡ true → (to : ℕ) × (n ≡ Frozen to)
@@ -29,6 +30,7 @@ frozen_unknown to e = cc
 
 -- whatever waits for it
 pub without_queue : (x : Process) → CanMove x → CanMove (record x { queue = [] })
+unfolding IsReadAgain
 without_queue x h = record {
   lawful = (let g = h.lawful in record { home = g.home; registers = g.registers; size = g.size; links = g.links; slots = g.slots; status = g.status; queue = All-nil IsLawfulMessage });
   moves = h.moves;

@@ -18,6 +18,12 @@ use Rattle.dm_mirror.proofs.Recorded.{Recorded, recorded}
 use Rattle.dm_mirror.proofs.Machines.{some_machine}
 use Rattle.dm_mirror.proofs.Next.{machines_stay}
 use Rattle.dm_mirror.proofs.Counts.Pairs.{CountsFew}
+unfoldable use Rattle.dm_migrate.specs.Departure.{IsReadAgain}
+use Rattle.dm_statebytes.proofs.Shells.{shell_ended}
+use Rattle.dm_statebytes.specs.Shell.{shell_of, shell_of_bytes}
+use Rattle.dm_migrate.specs.Pieces.{state_of}
+use Rattle.dm_migrate.specs.Departure.{CanMove}
+use Rattle.std.specs.declared.result.Result.TheVariants.{Ok}
 
 -- a machine that says nothing
 pub silent_has : (k : Known) → is_silent k ≡ true → rule.standing_of k ≡ None
@@ -52,9 +58,16 @@ pub restart_wants : (p : Pid) (x : Process) (k : Option Asker) (n : ℕ) (o : Op
 restart_wants p x k n o (What.Restart pid) e h = h.1
 restart_wants p x k n o _ e h = cc
 
+-- its state bytes are read again
+state_back : (x : Process) → CanMove x → shell_of_bytes (state_of x) (length x.table) ≡ Ok (shell_of x)
+unfolding IsReadAgain
+state_back x h = shell_ended (length x.table) (state_of x) (shell_of x) h.again
+
 -- all its pieces give the process
 pub come_all : (l : Placed) (p : Pid) (held : List MsgId) (a : Arrival) (c : ComesStand l p held a) → a.wanted ≡ Nothing → come_whole a a.wanted ≡ Some (moved c.process)
-come_all l p held a c wanted = grind (arith, nat_tests)
+come_all l p held a c wanted =
+    let back : shell_of_bytes (state_of c.process) (length c.process.table) ≡ Ok (shell_of c.process) = state_back (record c.process { queue = [] }) c.whole in
+    grind (arith, nat_tests, back)
 
 -- the messages that are held
 pub held_said : (pt : Point) (l : Placed) (p : Pid) (q held : List MsgId) (k : Known) (r : Option machine.KernelKnown) → ((i : MsgId) (m : Message) → l.bag i ≡ Some m → m.id ≡ i) → (has_nothing_held k ≡ true → held ≡ []) → KnownStands pt l p q held k r → names_of (held_for r) ≡ held
