@@ -146,7 +146,7 @@ only_want boot schedule told files old new b ds t is h a quiet = elim (want_or_n
   | inl want ↦ want
   | inr other ↦
       let k : NoFiles (Some files) boot schedule old new t = subst (λ f. NoFiles f boot schedule old new t) is h in
-      absurd (not_run boot schedule files old new t (sym (no_files files boot schedule old new t quiet other k) ∙ said_files files boot schedule b ds a.says) k)
+      absurd (not_run boot schedule files old new t (sym (no_files files boot schedule old new t quiet other k) ∙ said_files files boot schedule b ds a) k)
 ]
 
 -- no reason blames the sink
