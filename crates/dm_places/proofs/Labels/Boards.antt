@@ -49,9 +49,8 @@ found_at name (k ∷ ks) n w e = elim (cases_Bool (bytes_eq k.name name)) [
       record { i = 0; k = k; there = refl; link = let g : k.link ≡ w = cc in g; place = ap (λ (b : Bool). if b then n else place_named name (map plain_named ks) (n + 1)) same ∙ (let g : n ≡ n + 0 = omega arith in g) }
   | inr apart ↦
       let h = found_at name ks (n + 1) w (sym (ap (λ (b : Bool). if b then Some k.link else board.link_named name ks) apart) ∙ e) in
-      let hp = h.place in
       let hi = h.i in
-      record { i = suc hi; k = h.k; there = h.there; link = h.link; place = ap (λ (b : Bool). if b then n else place_named name (map plain_named ks) (n + 1)) apart ∙ hp ∙ (let g : (n + 1) + hi ≡ n + suc hi = omega arith in g) }
+      record { i = suc hi; k = h.k; there = h.there; link = h.link; place = ap (λ (b : Bool). if b then n else place_named name (map plain_named ks) (n + 1)) apart ∙ h.place ∙ (let g : (n + 1) + hi ≡ n + suc hi = omega arith in g) }
 ]
 
 looks_up_kept : (a : Addresses) (id sent : MsgId) (names : List Named) (op : ℕ) (name : List ℕ) (o : Option Link) → board.link_named name names ≡ o → NamesKept a names
@@ -115,7 +114,6 @@ request_mirrors s v a l id body w ws en h =
     let m = board.answer_over v.acting n w asked.reply in
     let q = one.goes_over switchboard n (plain_link w) (one.code_of_answer (plain_reply asked.reply) ∷ []) (one.links_of_answer (plain_reply asked.reply)) in
     let u = kernel_out s l id h.plain in
-    let g = places_out v a l id h.places in
     let s' = record (service.without_message s id) { switchboard = record { names = map plain_named asked.names; sent = n + 1 } } in
     let l' = record (without_message l id) { board = record { names = asked.names; sent = n + 1 } } in
     let plain : MirrorsKernel s' l' = record { processes = u.processes; bag = u.bag; notes = u.notes; noted = u.noted; board = refl; manager = u.manager; machines = u.machines; images = u.images } in
@@ -123,7 +121,7 @@ request_mirrors s v a l id body w ws en h =
       plain = kernel_sent s' l' q m (plain_answer v.acting n w asked.reply) plain;
       places = record {
         process = λ p x e. process_same v a (given b (two sent to from)) p x (let z = k.process p in record { slot = z.slot; owner = z.owner }) (h.places.process p x e);
-        message = came_places a (given b (two sent to from)) l' m g.message
+        message = came_places a (given b (two sent to from)) l' m (places_out v a l id h.places).message
             (λ i e. let z = k.message i e in let y = two_off b sent to from i e in record { receiver = y.receiver ∙ z.receiver; sender = y.sender ∙ z.sender; enclosed = z.enclosed })
             (search (
               ap (λ (c : Bool). if c then to else b (Receiver sent)) (id_eq-same sent) ∙ en 0 w refl,

@@ -3,6 +3,7 @@ use Rattle.dm_rulelaws.proofs.Names.{◌≡◌, ℕ, ◌==◌, Bool, true, false
 use Rattle.dm_rulelaws.proofs.Names.{OneKernel, bind-is, Step, Line, Load, View, Told, Unknown, Here, Frozen, is_kernels, own_id, Receiver, Point, label_of, kernel_after, moved, after_line, after, Part, Says, Routes, Again, Owns, Transmits}
 use Rattle.dm_rulelaws.proofs.Names.{Spelled, lines_of, puts, goes_out, packet_line, spelled, is_away, is_here, group_of, group_is, is_kill, Sane, AllSayable, sane_line, part_sane, outcome_sayable, is_server, has_nothing_held, by_parts}
 use Rattle.dm_rule.specs.Rule as rule
+use Rattle.dm_rulelaws.specs.Fits.{Each}
 
 -- a process is here, and away from every other machine
 pub record Resting (v : View) (p : Pid) : Type 0 where
@@ -56,10 +57,7 @@ Needs pt (Line.Packet a b k l) = ⊥
 Needs pt (Line.Queued i) = (t : Told) → pt.view.told i ≡ Some t → Queues pt.view t i
 Needs pt (Line.Held i) = (t : Told) → pt.view.told i ≡ Some t → has_nothing_held (pt.view.known pt.view.acting t.receiver) ≡ false
 Needs pt (Line.Migration Stage.Frozen p) = Living pt.kernel p × (pt.view.known pt.view.acting p ≡ Here)
-Needs pt (Line.Migration Stage.Asked p) = ⊤
 Needs pt (Line.Migration Stage.Accepted p) = Living pt.kernel p × (is_away (pt.view.known pt.view.acting p) ≡ true)
-Needs pt (Line.Migration Stage.StateTaken p) = ⊤
-Needs pt (Line.Migration Stage.MemoryTaken p) = ⊤
 Needs pt (Line.Migration Stage.Left p) = Leaving pt.view p
 Needs pt (Line.Migration Stage.Restarted p) = Living pt.kernel p × (is_here (pt.view.known pt.view.acting p) ≡ false)
 Needs pt (Line.Stays p) = Living pt.kernel p × (is_here (pt.view.known pt.view.acting p) ≡ false)
@@ -96,8 +94,7 @@ WalksOf pt (Some ps) = Walks pt ps
 
 -- only the first part needs something
 abbrev pub AllLoose : List Part → Type 0
-AllLoose [] = ⊤
-AllLoose (p ∷ ps) = ((pt : Point) → NeedsPart pt p) × AllLoose ps
+AllLoose = Each (λ (p : Part). (pt : Point) → NeedsPart pt p)
 
 pub loose_walks : (ps : List Part) (pt : Point) → AllLoose ps → Walks pt ps
 loose_walks [] pt h = tt

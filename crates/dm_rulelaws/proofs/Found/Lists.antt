@@ -3,12 +3,12 @@ use Rattle.dm_rulelaws.proofs.Names.{◌≡◌, ◌⊎◌, ℕ, zero, suc, ◌+�
 use Rattle.dm_rulelaws.proofs.Names.{id_eq-is, id_eq-same, Line, Stage, at_machine, at_pair, at_record, without_id, without_front, View, Pair, Told, About, view_after, after_label, after_put, after_taken, after_stage, after_proto, handled}
 use Rattle.dm_rulelaws.proofs.Names.{handled_first, queued_for, held_for, forwarded_for, rejoins, served_told, receiver_of, taken_id, oldest, routed_on, Spot, Queue, Held, Inbox, Untaken, times, untaken, standing, eq_is, parts, at_place}
 use Rattle.dm_rulelaws.proofs.Names.{pair_keeps, times-append, machine_of, ap, ◌∙◌, cases_Bool, false≢true, Place, id_eq, manager, OneKernel, is_kernels, own_id, Addresses, Holder, Receiver, Sender, Gets, given, holder_eq, place_known}
-use Rattle.dm_rulelaws.proofs.Names.{all_follow, is_told_back, told_back_gets, forwards, place_told, is_behind, updated_to, updated, own_given, first_gives, one_of, put_told_off, put_at, Goes, Comes, Named, Links, holder_is}
+use Rattle.dm_rulelaws.proofs.Names.{all_follow, is_told_back, told_back_gets, forwards, place_told, is_behind, updated_to, updated, own_given, first_gives, one_of, put_told_off, Goes, Comes, Named, Links, holder_is}
 use Rattle.dm_rulelaws.proofs.Names.{unnamed_receiver, unnamed_sender, put_named, told_again, is_own, leads_where, behind_where, plain_gives, not_own, ◌<◌, is_some, nat_tests, PlainMessage, is_fixed, by_step, MoveNote, sort_of, dropped_for}
 use Rattle.dm_rule.proofs.Trails.Places.{Owns}
 use Rattle.dm_rulelaws.proofs.Based.Sets.{set_all, without_fewer, front_fewer, last_of}
 use Rattle.dm_rulelaws.proofs.Fits.Constants.{step_constant}
-use Rattle.dm_rulelaws.proofs.Own.Told.{Origin, brings}
+use Rattle.dm_rulelaws.proofs.Own.Told.{brings}
 use Rattle.dm_rule.specs.View as view
 use Rattle.dm_onekernel.specs.Service as service
 use Rattle.dm_onekernel.specs.Step as kernel
@@ -151,9 +151,6 @@ places_served G v None h = h
 places_served G v (Some t) h = search (arith, t.kind, t.receiver, places_as)
 
 pub places_label : (G : MsgId → ℕ → Type 0) (v : View) (l : Label) → Places G v → Places G (after_label v l)
-places_label G v (Label.Ran p k) h = places_as G v (after_label v (Label.Ran p k)) refl refl refl (λ a b. refl) h
-places_label G v (Label.End p y) h = places_as G v (after_label v (Label.End p y)) refl refl refl (λ a b. refl) h
-places_label G v (Label.Refuse p id c) h = places_as G v (after_label v (Label.Refuse p id c)) refl refl refl (λ a b. refl) h
 places_label G v (Label.Receive p id) h = places_queue_less G v (after_label v (Label.Receive p id)) p (without_id id (v.queue v.acting p)) refl refl refl refl (λ i e. without_fewer i id (v.queue v.acting p) e) h
 places_label G v (Label.Dropped id) h = places_dropped G (handled v id) id (receiver_of (v.told id)) (places_handled G v id h)
 places_label G v (Label.Served id) h = places_served G (handled v id) (v.told id) (places_handled G v id h)
@@ -162,7 +159,7 @@ places_label G v (Label.Took id) h = places_handled G v id h
 places_label G v (Label.Created id p) h = places_as G (handled v id) (after_label v (Label.Created id p)) refl refl refl (λ a b. refl) (places_handled G v id h)
 places_label G v (Label.NoSpace id f b) h = places_handled G v id h
 places_label G v (Label.Asked id) h = places_handled G v id h
-places_label G v _ h = h
+places_label G v any_ h = places_as G v (after_label v any_) refl refl refl (λ a b. refl) h
 
 -- the topic is no place
 pub places_about : (G : MsgId → ℕ → Type 0) (v : View) (a : About) → Places G v → Places G (view.about v a)
@@ -252,20 +249,11 @@ forwarded_all P s v a id u told to bag fresh h =
     subst (λ (o : Option Told). AllAre P s v (given a (forwards v a id o))) (sym told) (given_are P s v a (forwards v a id (Some u)) h (to, back_gets P s v a id (is_told_back u.kind) bag fresh))
 
 -- the messages of a process are sent on
-follow_gets : (P : Pid → Place → Type 0) (s : OneKernel) (v : View) (a : Addresses) (p : Pid) (ids : List MsgId) → ((i : MsgId) (q : Pid) → 1 ≤ times i ids → Named s v (Receiver i) q → P q (place_known (v.known v.acting p) (v.moves p) (a (Receiver i))))
+pub follow_gets : (P : Pid → Place → Type 0) (s : OneKernel) (v : View) (a : Addresses) (p : Pid) (ids : List MsgId) → ((i : MsgId) (q : Pid) → 1 ≤ times i ids → Named s v (Receiver i) q → P q (place_known (v.known v.acting p) (v.moves p) (a (Receiver i))))
     → AllGet P s v (all_follow v a p ids)
 follow_gets P s v a p [] to = tt
-follow_gets P s v a p (i ∷ is) to = ((λ q e. to i q first e), follow_gets P s v a p is (λ j q least. to j q (more j least)))
-  where
-    first : 1 ≤ times i (i ∷ is)
-    first = let e : one_of i i ≡ 1 = ap (λ (c : Bool). if c then 1 else 0) (id_eq-same i) in omega (arith, e)
-
-    more : (j : MsgId) → 1 ≤ times j is → 1 ≤ times j (i ∷ is)
-    more j least = omega (arith, least)
-
-pub sent_on_all : (P : Pid → Place → Type 0) (s : OneKernel) (v : View) (a : Addresses) (p : Pid) (ids : List MsgId)
-    → ((i : MsgId) (q : Pid) → 1 ≤ times i ids → Named s v (Receiver i) q → P q (place_known (v.known v.acting p) (v.moves p) (a (Receiver i)))) → AllAre P s v a → AllAre P s v (given a (all_follow v a p ids))
-sent_on_all P s v a p ids to h = given_are P s v a (all_follow v a p ids) h (follow_gets P s v a p ids to)
+follow_gets P s v a p (i ∷ is) to =
+    ((λ q e. to i q (let f : one_of i i ≡ 1 = ap (λ (c : Bool). if c then 1 else 0) (id_eq-same i) in omega (arith, f)) e), follow_gets P s v a p is (λ j q least. to j q (more_front j i is least)))
 
 update_by : (P : Pid → Place → Type 0) (s : OneKernel) (v : View) (a : Addresses) (r p : Pid) (place : Place) → P p place → AllAre P s v a → AllAre P s v (updated_to s a (Some r) (Some (p, place)))
 update_by P s v a r p place on h g q e = elim (cases_Bool (is_behind s a r p place.moves g)) [
@@ -331,11 +319,6 @@ put_again P s v a x y id k q u told h g r e =
     again_back s v x y id k q u told h r (Owns (Goes i t is own now to)) = Owns (Goes i t is own (sym (told_again v x y id k q u told i) ∙ now) to)
     again_back s v x y id k q u told h r (Owns (Comes i t is mine now move to)) = Owns (Comes i t is mine (sym (told_again v x y id k q u told i) ∙ now) move to)
 
--- what is told behind a put: what was told before, or this
-pub put_tells : (v : View) (x y : ℕ) (id : MsgId) (k : MessageKind) (q : Pid) (i : MsgId) (u : Told) → (after_put v x y id k q).told i ≡ Some u
-    → (v.told i ≡ Some u) ⊎ ((id ≡ i) × (v.told id ≡ None) × (record { kind = k; receiver = q; about = v.topic } ≡ u))
-put_tells v x y id k q i u h1 = search (arith, id_eq-is, v.told, put_at, put_told_off, v.topic)
-
 -- What a step of the kernel without machines leaves: how many machines there are, and who sends.
 
 -- who sends messages: a server, a kernel of so many machines, or a process that was made
@@ -361,14 +344,11 @@ for_it s id m there fixed x is = let f : Some m ≡ Some x = sym there ∙ is in
 pub created_for : (s t : OneKernel) (id : MsgId) (child : Pid) → kernel.step s (Label.Created id child) ≡ Some t → IsFor s id
 created_for s t id child = search (arith, by_step, for_it, kernel_fixed)
 
-origin_sends : (n : ℕ) (s : OneKernel) (x : PlainMessage) → s.machines ≡ n → 0 < n → Origin s x → Sends n s x.sender
-origin_sends n s x same some h = search (arith, x.sender.home, kernel_fixed, x.sender, s.machines)
-
 pub step_leaves : (n : ℕ) (s t : OneKernel) (l : Label) → s.machines ≡ n → 0 < n → ((p : Pid) (k : MoveNote) → s.notes p ≡ Some k → is_some (s.processes p) ≡ true) → kernel.step s l ≡ Some t → Leaves n s t
 step_leaves n s t l same some lives is = record {
   machines = (step_constant s t l is).machines;
   senders = λ j x e. elim (brings s t l lives is j x e) [
     | inl old ↦ inl old
-    | inr new ↦ inr (origin_sends n s x same some new)
+    | inr new ↦ inr (let e_ : Sends n s x.sender = search (arith, x.sender.home, kernel_fixed, x.sender, s.machines) in e_)
   ];
 }

@@ -10,12 +10,13 @@ use Rattle.dm_rule.specs.Rule as rule
 use Rattle.dm_rule.specs.View as view
 use Rattle.dm_rulelaws.proofs.Fits.Rises.{both, set_at}
 use Rattle.dm_rulelaws.proofs.Own.Told.{AnyOwns, OwnTold, NoOwns, forwarded_place, forwards_own}
-use Rattle.dm_rulelaws.proofs.Goes.Parts.{does_nothing, does_route, can_as, can_say, can_line, can_plain, ArePlain, does_asks, does_plain, Quiet}
+use Rattle.dm_rulelaws.proofs.Goes.Parts.{does_nothing, does_route, can_as, can_say, can_line, can_plain, IsPlain, does_asks, does_plain, Quiet}
 use Rattle.dm_rulelaws.proofs.Queued.{is_user}
 use Rattle.dm_rulelaws.proofs.Order.Lines.{Which, Ord}
 use Rattle.dm_rulelaws.proofs.Order.Puts.{ord_queued}
 use Rattle.dm_rulelaws.proofs.Goes.Turns.{drops_quiet, drops_own, droppable_on, does_drops, dropped_is}
 use Rattle.dm_rulelaws.proofs.Goes.Front.{begun, Calm, CanTurn, Front, name_of, told_receiver, is_manager, answer_there, sent_there, does_answers, here_free}
+use Rattle.dm_rulelaws.specs.Fits.{Each}
 
 -- a served message's step
 served_step_is : (s : OneKernel) (i : MsgId) (x : PlainMessage) (y : PlainProcess) (w : PlainWhat) (t : OneKernel) → s.bag i ≡ Some x → s.processes x.to ≡ Some (Alive y) → s.notes x.to ≡ None → x.what ≡ w → service.serves s i x y w ≡ Some t → kernel.step s (Label.Served i) ≡ Some t
@@ -43,8 +44,7 @@ can_kill : (b : Boot) (m : ℕ) (o : Point) (i : MsgId) (x : PlainMessage) (y : 
 can_kill b m o i x y is alive free f =
     let s = o.kernel in
     let t = with_process (without_message s i) x.to (Ended Why.Killed) in
-    let step = served_step_is s i x y PlainWhat.Kill t f.there alive free is refl in
-    can_say (Calm m o) m (begun o m) (Label.Served i) t (rule.drop_parts (o.view.queue m x.to)) step (drops_quiet (o.view.queue m x.to)) (drops_own (o.view.queue m x.to))
+    can_say (Calm m o) m (begun o m) (Label.Served i) t (rule.drop_parts (o.view.queue m x.to)) (served_step_is s i x y PlainWhat.Kill t f.there alive free is refl) (drops_quiet (o.view.queue m x.to)) (drops_own (o.view.queue m x.to))
     (does_drops (Calm m o) x.to Why.Killed (o.view.queue m x.to) (moved (begun o m) (Line.Label (Label.Served i)) t) (set_at (without_message s i) x.to (Ended Why.Killed))
     (droppable_on s t x.to (o.view.queue m x.to) (λ j least. out_off s i j (apart j least (id_eq i j) refl)) (f.drops x.to)))
   where
@@ -60,8 +60,7 @@ record LandsTo (p : Pid) (y : PlainProcess) (x : PlainMessage) (st : PlainStatus
 lands_what_to : (p : Pid) (y : PlainProcess) (dir : Direction) (owner : Pid) (base own left : ℕ) (w : PlainWhat) → piece_fits dir left w ≡ true → nat_le (own + left) (length y.memory) ≡ true → is_of_memory w ≡ false
     → (c : pieces.Landed) × (pieces.lands_what p y dir owner base own left w ≡ Some c)
 lands_what_to p y Direction.FromArea owner base own left (PlainWhat.Block bytes) fits within off =
-    let z = record y { memory = pieces.written_at y.memory own bytes } in
-    let c = pieces.move_goes_on p z Direction.FromArea owner base own left (pieces.piece_of left) in
+    let c = pieces.move_goes_on p (record y { memory = pieces.written_at y.memory own bytes }) Direction.FromArea owner base own left (pieces.piece_of left) in
     (c, ap (λ (d : Bool). if d && nat_le (own + left) (length y.memory) then Some c else None) fits ∙ ap (λ (d : Bool). if d then Some c else None) within)
 lands_what_to p y Direction.IntoArea owner base own left PlainWhat.Written fits within off =
     let c = pieces.move_goes_on p y Direction.IntoArea owner base own left (pieces.piece_of left) in
@@ -73,8 +72,7 @@ lands_what_to p y _ owner base own left _ fits within off = cc
 lands_to : (b : Boot) (p : Pid) (y : PlainProcess) (x : PlainMessage) (ps : _) (n : ℕ) (w : PlainWhat) (st : PlainStatus) → x.what ≡ w → x.id.n ≡ n → status_awaits st n w ≡ true → move_fits ps y st ≡ true → is_of_memory w ≡ false → LandsTo p y x st
 lands_to b p y x ps n w (Moving dir owner base own left pending) is number waits fits off =
     let k = both (n == pending) (piece_fits dir left w) waits in
-    let within = (both (has_bytes (base + left) (ps owner)) (nat_le (own + left) (length y.memory)) fits).1 in
-    let (c, lands) = lands_what_to p y dir owner base own left w k.1 within off in
+    let (c, lands) = lands_what_to p y dir owner base own left w k.1 (both (has_bytes (base + left) (ps owner)) (nat_le (own + left) (length y.memory)) fits).1 off in
     search (arith, x.what, k.0)
 lands_to b p y x ps n w _ is number waits fits off = cc
 
@@ -122,11 +120,10 @@ can_move b m o i x y to true is alive free f =
 can_move b m o i x y to false is alive free f =
     let s = o.kernel in
     let t = with_note (without_message s i) x.to (record { id = i; asker = x.sender }) in
-    let mid = moved (begun o m) (Line.Label (Label.Asked i)) t in
     record {
       ps = rule.says (Label.Asked i) ∷ leaves_for x.to to;
       is = refl;
-      does = does_asks (Calm m o) (begun o m) i t (leaves_for x.to to) (asked_is s i x y to f.there alive free is) (does_plain ⊥ (leaves_for x.to to) mid (λ z. z) (refl, (refl, (tt, tt))));
+      does = does_asks (Calm m o) (begun o m) i t (leaves_for x.to to) (asked_is s i x y to f.there alive free is) (does_plain ⊥ (leaves_for x.to to) (moved (begun o m) (Line.Label (Label.Asked i)) t) (λ z. z) (refl, (refl, (tt, tt))));
       shape = Quiet refl;
       owns = AnyOwns (Line.Label (Label.Asked i)) (leaves_for x.to to) refl (λ a. (refl, tt));
     }
@@ -156,12 +153,10 @@ can_here b m o i x y (PlainWhat.Write base bytes) is num other alive free f h =
 can_here b m o i x y (PlainWhat.Create image links) is num other alive free f h = search (arith, x.to.num)
 can_here b m o i x y (PlainWhat.Created child) is num other alive free f h = search (arith, is_manager, x.to)
 can_here b m o i x y PlainWhat.NoRoom is num other alive free f h =
-    let (to, answer, pending) = h in
-    absurd (false≢true (sym other ∙ is_manager x.to to))
+    absurd (false≢true (sym other ∙ is_manager x.to h.0))
 can_here b m o i x y (PlainWhat.Move to) is num other alive free f h = can_move b m o i x y to (m == to) is alive free f
 can_here b m o i x y (PlainWhat.Moved a) is num other alive free f h =
-    let (to, answer, pending) = h in
-    absurd (false≢true (sym other ∙ is_manager x.to to))
+    absurd (false≢true (sym other ∙ is_manager x.to h.0))
 can_here b m o i x y any_ is num other alive free f h =
     can_land b m o i x y any_ is alive free f (λ c e. ap (λ (o_ : Option pieces.Landed). bind o_ (λ (r : pieces.Landed). Some (service.landed o.kernel i x r))) e) refl (ap (λ p. awaits (o.kernel.processes p) i.n any_) h.0 ∙ h.1)
 
@@ -188,12 +183,10 @@ can_ended b m o i x y (PlainWhat.Write base bytes) is num other ended f h = can_
 can_ended b m o i x y (PlainWhat.Create image links) is num other ended f h = search (arith, x.to.num)
 can_ended b m o i x y (PlainWhat.Created child) is num other ended f h = search (arith, is_manager, x.to)
 can_ended b m o i x y PlainWhat.NoRoom is num other ended f h =
-    let (to, answer, pending) = h in
-    absurd (false≢true (sym other ∙ is_manager x.to to))
+    absurd (false≢true (sym other ∙ is_manager x.to h.0))
 can_ended b m o i x y (PlainWhat.Move a) is num other ended f h = can_gone b m o i x y (PlainWhat.Moved Outcome.Ended) (ap service.gone_what is) refl ended f
 can_ended b m o i x y (PlainWhat.Moved a) is num other ended f h =
-    let (to, answer, pending) = h in
-    absurd (false≢true (sym other ∙ is_manager x.to to))
+    absurd (false≢true (sym other ∙ is_manager x.to h.0))
 can_ended b m o i x y _ is num other ended f h = can_drop b m o i x y (ap is_dropped is) ended f
 
 -- by what the machine knows of it
@@ -206,7 +199,7 @@ ended_of (Some (Ended y)) e = (y, refl)
 ended_of _ e = cc
 
 -- a message goes on
-pub forwards_plain : (v : View) (a : Addresses) (i : MsgId) (k : MessageKind) (sender : Pid) (to : ℕ) → is_some (v.told i) ≡ true → ArePlain v (forwards_on a i k sender to)
+pub forwards_plain : (v : View) (a : Addresses) (i : MsgId) (k : MessageKind) (sender : Pid) (to : ℕ) → is_some (v.told i) ≡ true → Each (IsPlain v) (forwards_on a i k sender to)
 forwards_plain v a i k sender to told = search arith
 
 can_known : (b : Boot) (m : ℕ) (o : Point) (i : MsgId) (x : PlainMessage) (k : Known) → o.view.known m x.to ≡ k → k ≢ view.Unknown → agrees k (o.kernel.processes x.to) ≡ true → (x.to.num == 0) ≡ false → pid_eq x.to manager ≡ false → Front b m o i x → OwnTold o → CanTurn m o (rule.process_handles o m i x k)

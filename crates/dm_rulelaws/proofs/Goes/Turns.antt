@@ -8,7 +8,8 @@ use Rattle.dm_rule.specs.Rule as rule
 use Rattle.dm_rulelaws.proofs.Queued.{is_user}
 use Rattle.dm_rulelaws.proofs.Runs.{Based}
 use Rattle.dm_rulelaws.proofs.Goes.Parts.{said, no_receive, Does, does_nothing, does_label}
-use Rattle.dm_rulelaws.proofs.Own.Told.{HaveNoOwn}
+use Rattle.dm_rulelaws.proofs.Own.Told.{HasNoOwn}
+use Rattle.dm_rulelaws.specs.Fits.{Each}
 
 -- a user message of the bag for a process
 pub record IsFor (s : OneKernel) (p : Pid) (i : MsgId) : Type 0 where
@@ -50,9 +51,8 @@ right_there i (Some x) f z least off h = (x, refl, StandsAsBag-one (Some x) f z 
 pub queue_drops : (b : Boot) (m : ℕ) (pt : Point) (p : Pid) → Based b pt → Droppable pt.kernel p (pt.view.queue m p)
 queue_drops b m pt p h = droppable_of pt.kernel p (pt.view.queue m p) (λ i least.
     let q = h.queued m p i least in
-    let entered = q.entered in
     let state = h.phased.state in
-    let off : is_kernels i ≡ false = not_true (is_kernels i) (λ e. let z = kernels_fresh state.r state.e pt.kernel i state.sound e in omega (arith, entered, z)) in
+    let off : is_kernels i ≡ false = not_true (is_kernels i) (λ e. let z = kernels_fresh state.r state.e pt.kernel i state.sound e in omega (arith, q.entered, z)) in
     let (x, there, one) = right_there i (pt.kernel.bag i) (standing pt.view i) (Queue m p) least off (stands_right pt i state (pt.kernel.bag i) refl) in
     (let k = q.is x there in record { x = x; there = there; to = k.0; user = k.1 }, (omega (arith, one))))
 
@@ -68,8 +68,7 @@ does_drops C p y [] pt ended h = does_nothing C pt
 does_drops C p y (i ∷ is) pt ended h =
     let s = pt.kernel in
     let x = h.0.x in
-    let step = dropped_is s i x y h.0.there (ap s.processes h.0.to ∙ ended) (user_dropped x.what h.0.user) in
-    does_label C pt (Label.Dropped i) (without_message s i) (rule.drop_parts is) step
+    does_label C pt (Label.Dropped i) (without_message s i) (rule.drop_parts is) (dropped_is s i x y h.0.there (ap s.processes h.0.to ∙ ended) (user_dropped x.what h.0.user))
     (does_drops C p y is (moved pt (Line.Label (Label.Dropped i)) (without_message s i)) ended
     (droppable_on s (without_message s i) p is (λ j least. out_off s i j (apart j least (id_eq i j) refl)) h.2))
   where
@@ -82,7 +81,7 @@ pub drops_quiet : (ids : List MsgId) → no_receive (said (rule.drop_parts ids))
 drops_quiet [] = refl
 drops_quiet (i ∷ is) = drops_quiet is
 
-pub drops_own : (ids : List MsgId) → HaveNoOwn (rule.drop_parts ids)
+pub drops_own : (ids : List MsgId) → Each HasNoOwn (rule.drop_parts ids)
 drops_own [] = tt
 drops_own (i ∷ is) = (tt, drops_own is)
 
