@@ -24,9 +24,6 @@ drops_easy : (ids : List MsgId) → AllByRecursion EasyPart (rule.drop_parts ids
 drops_easy [] = tt
 drops_easy (i ∷ is) = (tt, drops_easy is)
 
-pub routes_easy : (o : Option PlainMessage) → AllByRecursion EasyPart (rule.routes o)
-routes_easy o = search arith
-
 status_easy : (s : OneKernel) (quantum : ℕ) (p : Pid) (queue : List MsgId) (x : PlainProcess) (st : PlainStatus) → Easy (rule.serves_status quantum s p queue x st)
 status_easy s quantum p queue x st =
     let received_easy : (p : Pid) (x : PlainProcess) (id : MsgId) (o : Option PlainMessage) → Easy (bind o (λ (k : PlainMessage). bind (receiving.completes_with p x k) (λ (c : receiving.Completed). Some (rule.completion_parts p id c)))) =

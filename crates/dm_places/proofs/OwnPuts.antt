@@ -20,9 +20,6 @@ record OnlyFor (a b : Addresses) (id : MsgId) : Type 0 where
   others : (i : MsgId) → id_eq id i ≡ false → SameMessage a b i
   servers : SameServers a b
 
-only_two : (a : Addresses) (id : MsgId) (to from : Place) → OnlyFor a (given a (two id to from)) id
-only_two a id to from = record { processes = two_process a id to from; others = two_off a id to from; servers = two_servers a id to from }
-
 -- a message without links that has its places by then
 pub own_put_mirrors : (pt : Point) (l : Placed) (from to : ℕ) (k : MessageKind) (q : Pid) (y : Message) → MirrorsPoint pt l → plain_message y ≡ None → enclosed y.what ≡ [] → pt.kernel.bag y.id ≡ None → pt.view.told y.id ≡ None
     → given pt.addresses (own_given pt.kernel pt.view pt.addresses y.id q (sort_of k)) (Receiver y.id) ≡ place_of y.to → given pt.addresses (own_given pt.kernel pt.view pt.addresses y.id q (sort_of k)) (Sender y.id) ≡ place_of y.sender
@@ -35,6 +32,8 @@ own_put_mirrors pt l from to k q y h plain none out told receiver sender =
     let b = given a gs in
     let l' = with_message l y.id (Some y) in
     let w = view_after v (Line.Put from to y.id k q) in
+    let only_two : (a : Addresses) (id : MsgId) (to from : Place) → OnlyFor a (given a (two id to from)) id =
+      λ a id to from. record { processes = two_process a id to from; others = two_off a id to from; servers = two_servers a id to from } in
     let only : OnlyFor a (given a (own_given s v a y.id q (sort_of k))) y.id = search (arith, own_are_by, stays_process, stays_message, stays_servers, only_two) in
     let m : MirrorsMessage b y.id y = (search (arith)) in
     let now : Mirrors s v b l' = record {

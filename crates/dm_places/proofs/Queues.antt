@@ -13,17 +13,12 @@ with_queue x q = record x { queue = q }
 abbrev pub done_with : Done → List Message → Done
 done_with d q = record { called = d.called; process = with_queue d.process q }
 
-unless_with : (o : Option Reply) (x : Process) (d : Done) (q : List Message) → calls.unless_refused o (with_queue x q) (done_with d q) ≡ done_with (calls.unless_refused o x d) q
-unless_with o x d q = search arith
-
-if_with : (b : Bool) (c d : Done) (q : List Message) → (if b then done_with c q else done_with d q) ≡ done_with (if b then c else d) q
-if_with b c d q = search arith
-
-begins_with : (here : ℕ) (x : Process) (w : Link) (dir : Direction) (q : List Message) → calls.begins here (with_queue x q) (calls.whole (with_queue x q) w dir) ≡ done_with (calls.begins here x (calls.whole x w dir)) q
-begins_with here x w dir q = search arith
-
 does_with : (here : ℕ) (x : Process) (n : CallNumber) (q : List Message) → calls.does_call here (with_queue x q) n ≡ done_with (calls.does_call here x n) q
 does_with here x n q =
+    let begins_with : (here : ℕ) (x : Process) (w : Link) (dir : Direction) (q : List Message) → calls.begins here (with_queue x q) (calls.whole (with_queue x q) w dir) ≡ done_with (calls.begins here x (calls.whole x w dir)) q =
+      λ here x w dir q. search arith in
+    let unless_with : (o : Option Reply) (x : Process) (d : Done) (q : List Message) → calls.unless_refused o (with_queue x q) (done_with d q) ≡ done_with (calls.unless_refused o x d) q = λ o x d q. search arith in
+    let if_with : (b : Bool) (c d : Done) (q : List Message) → (if b then done_with c q else done_with d q) ≡ done_with (if b then c else d) q = λ b c d q. search arith in
     let moves_with : (here : ℕ) (x : Process) (o : Option Link) (q : List Message) → calls.moves here (with_queue x q) o ≡ done_with (calls.moves here x o) q = λ here x o q. search (arith, begins_with, if_with, unless_with) in
     let sends_with : (here : ℕ) (x : Process) (o : Option Link) (q : List Message) → calls.sends here (with_queue x q) o ≡ done_with (calls.sends here x o) q = λ here x o q. search (arith, unless_with) in
     let puts_with : (x : Process) (w : Link) (o : Option ℕ) (q : List Message) → calls.puts_link (with_queue x q) w o ≡ done_with (calls.puts_link x w o) q = λ x w o q. search arith in

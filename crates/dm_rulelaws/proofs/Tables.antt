@@ -56,6 +56,3 @@ end_tables s p y h = record {
 -- a process goes on with as many slots
 abbrev pub SameSlots : PlainProcess → PlainProcess → Type 0
 SameSlots x y = length y.links ≡ length x.links
-
-pub goes_tables : (s : OneKernel) (p : Pid) (x y : PlainProcess) → s.processes p ≡ Some (Alive x) → SameSlots x y → Tables s → Tables (with_process s p (Alive y))
-goes_tables s p x y is same h = set_tables s p y (same ∙ h.slots p x is) h

@@ -1,9 +1,9 @@
 -- Behind each group there is a kernel with places, where there was one before.
 use Rattle.dm_places.proofs.Names.{◌≡◌, ℕ, ◌+◌, ◌==◌, ◌||◌, Bool, true, List, [], ◌∷◌, length, refl, ◌∙◌, subst, is_some, arith, ⊤, if◌then◌else◌, slice_get, Option, None, Some, nat_tests, pid_eq, pid_of, MsgId, Label, Line, PlainMessage}
 use Rattle.dm_places.proofs.Names.{PlainWhat, Boot, first_number, manager, switchboard, Life, OneKernel, Step, View, after_head, Part, Routes, Spelled, Point, moved, group_of, outcome, Placed, GroupNeeds, MirrorsPoint, Known, by_migrates}
-use Rattle.dm_places.proofs.Names.{or_left, or_right, by_group, AllByRecursion}
-use Rattle.dm_places.proofs.EasyRows.{AsksEasily, Easy, arrives_easy, hears_easy, resends_easy, round_easy, routes_easy, here_easy, if_parts}
-use Rattle.dm_places.proofs.Any.AnyPart.{Behind, PartsNeed, SoundAt, easy_parts, EasyPart, parts_follow}
+use Rattle.dm_places.proofs.Names.{or_left, or_right, by_group, AllByRecursion, spelled, by_parts}
+use Rattle.dm_places.proofs.EasyRows.{AsksEasily, Easy, arrives_easy, hears_easy, resends_easy, round_easy, here_easy, if_parts}
+use Rattle.dm_places.proofs.Any.AnyPart.{Behind, PartsNeed, SoundAt, easy_parts, EasyPart, first_follows}
 use Rattle.dm_places.proofs.Lines.{lines_keep}
 use Rattle.dm_onekernel.specs.Manager as manage
 use Rattle.dm_onekernel.specs.Pieces as pieces
@@ -29,6 +29,7 @@ comes_fit : (b : Boot) (pt : Point) (v : View) (m : ℕ) (id : MsgId) (o : Optio
     → ((x : PlainMessage) → o ≡ Some x → (pid_eq x.to switchboard || pid_eq x.to manager) ≡ true → m ≡ 0) → ((x : PlainMessage) → o ≡ Some x → AsksEasily id x.what) → Fits pt.kernel v (rule.comes_to b pt m id o)
 comes_fit b pt v m id None acting counts h needs server asks = easy_fits pt.kernel v (rule.hears b pt m id (pt.view.told id)) (hears_easy b pt m id (pt.view.told id))
 comes_fit b pt v m id (Some k) acting counts h needs server asks =
+    let routes_easy : (o : Option PlainMessage) → AllByRecursion EasyPart (rule.routes o) = λ o. search arith in
     let process_easy : (pt : Point) (m : ℕ) (id : MsgId) (k : PlainMessage) (w : Known) → AsksEasily id k.what → Easy (rule.process_handles pt m id k w) =
       λ pt m id k w h1. let ended_easy : (id : MsgId) (w : PlainWhat) → Easy (rule.ended_handles id w) = λ id w. search arith in search (arith, here_easy, if_parts, ended_easy) in
     let manager_fits : (pt : Point) (v : View) (id : MsgId) (o : Option manage.ManagerTook) → v.acting ≡ 0 → GroupNeeds pt → Fits pt.kernel v (rule.manager_parts id o) = λ pt v id o h1 h2. search (arith, routes_easy) in
@@ -62,4 +63,7 @@ outcome_fits b pt (Step.Migrate p m) h needs = easy_fits pt.kernel (after_head p
 -- a group
 pub group_behind : (b : Boot) (pt : Point) (l : Placed) (d : Step) (w : Spelled) → SoundAt pt.kernel → GroupNeeds pt → group_of b pt d ≡ Some w → MirrorsPoint pt l → Behind w.point
 group_behind b pt l d w sound needs is h = by_group (λ x. Behind x.point) b pt d w (λ ps z comes more.
+    let parts_follow : (ps : List Part) (pt : Point) (w : Spelled) (l : Placed) → PartsNeed pt.kernel pt.view ps → SoundAt pt.kernel → MirrorsPoint pt l → spelled pt ps ≡ Some w → Behind w.point = λ qs q w l need sound h is.
+      by_parts (λ ps pt v. (k : Placed) → PartsNeed pt.kernel pt.view ps → SoundAt pt.kernel → MirrorsPoint pt k → Behind v.point) (λ pt k needs sound h. record { l = k; mirrors = h; sound = sound })
+      (λ p ps pt next ls z lines comes more k needs sound h. (let on = first_follows pt next k p ls needs.0 sound h lines comes in more on.l (easy_parts next.kernel next.view ps needs.1) on.sound on.mirrors)) qs q w is l need sound h in
     parts_follow ps (moved pt (Line.Head d) pt.kernel) z l (subst (Fits pt.kernel (after_head pt.view d)) comes (outcome_fits b pt d sound needs)) sound (lines_keep pt (moved pt (Line.Head d) pt.kernel) l (Line.Head d) tt h refl) more) is

@@ -82,20 +82,15 @@ part_follows pt next l (Again id b) ls easy sound h lines is =
 part_follows pt next l (Owns k q b) ls easy sound h lines is =
     let own = own_id pt.view in
     let x = Line.Put pt.view.acting b own k q in
-    let mid = moved pt x pt.kernel in
     let f : puts pt.view b own k q ≡ ls = cc in
-    let (m, on) = line_follows pt mid l x (inr (own_apart_of pt.kernel (own_id pt.view) (pt.kernel.bag (own_id pt.view)) refl refl sound)) h refl in
-    same_follows mid next m (puts_same pt next b own k q (ap (after pt) f ∙ is)) sound on
+    let (m, on) = line_follows pt (moved pt x pt.kernel) l x (inr (own_apart_of pt.kernel (own_id pt.view) (pt.kernel.bag (own_id pt.view)) refl refl sound)) h refl in
+    same_follows (moved pt x pt.kernel) next m (puts_same pt next b own k q (ap (after pt) f ∙ is)) sound on
 part_follows pt next l (Transmits a b x) ls easy sound h lines is = search (arith, says_follow)
 
-first_follows : (pt next : Point) (l : Placed) (p : Part) (ls : List Line) → FirstNeeds pt.kernel pt.view p → SoundAt pt.kernel → MirrorsPoint pt l → lines_of pt p ≡ Some ls → after pt ls ≡ Some next → Behind next
+pub first_follows : (pt next : Point) (l : Placed) (p : Part) (ls : List Line) → FirstNeeds pt.kernel pt.view p → SoundAt pt.kernel → MirrorsPoint pt l → lines_of pt p ≡ Some ls → after pt ls ≡ Some next → Behind next
 first_follows pt next l p ls needs sound h lines is = elim needs [
   | inl easy ↦ part_follows pt next l p ls easy sound h lines is
   | inr said ↦
       let f : Some (Line.Label said.0 ∷ []) ≡ Some ls = ap (lines_of pt) said.1 ∙ lines in
       let g : Line.Label said.0 ∷ [] ≡ ls = cc in says_follow pt next l (Line.Label said.0) said.2 sound h (ap (after pt) g ∙ is)
 ]
-
-pub parts_follow : (ps : List Part) (pt : Point) (w : Spelled) (l : Placed) → PartsNeed pt.kernel pt.view ps → SoundAt pt.kernel → MirrorsPoint pt l → spelled pt ps ≡ Some w → Behind w.point
-parts_follow qs q w l need sound h is = by_parts (λ ps pt v. (k : Placed) → PartsNeed pt.kernel pt.view ps → SoundAt pt.kernel → MirrorsPoint pt k → Behind v.point) (λ pt k needs sound h. record { l = k; mirrors = h; sound = sound })
-    (λ p ps pt next ls z lines comes more k needs sound h. (let on = first_follows pt next k p ls needs.0 sound h lines comes in more on.l (easy_parts next.kernel next.view ps needs.1) on.sound on.mirrors)) qs q w is l need sound h

@@ -75,9 +75,8 @@ sent_on_mirrors pt l p n to h knows =
     let a = pt.addresses in
     let ids = v.queue v.acting p ++ v.held v.acting p in
     let l' = sent_all l to (v.moves p + 1) ids in
-    let w = view_after v (Line.SentOn p n) in
-    subst (λ (g : List Gets). Mirrors pt.kernel w (given a g) l') (sym (all_onward v a p to ids knows))
-    (mirrors_view pt.kernel v w (given a (onward (record { at = to; moves = v.moves p + 1 }) ids)) l' refl (all_on pt.kernel v a l to (v.moves p + 1) ids h))
+    subst (λ (g : List Gets). Mirrors pt.kernel (view_after v (Line.SentOn p n)) (given a g) l') (sym (all_onward v a p to ids knows))
+    (mirrors_view pt.kernel v (view_after v (Line.SentOn p n)) (given a (onward (record { at = to; moves = v.moves p + 1 }) ids)) l' refl (all_on pt.kernel v a l to (v.moves p + 1) ids h))
 
 pub among_times : (i : MsgId) (ids : List MsgId) → 1 ≤ times i ids → is_among i ids ≡ true
 among_times i [] e = absurd (omega arith)

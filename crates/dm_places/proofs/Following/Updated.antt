@@ -146,15 +146,14 @@ child_follows s v a l r at moves (suc n) c h e =
     let (u, there, is) = of_map (retargeted r at moves) (slice_get l.manager.children n) c (sym e ∙ slice_get-map (retargeted r at moves) l.manager.children n) in
     led s a manager r at moves (Child (suc n)) u refl (child_leads s v a l (suc n) u h there) (h.places.child (suc n) u there) ∙ ap place_of is
 
-retargeted_names : (s : OneKernel) (a : Addresses) (r : Pid) (at moves n : ℕ) (o : Option Link) → leads_to s (Answer n) ≡ link_target (option_map plain_link o) → AnswerNames o (a (Answer n))
-    → AnswerNames (option_map (retargeted_link r at moves) o) (told_of s a manager r at moves (Answer n))
-retargeted_names s a r at moves n o h1 h2 = search (arith, led)
-
 abbrev pub manager_told : Placed → Pid → ℕ → ℕ → Placed
 manager_told l r at moves = record l { manager = retargeted_manager r at moves l.manager }
 
 pub children_told : (s : OneKernel) (v : View) (a : Addresses) (l : Placed) (r : Pid) (at moves : ℕ) → l.processes manager ≡ None → Mirrors s v a l → Mirrors s v (told_of s a manager r at moves) (manager_told l r at moves)
 children_told s v a l r at moves none h =
+    let retargeted_names : (s : OneKernel) (a : Addresses) (r : Pid) (at moves n : ℕ) (o : Option Link) → leads_to s (Answer n) ≡ link_target (option_map plain_link o) → AnswerNames o (a (Answer n))
+      → AnswerNames (option_map (retargeted_link r at moves) o) (told_of s a manager r at moves (Answer n)) =
+      λ s a r at moves n o h1 h2. search (arith, led) in
     let answer_follows : (s : OneKernel) (v : View) (a : Addresses) (l : Placed) (r : Pid) (at moves n : ℕ) (y : Pending) → Mirrors s v a l → pending_request n (map (retargeted_pending r at moves) l.manager.pending) ≡ Some y
       → AnswerNames y.answer (told_of s a manager r at moves (Answer n)) =
       λ s v a l r at moves n y h e. search (arith, of_map, pending_map, retargeted_names, answer_leads) in

@@ -49,15 +49,14 @@ gone_follows s t v a l id is h =
     let (u, what, last) = bind-is (service.gone_what k.what) (λ (w : PlainWhat). Some (kernels.with_sent (service.without_message s id) (Some (answer_to k w)))) t end in
     let z : kernels.with_sent (service.without_message s id) (Some (answer_to k u)) ≡ t = cc in
     let (m, found, says) = there_of s l id k h.plain there in
-    let hm = h.places.message id m found in
     let on = with_sent (without_message l id) (Some (gone_answer v.acting m)) in
-    let count : m.to.moves ≡ (a (Receiver id)).moves = ap (λ (p : Place). p.moves) (sym hm.receiver) in (
+    let count : m.to.moves ≡ (a (Receiver id)).moves = ap (λ (p : Place). p.moves) (sym (h.places.message id m found).receiver) in (
       on,
       ap (λ (o : Option Message). bind o (λ (n : Message). Some (with_sent (without_message l id) (Some (gone_answer v.acting n))))) found,
       subst (λ (w : OneKernel). Mirrors w v (given a (gives s v a (Label.Gone id))) on) z
           (subst (λ (n : ℕ). Mirrors (kernels.with_sent (service.without_message s id) (Some (answer_to k u))) v (given a (answer_gets a id (record { at = v.acting; moves = n }))) on) count
           (let g : (plain_what (serving.gone_what m.what) ≡ Some u) × (enclosed (serving.gone_what m.what) ≡ []) = search (arith, read_what, write_what, move_what, (parts m k says).what) in
-          answer_mirrors (service.without_message s id) v a (without_message l id) id m k (serving.gone_what m.what) u m.to.moves hm says g.0 g.1 (out_mirrors s v a l id h))),
+          answer_mirrors (service.without_message s id) v a (without_message l id) id m k (serving.gone_what m.what) u m.to.moves (h.places.message id m found) says g.0 g.1 (out_mirrors s v a l id h))),
     )
 
 -- nospace
@@ -111,10 +110,9 @@ answered_follows s t v a l id o is needs h =
     let m = moved_answer v.acting y o k in
     let to : k.addr.pid ≡ n.asker = ap (λ (w : MoveNote). w.asker) is_note in
     let asked : manager_request k ≡ id = ap (λ (w : MoveNote). w.id) is_note ∙ name in
-    let hy = h.places.process p y stands in
     let q : PlainMessage = record { id = answer_id id; to = n.asker; sender = p; what = PlainWhat.Moved o } in
-    let says : plain_message m ≡ Some q = λ i. Some (record { id = answer_id (asked i); to = to i; sender = hy.pid i; what = PlainWhat.Moved o }) in
-    let here : acting_place v p ≡ place_of m.sender = stands_here v a p y hy in
+    let says : plain_message m ≡ Some q = λ i. Some (record { id = answer_id (asked i); to = to i; sender = (h.places.process p y stands).pid i; what = PlainWhat.Moved o }) in
+    let here : acting_place v p ≡ place_of m.sender = stands_here v a p y (h.places.process p y stands) in
     let done = two_sends (kernels.without_note s p id) v a (without_note l p id) m q (a (AskedBy p)) (acting_place v p) says refl (h.places.asker p k waits) here (unnoted_mirrors s v a l p id h) in
     let on = with_sent (without_note l p id) (Some m) in (
       on,

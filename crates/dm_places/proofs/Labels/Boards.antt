@@ -149,13 +149,12 @@ board_row s t v a l id m k (PlainWhat.User code channel bytes ls) says hm h e =
     let w = user_what m.what code channel bytes ls says in
     let f : service.switchboard_took s id (one.takes_request s.switchboard bytes ls) ≡ t = cc in
     let body = w.body.items in
-    let links = w.links.items in
-    let on = board_took (without_message l id) (board.takes_request v.acting l.board body links) in (
+    let on = board_took (without_message l id) (board.takes_request v.acting l.board body w.links.items) in (
       on,
       ap (λ (x : What). bind (board.takes v.acting l.board x) (λ (z : board.Taken). Some (board_took (without_message l id) z))) w.is,
       subst (λ (q : OneKernel). Mirrors q v (given a (board_takes_burden s v a id (burden_of (PlainWhat.User code channel bytes ls)))) on) f
           (subst (λ (bs : List ℕ). Mirrors (service.switchboard_took s id (one.takes_request s.switchboard bs ls)) v (given a (board_takes_burden s v a id (burden_of (PlainWhat.User code channel bs ls)))) on) w.bytes_are
           (subst (λ (ks : List PlainLink). Mirrors (service.switchboard_took s id (one.takes_request s.switchboard body ks)) v (given a (board_takes_burden s v a id (burden_of (PlainWhat.User code channel body ks)))) on) w.links_are
-          (board_request s v a l id code channel body links (λ n x g. hm.enclosed n x (ap (λ (y : What). slice_get (enclosed y) n) w.is ∙ g)) h))),
+          (board_request s v a l id code channel body w.links.items (λ n x g. hm.enclosed n x (ap (λ (y : What). slice_get (enclosed y) n) w.is ∙ g)) h))),
     )
 board_row s t v a l id m k u says hm h e = cc

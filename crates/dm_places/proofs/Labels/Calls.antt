@@ -136,9 +136,6 @@ sends_by v a p x w false false true e f over h = regs_kept v a p x (calls.replie
 sends_by v a p x w false false false true f over h = regs_kept v a p x (calls.replied Reply.BadKind (behind x)).process.regs h
 sends_by v a p x w false false false false f over h = user_sent v a p x w over (sym f) h
 
-sends_kept : (v : View) (a : Addresses) (p : Pid) (x : Process) (o : Option Link) → link_at x.table (reg x.regs 1) ≡ o → MirrorsProcess v a p x → MirrorsDone v a p x one.Send (calls.sends v.acting (behind x) o)
-sends_kept v a p x o h1 h2 = search (arith, regs_kept, sends_by)
-
 -- a data move begins, with the owner of the link in slot r1
 move_sent : (v : View) (a : Addresses) (p : Pid) (m : Message) (x y : Process) (to : Place) → to ≡ place_of m.to → acting_place v p ≡ place_of m.sender → enclosed m.what ≡ [] → y.pid ≡ x.pid → y.moves ≡ x.moves → y.table ≡ x.table → owner_at y.status ≡ Some m.to → MirrorsProcess v a p x
     → MirrorsSent v a (given a (gets (Receiver m.id) to ∷ gets (Sender m.id) (acting_place v p) ∷ gets (Owner p) to ∷ [])) p m y
@@ -155,6 +152,8 @@ moves_over_kept v a p x w (Some dir) over h = search (arith, unless_kept, if_kep
 
 pub does_call_kept : (v : View) (a : Addresses) (p : Pid) (x : Process) (n : CallNumber) → MirrorsProcess v a p x → MirrorsDone v a p x n (calls.does_call v.acting (behind x) n)
 does_call_kept v a p x n h1 =
+    let sends_kept : (v : View) (a : Addresses) (p : Pid) (x : Process) (o : Option Link) → link_at x.table (reg x.regs 1) ≡ o → MirrorsProcess v a p x → MirrorsDone v a p x one.Send (calls.sends v.acting (behind x) o) =
+      λ v a p x o h1 h2. search (arith, regs_kept, sends_by) in
     let moves_kept : (v : View) (a : Addresses) (p : Pid) (x : Process) (o : Option Link) → link_at x.table (reg x.regs 1) ≡ o → MirrorsProcess v a p x → MirrorsDone v a p x one.Move (calls.moves v.acting (behind x) o) =
       λ v a p x o h1 h2. search (arith, regs_kept, moves_over_kept) in
     let drops_kept : (v : View) (a : Addresses) (p : Pid) (x : Process) (o : Option Link) → MirrorsProcess v a p x → MirrorsDone v a p x one.Drop (calls.drops (behind x) o) = λ v a p x o h1. search (arith, regs_kept, emptied_link) in

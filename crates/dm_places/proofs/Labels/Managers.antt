@@ -64,10 +64,8 @@ asks_for_mirrors s v a l id mid code machine image w ws en order h =
     let ls = map plain_link ws in
     let ps = enclosed_from a mid 1 ls in
     let to = unmoved machine in
-    let from = unmoved v.acting in
-    let pl = a (Enclosed mid 0) in
     let c = given a (encloses sent 0 ps) in
-    let b = given c (gets (Receiver sent) to ∷ gets (Sender sent) from ∷ gets (Answer n) pl ∷ []) in
+    let b = given c (gets (Receiver sent) to ∷ gets (Sender sent) (unmoved v.acting) ∷ gets (Answer n) (a (Enclosed mid 0)) ∷ []) in
     let r : Pending = record { n = n; kind = PendingKind.Create; answer = Some w } in
     let k = one.asks_for (plain_manager g) machine image (plain_link w) ls in
     let m = message_to v.acting n (kernel_at machine) (What.Create image (record { items = ws })) in
@@ -87,13 +85,13 @@ asks_for_mirrors s v a l id mid code machine image w ws en order h =
             (record {
               id = refl;
               receiver = ap (λ (d : Bool). if d then to else c (Receiver sent)) (id_eq-same sent);
-              sender = ap (λ (d : Bool). if d then from else c (Sender sent)) (id_eq-same sent);
+              sender = ap (λ (d : Bool). if d then (unmoved v.acting) else c (Sender sent)) (id_eq-same sent);
               enclosed = λ j x e. encloses_at a sent 0 ps j j (a (Enclosed mid (1 + j))) (enclosed_at a mid 1 ls j (plain_link x) (slice_get-map plain_link ws j ∙ ap (option_map plain_link) e)) (omega arith)
                   ∙ (let f : 1 + j ≡ suc j = omega arith in ap (λ (i : ℕ). a (Enclosed mid i)) f) ∙ en (suc j) x e;
             });
         name = λ j x e. servers.name j ∙ h.places.name j x e;
         child = λ j x e. servers.child j ∙ h.places.child j x e;
-        answer = asked_names a c g r pl servers.answer refl (en 0 w refl) order h.places.answer;
+        answer = asked_names a c g r (a (Enclosed mid 0)) servers.answer refl (en 0 w refl) order h.places.answer;
         asker = λ q k e. servers.asked q ∙ h.places.asker q k e;
       };
     }
@@ -138,8 +136,7 @@ moves_mirrors s v a l id mid code child machine links to en order h =
     let g = l.manager in
     let n = g.sent in
     let sent = id_of manager n in
-    let pl = a (Enclosed mid 0) in
-    let b = given a (gets (Answer n) pl ∷ []) in
+    let b = given a (gets (Answer n) (a (Enclosed mid 0)) ∷ []) in
     let r : Pending = record { n = n; kind = PendingKind.Move; answer = take.first_link links } in
     let k = one.sends_request (plain_manager g) PendingKind.Move child.pid (PlainWhat.Move machine) (one.first_link (map plain_link links)) in
     let t = take.asks v.acting g PendingKind.Move child (What.Move machine) (take.first_link links) in
@@ -160,7 +157,7 @@ moves_mirrors s v a l id mid code child machine links to en order h =
         message = λ i x e. message_same a b i x (record { receiver = refl; sender = refl; enclosed = λ j. refl }) (o.message i x e);
         name = o.name;
         child = o.child;
-        answer = asked_names a a g r pl (λ j. refl) refl (first_names a mid links en) order h.places.answer;
+        answer = asked_names a a g r (a (Enclosed mid 0)) (λ j. refl) refl (first_names a mid links en) order h.places.answer;
         asker = o.asker;
       };
     } in

@@ -13,6 +13,7 @@ use Rattle.dm_onekernel.specs.Step as kernel
 use Rattle.dm_syscall.specs.Completing as completing
 use Rattle.dm_rule.specs.Addresses as addresses
 use Rattle.dm_places.specs.PlacedStep as placed
+use Rattle.std.proofs.lemmas.Option.{cond_some}
 
 -- the slots that links go into, and what they get
 abbrev table_after : List (Option Link) → Link → Option ℕ → List (Option Link)
@@ -103,9 +104,6 @@ unless_kept v a p id i x base code channel body links None d h en e =
       only = only_receives a p id (map plain_link links) 0 (map plain_slot x.table);
     })
 
-test_is : {A : Type 0} (b : Bool) (x d : A) → (if b then Some x else None) ≡ Some d → b ≡ true
-test_is b x d h1 = search arith
-
 record Completes (v : View) (a : Addresses) (p : Pid) (id : MsgId) (x : Process) (m : Message) (u : PlainWhat) (d : one.Completed) : Type 0 where
   e : Completion
   completion : completion x 0 x.status (Some m) ≡ Some e
@@ -116,7 +114,7 @@ completes_what_of : (v : View) (a : Addresses) (p : Pid) (id : MsgId) (x : Proce
     → plain_message m ≡ Some k → k.what ≡ u → MirrorsProcess v a p x → EnclosedFrom a id 0 (enclosed m.what) → one.completes_what p (plain_process x) k mask base size u ≡ Some d → Completes v a p id x m k.what d
 completes_what_of v a p id x m k d mask base size (PlainWhat.User code channel bytes ls) waits says is h en e =
     let w = user_what m.what code channel bytes ls ((parts m k says).what ∙ ap Some is) in
-    let tests = and-both (pid_eq k.to p) (on_mask mask channel) (test_is (pid_eq k.to p && on_mask mask channel) (one.completes (plain_process x) base size code channel bytes ls) d e) in
+    let tests = and-both (pid_eq k.to p) (on_mask mask channel) (cond_some (pid_eq k.to p && on_mask mask channel) (one.completes (plain_process x) base size code channel bytes ls) d e).0 in
     let z = completes_unless (first_failed (one.receive_refusals (plain_process x) size w.body.items (map plain_link w.links.items))) x (completing.receives x 0 m.id base code channel w.body.items w.links.items) in
     let to : k.to ≡ x.pid = pid_eq-is k.to p tests.0 ∙ sym h.pid in
     let on : what_is_on mask m.what ≡ true = ap (what_is_on mask) w.is ∙ tests.1 in

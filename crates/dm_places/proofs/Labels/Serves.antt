@@ -116,11 +116,10 @@ answers_row : (s : OneKernel) (v : View) (a : Addresses) (l : Placed) (id : MsgI
 answers_row s v a l id m x y u r w hm says ws none hx hy h e f =
     let k = plainly m u in
     let t = service.answered s id k (record { process = plain_process y; answer = answer_to k r }) in
-    let n = answer v.acting x.moves m w in
-    let on = with_sent (with_process (without_message l id) m.to.pid (Some y)) (Some n) in (
+    let on = with_sent (with_process (without_message l id) m.to.pid (Some y)) (Some (answer v.acting x.moves m w)) in (
       on,
       ap (λ (o : Option Message). bind o (λ (z : Message). Some (with_sent (with_process (without_message l id) m.to.pid (Some (after_serving x m.what))) (Some z)))) e
-          ∙ ap (λ (z : Process). Some (with_sent (with_process (without_message l id) m.to.pid (Some z)) (Some n))) f,
+          ∙ ap (λ (z : Process). Some (with_sent (with_process (without_message l id) m.to.pid (Some z)) (Some (answer v.acting x.moves m w)))) f,
       subst (λ (c : ℕ). Mirrors t v (given a (answer_gets a id (record { at = v.acting; moves = c }))) on) hx.moves
           (answer_mirrors (service.changed s id k (plain_process y)) v a (with_process (without_message l id) m.to.pid (Some y)) id m k w r x.moves hm (ap (said.with_what m) says) ws none
           (goes_mirrors (service.without_message s id) v a (without_message l id) m.to.pid y (out_mirrors s v a l id h) hy)),

@@ -38,12 +38,11 @@ answers_mirrors : (s : OneKernel) (v : View) (a c : Addresses) (l : Placed) (id 
     (manager_took (without_message l id) (take.answers_over v.acting g over byte ws))
 answers_mirrors s v a c l id n r g k byte ws None is there order h one_is plain_is pending machines images process message name answer asked child =
     let u = kernel_out s l id h.plain in
-    let o = places_out v a l id h.places in
     record {
       plain = record { processes = u.processes; bag = u.bag; notes = u.notes; noted = u.noted; board = u.board; manager = plain_is; machines = machines ∙ u.machines; images = images ∙ u.images };
       places = record {
-        process = λ p x e. process_same v a c p x (process p) (o.process p x e);
-        message = λ i x e. message_same a c i x (message i) (o.message i x e);
+        process = λ p x e. process_same v a c p x (process p) ((places_out v a l id h.places).process p x e);
+        message = λ i x e. message_same a c i x (message i) ((places_out v a l id h.places).message i x e);
         name = λ j w e. name j ∙ h.places.name j w e;
         child = child;
         answer = λ j w e. answer_as w.answer (answer j) (h.places.answer j w (still_pending l.manager.pending 0 l.manager.sent n j w order (ap (pending_request j) (sym pending) ∙ e)));

@@ -4,6 +4,7 @@ use Rattle.dm_rulelaws.proofs.Names.{OneKernel, bind-is, Step, Line, Load, View,
 use Rattle.dm_rulelaws.proofs.Names.{Spelled, lines_of, puts, goes_out, packet_line, spelled, is_away, is_here, group_of, group_is, is_kill, Sane, AllSayable, sane_line, part_sane, outcome_sayable, is_server, has_nothing_held, by_parts}
 use Rattle.dm_rule.specs.Rule as rule
 use Rattle.dm_rulelaws.specs.Fits.{Each}
+pub use Rattle.dm_rule.proofs.Rooted.Groups.{begun, begun_sane}
 
 -- a process is here, and away from every other machine
 pub record Resting (v : View) (p : Pid) : Type 0 where
@@ -169,12 +170,6 @@ parts_keep P keeps qs q w ok need sane is h = by_parts (λ ps pt v. AllSayable p
     )) qs q w is ok need sane h
 
 -- a group
-abbrev pub begun : Point → Step → Point
-begun pt d = moved pt (Line.Head d) pt.kernel
-
-pub begun_sane : (pt : Point) (d : Step) → Sane pt → Sane (begun pt d)
-begun_sane pt d h = sane_line pt (begun pt d) (Line.Head d) refl refl h
-
 pub outcome_keeps : (P : Point → Type 0) (keeps : Keeps P) (b : Boot) (pt : Point) (d : Step) (w : Spelled) → group_of b pt d ≡ Some w → WalksOf (begun pt d) (rule.outcome b pt d) → Sane pt → P pt → P w.point
 outcome_keeps P keeps b pt d w e walks sane h =
     let g = group_is b pt d w e in

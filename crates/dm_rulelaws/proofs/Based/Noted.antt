@@ -180,8 +180,7 @@ comes_keeps pt l p ps known fewer free calm w is h =
     -- and follows no request
     let free_away : (pt : Point) (p : Pid) → ((n : MoveNote) → pt.kernel.notes p ≡ Some n → ⊥) → At (Some p) pt → At None pt = λ pt p free h. search (arith, pt.kernel.notes, pid_eq-is, h.away) in
     let g = then_of pt l ps w is in
-    let mid = moved pt l g.kernel in
-    subst (At None) g.point (parts_away None ps mid g.rest calm g.is (free_away mid p (λ n e. free n (fewer g.kernel g.step p n e)) (comes_away pt g.kernel l p (fewer g.kernel g.step) known h)))
+    subst (At None) g.point (parts_away None ps (moved pt l g.kernel) g.rest calm g.is (free_away (moved pt l g.kernel) p (λ n e. free n (fewer g.kernel g.step p n e)) (comes_away pt g.kernel l p (fewer g.kernel g.step) known h)))
 
 -- or follows one, and its end is answered
 answers_keeps : (pt : Point) (l : Line) (p : Pid) (n : MoveNote) (r : Outcome) → label_of l ≡ None → (view_after pt.view l).known ≡ at_record pt.view.known pt.view.acting p Here → pt.kernel.noted n.id ≡ Some p → Keeps pt (Says l ∷ answers_move n.id r)
@@ -197,9 +196,8 @@ answers_keeps pt l p n r none known noted w is h =
 -- a process that is asked to move is there already
 moved_keeps : (pt : Point) (id : MsgId) (m : PlainMessage) → pt.kernel.bag id ≡ Some m → Keeps pt (rule.says (Label.Asked id) ∷ answers_move id Outcome.Done)
 moved_keeps pt id m there w is h =
-    let l = Line.Label (Label.Asked id) in
-    let g = then_of pt l (answers_move id Outcome.Done) w is in
-    let mid = moved pt l g.kernel in
+    let g = then_of pt (Line.Label (Label.Asked id)) (answers_move id Outcome.Done) w is in
+    let mid = moved pt (Line.Label (Label.Asked id)) g.kernel in
     let k = then_of mid (Line.Label (Label.Answered id Outcome.Done)) (Routes (pieces.answer_id id) ∷ []) g.rest g.is in
     let done = answered_away mid k.kernel id Outcome.Done m.to (asked_noted pt.kernel g.kernel id m g.step there) k.step (asked_away pt g.kernel id m there g.step h) in
     subst (At None) (k.point ∙ g.point) (parts_away None (Routes (pieces.answer_id id) ∷ []) (moved mid (Line.Label (Label.Answered id Outcome.Done)) k.kernel) k.rest (tt, tt) k.is done)
@@ -207,10 +205,9 @@ moved_keeps pt id m there w is h =
 -- or it leaves
 sets_keeps : (pt : Point) (id : MsgId) (m : PlainMessage) (to : ℕ) → pt.kernel.bag id ≡ Some m → Resting pt.view m.to → Keeps pt (rule.says (Label.Asked id) ∷ leaves_for m.to to)
 sets_keeps pt id m to there rests w is h =
-    let l = Line.Label (Label.Asked id) in
     let ps = Says (Line.Migration Stage.Asked m.to) ∷ to_kernel MessageKind.Ask to ∷ [] in
-    let g = then_of pt l (leaves_for m.to to) w is in
-    let mid = moved pt l g.kernel in
+    let g = then_of pt (Line.Label (Label.Asked id)) (leaves_for m.to to) w is in
+    let mid = moved pt (Line.Label (Label.Asked id)) g.kernel in
     let f = Line.Migration Stage.Frozen m.to in
     let k = then_of mid f ps g.rest g.is in
     let same : mid.kernel ≡ k.kernel = (let e : Some mid.kernel ≡ Some k.kernel = k.step in cc) in
@@ -242,9 +239,8 @@ handles_keeps b o m id msg ps begins there =
     by_handles (Keeps pt) b o m id msg ps (record {
       created = λ fixed.
           (let child = pid_of m (first_number + o.kernel.made m) in
-          let born = unborn o m begins.rooted in
           comes_keeps pt (Line.Label (Label.Created id child)) child (Routes (pieces.answer_id id) ∷ []) refl (λ t step. step_notes pt.kernel t (Label.Created id child) step)
-          (λ n noted. (let (x, alive) = begins.sane.sound.notes.lives child n noted in begins.known.home child born.server (ap is_some alive) (born.unknown child.home))) (tt, tt));
+          (λ n noted. (let (x, alive) = begins.sane.sound.notes.lives child n noted in begins.known.home child (unborn o m begins.rooted).server (ap is_some alive) ((unborn o m begins.rooted).unknown child.home))) (tt, tt));
       no_space = λ fixed slots blocks. calm (rule.says (Label.NoSpace id slots blocks) ∷ Routes (pieces.answer_id id) ∷ []) (tt, (tt, tt));
       took = λ fixed sent. calm (rule.says (Label.Took id) ∷ rule.routes sent) (tt, (let e_ : Each CalmPart (rule.routes sent) = search arith in e_));
       queued = λ to user. calm (Says (Line.Queued id) ∷ []) (tt, tt);

@@ -63,8 +63,7 @@ waits_served v o h1 = search (arith, killed_or)
 waits_queued : (v : View) (id : MsgId) (o : Option Told) → v.told id ≡ o → ((t : Told) → o ≡ Some t → (t.kind ≡ MessageKind.User) × (is_kernels id ≡ false)) → Waits v → Waits (view.queued_for v id (receiver_of o))
 waits_queued v id None told need h = h
 waits_queued v id (Some t) told need h =
-    let k = need t refl in
-    let new : IsUsers v.told t.receiver id = record { what = t; is = told; kind = k.0; receiver = refl; other = k.1 } in
+    let new : IsUsers v.told t.receiver id = record { what = t; is = told; kind = (need t refl).0; receiver = refl; other = (need t refl).1 } in
     waits_queue v t.receiver (v.queue v.acting t.receiver ++ id ∷ [])
     (λ i least. last_of (IsUsers v.told t.receiver i) i id (v.queue v.acting t.receiver) least (h.queue v.acting t.receiver i) (λ same. subst (λ (j : MsgId). IsUsers v.told t.receiver j) (sym same) new)) h
 
@@ -135,8 +134,7 @@ users_by pt h n p i least q =
     let (x, way) = stands_some (standing pt.view i) (Queue n p) (letters h.state.own pt.kernel.bag i) (h.state.stands.kept i) least in
     let (m, there) = bag_some (pt.kernel.bag i) x (sym (letters_bag h.state.own pt.kernel.bag i other) ∙ way) in
     let (t, told) = told_some (pt.view.told i) x (h.state.stands.told i x way) in
-    let k = q.is m there in
-    search (arith, h.sane.tells.kind i m t there told ∙ user_kind m.what k.1, h.sane.tells.receiver i m t there told ∙ k.0)
+    search (arith, h.sane.tells.kind i m t there told ∙ user_kind m.what (q.is m there).1, h.sane.tells.receiver i m t there told ∙ (q.is m there).0)
 
 -- A queue only where a process is or leaves, and held messages only where it leaves or comes: each group keeps it.
 

@@ -15,9 +15,8 @@ turned o m = begun o (Step.Turn m)
 -- what is here rests here
 pub resting : (v : View) (p : Pid) → InPhases v → v.known v.acting p ≡ Here → Resting v p
 resting v p h here =
-    let known = (h.each p).known in
-    let is : h.of p ≡ Rests v.acting = rests_here (h.of p) v.acting (sym (ap (knows (h.of p) v.acting) here) ∙ known v.acting) in
-    record { here = here; away = λ n off. (sym (ap (λ (c : Bool). if c then is_here (v.known n p) else is_away (v.known n p)) off) ∙ (sym (ap (λ (x : Phase). knows x n (v.known n p)) is) ∙ known n)) }
+    let is : h.of p ≡ Rests v.acting = rests_here (h.of p) v.acting (sym (ap (knows (h.of p) v.acting) here) ∙ (h.each p).known v.acting) in
+    record { here = here; away = λ n off. (sym (ap (λ (c : Bool). if c then is_here (v.known n p) else is_away (v.known n p)) off) ∙ (sym (ap (λ (x : Phase). knows x n (v.known n p)) is) ∙ (h.each p).known n)) }
 
 -- a living process is no server
 pub living : (pt : Point) (p : Pid) (x : PlainProcess) → Sane pt → kernel.alive (pt.kernel.processes p) ≡ Some x → Living pt.kernel p

@@ -1,6 +1,7 @@
 -- A value set for one process on one machine, lists with messages taken out, how often a process stands in a ring, and what a kill may do.
 use Rattle.dm_rulelaws.proofs.Names.{◌≡◌, ℕ, ◌≤◌, ◌==◌, ◌&&◌, Bool, true, false, List, [], ◌∷◌, ◌++◌, refl, arith, if◌then◌else◌, Some, Pid, pid_eq, MsgId, MessageKind, id_eq-is, pid_eq-is, at_record, without_id, without_front, times, View}
 use Rattle.dm_rulelaws.proofs.Names.{ends_by, ended, parts, eq_is, is_kill, times-append, ◌+◌, not, ap, ◌∙◌, sym, pid_eq-same, pid_eq-swap, at_machine, without, rings, id_eq, sort_of}
+pub use Rattle.dm_laws.proofs.Steps.{one_if}
 
 -- one value set: there, and elsewhere
 pub set_all : {X : Type 0} (T : ℕ → Pid → X → Type 0) (f : ℕ → Pid → X) (a : ℕ) (p : Pid) (x : X) → T a p x → ((n : ℕ) (q : Pid) → ((a == n) && pid_eq p q) ≡ false → T n q (f n q)) → (n : ℕ) (q : Pid) → T n q (at_record f a p x n q)
@@ -22,9 +23,6 @@ pub killed_or : (P : View → Type 0) (k : MessageKind) (v : View) (p : Pid) →
 killed_or P k v p h1 h2 = search arith
 
 -- rings
-abbrev pub one_if : Bool → ℕ
-one_if c = if c then 1 else 0
-
 pub rings-append : (p : Pid) (xs ys : List Pid) → rings p (xs ++ ys) ≡ rings p xs + rings p ys
 rings-append p [] ys = omega arith
 rings-append p (x ∷ xs) ys = let h = rings-append p xs ys in omega (arith, h)

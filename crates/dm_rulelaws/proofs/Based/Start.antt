@@ -33,12 +33,11 @@ starting-last m (q ∷ qs) p = let h = starting-last m qs p in omega (arith, h)
 none_later : (b : Boot) (earlier ps : List BootProcess) (q : Pid) → processes_are_valid b earlier ps ≡ true → nat_lt q.num (3 + starting_at q.home earlier) ≡ true → life_at b ps q ≡ None
 none_later b earlier [] q h low = refl
 none_later b earlier (p ∷ ps) q h low =
-    let k = listed b earlier p ps h in
-    let number = k.number in
+    let number = (listed b earlier p ps h).number in
     let more = starting-last q.home earlier p in
     let apart : pid_eq p.pid q ≡ false = apart_of (pid_eq p.pid q) refl in
     let next : nat_lt q.num (3 + starting_at q.home (earlier ++ p ∷ [])) ≡ true = grind (arith, nat_tests) in
-    ap (λ (c : Bool). if c then first_life b p else life_at b ps q) apart ∙ none_later b (earlier ++ p ∷ []) ps q k.rest next
+    ap (λ (c : Bool). if c then first_life b p else life_at b ps q) apart ∙ none_later b (earlier ++ p ∷ []) ps q (listed b earlier p ps h).rest next
   where
     apart_of : (c : Bool) → pid_eq p.pid q ≡ c → pid_eq p.pid q ≡ false
     apart_of false e = e

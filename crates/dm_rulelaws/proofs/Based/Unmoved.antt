@@ -130,10 +130,9 @@ known_learns s t v w p k l h = record {
   home = λ q e some unknown. set_all (λ n r x. n ≡ r.home → is_server r ≡ false → is_some (t.processes r) ≡ true → x ≢ Unknown) v.known v.acting p k (λ at e_ some_. l.some)
       (λ n r off at e_ some_. elim (cases_Bool (pid_eq p r)) [
         | inl same ↦
-            let is = pid_eq-is p r same in
-            let home : n ≡ p.home = at ∙ ap (λ (x : Pid). x.home) (sym is) in
+            let home : n ≡ p.home = at ∙ ap (λ (x : Pid). x.home) (sym (pid_eq-is p r same)) in
             let there : is_some (s.processes p) ≡ true = l.far (ap (λ (i : ℕ). v.acting == i) (sym home) ∙ off_first (v.acting == n) (pid_eq p r) off same) in
-            (λ z. h.home p l.server there (ap (λ (i : ℕ). v.known i p) (sym home) ∙ ap (v.known n) is ∙ z))
+            (λ z. h.home p l.server there (ap (λ (i : ℕ). v.known i p) (sym home) ∙ ap (v.known n) (pid_eq-is p r same) ∙ z))
         | inr apart ↦
             let there : is_some (s.processes r) ≡ true = sym (some_alike (t.processes r) (s.processes r) (l.others r apart)) ∙ some_ in
             (λ z. h.home r e_ there (ap (λ (i : ℕ). v.known i r) (sym at) ∙ z))
@@ -239,13 +238,12 @@ known_loud = record {
   held = λ pt id need sane h. search (arith, handled_known pt.kernel pt.view id h);
   frozen = λ pt p lives here h.
       let v = pt.view in
-      let to = aim v v.topic in
       let set = sets v p v.topic in
-      known_learns pt.kernel pt.kernel v (view_after v (Line.Migration Stage.Frozen p)) p (Frozen to) (record {
+      known_learns pt.kernel pt.kernel v (view_after v (Line.Migration Stage.Frozen p)) p (Frozen (aim v v.topic)) (record {
         server = lives.server;
         known = set.known;
         others = λ q apart. refl;
-        mine = ap (agrees (Frozen to)) lives.alive;
+        mine = ap (agrees (Frozen (aim v v.topic))) lives.alive;
         away = λ n off. h.agree n p lives.server;
         some = λ e. cc;
         far = λ e. ap is_some lives.alive;

@@ -29,18 +29,15 @@ pub record Constant (s t : OneKernel) : Type 0 where
   pub machines : t.machines ≡ s.machines
   pub pending : InOrder s.manager → InOrder t.manager
 
-process_constant : (s u : OneKernel) (p : Pid) (life : Life) → Constant s u → Constant s (kernels.with_process u p life)
-process_constant s u p life h = record { format = h.format; images = h.images; machines = h.machines; pending = h.pending }
-
-out_constant : (s : OneKernel) (id : MsgId) → Constant s (without_message s id)
-out_constant s id = record { format = refl; images = refl; machines = refl; pending = λ e. e }
-
 pub same : (s : OneKernel) → Constant s s
 same s = record { format = refl; images = refl; machines = refl; pending = λ e. e }
 
 pub step_constant : (s t : OneKernel) (e : Label) → kernel.step s e ≡ Some t → Constant s t
 step_constant s t e =
     let sent_constant : (s u : OneKernel) (o : Option PlainMessage) → Constant s u → Constant s (kernels.with_sent u o) = λ s u o h1. search arith in
+    let out_constant : (s : OneKernel) (id : MsgId) → Constant s (without_message s id) = λ s id. record { format = refl; images = refl; machines = refl; pending = λ e. e } in
+    let process_constant : (s u : OneKernel) (p : Pid) (life : Life) → Constant s u → Constant s (kernels.with_process u p life) =
+      λ s u p life h. record { format = h.format; images = h.images; machines = h.machines; pending = h.pending } in
     let goes_constant : (s : OneKernel) (id : MsgId) (p : Pid) (life : Life) → Constant s (kernels.with_process (without_message s id) p life) = λ s id p life. process_constant s (without_message s id) p life (out_constant s id) in
     let answers : (id : MsgId) (m : PlainMessage) (y : PlainProcess) (x : PlainMessage) → Constant s (kernels.with_sent (service.changed s id m y) (Some x)) = λ id m y x. sent_constant s (service.changed s id m y) (Some x) (goes_constant s id m.to (kernels.Alive y)) in
     by_step (Constant s) s t e (search (arith, process_constant, same, sent_constant, goes_constant, out_constant, took_order, s.manager))
@@ -94,10 +91,9 @@ record BoardFits (s : OneKernel) (k : board.BoardTook) : Type 0 where
 
 board_on : (s : OneKernel) (id : MsgId) (k : board.BoardTook) → BoardFits s k → KernelFits s → KernelFits (service.switchboard_took s id k)
 board_on s id k b fits =
-    let v = without_message s id in
-    let u = record v { switchboard = k.switchboard } in
+    let u = record (without_message s id) { switchboard = k.switchboard } in
     let out = out_fits s id fits in
-    put_maybe u k.answer (sends_off (record s { switchboard = k.switchboard }) u k.answer refl refl refl refl b.sends) (carries v u (search (arith, out.processes, b.names, out.answers, out.children, pending_on)) out)
+    put_maybe u k.answer (sends_off (record s { switchboard = k.switchboard }) u k.answer refl refl refl refl b.sends) (carries (without_message s id) u (search (arith, out.processes, b.names, out.answers, out.children, pending_on)) out)
   where
     what_same : (s u : OneKernel) (i : MsgId) (m : PlainMessage) (w : PlainWhat) → u.processes ≡ s.processes → u.machines ≡ s.machines → u.images ≡ s.images → u.manager ≡ s.manager → WhatFits s i m w → WhatFits u i m w
     what_same s u i m w ps machines images g h = what_on s u i m w (λ p n e. ap (λ (f : Lives). has_bytes n (f p)) ps ∙ e) (λ e. ap (λ (f : Lives). awaits (f i.from) i.n w) ps ∙ e)

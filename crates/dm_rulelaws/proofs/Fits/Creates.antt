@@ -39,7 +39,6 @@ created_fits r e s id m child image links number f there name h fits =
     let (num, home, numbered, sender, request, pending, each) = f in
     let y = begun s.format image links in
     let v = without_message s id in
-    let w = with_process v child (Alive y) in
     let u = service.with_created v child image links in
     let b : Becomes v child (Alive y) = record {
       bytes = λ n g. absurd (false≢true (sym (ap (has_bytes n) none) ∙ g));
@@ -47,7 +46,7 @@ created_fits r e s id m child image links number f there name h fits =
       fits = λ z g. let same : y ≡ z = cc in subst (ProcessFits v.processes) same (begun_fits v.processes s.format image links each);
     } in
     let on = set_fits v child (Alive y) b (out_fits s id fits) in
-    let up = carries w u (search (arith, on.processes, pending_on, on.names, on.answers, on.children)) on in
+    let up = carries (with_process v child (Alive y)) u (search (arith, on.processes, pending_on, on.names, on.answers, on.children)) on in
     put_fits u (answer_to m (PlainWhat.Created child)) (sender, refl, pending_at s u PendingKind.Create id m (h.entered.named id m there) refl pending, ap (has_bytes 0) (set_at v child (Alive y)) ∙ (let z : nat_le 0 (length y.memory) ≡ true = grind (arith, nat_tests) in z)) up
 
 -- Each label of a process keeps that all fits.
@@ -169,9 +168,8 @@ ran_fits s t p k is h =
     let (m, plain, last) = bind-is (kernel.plain_steps k (kernel.machine_of x)) (λ (m : kernel.Machine). Some (kernel.goes_on s p (kernel.with_machine x m))) t rest in
     let eq : kernel.goes_on s p (kernel.with_machine x m) ≡ t = cc in
     let w = running_is s p x running in
-    let fits = h.processes p x w.alive in
     let size : length m.bytes ≡ length x.memory = steps_length k (kernel.machine_of x) m plain in
-    subst KernelFits eq (goes_fits s p x (kernel.with_machine x m) w.alive w.still (search (arith, fits.slots, move_on, s.processes, x.status, fits.move)) h)
+    subst KernelFits eq (goes_fits s p x (kernel.with_machine x m) w.alive w.still (search (arith, (h.processes p x w.alive).slots, move_on, s.processes, x.status, (h.processes p x w.alive).move)) h)
 
 -- what is sent fits where its sender goes on
 pub sent_fits : (s u : OneKernel) (p : Pid) (y : PlainProcess) (m : PlainMessage) (w : PlainWhat) → Rises s.processes u.processes → u.processes p ≡ Some (Alive y) → m.id.from ≡ p → SentFits s.processes y m w → WhatFits u m.id m w
@@ -179,6 +177,5 @@ sent_fits s u p y m w h1 h2 h3 h4 = search (arith, users_on, s.processes, u.proc
 
 pub send_goes : (s : OneKernel) (p : Pid) (n : kernel.Trap) (m : PlainMessage) (y : PlainProcess) → NextIs s p n → ((z : PlainProcess) → NextFits s.processes z n → Requests s.processes z m y) → m.id.from ≡ p → KernelFits s → KernelFits (with_sent (kernel.goes_on s p y) (Some m))
 send_goes s p n m y w sends from h =
-    let f = sends w.z w.fits in
-    let b = becomes s p w.x y w.is.alive (goes_of s.processes w.x w.z y w.memory f.goes) (λ i k there from e. unawaited w.x.status i.n k.what (status_awaits y.status i.n k.what) w.is.still e) in
-    put_fits (kernel.goes_on s p y) m (sent_fits s (kernel.goes_on s p y) p y m m.what (set_rises s p (Alive y) b.bytes) (set_at s p (Alive y)) from f.what) (set_fits s p (Alive y) b h)
+    let b = becomes s p w.x y w.is.alive (goes_of s.processes w.x w.z y w.memory (sends w.z w.fits).goes) (λ i k there from e. unawaited w.x.status i.n k.what (status_awaits y.status i.n k.what) w.is.still e) in
+    put_fits (kernel.goes_on s p y) m (sent_fits s (kernel.goes_on s p y) p y m m.what (set_rises s p (Alive y) b.bytes) (set_at s p (Alive y)) from (sends w.z w.fits).what) (set_fits s p (Alive y) b h)

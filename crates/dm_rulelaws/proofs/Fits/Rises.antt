@@ -9,6 +9,7 @@ use Rattle.dm_onekernel.specs.Manager as manage
 use Rattle.dm_onekernel.specs.Pieces as pieces
 use Rattle.dm_onekernel.specs.Calls as calls
 use Rattle.dm_rulelaws.proofs.Calling.{by_call}
+pub use Rattle.dm_laws.proofs.Sound.{process_at as set_at}
 
 abbrev pub Rises : Lives → Lives → Type 0
 Rises ps qs = (p : Pid) (n : ℕ) → has_bytes n (ps p) ≡ true → has_bytes n (qs p) ≡ true
@@ -23,9 +24,6 @@ Each-on P Q f (x ∷ xs) h = (f x h.0, Each-on P Q f xs h.1)
 pub link_on : (ps qs : Lives) → Rises ps qs → (l : PlainLink) → LinkFits ps l → LinkFits qs l
 link_on ps qs up l h =
     or_on (is_server l.to && gives_no_right l.area) (has_bytes (l.area.base + l.area.len) (ps l.to)) (has_bytes (l.area.base + l.area.len) (qs l.to)) (up l.to (l.area.base + l.area.len)) h
-
-pub slot_on : (ps qs : Lives) → Rises ps qs → (o : Option PlainLink) → SlotFits ps o → SlotFits qs o
-slot_on ps qs h1 o h2 = search (arith, link_on)
 
 pub users_on : (ps qs : Lives) → Rises ps qs → (p : Pid) → takes_users ps p ≡ true → takes_users qs p ≡ true
 users_on ps qs up p h = or_on (is_server p) (has_bytes 0 (ps p)) (has_bytes 0 (qs p)) (up p 0) h
@@ -86,6 +84,7 @@ pub record Carries (s t : OneKernel) : Type 0 where
 
 pub carries : (s t : OneKernel) → Carries s t → KernelFits s → KernelFits t
 carries s t c h =
+    let slot_on : (ps qs : Lives) → Rises ps qs → (o : Option PlainLink) → SlotFits ps o → SlotFits qs o = λ ps qs h1 o h2. search (arith, link_on) in
     let process_on : (ps qs : Lives) → Rises ps qs → (x : PlainProcess) → ProcessFits ps x → ProcessFits qs x =
       λ ps qs up x h. record { slots = Each-on (SlotFits ps) (SlotFits qs) (slot_on ps qs up) x.links h.slots; move = move_on ps qs up x x (omega arith) x.status h.move } in
     let notes : (p : Pid) (n : MoveNote) → t.notes p ≡ Some n → NoteFits t n = λ p n is. let f = h.notes p n (c.notes p n is) in record { asker = f.asker; unanswered = f.unanswered; pending = c.noted p n is f.pending } in
@@ -121,9 +120,6 @@ set_if T s p q life f h = search (arith, s.processes, pid_eq-is)
 
 pub set_rises : (s : OneKernel) (p : Pid) (life : Life) → ((n : ℕ) → has_bytes n (s.processes p) ≡ true → has_bytes n (Some life) ≡ true) → Rises s.processes (with_process s p life).processes
 set_rises s p life f q n h = set_if (λ (o : Option Life). has_bytes n o ≡ true) s p q life (λ same. f n) h
-
-pub set_at : (s : OneKernel) (p : Pid) (life : Life) → (with_process s p life).processes p ≡ Some life
-set_at s p life = ap (λ (c : Bool). if c then Some life else s.processes p) (pid_eq-same p)
 
 pub set_fits : (s : OneKernel) (p : Pid) (life : Life) → Becomes s p life → KernelFits s → KernelFits (with_process s p life)
 set_fits s p life b h = carries s (with_process s p life) (record {

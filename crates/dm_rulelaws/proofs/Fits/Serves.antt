@@ -19,11 +19,10 @@ changed_fits s id m x y is status g h =
 
 pub goes_same : (s : OneKernel) (p : Pid) (x y : PlainProcess) → length x.memory ≤ length y.memory → y.links ≡ x.links → y.status ≡ x.status → s.processes p ≡ Some (Alive x) → KernelFits s → GoesOn s.processes x y
 goes_same s p x y le links status is h =
-    let f = h.processes p x is in
     record {
       memory = le;
-      slots = subst (Each (SlotFits s.processes)) (sym links) f.slots;
-      move = subst (λ (st : PlainStatus). move_fits s.processes y st ≡ true) (sym status) (move_on s.processes s.processes (λ q n e. e) x y le x.status f.move);
+      slots = subst (Each (SlotFits s.processes)) (sym links) (h.processes p x is).slots;
+      move = subst (λ (st : PlainStatus). move_fits s.processes y st ≡ true) (sym status) (move_on s.processes s.processes (λ q n e. e) x y le x.status (h.processes p x is).move);
     }
 
 -- an answer to a request of a data move fits wherever whoever awaited the request still awaits it
@@ -195,8 +194,6 @@ unnoted_fits s p id h =
 
 pub move_ended_fits : (r e : MsgId → ℕ) (s : OneKernel) (id : MsgId) (p : Pid) (n : MoveNote) (o : Outcome) → s.noted id ≡ Some p → s.notes p ≡ Some n → Sound r e s → KernelFits s → KernelFits (service.move_ended s id p n o)
 move_ended_fits r e s id p n o noted notes h fits =
-    let f = fits.notes p n notes in
-    let u = without_note s p id in
-    let pending : IsPending s PendingKind.Move id = subst (IsPending s PendingKind.Move) (note-is e s id p n noted notes h.notes) f.pending in
-    let k = pending_on s u PendingKind.Move id refl pending in
-    put_fits u (record { id = answer_id id; to = n.asker; sender = p; what = PlainWhat.Moved o }) (f.asker, refl, record { from = k.from; pending = k.pending }) (unnoted_fits s p id fits)
+    let pending : IsPending s PendingKind.Move id = subst (IsPending s PendingKind.Move) (note-is e s id p n noted notes h.notes) (fits.notes p n notes).pending in
+    let k = pending_on s (without_note s p id) PendingKind.Move id refl pending in
+    put_fits (without_note s p id) (record { id = answer_id id; to = n.asker; sender = p; what = PlainWhat.Moved o }) ((fits.notes p n notes).asker, refl, record { from = k.from; pending = k.pending }) (unnoted_fits s p id fits)

@@ -89,14 +89,12 @@ named_has : (b : Boot) (ps : List BootProcess) (q : Pid) (p : BootProcess) (n : 
 named_has b [] q p n is e le = cc
 named_has b (r ∷ rs) q p n is e le = named_by b (pid_eq r.pid q) r p (process_named q rs) (life_at b rs q) n e is.0 le (λ f. named_has b rs q p n is.1 f le)
 
--- links of the file
-empty_gives : (a : _) → area_is_empty a ≡ true → gives_no_right a ≡ true
-empty_gives a h = (both (a.len == 0) (not a.read && not a.write) (both (a.base == 0) ((a.len == 0) && (not a.read && not a.write)) h).1).1
-
 link_fits_first : (b : Boot) (l : Link) → Each (ProcessIs b) b.processes → link_is_valid b l ≡ true → LinkFits (life_at b b.processes) (plain_link l)
 link_fits_first b l is h =
     let leads_by : (b : Boot) (l : Link) (c d : Bool) → pid_eq l.addr.pid switchboard ≡ c → pid_eq l.addr.pid manager ≡ d → Each (ProcessIs b) b.processes
       → (if c then leads_to_server l else if d then leads_to_server l || controls_child b l else leads_to_process b l (process_named l.addr.pid b.processes)) ≡ true → LinkFits (life_at b b.processes) (plain_link l) = λ b l c d h1 h2 h3 h4.
+      -- links of the file
+      let empty_gives : (a : _) → area_is_empty a ≡ true → gives_no_right a ≡ true = λ a h. (both (a.len == 0) (not a.read && not a.write) (both (a.base == 0) ((a.len == 0) && (not a.read && not a.write)) h).1).1 in
       let server_gives : (l : Link) → leads_to_server l ≡ true → gives_no_right l.area ≡ true = λ l h. empty_gives l.area (both (l.code == 0) (area_is_empty l.area) (both (l.addr.at == 0) ((l.code == 0) && area_is_empty l.area) h).1).1 in
       search (arith, server_gives, l.addr.pid, l.area, l.area.base, l.area.len, b.processes, both, empty_gives, named_has) in
     search (arith, both, l.addr.moves, l.to_kernel, l.channel, leads_by, l.addr.pid)

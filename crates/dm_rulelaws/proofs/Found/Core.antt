@@ -55,35 +55,8 @@ pub record LineCore (n : ℕ) (pt : Point) : Type 0 where
 
 -- and what each group keeps: that what is held for a process is for it, too
 pub record Core (n : ℕ) (pt : Point) : Type 0 where
-  pub acting : pt.view.acting < n
-  pub machines : pt.kernel.machines ≡ n
-  pub all : AllAre (Knows pt.view) pt.kernel pt.view pt.addresses
-  pub tells : (i : MsgId) (u : Told) → pt.view.told i ≡ Some u → AboutIs n pt.view u.about
-  pub real : (i : MsgId) (u : Told) → pt.view.told i ≡ Some u → is_kernels i ≡ true → IsOwn n pt.view u
-  pub topic : AboutIs n pt.view pt.view.topic
-  pub known : (m : ℕ) (p : Pid) → KnownIs n pt.view m p (pt.view.known m p)
-  pub places : Places (IsAt pt.addresses pt.view) pt.view
+  pub line : LineCore n pt
   pub held : (m : ℕ) (p : Pid) (i : MsgId) → 1 ≤ times i (pt.view.held m p) → receiver_of (pt.view.told i) ≡ Some p
-  pub senders : (i : MsgId) (m : PlainMessage) → pt.kernel.bag i ≡ Some m → Sends n pt.kernel m.sender
-  pub fits : KernelFits pt.kernel
-  pub home : (q : Pid) → is_some (pt.kernel.processes q) ≡ true → pt.view.known q.home q ≢ Unknown
-  pub pending : ascends 0 pt.kernel.manager.pending pt.kernel.manager.sent ≡ true
-
-pub lines_of_core : (n : ℕ) (pt : Point) → Core n pt → LineCore n pt
-lines_of_core n pt h = record {
-  acting = h.acting;
-  machines = h.machines;
-  all = h.all;
-  tells = h.tells;
-  real = h.real;
-  topic = h.topic;
-  known = h.known;
-  places = h.places;
-  senders = h.senders;
-  fits = h.fits;
-  home = h.home;
-  pending = h.pending;
-}
 
 -- machines forget no process
 abbrev pub Grows : View → View → Type 0
@@ -205,8 +178,7 @@ put_core n pt x b id k q need h =
       λ v x y id k q i u h1. search (arith, id_eq-is, v.told, put_at, put_told_off, v.topic) in
     let v = pt.view in
     let w = after_put v x b id k q in
-    let a = pt.addresses in
-    let c = given a (first_gives (v.told id) (own_given pt.kernel v a id q (sort_of k))) in
+    let c = given pt.addresses (first_gives (v.told id) (own_given pt.kernel v pt.addresses id q (sort_of k))) in
     let grows : Grows v w = λ m r e. e in
     let put_place : (given pt.addresses (first_gives (pt.view.told id) (own_given pt.kernel pt.view pt.addresses id q (sort_of k))) (Receiver id)).at ≡ b = search (arith, pt.addresses, pt.kernel, pt.view, routed_gives, pt.view.told) in
     record {

@@ -24,11 +24,10 @@ back_need : (n : ℕ) (pt mid next : Point) (id : MsgId) (u : Told) (sender : Pi
     → Knows pt.view sender (pt.addresses (Sender id)) → IsReal n pt.view sender → NeedsOwn n next MessageKind.Update sender (pt.addresses (Sender id)).at
 back_need n pt mid next id u sender told back sane known own addresses same knows real =
     let v = pt.view in
-    let a = pt.addresses in
     let grows : Grows v next.view = λ m q some e. some (sym (same.known m q ∙ known m q) ∙ e) in
-    let to : next.addresses (Receiver (own_id next.view)) ≡ a (Sender id) =
+    let to : next.addresses (Receiver (own_id next.view)) ≡ pt.addresses (Sender id) =
     same.addresses (Receiver (own_id next.view)) ∙ ap (λ (i : MsgId). mid.addresses (Receiver i)) (same.own ∙ own) ∙ ap (λ (f : Addresses). f (Receiver (own_id v))) addresses
-    ∙ forwarded_back v a id u told (other_id v id u told (own_fresh pt sane)) back in
+    ∙ forwarded_back v pt.addresses id u told (other_id v id u told (own_fresh pt sane)) back in
     search (arith, next.view, knows_grow, real_grows)
 
 -- a message that comes to where its receiver went away goes on
@@ -91,8 +90,7 @@ agains_need n start pt to (i ∷ is) ps at acting known rest = (
 sent_gone : (pt : Point) (p : Pid) (id : MsgId) (is : List MsgId) → State None pt → pt.view.inbox pt.view.acting ≡ id ∷ is → is_kernels id ≡ true → (i : MsgId) (z : Spot) (k : ℕ) → 1 ≤ times i (both_lists pt.view p) → standing (view_after pt.view (Line.SentOn p k)) i z ≡ 0
 sent_gone pt p id is state front own i z k least =
     let b = sent_way pt p k id is state front own in
-    let bag = letters b.own pt.kernel.bag in
-    nowhere (without_all (both_lists pt.view p) bag i) (standing (view_after pt.view (Line.SentOn p k)) i) (without_at (both_lists pt.view p) bag i least) (b.stands.kept i) z
+    nowhere (without_all (both_lists pt.view p) (letters b.own pt.kernel.bag) i) (standing (view_after pt.view (Line.SentOn p k)) i) (without_at (both_lists pt.view p) (letters b.own pt.kernel.bag) i least) (b.stands.kept i) z
   where
     nowhere : (o : Option Pid) (f : Spot → ℕ) → o ≡ None → StandsAsBag o f → (z : Spot) → f z ≡ 0
     nowhere None f e h z = h z
@@ -106,9 +104,8 @@ leaves_need n pt id is p (Frozen to) front state h own at there free for le =
     let v = pt.view in
     let a = pt.addresses in
     let ids = both_lists v p in
-    let known : v.known to p ≢ Unknown = there to refl in
     let needs : NeedsSent pt p = record {
-      knows = λ i q least e. subst (λ (x : Known). Knows v q (place_known x (v.moves p) (a (Receiver i)))) (sym at) (subst (λ (r : Pid). KnowsAt v r to) (sym (for i q least e)) (inr (free, known)));
+      knows = λ i q least e. subst (λ (x : Known). Knows v q (place_known x (v.moves p) (a (Receiver i)))) (sym at) (subst (λ (r : Pid). KnowsAt v r to) (sym (for i q least e)) (inr (free, there to refl)));
       gone = λ i z k least. sent_gone pt p id is state front own i z k least;
     } in (
       needs,

@@ -10,7 +10,7 @@ use Rattle.dm_rulelaws.proofs.Names.{after_proto, queued_for, held_for, taken_id
 use Rattle.dm_rule.specs.View.{Ended}
 use Rattle.dm_rule.proofs.Trails.Places.{Owns}
 use Rattle.dm_rulelaws.proofs.Fits.Start.{fits_step}
-use Rattle.dm_rulelaws.proofs.Found.Lists.{places_label, Places, Brings, places_line, AllAre, all_as, Sends, step_leaves, created_for, places_about}
+use Rattle.dm_rulelaws.proofs.Found.Lists.{places_label, Places, Brings, places_line, AllAre, all_as, Sends, step_leaves, created_for, places_as}
 use Rattle.dm_rulelaws.proofs.Found.Core.{AboutIs, KnowsAt, Knows, IsAt, KnownIs, LineCore, Grows, Learns, learns_nothing, learns, knows_grow, own_grows, about_grows, core_view, known_grows, NeedsPut, put_core, NeedsForward, NeedsSent}
 use Rattle.dm_rulelaws.proofs.Found.Core.{forwarded_core, sent_core, updated_core}
 use Rattle.dm_rulelaws.proofs.Based.Loud.{SetLife, some_alike, step_alike, step_ends, step_serves, step_creates}
@@ -23,6 +23,7 @@ use Rattle.dm_onekernel.specs.Switchboard as board
 use Rattle.dm_onekernel.specs.Manager as manage
 use Rattle.dm_rule.specs.Addresses as addresses
 use Rattle.dm_rule.specs.Given as request
+use Rattle.dm_rule.proofs.Trails.Treads.{at_view}
 
 -- what enters is none that was told of
 apart_from : (e : MsgId → ℕ) (i j : MsgId) → 1 ≤ e i → e j ≡ 0 → id_eq j i ≡ false
@@ -40,9 +41,6 @@ board_takes_spares : (s : OneKernel) (v : View) (a : Addresses) (id : MsgId) (w 
 board_takes_spares s v a id (PlainWhat.User b1 b2 b3 b4) i e = search (arith, s.switchboard.sent, s.switchboard.names, two_more, spares_both, finds_spares, keeps_spares)
 board_takes_spares s v a id _ i e = refl
 
-message_in : (o : Option manage.ManagerTook) (i : MsgId) → ((j : MsgId) → manager_id o ≡ Some j → id_eq j i ≡ false) → (k : manage.ManagerTook) → o ≡ Some k → (x : PlainMessage) → k.message ≡ Some x → id_eq x.id i ≡ false
-message_in o i new k is x has = new x.id (ap manager_id is ∙ ap id_in has)
-
 took_spares : (r e : MsgId → ℕ) (s t : OneKernel) (v : View) (a : Addresses) (id : MsgId) (m : PlainMessage) (i : MsgId) → s.bag id ≡ Some m → service.takes s id m ≡ Some t → ((j : MsgId) → took_id s m ≡ Some j → e j ≡ 0) → Sound r e s → 1 ≤ e i
     → spares i (addresses.taking_gets s v a id (Some m)) ≡ true
 took_spares r e s t v a id m i there is fresh h least =
@@ -52,6 +50,8 @@ took_spares r e s t v a id m i there is fresh h least =
       else if c then bind (manage.manager_takes s.manager s.machines (length s.images) m m.what) (λ (k : manage.ManagerTook). Some (service.manager_took s id k))
       else None) ≡ Some t
       → spares i (if b then board_takes_burden s v a id (burden_of m.what) else manager_takes_burden s v a m (burden_of m.what) (manage.manager_takes s.manager s.machines (length s.images) m m.what)) ≡ true =
+      let message_in : (o : Option manage.ManagerTook) (i : MsgId) → ((j : MsgId) → manager_id o ≡ Some j → id_eq j i ≡ false) → (k : manage.ManagerTook) → o ≡ Some k → (x : PlainMessage) → k.message ≡ Some x → id_eq x.id i ≡ false =
+        λ o i new k is x has. new x.id (ap manager_id is ∙ ap id_in has) in
       λ s t v a id m b c i h1 h2 h3. search (arith, board_takes_spares, m.what, s.manager, s.machines, s.images, manager_takes_spares, message_in) in
     takes_spares s t v a id m (pid_eq m.to switchboard) (pid_eq m.to manager) i
     (apart_from e i (id_of switchboard s.switchboard.sent) least (unentered r e s (id_of switchboard s.switchboard.sent) h.entered (let z : nat_lt s.switchboard.sent s.switchboard.sent ≡ false = grind (arith, nat_tests) in z)))
@@ -177,9 +177,6 @@ keeps_receiver pt s l i h is some =
       | inr other ↦ told_spares h.r h.e pt.kernel s pt.view pt.addresses l i is h.sound (entered pt i h some other)
     ])
 
-sends_grow : (n : ℕ) (s t : OneKernel) (q : Pid) → Grown s t → Sends n s q → Sends n t q
-sends_grow n s t q grown h = search (arith, s.processes, t.processes, grown_none, grown.lives)
-
 label_all : (n : ℕ) (pt : Point) (s : OneKernel) (l : Label) → Sane pt → kernel.step pt.kernel l ≡ Some s → AtHome (Knows pt.view) s (given pt.addresses (gives pt.kernel pt.view pt.addresses l)) → LineCore n pt
     → AllAre (Knows pt.view) s pt.view (given pt.addresses (gives pt.kernel pt.view pt.addresses l))
 label_all n pt s l sane is home h g q (Links e) = homes_are (Knows pt.view) s (given pt.addresses (gives pt.kernel pt.view pt.addresses l)) home g q e
@@ -209,6 +206,7 @@ topic_within n s v _ same h old = old
 
 pub label_core : (n : ℕ) (pt : Point) (s : OneKernel) (l : Label) → Sane pt → NeedsLabel pt l → kernel.step pt.kernel l ≡ Some s → LineCore n pt → LineCore n (moved pt (Line.Label l) s)
 label_core n pt s l sane need is h =
+    let sends_grow : (n : ℕ) (s t : OneKernel) (q : Pid) → Grown s t → Sends n s q → Sends n t q = λ n s t q grown h. search (arith, s.processes, t.processes, grown_none, grown.lives) in
     let v = pt.view in
     let w = after_label v l in
     let a = pt.addresses in
@@ -239,13 +237,12 @@ label_core n pt s l sane need is h =
     } in
     let a_ = topic_by pt.kernel w.topic (Some l) in
     let u = view.about w a_ in
+    -- the topic is no place
+    let places_about : (G : MsgId → ℕ → Type 0) (v : View) (a : About) → Places G v → Places G (view.about v a) = λ G v a h. places_as G v (view.about v a) refl refl refl (λ b c. refl) h in
     core_view n behind u b core.acting (λ m q e. e) (λ m q. known_grows n w u m q (w.known m q) (λ x y e. e) (core.known m q)) refl (about_grows n w u a_ (λ m q e. e) (topic_within n pt.kernel w l h.machines h.fits core.topic))
     core.all (places_about (IsAt b w) w a_ core.places) core
 
 -- Each line keeps where addresses lead, what machines know, and where messages stand, if it has what it needs.
-
-abbrev at_view : Point → View → Point
-at_view pt w = record { kernel = pt.kernel; view = w; addresses = pt.addresses }
 
 -- a line that only says what a machine learns
 learnt_core : (n : ℕ) (pt : Point) (w : View) → Learns n pt.view w → w.told ≡ pt.view.told → AboutIs n w w.topic → Places (IsAt pt.addresses pt.view) w → LineCore n pt → LineCore n (at_view pt w)
@@ -280,8 +277,7 @@ NeedsStage n pt p _ = ⊤
 
 stage_learns : (n : ℕ) (pt : Point) (p : Pid) (s : Stage) → NeedsStage n pt p s → LineCore n pt → Learns n pt.view (after_stage pt.view p s)
 stage_learns n pt p Stage.Frozen need h =
-    let set = sets pt.view p pt.view.topic in
-    learns n pt.view (after_stage pt.view p Stage.Frozen) p (Frozen (aim pt.view pt.view.topic)) set.acting set.known (λ e. cc) (h.acting, need.0, need.1) h.known
+    learns n pt.view (after_stage pt.view p Stage.Frozen) p (Frozen (aim pt.view pt.view.topic)) (sets pt.view p pt.view.topic).acting (sets pt.view p pt.view.topic).known (λ e. cc) (h.acting, need.0, need.1) h.known
 stage_learns n pt p Stage.Accepted need h = learns n pt.view (after_stage pt.view p Stage.Accepted) p (Incoming (front_of (pt.view.inbox pt.view.acting))) refl refl (λ e. cc) (h.acting, need.0, need.1) h.known
 stage_learns n pt p Stage.Left need h =
     let gone_unknown : (k : Known) (moves : ℕ) → gone_to k moves ≡ Unknown → k ≡ Unknown = λ k moves h1. search arith in

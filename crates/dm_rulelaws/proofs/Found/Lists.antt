@@ -12,6 +12,7 @@ use Rattle.dm_rulelaws.proofs.Own.Told.{brings}
 use Rattle.dm_rule.specs.View as view
 use Rattle.dm_onekernel.specs.Service as service
 use Rattle.dm_onekernel.specs.Step as kernel
+use Rattle.dm_rule.proofs.Trails.Puts.{routed_named}
 
 -- of each message that stands somewhere, with the machine
 abbrev pub Places : (MsgId → ℕ → Type 0) → View → Type 0
@@ -74,7 +75,7 @@ drop_last G j (x ∷ xs) zero new old i e = elim (either i (x ∷ xs) (j ∷ [])
 drop_last G j (x ∷ xs) (suc k) new old i e = drop_last G j xs k new old i e
 
 -- the same lists
-places_as : (G : MsgId → ℕ → Type 0) (v w : View) → w.queue ≡ v.queue → w.held ≡ v.held → w.inbox ≡ v.inbox → ((a b : ℕ) → untaken (w.pair a b) ≡ untaken (v.pair a b)) → Places G v → Places G w
+pub places_as : (G : MsgId → ℕ → Type 0) (v w : View) → w.queue ≡ v.queue → w.held ≡ v.held → w.inbox ≡ v.inbox → ((a b : ℕ) → untaken (w.pair a b) ≡ untaken (v.pair a b)) → Places G v → Places G w
 places_as G v w queue held inbox out h = search (arith, places_of)
 
 -- another inbox on the acting machine
@@ -124,9 +125,8 @@ places_taken : (G : MsgId → ℕ → Type 0) (v : View) (a b n : ℕ) → Place
 places_taken G v a b n h =
     let p = v.pair a b in
     let q : Pair = record p { taken = p.taken + 1; kept = filter (λ k. not (k == n)) p.kept } in
-    let u = view.with_pair v a b q in
-    places_taken_id G u b (oldest p) (λ i e. h i (Untaken a b) (search (arith, p.taken, p.ids, at_place, id_eq-same)))
-    (places_of G u (λ m r i e. h i (Queue m r) e) (λ m r i e. h i (Held m r) e) (λ m i e. h i (Inbox m) e)
+    places_taken_id G (view.with_pair v a b q) b (oldest p) (λ i e. h i (Untaken a b) (search (arith, p.taken, p.ids, at_place, id_eq-same)))
+    (places_of G (view.with_pair v a b q) (λ m r i e. h i (Queue m r) e) (λ m r i e. h i (Held m r) e) (λ m i e. h i (Inbox m) e)
     (λ c d i e. set_pair G v.pair a b q (λ j f. h j (Untaken a b) (drop_more j p.ids p.taken f)) (λ x y j f. h j (Untaken x y) f) c d i e))
 
 -- a put
@@ -160,10 +160,6 @@ places_label G v (Label.Created id p) h = places_as G (handled v id) (after_labe
 places_label G v (Label.NoSpace id f b) h = places_handled G v id h
 places_label G v (Label.Asked id) h = places_handled G v id h
 places_label G v any_ h = places_as G v (after_label v any_) refl refl refl (λ a b. refl) h
-
--- the topic is no place
-pub places_about : (G : MsgId → ℕ → Type 0) (v : View) (a : About) → Places G v → Places G (view.about v a)
-places_about G v a h = places_as G v (view.about v a) refl refl refl (λ b c. refl) h
 
 pub places_stage : (G : MsgId → ℕ → Type 0) (v : View) (p : Pid) (s : Stage) → Places G v → Places G (after_stage v p s)
 places_stage G v p Stage.Asked h = h
@@ -290,20 +286,6 @@ put_all P s v a x y id k q bag none to from h g r e =
 pub routed_gives : (s : OneKernel) (v : View) (a : Addresses) (id : MsgId) (k : MessageKind) (q : Pid) → is_own k ≡ false → (o : Option Told) (h : Holder) → given a (first_gives o (own_given s v a id q (sort_of k))) h ≡ a h
 routed_gives s v a id k q plain None h = ap (λ (gs : List Gets). given a gs h) (plain_gives s v a id q k plain)
 routed_gives s v a id k q plain (Some u) h = refl
-
-routed_named : (s : OneKernel) (v : View) (x y : ℕ) (id : MsgId) (k : MessageKind) (q : Pid) (h : Holder) (r : Pid) → is_kernels id ≡ false → is_own k ≡ false → v.told id ≡ None → Named s (after_put v x y id k q) h r → Named s v h r
-routed_named s v x y id k q h r other plain none (Links e) = Links e
-routed_named s v x y id k q h r other plain none (Owns (Goes i u is own told to)) = elim (cases_Bool (id_eq id i)) [
-  | inl same ↦ absurd (false≢true (sym other ∙ ap is_kernels (id_eq-is id i same) ∙ own))
-  | inr apart ↦ Owns (Goes i u is own (sym (put_told_off v x y id i k q apart) ∙ told) to)
-]
-routed_named s v x y id k q h r other plain none (Owns (Comes i u is mine told move to)) = elim (put_named s v x y id k q h r none (Owns (Comes i u is mine told move to))) [
-  | inl old ↦ old
-  | inr new ↦ elim new [
-    | inl way ↦ absurd (let f : Receiver id ≡ Sender i = sym way.0 ∙ is in cc)
-    | inr way ↦ absurd (not_own k plain way.1)
-  ]
-]
 
 pub put_routed : (P : Pid → Place → Type 0) (s : OneKernel) (v : View) (a : Addresses) (x y : ℕ) (id : MsgId) (k : MessageKind) (q : Pid) → is_kernels id ≡ false → is_own k ≡ false → v.told id ≡ None → AllAre P s v a
     → AllAre P s (after_put v x y id k q) (given a (first_gives (v.told id) (own_given s v a id q (sort_of k))))

@@ -5,7 +5,7 @@ use Rattle.dm_rulelaws.proofs.Names.{link_target, slot_of, owner_of, answer_link
 use Rattle.dm_onekernel.specs.Manager as manage
 use Rattle.dm_onekernel.specs.Step as kernel
 use Rattle.dm_rulelaws.proofs.Fits.Rises.{both, slot_link}
-use Rattle.dm_rulelaws.proofs.Found.Core.{IsReal, LineCore, Core, lines_of_core}
+use Rattle.dm_rulelaws.proofs.Found.Core.{IsReal, LineCore, Core}
 use Rattle.dm_rulelaws.proofs.Found.Lists.{Sends}
 pub use Rattle.std.proofs.lemmas.Bool.{or_cases}
 
@@ -35,9 +35,6 @@ has_real pt n k q h e = made_real pt n q h (has_some k (pt.kernel.processes q) e
 
 link_real : (pt : Point) (n : ℕ) (l : PlainLink) → LineCore n pt → 0 < n → LinkFits pt.kernel.processes l → IsReal n pt.view l.to
 link_real pt n l h some e = search (arith, or_cases, l.to, l.area, l.area.base, l.area.len, pt.kernel.processes, server_real, pt.view, both, has_real)
-
-kernel_real : (n k : ℕ) (v : View) (q : Pid) → k ≡ n → q.num ≡ 0 → nat_lt q.home k ≡ true → IsReal n v q
-kernel_real n k v q same num le = inl ((let f : (q.num == 0) ≡ true = grind (arith, nat_tests) in ap (λ (c : Bool). c || is_server q) f), subst (λ (j : ℕ). q.home < j) same (let f : q.home < k = grind (arith, nat_tests) in f))
 
 -- one of a list
 each_get : {X : Type 0} (P : X → Type 0) (xs : List X) (k : ℕ) (x : X) → Each P xs → slice_get xs k ≡ Some x → P x
@@ -71,6 +68,8 @@ owner_real pt n p q (Some x) h is e = search (arith, pt.view, made_real, has_som
 receiver_real : (pt : Point) (n : ℕ) (i : MsgId) (q : Pid) (o : Option PlainMessage) → LineCore n pt → 0 < n → pt.kernel.bag i ≡ o → to_of o ≡ Some q → IsReal n pt.view q
 receiver_real pt n i q None h some is e = cc
 receiver_real pt n i q (Some m) h some is e =
+    let kernel_real : (n k : ℕ) (v : View) (q : Pid) → k ≡ n → q.num ≡ 0 → nat_lt q.home k ≡ true → IsReal n v q =
+      λ n k v q same num le. inl ((let f : (q.num == 0) ≡ true = grind (arith, nat_tests) in ap (λ (c : Bool). c || is_server q) f), subst (λ (j : ℕ). q.home < j) same (let f : q.home < k = grind (arith, nat_tests) in f)) in
     let what_real : IsReal n pt.view m.to = search (arith, or_cases, m.to, pt.kernel.processes, server_real, pt.view, has_real, made_real, has_some, i.from, waits_some, i.n, kernel_real, pt.kernel.machines, h.fits.messages i m is) in
     let f : m.to ≡ q = cc in subst (IsReal n pt.view) f what_real
 
@@ -111,4 +110,4 @@ named_by pt n g q h e = by g e
     by (Answer k) f = answer_real pt n k q (manage.pending_numbered k pt.kernel.manager.pending) h some refl f
 
 pub named_real : (pt : Point) (n : ℕ) (g : Holder) (q : Pid) → Core n pt → names pt.kernel g ≡ Some q → IsReal n pt.view q
-named_real pt n g q h e = named_by pt n g q (lines_of_core n pt h) e
+named_real pt n g q h e = named_by pt n g q h.line e

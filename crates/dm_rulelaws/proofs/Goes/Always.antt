@@ -14,14 +14,11 @@ use Rattle.dm_rulelaws.proofs.Goes.Front.{here_free, begun, begun_sane, Calm, Ca
 use Rattle.dm_rulelaws.proofs.Goes.Servers.{can_handle}
 use Rattle.dm_rulelaws.proofs.Goes.Own.{FrontOwn, can_hear}
 pub use Rattle.dm_rulelaws.proofs.Found.Groups.{told_there, told_there as told_of}
+use Rattle.dm_rule.proofs.Lines.{is_inbox}
 
 -- the message at the front of an inbox
-abbrev is_box : Spot → Bool
-is_box (Inbox m) = true
-is_box _ = false
-
 pub queue_apart : (m n : ℕ) (p : Pid) → Queue n p ≢ Inbox m
-queue_apart m n p e = false≢true (ap is_box e)
+queue_apart m n p e = false≢true (ap is_inbox e)
 
 -- it is in the bag
 pub front : (b : Boot) (m : ℕ) (o : Point) (i : MsgId) (is : List MsgId) (x : PlainMessage) → o.view.inbox m ≡ i ∷ is → o.kernel.bag i ≡ Some x → Run b o → Front b m o i x

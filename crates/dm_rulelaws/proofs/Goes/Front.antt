@@ -51,8 +51,7 @@ told_receiver b m o i x f = (f.run.based.phased.sane).tells.receiver i x f.told 
 -- a kernel or a server is at home here
 pub home_of : (b : Boot) (m : ℕ) (o : Point) (i : MsgId) (x : PlainMessage) → is_fixed x.to ≡ true → Front b m o i x → x.to.home ≡ m
 home_of b m o i x fixed f =
-    let to = told_receiver b m o i x f in
-    sym (ap (λ (q : Pid). q.home) to) ∙ sym (f.run.found.fixed i (Inbox m) f.told f.first f.told_is (ap is_fixed to ∙ fixed))
+    sym (ap (λ (q : Pid). q.home) (told_receiver b m o i x f)) ∙ sym (f.run.found.fixed i (Inbox m) f.told f.first f.told_is (ap is_fixed (told_receiver b m o i x f) ∙ fixed))
 
 -- what the view does with a served message of this kind
 pub served_is : (b : Boot) (m : ℕ) (o : Point) (i : MsgId) (x : PlainMessage) (v : View) (w : PlainWhat) → x.what ≡ w → Front b m o i x → view.served_told v (o.view.told i) ≡ view.ends_by (sort_of (plain_kind w)) v (Some x.to)

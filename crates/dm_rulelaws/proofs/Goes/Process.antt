@@ -27,8 +27,7 @@ can_set : (b : Boot) (m : ℕ) (o : Point) (i : MsgId) (x : PlainMessage) (y z :
     → CanTurn m o (Some (rule.says (Label.Served i) ∷ []))
 can_set b m o i x y z w is alive free f serves =
     let t = service.changed o.kernel i x z in
-    let step = served_step_is o.kernel i x y w t f.there alive free is serves in
-    can_say (Calm m o) m (begun o m) (Label.Served i) t [] step refl tt (does_nothing (Calm m o) (moved (begun o m) (Line.Label (Label.Served i)) t))
+    can_say (Calm m o) m (begun o m) (Label.Served i) t [] (served_step_is o.kernel i x y w t f.there alive free is serves) refl tt (does_nothing (Calm m o) (moved (begun o m) (Line.Label (Label.Served i)) t))
 
 -- a message is served, and another one goes
 can_answer : (b : Boot) (m : ℕ) (o : Point) (i : MsgId) (x : PlainMessage) (y z : PlainProcess) (w : PlainWhat) (k : PlainMessage) (j : MsgId) → x.what ≡ w → o.kernel.processes x.to ≡ Some (Alive y) → o.kernel.notes x.to ≡ None → Front b m o i x
@@ -93,9 +92,8 @@ can_land b m o i x y w is alive free f serves off waits =
 -- a queued message keeps its place
 queued_order : (b : Boot) (m : ℕ) (o : Point) (i : MsgId) (x : PlainMessage) → Front b m o i x → x.to.home ≡ m → (k : Which) → Ord k o.kernel (begun o m).view → Ord k o.kernel (view.view_after (begun o m).view (Line.Queued i))
 queued_order b m o i x f home k q =
-    let v = (begun o m).view in
     let receiver : view.receiver_of (o.view.told i) ≡ Some x.to = ap view.receiver_of f.told_is ∙ ap Some (told_receiver b m o i x f) in
-    subst (λ (r : Option Pid). Ord k o.kernel (view.queued_for (handled v i) i r)) (sym receiver) (ord_queued k o.kernel v i f.rest x.to f.box home (ap is_some f.told_is) q)
+    subst (λ (r : Option Pid). Ord k o.kernel (view.queued_for (handled (begun o m).view i) i r)) (sym receiver) (ord_queued k o.kernel (begun o m).view i f.rest x.to f.box home (ap is_some f.told_is) q)
 
 -- a process is asked to move: it is there already, or sets off
 asked_is : (s : OneKernel) (i : MsgId) (x : PlainMessage) (y : PlainProcess) (to : ℕ) → s.bag i ≡ Some x → s.processes x.to ≡ Some (Alive y) → s.notes x.to ≡ None → x.what ≡ PlainWhat.Move to
@@ -136,20 +134,18 @@ can_here b m o i x y PlainWhat.Stop is num other alive free f h = can_set b m o 
 can_here b m o i x y PlainWhat.Resume is num other alive free f h = can_set b m o i x y (record y { stopped = false }) PlainWhat.Resume is alive free f refl
 can_here b m o i x y PlainWhat.Kill is num other alive free f h = can_kill b m o i x y is alive free f
 can_here b m o i x y (PlainWhat.Read base len) is num other alive free f h =
-    let s = o.kernel in
     let within : nat_le (base + len) (length y.memory) ≡ true = sym (ap (has_bytes (base + len)) alive) ∙ h.0 in
     let k = answer_to x (PlainWhat.Block (take len (drop base y.memory))) in
     let reads : pieces.reads y x base len ≡ Some (record { process = y; answer = k }) = ap (λ (c : Bool). if c then Some (record { process = y; answer = k }) else None) within in
-    can_answer b m o i x y y (PlainWhat.Read base len) k (answer_id i) is alive free f (ap (λ (c : Option pieces.Served). bind c (λ (r : pieces.Served). Some (service.answered s i x r))) reads)
-    (answer_there (service.changed s i x y) i x (PlainWhat.Block (take len (drop base y.memory))) (name_of b m o i x f)) refl
+    can_answer b m o i x y y (PlainWhat.Read base len) k (answer_id i) is alive free f (ap (λ (c : Option pieces.Served). bind c (λ (r : pieces.Served). Some (service.answered o.kernel i x r))) reads)
+    (answer_there (service.changed o.kernel i x y) i x (PlainWhat.Block (take len (drop base y.memory))) (name_of b m o i x f)) refl
 can_here b m o i x y (PlainWhat.Write base bytes) is num other alive free f h =
-    let s = o.kernel in
     let within : nat_le (base + length bytes) (length y.memory) ≡ true = sym (ap (has_bytes (base + length bytes)) alive) ∙ h.0 in
     let z = record y { memory = pieces.written_at y.memory base bytes } in
     let k = answer_to x PlainWhat.Written in
     let writes : pieces.writes y x base bytes ≡ Some (record { process = z; answer = k }) = ap (λ (c : Bool). if c then Some (record { process = z; answer = k }) else None) within in
-    can_answer b m o i x y z (PlainWhat.Write base bytes) k (answer_id i) is alive free f (ap (λ (c : Option pieces.Served). bind c (λ (r : pieces.Served). Some (service.answered s i x r))) writes)
-    (answer_there (service.changed s i x z) i x PlainWhat.Written (name_of b m o i x f)) refl
+    can_answer b m o i x y z (PlainWhat.Write base bytes) k (answer_id i) is alive free f (ap (λ (c : Option pieces.Served). bind c (λ (r : pieces.Served). Some (service.answered o.kernel i x r))) writes)
+    (answer_there (service.changed o.kernel i x z) i x PlainWhat.Written (name_of b m o i x f)) refl
 can_here b m o i x y (PlainWhat.Create image links) is num other alive free f h = search (arith, x.to.num)
 can_here b m o i x y (PlainWhat.Created child) is num other alive free f h = search (arith, is_manager, x.to)
 can_here b m o i x y PlainWhat.NoRoom is num other alive free f h =

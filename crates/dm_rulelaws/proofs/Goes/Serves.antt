@@ -44,8 +44,7 @@ sent_last pt p n k y next home other h =
     -- what a process has sent is its last
     let counts_alive : (t : OneKernel) (p : Pid) (y : PlainProcess) (i : MsgId) → t.processes p ≡ Some (Alive y) → i.from ≡ p → (pid_eq p switchboard ≡ false) × (pid_eq p manager ≡ false) → counts t i ≡ nat_lt i.n y.sent =
       λ t p y i is from off. search (arith, i.n, t.switchboard.sent, t.manager.sent, t.processes, off.0, off.1) in
-    let s = pt.kernel in
-    let w = nexts s p (kernel.Calls n (calls.Sends k y)) next in
+    let w = nexts pt.kernel p (kernel.Calls n (calls.Sends k y)) next in
     grind (arith, nat_tests, w.counts, not_server, w.x, w.is.alive, h.sound.made, k.id.from, k.id.n, k.id, counts_alive, w.x.sent, set_at, y.sent, never_counted)
 
 -- what a call comes to
@@ -169,9 +168,8 @@ can_receive C m pt p queue x mask base size None status first some is free going
 can_receive C m pt p queue x mask base size (Some i) status first some is free going same drops =
     let s = pt.kernel in
     let a = first_is s mask queue i first in
-    let k = a.x in
-    let to = droppable_to s p queue i k a.there a.stands drops in
-    search (arith, completes_what, k.what, a.what, x.status, s.bag, at_hand_of, a.there, does_completes, completes_shape)
+    let to = droppable_to s p queue i a.x a.there a.stands drops in
+    search (arith, completes_what, (a.x).what, a.what, x.status, s.bag, at_hand_of, a.there, does_completes, completes_shape)
 
 can_serve : (C : Type 0) (b : Boot) (m : ℕ) (pt : Point) (p : Pid) (queue : List MsgId) (x : PlainProcess) (st : PlainStatus) → x.status ≡ st → rule.status_can_go pt.kernel queue st ≡ true → pt.kernel.processes p ≡ Some (Alive x) → pt.kernel.notes p ≡ None → x.stopped ≡ false → queue ≡ pt.view.queue m p → Droppable pt.kernel p queue → (C → p.home ≡ pt.view.acting) → Sane pt
     → Can C m pt (rule.serves_status b.quantum pt.kernel p queue x st)

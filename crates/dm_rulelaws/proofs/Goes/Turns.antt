@@ -50,11 +50,10 @@ right_there i (Some x) f z least off h = (x, refl, StandsAsBag-one (Some x) f z 
 -- what is queued for a process can go with it
 pub queue_drops : (b : Boot) (m : ℕ) (pt : Point) (p : Pid) → Based b pt → Droppable pt.kernel p (pt.view.queue m p)
 queue_drops b m pt p h = droppable_of pt.kernel p (pt.view.queue m p) (λ i least.
-    let q = h.queued m p i least in
     let state = h.phased.state in
-    let off : is_kernels i ≡ false = not_true (is_kernels i) (λ e. let z = kernels_fresh state.r state.e pt.kernel i state.sound e in omega (arith, q.entered, z)) in
+    let off : is_kernels i ≡ false = not_true (is_kernels i) (λ e. let z = kernels_fresh state.r state.e pt.kernel i state.sound e in omega (arith, (h.queued m p i least).entered, z)) in
     let (x, there, one) = right_there i (pt.kernel.bag i) (standing pt.view i) (Queue m p) least off (stands_right pt i state (pt.kernel.bag i) refl) in
-    (let k = q.is x there in record { x = x; there = there; to = k.0; user = k.1 }, (omega (arith, one))))
+    (let k = (h.queued m p i least).is x there in record { x = x; there = there; to = k.0; user = k.1 }, (omega (arith, one))))
 
 pub user_dropped : (w : PlainWhat) → is_user w ≡ true → is_dropped w ≡ true
 user_dropped (PlainWhat.User code channel body links) e = refl
@@ -67,8 +66,7 @@ pub does_drops : (C : Type 0) (p : Pid) (y : Why) (ids : List MsgId) (pt : Point
 does_drops C p y [] pt ended h = does_nothing C pt
 does_drops C p y (i ∷ is) pt ended h =
     let s = pt.kernel in
-    let x = h.0.x in
-    does_label C pt (Label.Dropped i) (without_message s i) (rule.drop_parts is) (dropped_is s i x y h.0.there (ap s.processes h.0.to ∙ ended) (user_dropped x.what h.0.user))
+    does_label C pt (Label.Dropped i) (without_message s i) (rule.drop_parts is) (dropped_is s i h.0.x y h.0.there (ap s.processes h.0.to ∙ ended) (user_dropped (h.0.x).what h.0.user))
     (does_drops C p y is (moved pt (Line.Label (Label.Dropped i)) (without_message s i)) ended
     (droppable_on s (without_message s i) p is (λ j least. out_off s i j (apart j least (id_eq i j) refl)) h.2))
   where

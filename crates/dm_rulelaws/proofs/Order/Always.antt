@@ -111,7 +111,6 @@ taken_by m pt from to channel n mask x t sane acts home first step there queued 
     let s = pt.kernel in
     let v = pt.view in
     let q = which from to channel 0 in
-    let r = which from to channel (suc n) in
     let g = is_one s q in
     let w = after_label v (Label.Receive to i) in
     let h = to.home in
@@ -132,7 +131,7 @@ taken_by m pt from to channel n mask x t sane acts home first step there queued 
     let told : is_told v i ≡ true = mem (λ (j : MsgId). is_told v j ≡ true) (v.queue h to) i a.stands o.queue_told in
     let next = ord_view q s v w (thin_label q v (Label.Receive to i)) o in
     let af = after_step sane.r sane.e s t (Label.Receive to i) step sane.sound in
-    let now : Ord r s w = record {
+    let now : Ord (which from to channel (suc n)) s w = record {
       order = ap (λ xs. ordered g (suc n) (xs ++ rest)) queue ∙ ap (λ k. ordered g k (without_id i (v.queue h to) ++ rest)) (let e : suc n ≡ n + 1 = omega arith in e) ∙ later;
       floor = λ k less. counts_lower s from n k (omega (arith, less)) counted;
       last_told = λ k e. let z : k ≡ n = omega (arith, e) in ap (λ j. is_told v (id_of from j)) z ∙ told;
@@ -142,7 +141,7 @@ taken_by m pt from to channel n mask x t sane acts home first step there queued 
       sourced = next.sourced;
       loop = next.loop;
     } in
-    ord_step r s t w (was_told pt (Label.Receive to i) t sane step) (counts_grown s t af.grown) now
+    ord_step (which from to channel (suc n)) s t w (was_told pt (Label.Receive to i) t sane step) (counts_grown s t af.grown) now
 
 pub taken_order : (b : Boot) (at next : Point) (from to : Pid) (channel n : ℕ) (x : PlainMessage) → Taking b at to (id_of from n) next → at.kernel.bag (id_of from n) ≡ Some x → channel_in x.what ≡ Some channel → Ord (which from to channel 0) at.kernel at.view → Ord (which from to channel (suc n)) next.kernel next.view
 taken_order b at next from to channel n x take there on o =
@@ -165,10 +164,7 @@ taken_bound b at next from to channel floor k y take there on o =
     bound_in (is_one s q) floor (v.queue h to) (v.inbox h ++ untaken (v.pair from.home h)) j (ord_head q s at.view take.d o).order a.stands (one_of s from to channel floor k y there receiver on)
 
 -- the group of a reception among all
-pub record Reaches (b : Boot) (end pt : Point) (before later : List Label) (p : Pid) (i : MsgId) : Type 0 where
-  pub at : Point
-  pub replays : replay pt.kernel before ≡ Some at.kernel
-  pub order : (k : Which) → Ord k pt.kernel pt.view → Ord k at.kernel at.view
+pub record Behind (b : Boot) (end at : Point) (later : List Label) (p : Pid) (i : MsgId) : Type 0 where
   pub next : Point
   pub on : Stays b next
   pub goes : (k : Which) → Ord k at.kernel at.view → Ord k next.kernel next.view
@@ -179,6 +175,12 @@ pub record Reaches (b : Boot) (end pt : Point) (before later : List Label) (p : 
   pub asks : AskNone ls
   pub leads : LeadsBy b next es ls end
   pub rest : labels ls ≡ later
+
+pub record Reaches (b : Boot) (end pt : Point) (before later : List Label) (p : Pid) (i : MsgId) : Type 0 where
+  pub at : Point
+  pub replays : replay pt.kernel before ≡ Some at.kernel
+  pub order : (k : Which) → Ord k pt.kernel pt.view → Ord k at.kernel at.view
+  pub behind : Behind b end at later p i
 
 both_if : (c d : Bool) → (if c then d else false) ≡ true → (c ≡ true) × (d ≡ true)
 both_if true d e = (refl, e)
@@ -200,16 +202,7 @@ found_later b end pt mid ls before more later p i replays order is f = record {
   at = f.at;
   replays = ap (replay pt.kernel) is ∙ replay-append ls more pt.kernel mid.kernel f.at.kernel replays f.replays;
   order = λ k o. f.order k (order k o);
-  next = f.next;
-  on = f.on;
-  goes = f.goes;
-  asks = f.asks;
-  takes = f.takes;
-  es = f.es;
-  still = f.still;
-  ls = f.ls;
-  leads = f.leads;
-  rest = f.rest;
+  behind = f.behind;
 }
 
 -- one label alone
@@ -254,11 +247,7 @@ taking_of b pt d w g h r is = record {
 
 never_nothing : (xs ys : List Label) (y : Label) → [] ≡ xs ++ y ∷ ys → ⊥
 never_nothing [] ys y e = search arith
-never_nothing (x ∷ xs) ys y e = let f : true ≡ false = ap is_nothing e in false≢true (sym f)
-  where
-    is_nothing : List Label → Bool
-    is_nothing [] = true
-    is_nothing (z ∷ zs) = false
+never_nothing (x ∷ xs) ys y e = search arith
 
 -- a group that receives, and what is behind it
 -- lines by which none is asked to move
@@ -309,11 +298,11 @@ receives_in_order_by starts goes b es ls pt before between after_ from to n k ch
     let j = id_of from k in
     let f1 = find goes b es (first_point b) pt ls before (between ++ Label.Receive to j ∷ after_) to i valid still asks (record { both = both_start starts b valid; r = λ i. 0; e = λ i. 0; home = home_start b valid }) leads e in
     let there1 : f1.at.kernel.bag i ≡ Some s1.message = sym (ap (λ (s : OneKernel). s.bag i) (same_kernel (replay (start b) before) s1.kernel f1.at.kernel s1.run f1.replays)) ∙ s1.there in
-    let o1 = taken_order b f1.at f1.next from to channel n s1.message f1.takes there1 s1.on (f1.order (which from to channel 0) (let e_ : Ord (which from to channel 0) (start b) (first_view b) = search arith in e_)) in
-    let f2 = find goes b f1.es f1.next pt f1.ls between after_ to j valid f1.still f1.asks f1.on f1.leads f1.rest in
-    let kernel_is : f1.takes.t ≡ f1.next.kernel = sym (ap (λ (z : Point). z.kernel) f1.takes.point) in
+    let o1 = taken_order b f1.at f1.behind.next from to channel n s1.message f1.behind.takes there1 s1.on (f1.order (which from to channel 0) (let e_ : Ord (which from to channel 0) (start b) (first_view b) = search arith in e_)) in
+    let f2 = find goes b f1.behind.es f1.behind.next pt f1.behind.ls between after_ to j valid f1.behind.still f1.behind.asks f1.behind.on f1.behind.leads f1.behind.rest in
+    let kernel_is : f1.behind.takes.t ≡ f1.behind.next.kernel = sym (ap (λ (z : Point). z.kernel) f1.behind.takes.point) in
     let on : replay f1.at.kernel (Label.Receive to i ∷ between) ≡ Some f2.at.kernel =
-    ap (λ (o : Option OneKernel). bind o (λ (t : OneKernel). replay t between)) f1.takes.step ∙ ap (λ (t : OneKernel). replay t between) kernel_is ∙ f2.replays in
+    ap (λ (o : Option OneKernel). bind o (λ (t : OneKernel). replay t between)) f1.behind.takes.step ∙ ap (λ (t : OneKernel). replay t between) kernel_is ∙ f2.replays in
     let all = replay-append before (Label.Receive to i ∷ between) (start b) f1.at.kernel f2.at.kernel f1.replays on in
     let there2 : f2.at.kernel.bag j ≡ Some s2.message = sym (ap (λ (s : OneKernel). s.bag j) (same_kernel (replay (start b) (before ++ Label.Receive to i ∷ between)) s2.kernel f2.at.kernel s2.run all)) ∙ s2.there in
-    omega (arith, taken_bound b f2.at f2.next from to channel (suc n) k s2.message f2.takes there2 s2.on (f2.order (which from to channel (suc n)) o1))
+    omega (arith, taken_bound b f2.at f2.behind.next from to channel (suc n) k s2.message f2.behind.takes there2 s2.on (f2.order (which from to channel (suc n)) o1))

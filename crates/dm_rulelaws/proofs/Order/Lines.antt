@@ -147,12 +147,10 @@ pub ord_view : (q : Which) (s : OneKernel) (v w : View) → ThinFor q v w → Or
 ord_view q s v w t h =
     let g = is_one s q in
     let m = q.to.home in
-    let uv = untaken (v.pair q.from.home m) in
-    let uw = untaken (w.pair q.from.home m) in
     record {
-      order = context g q.floor (w.queue m q.to) (v.inbox m ++ uv) (w.inbox m ++ uw)
-          (λ k e. t.inbox.order g k uw (ap (λ xs. ordered g k (v.inbox m ++ xs)) (t.away q.from.home) ∙ e))
-          (t.queue.order g q.floor (v.inbox m ++ uv) h.order);
+      order = context g q.floor (w.queue m q.to) (v.inbox m ++ (untaken (v.pair q.from.home m))) (w.inbox m ++ (untaken (w.pair q.from.home m)))
+          (λ k e. t.inbox.order g k (untaken (w.pair q.from.home m)) (ap (λ xs. ordered g k (v.inbox m ++ xs)) (t.away q.from.home) ∙ e))
+          (t.queue.order g q.floor (v.inbox m ++ (untaken (v.pair q.from.home m))) h.order);
       floor = h.floor;
       last_told = λ n e. t.told (id_of q.from n) (h.last_told n e);
       queue_told = told_on v w (w.queue m q.to) t.told (t.queue.told (is_told v) h.queue_told);
@@ -277,9 +275,8 @@ strictly a b le apart = search arith
 below_last : (q : Which) (s : OneKernel) (v : View) (i j : MsgId) → ((k : MsgId) (y : PlainMessage) → s.bag k ≡ Some y → counts s k ≡ true) → is_told v i ≡ true → is_one s q j ≡ true → Last s v j → is_one s q i ≡ true → i.n < j.n
 below_last q s v i j bagged told mine last one =
     let a = one_is s q i one in
-    let b = one_is s q j mine in
-    let same : i.from ≡ j.from = a.from ∙ sym b.from in
-    strictly i.n j.n (counts_below s i (next_id j) (bagged i a.x a.there) last.last same) (λ e. told_apart v i j told last.untold (same_name i j same e (a.own ∙ sym b.own)))
+    let same : i.from ≡ j.from = a.from ∙ sym (one_is s q j mine).from in
+    strictly i.n j.n (counts_below s i (next_id j) (bagged i a.x a.there) last.last same) (λ e. told_apart v i j told last.untold (same_name i j same e (a.own ∙ sym (one_is s q j mine).own)))
 
 floor_below : (q : Which) (s : OneKernel) (v : View) (j : MsgId) (f : ℕ) → q.floor ≡ f → Ord q s v → is_one s q j ≡ true → Last s v j → q.floor ≤ j.n
 floor_below q s v j zero is h mine last = omega (arith, is)

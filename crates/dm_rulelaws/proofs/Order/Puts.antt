@@ -6,6 +6,7 @@ use Rattle.dm_rule.specs.View as view
 use Rattle.dm_rulelaws.proofs.Queued.{is_user}
 use Rattle.dm_rulelaws.proofs.Order.Lines.{context, Each-both, thins_same, drop_end, Which, is_one, is_told, awaiting, Sourced, AllTold, Ord, ThinFor, ord_view, thin_same, box_same, told_on, handled_thin, append-assoc, append-none, Last}
 use Rattle.dm_rulelaws.proofs.Order.Lines.{One, one_is, order_last, order_not, pair_at, pair_off, pair_on, pair_else, box_on, box_off, order_as}
+use Rattle.dm_rule.proofs.Lines.{taken_pair}
 
 -- pairs whose messages stay
 pub thin_pair : (q : Which) (v : View) (a c : ℕ) (p : Pair) → untaken p ≡ untaken (v.pair a c) → ThinFor q v (view.with_pair v a c p)
@@ -51,12 +52,11 @@ put_home q s v j x k p bagged last home h =
     record {
       order = order_as g q.floor (Q ++ ((I ++ j ∷ []) ++ U)) (awaiting q w) list (elim (cases_Bool (g j)) [
         | inl mine ↦
-            let l = last mine in
-            let from : q.from.home ≡ m = ap (λ (r : Pid). r.home) (sym (one_is s q j mine).from) ∙ l.home ∙ am in
+            let from : q.from.home ≡ m = ap (λ (r : Pid). r.home) (sym (one_is s q j mine).from) ∙ (last mine).home ∙ am in
             let empty : U ≡ [] = ap (λ n. untaken (v.pair n m)) from ∙ h.loop in
             order_as g q.floor (awaiting q v ++ j ∷ []) (Q ++ ((I ++ j ∷ []) ++ U))
             (ap (λ xs. Q ++ ((I ++ j ∷ []) ++ xs)) empty ∙ ap (λ xs. Q ++ xs) (append-none (I ++ j ∷ [])) ∙ sym (append-assoc Q I (j ∷ [])) ∙ ap (λ xs. (Q ++ xs) ++ j ∷ []) (sym (append-none I)) ∙ ap (λ xs. (Q ++ (I ++ xs)) ++ j ∷ []) (sym empty))
-            (order_last q s v j bagged h mine l)
+            (order_last q s v j bagged h mine (last mine))
         | inr other ↦
             order_as g q.floor ((Q ++ I) ++ j ∷ U) (Q ++ ((I ++ j ∷ []) ++ U)) (ap (λ xs. Q ++ xs) (append-assoc I (j ∷ []) U) ∙ sym (append-assoc Q I (j ∷ U)))
             (order_not g q.floor (Q ++ I) U j other (order_as g q.floor (awaiting q v) ((Q ++ I) ++ U) (append-assoc Q I U) h.order))
@@ -151,9 +151,6 @@ place_none [] zero e = refl
 place_none [] (suc k) e = refl
 place_none (y ∷ ys) zero e = cc
 place_none (y ∷ ys) (suc k) e = place_none ys k e
-
-abbrev taken_pair : Pair → ℕ → Pair
-taken_pair p n = record p { taken = p.taken + 1; kept = filter (λ k. not (k == n)) p.kept }
 
 taken_is : (p : Pair) (n : ℕ) → untaken (taken_pair p n) ≡ drop (suc p.taken) p.ids
 taken_is p n = let e : p.taken + 1 ≡ suc p.taken = omega arith in ap (λ k. drop k p.ids) e

@@ -114,10 +114,9 @@ fits_own ps pt w ok (ThenOwns l qs same none fit) is sane h =
 
 pub own_told_group : (b : Boot) (pt : Point) (d : Step) (w : Spelled) → group_of b pt d ≡ Some w → Run b pt → OwnTold pt → OwnTold w.point
 own_told_group b pt d w is run h =
-    let k = group_on b pt d run h in
-    let g = k.goes in
+    let g = (group_on b pt d run h).goes in
     let begun = moved pt (Line.Head d) pt.kernel in
     let sane : Sane begun = sane_line pt begun (Line.Head d) refl refl run.based.phased.sane in
     let same : g.w ≡ w = (let f : Some g.w ≡ Some w = sym g.is ∙ is in cc) in
     subst OwnTold (sym g.point ∙ ap (λ (x : Spelled). x.point) same)
-    (fits_own g.parts begun g.behind_head (outcome_sayable b pt d g.parts g.outcome_is) k.owns g.spells sane (own_line pt begun (Line.Head d) refl refl run.based.phased.sane h))
+    (fits_own g.parts begun g.behind_head (outcome_sayable b pt d g.parts g.outcome_is) (group_on b pt d run h).owns g.spells sane (own_line pt begun (Line.Head d) refl refl run.based.phased.sane h))

@@ -14,7 +14,7 @@ use Rattle.dm_onekernel.specs.Manager as manage
 use Rattle.dm_rulelaws.proofs.Fits.Rises.{both}
 use Rattle.dm_rulelaws.proofs.RunLabels.{group_replay}
 use Rattle.dm_rulelaws.proofs.Based.Constants.{constant_group}
-use Rattle.dm_rulelaws.proofs.Tables.{Tables, FewLinks, SameSlots, out_tables, put_tables, set_tables, end_tables, goes_tables}
+use Rattle.dm_rulelaws.proofs.Tables.{Tables, FewLinks, SameSlots, out_tables, put_tables, set_tables, end_tables}
 use Rattle.dm_rulelaws.proofs.Calling.{by_call}
 use Rattle.dm_rulelaws.proofs.Takes.{by_manager, by_over}
 
@@ -155,16 +155,16 @@ tables_step s t e =
     let gone_few : (w v : PlainWhat) → service.gone_what w ≡ Some v → FewLinks v = λ w v h1. search arith in
     -- the receiver of a message goes on
     let changed_tables : (s : OneKernel) (id : MsgId) (m : PlainMessage) (x y : PlainProcess) → s.processes m.to ≡ Some (Alive x) → SameSlots x y → Tables s → Tables (service.changed s id m y) =
-      λ s id m x y is same h. goes_tables (without_message s id) m.to x y is same (out_tables s id h) in
+      λ s id m x y is same h. set_tables (without_message s id) m.to y (same ∙ (out_tables s id h).slots m.to x is) (out_tables s id h) in
     by_step (λ u. Tables s → Tables u) s t e (record {
-  ran = λ p k x m is w h. goes_tables s p x (kernel.with_machine x m) w.alive refl h;
-  replies = λ p n k c d y is w h. (let v = next_is s p (kernel.Calls k (calls.Replies d y)) w.is in goes_tables s p v.x y v.alive v.same h);
-  sends = λ p id k m y is same w h. (let v = next_is s p (kernel.Calls k (calls.Sends m y)) w.is in put_tables (kernel.goes_on s p y) m v.same.1 (goes_tables s p v.x y v.alive v.same.0 h));
-  waits = λ p k y is w h. (let v = next_is s p (kernel.Calls k (calls.Waits y)) w.is in goes_tables s p v.x y v.alive v.same h);
-  outputs = λ p w k o y is n h. (let v = next_is s p (kernel.Calls k (calls.Outputs o y)) n.is in goes_tables s p v.x y v.alive v.same h);
+  ran = λ p k x m is w h. set_tables s p (kernel.with_machine x m) (refl ∙ h.slots p x w.alive) h;
+  replies = λ p n k c d y is w h. (let v = next_is s p (kernel.Calls k (calls.Replies d y)) w.is in set_tables s p y (v.same ∙ h.slots p v.x v.alive) h);
+  sends = λ p id k m y is same w h. (let v = next_is s p (kernel.Calls k (calls.Sends m y)) w.is in put_tables (kernel.goes_on s p y) m v.same.1 (set_tables s p y (v.same.0 ∙ h.slots p v.x v.alive) h));
+  waits = λ p k y is w h. (let v = next_is s p (kernel.Calls k (calls.Waits y)) w.is in set_tables s p y (v.same ∙ h.slots p v.x v.alive) h);
+  outputs = λ p w k o y is n h. (let v = next_is s p (kernel.Calls k (calls.Outputs o y)) n.is in set_tables s p y (v.same ∙ h.slots p v.x v.alive) h);
   ends = λ p y next is w h. end_tables s p y h;
-  receives = λ p id y is w c h. (let v = completing_is s p id (receiving.Receives y) c in goes_tables (without_message s id) p v.x y v.alive v.same (out_tables s id h));
-  refuses = λ p id c d y is w f h. (let v = completing_is s p id (receiving.Refuses d y) f in goes_tables s p v.x y v.alive v.same h);
+  receives = λ p id y is w c h. (let v = completing_is s p id (receiving.Receives y) c in set_tables (without_message s id) p y (v.same ∙ (out_tables s id h).slots p v.x v.alive) (out_tables s id h));
+  refuses = λ p id c d y is w f h. (let v = completing_is s p id (receiving.Refuses d y) f in set_tables s p y (v.same ∙ h.slots p v.x v.alive) h);
   dropped = λ id m y is w f h. out_tables s id h;
   gone = λ id m y is w v f h. put_tables (without_message s id) (answer_to m v) (gone_few m.what v f) (out_tables s id h);
   asked = λ id m x machine is w f h. (let out = out_tables s id h in record { slots = out.slots; messages = out.messages });
