@@ -1,9 +1,8 @@
 -- What a call of a process comes to, row by row: whatever holds of each row holds of the call.
-use Rattle.dm_rulelaws.proofs.Names.{◌≡◌, ℕ, ◌+◌, ◌==◌, Bool, false, List, [], ◌∷◌, refl, nat_lt, if◌then◌else◌, Option, None, Some, Pid, PlainLink, first_empty, link_at, direction_numbered, Direction, Reply, Why, PlainProcess}
-use Rattle.dm_rulelaws.proofs.Names.{Waiting, reg, first_failed, Called, Sends, Waits, CallNumber, Check, arith}
+use Rattle.dm_rulelaws.proofs.Names.{◌≡◌, ℕ, ◌+◌, ◌==◌, Bool, false, List, [], ◌∷◌, refl, nat_lt, if◌then◌else◌, Option, None, Some, Pid, PlainLink, first_empty, link_at, direction_numbered, Direction, Reply, Why, PlainProcess, Waiting}
+use Rattle.dm_rulelaws.proofs.Names.{reg, first_failed, Called, Sends, Waits, CallNumber, Check, arith, neither}
 use Rattle.dm_onekernel.specs.Pieces as pieces
 use Rattle.dm_onekernel.specs.Calls as calls
-use Rattle.std.proofs.lemmas.Bool.{or_parts as neither}
 
 -- it is refused, or does what it is for: with a link of its own, or with the one in the slot that register 1 names
 pub record Does (P : Called → Type 0) (p : Pid) (x : PlainProcess) : Type 0 where

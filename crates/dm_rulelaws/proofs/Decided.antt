@@ -1,6 +1,5 @@
 -- The rule decides what is printed.
-use Rattle.dm_rulelaws.proofs.Names.{◌≡◌, List, [], ◌∷◌, ◌++◌, refl, ap, ◌∙◌, sym, subst, arith, Some, Boot, Line, Todo, Next, IsRun, Spelled, Point, group_of, RuleDecides, ShorterBegins}
-use Rattle.std.proofs.lemmas.List.{length-append, nil_from_length, append-nil}
+use Rattle.dm_rulelaws.proofs.Names.{◌≡◌, List, [], ◌∷◌, ◌++◌, refl, ap, ◌∙◌, sym, subst, arith, Some, Boot, Line, Todo, Next, IsRun, Spelled, Point, group_of, RuleDecides, ShorterBegins, length-append, nil_from_length, append-nil}
 
 -- what is behind a common first group
 abbrev Behind : Boot → Point → Todo → List (List Line) → List (List Line) → Point → Todo → Type 0

@@ -1,7 +1,7 @@
 -- Behind the parts of a group there is a kernel with places, where there was one before.
 use Rattle.dm_places.proofs.Names.{◌≡◌, ℕ, true, List, [], ◌∷◌, refl, ap, ◌∙◌, sym, subst, is_some, ◌⊎◌, inl, inr, ⊤, Option, None, Some, MsgId, PlainMessage, Label, manager, Life, OneKernel, Sound, bind-is, after_step, Line, Told, View}
-use Rattle.dm_places.proofs.Names.{is_kernels, own_id, Again, Owns, Part, Routes, Says, Spelled, Transmits, lines_of, puts, spelled, Point, after, after_line, kernel_after, label_of, moved, not_kernels, Placed, LineNeeds, MirrorsPoint}
-use Rattle.dm_places.proofs.Names.{StepNeeds, id_of, note-is, arith, nat_tests, AllByRecursion, by_parts}
+use Rattle.dm_places.proofs.Names.{is_kernels, own_id, Again, Owns, Part, Routes, Says, Transmits, lines_of, puts, Point, after, after_line, kernel_after, label_of, moved, not_kernels, Placed, LineNeeds, MirrorsPoint}
+use Rattle.dm_places.proofs.Names.{StepNeeds, id_of, note-is, arith, nat_tests, AllByRecursion}
 use Rattle.dm_onekernel.specs.Step as kernel
 use Rattle.dm_places.proofs.Any.AnyLine.{line_follows}
 use Rattle.dm_places.proofs.Putting.{SamePoint, again_same, puts_same, routes_mirrors, routes_kernel}

@@ -71,6 +71,10 @@ CalledAs v a p x n w (one.Waits z) = Goes v a p w z
 CalledAs v a p x n w (one.Outputs u z) = Goes v a p w z
 CalledAs v a p x n w (one.Ends y) = w ≡ ended
 
+sent_as : (v : View) (a : Addresses) (p : Pid) (x : Process) (n : one.CallNumber) (m : Message) (y : Process) (k : one.Called) → bind (plain_message m) (λ (u : PlainMessage). Some (one.Sends u (plain_process y))) ≡ Some k
+    → MirrorsCalled v a p x n (Called.Sent m) y → CalledAs v a p x n (record { process = Some y; message = Some m }) k
+sent_as v a p x n m y k e h = search (arith, bind-is)
+
 abbrev ActsNext : View → Addresses → Pid → Process → Acted → kernel.Trap → Type 0
 ActsNext v a p x w (kernel.Calls number k) = CalledAs v a p x (one.call_number number) w k
 ActsNext v a p x w (kernel.Faults fault) = w ≡ ended
@@ -79,9 +83,6 @@ acts_row : (v : View) (a : Addresses) (p : Pid) (x : Process) (w : Row) (n : ker
     → (d : Acted) × (acted v.acting x w ≡ Some d) × ActsNext v a p x d n
 acts_row v a p x (Row.Plain regs bytes) n w e h = cc
 acts_row v a p x (Row.Calls number regs) n w e h =
-    let sent_as : (v : View) (a : Addresses) (p : Pid) (x : Process) (n : one.CallNumber) (m : Message) (y : Process) (k : one.Called) → bind (plain_message m) (λ (u : PlainMessage). Some (one.Sends u (plain_process y))) ≡ Some k
-      → MirrorsCalled v a p x n (Called.Sent m) y → CalledAs v a p x n (record { process = Some y; message = Some m }) k =
-      λ v a p x n m y k e h. search (arith, bind-is) in
     let called_as : (v : View) (a : Addresses) (p : Pid) (x : Process) (n : one.CallNumber) (c : Called) (y : Process) (k : one.Called) → plain_called c y ≡ Some k → MirrorsCalled v a p x n c y → CalledAs v a p x n (after_call c y) k =
       λ v a p x n c y k h1 h2. search (arith, sent_as) in
     let f : regs ≡ past x.regs = past_call x.regs x.memory number regs w in

@@ -1,5 +1,6 @@
 -- All that the kernel without machines and the lines say of processes and of what waits for them holds wherever the rule leads.
 use Rattle.dm_rulelaws.proofs.Names.{◌≡◌, List, [], ◌∷◌, ◌∙◌, subst, Some, Boot, IsValid, Step, IsStep, Leads, Spelled, Point, first_point, labels, group_of, phased_start, phased_group, arith, OneKernel, View, Pid, MoveNote, None, Phased}
+use Rattle.dm_rulelaws.proofs.Names.{ListsStand, KnownStands, group_is, Line, refl}
 use Rattle.dm_rulelaws.proofs.Fits.Start.{start_fits}
 use Rattle.dm_rulelaws.proofs.RunLabels.{group_replay, replay_fits}
 use Rattle.dm_rulelaws.proofs.Runs.{Based}
@@ -9,7 +10,6 @@ use Rattle.dm_rulelaws.proofs.Based.Start.{known_start}
 use Rattle.dm_rulelaws.proofs.Based.Noted.{Away, At, outcome_keeps, line_away}
 use Rattle.dm_rulelaws.proofs.Based.Groups.{group_keeps}
 use Rattle.dm_rulelaws.proofs.Based.Loud.{keeps_by}
-use Rattle.dm_rulelaws.proofs.Names.{ListsStand, KnownStands, group_is, Line, refl}
 use Rattle.dm_rulelaws.proofs.Based.Unmoved.{known_loud, Unmoved, unmoved_loud}
 
 pub based_start : (b : Boot) → IsValid b → Based b (first_point b)

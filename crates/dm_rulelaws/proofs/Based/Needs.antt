@@ -1,9 +1,8 @@
 -- What a line of a group needs, so that each line keeps what is known of processes; and a walk over a group's parts.
 use Rattle.dm_rulelaws.proofs.Names.{◌≡◌, ℕ, ◌==◌, Bool, true, false, List, [], ◌∷◌, length, refl, ap, ◌∙◌, subst, ⊤, if◌then◌else◌, Option, None, Some, Pid, MsgId, MessageKind, Stage, plain_kind, Boot, Label, PlainProcess, Alive}
 use Rattle.dm_rulelaws.proofs.Names.{OneKernel, bind-is, Step, Line, Load, View, Told, Unknown, Here, Frozen, is_kernels, own_id, Receiver, Point, label_of, kernel_after, moved, after_line, after, Part, Says, Routes, Again, Owns, Transmits}
-use Rattle.dm_rulelaws.proofs.Names.{Spelled, lines_of, puts, goes_out, packet_line, spelled, is_away, is_here, group_of, group_is, is_kill, Sane, AllSayable, sane_line, part_sane, outcome_sayable, is_server, has_nothing_held, by_parts}
+use Rattle.dm_rulelaws.proofs.Names.{Spelled, lines_of, puts, goes_out, packet_line, spelled, is_away, is_here, group_of, group_is, is_kill, Sane, AllSayable, part_sane, outcome_sayable, is_server, has_nothing_held, by_parts, Each}
 use Rattle.dm_rule.specs.Rule as rule
-use Rattle.dm_rulelaws.specs.Fits.{Each}
 pub use Rattle.dm_rule.proofs.Rooted.Groups.{begun, begun_sane}
 
 -- a process is here, and away from every other machine

@@ -2,9 +2,8 @@
 use Rattle.dm_rulelaws.proofs.Names.{forwards_on, gives_piece, updates, Addresses, plain_kind, manager, ◌≡◌, ℕ, ◌==◌, ◌&&◌, Bool, true, false, List, [], ◌∷◌, ◌++◌, refl, ap, ◌∙◌, sym, subst, ⊤, if◌then◌else◌, false≢true, is_some, Option}
 use Rattle.dm_rulelaws.proofs.Names.{None, Some, Pid, pid_of, pid_eq, MsgId, MessageKind, Stage, Boot, Label, OneKernel, PlainMessage, MoveNote, Outcome, with_sent, without_note, bind, bind-is, first_number, Step, Line, View, Told, Known}
 use Rattle.dm_rulelaws.proofs.Names.{Here, Frozen, Incoming, front_of, gone_to, handled, receiver_of, oldest, view_after, is_here, is_away, at_record, Point, label_of, kernel_after, after_line, after, moved, Part, Says, Routes, Spelled}
-use Rattle.dm_rulelaws.proofs.Names.{lines_of, puts, behind, spelled, sends_on, to_kernel, queued_known, held_known, dropped_known, forwarded_known, proto_known, by_step, by_parts, by_outcome, by_round}
-use Rattle.dm_rulelaws.proofs.Names.{ends_move-is, by_handles, by_hears, by_net, by_migrates, by_forwards, Phased, KnownStands, pid_eq-is, pid_eq-same, left_parts, served_told, migrates, filter, not, ◌+◌, answers_move, leaves_for, aim}
-use Rattle.dm_rulelaws.proofs.Names.{sets, arith}
+use Rattle.dm_rulelaws.proofs.Names.{lines_of, puts, behind, spelled, sends_on, to_kernel, queued_known, held_known, dropped_known, forwarded_known, proto_known, by_step, by_parts, by_outcome, by_round, ends_move-is, by_handles, by_hears}
+use Rattle.dm_rulelaws.proofs.Names.{by_net, by_migrates, by_forwards, Phased, KnownStands, pid_eq-is, pid_eq-same, left_parts, served_told, migrates, filter, not, ◌+◌, answers_move, leaves_for, aim, sets, arith, Each}
 use Rattle.dm_onekernel.specs.Pieces as pieces
 use Rattle.dm_onekernel.specs.Step as kernel
 use Rattle.dm_rule.specs.Rule as rule
@@ -14,7 +13,6 @@ use Rattle.dm_rulelaws.proofs.Based.Groups.{Begins, begins}
 use Rattle.dm_rulelaws.proofs.Based.Needs.{Resting}
 use Rattle.dm_rulelaws.proofs.Based.Rows.{turned, resting, unborn}
 use Rattle.dm_rulelaws.proofs.Based.Sets.{set_all, killed_or}
-use Rattle.dm_rulelaws.specs.Fits.{Each}
 
 -- all processes but one, if there is one
 abbrev pub Apart : Option Pid → Pid → Type 0

@@ -1,8 +1,7 @@
 -- What is queued for a process is a user message for it, and what is held for it is for it: each group keeps it.
-use Rattle.dm_rulelaws.proofs.Names.{◌≡◌, ℕ, ◌≤◌, Bool, true, false, List, [], ◌∷◌, ◌++◌, refl, ◌∙◌, sym, subst, arith, false≢true, Option, None, Some, Pid, MsgId, MessageKind, plain_kind, PlainMessage, PlainWhat, id_eq-is}
-use Rattle.dm_rulelaws.proofs.Names.{Point, at_record, without_id, to_of, Spot, Queue, times, standing, StandsAsBag, View, Told, handled, receiver_of, served_told, is_kernels, letters, letters_bag}
-use Rattle.dm_rulelaws.proofs.Names.{kernels_fresh, Phased, told_some, zero_cases, ◌+◌, ap, if◌then◌else◌, Label, Line, Stage, Known, Here, Frozen, Incoming, handled_first, front_of, gone_to, rejoins, ListsStand}
-use Rattle.dm_rulelaws.proofs.Names.{has_no_queue, has_nothing_held, is_kill, aim, sets}
+use Rattle.dm_rulelaws.proofs.Names.{◌≡◌, ℕ, ◌≤◌, Bool, true, false, List, [], ◌∷◌, ◌++◌, refl, ◌∙◌, sym, subst, arith, false≢true, Option, None, Some, Pid, MsgId, MessageKind, plain_kind, PlainMessage, PlainWhat, id_eq-is, Point}
+use Rattle.dm_rulelaws.proofs.Names.{at_record, without_id, to_of, Spot, Queue, times, standing, StandsAsBag, View, Told, handled, receiver_of, served_told, is_kernels, letters, letters_bag, kernels_fresh, Phased, told_some, zero_cases}
+use Rattle.dm_rulelaws.proofs.Names.{◌+◌, ap, if◌then◌else◌, Label, Line, Stage, Known, Here, Frozen, Incoming, handled_first, front_of, gone_to, rejoins, ListsStand, has_no_queue, has_nothing_held, is_kill, aim, sets}
 use Rattle.dm_rule.specs.View.{Ended}
 use Rattle.dm_rulelaws.proofs.Queued.{IsQueued, is_user}
 use Rattle.dm_rulelaws.proofs.Based.Loud.{Loud, Stays}

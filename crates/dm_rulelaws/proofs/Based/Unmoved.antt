@@ -1,8 +1,8 @@
 -- What was never made has never moved: each group keeps it.
-use Rattle.dm_rulelaws.proofs.Names.{sets, ◌≡◌, ℕ, ◌+◌, Bool, refl, ap, ◌∙◌, sym, subst, inl, inr, if◌then◌else◌, cases_Bool, Option, None, Some, Pid, pid_eq, MsgId, Label, Line, Stage, PlainProcess, Alive, OneKernel, pid_eq-is}
-use Rattle.dm_rulelaws.proofs.Names.{after_step, Point, View, Told, handled, receiver_of, served_told, view_after, Kept, grown_none, Sane, KnownStands, ◌≢◌, ◌==◌, ◌&&◌, true, false, List}
-use Rattle.dm_rulelaws.proofs.Names.{[], ◌∷◌, ◌++◌, is_some, arith, false≢true, nat_tests, Life, bind-is, completing, at_machine, at_record, without, moved_back, Known, Unknown, Here, Frozen, Incoming, Forward, handled_first, front_of}
-use Rattle.dm_rulelaws.proofs.Names.{gone_to, rejoins, is_away, is_here, at_machine_at, is_kill, is_server, agrees, server_at, rings, turns_here, aim, at_hand-is, pid_eq-same}
+use Rattle.dm_rulelaws.proofs.Names.{sets, ◌≡◌, ℕ, ◌+◌, Bool, refl, ap, ◌∙◌, sym, subst, inl, inr, if◌then◌else◌, cases_Bool, Option, None, Some, Pid, pid_eq, MsgId, Label, Line, Stage, PlainProcess, Alive, OneKernel, pid_eq-is, after_step}
+use Rattle.dm_rulelaws.proofs.Names.{Point, View, Told, handled, receiver_of, served_told, view_after, Kept, grown_none, Sane, KnownStands, ◌≢◌, ◌==◌, ◌&&◌, true, false, List, [], ◌∷◌, ◌++◌, is_some, arith, false≢true, nat_tests, Life}
+use Rattle.dm_rulelaws.proofs.Names.{bind-is, completing, at_machine, at_record, without, moved_back, Known, Unknown, Here, Frozen, Incoming, Forward, handled_first, front_of, gone_to, rejoins, is_away, is_here, at_machine_at, is_kill}
+use Rattle.dm_rulelaws.proofs.Names.{is_server, agrees, server_at, rings, turns_here, aim, at_hand-is, pid_eq-same}
 use Rattle.dm_rule.specs.View.{Ended}
 use Rattle.dm_onekernel.specs.Step as kernel
 use Rattle.dm_rule.specs.View as view

@@ -1,8 +1,7 @@
 -- Each message stands where its receiver is known, wherever the rule leads.
 use Rattle.dm_rulelaws.proofs.Names.{◌≡◌, ◌≢◌, ℕ, ◌<◌, ◌≤◌, ◌==◌, ◌&&◌, Bool, true, false, is_some, List, [], ◌∷◌, ◌++◌, length, refl, ap, ◌∙◌, sym, subst, inl, inr, arith, if◌then◌else◌, Option, None, Some, cases_Bool, false≢true}
 use Rattle.dm_rulelaws.proofs.Names.{nat_tests, Pid, pid_eq, MsgId, PlainMessage, BootProcess, Boot, IsValid, processes_are_valid, first_life, life_at, Step, View, Told, Unknown, Here, is_kernels, known_at, first_view, Holder, Receiver}
-use Rattle.dm_rulelaws.proofs.Names.{names, to_of, IsStep, Spelled, Point, first_point, group_of, Spot, standing, stands_right, Homes-start, Phased, Goes, Named, Links, Found, machine_of, is_fixed, receiver_of, Comes}
-use Rattle.dm_rulelaws.proofs.Names.{Sender, manager}
+use Rattle.dm_rulelaws.proofs.Names.{names, to_of, IsStep, Spelled, Point, first_point, group_of, Spot, standing, stands_right, Homes-start, Phased, Goes, Named, Links, Found, machine_of, is_fixed, receiver_of, Comes, Sender, manager}
 use Rattle.dm_rule.proofs.Trails.Places.{Owns}
 use Rattle.dm_rulelaws.proofs.Fits.Start.{start_fits}
 use Rattle.dm_rulelaws.proofs.Found.Core.{KnowsAt, Knows, IsReal, AboutIs, KnownIs, LineCore, Core, known_within}

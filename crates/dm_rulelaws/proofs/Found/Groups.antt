@@ -1,9 +1,9 @@
 -- Each group keeps where addresses lead, what machines know, and where messages stand.
-use Rattle.dm_rulelaws.proofs.Names.{◌≡◌, ℕ, ◌<◌, ◌≤◌, true, false, is_some, List, ◌∷◌, refl, ap, ◌∙◌, sym, subst, inl, inr, arith, if◌then◌else◌, Option, None, Some, Pid, MsgId, PlainMessage, MessageKind, Boot, manager}
-use Rattle.dm_rulelaws.proofs.Names.{Step, id_eq-same, alive-is, Line, View, Told, Of, Unknown, Here, Frozen, Incoming, Forward, is_kernels, receiver_of, target_of, front_of, Child, Receiver, Sender, names, sender_of}
-use Rattle.dm_rulelaws.proofs.Names.{IsStep, forwards_on, migrates, Part, Owns, Spelled, Moves, is_between, is_restart, is_early, receiver_in, tells_onward, Point, group_of, Inbox, Queue, Held, times, standing, group_is}
-use Rattle.dm_rulelaws.proofs.Names.{turn_off, letters, eq_is, parts, both_lists, both_times, under_way, front_kernels, Phased, due, head_calm, InPhases, calm_phases, rooted, State, Sane, outcome_sayable, Comes, Named, Links}
-use Rattle.dm_rulelaws.proofs.Names.{child_is, source_holds, destination_expects, is_fixed, eq_self, about_same, front_one, least_of, by_migrates, by_net, by_outcome, sort_of, slice_get, option_and_then, AllSayable, spelled, by_parts}
+use Rattle.dm_rulelaws.proofs.Names.{◌≡◌, ℕ, ◌<◌, ◌≤◌, true, false, is_some, List, ◌∷◌, refl, ap, ◌∙◌, sym, subst, inl, inr, arith, if◌then◌else◌, Option, None, Some, Pid, MsgId, PlainMessage, MessageKind, Boot, manager, Step, id_eq-same}
+use Rattle.dm_rulelaws.proofs.Names.{alive-is, Line, View, Told, Of, Unknown, Here, Frozen, Incoming, Forward, is_kernels, receiver_of, target_of, front_of, Child, Receiver, Sender, names, sender_of, IsStep, forwards_on, migrates, Part}
+use Rattle.dm_rulelaws.proofs.Names.{Owns, Spelled, Moves, is_between, is_restart, is_early, receiver_in, tells_onward, Point, group_of, Inbox, Queue, Held, times, standing, group_is, turn_off, letters, eq_is, parts, both_lists, both_times}
+use Rattle.dm_rulelaws.proofs.Names.{under_way, front_kernels, Phased, due, head_calm, InPhases, calm_phases, rooted, State, Sane, outcome_sayable, Comes, Named, Links, child_is, source_holds, destination_expects, is_fixed, eq_self}
+use Rattle.dm_rulelaws.proofs.Names.{about_same, front_one, least_of, by_migrates, by_net, by_outcome, sort_of, slice_get, option_and_then, AllSayable, spelled, by_parts, part_sane}
 use Rattle.dm_rule.proofs.Groups.{begun}
 use Rattle.dm_rule.proofs.Trails.Places.{Owns}
 use Rattle.dm_rulelaws.proofs.Found.Labels.{there_known, line_core}
@@ -14,7 +14,6 @@ use Rattle.dm_rulelaws.proofs.Found.Real.{made_free, child_real, sends_real, has
 use Rattle.dm_rule.specs.Phases as phases
 use Rattle.dm_rule.specs.Rule as rule
 use Rattle.dm_rulelaws.proofs.Based.Needs.{begun as headed, begun_sane as head_sane}
-use Rattle.dm_rulelaws.proofs.Names.{part_sane}
 
 -- behind the head of a group
 pub group_core : (n : ℕ) (b : Boot) (pt : Point) (d : Step) (w : Spelled) → IsStep n d → group_of b pt d ≡ Some w → ((ps : List Part) → rule.outcome b pt d ≡ Some ps → LineCore n (headed pt d) → AllNeed n (headed pt d) ps) → Sane pt → LineCore n pt → LineCore n w.point

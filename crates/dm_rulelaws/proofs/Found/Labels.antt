@@ -6,7 +6,7 @@ use Rattle.dm_rulelaws.proofs.Names.{zero_cases, acting_dropped, ◌⊎◌, Bool
 use Rattle.dm_rulelaws.proofs.Names.{manager, bind, answer_id, id_eq-is, Addresses, Gets, landing_gets, serves_burden, board_takes_burden, manager_takes_burden, not_true, nat_tests, unentered, Sound, id_in, landed_id, served_id, board_id}
 use Rattle.dm_rulelaws.proofs.Names.{manager_id, took_id, bag_sends, bag_served, bag_gone, bag_no_space, bag_created, bag_took, spares, spares_both, two_more, made_spares, sends_spares, receives_spares, creates_what_spares, finds_spares}
 use Rattle.dm_rulelaws.proofs.Names.{keeps_spares, manager_takes_spares, KernelFits, topic_by, machine_in, bag_answered, aim, sets, not, filter, ◌==◌, Step, Stage, About, Known, Frozen, Incoming, view_after, after_head, after_stage}
-use Rattle.dm_rulelaws.proofs.Names.{after_proto, queued_for, held_for, taken_id, oldest, gone_to, front_of, label_of, kernel_after, is_put, hushed, queued_known, held_known, proto_known, proto_acting, burden_of, option_map_or}
+use Rattle.dm_rulelaws.proofs.Names.{after_proto, queued_for, held_for, taken_id, oldest, gone_to, front_of, label_of, kernel_after, is_put, hushed, queued_known, held_known, proto_known, proto_acting, burden_of, option_map_or, at_view}
 use Rattle.dm_rule.specs.View.{Ended}
 use Rattle.dm_rule.proofs.Trails.Places.{Owns}
 use Rattle.dm_rulelaws.proofs.Fits.Start.{fits_step}
@@ -23,7 +23,6 @@ use Rattle.dm_onekernel.specs.Switchboard as board
 use Rattle.dm_onekernel.specs.Manager as manage
 use Rattle.dm_rule.specs.Addresses as addresses
 use Rattle.dm_rule.specs.Given as request
-use Rattle.dm_rule.proofs.Trails.Treads.{at_view}
 
 -- what enters is none that was told of
 apart_from : (e : MsgId → ℕ) (i j : MsgId) → 1 ≤ e i → e j ≡ 0 → id_eq j i ≡ false

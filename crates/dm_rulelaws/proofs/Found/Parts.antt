@@ -1,9 +1,9 @@
 -- The parts of a group keep where messages stand, where each has what it needs.
 use Rattle.dm_rulelaws.proofs.Names.{◌≡◌, ℕ, ◌<◌, true, false, List, [], ◌∷◌, refl, ◌∙◌, sym, arith, ⊤, Option, None, Some, Pid, pid_of, MsgId, MessageKind, plain_kind, PlainMessage, PlainWhat, manager, id_eq-same, bind-is, Line, Told}
-use Rattle.dm_rulelaws.proofs.Names.{own_id, Holder, Receiver, Sender, given, goes_between, own_given, Point, moved, after, Part, Says, Routes, Again, Owns, Transmits, lines_of, puts, not_kernels, not_first, Sane, Load}
-use Rattle.dm_rulelaws.proofs.Names.{is_own, ◌+◌, ap, subst, Label, Boot, first_number, PlainProcess, Forward, forwards_on, Stops, by_round, by_handles, ◌==◌, Bool, ◌++◌, if◌then◌else◌, pid_eq, Stage}
-use Rattle.dm_rulelaws.proofs.Names.{switchboard, bind, About, Of, Known, Unknown, Here, target_of, front_of, to_kernel, accepts, takes_block, leaves, pieces_of, told_step, told_here, process_told, told_server, is_between, is_fixed}
-use Rattle.dm_rulelaws.proofs.Names.{Outcome, MoveNote, OneKernel, answers_move, leaves_for, aim, label_of, kernel_after, at_record, at_record_at, tells_asker, View, after_line, packet_line, sort_of}
+use Rattle.dm_rulelaws.proofs.Names.{own_id, Holder, Receiver, Sender, given, goes_between, own_given, Point, moved, after, Part, Says, Routes, Again, Owns, Transmits, lines_of, puts, not_kernels, not_first, Sane, Load, is_own, ◌+◌, ap}
+use Rattle.dm_rulelaws.proofs.Names.{subst, Label, Boot, first_number, PlainProcess, Forward, forwards_on, Stops, by_round, by_handles, ◌==◌, Bool, ◌++◌, if◌then◌else◌, pid_eq, Stage, switchboard, bind, About, Of, Known, Unknown, Here}
+use Rattle.dm_rulelaws.proofs.Names.{target_of, front_of, to_kernel, accepts, takes_block, leaves, pieces_of, told_step, told_here, process_told, told_server, is_between, is_fixed, Outcome, MoveNote, OneKernel, answers_move, leaves_for}
+use Rattle.dm_rulelaws.proofs.Names.{aim, label_of, kernel_after, at_record, at_record_at, tells_asker, View, after_line, packet_line, sort_of, Each}
 use Rattle.dm_rule.specs.View.{Ended}
 use Rattle.dm_rulelaws.proofs.Found.Core.{Knows, IsReal, LineCore, KnowsAt, IsAt, NeedsPut, put_core}
 use Rattle.dm_rulelaws.proofs.Based.Needs.{by_puts, said_by}
@@ -12,7 +12,6 @@ use Rattle.dm_rulelaws.proofs.Found.Labels.{NeedsLine, line_core, quiet_core}
 use Rattle.dm_onekernel.specs.Pieces as pieces
 use Rattle.dm_onekernel.specs.Step as kernel
 use Rattle.dm_rule.specs.Rule as rule
-use Rattle.dm_rulelaws.specs.Fits.{Each}
 
 -- the next message of the acting machine's kernel
 pub record NeedsOwn (n : ℕ) (pt : Point) (k : MessageKind) (q : Pid) (b : ℕ) : Type 0 where

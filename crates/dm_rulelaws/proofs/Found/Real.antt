@@ -1,6 +1,6 @@
 -- Whom addresses are of is a kernel or a server of a machine that there is, or a process that its home knows.
-use Rattle.dm_rulelaws.proofs.Names.{◌≡◌, ℕ, zero, suc, ◌<◌, ◌==◌, ◌||◌, Bool, true, false, is_some, nat_lt, List, [], ◌∷◌, refl, ap, ◌∙◌, sym, subst, inl, inr, arith, if◌then◌else◌, slice_get, Option, None, Some, nat_tests, Pid}
-use Rattle.dm_rulelaws.proofs.Names.{pid_eq, PlainLink, link_at, MsgId, PlainMessage, PlainWhat, switchboard, manager, PlainProcess, Life, Pending, Made, alive-is, View, Holder, Slot, Owner, Receiver, Sender, Enclosed, Child, Name, Answer}
+use Rattle.dm_rulelaws.proofs.Names.{◌≡◌, ℕ, zero, suc, ◌<◌, ◌==◌, ◌||◌, Bool, true, false, is_some, nat_lt, List, [], ◌∷◌, refl, ap, ◌∙◌, sym, subst, inl, inr, arith, if◌then◌else◌, slice_get, Option, None, Some, nat_tests, Pid, pid_eq}
+use Rattle.dm_rulelaws.proofs.Names.{PlainLink, link_at, MsgId, PlainMessage, PlainWhat, switchboard, manager, PlainProcess, Life, Pending, Made, alive-is, View, Holder, Slot, Owner, Receiver, Sender, Enclosed, Child, Name, Answer}
 use Rattle.dm_rulelaws.proofs.Names.{link_target, slot_of, owner_of, answer_link, to_of, sender_of, names, Point, Each, has_bytes, is_server, LinkFits, awaits, is_fixed, or_first, MoveNote, AskedBy, asker_in}
 use Rattle.dm_onekernel.specs.Manager as manage
 use Rattle.dm_onekernel.specs.Step as kernel

@@ -1,7 +1,7 @@
 -- Wherever all of it holds, each directive has its group.
 use Rattle.dm_rulelaws.proofs.Names.{◌≡◌, ◌≢◌, ℕ, ◌+◌, ◌≤◌, ◌==◌, ◌&&◌, ◌||◌, Bool, true, false, not, List, [], ◌∷◌, refl, ap, ◌∙◌, sym, is_some, inl, inr, arith, ⊤, if◌then◌else◌, Option, None, Some, false≢true, Pid, pid_eq, MsgId}
 use Rattle.dm_rulelaws.proofs.Names.{PlainMessage, Boot, IsValid, Step, Line, MessageKind, child_from, child_number, migrates, Point, moved, Spelled, group_of, Spot, Queue, Inbox, standing, StandsOutside, Target, is_kernels, IsStep}
-use Rattle.dm_rulelaws.proofs.Names.{arrives_net, resends_net, stands_right, StandsAsBag-elsewhere, Each, has_bytes, is_server, is_fixed, Life, OneKernel, pid_eq-is, cases_Bool, by_migrates, rooted}
+use Rattle.dm_rulelaws.proofs.Names.{arrives_net, resends_net, stands_right, StandsAsBag-elsewhere, Each, has_bytes, is_server, is_fixed, Life, OneKernel, pid_eq-is, cases_Bool, by_migrates, rooted, is_inbox}
 pub use Rattle.dm_rule.proofs.Moves.States.{front_one as stands_first}
 use Rattle.dm_rule.specs.Rule as rule
 use Rattle.dm_rule.specs.View as view
@@ -14,7 +14,6 @@ use Rattle.dm_rulelaws.proofs.Goes.Front.{here_free, begun, begun_sane, Calm, Ca
 use Rattle.dm_rulelaws.proofs.Goes.Servers.{can_handle}
 use Rattle.dm_rulelaws.proofs.Goes.Own.{FrontOwn, can_hear}
 pub use Rattle.dm_rulelaws.proofs.Found.Groups.{told_there, told_there as told_of}
-use Rattle.dm_rule.proofs.Lines.{is_inbox}
 
 -- the message at the front of an inbox
 pub queue_apart : (m n : ℕ) (p : Pid) → Queue n p ≢ Inbox m

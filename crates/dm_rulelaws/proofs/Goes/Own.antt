@@ -1,9 +1,9 @@
 -- A kernel's own message at the front of the inbox can be handled.
 use Rattle.dm_rulelaws.proofs.Names.{◌≡◌, ◌≢◌, ℕ, ◌/◌, ◌≤◌, ◌==◌, ◌&&◌, ◌||◌, Bool, true, false, not, List, [], ◌∷◌, ◌++◌, length, refl, ap, ◌∙◌, sym, subst, is_some, arith, if◌then◌else◌, Option, None, Some, false≢true, nat_tests, Pid}
 use Rattle.dm_rulelaws.proofs.Names.{pid_eq, MsgId, MessageKind, Line, Stage, Boot, switchboard, manager, bind, PlainProcess, Life, Alive, View, Told, Of, Known, Unknown, Here, Frozen, Forward, is_kernels, target_of, to_kernel, forwards_on}
-use Rattle.dm_rulelaws.proofs.Names.{accepts, takes_chunk, takes_block, gives_piece, told_step, chunks_of, pieces_of, updates, told_here, process_told, told_server, sends_on, fits, free_room, kernel_hears, hears, is_between}
-use Rattle.dm_rulelaws.proofs.Names.{is_restart, kind_comes, knows, is_away, Moves, sender_in, receiver_in, told_between, IsIn, Point, Part, Says, Spot, Queue, Held, Inbox, times, standing, token_is, token_at, is_server, is_fixed, first_of}
-use Rattle.dm_rulelaws.proofs.Names.{eq_self, inbox_is, about_same, kind_leaves, Label, MoveNote, Outcome, label_of, with_label, is_put, moved, answers_move, tells_asker, sort_of, leaves_for, About, second}
+use Rattle.dm_rulelaws.proofs.Names.{accepts, takes_chunk, takes_block, gives_piece, told_step, chunks_of, pieces_of, updates, told_here, process_told, told_server, sends_on, fits, free_room, kernel_hears, hears, is_between, is_restart}
+use Rattle.dm_rulelaws.proofs.Names.{kind_comes, knows, is_away, Moves, sender_in, receiver_in, told_between, IsIn, Point, Part, Says, Spot, Queue, Held, Inbox, times, standing, token_is, token_at, is_server, is_fixed, first_of, eq_self}
+use Rattle.dm_rulelaws.proofs.Names.{inbox_is, about_same, kind_leaves, Label, MoveNote, Outcome, label_of, with_label, is_put, moved, answers_move, tells_asker, sort_of, leaves_for, About, second, Each}
 use Rattle.dm_rulelaws.proofs.Runs.{Run}
 use Rattle.dm_rulelaws.proofs.Own.Told.{OwnTold, own_sort, own_server, NoOwns, ThenOwns, forwarded_place, forwards_own, accepts_own, piece_own, chunk_own, block_own, moves_own, sends_own, about_of}
 use Rattle.dm_rulelaws.proofs.Goes.Parts.{IsPlain, Can, can_as, can_plain, does_line, Quiet, no_receive}
@@ -13,7 +13,6 @@ use Rattle.dm_onekernel.specs.Service as service
 use Rattle.dm_onekernel.specs.Step as kernel
 use Rattle.dm_rule.specs.Migrating as migrating
 use Rattle.dm_rule.specs.Rule as rule
-use Rattle.dm_rulelaws.specs.Fits.{Each}
 
 -- it was told of
 pub record FrontOwn (b : Boot) (m : ℕ) (o : Point) (i : MsgId) : Type 0 where

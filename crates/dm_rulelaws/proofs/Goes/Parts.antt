@@ -2,7 +2,7 @@
 use Rattle.dm_rulelaws.proofs.Names.{after_line, ◌≡◌, ℕ, ◌==◌, not, filter, arith, Bool, true, false, List, [], ◌∷◌, ◌++◌, length, refl, ap, ◌∙◌, sym, subst, is_some, ⊤, if◌then◌else◌, Option, None, Some, Pid, MsgId, MessageKind}
 use Rattle.dm_rulelaws.proofs.Names.{plain_kind, PlainMessage, Boot, Label, OneKernel, bind, Step, Line, Load, View, Told, view_after, own_id, Receiver, Point, labels, with_label, label_of, kernel_after, after, moved, Part, Says, Routes}
 use Rattle.dm_rulelaws.proofs.Names.{Again, Owns, Transmits, Spelled, lines_of, puts, packet_line, behind, spelled, group_of, outcome, Pair, counts, IsNetLine, IsNet, is_put, hushed, Sane, sane_line, part_sane, AskNone, seen, topic_by}
-use Rattle.dm_rulelaws.proofs.Names.{seen_none, after_label, after_step}
+use Rattle.dm_rulelaws.proofs.Names.{seen_none, after_label, after_step, by_net, Each}
 use Rattle.dm_rulelaws.proofs.Order.Lines.{thin_same, box_same, Which, Ord, ord_view, Last, thin_label, ord_step, was_told, counts_grown}
 use Rattle.dm_rulelaws.proofs.Queued.{is_user}
 use Rattle.dm_rulelaws.proofs.Order.Puts.{thin_pair, ord_put, ord_taken}
@@ -11,9 +11,7 @@ use Rattle.dm_onekernel.specs.Step as kernel
 use Rattle.dm_rule.specs.View as view
 use Rattle.dm_rule.specs.Rule as rule
 pub use Rattle.dm_rulelaws.proofs.Found.Groups.{told_there, told_there as some_is}
-use Rattle.dm_rule.proofs.Outcomes.{by_net}
 use Rattle.dm_rulelaws.proofs.Fits.Rises.{Each-on}
-use Rattle.dm_rulelaws.specs.Fits.{Each}
 
 -- the labels that parts say
 abbrev pub part_says : Part → List Label → List Label

@@ -1,6 +1,6 @@
 -- Laws of runs, from what holds at their start and is kept by each group.
-use Rattle.dm_rulelaws.proofs.Names.{◌≡◌, ℕ, ◌≤◌, true, List, [], ◌∷◌, subst, nat_le, arith, nat_tests, None, Some, MsgId, Boot, IsValid, Step, is_for_home, Spelled, Point, first_point, group_of, IsStep, IsStill, Leads, Home}
-use Rattle.dm_rulelaws.proofs.Names.{stands, kernels_fresh, for_home}
+use Rattle.dm_rulelaws.proofs.Names.{◌≡◌, ℕ, ◌≤◌, true, List, [], ◌∷◌, subst, nat_le, arith, nat_tests, None, Some, MsgId, Boot, IsValid, Step, is_for_home, Spelled, Point, first_point, group_of, IsStep, IsStill, Leads, Home, stands}
+use Rattle.dm_rulelaws.proofs.Names.{kernels_fresh, for_home}
 use Rattle.dm_rulelaws.proofs.Fits.Rises.{both}
 use Rattle.dm_rulelaws.proofs.Runs.{Run}
 use Rattle.dm_rulelaws.proofs.Own.Told.{OwnTold}

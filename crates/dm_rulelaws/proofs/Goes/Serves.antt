@@ -2,7 +2,7 @@
 use Rattle.dm_rulelaws.proofs.Names.{◌≡◌, ℕ, zero, suc, ◌+◌, ◌≤◌, ◌==◌, ◌&&◌, Bool, true, false, List, [], ◌∷◌, refl, ap, ◌∙◌, sym, is_some, nat_lt, inl, inr, arith, if◌then◌else◌, Option, None, Some, cases_Bool, false≢true, nat_tests, Pid}
 use Rattle.dm_rulelaws.proofs.Names.{pid_eq, MsgId, id_eq, Label, Why, Line, PlainMessage, PlainWhat, on_mask, instruction, Boot, Reply, reply_eq, reply_code, why_code, bind, when, PlainProcess, PlainStatus, Ready, Waiting, Alive, Ended}
 use Rattle.dm_rulelaws.proofs.Names.{OneKernel, with_process, with_sent, without_message, id_eq-is, id_eq-same, pid_eq-same, sent_at, bind-is, alive-is, counts, Point, moved, Part, Routes, times, is_kernels, not_kernels, switchboard}
-use Rattle.dm_rulelaws.proofs.Names.{manager, not_server, nexts, are_home, Sane, eq_self, not_is, zero_if, runnable_home, burden_of, option_map_or}
+use Rattle.dm_rulelaws.proofs.Names.{manager, not_server, nexts, are_home, Sane, eq_self, not_is, zero_if, runnable_home, burden_of, option_map_or, Each}
 use Rattle.dm_rulelaws.proofs.Fits.Rises.{both, set_at}
 use Rattle.dm_rulelaws.proofs.Goes.Parts.{said, no_receive, Shape, Quiet, Takes, Does, does_nothing, does_label, does_route, sane_by, Can, can_line}
 use Rattle.dm_rulelaws.proofs.Own.Told.{HasNoOwn}
@@ -12,7 +12,6 @@ use Rattle.dm_onekernel.specs.Calls as calls
 use Rattle.dm_onekernel.specs.Receiving as receiving
 use Rattle.dm_onekernel.specs.Step as kernel
 use Rattle.dm_rule.specs.Rule as rule
-use Rattle.dm_rulelaws.specs.Fits.{Each}
 
 -- a process that executes
 pub running_of : (s : OneKernel) (p : Pid) (x : PlainProcess) → s.processes p ≡ Some (Alive x) → s.notes p ≡ None → x.stopped ≡ false → x.status ≡ Ready → kernel.running s p ≡ Some x

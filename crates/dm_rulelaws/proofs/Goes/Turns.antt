@@ -1,7 +1,7 @@
 -- What is queued for a process can go with it.
 use Rattle.dm_rulelaws.proofs.Names.{◌≡◌, ℕ, ◌+◌, ◌≤◌, Bool, true, false, List, [], ◌∷◌, refl, ap, ◌∙◌, sym, subst, arith, ⊤, if◌then◌else◌, Option, None, Some, Pid, MsgId, id_eq, Label, Line, PlainMessage, PlainWhat, Boot, Why, Ended}
 use Rattle.dm_rulelaws.proofs.Names.{OneKernel, without_message, is_dropped, id_eq-is, id_eq-same, out_off, Point, moved, Spot, Queue, times, standing, StandsNowhere, StandsOutside, StandsRight, is_kernels, stands_right, kernels_fresh}
-use Rattle.dm_rulelaws.proofs.Names.{not_true, StandsAsBag-one, MoveNote, PlainProcess, Alive}
+use Rattle.dm_rulelaws.proofs.Names.{not_true, StandsAsBag-one, MoveNote, PlainProcess, Alive, Each}
 pub use Rattle.dm_rule.proofs.Phases.Leaves.{first_of as times_self}
 use Rattle.dm_onekernel.specs.Step as kernel
 use Rattle.dm_rule.specs.Rule as rule
@@ -9,7 +9,6 @@ use Rattle.dm_rulelaws.proofs.Queued.{is_user}
 use Rattle.dm_rulelaws.proofs.Runs.{Based}
 use Rattle.dm_rulelaws.proofs.Goes.Parts.{said, no_receive, Does, does_nothing, does_label}
 use Rattle.dm_rulelaws.proofs.Own.Told.{HasNoOwn}
-use Rattle.dm_rulelaws.specs.Fits.{Each}
 
 -- a user message of the bag for a process
 pub record IsFor (s : OneKernel) (p : Pid) (i : MsgId) : Type 0 where

@@ -1,16 +1,13 @@
 -- Each group keeps what was told of kernels' own messages.
-use Rattle.dm_rulelaws.proofs.Names.{◌≡◌, ℕ, Bool, true, false, List, [], ◌∷◌, refl, ap, ◌∙◌, sym, subst, inl, inr, ⊤, if◌then◌else◌, Option, None, Some, cases_Bool, false≢true, Pid, MsgId, MessageKind, id_eq, plain_kind, Boot}
-use Rattle.dm_rulelaws.proofs.Names.{id_eq-is, bind-is, Step, Line, Stage, Receiver, Point, label_of, kernel_after, after_line, after, moved, Part, Says, Routes, Again, Owns, Transmits, Spelled, lines_of, puts, packet_line}
-use Rattle.dm_rulelaws.proofs.Names.{spelled, group_of, View, About, Told, view_after, is_kernels, own_id, is_put, hushed, not_kernels, put_told_off, Sane, sane_line, part_sane, Sayable, AllSayable, outcome_sayable, seen_none, sets}
-use Rattle.dm_rulelaws.proofs.Names.{arith}
+use Rattle.dm_rulelaws.proofs.Names.{◌≡◌, ℕ, Bool, true, false, List, [], ◌∷◌, refl, ap, ◌∙◌, sym, subst, inl, inr, ⊤, if◌then◌else◌, Option, None, Some, cases_Bool, false≢true, Pid, MsgId, MessageKind, id_eq, plain_kind, Boot, id_eq-is}
+use Rattle.dm_rulelaws.proofs.Names.{bind-is, Step, Line, Stage, Receiver, Point, label_of, kernel_after, after_line, after, moved, Part, Says, Routes, Again, Owns, Transmits, Spelled, lines_of, puts, packet_line, spelled, group_of, View}
+use Rattle.dm_rulelaws.proofs.Names.{About, Told, view_after, is_kernels, own_id, is_put, hushed, not_kernels, put_told_off, Sane, sane_line, part_sane, Sayable, AllSayable, outcome_sayable, seen_none, sets, arith, by_parts, Each}
 use Rattle.dm_rule.specs.View as view
 use Rattle.dm_rulelaws.proofs.Runs.{Run}
 use Rattle.dm_rulelaws.proofs.Own.Told.{OwnTold, own_sort, HasNoOwn, topic_stage, Later, OwnsFit, senders_step, NoOwns, FirstOwns, ThenOwns, AnyOwns}
 use Rattle.dm_rulelaws.proofs.Goes.Parts.{put_lines}
 use Rattle.dm_rulelaws.proofs.Goes.Always.{group_on}
 use Rattle.dm_rulelaws.proofs.Based.Needs.{by_puts}
-use Rattle.dm_rule.proofs.Outcomes.{by_parts}
-use Rattle.dm_rulelaws.specs.Fits.{Each}
 
 -- a line that is no put
 own_line : (pt next : Point) (l : Line) → is_put l ≡ false → after_line pt l ≡ Some next → Sane pt → OwnTold pt → OwnTold next

@@ -1,8 +1,8 @@
 -- What was told of kernels' own messages, and who sends what is told back.
-use Rattle.dm_rulelaws.proofs.Names.{◌≡◌, ◌==◌, ◌&&◌, Bool, true, false, not, refl, ap, ◌∙◌, sym, Some, false≢true, Pid, MsgId, MessageKind, plain_kind, PlainMessage, is_told_back, Point, About, Target, Of, Told, is_kernels}
-use Rattle.dm_rulelaws.proofs.Names.{is_server, is_fixed, Sort, sort_of, arith, ℕ, List, [], ◌∷◌, ◌++◌, ⊤, if◌then◌else◌, Option, None, pid_of, Line, Stage, Addresses, Sender, to_kernel, forwards_on, accepts, takes_chunk}
-use Rattle.dm_rulelaws.proofs.Names.{takes_block, gives_piece, sends_on, label_of, Part, Says, Routes, Again, Owns, Transmits, View, Known, Forward, view_after, handled, receiver_of, Label, ◌⊎◌, subst, is_some, length, inl, inr, take, drop}
-use Rattle.dm_rulelaws.proofs.Names.{PlainWhat, switchboard, manager, Switchboard, Manager, OneKernel, with_sent, answer_to, without_message, Made, came, stayed, lands-is, Sound, by_step, answer_id, without_note, MoveNote}
+use Rattle.dm_rulelaws.proofs.Names.{◌≡◌, ◌==◌, ◌&&◌, Bool, true, false, not, refl, ap, ◌∙◌, sym, Some, false≢true, Pid, MsgId, MessageKind, plain_kind, PlainMessage, is_told_back, Point, About, Target, Of, Told, is_kernels, is_server}
+use Rattle.dm_rulelaws.proofs.Names.{is_fixed, Sort, sort_of, arith, ℕ, List, [], ◌∷◌, ◌++◌, ⊤, if◌then◌else◌, Option, None, pid_of, Line, Stage, Addresses, Sender, to_kernel, forwards_on, accepts, takes_chunk, takes_block, gives_piece}
+use Rattle.dm_rulelaws.proofs.Names.{sends_on, label_of, Part, Says, Routes, Again, Owns, Transmits, View, Known, Forward, view_after, handled, receiver_of, Label, ◌⊎◌, subst, is_some, length, inl, inr, take, drop, PlainWhat, switchboard}
+use Rattle.dm_rulelaws.proofs.Names.{manager, Switchboard, Manager, OneKernel, with_sent, answer_to, without_message, Made, came, stayed, lands-is, Sound, by_step, answer_id, without_note, MoveNote, Each}
 use Rattle.dm_rule.specs.View.{Place}
 use Rattle.dm_rule.specs.View as view
 use Rattle.dm_onekernel.specs.Pieces as pieces
@@ -11,7 +11,6 @@ use Rattle.dm_onekernel.specs.Manager as manage
 use Rattle.dm_onekernel.specs.Service as service
 use Rattle.dm_onekernel.specs.Step as step
 use Rattle.dm_rulelaws.proofs.Takes.{by_manager, by_over}
-use Rattle.dm_rulelaws.specs.Fits.{Each}
 
 abbrev pub is_process : About → Bool
 is_process (Of p) = true
