@@ -35,7 +35,7 @@ pub use Rattle.dm_rule.proofs.Lines.{at_machine_off, at_record_off, past_place, 
 pub use Rattle.dm_rule.proofs.Moves.Lists.{emptied}
 pub use Rattle.dm_rule.proofs.Moves.Rows.{accepted_off, asked_off, frozen_off, home_again, home_off, lacks_off, left_off, memory_off, proto_off, restarted_off, state_off}
 pub use Rattle.dm_rule.proofs.Moves.Sent.{least_of as either, fits_packet, fits_put, line_next}
-pub use Rattle.dm_rule.proofs.Moves.States.{kernels_by, packet_off}
+pub use Rattle.dm_rule.proofs.Moves.States.{kernels_by}
 pub use Rattle.dm_rule.proofs.Names.{About, Addresses, AddressesOn, Again, Answer, Child, Enclosed, Ended, Forward, Frozen, Gets, Held, Here, Holder, Inbox, Incoming, IsIn, IsOn, IsQuiet, IsStep, IsToken, Known, Leads, LifeGrows, Line}
 pub use Rattle.dm_rule.proofs.Names.{Load, MessageKind, Moves, Name, NamedLink, NothingElse, Nowhere, Of, Over, Owner, Owns, Pair, Part, Phase, Place, Point, Queue, Receiver, Rests, Routes, Says, Sender, ServerSends, Slot, Sort, Sound}
 pub use Rattle.dm_rule.proofs.Names.{Spares, Spelled, Spot, Stage, StandsOutside, StandsRight, Step, StoodOnTrail, Target, Told, Trail, Trails, TrailsAlways, Transmits, Trodden, Unknown, Untaken, View, accepts, actor, addresses_after}
@@ -69,7 +69,7 @@ pub use Rattle.dm_rule.proofs.Phases.Start.{start_known}
 pub use Rattle.dm_rule.proofs.Said.{fits_as}
 pub use Rattle.dm_rule.proofs.Seen.{about_off}
 pub use Rattle.dm_rule.proofs.Serving.{Loose, loose_handles, loose_round}
-pub use Rattle.dm_rule.proofs.States.{PacketsKeep, PairsFit, said as last_point, puts_next, said, says_next}
+pub use Rattle.dm_rule.proofs.States.{PacketsKeep, PairsFit, packet_off, puts_next, said, said as last_point, says_next}
 pub use Rattle.dm_rule.proofs.Trails.Along.{Carries, along_treads, trails_always_by}
 pub use Rattle.dm_rule.proofs.Trails.Found.{treads_start}
 pub use Rattle.dm_rule.proofs.Trails.Known.{get_at_end}
