@@ -164,11 +164,10 @@ module _ (b : Boot) (w : WorldState) (pt : Point) (l : Placed) (h : History) (a 
       )
   may_with p (Ack n) low_a low_c is loads acts readable =
       let e : load_at (h.packets a c) k ≡ Some (Ack n) = load_is (h.packets a c) k (Some p) is ∙ ap Some loads in
-      let come = MayCome-stands (stream_of w h c a) (s.pairs c a c_in a_in (λ e. apart (sym e))).stream in
       may_read p (Ack n) (Packet.Ack a c n) is loads (reads_ack a c n low_a low_c apart (small_ack b w pt l h a c k s counted a_in c_in apart n e)) (
         refl,
         (
-          record { acts = acts; from = (low_a, λ same. apart (same ∙ (s.nodes c c_in).kernel.here)); fits = come.ack k n e },
+          record { acts = acts; from = (low_a, λ same. apart (same ∙ (s.nodes c c_in).kernel.here)); fits = (MayCome-stands (stream_of w h c a) (s.pairs c a c_in a_in (λ e. apart (sym e))).stream).ack k n e },
           sym (s.nodes c c_in).kernel.here,
         ),
       )

@@ -31,8 +31,7 @@ around_of : TablesAlways → (b : Boot) (es : List Step) (w : WorldState) (pt : 
 around_of tables b es w pt l h valid leads st = record {
   nodes = λ n lt. ((w.nodes n).kernel, (st.nodes n lt).kernel);
   tables = λ p x there.
-      let alive : kernel.alive (pt.kernel.processes p) ≡ Some (plain_process x) = st.mirrors.plain.processes p ∙ ap (option_map plain_process) there in
-      sym (length-map x.table (option_map plain_link)) ∙ tables b es pt p (plain_process x) valid leads (alive-is (pt.kernel.processes p) (plain_process x) alive);
+      sym (length-map x.table (option_map plain_link)) ∙ tables b es pt p (plain_process x) valid leads (alive-is (pt.kernel.processes p) (plain_process x) (st.mirrors.plain.processes p ∙ ap (option_map plain_process) there));
 }
 
 turn_stands : TablesAlways → (b : Boot) (es : List Step) (w : WorldState) (pt : Point) (m : ℕ) → IsValid b → Leads b (first_point b) es pt → Stands b w pt → m < length b.machines → MayStep b w (Step.Turn m) → AreWhole w (Step.Turn m) → Steps b w pt (Step.Turn m)

@@ -59,33 +59,10 @@ module _ (b : Boot) (pt : Point) (l : Placed) (w : WorldState) (h : History) (m 
       let off : ((m == c) && (c == m)) ≡ false = both_false (m == c) (c == m) (apart_is m c apart) in
       let senders : Senders w m c (at_machine w.nodes m (node_gave w m c x)) (with_given ((w.nodes m).senders c) x) = one_sender w m c (node_gave w m c x) (with_given ((w.nodes m).senders c) x) refl refl in
       pairs_are b pt next l w (world_gave w m c x) h (with_gift h m c x) m c
-      (pair_stands b next l (world_gave w m c x) (with_gift h m c x) m c (stream_gave (stream_of w h m c) x) (w.wires m c) (pair_gave (pt.view.pair m c) x) (record {
-        sender = senders.here;
-        receiver = senders.receivers m c;
-        given = pair_here h.given m c _;
-        out = refl;
-        back = refl;
-        wire = refl;
-        pair = pair_here pt.view.pair m c _ ∙ routed_apart m c (pt.view.pair m c) x (apart_is m c apart);
-      }) there)
-      (pair_stands b next l (world_gave w m c x) (with_gift h m c x) c m (stream_of w h c m) (w.wires c m) (pt.view.pair c m) (record {
-        sender = senders.others c m off;
-        receiver = senders.receivers c m;
-        given = pair_other h.given m c _ c m off;
-        out = refl;
-        back = refl;
-        wire = refl;
-        pair = pair_other pt.view.pair m c _ c m off;
-      }) (joined b pt l w h c m back))
-      (λ a d e f. record {
-        sender = senders.others a d e;
-        receiver = senders.receivers a d;
-        given = pair_other h.given m c _ a d e;
-        out = refl;
-        back = refl;
-        wire = refl;
-        pair = pair_other pt.view.pair m c _ a d e;
-      })
+      (pair_stands b next l (world_gave w m c x) (with_gift h m c x) m c (stream_gave (stream_of w h m c) x) (w.wires m c) (pair_gave (pt.view.pair m c) x)
+      (search (senders.here, senders.receivers m c, pair_here h.given m c (h.given m c ++ x ∷ []), pair_here pt.view.pair m c (routed_on m c (pt.view.pair m c) x.id) ∙ routed_apart m c (pt.view.pair m c) x (apart_is m c apart))) there)
+      (pair_stands b next l (world_gave w m c x) (with_gift h m c x) c m (stream_of w h c m) (w.wires c m) (pt.view.pair c m) (search (senders.others c m off, senders.receivers c m, pair_other, off)) (joined b pt l w h c m back))
+      (λ a d e f. search (senders.others a d e, senders.receivers a d, pair_other, e))
 
   own_apart : m ≢ c → (d : ℕ) → ((m == d) && (c == d)) ≡ false
   own_apart apart d = grind (arith, nat_tests)
@@ -122,7 +99,8 @@ due_stands b pt l w h m c n x apart small less out st =
     let g : NodeState = with_sender (w.nodes m) c s in
     stands_put b pt l w h m c (at_machine w.nodes m g) s (Load.Data n x) apart (one_sender w m c g s refl refl) (λ z e. at_other w.nodes m g z e) (λ d. same_records w m g d (m == d) refl refl)
     (subst (λ (z : NodeState). NodeStands b (point_put pt m c (Load.Data n x)) l m z) (sym (at_here w.nodes m g))
-    (node_streams b (point_put pt m c (Load.Data n x)) l m (w.nodes m) g.senders (w.nodes m).receivers (node_same b pt l (after_packet pt.view m c (load.Data n)) m (w.nodes m) refl (ids_same pt.view.pair m c _ refl m m) (st.nodes m small))))
+    (node_streams b (point_put pt m c (Load.Data n x)) l m (w.nodes m) g.senders (w.nodes m).receivers
+    (node_same b pt l (after_packet pt.view m c (load.Data n)) m (w.nodes m) refl (ids_same pt.view.pair m c _ refl m m) (st.nodes m small))))
     (went_out b l.bag m c (stream_of w h m c) (w.wires m c) (pt.view.pair m c) n x out (joined b pt l w h m c (st.pairs m c small less apart)))
     (put_back b l.bag c m (stream_of w h c m) (w.wires c m) (pt.view.pair c m) n x (joined b pt l w h c m (st.pairs c m less small (λ e. apart (sym e))))) st
 

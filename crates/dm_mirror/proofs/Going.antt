@@ -64,10 +64,9 @@ goes_on b ds gs pt left w n valid machines r is fits may g again =
 
 pub run_goes_on_by : StepsStand → RunGoesOn
 run_goes_on_by steps b ds gs pt left w n valid r is =
-    let due : next_step pt.kernel.machines pt.view left ≡ Some n = sym (next_is_said b r.steps w pt left valid r.leads r.stands r.todo) ∙ is in
     let fits = next_fits (length b.machines) (world.world_undelivered w) (world.world_has_mail w) (world.world_is_quiet (length b.machines) w) left n r.todo is in
     let (may, does) = steps b r.steps w pt n.step valid r.leads r.stands r.able r.readable fits.step in
-    record { may = may; steps = does; on = λ g. goes_on b ds gs pt left w n valid (machines_stay b r.steps pt valid r.leads) r due fits may g }
+    record { may = may; steps = does; on = λ g. goes_on b ds gs pt left w n valid (machines_stay b r.steps pt valid r.leads) r (sym (next_is_said b r.steps w pt left valid r.leads r.stands r.todo) ∙ is) fits may g }
 
 -- A run of directives is a run of more of them, as far as it has come.
 

@@ -32,7 +32,9 @@ module _ (b : Boot) (pt : Point) (l : Placed) (w : WorldState) (h : History) (m 
 
   node_more : l.bag x.id ≡ Some x → IsLawfulMessage x → NodeStands b pt l m (w.nodes m) → NodeStands b next l m (node_home (w.nodes m) x)
   node_more there lawful h = record {
-    kernel = kernel_box b pt l gave m (w.nodes m).kernel ((w.nodes m).kernel.inbox ++ x ∷ []) (subst (λ (is : List MsgId). AreMessages l.bag is ((w.nodes m).kernel.inbox ++ x ∷ [])) (sym ((λ i. box_is i m) ∙ at_here pt.view.inbox m (pt.view.inbox m ++ x.id ∷ []))) (messages_push l.bag (pt.view.inbox m) (w.nodes m).kernel.inbox x.id x h.kernel.inbox there)) h.kernel;
+    kernel = kernel_box b pt l gave m (w.nodes m).kernel ((w.nodes m).kernel.inbox ++ x ∷ [])
+        (subst (λ (is : List MsgId). AreMessages l.bag is ((w.nodes m).kernel.inbox ++ x ∷ [])) (sym ((λ i. box_is i m) ∙ at_here pt.view.inbox m (pt.view.inbox m ++ x.id ∷ [])))
+        (messages_push l.bag (pt.view.inbox m) (w.nodes m).kernel.inbox x.id x h.kernel.inbox there)) h.kernel;
     lawful = lawful_more (w.nodes m).kernel x lawful h.lawful;
     machines = h.machines;
     numbers = h.numbers;
@@ -49,14 +51,10 @@ module _ (b : Boot) (pt : Point) (l : Placed) (w : WorldState) (h : History) (m 
             (subst (λ (n : NodeState). NodeStands b next l m n) (sym (at_here w.nodes m (node_home (w.nodes m) x))) (node_more there lawful (st.nodes m small)))
             d (st.nodes d few);
         pairs = λ a d few less differ.
-            pair_stays b pt next l w after h h a d (record {
-              sender = part_if (λ (n : NodeState). n.senders d) w.nodes m a (node_home (w.nodes m) x) (m == a) refl refl;
-              receiver = part_if (λ (n : NodeState). n.receivers a) w.nodes m d (node_home (w.nodes m) x) (m == d) refl refl;
-              given = refl;
-              out = refl;
-              back = refl;
-              wire = refl;
-              pair = pair_other pt.view.pair m m _ a d (grind (arith, nat_tests));
-            }) (st.pairs a d few less differ);
+            pair_stays b pt next l w after h h a d (search (
+              part_if (λ (n : NodeState). n.senders d) w.nodes m a (node_home (w.nodes m) x) (m == a) refl refl,
+              part_if (λ (n : NodeState). n.receivers a) w.nodes m d (node_home (w.nodes m) x) (m == d) refl refl,
+              pair_other pt.view.pair m m (routed_on m m (pt.view.pair m m) x.id) a d (grind (arith, nat_tests)),
+            )) (st.pairs a d few less differ);
         counts = λ a d. more_if b pt.view.pair m m a d (routed_on m m (pt.view.pair m m) x.id) ((m == a) && (m == d)) refl (one_more b (pt.view.pair m m) x (st.counts m m) full) (st.counts a d);
       }

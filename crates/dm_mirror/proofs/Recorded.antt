@@ -21,5 +21,6 @@ recorded_as pt l p queue held (Forward at moves) (Some (Record.Forward to count)
 recorded_as pt l p queue held Ended (Some (Record.Ended y)) h = (y, refl, h)
 recorded_as pt l p queue held k r h = absurd h
 
-pub recorded : (b : Boot) (pt : Point) (l : Placed) (m : ℕ) (k : KernelState) (p : Pid) (w : Known) → KernelStands b pt l m k → is_server p ≡ false → pt.view.known m p ≡ w → Recorded pt l p (pt.view.queue m p) (pt.view.held m p) w (k.records p)
+pub recorded : (b : Boot) (pt : Point) (l : Placed) (m : ℕ) (k : KernelState) (p : Pid) (w : Known) → KernelStands b pt l m k → is_server p ≡ false → pt.view.known m p ≡ w
+    → Recorded pt l p (pt.view.queue m p) (pt.view.held m p) w (k.records p)
 recorded b pt l m k p w h server is = recorded_as pt l p (pt.view.queue m p) (pt.view.held m p) w (k.records p) (subst (λ (j : Known). KnownStands pt l p (pt.view.queue m p) (pt.view.held m p) j (k.records p)) is (h.known p server))

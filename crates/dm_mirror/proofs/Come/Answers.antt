@@ -75,14 +75,13 @@ lacks_row b m pt l records k y p c a is handles none =
     let r = free_room b pt m in
     let free = free_as k.room (slice_get b.machines m) (taken_at pt m pt.kernel.machines) c.stands.room in
     let box = drop 1 (v.inbox m) in
-    let next = come_point pt (come_view v m p box v.known v.asked) in
     turns_answer b m pt l records k y p c a (search (
       turn_kernel b m pt l records k y p c a (accepts b s y p (length a.process.memory / 256) a.process.moves (length (state_of a.process)) (l.notes p) false) handles,
       outcome_kernel b m pt l records k y p c a _ (ap (λ (k : MessageKind). told_step pt m y.id p (fits r (length a.process.memory / 256)) (plain_process a.process) (sort_of k)) is ∙ ap (λ (d : Bool). Some (rule_moves.accepts y.id.from.home p d r.slots r.blocks)) none ∙ (λ i. Some (rule_moves.accepts y.id.from.home p false (sym free.0 i) (sym free.1 i)))),
       (let e_ : after (begun pt m) (Line.Lacks p (free_slots k.room) (free_blocks k.room) ∷ []) ≡ Some (come_point pt (come_view pt.view m p (drop 1 (pt.view.inbox m)) pt.view.known pt.view.asked)) = refl in e_),
       first_gone y.id c.ids (v.inbox m) c.box,
       room_kept b pt m p box v.asked l records k y c,
-      known_on pt next l l p (v.queue m p) (v.held m p) (v.known m p) (k.records p) refl refl refl (λ j least. refl) (λ j least. refl) (c.stands.known p a.server),
+      known_on pt (come_point pt (come_view v m p box v.known v.asked)) l l p (v.queue m p) (v.held m p) (v.known m p) (k.records p) refl refl refl (λ j least. refl) (λ j least. refl) (c.stands.known p a.server),
     ))
 
 -- there is
@@ -109,12 +108,11 @@ taken_then b m pt l records k y p c a box from asked none =
     let s1 = ap (λ (r : Room). r.slots) after_ in
     let b0 = ap (λ (r : Room). r.blocks) before in
     let b1 = ap (λ (r : Room). r.blocks) after_ in
-    let ds = changed.0 in
     let db = changed.1 in
     record {
       slots = h.slots;
       blocks = h.blocks;
-      taken_slots = reserve (taken_at next m pt.kernel.machines).slots (taken_at pt m pt.kernel.machines).slots (taken_by pt m p).slots (taken_by next m p).slots k.room.taken_slots 1 ds s0 s1 h.taken_slots;
+      taken_slots = reserve (taken_at next m pt.kernel.machines).slots (taken_at pt m pt.kernel.machines).slots (taken_by pt m p).slots (taken_by next m p).slots k.room.taken_slots 1 changed.0 s0 s1 h.taken_slots;
       taken_blocks = reserve (taken_at next m pt.kernel.machines).blocks (taken_at pt m pt.kernel.machines).blocks (taken_by pt m p).blocks (taken_by next m p).blocks k.room.taken_blocks (length a.process.memory / 256) db b0 b1 h.taken_blocks;
     }
   where

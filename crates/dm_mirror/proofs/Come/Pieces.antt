@@ -136,8 +136,7 @@ pub before : (b : Boot) (m : ℕ) (pt : Point) (l : Placed) (records : AllRecord
 before b m pt l records k y p c a w late wants =
     let (arrival, is, h) = recorded b pt l m k p (Incoming a.source) c.stands a.server (known_incoming b m pt l k y p a late) in
     let same : h.process ≡ a.process = some_same h.process a.process (sym h.there ∙ a.there) in
-    let is_wanted : arrival.wanted ≡ w = subst (λ (o : Option machine.KernelKnown). Wants (incoming_of o) w) is wants in
-    search (subst (λ (z : Process). CanMove (record z { queue = [] })) same h.whole, h.pieces ∙ (λ i. coming (same i) (l.notes p) arrival.held (is_wanted i)))
+    search (subst (λ (z : Process). CanMove (record z { queue = [] })) same h.whole, h.pieces ∙ (λ i. coming (same i) (l.notes p) arrival.held ((subst (λ (o : Option machine.KernelKnown). Wants (incoming_of o) w) is wants) i)))
 
 asked_others : (f : Pid → ℕ) (p q : Pid) (n : ℕ) → pid_eq p q ≡ false → at_pid f p n q ≡ f q
 asked_others f p q n off = ap (λ (d : Bool). if d then n else f q) off

@@ -168,9 +168,8 @@ put_next pt next b i k q ls is e =
     let f : puts pt.view b i k q ≡ ls = cc in
     let a = pt.view.acting in
     let l = Line.Put a b i k q in
-    let adds = put_adds pt.view a b i k q in
     rest_next pt (moved pt l pt.kernel) next a b (length (pt.view.pair a b).wire) (Load.Data (length (pt.view.pair a b).ids)) (a == b) (goes_out (pt.view.pair a b))
-    (record { kernel = refl; known = refl; grows = line_grows pt.view l; still = line_still pt.view l refl; puts = record { from = a; to = b; more = omega (arith, adds) } }) (ap (after pt) f ∙ e)
+    (record { kernel = refl; known = refl; grows = line_grows pt.view l; still = line_still pt.view l refl; puts = record { from = a; to = b; more = omega (arith, put_adds pt.view a b i k q) } }) (ap (after pt) f ∙ e)
 
 -- the first part is a route
 pub record PartNext (pt : Point) (ps : List Part) (w : Spelled) : Type 0 where

@@ -34,12 +34,6 @@ pub record Still (v w : View) : Type 0 where
 pub still_on : (u v w : View) → Still u v → Still v w → Still u w
 still_on u v w h k = record { moves = k.moves ∙ h.moves; incoming = λ m p s e. h.incoming m p s (k.incoming m p s e); forward = λ m p c j e. h.forward m p c j (k.forward m p c j e) }
 
--- what is known of a process that comes, or has gone on
-abbrev is_gone : Known → Bool
-is_gone (view.Incoming from) = true
-is_gone (view.Forward at_ moves) = true
-is_gone _ = false
-
 pub line_still : (v : View) (l : Line) → is_free l ≡ true → Still v (view_after v l)
 line_still v l free = record {
   moves = grind (arith, nat_tests);

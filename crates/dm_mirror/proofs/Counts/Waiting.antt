@@ -181,8 +181,7 @@ may_move b pt m p n run f h =
 
 rests_alone : (v : View) (m d s : ℕ) (p : Pid) → InPhases v → v.known m p ≡ Known.Here → v.known d p ≡ Known.Incoming s → ⊥
 rests_alone v m d s p h here incoming =
-    let rests : h.of p ≡ Rests m = rests_here (h.of p) m (sym (ap (knows (h.of p) m) here) ∙ (h.each p).known m) in
-    false≢true (sym (either (m == d)) ∙ (sym (ap (λ (f : Phase). knows f d (Known.Incoming s)) rests) ∙ sym (ap (knows (h.of p) d) incoming) ∙ (h.each p).known d))
+    false≢true (sym (either (m == d)) ∙ (sym (ap (λ (f : Phase). knows f d (Known.Incoming s)) (rests_here (h.of p) m (sym (ap (knows (h.of p) m) here) ∙ (h.each p).known m))) ∙ sym (ap (knows (h.of p) d) incoming) ∙ (h.each p).known d))
   where
     either : (c : Bool) → (if c then false else false) ≡ false
     either true = refl

@@ -36,7 +36,8 @@ module _ (b : Boot) (w : WorldState) (pt : Point) (l : Placed) (h : History) (a 
   Comes carried ps = Follows b c (marked_world w a c k) (begun pt a c k) l (node.arrives (w.nodes c) a carried) ps
 
   -- it is said to be old or early, and what was taken is acknowledged
-  again_comes : (n : ℕ) (x : Message) (said : ℕ → Line) (o : Arrived Message) → arrival ((w.nodes c).receivers a) n x ≡ o → ((z : NodeState) → node.comes z a n o ≡ before (Says (said (here z)) ∷ []) (record { state = z; outs = acknowledges z a }))
+  again_comes : (n : ℕ) (x : Message) (said : ℕ → Line) (o : Arrived Message) → arrival ((w.nodes c).receivers a) n x ≡ o
+      → ((z : NodeState) → node.comes z a n o ≡ before (Says (said (here z)) ∷ []) (record { state = z; outs = acknowledges z a }))
       → (after_arrival ((w.nodes c).receivers a) n x).count ≡ ((w.nodes c).receivers a).count → after_line (begun pt a c k) (said c) ≡ Some (moved (begun pt a c k) (said c) pt.kernel)
       → StandsWith b (come_to w a c k (with_receiver (w.nodes c) a (after_arrival ((w.nodes c).receivers a) n x))) (moved (begun pt a c k) (said c) pt.kernel) l (marked_in h a c k)
       → Comes (Data n x) (Part.Says (said c) ∷ Part.Transmits c a (load.Ack (pt.view.pair a c).taken) ∷ [])
@@ -48,20 +49,21 @@ module _ (b : Boot) (w : WorldState) (pt : Point) (l : Placed) (h : History) (a 
       let set : v.nodes c ≡ next = at_here w.nodes c next in
       let counted : (pt.view.pair a c).taken ≡ ((v.nodes c).receivers a).count =
       sym there.taken ∙ sym (ap (λ (z : NodeState). (z.receivers a).count) set ∙ ap (λ (z : Receiving Message). z.count) (at_here (w.nodes c).receivers a (after_arrival ((w.nodes c).receivers a) n x)) ∙ count) in
-      let last = acknowledged b l a c apart v q (marked_in h a c k) stands a_in c_in (pt.view.pair a c).taken counted in
       let whole = says_on b c (marked_world w a c k) (begun pt a c k) q l next (said (here (w.nodes c))) (said c) (record { state = next; outs = acknowledges next a }) ps (ap said (s.nodes c c_in).kernel.here) goes
-      (subst (λ (z : NodeState). Follows b c v q l (record { state = z; outs = acknowledges z a }) ps) set last) in
+      (subst (λ (z : NodeState). Follows b c v q l (record { state = z; outs = acknowledges z a }) ps) set (acknowledged b l a c apart v q (marked_in h a c k) stands a_in c_in (pt.view.pair a c).taken counted)) in
       subst (λ (z : Acted). Follows b c (marked_world w a c k) (begun pt a c k) l z (Part.Says (said c) ∷ ps)) (sym (ap (node.comes next a n) is ∙ comes next)) whole
 
   -- what was taken before
   pub old_comes : (n : ℕ) (m x : Message) → load_at (h.packets a c) k ≡ Some (Data n m) → n < ((w.nodes c).receivers a).count → Comes (Data n x) (Part.Says (Line.Old a c n) ∷ Part.Transmits c a (load.Ack (pt.view.pair a c).taken) ∷ [])
   old_comes n m x e lt =
-      again_comes n x (λ i. Line.Old a i n) Old (arrival_old ((w.nodes c).receivers a) n x lt) (λ z. refl) (ap (λ (z : Receiving Message). z.count) (after_old_is ((w.nodes c).receivers a) n x lt)) refl (old_stands b w pt l h a c s a_in c_in apart k n m e x lt)
+      again_comes n x (λ i. Line.Old a i n) Old (arrival_old ((w.nodes c).receivers a) n x lt) (λ z. refl)
+      (ap (λ (z : Receiving Message). z.count) (after_old_is ((w.nodes c).receivers a) n x lt)) refl (old_stands b w pt l h a c s a_in c_in apart k n m e x lt)
 
   -- what comes early
   pub early_comes : (n : ℕ) (m : Message) → load_at (h.packets a c) k ≡ Some (Data n m) → ((w.nodes c).receivers a).count < n → Comes (Data n m) (Part.Says (Line.Early a c n) ∷ Part.Transmits c a (load.Ack (pt.view.pair a c).taken) ∷ [])
   early_comes n m e gt =
-      again_comes n m (λ i. Line.Early a i n) Early (arrival_early ((w.nodes c).receivers a) n m gt) (λ z. refl) (ap (λ (z : Receiving Message). z.count) (after_early_is ((w.nodes c).receivers a) n m gt)) refl (early_stands b w pt l h a c s a_in c_in apart k n m e gt)
+      again_comes n m (λ i. Line.Early a i n) Early (arrival_early ((w.nodes c).receivers a) n m gt) (λ z. refl)
+      (ap (λ (z : Receiving Message). z.count) (after_early_is ((w.nodes c).receivers a) n m gt)) refl (early_stands b w pt l h a c s a_in c_in apart k n m e gt)
 
   -- what is next, and so many of those that are kept behind it
   taken_follows : (fuel n : ℕ) (m : Message) → load_at (h.packets a c) k ≡ Some (Data n m) → n ≡ ((w.nodes c).receivers a).count
@@ -109,8 +111,7 @@ module _ (b : Boot) (w : WorldState) (pt : Point) (l : Placed) (h : History) (a 
       let j : ℕ = less (length old.ids - old.gone) (more n old.acked + 8 - old.gone) in
       let room : j ≡ room_of (q.view.pair c a) = ap (λ (i : ℕ). less (length old.ids - old.gone) (i + 8 - old.gone)) (more-is old.acked n) ∙ sym (ap room_of now) in
       let small : j ≤ 8 = subst (λ (i : ℕ). i ≤ 8) (sym room) (grind (arith, nat_tests, less-right, stands.pairs c a c_in a_in (λ e. apart (sym e)))) in
-      let rest = lets_follow b l a c apart 8 v q g stands a_in c_in j room small in
-      let rest_from = subst (λ (i : ℕ). Follows b c v q l (lets_go 8 (v.nodes c) a) (repeats c a (numbers_from i j))) (ap (λ (z : Pair). z.gone) now) rest in
+      let rest_from = subst (λ (i : ℕ). Follows b c v q l (lets_go 8 (v.nodes c) a) (repeats c a (numbers_from i j))) (ap (λ (z : Pair). z.gone) now) (lets_follow b l a c apart 8 v q g stands a_in c_in j room small) in
       let rest_here = subst (λ (z : NodeState). Follows b c v q l (lets_go 8 z a) (repeats c a (numbers_from old.gone j))) (at_here w.nodes c next) rest_from in
       says_on b c (marked_world w a c k) (begun pt a c k) q l next (Line.Acked a (here (w.nodes c)) n) (Line.Acked a c n) (lets_go 8 next a) (repeats c a (numbers_from old.gone j)) (ap (λ (i : ℕ). Line.Acked a i n) (s.nodes c c_in).kernel.here) refl rest_here
 
@@ -186,14 +187,13 @@ reads_as b w pt l h a c k valid s a_in c_in apart machines_are readable n m e =
     let put_is : option_map (bytes_for a c) (slice_get (h.packets a c) k) ≡ Some (spelling (out.packet_of_load a c (Data n m))) = grind (arith, nat_tests) in
     let (p, read) = readable.reads a c k (spelling (Packet.Data a c n m)) (bytes_are b pt l w h a c k there ∙ put_is) in
     let (x, is) = numbered a c n (message.read (spell_message m)) p (sym (read_on a c n m route (omega arith)) ∙ read) in
-    let given : slice_get (h.given a c) n ≡ Some m = there.stream.sent.data_given k n m e in
     record {
       message = x;
       read = read ∙ ap Ok is;
       same = λ le.
           let sender = (w.nodes a).senders c in
           let above : sender.acked ≤ n = omega (arith, le, there.stream.in_order.acked_taken) in
-          let is_out : outstanding sender (n - sender.acked) ≡ Some (n, m) = outstanding_is sender (h.given a c) n m there.stream.in_order.unacked above (there.stream.sent.data_gone k n m e) given in
+          let is_out : outstanding sender (n - sender.acked) ≡ Some (n, m) = outstanding_is sender (h.given a c) n m there.stream.in_order.unacked above (there.stream.sent.data_gone k n m e) (there.stream.sent.data_given k n m e) in
           let put_back : packet_of (spelling (Packet.Data a c n m)) ≡ Ok (Packet.Data a c n m) = subst (λ (i : ℕ). packet_of (spelling (Packet.Data i c n m)) ≡ Ok (Packet.Data i c n m)) (s.nodes a a_in).kernel.here ((readable.out a c).out (n - sender.acked) n m is_out) in
           let g : Ok (Packet.Data a c n x) ≡ Ok (Packet.Data a c n m) = sym (read ∙ ap Ok is) ∙ put_back in cc;
     }

@@ -52,7 +52,8 @@ taking b l a c x sent p m is h =
     )
 
 -- a message comes into the inbox of machine c, and the machine's streams are so then
-pub node_takes : (b : Boot) (pt : Point) (l : Placed) (pair : ℕ → ℕ → Pair) (c : ℕ) (n : NodeState) (p : Pair) (m : Message) (ss : ℕ → Sending Message) (rs : ℕ → Receiving Message) → Taking l p m → (pair c c).ids ≡ (pt.view.pair c c).ids → NodeStands b pt l c n
+pub node_takes : (b : Boot) (pt : Point) (l : Placed) (pair : ℕ → ℕ → Pair) (c : ℕ) (n : NodeState) (p : Pair) (m : Message) (ss : ℕ → Sending Message) (rs : ℕ → Receiving Message)
+    → Taking l p m → (pair c c).ids ≡ (pt.view.pair c c).ids → NodeStands b pt l c n
     → NodeStands b (with_pairs pt pair (at_machine pt.view.inbox c (pt.view.inbox c ++ m.id ∷ []))) l c (record n { kernel = record n.kernel { inbox = n.kernel.inbox ++ m ∷ [] }; senders = ss; receivers = rs })
 node_takes b pt l pair c n p m ss rs t ids h =
     node_on b pt l pair (at_machine pt.view.inbox c (pt.view.inbox c ++ m.id ∷ [])) c n (n.kernel.inbox ++ m ∷ []) ss rs
@@ -77,7 +78,8 @@ module _ (b : Boot) (w : WorldState) (pt : Point) (l : Placed) (h : History) (a 
       let f : ℕ → ℕ → Pair = at_pair pt.view.pair a c p in
       let t : Taking l (pt.view.pair a c) m = taking b l a c (stream_of w h a c) (w.wires a c) (pt.view.pair a c) m (there_joined.stream.in_order.kept r.count m (sym (next_is r) ∙ e)) there_joined in
       let inbox : ℕ → List MsgId = at_machine pt.view.inbox c (pt.view.inbox c ++ m.id ∷ []) in
-      let k : Moves b w pt l h a c (with_message (with_receiver (w.nodes c) a (after_next r)) m) w.wires h.packets f inbox (happens (stream_of w h a c) TakeKept) (w.wires a c) p (stream_of w h c a) (w.wires c a) (pt.view.pair c a) = record {
+      let k : Moves b w pt l h a c (with_message (with_receiver (w.nodes c) a (after_next r)) m) w.wires h.packets f inbox (happens (stream_of w h a c) TakeKept) (w.wires a c) p (stream_of w h c a) (w.wires c a) (pt.view.pair c a) =
+      record {
         pairs = λ x y t k. pair_other pt.view.pair a c p x y t;
         ids = ids_set pt.view.pair a c p refl;
         took = took_set pt.view.pair a c p (omega arith);
@@ -87,11 +89,13 @@ module _ (b : Boot) (w : WorldState) (pt : Point) (l : Placed) (h : History) (a 
         back_stands = back_joined;
         alone = search (at_here, at_other, pair_here, pair_other, back_other a c apart);
       } in
-      subst (λ (v : View). StandsWith b (record w { nodes = at_machine w.nodes c (with_message (with_receiver (w.nodes c) a (after_next r)) m) }) (record pt { view = v }) l h) (ap (view.taken_id (view.with_pair pt.view a c p) c) (sym t.first))
+      subst (λ (v : View). StandsWith b (record w { nodes = at_machine w.nodes c (with_message (with_receiver (w.nodes c) a (after_next r)) m) }) (record pt { view = v }) l h)
+      (ap (view.taken_id (view.with_pair pt.view a c p) c) (sym t.first))
       (moves_stand b w pt l h a c (with_message (with_receiver (w.nodes c) a (after_next r)) m) w.wires h.packets f inbox (happens (stream_of w h a c) TakeKept) (w.wires a c) p (stream_of w h c a) (w.wires c a) (pt.view.pair c a) k s apart)
 
   -- what was taken is acknowledged
-  pub acknowledged_stands : StandsWith b (world_put w c a (at_machine w.nodes c (w.nodes c)) (Ack ((w.nodes c).receivers a).count)) (point_put pt c a (Ack ((w.nodes c).receivers a).count)) l (with_put h c a (Ack ((w.nodes c).receivers a).count))
+  pub acknowledged_stands : StandsWith b (world_put w c a (at_machine w.nodes c (w.nodes c)) (Ack ((w.nodes c).receivers a).count)) (point_put pt c a (Ack ((w.nodes c).receivers a).count)) l
+      (with_put h c a (Ack ((w.nodes c).receivers a).count))
   acknowledged_stands =
       let n : ℕ = ((w.nodes c).receivers a).count in
       subst (λ (f : ℕ → NodeState). StandsWith b (world_put w c a f (Ack n)) (point_put pt c a (Ack n)) l (with_put h c a (Ack n))) (sym (at_same w.nodes c))
@@ -110,9 +114,8 @@ module _ (b : Boot) (l : Placed) (a c : ℕ) (apart : a ≢ c) where
       let q : Point = moved pt (rule.packet_line pt.view c a (Load.Ack count)) pt.kernel in
       let v : WorldState = record w { nodes = at_machine w.nodes c (w.nodes c); wires = after_put w.wires c a (spelling (Packet.Ack c a count)) } in
       let g : History = record h { packets = at_pair h.packets c a (h.packets c a ++ just_put (Ack count) ∷ []) } in
-      let on : StandsWith b v q l g = acknowledged_stands b w pt l h a c s a_in c_in apart in
       let long : length (w.wires c a) ≡ length (pt.view.pair c a).wire = wire_length b pt l w h c a (s.pairs c a c_in a_in (λ e. apart (sym e))) in
-      let last : Follows b c v q l (record { state = w.nodes c; outs = [] }) [] = nothing b c v q l g (w.nodes c) (at_here w.nodes c (w.nodes c)) on in
+      let last : Follows b c v q l (record { state = w.nodes c; outs = [] }) [] = nothing b c v q l g (w.nodes c) (at_here w.nodes c (w.nodes c)) (acknowledged_stands b w pt l h a c s a_in c_in apart) in
       let whole : Follows b c w pt l (record { state = w.nodes c; outs = Sends (Packet.Ack c a count) ∷ [] }) (rule.Transmits c a (Load.Ack count) ∷ []) =
       sends_on b c w pt q l (w.nodes c) (Packet.Ack c a count) c a (Load.Ack count) (record { state = w.nodes c; outs = [] }) [] (λ i. Line.Packet c a (long i) (Load.Ack count)) refl last in
       let at_here : Follows b c w pt l (record { state = w.nodes c; outs = Sends (Packet.Ack (here (w.nodes c)) a count) ∷ [] }) (rule.Transmits c a (Load.Ack count) ∷ []) =
@@ -266,13 +269,13 @@ module _ (b : Boot) (l : Placed) (a c : ℕ) (apart : a ≢ c) where
       let q : Point = moved pt (rule.packet_line pt.view c a (Load.Data n)) pt.kernel in
       let v : WorldState = record w { nodes = at_machine w.nodes c next; wires = after_put w.wires c a (spelling (Packet.Data c a n m)) } in
       let g : History = record h { packets = at_pair h.packets c a (h.packets c a ++ just_put (Data n m) ∷ []) } in
-      let stands : StandsWith b v q l g = due_stands b pt l w h c a n m (λ e. apart (sym e)) c_in a_in goes s in
       let p : Pair = record back { gone = gone_after (Load.Data n) back.gone; wire = back.wire ++ record { load = Load.Data n; delivered = false } ∷ [] } in
       let now : q.view.pair c a ≡ p = pair_here pt.view.pair c a p in
       let gone : p.gone ≡ back.gone + 1 = sym (gone_next n back.gone k.gone) in
       let left : j ≡ room_of (q.view.pair c a) = room.0 ∙ ap (λ (i : ℕ). less (length back.ids - i) (back.acked + 8 - i)) (sym gone) ∙ sym (ap room_of now) in
-      let rest : Follows b c v q l (lets_go fuel (v.nodes c) a) (repeats c a (numbers_from (q.view.pair c a).gone j)) = on v q g stands a_in c_in j left le in
-      let rest_here : Follows b c v q l (lets_go fuel next a) (repeats c a (numbers_from (q.view.pair c a).gone j)) = subst (λ (z : NodeState). Follows b c v q l (lets_go fuel z a) (repeats c a (numbers_from (q.view.pair c a).gone j))) (at_here w.nodes c next) rest in
+      let rest : Follows b c v q l (lets_go fuel (v.nodes c) a) (repeats c a (numbers_from (q.view.pair c a).gone j)) = on v q g (due_stands b pt l w h c a n m (λ e. apart (sym e)) c_in a_in goes s) a_in c_in j left le in
+      let rest_here : Follows b c v q l (lets_go fuel next a) (repeats c a (numbers_from (q.view.pair c a).gone j)) =
+      subst (λ (z : NodeState). Follows b c v q l (lets_go fuel z a) (repeats c a (numbers_from (q.view.pair c a).gone j))) (at_here w.nodes c next) rest in
       let rest_from : Follows b c v q l (lets_go fuel next a) (repeats c a (numbers_from (back.gone + 1) j)) = subst (λ (i : ℕ). Follows b c v q l (lets_go fuel next a) (repeats c a (numbers_from i j))) (ap (λ (z : Pair). z.gone) now ∙ gone) rest_here in
       let whole = sends_on b c w pt q l next (Packet.Data c a n m) c a (Load.Data n) (lets_go fuel next a) (repeats c a (numbers_from (back.gone + 1) j)) (λ i. Line.Packet c a (k.wire i) (Load.Data n)) refl rest_from in
       let at_here = subst (λ (i : ℕ). Follows b c w pt l (before (Sends (Packet.Data i a n m) ∷ []) (lets_go fuel next a)) (rule.Transmits c a (Load.Data n) ∷ repeats c a (numbers_from (back.gone + 1) j))) (sym (s.nodes c c_in).kernel.here) whole in

@@ -88,8 +88,7 @@ acked_reads a c s k le h = record {
   gone = let f = h.gone in let g = h.acked in omega (arith, length-drop (k - s.acked) s.unacked);
   out = λ j n m e.
       let o = is_out (with_acked s k) j n m e in
-      let at : slice_get s.unacked (k - s.acked + j) ≡ Some m = sym (get-drop (k - s.acked) s.unacked j (k - s.acked + j) refl) ∙ o.there in
-      h.out (k - s.acked + j) n m (outstanding_at s (k - s.acked + j) n m (record { number = omega (arith, o.number); below = omega (arith, o.below); there = at }));
+      h.out (k - s.acked + j) n m (outstanding_at s (k - s.acked + j) n m (record { number = omega (arith, o.number); below = omega (arith, o.below); there = (sym (get-drop (k - s.acked) s.unacked j (k - s.acked + j) refl) ∙ o.there) }));
 }
 
 -- Where all packets that an event sends are read as they were put, what the machine has out then is so too, and each packet on
@@ -284,17 +283,20 @@ module _ (b : Boot) (w : WorldState) (pt : Point) (l : Placed) (h : History) (a 
   back = back_joined b w pt l h a c s a_in c_in apart
 
   -- machine c where its inbox is as it was
-  node_kept : (pair : ℕ → ℕ → Pair) (ss : ℕ → Sending Message) (rs : ℕ → Receiving Message) → (pair c c).ids ≡ (pt.view.pair c c).ids → NodeStands b (with_pairs head pair pt.view.inbox) l c (record (w.nodes c) { senders = ss; receivers = rs })
+  node_kept : (pair : ℕ → ℕ → Pair) (ss : ℕ → Sending Message) (rs : ℕ → Receiving Message) → (pair c c).ids ≡ (pt.view.pair c c).ids
+      → NodeStands b (with_pairs head pair pt.view.inbox) l c (record (w.nodes c) { senders = ss; receivers = rs })
   node_kept pair ss rs ids = let n = head_stands.nodes c c_in in node_on b head l pair pt.view.inbox c (w.nodes c) (w.nodes c).kernel.inbox ss rs n.kernel.inbox n.lawful.inbox ids n
 
   -- a message comes: the receiver, the pair and the inbox are so then
-  data_stands : (k n : ℕ) (m : Message) (r : Receiving Message) (p : Pair) (inbox : ℕ → List MsgId) (ms : List Message) → load_at (h.packets a c) k ≡ Some (Data n m) → r ≡ after_arrival ((w.nodes c).receivers a) n m → p.ids ≡ (pt.view.pair a c).ids → (pt.view.pair a c).taken ≤ p.taken
-      → Joined b l.bag a c (flow.arrives (record (stream_of w h a c) { out = marked (h.packets a c) k }) (Some (Data n m))) (wire.marked (w.wires a c) k) p → ((d : ℕ) → (c == d) ≡ false → inbox d ≡ pt.view.inbox d) → ((i : MsgId) → 1 ≤ times i (inbox c) → Stood pt.view i)
+  data_stands : (k n : ℕ) (m : Message) (r : Receiving Message) (p : Pair) (inbox : ℕ → List MsgId) (ms : List Message) → load_at (h.packets a c) k ≡ Some (Data n m) → r ≡ after_arrival ((w.nodes c).receivers a) n m
+      → p.ids ≡ (pt.view.pair a c).ids → (pt.view.pair a c).taken ≤ p.taken → Joined b l.bag a c (flow.arrives (record (stream_of w h a c) { out = marked (h.packets a c) k }) (Some (Data n m))) (wire.marked (w.wires a c) k) p
+      → ((d : ℕ) → (c == d) ≡ false → inbox d ≡ pt.view.inbox d) → ((i : MsgId) → 1 ≤ times i (inbox c) → Stood pt.view i)
       → NodeStands b (with_pairs head (at_pair pt.view.pair a c p) inbox) l c (record (w.nodes c) { kernel = record (w.nodes c).kernel { inbox = ms }; receivers = at_machine (w.nodes c).receivers a r })
       → StandsWith b (come_to w a c k (record (w.nodes c) { kernel = record (w.nodes c).kernel { inbox = ms }; receivers = at_machine (w.nodes c).receivers a r })) (with_pairs head (at_pair pt.view.pair a c p) inbox) l (marked_in h a c k)
   data_stands k n m r p inbox ms e same ids more comes boxes came node =
-      moves_stand b headed head l h a c (record (w.nodes c) { kernel = record (w.nodes c).kernel { inbox = ms }; receivers = at_machine (w.nodes c).receivers a r }) (after_mark w.wires a c k) (at_pair h.packets a c (marked (h.packets a c) k)) (at_pair pt.view.pair a c p) inbox
-      (flow.arrives (record (stream_of w h a c) { out = marked (h.packets a c) k }) (Some (Data n m))) (wire.marked (w.wires a c) k) p (record (stream_of w h c a) { back = marked (h.packets a c) k }) (w.wires c a) (pt.view.pair c a) (record {
+      moves_stand b headed head l h a c (record (w.nodes c) { kernel = record (w.nodes c).kernel { inbox = ms }; receivers = at_machine (w.nodes c).receivers a r })
+      (after_mark w.wires a c k) (at_pair h.packets a c (marked (h.packets a c) k)) (at_pair pt.view.pair a c p) inbox (flow.arrives (record (stream_of w h a c) { out = marked (h.packets a c) k }) (Some (Data n m)))
+      (wire.marked (w.wires a c) k) p (record (stream_of w h c a) { back = marked (h.packets a c) k }) (w.wires c a) (pt.view.pair c a) (record {
         pairs = λ x y t u. pair_other pt.view.pair a c p x y t;
         ids = ids_set pt.view.pair a c p ids;
         took = took_set pt.view.pair a c p more;
@@ -357,7 +359,8 @@ module _ (b : Boot) (w : WorldState) (pt : Point) (l : Placed) (h : History) (a 
       let ids : (x y : ℕ) → (at_pair first c a p x y).ids ≡ (pt.view.pair x y).ids = λ x y. ids_set first c a p refl x y ∙ ids_set pt.view.pair a c mark refl x y in
       let ss : ℕ → Sending Message = at_machine (w.nodes c).senders a (with_acked ((w.nodes c).senders a) n) in
       moves_stand b headed head l h a c (record (w.nodes c) { senders = ss }) (after_mark w.wires a c k) (at_pair h.packets a c (marked (h.packets a c) k)) (at_pair first c a p) pt.view.inbox
-      (record (stream_of w h a c) { out = marked (h.packets a c) k }) (wire.marked (w.wires a c) k) mark (record (stream_of w h c a) { sender = with_acked ((w.nodes c).senders a) n; back = marked (h.packets a c) k }) (w.wires c a) (record (pt.view.pair c a) { acked = at_least (pt.view.pair c a).acked n }) (record {
+      (record (stream_of w h a c) { out = marked (h.packets a c) k }) (wire.marked (w.wires a c) k) mark
+      (record (stream_of w h c a) { sender = with_acked ((w.nodes c).senders a) n; back = marked (h.packets a c) k }) (w.wires c a) (record (pt.view.pair c a) { acked = at_least (pt.view.pair c a).acked n }) (record {
         pairs = λ x y t u. pair_other first c a p x y u ∙ pair_other pt.view.pair a c mark x y t;
         ids = ids;
         took = λ x y. let one = took_set pt.view.pair a c mark (omega arith) x y in let two = took_set first c a p (omega arith) x y in omega (arith, one, two);

@@ -56,7 +56,8 @@ sends_on b c w pt q l n p from to carried d ps same next f = record {
   spells = search (f.spells);
   lines = λ i. same i ∷ f.lines i;
   history = f.history;
-  stands = (let again : acted_on (record w { nodes = at_machine w.nodes c n; wires = with_packet w.wires p }) c d ≡ acted_on w c (before (Sends p ∷ []) d) = λ i. record { nodes = at_again w.nodes c n d.state i; wires = (spoken (with_packet w.wires p) d.outs).wires; groups = w.groups } in
+  stands = (let again : acted_on (record w { nodes = at_machine w.nodes c n; wires = with_packet w.wires p }) c d ≡ acted_on w c (before (Sends p ∷ []) d) =
+      λ i. record { nodes = at_again w.nodes c n d.state i; wires = (spoken (with_packet w.wires p) d.outs).wires; groups = w.groups } in
       subst (λ (v : WorldState). StandsWith b v f.end.point l f.history) again f.stands);
 }
 
@@ -108,7 +109,8 @@ IsOther a c x y = ((a == x) && (c == y)) ≡ false
 
 -- a machine after its inbox and its streams have changed
 pub node_on : (b : Boot) (pt : Point) (l : Placed) (pair : ℕ → ℕ → Pair) (inbox : ℕ → List MsgId) (m : ℕ) (n : NodeState) (ms : List Message) (ss : ℕ → Sending Message) (rs : ℕ → Receiving Message)
-    → AreMessages l.bag (inbox m) ms → All IsLawfulMessage ms → (pair m m).ids ≡ (pt.view.pair m m).ids → NodeStands b pt l m n → NodeStands b (with_pairs pt pair inbox) l m (record n { kernel = record n.kernel { inbox = ms }; senders = ss; receivers = rs })
+    → AreMessages l.bag (inbox m) ms → All IsLawfulMessage ms → (pair m m).ids ≡ (pt.view.pair m m).ids → NodeStands b pt l m n
+    → NodeStands b (with_pairs pt pair inbox) l m (record n { kernel = record n.kernel { inbox = ms }; senders = ss; receivers = rs })
 node_on b pt l pair inbox m n ms ss rs box lawful ids h = search (kernel_box b pt l (with_pairs pt pair inbox).view m n.kernel ms box h.kernel, h.home ∙ ap length (sym ids))
 
 module _ (b : Boot) (w : WorldState) (pt : Point) (l : Placed) (h : History) (a c : ℕ) (n : NodeState) (wires : ℕ → ℕ → List Sent) (packets : ℕ → ℕ → List (stream.Packet Message)) (pair : ℕ → ℕ → Pair) (inbox : ℕ → List MsgId)
@@ -149,8 +151,8 @@ module _ (b : Boot) (w : WorldState) (pt : Point) (l : Placed) (h : History) (a 
     pub open alone use *
 
 module _ (b : Boot) (w : WorldState) (pt : Point) (l : Placed) (h : History) (a c : ℕ) (n : NodeState) (wires : ℕ → ℕ → List Sent) (packets : ℕ → ℕ → List (stream.Packet Message)) (pair : ℕ → ℕ → Pair) (inbox : ℕ → List MsgId)
-    (there : Stream Message) (there_wire : List Sent) (there_pair : Pair) (back : Stream Message) (back_wire : List Sent) (back_pair : Pair) (e : Moves b w pt l h a c n wires packets pair inbox there there_wire there_pair back back_wire back_pair)
-    (s : StandsWith b w pt l h) (apart : a ≢ c) where
+    (there : Stream Message) (there_wire : List Sent) (there_pair : Pair) (back : Stream Message) (back_wire : List Sent) (back_pair : Pair)
+    (e : Moves b w pt l h a c n wires packets pair inbox there there_wire there_pair back back_wire back_pair) (s : StandsWith b w pt l h) (apart : a ≢ c) where
   abbrev after : WorldState
   after = record w { nodes = at_machine w.nodes c n; wires = wires }
 

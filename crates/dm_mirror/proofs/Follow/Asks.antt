@@ -200,8 +200,7 @@ update_server b m pt l records k y c about false server e is =
 -- an update, wherever it comes
 pub update_turn : (b : Boot) (m : ℕ) (pt : Point) (l : Placed) (records : AllRecords) (k : KernelState) (y : Message) (c : Fronts b m pt l records k y) (about : Addr) → y.what ≡ What.Update about → TurnsAt b m pt l records k
 update_turn b m pt l records k y c about e =
-    let none = ap plain_what e in
-    let sort : (not (y.to.pid.num == 0) && is_place c.told.about) ≡ true = ap (λ (w : What). own_sort (kind_of w) y.to.pid c.told.about) (sym e) ∙ front_sort b m pt l records k y c none in
+    let sort : (not (y.to.pid.num == 0) && is_place c.told.about) ≡ true = ap (λ (w : What). own_sort (kind_of w) y.to.pid c.told.about) (sym e) ∙ front_sort b m pt l records k y c (ap plain_what e) in
     let num : (y.to.pid.num == 0) ≡ false = grind (arith, nat_tests) in
     elim (cases_Bool (is_server y.to.pid)) [
       | inl server ↦ update_server b m pt l records k y c about (pid_eq y.to.pid switchboard) server e refl

@@ -87,12 +87,11 @@ update_may b m pt l records all k y c at moves knows has =
     let named : machine.own_id k ≡ own_id (begun pt m).view = λ i. record { from = pid_of (c.stands.here i) 0; n = c.counted i; answer = false } in
     let free = own_free b m pt l records k y c in
     let places = update_gets (begun pt m) l y.id y c.told at at moves start c.there c.told_is (ap (pt.view.known m) c.receiver ∙ knows) free (ap is_told_back c.kind ∙ has) in
-    let off : id_eq y.id own ≡ false = id_eq-swap y.id own ∙ free_off l own y.id y free c.there in
     record {
       id = named;
       plain = refl;
       encloses = refl;
-      bag = ap (with_message l y.id (Some (sent_on at moves y))).bag named ∙ ap (λ (t : Bool). if t then Some (sent_on at moves y) else l.bag own) off ∙ free;
+      bag = ap (with_message l y.id (Some (sent_on at moves y))).bag named ∙ ap (λ (t : Bool). if t then Some (sent_on at moves y) else l.bag own) (id_eq-swap y.id own ∙ free_off l own y.id y free c.there) ∙ free;
       untold = ap pt.view.told named ∙ next_untold b m pt c.run;
       receiver = ap (λ (i : MsgId). (forwarded pt m y at).addresses (Receiver i)) named ∙ places.0;
       sender = ap (λ (i : MsgId). (forwarded pt m y at).addresses (Sender i)) named ∙ places.1 ∙ ap unmoved (sym c.stands.here);

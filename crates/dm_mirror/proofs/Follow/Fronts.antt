@@ -99,8 +99,7 @@ plain_there b m pt l records k y c = sym (c.mirrors.plain.bag y.id) ∙ ap (λ (
 still_by : (b : Boot) (m : ℕ) (pt : Point) (l : Placed) (records : AllRecords) (k : KernelState) (y : Message) (c : Fronts b m pt l records k y) (o : Option PlainWhat) → plain_what y.what ≡ o → (y.to.pid.num == 0) ≡ false → is_between (kind_of y.what) ≡ false
 still_by b m pt l records k y c (Some w) e num = grind (arith, nat_tests)
 still_by b m pt l records k y c None e num =
-    let sort = c.own_told.own y.id c.told c.told_is (c.own y.id y c.there (ap (with_what y) e)).mine in
-    sym (ap is_between c.kind) ∙ own_still c.told.kind c.told.receiver c.told.about sort (ap (λ (p : Pid). p.num == 0) c.receiver ∙ num)
+    sym (ap is_between c.kind) ∙ own_still c.told.kind c.told.receiver c.told.about (c.own_told.own y.id c.told c.told_is (c.own y.id y c.there (ap (with_what y) e)).mine) (ap (λ (p : Pid). p.num == 0) c.receiver ∙ num)
 
 pub front_still : (b : Boot) (m : ℕ) (pt : Point) (l : Placed) (records : AllRecords) (k : KernelState) (y : Message) (c : Fronts b m pt l records k y) → (y.to.pid.num == 0) ≡ false → is_between (kind_of y.what) ≡ false
 front_still b m pt l records k y c num = still_by b m pt l records k y c (plain_what y.what) refl num

@@ -109,9 +109,8 @@ pub updated_ended_turn : (b : Boot) (m : ℕ) (pt : Point) (l : Placed) (records
 updated_ended_turn b m pt l records k y c about fixed knows e =
     let is = is_process_of y.to.pid fixed in
     let told = (c.own y.id y c.there (ap (λ (w : What). with_what y (plain_what w)) e)).told in
-    let start = mirrors_view pt.kernel pt.view (begun pt m).view pt.addresses l refl c.mirrors in
     ended_quiet b m pt l records k y c (Line.Updated y.id 0) (moved (begun pt m) (Line.Updated y.id 0) pt.kernel).addresses fixed knows (ap plain_what e) (ap (machine_handle.ended_handles (record k { inbox = c.rest }) y) e) (ap (λ (w : What). told_ended y.id (sort_of (kind_of w))) e) refl
-    (λ none. updated_ended_mirrors (begun pt m) l y.id 0 (told_of y) about.pid about.at about.moves start told (ap about_of e) is.board is.manager_ none)
+    (λ none. updated_ended_mirrors (begun pt m) l y.id 0 (told_of y) about.pid about.at about.moves (mirrors_view pt.kernel pt.view (begun pt m).view pt.addresses l refl c.mirrors) told (ap about_of e) is.board is.manager_ none)
 
 -- An update makes the links of a process or of a server follow another process.
 
@@ -123,8 +122,7 @@ rests_at b m pt p run here = grind (arith, nat_tests, rests_here)
 
 nowhere_else : (b : Boot) (m n : ℕ) (pt : Point) (p : Pid) → Run b pt → pt.view.known m p ≡ Here → n ≢ m → has_process (pt.view.known n p) ≡ true → ⊥
 nowhere_else b m n pt p run here apart has =
-    let h = run.based.phased.phases in
-    away_not (pt.view.known n p) (rests_away m n (pt.view.known n p) apart (sym (ap (λ (f : Phase). knows f n (pt.view.known n p)) (rests_at b m pt p run here)) ∙ (h.each p).known n)) has
+    away_not (pt.view.known n p) (rests_away m n (pt.view.known n p) apart (sym (ap (λ (f : Phase). knows f n (pt.view.known n p)) (rests_at b m pt p run here)) ∙ (run.based.phased.phases.each p).known n)) has
 
 none_under_way : (b : Boot) (m : ℕ) (pt : Point) (p : Pid) (i : MsgId) (t : Told) (z : Spot) → Run b pt → pt.view.known m p ≡ Here → pt.view.told i ≡ Some t → is_between t.kind ≡ true → t.about ≡ Of p → 1 ≤ standing pt.view i z → ⊥
 none_under_way b m pt p i t z run here told between about least =
@@ -151,7 +149,6 @@ updated_here_turn b m pt l records k y c about fixed knows e =
     let n = count_by (slot_is_behind r about.moves) x.table in
     let told = (c.own y.id y c.there (ap (λ (w : What). with_what y (plain_what w)) e)).told in
     let was : c.told ≡ told_of y = grind (arith, nat_tests, ap plain_what e) in
-    let start = mirrors_view pt.kernel pt.view (begun pt m).view pt.addresses l refl c.mirrors in
     let placed = with_process l p (Some (applied r about.at about.moves z)) in
     let held = pt.view.held in
     let topic = (begun pt m).view.topic in
@@ -176,7 +173,7 @@ updated_here_turn b m pt l records k y c about fixed knows e =
       outcome = rule_process b m pt l records k y c Here (Some (rule.Says (Line.Updated y.id n) ∷ [])) (plain_message y) is knows refl (λ w f. absurd (no_plain y w (ap plain_what e) f))
           (λ f. ap (λ (k : MessageKind). told_here pt m y.id c.told (sort_of k)) (c.kind ∙ ap kind_of e) ∙ ap Some (counted_line pt y c.told n was count));
       after = refl;
-      mirrors = updated_mirrors (begun pt m) l y.id n (told_of y) r about.at about.moves z start told (ap about_of e) is.board is.manager_ there;
+      mirrors = updated_mirrors (begun pt m) l y.id n (told_of y) r about.at about.moves z (mirrors_view pt.kernel pt.view (begun pt m).view pt.addresses l refl c.mirrors) told (ap about_of e) is.board is.manager_ there;
       own_front = λ w f plain. c.own y.id w f plain;
       sent = (let f : k.sent ≡ k.sent + 0 = omega arith in f);
       single = omega arith;
@@ -216,7 +213,6 @@ updated_board_turn b m pt l records k y c about to e =
     let was : c.told ≡ told_of y = grind (arith, nat_tests, ap plain_what e) in
     let start = mirrors_view pt.kernel pt.view (begun pt m).view pt.addresses l refl c.mirrors in
     let placed = board_told l r about.at about.moves in
-    let none = none_by b pt l switchboard (pt.kernel.processes switchboard) c.run c.mirrors refl refl in
     let count = updated_board_count pt.kernel pt.view pt.addresses l y.to.pid r about.at about.moves (about_of y.what) c.mirrors (ap about_of e) to in
     turns_quiet b m pt l records k y c (record {
       said = Line.Updated y.id n;
@@ -228,7 +224,7 @@ updated_board_turn b m pt l records k y c about to e =
       outcome = ap (comes_to b pt m y.id) (plain_there b m pt l records k y c ∙ ap (λ (w : What). with_what y (plain_what w)) e) ∙ ap (hears b pt m y.id) c.told_is
           ∙ server_board b pt m y.id c.told (Some (rule.Says (Line.Updated y.id n) ∷ [])) (c.receiver ∙ to) (ap (λ (k : MessageKind). told_server pt y.id c.told (sort_of k)) (c.kind ∙ ap kind_of e) ∙ ap Some (counted_line pt y c.told n was count));
       after = refl;
-      mirrors = updated_board_mirrors (begun pt m) l y.id n (told_of y) r about.at about.moves start told (ap about_of e) to none;
+      mirrors = updated_board_mirrors (begun pt m) l y.id n (told_of y) r about.at about.moves start told (ap about_of e) to (none_by b pt l switchboard (pt.kernel.processes switchboard) c.run c.mirrors refl refl);
       board_stays = λ off. absurd (off home);
       manager_stays = λ off. refl;
       same = sym (first_servers placed m home);
@@ -246,7 +242,6 @@ updated_manager_turn b m pt l records k y c about to e =
     let was : c.told ≡ told_of y = grind (arith, nat_tests, ap plain_what e) in
     let start = mirrors_view pt.kernel pt.view (begun pt m).view pt.addresses l refl c.mirrors in
     let placed = manager_told l r about.at about.moves in
-    let none = none_by b pt l manager (pt.kernel.processes manager) c.run c.mirrors refl refl in
     let count = updated_manager_count pt.kernel pt.view pt.addresses l y.to.pid r about.at about.moves (about_of y.what) c.mirrors (ap about_of e) to c.run.based.pending in
     turns_quiet b m pt l records k y c (record {
       said = Line.Updated y.id n;
@@ -258,7 +253,7 @@ updated_manager_turn b m pt l records k y c about to e =
       outcome = ap (comes_to b pt m y.id) (plain_there b m pt l records k y c ∙ ap (λ (w : What). with_what y (plain_what w)) e) ∙ ap (hears b pt m y.id) c.told_is
           ∙ server_manager b pt m y.id c.told (Some (rule.Says (Line.Updated y.id n) ∷ [])) (c.receiver ∙ to) (ap (λ (k : MessageKind). told_server pt y.id c.told (sort_of k)) (c.kind ∙ ap kind_of e) ∙ ap Some (counted_line pt y c.told n was count));
       after = refl;
-      mirrors = updated_manager_mirrors (begun pt m) l y.id n (told_of y) r about.at about.moves start told (ap about_of e) to none;
+      mirrors = updated_manager_mirrors (begun pt m) l y.id n (told_of y) r about.at about.moves start told (ap about_of e) to (none_by b pt l manager (pt.kernel.processes manager) c.run c.mirrors refl refl);
       board_stays = λ off. refl;
       manager_stays = λ off. absurd (off home);
       same = sym (first_servers placed m home);
