@@ -130,10 +130,6 @@ few_group b pt d w n some machines fit is run after h =
     let routed_group : Routed w.point.view = group_keeps Routed (λ v a k i told. let r = k i told in record { from = r.from; to = r.to; there = r.there }) line_routed b pt d w is h.routed in
     record { within = within; own = group_keeps (OwnFew n) (λ v a k. k) (line_own n) b pt d w is h.own; under = r.under; moves = r.moves; routed = routed_group }
 
-few_start : (b : Boot) (n : ℕ) → IsValid b → Few n (first_point b)
-few_start b n valid =
-    record { within = λ a c some. absurd (omega (arith, some)); own = λ within m. omega arith; under = under_start b n valid; moves = moves_start b n; routed = (λ i told. absurd (false≢true told)) }
-
 few_on : RunGoes → (b : Boot) (es : List Step) (pt end : Point) (n : ℕ) → IsValid b → 0 < n → pt.kernel.machines ≡ n → Leads b pt es end → Both b pt → Few n pt → Few n end
 few_on goes b [] pt end n valid some machines leads both h = subst (Few n) leads h
 few_on goes b (d ∷ ds) pt end n valid some machines (w, fit, is, more) both h =
@@ -142,6 +138,8 @@ few_on goes b (d ∷ ds) pt end n valid some machines (w, fit, is, more) both h 
 
 pub few_always : RunStarts → RunGoes → (b : Boot) (es : List Step) (pt : Point) → IsValid b → Leads b (first_point b) es pt → Few (length b.machines) pt
 few_always starts goes b es pt valid leads =
+    let few_start : (b : Boot) (n : ℕ) → IsValid b → Few n (first_point b) =
+      λ b n valid. record { within = λ a c some. absurd (omega (arith, some)); own = λ within m. omega arith; under = under_start b n valid; moves = moves_start b n; routed = (λ i told. absurd (false≢true told)) } in
     few_on goes b es (first_point b) pt (length b.machines) valid (omega (arith, some_machine b valid)) refl leads (both_start starts b valid) (few_start b (length b.machines) valid)
 
 -- the manager's pending requests are among what it has sent

@@ -7,11 +7,11 @@ pub mod Outs
 use Rattle.dm_mirror.proofs.Names.{PairStands, stream_of}
 use Rattle.dm_mirror.proofs.Names.{◌≡◌, ◌≢◌, ℕ, ◌+◌, ◌^◌, ◌<◌, ◌≤◌, ◌⊎◌, ◌==◌, nat_le, nat_lt, Bool, true, false, List, [], ◌∷◌, length, refl, ap, ◌∙◌, sym, subst, inl, inr, arith, if◌then◌else◌, slice_get, option_map, Ok, All, Option}
 use Rattle.dm_mirror.proofs.Names.{None, Some, cases_Bool, eqb_tells, nat_tests, All-drop, Message, IsLawfulMessage, Packet, Step, Line, packet_of, spelling, Data, Ack, load_at, MayCome-stands, bytes_at, after_mark, Boot, IsValid}
-use Rattle.dm_mirror.proofs.Names.{Spelled, spelled, Point, moved, behind, kept_from, more, Run, Placed, MayAct, WorldState, acted, arrives, delivers, reads, world_step, MayDeliver, MayRead, CountsStand, History, StandsWith, line_of}
+use Rattle.dm_mirror.proofs.Names.{Spelled, spelled, Point, moved, behind, kept_from, more, Placed, MayAct, WorldState, acted, arrives, delivers, reads, world_step, MayDeliver, MayRead, CountsStand, History, StandsWith, line_of}
 use Rattle.dm_mirror.proofs.Names.{load_of, GoesOn, IsNet, arrives_net}
 use Rattle.dm_rule.proofs.Names.{Part}
 use Rattle.dm_stream.specs.Packets.{Load}
-use Rattle.dm_mirror.proofs.Deliver.Goes.{Comes, acked_comes, early_comes, old_comes, taken_comes, IsReadAs, ReadsAs, bytes_are, bytes_for, lines_are, load_is, reads_ack, Same, arrives_sent, counts_on, net_same, few}
+use Rattle.dm_mirror.proofs.Deliver.Goes.{Comes, acked_comes, early_comes, old_comes, taken_comes, IsReadAs, ReadsAs, bytes_are, bytes_for, lines_are, load_is, reads_ack, Same, arrives_sent, counts_on, net_same}
 use Rattle.dm_mirror.proofs.Deliver.Outs.{begun, nothing_stands}
 use Rattle.dm_stream.specs.Packets as stream
 use Rattle.dm_line.specs.declared.line.Load.TheVariants as load
@@ -172,13 +172,6 @@ module _ (b : Boot) (w : WorldState) (pt : Point) (l : Placed) (h : History) (a 
         ),
       )
 
-  may_of : (o : Option (stream.Packet Message)) → slice_get (h.packets a c) k ≡ o → a < 16 → c < 16 → MayAct (w.nodes c) → ReadsAs w h a c k → MayDeliver w a c (bytes_at (w.wires a c) k)
+  pub may_of : (o : Option (stream.Packet Message)) → slice_get (h.packets a c) k ≡ o → a < 16 → c < 16 → MayAct (w.nodes c) → ReadsAs w h a c k → MayDeliver w a c (bytes_at (w.wires a c) k)
   may_of None is low_a low_c acts readable = subst (MayDeliver w a c) (sym (bytes_are b pt l w h a c k (s.pairs a c a_in c_in apart) ∙ ap (option_map (bytes_for a c)) is)) tt
   may_of (Some p) is low_a low_c acts readable = may_with p p.load low_a low_c is refl acts readable
-
--- machine c may take the packet
-pub may_deliver : (b : Boot) (w : WorldState) (pt : Point) (l : Placed) (h : History) (a c k : ℕ) → IsValid b → Run b pt → StandsWith b w pt l h → CountsStand w pt → a < pt.kernel.machines → c < pt.kernel.machines → a ≢ c
-    → pt.kernel.machines ≡ length b.machines → OthersLawful w pt c → ReadsAs w h a c k → MayDeliver w a c (bytes_at (w.wires a c) k)
-may_deliver b w pt l h a c k valid run s counted a_in c_in apart machines_are others readable =
-    may_of b w pt l h a c k s counted a_in c_in apart (slice_get (h.packets a c) k) refl (few b a pt.kernel.machines valid machines_are a_in) (few b c pt.kernel.machines valid machines_are c_in)
-    (may_act b w pt l h c valid s c_in machines_are others) readable

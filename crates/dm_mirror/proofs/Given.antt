@@ -5,7 +5,7 @@ use Rattle.dm_mirror.proofs.Names.{StandsWith, RanGoesOn, alive-is, ◌==◌, []
 use Rattle.dm_onekernel.specs.Step as kernel
 use Rattle.dm_mirror.proofs.Counts.{counts_few}
 use Rattle.dm_mirror.proofs.Leave.Asked.{asked_by_manager}
-use Rattle.dm_mirror.proofs.Deliver.{OthersLawful, may_deliver, goes_of}
+use Rattle.dm_mirror.proofs.Deliver.{OthersLawful, goes_of, may_of, may_act}
 use Rattle.dm_mirror.proofs.Follow.Asks.{asks_turn}
 use Rattle.dm_mirror.proofs.Going.{run_goes_on_by, leads_last}
 use Rattle.dm_mirror.proofs.Single.{ran_goes_on_by, end_is_said_by}
@@ -64,10 +64,12 @@ steps_stand_by fews tables b es w pt (Step.Deliver a c k) valid leads ((l, h, s)
     let machines = machines_are b es pt leads in
     let a_in = below b es pt a leads a_lt in
     let c_in = below b es pt c leads c_lt in
+    let low_a = few b a pt.kernel.machines valid machines a_in in
+    let low_c = few b c pt.kernel.machines valid machines c_in in
     let reads = reads_as b w pt l h a c k valid s a_in c_in apart machines readable in
     let others : OthersLawful w pt c = λ y small o. all_lawful b w c able c_lt y small in (
-      (a_lt, c_lt, apart, may_deliver b w pt l h a c k valid (run_always b es pt valid leads).run s sent a_in c_in apart machines others reads),
-      (λ whole. inl (goes_of b w pt l h a c k s sent a_in c_in apart (slice_get (h.packets a c) k) refl (few b a pt.kernel.machines valid machines a_in) (few b c pt.kernel.machines valid machines c_in) reads)),
+      (a_lt, c_lt, apart, may_of b w pt l h a c k s sent a_in c_in apart (slice_get (h.packets a c) k) refl low_a low_c (may_act b w pt l h c valid s c_in machines others) reads),
+      (λ whole. inl (goes_of b w pt l h a c k s sent a_in c_in apart (slice_get (h.packets a c) k) refl low_a low_c reads)),
     )
 steps_stand_by fews tables b es w pt (Step.Migrate p m) valid leads stands able readable lt =
     let may = may_step_migrate b es w pt p m valid leads (fews b es pt valid leads stands.0.2.counts) stands able lt in

@@ -20,13 +20,6 @@ use Rattle.dm_mirror.proofs.Handle.Taking.{pid_apart as pid_off, some_same}
 use Rattle.dm_mirror.proofs.Come.Restarts.{turns_restart}
 use Rattle.dm_mirror.proofs.Handle.Kills.{free_of as free_as}
 
--- the machine that it leaves holds it back
-frozen_is : (d : ℕ) (n : Known) → kind_leaves MessageKind.Ask d n ≡ true → (to : ℕ) × (n ≡ Frozen to)
-frozen_is d n e = grind (arith, nat_tests)
-
-frozen_unknown : (to : ℕ) → Frozen to ≢ Unknown
-frozen_unknown to e = cc
-
 -- whatever waits for it
 pub without_queue : (x : Process) → CanMove x → CanMove (record x { queue = [] })
 without_queue x h = record {
@@ -39,6 +32,8 @@ without_queue x h = record {
 
 leaves_where : (b : Boot) (m : ℕ) (pt : Point) (l : Placed) (k : KernelState) (y : Message) (p : Pid) (a : Arrives b m pt l k y p) → kind_of y.what ≡ MessageKind.Ask → (to : ℕ) × (pt.view.known a.source p ≡ Frozen to)
 leaves_where b m pt l k y p a is =
+    -- the machine that it leaves holds it back
+    let frozen_is : (d : ℕ) (n : Known) → kind_leaves MessageKind.Ask d n ≡ true → (to : ℕ) × (n ≡ Frozen to) = λ d n e. grind (arith, nat_tests) in
     frozen_is m (pt.view.known a.source p)
     (source_knows MessageKind.Ask a.source m (Some y.id) (pt.view.known a.source p) (subst (λ (j : MessageKind). knows (Moves j a.source m (Some y.id)) a.source (pt.view.known a.source p) ≡ true) is (a.phase.known a.source)))
 
@@ -51,6 +46,7 @@ can_by b pt l s to z p x frozen server stands there =
 pub can_come : (b : Boot) (m : ℕ) (pt : Point) (l : Placed) (records : AllRecords) (k : KernelState) (y : Message) (p : Pid) → Comes b m pt l records k y p → (a : Arrives b m pt l k y p) → kind_of y.what ≡ MessageKind.Ask
     → ((n : ℕ) → n < pt.kernel.machines → (z : KernelState) × KernelStands b pt l n z) → CanMove (record a.process { queue = [] })
 can_come b m pt l records k y p c a is nodes =
+    let frozen_unknown : (to : ℕ) → Frozen to ≢ Unknown = λ to e. cc in
     let (to, frozen) = leaves_where b m pt l k y p a is in
     let (z, stands) = nodes a.source (c.run.found.known_within a.source p (λ e. frozen_unknown to (sym frozen ∙ e))) in
     can_by b pt l a.source to z p a.process frozen a.server stands a.there

@@ -3,9 +3,8 @@ use Rattle.dm_mirror.proofs.Names.{◌≡◌, ℕ, ◌+◌, ◌≤◌, Bool, tru
 use Rattle.dm_mirror.proofs.Names.{MsgId, MessageKind, kind_of, PlainMessage, plain_message, Process, incoming_of, Boot, bind, plain_process, id_eq-same, is_between, tells_onward, Moves, IsIn, receiver_in, sender_in}
 use Rattle.dm_mirror.proofs.Names.{told_between, Point, Spot, Inbox, StandsOnce, StandsOutside, standing, times, Of, Told, is_kernels, stands_right, not_kernels, token_is, token_at, is_server, Run, Placed, Mirrors, KernelState, MadeStands}
 use Rattle.dm_mirror.proofs.Names.{AllOwnStand, OwnStands, about_of, told_of, AreMessages, KernelStands, AllRecords, Carries, TokensStand, destination_of, inbox_is, about_same, ◌*◌, ◌/◌, ◌==◌, not, [], length, map, nat_lt, nat_le}
-use Rattle.dm_mirror.proofs.Names.{flat_map, length-append, flat_map-cons, Link, plain_link, Shell, registers, shell_of, spell_slot, numbers_size, Chunk, Block, Nothing, after_block, after_chunk, is_last, state_of, HasPiece, plain_status}
+use Rattle.dm_mirror.proofs.Names.{flat_map, length-append, flat_map-cons, Link, plain_link, Shell, registers, shell_of, spell_slot, numbers_size, Chunk, Block, Nothing, after_block, after_chunk, state_of, HasPiece, plain_status}
 use Rattle.dm_mirror.proofs.Names.{chunks_of, links_size, pieces_of, status_size, IsAsked, chunks, shell_spelling, sort_of, option_map_or}
-use Rattle.dm_rule.proofs.QuietTests.{eq_is}
 use Rattle.dm_onekernel.specs.Step as kernel
 use Rattle.dm_mirror.proofs.Leave.Goes.{life_some as alive_made}
 use Rattle.dm_mirror.proofs.Handle.Taking.{some_same}
@@ -145,13 +144,8 @@ shell_length s sixteen = grind (arith, nat_tests, flat_map, length-append, regis
 pub chunks_same : (x : Process) → length x.regs.r ≡ 16 → chunks x ≡ chunks_of (plain_process x)
 chunks_same x sixteen = ap (λ (n : ℕ). (n + 511) / 512) (shell_length (shell_of x) sixteen)
 
-least_of : (a c : ℕ) → nat_le a c ≡ true → a ≤ c
+pub least_of : (a c : ℕ) → nat_le a c ≡ true → a ≤ c
 least_of a c e = grind (arith, nat_tests)
-
--- a chunk is the last where as many were asked for as there are
-pub chunk_last : (x : Process) (n k : ℕ) → length x.regs.r ≡ 16 → IsAsked x n (Chunk k) → (n == chunks_of (plain_process x)) ≡ is_last (state_of x) k
-chunk_last x n k sixteen asked =
-    ap (λ (c : ℕ). n == c) (sym (chunks_same x sixteen)) ∙ (let e_ : (n == ((length (state_of x)) + 511) / 512) ≡ (is_last (state_of x) k) = grind (arith, nat_tests, least_of, eq_is, asked.0, asked.1) in e_)
 
 -- what is asked for then
 pub chunk_next : (last : Bool) (x : Process) (n k : ℕ) → nat_le (length (state_of x)) (512 * (k + 1)) ≡ last → IsAsked x n (Chunk k) → HasPiece x (after_chunk k last) → IsAsked x (n + 1) (after_chunk k last)

@@ -7,7 +7,7 @@ use Rattle.dm_mirror.proofs.Names.{takes_block, takes_chunk, Wants, Asker, sort_
 use Rattle.dm_rule.proofs.Names.{Part}
 use Rattle.dm_kernel.specs.declared.part.Part.TheVariants as part
 use Rattle.dm_kernel.specs.State as machine
-use Rattle.dm_mirror.proofs.Come.Frames.{Arrives, Comes, arrives, asked_after_block, block_last, chunk_last, chunk_next}
+use Rattle.dm_mirror.proofs.Come.Frames.{Arrives, Comes, arrives, asked_after_block, block_last, chunk_next, chunks_same, least_of}
 use Rattle.dm_mirror.proofs.Come.Turns.{come_point, come_view, turns_answer, eq_self}
 use Rattle.dm_mirror.proofs.Recorded.{recorded}
 use Rattle.dm_mirror.proofs.Rooms.{taken_same}
@@ -15,6 +15,7 @@ use Rattle.dm_mirror.proofs.Turning.{TurnsAt, begun}
 use Rattle.dm_mirror.proofs.Kernel.Sets.{on_if as if_true}
 use Rattle.dm_mirror.proofs.Follow.Fronts.{front_gone, set_self}
 use Rattle.dm_mirror.proofs.Handle.Taking.{some_same}
+use Rattle.dm_rule.proofs.QuietTests.{eq_is}
 
 pub turn_kernel : (b : Boot) (m : ℕ) (pt : Point) (l : Placed) (records : AllRecords) (k : KernelState) (y : Message) (p : Pid) (c : Comes b m pt l records k y p) (a : Arrives b m pt l k y p) (o : Option Turned) → kernel_handles b (record k { inbox = c.rest }) y y.what ≡ o → turn b k ≡ o
 turn_kernel b m pt l records k y p c a o e = grind (arith, nat_tests, if_true)
@@ -173,6 +174,9 @@ state_by b m pt l records k y p c a chunk h false is takes took asked test =
 
 pub turns_state : (b : Boot) (m : ℕ) (pt : Point) (l : Placed) (records : AllRecords) (k : KernelState) (y : Message) (p : Pid) (q : Pid) (chunk : ℕ) (last : Bool) (bytes : _) → Comes b m pt l records k y p → y.what ≡ What.State q chunk last bytes → TurnsAt b m pt l records k
 turns_state b m pt l records k y p q chunk last bytes c e =
+    -- a chunk is the last where as many were asked for as there are
+    let chunk_last : (x : Process) (n k : ℕ) → length x.regs.r ≡ 16 → IsAsked x n (Chunk k) → (n == chunks_of (plain_process x)) ≡ is_last (state_of x) k =
+      λ x n k sixteen asked. ap (λ (c : ℕ). n == c) (sym (chunks_same x sixteen)) ∙ (let e_ : (n == ((length (state_of x)) + 511) / 512) ≡ (is_last (state_of x) k) = grind (arith, nat_tests, least_of, eq_is, asked.0, asked.1) in e_) in
     let a = arrives b m pt l records k y p c in
     let x = a.process in
     let s = record k { inbox = c.rest } in

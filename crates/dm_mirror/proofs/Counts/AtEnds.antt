@@ -254,12 +254,10 @@ pub record BearEnds (pt end : Point) : Type 0 where
 bears_before : (pt mid end : Point) → mid.kernel ≡ pt.kernel → Grows pt.view mid.view → mid.view.moves ≡ pt.view.moves → BearEnds mid end → BearEnds pt end
 bears_before pt mid end k g m h = record { kernel = h.kernel ∙ k; grows = grows_on pt.view mid.view end.view g h.grows; moves = h.moves ∙ m }
 
-same_kernel : (s t : OneKernel) (o : Option Label) → o ≡ None → kernel_after s o ≡ Some t → t ≡ s
-same_kernel s t o e f = grind (arith, nat_tests)
-
 pub bear_ends : (ps : List Part) (pt : Point) (w : Spelled) → spelled pt ps ≡ Some w → AllBear ps → BearEnds pt w.point
 bear_ends [] pt w e h = subst (BearEnds pt) (said pt w e) (record { kernel = refl; grows = grows_same pt.view pt.view refl; moves = refl })
 bear_ends (Says l ∷ ps) pt w e h =
+    let same_kernel : (s t : OneKernel) (o : Option Label) → o ≡ None → kernel_after s o ≡ Some t → t ≡ s = λ s t o e f. grind (arith, nat_tests) in
     let k = says_next pt l ps w e in
     subst (BearEnds pt) k.point (bears_before pt (moved pt l k.s) k.rest.point (same_kernel pt.kernel k.s (label_of l) (grind (arith, nat_tests, h.0)) k.is)
     (seen_grows pt.kernel pt.view l) (let e_ : (view_after pt.view l).moves ≡ pt.view.moves = grind (arith, nat_tests, h.0) in e_) (bear_ends ps (moved pt l k.s) k.rest k.more h.1))

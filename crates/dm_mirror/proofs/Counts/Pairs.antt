@@ -3,7 +3,7 @@ use Rattle.dm_mirror.proofs.Names.{◌≡◌, ◌≢◌, ◌⊎◌, inl, inr, �
 use Rattle.dm_mirror.proofs.Names.{cases_Bool, false≢true, nat_tests, Pid, MsgId, MessageKind, plain_kind, PlainMessage, Boot, id_eq-same, bind-is, Step, Line, Load, Receiver, IsStep, Says, Routes, Again, Owns, Transmits, Spelled, goes_out}
 use Rattle.dm_mirror.proofs.Names.{packet_line, puts, spelled, Point, after, moved, group_of, Spot, Untaken, standing, times, View, Pair, after_put, gone_after, is_kernels, own_id, view_after, routed_on, migrates, to_of}
 use Rattle.dm_mirror.proofs.Names.{machine_of, Pairs, pair_stands, IsNet, IsNetLine, arrives_net, group_is, resends_net, stands_right, AllFit, onward, pair_same, migrates_fit, turns_fit, said, says_next, transmits_next, Run, told_there}
-use Rattle.dm_mirror.proofs.Names.{cases_zero, own_by, taken_pair, OneKernel, after_line, kernel_after, label_of, is_own, hushed, is_put, Stage, Label, About, Known, first_number, Alive, PlainProcess}
+use Rattle.dm_mirror.proofs.Names.{cases_zero, own_by, taken_pair, OneKernel, after_line, kernel_after, label_of, is_own, hushed, is_put, Stage, Label, About, first_number, Alive, PlainProcess}
 use Rattle.dm_mirror.proofs.Names.{proto_acting, queued_acting, held_acting, forwarded_acting, acting_label, seen}
 use Rattle.dm_rule.proofs.Names.{Part, marked}
 use Rattle.dm_rule.proofs.Lines.{parts}
@@ -132,9 +132,6 @@ fresh_same u m v w acting pair h = record {
 set_taken : (f : ℕ → ℕ → Pair) (a b : ℕ) (p : Pair) (c d : ℕ) (t : Bool) → ((a == c) && (b == d)) ≡ t → (a ≢ b → p.taken ≡ (f a b).taken) → c ≢ d → (if t then p else f c d).taken ≡ (f c d).taken
 set_taken f a b p c d t e h off = grind (arith, nat_tests, parts, same_of)
 
-put_taken : (v : View) (a b : ℕ) (i : MsgId) → a ≢ b → (routed_on a b (v.pair a b) i).taken ≡ (v.pair a b).taken
-put_taken v a b i off = grind (arith, nat_tests, same_of)
-
 -- either way a pair's messages came before, or from the acting machine
 fresh_by : (u : View) (m : ℕ) (v w : View) (a : ℕ) → Fresh u m v → w.acting ≡ v.acting → a ≡ m → ((c d : ℕ) → c ≢ d → (w.pair c d).taken ≡ (v.pair c d).taken) → ((c d : ℕ) → c ≢ a → ids_of w c d ≡ ids_of v c d) → Fresh u m w
 fresh_by u m v w a h acting from taken others =
@@ -158,6 +155,7 @@ fresh_by u m v w a h acting from taken others =
 
 pub fresh_put : (u : View) (m : ℕ) (v : View) (b : ℕ) (i : MsgId) (k : MessageKind) (q : Pid) → Fresh u m v → Fresh u m (after_put v v.acting b i k q)
 fresh_put u m v b i k q h =
+    let put_taken : (v : View) (a b : ℕ) (i : MsgId) → a ≢ b → (routed_on a b (v.pair a b) i).taken ≡ (v.pair a b).taken = λ v a b i off. grind (arith, nat_tests, same_of) in
     fresh_by u m v (after_put v v.acting b i k q) v.acting h refl h.acting
     (λ c d off. set_taken v.pair v.acting b (routed_on v.acting b (v.pair v.acting b) i) c d ((v.acting == c) && (b == d)) refl (λ apart. put_taken v v.acting b i apart) off)
     (λ c d off. ap (λ (ids : List MsgId). length ids) (let e_ : (if (v.acting == c) && (b == d) then (routed_on v.acting b (v.pair v.acting b) i) else v.pair c d).ids ≡ (v.pair c d).ids = grind (arith, nat_tests, same_of) in e_))

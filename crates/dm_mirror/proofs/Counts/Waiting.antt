@@ -2,7 +2,7 @@
 use Rattle.dm_mirror.proofs.Names.{◌≡◌, ◌≢◌, inl, inr, ℕ, zero, suc, ◌+◌, ◌<◌, ◌≤◌, ◌==◌, ◌&&◌, Bool, true, false, List, [], ◌∷◌, ◌++◌, length, is_some, refl, ap, ◌∙◌, sym, subst, arith, if◌then◌else◌, Option, Some, cases_Bool, false≢true}
 use Rattle.dm_mirror.proofs.Names.{nat_tests, Pid, id_eq, MsgId, MessageKind, Boot, id_eq-is, id_eq-same, Line, Point, Held, Queue, standing, times, View, Pair, Told, after_put, first_told, first_view, routed_on}
 use Rattle.dm_mirror.proofs.Names.{view_after, hushed, is_put, StandsAsBag-elsewhere, StandsAsBag-one, times-append, letters, Run, cases_zero, last_there, ◌*◌, map, option_map, slice_get, None, pid_eq, plain_link, BootImage, BootProcess}
-use Rattle.dm_mirror.proofs.Names.{IsValid, processes_are_valid, starting_at, Alive, life_at, first_point, Known, known_at, room_from, pid_eq-is, Phase, Rests, kind_comes, is_between, knows, kind_leaves, at_pid, at_record, rests_here}
+use Rattle.dm_mirror.proofs.Names.{IsValid, processes_are_valid, starting_at, Alive, life_at, first_point, Known, known_at, room_from, pid_eq-is, Phase, kind_comes, is_between, knows, kind_leaves, at_pid, at_record, rests_here}
 use Rattle.dm_mirror.proofs.Names.{InPhases, stands_first}
 use Rattle.dm_laws.proofs.Names.{begun}
 use Rattle.std.proofs.Common.{length-append}
@@ -108,11 +108,9 @@ routed_in v n i within r =
     let at_ = within r.from r.to (some_times i (v.pair r.from r.to).ids there) in
     omega (arith, there, (list_times n (λ c. (v.pair r.from c).ids) i r.to at_.1), list_times n (from_machine v n) i r.from at_.0)
 
-queue_held : (m : ℕ) (p : Pid) → Held m p ≢ Queue m p
-queue_held m p e = cc
-
 waits_once : (b : Boot) (pt : Point) (m : ℕ) (p : Pid) (i : MsgId) → Run b pt → times i (pt.view.queue m p) + times i (pt.view.held m p) ≤ 1
 waits_once b pt m p i run =
+    let queue_held : (m : ℕ) (p : Pid) → Held m p ≢ Queue m p = λ m p e. cc in
     let state = run.based.phased.state in
     let o = letters state.own pt.kernel.bag i in
     let f = standing pt.view i in
@@ -166,15 +164,11 @@ moves_put n v w more same h = record {
   moving = λ p d c k j at_d at_s. let e = ap (λ (f : Pid → ℕ). f p) same in let few = h.moves p in omega (arith, e, few, more);
 }
 
--- a process restarts
-forward_at : (d : ℕ) (n : Known) → kind_leaves MessageKind.Restart d n ≡ true → (k : ℕ) × (j : ℕ) × (n ≡ Known.Forward k j)
-forward_at d n e = grind (arith, nat_tests)
-
-incoming_from : (s : ℕ) (n : Known) → kind_comes MessageKind.Restart s n ≡ true → n ≡ Known.Incoming s
-incoming_from s n e = grind (arith, nat_tests)
-
 may_move : (b : Boot) (pt : Point) (m : ℕ) (p : Pid) (n : ℕ) → Run b pt → FrontRestarts pt m p → MovesFew n pt.view → pt.view.moves p + 1 ≤ total pt.view n
 may_move b pt m p n run f h =
+    -- a process restarts
+    let incoming_from : (s : ℕ) (n : Known) → kind_comes MessageKind.Restart s n ≡ true → n ≡ Known.Incoming s = λ s n e. grind (arith, nat_tests) in
+    let forward_at : (d : ℕ) (n : Known) → kind_leaves MessageKind.Restart d n ≡ true → (k : ℕ) × (j : ℕ) × (n ≡ Known.Forward k j) = λ d n e. grind (arith, nat_tests) in
     let c = is_moved b pt m f.id f.told p run f.told_is (ap is_between f.kind_is) f.about (stands_first pt.view m f.id f.rest f.box) in
     let (k, j, at_s) = forward_at c.d (pt.view.known c.s p) (ap (λ (x : MessageKind). kind_leaves x c.d (pt.view.known c.s p)) (sym f.kind_is) ∙ c.source) in
     h.moving p c.d c.s k j (incoming_from c.s (pt.view.known c.d p) (ap (λ (x : MessageKind). kind_comes x c.s (pt.view.known c.d p)) (sym f.kind_is) ∙ c.destination)) at_s
@@ -209,17 +203,11 @@ moves_restart b pt m n p w run f more moves known phases h =
 
 -- No count is too great at the start.
 
--- where a run begins
-first_of_home : (b : Boot) (m : ℕ) → IsValid b → m < length b.machines → starting_at m b.processes ≤ 64
-first_of_home b m valid lt = let k = (room_from b m valid lt).made in omega (arith, k)
-
-starting_one : (m : ℕ) (p : BootProcess) (ps : List BootProcess) → starting_at m ps ≤ starting_at m (p ∷ ps)
-starting_one m p ps = omega arith
-
 -- the processes of all machines
 all_processes : (b : Boot) (earlier ps : List BootProcess) → processes_are_valid b earlier ps ≡ true → length ps ≤ sum_to (length b.machines) (λ m. starting_at m ps)
 all_processes b earlier [] h = omega arith
 all_processes b earlier (p ∷ ps) h =
+    let starting_one : (m : ℕ) (p : BootProcess) (ps : List BootProcess) → starting_at m ps ≤ starting_at m (p ∷ ps) = λ m p ps. omega arith in
     let k = listed b earlier p ps h in
     let mine : starting_at p.pid.home ps + 1 ≤ starting_at p.pid.home (p ∷ ps) = (let e : (p.pid.home == p.pid.home) ≡ true = grind (arith, nat_tests) in let f : one_if (p.pid.home == p.pid.home) ≡ 1 = ap one_if e in omega (arith, f)) in
     omega (arith, all_processes b (earlier ++ p ∷ []) ps k.rest, (sum_more (length b.machines) (λ m. starting_at m ps) (λ m. starting_at m (p ∷ ps)) p.pid.home (λ m. starting_one m p ps) k.home mine))
@@ -255,6 +243,8 @@ first_count = 1024
 
 pub under_start : (b : Boot) (n : ℕ) → IsValid b → Under (first_count + total (first_view b) n) (first_point b).kernel
 under_start b n valid =
+    -- where a run begins
+    let first_of_home : (b : Boot) (m : ℕ) → IsValid b → m < length b.machines → starting_at m b.processes ≤ 64 = λ b m valid lt. let k = (room_from b m valid lt).made in omega (arith, k) in
     let few : length b.processes ≤ 1024 = grind (arith, nat_tests, all_processes, sum_within, first_of_home, few_machines) in
     let children = children_few b.processes in
     record {

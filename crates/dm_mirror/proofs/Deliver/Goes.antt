@@ -164,9 +164,6 @@ read_on : (a c n : ℕ) (m : Message) → IsRoute a c → n < 256 ^ 4 → packet
 unfolding packet_of read_rest spelling
 read_on a c n m route small = grind (arith, nat_tests, IsField-number)
 
-numbered : (a c n : ℕ) (r : Result (Message × List ℕ) PacketError) (p : Packet) → with_number a c n r ≡ Ok p → (x : Message) × (p ≡ Packet.Data a c n x)
-numbered a c n r p e = grind (arith, nat_tests, guard_ok)
-
 -- ---- what a delivery reads
 
 pub few : (b : Boot) (m n : ℕ) → IsValid b → n ≡ length b.machines → m < n → m < 16
@@ -178,6 +175,7 @@ outstanding_is s given n m e above below is = grind (arith, nat_tests, slice_get
 
 pub reads_as : (b : Boot) (w : WorldState) (pt : Point) (l : Placed) (h : History) (a c k : ℕ) → IsValid b → StandsWith b w pt l h → a < pt.kernel.machines → c < pt.kernel.machines → a ≢ c → pt.kernel.machines ≡ length b.machines → IsReadable w → ReadsAs w h a c k
 reads_as b w pt l h a c k valid s a_in c_in apart machines_are readable n m e =
+    let numbered : (a c n : ℕ) (r : Result (Message × List ℕ) PacketError) (p : Packet) → with_number a c n r ≡ Ok p → (x : Message) × (p ≡ Packet.Data a c n x) = λ a c n r p e. grind (arith, nat_tests, guard_ok) in
     let there : PairStands b pt l w h a c = s.pairs a c a_in c_in apart in
     let low_a : a < 16 = few b a pt.kernel.machines valid machines_are a_in in
     let low_c : c < 16 = few b c pt.kernel.machines valid machines_are c_in in

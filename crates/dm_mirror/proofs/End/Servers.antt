@@ -183,9 +183,6 @@ pub record ComesTo (v : View) (p : Pid) : Type 0 where
 leaves_has : (k : MessageKind) (d : ℕ) (x : Known) → is_restart k ≡ false → kind_leaves k d x ≡ true → rule.standing_of x ≡ Some Standing.Leaving
 leaves_has k d x off e = grind (arith, nat_tests, off, left_true)
 
-restart_comes : (s : ℕ) (x : Known) → kind_comes MessageKind.Restart s x ≡ true → (from : ℕ) × (x ≡ Incoming from)
-restart_comes s x e = grind (arith, nat_tests)
-
 pub off : (a m : ℕ) → m ≢ a → (a == m) ≡ false
 off a m apart = grind (arith, nat_tests)
 
@@ -204,6 +201,7 @@ moves_has v p k s d id early h = record {
 
 restart_to : (v : View) (p : Pid) (s d : ℕ) (id : MsgId) → IsIn v p (Moves MessageKind.Restart s d (Some id)) → ComesTo v p
 restart_to v p s d id h =
+    let restart_comes : (s : ℕ) (x : Known) → kind_comes MessageKind.Restart s x ≡ true → (from : ℕ) × (x ≡ Incoming from) = λ s x e. grind (arith, nat_tests) in
     let apart : (s == d) ≡ false = not_false (s == d) h.apart in
     let (from, is) = restart_comes s (v.known d p) (grind (arith, nat_tests, eq_self)) in
     record { source = s; to = d; id = id; from = from; known = is; others = λ m other. grind (arith, nat_tests, off); token = h.token }

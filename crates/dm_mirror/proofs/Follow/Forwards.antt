@@ -48,9 +48,6 @@ forwarded pt m y at = moved (begun pt m) (Line.Forwarded y.id at) pt.kernel
 sender_is : (b : Boot) (m : ℕ) (pt : Point) (l : Placed) (records : AllRecords) (k : KernelState) (y : Message) (c : Fronts b m pt l records k y) → plain_what y.what ≡ None → is_told_back (kind_of y.what) ≡ true → manager ≡ y.sender.pid
 sender_is b m pt l records k y c none back = sym ((c.own y.id y c.there (ap (with_what y) none)).sender (let e_ : kind_of y.what ≡ MessageKind.Migrate = grind (arith, nat_tests) in e_))
 
-none_of : (y : Message) → plain_message y ≡ None → plain_what y.what ≡ None
-none_of y e = grind (arith, nat_tests)
-
 -- what goes on, and what tells its sender
 abbrev routes_of : Message → MsgId → ℕ → ℕ → ℕ → Bool → List Route
 routes_of y id here at moves true = On (sent_on at moves y) ∷ Own (update_of y id here at moves) ∷ []
@@ -71,6 +68,7 @@ outcome_forwards : (b : Boot) (m : ℕ) (pt : Point) (l : Placed) (records : All
     → ((x : PlainMessage) → z ≡ Some x → process_handles pt m y.id x (Forward at moves) ≡ Some (rule.Says (Line.Forwarded y.id at) ∷ map rule_part_of (routes_of y id here at moves back)))
     × (z ≡ None → process_told pt m y.id c.told (Forward at moves) ≡ Some (rule.Says (Line.Forwarded y.id at) ∷ map rule_part_of (routes_of y id here at moves back)))
 outcome_forwards b m pt l records k y c id here at moves back z plain has =
+    let none_of : (y : Message) → plain_message y ≡ None → plain_what y.what ≡ None = λ y e. grind (arith, nat_tests) in
     let place = (c.mirrors.places.message y.id y c.there).sender in (
       λ x is. (let w = parts y x (plain ∙ is) in
           ap Some (rule_forwards pt.addresses y (plain_kind x.what) x.sender id here at moves back (ap is_told_back (plain_kinds y.what x.what w.what) ∙ has) (λ e. sym w.sender) place)),

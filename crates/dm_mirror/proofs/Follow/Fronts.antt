@@ -78,10 +78,6 @@ front_gone i is xs e = ap (without_front i) e ∙ ap (λ (c : Bool). if c then i
 pub plain_kinds : (w : What) (o : PlainWhat) → plain_what w ≡ Some o → plain_kind o ≡ kind_of w
 plain_kinds w o e = grind (arith, nat_tests)
 
--- nor is a kernel's own message for a process or a server
-own_still : (k : MessageKind) (q : Pid) (a : About) → own_sort k q a ≡ true → (q.num == 0) ≡ false → is_between k ≡ false
-own_still k q a e num = grind (arith, nat_tests)
-
 -- who is no kernel and no server
 pub record IsProcess (p : Pid) : Type 0 where
   pub number : (p.num == 0) ≡ false
@@ -99,6 +95,8 @@ plain_there b m pt l records k y c = sym (c.mirrors.plain.bag y.id) ∙ ap (λ (
 still_by : (b : Boot) (m : ℕ) (pt : Point) (l : Placed) (records : AllRecords) (k : KernelState) (y : Message) (c : Fronts b m pt l records k y) (o : Option PlainWhat) → plain_what y.what ≡ o → (y.to.pid.num == 0) ≡ false → is_between (kind_of y.what) ≡ false
 still_by b m pt l records k y c (Some w) e num = grind (arith, nat_tests)
 still_by b m pt l records k y c None e num =
+    -- nor is a kernel's own message for a process or a server
+    let own_still : (k : MessageKind) (q : Pid) (a : About) → own_sort k q a ≡ true → (q.num == 0) ≡ false → is_between k ≡ false = λ k q a e num. grind (arith, nat_tests) in
     sym (ap is_between c.kind) ∙ own_still c.told.kind c.told.receiver c.told.about (c.own_told.own y.id c.told c.told_is (c.own y.id y c.there (ap (with_what y) e)).mine) (ap (λ (p : Pid). p.num == 0) c.receiver ∙ num)
 
 pub front_still : (b : Boot) (m : ℕ) (pt : Point) (l : Placed) (records : AllRecords) (k : KernelState) (y : Message) (c : Fronts b m pt l records k y) → (y.to.pid.num == 0) ≡ false → is_between (kind_of y.what) ≡ false
