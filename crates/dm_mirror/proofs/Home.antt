@@ -31,15 +31,13 @@ module _ (b : Boot) (pt : Point) (l : Placed) (w : WorldState) (h : History) (m 
   box_is = ap (λ (t : Bool). if t then at_machine pt.view.inbox m (pt.view.inbox m ++ x.id ∷ []) else pt.view.inbox) (eq-eqb m m refl)
 
   node_more : l.bag x.id ≡ Some x → IsLawfulMessage x → NodeStands b pt l m (w.nodes m) → NodeStands b next l m (node_home (w.nodes m) x)
-  node_more there lawful h = record {
-    kernel = kernel_box b pt l gave m (w.nodes m).kernel ((w.nodes m).kernel.inbox ++ x ∷ [])
+  node_more there lawful h = search (
+    kernel_box b pt l gave m (w.nodes m).kernel ((w.nodes m).kernel.inbox ++ x ∷ [])
         (subst (λ (is : List MsgId). AreMessages l.bag is ((w.nodes m).kernel.inbox ++ x ∷ [])) (sym ((λ i. box_is i m) ∙ at_here pt.view.inbox m (pt.view.inbox m ++ x.id ∷ [])))
-        (messages_push l.bag (pt.view.inbox m) (w.nodes m).kernel.inbox x.id x h.kernel.inbox there)) h.kernel;
-    lawful = lawful_more (w.nodes m).kernel x lawful h.lawful;
-    machines = h.machines;
-    numbers = h.numbers;
-    home = let e : (w.nodes m).home + 1 ≡ length ((pt.view.pair m m).ids ++ x.id ∷ []) = omega (arith, h.home, length-append (pt.view.pair m m).ids (x.id ∷ [])) in e ∙ ap (λ (p : Pair). length p.ids) (sym (pair_here pt.view.pair m m (routed_on m m (pt.view.pair m m) x.id)));
-  }
+        (messages_push l.bag (pt.view.inbox m) (w.nodes m).kernel.inbox x.id x h.kernel.inbox there)) h.kernel,
+    lawful_more (w.nodes m).kernel x lawful h.lawful,
+    (let e : (w.nodes m).home + 1 ≡ length ((pt.view.pair m m).ids ++ x.id ∷ []) = omega (arith, h.home, length-append (pt.view.pair m m).ids (x.id ∷ [])) in e ∙ ap (λ (p : Pair). length p.ids) (sym (pair_here pt.view.pair m m (routed_on m m (pt.view.pair m m) x.id)))),
+  )
 
   pub stands_home : m < pt.kernel.machines → (w.nodes m).home ≢ b.numbers → l.bag x.id ≡ Some x → IsLawfulMessage x → CoreStands b w pt l h → CoreStands b after next l h
   stands_home small fresh there lawful st =

@@ -22,13 +22,7 @@ use Rattle.dm_mirror.proofs.Handle.Kills.{free_of as free_as}
 
 -- whatever waits for it
 pub without_queue : (x : Process) → CanMove x → CanMove (record x { queue = [] })
-without_queue x h = record {
-  lawful = (let g = h.lawful in record { home = g.home; registers = g.registers; size = g.size; links = g.links; slots = g.slots; status = g.status; queue = All-nil IsLawfulMessage });
-  moves = h.moves;
-  again = h.again;
-  least = h.least;
-  most = h.most;
-}
+without_queue x h = search (All-nil IsLawfulMessage)
 
 leaves_where : (b : Boot) (m : ℕ) (pt : Point) (l : Placed) (k : KernelState) (y : Message) (p : Pid) (a : Arrives b m pt l k y p) → kind_of y.what ≡ MessageKind.Ask → (to : ℕ) × (pt.view.known a.source p ≡ Frozen to)
 leaves_where b m pt l k y p a is =
@@ -154,13 +148,8 @@ accepts_row b m pt l records k y p c a is handles some_ whole table =
       known_off = λ n q off. record_off v.known m n p q (Incoming from) off;
       known_away = λ n q off. ap (λ (d : Bool). if d && pid_eq p q then (Incoming from) else v.known n q) (eq_off m n off);
       asked_off = λ q off. ap (λ (d : Bool). if d then 1 else v.asked q) off;
-      here = refl;
       records_off = λ q off. ap (λ (d : Bool). if d then Some (Record.Incoming new) else k.records q) off;
-      ring = refl;
-      inbox = refl;
-      made = refl;
-      sent = refl;
-      servers = refl;
+      leaves = search;
       room = taken_then b m pt l records k y p c a box from asked none;
       mine =
           subst (λ (n : Known). KnownStands next l p (v.queue m p) (v.held m p) n (state.records p)) (sym (record_self v.known m p (Incoming from)))

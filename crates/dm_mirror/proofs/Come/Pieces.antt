@@ -101,13 +101,8 @@ turns_piece b m pt l records k y p c a h =
       known_off = λ n q off. refl;
       known_away = λ n q off. refl;
       asked_off = h.asked_off;
-      here = refl;
       records_off = λ q off. ap (λ (d : Bool). if d then Some (Record.Incoming now) else k.records q) off;
-      ring = refl;
-      inbox = refl;
-      made = refl;
-      sent = refl;
-      servers = refl;
+      leaves = search;
       room = room_kept b pt m p h.box h.asked l records k y c;
       mine =
           subst (λ (n : Known). KnownStands next l p (pt.view.queue m p) (pt.view.held m p) n (state.records p)) (sym (known_incoming b m pt l k y p a h.late))

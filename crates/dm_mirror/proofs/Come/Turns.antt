@@ -39,6 +39,15 @@ gets_receiver a v id q gs e = ap (λ (g : List Gets). given a g (Receiver id)) e
 gets_sender : (a : Addresses) (v : View) (id : MsgId) (q : Pid) (gs : List Gets) → gs ≡ goes_between v id q → given a gs (Sender id) ≡ unmoved v.acting
 gets_sender a v id q gs e = ap (λ (g : List Gets). given a g (Sender id)) e ∙ ap (λ (c : Bool). if c then unmoved v.acting else a (Sender id)) (id_eq-same id)
 
+-- what the machine leaves as it was, but for its count
+pub record AnswerLeaves (k state : KernelState) (rest : List Message) : Type 0 where
+  pub here : state.here ≡ k.here
+  pub ring : state.ring ≡ k.ring
+  pub inbox : state.inbox ≡ rest
+  pub made : state.made ≡ k.made
+  pub sent : state.sent ≡ k.sent + 1
+  pub servers : state.servers ≡ k.servers
+
 -- the answer, and what is as it was
 pub record Answer (b : Boot) (m : ℕ) (pt : Point) (l : Placed) (records : AllRecords) (k : KernelState) (y : Message) (p : Pid) (c : Comes b m pt l records k y p) (a : Arrives b m pt l k y p) : Type 0 where
   pub line : Line
@@ -55,13 +64,9 @@ pub record Answer (b : Boot) (m : ℕ) (pt : Point) (l : Placed) (records : AllR
   pub known_away : (n : ℕ) (q : Pid) → n ≢ m → known n q ≡ pt.view.known n q
   pub asked_off : (q : Pid) → pid_eq p q ≡ false → asked q ≡ pt.view.asked q
   -- the machine's
-  pub here : state.here ≡ k.here
   pub records_off : (q : Pid) → pid_eq p q ≡ false → state.records q ≡ k.records q
-  pub ring : state.ring ≡ k.ring
-  pub inbox : state.inbox ≡ c.rest
-  pub made : state.made ≡ k.made
-  pub sent : state.sent ≡ k.sent + 1
-  pub servers : state.servers ≡ k.servers
+  pub leaves : AnswerLeaves k state c.rest
+  pub open leaves use *
   pub room : RoomStands state.room (room_of (slice_get b.machines m)) (taken_at (come_point pt (come_view pt.view m p box known asked)) m pt.kernel.machines)
   pub mine : KnownStands (come_point pt (come_view pt.view m p box known asked)) l p (pt.view.queue m p) (pt.view.held m p) (known m p) (state.records p)
   -- the answer

@@ -132,30 +132,8 @@ fronted_by b m pt l records k i is (y ∷ rest) below run own_told mirrors stand
     let there_ : l.bag y.id ≡ Some y = ap l.bag name ∙ there in
     let box_ : pt.view.inbox m ≡ y.id ∷ is = box ∙ ap (λ (j : MsgId). j ∷ is) (sym name) in
     let t = was_told b m pt l y (plain_message y) run mirrors own there_ (subst (λ (z : List MsgId). 1 ≤ times y.id z) (sym box_) (times_self y.id is)) refl in
-    record {
-      message = y;
-      fronts = record {
-        below = below;
-        run = run;
-        own_told = own_told;
-        mirrors = mirrors;
-        stands = stands;
-        own = own;
-        tokens = tokens;
-        mine = mine;
-        counted = counted;
-        there = there_;
-        ids = is;
-        box = box_;
-        rest = rest;
-        inbox = inbox;
-        others = (let f : map l.bag is ≡ map Some rest = cc in f);
-        told = t.told;
-        told_is = t.is;
-        kind = t.kind;
-        receiver = t.receiver;
-      };
-    }
+    let others : AreMessages l.bag is rest = (let f : map l.bag is ≡ map Some rest = cc in f) in
+    record { message = y; fronts = search (there_, box_, others, t.is, t.kind, t.receiver) }
 
 pub fronted : (b : Boot) (m : ℕ) (pt : Point) (l : Placed) (records : AllRecords) (k : KernelState) (i : MsgId) (is : List MsgId) → m < pt.kernel.machines → Run b pt → OwnTold pt → Mirrors pt.kernel pt.view pt.addresses l
     → KernelStands b pt l m k → AllOwnStand pt.view l → TokensStand pt.view l records → records m ≡ k.records → k.sent ≡ pt.view.count m → pt.view.inbox m ≡ i ∷ is → Fronted b m pt l records k
