@@ -92,9 +92,8 @@ bag_sends_next : (r e : MsgId → ℕ) (s t : OneKernel) (p : Pid) (id : MsgId) 
 bag_sends_next r e s t p id (step.Calls number (Called.Sends m y)) w is h =
     let (z, sent, pending, counted) = w.counts in
     let k = when-is _ (with_sent (step.goes_on s p y) (Some m)) t is in
-    let name : id ≡ m.id = id_eq-is id m.id k.0 in
     let zero_ : e m.id ≡ 0 = ap e counted.id ∙ own_fresh r e s p w.x z.sent w.is.alive sent h in
-    subst (λ v. BagStep e s v None (Some id)) k.1 (subst (λ v. BagStep e s (with_sent (step.goes_on s p y) (Some m)) None (Some v)) (sym name) (steps_in r e s (step.goes_on s p y) None m (λ i. refl) zero_ h.entered))
+    subst (λ v. BagStep e s v None (Some id)) k.1 (subst (λ v. BagStep e s (with_sent (step.goes_on s p y) (Some m)) None (Some v)) (sym (id_eq-is id m.id k.0)) (steps_in r e s (step.goes_on s p y) None m (λ i. refl) zero_ h.entered))
 bag_sends_next r e s t p id _ w is h = cc
 
 -- a process that sends

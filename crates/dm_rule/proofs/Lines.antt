@@ -130,8 +130,7 @@ pub without_counts : (j i : MsgId) (xs : List MsgId) → 1 ≤ times i xs → ti
 without_counts j i [] least = absurd (omega arith)
 without_counts j i (y ∷ ys) least = elim (cases_Bool (id_eq i y)) [
   | inl same ↦
-      let is : i ≡ y = id_eq-is i y same in
-      let b : one_of j i ≡ one_of j y = ap (one_of j) is in omega (arith, (let a : times j (without_id i (y ∷ ys)) ≡ times j ys = ap (times j) (ap (λ (c : Bool). if c then ys else y ∷ without_id i ys) same) in a), b)
+      let b : one_of j i ≡ one_of j y = ap (one_of j) (id_eq-is i y same) in omega (arith, (let a : times j (without_id i (y ∷ ys)) ≡ times j ys = ap (times j) (ap (λ (c : Bool). if c then ys else y ∷ without_id i ys) same) in a), b)
   | inr apart ↦
       let deeper : 1 ≤ times i ys = omega (arith, least, (let none : one_of i y ≡ 0 = ap (λ (c : Bool). if c then 1 else 0) apart in none)) in
       let k = without_counts j i ys deeper in omega (arith, (let a : times j (without_id i (y ∷ ys)) ≡ times j (y ∷ without_id i ys) = ap (times j) (ap (λ (c : Bool). if c then ys else y ∷ without_id i ys) apart) in a), k)
@@ -273,9 +272,8 @@ taken_pair p n = record p { taken = p.taken + 1; kept = filter (λ k. not (k == 
 pub taken_by : (bag : Bag) (v : View) (a b n : ℕ) (o : Option MsgId) → slice_get (v.pair a b).ids (v.pair a b).taken ≡ o → Stands bag v → Stands bag (view.taken_id (view.with_pair v a b (taken_pair (v.pair a b) n)) b o)
 taken_by bag v a b n None is h =
     let k = past_place (v.pair a b).ids (v.pair a b).taken is in
-    let next : (v.pair a b).taken + 1 ≡ suc (v.pair a b).taken = omega arith in
     Stands-stays bag v (view.with_pair v a b (taken_pair (v.pair a b) n)) (λ z. elim z as (λ z_. ids_at (view.with_pair v a b (taken_pair (v.pair a b) n)) z_ ≡ ids_at v z_)
-    [ Untaken c d ↦ pair_keeps v.pair a b (taken_pair (v.pair a b) n) (ap (λ m. drop m (v.pair a b).ids) next ∙ k.1 ∙ sym k.0) c d | _ ↦ refl ]) (λ j. refl) h
+    [ Untaken c d ↦ pair_keeps v.pair a b (taken_pair (v.pair a b) n) (ap (λ m. drop m (v.pair a b).ids) (let next : (v.pair a b).taken + 1 ≡ suc (v.pair a b).taken = omega arith in next) ∙ k.1 ∙ sym k.0) c d | _ ↦ refl ]) (λ j. refl) h
 taken_by bag v a b n (Some i) is h =
     let taken_off : (v : View) (a b n : ℕ) (i : MsgId) (z : Spot) → z ≢ Untaken a b → z ≢ Inbox b → ids_at (record (view.with_pair v a b (taken_pair (v.pair a b) n)) { inbox = at_machine v.inbox b (v.inbox b ++ i ∷ []) }) z ≡ ids_at v z =
       λ v a b n i z h1 h2. search (arith, at_machine_off, inbox_apart, pair_off, untaken_apart) in

@@ -1,5 +1,5 @@
 -- What processes do keeps addresses where they may be.
-use Rattle.dm_rule.proofs.Names.{◌≡◌, ℕ, zero, suc, ◌+◌, ◌==◌, ◌&&◌, Bool, true, false, List, [], ◌∷◌, refl, ap, ◌∙◌, sym, subst, inl, inr, arith, if◌then◌else◌, slice_get, None, Some, cases_Bool, nat_tests, Pid, Place, pid_eq, MsgId}
+use Rattle.dm_rule.proofs.Names.{◌≡◌, ℕ, zero, suc, ◌+◌, ◌==◌, ◌&&◌, Bool, true, false, List, [], ◌∷◌, refl, ap, ◌∙◌, sym, subst, inl, inr, arith, if◌then◌else◌, slice_get, None, Some, cases_Bool, nat_tests, Pid, Place, pid_eq, MsgId, holder_eq, Holder}
 use Rattle.dm_rule.proofs.Names.{id_eq, PlainMessage, PlainProcess, Life, Alive, OneKernel, with_process, with_sent, without_message, pid_eq-is, id_eq-is, id_eq-same, sent_at, sent_off, stayed, bind-is, Addresses, given, Slot, Owner}
 use Rattle.dm_rule.proofs.Names.{Receiver, Sender, Enclosed, Child, Name, Answer, AskedBy, encloses, at_hand-is}
 use Rattle.dm_onekernel.specs.Step as kernel
@@ -95,51 +95,22 @@ running_home P s a p x h e =
     search (arith, running_home_if, h.processes p y (ap kernel.alive (at_hand-is s p y is).1))
 
 -- links of an enclosing list
-encloses_slot : (a : Addresses) (id : MsgId) (n : ℕ) (ps : List Place) (q : Pid) (k : ℕ) → given a (encloses id n ps) (Slot q k) ≡ a (Slot q k)
-encloses_slot a id n [] q k = refl
-encloses_slot a id n (p ∷ ps) q k = encloses_slot a id (n + 1) ps q k
-
-encloses_owner : (a : Addresses) (id : MsgId) (n : ℕ) (ps : List Place) (q : Pid) → given a (encloses id n ps) (Owner q) ≡ a (Owner q)
-encloses_owner a id n [] q = refl
-encloses_owner a id n (p ∷ ps) q = encloses_owner a id (n + 1) ps q
-
-encloses_receiver : (a : Addresses) (id : MsgId) (n : ℕ) (ps : List Place) (i : MsgId) → given a (encloses id n ps) (Receiver i) ≡ a (Receiver i)
-encloses_receiver a id n [] i = refl
-encloses_receiver a id n (p ∷ ps) i = encloses_receiver a id (n + 1) ps i
-
-encloses_sender : (a : Addresses) (id : MsgId) (n : ℕ) (ps : List Place) (i : MsgId) → given a (encloses id n ps) (Sender i) ≡ a (Sender i)
-encloses_sender a id n [] i = refl
-encloses_sender a id n (p ∷ ps) i = encloses_sender a id (n + 1) ps i
-
-encloses_child : (a : Addresses) (id : MsgId) (n : ℕ) (ps : List Place) (k : ℕ) → given a (encloses id n ps) (Child k) ≡ a (Child k)
-encloses_child a id n [] k = refl
-encloses_child a id n (p ∷ ps) k = encloses_child a id (n + 1) ps k
-
-encloses_name : (a : Addresses) (id : MsgId) (n : ℕ) (ps : List Place) (k : ℕ) → given a (encloses id n ps) (Name k) ≡ a (Name k)
-encloses_name a id n [] k = refl
-encloses_name a id n (p ∷ ps) k = encloses_name a id (n + 1) ps k
-
-encloses_answer : (a : Addresses) (id : MsgId) (n : ℕ) (ps : List Place) (k : ℕ) → given a (encloses id n ps) (Answer k) ≡ a (Answer k)
-encloses_answer a id n [] k = refl
-encloses_answer a id n (p ∷ ps) k = encloses_answer a id (n + 1) ps k
-
-encloses_asked : (a : Addresses) (id : MsgId) (n : ℕ) (ps : List Place) (q : Pid) → given a (encloses id n ps) (AskedBy q) ≡ a (AskedBy q)
-encloses_asked a id n [] q = refl
-encloses_asked a id n (p ∷ ps) q = encloses_asked a id (n + 1) ps q
-
-encloses_other : (a : Addresses) (id : MsgId) (n : ℕ) (ps : List Place) (i : MsgId) (k : ℕ) → id_eq id i ≡ false → given a (encloses id n ps) (Enclosed i k) ≡ a (Enclosed i k)
-encloses_other a id n [] i k e = refl
-encloses_other a id n (p ∷ ps) i k e =
-    ap (λ (c : Bool). if c && (n == k) then p else given a (encloses id (n + 1) ps) (Enclosed i k)) e ∙ encloses_other a id (n + 1) ps i k e
+encloses_off : (a : Addresses) (id : MsgId) (n : ℕ) (ps : List Place) (h : Holder) → ((k : ℕ) → holder_eq (Enclosed id k) h ≡ false) → given a (encloses id n ps) h ≡ a h
+encloses_off a id n [] h off = refl
+encloses_off a id n (p ∷ ps) h off = ap (λ (c : Bool). if c then p else given a (encloses id (n + 1) ps) h) (off n) ∙ encloses_off a id (n + 1) ps h off
 
 pub encloses_servers : (a : Addresses) (id : MsgId) (n : ℕ) (ps : List Place) → SameServers a (given a (encloses id n ps))
-encloses_servers a id n ps = record { child = encloses_child a id n ps; name = encloses_name a id n ps; answer = encloses_answer a id n ps; asked = encloses_asked a id n ps }
+encloses_servers a id n ps =
+    let off = encloses_off a id n ps in
+    record { child = λ k. off (Child k) (λ j. refl); name = λ k. off (Name k) (λ j. refl); answer = λ k. off (Answer k) (λ j. refl); asked = λ q. off (AskedBy q) (λ j. refl) }
 
 pub encloses_process : (a : Addresses) (id : MsgId) (n : ℕ) (ps : List Place) (q : Pid) → SameProcess a (given a (encloses id n ps)) q
-encloses_process a id n ps q = record { slot = encloses_slot a id n ps q; owner = encloses_owner a id n ps q }
+encloses_process a id n ps q = record { slot = λ k. encloses_off a id n ps (Slot q k) (λ j. refl); owner = encloses_off a id n ps (Owner q) (λ j. refl) }
 
 pub encloses_message : (a : Addresses) (id : MsgId) (n : ℕ) (ps : List Place) (i : MsgId) → id_eq id i ≡ false → SameMessage a (given a (encloses id n ps)) i
-encloses_message a id n ps i e = record { receiver = encloses_receiver a id n ps i; sender = encloses_sender a id n ps i; enclosed = λ k. encloses_other a id n ps i k e }
+encloses_message a id n ps i e =
+    let off = encloses_off a id n ps in
+    record { receiver = off (Receiver i) (λ j. refl); sender = off (Sender i) (λ j. refl); enclosed = λ k. off (Enclosed i k) (λ j. ap (λ (c : Bool). c && (j == k)) e) }
 
 -- the k-th of them has its place
 pub encloses_at : (a : Addresses) (id : MsgId) (n : ℕ) (ps : List Place) (k j : ℕ) (p : Place) → slice_get ps k ≡ Some p → j ≡ n + k → given a (encloses id n ps) (Enclosed id j) ≡ p

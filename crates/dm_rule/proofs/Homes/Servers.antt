@@ -211,7 +211,6 @@ board_request P s v a id code channel body (l ∷ ls) en at h =
 pub board_row : (P : Pid → Place → Type 0) (s t : OneKernel) (v : View) (a : Addresses) (id : MsgId) (m : PlainMessage) (w : PlainWhat) → m.what ≡ w → s.bag id ≡ Some m → v.acting ≡ 0 → AtHome P s a
     → bind (board.board_takes s.switchboard m w) (λ (k : board.BoardTook). Some (service.switchboard_took s id k)) ≡ Some t → AtHome P t (given a (board_takes_burden s v a id (burden_of w)))
 board_row P s t v a id m (PlainWhat.User code channel body links) is there at h e =
-    let k : service.switchboard_took s id (board.takes_request s.switchboard body links) ≡ t = cc in
-    subst (λ (u : OneKernel). AtHome P u (given a (board_takes_burden s v a id (burden_of (PlainWhat.User code channel body links))))) k
+    subst (λ (u : OneKernel). AtHome P u (given a (board_takes_burden s v a id (burden_of (PlainWhat.User code channel body links))))) (let k : service.switchboard_took s id (board.takes_request s.switchboard body links) ≡ t = cc in k)
     (board_request P s v a id code channel body links (λ n w f. (h.messages id m there).enclosed n w (ap (λ (x : PlainWhat). slice_get (links_in x) n) is ∙ f)) at h)
 board_row P s t v a id m _ is there at h e = cc

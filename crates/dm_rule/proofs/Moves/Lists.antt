@@ -27,9 +27,8 @@ pub Stands-held : (bag : Bag) (v w : View) (i : MsgId) (is : List MsgId) (x : Pi
 Stands-held bag v w i is x front there is_w h =
     let held_off : (v : View) (i : MsgId) (p : Pid) (z : Spot) → z ≢ Inbox v.acting → z ≢ Held v.acting p → ids_at (record (handled v i) { held = at_record v.held v.acting p (v.held v.acting p ++ i ∷ []) }) z ≡ ids_at v z =
       λ v i p z h1 h2. search (arith, at_record_off, held_apart, handled_off) in
-    let told : receiver_of (v.told i) ≡ Some x = h.told i x there in
     let u = record (handled v i) { held = at_record v.held v.acting x (v.held v.acting x ++ i ∷ []) } in
-    subst (Stands bag) (sym (held_is v i x (receiver_of (v.told i)) told) ∙ sym is_w)
+    subst (Stands bag) (sym (held_is v i x (receiver_of (v.told i)) (h.told i x there)) ∙ sym is_w)
     (record {
       kept = once_moves v u bag bag i (Inbox v.acting) (Held v.acting x) (inbox_held v.acting v.acting x) (λ j. refl) (λ j. handled_at v i is j front)
           (λ j. ap (times j) (at_record_at v.held v.acting x (v.held v.acting x ++ i ∷ [])) ∙ one_more j i (v.held v.acting x)) (λ z a b. held_off v i x z a b) h.kept;

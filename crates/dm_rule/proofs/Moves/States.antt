@@ -15,8 +15,7 @@ use Rattle.dm_rule.proofs.Moves.Lists.{without_all, without_off, under_way, firs
 pub hidden_letters : (own : Bag) (bag : MsgId → Option PlainMessage) (i : MsgId) → is_kernels i ≡ true → (j : MsgId) → letters (hidden (Some i) own) bag j ≡ hidden (Some i) (letters own bag) j
 hidden_letters own bag i k j = elim (cases_Bool (id_eq i j)) [
   | inl same ↦
-      let is : i ≡ j = id_eq-is i j same in
-      letters_own (hidden (Some i) own) bag j (subst (λ (x : MsgId). is_kernels x ≡ true) is k) ∙ ap (λ (c : Bool). if c then None else own j) same ∙ sym (ap (λ (c : Bool). if c then None else letters own bag j) same)
+      letters_own (hidden (Some i) own) bag j (subst (λ (x : MsgId). is_kernels x ≡ true) (id_eq-is i j same) k) ∙ ap (λ (c : Bool). if c then None else own j) same ∙ sym (ap (λ (c : Bool). if c then None else letters own bag j) same)
   | inr apart ↦
       ap (λ (x : Option Pid). if is_kernels j then x else to_of (bag j)) (ap (λ (c : Bool). if c then None else own j) apart) ∙ sym (ap (λ (c : Bool). if c then None else letters own bag j) apart)
 ]
@@ -135,8 +134,7 @@ again pt b i is t fits told h =
 own_bag : (own : Bag) (bag : MsgId → Option PlainMessage) (i : MsgId) (q : Pid) → is_kernels i ≡ true → (j : MsgId) → letters (having i q own) bag j ≡ having i q (letters own bag) j
 own_bag own bag i q k j = elim (cases_Bool (id_eq i j)) [
   | inl same ↦
-      let is : i ≡ j = id_eq-is i j same in
-      letters_own (having i q own) bag j (subst (λ (x : MsgId). is_kernels x ≡ true) is k) ∙ ap (λ (c : Bool). if c then Some q else own j) same ∙ sym (ap (λ (c : Bool). if c then Some q else letters own bag j) same)
+      letters_own (having i q own) bag j (subst (λ (x : MsgId). is_kernels x ≡ true) (id_eq-is i j same) k) ∙ ap (λ (c : Bool). if c then Some q else own j) same ∙ sym (ap (λ (c : Bool). if c then Some q else letters own bag j) same)
   | inr apart ↦
       ap (λ (x : Option Pid). if is_kernels j then x else to_of (bag j)) (ap (λ (c : Bool). if c then Some q else own j) apart) ∙ sym (ap (λ (c : Bool). if c then Some q else letters own bag j) apart)
 ]

@@ -76,16 +76,13 @@ takes_keep zero m a b ks tail pt w ab is gone h e = record {
 takes_keep (suc fuel) m a b ks tail pt w ab is gone h e = elim (cases_Bool (has m ks)) [
   | inl found ↦
       let others = kept_from ks (m + 1) fuel in
-      let e' : spelled pt (Says (Line.Taken a b m) ∷ (taking_parts a b others ++ tail)) ≡ Some w = subst (λ (c : Bool). spelled pt (taking_parts a b (if c then m ∷ others else []) ++ tail) ≡ Some w) found e in
-      let o = onward pt (Says (Line.Taken a b m)) (taking_parts a b others ++ tail) w e' in
+      let o = onward pt (Says (Line.Taken a b m)) (taking_parts a b others ++ tail) w (subst (λ (c : Bool). spelled pt (taking_parts a b (if c then m ∷ others else []) ++ tail) ≡ Some w) found e) in
       let pair = took_pair pt a b m (taking_parts a b others ++ tail) w o in
       let here : o.next.view.pair a b ≡ took m (pt.view.pair a b) = at_two pt.view.pair o.next.view.pair a b (took m (pt.view.pair a b)) pair in
       let taken : (o.next.view.pair a b).taken ≡ (pt.view.pair a b).taken + 1 = ap (λ (p : Pair). p.taken) here in
       let out : (o.next.view.pair a b).gone ≡ (pt.view.pair a b).gone = ap (λ (p : Pair). p.gone) here in
-      let mid : Mid o.next.view.pair a b ks = subst (λ (g : ℕ → ℕ → Pair). Mid g a b ks) (sym pair) (mid_take pt.view.pair a b m ks ab is (h.bound m found) h) in
-      let t = takes_keep fuel (m + 1) a b ks tail o.next o.rest ab (omega arith) (omega arith) mid o.on in
-      let long : length (if has m ks then m ∷ others else []) ≡ length (m ∷ others) = ap (λ (c : Bool). length (if c then m ∷ others else [])) found in
-      record { at = t.at; paired = t.paired; taken = t.taken ∙ (omega (arith, long)); rest = t.rest; on = t.on; leads = t.leads ∙ o.end }
+      let t = takes_keep fuel (m + 1) a b ks tail o.next o.rest ab (omega arith) (omega arith) (subst (λ (g : ℕ → ℕ → Pair). Mid g a b ks) (sym pair) (mid_take pt.view.pair a b m ks ab is (h.bound m found) h)) o.on in
+      record { at = t.at; paired = t.paired; taken = t.taken ∙ (omega (arith, ap (λ (c : Bool). length (if c then m ∷ others else [])) found)); rest = t.rest; on = t.on; leads = t.leads ∙ o.end }
   | inr lacks ↦
       let others = kept_from ks (m + 1) fuel in
       let e' : spelled pt tail ≡ Some w = subst (λ (c : Bool). spelled pt (taking_parts a b (if c then m ∷ others else []) ++ tail) ≡ Some w) lacks e in

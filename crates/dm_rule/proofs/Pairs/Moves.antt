@@ -77,11 +77,10 @@ route_packed f a b id ab out h =
     let g = at_pair f a b (routed_on a b (f a b) id) in
     let first : Goes f g = route_out f a b id ab h in
     let is : g a b ≡ routed_out (f a b) id = set_same f a b (routed_on a b (f a b) id) ∙ routed_out-is a b (f a b) id ab in
-    let gone : (g a b).gone ≡ (f a b).gone = ap (λ (p : Pair). p.gone) is in
     let all : (f a b).gone ≡ length (f a b).ids = grind (arith, nat_tests) in
     let room : (f a b).gone - (f a b).acked < 8 = grind (arith, nat_tests) in
     Goes-on f g (at_pair g a b (packed (Load.Data (length (f a b).ids)) (g a b))) first
-    (next_goes g a b (length (f a b).ids) ab (sym all ∙ sym gone) (omega (arith, ap (λ (p : Pair). length p.ids) is ∙ one_more (f a b) id)) (omega (arith, all, room, ap (λ (p : Pair). p.acked) is)) first.paired)
+    (next_goes g a b (length (f a b).ids) ab (sym all ∙ sym (ap (λ (p : Pair). p.gone) is)) (omega (arith, ap (λ (p : Pair). length p.ids) is ∙ one_more (f a b) id)) (omega (arith, all, room, ap (λ (p : Pair). p.acked) is)) first.paired)
 
 route_same : (f : ℕ → ℕ → Pair) (a : ℕ) (id : MsgId) → Paired f → Goes f (at_pair f a a (routed_on a a (f a a) id))
 route_same f a id h =

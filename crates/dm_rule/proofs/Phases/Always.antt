@@ -44,9 +44,8 @@ known_first b earlier (p ∷ ps) m q valid none le = elim (cases_Bool (pid_eq p.
   | inl same ↦
       absurd (image_there b p (let image : p.image < length b.images = grind (arith, nat_tests) in image) (sym (ap (λ (c : Bool). if c then first_life b p else life_at b ps q) same) ∙ none))
   | inr off ↦
-      let rest : processes_are_valid b (earlier ++ p ∷ []) ps ≡ true = grind (arith, nat_tests) in
       ap (λ (c : Bool). if c && (p.pid.home == m) then Here else known_at ps m q) off
-      ∙ known_first b (earlier ++ p ∷ []) ps m q rest (sym (ap (λ (c : Bool). if c then first_life b p else life_at b ps q) off) ∙ none) le
+      ∙ known_first b (earlier ++ p ∷ []) ps m q (let rest : processes_are_valid b (earlier ++ p ∷ []) ps ≡ true = grind (arith, nat_tests) in rest) (sym (ap (λ (c : Bool). if c then first_life b p else life_at b ps q) off) ∙ none) le
 ]
 
 -- all that holds together

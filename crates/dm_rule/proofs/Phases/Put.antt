@@ -49,18 +49,11 @@ first_none (Some t) u e = cc
 pub of_same : (p q : Pid) → Of p ≡ Of q → p ≡ q
 of_same p q e = cc
 
-others_has : (v w : View) (q : Pid) (phase : Phase) (i : MsgId) → ((j : MsgId) (t : Told) → v.told j ≡ Some t → id_eq i j ≡ false) → ((j : MsgId) → id_eq i j ≡ false → w.told j ≡ v.told j)
-    → ((j : MsgId) → id_eq i j ≡ false → (z : Spot) → standing w j z ≡ standing v j z) → HasToken v q phase → HasToken w q phase
-others_has v w q (Moves k s d (Some id)) i kept told spots h =
-    let apart = kept id (told_between q k s d) h.told in
-    search arith
-others_has v w q _ i kept told spots h = tt
-
 put_others : (v w : View) (p q : Pid) (phase : Phase) (i : MsgId) (u : Told) → pid_eq p q ≡ false → ((m : ℕ) → w.known m q ≡ v.known m q) → w.told i ≡ Some u → u.about ≡ Of p → ((j : MsgId) → id_eq i j ≡ false → w.told j ≡ v.told j)
     → ((j : MsgId) → id_eq i j ≡ false → (z : Spot) → standing w j z ≡ standing v j z) → ((j : MsgId) (t : Told) → v.told j ≡ Some t → id_eq i j ≡ false) → IsIn v q phase → IsIn w q phase
 put_others v w p q phase i u off same told_i about told spots kept h = record {
   known = λ m. ap (knows phase m) (same m) ∙ h.known m;
-  token = others_has v w q phase i kept told spots h.token;
+  token = ((elim phase as (λ phase_. HasToken v q phase_ → HasToken w q phase_) [ Moves k' s' d' (Some id') ↦ λ h'. let apart = kept id' (told_between q k' s' d') h'.told in search arith | _ ↦ λ h'. tt ]) h.token);
   alone = λ j t z tj bt ab st. elim (cases_Bool (id_eq i j)) [
     | inl is ↦
         let f : Some u ≡ Some t = sym told_i ∙ ap w.told (id_eq-is i j is) ∙ tj in
