@@ -2,6 +2,7 @@
 pub use Rattle.std.proofs.Common.{inl, inr, is_none, is_some, nat_le, nat_lt, ◌⊎◌}
 pub use Rattle.std.proofs.lemmas.Bool.{and_right, cases_Bool, false≢true, or_parts}
 pub use Rattle.std.proofs.lemmas.Option.{cond_some}
+pub use Rattle.std.specs.List.{AllByRecursion}
 pub use Rattle.std.specs.Prelude.{if◌then◌else◌, option_map, ⊤, ◌||◌}
 pub use Rattle.std.specs.declared.option.Option.{Option}
 pub use Rattle.std.specs.declared.option.Option.TheVariants.{None, Some}

@@ -34,12 +34,13 @@ pub use Rattle.dm_onekernel.specs.declared.boot.Format.TheVariants.{One}
 pub use Rattle.dm_laws.proofs.Counted.{pending_of}
 pub use Rattle.dm_laws.proofs.Entered.{Entered, Made, asks, counts, is_counted, request_id, unentered}
 pub use Rattle.dm_laws.proofs.Equal.{id_eq-is, id_eq-same, id_eq-swap, pid_eq-is, pid_eq-same}
+pub use Rattle.dm_laws.proofs.Facts.{all_both, all_map}
 pub use Rattle.dm_laws.proofs.Grown.{LifeGrows}
 pub use Rattle.dm_laws.proofs.Movers.{sent_at, sent_off, stayed}
-pub use Rattle.dm_laws.proofs.Names.{Alive, Boot, BootImage, BootProcess, CallNumber, Called, Direction, Ends, IsValid, Label, Life, Manager, MoveNote, Moving, MsgId, None, OneKernel, Option, Outcome, Outputs, Pending, PendingKind}
-pub use Rattle.dm_laws.proofs.Names.{PlainLink, PlainMessage, PlainProcess, PlainStatus, PlainWhat, Ready, Replies, Reply, Sends, Some, Waiting, Waits, Why, and_right, answer_id, answer_to, begun, bind, cases_Bool, code_of_outcome}
-pub use Rattle.dm_laws.proofs.Names.{cond_some, direction_numbered, entry, false≢true, first_failed, first_life, first_number, fun_ext, id_eq, id_of, in_bag, inl, inr, is_some, life_at, manager, nat_le, option_map, or_parts, pid_of}
-pub use Rattle.dm_laws.proofs.Names.{plain_link, processes_are_valid, reception, reg, start, starting_at, switchboard, when, with_note, with_process, with_sent, without_message, without_note, ⊤, ◌||◌, ◌⊎◌}
+pub use Rattle.dm_laws.proofs.Names.{Alive, AllByRecursion, Boot, BootImage, BootProcess, CallNumber, Called, Direction, Ends, IsValid, Label, Life, Manager, MoveNote, Moving, MsgId, None, OneKernel, Option, Outcome, Outputs, Pending}
+pub use Rattle.dm_laws.proofs.Names.{PendingKind, PlainLink, PlainMessage, PlainProcess, PlainStatus, PlainWhat, Ready, Replies, Reply, Sends, Some, Waiting, Waits, Why, and_right, answer_id, answer_to, begun, bind, cases_Bool}
+pub use Rattle.dm_laws.proofs.Names.{code_of_outcome, cond_some, direction_numbered, entry, false≢true, first_failed, first_life, first_number, fun_ext, id_eq, id_of, in_bag, inl, inr, is_some, life_at, manager, nat_le, option_map}
+pub use Rattle.dm_laws.proofs.Names.{or_parts, pid_of, plain_link, processes_are_valid, reception, reg, start, starting_at, switchboard, when, with_note, with_process, with_sent, without_message, without_note, ⊤, ◌||◌, ◌⊎◌}
 pub use Rattle.dm_laws.proofs.Runs.{after_step, start-sound}
 pub use Rattle.dm_laws.proofs.Servers.{ServerSends, board_takes_lem, ends_move-is, manager_takes_lem, next_is_new, why_ended-is}
 pub use Rattle.dm_laws.proofs.Services.{LandsSo, lands-is}

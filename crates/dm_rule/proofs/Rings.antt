@@ -1,17 +1,12 @@
 -- What the ring of a machine lists is here.
-use Rattle.dm_rule.proofs.Names.{◌≡◌, ℕ, ◌==◌, ◌&&◌, Bool, true, false, not, List, [], ◌∷◌, ◌++◌, refl, ap, ◌∙◌, sym, subst, ⊤, if◌then◌else◌, false≢true, Pid, pid_eq, at_machine, at_record, without, moved_back, View, Known, Here}
-use Rattle.dm_rule.proofs.Names.{pid_eq-is, pid_eq-same, arith, eqb-true}
+use Rattle.dm_rule.proofs.Names.{◌≡◌, ℕ, ◌==◌, ◌&&◌, Bool, true, false, not, List, [], ◌∷◌, ◌++◌, refl, ap, ◌∙◌, sym, subst, if◌then◌else◌, false≢true, Pid, pid_eq, at_machine, at_record, without, View, Known, Here, pid_eq-is, pid_eq-same}
+use Rattle.dm_rule.proofs.Names.{arith, eqb-true, AllByRecursion, all_both}
 
 abbrev pub AllHere : (Pid → Known) → List Pid → Type 0
-AllHere f [] = ⊤
-AllHere f (p ∷ ps) = (f p ≡ Here) × AllHere f ps
+AllHere f = AllByRecursion (λ p. f p ≡ Here)
 
 pub record Rings (v : View) : Type 0 where
   pub each : (m : ℕ) → AllHere (v.known m) (v.ring m)
-
-pub all_append : (f : Pid → Known) (ps qs : List Pid) → AllHere f ps → AllHere f qs → AllHere f (ps ++ qs)
-all_append f [] qs h k = k
-all_append f (p ∷ ps) qs h k = (h.0, all_append f ps qs h.1 k)
 
 -- something else is known of one
 abbrev pub learnt : (Pid → Known) → Pid → Known → Pid → Known
@@ -29,18 +24,12 @@ without_row : (f g : Pid → Known) (p q : Pid) (ps : List Pid) (b : Bool) → p
 without_row f g p q ps true e keeps h rest = rest
 without_row f g p q ps false e keeps h rest = (keeps q e h, rest)
 
-all_without : (f g : Pid → Known) (p : Pid) (ps : List Pid) → ((x : Pid) → pid_eq p x ≡ false → f x ≡ Here → g x ≡ Here) → AllHere f ps → AllHere g (without p ps)
+pub all_without : (f g : Pid → Known) (p : Pid) (ps : List Pid) → ((x : Pid) → pid_eq p x ≡ false → f x ≡ Here → g x ≡ Here) → AllHere f ps → AllHere g (without p ps)
 all_without f g p [] keeps h = tt
 all_without f g p (q ∷ qs) keeps h = without_row f g p q (without p qs) (pid_eq p q) refl keeps h.0 (all_without f g p qs keeps h.1)
 
-pub learnt_without : (f : Pid → Known) (p : Pid) (k : Known) (ps : List Pid) → AllHere f ps → AllHere (learnt f p k) (without p ps)
-learnt_without f p k ps h = all_without f (learnt f p k) p ps (λ x off is. ap (λ (c : Bool). if c then k else f x) off ∙ is) h
-
-pub all_moved : (f : Pid → Known) (p : Pid) (ps : List Pid) → f p ≡ Here → AllHere f ps → AllHere f (moved_back p ps)
-all_moved f p ps here h = all_append f (without p ps) (p ∷ []) (all_without f f p ps (λ x off is. is) h) (here, tt)
-
 pub learnt_last : (f : Pid → Known) (p : Pid) (ps : List Pid) → AllHere f ps → AllHere (learnt f p Here) (ps ++ p ∷ [])
-learnt_last f p ps h = all_append (learnt f p Here) ps (p ∷ []) (all_learnt f p Here ps (λ e. refl) h) (ap (λ (c : Bool). if c then Here else f p) (pid_eq-same p), tt)
+learnt_last f p ps h = all_both (λ q. learnt f p Here q ≡ Here) ps (p ∷ []) (all_learnt f p Here ps (λ e. refl) h) (ap (λ (c : Bool). if c then Here else f p) (pid_eq-same p), tt)
 
 -- one machine's ring
 ring_if : (f : Pid → Known) (c : Bool) (x y : List Pid) → (c ≡ true → AllHere f x) → (c ≡ false → AllHere f y) → AllHere f (if c then x else y)

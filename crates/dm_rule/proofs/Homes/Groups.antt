@@ -1,7 +1,7 @@
 -- A group keeps all of it where its first part is said where it belongs.
 use Rattle.dm_rule.proofs.Names.{◌≡◌, ℕ, zero, suc, ◌==◌, true, List, [], ◌∷◌, ◌++◌, refl, ap, ◌∙◌, sym, subst, ◌⊎◌, inl, inr, ⊤, if◌then◌else◌, Option, None, Some, Pid, MsgId, Boot, Label, OneKernel, bind, bind-is, Line, Load, View, Pair}
-use Rattle.dm_rule.proofs.Names.{queued_for, handled, Point, after, after_line, moved, Part, Says, Spelled, behind, spelled, lines_of, slice_get, ◌-◌, Step, actor, begins, marked, NothingElse, group_of, outcome, IsStill, AskNone, arith}
-use Rattle.dm_rule.proofs.Names.{nat_tests}
+use Rattle.dm_rule.proofs.Names.{Transmits, queued_for, handled, Point, after, after_line, moved, Part, Says, Spelled, behind, spelled, lines_of, slice_get, ◌-◌, Step, actor, begins, marked, NothingElse, group_of, outcome, IsStill, AskNone}
+use Rattle.dm_rule.proofs.Names.{arith, nat_tests, all_both, all_map}
 use Rattle.dm_rule.proofs.Homes.Labels.{SaidAt, RingsHome, rings_same}
 use Rattle.dm_rule.proofs.Homes.Lists.{stands, ListsHome, queue_set, all_stand_last, handled_lists}
 use Rattle.dm_rule.proofs.Homes.Lines.{NoneReplaced, Home, Kept, same_lists, label_keeps}
@@ -89,28 +89,18 @@ group_keeps none b r e pt (Step.Deliver a c k) w still is ask h good =
     (record { sound = h.sound; at = h.at; rings = rings_same v (view.with_pair v a c p) refl refl refl begun.rings; lists = same_lists pt.kernel e v a c p refl refl begun.lists }) rest ask
 group_keeps none b r e pt (Step.Migrate p m) w still is ask h good = absurd still
 
--- parts that may stand anywhere
-parts_append : (m : ℕ) (ps qs : List Part) → PartsAnywhere m ps → PartsAnywhere m qs → PartsAnywhere m (ps ++ qs)
-parts_append m [] qs h k = k
-parts_append m (p ∷ ps) qs h k = (h.0, parts_append m ps qs h.1 k)
-
-repeats_good : (m a b : ℕ) (ns : List ℕ) → PartsAnywhere m (rule.repeats a b ns)
-repeats_good m a b [] = tt
-repeats_good m a b (n ∷ ns) = (tt, repeats_good m a b ns)
-
 pub resends_good : (m n : ℕ) (v : View) (b : ℕ) → PartsAnywhere m (rule.resends v n b)
 resends_good m n v zero = tt
 resends_good m n v (suc b) =
     let ns = rule.numbers_from (v.pair n b).acked ((v.pair n b).gone - (v.pair n b).acked) in
-    parts_append m (rule.resends v n b) (if n == b then [] else rule.repeats n b ns) (resends_good m n v b) (by_test (PartsAnywhere m) (n == b) [] (rule.repeats n b ns) tt (repeats_good m n b ns))
+    all_both (PartAnywhere m) (rule.resends v n b) (if n == b then [] else rule.repeats n b ns) (resends_good m n v b) (by_test (PartsAnywhere m) (n == b) [] (rule.repeats n b ns) tt (all_map (PartAnywhere m) (λ k. Transmits n b (Load.Data k)) ns (λ k. tt)))
 
 takes_good : (m a b : ℕ) (ns : List ℕ) → PartsAnywhere m (rule.taking_parts a b ns)
-takes_good m a b [] = tt
-takes_good m a b (n ∷ ns) = (tt, takes_good m a b ns)
+takes_good m a b ns = all_map (PartAnywhere m) (λ n. Says (Line.Taken a b n)) ns (λ n. tt)
 
 comes_good : (m a b : ℕ) (p q : Pair) (l : Load) → PartsAnywhere m (rule.comes a b p q l)
-comes_good m a b p q (Load.Data n) = search (arith, by_test, parts_append, takes_good)
-comes_good m a b p q (Load.Ack n) = (tt, repeats_good m b a (rule.let_go q (rule.more n q.acked)))
+comes_good m a b p q (Load.Data n) = search (arith, by_test, all_both, takes_good)
+comes_good m a b p q (Load.Ack n) = (tt, all_map (PartAnywhere m) (λ k. Transmits b a (Load.Data k)) (rule.let_go q (rule.more n q.acked)) (λ k. tt))
 
 pub deliver_keeps : NoneReplaced → (b : Boot) (r e : MsgId → ℕ) (pt : Point) (a c k : ℕ) (w : Spelled) → group_of b pt (Step.Deliver a c k) ≡ Some w → AskNone w.lines → Home r e pt → Kept c w.point
 deliver_keeps none b r e pt a c k w is ask h =

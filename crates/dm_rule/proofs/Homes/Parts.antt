@@ -1,6 +1,6 @@
 -- The parts of a group keep all of it.
 use Rattle.dm_rule.proofs.Names.{◌≡◌, ℕ, ◌+◌, ◌==◌, List, [], ◌∷◌, refl, ap, ◌∙◌, sym, subst, ⊤, Option, None, Some, MsgId, Label, OneKernel, bind, bind-is, Line, View, Pair, Point, after, moved, Part, Says, Routes, Again, Owns, Transmits}
-use Rattle.dm_rule.proofs.Names.{Spelled, behind, spelled, lines_of, packet_line, not, filter, arith, after_taken}
+use Rattle.dm_rule.proofs.Names.{Spelled, behind, spelled, lines_of, packet_line, not, filter, arith, after_taken, AllByRecursion}
 use Rattle.dm_rule.specs.View as view
 use Rattle.dm_rule.proofs.Homes.Labels.{SaidAt, RingsHome, rings_same}
 use Rattle.dm_rule.proofs.Homes.Lines.{NoneReplaced, Home, Kept, same_lists, packet_line_home, routes_keep, label_keeps}
@@ -39,8 +39,7 @@ PartAnywhere m (Owns k q b) = ⊥
 PartAnywhere m _ = ⊤
 
 abbrev pub PartsAnywhere : ℕ → List Part → Type 0
-PartsAnywhere m [] = ⊤
-PartsAnywhere m (p ∷ ps) = PartAnywhere m p × PartsAnywhere m ps
+PartsAnywhere m = AllByRecursion (PartAnywhere m)
 
 -- nothing changes but the last line
 still_home : (r e : MsgId → ℕ) (pt : Point) → Home r e pt → Home r e (record { kernel = pt.kernel; view = pt.view; addresses = pt.addresses })

@@ -1,7 +1,7 @@
 -- What processes do keeps addresses where they may be.
-use Rattle.dm_rule.proofs.Names.{◌≡◌, ℕ, zero, suc, ◌+◌, ◌==◌, ◌&&◌, Bool, true, false, List, [], ◌∷◌, refl, ap, ◌∙◌, sym, subst, inl, inr, arith, if◌then◌else◌, slice_get, None, Some, cases_Bool, nat_tests, Pid, Place, pid_eq, MsgId, holder_eq, Holder}
-use Rattle.dm_rule.proofs.Names.{id_eq, PlainMessage, PlainProcess, Life, Alive, OneKernel, with_process, with_sent, without_message, pid_eq-is, id_eq-is, id_eq-same, sent_at, sent_off, stayed, bind-is, Addresses, given, Slot, Owner}
-use Rattle.dm_rule.proofs.Names.{Receiver, Sender, Enclosed, Child, Name, Answer, AskedBy, encloses, at_hand-is}
+use Rattle.dm_rule.proofs.Names.{◌≡◌, ℕ, zero, suc, ◌+◌, ◌==◌, ◌&&◌, Bool, true, false, List, [], ◌∷◌, refl, ap, ◌∙◌, sym, subst, inl, inr, arith, if◌then◌else◌, slice_get, None, Some, cases_Bool, nat_tests, Pid, Place, pid_eq, MsgId}
+use Rattle.dm_rule.proofs.Names.{holder_eq, Holder, id_eq, PlainMessage, PlainProcess, Life, Alive, OneKernel, with_process, with_sent, without_message, pid_eq-is, id_eq-is, id_eq-same, sent_at, sent_off, stayed, bind-is, Addresses, given}
+use Rattle.dm_rule.proofs.Names.{Slot, Owner, Receiver, Sender, Enclosed, Child, Name, Answer, AskedBy, encloses, at_hand-is}
 use Rattle.dm_onekernel.specs.Step as kernel
 use Rattle.dm_rule.proofs.Homes.{place_as, HomeProcess, HomeMessage, AtHome}
 

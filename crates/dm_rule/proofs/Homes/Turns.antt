@@ -1,7 +1,7 @@
 -- A turn keeps all of it.
 use Rattle.dm_rule.proofs.Names.{◌≡◌, ℕ, ◌+◌, ◌==◌, Bool, true, false, List, [], ◌∷◌, refl, ap, ◌∙◌, sym, subst, inl, inr, arith, nat_le, ⊤, if◌then◌else◌, Option, None, Some, nat_tests, Pid, MsgId, PlainMessage, Boot, Label, Says}
 use Rattle.dm_rule.proofs.Names.{OneKernel, after_step, Point, first_point, Part, Routes, Spelled, Homes, is_for_home, are_home, IsStill, LeadHomeAlways, ◌≤◌, false≢true, is_kernels, Step, actor, group_of, pid_of, first_number, Known, Line}
-use Rattle.dm_rule.proofs.Names.{Frozen, Incoming, Forward, AskNone, LeadsStill, and_parts}
+use Rattle.dm_rule.proofs.Names.{Frozen, Incoming, Forward, AskNone, LeadsStill, and_parts, all_map}
 use Rattle.dm_onekernel.specs.Step as kernel
 use Rattle.dm_rule.proofs.Homes.Labels.{SaidAt}
 use Rattle.dm_rule.proofs.Homes.Lists.{stands, all_stand}
@@ -13,7 +13,7 @@ use Rattle.dm_rule.proofs.Pairs.{Pairs, Pairs-start, Pairs-group}
 use Rattle.dm_rule.proofs.Groups.{State-start, State-group, fits}
 use Rattle.dm_rule.proofs.Homes.Lines.{NoneReplaced, homes_of, home_start, Home, Kept}
 use Rattle.dm_rule.specs.Rule as rule
-use Rattle.dm_rule.proofs.Homes.Parts.{PartsAnywhere}
+use Rattle.dm_rule.proofs.Homes.Parts.{PartsAnywhere, PartAnywhere}
 use Rattle.dm_onekernel.specs.Pieces as pieces
 use Rattle.dm_rule.proofs.Homes.Serves.{ReceivedAt}
 use Rattle.dm_rule.proofs.Homes.Groups.{PartsGood, group_keeps, deliver_keeps, resends_good}
@@ -25,10 +25,6 @@ GoodOf s e m (Some ps) = PartsGood s e m ps
 
 says_first : (s : OneKernel) (e : MsgId → ℕ) (m : ℕ) (l : Label) (ps : List Part) → SaidAt s m l → PartsAnywhere m ps → PartsGood s e m (rule.says l ∷ ps)
 says_first s e m l ps at h = inl (inr (inl (l, refl, at)), h)
-
-drops_good : (m : ℕ) (ids : List MsgId) → PartsAnywhere m (rule.drop_parts ids)
-drops_good m [] = tt
-drops_good m (i ∷ is) = (tt, drops_good m is)
 
 pub runnable_home : (s : OneKernel) (queue : Pid → List MsgId) (m : ℕ) (ps : List Pid) (q : Pid) → are_home m ps ≡ true → rule.first_runnable s queue ps ≡ Some q → q.home ≡ m
 runnable_home s queue m [] q h is = cc
@@ -52,7 +48,7 @@ round_good b e pt m o at = some_good pt.kernel e m (rule.goes_round b pt m o) (�
     sends = λ id. (at p is, (tt, tt));
     waits = (at p is, tt);
     outputs = λ word. (at p is, tt);
-    ends = λ y. (at p is, drops_good m (pt.view.queue m p));
+    ends = λ y. (at p is, all_map (PartAnywhere m) (λ i. Says (Line.Label (Label.Dropped i))) (pt.view.queue m p) (λ i. tt));
   }));
   takes = λ mask id first. inl (inl (at p is), tt);
   refuses = λ id r. inl (inl (at p is), tt);
@@ -76,7 +72,7 @@ handles_good b e pt m id (Some k) h there f =
       queued = λ to user. inl (inr (inr (id, refl, f.1)), tt);
       served = λ to mild. says_first s e m (Label.Served id) [] f.0 tt;
       answers = λ to mild i. says_first s e m (Label.Served id) (Routes i ∷ []) f.0 (tt, tt);
-      kills = λ to kills. says_first s e m (Label.Served id) (rule.drop_parts (pt.view.queue m k.to)) f.0 (drops_good m (pt.view.queue m k.to));
+      kills = λ to kills. says_first s e m (Label.Served id) (rule.drop_parts (pt.view.queue m k.to)) f.0 (all_map (PartAnywhere m) (λ i. Says (Line.Label (Label.Dropped i))) (pt.view.queue m k.to) (λ i. tt));
       moved = λ to what. inr (id, refl);
       sets_off = λ machine to what apart. inr (id, refl);
       gone = λ to. says_first s e m (Label.Gone id) (Routes (pieces.answer_id id) ∷ []) f.0 (tt, tt);

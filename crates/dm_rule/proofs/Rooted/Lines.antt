@@ -1,10 +1,10 @@
 -- Rings list what is here, and nothing is known of what was never made: a line after the other.
 use Rattle.dm_rule.proofs.Names.{◌≡◌, ℕ, ◌+◌, ◌≤◌, ◌==◌, not, filter, [], ◌∷◌, ◌++◌, refl, ap, ◌∙◌, sym, subst, ⊤, Option, None, Some, Pid, MsgId, MessageKind, Step, Stage, Label, bind, Life, Alive, OneKernel, Line, at_machine, at_record}
-use Rattle.dm_rule.proofs.Names.{without, moved_back, View, Told, About, Of, Known, Unknown, Here, Frozen, Incoming, Ended, view_after, handled, receiver_of, ends_by, served_told, front_of, gone_to, Point, label_of, kernel_after}
-use Rattle.dm_rule.proofs.Names.{pid_eq-same, bind-is, when-is, nexts, after_step, at_hand-is, seen, sort_of, arith}
+use Rattle.dm_rule.proofs.Names.{without, moved_back, View, Told, About, Of, Known, Unknown, Here, Frozen, Incoming, Ended, view_after, handled, receiver_of, ends_by, served_told, front_of, gone_to, Point, label_of, kernel_after, Bool}
+use Rattle.dm_rule.proofs.Names.{pid_eq-same, bind-is, when-is, nexts, after_step, at_hand-is, seen, sort_of, arith, if◌then◌else◌, all_both}
 use Rattle.dm_rule.proofs.Seen.{aim, sets}
 use Rattle.dm_rule.proofs.Telling.{Sane}
-use Rattle.dm_rule.proofs.Rings.{Rings, all_moved, learnt_without, learnt_last, rings_same, rings_ring, rings_learn, rings_known}
+use Rattle.dm_rule.proofs.Rings.{Rings, learnt_last, rings_same, rings_ring, rings_learn, rings_known, all_without, learnt}
 use Rattle.dm_rule.proofs.Lives.{Lives, Lived, Kept, grown_none, lives_same, lives_learn}
 use Rattle.dm_onekernel.specs.Service as service
 use Rattle.dm_onekernel.specs.Step as kernel
@@ -28,13 +28,15 @@ roots_idle s t v w kept i h = record { rings = rings_same v w i.known i.ring h.r
 -- one machine's ring, or what it knows of a process, or both
 roots_ring : (s t : OneKernel) (v w : View) (p : Pid) → Kept s t → w.known ≡ v.known → w.ring ≡ at_machine v.ring v.acting (moved_back p (v.ring v.acting)) → v.known v.acting p ≡ Here → Roots s v → Roots t w
 roots_ring s t v w p kept known is here h = record {
-  rings = rings_ring v w (moved_back p (v.ring v.acting)) known is (all_moved (v.known v.acting) p (v.ring v.acting) here (h.rings.each v.acting)) h.rings;
+  rings = rings_ring v w (moved_back p (v.ring v.acting)) known is
+  (all_both (λ q. v.known v.acting q ≡ Here) (without p (v.ring v.acting)) (p ∷ []) (all_without (v.known v.acting) (v.known v.acting) p (v.ring v.acting) (λ x off is. is) (h.rings.each v.acting)) (here, tt)) h.rings;
   lives = lives_same s t v w kept known h.lives;
 }
 
 roots_leaves : (s t : OneKernel) (v w : View) (p : Pid) (k : Known) → Kept s t → Lived t p → w.known ≡ at_record v.known v.acting p k → w.ring ≡ at_machine v.ring v.acting (without p (v.ring v.acting)) → Roots s v → Roots t w
 roots_leaves s t v w p k kept lived known is h = record {
-  rings = rings_learn v w p k (without p (v.ring v.acting)) known is (learnt_without (v.known v.acting) p k (v.ring v.acting) (h.rings.each v.acting)) h.rings;
+  rings = rings_learn v w p k (without p (v.ring v.acting)) known is
+  (all_without (v.known v.acting) (learnt (v.known v.acting) p k) p (v.ring v.acting) (λ x off is. ap (λ (c : Bool). if c then k else (v.known v.acting) x) off ∙ is) (h.rings.each v.acting)) h.rings;
   lives = lives_learn s t v w p k kept known (λ none le. absurd (lived none le)) h.lives;
 }
 

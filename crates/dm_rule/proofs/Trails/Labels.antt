@@ -18,10 +18,6 @@ pub label_links : (s t : OneKernel) (v : View) (a : Addresses) (tr : Trails) (l 
 label_links s t v a tr l is named said trail pending links =
     homes_are (IsOn tr) t (given a (gives s v a l)) (label_on (IsOn tr) s t v a l is named said (at_home (IsOn tr) s a (λ q. (trail q).begins) links pending))
 
-pub label_pending : (s t : OneKernel) (v : View) (a : Addresses) (tr : Trails) (l : Label) → kernel.step s l ≡ Some t → Named s → SaidOn (IsOn tr) s v a l → ((q : Pid) → Trail v tr q) → ascends 0 s.manager.pending s.manager.sent ≡ true → AddressesOn s a tr
-    → ascends 0 t.manager.pending t.manager.sent ≡ true
-label_pending s t v a tr l is named said trail pending links = (label_on (IsOn tr) s t v a l is named said (at_home (IsOn tr) s a (λ q. (trail q).begins) links pending)).pending
-
 pub label_told : (v : View) (l : Label) → (after_label v l).told ≡ v.told
 label_told v l = (hushed v (Line.Label l) refl).told
 

@@ -1,10 +1,10 @@
 -- Lines that give addresses beside the kernel keep each on its trail: a message that is forwarded, messages that are sent on, an
 -- update, and the first put of a kernel's own message.
 use Rattle.dm_rule.proofs.Names.{◌≡◌, ℕ, ◌+◌, ◌≤◌, ◌&&◌, Bool, true, false, List, [], ◌∷◌, ◌++◌, refl, ap, sym, subst, inl, inr, arith, nat_lt, if◌then◌else◌, slice_get, Option, None, Some, cases_Bool, false≢true, Pid, Place, MsgId, id_eq}
-use Rattle.dm_rule.proofs.Names.{MessageKind, manager, OneKernel, pid_eq-is, id_eq-same, View, Told, About, Known, Frozen, Forward, is_kernels, own_id, Addresses, Holder, Receiver, Sender, given, place_known, all_follow, is_told_back}
-use Rattle.dm_rule.proofs.Names.{told_back_gets, forwards, place_told, belongs_to, leads_to, is_pid, is_behind, updated_to, updated, names, times, Trails, Trail, IsOn, AddressesOn, OwnOn, nat_tests, and_parts}
+use Rattle.dm_rule.proofs.Names.{OneKernel, pid_eq-is, id_eq-same, View, Told, About, Known, Frozen, Forward, is_kernels, own_id, Addresses, Holder, Receiver, Sender, given, place_known, all_follow, is_told_back, told_back_gets, forwards}
+use Rattle.dm_rule.proofs.Names.{place_told, belongs_to, leads_to, is_pid, is_behind, updated_to, updated, names, times, Trails, Trail, IsOn, AddressesOn, OwnOn, nat_tests, and_parts}
 use Rattle.dm_rule.proofs.Once.{one_of}
-use Rattle.dm_rule.proofs.Trails.Places.{Goes, Comes, Named, Links, Owns, AllAre, AllGet, given_on, all_grown}
+use Rattle.dm_rule.proofs.Trails.Places.{Goes, Named, Links, Owns, AllAre, AllGet, given_on, on_grown}
 
 -- all of them are on their trails, and each kind of holder's are
 pub all_are : (s : OneKernel) (v : View) (a : Addresses) (t : Trails) → AddressesOn s a t → OwnOn v a t → AllAre s v a t
@@ -15,9 +15,6 @@ links_are s v a t h g q e = h g q (Links e)
 
 pub receivers_are : (s : OneKernel) (v : View) (a : Addresses) (t : Trails) → AllAre s v a t → (i : MsgId) (u : Told) → is_kernels i ≡ true → v.told i ≡ Some u → IsOn t u.receiver (a (Receiver i))
 receivers_are s v a t h i u k told = h (Receiver i) u.receiver (Owns (Goes i u refl k told refl))
-
-pub senders_are : (s : OneKernel) (v : View) (a : Addresses) (t : Trails) → AllAre s v a t → (i : MsgId) (u : Told) → is_kernels i ≡ true → v.told i ≡ Some u → u.kind ≡ MessageKind.Migrate → IsOn t manager (a (Sender i))
-senders_are s v a t h i u mine told k = h (Sender i) manager (Owns (Comes i u refl mine told k refl))
 
 pub unnamed_receiver : (s : OneKernel) (v : View) (i : MsgId) (q : Pid) → s.bag i ≡ None → v.told i ≡ None → Named s v (Receiver i) q → ⊥
 unnamed_receiver s v i q h1 h2 h3 = search arith
@@ -59,7 +56,7 @@ follow_gets s v a t p d (i ∷ is) at last for = (
 
 pub sent_on_all : (s : OneKernel) (v : View) (a : Addresses) (t u : Trails) (p : Pid) (d : ℕ) (ids : List MsgId) → v.known v.acting p ≡ Frozen d → ((q : Pid) → (ds : List ℕ) × (u q ≡ t q ++ ds)) → slice_get (u p) (v.moves p + 1) ≡ Some d
     → ((i : MsgId) (q : Pid) → 1 ≤ times i ids → Named s v (Receiver i) q → q ≡ p) → AllAre s v a t → AllAre s v (given a (all_follow v a p ids)) u
-sent_on_all s v a t u p d ids at grows last for h = given_on s v a u (all_follow v a p ids) (all_grown s v a t u grows h) (follow_gets s v a u p d ids at last for)
+sent_on_all s v a t u p d ids at grows last for h = given_on s v a u (all_follow v a p ids) (λ g' q' e'. let (ds, more) = grows q' in on_grown t u q' (a g') ds more (h g' q' e')) (follow_gets s v a u p d ids at last for)
 
 -- an update
 pub pid_there : (p : Pid) (o : Option Pid) → is_pid p o ≡ true → o ≡ Some p

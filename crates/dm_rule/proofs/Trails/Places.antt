@@ -37,6 +37,3 @@ given_on s v a t (x ∷ xs) h all g q e = elim (cases_Bool (holder_eq x.holder g
 -- trails only grow
 pub on_grown : (t u : Trails) (q : Pid) (place : Place) (ds : List ℕ) → u q ≡ t q ++ ds → IsOn t q place → IsOn u q place
 on_grown t u q place ds more on = ap (λ (xs : List ℕ). slice_get xs place.moves) more ∙ get_more (t q) ds place.moves place.at on
-
-pub all_grown : (s : OneKernel) (v : View) (a : Addresses) (t u : Trails) → ((q : Pid) → (ds : List ℕ) × (u q ≡ t q ++ ds)) → AllAre s v a t → AllAre s v a u
-all_grown s v a t u grows h g q e = let (ds, more) = grows q in on_grown t u q (a g) ds more (h g q e)

@@ -5,19 +5,20 @@ use Rattle.dm_rule.proofs.Names.{forwarded_for, forward_about, served_told, ends
 use Rattle.dm_rule.proofs.Names.{is_early, Point, moved, after_line, times, Trails, Trail, StoodOnTrail, IsOn, AddressesOn, OwnOn, trails_after, gives, seen, sort_of, arith}
 use Rattle.dm_rule.proofs.Hushed.{hushed}
 use Rattle.dm_rule.proofs.Seen.{sets}
-use Rattle.dm_rule.proofs.Homes.Labels.{SaidOn}
+use Rattle.dm_rule.proofs.Homes.Labels.{SaidOn, label_on}
 use Rattle.dm_rule.proofs.Phases.Lines.{queued_known, held_known, dropped_known, forwarded_known}
 use Rattle.dm_rule.proofs.Phases.Pieces.{proto_known}
 use Rattle.dm_rule.proofs.Trails.Known.{get_at_end, trail_same}
 use Rattle.dm_rule.proofs.Trails.Places.{Named, AllAre, on_grown, Links, Goes, Comes, Owns}
-use Rattle.dm_rule.proofs.Trails.Lines.{all_are, links_are, receivers_are, senders_are, forwarded_all, sent_on_all, updated_all}
+use Rattle.dm_rule.proofs.Trails.Lines.{all_are, links_are, receivers_are, forwarded_all, sent_on_all, updated_all}
 use Rattle.dm_rule.proofs.Trails.Puts.{is_own, put_all, put_routed, told_again, about_put}
 use Rattle.dm_rule.proofs.Trails.Steps.{frozen_trail, accepted_trail, stays_trail, ended_trail, born_trail, sent_on_at, sent_on_grows, sent_on_trail, left_line_trail, source_holds, back_trail, destination_expects}
 use Rattle.dm_rule.proofs.Trails.Spares.{Outside}
-use Rattle.dm_rule.proofs.Trails.Labels.{label_links, label_own, label_pending}
+use Rattle.dm_rule.proofs.Trails.Labels.{label_links, label_own}
 use Rattle.dm_onekernel.specs.Step as kernel
 use Rattle.dm_rule.specs.View as view
 use Rattle.dm_rule.proofs.Homes.Serves as serves
+use Rattle.dm_rule.proofs.Homes.{at_home}
 
 -- what each line keeps
 pub record Treads (pt : Point) (t : Trails) : Type 0 where
@@ -105,7 +106,7 @@ own_as v w a t told topic h = search arith
 
 own_of : (s : OneKernel) (v : View) (a : Addresses) (t : Trails) → AllAre s v a t → ((i : MsgId) (u : Told) (p : Pid) (m c : ℕ) → v.told i ≡ Some u → u.about ≡ view.Place p m c → slice_get (t p) c ≡ Some m)
     → ((p : Pid) (m c : ℕ) → v.topic ≡ view.Place p m c → slice_get (t p) c ≡ Some m) → OwnOn v a t
-own_of s v a t h about topic = record { receiver = receivers_are s v a t h; sender = senders_are s v a t h; about = about; topic = topic }
+own_of s v a t h about topic = record { receiver = receivers_are s v a t h; sender = (λ i' u' mine' told' k'. h (Sender i') manager (Owns (Comes i' u' refl mine' told' k' refl))); about = about; topic = topic }
 
 same_topic : (v w : View) (a : Addresses) (t : Trails) → w.topic ≡ v.topic → OwnOn v a t → (p : Pid) (m c : ℕ) → w.topic ≡ view.Place p m c → slice_get (t p) c ≡ Some m
 same_topic v w a t same h p m c e = h.topic p m c (sym same ∙ e)
@@ -172,7 +173,7 @@ label_treads pt s t l is fits h = record {
   own =
       (let own = label_own pt.kernel s pt.view pt.addresses t l is (fits.outside s is) h.own in
       own_as (after_label pt.view l) (seen pt.kernel pt.view (Line.Label l)) (given pt.addresses (gives pt.kernel pt.view pt.addresses l)) t refl (λ p m c e. own.topic p m c (label_place pt.kernel pt.view l p m c e)) own);
-  pending = label_pending pt.kernel s pt.view pt.addresses t l is fits.named fits.said h.trail h.pending h.links;
+  pending = ((label_on (IsOn t) pt.kernel s pt.view pt.addresses l is fits.named fits.said (at_home (IsOn t) pt.kernel pt.addresses (λ q. (h.trail q).begins) h.links h.pending)).pending);
 }
 
 -- a message that is forwarded
