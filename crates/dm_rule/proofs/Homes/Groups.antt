@@ -93,7 +93,8 @@ pub resends_good : (m n : ℕ) (v : View) (b : ℕ) → PartsAnywhere m (rule.re
 resends_good m n v zero = tt
 resends_good m n v (suc b) =
     let ns = rule.numbers_from (v.pair n b).acked ((v.pair n b).gone - (v.pair n b).acked) in
-    all_both (PartAnywhere m) (rule.resends v n b) (if n == b then [] else rule.repeats n b ns) (resends_good m n v b) (by_test (PartsAnywhere m) (n == b) [] (rule.repeats n b ns) tt (all_map (PartAnywhere m) (λ k. Transmits n b (Load.Data k)) ns (λ k. tt)))
+    all_both (PartAnywhere m) (rule.resends v n b) (if n == b then [] else rule.repeats n b ns) (resends_good m n v b)
+    (by_test (PartsAnywhere m) (n == b) [] (rule.repeats n b ns) tt (all_map (PartAnywhere m) (λ k. Transmits n b (Load.Data k)) ns (λ k. tt)))
 
 takes_good : (m a b : ℕ) (ns : List ℕ) → PartsAnywhere m (rule.taking_parts a b ns)
 takes_good m a b ns = all_map (PartAnywhere m) (λ n. Says (Line.Taken a b n)) ns (λ n. tt)
