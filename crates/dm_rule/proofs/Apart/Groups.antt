@@ -60,15 +60,6 @@ parts_left z y (p ∷ ps) pt w here there is =
     let others = parts_left z y ps next v (apart_first next.kernel y ps here.1) (apart_first z y ps there.1) more in
     subst (λ (x : Spelled). Left z y pt x.point x.lines) (let f : behind ls v ≡ w = cc in f) (record { spare = spare_append z y ls v.lines one.spare others.spare; same = others.same ∙ one.same })
 
-group_left : (b : Boot) (pt : Point) (d : Step) (w : Spelled) (y : Pid) → ApartOf pt.kernel y (rule.outcome b pt d) → group_of b pt d ≡ Some w → Left pt.kernel y pt w.point w.lines
-group_left b pt d w y h e =
-    let (parts, is, more) = bind-is (rule.outcome b pt d) (λ parts. bind (after_line pt (Line.Head d)) (λ begun. bind (spelled begun parts) (λ w. Some (rule.behind (Line.Head d ∷ []) w)))) w e in
-    let (start, head, last) = bind-is (after_line pt (Line.Head d)) (λ begun. bind (spelled begun parts) (λ w. Some (rule.behind (Line.Head d ∷ []) w))) w more in
-    let (rest, told, end) = bind-is (spelled start parts) (λ w. Some (rule.behind (Line.Head d ∷ []) w)) w last in
-    let fits = subst (ApartOf pt.kernel y) is h in
-    let k = parts_left pt.kernel y parts (moved pt (Line.Head d) pt.kernel) rest fits fits (ap (λ p. spelled p parts) (let f : moved pt (Line.Head d) pt.kernel ≡ start = cc in f) ∙ told) in
-    subst (λ (x : Spelled). Left pt.kernel y pt x.point x.lines) (let g : rule.behind (Line.Head d ∷ []) rest ≡ w = cc in g) (record { spare = (tt, k.spare); same = k.same })
-
 pub outcome_apart : (b : Boot) (pt : Point) (d : Step) (y : Pid) → Rooted pt → ((m : ℕ) → pid_of m (first_number + pt.kernel.made m) ≢ y) → ((m : ℕ) (p : Pid) → pt.view.known m p ≡ Here → p ≢ y) → ApartOf pt.kernel y (rule.outcome b pt d)
 outcome_apart b pt (Step.Turn m) y h child off = turns_apart y b pt m (pt.view.inbox m) (child m) (off m) (h.served m)
 outcome_apart b pt (Step.Tick m) y h child off = (tt, net_apart y (rule.resends pt.view m pt.kernel.machines) (resends_net pt.view m pt.kernel.machines))
@@ -84,6 +75,13 @@ moves_known k s d o e = cc
 
 moving_left : (b : Boot) (pt : Point) (d : Step) (w : Spelled) (y : Pid) (k : MessageKind) (s t : ℕ) (o : Option MsgId) → Rooted pt → IsIn pt.view y (Moves k s t o) → group_of b pt d ≡ Some w → Left pt.kernel y pt w.point w.lines
 moving_left b pt d w y k s t o h phase e =
+    let group_left : (b : Boot) (pt : Point) (d : Step) (w : Spelled) (y : Pid) → ApartOf pt.kernel y (rule.outcome b pt d) → group_of b pt d ≡ Some w → Left pt.kernel y pt w.point w.lines = λ b pt d w y h e.
+      let (parts, is, more) = bind-is (rule.outcome b pt d) (λ parts. bind (after_line pt (Line.Head d)) (λ begun. bind (spelled begun parts) (λ w. Some (rule.behind (Line.Head d ∷ []) w)))) w e in
+      let (start, head, last) = bind-is (after_line pt (Line.Head d)) (λ begun. bind (spelled begun parts) (λ w. Some (rule.behind (Line.Head d ∷ []) w))) w more in
+      let (rest, told, end) = bind-is (spelled start parts) (λ w. Some (rule.behind (Line.Head d ∷ []) w)) w last in
+      let fits = subst (ApartOf pt.kernel y) is h in
+      let k = parts_left pt.kernel y parts (moved pt (Line.Head d) pt.kernel) rest fits fits (ap (λ p. spelled p parts) (let f : moved pt (Line.Head d) pt.kernel ≡ start = cc in f) ∙ told) in
+      subst (λ (x : Spelled). Left pt.kernel y pt x.point x.lines) (let g : rule.behind (Line.Head d ∷ []) rest ≡ w = cc in g) (record { spare = (tt, k.spare); same = k.same }) in
     group_left b pt d w y
     (outcome_apart b pt d y h
     (λ m is. moves_known k s t o (nowhere_known (Moves k s t o)

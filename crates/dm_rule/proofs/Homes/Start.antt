@@ -26,13 +26,6 @@ somewhere_by b l false true is as_ e =
     search arith
 somewhere_by b l false false is as_ e = process_at b l (boot.process_named l.addr.pid b.processes) (named_is l.addr.pid b.processes) e
 
-link_home : (b : Boot) (l : Link) → boot.link_is_valid b l ≡ true → place_of l.addr ≡ unmoved l.addr.pid.home
-link_home b l e =
-    let first : (l.addr.moves == 0) ≡ true = left_true (l.addr.moves == 0) _ e in
-    let rest : boot.leads_somewhere b l ≡ true = right_true (nat_le l.channel 31) (boot.leads_somewhere b l) (right_true _ _ (right_true (l.addr.moves == 0) _ e)) in
-    let at : l.addr.at ≡ l.addr.pid.home = somewhere_by b l (pid_eq l.addr.pid switchboard) (pid_eq l.addr.pid manager) refl refl rest in
-    ap (λ (n : ℕ). record { at = n; moves = l.addr.moves }) at ∙ ap (λ (n : ℕ). record { at = l.addr.pid.home; moves = n }) (let none : l.addr.moves ≡ 0 = grind (arith, nat_tests) in none)
-
 -- the links of a process as it begins
 empty_slot : (n k : ℕ) (l : PlainLink) → link_at (replicate n None) k ≡ Some l → ⊥
 empty_slot zero k l e = cc
@@ -42,6 +35,11 @@ empty_slot (suc n) (suc k) l e = empty_slot n k l e
 first_link : (b : Boot) (ls : List Link) (n k : ℕ) (l : PlainLink) → boot.links_are_valid b ls ≡ true → link_at (map Some (map plain_link ls) ++ replicate n None) k ≡ Some l → option_map_or (λ w. place_of w.addr) (slice_get ls k) (unmoved 0) ≡ unmoved l.to.home
 first_link b [] n k l valid e = absurd (empty_slot n k l e)
 first_link b (x ∷ xs) n zero l valid e =
+    let link_home : (b : Boot) (l : Link) → boot.link_is_valid b l ≡ true → place_of l.addr ≡ unmoved l.addr.pid.home = λ b l e.
+      let first : (l.addr.moves == 0) ≡ true = left_true (l.addr.moves == 0) _ e in
+      let rest : boot.leads_somewhere b l ≡ true = right_true (nat_le l.channel 31) (boot.leads_somewhere b l) (right_true _ _ (right_true (l.addr.moves == 0) _ e)) in
+      let at : l.addr.at ≡ l.addr.pid.home = somewhere_by b l (pid_eq l.addr.pid switchboard) (pid_eq l.addr.pid manager) refl refl rest in
+      ap (λ (n : ℕ). record { at = n; moves = l.addr.moves }) at ∙ ap (λ (n : ℕ). record { at = l.addr.pid.home; moves = n }) (let none : l.addr.moves ≡ 0 = grind (arith, nat_tests) in none) in
     link_home b x (left_true (boot.link_is_valid b x) (boot.links_are_valid b xs) valid) ∙ ap unmoved (ap (λ (v : PlainLink). v.to.home) (let f : plain_link x ≡ l = cc in f))
 first_link b (x ∷ xs) n (suc k) l valid e = first_link b xs n k l (right_true (boot.link_is_valid b x) (boot.links_are_valid b xs) valid) e
 

@@ -128,13 +128,6 @@ sent_off v p n z = search arith
 pub least_of : (m n : ℕ) → 1 ≤ m + n → (1 ≤ m) ⊎ (1 ≤ n)
 least_of m n h1 = search arith
 
-lists_way : (bag : Bag) (v : View) (p : Pid) (j : MsgId) → 1 ≤ times j (both_lists v p) → Stands bag v → (q : Pid) × (bag j ≡ Some q)
-lists_way bag v p j least h =
-    elim (least_of (standing v j (Queue v.acting p)) (standing v j (Held v.acting p)) (subst (λ n. 1 ≤ n) (both_times v p j) least)) [
-      | inl x ↦ under_way (bag j) (standing v j) (Queue v.acting p) x (h.kept j)
-      | inr y ↦ under_way (bag j) (standing v j) (Held v.acting p) y (h.kept j)
-    ]
-
 pub sent_way : (pt : Point) (p : Pid) (n : ℕ) (i : MsgId) (is : List MsgId) → State None pt → pt.view.inbox pt.view.acting ≡ i ∷ is → is_kernels i ≡ true → Between (both_lists pt.view p) (moved pt (Line.SentOn p n) pt.kernel)
 sent_way pt p n i is h front mine =
     let Stands-emptied : (bag : Bag) (v w : View) (p : Pid) → ((z : Spot) → ids_at w z ≡ ids_at (emptied v p) z) → ((i : MsgId) → w.told i ≡ v.told i) → Stands bag v → Stands (without_all (both_lists v p) bag) w = λ bag v w p same told h.
@@ -149,6 +142,11 @@ sent_way pt p n i is h front mine =
     let same : (j : MsgId) → letters own pt.kernel.bag j ≡ left j = hidden_letters h.own pt.kernel.bag i mine in
     let first : Stands left (handled_first v) = Stands-handled bag v (handled_first v) i is front (first_off v i is front) (λ j. refl) h.stands in
     let ids = both_lists v p in
+    let lists_way : (bag : Bag) (v : View) (p : Pid) (j : MsgId) → 1 ≤ times j (both_lists v p) → Stands bag v → (q : Pid) × (bag j ≡ Some q) = λ bag v p j least h.
+      elim (least_of (standing v j (Queue v.acting p)) (standing v j (Held v.acting p)) (subst (λ n. 1 ≤ n) (both_times v p j) least)) [
+        | inl x ↦ under_way (bag j) (standing v j) (Queue v.acting p) x (h.kept j)
+        | inr y ↦ under_way (bag j) (standing v j) (Held v.acting p) y (h.kept j)
+      ] in
     record {
       r = h.r;
       e = h.e;

@@ -2,10 +2,10 @@
 use Rattle.dm_rule.proofs.Names.{◌≡◌, ℕ, ◌<◌, ◌≤◌, ◌==◌, Bool, true, false, List, [], ◌∷◌, ◌++◌, refl, ap, ◌∙◌, sym, subst, arith, length, ⊤, if◌then◌else◌, Option, None, Some, Pid, MsgId, MessageKind, plain_kind, Label, bind, Line, Load}
 use Rattle.dm_rule.proofs.Names.{Stage, View, Pair, Told, view_after, after_label, after_stage, after_packet, queued_for, held_for, forwarded_for, ends_by, taken_id, own_id, after_proto, asks_on, About, NothingElse, Target, seen, sets_off}
 use Rattle.dm_rule.proofs.Names.{Receiver, Point, kernel_after, label_of, moved, after_line, after, Part, Says, Routes, Again, Owns, Transmits, Spelled, spelled, behind, lines_of, puts, packet_line, goes_out, IsUnasked, sort_of, nat_tests}
-use Rattle.dm_rule.proofs.Names.{at_pair}
+use Rattle.dm_rule.proofs.Names.{at_pair, gone_after}
 use Rattle.dm_rule.proofs.Seen.{seen_is}
 use Rattle.dm_rule.proofs.Pairs.Stand.{Later}
-use Rattle.dm_rule.proofs.Pairs.Moves.{Paired, Goes, again_goes, route_out, route_packed, route_home, packed, packed_goes}
+use Rattle.dm_rule.proofs.Pairs.Moves.{Paired, Goes, route_out, route_packed, route_home, packed, packed_goes}
 pub use Rattle.dm_laws.proofs.Steps.{bind-is}
 
 -- lines that say something of a pair
@@ -138,6 +138,11 @@ fitting_goes pt (Again id b) ps w o fits h =
     puts_lead pt o.next b id t.kind t.receiver o.lines is o.leads h
 fitting_goes pt (Owns k q b) ps w o fits h = puts_lead pt o.next b (own_id pt.view) k q o.lines o.lines_are o.leads h
 fitting_goes pt (Transmits a b (Load.Data n)) ps w o fits h =
+    -- data that has gone out goes out again; the next data goes out; how many were taken is acknowledged
+    let again_goes : (f : ℕ → ℕ → Pair) (a b n : ℕ) → (a == b) ≡ false → n < (f a b).gone → Paired f → Goes f (at_pair f a b (packed (Load.Data n) (f a b))) = λ f a b n ab less h.
+      let same : gone_after (Load.Data n) (f a b).gone ≡ (f a b).gone = grind (arith, nat_tests) in
+      let x = h.stand.apart a b ab in
+      packed_goes f a b (Load.Data n) ab (omega (arith, same, less)) (omega (arith, same)) (omega (arith, same, x.gone)) (omega (arith, same, x.full)) h in
     subst (λ (v : View). Goes pt.view.pair v.pair) (sym (transmits_view pt a b (Load.Data n) ps w o)) (again_goes pt.view.pair a b n fits.0 fits.1 h)
 fitting_goes pt (Transmits a b (Load.Ack n)) ps w o fits h =
     let ack_goes : (f : ℕ → ℕ → Pair) (a b n : ℕ) → (a == b) ≡ false → n ≤ (f b a).taken → Paired f → Goes f (at_pair f a b (packed (Load.Ack n) (f a b))) =

@@ -37,13 +37,6 @@ packed_goes f a b l ab stands more ids full h =
     let packed_kept : (l : Load) (p : Pair) → p.gone ≤ gone_after l p.gone → KeptStands p → KeptStands (packed l p) = λ l p more h k e. let x = h k e in (x.0, omega (arith, x.1, more)) in
     changed f a b (packed l (f a b)) ab (packed_apart l (f a b) (f b a) stands more ids full (h.stand.apart a b ab)) (omega arith) more (packed_kept l (f a b) more (h.kept a b)) h
 
--- data that has gone out goes out again; the next data goes out; how many were taken is acknowledged
-pub again_goes : (f : ℕ → ℕ → Pair) (a b n : ℕ) → (a == b) ≡ false → n < (f a b).gone → Paired f → Goes f (at_pair f a b (packed (Load.Data n) (f a b)))
-again_goes f a b n ab less h =
-    let same : gone_after (Load.Data n) (f a b).gone ≡ (f a b).gone = grind (arith, nat_tests) in
-    let x = h.stand.apart a b ab in
-    packed_goes f a b (Load.Data n) ab (omega (arith, same, less)) (omega (arith, same)) (omega (arith, same, x.gone)) (omega (arith, same, x.full)) h
-
 pub next_goes : (f : ℕ → ℕ → Pair) (a b n : ℕ) → (a == b) ≡ false → n ≡ (f a b).gone → n + 1 ≤ length (f a b).ids → n + 1 ≤ (f a b).acked + 8 → Paired f → Goes f (at_pair f a b (packed (Load.Data n) (f a b)))
 next_goes f a b n ab is ids full h =
     let same : gone_after (Load.Data n) (f a b).gone ≡ n + 1 = grind (arith, nat_tests) in

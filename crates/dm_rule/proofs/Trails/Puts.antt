@@ -82,9 +82,6 @@ is_own k = is_own_sort (sort_of k)
 pub plain_gives : (s : OneKernel) (v : View) (a : Addresses) (id : MsgId) (q : Pid) (k : MessageKind) → is_own k ≡ false → own_given s v a id q (sort_of k) ≡ []
 plain_gives s v a id q k e = search arith
 
-pub not_own : (k : MessageKind) → is_own k ≡ false → k ≡ MessageKind.Migrate → ⊥
-not_own k plain e = false≢true (sym plain ∙ ap is_own e)
-
 pub routed_named : (s : OneKernel) (v : View) (x y : ℕ) (id : MsgId) (k : MessageKind) (q : Pid) (h : Holder) (r : Pid) → is_kernels id ≡ false → is_own k ≡ false → v.told id ≡ None → Named s (after_put v x y id k q) h r → Named s v h r
 routed_named s v x y id k q h r other plain none (Links e) = Links e
 routed_named s v x y id k q h r other plain none (Owns (Goes i u is own told to)) = elim (cases_Bool (id_eq id i)) [
@@ -93,7 +90,7 @@ routed_named s v x y id k q h r other plain none (Owns (Goes i u is own told to)
 ]
 routed_named s v x y id k q h r other plain none (Owns (Comes i u is mine told move to)) = elim (put_named s v x y id k q h r none (Owns (Comes i u is mine told move to))) [
   | inl old ↦ old
-  | inr new ↦ elim new [ inl way ↦ absurd (let f : Receiver id ≡ Sender i = sym way.0 ∙ is in cc) | inr way ↦ absurd (not_own k plain way.1) ]
+  | inr new ↦ elim new [ inl way ↦ absurd (let f : Receiver id ≡ Sender i = sym way.0 ∙ is in cc) | inr way ↦ absurd (false≢true (sym plain ∙ ap is_own way.1)) ]
 ]
 
 pub put_routed : (s : OneKernel) (v : View) (a : Addresses) (t : Trails) (x y : ℕ) (id : MsgId) (k : MessageKind) (q : Pid) → is_kernels id ≡ false → is_own k ≡ false → v.told id ≡ None → AllAre s v a t
