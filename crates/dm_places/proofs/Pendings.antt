@@ -9,18 +9,7 @@ numbered_below ps from to n r e f = numbered_from (map plain_pending ps) from to
 pub pending_last : (ps : List Pending) (n : ℕ) (z r : Pending) → ((q : Pending) → pending_request n ps ≡ Some q → (z.n == n) ≡ false) → pending_request n (ps ++ z ∷ []) ≡ Some r
     → (((z.n == n) ≡ true) × (z ≡ r)) ⊎ (((z.n == n) ≡ false) × (pending_request n ps ≡ Some r))
 pending_last [] n z r h e = grind (arith, nat_tests)
-pending_last (p ∷ ps) n z r h e = elim (cases_Bool (p.n == n)) [
-  | inl same ↦
-      let one : pending_request n (p ∷ ps) ≡ Some p = ap (λ (b : Bool). if b then Some p else pending_request n ps) same in
-      let f : Some p ≡ Some r = sym (ap (λ (b : Bool). if b then Some p else pending_request n (ps ++ z ∷ [])) same) ∙ e in
-      inr (h p one, one ∙ f)
-  | inr apart ↦
-      let off : pending_request n (p ∷ ps) ≡ pending_request n ps = ap (λ (b : Bool). if b then Some p else pending_request n ps) apart in
-      elim (pending_last ps n z r (λ q f. h q (off ∙ f)) (sym (ap (λ (b : Bool). if b then Some p else pending_request n (ps ++ z ∷ [])) apart) ∙ e)) [
-        | inl g ↦ inl g
-        | inr g ↦ inr (g.0, off ∙ g.1)
-      ]
-]
+pending_last (p ∷ ps) n z r h e = grind (arith, nat_tests, pending_last ps n z r)
 
 pub still_pending : (ps : List Pending) (from to n k : ℕ) (r : Pending) → ascends from (map plain_pending ps) to ≡ true → pending_request k (without_pending n ps) ≡ Some r → pending_request k ps ≡ Some r
 still_pending [] from to n k r e f = f

@@ -44,10 +44,14 @@ abbrev NotesBy : OneKernel → Label → OneKernel → Type 0
 NotesBy s (Label.Asked i) t = ⊤
 NotesBy s l t = Fewer s t
 
+fewer_sent : (s u : OneKernel) (o : Option PlainMessage) → Fewer s u → Fewer s (with_sent u o)
+fewer_sent s u o h1 = search arith
+
+unnoted : (s : OneKernel) (p : Pid) (id : MsgId) → Fewer s (without_note s p id)
+unnoted s p id = search (arith, s.notes)
+
 step_notes : (s t : OneKernel) (l : Label) → kernel.step s l ≡ Some t → NotesBy s l t
 step_notes s t l =
-    let unnoted : (s : OneKernel) (p : Pid) (id : MsgId) → Fewer s (without_note s p id) = λ s p id. search (arith, s.notes) in
-    let fewer_sent : (s u : OneKernel) (o : Option PlainMessage) → Fewer s u → Fewer s (with_sent u o) = λ s u o h1. search arith in
     let fewer_by : (s t : OneKernel) (l : Label) → Fewer s t → NotesBy s l t = λ s t l h1. search arith in
     let same : (u : OneKernel) → Fewer s u → NotesBy s l u = λ u h. fewer_by s u l h in
     by_step (NotesBy s l) s t l (search (arith, fewer_by, fewer_sent, unnoted))
@@ -59,10 +63,11 @@ same_here v w same m p e = ap is_here (sym (same m p)) ∙ e
 set_here : (v w : View) (p : Pid) (k : Known) → w.known ≡ at_record v.known v.acting p k → (is_here k ≡ true → is_here (v.known v.acting p) ≡ true) → (m : ℕ) (q : Pid) → is_here (w.known m q) ≡ true → is_here (v.known m q) ≡ true
 set_here v w p k known here m q e = search (arith, set_all, v.known, v.acting)
 
+served_here : (v : View) (o : Option Told) (m : ℕ) (q : Pid) → is_here ((served_told v o).known m q) ≡ true → is_here (v.known m q) ≡ true
+served_here v o m q h1 = search (arith, killed_or, v.known, set_here)
+
 line_here : (v : View) (l : Line) → IsCalm l → (m : ℕ) (q : Pid) → is_here ((view_after v l).known m q) ≡ true → is_here (v.known m q) ≡ true
-line_here v (Line.Label l) calm =
-    let served_here : (v : View) (o : Option Told) (m : ℕ) (q : Pid) → is_here ((served_told v o).known m q) ≡ true → is_here (v.known m q) ≡ true = λ v o m q h1. search (arith, killed_or, v.known, set_here) in
-    search (arith, set_here, served_here, same_here, dropped_known)
+line_here v (Line.Label l) calm = search (arith, set_here, served_here, same_here, dropped_known)
 line_here v (Line.Head (Step.Turn m)) calm = λ n q e. e
 line_here v (Line.Head (Step.Tick m)) calm = λ n q e. e
 line_here v (Line.Head (Step.Deliver a b k)) calm = λ n q e. e

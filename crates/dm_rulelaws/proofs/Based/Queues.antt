@@ -120,15 +120,21 @@ queued_of pt h waits n p i least =
 pub held_of : (pt : Point) → Waits pt.view → (n : ℕ) (p : Pid) (i : MsgId) → 1 ≤ times i (pt.view.held n p) → (t : Told) × (pt.view.told i ≡ Some t) × (t.receiver ≡ p)
 held_of pt waits n p i least = let u = waits.held n p i least in (u.what, u.is, u.receiver)
 
+-- and the other way round
+stands_some : (f : Spot → ℕ) (z : Spot) (o : Option Pid) → StandsAsBag o f → 1 ≤ f z → (x : Pid) × (o ≡ Some x)
+stands_some f z o h1 h2 = search arith
+
+bag_some : (o : Option PlainMessage) (x : Pid) → to_of o ≡ Some x → (m : PlainMessage) × (o ≡ Some m)
+bag_some o x h1 = search arith
+
+entered_other : (pt : Point) (h : Phased pt) (i : MsgId) (c : Bool) → is_kernels i ≡ c → 1 ≤ h.state.e i → c ≡ false
+entered_other pt h i c h1 h2 = search (arith, kernels_fresh, h.state.r, h.state.e, pt.kernel, h.state.sound)
+
 pub user_kind : (w : PlainWhat) → is_user w ≡ true → plain_kind w ≡ MessageKind.User
 user_kind w h1 = search arith
 
 pub users_by : (pt : Point) (h : Phased pt) (n : ℕ) (p : Pid) (i : MsgId) → 1 ≤ times i (pt.view.queue n p) → IsQueued (h.state.e i) p (pt.kernel.bag i) → IsUsers pt.view.told p i
 users_by pt h n p i least q =
-    -- and the other way round
-    let entered_other : (pt : Point) (h : Phased pt) (i : MsgId) (c : Bool) → is_kernels i ≡ c → 1 ≤ h.state.e i → c ≡ false = λ pt h i c h1 h2. search (arith, kernels_fresh, h.state.r, h.state.e, pt.kernel, h.state.sound) in
-    let stands_some : (f : Spot → ℕ) (z : Spot) (o : Option Pid) → StandsAsBag o f → 1 ≤ f z → (x : Pid) × (o ≡ Some x) = λ f z o h1 h2. search arith in
-    let bag_some : (o : Option PlainMessage) (x : Pid) → to_of o ≡ Some x → (m : PlainMessage) × (o ≡ Some m) = λ o x h1. search arith in
     let other : is_kernels i ≡ false = entered_other pt h i (is_kernels i) refl q.entered in
     let (x, way) = stands_some (standing pt.view i) (Queue n p) (letters h.state.own pt.kernel.bag i) (h.state.stands.kept i) least in
     let (m, there) = bag_some (pt.kernel.bag i) x (sym (letters_bag h.state.own pt.kernel.bag i other) ∙ way) in

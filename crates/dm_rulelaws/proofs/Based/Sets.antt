@@ -56,6 +56,12 @@ rings_one p q = omega arith
 pub one_off : (p q : Pid) → pid_eq p q ≡ false → one_if (pid_eq q p) ≡ 0
 one_off p q apart = ap one_if (pid_eq-swap q p ∙ apart)
 
+pub last_self : (p : Pid) (xs : List Pid) → rings p xs ≡ 0 → rings p (xs ++ p ∷ []) ≡ 1
+last_self p xs none = search (arith, rings-append, rings_one, pid_eq-same)
+
+pub last_others : (p q : Pid) (xs : List Pid) → pid_eq p q ≡ false → rings q (xs ++ p ∷ []) ≡ rings q xs
+last_others p q xs apart = search (arith, rings-append, rings_one, one_off)
+
 -- one machine's ring is set
 pub ring_set : (f : ℕ → List Pid) (a : ℕ) (zs : List Pid) (q : Pid) → rings q zs ≡ rings q (f a) → (m : ℕ) → rings q (at_machine f a zs m) ≡ rings q (f m)
 ring_set f a zs q same m = search (arith, eq_is)

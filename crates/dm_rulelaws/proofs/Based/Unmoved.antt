@@ -7,7 +7,7 @@ use Rattle.dm_rule.specs.View.{Ended}
 use Rattle.dm_onekernel.specs.Step as kernel
 use Rattle.dm_rule.specs.View as view
 use Rattle.dm_rulelaws.proofs.Based.Loud.{Loud, Alike, SetLife, life_sort, some_alike, step_ends, step_serves, step_creates}
-use Rattle.dm_rulelaws.proofs.Based.Sets.{killed_or, rings_without, rings_others, ring_set, set_all, rings-append, rings_one, one_off}
+use Rattle.dm_rulelaws.proofs.Based.Sets.{killed_or, rings_without, rings_others, ring_set, set_all, rings-append, rings_one, one_off, last_self, last_others}
 use Rattle.dm_rulelaws.proofs.Based.Needs.{Resting, Serves}
 use Rattle.dm_rulelaws.proofs.Based.Rows.{living}
 
@@ -178,8 +178,6 @@ ends_known s t v p server some set rests h = known_learns s t v (view.ended v p)
 comes_known : (s t : OneKernel) (v w : View) (p : Pid) → is_server p ≡ false → w.known ≡ at_record v.known v.acting p Here → w.ring ≡ at_machine v.ring v.acting (v.ring v.acting ++ p ∷ []) → SetLife s t p (Some true)
     → ((n : ℕ) → (v.acting == n) ≡ false → agrees (v.known n p) (t.processes p) ≡ true) → ((v.acting == p.home) ≡ false → is_some (s.processes p) ≡ true) → is_here (v.known v.acting p) ≡ false → KnownStands s v → KnownStands t w
 comes_known s t v w p server known ring set away far off h =
-    let last_others : (p q : Pid) (xs : List Pid) → pid_eq p q ≡ false → rings q (xs ++ p ∷ []) ≡ rings q xs = λ p q xs apart. search (arith, rings-append, rings_one, one_off) in
-    let last_self : (p : Pid) (xs : List Pid) → rings p xs ≡ 0 → rings p (xs ++ p ∷ []) ≡ 1 = λ p xs none. search (arith, rings-append, rings_one, pid_eq-same) in
     let here_agrees : (o : Option Life) → life_sort o ≡ Some true → agrees Here o ≡ true = λ o h1. search arith in
     let zs = v.ring v.acting ++ p ∷ [] in
     let none : rings p (v.ring v.acting) ≡ 0 = h.ring v.acting p ∙ turns_off (is_server p) (v.known v.acting p) off in

@@ -24,6 +24,9 @@ start_knows b v earlier (p ∷ ps) m q valid some =
     first_is true e home rest = let f : p.pid.home ≡ m = grind (arith, nat_tests) in subst (λ (k : ℕ). k < length b.machines) f home
     first_is false e home rest = rest
 
+start_all : (b : Boot) → IsValid b → (h : Holder) (q : Pid) → Named (first_point b).kernel (first_point b).view h q → Knows (first_point b).view q ((first_point b).addresses h)
+start_all b h1 h q h2 = search (arith, Homes-start)
+
 start_home : (b : Boot) (ps : List BootProcess) (q : Pid) → is_some (life_at b ps q) ≡ true → known_at ps q.home q ≢ Unknown
 start_home b [] q made = absurd (false≢true made)
 start_home b (p ∷ ps) q made = elim (cases_Bool (pid_eq p.pid q)) [
@@ -36,7 +39,6 @@ start_home b (p ∷ ps) q made = elim (cases_Bool (pid_eq p.pid q)) [
 
 pub found_start : (b : Boot) → IsValid b → FoundBy (first_point b)
 found_start b valid =
-    let start_all : (b : Boot) → IsValid b → (h : Holder) (q : Pid) → Named (first_point b).kernel (first_point b).view h q → Knows (first_point b).view q ((first_point b).addresses h) = λ b h1 h q h2. search (arith, Homes-start) in
     let some : 0 < length b.machines = let e = valid.some_machines in grind (arith, nat_tests) in
     record {
       line = record {
@@ -79,12 +81,15 @@ stands_named pt i z t (Some m) base h e told is =
     let named : names pt.kernel (Receiver i) ≡ Some t.receiver = ap to_of is ∙ ap Some (sym (base.sane.tells.receiver i m t is told)) in
     (h.line.all (Receiver i) t.receiver (Links named), named_real pt pt.kernel.machines (Receiver i) t.receiver h named)
 
+-- where someone is known there is a machine
+known_there : (pt : Point) (q : Pid) (m : ℕ) → FoundBy pt → KnowsAt pt.view q m → IsReal pt.kernel.machines pt.view q → m < pt.kernel.machines
+known_there pt q m h knows real = search (arith, pt.kernel.machines, known_within, pt.view, q.home, pt.view.known, h.line.known)
+
+fixed_home : (v : View) (q : Pid) (m : ℕ) → is_fixed q ≡ true → KnowsAt v q m → m ≡ q.home
+fixed_home v q m fixed knows = search arith
+
 pub found_of : (pt : Point) → Phased pt → FoundBy pt → Found pt
 found_of pt base h =
-    -- where someone is known there is a machine
-    let known_there : (pt : Point) (q : Pid) (m : ℕ) → FoundBy pt → KnowsAt pt.view q m → IsReal pt.kernel.machines pt.view q → m < pt.kernel.machines =
-      λ pt q m h knows real. search (arith, pt.kernel.machines, known_within, pt.view, q.home, pt.view.known, h.line.known) in
-    let fixed_home : (v : View) (q : Pid) (m : ℕ) → is_fixed q ≡ true → KnowsAt v q m → m ≡ q.home = λ v q m fixed knows. search arith in
     let v = pt.view in
     let n = pt.kernel.machines in
     record {

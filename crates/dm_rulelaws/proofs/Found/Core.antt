@@ -4,7 +4,7 @@ use Rattle.dm_rulelaws.proofs.Names.{at_record, View, Told, About, Target, Known
 use Rattle.dm_rulelaws.proofs.Names.{None, false≢true, id_eq, MessageKind, Line, manager, id_eq-is, after_put, Sender, given, own_given, first_gives, moved, not_true, put_at, put_told_off, sort_of, List, [], ◌∷◌, ◌++◌, arith, own_id}
 use Rattle.dm_rulelaws.proofs.Names.{view_after, handled, forwarded_for, forward_about, place_known, all_follow, forwards, updated, Spot, standing, one_of, Named, zero_cases, flip_zero}
 use Rattle.dm_rulelaws.proofs.Found.Lists.{Places, places_put, places_line, places_handled, places_forwarded, AllAre, all_as, put_all, put_routed, put_again, routed_gives, forwarded_all, updated_all, updated_leaves, given_are, follow_gets}
-use Rattle.dm_rulelaws.proofs.Found.Lists.{Sends}
+use Rattle.dm_rulelaws.proofs.Found.Lists.{Sends, put_tells}
 
 -- a process is at home there, or known; kernels and servers are at home
 abbrev pub KnowsAt : View → Pid → ℕ → Type 0
@@ -172,10 +172,6 @@ put_real n pt b id i k q u h1 h2 h3 h4 h5 = search (arith, pt.view)
 
 pub put_core : (n : ℕ) (pt : Point) (x b : ℕ) (id : MsgId) (k : MessageKind) (q : Pid) → NeedsPut n pt b id k q → LineCore n pt → LineCore n (moved pt (Line.Put x b id k q) pt.kernel)
 put_core n pt x b id k q need h =
-    -- what is told behind a put: what was told before, or this
-    let put_tells : (v : View) (x y : ℕ) (id : MsgId) (k : MessageKind) (q : Pid) (i : MsgId) (u : Told) → (after_put v x y id k q).told i ≡ Some u
-      → (v.told i ≡ Some u) ⊎ ((id ≡ i) × (v.told id ≡ None) × (record { kind = k; receiver = q; about = v.topic } ≡ u)) =
-      λ v x y id k q i u h1. search (arith, id_eq-is, v.told, put_at, put_told_off, v.topic) in
     let v = pt.view in
     let w = after_put v x b id k q in
     let c = given pt.addresses (first_gives (v.told id) (own_given pt.kernel v pt.addresses id q (sort_of k))) in

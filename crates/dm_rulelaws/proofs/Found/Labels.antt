@@ -10,7 +10,7 @@ use Rattle.dm_rulelaws.proofs.Names.{after_proto, queued_for, held_for, taken_id
 use Rattle.dm_rule.specs.View.{Ended}
 use Rattle.dm_rule.proofs.Trails.Places.{Owns}
 use Rattle.dm_rulelaws.proofs.Fits.Start.{fits_step}
-use Rattle.dm_rulelaws.proofs.Found.Lists.{places_label, Places, Brings, places_line, AllAre, all_as, Sends, step_leaves, created_for, places_as}
+use Rattle.dm_rulelaws.proofs.Found.Lists.{places_label, Places, Brings, places_line, AllAre, all_as, Sends, step_leaves, created_for, places_as, places_about}
 use Rattle.dm_rulelaws.proofs.Found.Core.{AboutIs, KnowsAt, Knows, IsAt, KnownIs, LineCore, Grows, Learns, learns_nothing, learns, knows_grow, own_grows, about_grows, core_view, known_grows, NeedsPut, put_core, NeedsForward, NeedsSent}
 use Rattle.dm_rulelaws.proofs.Found.Core.{forwarded_core, sent_core, updated_core}
 use Rattle.dm_rulelaws.proofs.Based.Loud.{SetLife, some_alike, step_alike, step_ends, step_serves, step_creates}
@@ -175,6 +175,9 @@ keeps_receiver pt s l i h is some =
       | inl own ↦ gives_spares pt.kernel s pt.view pt.addresses l i is (outside pt s l h is) own
       | inr other ↦ told_spares h.r h.e pt.kernel s pt.view pt.addresses l i is h.sound (entered pt i h some other)
     ])
+
+sends_grow : (n : ℕ) (s t : OneKernel) (q : Pid) → Grown s t → Sends n s q → Sends n t q
+sends_grow n s t q grown h = search (arith, s.processes, t.processes, grown_none, grown.lives)
 
 label_all : (n : ℕ) (pt : Point) (s : OneKernel) (l : Label) → Sane pt → kernel.step pt.kernel l ≡ Some s → AtHome (Knows pt.view) s (given pt.addresses (gives pt.kernel pt.view pt.addresses l)) → LineCore n pt
     → AllAre (Knows pt.view) s pt.view (given pt.addresses (gives pt.kernel pt.view pt.addresses l))

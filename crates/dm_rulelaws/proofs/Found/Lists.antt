@@ -2,9 +2,9 @@
 use Rattle.dm_rulelaws.proofs.Names.{◌≡◌, ◌⊎◌, ℕ, zero, suc, ◌+◌, ◌≤◌, ◌==◌, Bool, true, false, not, filter, List, [], ◌∷◌, ◌++◌, refl, sym, subst, inl, inr, arith, ⊤, if◌then◌else◌, drop, Option, None, Some, Pid, MsgId, MessageKind, Label}
 use Rattle.dm_rulelaws.proofs.Names.{id_eq-is, id_eq-same, Line, Stage, at_machine, at_pair, at_record, without_id, without_front, View, Pair, Told, About, view_after, after_label, after_put, after_taken, after_stage, after_proto, handled}
 use Rattle.dm_rulelaws.proofs.Names.{handled_first, queued_for, held_for, forwarded_for, rejoins, served_told, receiver_of, taken_id, oldest, routed_on, Spot, Queue, Held, Inbox, Untaken, times, untaken, standing, eq_is, parts, at_place}
-use Rattle.dm_rulelaws.proofs.Names.{pair_keeps, times-append, machine_of, ap, ◌∙◌, cases_Bool, Place, manager, OneKernel, is_kernels, own_id, Addresses, Holder, Receiver, Sender, Gets, given, holder_eq, place_known, all_follow}
+use Rattle.dm_rulelaws.proofs.Names.{pair_keeps, times-append, machine_of, ap, ◌∙◌, cases_Bool, Place, manager, OneKernel, is_kernels, own_id, Addresses, Holder, Receiver, Sender, Gets, given, holder_eq, place_known, all_follow, put_at}
 use Rattle.dm_rulelaws.proofs.Names.{is_told_back, told_back_gets, forwards, place_told, is_behind, updated_to, updated, own_given, first_gives, one_of, Goes, Comes, Named, Links, holder_is, unnamed_receiver, unnamed_sender, put_named}
-use Rattle.dm_rulelaws.proofs.Names.{told_again, is_own, leads_where, behind_where, plain_gives, ◌<◌, is_some, nat_tests, PlainMessage, is_fixed, by_step, MoveNote, sort_of, dropped_for, routed_named}
+use Rattle.dm_rulelaws.proofs.Names.{told_again, is_own, leads_where, behind_where, plain_gives, ◌<◌, is_some, nat_tests, PlainMessage, is_fixed, by_step, MoveNote, sort_of, dropped_for, routed_named, put_told_off}
 use Rattle.dm_rule.proofs.Trails.Places.{Owns}
 use Rattle.dm_rulelaws.proofs.Based.Sets.{set_all, without_fewer, front_fewer, last_of}
 use Rattle.dm_rulelaws.proofs.Fits.Constants.{step_constant}
@@ -160,6 +160,10 @@ places_label G v (Label.NoSpace id f b) h = places_handled G v id h
 places_label G v (Label.Asked id) h = places_handled G v id h
 places_label G v any_ h = places_as G v (after_label v any_) refl refl refl (λ a b. refl) h
 
+-- the topic is no place
+pub places_about : (G : MsgId → ℕ → Type 0) (v : View) (a : About) → Places G v → Places G (view.about v a)
+places_about G v a h = places_as G v (view.about v a) refl refl refl (λ b c. refl) h
+
 pub places_stage : (G : MsgId → ℕ → Type 0) (v : View) (p : Pid) (s : Stage) → Places G v → Places G (after_stage v p s)
 places_stage G v p Stage.Asked h = h
 places_stage G v p Stage.Frozen h = search (arith, v.topic, places_as, places_first)
@@ -301,6 +305,11 @@ put_again P s v a x y id k q u told h g r e =
     again_back s v x y id k q u told h r (Owns (Comes i t is mine now move to)) = Owns (Comes i t is mine (sym (told_again v x y id k q u told i) ∙ now) move to)
 
 -- What a step of the kernel without machines leaves: how many machines there are, and who sends.
+
+-- what is told behind a put: what was told before, or this
+pub put_tells : (v : View) (x y : ℕ) (id : MsgId) (k : MessageKind) (q : Pid) (i : MsgId) (u : Told) → (after_put v x y id k q).told i ≡ Some u
+    → (v.told i ≡ Some u) ⊎ ((id ≡ i) × (v.told id ≡ None) × (record { kind = k; receiver = q; about = v.topic } ≡ u))
+put_tells v x y id k q i u h1 = search (arith, id_eq-is, v.told, put_at, put_told_off, v.topic)
 
 -- who sends messages: a server, a kernel of so many machines, or a process that was made
 abbrev pub Sends : ℕ → OneKernel → Pid → Type 0
