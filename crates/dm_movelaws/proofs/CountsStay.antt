@@ -4,7 +4,7 @@ use Rattle.dm_movelaws.proofs.Names.{Gets, holder_eq, forwards, all_follow, own_
 use Rattle.dm_movelaws.proofs.Names.{CountsStay, CountsKept, sort_of}
 use Rattle.dm_movelaws.proofs.After.{group_after}
 use Rattle.dm_movelaws.proofs.Updates.Always.{updates_always}
-use Rattle.dm_movelaws.proofs.Promise.Slots.{neither as either, not_given}
+use Rattle.dm_movelaws.proofs.Promise.Slots.{not_given}
 
 abbrev count_of : Addresses → Holder → ℕ
 count_of a h = (a h).moves
@@ -35,7 +35,7 @@ by_lines (l ∷ ls) pt end h mine is e =
     let (next, first, rest) = bind-is (after_line pt l) (λ (x : Point). after x ls) end is in
     let (s, step_, last) = bind-is (kernel_after pt.kernel (label_of l)) (λ (s : OneKernel). Some (moved pt l s)) next first in
     let f : moved pt l s ≡ next = cc in
-    let two = either (is_filled pt (label_of l) h) (in_next (after_line pt l) (λ next. refilled h next ls)) e in
+    let two : ((is_filled pt (label_of l) h) ≡ false) × ((in_next (after_line pt l) (λ next. refilled h next ls)) ≡ false) = grind (arith, nat_tests) in
     let one : count_of pt.addresses h ≤ count_of next.addresses h = subst (λ (x : Point). count_of pt.addresses h ≤ count_of x.addresses h) f (by_line pt l h mine two.0) in
     let others = by_lines ls next end h mine rest (sym (ap (λ (x : Option Point). in_next x (λ next. refilled h next ls)) first) ∙ two.1) in
     omega (arith, one, others)

@@ -5,6 +5,7 @@ use Rattle.dm_movelaws.proofs.Names.{Sayable, Sane, part_sane, lines_of, IsNetLi
 use Rattle.dm_movelaws.proofs.Names.{arith, Label, Option, None, MoveNote, Outcome, Known, View, About, PairsFit, fits_as, pair_same, view_after, tells_asker, answers_move}
 use Rattle.dm_rule.specs.Rule as rule
 use Rattle.dm_rule.specs.View as view
+pub use Rattle.std.specs.List.{AllByRecursion as All}
 
 -- a put and its packet
 puts_by : (P : Point → Type 0) (keeps : PacketsKeep P) (pt next : Point) (b : ℕ) (i : MsgId) (k : MessageKind) (q : Pid) (c d : Bool) → P (moved pt (Line.Put pt.view.acting b i k q) pt.kernel)
@@ -53,11 +54,6 @@ whatever_put P pt (Again i b) says put h = λ t told. put b i t.kind t.receiver
 whatever_put P pt (Owns k q b) says put h = put b (own_id pt.view) k q
 whatever_put P pt (Transmits a b l) says put h = h
 
--- each of these parts is so
-abbrev pub All : (Part → Type 0) → List Part → Type 0
-All Q [] = ⊤
-All Q (p ∷ ps) = Q p × All Q ps
-
 -- part by part
 pub parts_lead : (P : Point → Type 0) (keeps : PacketsKeep P) (Q : Part → Type 0) → ((pt : Point) (p : Part) → Q p → P pt → Behind P pt p) → (ps : List Part) (pt : Point) (w : Spelled) → All Q ps → spelled pt ps ≡ Some w → P pt → P w.point
 parts_lead P keeps Q one qs q w so is h = by_parts (λ ps pt v. All Q ps → P pt → P v.point) (λ pt so h. h)
@@ -87,18 +83,13 @@ abbrev pub Saying : (Line → Type 0) → Part → Type 0
 Saying Q (Says l) = Q l
 Saying Q _ = ⊤
 
--- each line is so, where the parts say such lines
-abbrev pub AllLines : (Line → Type 0) → List Line → Type 0
-AllLines Q [] = ⊤
-AllLines Q (l ∷ ls) = Q l × AllLines Q ls
-
-lines_append : (Q : Line → Type 0) (xs ys : List Line) → AllLines Q xs → AllLines Q ys → AllLines Q (xs ++ ys)
+lines_append : (Q : Line → Type 0) (xs ys : List Line) → All Q xs → All Q ys → All Q (xs ++ ys)
 lines_append Q [] ys h k = k
 lines_append Q (x ∷ xs) ys h k = (h.0, lines_append Q xs ys h.1 k)
 
 pub parts_say : (Q : Line → Type 0) → ((a b : ℕ) (i : MsgId) (k : MessageKind) (q : Pid) → Q (Line.Put a b i k q)) → ((a b n : ℕ) (l : Load) → Q (Line.Packet a b n l)) → (ps : List Part) (pt : Point) (w : Spelled)
-    → All (Saying Q) ps → spelled pt ps ≡ Some w → AllLines Q w.lines
-parts_say Q put packet qs q w so is = by_parts (λ ps pt v. All (Saying Q) ps → AllLines Q v.lines) (λ pt so. tt) (λ p ps pt next ls z lines leads rest so. lines_append Q ls z.lines (lines_are (AllLines Q) pt p ls (record {
+    → All (Saying Q) ps → spelled pt ps ≡ Some w → All Q w.lines
+parts_say Q put packet qs q w so is = by_parts (λ ps pt v. All (Saying Q) ps → All Q v.lines) (λ pt so. tt) (λ p ps pt next ls z lines leads rest so. lines_append Q ls z.lines (lines_are (All Q) pt p ls (record {
   says = λ l e. (subst (Saying Q) e so.0, tt);
   put = λ none a b i k q. (put a b i k q, tt);
   goes = λ none a b n i k q l. (put a b i k q, (packet a b n l, tt));
@@ -161,10 +152,7 @@ AskerPart (Routes i) = ⊤
 AskerPart _ = ⊥
 
 asker_behind : (n : ℕ) (p : Pid) (k : Known) (pt : Point) (x : Part) → AskerPart x → pt.view.known n p ≡ k → Behind (λ q. q.view.known n p ≡ k) pt x
-asker_behind n p k pt (Says (Line.Label (Label.Answered i o))) a h = λ s step. h
-asker_behind n p k pt (Says l) a h = absurd a
-asker_behind n p k pt (Routes i) a h = λ m there. h
-asker_behind n p k pt _ a h = absurd a
+asker_behind n p k pt x h1 h2 = grind (arith, nat_tests)
 
 pub asker_known : (n : ℕ) (p : Pid) (k : Known) (o : Option MoveNote) (r : Outcome) (pt : Point) (w : Spelled) → spelled pt (tells_asker o r) ≡ Some w → pt.view.known n p ≡ k → w.point.view.known n p ≡ k
 asker_known n p k None r pt w = parts_lead (λ q. q.view.known n p ≡ k) (λ q a b c l h. h) AskerPart (asker_behind n p k) [] pt w tt

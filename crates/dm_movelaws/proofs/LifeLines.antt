@@ -5,7 +5,6 @@ use Rattle.dm_movelaws.proofs.Names.{block_line, memory_lines, home_with, each_m
 use Rattle.dm_movelaws.proofs.Names.{each_process, name_lines, child_lines, pending_lines, queue_at, queue_lines, holding_lines, inbox_lines, stream_lines, server_lines, end_lines, Point, View, is_server, Run, run_always, tells_life}
 use Rattle.dm_movelaws.proofs.Names.{life_lines, IsSaid, LivesAreSaid, not, ◌&&◌, false≢true, MessageKind, Standing, or, Phase, Nowhere, Rests, Over, Moves, IsIn, knows, is_here, is_restart, is_early, Known, Unknown, agrees, living}
 use Rattle.dm_movelaws.proofs.Names.{stands_by, IsPlace, awaits}
-use Rattle.dm_movelaws.proofs.At.RestAlways.{is_unknown_is as unknown_by}
 use Rattle.dm_movelaws.proofs.Stages.Spares.{restart_late}
 use Rattle.dm_onekernel.specs.Step as kernel
 use Rattle.dm_rule.specs.Phases as phases
@@ -36,14 +35,13 @@ pub record Placed (pt : Point) (p : Pid) : Type 0 where
 placed : (pt : Point) (p : Pid) (m : ℕ) (x : Standing) → m < pt.kernel.machines → stands_by (pt.view.known m p) ≡ Some x → Placed pt p
 placed pt p m x less some =
     let awaits_stands : (k : Known) (x : Standing) → awaits k ≡ Some x → stands_by k ≡ Some x = λ k x e. grind (arith, nat_tests) in
-    let n = pt.kernel.machines in
-    elim (first_or standing_of pt.view p n) [
+    elim (first_or standing_of pt.view p pt.kernel.machines) [
       | inl found ↦ record {
         at = found.at;
-        is = ap (λ (y : Option Stood). or y (first_with awaits pt.view p n)) found.is;
+        is = ap (λ (y : Option Stood). or y (first_with awaits pt.view p pt.kernel.machines)) found.is;
         place = record { machine = found.within; stands = (let e_ : stands_by (pt.view.known found.at.at p) ≡ Some found.at.standing = grind (arith, nat_tests, found.stands) in e_) };
       }
-      | inr none ↦ elim (first_or awaits pt.view p n) [
+      | inr none ↦ elim (first_or awaits pt.view p pt.kernel.machines) [
         | inl found ↦ (search (arith, pt.view, awaits_stands, pt.view.known))
         | inr nor ↦ absurd (grind (arith, nat_tests, (none.none m less), (nor.none m less)))
       ]
@@ -76,10 +74,9 @@ moves_stands v p k s d id h =
     elim (leaves_or k d (v.known s p) source) [
       | inl leaving ↦ record { machine = s; standing = Standing.Leaving; stands = leaving }
       | inr restart ↦
-          let apart : (s == d) ≡ false = other (phases.is_between k) (s == d) h.apart in
           let at_d : (d == d) ≡ true = grind (arith, nat_tests) in
           let destination : phases.kind_comes k s (v.known d p) ≡ true =
-          sym (ap (λ (c : Bool). if c then phases.kind_leaves k d (v.known d p) else if d == d then phases.kind_comes k s (v.known d p) else phases.is_away (v.known d p)) apart
+          sym (ap (λ (c : Bool). if c then phases.kind_leaves k d (v.known d p) else if d == d then phases.kind_comes k s (v.known d p) else phases.is_away (v.known d p)) (other (phases.is_between k) (s == d) h.apart)
           ∙ ap (λ (c : Bool). if c then phases.kind_comes k s (v.known d p) else phases.is_away (v.known d p)) at_d) ∙ h.known d in
           record { machine = d; standing = Standing.Arriving; stands = comes_stands k s (v.known d p) (restart_late k restart) destination }
     ]
@@ -91,7 +88,7 @@ moves_stands v p k s d id h =
 
 -- a living process is in none of the other phases
 somewhere : (v : View) (p : Pid) (phase : Phase) (l : Option Life) (x : PlainProcess) → IsIn v p phase → l ≡ Some (Alive x) → ((m : ℕ) → agrees (v.known m p) l ≡ true) → v.known p.home p ≢ Unknown → Somewhere v p
-somewhere v p Nowhere l x h alive agree home = absurd (home (unknown_by (v.known p.home p) (h.known p.home)))
+somewhere v p Nowhere l x h alive agree home = absurd (home (let e_ : (v.known p.home p) ≡ Unknown = grind (arith, nat_tests, h.known p.home) in e_))
 somewhere v p (Rests at) l x h alive agree home = rests_stands v p at (h.known at)
 somewhere v p (Over at) l x h alive agree home =
     let same : (at == at) ≡ true = grind (arith, nat_tests) in
@@ -100,22 +97,16 @@ somewhere v p (Moves k s d id) l x h alive agree home = moves_stands v p k s d i
 
 pub alive_placed : (b : Boot) (pt : Point) (p : Pid) (x : PlainProcess) → Run b pt → pt.kernel.processes p ≡ Some (Alive x) → Placed pt p
 alive_placed b pt p x run alive =
-    let known = run.based.known in
-    let sane = run.based.phased.sane in
-    let server = (living pt p x sane (ap kernel.alive alive)).server in
-    let phases_ = run.based.phased.phases in
-    let at = somewhere pt.view p (phases_.of p) (pt.kernel.processes p) x (phases_.each p) alive (λ m. known.agree m p server) (known.home p server (ap is_some alive)) in
+    let server = (living pt p x run.based.phased.sane (ap kernel.alive alive)).server in
+    let at = somewhere pt.view p (run.based.phased.phases.of p) (pt.kernel.processes p) x (run.based.phased.phases.each p) alive (λ m. run.based.known.agree m p server) (run.based.known.home p server (ap is_some alive)) in
     placed pt p at.machine at.standing (run.found.known_within at.machine p (λ e. let f : None ≡ Some at.standing = sym (ap stands_by e) ∙ at.stands in cc)) at.stands
 
 -- lines that say of no process whether it lives
 abbrev Mute : Pid → List EndLine → Type 0
 Mute p ls = life_lines p ls ≡ []
 
-both : (p : Pid) (xs ys : List EndLine) → life_lines p (xs ++ ys) ≡ life_lines p xs ++ life_lines p ys
-both p xs ys = filter-append (tells_life p) xs ys
-
 mute_both : (p : Pid) (xs ys : List EndLine) → Mute p xs → Mute p ys → Mute p (xs ++ ys)
-mute_both p xs ys h k = both p xs ys ∙ ap (λ (ls : List EndLine). ls ++ life_lines p ys) h ∙ k
+mute_both p xs ys h k = filter-append (tells_life p) xs ys ∙ ap (λ (ls : List EndLine). ls ++ life_lines p ys) h ∙ k
 
 -- all lines of many processes or machines
 mute_home : (p : Pid) (f : Pid → List EndLine) (home n : ℕ) → ((q : Pid) → Mute p (f q)) → Mute p (home_with f home n)
@@ -129,10 +120,6 @@ mute_homes p pt f (suc home) h = mute_both p (homes_with pt f home) (home_with f
 mute_machines : (p : Pid) (f : ℕ → List EndLine) (n : ℕ) → ((m : ℕ) → Mute p (f m)) → Mute p (each_machine f n)
 mute_machines p f zero h = refl
 mute_machines p f (suc m) h = mute_both p (each_machine f m) (f m) (mute_machines p f m h) (h m)
-
--- all but the lines of processes
-mute_list : (p : Pid) (f : List MsgId → EndLine) (ids : List MsgId) → ((is : List MsgId) → tells_life p (f is) ≡ false) → Mute p (list_line f ids)
-mute_list p f ids h = grind (arith, nat_tests)
 
 mute_names : (p : Pid) (a : Addresses) (n : ℕ) (ks : List NamedLink) → Mute p (name_lines a n ks)
 mute_names p a n [] = refl
@@ -164,11 +151,7 @@ mute_state p a q x = search (mute_both, mute_memory, mute_links)
 other_alive : (p : Pid) (a : Addresses) (q : Pid) (x : PlainProcess) (o : Option Stood) → pid_eq p q ≡ false → Mute p (alive_lines a q x o)
 other_alive p a q x None off = refl
 other_alive p a q x (Some s) off =
-    let l = EndLine.Process q s.at s.standing (doing_of x.status) x.stopped x.sent in
-    ap (λ (c : Bool). if c then l ∷ life_lines p (state_lines a q x) else life_lines p (state_lines a q x)) off ∙ mute_state p a q x
-
-other_life : (p : Pid) (pt : Point) (q : Pid) (l : Option Life) → pid_eq p q ≡ false → Mute p (process_lines pt q l)
-other_life p pt q l off = grind (arith, nat_tests, other_alive)
+    ap (λ (c : Bool). if c then (EndLine.Process q s.at s.standing (doing_of x.status) x.stopped x.sent) ∷ life_lines p (state_lines a q x) else life_lines p (state_lines a q x)) off ∙ mute_state p a q x
 
 -- this process's own lines
 own_life : (b : Boot) (pt : Point) (p : Pid) (l : Option Life) → Run b pt → pt.kernel.processes p ≡ l → IsSaid pt p l (life_lines p (process_lines pt p l))
@@ -186,10 +169,10 @@ abbrev Others : Pid → (Pid → List EndLine) → Type 0
 Others p f = (q : Pid) → pid_eq p q ≡ false → Mute p (f q)
 
 one_last : (p : Pid) (xs ys ls : List EndLine) → Mute p xs → life_lines p ys ≡ ls → life_lines p (xs ++ ys) ≡ ls
-one_last p xs ys ls h k = both p xs ys ∙ ap (λ (zs : List EndLine). zs ++ life_lines p ys) h ∙ k
+one_last p xs ys ls h k = filter-append (tells_life p) xs ys ∙ ap (λ (zs : List EndLine). zs ++ life_lines p ys) h ∙ k
 
 one_first : (p : Pid) (xs ys ls : List EndLine) → life_lines p xs ≡ ls → Mute p ys → life_lines p (xs ++ ys) ≡ ls
-one_first p xs ys ls h k = both p xs ys ∙ ap (λ (zs : List EndLine). life_lines p xs ++ zs) k ∙ append-nil (life_lines p xs) ∙ h
+one_first p xs ys ls h k = filter-append (tells_life p) xs ys ∙ ap (λ (zs : List EndLine). life_lines p xs ++ zs) k ∙ append-nil (life_lines p xs) ∙ h
 
 -- past the last of a home, and in another home, it isn't
 past_home : (p : Pid) (f : Pid → List EndLine) (home n : ℕ) → Others p f → (p.home ≢ home) ⊎ (first_number + n ≤ p.num) → Mute p (home_with f home n)
@@ -245,33 +228,29 @@ of_processes pt q = process_lines pt q (pt.kernel.processes q)
 
 end_by : (p : Pid) (pt : Point) (ls : List EndLine) → life_lines p (each_process pt (of_processes pt)) ≡ ls → life_lines p (end_lines pt) ≡ ls
 end_by p pt ls h =
+    -- all but the lines of processes
+    let mute_list : (p : Pid) (f : List MsgId → EndLine) (ids : List MsgId) → ((is : List MsgId) → tells_life p (f is) ≡ false) → Mute p (list_line f ids) = λ p f ids h. grind (arith, nat_tests) in
     let mute_queues : (p : Pid) (pt : Point) → Mute p (queue_lines pt) =
       λ p pt. let mute_queue : (p : Pid) (v : View) (q : Pid) (o : Option Stood) → Mute p (queue_at v q o) = λ p v q o. grind (arith, nat_tests, mute_list) in search (mute_homes, mute_queue) in
     let lives = EndLine.Final ∷ each_process pt (of_processes pt) in
-    let servers = lives ++ server_lines pt in
-    let queues = servers ++ queue_lines pt in
+    let queues = (lives ++ server_lines pt) ++ queue_lines pt in
     let holding = queues ++ holding_lines pt in
     let inboxes = holding ++ inbox_lines pt in
-    let streams = inboxes ++ stream_lines pt in
     let mute_streams : Mute p (stream_lines pt) = search (mute_machines, mute_list) in
     let mute_holding : Mute p (holding_lines pt) = search (mute_machines, mute_homes, mute_list) in
     let mute_servers : Mute p (server_lines pt) = search (mute_both, mute_names, mute_children, mute_pending) in
     let mute_inboxes : Mute p (inbox_lines pt) = mute_machines p (λ m. list_line (EndLine.Inbox m) (pt.view.inbox m)) pt.kernel.machines (λ m. mute_list p (EndLine.Inbox m) (pt.view.inbox m) (λ is. refl)) in
-    one_first p streams (EndLine.Groups pt.view.groups ∷ []) ls
+    one_first p (inboxes ++ stream_lines pt) (EndLine.Groups pt.view.groups ∷ []) ls
     (one_first p inboxes (stream_lines pt) ls
     (one_first p holding (inbox_lines pt) ls
     (one_first p queues (holding_lines pt) ls
-    (one_first p servers (queue_lines pt) ls (one_first p lives (server_lines pt) ls h mute_servers) (mute_queues p pt)) mute_holding) mute_inboxes) mute_streams) refl
+    (one_first p (lives ++ server_lines pt) (queue_lines pt) ls (one_first p lives (server_lines pt) ls h mute_servers) (mute_queues p pt)) mute_holding) mute_inboxes) mute_streams) refl
 
 -- a process that was made is among those of its home
 made_among : (b : Boot) (pt : Point) (p : Pid) → Run b pt → is_some (pt.kernel.processes p) ≡ true → life_lines p (each_process pt (of_processes pt)) ≡ life_lines p (of_processes pt p)
 made_among b pt p run made =
-    let sane = run.based.phased.sane in
-    let least = sane.sound.made.least p made in
-    let most = sane.sound.made.most p made in
-    let server : is_server p ≡ false = no_server p least in
-    let home = run.found.known_within p.home p (run.based.known.home p server made) in
-    among_homes p pt (of_processes pt) pt.kernel.machines (λ q off. other_life p pt q (pt.kernel.processes q) off) home (grind (arith, nat_tests)) (grind (arith, nat_tests))
+    let home = run.found.known_within p.home p (run.based.known.home p (no_server p (run.based.phased.sane.sound.made.least p made)) made) in
+    among_homes p pt (of_processes pt) pt.kernel.machines (λ q off. (let e_ : Mute p (process_lines pt q (pt.kernel.processes q)) = grind (arith, nat_tests, other_alive) in e_)) home (grind (arith, nat_tests)) (grind (arith, nat_tests))
   where
     no_server : (q : Pid) → nat_le 3 q.num ≡ true → is_server q ≡ false
     no_server q e =
@@ -283,7 +262,7 @@ never_made : (p : Pid) (pt : Point) (n : ℕ) → pt.kernel.processes p ≡ None
 never_made p pt n none = mute_homes p pt (of_processes pt) n (λ q. by q (pid_eq p q) refl)
   where
     by : (q : Pid) (c : Bool) → pid_eq p q ≡ c → Mute p (of_processes pt q)
-    by q false off = other_life p pt q (pt.kernel.processes q) off
+    by q false off = grind (arith, nat_tests, other_alive)
     by q true same = ap (λ (l : Option Life). life_lines p (process_lines pt q l)) (ap pt.kernel.processes (sym (pid_eq-is p q same)) ∙ none)
 
 said_by : (b : Boot) (pt : Point) (p : Pid) (l : Option Life) → Run b pt → pt.kernel.processes p ≡ l → IsSaid pt p l (life_lines p (end_lines pt))

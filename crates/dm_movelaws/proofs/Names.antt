@@ -10,7 +10,7 @@ pub use Rattle.dm_onekernel.specs.Service.{manager_took}
 pub use Rattle.dm_laws.proofs.Counted.{Sent}
 pub use Rattle.dm_laws.proofs.Names.{Alive, Boot, BootProcess, Called, Direction, IsValid, Label, Life, Manager, MoveNote, Moving, MsgId, None, OneKernel, Option, Outcome, Pending, PendingKind, PlainLink, PlainMessage, PlainProcess}
 pub use Rattle.dm_laws.proofs.Names.{PlainStatus, PlainWhat, Ready, Reply, Sends, Some, Waiting, Why, answer_id, answer_to, bind, bool_eq, cases_Bool, entry, false≢true, first_failed, first_number, id_eq, id_of, in_bag, inl, inr, is_some}
-pub use Rattle.dm_laws.proofs.Names.{life_at, manager, nat_le, pid_of, reception, receptions, replay, start, switchboard, with_note, with_process, with_sent, without_message, without_note, ⊤, ◌⊎◌}
+pub use Rattle.dm_laws.proofs.Names.{life_at, manager, nat_le, pid_of, reception, receptions, replay, start, switchboard, with_note, with_process, with_sent, without_message, without_note, ⊤, ◌||◌, ◌⊎◌}
 pub use Rattle.dm_laws.proofs.Notes.{Notes-agree}
 pub use Rattle.dm_laws.proofs.Runs.{ended_stays, notes_always_agree, reached}
 pub use Rattle.dm_laws.proofs.Sound.{not_counted}
@@ -19,9 +19,8 @@ pub use Rattle.dm_line.specs.Ends.{block_line, each_machine, home_with, list_lin
 pub use Rattle.dm_line.specs.Todo.{or}
 pub use Rattle.dm_line.specs.declared.end_line.EndLine.{EndLine}
 pub use Rattle.dm_line.specs.declared.end_line.Standing.{Standing}
-pub use Rattle.dm_rule.proofs.Apart.Groups.{moves_known, moving_stays_always}
-pub use Rattle.dm_rule.proofs.Apart.Rows.{ApartOf, FirstApart, SparesPart, apart_first}
-pub use Rattle.dm_rule.proofs.Apart.Turns.{migrates_apart, net_apart, turns_apart}
+pub use Rattle.dm_rule.proofs.Apart.Groups.{moves_known, moving_stays_always, outcome_apart}
+pub use Rattle.dm_rule.proofs.Apart.Rows.{ApartOf, FirstApart, apart_first}
 pub use Rattle.dm_rule.proofs.Bags.{bag_asked, cases_zero, out_of}
 pub use Rattle.dm_rule.proofs.Changes.{Follows, Lives, is_served}
 pub use Rattle.dm_rule.proofs.Groups.{GroupIs, acked_off, deliver_off, early_off, fits, migrate_off, tick_off}
@@ -31,7 +30,7 @@ pub use Rattle.dm_rule.proofs.Homes.Lines.{acting_label}
 pub use Rattle.dm_rule.proofs.Homes.Parts.{acting_taken}
 pub use Rattle.dm_rule.proofs.Homes.Servers.{still_pending}
 pub use Rattle.dm_rule.proofs.Letters.{from_kernel, gone_in, letter_of}
-pub use Rattle.dm_rule.proofs.Lines.{at_machine_off, at_record_off, past_place, without_counts}
+pub use Rattle.dm_rule.proofs.Lines.{at_machine_off, at_record_off, without_counts}
 pub use Rattle.dm_rule.proofs.Moves.Lists.{emptied}
 pub use Rattle.dm_rule.proofs.Moves.Rows.{accepted_off, asked_off, frozen_off, home_again, home_off, lacks_off, left_off, memory_off, proto_off, restarted_off, state_off}
 pub use Rattle.dm_rule.proofs.Moves.Sent.{least_of as either, fits_packet, fits_put, line_next}
@@ -44,32 +43,32 @@ pub use Rattle.dm_rule.proofs.Names.{both_true, burden_of, child_links, chunks_o
 pub use Rattle.dm_rule.proofs.Names.{first_view, forwarded_for, forwards, forwards_on, front_of, given, gives, gives_piece, goes_out, goes_round, gone_to, group_of, handled, handled_first, hears, held_for, holder_eq, id_eq-is, id_eq-same}
 pub use Rattle.dm_rule.proofs.Names.{ids_at, is_away, is_behind, is_between, is_counted, is_due, is_early, is_here, is_kernels, is_over, is_pid, is_restart, is_told_back, kernel_after, kernel_hears, kind_comes, kind_leaves, knowing, knows}
 pub use Rattle.dm_rule.proofs.Names.{label_of, lands-is, leads_to, leaves, leaves_for, left_true, length-append, lines_of, link_target, machine_in, manager_sends, manager_takes_burden, manager_takes_lem, migrates, move_target, moved}
-pub use Rattle.dm_rule.proofs.Names.{name_link, not_server, outcome, own_given, own_id, packet_line, pending_of, pid_eq-is, pid_eq-same, pieces_of, place_told, plain_kind, process_told, puts, receiver_in, receiver_of, receives_burden}
+pub use Rattle.dm_rule.proofs.Names.{not_server, or_cases, outcome, own_given, own_id, packet_line, pending_of, pid_eq-is, pid_eq-same, pieces_of, place_told, plain_kind, process_told, puts, receiver_in, receiver_of, receives_burden}
 pub use Rattle.dm_rule.proofs.Names.{receives_links, released, right_true, seen, sender_in, sender_of, sends_burden, sends_on, sent_at, sent_off, served_told, slice_get_cases, slice_get_within, slot_after, slot_of, sort_of, spelled}
 pub use Rattle.dm_rule.proofs.Names.{standing, start-sound, stayed, taken_id, takes_block, takes_chunk, target_of, tells_asker, times, to_kernel, to_of, token_in, told_between, told_ended, told_here, told_server, told_step, topic_by}
-pub use Rattle.dm_rule.proofs.Names.{trails_after, unmoved, untaken, updated, updates, view_after, why_ended-is, with_pair, with_ring, without_front, without_id, ◌||◌}
+pub use Rattle.dm_rule.proofs.Names.{trails_after, unmoved, untaken, updated, view_after, why_ended-is, with_ring, without_id}
 pub use Rattle.dm_rule.proofs.Once.{one_of-same}
 pub use Rattle.dm_rule.proofs.Pairs.Lines.{AllFit, line_view, onward, pair_same, taken_pair, touches}
 pub use Rattle.dm_rule.proofs.Pairs.Migrating.{migrates_fit}
 pub use Rattle.dm_rule.proofs.Pairs.Stand.{set_is, set_other}
 pub use Rattle.dm_rule.proofs.Pairs.Turns.{turns_fit}
 pub use Rattle.dm_rule.proofs.Phases.Always.{phases_always}
-pub use Rattle.dm_rule.proofs.Phases.Calm.{Calm, Plain, between_of, calm_about, calm_in, calm_same, other_than}
+pub use Rattle.dm_rule.proofs.Phases.Calm.{Calm, between_of, calm_about, calm_in, calm_same, other_than}
 pub use Rattle.dm_rule.proofs.Phases.Hears.{plain_by}
 pub use Rattle.dm_rule.proofs.Phases.Leaves.{fewer_record}
 pub use Rattle.dm_rule.proofs.Phases.Lines.{dropped_spots, first_kept, forwarded_spots, handled_spots, held_spots, off_zero, packet_calm, put_spots, queued_spots}
 pub use Rattle.dm_rule.proofs.Phases.Lives.{nowhere_known}
-pub use Rattle.dm_rule.proofs.Phases.Net.{migrates_quiet, net_parts, taken_calm}
+pub use Rattle.dm_rule.proofs.Phases.Net.{came_view, in_inbox, migrates_quiet, net_parts, none_taken, taken_calm, taken_view}
 pub use Rattle.dm_rule.proofs.Phases.Pieces.{and_false, record_off}
 pub use Rattle.dm_rule.proofs.Phases.Put.{first_none, last_there, put_spot, put_there}
-pub use Rattle.dm_rule.proofs.Phases.Quiet.{Tame, line_calm, parts_settle, plain_in_bag, received_spots}
+pub use Rattle.dm_rule.proofs.Phases.Quiet.{Tame, gone_plain, line_calm, parts_settle, plain_in_bag, received_spots}
 pub use Rattle.dm_rule.proofs.Phases.Rests.{released_on}
 pub use Rattle.dm_rule.proofs.Phases.Stand.{held_plain, queued_plain}
 pub use Rattle.dm_rule.proofs.Phases.Start.{start_known}
 pub use Rattle.dm_rule.proofs.Said.{fits_as}
 pub use Rattle.dm_rule.proofs.Seen.{about_off}
 pub use Rattle.dm_rule.proofs.Serving.{Loose, loose_handles, loose_round}
-pub use Rattle.dm_rule.proofs.States.{PacketsKeep, PairsFit, packet_off, puts_next, said, said as last_point, says_next}
+pub use Rattle.dm_rule.proofs.States.{PacketsKeep, PairsFit, said as last_point, packet_off, puts_next, said, says_next}
 pub use Rattle.dm_rule.proofs.Trails.Along.{Carries, along_treads, trails_always_by}
 pub use Rattle.dm_rule.proofs.Trails.Found.{treads_start}
 pub use Rattle.dm_rule.proofs.Trails.Known.{get_at_end}
@@ -78,7 +77,7 @@ pub use Rattle.dm_rule.proofs.Trails.Leads.{less_test, trail_leads}
 pub use Rattle.dm_rule.proofs.Trails.Lines.{pid_there}
 pub use Rattle.dm_rule.proofs.Trails.Puts.{migrate_from, migrate_to}
 pub use Rattle.dm_rule.proofs.Trails.Steps.{sent_on_at, set_off, two_apart}
-pub use Rattle.dm_rule.proofs.Trails.Treads.{KnownFits, LabelFits, LineFits, PutFits, Treads, held_topic, line_treads, queued_topic, taken_topic}
+pub use Rattle.dm_rule.proofs.Trails.Treads.{KnownFits, LabelFits, LineFits, PutFits, Treads, held_topic, line_treads, queued_topic}
 pub use Rattle.dm_rule.proofs.Trails.Within.{HeadIn, Within, forwarded_acting, held_acting, line_within, queued_acting, trail_within}
 pub use Rattle.dm_rule.proofs.Turns.{created_off, ended_off, serving_off}
 pub use Rattle.dm_rule.specs.Acts.{act_of}
@@ -91,7 +90,7 @@ pub use Rattle.dm_rule.specs.Rule.{handles, landing_parts}
 pub use Rattle.dm_rulelaws.proofs.Based.Always.{based_always, based_group}
 pub use Rattle.dm_rulelaws.proofs.Based.Groups.{Begins, begins, group_keeps}
 pub use Rattle.dm_rulelaws.proofs.Based.Loud.{Loud, keeps_by}
-pub use Rattle.dm_rulelaws.proofs.Based.Needs.{AllLoose, Needs, NeedsLabel, NeedsPart, Rides, Said, Steps, Unborn, Walks, WalksOf, again_rides, begun, begun_sane, loose_walks, said_by}
+pub use Rattle.dm_rulelaws.proofs.Based.Needs.{AllLoose, Needs, NeedsPart, Rides, Said, Steps, Unborn, Walks, WalksOf, again_rides, begun, begun_sane, loose_walks, said_by}
 pub use Rattle.dm_rulelaws.proofs.Based.Queues.{told_kept, user_kind}
 pub use Rattle.dm_rulelaws.proofs.Based.Rows.{handles_walks, living, resting, round_walks, turned, unborn}
 pub use Rattle.dm_rulelaws.proofs.Based.Sets.{killed_or, set_all}
@@ -107,7 +106,7 @@ pub use Rattle.dm_rulelaws.proofs.Found.Groups.{queued_for, told_for, told_there
 pub use Rattle.dm_rulelaws.proofs.Found.Labels.{fixed_home}
 pub use Rattle.dm_rulelaws.proofs.Found.Lists.{more_front}
 pub use Rattle.dm_rulelaws.proofs.Found.Parts.{again_same, own_fresh, own_outside, plain_own}
-pub use Rattle.dm_rulelaws.proofs.Found.Real.{made_free, named_real, or_cases, server_fixed}
+pub use Rattle.dm_rulelaws.proofs.Found.Real.{made_free, named_real, server_fixed}
 pub use Rattle.dm_rulelaws.proofs.Goes.Always.{front, front_own, own_by, stands_first, told_of}
 pub use Rattle.dm_rulelaws.proofs.Goes.Own.{apart_is, destination_knows, server_leaves, source_knows}
 pub use Rattle.dm_rulelaws.proofs.Goes.Parts.{some_is}

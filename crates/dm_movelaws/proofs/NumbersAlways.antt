@@ -1,12 +1,11 @@
 -- The numbers in names of messages are below the counts of their senders.
-use Rattle.dm_movelaws.proofs.Names.{◌≡◌, ℕ, ◌<◌, true, false, nat_lt, refl, ap, ◌∙◌, sym, inl, inr, arith, None, Some, nat_tests, pid_of, MsgId, id_of, PlainMessage, OneKernel, in_bag, is_counted, counts, pid_eq-same, Sound, not_server}
-use Rattle.dm_movelaws.proofs.Names.{counts_process, Point, Told, is_kernels, Sane, run_always, IsBelow, NumbersAlways, cases_zero}
+use Rattle.dm_movelaws.proofs.Names.{◌≡◌, ℕ, ◌<◌, true, false, ap, ◌∙◌, sym, inl, inr, arith, None, Some, nat_tests, pid_of, MsgId, id_of, PlainMessage, OneKernel, in_bag, counts, pid_eq-same, Sound, Point, Told, is_kernels, Sane}
+use Rattle.dm_movelaws.proofs.Names.{run_always, IsBelow, NumbersAlways, cases_zero}
 
 -- what has entered is counted
 below : (r e : MsgId → ℕ) (s : OneKernel) (i : MsgId) → Sound r e s → counts s i ≡ true → IsBelow s i
 below r e s i h c = record {
   of_process = λ x alive.
-      let k : nat_lt i.n x.sent ≡ true = sym (counts_process s i.from i refl (not_server s i.from x alive h.made) ∙ ap (is_counted i.n) alive) ∙ c in
       grind (arith, nat_tests);
   of_switchboard = grind (arith, nat_tests, pid_eq-same);
   of_manager = grind (arith, nat_tests, pid_eq-same);

@@ -1,6 +1,6 @@
 -- Wherever the rule leads, each request to move is asked once at most, and answered as often where nothing is on its way.
 use Rattle.dm_movelaws.proofs.Names.{◌≡◌, ℕ, ◌+◌, List, [], ◌∷◌, refl, ap, ◌∙◌, sym, arith, Option, None, Some, Pid, MsgId, Label, Line, first_point, labels, label_of, with_label, after_replay, start, start-sound, in_bag, OneKernel}
-use Rattle.dm_movelaws.proofs.Names.{notes_always_agree, count, AnsweredAlways, asks_move}
+use Rattle.dm_movelaws.proofs.Names.{notes_always_agree, count, AnsweredAlways, asks_move, nat_tests}
 use Rattle.dm_movelaws.specs.Asked.{answers_move}
 use Rattle.dm_movelaws.proofs.At.RestAlways.{at_rest_always}
 use Rattle.dm_movelaws.proofs.Open.Moves.{leads_of, run_after}
@@ -8,14 +8,10 @@ use Rattle.dm_movelaws.proofs.Asked.Following.{asked_by, answered_by, of_labels,
 
 -- lines, by their labels
 line_asked : (i : MsgId) (l : Line) (ks : List Label) → of_labels (asked_by i) (with_label (label_of l) ks) ≡ one_for (asks_move i l) + of_labels (asked_by i) ks
-line_asked i (Line.Label (Label.Asked j)) ks = refl
-line_asked i (Line.Label l) ks = refl
-line_asked i _ ks = omega arith
+line_asked i l ks = grind (arith, nat_tests)
 
 line_answered : (i : MsgId) (l : Line) (ks : List Label) → of_labels (answered_by i) (with_label (label_of l) ks) ≡ one_for (answers_move i l) + of_labels (answered_by i) ks
-line_answered i (Line.Label (Label.Answered j o)) ks = refl
-line_answered i (Line.Label l) ks = refl
-line_answered i _ ks = omega arith
+line_answered i l ks = grind (arith, nat_tests)
 
 lines_asked : (i : MsgId) (ls : List Line) → of_labels (asked_by i) (labels ls) ≡ count (asks_move i) ls
 lines_asked i [] = refl
@@ -36,18 +32,15 @@ answered_always b es ls pt i valid leads =
       λ i s none free. let x : in_bag (s.bag i) ≡ 0 = ap in_bag none in let y : in_bag (s.noted i) ≡ 0 = ap in_bag free in record { once = omega (arith, x); sum = omega (arith, y) } in
     let replayed = after_replay ls (first_point b) pt (run_after b es ls (first_point b) pt leads) in
     let c = run_counts i (labels ls) (λ j. 0) (λ j. 0) (start b) pt.kernel 0 0 replayed (start-sound b valid) (counted_start i (start b) refl refl) in
-    let once = c.once in
     let sum = c.sum in
     let a = lines_asked i ls in
     let d = lines_answered i ls in
     record {
-      once = omega (arith, once, a);
+      once = omega (arith, c.once, a);
       few = omega (arith, sum, a, d);
       all = λ quiet.
-          let rest = at_rest_always b es pt valid (leads_of b es ls (first_point b) pt leads) quiet in
-          let agree = notes_always_agree b (labels ls) pt.kernel valid replayed in
           let none : in_bag (pt.kernel.noted i) ≡ 0 = none_noted (pt.kernel.noted i) (λ p noted. (
-          let (n, notes, name) = agree.follows i p noted in
-          let f : None ≡ Some n = sym (rest.unasked p) ∙ notes in cc)) in
+          let (n, notes, name) = (notes_always_agree b (labels ls) pt.kernel valid replayed).follows i p noted in
+          let f : None ≡ Some n = sym ((at_rest_always b es pt valid (leads_of b es ls (first_point b) pt leads) quiet).unasked p) ∙ notes in cc)) in
           omega (arith, sum, a, d, none);
     }

@@ -1,13 +1,11 @@
 -- The answer to a request to move follows at once on a line that is its cause.
-use Rattle.dm_movelaws.proofs.Names.{◌≡◌, Bool, true, false, List, [], ◌∷◌, ◌++◌, length, refl, ap, ◌∙◌, sym, subst, inl, inr, cases_Bool, false≢true, if◌then◌else◌, Option, None, Some, Pid, pid_eq, pid_eq-is, MsgId, Outcome, MoveNote}
+use Rattle.dm_movelaws.proofs.Names.{◌≡◌, Bool, true, false, List, [], ◌∷◌, ◌++◌, length, refl, ap, ◌∙◌, sym, subst, inl, inr, cases_Bool, false≢true, if◌then◌else◌, Option, None, Some, Pid, pid_eq, pid_eq-is, MsgId, Outcome, MoveNote, ℕ}
 use Rattle.dm_movelaws.proofs.Names.{PlainMessage, Boot, IsValid, Label, Line, Step, Told, View, Point, Part, Says, Routes, Spelled, spelled, group_of, group_is, answers_move, LeadsBy, Both, both_start, both_group, run_start, run_group}
-use Rattle.dm_movelaws.proofs.Names.{Run, begun, receiver_of, append_assoc, answer_id, AnswersHaveCauses, HasCause, IsCause, is_answer_by, letter_of, act_of, arith}
-use Rattle.dm_movelaws.proofs.Leading.{All, AllLines, Saying, parts_say, next_of}
+use Rattle.dm_movelaws.proofs.Names.{Run, begun, receiver_of, append_assoc, answer_id, AnswersHaveCauses, HasCause, IsCause, is_answer_by, letter_of, act_of, arith, nat_tests, IsStep}
+use Rattle.dm_movelaws.proofs.Leading.{All, Saying, parts_say, next_of}
 use Rattle.dm_movelaws.proofs.Ends.Sources.{Sources, group_acts}
-use Rattle.dm_movelaws.proofs.Ends.Always.{step_for}
 use Rattle.dm_movelaws.proofs.Open.Stays.{Lies, First, Later, lies, none_there}
 use Rattle.dm_movelaws.proofs.Ends.Parts.{Extends}
-use Rattle.dm_movelaws.proofs.Ends.Groups.{unmarked_answer}
 use Rattle.dm_movelaws.proofs.Asked.Following.{Row, Plain, Ends, IsHere, Leaves, AllUnmarked, EndLine, outcome_row, plain_notes, ends_notes, here_notes, here_gone, leaves_notes}
 
 -- lines that answer no request
@@ -16,11 +14,11 @@ Unsaid l = is_answer_by (act_of l) ≡ false
 
 unmarked_unsaid : (ps : List Part) → AllUnmarked ps → All (Saying Unsaid) ps
 unmarked_unsaid [] so = tt
-unmarked_unsaid (Says l ∷ ps) so = (unmarked_answer l so.0, unmarked_unsaid ps so.1)
+unmarked_unsaid (Says l ∷ ps) so = ((let e_ : is_answer_by (act_of l) ≡ false = grind (arith, nat_tests, so.0) in e_), unmarked_unsaid ps so.1)
 unmarked_unsaid (p ∷ ps) so = (tt, unmarked_unsaid ps so.1)
 
 -- where the answer stands among lines that say one
-none_answers : (xs earlier g : List Line) (i : MsgId) (o : Outcome) → AllLines Unsaid xs → xs ≡ earlier ++ Line.Label (Label.Answered i o) ∷ g → ⊥
+none_answers : (xs earlier g : List Line) (i : MsgId) (o : Outcome) → All Unsaid xs → xs ≡ earlier ++ Line.Label (Label.Answered i o) ∷ g → ⊥
 none_answers [] [] g i o h e = cc
 none_answers [] (y ∷ earlier) g i o h e = cc
 none_answers (x ∷ xs) [] g i o h e = let f : x ≡ Line.Label (Label.Answered i o) = cc in false≢true (sym h.0 ∙ ap (λ (l : Line). is_answer_by (act_of l)) f)
@@ -31,7 +29,7 @@ record Stands (earlier xs : List Line) (i j : MsgId) (o r : Outcome) : Type 0 wh
   request : i ≡ j
   outcome : o ≡ r
 
-only_answer : (xs zs earlier g : List Line) (j i : MsgId) (r o : Outcome) → AllLines Unsaid xs → AllLines Unsaid zs → xs ++ Line.Label (Label.Answered j r) ∷ zs ≡ earlier ++ Line.Label (Label.Answered i o) ∷ g → Stands earlier xs i j o r
+only_answer : (xs zs earlier g : List Line) (j i : MsgId) (r o : Outcome) → All Unsaid xs → All Unsaid zs → xs ++ Line.Label (Label.Answered j r) ∷ zs ≡ earlier ++ Line.Label (Label.Answered i o) ∷ g → Stands earlier xs i j o r
 only_answer [] zs [] g j i r o h k e = record { lines = refl; request = cc; outcome = cc }
 only_answer [] zs (y ∷ earlier) g j i r o h k e = absurd (none_answers zs earlier g i o k (let f : zs ≡ earlier ++ Line.Label (Label.Answered i o) ∷ g = cc in f))
 only_answer (x ∷ xs) zs [] g j i r o h k e = absurd (let f : x ≡ Line.Label (Label.Answered i o) = cc in false≢true (sym h.0 ∙ ap (λ (l : Line). is_answer_by (act_of l)) f))
@@ -63,8 +61,7 @@ told_on pt v ext i p (t, told, for_) = (t, ext i t told, for_)
 row_told : (b : Boot) (pt : Point) (d : Step) (ps : List Part) (w : Spelled) → Run b pt → Extends pt.view.told w.point.view.told → NotesTold pt → spelled (begun pt d) ps ≡ Some w → Row pt d ps → NotesTold w.point
 row_told b pt d ps w run ext h e (Plain so) p n noted = told_on pt w.point.view ext n.id p (h p n (sym (plain_notes p ps (begun pt d) w so e) ∙ noted))
 row_told b pt d ps w run ext h e (Ends q k l r was end are) p n noted =
-    let sane = run.based.phased.sane in
-    let notes = ends_notes (begun pt d) q p k l r w (sane.sound.notes.noted q k was) end (ap (spelled (begun pt d)) (sym are) ∙ e) in
+    let notes = ends_notes (begun pt d) q p k l r w (run.based.phased.sane.sound.notes.noted q k was) end (ap (spelled (begun pt d)) (sym are) ∙ e) in
     told_on pt w.point.view ext n.id p (h p n (noted_none (pid_eq q p) (pt.kernel.notes p) n (sym notes ∙ noted)))
 row_told b pt d ps w run ext h e (IsHere id msg there here are) p n noted = elim (cases_Bool (pid_eq msg.to p)) [
   | inl same ↦ absurd (let f : None ≡ Some n = sym (here_gone (begun pt d) id msg p w there same (ap (spelled (begun pt d)) (sym are) ∙ e)) ∙ noted in cc)
@@ -75,7 +72,6 @@ row_told b pt d ps w run ext h e (Leaves id msg to unasked there here what are) 
     let notes : (if pid_eq msg.to p then Some now else pt.kernel.notes p) ≡ Some n = sym (leaves_notes (begun pt d) id msg to p w there (ap (spelled (begun pt d)) (sym are) ∙ e)) ∙ noted in
     elim (cases_Bool (pid_eq msg.to p)) [
       | inl same ↦
-          let f : Some now ≡ Some n = sym (ap (λ (c : Bool). if c then Some now else pt.kernel.notes p) same) ∙ notes in
           let name : id ≡ n.id = (let g : now ≡ n = cc in ap (λ (k : MoveNote). k.id) g) in
           let (t, told, for_) = in_bag_told b pt run id msg there in
           told_on pt w.point.view ext n.id p (t, ap pt.view.told (sym name) ∙ told, for_ ∙ pid_eq-is msg.to p same)
@@ -92,14 +88,10 @@ says_lines : (pt : Point) (l : Line) (ps : List Part) (w : Spelled) → spelled 
 says_lines pt l ps w e = search (arith, next_of)
 
 cause_is : (i : MsgId) (q : Pid) (r : Outcome) (l : Line) → EndLine q r l → IsCause i q r l
-cause_is i q Outcome.Done l e = inl e
-cause_is i q Outcome.Stayed l e = e
-cause_is i q Outcome.Ended l e = e
+cause_is i q r l h1 = grind (arith, nat_tests)
 
 end_unsaid : (q : Pid) (r : Outcome) (l : Line) → EndLine q r l → Unsaid l
-end_unsaid q Outcome.Done l e = ap (λ (k : Line). is_answer_by (act_of k)) e
-end_unsaid q Outcome.Stayed l e = ap (λ (k : Line). is_answer_by (act_of k)) e
-end_unsaid q Outcome.Ended l e = absurd e
+end_unsaid q r l h1 = grind (arith, nat_tests)
 
 has_cause : (told : MsgId → Option Told) (d : Step) (l : Line) (earlier : List Line) (i j : MsgId) (o r : Outcome) (q : Pid) → Stands earlier (Line.Head d ∷ l ∷ []) i j o r → (t : Told) × (told j ≡ Some t) × (t.receiver ≡ q)
     → IsCause j q r l → HasCause told earlier i o
@@ -148,9 +140,8 @@ record Behind (b : Boot) (pt end : Point) (ls : List Line) : Type 0 where
 run_causes : (b : Boot) (es : List Step) (ls : List Line) (pt end : Point) → IsValid b → LeadsBy b pt es ls end → Both b pt → Sources (length b.machines) pt.view → NotesTold pt → Behind b pt end ls
 run_causes b [] ls pt end valid (none, at) h sources told = search (arith, none_there)
 run_causes b (d ∷ ds) ls pt end valid (w, rest, fit, is, split, more) h sources told =
-    let next : Both b w.point = both_group run_group b pt d w valid fit is h in
-    let acts = group_acts (length b.machines) b pt d w (step_for b pt d h fit) is sources in
-    let r = run_causes b ds rest w.point end valid more next acts.sources (group_told b pt d w h.run acts.grows told is) in
+    let acts = group_acts (length b.machines) b pt d w (subst (λ (n : ℕ). IsStep n d) h.run.based.machines fit) is sources in
+    let r = run_causes b ds rest w.point end valid more (both_group run_group b pt d w valid fit is h) acts.sources (group_told b pt d w h.run acts.grows told is) in
     record {
       grows = λ i t e. r.grows i t (acts.grows i t e);
       causes = λ earlier later i o f. by_lies earlier later i o (λ j t e. r.grows j t (acts.grows j t e)) r (lies w.lines rest earlier later (Line.Label (Label.Answered i o)) (sym split ∙ f));

@@ -1,15 +1,14 @@
 -- A process follows a request to move only while it moves.
 use Rattle.dm_movelaws.proofs.Names.{◌≡◌, ℕ, ◌==◌, Bool, true, false, refl, ap, ◌∙◌, sym, if◌then◌else◌, Option, Some, is_some, false≢true, Pid, MsgId, MessageKind, Boot, Alive, PlainProcess, Point, View, Known, Phase, Nowhere, Rests, Over}
 use Rattle.dm_movelaws.proofs.Names.{Moves, knows, is_here, is_over, IsIn, first_point, is_server, eq_self, run_always, nat_tests, arith, FollowsWhileMoving, MoveNote, Based, List, [], ◌∷◌, ◌++◌, None, pid_eq, Stage, Outcome, manager}
-use Rattle.dm_movelaws.proofs.Names.{Label, OneKernel, PlainMessage, PlainWhat, with_sent, Step, Line, Told, Here, Addresses, label_of, Part, Says, Spelled, spelled, outcome, sends_on, to_kernel, forwards_on, answers_move, leaves_for}
-use Rattle.dm_movelaws.proofs.Names.{IsNetLine, by_round, by_handles, by_hears, by_forwards, by_migrates, by_outcome, by_step, bind-is, said_by, plain_kind, asked_noted, ends_move-is, begun, asks, ◌+◌, ◌≤◌, id_eq, id_eq-is, id_eq-same}
-use Rattle.dm_movelaws.proofs.Names.{in_bag, entry, reception, replay, Sound, after_step, not_true}
+use Rattle.dm_movelaws.proofs.Names.{Label, OneKernel, PlainMessage, PlainWhat, with_sent, Step, Line, Told, Here, label_of, Part, Says, Spelled, spelled, outcome, sends_on, to_kernel, answers_move, leaves_for, by_round, by_handles}
+use Rattle.dm_movelaws.proofs.Names.{by_hears, by_forwards, by_migrates, by_outcome, by_step, bind-is, said_by, plain_kind, asked_noted, ends_move-is, begun, asks, ◌+◌, ◌≤◌, id_eq, id_eq-is, id_eq-same, in_bag, entry, reception, replay}
+use Rattle.dm_movelaws.proofs.Names.{Sound, after_step, not_true, Notes-agree}
 use Rattle.dm_onekernel.specs.Step as kernel
 use Rattle.dm_rule.specs.Rule as rule
 use Rattle.dm_movelaws.proofs.Open.Moves.{leads_of}
 use Rattle.dm_movelaws.proofs.Ends.Open.{moving_in}
 use Rattle.dm_movelaws.proofs.Leading.{All, Saying, Behind, whatever_put, parts_lead, net_says, next_of}
-use Rattle.dm_movelaws.proofs.Pending.Pairs.{unnoted_in}
 
 at_here : (m : ℕ) (k : Known) (c d : Bool) → (if m == m then c else d) ≡ true → c ≡ true
 at_here m k c d e = sym (ap (λ (x : Bool). if x then c else d) (eq_self m)) ∙ e
@@ -40,8 +39,7 @@ is_moves v p _ is e = cc
 pub follows_while_moving : FollowsWhileMoving
 follows_while_moving b es ls pt p n valid leads noted =
     let h = (run_always b es pt valid (leads_of b es ls (first_point b) pt leads)).run in
-    let phases = h.based.phased.phases in
-    is_moves pt.view p (phases.of p) (phases.each p) (noted_moves b pt h.based p n noted)
+    is_moves pt.view p (h.based.phased.phases.of p) (h.based.phased.phases.each p) (noted_moves b pt h.based p n noted)
 
 -- The parts of a group, by what they say of requests to move: none is asked or answered; a process comes here, and its request is answered; a process is asked that is here already, or sets off.
 
@@ -88,9 +86,6 @@ round_unmarked b o m q ps = by_round AllUnmarked b o m q ps (refl, tt) (λ p x i
   refuses = λ id r. (refl, tt);
 })
 
-forwards_unmarked : (a : Addresses) (id : MsgId) (k : MessageKind) (sender : Pid) (to : ℕ) → AllUnmarked (forwards_on a id k sender to)
-forwards_unmarked a id k sender to = by_forwards AllUnmarked a id k sender to (refl, (tt, tt)) (refl, (tt, (tt, tt)))
-
 handles_row : (b : Boot) (o : Point) (m : ℕ) (id : MsgId) (msg : PlainMessage) (ps : List Part) → o.kernel.bag id ≡ Some msg → rule.handles b o m id msg ≡ Some ps → Row o (Step.Turn m) ps
 handles_row b o m id msg ps there = by_handles (Row o (Step.Turn m)) b o m id msg ps (record {
   created = λ fixed. Plain (refl, (tt, tt));
@@ -106,7 +101,7 @@ handles_row b o m id msg ps there = by_handles (Row o (Step.Turn m)) b o m id ms
   dropped = λ to. Plain (refl, tt);
   leaving = λ n to. Plain (refl, tt);
   coming = λ n to. Plain (refl, tt);
-  forwarded = λ n c to. Plain (forwards_unmarked o.addresses id (plain_kind msg.what) msg.sender n);
+  forwarded = λ n c to. Plain (by_forwards AllUnmarked o.addresses id (plain_kind msg.what) msg.sender n (refl, (tt, tt)) (refl, (tt, (tt, tt))));
 })
 
 sends_unmarked : (to : ℕ) (ids : List MsgId) (ps : List Part) → AllUnmarked ps → AllUnmarked (sends_on to ids ++ ps)
@@ -135,21 +130,18 @@ hears_row b o m id q ps = by_hears (Row o (Step.Turn m)) b o m id q ps (λ t is.
   no_move = λ at_. Plain (refl, tt);
   leaving = λ to at_. Plain (refl, tt);
   coming = λ from at_. Plain (refl, tt);
-  forwarded = λ to moves at_. Plain (forwards_unmarked o.addresses id t.kind manager to);
+  forwarded = λ to moves at_. Plain (by_forwards AllUnmarked o.addresses id t.kind manager to (refl, (tt, tt)) (refl, (tt, (tt, tt))));
   stays_here = λ at_. Plain (refl, tt);
   frozen = λ to at_. Plain (refl, (refl, (tt, tt)));
 })
-
-pub net_unmarked : (l : Line) → IsNetLine l → IsUnmarked l
-net_unmarked l h = grind (arith, nat_tests)
 
 pub outcome_row : (b : Boot) (o : Point) (d : Step) (ps : List Part) → outcome b o d ≡ Some ps → Row o d ps
 outcome_row b o d ps = by_outcome (Row o) b o d ps (record {
   round = λ m xs box e. Plain (round_unmarked b o m (rule.first_runnable o.kernel (o.view.queue m) (o.view.ring m)) xs e);
   handles = λ m i is msg xs box there e. handles_row b o m i msg xs there e;
   hears = λ m i is xs box none e. hears_row b o m i (o.view.told i) xs e;
-  ticks = λ m xs net. Plain (net_says IsUnmarked net_unmarked xs net);
-  delivers = λ a c k xs net. Plain (net_says IsUnmarked net_unmarked xs net);
+  ticks = λ m xs net. Plain (net_says IsUnmarked (λ l h. grind (arith, nat_tests)) xs net);
+  delivers = λ a c k xs net. Plain (net_says IsUnmarked (λ l h. grind (arith, nat_tests)) xs net);
   asks = λ p m. Plain (by_migrates AllUnmarked o p (refl, tt) (refl, tt) (λ n off is. (tt, tt)));
 })
 
@@ -176,9 +168,7 @@ pub answers_notes : (pt : Point) (id : MsgId) (r : Outcome) (q p : Pid) (w : Spe
 answers_notes pt id r q p w noted e = search (arith, next_of, said_by, plain_notes, pt.kernel, bind-is, ends_move-is)
 
 pub end_label : (q : Pid) (r : Outcome) (l : Line) → EndLine q r l → label_of l ≡ None
-end_label q Outcome.Done l e = ap label_of e
-end_label q Outcome.Stayed l e = ap label_of e
-end_label q Outcome.Ended l e = absurd e
+end_label q r l h1 = grind (arith, nat_tests)
 
 pub ends_notes : (pt : Point) (q p : Pid) (n : MoveNote) (l : Line) (r : Outcome) (w : Spelled) → pt.kernel.noted n.id ≡ Some q → EndLine q r l → spelled pt (Says l ∷ answers_move n.id r) ≡ Some w
     → w.point.kernel.notes p ≡ noted_if q p None (pt.kernel.notes p)
@@ -246,25 +236,15 @@ counted_step : (i : MsgId) (r e : MsgId → ℕ) (s t : OneKernel) (l : Label) (
     → Counted i (λ j. e j + entry j s t) t (a + one_for c) (b + one_for d)
 counted_step i r e s t (Label.Asked j) a b true d one two is h k =
     let begins_at : (s t : OneKernel) (i : MsgId) → kernel.step s (Label.Asked i) ≡ Some t → Begins s t i = λ s t i is. search (arith, bind-is, s.bag, asked_noted, id_eq-same) in
-    let at_ : j ≡ i = sym (id_eq-is i j one) in
-    let g = begins_at s t i (ap (λ (x : MsgId). kernel.step s (Label.Asked x)) (sym at_) ∙ is) in
-    let free : in_bag (s.noted i) ≡ 0 = ap in_bag (unnoted_in r e s i g.message h g.there) in
-    let was : in_bag (s.bag i) ≡ 1 = ap in_bag g.there in
-    let gone : in_bag (t.bag i) ≡ 0 = ap in_bag g.gone in
-    let now : in_bag (t.noted i) ≡ 1 = ap in_bag g.noted in
-    let none : one_for d ≡ 0 = ap one_for (sym two) in
-    let once = k.once in
-    let sum = k.sum in
-    record { once = omega (arith, once, was, gone); sum = omega (arith, sum, free, now, none) }
+    let g = begins_at s t i (ap (λ (x : MsgId). kernel.step s (Label.Asked x)) (sym (sym (id_eq-is i j one))) ∙ is) in
+    let free : in_bag (s.noted i) ≡ 0 = ap in_bag (let e_ : s.noted i ≡ None = search (arith, Notes-agree, h.entered, h.notes, g.there) in e_) in
+    record { once = omega (arith, k.once, ap in_bag g.there, ap in_bag g.gone); sum = omega (arith, k.sum, free, ap in_bag g.noted, ap one_for (sym two)) }
 counted_step i r e s t (Label.Answered j o) a b c true one two is h k =
     let closes_at : (s t : OneKernel) (i : MsgId) (o : Outcome) → kernel.step s (Label.Answered i o) ≡ Some t → Closes s t i = λ s t i o is. search (arith, bind-is, s.noted, s.notes, ends_move-is, id_eq-same) in
     search (arith, id_eq-is, closes_at, s.noted, t.noted, k.once, k.sum, t.bag, s.bag)
 counted_step i r e s t l a b false false one two is h k =
-    let same : in_bag (t.noted i) ≡ in_bag (s.noted i) = ap in_bag (step_noted i s t l one two is) in
-    let once = k.once in
-    let sum = k.sum in
     let more : in_bag (t.bag i) ≤ in_bag (s.bag i) + (entry i s t) = grind (arith, nat_tests) in
-    record { once = omega (arith, once, more); sum = omega (arith, sum, same) }
+    record { once = omega (arith, k.once, more); sum = omega (arith, k.sum, ap in_bag (step_noted i s t l one two is)) }
 counted_step i r e s t _ a b true d one two is h k = absurd (false≢true one)
 counted_step i r e s t _ a b false true one two is h k = absurd (false≢true two)
 
@@ -277,9 +257,6 @@ pub run_counts : (i : MsgId) (ls : List Label) (r e : MsgId → ℕ) (s t : OneK
 run_counts i [] r e s t a b is h k = search (arith, h.entered.once, k.once, k.sum, t.noted, s.noted)
 run_counts i (l ∷ ls) r e s t a b is h k =
     let (u, first, rest) = bind-is (kernel.step s l) (λ (x : OneKernel). replay x ls) t is in
-    let next = after_step r e s u l first h in
-    let c = run_counts i ls (λ j. r j + reception j l) (λ j. e j + entry j s u) u t (a + one_for (asked_by i l)) (b + one_for (answered_by i l)) rest next.sound
+    let c = run_counts i ls (λ j. r j + reception j l) (λ j. e j + entry j s u) u t (a + one_for (asked_by i l)) (b + one_for (answered_by i l)) rest (after_step r e s u l first h).sound
     (counted_step i r e s u l a b (asked_by i l) (answered_by i l) refl refl first h k) in
-    let once = c.once in
-    let sum = c.sum in
-    record { once = omega (arith, once); sum = omega (arith, sum) }
+    record { once = omega (arith, c.once); sum = omega (arith, c.sum) }

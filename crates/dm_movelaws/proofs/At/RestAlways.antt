@@ -24,10 +24,9 @@ no_untaken : (b : Boot) (pt : Point) (x y : ℕ) (is : List MsgId) → untaken (
 no_untaken b pt x y [] e h routed quiet = e
 no_untaken b pt x y (i ∷ is) e h routed quiet =
     let to = within b pt i (Untaken x y) h (grind (arith, nat_tests, id_eq-same)) in
-    let p = pt.view.pair x y in
     elim (cases_Bool (nat_lt x pt.kernel.machines)) [
-      | inl less ↦ ap (λ (n : ℕ). drop n p.ids) (quiet.taken x y (let f : x < pt.kernel.machines = grind (arith, nat_tests) in f) to) ∙ drop-length p.ids
-      | inr more ↦ ap (drop p.taken) (routed.none x y (let f : pt.kernel.machines ≤ x = grind (arith, nat_tests) in f)) ∙ drop-nil p.taken
+      | inl less ↦ ap (λ (n : ℕ). drop n (pt.view.pair x y).ids) (quiet.taken x y (let f : x < pt.kernel.machines = grind (arith, nat_tests) in f) to) ∙ drop-length (pt.view.pair x y).ids
+      | inr more ↦ ap (drop (pt.view.pair x y).taken) (routed.none x y (let f : pt.kernel.machines ≤ x = grind (arith, nat_tests) in f)) ∙ drop-nil (pt.view.pair x y).taken
     ]
 
 pub record Calm (v : View) : Type 0 where
@@ -44,9 +43,6 @@ calm b pt h routed quiet = record {
 no_token : (v : View) (p : Pid) (k : MessageKind) (s d : ℕ) (id : MsgId) → Calm v → IsToken v p k s d id → ⊥
 no_token v p k s d id h t = grind (arith, nat_tests)
 
-pub still_held : (k : Known) → is_moving k ≡ false → has_nothing_held k ≡ true
-still_held k e = grind (arith, nat_tests)
-
 -- all that stands stands in a queue
 pub record Rest (pt : Point) : Type 0 where
   pub calm : Calm pt.view
@@ -59,19 +55,17 @@ waits_in b pt i x m p h rest there one others =
     -- a queue is where a process is
     let still_queue : (k : Known) → is_moving k ≡ false → has_no_queue k ≡ false → (k ≡ Ended → ⊥) → k ≡ Here = λ k e f lives. grind (arith, nat_tests) in
     let q = h.based.queued m p i (omega (arith, one)) in
-    let k = q.is x there in
-    let same : p ≡ x.to = sym k.0 in
     let full : has_no_queue (pt.view.known m p) ≡ false = elim (cases_Bool (has_no_queue (pt.view.known m p))) [
       | inl none ↦ absurd (let f : times i (pt.view.queue m p) ≡ 0 = ap (times i) (h.based.lists.queue m p none) in omega (arith, one, f))
       | inr some ↦ some
     ] in
     record {
       machine = m;
-      user = user_kind x.what k.1;
-      here = subst (λ (r : Pid). pt.view.known m r ≡ Here) same
+      user = user_kind x.what (q.is x there).1;
+      here = subst (λ (r : Pid). pt.view.known m r ≡ Here) (sym (q.is x there).0)
           (still_queue (pt.view.known m p) (rest.still m p) full (λ ended. let f : times i (pt.view.queue m p) ≡ 0 = ap (times i) (rest.dropped.queue m p ended) in omega (arith, one, f)));
-      queued = subst (λ (r : Pid). standing pt.view i (Queue m r) ≡ 1) same one;
-      alone = subst (λ (r : Pid). (z : Spot) → z ≢ Queue m r → standing pt.view i z ≡ 0) same others;
+      queued = subst (λ (r : Pid). standing pt.view i (Queue m r) ≡ 1) (sym (q.is x there).0) one;
+      alone = subst (λ (r : Pid). (z : Spot) → z ≢ Queue m r → standing pt.view i z ≡ 0) (sym (q.is x there).0) others;
     }
 
 waits_at : (b : Boot) (pt : Point) (i : MsgId) (x : PlainMessage) (z : Spot) → Run b pt → Rest pt → pt.kernel.bag i ≡ Some x → standing pt.view i z ≡ 1 → ((y : Spot) → y ≢ z → standing pt.view i y ≡ 0) → IsWaiting pt i x
@@ -120,7 +114,7 @@ at_rest_always b es pt valid leads quiet =
     let routed = subst (λ (n : ℕ). Routed n pt.view) (sym h.based.machines) (routed_always b es pt valid leads) in
     let calm_ = calm b pt h routed quiet in
     let still : (m : ℕ) (p : Pid) → is_moving (pt.view.known m p) ≡ false = λ m p. let (phase, is, due) = phases_always b es pt p valid leads in phase_still pt.view p phase m calm_ is due in
-    let held : (m : ℕ) (p : Pid) → pt.view.held m p ≡ [] = λ m p. h.based.lists.held m p (still_held (pt.view.known m p) (still m p)) in
+    let held : (m : ℕ) (p : Pid) → pt.view.held m p ≡ [] = λ m p. h.based.lists.held m p (let e_ : has_nothing_held (pt.view.known m p) ≡ true = grind (arith, nat_tests, still m p) in e_) in
     let rest : Rest pt = record { calm = calm_; still = still; held = held; dropped = dropped_always b es pt valid leads } in
     record {
       lives = λ p x alive. let (phase, is, due) = phases_always b es pt p valid leads in lives_at b pt p x phase h calm_ alive is due;

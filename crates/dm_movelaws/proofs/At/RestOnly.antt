@@ -1,8 +1,8 @@
 -- Where a process has ended nothing comes to its queue: each group keeps it.
-use Rattle.dm_movelaws.proofs.Names.{◌≡◌, ℕ, ◌+◌, Bool, true, false, List, [], ◌∷◌, refl, ap, ◌∙◌, sym, false≢true, Option, None, Some, Pid, MsgId, MessageKind, plain_kind, Label, Step, Line, Stage, Part, Says, Routes, Spelled}
-use Rattle.dm_movelaws.proofs.Names.{spelled, Point, at_record, View, Told, Known, Here, Ended, view_after, handled, receiver_of, IsNetLine, set_all, ◌++◌, ⊤, PlainMessage, Boot, manager, Addresses, forwards_on, sends_on}
-use Rattle.dm_movelaws.proofs.Names.{is_kill, Sane, by_hears, by_round, by_handles, by_forwards, queued_known, held_known, forwarded_known, proto_known, nat_tests, arith, aim, sets, Frozen, subst, Life, OneKernel}
-use Rattle.dm_movelaws.proofs.Names.{after_step, is_away, kernel_after, label_of, group_of, without_id, without_front, Incoming, served_told, front_of, gone_to, Phased, KnownStands, group_keeps, Loud, keeps_by, killed_or}
+use Rattle.dm_movelaws.proofs.Names.{◌≡◌, ℕ, ◌+◌, Bool, true, false, List, [], ◌∷◌, refl, ap, ◌∙◌, sym, false≢true, Option, None, Some, Pid, MsgId, plain_kind, Label, Step, Line, Stage, Part, Says, Routes, Spelled, spelled, Point}
+use Rattle.dm_movelaws.proofs.Names.{at_record, View, Told, Known, Here, Ended, view_after, handled, receiver_of, IsNetLine, set_all, ◌++◌, ⊤, PlainMessage, Boot, manager, sends_on, is_kill, Sane, by_hears, by_round, by_handles}
+use Rattle.dm_movelaws.proofs.Names.{by_forwards, nat_tests, arith, aim, sets, Frozen, subst, Life, OneKernel, after_step, is_away, kernel_after, label_of, group_of, without_id, Incoming, served_told, front_of, gone_to, Phased, KnownStands}
+use Rattle.dm_movelaws.proofs.Names.{group_keeps, Loud, keeps_by, killed_or}
 use Rattle.dm_rule.specs.View as view
 use Rattle.dm_rule.specs.Rule as rule
 use Rattle.dm_onekernel.specs.Step as kernel
@@ -51,20 +51,13 @@ frozen_off : (to : ℕ) → Frozen to ≡ Ended → ⊥
 frozen_off to e = cc
 
 dropped : (before : Knows) (s t : OneKernel) (v : View) (id : MsgId) (o : Option Pid) → Dies s t → Buried before s v → Buried before t (view.dropped_for (handled v id) id o)
-dropped before s t v id None dies h = as_ before s t v (handled v id) dies refl refl h
-dropped before s t v id (Some p) dies h =
-    queues before s t v (view.dropped_for (handled v id) id (Some p)) p (without_front id (v.queue v.acting p)) dies refl refl (λ e. ap (without_front id) (h.queue v.acting p e)) h
+dropped before s t v id o h1 h2 = grind (arith, nat_tests, as_, queues)
 
 served : (before : Knows) (s t : OneKernel) (v : View) (id : MsgId) (o : Option Told) → Dies s t → Buried before s v → Buried before t (served_told (handled v id) o)
 served before s t v id o dies h = grind (arith, nat_tests, as_, killed_or, learns)
 
 queued : (before : Knows) (s : OneKernel) (v : View) (id : MsgId) (o : Option Told) → ((t : Told) → o ≡ Some t → v.known v.acting t.receiver ≡ Here) → Buried before s v → Buried before s (view.queued_for (handled v id) id (receiver_of o))
-queued before s v id None here h = as_ before s s v (handled v id) (same s) refl refl h
-queued before s v id (Some t) here h =
-    queues before s s v (view.queued_for (handled v id) id (Some t.receiver)) t.receiver (v.queue v.acting t.receiver ++ id ∷ []) (same s) refl refl (λ e. absurd (cc (sym (here t refl) ∙ h.known v.acting t.receiver e))) h
-
-held : (before : Knows) (s : OneKernel) (v : View) (id : MsgId) (o : Option Told) → Buried before s v → Buried before s (view.held_for (handled v id) id (receiver_of o))
-held before s v id o h = grind (arith, nat_tests, as_, same)
+queued before s v id o h1 h2 = grind (arith, nat_tests, as_, same, queues)
 
 loud : (before : Knows) → Loud (λ pt. Buried before pt.kernel pt.view)
 loud before = record {
@@ -80,7 +73,7 @@ loud before = record {
   created = λ pt t id p unborn sane is h.
       learns before pt.kernel t pt.view (view_after pt.view (Line.Label (Label.Created id p))) p Here (dies_label pt t (Label.Created id p) sane is) refl refl (λ e. absurd (cc (sym (unborn.unknown pt.view.acting) ∙ h.known pt.view.acting p e))) h;
   queued = λ pt id need sane h. queued before pt.kernel pt.view id (pt.view.told id) (λ t e. (need t e).here) h;
-  held = λ pt id need sane h. held before pt.kernel pt.view id (pt.view.told id) h;
+  held = λ pt id need sane h. grind (arith, nat_tests, as_, same);
   frozen = λ pt p lives here h.
       let set = sets pt.view p pt.view.topic in
       learns before pt.kernel pt.kernel pt.view (view.after_stage pt.view p Stage.Frozen) p (Frozen (aim pt.view pt.view.topic)) (same pt.kernel) set.known set.queue (λ e. absurd (cc (sym here ∙ h.known pt.view.acting p e))) h;
@@ -98,8 +91,7 @@ loud before = record {
 
 pub buried_group : (b : Boot) (pt : Point) (d : Step) (w : Spelled) → group_of b pt d ≡ Some w → Phased pt → KnownStands pt.kernel pt.view → ((n : ℕ) (q : Pid) → pt.view.known n q ≡ Ended → pt.view.queue n q ≡ []) → Buried pt.view.known w.point.kernel w.point.view
 buried_group b pt d w is phased known h =
-    let before = pt.view.known in
-    group_keeps (λ o. Buried before o.kernel o.view) (keeps_by (λ o. Buried before o.kernel o.view) (loud before)) b pt d w is phased known
+    group_keeps (λ o. Buried pt.view.known o.kernel o.view) (keeps_by (λ o. Buried pt.view.known o.kernel o.view) (loud pt.view.known)) b pt d w is phased known
     (record { known = λ n q e. e; queue = h; dead = λ n q e. (let e_ : is_dead (pt.kernel.processes q) ≡ true = grind (arith, nat_tests) in e_) })
 
 -- A process ends only where a group says so.
@@ -113,19 +105,17 @@ is_ending l = false
 abbrev pub PartStays : Part → Type 0
 PartStays = Saying (λ l. is_ending l ≡ false)
 
-abbrev pub AllStay : List Part → Type 0
-AllStay = All PartStays
-
 -- a process may run first; where it ends, or a message kills its receiver, just its queue is dropped behind
 abbrev pub LineEnds : Point → ℕ → Line → List Part → Type 0
 LineEnds o a (Line.Label (Label.End p y)) ps = ps ≡ rule.drop_parts (o.view.queue a p)
-LineEnds o a (Line.Label (Label.Served id)) ps = ((t : Told) → o.view.told id ≡ Some t → is_kill t.kind ≡ true → ps ≡ rule.drop_parts (o.view.queue a t.receiver)) × (((t : Told) → o.view.told id ≡ Some t → is_kill t.kind ≡ false) → AllStay ps)
-LineEnds o a l ps = AllStay ps
+LineEnds o a (Line.Label (Label.Served id)) ps = ((t : Told) → o.view.told id ≡ Some t → is_kill t.kind ≡ true → ps ≡ rule.drop_parts (o.view.queue a t.receiver)) ×
+    (((t : Told) → o.view.told id ≡ Some t → is_kill t.kind ≡ false) → All PartStays ps)
+LineEnds o a l ps = All PartStays ps
 
 abbrev pub LastEnds : Point → ℕ → List Part → Type 0
 LastEnds o a [] = ⊤
 LastEnds o a (Says l ∷ ps) = LineEnds o a l ps
-LastEnds o a (p ∷ ps) = AllStay ps
+LastEnds o a (p ∷ ps) = All PartStays ps
 
 -- or a process runs, and then it is so
 pub data Ends (o : Point) (a : ℕ) (ps : List Part) : Type 0 where
@@ -141,7 +131,7 @@ round_ends b o m q ps = by_round (Ends o m) b o m q ps (Once tt) (λ p x is aliv
 })
 
 -- a message of the bag
-no_kill : (o : Point) (a : ℕ) (id : MsgId) (msg : PlainMessage) (ps : List Part) → Sane o → o.kernel.bag id ≡ Some msg → is_kill (plain_kind msg.what) ≡ false → AllStay ps → LineEnds o a (Line.Label (Label.Served id)) ps
+no_kill : (o : Point) (a : ℕ) (id : MsgId) (msg : PlainMessage) (ps : List Part) → Sane o → o.kernel.bag id ≡ Some msg → is_kill (plain_kind msg.what) ≡ false → All PartStays ps → LineEnds o a (Line.Label (Label.Served id)) ps
 no_kill o a id msg ps sane there off stays = (
   λ t told kills. absurd (false≢true (sym off ∙ sym (ap is_kill (sane.tells.kind id msg t there told)) ∙ kills)),
   λ none. stays,
@@ -152,9 +142,6 @@ kill_ends o a id msg sane there on t told = (
   λ u is kills. ap (λ (q : Pid). rule.drop_parts (o.view.queue a q)) (sym (sane.tells.receiver id msg u there is)),
   λ none. absurd (false≢true (sym (none t told) ∙ ap is_kill (sane.tells.kind id msg t there told) ∙ on)),
 )
-
-forwards_ends : (o : Point) (a : ℕ) (c : Addresses) (id : MsgId) (k : MessageKind) (sender : Pid) (to : ℕ) → Ends o a (forwards_on c id k sender to)
-forwards_ends o a c id k sender to = by_forwards (Ends o a) c id k sender to (Once (tt, tt)) (Once (tt, (tt, tt)))
 
 handles_ends : (b : Boot) (o : Point) (m : ℕ) (id : MsgId) (msg : PlainMessage) (ps : List Part) → Sane o → o.kernel.bag id ≡ Some msg → (t : Told) → o.view.told id ≡ Some t → rule.handles b o m id msg ≡ Some ps → Ends o m ps
 handles_ends b o m id msg ps sane there t told = by_handles (Ends o m) b o m id msg ps (record {
@@ -171,11 +158,11 @@ handles_ends b o m id msg ps sane there t told = by_handles (Ends o m) b o m id 
   dropped = λ ended. Once tt;
   leaving = λ to at_. Once tt;
   coming = λ from at_. Once tt;
-  forwarded = λ to moves at_. forwards_ends o m o.addresses id (plain_kind msg.what) msg.sender to;
+  forwarded = λ to moves at_. by_forwards (Ends o m) o.addresses id (plain_kind msg.what) msg.sender to (Once (tt, tt)) (Once (tt, (tt, tt)));
 })
 
 -- a kernel's own message ends no process
-sends_stay : (to : ℕ) (ids : List MsgId) (ps : List Part) → AllStay ps → AllStay (sends_on to ids ++ ps)
+sends_stay : (to : ℕ) (ids : List MsgId) (ps : List Part) → All PartStays ps → All PartStays (sends_on to ids ++ ps)
 sends_stay to [] ps h = h
 sends_stay to (i ∷ is) ps h = (tt, sends_stay to is ps h)
 
@@ -187,7 +174,7 @@ hears_ends b o m id q ps = by_hears (Ends o m) b o m id q ps (λ t is. record {
   no_move = λ at_. Once tt;
   leaving = λ to at_. Once tt;
   coming = λ from at_. Once tt;
-  forwarded = λ to moves at_. forwards_ends o m o.addresses id t.kind manager to;
+  forwarded = λ to moves at_. by_forwards (Ends o m) o.addresses id t.kind manager to (Once (tt, tt)) (Once (tt, (tt, tt)));
   stays_here = λ at_. Once tt;
   frozen = λ to at_. Once (refl, (tt, tt));
 })
@@ -208,35 +195,14 @@ pub record Only (before : Knows) (v : View) : Type 0 where
 pub only_as : (before : Knows) (v w : View) → ((n : ℕ) (q : Pid) → w.known n q ≡ v.known n q) → Only before v → Only before w
 only_as before v w known h = record { only = λ n q e. h.only n q (sym (known n q) ∙ e) }
 
-only_set : (before : Knows) (v w : View) (p : Pid) (k : Known) → w.known ≡ at_record v.known v.acting p k → (k ≡ Ended → v.known v.acting p ≡ Ended) → Only before v → Only before w
-only_set before v w p k known new h = record {
-  only = λ n q e. set_all (λ m r x. x ≡ Ended → before m r ≡ Ended) v.known v.acting p k (λ f. h.only v.acting p (new f)) (λ m r off. h.only m r) n q (sym (ap (λ (f : Knows). f n q) known) ∙ e);
-}
-
 -- lines that change nothing of what is known
 pub dropped_known : (v : View) (i : MsgId) (o : Option Pid) → (view.dropped_for v i o).known ≡ v.known
 dropped_known v i o = grind (arith, nat_tests)
 
-here_not : (T : Type 0) → Here ≡ Ended → T
-here_not T e = cc
-
 line_only : (before : Knows) (v : View) (l : Line) → is_ending l ≡ false → Only before v → Only before (view_after v l)
-line_only before v (Line.Label l) e h = grind (arith, nat_tests, only_as, dropped_known, only_set, here_not)
-line_only before v (Line.Head d) e h = only_as before v (view_after v (Line.Head d)) (λ n q. ap (λ (f : Knows). f n q) (let e_ : (view.after_head v d).known ≡ v.known = grind (arith, nat_tests) in e_)) h
-line_only before v (Line.Taken a b k) e h = grind (arith, nat_tests, only_as)
-line_only before v (Line.Queued id) e h = only_as before v (view_after v (Line.Queued id)) (λ n q. queued_known (handled v id) id (receiver_of (v.told id)) n q) h
-line_only before v (Line.Held id) e h = only_as before v (view_after v (Line.Held id)) (λ n q. held_known (handled v id) id (receiver_of (v.told id)) n q) h
-line_only before v (Line.Forwarded id m) e h = only_as before v (view_after v (Line.Forwarded id m)) (λ n q. forwarded_known (handled v id) (receiver_of (v.told id)) n q) h
-line_only before v (Line.Proto id) e h = only_as before v (view_after v (Line.Proto id)) (λ n q. proto_known (handled v id) (v.told id) n q) h
-line_only before v (Line.Migration s p) e h =
-    let stage_only : (before : Knows) (v : View) (p : Pid) (s : Stage) → Only before v → Only before (view.after_stage v p s) = λ before v p s h1.
-      let gone_ended : (k : Known) (n : ℕ) → view.gone_to k n ≡ Ended → k ≡ Ended = λ k n e. grind (arith, nat_tests) in
-      let frozen_not : (T : Type 0) (to : ℕ) → Frozen to ≡ Ended → T = λ T to e. cc in grind (arith, nat_tests, v.topic, only_set, sets, frozen_not, v.known, v.acting, v.moves, gone_ended, here_not) in
-    stage_only before v p s h
-line_only before v (Line.Stays p) e h = only_set before v (view_after v (Line.Stays p)) p Here refl (here_not (v.known v.acting p ≡ Ended)) h
-line_only before v any_ e h = only_as before v (view_after v any_) (λ n q. refl) h
+line_only before v l h1 h2 = grind (arith, nat_tests)
 
-pub parts_only : (before : Knows) (ps : List Part) (pt : Point) (w : Spelled) → AllStay ps → spelled pt ps ≡ Some w → Only before pt.view → Only before w.point.view
+pub parts_only : (before : Knows) (ps : List Part) (pt : Point) (w : Spelled) → All PartStays ps → spelled pt ps ≡ Some w → Only before pt.view → Only before w.point.view
 parts_only before =
     -- parts that end nothing
     let only_behind : (before : Knows) (pt : Point) (p : Part) → PartStays p → Only before pt.view → Behind (λ q. Only before q.view) pt p = λ before pt p stays h. grind (arith, nat_tests, whatever_put, line_only) in

@@ -31,8 +31,7 @@ is_calm (Line.Put a b id k q) = false
 is_calm l = true
 
 calm_line : (n : ℕ) (v : View) (l : Line) → is_calm l ≡ true → Routed n v → Routed n (view_after v l)
-calm_line n v l calm h =
-    grind (arith, nat_tests, packet_routed, kept, acting_taken, taken_pair, acting_label, pair_same, queued_acting, held_acting, forwarded_acting, proto_acting)
+calm_line n v l calm h = grind (arith, nat_tests, packet_routed, kept, acting_taken, taken_pair, acting_label, pair_same, queued_acting, held_acting, forwarded_acting, proto_acting)
 
 -- all parts are such lines, puts by the acting machine, and packets
 abbrev PartCalm : Part → Type 0

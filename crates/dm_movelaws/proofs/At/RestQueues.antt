@@ -1,14 +1,14 @@
 -- Where a process has ended no message is queued for it.
-use Rattle.dm_movelaws.proofs.Names.{◌≡◌, ◌⊎◌, ℕ, ◌≤◌, false, List, [], ◌∷◌, refl, ap, ◌∙◌, sym, subst, inl, inr, arith, cases_Bool, false≢true, nat_tests, Option, None, Some, Pid, MsgId, Boot, Label, id_eq-same, Step}
-use Rattle.dm_movelaws.proofs.Names.{Line, Part, Says, Spelled, spelled, Point, moved, group_of, at_record, times, View, Told, Ended, view_after, handled, PlainMessage, IsValid, Leads, first_point, Spot, Queue, Inbox, standing, StandsRight}
-use Rattle.dm_movelaws.proofs.Names.{is_kernels, group_is, arrives_net, resends_net, stands_right, kernels_fresh, not_true, is_kill, says_next, DropsAlways, killed_or, stands_first, Run, told_of, more_front, migrates, by_migrates}
+use Rattle.dm_movelaws.proofs.Names.{◌≡◌, ◌⊎◌, ℕ, ◌≤◌, false, List, [], ◌∷◌, refl, ap, ◌∙◌, sym, subst, inl, inr, arith, cases_Bool, false≢true, nat_tests, Option, None, Some, Pid, MsgId, Boot, Label, id_eq-same, Step, Line, Part, Says}
+use Rattle.dm_movelaws.proofs.Names.{Spelled, spelled, Point, moved, group_of, at_record, times, View, Told, Ended, view_after, handled, PlainMessage, IsValid, Leads, first_point, Spot, Queue, Inbox, standing, StandsRight, is_kernels}
+use Rattle.dm_movelaws.proofs.Names.{group_is, arrives_net, resends_net, stands_right, kernels_fresh, not_true, is_kill, says_next, DropsAlways, killed_or, stands_first, Run, told_of, more_front, migrates, by_migrates}
 use Rattle.dm_laws.proofs.Equal as equal
 use Rattle.dm_rule.specs.Rule as rule
 use Rattle.dm_rule.specs.View as view
 use Rattle.dm_rule.proofs.Lines as lines
-use Rattle.dm_movelaws.proofs.At.RestOnly.{AllStay, LineEnds, LastEnds, Ends, Once, Runs, turns_ends, Only, only_as, parts_only, is_ending, net_stays, Knows, buried_group}
+use Rattle.dm_movelaws.proofs.At.RestOnly.{LineEnds, LastEnds, Ends, Once, Runs, turns_ends, Only, only_as, parts_only, is_ending, net_stays, Knows, buried_group, PartStays}
 use Rattle.dm_movelaws.proofs.After.{keeps_always}
-use Rattle.dm_movelaws.proofs.Leading.{net_says}
+use Rattle.dm_movelaws.proofs.Leading.{net_says, All}
 
 -- what is left of the queue of a process that has ended
 record Left (a : ℕ) (p : Pid) (known : Knows) (v : View) (ids : List MsgId) : Type 0 where
@@ -50,7 +50,7 @@ ends_left o a p pt mid ps rest h drops more acting known queue told =
 begins_only : (o : Point) (a : ℕ) (v : View) → Starts o a v → Only o.view.known v
 begins_only o a v h = record { only = λ n q e. sym (ap (λ (f : Knows). f n q) h.known) ∙ e }
 
-stays_cleared : (o : Point) (a : ℕ) (ps : List Part) (pt : Point) (w : Spelled) → Starts o a pt.view → AllStay ps → spelled pt ps ≡ Some w → Cleared o.view.known w.point.view
+stays_cleared : (o : Point) (a : ℕ) (ps : List Part) (pt : Point) (w : Spelled) → Starts o a pt.view → All PartStays ps → spelled pt ps ≡ Some w → Cleared o.view.known w.point.view
 stays_cleared o a ps pt w h stays is = cleared_only o.view.known w.point.view (parts_only o.view.known ps pt w stays is (begins_only o a pt.view h))
 
 -- a message kills its receiver, or doesn't
@@ -107,10 +107,8 @@ receivers : (b : Boot) (pt : Point) (a : ℕ) (p : Pid) (i : MsgId) → Run b pt
 receivers b pt a p i h least =
     let in_bag : (i : MsgId) (x : Option PlainMessage) (f : Spot → ℕ) (z : Spot) → 1 ≤ f z → is_kernels i ≡ false → StandsRight i x f → (m : PlainMessage) × (x ≡ Some m) = λ i x f z least off h. grind (arith, nat_tests) in
     let q = h.based.queued a p i least in
-    let entered = q.entered in
-    let state = h.based.phased.state in
-    let off : is_kernels i ≡ false = not_true (is_kernels i) (λ e. let zero_ = kernels_fresh state.r state.e pt.kernel i state.sound e in omega (arith, entered, zero_)) in
-    let (x, there) = in_bag i (pt.kernel.bag i) (standing pt.view i) (Queue a p) least off (stands_right pt i state (pt.kernel.bag i) refl) in
+    let off : is_kernels i ≡ false = not_true (is_kernels i) (λ e. let zero_ = kernels_fresh h.based.phased.state.r h.based.phased.state.e pt.kernel i h.based.phased.state.sound e in omega (arith, q.entered, zero_)) in
+    let (x, there) = in_bag i (pt.kernel.bag i) (standing pt.view i) (Queue a p) least off (stands_right pt i h.based.phased.state (pt.kernel.bag i) refl) in
     let (t, told) = told_of (pt.view.told i) (h.found.told i (Queue a p) least) in
     (t, told, h.based.phased.sane.tells.receiver i x t there told ∙ (q.is x there).0)
 
@@ -127,7 +125,7 @@ group_cleared b pt (Step.Deliver a c k) w is h =
     grind (arith, nat_tests, net_says (λ l. is_ending l ≡ false) net_stays, arrives_net, cleared_only, parts_only)
 group_cleared b pt (Step.Migrate p m) w is h =
     let g = group_is b pt (Step.Migrate p m) w is in
-    let migrates_stay : (pt : Point) (p : Pid) → AllStay (migrates pt p) = λ pt p. by_migrates AllStay pt p (refl, tt) (refl, tt) (λ n off is. (tt, tt)) in
+    let migrates_stay : (pt : Point) (p : Pid) → All PartStays (migrates pt p) = λ pt p. by_migrates (All PartStays) pt p (refl, tt) (refl, tt) (λ n off is. (tt, tt)) in
     grind (arith, nat_tests, migrates_stay, cleared_only, parts_only)
 
 -- no message waits for a process where it has ended
@@ -136,11 +134,9 @@ pub record Dropped (v : View) : Type 0 where
 
 dropped_group : (b : Boot) (pt : Point) (d : Step) (w : Spelled) → group_of b pt d ≡ Some w → Run b pt → Dropped pt.view → Dropped w.point.view
 dropped_group b pt d w is h old =
-    let buried = buried_group b pt d w is h.based.phased h.based.known old.queue in
-    let cleared = group_cleared b pt d w is h in
     record {
-      queue = λ n q e. elim (cleared.each n q e) [
-        | inl had ↦ buried.queue n q had
+      queue = λ n q e. elim ((group_cleared b pt d w is h).each n q e) [
+        | inl had ↦ (buried_group b pt d w is h.based.phased h.based.known old.queue).queue n q had
         | inr none ↦ none
       ];
     }

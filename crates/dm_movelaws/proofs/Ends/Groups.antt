@@ -2,16 +2,16 @@
 use Rattle.dm_movelaws.proofs.Names.{◌≡◌, ℕ, ◌+◌, Bool, true, List, [], ◌∷◌, length, refl, ap, ◌∙◌, sym, subst, inl, inr, arith, if◌then◌else◌, Option, Some, cases_Bool, Pid, pid_eq, MsgId, MessageKind, Boot, Step, Line, Child, migrates}
 use Rattle.dm_movelaws.proofs.Names.{View, Told, after_head, after_put, view_after, own_id, Point, Part, Says, Owns, Spelled, behind, spelled, group_of, IsNet, front_way, Phased, told_some, put_spots, put_at, head_calm, put_there, put_spot}
 use Rattle.dm_movelaws.proofs.Names.{InPhases, calm_phases, PairsFit, PacketsKeep, put_told_off, said, Sane, KnownStands, Begins, begins, WalksOf, loose_walks, begun, begun_sane, turned, resting, round_walks, handles_walks, asks, ends}
-use Rattle.dm_movelaws.proofs.Names.{count, first_none, by_migrates, by_outcome, group_is, None, false, label_of, nat_tests, seen_none, MoveNote, Outcome, PlainMessage, PlainWhat, Label, Stage, Target, Frozen, Known, Here, to_kernel}
+use Rattle.dm_movelaws.proofs.Names.{count, first_none, by_migrates, by_outcome, group_is, None, false, label_of, nat_tests, seen_none, MoveNote, Outcome, PlainMessage, PlainWhat, Label, Stage, Target, Frozen, Known, Here, to_kernel, Loose}
 use Rattle.dm_movelaws.proofs.Names.{leaves_for, answers_move, said_by, part_sane, machine_in, move_target, sets, aim, asked_off, moved, is_moving, Walks, pid_eq-is, pid_eq-same, own_ends, ◌&&◌, not, ◌++◌, lines_of, LeadsBy, by_parts}
-use Rattle.dm_movelaws.proofs.Names.{is_answered_next, is_answer_by, act_of, hears, line_next, loose_round, loose_handles, by_forwards, plain_kind, turn_off, tick_off, deliver_off, migrate_off}
-use Rattle.dm_movelaws.proofs.Ends.Parts.{packet_smooth, one_if, zero_if, Rest, rest_packet, rest_behind, Handled, Quiets, SetsOff, part_count, unit_if, is_migrate, Extends, Still, plain_in_bag, AllQuiet, quiet_loose, Silent, count-append}
+use Rattle.dm_movelaws.proofs.Names.{is_answered_next, is_answer_by, act_of, hears, line_next, loose_round, loose_handles, by_forwards, plain_kind, turn_off, tick_off, deliver_off, migrate_off, IsNetLine, not_true, false≢true}
+use Rattle.dm_movelaws.proofs.Ends.Parts.{packet_smooth, one_if, zero_if, Rest, rest_packet, rest_behind, Handled, Quiets, SetsOff, part_count, unit_if, is_migrate, Extends, Still, plain_in_bag, AllQuiet, Silent, count-append, none_count}
 use Rattle.dm_movelaws.proofs.Ends.Parts.{own_untold, smooth_same, Tame, still_same, Smooth, smooth_trans, moves_none, lines_count, smooth_still}
-use Rattle.dm_movelaws.proofs.Ends.Open.{Opens, Adds, Balance, level_balance, smooth_opens, add_opens, moving_in, still_moves, here_stays, Turn, Comes, quiet_row, and_off, line_then, other_still, pid_swap, Neither, net_none}
+use Rattle.dm_movelaws.proofs.Ends.Open.{Opens, Adds, Balance, level_balance, smooth_opens, add_opens, moving_in, still_moves, here_stays, Turn, Comes, quiet_row, and_off, line_then, other_still, Neither, NetPart}
 use Rattle.dm_movelaws.proofs.Ends.Open.{net_level}
 use Rattle.dm_movelaws.proofs.Ends.Hears.{ComesOf, kernel_comes, process_comes, server_comes}
 use Rattle.dm_movelaws.proofs.Leading.{next_of, part_leads, net_says, lines_are, asker_known}
-use Rattle.dm_movelaws.proofs.Asked.Following.{Row, Plain, Ends, IsHere, Leaves, outcome_row, plain_notes, ends_notes, here_notes, leaves_notes, AllUnmarked, IsUnmarked, net_unmarked, EndLine}
+use Rattle.dm_movelaws.proofs.Asked.Following.{Row, Plain, Ends, IsHere, Leaves, outcome_row, plain_notes, ends_notes, here_notes, leaves_notes, AllUnmarked, IsUnmarked, EndLine}
 use Rattle.dm_rule.specs.Rule as rule
 
 abbrev pub is_answer_part : List Part → Bool
@@ -31,13 +31,8 @@ own_step f p pt x ps ls zs h1 h2 h3 = search (arith, lines_are)
 pub own_is : (f : MsgId → Option Told) (p : Pid) (ps : List Part) (pt : Point) (w : Spelled) → spelled pt ps ≡ Some w → (own_ends f p w.lines ≡ own_count f p ps) × (is_answered_next w.lines ≡ is_answer_part ps)
 own_is f p = by_parts (λ ps pt w. (own_ends f p w.lines ≡ own_count f p ps) × (is_answered_next w.lines ≡ is_answer_part ps)) (λ pt. (refl, refl)) (λ x ps pt next ls z lines leads rest. own_step f p pt x ps ls z.lines lines rest.0 rest.1)
 
-pub unmarked_answer : (l : Line) → IsUnmarked l → is_answer_by (act_of l) ≡ false
-unmarked_answer l h = grind (arith, nat_tests)
-
 unmarked_next : (ps : List Part) → AllUnmarked ps → is_answer_part ps ≡ false
-unmarked_next [] so = refl
-unmarked_next (Says l ∷ ps) so = unmarked_answer l so.0
-unmarked_next (x ∷ ps) so = refl
+unmarked_next ps h1 = grind (arith, nat_tests)
 
 pub own_same : (f : MsgId → Option Told) (p : Pid) (ps : List Part) → AllUnmarked ps → own_count f p ps ≡ part_count (ends f p) ps
 own_same f p [] so = refl
@@ -67,9 +62,7 @@ pub kept_own : (p : Pid) (w : View) (ids : List MsgId) (asked before behind : �
 kept_own p w ids asked before behind ps a h1 h2 h3 h4 = search arith
 
 pub end_ends : (f : MsgId → Option Told) (p q : Pid) (r : Outcome) (l : Line) → EndLine q r l → ends f p l ≡ pid_eq p q
-end_ends f p q Outcome.Done l e = ap (ends f p) e
-end_ends f p q Outcome.Stayed l e = ap (ends f p) e
-end_ends f p q Outcome.Ended l e = absurd e
+end_ends f p q r l h1 = grind (arith, nat_tests)
 
 -- a process that is asked to move where it is stays there
 pub asker_here : (pt : Point) (id : MsgId) (r : Outcome) (q : Pid) (w : Spelled) → spelled pt (rule.says (Label.Asked id) ∷ answers_move id r) ≡ Some w → pt.view.known pt.view.acting q ≡ Here → w.point.view.known pt.view.acting q ≡ Here
@@ -83,9 +76,7 @@ own-append f p (x ∷ y ∷ xs) ys e = let h = own-append f p (y ∷ xs) ys e in
 
 pub leads_next : (b : Boot) (es : List Step) (pt end : Point) (ls : List Line) → LeadsBy b pt es ls end → is_answered_next ls ≡ false
 leads_next b [] pt end ls (none, at) = ap is_answered_next none
-leads_next b (d ∷ ds) pt end ls (w, rest, fit, is, split, more) =
-    let k = group_is b pt d w is in
-    ap is_answered_next (split ∙ ap (λ (x : Spelled). x.lines ++ rest) (sym k.whole))
+leads_next b (d ∷ ds) pt end ls (w, rest, fit, is, split, more) = ap is_answered_next (split ∙ ap (λ (x : Spelled). x.lines ++ rest) (sym (group_is b pt d w is).whole))
 
 -- What each group does with requests to move a process: directives and ends are counted against those that are under way.
 
@@ -102,6 +93,7 @@ front_turn o m i is h s fits front =
 -- a delivery or a tick
 net_comes : (p : Pid) (pt : Point) (h : InPhases pt.view) (ps : List Part) (w : Spelled) → IsNet ps → spelled pt ps ≡ Some w → Comes p pt h ps w
 net_comes p pt h ps w net e g ids opens =
+    let net_none : (f : Line → Bool) → Neither f → (ps : List Part) → IsNet ps → part_count f ps ≡ 0 = λ f n ps h. none_count f NetPart n ps (net_says IsNetLine (λ l net. net) ps h) in
     let net_ends : (g : MsgId → Option Told) (p : Pid) (ps : List Part) → IsNet ps → part_count (ends g p) ps ≡ 0 =
       λ g p ps h. let net_line_ends : (g : MsgId → Option Told) (p : Pid) → Neither (ends g p) = λ g p l h. grind (arith, nat_tests) in net_none (ends g p) (net_line_ends g p) ps h in
     let net_asks : (p : Pid) (ps : List Part) → IsNet ps → part_count (asks p) ps ≡ 0 = λ p ps h. let net_line_asks : (p : Pid) → Neither (asks p) = λ p l h. grind (arith, nat_tests) in net_none (asks p) (net_line_asks p) ps h in
@@ -133,10 +125,9 @@ request_adds p q pt b sane fits same =
     let v = pt.view in
     let i = own_id v in
     let u : Told = record { kind = MessageKind.Migrate; receiver = q; about = v.topic } in
-    let untold = own_untold pt sane in
     record {
-      untold = untold;
-      now = record { told = u; is = put_at v v.acting b i MessageKind.Migrate q ∙ first_none (v.told i) u untold; asks = same; stands = (put_spot v.acting b, put_there v v.acting b i MessageKind.Migrate q fits) };
+      untold = (own_untold pt sane);
+      now = record { told = u; is = put_at v v.acting b i MessageKind.Migrate q ∙ first_none (v.told i) u (own_untold pt sane); asks = same; stands = (put_spot v.acting b, put_there v v.acting b i MessageKind.Migrate q fits) };
       told = λ j apart. put_told_off v v.acting b i j MessageKind.Migrate q apart;
       spots = λ j apart z. put_spots v v.acting b i j MessageKind.Migrate q fits apart z;
     }
@@ -146,15 +137,13 @@ request_comes p q m b pt h w sane fits same e g ids opens =
     let v = pt.view in
     let i = own_id v in
     let n = next_of pt (Owns MessageKind.Migrate q b) [] w e in
-    let at : n.next ≡ w.point = said n.next n.rest n.more ∙ n.point in
     let first : Added p v (i ∷ ids) (after_put v v.acting b i MessageKind.Migrate q) = record { opens = add_opens p v (after_put v v.acting b i MessageKind.Migrate q) ids i (request_adds p q pt b sane fits same) opens; still = λ n. refl } in
     let to : Point → Type 0 = λ x. Added p v (i ∷ ids) x.view in
     let added_packet : (p : Pid) (v : View) (ids : List MsgId) → PacketsKeep (λ q. Added p v ids q.view) =
       λ p v ids q a b k l h. record { opens = smooth_opens p q.view (view_after q.view (Line.Packet a b k l)) ids (packet_smooth p q.view a b k l) h.opens; still = h.still } in
-    let there : Added p v (i ∷ ids) w.point.view = subst to at (part_leads to (added_packet p v (i ∷ ids)) pt n.next (Owns MessageKind.Migrate q b) first n.steps) in
-    let mv = still_moves p v w.point.view h g there.still in
+    let there : Added p v (i ∷ ids) w.point.view = subst to (said n.next n.rest n.more ∙ n.point) (part_leads to (added_packet p v (i ∷ ids)) pt n.next (Owns MessageKind.Migrate q b) first n.steps) in
     let one : asked_by p (Step.Migrate q m) ≡ 1 = ap (λ (c : Bool). if c then 1 else 0) same in
-    record { left = i ∷ ids; opens = there.opens; quiet = refl; sum = λ f ext. omega (arith, one, mv) }
+    record { left = i ∷ ids; opens = there.opens; quiet = refl; sum = λ f ext. omega (arith, one, still_moves p v w.point.view h g there.still) }
 
 owns_comes : (p q : Pid) (m b : ℕ) (pt : Point) (h : InPhases pt.view) (w : Spelled) → Sane pt → PairsFit pt.view → spelled pt (Owns MessageKind.Migrate q b ∷ []) ≡ Some w → Directed p (Step.Migrate q m) pt h (Owns MessageKind.Migrate q b ∷ []) w
 owns_comes p q m b pt h w sane fits e g ids opens = elim (cases_Bool (pid_eq p q)) [
@@ -162,8 +151,7 @@ owns_comes p q m b pt h w sane fits e g ids opens = elim (cases_Bool (pid_eq p q
   | inr off ↦
       let ps = Owns MessageKind.Migrate q b ∷ [] in
       let r = quiet_row p pt h ps w sane fits (and_off (is_migrate MessageKind.Migrate) (pid_eq p q) off, tt) (loose_walks ps pt (λ x. tt, tt)) e g ids opens in
-      let zero_ = zero_if (pid_eq p q) off in
-      record { left = r.left; opens = r.opens; quiet = r.quiet; sum = λ f ext. (let s = r.sum f ext in omega (arith, s, zero_)) }
+      record { left = r.left; opens = r.opens; quiet = r.quiet; sum = λ f ext. (let s = r.sum f ext in omega (arith, s, zero_if (pid_eq p q) off)) }
 ]
 
 migrates_comes : (p q : Pid) (m : ℕ) (o pt : Point) (h : InPhases pt.view) (w : Spelled) → Sane pt → PairsFit pt.view → spelled pt (migrates o q) ≡ Some w → Directed p (Step.Migrate q m) pt h (migrates o q) w
@@ -189,28 +177,24 @@ leaves_own p d pt h id msg to w unasked sane fits there here what e g ids opens 
     let l2 = Line.Migration Stage.Frozen q in
     let ps = Says (Line.Migration Stage.Asked q) ∷ to_kernel MessageKind.Ask to ∷ [] in
     let n = next_of pt (Says l) (leaves_for q to) w e in
-    let k = said_by pt n.next l n.steps in
     let c = part_leads (λ y. Rest p pt.view y.view) (rest_packet p pt.view) pt n.next (Says l) (rest_behind p pt (Says l) sane fits tt tt) n.steps in
     let mid = n.next.view in
     let sane_ = part_sane pt n.next (Says l) n.steps.lines refl n.steps.are n.steps.leads sane in
-    let topic : mid.topic ≡ Target to = sym (ap (λ (x : Point). x.view.topic) k.is) ∙ ap machine_in there ∙ ap move_target what in
+    let topic : mid.topic ≡ Target to = sym (ap (λ (x : Point). x.view.topic) (said_by pt n.next l n.steps).is) ∙ ap machine_in there ∙ ap move_target what in
     let rest = line_then p n.next l2 ps n.rest refl refl refl sane_ c.fits (tt, (refl, tt)) (loose_walks ps (moved n.next l2 n.next.kernel) (λ y. tt, (λ y. tt, tt))) n.more in
-    let set = sets mid q mid.topic in
-    let x = Frozen (aim mid mid.topic) in
     let first : Smooth p mid (view_after mid l2) = moves_none p mid l2 refl (λ z. asked_off mid q to topic z) in
     let smooth : Smooth p pt.view w.point.view = subst (λ (y : Point). Smooth p pt.view y.view) n.point (smooth_trans p pt.view mid n.rest.point.view c.smooth (smooth_trans p mid (view_after mid l2) n.rest.point.view first rest.smooth)) in
     let notes = leaves_notes pt id msg to p w there e in
     let zero_ = zero_if (asks p (Line.Head d)) unasked in
     elim (cases_Bool (pid_eq q p)) [
       | inl same ↦
-          let none : moving_in (h.of p) ≡ 0 = here_stays pt.view h p pt.view.acting (ap (pt.view.known pt.view.acting) (sym (pid_eq-is q p same)) ∙ here) in
           let now : owned (w.point.kernel.notes p) (moving_in (g.of p)) ≡ 0 = ap (λ (o : Option MoveNote). owned o (moving_in (g.of p))) (notes ∙ ap (λ (b : Bool). if b then Some (record { id = id; asker = msg.sender }) else pt.kernel.notes p) same) in
-          let was = owned_zero (pt.kernel.notes p) (moving_in (h.of p)) none in
+          let was = owned_zero (pt.kernel.notes p) (moving_in (h.of p)) (here_stays pt.view h p pt.view.acting (ap (pt.view.known pt.view.acting) (sym (pid_eq-is q p same)) ∙ here)) in
           record { left = ids; opens = smooth_opens p pt.view w.point.view ids smooth opens; quiet = refl; sum = λ f ext. (let z : own_count f p (rule.says (Label.Asked id) ∷ leaves_for q to) ≡ 0 = refl in omega (arith, z, zero_, now, was)) }
       | inr off ↦
-          let off_ : pid_eq p q ≡ false = pid_swap q p off in
+          let off_ : pid_eq p q ≡ false = not_true (pid_eq p q) (λ e. let is : p ≡ q = pid_eq-is p q e in false≢true (sym off ∙ ap (pid_eq q) is ∙ pid_eq-same q)) in
           let still : Still p pt.view w.point.view = subst (λ (y : Point). Still p pt.view y.view) n.point
-          (λ m. rest.still m ∙ ap is_moving (ap (λ (f : ℕ → Pid → Known). f m p) set.known) ∙ other_still p q mid.known mid.acting x off_ m ∙ c.still m) in
+          (λ m. rest.still m ∙ ap is_moving (ap (λ (f : ℕ → Pid → Known). f m p) (sets mid q mid.topic).known) ∙ other_still p q mid.known mid.acting (Frozen (aim mid mid.topic)) off_ m ∙ c.still m) in
           let moves = still_moves p pt.view w.point.view h g still in
           let kept : w.point.kernel.notes p ≡ pt.kernel.notes p = notes ∙ ap (λ (b : Bool). if b then Some (record { id = id; asker = msg.sender }) else pt.kernel.notes p) off in
           let same : owned (pt.kernel.notes p) (moving_in (h.of p)) ≡ owned (w.point.kernel.notes p) (moving_in (g.of p)) = ap (owned (pt.kernel.notes p)) moves ∙ ap (λ (o : Option MoveNote). owned o (moving_in (g.of p))) (sym kept) in
@@ -220,32 +204,25 @@ leaves_own p d pt h id msg to w unasked sane fits there here what e g ids opens 
 -- parts that say nothing of requests to move
 plain_own : (p : Pid) (pt : Point) (d : Step) (h : InPhases (begun pt d).view) (ps : List Part) (w : Spelled) → AllUnmarked ps → spelled (begun pt d) ps ≡ Some w → Directed p d (begun pt d) h ps w → OwnDirected p d (begun pt d) h ps w
 plain_own p pt d h ps w so e r g ids opens before behind =
-    let a = pt.kernel.notes p in
     let notes = plain_notes p ps (begun pt d) w so e in
-    subst (λ (x : Option MoveNote). OwnBalance p w.point.view ids (asked_by p d) (owned a (moving_in (h.of p))) (owned x (moving_in (g.of p))) ps) (sym notes)
-    (kept_own p w.point.view ids (asked_by p d) (moving_in (h.of p)) (moving_in (g.of p)) ps a (λ f. own_same f p ps so) before (λ n is. behind n (notes ∙ is)) (r g ids opens))
+    subst (λ (x : Option MoveNote). OwnBalance p w.point.view ids (asked_by p d) (owned (pt.kernel.notes p) (moving_in (h.of p))) (owned x (moving_in (g.of p))) ps) (sym notes)
+    (kept_own p w.point.view ids (asked_by p d) (moving_in (h.of p)) (moving_in (g.of p)) ps (pt.kernel.notes p) (λ f. own_same f p ps so) before (λ n is. behind n (notes ∙ is)) (r g ids opens))
 
 -- by what the parts say of requests to move
 own_of : (p : Pid) (pt : Point) (d : Step) (h : InPhases (begun pt d).view) (ps : List Part) (w : Spelled) → Sane (begun pt d) → PairsFit (begun pt d).view → Row pt d ps → spelled (begun pt d) ps ≡ Some w
     → Directed p d (begun pt d) h ps w → OwnDirected p d (begun pt d) h ps w
 own_of p pt d h ps w sane fits (Plain so) e r g ids opens before behind = plain_own p pt d h ps w so e r g ids opens before behind
 own_of p pt d h ps w sane fits (Ends q n l k noted end are) e r g ids opens before behind =
-    let start = begun pt d in
     let qs = Says l ∷ answers_move n.id k in
-    let notes = ends_notes start q p n l k w (sane.sound.notes.noted q n noted) end (ap (spelled start) (sym are) ∙ e) in
+    let notes = ends_notes (begun pt d) q p n l k w (sane.sound.notes.noted q n noted) end (ap (spelled (begun pt d)) (sym are) ∙ e) in
     let old : Balance p w.point.view ids (asked_by p d) (moving_in (h.of p)) (moving_in (g.of p)) qs = subst (Balance p w.point.view ids (asked_by p d) (moving_in (h.of p)) (moving_in (g.of p))) are (r g ids opens) in
     subst (OwnBalance p w.point.view ids (asked_by p d) (owned (pt.kernel.notes p) (moving_in (h.of p))) (owned (w.point.kernel.notes p) (moving_in (g.of p)))) (sym are)
     (elim (cases_Bool (pid_eq q p)) [
       | inl same ↦
-          let is : q ≡ p = pid_eq-is q p same in
-          let mine : pt.kernel.notes p ≡ Some n = ap pt.kernel.notes (sym is) ∙ noted in
-          let one : moving_in (h.of p) ≡ 1 = before n mine in
-          let was : owned (pt.kernel.notes p) (moving_in (h.of p)) ≡ 0 = ap (λ (o : Option MoveNote). owned o (moving_in (h.of p))) mine in
-          let now : owned (w.point.kernel.notes p) (moving_in (g.of p)) ≡ moving_in (g.of p) = ap (λ (o : Option MoveNote). owned o (moving_in (g.of p))) (notes ∙ ap (λ (b : Bool). if b then None else pt.kernel.notes p) same) in
-          let other : pid_eq p q ≡ true = ap (pid_eq p) is ∙ pid_eq-same p in
+          let mine : pt.kernel.notes p ≡ Some n = ap pt.kernel.notes (sym (pid_eq-is q p same)) ∙ noted in
           search (arith, old.left, old.opens, old.quiet, old.sum, end_ends, and_off)
       | inr off ↦
-          let off_ : pid_eq p q ≡ false = pid_swap q p off in
+          let off_ : pid_eq p q ≡ false = not_true (pid_eq p q) (λ e. let is : p ≡ q = pid_eq-is p q e in false≢true (sym off ∙ ap (pid_eq q) is ∙ pid_eq-same q)) in
           let kept : w.point.kernel.notes p ≡ pt.kernel.notes p = notes ∙ ap (λ (b : Bool). if b then None else pt.kernel.notes p) off in
           subst (λ (x : Option MoveNote). OwnBalance p w.point.view ids (asked_by p d) (owned (pt.kernel.notes p) (moving_in (h.of p))) (owned x (moving_in (g.of p))) qs) (sym kept)
           (kept_own p w.point.view ids (asked_by p d) (moving_in (h.of p)) (moving_in (g.of p)) qs (pt.kernel.notes p)
@@ -259,10 +236,9 @@ own_of p pt d h ps w sane fits (IsHere id msg there here are) e r g ids opens be
     subst (OwnBalance p w.point.view ids (asked_by p d) (owned (pt.kernel.notes p) (moving_in (h.of p))) (owned (w.point.kernel.notes p) (moving_in (g.of p)))) (sym are)
     (elim (cases_Bool (pid_eq msg.to p)) [
       | inl same ↦
-          let is : msg.to ≡ p = pid_eq-is msg.to p same in
           let q = asker_here start id Outcome.Done msg.to w (ap (spelled start) (sym are) ∙ e) here in
-          let none : moving_in (h.of p) ≡ 0 = here_stays start.view h p start.view.acting (ap (start.view.known start.view.acting) (sym is) ∙ here) in
-          let none_ : moving_in (g.of p) ≡ 0 = here_stays w.point.view g p start.view.acting (ap (w.point.view.known start.view.acting) (sym is) ∙ q) in
+          let none : moving_in (h.of p) ≡ 0 = here_stays start.view h p start.view.acting (ap (start.view.known start.view.acting) (sym (pid_eq-is msg.to p same)) ∙ here) in
+          let none_ : moving_in (g.of p) ≡ 0 = here_stays w.point.view g p start.view.acting (ap (w.point.view.known start.view.acting) (sym (pid_eq-is msg.to p same)) ∙ q) in
           let was = owned_zero (pt.kernel.notes p) (moving_in (h.of p)) none in
           let now = owned_zero (w.point.kernel.notes p) (moving_in (g.of p)) none_ in
           record { left = old.left; opens = old.opens; quiet = old.quiet; sum = λ f ext. (let s = old.sum f ext in let z : own_count f p qs ≡ part_count (ends f p) qs = refl in omega (arith, s, z, none, none_, was, now)) }
@@ -289,6 +265,7 @@ directed p b pt d parts w h phased known fits is =
     let hears_comes : (p : Pid) (b : Boot) (o : Point) (m : ℕ) (i : MsgId) (is : List MsgId) (t : Told) (h : Turn (turned o m) i is t) → ComesOf p (turned o m) h.phases (hears b o m i (Some t)) = λ p b o m i is t h.
       let of_if : (p : Pid) (pt : Point) (h : InPhases pt.view) (c : Bool) (x y : Option (List Part)) → ComesOf p pt h x → ComesOf p pt h y → ComesOf p pt h (if c then x else y) = λ p pt h c x y k l. grind (arith, nat_tests) in
       search (of_if, kernel_comes, server_comes, process_comes) in
+    let quiet_loose : (p : Pid) (v : View) → Loose (AllQuiet p v) = λ p v. record { none = tt; label = λ l ps h. (tt, h); routes = λ i ps h. (tt, h) } in
     by_outcome (λ x ps. (u : Spelled) → Row pt x ps → spelled (begun pt x) ps ≡ Some u → OwnDirected p x (begun pt x) (begun_phases pt x h) ps u) b pt d parts (record {
       round = λ m ps box e u row said.
           (let s = begins pt m phased known in
@@ -314,10 +291,10 @@ directed p b pt d parts w h phased known fits is =
           own_of p pt (Step.Turn m) (begun_phases pt (Step.Turn m) h) ps u s.sane turn.fits row said (comes u said));
       ticks = λ m ps net u row said.
           (let x = Step.Tick m in
-          plain_own p pt x (begun_phases pt x h) ps u (net_says IsUnmarked net_unmarked ps net) said (net_comes p (begun pt x) (begun_phases pt x h) ps u net said));
+          plain_own p pt x (begun_phases pt x h) ps u (net_says IsUnmarked (λ l h. grind (arith, nat_tests)) ps net) said (net_comes p (begun pt x) (begun_phases pt x h) ps u net said));
       delivers = λ a c k ps net u row said.
           (let x = Step.Deliver a c k in
-          plain_own p pt x (begun_phases pt x h) ps u (net_says IsUnmarked net_unmarked ps net) said (net_comes p (begun pt x) (begun_phases pt x h) ps u net said));
+          plain_own p pt x (begun_phases pt x h) ps u (net_says IsUnmarked (λ l h. grind (arith, nat_tests)) ps net) said (net_comes p (begun pt x) (begun_phases pt x h) ps u net said));
       asks = λ q m u row said.
           (let x = Step.Migrate q m in
           let pairs : PairsFit (begun pt x).view = record { within = fits.within; home = fits.home } in
@@ -340,9 +317,8 @@ whole_balance p d parts ids before behind start rest e h = record {
       let parts_count : (f : Line → Bool) → Silent f → (ps : List Part) (pt : Point) (w : Spelled) → spelled pt ps ≡ Some w → count f w.lines ≡ part_count f ps =
         λ f h. by_parts (λ ps pt w. count f w.lines ≡ part_count f ps) (λ pt. refl) (λ x ps pt next ls z lines leads rest. count-append f ls z.lines ∙ ap (λ n. count f ls + n) rest ∙ lines_count f pt x ps ls h lines) in
       let a = parts_count (asks p) (record { put = λ a b i k q. refl; packet = λ a b k l. refl }) parts start rest e in
-      let q = h.quiet in
       let o = (own_is f p parts start rest e).0 in
-      omega (arith, s, a, q, o);
+      omega (arith, s, a, h.quiet, o);
 }
 
 pub group_balance : (p : Pid) (b : Boot) (pt : Point) (d : Step) (w : Spelled) (h : InPhases pt.view) (g : InPhases w.point.view) (ids : List MsgId) → Phased pt → KnownStands pt.kernel pt.view → PairsFit pt.view

@@ -5,13 +5,13 @@ use Rattle.dm_movelaws.proofs.Names.{Forward, Ended, view_after, handled, handle
 use Rattle.dm_movelaws.proofs.Names.{pair_same, handled_spots, held_known, forwarded_spots, forwarded_known, put_spots, put_there, put_spot, InPhases, fits_as, PairsFit, sane_line, part_sane, AllLoose, loose_walks, turned, is_moving}
 use Rattle.dm_movelaws.proofs.Names.{is_for, frozen_off, ◌+◌, ◌++◌, ⊤, pid_of, PlainProcess, accepts, takes_chunk, takes_block, sends_on, chunks_of, pieces_of, Incoming, rejoins, front_of, gone_to, is_between, parts, at_record_off, due}
 use Rattle.dm_movelaws.proofs.Names.{Walks, asks, ends, accepted_off, state_off, memory_off, lacks_off, left_off, leaves, label_of, is_put, touches, nat_tests, sets, aim, at_record, MoveNote, Outcome, tells_asker, restarted_off, times}
-use Rattle.dm_movelaws.proofs.Names.{sort_of}
-use Rattle.dm_movelaws.proofs.Ends.Parts.{AllQuiet, Rest, rest_packet, Settled, parts_settle, quiet_count, quiet_asks, zero_if, first_off as first_off_and, is_migrate, asks_for, kind_not, Smooth, Still, smooth_trans, told_by, Plain}
+use Rattle.dm_movelaws.proofs.Names.{sort_of, held_spots}
+use Rattle.dm_movelaws.proofs.Ends.Parts.{AllQuiet, Rest, rest_packet, Settled, parts_settle, quiet_count, quiet_asks, zero_if, is_migrate, asks_for, Smooth, Still, smooth_trans, told_by, Plain, kind_not}
 use Rattle.dm_movelaws.proofs.Ends.Parts.{Tame, Foreign, still_by, smooth_still, moves_none, smooth_others}
-use Rattle.dm_movelaws.proofs.Ends.Open.{IsOpen, level_balance, close_opens, smooth_opens, moving_in, waits_moves, here_stays, still_moves, not_false, target_waits, Turn, plain_one, front_one, stands_front, first_smooth, first_closes}
+use Rattle.dm_movelaws.proofs.Ends.Open.{IsOpen, level_balance, close_opens, smooth_opens, moving_in, waits_moves, here_stays, still_moves, not_false, target_waits, Turn, plain_one, front_one, first_smooth, first_closes}
 use Rattle.dm_movelaws.proofs.Ends.Open.{line_then, and_off, other_still, set_here, level_row, level_still, quiet_row, end_row, Comes, between_plain, due_moves, about_same, first_spots}
 use Rattle.dm_movelaws.proofs.Leading.{next_of, part_leads, asker_known}
-use Rattle.dm_movelaws.proofs.Ends.Sources.{smooth_moves, held_smooth, again_told, all_sent, sends_count, sent_begins, rejoins_smooth, Sending}
+use Rattle.dm_movelaws.proofs.Ends.Sources.{smooth_moves, again_told, all_sent, sends_count, sent_begins, rejoins_smooth, Sending, held_there}
 use Rattle.dm_rule.specs.View as view
 
 abbrev pub ComesOf : Pid → (pt : Point) → InPhases pt.view → Option (List Part) → Type 0
@@ -34,7 +34,6 @@ accepted_comes : (p : Pid) (pt : Point) (i : MsgId) (is : List MsgId) (t : Told)
 accepted_comes p pt i is t q b h between about w e =
     let v = pt.view in
     let l = Line.Migration Stage.Accepted q in
-    let mid = view_after v l in
     let x = Incoming (front_of (v.inbox v.acting)) in
     let rest = line_then p pt l (to_kernel MessageKind.PullState b ∷ []) w refl refl refl h.sane h.fits (refl, tt) (owns_loose MessageKind.PullState b (moved pt l pt.kernel)) e in
     level_row p pt h.phases l (to_kernel MessageKind.PullState b ∷ []) w (first_smooth p v l i is h.front (between_plain p v i t h.told between) refl (accepted_off v q)) (refl, tt) rest (λ f. refl) refl
@@ -79,15 +78,14 @@ comes_back p pt i is t q l a r h between about none quiet calm off known ended p
     let v = pt.view in
     let mid = view_after v l in
     let u = w.point.view in
-    let ps = tells_asker a r in
     let back = rejoins (handled_first v) q in
     let handled_smooth : (p : Pid) (v : View) (i : MsgId) (is : List MsgId) → v.inbox v.acting ≡ i ∷ is → Plain p v i → Smooth p v (handled_first v) =
       λ p v i is front plain. smooth_others p v (handled_first v) i plain plain (λ t e. e) (record { told = λ j a. refl; spots = first_spots v (handled_first v) i is front (λ z. refl) }) in
     let first : Smooth p v mid = smooth_trans p v back mid (smooth_trans p v (handled_first v) back (handled_smooth p v i is h.front (between_plain p v i t h.told between)) (rejoins_smooth p (handled_first v) q))
     (smooth_still p back mid (told_by v l quiet) (λ j z. ap (times j) (off z))) in
     let at_ : (m : ℕ) → mid.known m p ≡ at_record v.known v.acting q Here m p = λ m. ap (λ (f : ℕ → Pid → Known). f m p) known in
-    let rest = line_then p pt l ps w none quiet calm h.sane h.fits (asker_quiet p mid a r) (loose_walks ps (moved pt l pt.kernel) (asker_loose a r)) e in
-    let n = line_next pt l ps w none e in
+    let rest = line_then p pt l (tells_asker a r) w none quiet calm h.sane h.fits (asker_quiet p mid a r) (loose_walks (tells_asker a r) (moved pt l pt.kernel) (asker_loose a r)) e in
+    let n = line_next pt l (tells_asker a r) w none e in
     elim (cases_Bool (pid_eq p q)) [
       | inl same ↦
           let here : u.known v.acting p ≡ Here = ap (λ (x : Point). x.view.known v.acting p) (sym n.point) ∙ asker_known v.acting p Here a r (moved pt l pt.kernel) n.rest n.more (at_ v.acting ∙ set_here p q v.known v.acting Here same) in
@@ -96,7 +94,7 @@ comes_back p pt i is t q l a r h between about none quiet calm off known ended p
           search (arith, smooth_opens p v u ids (smooth_trans p v mid u first rest.smooth) opens, zero_if, quiet_asks, asker_quiet, quiet_count, rest.smooth.kept)
       | inr off ↦
           let still : Still p v mid = λ m. ap is_moving (at_ m) ∙ other_still p q v.known v.acting Here off m in
-          level_row p pt h.phases l ps w first (asker_quiet p mid a r) rest (λ f. ended f ∙ off) plain (λ x. level_still p pt h.phases l w still rest x) g ids opens
+          level_row p pt h.phases l (tells_asker a r) w first (asker_quiet p mid a r) rest (λ f. ended f ∙ off) plain (λ x. level_still p pt h.phases l w still rest x) g ids opens
     ]
 
 restarted_comes : (p : Pid) (pt : Point) (i : MsgId) (is : List MsgId) (t : Told) (q : Pid) (a : Option MoveNote) (h : Turn pt i is t) → is_between t.kind ≡ true → t.about ≡ Of q
@@ -120,13 +118,12 @@ left_comes p pt i is t q to h all about w e g listed opens =
     let v = pt.view in
     let ids = v.queue v.acting q ++ v.held v.acting q in
     let b = i.from.home in
-    let between : is_between t.kind ≡ true = ap is_between all in
     let l = Line.SentOn q (length ids) in
     let l2 = Line.Migration Stage.Left q in
     let qs = Says l2 ∷ to_kernel MessageKind.Restart b ∷ [] in
     let n = line_next pt l (sends_on to ids ++ qs) w refl e in
     let mid = moved pt l pt.kernel in
-    let s = all_sent p v ids to qs mid n.rest (sent_begins p v q (length ids) i is h.front (between_plain p v i t h.told between) h.fits) (sane_line pt mid l refl refl h.sane) n.more in
+    let s = all_sent p v ids to qs mid n.rest (sent_begins p v q (length ids) i is h.front (between_plain p v i t h.told (ap is_between all)) h.fits) (sane_line pt mid l refl refl h.sane) n.more in
     let pt3 = s.next in
     let v3 = view_after pt3.view l2 in
     let at : s.rest.point ≡ w.point = s.point ∙ n.point in
@@ -138,8 +135,8 @@ left_comes p pt i is t q to h all about w e g listed opens =
       | inl same ↦
           let (d, far, waits) = target_expects p q pt i is t h all about same in
           let far3 : (pt3.view.acting == d) ≡ false = ap (λ (m : ℕ). m == d) s.sending.acting ∙ far in
-          let known : v3.known d p ≡ v.known d p = at_record_off pt3.view.known pt3.view.acting d q p x (first_off_and (pt3.view.acting == d) (pid_eq q p) far3) ∙ s.sending.known d p in
-          due_moves p q pt i is t h between about same ∙ sym (waits_moves w.point.view g p d (rest.still d ∙ ap is_moving known ∙ waits))
+          let known : v3.known d p ≡ v.known d p = at_record_off pt3.view.known pt3.view.acting d q p x (ap (λ (x : Bool). x && (pid_eq q p)) far3) ∙ s.sending.known d p in
+          due_moves p q pt i is t h (ap is_between all) about same ∙ sym (waits_moves w.point.view g p d (rest.still d ∙ ap is_moving known ∙ waits))
       | inr off ↦
           still_moves p v w.point.view h.phases g
           (λ m. rest.still m ∙ other_still p q pt3.view.known pt3.view.acting x off m ∙ ap is_moving (s.sending.known m p))
@@ -166,20 +163,20 @@ told_comes p o m i is t q room x k h e about = tt
 held_comes : (p : Pid) (pt : Point) (i : MsgId) (is : List MsgId) (t : Told) (h : Turn pt i is t) → ComesOf p pt h.phases (Some (Says (Line.Held i) ∷ []))
 held_comes p pt i is t h w e =
     let v = pt.view in
-    let l = Line.Held i in
-    let rest = line_then p pt l [] w refl refl refl h.sane h.fits tt tt e in
+    let rest = line_then p pt (Line.Held i) [] w refl refl refl h.sane h.fits tt tt e in
+    let held_smooth : (p : Pid) (v : View) (i : MsgId) (is : List MsgId) (t : Told) → v.inbox v.acting ≡ i ∷ is → v.told i ≡ Some t → Smooth p v (view_after v (Line.Held i)) = λ p v i is t front told.
+      smooth_moves p v (view_after v (Line.Held i)) i (told_by v (Line.Held i) refl) (Inbox v.acting, front_one v v.acting i is front) (held_there (handled v i) i (receiver_of (v.told i)) t.receiver (ap receiver_of told))
+      (λ j e z. held_spots (handled v i) i j (receiver_of (v.told i)) e z ∙ handled_spots v i j e z) in
     search (still_by, held_known, level_row, held_smooth, level_still)
 
 -- a message is forwarded: it goes from the front, and is put again
 forwarded_put : (p : Pid) (v : View) (i : MsgId) (is : List MsgId) (t : Told) (to b : ℕ) → v.inbox v.acting ≡ i ∷ is → v.told i ≡ Some t → PairsFit (view_after v (Line.Forwarded i to)) → let u = view_after v (Line.Forwarded i to) in Smooth p v (view.after_put u u.acting b i t.kind t.receiver)
 forwarded_put p v i is t to b front told pairs =
-    let l = Line.Forwarded i to in
-    let u = view_after v l in
+    let u = view_after v (Line.Forwarded i to) in
     let n = view.after_put u u.acting b i t.kind t.receiver in
-    let same = told_by v l refl in
-    let o = receiver_of (v.told i) in
+    let same = told_by v (Line.Forwarded i to) refl in
     smooth_moves p v n i (λ j. again_told u u.acting b i t (same i ∙ told) j ∙ same j) (Inbox v.acting, front_one v v.acting i is front) (put_spot u.acting b, put_there u u.acting b i t.kind t.receiver pairs)
-    (λ j e z. put_spots u u.acting b i j t.kind t.receiver pairs e z ∙ forwarded_spots (handled v i) j o z ∙ handled_spots v i j e z)
+    (λ j e z. put_spots u u.acting b i j t.kind t.receiver pairs e z ∙ forwarded_spots (handled v i) j (receiver_of (v.told i)) z ∙ handled_spots v i j e z)
 
 forwards_settle : (p : Pid) (pt : Point) (i : MsgId) (is : List MsgId) (t : Told) (to b : ℕ) (ps : List Part) (w : Spelled) → Turn pt i is t → ((v : View) → AllQuiet p v ps) → AllLoose ps → spelled pt (Says (Line.Forwarded i to) ∷ Again i b ∷ ps) ≡ Some w → Settled p pt.view w.point
 forwards_settle p pt i is t to b ps w h quiet loose e =
@@ -245,23 +242,19 @@ frozen_comes p pt i is t to h k here w e g ids opens =
     let q = t.receiver in
     let l = Line.Migration Stage.Frozen q in
     let ps = Says (Line.Migration Stage.Asked q) ∷ to_kernel MessageKind.Ask to ∷ [] in
-    let mid = view_after v l in
-    let u = w.point.view in
-    let set = sets v q v.topic in
-    let x = Frozen (aim v v.topic) in
-    let at_ : (m : ℕ) → mid.known m p ≡ at_record v.known v.acting q x m p = λ m. ap (λ (f : ℕ → Pid → Known). f m p) set.known in
+    let at_ : (m : ℕ) → (view_after v l).known m p ≡ at_record v.known v.acting q (Frozen (aim v v.topic)) m p = λ m. ap (λ (f : ℕ → Pid → Known). f m p) (sets v q v.topic).known in
     let rest = line_then p pt l ps w refl refl refl h.sane h.fits (tt, (refl, tt)) (loose_walks ps (moved pt l pt.kernel) (λ y. tt, (λ y. tt, tt))) e in
     elim (cases_Bool (pid_eq p q)) [
       | inl same ↦
-          let is_open : IsOpen p v i = record { told = t; is = h.told; asks = asks_of p t k same; stands = stands_front pt i is t h } in
+          let is_open : IsOpen p v i = record { told = t; is = h.told; asks = asks_of p t k same; stands = (Inbox pt.view.acting, front_one pt.view pt.view.acting i is h.front) } in
           let closes = first_closes p pt l i is t h refl (frozen_off v q h.topic) in
-          let s = close_opens p v mid ids i is_open closes opens in
+          let s = close_opens p v (view_after v l) ids i is_open closes opens in
           let before = here_stays v h.phases p v.acting (ap (v.known v.acting) (pid_eq-is p q same) ∙ here) in
-          let behind_ = waits_moves u g p v.acting (rest.still v.acting ∙ ap is_moving (at_ v.acting ∙ set_here p q v.known v.acting x same)) in
+          let behind_ = waits_moves w.point.view g p v.acting (rest.still v.acting ∙ ap is_moving (at_ v.acting ∙ set_here p q v.known v.acting (Frozen (aim v v.topic)) same)) in
           search (arith, s.left, smooth_opens, rest.smooth, s.opens, s.less)
       | inr off ↦
           level_row p pt h.phases l ps w (first_smooth p v l i is h.front (plain_one p v i t h.told (foreign_not p t off)) refl (frozen_off v q h.topic)) (tt, (refl, tt)) rest (λ f. refl) refl
-          (λ y. level_still p pt h.phases l w (λ m. ap is_moving (at_ m) ∙ other_still p q v.known v.acting x off m) rest y) g ids opens
+          (λ y. level_still p pt h.phases l w (λ m. ap is_moving (at_ m) ∙ other_still p q v.known v.acting (Frozen (aim v v.topic)) off m) rest y) g ids opens
     ]
   where
     foreign_not : (r : Pid) (s : Told) → pid_eq r s.receiver ≡ false → asks_for r s ≡ false

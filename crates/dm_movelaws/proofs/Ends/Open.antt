@@ -1,60 +1,40 @@
 -- Heads, deliveries and ticks leave all requests to move a process under way.
 use Rattle.dm_movelaws.proofs.Names.{◌≡◌, ℕ, suc, ◌+◌, ◌≤◌, Bool, true, false, List, [], ◌∷◌, length, refl, ◌∙◌, sym, subst, inl, inr, arith, if◌then◌else◌, Option, None, Some, cases_Bool, Pid, MsgId, id_eq, id_eq-is, Part, without_id}
 use Rattle.dm_movelaws.proofs.Names.{Spot, times, standing, View, Told, not_true, without_counts, asks, ends, one_of-same, off_zero, nat_tests, ◌⊎◌, ◌==◌, ◌&&◌, not, ap, false≢true, MessageKind, Known, Here, Phase, Nowhere, Rests, Over}
-use Rattle.dm_movelaws.proofs.Names.{Moves, knows, kind_comes, is_away, is_restart, is_early, is_between, IsIn, parts, InPhases, rests_here, is_moving, source_knows, pid_eq, Label, OneKernel, bind, pid_eq-is, pid_eq-same}
-use Rattle.dm_movelaws.proofs.Names.{Line, Of, view_after, handled_first, Point, label_of, kernel_after, moved, after_line, Says, Spelled, spelled, at_record, Inbox, ids_at, is_put, at_record_at, at_record_off, first_off, line_next}
-use Rattle.dm_movelaws.proofs.Names.{touches, due, front_gone, handled_spots, State, PairsFit, Sane, sane_line, Walks, seen_none, NothingElse, filter, ◌++◌, slice_get, at_machine, at_pair, Pair, taken_id, with_pair}
-use Rattle.dm_movelaws.proofs.Names.{Queue, Held, Untaken, untaken, times-append, one_of, eq_is, eq_self, at_place, past_place, pair_keeps, IsNetLine, IsNet, early_off, acked_off, PacketsKeep}
+use Rattle.dm_movelaws.proofs.Names.{Moves, knows, kind_comes, is_away, is_restart, is_early, is_between, IsIn, parts, InPhases, rests_here, is_moving, source_knows, pid_eq, Label, OneKernel, bind, pid_eq-is, pid_eq-same, Line, Of}
+use Rattle.dm_movelaws.proofs.Names.{view_after, handled_first, Point, label_of, kernel_after, moved, after_line, Says, Spelled, spelled, at_record, Inbox, ids_at, is_put, at_record_at, at_record_off, first_off, line_next, touches, due}
+use Rattle.dm_movelaws.proofs.Names.{front_gone, handled_spots, State, PairsFit, Sane, sane_line, Walks, seen_none, NothingElse, ◌++◌, slice_get, at_machine, at_pair, taken_id, Queue, Held, Untaken, untaken, times-append, one_of, eq_is}
+use Rattle.dm_movelaws.proofs.Names.{eq_self, at_place, pair_keeps, IsNetLine, IsNet, early_off, acked_off, taken_view, none_taken, came_view, in_inbox}
 pub use Rattle.dm_rulelaws.proofs.Goes.Own.{destination_knows as knows_target}
 pub use Rattle.dm_rule.proofs.Phases.Pieces.{not_false, and_false as and_off}
 pub use Rattle.dm_rule.proofs.Phases.Answers.{about_same}
 pub use Rattle.dm_rulelaws.proofs.Goes.Always.{stands_first as front_one}
 pub use Rattle.dm_rule.proofs.Moves.Lists.{zero_cases}
-use Rattle.dm_movelaws.proofs.Ends.Parts.{part_count, asks_for, Somewhere, Extends, Smooth, stands_as, stands_was, Still, AllQuiet, Settled, settled_same, parts_settle, one_if, zero_if, quiet_count, quiet_asks, kind_not, Plain}
-use Rattle.dm_movelaws.proofs.Ends.Parts.{smooth_trans, hushed_smooth, told_by, told_one, still_trans, packet_smooth, none_count, smooth_same, smooth_still, moves_none, smooth_about}
+use Rattle.dm_movelaws.proofs.Ends.Parts.{part_count, asks_for, Somewhere, Extends, Smooth, stands_as, stands_was, Still, AllQuiet, Settled, parts_settle, one_if, zero_if, quiet_count, quiet_asks, Plain, still_same, kind_not}
+use Rattle.dm_movelaws.proofs.Ends.Parts.{smooth_trans, hushed_smooth, told_by, told_one, still_trans, packet_smooth, smooth_same, smooth_still, moves_none, smooth_about}
 use Rattle.dm_movelaws.proofs.Stages.Spares.{restart_late}
-use Rattle.dm_movelaws.proofs.Leading.{line_fits, Saying, net_says, net_lead}
+use Rattle.dm_movelaws.proofs.Leading.{line_fits, Saying, net_lead}
+use Rattle.dm_rule.proofs.Lines.{taken_pair}
 
 -- a message is taken: it comes from the stream to the inbox
-abbrev one_taken : Pair → ℕ → Pair
-one_taken p n = record p { taken = p.taken + 1; kept = filter (λ k. not (k == n)) p.kept }
-
-abbrev taken_view : View → ℕ → ℕ → ℕ → View
-taken_view v a b n = with_pair v a b (one_taken (v.pair a b) n)
-
-none_taken : (p : Pair) (n : ℕ) → slice_get p.ids p.taken ≡ None → untaken (one_taken p n) ≡ untaken p
-none_taken p n is =
-    let k = past_place p.ids p.taken is in
-    grind (arith, nat_tests)
-
-inbox_back : (v : View) (a b n : ℕ) (i j : MsgId) (m : ℕ) → untaken (v.pair a b) ≡ i ∷ untaken (one_taken (v.pair a b) n) → 1 ≤ times j (at_machine v.inbox b (v.inbox b ++ i ∷ []) m) → Somewhere v j
+inbox_back : (v : View) (a b n : ℕ) (i j : MsgId) (m : ℕ) → untaken (v.pair a b) ≡ i ∷ untaken (taken_pair (v.pair a b) n) → 1 ≤ times j (at_machine v.inbox b (v.inbox b ++ i ∷ []) m) → Somewhere v j
 inbox_back v a b n i j m front st = elim (cases_Bool (b == m)) [
   | inl same ↦
-      let bm : b ≡ m = eq_is b m same in
       let now : times j (at_machine v.inbox b (v.inbox b ++ i ∷ []) m) ≡ times j (v.inbox b ++ i ∷ []) = ap (λ (c : Bool). times j (if c then v.inbox b ++ i ∷ [] else v.inbox m)) same in
-      let sum = times-append j (v.inbox b) (i ∷ []) in
       elim (zero_cases (times j (v.inbox b))) [
-        | inl none ↦
-            let was : times j (untaken (v.pair a b)) ≡ times j (i ∷ untaken (one_taken (v.pair a b) n)) = ap (times j) front in
-            (Untaken a b, omega (arith, st, now, sum, none, was))
+        | inl none ↦ (Untaken a b, omega (arith, st, now, times-append j (v.inbox b) (i ∷ []), none, ap (times j) front))
         | inr some ↦ (Inbox b, some)
       ]
   | inr off ↦ (Inbox m, subst (λ k. 1 ≤ k) (ap (λ (c : Bool). times j (if c then v.inbox b ++ i ∷ [] else v.inbox m)) off) st)
 ]
 
-abbrev came_view : View → ℕ → ℕ → ℕ → MsgId → View
-came_view v a b n i = record (taken_view v a b n) { inbox = at_machine v.inbox b (v.inbox b ++ i ∷ []) }
-
-taken_back : (v : View) (a b n : ℕ) (i j : MsgId) → untaken (v.pair a b) ≡ i ∷ untaken (one_taken (v.pair a b) n) → (z : Spot) → 1 ≤ standing (came_view v a b n i) j z → Somewhere v j
+taken_back : (v : View) (a b n : ℕ) (i j : MsgId) → untaken (v.pair a b) ≡ i ∷ untaken (taken_pair (v.pair a b) n) → (z : Spot) → 1 ≤ standing (came_view v a b n i) j z → Somewhere v j
 taken_back v a b n i j front (Queue m p) st = (Queue m p, st)
 taken_back v a b n i j front (Held m p) st = (Held m p, st)
 taken_back v a b n i j front (Inbox m) st = inbox_back v a b n i j m front st
 taken_back v a b n i j front (Untaken c d) st = (Untaken c d, (let e_ : 1 ≤ times j (untaken (v.pair c d)) = grind (arith, nat_tests, parts, eq_is) in e_))
 
-in_inbox : (v : View) (a b n : ℕ) (i j : MsgId) (m : ℕ) → (b == m) ≡ true → 1 ≤ times j (v.inbox b) + one_of j i → 1 ≤ standing (came_view v a b n i) j (Inbox m)
-in_inbox v a b n i j m same st = grind (arith, nat_tests, times-append)
-
-taken_on : (v : View) (a b n : ℕ) (i j : MsgId) → untaken (v.pair a b) ≡ i ∷ untaken (one_taken (v.pair a b) n) → (z : Spot) → 1 ≤ standing v j z → Somewhere (came_view v a b n i) j
+taken_on : (v : View) (a b n : ℕ) (i j : MsgId) → untaken (v.pair a b) ≡ i ∷ untaken (taken_pair (v.pair a b) n) → (z : Spot) → 1 ≤ standing v j z → Somewhere (came_view v a b n i) j
 taken_on v a b n i j front (Queue m p) st = (Queue m p, st)
 taken_on v a b n i j front (Held m p) st = (Held m p, st)
 taken_on v a b n i j front (Inbox m) st = elim (cases_Bool (b == m)) [
@@ -67,19 +47,18 @@ taken_on v a b n i j front (Untaken c d) st = elim (cases_Bool ((a == c) && (b =
   | inl same ↦
       let both = parts (a == c) (b == d) same in
       let here : 1 ≤ times j (untaken (v.pair a b)) = subst (λ (k : ℕ). 1 ≤ times j (untaken (v.pair k b))) (sym (eq_is a c both.0)) (subst (λ (k : ℕ). 1 ≤ times j (untaken (v.pair c k))) (sym (eq_is b d both.1)) st) in
-      let was : times j (untaken (v.pair a b)) ≡ times j (i ∷ untaken (one_taken (v.pair a b) n)) = ap (times j) front in
-      let now : times j (untaken (at_pair v.pair a b (one_taken (v.pair a b) n) c d)) ≡ times j (untaken (one_taken (v.pair a b) n)) = ap (λ (t : Bool). times j (untaken (if t then one_taken (v.pair a b) n else v.pair c d))) same in
+      let now : times j (untaken (at_pair v.pair a b (taken_pair (v.pair a b) n) c d)) ≡ times j (untaken (taken_pair (v.pair a b) n)) = ap (λ (t : Bool). times j (untaken (if t then taken_pair (v.pair a b) n else v.pair c d))) same in
       elim (zero_cases (one_of j i)) [
-        | inl none ↦ (Untaken c d, omega (arith, here, was, now, none))
+        | inl none ↦ (Untaken c d, omega (arith, here, ap (times j) front, now, none))
         | inr some ↦ (Inbox b, in_inbox v a b n i j b (eq_self b) (omega (arith, some)))
       ]
-  | inr off ↦ (Untaken c d, subst (λ k. 1 ≤ k) (sym (ap (λ (t : Bool). times j (untaken (if t then one_taken (v.pair a b) n else v.pair c d))) off)) st)
+  | inr off ↦ (Untaken c d, subst (λ k. 1 ≤ k) (sym (ap (λ (t : Bool). times j (untaken (if t then taken_pair (v.pair a b) n else v.pair c d))) off)) st)
 ]
 
 taken_by : (p : Pid) (v : View) (a b n : ℕ) (o : Option MsgId) → slice_get (v.pair a b).ids (v.pair a b).taken ≡ o → Smooth p v (taken_id (taken_view v a b n) b o)
 taken_by p v a b n None is = smooth_still p v (taken_view v a b n) (λ i. refl) (λ i z. ap (times i) (let e_ : ids_at (taken_view v a b n) z ≡ ids_at v z = grind (arith, nat_tests, pair_keeps, none_taken (v.pair a b) n is) in e_))
 taken_by p v a b n (Some i) is =
-    let front : untaken (v.pair a b) ≡ i ∷ untaken (one_taken (v.pair a b) n) = grind (arith, nat_tests, at_place) in
+    let front : untaken (v.pair a b) ≡ i ∷ untaken (taken_pair (v.pair a b) n) = grind (arith, nat_tests, at_place) in
     record { kept = λ j t e. e; fresh = λ j t e c. e; on = λ j t e c s. taken_on v a b n i j front s.0 s.1; back = λ j t e c s. taken_back v a b n i j front s.0 s.1 }
 
 net_smooth : (p : Pid) (v : View) (l : Line) → IsNetLine l → Smooth p v (view_after v l)
@@ -96,11 +75,8 @@ pub record Level (p : Pid) (v w : View) : Type 0 where
   pub smooth : Smooth p v w
   pub still : Still p v w
 
-level_packet : (p : Pid) (v : View) → PacketsKeep (λ q. Level p v q.view)
-level_packet p v q a b k l h = record { smooth = smooth_trans p v q.view (view_after q.view (Line.Packet a b k l)) h.smooth (packet_smooth p q.view a b k l); still = h.still }
-
 pub net_level : (p : Pid) (ps : List Part) (pt : Point) (w : Spelled) → IsNet ps → spelled pt ps ≡ Some w → Level p pt.view w.point.view
-net_level p ps pt w net is = net_lead (λ q. Level p pt.view q.view) (level_packet p pt.view)
+net_level p ps pt w net is = net_lead (λ q. Level p pt.view q.view) (λ q a b k l h. record { smooth = smooth_trans p pt.view q.view (view_after q.view (Line.Packet a b k l)) h.smooth (packet_smooth p q.view a b k l); still = h.still })
     (λ q s l line h. record { smooth = smooth_about p pt.view (view_after q.view l) (moved q l s).view.topic (smooth_trans p pt.view q.view (view_after q.view l) h.smooth (net_smooth p q.view l line)); still = still_trans p pt.view q.view (view_after q.view l) h.still (grind (arith, nat_tests)) })
     ps pt w net is (record { smooth = smooth_same p pt.view; still = λ m. refl })
 
@@ -108,11 +84,8 @@ net_level p ps pt w net is = net_lead (λ q. Level p pt.view q.view) (level_pack
 abbrev pub Neither : (f : Line → Bool) → Type 0
 Neither f = (l : Line) → IsNetLine l → f l ≡ false
 
-abbrev NetPart : Part → Type 0
+abbrev pub NetPart : Part → Type 0
 NetPart = Saying IsNetLine
-
-pub net_none : (f : Line → Bool) → Neither f → (ps : List Part) → IsNet ps → part_count f ps ≡ 0
-net_none f n ps h = none_count f NetPart n ps (net_says IsNetLine (λ l net. net) ps h)
 
 -- The requests to move a process that are under way, listed.
 
@@ -171,21 +144,14 @@ close_opens p v w ids i is c h =
       left = left;
       opens = record {
         each = λ j some.
-            let sum = without_counts j i ids least in
-            let was : IsOpen p v j = h.each j (omega (arith, some, sum)) in
+            let was : IsOpen p v j = h.each j (omega (arith, some, without_counts j i ids least)) in
             let apart : id_eq i j ≡ false = not_true (id_eq i j) (λ e.
-            let ij : i ≡ j = id_eq-is i j e in
-            let there : 1 ≤ times i left = subst (λ (x : MsgId). 1 ≤ times x left) (sym ij) some in
-            let count = without_counts i i ids least in
-            let self = one_of-same i in
-            absurd (omega (arith, one, there, count, self))) in
+            let there : 1 ≤ times i left = subst (λ (x : MsgId). 1 ≤ times x left) (sym (id_eq-is i j e)) some in
+            absurd (omega (arith, one, there, without_counts i i ids least, one_of-same i))) in
             record { told = was.told; is = c.kept j was.told was.is; asks = was.asks; stands = c.on j apart was.stands };
         all = λ j now.
             let b = closes_back p v w i j c now in
-            let sum = without_counts j i ids least in
-            let was : times j ids ≡ 1 = h.all j b.0 in
-            let none = off_zero i j b.1 in
-            omega (arith, sum, was, none);
+            omega (arith, without_counts j i ids least, h.all j b.0, off_zero i j b.1);
       };
       less = shorter i ids least;
     }
@@ -205,13 +171,11 @@ add_opens p v w ids i c h = record {
   each = λ j some. grind (arith, nat_tests, id_eq-is, off_zero, adds_on);
   all = λ j now. elim (cases_Bool (id_eq i j)) [
     | inl same ↦
-        let self = one_of-same i in
         let zero_ : times i ids ≡ 0 = grind (arith, nat_tests, zero_cases, c.untold) in
-        subst (λ (x : MsgId). times x (i ∷ ids) ≡ 1) (id_eq-is i j same) (omega (arith, self, zero_))
+        subst (λ (x : MsgId). times x (i ∷ ids) ≡ 1) (id_eq-is i j same) (omega (arith, one_of-same i, zero_))
     | inr apart ↦
-        let none = off_zero i j apart in
         let was : times j ids ≡ 1 = h.all j (record { told = now.told; is = sym (c.told j apart) ∙ now.is; asks = now.asks; stands = stands_was v w j (c.spots j apart) now.stands }) in
-        omega (arith, none, was)
+        omega (arith, off_zero i j apart, was)
   ];
 }
 
@@ -298,9 +262,6 @@ plain_one p v i t told e u is = subst (λ (x : Told). asks_for p x ≡ false) (t
 pub between_plain : (p : Pid) (v : View) (i : MsgId) (t : Told) → v.told i ≡ Some t → is_between t.kind ≡ true → Plain p v i
 between_plain p v i t told b = plain_one p v i t told (kind_not p t (grind (arith, nat_tests)))
 
-pub stands_front : (pt : Point) (i : MsgId) (is : List MsgId) (t : Told) → Turn pt i is t → Somewhere pt.view i
-stands_front pt i is t h = (Inbox pt.view.acting, front_one pt.view pt.view.acting i is h.front)
-
 -- the message at the front goes
 pub first_spots : (v w : View) (i : MsgId) (is : List MsgId) → v.inbox v.acting ≡ i ∷ is → ((z : Spot) → ids_at w z ≡ ids_at (handled_first v) z) → (j : MsgId) → id_eq i j ≡ false → (z : Spot) → standing w j z ≡ standing v j z
 first_spots v w i is front off j apart z = ap (times j) (off z ∙ first_off v i is front z) ∙ handled_spots v i j apart z
@@ -319,7 +280,7 @@ line_then p pt l ps w none quiet calm sane fits q walks e =
     let next = moved pt l pt.kernel in
     let leads : after_line pt l ≡ Some next = ap (λ (o : Option Label). bind (kernel_after pt.kernel o) (λ (s : OneKernel). Some (moved pt l s))) none in
     let same : next.view ≡ view_after pt.view l = seen_none pt.kernel pt.view l none in
-    let there = settled_same p next (sane_line pt next l quiet leads sane) (line_fits pt pt.kernel l calm fits) in
+    let there : Settled p next.view next = record { smooth = smooth_same p next.view; still = still_same p next.view; sane = (sane_line pt next l quiet leads sane); fits = (line_fits pt pt.kernel l calm fits) } in
     subst (λ (v : View). Settled p v w.point) same (subst (λ (x : Point). Settled p next.view x) n.point (parts_settle p ps next.view next n.rest (subst (λ (v : View). AllQuiet p v ps) (sym same) q) walks there n.more))
 
 pub due_moves : (p q : Pid) (pt : Point) (i : MsgId) (is : List MsgId) (t : Told) (h : Turn pt i is t) → is_between t.kind ≡ true → t.about ≡ Of q → pid_eq p q ≡ true → moving_in (h.phases.of p) ≡ 1
@@ -327,12 +288,9 @@ due_moves p q pt i is t h b about same =
     let u = due pt i is t h.phases h.front h.told b in
     grind (arith, nat_tests, about_same, pid_eq-is)
 
-pub pid_swap : (p q : Pid) → pid_eq p q ≡ false → pid_eq q p ≡ false
-pid_swap p q off = not_true (pid_eq q p) (λ e. let is : q ≡ p = pid_eq-is q p e in false≢true (sym off ∙ ap (pid_eq p) is ∙ pid_eq-same p))
-
 -- one machine knows something else of another process
 pub other_still : (p q : Pid) (f : ℕ → Pid → Known) (a : ℕ) (x : Known) → pid_eq p q ≡ false → (m : ℕ) → is_moving (at_record f a q x m p) ≡ is_moving (f m p)
-other_still p q f a x off m = ap is_moving (at_record_off f a m q p x (and_off (a == m) (pid_eq q p) (pid_swap p q off)))
+other_still p q f a x off m = ap is_moving (at_record_off f a m q p x (and_off (a == m) (pid_eq q p) (not_true (pid_eq q p) (λ e. let is : q ≡ p = pid_eq-is q p e in false≢true (sym off ∙ ap (pid_eq p) is ∙ pid_eq-same p)))))
 
 -- and of this one
 pub set_here : (p q : Pid) (f : ℕ → Pid → Known) (a : ℕ) (x : Known) → pid_eq p q ≡ true → at_record f a q x a p ≡ x
@@ -342,11 +300,9 @@ set_here p q f a x same = ap (at_record f a q x a) (pid_eq-is p q same) ∙ at_r
 pub level_row : (p : Pid) (pt : Point) (h : InPhases pt.view) (l : Line) (ps : List Part) (w : Spelled) → Smooth p pt.view (view_after pt.view l) → AllQuiet p (view_after pt.view l) ps → Settled p (view_after pt.view l) w.point
     → ((f : MsgId → Option Told) → ends f p l ≡ false) → asks p l ≡ false → ((g : InPhases w.point.view) → moving_in (h.of p) ≡ moving_in (g.of p)) → Comes p pt h (Says l ∷ ps) w
 level_row p pt h l ps w first quiet rest none plain same g ids opens =
-    let mid = view_after pt.view l in
-    let u = w.point.view in
-    level_balance p pt.view u ids (moving_in (h.of p)) (moving_in (g.of p)) (Says l ∷ ps) (smooth_trans p pt.view mid u first rest.smooth) opens (same g)
-    (let a = zero_if (asks p l) plain in let b = quiet_asks p mid ps quiet in omega (arith, a, b))
-    (λ f ext. let a = zero_if (ends f p l) (none f) in let b = quiet_count p mid ps f quiet (λ i t e. ext i t (rest.smooth.kept i t e)) in omega (arith, a, b))
+    level_balance p pt.view w.point.view ids (moving_in (h.of p)) (moving_in (g.of p)) (Says l ∷ ps) (smooth_trans p pt.view (view_after pt.view l) w.point.view first rest.smooth) opens (same g)
+    (let a = zero_if (asks p l) plain in let b = quiet_asks p (view_after pt.view l) ps quiet in omega (arith, a, b))
+    (λ f ext. let a = zero_if (ends f p l) (none f) in let b = quiet_count p (view_after pt.view l) ps f quiet (λ i t e. ext i t (rest.smooth.kept i t e)) in omega (arith, a, b))
 
 pub level_still : (p : Pid) (pt : Point) (h : InPhases pt.view) (l : Line) (w : Spelled) → Still p pt.view (view_after pt.view l) → Settled p (view_after pt.view l) w.point → (g : InPhases w.point.view) → moving_in (h.of p) ≡ moving_in (g.of p)
 level_still p pt h l w still rest g = still_moves p pt.view w.point.view h g (still_trans p pt.view (view_after pt.view l) w.point.view still rest.still)
@@ -354,9 +310,8 @@ level_still p pt h l w still rest g = still_moves p pt.view w.point.view h g (st
 -- quiet parts
 pub quiet_row : (p : Pid) (pt : Point) (h : InPhases pt.view) (ps : List Part) (w : Spelled) → Sane pt → PairsFit pt.view → AllQuiet p pt.view ps → Walks pt ps → spelled pt ps ≡ Some w → Comes p pt h ps w
 quiet_row p pt h ps w sane fits quiet walks e g ids opens =
-    let s = parts_settle p ps pt.view pt w quiet walks (settled_same p pt sane fits) e in
-    let u = w.point.view in
-    level_balance p pt.view u ids (moving_in (h.of p)) (moving_in (g.of p)) ps s.smooth opens (still_moves p pt.view u h g s.still) (quiet_asks p pt.view ps quiet)
+    let s = parts_settle p ps pt.view pt w quiet walks (record { smooth = smooth_same p pt.view; still = still_same p pt.view; sane = sane; fits = fits }) e in
+    level_balance p pt.view w.point.view ids (moving_in (h.of p)) (moving_in (g.of p)) ps s.smooth opens (still_moves p pt.view w.point.view h g s.still) (quiet_asks p pt.view ps quiet)
     (λ f ext. quiet_count p pt.view ps f quiet (λ i t e. ext i t (s.smooth.kept i t e)))
 
 -- a line at which a request ends, and no other part
@@ -364,7 +319,7 @@ pub end_row : (p : Pid) (pt : Point) (l : Line) (i : MsgId) (is : List MsgId) (t
     → ((z : Spot) → ids_at (view_after pt.view l) z ≡ ids_at (handled_first pt.view) z) → Still p pt.view (view_after pt.view l) → ((f : MsgId → Option Told) → f i ≡ Some t → ends f p l ≡ true) → asks p l ≡ false → spelled pt (Says l ∷ []) ≡ Some w → Comes p pt h.phases (Says l ∷ []) w
 end_row p pt l i is t w h mine none quiet calm off still ended plain e g ids opens =
     let rest = line_then p pt l [] w none quiet calm h.sane h.fits tt tt e in
-    let is_open : IsOpen p pt.view i = record { told = t; is = h.told; asks = mine; stands = stands_front pt i is t h } in
+    let is_open : IsOpen p pt.view i = record { told = t; is = h.told; asks = mine; stands = (Inbox pt.view.acting, front_one pt.view pt.view.acting i is h.front) } in
     let closes = first_closes p pt l i is t h quiet off in
     let s = close_opens p pt.view (view_after pt.view l) ids i is_open closes opens in
     let same = level_still p pt h.phases l w still rest g in
@@ -373,8 +328,6 @@ end_row p pt l i is t w h mine none quiet calm off still ended plain e g ids ope
       opens = smooth_opens p (view_after pt.view l) w.point.view s.left rest.smooth s.opens;
       quiet = (let a = zero_if (asks p l) plain in omega (arith, a));
       sum = λ f ext.
-          let told : f i ≡ Some t = ext i t (rest.smooth.kept i t (closes.kept i t h.told)) in
-          let one : one_if (ends f p) l ≡ 1 = ap (λ (c : Bool). if c then 1 else 0) (ended f told) in
-          let less = s.less in
-          omega (arith, one, less, same);
+          let one : one_if (ends f p) l ≡ 1 = ap (λ (c : Bool). if c then 1 else 0) (ended f (ext i t (rest.smooth.kept i t (closes.kept i t h.told)))) in
+          omega (arith, one, s.less, same);
     }

@@ -1,10 +1,9 @@
 -- Lines and parts that leave all requests to move a process where they stand, and end none.
 use Rattle.dm_movelaws.proofs.Names.{◌≡◌, ℕ, ◌+◌, ◌&&◌, Bool, false, List, [], ◌∷◌, ◌++◌, refl, ap, ◌∙◌, sym, subst, arith, ⊤, if◌then◌else◌, Option, None, Some, Pid, pid_eq, MsgId, MessageKind, plain_kind, Line, Load, View, Told}
 use Rattle.dm_movelaws.proofs.Names.{view_after, own_id, after_put, Point, Part, Says, Routes, Again, Owns, Transmits, Spelled, lines_of, spelled, touches, pair_same, PairsFit, put_told_off, fits_as, fits_put, fits_packet, Sane, Sayable}
-use Rattle.dm_movelaws.proofs.Names.{part_sane, put_spots, put_at, Needs, NeedsPart, Walks, Steps, asks, ends, count, packet_off, by_parts, PacketsKeep, OneKernel, label_of, kernel_after, nat_tests, PlainMessage, Loose}
-use Rattle.dm_movelaws.proofs.Names.{moved, About, PlainWhat, Label, Here, leaves_for, Stage, handled, receiver_of, times, out_of, gone_in, served_keeps, ended_off, serving_off, created_off}
-use Rattle.dm_movelaws.proofs.Names.{handled_spots, queued_spots, held_spots, dropped_spots, forwarded_spots, received_spots, and_false, at_record, Known, Ended, pid_eq-is, parts, eq_is, queued_known, held_known, dropped_known}
-use Rattle.dm_movelaws.proofs.Names.{forwarded_known, NeedsLabel, killed_or, is_moving, ◌≤◌, true, false≢true, id_eq, id_eq-is, Spot, ids_at, standing, is_put, hushed, not_true, about_off}
+use Rattle.dm_movelaws.proofs.Names.{part_sane, put_spots, put_at, Needs, NeedsPart, Walks, Steps, asks, ends, count, packet_off, by_parts, PacketsKeep, OneKernel, label_of, kernel_after, nat_tests, PlainMessage, moved, About, PlainWhat}
+use Rattle.dm_movelaws.proofs.Names.{Label, Here, leaves_for, Stage, handled, receiver_of, times, out_of, gone_in, served_keeps, ended_off, serving_off, created_off, handled_spots, queued_spots, held_spots, dropped_spots, forwarded_spots}
+use Rattle.dm_movelaws.proofs.Names.{received_spots, and_false, is_moving, ◌≤◌, true, false≢true, id_eq, id_eq-is, Spot, ids_at, standing, is_put, hushed, not_true, about_off}
 pub use Rattle.dm_rule.proofs.Phases.Lines.{first_kept}
 pub use Rattle.dm_rule.proofs.Moves.Rows.{proto_off}
 pub use Rattle.dm_rulelaws.proofs.Found.Parts.{own_fresh as own_untold}
@@ -184,37 +183,8 @@ still_trans p u v w h k m = k m ∙ h m
 pub still_by : (p : Pid) (v w : View) → ((m : ℕ) (q : Pid) → w.known m q ≡ v.known m q) → Still p v w
 still_by p v w e m = ap is_moving (e m p)
 
--- one machine knows something else of one process
-pub set_still : (f : ℕ → Pid → Known) (a : ℕ) (q : Pid) (x : Known) → is_moving x ≡ is_moving (f a q) → (m : ℕ) (p : Pid) → is_moving (at_record f a q x m p) ≡ is_moving (f m p)
-set_still f a q x e m p = grind (arith, nat_tests, parts, eq_is, pid_eq-is)
-
-ended_still : (p : Pid) (v : View) (q : Pid) → v.known v.acting q ≡ Here → Still p v (view.ended v q)
-ended_still p v q here m = set_still v.known v.acting q Ended (sym (ap is_moving here)) m p
-
-label_still : (p : Pid) (pt : Point) (l : Label) → NeedsLabel pt l → Still p pt.view (view_after pt.view (Line.Label l))
-label_still p pt (Label.End q y) need = ended_still p pt.view q need.here
-label_still p pt (Label.Dropped id) need = still_by p pt.view (view_after pt.view (Line.Label (Label.Dropped id))) (λ m q. dropped_known (handled pt.view id) id (receiver_of (pt.view.told id)) m q)
-label_still p pt (Label.Served id) need = grind (arith, nat_tests, killed_or, ended_still, still_same)
-label_still p pt (Label.Created id q) need = λ m. set_still pt.view.known pt.view.acting q Here (sym (ap is_moving (need.unknown pt.view.acting))) m p
-label_still p pt _ need = λ m. refl
-
 pub line_still : (p : Pid) (pt : Point) (l : Line) → QuietLine p pt.view l → Needs pt l → Still p pt.view (view_after pt.view l)
-line_still p pt (Line.Idle m) quiet need = λ n. refl
-line_still p pt (Line.Label l) quiet need = label_still p pt l need
-line_still p pt (Line.Old a b n) quiet need = λ m. refl
-line_still p pt Line.Nothing quiet need = λ m. refl
-line_still p pt (Line.Resent m n) quiet need = λ k. refl
-line_still p pt (Line.Queued i) quiet need = still_by p pt.view (view_after pt.view (Line.Queued i)) (λ m q. queued_known (handled pt.view i) i (receiver_of (pt.view.told i)) m q)
-line_still p pt (Line.Held i) quiet need = still_by p pt.view (view_after pt.view (Line.Held i)) (λ m q. held_known (handled pt.view i) i (receiver_of (pt.view.told i)) m q)
-line_still p pt (Line.Forwarded i n) quiet need = still_by p pt.view (view_after pt.view (Line.Forwarded i n)) (λ m q. forwarded_known (handled pt.view i) (receiver_of (pt.view.told i)) m q)
-line_still p pt (Line.Updated i n) quiet need = λ m. refl
-line_still p pt (Line.Proto i) quiet need = λ m. grind (arith, nat_tests)
-line_still p pt (Line.Here i) quiet need = λ m. refl
-line_still p pt (Line.NoMove i) quiet need = λ m. refl
-line_still p pt (Line.NoChild q) quiet need = λ m. refl
-line_still p pt (Line.Pinned q) quiet need = λ m. refl
-line_still p pt (Line.Migration Stage.Asked q) quiet need = λ m. refl
-line_still p pt _ quiet need = absurd quiet
+line_still p pt l h1 h2 = grind (arith, nat_tests)
 
 -- Parts that leave all requests to move a process where they stand, and end none; and the lines of parts, counted.
 
@@ -223,12 +193,6 @@ first_plain : (p : Pid) (o : Option Told) (k : MessageKind) (q : Pid) (a : view.
     → asks_for p t ≡ false
 first_plain p None k q a t e plain was = let f : record { kind = k; receiver = q; about = a } ≡ t = cc in subst (λ (s : Told). asks_for p s ≡ false) f plain
 first_plain p (Some u) k q a t e plain was = let f : u ≡ t = cc in subst (λ (s : Told). asks_for p s ≡ false) f (was u refl)
-
-pub put_smooth : (p : Pid) (v : View) (a b : ℕ) (i : MsgId) (k : MessageKind) (q : Pid) → PairsFit v → (is_migrate k && pid_eq p q) ≡ false → Plain p v i → Smooth p v (after_put v a b i k q)
-put_smooth p v a b i k q fits plain was =
-    let u : Told = record { kind = k; receiver = q; about = v.topic } in
-    smooth_others p v (after_put v a b i k q) i was (λ t is. first_plain p (v.told i) k q v.topic t (sym (put_at v a b i k q) ∙ is) plain was) (λ t is. put_at v a b i k q ∙ first_kept (v.told i) u t is)
-    (record { told = λ j apart. put_told_off v a b i j k q apart; spots = λ j apart z. put_spots v a b i j k q fits apart z })
 
 pub packet_smooth : (p : Pid) (v : View) (a b k : ℕ) (l : Load) → Smooth p v (view_after v (Line.Packet a b k l))
 packet_smooth p v a b k l = moves_none p v (Line.Packet a b k l) refl (λ z. packet_off v a b k l z)
@@ -259,29 +223,27 @@ pub rest_packet : (p : Pid) (v : View) → PacketsKeep (λ q. Rest p v q.view)
 rest_packet p v q a b k l h = search (smooth_trans, packet_smooth, fits_packet)
 
 put_rest : (p : Pid) (v : View) (b : ℕ) (i : MsgId) (k : MessageKind) (q : Pid) → PairsFit v → (is_migrate k && pid_eq p q) ≡ false → Plain p v i → Rest p v (after_put v v.acting b i k q)
-put_rest p v b i k q fits e plain = record { smooth = put_smooth p v v.acting b i k q fits e plain; still = λ m. refl; fits = fits_put v v.acting b i k q fits }
-
-says_rest : (p : Pid) (pt : Point) (s : OneKernel) (l : Line) → Sane pt → PairsFit pt.view → QuietLine p pt.view l → Needs pt l → kernel_after pt.kernel (label_of l) ≡ Some s → Rest p pt.view (view_after pt.view l)
-says_rest p pt s l h fits quiet need step =
-    let quiet_touches : (p : Pid) (v : View) (l : Line) → QuietLine p v l → touches l ≡ false = λ p v l h. grind (arith, nat_tests) in
-    search (line_smooth, line_still, fits_as, pair_same, quiet_touches)
-
-pub first_off : (b c : Bool) → b ≡ false → (b && c) ≡ false
-first_off b c e = ap (λ (x : Bool). x && c) e
+put_rest p v b i k q fits e plain =
+    let put_smooth : (p : Pid) (v : View) (a b : ℕ) (i : MsgId) (k : MessageKind) (q : Pid) → PairsFit v → (is_migrate k && pid_eq p q) ≡ false → Plain p v i → Smooth p v (after_put v a b i k q) = λ p v a b i k q fits plain was.
+      let u : Told = record { kind = k; receiver = q; about = v.topic } in
+      smooth_others p v (after_put v a b i k q) i was (λ t is. first_plain p (v.told i) k q v.topic t (sym (put_at v a b i k q) ∙ is) plain was) (λ t is. put_at v a b i k q ∙ first_kept (v.told i) u t is)
+      (record { told = λ j apart. put_told_off v a b i j k q apart; spots = λ j apart z. put_spots v a b i j k q fits apart z }) in
+    record { smooth = put_smooth p v v.acting b i k q fits e plain; still = λ m. refl; fits = fits_put v v.acting b i k q fits }
 
 pub rest_behind : (p : Pid) (pt : Point) (x : Part) → Sane pt → PairsFit pt.view → Quiet p pt.view x → NeedsPart pt x → Behind (λ q. Rest p pt.view q.view) pt x
 rest_behind p pt (Says l) h fits quiet need =
+    let says_rest : (p : Pid) (pt : Point) (s : OneKernel) (l : Line) → Sane pt → PairsFit pt.view → QuietLine p pt.view l → Needs pt l → kernel_after pt.kernel (label_of l) ≡ Some s → Rest p pt.view (view_after pt.view l) =
+      λ p pt s l h fits quiet need step.
+      let quiet_touches : (p : Pid) (v : View) (l : Line) → QuietLine p v l → touches l ≡ false = λ p v l h. grind (arith, nat_tests) in
+      search (line_smooth, line_still, fits_as, pair_same, quiet_touches) in
     let rest_about : (p : Pid) (v w : View) (a : About) → Rest p v w → Rest p v (view.about w a) = λ p v w a h. record { smooth = smooth_about p v w a h.smooth; still = h.still; fits = fits_about w a h.fits } in
     λ s step. rest_about p pt.view (view_after pt.view l) (moved pt l s).view.topic (says_rest p pt s l h fits quiet need step)
-rest_behind p pt (Routes i) h fits quiet need = λ m there. put_rest p pt.view _ i (plain_kind m.what) m.to fits (first_off (is_migrate (plain_kind m.what)) (pid_eq p m.to) (plain_not m.what)) (plain_in_bag p pt i m h there)
+rest_behind p pt (Routes i) h fits quiet need = λ m there. put_rest p pt.view _ i (plain_kind m.what) m.to fits (ap (λ (x : Bool). x && (pid_eq p m.to)) (plain_not m.what)) (plain_in_bag p pt i m h there)
 rest_behind p pt (Again i b) h fits quiet need = λ t there. put_rest p pt.view b i t.kind t.receiver fits (tame_plain p pt.view i quiet t there) (tame_plain p pt.view i quiet)
 rest_behind p pt (Owns k q b) h fits quiet need =
     let untold_plain : (p : Pid) (v : View) (i : MsgId) → v.told i ≡ None → Plain p v i = λ p v i none t told. absurd (let f : None ≡ Some t = sym none ∙ told in cc) in
     put_rest p pt.view b (own_id pt.view) k q fits quiet (untold_plain p pt.view (own_id pt.view) (own_untold pt h))
 rest_behind p pt (Transmits a b l) h fits quiet need = record { smooth = smooth_same p pt.view; still = λ m. refl; fits = fits }
-
-pub settled_same : (p : Pid) (pt : Point) → Sane pt → PairsFit pt.view → Settled p pt.view pt
-settled_same p pt sane fits = record { smooth = smooth_same p pt.view; still = still_same p pt.view; sane = sane; fits = fits }
 
 quiet_on : (p : Pid) (v w : View) (x : Part) → Smooth p v w → Quiet p v x → Quiet p w x
 quiet_on p v w x c h = search arith
@@ -290,9 +252,8 @@ pub parts_settle : (p : Pid) (ps : List Part) (v : View) (pt : Point) (w : Spell
 parts_settle p qs v q w quiet walks h is =
     let sayable_of : (p : Pid) (v : View) (x : Part) → Quiet p v x → Sayable x = λ p v x h. grind (arith, nat_tests) in
     by_parts (λ ps pt u. AllQuiet p v ps → Walks pt ps → Settled p v pt → Settled p v u.point) (λ pt quiet walks h. h) (λ x ps pt next ls z lines leads rest quiet walks h. (
-    let here : Quiet p pt.view x = quiet_on p v pt.view x h.smooth quiet.0 in
     let s : Steps pt x next = record { lines = ls; are = lines; leads = leads } in
-    let c = part_leads (λ y. Rest p pt.view y.view) (rest_packet p pt.view) pt next x (rest_behind p pt x h.sane h.fits here walks.0) s in
+    let c = part_leads (λ y. Rest p pt.view y.view) (rest_packet p pt.view) pt next x (rest_behind p pt x h.sane h.fits (quiet_on p v pt.view x h.smooth quiet.0) walks.0) s in
     rest quiet.1 (walks.1 next s) (search (smooth_trans, still_trans, part_sane, sayable_of))
     )) qs q w is quiet walks h
 
@@ -335,9 +296,6 @@ quiet_count p v ps f quiet ext = none_count (ends f p) (Quiet p v) (λ l q. (let
 
 pub quiet_asks : (p : Pid) (v : View) (ps : List Part) → AllQuiet p v ps → part_count (asks p) ps ≡ 0
 quiet_asks p v = let line_asks : (p : Pid) (v : View) (l : Line) → QuietLine p v l → asks p l ≡ false = λ p v l h. grind (arith, nat_tests) in none_count (asks p) (Quiet p v) (line_asks p v)
-
-pub quiet_loose : (p : Pid) (v : View) → Loose (AllQuiet p v)
-quiet_loose p v = record { none = tt; label = λ l ps h. (tt, h); routes = λ i ps h. (tt, h) }
 
 -- a message of the bag, at the front of the inbox
 pub data Handled (p : Pid) (v : View) (o : Point) (m : ℕ) (id : MsgId) (msg : PlainMessage) (ps : List Part) : Type 0 where

@@ -1,14 +1,14 @@
 -- Messages come only from machines that there are; and what was told stays.
 use Rattle.dm_movelaws.proofs.Names.{◌≡◌, ℕ, ◌<◌, ◌≤◌, ◌==◌, Bool, true, false, List, [], refl, ◌∙◌, subst, arith, Option, Some, Pid, MsgId, MessageKind, Boot, Step, id_eq-is, Line, at_pair, IsStep, View, Pair, Told, view_after, after_head}
 use Rattle.dm_movelaws.proofs.Names.{after_put, Point, Part, Spelled, spelled, group_of, group_is, IsNetLine, is_put, eq_is, touches, pair_same, taken_pair, put_at, PacketsKeep, put_told_off, begun, nat_tests, moved, About, ◌⊎◌, ◌∷◌, ◌++◌}
-use Rattle.dm_movelaws.proofs.Names.{ap, sym, inl, inr, if◌then◌else◌, None, cases_Bool, id_eq, id_eq-same, at_machine, at_record, Here, handled, handled_first, held_for, receiver_of, released, with_ring, knowing, Again, sends_on, Spot}
-use Rattle.dm_movelaws.proofs.Names.{Queue, Held, Inbox, Untaken, times, ids_at, standing, at_record_at, parts, eq_self, fits_put, fits_packet, one_of, handled_spots, held_spots, put_spots, put_there, put_spot, times-append, PairsFit, Sane}
-use Rattle.dm_movelaws.proofs.Names.{part_sane, pid_eq-is, last_there, fewer_record}
+use Rattle.dm_movelaws.proofs.Names.{ap, sym, inl, inr, if◌then◌else◌, None, cases_Bool, id_eq, id_eq-same, at_machine, at_record, Here, handled_first, held_for, released, with_ring, knowing, Again, sends_on, Spot, Queue, Held, Inbox}
+use Rattle.dm_movelaws.proofs.Names.{Untaken, times, ids_at, standing, at_record_at, parts, eq_self, fits_put, fits_packet, one_of, put_spots, put_there, put_spot, times-append, PairsFit, Sane, part_sane, pid_eq-is, last_there}
+use Rattle.dm_movelaws.proofs.Names.{fewer_record}
 pub use Rattle.dm_rule.proofs.Moves.States.{again_told}
 use Rattle.dm_rule.specs.View as view
 use Rattle.dm_movelaws.proofs.Ends.Parts.{first_kept, Extends, told_by, packet_smooth, part_count, asks_for, Somewhere, Smooth, Plain, smooth_trans, smooth_still, stands_as, stands_was, other_than as other_front}
 use Rattle.dm_movelaws.proofs.Leading.{All, Behind, whatever_put, parts_lead, Saying, outcome_says, next_of, part_leads}
-use Rattle.dm_movelaws.proofs.Ends.Open.{front_one, first_spots, zero_cases}
+use Rattle.dm_movelaws.proofs.Ends.Open.{first_spots, zero_cases}
 
 -- nothing was routed from another machine
 abbrev pub Sources : ℕ → View → Type 0
@@ -82,15 +82,9 @@ smooth_moves p v w i told was now spots = record {
   ];
 }
 
-held_there : (v : View) (i : MsgId) (o : Option Pid) (q : Pid) → o ≡ Some q → Somewhere (held_for v i o) i
+pub held_there : (v : View) (i : MsgId) (o : Option Pid) (q : Pid) → o ≡ Some q → Somewhere (held_for v i o) i
 held_there v i None q e = cc
 held_there v i (Some r) q e = (Held v.acting r, subst (λ n. 1 ≤ n) (sym (ap (times i) (at_record_at v.held v.acting r (v.held v.acting r ++ i ∷ [])))) (last_there i (v.held v.acting r)))
-
-pub held_smooth : (p : Pid) (v : View) (i : MsgId) (is : List MsgId) (t : Told) → v.inbox v.acting ≡ i ∷ is → v.told i ≡ Some t → Smooth p v (view_after v (Line.Held i))
-held_smooth p v i is t front told =
-    let o = receiver_of (v.told i) in
-    smooth_moves p v (view_after v (Line.Held i)) i (told_by v (Line.Held i) refl) (Inbox v.acting, front_one v v.acting i is front) (held_there (handled v i) i o t.receiver (ap receiver_of told))
-    (λ j e z. held_spots (handled v i) i j o e z ∙ handled_spots v i j e z)
 
 -- messages on the way from their lists to their puts
 pub record Sending (p : Pid) (v : View) (js : List MsgId) (w : View) : Type 0 where
@@ -105,12 +99,11 @@ pub record Sending (p : Pid) (v : View) (js : List MsgId) (w : View) : Type 0 wh
 pub sending_put : (p : Pid) (v : View) (j : MsgId) (js : List MsgId) (w : View) (b : ℕ) (u : Told) → w.told j ≡ Some u → Sending p v (j ∷ js) w → Sending p v js (after_put w w.acting b j u.kind u.receiver)
 sending_put p v j js w b u told h =
     let n = after_put w w.acting b j u.kind u.receiver in
-    let same = again_told w w.acting b j u told in
     let spots : (i : MsgId) → id_eq j i ≡ false → (z : Spot) → standing n i z ≡ standing w i z = λ i e z. put_spots w w.acting b j i u.kind u.receiver h.fits e z in
     let there : Somewhere n j = (put_spot w.acting b, put_there w w.acting b j u.kind u.receiver h.fits) in
     let first : one_of j j ≡ 1 = ap (λ (c : Bool). if c then 1 else 0) (id_eq-same j) in
     record {
-      told = λ i. same i ∙ h.told i;
+      told = λ i. (again_told w w.acting b j u told) i ∙ h.told i;
       on = λ i t e c st. elim (cases_Bool (id_eq i j)) [
         | inl is ↦ inl (subst (λ (x : MsgId). Somewhere n x) (sym (id_eq-is i j is)) there)
         | inr apart ↦ elim (h.on i t e c st) [
@@ -120,8 +113,7 @@ sending_put p v j js w b u told h =
       ];
       back = λ i t e c st. elim (cases_Bool (id_eq j i)) [
         | inl is ↦
-            let ji : j ≡ i = id_eq-is j i is in
-            let listed : 1 ≤ times i (j ∷ js) = subst (λ (x : MsgId). 1 ≤ times x (j ∷ js)) ji (omega (arith, first)) in
+            let listed : 1 ≤ times i (j ∷ js) = subst (λ (x : MsgId). 1 ≤ times x (j ∷ js)) (id_eq-is j i is) (omega (arith, first)) in
             h.from i t e c listed
         | inr off ↦ h.back i t e c (stands_was w n i (spots i off) st)
       ];
@@ -153,10 +145,6 @@ pub sends_count : (f : Line → Bool) (b : ℕ) (js : List MsgId) (ps : List Par
 sends_count f b [] ps = refl
 sends_count f b (j ∷ js) ps = sends_count f b js ps
 
--- what begins: the front goes, and the lists of a process are emptied
-emptied_on : (f : ℕ → Pid → List MsgId) (a : ℕ) (q : Pid) (i : MsgId) (m : ℕ) (r : Pid) → 1 ≤ times i (f m r) → (1 ≤ times i (at_record f a q [] m r)) ⊎ (1 ≤ times i (f a q))
-emptied_on f a q i m r least = grind (arith, nat_tests, parts, eq_is, pid_eq-is)
-
 abbrev sent_view : View → Pid → ℕ → View
 sent_view v q n = view_after v (Line.SentOn q n)
 
@@ -167,11 +155,11 @@ both_second : (i : MsgId) (xs ys : List MsgId) → 1 ≤ times i ys → 1 ≤ ti
 both_second i xs ys least = let a = times-append i xs ys in omega (arith, a, least)
 
 sent_on : (v : View) (q : Pid) (n : ℕ) (i : MsgId) → ((z : Spot) → standing (handled_first v) i z ≡ standing v i z) → (z : Spot) → 1 ≤ standing v i z → Somewhere (sent_view v q n) i ⊎ (1 ≤ times i (v.queue v.acting q ++ v.held v.acting q))
-sent_on v q n i same (Queue m r) st = elim (emptied_on v.queue v.acting q i m r st) [
+sent_on v q n i same (Queue m r) st = elim (let e_ : (1 ≤ times i (at_record v.queue v.acting q [] m r)) ⊎ (1 ≤ times i (v.queue v.acting q)) = grind (arith, nat_tests, parts, eq_is, pid_eq-is) in e_) [
   | inl x ↦ inl (Queue m r, x)
   | inr x ↦ inr (both_first i (v.queue v.acting q) (v.held v.acting q) x)
 ]
-sent_on v q n i same (Held m r) st = elim (emptied_on v.held v.acting q i m r st) [
+sent_on v q n i same (Held m r) st = elim (let e_ : (1 ≤ times i (at_record v.held v.acting q [] m r)) ⊎ (1 ≤ times i (v.held v.acting q)) = grind (arith, nat_tests, parts, eq_is, pid_eq-is) in e_) [
   | inl x ↦ inl (Held m r, x)
   | inr x ↦ inr (both_second i (v.queue v.acting q) (v.held v.acting q) x)
 ]
@@ -186,9 +174,8 @@ sent_back v q n i same (Untaken a b) st = (Untaken a b, st)
 
 both_stand : (v : View) (q : Pid) (i : MsgId) → 1 ≤ times i (v.queue v.acting q ++ v.held v.acting q) → Somewhere v i
 both_stand v q i least =
-    let sum = times-append i (v.queue v.acting q) (v.held v.acting q) in
     elim (zero_cases (times i (v.queue v.acting q))) [
-      | inl none ↦ (Held v.acting q, omega (arith, least, sum, none))
+      | inl none ↦ (Held v.acting q, omega (arith, least, times-append i (v.queue v.acting q) (v.held v.acting q), none))
       | inr some ↦ (Queue v.acting q, some)
     ]
 
@@ -208,7 +195,7 @@ sent_begins p v q n i is front plain fits =
 -- the held messages of a process come to the front of the inbox
 released_on : (v : View) (q : Pid) (i : MsgId) (z : Spot) → 1 ≤ standing v i z → Somewhere (released v q) i
 released_on v q i (Queue m r) st = (Queue m r, st)
-released_on v q i (Held m r) st = elim (emptied_on v.held v.acting q i m r st) [
+released_on v q i (Held m r) st = elim (let e_ : (1 ≤ times i (at_record v.held v.acting q [] m r)) ⊎ (1 ≤ times i (v.held v.acting q)) = grind (arith, nat_tests, parts, eq_is, pid_eq-is) in e_) [
   | inl x ↦ (Held m r, x)
   | inr x ↦ (
     Inbox v.acting,
@@ -229,9 +216,8 @@ released_back v q i (Held m r) st = (Held m r, fewer_record v.held v.acting q i 
 released_back v q i (Inbox m) st = elim (cases_Bool (v.acting == m)) [
   | inl same ↦
       let now : times i (at_machine v.inbox v.acting (v.held v.acting q ++ v.inbox v.acting) m) ≡ times i (v.held v.acting q ++ v.inbox v.acting) = ap (λ (c : Bool). times i (if c then v.held v.acting q ++ v.inbox v.acting else v.inbox m)) same in
-      let sum = times-append i (v.held v.acting q) (v.inbox v.acting) in
       elim (zero_cases (times i (v.held v.acting q))) [
-        | inl none ↦ (Inbox v.acting, omega (arith, st, now, sum, none))
+        | inl none ↦ (Inbox v.acting, omega (arith, st, now, times-append i (v.held v.acting q) (v.inbox v.acting), none))
         | inr some ↦ (Held v.acting q, some)
       ]
   | inr off ↦ (Inbox m, subst (λ k. 1 ≤ k) (ap (λ (c : Bool). times i (if c then v.held v.acting q ++ v.inbox v.acting else v.inbox m)) off) st)

@@ -3,7 +3,7 @@ use Rattle.dm_movelaws.proofs.Names.{◌≡◌, ◌≢◌, ℕ, ◌+◌, ◌≤�
 use Rattle.dm_movelaws.proofs.Names.{Step, IsStep, Leads, Point, first_point, labels, Trails, View, Unknown, Forward, actor, is_server, KnownStands, group_replay, run_always, AtRest, IsThere, CountsPromise, update_of, IsUnderWay, nat_tests}
 use Rattle.dm_movelaws.proofs.At.RestAlways.{at_rest_always}
 use Rattle.dm_movelaws.proofs.Forwards.Told.{forwards_tell}
-use Rattle.dm_movelaws.proofs.Promise.Always.{promises_always, same_some}
+use Rattle.dm_movelaws.proofs.Promise.Always.{promises_always}
 use Rattle.dm_movelaws.proofs.Promise.Finds.{lines_by, leads_append}
 use Rattle.dm_movelaws.proofs.Trail.Known.{trail_known}
 use Rattle.dm_movelaws.proofs.Real.Always.{made_by as life_stays}
@@ -27,9 +27,8 @@ at_place : (pt : Point) (t : Trails) (id : MsgId) (p q : Pid) (place : Place) �
 at_place pt t id p q place on rest told known =
     let (m, now, there) = on.there q q.home (λ n. rest.still n q) known in
     let said : slice_get (t q) place.moves ≡ Some place.at = on.about id (update_of p q place) q place.at place.moves told refl in
-    let within = slice_get_within (t q) place.moves place.at said in
     let long = on.long q (λ n. rest.still n q) in
-    record { least = omega (arith, within, long); there = λ same. subst (IsThere pt.view q) (same_some m place.at (sym now ∙ ap (slice_get (t q)) same ∙ said)) there }
+    record { least = omega (arith, slice_get_within (t q) place.moves place.at said, long); there = λ same. subst (IsThere pt.view q) (let e_ : m ≡ place.at = cc (sym now ∙ ap (slice_get (t q)) same ∙ said) in e_) there }
 
 -- wherever the rule leads
 pub counts_promise : CountsPromise
@@ -50,8 +49,7 @@ counts_promise b before between start pt d sent p q place valid comes forwards k
     let home = (run_always b (first ++ between) pt valid all).run.based.known.home q server (made_on b (d ∷ between) start pt q sane.r sane.e (sent, fit, forwards.is, goes) sane.sound made) in
     let (trails, on) = trail_known b (first ++ between) pt valid all in
     let lines = lines_by b between sent.point pt goes in
-    let told_end = lines_told lines.lines sent.point pt t.update (update_of p q place) lines.leads way.told in
-    let at = at_place pt trails t.update p q place on (at_rest_always b (first ++ between) pt valid all quiet) told_end home in
+    let at = at_place pt trails t.update p q place on (at_rest_always b (first ++ between) pt valid all quiet) (lines_told lines.lines sent.point pt t.update (update_of p q place) lines.leads way.told) home in
     let promised = promises_always b first between sent.point pt t.update p q place valid told way goes quiet in
     record {
       update = t.update;

@@ -165,8 +165,7 @@ own_by : (b : Boot) (o : Point) (d : Step) (w : Spelled) (g : GroupIs b o d w) (
 own_by b o d w g id t to xs ys sane told request says (Nothing none) = absurd (none_there (sent_on xs) (sent_on ys) (id, to) (there_in b o d w g id to xs ys says ∙ none))
 own_by b o d w g id t to xs ys sane told request says (Plain h) =
     let same = one_there (sent_on xs) (sent_on ys) (id, to) (h.id, h.to) (there_in b o d w g id to xs ys says ∙ ap forwards_of h.are ∙ goes_on o.addresses h.id (plain_kind h.message.what) h.message.sender h.to) in
-    let was : o.view.told h.id ≡ Some t = sym (ap o.view.told (same_id (id, to) (h.id, h.to) same)) ∙ told in
-    absurd (grind (arith, nat_tests, (sym (sane.tells.kind h.id h.message t h.there was) ∙ request)))
+    absurd (grind (arith, nat_tests, (sym (sane.tells.kind h.id h.message t h.there (sym (ap o.view.told (same_id (id, to) (h.id, h.to) same)) ∙ told)) ∙ request)))
 own_by b o d w g id t to xs ys sane told request says (Own h) =
     let same = one_there (sent_on xs) (sent_on ys) (id, to) (h.id, h.to) (there_in b o d w g id to xs ys says ∙ ap forwards_of h.are ∙ goes_on o.addresses h.id h.told.kind manager h.to) in
     record { group = g; goes = h; id_is = sym (same_id (id, to) (h.id, h.to) same); to_is = sym (same_to (id, to) (h.id, h.to) same) }
@@ -181,9 +180,7 @@ record Ready (v : View) (a : About) (pt : Point) : Type 0 where
 forwarded_ready : (pt next : Point) (id : MsgId) (t : Told) (q : Pid) (to moves : ℕ) → Sane pt → PairsFit pt.view → pt.view.told id ≡ Some t → t.receiver ≡ q → pt.view.known pt.view.acting q ≡ Forward to moves → Steps pt (Says (Line.Forwarded id to)) next
     → Ready pt.view (view.Place q to moves) next
 forwarded_ready pt next id t q to moves sane fit told receiver known s =
-    let l = Line.Forwarded id to in
-    let k = said_by pt next l s in
-    search (arith, part_sane pt next (Says l) s.lines refl s.are s.leads sane, k.is, fits_as, pt.view, pair_same, forwarded_own, pt.view.told)
+    search (arith, part_sane pt next (Says (Line.Forwarded id to)) s.lines refl s.are s.leads sane, (said_by pt next (Line.Forwarded id to) s).is, fits_as, pt.view, pair_same, forwarded_own, pt.view.told)
 
 again_ready : (v : View) (a : About) (pt next : Point) (id : MsgId) (to : ℕ) → Steps pt (Again id to) next → Ready v a pt → Ready v a next
 again_ready v a pt next id to s h = record {
@@ -206,7 +203,6 @@ record Put (i : MsgId) (u : Told) (next : Point) : Type 0 where
 put_new : (v : View) (pt next : Point) (p q : Pid) (place : Place) (b : ℕ) → v.told (own_id v) ≡ None → Ready v (view.Place q place.at place.moves) pt → Steps pt (Owns MessageKind.Update p b) next → New v next.view p q place
 put_new v pt next p q place b new h s =
     let i = own_id pt.view in
-    let a = view.Place q place.at place.moves in
     let u : Told = record { kind = MessageKind.Update; receiver = p; about = pt.view.topic } in
     let put : Put i (update_of p q place) next =
     puts_lead (Put i (update_of p q place)) (λ x c d k l e. record { told = e.told; stands = packet_stands x.view c d k l i e.stands }) pt next b i MessageKind.Update p s.lines
@@ -225,18 +221,12 @@ tells pt w id sender place back t q sane fit told receiver known is =
     let k = next_of n.next (Again id place.at) (last ∷ []) n.rest n.more in
     let z = next_of k.next last [] k.rest k.more in
     let ready = again_ready pt.view (view.Place q place.at place.moves) n.next k.next id place.at k.steps (forwarded_ready pt n.next id t q place.at place.moves sane fit told receiver known n.steps) in
-    let new = put_new pt.view k.next z.next sender q place back (own_fresh pt sane) ready z.steps in
     let to : Point → Type 0 = λ x. New pt.view x.view sender q place in
-    subst to n.point (subst to k.point (subst to z.point (subst to (last_point z.next z.rest z.more) new)))
-
--- where the group begins
-turn_fits : (v : View) (m : ℕ) → PairsFit v → PairsFit (view.after_head v (Step.Turn m))
-turn_fits v m h = record { within = h.within; home = h.home }
+    subst to n.point (subst to k.point (subst to z.point (subst to (last_point z.next z.rest z.more) (put_new pt.view k.next z.next sender q place back (own_fresh pt sane) ready z.steps))))
 
 -- it goes on, and its sender is told
 sent_tells : (b : Boot) (o : Point) (d : Step) (w : Spelled) (g : GroupIs b o d w) (h : GoesOn o d g.parts) → Run b o → is_told_back (plain_kind h.message.what) ≡ true → Tells d o w.point h.message.sender h.message.to h.to
 sent_tells b o d w g h run back =
-    let p = h.message.sender in
     let q = h.message.to in
     let place : Place = record { at = h.to; moves = h.moves } in
     let sane = run.based.phased.sane in
@@ -244,47 +234,43 @@ sent_tells b o d w g h run back =
     let begins : (begun o d).view ≡ view.after_head o.view (Step.Turn h.machine) = ap (λ (e : Step). view.after_head o.view e) h.acts in
     let known : (begun o d).view.known (begun o d).view.acting q ≡ Forward h.to h.moves = ap (λ (v : View). v.known v.acting q) begins ∙ h.known in
     let told : (begun o d).view.told h.id ≡ Some f.told = ap (λ (v : View). v.told h.id) begins ∙ f.told_is in
-    let fit : PairsFit (begun o d).view = subst PairsFit (sym begins) (turn_fits o.view h.machine (fits o.view run.based.phased.pairs)) in
+    let fit : PairsFit (begun o d).view = subst PairsFit (sym begins) (record { within = (fits o.view run.based.phased.pairs).within; home = (fits o.view run.based.phased.pairs).home }) in
     let said = sym (ap (spelled (begun o d)) (let e_ : g.parts ≡ Says (Line.Forwarded h.id h.to) ∷ Again h.id h.to ∷ Owns MessageKind.Update h.message.sender (o.addresses (Sender h.id)).at ∷ [] = search in e_)) ∙ g.said in
-    let t = tells (begun o d) g.rest h.id p place (o.addresses (Sender h.id)).at f.told q (begun_sane o d sane) fit told (sane.tells.receiver h.id h.message f.told h.there f.told_is) known said in
+    let t = tells (begun o d) g.rest h.id h.message.sender place (o.addresses (Sender h.id)).at f.told q (begun_sane o d sane) fit told (sane.tells.receiver h.id h.message f.told h.there f.told_is) known said in
     record {
       turn = h.acts ∙ ap (λ (e : Step). Step.Turn (actor e)) (sym h.acts);
       moves = h.moves;
       known = ap (λ (e : Step). o.view.known (actor e) q) h.acts ∙ h.known;
       update = t.update;
       new = ap (λ (v : View). v.told t.update) (sym begins) ∙ t.new;
-      way = subst (λ (x : Spelled). IsUnderWay x.point.view t.update p q place) g.whole t.way;
+      way = subst (λ (x : Spelled). IsUnderWay x.point.view t.update h.message.sender q place) g.whole t.way;
     }
 
 -- wherever the rule leads
 pub forwards_tell : ForwardsTell
 forwards_tell b es pt d w p q to valid leads f =
     let run = (run_always b es pt valid leads).run in
-    let g = group_is b pt d w f.is in
-    let s = sent_by b pt d w g f.id f.message to f.earlier f.later f.there f.says (outcome_form b pt d g.parts g.is) in
+    let s = sent_by b pt d w (group_is b pt d w f.is) f.id f.message to f.earlier f.later f.there f.says (outcome_form b pt d (group_is b pt d w f.is).parts (group_is b pt d w f.is).is) in
     let h = s.goes in
-    let same : Some h.message ≡ Some f.message = sym h.there ∙ ap pt.kernel.bag s.id_is ∙ f.there in
     let message : h.message ≡ f.message = cc in
     let back : is_told_back (plain_kind h.message.what) ≡ true = ap (λ (m : PlainMessage). is_told_back (plain_kind m.what)) message ∙ f.told_back in
-    let t = sent_tells b pt d w s.group h run back in
     let sender : h.message.sender ≡ p = ap (λ (m : PlainMessage). m.sender) message ∙ f.sender in
     let receiver : h.message.to ≡ q = ap (λ (m : PlainMessage). m.to) message ∙ f.receiver in
     subst (λ (n : ℕ). Tells d pt w.point p q n) s.to_is
     (subst (λ (r : Pid). Tells d pt w.point r q h.to) sender
-    (subst (λ (r : Pid). Tells d pt w.point h.message.sender r h.to) receiver t))
+    (subst (λ (r : Pid). Tells d pt w.point h.message.sender r h.to) receiver (sent_tells b pt d w s.group h run back)))
 
 -- a request to move goes on, and the manager is told
 own_tells : (b : Boot) (o : Point) (d : Step) (w : Spelled) (g : GroupIs b o d w) (h : GoesOnOwn o d g.parts) → Run b o → is_told_back h.told.kind ≡ true → Tells d o w.point manager h.told.receiver h.to
 own_tells b o d w g h run back =
     let q = h.told.receiver in
     let place : Place = record { at = h.to; moves = h.moves } in
-    let sane = run.based.phased.sane in
     let begins : (begun o d).view ≡ view.after_head o.view (Step.Turn h.machine) = ap (λ (e : Step). view.after_head o.view e) h.acts in
     let known : (begun o d).view.known (begun o d).view.acting q ≡ Forward h.to h.moves = ap (λ (v : View). v.known v.acting q) begins ∙ h.known in
     let told : (begun o d).view.told h.id ≡ Some h.told = ap (λ (v : View). v.told h.id) begins ∙ h.told_is in
-    let fit : PairsFit (begun o d).view = subst PairsFit (sym begins) (turn_fits o.view h.machine (fits o.view run.based.phased.pairs)) in
+    let fit : PairsFit (begun o d).view = subst PairsFit (sym begins) (record { within = (fits o.view run.based.phased.pairs).within; home = (fits o.view run.based.phased.pairs).home }) in
     let said = sym (ap (spelled (begun o d)) (h.are ∙ ap (λ (c : Bool). Says (Line.Forwarded h.id h.to) ∷ Again h.id h.to ∷ (if c then Owns MessageKind.Update manager (o.addresses (Sender h.id)).at ∷ [] else [])) back)) ∙ g.said in
-    let t = tells (begun o d) g.rest h.id manager place (o.addresses (Sender h.id)).at h.told q (begun_sane o d sane) fit told refl known said in
+    let t = tells (begun o d) g.rest h.id manager place (o.addresses (Sender h.id)).at h.told q (begun_sane o d run.based.phased.sane) fit told refl known said in
     record {
       turn = h.acts ∙ ap (λ (e : Step). Step.Turn (actor e)) (sym h.acts);
       moves = h.moves;
@@ -298,12 +284,9 @@ own_tells b o d w g h run back =
 pub requests_tell : RequestsTell
 requests_tell b es pt d w q to valid leads f =
     let run = (run_always b es pt valid leads).run in
-    let g = group_is b pt d w f.is in
-    let s = own_by b pt d w g f.id f.told to f.earlier f.later run.based.phased.sane f.there f.request f.says (outcome_form b pt d g.parts g.is) in
+    let s = own_by b pt d w (group_is b pt d w f.is) f.id f.told to f.earlier f.later run.based.phased.sane f.there f.request f.says (outcome_form b pt d (group_is b pt d w f.is).parts (group_is b pt d w f.is).is) in
     let h = s.goes in
-    let same : Some h.told ≡ Some f.told = sym h.told_is ∙ ap pt.view.told s.id_is ∙ f.there in
     let told : h.told ≡ f.told = cc in
     let back : is_told_back h.told.kind ≡ true = ap (λ (t : Told). is_told_back t.kind) told ∙ ap is_told_back f.request in
-    let t = own_tells b pt d w s.group h run back in
     let receiver : h.told.receiver ≡ q = ap (λ (x : Told). x.receiver) told ∙ f.receiver in
-    subst (λ (n : ℕ). Tells d pt w.point manager q n) s.to_is (subst (λ (r : Pid). Tells d pt w.point manager r h.to) receiver t)
+    subst (λ (n : ℕ). Tells d pt w.point manager q n) s.to_is (subst (λ (r : Pid). Tells d pt w.point manager r h.to) receiver (own_tells b pt d w s.group h run back))

@@ -18,9 +18,6 @@ LineOk ok l = ⊤
 abbrev pub PartOk : (MsgId → Type 0) → Part → Type 0
 PartOk ok = Saying (LineOk ok)
 
-abbrev pub AllOk : (MsgId → Type 0) → List Part → Type 0
-AllOk ok = All (PartOk ok)
-
 -- what the net says
 net_ok : (ok : MsgId → Type 0) (l : Line) → IsNetLine l → LineOk ok l
 net_ok ok (Line.Queued i) h = absurd h
@@ -77,50 +74,37 @@ line_queues before v (Line.Proto id) e h = quiet_queues before v (Line.Proto id)
 line_queues before v (Line.Migration s p) e h = quiet_queues before v (Line.Migration s p) refl (stage_queue v p s) h
 line_queues before v any_ e h = quiet_queues before v any_ refl refl h
 
--- lines, one after another
-abbrev LinesOk : (MsgId → Type 0) → List Line → Type 0
-LinesOk ok [] = ⊤
-LinesOk ok (l ∷ ls) = LineOk ok l × LinesOk ok ls
-
-lines_queues : (before : View) (ls : List Line) (pt next : Point) → LinesOk (ForProcess before) ls → after pt ls ≡ Some next → NoQueues before pt.view → NoQueues before next.view
+lines_queues : (before : View) (ls : List Line) (pt next : Point) → All (LineOk (ForProcess before)) ls → after pt ls ≡ Some next → NoQueues before pt.view → NoQueues before next.view
 lines_queues before [] pt next ok e h = let f : pt ≡ next = cc in subst (λ (q : Point). NoQueues before q.view) f h
 lines_queues before (l ∷ ls) pt next ok e h =
     let (mid, first, rest) = bind-is (after_line pt l) (λ (q : Point). after q ls) next e in
     lines_queues before ls mid next ok.1 rest (subst (NoQueues before) (sym (line_view pt mid l first)) (same_queues before (view_after pt.view l) (seen pt.kernel pt.view l) refl refl (line_queues before pt.view l ok.0 h)))
 
--- what a part says
-part_ok : (ok : MsgId → Type 0) (pt : Point) (p : Part) (ls : List Line) → PartOk ok p → lines_of pt p ≡ Some ls → LinesOk ok ls
-part_ok ok pt p ls h is = lines_are (LinesOk ok) pt p ls
-    (record { says = λ l e. (subst (PartOk ok) e h, tt); put = λ none a b i k q. (tt, tt); goes = λ none a b n i k q l. (tt, (tt, tt)); packet = λ none a b n l. (tt, tt) }) is
-
 ok_line : (ok : MsgId → Type 0) (l : Line) → IsHeardLine l → LineOk ok l
 ok_line ok (Line.Queued i) h = absurd h
 ok_line ok _ h = tt
 
-ok_kept : (ok : MsgId → Type 0) → Kept (AllOk ok)
-ok_kept ok = record { none = tt; says = λ l ps h k. (ok_line ok l h, k); again = λ i to ps k. (tt, k); owns = λ k q to ps h. (tt, h); answers = λ i r. (tt, (tt, tt)) }
-
-ok_loose : (ok : MsgId → Type 0) → Loose (AllOk ok)
-ok_loose ok = record { none = tt; label = λ l ps h. (tt, h); routes = λ i ps h. (tt, h) }
-
 -- Messages wait only where a machine has a list for them.
 
-outcome_ok : (b : Boot) (pt : Point) (d : Step) (ps : List Part) → Run b pt → rule.outcome b pt d ≡ Some ps → AllOk (ForProcess pt.view) ps
+outcome_ok : (b : Boot) (pt : Point) (d : Step) (ps : List Part) → Run b pt → rule.outcome b pt d ≡ Some ps → All (PartOk (ForProcess pt.view)) ps
 outcome_ok b pt d ps h is =
     let front_process : (b : Boot) (pt : Point) (m : ℕ) (i : MsgId) (is : List MsgId) (msg : PlainMessage) → Run b pt → pt.view.inbox m ≡ i ∷ is → pt.kernel.bag i ≡ Some msg → is_server msg.to ≡ false → ForProcess pt.view i =
       λ b pt m i is msg h box there process.
       let (t, told) = some_is (pt.view.told i) (h.found.told i (Inbox m) (grind (arith, nat_tests, id_eq-same))) in
       record { what = t; told = told; process = ap is_server (h.based.phased.sane.tells.receiver i msg t there told) ∙ process } in
-    let nets_ok : (ok : MsgId → Type 0) (ps : List Part) → IsNet ps → AllOk ok ps = λ ok. net_says (LineOk ok) (net_ok ok) in
-    let hears_ok : (ok : MsgId → Type 0) (b : Boot) (pt : Point) (m : ℕ) (id : MsgId) (o : Option Told) (ps : List Part) → hears b pt m id o ≡ Some ps → AllOk ok ps =
-      λ ok b pt m id o ps e. hears_kept (AllOk ok) (ok_kept ok) b pt m id o ps e in
-    let round_ok : (ok : MsgId → Type 0) (b : Boot) (pt : Point) (m : ℕ) (o : Option Pid) (ps : List Part) → goes_round b pt m o ≡ Some ps → AllOk ok ps = λ ok b pt m o ps e. loose_round (AllOk ok) (ok_loose ok) b pt m o ps (tt, tt) e in
-    let migrates_ok : (ok : MsgId → Type 0) (pt : Point) (p : Pid) → AllOk ok (migrates pt p) = λ ok pt p. by_migrates (AllOk ok) pt p (tt, tt) (tt, tt) (λ n off is. (tt, tt)) in
-    let handles_ok : (ok : MsgId → Type 0) (b : Boot) (pt : Point) (m : ℕ) (id : MsgId) (msg : PlainMessage) (ps : List Part) → (is_server msg.to ≡ false → ok id) → handles b pt m id msg ≡ Some ps → AllOk ok ps =
+    let nets_ok : (ok : MsgId → Type 0) (ps : List Part) → IsNet ps → All (PartOk ok) ps = λ ok. net_says (LineOk ok) (net_ok ok) in
+    let ok_kept : (ok : MsgId → Type 0) → Kept (All (PartOk ok)) = λ ok. record { none = tt; says = λ l ps h k. (ok_line ok l h, k); again = λ i to ps k. (tt, k); owns = λ k q to ps h. (tt, h); answers = λ i r. (tt, (tt, tt)) } in
+    let hears_ok : (ok : MsgId → Type 0) (b : Boot) (pt : Point) (m : ℕ) (id : MsgId) (o : Option Told) (ps : List Part) → hears b pt m id o ≡ Some ps → All (PartOk ok) ps =
+      λ ok b pt m id o ps e. hears_kept (All (PartOk ok)) (ok_kept ok) b pt m id o ps e in
+    let ok_loose : (ok : MsgId → Type 0) → Loose (All (PartOk ok)) = λ ok. record { none = tt; label = λ l ps h. (tt, h); routes = λ i ps h. (tt, h) } in
+    let round_ok : (ok : MsgId → Type 0) (b : Boot) (pt : Point) (m : ℕ) (o : Option Pid) (ps : List Part) → goes_round b pt m o ≡ Some ps → All (PartOk ok) ps =
+      λ ok b pt m o ps e. loose_round (All (PartOk ok)) (ok_loose ok) b pt m o ps (tt, tt) e in
+    let migrates_ok : (ok : MsgId → Type 0) (pt : Point) (p : Pid) → All (PartOk ok) (migrates pt p) = λ ok pt p. by_migrates (All (PartOk ok)) pt p (tt, tt) (tt, tt) (λ n off is. (tt, tt)) in
+    let handles_ok : (ok : MsgId → Type 0) (b : Boot) (pt : Point) (m : ℕ) (id : MsgId) (msg : PlainMessage) (ps : List Part) → (is_server msg.to ≡ false → ok id) → handles b pt m id msg ≡ Some ps → All (PartOk ok) ps =
       λ ok b pt m id msg ps need e.
-      loose_handles (AllOk ok) (AllOk ok) (ok_loose ok) (λ qs h. h) b pt m id msg ps (λ here. (need here.process, tt)) (tt, tt) (λ to here what apart. (tt, (tt, (tt, (tt, tt)))))
-      (λ to moves at_. kept_forward (AllOk ok) (ok_kept ok) pt.addresses id (plain_kind msg.what) msg.sender to) e in
-    by_outcome (λ x. AllOk (ForProcess pt.view)) b pt d ps (search (round_ok, handles_ok, front_process, hears_ok, nets_ok, migrates_ok)) is
+      loose_handles (All (PartOk ok)) (All (PartOk ok)) (ok_loose ok) (λ qs h. h) b pt m id msg ps (λ here. (need here.process, tt)) (tt, tt) (λ to here what apart. (tt, (tt, (tt, (tt, tt)))))
+      (λ to moves at_. kept_forward (All (PartOk ok)) (ok_kept ok) pt.addresses id (plain_kind msg.what) msg.sender to) e in
+    by_outcome (λ x. All (PartOk (ForProcess pt.view))) b pt d ps (search (round_ok, handles_ok, front_process, hears_ok, nets_ok, migrates_ok)) is
 
 abbrev NoneQueued : View → Type 0
 NoneQueued v = (m : ℕ) (p : Pid) → is_server p ≡ true → v.queue m p ≡ []
@@ -128,8 +112,12 @@ NoneQueued v = (m : ℕ) (p : Pid) → is_server p ≡ true → v.queue m p ≡ 
 queues_group : (b : Boot) (pt : Point) (d : Step) (w : Spelled) → group_of b pt d ≡ Some w → Run b pt → NoneQueued pt.view → NoneQueued w.point.view
 queues_group b pt d w e h none = by_group (λ v. NoneQueued v.point.view) b pt d w (λ ps rest is said. (
     let first : NoQueues pt.view pt.view = record { told = λ i t f. f; none = none } in
-    let parts_queues : (before : View) (ps : List Part) (pt : Point) (w : Spelled) → AllOk (ForProcess before) ps → spelled pt ps ≡ Some w → NoQueues before pt.view → NoQueues before w.point.view = λ before qs q w ok is h.
-      by_parts (λ ps pt v. AllOk (ForProcess before) ps → NoQueues before pt.view → NoQueues before v.point.view) (λ pt ok h. h)
+    let parts_queues : (before : View) (ps : List Part) (pt : Point) (w : Spelled) → All (PartOk (ForProcess before)) ps → spelled pt ps ≡ Some w → NoQueues before pt.view → NoQueues before w.point.view = λ before qs q w ok is h.
+      -- what a part says
+      let part_ok : (ok : MsgId → Type 0) (pt : Point) (p : Part) (ls : List Line) → PartOk ok p → lines_of pt p ≡ Some ls → All (LineOk ok) ls = λ ok pt p ls h is.
+        lines_are (All (LineOk ok)) pt p ls
+        (record { says = λ l e. (subst (PartOk ok) e h, tt); put = λ none a b i k q. (tt, tt); goes = λ none a b n i k q l. (tt, (tt, tt)); packet = λ none a b n l. (tt, tt) }) is in
+      by_parts (λ ps pt v. All (PartOk (ForProcess before)) ps → NoQueues before pt.view → NoQueues before v.point.view) (λ pt ok h. h)
       (λ p ps pt next ls z lines leads rest ok h. rest ok.1 (lines_queues before ls pt next (part_ok (ForProcess before) pt p ls ok.0 lines) leads h)) qs q w is ok h in
     (parts_queues pt.view ps (moved pt (Line.Head d) pt.kernel) rest (outcome_ok b pt d ps h is) said (line_queues pt.view pt.view (Line.Head d) tt first)).none
     )) e
@@ -144,10 +132,9 @@ lists_always b es pt valid way =
 queued_by : (b : Boot) (pt : Point) (p : Pid) (i : MsgId) (z : Spot) (o : Option PlainMessage) (h : Run b pt) → pt.kernel.bag i ≡ o → IsQueued (h.based.phased.state.e i) p o → 1 ≤ standing pt.view i z → IsUserFor pt p i
 queued_by b pt p i z (Some x) h is q least = record { message = x; there = is; user = user_kind x.what (q.is x refl).1; receiver = (q.is x refl).0 }
 queued_by b pt p i z None h is q least =
-    let state = h.based.phased.state in
-    let right : StandsRight {M = PlainMessage} i None (standing pt.view i) = stands_right pt i state None is in
+    let right : StandsRight {M = PlainMessage} i None (standing pt.view i) = stands_right pt i h.based.phased.state None is in
     absurd (elim (cases_Bool (is_kernels i)) [
-      | inl own ↦ (let none = kernels_fresh state.r state.e pt.kernel i state.sound own in let some = q.entered in omega (arith, none, some))
+      | inl own ↦ (let none = kernels_fresh h.based.phased.state.r h.based.phased.state.e pt.kernel i h.based.phased.state.sound own in let some = q.entered in omega (arith, none, some))
       | inr other ↦ nowhere (is_kernels i) other right
     ])
   where

@@ -130,8 +130,7 @@ step_says r e s t l is_ sound =
             | inl a ↦ let f : false ≡ true = sym a.0 ∙ so.1 in cc
             | inr a ↦ a.1
           ] in
-          let on : AllSay (with_process s m.to (Alive y)) = fresh_says r e s m.to x y w.alive waits sound h in
-          request_says (without_message s id) m.to r_ y (lands_sends m.to x m x.status (pieces.Next r_ y) c) from fits (out_says (with_process s m.to (Alive y)) id on));
+          request_says (without_message s id) m.to r_ y (lands_sends m.to x m x.status (pieces.Next r_ y) c) from fits (out_says (with_process s m.to (Alive y)) id (fresh_says r e s m.to x y w.alive waits sound h)));
       done = λ id m x c y is w f g fits h. still_says (without_message s id) m.to y (lands-is m.to x m x.status (pieces.Done c y) g).1 (out_says s id h);
       board = grind (arith, nat_tests, server_says, board_takes_lem, out_says);
       manager = λ id m k is there c took fits h.
@@ -249,25 +248,16 @@ has_piece r e s p x dir owner base own left pending alive status sound fits says
           (search (arith, sound.movers.returns, status_fits, x.status));
     }
 
-moves_by : (p : Pid) (x : PlainProcess) (i : MsgId) (st : PlainStatus) (w : PlainWhat) → x.status ≡ st → status_awaits st i.n w ≡ true → Moves p x (id_of p i.n)
-moves_by p x i st w is h = grind (arith, nat_tests)
-
 requests_move : (r e : MsgId → ℕ) (s : OneKernel) (i : MsgId) (m : PlainMessage) (x : PlainProcess) → s.bag i ≡ Some m → is_of_memory m.what ≡ true → s.processes m.sender ≡ Some (Alive x) → Sound r e s → KernelFits s → Moves m.sender x i
 requests_move r e s i m x there memory alive sound fits =
-    let sender : m.sender ≡ i.from = sound.movers.senders i m there memory in
-    let asked : i.answer ≡ false = sound.movers.requests i m there memory in
-    let lives : s.processes i.from ≡ Some (Alive x) = sym (ap s.processes sender) ∙ alive in
-    let waits : status_awaits x.status i.n m.what ≡ true = sym (ap (λ (o : Option Life). awaits o i.n m.what) lives) ∙ memory_awaits s i m m.what memory (fits.messages i m there) in
-    let name : id_of m.sender i.n ≡ i = λ j. record { from = sender j; n = i.n; answer = sym asked j } in
-    subst (Moves m.sender x) name (moves_by m.sender x i x.status m.what refl waits)
+    let name : id_of m.sender i.n ≡ i = λ j. record { from = (sound.movers.senders i m there memory) j; n = i.n; answer = sym (sound.movers.requests i m there memory) j } in
+    subst (Moves m.sender x) name (let e_ : Moves m.sender x (id_of m.sender i.n) = grind (arith, nat_tests) in e_)
 
 answers_move : (r e : MsgId → ℕ) (s : OneKernel) (i : MsgId) (m : PlainMessage) (x : PlainProcess) → s.bag i ≡ Some m → is_piece m.what ≡ true → s.processes m.to ≡ Some (Alive x) → Sound r e s → KernelFits s → (q : MsgId) × (i ≡ answer_id q) × Moves m.to x q
 answers_move r e s i m x there piece alive sound fits =
     let back = sound.movers.returns i m there piece in
-    let lives : s.processes i.from ≡ Some (Alive x) = sym (ap s.processes back.0) ∙ alive in
-    let waits : status_awaits x.status i.n m.what ≡ true = sym (ap (λ (o : Option Life). awaits o i.n m.what) lives) ∙ piece_awaits s i m m.what piece (fits.messages i m there) in
     let name : i ≡ answer_id (id_of m.to i.n) = λ j. record { from = sym back.0 j; n = i.n; answer = back.1 j } in
-    (id_of m.to i.n, name, moves_by m.to x i x.status m.what refl waits)
+    (id_of m.to i.n, name, (let e_ : Moves m.to x (id_of m.to i.n) = grind (arith, nat_tests) in e_))
 
 -- wherever the rule leads
 pub movers_have_pieces : MoversHavePieces

@@ -1,7 +1,7 @@
 -- What a message of a data move says of the mover's status: the ways in which that stays.
 use Rattle.dm_movelaws.proofs.Names.{◌≡◌, ℕ, ◌+◌, ◌≤◌, true, false, length, take, drop, refl, ap, ◌∙◌, sym, subst, nat_le, nat_lt, arith, ⊤, Option, None, Some, nat_tests, length-take, length-drop, Pid, MsgId, PlainMessage, PlainWhat}
-use Rattle.dm_movelaws.proofs.Names.{Direction, PlainProcess, PlainStatus, Ready, Waiting, Moving, Life, Alive, OneKernel, with_process, with_sent, piece_of, answer_to, without_message, pending_of, counts, is_counted, stayed, came}
-use Rattle.dm_movelaws.proofs.Names.{Sound, not_server, counts_process, not_counted, has_bytes, move_fits, KernelFits, both, set_if, set_at}
+use Rattle.dm_movelaws.proofs.Names.{Direction, PlainProcess, PlainStatus, Ready, Waiting, Moving, Life, Alive, OneKernel, with_process, with_sent, piece_of, answer_to, without_message, pending_of, counts, is_counted, stayed, came, Sound}
+use Rattle.dm_movelaws.proofs.Names.{not_server, counts_process, not_counted, has_bytes, move_fits, KernelFits, both, set_if, set_at}
 use Rattle.dm_rulelaws.proofs.Names.{Lives}
 use Rattle.dm_onekernel.specs.Kernel.{Ended}
 use Rattle.dm_onekernel.specs.Pieces as pieces
@@ -51,8 +51,7 @@ fresh_says r e s p x y is pending sound h =
     (λ i m q there from k. unawaited_says y.status i.n q m.what (λ f.
     let number : Some x.sent ≡ Some i.n = sym pending ∙ f in
     let n : x.sent ≡ i.n = cc in
-    let counted : counts s i ≡ nat_lt i.n x.sent = counts_process s p i from (not_server s p x is sound.made) ∙ ap (is_counted i.n) is in
-    let fresh : counts s i ≡ false = counted ∙ (let z : nat_lt i.n x.sent ≡ false = grind (arith, nat_tests) in z) in
+    let fresh : counts s i ≡ false = (counts_process s p i from (not_server s p x is sound.made) ∙ ap (is_counted i.n) is) ∙ (let z : nat_lt i.n x.sent ≡ false = grind (arith, nat_tests) in z) in
     let none : None ≡ Some m = sym (not_counted r e s i fresh sound.entered) ∙ there in
     cc)) h
 
@@ -70,7 +69,6 @@ pub answer_says : (u : OneKernel) (id : MsgId) (m : PlainMessage) (w : PlainWhat
 answer_says u id m w name says end f h =
     put_says u (answer_to m w)
     (λ q e.
-    let same : Some m.to ≡ Some q = sym end ∙ e in
     let to : m.to ≡ q = cc in
     let k : Says (u.processes id.from) id.n m.to w = grind (arith, nat_tests) in
     subst (λ (j : MsgId). Says (u.processes j.from) j.n q w) (sym name) (subst (λ (v : Pid). Says (u.processes id.from) id.n v w) to k)) h
@@ -95,17 +93,14 @@ asked ps p z Direction.FromArea owner base own left fits q e = λ n. let f : q �
 asked ps p z Direction.IntoArea owner base own left fits q e = λ n.
     let f : q ≡ owner = cc in
     let within : own + piece_of left ≤ (length z.memory) = grind (arith, nat_tests, (both (has_bytes (base + left) (ps owner)) (nat_le (own + left) (length z.memory)) fits).1) in
-    let a = length-take (piece_of left) (drop own z.memory) in
-    let b = length-drop own z.memory in
-    let size : length (take (piece_of left) (drop own z.memory)) ≡ piece_of left = omega (arith, a, b, within) in
+    let size : length (take (piece_of left) (drop own z.memory)) ≡ piece_of left = omega (arith, length-take (piece_of left) (drop own z.memory), length-drop own z.memory, within) in
     (f, (refl, size))
 
 pub request_says : (v : OneKernel) (p : Pid) (m : PlainMessage) (y : PlainProcess) → Requests p m y → m.id.from ≡ p → KernelFits (with_sent (with_process v p (Alive y)) (Some m)) → AllSay (with_process v p (Alive y)) → AllSay (with_sent (with_process v p (Alive y)) (Some m))
 request_says v p m y w from fits h =
     let u = with_process v p (Alive y) in
-    let at : u.processes p ≡ Some (Alive y) = set_at v p (Alive y) in
-    let move : move_fits u.processes y y.status ≡ true = (fits.processes p y at).move in
+    let move : move_fits u.processes y y.status ≡ true = (fits.processes p y (set_at v p (Alive y))).move in
     let first = asked u.processes p w.before w.dir w.owner w.base w.own w.left in
     let k : Asked u.processes m y = subst (λ (z : PlainProcess). Asked u.processes m z) w.process (subst (λ (x : PlainMessage). Asked u.processes x (pieces.requests p w.before w.dir w.owner w.base w.own w.left).process) w.message first) in
     put_says u m
-    (λ q e. subst (λ (j : Pid). Says (u.processes j) m.id.n q m.what) (sym from) (subst (λ (o : Option Life). Says o m.id.n q m.what) (sym at) (k move q e))) h
+    (λ q e. subst (λ (j : Pid). Says (u.processes j) m.id.n q m.what) (sym from) (subst (λ (o : Option Life). Says o m.id.n q m.what) (sym (set_at v p (Alive y))) (k move q e))) h

@@ -1,9 +1,8 @@
 -- Each line of a group leaves a process that moves alone, where it stands.
-use Rattle.dm_movelaws.proofs.Names.{◌≡◌, ◌≢◌, ℕ, ◌+◌, ◌==◌, Bool, true, false, List, [], ◌∷◌, ◌++◌, refl, ap, ◌∙◌, sym, subst, ⊤, Option, Some, false≢true, Pid, pid_of, MsgId, MessageKind, PlainMessage, Boot, Label, Why, first_number}
-use Rattle.dm_movelaws.proofs.Names.{OneKernel, bind, bind-is, Step, Line, Spares, migrates, Part, Spelled, spelled, Moves, knows, IsIn, Point, label_of, kernel_after, moved, after_line, after, group_of, Here}
-use Rattle.dm_movelaws.proofs.Names.{FirstApart, ApartOf, apart_first, turns_apart, net_apart, migrates_apart, arrives_net, resends_net, Rooted, nowhere_known, moves_away, is_fixed, IsAnothersIf, moves_known, by_parts, by_group, is_some}
-use Rattle.dm_movelaws.proofs.Names.{IsValid, start, replay, ended_stays, Phase, is_between, is_restart, kind_comes, first_point, labels, moving_stays_always, is_server, LeadsBy, after_replay, Run, run_always, mark_while, IsSpared}
-use Rattle.dm_movelaws.proofs.Names.{OpenSpares, apart_is, destination_knows, server_leaves, why_ended-is, kind_leaves, nat_tests, arith}
+use Rattle.dm_movelaws.proofs.Names.{◌≡◌, ◌≢◌, ℕ, ◌==◌, Bool, true, false, List, [], ◌∷◌, ◌++◌, refl, ap, ◌∙◌, sym, subst, ⊤, Option, Some, false≢true, Pid, MsgId, MessageKind, PlainMessage, Boot, Label, Why, OneKernel, bind, bind-is, Step}
+use Rattle.dm_movelaws.proofs.Names.{Line, Spares, Part, Spelled, spelled, Moves, knows, IsIn, Point, label_of, kernel_after, moved, after_line, after, group_of, Here, FirstApart, ApartOf, apart_first, Rooted, nowhere_known, moves_away}
+use Rattle.dm_movelaws.proofs.Names.{is_fixed, IsAnothersIf, moves_known, by_parts, by_group, is_some, IsValid, start, replay, ended_stays, Phase, is_between, is_restart, kind_comes, first_point, labels, moving_stays_always, is_server}
+use Rattle.dm_movelaws.proofs.Names.{LeadsBy, after_replay, Run, run_always, mark_while, IsSpared, OpenSpares, apart_is, destination_knows, server_leaves, why_ended-is, kind_leaves, nat_tests, arith, outcome_apart}
 use Rattle.dm_onekernel.specs.Kernel.{Ended}
 pub use Rattle.dm_rule.proofs.Apart.Groups.{kernel_same}
 pub use Rattle.dm_rulelaws.proofs.Goes.Own.{source_knows}
@@ -38,9 +37,8 @@ dropped_for_other b ls earlier later pt before end p id m valid lives same first
     let (mid, line_, rest) = bind-is (after_line before l) (λ (q : Point). after q later) end goes in
     let (t, step_, last) = bind-is (kernel_after before.kernel (label_of l)) (λ (s : OneKernel). Some (moved before l s)) mid line_ in
     let (y, over) = (let e_ : (y : Why) × (before.kernel.processes m.to ≡ Some (Ended y)) = grind (arith, nat_tests, bind-is, why_ended-is) in e_) in
-    let ended : before.kernel.processes p ≡ Some (Ended y) = ap before.kernel.processes (sym to) ∙ over in
     let to_here : replay (start b) (labels (ls ++ earlier)) ≡ Some before.kernel = after_replay (ls ++ earlier) (first_point b) before (after-append ls earlier (first_point b) pt before first comes) in
-    lives y (sym same ∙ ended_stays b (labels (ls ++ earlier)) (labels (l ∷ later)) before.kernel end.kernel p y valid (to_here, after_replay (l ∷ later) before end goes) ended)
+    lives y (sym same ∙ ended_stays b (labels (ls ++ earlier)) (labels (l ∷ later)) before.kernel end.kernel p y valid (to_here, after_replay (l ∷ later) before end goes) (ap before.kernel.processes (sym to) ∙ over))
 
 -- the phase of an open mark
 spared : (b : Boot) (es : List Step) (ls : List Line) (pt : Point) (d : Step) (w : Spelled) (p : Pid) (phase : Phase) → IsValid b → LeadsBy b (first_point b) es ls pt → group_of b pt d ≡ Some w → is_some (mark_while phase) ≡ true → IsIn pt.view p phase → IsSpared pt w p
@@ -74,24 +72,16 @@ alone_append y (x ∷ xs) ys pt h k = (h.0, λ next e. alone_append y xs ys next
 
 parts_alone : (y : Pid) (ps : List Part) (pt : Point) (w : Spelled) → FirstApart pt.kernel y ps → spelled pt ps ≡ Some w → AllAlone y pt w.lines
 parts_alone y qs p w h is = by_parts (λ ps pt v. FirstApart pt.kernel y ps → AllAlone y pt v.lines) (λ pt h. tt) (λ x ps pt next ls z lines leads rest h. (
-    let others : AllAlone y next z.lines = rest (apart_first next.kernel y ps h.1) in
     -- the lines of a part
     let part_alone : AllAlone y pt ls = grind (arith, nat_tests, lines_are, h.0) in
-    alone_append y ls z.lines pt part_alone (λ mid e. let g : next ≡ mid = (let k : Some next ≡ Some mid = sym leads ∙ e in cc) in subst (λ (q : Point). AllAlone y q z.lines) g others)
+    alone_append y ls z.lines pt part_alone (λ mid e. let g : next ≡ mid = (let k : Some next ≡ Some mid = sym leads ∙ e in cc) in subst (λ (q : Point). AllAlone y q z.lines) g (rest (apart_first next.kernel y ps h.1)))
     )) qs p w is h
 
 group_alone : (b : Boot) (pt : Point) (d : Step) (w : Spelled) (y : Pid) → ApartOf pt.kernel y (rule.outcome b pt d) → group_of b pt d ≡ Some w → AllAlone y pt w.lines
 group_alone b pt d w y h = by_group (λ v. AllAlone y pt v.lines) b pt d w (λ ps rest is said. (
     let begun = moved pt (Line.Head d) pt.kernel in
-    let k : AllAlone y begun rest.lines = parts_alone y ps begun rest (subst (ApartOf pt.kernel y) is h) said in
-    (tt, λ next n. let m : begun ≡ next = cc in subst (λ (q : Point). AllAlone y q rest.lines) m k)
+    (tt, λ next n. let m : begun ≡ next = cc in subst (λ (q : Point). AllAlone y q rest.lines) m (parts_alone y ps begun rest (subst (ApartOf pt.kernel y) is h) said))
     ))
-
-outcome_apart : (b : Boot) (pt : Point) (d : Step) (y : Pid) → Rooted pt → ((m : ℕ) → pid_of m (first_number + pt.kernel.made m) ≢ y) → ((m : ℕ) (p : Pid) → pt.view.known m p ≡ Here → p ≢ y) → ApartOf pt.kernel y (rule.outcome b pt d)
-outcome_apart b pt (Step.Turn m) y h child off = turns_apart y b pt m (pt.view.inbox m) (child m) (off m) (h.served m)
-outcome_apart b pt (Step.Tick m) y h child off = (tt, net_apart y (rule.resends pt.view m pt.kernel.machines) (resends_net pt.view m pt.kernel.machines))
-outcome_apart b pt (Step.Deliver a c k) y h child off = search (apart_first, net_apart, arrives_net)
-outcome_apart b pt (Step.Migrate p m) y h child off = apart_first pt.kernel y (migrates pt p) (migrates_apart y pt p)
 
 pub moving_off : (pt : Point) (y : Pid) (k : MessageKind) (s t : ℕ) (o : Option MsgId) → IsIn pt.view y (Moves k s t o) → (m : ℕ) (p : Pid) → pt.view.known m p ≡ Here → p ≢ y
 moving_off pt y k s t o phase m p here is = false≢true (sym (moves_away k s t m o (s == m) (t == m) refl refl) ∙ sym (ap (knows (Moves k s t o) m) (ap (pt.view.known m) (sym is) ∙ here)) ∙ phase.known m)

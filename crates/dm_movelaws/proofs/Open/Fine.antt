@@ -1,14 +1,14 @@
 -- While a process moves, no line answers a request that it follows: only the line by which it comes here is followed by that.
-use Rattle.dm_movelaws.proofs.Names.{◌≡◌, ◌≢◌, ℕ, Bool, true, false, List, [], ◌∷◌, ◌++◌, refl, ap, ◌∙◌, sym, subst, ⊤, is_some, if◌then◌else◌, Option, None, Some, false≢true, Pid, pid_eq, pid_eq-same, MsgId, MessageKind, Boot, manager}
-use Rattle.dm_movelaws.proofs.Names.{Label, OneKernel, PlainMessage, MoveNote, bind-is, Step, Line, Stage, Point, label_of, kernel_after, after_line, after, moved, Part, Says, Routes, Again, Owns, Transmits, Spelled, lines_of, puts}
-use Rattle.dm_movelaws.proofs.Names.{spelled, group_of, Told, Here, Sane, sends_on, to_kernel, gives_piece, forwards_on, updates, migrates, left_parts, Mark, Reached, Staying, with_mark, mark_for, marks, left_open, IsNet, IsNetLine, by_net}
-use Rattle.dm_movelaws.proofs.Names.{by_hears, by_forwards, by_migrates, by_outcome, by_parts, by_group, begun, said_by, Outcome, answers_move, leaves_for, asked_noted, arith}
+use Rattle.dm_movelaws.proofs.Names.{◌≡◌, ◌≢◌, ℕ, Bool, true, false, List, [], ◌∷◌, ◌++◌, refl, ap, ◌∙◌, sym, subst, ⊤, is_some, if◌then◌else◌, Option, None, Some, false≢true, Pid, pid_eq, pid_eq-same, MsgId, MessageKind, Boot, Label}
+use Rattle.dm_movelaws.proofs.Names.{OneKernel, PlainMessage, MoveNote, bind-is, Step, Line, Point, label_of, kernel_after, after_line, after, moved, Part, Says, Routes, Again, Owns, Transmits, Spelled, lines_of, puts, spelled, group_of}
+use Rattle.dm_movelaws.proofs.Names.{Told, Here, Sane, sends_on, migrates, Mark, Reached, Staying, with_mark, mark_for, marks, left_open, IsNet, IsNetLine, by_net, by_hears, by_forwards, by_migrates, by_outcome, by_parts, by_group, begun}
+use Rattle.dm_movelaws.proofs.Names.{said_by, Outcome, answers_move, leaves_for, asked_noted, arith, nat_tests}
 use Rattle.dm_onekernel.specs.Pieces as pieces
 use Rattle.dm_rule.specs.Rule as rule
-use Rattle.dm_movelaws.proofs.Leading.{AllLines, parts_say, next_of}
+use Rattle.dm_movelaws.proofs.Leading.{parts_say, next_of, All, Saying}
 use Rattle.dm_movelaws.proofs.Asked.Following.{marks_note, IsUnmarked, AllUnmarked, Row, Plain, Ends, IsHere, Leaves, outcome_row, end_label}
 use Rattle.dm_movelaws.proofs.Stages.Spares.{open_after, open-append, marks-append}
-use Rattle.dm_movelaws.proofs.Stages.Rows.{AllMild, line_marks}
+use Rattle.dm_movelaws.proofs.Stages.Rows.{line_marks, Mild}
 use Rattle.dm_movelaws.proofs.Stages.Steps.{round_mild, handles_mild, Handled, Spared, SetsOff}
 
 -- a request is answered that the process doesn't follow
@@ -27,11 +27,9 @@ Fine p pt o (l ∷ ls) = (is_some o ≡ true → AnswersIf pt.kernel p (label_of
 
 -- lines by which no request is asked or answered
 loose_if : (s : OneKernel) (p : Pid) (o : Option Label) → marks_note o ≡ false → AnswersIf s p o
-loose_if s p (Some (Label.Answered id r)) h = absurd (false≢true (sym h))
-loose_if s p (Some _) h = tt
-loose_if s p None h = tt
+loose_if s p o h1 = grind (arith, nat_tests)
 
-fine_loose : (p : Pid) (ls : List Line) (pt : Point) (o : Option Mark) → AllLines IsUnmarked ls → Fine p pt o ls
+fine_loose : (p : Pid) (ls : List Line) (pt : Point) (o : Option Mark) → All IsUnmarked ls → Fine p pt o ls
 fine_loose p [] pt o h = tt
 fine_loose p (l ∷ ls) pt o h = (λ e. loose_if pt.kernel p (label_of l) h.0, λ next f. fine_loose p ls next (open_after o (with_mark p l [])) h.1)
 
@@ -58,15 +56,7 @@ comes_fine p q pt o l m n r none mark shut noted =
     answers_fine p (moved pt l s) (open_after o (with_mark p l [])) n.id r (λ open_ mine.
     let same : pt.kernel ≡ s = (let f : Some pt.kernel ≡ Some s = sym (ap (kernel_after pt.kernel) none) ∙ step in cc) in
     let pq : q ≡ p = (let f : Some q ≡ Some p = sym noted ∙ ap (λ (u : OneKernel). u.noted n.id) same ∙ mine in cc) in
-    let is : pid_eq p q ≡ true = ap (pid_eq p) pq ∙ pid_eq-same p in
-    false≢true (sym (ap is_some (ap (open_after o) mark ∙ (ap (λ (c : Bool). open_after o (if c then m ∷ [] else [])) is ∙ shut))) ∙ open_)))
-
--- a process is asked to move that is here already
-moved_fine : (p : Pid) (pt : Point) (o : Option Mark) (i : MsgId) (m : PlainMessage) → pt.kernel.bag i ≡ Some m → m.to ≢ p → FineBy p pt o (rule.says (Label.Asked i) ∷ answers_move i Outcome.Done)
-moved_fine p pt o i m there other =
-    let l = Line.Label (Label.Asked i) in
-    says_fine p pt o l (answers_move i Outcome.Done) (λ e. tt) (λ s step.
-    answers_fine p (moved pt l s) (open_after o []) i Outcome.Done (λ open_ mine. other (let f : Some m.to ≡ Some p = sym (asked_noted pt.kernel s i m step there) ∙ mine in cc)))
+    false≢true (sym (ap is_some (ap (open_after o) mark ∙ (ap (λ (c : Bool). open_after o (if c then m ∷ [] else [])) (ap (pid_eq p) pq ∙ pid_eq-same p) ∙ shut))) ∙ open_)))
 
 -- by what the group says of requests
 head_known : (o : Point) (d : Step) (m : ℕ) (q : Pid) → (begun o d).view.known m q ≡ o.view.known m q
@@ -76,19 +66,21 @@ head_known o _ m q = refl
 row_fine : (p : Pid) (k : Option Mark) (o : Point) (d : Step) (ps : List Part) → Sane o → ((m : ℕ) (q : Pid) → o.view.known m q ≡ Here → q ≢ p) → Row o d ps → FineBy p (begun o d) k ps
 row_fine p k o d ps sane off (Plain so) = loose_fine p (begun o d) k ps so
 row_fine p k o d ps sane off (Ends q n l Outcome.Done noted end are) =
-    let none = end_label q Outcome.Done l end in
-    subst (FineBy p (begun o d) k) (sym are) (comes_fine p q (begun o d) k l (Reached 8) n Outcome.Done none (ap (λ (x : Line). with_mark p x []) end) refl (sane.sound.notes.noted q n noted))
+    subst (FineBy p (begun o d) k) (sym are) (comes_fine p q (begun o d) k l (Reached 8) n Outcome.Done (end_label q Outcome.Done l end) (ap (λ (x : Line). with_mark p x []) end) refl (sane.sound.notes.noted q n noted))
 row_fine p k o d ps sane off (Ends q n l Outcome.Stayed noted end are) =
-    let none = end_label q Outcome.Stayed l end in
-    subst (FineBy p (begun o d) k) (sym are) (comes_fine p q (begun o d) k l Staying n Outcome.Stayed none (ap (λ (x : Line). with_mark p x []) end) refl (sane.sound.notes.noted q n noted))
+    subst (FineBy p (begun o d) k) (sym are) (comes_fine p q (begun o d) k l Staying n Outcome.Stayed (end_label q Outcome.Stayed l end) (ap (λ (x : Line). with_mark p x []) end) refl (sane.sound.notes.noted q n noted))
 row_fine p k o d ps sane off (Ends q n l Outcome.Ended noted end are) = absurd end
 row_fine p k o d ps sane off (IsHere id msg there here are) =
+    -- a process is asked to move that is here already
+    let moved_fine : (p : Pid) (pt : Point) (o : Option Mark) (i : MsgId) (m : PlainMessage) → pt.kernel.bag i ≡ Some m → m.to ≢ p → FineBy p pt o (rule.says (Label.Asked i) ∷ answers_move i Outcome.Done) = λ p pt o i m there other.
+      let l = Line.Label (Label.Asked i) in
+      says_fine p pt o l (answers_move i Outcome.Done) (λ e. tt) (λ s step.
+      answers_fine p (moved pt l s) (open_after o []) i Outcome.Done (λ open_ mine. other (let f : Some m.to ≡ Some p = sym (asked_noted pt.kernel s i m step there) ∙ mine in cc))) in
     let m = (begun o d).view.acting in
     subst (FineBy p (begun o d) k) (sym are) (moved_fine p (begun o d) k id msg there (off m msg.to (sym (head_known o d m msg.to) ∙ here)))
 row_fine p k o d ps sane off (Leaves id msg to unasked there here what are) =
     let l = Line.Label (Label.Asked id) in
-    let ls = leaves_for msg.to to in
-    subst (FineBy p (begun o d) k) (sym are) (says_fine p (begun o d) k l ls (λ e. tt) (λ s step. loose_fine p (moved (begun o d) l s) (open_after k []) ls (refl, (refl, (tt, tt)))))
+    subst (FineBy p (begun o d) k) (sym are) (says_fine p (begun o d) k l (leaves_for msg.to to) (λ e. tt) (λ s step. loose_fine p (moved (begun o d) l s) (open_after k []) (leaves_for msg.to to) (refl, (refl, (tt, tt)))))
 
 pub group_fine : (p : Pid) (k : Option Mark) (b : Boot) (pt : Point) (d : Step) (w : Spelled) → Sane pt → ((m : ℕ) (q : Pid) → pt.view.known m q ≡ Here → q ≢ p) → group_of b pt d ≡ Some w → Fine p pt k w.lines
 group_fine p k b pt d w sane off = by_group (λ v. Fine p pt k v.lines) b pt d w (λ ps rest is said. (
@@ -117,8 +109,7 @@ mark_behind p o (Says l) = open_after o (with_mark p l [])
 mark_behind p o _ = o
 
 abbrev ShutPart : Option Mark → Part → Type 0
-ShutPart o (Says l) = is_some o ≡ true → label_of l ≡ None
-ShutPart o _ = ⊤
+ShutPart o = Saying (λ l. is_some o ≡ true → label_of l ≡ None)
 
 abbrev ShutParts : Pid → Option Mark → List Part → Type 0
 ShutParts p o [] = ⊤
@@ -126,14 +117,9 @@ ShutParts p o (q ∷ ps) = ShutPart o q × ShutParts p (mark_behind p o q) ps
 
 -- parts with no label
 abbrev QuietPart : Part → Type 0
-QuietPart (Says l) = label_of l ≡ None
-QuietPart _ = ⊤
+QuietPart = Saying (λ l. label_of l ≡ None)
 
-abbrev QuietParts : List Part → Type 0
-QuietParts [] = ⊤
-QuietParts (p ∷ ps) = QuietPart p × QuietParts ps
-
-quiet_shut : (p : Pid) (o : Option Mark) (ps : List Part) → QuietParts ps → ShutParts p o ps
+quiet_shut : (p : Pid) (o : Option Mark) (ps : List Part) → All QuietPart ps → ShutParts p o ps
 quiet_shut p o [] h = tt
 quiet_shut p o (Says l ∷ ps) h = (λ e. h.0, quiet_shut p (open_after o (with_mark p l [])) ps h.1)
 quiet_shut p o (Routes i ∷ ps) h = (tt, quiet_shut p o ps h.1)
@@ -141,55 +127,21 @@ quiet_shut p o (Again i b ∷ ps) h = (tt, quiet_shut p o ps h.1)
 quiet_shut p o (Owns k q b ∷ ps) h = (tt, quiet_shut p o ps h.1)
 quiet_shut p o (Transmits a b l ∷ ps) h = (tt, quiet_shut p o ps h.1)
 
--- parts that mark no process
-abbrev no_mark : Option Mark
-no_mark = None
-
-pub none_open : (l : Line) → is_some no_mark ≡ true → label_of l ≡ None
-none_open l e = absurd (false≢true e)
-
-mild_shut : (p : Pid) (front : Option MsgId) (ps : List Part) → AllMild p front ps → ShutParts p None ps
+mild_shut : (p : Pid) (front : Option MsgId) (ps : List Part) → All (Mild p front) ps → ShutParts p None ps
 mild_shut p front [] h = tt
-mild_shut p front (Says l ∷ ps) h = (none_open l, subst (λ (ms : List Mark). ShutParts p (open_after None ms) ps) (sym (line_marks p front l [] h.0)) (mild_shut p front ps h.1))
+mild_shut p front (Says l ∷ ps) h = ((λ e. absurd (false≢true e)), subst (λ (ms : List Mark). ShutParts p (open_after None ms) ps) (sym (line_marks p front l [] h.0)) (mild_shut p front ps h.1))
 mild_shut p front (Routes i ∷ ps) h = (tt, mild_shut p front ps h.1)
 mild_shut p front (Again i b ∷ ps) h = (tt, mild_shut p front ps h.1)
 mild_shut p front (Owns k q b ∷ ps) h = (tt, mild_shut p front ps h.1)
 mild_shut p front (Transmits a b l ∷ ps) h = (tt, mild_shut p front ps h.1)
 
-sends_quiet : (to : ℕ) (ids : List MsgId) (ps : List Part) → QuietParts ps → QuietParts (sends_on to ids ++ ps)
+sends_quiet : (to : ℕ) (ids : List MsgId) (ps : List Part) → All QuietPart ps → All QuietPart (sends_on to ids ++ ps)
 sends_quiet to [] ps h = h
 sends_quiet to (i ∷ is) ps h = (tt, sends_quiet to is ps h)
 
 -- a line that ends a migration, and its answer
 hears_shut : (p : Pid) (b : Boot) (o : Point) (m : ℕ) (i : MsgId) (q : Option Told) (ps : List Part) → rule.hears b o m i q ≡ Some ps → ShutParts p None ps
-hears_shut p b o m i q ps =
-    let quiet : (qs : List Part) → QuietParts qs → ShutParts p None qs = λ qs h. quiet_shut p None qs h in
-    let forwards : (k : MessageKind) (to : ℕ) → ShutParts p None (forwards_on o.addresses i k manager to) = λ k to. quiet (forwards_on o.addresses i k manager to) (by_forwards QuietParts o.addresses i k manager to (refl, (tt, tt)) (refl, (tt, (tt, tt)))) in
-    by_hears (ShutParts p None) b o m i q ps (λ t there. record {
-      told = λ r x about alive. record {
-        accepted = λ ask. quiet (Says (Line.Migration Stage.Accepted r) ∷ to_kernel MessageKind.PullState i.from.home ∷ []) (refl, (tt, tt));
-        lacks = λ slots blocks. quiet (Says (Line.Lacks r slots blocks) ∷ to_kernel MessageKind.Refuse i.from.home ∷ []) (refl, (tt, tt));
-        stays = λ kind free. quiet (Says (Line.Stays r) ∷ []) (refl, tt);
-        stays_asked = λ kind n noted. (none_open (Line.Stays r), (λ e. absurd (false≢true (sym (ap is_some (let e_ : open_after None (mark_for p r Staying []) ≡ None = search arith in e_)) ∙ e)), (tt, tt)));
-        state = quiet (gives_piece i MessageKind.State) (refl, (tt, tt));
-        next_chunk = quiet (Says (Line.Proto i) ∷ to_kernel MessageKind.PullState i.from.home ∷ []) (refl, (tt, tt));
-        last_chunk = quiet (Says (Line.Migration Stage.StateTaken r) ∷ to_kernel MessageKind.PullBlock i.from.home ∷ []) (refl, (tt, tt));
-        memory = quiet (gives_piece i MessageKind.Memory) (refl, (tt, tt));
-        next_block = quiet (Says (Line.Proto i) ∷ to_kernel MessageKind.PullBlock i.from.home ∷ []) (refl, (tt, tt));
-        last_block = quiet (Says (Line.Migration Stage.MemoryTaken r) ∷ to_kernel MessageKind.AllTaken i.from.home ∷ []) (refl, (tt, tt));
-        left = λ ids to leaves. quiet (left_parts i r ids to) (refl, sends_quiet to ids (Says (Line.Migration Stage.Left r) ∷ to_kernel MessageKind.Restart i.from.home ∷ []) (refl, (tt, tt)));
-        restarted = λ kind free. quiet (Says (Line.Migration Stage.Restarted r) ∷ []) (refl, tt);
-        restarted_asked = λ kind n noted. (none_open (Line.Migration Stage.Restarted r), (λ e. absurd (false≢true (sym (ap is_some (let e_ : open_after None (mark_for p r (Reached 8) []) ≡ None = search arith in e_)) ∙ e)), (tt, tt)));
-      };
-      updated = λ kind. quiet (updates o i t) (refl, tt);
-      updated_none = λ kind at_. quiet (Says (Line.Updated i 0) ∷ []) (refl, tt);
-      no_move = λ at_. quiet (Says (Line.NoMove i) ∷ []) (refl, tt);
-      leaving = λ to at_. quiet (Says (Line.Held i) ∷ []) (refl, tt);
-      coming = λ from at_. quiet (Says (Line.Held i) ∷ []) (refl, tt);
-      forwarded = λ to moves at_. forwards t.kind to;
-      stays_here = λ at_. quiet (Says (Line.Here i) ∷ []) (refl, tt);
-      frozen = λ to at_. quiet (leaves_for t.receiver to) (refl, (refl, (tt, tt)));
-    })
+hears_shut p b o m i q ps h1 = grind (arith, nat_tests, quiet_shut, by_forwards, by_hears, sends_quiet)
 
 net_shut : (p : Pid) (o : Option Mark) (ps : List Part) → IsNet ps → ShutParts p o ps
 net_shut p o ps h = quiet_shut p o ps (nets_quiet ps h)
@@ -203,12 +155,12 @@ net_shut p o ps h = quiet_shut p o ps (nets_quiet ps h)
     net_quiet Line.Nothing h = refl
     net_quiet _ h = absurd h
 
-    nets_quiet : (ps : List Part) → IsNet ps → QuietParts ps
-    nets_quiet = by_net QuietParts tt (λ l ps net h. (net_quiet l net, h)) (λ a b l ps h. (tt, h))
+    nets_quiet : (ps : List Part) → IsNet ps → All QuietPart ps
+    nets_quiet = by_net (All QuietPart) tt (λ l ps net h. (net_quiet l net, h)) (λ a b l ps h. (tt, h))
 
 handled_shut : (p : Pid) (o : Point) (m : ℕ) (i : MsgId) (msg : PlainMessage) (ps : List Part) → Handled o m i msg ps → ShutParts p None ps
 handled_shut p o m i msg ps (Spared mild) = mild_shut p (Some i) ps (mild p)
-handled_shut p o m i msg ps (SetsOff to here what are) = subst (ShutParts p None) (sym are) (none_open (Line.Label (Label.Asked i)), quiet_shut p None (leaves_for msg.to to) (refl, (refl, (tt, tt))))
+handled_shut p o m i msg ps (SetsOff to here what are) = subst (ShutParts p None) (sym are) ((λ e. absurd (false≢true e)), quiet_shut p None (leaves_for msg.to to) (refl, (refl, (tt, tt))))
 
 pub outcome_shut : (p : Pid) (b : Boot) (o : Point) (d : Step) (ps : List Part) → rule.outcome b o d ≡ Some ps → ShutParts p None ps
 outcome_shut p b o d ps = by_outcome (λ x. ShutParts p None) b o d ps (record {
@@ -217,15 +169,14 @@ outcome_shut p b o d ps = by_outcome (λ x. ShutParts p None) b o d ps (record {
   hears = λ m i is xs box none e. hears_shut p b o m i (o.view.told i) xs e;
   ticks = λ m xs net. net_shut p None xs net;
   delivers = λ a c k xs net. net_shut p None xs net;
-  asks = λ q m. quiet_shut p None (migrates o q) (by_migrates QuietParts o q (refl, tt) (refl, tt) (λ n off is. (tt, tt)));
+  asks = λ q m. quiet_shut p None (migrates o q) (by_migrates (All QuietPart) o q (refl, tt) (refl, tt) (λ n off is. (tt, tt)));
 })
 
 -- the lines of parts
 shut_append : (p : Pid) (o : Option Mark) (xs ys : List Line) → Shut p o xs → Shut p (open_after o (marks p xs)) ys → Shut p o (xs ++ ys)
 shut_append p o [] ys h k = k
 shut_append p o (x ∷ xs) ys h k =
-    let e : open_after o (marks p (x ∷ xs)) ≡ open_after (open_after o (with_mark p x [])) (marks p xs) = ap (open_after o) (marks-append p (x ∷ []) xs) ∙ open-append o (with_mark p x []) (marks p xs) in
-    (h.0, shut_append p (open_after o (with_mark p x [])) xs ys h.1 (subst (λ (z : Option Mark). Shut p z ys) e k))
+    (h.0, shut_append p (open_after o (with_mark p x [])) xs ys h.1 (subst (λ (z : Option Mark). Shut p z ys) (ap (open_after o) (marks-append p (x ∷ []) xs) ∙ open-append o (with_mark p x []) (marks p xs)) k))
 
 -- lines of a part that is no line: puts and packets, which mark nothing and are no steps
 record Silent (p : Pid) (ls : List Line) : Type 0 where

@@ -1,6 +1,6 @@
 -- The open mark among the lines of a run says in what phase a process is.
-use Rattle.dm_movelaws.proofs.Names.{◌≡◌, List, [], ◌∷◌, refl, ap, ◌∙◌, subst, Option, None, Some, Pid, Boot, Step, Line, Leads, Phase, Point, first_point, after, first_view, Phased, phased_start, phased_group, LeadsBy, Mark, marks}
-use Rattle.dm_movelaws.proofs.Names.{left_open, open_mark, mark_while, OpenMoves, nat_tests, arith}
+use Rattle.dm_movelaws.proofs.Names.{◌≡◌, List, [], ◌∷◌, refl, ap, ◌∙◌, subst, Option, Some, Pid, Boot, Step, Line, Leads, Phase, Point, first_point, after, Phased, phased_start, phased_group, LeadsBy, Mark, marks, left_open, open_mark}
+use Rattle.dm_movelaws.proofs.Names.{mark_while, OpenMoves, nat_tests, arith}
 use Rattle.dm_movelaws.proofs.After.{after-append, group_after}
 use Rattle.dm_movelaws.proofs.Stages.Spares.{mark_in, open_after, open-append, marks-append}
 use Rattle.dm_movelaws.proofs.Stages.Always.{group_marked}
@@ -13,8 +13,7 @@ leads_of b (d ∷ ds) ls pt end (w, rest, fit, is, split, more) = (w, fit, is, l
 
 pub run_after : (b : Boot) (es : List Step) (ls : List Line) (pt end : Point) → LeadsBy b pt es ls end → after pt ls ≡ Some end
 run_after b [] ls pt end (none, at) = ap (after pt) none ∙ ap Some at
-run_after b (d ∷ ds) ls pt end (w, rest, fit, is, split, more) =
-    ap (after pt) split ∙ after-append w.lines rest pt w.point end (group_after b pt d w is) (run_after b ds rest w.point end more)
+run_after b (d ∷ ds) ls pt end (w, rest, fit, is, split, more) = ap (after pt) split ∙ after-append w.lines rest pt w.point end (group_after b pt d w is) (run_after b ds rest w.point end more)
 
 -- the words of specs/ and those of proofs/ are the same
 pub open_is : (o : Option Mark) (ms : List Mark) → open_mark o ms ≡ open_after o ms
@@ -48,7 +47,5 @@ run_open b (d ∷ ds) ls pt end p (w, rest, fit, is, split, more) h =
 pub open_moves : OpenMoves
 open_moves b es ls pt p valid leads =
     let mark_is : (phase : Phase) → mark_in phase ≡ mark_while phase = λ phase. grind (arith, nat_tests) in
-    let h = phased_start b valid in
-    let none : mark_in (h.phases.of p) ≡ None = grind (arith, nat_tests, (h.phases.each p), (none_due (first_view b) h.phases p)) in
-    let o = run_open b es ls (first_point b) pt p leads h in
+    let o = run_open b es ls (first_point b) pt p leads (phased_start b valid) in
     search (arith, o.phased.phases.of, o.phased.phases.each, none_due, pt.view, o.phased.phases, open_is, o.is, mark_is)

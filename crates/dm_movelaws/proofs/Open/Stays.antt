@@ -1,5 +1,5 @@
 -- Each line between a process's step 1 and its step 8 or `stays` is another's, and leaves its plain value.
-use Rattle.dm_movelaws.proofs.Names.{◌≡◌, ℕ, true, false, List, [], ◌∷◌, ◌++◌, is_some, refl, ap, ◌∙◌, sym, subst, Option, None, Some, Pid, MsgId, MessageKind, Boot, IsValid, OneKernel, bind, bind-is, Step, Line, Spelled, Moves}
+use Rattle.dm_movelaws.proofs.Names.{◌≡◌, ℕ, true, false, List, [], ◌∷◌, ◌++◌, is_some, refl, ap, ◌∙◌, sym, subst, Option, None, Some, Pid, MsgId, MessageKind, Boot, IsValid, OneKernel, bind, bind-is, Step, Line, Spelled, Moves, false≢true}
 use Rattle.dm_movelaws.proofs.Names.{IsIn, Point, label_of, kernel_after, moved, after_line, after, first_point, group_of, first_view, rooted, is_fixed, LeadsBy, Both, both_start, both_group, after_replay, Run, run_start, run_group}
 use Rattle.dm_movelaws.proofs.Names.{IsAnothersIf, OpenStays, Mark, marks, append_assoc, start, replay, labels, labels-append, replay-append, AllOpen, OpenKeeps, nat_tests, arith, Known, KnownIs, View, kind_leaves, by_group}
 use Rattle.dm_movelaws.proofs.After.{after-append, group_after}
@@ -7,7 +7,7 @@ use Rattle.dm_movelaws.proofs.Open.Apart.{AllAlone, moving_off, moving_alone, ke
 use Rattle.dm_movelaws.proofs.Open.Moves.{open_is, none_due}
 use Rattle.dm_movelaws.proofs.Stages.Always.{group_marked}
 use Rattle.dm_movelaws.proofs.Stages.Spares.{mark_in, open_after, open-append, marks-append}
-use Rattle.dm_movelaws.proofs.Open.Fine.{Fine, group_fine, fine_at, Shut, shut_at, none_open, parts_shut, outcome_shut}
+use Rattle.dm_movelaws.proofs.Open.Fine.{Fine, group_fine, fine_at, Shut, shut_at, parts_shut, outcome_shut}
 
 -- a line behind others, from some point on
 record At (pt : Point) (earlier : List Line) (l : Line) (p : Pid) : Type 0 where
@@ -42,8 +42,7 @@ moving_at b pt d w p k s t id earlier g l run phase e split begun =
     let leaves_free : (n : ℕ) (v : View) (m : ℕ) (p : Pid) (k : MessageKind) (d : ℕ) (x : Known) → kind_leaves k d x ≡ true → KnownIs n v m p x → is_fixed p ≡ false = λ n v m p k d x e h. grind (arith, nat_tests) in
     let m = meets earlier g l pt w.point (ap (after pt) (sym split) ∙ group_after b pt d w e) in
     let phased = run.based.phased in
-    let alone = moving_alone b pt d w p k s t id (rooted pt phased.sane phased.ground) phase e in
-    let rest = alone_rest p earlier (l ∷ g) pt m.mid (subst (AllAlone p pt) split alone) m.comes in
+    let rest = alone_rest p earlier (l ∷ g) pt m.mid (subst (AllAlone p pt) split (moving_alone b pt d w p k s t id (rooted pt phased.sane phased.ground) phase e)) m.comes in
     let fine = fine_at p (mark_in (Moves k s t id)) earlier g l pt m.mid (subst (Fine p pt (mark_in (Moves k s t id))) split (group_fine p (mark_in (Moves k s t id)) b pt d w phased.sane (moving_off pt p k s t id phase) e)) m.comes begun in
     let free = leaves_free pt.kernel.machines pt.view s p k t (pt.view.known s p) (source_knows k s t id (pt.view.known s p) (phase.known s)) (run.kept.line.known s p) in
     record {
@@ -59,7 +58,7 @@ resting_at : (b : Boot) (pt : Point) (d : Step) (w : Spelled) (p : Pid) (earlier
 resting_at b pt d w p earlier g l e split begun =
     let m = meets earlier g l pt w.point (ap (after pt) (sym split) ∙ group_after b pt d w e) in
     let group_shut : (p : Pid) (b : Boot) (pt : Point) (d : Step) (w : Spelled) → group_of b pt d ≡ Some w → Shut p None w.lines =
-      λ p b pt d w. by_group (λ v. Shut p None v.lines) b pt d w (λ ps rest is said. (none_open (Line.Head d), parts_shut p ps (moved pt (Line.Head d) pt.kernel) rest (outcome_shut p b pt d ps is) said)) in
+      λ p b pt d w. by_group (λ v. Shut p None v.lines) b pt d w (λ ps rest is said. ((λ e. absurd (false≢true e)), parts_shut p ps (moved pt (Line.Head d) pt.kernel) rest (outcome_shut p b pt d ps is) said)) in
     let none = shut_at p None earlier g l (subst (Shut p None) split (group_shut p b pt d w e)) begun in
     search (arith, m.mid, m.comes, m.next, m.goes, m.mid.kernel)
 
@@ -90,10 +89,9 @@ by_lies : (b : Boot) (ds : List Step) (pt end : Point) (d : Step) (w : Spelled) 
 by_lies b ds pt end d w rest earlier later l p h k e begun go (First g split) = search (arith, moving_at, resting_at)
 by_lies b ds pt end d w rest earlier later l p h k e begun go (Later between are others) =
     let a = h.run.based.phased in
-    let c = k.run.based.phased in
     let o = mark_in (a.phases.of p) in
-    let g = group_marked b pt d w e a p (a.phases.of p) (c.phases.of p) (a.phases.each p) (c.phases.each p) (none_due pt.view a.phases p) (none_due w.point.view c.phases p) in
-    let same : open_after o (marks p earlier) ≡ open_after (mark_in (c.phases.of p)) (marks p between) =
+    let g = group_marked b pt d w e a p (a.phases.of p) (k.run.based.phased.phases.of p) (a.phases.each p) (k.run.based.phased.phases.each p) (none_due pt.view a.phases p) (none_due w.point.view k.run.based.phased.phases p) in
+    let same : open_after o (marks p earlier) ≡ open_after (mark_in (k.run.based.phased.phases.of p)) (marks p between) =
     ap (λ (xs : List Line). open_after o (marks p xs)) are ∙ ap (open_after o) (marks-append p w.lines between) ∙ open-append o (marks p w.lines) (marks p between) ∙ ap (λ (x : Option Mark). open_after x (marks p between)) g.1 in
     let at = go between others (ap is_some (sym same) ∙ begun) in
     record {
@@ -115,8 +113,7 @@ run_at b (d ∷ ds) ls earlier later l pt end p valid (w, rest, fit, is, are, mo
 pub open_stays : OpenStays
 open_stays b es ls earlier later l pt p valid leads split begun =
     let h = both_start run_start b valid in
-    let phases = h.run.based.phased.phases in
-    let none : mark_in (phases.of p) ≡ None = grind (arith, nat_tests, (phases.each p), (none_due (first_view b) phases p)) in
+    let none : mark_in (h.run.based.phased.phases.of p) ≡ None = grind (arith, nat_tests, (h.run.based.phased.phases.each p), (none_due (first_view b) h.run.based.phased.phases p)) in
     let at = run_at b es ls earlier later l (first_point b) pt p valid leads h split (ap (λ (o : Option Mark). is_some (open_after o (marks p earlier))) none ∙ ap is_some (sym (open_is None (marks p earlier))) ∙ begun) in
     record { before = at.mid.kernel; comes = after_replay earlier (first_point b) at.mid at.comes; behind = at.next; goes = at.goes; anothers = at.anothers; same = at.same }
 
@@ -126,13 +123,11 @@ keeps b es ls earlier [] later pt p s t valid leads split on e f = let g : t ≡
 keeps b es ls earlier (l ∷ between) later pt p s t valid leads split on e f =
     let a = open_stays b es ls earlier (between ++ later) l pt p valid leads split on.0 in
     let at : a.before ≡ s = (let k : Some a.before ≡ Some s = sym a.comes ∙ e in cc) in
-    let goes : kernel_after s (label_of l) ≡ Some a.behind = ap (λ (k : OneKernel). kernel_after k (label_of l)) (sym at) ∙ a.goes in
     let here : replay (start b) (labels (earlier ++ l ∷ [])) ≡ Some a.behind =
     ap (replay (start b)) (labels-append earlier (l ∷ [])) ∙ replay-append (labels earlier) (labels (l ∷ [])) (start b) s a.behind e (grind (arith, nat_tests)) in
-    let more : ls ≡ (earlier ++ l ∷ []) ++ (between ++ later) = split ∙ sym (append_assoc earlier (l ∷ []) (between ++ later)) in
     -- one line
     let rest_of : replay a.behind (labels between) ≡ Some t = grind (arith, nat_tests, bind-is) in
-    keeps b es ls (earlier ++ l ∷ []) between later pt p a.behind t valid leads more on.1 here rest_of ∙ a.same ∙ ap (λ (k : OneKernel). k.processes p) at
+    keeps b es ls (earlier ++ l ∷ []) between later pt p a.behind t valid leads (split ∙ sym (append_assoc earlier (l ∷ []) (between ++ later))) on.1 here rest_of ∙ a.same ∙ ap (λ (k : OneKernel). k.processes p) at
 
 -- wherever the rule leads
 pub open_keeps : OpenKeeps

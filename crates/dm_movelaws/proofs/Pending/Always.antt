@@ -1,9 +1,9 @@
 -- Each step of a process or of its kernel keeps one message under each pending request's number.
 use Rattle.dm_movelaws.proofs.Names.{◌≡◌, ◌⊎◌, ℕ, ◌+◌, ◌<◌, ◌≤◌, ◌==◌, Bool, true, false, List, [], ◌∷◌, ◌++◌, length, is_some, refl, ap, ◌∙◌, subst, inl, inr, arith, if◌then◌else◌, Option, None, Some, cases_Bool, false≢true, nat_tests}
 use Rattle.dm_movelaws.proofs.Names.{Pid, PlainLink, MsgId, id_of, plain_kind, PlainMessage, PlainWhat, manager, Label, Manager, Pending, OneKernel, with_sent, without_message, replay, entry, reception, after_step, ServerSends}
-use Rattle.dm_movelaws.proofs.Names.{manager_takes_lem, Sound, bind-is, ascends, View, still_pending, WhatFits, KernelFits, based_always, fits_step, group_replay, is_pending, HasOne, IsOfPending, PendingHasOne}
-use Rattle.dm_movelaws.proofs.Names.{PendingAscends, requests, Outcome, answer_id, sym, PendingKind, IsPending, asked_by, answered_by, sort_of, take, drop, pid_eq, bind, PlainProcess, Alive, answer_to, lands-is, not_server}
-use Rattle.dm_movelaws.proofs.Names.{by_step, is_served, MoveNote, Follows, note-is, without_note, id_eq-is, sent_off, id_eq-same, with_note, out_off}
+use Rattle.dm_movelaws.proofs.Names.{manager_takes_lem, Sound, bind-is, ascends, View, still_pending, WhatFits, KernelFits, based_always, fits_step, group_replay, is_pending, HasOne, IsOfPending, PendingHasOne, PendingAscends, requests}
+use Rattle.dm_movelaws.proofs.Names.{Outcome, answer_id, sym, PendingKind, IsPending, asked_by, answered_by, sort_of, take, drop, pid_eq, bind, PlainProcess, Alive, answer_to, lands-is, not_server, by_step, is_served, MoveNote, Follows}
+use Rattle.dm_movelaws.proofs.Names.{note-is, without_note, id_eq-is, sent_off, id_eq-same, with_note, out_off}
 use Rattle.dm_rulelaws.specs.Fits.{is_for}
 use Rattle.dm_laws.proofs.Entered.{asks}
 use Rattle.dm_onekernel.specs.Manager as manage
@@ -12,11 +12,10 @@ use Rattle.dm_onekernel.specs.Step as kernel
 use Rattle.dm_onekernel.specs.Switchboard as board
 use Rattle.dm_onekernel.specs.Pieces as pieces
 use Rattle.dm_onekernel.specs.Receiving as receiving
-use Rattle.dm_movelaws.proofs.Pending.Pairs.{is_request, Neither, neither, answer_of, Ones, off_both, out_ones, put_ones, from_other, took_pair, asked_pair, PairAt, is_answer, answered_ones, made_ones, Off, followed_pair, off_by}
+use Rattle.dm_movelaws.proofs.Pending.Pairs.{is_request, Neither, neither, answer_of, Ones, off_both, out_ones, put_ones, from_other, took_pair, asked_pair, PairAt, is_answer, answered_ones, made_ones, Off, off_by, Pair}
 use Rattle.dm_movelaws.proofs.After.{keeps_always}
 use Rattle.dm_movelaws.proofs.Promise.Slots.{step_pending}
 use Rattle.dm_rule.proofs.Trails.Spares.{and_no as and_false}
-use Rattle.dm_movelaws.proofs.Pending.Pairs.{to_process}
 
 -- a request is answered where its receiver has ended: for a piece, or to move
 gone_ones : (r e : MsgId → ℕ) (s : OneKernel) (id : MsgId) (m : PlainMessage) (v w : PlainWhat) → m.what ≡ v → service.gone_what v ≡ Some w → s.bag id ≡ Some m → Sound r e s → Ones s
@@ -40,6 +39,11 @@ label_ones r e s t l sound requests h takes =
     -- what the kernel of a living process serves
     -- and hears how that ended
     -- a process follows the request from now on
+    -- the request goes from the bag to the process, and from there into its answer
+    let followed_pair : (a a_ b b_ : Option PlainMessage) (c c_ : Option Pid) (q : Pid) (x : PlainMessage) → Pair a b c → c ≡ Some q → c_ ≡ None → a_ ≡ a → b_ ≡ Some x → is_answer x.what ≡ true → Pair a_ b_ c_ =
+      λ a a_ b b_ c c_ q x h e f g k answers. grind (arith, nat_tests) in
+    let to_process : (a b : Option PlainMessage) (c : Option Pid) (m : PlainMessage) (a_ b_ : Option PlainMessage) (q : Pid) → a ≡ Some m → Pair a b c → a_ ≡ None → b_ ≡ b → Pair a_ b_ (Some q) =
+      λ a b c m a_ b_ q e h f g. grind (arith, nat_tests) in
     let noted_ones : (r e : MsgId → ℕ) (s : OneKernel) (id : MsgId) (m : PlainMessage) (q : Pid) (k : MoveNote) → s.bag id ≡ Some m → k.id ≡ id → asks m.what ≡ true → Sound r e s → Ones s → Ones (with_note (without_message s id) q k) =
       λ r e s id m q k there name asked h ones n p. search (arith, id_eq-is, id.from, id.n, h.entered.requests, and_false, s.noted, to_process, s.bag, out_off) in
     let unnoted_ones : (s : OneKernel) (id : MsgId) (q : Pid) (x : PlainMessage) → s.noted id ≡ Some q → id.answer ≡ false → x.id ≡ answer_id id → is_answer x.what ≡ true → Ones s → Ones (with_sent (without_note s q id) (Some x)) =
@@ -107,15 +111,8 @@ bad_took g links = grind (arith, nat_tests)
 if_took : (g : Manager) (c : Bool) (x y : manage.ManagerTook) → UserTook g x → UserTook g y → UserTook g (if c then x else y)
 if_took g c x y h k = grind (arith, nat_tests)
 
-wants_took : (g : Manager) (machines images machine image : ℕ) (links : List PlainLink) → UserTook g (manage.wants_child g machines images machine image links)
-wants_took g machines images machine image links = grind (arith, nat_tests, bad_took, if_took)
-
 controls_took : (g : Manager) (machines : ℕ) (child : Option Pid) (body : List ℕ) (links : List PlainLink) → UserTook g (manage.controls g machines child body links)
-controls_took g machines (Some child) (operation ∷ []) links = grind (arith, nat_tests, bad_took)
-controls_took g machines (Some child) (operation ∷ machine ∷ []) links = search (arith, if_took, bad_took)
-controls_took g machines None body links = bad_took g links
-controls_took g machines (Some child) [] links = bad_took g links
-controls_took g machines (Some child) (a ∷ b ∷ c ∷ body) links = bad_took g links
+controls_took g machines child body links = grind (arith, nat_tests, bad_took, if_took)
 
 pending_split : (n : ℕ) (xs : List Pending) (r : Pending) → is_some (manage.pending_numbered n (xs ++ r ∷ [])) ≡ true → (is_some (manage.pending_numbered n xs) ≡ true) ⊎ (r.n ≡ n)
 pending_split n [] r e = grind (arith, nat_tests)
@@ -160,16 +157,15 @@ user_ones r e s id m k there w (inr asked) sends up sound h n p = grind (arith, 
 manager_kind : (r e : MsgId → ℕ) (s : OneKernel) (id : MsgId) (m : PlainMessage) (k : manage.ManagerTook) (w : PlainWhat) → m.what ≡ w → manage.manager_takes s.manager s.machines (length s.images) m w ≡ Some k → s.bag id ≡ Some m → WhatFits s id m w → ServerSends manager s.manager.sent k.message k.manager.sent
     → ascends 0 s.manager.pending s.manager.sent ≡ true → Sound r e s → Ones s → Ones (service.manager_took s id k)
 manager_kind r e s id m k (PlainWhat.User code channel body links) w is there fits sends up sound h =
+    let wants_took : (g : Manager) (machines images machine image : ℕ) (links : List PlainLink) → UserTook g (manage.wants_child g machines images machine image links) =
+      λ g machines images machine image links. grind (arith, nat_tests, bad_took, if_took) in
     let requests_took : (g : Manager) (machines images : ℕ) (body : List ℕ) (links : List PlainLink) → UserTook g (manage.requests_child g machines images body links) =
       λ g machines images body links. grind (arith, nat_tests, if_took, wants_took, bad_took) in
     let f : manage.takes_user s.manager s.machines (length s.images) code body links ≡ k = cc in
     user_ones r e s id m k there (neither m.what (PlainWhat.User code channel body links) w refl refl) (subst (UserTook s.manager) f (search (if_took, requests_took, controls_took))) sends up sound h
-manager_kind r e s id m k (PlainWhat.Created child) w is there fits sends up sound h =
-    answered_took s id m k (sound.entered.named id m there) fits.1 (grind (arith, nat_tests)) sends up h
-manager_kind r e s id m k PlainWhat.NoRoom w is there fits sends up sound h =
-    answered_took s id m k (sound.entered.named id m there) fits.1 (grind (arith, nat_tests)) sends up h
-manager_kind r e s id m k (PlainWhat.Moved outcome) w is there fits sends up sound h =
-    answered_took s id m k (sound.entered.named id m there) fits.1 (grind (arith, nat_tests)) sends up h
+manager_kind r e s id m k (PlainWhat.Created child) w is there fits sends up sound h = answered_took s id m k (sound.entered.named id m there) fits.1 (grind (arith, nat_tests)) sends up h
+manager_kind r e s id m k PlainWhat.NoRoom w is there fits sends up sound h = answered_took s id m k (sound.entered.named id m there) fits.1 (grind (arith, nat_tests)) sends up h
+manager_kind r e s id m k (PlainWhat.Moved outcome) w is there fits sends up sound h = answered_took s id m k (sound.entered.named id m there) fits.1 (grind (arith, nat_tests)) sends up h
 manager_kind r e s id m k v w is there fits sends up sound h = cc
 
 step_ones : (r e : MsgId → ℕ) (s t : OneKernel) (l : Label) → kernel.step s l ≡ Some t → KernelFits s → ascends 0 s.manager.pending s.manager.sent ≡ true → Sound r e s → Ones s → Ones t
@@ -192,21 +188,15 @@ kind_is : (k : PendingKind) (o : Option Pending) (r : Pending) → is_for k o �
 kind_is k o r h1 h2 = search arith
 
 request_kind : (s : OneKernel) (i : MsgId) (m : PlainMessage) (r : Pending) (w : PlainWhat) → is_request w ≡ true → WhatFits s i m w → manage.pending_numbered i.n s.manager.pending ≡ Some r → sort_of (plain_kind w) ≡ asked_by r.kind
-request_kind s i m r (PlainWhat.Create image links) e fits is = ap asked_by (kind_is PendingKind.Create (manage.pending_numbered i.n s.manager.pending) r fits.5.pending is)
-request_kind s i m r (PlainWhat.Move machine) e fits is = ap asked_by (kind_is PendingKind.Move (manage.pending_numbered i.n s.manager.pending) r fits.4.pending is)
-request_kind s i m r _ e fits is = absurd (false≢true e)
+request_kind s i m r w h1 h2 h3 = grind (arith, nat_tests)
 
 answer_kind : (s : OneKernel) (i : MsgId) (m : PlainMessage) (r : Pending) (w : PlainWhat) → is_answer w ≡ true → WhatFits s i m w → manage.pending_numbered i.n s.manager.pending ≡ Some r → sort_of (plain_kind w) ≡ answered_by r.kind
-answer_kind s i m r (PlainWhat.Created child) e fits is = ap answered_by (kind_is PendingKind.Create (manage.pending_numbered i.n s.manager.pending) r fits.2.pending is)
-answer_kind s i m r PlainWhat.NoRoom e fits is = ap answered_by (kind_is PendingKind.Create (manage.pending_numbered i.n s.manager.pending) r fits.2.pending is)
-answer_kind s i m r (PlainWhat.Moved outcome) e fits is = ap answered_by (kind_is PendingKind.Move (manage.pending_numbered i.n s.manager.pending) r fits.2.pending is)
-answer_kind s i m r _ e fits is = absurd (false≢true e)
+answer_kind s i m r w h1 h2 h3 = grind (arith, nat_tests)
 
 numbered_at : (n : ℕ) (xs : List Pending) (r : Pending) → manage.pending_numbered n xs ≡ Some r → r.n ≡ n
 numbered_at n [] r e = cc
 numbered_at n (x ∷ xs) r e = elim (cases_Bool (x.n == n)) [
   | inl same ↦
-      let f : Some x ≡ Some r = sym (ap (λ (c : Bool). if c then Some x else manage.pending_numbered n xs) same) ∙ e in
       let g : x ≡ r = cc in
       ap (λ (y : Pending). y.n) (sym g) ∙ grind (arith, nat_tests)
   | inr off ↦ numbered_at n xs r (sym (ap (λ (c : Bool). if c then Some x else manage.pending_numbered n xs) off) ∙ e)
@@ -215,7 +205,6 @@ numbered_at n (x ∷ xs) r e = elim (cases_Bool (x.n == n)) [
 has_one : (r_ e : MsgId → ℕ) (s : OneKernel) (n : ℕ) (r : Pending) → manage.pending_numbered n s.manager.pending ≡ Some r → KernelFits s → Sound r_ e s → PairAt s n → HasOne s r
 has_one r_ e s n r is fits sound h =
     let at_ : n ≡ r.n = sym (numbered_at n s.manager.pending r is) in
-    let g : PairAt s r.n = subst (PairAt s) at_ h in
     let numbered : manage.pending_numbered r.n s.manager.pending ≡ Some r = ap (λ (k : ℕ). manage.pending_numbered k s.manager.pending) (sym at_) ∙ is in
     let i = id_of manager r.n in
     record {
@@ -235,18 +224,16 @@ for_some k o e = grind (arith, nat_tests)
 id_as : (i : MsgId) (p : Pid) → i.from ≡ p → i.answer ≡ false → i ≡ id_of p i.n
 id_as i p from asked = λ j. record { from = from j; n = i.n; answer = asked j }
 
-is_asked : (s : OneKernel) (i : MsgId) (k : PendingKind) → i.answer ≡ false → IsPending s k i → IsOfPending s i
-is_asked s i k asked h = record { name = inl (id_as i manager h.from asked); pending = for_some k (manage.pending_numbered i.n s.manager.pending) h.pending }
-
-is_answered : (s : OneKernel) (i : MsgId) (k : PendingKind) → i.answer ≡ true → IsPending s k i → IsOfPending s i
-is_answered s i k answers h = record { name = inr (λ j. record { from = h.from j; n = i.n; answer = answers j }); pending = for_some k (manage.pending_numbered i.n s.manager.pending) h.pending }
-
 -- wherever the rule leads
 pub pending_has_one : PendingHasOne
 pending_has_one b es pt valid leads =
     let based = based_always b es pt valid leads in
     let sane = based.phased.sane in
     let ones = keeps_always b (λ q. Ones q.kernel) (λ q d w fit is run h. (let e_ : Ones w.point.kernel = search (replay_ones, group_replay, run.based) in e_)) valid (λ n p. absurd (false≢true p)) es pt leads in
+    let is_asked : (s : OneKernel) (i : MsgId) (k : PendingKind) → i.answer ≡ false → IsPending s k i → IsOfPending s i =
+      λ s i k asked h. record { name = inl (id_as i manager h.from asked); pending = for_some k (manage.pending_numbered i.n s.manager.pending) h.pending } in
+    let is_answered : (s : OneKernel) (i : MsgId) (k : PendingKind) → i.answer ≡ true → IsPending s k i → IsOfPending s i =
+      λ s i k answers h. record { name = inr (λ j. record { from = h.from j; n = i.n; answer = answers j }); pending = for_some k (manage.pending_numbered i.n s.manager.pending) h.pending } in
     record {
       has = λ n r is. has_one sane.r sane.e pt.kernel n r is based.fits sane.sound (ones n (ap is_some is));
       only = λ i m there e. search (arith, is_asked, is_answered, based.fits.messages i m there, sane.sound.entered.requests i m there);

@@ -42,8 +42,7 @@ abbrev pub Ones : OneKernel → Type 0
 Ones s = (n : ℕ) → is_pending s n ≡ true → PairAt s n
 
 pub off_request : (s : OneKernel) (n : ℕ) (id : MsgId) (m : PlainMessage) → Ones s → is_pending s n ≡ true → s.bag id ≡ Some m → is_request m.what ≡ false → id_eq id (id_of manager n) ≡ false
-off_request s n id m h p there off =
-    not_true (id_eq id (id_of manager n)) (λ e. (let e_ : ⊥ = grind (arith, nat_tests, (h n p), (sym (ap s.bag (id_eq-is id (id_of manager n) e)) ∙ there)) in e_))
+off_request s n id m h p there off = not_true (id_eq id (id_of manager n)) (λ e. (let e_ : ⊥ = grind (arith, nat_tests, (h n p), (sym (ap s.bag (id_eq-is id (id_of manager n) e)) ∙ there)) in e_))
 
 -- under a number two kernels have the same
 pub record Same (s t : OneKernel) (n : ℕ) : Type 0 where
@@ -85,9 +84,6 @@ answered_ones r e s u t id m w is up there asked off h ones on =
     let name : (answer_to m w).id ≡ answer_id id = ap answer_id (h.entered.named id m there) in
     subst Ones is (put_ones u (answer_to m w) (λ n p. off_by (answer_to m w).id (answer_id id) n name (answer_off id n (h.entered.requests id m there asked) (off_request s n id m ones (up n p) there off))) on)
 
-pub unnoted_in : (r e : MsgId → ℕ) (s : OneKernel) (i : MsgId) (m : PlainMessage) → Sound r e s → s.bag i ≡ Some m → s.noted i ≡ None
-unnoted_in r e s i m h there = search (arith, Notes-agree, h.entered, h.notes)
-
 pub made_ones : (r e : MsgId → ℕ) (s u t : OneKernel) (id : MsgId) (m : PlainMessage) (w : PlainWhat) → with_sent u (Some (answer_to m w)) ≡ t → ((i : MsgId) → u.bag i ≡ (without_message s id).bag i)
     → ((i : MsgId) → u.noted i ≡ s.noted i) → ((n : ℕ) → is_pending u n ≡ true → is_pending s n ≡ true) → s.bag id ≡ Some m → asks m.what ≡ true → is_answer w ≡ true
     → Sound r e s → Ones s → Ones t
@@ -97,10 +93,9 @@ made_ones r e s u t id m w is same noted up there asked answers h ones =
     let asking : id.answer ≡ false = h.entered.requests id m there asked in
     let of : (n : ℕ) → is_pending u n ≡ true → PairAt (with_sent u (Some x)) n = λ n p.
     elim (cases_Bool (id_eq id (id_of manager n))) [
-      | inl here ↦ grind (arith, nat_tests, sent_off, parts, (noted (id_of manager n) ∙ (ap s.noted (sym (id_eq-is id (id_of manager n) here)) ∙ unnoted_in r e s id m h there)))
+      | inl here ↦ grind (arith, nat_tests, sent_off, parts, (noted (id_of manager n) ∙ (ap s.noted (sym (id_eq-is id (id_of manager n) here)) ∙ (let e_ : s.noted id ≡ None = search (arith, Notes-agree, h.entered, h.notes) in e_))))
       | inr apart ↦
           let off = off_by x.id (answer_id id) n name (answer_off id n asking apart) in
-          let out : id_eq id (answer_of n) ≡ false = ap (λ (a : Bool). (pid_eq id.from manager && (id.n == n)) && bool_eq a true) asking ∙ and_false (pid_eq id.from manager && (id.n == n)) in
           by_same s (with_sent u (Some x)) n ones
           (search (arith, sent_off, off.0, out_off, off.1))
     ] in
@@ -111,13 +106,12 @@ pending_some : (s : OneKernel) (n : ℕ) (o : Option Pending) → manage.pending
 pending_some s n None is p up = absurd (false≢true p)
 pending_some s n (Some r) is p up = let k = (numbered_from s.manager.pending 0 s.manager.sent n r up is).1 in grind (arith, nat_tests)
 
-took_at : (s u : OneKernel) (id i : MsgId) (o : Option PlainMessage) → u.bag i ≡ (without_message s id).bag i → id_eq id i ≡ false → ((x : PlainMessage) → o ≡ Some x → id_eq x.id i ≡ false) → (with_sent u o).bag i ≡ s.bag i
-took_at s u id i o same off put = grind (arith, nat_tests, out_off, sent_off)
-
 -- the manager takes a message: a request that was pending has what it had
 pub took_pair : (s : OneKernel) (id : MsgId) (k : manage.ManagerTook) (n : ℕ) → ServerSends manager s.manager.sent k.message k.manager.sent → ascends 0 s.manager.pending s.manager.sent ≡ true → is_pending s n ≡ true → Off id n → Ones s
     → PairAt (manager_took s id k) n
 took_pair s id k n sends up p off h =
+    let took_at : (s u : OneKernel) (id i : MsgId) (o : Option PlainMessage) → u.bag i ≡ (without_message s id).bag i → id_eq id i ≡ false → ((x : PlainMessage) → o ≡ Some x → id_eq x.id i ≡ false) → (with_sent u o).bag i ≡ s.bag i =
+      λ s u id i o same off put. grind (arith, nat_tests, out_off, sent_off) in
     let pending_less : (s : OneKernel) (n : ℕ) → is_pending s n ≡ true → ascends 0 s.manager.pending s.manager.sent ≡ true → n < s.manager.sent = λ s n p up. pending_some s n (manage.pending_numbered n s.manager.pending) refl p up in
     grind (arith, nat_tests, pending_less, off_by, by_same, took_at)
 
@@ -142,10 +136,3 @@ asked_pair r e s id k x sends name creates h =
     (ap (λ (o : Option PlainMessage). (with_sent u o).bag i) sends ∙ ap (λ (c : Bool). if c then Some x else u.bag i) (ap (λ (j : MsgId). id_eq j i) name ∙ id_eq-same i))
     (ap (λ (o : Option PlainMessage). (with_sent u o).bag (answer_of n)) sends ∙ sent_off u x (answer_of n) off ∙ none_out)
     (ap (λ (o : Option PlainMessage). (with_sent u o).noted i) sends ∙ unfollowed r e s i (s.noted i) refl h refl)
-
--- the request goes from the bag to the process, and from there into its answer
-pub to_process : (a b : Option PlainMessage) (c : Option Pid) (m : PlainMessage) (a_ b_ : Option PlainMessage) (q : Pid) → a ≡ Some m → Pair a b c → a_ ≡ None → b_ ≡ b → Pair a_ b_ (Some q)
-to_process a b c m a_ b_ q e h f g = grind (arith, nat_tests)
-
-pub followed_pair : (a a_ b b_ : Option PlainMessage) (c c_ : Option Pid) (q : Pid) (x : PlainMessage) → Pair a b c → c ≡ Some q → c_ ≡ None → a_ ≡ a → b_ ≡ Some x → is_answer x.what ≡ true → Pair a_ b_ c_
-followed_pair a a_ b b_ c c_ q x h e f g k answers = grind (arith, nat_tests)

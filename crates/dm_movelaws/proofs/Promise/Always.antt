@@ -1,6 +1,6 @@
 -- Each update that is under way keeps its promise: where all is at rest, the links that its receiver hasn't filled since lead to
 -- where the process is that it is about.
-use Rattle.dm_movelaws.proofs.Names.{◌≡◌, ℕ, ◌+◌, ◌<◌, ◌≤◌, List, [], ◌∷◌, ◌++◌, length, refl, ap, ◌∙◌, sym, arith, slice_get, Some, slice_get_within, Pid, Place, MsgId, Boot, IsValid, pid_eq-same, Step, Line, Slot, leads_to, Leads, Point}
+use Rattle.dm_movelaws.proofs.Names.{◌≡◌, ℕ, ◌+◌, ◌≤◌, List, [], ◌∷◌, ◌++◌, length, refl, ap, ◌∙◌, sym, arith, slice_get, Some, slice_get_within, Pid, Place, MsgId, Boot, IsValid, pid_eq-same, Step, Line, Slot, leads_to, Leads, Point}
 use Rattle.dm_movelaws.proofs.Names.{first_point, Trails, based_group, based_always, Based, AtRest, AtRestAlways, update_of, Promised, PromisesAlways, UpdatesAlways, nat_tests}
 use Rattle.dm_movelaws.proofs.At.RestAlways.{at_rest_always}
 use Rattle.dm_movelaws.proofs.Updates.Always.{updates_always}
@@ -8,9 +8,6 @@ use Rattle.dm_movelaws.proofs.Trail.Known.{trail_known}
 use Rattle.dm_movelaws.proofs.Promise.Spots.{Stands, Grounds, lines_before, lines_told, OnTrail, TrailKnown}
 use Rattle.dm_movelaws.proofs.After.{group_after}
 use Rattle.dm_movelaws.proofs.Promise.Finds.{lines_by, leads_append, Handles, find_handled, update_own}
-
-pub same_some : (m n : ℕ) → Some m ≡ Some n → m ≡ n
-same_some m n e = cc
 
 -- what the record of the update says is what was told
 
@@ -20,11 +17,10 @@ kept_place : (pt : Point) (t : Trails) (id : MsgId) (p q : Pid) (place : Place) 
 kept_place pt t id p q place k on rest told same leads least =
     let a = pt.addresses (Slot p k) in
     let there : slice_get (t q) a.moves ≡ Some a.at = on.addresses (Slot p k) q leads in
-    let less : a.moves < length (t q) = slice_get_within (t q) a.moves a.at there in
     let long : length (t q) ≡ pt.view.moves q + 1 = on.long q (λ m. rest.still m q) in
-    let moves : a.moves ≡ place.moves = omega (arith, least, less, long, same) in
+    let moves : a.moves ≡ place.moves = omega (arith, least, slice_get_within (t q) a.moves a.at there, long, same) in
     let said : slice_get (t q) place.moves ≡ Some place.at = on.about id (update_of p q place) q place.at place.moves told refl in
-    λ i. record { at = (same_some a.at place.at (sym there ∙ ap (slice_get (t q)) moves ∙ said)) i; moves = moves i }
+    λ i. record { at = (let e_ : a.at ≡ place.at = cc (sym there ∙ ap (slice_get (t q)) moves ∙ said) in e_) i; moves = moves i }
 
 promised_by : UpdatesAlways → TrailKnown → (b : Boot) (before between : List Step) (told pt : Point) (id : MsgId) (p q : Pid) (place : Place) → IsValid b → Leads b (first_point b) before told → Leads b (first_point b) (before ++ between) pt → AtRest pt
     → told.view.told id ≡ Some (update_of p q place) → Handles b told pt between id → Promised b told pt between id p q place
@@ -55,8 +51,7 @@ promised_by updates trail b before between told pt id p q place valid comes all 
       place_kept = λ k same unfilled leads.
           let was = lines_before late.lines h.group.point pt p q k (pt.addresses (Slot p k)).moves late.leads grounds unfilled (record { leads = leads; fewer = omega arith }) in
           let least : place.moves ≤ (h.group.point.addresses (Slot p k)).moves = grind (arith, nat_tests, pid_eq-same, was.leads) in
-          let fewer = was.fewer in
-          kept_place pt t id p q place k on rest told_end same leads (omega (arith, least, fewer));
+          kept_place pt t id p q place k on rest told_end same leads (omega (arith, least, was.fewer));
     }
 
 -- wherever the rule leads

@@ -43,9 +43,6 @@ abbrev pub all_loose : List Part → Bool
 all_loose [] = true
 all_loose (p ∷ ps) = is_loose p && all_loose ps
 
-spares_quiet : (j : MsgId) (v : View) (l : Line) → Spares j v l → (touches l ≡ false) × (is_put l ≡ false)
-spares_quiet j v l e = grind (arith, nat_tests)
-
 base_on : (j : MsgId) (t : Told) (pt next : Point) (p : Part) → Sayable p → PairsFit next.view → Base j t pt → Steps pt p next → Base j t next
 base_on j t pt next p ok fits h s = search (part_sane, lines_told)
 
@@ -54,12 +51,12 @@ pub base_says : (j : MsgId) (t : Told) (pt next : Point) (l : Line) → touches 
 base_says j t pt next l quiet ok h s =
     -- pairs that fit
     let says_fit : (pt next : Point) (l : Line) → touches l ≡ false → PairsFit pt.view → Steps pt (Says l) next → PairsFit next.view = λ pt next l quiet h s.
-      let k = said_by pt next l s in
-      subst (λ (x : Point). PairsFit x.view) k.is (fits_as pt.view (seen pt.kernel pt.view l) (pair_same pt.view l quiet) h) in
+      subst (λ (x : Point). PairsFit x.view) (said_by pt next l s).is (fits_as pt.view (seen pt.kernel pt.view l) (pair_same pt.view l quiet) h) in
     base_on j t pt next (Says l) ok (says_fit pt next l quiet h.fits s) h s
 
 part_base : (j : MsgId) (t : Told) (pt next : Point) (p : Part) → NeedsPart j pt p → Base j t pt → Steps pt p next → Base j t next
 part_base j t pt next p need h s =
+    let spares_quiet : (j : MsgId) (v : View) (l : Line) → Spares j v l → (touches l ≡ false) × (is_put l ≡ false) = λ j v l e. grind (arith, nat_tests) in
     let part_fits : (j : MsgId) (pt next : Point) (p : Part) → NeedsPart j pt p → PairsFit pt.view → Steps pt p next → PairsFit next.view = λ j pt next p need h s.
       let fits_behind : Behind (λ x. PairsFit x.view) pt p = grind (arith, nat_tests, whatever_put, fits_as, pair_same, spares_quiet, fits_put) in
       part_leads (λ x. PairsFit x.view) (λ x a c n l f. fits_packet x.view a c n l f) pt next p fits_behind s in
@@ -105,7 +102,6 @@ sends_stand [] j t to ps pt w e base h is = elim h [
 ]
 sends_stand (i ∷ is_) j t to ps pt w e base h is =
     let n = next_of pt (Again i to) (sends_on to is_ ++ ps) w is in
-    let base_ = part_base j t pt n.next (Again i to) tt base n.steps in
     let there : Stands n.next.view j ⊎ (1 ≤ times j is_) = elim (cases_Bool (id_eq i j)) [
       | inl same ↦ inl (again_this j t pt n.next to base (subst (λ (x : MsgId). Steps pt (Again x to) n.next) (id_eq-is i j same) n.steps))
       | inr off ↦ elim h [
@@ -113,7 +109,7 @@ sends_stand (i ∷ is_) j t to ps pt w e base h is =
         | inr on ↦ inr (grind (arith, nat_tests, not_true, id_eq-is, id_eq-same))
       ]
     ] in
-    subst (λ (x : Point). Stands x.view j) n.point (sends_stand is_ j t to ps n.next n.rest e base_ there n.more)
+    subst (λ (x : Point). Stands x.view j) n.point (sends_stand is_ j t to ps n.next n.rest e (part_base j t pt n.next (Again i to) tt base n.steps) there n.more)
 
 -- the message stands somewhere where a turn begins
 pub record Waits (j : MsgId) (t : Told) (pt : Point) : Type 0 where
@@ -172,9 +168,8 @@ sent_goes j t pt i p ids to are h k w is =
     let l = Line.SentOn p (length ids) in
     let last = Says (Line.Migration Stage.Left p) ∷ to_kernel MessageKind.Restart i.from.home ∷ [] in
     let n = next_of pt (Says l) (sends_on to ids ++ last) w is in
-    let s = said_by pt n.next l n.steps in
     let on : Stands n.next.view j ⊎ (1 ≤ times j ids) = elim (sent_stands pt.view p (length ids) j k.front h.stands) [
-      | inl there ↦ inl (subst (λ (x : Point). Stands x.view j) s.is there)
+      | inl there ↦ inl (subst (λ (x : Point). Stands x.view j) (said_by pt n.next l n.steps).is there)
       | inr goes ↦ inr (subst (λ (xs : List MsgId). 1 ≤ times j xs) are goes)
     ] in
     inl (subst (λ (x : Point). Stands x.view j) n.point (sends_stand ids j t to last n.next n.rest refl (base_says j t pt n.next l refl refl h.base n.steps) on n.more))
@@ -222,10 +217,7 @@ forwarded_goes j t pt to h w is =
     let n = next_of pt (Says (Line.Forwarded j to)) (Again j to ∷ []) w is in
     let base = base_says j t pt n.next (Line.Forwarded j to) refl refl h.base n.steps in
     let k = next_of n.next (Again j to) [] n.rest n.more in
-    let there = again_this j t n.next k.next to base k.steps in
-    let end : k.rest.point ≡ w.point = k.point ∙ n.point in
-    let last : k.next ≡ k.rest.point = last_point k.next k.rest k.more in
-    inl (subst (λ (x : Point). Stands x.view j) (last ∙ end) there)
+    inl (subst (λ (x : Point). Stands x.view j) (last_point k.next k.rest k.more ∙ (k.point ∙ n.point)) (again_this j t n.next k.next to base k.steps))
 
 process_this : (j : MsgId) (pt o : Point) (m : ℕ) (p q : Pid) (place : Place) (c : Known) → Waits j (update_of p q place) pt → GoesOf j pt (process_told o m j (update_of p q place) c)
 process_this j pt o m p q place Unknown h = tt
@@ -247,9 +239,8 @@ turned_by b o m j p q place i is ps true e front h said =
     let hears_this : (j : MsgId) (pt : Point) (b : Boot) (o : Point) (m : ℕ) (p q : Pid) (place : Place) → Waits j (update_of p q place) pt → GoesOf j pt (rule.hears b o m j (Some (update_of p q place))) = λ j pt b o m p q place h.
       let goes_if : (j : MsgId) (pt : Point) (c : Bool) (x y : Option (List Part)) → GoesOf j pt x → GoesOf j pt y → GoesOf j pt (if c then x else y) = λ j pt c x y h k. grind (arith, nat_tests) in
       search (goes_if, updates_this, process_this) in
-    let same : i ≡ j = id_eq-is i j e in
     let pt = begun o (Step.Turn m) in
-    subst (GoesOf j pt) (ap (rule.hears b o m j) (sym h.base.told) ∙ ap (λ (x : MsgId). rule.hears b o m x (o.view.told x)) (sym same) ∙ said) (hears_this j pt b o m p q place h)
+    subst (GoesOf j pt) (ap (rule.hears b o m j) (sym h.base.told) ∙ ap (λ (x : MsgId). rule.hears b o m x (o.view.told x)) (sym (id_eq-is i j e)) ∙ said) (hears_this j pt b o m p q place h)
 turned_by b o m j p q place i is ps false e front h said = search hears_goes
 
 -- packets and what they bring

@@ -40,9 +40,6 @@ sends_what_same v w a b p x id u = grind (arith, nat_tests, encloses_same)
 sends_next_same : (v w : View) (a b : Addresses) (p : Pid) (x : PlainProcess) (id : MsgId) (o : Option kernel.Trap) → holders (addresses.sends_next v a p x id o) ≡ holders (addresses.sends_next w b p x id o)
 sends_next_same v w a b p x id o = grind (arith, nat_tests, sends_what_same)
 
-sends_same : (s : OneKernel) (v w : View) (a b : Addresses) (p : Pid) (id : MsgId) (o : Option PlainProcess) → holders (addresses.send_gets s v a p id o) ≡ holders (addresses.send_gets s w b p id o)
-sends_same s v w a b p id o = grind (arith, nat_tests, sends_next_same)
-
 -- links that are received
 links_same : (a b : Addresses) (p : Pid) (id : MsgId) (n : ℕ) (slots : List (Option PlainLink)) (ls : List PlainLink) → holders (receives_links a p id n slots ls) ≡ holders (receives_links b p id n slots ls)
 links_same a b p id n slots [] = refl
@@ -58,13 +55,6 @@ links_same a b p id n slots (l ∷ ls) =
 receives_what_same : (a b : Addresses) (p : Pid) (id : MsgId) (x : PlainProcess) (u : PlainWhat) → holders (receives_burden a p id x (burden_of u)) ≡ holders (receives_burden b p id x (burden_of u))
 receives_what_same a b p id x u = grind (arith, nat_tests, links_same)
 
-receives_same : (a b : Addresses) (p : Pid) (id : MsgId) (o : Option PlainProcess) (m : Option PlainMessage) → holders (addresses.reception_gets a p id o m) ≡ holders (addresses.reception_gets b p id o m)
-receives_same a b p id o m = grind (arith, nat_tests, receives_what_same)
-
--- messages that are served
-serves_same : (s : OneKernel) (v w : View) (a b : Addresses) (id : MsgId) (o : Option PlainMessage) → holders (addresses.service_gets s v a id o) ≡ holders (addresses.service_gets s w b id o)
-serves_same s v w a b id o = grind (arith, nat_tests)
-
 -- a process that is made
 child_same : (a b : Addresses) (child : Pid) (id : MsgId) (n : ℕ) (ls : List PlainLink) → holders (child_links a child id n ls) ≡ holders (child_links b child id n ls)
 child_same a b child id n [] = refl
@@ -73,17 +63,11 @@ child_same a b child id n (l ∷ ls) = ap (λ (hs : List Holder). Slot child n �
 creates_what_same : (a b : Addresses) (id : MsgId) (child : Pid) (u : PlainWhat) → holders (creates_burden a id child (burden_of u)) ≡ holders (creates_burden b id child (burden_of u))
 creates_what_same a b id child u = grind (arith, nat_tests, child_same)
 
-creates_same : (v w : View) (a b : Addresses) (id : MsgId) (child : Pid) (o : Option PlainMessage) → holders (addresses.creation_gets v a id child o) ≡ holders (addresses.creation_gets w b id child o)
-creates_same v w a b id child o = grind (arith, nat_tests, creates_what_same)
-
 manager_sends_same : (v w : View) (a b : Addresses) (id : MsgId) (code : ℕ) (o : Option PlainMessage) → holders (manager_sends v a id code o) ≡ holders (manager_sends w b id code o)
 manager_sends_same v w a b id code o = search (arith, enclosed_same)
 
 manager_takes_same : (s : OneKernel) (v w : View) (a b : Addresses) (m : PlainMessage) (u : PlainWhat) (o : Option manage.ManagerTook) → holders (manager_takes_burden s v a m (burden_of u) o) ≡ holders (manager_takes_burden s w b m (burden_of u) o)
 manager_takes_same s v w a b m u o = grind (arith, nat_tests, manager_sends_same)
-
-takes_same : (s : OneKernel) (v w : View) (a b : Addresses) (id : MsgId) (o : Option PlainMessage) → holders (addresses.taking_gets s v a id o) ≡ holders (addresses.taking_gets s w b id o)
-takes_same s v w a b id o = grind (arith, nat_tests, manager_takes_same)
 
 ends_same : (v w : View) (a b : Addresses) (id : MsgId) (o : Option Pid) → holders (request.given_at_end v a id o) ≡ holders (request.given_at_end w b id o)
 ends_same v w a b id None = refl
@@ -91,13 +75,10 @@ ends_same v w a b id (Some p) = refl
 
 -- Where no line gives a slot an address, a link in it was there before.
 
-pub neither : (c d : Bool) → (c || d) ≡ false → (c ≡ false) × (d ≡ false)
-neither c d e = grind (arith, nat_tests)
-
 pub not_given : (a : Addresses) (h : Holder) (gs : List Gets) → gives_to h gs ≡ false → given a gs h ≡ a h
 not_given a h [] e = refl
 not_given a h (g ∷ gs) e =
-    let off = neither (holder_eq g.holder h) (gives_to h gs) e in
+    let off : ((holder_eq g.holder h) ≡ false) × ((gives_to h gs) ≡ false) = grind (arith, nat_tests) in
     ap (λ (b : Bool). if b then g.place else given a gs h) off.0 ∙ not_given a h gs off.1
 
 -- addresses that mark one slot
@@ -121,11 +102,9 @@ still_view s v l = record v { acting = acting_in s l; moves = λ p. 0 }
 abbrev Was : OneKernel → Pid → ℕ → Pid → Place → Type 0
 Was s p k q place = place.moves ≡ 1 → leads_to s (Slot p k) ≡ Some q
 
-none_was : (s : OneKernel) (p : Pid) (k : ℕ) (q : Pid) (place : Place) → place.moves ≡ 0 → Was s p k q place
-none_was s p k q place zero_ one = absurd (omega (arith, zero_, one))
-
 marked_home : (s t : OneKernel) (v : View) (l : Label) (p : Pid) (k : ℕ) → kernel.step s l ≡ Some t → Named s → ascends 0 s.manager.pending s.manager.sent ≡ true → AtHome (Was s p k) t (given (marked p k) (gives s (still_view s v l) (marked p k) l))
 marked_home s t v l p k is named pending =
+    let none_was : (s : OneKernel) (p : Pid) (k : ℕ) (q : Pid) (place : Place) → place.moves ≡ 0 → Was s p k q place = λ s p k q place zero_ one. absurd (omega (arith, zero_, one)) in
     let marks_are : (s : OneKernel) (p : Pid) (k : ℕ) → HomesAre (Was s p k) s (marked p k) = λ s p k h q e. grind (arith, nat_tests, none_was) in
     let said_marked : (s : OneKernel) (v : View) (p : Pid) (k : ℕ) (l : Label) → SaidOn (Was s p k) s (still_view s v l) (marked p k) l = λ s v p k l. grind (arith, nat_tests) in
     search (label_on, said_marked, at_home, none_was, marks_are)
@@ -138,10 +117,20 @@ step_pending s t v l is named pending = (marked_home s t v l (record { home = 0;
 pub led_before : (s t : OneKernel) (v : View) (a : Addresses) (l : Label) (p q : Pid) (k : ℕ) → kernel.step s l ≡ Some t → Named s → ascends 0 s.manager.pending s.manager.sent ≡ true → gives_to (Slot p k) (gives s v a l) ≡ false → leads_to t (Slot p k) ≡ Some q
     → leads_to s (Slot p k) ≡ Some q
 led_before s t v a l p q k is named pending spared leads =
+    -- messages that are served
+    let creates_same : (v w : View) (a b : Addresses) (id : MsgId) (child : Pid) (o : Option PlainMessage) → holders (addresses.creation_gets v a id child o) ≡ holders (addresses.creation_gets w b id child o) =
+      λ v w a b id child o. grind (arith, nat_tests, creates_what_same) in
+    let receives_same : (a b : Addresses) (p : Pid) (id : MsgId) (o : Option PlainProcess) (m : Option PlainMessage) → holders (addresses.reception_gets a p id o m) ≡ holders (addresses.reception_gets b p id o m) =
+      λ a b p id o m. grind (arith, nat_tests, receives_what_same) in
+    let takes_same : (s : OneKernel) (v w : View) (a b : Addresses) (id : MsgId) (o : Option PlainMessage) → holders (addresses.taking_gets s v a id o) ≡ holders (addresses.taking_gets s w b id o) =
+      λ s v w a b id o. grind (arith, nat_tests, manager_takes_same) in
+    let sends_same : (s : OneKernel) (v w : View) (a b : Addresses) (p : Pid) (id : MsgId) (o : Option PlainProcess) → holders (addresses.send_gets s v a p id o) ≡ holders (addresses.send_gets s w b p id o) =
+      λ s v w a b p id o. grind (arith, nat_tests, sends_next_same) in
+    let serves_same : (s : OneKernel) (v w : View) (a b : Addresses) (id : MsgId) (o : Option PlainMessage) → holders (addresses.service_gets s v a id o) ≡ holders (addresses.service_gets s w b id o) =
+      λ s v w a b id o. grind (arith, nat_tests) in
     let gs = gives s (still_view s v l) (marked p k) l in
     -- a row a label
     let gives_same : holders (gives s (still_view s v l) (marked p k) l) ≡ holders (gives s v a l) = search (arith, sends_same, receives_same, serves_same, takes_same, creates_same, ends_same) in
-    let off : gives_to (Slot p k) gs ≡ false = same_given (Slot p k) gs (gives s v a l) gives_same ∙ spared in
-    let at : given (marked p k) gs (Slot p k) ≡ marked p k (Slot p k) = not_given (marked p k) (Slot p k) gs off in
+    let at : given (marked p k) gs (Slot p k) ≡ marked p k (Slot p k) = not_given (marked p k) (Slot p k) gs (same_given (Slot p k) gs (gives s v a l) gives_same ∙ spared) in
     let one : (marked p k (Slot p k)).moves ≡ 1 = ap (λ (c : Bool). (if c then record { at = 0; moves = 1 } else unmoved 0).moves) (ap (λ (c : Bool). c && (k == k)) (pid_eq-same p) ∙ eq_self k) in
     homes_are (Was s p k) t (given (marked p k) gs) (marked_home s t v l p k is named pending) (Slot p k) q leads (ap (λ (x : Place). x.moves) at ∙ one)

@@ -5,8 +5,7 @@ use Rattle.dm_movelaws.proofs.Names.{home_off, proto_off, accepted_off, state_of
 use Rattle.dm_movelaws.proofs.Names.{Option, None, Some, false≢true, MessageKind, OneKernel, id_eq-is, id_eq-same, Step, Load, Told, NothingElse, is_kernels, taken_id, held_for, Point, out_of, not_kernels, gone_in, at_record_at, not_true}
 use Rattle.dm_movelaws.proofs.Names.{one_of, PairsFit, served_keeps, serving_off, created_off, IsNetLine, early_off, acked_off, emptied, both_lists, both_times, dropped_spots, put_spots, taken_calm, put_spot, put_there, Sane, packet_off}
 use Rattle.dm_movelaws.proofs.Names.{received_spots, ended_off, nat_tests, About, Target, aim, about_off, after_step, Sound, bind-is, Addresses, Holder, Slot, Gets, gives, all_follow, first_gives, leads_to, updated, addresses_after}
-use Rattle.dm_movelaws.proofs.Names.{ascends, label_of, kernel_after, after_line, after, moved, hushed, put_at, put_told_off, gives_to, fills, Unfilled, first_kept, ◌≢◌, length, slice_get, Boot, IsValid, Leads, first_point, Trails}
-use Rattle.dm_movelaws.proofs.Names.{AddressesOn, Unknown, is_moving, IsThere}
+use Rattle.dm_movelaws.proofs.Names.{ascends, label_of, kernel_after, after_line, after, moved, gives_to, fills, Unfilled, ◌≢◌, length, slice_get, Boot, IsValid, Leads, first_point, Trails, AddressesOn, Unknown, is_moving, IsThere}
 use Rattle.dm_rule.proofs.Moves.Sent.{sent_off}
 use Rattle.dm_movelaws.proofs.Promise.Slots.{not_given, step_pending, led_before}
 use Rattle.dm_onekernel.specs.Step as kernel
@@ -90,9 +89,7 @@ released_held v p j m q e = elim (cases_Bool ((v.acting == m) && pid_eq p q)) [
       let both = parts (v.acting == m) (pid_eq p q) same in
       let f : times j (v.held m q) ≡ times j (v.held v.acting p) = ap (λ (n : ℕ). times j (v.held n q)) (sym (eq_is v.acting m both.0)) ∙ ap (λ (r : Pid). times j (v.held v.acting r)) (sym (pid_eq-is p q both.1)) in
       released_inbox v p j (omega (arith, e, f))
-  | inr off ↦
-      let f : times j ((released v p).held m q) ≡ times j (v.held m q) = ap (times j) (at_record_off v.held v.acting m p q [] off) in
-      record { spot = Held m q; least = omega (arith, e, f) }
+  | inr off ↦ record { spot = Held m q; least = omega (arith, e, ap (times j) (at_record_off v.held v.acting m p q [] off)) }
 ]
 
 released_other : (v : View) (p : Pid) (j : MsgId) (m : ℕ) → 1 ≤ times j (v.inbox m) → Stands (released v p) j
@@ -100,9 +97,7 @@ released_other v p j m e = elim (cases_Bool (v.acting == m)) [
   | inl same ↦
       let f : times j (v.inbox m) ≡ times j (v.inbox v.acting) = ap (λ (n : ℕ). times j (v.inbox n)) (sym (eq_is v.acting m same)) in
       released_inbox v p j (omega (arith, e, f))
-  | inr off ↦
-      let f : times j ((released v p).inbox m) ≡ times j (v.inbox m) = ap (times j) (at_machine_off v.inbox v.acting m (v.held v.acting p ++ v.inbox v.acting) off) in
-      record { spot = Inbox m; least = omega (arith, e, f) }
+  | inr off ↦ record { spot = Inbox m; least = omega (arith, e, ap (times j) (at_machine_off v.inbox v.acting m (v.held v.acting p ++ v.inbox v.acting) off)) }
 ]
 
 released_at : (v : View) (p : Pid) (j : MsgId) (z : Spot) → 1 ≤ standing v j z → Stands (released v p) j
@@ -197,8 +192,7 @@ emptied_at v p j (Untaken a b) e = inl (record { spot = Untaken a b; least = e }
 
 pub sent_stands : (v : View) (p : Pid) (n : ℕ) (j : MsgId) → Front v j → Stands v j → Stands (view_after v (Line.SentOn p n)) j ⊎ (1 ≤ times j (both_lists v p))
 sent_stands v p n j f h =
-    let k = first_stands v j f h in
-    elim (emptied_at (handled_first v) p j k.spot k.least) [
+    elim (emptied_at (handled_first v) p j (first_stands v j f h).spot (first_stands v j f h).least) [
       | inl there ↦ inl (stands_off (emptied (handled_first v) p) (view_after v (Line.SentOn p n)) j (sent_off v p n) there)
       | inr on ↦ inr on
     ]
@@ -207,10 +201,8 @@ sent_stands v p n j f h =
 held_by : (v : View) (i : MsgId) (o : Option Pid) (p : Pid) → o ≡ Some p → Stands (held_for v i o) i
 held_by v i None p e = cc
 held_by v i (Some q) p e =
-    let f : times i ((held_for v i (Some q)).held v.acting q) ≡ times i (v.held v.acting q ++ i ∷ []) = ap (times i) (at_record_at v.held v.acting q (v.held v.acting q ++ i ∷ [])) in
-    let g = times-append i (v.held v.acting q) (i ∷ []) in
     let one : one_of i i ≡ 1 = ap (λ (c : Bool). if c then 1 else 0) (id_eq-same i) in
-    record { spot = Held v.acting q; least = omega (arith, f, g, one) }
+    record { spot = Held v.acting q; least = omega (arith, ap (times i) (at_record_at v.held v.acting q (v.held v.acting q ++ i ∷ [])), times-append i (v.held v.acting q) (i ∷ []), one) }
 
 pub held_this : (v : View) (i : MsgId) (t : Told) → v.told i ≡ Some t → Stands (view_after v (Line.Held i)) i
 held_this v i t e = held_by (handled v i) i (receiver_of (v.told i)) t.receiver (ap receiver_of e)
@@ -241,19 +233,11 @@ net_stands v _ j is h = absurd is
 -- As long as no line gives a slot an address, its address doesn't come to know fewer moves; and what was told stays.
 
 pub told_stays : (v : View) (l : Line) (j : MsgId) (t : Told) → v.told j ≡ Some t → (view_after v l).told j ≡ Some t
-told_stays v (Line.Put a b i k q) j t e = grind (arith, nat_tests, id_eq-is, put_at, first_kept, put_told_off)
-told_stays v (Line.Lacks r f c) j t e = ap (λ (f : MsgId → Option Told). f j) (hushed v (Line.Lacks r f c) refl).told ∙ e
-told_stays v any_ j t e = ap (λ (f : MsgId → Option Told). f j) (hushed v any_ refl).told ∙ e
+told_stays v l j t h1 = grind (arith, nat_tests)
 
 follow_spares : (v : View) (a : Addresses) (r : Pid) (ids : List MsgId) (p : Pid) (k : ℕ) → gives_to (Slot p k) (all_follow v a r ids) ≡ false
 follow_spares v a r [] p k = refl
 follow_spares v a r (i ∷ is) p k = follow_spares v a r is p k
-
-moves_grow : (pt : Point) (l : Line) (p : Pid) (k : ℕ) → fills pt (Slot p k) l ≡ false → (pt.addresses (Slot p k)).moves ≤ (addresses_after pt.kernel pt.view pt.addresses l (Slot p k)).moves
-moves_grow pt l p k e =
-    let first_spares : (o : Option Told) (gs : List Gets) (p : Pid) (k : ℕ) → gives_to (Slot p k) gs ≡ false → gives_to (Slot p k) (first_gives o gs) ≡ false = λ o gs p k e. grind (arith, nat_tests) in
-    let told_grows : (s : OneKernel) (v : View) (a : Addresses) (o : Option Told) (h : Holder) → (a h).moves ≤ (updated s v a o h).moves = λ s v a o h. grind (arith, nat_tests) in
-    search (arith, follow_spares, told_grows, first_spares, not_given)
 
 -- what each line needs of the kernel, and keeps
 pub record Grounds (s : OneKernel) : Type 0 where
@@ -278,14 +262,16 @@ led_by pt t l (Some x) p q k of is h spared leads = led_before pt.kernel t pt.vi
 
 line_before : (pt next : Point) (l : Line) (p q : Pid) (k moves : ℕ) → after_line pt l ≡ Some next → Grounds pt.kernel → fills pt (Slot p k) l ≡ false → Before next p q k moves → Before pt p q k moves
 line_before pt next l p q k moves is h e before =
+    let moves_grow : (pt : Point) (l : Line) (p : Pid) (k : ℕ) → fills pt (Slot p k) l ≡ false → (pt.addresses (Slot p k)).moves ≤ (addresses_after pt.kernel pt.view pt.addresses l (Slot p k)).moves = λ pt l p k e.
+      let first_spares : (o : Option Told) (gs : List Gets) (p : Pid) (k : ℕ) → gives_to (Slot p k) gs ≡ false → gives_to (Slot p k) (first_gives o gs) ≡ false = λ o gs p k e. grind (arith, nat_tests) in
+      let told_grows : (s : OneKernel) (v : View) (a : Addresses) (o : Option Told) (h : Holder) → (a h).moves ≤ (updated s v a o h).moves = λ s v a o h. grind (arith, nat_tests) in
+      search (arith, follow_spares, told_grows, first_spares, not_given) in
     let spared_by : (pt : Point) (l : Line) (p : Pid) (k : ℕ) (x : Label) → label_of l ≡ Some x → fills pt (Slot p k) l ≡ false → gives_to (Slot p k) (gives pt.kernel pt.view pt.addresses x) ≡ false =
       λ pt l p k x of e. grind (arith, nat_tests) in
     let (s, comes, last) = bind-is (kernel_after pt.kernel (label_of l)) (λ s. Some (moved pt l s)) next is in
     let f : moved pt l s ≡ next = cc in
     let was : Before (moved pt l s) p q k moves = subst (λ (x : Point). Before x p q k moves) (sym f) before in
-    let grows = moves_grow pt l p k e in
-    let fewer = was.fewer in
-    record { leads = led_by pt s l (label_of l) p q k refl comes h (λ x of. spared_by pt l p k x of e) was.leads; fewer = omega (arith, grows, fewer) }
+    record { leads = led_by pt s l (label_of l) p q k refl comes h (λ x of. spared_by pt l p k x of e) was.leads; fewer = omega (arith, moves_grow pt l p k e, was.fewer) }
 
 -- through lines none of which gives the slot an address
 pub lines_before : (ls : List Line) (pt end : Point) (p q : Pid) (k moves : ℕ) → after pt ls ≡ Some end → Grounds pt.kernel → Unfilled pt (Slot p k) ls → Before end p q k moves → Before pt p q k moves

@@ -2,16 +2,16 @@
 use Rattle.dm_movelaws.proofs.Names.{◌≡◌, ◌≢◌, ℕ, ◌<◌, ◌≤◌, true, false, ◌∷◌, is_some, refl, ap, ◌∙◌, sym, subst, inl, inr, arith, Option, Some, cases_Bool, nat_tests, Pid, MsgId, Line, PlainMessage, PlainWhat, Boot, manager, Life}
 use Rattle.dm_movelaws.proofs.Names.{OneKernel, Step, IsStep, Spelled, Point, group_of, Inbox, times, View, Told, Unknown, Here, after_head, is_kernels, actor, group_is, outcome_sayable, line_within, is_server, WhatFits, begun, begun_sane}
 use Rattle.dm_movelaws.proofs.Names.{named_real, times_self, Run, IsReal, Kernel, Server, Made, IsAboutReal, RealAlways, or_cases, from_kernel, run_always, ◌⊎◌, List, None, false≢true, MessageKind, plain_kind, Stage, Label, id_eq-is}
-use Rattle.dm_movelaws.proofs.Names.{LifeGrows, after_step, Sound, Receiver, Part, Says, Routes, Again, Owns, Transmits, spelled, label_of, kernel_after, moved, About, view_after, handled, receiver_of, own_id, not_kernels}
-use Rattle.dm_movelaws.proofs.Names.{grown_none, put_at, PacketsKeep, put_told_off, Sane, AllSayable, label_topic, Within, has_bytes, KernelFits, step_constant, fits_step, queued_topic, held_topic, taken_topic, told_kept, [], ◌++◌, ⊤}
-use Rattle.dm_movelaws.proofs.Names.{pid_eq-same, alive-is, to_kernel, sends_on, IsNetLine, by_migrates, by_outcome, by_forwards, by_hears, topic_by, machine_in, sets, InOrder, Loose, loose_handles, HeadIn, counts, first_point, is_put}
+use Rattle.dm_movelaws.proofs.Names.{LifeGrows, after_step, Sound, Receiver, Part, Says, Routes, Again, Owns, Transmits, spelled, label_of, kernel_after, moved, About, view_after, own_id, not_kernels, grown_none, put_at, PacketsKeep}
+use Rattle.dm_movelaws.proofs.Names.{put_told_off, Sane, AllSayable, Within, has_bytes, KernelFits, step_constant, fits_step, told_kept, [], ◌++◌, ⊤, pid_eq-same, alive-is, to_kernel, sends_on, IsNetLine, by_migrates, by_outcome}
+use Rattle.dm_movelaws.proofs.Names.{by_forwards, by_hears, topic_by, InOrder, Loose, loose_handles, HeadIn, counts, first_point, is_put}
 use Rattle.dm_rulelaws.proofs.Found.Core as core
 use Rattle.dm_rule.specs.View as view
 use Rattle.dm_rule.specs.Rule as rule
 use Rattle.dm_movelaws.proofs.After.{keeps_always}
 use Rattle.dm_movelaws.proofs.Ends.Parts.{told_by}
 use Rattle.dm_movelaws.proofs.Leading.{Behind, sane_lead, All, Saying, net_says}
-use Rattle.dm_movelaws.proofs.Stages.Rows.{MildLine, AllMild}
+use Rattle.dm_movelaws.proofs.Stages.Rows.{MildLine, Mild}
 use Rattle.dm_movelaws.proofs.Stages.Steps.{round_mild}
 use Rattle.dm_movelaws.proofs.NumbersAlways.{bag_counted, told_counted}
 
@@ -28,9 +28,6 @@ LineReal o _ = ⊤
 abbrev pub PartReal : Point → Part → Type 0
 PartReal o = Saying (LineReal o)
 
-abbrev pub AllReal : Point → List Part → Type 0
-AllReal o = All (PartReal o)
-
 -- parts that leave all migrations as they are; the message at the front was told of
 abbrev FrontTold : Point → Option MsgId → Type 0
 FrontTold o front = (i : MsgId) → front ≡ Some i → is_some (o.view.told i) ≡ true
@@ -46,23 +43,17 @@ mild_line o front (Line.Head d) told h = absurd (h manager)
 mild_line o front (Line.Put a b i k q) told h = absurd (h manager)
 mild_line o front _ told h = tt
 
-mild_real : (o : Point) (front : Option MsgId) (ps : List Part) → FrontTold o front → ((me : Pid) → AllMild me front ps) → AllReal o ps
+mild_real : (o : Point) (front : Option MsgId) (ps : List Part) → FrontTold o front → ((me : Pid) → All (Mild me front) ps) → All (PartReal o) ps
 mild_real o front [] told h = tt
 mild_real o front (Says l ∷ ps) told h = (mild_line o front l told (λ me. (h me).0), mild_real o front ps told (λ me. (h me).1))
 mild_real o front (p ∷ ps) told h = (tt, mild_real o front ps told (λ me. (h me).1))
 
 -- deliveries and repeats
 net_line : (o : Point) (l : Line) → IsNetLine l → LineReal o l
-net_line o (Line.Taken a b n) h = tt
-net_line o (Line.Old a b n) h = tt
-net_line o (Line.Early a b n) h = tt
-net_line o (Line.Acked a b n) h = tt
-net_line o (Line.Resent m n) h = tt
-net_line o Line.Nothing h = tt
-net_line o _ h = absurd h
+net_line o l h1 = grind (arith, nat_tests)
 
 -- what kernels tell each other of a process
-sends_real : (o : Point) (to : ℕ) (ids : List MsgId) (ps : List Part) → AllReal o ps → AllReal o (sends_on to ids ++ ps)
+sends_real : (o : Point) (to : ℕ) (ids : List MsgId) (ps : List Part) → All (PartReal o) ps → All (PartReal o) (sends_on to ids ++ ps)
 sends_real o to [] ps h = h
 sends_real o to (i ∷ is) ps h = (tt, sends_real o to is ps h)
 
@@ -70,8 +61,8 @@ sends_real o to (i ∷ is) ps h = (tt, sends_real o to is ps h)
 abbrev pub HereReal : Point → Type 0
 HereReal o = (m : ℕ) (q : Pid) → o.view.known m q ≡ Here → IsReal o.kernel q
 
-hears_real : (b : Boot) (o : Point) (m : ℕ) (i : MsgId) (q : Option Told) (ps : List Part) → FrontTold o (Some i) → HereReal o → rule.hears b o m i q ≡ Some ps → AllReal o ps
-hears_real b o m i q ps told here = by_hears (AllReal o) b o m i q ps (λ t is. record {
+hears_real : (b : Boot) (o : Point) (m : ℕ) (i : MsgId) (q : Option Told) (ps : List Part) → FrontTold o (Some i) → HereReal o → rule.hears b o m i q ≡ Some ps → All (PartReal o) ps
+hears_real b o m i q ps told here = by_hears (All (PartReal o)) b o m i q ps (λ t is. record {
   told = λ p x about alive. (
       let h : IsReal o.kernel p = Made (ap is_some (alive-is (o.kernel.processes p) x alive)) in
       record {
@@ -95,17 +86,17 @@ hears_real b o m i q ps told here = by_hears (AllReal o) b o m i q ps (λ t is. 
   no_move = λ at_. (tt, tt);
   leaving = λ to at_. (tt, tt);
   coming = λ from at_. (tt, tt);
-  forwarded = λ to moves at_. by_forwards (AllReal o) o.addresses i t.kind manager to (told i refl, (tt, tt)) (told i refl, (tt, (tt, tt)));
+  forwarded = λ to moves at_. by_forwards (All (PartReal o)) o.addresses i t.kind manager to (told i refl, (tt, tt)) (told i refl, (tt, (tt, tt)));
   stays_here = λ at_. (tt, tt);
   frozen = λ to at_. (let h = here m t.receiver at_.known in (h, (h, (tt, tt))));
 })
 
-handles_real : (b : Boot) (o : Point) (m : ℕ) (i : MsgId) (msg : PlainMessage) (ps : List Part) → FrontTold o (Some i) → HereReal o → rule.handles b o m i msg ≡ Some ps → AllReal o ps
+handles_real : (b : Boot) (o : Point) (m : ℕ) (i : MsgId) (msg : PlainMessage) (ps : List Part) → FrontTold o (Some i) → HereReal o → rule.handles b o m i msg ≡ Some ps → All (PartReal o) ps
 handles_real b o m i msg ps told here e =
     -- what a turn says of a message of the bag
-    let real_loose : Loose (AllReal o) = record { none = tt; label = λ l ps h. (tt, h); routes = λ i ps h. (tt, h) } in
-    loose_handles (AllReal o) (AllReal o) real_loose (λ qs h. h) b o m i msg ps (λ at_. (tt, tt)) (tt, tt) (λ to at_ what apart. (let h = here m msg.to at_.known in (tt, (h, (h, (tt, tt))))))
-    (λ to moves at_. by_forwards (AllReal o) o.addresses i (plain_kind msg.what) msg.sender to (told i refl, (tt, tt)) (told i refl, (tt, (tt, tt)))) e
+    let real_loose : Loose (All (PartReal o)) = record { none = tt; label = λ l ps h. (tt, h); routes = λ i ps h. (tt, h) } in
+    loose_handles (All (PartReal o)) (All (PartReal o)) real_loose (λ qs h. h) b o m i msg ps (λ at_. (tt, tt)) (tt, tt) (λ to at_ what apart. (let h = here m msg.to at_.known in (tt, (h, (h, (tt, tt))))))
+    (λ to moves at_. by_forwards (All (PartReal o)) o.addresses i (plain_kind msg.what) msg.sender to (told i refl, (tt, tt)) (told i refl, (tt, (tt, tt)))) e
 
 -- what stands in an inbox was told of
 abbrev pub InboxTold : Point → Type 0
@@ -114,23 +105,20 @@ InboxTold o = (m : ℕ) (i : MsgId) (is : List MsgId) → o.view.inbox m ≡ i �
 front_is : (o : Point) (m : ℕ) (i : MsgId) (is : List MsgId) → InboxTold o → o.view.inbox m ≡ i ∷ is → FrontTold o (Some i)
 front_is o m i is told at j e = let f : i ≡ j = cc in subst (λ (x : MsgId). is_some (o.view.told x) ≡ true) f (told m i is at)
 
-pub outcome_real : (b : Boot) (o : Point) (d : Step) (ps : List Part) → InboxTold o → HereReal o → rule.outcome b o d ≡ Some ps → AllReal o ps
-outcome_real b o d ps told here = by_outcome (λ x. AllReal o) b o d ps (record {
+pub outcome_real : (b : Boot) (o : Point) (d : Step) (ps : List Part) → InboxTold o → HereReal o → rule.outcome b o d ≡ Some ps → All (PartReal o) ps
+outcome_real b o d ps told here = by_outcome (λ x. All (PartReal o)) b o d ps (record {
   round = λ m xs box e. mild_real o None xs (λ i k. cc) (λ p. round_mild p None b o m (rule.first_runnable o.kernel (o.view.queue m) (o.view.ring m)) xs e);
   handles = λ m i is msg xs box there e. handles_real b o m i msg xs (front_is o m i is told box) here e;
   hears = λ m i is xs box none e. hears_real b o m i (o.view.told i) xs (front_is o m i is told box) here e;
   ticks = λ m. net_says (LineReal o) (net_line o);
   delivers = λ a c k. net_says (LineReal o) (net_line o);
-  asks = λ p m. by_migrates (AllReal o) o p (tt, tt) (tt, tt) (λ n off is. (tt, tt));
+  asks = λ p m. by_migrates (All (PartReal o)) o p (tt, tt) (tt, tt) (λ n off is. (tt, tt));
 })
 
 -- who was made stays so, and there are as many machines
 pub record Rises (s t : OneKernel) : Type 0 where
   pub machines : t.machines ≡ s.machines
   pub made : (q : Pid) → is_some (s.processes q) ≡ true → is_some (t.processes q) ≡ true
-
-pub rises_same : (s : OneKernel) → Rises s s
-rises_same s = record { machines = refl; made = λ q e. e }
 
 real_rises : (s t : OneKernel) (q : Pid) → Rises s t → IsReal s q → IsReal t q
 real_rises s t q h e = grind (arith, nat_tests)
@@ -139,7 +127,7 @@ pub made_by : (a b : Option Life) → LifeGrows a b → is_some a ≡ true → i
 made_by a b g e = grind (arith, nat_tests, grown_none)
 
 step_rises : (r e : MsgId → ℕ) (s t : OneKernel) (o : Option Label) → kernel_after s o ≡ Some t → Sound r e s → InOrder s.manager → KernelFits s → Rises s t × InOrder t.manager × KernelFits t
-step_rises r e s t None is h order fits = let f : s ≡ t = cc in subst (λ (u : OneKernel). Rises s u × InOrder u.manager × KernelFits u) f (rises_same s, order, fits)
+step_rises r e s t None is h order fits = let f : s ≡ t = cc in subst (λ (u : OneKernel). Rises s u × InOrder u.manager × KernelFits u) f (record { machines = refl; made = λ q e. e }, order, fits)
 step_rises r e s t (Some l) is h order fits =
     (record { machines = (step_constant s t l is).machines; made = λ q some. made_by (s.processes q) (t.processes q) ((after_step r e s t l is h).grown.lives q) some }, (step_constant s t l is).pending order, fits_step r e s t l is h order fits)
 
@@ -160,33 +148,10 @@ abbrev pub Receivers : Point → Type 0
 Receivers o = (i : MsgId) (t : Told) → o.view.told i ≡ Some t → IsReal o.kernel t.receiver
 
 line_topic : (o pt : Point) (l : Line) → Receivers o → LineReal o l → Reals o pt → IsAboutReal pt.kernel (view_after pt.view l).topic
-line_topic o pt (Line.Migration Stage.Frozen p) known need h = subst (IsAboutReal pt.kernel) (sym (sets pt.view p pt.view.topic).topic) (real_rises o.kernel pt.kernel p h.rises need)
-line_topic o pt (Line.Migration Stage.Accepted p) known need h = real_rises o.kernel pt.kernel p h.rises need
-line_topic o pt (Line.Migration Stage.StateTaken p) known need h = real_rises o.kernel pt.kernel p h.rises need
-line_topic o pt (Line.Migration Stage.MemoryTaken p) known need h = real_rises o.kernel pt.kernel p h.rises need
-line_topic o pt (Line.Migration Stage.Left p) known need h = real_rises o.kernel pt.kernel p h.rises need
-line_topic o pt (Line.SentOn p n) known need h = real_rises o.kernel pt.kernel p h.rises need
-line_topic o pt (Line.Lacks p a b) known need h = real_rises o.kernel pt.kernel p h.rises need
-line_topic o pt (Line.Forwarded i m) known need h = search (arith, pt.kernel, real_rises, o.kernel, h.rises, h.topic)
-line_topic o pt (Line.Proto i) known need h =
-    let proto_real : (s : OneKernel) (v : View) (q : Option Told) → ((t : Told) → q ≡ Some t → IsAboutReal s t.about) → IsAboutReal s (view.after_proto v q).topic = λ s v q h. grind (arith, nat_tests) in
-    proto_real pt.kernel (handled pt.view i) (pt.view.told i) (λ t e. h.about i t e)
-line_topic o pt (Line.Label l) known need h = subst (IsAboutReal pt.kernel) (sym (label_topic pt.view l)) h.topic
-line_topic o pt (Line.Queued i) known need h = subst (IsAboutReal pt.kernel) (sym (queued_topic (handled pt.view i) i (receiver_of (pt.view.told i)))) h.topic
-line_topic o pt (Line.Held i) known need h = subst (IsAboutReal pt.kernel) (sym (held_topic (handled pt.view i) i (receiver_of (pt.view.told i)))) h.topic
-line_topic o pt (Line.Taken a b n) known need h = subst (IsAboutReal pt.kernel) (sym (taken_topic (view.with_pair pt.view a b _) b (view.oldest (pt.view.pair a b)))) h.topic
-line_topic o pt (Line.Head d) known need h = absurd need
-line_topic o pt (Line.Put a b i k q) known need h = absurd need
-line_topic o pt _ known need h = h.topic
-
-asked_real : (s : OneKernel) (o : Option PlainMessage) → IsAboutReal s (machine_in o)
-asked_real s None = tt
-asked_real s (Some m) = search (arith, m.what)
+line_topic o pt l h1 h2 h3 = grind (arith, nat_tests)
 
 topic_real : (s : OneKernel) (a : About) (o : Option Label) → IsAboutReal s a → IsAboutReal s (topic_by s a o)
-topic_real s a None h = h
-topic_real s a (Some (Label.Asked i)) h = asked_real s (s.bag i)
-topic_real s a (Some _) h = h
+topic_real s a o h1 = grind (arith, nat_tests)
 
 line_reals : (o pt : Point) (t : OneKernel) (l : Line) → Receivers o → LineReal o l → kernel_after pt.kernel (label_of l) ≡ Some t → Sane pt → Reals o pt → Reals o (moved pt l t)
 line_reals o pt t l known need is sane h =
@@ -194,8 +159,7 @@ line_reals o pt t l known need is sane h =
     let no_head : (o : Point) (n : ℕ) (l : Line) → LineReal o l → HeadIn n l = λ o n l h. grind (arith, nat_tests) in
     let no_put : (o : Point) (l : Line) → LineReal o l → is_put l ≡ false = λ o l h. grind (arith, nat_tests) in
     let s = pt.kernel in
-    let w = view_after pt.view l in
-    let same : (i : MsgId) → w.told i ≡ pt.view.told i = told_by pt.view l (no_put o l need) in
+    let same : (i : MsgId) → (view_after pt.view l).told i ≡ pt.view.told i = told_by pt.view l (no_put o l need) in
     let (rises, order, fits) = step_rises sane.r sane.e s t (label_of l) is sane.sound h.order h.fits in
     let within = line_within s.machines pt.view l (no_head o s.machines l need) h.within in
     let rises_on : (s t u : OneKernel) → Rises s t → Rises t u → Rises s u = λ s t u h k. record { machines = k.machines ∙ h.machines; made = λ q e. k.made q (h.made q e) } in
@@ -208,7 +172,7 @@ line_reals o pt t l known need is sane h =
       own = λ i u e mine. subst (λ (k : ℕ). i.from.home < k) (sym rises.machines) (h.own i u (sym (same i) ∙ e) mine);
       receiver = λ i u e other. real_rises s t u.receiver rises (h.receiver i u (sym (same i) ∙ e) other);
       about = λ i u e. about_rises s t u.about rises (h.about i u (sym (same i) ∙ e));
-      topic = about_rises s t (moved pt l t).view.topic rises (topic_real s w.topic (label_of l) (line_topic o pt l known need h));
+      topic = about_rises s t (moved pt l t).view.topic rises (topic_real s (view_after pt.view l).topic (label_of l) (line_topic o pt l known need h));
     }
 
 -- a put
@@ -223,24 +187,23 @@ record Puts (pt : Point) (i : MsgId) (q : Pid) : Type 0 where
 put_reals : (o pt : Point) (b : ℕ) (i : MsgId) (k : MessageKind) (q : Pid) → Puts pt i q → Reals o pt → Reals o (moved pt (Line.Put pt.view.acting b i k q) pt.kernel)
 put_reals o pt b i k q new h =
     let v = pt.view in
-    let s = pt.kernel in
     record {
-      within = line_within s.machines v (Line.Put v.acting b i k q) tt h.within;
+      within = line_within pt.kernel.machines v (Line.Put v.acting b i k q) tt h.within;
       fits = h.fits;
       order = h.order;
       rises = h.rises;
       kept = λ j t e. told_kept v v.acting b i k q j t (h.kept j t e);
       own = λ j t e mine. elim (let e_ : (v.told j ≡ Some t) ⊎ ((i ≡ j) × (v.told i ≡ None) × (put_of v k q ≡ t)) = grind (arith, nat_tests, id_eq-is, put_at, put_told_off) in e_) [
         | inl old ↦ h.own j t old mine
-        | inr put ↦ subst (λ (x : MsgId). x.from.home < s.machines) put.0 (new.mine put.1 (ap is_kernels put.0 ∙ mine))
+        | inr put ↦ subst (λ (x : MsgId). x.from.home < pt.kernel.machines) put.0 (new.mine put.1 (ap is_kernels put.0 ∙ mine))
       ];
       receiver = λ j t e other. elim (let e_ : (v.told j ≡ Some t) ⊎ ((i ≡ j) × (v.told i ≡ None) × (put_of v k q ≡ t)) = grind (arith, nat_tests, id_eq-is, put_at, put_told_off) in e_) [
         | inl old ↦ h.receiver j t old other
-        | inr put ↦ subst (λ (u : Told). IsReal s u.receiver) put.2 (new.other put.1 (ap is_kernels put.0 ∙ other))
+        | inr put ↦ subst (λ (u : Told). IsReal pt.kernel u.receiver) put.2 (new.other put.1 (ap is_kernels put.0 ∙ other))
       ];
       about = λ j t e. elim (let e_ : (v.told j ≡ Some t) ⊎ ((i ≡ j) × (v.told i ≡ None) × (put_of v k q ≡ t)) = grind (arith, nat_tests, id_eq-is, put_at, put_told_off) in e_) [
         | inl old ↦ h.about j t old
-        | inr put ↦ subst (λ (u : Told). IsAboutReal s u.about) put.2 h.topic
+        | inr put ↦ subst (λ (u : Told). IsAboutReal pt.kernel u.about) put.2 h.topic
       ];
       topic = h.topic;
     }
@@ -298,7 +261,7 @@ begins_real b pt d fit run h =
       within = line_within pt.kernel.machines pt.view (Line.Head d) (head_less pt.kernel.machines d fit) (record { known = λ m q some. run.found.known_within m q some; acting = run.kept.line.acting });
       fits = run.based.fits;
       order = run.based.pending;
-      rises = rises_same pt.kernel;
+      rises = record { machines = refl; made = λ q e. e };
       kept = λ i t e. same i ∙ e;
       own = λ i t e mine. h.own i t (sym (same i) ∙ e) mine;
       receiver = λ i t e other. h.receiver i t (sym (same i) ∙ e) other;
@@ -309,7 +272,7 @@ begins_real b pt d fit run h =
 real_group : (b : Boot) (pt : Point) (d : Step) (w : Spelled) → IsStep pt.kernel.machines d → group_of b pt d ≡ Some w → Run b pt → RealAt pt → RealAt w.point
 real_group b pt d w fit e run h =
     -- a group
-    let parts_reals : (o : Point) (ps : List Part) (pt : Point) (w : Spelled) → Receivers o → AllReal o ps → AllSayable ps → Sane pt → spelled pt ps ≡ Some w → Reals o pt → Reals o w.point = λ o qs q w known need ok sane is h.
+    let parts_reals : (o : Point) (ps : List Part) (pt : Point) (w : Spelled) → Receivers o → All (PartReal o) ps → AllSayable ps → Sane pt → spelled pt ps ≡ Some w → Reals o pt → Reals o w.point = λ o qs q w known need ok sane is h.
       let packet_reals : (o : Point) → PacketsKeep (Reals o) = λ o pt a b k l h. search in
       sane_lead (Reals o) (packet_reals o) (PartReal o) (λ pt p so say fine. reals_behind o pt p known so fine) qs q w need ok sane is h in
     let here_real : (b : Boot) (pt : Point) → Run b pt → HereReal pt = λ b pt run m q here. known_real b pt m q run (λ e. let f : Here ≡ Unknown = sym here ∙ e in cc) in
@@ -329,13 +292,12 @@ real_always b es pt valid leads =
     let counted_real : (s : OneKernel) (i : MsgId) → counts s i ≡ true → IsReal s i.from = λ s i e. search arith in
     let real = keeps_always b RealAt (λ q d w fit is h. real_group b q d w fit is h) valid (start_real b) es pt leads in
     let run = (run_always b es pt valid leads).run in
-    let sane = run.based.phased.sane in
     record {
       named = λ h q e. core_real b pt q run (named_real pt pt.kernel.machines h q run.kept e);
-      bag = λ i m there. counted_real pt.kernel i (bag_counted sane.r sane.e pt.kernel i m sane.sound there);
+      bag = λ i m there. counted_real pt.kernel i (bag_counted run.based.phased.sane.r run.based.phased.sane.e pt.kernel i m run.based.phased.sane.sound there);
       told = λ i t told. elim (cases_Bool (is_kernels i)) [
         | inl own ↦ Kernel (from_kernel i own) (real.own i t told own)
-        | inr other ↦ counted_real pt.kernel i (told_counted pt i t sane told other)
+        | inr other ↦ counted_real pt.kernel i (told_counted pt i t run.based.phased.sane told other)
       ];
       receiver = receivers b pt run real;
       about = real.about;

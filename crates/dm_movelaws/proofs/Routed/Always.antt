@@ -56,9 +56,6 @@ set_quiet : (s t : OneKernel) (p : Pid) (x : PlainProcess) (life : Life) → s.p
     → t.switchboard ≡ s.switchboard → t.manager ≡ s.manager → t.processes ≡ (with_process s p life).processes → Quiet s t
 set_quiet s t p x life is fewer b g set = grind (arith, nat_tests, pid_eq-is)
 
-alive_fewer : (x y : PlainProcess) → y.sent ≡ x.sent → (n : ℕ) → has_sent n (Some (Alive y)) ≡ true → nat_lt n x.sent ≡ true
-alive_fewer x y e n h = less n x.sent y.sent (sym e) h
-
 next_sent : (u : OneKernel) (m : PlainMessage) (p : Pid) (n after : ℕ) (i : MsgId) → m.id ≡ id_of p n → after ≡ n + 1 → i.answer ≡ false → i.from ≡ p → nat_lt i.n after ≡ true → Was (nat_lt i.n n) ((with_sent u (Some m)).bag i)
 next_sent u m p n after i id count ask from h = grind (arith, nat_tests, name_is, sent_at, id_eq-same)
 
@@ -82,7 +79,7 @@ counts_manager s id g (Some m) h i ask = grind (arith, nat_tests, counts_by, nex
 
 -- the receiver of a message goes on
 changed_counts : (s t : OneKernel) (id : MsgId) (m : PlainMessage) (x y : PlainProcess) → s.processes m.to ≡ Some (Alive x) → y.sent ≡ x.sent → t.switchboard ≡ s.switchboard → t.manager ≡ s.manager → t.processes ≡ (with_process s m.to (Alive y)).processes → CountsSo s t
-changed_counts s t id m x y is sent b g set = counts_quiet s t (set_quiet s t m.to x (Alive y) is (alive_fewer x y sent) b g set)
+changed_counts s t id m x y is sent b g set = counts_quiet s t (set_quiet s t m.to x (Alive y) is (λ n h. less n x.sent y.sent (sym sent) h) b g set)
 
 answers_counts : (s : OneKernel) (id : MsgId) (o : Option PlainMessage) → CountsSo s (with_sent (without_message s id) o)
 answers_counts s id None = counts_quiet s (without_message s id) (grind (arith, nat_tests))
@@ -95,7 +92,7 @@ step_counts s t l =
       λ s p y q n none e. grind (arith, nat_tests, less) in
     let ended_fewer : (x : PlainProcess) (y : Why) (n : ℕ) → has_sent n (Some (Ended y)) ≡ true → nat_lt n x.sent ≡ true = λ x y n h. absurd (false≢true h) in
     let goes_counts : (s : OneKernel) (p : Pid) (x y : PlainProcess) → s.processes p ≡ Some (Alive x) → y.sent ≡ x.sent → CountsSo s (kernel.goes_on s p y) =
-      λ s p x y is sent. counts_quiet s (kernel.goes_on s p y) (set_quiet s (kernel.goes_on s p y) p x (Alive y) is (alive_fewer x y sent) refl refl refl) in
+      λ s p x y is sent. counts_quiet s (kernel.goes_on s p y) (set_quiet s (kernel.goes_on s p y) p x (Alive y) is (λ n h. less n x.sent y.sent (sym sent) h) refl refl refl) in
     by_step (CountsSo s) s t l (record {
   ran = λ p k x m is w. goes_counts s p x (kernel.with_machine x m) w.alive refl;
   replies = λ p n k c d y is w. (let (z, sent, pending, counted) = w.so.counts in goes_counts s p w.so.x y w.so.is.alive (counted.0 ∙ sent));
@@ -103,7 +100,7 @@ step_counts s t l =
   waits = λ p k y is w. (let (z, sent, pending, counted) = w.so.counts in goes_counts s p w.so.x y w.so.is.alive (counted.0 ∙ sent));
   outputs = λ p word k v y is w. (let (z, sent, pending, counted) = w.so.counts in goes_counts s p w.so.x y w.so.is.alive (counted.0 ∙ sent));
   ends = λ p y next is w. counts_quiet s (with_process s p (Ended y)) (set_quiet s (with_process s p (Ended y)) p w.so.x (Ended y) w.so.is.alive (ended_fewer w.so.x y) refl refl refl);
-  receives = λ p id y is w c. (let v = kernel.goes_on (without_message s id) p y in counts_quiet s v (set_quiet s v p w.x (Alive y) w.alive (alive_fewer w.x y w.is.0) refl refl refl));
+  receives = λ p id y is w c. (let v = kernel.goes_on (without_message s id) p y in counts_quiet s v (set_quiet s v p w.x (Alive y) w.alive (λ n h. less n w.x.sent y.sent (sym w.is.0) h) refl refl refl));
   refuses = λ p id c d y is w e. goes_counts s p w.x y w.alive w.is.0;
   dropped = λ id m y is w e. answers_counts s id None;
   gone = λ id m y is w v e. answers_counts s id (Some (answer_to m v));
@@ -133,9 +130,6 @@ LineOuts P l = ⊤
 abbrev pub PartOuts : (MsgId → Type 0) → Part → Type 0
 PartOuts P = Saying (LineOuts P)
 
-abbrev pub AllOuts : (MsgId → Type 0) → List Part → Type 0
-AllOuts P = All (PartOuts P)
-
 nothing : (P : MsgId → Type 0) (i : MsgId) → None ≡ Some i → P i
 nothing P i e = cc
 
@@ -146,7 +140,7 @@ just P j h i e = let f : j ≡ i = cc in subst P f h
 abbrev pub In : (MsgId → Type 0) → List MsgId → Type 0
 In P ids = (i : MsgId) → 1 ≤ times i ids → P i
 
-drops_outs : (P : MsgId → Type 0) (ids : List MsgId) → In P ids → AllOuts P (rule.drop_parts ids)
+drops_outs : (P : MsgId → Type 0) (ids : List MsgId) → In P ids → All (PartOuts P) (rule.drop_parts ids)
 drops_outs P [] h = tt
 drops_outs P (j ∷ js) h = (just P j (h j (times_self j js)), drops_outs P js (λ i least. h i (let m = times_more i j js in omega (arith, least, m))))
 
@@ -155,11 +149,11 @@ abbrev pub Queues : (MsgId → Type 0) → Point → ℕ → Type 0
 Queues P o m = (p : Pid) → In P (o.view.queue m p)
 
 -- a process is served
-round_outs : (P : MsgId → Type 0) (b : Boot) (o : Point) (m : ℕ) (q : Option Pid) (ps : List Part) → Queues P o m → rule.goes_round b o m q ≡ Some ps → AllOuts P ps
-round_outs P b o m q ps h = by_round (AllOuts P) b o m q ps (tt, tt) (λ p x is alive. record {
+round_outs : (P : MsgId → Type 0) (b : Boot) (o : Point) (m : ℕ) (q : Option Pid) (ps : List Part) → Queues P o m → rule.goes_round b o m q ≡ Some ps → All (PartOuts P) ps
+round_outs P b o m q ps h = by_round (All (PartOuts P)) b o m q ps (tt, tt) (λ p x is alive. record {
   runs = λ k rest f. (
     nothing P,
-    f (AllOuts P) (record {
+    f (All (PartOuts P)) (record {
       over = tt;
       replies = λ n r. (nothing P, tt);
       sends = λ id. (nothing P, (tt, tt));
@@ -172,11 +166,11 @@ round_outs P b o m q ps h = by_round (AllOuts P) b o m q ps (tt, tt) (λ p x is 
   refuses = λ id r. (nothing P, tt);
 })
 
-handles_outs : (P : MsgId → Type 0) (b : Boot) (o : Point) (m : ℕ) (id : MsgId) (msg : PlainMessage) (ps : List Part) → P id → Queues P o m → rule.handles b o m id msg ≡ Some ps → AllOuts P ps
-handles_outs P b o m id msg ps h q = by_handles (AllOuts P) b o m id msg ps (record {
+handles_outs : (P : MsgId → Type 0) (b : Boot) (o : Point) (m : ℕ) (id : MsgId) (msg : PlainMessage) (ps : List Part) → P id → Queues P o m → rule.handles b o m id msg ≡ Some ps → All (PartOuts P) ps
+handles_outs P b o m id msg ps h q = by_handles (All (PartOuts P)) b o m id msg ps (record {
   created = λ fixed. (just P id h, (tt, tt));
   no_space = λ fixed slots blocks. (just P id h, (tt, tt));
-  took = λ fixed sent. (just P id h, (let e_ : AllOuts P (rule.routes sent) = grind (arith, nat_tests) in e_));
+  took = λ fixed sent. (just P id h, (let e_ : All (PartOuts P) (rule.routes sent) = grind (arith, nat_tests) in e_));
   queued = λ here user. (tt, tt);
   served = λ here mild. (just P id h, tt);
   answers = λ here mild i. (just P id h, (tt, tt));
@@ -187,7 +181,7 @@ handles_outs P b o m id msg ps h q = by_handles (AllOuts P) b o m id msg ps (rec
   dropped = λ ended. (just P id h, tt);
   leaving = λ to at_. (tt, tt);
   coming = λ from at_. (tt, tt);
-  forwarded = λ to moves at_. by_forwards (AllOuts P) o.addresses id (plain_kind msg.what) msg.sender to (tt, (tt, tt)) (tt, (tt, (tt, tt)));
+  forwarded = λ to moves at_. by_forwards (All (PartOuts P)) o.addresses id (plain_kind msg.what) msg.sender to (tt, (tt, tt)) (tt, (tt, (tt, tt)));
 })
 
 -- a kernel's own message: no label is said
@@ -195,22 +189,22 @@ outs_line : (P : MsgId → Type 0) (l : Line) → IsHeardLine l → LineOuts P l
 outs_line P (Line.Label l) h = absurd h
 outs_line P _ h = tt
 
-hears_outs : (P : MsgId → Type 0) (b : Boot) (o : Point) (m : ℕ) (id : MsgId) (q : Option Told) (ps : List Part) → rule.hears b o m id q ≡ Some ps → AllOuts P ps
-hears_outs P b o m id q ps = hears_kept (AllOuts P) (record { none = tt; says = λ l ps h k. (outs_line P l h, k); again = λ i to ps k. (tt, k); owns = λ k q to ps h. (tt, h); answers = λ i r. (nothing P, (tt, tt)) }) b o m id q ps
+hears_outs : (P : MsgId → Type 0) (b : Boot) (o : Point) (m : ℕ) (id : MsgId) (q : Option Told) (ps : List Part) → rule.hears b o m id q ≡ Some ps → All (PartOuts P) ps
+hears_outs P b o m id q ps = hears_kept (All (PartOuts P)) (record { none = tt; says = λ l ps h k. (outs_line P l h, k); again = λ i to ps k. (tt, k); owns = λ k q to ps h. (tt, h); answers = λ i r. (nothing P, (tt, tt)) }) b o m id q ps
 
 -- deliveries, repeats and requests to move have none
 net_line : (P : MsgId → Type 0) (l : Line) → IsNetLine l → LineOuts P l
 net_line P (Line.Label l) h = absurd h
 net_line P l h = tt
 
-pub outcome_outs : (P : MsgId → Type 0) (b : Boot) (o : Point) (d : Step) (ps : List Part) → ((m : ℕ) → In P (o.view.inbox m)) → ((m : ℕ) → Queues P o m) → rule.outcome b o d ≡ Some ps → AllOuts P ps
-outcome_outs P b o d ps h q = by_outcome (λ x. AllOuts P) b o d ps (record {
+pub outcome_outs : (P : MsgId → Type 0) (b : Boot) (o : Point) (d : Step) (ps : List Part) → ((m : ℕ) → In P (o.view.inbox m)) → ((m : ℕ) → Queues P o m) → rule.outcome b o d ≡ Some ps → All (PartOuts P) ps
+outcome_outs P b o d ps h q = by_outcome (λ x. All (PartOuts P)) b o d ps (record {
   round = λ m xs box e. round_outs P b o m (rule.first_runnable o.kernel (o.view.queue m) (o.view.ring m)) xs (q m) e;
   handles = λ m i is msg xs box there e. handles_outs P b o m i msg xs (subst (In P) box (h m) i (times_self i is)) (q m) e;
   hears = λ m i is xs box none e. hears_outs P b o m i (o.view.told i) xs e;
   ticks = λ m. net_says (LineOuts P) (net_line P);
   delivers = λ a c k. net_says (LineOuts P) (net_line P);
-  asks = λ p m. by_migrates (AllOuts P) o p (tt, tt) (tt, tt) (λ n off is. (tt, tt));
+  asks = λ p m. by_migrates (All (PartOuts P)) o p (tt, tt) (tt, tt) (λ n off is. (tt, tt));
 })
 
 -- a message that was told of
@@ -300,15 +294,12 @@ put_at : (v : View) (l : Line) (i : MsgId) (ids : List MsgId) → IsTold (view_a
 put_at v (Line.Put a b id k q) i ids h = grind (arith, nat_tests, id_eq-is, put_told_off)
 put_at v l i ids h = inl (ap (λ (f : MsgId → Option Told). is_some (f i)) (sym (hushed v l refl).told) ∙ h)
 
-put_more : (l : Line) (i : MsgId) (ids : List MsgId) → times i ids ≤ times i (with_put l ids)
-put_more l i ids = grind (arith, nat_tests, times_more)
-
 put_among : (ls : List Line) (pt q : Point) (i : MsgId) → after pt ls ≡ Some q → IsTold q.view i → IsTold pt.view i ⊎ (1 ≤ times i (routed ls))
 put_among [] pt q i e h = let f : pt ≡ q = cc in inl (subst (λ (x : Point). IsTold x.view i) (sym f) h)
 put_among (l ∷ ls) pt q i e h =
     let (next, first, rest) = bind-is (after_line pt l) (λ (x : Point). after x ls) q e in
     elim (put_among ls next q i rest h) [
-      | inr later ↦ inr (let m = put_more l i (routed ls) in omega (arith, later, m))
+      | inr later ↦ inr (let m : times i (routed ls) ≤ times i (with_put l (routed ls)) = grind (arith, nat_tests, times_more) in omega (arith, later, m))
       | inl before ↦ put_at pt.view l i (routed ls) (subst (λ (v : View). IsTold v i) (line_view pt next l first) before)
     ]
 
@@ -318,7 +309,7 @@ more_first (x ∷ xs) ys i = grind (arith, nat_tests, (more_first xs ys i))
 
 more_last : (xs ys : List Line) (i : MsgId) → times i (routed ys) ≤ times i (routed (xs ++ ys))
 more_last [] ys i = omega arith
-more_last (x ∷ xs) ys i = let h = more_last xs ys i in let m = put_more x i (routed (xs ++ ys)) in omega (arith, h, m)
+more_last (x ∷ xs) ys i = let h = more_last xs ys i in let m : times i (routed (xs ++ ys)) ≤ times i (with_put x (routed (xs ++ ys))) = grind (arith, nat_tests, times_more) in omega (arith, h, m)
 
 -- a run
 record ToldBy (pt end : Point) (ls : List Line) : Type 0 where

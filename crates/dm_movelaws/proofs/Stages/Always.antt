@@ -8,9 +8,9 @@ use Rattle.dm_onekernel.specs.Step as kernel
 use Rattle.dm_rule.specs.Rule as rule
 use Rattle.dm_rule.proofs.Groups as groups
 use Rattle.dm_movelaws.proofs.Stages.Spares.{mark_in, spares_same, spares_calm, Marked, none_marked, order-append, marks-append, marks_of, group_says}
-use Rattle.dm_movelaws.proofs.Stages.Rows.{about_others, plain_others, row_marked, AllMild, mild_marks, net_marks, TameAt, parts_spare}
+use Rattle.dm_movelaws.proofs.Stages.Rows.{about_others, plain_others, row_marked, mild_marks, net_marks, TameAt, parts_spare, Mild}
 use Rattle.dm_movelaws.proofs.Stages.Steps.{freezes_row, setting_row, told_marked, round_mild, handles_mild, Hears, Calms, Freezes, Handled, Spared, SetsOff, freezes, forwards_mild}
-use Rattle.dm_movelaws.proofs.Leading.{next_of, line_fits}
+use Rattle.dm_movelaws.proofs.Leading.{next_of, line_fits, All}
 
 -- where the parts of a turn begin
 pub record Turning (o pt : Point) (m : ℕ) : Type 0 where
@@ -25,7 +25,7 @@ abbrev MarkedBy : Point → Spelled → List Part → Type 0
 MarkedBy pt w ps = (p : Pid) → Marked pt.view w.point.view p (marks_of p ps)
 
 -- parts that leave all processes alone
-mild_marked : (pt : Point) (front : Option MsgId) (ps : List Part) (w : Spelled) → Sane pt → PairsFit pt.view → TameAt pt.view front → ((p : Pid) → AllMild p front ps) → spelled pt ps ≡ Some w → MarkedBy pt w ps
+mild_marked : (pt : Point) (front : Option MsgId) (ps : List Part) (w : Spelled) → Sane pt → PairsFit pt.view → TameAt pt.view front → ((p : Pid) → All (Mild p front) ps) → spelled pt ps ≡ Some w → MarkedBy pt w ps
 mild_marked pt front ps w sane fits tame mild e p =
     none_marked pt.view w.point.view p (marks_of p ps) (mild_marks p front ps (mild p)) (parts_spare p front ps pt.view pt w (mild p) (record { spares = spares_same pt.view p; sane = sane; fits = fits; tame = tame }) e).spares
 
@@ -40,25 +40,22 @@ kernel_marked b o pt m i is t (Of q) ps w h front told about e n =
 kernel_marked b o pt m i is t _ ps w h front told about e n = cc
 
 process_marked : (o pt : Point) (m : ℕ) (i : MsgId) (is : List MsgId) (t : Told) (k : Known) (ps : List Part) (w : Spelled) → Turning o pt m → pt.view.inbox pt.view.acting ≡ i ∷ is → pt.view.told i ≡ Some t → is_between t.kind ≡ false → o.view.known m t.receiver ≡ k → Hears k i t ps → spelled pt ps ≡ Some w → MarkedBy pt w ps
-process_marked o pt m i is t k ps w h front told plain known (Calms mild) n =
-    mild_marked pt (Some i) ps w h.sane h.fits (tame_front pt.view i (record { what = t; told = told; plain = plain })) mild n
+process_marked o pt m i is t k ps w h front told plain known (Calms mild) n = mild_marked pt (Some i) ps w h.sane h.fits (tame_front pt.view i (record { what = t; told = told; plain = plain })) mild n
 process_marked o pt m i is t k ps w h front told plain known (Freezes here are) n =
     let q = t.receiver in
-    let to = target_of (Some t) in
-    let here_ = h.same q ∙ known ∙ here in
     subst (MarkedBy pt w) (sym are)
-    (row_marked pt.view w.point.view q (λ p. marks_of p (freezes q to))
-    (freezes_row pt i is q to w (record { sane = h.sane; fits = h.fits; front = front; others = plain_others pt.view i t q told plain }) h.topic here_ (ap (spelled pt) (sym are) ∙ n)))
+    (row_marked pt.view w.point.view q (λ p. marks_of p (freezes q (target_of (Some t))))
+    (freezes_row pt i is q (target_of (Some t)) w (record { sane = h.sane; fits = h.fits; front = front; others = plain_others pt.view i t q told plain }) h.topic (h.same q ∙ known ∙ here) (ap (spelled pt) (sym are) ∙ n)))
 
 hears_by : (b : Boot) (o pt : Point) (m : ℕ) (i : MsgId) (is : List MsgId) (t : Told) (c d g : Bool) (ps : List Part) (w : Spelled) → Turning o pt m → (t.receiver.num == 0) ≡ c → pt.view.inbox pt.view.acting ≡ i ∷ is → pt.view.told i ≡ Some t
     → (if c then rule.kernel_hears b o m i t.kind t.about else if d then told_server o i t (sort_of t.kind) else if g then told_server o i t (sort_of t.kind) else process_told o m i t (o.view.known m t.receiver)) ≡ Some ps → spelled pt ps ≡ Some w → MarkedBy pt w ps
 hears_by b o pt m i is t true d g ps w h c front told e n = kernel_marked b o pt m i is t t.about ps w h front told refl e n
 hears_by b o pt m i is t false true g ps w h c front told e n =
-    let server_mild : (o : Point) (id : MsgId) (t : Told) (k : MessageKind) (ps : List Part) → told_server o id t (sort_of k) ≡ Some ps → (me : Pid) → AllMild me (Some id) ps = λ o id t k ps e me. grind (arith, nat_tests) in
+    let server_mild : (o : Point) (id : MsgId) (t : Told) (k : MessageKind) (ps : List Part) → told_server o id t (sort_of k) ≡ Some ps → (me : Pid) → All (Mild me (Some id)) ps = λ o id t k ps e me. grind (arith, nat_tests) in
     let plain = plain_by pt i is t h.phases (is_between t.kind) refl front told c in
     mild_marked pt (Some i) ps w h.sane h.fits (tame_front pt.view i (record { what = t; told = told; plain = plain })) (server_mild o i t t.kind ps e) n
 hears_by b o pt m i is t false false true ps w h c front told e n =
-    let server_mild : (o : Point) (id : MsgId) (t : Told) (k : MessageKind) (ps : List Part) → told_server o id t (sort_of k) ≡ Some ps → (me : Pid) → AllMild me (Some id) ps = λ o id t k ps e me. grind (arith, nat_tests) in
+    let server_mild : (o : Point) (id : MsgId) (t : Told) (k : MessageKind) (ps : List Part) → told_server o id t (sort_of k) ≡ Some ps → (me : Pid) → All (Mild me (Some id)) ps = λ o id t k ps e me. grind (arith, nat_tests) in
     let plain = plain_by pt i is t h.phases (is_between t.kind) refl front told c in
     mild_marked pt (Some i) ps w h.sane h.fits (tame_front pt.view i (record { what = t; told = told; plain = plain })) (server_mild o i t t.kind ps e) n
 hears_by b o pt m i is t false false false ps w h c front told e n =
@@ -69,16 +66,15 @@ hears_marked : (b : Boot) (o pt : Point) (m : ℕ) (i : MsgId) (is : List MsgId)
 hears_marked b o pt m i is None ps w h front told e n = cc
 hears_marked b o pt m i is (Some t) ps w h front told e n = hears_by b o pt m i is t (t.receiver.num == 0) (pid_eq t.receiver switchboard) (pid_eq t.receiver manager) ps w h refl front told e n
 
--- a turn
-front_tame : (pt : Point) (i : MsgId) (is : List MsgId) (msg : PlainMessage) → Sane pt → State None pt → pt.view.inbox pt.view.acting ≡ i ∷ is → pt.kernel.bag i ≡ Some msg → Tame pt.view i
-front_tame pt i is msg sane state front there =
-    let (q, way) = front_way pt i is state front in
-    let (t, told) = told_some (pt.view.told i) q (state.stands.told i q way) in
-    record { what = t; told = told; plain = plain_in_bag pt i msg sane there t told }
-
 handled_marked : (o pt : Point) (m : ℕ) (i : MsgId) (is : List MsgId) (msg : PlainMessage) (ps : List Part) (w : Spelled) → Turning o pt m → pt.view.inbox pt.view.acting ≡ i ∷ is → pt.kernel.bag i ≡ Some msg → Handled o m i msg ps
     → spelled pt ps ≡ Some w → MarkedBy pt w ps
-handled_marked o pt m i is msg ps w h box there (Spared mild) e p = mild_marked pt (Some i) ps w h.sane h.fits (tame_front pt.view i (front_tame pt i is msg h.sane h.state box there)) mild e p
+handled_marked o pt m i is msg ps w h box there (Spared mild) e p =
+    -- a turn
+    let front_tame : (pt : Point) (i : MsgId) (is : List MsgId) (msg : PlainMessage) → Sane pt → State None pt → pt.view.inbox pt.view.acting ≡ i ∷ is → pt.kernel.bag i ≡ Some msg → Tame pt.view i = λ pt i is msg sane state front there.
+      let (q, way) = front_way pt i is state front in
+      let (t, told) = told_some (pt.view.told i) q (state.stands.told i q way) in
+      record { what = t; told = told; plain = plain_in_bag pt i msg sane there t told } in
+    mild_marked pt (Some i) ps w h.sane h.fits (tame_front pt.view i (front_tame pt i is msg h.sane h.state box there)) mild e p
 handled_marked o pt m i is msg ps w h box there (SetsOff to here what are) e p =
     let q = msg.to in
     let l = Line.Label (Label.Asked i) in
@@ -101,13 +97,10 @@ outcome_marked b pt d ps w h is =
       λ pt ps w net n p. none_marked pt.view w.point.view p (marks_of p ps) (net_marks p ps net) (spares_calm pt.view w.point.view p (net_parts ps pt w net n)) in
     by_outcome (λ x xs. (u : Spelled) → spelled (begun pt x) xs ≡ Some u → MarkedBy (begun pt x) u xs) b pt d ps (record {
   round = λ m xs box e u. (
-      let t = turning pt m h in
-      mild_marked (begun pt (Step.Turn m)) None xs u t.sane t.fits (λ i k. cc) (λ p. round_mild p None b pt m (rule.first_runnable pt.kernel (pt.view.queue m) (pt.view.ring m)) xs e)
+      mild_marked (begun pt (Step.Turn m)) None xs u (turning pt m h).sane (turning pt m h).fits (λ i k. cc) (λ p. round_mild p None b pt m (rule.first_runnable pt.kernel (pt.view.queue m) (pt.view.ring m)) xs e)
       );
   handles = λ m i is msg xs box there e u. (
-      let start = begun pt (Step.Turn m) in
-      let t = turning pt m h in
-      handled_marked pt start m i is msg xs u t box there (handles_mild b pt m i msg xs e)
+      handled_marked pt (begun pt (Step.Turn m)) m i is msg xs u (turning pt m h) box there (handles_mild b pt m i msg xs e)
       );
   hears = λ m i is xs box none e u. hears_marked b pt (begun pt (Step.Turn m)) m i is (pt.view.told i) xs u (turning pt m h) box refl e;
   ticks = λ m xs net u. net_marked (begun pt (Step.Tick m)) xs u net;
@@ -138,15 +131,12 @@ pub run_marked : (b : Boot) (es : List Step) (ls : List Line) (pt end : Point) (
 run_marked b [] ls pt end p (none, at) h = ap (λ (xs : List Line). in_order (mark_in (h.phases.of p)) (marks p xs)) none
 run_marked b (d ∷ ds) ls pt end p (w, rest, fit, is, split, more) h =
     let k = phased_group b pt d w fit is h in
-    let o = mark_in (h.phases.of p) in
     let g = group_marked b pt d w is h p (h.phases.of p) (k.phases.of p) (h.phases.each p) (k.phases.each p) (not_due pt.view h.phases p) (not_due w.point.view k.phases p) in
-    let later = run_marked b ds rest w.point end p more k in
-    ap (λ (xs : List Line). in_order o (marks p xs)) split ∙ ap (in_order o) (marks-append p w.lines rest)
-    ∙ order-append o (marks p w.lines) (marks p rest) g.0 (ap (λ (x : Option Mark). in_order x (marks p rest)) g.1 ∙ later)
+    ap (λ (xs : List Line). in_order (mark_in (h.phases.of p)) (marks p xs)) split ∙ ap (in_order (mark_in (h.phases.of p))) (marks-append p w.lines rest)
+    ∙ order-append (mark_in (h.phases.of p)) (marks p w.lines) (marks p rest) g.0 (ap (λ (x : Option Mark). in_order x (marks p rest)) g.1 ∙ run_marked b ds rest w.point end p more k)
 
 -- wherever the rule leads
 pub steps_in_order : StepsInOrder
 steps_in_order b es ls pt p valid leads =
-    let h = phased_start b valid in
-    let none : mark_in (h.phases.of p) ≡ None = grind (arith, nat_tests, (h.phases.each p), (not_due (first_view b) h.phases p)) in
-    ap (λ (o : Option Mark). in_order o (marks p ls)) (sym none) ∙ run_marked b es ls (first_point b) pt p leads h
+    let none : mark_in ((phased_start b valid).phases.of p) ≡ None = grind (arith, nat_tests, ((phased_start b valid).phases.each p), (not_due (first_view b) (phased_start b valid).phases p)) in
+    ap (λ (o : Option Mark). in_order o (marks p ls)) (sym none) ∙ run_marked b es ls (first_point b) pt p leads (phased_start b valid)

@@ -1,13 +1,13 @@
 -- Lines that leave the migration of a process as it is.
-use Rattle.dm_movelaws.proofs.Names.{◌≡◌, ℕ, ◌≤◌, Bool, true, false, List, [], ◌∷◌, ◌++◌, refl, ap, ◌∙◌, sym, subst, inl, inr, arith, if◌then◌else◌, Option, None, Some, cases_Bool, false≢true, Pid, pid_eq, MsgId, MessageKind, id_eq, bind}
-use Rattle.dm_movelaws.proofs.Names.{Line, View, Told, Of, own_id, view_after, handled, is_between, Point, label_of, kernel_after, moved, Part, Says, Owns, Spelled, behind, spelled, Spot, Inbox, times, ids_at, id_eq-is, id_eq-same}
-use Rattle.dm_movelaws.proofs.Names.{pid_eq-is, pid_eq-same, is_put, not_true, line_next, one_of, touches, onward, handled_spots, packet_calm, put_at, put_there, put_spot, PairsFit, puts_next, said, Sane, sane_line, Mark, with_mark}
-use Rattle.dm_movelaws.proofs.Names.{in_order, first_none, nat_tests, seen_none, ⊤, Stage, Label, OneKernel, at_record, Known, served_told, Transmits, standing, pid_eq-swap, out_of, IsNet, hushed, gone_in, Plain, record_off, Tame}
-use Rattle.dm_movelaws.proofs.Names.{line_calm, plain_in_bag, created_off, served_keeps, other_than, fits_put, fits_packet, Sayable, part_sane, by_parts, Steps, PacketsKeep}
+use Rattle.dm_movelaws.proofs.Names.{◌≡◌, ℕ, ◌≤◌, true, false, List, [], ◌∷◌, ◌++◌, refl, ap, ◌∙◌, sym, subst, inl, inr, arith, Option, None, Some, cases_Bool, false≢true, Pid, pid_eq, MsgId, MessageKind, id_eq, bind, Line, View, Told, Of}
+use Rattle.dm_movelaws.proofs.Names.{own_id, view_after, handled, is_between, Point, label_of, kernel_after, moved, Part, Says, Owns, Spelled, behind, spelled, Spot, times, ids_at, id_eq-is, pid_eq-is, pid_eq-same, is_put, not_true}
+use Rattle.dm_movelaws.proofs.Names.{line_next, touches, onward, handled_spots, packet_calm, put_at, put_there, put_spot, PairsFit, puts_next, said, Sane, sane_line, Mark, with_mark, in_order, first_none, nat_tests, seen_none, ⊤, Stage}
+use Rattle.dm_movelaws.proofs.Names.{Label, OneKernel, at_record, Known, served_told, Transmits, standing, pid_eq-swap, IsNet, hushed, record_off, Tame, line_calm, created_off, served_keeps, other_than, fits_put, fits_packet, Sayable}
+use Rattle.dm_movelaws.proofs.Names.{part_sane, by_parts, Steps, PacketsKeep, gone_plain}
 pub use Rattle.dm_rule.proofs.Phases.Put.{of_same}
 use Rattle.dm_onekernel.specs.Step as kernel
 use Rattle.dm_movelaws.proofs.Stages.Spares.{is_settled, mark_of, Spares, TokenOf, HasMark, token_mark, Marked, none_marked, some_marked, spares_same, spares_calm, spares_trans, spares_put, spares_about, open_after, mark_other, marks_of}
-use Rattle.dm_movelaws.proofs.Leading.{line_fits, whatever_put, part_leads}
+use Rattle.dm_movelaws.proofs.Leading.{line_fits, whatever_put, part_leads, All, Saying}
 
 -- what is said of the message at the front, and steps of another process that handle no message
 abbrev pub MildLine : Pid → Option MsgId → Line → Type 0
@@ -24,18 +24,13 @@ MildLine p o (Line.Migration Stage.Left q) = pid_eq q p ≡ false
 MildLine p o _ = ⊥
 
 abbrev pub Mild : Pid → Option MsgId → Part → Type 0
-Mild p o (Says l) = MildLine p o l
-Mild p o _ = ⊤
-
-abbrev pub AllMild : Pid → Option MsgId → List Part → Type 0
-AllMild p o [] = ⊤
-AllMild p o (q ∷ ps) = Mild p o q × AllMild p o ps
+Mild p o = Saying (MildLine p o)
 
 -- they don't mark it
 pub line_marks : (p : Pid) (o : Option MsgId) (l : Line) (ms : List Mark) → MildLine p o l → with_mark p l ms ≡ ms
 line_marks p o l ms h = grind (arith, nat_tests, mark_other, pid_eq-swap)
 
-pub mild_marks : (p : Pid) (o : Option MsgId) (ps : List Part) → AllMild p o ps → marks_of p ps ≡ []
+pub mild_marks : (p : Pid) (o : Option MsgId) (ps : List Part) → All (Mild p o) ps → marks_of p ps ≡ []
 mild_marks p o [] h = refl
 mild_marks p o (Says l ∷ ps) h = line_marks p o l (marks_of p ps) h.0 ∙ mild_marks p o ps h.1
 mild_marks p o (x ∷ ps) h = mild_marks p o ps h.1
@@ -49,9 +44,6 @@ net_marks p _ h = absurd h.0
 -- a message of the bag is handled
 settled_at : (f : ℕ → Pid → Known) (a : ℕ) (q : Pid) (x : Known) (m : ℕ) (p : Pid) → is_settled x ≡ true → is_settled (f m p) ≡ true → is_settled (at_record f a q x m p) ≡ true
 settled_at f a q x m p e h = grind (arith, nat_tests)
-
-gone_plain : (pt : Point) (s : OneKernel) (l : Label) (i : MsgId) → Sane pt → kernel.step pt.kernel l ≡ Some s → out_of l ≡ Some i → Plain pt.view i
-gone_plain pt s l i h is goes = let g = gone_in pt.kernel s l i is goes in plain_in_bag pt i g.message h g.there
 
 -- a line that is no put, by what stands where behind it
 pub spares_line : (v : View) (l : Line) (p : Pid) → is_put l ≡ false → ((j : MsgId) (t : Told) (z : Spot) → v.told j ≡ Some t → is_between t.kind ≡ true → t.about ≡ Of p → 1 ≤ standing v j z → (y : Spot) × (1 ≤ standing (view_after v l) j y))
@@ -110,10 +102,10 @@ part_spares p o pt next q h fits tame mild =
     (λ l is s step. let m = subst (Mild p o) is mild in (spares_about pt.view (view_after pt.view l) (moved pt l s).view.topic p (line_spares pt s l p o h tame m step), line_fits pt s l (mild_touches p o l m) fits))
     (λ b i k r. (spares_put pt.view b i k r p fits, fits_put pt.view pt.view.acting b i k r fits)) (spares_same pt.view p, fits))
 
-pub parts_spare : (p : Pid) (o : Option MsgId) (ps : List Part) (v : View) (pt : Point) (w : Spelled) → AllMild p o ps → Kept v p o pt → spelled pt ps ≡ Some w → Kept v p o w.point
+pub parts_spare : (p : Pid) (o : Option MsgId) (ps : List Part) (v : View) (pt : Point) (w : Spelled) → All (Mild p o) ps → Kept v p o pt → spelled pt ps ≡ Some w → Kept v p o w.point
 parts_spare p o qs v x w mild h is =
     let tame_on : (v w : View) (p : Pid) (o : Option MsgId) → Spares v w p → TameAt v o → TameAt w o = λ v w p o h tame i e. let t = tame i e in record { what = t.what; told = h.kept i t.what t.told; plain = t.plain } in
-    by_parts (λ ps pt u. AllMild p o ps → Kept v p o pt → Kept v p o u.point) (λ pt mild h. h) (λ q ps pt next ls z lines leads rest mild h. (
+    by_parts (λ ps pt u. All (Mild p o) ps → Kept v p o pt → Kept v p o u.point) (λ pt mild h. h) (λ q ps pt next ls z lines leads rest mild h. (
     let c = part_spares p o pt next q h.sane h.fits (tame_on v pt.view p o h.spares h.tame) mild.0 (record { lines = ls; are = lines; leads = leads }) in
     rest mild.1 (record { spares = spares_trans v pt.view next.view p h.spares c.0; sane = part_sane pt next q ls (let e_ : Sayable q = grind (arith, nat_tests, mild.0) in e_) lines leads h.sane; fits = c.1; tame = h.tame })
     )) qs x w is mild h
@@ -130,8 +122,7 @@ pub record Handling (pt : Point) (i : MsgId) (is : List MsgId) (q : Pid) : Type 
 -- it is about this process
 pub about_others : (v : View) (i : MsgId) (t : Told) (q : Pid) → v.told i ≡ Some t → t.about ≡ Of q → (p : Pid) (j : MsgId) (u : Told) → pid_eq q p ≡ false → v.told j ≡ Some u → is_between u.kind ≡ true → u.about ≡ Of p → id_eq i j ≡ false
 about_others v i t q told about p j u off other b a = not_true (id_eq i j) (λ e.
-    let is : i ≡ j = id_eq-is i j e in
-    let f : Some t ≡ Some u = sym told ∙ ap v.told is ∙ other in
+    let f : Some t ≡ Some u = sym told ∙ ap v.told (id_eq-is i j e) ∙ other in
     let g : t ≡ u = cc in
     let qp : q ≡ p = of_same q p (sym about ∙ ap (λ (x : Told). x.about) g ∙ a) in
     false≢true (sym off ∙ ap (pid_eq q) (sym qp) ∙ pid_eq-same q))
@@ -139,25 +130,16 @@ about_others v i t q told about p j u off other b a = not_true (id_eq i j) (λ e
 -- it is none of the protocol
 pub plain_others : (v : View) (i : MsgId) (t : Told) (q : Pid) → v.told i ≡ Some t → is_between t.kind ≡ false → (p : Pid) (j : MsgId) (u : Told) → pid_eq q p ≡ false → v.told j ≡ Some u → is_between u.kind ≡ true → u.about ≡ Of p → id_eq i j ≡ false
 plain_others v i t q told plain p j u off other b a = not_true (id_eq i j) (λ e.
-    let is : i ≡ j = id_eq-is i j e in
-    let f : Some t ≡ Some u = sym told ∙ ap v.told is ∙ other in
+    let f : Some t ≡ Some u = sym told ∙ ap v.told (id_eq-is i j e) ∙ other in
     let g : t ≡ u = cc in
     false≢true (sym plain ∙ ap (λ (x : Told). is_between x.kind) g ∙ b))
-
--- it is the process's token
-pub front_token : (v : View) (i : MsgId) (is : List MsgId) (t : Told) (q : Pid) → v.inbox v.acting ≡ i ∷ is → v.told i ≡ Some t → is_between t.kind ≡ true → t.about ≡ Of q → TokenOf v q t.kind
-front_token v i is t q front told between about =
-    let a : times i (v.inbox v.acting) ≡ times i (i ∷ is) = ap (times i) front in
-    let b : one_of i i ≡ 1 = ap (λ (c : Bool). if c then 1 else 0) (id_eq-same i) in
-    record { id = i; what = t; told = told; kind = refl; between = between; about = about; spot = Inbox v.acting; stands = (let one : 1 ≤ times i (v.inbox v.acting) = omega (arith, a, b) in one) }
 
 -- a line by which it goes, and nothing else
 pub first_spares : (pt : Point) (i : MsgId) (is : List MsgId) (q p : Pid) (l : Line) → Handling pt i is q → pid_eq q p ≡ false → is_put l ≡ false → ((z : Spot) → ids_at (view_after pt.view l) z ≡ ids_at (handled pt.view i) z)
     → ((m : ℕ) → (view_after pt.view l).known m p ≡ pt.view.known m p) → Spares pt.view (view_after pt.view l) p
 first_spares pt i is q p l h apart quiet off known =
-    let v = pt.view in
-    spares_line v l p quiet
-    (λ j t z told b a st. same_spot v (view_after v l) j z (ap (times j) (off z) ∙ handled_spots v i j (h.others p j t apart told b a) z) st)
+    spares_line pt.view l p quiet
+    (λ j t z told b a st. same_spot pt.view (view_after pt.view l) j z (ap (times j) (off z) ∙ handled_spots pt.view i j (h.others p j t apart told b a) z) st)
     (λ m e. ap is_settled (known m) ∙ e)
 
 pub owns_token : (pt : Point) (k : MessageKind) (q r : Pid) (b : ℕ) (w : Spelled) → Sane pt → PairsFit pt.view → is_between k ≡ true → pt.view.topic ≡ Of q → spelled pt (Owns k r b ∷ []) ≡ Some w → TokenOf w.point.view q k
@@ -166,8 +148,7 @@ owns_token pt k q r b w sane fits between topic e =
     let i = own_id v in
     let u : Told = record { kind = k; receiver = r; about = v.topic } in
     let untold : v.told i ≡ None = sane.numbered v.acting (v.count v.acting) (omega arith) in
-    let mid = moved pt (Line.Put v.acting b i k r) pt.kernel in
-    let token : TokenOf mid.view q k = record {
+    let token : TokenOf (moved pt (Line.Put v.acting b i k r) pt.kernel).view q k = record {
       id = i;
       what = u;
       told = put_at v v.acting b i k r ∙ first_none (v.told i) u untold;
@@ -185,7 +166,8 @@ pub line_sane : (pt : Point) (l : Line) → label_of l ≡ None → is_put l ≡
 line_sane pt l none quiet h = sane_line pt (moved pt l pt.kernel) l quiet (ap (λ o. bind (kernel_after pt.kernel o) (λ s. Some (moved pt l s))) none) h
 
 -- a line that handles it, and parts that leave the others alone
-pub line_and_parts : (pt : Point) (p : Pid) (l : Line) (ps : List Part) (w : Spelled) → label_of l ≡ None → is_put l ≡ false → touches l ≡ false → Sane pt → PairsFit pt.view → Spares pt.view (view_after pt.view l) p → AllMild p None ps → spelled pt (Says l ∷ ps) ≡ Some w → Spares pt.view w.point.view p
+pub line_and_parts : (pt : Point) (p : Pid) (l : Line) (ps : List Part) (w : Spelled) → label_of l ≡ None → is_put l ≡ false → touches l ≡ false → Sane pt → PairsFit pt.view → Spares pt.view (view_after pt.view l) p
+    → All (Mild p None) ps → spelled pt (Says l ∷ ps) ≡ Some w → Spares pt.view w.point.view p
 line_and_parts pt p l ps w none quiet calm sane fits first mild e =
     let n = line_next pt l ps w none e in
     let start : Kept pt.view p None (moved pt l pt.kernel) = (search (arith, line_sane pt l none quiet sane, line_fits pt pt.kernel l calm fits, pt.view, seen_none)) in

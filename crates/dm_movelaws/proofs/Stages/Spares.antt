@@ -1,9 +1,8 @@
 -- The marks of lines: of one list after another, and of the lines that parts say.
-use Rattle.dm_movelaws.proofs.Names.{◌≡◌, ℕ, ◌≤◌, ◌==◌, Bool, true, false, List, [], refl, ap, ◌∙◌, sym, subst, inl, inr, if◌then◌else◌, Option, None, Some, cases_Bool, false≢true, Pid, MsgId, MessageKind, id_eq, View, Told, Of, Known}
-use Rattle.dm_movelaws.proofs.Names.{Unknown, Here, Frozen, Incoming, after_put, Spot, standing, is_between, is_restart, is_early, is_away, is_here, is_over, knows, Phase, Nowhere, Rests, Over, Moves, is_due, token_in, told_between, IsIn}
-use Rattle.dm_movelaws.proofs.Names.{id_eq-is, PairsFit, put_told_off, Calm, between_of, put_spots, put_at, put_there, put_spot, rests_here, Mark, Reached, Lacking, in_order, eq_self, not_false, right_true, first_kept, nat_tests, arith}
-use Rattle.dm_movelaws.proofs.Names.{calm_about, calm_same, About, ◌∷◌, ◌++◌, pid_eq, Boot, pid_eq-same, Step, Line, Point, moved, Part, Says, Spelled, lines_of, spelled, sends_on, group_of, outcome, mark_for, with_mark, marks, left_open}
-use Rattle.dm_movelaws.proofs.Names.{left_true, both_true, by_parts, group_is}
+use Rattle.dm_movelaws.proofs.Names.{◌≡◌, ℕ, ◌≤◌, Bool, true, false, List, [], refl, ap, ◌∙◌, sym, subst, inl, inr, if◌then◌else◌, Option, None, Some, cases_Bool, Pid, MsgId, MessageKind, id_eq, View, Told, Of, Known, Here, Frozen}
+use Rattle.dm_movelaws.proofs.Names.{Incoming, after_put, Spot, standing, is_between, is_restart, is_early, knows, Phase, Moves, is_due, token_in, told_between, IsIn, id_eq-is, PairsFit, put_told_off, Calm, between_of, put_spots, put_at}
+use Rattle.dm_movelaws.proofs.Names.{put_there, put_spot, rests_here, Mark, Reached, Lacking, in_order, eq_self, not_false, right_true, first_kept, nat_tests, arith, calm_about, calm_same, About, ◌∷◌, ◌++◌, pid_eq, Boot, pid_eq-same, Step}
+use Rattle.dm_movelaws.proofs.Names.{Line, Point, moved, Part, Says, Spelled, lines_of, spelled, sends_on, group_of, outcome, mark_for, with_mark, marks, left_open, left_true, both_true, by_parts, group_is}
 use Rattle.dm_rule.specs.View as view
 use Rattle.dm_movelaws.proofs.Leading.{lines_are}
 
@@ -106,12 +105,10 @@ spares_about v w a p h = spares_trans v w (view.about w a) p h (spares_calm w (v
 
 pub spares_put : (v : View) (b : ℕ) (i : MsgId) (k : MessageKind) (q p : Pid) → PairsFit v → Spares v (after_put v v.acting b i k q) p
 spares_put v b i k q p fits =
-    let w = after_put v v.acting b i k q in
-    let u : Told = record { kind = k; receiver = q; about = v.topic } in
     record {
       kept = λ j t e. grind (arith, nat_tests, id_eq-is, put_at, first_kept, put_told_off);
       on = λ j t z e c a s. elim (cases_Bool (id_eq i j)) [
-        | inl same ↦ (put_spot v.acting b, subst (λ (x : MsgId). 1 ≤ standing w x (put_spot v.acting b)) (id_eq-is i j same) (put_there v v.acting b i k q fits))
+        | inl same ↦ (put_spot v.acting b, subst (λ (x : MsgId). 1 ≤ standing (after_put v v.acting b i k q) x (put_spot v.acting b)) (id_eq-is i j same) (put_there v v.acting b i k q fits))
         | inr apart ↦ (z, subst (λ n. 1 ≤ n) (sym (put_spots v v.acting b i j k q fits apart z)) s)
       ];
       still = λ m e. e;
@@ -119,26 +116,7 @@ spares_put v b i k q p fits =
 
 -- where nothing is under way
 rest_settled : (phase : Phase) (m : ℕ) (k : Known) → is_due phase ≡ false → token_in phase ≡ None → knows phase m k ≡ true → is_settled k ≡ true
-rest_settled Nowhere m Unknown d e h = refl
-rest_settled (Rests at) m k d e h = here_settled (at == m) k h
-  where
-    here_settled : (c : Bool) (k : Known) → (if c then is_here k else is_away k) ≡ true → is_settled k ≡ true
-    here_settled true (Frozen to) h = absurd (false≢true h)
-    here_settled false (Frozen to) h = absurd (false≢true h)
-    here_settled true (Incoming from) h = absurd (false≢true h)
-    here_settled false (Incoming from) h = absurd (false≢true h)
-    here_settled c _ h = refl
-rest_settled (Over at) m k d e h = over_settled (at == m) k h
-  where
-    over_settled : (c : Bool) (k : Known) → (if c then is_over k else is_away k) ≡ true → is_settled k ≡ true
-    over_settled true (Frozen to) h = absurd (false≢true h)
-    over_settled false (Frozen to) h = absurd (false≢true h)
-    over_settled true (Incoming from) h = absurd (false≢true h)
-    over_settled false (Incoming from) h = absurd (false≢true h)
-    over_settled c _ h = refl
-rest_settled (Moves k s t None) m x d e h = cc
-rest_settled (Moves k s t (Some i)) m x d e h = cc
-rest_settled Nowhere m _ d e h = absurd (false≢true h)
+rest_settled phase m k h1 h2 h3 = grind (arith, nat_tests)
 
 -- where something is, not all machines are settled: the source holds the process, or the destination expects it
 pub restart_late : (k : MessageKind) → is_restart k ≡ true → is_early k ≡ false
@@ -173,10 +151,8 @@ here_mark v p m here a h due = ap mark_in (rests_here a m (sym (ap (knows a m) h
 pub spares_mark : (v w : View) (p : Pid) (a b : Phase) → Spares v w p → IsIn v p a → IsIn w p b → is_due a ≡ false → is_due b ≡ false → mark_in b ≡ mark_in a
 spares_mark v w p (Moves c m n None) b s h k da db = cc
 spares_mark v w p (Moves c m n (Some i)) b s h k da db =
-    let t = told_between p c m n in
-    let between = between_of c m n h.apart in
-    let (y, x) = s.on i t h.token.spot h.token.told between refl h.token.stands in
-    let token : TokenOf w p c = record { id = i; what = t; told = s.kept i t h.token.told; kind = refl; between = between; about = refl; spot = y; stands = x } in
+    let (y, x) = s.on i (told_between p c m n) h.token.spot h.token.told (between_of c m n h.apart) refl h.token.stands in
+    let token : TokenOf w p c = record { id = i; what = (told_between p c m n); told = s.kept i (told_between p c m n) h.token.told; kind = refl; between = (between_of c m n h.apart); about = refl; spot = y; stands = x } in
     token_mark w p c token b k db
 spares_mark v w p any_ b s h k da db =
     let settled_mark : (v : View) (p : Pid) → ((m : ℕ) → is_settled (v.known m p) ≡ true) → HasMark v p None = λ v p settled e h due. grind (arith, nat_tests, moves_unsettled) in

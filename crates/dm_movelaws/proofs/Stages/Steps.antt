@@ -1,20 +1,20 @@
 -- What a process or a server says of a kernel's own message leaves all migrations as they are, or freezes the process.
 use Rattle.dm_movelaws.proofs.Names.{◌≡◌, ℕ, ◌≤◌, true, false, List, [], ◌∷◌, ◌++◌, length, refl, ap, ◌∙◌, sym, subst, Option, None, Some, false≢true, Pid, pid_of, pid_eq, MsgId, MessageKind, Stage, Line, at_record, Told, Of, Known, Here}
-use Rattle.dm_movelaws.proofs.Names.{Frozen, view_after, handled_first, released, to_kernel, sends_on, is_between, Point, label_of, moved, Part, Says, Spelled, spelled, Spot, Queue, Held, Inbox, Untaken, times, ids_at, standing}
+use Rattle.dm_movelaws.proofs.Names.{Frozen, view_after, handled_first, released, to_kernel, sends_on, is_between, Point, label_of, moved, Part, Says, Spelled, spelled, Spot, Queue, Held, Inbox, Untaken, times, ids_at, standing, View}
 use Rattle.dm_movelaws.proofs.Names.{pid_eq-swap, is_put, at_record_at, first_off, home_again, home_off, frozen_off, line_next, touches, handled_spots, record_off, InPhases, queued_plain, held_plain, Mark, Reached, mark_for, with_mark}
 use Rattle.dm_movelaws.proofs.Names.{in_order, released_on, nat_tests, arith, ◌==◌, Bool, PlainProcess, Incoming, handled, front_of, accepts, gives_piece, takes_chunk, takes_block, told_step, chunks_of, pieces_of, Owns, accepted_off}
 use Rattle.dm_movelaws.proofs.Names.{state_off, memory_off, lacks_off, proto_off, restarted_off, proto_known, Lacking, Staying, leaves, sets, MoveNote, Outcome, NothingElse, tells_asker, aim, PairsFit, Sane, Target, asked_off, target_of}
-use Rattle.dm_movelaws.proofs.Names.{forwards_on, plain_kind, PlainMessage, Boot, goes_round, handles, Addresses, loose_round, loose_handles, by_forwards, Label, PlainWhat, sort_of}
+use Rattle.dm_movelaws.proofs.Names.{forwards_on, plain_kind, PlainMessage, Boot, goes_round, handles, Addresses, loose_round, loose_handles, by_forwards, Label, PlainWhat, sort_of, one_of, id_eq-same, if◌then◌else◌}
 use Rattle.dm_movelaws.proofs.Stages.Spares.{is_settled, Spares, spares_same, TokenOf, HasMark, token_mark, here_mark, some_marked, mark_of, Marked, open_after, marks_of, mark_same, mark_other, marks_sent}
-use Rattle.dm_movelaws.proofs.Stages.Rows.{Handling, first_spares, owns_token, line_sane, line_and_parts, Row, split, front_token, row_marked, answer, AllMild, spares_line, same_spot, Kept, parts_spare}
-use Rattle.dm_movelaws.proofs.Leading.{line_fits, asker_known}
+use Rattle.dm_movelaws.proofs.Stages.Rows.{Handling, first_spares, owns_token, line_sane, line_and_parts, Row, split, row_marked, answer, spares_line, same_spot, Kept, parts_spare, Mild}
+use Rattle.dm_movelaws.proofs.Leading.{line_fits, asker_known, All}
 use Rattle.dm_rule.specs.Rule as rule
 
-pub round_mild : (me : Pid) (front : Option MsgId) (b : Boot) (pt : Point) (m : ℕ) (o : Option Pid) (ps : List Part) → goes_round b pt m o ≡ Some ps → AllMild me front ps
-round_mild me front b pt m o ps e = loose_round (AllMild me front) (record { none = tt; label = λ l ps h. (tt, h); routes = λ i ps h. (tt, h) }) b pt m o ps (tt, tt) e
+pub round_mild : (me : Pid) (front : Option MsgId) (b : Boot) (pt : Point) (m : ℕ) (o : Option Pid) (ps : List Part) → goes_round b pt m o ≡ Some ps → All (Mild me front) ps
+round_mild me front b pt m o ps e = loose_round (All (Mild me front)) (record { none = tt; label = λ l ps h. (tt, h); routes = λ i ps h. (tt, h) }) b pt m o ps (tt, tt) e
 
-pub forwards_mild : (me : Pid) (a : Addresses) (id : MsgId) (k : MessageKind) (sender : Pid) (to : ℕ) → AllMild me (Some id) (forwards_on a id k sender to)
-forwards_mild me a id k sender to = by_forwards (AllMild me (Some id)) a id k sender to (refl, (tt, tt)) (refl, (tt, (tt, tt)))
+pub forwards_mild : (me : Pid) (a : Addresses) (id : MsgId) (k : MessageKind) (sender : Pid) (to : ℕ) → All (Mild me (Some id)) (forwards_on a id k sender to)
+forwards_mild me a id k sender to = by_forwards (All (Mild me (Some id))) a id k sender to (refl, (tt, tt)) (refl, (tt, (tt, tt)))
 
 -- the parts that freeze a process
 abbrev pub freezes : Pid → ℕ → List Part
@@ -22,16 +22,17 @@ freezes p to = Says (Line.Migration Stage.Frozen p) ∷ Says (Line.Migration Sta
 
 -- a message of the bag leaves all migrations as they are, or asks a process to move, which sets off
 pub data Handled (o : Point) (m : ℕ) (id : MsgId) (msg : PlainMessage) (ps : List Part) : Type 0 where
-  Spared : ((me : Pid) → AllMild me (Some id) ps) → Handled o m id msg ps
+  Spared : ((me : Pid) → All (Mild me (Some id)) ps) → Handled o m id msg ps
   SetsOff : (to : ℕ) → o.view.known m msg.to ≡ Here → msg.what ≡ PlainWhat.Move to → ps ≡ rule.says (Label.Asked id) ∷ freezes msg.to to → Handled o m id msg ps
 
 pub handles_mild : (b : Boot) (o : Point) (m : ℕ) (id : MsgId) (msg : PlainMessage) (ps : List Part) → handles b o m id msg ≡ Some ps → Handled o m id msg ps
 handles_mild b o m id msg ps e =
-    loose_handles (Handled o m id msg) (λ xs. (me : Pid) → AllMild me (Some id) xs) (record { none = λ me. tt; label = λ l qs h me. (tt, h me); routes = λ i qs h me. (tt, h me) }) (λ qs h. Spared h) b o m id msg ps (λ here. Spared (λ me. (refl, tt))) (Spared (λ me. (refl, tt)))
+    loose_handles (Handled o m id msg) (λ xs. (me : Pid) → All (Mild me (Some id)) xs) (record { none = λ me. tt; label = λ l qs h me. (tt, h me); routes = λ i qs h me. (tt, h me) }) (λ qs h. Spared h) b o m id msg ps
+        (λ here. Spared (λ me. (refl, tt))) (Spared (λ me. (refl, tt)))
     (λ to here what apart. SetsOff to here.known what refl) (λ to moves at_. Spared (λ me. forwards_mild me o.addresses id (plain_kind msg.what) msg.sender to)) e
 
 pub data Hears (k : Known) (id : MsgId) (t : Told) (ps : List Part) : Type 0 where
-  Calms : ((me : Pid) → AllMild me (Some id) ps) → Hears k id t ps
+  Calms : ((me : Pid) → All (Mild me (Some id)) ps) → Hears k id t ps
   Freezes : k ≡ Here → ps ≡ freezes t.receiver (target_of (Some t)) → Hears k id t ps
 
 -- The rows of a migration that freeze a process, send on what waits for it, and bring it home.
@@ -54,7 +55,7 @@ asker_marks : (p : Pid) (o : Option MoveNote) (r : Outcome) → marks_of p (tell
 asker_marks p None r = refl
 asker_marks p (Some n) r = refl
 
-asker_mild : (p : Pid) (o : Option MoveNote) (r : Outcome) → AllMild p None (tells_asker o r)
+asker_mild : (p : Pid) (o : Option MoveNote) (r : Outcome) → All (Mild p None) (tells_asker o r)
 asker_mild p None r = tt
 asker_mild p (Some n) r = (tt, (tt, tt))
 
@@ -86,11 +87,10 @@ sets_row pt q to w sane fits here spared e =
     let ps = Says k ∷ to_kernel MessageKind.Ask to ∷ [] in
     let next = moved pt l pt.kernel in
     let n = line_next pt l ps w refl e in
-    let last = moved next k next.kernel in
     let o = line_next next k (to_kernel MessageKind.Ask to ∷ []) n.rest refl n.more in
     let sane_ = line_sane next k refl refl (line_sane pt l refl refl sane) in
     let token : TokenOf w.point.view q MessageKind.Ask = subst (λ (y : Point). TokenOf y.view q MessageKind.Ask) (o.point ∙ n.point)
-    (owns_token last MessageKind.Ask q (pid_of to 0) to o.rest sane_ (line_fits next next.kernel k refl (line_fits pt pt.kernel l refl fits)) refl (sets v q v.topic).topic o.more) in
+    (owns_token (moved next k next.kernel) MessageKind.Ask q (pid_of to 0) to o.rest sane_ (line_fits next next.kernel k refl (line_fits pt pt.kernel l refl fits)) refl (sets v q v.topic).topic o.more) in
     let frozen_marked : marks_of q (freezes q to) ≡ Reached 1 ∷ Reached 2 ∷ [] = mark_same q (Reached 1) (mark_for q q (Reached 2) []) ∙ ap (λ (ms : List Mark). Reached 1 ∷ ms) (mark_same q (Reached 2) []) in
     record {
       others = λ p apart. ((let e_ : marks_of p (freezes q to) ≡ [] = grind (arith, nat_tests, pid_eq-swap, mark_other) in e_), line_and_parts pt p l ps w refl refl refl sane fits (spared p apart) (apart, (tt, tt)) e);
@@ -118,9 +118,6 @@ setting_row pt q to w sane fits topic here =
 abbrev pub departs : Pid → ℕ → List MsgId → ℕ → List Part
 departs q to ids from = Says (Line.SentOn q (length ids)) ∷ sends_on to ids ++ Says (Line.Migration Stage.Left q) ∷ to_kernel MessageKind.Restart from ∷ []
 
-departs_marks : (p q : Pid) (to : ℕ) (ids : List MsgId) (from : ℕ) → marks_of p (departs q to ids from) ≡ mark_for p q (Reached 6) (mark_for p q (Reached 7) [])
-departs_marks p q to ids from = ap (mark_for p q (Reached 6)) (marks_sent p to ids (Says (Line.Migration Stage.Left q) ∷ to_kernel MessageKind.Restart from ∷ []))
-
 -- what is of the protocol stands in no list
 sent_spot : (pt : Point) (i : MsgId) (is : List MsgId) (q p : Pid) (n : ℕ) (j : MsgId) (t : Told) (z : Spot) → Handling pt i is q → InPhases pt.view → pid_eq q p ≡ false → pt.view.told j ≡ Some t → is_between t.kind ≡ true → t.about ≡ Of p → 1 ≤ standing pt.view j z
     → (y : Spot) × (1 ≤ standing (view_after pt.view (Line.SentOn q n)) j y)
@@ -130,11 +127,11 @@ sent_spot pt i is q p n j t (Inbox m) h phases apart told b a st =
     same_spot pt.view (view_after pt.view (Line.SentOn q n)) j (Inbox m) (ap (times j) (first_off pt.view i is h.front (Inbox m)) ∙ handled_spots pt.view i j (h.others p j t apart told b a) (Inbox m)) st
 sent_spot pt i is q p n j t (Untaken c d) h phases apart told b a st = (Untaken c d, st)
 
-sent_mild : (p : Pid) (to : ℕ) (ids : List MsgId) (ps : List Part) → AllMild p None ps → AllMild p None (sends_on to ids ++ ps)
+sent_mild : (p : Pid) (to : ℕ) (ids : List MsgId) (ps : List Part) → All (Mild p None) ps → All (Mild p None) (sends_on to ids ++ ps)
 sent_mild p to [] ps h = h
 sent_mild p to (i ∷ is) ps h = (tt, sent_mild p to is ps h)
 
-only_sent : (p : Pid) (to : ℕ) (ids : List MsgId) → AllMild p None (sends_on to ids)
+only_sent : (p : Pid) (to : ℕ) (ids : List MsgId) → All (Mild p None) (sends_on to ids)
 only_sent p to [] = tt
 only_sent p to (i ∷ is) = (tt, only_sent p to is)
 
@@ -151,10 +148,11 @@ departs_row pt i is q to ids from w h phases before e =
     let start : Kept next.view q None next = record { spares = spares_same next.view q; sane = line_sane pt l refl refl h.sane; fits = line_fits pt pt.kernel l refl h.fits; tame = λ j e. cc } in
     let kept = parts_spare q None (sends_on to ids) next.view next s.mid (only_sent q to ids) start s.first in
     let mid = s.mid.point in
-    let last = moved mid k mid.kernel in
     let o = line_next mid k (to_kernel MessageKind.Restart from ∷ []) s.rest refl s.more in
     let token : TokenOf w.point.view q MessageKind.Restart = subst (λ (y : Point). TokenOf y.view q MessageKind.Restart) (o.point ∙ s.point ∙ n.point)
-    (owns_token last MessageKind.Restart q (pid_of from 0) from o.rest (line_sane mid k refl refl kept.sane) (line_fits mid mid.kernel k refl kept.fits) refl refl o.more) in
+    (owns_token (moved mid k mid.kernel) MessageKind.Restart q (pid_of from 0) from o.rest (line_sane mid k refl refl kept.sane) (line_fits mid mid.kernel k refl kept.fits) refl refl o.more) in
+    let departs_marks : (p q : Pid) (to : ℕ) (ids : List MsgId) (from : ℕ) → marks_of p (departs q to ids from) ≡ mark_for p q (Reached 6) (mark_for p q (Reached 7) []) =
+      λ p q to ids from. ap (mark_for p q (Reached 6)) (marks_sent p to ids (Says (Line.Migration Stage.Left q) ∷ to_kernel MessageKind.Restart from ∷ [])) in
     let departs_marked : (q : Pid) (to : ℕ) (ids : List MsgId) (from : ℕ) → marks_of q (departs q to ids from) ≡ Reached 6 ∷ Reached 7 ∷ [] =
       λ q to ids from. departs_marks q q to ids from ∙ mark_same q (Reached 6) (mark_for q q (Reached 7) []) ∙ ap (λ (ms : List Mark). Reached 6 ∷ ms) (mark_same q (Reached 7) []) in
     record {
@@ -177,6 +175,10 @@ MarkedBy pt w parts = (p : Pid) → Marked pt.view w.point.view p (marks_of p pa
 
 heard_mark : (pt : Point) (i : MsgId) (is : List MsgId) (t : Told) (q : Pid) (k : MessageKind) → Heard pt i is t q → t.kind ≡ k → is_between k ≡ true → HasMark pt.view q (mark_of k)
 heard_mark pt i is t q k h e between =
+    -- it is the process's token
+    let front_token : (v : View) (i : MsgId) (is : List MsgId) (t : Told) (q : Pid) → v.inbox v.acting ≡ i ∷ is → v.told i ≡ Some t → is_between t.kind ≡ true → t.about ≡ Of q → TokenOf v q t.kind = λ v i is t q front told between about.
+      let b : one_of i i ≡ 1 = ap (λ (c : Bool). if c then 1 else 0) (id_eq-same i) in
+      record { id = i; what = t; told = told; kind = refl; between = between; about = about; spot = Inbox v.acting; stands = (let one : 1 ≤ times i (v.inbox v.acting) = omega (arith, ap (times i) front, b) in one) } in
     subst (λ (x : MessageKind). HasMark pt.view q (mark_of x)) e (token_mark pt.view q t.kind (front_token pt.view i is t q h.at.front h.told (ap is_between e ∙ between) h.about))
 
 unmarked : (q : Pid) (m : Mark) (p : Pid) → pid_eq q p ≡ false → mark_for p q m [] ≡ []
@@ -190,9 +192,8 @@ step_row : (pt : Point) (i : MsgId) (is : List MsgId) (t : Told) (q : Pid) (l : 
     → ((z : Spot) → ids_at (view_after pt.view l) z ≡ ids_at (handled_first pt.view) z) → ((n : ℕ) (r : Pid) → pid_eq q r ≡ false → (view_after pt.view l).known n r ≡ pt.view.known n r) → (view_after pt.view l).topic ≡ Of q → is_between k ≡ true
     → ((r : Pid) → with_mark r l [] ≡ mark_for r q m []) → in_order (mark_of j) (m ∷ []) ≡ true → open_after (mark_of j) (m ∷ []) ≡ mark_of k → spelled pt (Says l ∷ to_kernel k i.from.home ∷ []) ≡ Some w → MarkedBy pt w (Says l ∷ to_kernel k i.from.home ∷ [])
 step_row pt i is t q l m j k w h e between none quiet calm off known topic next marked order ends n p =
-    let v = pt.view in
-    row_marked v w.point.view q (λ r. with_mark r l [])
-    (answer pt i is q (pid_of i.from.home 0) l k i.from.home (m ∷ []) (mark_of j) w h.at none quiet calm (λ z. off z ∙ first_off v i is h.at.front z) known topic next (λ r apart. marked r ∙ unmarked q m r apart)
+    row_marked pt.view w.point.view q (λ r. with_mark r l [])
+    (answer pt i is q (pid_of i.from.home 0) l k i.from.home (m ∷ []) (mark_of j) w h.at none quiet calm (λ z. off z ∙ first_off pt.view i is h.at.front z) known topic next (λ r apart. marked r ∙ unmarked q m r apart)
     (marked q ∙ mark_same q m []) (heard_mark pt i is t q j h e between) order ends n) p
 
 -- a machine takes the process, or says what is free

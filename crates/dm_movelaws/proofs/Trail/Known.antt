@@ -1,10 +1,11 @@
 -- Wherever the rule leads there are trails that all addresses are on; where a process doesn't move, its trail ends where it is.
 use Rattle.dm_movelaws.proofs.Names.{◌≡◌, ◌≢◌, ℕ, ◌+◌, ◌==◌, Bool, true, false, List, [], ◌∷◌, length, ap, ◌∙◌, sym, subst, inl, inr, arith, if◌then◌else◌, slice_get, Option, Some, Pid, MsgId, MessageKind, Boot, bind, Step, bind-is, Line}
-use Rattle.dm_movelaws.proofs.Names.{Leads, Phase, Nowhere, Rests, Over, Moves, IsIn, is_away, is_here, is_over, Point, first_point, after, after_line, Trails, Trodden, first_trodden, along, trails_after, View, Known, Unknown, Ended, parts}
-use Rattle.dm_movelaws.proofs.Names.{along_treads, treads_start, Treads, is_moving, IsThere, eq_self, not_false, nat_tests, IsValid, IsStep, Spelled, group_of, first_trails, TrailsAlways, first_view, eq_is, start_known, Carries}
-use Rattle.dm_movelaws.proofs.Names.{trails_always_by, Both, both_start, both_group, run_start, run_group, is_some, refl, cases_Bool, false≢true, None, Place, Label, Life, OneKernel, after_step, Stage, kernel_after, at_record, Told, About}
-use Rattle.dm_movelaws.proofs.Names.{NothingElse, Here, Frozen, Forward, view_after, handled, receiver_of, served_told, hushed, grown_none, Phased, queued_known, held_known, dropped_known, Sane, label_topic, is_server, KnownStands}
-use Rattle.dm_movelaws.proofs.Names.{group_keeps, Loud, keeps_by, set_all, killed_or, named_real, is_made, IsNamed, ByHolder, ByOwn, ByRequest, ByUpdate, ByForward, queued_topic, held_topic, or_first, run_always, sets, seen, label_of, Of}
+use Rattle.dm_movelaws.proofs.Names.{◌++◌, LeadsBy, Leads, Phase, Nowhere, Rests, Over, Moves, IsIn, is_away, is_here, is_over, Point, first_point, after, after_line, Trails, Trodden, first_trodden, along, trails_after, View, Known}
+use Rattle.dm_movelaws.proofs.Names.{Unknown, Ended, parts, along_treads, treads_start, Treads, is_moving, IsThere, eq_self, not_false, nat_tests, IsValid, IsStep, Spelled, group_of, first_trails, TrailsAlways, first_view, eq_is}
+use Rattle.dm_movelaws.proofs.Names.{start_known, Carries, trails_always_by, Both, both_start, both_group, run_start, run_group, is_some, refl, cases_Bool, false≢true, None, Place, Label, Life, OneKernel, after_step, Stage, kernel_after}
+use Rattle.dm_movelaws.proofs.Names.{at_record, Told, About, NothingElse, Here, Frozen, Forward, view_after, handled, receiver_of, hushed, grown_none, Phased, queued_known, held_known, dropped_known, Sane, label_topic, is_server}
+use Rattle.dm_movelaws.proofs.Names.{KnownStands, group_keeps, Loud, keeps_by, set_all, killed_or, named_real, is_made, IsNamed, ByHolder, ByOwn, ByRequest, ByUpdate, ByForward, queued_topic, held_topic, or_first, run_always, seen}
+use Rattle.dm_movelaws.proofs.Names.{label_of, Of}
 use Rattle.dm_rulelaws.proofs.Found.Core.{IsReal}
 use Rattle.dm_onekernel.specs.Step as kernel
 use Rattle.dm_rule.specs.View as view
@@ -45,7 +46,7 @@ carries = record {
 pub trails_always : TrailsAlways
 trails_always = trails_always_by Holds carries
 
-abbrev trodden : Point → Trails → Trodden
+abbrev pub trodden : Point → Trails → Trodden
 trodden pt t = record { point = pt; trails = t }
 
 -- wherever lines lead, trails lead along
@@ -56,23 +57,31 @@ along_there (l ∷ ls) pt end t e =
     let (u, is) = along_there ls next end (trails_after pt.view t l) rest in
     (u, ap (λ (o : Option Point). bind o (λ (n : Point). along (trodden n (trails_after pt.view t l)) ls)) first ∙ is)
 
--- and so it is group by group
-record Trod (b : Boot) (pt : Point) : Type 0 where
-  trails : Trails
-  holds : Holds b (trodden pt trails)
-  treads : Treads pt trails
+along-append : (xs ys : List Line) (x y : Trodden) → along x xs ≡ Some y → along x (xs ++ ys) ≡ along y ys
+along-append [] ys x y e = let f : x ≡ y = cc in ap (λ (z : Trodden). along z ys) f
+along-append (l ∷ xs) ys x y e = grind (arith, nat_tests, bind-is, along-append xs ys)
 
-trod_on : (b : Boot) (es : List Step) (pt end : Point) → Leads b pt es end → Trod b pt → Trod b end
-trod_on b [] pt end leads h = subst (Trod b) leads h
-trod_on b (e ∷ es) pt end (w, fit, is, rest) h =
-    let x = trodden pt h.trails in
-    let (u, comes) = along_there w.lines pt w.point h.trails (group_after b pt e w is) in
-    trod_on b es w.point end rest
-    (record {
-      trails = u;
-      holds = carries.keeps b x (trodden w.point u) e w fit is comes h.holds h.treads;
-      treads = along_treads w.lines x (trodden w.point u) comes (carries.fits b x e w fit is h.holds h.treads) h.treads;
-    })
+-- where lines lead, with the trails that they lay
+pub record Laid (b : Boot) (pt : Point) (t : Trails) (ls : List Line) (end : Point) : Type 0 where
+  pub trails : Trails
+  pub lays : along (trodden pt t) ls ≡ Some (trodden end trails)
+  pub holds : Holds b (trodden end trails)
+  pub treads : Treads end trails
+
+pub laid_by : (b : Boot) (es : List Step) (ls : List Line) (pt end : Point) (t : Trails) → LeadsBy b pt es ls end → Holds b (trodden pt t) → Treads pt t → Laid b pt t ls end
+laid_by b [] ls pt end t (none, same) h on = subst (λ (xs : List Line). Laid b pt t xs end) (sym none) (subst (Laid b pt t []) same (record { trails = t; lays = refl; holds = h; treads = on }))
+laid_by b (e ∷ es) ls pt end t (w, rest, fit, is, are, more) h on =
+    let (u, comes) = along_there w.lines pt w.point t (group_after b pt e w is) in
+    let holds = carries.keeps b (trodden pt t) (trodden w.point u) e w fit is comes h on in
+    let treads = along_treads w.lines (trodden pt t) (trodden w.point u) comes (carries.fits b (trodden pt t) e w fit is h on) on in
+    let laid_more : (b : Boot) (pt mid end : Point) (t u : Trails) (xs ys : List Line) → along (trodden pt t) xs ≡ Some (trodden mid u) → Laid b mid u ys end → Laid b pt t (xs ++ ys) end =
+      λ b pt mid end t u xs ys first k. record { trails = k.trails; lays = along-append xs ys (trodden pt t) (trodden mid u) first ∙ k.lays; holds = k.holds; treads = k.treads } in
+    subst (λ (xs : List Line). Laid b pt t xs end) (sym are) (laid_more b pt w.point end t u w.lines rest comes (laid_by b es rest w.point end u more holds treads))
+
+-- whatever leads somewhere leads by lines
+pub lines_there : (b : Boot) (es : List Step) (pt end : Point) → Leads b pt es end → (ls : List Line) × LeadsBy b pt es ls end
+lines_there b [] pt end way = ([], (refl, way))
+lines_there b (e ∷ es) pt end (w, fit, is, more) = let (ls, rest) = lines_there b es w.point end more in (w.lines ++ ls, (w, ls, fit, is, refl, rest))
 
 at_self : (m : ℕ) (x y : Bool) → (if m == m then x else y) ≡ true → x ≡ true
 at_self m x y e = sym (ap (λ (c : Bool). if c then x else y) (eq_self m)) ∙ e
@@ -92,15 +101,14 @@ there_in v t p (Rests at) n h on still some =
     let here = at_self at (is_here (v.known at p)) (is_away (v.known at p)) (h.known at) in
     (at, on.now at (grind (arith, nat_tests)), record { now = inl (here_is (v.known at p) here); away = λ m off. (sym (ap (λ (d : Bool). if d then (is_here (v.known m p)) else (is_away (v.known m p))) off) ∙ (h.known m)) })
 there_in v t p (Over at) n h on still some =
-    let over = at_self at (is_over (v.known at p)) (is_away (v.known at p)) (h.known at) in
     (at, on.now at (grind (arith, nat_tests)), record { now = inr (grind (arith, nat_tests)); away = λ m off. (sym (ap (λ (d : Bool). if d then (is_over (v.known m p)) else (is_away (v.known m p))) off) ∙ (h.known m)) })
 there_in v t p (Moves k s d o) n h on still some = absurd (never_moves v p k s d o h still)
 
 -- wherever the rule leads
 pub trail_known : TrailKnown
 trail_known b es pt valid leads =
-    let first : Trod b (first_point b) = record { trails = (first_trodden b).trails; holds = carries.start b valid; treads = treads_start b valid } in
-    let h = trod_on b es (first_point b) pt leads first in
+    let (ls, way) = lines_there b es (first_point b) pt leads in
+    let h = laid_by b es ls (first_point b) pt (first_trodden b).trails way (carries.start b valid) (treads_start b valid) in
     let phases = h.holds.both.run.based.phased.phases in (
       h.trails,
       record {
@@ -139,8 +147,7 @@ goes_label : (pt : Point) (t : OneKernel) (l : Label) → Sane pt → kernel.ste
 goes_label pt t l h e p some = elim (cases_Bool (is_some (t.processes p))) [
   | inl there ↦ there
   | inr none ↦
-      let a = after_step h.r h.e pt.kernel t l e h.sound in
-      let before : pt.kernel.processes p ≡ None = grown_none (pt.kernel.processes p) (t.processes p) (a.grown.lives p) (none_is (t.processes p) none) in
+      let before : pt.kernel.processes p ≡ None = grown_none (pt.kernel.processes p) (t.processes p) ((after_step h.r h.e pt.kernel t l e h.sound).grown.lives p) (none_is (t.processes p) none) in
       absurd (false≢true (sym (ap is_some before) ∙ some))
 ]
 
@@ -153,10 +160,7 @@ no_place : (T : Type 0) (a : About) (p : Pid) (m c : ℕ) → a ≡ NothingElse 
 no_place T a p m c e f = absurd (let g : NothingElse ≡ view.Place p m c = sym e ∙ f in cc)
 
 stage_made : (s : OneKernel) (v : View) (q : Pid) (k : Stage) (p : Pid) (m c : ℕ) → Passing s v → (view.after_stage v q k).topic ≡ view.Place p m c → WasMade s p
-stage_made s v q Stage.Asked p m c h e = h.topic p m c e
-stage_made s v q Stage.Restarted p m c h e = h.topic p m c e
-stage_made s v q Stage.Frozen p m c h e = cc (sym (sets v q v.topic).topic ∙ e)
-stage_made s v q _ p m c h e = cc
+stage_made s v q k p m c h1 h2 = grind (arith, nat_tests)
 
 line_made : (s : OneKernel) (v : View) (l : Line) → Passing s v → (p : Pid) (m c : ℕ) → (view_after v l).topic ≡ view.Place p m c → WasMade s p
 line_made s v l h1 p m c h2 =
@@ -181,9 +185,6 @@ point_known s v w known h m p e = h.known m p (sym (ap passes (known m p)) ∙ e
 set_known : (s : OneKernel) (v w : View) (q : Pid) (k : Known) → w.known ≡ at_record v.known v.acting q k → (passes k ≡ true → WasMade s q) → Passing s v → (m : ℕ) (p : Pid) → passes (w.known m p) ≡ true → WasMade s p
 set_known s v w q k known new h m p e = grind (arith, nat_tests, set_all)
 
-served_known : (s : OneKernel) (v : View) (i : MsgId) (o : Option Told) → Passing s v → (m : ℕ) (p : Pid) → passes ((served_told (handled v i) o).known m p) ≡ true → WasMade s p
-served_known s v i o h m p e = grind (arith, nat_tests, killed_or, set_known)
-
 -- a put tells of what the group is about
 put_told : (v : View) (a b : ℕ) (i : MsgId) (k : MessageKind) (q : Pid) (s : OneKernel) (j : MsgId) (u : Told) (p : Pid) (m c : ℕ) → Passing s v → (view.after_put v a b i k q).told j ≡ Some u → u.about ≡ view.Place p m c → WasMade s p
 put_told v a b i k q s j u p m c h e f = grind (arith, nat_tests)
@@ -207,7 +208,7 @@ passing_loud = record {
       line_passing pt t l (goes_label pt t (Label.Dropped id) sane is) (point_known pt.kernel pt.view (view_after pt.view l) (λ m q. dropped_known (handled pt.view id) id (receiver_of (pt.view.told id)) m q) h) (hushed pt.view l refl).told h;
   served = λ pt t id serves sane is h.
       let l = Line.Label (Label.Served id) in
-      line_passing pt t l (goes_label pt t (Label.Served id) sane is) (served_known pt.kernel pt.view id (pt.view.told id) h) (hushed pt.view l refl).told h;
+      line_passing pt t l (goes_label pt t (Label.Served id) sane is) (λ m p e. grind (arith, nat_tests, killed_or, set_known)) (hushed pt.view l refl).told h;
   created = λ pt t id p unborn sane is h.
       let l = Line.Label (Label.Created id p) in
       line_passing pt t l (goes_label pt t (Label.Created id p) sane is) (set_known pt.kernel pt.view (view_after pt.view l) p Here refl (λ f. absurd (false≢true f)) h) refl h;

@@ -1,14 +1,14 @@
 -- Lines, puts and packets that fit the trails anywhere, and leave each process where it is.
 use Rattle.dm_movelaws.proofs.Names.{◌≡◌, ℕ, ◌+◌, ◌==◌, Bool, true, false, List, [], ◌∷◌, length, refl, ap, ◌∙◌, sym, subst, if◌then◌else◌, Option, None, Some, Pid, pid_of, MsgId, MessageKind, Stage, plain_kind, Label, OneKernel, entry}
 use Rattle.dm_movelaws.proofs.Names.{reception, id_eq-same, after_step, bind-is, Line, Load, View, Told, own_id, view_after, handled, receiver_of, Receiver, goes_between, own_given, Point, moved, after, Part, Says, Routes, Owns, Transmits}
-use Rattle.dm_movelaws.proofs.Names.{puts, goes_out, packet_line, to_kernel, Trails, IsOn, trails_after, IsNet, IsNetLine, SaidOn, not_kernels, queued_known, held_known, dropped_known, Sane, Outside, Treads, LineFits}
-use Rattle.dm_movelaws.proofs.Names.{LabelFits, KnownFits, PutFits, Rides, Steps, said_by, own_outside, own_fresh, queued_moves, held_moves, dropped_moves, nat_tests, arith, ◌++◌, ⊤, PlainMessage, bind, after_line, Again, Spelled, lines_of}
-use Rattle.dm_movelaws.proofs.Names.{spelled, Trodden, along, AllSayable, part_sane, line_treads, Said, plain_own, by_parts, Addresses, Sort, is_between, sort_of, false≢true, tells_between, seen, ◌≢◌, ◌≤◌, length-append, slice_get, pid_eq}
-use Rattle.dm_movelaws.proofs.Names.{Known, Frozen, Incoming, Forward, forwarded_for, gone_to, Sender, is_told_back, forwards_on, sends_on, Moves, IsIn, times, destination, both_lists, forwarded_known, get_at_end, forwarded_back, Named}
-use Rattle.dm_movelaws.proofs.Names.{source_holds, two_apart, sent_on_at, again_rides, named_for, again_same, eq_self, forwarded_own, other_id, leaves}
+use Rattle.dm_movelaws.proofs.Names.{puts, goes_out, packet_line, to_kernel, Trails, IsOn, trails_after, IsNet, IsNetLine, SaidOn, not_kernels, queued_known, held_known, dropped_known, Sane, Outside, Treads, LineFits, LabelFits, KnownFits}
+use Rattle.dm_movelaws.proofs.Names.{PutFits, Rides, Steps, said_by, own_outside, own_fresh, queued_moves, held_moves, dropped_moves, nat_tests, arith, ◌++◌, ⊤, PlainMessage, bind, after_line, Again, Spelled, lines_of, spelled, Trodden}
+use Rattle.dm_movelaws.proofs.Names.{along, AllSayable, part_sane, line_treads, Said, plain_own, by_parts, Addresses, Sort, is_between, sort_of, false≢true, tells_between, seen, ◌≢◌, ◌≤◌, length-append, slice_get, pid_eq, Known, Frozen}
+use Rattle.dm_movelaws.proofs.Names.{Incoming, Forward, forwarded_for, gone_to, Sender, is_told_back, forwards_on, sends_on, Moves, IsIn, times, destination, both_lists, forwarded_known, get_at_end, forwarded_back, Named, source_holds}
+use Rattle.dm_movelaws.proofs.Names.{two_apart, sent_on_at, again_rides, named_for, again_same, eq_self, forwarded_own, other_id, leaves}
 use Rattle.dm_rule.proofs.Trails.Along.{AllFit}
 use Rattle.dm_movelaws.proofs.Trail.Placed.{Places, placed_same, is_held, Placed, placed_left, places_set, moves_held, moves_comes}
-use Rattle.dm_movelaws.proofs.Leading.{Behind, whatever_put, part_leads}
+use Rattle.dm_movelaws.proofs.Leading.{Behind, whatever_put, part_leads, All}
 use Rattle.dm_onekernel.specs.Step as kernel
 use Rattle.dm_rule.specs.Rule as rule
 
@@ -65,8 +65,7 @@ puts_by pt next t b i k q more false false fits leads h rest = one_good pt next 
 puts_by pt next t b i k q more false true fits leads h rest =
     let put = Line.Put pt.view.acting b i k q in
     let packet = packet_line pt.view pt.view.acting b (Load.Data (length (pt.view.pair pt.view.acting b).ids)) in
-    let mid = moved pt put pt.kernel in
-    one_good pt mid t put (packet ∷ more) fits refl h (λ k. one_good mid next t packet more tt leads k rest)
+    one_good pt (moved pt put pt.kernel) t put (packet ∷ more) fits refl h (λ k. one_good (moved pt put pt.kernel) next t packet more tt leads k rest)
 
 puts_good : (pt next : Point) (t : Trails) (b : ℕ) (i : MsgId) (k : MessageKind) (q : Pid) (ls more : List Line) → PutFits pt t i k q → Some (puts pt.view b i k q) ≡ Some ls → after pt ls ≡ Some next → Treads pt t → (Treads next t → AllGood next t more)
     → AllGood pt t (ls ++ more)
@@ -103,16 +102,12 @@ pub record Loose (p : Part) : Type 0 where
   pub fits : (pt : Point) (t : Trails) → Sane pt → Treads pt t → FitsPart pt t p
   pub leaves : (pt next : Point) (t : Trails) → Steps pt p next → Places pt.view t → Places next.view (behind_part pt.view t p)
 
-abbrev pub AllLoose : List Part → Type 0
-AllLoose [] = ⊤
-AllLoose (p ∷ ps) = Loose p × AllLoose ps
-
-pub loose_walks : (ps : List Part) (pt : Point) (t : Trails) → AllLoose ps → Places pt.view t → Walks pt t ps
+pub loose_walks : (ps : List Part) (pt : Point) (t : Trails) → All Loose ps → Places pt.view t → Walks pt t ps
 loose_walks [] pt t h at = at
 loose_walks (p ∷ ps) pt t h at = λ sane on. (h.0.fits pt t sane on, λ next s. loose_walks ps next (behind_part pt.view t p) h.1 (h.0.leaves pt next t s at))
 
 -- only the first line needs something
-pub first_walks : (l : Line) (ps : List Part) (pt : Point) (t : Trails) → (Sane pt → Treads pt t → LineFits pt t l × ((next : Point) → Said pt l next → Places next.view (trails_after pt.view t l))) → AllLoose ps → Walks pt t (Says l ∷ ps)
+pub first_walks : (l : Line) (ps : List Part) (pt : Point) (t : Trails) → (Sane pt → Treads pt t → LineFits pt t l × ((next : Point) → Said pt l next → Places next.view (trails_after pt.view t l))) → All Loose ps → Walks pt t (Says l ∷ ps)
 first_walks l ps pt t h loose = grind (arith, nat_tests, loose_walks, said_by)
 
 -- what puts and packets leave
@@ -142,7 +137,7 @@ between_loose k m gives none = record {
   leaves = λ pt next t s h. owns_leave k (pid_of m 0) m pt next t s h;
 }
 
-pub to_between : (k : MessageKind) (m : ℕ) → is_between k ≡ true → AllLoose (to_kernel k m ∷ [])
+pub to_between : (k : MessageKind) (m : ℕ) → is_between k ≡ true → All Loose (to_kernel k m ∷ [])
 to_between k m b =
     let gives_between : (s : OneKernel) (v : View) (a : Addresses) (id : MsgId) (m : ℕ) (w : Sort) → tells_between w ≡ true → own_given s v a id (pid_of m 0) w ≡ goes_between v id (pid_of m 0) = λ s v a id m w e. grind (arith, nat_tests) in
     (between_loose k m (λ pt. gives_between pt.kernel pt.view pt.addresses (own_id pt.view) m (sort_of k) b) (λ e. false≢true (sym (ap is_between e) ∙ b)), tt)
@@ -170,7 +165,7 @@ held_loose i = quiet (Line.Held i) (λ pt t. tt) (λ v t. refl) (λ v n q. held_
 net_line : (l : Line) → IsNetLine l → Loose (Says l)
 net_line l h1 = search (arith, quiet, at_pid)
 
-pub net_loose : (ps : List Part) → IsNet ps → AllLoose ps
+pub net_loose : (ps : List Part) → IsNet ps → All Loose ps
 net_loose [] h = tt
 net_loose (Says l ∷ ps) h = (net_line l h.0, net_loose ps h.1)
 net_loose (Transmits a b l ∷ ps) h = (record { fits = λ pt t sane on. tt; leaves = λ pt next t. part_rides (Transmits a b l) pt next t (λ m is. cc) }, net_loose ps h.1)
@@ -184,7 +179,8 @@ pub label_fits : (pt : Point) (t : Trails) (l : Label) → Sane pt → SaidOn (I
 label_fits pt t l sane said known = record { named = λ i m there. sane.sound.entered.named i m there; said = said; outside = λ s is. outside pt s l sane is; known = known }
 
 -- a label and then parts that fit anywhere
-pub label_walks : (pt : Point) (t : Trails) (l : Label) (ps : List Part) → (Treads pt t → SaidOn (IsOn t) pt.kernel pt.view pt.addresses l × KnownFits pt t l × Places (view_after pt.view (Line.Label l)) t) → AllLoose ps → Walks pt t (rule.says l ∷ ps)
+pub label_walks : (pt : Point) (t : Trails) (l : Label) (ps : List Part) → (Treads pt t → SaidOn (IsOn t) pt.kernel pt.view pt.addresses l × KnownFits pt t l × Places (view_after pt.view (Line.Label l)) t) → All Loose ps
+    → Walks pt t (rule.says l ∷ ps)
 label_walks pt t l ps need loose = first_walks (Line.Label l) ps pt t (λ sane on. let k = need on in (label_fits pt t l sane k.0 k.1, λ next s. subst (λ (q : Point). Places q.view t) s.is (places_same (view_after pt.view (Line.Label l)) (seen pt.kernel pt.view (Line.Label l)) t (λ m q. refl) (λ q. refl) k.2))) loose
 
 pub dropped_loose : (i : MsgId) → Loose (rule.says (Label.Dropped i))
@@ -193,7 +189,7 @@ dropped_loose i =
     (λ v t h. places_same v (view_after v (Line.Label (Label.Dropped i))) t (λ m q. dropped_known (handled v i) i (receiver_of (v.told i)) m q)
     (λ q. at_pid (view_after v (Line.Label (Label.Dropped i))).moves v.moves q (dropped_moves (handled v i) i (receiver_of (v.told i)))) h)
 
-pub drops_loose : (ids : List MsgId) → AllLoose (rule.drop_parts ids)
+pub drops_loose : (ids : List MsgId) → All Loose (rule.drop_parts ids)
 drops_loose [] = tt
 drops_loose (i ∷ is) = (dropped_loose i, drops_loose is)
 
@@ -245,9 +241,8 @@ left_places : (q : Point) (u : Trails) (p : Pid) (d : ℕ) → Sent q u p d → 
 left_places q u p d h =
     let v = q.view in
     let w = view_after v (Line.Migration Stage.Left p) in
-    let n = v.moves p + 1 in
-    places_set v w u u p (gone_to (v.known v.acting p) n) refl (λ r apart. refl) (λ r apart. refl) h.others
-    (λ learnt. placed_left v w u p d n (λ m. learnt m ∙ ap (λ (x : Known). if v.acting == m then gone_to x n else v.known m p) h.holds) refl h.at h.long h.none h.only)
+    places_set v w u u p (gone_to (v.known v.acting p) (v.moves p + 1)) refl (λ r apart. refl) (λ r apart. refl) h.others
+    (λ learnt. placed_left v w u p d (v.moves p + 1) (λ m. learnt m ∙ ap (λ (x : Known). if v.acting == m then gone_to x (v.moves p + 1) else v.known m p) h.holds) refl h.at h.long h.none h.only)
 
 agains_walks : (u : Trails) (p : Pid) (d from to : ℕ) (ids : List MsgId) (q : Point) → Sent q u p d → Walks q u (sends_on to ids ++ Says (Line.Migration Stage.Left p) ∷ to_kernel MessageKind.Restart from ∷ [])
 agains_walks u p d from to [] q h =
@@ -265,11 +260,10 @@ sent_first pt t p n s d o next is phase acts h =
     let holds : v.known v.acting p ≡ Frozen d = ap (λ (m : ℕ). v.known m p) acts ∙ source_holds v p MessageKind.AllTaken s d o phase refl in
     let long = (h p).long v.acting (ap is_held holds) in
     let grown = sent_on_at v t p n d holds in
-    let more : length (u p) ≡ length (t p) + 1 = ap length grown ∙ length-append (t p) (d ∷ []) in
     let first : Sent (record { kernel = next.kernel; view = w; addresses = next.addresses }) u p d = record {
       holds = holds;
       at = ap (λ (xs : List ℕ). slice_get xs (v.moves p + 1)) grown ∙ get_at_end (t p) d (v.moves p + 1) long;
-      long = omega (arith, more, long);
+      long = omega (arith, ap length grown ∙ length-append (t p) (d ∷ []), long);
       apart = λ e. two_apart v p MessageKind.AllTaken s d o phase (e ∙ acts);
       none = λ m off held. (let k = moves_held v p MessageKind.AllTaken s d m o phase held in false≢true (sym off ∙ ap (λ (i : ℕ). v.acting == i) (sym k.0 ∙ sym acts) ∙ eq_self v.acting));
       only = λ k from at. moves_comes v p MessageKind.AllTaken s d k from o phase at;
@@ -282,11 +276,10 @@ pub leaves_walks : (pt : Point) (t : Trails) (id : MsgId) (p : Pid) (k : Known) 
     → (Sane pt → (i : MsgId) (q : Pid) → 1 ≤ times i (both_lists pt.view p) → Named pt.kernel pt.view (Receiver i) q → q ≡ p) → WalksOf pt t (leaves id p (both_lists pt.view p) k)
 leaves_walks pt t id p (Frozen to) s d o phase acts h for = λ sane on.
     let ids = both_lists pt.view p in
-    let u = trails_after pt.view t (Line.SentOn p (length ids)) in
     let holds : pt.view.known pt.view.acting p ≡ Frozen d = ap (λ (m : ℕ). pt.view.known m p) acts ∙ source_holds pt.view p MessageKind.AllTaken s d o phase refl in (
       record { s = s; d = d; o = o; phase = phase; acts = acts; long = (h p).long pt.view.acting (ap is_held holds); for_it = for sane },
       (λ next r.
           let k = said_by pt next (Line.SentOn p (length ids)) r in
-          agains_walks u p d id.from.home to ids next (sent_first pt t p (length ids) s d o next (sym (ap (λ (z : Point). z.view) k.is)) phase acts h)),
+          agains_walks (trails_after pt.view t (Line.SentOn p (length ids))) p d id.from.home to ids next (sent_first pt t p (length ids) s d o next (sym (ap (λ (z : Point). z.view) k.is)) phase acts h)),
     )
 leaves_walks pt t id p _ s d o phase acts h for = tt

@@ -44,28 +44,7 @@ placed_held v w t p x known moves held at long h = grind (arith, nat_tests, lear
 
 -- it expects it from a machine that doesn't forward
 pub placed_comes : (v w : View) (t : Trails) (p : Pid) (from : ℕ) → Learnt v w p (Incoming from) → w.moves p ≡ v.moves p → ((d c : ℕ) → v.known from p ≢ Forward d c) → Placed v t p → Placed w t p
-placed_comes v w t p from known moves off h = record {
-  now = λ m e. elim (learnt_either v w p (Incoming from) m known) [
-    | inl new ↦ absurd (false≢true (sym (ap is_held new.1) ∙ e))
-    | inr old ↦ ap (λ (n : ℕ). slice_get (t p) n) moves ∙ h.now m (sym (ap is_held old.is) ∙ e)
-  ];
-  long = λ m e. elim (learnt_either v w p (Incoming from) m known) [
-    | inl new ↦ absurd (false≢true (sym (ap is_held new.1) ∙ e))
-    | inr old ↦ h.long m (sym (ap is_held old.is) ∙ e) ∙ sym (ap (λ (n : ℕ). n + 1) moves)
-  ];
-  next = λ s d c e f. let k = both s d c e f in ap (λ (n : ℕ). slice_get (t p) (n + 1)) moves ∙ h.next s d c k.0 k.1;
-  longer = λ s d c e f. let k = both s d c e f in h.longer s d c k.0 k.1 ∙ sym (ap (λ (n : ℕ). n + 2) moves);
-  unmade = λ e. absurd (let f : Incoming from ≡ Unknown = sym (learnt_here v w p (Incoming from) known) ∙ e v.acting in cc);
-}
-  where
-    both : (s d c : ℕ) → w.known s p ≡ Forward d c → w.known d p ≡ Incoming s → (v.known s p ≡ Forward d c) × (v.known d p ≡ Incoming s)
-    both s d c e f = elim (learnt_either v w p (Incoming from) s known) [
-      | inl new ↦ absurd (let g : Incoming from ≡ Forward d c = sym new.1 ∙ e in cc)
-      | inr old ↦ elim (learnt_either v w p (Incoming from) d known) [
-        | inl new ↦ absurd (let g : Incoming from ≡ Incoming s = sym new.1 ∙ f in let k : s ≡ from = cc in off d c (subst (λ (i : ℕ). v.known i p ≡ Forward d c) k (sym old.is ∙ e)))
-        | inr older ↦ (sym old.is ∙ e, sym older.is ∙ f)
-      ]
-    ]
+placed_comes v w t p from h1 h2 h3 h4 = grind (arith, nat_tests, learnt_either, learnt_here)
 
 -- it restarts it
 pub placed_restarts : (v w : View) (t : Trails) (p : Pid) → Learnt v w p Here → w.moves p ≡ v.moves p + 1 → slice_get (t p) (v.moves p + 1) ≡ Some v.acting → length (t p) ≡ v.moves p + 2 → ((m : ℕ) → is_held (v.known m p) ≡ true → ⊥)

@@ -1,19 +1,20 @@
 -- What a turn says of a kernel's own message fits the trails.
 use Rattle.dm_movelaws.proofs.Names.{◌≡◌, ℕ, ◌+◌, Bool, true, false, List, [], ◌∷◌, refl, ap, ◌∙◌, sym, subst, arith, ◌||◌, if◌then◌else◌, slice_get, Option, None, Some, Pid, pid_of, MsgId, MessageKind, Label, Line, plain_kind, proto_known}
-use Rattle.dm_movelaws.proofs.Names.{PlainMessage, Boot, first_number, View, Told, Unknown, Here, Forward, Ended, handled, ends_by, served_told, view_after, Receiver, Point, moved, Part, Says, Routes, Nowhere, forwards_on, Trails}
-use Rattle.dm_movelaws.proofs.Names.{Trail, ReceivedAt, ended_on, is_fixed, Unborn, said_by, Stops, by_round, by_handles, StoodOnTrail, nat_tests, ◌≤◌, inl, inr, PutFits, manager, Step, Of, is_kernels, own_id, after_head, front_of, Child}
-use Rattle.dm_movelaws.proofs.Names.{Sender, to_of, sender_of, Spelled, IsIn, is_between, group_of, Inbox, Queue, Held, times, standing, both_lists, both_times, front_kernels, Phased, due, outcome_sayable, Named, Links, child_is, parts}
-use Rattle.dm_movelaws.proofs.Names.{migrate_to, migrate_from, Treads, line_treads, KnownStands, Begins, begins, begun, begun_sane, turned, unborn, FoundBy, KnowsAt, moves_back, own_outside, own_fresh, told_there, about_same, stands_first}
-use Rattle.dm_movelaws.proofs.Names.{queued_for, told_for, either, fixed_home, by_migrates, migrates, by_outcome, by_group, answers_move, leaves_for, Outcome, asked_noted, ◌++◌, false≢true, Stage, pid_eq-same, Frozen, Incoming, to_kernel}
-use Rattle.dm_movelaws.proofs.Names.{Moves, receiver_in, sender_in, Sane, source_holds, destination_expects, by_hears, place_told, behind_count, left_parts, MoveNote, OneKernel, Known, label_of, kernel_after, at_record, at_record_at, Said}
-use Rattle.dm_movelaws.proofs.Names.{aim, sets, sort_of, is_restart, kind_leaves, eq_is, eq_self}
+use Rattle.dm_movelaws.proofs.Names.{PlainMessage, Boot, first_number, View, Told, Unknown, Here, Forward, Ended, handled, ends_by, served_told, view_after, Receiver, Point, moved, Part, Says, Routes, Nowhere, forwards_on, Trails, Trail}
+use Rattle.dm_movelaws.proofs.Names.{ReceivedAt, ended_on, is_fixed, Unborn, said_by, Stops, by_round, by_handles, StoodOnTrail, nat_tests, ◌≤◌, inl, inr, PutFits, manager, Step, Of, is_kernels, own_id, after_head, front_of, Child, Sender}
+use Rattle.dm_movelaws.proofs.Names.{to_of, sender_of, Spelled, IsIn, is_between, group_of, Inbox, Queue, Held, times, standing, both_lists, both_times, front_kernels, Phased, due, outcome_sayable, Named, Links, child_is, parts, migrate_to}
+use Rattle.dm_movelaws.proofs.Names.{migrate_from, Treads, line_treads, KnownStands, Begins, begins, begun, begun_sane, turned, unborn, FoundBy, KnowsAt, moves_back, own_outside, own_fresh, told_there, about_same, stands_first, queued_for}
+use Rattle.dm_movelaws.proofs.Names.{told_for, either, fixed_home, by_migrates, migrates, by_outcome, by_group, answers_move, leaves_for, Outcome, asked_noted, ◌++◌, false≢true, Stage, pid_eq-same, Frozen, Incoming, to_kernel, Moves}
+use Rattle.dm_movelaws.proofs.Names.{receiver_in, sender_in, Sane, source_holds, destination_expects, by_hears, place_told, behind_count, left_parts, MoveNote, OneKernel, Known, label_of, kernel_after, at_record, at_record_at, Said, aim}
+use Rattle.dm_movelaws.proofs.Names.{sets, sort_of, is_restart, kind_leaves, eq_is, eq_self}
 use Rattle.dm_onekernel.specs.Pieces as pieces
 use Rattle.dm_rule.specs.Rule as rule
 use Rattle.dm_rule.proofs.Hearing as hearing
 use Rattle.dm_movelaws.proofs.Trail.Placed.{is_held, Placed, Places, Learnt, placed_held, places_set, places_held, placed_comes, placed_restarts, moves_held, moves_comes}
-use Rattle.dm_movelaws.proofs.Trail.Loose.{Walks, AllLoose, loose_walks, places_same, label_fits, label_walks, routes_loose, queued_loose, held_loose, dropped_loose, drops_loose, AllGood, parts_good, owns_leave, at_pid}
+use Rattle.dm_movelaws.proofs.Trail.Loose.{Walks, loose_walks, places_same, label_fits, label_walks, routes_loose, queued_loose, held_loose, dropped_loose, drops_loose, AllGood, parts_good, owns_leave, at_pid}
 use Rattle.dm_movelaws.proofs.Trail.Loose.{net_loose, first_walks, to_between, Loose, quiet, forwards_walks}
 use Rattle.dm_movelaws.proofs.Trail.Loose.{leaves_walks}
+use Rattle.dm_movelaws.proofs.Leading.{All}
 
 pub at_end : (pt : Point) (t : Trails) (p : Pid) → pt.view.known pt.view.acting p ≡ Here → Places pt.view t → slice_get (t p) (pt.view.moves p) ≡ Some pt.view.acting
 at_end pt t p here h = (h p).now pt.view.acting (ap is_held here)
@@ -114,7 +115,7 @@ hears_walks pt b o t m id u ps same notes known kernels forwards h =
     let proto_loose : (i : MsgId) → Loose (Says (Line.Proto i)) =
       λ i. quiet (Line.Proto i) (λ pt t. tt) (λ v t. refl) (λ v n q. proto_known (handled v i) (v.told i) n q) (λ v q. at_pid (view_after v (Line.Proto i)).moves v.moves q (grind (arith, nat_tests))) in
     let home = id.from.home in
-    let proto : (k : MessageKind) → AllLoose (to_kernel k home ∷ []) → Walks pt t (Says (Line.Proto id) ∷ to_kernel k home ∷ []) = λ k loose. loose_walks (Says (Line.Proto id) ∷ to_kernel k home ∷ []) pt t (proto_loose id, loose) h in
+    let proto : (k : MessageKind) → All Loose (to_kernel k home ∷ []) → Walks pt t (Says (Line.Proto id) ∷ to_kernel k home ∷ []) = λ k loose. loose_walks (Says (Line.Proto id) ∷ to_kernel k home ∷ []) pt t (proto_loose id, loose) h in
     let one : (l : Line) → Loose (Says l) → Walks pt t (Says l ∷ []) = λ l loose. loose_walks (Says l ∷ []) pt t (loose, tt) h in
     by_hears (Walks pt t) b o m id (Some u) ps (λ v is. (
     let e : u ≡ v = cc in
@@ -203,7 +204,7 @@ kills_places : (v : View) (t : Trails) (k : MessageKind) (p : Pid) → (k ≡ Me
 kills_places v t MessageKind.Kill p here h = places_held v (ends_by (sort_of MessageKind.Kill) v (Some p)) t p Ended refl refl refl (ap is_held (here refl)) h
 kills_places v t _ p here h = h
 
-served_walks : (pt : Point) (t : Trails) (id : MsgId) (k : PlainMessage) (ps : List Part) → Front pt t id k → pt.view.known pt.view.acting k.to ≡ Here → AllLoose ps → Walks pt t (rule.says (Label.Served id) ∷ ps)
+served_walks : (pt : Point) (t : Trails) (id : MsgId) (k : PlainMessage) (ps : List Part) → Front pt t id k → pt.view.known pt.view.acting k.to ≡ Here → All Loose ps → Walks pt t (rule.says (Label.Served id) ∷ ps)
 served_walks pt t id k ps f here loose =
     let served_places : (v : View) (t : Trails) (o : Option Told) → ((u : Told) → o ≡ Some u → u.kind ≡ MessageKind.Kill → v.known v.acting u.receiver ≡ Here) → Places v t → Places (served_told v o) t =
       λ v t o here h. grind (arith, nat_tests, kills_places) in
@@ -297,8 +298,6 @@ front_walks b o t m i is k ps start h at front there =
     let pt = turned o m in
     let stands = h.line.places i (Inbox m) (stands_first o.view m i is front) in
     let (u, told) = told_there (o.view.told i) stands.1 in
-    let to_same : u.receiver ≡ k.to = start.sane.tells.receiver i k u there told in
-    let kind_same : u.kind ≡ plain_kind k.what = start.sane.tells.kind i k u there told in
     let placed : Places pt.view t = places_same o.view pt.view t (λ n q. refl) (λ q. refl) at in
     let f : Front pt t i k = record {
       there = there;
@@ -308,15 +307,14 @@ front_walks b o t m i is k ps start h at front there =
       places = placed;
     } in
     handles_walks pt b o t m i k ps f (unborn o m start.rooted) refl
-    (λ to c e. subst (λ (y : MessageKind). Walks pt t (forwards_on o.addresses i y k.sender to)) kind_same
-    (forwards_walks pt t i u k.sender to c told (ap (o.view.known m) to_same ∙ e) placed (λ yes_ on. on.links (Sender i) k.sender (ap sender_of there))))
+    (λ to c e. subst (λ (y : MessageKind). Walks pt t (forwards_on o.addresses i y k.sender to)) (start.sane.tells.kind i k u there told)
+    (forwards_walks pt t i u k.sender to c told (ap (o.view.known m) (start.sane.tells.receiver i k u there told) ∙ e) placed (λ yes_ on. on.links (Sender i) k.sender (ap sender_of there))))
 
 -- one that kernels sent
 own_walks : (b : Boot) (o : Point) (t : Trails) (m : ℕ) (i : MsgId) (is : List MsgId) (ps : List Part) → Begins o m → FoundBy o → Places o.view t → o.view.inbox m ≡ i ∷ is → o.kernel.bag i ≡ None → rule.hears b o m i (o.view.told i) ≡ Some ps → Walks (turned o m) t ps
 own_walks b o t m i is ps start h at front there e =
     let pt = turned o m in
-    let stands = h.line.places i (Inbox m) (stands_first o.view m i is front) in
-    let (u, told) = told_there (o.view.told i) stands.1 in
+    let (u, told) = told_there (o.view.told i) (h.line.places i (Inbox m) (stands_first o.view m i is front)).1 in
     let own : is_kernels i ≡ true = front_kernels pt i is start.state front there in
     let placed : Places pt.view t = places_same o.view pt.view t (λ n q. refl) (λ q. refl) at in
     hears_walks pt b o t m i u ps (λ p. refl) (λ p n e. e) refl (λ p about between. heard o m i is u p start h front told about between)
@@ -340,8 +338,7 @@ head_places v t any_ h = places_same v (after_head v any_) t (λ n q. refl) (λ 
 outcome_walks : (b : Boot) (pt : Point) (t : Trails) (d : Step) (ps : List Part) → Phased pt → KnownStands pt.kernel pt.view → FoundBy pt → Places pt.view t → rule.outcome b pt d ≡ Some ps → Walks (begun pt d) t ps
 outcome_walks b pt t d ps base known h at = by_outcome (λ x. Walks (begun pt x) t) b pt d ps (record {
   round = λ m xs box e. (
-      let start = begins pt m base known in
-      round_walks (turned pt m) t b pt m (rule.first_runnable pt.kernel (pt.view.queue m) (pt.view.ring m)) xs (λ p is. start.rooted.served m p is) (head_places pt.view t (Step.Turn m) at) e
+      round_walks (turned pt m) t b pt m (rule.first_runnable pt.kernel (pt.view.queue m) (pt.view.ring m)) xs (λ p is. (begins pt m base known).rooted.served m p is) (head_places pt.view t (Step.Turn m) at) e
       );
   handles = λ m i is k xs box there e. front_walks b pt t m i is k xs (begins pt m base known) h at box there e;
   hears = λ m i is xs box none e. own_walks b pt t m i is xs (begins pt m base known) h at box none e;

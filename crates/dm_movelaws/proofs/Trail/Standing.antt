@@ -1,51 +1,9 @@
 -- The trails that printed lines lay stand, and from each place that is named for a process the forwarding addresses lead to it.
-use Rattle.dm_movelaws.proofs.Names.{◌≡◌, ◌≢◌, ℕ, suc, ◌-◌, ◌==◌, true, false, List, [], ◌∷◌, ◌++◌, length, refl, ap, ◌∙◌, sym, subst, inl, inr, arith, cases_Bool, slice_get_within, slice_get, Option, None, Some, Pid, Place, Boot}
-use Rattle.dm_movelaws.proofs.Names.{IsValid, OneKernel, bind, Step, bind-is, Line, unmoved, Leads, Point, first_point, after, after_line, Trails, Trail, IsOn, Trodden, first_trodden, along, trails_after, View, Known, Unknown, Here}
-use Rattle.dm_movelaws.proofs.Names.{Forward, along_treads, treads_start, trail_leads, Treads, Within, trail_within, is_server, is_fixed, KnownStands, agrees, LeadsBy, made_free, server_fixed, is_made, ends_walk, IsNamed, Reaches, IsLast}
-use Rattle.dm_movelaws.proofs.Names.{TrailStands, TrailsStand, IsLed, AddressesLead, nat_tests, has_it}
-use Rattle.dm_movelaws.proofs.After.{group_after}
-use Rattle.dm_movelaws.proofs.Trail.Known.{Holds, carries, none_is, made_by, passed_always}
+use Rattle.dm_movelaws.proofs.Names.{◌≡◌, ◌≢◌, ℕ, suc, ◌-◌, ◌==◌, true, false, List, [], ◌∷◌, length, ap, ◌∙◌, sym, subst, inl, inr, arith, cases_Bool, slice_get_within, slice_get, None, Some, Pid, Place, Boot, OneKernel, unmoved, Point}
+use Rattle.dm_movelaws.proofs.Names.{first_point, Trails, Trail, IsOn, first_trodden, View, Known, Unknown, Forward, treads_start, trail_leads, Treads, Within, trail_within, is_server, is_fixed, KnownStands, agrees, made_free, server_fixed}
+use Rattle.dm_movelaws.proofs.Names.{is_made, ends_walk, IsNamed, Reaches, IsLast, TrailStands, TrailsStand, IsLed, AddressesLead, nat_tests, has_it}
+use Rattle.dm_movelaws.proofs.Trail.Known.{Holds, carries, none_is, made_by, passed_always, trodden, lines_there, laid_by}
 use Rattle.dm_movelaws.proofs.Trail.Placed.{is_held}
-
-abbrev trodden : Point → Trails → Trodden
-trodden pt t = record { point = pt; trails = t }
-
--- wherever lines lead, trails lead along
-along_there : (ls : List Line) (pt end : Point) (t : Trails) → after pt ls ≡ Some end → (u : Trails) × (along (trodden pt t) ls ≡ Some (trodden end u))
-along_there [] pt end t e = let f : pt ≡ end = cc in (t, ap (λ (q : Point). Some (trodden q t)) f)
-along_there (l ∷ ls) pt end t e =
-    let (next, first, rest) = bind-is (after_line pt l) (λ (q : Point). after q ls) end e in
-    let (u, is) = along_there ls next end (trails_after pt.view t l) rest in
-    (u, ap (λ (o : Option Point). bind o (λ (n : Point). along (trodden n (trails_after pt.view t l)) ls)) first ∙ is)
-
-along-append : (xs ys : List Line) (x y : Trodden) → along x xs ≡ Some y → along x (xs ++ ys) ≡ along y ys
-along-append [] ys x y e = let f : x ≡ y = cc in ap (λ (z : Trodden). along z ys) f
-along-append (l ∷ xs) ys x y e = grind (arith, nat_tests, bind-is, along-append xs ys)
-
--- where lines lead, with the trails that they lay
-record Laid (b : Boot) (pt : Point) (t : Trails) (ls : List Line) (end : Point) : Type 0 where
-  trails : Trails
-  lays : along (trodden pt t) ls ≡ Some (trodden end trails)
-  holds : Holds b (trodden end trails)
-  treads : Treads end trails
-
-laid_by : (b : Boot) (es : List Step) (ls : List Line) (pt end : Point) (t : Trails) → LeadsBy b pt es ls end → Holds b (trodden pt t) → Treads pt t → Laid b pt t ls end
-laid_by b [] ls pt end t (none, same) h on = subst (λ (xs : List Line). Laid b pt t xs end) (sym none) (subst (Laid b pt t []) same (record { trails = t; lays = refl; holds = h; treads = on }))
-laid_by b (e ∷ es) ls pt end t (w, rest, fit, is, are, more) h on =
-    let (u, comes) = along_there w.lines pt w.point t (group_after b pt e w is) in
-    let holds = carries.keeps b (trodden pt t) (trodden w.point u) e w fit is comes h on in
-    let treads = along_treads w.lines (trodden pt t) (trodden w.point u) comes (carries.fits b (trodden pt t) e w fit is h on) on in
-    let laid_more : (b : Boot) (pt mid end : Point) (t u : Trails) (xs ys : List Line) → along (trodden pt t) xs ≡ Some (trodden mid u) → Laid b mid u ys end → Laid b pt t (xs ++ ys) end =
-      λ b pt mid end t u xs ys first k. record { trails = k.trails; lays = along-append xs ys (trodden pt t) (trodden mid u) first ∙ k.lays; holds = k.holds; treads = k.treads } in
-    subst (λ (xs : List Line). Laid b pt t xs end) (sym are) (laid_more b pt w.point end t u w.lines rest comes (laid_by b es rest w.point end u more holds treads))
-
-laid_first : (b : Boot) (es : List Step) (ls : List Line) (pt : Point) → IsValid b → LeadsBy b (first_point b) es ls pt → Laid b (first_point b) (first_trodden b).trails ls pt
-laid_first b es ls pt valid way = laid_by b es ls (first_point b) pt (first_trodden b).trails way (carries.start b valid) (treads_start b valid)
-
--- whatever leads somewhere leads by lines
-pub lines_there : (b : Boot) (es : List Step) (pt end : Point) → Leads b pt es end → (ls : List Line) × LeadsBy b pt es ls end
-lines_there b [] pt end way = ([], (refl, way))
-lines_there b (e ∷ es) pt end (w, fit, is, more) = let (ls, rest) = lines_there b es w.point end more in (w.lines ++ ls, (w, ls, fit, is, refl, rest))
 
 -- lists of one place
 one_place : (xs : List ℕ) (m : ℕ) → length xs ≡ 1 → slice_get xs 0 ≡ Some m → xs ≡ m ∷ []
@@ -60,10 +18,8 @@ walk_ends k some off = grind (arith, nat_tests)
 alone_long : (b : Boot) (pt : Point) (t : Trails) (p : Pid) → Holds b (trodden pt t) → pt.kernel.processes p ≡ None → length (t p) ≡ 1
 alone_long b pt t p h none = elim (cases_Bool (is_server p)) [
   | inl server ↦
-      let here : pt.view.known 0 p ≡ Here = h.both.run.based.known.server 0 p server in
-      let long = (h.places p).long 0 (ap is_held here) in
-      let moves = h.both.run.based.unmoved p none in
-      omega (arith, long, moves)
+      let long = (h.places p).long 0 (ap is_held (h.both.run.based.known.server 0 p server)) in
+      omega (arith, long, h.both.run.based.unmoved p none)
   | inr process ↦ ((h.places p).unmade (λ m. (let e_ : (pt.view.known m p) ≡ Unknown = grind (arith, nat_tests, sym (ap (agrees (pt.view.known m p)) none) ∙ h.both.run.based.known.agree m p process) in e_))).1
 ]
 
@@ -80,11 +36,10 @@ no_further v t p place m c trail is e =
 
 reaches : (b : Boot) (pt : Point) (t : Trails) (p : Pid) (place : Place) → Holds b (trodden pt t) → Treads pt t → is_made pt.kernel p ≡ true → IsOn t p place → Reaches pt p place
 reaches b pt t p place h on made is =
-    let n = pt.kernel.machines - 1 in
     let known = at_home pt.kernel pt.view p h.both.run.based.known made in
     let all : Within pt.kernel.machines pt.view = carries.within b (trodden pt t) h in
-    let within : Within (suc n) pt.view = subst (λ (k : ℕ). Within k pt.view) (let e_ : pt.kernel.machines ≡ suc (pt.kernel.machines - 1) = omega (arith, all.acting, all.acting) in e_) all in
-    trail_leads pt.view t p n p.home place (on.trail p) known (trail_within (suc n) pt.view t p p.home within (on.trail p) known) is
+    let within : Within (suc (pt.kernel.machines - 1)) pt.view = subst (λ (k : ℕ). Within k pt.view) (let e_ : pt.kernel.machines ≡ suc (pt.kernel.machines - 1) = omega (arith, all.acting, all.acting) in e_) all in
+    trail_leads pt.view t p (pt.kernel.machines - 1) p.home place (on.trail p) known (trail_within (suc (pt.kernel.machines - 1)) pt.view t p p.home within (on.trail p) known) is
 
 alone : (b : Boot) (pt : Point) (t : Trails) (p : Pid) → Holds b (trodden pt t) → Treads pt t → pt.kernel.processes p ≡ None → t p ≡ p.home ∷ []
 alone b pt t p h on none = one_place (t p) p.home (alone_long b pt t p h none) (on.trail p).begins
@@ -116,7 +71,7 @@ stand_at b pt t h on = record {
 }
 
 pub trails_stand : TrailsStand
-trails_stand b es ls pt valid way = let k = laid_first b es ls pt valid way in (k.trails, k.lays, stand_at b pt k.trails k.holds k.treads)
+trails_stand b es ls pt valid way = let k = laid_by b es ls (first_point b) pt (first_trodden b).trails way (carries.start b valid) (treads_start b valid) in (k.trails, k.lays, stand_at b pt k.trails k.holds k.treads)
 
 -- who has only been at home is named there
 home_only : (pt : Point) (t : Trails) (q : Pid) (place : Place) → TrailStands pt t → IsNamed pt q place → is_fixed q ≡ true → place ≡ unmoved q.home
@@ -135,5 +90,5 @@ led_by pt t q place s named made = record {
 pub addresses_lead : AddressesLead
 addresses_lead b es pt q place valid way named =
     let (ls, lines) = lines_there b es (first_point b) pt way in
-    let k = laid_first b es ls pt valid lines in
+    let k = laid_by b es ls (first_point b) pt (first_trodden b).trails lines (carries.start b valid) (treads_start b valid) in
     led_by pt k.trails q place (stand_at b pt k.trails k.holds k.treads) named (λ other. made_by b pt q place (passed_always b es pt valid way) other named)

@@ -3,10 +3,10 @@ use Rattle.dm_movelaws.proofs.Names.{◌&&◌, ◌≡◌, ◌⊎◌, ℕ, ◌<�
 use Rattle.dm_movelaws.proofs.Names.{MsgId, Boot, switchboard, manager, OneKernel, pid_eq-same, Step, Addresses, Holder, belongs_to, leads_to, is_pid, is_behind, place_told, updated, holders_of, behind_among, behind_count, holders_numbered}
 use Rattle.dm_movelaws.proofs.Names.{answers_in, slot_holders, Spelled, Point, View, Told, About, Ended, after_head, is_server, KnownStands, Updated, UpdatesAlways, front_own, Both, is_place, own_sort, run_always, pid_there, second, zero}
 use Rattle.dm_movelaws.proofs.Names.{suc, ◌+◌, List, ◌∷◌, length, slice_get, slice_get_cases, PlainLink, link_at, NamedLink, Pending, PlainProcess, pid_eq-is, not_server, alive-is, Slot, Owner, Child, Name, Answer, holder_eq, link_target}
-use Rattle.dm_movelaws.proofs.Names.{slot_of, ascends, listings, is_owner, group_is, ◌||◌, MessageKind, plain_kind, Line, Part, Says, lines_of, spelled, moved, GroupIs, by_parts, sends_on, by_migrates, by_hears}
-use Rattle.dm_movelaws.proofs.Names.{by_net, by_outcome, ⊤, PlainMessage, forwards_on, Loose, loose_round, loose_handles, by_forwards}
+use Rattle.dm_movelaws.proofs.Names.{slot_of, ascends, listings, is_owner, group_is, ◌||◌, MessageKind, plain_kind, Line, Part, Says, lines_of, spelled, moved, GroupIs, by_parts, sends_on, by_migrates, by_hears, by_net, by_outcome}
+use Rattle.dm_movelaws.proofs.Names.{PlainMessage, forwards_on, Loose, loose_round, loose_handles, by_forwards}
 use Rattle.dm_laws.proofs.Entered.{Made}
-use Rattle.dm_movelaws.proofs.Leading.{lines_are}
+use Rattle.dm_movelaws.proofs.Leading.{lines_are, All, Saying}
 use Rattle.dm_onekernel.specs.Step as kernel
 use Rattle.dm_rule.specs.View as view
 use Rattle.dm_onekernel.specs.Manager as manage
@@ -29,19 +29,14 @@ is_updated (Line.Updated id n) = true
 is_updated l = false
 
 abbrev pub PartQuiet : Part → Type 0
-PartQuiet (Says l) = is_updated l ≡ false
-PartQuiet _ = ⊤
-
-abbrev pub AllQuiet : List Part → Type 0
-AllQuiet [] = ⊤
-AllQuiet (p ∷ ps) = PartQuiet p × AllQuiet ps
+PartQuiet = Saying (λ l. is_updated l ≡ false)
 
 -- the parts of a group: none of them says so, or the only one
 pub data Shape (o : Point) (ps : List Part) : Type 0 where
-  Quiet : AllQuiet ps → Shape o ps
+  Quiet : All PartQuiet ps → Shape o ps
   Updates : (m : ℕ) → (id : MsgId) → (n : ℕ) → ps ≡ Says (Line.Updated id n) ∷ [] → Handles o m id n → Shape o ps
 
-quiet_loose : Loose AllQuiet
+quiet_loose : Loose (All PartQuiet)
 quiet_loose = record { none = tt; label = λ l ps h. (refl, h); routes = λ i ps h. (tt, h) }
 
 -- a message of the bag
@@ -50,10 +45,11 @@ forwards_shape o c id k sender to = by_forwards (Shape o) c id k sender to (Quie
 
 pub handles_shape : (b : Boot) (o : Point) (m : ℕ) (id : MsgId) (msg : PlainMessage) (ps : List Part) → rule.handles b o m id msg ≡ Some ps → Shape o ps
 handles_shape b o m id msg ps e =
-    loose_handles (Shape o) AllQuiet quiet_loose (λ xs. Quiet) b o m id msg ps (λ here. Quiet (refl, tt)) (Quiet (refl, tt)) (λ to here what apart. Quiet (refl, (refl, (refl, (tt, tt))))) (λ to moves at_. forwards_shape o o.addresses id (plain_kind msg.what) msg.sender to) e
+    loose_handles (Shape o) (All PartQuiet) quiet_loose (λ xs. Quiet) b o m id msg ps (λ here. Quiet (refl, tt)) (Quiet (refl, tt)) (λ to here what apart. Quiet (refl, (refl, (refl, (tt, tt)))))
+        (λ to moves at_. forwards_shape o o.addresses id (plain_kind msg.what) msg.sender to) e
 
 -- a kernel's own message
-sends_quiet : (to : ℕ) (ids : List MsgId) (ps : List Part) → AllQuiet ps → AllQuiet (sends_on to ids ++ ps)
+sends_quiet : (to : ℕ) (ids : List MsgId) (ps : List Part) → All PartQuiet ps → All PartQuiet (sends_on to ids ++ ps)
 sends_quiet to [] ps h = h
 sends_quiet to (i ∷ is) ps h = (tt, sends_quiet to is ps h)
 
@@ -83,12 +79,12 @@ hears_shape b o m id is q ps told box none = by_hears (Shape o) b o m id q ps (�
 -- the other directives
 pub outcome_shape : (b : Boot) (o : Point) (d : Step) (ps : List Part) → rule.outcome b o d ≡ Some ps → Shape o ps
 outcome_shape b o d ps = by_outcome (λ x. Shape o) b o d ps (record {
-  round = λ m xs box e. Quiet (loose_round AllQuiet quiet_loose b o m (rule.first_runnable o.kernel (o.view.queue m) (o.view.ring m)) xs (refl, tt) e);
+  round = λ m xs box e. Quiet (loose_round (All PartQuiet) quiet_loose b o m (rule.first_runnable o.kernel (o.view.queue m) (o.view.ring m)) xs (refl, tt) e);
   handles = λ m i is msg xs box there e. handles_shape b o m i msg xs e;
   hears = λ m i is xs box none e. hears_shape b o m i is (o.view.told i) xs refl box none e;
-  ticks = λ m xs net. Quiet ((by_net AllQuiet tt (λ l ps net h. ((let e_ : is_updated l ≡ false = grind (arith, nat_tests) in e_), h)) (λ a b l ps h. (tt, h))) xs net);
-  delivers = λ a c k xs net. Quiet ((by_net AllQuiet tt (λ l ps net h. ((let e_ : is_updated l ≡ false = grind (arith, nat_tests) in e_), h)) (λ a b l ps h. (tt, h))) xs net);
-  asks = λ p m. Quiet (by_migrates AllQuiet o p (refl, tt) (refl, tt) (λ n off is. (tt, tt)));
+  ticks = λ m xs net. Quiet ((by_net (All PartQuiet) tt (λ l ps net h. ((let e_ : is_updated l ≡ false = grind (arith, nat_tests) in e_), h)) (λ a b l ps h. (tt, h))) xs net);
+  delivers = λ a c k xs net. Quiet ((by_net (All PartQuiet) tt (λ l ps net h. ((let e_ : is_updated l ≡ false = grind (arith, nat_tests) in e_), h)) (λ a b l ps h. (tt, h))) xs net);
+  asks = λ p m. Quiet (by_migrates (All PartQuiet) o p (refl, tt) (refl, tt) (λ n off is. (tt, tt)));
 })
 
 abbrev begun : Point → Step → Point
@@ -130,9 +126,9 @@ same_line d (x ∷ y ∷ zs) ys id i n k e =
 
 pub by_shape : (b : Boot) (pt : Point) (d : Step) (w : Spelled) (id : MsgId) (n : ℕ) (xs ys : List Line) (g : GroupIs b pt d w) → w.lines ≡ xs ++ Line.Updated id n ∷ ys → Shape pt g.parts → Handled b pt d w id n
 by_shape b pt d w id n xs ys g there (Quiet quiet) =
-    let parts_have : (ps : List Part) (pt : Point) (w : Spelled) → AllQuiet ps → spelled pt ps ≡ Some w → has w.lines ≡ false = λ ps pt w quiet is.
+    let parts_have : (ps : List Part) (pt : Point) (w : Spelled) → All PartQuiet ps → spelled pt ps ≡ Some w → has w.lines ≡ false = λ ps pt w quiet is.
       let part_has : (pt : Point) (p : Part) (ls : List Line) → PartQuiet p → lines_of pt p ≡ Some ls → has ls ≡ false = λ pt p ls quiet is. grind (arith, nat_tests, lines_are) in
-      by_parts (λ qs q v. AllQuiet qs → has v.lines ≡ false) (λ q h. refl) (λ x qs q next ls z lines leads rest h. neither ls z.lines (part_has q x ls h.0 lines) (rest h.1)) ps pt w is quiet in
+      by_parts (λ qs q v. All PartQuiet qs → has v.lines ≡ false) (λ q h. refl) (λ x qs q next ls z lines leads rest h. neither ls z.lines (part_has q x ls h.0 lines) (rest h.1)) ps pt w is quiet in
     absurd (false≢true (sym (parts_have g.parts (begun pt d) g.rest quiet g.said) ∙ ap (λ (x : Spelled). has x.lines) g.whole ∙ ap has there ∙ has_in xs ys id n))
 by_shape b pt d w id n xs ys g there (Updates m i k form handles) = search (arith, pt.kernel, g.rest, g.said, w.lines, g.whole, w.point, same_line)
 
@@ -225,26 +221,23 @@ not_board q e = grind (arith, nat_tests)
 pub listed : (s : OneKernel) (q : Pid) (h : Holder) (r : Pid) → Made s → ascends 0 s.manager.pending s.manager.sent ≡ true → belongs_to q h ≡ true → is_owner h ≡ false → leads_to s h ≡ Some r → listings h (holders_of s q) ≡ 1
 listed s q (Slot p k) r made up mine other leads =
     let (x, alive, within) = slot_link (kernel.alive (s.processes p)) k r leads in
-    let same : p ≡ q = pid_eq-is p q mine in
     let not = not_server s p x (alive-is (s.processes p) x alive) made in
-    let board : pid_eq q switchboard ≡ false = ap (λ (z : Pid). pid_eq z switchboard) (sym same) ∙ not.0 in
-    let man : pid_eq q manager ≡ false = ap (λ (z : Pid). pid_eq z manager) (sym same) ∙ not.1 in
-    let there : kernel.alive (s.processes q) ≡ Some x = ap (λ (z : Pid). kernel.alive (s.processes z)) (sym same) ∙ alive in
-    let back : pid_eq q p ≡ true = ap (pid_eq q) same ∙ pid_eq-same q in
+    let board : pid_eq q switchboard ≡ false = ap (λ (z : Pid). pid_eq z switchboard) (sym (pid_eq-is p q mine)) ∙ not.0 in
+    let man : pid_eq q manager ≡ false = ap (λ (z : Pid). pid_eq z manager) (sym (pid_eq-is p q mine)) ∙ not.1 in
+    let there : kernel.alive (s.processes q) ≡ Some x = ap (λ (z : Pid). kernel.alive (s.processes z)) (sym (pid_eq-is p q mine)) ∙ alive in
     ap (λ (c : Bool). listings (Slot p k) (listed_as s q c (pid_eq q manager))) board
     ∙ ap (λ (c : Bool). listings (Slot p k) (listed_as s q false c)) man
     ∙ ap (λ (o : Option PlainProcess). listings (Slot p k) (slot_holders q o)) there
-    ∙ slots_once p q k 0 x.links back (omega arith) (omega (arith, within))
+    ∙ slots_once p q k 0 x.links (ap (pid_eq q) (pid_eq-is p q mine) ∙ pid_eq-same q) (omega arith) (omega (arith, within))
 listed s q (Owner p) r made up mine other leads = absurd (false≢true (sym other))
 listed s q (Child zero) r made up mine other leads = absurd (let f : None ≡ Some r = leads in cc)
 listed s q (Child (suc n)) r made up mine other leads =
     let within = got s.manager.children n r leads in
     let once : listings (Child (suc n)) (holders_numbered Child 1 s.manager.children) ≡ 1 = numbered_once Child (suc n) 1 s.manager.children (record { eq = λ i j. refl }) (omega arith) (omega (arith, within)) in
-    let none = no_answer (suc n) s.manager.pending in
     let sum = listings-append (Child (suc n)) (holders_numbered Child 1 s.manager.children) (answers_in s.manager.pending) in
     ap (λ (c : Bool). listings (Child (suc n)) (listed_as s q c (pid_eq q manager))) (not_board q mine)
     ∙ ap (λ (c : Bool). listings (Child (suc n)) (listed_as s q false c)) mine
-    ∙ (let f : listings (Child (suc n)) (holders_numbered Child 1 s.manager.children ++ answers_in s.manager.pending) ≡ 1 = omega (arith, once, none, sum) in f)
+    ∙ (let f : listings (Child (suc n)) (holders_numbered Child 1 s.manager.children ++ answers_in s.manager.pending) ≡ 1 = omega (arith, once, no_answer (suc n) s.manager.pending, sum) in f)
 listed s q (Name n) r made up mine other leads =
     let (k, there) = (let e_ : (k : NamedLink) × ((slice_get s.switchboard.names n) ≡ Some k) = grind (arith, nat_tests) in e_) in
     ap (λ (c : Bool). listings (Name n) (listed_as s q c (pid_eq q manager))) mine
@@ -278,11 +271,9 @@ updated_by b pt d w id n both h =
     -- an ended process has no links
     let count_is : (s : OneKernel) (v : View) (a : Addresses) (t : Told) (p : Pid) (at_ : Place) (m n : ℕ) → t.about ≡ view.Place p at_.at at_.moves → KnownStands s v
       → (n ≡ behind_count s a t.receiver (place_told t.about)) ⊎ ((n ≡ 0) × (is_server t.receiver ≡ false) × (v.known m t.receiver ≡ Ended))
-      → behind_among (is_behind s a t.receiver p at_.moves) (holders_of s t.receiver) ≡ n =
-      λ s v a t p at_ m n about known counts. grind (arith, nat_tests) in
+      → behind_among (is_behind s a t.receiver p at_.moves) (holders_of s t.receiver) ≡ n = λ s v a t p at_ m n about known counts. grind (arith, nat_tests) in
     let address : (s : OneKernel) (v w : View) (a : Addresses) (id : MsgId) (t : Told) (p : Pid) (at_ : Place) (h : Holder) → w.told ≡ v.told → v.told id ≡ Some t → t.about ≡ view.Place p at_.at at_.moves
-      → updated s w a (w.told id) h ≡ (if is_behind s a t.receiver p at_.moves h then at_ else a h) =
-      λ s v w a id t p at_ h same told about. search in
+      → updated s w a (w.told id) h ≡ (if is_behind s a t.receiver p at_.moves h then at_ else a h) = λ s v w a id t p at_ h same told about. search in
     let three : (a b c : Bool) → (a && (b && c)) ≡ true → (a ≡ true) × (b ≡ true) × (c ≡ true) = λ a b c e. grind (arith, nat_tests) in
     let head_told : (v : View) (d : Step) → (after_head v d).told ≡ v.told = λ v d. grind (arith, nat_tests) in
     let head_kept : (v : View) (d : Step) → Kept v (after_head v d) = λ v d. grind (arith, nat_tests) in
@@ -290,8 +281,7 @@ updated_by b pt d w id n both h =
     let t = u.told in
     let s = pt.kernel in
     let a = pt.addresses in
-    let own = front_own b h.machine pt id u.rest u.box u.none both.run both.own in
-    let sort : own_sort t.kind t.receiver t.about ≡ true = both.own.own id t u.is own.mine in
+    let sort : own_sort t.kind t.receiver t.about ≡ true = both.own.own id t u.is (front_own b h.machine pt id u.rest u.box u.none both.run both.own).mine in
     let place : is_place t.about ≡ true = second (not (t.receiver.num == 0)) (is_place t.about) (sym (ap (λ k. own_sort k t.receiver t.about) u.update) ∙ sort) in
     let x = tells t.about place in
     let behind = is_behind s a t.receiver x.process x.place.moves in
@@ -315,9 +305,8 @@ updated_by b pt d w id n both h =
       others = λ g most. elim (cases_Bool (behind g)) [
         | inl e ↦
             let k = three (belongs_to t.receiver g) (is_pid x.process (leads_to s g)) (nat_lt (a g).moves x.place.moves) e in
-            let f = most k.0 (pid_there x.process (leads_to s g) k.1) in
             let less : (a g).moves < x.place.moves = let l = k.2 in grind (arith, nat_tests) in
-            absurd (omega (arith, f, less))
+            absurd (omega (arith, most k.0 (pid_there x.process (leads_to s g) k.1), less))
         | inr e ↦ stay g e
       ];
       count = count_is s pt.view a t x.process x.place h.machine n x.is both.run.based.known u.counts;
