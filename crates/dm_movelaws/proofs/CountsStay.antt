@@ -25,7 +25,7 @@ by_line : (pt : Point) (l : Line) (h : Holder) → is_owned h ≡ true → is_fi
 by_line pt l h h1 h2 =
     let forwards_none : (v : View) (a : Addresses) (id : MsgId) (h : Holder) (o : Option Told) → is_owned h ≡ true → gives_to h (forwards v a id o) ≡ false = λ v a id h o e. grind (arith, nat_tests, no_receiver) in
     let own_none : (s : OneKernel) (v : View) (a : Addresses) (id : MsgId) (r : Pid) (h : Holder) (x : MessageKind) → is_owned h ≡ true → gives_to h (own_given s v a id r (sort_of x)) ≡ false =
-      λ s v a id r h x e. grind (arith, nat_tests) in
+    λ s v a id r h x e. grind (arith, nat_tests) in
     let first_none : (h : Holder) (o : Option Told) (gs : List Gets) → gives_to h gs ≡ false → gives_to h (first_gives o gs) ≡ false = λ h o gs e. grind (arith, nat_tests) in
     search (arith, same_count, pt.addresses, pt.kernel, pt.view, not_given, forwards_none, follows_none, first_none, own_none)
 

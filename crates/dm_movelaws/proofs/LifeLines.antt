@@ -231,7 +231,7 @@ end_by p pt ls h =
     -- all but the lines of processes
     let mute_list : (p : Pid) (f : List MsgId → EndLine) (ids : List MsgId) → ((is : List MsgId) → tells_life p (f is) ≡ false) → Mute p (list_line f ids) = λ p f ids h. grind (arith, nat_tests) in
     let mute_queues : (p : Pid) (pt : Point) → Mute p (queue_lines pt) =
-      λ p pt. let mute_queue : (p : Pid) (v : View) (q : Pid) (o : Option Stood) → Mute p (queue_at v q o) = λ p v q o. grind (arith, nat_tests, mute_list) in search (mute_homes, mute_queue) in
+    λ p pt. let mute_queue : (p : Pid) (v : View) (q : Pid) (o : Option Stood) → Mute p (queue_at v q o) = λ p v q o. grind (arith, nat_tests, mute_list) in search (mute_homes, mute_queue) in
     let lives = EndLine.Final ∷ each_process pt (of_processes pt) in
     let queues = (lives ++ server_lines pt) ++ queue_lines pt in
     let holding = queues ++ holding_lines pt in

@@ -29,7 +29,7 @@ none_noted (Some p) h = absurd (h p refl)
 pub answered_always : AnsweredAlways
 answered_always b es ls pt i valid leads =
     let counted_start : (i : MsgId) (s : OneKernel) → s.bag i ≡ None → s.noted i ≡ None → Counted i (λ j. 0) s 0 0 =
-      λ i s none free. let x : in_bag (s.bag i) ≡ 0 = ap in_bag none in let y : in_bag (s.noted i) ≡ 0 = ap in_bag free in record { once = omega (arith, x); sum = omega (arith, y) } in
+    λ i s none free. let x : in_bag (s.bag i) ≡ 0 = ap in_bag none in let y : in_bag (s.noted i) ≡ 0 = ap in_bag free in record { once = omega (arith, x); sum = omega (arith, y) } in
     let replayed = after_replay ls (first_point b) pt (run_after b es ls (first_point b) pt leads) in
     let c = run_counts i (labels ls) (λ j. 0) (λ j. 0) (start b) pt.kernel 0 0 replayed (start-sound b valid) (counted_start i (start b) refl refl) in
     let sum = c.sum in

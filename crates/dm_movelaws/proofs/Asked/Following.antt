@@ -153,8 +153,8 @@ sent_notes u (Some m) p = refl
 pub plain_notes : (p : Pid) (ps : List Part) (pt : Point) (w : Spelled) → AllUnmarked ps → spelled pt ps ≡ Some w → w.point.kernel.notes p ≡ pt.kernel.notes p
 plain_notes p ps pt w so is =
     let notes_behind : (p : Pid) (x : Option MoveNote) (pt : Point) (q : Part) → Saying IsUnmarked q → pt.kernel.notes p ≡ x → Behind (λ z. z.kernel.notes p ≡ x) pt q = λ p x pt q so h.
-      let step_notes : (p : Pid) (s t : OneKernel) (l : Label) → marks_note (Some l) ≡ false → kernel.step s l ≡ Some t → t.notes p ≡ s.notes p = λ p s t l quiet. by_step (λ u. u.notes p ≡ s.notes p) s t l (search (arith, sent_notes)) in
-      search (arith, whatever_put, pt.kernel, step_notes) in
+    let step_notes : (p : Pid) (s t : OneKernel) (l : Label) → marks_note (Some l) ≡ false → kernel.step s l ≡ Some t → t.notes p ≡ s.notes p = λ p s t l quiet. by_step (λ u. u.notes p ≡ s.notes p) s t l (search (arith, sent_notes)) in
+    search (arith, whatever_put, pt.kernel, step_notes) in
     parts_lead (λ z. z.kernel.notes p ≡ pt.kernel.notes p) (λ q a b k l h. h) (Saying IsUnmarked) (notes_behind p (pt.kernel.notes p)) ps pt w so is refl
 
 abbrev pub noted_if : Pid → Pid → Option MoveNote → Option MoveNote → Option MoveNote

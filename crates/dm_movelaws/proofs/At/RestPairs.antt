@@ -48,7 +48,7 @@ routed_group n b pt d w fit is h =
     -- a group
     let head_routed : Routed n (after_head pt.view d) = grind (arith, nat_tests, kept) in
     let parts_routed : (n : ℕ) (ps : List Part) (pt : Point) (w : Spelled) → All PartCalm ps → spelled pt ps ≡ Some w → Routed n pt.view → Routed n w.point.view =
-      λ n. parts_lead (λ q. Routed n q.view) (λ q a b k l h. packet_routed n q.view a b k l h) PartCalm (routed_behind n) in
+    λ n. parts_lead (λ q. Routed n q.view) (λ q a b k l h. packet_routed n q.view a b k l h) PartCalm (routed_behind n) in
     subst (λ (q : Point). Routed n q.view) g.point (parts_routed n g.parts (moved pt (Line.Head d) pt.kernel) g.rest (outcome_says (λ l. is_calm l ≡ true) calm_of net_calm b pt d g.parts g.is) g.said head_routed)
 
 -- wherever the rule leads

@@ -130,7 +130,7 @@ ends_always b es ls pt p valid leads =
           let is = r.both.run.based.machines in
           let still : IsQuiet n pt.view = subst (λ (k : ℕ). IsQuiet k pt.view) is quiet in
           let none_open : (p : Pid) (b : Boot) (pt : Point) (h : Run b pt) (n : ℕ) → pt.kernel.machines ≡ n → IsQuiet n pt.view → Sources n pt.view → (i : MsgId) → IsOpen p pt.view i → ⊥ =
-            λ p b pt h n is quiet sources i k. let (z, st) = k.stands in quiet_own b pt h n is quiet sources i k.told k.is (open_own p pt b h i k) z st in
+          λ p b pt h n is quiet sources i k. let (z, st) = k.stands in quiet_own b pt h n is quiet sources i k.told k.is (open_own p pt b h i k) z st in
           let rests = owned_zero (pt.kernel.notes p) (moving_in (r.both.run.based.phased.phases.of p)) (quiet_stays b pt r.both.run n is still r.sources p) in
           omega (arith, zero_, sum, empty_by p pt.view r.left (none_open p b pt r.both.run n is still r.sources) r.opens, rests);
     }

@@ -95,7 +95,7 @@ net_comes : (p : Pid) (pt : Point) (h : InPhases pt.view) (ps : List Part) (w : 
 net_comes p pt h ps w net e g ids opens =
     let net_none : (f : Line → Bool) → Neither f → (ps : List Part) → IsNet ps → part_count f ps ≡ 0 = λ f n ps h. none_count f NetPart n ps (net_says IsNetLine (λ l net. net) ps h) in
     let net_ends : (g : MsgId → Option Told) (p : Pid) (ps : List Part) → IsNet ps → part_count (ends g p) ps ≡ 0 =
-      λ g p ps h. let net_line_ends : (g : MsgId → Option Told) (p : Pid) → Neither (ends g p) = λ g p l h. grind (arith, nat_tests) in net_none (ends g p) (net_line_ends g p) ps h in
+    λ g p ps h. let net_line_ends : (g : MsgId → Option Told) (p : Pid) → Neither (ends g p) = λ g p l h. grind (arith, nat_tests) in net_none (ends g p) (net_line_ends g p) ps h in
     let net_asks : (p : Pid) (ps : List Part) → IsNet ps → part_count (asks p) ps ≡ 0 = λ p ps h. let net_line_asks : (p : Pid) → Neither (asks p) = λ p l h. grind (arith, nat_tests) in net_none (asks p) (net_line_asks p) ps h in
     let s = net_level p ps pt w net e in
     level_balance p pt.view w.point.view ids (moving_in (h.of p)) (moving_in (g.of p)) ps s.smooth opens (still_moves p pt.view w.point.view h g s.still) (net_asks p ps net) (λ f ext. net_ends f p ps net)
@@ -140,7 +140,7 @@ request_comes p q m b pt h w sane fits same e g ids opens =
     let first : Added p v (i ∷ ids) (after_put v v.acting b i MessageKind.Migrate q) = record { opens = add_opens p v (after_put v v.acting b i MessageKind.Migrate q) ids i (request_adds p q pt b sane fits same) opens; still = λ n. refl } in
     let to : Point → Type 0 = λ x. Added p v (i ∷ ids) x.view in
     let added_packet : (p : Pid) (v : View) (ids : List MsgId) → PacketsKeep (λ q. Added p v ids q.view) =
-      λ p v ids q a b k l h. record { opens = smooth_opens p q.view (view_after q.view (Line.Packet a b k l)) ids (packet_smooth p q.view a b k l) h.opens; still = h.still } in
+    λ p v ids q a b k l h. record { opens = smooth_opens p q.view (view_after q.view (Line.Packet a b k l)) ids (packet_smooth p q.view a b k l) h.opens; still = h.still } in
     let there : Added p v (i ∷ ids) w.point.view = subst to (said n.next n.rest n.more ∙ n.point) (part_leads to (added_packet p v (i ∷ ids)) pt n.next (Owns MessageKind.Migrate q b) first n.steps) in
     let one : asked_by p (Step.Migrate q m) ≡ 1 = ap (λ (c : Bool). if c then 1 else 0) same in
     record { left = i ∷ ids; opens = there.opens; quiet = refl; sum = λ f ext. omega (arith, one, still_moves p v w.point.view h g there.still) }
@@ -263,8 +263,8 @@ directed : (p : Pid) (b : Boot) (pt : Point) (d : Step) (parts : List Part) (w :
     → spelled (begun pt d) parts ≡ Some w → OwnDirected p d (begun pt d) (begun_phases pt d h) parts w
 directed p b pt d parts w h phased known fits is =
     let hears_comes : (p : Pid) (b : Boot) (o : Point) (m : ℕ) (i : MsgId) (is : List MsgId) (t : Told) (h : Turn (turned o m) i is t) → ComesOf p (turned o m) h.phases (hears b o m i (Some t)) = λ p b o m i is t h.
-      let of_if : (p : Pid) (pt : Point) (h : InPhases pt.view) (c : Bool) (x y : Option (List Part)) → ComesOf p pt h x → ComesOf p pt h y → ComesOf p pt h (if c then x else y) = λ p pt h c x y k l. grind (arith, nat_tests) in
-      search (of_if, kernel_comes, server_comes, process_comes) in
+    let of_if : (p : Pid) (pt : Point) (h : InPhases pt.view) (c : Bool) (x y : Option (List Part)) → ComesOf p pt h x → ComesOf p pt h y → ComesOf p pt h (if c then x else y) = λ p pt h c x y k l. grind (arith, nat_tests) in
+    search (of_if, kernel_comes, server_comes, process_comes) in
     let quiet_loose : (p : Pid) (v : View) → Loose (AllQuiet p v) = λ p v. record { none = tt; label = λ l ps h. (tt, h); routes = λ i ps h. (tt, h) } in
     by_outcome (λ x ps. (u : Spelled) → Row pt x ps → spelled (begun pt x) ps ≡ Some u → OwnDirected p x (begun pt x) (begun_phases pt x h) ps u) b pt d parts (record {
       round = λ m ps box e u row said.
@@ -279,9 +279,9 @@ directed p b pt d parts w h phased known fits is =
           let (t, turn) = front_turn pt m i is h s fits box in
           let tame : Tame p (turned pt m).view i = record { what = t; told = turn.told; plain = plain_in_bag p (turned pt m) i msg s.sane there t turn.told } in
           let handles_quiet : (p : Pid) (v : View) (b : Boot) (o : Point) (m : ℕ) (id : MsgId) (msg : PlainMessage) (ps : List Part) → Tame p v id → rule.handles b o m id msg ≡ Some ps → Handled p v o m id msg ps =
-            λ p v b o m id msg ps h e.
-            loose_handles (Handled p v o m id msg) (AllQuiet p v) (quiet_loose p v) (λ qs k. Quiets k) b o m id msg ps (λ here. Quiets (h, tt)) (Quiets (h, tt)) (λ to here what apart. SetsOff to here.known what refl)
-            (λ to moves at_. Quiets (by_forwards (AllQuiet p v) o.addresses id (plain_kind msg.what) msg.sender to (h, (h, tt)) (h, (h, (refl, tt))))) e in
+          λ p v b o m id msg ps h e.
+          loose_handles (Handled p v o m id msg) (AllQuiet p v) (quiet_loose p v) (λ qs k. Quiets k) b o m id msg ps (λ here. Quiets (h, tt)) (Quiets (h, tt)) (λ to here what apart. SetsOff to here.known what refl)
+          (λ to moves at_. Quiets (by_forwards (AllQuiet p v) o.addresses id (plain_kind msg.what) msg.sender to (h, (h, tt)) (h, (h, (refl, tt))))) e in
           handled_own p pt m i msg (begun_phases pt (Step.Turn m) h) ps u s.sane turn.fits there row
           (subst (WalksOf (turned pt m)) e (handles_walks b pt m i msg s.sane s.phases s.rooted known (record { there = there; told = t; is = turn.told }))) said (handles_quiet p (turned pt m).view b pt m i msg ps tame e));
       hears = λ m i is ps box none e u row said.
@@ -315,7 +315,7 @@ whole_balance p d parts ids before behind start rest e h = record {
   sum = λ f ext.
       let s = h.sum f ext in
       let parts_count : (f : Line → Bool) → Silent f → (ps : List Part) (pt : Point) (w : Spelled) → spelled pt ps ≡ Some w → count f w.lines ≡ part_count f ps =
-        λ f h. by_parts (λ ps pt w. count f w.lines ≡ part_count f ps) (λ pt. refl) (λ x ps pt next ls z lines leads rest. count-append f ls z.lines ∙ ap (λ n. count f ls + n) rest ∙ lines_count f pt x ps ls h lines) in
+      λ f h. by_parts (λ ps pt w. count f w.lines ≡ part_count f ps) (λ pt. refl) (λ x ps pt next ls z lines leads rest. count-append f ls z.lines ∙ ap (λ n. count f ls + n) rest ∙ lines_count f pt x ps ls h lines) in
       let a = parts_count (asks p) (record { put = λ a b i k q. refl; packet = λ a b k l. refl }) parts start rest e in
       let o = (own_is f p parts start rest e).0 in
       omega (arith, s, a, h.quiet, o);

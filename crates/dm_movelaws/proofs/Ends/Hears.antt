@@ -80,7 +80,7 @@ comes_back p pt i is t q l a r h between about none quiet calm off known ended p
     let u = w.point.view in
     let back = rejoins (handled_first v) q in
     let handled_smooth : (p : Pid) (v : View) (i : MsgId) (is : List MsgId) → v.inbox v.acting ≡ i ∷ is → Plain p v i → Smooth p v (handled_first v) =
-      λ p v i is front plain. smooth_others p v (handled_first v) i plain plain (λ t e. e) (record { told = λ j a. refl; spots = first_spots v (handled_first v) i is front (λ z. refl) }) in
+    λ p v i is front plain. smooth_others p v (handled_first v) i plain plain (λ t e. e) (record { told = λ j a. refl; spots = first_spots v (handled_first v) i is front (λ z. refl) }) in
     let first : Smooth p v mid = smooth_trans p v back mid (smooth_trans p v (handled_first v) back (handled_smooth p v i is h.front (between_plain p v i t h.told between)) (rejoins_smooth p (handled_first v) q))
     (smooth_still p back mid (told_by v l quiet) (λ j z. ap (times j) (off z))) in
     let at_ : (m : ℕ) → mid.known m p ≡ at_record v.known v.acting q Here m p = λ m. ap (λ (f : ℕ → Pid → Known). f m p) known in
@@ -165,8 +165,8 @@ held_comes p pt i is t h w e =
     let v = pt.view in
     let rest = line_then p pt (Line.Held i) [] w refl refl refl h.sane h.fits tt tt e in
     let held_smooth : (p : Pid) (v : View) (i : MsgId) (is : List MsgId) (t : Told) → v.inbox v.acting ≡ i ∷ is → v.told i ≡ Some t → Smooth p v (view_after v (Line.Held i)) = λ p v i is t front told.
-      smooth_moves p v (view_after v (Line.Held i)) i (told_by v (Line.Held i) refl) (Inbox v.acting, front_one v v.acting i is front) (held_there (handled v i) i (receiver_of (v.told i)) t.receiver (ap receiver_of told))
-      (λ j e z. held_spots (handled v i) i j (receiver_of (v.told i)) e z ∙ handled_spots v i j e z) in
+    smooth_moves p v (view_after v (Line.Held i)) i (told_by v (Line.Held i) refl) (Inbox v.acting, front_one v v.acting i is front) (held_there (handled v i) i (receiver_of (v.told i)) t.receiver (ap receiver_of told))
+    (λ j e z. held_spots (handled v i) i j (receiver_of (v.told i)) e z ∙ handled_spots v i j e z) in
     search (still_by, held_known, level_row, held_smooth, level_still)
 
 -- a message is forwarded: it goes from the front, and is put again

@@ -106,8 +106,8 @@ smooth_opens p v w ids c h =
     -- none comes and none goes
     let smooth_on : (p : Pid) (v w : View) (i : MsgId) → Smooth p v w → IsOpen p v i → IsOpen p w i = λ p v w i c h. record { told = h.told; is = c.kept i h.told h.is; asks = h.asks; stands = c.on i h.told h.is h.asks h.stands } in
     let smooth_back : (p : Pid) (v w : View) (i : MsgId) → Smooth p v w → IsOpen p w i → IsOpen p v i = λ p v w i c h.
-      let was = c.fresh i h.told h.is h.asks in
-      record { told = h.told; is = was; asks = h.asks; stands = c.back i h.told was h.asks h.stands } in
+    let was = c.fresh i h.told h.is h.asks in
+    record { told = h.told; is = was; asks = h.asks; stands = c.back i h.told was h.asks h.stands } in
     record { each = λ i least. smooth_on p v w i c (h.each i least); all = λ i is. h.all i (smooth_back p v w i c is) }
 
 -- one goes

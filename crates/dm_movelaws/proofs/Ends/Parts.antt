@@ -225,17 +225,17 @@ rest_packet p v q a b k l h = search (smooth_trans, packet_smooth, fits_packet)
 put_rest : (p : Pid) (v : View) (b : ℕ) (i : MsgId) (k : MessageKind) (q : Pid) → PairsFit v → (is_migrate k && pid_eq p q) ≡ false → Plain p v i → Rest p v (after_put v v.acting b i k q)
 put_rest p v b i k q fits e plain =
     let put_smooth : (p : Pid) (v : View) (a b : ℕ) (i : MsgId) (k : MessageKind) (q : Pid) → PairsFit v → (is_migrate k && pid_eq p q) ≡ false → Plain p v i → Smooth p v (after_put v a b i k q) = λ p v a b i k q fits plain was.
-      let u : Told = record { kind = k; receiver = q; about = v.topic } in
-      smooth_others p v (after_put v a b i k q) i was (λ t is. first_plain p (v.told i) k q v.topic t (sym (put_at v a b i k q) ∙ is) plain was) (λ t is. put_at v a b i k q ∙ first_kept (v.told i) u t is)
-      (record { told = λ j apart. put_told_off v a b i j k q apart; spots = λ j apart z. put_spots v a b i j k q fits apart z }) in
+    let u : Told = record { kind = k; receiver = q; about = v.topic } in
+    smooth_others p v (after_put v a b i k q) i was (λ t is. first_plain p (v.told i) k q v.topic t (sym (put_at v a b i k q) ∙ is) plain was) (λ t is. put_at v a b i k q ∙ first_kept (v.told i) u t is)
+    (record { told = λ j apart. put_told_off v a b i j k q apart; spots = λ j apart z. put_spots v a b i j k q fits apart z }) in
     record { smooth = put_smooth p v v.acting b i k q fits e plain; still = λ m. refl; fits = fits_put v v.acting b i k q fits }
 
 pub rest_behind : (p : Pid) (pt : Point) (x : Part) → Sane pt → PairsFit pt.view → Quiet p pt.view x → NeedsPart pt x → Behind (λ q. Rest p pt.view q.view) pt x
 rest_behind p pt (Says l) h fits quiet need =
     let says_rest : (p : Pid) (pt : Point) (s : OneKernel) (l : Line) → Sane pt → PairsFit pt.view → QuietLine p pt.view l → Needs pt l → kernel_after pt.kernel (label_of l) ≡ Some s → Rest p pt.view (view_after pt.view l) =
-      λ p pt s l h fits quiet need step.
-      let quiet_touches : (p : Pid) (v : View) (l : Line) → QuietLine p v l → touches l ≡ false = λ p v l h. grind (arith, nat_tests) in
-      search (line_smooth, line_still, fits_as, pair_same, quiet_touches) in
+    λ p pt s l h fits quiet need step.
+    let quiet_touches : (p : Pid) (v : View) (l : Line) → QuietLine p v l → touches l ≡ false = λ p v l h. grind (arith, nat_tests) in
+    search (line_smooth, line_still, fits_as, pair_same, quiet_touches) in
     let rest_about : (p : Pid) (v w : View) (a : About) → Rest p v w → Rest p v (view.about w a) = λ p v w a h. record { smooth = smooth_about p v w a h.smooth; still = h.still; fits = fits_about w a h.fits } in
     λ s step. rest_about p pt.view (view_after pt.view l) (moved pt l s).view.topic (says_rest p pt s l h fits quiet need step)
 rest_behind p pt (Routes i) h fits quiet need = λ m there. put_rest p pt.view _ i (plain_kind m.what) m.to fits (ap (λ (x : Bool). x && (pid_eq p m.to)) (plain_not m.what)) (plain_in_bag p pt i m h there)

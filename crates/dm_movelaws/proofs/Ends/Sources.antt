@@ -48,8 +48,8 @@ Goes = Saying IsSaid
 acts_behind : (n : ℕ) (f : MsgId → Option Told) (pt : Point) (p : Part) → Goes p → Acts n f pt.view → Behind (λ q. Acts n f q.view) pt p
 acts_behind n f pt p ok h =
     let put_acts : (n : ℕ) (f : MsgId → Option Told) (v : View) (b : ℕ) (i : MsgId) (k : MessageKind) (q : Pid) → Acts n f v → Acts n f (after_put v v.acting b i k q) = λ n f v b i k q h.
-      let put_grows : (v : View) (a b : ℕ) (i : MsgId) (k : MessageKind) (q : Pid) → Extends v.told (after_put v a b i k q).told = λ v a b i k q j t e. grind (arith, nat_tests, id_eq-is, put_at, first_kept, put_told_off) in
-      let other_source : (a c n : ℕ) → a < n → n ≤ c → (a == c) ≡ false = λ a c n less le. grind (arith, nat_tests, eq_is) in grind (arith, nat_tests, other_source, put_grows) in
+    let put_grows : (v : View) (a b : ℕ) (i : MsgId) (k : MessageKind) (q : Pid) → Extends v.told (after_put v a b i k q).told = λ v a b i k q j t e. grind (arith, nat_tests, id_eq-is, put_at, first_kept, put_told_off) in
+    let other_source : (a c n : ℕ) → a < n → n ≤ c → (a == c) ≡ false = λ a c n less le. grind (arith, nat_tests, eq_is) in grind (arith, nat_tests, other_source, put_grows) in
     let acts_about : (n : ℕ) (f : MsgId → Option Told) (v : View) (a : About) → Acts n f v → Acts n f (view.about v a) = λ n f v a h. record { acting = h.acting; sources = h.sources; grows = h.grows } in
     whatever_put (λ q. Acts n f q.view) pt p (λ l is s step. let k = subst Goes is ok in acts_about n f (view_after pt.view l) (moved pt l s).view.topic (line_acts n f pt.view l k.0 k.1 h)) (λ b i k q. put_acts n f pt.view b i k q h) h
 
@@ -62,7 +62,7 @@ group_acts n b pt d w fit e h =
     let g = group_is b pt d w e in
     let start : Acts n pt.view.told (begun pt d).view = record { acting = grind (arith, nat_tests); sources = λ x y le. head_ids pt.view d x y ∙ h x y le; grows = λ i t told. told_by pt.view (Line.Head d) refl i ∙ told } in
     let parts_act : (n : ℕ) (f : MsgId → Option Told) (ps : List Part) (pt : Point) (w : Spelled) → All Goes ps → spelled pt ps ≡ Some w → Acts n f pt.view → Acts n f w.point.view =
-      λ n f. parts_lead (λ q. Acts n f q.view) (λ q a b k l h. line_acts n f q.view (Line.Packet a b k l) refl refl h) Goes (acts_behind n f) in
+    λ n f. parts_lead (λ q. Acts n f q.view) (λ q a b k l h. line_acts n f q.view (Line.Packet a b k l) refl refl h) Goes (acts_behind n f) in
     subst (λ (q : Point). Acts n pt.view.told q.view) g.point (parts_act n pt.view.told g.parts (begun pt d) g.rest (outcome_says IsSaid fit_goes net_goes b pt d g.parts g.is) g.said start)
 
 -- Messages that go on, those that are held, and those that come back from a held list: all stand somewhere again.

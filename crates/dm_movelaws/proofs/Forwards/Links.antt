@@ -35,7 +35,7 @@ pub counts_promise : CountsPromise
 counts_promise b before between start pt d sent p q place valid comes forwards known goes quiet =
     let forwarded_some : (v : View) (m : ℕ) (q : Pid) (to moves : ℕ) → v.known m q ≡ Forward to moves → v.known m q ≢ Unknown = λ v m q to moves known e. let f : Forward to moves ≡ Unknown = sym known ∙ e in cc in
     let forwarded_made : (s : OneKernel) (v : View) (m : ℕ) (q : Pid) (to moves : ℕ) → KnownStands s v → v.known m q ≡ Forward to moves → (is_server q ≡ false) × (is_some (s.processes q) ≡ true) =
-      λ s v m q to moves h known. grind (arith, nat_tests) in
+    λ s v m q to moves h known. grind (arith, nat_tests) in
     let run = (run_always b before start valid comes).run in
     let t = forwards_tell b before start d sent p q place.at valid comes forwards in
     let moves : t.moves ≡ place.moves = cc (sym t.known ∙ known) in

@@ -89,21 +89,21 @@ ok_line ok _ h = tt
 outcome_ok : (b : Boot) (pt : Point) (d : Step) (ps : List Part) → Run b pt → rule.outcome b pt d ≡ Some ps → All (PartOk (ForProcess pt.view)) ps
 outcome_ok b pt d ps h is =
     let front_process : (b : Boot) (pt : Point) (m : ℕ) (i : MsgId) (is : List MsgId) (msg : PlainMessage) → Run b pt → pt.view.inbox m ≡ i ∷ is → pt.kernel.bag i ≡ Some msg → is_server msg.to ≡ false → ForProcess pt.view i =
-      λ b pt m i is msg h box there process.
-      let (t, told) = some_is (pt.view.told i) (h.found.told i (Inbox m) (grind (arith, nat_tests, id_eq-same))) in
-      record { what = t; told = told; process = ap is_server (h.based.phased.sane.tells.receiver i msg t there told) ∙ process } in
+    λ b pt m i is msg h box there process.
+    let (t, told) = some_is (pt.view.told i) (h.found.told i (Inbox m) (grind (arith, nat_tests, id_eq-same))) in
+    record { what = t; told = told; process = ap is_server (h.based.phased.sane.tells.receiver i msg t there told) ∙ process } in
     let nets_ok : (ok : MsgId → Type 0) (ps : List Part) → IsNet ps → All (PartOk ok) ps = λ ok. net_says (LineOk ok) (net_ok ok) in
     let ok_kept : (ok : MsgId → Type 0) → Kept (All (PartOk ok)) = λ ok. record { none = tt; says = λ l ps h k. (ok_line ok l h, k); again = λ i to ps k. (tt, k); owns = λ k q to ps h. (tt, h); answers = λ i r. (tt, (tt, tt)) } in
     let hears_ok : (ok : MsgId → Type 0) (b : Boot) (pt : Point) (m : ℕ) (id : MsgId) (o : Option Told) (ps : List Part) → hears b pt m id o ≡ Some ps → All (PartOk ok) ps =
-      λ ok b pt m id o ps e. hears_kept (All (PartOk ok)) (ok_kept ok) b pt m id o ps e in
+    λ ok b pt m id o ps e. hears_kept (All (PartOk ok)) (ok_kept ok) b pt m id o ps e in
     let ok_loose : (ok : MsgId → Type 0) → Loose (All (PartOk ok)) = λ ok. record { none = tt; label = λ l ps h. (tt, h); routes = λ i ps h. (tt, h) } in
     let round_ok : (ok : MsgId → Type 0) (b : Boot) (pt : Point) (m : ℕ) (o : Option Pid) (ps : List Part) → goes_round b pt m o ≡ Some ps → All (PartOk ok) ps =
-      λ ok b pt m o ps e. loose_round (All (PartOk ok)) (ok_loose ok) b pt m o ps (tt, tt) e in
+    λ ok b pt m o ps e. loose_round (All (PartOk ok)) (ok_loose ok) b pt m o ps (tt, tt) e in
     let migrates_ok : (ok : MsgId → Type 0) (pt : Point) (p : Pid) → All (PartOk ok) (migrates pt p) = λ ok pt p. by_migrates (All (PartOk ok)) pt p (tt, tt) (tt, tt) (λ n off is. (tt, tt)) in
     let handles_ok : (ok : MsgId → Type 0) (b : Boot) (pt : Point) (m : ℕ) (id : MsgId) (msg : PlainMessage) (ps : List Part) → (is_server msg.to ≡ false → ok id) → handles b pt m id msg ≡ Some ps → All (PartOk ok) ps =
-      λ ok b pt m id msg ps need e.
-      loose_handles (All (PartOk ok)) (All (PartOk ok)) (ok_loose ok) (λ qs h. h) b pt m id msg ps (λ here. (need here.process, tt)) (tt, tt) (λ to here what apart. (tt, (tt, (tt, (tt, tt)))))
-      (λ to moves at_. kept_forward (All (PartOk ok)) (ok_kept ok) pt.addresses id (plain_kind msg.what) msg.sender to) e in
+    λ ok b pt m id msg ps need e.
+    loose_handles (All (PartOk ok)) (All (PartOk ok)) (ok_loose ok) (λ qs h. h) b pt m id msg ps (λ here. (need here.process, tt)) (tt, tt) (λ to here what apart. (tt, (tt, (tt, (tt, tt)))))
+    (λ to moves at_. kept_forward (All (PartOk ok)) (ok_kept ok) pt.addresses id (plain_kind msg.what) msg.sender to) e in
     by_outcome (λ x. All (PartOk (ForProcess pt.view))) b pt d ps (search (round_ok, handles_ok, front_process, hears_ok, nets_ok, migrates_ok)) is
 
 abbrev NoneQueued : View → Type 0
@@ -113,12 +113,12 @@ queues_group : (b : Boot) (pt : Point) (d : Step) (w : Spelled) → group_of b p
 queues_group b pt d w e h none = by_group (λ v. NoneQueued v.point.view) b pt d w (λ ps rest is said. (
     let first : NoQueues pt.view pt.view = record { told = λ i t f. f; none = none } in
     let parts_queues : (before : View) (ps : List Part) (pt : Point) (w : Spelled) → All (PartOk (ForProcess before)) ps → spelled pt ps ≡ Some w → NoQueues before pt.view → NoQueues before w.point.view = λ before qs q w ok is h.
-      -- what a part says
-      let part_ok : (ok : MsgId → Type 0) (pt : Point) (p : Part) (ls : List Line) → PartOk ok p → lines_of pt p ≡ Some ls → All (LineOk ok) ls = λ ok pt p ls h is.
-        lines_are (All (LineOk ok)) pt p ls
-        (record { says = λ l e. (subst (PartOk ok) e h, tt); put = λ none a b i k q. (tt, tt); goes = λ none a b n i k q l. (tt, (tt, tt)); packet = λ none a b n l. (tt, tt) }) is in
-      by_parts (λ ps pt v. All (PartOk (ForProcess before)) ps → NoQueues before pt.view → NoQueues before v.point.view) (λ pt ok h. h)
-      (λ p ps pt next ls z lines leads rest ok h. rest ok.1 (lines_queues before ls pt next (part_ok (ForProcess before) pt p ls ok.0 lines) leads h)) qs q w is ok h in
+    -- what a part says
+    let part_ok : (ok : MsgId → Type 0) (pt : Point) (p : Part) (ls : List Line) → PartOk ok p → lines_of pt p ≡ Some ls → All (LineOk ok) ls = λ ok pt p ls h is.
+    lines_are (All (LineOk ok)) pt p ls
+    (record { says = λ l e. (subst (PartOk ok) e h, tt); put = λ none a b i k q. (tt, tt); goes = λ none a b n i k q l. (tt, (tt, tt)); packet = λ none a b n l. (tt, tt) }) is in
+    by_parts (λ ps pt v. All (PartOk (ForProcess before)) ps → NoQueues before pt.view → NoQueues before v.point.view) (λ pt ok h. h)
+    (λ p ps pt next ls z lines leads rest ok h. rest ok.1 (lines_queues before ls pt next (part_ok (ForProcess before) pt p ls ok.0 lines) leads h)) qs q w is ok h in
     (parts_queues pt.view ps (moved pt (Line.Head d) pt.kernel) rest (outcome_ok b pt d ps h is) said (line_queues pt.view pt.view (Line.Head d) tt first)).none
     )) e
 
@@ -147,8 +147,8 @@ pub lists_for_theirs : ListsForTheirs
 lists_for_theirs b es pt valid leads =
     let h = (run_always b es pt valid leads).run in
     let held_by : (b : Boot) (pt : Point) (m : ℕ) (p : Pid) (i : MsgId) → Run b pt → 1 ≤ standing pt.view i (Held m p) → IsFor pt p i = λ b pt m p i h least.
-      let (t, told, to) = h.based.held m p i least in
-      record { told = t; is = told; receiver = to; of_bag = λ x there. sym (h.based.phased.sane.tells.receiver i x t there told) ∙ to } in
+    let (t, told, to) = h.based.held m p i least in
+    record { told = t; is = told; receiver = to; of_bag = λ x there. sym (h.based.phased.sane.tells.receiver i x t there told) ∙ to } in
     record {
       queue = λ m p i least. queued_by b pt p i (Queue m p) (pt.kernel.bag i) h refl (h.based.queued m p i least) least;
       held = λ m p i least. held_by b pt m p i h least;

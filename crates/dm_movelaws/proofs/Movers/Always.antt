@@ -35,8 +35,8 @@ NextSends p (kernel.Faults fault) = ⊤
 next_sends : (s : OneKernel) (p : Pid) (n : kernel.Trap) → kernel.next_trap s p ≡ Some n → NextSends p n
 next_sends s p n e =
     let moves_sends : (p : Pid) (x : PlainProcess) (o : Option PlainLink) → CallSends p (calls.move_call p x o) = λ p x o.
-      let moves_over_sends : (p : Pid) (x : PlainProcess) (l : PlainLink) (o : Option Direction) → CallSends p (calls.moves_over p x l o) = λ p x l o. grind (arith, nat_tests, unless_sends) in
-      grind (arith, nat_tests, moves_over_sends) in
+    let moves_over_sends : (p : Pid) (x : PlainProcess) (l : PlainLink) (o : Option Direction) → CallSends p (calls.moves_over p x l o) = λ p x l o. grind (arith, nat_tests, unless_sends) in
+    grind (arith, nat_tests, moves_over_sends) in
     let if_sends : (p : Pid) (b : Bool) (c d : Called) → CallSends p c → CallSends p d → CallSends p (if b then c else d) = λ p b c d h k. grind (arith, nat_tests) in
     let drops_sends : (p : Pid) (x : PlainProcess) (o : Option PlainLink) → CallSends p (calls.drop_call x o) = λ p x o. grind (arith, nat_tests) in
     search (arith, bind-is, unless_sends, drops_sends, sends_sends, if_sends, moves_sends)
@@ -86,7 +86,7 @@ step_says r e s t l is_ sound =
     -- what a server sends
     -- it waits for nothing
     let still_says : (s : OneKernel) (p : Pid) (y : PlainProcess) → pending_of y.status ≡ None → AllSay s → AllSay (with_process s p (Alive y)) =
-      λ s p y still h. set_says s p (Alive y) (λ i m q there from k. unawaited_says y.status i.n q m.what (λ e. let f : None ≡ Some i.n = sym still ∙ e in cc)) h in
+    λ s p y still h. set_says s p (Alive y) (λ i m q there from k. unawaited_says y.status i.n q m.what (λ e. let f : None ≡ Some i.n = sym still ∙ e in cc)) h in
     let server_says : (u : OneKernel) (p : Pid) (o : Option PlainMessage) (n after : ℕ) → ServerSends p n o after → AllSay u → AllSay (with_sent u o) = λ u p o n after sends h. grind (arith, nat_tests, other_says) in
     let lands_sends : (p : Pid) (x : PlainProcess) (m : PlainMessage) (st : PlainStatus) (c : pieces.Landed) → pieces.lands p x m st ≡ Some c → LandsSends p c = λ p x m st c e. grind (arith, nat_tests, if_lands_what) in
     let same_says : (s : OneKernel) (p : Pid) (x y : PlainProcess) → s.processes p ≡ Some (Alive x) → y.status ≡ x.status → AllSay s → AllSay (with_process s p (Alive y)) = λ s p x y is status h. grind (arith, nat_tests, set_says) in
@@ -269,7 +269,7 @@ movers_have_pieces b es pt valid leads =
     let s = pt.kernel in
     let sane = based.phased.sane in
     let says_on : (b : Boot) (pt : Point) (d : Step) (w : Spelled) → group_of b pt d ≡ Some w → Based b pt → AllSay pt.kernel × GoneEnded pt.kernel → AllSay w.point.kernel × GoneEnded w.point.kernel =
-      λ b pt d w is based h. let sane = based.phased.sane in replay_says (labels w.lines) sane.r sane.e pt.kernel w.point.kernel (group_replay b pt d w is) based.fits based.pending sane.sound h in
+    λ b pt d w is based h. let sane = based.phased.sane in replay_says (labels w.lines) sane.r sane.e pt.kernel w.point.kernel (group_replay b pt d w is) based.fits based.pending sane.sound h in
     let says = keeps_always b (λ q. AllSay q.kernel × GoneEnded q.kernel) (λ q d w fit is run h. says_on b q d w is run.based h) valid (λ i m q there e. absurd (let f : None ≡ Some m = there in cc), λ i m there e. absurd (let f : None ≡ Some m = there in cc)) es pt leads in
     record {
       has = λ p x dir owner base own left pending alive status. has_piece sane.r sane.e s p x dir owner base own left pending alive status sane.sound based.fits says.0 says.1;

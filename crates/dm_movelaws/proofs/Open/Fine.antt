@@ -73,9 +73,9 @@ row_fine p k o d ps sane off (Ends q n l Outcome.Ended noted end are) = absurd e
 row_fine p k o d ps sane off (IsHere id msg there here are) =
     -- a process is asked to move that is here already
     let moved_fine : (p : Pid) (pt : Point) (o : Option Mark) (i : MsgId) (m : PlainMessage) → pt.kernel.bag i ≡ Some m → m.to ≢ p → FineBy p pt o (rule.says (Label.Asked i) ∷ answers_move i Outcome.Done) = λ p pt o i m there other.
-      let l = Line.Label (Label.Asked i) in
-      says_fine p pt o l (answers_move i Outcome.Done) (λ e. tt) (λ s step.
-      answers_fine p (moved pt l s) (open_after o []) i Outcome.Done (λ open_ mine. other (let f : Some m.to ≡ Some p = sym (asked_noted pt.kernel s i m step there) ∙ mine in cc))) in
+    let l = Line.Label (Label.Asked i) in
+    says_fine p pt o l (answers_move i Outcome.Done) (λ e. tt) (λ s step.
+    answers_fine p (moved pt l s) (open_after o []) i Outcome.Done (λ open_ mine. other (let f : Some m.to ≡ Some p = sym (asked_noted pt.kernel s i m step there) ∙ mine in cc))) in
     let m = (begun o d).view.acting in
     subst (FineBy p (begun o d) k) (sym are) (moved_fine p (begun o d) k id msg there (off m msg.to (sym (head_known o d m msg.to) ∙ here)))
 row_fine p k o d ps sane off (Leaves id msg to unasked there here what are) =
@@ -186,8 +186,8 @@ record Silent (p : Pid) (ls : List Line) : Type 0 where
 pub parts_shut : (p : Pid) (ps : List Part) (pt : Point) (w : Spelled) → ShutParts p None ps → spelled pt ps ≡ Some w → Shut p None w.lines
 parts_shut p qs q w h is =
     let part_shut : (p : Pid) (o : Option Mark) (pt : Point) (q : Part) (ls zs : List Line) → ShutPart o q → lines_of pt q ≡ Some ls → Shut p (mark_behind p o q) zs → Shut p o (ls ++ zs) = λ p o pt q ls zs h1 h2 h3.
-      let puts_silent : (p : Pid) (pt : Point) (b : ℕ) (i : MsgId) (k : MessageKind) (q : Pid) (ls : List Line) → Some (puts pt.view b i k q) ≡ Some ls → Silent p ls = λ p pt b i k q ls is. search arith in
-      search (arith, bind-is, pt.kernel.bag, pt.view, pt.addresses, puts_silent, shut_append, pt.view.told) in
+    let puts_silent : (p : Pid) (pt : Point) (b : ℕ) (i : MsgId) (k : MessageKind) (q : Pid) (ls : List Line) → Some (puts pt.view b i k q) ≡ Some ls → Silent p ls = λ p pt b i k q ls is. search arith in
+    search (arith, bind-is, pt.kernel.bag, pt.view, pt.addresses, puts_silent, shut_append, pt.view.told) in
     by_parts (λ ps pt v. (o : Option Mark) → ShutParts p o ps → Shut p o v.lines) (λ pt o h. tt) (λ x ps pt next ls z lines leads rest o h. part_shut p o pt x ls z.lines h.0 lines (rest (mark_behind p o x) h.1)) qs q w is None h
 
 -- at a line

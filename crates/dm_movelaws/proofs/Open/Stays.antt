@@ -58,7 +58,7 @@ resting_at : (b : Boot) (pt : Point) (d : Step) (w : Spelled) (p : Pid) (earlier
 resting_at b pt d w p earlier g l e split begun =
     let m = meets earlier g l pt w.point (ap (after pt) (sym split) ∙ group_after b pt d w e) in
     let group_shut : (p : Pid) (b : Boot) (pt : Point) (d : Step) (w : Spelled) → group_of b pt d ≡ Some w → Shut p None w.lines =
-      λ p b pt d w. by_group (λ v. Shut p None v.lines) b pt d w (λ ps rest is said. ((λ e. absurd (false≢true e)), parts_shut p ps (moved pt (Line.Head d) pt.kernel) rest (outcome_shut p b pt d ps is) said)) in
+    λ p b pt d w. by_group (λ v. Shut p None v.lines) b pt d w (λ ps rest is said. ((λ e. absurd (false≢true e)), parts_shut p ps (moved pt (Line.Head d) pt.kernel) rest (outcome_shut p b pt d ps is) said)) in
     let none = shut_at p None earlier g l (subst (Shut p None) split (group_shut p b pt d w e)) begun in
     search (arith, m.mid, m.comes, m.next, m.goes, m.mid.kernel)
 

@@ -41,18 +41,18 @@ label_ones r e s t l sound requests h takes =
     -- a process follows the request from now on
     -- the request goes from the bag to the process, and from there into its answer
     let followed_pair : (a a_ b b_ : Option PlainMessage) (c c_ : Option Pid) (q : Pid) (x : PlainMessage) → Pair a b c → c ≡ Some q → c_ ≡ None → a_ ≡ a → b_ ≡ Some x → is_answer x.what ≡ true → Pair a_ b_ c_ =
-      λ a a_ b b_ c c_ q x h e f g k answers. grind (arith, nat_tests) in
+    λ a a_ b b_ c c_ q x h e f g k answers. grind (arith, nat_tests) in
     let to_process : (a b : Option PlainMessage) (c : Option Pid) (m : PlainMessage) (a_ b_ : Option PlainMessage) (q : Pid) → a ≡ Some m → Pair a b c → a_ ≡ None → b_ ≡ b → Pair a_ b_ (Some q) =
-      λ a b c m a_ b_ q e h f g. grind (arith, nat_tests) in
+    λ a b c m a_ b_ q e h f g. grind (arith, nat_tests) in
     let noted_ones : (r e : MsgId → ℕ) (s : OneKernel) (id : MsgId) (m : PlainMessage) (q : Pid) (k : MoveNote) → s.bag id ≡ Some m → k.id ≡ id → asks m.what ≡ true → Sound r e s → Ones s → Ones (with_note (without_message s id) q k) =
-      λ r e s id m q k there name asked h ones n p. search (arith, id_eq-is, id.from, id.n, h.entered.requests, and_false, s.noted, to_process, s.bag, out_off) in
+    λ r e s id m q k there name asked h ones n p. search (arith, id_eq-is, id.from, id.n, h.entered.requests, and_false, s.noted, to_process, s.bag, out_off) in
     let unnoted_ones : (s : OneKernel) (id : MsgId) (q : Pid) (x : PlainMessage) → s.noted id ≡ Some q → id.answer ≡ false → x.id ≡ answer_id id → is_answer x.what ≡ true → Ones s → Ones (with_sent (without_note s q id) (Some x)) =
-      λ s id q x noted asked name answers ones n p. search (arith, id_eq-is, x.id, followed_pair, s.bag, s.noted, sent_off, and_false, id_eq-same, off_by) in
+    λ s id q x noted asked name answers ones n p. search (arith, id_eq-is, x.id, followed_pair, s.bag, s.noted, sent_off, and_false, id_eq-same, off_by) in
     let served_neither : (v w : PlainWhat) → v ≡ w → is_served w ≡ true → Neither v = λ v w e s. grind (arith, nat_tests, neither) in
     let unanswered : (id : MsgId) (o : Outcome) (p : Pid) (n : MoveNote) → Follows s id o p n → id.answer ≡ false = λ id o p n f. ap (λ (i : MsgId). i.answer) (sym (note-is e s id p n f.noted f.notes sound.notes)) ∙ requests p n f.notes in
     -- a name of a process's own
     let own_off : (r e : MsgId → ℕ) (s : OneKernel) (p : Pid) (x : PlainProcess) (i : MsgId) (k : ℕ) → Sound r e s → s.processes p ≡ Some (Alive x) → i ≡ id_of p k → (n : ℕ) → Off i n =
-      λ r e s p x i k sound alive is n. from_other i n (ap (λ (j : MsgId). pid_eq j.from manager) is ∙ (not_server s p x alive sound.made).1) in
+    λ r e s p x i k sound alive is n. from_other i n (ap (λ (j : MsgId). pid_eq j.from manager) is ∙ (not_server s p x alive sound.made).1) in
     by_step Ones s t l (record {
       ran = λ p k x m is w. h;
       replies = λ p n k c d y is w. h;
@@ -158,9 +158,9 @@ manager_kind : (r e : MsgId → ℕ) (s : OneKernel) (id : MsgId) (m : PlainMess
     → ascends 0 s.manager.pending s.manager.sent ≡ true → Sound r e s → Ones s → Ones (service.manager_took s id k)
 manager_kind r e s id m k (PlainWhat.User code channel body links) w is there fits sends up sound h =
     let wants_took : (g : Manager) (machines images machine image : ℕ) (links : List PlainLink) → UserTook g (manage.wants_child g machines images machine image links) =
-      λ g machines images machine image links. grind (arith, nat_tests, bad_took, if_took) in
+    λ g machines images machine image links. grind (arith, nat_tests, bad_took, if_took) in
     let requests_took : (g : Manager) (machines images : ℕ) (body : List ℕ) (links : List PlainLink) → UserTook g (manage.requests_child g machines images body links) =
-      λ g machines images body links. grind (arith, nat_tests, if_took, wants_took, bad_took) in
+    λ g machines images body links. grind (arith, nat_tests, if_took, wants_took, bad_took) in
     let f : manage.takes_user s.manager s.machines (length s.images) code body links ≡ k = cc in
     user_ones r e s id m k there (neither m.what (PlainWhat.User code channel body links) w refl refl) (subst (UserTook s.manager) f (search (if_took, requests_took, controls_took))) sends up sound h
 manager_kind r e s id m k (PlainWhat.Created child) w is there fits sends up sound h = answered_took s id m k (sound.entered.named id m there) fits.1 (grind (arith, nat_tests)) sends up h
@@ -231,9 +231,9 @@ pending_has_one b es pt valid leads =
     let sane = based.phased.sane in
     let ones = keeps_always b (λ q. Ones q.kernel) (λ q d w fit is run h. (let e_ : Ones w.point.kernel = search (replay_ones, group_replay, run.based) in e_)) valid (λ n p. absurd (false≢true p)) es pt leads in
     let is_asked : (s : OneKernel) (i : MsgId) (k : PendingKind) → i.answer ≡ false → IsPending s k i → IsOfPending s i =
-      λ s i k asked h. record { name = inl (id_as i manager h.from asked); pending = for_some k (manage.pending_numbered i.n s.manager.pending) h.pending } in
+    λ s i k asked h. record { name = inl (id_as i manager h.from asked); pending = for_some k (manage.pending_numbered i.n s.manager.pending) h.pending } in
     let is_answered : (s : OneKernel) (i : MsgId) (k : PendingKind) → i.answer ≡ true → IsPending s k i → IsOfPending s i =
-      λ s i k answers h. record { name = inr (λ j. record { from = h.from j; n = i.n; answer = answers j }); pending = for_some k (manage.pending_numbered i.n s.manager.pending) h.pending } in
+    λ s i k answers h. record { name = inr (λ j. record { from = h.from j; n = i.n; answer = answers j }); pending = for_some k (manage.pending_numbered i.n s.manager.pending) h.pending } in
     record {
       has = λ n r is. has_one sane.r sane.e pt.kernel n r is based.fits sane.sound (ones n (ap is_some is));
       only = λ i m there e. search (arith, is_asked, is_answered, based.fits.messages i m there, sane.sound.entered.requests i m there);

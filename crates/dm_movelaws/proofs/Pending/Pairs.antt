@@ -111,7 +111,7 @@ pub took_pair : (s : OneKernel) (id : MsgId) (k : manage.ManagerTook) (n : ℕ) 
     → PairAt (manager_took s id k) n
 took_pair s id k n sends up p off h =
     let took_at : (s u : OneKernel) (id i : MsgId) (o : Option PlainMessage) → u.bag i ≡ (without_message s id).bag i → id_eq id i ≡ false → ((x : PlainMessage) → o ≡ Some x → id_eq x.id i ≡ false) → (with_sent u o).bag i ≡ s.bag i =
-      λ s u id i o same off put. grind (arith, nat_tests, out_off, sent_off) in
+    λ s u id i o same off put. grind (arith, nat_tests, out_off, sent_off) in
     let pending_less : (s : OneKernel) (n : ℕ) → is_pending s n ≡ true → ascends 0 s.manager.pending s.manager.sent ≡ true → n < s.manager.sent = λ s n p up. pending_some s n (manage.pending_numbered n s.manager.pending) refl p up in
     grind (arith, nat_tests, pending_less, off_by, by_same, took_at)
 

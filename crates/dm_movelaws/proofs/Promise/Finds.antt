@@ -51,24 +51,24 @@ pub base_says : (j : MsgId) (t : Told) (pt next : Point) (l : Line) → touches 
 base_says j t pt next l quiet ok h s =
     -- pairs that fit
     let says_fit : (pt next : Point) (l : Line) → touches l ≡ false → PairsFit pt.view → Steps pt (Says l) next → PairsFit next.view = λ pt next l quiet h s.
-      subst (λ (x : Point). PairsFit x.view) (said_by pt next l s).is (fits_as pt.view (seen pt.kernel pt.view l) (pair_same pt.view l quiet) h) in
+    subst (λ (x : Point). PairsFit x.view) (said_by pt next l s).is (fits_as pt.view (seen pt.kernel pt.view l) (pair_same pt.view l quiet) h) in
     base_on j t pt next (Says l) ok (says_fit pt next l quiet h.fits s) h s
 
 part_base : (j : MsgId) (t : Told) (pt next : Point) (p : Part) → NeedsPart j pt p → Base j t pt → Steps pt p next → Base j t next
 part_base j t pt next p need h s =
     let spares_quiet : (j : MsgId) (v : View) (l : Line) → Spares j v l → (touches l ≡ false) × (is_put l ≡ false) = λ j v l e. grind (arith, nat_tests) in
     let part_fits : (j : MsgId) (pt next : Point) (p : Part) → NeedsPart j pt p → PairsFit pt.view → Steps pt p next → PairsFit next.view = λ j pt next p need h s.
-      let fits_behind : Behind (λ x. PairsFit x.view) pt p = grind (arith, nat_tests, whatever_put, fits_as, pair_same, spares_quiet, fits_put) in
-      part_leads (λ x. PairsFit x.view) (λ x a c n l f. fits_packet x.view a c n l f) pt next p fits_behind s in
+    let fits_behind : Behind (λ x. PairsFit x.view) pt p = grind (arith, nat_tests, whatever_put, fits_as, pair_same, spares_quiet, fits_put) in
+    part_leads (λ x. PairsFit x.view) (λ x a c n l f. fits_packet x.view a c n l f) pt next p fits_behind s in
     base_on j t pt next p (grind (arith, nat_tests, spares_quiet)) (part_fits j pt next p need h.fits s) h s
 
 part_stands : (j : MsgId) (t : Told) (pt next : Point) (p : Part) → NeedsPart j pt p → Base j t pt → Stands pt.view j → Steps pt p next → Stands next.view j
 part_stands j t pt next p need base h s =
     -- and it stands
     let line_behind : (j : MsgId) (pt : Point) (s : OneKernel) (l : Line) → Spares j pt.view l → Sane pt → is_kernels j ≡ true → Stands pt.view j → kernel_after pt.kernel (label_of l) ≡ Some s → Stands (view_after pt.view l) j =
-      λ j pt s l need sane own h step.
-      line_stands pt.view j l need
-      (λ x is. subst (λ (y : Line). Stands (view_after pt.view y) j) (sym is) (label_stands pt s x j sane (ap (λ (y : Line). kernel_after pt.kernel (label_of y)) (sym is) ∙ step) own h)) h in
+    λ j pt s l need sane own h step.
+    line_stands pt.view j l need
+    (λ x is. subst (λ (y : Line). Stands (view_after pt.view y) j) (sym is) (label_stands pt s x j sane (ap (λ (y : Line). kernel_after pt.kernel (label_of y)) (sym is) ∙ step) own h)) h in
     part_leads (λ x. Stands x.view j) (λ x a c n l f. packet_stands x.view a c n l j f) pt next p
     (whatever_put (λ x. Stands x.view j) pt p (λ l is k step. about_stands (view_after pt.view l) (moved pt l k).view.topic j (line_behind j pt k l (subst (NeedsPart j pt) is need) base.sane base.own h step)) (λ b i k q. put_stands pt.view pt.view.acting b i k q j base.fits h) h) s
 
@@ -119,8 +119,8 @@ pub record Waits (j : MsgId) (t : Told) (pt : Point) : Type 0 where
 pub first_row : (j : MsgId) (t : Told) (pt : Point) (p : Part) (ps : List Part) → Waits j t pt → NeedsPart j pt p → all_loose ps ≡ true → Goes j pt (p ∷ ps)
 first_row j t pt p ps h need e =
     let first_goes : (j : MsgId) (t : Told) (pt : Point) (p : Part) (ps : List Part) → NeedsPart j pt p → all_loose ps ≡ true → Base j t pt → Stands pt.view j → Goes j pt (p ∷ ps) = λ j t pt p ps need e base h w is.
-      let n = next_of pt p ps w is in
-      inl (subst (λ (x : Point). Stands x.view j) n.point (loose_stands ps j t n.next n.rest e (part_base j t pt n.next p need base n.steps) (part_stands j t pt n.next p need base h n.steps) n.more)) in
+    let n = next_of pt p ps w is in
+    inl (subst (λ (x : Point). Stands x.view j) n.point (loose_stands ps j t n.next n.rest e (part_base j t pt n.next p need base n.steps) (part_stands j t pt n.next p need base h n.steps) n.more)) in
     first_goes j t pt p ps need e h.base h.stands
 
 pub loose_row : (j : MsgId) (t : Told) (pt : Point) (ps : List Part) → Waits j t pt → all_loose ps ≡ true → Goes j pt ps
@@ -237,8 +237,8 @@ update_own pt j t None there update told h phased = grind (arith, nat_tests, und
 turned_by : (b : Boot) (o : Point) (m : ℕ) (j : MsgId) (p q : Pid) (place : Place) (i : MsgId) (is : List MsgId) (ps : List Part) (c : Bool) → id_eq i j ≡ c → o.view.inbox m ≡ i ∷ is → Waits j (update_of p q place) (begun o (Step.Turn m)) → rule.hears b o m i (o.view.told i) ≡ Some ps → Goes j (begun o (Step.Turn m)) ps
 turned_by b o m j p q place i is ps true e front h said =
     let hears_this : (j : MsgId) (pt : Point) (b : Boot) (o : Point) (m : ℕ) (p q : Pid) (place : Place) → Waits j (update_of p q place) pt → GoesOf j pt (rule.hears b o m j (Some (update_of p q place))) = λ j pt b o m p q place h.
-      let goes_if : (j : MsgId) (pt : Point) (c : Bool) (x y : Option (List Part)) → GoesOf j pt x → GoesOf j pt y → GoesOf j pt (if c then x else y) = λ j pt c x y h k. grind (arith, nat_tests) in
-      search (goes_if, updates_this, process_this) in
+    let goes_if : (j : MsgId) (pt : Point) (c : Bool) (x y : Option (List Part)) → GoesOf j pt x → GoesOf j pt y → GoesOf j pt (if c then x else y) = λ j pt c x y h k. grind (arith, nat_tests) in
+    search (goes_if, updates_this, process_this) in
     let pt = begun o (Step.Turn m) in
     subst (GoesOf j pt) (ap (rule.hears b o m j) (sym h.base.told) ∙ ap (λ (x : MsgId). rule.hears b o m x (o.view.told x)) (sym (id_eq-is i j e)) ∙ said) (hears_this j pt b o m p q place h)
 turned_by b o m j p q place i is ps false e front h said = search hears_goes
@@ -256,9 +256,9 @@ outcome_goes b o d ps j p q place h = by_outcome (λ e. Goes j (begun o e)) b o 
       (let w = h (Step.Turn m) in
       let bag_apart : id_eq i j ≡ false = not_true (id_eq i j) (λ f. false≢true (sym (not_kernels w.base.sane.r w.base.sane.e (begun o (Step.Turn m)).kernel i msg there w.base.sane.sound) ∙ ap is_kernels (id_eq-is i j f) ∙ w.base.own)) in
       let handles_goes : (j : MsgId) (t : Told) (pt : Point) (b : Boot) (o : Point) (m : ℕ) (id : MsgId) (msg : PlainMessage) (ps : List Part) → Waits j t pt → pt.kernel.bag id ≡ Some msg → id_eq id j ≡ false
-        → rule.handles b o m id msg ≡ Some ps → Goes j pt ps = λ j t pt b o m id msg ps h there off e.
-        loose_handles (Goes j pt) (λ xs. all_loose xs ≡ true) quiet_loose (λ xs. loose_row j t pt xs h) b o m id msg ps (λ here. first_row j t pt (Says (Line.Queued id)) [] h off refl) (first_row j t pt (Says (Line.Held id)) [] h off refl)
-        (λ to here what apart. asks_goes j t pt id msg to h there what) (λ to moves at_. forwards_goes j t pt o.addresses id (plain_kind msg.what) msg.sender to h off) e in
+      → rule.handles b o m id msg ≡ Some ps → Goes j pt ps = λ j t pt b o m id msg ps h there off e.
+      loose_handles (Goes j pt) (λ xs. all_loose xs ≡ true) quiet_loose (λ xs. loose_row j t pt xs h) b o m id msg ps (λ here. first_row j t pt (Says (Line.Queued id)) [] h off refl) (first_row j t pt (Says (Line.Held id)) [] h off refl)
+      (λ to here what apart. asks_goes j t pt id msg to h there what) (λ to moves at_. forwards_goes j t pt o.addresses id (plain_kind msg.what) msg.sender to h off) e in
       handles_goes j (update_of p q place) (begun o (Step.Turn m)) b o m i msg xs w there bag_apart e);
   hears = λ m i is xs box none e. turned_by b o m j p q place i is xs (id_eq i j) refl box (h (Step.Turn m)) e;
   ticks = λ m xs net w is. inl (net_goes xs j (begun o (Step.Tick m)) w net (h (Step.Tick m)).stands is);

@@ -47,7 +47,7 @@ links_same a b p id n slots (l ∷ ls) =
     -- calls
     let fills_same : holders (addresses.fills p (first_empty slots) (a (Enclosed id n))) ≡ holders (addresses.fills p (first_empty slots) (b (Enclosed id n))) = grind (arith, nat_tests) in
     let both_same : (xs ys zs ws : List Gets) → holders xs ≡ holders ys → holders zs ≡ holders ws → holders (xs ++ zs) ≡ holders (ys ++ ws) =
-      λ xs ys zs ws e f. holders-append xs zs ∙ ap (λ (hs : List Holder). hs ++ holders zs) e ∙ ap (λ (hs : List Holder). holders ys ++ hs) f ∙ sym (holders-append ys ws) in
+    λ xs ys zs ws e f. holders-append xs zs ∙ ap (λ (hs : List Holder). hs ++ holders zs) e ∙ ap (λ (hs : List Holder). holders ys ++ hs) f ∙ sym (holders-append ys ws) in
     both_same (addresses.fills p (first_empty slots) (a (Enclosed id n))) (addresses.fills p (first_empty slots) (b (Enclosed id n)))
     (receives_links a p id (n + 1) (slot_after slots l (first_empty slots)) ls) (receives_links b p id (n + 1) (slot_after slots l (first_empty slots)) ls)
     fills_same (links_same a b p id (n + 1) (slot_after slots l (first_empty slots)) ls)
@@ -119,15 +119,15 @@ pub led_before : (s t : OneKernel) (v : View) (a : Addresses) (l : Label) (p q :
 led_before s t v a l p q k is named pending spared leads =
     -- messages that are served
     let creates_same : (v w : View) (a b : Addresses) (id : MsgId) (child : Pid) (o : Option PlainMessage) → holders (addresses.creation_gets v a id child o) ≡ holders (addresses.creation_gets w b id child o) =
-      λ v w a b id child o. grind (arith, nat_tests, creates_what_same) in
+    λ v w a b id child o. grind (arith, nat_tests, creates_what_same) in
     let receives_same : (a b : Addresses) (p : Pid) (id : MsgId) (o : Option PlainProcess) (m : Option PlainMessage) → holders (addresses.reception_gets a p id o m) ≡ holders (addresses.reception_gets b p id o m) =
-      λ a b p id o m. grind (arith, nat_tests, receives_what_same) in
+    λ a b p id o m. grind (arith, nat_tests, receives_what_same) in
     let takes_same : (s : OneKernel) (v w : View) (a b : Addresses) (id : MsgId) (o : Option PlainMessage) → holders (addresses.taking_gets s v a id o) ≡ holders (addresses.taking_gets s w b id o) =
-      λ s v w a b id o. grind (arith, nat_tests, manager_takes_same) in
+    λ s v w a b id o. grind (arith, nat_tests, manager_takes_same) in
     let sends_same : (s : OneKernel) (v w : View) (a b : Addresses) (p : Pid) (id : MsgId) (o : Option PlainProcess) → holders (addresses.send_gets s v a p id o) ≡ holders (addresses.send_gets s w b p id o) =
-      λ s v w a b p id o. grind (arith, nat_tests, sends_next_same) in
+    λ s v w a b p id o. grind (arith, nat_tests, sends_next_same) in
     let serves_same : (s : OneKernel) (v w : View) (a b : Addresses) (id : MsgId) (o : Option PlainMessage) → holders (addresses.service_gets s v a id o) ≡ holders (addresses.service_gets s w b id o) =
-      λ s v w a b id o. grind (arith, nat_tests) in
+    λ s v w a b id o. grind (arith, nat_tests) in
     let gs = gives s (still_view s v l) (marked p k) l in
     -- a row a label
     let gives_same : holders (gives s (still_view s v l) (marked p k) l) ≡ holders (gives s v a l) = search (arith, sends_same, receives_same, serves_same, takes_same, creates_same, ends_same) in

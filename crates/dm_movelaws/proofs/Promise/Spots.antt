@@ -263,11 +263,11 @@ led_by pt t l (Some x) p q k of is h spared leads = led_before pt.kernel t pt.vi
 line_before : (pt next : Point) (l : Line) (p q : Pid) (k moves : ℕ) → after_line pt l ≡ Some next → Grounds pt.kernel → fills pt (Slot p k) l ≡ false → Before next p q k moves → Before pt p q k moves
 line_before pt next l p q k moves is h e before =
     let moves_grow : (pt : Point) (l : Line) (p : Pid) (k : ℕ) → fills pt (Slot p k) l ≡ false → (pt.addresses (Slot p k)).moves ≤ (addresses_after pt.kernel pt.view pt.addresses l (Slot p k)).moves = λ pt l p k e.
-      let first_spares : (o : Option Told) (gs : List Gets) (p : Pid) (k : ℕ) → gives_to (Slot p k) gs ≡ false → gives_to (Slot p k) (first_gives o gs) ≡ false = λ o gs p k e. grind (arith, nat_tests) in
-      let told_grows : (s : OneKernel) (v : View) (a : Addresses) (o : Option Told) (h : Holder) → (a h).moves ≤ (updated s v a o h).moves = λ s v a o h. grind (arith, nat_tests) in
-      search (arith, follow_spares, told_grows, first_spares, not_given) in
+    let first_spares : (o : Option Told) (gs : List Gets) (p : Pid) (k : ℕ) → gives_to (Slot p k) gs ≡ false → gives_to (Slot p k) (first_gives o gs) ≡ false = λ o gs p k e. grind (arith, nat_tests) in
+    let told_grows : (s : OneKernel) (v : View) (a : Addresses) (o : Option Told) (h : Holder) → (a h).moves ≤ (updated s v a o h).moves = λ s v a o h. grind (arith, nat_tests) in
+    search (arith, follow_spares, told_grows, first_spares, not_given) in
     let spared_by : (pt : Point) (l : Line) (p : Pid) (k : ℕ) (x : Label) → label_of l ≡ Some x → fills pt (Slot p k) l ≡ false → gives_to (Slot p k) (gives pt.kernel pt.view pt.addresses x) ≡ false =
-      λ pt l p k x of e. grind (arith, nat_tests) in
+    λ pt l p k x of e. grind (arith, nat_tests) in
     let (s, comes, last) = bind-is (kernel_after pt.kernel (label_of l)) (λ s. Some (moved pt l s)) next is in
     let f : moved pt l s ≡ next = cc in
     let was : Before (moved pt l s) p q k moves = subst (λ (x : Point). Before x p q k moves) (sym f) before in

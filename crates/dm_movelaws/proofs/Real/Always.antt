@@ -213,8 +213,8 @@ reals_behind : (o pt : Point) (p : Part) → Receivers o → PartReal o p → Sa
 reals_behind o pt (Says l) known need sane h = λ s step. line_reals o pt s l known need step sane h
 reals_behind o pt (Routes i) known need sane h =
     let receiver_real : (s : OneKernel) (i : MsgId) (m : PlainMessage) (w : PlainWhat) → WhatFits s i m w → IsReal s m.to = λ s i m w h1.
-      let has_made : (s : OneKernel) (q : Pid) (n : ℕ) (l : Option Life) → s.processes q ≡ l → has_bytes n l ≡ true → IsReal s q = λ s q n l is e. grind (arith, nat_tests) in
-      search (arith, or_cases, has_made, m.to, s.processes) in
+    let has_made : (s : OneKernel) (q : Pid) (n : ℕ) (l : Option Life) → s.processes q ≡ l → has_bytes n l ≡ true → IsReal s q = λ s q n l is e. grind (arith, nat_tests) in
+    search (arith, or_cases, has_made, m.to, s.processes) in
     λ m there.
     put_reals o pt (pt.addresses (Receiver i)).at i (plain_kind m.what) m.to
     (record {
@@ -273,12 +273,12 @@ real_group : (b : Boot) (pt : Point) (d : Step) (w : Spelled) → IsStep pt.kern
 real_group b pt d w fit e run h =
     -- a group
     let parts_reals : (o : Point) (ps : List Part) (pt : Point) (w : Spelled) → Receivers o → All (PartReal o) ps → AllSayable ps → Sane pt → spelled pt ps ≡ Some w → Reals o pt → Reals o w.point = λ o qs q w known need ok sane is h.
-      let packet_reals : (o : Point) → PacketsKeep (Reals o) = λ o pt a b k l h. search in
-      sane_lead (Reals o) (packet_reals o) (PartReal o) (λ pt p so say fine. reals_behind o pt p known so fine) qs q w need ok sane is h in
+    let packet_reals : (o : Point) → PacketsKeep (Reals o) = λ o pt a b k l h. search in
+    sane_lead (Reals o) (packet_reals o) (PartReal o) (λ pt p so say fine. reals_behind o pt p known so fine) qs q w need ok sane is h in
     let here_real : (b : Boot) (pt : Point) → Run b pt → HereReal pt = λ b pt run m q here. known_real b pt m q run (λ e. let f : Here ≡ Unknown = sym here ∙ e in cc) in
     let g = group_is b pt d w e in
     let inbox_told : (b : Boot) (pt : Point) → Run b pt → InboxTold pt =
-      λ b pt run m i is at. run.found.told i (Inbox m) (let a : times i (pt.view.inbox m) ≡ times i (i ∷ is) = ap (times i) at in let c = times_self i is in subst (λ (n : ℕ). 1 ≤ n) (sym a) c) in
+    λ b pt run m i is at. run.found.told i (Inbox m) (let a : times i (pt.view.inbox m) ≡ times i (i ∷ is) = ap (times i) at in let c = times_self i is in subst (λ (n : ℕ). 1 ≤ n) (sym a) c) in
     let k = parts_reals pt g.parts (begun pt d) g.rest (receivers b pt run h) (outcome_real b pt d g.parts (inbox_told b pt run) (here_real b pt run) g.is) (outcome_sayable b pt d g.parts g.is) (begun_sane pt d run.based.phased.sane) g.said (begins_real b pt d fit run h) in
     subst RealAt g.point (record { own = k.own; receiver = k.receiver; about = k.about })
 

@@ -89,36 +89,36 @@ pub step_counts : (s t : OneKernel) (l : Label) → kernel.step s l ≡ Some t �
 step_counts s t l =
     -- a kernel makes a process
     let born_fewer : (s : OneKernel) (p : Pid) (y : PlainProcess) (q : Pid) (n : ℕ) → y.sent ≡ 0 → has_sent n ((with_process s p (Alive y)).processes q) ≡ true → has_sent n (s.processes q) ≡ true =
-      λ s p y q n none e. grind (arith, nat_tests, less) in
+    λ s p y q n none e. grind (arith, nat_tests, less) in
     let ended_fewer : (x : PlainProcess) (y : Why) (n : ℕ) → has_sent n (Some (Ended y)) ≡ true → nat_lt n x.sent ≡ true = λ x y n h. absurd (false≢true h) in
     let goes_counts : (s : OneKernel) (p : Pid) (x y : PlainProcess) → s.processes p ≡ Some (Alive x) → y.sent ≡ x.sent → CountsSo s (kernel.goes_on s p y) =
-      λ s p x y is sent. counts_quiet s (kernel.goes_on s p y) (set_quiet s (kernel.goes_on s p y) p x (Alive y) is (λ n h. less n x.sent y.sent (sym sent) h) refl refl refl) in
+    λ s p x y is sent. counts_quiet s (kernel.goes_on s p y) (set_quiet s (kernel.goes_on s p y) p x (Alive y) is (λ n h. less n x.sent y.sent (sym sent) h) refl refl refl) in
     by_step (CountsSo s) s t l (record {
-  ran = λ p k x m is w. goes_counts s p x (kernel.with_machine x m) w.alive refl;
-  replies = λ p n k c d y is w. (let (z, sent, pending, counted) = w.so.counts in goes_counts s p w.so.x y w.so.is.alive (counted.0 ∙ sent));
-  sends = λ p id k m y is same w. (let (z, sent, pending, counted) = w.so.counts in counts_sends s (kernel.goes_on s p y) p w.so.x y m w.so.is.alive (Sent-from p w.so.x z m y sent pending counted) refl refl refl);
-  waits = λ p k y is w. (let (z, sent, pending, counted) = w.so.counts in goes_counts s p w.so.x y w.so.is.alive (counted.0 ∙ sent));
-  outputs = λ p word k v y is w. (let (z, sent, pending, counted) = w.so.counts in goes_counts s p w.so.x y w.so.is.alive (counted.0 ∙ sent));
-  ends = λ p y next is w. counts_quiet s (with_process s p (Ended y)) (set_quiet s (with_process s p (Ended y)) p w.so.x (Ended y) w.so.is.alive (ended_fewer w.so.x y) refl refl refl);
-  receives = λ p id y is w c. (let v = kernel.goes_on (without_message s id) p y in counts_quiet s v (set_quiet s v p w.x (Alive y) w.alive (λ n h. less n w.x.sent y.sent (sym w.is.0) h) refl refl refl));
-  refuses = λ p id c d y is w e. goes_counts s p w.x y w.alive w.is.0;
-  dropped = λ id m y is w e. answers_counts s id None;
-  gone = λ id m y is w v e. answers_counts s id (Some (answer_to m v));
-  asked = λ id m x machine is w e. (let u = with_note (without_message s id) m.to (record { id = id; asker = m.sender }) in counts_quiet s u (grind (arith, nat_tests)));
-  answered = λ id o p n is f. counts_quiet s (service.move_ended s id p n o) (grind (arith, nat_tests));
-  stops = λ id m x b is w e. (let y = record x { stopped = b } in changed_counts s (service.changed s id m y) id m x y w.alive refl refl refl refl);
-  kills = grind (arith, nat_tests, counts_quiet, set_quiet, ended_fewer);
-  reads = λ id m x base len is w e. changed_counts s (with_sent (service.changed s id m x) (Some (answer_to m (PlainWhat.Block (take len (drop base x.memory)))))) id m x x w.alive refl refl refl refl;
-  writes = λ id m x base bytes is w e.
-      (let y = record x { memory = pieces.written_at x.memory base bytes } in
-      changed_counts s (with_sent (service.changed s id m y) (Some (answer_to m PlainWhat.Written))) id m x y w.alive refl refl refl refl);
-  lands = λ id m x r y is w e c. counts_sends s (service.changed s id m y) m.to x y r w.alive (lands-is m.to x m x.status (pieces.Next r y) c).0 refl refl refl;
-  done = λ id m x c y is w e f. changed_counts s (service.changed s id m y) id m x y w.alive (lands-is m.to x m x.status (pieces.Done c y) f).0 refl refl refl;
-  board = λ id m k is there c took. (let (memory, piece, sends) = board_takes_lem s.switchboard m m.what k took in counts_board s id k.switchboard k.answer sends);
-  manager = λ id m k is there c took. (let (memory, piece, sends) = manager_takes_lem s.manager s.machines (length s.images) m m.what k took in counts_manager s id k.manager k.message sends.sends);
-  creates = search (counts_quiet, born_fewer);
-  no_room = λ id a b m image links is w. answers_counts s id (Some (answer_to m PlainWhat.NoRoom));
-})
+      ran = λ p k x m is w. goes_counts s p x (kernel.with_machine x m) w.alive refl;
+      replies = λ p n k c d y is w. (let (z, sent, pending, counted) = w.so.counts in goes_counts s p w.so.x y w.so.is.alive (counted.0 ∙ sent));
+      sends = λ p id k m y is same w. (let (z, sent, pending, counted) = w.so.counts in counts_sends s (kernel.goes_on s p y) p w.so.x y m w.so.is.alive (Sent-from p w.so.x z m y sent pending counted) refl refl refl);
+      waits = λ p k y is w. (let (z, sent, pending, counted) = w.so.counts in goes_counts s p w.so.x y w.so.is.alive (counted.0 ∙ sent));
+      outputs = λ p word k v y is w. (let (z, sent, pending, counted) = w.so.counts in goes_counts s p w.so.x y w.so.is.alive (counted.0 ∙ sent));
+      ends = λ p y next is w. counts_quiet s (with_process s p (Ended y)) (set_quiet s (with_process s p (Ended y)) p w.so.x (Ended y) w.so.is.alive (ended_fewer w.so.x y) refl refl refl);
+      receives = λ p id y is w c. (let v = kernel.goes_on (without_message s id) p y in counts_quiet s v (set_quiet s v p w.x (Alive y) w.alive (λ n h. less n w.x.sent y.sent (sym w.is.0) h) refl refl refl));
+      refuses = λ p id c d y is w e. goes_counts s p w.x y w.alive w.is.0;
+      dropped = λ id m y is w e. answers_counts s id None;
+      gone = λ id m y is w v e. answers_counts s id (Some (answer_to m v));
+      asked = λ id m x machine is w e. (let u = with_note (without_message s id) m.to (record { id = id; asker = m.sender }) in counts_quiet s u (grind (arith, nat_tests)));
+      answered = λ id o p n is f. counts_quiet s (service.move_ended s id p n o) (grind (arith, nat_tests));
+      stops = λ id m x b is w e. (let y = record x { stopped = b } in changed_counts s (service.changed s id m y) id m x y w.alive refl refl refl refl);
+      kills = grind (arith, nat_tests, counts_quiet, set_quiet, ended_fewer);
+      reads = λ id m x base len is w e. changed_counts s (with_sent (service.changed s id m x) (Some (answer_to m (PlainWhat.Block (take len (drop base x.memory)))))) id m x x w.alive refl refl refl refl;
+      writes = λ id m x base bytes is w e.
+          (let y = record x { memory = pieces.written_at x.memory base bytes } in
+          changed_counts s (with_sent (service.changed s id m y) (Some (answer_to m PlainWhat.Written))) id m x y w.alive refl refl refl refl);
+      lands = λ id m x r y is w e c. counts_sends s (service.changed s id m y) m.to x y r w.alive (lands-is m.to x m x.status (pieces.Next r y) c).0 refl refl refl;
+      done = λ id m x c y is w e f. changed_counts s (service.changed s id m y) id m x y w.alive (lands-is m.to x m x.status (pieces.Done c y) f).0 refl refl refl;
+      board = λ id m k is there c took. (let (memory, piece, sends) = board_takes_lem s.switchboard m m.what k took in counts_board s id k.switchboard k.answer sends);
+      manager = λ id m k is there c took. (let (memory, piece, sends) = manager_takes_lem s.manager s.machines (length s.images) m m.what k took in counts_manager s id k.manager k.message sends.sends);
+      creates = search (counts_quiet, born_fewer);
+      no_room = λ id a b m image links is w. answers_counts s id (Some (answer_to m PlainWhat.NoRoom));
+    })
 
 -- Wherever the rule leads, each message that its sender counts was put.
 
@@ -272,7 +272,7 @@ told_group b pt d w e run next h i ask sent =
     let outs = outcome_outs (IsTold pt.view) b pt d g.parts (λ m j least. run.found.told j (Inbox m) least) (λ m p j least. run.found.told j (Queue m p) least) g.is in
     -- a part, and the parts of a group
     let counted_behind : (v : View) (pt : Point) (p : Part) → PartOuts (IsTold v) p → Sayable p → Sane pt → Counted v pt → Behind (Counted v) pt p =
-      λ v pt p outs ok sane h. whatever_put (Counted v) pt p (λ l is t step. counted_line v pt l t (subst Sayable is ok) (subst (PartOuts (IsTold v)) is outs) step sane h) (λ b i k q. (counted_rides v).put pt pt.view.acting b i k q h) h in
+    λ v pt p outs ok sane h. whatever_put (Counted v) pt p (λ l is t step. counted_line v pt l t (subst Sayable is ok) (subst (PartOuts (IsTold v)) is outs) step sane h) (λ b i k q. (counted_rides v).put pt pt.view.acting b i k q h) h in
     let last = sane_lead (Counted pt.view) (counted_rides pt.view).packet (PartOuts (IsTold pt.view)) (counted_behind pt.view) g.parts (begun pt d) g.rest outs (outcome_sayable b pt d g.parts g.is) (begun_sane pt d sane) g.said first in
     elim ((subst (Counted pt.view) g.point last).each i ask sent) [
       | inl told ↦ told

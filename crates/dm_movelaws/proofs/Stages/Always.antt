@@ -71,9 +71,9 @@ handled_marked : (o pt : Point) (m : ℕ) (i : MsgId) (is : List MsgId) (msg : P
 handled_marked o pt m i is msg ps w h box there (Spared mild) e p =
     -- a turn
     let front_tame : (pt : Point) (i : MsgId) (is : List MsgId) (msg : PlainMessage) → Sane pt → State None pt → pt.view.inbox pt.view.acting ≡ i ∷ is → pt.kernel.bag i ≡ Some msg → Tame pt.view i = λ pt i is msg sane state front there.
-      let (q, way) = front_way pt i is state front in
-      let (t, told) = told_some (pt.view.told i) q (state.stands.told i q way) in
-      record { what = t; told = told; plain = plain_in_bag pt i msg sane there t told } in
+    let (q, way) = front_way pt i is state front in
+    let (t, told) = told_some (pt.view.told i) q (state.stands.told i q way) in
+    record { what = t; told = told; plain = plain_in_bag pt i msg sane there t told } in
     mild_marked pt (Some i) ps w h.sane h.fits (tame_front pt.view i (front_tame pt i is msg h.sane h.state box there)) mild e p
 handled_marked o pt m i is msg ps w h box there (SetsOff to here what are) e p =
     let q = msg.to in
@@ -94,24 +94,24 @@ outcome_marked : (b : Boot) (pt : Point) (d : Step) (ps : List Part) (w : Spelle
 outcome_marked b pt d ps w h is =
     let turning : (o : Point) (m : ℕ) → Phased o → Turning o (begun o (Step.Turn m)) m = λ o m h. grind (arith, nat_tests, groups.fits, begun_sane, groups.begun, groups.turn_off, head_calm) in
     let net_marked : (pt : Point) (ps : List Part) (w : Spelled) → IsNet ps → spelled pt ps ≡ Some w → MarkedBy pt w ps =
-      λ pt ps w net n p. none_marked pt.view w.point.view p (marks_of p ps) (net_marks p ps net) (spares_calm pt.view w.point.view p (net_parts ps pt w net n)) in
+    λ pt ps w net n p. none_marked pt.view w.point.view p (marks_of p ps) (net_marks p ps net) (spares_calm pt.view w.point.view p (net_parts ps pt w net n)) in
     by_outcome (λ x xs. (u : Spelled) → spelled (begun pt x) xs ≡ Some u → MarkedBy (begun pt x) u xs) b pt d ps (record {
-  round = λ m xs box e u. (
-      mild_marked (begun pt (Step.Turn m)) None xs u (turning pt m h).sane (turning pt m h).fits (λ i k. cc) (λ p. round_mild p None b pt m (rule.first_runnable pt.kernel (pt.view.queue m) (pt.view.ring m)) xs e)
-      );
-  handles = λ m i is msg xs box there e u. (
-      handled_marked pt (begun pt (Step.Turn m)) m i is msg xs u (turning pt m h) box there (handles_mild b pt m i msg xs e)
-      );
-  hears = λ m i is xs box none e u. hears_marked b pt (begun pt (Step.Turn m)) m i is (pt.view.told i) xs u (turning pt m h) box refl e;
-  ticks = λ m xs net u. net_marked (begun pt (Step.Tick m)) xs u net;
-  delivers = λ a c k xs net u. net_marked (begun pt (Step.Deliver a c k)) xs u net;
-  asks = λ q m u n p. (
-      let start = begun pt (Step.Migrate q m) in
-      let fits = groups.fits pt.view h.pairs in
-      let settled = parts_settle (migrates pt q) start.view start u (migrates_quiet start.view pt q) (record { calm = calm_same start.view; sane = begun_sane pt (Step.Migrate q m) h.sane; fits = record { within = fits.within; home = fits.home } }) n in
-      none_marked start.view u.point.view p (marks_of p (migrates pt q)) (by_migrates (λ (ps : List Part). marks_of p ps ≡ []) pt q refl refl (λ n off is. refl)) (spares_calm start.view u.point.view p settled.calm)
-      );
-}) is w
+      round = λ m xs box e u. (
+          mild_marked (begun pt (Step.Turn m)) None xs u (turning pt m h).sane (turning pt m h).fits (λ i k. cc) (λ p. round_mild p None b pt m (rule.first_runnable pt.kernel (pt.view.queue m) (pt.view.ring m)) xs e)
+          );
+      handles = λ m i is msg xs box there e u. (
+          handled_marked pt (begun pt (Step.Turn m)) m i is msg xs u (turning pt m h) box there (handles_mild b pt m i msg xs e)
+          );
+      hears = λ m i is xs box none e u. hears_marked b pt (begun pt (Step.Turn m)) m i is (pt.view.told i) xs u (turning pt m h) box refl e;
+      ticks = λ m xs net u. net_marked (begun pt (Step.Tick m)) xs u net;
+      delivers = λ a c k xs net u. net_marked (begun pt (Step.Deliver a c k)) xs u net;
+      asks = λ q m u n p. (
+          let start = begun pt (Step.Migrate q m) in
+          let fits = groups.fits pt.view h.pairs in
+          let settled = parts_settle (migrates pt q) start.view start u (migrates_quiet start.view pt q) (record { calm = calm_same start.view; sane = begun_sane pt (Step.Migrate q m) h.sane; fits = record { within = fits.within; home = fits.home } }) n in
+          none_marked start.view u.point.view p (marks_of p (migrates pt q)) (by_migrates (λ (ps : List Part). marks_of p ps ≡ []) pt q refl refl (λ n off is. refl)) (spares_calm start.view u.point.view p settled.calm)
+          );
+    }) is w
 
 -- a group
 pub group_marked : (b : Boot) (pt : Point) (d : Step) (w : Spelled) → group_of b pt d ≡ Some w → Phased pt → (p : Pid) → Marked pt.view w.point.view p (marks p w.lines)

@@ -45,8 +45,8 @@ pub record GroupSays (b : Boot) (pt : Point) (d : Step) (w : Spelled) : Type 0 w
 pub group_says : (b : Boot) (pt : Point) (d : Step) (w : Spelled) → group_of b pt d ≡ Some w → GroupSays b pt d w
 group_says b pt d w e =
     let spelled_marks : (p : Pid) (ps : List Part) (pt : Point) (w : Spelled) → spelled pt ps ≡ Some w → marks p w.lines ≡ marks_of p ps = λ p.
-      let part_marks : (p : Pid) (pt : Point) (q : Part) (ls zs : List Line) → lines_of pt q ≡ Some ls → marks p (ls ++ zs) ≡ mark_part p q (marks p zs) = λ p pt q ls zs is. grind (arith, nat_tests, lines_are) in
-      by_parts (λ ps pt w. marks p w.lines ≡ marks_of p ps) (λ pt. refl) (λ q ps pt next ls z lines leads rest. part_marks p pt q ls z.lines lines ∙ ap (mark_part p q) rest) in
+    let part_marks : (p : Pid) (pt : Point) (q : Part) (ls zs : List Line) → lines_of pt q ≡ Some ls → marks p (ls ++ zs) ≡ mark_part p q (marks p zs) = λ p pt q ls zs is. grind (arith, nat_tests, lines_are) in
+    by_parts (λ ps pt w. marks p w.lines ≡ marks_of p ps) (λ pt. refl) (λ q ps pt next ls z lines leads rest. part_marks p pt q ls z.lines lines ∙ ap (mark_part p q) rest) in
     let g = group_is b pt d w e in
     record { parts = g.parts; is = g.is; rest = g.rest; said = g.said; point = g.point; marked = λ p. ap (λ (x : Spelled). marks p x.lines) (sym g.whole) ∙ spelled_marks p g.parts (moved pt (Line.Head d) pt.kernel) g.rest g.said }
 

@@ -28,7 +28,7 @@ pub data Handled (o : Point) (m : ℕ) (id : MsgId) (msg : PlainMessage) (ps : L
 pub handles_mild : (b : Boot) (o : Point) (m : ℕ) (id : MsgId) (msg : PlainMessage) (ps : List Part) → handles b o m id msg ≡ Some ps → Handled o m id msg ps
 handles_mild b o m id msg ps e =
     loose_handles (Handled o m id msg) (λ xs. (me : Pid) → All (Mild me (Some id)) xs) (record { none = λ me. tt; label = λ l qs h me. (tt, h me); routes = λ i qs h me. (tt, h me) }) (λ qs h. Spared h) b o m id msg ps
-        (λ here. Spared (λ me. (refl, tt))) (Spared (λ me. (refl, tt)))
+    (λ here. Spared (λ me. (refl, tt))) (Spared (λ me. (refl, tt)))
     (λ to here what apart. SetsOff to here.known what refl) (λ to moves at_. Spared (λ me. forwards_mild me o.addresses id (plain_kind msg.what) msg.sender to)) e
 
 pub data Hears (k : Known) (id : MsgId) (t : Told) (ps : List Part) : Type 0 where
@@ -152,9 +152,9 @@ departs_row pt i is q to ids from w h phases before e =
     let token : TokenOf w.point.view q MessageKind.Restart = subst (λ (y : Point). TokenOf y.view q MessageKind.Restart) (o.point ∙ s.point ∙ n.point)
     (owns_token (moved mid k mid.kernel) MessageKind.Restart q (pid_of from 0) from o.rest (line_sane mid k refl refl kept.sane) (line_fits mid mid.kernel k refl kept.fits) refl refl o.more) in
     let departs_marks : (p q : Pid) (to : ℕ) (ids : List MsgId) (from : ℕ) → marks_of p (departs q to ids from) ≡ mark_for p q (Reached 6) (mark_for p q (Reached 7) []) =
-      λ p q to ids from. ap (mark_for p q (Reached 6)) (marks_sent p to ids (Says (Line.Migration Stage.Left q) ∷ to_kernel MessageKind.Restart from ∷ [])) in
+    λ p q to ids from. ap (mark_for p q (Reached 6)) (marks_sent p to ids (Says (Line.Migration Stage.Left q) ∷ to_kernel MessageKind.Restart from ∷ [])) in
     let departs_marked : (q : Pid) (to : ℕ) (ids : List MsgId) (from : ℕ) → marks_of q (departs q to ids from) ≡ Reached 6 ∷ Reached 7 ∷ [] =
-      λ q to ids from. departs_marks q q to ids from ∙ mark_same q (Reached 6) (mark_for q q (Reached 7) []) ∙ ap (λ (ms : List Mark). Reached 6 ∷ ms) (mark_same q (Reached 7) []) in
+    λ q to ids from. departs_marks q q to ids from ∙ mark_same q (Reached 6) (mark_for q q (Reached 7) []) ∙ ap (λ (ms : List Mark). Reached 6 ∷ ms) (mark_same q (Reached 7) []) in
     record {
       others = λ p apart. (
         (let e_ : marks_of p (departs q to ids from) ≡ [] = grind (arith, nat_tests, pid_eq-swap, departs_marks, mark_other) in e_),
@@ -177,8 +177,8 @@ heard_mark : (pt : Point) (i : MsgId) (is : List MsgId) (t : Told) (q : Pid) (k 
 heard_mark pt i is t q k h e between =
     -- it is the process's token
     let front_token : (v : View) (i : MsgId) (is : List MsgId) (t : Told) (q : Pid) → v.inbox v.acting ≡ i ∷ is → v.told i ≡ Some t → is_between t.kind ≡ true → t.about ≡ Of q → TokenOf v q t.kind = λ v i is t q front told between about.
-      let b : one_of i i ≡ 1 = ap (λ (c : Bool). if c then 1 else 0) (id_eq-same i) in
-      record { id = i; what = t; told = told; kind = refl; between = between; about = about; spot = Inbox v.acting; stands = (let one : 1 ≤ times i (v.inbox v.acting) = omega (arith, ap (times i) front, b) in one) } in
+    let b : one_of i i ≡ 1 = ap (λ (c : Bool). if c then 1 else 0) (id_eq-same i) in
+    record { id = i; what = t; told = told; kind = refl; between = between; about = about; spot = Inbox v.acting; stands = (let one : 1 ≤ times i (v.inbox v.acting) = omega (arith, ap (times i) front, b) in one) } in
     subst (λ (x : MessageKind). HasMark pt.view q (mark_of x)) e (token_mark pt.view q t.kind (front_token pt.view i is t q h.at.front h.told (ap is_between e ∙ between) h.about))
 
 unmarked : (q : Pid) (m : Mark) (p : Pid) → pid_eq q p ≡ false → mark_for p q m [] ≡ []

@@ -75,7 +75,7 @@ laid_by b (e ∷ es) ls pt end t (w, rest, fit, is, are, more) h on =
     let holds = carries.keeps b (trodden pt t) (trodden w.point u) e w fit is comes h on in
     let treads = along_treads w.lines (trodden pt t) (trodden w.point u) comes (carries.fits b (trodden pt t) e w fit is h on) on in
     let laid_more : (b : Boot) (pt mid end : Point) (t u : Trails) (xs ys : List Line) → along (trodden pt t) xs ≡ Some (trodden mid u) → Laid b mid u ys end → Laid b pt t (xs ++ ys) end =
-      λ b pt mid end t u xs ys first k. record { trails = k.trails; lays = along-append xs ys (trodden pt t) (trodden mid u) first ∙ k.lays; holds = k.holds; treads = k.treads } in
+    λ b pt mid end t u xs ys first k. record { trails = k.trails; lays = along-append xs ys (trodden pt t) (trodden mid u) first ∙ k.lays; holds = k.holds; treads = k.treads } in
     subst (λ (xs : List Line). Laid b pt t xs end) (sym are) (laid_more b pt w.point end t u w.lines rest comes (laid_by b es rest w.point end u more holds treads))
 
 -- whatever leads somewhere leads by lines
@@ -165,7 +165,7 @@ stage_made s v q k p m c h1 h2 = grind (arith, nat_tests)
 line_made : (s : OneKernel) (v : View) (l : Line) → Passing s v → (p : Pid) (m c : ℕ) → (view_after v l).topic ≡ view.Place p m c → WasMade s p
 line_made s v l h1 p m c h2 =
     let proto_made : (s : OneKernel) (v : View) (i : MsgId) (o : Option Told) (p : Pid) (m c : ℕ) → v.told i ≡ o → Passing s v → (view.after_proto (handled v i) o).topic ≡ view.Place p m c → WasMade s p =
-      λ s v i o p m c is h e. grind (arith, nat_tests, no_place) in
+    λ s v i o p m c is h e. grind (arith, nat_tests, no_place) in
     let head_made : (s : OneKernel) (v : View) (d : Step) (p : Pid) (m c : ℕ) → (view.after_head v d).topic ≡ view.Place p m c → WasMade s p = λ s v d p m c e. grind (arith, nat_tests, no_place) in
     let forwarded_made : (s : OneKernel) (v : View) (o : Option Pid) (p : Pid) (m c : ℕ) → Passing s v → (view.forwarded_for v o).topic ≡ view.Place p m c → WasMade s p = λ s v o p m c h e. grind (arith, nat_tests) in
     let no_of : (T : Type 0) (q p : Pid) (m c : ℕ) → Of q ≡ view.Place p m c → T = λ T q p m c e. cc in

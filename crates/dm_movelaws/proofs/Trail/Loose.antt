@@ -247,8 +247,8 @@ left_places q u p d h =
 agains_walks : (u : Trails) (p : Pid) (d from to : ℕ) (ids : List MsgId) (q : Point) → Sent q u p d → Walks q u (sends_on to ids ++ Says (Line.Migration Stage.Left p) ∷ to_kernel MessageKind.Restart from ∷ [])
 agains_walks u p d from to [] q h =
     let left_walks : (q : Point) (u : Trails) (p : Pid) (d from : ℕ) → Sent q u p d → Walks q u (Says (Line.Migration Stage.Left p) ∷ to_kernel MessageKind.Restart from ∷ []) = λ q u p d from h.
-      first_walks (Line.Migration Stage.Left p) (to_kernel MessageKind.Restart from ∷ []) q u
-      (λ sane on. (record { d = d; holds = h.holds; at = h.at; long = h.long; apart = h.apart }, λ next s. subst (λ (z : Point). Places z.view u) s.is (left_places q u p d h))) (to_between MessageKind.Restart from refl) in
+    first_walks (Line.Migration Stage.Left p) (to_kernel MessageKind.Restart from ∷ []) q u
+    (λ sane on. (record { d = d; holds = h.holds; at = h.at; long = h.long; apart = h.apart }, λ next s. subst (λ (z : Point). Places z.view u) s.is (left_places q u p d h))) (to_between MessageKind.Restart from refl) in
     left_walks q u p d from h
 agains_walks u p d from to (i ∷ is) q h = λ sane on. (tt, λ next s. agains_walks u p d from to is next (again_rides (λ (z : Point). Sent z u p d) (sent_rides u p d) q next i to s h))
 

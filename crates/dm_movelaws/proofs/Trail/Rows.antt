@@ -72,8 +72,8 @@ restarted_places : (pt : Point) (t : Trails) (p : Pid) → Heard pt p MessageKin
 restarted_places pt t p u h =
     -- then its source forwards
     let moves_forward : (v : View) (p : Pid) (k : MessageKind) (s d : ℕ) (o : Option MsgId) → IsIn v p (Moves k s d o) → is_restart k ≡ true → (c : ℕ) × (v.known s p ≡ Forward d c) = λ v p k s d o h on.
-      let forward_by : (k : MessageKind) (d : ℕ) (x : Known) → is_restart k ≡ true → kind_leaves k d x ≡ true → (c : ℕ) × (x ≡ Forward d c) = λ k d x on e. grind (arith, nat_tests, parts, eq_is) in
-      grind (arith, nat_tests, forward_by, eq_self) in
+    let forward_by : (k : MessageKind) (d : ℕ) (x : Known) → is_restart k ≡ true → kind_leaves k d x ≡ true → (c : ℕ) × (x ≡ Forward d c) = λ k d x on e. grind (arith, nat_tests, parts, eq_is) in
+    grind (arith, nat_tests, forward_by, eq_self) in
     let v = pt.view in
     let w = view_after v (Line.Migration Stage.Restarted p) in
     let (c, away) = moves_forward v p MessageKind.Restart u.s u.d u.o u.phase refl in
@@ -113,7 +113,7 @@ pub hears_walks : (pt : Point) (b : Boot) (o : Point) (t : Trails) (m : ℕ) (id
     → ((p : Pid) → u.about ≡ Of p → is_between u.kind ≡ true → Heard pt p u.kind) → ((to c : ℕ) → o.view.known m u.receiver ≡ Forward to c → Walks pt t (forwards_on o.addresses id u.kind manager to)) → Places pt.view t → rule.hears b o m id (Some u) ≡ Some ps → Walks pt t ps
 hears_walks pt b o t m id u ps same notes known kernels forwards h =
     let proto_loose : (i : MsgId) → Loose (Says (Line.Proto i)) =
-      λ i. quiet (Line.Proto i) (λ pt t. tt) (λ v t. refl) (λ v n q. proto_known (handled v i) (v.told i) n q) (λ v q. at_pid (view_after v (Line.Proto i)).moves v.moves q (grind (arith, nat_tests))) in
+    λ i. quiet (Line.Proto i) (λ pt t. tt) (λ v t. refl) (λ v n q. proto_known (handled v i) (v.told i) n q) (λ v q. at_pid (view_after v (Line.Proto i)).moves v.moves q (grind (arith, nat_tests))) in
     let home = id.from.home in
     let proto : (k : MessageKind) → All Loose (to_kernel k home ∷ []) → Walks pt t (Says (Line.Proto id) ∷ to_kernel k home ∷ []) = λ k loose. loose_walks (Says (Line.Proto id) ∷ to_kernel k home ∷ []) pt t (proto_loose id, loose) h in
     let one : (l : Line) → Loose (Says l) → Walks pt t (Says l ∷ []) = λ l loose. loose_walks (Says l ∷ []) pt t (loose, tt) h in
@@ -207,7 +207,7 @@ kills_places v t _ p here h = h
 served_walks : (pt : Point) (t : Trails) (id : MsgId) (k : PlainMessage) (ps : List Part) → Front pt t id k → pt.view.known pt.view.acting k.to ≡ Here → All Loose ps → Walks pt t (rule.says (Label.Served id) ∷ ps)
 served_walks pt t id k ps f here loose =
     let served_places : (v : View) (t : Trails) (o : Option Told) → ((u : Told) → o ≡ Some u → u.kind ≡ MessageKind.Kill → v.known v.acting u.receiver ≡ Here) → Places v t → Places (served_told v o) t =
-      λ v t o here h. grind (arith, nat_tests, kills_places) in
+    λ v t o here h. grind (arith, nat_tests, kills_places) in
     let known : (u : Told) → pt.view.told id ≡ Some u → u.kind ≡ MessageKind.Kill → pt.view.known pt.view.acting u.receiver ≡ Here = λ u told kill. ap (pt.view.known pt.view.acting) (f.receiver u told) ∙ here in
     label_walks pt t (Label.Served id) ps (λ on. (
       (λ m there. let g : Some k ≡ Some m = sym f.there ∙ there in let e : k ≡ m = cc in subst (λ (x : PlainMessage). slice_get (t x.to) (pt.view.moves x.to) ≡ Some pt.view.acting) e (at_end pt t k.to here f.places)),
@@ -220,8 +220,8 @@ creates_walks : (pt o : Point) (t : Trails) (m : ℕ) (id : MsgId) (k : PlainMes
 creates_walks pt o t m id k r true f fixed born =
     -- a process is made at home
     let born_places : (v w : View) (t : Trails) (p : Pid) → Unborn v p → Trail v t p → Places v t → (Learnt v w p Here → w.moves p ≡ v.moves p → Placed w t p) = λ v w t p born trail h learnt moves.
-      let k = (h p).unmade born.unknown in
-      grind (arith, nat_tests, placed_held) in
+    let k = (h p).unmade born.unknown in
+    grind (arith, nat_tests, placed_held) in
     let born_stood : (v : View) (t : Trails) (p : Pid) → ((n : ℕ) → v.known n p ≡ Unknown) → Trail v t p → Placed v t p → StoodOnTrail v t p Nowhere = λ v t p unknown trail h. grind (arith, nat_tests) in
     let child = pid_of m (first_number + o.kernel.made m) in
     let w = view_after pt.view (Line.Label (Label.Created id child)) in

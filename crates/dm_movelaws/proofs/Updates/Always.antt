@@ -46,7 +46,7 @@ forwards_shape o c id k sender to = by_forwards (Shape o) c id k sender to (Quie
 pub handles_shape : (b : Boot) (o : Point) (m : ℕ) (id : MsgId) (msg : PlainMessage) (ps : List Part) → rule.handles b o m id msg ≡ Some ps → Shape o ps
 handles_shape b o m id msg ps e =
     loose_handles (Shape o) (All PartQuiet) quiet_loose (λ xs. Quiet) b o m id msg ps (λ here. Quiet (refl, tt)) (Quiet (refl, tt)) (λ to here what apart. Quiet (refl, (refl, (refl, (tt, tt)))))
-        (λ to moves at_. forwards_shape o o.addresses id (plain_kind msg.what) msg.sender to) e
+    (λ to moves at_. forwards_shape o o.addresses id (plain_kind msg.what) msg.sender to) e
 
 -- a kernel's own message
 sends_quiet : (to : ℕ) (ids : List MsgId) (ps : List Part) → All PartQuiet ps → All PartQuiet (sends_on to ids ++ ps)
@@ -127,8 +127,8 @@ same_line d (x ∷ y ∷ zs) ys id i n k e =
 pub by_shape : (b : Boot) (pt : Point) (d : Step) (w : Spelled) (id : MsgId) (n : ℕ) (xs ys : List Line) (g : GroupIs b pt d w) → w.lines ≡ xs ++ Line.Updated id n ∷ ys → Shape pt g.parts → Handled b pt d w id n
 by_shape b pt d w id n xs ys g there (Quiet quiet) =
     let parts_have : (ps : List Part) (pt : Point) (w : Spelled) → All PartQuiet ps → spelled pt ps ≡ Some w → has w.lines ≡ false = λ ps pt w quiet is.
-      let part_has : (pt : Point) (p : Part) (ls : List Line) → PartQuiet p → lines_of pt p ≡ Some ls → has ls ≡ false = λ pt p ls quiet is. grind (arith, nat_tests, lines_are) in
-      by_parts (λ qs q v. All PartQuiet qs → has v.lines ≡ false) (λ q h. refl) (λ x qs q next ls z lines leads rest h. neither ls z.lines (part_has q x ls h.0 lines) (rest h.1)) ps pt w is quiet in
+    let part_has : (pt : Point) (p : Part) (ls : List Line) → PartQuiet p → lines_of pt p ≡ Some ls → has ls ≡ false = λ pt p ls quiet is. grind (arith, nat_tests, lines_are) in
+    by_parts (λ qs q v. All PartQuiet qs → has v.lines ≡ false) (λ q h. refl) (λ x qs q next ls z lines leads rest h. neither ls z.lines (part_has q x ls h.0 lines) (rest h.1)) ps pt w is quiet in
     absurd (false≢true (sym (parts_have g.parts (begun pt d) g.rest quiet g.said) ∙ ap (λ (x : Spelled). has x.lines) g.whole ∙ ap has there ∙ has_in xs ys id n))
 by_shape b pt d w id n xs ys g there (Updates m i k form handles) = search (arith, pt.kernel, g.rest, g.said, w.lines, g.whole, w.point, same_line)
 
@@ -270,10 +270,10 @@ updated_by b pt d w id n both h =
     -- whether an address is behind
     -- an ended process has no links
     let count_is : (s : OneKernel) (v : View) (a : Addresses) (t : Told) (p : Pid) (at_ : Place) (m n : ℕ) → t.about ≡ view.Place p at_.at at_.moves → KnownStands s v
-      → (n ≡ behind_count s a t.receiver (place_told t.about)) ⊎ ((n ≡ 0) × (is_server t.receiver ≡ false) × (v.known m t.receiver ≡ Ended))
-      → behind_among (is_behind s a t.receiver p at_.moves) (holders_of s t.receiver) ≡ n = λ s v a t p at_ m n about known counts. grind (arith, nat_tests) in
+    → (n ≡ behind_count s a t.receiver (place_told t.about)) ⊎ ((n ≡ 0) × (is_server t.receiver ≡ false) × (v.known m t.receiver ≡ Ended))
+    → behind_among (is_behind s a t.receiver p at_.moves) (holders_of s t.receiver) ≡ n = λ s v a t p at_ m n about known counts. grind (arith, nat_tests) in
     let address : (s : OneKernel) (v w : View) (a : Addresses) (id : MsgId) (t : Told) (p : Pid) (at_ : Place) (h : Holder) → w.told ≡ v.told → v.told id ≡ Some t → t.about ≡ view.Place p at_.at at_.moves
-      → updated s w a (w.told id) h ≡ (if is_behind s a t.receiver p at_.moves h then at_ else a h) = λ s v w a id t p at_ h same told about. search in
+    → updated s w a (w.told id) h ≡ (if is_behind s a t.receiver p at_.moves h then at_ else a h) = λ s v w a id t p at_ h same told about. search in
     let three : (a b c : Bool) → (a && (b && c)) ≡ true → (a ≡ true) × (b ≡ true) × (c ≡ true) = λ a b c e. grind (arith, nat_tests) in
     let head_told : (v : View) (d : Step) → (after_head v d).told ≡ v.told = λ v d. grind (arith, nat_tests) in
     let head_kept : (v : View) (d : Step) → Kept v (after_head v d) = λ v d. grind (arith, nat_tests) in
