@@ -6,7 +6,6 @@ use Rattle.dm_rule.proofs.Homes.Serves.{Named}
 use Rattle.dm_onekernel.specs.Manager as manage
 use Rattle.dm_onekernel.specs.Step as kernel
 use Rattle.dm_rule.specs.Addresses as addresses
-use Rattle.dm_rule.specs.Given as request
 use Rattle.dm_movelaws.proofs.Names.{Sender, acting_place, answer_id, gets, option_map_or}
 
 abbrev pub holders : List Gets → List Holder

@@ -10,7 +10,6 @@ use Rattle.dm_rule.proofs.Homes.Rows.{SameProcess, SameMessage, SameServers, sen
 use Rattle.dm_rule.proofs.Homes.Steps.{OnlySlots, only_none, at_home_ended}
 use Rattle.dm_rule.proofs.Requests.{by_test}
 use Rattle.dm_onekernel.specs.Step as kernel
-use Rattle.dm_rule.specs.Given as giving
 use Rattle.dm_rule.specs.Addresses as addresses
 use Rattle.dm_onekernel.specs.Pieces as pieces
 use Rattle.dm_onekernel.specs.Service as service

@@ -11,7 +11,6 @@ use Rattle.dm_onekernel.specs.Manager as manage
 use Rattle.dm_onekernel.specs.Service as service
 use Rattle.dm_onekernel.specs.Step as kernel
 use Rattle.dm_rule.specs.Addresses as addresses
-use Rattle.dm_rule.specs.Given as request
 pub use Rattle.std.proofs.lemmas.Bool.{not-true as not_is}
 pub use Rattle.dm_laws.proofs.Facts.{and_no}
 

@@ -22,7 +22,6 @@ use Rattle.dm_onekernel.specs.Service as service
 use Rattle.dm_onekernel.specs.Switchboard as board
 use Rattle.dm_onekernel.specs.Manager as manage
 use Rattle.dm_rule.specs.Addresses as addresses
-use Rattle.dm_rule.specs.Given as request
 use Rattle.dm_rulelaws.proofs.Names.{acting_place, move_target}
 
 -- what enters is none that was told of
