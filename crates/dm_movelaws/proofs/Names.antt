@@ -40,7 +40,7 @@ pub use Rattle.dm_rule.proofs.Names.{About, Addresses, AddressesOn, Again, Answe
 pub use Rattle.dm_rule.proofs.Names.{Load, MessageKind, Moves, Name, NamedLink, NothingElse, Nowhere, Of, Over, Owner, Owns, Pair, Part, Phase, Place, Point, Queue, Receiver, Rests, Routes, Says, Sender, ServerSends, Slot, Sort, Sound}
 pub use Rattle.dm_rule.proofs.Names.{Spares, Spelled, Spot, Stage, StandsOutside, StandsRight, Step, StoodOnTrail, Target, Told, Trail, Trails, TrailsAlways, Transmits, Trodden, Unknown, Untaken, View, accepts, actor}
 pub use Rattle.dm_rule.proofs.Names.{after, after_head, after_line, after_put, after_step, alive-is, all_follow, along, answers_move, ascends, at_machine, at_pair, at_record, behind, behind_count, belongs_to, bind-is, board_takes_lem}
-pub use Rattle.dm_rule.proofs.Names.{both_true, chunks_of, counts, counts_process, destination, enclosed_from, encloses, ends_by, ends_move-is, filter, first_gives, first_point, first_trails, first_trodden, child_links}
+pub use Rattle.dm_rule.proofs.Names.{both_true, child_links, chunks_of, counts, counts_process, destination, enclosed_from, encloses, ends_by, ends_move-is, filter, first_gives, first_point, first_trails, first_trodden}
 pub use Rattle.dm_rule.proofs.Names.{first_view, forwarded_for, forwards, forwards_on, front_of, given, gives, gives_piece, goes_out, goes_round, gone_to, group_of, handled, handled_first, hears, held_for, holder_eq, id_eq-is, id_eq-same}
 pub use Rattle.dm_rule.proofs.Names.{ids_at, is_away, is_behind, is_between, is_counted, is_due, is_early, is_here, is_kernels, is_over, is_restart, is_told_back, kernel_after, kernel_hears, kind_comes, kind_leaves, knowing, knows}
 pub use Rattle.dm_rule.proofs.Names.{label_of, lands-is, leads_to, leaves, leaves_for, left_true, length-append, lines_of, link_target, manager_sends, manager_takes_burden, manager_takes_lem, migrates, move_target, moved}
@@ -69,7 +69,7 @@ pub use Rattle.dm_rule.proofs.Phases.Start.{start_known}
 pub use Rattle.dm_rule.proofs.Said.{fits_as}
 pub use Rattle.dm_rule.proofs.Seen.{about_off}
 pub use Rattle.dm_rule.proofs.Serving.{Loose, loose_handles, loose_round}
-pub use Rattle.dm_rule.proofs.States.{PacketsKeep, PairsFit, said as last_point, puts_next, said, says_next, packet_off}
+pub use Rattle.dm_rule.proofs.States.{PacketsKeep, PairsFit, packet_off, puts_next, said, said as last_point, says_next}
 pub use Rattle.dm_rule.proofs.Trails.Along.{Carries, along_treads, trails_always_by}
 pub use Rattle.dm_rule.proofs.Trails.Found.{treads_start}
 pub use Rattle.dm_rule.proofs.Trails.Known.{get_at_end}
@@ -146,5 +146,5 @@ pub use Rattle.dm_movelaws.specs.Routed.{AreRouted, RoutedAlways, routed, with_p
 pub use Rattle.dm_movelaws.specs.Stages.{Lacking, Mark, Reached, Staying, StepsInOrder, in_order, left_open, mark_for, marks, with_mark}
 pub use Rattle.dm_movelaws.specs.Trail.{AddressesLead, ByForward, ByHolder, ByOwn, ByRequest, ByUpdate, IsLast, IsLed, IsNamed, Reaches, TrailStands, TrailsStand, ends_walk, has_it, is_made}
 pub use Rattle.dm_movelaws.specs.Updates.{Updated, UpdatesAlways, is_owner, listings}
-pub use Rattle.std.specs.Option.{option_map_or, option_and_then, option_map}
+pub use Rattle.std.specs.Option.{option_map_or, option_and_then}
 pub use Rattle.dm_rule.specs.Holders.{AskedBy, acting_place, gets}

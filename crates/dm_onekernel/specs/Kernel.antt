@@ -1,6 +1,5 @@
 -- The kernel without machines: processes by name, the bag of messages that nobody has got yet, and the two servers.
 use Rattle.std.specs.Prelude.{ℕ, if◌then◌else◌, List}
-use Rattle.std.specs.Option.{option_map_or}
 use Rattle.std.specs.declared.option.Option.{Option}
 use Rattle.std.specs.declared.option.Option.TheVariants.{None, Some}
 use Rattle.dm_link.specs.declared.Pid.{Pid}
@@ -84,4 +83,5 @@ with_message s id m = record s { bag = λ i. if id_eq id i then m else s.bag i }
 
 -- the kernel with a message put into the bag under its own name, if there is one
 abbrev pub with_sent : OneKernel → Option PlainMessage → OneKernel
-with_sent s sent = option_map_or (λ m. with_message s m.id (Some m)) sent s
+with_sent s None = s
+with_sent s (Some m) = with_message s m.id (Some m)

@@ -1,7 +1,7 @@
 -- A point determines the kernel with places, but for the queues: what is a process or a message without places, and has the
 -- places of the addresses, is the one that stands there.
-use Rattle.dm_places.proofs.Names.{◌≡◌, ℕ, zero, suc, List, [], ◌∷◌, map, refl, ap, ◌∙◌, sym, option_map, slice_get, Option, Some, ArrayVec, Pid, Addr, Link, place_of, plain_link, link_at, plain_slot, MsgId, Message, What, arith, nat_tests}
-use Rattle.dm_places.proofs.Names.{PlainMessage, PlainWhat, plain_message, plain_what, Process, Status, plain_process, plain_status, PlainProcess, View, Addresses, MirrorsMessage, MirrorsProcess, enclosed, owner_at, PointDetermines}
+use Rattle.dm_places.proofs.Names.{◌≡◌, ℕ, zero, suc, List, [], ◌∷◌, map, refl, ap, ◌∙◌, sym, option_map, slice_get, Option, Some, ArrayVec, Pid, Addr, Link, place_of, plain_link, link_at, plain_slot, Message, What, arith, nat_tests}
+use Rattle.dm_places.proofs.Names.{PlainWhat, plain_what, Process, Status, plain_process, plain_status, PlainProcess, View, Addresses, MirrorsProcess, enclosed, owner_at, PointDetermines}
 use Rattle.dm_places.proofs.Keeps.{parts, there_of}
 use Rattle.dm_places.proofs.Queues.{with_queue}
 use Rattle.dm_places.proofs.Whats.{user_what, create_what, read_what, write_what, block_what, stop_what, resume_what, kill_what, written_what, gone_what, created_what, no_room_what, move_what, moved_what}
@@ -85,15 +85,12 @@ what_is w z (PlainWhat.Move machine) e f h = move_what w machine e ∙ sym (move
 what_is w z (PlainWhat.Moved outcome) e f h = moved_what w outcome e ∙ sym (moved_what z outcome f)
 
 -- two messages that mirror the same one are one
-pub message_is : (a : Addresses) (i : MsgId) (m n : Message) (k : PlainMessage) → plain_message m ≡ Some k → plain_message n ≡ Some k → MirrorsMessage a i m → MirrorsMessage a i n → m ≡ n
-message_is a i m n k e f h j = grind (arith, nat_tests, parts, addr_is, what_is)
-
 pub point_determines : PointDetermines
 point_determines s v a l m h k = (
   λ i x e.
       let (n, there, says) = there_of s l i x h.plain e in
       let (r, stands, means) = there_of s m i x k.plain e in
-      there ∙ ap Some (message_is a i n r x says means (h.places.message i n there) (k.places.message i r stands)) ∙ sym stands,
+      there ∙ ap Some (let e_ : n ≡ r = grind (arith, nat_tests, parts, addr_is, what_is, h.places.message i n there, k.places.message i r stands) in e_) ∙ sym stands,
   λ p x y e f.
       process_is v a p x y y.queue (grind (arith, nat_tests, option_map, h.plain.processes p, k.plain.processes p)) (h.places.process p x e) (k.places.process p y f),
 )

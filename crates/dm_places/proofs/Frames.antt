@@ -1,8 +1,8 @@
 -- What a step with places leaves as it is.
 use Rattle.dm_places.proofs.Names.{◌≡◌, ℕ, Bool, true, false, List, refl, ap, sym, subst, if◌then◌else◌, slice_get, Option, None, Some, false≢true, Pid, pid_eq, MsgId, Message, What, Process, begun_process, instruction, Format, BootImage}
 use Rattle.dm_places.proofs.Names.{Label, manager, slots_of, switchboard, bind, memory_of, slots_with, Landed, Landing, landing, after_serving, answer, gone_answer, serving_answer, Completion, bind-is, Placed, Acted, acted, acts}
-use Rattle.dm_places.proofs.Names.{after_landing, board_took, completed, creates, lands, manager_took, ran, running, serves, takes, with_acted, with_child, with_process, with_sent, without_message, Changes, StepsChangeLittle, changed}
-use Rattle.dm_places.proofs.Names.{is_named, receiver_in, taken, taken_out, answers, Asker, ends_move, moved_answer, without_note, arith}
+use Rattle.dm_places.proofs.Names.{after_landing, board_took, completed, creates, lands, manager_took, running, serves, takes, with_acted, with_child, with_process, with_sent, without_message, Changes, StepsChangeLittle, changed, is_named}
+use Rattle.dm_places.proofs.Names.{receiver_in, taken, taken_out, answers, Asker, ends_move, moved_answer, without_note, arith}
 use Rattle.dm_switchboard.specs.Taking as board
 use Rattle.dm_procman.specs.Taking as manage
 
@@ -74,9 +74,6 @@ only_takes l id o = record {
 leaves : (l : Placed) (e : Label) (m : Placed) → Leaves l (changed l e) (taken e) m → Changes l e m
 leaves l e m h = record { processes = h.processes; sent = h.sent; bag = h.bag; board = λ k. h.board; manager = λ k. h.manager; notes = λ k. h.notes; noted = λ k. h.noted }
 
-ran_leaves : (l m : Placed) (p : Pid) (k : ℕ) → ran l p k ≡ Some m → Leaves l (Some p) None m
-ran_leaves l m p k e = search (arith, bind-is, sets)
-
 acts_leaves : (here : ℕ) (l m : Placed) (p : Pid) → acts here l p ≡ Some m → Leaves l (Some p) None m
 acts_leaves here l m p e =
     let (x, runs, rest) = bind-is (running l p) (λ (y : Process). bind (acted here y (instruction y.regs y.memory)) (λ (w : Acted). Some (with_acted l p w))) m e in
@@ -127,22 +124,18 @@ record Serves (l : Placed) (id : MsgId) (m : Placed) : Type 0 where
   notes : (q : Pid) → m.notes q ≡ l.notes q
   noted : (i : MsgId) → m.noted i ≡ l.noted i
 
-with_board : (l : Placed) (b : _) (o : Option Message) (i : MsgId) → (with_sent (record l { board = b }) o).bag i ≡ (with_sent l o).bag i
-with_board l b o i = search arith
-
-with_manager : (l : Placed) (g : _) (o : Option Message) (i : MsgId) → (with_sent (record l { manager = g }) o).bag i ≡ (with_sent l o).bag i
-with_manager l g o i = search arith
-
 takes_if : (here : ℕ) (l m : Placed) (id : MsgId) (n : Message) (b c : Bool)
     → (if b then bind (board.takes here l.board n.what) (λ (t : board.Taken). Some (board_took (without_message l id) t)) else if c then bind (manage.takes here l.manager n.id.n n.what) (λ (t : manage.Taken). Some (manager_took (without_message l id) t)) else None) ≡ Some m
     → Serves l id m
 takes_if here l m id n true c e =
+    let with_board : (l : Placed) (b : _) (o : Option Message) (i : MsgId) → (with_sent (record l { board = b }) o).bag i ≡ (with_sent l o).bag i = λ l b o i. search arith in
     let (t, is, last) = bind-is (board.takes here l.board n.what) (λ (t : board.Taken). Some (board_took (without_message l id) t)) m e in
     let f : board_took (without_message l id) t ≡ m = cc in
     subst (Serves l id) f
     (let u = record (without_message l id) { board = t.board } in
     record { processes = kept_processes u t.took.answer; sent = t.took.answer; bag = with_board (without_message l id) t.board t.took.answer; notes = kept_notes u t.took.answer; noted = kept_noted u t.took.answer })
 takes_if here l m id n false true e =
+    let with_manager : (l : Placed) (g : _) (o : Option Message) (i : MsgId) → (with_sent (record l { manager = g }) o).bag i ≡ (with_sent l o).bag i = λ l g o i. search arith in
     let (t, is, last) = bind-is (manage.takes here l.manager n.id.n n.what) (λ (t : manage.Taken). Some (manager_took (without_message l id) t)) m e in
     let f : manager_took (without_message l id) t ≡ m = cc in
     subst (Serves l id) f
@@ -151,7 +144,7 @@ takes_if here l m id n false true e =
 takes_if here l m id n false false e = cc
 
 pub steps_change_little : StepsChangeLittle
-steps_change_little here f images l m (Label.Ran p k) e = leaves l (Label.Ran p k) m (ran_leaves l m p k e)
+steps_change_little here f images l m (Label.Ran p k) e = leaves l (Label.Ran p k) m (let e_ : Leaves l (Some p) None m = search (arith, bind-is, sets) in e_)
 steps_change_little here f images l m (Label.Call p n c) e = leaves l (Label.Call p n c) m (acts_leaves here l m p e)
 steps_change_little here f images l m (Label.Send p id) e = leaves l (Label.Send p id) m (acts_leaves here l m p e)
 steps_change_little here f images l m (Label.Wait p) e = leaves l (Label.Wait p) m (acts_leaves here l m p e)

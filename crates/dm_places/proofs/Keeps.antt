@@ -1,6 +1,6 @@
 -- What each way of changing the kernel with places keeps: a process that goes on or ends, a message that comes or goes.
 use Rattle.dm_places.proofs.Names.{◌≡◌, Bool, false, refl, ap, ◌∙◌, sym, subst, inl, inr, if◌then◌else◌, option_map, Option, None, Some, cases_Bool, Pid, pid_eq, MsgId, Message, id_eq, PlainMessage, PlainWhat, plain_message, plain_what}
-use Rattle.dm_places.proofs.Names.{with_what, Process, Life, OneKernel, bind, plain_process, PlainProcess, pid_eq-is, id_eq-is, bind-is, View, Addresses, SameProcess, SameMessage, SameServers, Placed, Mirrors, MirrorsKernel, MirrorsMessage}
+use Rattle.dm_places.proofs.Names.{Process, Life, OneKernel, bind, plain_process, PlainProcess, pid_eq-is, id_eq-is, bind-is, View, Addresses, SameProcess, SameMessage, SameServers, Placed, Mirrors, MirrorsKernel, MirrorsMessage}
 use Rattle.dm_places.proofs.Names.{MirrorsPlaces, MirrorsProcess, with_message, with_process, with_sent, without_message, ℕ, Link, Place, place_of, Asker, Child, Name, Answer, AskedBy, AnswerNames, plain_note, with_note, without_note}
 use Rattle.dm_places.proofs.Names.{manager_request, arith}
 use Rattle.dm_onekernel.specs.Kernel as one
@@ -24,11 +24,8 @@ pub record Parts (m : Message) (o : Option PlainWhat) (k : PlainMessage) : Type 
   pub sender : m.sender.pid ≡ k.sender
   pub what : o ≡ Some k.what
 
-parts_of : (m : Message) (o : Option PlainWhat) (k : PlainMessage) → with_what m o ≡ Some k → Parts m o k
-parts_of m o k h1 = search arith
-
 pub parts : (m : Message) (k : PlainMessage) → plain_message m ≡ Some k → Parts m (plain_what m.what) k
-parts m k e = parts_of m (plain_what m.what) k e
+parts m k e = search arith
 
 -- without places
 both_if : {A B C : Type 0} (f : A → C) (g : B → C) (b : Bool) (x u : A) (y w : B) → f x ≡ g y → f u ≡ g w → f (if b then x else u) ≡ g (if b then y else w)
@@ -108,25 +105,21 @@ places_sends v a b l p y m h off on messages sent servers = record {
   asker = λ p k e. servers.asked p ∙ h.asker p k e;
 }
 
-stood : (l : Placed) (id i : MsgId) (m : Message) (b : Bool) → (if b then None else l.bag i) ≡ Some m → l.bag i ≡ Some m
-stood l id i m b h1 = search arith
-
 pub places_out : (v : View) (a : Addresses) (l : Placed) (id : MsgId) → MirrorsPlaces v a l → MirrorsPlaces v a (without_message l id)
-places_out v a l id h = search (h.message, stood)
+places_out v a l id h = let stood : (l : Placed) (id i : MsgId) (m : Message) (b : Bool) → (if b then None else l.bag i) ≡ Some m → l.bag i ≡ Some m = λ l id i m b h1. search arith in search (h.message, stood)
 
 pub this_process : (v : View) (a : Addresses) (p : Pid) (x : Process) → MirrorsProcess v a p x → (y : Process) → Some x ≡ Some y → MirrorsProcess v a p y
 this_process v a p x h y e = let f : x ≡ y = cc in subst (MirrorsProcess v a p) f h
-
--- a process goes on where it was
-pub places_goes : (v : View) (a : Addresses) (l : Placed) (p : Pid) (x : Process) → MirrorsPlaces v a l → MirrorsProcess v a p x → MirrorsPlaces v a (with_process l p (Some x))
-places_goes v a l p x h k = places_process v a a l p (Some x) h (λ q e. stays_process a q) (this_process v a p x k) (stays_message a) (stays_servers a)
 
 pub places_ends : (v : View) (a : Addresses) (l : Placed) (p : Pid) → MirrorsPlaces v a l → MirrorsPlaces v a (with_process l p None)
 places_ends v a l p h = places_process v a a l p None h (λ q e. stays_process a q) (λ x e. absurd (let f : None ≡ Some x = e in cc)) (stays_message a) (stays_servers a)
 
 -- a process goes on, without places too
 pub goes_mirrors : (s : OneKernel) (v : View) (a : Addresses) (l : Placed) (p : Pid) (x : Process) → Mirrors s v a l → MirrorsProcess v a p x → Mirrors (kernel.goes_on s p (plain_process x)) v a (with_process l p (Some x))
-goes_mirrors s v a l p x h k = record { plain = kernel_process s l p (one.Alive (plain_process x)) (Some x) refl h.plain; places = places_goes v a l p x h.places k }
+goes_mirrors s v a l p x h k =
+    -- a process goes on where it was
+    let places_goes : MirrorsPlaces v a (with_process l p (Some x)) = places_process v a a l p (Some x) h.places (λ q e. stays_process a q) (this_process v a p x k) (stays_message a) (stays_servers a) in
+    record { plain = kernel_process s l p (one.Alive (plain_process x)) (Some x) refl h.plain; places = places_goes }
 
 pub ends_mirrors : (s : OneKernel) (v : View) (a : Addresses) (l : Placed) (p : Pid) (y : _) → Mirrors s v a l → Mirrors (one.with_process s p (one.Ended y)) v a (with_process l p None)
 ends_mirrors s v a l p y h = record { plain = kernel_process s l p (one.Ended y) None refl h.plain; places = places_ends v a l p h.places }
@@ -149,11 +142,8 @@ noted_mirrors s v a b l p k processes messages child name answer off on h =
       };
     }
 
-still_noted : (l : Placed) (p q : Pid) (id : MsgId) (k : Asker) → (without_note l p id).notes q ≡ Some k → l.notes q ≡ Some k
-still_noted l p q id k e = search arith
-
 pub unnoted_mirrors : (s : OneKernel) (v : View) (a : Addresses) (l : Placed) (p : Pid) (id : MsgId) → Mirrors s v a l → Mirrors (one.without_note s p id) v a (without_note l p id)
-unnoted_mirrors s v a l p id h = search (arith, both_if, still_noted)
+unnoted_mirrors s v a l p id h = let still_noted : (l : Placed) (p q : Pid) (id : MsgId) (k : Asker) → (without_note l p id).notes q ≡ Some k → l.notes q ≡ Some k = λ l p q id k e. search arith in search (arith, both_if, still_noted)
 
 pub out_mirrors : (s : OneKernel) (v : View) (a : Addresses) (l : Placed) (i : MsgId) → Mirrors s v a l → Mirrors (service.without_message s i) v a (without_message l i)
 out_mirrors s v a l i h = record { plain = kernel_out s l i h.plain; places = places_out v a l i h.places }

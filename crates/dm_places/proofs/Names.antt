@@ -8,7 +8,7 @@ pub use Rattle.dm_linktable.proofs.Plain.{plain_map_retargeted}
 pub use Rattle.dm_schedule.proofs.Names.{if◌then◌else◌, nat_lt, not}
 pub use Rattle.dm_process.proofs.Names.{Message}
 pub use Rattle.dm_linkupdate.proofs.Names.{Addr, None, Option, Process, Some, Status, applied, relocated, retargeted, retargeted_link, status_after}
-pub use Rattle.dm_statebytes.proofs.Names.{Direction, Regs, begun_process, inl, inr, nat_le, slice_set, ◌⊎◌}
+pub use Rattle.dm_statebytes.proofs.Names.{AllByRecursion, Direction, Regs, begun_process, inl, inr, nat_le, slice_set, ◌⊎◌}
 pub use Rattle.dm_migrate.proofs.Names.{Asker, PlainWhat, What, plain_message, plain_what, sent_on, with_what}
 pub use Rattle.dm_migrate.specs.Asking.{asker_of, manager_request, moved_answer}
 pub use Rattle.dm_onekernel.specs.Start.{memory_of}
@@ -35,7 +35,7 @@ pub use Rattle.dm_syscall.proofs.Names.{Completion, Done, Rest, User, calls, com
 pub use Rattle.dm_syscall.proofs.PlainCalls.{call_plainly, first_of, slot_at}
 pub use Rattle.dm_syscall.specs.declared.Called.{Called}
 pub use Rattle.dm_syscall.specs.declared.Completed.{Completed}
-pub use Rattle.dm_rule.proofs.Hearing.{IsHeardLine, hears_kept}
+pub use Rattle.dm_rule.proofs.Hearing.{hears_kept}
 pub use Rattle.dm_rule.proofs.Homes.Calls.{gives_by, no_gives, or-left, or-right}
 pub use Rattle.dm_rule.proofs.Homes.Lines.{first_none, own_none}
 pub use Rattle.dm_rule.proofs.Homes.Manager.{enclosed_at}
@@ -48,16 +48,17 @@ pub use Rattle.dm_rule.proofs.Homes.Steps.{OnlySlots, gives_same, made_is, only_
 pub use Rattle.dm_rule.proofs.Letters.{not_kernels}
 pub use Rattle.dm_rule.proofs.Names.{About, Addresses, Again, Answer, AskedBy, Child, Enclosed, Fault, Forward, Frozen, Gets, Holder, Inbox, IsStep, Known, Leads, Line, Load, MessageKind, Name, NamedLink, One, Owner, Owns, Pair, Part}
 pub use Rattle.dm_rule.proofs.Names.{Place, Point, Receiver, Routes, Says, Sender, SentLoad, Slot, Sort, Sound, Spelled, Spot, Stage, Step, TellsRight, Told, Transmits, View, acting_place, after, after_head, after_label}
-pub use Rattle.dm_rule.proofs.Names.{after_line, after_step, all_follow, answer_gets, ascends, at_hand-is, at_pid, behind, behind_count, belongs_to, bind-is, board_finds, board_keeps, board_takes_burden, call_gets}
-pub use Rattle.dm_rule.proofs.Names.{child_number, enclosed_from, encloses, ends_move-is, fills, fills_by, filter, filter_map, first_addresses, first_gives, first_point, first_view, forwarded_for, forwards, gets, child_links}
-pub use Rattle.dm_rule.proofs.Names.{given, gives, group_of, handled, id_eq-is, id_eq-same, id_eq-swap, is_kernels, is_told_back, kernel_after, label_of, landing_gets, leads_to, lines_of, link_target, links_at, manager_answers}
-pub use Rattle.dm_rule.proofs.Names.{manager_sends, manager_takes_burden, moved, option_map_or, outcome, own_given, own_id, owner_in, pid_eq-is, pid_eq-same, place_known, place_named, place_of, place_told, plain_kind, puts}
-pub use Rattle.dm_rule.proofs.Names.{receiver_of, receives_burden, receives_links, reply_eq, seen, sends_burden, serves_burden, slot_after, slots_of, slots_with, sort_of, spelled, standing, start-sound, times, told_back_gets, unmoved}
-pub use Rattle.dm_rule.proofs.Names.{updated, updated_to, view_after, when-is, why_eq}
+pub use Rattle.dm_rule.proofs.Names.{after_line, after_step, all_follow, answer_gets, ascends, at_hand-is, behind_count, belongs_to, bind-is, board_finds, board_keeps, board_takes_burden, call_gets}
+pub use Rattle.dm_rule.proofs.Names.{child_links, child_number, enclosed_from, encloses, ends_move-is, fills, fills_by, filter, filter_map, first_addresses, first_gives, first_point, first_view, forwarded_for, forwards, gets, given, gives}
+pub use Rattle.dm_rule.proofs.Names.{group_of, handled, id_eq-is, id_eq-same, id_eq-swap, is_kernels, is_told_back, kernel_after, label_of, landing_gets, leads_to, lines_of, link_target, links_at, manager_answers, manager_sends}
+pub use Rattle.dm_rule.proofs.Names.{manager_takes_burden, moved, option_map_or, or_left, or_right, outcome, own_given, own_id, pid_eq-is, pid_eq-same, place_known, place_named, place_of, place_told, plain_kind, puts, receiver_of}
+pub use Rattle.dm_rule.proofs.Names.{receives_burden, receives_links, reply_eq, seen, sends_burden, serves_burden, slot_after, slots_of, slots_with, sort_of, spelled, standing, start-sound, times, told_back_gets, unmoved, updated}
+pub use Rattle.dm_rule.proofs.Names.{updated_to, view_after, when-is, why_eq}
+pub use Rattle.dm_rule.proofs.Outcomes.{by_group, by_parts}
 pub use Rattle.dm_rule.proofs.Pairs.Moves.{or_first, or_first as or_second}
 pub use Rattle.dm_rule.proofs.Requests.{by_migrates}
 pub use Rattle.dm_rule.proofs.Worked.{hi}
-pub use Rattle.dm_rule.specs.Addresses.{board_asks, addresses_by}
+pub use Rattle.dm_rule.specs.Addresses.{board_asks, owner_in, addresses_by}
 pub use Rattle.dm_rule.specs.Migrating.{answers_in, behind_among, holders_numbered, holders_of, slot_holders}
 pub use Rattle.dm_rule.specs.View.{first_told, is_own}
 pub use Rattle.dm_places.specs.Changes.{Changes, StepsChangeLittle, changed, is_named, receiver_in, taken, taken_out}

@@ -2,7 +2,6 @@
 use Rattle.dm_places.proofs.Names.{◌≡◌, ℕ, Bool, List, [], ◌∷◌, refl, ap, ◌∙◌, sym, if◌then◌else◌, Option, Some, Pid, MsgId, MessageKind, plain_kind, PlainMessage, bind, arith, nat_tests, id_eq-is, bind-is, Line, Load, Told, own_id}
 use Rattle.dm_places.proofs.Names.{Receiver, Again, Routes, lines_of, puts, Point, after, moved, Placed, MirrorsPoint, Gets, given}
 use Rattle.dm_places.proofs.Lines.{lines_keep, routed_keeps, told_keeps}
-use Rattle.dm_places.proofs.OwnPuts.{put_own_id}
 
 -- what the packet leaves as it is
 pub record SamePoint (pt pt' : Point) : Type 0 where
@@ -12,12 +11,9 @@ pub record SamePoint (pt pt' : Point) : Type 0 where
   pub told : (i : MsgId) → pt'.view.told i ≡ pt.view.told i
   pub mirrors : (l : Placed) → MirrorsPoint pt l → MirrorsPoint pt' l
 
-same_point : (pt : Point) → SamePoint pt pt
-same_point pt = record { kernel = refl; addresses = refl; own = refl; told = λ i. refl; mirrors = λ l h. h }
-
 -- the packet after a put speaks of the view before it
 packet_after : (pt pt' mid : Point) (a b n k : ℕ) (c d : Bool) → after mid (if c then [] else if d then Line.Packet a b k (Load.Data n) ∷ [] else []) ≡ Some pt' → SamePoint mid pt'
-packet_after pt pt' mid a b n k c d h1 = search (arith, same_point, lines_keep)
+packet_after pt pt' mid a b n k c d h1 = let same_point : (pt : Point) → SamePoint pt pt = λ pt. record { kernel = refl; addresses = refl; own = refl; told = λ i. refl; mirrors = λ l h. h } in search (arith, same_point, lines_keep)
 
 pub puts_same : (pt pt' : Point) (b : ℕ) (id : MsgId) (k : MessageKind) (q : Pid) → after pt (puts pt.view b id k q) ≡ Some pt' → SamePoint (moved pt (Line.Put pt.view.acting b id k q) pt.kernel) pt'
 puts_same pt pt' b id k q e = search (arith, packet_after)
@@ -35,14 +31,10 @@ pub routes_kernel : (pt pt' : Point) (id : MsgId) (ls : List Line) → lines_of 
 routes_kernel pt pt' id ls is next = grind (arith, nat_tests, bind-is, puts_same)
 
 -- a message that goes on: it was told of before, so all stays
-told_stays : (pt : Point) (a b : ℕ) (id : MsgId) (k : MessageKind) (q : Pid) (t : Told) (i : MsgId) → pt.view.told id ≡ Some t → (moved pt (Line.Put a b id k q) pt.kernel).view.told i ≡ pt.view.told i
-told_stays pt a b id k q t i told = grind (arith, nat_tests, id_eq-is)
-
 pub again_same : (pt pt' : Point) (id : MsgId) (b : ℕ) (t : Told) (ls : List Line) → pt.view.told id ≡ Some t → lines_of pt (Again id b) ≡ Some ls → after pt ls ≡ Some pt' → SamePoint pt pt'
 again_same pt pt' id b t ls told is next =
     let a = pt.view.acting in
     let x = Line.Put a b id t.kind t.receiver in
-    let mid = moved pt x pt.kernel in
     let lines : Some (puts pt.view b id t.kind t.receiver) ≡ Some ls = sym (ap (λ (o : Option Told). bind o (λ (w : Told). Some (puts pt.view b id w.kind w.receiver))) told) ∙ is in
     let f : puts pt.view b id t.kind t.receiver ≡ ls = cc in
     let keeps = told_keeps pt a b id t.kind t.receiver t told in
@@ -50,7 +42,7 @@ again_same pt pt' id b t ls told is next =
     record {
       kernel = s.kernel;
       addresses = s.addresses ∙ ap (λ (g : List Gets). given pt.addresses g) keeps;
-      own = s.own ∙ put_own_id pt a b id t.kind t.receiver t told;
-      told = λ i. s.told i ∙ told_stays pt a b id t.kind t.receiver t i told;
-      mirrors = λ l h. s.mirrors l (lines_keep pt mid l x keeps h refl);
+      own = s.own ∙ (let e_ : own_id (moved pt (Line.Put a b id t.kind t.receiver) pt.kernel).view ≡ own_id pt.view = grind (arith, nat_tests) in e_);
+      told = λ i. s.told i ∙ (let e_ : (moved pt (Line.Put a b id t.kind t.receiver) pt.kernel).view.told i ≡ pt.view.told i = grind (arith, nat_tests, id_eq-is) in e_);
+      mirrors = λ l h. s.mirrors l (lines_keep pt (moved pt x pt.kernel) l x keeps h refl);
     }

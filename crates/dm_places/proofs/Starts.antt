@@ -1,7 +1,7 @@
 -- Where a run begins, the boot file's processes with their links mirror the first point.
 use Rattle.dm_places.proofs.Names.{◌≡◌, ℕ, zero, suc, Bool, List, [], ◌∷◌, refl, ap, ◌∙◌, sym, inl, inr, if◌then◌else◌, map, option_map, slice_get, Option, None, Some, cases_Bool, Pid, Addr, pid_eq, place_of, plain_link, Process}
-use Rattle.dm_places.proofs.Names.{begun_process, BootImage, BootProcess, Boot, slots_of, Alive, Life, plain_process, memory_of, slots_with, child_at_home, plain_child, pid_eq-is, first_view, first_addresses, links_at, unmoved}
-use Rattle.dm_places.proofs.Names.{MirrorsProcess, started, started_at, StartMirrors, option_map_or, arith}
+use Rattle.dm_places.proofs.Names.{begun_process, BootImage, BootProcess, Boot, slots_of, Alive, plain_process, memory_of, slots_with, child_at_home, plain_child, pid_eq-is, first_view, first_addresses, links_at, unmoved, MirrorsProcess}
+use Rattle.dm_places.proofs.Names.{started, started_at, StartMirrors, option_map_or, arith}
 use Rattle.dm_places.proofs.Labels.Creates.{begun_link, begun_plainly}
 use Rattle.dm_onekernel.specs.Start as one
 use Rattle.dm_onekernel.specs.Step as kernel
@@ -13,13 +13,9 @@ started_plainly_of : (b : Boot) (p : BootProcess) (o : Option BootImage)
 started_plainly_of b p None = refl
 started_plainly_of b p (Some image) = ap Some (begun_plainly b.format p.pid image p.links)
 
-started_if : (b : Boot) (p : BootProcess) (c : Bool) (x : Option Life) (y : Option Process) → kernel.alive x ≡ option_map plain_process y
-    → kernel.alive (if c then one.first_life b p else x) ≡ option_map plain_process (if c then started b p else y)
-started_if b p c x y h1 = search (arith, started_plainly_of)
-
 started_plainly : (b : Boot) (ps : List BootProcess) (q : Pid) → kernel.alive (one.life_at b ps q) ≡ option_map plain_process (started_at b ps q)
 started_plainly b [] q = refl
-started_plainly b (p ∷ ps) q = started_if b p (pid_eq p.pid q) (one.life_at b ps q) (started_at b ps q) (started_plainly b ps q)
+started_plainly b (p ∷ ps) q = search (arith, started_plainly_of, started_plainly b ps q)
 
 children_plainly : (ps : List BootProcess) → map plain_child (map child_at_home ps) ≡ map (λ (p : BootProcess). p.pid) ps
 children_plainly [] = refl

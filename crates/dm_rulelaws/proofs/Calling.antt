@@ -1,6 +1,6 @@
 -- What a call of a process comes to, row by row: whatever holds of each row holds of the call.
-use Rattle.dm_rulelaws.proofs.Names.{◌≡◌, ℕ, ◌+◌, ◌==◌, ◌||◌, Bool, false, List, [], ◌∷◌, refl, nat_lt, if◌then◌else◌, Option, None, Some, Pid, PlainLink, first_empty, link_at, direction_numbered, Direction, Reply, Why, PlainProcess}
-use Rattle.dm_rulelaws.proofs.Names.{Waiting, reg, first_failed, Called, Sends, Waits, CallNumber, Check, arith}
+use Rattle.dm_rulelaws.proofs.Names.{◌≡◌, ℕ, ◌+◌, ◌==◌, Bool, false, List, [], ◌∷◌, refl, nat_lt, if◌then◌else◌, Option, None, Some, Pid, PlainLink, first_empty, link_at, direction_numbered, Direction, Reply, Why, PlainProcess, Waiting}
+use Rattle.dm_rulelaws.proofs.Names.{reg, first_failed, Called, Sends, Waits, CallNumber, Check, arith, neither}
 use Rattle.dm_onekernel.specs.Pieces as pieces
 use Rattle.dm_onekernel.specs.Calls as calls
 
@@ -35,9 +35,6 @@ others (c ∷ cs) = cs
 none_failed : (cs : List Check) → first_failed cs ≡ None → (first_fails cs ≡ false) × (first_failed (others cs) ≡ None)
 none_failed cs h1 = search arith
 
-neither : (c d : Bool) → (c || d) ≡ false → (c ≡ false) × (d ≡ false)
-neither c d h1 = search arith
-
 by_slot : (P : Called → Type 0) (x : PlainProcess) (l : PlainLink) (o : Option ℕ) → ((c : Reply) → P (calls.refused c x)) → ((slot : ℕ) → P (calls.puts_link x l (Some slot))) → P (calls.puts_link x l o)
 by_slot P x l None h k = h Reply.TableFull
 by_slot P x l (Some slot) h k = k slot
@@ -71,8 +68,7 @@ by_number P p x calls.Exit h = h.ends Why.Exit
 by_number P p x calls.Out h = h.outputs
 by_number P p x calls.Make h = by_refusals P x (first_failed (calls.make_refusals x)) (calls.puts_link x (calls.own_link p x) (first_empty x.links)) h.refuses (λ e.
     let first = none_failed (calls.make_refusals x) e in
-    let within = neither (nat_lt 31 (reg x.regs 2)) (calls.is_outside x (reg x.regs 4) (reg x.regs 5)) (none_failed (others (calls.make_refusals x)) first.1).0 in
-    by_slot P x (calls.own_link p x) (first_empty x.links) h.refuses (λ slot. h.makes slot within.1))
+    by_slot P x (calls.own_link p x) (first_empty x.links) h.refuses (λ slot. h.makes slot (neither (nat_lt 31 (reg x.regs 2)) (calls.is_outside x (reg x.regs 4) (reg x.regs 5)) (none_failed (others (calls.make_refusals x)) first.1).0).1))
 by_number P p x calls.Copy h = by_copies P p x (link_at x.links (reg x.regs 1)) refl h
 by_number P p x calls.Drop h = by_drops P p x (link_at x.links (reg x.regs 1)) h
 by_number P p x calls.Send h = by_sends P p x (link_at x.links (reg x.regs 1)) refl h

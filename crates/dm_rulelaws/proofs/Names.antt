@@ -1,10 +1,10 @@
 -- What the proofs of this crate name of what lies below it.
-pub use Rattle.std.proofs.lemmas.List.{length-drop, length-replicate, length-take}
+pub use Rattle.std.proofs.lemmas.Bool.{or_parts as neither}
+pub use Rattle.std.proofs.lemmas.List.{length-drop, length-replicate, length-take, nil_from_length}
 pub use Rattle.dm_processor.proofs.Lengths.{instruction-lengths}
-pub use Rattle.dm_processor.proofs.Names.{Bool, KeepsLengths, List, Row, [], ap, arith, common_steps, drop, false, instruction, length, nat_tests, refl, replicate, suc, sym, take, true, zero, ℕ, ◌*◌, ◌++◌, ◌+◌, ◌-◌, ◌/◌, ◌<◌, ◌∙◌, ◌∷◌, ◌≡◌}
-pub use Rattle.dm_processor.proofs.Names.{◌≤◌}
+pub use Rattle.dm_processor.proofs.Names.{Bool, List, Row, [], ap, arith, common_steps, drop, false, instruction, length, nat_tests, refl, replicate, suc, sym, take, true, zero, ℕ, ◌*◌, ◌++◌, ◌+◌, ◌-◌, ◌/◌, ◌<◌, ◌∙◌, ◌∷◌, ◌≡◌, ◌≤◌}
 pub use Rattle.dm_linktable.proofs.Names.{Link, Pid, first_empty, length-map, link_at, map, pid_eq, subst, ◌&&◌, ◌==◌, ◌≢◌}
-pub use Rattle.dm_schedule.proofs.Names.{if◌then◌else◌, nat_lt, not}
+pub use Rattle.dm_schedule.proofs.Names.{append-nil, if◌then◌else◌, nat_lt, not}
 pub use Rattle.dm_process.proofs.Names.{min, slice_get}
 pub use Rattle.dm_onekernel.specs.Boot.{area_is_empty, blocks_of_image, controls_child, leads_to_process, leads_to_server, link_is_valid, links_are_valid, memory_size, process_is_valid, process_named}
 pub use Rattle.dm_onekernel.specs.Codes.{why_code}
@@ -36,14 +36,14 @@ pub use Rattle.dm_rule.proofs.Homes.Start.{Homes-start}
 pub use Rattle.dm_rule.proofs.Homes.Turns.{for_home, home_group, none_replaced, runnable_home}
 pub use Rattle.dm_rule.proofs.Hushed.{hushed, is_put}
 pub use Rattle.dm_rule.proofs.Letters.{kernels_fresh, letters, letters_bag, not_kernels}
-pub use Rattle.dm_rule.proofs.Lines.{at_machine_at, at_place, at_record_at, eq_is, eq_self, hidden, not_true, pair_keeps, parts}
+pub use Rattle.dm_rule.proofs.Lines.{at_machine_at, at_place, at_record_at, eq_is, eq_self, hidden, is_inbox, not_true, pair_keeps, parts, taken_pair}
 pub use Rattle.dm_rule.proofs.Lives.{Kept, grown_none}
 pub use Rattle.dm_rule.proofs.Moves.Lists.{both_lists, both_times, first_off, flip_zero, under_way, without_all, without_at, zero_cases}
 pub use Rattle.dm_rule.proofs.Moves.Sent.{least_of, sent_way}
 pub use Rattle.dm_rule.proofs.Moves.States.{front_kernels, front_one, front_way, not_first}
 pub use Rattle.dm_rule.proofs.Names.{About, Addresses, Again, Answer, AreStill, AskNone, AskedBy, Child, Enclosed, Forward, Frozen, Gets, Held, Here, Holder, Inbox, Incoming, IsIn, IsStep, IsStill, Known, LandsSo, Leads, LifeGrows, Line}
-pub use Rattle.dm_rule.proofs.Names.{Load, Made, MessageKind, Moves, Name, NamedLink, Next, NothingElse, Of, Owner, Owns, Pair, Part, Phase, Place, Point, Queue, Receiver, Regs, Rests, Routes, Runs, Says, Sender, ServerSends, Slot, Sort}
-pub use Rattle.dm_rule.proofs.Names.{Sound, Spelled, Spot, Stage, StandsAsBag, StandsNowhere, StandsOutside, StandsRight, Step, Target, Todo, Told, Transmits, Unknown, Untaken, View, accepts, after, after_head, after_label, after_line}
+pub use Rattle.dm_rule.proofs.Names.{Load, Made, MessageKind, Moves, Name, NamedLink, Next, NothingElse, Of, Owner, Owns, Pair, Part, Phase, Place, Point, Queue, Receiver, Rests, Routes, Runs, Says, Sender, ServerSends, Slot, Sort, Sound}
+pub use Rattle.dm_rule.proofs.Names.{Spelled, Spot, Stage, StandsAsBag, StandsNowhere, StandsOutside, StandsRight, Step, Target, Todo, Told, Transmits, Unknown, Untaken, View, accepts, after, after_head, after_label, after_line}
 pub use Rattle.dm_rule.proofs.Names.{after_proto, after_put, after_stage, after_step, after_taken, alive-is, all_follow, answers_move, are_for_home, are_home, ascends, asker_in, at_hand-is, at_id, at_machine, at_pair}
 pub use Rattle.dm_rule.proofs.Names.{at_record, begins, behind, bind-is, board_takes_burden, board_takes_lem, child_number, chunks_of, completing, cons_option, counts, dropped_for, ended, ends_by, ends_move-is}
 pub use Rattle.dm_rule.proofs.Names.{filter, filter_map, first_gives, first_point, first_view, fits, forward_about, forwarded_for, forwards, forwards_on, free_room, front_of, given, gives, gives_piece, goes_out, gone_to, group_of, handled}
@@ -52,8 +52,8 @@ pub use Rattle.dm_rule.proofs.Names.{kernel_after, kernel_hears, kind_comes, kin
 pub use Rattle.dm_rule.proofs.Names.{manager_takes_lem, marked, migrates, moved, moved_back, names, nexts, not_server, oldest, on_mask, option_and_then, option_map_or, outcome, own_given, own_id, packet_line, pending_of}
 pub use Rattle.dm_rule.proofs.Names.{pid_eq-is, pid_eq-same, pieces_of, place_known, place_told, plain_kind, process_told, puts, queued_for, receiver_in, receiver_of, reply_code, reply_eq, right_true, ring_at, routed_on, seen, sender_in}
 pub use Rattle.dm_rule.proofs.Names.{sender_of, sends_on, sent_at, served_told, serves_burden, slice_set, slots_of, slots_with, sort_of, spelled, standing, start-sound, stayed, taken_id, takes_block, takes_chunk, target_of}
-pub use Rattle.dm_rule.proofs.Names.{tells_asker, times, to_kernel, to_of, told_back_gets, told_between, told_ended, told_here, told_server, told_step, topic_by, unentered, untaken, updated, updated_to, updates, view_after, when-is}
-pub use Rattle.dm_rule.proofs.Names.{without, without_front, without_id, ◌||◌}
+pub use Rattle.dm_rule.proofs.Names.{tells_asker, times, to_kernel, to_of, told_back_gets, told_between, told_here, told_server, told_step, topic_by, unentered, untaken, updated, updated_to, updates, view_after, when-is, without}
+pub use Rattle.dm_rule.proofs.Names.{without_front, without_id, ◌||◌}
 pub use Rattle.dm_rule.proofs.Once.{one_of}
 pub use Rattle.dm_rule.proofs.Outcomes.{by_group, by_net, by_outcome, by_parts}
 pub use Rattle.dm_rule.proofs.Pairs.Moves.{or_first}
@@ -77,22 +77,23 @@ pub use Rattle.dm_rule.proofs.Telling.{AllSayable, Sane, Sayable, came_from, out
 pub use Rattle.dm_rule.proofs.Trails.Labels.{label_told, label_topic}
 pub use Rattle.dm_rule.proofs.Trails.Lines.{behind_where, forwarded_back, leads_where, unnamed_receiver, unnamed_sender}
 pub use Rattle.dm_rule.proofs.Trails.Places.{Comes, Goes, Links, Named, holder_is}
-pub use Rattle.dm_rule.proofs.Trails.Puts.{child_is, is_own, not_own, plain_gives, put_named, told_again}
+pub use Rattle.dm_rule.proofs.Trails.Puts.{child_is, is_own, plain_gives, put_named, routed_named, told_again}
 pub use Rattle.dm_rule.proofs.Trails.Spares.{Outside, creates_what_spares, finds_spares, gives_spares, keeps_spares, made_spares, manager_takes_spares, not_is, receives_spares, sends_spares, spared_receiver, spared_sender, spares}
 pub use Rattle.dm_rule.proofs.Trails.Spares.{spares_both, two_more}
 pub use Rattle.dm_rule.proofs.Trails.Steps.{destination_expects, source_holds}
+pub use Rattle.dm_rule.proofs.Trails.Treads.{at_view}
 pub use Rattle.dm_rule.proofs.Turns.{served_keeps}
 pub use Rattle.dm_rule.specs.Addresses.{goes_between, owner_in}
 pub use Rattle.dm_rule.specs.Good.{IsRun}
 pub use Rattle.dm_rule.specs.Phases.{tells_between, tells_onward}
 pub use Rattle.dm_rule.specs.Point.{labels, with_label, move_target}
-pub use Rattle.dm_rule.specs.View.{first_told, rejoins, target_in}
+pub use Rattle.dm_rule.specs.View.{first_told, rejoins}
 pub use Rattle.dm_rulelaws.specs.Fits.{Each, IsPending, KernelFits, LinkFits, Lives, NoteFits, PendingFits, ProcessFits, SlotFits, WhatFits, awaits, gives_no_right, has_bytes, is_for, is_server, kind_eq, move_fits, piece_fits}
 pub use Rattle.dm_rulelaws.specs.Fits.{status_awaits, takes_users}
 pub use Rattle.dm_rulelaws.specs.Found.{Found, ListsStand, has_no_queue, has_nothing_held, is_fixed, machine_of}
 pub use Rattle.dm_rulelaws.specs.KnownStands.{KnownStands, agrees, rings, server_at, turns_here}
 pub use Rattle.dm_rulelaws.specs.Laws.{FitsAlways, FoundAlways, GoesOnAlways, KnownAlways, RuleDecides, ShorterBegins}
 pub use Rattle.dm_rulelaws.specs.Order.{LeadsBy, ReceivesInOrder, channel_in}
+pub use Rattle.std.specs.Str.{bytes_eq}
 pub use Rattle.dm_rule.specs.Holders.{acting_place, gets}
 pub use Rattle.std.specs.List.{position_from}
-pub use Rattle.std.specs.Str.{bytes_eq}

@@ -45,8 +45,7 @@ pub replay_fits : (ls : List Label) (r e : MsgId → ℕ) (s t : OneKernel) → 
 replay_fits [] r e s t is h order fits = search arith
 replay_fits (l ∷ ls) r e s t is h order fits =
     let (u, first, rest) = bind-is (kernel.step s l) (λ (v : OneKernel). replay v ls) t is in
-    let a = after_step r e s u l first h in
-    replay_fits ls (λ i. r i + reception i l) (λ i. e i + entry i s u) u t rest a.sound ((step_constant s u l first).pending order) (fits_step r e s u l first h order fits)
+    replay_fits ls (λ i. r i + reception i l) (λ i. e i + entry i s u) u t rest (after_step r e s u l first h).sound ((step_constant s u l first).pending order) (fits_step r e s u l first h order fits)
 
 fits_on : (b : Boot) (es : List Step) (pt end : Point) (r e : MsgId → ℕ) → Leads b pt es end → Sound r e pt.kernel → InOrder pt.kernel.manager → KernelFits pt.kernel → KernelFits end.kernel
 fits_on b [] pt end r e leads h order fits = subst (λ (v : Point). KernelFits v.kernel) leads fits

@@ -1,10 +1,11 @@
 -- All that holds wherever the rule leads holds at the start and behind each group; and so the laws.
-use Rattle.dm_rulelaws.proofs.Names.{List, Boot, IsValid, Step, Leads, Point, first_point, FoundAlways, GoesOnAlways, KnownAlways, ReceivesInOrder}
+use Rattle.dm_rulelaws.proofs.Names.{List, Boot, IsValid, Step, Leads, Point, first_point, FoundAlways, GoesOnAlways, KnownAlways, ReceivesInOrder, ap, is_some}
 use Rattle.dm_rulelaws.proofs.Based.Always.{based_start, based_group}
 use Rattle.dm_rulelaws.proofs.Found.Always.{FoundBy, found_start, found_group, found_of}
-use Rattle.dm_rulelaws.proofs.Goes.Runs.{Both, RunStarts, RunGoes, both_always, goes_on_by}
+use Rattle.dm_rulelaws.proofs.Goes.Runs.{Both, RunStarts, RunGoes, both_always}
 use Rattle.dm_rulelaws.proofs.Order.Always.{receives_in_order_by}
 use Rattle.dm_rulelaws.proofs.Runs.{Based, Run}
+use Rattle.dm_rulelaws.proofs.Goes.Always.{goes_on}
 
 run_by : (b : Boot) (pt : Point) → Based b pt → FoundBy pt → Run b pt
 run_by b pt based kept = record { based = based; found = found_of pt based.phased kept; kept = kept }
@@ -22,7 +23,12 @@ pub run_always : (b : Boot) (es : List Step) (pt : Point) → IsValid b → Lead
 run_always = both_always run_start run_group
 
 pub goes_on_always : GoesOnAlways
-goes_on_always = goes_on_by run_start run_group
+goes_on_always =
+    -- each directive has its group
+    let goes_on_by : RunStarts → RunGoes → GoesOnAlways = λ starts goes b es pt e valid leads fit.
+      let h = both_always starts goes b es pt valid leads in
+      ap is_some (goes_on b pt e valid h.run h.own fit).1 in
+    goes_on_by run_start run_group
 
 pub known_always : KnownAlways
 known_always b es pt valid leads = (run_always b es pt valid leads).run.based.known

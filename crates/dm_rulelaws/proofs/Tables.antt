@@ -56,10 +56,3 @@ end_tables s p y h = record {
 -- a process goes on with as many slots
 abbrev pub SameSlots : PlainProcess → PlainProcess → Type 0
 SameSlots x y = length y.links ≡ length x.links
-
-pub goes_tables : (s : OneKernel) (p : Pid) (x y : PlainProcess) → s.processes p ≡ Some (Alive x) → SameSlots x y → Tables s → Tables (with_process s p (Alive y))
-goes_tables s p x y is same h = set_tables s p y (same ∙ h.slots p x is) h
-
--- the receiver of a message goes on
-pub changed_tables : (s : OneKernel) (id : MsgId) (m : PlainMessage) (x y : PlainProcess) → s.processes m.to ≡ Some (Alive x) → SameSlots x y → Tables s → Tables (service.changed s id m y)
-changed_tables s id m x y is same h = goes_tables (without_message s id) m.to x y is same (out_tables s id h)

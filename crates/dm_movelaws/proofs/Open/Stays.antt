@@ -45,7 +45,7 @@ moving_at b pt d w p k s t id earlier g l run phase e split begun =
     let alone = moving_alone b pt d w p k s t id (rooted pt phased.sane phased.ground) phase e in
     let rest = alone_rest p earlier (l ∷ g) pt m.mid (subst (AllAlone p pt) split alone) m.comes in
     let fine = fine_at p (mark_in (Moves k s t id)) earlier g l pt m.mid (subst (Fine p pt (mark_in (Moves k s t id))) split (group_fine p (mark_in (Moves k s t id)) b pt d w phased.sane (moving_off pt p k s t id phase) e)) m.comes begun in
-    let free = leaves_free pt.kernel.machines pt.view s p k t (pt.view.known s p) (source_knows k s t id (pt.view.known s p) (phase.known s)) (run.kept.known s p) in
+    let free = leaves_free pt.kernel.machines pt.view s p k t (pt.view.known s p) (source_knows k s t id (pt.view.known s p) (phase.known s)) (run.kept.line.known s p) in
     record {
       mid = m.mid;
       comes = m.comes;

@@ -285,7 +285,7 @@ record RealAt (pt : Point) : Type 0 where
 
 receivers : (b : Boot) (pt : Point) → Run b pt → RealAt pt → Receivers pt
 receivers b pt run h i t told = elim (cases_Bool (is_kernels i)) [
-  | inl own ↦ core_real b pt t.receiver run (run.kept.real i t told own).0
+  | inl own ↦ core_real b pt t.receiver run (run.kept.line.real i t told own).0
   | inr other ↦ h.receiver i t told other
 ]
 
@@ -296,7 +296,7 @@ begins_real : (b : Boot) (pt : Point) (d : Step) → IsStep pt.kernel.machines d
 begins_real b pt d fit run h =
     let same : (i : MsgId) → (after_head pt.view d).told i ≡ pt.view.told i = told_by pt.view (Line.Head d) refl in
     record {
-      within = line_within pt.kernel.machines pt.view (Line.Head d) (head_less pt.kernel.machines d fit) (record { known = λ m q some. run.found.known_within m q some; acting = run.kept.acting });
+      within = line_within pt.kernel.machines pt.view (Line.Head d) (head_less pt.kernel.machines d fit) (record { known = λ m q some. run.found.known_within m q some; acting = run.kept.line.acting });
       fits = run.based.fits;
       order = run.based.pending;
       rises = rises_same pt.kernel;

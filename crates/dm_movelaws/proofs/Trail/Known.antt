@@ -39,7 +39,7 @@ carries = record {
   start = λ b valid. record { valid = valid; both = both_start run_start b valid; places = places_start b };
   fits = λ b x e w step is h on. good_fit w.lines x.point x.trails (good b x e w is h on);
   keeps = λ b x y e w step is comes h on. behind_group b x y e w step is comes h on;
-  within = λ b x h. record { known = λ m q some. h.both.run.found.known_within m q some; acting = h.both.run.kept.acting };
+  within = λ b x h. record { known = λ m q some. h.both.run.found.known_within m q some; acting = h.both.run.kept.line.acting };
 }
 
 pub trails_always : TrailsAlways

@@ -295,7 +295,7 @@ heard o m i is u p start h front told about between =
 front_walks : (b : Boot) (o : Point) (t : Trails) (m : ℕ) (i : MsgId) (is : List MsgId) (k : PlainMessage) (ps : List Part) → Begins o m → FoundBy o → Places o.view t → o.view.inbox m ≡ i ∷ is → o.kernel.bag i ≡ Some k → rule.handles b o m i k ≡ Some ps → Walks (turned o m) t ps
 front_walks b o t m i is k ps start h at front there =
     let pt = turned o m in
-    let stands = h.places i (Inbox m) (stands_first o.view m i is front) in
+    let stands = h.line.places i (Inbox m) (stands_first o.view m i is front) in
     let (u, told) = told_there (o.view.told i) stands.1 in
     let to_same : u.receiver ≡ k.to = start.sane.tells.receiver i k u there told in
     let kind_same : u.kind ≡ plain_kind k.what = start.sane.tells.kind i k u there told in
@@ -304,7 +304,7 @@ front_walks b o t m i is k ps start h at front there =
       there = there;
       at = stands.0;
       receiver = λ y e. start.sane.tells.receiver i k y there e;
-      fixed = λ e. fixed_home o.view k.to m e (subst (KnowsAt o.view k.to) stands.0 (h.all (Receiver i) k.to (Links (ap to_of there))));
+      fixed = λ e. fixed_home o.view k.to m e (subst (KnowsAt o.view k.to) stands.0 (h.line.all (Receiver i) k.to (Links (ap to_of there))));
       places = placed;
     } in
     handles_walks pt b o t m i k ps f (unborn o m start.rooted) refl
@@ -315,12 +315,12 @@ front_walks b o t m i is k ps start h at front there =
 own_walks : (b : Boot) (o : Point) (t : Trails) (m : ℕ) (i : MsgId) (is : List MsgId) (ps : List Part) → Begins o m → FoundBy o → Places o.view t → o.view.inbox m ≡ i ∷ is → o.kernel.bag i ≡ None → rule.hears b o m i (o.view.told i) ≡ Some ps → Walks (turned o m) t ps
 own_walks b o t m i is ps start h at front there e =
     let pt = turned o m in
-    let stands = h.places i (Inbox m) (stands_first o.view m i is front) in
+    let stands = h.line.places i (Inbox m) (stands_first o.view m i is front) in
     let (u, told) = told_there (o.view.told i) stands.1 in
     let own : is_kernels i ≡ true = front_kernels pt i is start.state front there in
     let placed : Places pt.view t = places_same o.view pt.view t (λ n q. refl) (λ q. refl) at in
     hears_walks pt b o t m i u ps (λ p. refl) (λ p n e. e) refl (λ p about between. heard o m i is u p start h front told about between)
-    (λ to c e. forwards_walks pt t i u manager to c told e placed (λ yes_ on. on.own.sender i u own told (moves_back u.kind (h.real i u told own).1 yes_))) placed (ap (rule.hears b o m i) (sym told) ∙ e)
+    (λ to c e. forwards_walks pt t i u manager to c told e placed (λ yes_ on. on.own.sender i u own told (moves_back u.kind (h.line.real i u told own).1 yes_))) placed (ap (rule.hears b o m i) (sym told) ∙ e)
 
 -- a directive to move a process
 migrates_walks : (pt : Point) (t : Trails) (p : Pid) → pt.view.acting ≡ 0 → Places pt.view t → Walks pt t (migrates pt p)

@@ -94,17 +94,15 @@ line_stands pt pt' l (Line.Put from to id k q) needs h e = elim needs [
   | inl same ↦ keeps pt pt' l (Line.Put from to id k q) same h e
   | inr none ↦
       let f : moved pt (Line.Put from to id k q) pt.kernel ≡ pt' = cc in
-      let g = without_own_mirrors pt.kernel pt.view pt.addresses l h in
-      subst Stands f (record { l = without_own l; mirrors = absent_put_mirrors pt (without_own l) from to id k q g (none_own pt.kernel pt.view pt.addresses l id none h) })
+      subst Stands f (record { l = without_own l; mirrors = absent_put_mirrors pt (without_own l) from to id k q (without_own_mirrors pt.kernel pt.view pt.addresses l h) (none_own pt.kernel pt.view pt.addresses l id none h) })
 ]
 line_stands pt pt' l (Line.Forwarded id m) none h e =
     let s = pt.kernel in
     let v = pt.view in
     let a = pt.addresses in
     let f : moved pt (Line.Forwarded id m) s ≡ pt' = cc in
-    let g = without_own_mirrors s v a l h in
     subst Stands f (other_view s v (view_after v (Line.Forwarded id m)) (given a (forwards v a id (v.told id))) (moves_forwarded (handled v id) (receiver_of (v.told id)))
-    (forwards_follow s v a (without_own l) id (v.told id) (none_own s v a l (own_id v) none h) g))
+    (forwards_follow s v a (without_own l) id (v.told id) (none_own s v a l (own_id v) none h) (without_own_mirrors s v a l h)))
 line_stands pt pt' l (Line.SentOn p n) needs h e =
     let s = pt.kernel in
     let v = pt.view in
@@ -115,9 +113,8 @@ line_stands pt pt' l (Line.SentOn p n) needs h e =
 line_stands pt pt' l (Line.Updated id n) apart h e =
     let s = pt.kernel in
     let v = pt.view in
-    let a = pt.addresses in
     let f : moved pt (Line.Updated id n) s ≡ pt' = cc in
-    subst Stands f (other_view s v (view_after v (Line.Updated id n)) (λ h. updated s v a (v.told id) h) refl (update_follows s v a l (v.told id) apart h))
+    subst Stands f (other_view s v (view_after v (Line.Updated id n)) (λ h. updated s v pt.addresses (v.told id) h) refl (update_follows s v pt.addresses l (v.told id) apart h))
 line_stands pt pt' l (Line.Migration step p) needs h e = stage_stands pt pt' l p step h e
 line_stands pt pt' l any_ needs h e = keeps pt pt' l any_ tt h e
 

@@ -1,8 +1,8 @@
 -- Messages that follow a process to another machine, and the process that has come there.
 use Rattle.dm_places.proofs.Names.{◌≡◌, ℕ, ◌+◌, ◌≤◌, ◌||◌, Bool, true, List, [], ◌∷◌, ◌++◌, refl, ap, ◌∙◌, sym, subst, inl, inr, arith, if◌then◌else◌, option_map, Option, None, Some, cases_Bool, Pid, Place, place_of, MsgId, nat_tests}
-use Rattle.dm_places.proofs.Names.{Message, id_eq, Process, sent_on, OneKernel, plain_process, id_eq-is, id_eq-same, id_eq-swap, pid_eq-is, pid_eq-same, Line, Stage, at_pid, times, Forward, Frozen, Told, View, forwarded_for, handled}
-use Rattle.dm_places.proofs.Names.{own_id, receiver_of, view_after, Addresses, Gets, Receiver, Sender, all_follow, forwards, gets, given, is_told_back, place_known, told_back_gets, unmoved, Point, moved, Placed, Mirrors, MirrorsKernel}
-use Rattle.dm_places.proofs.Names.{MirrorsProcess, with_message, with_process, MirrorsPoint, is_among, sent_all, or_first}
+use Rattle.dm_places.proofs.Names.{Message, id_eq, Process, sent_on, OneKernel, plain_process, id_eq-is, id_eq-same, id_eq-swap, pid_eq-is, pid_eq-same, Line, Stage, times, Forward, Frozen, Told, View, forwarded_for, handled, own_id}
+use Rattle.dm_places.proofs.Names.{receiver_of, view_after, Addresses, Gets, Receiver, Sender, all_follow, forwards, gets, given, is_told_back, place_known, told_back_gets, unmoved, Point, moved, Placed, Mirrors, MirrorsKernel}
+use Rattle.dm_places.proofs.Names.{with_message, with_process, MirrorsPoint, is_among, sent_all, or_first}
 use Rattle.dm_migrate.specs.Way as way
 use Rattle.dm_onekernel.specs.Step as kernel
 use Rattle.dm_places.proofs.Following.Changed.{free_mirrors, free_off, sent_on_any, sent_on_one}
@@ -63,9 +63,8 @@ unfolding onward
 all_on s v a l at moves [] h = h
 all_on s v a l at moves (i ∷ is) h =
     let place : Place = record { at = at; moves = moves } in
-    let before = all_on s v a l at moves is h in
     let k = sent_all l at moves is in
-    let on = sent_on_any s v (given a (onward place is)) k i (k.bag i) place refl before in
+    let on = sent_on_any s v (given a (onward place is)) k i (k.bag i) place refl (all_on s v a l at moves is h) in
     subst (λ (m : Placed). Mirrors s v (given a (onward place (i ∷ is))) m) (ap (with_message k i) (on_twice at moves (is_among i is) (l.bag i)) ∙ one_more l at moves i is) on
 
 -- the queue, then what was held
@@ -76,9 +75,8 @@ sent_on_mirrors pt l p n to h knows =
     let a = pt.addresses in
     let ids = v.queue v.acting p ++ v.held v.acting p in
     let l' = sent_all l to (v.moves p + 1) ids in
-    let w = view_after v (Line.SentOn p n) in
-    subst (λ (g : List Gets). Mirrors pt.kernel w (given a g) l') (sym (all_onward v a p to ids knows))
-    (mirrors_view pt.kernel v w (given a (onward (record { at = to; moves = v.moves p + 1 }) ids)) l' refl (all_on pt.kernel v a l to (v.moves p + 1) ids h))
+    subst (λ (g : List Gets). Mirrors pt.kernel (view_after v (Line.SentOn p n)) (given a g) l') (sym (all_onward v a p to ids knows))
+    (mirrors_view pt.kernel v (view_after v (Line.SentOn p n)) (given a (onward (record { at = to; moves = v.moves p + 1 }) ids)) l' refl (all_on pt.kernel v a l to (v.moves p + 1) ids h))
 
 pub among_times : (i : MsgId) (ids : List MsgId) → 1 ≤ times i ids → is_among i ids ≡ true
 among_times i [] e = absurd (omega arith)
@@ -97,19 +95,14 @@ alive_again s l p x y q there same h = grind (arith, nat_tests, pid_eq-is, optio
 pub kernel_process_again : (s : OneKernel) (l : Placed) (p : Pid) (x y : Process) → l.processes p ≡ Some x → plain_process y ≡ plain_process x → MirrorsKernel s l → MirrorsKernel s (with_process l p (Some y))
 kernel_process_again s l p x y there same h = search alive_again
 
-moved_places : (v w : View) (a : Addresses) (l : Placed) (p : Pid) (x : Process) (q : Pid) (z : Process) → w.moves ≡ at_pid v.moves p (v.moves p + 1) → l.processes p ≡ Some x → ((r : Pid) (y : Process) → l.processes r ≡ Some y → MirrorsProcess v a r y)
-    → (with_process l p (Some (way.moved x))).processes q ≡ Some z → MirrorsProcess w a q z
-moved_places v w a l p x q z counts there h e = search (arith, pid_eq-same, pid_eq-is)
-
 pub restarted_mirrors : (pt : Point) (l : Placed) (p : Pid) (x : Process) → MirrorsPoint pt l → l.processes p ≡ Some x → MirrorsPoint (moved pt (Line.Migration Stage.Restarted p) pt.kernel) (with_process l p (Some (way.moved x)))
 restarted_mirrors pt l p x h there =
     let v = pt.view in
-    let w = view_after v (Line.Migration Stage.Restarted p) in
     let g = h.places in
     record {
       plain = kernel_process_again pt.kernel l p x (way.moved x) there refl h.plain;
       places = record {
-        process = λ q z e. moved_places v w pt.addresses l p x q z refl there g.process e;
+        process = λ q z e. search (arith, pid_eq-same, pid_eq-is, g.process);
         message = g.message;
         name = g.name;
         child = g.child;

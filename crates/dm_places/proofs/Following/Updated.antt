@@ -1,9 +1,9 @@
 -- The holders of a process or a server that is told where another process is: their addresses follow where they know fewer moves.
-use Rattle.dm_places.proofs.Names.{◌≡◌, ℕ, zero, suc, ◌==◌, Bool, true, false, List, [], ◌∷◌, map, refl, ap, ◌∙◌, sym, subst, inl, inr, if◌then◌else◌, nat_lt, option_map, slice_get, Option, None, Some, cases_Bool, slice_get-map, Pid, arith}
+use Rattle.dm_places.proofs.Names.{◌≡◌, ℕ, zero, suc, Bool, true, false, List, [], ◌∷◌, map, refl, ap, ◌∙◌, sym, subst, inl, inr, if◌then◌else◌, nat_lt, option_map, slice_get, Option, None, Some, cases_Bool, slice_get-map, Pid, arith}
 use Rattle.dm_places.proofs.Names.{nat_tests, Addr, Link, pid_eq, place_of, relocated, retargeted, retargeted_link, plain_link, link_at, plain_map_retargeted, applied, status_after, MsgId, Process, Status, Line, manager, switchboard}
 use Rattle.dm_places.proofs.Names.{Manager, NamedLink, OneKernel, plain_process, plain_status, Named, retargeted_named, Pending, plain_child, plain_pending, retargeted_manager, retargeted_pending, child_address, pending_request, pid_eq-is}
-use Rattle.dm_places.proofs.Names.{pid_eq-same, pid_eq-swap, About, Told, View, view_after, Addresses, Answer, Child, Holder, Name, Owner, Slot, belongs_to, leads_to, link_target, owner_in, updated, updated_to, Point, PlainProcess}
-use Rattle.dm_places.proofs.Names.{moved, SameMessage, SameProcess, Placed, Mirrors, MirrorsProcess, owner_at, MirrorsPoint, with_process, AnswerNames, option_and_then}
+use Rattle.dm_places.proofs.Names.{pid_eq-same, pid_eq-swap, About, Told, View, view_after, Addresses, Answer, Child, Holder, Name, Owner, Slot, belongs_to, leads_to, link_target, updated, updated_to, Point, moved, PlainProcess, owner_in}
+use Rattle.dm_places.proofs.Names.{SameMessage, SameProcess, Placed, Mirrors, MirrorsProcess, MirrorsPoint, with_process, AnswerNames, option_and_then}
 use Rattle.dm_link.specs.Places as places
 use Rattle.dm_onekernel.specs.Kernel as one
 use Rattle.dm_onekernel.specs.Manager as manage
@@ -23,11 +23,10 @@ told_of s a q r at moves h = updated_to s a (Some q) (Some (r, record { at = at;
 pub behind_led : (s : OneKernel) (a : Addresses) (q r : Pid) (moves : ℕ) (h : Holder) (o : Addr) → belongs_to q h ≡ true → leads_to s h ≡ Some o.pid → a h ≡ place_of o → addresses.is_behind s a q r moves h ≡ places.is_behind r moves o
 behind_led s a q r moves h o belongs leads place = grind (arith, nat_tests, pid_eq-swap)
 
-follows_if : (at moves : ℕ) (o : Addr) (b : Bool) → (if b then record { at = at; moves = moves } else place_of o) ≡ place_of (if b then relocated at moves o else o)
-follows_if at moves o b = grind (arith, nat_tests)
-
 pub led : (s : OneKernel) (a : Addresses) (q r : Pid) (at moves : ℕ) (h : Holder) (o : Addr) → belongs_to q h ≡ true → leads_to s h ≡ Some o.pid → a h ≡ place_of o → told_of s a q r at moves h ≡ place_of (retargeted r at moves o)
-led s a q r at moves h o belongs leads place = grind (arith, nat_tests, behind_led, follows_if)
+led s a q r at moves h o belongs leads place =
+    let follows_if : (at moves : ℕ) (o : Addr) (b : Bool) → (if b then record { at = at; moves = moves } else place_of o) ≡ place_of (if b then relocated at moves o else o) = λ at moves o b. grind (arith, nat_tests) in
+    grind (arith, nat_tests, behind_led, follows_if)
 
 -- the others keep theirs
 pub unled : (s : OneKernel) (a : Addresses) (q r : Pid) (at moves : ℕ) (h : Holder) → belongs_to q h ≡ false → told_of s a q r at moves h ≡ a h
@@ -51,10 +50,6 @@ alive_is s v a l q x h there = h.plain.processes q ∙ ap (option_map plain_proc
 pub slot_leads : (s : OneKernel) (q : Pid) (x : Process) (k : ℕ) (o : Option Link) → kernel.alive (s.processes q) ≡ Some (plain_process x) → link_at x.table k ≡ o → leads_to s (Slot q k) ≡ link_target (option_map plain_link o)
 slot_leads s q x k o alive there = grind (arith, nat_tests, slots_map)
 
-owner_follows : (s : OneKernel) (a : Addresses) (q r : Pid) (at moves : ℕ) (st : Status) (o : Addr) → leads_to s (Owner q) ≡ owner_in (plain_status st) → ((p : Addr) → owner_at st ≡ Some p → a (Owner q) ≡ place_of p)
-    → owner_at (status_after r at moves st) ≡ Some o → told_of s a q r at moves (Owner q) ≡ place_of o
-owner_follows s a q r at moves st o h1 h2 h3 = search (arith, led, pid_eq-same)
-
 told_process : (s : OneKernel) (v : View) (a : Addresses) (q r : Pid) (at moves : ℕ) (x : Process) → kernel.alive (s.processes q) ≡ Some (plain_process x) → MirrorsProcess v a q x
     → MirrorsProcess v (told_of s a q r at moves) q (applied r at moves x)
 told_process s v a q r at moves x alive h = record {
@@ -63,11 +58,8 @@ told_process s v a q r at moves x alive h = record {
   slots = λ k w e.
       let (u, there, is) = of_map (retargeted_link r at moves) (link_at x.table k) w (sym e ∙ slots_map (retargeted_link r at moves) x.table k) in
       led s a q r at moves (Slot q k) u.addr (pid_eq-same q) (slot_leads s q x k (Some u) alive there) (h.slots k u there) ∙ ap (λ (z : Link). place_of z.addr) is;
-  owner = λ o e. owner_follows s a q r at moves x.status o (ap (option_and_then (λ (x : PlainProcess). owner_in x.status)) alive) h.owner e;
+  owner = λ o e. search (arith, led, pid_eq-same, ap (option_and_then (λ (x : PlainProcess). owner_in x.status)) alive, h.owner);
 }
-
-plain_status_after : (r : Pid) (at moves : ℕ) (st : Status) → plain_status (status_after r at moves st) ≡ plain_status st
-plain_status_after r at moves st = search arith
 
 process_places : (s : OneKernel) (v : View) (a : Addresses) (l : Placed) (q r : Pid) (at moves : ℕ) (x : Process) (p : Pid) (z : Process) → Mirrors s v a l → l.processes q ≡ Some x → (with_process l q (Some (applied r at moves x))).processes p ≡ Some z
     → MirrorsProcess v (told_of s a q r at moves) p z
@@ -86,6 +78,7 @@ process_places s v a l q r at moves x p z h there e = elim (cases_Bool (pid_eq q
 pub process_told : (s : OneKernel) (v : View) (a : Addresses) (l : Placed) (q r : Pid) (at moves : ℕ) (x : Process) → pid_eq q switchboard ≡ false → pid_eq q manager ≡ false → l.processes q ≡ Some x → Mirrors s v a l
     → Mirrors s v (told_of s a q r at moves) (with_process l q (Some (applied r at moves x)))
 process_told s v a l q r at moves x no_board no_manager there h =
+    let plain_status_after : (r : Pid) (at moves : ℕ) (st : Status) → plain_status (status_after r at moves st) ≡ plain_status st = λ r at moves st. search arith in
     let g = h.places in
     record {
       plain = kernel_process_again s l q x (applied r at moves x) there (search (plain_map_retargeted, plain_status_after)) h.plain;
@@ -140,16 +133,12 @@ child_leads s v a l (suc n) c h there =
 
 pub answer_leads : (s : OneKernel) (v : View) (a : Addresses) (l : Placed) (n : ℕ) (y : Pending) → Mirrors s v a l → pending_request n l.manager.pending ≡ Some y → leads_to s (Answer n) ≡ link_target (option_map plain_link y.answer)
 answer_leads s v a l n y h there =
-    ap (λ (g : Manager). link_target (option_and_then (λ (r : one.Pending). r.answer) (manage.pending_numbered n g.pending))) (sym h.plain.manager)
+    ap (λ (g : Manager). link_target (option_and_then (λ r. r.answer) (manage.pending_numbered n g.pending))) (sym h.plain.manager)
     ∙ ap (λ (o : Option one.Pending). link_target (option_and_then (λ r. r.answer) o)) (managing.plain_pending_numbered n l.manager.pending ∙ ap (option_map plain_pending) there)
-
-pending_if : (r : Pid) (at moves n : ℕ) (y : Pending) (ys : List Pending) (b : Bool) → pending_request n (map (retargeted_pending r at moves) ys) ≡ option_map (retargeted_pending r at moves) (pending_request n ys)
-    → (if b then Some (retargeted_pending r at moves y) else pending_request n (map (retargeted_pending r at moves) ys)) ≡ option_map (retargeted_pending r at moves) (if b then Some y else pending_request n ys)
-pending_if r at moves n y ys b h1 = grind (arith, nat_tests)
 
 pending_map : (r : Pid) (at moves n : ℕ) (ys : List Pending) → pending_request n (map (retargeted_pending r at moves) ys) ≡ option_map (retargeted_pending r at moves) (pending_request n ys)
 pending_map r at moves n [] = refl
-pending_map r at moves n (y ∷ ys) = pending_if r at moves n y ys (y.n == n) (pending_map r at moves n ys)
+pending_map r at moves n (y ∷ ys) = grind (arith, nat_tests, pending_map r at moves n ys)
 
 child_follows : (s : OneKernel) (v : View) (a : Addresses) (l : Placed) (r : Pid) (at moves n : ℕ) (c : Addr) → Mirrors s v a l → child_address (map (retargeted r at moves) l.manager.children) n ≡ Some c → told_of s a manager r at moves (Child n) ≡ place_of c
 child_follows s v a l r at moves zero c h e = cc
@@ -157,19 +146,17 @@ child_follows s v a l r at moves (suc n) c h e =
     let (u, there, is) = of_map (retargeted r at moves) (slice_get l.manager.children n) c (sym e ∙ slice_get-map (retargeted r at moves) l.manager.children n) in
     led s a manager r at moves (Child (suc n)) u refl (child_leads s v a l (suc n) u h there) (h.places.child (suc n) u there) ∙ ap place_of is
 
-retargeted_names : (s : OneKernel) (a : Addresses) (r : Pid) (at moves n : ℕ) (o : Option Link) → leads_to s (Answer n) ≡ link_target (option_map plain_link o) → AnswerNames o (a (Answer n))
-    → AnswerNames (option_map (retargeted_link r at moves) o) (told_of s a manager r at moves (Answer n))
-retargeted_names s a r at moves n o h1 h2 = search (arith, led)
-
-answer_follows : (s : OneKernel) (v : View) (a : Addresses) (l : Placed) (r : Pid) (at moves n : ℕ) (y : Pending) → Mirrors s v a l → pending_request n (map (retargeted_pending r at moves) l.manager.pending) ≡ Some y
-    → AnswerNames y.answer (told_of s a manager r at moves (Answer n))
-answer_follows s v a l r at moves n y h e = search (arith, of_map, pending_map, retargeted_names, answer_leads)
-
 abbrev pub manager_told : Placed → Pid → ℕ → ℕ → Placed
 manager_told l r at moves = record l { manager = retargeted_manager r at moves l.manager }
 
 pub children_told : (s : OneKernel) (v : View) (a : Addresses) (l : Placed) (r : Pid) (at moves : ℕ) → l.processes manager ≡ None → Mirrors s v a l → Mirrors s v (told_of s a manager r at moves) (manager_told l r at moves)
 children_told s v a l r at moves none h =
+    let retargeted_names : (s : OneKernel) (a : Addresses) (r : Pid) (at moves n : ℕ) (o : Option Link) → leads_to s (Answer n) ≡ link_target (option_map plain_link o) → AnswerNames o (a (Answer n))
+      → AnswerNames (option_map (retargeted_link r at moves) o) (told_of s a manager r at moves (Answer n)) =
+      λ s a r at moves n o h1 h2. search (arith, led) in
+    let answer_follows : (s : OneKernel) (v : View) (a : Addresses) (l : Placed) (r : Pid) (at moves n : ℕ) (y : Pending) → Mirrors s v a l → pending_request n (map (retargeted_pending r at moves) l.manager.pending) ≡ Some y
+      → AnswerNames y.answer (told_of s a manager r at moves (Answer n)) =
+      λ s v a l r at moves n y h e. search (arith, of_map, pending_map, retargeted_names, answer_leads) in
     let g = h.places in
     let q = manager in
     record {
@@ -178,14 +165,11 @@ children_told s v a l r at moves none h =
     }
 
 -- the line
-updated_is : (s : OneKernel) (v : View) (a : Addresses) (id : MsgId) (t : Told) (q r : Pid) (at moves : ℕ) → v.told id ≡ Some t → t.about ≡ About.Place r at moves → t.receiver ≡ q → updated s v a (v.told id) ≡ told_of s a q r at moves
-updated_is s v a id t q r at moves told about to = grind (arith, nat_tests)
-
 line_told : (pt : Point) (l : Placed) (id : MsgId) (n : ℕ) (t : Told) (q r : Pid) (at moves : ℕ) → pt.view.told id ≡ Some t → t.about ≡ About.Place r at moves → t.receiver ≡ q → Mirrors pt.kernel pt.view (told_of pt.kernel pt.addresses q r at moves) l
     → MirrorsPoint (moved pt (Line.Updated id n) pt.kernel) l
 line_told pt l id n t q r at moves told about to h =
     let w = view_after pt.view (Line.Updated id n) in
-    subst (λ (b : Addresses). Mirrors pt.kernel w b l) (sym (updated_is pt.kernel pt.view pt.addresses id t q r at moves told about to))
+    subst (λ (b : Addresses). Mirrors pt.kernel w b l) (sym (let e_ : updated pt.kernel pt.view pt.addresses (pt.view.told id) ≡ told_of pt.kernel pt.addresses q r at moves = grind (arith, nat_tests) in e_))
     (mirrors_view pt.kernel pt.view w (told_of pt.kernel pt.addresses q r at moves) l refl h)
 
 pub updated_mirrors : (pt : Point) (l : Placed) (id : MsgId) (n : ℕ) (t : Told) (r : Pid) (at moves : ℕ) (x : Process) → MirrorsPoint pt l → pt.view.told id ≡ Some t → t.about ≡ About.Place r at moves → pid_eq t.receiver switchboard ≡ false → pid_eq t.receiver manager ≡ false

@@ -22,9 +22,7 @@ among_numbered f g plain p n (x ∷ xs) each =
 among_named : {X Y : Type 0} (f : Holder → Bool) (g : Y → Holder) (plain : X → Y) (p : X → Bool) (xs : List X) → ((j : ℕ) (x : X) → slice_get xs j ≡ Some x → f (g (plain x)) ≡ p x) → behind_among f (map g (map plain xs)) ≡ count_by p xs
 among_named f g plain p [] each = refl
 among_named f g plain p (x ∷ xs) each =
-    let first = each zero x refl in
-    let rest = among_named f g plain p xs (λ j y there. each (suc j) y there) in
-    (λ i. (if first i then 1 else 0) + rest i) ∙ sym (sum_by-cons (λ y. cond (p y) 1 0) x xs)
+    (λ i. (if (each zero x refl) i then 1 else 0) + (among_named f g plain p xs (λ j y there. each (suc j) y there)) i) ∙ sym (sum_by-cons (λ y. cond (p y) 1 0) x xs)
 
 among_both : (f : Holder → Bool) (hs gs : List Holder) → behind_among f (hs ++ gs) ≡ behind_among f hs + behind_among f gs
 among_both f [] gs = let e : behind_among f gs ≡ 0 + behind_among f gs = omega arith in e
@@ -81,17 +79,15 @@ own_number : (ps : List Pending) (from to j : ℕ) (y : Pending) → ascends fro
 own_number [] from to j y order there = cc
 own_number (p ∷ ps) from to zero y order there = grind (arith, nat_tests, and-both, nat_le)
 own_number (p ∷ ps) from to (suc j) y order there =
-    let w = and-both (nat_le from p.n) (ascends (p.n + 1) (map plain_pending ps) to) order in
-    let (found, above) = own_number ps (p.n + 1) to j y w.1 there in
+    let (found, above) = own_number ps (p.n + 1) to j y (and-both (nat_le from p.n) (ascends (p.n + 1) (map plain_pending ps) to) order).1 there in
     search arith
-
-answer_behind : (s : OneKernel) (a : Addresses) (r : Pid) (moves n : ℕ) (o : Option Link) → leads_to s (Answer n) ≡ link_target (option_map plain_link o) → AnswerNames o (a (Answer n))
-    → addresses.is_behind s a manager r moves (Answer n) ≡ answer_is_behind r moves o
-answer_behind s a r moves n o h1 h2 = search (arith, behind_led)
 
 pub updated_manager_count : (s : OneKernel) (v : View) (a : Addresses) (l : Placed) (q r : Pid) (at moves : ℕ) (about : About) → Mirrors s v a l → about ≡ About.Place r at moves → q ≡ manager → ascends 0 s.manager.pending s.manager.sent ≡ true
     → behind_count s a q (place_told about) ≡ count_by (places.is_behind r moves) l.manager.children + count_by (pending_is_behind r moves) l.manager.pending
 updated_manager_count s v a l q r at moves about h is to order =
+    let answer_behind : (s : OneKernel) (a : Addresses) (r : Pid) (moves n : ℕ) (o : Option Link) → leads_to s (Answer n) ≡ link_target (option_map plain_link o) → AnswerNames o (a (Answer n))
+      → addresses.is_behind s a manager r moves (Answer n) ≡ answer_is_behind r moves o =
+      λ s a r moves n o h1 h2. search (arith, behind_led) in
     let f = addresses.is_behind s a manager r moves in
     let g = l.manager in
     let ordered : ascends 0 (map plain_pending g.pending) g.sent ≡ true = ap (λ (m : Manager). ascends 0 m.pending m.sent) h.plain.manager ∙ order in

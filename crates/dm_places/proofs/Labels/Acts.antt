@@ -17,9 +17,6 @@ Follows t v b o = (l : Placed) × (o ≡ Some l) × Mirrors t v b l
 pub mirrors_as : (s t : OneKernel) (v : View) (a b : Addresses) (l m : Placed) → s ≡ t → a ≡ b → l ≡ m → Mirrors s v a l → Mirrors t v b m
 mirrors_as s t v a b l m e f g h = subst (λ (u : OneKernel). Mirrors u v b m) e (subst (λ (c : Addresses). Mirrors s v c m) f (subst (Mirrors s v a) g h))
 
-ready_of : (y : Process) (st : Status) (x : PlainProcess) → kernel.if_ready (plain_process y) (plain_status st) ≡ Some x → (if_ready y st ≡ Some y) × (plain_process y ≡ x)
-ready_of y st x h1 = search arith
-
 record Runs (l : Placed) (p : Pid) (x : PlainProcess) : Type 0 where
   y : Process
   there : l.processes p ≡ Some y
@@ -27,7 +24,9 @@ record Runs (l : Placed) (p : Pid) (x : PlainProcess) : Type 0 where
   runs : running l p ≡ Some y
 
 runs_of : (s : OneKernel) (l : Placed) (p : Pid) (x : PlainProcess) → MirrorsKernel s l → kernel.running s p ≡ Some x → Runs l p x
-runs_of s l p x h e = search (arith, bind-is, alive_of, at_hand-is, ready_of)
+runs_of s l p x h e =
+    let ready_of : (y : Process) (st : Status) (x : PlainProcess) → kernel.if_ready (plain_process y) (plain_status st) ≡ Some x → (if_ready y st ≡ Some y) × (plain_process y ≡ x) = λ y st x h1. search arith in
+    search (arith, bind-is, alive_of, at_hand-is, ready_of)
 
 -- ran
 pub ran_follows : (s t : OneKernel) (v : View) (a : Addresses) (l : Placed) (p : Pid) (k : ℕ) → kernel.step s (Label.Ran p k) ≡ Some t → Mirrors s v a l → Follows t v a (ran l p k)
@@ -76,9 +75,6 @@ sent_as : (v : View) (a : Addresses) (p : Pid) (x : Process) (n : one.CallNumber
     → MirrorsCalled v a p x n (Called.Sent m) y → CalledAs v a p x n (record { process = Some y; message = Some m }) k
 sent_as v a p x n m y k e h = search (arith, bind-is)
 
-called_as : (v : View) (a : Addresses) (p : Pid) (x : Process) (n : one.CallNumber) (c : Called) (y : Process) (k : one.Called) → plain_called c y ≡ Some k → MirrorsCalled v a p x n c y → CalledAs v a p x n (after_call c y) k
-called_as v a p x n c y k h1 h2 = search (arith, sent_as)
-
 abbrev ActsNext : View → Addresses → Pid → Process → Acted → kernel.Trap → Type 0
 ActsNext v a p x w (kernel.Calls number k) = CalledAs v a p x (one.call_number number) w k
 ActsNext v a p x w (kernel.Faults fault) = w ≡ ended
@@ -87,6 +83,8 @@ acts_row : (v : View) (a : Addresses) (p : Pid) (x : Process) (w : Row) (n : ker
     → (d : Acted) × (acted v.acting x w ≡ Some d) × ActsNext v a p x d n
 acts_row v a p x (Row.Plain regs bytes) n w e h = cc
 acts_row v a p x (Row.Calls number regs) n w e h =
+    let called_as : (v : View) (a : Addresses) (p : Pid) (x : Process) (n : one.CallNumber) (c : Called) (y : Process) (k : one.Called) → plain_called c y ≡ Some k → MirrorsCalled v a p x n c y → CalledAs v a p x n (after_call c y) k =
+      λ v a p x n c y k h1 h2. search (arith, sent_as) in
     let f : regs ≡ past x.regs = past_call x.regs x.memory number regs w in
     let g : kernel.Calls number (one.call p (record (plain_process x) { regs = regs }) number) ≡ n = cc in
     let d = calls v.acting (behind x) number in
@@ -101,14 +99,14 @@ acts_row v a p x (Row.Calls number regs) n w e h =
     )
 acts_row v a p x (Row.Faults fault) n w e h = let g : kernel.Faults fault ≡ n = cc in (ended, refl, subst (ActsNext v a p x ended) g refl)
 
-record ActsOf (s : OneKernel) (v : View) (a : Addresses) (l : Placed) (p : Pid) (n : kernel.Trap) : Type 0 where
+pub record ActsOf (s : OneKernel) (v : View) (a : Addresses) (l : Placed) (p : Pid) (n : kernel.Trap) : Type 0 where
   x : Process
   w : Acted
   acts : acts v.acting l p ≡ Some (with_acted l p w)
   runs : kernel.running s p ≡ Some (plain_process x)
   next : ActsNext v a p x w n
 
-acts_of : (s : OneKernel) (v : View) (a : Addresses) (l : Placed) (p : Pid) (n : kernel.Trap) → Mirrors s v a l → kernel.next_trap s p ≡ Some n → ActsOf s v a l p n
+pub acts_of : (s : OneKernel) (v : View) (a : Addresses) (l : Placed) (p : Pid) (n : kernel.Trap) → Mirrors s v a l → kernel.next_trap s p ≡ Some n → ActsOf s v a l p n
 acts_of s v a l p n h e =
     let (z, runs, row_is) = bind-is (kernel.running s p) (λ (w : PlainProcess). kernel.next_row p w (instruction w.regs w.memory)) n e in
     let r = runs_of s l p z h.plain runs in
@@ -173,25 +171,15 @@ goes_follows : (s t : OneKernel) (v : View) (a : Addresses) (l : Placed) (p : Pi
 goes_follows s t v a l p w z is g f h = search (arith, mirrors_as, goes_mirrors)
 
 -- wait
-wait_row : (s t : OneKernel) (v : View) (a : Addresses) (l : Placed) (p : Pid) (next : kernel.Trap) → ActsOf s v a l p next → kernel.waits s p next ≡ Some t → Mirrors s v a l → Follows t v a (acts v.acting l p)
+pub wait_row : (s t : OneKernel) (v : View) (a : Addresses) (l : Placed) (p : Pid) (next : kernel.Trap) → ActsOf s v a l p next → kernel.waits s p next ≡ Some t → Mirrors s v a l → Follows t v a (acts v.acting l p)
 wait_row s t v a l p (kernel.Calls number (one.Waits z)) q is h = goes_follows s t v a l p q.w z q.acts q.next (let f : kernel.goes_on s p z ≡ t = cc in f) h
 wait_row s t v a l p _ q is h = cc
 
-pub wait_follows : (s t : OneKernel) (v : View) (a : Addresses) (l : Placed) (p : Pid) → kernel.step s (Label.Wait p) ≡ Some t → Mirrors s v a l → Follows t v a (acts v.acting l p)
-wait_follows s t v a l p is h =
-    let (x, next, rest) = bind-is (kernel.next_trap s p) (kernel.waits s p) t is in
-    wait_row s t v a l p x (acts_of s v a l p x h next) rest h
-
 -- out
-out_row : (s t : OneKernel) (v : View) (a : Addresses) (l : Placed) (p : Pid) (word : ℕ) (next : kernel.Trap) → ActsOf s v a l p next → kernel.outputs s p word next ≡ Some t → Mirrors s v a l → Follows t v a (acts v.acting l p)
+pub out_row : (s t : OneKernel) (v : View) (a : Addresses) (l : Placed) (p : Pid) (word : ℕ) (next : kernel.Trap) → ActsOf s v a l p next → kernel.outputs s p word next ≡ Some t → Mirrors s v a l → Follows t v a (acts v.acting l p)
 out_row s t v a l p word (kernel.Calls number (one.Outputs other z)) q is h =
     let k = when-is (word == other) (kernel.goes_on s p z) t is in goes_follows s t v a l p q.w z q.acts q.next k.1 h
 out_row s t v a l p word _ q is h = cc
-
-pub out_follows : (s t : OneKernel) (v : View) (a : Addresses) (l : Placed) (p : Pid) (word : ℕ) → kernel.step s (Label.Out p word) ≡ Some t → Mirrors s v a l → Follows t v a (acts v.acting l p)
-out_follows s t v a l p word is h =
-    let (x, next, rest) = bind-is (kernel.next_trap s p) (kernel.outputs s p word) t is in
-    out_row s t v a l p word x (acts_of s v a l p x h next) rest h
 
 -- end
 ends_follows : (s t : OneKernel) (v : View) (a : Addresses) (l : Placed) (p : Pid) (y : Why) (w : Acted) → acts v.acting l p ≡ Some (with_acted l p w) → w ≡ ended → kernels.with_process s p (Ended y) ≡ t → Mirrors s v a l → Follows t v a (acts v.acting l p)
@@ -201,14 +189,9 @@ ends_follows s t v a l p y w is e f h = (
   mirrors_as (kernels.with_process s p (Ended y)) t v a a (with_process l p None) (with_acted l p w) f refl (ap (with_acted l p) (sym e)) (ends_mirrors s v a l p y h),
 )
 
-end_row : (s t : OneKernel) (v : View) (a : Addresses) (l : Placed) (p : Pid) (y : Why) (next : kernel.Trap) → ActsOf s v a l p next → kernel.ends s p y next ≡ Some t → Mirrors s v a l → Follows t v a (acts v.acting l p)
+pub end_row : (s t : OneKernel) (v : View) (a : Addresses) (l : Placed) (p : Pid) (y : Why) (next : kernel.Trap) → ActsOf s v a l p next → kernel.ends s p y next ≡ Some t → Mirrors s v a l → Follows t v a (acts v.acting l p)
 end_row s t v a l p y (kernel.Calls number (one.Ends because)) q is h =
     let k = when-is (why_eq y because) (kernels.with_process s p (Ended y)) t is in ends_follows s t v a l p y q.w q.acts q.next k.1 h
 end_row s t v a l p y (kernel.Faults fault) q is h =
     let k = when-is (why_eq y (Why.Fault fault)) (kernels.with_process s p (Ended y)) t is in ends_follows s t v a l p y q.w q.acts q.next k.1 h
 end_row s t v a l p y _ q is h = cc
-
-pub end_follows : (s t : OneKernel) (v : View) (a : Addresses) (l : Placed) (p : Pid) (y : Why) → kernel.step s (Label.End p y) ≡ Some t → Mirrors s v a l → Follows t v a (acts v.acting l p)
-end_follows s t v a l p y is h =
-    let (x, next, rest) = bind-is (kernel.next_trap s p) (kernel.ends s p y) t is in
-    end_row s t v a l p y x (acts_of s v a l p x h next) rest h

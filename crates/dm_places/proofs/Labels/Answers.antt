@@ -37,13 +37,9 @@ pub dropped_follows : (s t : OneKernel) (v : View) (a : Addresses) (l : Placed) 
 dropped_follows s t v a l id is h =
     let (m, there, rest) = bind-is (s.bag id) (λ (w : PlainMessage). bind (kernel.why_ended (s.processes w.to)) (kernel.drops s id w)) t is in
     let (y, gone, last) = bind-is (kernel.why_ended (s.processes m.to)) (kernel.drops s id m) t rest in
-    let k = when-is (service.is_dropped m.what) (service.without_message s id) t last in
-    (without_message l id, refl, subst (λ (u : OneKernel). Mirrors u v a (without_message l id)) k.1 (out_mirrors s v a l id h))
+    (without_message l id, refl, subst (λ (u : OneKernel). Mirrors u v a (without_message l id)) (when-is (service.is_dropped m.what) (service.without_message s id) t last).1 (out_mirrors s v a l id h))
 
 -- gone
-gone_says : (w : What) (k u : PlainWhat) → plain_what w ≡ Some k → service.gone_what k ≡ Some u → (plain_what (serving.gone_what w) ≡ Some u) × (enclosed (serving.gone_what w) ≡ [])
-gone_says w k u h1 h2 = search (arith, read_what, write_what, move_what)
-
 pub gone_follows : (s t : OneKernel) (v : View) (a : Addresses) (l : Placed) (id : MsgId) → kernel.step s (Label.Gone id) ≡ Some t → Mirrors s v a l
     → Follows t v (given a (gives s v a (Label.Gone id))) (bind (l.bag id) (λ (m : Message). Some (with_sent (without_message l id) (Some (gone_answer v.acting m)))))
 gone_follows s t v a l id is h =
@@ -52,19 +48,18 @@ gone_follows s t v a l id is h =
     let (u, what, last) = bind-is (service.gone_what k.what) (λ (w : PlainWhat). Some (kernels.with_sent (service.without_message s id) (Some (answer_to k w)))) t end in
     let z : kernels.with_sent (service.without_message s id) (Some (answer_to k u)) ≡ t = cc in
     let (m, found, says) = there_of s l id k h.plain there in
-    let hm = h.places.message id m found in
     let on = with_sent (without_message l id) (Some (gone_answer v.acting m)) in
-    let count : m.to.moves ≡ (a (Receiver id)).moves = ap (λ (p : Place). p.moves) (sym hm.receiver) in (
+    let count : m.to.moves ≡ (a (Receiver id)).moves = ap (λ (p : Place). p.moves) (sym (h.places.message id m found).receiver) in (
       on,
       ap (λ (o : Option Message). bind o (λ (n : Message). Some (with_sent (without_message l id) (Some (gone_answer v.acting n))))) found,
       subst (λ (w : OneKernel). Mirrors w v (given a (gives s v a (Label.Gone id))) on) z
           (subst (λ (n : ℕ). Mirrors (kernels.with_sent (service.without_message s id) (Some (answer_to k u))) v (given a (answer_gets a id (record { at = v.acting; moves = n }))) on) count
-          (let g = gone_says m.what k.what u (parts m k says).what what in
-          answer_mirrors (service.without_message s id) v a (without_message l id) id m k (serving.gone_what m.what) u m.to.moves hm says g.0 g.1 (out_mirrors s v a l id h))),
+          (let g : (plain_what (serving.gone_what m.what) ≡ Some u) × (enclosed (serving.gone_what m.what) ≡ []) = search (arith, read_what, write_what, move_what, (parts m k says).what) in
+          answer_mirrors (service.without_message s id) v a (without_message l id) id m k (serving.gone_what m.what) u m.to.moves (h.places.message id m found) says g.0 g.1 (out_mirrors s v a l id h))),
     )
 
 -- nospace
-no_room_row : (s t : OneKernel) (v : View) (a : Addresses) (l : Placed) (id : MsgId) (m : Message) (k : PlainMessage) (u : PlainWhat) → service.has_no_room s id k u ≡ Some t → MirrorsMessage a id m → plain_message m ≡ Some k → Mirrors s v a l
+pub no_room_row : (s t : OneKernel) (v : View) (a : Addresses) (l : Placed) (id : MsgId) (m : Message) (k : PlainMessage) (u : PlainWhat) → service.has_no_room s id k u ≡ Some t → MirrorsMessage a id m → plain_message m ≡ Some k → Mirrors s v a l
     → Mirrors t v (given a (answer_gets a id (unmoved v.acting))) (with_sent (without_message l id) (Some (answer v.acting 0 m What.NoRoom)))
 no_room_row s t v a l id m k (PlainWhat.Create image links) is hm says h =
     let z = when-is (service.is_kernel s k.to) (kernels.with_sent (service.without_message s id) (Some (answer_to k PlainWhat.NoRoom))) t is in
@@ -72,21 +67,16 @@ no_room_row s t v a l id m k (PlainWhat.Create image links) is hm says h =
     (answer_mirrors (service.without_message s id) v a (without_message l id) id m k What.NoRoom PlainWhat.NoRoom 0 hm says refl refl (out_mirrors s v a l id h))
 no_room_row s t v a l id m k u is hm says h = cc
 
-pub no_space_follows : (s t : OneKernel) (v : View) (a : Addresses) (l : Placed) (id : MsgId) (f b : ℕ) → kernel.step s (Label.NoSpace id f b) ≡ Some t → Mirrors s v a l
-    → Follows t v (given a (gives s v a (Label.NoSpace id f b))) (bind (l.bag id) (λ (m : Message). Some (with_sent (without_message l id) (Some (answer v.acting 0 m What.NoRoom)))))
-no_space_follows s t v a l id f b is h = search (arith, bind-is, there_of, no_room_row)
-
 -- asked
 asked_row : (s t : OneKernel) (v : View) (a : Addresses) (l : Placed) (id : MsgId) (m : Message) (k : PlainMessage) (u : PlainWhat) → service.follows_request s id k u ≡ Some t → id ≡ id_of manager id.n → MirrorsMessage a id m
     → plain_message m ≡ Some k → Mirrors s v a l
     → Mirrors t v (given a (gets (AskedBy k.to) (a (Sender id)) ∷ [])) (with_note (without_message l id) m.to.pid id (asker_of m))
 asked_row s t v a l id m k (PlainWhat.Move machine) is needs hm says h =
-    let g = parts m k says in
     let w = asker_of m in
     let pl = a (Sender id) in
     let name : manager_request w ≡ id = ap (λ (i : MsgId). id_of manager i.n) hm.id ∙ sym needs in
     let on : MoveNote = record { id = id; asker = k.sender } in
-    let note : plain_note w ≡ on = λ i. record { id = name i; asker = g.sender i } in
+    let note : plain_note w ≡ on = λ i. record { id = name i; asker = (parts m k says).sender i } in
     let eq : kernels.with_note (service.without_message s id) k.to on ≡ t = cc in
     let b = λ (p : Pid). given a (gets (AskedBy p) pl ∷ []) in
     let p = m.to.pid in
@@ -119,12 +109,10 @@ answered_follows s t v a l id o is needs h =
     let m = moved_answer v.acting y o k in
     let to : k.addr.pid ≡ n.asker = ap (λ (w : MoveNote). w.asker) is_note in
     let asked : manager_request k ≡ id = ap (λ (w : MoveNote). w.id) is_note ∙ name in
-    let hy = h.places.process p y stands in
     let q : PlainMessage = record { id = answer_id id; to = n.asker; sender = p; what = PlainWhat.Moved o } in
-    let says : plain_message m ≡ Some q = λ i. Some (record { id = answer_id (asked i); to = to i; sender = hy.pid i; what = PlainWhat.Moved o }) in
-    let here : acting_place v p ≡ place_of m.sender = stands_here v a p y hy in
-    let left = unnoted_mirrors s v a l p id h in
-    let done = two_sends (kernels.without_note s p id) v a (without_note l p id) m q (a (AskedBy p)) (acting_place v p) says refl (h.places.asker p k waits) here left in
+    let says : plain_message m ≡ Some q = λ i. Some (record { id = answer_id (asked i); to = to i; sender = (h.places.process p y stands).pid i; what = PlainWhat.Moved o }) in
+    let here : acting_place v p ≡ place_of m.sender = stands_here v a p y (h.places.process p y stands) in
+    let done = two_sends (kernels.without_note s p id) v a (without_note l p id) m q (a (AskedBy p)) (acting_place v p) says refl (h.places.asker p k waits) here (unnoted_mirrors s v a l p id h) in
     let on = with_sent (without_note l p id) (Some m) in (
       on,
       ap (λ (w : Option Pid). bind w (λ (r : Pid). placed.ends_move v.acting l id r o)) (h.plain.noted id ∙ noted)

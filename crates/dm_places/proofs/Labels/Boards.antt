@@ -49,9 +49,8 @@ found_at name (k ∷ ks) n w e = elim (cases_Bool (bytes_eq k.name name)) [
       record { i = 0; k = k; there = refl; link = let g : k.link ≡ w = cc in g; place = ap (λ (b : Bool). if b then n else place_named name (map plain_named ks) (n + 1)) same ∙ (let g : n ≡ n + 0 = omega arith in g) }
   | inr apart ↦
       let h = found_at name ks (n + 1) w (sym (ap (λ (b : Bool). if b then Some k.link else board.link_named name ks) apart) ∙ e) in
-      let hp = h.place in
       let hi = h.i in
-      record { i = suc hi; k = h.k; there = h.there; link = h.link; place = ap (λ (b : Bool). if b then n else place_named name (map plain_named ks) (n + 1)) apart ∙ hp ∙ (let g : (n + 1) + hi ≡ n + suc hi = omega arith in g) }
+      record { i = suc hi; k = h.k; there = h.there; link = h.link; place = ap (λ (b : Bool). if b then n else place_named name (map plain_named ks) (n + 1)) apart ∙ h.place ∙ (let g : (n + 1) + hi ≡ n + suc hi = omega arith in g) }
 ]
 
 looks_up_kept : (a : Addresses) (id sent : MsgId) (names : List Named) (op : ℕ) (name : List ℕ) (o : Option Link) → board.link_named name names ≡ o → NamesKept a names
@@ -115,7 +114,6 @@ request_mirrors s v a l id body w ws en h =
     let m = board.answer_over v.acting n w asked.reply in
     let q = one.goes_over switchboard n (plain_link w) (((one.answer_row (plain_reply asked.reply)).0) ∷ []) ((one.answer_row (plain_reply asked.reply)).1) in
     let u = kernel_out s l id h.plain in
-    let g = places_out v a l id h.places in
     let s' = record (service.without_message s id) { switchboard = record { names = map plain_named asked.names; sent = n + 1 } } in
     let l' = record (without_message l id) { board = record { names = asked.names; sent = n + 1 } } in
     let plain : MirrorsKernel s' l' = record { processes = u.processes; bag = u.bag; notes = u.notes; noted = u.noted; board = refl; manager = u.manager; machines = u.machines; images = u.images } in
@@ -123,7 +121,7 @@ request_mirrors s v a l id body w ws en h =
       plain = kernel_sent s' l' q m (plain_answer v.acting n w asked.reply) plain;
       places = record {
         process = λ p x e. process_same v a (given b (two sent to from)) p x (let z = k.process p in record { slot = z.slot; owner = z.owner }) (h.places.process p x e);
-        message = came_places a (given b (two sent to from)) l' m g.message
+        message = came_places a (given b (two sent to from)) l' m (places_out v a l id h.places).message
             (λ i e. let z = k.message i e in let y = two_off b sent to from i e in record { receiver = y.receiver ∙ z.receiver; sender = y.sender ∙ z.sender; enclosed = z.enclosed })
             (search (
               ap (λ (c : Bool). if c then to else b (Receiver sent)) (id_eq-same sent) ∙ en 0 w refl,
@@ -151,13 +149,12 @@ board_row s t v a l id m k (PlainWhat.User code channel bytes ls) says hm h e =
     let w = user_what m.what code channel bytes ls says in
     let f : service.switchboard_took s id (one.takes_request s.switchboard bytes ls) ≡ t = cc in
     let body = w.body.items in
-    let links = w.links.items in
-    let on = board_took (without_message l id) (board.takes_request v.acting l.board body links) in (
+    let on = board_took (without_message l id) (board.takes_request v.acting l.board body w.links.items) in (
       on,
       ap (λ (x : What). bind (board.takes v.acting l.board x) (λ (z : board.Taken). Some (board_took (without_message l id) z))) w.is,
       subst (λ (q : OneKernel). Mirrors q v (given a (board_takes_burden s v a id (PlainWhat.User code channel bytes ls))) on) f
           (subst (λ (bs : List ℕ). Mirrors (service.switchboard_took s id (one.takes_request s.switchboard bs ls)) v (given a (board_takes_burden s v a id (PlainWhat.User code channel bs ls))) on) w.bytes_are
           (subst (λ (ks : List PlainLink). Mirrors (service.switchboard_took s id (one.takes_request s.switchboard body ks)) v (given a (board_takes_burden s v a id (PlainWhat.User code channel body ks))) on) w.links_are
-          (board_request s v a l id code channel body links (λ n x g. hm.enclosed n x (ap (λ (y : What). slice_get (enclosed y) n) w.is ∙ g)) h))),
+          (board_request s v a l id code channel body w.links.items (λ n x g. hm.enclosed n x (ap (λ (y : What). slice_get (enclosed y) n) w.is ∙ g)) h))),
     )
 board_row s t v a l id m k u says hm h e = cc

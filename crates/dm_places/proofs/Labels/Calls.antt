@@ -66,9 +66,6 @@ copies_kept v a p x (Some w) is h =
     (regs_kept v a p x (calls.replied Reply.NotCopyable (behind x)).process.regs h)
     (puts_kept v a p x one.Copy w (a (Slot p (reg x.regs 1))) (first_empty x.table) (ap (λ (o : Option ℕ). fills p o (a (Slot p (reg x.regs 1)))) (first_of x.table)) (h.slots (reg x.regs 1) w is) h)
 
-drops_kept : (v : View) (a : Addresses) (p : Pid) (x : Process) (o : Option Link) → MirrorsProcess v a p x → MirrorsDone v a p x one.Drop (calls.drops (behind x) o)
-drops_kept v a p x o h1 = search (arith, regs_kept, emptied_link)
-
 makes_by : (v : View) (a : Addresses) (p : Pid) (x : Process) (b c : Bool) → MirrorsProcess v a p x
     → MirrorsDone v a p x one.Make (calls.unless_refused (first_failed (record { fails = b; reply = Reply.BadKind } ∷ record { fails = c; reply = Reply.BadRange } ∷ [])) (behind x) (calls.puts_link (behind x) (calls.own_link v.acting (behind x)) (first_empty x.table)))
 makes_by v a p x true c h = regs_kept v a p x (calls.replied Reply.BadKind (behind x)).process.regs h
@@ -81,13 +78,12 @@ record Listed (a : Addresses) (p : Pid) (ss : List ℕ) (k : ℕ) (w : Link) : T
   there : slice_get (map (λ (n : ℕ). a (Slot p n)) ss) k ≡ Some place
   is : place ≡ place_of w.addr
 
-listed_step : (v : View) (a : Addresses) (p : Pid) (x : Process) (s : ℕ) (ss : List ℕ) (k : ℕ) (w : Link) (o : Option Link) → MirrorsProcess v a p x → link_at x.table s ≡ o → is_none o ≡ false
-    → ((j : ℕ) → slice_get (filter_map (link_at x.table) ss) j ≡ Some w → Listed a p ss j w) → slice_get (cons_option o (filter_map (link_at x.table) ss)) k ≡ Some w → Listed a p (s ∷ ss) k w
-listed_step v a p x s ss k w o h1 h2 h3 h4 h5 = search arith
-
 listed_kept : (v : View) (a : Addresses) (p : Pid) (x : Process) (ss : List ℕ) (k : ℕ) (w : Link) → MirrorsProcess v a p x → one.any_empty (map plain_slot x.table) ss ≡ false → slice_get (filter_map (link_at x.table) ss) k ≡ Some w → Listed a p ss k w
 listed_kept v a p x [] k w h some e = cc
 listed_kept v a p x (s ∷ ss) k w h some e =
+    let listed_step : (v : View) (a : Addresses) (p : Pid) (x : Process) (s : ℕ) (ss : List ℕ) (k : ℕ) (w : Link) (o : Option Link) → MirrorsProcess v a p x → link_at x.table s ≡ o → is_none o ≡ false
+      → ((j : ℕ) → slice_get (filter_map (link_at x.table) ss) j ≡ Some w → Listed a p ss j w) → slice_get (cons_option o (filter_map (link_at x.table) ss)) k ≡ Some w → Listed a p (s ∷ ss) k w =
+      λ v a p x s ss k w o h1 h2 h3 h4 h5. search arith in
     let first : is_none (link_at (map plain_slot x.table) s) ≡ false = or-left (is_none (link_at (map plain_slot x.table) s)) (one.any_empty (map plain_slot x.table) ss) some in
     listed_step v a p x s ss k w (link_at x.table s) h refl (sym (elim (link_at x.table s) as (λ o. is_none (plain_slot o) ≡ is_none o)
     [ None ↦ refl | Some w ↦ refl ]) ∙ sym (ap is_none (slot_at x.table s)) ∙ first)
@@ -140,9 +136,6 @@ sends_by v a p x w false false true e f over h = regs_kept v a p x (calls.replie
 sends_by v a p x w false false false true f over h = regs_kept v a p x (calls.replied Reply.BadKind (behind x)).process.regs h
 sends_by v a p x w false false false false f over h = user_sent v a p x w over (sym f) h
 
-sends_kept : (v : View) (a : Addresses) (p : Pid) (x : Process) (o : Option Link) → link_at x.table (reg x.regs 1) ≡ o → MirrorsProcess v a p x → MirrorsDone v a p x one.Send (calls.sends v.acting (behind x) o)
-sends_kept v a p x o h1 h2 = search (arith, regs_kept, sends_by)
-
 -- a data move begins, with the owner of the link in slot r1
 move_sent : (v : View) (a : Addresses) (p : Pid) (m : Message) (x y : Process) (to : Place) → to ≡ place_of m.to → acting_place v p ≡ place_of m.sender → enclosed m.what ≡ [] → y.pid ≡ x.pid → y.moves ≡ x.moves → y.table ≡ x.table → owner_at y.status ≡ Some m.to → MirrorsProcess v a p x
     → MirrorsSent v a (given a (gets (Receiver m.id) to ∷ gets (Sender m.id) (acting_place v p) ∷ gets (Owner p) to ∷ [])) p m y
@@ -157,8 +150,11 @@ moves_over_kept : (v : View) (a : Addresses) (p : Pid) (x : Process) (w : Link) 
 moves_over_kept v a p x w None over h = regs_kept v a p x (calls.replied Reply.BadKind (behind x)).process.regs h
 moves_over_kept v a p x w (Some dir) over h = search (arith, unless_kept, if_kept, regs_kept, begins_kept)
 
-moves_kept : (v : View) (a : Addresses) (p : Pid) (x : Process) (o : Option Link) → link_at x.table (reg x.regs 1) ≡ o → MirrorsProcess v a p x → MirrorsDone v a p x one.Move (calls.moves v.acting (behind x) o)
-moves_kept v a p x o h1 h2 = search (arith, regs_kept, moves_over_kept)
-
 pub does_call_kept : (v : View) (a : Addresses) (p : Pid) (x : Process) (n : CallNumber) → MirrorsProcess v a p x → MirrorsDone v a p x n (calls.does_call v.acting (behind x) n)
-does_call_kept v a p x n h1 = search (arith, regs_kept, makes_by, copies_kept, drops_kept, sends_kept, if_kept, moves_kept)
+does_call_kept v a p x n h1 =
+    let sends_kept : (v : View) (a : Addresses) (p : Pid) (x : Process) (o : Option Link) → link_at x.table (reg x.regs 1) ≡ o → MirrorsProcess v a p x → MirrorsDone v a p x one.Send (calls.sends v.acting (behind x) o) =
+      λ v a p x o h1 h2. search (arith, regs_kept, sends_by) in
+    let moves_kept : (v : View) (a : Addresses) (p : Pid) (x : Process) (o : Option Link) → link_at x.table (reg x.regs 1) ≡ o → MirrorsProcess v a p x → MirrorsDone v a p x one.Move (calls.moves v.acting (behind x) o) =
+      λ v a p x o h1 h2. search (arith, regs_kept, moves_over_kept) in
+    let drops_kept : (v : View) (a : Addresses) (p : Pid) (x : Process) (o : Option Link) → MirrorsProcess v a p x → MirrorsDone v a p x one.Drop (calls.drops (behind x) o) = λ v a p x o h1. search (arith, regs_kept, emptied_link) in
+    search (arith, regs_kept, makes_by, copies_kept, drops_kept, sends_kept, if_kept, moves_kept)

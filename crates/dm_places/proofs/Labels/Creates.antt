@@ -27,21 +27,19 @@ slots_plainly [] zero = refl
 slots_plainly [] (suc n) = ap (λ (t : List (Option PlainLink)). None ∷ t) (slots_plainly [] n)
 slots_plainly (w ∷ ws) n = ap (λ (t : List (Option PlainLink)). Some (plain_link w) ∷ t) (slots_plainly ws n)
 
-table_plainly : (slots : ℕ) (links : List Link) → slots_with slots (map plain_link links) ≡ map plain_slot (slots_with slots links)
-table_plainly slots links =
-    ap (λ (n : ℕ). map Some (map plain_link links) ++ replicate (slots - n) None) (length-map links plain_link) ∙ slots_plainly links (slots - length links)
-
 pub begun_plainly : (f : Format) (p : Pid) (image : BootImage) (links : List Link) → one.begun f image (map plain_link links) ≡ plain_process (begun_process p (memory_of image) (slots_with (slots_of f) links))
-begun_plainly f p image links = search (arith, table_plainly)
+begun_plainly f p image links =
+    let table_plainly : (slots : ℕ) (links : List Link) → slots_with slots (map plain_link links) ≡ map plain_slot (slots_with slots links) =
+      λ slots links. ap (λ (n : ℕ). map Some (map plain_link links) ++ replicate (slots - n) None) (length-map links plain_link) ∙ slots_plainly links (slots - length links) in
+    search (arith, table_plainly)
 
 begun_mirrors : (s : OneKernel) (v : View) (a : Addresses) (l : Placed) (id : MsgId) (m : Message) (child : Pid) (image : BootImage) (links : List Link) → v.moves child ≡ 0 → MirrorsMessage a id m → enclosed m.what ≡ links → Mirrors s v a l
     → Mirrors (service.with_created (service.without_message s id) child image (map plain_link links)) v (given a (child_links a child id 0 (map plain_link links))) (with_child (without_message l id) s.format child image links)
 begun_mirrors s v a l id m child image links none hm is h =
     let ls = map plain_link links in
-    let b = given a (child_links a child id 0 ls) in
     let o = only_child a child id ls 0 in
     let y = begun_process child (memory_of image) (slots_with (slots_of s.format) links) in
-    let hy : MirrorsProcess v b child y = record {
+    let hy : MirrorsProcess v (given a (child_links a child id 0 ls)) child y = record {
       pid = refl;
       moves = sym none;
       slots = λ k w e.

@@ -1,9 +1,9 @@
 -- What the process manager takes, with places: it tells kernels and children, and answers over links, where the lines say.
-use Rattle.dm_places.proofs.Names.{◌≡◌, ℕ, suc, ◌+◌, ◌==◌, ◌&&◌, Bool, true, false, List, [], ◌∷◌, length, refl, ap, ◌∙◌, subst, inl, inr, nat_lt, arith, if◌then◌else◌, map, option_map, slice_get, Option, None, Some, nat_tests}
-use Rattle.dm_places.proofs.Names.{slice_get-map, Addr, Link, place_of, plain_link, MsgId, What, id_of, PlainMessage, PlainWhat, plain_message, manager, OneKernel, goes_over, Pending, Managing, plain_child, plain_manager, plain_pending}
-use Rattle.dm_places.proofs.Names.{answer_over, message_to, Taken, child_address, plain_numbered, plain_push, id_eq-same, View, Addresses, gets, given, Receiver, Sender, Enclosed, Child, Answer, unmoved, encloses, enclosed_from}
-use Rattle.dm_places.proofs.Names.{manager_sends, ascends, encloses_servers, encloses_process, encloses_message, encloses_at, two, enclosed_at, Placed, Mirrors, MirrorsKernel, enclosed, manager_took, without_message, AnswerNames, Place}
-use Rattle.dm_places.proofs.Names.{PlainLink, pending_request, ◌++◌, kernel_at, PendingKind, sym, Pid, option_map_or}
+use Rattle.dm_places.proofs.Names.{◌≡◌, ℕ, suc, ◌+◌, ◌==◌, ◌&&◌, Bool, true, false, List, [], ◌∷◌, refl, ap, ◌∙◌, subst, inl, inr, nat_lt, arith, if◌then◌else◌, map, option_map, slice_get, Option, None, Some, nat_tests, slice_get-map, Addr}
+use Rattle.dm_places.proofs.Names.{Link, place_of, plain_link, MsgId, What, id_of, PlainMessage, PlainWhat, plain_message, manager, OneKernel, goes_over, Pending, Managing, plain_child, plain_manager, plain_pending, answer_over, message_to}
+use Rattle.dm_places.proofs.Names.{Taken, child_address, plain_numbered, plain_push, id_eq-same, View, Addresses, gets, given, Receiver, Sender, Enclosed, Child, Answer, unmoved, encloses, enclosed_from, manager_sends, ascends}
+use Rattle.dm_places.proofs.Names.{encloses_servers, encloses_process, encloses_message, encloses_at, two, enclosed_at, Placed, Mirrors, MirrorsKernel, enclosed, manager_took, without_message, AnswerNames, Place, PlainLink, pending_request}
+use Rattle.dm_places.proofs.Names.{◌++◌, kernel_at, PendingKind, sym, Pid, option_map_or}
 use Rattle.dm_onekernel.specs.Kernel as kernels
 use Rattle.dm_onekernel.specs.Manager as one
 use Rattle.dm_onekernel.specs.Service as service
@@ -16,7 +16,7 @@ use Rattle.dm_places.proofs.Pendings.{numbered_below, pending_last}
 abbrev pub InOrder : Managing → Type 0
 InOrder g = ascends 0 (map plain_pending g.pending) g.sent ≡ true
 
-abbrev TookAt : OneKernel → View → Addresses → Placed → MsgId → MsgId → ℕ → one.ManagerTook → Taken → Type 0
+abbrev pub TookAt : OneKernel → View → Addresses → Placed → MsgId → MsgId → ℕ → one.ManagerTook → Taken → Type 0
 TookAt s v a l id mid code k t = Mirrors (service.manager_took s id k) v (given a (manager_sends v a mid code k.message)) (manager_took (without_message l id) t)
 
 abbrev pub LinksKept : Addresses → MsgId → List Link → Type 0
@@ -44,9 +44,6 @@ first_names : (a : Addresses) (mid : MsgId) (links : List Link) → LinksKept a 
 first_names a mid [] en = tt
 first_names a mid (w ∷ ws) en = en 0 w refl
 
-first_plainly : (links : List Link) → option_map plain_link (take.first_link links) ≡ (slice_get (map plain_link links) 0)
-first_plainly links = search arith
-
 -- the links that are kept, once one more request is pending
 asked_names : (a c : Addresses) (g : Managing) (z : Pending) (pl : Place) → ((j : ℕ) → c (Answer j) ≡ a (Answer j)) → z.n ≡ g.sent → AnswerNames z.answer pl → InOrder g
     → ((j : ℕ) (y : Pending) → pending_request j g.pending ≡ Some y → AnswerNames y.answer (a (Answer j)))
@@ -67,19 +64,15 @@ asks_for_mirrors s v a l id mid code machine image w ws en order h =
     let ls = map plain_link ws in
     let ps = enclosed_from a mid 1 ls in
     let to = unmoved machine in
-    let from = unmoved v.acting in
-    let pl = a (Enclosed mid 0) in
     let c = given a (encloses sent 0 ps) in
-    let b = given c (gets (Receiver sent) to ∷ gets (Sender sent) from ∷ gets (Answer n) pl ∷ []) in
+    let b = given c (gets (Receiver sent) to ∷ gets (Sender sent) (unmoved v.acting) ∷ gets (Answer n) (a (Enclosed mid 0)) ∷ []) in
     let r : Pending = record { n = n; kind = PendingKind.Create; answer = Some w } in
     let k = one.asks_for (plain_manager g) machine image (plain_link w) ls in
-    let t = take.asks_for v.acting g machine image w ws in
     let m = message_to v.acting n (kernel_at machine) (What.Create image (record { items = ws })) in
     let q : PlainMessage = record { id = sent; to = m.to.pid; sender = manager; what = PlainWhat.Create image ls } in
     let u = kernel_out s l id h.plain in
-    let o = places_out v a l id h.places in
     let s' = record (service.without_message s id) { manager = k.manager } in
-    let l' = record (without_message l id) { manager = t.manager } in
+    let l' = record (without_message l id) { manager = (take.asks_for v.acting g machine image w ws).manager } in
     let plain : MirrorsKernel s' l' = search
     (ap (λ (rs : List kernels.Pending). record (plain_manager g) { pending = rs; sent = n + 1 }) (plain_push g.pending r)) in
     let servers = encloses_servers a sent 0 ps in
@@ -87,18 +80,18 @@ asks_for_mirrors s v a l id mid code machine image w ws en order h =
       plain = kernel_sent s' l' q m refl plain;
       places = record {
         process = λ p x e. process_same v a b p x (let z = encloses_process a sent 0 ps p in record { slot = z.slot; owner = z.owner }) (h.places.process p x e);
-        message = came_places a b l' m o.message
+        message = came_places a b l' m (places_out v a l id h.places).message
             (λ i e. let z = encloses_message a sent 0 ps i e in (search (arith)))
             (record {
               id = refl;
               receiver = ap (λ (d : Bool). if d then to else c (Receiver sent)) (id_eq-same sent);
-              sender = ap (λ (d : Bool). if d then from else c (Sender sent)) (id_eq-same sent);
+              sender = ap (λ (d : Bool). if d then (unmoved v.acting) else c (Sender sent)) (id_eq-same sent);
               enclosed = λ j x e. encloses_at a sent 0 ps j j (a (Enclosed mid (1 + j))) (enclosed_at a mid 1 ls j (plain_link x) (slice_get-map plain_link ws j ∙ ap (option_map plain_link) e)) (omega arith)
                   ∙ (let f : 1 + j ≡ suc j = omega arith in ap (λ (i : ℕ). a (Enclosed mid i)) f) ∙ en (suc j) x e;
             });
         name = λ j x e. servers.name j ∙ h.places.name j x e;
         child = λ j x e. servers.child j ∙ h.places.child j x e;
-        answer = asked_names a c g r pl servers.answer refl (en 0 w refl) order h.places.answer;
+        answer = asked_names a c g r (a (Enclosed mid 0)) servers.answer refl (en 0 w refl) order h.places.answer;
         asker = λ q k e. servers.asked q ∙ h.places.asker q k e;
       };
     }
@@ -143,20 +136,19 @@ moves_mirrors s v a l id mid code child machine links to en order h =
     let g = l.manager in
     let n = g.sent in
     let sent = id_of manager n in
-    let pl = a (Enclosed mid 0) in
-    let b = given a (gets (Answer n) pl ∷ []) in
+    let b = given a (gets (Answer n) (a (Enclosed mid 0)) ∷ []) in
     let r : Pending = record { n = n; kind = PendingKind.Move; answer = take.first_link links } in
     let k = one.sends_request (plain_manager g) PendingKind.Move child.pid (PlainWhat.Move machine) (slice_get (map plain_link links) 0) in
     let t = take.asks v.acting g PendingKind.Move child (What.Move machine) (take.first_link links) in
-    let m = message_to v.acting n child (What.Move machine) in
     let q : PlainMessage = record { id = sent; to = child.pid; sender = manager; what = PlainWhat.Move machine } in
     let u = kernel_out s l id h.plain in
     let o = places_out v a l id h.places in
     let s' = record (service.without_message s id) { manager = k.manager } in
     let l' = record (without_message l id) { manager = t.manager } in
     let kept : plain_manager t.manager ≡ k.manager =
+    let first_plainly : option_map plain_link (take.first_link links) ≡ (slice_get (map plain_link links) 0) = search arith in
     ap (λ (rs : List kernels.Pending). record (plain_manager g) { pending = rs; sent = n + 1 })
-    (plain_push g.pending r ∙ ap (λ (w : Option PlainLink). map plain_pending g.pending ++ record { n = n; kind = PendingKind.Move; answer = w } ∷ []) (first_plainly links))
+    (plain_push g.pending r ∙ ap (λ (w : Option PlainLink). map plain_pending g.pending ++ record { n = n; kind = PendingKind.Move; answer = w } ∷ []) first_plainly)
     in
     let done : Mirrors s' v b l' = record {
       plain = record { processes = u.processes; bag = u.bag; notes = u.notes; noted = u.noted; board = u.board; manager = kept; machines = u.machines; images = u.images };
@@ -165,11 +157,11 @@ moves_mirrors s v a l id mid code child machine links to en order h =
         message = λ i x e. message_same a b i x (record { receiver = refl; sender = refl; enclosed = λ j. refl }) (o.message i x e);
         name = o.name;
         child = o.child;
-        answer = asked_names a a g r pl (λ j. refl) refl (first_names a mid links en) order h.places.answer;
+        answer = asked_names a a g r (a (Enclosed mid 0)) (λ j. refl) refl (first_names a mid links en) order h.places.answer;
         asker = o.asker;
       };
     } in
-    let w = two_sends s' v b l' m q (a (Child code)) (unmoved v.acting) refl refl to refl done in
+    let w = two_sends s' v b l' (message_to v.acting n child (What.Move machine)) q (a (Child code)) (unmoved v.acting) refl refl to refl done in
     let z = w.places in
     record {
       plain = w.plain;
@@ -199,7 +191,7 @@ controls_mirrors s v a l id mid code None (b ∷ []) links is en order h = bad_m
 controls_mirrors s v a l id mid code None (b ∷ machine ∷ []) links is en order h = bad_mirrors s v a l id mid code links en h
 controls_mirrors s v a l id mid code _ _ links is en order h = bad_mirrors s v a l id mid code links en h
 
-user_of : (s : OneKernel) (v : View) (a : Addresses) (l : Placed) (id mid : MsgId) (code : ℕ) (body : List ℕ) (links : List Link) → LinksKept a mid links → InOrder l.manager → Mirrors s v a l
+pub user_of : (s : OneKernel) (v : View) (a : Addresses) (l : Placed) (id mid : MsgId) (code : ℕ) (body : List ℕ) (links : List Link) → LinksKept a mid links → InOrder l.manager → Mirrors s v a l
     → TookAt s v a l id mid code (one.takes_user (plain_manager l.manager) l.manager.machines l.manager.images code body (map plain_link links)) (take.takes_user v.acting l.manager code body links)
 user_of s v a l id mid code body links en order h =
     let g = l.manager in
@@ -207,11 +199,3 @@ user_of s v a l id mid code body links en order h =
     (take.requests v.acting g body links) (take.controls v.acting g (child_address g.children code) body links) (requests_mirrors s v a l id mid code body links en order h)
     (subst (λ (o : Option Pid). TookAt s v a l id mid code (one.controls (plain_manager g) g.machines o body (map plain_link links)) (take.controls v.acting g (child_address g.children code) body links)) (sym (plain_numbered g.children code))
     (controls_mirrors s v a l id mid code (child_address g.children code) body links refl en order h))
-
--- a user message to the manager
-pub user_mirrors : (s : OneKernel) (v : View) (a : Addresses) (l : Placed) (id mid : MsgId) (code : ℕ) (body : List ℕ) (links : List Link) → LinksKept a mid links → InOrder l.manager → Mirrors s v a l
-    → Mirrors (service.manager_took s id (one.takes_user s.manager s.machines (length s.images) code body (map plain_link links))) v
-    (given a (manager_sends v a mid code (one.takes_user s.manager s.machines (length s.images) code body (map plain_link links)).message)) (manager_took (without_message l id) (take.takes_user v.acting l.manager code body links))
-user_mirrors s v a l id mid code body links en order h =
-    subst (λ (k : one.ManagerTook). TookAt s v a l id mid code k (take.takes_user v.acting l.manager code body links)) (λ i. one.takes_user (h.plain.manager i) (h.plain.machines i) (h.plain.images i) code body (map plain_link links))
-    (user_of s v a l id mid code body links en order h)

@@ -13,6 +13,7 @@ use Rattle.dm_onekernel.specs.Step as kernel
 use Rattle.dm_syscall.specs.Completing as completing
 use Rattle.dm_rule.specs.Addresses as addresses
 use Rattle.dm_places.specs.PlacedStep as placed
+use Rattle.std.proofs.lemmas.Option.{cond_some}
 
 -- the slots that links go into, and what they get
 abbrev table_after : List (Option Link) → Link → Option ℕ → List (Option Link)
@@ -35,12 +36,9 @@ puts_plainly a p id n table (w ∷ ws) =
     ∙ ap (λ (gs : List Gets). fills p (first_empty table) (a (Enclosed id n)) ++ gs) (puts_plainly a p id (n + 1) (table_after table w (first_empty table)) ws)
 
 -- a link that stands in a slot stays while others are placed
-stays_step : (t : completing.Placed) (r : ℕ) (l : Link) (j : ℕ) (w : Link) (o : Option ℕ) → first_empty t.table ≡ o → link_at t.table j ≡ Some w → link_at (completing.place_into t r l o).table j ≡ Some w
-stays_step t r l j w o h1 h2 = search (arith, is_empty, set_off)
-
 stays : (ls : List Link) (t : completing.Placed) (r : ℕ) (j : ℕ) (w : Link) → link_at t.table j ≡ Some w → link_at (completing.place_links t r ls).table j ≡ Some w
 stays [] t r j w e = e
-stays (l ∷ ls) t r j w e = stays ls (completing.place_into t r l (first_empty t.table)) (r + 1) j w (stays_step t r l j w (first_empty t.table) refl e)
+stays (l ∷ ls) t r j w e = stays ls (completing.place_into t r l (first_empty t.table)) (r + 1) j w (let e_ : link_at (completing.place_into t r l (first_empty t.table)).table j ≡ Some w = search (arith, is_empty, set_off) in e_)
 
 -- the links of a message from number n on
 abbrev EnclosedFrom : Addresses → MsgId → ℕ → List Link → Type 0
@@ -94,9 +92,8 @@ unless_kept : (v : View) (a : Addresses) (p : Pid) (id i : MsgId) (x : Process) 
     → CompletedKept v a p id x (PlainWhat.User code channel body (map plain_link links)) d (completes_unless o x (completing.receives x 0 i base code channel body links)).process
 unless_kept v a p id i x base code channel body links (Some c) d h en e = search arith
 unless_kept v a p id i x base code channel body links None d h en e =
-    let y = (completing.receives x 0 i base code channel body links).process in
     let t : completing.Placed = record { regs = one.received_regs x.regs code channel (length body) (length links); table = x.table } in
-    subst (λ (k : one.Completed). CompletedKept v a p id x (PlainWhat.User code channel body (map plain_link links)) k y) e
+    subst (λ (k : one.Completed). CompletedKept v a p id x (PlainWhat.User code channel body (map plain_link links)) k (completing.receives x 0 i base code channel body links).process) e
     (record {
       process = record {
         pid = h.pid;
@@ -106,9 +103,6 @@ unless_kept v a p id i x base code channel body links None d h en e =
       };
       only = only_receives a p id (map plain_link links) 0 (map plain_slot x.table);
     })
-
-test_is : {A : Type 0} (b : Bool) (x d : A) → (if b then Some x else None) ≡ Some d → b ≡ true
-test_is b x d h1 = search arith
 
 record Completes (v : View) (a : Addresses) (p : Pid) (id : MsgId) (x : Process) (m : Message) (u : PlainWhat) (d : one.Completed) : Type 0 where
   e : Completion
@@ -120,14 +114,12 @@ completes_what_of : (v : View) (a : Addresses) (p : Pid) (id : MsgId) (x : Proce
     → plain_message m ≡ Some k → k.what ≡ u → MirrorsProcess v a p x → EnclosedFrom a id 0 (enclosed m.what) → one.completes_what p (plain_process x) k mask base size u ≡ Some d → Completes v a p id x m k.what d
 completes_what_of v a p id x m k d mask base size (PlainWhat.User code channel bytes ls) waits says is h en e =
     let w = user_what m.what code channel bytes ls ((parts m k says).what ∙ ap Some is) in
-    let tests = and-both (pid_eq k.to p) (on_mask mask channel) (test_is (pid_eq k.to p && on_mask mask channel) (one.completes (plain_process x) base size code channel bytes ls) d e) in
-    let o = first_failed (one.receive_refusals (plain_process x) size w.body.items (map plain_link w.links.items)) in
-    let z = completes_unless o x (completing.receives x 0 m.id base code channel w.body.items w.links.items) in
-    let comp : completing.completion x 0 (Status.Waiting mask base size) (Some m) ≡ Some z = ap (completes x 0 m.id base size) w.is in
+    let tests = and-both (pid_eq k.to p) (on_mask mask channel) (cond_some (pid_eq k.to p && on_mask mask channel) (one.completes (plain_process x) base size code channel bytes ls) d e).0 in
+    let z = completes_unless (first_failed (one.receive_refusals (plain_process x) size w.body.items (map plain_link w.links.items))) x (completing.receives x 0 m.id base code channel w.body.items w.links.items) in
     let to : k.to ≡ x.pid = pid_eq-is k.to p tests.0 ∙ sym h.pid in
     let on : what_is_on mask m.what ≡ true = ap (what_is_on mask) w.is ∙ tests.1 in
     let same : one.completes_status x.pid (plain_process x) k (plain_status (Status.Waiting mask base size)) ≡ Some (plain_completed z.completed z.process) =
-    status_plainly x 0 (Status.Waiting mask base size) (Some m) z k on comp says to
+    status_plainly x 0 (Status.Waiting mask base size) (Some m) z k on (ap (completes x 0 m.id base size) w.is) says to
     in
     let same_k : one.completes_status x.pid (plain_process x) k (plain_status (Status.Waiting mask base size)) ≡ Some d =
     (λ i. one.completes_what (h.pid i) (plain_process x) k mask base size (is i)) ∙ e
@@ -165,8 +157,7 @@ completing_of s v a l p id d h is =
     let (k, there, last) = bind-is (s.bag id) (one.completes_with p w) d rest in
     let (x, stands, x_is) = alive_of s l p w h.plain alive in
     let (m, found, says) = there_of s l id k h.plain there in
-    let hm = h.places.message id m found in
-    let c = completes_with_of v a p id x m k d x.stopped says (h.places.process p x stands) (λ n j u f g. let jn : j ≡ n = omega (arith, g) in ap (λ (i : ℕ). a (Enclosed id i)) jn ∙ hm.enclosed n u f)
+    let c = completes_with_of v a p id x m k d x.stopped says (h.places.process p x stands) (λ n j u f g. let jn : j ≡ n = omega (arith, g) in ap (λ (i : ℕ). a (Enclosed id i)) jn ∙ (h.places.message id m found).enclosed n u f)
     (ap (λ (y : PlainProcess). one.completes_with p y k) x_is ∙ last) in
     search arith
 
@@ -200,13 +191,12 @@ refuse_row : (s t : OneKernel) (v : View) (a : Addresses) (l : Placed) (p : Pid)
     → Follows t v a (bind (placed.completed l p id) (λ (e : Completion). Some (with_process l p (Some e.process))))
 refuse_row s t v a l p id r (one.Receives z) w f h = cc
 refuse_row s t v a l p id r (one.Refuses c z) w f h =
-    let k = when-is (reply_eq r c) (kernel.goes_on s p z) t f in
     let y = w.e.process in
     let on = with_process l p (Some y) in (
       on,
       ap (λ (q : Option Completion). bind q (λ (e : Completion). Some (with_process l p (Some e.process)))) w.completed,
       subst (λ (u : OneKernel). Mirrors u v a on) (ap (kernel.goes_on s p) ((elim w.e.completed as (λ c_. plain_completed c_ y ≡ one.Refuses c z → plain_process y ≡ z)
-          [ Completed.Received i ↦ λ e_. cc | Completed.Refused q ↦ λ e_. cc ]) w.plain) ∙ k.1) (goes_mirrors s v a l p y h w.kept),
+          [ Completed.Received i ↦ λ e_. cc | Completed.Refused q ↦ λ e_. cc ]) w.plain) ∙ (when-is (reply_eq r c) (kernel.goes_on s p z) t f).1) (goes_mirrors s v a l p y h w.kept),
     )
 
 pub refuse_follows : (s t : OneKernel) (v : View) (a : Addresses) (l : Placed) (p : Pid) (id : MsgId) (r : Reply) → kernel.step s (Label.Refuse p id r) ≡ Some t → Mirrors s v a l

@@ -1,9 +1,9 @@
 -- What is served with places: control messages, pieces of data moves, and their landing.
-use Rattle.dm_places.proofs.Names.{◌≡◌, ℕ, ◌+◌, ◌==◌, Bool, true, false, List, [], length, refl, ap, ◌∙◌, sym, subst, nat_le, if◌then◌else◌, take, drop, Option, None, Some, ArrayVec, Pid, Addr, place_of, MsgId, Message, What, Label, Why}
-use Rattle.dm_places.proofs.Names.{PlainMessage, PlainWhat, plain_message, plain_what, Process, Direction, Status, Reply, bind, Ended, OneKernel, plain_process, plain_status, PlainProcess, answer_to, piece_of, written_at, Rest, Landed}
-use Rattle.dm_places.proofs.Names.{Landing, plain_landed, after_serving, answer, answer_of, answer_with, serving_answer, ends_plainly, goes_on_plainly, bind-is, View, Addresses, Gets, answer_gets, given, gives, acting_place, serves_burden}
-use Rattle.dm_places.proofs.Names.{Owner, two, gone_lands, nothing_lands, Placed, Mirrors, MirrorsMessage, MirrorsProcess, enclosed, owner_at, after_landing, with_process, with_sent, without_message, some_is, landing_gets, at_hand-is}
-use Rattle.dm_places.proofs.Names.{option_map_or, arith}
+use Rattle.dm_places.proofs.Names.{◌≡◌, ℕ, ◌+◌, true, false, List, [], length, refl, ap, ◌∙◌, sym, subst, nat_le, take, drop, Option, None, Some, ArrayVec, Pid, Addr, place_of, MsgId, Message, What, Label, Why, PlainMessage, PlainWhat}
+use Rattle.dm_places.proofs.Names.{plain_message, plain_what, Process, Direction, Status, Reply, bind, Ended, OneKernel, plain_process, plain_status, PlainProcess, answer_to, piece_of, written_at, Rest, Landed, Landing, plain_landed}
+use Rattle.dm_places.proofs.Names.{after_serving, answer, answer_of, answer_with, serving_answer, ends_plainly, goes_on_plainly, bind-is, View, Addresses, Gets, answer_gets, given, gives, acting_place, serves_burden, Owner, two, gone_lands}
+use Rattle.dm_places.proofs.Names.{nothing_lands, Placed, Mirrors, MirrorsMessage, MirrorsProcess, enclosed, owner_at, after_landing, with_process, with_sent, without_message, some_is, landing_gets, at_hand-is, option_map_or}
+use Rattle.dm_places.proofs.Names.{arith}
 use Rattle.dm_places.proofs.Keeps.{alive_of, ends_mirrors, goes_mirrors, out_mirrors, parts, there_of}
 use Rattle.dm_places.proofs.Labels.Calls.{stands_here}
 use Rattle.dm_places.proofs.Labels.Acts.{Follows}
@@ -61,15 +61,10 @@ lands_what_of : (v : View) (a : Addresses) (p : Pid) (x : Process) (dir : Direct
     → Lands v a p x (landing.lands_what v.acting x (record { dir = dir; owner = owner; base = base; own = own; left = left }) dir w) c
 lands_what_of v a p x dir owner base own left w u c h1 h2 h3 h4 = search (arith, block_what, some_is, goes_lands, written_what, ends_lands, gone_what)
 
-lands_if : (v : View) (a : Addresses) (p : Pid) (x : Process) (b : Bool) (dir : Direction) (owner : Addr) (base own left : ℕ) (w : What) (u : PlainWhat) (c : pieces.Landed) → plain_what w ≡ Some u → MirrorsProcess v a p x → a (Owner p) ≡ place_of owner
-    → (if b then pieces.lands_what p (plain_process x) dir owner.pid base own left u else None) ≡ Some c
-    → Lands v a p x (landing.lands_what v.acting x (record { dir = dir; owner = owner; base = base; own = own; left = left }) dir w) c
-lands_if v a p x b dir owner base own left w u c h1 h2 h3 h4 = search (arith, lands_what_of)
-
 lands_of : (v : View) (a : Addresses) (p : Pid) (x : Process) (m : Message) (u : PlainWhat) (st : Status) (c : pieces.Landed) → x.status ≡ st → plain_what m.what ≡ Some u → MirrorsProcess v a p x
     → pieces.lands p (plain_process x) (plainly m u) (plain_status st) ≡ Some c → Lands v a p x (landing.landing v.acting x m.what st) c
 lands_of v a p x m u (Status.Moving dir owner base own left pending) c st is h e =
-    lands_if v a p x (m.id.n == pending) dir owner base own left m.what u c is h (h.owner owner (ap owner_at st)) e
+    search (arith, lands_what_of, h.owner owner (ap owner_at st))
 lands_of v a p x m u _ c st is h e = cc
 
 landed_mirrors : (s : OneKernel) (v : View) (a : Addresses) (l : Placed) (id : MsgId) (m : Message) (u : PlainWhat) (w : Landed) (y : Process) (c : pieces.Landed) → plain_landed w y ≡ Some c → LandedKept v a m.to.pid w y → Mirrors s v a l
@@ -121,11 +116,10 @@ answers_row : (s : OneKernel) (v : View) (a : Addresses) (l : Placed) (id : MsgI
 answers_row s v a l id m x y u r w hm says ws none hx hy h e f =
     let k = plainly m u in
     let t = service.answered s id k (record { process = plain_process y; answer = answer_to k r }) in
-    let n = answer v.acting x.moves m w in
-    let on = with_sent (with_process (without_message l id) m.to.pid (Some y)) (Some n) in (
+    let on = with_sent (with_process (without_message l id) m.to.pid (Some y)) (Some (answer v.acting x.moves m w)) in (
       on,
       ap (λ (o : Option Message). bind o (λ (z : Message). Some (with_sent (with_process (without_message l id) m.to.pid (Some (after_serving x m.what))) (Some z)))) e
-          ∙ ap (λ (z : Process). Some (with_sent (with_process (without_message l id) m.to.pid (Some z)) (Some n))) f,
+          ∙ ap (λ (z : Process). Some (with_sent (with_process (without_message l id) m.to.pid (Some z)) (Some (answer v.acting x.moves m w)))) f,
       subst (λ (c : ℕ). Mirrors t v (given a (answer_gets a id (record { at = v.acting; moves = c }))) on) hx.moves
           (answer_mirrors (service.changed s id k (plain_process y)) v a (with_process (without_message l id) m.to.pid (Some y)) id m k w r x.moves hm (ap (said.with_what m) says) ws none
           (goes_mirrors (service.without_message s id) v a (without_message l id) m.to.pid y (out_mirrors s v a l id h) hy)),
@@ -206,8 +200,7 @@ served_follows s t v a l id is h =
     let alive : kernel.alive (s.processes m.to.pid) ≡ Some z = ap kernel.alive (at_hand-is s m.to.pid z hand).1 in
     let (x, stands, x_is) = alive_of s l m.to.pid z h.plain alive in
     let gs_is : serves_burden v a id (plainly m u) (plain_process x) u ≡ gives s v a (Label.Served id) =
-    ap (λ (p : PlainProcess). serves_burden v a id (plainly m u) p u) x_is ∙ ap (λ (o : Option PlainProcess). option_map_or (λ y. serves_burden v a id (plainly m u) y u) o []) (sym alive)
-        ∙ ap (λ (w : PlainMessage). addresses.service_gets s v a id (Some w)) (sym km) ∙ ap (addresses.service_gets s v a id) (sym there) in
+    ap (λ (p : PlainProcess). serves_burden v a id (plainly m u) p u) x_is ∙ ap (λ (o : Option PlainProcess). option_map_or (λ y. serves_burden v a id (plainly m u) y u) o []) (sym alive) ∙ ap (λ (w : PlainMessage). addresses.service_gets s v a id (Some w)) (sym km) ∙ ap (addresses.service_gets s v a id) (sym there) in
     let (on, step, mirrors) = serve_row s t v a l id m x u (parts m k says).what (ap (λ (p : PlainProcess). service.serves s id (plainly m u) p u) x_is ∙ last) (h.places.message id m found) (h.places.process m.to.pid x stands) h in (
       on,
       ap (λ (o : Option Message). bind o (λ (n : Message). bind (l.processes n.to.pid) (λ (y : Process). placed.serves v.acting (without_message l id) n y n.what))) found

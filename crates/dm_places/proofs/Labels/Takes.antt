@@ -8,7 +8,7 @@ use Rattle.dm_places.proofs.Keeps.{answer_as, came_places, kernel_out, kernel_se
 use Rattle.dm_places.proofs.Labels.Acts.{Follows}
 use Rattle.dm_places.proofs.Labels.Boards.{board_row}
 use Rattle.dm_places.proofs.Pendings.{child_last, still_pending}
-use Rattle.dm_places.proofs.Labels.Managers.{InOrder, user_mirrors}
+use Rattle.dm_places.proofs.Labels.Managers.{InOrder, LinksKept, TookAt, user_of}
 use Rattle.dm_places.proofs.Whats.{user_what, created_what, moved_what, no_room_what}
 use Rattle.dm_onekernel.specs.Manager as one
 use Rattle.dm_onekernel.specs.Service as service
@@ -38,12 +38,11 @@ answers_mirrors : (s : OneKernel) (v : View) (a c : Addresses) (l : Placed) (id 
     (manager_took (without_message l id) (take.answers_over v.acting g over byte ws))
 answers_mirrors s v a c l id n r g k byte ws None is there order h one_is plain_is pending machines images process message name answer asked child =
     let u = kernel_out s l id h.plain in
-    let o = places_out v a l id h.places in
     record {
       plain = record { processes = u.processes; bag = u.bag; notes = u.notes; noted = u.noted; board = u.board; manager = plain_is; machines = machines ∙ u.machines; images = images ∙ u.images };
       places = record {
-        process = λ p x e. process_same v a c p x (process p) (o.process p x e);
-        message = λ i x e. message_same a c i x (message i) (o.message i x e);
+        process = λ p x e. process_same v a c p x (process p) ((places_out v a l id h.places).process p x e);
+        message = λ i x e. message_same a c i x (message i) ((places_out v a l id h.places).message i x e);
         name = λ j w e. name j ∙ h.places.name j w e;
         child = child;
         answer = λ j w e. answer_as w.answer (answer j) (h.places.answer j w (still_pending l.manager.pending 0 l.manager.sent n j w order (ap (pending_request j) (sym pending) ∙ e)));
@@ -58,7 +57,6 @@ answers_mirrors s v a c l id n r g k byte ws (Some over) is there order h one_is
     let m = answer_over v.acting g.sent over byte ws in
     let q = goes_over manager g.sent (plain_link over) (byte ∷ []) (map plain_link ws) in
     let u = kernel_out s l id h.plain in
-    let o = places_out v a l id h.places in
     let s' = record (service.without_message s id) { manager = record (plain_manager g) { sent = g.sent + 1 } } in
     let l' = record (without_message l id) { manager = record g { sent = g.sent + 1 } } in
     let plain : MirrorsKernel s' l' = record { processes = u.processes; bag = u.bag; notes = u.notes; noted = u.noted; board = u.board; manager = refl; machines = machines ∙ u.machines; images = images ∙ u.images } in
@@ -67,7 +65,7 @@ answers_mirrors s v a c l id n r g k byte ws (Some over) is there order h one_is
       plain = kernel_sent s' l' q m refl plain;
       places = record {
         process = λ p x e. process_same v a b p x (let w = process p in record { slot = w.slot; owner = w.owner }) (h.places.process p x e);
-        message = came_places a b l' m o.message
+        message = came_places a b l' m (places_out v a l id h.places).message
             (λ i e. let w = message i in (search (arith)))
             (search (
               ap (λ (d : Bool). if d then to else c (Receiver sent)) (id_eq-same sent) ∙ subst (λ (w : Option Link). AnswerNames w to) is (h.places.answer n r there),
@@ -98,8 +96,7 @@ child_first s v a l j pl n None h = h
 child_first s v a l j pl n (Some q) h = search arith
 
 -- the child stands
-created_by : (s : OneKernel) (v : View) (a : Addresses) (l : Placed) (id : MsgId) (n : ℕ) (child : Pid) (p : Option Pending) (k : one.ManagerTook) → pending_request n l.manager.pending ≡ p
-    → (one.takes_answer s.manager n (s.manager.children ++ child ∷ []) 0 (one.control_link (length s.manager.children + 1) ∷ [])) (option_map plain_pending p) ≡ Some k
+created_by : (s : OneKernel) (v : View) (a : Addresses) (l : Placed) (id : MsgId) (n : ℕ) (child : Pid) (p : Option Pending) (k : one.ManagerTook) → pending_request n l.manager.pending ≡ p → (one.takes_answer s.manager n (s.manager.children ++ child ∷ []) 0 (one.control_link (length s.manager.children + 1) ∷ [])) (option_map plain_pending p) ≡ Some k
     → InOrder l.manager → Mirrors s v a l
     → TookTo s v (given a (gets (Child (length s.manager.children + 1)) (unmoved child.home) ∷ manager_answers v a n k.message)) l id k (take.takes_created v.acting l.manager n child p)
 created_by s v a l id n child None k is e order h = cc
@@ -121,11 +118,10 @@ created_by s v a l id n child (Some r) k is e order h =
     let children : (i : ℕ) (u : Addr) → child_address g.children i ≡ Some u → c (Child i) ≡ place_of u =
     λ i u there. ap (λ (z : ℕ). given a (gets (Child (z + 1)) pl ∷ []) (Child i)) (sym longer) ∙ child_last cs child i u a h.places.child there
     in
-    let t = take.answers_over v.acting g r.answer 0 (w ∷ []) in
     let u = answers_mirrors s v a c l id n r g after 0 (w ∷ []) r.answer refl is order h (one_link (unmoved v.acting) w refl) plain_is refl refl refl
     (λ q. record { slot = λ i. refl; owner = refl }) (λ i. record { receiver = refl; sender = refl; enclosed = λ i. refl }) (λ i. refl) (λ i. refl) (λ q. refl) children in
     let told = λ (z : ℕ). one.answers_over after (option_map plain_link r.answer) 0 (one.control_link (z + 1) ∷ []) in
-    let on = manager_took (without_message l id) t in
+    let on = manager_took (without_message l id) (take.answers_over v.acting g r.answer 0 (w ∷ [])) in
     search
     (subst (λ (z : one.ManagerTook). Mirrors (service.manager_took s id z) v (given a (gets (Child j) pl ∷ manager_answers v a n z.message)) on) (ap told count ∙ f)
     (child_first (service.manager_took s id (told (length cs))) v a on j pl n (told (length cs)).message u))
@@ -146,8 +142,7 @@ ended_by s v a l id n byte r k is f order h =
     (λ q. record { slot = λ i. refl; owner = refl }) (λ i. record { receiver = refl; sender = refl; enclosed = λ i. refl }) (λ i. refl) (λ i. refl) (λ q. refl) h.places.child in
     record { t = t; takes = refl; mirrors = subst (λ (z : one.ManagerTook). Mirrors (service.manager_took s id z) v (given a (manager_answers v a n z.message)) (manager_took (without_message l id) t)) f u }
 
-no_room_by : (s : OneKernel) (v : View) (a : Addresses) (l : Placed) (id : MsgId) (n : ℕ) (p : Option Pending) (k : one.ManagerTook) → pending_request n l.manager.pending ≡ p
-    → (one.takes_answer s.manager n s.manager.children 1 []) (option_map plain_pending p) ≡ Some k
+no_room_by : (s : OneKernel) (v : View) (a : Addresses) (l : Placed) (id : MsgId) (n : ℕ) (p : Option Pending) (k : one.ManagerTook) → pending_request n l.manager.pending ≡ p → (one.takes_answer s.manager n s.manager.children 1 []) (option_map plain_pending p) ≡ Some k
     → InOrder l.manager → Mirrors s v a l → TookTo s v (given a (manager_answers v a n k.message)) l id k (take.takes_no_room v.acting l.manager n p)
 no_room_by s v a l id n None k is e order h = cc
 no_room_by s v a l id n (Some r) k is e order h =
@@ -155,8 +150,7 @@ no_room_by s v a l id n (Some r) k is e order h =
     ended_by s v a l id n 1 r k is (let f : one.answers_over after (option_map plain_link r.answer) 1 [] ≡ k = cc in f) order h
 
 moved_by : (s : OneKernel) (v : View) (a : Addresses) (l : Placed) (id : MsgId) (n : ℕ) (outcome : Outcome) (p : Option Pending) (k : one.ManagerTook) → pending_request n l.manager.pending ≡ p
-    → (one.takes_answer s.manager n s.manager.children (code_of_outcome outcome) []) (option_map plain_pending p) ≡ Some k → InOrder l.manager → Mirrors s v a l
-    → TookTo s v (given a (manager_answers v a n k.message)) l id k (take.takes_moved v.acting l.manager n outcome p)
+    → (one.takes_answer s.manager n s.manager.children (code_of_outcome outcome) []) (option_map plain_pending p) ≡ Some k → InOrder l.manager → Mirrors s v a l → TookTo s v (given a (manager_answers v a n k.message)) l id k (take.takes_moved v.acting l.manager n outcome p)
 moved_by s v a l id n outcome None k is e order h = cc
 moved_by s v a l id n outcome (Some r) k is e order h =
     let after : Manager = record s.manager { pending = one.without_pending n s.manager.pending } in
@@ -177,8 +171,14 @@ manager_row s t v a l id m k (PlainWhat.User code channel bytes ls) name says hm
     let links = w.links.items in
     let q = λ (bs : List ℕ) (ks : List PlainLink). one.takes_user s.manager s.machines (length s.images) code bs ks in
     let f : service.manager_took s id (q bytes ls) ≡ t = cc in
-    let z = take.takes_user v.acting l.manager code body links in
-    let on = manager_took (without_message l id) z in (
+    -- a user message to the manager
+    let user_mirrors : (s : OneKernel) (v : View) (a : Addresses) (l : Placed) (id mid : MsgId) (code : ℕ) (body : List ℕ) (links : List Link) → LinksKept a mid links → InOrder l.manager → Mirrors s v a l
+      → Mirrors (service.manager_took s id (one.takes_user s.manager s.machines (length s.images) code body (map plain_link links))) v
+      (given a (manager_sends v a mid code (one.takes_user s.manager s.machines (length s.images) code body (map plain_link links)).message)) (manager_took (without_message l id) (take.takes_user v.acting l.manager code body links)) =
+      λ s v a l id mid code body links en order h.
+      subst (λ (k : one.ManagerTook). TookAt s v a l id mid code k (take.takes_user v.acting l.manager code body links)) (λ i. one.takes_user (h.plain.manager i) (h.plain.machines i) (h.plain.images i) code body (map plain_link links))
+      (user_of s v a l id mid code body links en order h) in
+    let on = manager_took (without_message l id) (take.takes_user v.acting l.manager code body links) in (
       on,
       ap (manager_step v.acting l id m.id.n) w.is,
       subst (λ (o : OneKernel). Mirrors o v (given a (manager_sends v a k.id code (q bytes ls).message)) on) f
@@ -191,8 +191,7 @@ manager_row s t v a l id m k (PlainWhat.Created child) name says hm order h e =
     let o = (one.takes_answer s.manager n (s.manager.children ++ child ∷ []) 0 (one.control_link (length s.manager.children + 1) ∷ [])) (one.pending_numbered n s.manager.pending) in
     let (z, took, last) = bind-is o (λ (x : one.ManagerTook). Some (service.manager_took s id x)) t e in
     let f : service.manager_took s id z ≡ t = cc in
-    let p = pending_request n l.manager.pending in
-    let r = created_by s v a l id n child p z refl (ap (one.takes_answer s.manager n (s.manager.children ++ child ∷ []) 0 (one.control_link (length s.manager.children + 1) ∷ [])) (sym (pending_is s l n h.plain.manager)) ∙ took) order h in
+    let r = created_by s v a l id n child (pending_request n l.manager.pending) z refl (ap (one.takes_answer s.manager n (s.manager.children ++ child ∷ []) 0 (one.control_link (length s.manager.children + 1) ∷ [])) (sym (pending_is s l n h.plain.manager)) ∙ took) order h in
     let on = manager_took (without_message l id) r.t in (
       on,
       (λ i. manager_step v.acting l id (name i).n (created_what m.what child says i)) ∙ ap (λ (x : Option Taken). bind x (λ (y : Taken). Some (manager_took (without_message l id) y))) r.takes,
@@ -204,8 +203,7 @@ manager_row s t v a l id m k PlainWhat.NoRoom name says hm order h e =
     let o = (one.takes_answer s.manager n s.manager.children 1 []) (one.pending_numbered n s.manager.pending) in
     let (z, took, last) = bind-is o (λ (x : one.ManagerTook). Some (service.manager_took s id x)) t e in
     let f : service.manager_took s id z ≡ t = cc in
-    let p = pending_request n l.manager.pending in
-    let r = no_room_by s v a l id n p z refl (ap (one.takes_answer s.manager n s.manager.children 1 []) (sym (pending_is s l n h.plain.manager)) ∙ took) order h in
+    let r = no_room_by s v a l id n (pending_request n l.manager.pending) z refl (ap (one.takes_answer s.manager n s.manager.children 1 []) (sym (pending_is s l n h.plain.manager)) ∙ took) order h in
     let on = manager_took (without_message l id) r.t in (
       on,
       (λ i. manager_step v.acting l id (name i).n (no_room_what m.what says i)) ∙ ap (λ (x : Option Taken). bind x (λ (y : Taken). Some (manager_took (without_message l id) y))) r.takes,
@@ -217,8 +215,7 @@ manager_row s t v a l id m k (PlainWhat.Moved outcome) name says hm order h e =
     let o = (one.takes_answer s.manager n s.manager.children (code_of_outcome outcome) []) (one.pending_numbered n s.manager.pending) in
     let (z, took, last) = bind-is o (λ (x : one.ManagerTook). Some (service.manager_took s id x)) t e in
     let f : service.manager_took s id z ≡ t = cc in
-    let p = pending_request n l.manager.pending in
-    let r = moved_by s v a l id n outcome p z refl (ap (one.takes_answer s.manager n s.manager.children (code_of_outcome outcome) []) (sym (pending_is s l n h.plain.manager)) ∙ took) order h in
+    let r = moved_by s v a l id n outcome (pending_request n l.manager.pending) z refl (ap (one.takes_answer s.manager n s.manager.children (code_of_outcome outcome) []) (sym (pending_is s l n h.plain.manager)) ∙ took) order h in
     let on = manager_took (without_message l id) r.t in (
       on,
       (λ i. manager_step v.acting l id (name i).n (moved_what m.what outcome says i)) ∙ ap (λ (x : Option Taken). bind x (λ (y : Taken). Some (manager_took (without_message l id) y))) r.takes,
@@ -249,9 +246,8 @@ pub took_follows : (s t : OneKernel) (v : View) (a : Addresses) (l : Placed) (id
 took_follows s t v a l id is order h =
     let (k, there, rest) = bind-is (s.bag id) (service.takes s id) t is in
     let (m, found, says) = there_of s l id k h.plain there in
-    let g = parts m k says in
     let (on, step, mirrors) = takes_by s t v a l id m k (pid_eq k.to switchboard) (pid_eq k.to manager) says (h.places.message id m found) order h rest in (
       on,
-      ap (λ (o : Option Message). bind o (placed.takes v.acting (without_message l id))) found ∙ ap (λ (q : Pid). takes_if (pid_eq q switchboard) (pid_eq q manager) v.acting l id m) g.to ∙ step,
+      ap (λ (o : Option Message). bind o (placed.takes v.acting (without_message l id))) found ∙ ap (λ (q : Pid). takes_if (pid_eq q switchboard) (pid_eq q manager) v.acting l id m) (parts m k says).to ∙ step,
       subst (λ (gs : List Gets). Mirrors t v (given a gs) on) (ap (addresses.taking_gets s v a id) (sym there)) mirrors,
     )

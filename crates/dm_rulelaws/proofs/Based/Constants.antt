@@ -5,14 +5,13 @@ use Rattle.dm_onekernel.specs.Step as kernel
 use Rattle.dm_rulelaws.proofs.Fits.Constants.{Constant, same, step_constant}
 use Rattle.dm_rulelaws.proofs.RunLabels.{group_replay}
 
--- a run of labels, and a group
-constant_on : (s t u : OneKernel) → Constant s t → Constant t u → Constant s u
-constant_on s t u h k = record { format = k.format ∙ h.format; images = k.images ∙ h.images; machines = k.machines ∙ h.machines; pending = λ e. k.pending (h.pending e) }
-
 replay_constant : (ls : List Label) (s t : OneKernel) → replay s ls ≡ Some t → Constant s t
 replay_constant [] s t is = let k : s ≡ t = cc in subst (Constant s) k (same s)
 replay_constant (l ∷ ls) s t is =
     let (u, first, rest) = bind-is (kernel.step s l) (λ v. replay v ls) t is in
+    -- a run of labels, and a group
+    let constant_on : (s t u : OneKernel) → Constant s t → Constant t u → Constant s u =
+      λ s t u h k. record { format = k.format ∙ h.format; images = k.images ∙ h.images; machines = k.machines ∙ h.machines; pending = λ e. k.pending (h.pending e) } in
     constant_on s u t (step_constant s u l first) (replay_constant ls u t rest)
 
 pub constant_group : (b : Boot) (pt : Point) (d : Step) (w : Spelled) → group_of b pt d ≡ Some w → Constant pt.kernel w.point.kernel

@@ -30,15 +30,11 @@ pub record Expects (v : View) (p : Pid) (k : MessageKind) : Type 0 where
 held_own : (pt : Point) (id : MsgId) (t : Told) → pt.view.told id ≡ Some t → has_nothing_held (pt.view.known pt.view.acting t.receiver) ≡ false → (u : Told) → pt.view.told id ≡ Some u → has_nothing_held (pt.view.known pt.view.acting u.receiver) ≡ false
 held_own pt id t told held u is = search (arith, pt.view.known, pt.view.acting)
 
--- what the phases say
-not_here : (k : MessageKind) (s d m : ℕ) (o : Option MsgId) (x : Known) → knows (Moves k s d o) m x ≡ true → is_here x ≡ false
-not_here k s d m o x h1 = search (arith, moves_away)
-
-asked_away : (s d : ℕ) (o : Option MsgId) (x : Known) (b : Bool) → (s == d) ≡ b → not b ≡ true → knows (Moves MessageKind.Ask s d o) d x ≡ true → is_away x ≡ true
-asked_away s d o x b h1 h2 h3 = search arith
-
 moving : (pt : Point) (i : MsgId) (is : List MsgId) (t : Told) (p : Pid) (h : InPhases pt.view) → pt.view.inbox pt.view.acting ≡ i ∷ is → pt.view.told i ≡ Some t → t.about ≡ Of p → Expects pt.view p t.kind
 moving pt i is t p h front told about =
+    -- what the phases say
+    let not_here : (k : MessageKind) (s d m : ℕ) (o : Option MsgId) (x : Known) → knows (Moves k s d o) m x ≡ true → is_here x ≡ false = λ k s d m o x h1. search (arith, moves_away) in
+    let asked_away : (s d : ℕ) (o : Option MsgId) (x : Known) (b : Bool) → (s == d) ≡ b → not b ≡ true → knows (Moves MessageKind.Ask s d o) d x ≡ true → is_away x ≡ true = λ s d o x b h1 h2 h3. search arith in
     let v = pt.view in
     let phase : (b : is_between t.kind ≡ true) → let u = due pt i is t h front told b in (h.of p ≡ Moves u.k u.s u.d (Some i)) × (u.k ≡ t.kind) = λ b. (let u = due pt i is t h front told b in
     let same : u.p ≡ p = (let f : Of u.p ≡ Of p = sym (ap (λ (y : Told). y.about) u.told) ∙ about in cc) in
@@ -53,8 +49,7 @@ moving pt i is t p h front told about =
           let k : knows (Moves MessageKind.Ask u.s u.d (Some i)) u.d (v.known v.acting p) ≡ true = ap (λ (n : ℕ). knows (Moves MessageKind.Ask u.s u.d (Some i)) n (v.known v.acting p)) (sym acts) ∙ ap (λ (x : Phase). knows x v.acting (v.known v.acting p)) (sym now) ∙ (h.each p).known v.acting in
           asked_away u.s u.d (Some i) (v.known v.acting p) (u.s == u.d) refl apart k);
       off = λ b. (let u = due pt i is t h front told b in
-          let f = phase b in
-          not_here u.k u.s u.d v.acting (Some i) (v.known v.acting p) (ap (λ (x : Phase). knows x v.acting (v.known v.acting p)) (sym f.0) ∙ (h.each p).known v.acting));
+          not_here u.k u.s u.d v.acting (Some i) (v.known v.acting p) (ap (λ (x : Phase). knows x v.acting (v.known v.acting p)) (sym (phase b).0) ∙ (h.each p).known v.acting));
     }
 
 -- all that stands where a turn begins
@@ -103,14 +98,13 @@ hears_walks b o m i is q h front told = walks_of (turned o m) (rule.hears b o m 
     }
     )))
 
-migrates_loose : (o : Point) (p : Pid) → AllLoose (migrates o p)
-migrates_loose o p = by_migrates AllLoose o p (λ pt. tt, tt) (λ pt. tt, tt) (λ n off is. (λ pt. tt, tt))
-
 pub begins : (o : Point) (m : ℕ) → Phased o → KnownStands o.kernel o.view → Begins o m
 begins o m h known = search (arith, begun_sane o (Step.Turn m) h.sane, calm_phases o.view (after_head o.view (Step.Turn m)) (head_calm o.view (Step.Turn m)) h.phases, rooted o h.sane h.ground, h.state)
 
 outcome_walks : (b : Boot) (pt : Point) (d : Step) → Phased pt → KnownStands pt.kernel pt.view → WalksOf (begun pt d) (rule.outcome b pt d)
-outcome_walks b pt d h known = walks_of (begun pt d) (rule.outcome b pt d) (λ ps. by_outcome (λ x. Walks (begun pt x)) b pt d ps (record {
+outcome_walks b pt d h known =
+    let migrates_loose : (o : Point) (p : Pid) → AllLoose (migrates o p) = λ o p. by_migrates AllLoose o p (λ pt. tt, tt) (λ pt. tt, tt) (λ n off is. (λ pt. tt, tt)) in
+    walks_of (begun pt d) (rule.outcome b pt d) (λ ps. by_outcome (λ x. Walks (begun pt x)) b pt d ps (record {
   round = λ m xs box e. (
       let s = begins pt m h known in
       subst (WalksOf (turned pt m)) e (round_walks (turned pt m) b pt m (rule.first_runnable pt.kernel (pt.view.queue m) (pt.view.ring m)) (λ p is. resting (turned pt m).view p s.phases (s.rooted.served m p is)))

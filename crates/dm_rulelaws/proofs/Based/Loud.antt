@@ -27,9 +27,6 @@ pub record SetLife (s t : OneKernel) (p : Pid) (sort : Option Bool) : Type 0 whe
   pub at_ : life_sort (t.processes p) ≡ sort
   pub off : (q : Pid) → pid_eq p q ≡ false → life_sort (t.processes q) ≡ life_sort (s.processes q)
 
-alike_sent : (s u : OneKernel) (o : Option PlainMessage) → Alike s u → Alike s (kernels.with_sent u o)
-alike_sent s u o h q = search arith
-
 set_life : (s u : OneKernel) (p : Pid) (life : Life) → u.processes ≡ s.processes → SetLife s (kernels.with_process u p life) p (life_sort (Some life))
 set_life s u p life e = record {
   at_ = ap (λ (c : Bool). life_sort (if c then Some life else u.processes p)) (pid_eq-same p);
@@ -46,9 +43,6 @@ alike_goes s u p x y is e q = elim (cases_Bool (pid_eq p q)) [
 pub record ServedLife (s t : OneKernel) (p : Pid) (w : PlainWhat) : Type 0 where
   pub kill : is_kill (plain_kind w) ≡ true → SetLife s t p (Some false)
   pub other : is_kill (plain_kind w) ≡ false → Alike s t
-
-spared : (s t : OneKernel) (p : Pid) (w : PlainWhat) → is_kill (plain_kind w) ≡ false → Alike s t → ServedLife s t p w
-spared s t p w e h = record { kill = λ k. absurd (false≢true (sym e ∙ k)); other = λ k. h }
 
 -- a step that ends nobody and makes nobody
 abbrev pub is_steady : Label → Bool
@@ -79,9 +73,10 @@ LivesBy s l t = Alike s t
 
 step_lives : (s t : OneKernel) (l : Label) → kernel.step s l ≡ Some t → LivesBy s l t
 step_lives s t l =
+    let alike_sent : (s u : OneKernel) (o : Option PlainMessage) → Alike s u → Alike s (kernels.with_sent u o) = λ s u o h q. search arith in
     let by : (u : OneKernel) (k : Label) → l ≡ k → LivesBy s k u → LivesBy s l u = λ u k is h. subst (λ (x : Label). LivesBy s x u) (sym is) h in
     let served : (u : OneKernel) (id : MsgId) (m : PlainMessage) (x : PlainProcess) → l ≡ Label.Served id → Lives s id m x → is_kill (plain_kind m.what) ≡ false → Alike s u → LivesBy s l u =
-    λ u id m x is w mild h. by u (Label.Served id) is (record { message = m; there = w.there; process = x; alive = w.alive; served = spared s u m.to m.what mild h }) in
+    λ u id m x is w mild h. by u (Label.Served id) is (record { message = m; there = w.there; process = x; alive = w.alive; served = (record { kill = λ k. absurd (false≢true (sym mild ∙ k)); other = λ k. h }) }) in
     by_step (LivesBy s l) s t l (record {
       ran = λ p k x m is w. by (kernel.goes_on s p (kernel.with_machine x m)) (Label.Ran p k) is (alike_goes s s p x (kernel.with_machine x m) w.alive refl);
       replies = λ p n k c d y is w. by (kernel.goes_on s p y) (Label.Call p n c) is (alike_goes s s p w.so.x y w.so.is.alive refl);
@@ -111,10 +106,6 @@ step_lives s t l =
           by (kernels.with_sent (service.with_created (without_message s id) child i links) (Some (answer_to m (PlainWhat.Created child)))) (Label.Created id child) is (record { at_ = h.at_; off = h.off }));
       no_room = λ id a b m image links is w. by (kernels.with_sent (without_message s id) (Some (answer_to m PlainWhat.NoRoom))) (Label.NoSpace id a b) is (λ q. refl);
     })
-
--- who lives goes on living
-pub life_of : (o : Option Life) → life_sort o ≡ Some true → (x : PlainProcess) × (o ≡ Some (Alive x))
-life_of o h1 = search arith
 
 pub step_alike : (s t : OneKernel) (e : Label) → is_steady e ≡ true → kernel.step s e ≡ Some t → Alike s t
 step_alike s t (Label.End p y) steady is = absurd (false≢true steady)
@@ -147,15 +138,9 @@ stays v = record { known = refl; ring = refl; queue = refl; held = refl; moves =
 forwarded_stays : (v : View) (o : Option Pid) → Stays v (view.forwarded_for v o)
 forwarded_stays v o = search (arith, stays)
 
-taken_stays : (v : View) (b : ℕ) (o : Option MsgId) → Stays v (view.taken_id v b o)
-taken_stays v b o = search (arith, stays)
-
-asks_stays : (v : View) (a : About) → Stays v (view.asks_on v a)
-asks_stays v a = search (arith, stays)
-
 proto_stays : (v : View) (o : Option Told) → Stays v (view.after_proto v o)
 proto_stays v None = record { known = refl; ring = refl; queue = refl; held = refl; moves = refl }
-proto_stays v (Some t) = search (arith, t.about, t.kind, asks_stays, stays)
+proto_stays v (Some t) = let asks_stays : (v : View) (a : About) → Stays v (view.asks_on v a) = λ v a. search (arith, stays) in search (arith, t.about, t.kind, asks_stays, stays)
 
 -- what must be shown: of lines that change nothing of this, and of each of the others
 pub record Loud (P : Point → Type 0) : Type 0 where
@@ -202,15 +187,10 @@ line_keeps P loud pt t (Line.Label l) need sane is h = label_keeps P loud pt t l
 line_keeps P loud pt t (Line.Put a b i k q) need sane is h = absurd need
 line_keeps P loud pt t (Line.Packet a b k l) need sane is h = absurd need
 line_keeps P loud pt t (Line.Head (Step.Turn m)) need sane is h = unmoved_kernel P pt t (Line.Head (Step.Turn m)) is (quiet_line P loud pt (Line.Head (Step.Turn m)) refl (record { known = refl; ring = refl; queue = refl; held = refl; moves = refl }) refl sane h)
-line_keeps P loud pt t (Line.Head (Step.Tick m)) need sane is h = unmoved_kernel P pt t (Line.Head (Step.Tick m)) is (quiet_line P loud pt (Line.Head (Step.Tick m)) refl (record { known = refl; ring = refl; queue = refl; held = refl; moves = refl }) refl sane h)
-line_keeps P loud pt t (Line.Head (Step.Deliver a b k)) need sane is h = unmoved_kernel P pt t (Line.Head (Step.Deliver a b k)) is (quiet_line P loud pt (Line.Head (Step.Deliver a b k)) refl (record { known = refl; ring = refl; queue = refl; held = refl; moves = refl }) refl sane h)
-line_keeps P loud pt t (Line.Head (Step.Migrate p m)) need sane is h = unmoved_kernel P pt t (Line.Head (Step.Migrate p m)) is (quiet_line P loud pt (Line.Head (Step.Migrate p m)) refl (record { known = refl; ring = refl; queue = refl; held = refl; moves = refl }) refl sane h)
-line_keeps P loud pt t (Line.Migration Stage.Asked p) need sane is h = unmoved_kernel P pt t (Line.Migration Stage.Asked p) is (quiet_line P loud pt (Line.Migration Stage.Asked p) refl (record { known = refl; ring = refl; queue = refl; held = refl; moves = refl }) refl sane h)
-line_keeps P loud pt t (Line.Migration Stage.StateTaken p) need sane is h = unmoved_kernel P pt t (Line.Migration Stage.StateTaken p) is (quiet_line P loud pt (Line.Migration Stage.StateTaken p) refl (record { known = refl; ring = refl; queue = refl; held = refl; moves = refl }) refl sane h)
-line_keeps P loud pt t (Line.Migration Stage.MemoryTaken p) need sane is h = unmoved_kernel P pt t (Line.Migration Stage.MemoryTaken p) is (quiet_line P loud pt (Line.Migration Stage.MemoryTaken p) refl (record { known = refl; ring = refl; queue = refl; held = refl; moves = refl }) refl sane h)
 line_keeps P loud pt t (Line.Forwarded id m) need sane is h = unmoved_kernel P pt t (Line.Forwarded id m) is (quiet_line P loud pt (Line.Forwarded id m) refl (let i = forwarded_stays (handled pt.view id) (receiver_of (pt.view.told id)) in record { known = i.known; ring = i.ring; queue = i.queue; held = i.held; moves = i.moves }) (hushed pt.view (Line.Forwarded id m) refl).told sane h)
 line_keeps P loud pt t (Line.Proto id) need sane is h = unmoved_kernel P pt t (Line.Proto id) is (quiet_line P loud pt (Line.Proto id) refl (let i = proto_stays (handled pt.view id) (pt.view.told id) in record { known = i.known; ring = i.ring; queue = i.queue; held = i.held; moves = i.moves }) (hushed pt.view (Line.Proto id) refl).told sane h)
 line_keeps P loud pt t (Line.Taken a b n) need sane is h =
+    let taken_stays : (v : View) (b : ℕ) (o : Option MsgId) → Stays v (view.taken_id v b o) = λ v b o. search (arith, stays) in
     let p = pt.view.pair a b in
     let i = taken_stays (view.with_pair pt.view a b (record p { taken = p.taken + 1; kept = filter (λ k. not (k == n)) p.kept })) b (view.oldest p) in
     unmoved_kernel P pt t (Line.Taken a b n) is (quiet_line P loud pt (Line.Taken a b n) refl (record { known = i.known; ring = i.ring; queue = i.queue; held = i.held; moves = i.moves }) (hushed pt.view (Line.Taken a b n) refl).told sane h)

@@ -1,8 +1,9 @@
 -- What a line of a group needs, so that each line keeps what is known of processes; and a walk over a group's parts.
 use Rattle.dm_rulelaws.proofs.Names.{◌≡◌, ℕ, ◌==◌, Bool, true, false, List, [], ◌∷◌, length, refl, ap, ◌∙◌, subst, ⊤, if◌then◌else◌, Option, None, Some, Pid, MsgId, MessageKind, Stage, plain_kind, Boot, Label, PlainProcess, Alive}
 use Rattle.dm_rulelaws.proofs.Names.{OneKernel, bind-is, Step, Line, Load, View, Told, Unknown, Here, Frozen, is_kernels, own_id, Receiver, Point, label_of, kernel_after, moved, after_line, after, Part, Says, Routes, Again, Owns, Transmits}
-use Rattle.dm_rulelaws.proofs.Names.{Spelled, lines_of, puts, goes_out, packet_line, spelled, is_away, is_here, group_of, group_is, is_kill, Sane, AllSayable, sane_line, part_sane, outcome_sayable, is_server, has_nothing_held, by_parts}
+use Rattle.dm_rulelaws.proofs.Names.{Spelled, lines_of, puts, goes_out, packet_line, spelled, is_away, is_here, group_of, group_is, is_kill, Sane, AllSayable, part_sane, outcome_sayable, is_server, has_nothing_held, by_parts, Each}
 use Rattle.dm_rule.specs.Rule as rule
+pub use Rattle.dm_rule.proofs.Rooted.Groups.{begun, begun_sane}
 
 -- a process is here, and away from every other machine
 pub record Resting (v : View) (p : Pid) : Type 0 where
@@ -56,10 +57,7 @@ Needs pt (Line.Packet a b k l) = ⊥
 Needs pt (Line.Queued i) = (t : Told) → pt.view.told i ≡ Some t → Queues pt.view t i
 Needs pt (Line.Held i) = (t : Told) → pt.view.told i ≡ Some t → has_nothing_held (pt.view.known pt.view.acting t.receiver) ≡ false
 Needs pt (Line.Migration Stage.Frozen p) = Living pt.kernel p × (pt.view.known pt.view.acting p ≡ Here)
-Needs pt (Line.Migration Stage.Asked p) = ⊤
 Needs pt (Line.Migration Stage.Accepted p) = Living pt.kernel p × (is_away (pt.view.known pt.view.acting p) ≡ true)
-Needs pt (Line.Migration Stage.StateTaken p) = ⊤
-Needs pt (Line.Migration Stage.MemoryTaken p) = ⊤
 Needs pt (Line.Migration Stage.Left p) = Leaving pt.view p
 Needs pt (Line.Migration Stage.Restarted p) = Living pt.kernel p × (is_here (pt.view.known pt.view.acting p) ≡ false)
 Needs pt (Line.Stays p) = Living pt.kernel p × (is_here (pt.view.known pt.view.acting p) ≡ false)
@@ -96,8 +94,7 @@ WalksOf pt (Some ps) = Walks pt ps
 
 -- only the first part needs something
 abbrev pub AllLoose : List Part → Type 0
-AllLoose [] = ⊤
-AllLoose (p ∷ ps) = ((pt : Point) → NeedsPart pt p) × AllLoose ps
+AllLoose = Each (λ (p : Part). (pt : Point) → NeedsPart pt p)
 
 pub loose_walks : (ps : List Part) (pt : Point) → AllLoose ps → Walks pt ps
 loose_walks [] pt h = tt
@@ -172,12 +169,6 @@ parts_keep P keeps qs q w ok need sane is h = by_parts (λ ps pt v. AllSayable p
     )) qs q w is ok need sane h
 
 -- a group
-abbrev pub begun : Point → Step → Point
-begun pt d = moved pt (Line.Head d) pt.kernel
-
-pub begun_sane : (pt : Point) (d : Step) → Sane pt → Sane (begun pt d)
-begun_sane pt d h = sane_line pt (begun pt d) (Line.Head d) refl refl h
-
 pub outcome_keeps : (P : Point → Type 0) (keeps : Keeps P) (b : Boot) (pt : Point) (d : Step) (w : Spelled) → group_of b pt d ≡ Some w → WalksOf (begun pt d) (rule.outcome b pt d) → Sane pt → P pt → P w.point
 outcome_keeps P keeps b pt d w e walks sane h =
     let g = group_is b pt d w e in

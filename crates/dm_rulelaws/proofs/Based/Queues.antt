@@ -1,12 +1,10 @@
 -- What is queued for a process is a user message for it, and what is held for it is for it: each group keeps it.
-use Rattle.dm_rulelaws.proofs.Names.{◌≡◌, ℕ, ◌≤◌, Bool, true, false, List, [], ◌∷◌, ◌++◌, refl, ◌∙◌, sym, subst, arith, false≢true, Option, None, Some, Pid, MsgId, MessageKind, plain_kind, PlainMessage, PlainWhat, Boot, Step, id_eq-is}
-use Rattle.dm_rulelaws.proofs.Names.{Spelled, Point, first_point, group_of, at_record, without_id, to_of, Spot, Queue, times, standing, StandsAsBag, View, Told, handled, receiver_of, served_told, is_kernels, letters, letters_bag}
-use Rattle.dm_rulelaws.proofs.Names.{kernels_fresh, Phased, told_some, KnownStands, zero_cases, ◌+◌, ap, if◌then◌else◌, Label, Line, Stage, Known, Here, Frozen, Incoming, handled_first, front_of, gone_to, rejoins, is_away, ListsStand}
-use Rattle.dm_rulelaws.proofs.Names.{has_no_queue, has_nothing_held, is_kill, aim, sets}
+use Rattle.dm_rulelaws.proofs.Names.{◌≡◌, ℕ, ◌≤◌, Bool, true, false, List, [], ◌∷◌, ◌++◌, refl, ◌∙◌, sym, subst, arith, false≢true, Option, None, Some, Pid, MsgId, MessageKind, plain_kind, PlainMessage, PlainWhat, id_eq-is, Point}
+use Rattle.dm_rulelaws.proofs.Names.{at_record, without_id, to_of, Spot, Queue, times, standing, StandsAsBag, View, Told, handled, receiver_of, served_told, is_kernels, letters, letters_bag, kernels_fresh, Phased, told_some, zero_cases}
+use Rattle.dm_rulelaws.proofs.Names.{◌+◌, ap, if◌then◌else◌, Label, Line, Stage, Known, Here, Frozen, Incoming, handled_first, front_of, gone_to, rejoins, ListsStand, has_no_queue, has_nothing_held, is_kill, aim, sets}
 use Rattle.dm_rule.specs.View.{Ended}
 use Rattle.dm_rulelaws.proofs.Queued.{IsQueued, is_user}
-use Rattle.dm_rulelaws.proofs.Based.Groups.{group_keeps}
-use Rattle.dm_rulelaws.proofs.Based.Loud.{Loud, keeps_by, Stays}
+use Rattle.dm_rulelaws.proofs.Based.Loud.{Loud, Stays}
 use Rattle.dm_rulelaws.proofs.Based.Sets.{set_all, killed_or, without_fewer, front_fewer, last_of}
 use Rattle.dm_rulelaws.proofs.Based.Needs.{Serves}
 use Rattle.dm_rule.specs.View as view
@@ -35,7 +33,7 @@ pub record Waits (v : View) : Type 0 where
   pub queue : (n : ℕ) (p : Pid) (i : MsgId) → 1 ≤ times i (v.queue n p) → IsUsers v.told p i
   pub held : (n : ℕ) (p : Pid) (i : MsgId) → 1 ≤ times i (v.held n p) → IsFor v.told p i
 
-none_there : (T : Type 0) (i : MsgId) → 1 ≤ times i [] → T
+pub none_there : (T : Type 0) (i : MsgId) → 1 ≤ times i [] → T
 none_there T i least = absurd (let k : 1 ≤ 0 = least in omega (arith, k))
 
 -- what was told stays
@@ -55,9 +53,6 @@ waits_as v w queue held told h = search (arith, users_on, v.told, w.told, h.queu
 waits_queue : (v : View) (p : Pid) (xs : List MsgId) → AreUsers v.told v.acting p xs → Waits v → Waits (record v { queue = at_record v.queue v.acting p xs })
 waits_queue v p xs mine h = record { queue = set_all (AreUsers v.told) v.queue v.acting p xs mine (λ n q off. h.queue n q); held = h.held }
 
-waits_held : (v : View) (p : Pid) (xs : List MsgId) → AreFor v.told v.acting p xs → Waits v → Waits (record v { held = at_record v.held v.acting p xs })
-waits_held v p xs mine h = record { queue = h.queue; held = set_all (AreFor v.told) v.held v.acting p xs mine (λ n q off. h.held n q) }
-
 waits_dropped : (v : View) (id : MsgId) (o : Option Pid) → Waits v → Waits (view.dropped_for v id o)
 waits_dropped v id o h1 = search (arith, waits_queue, v.queue, v.acting, front_fewer)
 
@@ -67,8 +62,7 @@ waits_served v o h1 = search (arith, killed_or)
 waits_queued : (v : View) (id : MsgId) (o : Option Told) → v.told id ≡ o → ((t : Told) → o ≡ Some t → (t.kind ≡ MessageKind.User) × (is_kernels id ≡ false)) → Waits v → Waits (view.queued_for v id (receiver_of o))
 waits_queued v id None told need h = h
 waits_queued v id (Some t) told need h =
-    let k = need t refl in
-    let new : IsUsers v.told t.receiver id = record { what = t; is = told; kind = k.0; receiver = refl; other = k.1 } in
+    let new : IsUsers v.told t.receiver id = record { what = t; is = told; kind = (need t refl).0; receiver = refl; other = (need t refl).1 } in
     waits_queue v t.receiver (v.queue v.acting t.receiver ++ id ∷ [])
     (λ i least. last_of (IsUsers v.told t.receiver i) i id (v.queue v.acting t.receiver) least (h.queue v.acting t.receiver i) (λ same. subst (λ (j : MsgId). IsUsers v.told t.receiver j) (sym same) new)) h
 
@@ -76,6 +70,8 @@ waits_held_for : (v : View) (id : MsgId) (o : Option Told) → v.told id ≡ o �
 waits_held_for v id None told h = h
 waits_held_for v id (Some t) told h =
     let new : IsFor v.told t.receiver id = record { what = t; is = told; receiver = refl } in
+    let waits_held : (v : View) (p : Pid) (xs : List MsgId) → AreFor v.told v.acting p xs → Waits v → Waits (record v { held = at_record v.held v.acting p xs }) =
+      λ v p xs mine h. record { queue = h.queue; held = set_all (AreFor v.told) v.held v.acting p xs mine (λ n q off. h.held n q) } in
     waits_held v t.receiver (v.held v.acting t.receiver ++ id ∷ [])
     (λ i least. last_of (IsFor v.told t.receiver i) i id (v.held v.acting t.receiver) least (h.held v.acting t.receiver i) (λ same. subst (λ (j : MsgId). IsFor v.told t.receiver j) (sym same) new)) h
 
@@ -83,7 +79,7 @@ waits_held_for v id (Some t) told h =
 emptied : (v : View) (p : Pid) (n : ℕ) (q : Pid) (i : MsgId) → Waits v → 1 ≤ times i (at_record v.held v.acting p [] n q) → IsFor v.told q i
 emptied v p n q i h = set_all (λ m r xs. (j : MsgId) → 1 ≤ times j xs → IsFor v.told r j) v.held v.acting p [] (λ j least. none_there (IsFor v.told p j) j least) (λ m r off. h.held m r) n q i
 
-waits_loud : Loud (λ pt. Waits pt.view)
+pub waits_loud : Loud (λ pt. Waits pt.view)
 waits_loud = record {
   rides = record {
     put = λ pt a b i k q h. record {
@@ -113,51 +109,31 @@ waits_loud = record {
   sent_on = λ pt p n h. (search (arith, set_all, pt.view.told, pt.view.queue, pt.view.acting, none_there, h.queue, emptied, pt.view));
 }
 
-pub waits_start : (b : Boot) → Waits (first_point b).view
-waits_start b = record { queue = λ n p i least. none_there (IsUsers (first_point b).view.told p i) i least; held = λ n p i least. none_there (IsFor (first_point b).view.told p i) i least }
-
-pub waits_group : (b : Boot) (pt : Point) (d : Step) (w : Spelled) → group_of b pt d ≡ Some w → Phased pt → KnownStands pt.kernel pt.view → Waits pt.view → Waits w.point.view
-waits_group b pt d w is phased known h = group_keeps (λ q. Waits q.view) (keeps_by (λ q. Waits q.view) waits_loud) b pt d w is phased known h
-
-users_are : (w : PlainWhat) → plain_kind w ≡ MessageKind.User → is_user w ≡ true
-users_are w h1 = search arith
-
 pub queued_of : (pt : Point) (h : Phased pt) → Waits pt.view → (n : ℕ) (p : Pid) (i : MsgId) → 1 ≤ times i (pt.view.queue n p) → IsQueued (h.state.e i) p (pt.kernel.bag i)
 queued_of pt h waits n p i least =
     let u = waits.queue n p i least in
     record {
       entered = search (arith, zero_cases, h.state.e, h.state.untold, u.is, u.other);
-      is = λ x there. (sym (h.sane.tells.receiver i x u.what there u.is) ∙ u.receiver, users_are x.what (sym (h.sane.tells.kind i x u.what there u.is) ∙ u.kind));
+      is = λ x there. (sym (h.sane.tells.receiver i x u.what there u.is) ∙ u.receiver, (let e_ : is_user x.what ≡ true = search (arith, sym (h.sane.tells.kind i x u.what there u.is) ∙ u.kind) in e_));
     }
 
 pub held_of : (pt : Point) → Waits pt.view → (n : ℕ) (p : Pid) (i : MsgId) → 1 ≤ times i (pt.view.held n p) → (t : Told) × (pt.view.told i ≡ Some t) × (t.receiver ≡ p)
 held_of pt waits n p i least = let u = waits.held n p i least in (u.what, u.is, u.receiver)
 
--- and the other way round
-stands_some : (f : Spot → ℕ) (z : Spot) (o : Option Pid) → StandsAsBag o f → 1 ≤ f z → (x : Pid) × (o ≡ Some x)
-stands_some f z o h1 h2 = search arith
-
-bag_some : (o : Option PlainMessage) (x : Pid) → to_of o ≡ Some x → (m : PlainMessage) × (o ≡ Some m)
-bag_some o x h1 = search arith
-
-entered_other : (pt : Point) (h : Phased pt) (i : MsgId) (c : Bool) → is_kernels i ≡ c → 1 ≤ h.state.e i → c ≡ false
-entered_other pt h i c h1 h2 = search (arith, kernels_fresh, h.state.r, h.state.e, pt.kernel, h.state.sound)
-
 pub user_kind : (w : PlainWhat) → is_user w ≡ true → plain_kind w ≡ MessageKind.User
 user_kind w h1 = search arith
 
-users_by : (pt : Point) (h : Phased pt) (n : ℕ) (p : Pid) (i : MsgId) → 1 ≤ times i (pt.view.queue n p) → IsQueued (h.state.e i) p (pt.kernel.bag i) → IsUsers pt.view.told p i
+pub users_by : (pt : Point) (h : Phased pt) (n : ℕ) (p : Pid) (i : MsgId) → 1 ≤ times i (pt.view.queue n p) → IsQueued (h.state.e i) p (pt.kernel.bag i) → IsUsers pt.view.told p i
 users_by pt h n p i least q =
+    -- and the other way round
+    let entered_other : (pt : Point) (h : Phased pt) (i : MsgId) (c : Bool) → is_kernels i ≡ c → 1 ≤ h.state.e i → c ≡ false = λ pt h i c h1 h2. search (arith, kernels_fresh, h.state.r, h.state.e, pt.kernel, h.state.sound) in
+    let stands_some : (f : Spot → ℕ) (z : Spot) (o : Option Pid) → StandsAsBag o f → 1 ≤ f z → (x : Pid) × (o ≡ Some x) = λ f z o h1 h2. search arith in
+    let bag_some : (o : Option PlainMessage) (x : Pid) → to_of o ≡ Some x → (m : PlainMessage) × (o ≡ Some m) = λ o x h1. search arith in
     let other : is_kernels i ≡ false = entered_other pt h i (is_kernels i) refl q.entered in
     let (x, way) = stands_some (standing pt.view i) (Queue n p) (letters h.state.own pt.kernel.bag i) (h.state.stands.kept i) least in
     let (m, there) = bag_some (pt.kernel.bag i) x (sym (letters_bag h.state.own pt.kernel.bag i other) ∙ way) in
     let (t, told) = told_some (pt.view.told i) x (h.state.stands.told i x way) in
-    let k = q.is m there in
-    search (arith, h.sane.tells.kind i m t there told ∙ user_kind m.what k.1, h.sane.tells.receiver i m t there told ∙ k.0)
-
-pub waits_by : (pt : Point) (h : Phased pt) → ((n : ℕ) (p : Pid) (i : MsgId) → 1 ≤ times i (pt.view.queue n p) → IsQueued (h.state.e i) p (pt.kernel.bag i))
-    → ((n : ℕ) (p : Pid) (i : MsgId) → 1 ≤ times i (pt.view.held n p) → (t : Told) × (pt.view.told i ≡ Some t) × (t.receiver ≡ p)) → Waits pt.view
-waits_by pt h queued held = search (arith, users_by)
+    search (arith, h.sane.tells.kind i m t there told ∙ user_kind m.what (q.is m there).1, h.sane.tells.receiver i m t there told ∙ (q.is m there).0)
 
 -- A queue only where a process is or leaves, and held messages only where it leaves or comes: each group keeps it.
 
@@ -226,10 +202,7 @@ lists_rejoins v w p known queue held h =
           (λ n r off e. h.held n r (sym (ap (λ (c : Bool). has_nothing_held (if c then Here else v.known n r)) off) ∙ e)) m q (sym (ap (λ (f : ℕ → Pid → Known). has_nothing_held (f m q)) known) ∙ e);
     }
 
-away_queue : (k : Known) → is_away k ≡ true → has_no_queue k ≡ true
-away_queue k h1 = search arith
-
-lists_loud : Loud (λ pt. ListsStand pt.view)
+pub lists_loud : Loud (λ pt. ListsStand pt.view)
 lists_loud = record {
   rides = (search arith);
   quiet = λ pt w t l e s told alike sane is h. subst ListsStand (sym e) (lists_as pt.view w s h);
@@ -251,7 +224,8 @@ lists_loud = record {
       let set = sets pt.view p pt.view.topic in
       lists_learn pt.view (view.after_stage pt.view p Stage.Frozen) p (Frozen (aim pt.view pt.view.topic)) set.known set.queue set.held (λ e. absurd (false≢true e)) (λ e. absurd (false≢true e)) h;
   accepted = λ pt p lives away h.
-      lists_learn pt.view (view.after_stage pt.view p Stage.Accepted) p (Incoming (front_of (pt.view.inbox pt.view.acting))) refl refl refl (λ e. h.queue pt.view.acting p (away_queue (pt.view.known pt.view.acting p) away)) (λ e. absurd (false≢true e)) h;
+      let away_queue : has_no_queue (pt.view.known pt.view.acting p) ≡ true = search arith in
+      lists_learn pt.view (view.after_stage pt.view p Stage.Accepted) p (Incoming (front_of (pt.view.inbox pt.view.acting))) refl refl refl (λ e. h.queue pt.view.acting p away_queue) (λ e. absurd (false≢true e)) h;
   left = λ pt p leaves h. lists_learn pt.view (view.after_stage pt.view p Stage.Left) p (gone_to (pt.view.known pt.view.acting p) (pt.view.moves p + 1)) refl refl refl (λ e. leaves.queue) (λ e. leaves.held) h;
   restarted = λ pt p lives off h. lists_rejoins pt.view (view.after_stage pt.view p Stage.Restarted) p refl refl refl h;
   stays_ = λ pt p lives off h. lists_rejoins pt.view (rejoins (handled_first pt.view) p) p refl refl refl h;
@@ -259,6 +233,3 @@ lists_loud = record {
       let v = pt.view in
       record { queue = set_all (NoQueue v) v.queue v.acting p [] (λ e. refl) (λ n r off. h.queue n r); held = set_all (NoneHeld v) v.held v.acting p [] (λ e. refl) (λ n r off. h.held n r) };
 }
-
-pub lists_group : (b : Boot) (pt : Point) (d : Step) (w : Spelled) → group_of b pt d ≡ Some w → Phased pt → KnownStands pt.kernel pt.view → ListsStand pt.view → ListsStand w.point.view
-lists_group b pt d w is phased known h = group_keeps (λ q. ListsStand q.view) (keeps_by (λ q. ListsStand q.view) lists_loud) b pt d w is phased known h

@@ -1,11 +1,11 @@
 -- What a turn says of a message of the bag, and of a process that is served, has what its lines need.
-use Rattle.dm_rulelaws.proofs.Names.{◌≡◌, ℕ, ◌+◌, ◌==◌, Bool, true, false, List, [], ◌∷◌, ap, ◌∙◌, sym, subst, if◌then◌else◌, Option, Some, arith, Pid, pid_of, MsgId, MessageKind, Label, Step, Line, plain_kind, PlainMessage, Boot}
-use Rattle.dm_rulelaws.proofs.Names.{first_number, PlainProcess, not_server, alive-is, View, Told, Known, Here, Addresses, Point, moved, Part, Says, Routes, is_away, is_here, Phase, Rests, knows, forwards_on, not_kernels, Sane, InPhases}
-use Rattle.dm_rulelaws.proofs.Names.{rests_here, Rooted, has_nothing_held, Stops, by_round, by_handles, by_forwards, answers_move, leaves_for, Outcome, OneKernel, KnownStands, is_server}
+use Rattle.dm_rulelaws.proofs.Names.{◌≡◌, ℕ, ◌+◌, Bool, true, false, List, [], ◌∷◌, ap, ◌∙◌, sym, subst, if◌then◌else◌, Option, Some, arith, Pid, pid_of, MsgId, MessageKind, Label, Step, Line, plain_kind, PlainMessage, Boot, Life}
+use Rattle.dm_rulelaws.proofs.Names.{first_number, PlainProcess, not_server, alive-is, View, Told, Here, Addresses, Point, moved, Part, Says, Routes, is_away, is_here, Phase, Rests, knows, forwards_on, not_kernels, Sane, InPhases}
+use Rattle.dm_rulelaws.proofs.Names.{rests_here, Rooted, has_nothing_held, Stops, by_round, by_handles, by_forwards, answers_move, leaves_for, Outcome, OneKernel, KnownStands, is_server, Alive}
 use Rattle.dm_onekernel.specs.Pieces as pieces
 use Rattle.dm_onekernel.specs.Step as kernel
 use Rattle.dm_rule.specs.Rule as rule
-use Rattle.dm_rulelaws.proofs.Based.Loud.{life_of, step_alike}
+use Rattle.dm_rulelaws.proofs.Based.Loud.{step_alike, life_sort}
 use Rattle.dm_rulelaws.proofs.Based.Needs.{Resting, Serves, Unborn, Living, Queues, Walks, WalksOf, AllLoose, loose_walks, first_walks, said_by, begun}
 
 -- the point behind the head of a turn
@@ -13,14 +13,10 @@ abbrev pub turned : Point → ℕ → Point
 turned o m = begun o (Step.Turn m)
 
 -- what is here rests here
-away_of : (m n : ℕ) (k : Known) → (m == n) ≡ false → knows (Rests m) n k ≡ true → is_away k ≡ true
-away_of m n k off e = sym (ap (λ (c : Bool). if c then is_here k else is_away k) off) ∙ e
-
 pub resting : (v : View) (p : Pid) → InPhases v → v.known v.acting p ≡ Here → Resting v p
 resting v p h here =
-    let known = (h.each p).known in
-    let is : h.of p ≡ Rests v.acting = rests_here (h.of p) v.acting (sym (ap (knows (h.of p) v.acting) here) ∙ known v.acting) in
-    record { here = here; away = λ n off. away_of v.acting n (v.known n p) off (sym (ap (λ (x : Phase). knows x n (v.known n p)) is) ∙ known n) }
+    let is : h.of p ≡ Rests v.acting = rests_here (h.of p) v.acting (sym (ap (knows (h.of p) v.acting) here) ∙ (h.each p).known v.acting) in
+    record { here = here; away = λ n off. (sym (ap (λ (c : Bool). if c then is_here (v.known n p) else is_away (v.known n p)) off) ∙ (sym (ap (λ (x : Phase). knows x n (v.known n p)) is) ∙ (h.each p).known n)) }
 
 -- a living process is no server
 pub living : (pt : Point) (p : Pid) (x : PlainProcess) → Sane pt → kernel.alive (pt.kernel.processes p) ≡ Some x → Living pt.kernel p
@@ -34,11 +30,10 @@ drops_loose : (ids : List MsgId) → AllLoose (rule.drop_parts ids)
 drops_loose [] = tt
 drops_loose (i ∷ is) = (λ pt. tt, drops_loose is)
 
-runs_stops : (pt : Point) (p : Pid) (queue : List MsgId) → Resting pt.view p → Stops (Walks pt) p queue
-runs_stops pt p queue h = search (arith, loose_walks, first_walks, drops_loose)
-
 pub round_walks : (pt : Point) (b : Boot) (o : Point) (m : ℕ) (q : Option Pid) → ((p : Pid) → q ≡ Some p → Resting pt.view p) → WalksOf pt (rule.goes_round b o m q)
-round_walks pt b o m q h = walks_of pt (rule.goes_round b o m q) (λ ps. by_round (Walks pt) b o m q ps (loose_walks (Says (Line.Idle m) ∷ []) pt (λ q. tt, tt)) (λ p x is alive. (
+round_walks pt b o m q h =
+    let runs_stops : (pt : Point) (p : Pid) (queue : List MsgId) → Resting pt.view p → Stops (Walks pt) p queue = λ pt p queue h. search (arith, loose_walks, first_walks, drops_loose) in
+    walks_of pt (rule.goes_round b o m q) (λ ps. by_round (Walks pt) b o m q ps (loose_walks (Says (Line.Idle m) ∷ []) pt (λ q. tt, tt)) (λ p x is alive. (
     let rests = h p is in
     record {
       runs = λ k rest stops. (
@@ -62,9 +57,6 @@ pub record Front (pt : Point) (id : MsgId) (msg : PlainMessage) : Type 0 where
 front_for : (pt : Point) (id : MsgId) (msg : PlainMessage) (t : Told) → Sane pt → Front pt id msg → pt.view.told id ≡ Some t → (t.kind ≡ plain_kind msg.what) × (t.receiver ≡ msg.to)
 front_for pt id msg t h f told = (h.tells.kind id msg t f.there told, h.tells.receiver id msg t f.there told)
 
-front_serves : (pt : Point) (id : MsgId) (msg : PlainMessage) → Sane pt → InPhases pt.view → Front pt id msg → pt.view.known pt.view.acting msg.to ≡ Here → Serves pt.view id
-front_serves pt id msg sane phases f here = search (arith, f.told, f.is, resting, pt.view, f.told.receiver, pt.view.known, pt.view.acting, front_for)
-
 front_queues : (pt : Point) (id : MsgId) (msg : PlainMessage) → Sane pt → Front pt id msg → plain_kind msg.what ≡ MessageKind.User → pt.view.known pt.view.acting msg.to ≡ Here → (t : Told) → pt.view.told id ≡ Some t → Queues pt.view t id
 front_queues pt id msg sane f user here t told =
     let k = front_for pt id msg t sane f told in
@@ -76,26 +68,27 @@ front_held pt id msg sane f held t told = ap (λ (q : Pid). has_nothing_held (pt
 pub forwards_walks : (pt : Point) (a : Addresses) (id : MsgId) (k : MessageKind) (sender : Pid) (to : ℕ) → Walks pt (forwards_on a id k sender to)
 forwards_walks pt a id k sender to = loose_walks (forwards_on a id k sender to) pt (by_forwards AllLoose a id k sender to (λ q. tt, (λ q. tt, tt)) (λ q. tt, (λ q. tt, (λ q. tt, tt))))
 
-routes_loose : (o : Option PlainMessage) → AllLoose (rule.routes o)
-routes_loose o = search arith
-
 pub unborn : (o : Point) (m : ℕ) → Rooted o → Unborn (turned o m).view (pid_of m (first_number + o.kernel.made m))
 unborn o m h = search (arith, o.kernel.made, h.unborn)
 
 asks_walks : (pt : Point) (p : Pid) (id : MsgId) (to : ℕ) → Living pt.kernel p → pt.view.known pt.view.acting p ≡ Here → Walks pt (rule.says (Label.Asked id) ∷ leaves_for p to)
-asks_walks pt p id to lives here = search (arith, said_by, first_walks, pt.kernel, step_alike, life_of)
+asks_walks pt p id to lives here =
+    -- who lives goes on living
+    let life_of : (o : Option Life) → life_sort o ≡ Some true → (x : PlainProcess) × (o ≡ Some (Alive x)) = λ o h1. search arith in
+    search (arith, said_by, first_walks, pt.kernel, step_alike, life_of)
 
 pub known_living : (s : OneKernel) (v : View) (m : ℕ) (p : Pid) → KnownStands s v → is_server p ≡ false → v.known m p ≡ Here → Living s p
 known_living s v m p h server here = search (arith, h.agree)
 
 pub handles_walks : (b : Boot) (o : Point) (m : ℕ) (id : MsgId) (msg : PlainMessage) → Sane (turned o m) → InPhases (turned o m).view → Rooted o → KnownStands o.kernel o.view → Front (turned o m) id msg → WalksOf (turned o m) (rule.handles b o m id msg)
 handles_walks b o m id msg sane phases rooted known f =
+    let front_serves : (pt : Point) (id : MsgId) (msg : PlainMessage) → Sane pt → InPhases pt.view → Front pt id msg → pt.view.known pt.view.acting msg.to ≡ Here → Serves pt.view id =
+      λ pt id msg sane phases f here. search (arith, f.told, f.is, resting, pt.view, f.told.receiver, pt.view.known, pt.view.acting, front_for) in
     let pt = turned o m in
-    let child = pid_of m (first_number + o.kernel.made m) in
     walks_of pt (rule.handles b o m id msg) (λ ps. by_handles (Walks pt) b o m id msg ps (record {
-      created = λ fixed. first_walks (rule.says (Label.Created id child)) (Routes (pieces.answer_id id) ∷ []) pt (unborn o m rooted) (λ q. tt, tt);
+      created = λ fixed. first_walks (rule.says (Label.Created id (pid_of m (first_number + o.kernel.made m)))) (Routes (pieces.answer_id id) ∷ []) pt (unborn o m rooted) (λ q. tt, tt);
       no_space = λ fixed slots blocks. loose_walks (rule.says (Label.NoSpace id slots blocks) ∷ Routes (pieces.answer_id id) ∷ []) pt (λ q. tt, (λ q. tt, tt));
-      took = λ fixed sent. loose_walks (rule.says (Label.Took id) ∷ rule.routes sent) pt (λ q. tt, routes_loose sent);
+      took = λ fixed sent. loose_walks (rule.says (Label.Took id) ∷ rule.routes sent) pt (λ q. tt, (let e_ : AllLoose (rule.routes sent) = search arith in e_));
       queued = λ to user. first_walks (Says (Line.Queued id)) [] pt (front_queues pt id msg sane f user to.known) tt;
       served = λ to mild. first_walks (rule.says (Label.Served id)) [] pt (front_serves pt id msg sane phases f to.known) tt;
       answers = λ to mild i. first_walks (rule.says (Label.Served id)) (Routes i ∷ []) pt (front_serves pt id msg sane phases f to.known) (λ q. tt, tt);

@@ -4,9 +4,7 @@ use Rattle.dm_rulelaws.proofs.Names.{cases_Bool, false≢true, nat_tests, Pid, p
 use Rattle.dm_rulelaws.proofs.Names.{pid_eq-is, pid_eq-same, pid_eq-swap, first_point, Known, known_at, ring_at, is_server, KnownStands, agrees, server_at, rings, turns_here, eq_self}
 use Rattle.dm_rulelaws.proofs.Fits.Rises.{both}
 use Rattle.dm_rulelaws.proofs.Fits.Start.{get_some}
-
-abbrev pub one_if : Bool → ℕ
-one_if c = if c then 1 else 0
+pub use Rattle.dm_rulelaws.proofs.Based.Sets.{one_if}
 
 -- a process is here while it lives
 abbrev pub known_of_life : Option Life → Known
@@ -35,19 +33,17 @@ starting-last m (q ∷ qs) p = let h = starting-last m qs p in omega (arith, h)
 none_later : (b : Boot) (earlier ps : List BootProcess) (q : Pid) → processes_are_valid b earlier ps ≡ true → nat_lt q.num (3 + starting_at q.home earlier) ≡ true → life_at b ps q ≡ None
 none_later b earlier [] q h low = refl
 none_later b earlier (p ∷ ps) q h low =
-    let k = listed b earlier p ps h in
-    let number = k.number in
+    let number = (listed b earlier p ps h).number in
     let more = starting-last q.home earlier p in
     let apart : pid_eq p.pid q ≡ false = apart_of (pid_eq p.pid q) refl in
     let next : nat_lt q.num (3 + starting_at q.home (earlier ++ p ∷ [])) ≡ true = grind (arith, nat_tests) in
-    ap (λ (c : Bool). if c then first_life b p else life_at b ps q) apart ∙ none_later b (earlier ++ p ∷ []) ps q k.rest next
+    ap (λ (c : Bool). if c then first_life b p else life_at b ps q) apart ∙ none_later b (earlier ++ p ∷ []) ps q (listed b earlier p ps h).rest next
   where
     apart_of : (c : Bool) → pid_eq p.pid q ≡ c → pid_eq p.pid q ≡ false
     apart_of false e = e
     apart_of true e =
         let is : p.pid ≡ q = pid_eq-is p.pid q e in
-        let k = listed b earlier p ps h in
-        let number : q.num ≡ 3 + starting_at q.home earlier = sym (ap (λ (v : Pid). v.num) is) ∙ k.number ∙ ap (λ (v : Pid). 3 + starting_at v.home earlier) is in
+        let number : q.num ≡ 3 + starting_at q.home earlier = sym (ap (λ (v : Pid). v.num) is) ∙ (listed b earlier p ps h).number ∙ ap (λ (v : Pid). 3 + starting_at v.home earlier) is in
         let off : nat_lt q.num (3 + starting_at q.home earlier) ≡ false = grind (arith, nat_tests) in
         absurd (false≢true (sym off ∙ low))
 
@@ -69,15 +65,13 @@ known_first b earlier (p ∷ ps) m q h = elim (cases_Bool (pid_eq p.pid q)) [
       let number : q.num ≡ 3 + starting_at q.home earlier = sym (ap (λ (v : Pid). v.num) is) ∙ k.number ∙ ap (λ (v : Pid). 3 + starting_at v.home earlier) is in
       let server : is_server q ≡ false = (let e : pid_eq q switchboard ≡ false = grind (arith, nat_tests) in let d : pid_eq q manager ≡ false = grind (arith, nat_tests) in ap (λ (c : Bool). c || pid_eq q manager) e ∙ d) in
       let life : known_of_life (life_at b (p ∷ ps) q) ≡ Known.Here = ap (λ (c : Bool). known_of_life (if c then first_life b p else life_at b ps q)) same ∙ (alive_first b p (slice_get b.images p.image) k.image).0 in
-      let rest = known_first b (earlier ++ p ∷ []) ps m q k.rest in
       ap (λ (c : Bool). if c && (p.pid.home == m) then Known.Here else known_at ps m q) same
       ∙ ap (λ (v : Pid). if v.home == m then Known.Here else known_at ps m q) is
-      ∙ here_or (q.home == m) (known_at ps m q) (if is_server q then Known.Here else known_of_life (life_at b ps q)) rest
+      ∙ here_or (q.home == m) (known_at ps m q) (if is_server q then Known.Here else known_of_life (life_at b ps q)) (known_first b (earlier ++ p ∷ []) ps m q k.rest)
       ∙ ap (λ (v : Known). if q.home == m then v else Known.Unknown) (sym life)
       ∙ ap (λ (c : Bool). if q.home == m then (if c then Known.Here else known_of_life (life_at b (p ∷ ps) q)) else Known.Unknown) (sym server)
   | inr apart ↦
-      let k = listed b earlier p ps h in
-      ap (λ (c : Bool). if c && (p.pid.home == m) then Known.Here else known_at ps m q) apart ∙ known_first b (earlier ++ p ∷ []) ps m q k.rest
+      ap (λ (c : Bool). if c && (p.pid.home == m) then Known.Here else known_at ps m q) apart ∙ known_first b (earlier ++ p ∷ []) ps m q (listed b earlier p ps h).rest
       ∙ ap (λ (c : Bool). if q.home == m then (if is_server q then Known.Here else known_of_life (if c then first_life b p else life_at b ps q)) else Known.Unknown) (sym apart)
 ]
   where
@@ -102,18 +96,14 @@ ring_first b earlier (p ∷ ps) m q h = elim (cases_Bool (pid_eq p.pid q)) [
       let low : nat_lt q.num (3 + starting_at q.home (earlier ++ p ∷ [])) ≡ true = grind (arith, nat_tests) in
       let none : life_at b ps q ≡ None = none_later b (earlier ++ p ∷ []) ps q k.rest low in
       let rest : rings q (ring_at ps m) ≡ 0 = ring_first b (earlier ++ p ∷ []) ps m q k.rest ∙ ap (λ (o : Option Life). one_if ((q.home == m) && is_alive o)) none ∙ never (q.home == m) in
-      let first = ring_if q p.pid (ring_at ps m) (p.pid.home == m) in
       let mine : one_if ((p.pid.home == m) && pid_eq q p.pid) ≡ one_if ((q.home == m) && true) = ap (λ (v : Pid). one_if ((v.home == m) && pid_eq q v)) is ∙ ap (λ (c : Bool). one_if ((q.home == m) && c)) (pid_eq-same q) in
       let alive : one_if ((q.home == m) && is_alive (life_at b (p ∷ ps) q)) ≡ one_if ((q.home == m) && true) =
       ap (λ (c : Bool). one_if ((q.home == m) && is_alive (if c then first_life b p else life_at b ps q))) same ∙ ap (λ (c : Bool). one_if ((q.home == m) && c)) (alive_first b p (slice_get b.images p.image) k.image).1 in
-      omega (arith, first, rest, mine, alive)
+      omega (arith, ring_if q p.pid (ring_at ps m) (p.pid.home == m), rest, mine, alive)
   | inr apart ↦
-      let k = listed b earlier p ps h in
-      let rest = ring_first b (earlier ++ p ∷ []) ps m q k.rest in
-      let first = ring_if q p.pid (ring_at ps m) (p.pid.home == m) in
       let mine : one_if ((p.pid.home == m) && pid_eq q p.pid) ≡ 0 = ap (λ (c : Bool). one_if ((p.pid.home == m) && c)) (pid_eq-swap q p.pid ∙ apart) ∙ never (p.pid.home == m) in
       let alive : one_if ((q.home == m) && is_alive (life_at b (p ∷ ps) q)) ≡ one_if ((q.home == m) && is_alive (life_at b ps q)) = ap (λ (c : Bool). one_if ((q.home == m) && is_alive (if c then first_life b p else life_at b ps q))) apart in
-      omega (arith, first, rest, mine, alive)
+      omega (arith, ring_if q p.pid (ring_at ps m) (p.pid.home == m), ring_first b (earlier ++ p ∷ []) ps m q (listed b earlier p ps h).rest, mine, alive)
 ]
   where
     never : (c : Bool) → one_if (c && false) ≡ 0

@@ -1,14 +1,13 @@
 -- What was never made has never moved: each group keeps it.
-use Rattle.dm_rulelaws.proofs.Names.{sets, ◌≡◌, ℕ, ◌+◌, Bool, refl, ap, ◌∙◌, sym, subst, inl, inr, if◌then◌else◌, cases_Bool, Option, None, Some, Pid, pid_eq, MsgId, Boot, Label, Line, Stage, PlainProcess, Alive, OneKernel, Step, pid_eq-is}
-use Rattle.dm_rulelaws.proofs.Names.{after_step, Spelled, Point, kernel_after, label_of, group_of, View, Told, handled, receiver_of, served_told, view_after, Kept, grown_none, Phased, Sane, KnownStands, ◌≢◌, ◌==◌, ◌&&◌, true, false, List}
-use Rattle.dm_rulelaws.proofs.Names.{[], ◌∷◌, ◌++◌, is_some, arith, false≢true, nat_tests, Life, bind-is, completing, at_machine, at_record, without, moved_back, Known, Unknown, Here, Frozen, Incoming, Forward, handled_first, front_of}
-use Rattle.dm_rulelaws.proofs.Names.{gone_to, rejoins, is_away, is_here, at_machine_at, is_kill, is_server, agrees, server_at, rings, turns_here, aim, at_hand-is}
+use Rattle.dm_rulelaws.proofs.Names.{sets, ◌≡◌, ℕ, ◌+◌, Bool, refl, ap, ◌∙◌, sym, subst, inl, inr, if◌then◌else◌, cases_Bool, Option, None, Some, Pid, pid_eq, MsgId, Label, Line, Stage, PlainProcess, Alive, OneKernel, pid_eq-is, after_step}
+use Rattle.dm_rulelaws.proofs.Names.{Point, View, Told, handled, receiver_of, served_told, view_after, Kept, grown_none, Sane, KnownStands, ◌≢◌, ◌==◌, ◌&&◌, true, false, List, [], ◌∷◌, ◌++◌, is_some, arith, false≢true, nat_tests, Life}
+use Rattle.dm_rulelaws.proofs.Names.{bind-is, completing, at_machine, at_record, without, moved_back, Known, Unknown, Here, Frozen, Incoming, Forward, handled_first, front_of, gone_to, rejoins, is_away, is_here, at_machine_at, is_kill}
+use Rattle.dm_rulelaws.proofs.Names.{is_server, agrees, server_at, rings, turns_here, aim, at_hand-is, pid_eq-same}
 use Rattle.dm_rule.specs.View.{Ended}
 use Rattle.dm_onekernel.specs.Step as kernel
 use Rattle.dm_rule.specs.View as view
-use Rattle.dm_rulelaws.proofs.Based.Groups.{group_keeps}
-use Rattle.dm_rulelaws.proofs.Based.Loud.{Loud, keeps_by, Alike, SetLife, life_sort, some_alike, step_ends, step_serves, step_creates}
-use Rattle.dm_rulelaws.proofs.Based.Sets.{killed_or, rings_without, rings_others, back_self, back_others, last_self, last_others, ring_set, set_all}
+use Rattle.dm_rulelaws.proofs.Based.Loud.{Loud, Alike, SetLife, life_sort, some_alike, step_ends, step_serves, step_creates}
+use Rattle.dm_rulelaws.proofs.Based.Sets.{killed_or, rings_without, rings_others, ring_set, set_all, rings-append, rings_one, one_off}
 use Rattle.dm_rulelaws.proofs.Based.Needs.{Resting, Serves}
 use Rattle.dm_rulelaws.proofs.Based.Rows.{living}
 
@@ -18,11 +17,7 @@ pub record Unmoved (s : OneKernel) (v : View) : Type 0 where
 -- what was made stays made
 kept_label : (pt : Point) (t : OneKernel) (l : Label) → Sane pt → kernel.step pt.kernel l ≡ Some t → Kept pt.kernel t
 kept_label pt t l h e p none =
-    let a = after_step h.r h.e pt.kernel t l e h.sound in
-    grown_none (pt.kernel.processes p) (t.processes p) (a.grown.lives p) none
-
-kept_by : (pt : Point) (t : OneKernel) (o : Option Label) → Sane pt → kernel_after pt.kernel o ≡ Some t → Kept pt.kernel t
-kept_by pt t o h1 h2 = search (arith, pt.kernel, kept_label)
+    grown_none (pt.kernel.processes p) (t.processes p) ((after_step h.r h.e pt.kernel t l e h.sound).grown.lives p) none
 
 unmoved_as : (s t : OneKernel) (v w : View) → Kept s t → w.moves ≡ v.moves → Unmoved s v → Unmoved t w
 unmoved_as s t v w kept moves h = record { none = λ p none. ap (λ (f : Pid → ℕ). f p) moves ∙ h.none p (kept p none) }
@@ -51,10 +46,10 @@ restarted_moves s v w p x alive is h = record {
   ];
 }
 
-unmoved_loud : Loud (λ pt. Unmoved pt.kernel pt.view)
+pub unmoved_loud : Loud (λ pt. Unmoved pt.kernel pt.view)
 unmoved_loud = record {
   rides = (search arith);
-  quiet = λ pt w t l e s told alike sane is h. subst (Unmoved t) (sym e) (unmoved_as pt.kernel t pt.view w (kept_by pt t (label_of l) sane is) s.moves h);
+  quiet = λ pt w t l e s told alike sane is h. subst (Unmoved t) (sym e) (unmoved_as pt.kernel t pt.view w (let e_ : Kept pt.kernel t = search (arith, pt.kernel, kept_label) in e_) s.moves h);
   ran = λ pt t p k here alike sane is h. by_label pt t (Label.Ran p k) sane is refl h;
   receive = λ pt t p id here alike sane is h. by_label pt t (Label.Receive p id) sane is refl h;
   refuse = λ pt t p id c here alike sane is h. by_label pt t (Label.Refuse p id c) sane is refl h;
@@ -71,9 +66,6 @@ unmoved_loud = record {
   stays_ = λ pt p lives off h. record { none = h.none };
   sent_on = λ pt p n h. record { none = h.none };
 }
-
-pub unmoved_group : (b : Boot) (pt : Point) (d : Step) (w : Spelled) → group_of b pt d ≡ Some w → Phased pt → KnownStands pt.kernel pt.view → Unmoved pt.kernel pt.view → Unmoved w.point.kernel w.point.view
-unmoved_group b pt d w is phased known h = group_keeps (λ q. Unmoved q.kernel q.view) (keeps_by (λ q. Unmoved q.kernel q.view) unmoved_loud) b pt d w is phased known h
 
 -- What machines know of processes agrees with the kernel without machines: each group keeps it.
 
@@ -93,9 +85,6 @@ by_sort k o = search arith
 
 agrees_alike : (k : Known) (a b : Option Life) → life_sort a ≡ life_sort b → agrees k a ≡ agrees k b
 agrees_alike k a b e = by_sort k a ∙ ap (agrees_by k) e ∙ sym (by_sort k b)
-
-here_agrees : (o : Option Life) → life_sort o ≡ Some true → agrees Here o ≡ true
-here_agrees o h1 = search arith
 
 frozen_some : (d : ℕ) (o : Option Life) → agrees (Frozen d) o ≡ true → is_some o ≡ true
 frozen_some d o h1 = search arith
@@ -141,10 +130,9 @@ known_learns s t v w p k l h = record {
   home = λ q e some unknown. set_all (λ n r x. n ≡ r.home → is_server r ≡ false → is_some (t.processes r) ≡ true → x ≢ Unknown) v.known v.acting p k (λ at e_ some_. l.some)
       (λ n r off at e_ some_. elim (cases_Bool (pid_eq p r)) [
         | inl same ↦
-            let is = pid_eq-is p r same in
-            let home : n ≡ p.home = at ∙ ap (λ (x : Pid). x.home) (sym is) in
+            let home : n ≡ p.home = at ∙ ap (λ (x : Pid). x.home) (sym (pid_eq-is p r same)) in
             let there : is_some (s.processes p) ≡ true = l.far (ap (λ (i : ℕ). v.acting == i) (sym home) ∙ off_first (v.acting == n) (pid_eq p r) off same) in
-            (λ z. h.home p l.server there (ap (λ (i : ℕ). v.known i p) (sym home) ∙ ap (v.known n) is ∙ z))
+            (λ z. h.home p l.server there (ap (λ (i : ℕ). v.known i p) (sym home) ∙ ap (v.known n) (pid_eq-is p r same) ∙ z))
         | inr apart ↦
             let there : is_some (s.processes r) ≡ true = sym (some_alike (t.processes r) (s.processes r) (l.others r apart)) ∙ some_ in
             (λ z. h.home r e_ there (ap (λ (i : ℕ). v.known i r) (sym at) ∙ z))
@@ -166,9 +154,10 @@ serving_ring s v p h server here m q =
     let f = v.ring in
     let a = v.acting in
     let one : rings p (f a) ≡ 1 = h.ring a p ∙ ap (λ (k : Known). turns_here (is_server p) k) here ∙ ap (λ (c : Bool). turns_here c Here) server in
+    let back_self : rings p (moved_back p (f a)) ≡ 1 = search (arith, rings-append, rings_without, rings_one, pid_eq-same) in
     elim (cases_Bool (pid_eq p q)) [
-      | inl same ↦ subst (λ (r : Pid). rings r (at_machine f a (moved_back p (f a)) m) ≡ rings r (f m)) (pid_eq-is p q same) (ring_set f a (moved_back p (f a)) p (back_self p (f a) ∙ sym one) m)
-      | inr apart ↦ ring_set f a (moved_back p (f a)) q (back_others p q (f a) apart) m
+      | inl same ↦ subst (λ (r : Pid). rings r (at_machine f a (moved_back p (f a)) m) ≡ rings r (f m)) (pid_eq-is p q same) (ring_set f a (moved_back p (f a)) p (back_self ∙ sym one) m)
+      | inr apart ↦ ring_set f a (moved_back p (f a)) q (let e_ : rings q (moved_back p (f a)) ≡ rings q (f a) = search (arith, rings-append, rings_others, rings_one, one_off) in e_) m
     ]
 
 -- a process ends
@@ -189,16 +178,15 @@ ends_known s t v p server some set rests h = known_learns s t v (view.ended v p)
 comes_known : (s t : OneKernel) (v w : View) (p : Pid) → is_server p ≡ false → w.known ≡ at_record v.known v.acting p Here → w.ring ≡ at_machine v.ring v.acting (v.ring v.acting ++ p ∷ []) → SetLife s t p (Some true)
     → ((n : ℕ) → (v.acting == n) ≡ false → agrees (v.known n p) (t.processes p) ≡ true) → ((v.acting == p.home) ≡ false → is_some (s.processes p) ≡ true) → is_here (v.known v.acting p) ≡ false → KnownStands s v → KnownStands t w
 comes_known s t v w p server known ring set away far off h =
+    let last_others : (p q : Pid) (xs : List Pid) → pid_eq p q ≡ false → rings q (xs ++ p ∷ []) ≡ rings q xs = λ p q xs apart. search (arith, rings-append, rings_one, one_off) in
+    let last_self : (p : Pid) (xs : List Pid) → rings p xs ≡ 0 → rings p (xs ++ p ∷ []) ≡ 1 = λ p xs none. search (arith, rings-append, rings_one, pid_eq-same) in
+    let here_agrees : (o : Option Life) → life_sort o ≡ Some true → agrees Here o ≡ true = λ o h1. search arith in
     let zs = v.ring v.acting ++ p ∷ [] in
     let none : rings p (v.ring v.acting) ≡ 0 = h.ring v.acting p ∙ turns_off (is_server p) (v.known v.acting p) off in
     known_learns s t v w p Here (search (arith, set.off, here_agrees, t.processes, set.at_, v.acting, ring_there, v.ring, last_self, ring_off, last_others)) h
 
 alive_set : (s : OneKernel) (p : Pid) (x : PlainProcess) → s.processes p ≡ Some (Alive x) → SetLife s s p (Some true)
 alive_set s p x e = record { at_ = ap life_sort e; off = λ q apart. refl }
-
--- the lines
-ran_living : (s t : OneKernel) (p : Pid) (k : ℕ) → kernel.step s (Label.Ran p k) ≡ Some t → (x : PlainProcess) × (kernel.alive (s.processes p) ≡ Some x)
-ran_living s t p k is = search (arith, bind-is, at_hand-is)
 
 served_known : (s t : OneKernel) (v : View) (told : Told) → is_server told.receiver ≡ false → is_some (s.processes told.receiver) ≡ true → (is_kill told.kind ≡ true → SetLife s t told.receiver (Some false)) → (is_kill told.kind ≡ false → Alike s t)
     → (is_kill told.kind ≡ true → Resting v told.receiver) → KnownStands s v → KnownStands t (served_told v (Some told))
@@ -213,18 +201,8 @@ served_line pt t id serves sane is h =
     let told = serves.told in
     let kind : told.kind ≡ _ = sane.tells.kind id l.message told l.there serves.is in
     let to : told.receiver ≡ l.message.to = sane.tells.receiver id l.message told l.there serves.is in
-    let lives = living pt l.message.to l.process sane (ap kernel.alive l.alive) in
     let k : KnownStands s v = record { server = h.server; agree = h.agree; home = h.home; ring = h.ring } in
-    search (arith, serves.is, served_known, lives.server, s.processes, l.alive, l.served.kill, l.served.other, serves.rests)
-
-dropped_known : (s t : OneKernel) (v : View) (id : MsgId) (o : Option Pid) → Alike s t → KnownStands s v → KnownStands t (view.dropped_for v id o)
-dropped_known s t v id o h1 h2 = search (arith, known_as)
-
-queued_known : (s : OneKernel) (v : View) (id : MsgId) (o : Option Pid) → KnownStands s v → KnownStands s (view.queued_for v id o)
-queued_known s v id o h1 = search arith
-
-held_known : (s : OneKernel) (v : View) (id : MsgId) (o : Option Pid) → KnownStands s v → KnownStands s (view.held_for v id o)
-held_known s v id o h1 = search arith
+    search (arith, serves.is, served_known, (living pt l.message.to l.process sane (ap kernel.alive l.alive)).server, s.processes, l.alive, l.served.kill, l.served.other, serves.rests)
 
 handled_known : (s : OneKernel) (v : View) (id : MsgId) → KnownStands s v → KnownStands s (handled v id)
 handled_known s v id h = record { server = h.server; agree = h.agree; home = h.home; ring = h.ring }
@@ -232,12 +210,13 @@ handled_known s v id h = record { server = h.server; agree = h.agree; home = h.h
 home_apart : (a b : ℕ) → b ≡ a → (a == b) ≡ false → ⊥
 home_apart a b e off = let k : (a == b) ≡ true = grind (arith, nat_tests) in false≢true (sym off ∙ k)
 
-known_loud : Loud (λ pt. KnownStands pt.kernel pt.view)
+-- the lines
+pub known_loud : Loud (λ pt. KnownStands pt.kernel pt.view)
 known_loud = record {
   rides = (search arith);
   quiet = λ pt w t l e s told alike sane is h. subst (KnownStands t) (sym e) (known_as pt.kernel t pt.view w alike s.known s.ring h);
   ran = λ pt t p k here alike sane is h.
-      let (x, alive) = ran_living pt.kernel t p k is in
+      let (x, alive) = (let e_ : (x : PlainProcess) × (kernel.alive (pt.kernel.processes p) ≡ Some x) = search (arith, bind-is, at_hand-is) in e_) in
       known_same pt.kernel t pt.view (view_after pt.view (Line.Label (Label.Ran p k))) alike refl (serving_ring pt.kernel pt.view p h (living pt p x sane alive).server here) h;
   receive = λ pt t p id here alike sane is h.
       let (c, done, last) = bind-is (kernel.completing pt.kernel p id) (kernel.receives pt.kernel p id) t is in
@@ -250,22 +229,21 @@ known_loud = record {
   end = λ pt t p y rests sane is h.
       let l = step_ends pt.kernel t p y is in
       ends_known pt.kernel t pt.view p (living pt p l.process sane (ap kernel.alive l.alive)).server (ap is_some l.alive) l.set rests h;
-  dropped = λ pt t id alike sane is h. dropped_known pt.kernel t (handled pt.view id) id (receiver_of (pt.view.told id)) alike (handled_known pt.kernel pt.view id h);
+  dropped = λ pt t id alike sane is h. search (arith, known_as, handled_known pt.kernel pt.view id h);
   served = λ pt t id serves sane is h. served_line pt t id serves sane is h;
   created = λ pt t id p unborn sane is h.
       comes_known pt.kernel t pt.view (view_after pt.view (Line.Label (Label.Created id p))) p unborn.server refl refl (step_creates pt.kernel t id p is)
       (λ n off. ap (λ (k : Known). agrees k (t.processes p)) (unborn.unknown n)) (λ off. absurd (home_apart pt.view.acting p.home unborn.home off)) (ap is_here (unborn.unknown pt.view.acting)) h;
-  queued = λ pt id need sane h. queued_known pt.kernel (handled pt.view id) id (receiver_of (pt.view.told id)) (handled_known pt.kernel pt.view id h);
-  held = λ pt id need sane h. held_known pt.kernel (handled pt.view id) id (receiver_of (pt.view.told id)) (handled_known pt.kernel pt.view id h);
+  queued = λ pt id need sane h. search (arith, handled_known pt.kernel pt.view id h);
+  held = λ pt id need sane h. search (arith, handled_known pt.kernel pt.view id h);
   frozen = λ pt p lives here h.
       let v = pt.view in
-      let to = aim v v.topic in
       let set = sets v p v.topic in
-      known_learns pt.kernel pt.kernel v (view_after v (Line.Migration Stage.Frozen p)) p (Frozen to) (record {
+      known_learns pt.kernel pt.kernel v (view_after v (Line.Migration Stage.Frozen p)) p (Frozen (aim v v.topic)) (record {
         server = lives.server;
         known = set.known;
         others = λ q apart. refl;
-        mine = ap (agrees (Frozen to)) lives.alive;
+        mine = ap (agrees (Frozen (aim v v.topic))) lives.alive;
         away = λ n off. h.agree n p lives.server;
         some = λ e. cc;
         far = λ e. ap is_some lives.alive;
@@ -279,7 +257,6 @@ known_loud = record {
       let v = pt.view in
       let n = v.moves p + 1 in
       let k : gone_to (v.known v.acting p) n ≡ Forward leaves.to n = ap (λ (x : Known). gone_to x n) leaves.frozen in
-      let agree = h.agree v.acting p leaves.server in
       known_learns pt.kernel pt.kernel v (view_after v (Line.Migration Stage.Left p)) p (gone_to (v.known v.acting p) n) (record {
         server = leaves.server;
         known = refl;
@@ -287,7 +264,7 @@ known_loud = record {
         mine = search arith;
         away = λ m off. h.agree m p leaves.server;
         some = λ e. (let f : Forward leaves.to n ≡ Unknown = sym k ∙ e in cc);
-        far = λ e. frozen_some leaves.to (pt.kernel.processes p) (sym (ap (λ (x : Known). agrees x (pt.kernel.processes p)) leaves.frozen) ∙ agree);
+        far = λ e. frozen_some leaves.to (pt.kernel.processes p) (sym (ap (λ (x : Known). agrees x (pt.kernel.processes p)) leaves.frozen) ∙ (h.agree v.acting p leaves.server));
         ring = h.ring v.acting p ∙ turns_off (is_server p) (v.known v.acting p) (ap is_here leaves.frozen) ∙ sym (turns_off false (gone_to (v.known v.acting p) n) (ap is_here k));
         rings_ = λ m q off. refl;
       }) h;
@@ -299,6 +276,3 @@ known_loud = record {
       (λ n o. h.agree n p lives.server) (λ e. ap is_some lives.alive) off h;
   sent_on = λ pt p n h. record { server = h.server; agree = h.agree; home = h.home; ring = h.ring };
 }
-
-pub known_group : (b : Boot) (pt : Point) (d : Step) (w : Spelled) → group_of b pt d ≡ Some w → Phased pt → KnownStands pt.kernel pt.view → KnownStands w.point.kernel w.point.view
-known_group b pt d w is phased h = group_keeps (λ q. KnownStands q.kernel q.view) (keeps_by (λ q. KnownStands q.kernel q.view) known_loud) b pt d w is phased h h

@@ -29,23 +29,16 @@ pub record Constant (s t : OneKernel) : Type 0 where
   pub machines : t.machines ≡ s.machines
   pub pending : InOrder s.manager → InOrder t.manager
 
-sent_constant : (s u : OneKernel) (o : Option PlainMessage) → Constant s u → Constant s (kernels.with_sent u o)
-sent_constant s u o h1 = search arith
-
-process_constant : (s u : OneKernel) (p : Pid) (life : Life) → Constant s u → Constant s (kernels.with_process u p life)
-process_constant s u p life h = record { format = h.format; images = h.images; machines = h.machines; pending = h.pending }
-
-out_constant : (s : OneKernel) (id : MsgId) → Constant s (without_message s id)
-out_constant s id = record { format = refl; images = refl; machines = refl; pending = λ e. e }
-
 pub same : (s : OneKernel) → Constant s s
 same s = record { format = refl; images = refl; machines = refl; pending = λ e. e }
 
-goes_constant : (s : OneKernel) (id : MsgId) (p : Pid) (life : Life) → Constant s (kernels.with_process (without_message s id) p life)
-goes_constant s id p life = process_constant s (without_message s id) p life (out_constant s id)
-
 pub step_constant : (s t : OneKernel) (e : Label) → kernel.step s e ≡ Some t → Constant s t
 step_constant s t e =
+    let sent_constant : (s u : OneKernel) (o : Option PlainMessage) → Constant s u → Constant s (kernels.with_sent u o) = λ s u o h1. search arith in
+    let out_constant : (s : OneKernel) (id : MsgId) → Constant s (without_message s id) = λ s id. record { format = refl; images = refl; machines = refl; pending = λ e. e } in
+    let process_constant : (s u : OneKernel) (p : Pid) (life : Life) → Constant s u → Constant s (kernels.with_process u p life) =
+      λ s u p life h. record { format = h.format; images = h.images; machines = h.machines; pending = h.pending } in
+    let goes_constant : (s : OneKernel) (id : MsgId) (p : Pid) (life : Life) → Constant s (kernels.with_process (without_message s id) p life) = λ s id p life. process_constant s (without_message s id) p life (out_constant s id) in
     let answers : (id : MsgId) (m : PlainMessage) (y : PlainProcess) (x : PlainMessage) → Constant s (kernels.with_sent (service.changed s id m y) (Some x)) = λ id m y x. sent_constant s (service.changed s id m y) (Some x) (goes_constant s id m.to (kernels.Alive y)) in
     by_step (Constant s) s t e (search (arith, process_constant, same, sent_constant, goes_constant, out_constant, took_order, s.manager))
 
@@ -98,10 +91,9 @@ record BoardFits (s : OneKernel) (k : board.BoardTook) : Type 0 where
 
 board_on : (s : OneKernel) (id : MsgId) (k : board.BoardTook) → BoardFits s k → KernelFits s → KernelFits (service.switchboard_took s id k)
 board_on s id k b fits =
-    let v = without_message s id in
-    let u = record v { switchboard = k.switchboard } in
+    let u = record (without_message s id) { switchboard = k.switchboard } in
     let out = out_fits s id fits in
-    put_maybe u k.answer (sends_off (record s { switchboard = k.switchboard }) u k.answer refl refl refl refl b.sends) (carries v u (search (arith, out.processes, b.names, out.answers, out.children, pending_on)) out)
+    put_maybe u k.answer (sends_off (record s { switchboard = k.switchboard }) u k.answer refl refl refl refl b.sends) (carries (without_message s id) u (search (arith, out.processes, b.names, out.answers, out.children, pending_on)) out)
   where
     what_same : (s u : OneKernel) (i : MsgId) (m : PlainMessage) (w : PlainWhat) → u.processes ≡ s.processes → u.machines ≡ s.machines → u.images ≡ s.images → u.manager ≡ s.manager → WhatFits s i m w → WhatFits u i m w
     what_same s u i m w ps machines images g h = what_on s u i m w (λ p n e. ap (λ (f : Lives). has_bytes n (f p)) ps ∙ e) (λ e. ap (λ (f : Lives). awaits (f i.from) i.n w) ps ∙ e)
@@ -115,28 +107,19 @@ board_fits : (s : OneKernel) (body : List ℕ) (links : List PlainLink) → Each
 board_fits s body links h1 h2 = search (arith, s.processes, s.switchboard.names, link_users, bad_asked, if_asked, register_fits, look_up_fits)
 
 pub board_row : (s : OneKernel) (id : MsgId) (m : PlainMessage) (w : PlainWhat) (k : board.BoardTook) → WhatFits s id m w → board.board_takes s.switchboard m w ≡ Some k → KernelFits s → KernelFits (service.switchboard_took s id k)
-board_row s id m (PlainWhat.User code channel body links) k h1 h2 h3 =
-    let e : board.takes_request s.switchboard body links ≡ k = cc in board_on s id k (subst (BoardFits s) e (board_fits s body links h1.1 h3.names)) h3
-board_row s id m w k h1 h2 h3 = absurd (cc)
+board_row s id m w k h1 h2 h3 = search (arith, s.switchboard, board_on, board_fits)
 
 pub pending_last : (kind : PendingKind) (n : ℕ) (rs : List Pending) (r : Pending) → is_for kind (manage.pending_numbered n rs) ≡ true → is_for kind (manage.pending_numbered n (rs ++ r ∷ [])) ≡ true
 pending_last kind n [] r h = cc
 pending_last kind n (x ∷ xs) r h = search (arith, x.n == n, pending_last kind n xs r)
 
--- a new request has a number that no pending one has
-none_later : (x : Pending) (rs : List Pending) (n : ℕ) → nat_lt x.n n ≡ true → (x.n == n) ≡ false
-none_later x rs n low = grind (arith, nat_tests)
-
 own_last : (from : ℕ) (rs : List Pending) (r : Pending) → ascends from rs r.n ≡ true → manage.pending_numbered r.n (rs ++ r ∷ []) ≡ Some r
 own_last from [] r e = let f : (r.n == r.n) ≡ true = grind (arith, nat_tests) in ap (λ (b : Bool). if b then Some r else None) f
 own_last from (x ∷ xs) r e =
-    let k = both (nat_le from x.n) (ascends (x.n + 1) xs r.n) e in
     let one : manage.pending_numbered x.n (x ∷ xs) ≡ Some x = (let f : (x.n == x.n) ≡ true = grind (arith, nat_tests) in ap (λ (b : Bool). if b then Some x else manage.pending_numbered x.n xs) f) in
-    let low = (numbered_from (x ∷ xs) from r.n x.n x e one).1 in
-    ap (λ (b : Bool). if b then Some x else manage.pending_numbered r.n (xs ++ r ∷ [])) (none_later x xs r.n low) ∙ own_last (x.n + 1) xs r k.1
-
-kind_same : (k : PendingKind) → kind_eq k k ≡ true
-kind_same k = search arith
+    -- a new request has a number that no pending one has
+    let none_later : (x.n == r.n) ≡ false = grind (arith, nat_tests, (numbered_from (x ∷ xs) from r.n x.n x e one).1) in
+    ap (λ (b : Bool). if b then Some x else manage.pending_numbered r.n (xs ++ r ∷ [])) none_later ∙ own_last (x.n + 1) xs r (both (nat_le from x.n) (ascends (x.n + 1) xs r.n) e).1
 
 pub pending_without : (kind : PendingKind) (k n : ℕ) (rs : List Pending) → (k == n) ≡ false → is_for kind (manage.pending_numbered k rs) ≡ true → is_for kind (manage.pending_numbered k (manage.without_pending n rs)) ≡ true
 pending_without kind k n [] apart h = h
@@ -145,12 +128,11 @@ pending_without kind k n (r ∷ rs) apart h = search (arith, r.n, (pending_witho
 abbrev AnswersFit : Lives → List Pending → Type 0
 AnswersFit ps rs = Each (PendingFits ps) rs
 
-answer_if : (ps : Lives) (b : Bool) (x r : Pending) (o : Option Pending) → (if b then Some x else o) ≡ Some r → PendingFits ps x → (o ≡ Some r → PendingFits ps r) → PendingFits ps r
-answer_if ps b x r o h1 h2 h3 = search arith
-
 answer_fits : (ps : Lives) (n : ℕ) (rs : List Pending) (r : Pending) → manage.pending_numbered n rs ≡ Some r → AnswersFit ps rs → PendingFits ps r
 answer_fits ps n [] r e h = cc
-answer_fits ps n (x ∷ xs) r e h = answer_if ps (x.n == n) x r (manage.pending_numbered n xs) e h.0 (λ g. answer_fits ps n xs r g h.1)
+answer_fits ps n (x ∷ xs) r e h =
+    let answer_if : (ps : Lives) (b : Bool) (x r : Pending) (o : Option Pending) → (if b then Some x else o) ≡ Some r → PendingFits ps x → (o ≡ Some r → PendingFits ps r) → PendingFits ps r = λ ps b x r o h1 h2 h3. search arith in
+    answer_if ps (x.n == n) x r (manage.pending_numbered n xs) e h.0 (λ g. answer_fits ps n xs r g h.1)
 
 without_fits : (ps : Lives) (n : ℕ) (rs : List Pending) → AnswersFit ps rs → AnswersFit ps (manage.without_pending n rs)
 without_fits ps n [] h = tt
@@ -178,7 +160,7 @@ asks_fits s kind to w o order answer f h =
     record {
       answers = Each-last (PendingFits s.processes) s.manager.pending r h.answers answer;
       children = h.children;
-      sends = f (record { from = refl; pending = (ap (is_for r.kind) (own_last 0 s.manager.pending r order) ∙ kind_same r.kind) });
+      sends = f (record { from = refl; pending = (ap (is_for r.kind) (own_last 0 s.manager.pending r order) ∙ (let e_ : kind_eq r.kind r.kind ≡ true = search arith in e_)) });
       stays = λ other n t e. pending_last other n s.manager.pending r e;
     }
 
@@ -195,8 +177,7 @@ asks_for_fits s machine image l ls within f fs order h =
       fs,
     )) h
 
--- a child is to move
-first_fits : (ps : Lives) (n : ℕ) (links : List PlainLink) → Each (LinkFits ps) links → PendingFits ps (record { n = n; kind = PendingKind.Move; answer = (slice_get links 0) })
+first_fits : (ps : Lives) (n : ℕ) (links : List PlainLink) → Each (LinkFits ps) links → PendingFits ps (record { n = n; kind = PendingKind.Move; answer = slice_get links 0 })
 first_fits ps n [] h1 = search arith
 first_fits ps n (l ∷ ls) h1 = search arith
 
@@ -217,11 +198,8 @@ over_fits : (s : OneKernel) (T : ℕ → Type 0) (g : Manager) (o : Option Plain
 over_fits s T g o code links h1 h2 h3 h4 h5 = search (arith, link_users, s.processes)
 
 -- an answer about a child is the only message under its number that is about one
-same_name : (i j : MsgId) → i.from ≡ j.from → i.n ≡ j.n → i.answer ≡ j.answer → i ≡ j
+pub same_name : (i j : MsgId) → i.from ≡ j.from → i.n ≡ j.n → i.answer ≡ j.answer → i ≡ j
 same_name i j e f g = λ k. record { from = e k; n = f k; answer = g k }
-
-other_number : (r e : MsgId → ℕ) (s : OneKernel) (id i : MsgId) (m k : PlainMessage) → s.bag id ≡ Some m → id.answer ≡ true → (without_message s id).bag i ≡ Some k → i.from ≡ id.from → Sound r e s → OtherThan id.n i.n
-other_number r e s id i m k there answer stands from h = search (arith, i.n, id.n, i.answer, same_name, out_at, id_eq-same, h.entered.fewer, s.bag, h.entered.answers, stayed)
 
 -- a request that a process follows has no answer yet
 noted_apart : (r e : MsgId → ℕ) (s : OneKernel) (id : MsgId) (m : PlainMessage) (p : Pid) (n : MoveNote) → s.bag id ≡ Some m → id.answer ≡ true → s.notes p ≡ Some n → n.id.from ≡ id.from → Sound r e s → OtherThan id.n n.id.n
@@ -229,12 +207,9 @@ noted_apart r e s id m p n there answer is from h = elim (cases_Bool (n.id.n == 
   | inr apart ↦ apart
   | inl same ↦
       let number : n.id.n ≡ id.n = grind (arith, nat_tests) in
-      let f = h.notes.followed n.id p (h.notes.noted p n is) in
       let mine : answer_id n.id ≡ id = same_name (answer_id n.id) id from number (sym answer) in
-      let few = h.entered.fewer id in
       let one : in_bag (s.bag id) ≡ 1 = ap in_bag there in
-      let none : e id ≡ 0 = sym (ap e mine) ∙ f.unanswered in
-      absurd (omega (arith, few, one, none))
+      absurd (omega (arith, h.entered.fewer id, one, sym (ap e mine) ∙ (h.notes.followed n.id p (h.notes.noted p n is)).unanswered))
 ]
 
 manager_on : (s : OneKernel) (id : MsgId) (T : ℕ → Type 0) (k : manage.ManagerTook) → ManagerFits s T k → ((i : MsgId) (x : PlainMessage) → (without_message s id).bag i ≡ Some x → i.from ≡ manager → T i.n)
@@ -255,6 +230,8 @@ answer_on : (r e : MsgId → ℕ) (s : OneKernel) (id : MsgId) (m : PlainMessage
     → manage.pending_numbered m.id.n s.manager.pending ≡ Some v → ChildrenMade s.processes children → Each (LinkFits s.processes) links → Sound r e s → KernelFits s
     → KernelFits (service.manager_took s id (manage.answers_over (record s.manager { children = children; pending = manage.without_pending m.id.n s.manager.pending }) v.answer code links))
 answer_on r e s id m kind children v code links name there answer pending was made fit h fits =
+    let other_number : (r e : MsgId → ℕ) (s : OneKernel) (id i : MsgId) (m k : PlainMessage) → s.bag id ≡ Some m → id.answer ≡ true → (without_message s id).bag i ≡ Some k → i.from ≡ id.from → Sound r e s → OtherThan id.n i.n =
+      λ r e s id i m k there answer stands from h. search (arith, i.n, id.n, i.answer, same_name, out_at, id_eq-same, h.entered.fewer, s.bag, h.entered.answers, stayed) in
     let g = record s.manager { children = children; pending = manage.without_pending m.id.n s.manager.pending } in
     manager_on s id (OtherThan m.id.n) (manage.answers_over g v.answer code links)
     (over_fits s (OtherThan m.id.n) g v.answer code links (answer_fits s.processes m.id.n s.manager.pending v was fits.answers).answer fit (without_fits s.processes m.id.n s.manager.pending fits.answers) made (λ other i apart. pending_without other i m.id.n s.manager.pending apart))
@@ -264,6 +241,7 @@ answer_on r e s id m kind children v code links name there answer pending was ma
 pub manager_row : (r e : MsgId → ℕ) (s : OneKernel) (id : MsgId) (m : PlainMessage) (w : PlainWhat) (k : manage.ManagerTook) → m.id ≡ id → s.bag id ≡ Some m → WhatFits s id m w → manage.manager_takes s.manager s.machines (length s.images) m w ≡ Some k → Sound r e s → InOrder s.manager
     → KernelFits s → KernelFits (service.manager_took s id k)
 manager_row r e s id m w k name there f is h order fits =
+    -- a child is to move
     let g = s.manager in
     let ps = s.processes in
     let any : (x : manage.ManagerTook) → ManagerFits s Any x → KernelFits (service.manager_took s id x) = λ x b. manager_on s id Any x b (λ i y stands from. tt) (λ p n noted from. tt) fits in

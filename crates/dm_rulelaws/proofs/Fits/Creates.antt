@@ -2,12 +2,12 @@
 use Rattle.dm_rulelaws.proofs.Names.{◌≡◌, ℕ, zero, suc, ◌+◌, ◌-◌, true, List, [], ◌∷◌, ◌++◌, length, map, replicate, refl, ap, ◌∙◌, sym, subst, nat_le, arith, Option, None, Some, false≢true, nat_tests, Pid, pid_of, PlainLink, MsgId}
 use Rattle.dm_rulelaws.proofs.Names.{PlainMessage, PlainWhat, BootImage, first_number, slots_of, Format, Life, Alive, OneKernel, with_process, with_sent, answer_id, answer_to, without_message, begun, Sound, Each, Lives, has_bytes, LinkFits}
 use Rattle.dm_rulelaws.proofs.Names.{SlotFits, ProcessFits, awaits, IsPending, WhatFits, KernelFits, PendingKind, Bool, Label, bind, PlainProcess, PlainStatus, pending_of, bind-is, status_awaits, ◌≤◌, false, ⊤, if◌then◌else◌, common_steps}
-use Rattle.dm_rulelaws.proofs.Names.{first_empty, Row, instruction, written_at, at_hand-is, Runs, move_fits, running_is, KeepsLengths, Regs, instruction-lengths}
+use Rattle.dm_rulelaws.proofs.Names.{first_empty, Row, instruction, written_at, at_hand-is, Runs, move_fits, running_is, instruction-lengths}
 use Rattle.dm_onekernel.specs.Service as service
 use Rattle.dm_onekernel.specs.Step as kernel
 use Rattle.dm_onekernel.specs.Receiving as receiving
 use Rattle.dm_onekernel.specs.Calls as calls
-use Rattle.dm_rulelaws.proofs.Fits.Rises.{Becomes, carries, set_fits, set_at, out_fits, put_fits, pending_on, Rises, Each-on, link_on, users_on, move_on, set_rises, Goes, SentFits, Requests, CallFits, call_fits, slots_set}
+use Rattle.dm_rulelaws.proofs.Fits.Rises.{Becomes, carries, set_fits, out_fits, put_fits, pending_on, Rises, Each-on, link_on, users_on, move_on, set_rises, Goes, SentFits, Requests, CallFits, call_fits, slots_set, set_at}
 
 -- a request is answered under its number
 pub pending_at : (s u : OneKernel) (kind : PendingKind) (id : MsgId) (m : PlainMessage) → m.id ≡ id → u.manager ≡ s.manager → IsPending s kind id → IsPending u kind (answer_id m.id)
@@ -39,7 +39,6 @@ created_fits r e s id m child image links number f there name h fits =
     let (num, home, numbered, sender, request, pending, each) = f in
     let y = begun s.format image links in
     let v = without_message s id in
-    let w = with_process v child (Alive y) in
     let u = service.with_created v child image links in
     let b : Becomes v child (Alive y) = record {
       bytes = λ n g. absurd (false≢true (sym (ap (has_bytes n) none) ∙ g));
@@ -47,7 +46,7 @@ created_fits r e s id m child image links number f there name h fits =
       fits = λ z g. let same : y ≡ z = cc in subst (ProcessFits v.processes) same (begun_fits v.processes s.format image links each);
     } in
     let on = set_fits v child (Alive y) b (out_fits s id fits) in
-    let up = carries w u (search (arith, on.processes, pending_on, on.names, on.answers, on.children)) on in
+    let up = carries (with_process v child (Alive y)) u (search (arith, on.processes, pending_on, on.names, on.answers, on.children)) on in
     put_fits u (answer_to m (PlainWhat.Created child)) (sender, refl, pending_at s u PendingKind.Create id m (h.entered.named id m there) refl pending, ap (has_bytes 0) (set_at v child (Alive y)) ∙ (let z : nat_le 0 (length y.memory) ≡ true = grind (arith, nat_tests) in z)) up
 
 -- Each label of a process keeps that all fits.
@@ -57,14 +56,11 @@ created_fits r e s id m child image links number f there name h fits =
 pub written_longer : (memory : List ℕ) (base : ℕ) (bytes : List ℕ) → length memory ≤ length (written_at memory base bytes)
 written_longer memory base bytes = grind (arith, common_steps)
 
-plain_length : (w : Row) (regs : Regs) (bytes : List ℕ) (m : kernel.Machine) → KeepsLengths w regs bytes → kernel.plain_row w ≡ Some m → length m.bytes ≡ length bytes
-plain_length w regs bytes m h1 h2 = search arith
-
 pub steps_length : (k : ℕ) (m n : kernel.Machine) → kernel.plain_steps k m ≡ Some n → length n.bytes ≡ length m.bytes
 steps_length zero m n e = let f : m ≡ n = cc in sym (ap (λ (v : kernel.Machine). length v.bytes) f)
 steps_length (suc k) m n e =
     let (mid, before, last) = bind-is (kernel.plain_steps k m) (λ (w : kernel.Machine). kernel.plain_row (instruction w.regs w.bytes)) n e in
-    plain_length (instruction mid.regs mid.bytes) mid.regs mid.bytes n (instruction-lengths mid.regs mid.bytes) last ∙ steps_length k m mid before
+    (let e_ : length n.bytes ≡ length mid.bytes = search (arith, instruction-lengths mid.regs mid.bytes) in e_) ∙ steps_length k m mid before
 
 -- a process that goes on, and whose memory doesn't shrink
 pub record GoesOn (ps : Lives) (x y : PlainProcess) : Type 0 where
@@ -84,15 +80,13 @@ pub record NextIs (s : OneKernel) (p : Pid) (n : kernel.Trap) : Type 0 where
   pub memory : z.memory ≡ x.memory
   pub fits : NextFits s.processes z n
 
-alive_has : (s : OneKernel) (p : Pid) (x : PlainProcess) (n : ℕ) → s.processes p ≡ Some (Alive x) → nat_le n (length x.memory) ≡ true → has_bytes n (s.processes p) ≡ true
-alive_has s p x n is e = ap (has_bytes n) is ∙ e
-
 next_row_is : (s : OneKernel) (p : Pid) (x : PlainProcess) (w : Row) (n : kernel.Trap) → Runs s p x → KernelFits s → kernel.next_row p x w ≡ Some n → NextIs s p n
 next_row_is s p x (Row.Plain regs bytes) n is h e = cc
 next_row_is s p x (Row.Calls number regs) n is h e =
     let z = record x { regs = regs } in
     let f : kernel.Calls number (calls.call p z number) ≡ n = cc in
     let fits = h.processes p x is.alive in
+    let alive_has : (s : OneKernel) (p : Pid) (x : PlainProcess) (n : ℕ) → s.processes p ≡ Some (Alive x) → nat_le n (length x.memory) ≡ true → has_bytes n (s.processes p) ≡ true = λ s p x n is e. ap (has_bytes n) is ∙ e in
     record {
       x = x;
       is = is;
@@ -109,13 +103,12 @@ next_is s p n h e =
     let (x, running, row_is) = bind-is (kernel.running s p) (λ (v : PlainProcess). kernel.next_row p v (instruction v.regs v.memory)) n e in
     next_row_is s p x (instruction x.regs x.memory) n (running_is s p x running) h row_is
 
--- links are placed
-placed_step : (ps : Lives) (t : receiving.RegsAndLinks) (r : ℕ) (l : PlainLink) (o : Option ℕ) → LinkFits ps l → Each (SlotFits ps) t.links → Each (SlotFits ps) (receiving.place_into t r l o).links
-placed_step ps t r l o h1 h2 = search (arith, slots_set, t.links)
-
 placed_fit : (ps : Lives) (ls : List PlainLink) (t : receiving.RegsAndLinks) (r : ℕ) → Each (LinkFits ps) ls → Each (SlotFits ps) t.links → Each (SlotFits ps) (receiving.place_links t r ls).links
 placed_fit ps [] t r f h = h
-placed_fit ps (l ∷ ls) t r f h = placed_fit ps ls (receiving.place_into t r l (first_empty t.links)) (r + 1) f.1 (placed_step ps t r l (first_empty t.links) f.0 h)
+placed_fit ps (l ∷ ls) t r f h =
+    -- links are placed
+    let placed_step : Each (SlotFits ps) (receiving.place_into t r l (first_empty t.links)).links = search (arith, slots_set, t.links, f.0) in
+    placed_fit ps ls (receiving.place_into t r l (first_empty t.links)) (r + 1) f.1 placed_step
 
 abbrev pub CompletedFits : Lives → PlainProcess → receiving.Completed → Type 0
 CompletedFits ps x (receiving.Receives y) = GoesOn ps x y
@@ -175,9 +168,8 @@ ran_fits s t p k is h =
     let (m, plain, last) = bind-is (kernel.plain_steps k (kernel.machine_of x)) (λ (m : kernel.Machine). Some (kernel.goes_on s p (kernel.with_machine x m))) t rest in
     let eq : kernel.goes_on s p (kernel.with_machine x m) ≡ t = cc in
     let w = running_is s p x running in
-    let fits = h.processes p x w.alive in
     let size : length m.bytes ≡ length x.memory = steps_length k (kernel.machine_of x) m plain in
-    subst KernelFits eq (goes_fits s p x (kernel.with_machine x m) w.alive w.still (search (arith, fits.slots, move_on, s.processes, x.status, fits.move)) h)
+    subst KernelFits eq (goes_fits s p x (kernel.with_machine x m) w.alive w.still (search (arith, (h.processes p x w.alive).slots, move_on, s.processes, x.status, (h.processes p x w.alive).move)) h)
 
 -- what is sent fits where its sender goes on
 pub sent_fits : (s u : OneKernel) (p : Pid) (y : PlainProcess) (m : PlainMessage) (w : PlainWhat) → Rises s.processes u.processes → u.processes p ≡ Some (Alive y) → m.id.from ≡ p → SentFits s.processes y m w → WhatFits u m.id m w
@@ -185,6 +177,5 @@ sent_fits s u p y m w h1 h2 h3 h4 = search (arith, users_on, s.processes, u.proc
 
 pub send_goes : (s : OneKernel) (p : Pid) (n : kernel.Trap) (m : PlainMessage) (y : PlainProcess) → NextIs s p n → ((z : PlainProcess) → NextFits s.processes z n → Requests s.processes z m y) → m.id.from ≡ p → KernelFits s → KernelFits (with_sent (kernel.goes_on s p y) (Some m))
 send_goes s p n m y w sends from h =
-    let f = sends w.z w.fits in
-    let b = becomes s p w.x y w.is.alive (goes_of s.processes w.x w.z y w.memory f.goes) (λ i k there from e. unawaited w.x.status i.n k.what (status_awaits y.status i.n k.what) w.is.still e) in
-    put_fits (kernel.goes_on s p y) m (sent_fits s (kernel.goes_on s p y) p y m m.what (set_rises s p (Alive y) b.bytes) (set_at s p (Alive y)) from f.what) (set_fits s p (Alive y) b h)
+    let b = becomes s p w.x y w.is.alive (goes_of s.processes w.x w.z y w.memory (sends w.z w.fits).goes) (λ i k there from e. unawaited w.x.status i.n k.what (status_awaits y.status i.n k.what) w.is.still e) in
+    put_fits (kernel.goes_on s p y) m (sent_fits s (kernel.goes_on s p y) p y m m.what (set_rises s p (Alive y) b.bytes) (set_at s p (Alive y)) from (sends w.z w.fits).what) (set_fits s p (Alive y) b h)

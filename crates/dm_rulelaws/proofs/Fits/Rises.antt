@@ -1,14 +1,15 @@
 -- What fits goes on fitting as long as processes are only made, end, and keep their memory.
 use Rattle.dm_rulelaws.proofs.Names.{◌≡◌, ℕ, ◌+◌, ◌≤◌, ◌&&◌, ◌||◌, Bool, true, false, List, [], ◌∷◌, length, refl, ap, ◌∙◌, sym, subst, inl, inr, arith, if◌then◌else◌, Option, None, Some, cases_Bool, Pid, pid_eq, PlainLink, MsgId}
-use Rattle.dm_rulelaws.proofs.Names.{PlainMessage, PlainWhat, PlainProcess, PlainStatus, Life, Alive, Ended, NamedLink, Pending, OneKernel, with_process, with_sent, without_message, pid_eq-is, pid_eq-same, stayed, came, Each, Lives}
-use Rattle.dm_rulelaws.proofs.Names.{has_bytes, is_server, takes_users, gives_no_right, LinkFits, SlotFits, move_fits, ProcessFits, awaits, IsPending, WhatFits, KernelFits, is_for, NoteFits, PendingFits, Manager, MoveNote, PendingKind}
-use Rattle.dm_rulelaws.proofs.Names.{zero, suc, take, drop, filter_map, nat_le, min, ⊤, slice_set, nat_tests, length-take, link_at, Direction, Reply, reg, Called, Replies, Sends, Waits, Outputs, Ends, status_awaits, eq_self, or_first}
+use Rattle.dm_rulelaws.proofs.Names.{PlainMessage, PlainWhat, PlainProcess, PlainStatus, Life, Alive, Ended, NamedLink, Pending, OneKernel, with_process, with_sent, without_message, pid_eq-is, stayed, came, Each, Lives, has_bytes}
+use Rattle.dm_rulelaws.proofs.Names.{is_server, takes_users, gives_no_right, LinkFits, SlotFits, move_fits, ProcessFits, awaits, IsPending, WhatFits, KernelFits, is_for, NoteFits, PendingFits, Manager, MoveNote, PendingKind, zero, suc}
+use Rattle.dm_rulelaws.proofs.Names.{take, drop, filter_map, nat_le, min, ⊤, slice_set, nat_tests, length-take, link_at, Direction, reg, Called, Replies, Sends, Waits, Outputs, Ends, status_awaits, eq_self, or_first}
 pub use Rattle.dm_rule.proofs.Homes.Servers.{and-both as both}
 pub use Rattle.dm_line.proofs.Below.{both_true as two}
 use Rattle.dm_onekernel.specs.Manager as manage
 use Rattle.dm_onekernel.specs.Pieces as pieces
 use Rattle.dm_onekernel.specs.Calls as calls
 use Rattle.dm_rulelaws.proofs.Calling.{by_call}
+pub use Rattle.dm_laws.proofs.Sound.{process_at as set_at}
 
 abbrev pub Rises : Lives → Lives → Type 0
 Rises ps qs = (p : Pid) (n : ℕ) → has_bytes n (ps p) ≡ true → has_bytes n (qs p) ≡ true
@@ -24,20 +25,11 @@ pub link_on : (ps qs : Lives) → Rises ps qs → (l : PlainLink) → LinkFits p
 link_on ps qs up l h =
     or_on (is_server l.to && gives_no_right l.area) (has_bytes (l.area.base + l.area.len) (ps l.to)) (has_bytes (l.area.base + l.area.len) (qs l.to)) (up l.to (l.area.base + l.area.len)) h
 
-pub slot_on : (ps qs : Lives) → Rises ps qs → (o : Option PlainLink) → SlotFits ps o → SlotFits qs o
-slot_on ps qs h1 o h2 = search (arith, link_on)
-
 pub users_on : (ps qs : Lives) → Rises ps qs → (p : Pid) → takes_users ps p ≡ true → takes_users qs p ≡ true
 users_on ps qs up p h = or_on (is_server p) (has_bytes 0 (ps p)) (has_bytes 0 (qs p)) (up p 0) h
 
 pub move_on : (ps qs : Lives) → Rises ps qs → (x y : PlainProcess) → length x.memory ≤ length y.memory → (st : PlainStatus) → move_fits ps x st ≡ true → move_fits qs y st ≡ true
 move_on ps qs h1 x y h2 st h3 = search (arith, both, x.memory, two, y.memory)
-
-pub process_on : (ps qs : Lives) → Rises ps qs → (x : PlainProcess) → ProcessFits ps x → ProcessFits qs x
-process_on ps qs up x h = record { slots = Each-on (SlotFits ps) (SlotFits qs) (slot_on ps qs up) x.links h.slots; move = move_on ps qs up x x (omega arith) x.status h.move }
-
-pub pending_fits : (ps qs : Lives) → Rises ps qs → (r : Pending) → PendingFits ps r → PendingFits qs r
-pending_fits ps qs up r h = record { answer = slot_on ps qs up r.answer h.answer; making = h.making }
 
 -- kinds that are about children: requests to make them or to move them, and the answers
 abbrev pub of_child : PlainWhat → Bool
@@ -92,7 +84,11 @@ pub record Carries (s t : OneKernel) : Type 0 where
 
 pub carries : (s t : OneKernel) → Carries s t → KernelFits s → KernelFits t
 carries s t c h =
+    let slot_on : (ps qs : Lives) → Rises ps qs → (o : Option PlainLink) → SlotFits ps o → SlotFits qs o = λ ps qs h1 o h2. search (arith, link_on) in
+    let process_on : (ps qs : Lives) → Rises ps qs → (x : PlainProcess) → ProcessFits ps x → ProcessFits qs x =
+      λ ps qs up x h. record { slots = Each-on (SlotFits ps) (SlotFits qs) (slot_on ps qs up) x.links h.slots; move = move_on ps qs up x x (omega arith) x.status h.move } in
     let notes : (p : Pid) (n : MoveNote) → t.notes p ≡ Some n → NoteFits t n = λ p n is. let f = h.notes p n (c.notes p n is) in record { asker = f.asker; unanswered = f.unanswered; pending = c.noted p n is f.pending } in
+    let pending_fits : (ps qs : Lives) → Rises ps qs → (r : Pending) → PendingFits ps r → PendingFits qs r = λ ps qs up r h. record { answer = slot_on ps qs up r.answer h.answer; making = h.making } in
     search (arith, process_on, c.rises, c.alive, what_on, c.waits, c.pending, c.machines, c.images, h.messages, c.bag, Each-on, link_on, pending_fits, notes)
 
 -- a message goes
@@ -124,9 +120,6 @@ set_if T s p q life f h = search (arith, s.processes, pid_eq-is)
 
 pub set_rises : (s : OneKernel) (p : Pid) (life : Life) → ((n : ℕ) → has_bytes n (s.processes p) ≡ true → has_bytes n (Some life) ≡ true) → Rises s.processes (with_process s p life).processes
 set_rises s p life f q n h = set_if (λ (o : Option Life). has_bytes n o ≡ true) s p q life (λ same. f n) h
-
-pub set_at : (s : OneKernel) (p : Pid) (life : Life) → (with_process s p life).processes p ≡ Some life
-set_at s p life = ap (λ (c : Bool). if c then Some life else s.processes p) (pid_eq-same p)
 
 pub set_fits : (s : OneKernel) (p : Pid) (life : Life) → Becomes s p life → KernelFits s → KernelFits (with_process s p life)
 set_fits s p life b h = carries s (with_process s p life) (record {
@@ -167,13 +160,11 @@ slots_at ps (x ∷ xs) (suc k) h = slots_at ps xs k h.1
 pub slot_link : (ps : Lives) (slots : List (Option PlainLink)) (k : ℕ) (l : PlainLink) → link_at slots k ≡ Some l → Each (SlotFits ps) slots → LinkFits ps l
 slot_link ps slots k l e h = search (arith, link_at slots k, slots_at ps slots k h)
 
-emptied : (ps : Lives) (b : Bool) (slots : List (Option PlainLink)) (k : ℕ) → Each (SlotFits ps) slots → Each (SlotFits ps) (if b then slice_set slots k None else slots)
-emptied ps b slots k h1 = search (arith, slots_set)
-
 without_replies_fit : (ps : Lives) (ss : List ℕ) (slots : List (Option PlainLink)) → Each (SlotFits ps) slots → Each (SlotFits ps) (calls.without_replies slots ss)
 without_replies_fit ps [] slots h = h
 without_replies_fit ps (s ∷ ss) slots h =
-    without_replies_fit ps ss (if calls.holds_reply (link_at slots s) then slice_set slots s None else slots) (emptied ps (calls.holds_reply (link_at slots s)) slots s h)
+    let emptied : Each (SlotFits ps) (if (calls.holds_reply (link_at slots s)) then slice_set slots s None else slots) = search (arith, slots_set) in
+    without_replies_fit ps ss (if calls.holds_reply (link_at slots s) then slice_set slots s None else slots) emptied
 
 links_of_fit : (ps : Lives) (slots : List (Option PlainLink)) (ss : List ℕ) → Each (SlotFits ps) slots → Each (LinkFits ps) (calls.links_in_slots slots ss)
 links_of_fit ps slots [] h = tt
@@ -206,10 +197,6 @@ CallFits ps x (Ends y) = ⊤
 pub still_move : (ps : Lives) (x y : PlainProcess) → y.memory ≡ x.memory → y.status ≡ x.status → move_fits ps x x.status ≡ true → move_fits ps y y.status ≡ true
 still_move ps x y memory status h = search (arith, y.memory, x.memory, move_on, x.status)
 
--- only the registers change
-regs_go : (ps : Lives) (x y : PlainProcess) → y.memory ≡ x.memory → y.links ≡ x.links → y.status ≡ x.status → ProcessFits ps x → Goes ps x y
-regs_go ps x y memory links status h = search (arith, h.slots, still_move, h.move)
-
 -- the bytes that a process has
 abbrev pub Has : Lives → Pid → PlainProcess → Type 0
 Has ps p x = (n : ℕ) → nat_le n (length x.memory) ≡ true → has_bytes n (ps p) ≡ true
@@ -228,28 +215,23 @@ pub requests_fit : (ps : Lives) (p : Pid) (x z : PlainProcess) (dir : Direction)
     → Requests ps x (pieces.requests p z dir owner base own left).message (pieces.requests p z dir owner base own left).process
 requests_fit ps p x z Direction.FromArea owner base own left memory links has within slots = search (arith, two, z.memory, piece_less, has_less, z.sent, eq_self)
 requests_fit ps p x z Direction.IntoArea owner base own left memory links has within slots =
-    let bytes = take (pieces.piece_of left) (drop own z.memory) in
     let le = piece_less left in
-    let size : length bytes ≡ min (pieces.piece_of left) (length (drop own z.memory)) = length-take (pieces.piece_of left) (drop own z.memory) in
+    let size : length (take (pieces.piece_of left) (drop own z.memory)) ≡ min (pieces.piece_of left) (length (drop own z.memory)) = length-take (pieces.piece_of left) (drop own z.memory) in
     grind (arith, nat_tests, z.memory, two, has_less, z.sent, eq_self)
-
--- a link with a right leads to a process whose memory has its area
-right_is : (ps : Lives) (l : PlainLink) (dir : Direction) → calls.lacks_right dir l.area ≡ false → LinkFits ps l → has_bytes (l.area.base + l.area.len) (ps l.to) ≡ true
-right_is ps l dir h1 h2 = search (arith, l.to, l.area.read, l.area.write, l.area.base, l.area.len)
 
 -- a slot is set
 set_go : (ps : Lives) (x y : PlainProcess) (k : ℕ) (o : Option PlainLink) → SlotFits ps o → ProcessFits ps x → y.memory ≡ x.memory → y.status ≡ x.status → y.links ≡ slice_set x.links k o → Goes ps x y
 set_go ps x y k o f h memory status links = record { memory = memory; slots = subst (Each (SlotFits ps)) (sym links) (slots_set ps x.links k o f h.slots); move = still_move ps x y memory status h.move }
 
+-- only the registers change
+-- a link with a right leads to a process whose memory has its area
 pub call_fits : (ps : Lives) (p : Pid) (x : PlainProcess) (n : ℕ) → Has ps p x → ProcessFits ps x → CallFits ps x (calls.call p x n)
 call_fits ps p x n has h = by_call (CallFits ps x) p x n (record {
-  refuses = λ c. regs_go ps x (calls.replied c x) refl refl refl h;
-  outputs = regs_go ps x (calls.replied Reply.Done x) refl refl refl h;
+  refuses = λ c. search (arith, h.slots, still_move, h.move);
+  outputs = search (arith, h.slots, still_move, h.move);
   makes = λ slot e.
       (let within : nat_le (reg x.regs 4 + reg x.regs 5) (length x.memory) ≡ true = grind (arith, nat_tests) in
-      let a = (calls.own_link p x).area in
-      let fits = or_first (is_server p && gives_no_right a) (has_bytes (reg x.regs 4 + reg x.regs 5) (ps p)) (has (reg x.regs 4 + reg x.regs 5) within) in
-      set_go ps x _ slot (Some (calls.own_link p x)) fits h refl refl refl);
+      set_go ps x _ slot (Some (calls.own_link p x)) (or_first (is_server p && gives_no_right (calls.own_link p x).area) (has_bytes (reg x.regs 4 + reg x.regs 5) (ps p)) (has (reg x.regs 4 + reg x.regs 5) within)) h refl refl refl);
   copies = λ l slot is. set_go ps x _ slot (Some l) (slot_link ps x.links (reg x.regs 1) l is h.slots) h refl refl refl;
   drops = λ l. set_go ps x _ (reg x.regs 1) None tt h refl refl refl;
   sends = λ l is few. record {
@@ -258,7 +240,7 @@ call_fits ps p x n has h = by_call (CallFits ps x) p x n (record {
   };
   waits = record { memory = refl; slots = h.slots; move = refl };
   moves = λ l dir is right lies off.
-      (let area = right_is ps l dir right (slot_link ps x.links (reg x.regs 1) l is h.slots) in
+      (let area : has_bytes (l.area.base + l.area.len) (ps l.to) ≡ true = search (arith, l.to, l.area.read, l.area.write, l.area.base, l.area.len, slot_link ps x.links (reg x.regs 1) l is h.slots) in
       let less : reg x.regs 3 + reg x.regs 5 ≤ l.area.len = grind (arith, nat_tests) in
       let there = has_less (l.area.base + reg x.regs 3 + reg x.regs 5) (l.area.base + l.area.len) (ps l.to) (omega (arith, less)) area in
       let within : nat_le (reg x.regs 4 + reg x.regs 5) (length x.memory) ≡ true = grind (arith, nat_tests) in

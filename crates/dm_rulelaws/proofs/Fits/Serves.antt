@@ -7,56 +7,33 @@ use Rattle.dm_onekernel.specs.Step as kernel
 use Rattle.dm_onekernel.specs.Pieces as pieces
 use Rattle.dm_onekernel.specs.Service as service
 use Rattle.dm_rulelaws.proofs.Fits.Creates.{pending_at, GoesOn, written_longer, becomes, sent_fits}
-use Rattle.dm_rulelaws.proofs.Fits.Rises.{both, two, move_on, Becomes, set_if, set_fits, set_at, set_rises, out_fits, put_fits, what_on, carries, pending_on, note_on, piece_less, SentFits, requests_fit}
-
--- a process that goes on waiting for the same
-pub same_becomes : (s : OneKernel) (p : Pid) (x y : PlainProcess) → s.processes p ≡ Some (Alive x) → y.status ≡ x.status → GoesOn s.processes x y → Becomes s p (Alive y)
-same_becomes s p x y is status goes = becomes s p x y is goes (λ i m there from e. ap (λ (st : PlainStatus). status_awaits st i.n m.what) status ∙ e)
+use Rattle.dm_rulelaws.proofs.Fits.Rises.{both, two, move_on, Becomes, set_if, set_fits, set_rises, out_fits, put_fits, what_on, carries, pending_on, note_on, piece_less, SentFits, requests_fit, set_at}
 
 -- the receiver of a message goes on
 pub changed_fits : (s : OneKernel) (id : MsgId) (m : PlainMessage) (x y : PlainProcess) → s.processes m.to ≡ Some (Alive x) → y.status ≡ x.status → GoesOn s.processes x y → KernelFits s → KernelFits (service.changed s id m y)
 changed_fits s id m x y is status g h =
+    -- a process that goes on waiting for the same
+    let same_becomes : (s : OneKernel) (p : Pid) (x y : PlainProcess) → s.processes p ≡ Some (Alive x) → y.status ≡ x.status → GoesOn s.processes x y → Becomes s p (Alive y) =
+      λ s p x y is status goes. becomes s p x y is goes (λ i m there from e. ap (λ (st : PlainStatus). status_awaits st i.n m.what) status ∙ e) in
     set_fits (without_message s id) m.to (Alive y) (same_becomes (without_message s id) m.to x y is status (record { memory = g.memory; slots = g.slots; move = g.move })) (out_fits s id h)
 
 pub goes_same : (s : OneKernel) (p : Pid) (x y : PlainProcess) → length x.memory ≤ length y.memory → y.links ≡ x.links → y.status ≡ x.status → s.processes p ≡ Some (Alive x) → KernelFits s → GoesOn s.processes x y
 goes_same s p x y le links status is h =
-    let f = h.processes p x is in
     record {
       memory = le;
-      slots = subst (Each (SlotFits s.processes)) (sym links) f.slots;
-      move = subst (λ (st : PlainStatus). move_fits s.processes y st ≡ true) (sym status) (move_on s.processes s.processes (λ q n e. e) x y le x.status f.move);
+      slots = subst (Each (SlotFits s.processes)) (sym links) (h.processes p x is).slots;
+      move = subst (λ (st : PlainStatus). move_fits s.processes y st ≡ true) (sym status) (move_on s.processes s.processes (λ q n e. e) x y le x.status (h.processes p x is).move);
     }
-
-turns : (o : Option Life) (n : ℕ) (v w : PlainWhat) → ((dir : Direction) (left : ℕ) → piece_fits dir left v ≡ true → piece_fits dir left w ≡ true) → awaits o n v ≡ true → awaits o n w ≡ true
-turns o n v w h1 h2 = search (arith, both, two)
-
-read_block : (base len : ℕ) (bytes : List ℕ) → length bytes ≡ len → (dir : Direction) (left : ℕ) → piece_fits dir left (PlainWhat.Read base len) ≡ true → piece_fits dir left (PlainWhat.Block bytes) ≡ true
-read_block base len bytes h1 dir left h2 = search arith
-
-read_gone : (base len : ℕ) (dir : Direction) (left : ℕ) → piece_fits dir left (PlainWhat.Read base len) ≡ true → piece_fits dir left PlainWhat.Gone ≡ true
-read_gone base len dir left h1 = search arith
-
-write_written : (base : ℕ) (bytes : List ℕ) (dir : Direction) (left : ℕ) → piece_fits dir left (PlainWhat.Write base bytes) ≡ true → piece_fits dir left PlainWhat.Written ≡ true
-write_written base bytes dir left h1 = search arith
-
-write_gone : (base : ℕ) (bytes : List ℕ) (dir : Direction) (left : ℕ) → piece_fits dir left (PlainWhat.Write base bytes) ≡ true → piece_fits dir left PlainWhat.Gone ≡ true
-write_gone base bytes dir left h1 = search arith
 
 -- an answer to a request of a data move fits wherever whoever awaited the request still awaits it
 answered_fits : (u : OneKernel) (id : MsgId) (m : PlainMessage) (v w : PlainWhat) → m.id ≡ id → m.sender ≡ id.from → ((dir : Direction) (left : ℕ) → piece_fits dir left v ≡ true → piece_fits dir left w ≡ true) → awaits (u.processes id.from) id.n v ≡ true
     → (m.sender ≡ m.id.from) × (awaits (u.processes m.id.from) m.id.n w ≡ true)
 answered_fits u id m v w name sender f h =
-    (sender ∙ sym (ap (λ (i : MsgId). i.from) name), ap (λ (i : MsgId). awaits (u.processes i.from) i.n w) name ∙ turns (u.processes id.from) id.n v w f h)
+    (sender ∙ sym (ap (λ (i : MsgId). i.from) name), ap (λ (i : MsgId). awaits (u.processes i.from) i.n w) name ∙ (let e_ : awaits (u.processes id.from) id.n w ≡ true = search (arith, both, two) in e_))
 
 waits_on : (s : OneKernel) (id : MsgId) (m : PlainMessage) (x y : PlainProcess) (n : ℕ) (w : PlainWhat) (q : Pid) → s.processes m.to ≡ Some (Alive x) → y.status ≡ x.status → awaits (s.processes q) n w ≡ true → awaits ((service.changed s id m y).processes q) n w ≡ true
 waits_on s id m x y n w q is status h =
     set_if (λ (o : Option Life). awaits o n w ≡ true) (without_message s id) m.to q (Alive y) (λ same e. ap (λ (st : PlainStatus). status_awaits st n w) status ∙ sym (ap (λ (o : Option Life). awaits o n w) is) ∙ e) h
-
-read_length : (memory : List ℕ) (base len : ℕ) → base + len ≤ length memory → length (take len (drop base memory)) ≡ len
-read_length memory base len le =
-    let a = length-take len (drop base memory) in
-    let b = length-drop base memory in
-    omega (arith, a, b, le)
 
 -- landings
 pub record Lands (ps : Lives) (p : Pid) (x : PlainProcess) (m : PlainMessage) (y : PlainProcess) : Type 0 where
@@ -105,10 +82,6 @@ lands_by : (ps : Lives) (p : Pid) (x : PlainProcess) (m : PlainMessage) (st : Pl
 lands_by ps p x m (Moving dir owner base own left pending) c is h e = search (arith, x.memory, h.move, both, m.what, lands_what_fits)
 lands_by ps p x m _ c is h e = cc
 
--- what a status awaits is under its pending number, and of a data move
-awaited_is : (st : PlainStatus) (n k : ℕ) (w : PlainWhat) → pending_of st ≡ Some k → status_awaits st n w ≡ true → n ≡ k
-awaited_is st n k w h1 h2 = search (arith, both)
-
 abbrev of_move : PlainWhat → Type 0
 of_move w = (b : Bool) → (is_of_memory w ≡ true → b ≡ true) → (is_piece w ≡ true → b ≡ true) → b ≡ true
 
@@ -116,20 +89,18 @@ awaited_of_move : (st : PlainStatus) (n : ℕ) (w : PlainWhat) → status_awaits
 awaited_of_move (Moving dir owner base own left pending) n w h b f g = search arith
 awaited_of_move _ n w h b f g = cc
 
-one_not : (a b : Option PlainMessage) (x y : PlainMessage) (c : Bool) → a ≡ Some x → b ≡ Some y → One a b → c ≡ true
-one_not a b x y c h1 h2 h3 = search arith
-
 pub name_is : (i : MsgId) (p : Pid) (n : ℕ) → i.from ≡ p → i.n ≡ n → i.answer ≡ false → i ≡ id_of p n
 name_is i p n e f g = λ j. record { from = e j; n = f j; answer = g j }
-
-answer_is : (i : MsgId) (p : Pid) (n : ℕ) → i.from ≡ p → i.n ≡ n → i.answer ≡ true → i ≡ answer_id (id_of p n)
-answer_is i p n e f g = λ j. record { from = e j; n = f j; answer = g j }
 
 pub alone : (r e : MsgId → ℕ) (s : OneKernel) (id : MsgId) (m : PlainMessage) (x : PlainProcess) → s.bag id ≡ Some m → s.processes m.to ≡ Some (Alive x) → is_piece m.what ≡ true → pending_of x.status ≡ Some m.id.n → Sound r e s
     → (i : MsgId) (k : PlainMessage) → (without_message s id).bag i ≡ Some k → i.from ≡ m.to → status_awaits x.status i.n k.what ≡ true → (b : Bool) → b ≡ true
 alone r e s id m x there is piece pending h i k stands from waits b =
+    -- what a status awaits is under its pending number, and of a data move
+    let awaited_is : (st : PlainStatus) (n k : ℕ) (w : PlainWhat) → pending_of st ≡ Some k → status_awaits st n w ≡ true → n ≡ k = λ st n k w h1 h2. search (arith, both) in
+    let one_not : (a b : Option PlainMessage) (x y : PlainMessage) (c : Bool) → a ≡ Some x → b ≡ Some y → One a b → c ≡ true = λ a b x y c h1 h2 h3. search arith in
     let n = m.id.n in
     let name : m.id ≡ id = h.entered.named id m there in
+    let answer_is : (i : MsgId) (p : Pid) (n : ℕ) → i.from ≡ p → i.n ≡ n → i.answer ≡ true → i ≡ answer_id (id_of p n) = λ i p n e f g. λ j. record { from = e j; n = f j; answer = g j } in
     search (arith, h.movers.returns, m.to, answer_is, s.bag, h.movers.mover, stayed, i.n, awaited_is, x.status, k.what, awaited_of_move, name_is, h.movers.requests, one_not)
 
 pub landed_fits : (r e : MsgId → ℕ) (s : OneKernel) (id : MsgId) (m : PlainMessage) (x : PlainProcess) (c : pieces.Landed) → s.bag id ≡ Some m → s.processes m.to ≡ Some (Alive x) → pieces.lands m.to x m x.status ≡ Some c → Sound r e s → KernelFits s
@@ -151,10 +122,12 @@ landed_fits r e s id m x (pieces.Next request y) there is e_ h fits =
 -- a message to one that has ended
 pub gone_fits : (r e : MsgId → ℕ) (s : OneKernel) (id : MsgId) (m : PlainMessage) (v w : PlainWhat) → m.what ≡ v → service.gone_what v ≡ Some w → WhatFits s id m v → s.bag id ≡ Some m → Sound r e s → WhatFits (without_message s id) (answer_id m.id) (answer_to m w) w
 gone_fits r e s id m (PlainWhat.Read base len) w is answer f there h =
+    let read_gone : (base len : ℕ) (dir : Direction) (left : ℕ) → piece_fits dir left (PlainWhat.Read base len) ≡ true → piece_fits dir left PlainWhat.Gone ≡ true = λ base len dir left h1. search arith in
     let k : PlainWhat.Gone ≡ w = cc in
     subst (λ (x : PlainWhat). WhatFits (without_message s id) (answer_id m.id) (answer_to m x) x) k
     (answered_fits (without_message s id) id m (PlainWhat.Read base len) PlainWhat.Gone (h.entered.named id m there) (h.movers.senders id m there (ap is_of_memory is)) (read_gone base len) f.1)
 gone_fits r e s id m (PlainWhat.Write base bytes) w is answer f there h =
+    let write_gone : (base : ℕ) (bytes : List ℕ) (dir : Direction) (left : ℕ) → piece_fits dir left (PlainWhat.Write base bytes) ≡ true → piece_fits dir left PlainWhat.Gone ≡ true = λ base bytes dir left h1. search arith in
     let k : PlainWhat.Gone ≡ w = cc in
     subst (λ (x : PlainWhat). WhatFits (without_message s id) (answer_id m.id) (answer_to m x) x) k
     (answered_fits (without_message s id) id m (PlainWhat.Write base bytes) PlainWhat.Gone (h.entered.named id m there) (h.movers.senders id m there (ap is_of_memory is)) (write_gone base bytes) f.1)
@@ -165,6 +138,9 @@ gone_fits r e s id m _ w is answer f there h = cc
 pub read_fits : (r e : MsgId → ℕ) (s : OneKernel) (id : MsgId) (m : PlainMessage) (x : PlainProcess) (base len : ℕ) → m.what ≡ PlainWhat.Read base len → WhatFits s id m (PlainWhat.Read base len) → s.bag id ≡ Some m → s.processes m.to ≡ Some (Alive x) → Sound r e s → KernelFits s
     → KernelFits (with_sent (service.changed s id m x) (Some (answer_to m (PlainWhat.Block (take len (drop base x.memory))))))
 read_fits r e s id m x base len w f there is h fits =
+    let read_length : (memory : List ℕ) (base len : ℕ) → base + len ≤ length memory → length (take len (drop base memory)) ≡ len = λ memory base len le. omega (arith, length-take len (drop base memory), length-drop base memory, le) in
+    let read_block : (base len : ℕ) (bytes : List ℕ) → length bytes ≡ len → (dir : Direction) (left : ℕ) → piece_fits dir left (PlainWhat.Read base len) ≡ true → piece_fits dir left (PlainWhat.Block bytes) ≡ true =
+      λ base len bytes h1 dir left h2. search arith in
     let within : nat_le (base + len) (length x.memory) ≡ true = sym (ap (has_bytes (base + len)) is) ∙ f.0 in
     let size = read_length x.memory base len (let le : base + len ≤ length x.memory = grind (arith, nat_tests) in le) in
     put_fits (service.changed s id m x) (answer_to m (PlainWhat.Block (take len (drop base x.memory))))
@@ -175,6 +151,7 @@ read_fits r e s id m x base len w f there is h fits =
 pub write_fits : (r e : MsgId → ℕ) (s : OneKernel) (id : MsgId) (m : PlainMessage) (x : PlainProcess) (base : ℕ) (bytes : List ℕ) → m.what ≡ PlainWhat.Write base bytes → WhatFits s id m (PlainWhat.Write base bytes) → s.bag id ≡ Some m → s.processes m.to ≡ Some (Alive x) → Sound r e s
     → KernelFits s → KernelFits (with_sent (service.changed s id m (record x { memory = pieces.written_at x.memory base bytes })) (Some (answer_to m PlainWhat.Written)))
 write_fits r e s id m x base bytes w f there is h fits =
+    let write_written : (base : ℕ) (bytes : List ℕ) (dir : Direction) (left : ℕ) → piece_fits dir left (PlainWhat.Write base bytes) ≡ true → piece_fits dir left PlainWhat.Written ≡ true = λ base bytes dir left h1. search arith in
     let y = record x { memory = pieces.written_at x.memory base bytes } in
     put_fits (service.changed s id m y) (answer_to m PlainWhat.Written)
     (answered_fits (service.changed s id m y) id m (PlainWhat.Write base bytes) PlainWhat.Written (h.entered.named id m there) (h.movers.senders id m there (ap is_of_memory w)) (write_written base bytes)
@@ -209,8 +186,7 @@ asked_noted s t id m is there = search (arith, bind-is, s.bag, id_eq-same)
 -- the request that it followed is answered
 unnoted_fits : (s : OneKernel) (p : Pid) (id : MsgId) → KernelFits s → KernelFits (without_note s p id)
 unnoted_fits s p id h =
-    let t = without_note s p id in
-    carries s t (search (arith, h.processes, h.names, h.answers, h.children, pending_on, unnoted)) h
+    carries s (without_note s p id) (search (arith, h.processes, h.names, h.answers, h.children, pending_on, unnoted)) h
   where
     unnoted : (q : Pid) (n : MoveNote) (c : Bool) → (if c then None else s.notes q) ≡ Some n → s.notes q ≡ Some n
     unnoted q n true e = cc
@@ -218,8 +194,6 @@ unnoted_fits s p id h =
 
 pub move_ended_fits : (r e : MsgId → ℕ) (s : OneKernel) (id : MsgId) (p : Pid) (n : MoveNote) (o : Outcome) → s.noted id ≡ Some p → s.notes p ≡ Some n → Sound r e s → KernelFits s → KernelFits (service.move_ended s id p n o)
 move_ended_fits r e s id p n o noted notes h fits =
-    let f = fits.notes p n notes in
-    let u = without_note s p id in
-    let pending : IsPending s PendingKind.Move id = subst (IsPending s PendingKind.Move) (note-is e s id p n noted notes h.notes) f.pending in
-    let k = pending_on s u PendingKind.Move id refl pending in
-    put_fits u (record { id = answer_id id; to = n.asker; sender = p; what = PlainWhat.Moved o }) (f.asker, refl, record { from = k.from; pending = k.pending }) (unnoted_fits s p id fits)
+    let pending : IsPending s PendingKind.Move id = subst (IsPending s PendingKind.Move) (note-is e s id p n noted notes h.notes) (fits.notes p n notes).pending in
+    let k = pending_on s (without_note s p id) PendingKind.Move id refl pending in
+    put_fits (without_note s p id) (record { id = answer_id id; to = n.asker; sender = p; what = PlainWhat.Moved o }) ((fits.notes p n notes).asker, refl, record { from = k.from; pending = k.pending }) (unnoted_fits s p id fits)

@@ -59,15 +59,11 @@ pub fits_step : (r e : MsgId → ℕ) (s t : OneKernel) (l : Label) → kernel.s
 fits_step r e s t (Label.Ran p k) is h order fits = ran_fits s t p k is fits
 fits_step r e s t l is h order fits = by_step KernelFits s t l (rows_fit r e s l refl h order fits) is
 
--- an image's process has the bytes of its blocks
-memory_long : (i : BootImage) → 256 * i.blocks ≤ length (memory_of i)
-memory_long i =
-    let a = length-append i.bytes (replicate (256 * i.blocks - length i.bytes) 0) in
-    let b : length (replicate (256 * i.blocks - length i.bytes) 0) ≡ 256 * i.blocks - length i.bytes = length-replicate {A = ℕ} (256 * i.blocks - length i.bytes) 0 in
-    omega (arith, a, b)
-
 begins_with : (b : Boot) (p : BootProcess) (n : ℕ) (o : Option BootImage) → is_some o ≡ true → nat_le n (256 * blocks_of_image o) ≡ true → has_bytes n (option_map (λ (image : BootImage). Alive (begun b.format image (map plain_link p.links))) o) ≡ true
-begins_with b p n o h1 h2 = search (arith, memory_long)
+begins_with b p n o h1 h2 =
+    -- an image's process has the bytes of its blocks
+    let memory_long : (i : BootImage) → 256 * i.blocks ≤ length (memory_of i) = λ i. omega (arith, length-append i.bytes (replicate (256 * i.blocks - length i.bytes) 0), length-replicate {A = ℕ} (256 * i.blocks - length i.bytes) 0) in
+    search (arith, memory_long)
 
 pub get_some : {X : Type 0} (xs : List X) (k : ℕ) → nat_lt k (length xs) ≡ true → is_some (slice_get xs k) ≡ true
 get_some [] k e = absurd (let f : nat_lt k 0 ≡ false = grind (arith, nat_tests) in false≢true (sym f ∙ e))
@@ -78,14 +74,11 @@ get_some (x ∷ xs) (suc k) e = get_some xs k (let f : nat_lt k (length xs) ≡ 
 abbrev ProcessIs : Boot → BootProcess → Type 0
 ProcessIs b p = (is_some (slice_get b.images p.image) ≡ true) × (links_are_valid b p.links ≡ true)
 
-process_is : (b : Boot) (others : ℕ) (p : BootProcess) → process_is_valid b others p ≡ true → ProcessIs b p
-process_is b others p h = search (arith, both, p.pid.home, b.machines, p.pid.num, p.image, b.images, p.links, b.format, get_some)
-
 processes_are : (b : Boot) (earlier ps : List BootProcess) → processes_are_valid b earlier ps ≡ true → Each (ProcessIs b) ps
 processes_are b earlier [] h = tt
 processes_are b earlier (p ∷ ps) h =
     let k = both (process_is_valid b (starting_at p.pid.home earlier) p) (processes_are_valid b (earlier ++ p ∷ []) ps) h in
-    (process_is b (starting_at p.pid.home earlier) p k.0, processes_are b (earlier ++ p ∷ []) ps k.1)
+    ((let e_ : ProcessIs b p = search (arith, both, p.pid.home, b.machines, p.pid.num, p.image, b.images, p.links, b.format, get_some, k.0) in e_), processes_are b (earlier ++ p ∷ []) ps k.1)
 
 -- a process that the file names has the memory of its image
 named_by : (b : Boot) (c : Bool) (r p : BootProcess) (o : Option BootProcess) (l : Option Life) (n : ℕ) → (if c then Some r else o) ≡ Some p → ProcessIs b r → nat_le n (memory_size b (Some p)) ≡ true → (o ≡ Some p → has_bytes n l ≡ true)
@@ -96,19 +89,15 @@ named_has : (b : Boot) (ps : List BootProcess) (q : Pid) (p : BootProcess) (n : 
 named_has b [] q p n is e le = cc
 named_has b (r ∷ rs) q p n is e le = named_by b (pid_eq r.pid q) r p (process_named q rs) (life_at b rs q) n e is.0 le (λ f. named_has b rs q p n is.1 f le)
 
--- links of the file
-empty_gives : (a : _) → area_is_empty a ≡ true → gives_no_right a ≡ true
-empty_gives a h = (both (a.len == 0) (not a.read && not a.write) (both (a.base == 0) ((a.len == 0) && (not a.read && not a.write)) h).1).1
-
-server_gives : (l : Link) → leads_to_server l ≡ true → gives_no_right l.area ≡ true
-server_gives l h = empty_gives l.area (both (l.code == 0) (area_is_empty l.area) (both (l.addr.at == 0) ((l.code == 0) && area_is_empty l.area) h).1).1
-
-leads_by : (b : Boot) (l : Link) (c d : Bool) → pid_eq l.addr.pid switchboard ≡ c → pid_eq l.addr.pid manager ≡ d → Each (ProcessIs b) b.processes
-    → (if c then leads_to_server l else if d then leads_to_server l || controls_child b l else leads_to_process b l (process_named l.addr.pid b.processes)) ≡ true → LinkFits (life_at b b.processes) (plain_link l)
-leads_by b l c d h1 h2 h3 h4 = search (arith, server_gives, l.addr.pid, l.area, l.area.base, l.area.len, b.processes, both, empty_gives, named_has)
-
 link_fits_first : (b : Boot) (l : Link) → Each (ProcessIs b) b.processes → link_is_valid b l ≡ true → LinkFits (life_at b b.processes) (plain_link l)
-link_fits_first b l is h = search (arith, both, l.addr.moves, l.to_kernel, l.channel, leads_by, l.addr.pid)
+link_fits_first b l is h =
+    let leads_by : (b : Boot) (l : Link) (c d : Bool) → pid_eq l.addr.pid switchboard ≡ c → pid_eq l.addr.pid manager ≡ d → Each (ProcessIs b) b.processes
+      → (if c then leads_to_server l else if d then leads_to_server l || controls_child b l else leads_to_process b l (process_named l.addr.pid b.processes)) ≡ true → LinkFits (life_at b b.processes) (plain_link l) = λ b l c d h1 h2 h3 h4.
+      -- links of the file
+      let empty_gives : (a : _) → area_is_empty a ≡ true → gives_no_right a ≡ true = λ a h. (both (a.len == 0) (not a.read && not a.write) (both (a.base == 0) ((a.len == 0) && (not a.read && not a.write)) h).1).1 in
+      let server_gives : (l : Link) → leads_to_server l ≡ true → gives_no_right l.area ≡ true = λ l h. empty_gives l.area (both (l.code == 0) (area_is_empty l.area) (both (l.addr.at == 0) ((l.code == 0) && area_is_empty l.area) h).1).1 in
+      search (arith, server_gives, l.addr.pid, l.area, l.area.base, l.area.len, b.processes, both, empty_gives, named_has) in
+    search (arith, both, l.addr.moves, l.to_kernel, l.channel, leads_by, l.addr.pid)
 
 links_fit_first : (b : Boot) (ls : List Link) → Each (ProcessIs b) b.processes → links_are_valid b ls ≡ true → Each (LinkFits (life_at b b.processes)) (map plain_link ls)
 links_fit_first b [] is h = tt

@@ -3,7 +3,7 @@ use Rattle.dm_rulelaws.proofs.Names.{◌≡◌, ◌≢◌, ◌⊎◌, ℕ, ◌<�
 use Rattle.dm_rulelaws.proofs.Names.{at_record, View, Told, About, Target, Known, Unknown, Frozen, Incoming, Forward, is_kernels, Addresses, Receiver, ascends, Point, eq_is, parts, is_own, KernelFits, is_fixed, times, receiver_of, ◌≤◌}
 use Rattle.dm_rulelaws.proofs.Names.{None, false≢true, id_eq, MessageKind, Line, manager, id_eq-is, after_put, Sender, given, own_given, first_gives, moved, not_true, put_at, put_told_off, sort_of, List, [], ◌∷◌, ◌++◌, arith, own_id}
 use Rattle.dm_rulelaws.proofs.Names.{view_after, handled, forwarded_for, forward_about, place_known, all_follow, forwards, updated, Spot, standing, one_of, Named, zero_cases, flip_zero}
-use Rattle.dm_rulelaws.proofs.Found.Lists.{Places, places_put, places_line, places_handled, places_forwarded, AllAre, all_as, put_all, put_routed, put_again, put_tells, routed_gives, forwarded_all, sent_on_all, updated_all, updated_leaves}
+use Rattle.dm_rulelaws.proofs.Found.Lists.{Places, places_put, places_line, places_handled, places_forwarded, AllAre, all_as, put_all, put_routed, put_again, routed_gives, forwarded_all, updated_all, updated_leaves, given_are, follow_gets}
 use Rattle.dm_rulelaws.proofs.Found.Lists.{Sends}
 
 -- a process is at home there, or known; kernels and servers are at home
@@ -55,35 +55,8 @@ pub record LineCore (n : ℕ) (pt : Point) : Type 0 where
 
 -- and what each group keeps: that what is held for a process is for it, too
 pub record Core (n : ℕ) (pt : Point) : Type 0 where
-  pub acting : pt.view.acting < n
-  pub machines : pt.kernel.machines ≡ n
-  pub all : AllAre (Knows pt.view) pt.kernel pt.view pt.addresses
-  pub tells : (i : MsgId) (u : Told) → pt.view.told i ≡ Some u → AboutIs n pt.view u.about
-  pub real : (i : MsgId) (u : Told) → pt.view.told i ≡ Some u → is_kernels i ≡ true → IsOwn n pt.view u
-  pub topic : AboutIs n pt.view pt.view.topic
-  pub known : (m : ℕ) (p : Pid) → KnownIs n pt.view m p (pt.view.known m p)
-  pub places : Places (IsAt pt.addresses pt.view) pt.view
+  pub line : LineCore n pt
   pub held : (m : ℕ) (p : Pid) (i : MsgId) → 1 ≤ times i (pt.view.held m p) → receiver_of (pt.view.told i) ≡ Some p
-  pub senders : (i : MsgId) (m : PlainMessage) → pt.kernel.bag i ≡ Some m → Sends n pt.kernel m.sender
-  pub fits : KernelFits pt.kernel
-  pub home : (q : Pid) → is_some (pt.kernel.processes q) ≡ true → pt.view.known q.home q ≢ Unknown
-  pub pending : ascends 0 pt.kernel.manager.pending pt.kernel.manager.sent ≡ true
-
-pub lines_of_core : (n : ℕ) (pt : Point) → Core n pt → LineCore n pt
-lines_of_core n pt h = record {
-  acting = h.acting;
-  machines = h.machines;
-  all = h.all;
-  tells = h.tells;
-  real = h.real;
-  topic = h.topic;
-  known = h.known;
-  places = h.places;
-  senders = h.senders;
-  fits = h.fits;
-  home = h.home;
-  pending = h.pending;
-}
 
 -- machines forget no process
 abbrev pub Grows : View → View → Type 0
@@ -188,9 +161,6 @@ put_address n pt b id i k q (Again u told at) some = ap (λ (o : Option Told). g
 put_address n pt b id i k q (Own bag none to from at real own_) some = search (arith, sort_of k, told_apart pt.view id i none some, pt.addresses, pt.kernel)
 put_address n pt b id i k q (Routed other plain none at) some = routed_gives pt.kernel pt.view pt.addresses id k q plain (pt.view.told id) (Receiver i)
 
-put_place : (n : ℕ) (pt : Point) (b : ℕ) (id : MsgId) (k : MessageKind) (q : Pid) → NeedsPut n pt b id k q → (given pt.addresses (first_gives (pt.view.told id) (own_given pt.kernel pt.view pt.addresses id q (sort_of k))) (Receiver id)).at ≡ b
-put_place n pt b id k q h1 = search (arith, pt.addresses, pt.kernel, pt.view, routed_gives, pt.view.told)
-
 put_are : (n : ℕ) (pt : Point) (x b : ℕ) (id : MsgId) (k : MessageKind) (q : Pid) → NeedsPut n pt b id k q → LineCore n pt
     → AllAre (Knows pt.view) pt.kernel (after_put pt.view x b id k q) (given pt.addresses (first_gives (pt.view.told id) (own_given pt.kernel pt.view pt.addresses id q (sort_of k))))
 put_are n pt x b id k q (Again u told at) h = put_again (Knows pt.view) pt.kernel pt.view pt.addresses x b id k q u told h.all
@@ -200,16 +170,17 @@ put_are n pt x b id k q (Routed other plain none at) h = put_routed (Knows pt.vi
 put_real : (n : ℕ) (pt : Point) (b : ℕ) (id i : MsgId) (k : MessageKind) (q : Pid) (u : Told) → NeedsPut n pt b id k q → id ≡ i → pt.view.told id ≡ None → record { kind = k; receiver = q; about = pt.view.topic } ≡ u → is_kernels i ≡ true → IsOwn n pt.view u
 put_real n pt b id i k q u h1 h2 h3 h4 h5 = search (arith, pt.view)
 
-put_keeps : (v : View) (x y : ℕ) (id i : MsgId) (k : MessageKind) (q : Pid) → is_some (v.told i) ≡ true → is_some ((after_put v x y id k q).told i) ≡ true
-put_keeps v x y id i k q some = search (arith, id_eq-is, put_at, put_told_off)
-
 pub put_core : (n : ℕ) (pt : Point) (x b : ℕ) (id : MsgId) (k : MessageKind) (q : Pid) → NeedsPut n pt b id k q → LineCore n pt → LineCore n (moved pt (Line.Put x b id k q) pt.kernel)
 put_core n pt x b id k q need h =
+    -- what is told behind a put: what was told before, or this
+    let put_tells : (v : View) (x y : ℕ) (id : MsgId) (k : MessageKind) (q : Pid) (i : MsgId) (u : Told) → (after_put v x y id k q).told i ≡ Some u
+      → (v.told i ≡ Some u) ⊎ ((id ≡ i) × (v.told id ≡ None) × (record { kind = k; receiver = q; about = v.topic } ≡ u)) =
+      λ v x y id k q i u h1. search (arith, id_eq-is, v.told, put_at, put_told_off, v.topic) in
     let v = pt.view in
     let w = after_put v x b id k q in
-    let a = pt.addresses in
-    let c = given a (first_gives (v.told id) (own_given pt.kernel v a id q (sort_of k))) in
+    let c = given pt.addresses (first_gives (v.told id) (own_given pt.kernel v pt.addresses id q (sort_of k))) in
     let grows : Grows v w = λ m r e. e in
+    let put_place : (given pt.addresses (first_gives (pt.view.told id) (own_given pt.kernel pt.view pt.addresses id q (sort_of k))) (Receiver id)).at ≡ b = search (arith, pt.addresses, pt.kernel, pt.view, routed_gives, pt.view.told) in
     record {
       acting = h.acting;
       machines = h.machines;
@@ -224,8 +195,8 @@ put_core n pt x b id k q need h =
       ]);
       topic = about_grows n v w v.topic grows h.topic;
       known = (learns_nothing n v w refl (λ m r. refl) h.known).known;
-      places = places_put (IsAt c w) v x b id k q (put_place n pt b id k q need, ap is_some (put_at v x b id k q))
-          (λ i z e. let y = h.places i z e in (ap (λ (p : Place). p.at) (put_address n pt b id i k q need y.1) ∙ y.0, put_keeps v x b id i k q y.1));
+      places = places_put (IsAt c w) v x b id k q (put_place, ap is_some (put_at v x b id k q))
+          (λ i z e. let y = h.places i z e in (ap (λ (p : Place). p.at) (put_address n pt b id i k q need y.1) ∙ y.0, (let e_ : is_some ((after_put v x b id k q).told i) ≡ true = search (arith, id_eq-is, put_at, put_told_off, y.1) in e_)));
       senders = h.senders;
       fits = h.fits;
       home = λ r some. grows r.home r (h.home r some);
@@ -242,9 +213,6 @@ given_core n pt w b acting known told topic all places h =
     let learnt = learns_nothing n pt.view w acting known h.known in
     core_view n pt w b (subst (λ (k : ℕ). k < n) (sym acting) h.acting) learnt.grows learnt.known told (about_grows n pt.view w w.topic learnt.grows topic) all places h
 
-forwards_off : (v : View) (a : Addresses) (id i : MsgId) (u : Told) → id_eq id i ≡ false → id_eq (own_id v) i ≡ false → given a (forwards v a id (Some u)) (Receiver i) ≡ a (Receiver i)
-forwards_off v a id i u e f = search (arith, v.known, v.acting, u.receiver, v.moves)
-
 pub record NeedsForward (n : ℕ) (pt : Point) (id : MsgId) : Type 0 where
   pub u : Told
   pub told : pt.view.told id ≡ Some u
@@ -256,16 +224,17 @@ pub record NeedsForward (n : ℕ) (pt : Point) (id : MsgId) : Type 0 where
 
 pub forwarded_core : (n : ℕ) (pt : Point) (id : MsgId) (m : ℕ) → NeedsForward n pt id → LineCore n pt → LineCore n (moved pt (Line.Forwarded id m) pt.kernel)
 forwarded_core n pt id m need h =
+    let forwards_off : (v : View) (a : Addresses) (id i : MsgId) (u : Told) → id_eq id i ≡ false → id_eq (own_id v) i ≡ false → given a (forwards v a id (Some u)) (Receiver i) ≡ a (Receiver i) =
+      λ v a id i u e f. search (arith, v.known, v.acting, u.receiver, v.moves) in
     let v = pt.view in
     let a = pt.addresses in
-    let b = given a (forwards v a id (Some need.u)) in
     let w = forwarded_for (handled v id) (Some need.u.receiver) in
     let all = subst (λ (o : Option Told). AllAre (Knows v) pt.kernel v (given a (forwards v a id o))) need.told (forwarded_all (Knows v) pt.kernel v a id need.u need.told need.knows need.outside need.fresh h.all) in
     let apart : Places (λ i k. (id_eq id i ≡ false) × IsAt a v i k) w =
     places_forwarded (λ i k. (id_eq id i ≡ false) × IsAt a v i k) (handled v id) (Some need.u.receiver)
     (λ i z e. (not_true (id_eq id i) (λ k. let f : standing (handled v id) i z ≡ 0 = ap (λ (j : MsgId). standing (handled v id) j z) (sym (id_eq-is id i k)) ∙ need.gone z in absurd (omega (arith, e, f))), places_handled (IsAt a v) v id h.places i z e)) in
     subst (λ (o : Option Told). LineCore n (gives_at pt (forwarded_for (handled v id) (receiver_of o)) (given a (forwards v a id o)))) (sym need.told)
-    (given_core n pt w b refl (λ k q. refl) refl need.topic all
+    (given_core n pt w (given a (forwards v a id (Some need.u))) refl (λ k q. refl) refl need.topic all
     (λ i z e. let k = apart i z e in (ap (λ (p : Place). p.at) (forwards_off v a id i need.u k.0 (told_apart v (own_id v) i need.fresh k.1.1)) ∙ k.1.0, k.1.1)) h)
 
 follow_off : (v : View) (a : Addresses) (p : Pid) (i : MsgId) (ids : List MsgId) → times i ids ≡ 0 → given a (all_follow v a p ids) (Receiver i) ≡ a (Receiver i)
@@ -285,9 +254,7 @@ sent_core n pt p k need h =
     let v = pt.view in
     let a = pt.addresses in
     let ids = v.queue v.acting p ++ v.held v.acting p in
-    let b = given a (all_follow v a p ids) in
-    let w = view_after v (Line.SentOn p k) in
-    given_core n pt w b refl (λ m q. refl) refl tt (sent_on_all (Knows v) pt.kernel v a p ids need.knows h.all)
+    given_core n pt (view_after v (Line.SentOn p k)) (given a (all_follow v a p ids)) refl (λ m q. refl) refl tt (given_are (Knows v) pt.kernel v a (all_follow v a p ids) h.all (follow_gets (Knows v) pt.kernel v a p ids need.knows))
     (λ i z e. let x = places_line (IsAt a v) v (Line.SentOn p k) tt h.places i z e in (
       elim (zero_cases (times i ids)) [
         | inl none ↦ ap (λ (q : Place). q.at) (follow_off v a p i ids none) ∙ x.0

@@ -15,10 +15,6 @@ named_for pt id u q h1 h2 h3 = search (arith, pt.kernel.bag, u.receiver, pt.view
 pub forwarded_own : (v : View) (o : Option Pid) → own_id (forwarded_for v o) ≡ own_id v
 forwarded_own v o = search arith
 
--- behind the line that says so
-goes_to : (v : View) (a : Addresses) (id : MsgId) (u : Told) (to c : ℕ) (o : Option Told) → o ≡ Some u → v.known v.acting u.receiver ≡ Forward to c → (given a (forwards v a id o) (Receiver id)).at ≡ to
-goes_to v a id u to c o told at = search (arith, v.known, v.acting, u.receiver, v.moves, u.kind, id_eq-same)
-
 pub other_id : (v : View) (id : MsgId) (u : Told) → v.told id ≡ Some u → v.told (own_id v) ≡ None → id_eq id (own_id v) ≡ false
 other_id v id u told none = not_true (id_eq id (own_id v)) (λ e. let f : Some u ≡ None = sym told ∙ ap v.told (id_eq-is id (own_id v) e) ∙ none in cc)
 
@@ -28,20 +24,19 @@ back_need : (n : ℕ) (pt mid next : Point) (id : MsgId) (u : Told) (sender : Pi
     → Knows pt.view sender (pt.addresses (Sender id)) → IsReal n pt.view sender → NeedsOwn n next MessageKind.Update sender (pt.addresses (Sender id)).at
 back_need n pt mid next id u sender told back sane known own addresses same knows real =
     let v = pt.view in
-    let a = pt.addresses in
     let grows : Grows v next.view = λ m q some e. some (sym (same.known m q ∙ known m q) ∙ e) in
-    let to : next.addresses (Receiver (own_id next.view)) ≡ a (Sender id) =
+    let to : next.addresses (Receiver (own_id next.view)) ≡ pt.addresses (Sender id) =
     same.addresses (Receiver (own_id next.view)) ∙ ap (λ (i : MsgId). mid.addresses (Receiver i)) (same.own ∙ own) ∙ ap (λ (f : Addresses). f (Receiver (own_id v))) addresses
-    ∙ forwarded_back v a id u told (other_id v id u told (own_fresh pt sane)) back in
+    ∙ forwarded_back v pt.addresses id u told (other_id v id u told (own_fresh pt sane)) back in
     search (arith, next.view, knows_grow, real_grows)
 
-back_if : (n : ℕ) (pt : Point) (sender : Pid) (m : ℕ) (c : Bool) → (c ≡ true → NeedsOwn n pt MessageKind.Update sender m) → AllNeed n pt (if c then Owns MessageKind.Update sender m ∷ [] else [])
-back_if n pt sender m c h1 = search arith
-
 -- a message that comes to where its receiver went away goes on
+-- behind the line that says so
 pub forwards_need : (n : ℕ) (pt : Point) (id : MsgId) (is : List MsgId) (u : Told) (sender : Pid) (to c : ℕ) → pt.view.inbox pt.view.acting ≡ id ∷ is → State None pt → Sane pt → LineCore n pt → pt.view.told id ≡ Some u → pt.view.known pt.view.acting u.receiver ≡ Forward to c
     → is_fixed u.receiver ≡ false → (is_told_back u.kind ≡ true → Knows pt.view sender (pt.addresses (Sender id)) × IsReal n pt.view sender) → AllNeed n pt (forwards_on pt.addresses id u.kind sender to)
 forwards_need n pt id is u sender to c front state sane h told at free back =
+    let back_if : (n : ℕ) (pt : Point) (sender : Pid) (m : ℕ) (c : Bool) → (c ≡ true → NeedsOwn n pt MessageKind.Update sender m) → AllNeed n pt (if c then Owns MessageKind.Update sender m ∷ [] else []) =
+      λ n pt sender m c h1. search arith in
     let v = pt.view in
     let a = pt.addresses in
     let there : v.known to u.receiver ≢ Unknown = (subst (KnownIs n v v.acting u.receiver) at (h.known v.acting u.receiver)).1 in
@@ -59,7 +54,7 @@ forwards_need n pt id is u sender to c front state sane h told at free back =
           let s = said_by pt mid (Line.Forwarded id to) (record { lines = ls; are = is_; leads = leads }) in
           let first = moved pt (Line.Forwarded id to) s.kernel in
           subst (λ (p : Point). AllNeed n p (Again id to ∷ (if is_told_back u.kind then Owns MessageKind.Update sender (a (Sender id)).at ∷ [] else []))) s.is (
-            goes_to v a id u to c (v.told id) told at,
+            (let e_ : (given a (forwards v a id (v.told id)) (Receiver id)).at ≡ to = search (arith, v.known, v.acting, u.receiver, v.moves, u.kind, id_eq-same) in e_),
             (λ xs next is__ leads_.
                 let stays = again_same first next id to xs is__ leads_ in
                 back_if n next sender (a (Sender id)).at (is_told_back u.kind)
@@ -92,15 +87,10 @@ agains_need n start pt to (i ∷ is) ps at acting known rest = (
       agains_need n start next to is ps (λ j least. ap (λ (p : Place). p.at) (same.addresses (Receiver j)) ∙ at j (omega (arith, least))) (same.acting ∙ acting) (λ m q. same.known m q ∙ known m q) rest),
 )
 
-left_need : (n : ℕ) (start q : Point) (p : Pid) (to from : ℕ) → q.view.acting ≡ start.view.acting → ((m : ℕ) (r : Pid) → q.view.known m r ≡ start.view.known m r) → start.view.known start.view.acting p ≡ Frozen to → start.view.known to p ≢ Unknown → from < n
-    → AllNeed n q (Says (Line.Migration Stage.Left p) ∷ to_kernel MessageKind.Restart from ∷ [])
-left_need n start q p to from acting known at there le = search (arith, start.view.known, q.view.acting, loose_need, to_one)
-
 sent_gone : (pt : Point) (p : Pid) (id : MsgId) (is : List MsgId) → State None pt → pt.view.inbox pt.view.acting ≡ id ∷ is → is_kernels id ≡ true → (i : MsgId) (z : Spot) (k : ℕ) → 1 ≤ times i (both_lists pt.view p) → standing (view_after pt.view (Line.SentOn p k)) i z ≡ 0
 sent_gone pt p id is state front own i z k least =
     let b = sent_way pt p k id is state front own in
-    let bag = letters b.own pt.kernel.bag in
-    nowhere (without_all (both_lists pt.view p) bag i) (standing (view_after pt.view (Line.SentOn p k)) i) (without_at (both_lists pt.view p) bag i least) (b.stands.kept i) z
+    nowhere (without_all (both_lists pt.view p) (letters b.own pt.kernel.bag) i) (standing (view_after pt.view (Line.SentOn p k)) i) (without_at (both_lists pt.view p) (letters b.own pt.kernel.bag) i least) (b.stands.kept i) z
   where
     nowhere : (o : Option Pid) (f : Spot → ℕ) → o ≡ None → StandsAsBag o f → (z : Spot) → f z ≡ 0
     nowhere None f e h z = h z
@@ -114,17 +104,15 @@ leaves_need n pt id is p (Frozen to) front state h own at there free for le =
     let v = pt.view in
     let a = pt.addresses in
     let ids = both_lists v p in
-    let known : v.known to p ≢ Unknown = there to refl in
     let needs : NeedsSent pt p = record {
-      knows = λ i q least e. subst (λ (x : Known). Knows v q (place_known x (v.moves p) (a (Receiver i)))) (sym at) (subst (λ (r : Pid). KnowsAt v r to) (sym (for i q least e)) (inr (free, known)));
+      knows = λ i q least e. subst (λ (x : Known). Knows v q (place_known x (v.moves p) (a (Receiver i)))) (sym at) (subst (λ (r : Pid). KnowsAt v r to) (sym (for i q least e)) (inr (free, there to refl)));
       gone = λ i z k least. sent_gone pt p id is state front own i z k least;
     } in (
       needs,
       (λ ls next is_ leads.
           let s = said_by pt next (Line.SentOn p (length ids)) (record { lines = ls; are = is_; leads = leads }) in
-          let first = moved pt (Line.SentOn p (length ids)) s.kernel in
           subst (λ (q : Point). AllNeed n q (sends_on to ids ++ Says (Line.Migration Stage.Left p) ∷ to_kernel MessageKind.Restart id.from.home ∷ [])) s.is
-          (agains_need n pt first to ids (Says (Line.Migration Stage.Left p) ∷ to_kernel MessageKind.Restart id.from.home ∷ []) (λ i least. follow_at v a p to ids i at least) refl (λ m q. refl)
-          (λ q acting same_known. left_need n pt q p to id.from.home acting same_known at known le))),
+          (agains_need n pt (moved pt (Line.SentOn p (length ids)) s.kernel) to ids (Says (Line.Migration Stage.Left p) ∷ to_kernel MessageKind.Restart id.from.home ∷ []) (λ i least. follow_at v a p to ids i at least) refl (λ m q. refl)
+          (λ q acting same_known. (let e_ : AllNeed n q (Says (Line.Migration Stage.Left p) ∷ to_kernel MessageKind.Restart id.from.home ∷ []) = search (arith, pt.view.known, q.view.acting, loose_need, to_one) in e_)))),
     )
 leaves_need n pt id is p _ front state h own at there free for le = tt

@@ -1,64 +1,51 @@
 -- Each group keeps where addresses lead, what machines know, and where messages stand.
-use Rattle.dm_rulelaws.proofs.Names.{◌≡◌, ℕ, ◌<◌, ◌≤◌, Bool, true, false, is_some, List, ◌∷◌, refl, ap, ◌∙◌, sym, subst, inl, inr, arith, if◌then◌else◌, Option, None, Some, Pid, MsgId, plain_kind, PlainMessage, MessageKind, Boot, manager}
-use Rattle.dm_rulelaws.proofs.Names.{Step, id_eq-same, alive-is, Line, View, Told, About, Of, Unknown, Here, Frozen, Incoming, Forward, is_kernels, receiver_of, target_in, target_of, front_of, Child, Receiver, Sender, names, sender_of}
-use Rattle.dm_rulelaws.proofs.Names.{IsStep, forwards_on, migrates, Part, Owns, Spelled, Moves, is_between, is_restart, is_early, knows, receiver_in, tells_onward, Point, moved, group_of, Inbox, Queue, Held, times, standing, group_is}
-use Rattle.dm_rulelaws.proofs.Names.{turn_off, letters, eq_is, parts, both_lists, both_times, under_way, front_kernels, Phased, due, head_calm, InPhases, calm_phases, rooted, State, Sane, sane_line, outcome_sayable, Comes, Named, Links}
-use Rattle.dm_rulelaws.proofs.Names.{child_is, source_holds, destination_expects, is_fixed, eq_self, about_same, front_one, least_of, by_migrates, by_net, by_outcome, sort_of, slice_get, option_and_then}
+use Rattle.dm_rulelaws.proofs.Names.{◌≡◌, ℕ, ◌<◌, ◌≤◌, true, false, is_some, List, ◌∷◌, refl, ap, ◌∙◌, sym, subst, inl, inr, arith, if◌then◌else◌, Option, None, Some, Pid, MsgId, PlainMessage, MessageKind, Boot, manager, Step, id_eq-same}
+use Rattle.dm_rulelaws.proofs.Names.{alive-is, Line, View, Told, Of, Unknown, Here, Frozen, Incoming, Forward, is_kernels, receiver_of, target_of, front_of, Child, Receiver, Sender, names, sender_of, IsStep, forwards_on, migrates, Part}
+use Rattle.dm_rulelaws.proofs.Names.{Owns, Spelled, Moves, is_between, is_restart, is_early, receiver_in, tells_onward, Point, group_of, Inbox, Queue, Held, times, standing, group_is, turn_off, letters, eq_is, parts, both_lists, both_times}
+use Rattle.dm_rulelaws.proofs.Names.{under_way, front_kernels, Phased, due, head_calm, InPhases, calm_phases, rooted, State, Sane, outcome_sayable, Comes, Named, Links, child_is, source_holds, destination_expects, is_fixed, eq_self}
+use Rattle.dm_rulelaws.proofs.Names.{about_same, front_one, least_of, by_migrates, by_net, by_outcome, sort_of, slice_get, option_and_then, AllSayable, spelled, by_parts, part_sane}
 use Rattle.dm_rule.proofs.Groups.{begun}
 use Rattle.dm_rule.proofs.Trails.Places.{Owns}
 use Rattle.dm_rulelaws.proofs.Found.Labels.{there_known, line_core}
-use Rattle.dm_rulelaws.proofs.Found.Core.{IsReal, AboutIs, KnownIs, LineCore, known_within}
+use Rattle.dm_rulelaws.proofs.Found.Core.{IsReal, KnownIs, LineCore, known_within}
 use Rattle.dm_rulelaws.proofs.Found.Forward.{forwards_need, moves_back, leaves_need, named_for}
-use Rattle.dm_rulelaws.proofs.Found.Parts.{AllNeed, NeedOf, AllLoose, loose_need, first_need, parts_core, Heard, told_by_need, round_need, handles_need, Moves as MovesTo}
+use Rattle.dm_rulelaws.proofs.Found.Parts.{AllNeed, NeedOf, AllLoose, loose_need, first_need, Heard, told_by_need, round_need, handles_need, Moves as MovesTo, part_core}
 use Rattle.dm_rulelaws.proofs.Found.Real.{made_free, child_real, sends_real, has_some}
 use Rattle.dm_rule.specs.Phases as phases
 use Rattle.dm_rule.specs.Rule as rule
+use Rattle.dm_rulelaws.proofs.Based.Needs.{begun as headed, begun_sane as head_sane}
 
 -- behind the head of a group
-abbrev headed : Point → Step → Point
-headed pt d = moved pt (Line.Head d) pt.kernel
-
-head_sane : (pt : Point) (d : Step) → Sane pt → Sane (headed pt d)
-head_sane pt d h = sane_line pt (headed pt d) (Line.Head d) refl refl h
-
-group_core : (n : ℕ) (b : Boot) (pt : Point) (d : Step) (w : Spelled) → IsStep n d → group_of b pt d ≡ Some w → ((ps : List Part) → rule.outcome b pt d ≡ Some ps → LineCore n (headed pt d) → AllNeed n (headed pt d) ps) → Sane pt → LineCore n pt → LineCore n w.point
+pub group_core : (n : ℕ) (b : Boot) (pt : Point) (d : Step) (w : Spelled) → IsStep n d → group_of b pt d ≡ Some w → ((ps : List Part) → rule.outcome b pt d ≡ Some ps → LineCore n (headed pt d) → AllNeed n (headed pt d) ps) → Sane pt → LineCore n pt → LineCore n w.point
 group_core n b pt d w fit e needs sane h =
     let g = group_is b pt d w e in
     let start = line_core n pt pt.kernel (Line.Head d) (search arith) sane refl h in
+    let parts_core : (n : ℕ) (ps : List Part) (pt : Point) (w : Spelled) → AllSayable ps → AllNeed n pt ps → Sane pt → spelled pt ps ≡ Some w → LineCore n pt → LineCore n w.point = λ n qs q w ok need sane is h.
+      by_parts (λ ps pt v. AllSayable ps → AllNeed n pt ps → Sane pt → LineCore n pt → LineCore n v.point) (λ pt ok need sane h. h)
+      (λ p ps pt next ls z lines leads rest ok need sane h. rest ok.1 (need.1 ls next lines leads) (part_sane pt next p ls ok.0 lines leads sane) (part_core n pt next p ls need.0 sane lines leads h)) qs q w is ok need sane h in
     subst (LineCore n) g.point (parts_core n g.parts (headed pt d) g.rest (outcome_sayable b pt d g.parts g.is) (needs g.parts g.is start) (head_sane pt d sane) g.said start)
 
 migrates_need : (n : ℕ) (pt : Point) (p : Pid) → pt.view.acting ≡ 0 → LineCore n pt → ((k : ℕ) → names pt.kernel (Child k) ≡ Some p → IsReal n pt.view p) → AllNeed n pt (migrates pt p)
 migrates_need n pt p first h real = search (arith, by_migrates, first_need, child_is, id_eq-same)
 
-pub told_there : (o : Option Told) → is_some o ≡ true → (t : Told) × (o ≡ Some t)
+pub told_there : {X : Type 0} (o : Option X) → is_some o ≡ true → (x : X) × (o ≡ Some x)
 told_there o h1 = search arith
 
 -- the machines of a migration
 abbrev AllKnown : ℕ → View → Type 0
 AllKnown n v = (m : ℕ) (p : Pid) → KnownIs n v m p (v.known m p)
 
-moves_within : (n : ℕ) (v : View) (p : Pid) (k : MessageKind) (s d : ℕ) (o : Option MsgId) → knows (Moves k s d o) s (v.known s p) ≡ true → AllKnown n v → (s < n) × (d < n) × (is_fixed p ≡ false)
-moves_within n v p k s d o e h = search (arith, eq_self, parts, eq_is, known_within)
-
-sender_within : (n s d : ℕ) (c : Bool) → s < n → d < n → (if c then s else d) < n
-sender_within n s d c h1 h2 = search arith
-
--- the message is the one of a migration that is under way
-target_within : (n : ℕ) (v : View) (a : About) → 0 < n → AboutIs n v a → target_in a < n
-target_within n v a h1 h2 = search arith
-
 -- what waits for a process is for it
 pub queued_for : (pt : Point) (p : Pid) (i : MsgId) → State None pt → 1 ≤ times i (pt.view.queue pt.view.acting p) → receiver_of (pt.view.told i) ≡ Some p
 queued_for pt p i state least =
-    let bag = letters state.own pt.kernel.bag in
-    let (x, is) = under_way (bag i) (standing pt.view i) (Queue pt.view.acting p) least (state.stands.kept i) in
+    let (x, is) = under_way ((letters state.own pt.kernel.bag) i) (standing pt.view i) (Queue pt.view.acting p) least (state.stands.kept i) in
     state.stands.told i x is ∙ ap Some (state.stands.mine pt.view.acting p i x least is)
 
 pub told_for : (pt : Point) (o : Option Told) (i : MsgId) (p q : Pid) → Sane pt → pt.view.told i ≡ o → receiver_of o ≡ Some p → Named pt.kernel pt.view (Receiver i) q → q ≡ p
 told_for pt o i p q h1 h2 h3 h4 = search (arith, named_for)
 
 -- what is held for a process is for it
-abbrev HeldFor : View → Type 0
+abbrev pub HeldFor : View → Type 0
 HeldFor v = (m : ℕ) (p : Pid) (i : MsgId) → 1 ≤ times i (v.held m p) → (t : Told) × (v.told i ≡ Some t) × (t.receiver ≡ p)
 
 waits_for : (pt : Point) (p : Pid) (i : MsgId) (q : Pid) → HeldFor pt.view → State None pt → Sane pt → 1 ≤ times i (both_lists pt.view p) → Named pt.kernel pt.view (Receiver i) q → q ≡ p
@@ -76,9 +63,9 @@ heard n pt m i is t p h holds sane state in_ front told own about between =
     let u = due start i is t in_ front told between in
     let pq : p ≡ u.p = about_same p u.p (sym about ∙ ap (λ (x : Told). x.about) u.told) in
     let isin : phases.IsIn v u.p (Moves u.k u.s u.d (Some i)) = subst (phases.IsIn v u.p) u.phase (in_.each u.p) in
-    let within = moves_within n v u.p u.k u.s u.d (Some i) (isin.known u.s) h.known in
+    let within : (u.s < n) × (u.d < n) × (is_fixed u.p ≡ false) = search (arith, eq_self, parts, eq_is, known_within, isin.known u.s, h.known) in
     let free : is_fixed p ≡ false = ap is_fixed pq ∙ within.2 in
-    let from : i.from.home < n = subst (λ (x : ℕ). x < n) (sym (ap (λ (x : Pid). x.home) u.from)) (sender_within n u.s u.d (tells_onward (sort_of u.k)) within.0 within.1) in (
+    let from : i.from.home < n = subst (λ (x : ℕ). x < n) (sym (ap (λ (x : Pid). x.home) u.from)) (let e_ : (if (tells_onward (sort_of u.k)) then u.s else u.d) < n = search (arith, within.0, within.1) in e_) in (
       from,
       (subst (λ (x : ℕ). x < n) (sym (ap front_of front)) from, free),
       (λ z e. sane.sound.notes.noted p z e),
@@ -99,24 +86,20 @@ heard n pt m i is t p h holds sane state in_ front told own about between =
 forward_free : (n : ℕ) (v : View) (m : ℕ) (p : Pid) (to c : ℕ) → v.known m p ≡ Forward to c → AllKnown n v → is_fixed p ≡ false
 forward_free n v m p to c e h = (subst (KnownIs n v m p) e (h m p)).2
 
-asked_to : (n : ℕ) (pt : Point) (i : MsgId) (k : PlainMessage) → pt.kernel.bag i ≡ Some k → Sane pt → LineCore n pt → MovesTo n k
-asked_to n pt i k there sane h to e = search (arith, k.what, made_free, has_some)
-
 front_need : (n : ℕ) (b : Boot) (pt : Point) (m : ℕ) (i : MsgId) (is : List MsgId) (k : PlainMessage) (ps : List Part) → LineCore n (headed pt (Step.Turn m)) → Sane (headed pt (Step.Turn m)) → State None (headed pt (Step.Turn m)) → pt.view.inbox m ≡ i ∷ is → pt.kernel.bag i ≡ Some k
     → rule.handles b pt m i k ≡ Some ps → AllNeed n (headed pt (Step.Turn m)) ps
 front_need n b pt m i is k ps h sane state front there =
+    let asked_to : (n : ℕ) (pt : Point) (i : MsgId) (k : PlainMessage) → pt.kernel.bag i ≡ Some k → Sane pt → LineCore n pt → MovesTo n k = λ n pt i k there sane h to e. search (arith, k.what, made_free, has_some) in
     let start = headed pt (Step.Turn m) in
     let at = h.places i (Inbox m) (front_one start.view m i is front) in
     let (t, told) = told_there (start.view.told i) at.1 in
     let to_same : t.receiver ≡ k.to = sane.tells.receiver i k t there told in
-    let kind_same : t.kind ≡ plain_kind k.what = sane.tells.kind i k t there told in
-    let knows = there_known n start i k there at.0 h in
-    let moves = asked_to n start i k there sane h in
-    handles_need n start b pt m i k ps at there knows moves
-    (λ to c e. subst (λ (x : MessageKind). AllNeed n start (forwards_on pt.addresses i x k.sender to)) kind_same
+    handles_need n start b pt m i k ps at there (there_known n start i k there at.0 h) (asked_to n start i k there sane h)
+    (λ to c e. subst (λ (x : MessageKind). AllNeed n start (forwards_on pt.addresses i x k.sender to)) (sane.tells.kind i k t there told)
     (forwards_need n start i is t k.sender to c front state sane h told (ap (pt.view.known m) to_same ∙ e) (subst (λ (x : Pid). is_fixed x ≡ false) (sym to_same) (forward_free n start.view m k.to to c e h.known))
     (λ back. (h.all (Sender i) k.sender (Links (ap sender_of there)), sends_real start n k.sender h (h.senders i k there)))))
 
+-- the message is the one of a migration that is under way
 own_need : (n : ℕ) (b : Boot) (pt : Point) (m : ℕ) (i : MsgId) (is : List MsgId) (ps : List Part) → LineCore n (headed pt (Step.Turn m)) → HeldFor pt.view → Sane (headed pt (Step.Turn m)) → State None (headed pt (Step.Turn m)) → InPhases (headed pt (Step.Turn m)).view
     → pt.view.inbox m ≡ i ∷ is → pt.kernel.bag i ≡ None → rule.hears b pt m i (pt.view.told i) ≡ Some ps → AllNeed n (headed pt (Step.Turn m)) ps
 own_need n b pt m i is ps h holds sane state in_ front there e =
@@ -125,7 +108,7 @@ own_need n b pt m i is ps h holds sane state in_ front there e =
     let (t, told) = told_there (start.view.told i) at.1 in
     let own : is_kernels i ≡ true = front_kernels start i is state front there in
     let some : 0 < n = let le = h.acting in omega (arith, le) in
-    let le : target_of (Some t) < n = target_within n start.view t.about some (h.tells i t told) in
+    let le : target_of (Some t) < n = search (arith, h.tells i t told) in
     let front_is : option_and_then start.view.told (slice_get (start.view.inbox m) 0) ≡ Some t = ap (λ (ids : List MsgId). option_and_then start.view.told (slice_get ids 0)) front ∙ told in
     subst (NeedOf n start) (ap (rule.hears b pt m i) (sym told) ∙ e)
     (told_by_need n start b pt m i t at le (subst (λ (x : Option Told). target_of x < n) (sym front_is) le)
@@ -133,7 +116,7 @@ own_need n b pt m i is ps h holds sane state in_ front there e =
     (λ to c f. forwards_need n start i is t manager to c front state sane h told f (forward_free n start.view m t.receiver to c f h.known)
     (λ back. (h.all (Sender i) manager (Owns (Comes i t refl own told (moves_back t.kind (h.real i t told own).1 back) refl)), inl (refl, some)))))
 
-outcome_need : (n : ℕ) (b : Boot) (pt : Point) (d : Step) (ps : List Part) → Phased pt → HeldFor pt.view → LineCore n pt → rule.outcome b pt d ≡ Some ps → LineCore n (headed pt d) → AllNeed n (headed pt d) ps
+pub outcome_need : (n : ℕ) (b : Boot) (pt : Point) (d : Step) (ps : List Part) → Phased pt → HeldFor pt.view → LineCore n pt → rule.outcome b pt d ≡ Some ps → LineCore n (headed pt d) → AllNeed n (headed pt d) ps
 outcome_need n b pt d ps base holds core =
     let state : (m : ℕ) → State None (headed pt (Step.Turn m)) = λ m. begun pt (Step.Turn m) base.state (λ z. turn_off pt.view m z) (λ i. refl) in
     by_outcome (λ x xs. LineCore n (headed pt x) → AllNeed n (headed pt x) xs) b pt d ps (record {
@@ -149,7 +132,3 @@ outcome_need n b pt d ps base holds core =
       delivers = λ a c k xs net h. loose_need n (headed pt (Step.Deliver a c k)) xs ((by_net (AllLoose n) tt (λ l ps net h. ((λ pt. search arith), h)) (λ a b l ps h. (λ pt. tt, h))) xs net);
       asks = λ p m h. migrates_need n (headed pt (Step.Migrate p m)) p refl h (λ k named. child_real pt n k p core named);
     })
-
--- each group
-pub core_group : (n : ℕ) (b : Boot) (pt : Point) (d : Step) (w : Spelled) → IsStep n d → group_of b pt d ≡ Some w → Phased pt → HeldFor pt.view → LineCore n pt → LineCore n w.point
-core_group n b pt d w fit e base holds h = group_core n b pt d w fit e (λ ps. outcome_need n b pt d ps base holds h) base.sane h

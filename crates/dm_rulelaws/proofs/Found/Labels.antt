@@ -5,12 +5,12 @@ use Rattle.dm_rulelaws.proofs.Names.{not_kernels, AtHome, homes_are, at_home, Sa
 use Rattle.dm_rulelaws.proofs.Names.{zero_cases, acting_dropped, ◌⊎◌, Bool, pid_eq, plain_kind, PlainWhat, Alive, PlainProcess, pid_eq-is, bind-is, when-is, is_kill, nat_lt, List, [], length, if◌then◌else◌, id_eq, id_of, switchboard}
 use Rattle.dm_rulelaws.proofs.Names.{manager, bind, answer_id, id_eq-is, Addresses, Gets, landing_gets, serves_burden, board_takes_burden, manager_takes_burden, not_true, nat_tests, unentered, Sound, id_in, landed_id, served_id, board_id}
 use Rattle.dm_rulelaws.proofs.Names.{manager_id, took_id, bag_sends, bag_served, bag_gone, bag_no_space, bag_created, bag_took, spares, spares_both, two_more, made_spares, sends_spares, receives_spares, creates_what_spares, finds_spares}
-use Rattle.dm_rulelaws.proofs.Names.{keeps_spares, manager_takes_spares, KernelFits, topic_by, bag_answered, aim, sets, not, filter, ◌==◌, Step, Load, Stage, About, Known, Frozen, Incoming, view_after, after_head, after_stage, AskedBy}
-use Rattle.dm_rulelaws.proofs.Names.{after_proto, queued_for, held_for, taken_id, oldest, gone_to, front_of, label_of, kernel_after, is_put, hushed, queued_known, held_known, proto_known, proto_acting, option_map_or, NothingElse}
+use Rattle.dm_rulelaws.proofs.Names.{keeps_spares, manager_takes_spares, KernelFits, topic_by, bag_answered, aim, sets, not, filter, ◌==◌, Step, Stage, About, Known, Frozen, Incoming, view_after, after_head, after_stage, AskedBy}
+use Rattle.dm_rulelaws.proofs.Names.{after_proto, queued_for, held_for, taken_id, oldest, gone_to, front_of, label_of, kernel_after, is_put, hushed, queued_known, held_known, proto_known, proto_acting, option_map_or, at_view, NothingElse}
 use Rattle.dm_rule.specs.View.{Ended}
 use Rattle.dm_rule.proofs.Trails.Places.{Owns}
 use Rattle.dm_rulelaws.proofs.Fits.Start.{fits_step}
-use Rattle.dm_rulelaws.proofs.Found.Lists.{places_label, places_about, Places, Brings, places_line, AllAre, all_as, Sends, step_leaves, created_for}
+use Rattle.dm_rulelaws.proofs.Found.Lists.{places_label, Places, Brings, places_line, AllAre, all_as, Sends, step_leaves, created_for, places_as}
 use Rattle.dm_rulelaws.proofs.Found.Core.{AboutIs, KnowsAt, Knows, IsAt, KnownIs, LineCore, Grows, Learns, learns_nothing, learns, knows_grow, own_grows, about_grows, core_view, known_grows, NeedsPut, put_core, NeedsForward, NeedsSent}
 use Rattle.dm_rulelaws.proofs.Found.Core.{forwarded_core, sent_core, updated_core}
 use Rattle.dm_rulelaws.proofs.Based.Loud.{SetLife, some_alike, step_alike, step_ends, step_serves, step_creates}
@@ -22,6 +22,7 @@ use Rattle.dm_onekernel.specs.Service as service
 use Rattle.dm_onekernel.specs.Switchboard as board
 use Rattle.dm_onekernel.specs.Manager as manage
 use Rattle.dm_rule.specs.Addresses as addresses
+use Rattle.dm_rule.specs.Given as request
 use Rattle.dm_rulelaws.proofs.Names.{acting_place, move_target}
 
 -- what enters is none that was told of
@@ -36,33 +37,27 @@ lands_spares v a p _ i new = refl
 serve_spares : (v : View) (a : Addresses) (id : MsgId) (m : PlainMessage) (x : PlainProcess) (w : PlainWhat) (i : MsgId) → ((j : MsgId) → served_id id m x w ≡ Some j → id_eq j i ≡ false) → spares i (serves_burden v a id m x w) ≡ true
 serve_spares v a id m x w i h1 = search (arith, two_more, lands_spares, m.to, x.status)
 
-creates_spares : (v : View) (a : Addresses) (id : MsgId) (child : Pid) (o : Option PlainMessage) (i : MsgId) → id_eq (answer_id id) i ≡ false → spares i (addresses.creation_gets v a id child o) ≡ true
-creates_spares v a id child o i h1 = search (arith, two_more, creates_what_spares)
-
 board_takes_spares : (s : OneKernel) (v : View) (a : Addresses) (id : MsgId) (w : PlainWhat) (i : MsgId) → id_eq (id_of switchboard s.switchboard.sent) i ≡ false → spares i (board_takes_burden s v a id w) ≡ true
 board_takes_spares s v a id (PlainWhat.User b1 b2 b3 b4) i e = search (arith, s.switchboard.sent, s.switchboard.names, two_more, spares_both, finds_spares, keeps_spares)
 board_takes_spares s v a id _ i e = refl
 
-message_in : (o : Option manage.ManagerTook) (i : MsgId) → ((j : MsgId) → manager_id o ≡ Some j → id_eq j i ≡ false) → (k : manage.ManagerTook) → o ≡ Some k → (x : PlainMessage) → k.message ≡ Some x → id_eq x.id i ≡ false
-message_in o i new k is x has = new x.id (ap manager_id is ∙ ap id_in has)
-
-takes_spares : (s t : OneKernel) (v : View) (a : Addresses) (id : MsgId) (m : PlainMessage) (b c : Bool) (i : MsgId) → id_eq (id_of switchboard s.switchboard.sent) i ≡ false
-    → ((j : MsgId) → (if b then board_id (board.board_takes s.switchboard m m.what) else if c then manager_id (manage.manager_takes s.manager s.machines (length s.images) m m.what) else None) ≡ Some j → id_eq j i ≡ false)
-    → (if b then bind (board.board_takes s.switchboard m m.what) (λ (k : board.BoardTook). Some (service.switchboard_took s id k))
-    else if c then bind (manage.manager_takes s.manager s.machines (length s.images) m m.what) (λ (k : manage.ManagerTook). Some (service.manager_took s id k))
-    else None) ≡ Some t
-    → spares i (if b then board_takes_burden s v a id m.what else manager_takes_burden s v a m m.what (manage.manager_takes s.manager s.machines (length s.images) m m.what)) ≡ true
-takes_spares s t v a id m b c i h1 h2 h3 = search (arith, board_takes_spares, m.what, s.manager, s.machines, s.images, manager_takes_spares, message_in)
-
 took_spares : (r e : MsgId → ℕ) (s t : OneKernel) (v : View) (a : Addresses) (id : MsgId) (m : PlainMessage) (i : MsgId) → s.bag id ≡ Some m → service.takes s id m ≡ Some t → ((j : MsgId) → took_id s m ≡ Some j → e j ≡ 0) → Sound r e s → 1 ≤ e i
     → spares i (addresses.taking_gets s v a id (Some m)) ≡ true
 took_spares r e s t v a id m i there is fresh h least =
+    let takes_spares : (s t : OneKernel) (v : View) (a : Addresses) (id : MsgId) (m : PlainMessage) (b c : Bool) (i : MsgId) → id_eq (id_of switchboard s.switchboard.sent) i ≡ false
+      → ((j : MsgId) → (if b then board_id (board.board_takes s.switchboard m m.what) else if c then manager_id (manage.manager_takes s.manager s.machines (length s.images) m m.what) else None) ≡ Some j → id_eq j i ≡ false)
+      → (if b then bind (board.board_takes s.switchboard m m.what) (λ (k : board.BoardTook). Some (service.switchboard_took s id k))
+      else if c then bind (manage.manager_takes s.manager s.machines (length s.images) m m.what) (λ (k : manage.ManagerTook). Some (service.manager_took s id k))
+      else None) ≡ Some t
+      → spares i (if b then board_takes_burden s v a id m.what else manager_takes_burden s v a m m.what (manage.manager_takes s.manager s.machines (length s.images) m m.what)) ≡ true =
+      let message_in : (o : Option manage.ManagerTook) (i : MsgId) → ((j : MsgId) → manager_id o ≡ Some j → id_eq j i ≡ false) → (k : manage.ManagerTook) → o ≡ Some k → (x : PlainMessage) → k.message ≡ Some x → id_eq x.id i ≡ false =
+        λ o i new k is x has. new x.id (ap manager_id is ∙ ap id_in has) in
+      λ s t v a id m b c i h1 h2 h3. search (arith, board_takes_spares, m.what, s.manager, s.machines, s.images, manager_takes_spares, message_in) in
     takes_spares s t v a id m (pid_eq m.to switchboard) (pid_eq m.to manager) i
     (apart_from e i (id_of switchboard s.switchboard.sent) least (unentered r e s (id_of switchboard s.switchboard.sent) h.entered (let z : nat_lt s.switchboard.sent s.switchboard.sent ≡ false = grind (arith, nat_tests) in z)))
     (λ j f. apart_from e i j least (fresh j f)) is
 
-ended_spares : (v : View) (a : Addresses) (id : MsgId) (o : Option Pid) (i : MsgId) → id_eq (answer_id id) i ≡ false
-    → spares i (option_map_or (λ (p : Pid). gets (Receiver (answer_id id)) (a (AskedBy p)) ∷ gets (Sender (answer_id id)) (acting_place v p) ∷ []) o []) ≡ true
+ended_spares : (v : View) (a : Addresses) (id : MsgId) (o : Option Pid) (i : MsgId) → id_eq (answer_id id) i ≡ false → spares i (option_map_or (λ (p : Pid). gets (Receiver (answer_id id)) (a (AskedBy p)) ∷ gets (Sender (answer_id id)) (acting_place v p) ∷ []) o []) ≡ true
 ended_spares v a id None i e = refl
 ended_spares v a id (Some p) i e = two_more i (answer_id id) [] e refl
 
@@ -73,8 +68,7 @@ told_spares r e s t v a (Label.Send p id) i is h least = sends_spares s v a p id
 told_spares r e s t v a (Label.Receive p id) i is h least = receives_spares a p id (kernel.alive (s.processes p)) (s.bag id) i
 told_spares r e s t v a (Label.Served id) i is h least =
     let q = bag_served r e s t id is h in
-    let gs_is : serves_burden v a id q.m q.x q.m.what ≡ gives s v a (Label.Served id) = ap (λ (o : Option PlainProcess). option_map_or (λ y. serves_burden v a id q.m y q.m.what) o []) (sym (ap kernel.alive q.alive))
-        ∙ ap (addresses.service_gets s v a id) (sym q.there) in
+    let gs_is : serves_burden v a id q.m q.x q.m.what ≡ gives s v a (Label.Served id) = ap (λ (o : Option PlainProcess). option_map_or (λ y. serves_burden v a id q.m y q.m.what) o []) (sym (ap kernel.alive q.alive)) ∙ ap (addresses.service_gets s v a id) (sym q.there) in
     subst (λ (gs : List Gets). spares i gs ≡ true) gs_is (serve_spares v a id q.m q.x q.m.what i (λ j f. apart_from e i j least (q.is.fresh j f)))
 told_spares r e s t v a (Label.Gone id) i is h least = two_more i (answer_id id) [] (apart_from e i (answer_id id) least ((bag_gone r e s t id is h).fresh (answer_id id) refl)) refl
 told_spares r e s t v a (Label.Took id) i is h least =
@@ -83,7 +77,7 @@ told_spares r e s t v a (Label.Took id) i is h least =
     let same : q.m ≡ m = let f : Some q.m ≡ Some m = sym q.there ∙ there in cc in
     subst (λ (gs : List Gets). spares i gs ≡ true) (ap (addresses.taking_gets s v a id) (sym there))
     (took_spares r e s t v a id m i there rest (λ j f. q.is.fresh j (ap (took_id s) same ∙ f)) h least)
-told_spares r e s t v a (Label.Created id child) i is h least = creates_spares v a id child (s.bag id) i (apart_from e i (answer_id id) least ((bag_created r e s t id child is h).fresh (answer_id id) refl))
+told_spares r e s t v a (Label.Created id child) i is h least = search (arith, two_more, creates_what_spares, apart_from e i (answer_id id) least ((bag_created r e s t id child is h).fresh (answer_id id) refl))
 told_spares r e s t v a (Label.NoSpace id f b) i is h least = two_more i (answer_id id) [] (apart_from e i (answer_id id) least ((bag_no_space r e s t id f b is h).fresh (answer_id id) refl)) refl
 told_spares r e s t v a (Label.Asked id) i is h least = search arith
 told_spares r e s t v a (Label.Answered id o) i is h least = ended_spares v a id (s.noted id) i (apart_from e i (answer_id id) least ((bag_answered r e s t id o is h).fresh (answer_id id) refl))
@@ -108,14 +102,11 @@ pub record Born (s : OneKernel) (id : MsgId) (child q : Pid) : Type 0 where
   pub home : child.home ≡ m.to.home
   pub is : child ≡ q
 
-child_home : (s t : OneKernel) (id : MsgId) (m : PlainMessage) (child : Pid) (w : PlainWhat) → service.creates s id m child w ≡ Some t → child.home ≡ m.to.home
-child_home s t id m child w h1 = search (arith, bind-is, s.images, m.to.home, s.made, when-is, m.to, pid_eq-is, both)
-
 pub created_made : (s t : OneKernel) (id : MsgId) (child : Pid) → kernel.step s (Label.Created id child) ≡ Some t → (q : Pid) → is_some (t.processes q) ≡ true → (is_some (s.processes q) ≡ true) ⊎ Born s id child q
 created_made s t id child is q some = elim (cases_Bool (pid_eq child q)) [
   | inl same ↦
       let (m, there, rest) = bind-is (s.bag id) (λ v. service.creates s id v child v.what) t is in
-      inr (record { m = m; there = there; home = child_home s t id m child m.what rest; is = pid_eq-is child q same })
+      inr (record { m = m; there = there; home = search (arith, bind-is, s.images, m.to.home, s.made, when-is, m.to, pid_eq-is, both); is = pid_eq-is child q same })
   | inr apart ↦ inl (sym (some_alike (t.processes q) (s.processes q) ((step_creates s t id child is).off q apart)) ∙ some)
 ]
 
@@ -186,9 +177,6 @@ keeps_receiver pt s l i h is some =
       | inr other ↦ told_spares h.r h.e pt.kernel s pt.view pt.addresses l i is h.sound (entered pt i h some other)
     ])
 
-sends_grow : (n : ℕ) (s t : OneKernel) (q : Pid) → Grown s t → Sends n s q → Sends n t q
-sends_grow n s t q grown h = search (arith, s.processes, t.processes, grown_none, grown.lives)
-
 label_all : (n : ℕ) (pt : Point) (s : OneKernel) (l : Label) → Sane pt → kernel.step pt.kernel l ≡ Some s → AtHome (Knows pt.view) s (given pt.addresses (gives pt.kernel pt.view pt.addresses l)) → LineCore n pt
     → AllAre (Knows pt.view) s pt.view (given pt.addresses (gives pt.kernel pt.view pt.addresses l))
 label_all n pt s l sane is home h g q (Links e) = homes_are (Knows pt.view) s (given pt.addresses (gives pt.kernel pt.view pt.addresses l)) home g q e
@@ -208,7 +196,7 @@ other_home n pt s w grows made h q some = grows q.home q (h.home q (made q some)
 label_home : (n : ℕ) (pt : Point) (s : OneKernel) (l : Label) → NeedsLabel pt l → kernel.step pt.kernel l ≡ Some s → Grows pt.view (after_label pt.view l) → LineCore n pt → (q : Pid) → is_some (s.processes q) ≡ true → (after_label pt.view l).known q.home q ≢ Unknown
 label_home n pt s l h1 h2 h3 h4 q h5 = search (arith, created_made, pt.kernel, q.home, pt.view, pt.view.acting, received_at, created_for, at_record_at, pt.view.known, other_home, step_made)
 
-asked_within : (n : ℕ) (s : OneKernel) (v : View) (i : MsgId) (o : Option PlainMessage) → s.bag i ≡ o → s.machines ≡ n → KernelFits s → AboutIs n v (option_map_or (λ (m : PlainMessage). move_target m.what) o NothingElse)
+asked_within : (n : ℕ) (s : OneKernel) (v : View) (i : MsgId) (o : Option PlainMessage) → s.bag i ≡ o → s.machines ≡ n → KernelFits s → AboutIs n v (option_map_or (λ m. move_target m.what) o NothingElse)
 asked_within n s v i None there same h = tt
 asked_within n s v i (Some m) there same h = search (arith, m.what)
 
@@ -218,6 +206,7 @@ topic_within n s v _ same h old = old
 
 pub label_core : (n : ℕ) (pt : Point) (s : OneKernel) (l : Label) → Sane pt → NeedsLabel pt l → kernel.step pt.kernel l ≡ Some s → LineCore n pt → LineCore n (moved pt (Line.Label l) s)
 label_core n pt s l sane need is h =
+    let sends_grow : (n : ℕ) (s t : OneKernel) (q : Pid) → Grown s t → Sends n s q → Sends n t q = λ n s t q grown h. search (arith, s.processes, t.processes, grown_none, grown.lives) in
     let v = pt.view in
     let w = after_label v l in
     let a = pt.addresses in
@@ -248,48 +237,37 @@ label_core n pt s l sane need is h =
     } in
     let a_ = topic_by pt.kernel w.topic (Some l) in
     let u = view.about w a_ in
+    -- the topic is no place
+    let places_about : (G : MsgId → ℕ → Type 0) (v : View) (a : About) → Places G v → Places G (view.about v a) = λ G v a h. places_as G v (view.about v a) refl refl refl (λ b c. refl) h in
     core_view n behind u b core.acting (λ m q e. e) (λ m q. known_grows n w u m q (w.known m q) (λ x y e. e) (core.known m q)) refl (about_grows n w u a_ (λ m q e. e) (topic_within n pt.kernel w l h.machines h.fits core.topic))
     core.all (places_about (IsAt b w) w a_ core.places) core
 
 -- Each line keeps where addresses lead, what machines know, and where messages stand, if it has what it needs.
-
-abbrev at_view : Point → View → Point
-at_view pt w = record { kernel = pt.kernel; view = w; addresses = pt.addresses }
 
 -- a line that only says what a machine learns
 learnt_core : (n : ℕ) (pt : Point) (w : View) → Learns n pt.view w → w.told ≡ pt.view.told → AboutIs n w w.topic → Places (IsAt pt.addresses pt.view) w → LineCore n pt → LineCore n (at_view pt w)
 learnt_core n pt w learnt told topic places h = core_view n pt w pt.addresses (subst (λ (k : ℕ). k < n) (sym learnt.acting) h.acting) learnt.grows learnt.known told topic h.all places h
 
 -- and one that says nothing of processes
-quiet_core : (n : ℕ) (pt : Point) (l : Line) → is_put l ≡ false → (view_after pt.view l).acting ≡ pt.view.acting → ((m : ℕ) (q : Pid) → (view_after pt.view l).known m q ≡ pt.view.known m q) → (view_after pt.view l).told ≡ pt.view.told → AboutIs n pt.view (view_after pt.view l).topic
+pub quiet_core : (n : ℕ) (pt : Point) (l : Line) → is_put l ≡ false → (view_after pt.view l).acting ≡ pt.view.acting → ((m : ℕ) (q : Pid) → (view_after pt.view l).known m q ≡ pt.view.known m q) → (view_after pt.view l).told ≡ pt.view.told → AboutIs n pt.view (view_after pt.view l).topic
     → Brings (IsAt pt.addresses pt.view) pt.view l → LineCore n pt → LineCore n (at_view pt (view_after pt.view l))
 quiet_core n pt l quiet acting known told topic brings h =
     let learnt = learns_nothing n pt.view (view_after pt.view l) acting known h.known in
     learnt_core n pt (view_after pt.view l) learnt told (about_grows n pt.view (view_after pt.view l) (view_after pt.view l).topic learnt.grows topic) (places_line (IsAt pt.addresses pt.view) pt.view l brings h.places) h
 
 queued_acting : (v : View) (i : MsgId) (o : Option Pid) → ((queued_for v i o).acting ≡ v.acting) × ((queued_for v i o).topic ≡ v.topic)
-queued_acting v i None = (refl, refl)
-queued_acting v i (Some p) = (refl, refl)
+queued_acting v i o = search arith
 
 held_acting : (v : View) (i : MsgId) (o : Option Pid) → ((held_for v i o).acting ≡ v.acting) × ((held_for v i o).topic ≡ v.topic)
-held_acting v i None = (refl, refl)
-held_acting v i (Some p) = (refl, refl)
-
-taken_same : (v : View) (b : ℕ) (o : Option MsgId) → ((taken_id v b o).acting ≡ v.acting) × ((taken_id v b o).known ≡ v.known) × ((taken_id v b o).topic ≡ v.topic)
-taken_same v b None = (refl, refl, refl)
-taken_same v b (Some i) = (refl, refl, refl)
+held_acting v i o = search arith
 
 proto_topic : (n : ℕ) (pt : Point) (i : MsgId) (o : Option Told) → pt.view.told i ≡ o → LineCore n pt → AboutIs n pt.view (after_proto (handled pt.view i) o).topic
-proto_topic n pt i None is h = tt
-proto_topic n pt i (Some t) is h = h.tells i t is
+proto_topic n pt i o is h = search (arith, h.tells)
 
 -- a step of a migration
 gone_is : (n : ℕ) (v : View) (m : ℕ) (p : Pid) (k : Known) (moves : ℕ) → ((to : ℕ) → k ≡ Frozen to → v.known to p ≢ Unknown) → KnownIs n v m p k → KnownIs n v m p (gone_to k moves)
 gone_is n v m p (Frozen to) moves there h = (h.0, there to refl, h.2)
 gone_is n v m p _ moves there h = h
-
-gone_unknown : (k : Known) (moves : ℕ) → gone_to k moves ≡ Unknown → k ≡ Unknown
-gone_unknown k moves h1 = search arith
 
 abbrev pub NeedsStage : ℕ → Point → Pid → Stage → Type 0
 NeedsStage n pt p Stage.Frozen = (aim pt.view pt.view.topic < n) × (is_fixed p ≡ false)
@@ -299,23 +277,21 @@ NeedsStage n pt p _ = ⊤
 
 stage_learns : (n : ℕ) (pt : Point) (p : Pid) (s : Stage) → NeedsStage n pt p s → LineCore n pt → Learns n pt.view (after_stage pt.view p s)
 stage_learns n pt p Stage.Frozen need h =
-    let set = sets pt.view p pt.view.topic in
-    learns n pt.view (after_stage pt.view p Stage.Frozen) p (Frozen (aim pt.view pt.view.topic)) set.acting set.known (λ e. cc) (h.acting, need.0, need.1) h.known
+    learns n pt.view (after_stage pt.view p Stage.Frozen) p (Frozen (aim pt.view pt.view.topic)) (sets pt.view p pt.view.topic).acting (sets pt.view p pt.view.topic).known (λ e. cc) (h.acting, need.0, need.1) h.known
 stage_learns n pt p Stage.Accepted need h = learns n pt.view (after_stage pt.view p Stage.Accepted) p (Incoming (front_of (pt.view.inbox pt.view.acting))) refl refl (λ e. cc) (h.acting, need.0, need.1) h.known
 stage_learns n pt p Stage.Left need h =
+    let gone_unknown : (k : Known) (moves : ℕ) → gone_to k moves ≡ Unknown → k ≡ Unknown = λ k moves h1. search arith in
     let v = pt.view in
     let moves = v.moves p + 1 in
     learns n v (after_stage v p Stage.Left) p (gone_to (v.known v.acting p) moves) refl refl (gone_unknown (v.known v.acting p) moves) (gone_is n v v.acting p (v.known v.acting p) moves need (h.known v.acting p)) h.known
 stage_learns n pt p Stage.Restarted need h = learns n pt.view (after_stage pt.view p Stage.Restarted) p Here refl refl (λ e. cc) h.acting h.known
 stage_learns n pt p any_ need h = learns_nothing n pt.view (after_stage pt.view p any_) refl (λ m q. refl) h.known
 
-stage_topic : (n : ℕ) (pt : Point) (p : Pid) (s : Stage) → LineCore n pt → AboutIs n pt.view (after_stage pt.view p s).topic
-stage_topic n pt p s h1 = search (arith, pt.view, sets, pt.view.topic)
-
 stage_core : (n : ℕ) (pt : Point) (p : Pid) (s : Stage) → NeedsStage n pt p s → LineCore n pt → LineCore n (at_view pt (after_stage pt.view p s))
 stage_core n pt p s need h =
     let learnt = stage_learns n pt p s need h in
-    learnt_core n pt (after_stage pt.view p s) learnt (hushed pt.view (Line.Migration s p) refl).told (about_grows n pt.view (after_stage pt.view p s) (after_stage pt.view p s).topic learnt.grows (stage_topic n pt p s h))
+    let stage_topic : AboutIs n pt.view (after_stage pt.view p s).topic = search (arith, pt.view, sets, pt.view.topic) in
+    learnt_core n pt (after_stage pt.view p s) learnt (hushed pt.view (Line.Migration s p) refl).told (about_grows n pt.view (after_stage pt.view p s) (after_stage pt.view p s).topic learnt.grows stage_topic)
     (places_line (IsAt pt.addresses pt.view) pt.view (Line.Migration s p) tt h.places) h
 
 stays_core : (n : ℕ) (pt : Point) (p : Pid) → LineCore n pt → LineCore n (at_view pt (view_after pt.view (Line.Stays p)))
@@ -349,9 +325,6 @@ head_core : (n : ℕ) (pt : Point) (d : Step) → NeedsHead n d → LineCore n p
 head_core n pt (Step.Migrate p m) need h = core_view n pt (after_head pt.view (Step.Migrate p m)) pt.addresses need.0 (λ i q e. e) (head_known n pt.view (after_head pt.view (Step.Migrate p m)) refl h.known) refl need.1 h.all (places_line (IsAt pt.addresses pt.view) pt.view (Line.Head (Step.Migrate p m)) tt h.places) h
 head_core n pt any_ need h = core_view n pt (after_head pt.view any_) pt.addresses need (λ i q e. e) (head_known n pt.view (after_head pt.view any_) refl h.known) refl tt h.all (places_line (IsAt pt.addresses pt.view) pt.view (Line.Head any_) tt h.places) h
 
-pub packet_core : (n : ℕ) (pt : Point) (a b k : ℕ) (l : Load) → LineCore n pt → LineCore n (moved pt (Line.Packet a b k l) pt.kernel)
-packet_core n pt a b k l h = quiet_core n pt (Line.Packet a b k l) refl refl (λ m q. refl) refl h.topic tt h
-
 -- each line keeps all of it
 pub line_core : (n : ℕ) (pt : Point) (s : OneKernel) (l : Line) → NeedsLine n pt l → Sane pt → kernel_after pt.kernel (label_of l) ≡ Some s → LineCore n pt → LineCore n (moved pt l s)
 line_core n pt s (Line.Label l) need sane is h = label_core n pt s l sane need is h
@@ -362,16 +335,14 @@ line_core n pt s (Line.SentOn p k) need sane is h = let f : pt.kernel ≡ s = cc
 line_core n pt s (Line.Updated id k) need sane is h = let f : pt.kernel ≡ s = cc in subst (λ (x : OneKernel). LineCore n (moved pt (Line.Updated id k) x)) f (updated_core n pt id k h)
 line_core n pt s (Line.Migration t p) need sane is h = let f : pt.kernel ≡ s = cc in subst (λ (x : OneKernel). LineCore n (moved pt (Line.Migration t p) x)) f (stage_core n pt p t need h)
 line_core n pt s (Line.Stays p) need sane is h = let f : pt.kernel ≡ s = cc in subst (λ (x : OneKernel). LineCore n (moved pt (Line.Stays p) x)) f (stays_core n pt p h)
-line_core n pt s (Line.Idle m) need sane is h = let f : pt.kernel ≡ s = cc in subst (λ (x : OneKernel). LineCore n (moved pt (Line.Idle m) x)) f (quiet_core n pt (Line.Idle m) refl (refl) (λ m q. refl) (refl) (h.topic) tt h)
-line_core n pt s (Line.Resent m k) need sane is h = let f : pt.kernel ≡ s = cc in subst (λ (x : OneKernel). LineCore n (moved pt (Line.Resent m k) x)) f (quiet_core n pt (Line.Resent m k) refl (refl) (λ m q. refl) (refl) (h.topic) tt h)
 line_core n pt s (Line.Lacks p a b) need sane is h = let f : pt.kernel ≡ s = cc in subst (λ (x : OneKernel). LineCore n (moved pt (Line.Lacks p a b) x)) f (quiet_core n pt (Line.Lacks p a b) refl (refl) (λ m q. refl) (refl) (tt) tt h)
 line_core n pt s (Line.Queued id) need sane is h = let f : pt.kernel ≡ s = cc in subst (λ (x : OneKernel). LineCore n (moved pt (Line.Queued id) x)) f (quiet_core n pt (Line.Queued id) refl ((queued_acting (handled pt.view id) id (receiver_of (pt.view.told id))).0) (λ m q. queued_known (handled pt.view id) id (receiver_of (pt.view.told id)) m q) ((hushed pt.view (Line.Queued id) refl).told) (subst (AboutIs n pt.view) (sym (queued_acting (handled pt.view id) id (receiver_of (pt.view.told id))).1) h.topic) need h)
 line_core n pt s (Line.Held id) need sane is h = let f : pt.kernel ≡ s = cc in subst (λ (x : OneKernel). LineCore n (moved pt (Line.Held id) x)) f (quiet_core n pt (Line.Held id) refl ((held_acting (handled pt.view id) id (receiver_of (pt.view.told id))).0) (λ m q. held_known (handled pt.view id) id (receiver_of (pt.view.told id)) m q) ((hushed pt.view (Line.Held id) refl).told) (subst (AboutIs n pt.view) (sym (held_acting (handled pt.view id) id (receiver_of (pt.view.told id))).1) h.topic) need h)
 line_core n pt s (Line.Proto id) need sane is h = let f : pt.kernel ≡ s = cc in subst (λ (x : OneKernel). LineCore n (moved pt (Line.Proto id) x)) f (quiet_core n pt (Line.Proto id) refl (proto_acting (handled pt.view id) (pt.view.told id)) (λ m q. proto_known (handled pt.view id) (pt.view.told id) m q) ((hushed pt.view (Line.Proto id) refl).told) (proto_topic n pt id (pt.view.told id) refl h) tt h)
 line_core n pt s (Line.Taken a b k) need sane is h =
+    let taken_same : (v : View) (b : ℕ) (o : Option MsgId) → ((taken_id v b o).acting ≡ v.acting) × ((taken_id v b o).known ≡ v.known) × ((taken_id v b o).topic ≡ v.topic) = λ v b o. search arith in
     let f : pt.kernel ≡ s = cc in
-    let u = view.with_pair pt.view a b (record (pt.view.pair a b) { taken = (pt.view.pair a b).taken + 1; kept = filter (λ j. not (j == k)) (pt.view.pair a b).kept }) in
-    let same = taken_same u b (oldest (pt.view.pair a b)) in
+    let same = taken_same (view.with_pair pt.view a b (record (pt.view.pair a b) { taken = (pt.view.pair a b).taken + 1; kept = filter (λ j. not (j == k)) (pt.view.pair a b).kept })) b (oldest (pt.view.pair a b)) in
     subst (λ (t : OneKernel). LineCore n (moved pt (Line.Taken a b k) t)) f
     (quiet_core n pt (Line.Taken a b k) refl same.0 (λ m q. ap (λ (g : ℕ → Pid → Known). g m q) same.1) (hushed pt.view (Line.Taken a b k) refl).told (subst (AboutIs n pt.view) (sym same.2) h.topic) tt h)
 line_core n pt s any_ need sane is h = let f : pt.kernel ≡ s = cc in subst (λ (x : OneKernel). LineCore n (moved pt any_ x)) f (quiet_core n pt any_ refl (refl) (λ m q. refl) (refl) (h.topic) tt h)

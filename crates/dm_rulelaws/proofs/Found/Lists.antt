@@ -2,13 +2,13 @@
 use Rattle.dm_rulelaws.proofs.Names.{◌≡◌, ◌⊎◌, ℕ, zero, suc, ◌+◌, ◌≤◌, ◌==◌, Bool, true, false, not, filter, List, [], ◌∷◌, ◌++◌, refl, sym, subst, inl, inr, arith, ⊤, if◌then◌else◌, drop, Option, None, Some, Pid, MsgId, MessageKind, Label}
 use Rattle.dm_rulelaws.proofs.Names.{id_eq-is, id_eq-same, Line, Stage, at_machine, at_pair, at_record, without_id, without_front, View, Pair, Told, About, view_after, after_label, after_put, after_taken, after_stage, after_proto, handled}
 use Rattle.dm_rulelaws.proofs.Names.{handled_first, queued_for, held_for, forwarded_for, rejoins, served_told, receiver_of, taken_id, oldest, routed_on, Spot, Queue, Held, Inbox, Untaken, times, untaken, standing, eq_is, parts, at_place}
-use Rattle.dm_rulelaws.proofs.Names.{pair_keeps, times-append, machine_of, ap, ◌∙◌, cases_Bool, false≢true, Place, id_eq, manager, OneKernel, is_kernels, own_id, Addresses, Holder, Receiver, Sender, Gets, given, holder_eq, place_known}
-use Rattle.dm_rulelaws.proofs.Names.{all_follow, is_told_back, told_back_gets, forwards, place_told, is_behind, updated_to, updated, own_given, first_gives, one_of, put_told_off, put_at, Goes, Comes, Named, Links, holder_is}
-use Rattle.dm_rulelaws.proofs.Names.{unnamed_receiver, unnamed_sender, put_named, told_again, is_own, leads_where, behind_where, plain_gives, not_own, ◌<◌, is_some, nat_tests, PlainMessage, is_fixed, by_step, MoveNote, sort_of, dropped_for}
+use Rattle.dm_rulelaws.proofs.Names.{pair_keeps, times-append, machine_of, ap, ◌∙◌, cases_Bool, Place, manager, OneKernel, is_kernels, own_id, Addresses, Holder, Receiver, Sender, Gets, given, holder_eq, place_known, all_follow}
+use Rattle.dm_rulelaws.proofs.Names.{is_told_back, told_back_gets, forwards, place_told, is_behind, updated_to, updated, own_given, first_gives, one_of, Goes, Comes, Named, Links, holder_is, unnamed_receiver, unnamed_sender, put_named}
+use Rattle.dm_rulelaws.proofs.Names.{told_again, is_own, leads_where, behind_where, plain_gives, ◌<◌, is_some, nat_tests, PlainMessage, is_fixed, by_step, MoveNote, sort_of, dropped_for, routed_named}
 use Rattle.dm_rule.proofs.Trails.Places.{Owns}
 use Rattle.dm_rulelaws.proofs.Based.Sets.{set_all, without_fewer, front_fewer, last_of}
 use Rattle.dm_rulelaws.proofs.Fits.Constants.{step_constant}
-use Rattle.dm_rulelaws.proofs.Own.Told.{Origin, brings}
+use Rattle.dm_rulelaws.proofs.Own.Told.{brings}
 use Rattle.dm_rule.specs.View as view
 use Rattle.dm_onekernel.specs.Service as service
 use Rattle.dm_onekernel.specs.Step as kernel
@@ -74,7 +74,7 @@ drop_last G j (x ∷ xs) zero new old i e = elim (either i (x ∷ xs) (j ∷ [])
 drop_last G j (x ∷ xs) (suc k) new old i e = drop_last G j xs k new old i e
 
 -- the same lists
-places_as : (G : MsgId → ℕ → Type 0) (v w : View) → w.queue ≡ v.queue → w.held ≡ v.held → w.inbox ≡ v.inbox → ((a b : ℕ) → untaken (w.pair a b) ≡ untaken (v.pair a b)) → Places G v → Places G w
+pub places_as : (G : MsgId → ℕ → Type 0) (v w : View) → w.queue ≡ v.queue → w.held ≡ v.held → w.inbox ≡ v.inbox → ((a b : ℕ) → untaken (w.pair a b) ≡ untaken (v.pair a b)) → Places G v → Places G w
 places_as G v w queue held inbox out h = search (arith, places_of)
 
 -- another inbox on the acting machine
@@ -124,9 +124,8 @@ places_taken : (G : MsgId → ℕ → Type 0) (v : View) (a b n : ℕ) → Place
 places_taken G v a b n h =
     let p = v.pair a b in
     let q : Pair = record p { taken = p.taken + 1; kept = filter (λ k. not (k == n)) p.kept } in
-    let u = view.with_pair v a b q in
-    places_taken_id G u b (oldest p) (λ i e. h i (Untaken a b) (search (arith, p.taken, p.ids, at_place, id_eq-same)))
-    (places_of G u (λ m r i e. h i (Queue m r) e) (λ m r i e. h i (Held m r) e) (λ m i e. h i (Inbox m) e)
+    places_taken_id G (view.with_pair v a b q) b (oldest p) (λ i e. h i (Untaken a b) (search (arith, p.taken, p.ids, at_place, id_eq-same)))
+    (places_of G (view.with_pair v a b q) (λ m r i e. h i (Queue m r) e) (λ m r i e. h i (Held m r) e) (λ m i e. h i (Inbox m) e)
     (λ c d i e. set_pair G v.pair a b q (λ j f. h j (Untaken a b) (drop_more j p.ids p.taken f)) (λ x y j f. h j (Untaken x y) f) c d i e))
 
 -- a put
@@ -151,9 +150,6 @@ places_served G v None h = h
 places_served G v (Some t) h = search (arith, t.kind, t.receiver, places_as)
 
 pub places_label : (G : MsgId → ℕ → Type 0) (v : View) (l : Label) → Places G v → Places G (after_label v l)
-places_label G v (Label.Ran p k) h = places_as G v (after_label v (Label.Ran p k)) refl refl refl (λ a b. refl) h
-places_label G v (Label.End p y) h = places_as G v (after_label v (Label.End p y)) refl refl refl (λ a b. refl) h
-places_label G v (Label.Refuse p id c) h = places_as G v (after_label v (Label.Refuse p id c)) refl refl refl (λ a b. refl) h
 places_label G v (Label.Receive p id) h = places_queue_less G v (after_label v (Label.Receive p id)) p (without_id id (v.queue v.acting p)) refl refl refl refl (λ i e. without_fewer i id (v.queue v.acting p) e) h
 places_label G v (Label.Dropped id) h = places_dropped G (handled v id) id (receiver_of (v.told id)) (places_handled G v id h)
 places_label G v (Label.Served id) h = places_served G (handled v id) (v.told id) (places_handled G v id h)
@@ -162,11 +158,7 @@ places_label G v (Label.Took id) h = places_handled G v id h
 places_label G v (Label.Created id p) h = places_as G (handled v id) (after_label v (Label.Created id p)) refl refl refl (λ a b. refl) (places_handled G v id h)
 places_label G v (Label.NoSpace id f b) h = places_handled G v id h
 places_label G v (Label.Asked id) h = places_handled G v id h
-places_label G v _ h = h
-
--- the topic is no place
-pub places_about : (G : MsgId → ℕ → Type 0) (v : View) (a : About) → Places G v → Places G (view.about v a)
-places_about G v a h = places_as G v (view.about v a) refl refl refl (λ b c. refl) h
+places_label G v any_ h = places_as G v (after_label v any_) refl refl refl (λ a b. refl) h
 
 pub places_stage : (G : MsgId → ℕ → Type 0) (v : View) (p : Pid) (s : Stage) → Places G v → Places G (after_stage v p s)
 places_stage G v p Stage.Asked h = h
@@ -252,20 +244,11 @@ forwarded_all P s v a id u told to bag fresh h =
     subst (λ (o : Option Told). AllAre P s v (given a (forwards v a id o))) (sym told) (given_are P s v a (forwards v a id (Some u)) h (to, back_gets P s v a id (is_told_back u.kind) bag fresh))
 
 -- the messages of a process are sent on
-follow_gets : (P : Pid → Place → Type 0) (s : OneKernel) (v : View) (a : Addresses) (p : Pid) (ids : List MsgId) → ((i : MsgId) (q : Pid) → 1 ≤ times i ids → Named s v (Receiver i) q → P q (place_known (v.known v.acting p) (v.moves p) (a (Receiver i))))
+pub follow_gets : (P : Pid → Place → Type 0) (s : OneKernel) (v : View) (a : Addresses) (p : Pid) (ids : List MsgId) → ((i : MsgId) (q : Pid) → 1 ≤ times i ids → Named s v (Receiver i) q → P q (place_known (v.known v.acting p) (v.moves p) (a (Receiver i))))
     → AllGet P s v (all_follow v a p ids)
 follow_gets P s v a p [] to = tt
-follow_gets P s v a p (i ∷ is) to = ((λ q e. to i q first e), follow_gets P s v a p is (λ j q least. to j q (more j least)))
-  where
-    first : 1 ≤ times i (i ∷ is)
-    first = let e : one_of i i ≡ 1 = ap (λ (c : Bool). if c then 1 else 0) (id_eq-same i) in omega (arith, e)
-
-    more : (j : MsgId) → 1 ≤ times j is → 1 ≤ times j (i ∷ is)
-    more j least = omega (arith, least)
-
-pub sent_on_all : (P : Pid → Place → Type 0) (s : OneKernel) (v : View) (a : Addresses) (p : Pid) (ids : List MsgId)
-    → ((i : MsgId) (q : Pid) → 1 ≤ times i ids → Named s v (Receiver i) q → P q (place_known (v.known v.acting p) (v.moves p) (a (Receiver i)))) → AllAre P s v a → AllAre P s v (given a (all_follow v a p ids))
-sent_on_all P s v a p ids to h = given_are P s v a (all_follow v a p ids) h (follow_gets P s v a p ids to)
+follow_gets P s v a p (i ∷ is) to =
+    ((λ q e. to i q (let f : one_of i i ≡ 1 = ap (λ (c : Bool). if c then 1 else 0) (id_eq-same i) in omega (arith, f)) e), follow_gets P s v a p is (λ j q least. to j q (more_front j i is least)))
 
 update_by : (P : Pid → Place → Type 0) (s : OneKernel) (v : View) (a : Addresses) (r p : Pid) (place : Place) → P p place → AllAre P s v a → AllAre P s v (updated_to s a (Some r) (Some (p, place)))
 update_by P s v a r p place on h g q e = elim (cases_Bool (is_behind s a r p place.moves g)) [
@@ -303,20 +286,6 @@ pub routed_gives : (s : OneKernel) (v : View) (a : Addresses) (id : MsgId) (k : 
 routed_gives s v a id k q plain None h = ap (λ (gs : List Gets). given a gs h) (plain_gives s v a id q k plain)
 routed_gives s v a id k q plain (Some u) h = refl
 
-routed_named : (s : OneKernel) (v : View) (x y : ℕ) (id : MsgId) (k : MessageKind) (q : Pid) (h : Holder) (r : Pid) → is_kernels id ≡ false → is_own k ≡ false → v.told id ≡ None → Named s (after_put v x y id k q) h r → Named s v h r
-routed_named s v x y id k q h r other plain none (Links e) = Links e
-routed_named s v x y id k q h r other plain none (Owns (Goes i u is own told to)) = elim (cases_Bool (id_eq id i)) [
-  | inl same ↦ absurd (false≢true (sym other ∙ ap is_kernels (id_eq-is id i same) ∙ own))
-  | inr apart ↦ Owns (Goes i u is own (sym (put_told_off v x y id i k q apart) ∙ told) to)
-]
-routed_named s v x y id k q h r other plain none (Owns (Comes i u is mine told move to)) = elim (put_named s v x y id k q h r none (Owns (Comes i u is mine told move to))) [
-  | inl old ↦ old
-  | inr new ↦ elim new [
-    | inl way ↦ absurd (let f : Receiver id ≡ Sender i = sym way.0 ∙ is in cc)
-    | inr way ↦ absurd (not_own k plain way.1)
-  ]
-]
-
 pub put_routed : (P : Pid → Place → Type 0) (s : OneKernel) (v : View) (a : Addresses) (x y : ℕ) (id : MsgId) (k : MessageKind) (q : Pid) → is_kernels id ≡ false → is_own k ≡ false → v.told id ≡ None → AllAre P s v a
     → AllAre P s (after_put v x y id k q) (given a (first_gives (v.told id) (own_given s v a id q (sort_of k))))
 put_routed P s v a x y id k q other plain none h g r e = subst (P r) (sym (routed_gives s v a id k q plain (v.told id) g)) (h g r (routed_named s v x y id k q g r other plain none e))
@@ -330,11 +299,6 @@ put_again P s v a x y id k q u told h g r e =
     again_back s v x y id k q u told h r (Links e) = Links e
     again_back s v x y id k q u told h r (Owns (Goes i t is own now to)) = Owns (Goes i t is own (sym (told_again v x y id k q u told i) ∙ now) to)
     again_back s v x y id k q u told h r (Owns (Comes i t is mine now move to)) = Owns (Comes i t is mine (sym (told_again v x y id k q u told i) ∙ now) move to)
-
--- what is told behind a put: what was told before, or this
-pub put_tells : (v : View) (x y : ℕ) (id : MsgId) (k : MessageKind) (q : Pid) (i : MsgId) (u : Told) → (after_put v x y id k q).told i ≡ Some u
-    → (v.told i ≡ Some u) ⊎ ((id ≡ i) × (v.told id ≡ None) × (record { kind = k; receiver = q; about = v.topic } ≡ u))
-put_tells v x y id k q i u h1 = search (arith, id_eq-is, v.told, put_at, put_told_off, v.topic)
 
 -- What a step of the kernel without machines leaves: how many machines there are, and who sends.
 
@@ -361,14 +325,11 @@ for_it s id m there fixed x is = let f : Some m ≡ Some x = sym there ∙ is in
 pub created_for : (s t : OneKernel) (id : MsgId) (child : Pid) → kernel.step s (Label.Created id child) ≡ Some t → IsFor s id
 created_for s t id child = search (arith, by_step, for_it, kernel_fixed)
 
-origin_sends : (n : ℕ) (s : OneKernel) (x : PlainMessage) → s.machines ≡ n → 0 < n → Origin s x → Sends n s x.sender
-origin_sends n s x same some h = search (arith, x.sender.home, kernel_fixed, x.sender, s.machines)
-
 pub step_leaves : (n : ℕ) (s t : OneKernel) (l : Label) → s.machines ≡ n → 0 < n → ((p : Pid) (k : MoveNote) → s.notes p ≡ Some k → is_some (s.processes p) ≡ true) → kernel.step s l ≡ Some t → Leaves n s t
 step_leaves n s t l same some lives is = record {
   machines = (step_constant s t l is).machines;
   senders = λ j x e. elim (brings s t l lives is j x e) [
     | inl old ↦ inl old
-    | inr new ↦ inr (origin_sends n s x same some new)
+    | inr new ↦ inr (let e_ : Sends n s x.sender = search (arith, x.sender.home, kernel_fixed, x.sender, s.machines) in e_)
   ];
 }

@@ -1,14 +1,14 @@
 -- The parts of a group keep where messages stand, where each has what it needs.
 use Rattle.dm_rulelaws.proofs.Names.{◌≡◌, ℕ, ◌<◌, true, false, List, [], ◌∷◌, refl, ◌∙◌, sym, arith, ⊤, Option, None, Some, Pid, pid_of, MsgId, MessageKind, plain_kind, PlainMessage, PlainWhat, manager, id_eq-same, bind-is, Line, Told}
-use Rattle.dm_rulelaws.proofs.Names.{own_id, Holder, Receiver, Sender, given, goes_between, own_given, Point, moved, after, Part, Says, Routes, Again, Owns, Transmits, Spelled, lines_of, puts, spelled, not_kernels, not_first, Sane}
-use Rattle.dm_rulelaws.proofs.Names.{AllSayable, part_sane, is_own, by_parts, ◌+◌, ap, subst, Label, Boot, first_number, PlainProcess, Forward, forwards_on, Stops, by_round, by_handles, ◌==◌, Bool, ◌++◌, if◌then◌else◌, pid_eq, Stage}
-use Rattle.dm_rulelaws.proofs.Names.{switchboard, bind, About, Of, Known, Unknown, Here, target_of, front_of, to_kernel, accepts, takes_block, leaves, pieces_of, told_step, told_here, process_told, told_server, is_between, is_fixed}
-use Rattle.dm_rulelaws.proofs.Names.{Outcome, MoveNote, OneKernel, answers_move, leaves_for, aim, label_of, kernel_after, at_record, at_record_at, tells_asker, View, after_line, packet_line, sort_of}
+use Rattle.dm_rulelaws.proofs.Names.{own_id, Holder, Receiver, Sender, given, goes_between, own_given, Point, moved, after, Part, Says, Routes, Again, Owns, Transmits, lines_of, puts, not_kernels, not_first, Sane, Load, is_own, ◌+◌, ap}
+use Rattle.dm_rulelaws.proofs.Names.{subst, Label, Boot, first_number, PlainProcess, Forward, forwards_on, Stops, by_round, by_handles, ◌==◌, Bool, ◌++◌, if◌then◌else◌, pid_eq, Stage, switchboard, bind, About, Of, Known, Unknown, Here}
+use Rattle.dm_rulelaws.proofs.Names.{target_of, front_of, to_kernel, accepts, takes_block, leaves, pieces_of, told_step, told_here, process_told, told_server, is_between, is_fixed, Outcome, MoveNote, OneKernel, answers_move, leaves_for}
+use Rattle.dm_rulelaws.proofs.Names.{aim, label_of, kernel_after, at_record, at_record_at, tells_asker, View, after_line, packet_line, sort_of, Each}
 use Rattle.dm_rule.specs.View.{Ended}
 use Rattle.dm_rulelaws.proofs.Found.Core.{Knows, IsReal, LineCore, KnowsAt, IsAt, NeedsPut, put_core}
 use Rattle.dm_rulelaws.proofs.Based.Needs.{by_puts, said_by}
 use Rattle.dm_rulelaws.proofs.Fits.Serves.{asked_noted}
-use Rattle.dm_rulelaws.proofs.Found.Labels.{NeedsLine, line_core, packet_core}
+use Rattle.dm_rulelaws.proofs.Found.Labels.{NeedsLine, line_core, quiet_core}
 use Rattle.dm_onekernel.specs.Pieces as pieces
 use Rattle.dm_onekernel.specs.Step as kernel
 use Rattle.dm_rule.specs.Rule as rule
@@ -21,10 +21,6 @@ pub record NeedsOwn (n : ℕ) (pt : Point) (k : MessageKind) (q : Pid) (b : ℕ)
   pub real : IsReal n pt.view q
   pub own : is_own k ≡ true
 
--- from kernel to kernel
-pub between_own : (n : ℕ) (pt : Point) (k : MessageKind) (m : ℕ) → own_given pt.kernel pt.view pt.addresses (own_id pt.view) (pid_of m 0) (sort_of k) ≡ goes_between pt.view (own_id pt.view) (pid_of m 0) → (k ≡ MessageKind.Migrate → ⊥) → is_own k ≡ true → m < n → NeedsOwn n pt k (pid_of m 0) m
-between_own n pt k m gives none own le = search (arith, pt.view, pt.addresses, pt.kernel, id_eq-same)
-
 -- what a part needs
 abbrev pub NeedsPart : ℕ → Point → Part → Type 0
 NeedsPart n pt (Says l) = NeedsLine n pt l
@@ -34,7 +30,9 @@ NeedsPart n pt _ = ⊤
 
 -- a put with its packet
 puts_core : (n : ℕ) (pt next : Point) (b : ℕ) (i : MsgId) (k : MessageKind) (q : Pid) (ls : List Line) → NeedsPut n pt b i k q → LineCore n pt → Some (puts pt.view b i k q) ≡ Some ls → after pt ls ≡ Some next → LineCore n next
-puts_core n pt next b i k q ls need h = by_puts (LineCore n) pt next b i k q ls (put_core n pt pt.view.acting b i k q need h) (packet_core n)
+puts_core n pt next b i k q ls need h =
+    let packet_core : (n : ℕ) (pt : Point) (a b k : ℕ) (l : Load) → LineCore n pt → LineCore n (moved pt (Line.Packet a b k l) pt.kernel) = λ n pt a b k l h. quiet_core n pt (Line.Packet a b k l) refl refl (λ m q. refl) refl h.topic tt h in
+    by_puts (LineCore n) pt next b i k q ls (put_core n pt pt.view.acting b i k q need h) (packet_core n)
 
 -- a message of the bag is none of a kernel's
 pub plain_own : (w : PlainWhat) → is_own (plain_kind w) ≡ false
@@ -83,8 +81,7 @@ NeedOf n pt (Some ps) = AllNeed n pt ps
 
 -- most need nothing of where they stand
 abbrev pub AllLoose : ℕ → List Part → Type 0
-AllLoose n [] = ⊤
-AllLoose n (p ∷ ps) = ((pt : Point) → NeedsPart n pt p) × AllLoose n ps
+AllLoose n = Each (λ (p : Part). (pt : Point) → NeedsPart n pt p)
 
 pub loose_need : (n : ℕ) (pt : Point) (ps : List Part) → AllLoose n ps → AllNeed n pt ps
 loose_need n pt [] h = tt
@@ -92,10 +89,6 @@ loose_need n pt (p ∷ ps) h = (h.0 pt, λ ls next is leads. loose_need n next p
 
 pub first_need : (n : ℕ) (pt : Point) (p : Part) (ps : List Part) → NeedsPart n pt p → AllLoose n ps → AllNeed n pt (p ∷ ps)
 first_need n pt p ps need h = (need, λ ls next is leads. loose_need n next ps h)
-
-pub parts_core : (n : ℕ) (ps : List Part) (pt : Point) (w : Spelled) → AllSayable ps → AllNeed n pt ps → Sane pt → spelled pt ps ≡ Some w → LineCore n pt → LineCore n w.point
-parts_core n qs q w ok need sane is h = by_parts (λ ps pt v. AllSayable ps → AllNeed n pt ps → Sane pt → LineCore n pt → LineCore n v.point) (λ pt ok need sane h. h)
-    (λ p ps pt next ls z lines leads rest ok need sane h. rest ok.1 (need.1 ls next lines leads) (part_sane pt next p ls ok.0 lines leads sane) (part_core n pt next p ls need.0 sane lines leads h)) qs q w is ok need sane h
 
 -- a message that was put before is put again: nothing but lists and wires changes
 pub record Same (v w : Point) : Type 0 where
@@ -115,9 +108,6 @@ drops_loose : (n : ℕ) (ids : List MsgId) → AllLoose n (rule.drop_parts ids)
 drops_loose n [] = tt
 drops_loose n (i ∷ is) = (λ q. tt, drops_loose n is)
 
-stops_need : (n : ℕ) (pt : Point) (p : Pid) (queue : List MsgId) → KnowsAt pt.view p pt.view.acting → Stops (AllNeed n pt) p queue
-stops_need n pt p queue at = search (arith, first_need, drops_loose)
-
 pub round_need : (n : ℕ) (pt : Point) (b : Boot) (o : Point) (m : ℕ) (q : Option Pid) (ps : List Part) → ((p : Pid) (x : PlainProcess) → q ≡ Some p → kernel.alive (o.kernel.processes p) ≡ Some x → KnowsAt pt.view p pt.view.acting) → rule.goes_round b o m q ≡ Some ps → AllNeed n pt ps
 round_need n pt b o m q ps at = by_round (AllNeed n pt) b o m q ps (first_need n pt (Says (Line.Idle m)) [] tt tt) (λ p x is alive. record {
   runs = λ k rest stops. (
@@ -125,7 +115,7 @@ round_need n pt b o m q ps at = by_round (AllNeed n pt) b o m q ps (first_need n
     (λ ls next lines leads.
         let s = said_by pt next (Line.Label (Label.Ran p k)) (record { lines = ls; are = lines; leads = leads }) in
         let mid = moved pt (Line.Label (Label.Ran p k)) s.kernel in
-        subst (λ (z : Point). AllNeed n z rest) s.is (stops (AllNeed n mid) (stops_need n mid p (o.view.queue m p) (at p x is alive)))),
+        subst (λ (z : Point). AllNeed n z rest) s.is (stops (AllNeed n mid) (let e_ : Stops (AllNeed n mid) p (o.view.queue m p) = search (arith, first_need, drops_loose, at p x is alive) in e_))),
   );
   takes = λ mask id first. first_need n pt (rule.says (Label.Receive p id)) [] tt tt;
   refuses = λ id r. first_need n pt (rule.says (Label.Refuse p id r)) [] tt tt;
@@ -140,22 +130,20 @@ routes_loose n None = tt
 routes_loose n (Some k) = (λ q. tt, tt)
 
 -- a message from kernel to kernel, to a machine that there is
+-- from kernel to kernel
 pub to_one : (n : ℕ) (k : MessageKind) (m : ℕ) → ((pt : Point) → own_given pt.kernel pt.view pt.addresses (own_id pt.view) (pid_of m 0) (sort_of k) ≡ goes_between pt.view (own_id pt.view) (pid_of m 0)) → (k ≡ MessageKind.Migrate → ⊥) → is_own k ≡ true → m < n → AllLoose n (to_kernel k m ∷ [])
-to_one n k m gives none own le = ((λ pt. between_own n pt k m (gives pt) none own le), tt)
+to_one n k m gives none own le = ((λ pt. (let e_ : NeedsOwn n pt k (pid_of m 0) m = search (arith, pt.view, pt.addresses, pt.kernel, id_eq-same, gives pt) in e_)), tt)
 
 -- the answer to a request to move goes
 pub answers_need : (n : ℕ) (pt : Point) (l : Line) (i : MsgId) (r : Outcome) → NeedsLine n pt l
     → ((s : OneKernel) → kernel_after pt.kernel (label_of l) ≡ Some s → (q : Pid) → s.noted i ≡ Some q → KnowsAt (moved pt l s).view q (moved pt l s).view.acting) → AllNeed n pt (Says l ∷ answers_move i r)
 answers_need n pt l i r need knows = search (arith, said_by, first_need)
 
--- a process is asked to move, and sets off
-asks_need : (n : ℕ) (pt : Point) (id : MsgId) (k : PlainMessage) (to : ℕ) → pt.kernel.bag id ≡ Some k → k.what ≡ PlainWhat.Move to → to < n → is_fixed k.to ≡ false → AllNeed n pt (rule.says (Label.Asked id) ∷ leaves_for k.to to)
-asks_need n pt id k to there what le free = search (arith, said_by, pt.kernel.bag, k.to, first_need, to_one)
-
 -- where a message goes that asks its receiver to move
 abbrev pub Moves : ℕ → PlainMessage → Type 0
 Moves n k = (to : ℕ) → k.what ≡ PlainWhat.Move to → (to < n) × (is_fixed k.to ≡ false)
 
+-- a process is asked to move, and sets off
 pub handles_need : (n : ℕ) (pt : Point) (b : Boot) (o : Point) (m : ℕ) (id : MsgId) (k : PlainMessage) (ps : List Part) → Front pt id → pt.kernel.bag id ≡ Some k → KnowsAt pt.view k.to pt.view.acting → Moves n k → ((to c : ℕ) → o.view.known m k.to ≡ Forward to c → AllNeed n pt (forwards_on o.addresses id (plain_kind k.what) k.sender to))
     → rule.handles b o m id k ≡ Some ps → AllNeed n pt ps
 handles_need n pt b o m id k ps at there knows moves forwards = by_handles (AllNeed n pt) b o m id k ps (record {
@@ -169,7 +157,7 @@ handles_need n pt b o m id k ps at there knows moves forwards = by_handles (AllN
   moved = λ to what. answers_need n pt (Line.Label (Label.Asked id)) id Outcome.Done tt (λ s step q noted.
       let f : k.to ≡ q = (let g : Some k.to ≡ Some q = sym (asked_noted pt.kernel s id k step there) ∙ noted in cc) in
       subst (λ (x : Pid). KnowsAt pt.view x pt.view.acting) f knows);
-  sets_off = λ x to what apart. (let f = moves x what in asks_need n pt id k x there what f.0 f.1);
+  sets_off = λ x to what apart. (let f = moves x what in (let e_ : AllNeed n pt (rule.says (Label.Asked id) ∷ leaves_for k.to x) = search (arith, said_by, pt.kernel.bag, k.to, first_need, to_one, f.0, f.1) in e_));
   gone = λ to. first_need n pt (rule.says (Label.Gone id)) (Routes (pieces.answer_id id) ∷ []) at (λ q. tt, tt);
   dropped = λ to. first_need n pt (rule.says (Label.Dropped id)) [] tt tt;
   leaving = λ x to. first_need n pt (Says (Line.Held id)) [] at tt;
@@ -200,12 +188,10 @@ asker_need n pt l (Some z) r need knows = answers_need n pt l z.id r need (knows
 comes_here : (v w : View) (p q : Pid) → w.known ≡ at_record v.known v.acting p Here → w.acting ≡ v.acting → is_fixed p ≡ false → p ≡ q → KnowsAt w q w.acting
 comes_here v w p q known acting free same = search (arith, w.known, w.acting, v.acting, at_record_at, v.known)
 
-noted_same : (s t : OneKernel) (z : MoveNote) (p q : Pid) → Some s ≡ Some t → s.noted z.id ≡ Some p → t.noted z.id ≡ Some q → p ≡ q
-noted_same s t z p q e f g = search (arith, z.id)
-
 told_need : (n : ℕ) (pt o : Point) (m : ℕ) (id : MsgId) (p : Pid) (room : Bool × ℕ × ℕ) (x : PlainProcess) (k : MessageKind) → (is_between k ≡ true → Heard n pt o m id p k) → NeedOf n pt (told_step o m id p room x (sort_of k))
 told_need n pt o m id p room x MessageKind.Ask h = accepts_need n pt id.from.home p room.0 room.1 room.2 (h refl).0 (h refl).1
 told_need n pt o m id p room x MessageKind.Refuse h =
+    let noted_same : (s t : OneKernel) (z : MoveNote) (p q : Pid) → Some s ≡ Some t → s.noted z.id ≡ Some p → t.noted z.id ≡ Some q → p ≡ q = λ s t z p q e f g. search (arith, z.id) in
     asker_need n pt (Line.Stays p) (o.kernel.notes p) Outcome.Stayed tt (λ z e s step q noted. comes_here pt.view (moved pt (Line.Stays p) s).view p q refl refl (h refl).1.1 (noted_same pt.kernel s z p q step ((h refl).2 z e) noted))
 told_need n pt o m id p room x MessageKind.PullState h = first_need n pt (Says (Line.Proto id)) (to_kernel MessageKind.State id.from.home ∷ []) tt (to_one n MessageKind.State id.from.home (λ q. refl) (λ e. cc) refl (h refl).0)
 told_need n pt o m id p room x MessageKind.State h = search (arith, first_need, to_one)
@@ -213,6 +199,7 @@ told_need n pt o m id p room x MessageKind.PullBlock h = first_need n pt (Says (
 told_need n pt o m id p room x MessageKind.Memory h = block_need n pt id p (o.view.asked p == pieces_of x) (h refl).0
 told_need n pt o m id p room x MessageKind.AllTaken h = (h refl).3 refl
 told_need n pt o m id p room x MessageKind.Restart h =
+    let noted_same : (s t : OneKernel) (z : MoveNote) (p q : Pid) → Some s ≡ Some t → s.noted z.id ≡ Some p → t.noted z.id ≡ Some q → p ≡ q = λ s t z p q e f g. search (arith, z.id) in
     asker_need n pt (Line.Migration Stage.Restarted p) (o.kernel.notes p) Outcome.Done tt (λ z e s step q noted. comes_here pt.view (moved pt (Line.Migration Stage.Restarted p) s).view p q refl refl (h refl).1.1 (noted_same pt.kernel s z p q step ((h refl).2 z e) noted))
 told_need n pt o m id p room x _ h = tt
 

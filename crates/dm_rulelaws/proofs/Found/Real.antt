@@ -1,12 +1,13 @@
 -- Whom addresses are of is a kernel or a server of a machine that there is, or a process that its home knows.
-use Rattle.dm_rulelaws.proofs.Names.{◌≡◌, ◌⊎◌, ℕ, zero, suc, ◌<◌, ◌==◌, ◌||◌, Bool, true, false, is_some, nat_lt, List, [], ◌∷◌, refl, ap, ◌∙◌, sym, subst, inl, inr, arith, if◌then◌else◌, slice_get, Option, None, Some, nat_tests, Pid}
-use Rattle.dm_rulelaws.proofs.Names.{pid_eq, PlainLink, link_at, MsgId, PlainMessage, PlainWhat, switchboard, manager, PlainProcess, Life, Pending, Made, alive-is, View, Holder, Slot, Owner, Receiver, Sender, Enclosed, Child, Name, Answer}
-use Rattle.dm_rulelaws.proofs.Names.{link_target, to_of, sender_of, names, Point, Each, has_bytes, is_server, LinkFits, WhatFits, awaits, is_fixed, or_first, MoveNote, AskedBy, asker_in, option_and_then, owner_in}
+use Rattle.dm_rulelaws.proofs.Names.{◌≡◌, ℕ, zero, suc, ◌<◌, ◌==◌, ◌||◌, Bool, true, false, is_some, nat_lt, List, [], ◌∷◌, refl, ap, ◌∙◌, sym, subst, inl, inr, arith, if◌then◌else◌, slice_get, Option, None, Some, nat_tests, Pid, pid_eq}
+use Rattle.dm_rulelaws.proofs.Names.{PlainLink, link_at, MsgId, PlainMessage, PlainWhat, switchboard, manager, PlainProcess, Life, Pending, Made, alive-is, View, Holder, Slot, Owner, Receiver, Sender, Enclosed, Child, Name, Answer}
+use Rattle.dm_rulelaws.proofs.Names.{link_target, to_of, sender_of, names, Point, Each, has_bytes, is_server, LinkFits, awaits, is_fixed, or_first, MoveNote, AskedBy, asker_in, option_and_then, owner_in}
 use Rattle.dm_onekernel.specs.Manager as manage
 use Rattle.dm_onekernel.specs.Step as kernel
 use Rattle.dm_rulelaws.proofs.Fits.Rises.{both, slot_link}
-use Rattle.dm_rulelaws.proofs.Found.Core.{IsReal, LineCore, Core, lines_of_core}
+use Rattle.dm_rulelaws.proofs.Found.Core.{IsReal, LineCore, Core}
 use Rattle.dm_rulelaws.proofs.Found.Lists.{Sends}
+pub use Rattle.std.proofs.lemmas.Bool.{or_cases}
 
 pub made_free : (pt : Point) (q : Pid) → Made pt.kernel → is_some (pt.kernel.processes q) ≡ true → is_fixed q ≡ false
 made_free pt q h some = search arith
@@ -29,21 +30,11 @@ pub waits_some : (o : Option Life) (n : ℕ) (x : PlainWhat) → awaits o n x �
 waits_some (Some l) n x e = refl
 waits_some None n x e = cc
 
-pub or_cases : (c d : Bool) → (c || d) ≡ true → (c ≡ true) ⊎ (d ≡ true)
-or_cases true d e = inl refl
-or_cases false d e = inr e
-
 has_real : (pt : Point) (n k : ℕ) (q : Pid) → LineCore n pt → has_bytes k (pt.kernel.processes q) ≡ true → IsReal n pt.view q
 has_real pt n k q h e = made_real pt n q h (has_some k (pt.kernel.processes q) e)
 
 link_real : (pt : Point) (n : ℕ) (l : PlainLink) → LineCore n pt → 0 < n → LinkFits pt.kernel.processes l → IsReal n pt.view l.to
 link_real pt n l h some e = search (arith, or_cases, l.to, l.area, l.area.base, l.area.len, pt.kernel.processes, server_real, pt.view, both, has_real)
-
-kernel_real : (n k : ℕ) (v : View) (q : Pid) → k ≡ n → q.num ≡ 0 → nat_lt q.home k ≡ true → IsReal n v q
-kernel_real n k v q same num le = inl ((let f : (q.num == 0) ≡ true = grind (arith, nat_tests) in ap (λ (c : Bool). c || is_server q) f), subst (λ (j : ℕ). q.home < j) same (let f : q.home < k = grind (arith, nat_tests) in f))
-
-what_real : (pt : Point) (n : ℕ) (i : MsgId) (m : PlainMessage) (x : PlainWhat) → LineCore n pt → 0 < n → WhatFits pt.kernel i m x → IsReal n pt.view m.to
-what_real pt n i m x h1 h2 h3 = search (arith, or_cases, m.to, pt.kernel.processes, server_real, pt.view, has_real, made_real, has_some, i.from, waits_some, i.n, kernel_real, pt.kernel.machines)
 
 -- one of a list
 each_get : {X : Type 0} (P : X → Type 0) (xs : List X) (k : ℕ) (x : X) → Each P xs → slice_get xs k ≡ Some x → P x
@@ -64,20 +55,23 @@ link_there None q e = cc
 link_there (Some l) q e = (l, refl, (let f : l.to ≡ q = cc in f))
 
 -- each kind of holder
-slot_real : (pt : Point) (n : ℕ) (p : Pid) (k : ℕ) (q : Pid) (o : Option PlainProcess) → LineCore n pt → 0 < n → kernel.alive (pt.kernel.processes p) ≡ o → link_target (option_and_then (λ x. link_at x.links k) o) ≡ Some q
-    → IsReal n pt.view q
+slot_real : (pt : Point) (n : ℕ) (p : Pid) (k : ℕ) (q : Pid) (o : Option PlainProcess) → LineCore n pt → 0 < n → kernel.alive (pt.kernel.processes p) ≡ o → link_target (option_and_then (λ x. link_at x.links k) o) ≡ Some q → IsReal n pt.view q
 slot_real pt n p k q None h some is e = cc
 slot_real pt n p k q (Some x) h some is e =
     let (l, at, to) = link_there (link_at x.links k) q e in
     subst (IsReal n pt.view) to (link_real pt n l h some (slot_link pt.kernel.processes x.links k l at (h.fits.processes p x (alive-is (pt.kernel.processes p) x is)).slots))
 
-owner_real : (pt : Point) (n : ℕ) (p q : Pid) (o : Option PlainProcess) → LineCore n pt → kernel.alive (pt.kernel.processes p) ≡ o → (option_and_then (λ x. owner_in x.status) o) ≡ Some q → IsReal n pt.view q
+owner_real : (pt : Point) (n : ℕ) (p q : Pid) (o : Option PlainProcess) → LineCore n pt → kernel.alive (pt.kernel.processes p) ≡ o → (option_and_then (λ (x : PlainProcess). owner_in x.status) o) ≡ Some q → IsReal n pt.view q
 owner_real pt n p q None h is e = cc
 owner_real pt n p q (Some x) h is e = search (arith, pt.view, made_real, has_some, pt.kernel.processes, both, (h.fits.processes p x (alive-is (pt.kernel.processes p) x is)).move)
 
 receiver_real : (pt : Point) (n : ℕ) (i : MsgId) (q : Pid) (o : Option PlainMessage) → LineCore n pt → 0 < n → pt.kernel.bag i ≡ o → to_of o ≡ Some q → IsReal n pt.view q
 receiver_real pt n i q None h some is e = cc
-receiver_real pt n i q (Some m) h some is e = let f : m.to ≡ q = cc in subst (IsReal n pt.view) f (what_real pt n i m m.what h some (h.fits.messages i m is))
+receiver_real pt n i q (Some m) h some is e =
+    let kernel_real : (n k : ℕ) (v : View) (q : Pid) → k ≡ n → q.num ≡ 0 → nat_lt q.home k ≡ true → IsReal n v q =
+      λ n k v q same num le. inl ((let f : (q.num == 0) ≡ true = grind (arith, nat_tests) in ap (λ (c : Bool). c || is_server q) f), subst (λ (j : ℕ). q.home < j) same (let f : q.home < k = grind (arith, nat_tests) in f)) in
+    let what_real : IsReal n pt.view m.to = search (arith, or_cases, m.to, pt.kernel.processes, server_real, pt.view, has_real, made_real, has_some, i.from, waits_some, i.n, kernel_real, pt.kernel.machines, h.fits.messages i m is) in
+    let f : m.to ≡ q = cc in subst (IsReal n pt.view) f what_real
 
 pub sends_real : (pt : Point) (n : ℕ) (q : Pid) → LineCore n pt → Sends n pt.kernel q → IsReal n pt.view q
 sends_real pt n q h s = search (arith, made_real)
@@ -116,4 +110,4 @@ named_by pt n g q h e = by g e
     by (Answer k) f = answer_real pt n k q (manage.pending_numbered k pt.kernel.manager.pending) h some refl f
 
 pub named_real : (pt : Point) (n : ℕ) (g : Holder) (q : Pid) → Core n pt → names pt.kernel g ≡ Some q → IsReal n pt.view q
-named_real pt n g q h e = named_by pt n g q (lines_of_core n pt h) e
+named_real pt n g q h e = named_by pt n g q h.line e

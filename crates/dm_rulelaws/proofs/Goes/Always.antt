@@ -1,37 +1,29 @@
 -- Wherever all of it holds, each directive has its group.
 use Rattle.dm_rulelaws.proofs.Names.{◌≡◌, ◌≢◌, ℕ, ◌+◌, ◌≤◌, ◌==◌, ◌&&◌, ◌||◌, Bool, true, false, not, List, [], ◌∷◌, refl, ap, ◌∙◌, sym, is_some, inl, inr, arith, ⊤, if◌then◌else◌, Option, None, Some, false≢true, Pid, pid_eq, MsgId}
-use Rattle.dm_rulelaws.proofs.Names.{PlainMessage, Boot, IsValid, Step, Line, MessageKind, child_number, migrates, Point, moved, Spelled, group_of, Spot, Queue, Inbox, standing, StandsOutside, Told, Target, is_kernels, IsStep}
-use Rattle.dm_rulelaws.proofs.Names.{arrives_net, resends_net, stands_right, StandsAsBag-elsewhere, Each, has_bytes, is_server, is_fixed, Life, OneKernel, pid_eq-is, cases_Bool, by_migrates, rooted, position_from}
+use Rattle.dm_rulelaws.proofs.Names.{PlainMessage, Boot, IsValid, Step, Line, MessageKind, child_number, migrates, Point, moved, Spelled, group_of, Spot, Queue, Inbox, standing, StandsOutside, Target, is_kernels, IsStep, position_from}
+use Rattle.dm_rulelaws.proofs.Names.{arrives_net, resends_net, stands_right, StandsAsBag-elsewhere, Each, has_bytes, is_server, is_fixed, Life, OneKernel, pid_eq-is, cases_Bool, by_migrates, rooted, is_inbox}
 pub use Rattle.dm_rule.proofs.Moves.States.{front_one as stands_first}
 use Rattle.dm_rule.specs.Rule as rule
 use Rattle.dm_rule.specs.View as view
 use Rattle.dm_rulelaws.proofs.Runs.{Run}
 use Rattle.dm_rulelaws.proofs.Own.Told.{OwnTold, own_sort, OwnsFit, NoOwns, FirstOwns}
-use Rattle.dm_rulelaws.proofs.Goes.Parts.{ArePlain, Can, Shape, Goes, goes, can_plain, can_net}
+use Rattle.dm_rulelaws.proofs.Goes.Parts.{IsPlain, Can, Shape, Goes, goes, can_plain, can_net}
 use Rattle.dm_rulelaws.proofs.Goes.Serves.{can_turn}
 use Rattle.dm_rulelaws.proofs.Goes.Turns.{queue_drops}
 use Rattle.dm_rulelaws.proofs.Goes.Front.{here_free, begun, begun_sane, Calm, CanTurn, Front}
 use Rattle.dm_rulelaws.proofs.Goes.Servers.{can_handle}
 use Rattle.dm_rulelaws.proofs.Goes.Own.{FrontOwn, can_hear}
+pub use Rattle.dm_rulelaws.proofs.Found.Groups.{told_there, told_there as told_of}
 
 -- the message at the front of an inbox
-abbrev is_box : Spot → Bool
-is_box (Inbox m) = true
-is_box _ = false
-
 pub queue_apart : (m n : ℕ) (p : Pid) → Queue n p ≢ Inbox m
-queue_apart m n p e = false≢true (ap is_box e)
-
-pub told_of : (o : Option Told) → is_some o ≡ true → (t : Told) × (o ≡ Some t)
-told_of None e = cc
-told_of (Some t) e = (t, refl)
+queue_apart m n p e = false≢true (ap is_inbox e)
 
 -- it is in the bag
 pub front : (b : Boot) (m : ℕ) (o : Point) (i : MsgId) (is : List MsgId) (x : PlainMessage) → o.view.inbox m ≡ i ∷ is → o.kernel.bag i ≡ Some x → Run b o → Front b m o i x
 front b m o i is x box there h =
     let first = stands_first o.view m i is box in
-    let kept = stands_right o i h.based.phased.state (Some x) there in
-    let (t, told) = told_of (o.view.told i) (h.found.told i (Inbox m) first) in
+    let (t, told) = told_there (o.view.told i) (h.found.told i (Inbox m) first) in
     record {
       rest = is;
       box = box;
@@ -39,7 +31,7 @@ front b m o i is x box there h =
       told = t;
       told_is = told;
       first = first;
-      unqueued = λ n p. StandsAsBag-elsewhere (Some x) (standing o.view i) (Inbox m) (Queue n p) first (queue_apart m n p) kept;
+      unqueued = λ n p. StandsAsBag-elsewhere (Some x) (standing o.view i) (Inbox m) (Queue n p) first (queue_apart m n p) (stands_right o i h.based.phased.state (Some x) there);
       drops = λ q. queue_drops b m o q h.based;
       run = h;
     }
@@ -52,7 +44,7 @@ own_by false f z least h = absurd (let e : f z ≡ 0 = h z in omega (arith, leas
 pub front_own : (b : Boot) (m : ℕ) (o : Point) (i : MsgId) (is : List MsgId) → o.view.inbox m ≡ i ∷ is → o.kernel.bag i ≡ None → Run b o → OwnTold o → FrontOwn b m o i
 front_own b m o i is box none h own =
     let first = stands_first o.view m i is box in
-    let (t, told) = told_of (o.view.told i) (h.found.told i (Inbox m) first) in
+    let (t, told) = told_there (o.view.told i) (h.found.told i (Inbox m) first) in
     record { told = t; told_is = told; mine = own_by (is_kernels i) (standing o.view i) (Inbox m) first (stands_right o i h.based.phased.state None none); first = first; run = h; own = own }
 
 can_front : (b : Boot) (m : ℕ) (o : Point) (i : MsgId) (is : List MsgId) (x : Option PlainMessage) → o.kernel.bag i ≡ x → o.view.inbox m ≡ i ∷ is → Run b o → OwnTold o → CanTurn m o (rule.comes_to b o m i (o.kernel.bag i))
@@ -75,14 +67,11 @@ some_life : (o : Option Life) → has_bytes 0 o ≡ true → is_some o ≡ true
 some_life None e = cc
 some_life (Some x) e = refl
 
-child_num : (b : Boot) (pt : Point) (p : Pid) (n : ℕ) → child_number pt.kernel p ≡ Some n → Run b pt → (p.num == 0) ≡ false
-child_num b pt p n is h = search (arith, some_life, pt.kernel.processes, child_made, pt.kernel, pt.kernel.manager.children, h.based.fits.children, h.based.phased.sane.sound.made.least)
-
-target_sort : (p : Pid) (m : ℕ) → is_fixed p ≡ false → own_sort MessageKind.Migrate p (Target m) ≡ true
-target_sort p m e = ap (λ (c : Bool). not c && true) e
-
 migrates_own : (b : Boot) (pt : Point) (p : Pid) (m : ℕ) → Run b pt → OwnsFit (moved pt (Line.Head (Step.Migrate p m)) pt.kernel).view (migrates pt p)
 migrates_own b pt p m h =
+    let child_num : (b : Boot) (pt : Point) (p : Pid) (n : ℕ) → child_number pt.kernel p ≡ Some n → Run b pt → (p.num == 0) ≡ false =
+      λ b pt p n is h. search (arith, some_life, pt.kernel.processes, child_made, pt.kernel, pt.kernel.manager.children, h.based.fits.children, h.based.phased.sane.sound.made.least) in
+    let target_sort : (p : Pid) (m : ℕ) → is_fixed p ≡ false → own_sort MessageKind.Migrate p (Target m) ≡ true = λ p m e. ap (λ (c : Bool). not c && true) e in
     by_migrates (OwnsFit (moved pt (Line.Head (Step.Migrate p m)) pt.kernel).view) pt p (NoOwns (tt, tt)) (NoOwns (tt, tt))
     (λ n server is. FirstOwns (target_sort p m (ap (λ (c : Bool). c || is_server p) (child_num b pt p n is h) ∙ server), tt))
 
@@ -107,7 +96,7 @@ group_on b pt (Step.Tick m) h own = search (arith, pt.view, group_by, can_net, r
 group_on b pt (Step.Deliver a c k) h own = search (arith, group_by, can_net, arrives_net)
 group_on b pt (Step.Migrate p m) h own =
     let q = moved pt (Line.Head (Step.Migrate p m)) pt.kernel in
-    group_by b pt (Step.Migrate p m) (can_plain ⊥ 0 q (migrates pt p) (λ c. c) (by_migrates (ArePlain q.view) pt p (refl, tt) (refl, tt) (λ n off is. (tt, tt))) (migrates_own b pt p m h))
+    group_by b pt (Step.Migrate p m) (can_plain ⊥ 0 q (migrates pt p) (λ c. c) (by_migrates (Each (IsPlain q.view)) pt p (refl, tt) (refl, tt) (λ n off is. (tt, tt))) (migrates_own b pt p m h))
 
 -- each directive has its group
 pub goes_on : (b : Boot) (pt : Point) (e : Step) → IsValid b → Run b pt → OwnTold pt → IsStep pt.kernel.machines e → (w : Spelled) × (group_of b pt e ≡ Some w)

@@ -45,23 +45,20 @@ pub record Front (b : Boot) (m : ℕ) (o : Point) (i : MsgId) (x : PlainMessage)
 pub name_of : (b : Boot) (m : ℕ) (o : Point) (i : MsgId) (x : PlainMessage) → Front b m o i x → x.id ≡ i
 name_of b m o i x f = f.run.based.phased.sane.sound.entered.named i x f.there
 
--- what was told of it
-pub told_kind : (b : Boot) (m : ℕ) (o : Point) (i : MsgId) (x : PlainMessage) (f : Front b m o i x) → f.told.kind ≡ plain_kind x.what
-told_kind b m o i x f = (f.run.based.phased.sane).tells.kind i x f.told f.there f.told_is
-
 pub told_receiver : (b : Boot) (m : ℕ) (o : Point) (i : MsgId) (x : PlainMessage) (f : Front b m o i x) → f.told.receiver ≡ x.to
 told_receiver b m o i x f = (f.run.based.phased.sane).tells.receiver i x f.told f.there f.told_is
 
 -- a kernel or a server is at home here
 pub home_of : (b : Boot) (m : ℕ) (o : Point) (i : MsgId) (x : PlainMessage) → is_fixed x.to ≡ true → Front b m o i x → x.to.home ≡ m
 home_of b m o i x fixed f =
-    let to = told_receiver b m o i x f in
-    sym (ap (λ (q : Pid). q.home) to) ∙ sym (f.run.found.fixed i (Inbox m) f.told f.first f.told_is (ap is_fixed to ∙ fixed))
+    sym (ap (λ (q : Pid). q.home) (told_receiver b m o i x f)) ∙ sym (f.run.found.fixed i (Inbox m) f.told f.first f.told_is (ap is_fixed (told_receiver b m o i x f) ∙ fixed))
 
 -- what the view does with a served message of this kind
 pub served_is : (b : Boot) (m : ℕ) (o : Point) (i : MsgId) (x : PlainMessage) (v : View) (w : PlainWhat) → x.what ≡ w → Front b m o i x → view.served_told v (o.view.told i) ≡ view.ends_by (sort_of (plain_kind w)) v (Some x.to)
 served_is b m o i x v w is f =
-    ap (view.served_told v) f.told_is ∙ ap (λ c. view.ends_by (sort_of c) v (Some f.told.receiver)) (told_kind b m o i x f ∙ ap plain_kind is) ∙ ap (λ p. view.ends_by (sort_of (plain_kind w)) v (Some p)) (told_receiver b m o i x f)
+    -- what was told of it
+    let told_kind : f.told.kind ≡ plain_kind x.what = (f.run.based.phased.sane).tells.kind i x f.told f.there f.told_is in
+    ap (view.served_told v) f.told_is ∙ ap (λ c. view.ends_by (sort_of c) v (Some f.told.receiver)) (told_kind ∙ ap plain_kind is) ∙ ap (λ p. view.ends_by (sort_of (plain_kind w)) v (Some p)) (told_receiver b m o i x f)
 
 -- processes are numbered from 3
 record IsProcess (s : OneKernel) (p : Pid) : Type 0 where

@@ -1,12 +1,12 @@
 -- A kernel's own message at the front of the inbox can be handled.
 use Rattle.dm_rulelaws.proofs.Names.{◌≡◌, ◌≢◌, ℕ, ◌/◌, ◌≤◌, ◌==◌, ◌&&◌, ◌||◌, Bool, true, false, not, List, [], ◌∷◌, ◌++◌, length, refl, ap, ◌∙◌, sym, subst, is_some, arith, if◌then◌else◌, Option, None, Some, false≢true, nat_tests, Pid}
 use Rattle.dm_rulelaws.proofs.Names.{pid_eq, MsgId, MessageKind, Line, Stage, Boot, switchboard, manager, bind, PlainProcess, Life, Alive, View, Told, Of, Known, Unknown, Here, Frozen, Forward, is_kernels, target_of, to_kernel, forwards_on}
-use Rattle.dm_rulelaws.proofs.Names.{accepts, takes_chunk, takes_block, gives_piece, told_step, chunks_of, pieces_of, updates, told_here, told_ended, process_told, told_server, sends_on, fits, free_room, kernel_hears, hears, is_between}
-use Rattle.dm_rulelaws.proofs.Names.{is_restart, kind_comes, knows, is_away, Moves, sender_in, receiver_in, told_between, IsIn, Point, Part, Says, Spot, Queue, Held, Inbox, times, standing, token_is, token_at, is_server, is_fixed, first_of}
-use Rattle.dm_rulelaws.proofs.Names.{eq_self, inbox_is, about_same, kind_leaves, Label, MoveNote, Outcome, label_of, with_label, is_put, moved, answers_move, tells_asker, agrees, sort_of, leaves_for}
+use Rattle.dm_rulelaws.proofs.Names.{accepts, takes_chunk, takes_block, gives_piece, told_step, chunks_of, pieces_of, updates, told_here, process_told, told_server, sends_on, fits, free_room, kernel_hears, hears, is_between, is_restart}
+use Rattle.dm_rulelaws.proofs.Names.{kind_comes, knows, is_away, Moves, sender_in, receiver_in, told_between, IsIn, Point, Part, Says, Spot, Queue, Held, Inbox, times, standing, token_is, token_at, is_server, is_fixed, first_of, eq_self}
+use Rattle.dm_rulelaws.proofs.Names.{inbox_is, about_same, kind_leaves, Label, MoveNote, Outcome, label_of, with_label, is_put, moved, answers_move, tells_asker, sort_of, leaves_for, About, second, Each}
 use Rattle.dm_rulelaws.proofs.Runs.{Run}
-use Rattle.dm_rulelaws.proofs.Own.Told.{OwnTold, own_sort, own_between, own_server, NoOwns, ThenOwns, forwarded_place, forwards_own, accepts_own, piece_own, chunk_own, block_own, moves_own, sends_own}
-use Rattle.dm_rulelaws.proofs.Goes.Parts.{ArePlain, Can, can_as, can_plain, does_line, Quiet, no_receive}
+use Rattle.dm_rulelaws.proofs.Own.Told.{OwnTold, own_sort, own_server, NoOwns, ThenOwns, forwarded_place, forwards_own, accepts_own, piece_own, chunk_own, block_own, moves_own, sends_own, about_of}
+use Rattle.dm_rulelaws.proofs.Goes.Parts.{IsPlain, Can, can_as, can_plain, does_line, Quiet, no_receive}
 use Rattle.dm_rulelaws.proofs.Goes.Front.{begun, Calm, CanTurn, does_answers}
 use Rattle.dm_rulelaws.proofs.Goes.Process.{forwards_plain}
 use Rattle.dm_onekernel.specs.Service as service
@@ -54,12 +54,9 @@ pub record Coming (b : Boot) (m : ℕ) (o : Point) (p : Pid) (k : MessageKind) :
   pub phase : IsIn o.view p (Moves k s d id)
   pub here : m ≡ receiver_in k s d
 
-coming_alive : (s : ℕ) (n : Known) (o : Option Life) → kind_comes MessageKind.Restart s n ≡ true → agrees n o ≡ true → IsAlive o
-coming_alive s n o h1 h2 = search arith
-
 moving_server : (c : Bool) (s d : ℕ) (k : MessageKind) (b : Boot) (m : ℕ) (o : Point) (p : Pid) (r : Bool) → is_server p ≡ c → is_restart k ≡ r → Run b o → (s == d) ≡ false → kind_leaves k d (o.view.known s p) ≡ true → (is_restart k ≡ true → kind_comes MessageKind.Restart s (o.view.known d p) ≡ true) → IsAlive (o.kernel.processes p)
 moving_server true s d k b m o p r server restart run off leave come = absurd (false≢true (sym (server_leaves k d (s == 0)) ∙ sym (ap (kind_leaves k d) (run.based.known.server s p server)) ∙ leave))
-moving_server false s d k b m o p true server restart run off leave come = coming_alive s (o.view.known d p) (o.kernel.processes p) (come restart) (run.based.known.agree d p server)
+moving_server false s d k b m o p true server restart run off leave come = search (arith, come restart, run.based.known.agree d p server)
 moving_server false s d k b m o p false server restart run off leave come = search (arith, o.view.known s p, o.kernel.processes p, run.based.known.agree s p server)
 
 pub is_it : (k : MessageKind) → is_restart k ≡ true → k ≡ MessageKind.Restart
@@ -93,23 +90,23 @@ coming b m o i p f between about =
     kind_in (Some t) = t.kind
 
 -- parts of the protocol say nothing of the kernel
-accepts_plain : (v : View) (from : ℕ) (p : Pid) (room : Bool) (slots blocks : ℕ) → ArePlain v (accepts from p room slots blocks)
+accepts_plain : (v : View) (from : ℕ) (p : Pid) (room : Bool) (slots blocks : ℕ) → Each (IsPlain v) (accepts from p room slots blocks)
 accepts_plain v from p true slots blocks = (refl, (tt, tt))
 accepts_plain v from p false slots blocks = (refl, (tt, tt))
 
-chunk_plain : (v : View) (i : MsgId) (p : Pid) (last : Bool) → ArePlain v (takes_chunk i p last)
+chunk_plain : (v : View) (i : MsgId) (p : Pid) (last : Bool) → Each (IsPlain v) (takes_chunk i p last)
 chunk_plain v i p true = (refl, (tt, tt))
 chunk_plain v i p false = (refl, (tt, tt))
 
-block_plain : (v : View) (i : MsgId) (p : Pid) (last : Bool) → ArePlain v (takes_block i p last)
+block_plain : (v : View) (i : MsgId) (p : Pid) (last : Bool) → Each (IsPlain v) (takes_block i p last)
 block_plain v i p true = (refl, (tt, tt))
 block_plain v i p false = (refl, (tt, tt))
 
-moves_plain : (v : View) (m : ℕ) (i : MsgId) (p : Pid) (to : ℕ) (c : Bool) → ArePlain v (if c then Says (Line.Here i) ∷ [] else Says (Line.Migration Stage.Frozen p) ∷ Says (Line.Migration Stage.Asked p) ∷ to_kernel MessageKind.Ask to ∷ [])
+moves_plain : (v : View) (m : ℕ) (i : MsgId) (p : Pid) (to : ℕ) (c : Bool) → Each (IsPlain v) (if c then Says (Line.Here i) ∷ [] else Says (Line.Migration Stage.Frozen p) ∷ Says (Line.Migration Stage.Asked p) ∷ to_kernel MessageKind.Ask to ∷ [])
 moves_plain v m i p to true = (refl, tt)
 moves_plain v m i p to false = (refl, (refl, (tt, tt)))
 
-sends_plain : (v : View) (to : ℕ) (xs ys : List MsgId) (ps : List Part) → ((i : MsgId) → 1 ≤ times i xs → is_some (v.told i) ≡ true) → ((i : MsgId) → 1 ≤ times i ys → is_some (v.told i) ≡ true) → ArePlain v ps → ArePlain v (sends_on to (xs ++ ys) ++ ps)
+sends_plain : (v : View) (to : ℕ) (xs ys : List MsgId) (ps : List Part) → ((i : MsgId) → 1 ≤ times i xs → is_some (v.told i) ≡ true) → ((i : MsgId) → 1 ≤ times i ys → is_some (v.told i) ≡ true) → Each (IsPlain v) ps → Each (IsPlain v) (sends_on to (xs ++ ys) ++ ps)
 sends_plain v to [] [] ps first more h = h
 sends_plain v to [] (y ∷ ys) ps first more h = (more y (first_of y ys), sends_plain v to [] ys ps first (λ i least. more i (omega (arith, least))) h)
 sends_plain v to (x ∷ xs) ys ps first more h = (first x (first_of x xs), sends_plain v to xs ys ps (λ i least. first i (omega (arith, least))) more h)
@@ -155,6 +152,7 @@ can_hear_of C never b m o i t p told about between c run =
 
 can_kernel : (C : Type 0) (never : C → ⊥) (b : Boot) (m : ℕ) (o : Point) (i : MsgId) (f : FrontOwn b m o i) → (f.told.receiver.num == 0) ≡ true → Can C m (begun o m) (kernel_hears b o m i f.told.kind f.told.about)
 can_kernel C never b m o i f num =
+    let own_between : (k : MessageKind) (q : Pid) (a : About) → own_sort k q a ≡ true → (q.num == 0) ≡ true → (is_between k ≡ true) × (p : Pid) × (a ≡ Of p) = λ k. search (arith, about_of, second) in
     let (between, p, about) = own_between f.told.kind f.told.receiver f.told.about (own_sorted b m o i f) num in
     can_hear_of C never b m o i f.told p f.told_is about between (coming b m o i p f between about) f.run
 
@@ -168,15 +166,12 @@ can_here C never m o i t MessageKind.Migrate e num = can_plain C m (begun o m) (
 can_here C never m o i t MessageKind.Update e num = can_plain C m (begun o m) (updates o i t) never (refl, tt) (NoOwns (tt, tt))
 can_here C never m o i t _ e num = absurd (grind (arith, nat_tests))
 
-can_over : (C : Type 0) (never : C → ⊥) (m : ℕ) (o : Point) (i : MsgId) (t : Told) (k : MessageKind) → own_sort k t.receiver t.about ≡ true → (t.receiver.num == 0) ≡ false → Can C m (begun o m) (told_ended i (sort_of k))
-can_over C never m o i t k h1 h2 = search (arith, can_plain)
-
 can_known : (C : Type 0) (never : C → ⊥) (b : Boot) (m : ℕ) (o : Point) (i : MsgId) (f : FrontOwn b m o i) (n : Known) → o.view.known m f.told.receiver ≡ n → n ≢ Unknown → (f.told.receiver.num == 0) ≡ false → Can C m (begun o m) (process_told o m i f.told n)
 can_known C never b m o i f Unknown is there num = absurd (there refl)
 can_known C never b m o i f Here is there num = can_here C never m o i f.told f.told.kind (own_sorted b m o i f) num
 can_known C never b m o i f (Forward at_ moves) is there num = can_plain C m (begun o m) (forwards_on o.addresses i f.told.kind manager at_) never (forwards_plain (begun o m).view o.addresses i f.told.kind manager at_ (ap is_some f.told_is))
     (forwards_own (begun o m).view o.addresses i f.told.kind manager at_ (forwarded_place (begun o m).view i at_ f.told at_ moves f.told_is is) (λ e. refl))
-can_known C never b m o i f Known.Ended is there num = can_over C never m o i f.told f.told.kind (own_sorted b m o i f) num
+can_known C never b m o i f Known.Ended is there num = search (arith, can_plain, own_sorted b m o i f)
 can_known C never b m o i f _ is there num = can_plain C m (begun o m) (Says (Line.Held i) ∷ []) never (refl, tt) (NoOwns (tt, tt))
 
 can_by : (C : Type 0) (never : C → ⊥) (b : Boot) (m : ℕ) (o : Point) (i : MsgId) (f : FrontOwn b m o i) (c d e : Bool) → (f.told.receiver.num == 0) ≡ c → pid_eq f.told.receiver switchboard ≡ d → pid_eq f.told.receiver manager ≡ e

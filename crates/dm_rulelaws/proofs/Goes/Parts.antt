@@ -2,14 +2,16 @@
 use Rattle.dm_rulelaws.proofs.Names.{after_line, ◌≡◌, ℕ, ◌==◌, not, filter, arith, Bool, true, false, List, [], ◌∷◌, ◌++◌, length, refl, ap, ◌∙◌, sym, subst, is_some, ⊤, if◌then◌else◌, Option, None, Some, Pid, MsgId, MessageKind}
 use Rattle.dm_rulelaws.proofs.Names.{plain_kind, PlainMessage, Boot, Label, OneKernel, bind, Step, Line, Load, View, Told, view_after, own_id, Receiver, Point, labels, with_label, label_of, kernel_after, after, moved, Part, Says, Routes}
 use Rattle.dm_rulelaws.proofs.Names.{Again, Owns, Transmits, Spelled, lines_of, puts, packet_line, behind, spelled, group_of, outcome, Pair, counts, IsNetLine, IsNet, is_put, hushed, Sane, sane_line, part_sane, AskNone, seen, topic_by}
-use Rattle.dm_rulelaws.proofs.Names.{seen_none}
-use Rattle.dm_rulelaws.proofs.Order.Lines.{thin_same, box_same, Which, Ord, ord_view, ord_label, Last}
+use Rattle.dm_rulelaws.proofs.Names.{seen_none, after_label, after_step, by_net, Each}
+use Rattle.dm_rulelaws.proofs.Order.Lines.{thin_same, box_same, Which, Ord, ord_view, Last, thin_label, ord_step, was_told, counts_grown}
 use Rattle.dm_rulelaws.proofs.Queued.{is_user}
 use Rattle.dm_rulelaws.proofs.Order.Puts.{thin_pair, ord_put, ord_taken}
-use Rattle.dm_rulelaws.proofs.Own.Told.{HaveNoOwn, OwnsFit, NoOwns}
+use Rattle.dm_rulelaws.proofs.Own.Told.{OwnsFit, NoOwns, HasNoOwn}
 use Rattle.dm_onekernel.specs.Step as kernel
 use Rattle.dm_rule.specs.View as view
 use Rattle.dm_rule.specs.Rule as rule
+pub use Rattle.dm_rulelaws.proofs.Found.Groups.{told_there, told_there as some_is}
+use Rattle.dm_rulelaws.proofs.Fits.Rises.{Each-on}
 
 -- the labels that parts say
 abbrev pub part_says : Part → List Label → List Label
@@ -25,11 +27,7 @@ abbrev pub NoAsk : Label → Type 0
 NoAsk (Label.Asked i) = ⊥
 NoAsk l = ⊤
 
-abbrev pub AsksNone : List Label → Type 0
-AsksNone [] = ⊤
-AsksNone (l ∷ ls) = NoAsk l × AsksNone ls
-
-pub unasked : (ls : List Line) → AskNone ls → AsksNone (labels ls)
+pub unasked : (ls : List Line) → AskNone ls → Each NoAsk (labels ls)
 unasked [] h = tt
 unasked (l ∷ ls) h = search (arith, label_of l, labels ls, unasked ls h.1, h.0)
 
@@ -41,9 +39,9 @@ pub record Does (C : Type 0) (pt : Point) (ps : List Part) : Type 0 where
   pub w : Spelled
   pub is : spelled pt ps ≡ Some w
   pub says : labels w.lines ≡ said ps
-  pub order : C → AsksNone (said ps) → Sane pt → KeepsOrder pt w.point
+  pub order : C → Each NoAsk (said ps) → Sane pt → KeepsOrder pt w.point
 
-part_tail : (p : Part) (ls : List Label) → AsksNone (part_says p ls) → AsksNone ls
+part_tail : (p : Part) (ls : List Label) → Each NoAsk (part_says p ls) → Each NoAsk ls
 part_tail (Says l) ls h = search arith
 part_tail _ ls h = h
 
@@ -67,15 +65,17 @@ after_one pt l s e = ap (λ (o : Option OneKernel). bind (bind o (λ (s : OneKer
 pub sane_by : (pt : Point) (l : Line) (t : OneKernel) → is_put l ≡ false → kernel_after pt.kernel (label_of l) ≡ Some t → Sane pt → Sane (moved pt l t)
 sane_by pt l t quiet is s = sane_line pt (moved pt l t) l quiet (ap (λ (o : Option OneKernel). bind o (λ (u : OneKernel). Some (moved pt l u))) is) s
 
--- the topic is no place
-ord_seen : (q : Which) (t : OneKernel) (w : View) (a : view.About) → Ord q t w → Ord q t (view.about w a)
-ord_seen q t w a o = ord_view q t w (view.about w a) (thin_same q w (view.about w a) refl (box_same w q.to.home) (λ m. refl) (λ j. refl)) o
-
 ord_none : (q : Which) (s : OneKernel) (v : View) (l : Line) → label_of l ≡ None → Ord q s (view_after v l) → Ord q s (seen s v l)
 ord_none q s v l none o = subst (Ord q s) (sym (seen_none s v l none)) o
 
 pub does_label : (C : Type 0) (pt : Point) (l : Label) (t : OneKernel) (ps : List Part) → kernel.step pt.kernel l ≡ Some t → Does C (moved pt (Line.Label l) t) ps → Does C pt (rule.says l ∷ ps)
 does_label C pt l t ps is d =
+    -- the topic is no place
+    let ord_seen : (q : Which) (t : OneKernel) (w : View) (a : view.About) → Ord q t w → Ord q t (view.about w a) =
+      λ q t w a o. ord_view q t w (view.about w a) (thin_same q w (view.about w a) refl (box_same w q.to.home) (λ m. refl) (λ j. refl)) o in
+    let ord_label : (q : Which) (pt : Point) (l : Label) (t : OneKernel) → Sane pt → kernel.step pt.kernel l ≡ Some t → Ord q pt.kernel pt.view → Ord q t (after_label pt.view l) = λ q pt l t h step o.
+      ord_view q t pt.view (after_label pt.view l) (thin_label q pt.view l)
+      (ord_step q pt.kernel t pt.view (was_told pt l t h step) (counts_grown pt.kernel t (after_step h.r h.e pt.kernel t l step h.sound).grown) o) in
     does_lines C pt (moved pt (Line.Label l) t) (rule.says l) (Line.Label l ∷ []) ps refl (after_one pt (Line.Label l) t is) (λ zs. refl) (λ c s. (sane_by pt (Line.Label l) t refl is s, λ k o. ord_seen k t (view.after_label pt.view l) (topic_by pt.kernel (view.after_label pt.view l).topic (Some l)) (ord_label k pt l t s is o))) d
 
 pub does_line : (C : Type 0) (pt : Point) (l : Line) (ps : List Part) → label_of l ≡ None → is_put l ≡ false → (C → (k : Which) → Ord k pt.kernel pt.view → Ord k pt.kernel (view_after pt.view l)) → Does C (moved pt l pt.kernel) ps → Does C pt (Says l ∷ ps)
@@ -90,10 +90,6 @@ does_asks C pt i t ps is d = let e = does_label ⊥ pt (Label.Asked i) t ps is d
 -- a packet
 ord_packet : (q : Which) (s : OneKernel) (v : View) (a c k : ℕ) (l : Load) → Ord q s v → Ord q s (view.after_packet v a c l)
 ord_packet q s v a c k l o = search (arith, ord_view, thin_pair)
-
--- what stands in the bag is counted
-counted_in : (pt : Point) → Sane pt → (i : MsgId) (y : PlainMessage) → pt.kernel.bag i ≡ Some y → counts pt.kernel i ≡ true
-counted_in pt h i y there = search (arith, h.sound.entered.fewer, pt.kernel.bag, h.sound.entered.counted)
 
 -- a put, with its packet
 pub record Puts (pt : Point) (ls : List Line) : Type 0 where
@@ -131,6 +127,8 @@ put_lines pt b i k q = search (arith, puts_if)
 -- a message of the bag is routed
 pub does_route : (C : Type 0) (pt : Point) (i : MsgId) (x : PlainMessage) → pt.kernel.bag i ≡ Some x → (C → Sane pt → is_user x.what ≡ true → Last pt.kernel pt.view i) → Does C pt (Routes i ∷ [])
 does_route C pt i x there last =
+    -- what stands in the bag is counted
+    let counted_in : (pt : Point) → Sane pt → (i : MsgId) (y : PlainMessage) → pt.kernel.bag i ≡ Some y → counts pt.kernel i ≡ true = λ pt h i y there. search (arith, h.sound.entered.fewer, pt.kernel.bag, h.sound.entered.counted) in
     let c = (pt.addresses (Receiver i)).at in
     let ls = puts pt.view c i (plain_kind x.what) x.to in
     let p = put_lines pt c i (plain_kind x.what) x.to in
@@ -146,29 +144,16 @@ IsPlain v (Routes i) = ⊥
 IsPlain v (Again i b) = is_some (v.told i) ≡ true
 IsPlain v _ = ⊤
 
-abbrev pub ArePlain : View → List Part → Type 0
-ArePlain v [] = ⊤
-ArePlain v (p ∷ ps) = IsPlain v p × ArePlain v ps
+plain_on : (v w : View) (ps : List Part) → ((i : MsgId) → is_some (v.told i) ≡ true → is_some (w.told i) ≡ true) → Each (IsPlain v) ps → Each (IsPlain w) ps
+plain_on v w ps more h = Each-on (IsPlain v) (IsPlain w) (λ p k. search (arith, more)) ps h
 
-plain_on : (v w : View) (ps : List Part) → ((i : MsgId) → is_some (v.told i) ≡ true → is_some (w.told i) ≡ true) → ArePlain v ps → ArePlain w ps
-plain_on v w [] more h = tt
-plain_on v w (Says l ∷ ps) more h = (h.0, plain_on v w ps more h.1)
-plain_on v w (Routes i ∷ ps) more h = absurd h.0
-plain_on v w (Again i b ∷ ps) more h = (more i h.0, plain_on v w ps more h.1)
-plain_on v w (Owns k q b ∷ ps) more h = (tt, plain_on v w ps more h.1)
-plain_on v w (Transmits a b l ∷ ps) more h = (tt, plain_on v w ps more h.1)
-
-pub some_is : (o : Option Told) → is_some o ≡ true → (t : Told) × (o ≡ Some t)
-some_is None e = cc
-some_is (Some t) e = (t, refl)
-
-pub does_plain : (C : Type 0) (ps : List Part) (pt : Point) → (C → ⊥) → ArePlain pt.view ps → Does C pt ps
+pub does_plain : (C : Type 0) (ps : List Part) (pt : Point) → (C → ⊥) → Each (IsPlain pt.view) ps → Does C pt ps
 does_plain C [] pt never h = does_nothing C pt
 does_plain C (Says l ∷ ps) pt never h =
     does_lines C pt (moved pt l pt.kernel) (Says l) (l ∷ []) ps refl (after_one pt l pt.kernel (ap (kernel_after pt.kernel) h.0)) (λ zs. refl) (λ c s. absurd (never c)) (does_plain C ps (moved pt l pt.kernel) never (plain_on pt.view (view_after pt.view l) ps (told_on pt.view l) h.1))
 does_plain C (Routes i ∷ ps) pt never h = absurd h.0
 does_plain C (Again i b ∷ ps) pt never h =
-    let (t, told) = some_is (pt.view.told i) h.0 in
+    let (t, told) = told_there (pt.view.told i) h.0 in
     let p = put_lines pt b i t.kind t.receiver in
     does_lines C pt p.q (Again i b) (puts pt.view b i t.kind t.receiver) ps (ap (λ (o : Option Told). bind o (λ (t : Told). Some (puts pt.view b i t.kind t.receiver))) told) p.is p.says (λ c s. absurd (never c)) (does_plain C ps p.q never (plain_on pt.view p.q.view ps p.told h.1))
 does_plain C (Owns k q b ∷ ps) pt never h =
@@ -202,35 +187,18 @@ net_keeps pt (Line.Resent n c) is = record { none = refl; quiet = refl; keeps = 
 net_keeps pt _ is = absurd is
 
 pub does_net : (C : Type 0) (ps : List Part) (pt : Point) → IsNet ps → Does C pt ps
-does_net C [] pt is = does_nothing C pt
-does_net C (Says l ∷ ps) pt is =
-    let k = net_keeps pt l is.0 in
-    does_line C pt l ps k.none k.quiet (λ c. k.keeps) (does_net C ps (moved pt l pt.kernel) is.1)
-does_net C (Transmits a c l ∷ ps) pt is =
-    let p = packet_line pt.view a c l in
-    does_lines C pt (moved pt p pt.kernel) (Transmits a c l) (p ∷ []) ps refl refl (λ zs. refl) (λ d s. (sane_by pt p pt.kernel refl refl s, λ k o. ord_packet k pt.kernel pt.view a c (length (pt.view.pair a c).wire) l o)) (does_net C ps (moved pt p pt.kernel) is.1)
-does_net C _ pt is = absurd is.0
-
-net_says : (pt : Point) (ps : List Part) → IsNet ps → said ps ≡ []
-net_says pt [] is = refl
-net_says pt (Says l ∷ ps) is = ap (λ (o : Option Label). with_label o (said ps)) (net_keeps pt l is.0).none ∙ net_says pt ps is.1
-net_says pt (Transmits a c l ∷ ps) is = net_says pt ps is.1
-net_says pt _ is = absurd is.0
-
-net_own : (ps : List Part) → IsNet ps → HaveNoOwn ps
-net_own [] h = tt
-net_own (Says l ∷ ps) h = (tt, net_own ps h.1)
-net_own (Transmits a c l ∷ ps) h = (tt, net_own ps h.1)
-net_own _ h = absurd h.0
+does_net C qs q is = by_net (λ ps. (pt : Point) → Does C pt ps) (does_nothing C)
+    (λ l ps net more pt. (let k = net_keeps pt l net in does_line C pt l ps k.none k.quiet (λ c. k.keeps) (more (moved pt l pt.kernel))))
+    (λ a c l ps more pt. (
+        let p = packet_line pt.view a c l in
+        does_lines C pt (moved pt p pt.kernel) (Transmits a c l) (p ∷ []) ps refl refl (λ zs. refl) (λ d s. (sane_by pt p pt.kernel refl refl s, λ k o. ord_packet k pt.kernel pt.view a c (length (pt.view.pair a c).wire) l o)) (more (moved pt p pt.kernel)))) qs is q
 
 -- they say nothing of the kernel
-pub plain_says : (v : View) (ps : List Part) → ArePlain v ps → said ps ≡ []
+pub plain_says : (v : View) (ps : List Part) → Each (IsPlain v) ps → said ps ≡ []
 plain_says v [] h = refl
 plain_says v (Says l ∷ ps) h = ap (λ (o : Option Label). with_label o (said ps)) h.0 ∙ plain_says v ps h.1
 plain_says v (Routes i ∷ ps) h = absurd h.0
-plain_says v (Again i b ∷ ps) h = plain_says v ps h.1
-plain_says v (Owns k q b ∷ ps) h = plain_says v ps h.1
-plain_says v (Transmits a b l ∷ ps) h = plain_says v ps h.1
+plain_says v (_ ∷ ps) h = plain_says v ps h.1
 
 -- no label of these is a reception
 abbrev pub not_receive : Label → Bool
@@ -267,7 +235,7 @@ pub can_as : (C : Type 0) (m : ℕ) (pt : Point) (o q : Option (List Part)) → 
 can_as C m pt o q e c = record { ps = c.ps; is = e ∙ c.is; does = c.does; shape = c.shape; owns = c.owns }
 
 -- a label and then parts
-pub can_say : (C : Type 0) (m : ℕ) (pt : Point) (l : Label) (t : OneKernel) (ps : List Part) → kernel.step pt.kernel l ≡ Some t → no_receive (said (rule.says l ∷ ps)) ≡ true → HaveNoOwn ps → Does C (moved pt (Line.Label l) t) ps → Can C m pt (Some (rule.says l ∷ ps))
+pub can_say : (C : Type 0) (m : ℕ) (pt : Point) (l : Label) (t : OneKernel) (ps : List Part) → kernel.step pt.kernel l ≡ Some t → no_receive (said (rule.says l ∷ ps)) ≡ true → Each HasNoOwn ps → Does C (moved pt (Line.Label l) t) ps → Can C m pt (Some (rule.says l ∷ ps))
 can_say C m pt l t ps is quiet none d = record { ps = rule.says l ∷ ps; is = refl; does = does_label C pt l t ps is d; shape = Quiet quiet; owns = NoOwns (tt, none) }
 
 -- a line
@@ -275,11 +243,13 @@ pub can_line : (C : Type 0) (m : ℕ) (pt : Point) (l : Line) → label_of l ≡
 can_line C m pt l none quiet keeps = search (arith, does_line, does_nothing, pt.kernel)
 
 -- parts of a run in which something moves
-pub can_plain : (C : Type 0) (m : ℕ) (pt : Point) (ps : List Part) → (C → ⊥) → ArePlain pt.view ps → OwnsFit pt.view ps → Can C m pt (Some ps)
+pub can_plain : (C : Type 0) (m : ℕ) (pt : Point) (ps : List Part) → (C → ⊥) → Each (IsPlain pt.view) ps → OwnsFit pt.view ps → Can C m pt (Some ps)
 can_plain C m pt ps never h own = record { ps = ps; is = refl; does = does_plain C ps pt never h; shape = Quiet (ap no_receive (plain_says pt.view ps h)); owns = own }
 
 pub can_net : (C : Type 0) (m : ℕ) (pt : Point) (ps : List Part) → IsNet ps → Can C m pt (Some ps)
-can_net C m pt ps h = record { ps = ps; is = refl; does = does_net C ps pt h; shape = Quiet (ap no_receive (net_says pt ps h)); owns = NoOwns (net_own ps h) }
+can_net C m pt ps h =
+    let net_says : (pt : Point) (ps : List Part) → IsNet ps → said ps ≡ [] = λ pt. by_net (λ ps. said ps ≡ []) refl (λ l ps net e. ap (λ (o : Option Label). with_label o (said ps)) (net_keeps pt l net).none ∙ e) (λ a c l ps e. e) in
+    record { ps = ps; is = refl; does = does_net C ps pt h; shape = Quiet (ap no_receive (net_says pt ps h)); owns = NoOwns ((by_net (Each HasNoOwn) tt (λ l ps net h. (tt, h)) (λ a c l ps h. (tt, h))) ps h) }
 
 -- a group that has its parts is said
 pub record Goes (C : Type 0) (b : Boot) (pt : Point) (d : Step) : Type 0 where
@@ -291,7 +261,7 @@ pub record Goes (C : Type 0) (b : Boot) (pt : Point) (d : Step) : Type 0 where
   pub spells : spelled (moved pt (Line.Head d) pt.kernel) parts ≡ Some behind_head
   pub point : w.point ≡ behind_head.point
   pub says : labels w.lines ≡ said parts
-  pub order : C → AsksNone (labels w.lines) → Sane pt → KeepsOrder (moved pt (Line.Head d) pt.kernel) w.point
+  pub order : C → Each NoAsk (labels w.lines) → Sane pt → KeepsOrder (moved pt (Line.Head d) pt.kernel) w.point
 
 abbrev pub goes : (C : Type 0) (b : Boot) (pt : Point) (d : Step) (ps : List Part) → outcome b pt d ≡ Some ps → Does C (moved pt (Line.Head d) pt.kernel) ps → Goes C b pt d
 goes C b pt d ps is does = record {
@@ -304,5 +274,5 @@ goes C b pt d ps is does = record {
   spells = does.is;
   point = refl;
   says = does.says;
-  order = λ c a s. does.order c (subst AsksNone does.says a) (sane_by pt (Line.Head d) pt.kernel refl refl s);
+  order = λ c a s. does.order c (subst (Each NoAsk) does.says a) (sane_by pt (Line.Head d) pt.kernel refl refl s);
 }

@@ -3,6 +3,7 @@ use Rattle.dm_rulelaws.proofs.Names.{◌≡◌, ◌≢◌, ℕ, ◌+◌, ◌≤�
 use Rattle.dm_rulelaws.proofs.Names.{MessageKind, Label, Reply, Line, id_eq, plain_kind, PlainMessage, PlainWhat, Direction, Boot, Why, switchboard, manager, bind, PlainProcess, PlainStatus, Moving, Life, Alive, Ended, OneKernel}
 use Rattle.dm_rulelaws.proofs.Names.{with_process, with_sent, answer_id, answer_to, without_message, is_dropped, is_of_memory, id_eq-is, out_off, LandsSo, lands-is, Addresses, forwards_on, Point, moved, Says, Routes, times, View, Known}
 use Rattle.dm_rulelaws.proofs.Names.{has_bytes, is_server, awaits, status_awaits, move_fits, piece_fits, WhatFits, is_fixed, agrees, is_still, handled, MoveNote, Outcome, with_note, id_eq-same, pid_eq-same, answers_move, leaves_for, []}
+use Rattle.dm_rulelaws.proofs.Names.{Each}
 use Rattle.dm_onekernel.specs.Pieces as pieces
 use Rattle.dm_onekernel.specs.Service as service
 use Rattle.dm_onekernel.specs.Step as kernel
@@ -10,7 +11,7 @@ use Rattle.dm_rule.specs.Rule as rule
 use Rattle.dm_rule.specs.View as view
 use Rattle.dm_rulelaws.proofs.Fits.Rises.{both, set_at}
 use Rattle.dm_rulelaws.proofs.Own.Told.{AnyOwns, OwnTold, NoOwns, forwarded_place, forwards_own}
-use Rattle.dm_rulelaws.proofs.Goes.Parts.{does_nothing, does_route, can_as, can_say, can_line, can_plain, ArePlain, does_asks, does_plain, Quiet}
+use Rattle.dm_rulelaws.proofs.Goes.Parts.{does_nothing, does_route, can_as, can_say, can_line, can_plain, IsPlain, does_asks, does_plain, Quiet}
 use Rattle.dm_rulelaws.proofs.Queued.{is_user}
 use Rattle.dm_rulelaws.proofs.Order.Lines.{Which, Ord}
 use Rattle.dm_rulelaws.proofs.Order.Puts.{ord_queued}
@@ -26,8 +27,7 @@ can_set : (b : Boot) (m : ℕ) (o : Point) (i : MsgId) (x : PlainMessage) (y z :
     → CanTurn m o (Some (rule.says (Label.Served i) ∷ []))
 can_set b m o i x y z w is alive free f serves =
     let t = service.changed o.kernel i x z in
-    let step = served_step_is o.kernel i x y w t f.there alive free is serves in
-    can_say (Calm m o) m (begun o m) (Label.Served i) t [] step refl tt (does_nothing (Calm m o) (moved (begun o m) (Line.Label (Label.Served i)) t))
+    can_say (Calm m o) m (begun o m) (Label.Served i) t [] (served_step_is o.kernel i x y w t f.there alive free is serves) refl tt (does_nothing (Calm m o) (moved (begun o m) (Line.Label (Label.Served i)) t))
 
 -- a message is served, and another one goes
 can_answer : (b : Boot) (m : ℕ) (o : Point) (i : MsgId) (x : PlainMessage) (y z : PlainProcess) (w : PlainWhat) (k : PlainMessage) (j : MsgId) → x.what ≡ w → o.kernel.processes x.to ≡ Some (Alive y) → o.kernel.notes x.to ≡ None → Front b m o i x
@@ -43,8 +43,7 @@ can_kill : (b : Boot) (m : ℕ) (o : Point) (i : MsgId) (x : PlainMessage) (y : 
 can_kill b m o i x y is alive free f =
     let s = o.kernel in
     let t = with_process (without_message s i) x.to (Ended Why.Killed) in
-    let step = served_step_is s i x y PlainWhat.Kill t f.there alive free is refl in
-    can_say (Calm m o) m (begun o m) (Label.Served i) t (rule.drop_parts (o.view.queue m x.to)) step (drops_quiet (o.view.queue m x.to)) (drops_own (o.view.queue m x.to))
+    can_say (Calm m o) m (begun o m) (Label.Served i) t (rule.drop_parts (o.view.queue m x.to)) (served_step_is s i x y PlainWhat.Kill t f.there alive free is refl) (drops_quiet (o.view.queue m x.to)) (drops_own (o.view.queue m x.to))
     (does_drops (Calm m o) x.to Why.Killed (o.view.queue m x.to) (moved (begun o m) (Line.Label (Label.Served i)) t) (set_at (without_message s i) x.to (Ended Why.Killed))
     (droppable_on s t x.to (o.view.queue m x.to) (λ j least. out_off s i j (apart j least (id_eq i j) refl)) (f.drops x.to)))
   where
@@ -60,8 +59,7 @@ record LandsTo (p : Pid) (y : PlainProcess) (x : PlainMessage) (st : PlainStatus
 lands_what_to : (p : Pid) (y : PlainProcess) (dir : Direction) (owner : Pid) (base own left : ℕ) (w : PlainWhat) → piece_fits dir left w ≡ true → nat_le (own + left) (length y.memory) ≡ true → is_of_memory w ≡ false
     → (c : pieces.Landed) × (pieces.lands_what p y dir owner base own left w ≡ Some c)
 lands_what_to p y Direction.FromArea owner base own left (PlainWhat.Block bytes) fits within off =
-    let z = record y { memory = pieces.written_at y.memory own bytes } in
-    let c = pieces.move_goes_on p z Direction.FromArea owner base own left (pieces.piece_of left) in
+    let c = pieces.move_goes_on p (record y { memory = pieces.written_at y.memory own bytes }) Direction.FromArea owner base own left (pieces.piece_of left) in
     (c, ap (λ (d : Bool). if d && nat_le (own + left) (length y.memory) then Some c else None) fits ∙ ap (λ (d : Bool). if d then Some c else None) within)
 lands_what_to p y Direction.IntoArea owner base own left PlainWhat.Written fits within off =
     let c = pieces.move_goes_on p y Direction.IntoArea owner base own left (pieces.piece_of left) in
@@ -73,8 +71,7 @@ lands_what_to p y _ owner base own left _ fits within off = cc
 lands_to : (b : Boot) (p : Pid) (y : PlainProcess) (x : PlainMessage) (ps : _) (n : ℕ) (w : PlainWhat) (st : PlainStatus) → x.what ≡ w → x.id.n ≡ n → status_awaits st n w ≡ true → move_fits ps y st ≡ true → is_of_memory w ≡ false → LandsTo p y x st
 lands_to b p y x ps n w (Moving dir owner base own left pending) is number waits fits off =
     let k = both (n == pending) (piece_fits dir left w) waits in
-    let within = (both (has_bytes (base + left) (ps owner)) (nat_le (own + left) (length y.memory)) fits).1 in
-    let (c, lands) = lands_what_to p y dir owner base own left w k.1 within off in
+    let (c, lands) = lands_what_to p y dir owner base own left w k.1 (both (has_bytes (base + left) (ps owner)) (nat_le (own + left) (length y.memory)) fits).1 off in
     search (arith, x.what, k.0)
 lands_to b p y x ps n w _ is number waits fits off = cc
 
@@ -95,9 +92,8 @@ can_land b m o i x y w is alive free f serves off waits =
 -- a queued message keeps its place
 queued_order : (b : Boot) (m : ℕ) (o : Point) (i : MsgId) (x : PlainMessage) → Front b m o i x → x.to.home ≡ m → (k : Which) → Ord k o.kernel (begun o m).view → Ord k o.kernel (view.view_after (begun o m).view (Line.Queued i))
 queued_order b m o i x f home k q =
-    let v = (begun o m).view in
     let receiver : view.receiver_of (o.view.told i) ≡ Some x.to = ap view.receiver_of f.told_is ∙ ap Some (told_receiver b m o i x f) in
-    subst (λ (r : Option Pid). Ord k o.kernel (view.queued_for (handled v i) i r)) (sym receiver) (ord_queued k o.kernel v i f.rest x.to f.box home (ap is_some f.told_is) q)
+    subst (λ (r : Option Pid). Ord k o.kernel (view.queued_for (handled (begun o m).view i) i r)) (sym receiver) (ord_queued k o.kernel (begun o m).view i f.rest x.to f.box home (ap is_some f.told_is) q)
 
 -- a process is asked to move: it is there already, or sets off
 asked_is : (s : OneKernel) (i : MsgId) (x : PlainMessage) (y : PlainProcess) (to : ℕ) → s.bag i ≡ Some x → s.processes x.to ≡ Some (Alive y) → s.notes x.to ≡ None → x.what ≡ PlainWhat.Move to
@@ -122,11 +118,10 @@ can_move b m o i x y to true is alive free f =
 can_move b m o i x y to false is alive free f =
     let s = o.kernel in
     let t = with_note (without_message s i) x.to (record { id = i; asker = x.sender }) in
-    let mid = moved (begun o m) (Line.Label (Label.Asked i)) t in
     record {
       ps = rule.says (Label.Asked i) ∷ leaves_for x.to to;
       is = refl;
-      does = does_asks (Calm m o) (begun o m) i t (leaves_for x.to to) (asked_is s i x y to f.there alive free is) (does_plain ⊥ (leaves_for x.to to) mid (λ z. z) (refl, (refl, (tt, tt))));
+      does = does_asks (Calm m o) (begun o m) i t (leaves_for x.to to) (asked_is s i x y to f.there alive free is) (does_plain ⊥ (leaves_for x.to to) (moved (begun o m) (Line.Label (Label.Asked i)) t) (λ z. z) (refl, (refl, (tt, tt))));
       shape = Quiet refl;
       owns = AnyOwns (Line.Label (Label.Asked i)) (leaves_for x.to to) refl (λ a. (refl, tt));
     }
@@ -139,29 +134,25 @@ can_here b m o i x y PlainWhat.Stop is num other alive free f h = can_set b m o 
 can_here b m o i x y PlainWhat.Resume is num other alive free f h = can_set b m o i x y (record y { stopped = false }) PlainWhat.Resume is alive free f refl
 can_here b m o i x y PlainWhat.Kill is num other alive free f h = can_kill b m o i x y is alive free f
 can_here b m o i x y (PlainWhat.Read base len) is num other alive free f h =
-    let s = o.kernel in
     let within : nat_le (base + len) (length y.memory) ≡ true = sym (ap (has_bytes (base + len)) alive) ∙ h.0 in
     let k = answer_to x (PlainWhat.Block (take len (drop base y.memory))) in
     let reads : pieces.reads y x base len ≡ Some (record { process = y; answer = k }) = ap (λ (c : Bool). if c then Some (record { process = y; answer = k }) else None) within in
-    can_answer b m o i x y y (PlainWhat.Read base len) k (answer_id i) is alive free f (ap (λ (c : Option pieces.Served). bind c (λ (r : pieces.Served). Some (service.answered s i x r))) reads)
-    (answer_there (service.changed s i x y) i x (PlainWhat.Block (take len (drop base y.memory))) (name_of b m o i x f)) refl
+    can_answer b m o i x y y (PlainWhat.Read base len) k (answer_id i) is alive free f (ap (λ (c : Option pieces.Served). bind c (λ (r : pieces.Served). Some (service.answered o.kernel i x r))) reads)
+    (answer_there (service.changed o.kernel i x y) i x (PlainWhat.Block (take len (drop base y.memory))) (name_of b m o i x f)) refl
 can_here b m o i x y (PlainWhat.Write base bytes) is num other alive free f h =
-    let s = o.kernel in
     let within : nat_le (base + length bytes) (length y.memory) ≡ true = sym (ap (has_bytes (base + length bytes)) alive) ∙ h.0 in
     let z = record y { memory = pieces.written_at y.memory base bytes } in
     let k = answer_to x PlainWhat.Written in
     let writes : pieces.writes y x base bytes ≡ Some (record { process = z; answer = k }) = ap (λ (c : Bool). if c then Some (record { process = z; answer = k }) else None) within in
-    can_answer b m o i x y z (PlainWhat.Write base bytes) k (answer_id i) is alive free f (ap (λ (c : Option pieces.Served). bind c (λ (r : pieces.Served). Some (service.answered s i x r))) writes)
-    (answer_there (service.changed s i x z) i x PlainWhat.Written (name_of b m o i x f)) refl
+    can_answer b m o i x y z (PlainWhat.Write base bytes) k (answer_id i) is alive free f (ap (λ (c : Option pieces.Served). bind c (λ (r : pieces.Served). Some (service.answered o.kernel i x r))) writes)
+    (answer_there (service.changed o.kernel i x z) i x PlainWhat.Written (name_of b m o i x f)) refl
 can_here b m o i x y (PlainWhat.Create image links) is num other alive free f h = search (arith, x.to.num)
 can_here b m o i x y (PlainWhat.Created child) is num other alive free f h = search (arith, is_manager, x.to)
 can_here b m o i x y PlainWhat.NoRoom is num other alive free f h =
-    let (to, answer, pending) = h in
-    absurd (false≢true (sym other ∙ is_manager x.to to))
+    absurd (false≢true (sym other ∙ is_manager x.to h.0))
 can_here b m o i x y (PlainWhat.Move to) is num other alive free f h = can_move b m o i x y to (m == to) is alive free f
 can_here b m o i x y (PlainWhat.Moved a) is num other alive free f h =
-    let (to, answer, pending) = h in
-    absurd (false≢true (sym other ∙ is_manager x.to to))
+    absurd (false≢true (sym other ∙ is_manager x.to h.0))
 can_here b m o i x y any_ is num other alive free f h =
     can_land b m o i x y any_ is alive free f (λ c e. ap (λ (o_ : Option pieces.Landed). bind o_ (λ (r : pieces.Landed). Some (service.landed o.kernel i x r))) e) refl (ap (λ p. awaits (o.kernel.processes p) i.n any_) h.0 ∙ h.1)
 
@@ -188,12 +179,10 @@ can_ended b m o i x y (PlainWhat.Write base bytes) is num other ended f h = can_
 can_ended b m o i x y (PlainWhat.Create image links) is num other ended f h = search (arith, x.to.num)
 can_ended b m o i x y (PlainWhat.Created child) is num other ended f h = search (arith, is_manager, x.to)
 can_ended b m o i x y PlainWhat.NoRoom is num other ended f h =
-    let (to, answer, pending) = h in
-    absurd (false≢true (sym other ∙ is_manager x.to to))
+    absurd (false≢true (sym other ∙ is_manager x.to h.0))
 can_ended b m o i x y (PlainWhat.Move a) is num other ended f h = can_gone b m o i x y (PlainWhat.Moved Outcome.Ended) (ap service.gone_what is) refl ended f
 can_ended b m o i x y (PlainWhat.Moved a) is num other ended f h =
-    let (to, answer, pending) = h in
-    absurd (false≢true (sym other ∙ is_manager x.to to))
+    absurd (false≢true (sym other ∙ is_manager x.to h.0))
 can_ended b m o i x y _ is num other ended f h = can_drop b m o i x y (ap is_dropped is) ended f
 
 -- by what the machine knows of it
@@ -206,7 +195,7 @@ ended_of (Some (Ended y)) e = (y, refl)
 ended_of _ e = cc
 
 -- a message goes on
-pub forwards_plain : (v : View) (a : Addresses) (i : MsgId) (k : MessageKind) (sender : Pid) (to : ℕ) → is_some (v.told i) ≡ true → ArePlain v (forwards_on a i k sender to)
+pub forwards_plain : (v : View) (a : Addresses) (i : MsgId) (k : MessageKind) (sender : Pid) (to : ℕ) → is_some (v.told i) ≡ true → Each (IsPlain v) (forwards_on a i k sender to)
 forwards_plain v a i k sender to told = search arith
 
 can_known : (b : Boot) (m : ℕ) (o : Point) (i : MsgId) (x : PlainMessage) (k : Known) → o.view.known m x.to ≡ k → k ≢ view.Unknown → agrees k (o.kernel.processes x.to) ≡ true → (x.to.num == 0) ≡ false → pid_eq x.to manager ≡ false → Front b m o i x → OwnTold o → CanTurn m o (rule.process_handles o m i x k)

@@ -2,16 +2,16 @@
 use Rattle.dm_rulelaws.proofs.Names.{◌≡◌, ℕ, zero, suc, ◌+◌, ◌==◌, ◌&&◌, ◌||◌, ◌++◌, Bool, true, false, List, [], ◌∷◌, length, refl, ap, ◌∙◌, sym, nat_lt, arith, if◌then◌else◌, slice_get, Option, None, Some, false≢true, nat_tests, Pid}
 use Rattle.dm_rulelaws.proofs.Names.{pid_of, pid_eq, PlainLink, MsgId, Label, Line, PlainMessage, PlainWhat, BootImage, Boot, first_number, switchboard, manager, bind, when, Pending, OneKernel, with_sent, answer_id, answer_to}
 use Rattle.dm_rulelaws.proofs.Names.{without_message, pid_eq-same, Point, moved, Part, Routes, is_server, IsPending, WhatFits, is_fixed, counts, ServerSends, handled, is_kernels, not_kernels, or_first, board_takes_lem, manager_takes_lem}
-use Rattle.dm_rulelaws.proofs.Names.{is_for, PendingKind, code_of_outcome}
+use Rattle.dm_rulelaws.proofs.Names.{is_for, PendingKind, code_of_outcome, Each}
 use Rattle.dm_onekernel.specs.Switchboard as board
 use Rattle.dm_onekernel.specs.Manager as manage
 use Rattle.dm_onekernel.specs.Service as service
 use Rattle.dm_onekernel.specs.Step as kernel
 use Rattle.dm_rule.specs.Rule as rule
-use Rattle.dm_rulelaws.proofs.Own.Told.{OwnTold, HaveNoOwn}
+use Rattle.dm_rulelaws.proofs.Own.Told.{OwnTold, HasNoOwn}
 use Rattle.dm_rulelaws.proofs.Goes.Parts.{said, no_receive, does_route, Can, can_as, can_say}
 use Rattle.dm_rulelaws.proofs.Goes.Serves.{never_counted}
-use Rattle.dm_rulelaws.proofs.Goes.Front.{begun, Calm, CanTurn, Front, name_of, home_of, process_not_kernel, process_not_board, process_not_manager, answer_there, does_routes}
+use Rattle.dm_rulelaws.proofs.Goes.Front.{begun, Calm, CanTurn, Front, name_of, home_of, answer_there, does_routes, process_not_kernel, process_not_board, process_not_manager}
 use Rattle.dm_rulelaws.proofs.Goes.Front.{sent_there}
 use Rattle.dm_rulelaws.proofs.Goes.Process.{can_process}
 use Rattle.dm_rulelaws.proofs.Order.Lines.{Last, next_id}
@@ -72,7 +72,7 @@ routes_quiet : (k : Option PlainMessage) → no_receive (said (rule.routes k)) �
 routes_quiet None = refl
 routes_quiet (Some y) = refl
 
-routes_own : (k : Option PlainMessage) → HaveNoOwn (rule.routes k)
+routes_own : (k : Option PlainMessage) → Each HasNoOwn (rule.routes k)
 routes_own None = tt
 routes_own (Some y) = (tt, tt)
 
@@ -98,18 +98,13 @@ board_sends m o i x k sends at = search (arith, o.kernel.switchboard.sent, k.swi
 manager_sends : (m : ℕ) (o : Point) (i : MsgId) (x : PlainMessage) (k : manage.ManagerTook) → ServerSends manager o.kernel.manager.sent k.message k.manager.sent → m ≡ 0 → Sends m o (record (without_message o.kernel i) { manager = k.manager }) k.message
 manager_sends m o i x k sends at = search (arith, o.kernel.manager.sent, k.manager.sent, o.kernel, k.manager)
 
-at_server : (x : PlainMessage) (m : ℕ) → pid_eq x.to switchboard ≡ true → x.to.home ≡ m → m ≡ 0
-at_server x m e home = let z : x.to.home ≡ 0 = grind (arith, nat_tests) in sym home ∙ z
-
-at_manager : (x : PlainMessage) (m : ℕ) → pid_eq x.to manager ≡ true → x.to.home ≡ m → m ≡ 0
-at_manager x m e home = let z : x.to.home ≡ 0 = grind (arith, nat_tests) in sym home ∙ z
-
 pub server_fixed : (p : Pid) → is_server p ≡ true → is_fixed p ≡ true
 server_fixed p e = or_first (p.num == 0) (is_server p) e
 
 can_board : (b : Boot) (m : ℕ) (o : Point) (i : MsgId) (x : PlainMessage) (w : PlainWhat) → x.what ≡ w → (x.to.num == 0) ≡ false → pid_eq x.to switchboard ≡ true → Front b m o i x → WhatFits o.kernel i x w
     → CanTurn m o (rule.board_took i (board.board_takes o.kernel.switchboard x w))
 can_board b m o i x (PlainWhat.User code channel body links) is num one f h =
+    let at_server : (x : PlainMessage) (m : ℕ) → pid_eq x.to switchboard ≡ true → x.to.home ≡ m → m ≡ 0 = λ x m e home. let z : x.to.home ≡ 0 = grind (arith, nat_tests) in sym home ∙ z in
     let s = o.kernel in
     let k = board.takes_request s.switchboard body links in
     let u = record (without_message s i) { switchboard = k.switchboard } in
@@ -123,6 +118,7 @@ can_board b m o i x any_ is num one f h = search (arith, process_not_board)
 can_manage : (b : Boot) (m : ℕ) (o : Point) (i : MsgId) (x : PlainMessage) (w : PlainWhat) (k : manage.ManagerTook) → x.what ≡ w → pid_eq x.to switchboard ≡ false → pid_eq x.to manager ≡ true → manage.manager_takes o.kernel.manager o.kernel.machines (length o.kernel.images) x w ≡ Some k → Front b m o i x
     → CanTurn m o (rule.manager_parts i (manage.manager_takes o.kernel.manager o.kernel.machines (length o.kernel.images) x w))
 can_manage b m o i x w k is one two takes f =
+    let at_manager : (x : PlainMessage) (m : ℕ) → pid_eq x.to manager ≡ true → x.to.home ≡ m → m ≡ 0 = λ x m e home. let z : x.to.home ≡ 0 = grind (arith, nat_tests) in sym home ∙ z in
     let s = o.kernel in
     let u = record (without_message s i) { manager = k.manager } in
     let step : kernel.step s (Label.Took i) ≡ Some (with_sent u k.message) =

@@ -2,10 +2,10 @@
 use Rattle.dm_rulelaws.proofs.Names.{◌≡◌, ℕ, zero, suc, ◌+◌, ◌≤◌, ◌==◌, ◌&&◌, Bool, true, false, List, [], ◌∷◌, refl, ap, ◌∙◌, sym, is_some, nat_lt, inl, inr, arith, if◌then◌else◌, Option, None, Some, cases_Bool, false≢true, nat_tests, Pid}
 use Rattle.dm_rulelaws.proofs.Names.{pid_eq, MsgId, id_eq, Label, Why, Line, PlainMessage, PlainWhat, on_mask, instruction, Boot, Reply, reply_eq, reply_code, why_code, bind, when, PlainProcess, PlainStatus, Ready, Waiting, Alive, Ended}
 use Rattle.dm_rulelaws.proofs.Names.{OneKernel, with_process, with_sent, without_message, id_eq-is, id_eq-same, pid_eq-same, sent_at, bind-is, alive-is, counts, Point, moved, Part, Routes, times, is_kernels, not_kernels, switchboard}
-use Rattle.dm_rulelaws.proofs.Names.{manager, not_server, nexts, are_home, Sane, eq_self, not_is, zero_if, runnable_home, option_map_or}
-use Rattle.dm_rulelaws.proofs.Fits.Rises.{set_at, both}
+use Rattle.dm_rulelaws.proofs.Names.{manager, not_server, nexts, are_home, Sane, eq_self, not_is, zero_if, runnable_home, option_map_or, Each}
+use Rattle.dm_rulelaws.proofs.Fits.Rises.{both, set_at}
 use Rattle.dm_rulelaws.proofs.Goes.Parts.{said, no_receive, Shape, Quiet, Takes, Does, does_nothing, does_label, does_route, sane_by, Can, can_line}
-use Rattle.dm_rulelaws.proofs.Own.Told.{HaveNoOwn}
+use Rattle.dm_rulelaws.proofs.Own.Told.{HasNoOwn}
 use Rattle.dm_rulelaws.proofs.Goes.Turns.{times_self, times_more, Droppable, droppable_on, does_drops, drops_quiet, drops_own, at_hand_of}
 use Rattle.dm_rulelaws.proofs.Order.Lines.{Last}
 use Rattle.dm_onekernel.specs.Calls as calls
@@ -35,17 +35,15 @@ ran_steps (suc k) m = ran_goes k m (kernel.plain_row (instruction m.regs m.bytes
 pub reply_same : (n : ℕ) (c : Reply) → ((n == n) && reply_eq c c) ≡ true
 reply_same n c = ap (λ (d : Bool). d && reply_eq c c) (eq_self n) ∙ eq_self (reply_code c)
 
--- what a process has sent is its last
-counts_alive : (t : OneKernel) (p : Pid) (y : PlainProcess) (i : MsgId) → t.processes p ≡ Some (Alive y) → i.from ≡ p → (pid_eq p switchboard ≡ false) × (pid_eq p manager ≡ false) → counts t i ≡ nat_lt i.n y.sent
-counts_alive t p y i is from off = search (arith, i.n, t.switchboard.sent, t.manager.sent, t.processes, off.0, off.1)
-
 pub never_counted : (pt : Point) (i : MsgId) → Sane pt → counts pt.kernel i ≡ false → is_kernels i ≡ false → pt.view.told i ≡ None
 never_counted pt i h off other = h.untold i (zero_if (h.e i) (λ least. false≢true (sym off ∙ h.sound.entered.counted i least))) other
 
 sent_last : (pt : Point) (p : Pid) (n : ℕ) (k : PlainMessage) (y : PlainProcess) → kernel.next_trap pt.kernel p ≡ Some (kernel.Calls n (calls.Sends k y)) → p.home ≡ pt.view.acting → is_kernels k.id ≡ false → Sane pt → Last (with_sent (kernel.goes_on pt.kernel p y) (Some k)) pt.view k.id
 sent_last pt p n k y next home other h =
-    let s = pt.kernel in
-    let w = nexts s p (kernel.Calls n (calls.Sends k y)) next in
+    -- what a process has sent is its last
+    let counts_alive : (t : OneKernel) (p : Pid) (y : PlainProcess) (i : MsgId) → t.processes p ≡ Some (Alive y) → i.from ≡ p → (pid_eq p switchboard ≡ false) × (pid_eq p manager ≡ false) → counts t i ≡ nat_lt i.n y.sent =
+      λ t p y i is from off. search (arith, i.n, t.switchboard.sent, t.manager.sent, t.processes, off.0, off.1) in
+    let w = nexts pt.kernel p (kernel.Calls n (calls.Sends k y)) next in
     grind (arith, nat_tests, w.counts, not_server, w.x, w.is.alive, h.sound.made, k.id.from, k.id.n, k.id, counts_alive, w.x.sent, set_at, y.sent, never_counted)
 
 -- what a call comes to
@@ -112,20 +110,11 @@ pub record Awaited (s : OneKernel) (mask : ℕ) (ids : List MsgId) (i : MsgId) :
   pub what : rule.burden_is_awaited mask x.what ≡ true
   pub stands : 1 ≤ times i ids
 
-awaited_if : (s : OneKernel) (mask : ℕ) (j : MsgId) (js : List MsgId) (i : MsgId) (c : Bool) → rule.is_awaited mask (s.bag j) ≡ c → (if c then Some j else rule.first_awaited s mask js) ≡ Some i → (rule.first_awaited s mask js ≡ Some i → Awaited s mask js i) → Awaited s mask (j ∷ js) i
-awaited_if s mask j js i c h1 h2 h3 = search (arith, s.bag, times_self, times_more)
-
 pub first_is : (s : OneKernel) (mask : ℕ) (ids : List MsgId) (i : MsgId) → rule.first_awaited s mask ids ≡ Some i → Awaited s mask ids i
 first_is s mask [] i e = cc
-first_is s mask (j ∷ js) i e = awaited_if s mask j js i (rule.is_awaited mask (s.bag j)) refl e (first_is s mask js i)
+first_is s mask (j ∷ js) i e = search (arith, s.bag, times_self, times_more, first_is s mask js i)
 
-stops_quiet : (p : Pid) (queue : List MsgId) (o : Option kernel.Trap) → no_receive (said (rule.stops p queue o)) ≡ true
-stops_quiet p queue o = search (arith, drops_quiet)
-
-stops_own : (p : Pid) (queue : List MsgId) (o : Option kernel.Trap) → HaveNoOwn (rule.stops p queue o)
-stops_own p queue o = search (arith, drops_own)
-
-rest_own : (c : Bool) (ps : List Part) → HaveNoOwn ps → HaveNoOwn (if c then [] else ps)
+rest_own : (c : Bool) (ps : List Part) → Each HasNoOwn ps → Each HasNoOwn (if c then [] else ps)
 rest_own true ps h = tt
 rest_own false ps h = h
 
@@ -178,13 +167,15 @@ can_receive C m pt p queue x mask base size None status first some is free going
 can_receive C m pt p queue x mask base size (Some i) status first some is free going same drops =
     let s = pt.kernel in
     let a = first_is s mask queue i first in
-    let k = a.x in
-    let to = droppable_to s p queue i k a.there a.stands drops in
-    search (arith, completes_what, k.what, a.what, x.status, s.bag, at_hand_of, a.there, does_completes, completes_shape)
+    let to = droppable_to s p queue i a.x a.there a.stands drops in
+    search (arith, completes_what, (a.x).what, a.what, x.status, s.bag, at_hand_of, a.there, does_completes, completes_shape)
 
 can_serve : (C : Type 0) (b : Boot) (m : ℕ) (pt : Point) (p : Pid) (queue : List MsgId) (x : PlainProcess) (st : PlainStatus) → x.status ≡ st → rule.status_can_go pt.kernel queue st ≡ true → pt.kernel.processes p ≡ Some (Alive x) → pt.kernel.notes p ≡ None → x.stopped ≡ false → queue ≡ pt.view.queue m p → Droppable pt.kernel p queue → (C → p.home ≡ pt.view.acting) → Sane pt
     → Can C m pt (rule.serves_status b.quantum pt.kernel p queue x st)
-can_serve C b m pt p queue x st h1 h2 h3 h4 h5 h6 h7 h8 h9 = search (arith, b.quantum, does_executes, stops_quiet, rest_own, stops_own, can_receive, pt.kernel)
+can_serve C b m pt p queue x st h1 h2 h3 h4 h5 h6 h7 h8 h9 =
+    let stops_quiet : (p : Pid) (queue : List MsgId) (o : Option kernel.Trap) → no_receive (said (rule.stops p queue o)) ≡ true = λ p queue o. search (arith, drops_quiet) in
+    let stops_own : (p : Pid) (queue : List MsgId) (o : Option kernel.Trap) → Each HasNoOwn (rule.stops p queue o) = λ p queue o. search (arith, drops_own) in
+    search (arith, b.quantum, does_executes, stops_quiet, rest_own, stops_own, can_receive, pt.kernel)
 
 -- the first of the ring that can be served
 pub record Runnable (s : OneKernel) (queue : Pid → List MsgId) (p : Pid) : Type 0 where

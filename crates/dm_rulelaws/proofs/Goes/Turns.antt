@@ -1,14 +1,14 @@
 -- What is queued for a process can go with it.
 use Rattle.dm_rulelaws.proofs.Names.{◌≡◌, ℕ, ◌+◌, ◌≤◌, Bool, true, false, List, [], ◌∷◌, refl, ap, ◌∙◌, sym, subst, arith, ⊤, if◌then◌else◌, Option, None, Some, Pid, MsgId, id_eq, Label, Line, PlainMessage, PlainWhat, Boot, Why, Ended}
 use Rattle.dm_rulelaws.proofs.Names.{OneKernel, without_message, is_dropped, id_eq-is, id_eq-same, out_off, Point, moved, Spot, Queue, times, standing, StandsNowhere, StandsOutside, StandsRight, is_kernels, stands_right, kernels_fresh}
-use Rattle.dm_rulelaws.proofs.Names.{not_true, StandsAsBag-one, MoveNote, PlainProcess, Alive, option_map_or}
+use Rattle.dm_rulelaws.proofs.Names.{not_true, StandsAsBag-one, MoveNote, PlainProcess, Alive, Each, option_map_or}
 pub use Rattle.dm_rule.proofs.Phases.Leaves.{first_of as times_self}
 use Rattle.dm_onekernel.specs.Step as kernel
 use Rattle.dm_rule.specs.Rule as rule
 use Rattle.dm_rulelaws.proofs.Queued.{is_user}
 use Rattle.dm_rulelaws.proofs.Runs.{Based}
 use Rattle.dm_rulelaws.proofs.Goes.Parts.{said, no_receive, Does, does_nothing, does_label}
-use Rattle.dm_rulelaws.proofs.Own.Told.{HaveNoOwn}
+use Rattle.dm_rulelaws.proofs.Own.Told.{HasNoOwn}
 
 -- a user message of the bag for a process
 pub record IsFor (s : OneKernel) (p : Pid) (i : MsgId) : Type 0 where
@@ -49,12 +49,10 @@ right_there i (Some x) f z least off h = (x, refl, StandsAsBag-one (Some x) f z 
 -- what is queued for a process can go with it
 pub queue_drops : (b : Boot) (m : ℕ) (pt : Point) (p : Pid) → Based b pt → Droppable pt.kernel p (pt.view.queue m p)
 queue_drops b m pt p h = droppable_of pt.kernel p (pt.view.queue m p) (λ i least.
-    let q = h.queued m p i least in
-    let entered = q.entered in
     let state = h.phased.state in
-    let off : is_kernels i ≡ false = not_true (is_kernels i) (λ e. let z = kernels_fresh state.r state.e pt.kernel i state.sound e in omega (arith, entered, z)) in
+    let off : is_kernels i ≡ false = not_true (is_kernels i) (λ e. let z = kernels_fresh state.r state.e pt.kernel i state.sound e in omega (arith, (h.queued m p i least).entered, z)) in
     let (x, there, one) = right_there i (pt.kernel.bag i) (standing pt.view i) (Queue m p) least off (stands_right pt i state (pt.kernel.bag i) refl) in
-    (let k = q.is x there in record { x = x; there = there; to = k.0; user = k.1 }, (omega (arith, one))))
+    (let k = (h.queued m p i least).is x there in record { x = x; there = there; to = k.0; user = k.1 }, (omega (arith, one))))
 
 pub user_dropped : (w : PlainWhat) → is_user w ≡ true → is_dropped w ≡ true
 user_dropped (PlainWhat.User code channel body links) e = refl
@@ -67,9 +65,7 @@ pub does_drops : (C : Type 0) (p : Pid) (y : Why) (ids : List MsgId) (pt : Point
 does_drops C p y [] pt ended h = does_nothing C pt
 does_drops C p y (i ∷ is) pt ended h =
     let s = pt.kernel in
-    let x = h.0.x in
-    let step = dropped_is s i x y h.0.there (ap s.processes h.0.to ∙ ended) (user_dropped x.what h.0.user) in
-    does_label C pt (Label.Dropped i) (without_message s i) (rule.drop_parts is) step
+    does_label C pt (Label.Dropped i) (without_message s i) (rule.drop_parts is) (dropped_is s i h.0.x y h.0.there (ap s.processes h.0.to ∙ ended) (user_dropped (h.0.x).what h.0.user))
     (does_drops C p y is (moved pt (Line.Label (Label.Dropped i)) (without_message s i)) ended
     (droppable_on s (without_message s i) p is (λ j least. out_off s i j (apart j least (id_eq i j) refl)) h.2))
   where
@@ -82,7 +78,7 @@ pub drops_quiet : (ids : List MsgId) → no_receive (said (rule.drop_parts ids))
 drops_quiet [] = refl
 drops_quiet (i ∷ is) = drops_quiet is
 
-pub drops_own : (ids : List MsgId) → HaveNoOwn (rule.drop_parts ids)
+pub drops_own : (ids : List MsgId) → Each HasNoOwn (rule.drop_parts ids)
 drops_own [] = tt
 drops_own (i ∷ is) = (tt, drops_own is)
 

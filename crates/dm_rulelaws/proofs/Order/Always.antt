@@ -1,12 +1,12 @@
 -- As long as nothing moves, messages of one sender to one process on one channel are received in the order in which they were sent.
-use Rattle.dm_rulelaws.proofs.Names.{◌≡◌, suc, Bool, true, false, List, [], ◌∷◌, ◌++◌, refl, ap, ◌∙◌, sym, subst, arith, Option, Some, false≢true, Pid, MsgId, id_of, Boot, IsValid, Label, OneKernel, bind, start, replay, Step, Line, Spelled}
-use Rattle.dm_rulelaws.proofs.Names.{Point, first_point, labels, moved, LeadsBy, ReceivesInOrder, AreStill, ℕ, ◌+◌, ◌≤◌, inl, inr, if◌then◌else◌, None, cases_Bool, nat_tests, id_eq, PlainMessage, PlainWhat, on_mask, in_bag, counts}
+use Rattle.dm_rulelaws.proofs.Names.{◌≡◌, suc, Bool, true, false, List, [], ◌∷◌, ◌++◌, refl, ap, ◌∙◌, sym, subst, arith, Option, Some, Pid, MsgId, id_of, Boot, IsValid, Label, OneKernel, bind, start, replay, Step, Line, Spelled, Point}
+use Rattle.dm_rulelaws.proofs.Names.{first_point, labels, moved, LeadsBy, ReceivesInOrder, AreStill, ℕ, ◌+◌, ◌≤◌, inl, inr, if◌then◌else◌, None, cases_Bool, nat_tests, id_eq, PlainMessage, PlainWhat, on_mask, in_bag, counts, IsStill}
 use Rattle.dm_rulelaws.proofs.Names.{pid_eq-same, id_eq-is, id_eq-same, after_step, without_id, times, untaken, View, after_label, Each, channel_in, is_for_home, are_for_home, About, NothingElse, begins, marked, homes_of, Sane, AskNone}
-use Rattle.dm_rulelaws.proofs.Names.{first_view, spelled}
+use Rattle.dm_rulelaws.proofs.Names.{first_view, spelled, IsStep, group_of, home_group, none_replaced, home_start}
 use Rattle.dm_rulelaws.proofs.RunLabels.{labels-append, replay-append, group_replay}
-use Rattle.dm_rulelaws.proofs.Goes.Parts.{said, Shape, Quiet, Takes, Goes, Reception, not_receive, no_receive, sane_by, AsksNone, unasked}
+use Rattle.dm_rulelaws.proofs.Goes.Parts.{said, Shape, Quiet, Takes, Goes, Reception, not_receive, no_receive, sane_by, NoAsk, unasked}
 use Rattle.dm_rulelaws.proofs.Goes.Always.{CalmFor, group_on}
-use Rattle.dm_rulelaws.proofs.Goes.Runs.{RunStarts, RunGoes, Stays, stays_start, stays_group, calm_for}
+use Rattle.dm_rulelaws.proofs.Goes.Runs.{RunStarts, RunGoes, Stays, calm_for, both_group, both_start}
 use Rattle.dm_rulelaws.proofs.Order.Lines.{Which, Ord, ordered, first_one, first_not, drop_one, put_not, on_channel, is_one, is_told, ord_view, ord_step, thin_label, thin_same, box_same, was_told, counts_grown, one_is}
 use Rattle.dm_rulelaws.proofs.Fits.Rises.{both, two}
 use Rattle.dm_rulelaws.proofs.Runs.{Run}
@@ -70,9 +70,8 @@ bound_in g from [] rest j h least one = absurd (omega (arith, least))
 bound_in g from (i ∷ is) rest j h least one = elim (cases_Bool (id_eq j i)) [
   | inl same ↦
       let e : j ≡ i = id_eq-is j i same in
-      let k = (first_one g from i (is ++ rest) (sym (ap g e) ∙ one) h).0 in
       let n : j.n ≡ i.n = ap (λ (v : MsgId). v.n) e in
-      omega (arith, k, n)
+      omega (arith, (first_one g from i (is ++ rest) (sym (ap g e) ∙ one) h).0, n)
   | inr apart ↦
       let e : times j (i ∷ is) ≡ 0 + times j is = ap (λ (c : Bool). (if c then 1 else 0) + times j is) apart in
       bound_in g from is rest j (drop_one g from i (is ++ rest) h) (omega (arith, least, e)) one
@@ -112,7 +111,6 @@ taken_by m pt from to channel n mask x t sane acts home first step there queued 
     let s = pt.kernel in
     let v = pt.view in
     let q = which from to channel 0 in
-    let r = which from to channel (suc n) in
     let g = is_one s q in
     let w = after_label v (Label.Receive to i) in
     let h = to.home in
@@ -128,13 +126,12 @@ taken_by m pt from to channel n mask x t sane acts home first step there queued 
     let rest = v.inbox h ++ untaken (v.pair from.home h) in
     let later = first_goes s g mask 0 (v.queue h to) rest i firsts
     (λ k e. let c = one_is s q k e in ap (rule.is_awaited mask) c.there ∙ awaited_on mask channel c.x.what c.on masked) one o.order in
-    let few = sane.sound.entered.fewer i in
     let in_ : in_bag (s.bag i) ≡ 1 = ap in_bag there in
-    let counted : counts s i ≡ true = sane.sound.entered.counted i (omega (arith, few, in_)) in
+    let counted : counts s i ≡ true = sane.sound.entered.counted i (omega (arith, sane.sound.entered.fewer i, in_)) in
     let told : is_told v i ≡ true = mem (λ (j : MsgId). is_told v j ≡ true) (v.queue h to) i a.stands o.queue_told in
     let next = ord_view q s v w (thin_label q v (Label.Receive to i)) o in
     let af = after_step sane.r sane.e s t (Label.Receive to i) step sane.sound in
-    let now : Ord r s w = record {
+    let now : Ord (which from to channel (suc n)) s w = record {
       order = ap (λ xs. ordered g (suc n) (xs ++ rest)) queue ∙ ap (λ k. ordered g k (without_id i (v.queue h to) ++ rest)) (let e : suc n ≡ n + 1 = omega arith in e) ∙ later;
       floor = λ k less. counts_lower s from n k (omega (arith, less)) counted;
       last_told = λ k e. let z : k ≡ n = omega (arith, e) in ap (λ j. is_told v (id_of from j)) z ∙ told;
@@ -144,7 +141,7 @@ taken_by m pt from to channel n mask x t sane acts home first step there queued 
       sourced = next.sourced;
       loop = next.loop;
     } in
-    ord_step r s t w (was_told pt (Label.Receive to i) t sane step) (counts_grown s t af.grown) now
+    ord_step (which from to channel (suc n)) s t w (was_told pt (Label.Receive to i) t sane step) (counts_grown s t af.grown) now
 
 pub taken_order : (b : Boot) (at next : Point) (from to : Pid) (channel n : ℕ) (x : PlainMessage) → Taking b at to (id_of from n) next → at.kernel.bag (id_of from n) ≡ Some x → channel_in x.what ≡ Some channel → Ord (which from to channel 0) at.kernel at.view → Ord (which from to channel (suc n)) next.kernel next.view
 taken_order b at next from to channel n x take there on o =
@@ -160,18 +157,14 @@ taken_bound b at next from to channel floor k y take there on o =
     let s = at.kernel in
     let q = which from to channel floor in
     let v = view.after_head at.view take.d in
-    let p = ord_head q s at.view take.d o in
     let h = to.home in
     let first : rule.first_awaited s take.mask (v.queue h to) ≡ Some j = ap (λ m. rule.first_awaited s take.mask (v.queue m to)) take.home ∙ take.first in
     let a = first_is s take.mask (v.queue h to) j first in
     let receiver : y.to ≡ to = queued_to b at take.d h to j y take.run a.stands there in
-    bound_in (is_one s q) floor (v.queue h to) (v.inbox h ++ untaken (v.pair from.home h)) j p.order a.stands (one_of s from to channel floor k y there receiver on)
+    bound_in (is_one s q) floor (v.queue h to) (v.inbox h ++ untaken (v.pair from.home h)) j (ord_head q s at.view take.d o).order a.stands (one_of s from to channel floor k y there receiver on)
 
 -- the group of a reception among all
-pub record Reaches (b : Boot) (end pt : Point) (before later : List Label) (p : Pid) (i : MsgId) : Type 0 where
-  pub at : Point
-  pub replays : replay pt.kernel before ≡ Some at.kernel
-  pub order : (k : Which) → Ord k pt.kernel pt.view → Ord k at.kernel at.view
+pub record Behind (b : Boot) (end at : Point) (later : List Label) (p : Pid) (i : MsgId) : Type 0 where
   pub next : Point
   pub on : Stays b next
   pub goes : (k : Which) → Ord k at.kernel at.view → Ord k next.kernel next.view
@@ -182,6 +175,12 @@ pub record Reaches (b : Boot) (end pt : Point) (before later : List Label) (p : 
   pub asks : AskNone ls
   pub leads : LeadsBy b next es ls end
   pub rest : labels ls ≡ later
+
+pub record Reaches (b : Boot) (end pt : Point) (before later : List Label) (p : Pid) (i : MsgId) : Type 0 where
+  pub at : Point
+  pub replays : replay pt.kernel before ≡ Some at.kernel
+  pub order : (k : Which) → Ord k pt.kernel pt.view → Ord k at.kernel at.view
+  pub behind : Behind b end at later p i
 
 both_if : (c d : Bool) → (if c then d else false) ≡ true → (c ≡ true) × (d ≡ true)
 both_if true d e = (refl, e)
@@ -203,16 +202,7 @@ found_later b end pt mid ls before more later p i replays order is f = record {
   at = f.at;
   replays = ap (replay pt.kernel) is ∙ replay-append ls more pt.kernel mid.kernel f.at.kernel replays f.replays;
   order = λ k o. f.order k (order k o);
-  next = f.next;
-  on = f.on;
-  goes = f.goes;
-  asks = f.asks;
-  takes = f.takes;
-  es = f.es;
-  still = f.still;
-  ls = f.ls;
-  leads = f.leads;
-  rest = f.rest;
+  behind = f.behind;
 }
 
 -- one label alone
@@ -237,10 +227,8 @@ taking_home : (b : Boot) (pt : Point) (d : Step) (p : Pid) (mask : ℕ) (i : Msg
 taking_home b pt d p mask i h first =
     let m = view.actor d in
     let a = first_is pt.kernel mask ((view.after_head pt.view d).queue m p) i first in
-    let stands = a.stands in
-    let to = queued_to b pt d m p i a.x h.both.run a.stands a.there in
-    let least : 1 ≤ times i (pt.view.queue m p) = (let e : times i ((view.after_head pt.view d).queue m p) ≡ times i (pt.view.queue m p) = ap (times i) (head_queues pt.view d m p) in omega (arith, stands, e)) in
-    ap (λ (q : Pid). q.home) (sym to) ∙ home_is m (pt.kernel.bag i) a.x a.there (queued_home pt.kernel m (pt.view.queue m p) i ((homes_of h.r h.e pt h.home).queue m p) least)
+    let least : 1 ≤ times i (pt.view.queue m p) = (let e : times i ((view.after_head pt.view d).queue m p) ≡ times i (pt.view.queue m p) = ap (times i) (head_queues pt.view d m p) in omega (arith, a.stands, e)) in
+    ap (λ (q : Pid). q.home) (sym (queued_to b pt d m p i a.x h.both.run a.stands a.there)) ∙ home_is m (pt.kernel.bag i) a.x a.there (queued_home pt.kernel m (pt.view.queue m p) i ((homes_of h.r h.e pt h.home).queue m p) least)
 
 -- a point's group, where it receives
 pub taking_of : (b : Boot) (pt : Point) (d : Step) (w : Spelled) (g : Goes (CalmFor pt d) b pt d) (h : Stays b pt) (r : Reception (view.actor d) (moved pt (Line.Head d) pt.kernel) g.parts) → g.w ≡ w → Taking b pt r.p r.i w.point
@@ -259,11 +247,7 @@ taking_of b pt d w g h r is = record {
 
 never_nothing : (xs ys : List Label) (y : Label) → [] ≡ xs ++ y ∷ ys → ⊥
 never_nothing [] ys y e = search arith
-never_nothing (x ∷ xs) ys y e = let f : true ≡ false = ap is_nothing e in false≢true (sym f)
-  where
-    is_nothing : List Label → Bool
-    is_nothing [] = true
-    is_nothing (z ∷ zs) = false
+never_nothing (x ∷ xs) ys y e = search arith
 
 -- a group that receives, and what is behind it
 -- lines by which none is asked to move
@@ -294,38 +278,31 @@ find goes b (d ∷ ds) pt end ls before later p i valid still asks h (w, rest, f
     let g = group_on b pt d h.both.run h.both.own in
     let some : Some g.goes.w ≡ Some w = sym g.goes.is ∙ is in
     let same : g.goes.w ≡ w = cc in
+    let stays_group : RunGoes → (b : Boot) (pt : Point) (d : Step) (w : Spelled) → IsValid b → IsStill d → AskNone w.lines → IsStep pt.kernel.machines d → group_of b pt d ≡ Some w → Stays b pt → Stays b w.point =
+      λ goes b pt d w valid still asks fit is h.
+      let k = home_group none_replaced b h.r h.e pt d w still is asks h.both.run.based.phased.state h.home in
+      record { both = both_group goes b pt d w valid fit is h.both; r = k.r; e = k.e; home = k.home } in
     let on = stays_group goes b pt d w valid still.0 unasked_.0 fit is h in
     let says : labels w.lines ≡ said g.goes.parts = sym (ap (λ (v : Spelled). labels v.lines) same) ∙ g.goes.says in
     find_by b end pt w.point d w ds rest before later p i g.goes g.shape same h on still.1 unasked_.1 more
-    (λ k o. subst (λ (v : Spelled). Ord k v.point.kernel v.point.view) same (g.goes.order (calm_for b pt d still.0 h) (subst (λ (v : Spelled). AsksNone (labels v.lines)) (sym same) (unasked w.lines unasked_.0)) h.both.run.based.phased.sane k (ord_head k pt.kernel pt.view d o)))
+    (λ k o. subst (λ (v : Spelled). Ord k v.point.kernel v.point.view) same (g.goes.order (calm_for b pt d still.0 h) (subst (λ (v : Spelled). Each NoAsk (labels v.lines)) (sym same) (unasked w.lines unasked_.0)) h.both.run.based.phased.sane k (ord_head k pt.kernel pt.view d o)))
     (ap (replay pt.kernel) (sym says) ∙ group_replay b pt d w is)
     (ap (λ xs. xs ++ labels rest) (sym says) ∙ sym (labels-append w.lines rest) ∙ sym (ap labels split) ∙ e)
     (λ tail f. find goes b ds w.point end rest tail later p i valid still.1 unasked_.1 on more f)
 
-same_kernel : (o : Option OneKernel) (s t : OneKernel) → o ≡ Some s → o ≡ Some t → s ≡ t
-same_kernel o s t e f = let g : Some s ≡ Some t = sym e ∙ f in cc
-
-ord_start : (b : Boot) (q : Which) → q.floor ≡ 0 → Ord q (start b) (first_view b)
-ord_start b q none = search arith
-
 -- received in order, where all of it holds at the start and is kept by each group
 pub receives_in_order_by : RunStarts → RunGoes → ReceivesInOrder
 receives_in_order_by starts goes b es ls pt before between after_ from to n k channel valid still asks leads e s1 s2 =
+    let same_kernel : (o : Option OneKernel) (s t : OneKernel) → o ≡ Some s → o ≡ Some t → s ≡ t = λ o s t e f. let g : Some s ≡ Some t = sym e ∙ f in cc in
     let i = id_of from n in
     let j = id_of from k in
-    let later = between ++ Label.Receive to j ∷ after_ in
-    let f1 = find goes b es (first_point b) pt ls before later to i valid still asks (stays_start starts b valid) leads e in
-    let eq1 = same_kernel (replay (start b) before) s1.kernel f1.at.kernel s1.run f1.replays in
-    let there1 : f1.at.kernel.bag i ≡ Some s1.message = sym (ap (λ (s : OneKernel). s.bag i) eq1) ∙ s1.there in
-    let o0 = f1.order (which from to channel 0) (ord_start b (which from to channel 0) refl) in
-    let o1 = taken_order b f1.at f1.next from to channel n s1.message f1.takes there1 s1.on o0 in
-    let f2 = find goes b f1.es f1.next pt f1.ls between after_ to j valid f1.still f1.asks f1.on f1.leads f1.rest in
-    let o2 = f2.order (which from to channel (suc n)) o1 in
-    let kernel_is : f1.takes.t ≡ f1.next.kernel = sym (ap (λ (z : Point). z.kernel) f1.takes.point) in
+    let f1 = find goes b es (first_point b) pt ls before (between ++ Label.Receive to j ∷ after_) to i valid still asks (record { both = both_start starts b valid; r = λ i. 0; e = λ i. 0; home = home_start b valid }) leads e in
+    let there1 : f1.at.kernel.bag i ≡ Some s1.message = sym (ap (λ (s : OneKernel). s.bag i) (same_kernel (replay (start b) before) s1.kernel f1.at.kernel s1.run f1.replays)) ∙ s1.there in
+    let o1 = taken_order b f1.at f1.behind.next from to channel n s1.message f1.behind.takes there1 s1.on (f1.order (which from to channel 0) (let e_ : Ord (which from to channel 0) (start b) (first_view b) = search arith in e_)) in
+    let f2 = find goes b f1.behind.es f1.behind.next pt f1.behind.ls between after_ to j valid f1.behind.still f1.behind.asks f1.behind.on f1.behind.leads f1.behind.rest in
+    let kernel_is : f1.behind.takes.t ≡ f1.behind.next.kernel = sym (ap (λ (z : Point). z.kernel) f1.behind.takes.point) in
     let on : replay f1.at.kernel (Label.Receive to i ∷ between) ≡ Some f2.at.kernel =
-    ap (λ (o : Option OneKernel). bind o (λ (t : OneKernel). replay t between)) f1.takes.step ∙ ap (λ (t : OneKernel). replay t between) kernel_is ∙ f2.replays in
+    ap (λ (o : Option OneKernel). bind o (λ (t : OneKernel). replay t between)) f1.behind.takes.step ∙ ap (λ (t : OneKernel). replay t between) kernel_is ∙ f2.replays in
     let all = replay-append before (Label.Receive to i ∷ between) (start b) f1.at.kernel f2.at.kernel f1.replays on in
-    let eq2 = same_kernel (replay (start b) (before ++ Label.Receive to i ∷ between)) s2.kernel f2.at.kernel s2.run all in
-    let there2 : f2.at.kernel.bag j ≡ Some s2.message = sym (ap (λ (s : OneKernel). s.bag j) eq2) ∙ s2.there in
-    let bound = taken_bound b f2.at f2.next from to channel (suc n) k s2.message f2.takes there2 s2.on o2 in
-    omega (arith, bound)
+    let there2 : f2.at.kernel.bag j ≡ Some s2.message = sym (ap (λ (s : OneKernel). s.bag j) (same_kernel (replay (start b) (before ++ Label.Receive to i ∷ between)) s2.kernel f2.at.kernel s2.run all)) ∙ s2.there in
+    omega (arith, taken_bound b f2.at f2.behind.next from to channel (suc n) k s2.message f2.behind.takes there2 s2.on (f2.order (which from to channel (suc n)) o1))

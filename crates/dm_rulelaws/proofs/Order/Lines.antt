@@ -6,6 +6,7 @@ use Rattle.dm_rulelaws.proofs.Fits.Rises.{Each-on, both, two}
 use Rattle.dm_rulelaws.proofs.Queued.{is_user}
 use Rattle.dm_onekernel.specs.Step as kernel
 use Rattle.dm_rule.specs.View as view
+use Rattle.dm_rulelaws.proofs.Fits.Constants.{same_name}
 
 -- those of which g is true have ascending numbers, from so much on
 abbrev pub ordered : (MsgId → Bool) → ℕ → List MsgId → Bool
@@ -146,12 +147,10 @@ pub ord_view : (q : Which) (s : OneKernel) (v w : View) → ThinFor q v w → Or
 ord_view q s v w t h =
     let g = is_one s q in
     let m = q.to.home in
-    let uv = untaken (v.pair q.from.home m) in
-    let uw = untaken (w.pair q.from.home m) in
     record {
-      order = context g q.floor (w.queue m q.to) (v.inbox m ++ uv) (w.inbox m ++ uw)
-          (λ k e. t.inbox.order g k uw (ap (λ xs. ordered g k (v.inbox m ++ xs)) (t.away q.from.home) ∙ e))
-          (t.queue.order g q.floor (v.inbox m ++ uv) h.order);
+      order = context g q.floor (w.queue m q.to) (v.inbox m ++ (untaken (v.pair q.from.home m))) (w.inbox m ++ (untaken (w.pair q.from.home m)))
+          (λ k e. t.inbox.order g k (untaken (w.pair q.from.home m)) (ap (λ xs. ordered g k (v.inbox m ++ xs)) (t.away q.from.home) ∙ e))
+          (t.queue.order g q.floor (v.inbox m ++ (untaken (v.pair q.from.home m))) h.order);
       floor = h.floor;
       last_told = λ n e. t.told (id_of q.from n) (h.last_told n e);
       queue_told = told_on v w (w.queue m q.to) t.told (t.queue.told (is_told v) h.queue_told);
@@ -181,12 +180,11 @@ ord_step q s t v was grows h = record {
   loop = h.loop;
 }
 
--- counts only grow
-life_counts : (n : ℕ) (a b : Option Life) → LifeGrows a b → is_counted n a ≡ true → is_counted n b ≡ true
-life_counts n a b h1 h2 = search arith
-
 pub counts_grown : (s t : OneKernel) → Grown s t → (i : MsgId) → counts s i ≡ true → counts t i ≡ true
-counts_grown s t g i h = grind (arith, nat_tests, i.n, s.switchboard.sent, s.manager.sent, t.switchboard.sent, t.manager.sent, g.switchboard, g.manager, life_counts)
+counts_grown s t g i h =
+    -- counts only grow
+    let life_counts : (n : ℕ) (a b : Option Life) → LifeGrows a b → is_counted n a ≡ true → is_counted n b ≡ true = λ n a b h1 h2. search arith in
+    grind (arith, nat_tests, i.n, s.switchboard.sent, s.manager.sent, t.switchboard.sent, t.manager.sent, g.switchboard, g.manager, life_counts)
 
 -- labels
 pub thin_same : (q : Which) (v w : View) → w.queue q.to.home q.to ≡ v.queue q.to.home q.to → Thins (w.inbox q.to.home) (v.inbox q.to.home) → ((a : ℕ) → untaken (w.pair a q.to.home) ≡ untaken (v.pair a q.to.home)) → ((i : MsgId) → w.told i ≡ v.told i) → ThinFor q v w
@@ -209,10 +207,7 @@ dropped_thin q v i None = thin_handled q v i
 dropped_thin q v i (Some p) = search (arith, queue_thin, v.queue, v.acting, q.to.home, q.to, thins_front, handled_thin)
 
 pub thin_label : (q : Which) (v : View) (l : Label) → ThinFor q v (after_label v l)
-thin_label q v (Label.Ran p k) = thin_same q v (after_label v (Label.Ran p k)) refl (box_same v q.to.home) (λ a. refl) (λ j. refl)
-thin_label q v (Label.End p y) = thin_same q v (after_label v (Label.End p y)) refl (box_same v q.to.home) (λ a. refl) (λ j. refl)
 thin_label q v (Label.Receive p id) = search (arith, queue_thin, v.queue, v.acting, q.to.home, q.to, thins_without, box_same)
-thin_label q v (Label.Refuse p id c) = thin_same q v (after_label v (Label.Refuse p id c)) refl (box_same v q.to.home) (λ a. refl) (λ j. refl)
 thin_label q v (Label.Dropped id) = dropped_thin q v id (view.receiver_of (v.told id))
 thin_label q v (Label.Served id) =
     let (spots, told, pair, acting, queue) = served_keeps (handled v id) (v.told id) in
@@ -223,19 +218,13 @@ thin_label q v (Label.Took id) = thin_handled q v id
 thin_label q v (Label.Created id p) = thin_same q v (after_label v (Label.Created id p)) refl (handled_thin v id q.to.home) (λ a. refl) (λ j. refl)
 thin_label q v (Label.NoSpace id f b) = thin_handled q v id
 thin_label q v (Label.Asked id) = thin_handled q v id
-thin_label q v _ = thin_same q v v refl (box_same v q.to.home) (λ a. refl) (λ j. refl)
+thin_label q v any_ = thin_same q v (after_label v any_) refl (box_same v q.to.home) (λ a. refl) (λ j. refl)
 
 pub was_told : (pt : Point) (l : Label) (t : OneKernel) (h : Sane pt) → kernel.step pt.kernel l ≡ Some t → (i : MsgId) (x : PlainMessage) → is_told pt.view i ≡ true → t.bag i ≡ Some x → pt.kernel.bag i ≡ Some x
 was_told pt l t h is i x told there =
     let a = after_step h.r h.e pt.kernel t l is h.sound in
     came_from (pt.kernel.bag i) (t.bag i) (h.e i) x (a.sound.entered.once i) there (λ y was. a.only i y x was there)
     (λ zero_. absurd (false≢true (sym (ap is_some (h.untold i zero_ (not_kernels (λ j. h.r j + reception j l) (λ j. h.e j + entry j pt.kernel t) t i x there a.sound))) ∙ told)))
-
-pub ord_label : (q : Which) (pt : Point) (l : Label) (t : OneKernel) → Sane pt → kernel.step pt.kernel l ≡ Some t → Ord q pt.kernel pt.view → Ord q t (after_label pt.view l)
-ord_label q pt l t h step o =
-    let a = after_step h.r h.e pt.kernel t l step h.sound in
-    ord_view q t pt.view (after_label pt.view l) (thin_label q pt.view l)
-    (ord_step q pt.kernel t pt.view (was_told pt l t h step) (counts_grown pt.kernel t a.grown) o)
 
 -- Routes, deliveries and queues keep the order in which messages were sent.
 
@@ -283,15 +272,11 @@ strictly : (a b : ℕ) → a < b + 1 → (a ≡ b → false ≡ true) → a < b
 strictly a b le apart = search arith
 
 -- one more of the kind at the end of all
-same_id : (i j : MsgId) → i.from ≡ j.from → i.n ≡ j.n → i.answer ≡ j.answer → i ≡ j
-same_id i j e f g = λ k. record { from = e k; n = f k; answer = g k }
-
 below_last : (q : Which) (s : OneKernel) (v : View) (i j : MsgId) → ((k : MsgId) (y : PlainMessage) → s.bag k ≡ Some y → counts s k ≡ true) → is_told v i ≡ true → is_one s q j ≡ true → Last s v j → is_one s q i ≡ true → i.n < j.n
 below_last q s v i j bagged told mine last one =
     let a = one_is s q i one in
-    let b = one_is s q j mine in
-    let same : i.from ≡ j.from = a.from ∙ sym b.from in
-    strictly i.n j.n (counts_below s i (next_id j) (bagged i a.x a.there) last.last same) (λ e. told_apart v i j told last.untold (same_id i j same e (a.own ∙ sym b.own)))
+    let same : i.from ≡ j.from = a.from ∙ sym (one_is s q j mine).from in
+    strictly i.n j.n (counts_below s i (next_id j) (bagged i a.x a.there) last.last same) (λ e. told_apart v i j told last.untold (same_name i j same e (a.own ∙ sym (one_is s q j mine).own)))
 
 floor_below : (q : Which) (s : OneKernel) (v : View) (j : MsgId) (f : ℕ) → q.floor ≡ f → Ord q s v → is_one s q j ≡ true → Last s v j → q.floor ≤ j.n
 floor_below q s v j zero is h mine last = omega (arith, is)
@@ -299,8 +284,7 @@ floor_below q s v j (suc n) is h mine last =
     let b = one_is s q j mine in
     let counted = h.floor n (omega (arith, is)) in
     let less = counts_below s (id_of q.from n) (next_id j) counted last.last (sym b.from) in
-    let apart = strictly n j.n less (λ e. told_apart v (id_of q.from n) j (h.last_told n (sym is)) last.untold (same_id (id_of q.from n) j (sym b.from) e (sym b.own))) in
-    omega (arith, is, apart)
+    omega (arith, is, strictly n j.n less (λ e. told_apart v (id_of q.from n) j (h.last_told n (sym is)) last.untold (same_name (id_of q.from n) j (sym b.from) e (sym b.own))))
 
 pub order_last : (q : Which) (s : OneKernel) (v : View) (j : MsgId) → ((k : MsgId) (y : PlainMessage) → s.bag k ≡ Some y → counts s k ≡ true) → Ord q s v → is_one s q j ≡ true → Last s v j → ordered (is_one s q) q.floor (awaiting q v ++ j ∷ []) ≡ true
 order_last q s v j bagged h mine last =

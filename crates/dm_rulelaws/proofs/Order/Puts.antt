@@ -1,7 +1,7 @@
 -- A route, a delivery, a queue and a message that is taken keep the order in which messages were sent.
 use Rattle.dm_rulelaws.proofs.Names.{◌≡◌, ℕ, zero, suc, ◌+◌, ◌==◌, Bool, true, false, List, [], ◌∷◌, ◌++◌, drop, refl, ap, ◌∙◌, sym, subst, is_some, inl, inr, arith, if◌then◌else◌, Some, cases_Bool, nat_tests, Pid, MsgId, MessageKind}
-use Rattle.dm_rulelaws.proofs.Names.{id_of, PlainMessage, OneKernel, counts, id_eq-same, at_machine, at_pair, at_id, untaken, View, Pair, Told, after_put, Each, ◌⊎◌, plain_kind, pair_keeps, ◌&&◌, not, filter, slice_get, Option, None}
-use Rattle.dm_rulelaws.proofs.Names.{false≢true, pid_eq, pid_eq-is, at_record, without_front, after_taken, handled, at_place}
+use Rattle.dm_rulelaws.proofs.Names.{id_of, PlainMessage, OneKernel, counts, id_eq-same, at_machine, at_pair, at_id, untaken, View, Pair, Told, after_put, Each, ◌⊎◌, plain_kind, pair_keeps, ◌&&◌, slice_get, Option, None, false≢true, pid_eq}
+use Rattle.dm_rulelaws.proofs.Names.{pid_eq-is, at_record, without_front, after_taken, handled, at_place, taken_pair}
 use Rattle.dm_rule.specs.View as view
 use Rattle.dm_rulelaws.proofs.Queued.{is_user}
 use Rattle.dm_rulelaws.proofs.Order.Lines.{context, Each-both, thins_same, drop_end, Which, is_one, is_told, awaiting, Sourced, AllTold, Ord, ThinFor, ord_view, thin_same, box_same, told_on, handled_thin, append-assoc, append-none, Last}
@@ -51,13 +51,11 @@ put_home q s v j x k p bagged last home h =
     record {
       order = order_as g q.floor (Q ++ ((I ++ j ∷ []) ++ U)) (awaiting q w) list (elim (cases_Bool (g j)) [
         | inl mine ↦
-            let o = one_is s q j mine in
-            let l = last mine in
-            let from : q.from.home ≡ m = ap (λ (r : Pid). r.home) (sym o.from) ∙ l.home ∙ am in
+            let from : q.from.home ≡ m = ap (λ (r : Pid). r.home) (sym (one_is s q j mine).from) ∙ (last mine).home ∙ am in
             let empty : U ≡ [] = ap (λ n. untaken (v.pair n m)) from ∙ h.loop in
             order_as g q.floor (awaiting q v ++ j ∷ []) (Q ++ ((I ++ j ∷ []) ++ U))
             (ap (λ xs. Q ++ ((I ++ j ∷ []) ++ xs)) empty ∙ ap (λ xs. Q ++ xs) (append-none (I ++ j ∷ [])) ∙ sym (append-assoc Q I (j ∷ [])) ∙ ap (λ xs. (Q ++ xs) ++ j ∷ []) (sym (append-none I)) ∙ ap (λ xs. (Q ++ (I ++ xs)) ++ j ∷ []) (sym empty))
-            (order_last q s v j bagged h mine l)
+            (order_last q s v j bagged h mine (last mine))
         | inr other ↦
             order_as g q.floor ((Q ++ I) ++ j ∷ U) (Q ++ ((I ++ j ∷ []) ++ U)) (ap (λ xs. Q ++ xs) (append-assoc I (j ∷ []) U) ∙ sym (append-assoc Q I (j ∷ U)))
             (order_not g q.floor (Q ++ I) U j other (order_as g q.floor (awaiting q v) ((Q ++ I) ++ U) (append-assoc Q I U) h.order))
@@ -153,9 +151,6 @@ place_none [] (suc k) e = refl
 place_none (y ∷ ys) zero e = cc
 place_none (y ∷ ys) (suc k) e = place_none ys k e
 
-abbrev taken_pair : Pair → ℕ → Pair
-taken_pair p n = record p { taken = p.taken + 1; kept = filter (λ k. not (k == n)) p.kept }
-
 taken_is : (p : Pair) (n : ℕ) → untaken (taken_pair p n) ≡ drop (suc p.taken) p.ids
 taken_is p n = let e : p.taken + 1 ≡ suc p.taken = omega arith in ap (λ k. drop k p.ids) e
 
@@ -213,13 +208,9 @@ ord_taken q s v a c n h = elim (cases_Bool (c == q.to.home)) [
 pub queue_on : (f : ℕ → Pid → List MsgId) (a m : ℕ) (p r : Pid) (xs : List MsgId) → a ≡ m → pid_eq p r ≡ true → at_record f a p xs m r ≡ xs
 queue_on f a m p r xs e same = let k : (a == m) ≡ true = grind (arith, nat_tests) in ap (λ (c : Bool). if c && pid_eq p r then xs else f m r) k ∙ ap (λ (c : Bool). if c then xs else f m r) same
 
-front_is : (i : MsgId) (is : List MsgId) → without_front i (i ∷ is) ≡ is
-front_is i is = ap (λ (c : Bool). if c then is else i ∷ is) (id_eq-same i)
-
 pub ord_queued : (q : Which) (s : OneKernel) (v : View) (i : MsgId) (is : List MsgId) (p : Pid) → v.inbox v.acting ≡ i ∷ is → p.home ≡ v.acting → is_told v i ≡ true → Ord q s v → Ord q s (view.queued_for (handled v i) i (Some p))
 ord_queued q s v i is p box home now h =
-    let u = handled v i in
-    let w = view.queued_for u i (Some p) in
+    let w = view.queued_for (handled v i) i (Some p) in
     let m = q.to.home in
     elim (cases_Bool (pid_eq p q.to)) [
       | inr other ↦
@@ -230,7 +221,8 @@ ord_queued q s v i is p box home now h =
           let Q = v.queue m q.to in
           let U = untaken (v.pair q.from.home m) in
           let front : v.inbox m ≡ i ∷ is = ap v.inbox (sym at) ∙ box in
-          let inbox : w.inbox m ≡ is = ap (λ k. at_machine v.inbox k (without_front i (v.inbox k)) m) at ∙ box_on v.inbox m (without_front i (v.inbox m)) ∙ ap (without_front i) front ∙ front_is i is in
+          let front_is : without_front i (i ∷ is) ≡ is = ap (λ (c : Bool). if c then is else i ∷ is) (id_eq-same i) in
+          let inbox : w.inbox m ≡ is = ap (λ k. at_machine v.inbox k (without_front i (v.inbox k)) m) at ∙ box_on v.inbox m (without_front i (v.inbox m)) ∙ ap (without_front i) front ∙ front_is in
           let queue : w.queue m q.to ≡ Q ++ i ∷ [] = queue_on v.queue v.acting m p q.to (v.queue v.acting p ++ i ∷ []) at same ∙ ap (λ k. v.queue k p ++ i ∷ []) at ∙ ap (λ r. v.queue m r ++ i ∷ []) is_p in
           let told : AllTold v (i ∷ is) = subst (AllTold v) front h.inbox_told in
           search (arith, order_as, q.floor, w.inbox, append-assoc, h.order, h.floor, h.last_told, Each-both, h.queue_told, told.1, h.away_told, h.sourced, h.loop)

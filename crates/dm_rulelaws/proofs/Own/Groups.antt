@@ -1,24 +1,20 @@
 -- Each group keeps what was told of kernels' own messages.
-use Rattle.dm_rulelaws.proofs.Names.{◌≡◌, ℕ, Bool, true, false, List, [], ◌∷◌, refl, ap, ◌∙◌, sym, subst, inl, inr, ⊤, if◌then◌else◌, Option, None, Some, cases_Bool, false≢true, Pid, MsgId, MessageKind, id_eq, plain_kind, Boot, Label}
-use Rattle.dm_rulelaws.proofs.Names.{OneKernel, bind, id_eq-is, bind-is, Step, Line, Stage, Receiver, Point, label_of, kernel_after, after_line, after, moved, Part, Says, Routes, Again, Owns, Transmits, Spelled, lines_of, puts, packet_line}
-use Rattle.dm_rulelaws.proofs.Names.{behind, spelled, group_of, View, About, Told, view_after, is_kernels, own_id, is_put, hushed, not_kernels, put_told_off, Sane, sane_line, part_sane, Sayable, AllSayable, outcome_sayable, seen_none, sets}
-use Rattle.dm_rulelaws.proofs.Names.{arith}
+use Rattle.dm_rulelaws.proofs.Names.{◌≡◌, ℕ, Bool, true, false, List, [], ◌∷◌, refl, ap, ◌∙◌, sym, subst, inl, inr, ⊤, if◌then◌else◌, Option, None, Some, cases_Bool, false≢true, Pid, MsgId, MessageKind, id_eq, plain_kind, Boot, id_eq-is}
+use Rattle.dm_rulelaws.proofs.Names.{bind-is, Step, Line, Stage, Receiver, Point, label_of, kernel_after, after_line, after, moved, Part, Says, Routes, Again, Owns, Transmits, Spelled, lines_of, puts, packet_line, spelled, group_of, View}
+use Rattle.dm_rulelaws.proofs.Names.{About, Told, view_after, is_kernels, own_id, is_put, hushed, not_kernels, put_told_off, Sane, sane_line, part_sane, Sayable, AllSayable, outcome_sayable, seen_none, sets, arith, by_parts, Each}
 use Rattle.dm_rule.specs.View as view
 use Rattle.dm_rulelaws.proofs.Runs.{Run}
-use Rattle.dm_rulelaws.proofs.Own.Told.{OwnTold, own_sort, HasNoOwn, HaveNoOwn, topic_stage, Later, OwnsFit, senders_step, NoOwns, FirstOwns, ThenOwns, AnyOwns}
+use Rattle.dm_rulelaws.proofs.Own.Told.{OwnTold, own_sort, HasNoOwn, topic_stage, Later, OwnsFit, senders_step, NoOwns, FirstOwns, ThenOwns, AnyOwns}
 use Rattle.dm_rulelaws.proofs.Goes.Parts.{put_lines}
 use Rattle.dm_rulelaws.proofs.Goes.Always.{group_on}
 use Rattle.dm_rulelaws.proofs.Based.Needs.{by_puts}
 
 -- a line that is no put
-own_by : (pt : Point) (l : Line) (o : Option Label) (s : OneKernel) → is_put l ≡ false → kernel_after pt.kernel o ≡ Some s → Sane pt → OwnTold pt → OwnTold (moved pt l s)
-own_by pt l o s h1 h2 h3 h4 = search (arith, pt.kernel, hushed, pt.view, senders_step)
-
 own_line : (pt next : Point) (l : Line) → is_put l ≡ false → after_line pt l ≡ Some next → Sane pt → OwnTold pt → OwnTold next
 own_line pt next l quiet is sane h =
     let (s, comes, last) = bind-is (kernel_after pt.kernel (label_of l)) (λ s. Some (moved pt l s)) next is in
     let f : moved pt l s ≡ next = cc in
-    subst OwnTold f (own_by pt l (label_of l) s quiet comes sane h)
+    subst OwnTold f (let e_ : OwnTold (moved pt l s) = search (arith, pt.kernel, hushed, pt.view, senders_step) in e_)
 
 -- a put
 first_sort : (pt : Point) (i : MsgId) (k : MessageKind) (q : Pid) (o : Option Told) (t : Told) → pt.view.told i ≡ o → Some (view.first_told o (record { kind = k; receiver = q; about = pt.view.topic })) ≡ Some t → is_kernels i ≡ true
@@ -63,33 +59,13 @@ own_part pt next (Again i b) ls ok right is leads sane h =
 own_part pt next (Owns k q b) ls ok right is leads sane h = puts_lead pt next b (own_id pt.view) k q ls (λ mine none. right) is leads h
 own_part pt next (Transmits a b l) ls ok right is leads sane h = one_line pt next (packet_line pt.view a b l) ls refl is leads sane h
 
--- the first part, and the rest
-record Next (pt : Point) (p : Part) (ps : List Part) (w : Spelled) : Type 0 where
-  ls : List Line
-  lines : lines_of pt p ≡ Some ls
-  next : Point
-  leads : after pt ls ≡ Some next
-  rest : Spelled
-  more : spelled next ps ≡ Some rest
-  point : rest.point ≡ w.point
-
-next_of : (pt : Point) (p : Part) (ps : List Part) (w : Spelled) → spelled pt (p ∷ ps) ≡ Some w → Next pt p ps w
-next_of pt p ps w is =
-    let (ls, lines, rest) = bind-is (lines_of pt p) (λ (xs : List Line). bind (after pt xs) (λ (q : Point). bind (spelled q ps) (λ (z : Spelled). Some (behind xs z)))) w is in
-    let (next, leads, last) = bind-is (after pt ls) (λ (q : Point). bind (spelled q ps) (λ (z : Spelled). Some (behind ls z))) w rest in
-    let (z, more, end) = bind-is (spelled next ps) (λ (y : Spelled). Some (behind ls y)) w last in
-    let f : behind ls z ≡ w = cc in
-    record { ls = ls; lines = lines; next = next; leads = leads; rest = z; more = more; point = ap (λ (x : Spelled). x.point) f }
-
 none_right : (pt : Point) (p : Part) → HasNoOwn p → IsRight pt p
 none_right pt (Owns k q b) h = absurd h
 none_right pt _ h = tt
 
-none_own : (ps : List Part) (pt : Point) (w : Spelled) → AllSayable ps → HaveNoOwn ps → spelled pt ps ≡ Some w → Sane pt → OwnTold pt → OwnTold w.point
-none_own [] pt w ok none is sane h = let f : record { lines = []; point = pt } ≡ w = cc in subst (λ (x : Spelled). OwnTold x.point) f h
-none_own (p ∷ ps) pt w ok none is sane h =
-    let n = next_of pt p ps w is in
-    subst OwnTold n.point (none_own ps n.next n.rest ok.1 none.1 n.more (part_sane pt n.next p n.ls ok.0 n.lines n.leads sane) (own_part pt n.next p n.ls ok.0 (none_right pt p none.0) n.lines n.leads sane h))
+none_own : (ps : List Part) (pt : Point) (w : Spelled) → AllSayable ps → Each HasNoOwn ps → spelled pt ps ≡ Some w → Sane pt → OwnTold pt → OwnTold w.point
+none_own qs q w ok none is = by_parts (λ ps pt v. AllSayable ps → Each HasNoOwn ps → Sane pt → OwnTold pt → OwnTold v.point) (λ pt ok none sane h. h)
+    (λ p ps pt next ls z lines leads more ok none sane h. more ok.1 none.1 (part_sane pt next p ls ok.0 lines leads sane) (own_part pt next p ls ok.0 (none_right pt p none.0) lines leads sane h)) qs q w is ok none
 
 -- what a put leaves the group to be about
 line_topic : (pt next : Point) (l : Line) (ls : List Line) → label_of l ≡ None → Some (l ∷ []) ≡ Some ls → after pt ls ≡ Some next → next.view ≡ view_after pt.view l
@@ -107,48 +83,37 @@ stage_topic : (v : View) (p : Pid) (s : Stage) → (view_after v (Line.Migration
 stage_topic v p Stage.Frozen = (sets v p v.topic).topic
 stage_topic v p _ = refl
 
-later_own : (a : About) (ps : List Part) (pt : Point) (w : Spelled) → AllSayable ps → Later a ps → pt.view.topic ≡ a → spelled pt ps ≡ Some w → Sane pt → OwnTold pt → OwnTold w.point
-later_own a [] pt w ok fit topic is sane h = let f : record { lines = []; point = pt } ≡ w = cc in subst (λ (x : Spelled). OwnTold x.point) f h
-later_own a (Again i b ∷ ps) pt w ok fit topic is sane h =
-    let n = next_of pt (Again i b) ps w is in
-    let (t, there, last) = bind-is (pt.view.told i) (λ t. Some (puts pt.view b i t.kind t.receiver)) n.ls n.lines in
-    subst OwnTold n.point (later_own a ps n.next n.rest ok.1 fit (puts_topic pt n.next b i t.kind t.receiver n.ls last n.leads ∙ topic) n.more (part_sane pt n.next (Again i b) n.ls ok.0 n.lines n.leads sane) (own_part pt n.next (Again i b) n.ls ok.0 tt n.lines n.leads sane h))
-later_own a (Owns k q b ∷ ps) pt w ok fit topic is sane h =
-    let n = next_of pt (Owns k q b) ps w is in
-    subst OwnTold n.point (later_own a ps n.next n.rest ok.1 fit.1 (puts_topic pt n.next b (own_id pt.view) k q n.ls n.lines n.leads ∙ topic) n.more (part_sane pt n.next (Owns k q b) n.ls ok.0 n.lines n.leads sane)
-    (own_part pt n.next (Owns k q b) n.ls ok.0 (ap (own_sort k q) topic ∙ fit.0) n.lines n.leads sane h))
-later_own a (Says (Line.Migration s p) ∷ ps) pt w ok fit topic is sane h =
-    let l = Line.Migration s p in
-    let n = next_of pt (Says l) ps w is in
-    subst OwnTold n.point (later_own (topic_stage a p s) ps n.next n.rest ok.1 fit (ap (λ (v : View). v.topic) (line_topic pt n.next l n.ls refl n.lines n.leads) ∙ stage_topic pt.view p s ∙ ap (λ (b : About). topic_stage b p s) topic) n.more
-    (part_sane pt n.next (Says l) n.ls ok.0 n.lines n.leads sane) (own_part pt n.next (Says l) n.ls ok.0 tt n.lines n.leads sane h))
-later_own a _ pt w ok fit topic is sane h = absurd fit
+-- what the first part needs, and those behind it
+abbrev FitsAt : Point → List Part → Type 0
+FitsAt pt [] = ⊤
+FitsAt pt (p ∷ ps) = IsRight pt p × ((next : Point) (ls : List Line) → lines_of pt p ≡ Some ls → after pt ls ≡ Some next → Later next.view.topic ps)
 
--- behind a first line
-then_own : (l : Line) (qs : List Part) (pt : Point) (w : Spelled) → label_of l ≡ None → AllSayable (Says l ∷ qs) → Later (view_after pt.view l).topic qs → spelled pt (Says l ∷ qs) ≡ Some w → Sane pt → OwnTold pt → OwnTold w.point
-then_own l qs pt w none ok fit is sane h =
-    let n = next_of pt (Says l) qs w is in
-    subst OwnTold n.point (later_own (view_after pt.view l).topic qs n.next n.rest ok.1 fit (ap (λ (v : View). v.topic) (line_topic pt n.next l n.ls none n.lines n.leads)) n.more
-    (part_sane pt n.next (Says l) n.ls ok.0 n.lines n.leads sane) (own_part pt n.next (Says l) n.ls ok.0 tt n.lines n.leads sane h))
+later_fits : (pt : Point) (ps : List Part) → Later pt.view.topic ps → FitsAt pt ps
+later_fits pt [] fit = tt
+later_fits pt (Again i b ∷ ps) fit = (tt, λ next ls lines leads. (
+    let (t, there, last) = bind-is (pt.view.told i) (λ t. Some (puts pt.view b i t.kind t.receiver)) ls lines in
+    subst (λ (a : About). Later a ps) (sym (puts_topic pt next b i t.kind t.receiver ls last leads)) fit))
+later_fits pt (Owns k q b ∷ ps) fit = (fit.0, λ next ls lines leads. subst (λ (a : About). Later a ps) (sym (puts_topic pt next b (own_id pt.view) k q ls lines leads)) fit.1)
+later_fits pt (Says (Line.Migration s p) ∷ ps) fit =
+    (tt, λ next ls lines leads. subst (λ (a : About). Later a ps) (sym (ap (λ (v : View). v.topic) (line_topic pt next (Line.Migration s p) ls refl lines leads) ∙ stage_topic pt.view p s)) fit)
+later_fits pt _ fit = absurd fit
 
--- behind a line of any kind
-any_own : (l : Line) (qs : List Part) (pt : Point) (w : Spelled) → AllSayable (Says l ∷ qs) → ((a : About) → Later a qs) → spelled pt (Says l ∷ qs) ≡ Some w → Sane pt → OwnTold pt → OwnTold w.point
-any_own l qs pt w ok fit is sane h =
-    let n = next_of pt (Says l) qs w is in
-    subst OwnTold n.point (later_own n.next.view.topic qs n.next n.rest ok.1 (fit n.next.view.topic) refl n.more (part_sane pt n.next (Says l) n.ls ok.0 n.lines n.leads sane) (own_part pt n.next (Says l) n.ls ok.0 tt n.lines n.leads sane h))
+parts_own : (ps : List Part) (pt : Point) (w : Spelled) → AllSayable ps → FitsAt pt ps → spelled pt ps ≡ Some w → Sane pt → OwnTold pt → OwnTold w.point
+parts_own qs q w ok fit is = by_parts (λ ps pt v. AllSayable ps → FitsAt pt ps → Sane pt → OwnTold pt → OwnTold v.point) (λ pt ok fit sane h. h)
+    (λ p ps pt next ls z lines leads more ok fit sane h. more ok.1 (later_fits next ps (fit.1 next ls lines leads)) (part_sane pt next p ls ok.0 lines leads sane) (own_part pt next p ls ok.0 fit.0 lines leads sane h)) qs q w is ok fit
 
 fits_own : (ps : List Part) (pt : Point) (w : Spelled) → AllSayable ps → OwnsFit pt.view ps → spelled pt ps ≡ Some w → Sane pt → OwnTold pt → OwnTold w.point
 fits_own ps pt w ok (NoOwns none) is sane h = none_own ps pt w ok none is sane h
-fits_own ps pt w ok (FirstOwns fit) is sane h = later_own pt.view.topic ps pt w ok fit refl is sane h
-fits_own ps pt w ok (AnyOwns l qs same fit) is sane h = any_own l qs pt w (subst AllSayable same ok) fit (ap (spelled pt) (sym same) ∙ is) sane h
-fits_own ps pt w ok (ThenOwns l qs same none fit) is sane h = then_own l qs pt w none (subst AllSayable same ok) fit (ap (spelled pt) (sym same) ∙ is) sane h
+fits_own ps pt w ok (FirstOwns fit) is sane h = parts_own ps pt w ok (later_fits pt ps fit) is sane h
+fits_own ps pt w ok (AnyOwns l qs same fit) is sane h = parts_own ps pt w ok (subst (FitsAt pt) (sym same) (tt, λ next ls lines leads. fit next.view.topic)) is sane h
+fits_own ps pt w ok (ThenOwns l qs same none fit) is sane h =
+    parts_own ps pt w ok (subst (FitsAt pt) (sym same) (tt, λ next ls lines leads. subst (λ (v : View). Later v.topic qs) (sym (line_topic pt next l ls none lines leads)) fit)) is sane h
 
 pub own_told_group : (b : Boot) (pt : Point) (d : Step) (w : Spelled) → group_of b pt d ≡ Some w → Run b pt → OwnTold pt → OwnTold w.point
 own_told_group b pt d w is run h =
-    let k = group_on b pt d run h in
-    let g = k.goes in
+    let g = (group_on b pt d run h).goes in
     let begun = moved pt (Line.Head d) pt.kernel in
     let sane : Sane begun = sane_line pt begun (Line.Head d) refl refl run.based.phased.sane in
     let same : g.w ≡ w = (let f : Some g.w ≡ Some w = sym g.is ∙ is in cc) in
     subst OwnTold (sym g.point ∙ ap (λ (x : Spelled). x.point) same)
-    (fits_own g.parts begun g.behind_head (outcome_sayable b pt d g.parts g.outcome_is) k.owns g.spells sane (own_line pt begun (Line.Head d) refl refl run.based.phased.sane h))
+    (fits_own g.parts begun g.behind_head (outcome_sayable b pt d g.parts g.outcome_is) (group_on b pt d run h).owns g.spells sane (own_line pt begun (Line.Head d) refl refl run.based.phased.sane h))

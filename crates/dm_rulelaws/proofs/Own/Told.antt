@@ -1,8 +1,8 @@
 -- What was told of kernels' own messages, and who sends what is told back.
-use Rattle.dm_rulelaws.proofs.Names.{◌≡◌, ◌==◌, ◌&&◌, Bool, true, false, not, refl, ap, ◌∙◌, sym, Some, false≢true, Pid, MsgId, MessageKind, plain_kind, PlainMessage, is_told_back, is_between, Point, About, Target, Of, Told, is_kernels}
-use Rattle.dm_rulelaws.proofs.Names.{is_server, is_fixed, second, Sort, sort_of, arith, ℕ, List, [], ◌∷◌, ◌++◌, ⊤, if◌then◌else◌, Option, None, pid_of, Line, Stage, Addresses, Sender, to_kernel, forwards_on, accepts, takes_chunk}
-use Rattle.dm_rulelaws.proofs.Names.{takes_block, gives_piece, sends_on, label_of, Part, Says, Routes, Again, Owns, Transmits, View, Known, Forward, view_after, handled, receiver_of, Label, ◌⊎◌, subst, is_some, length, inl, inr, take, drop}
-use Rattle.dm_rulelaws.proofs.Names.{PlainWhat, switchboard, manager, Switchboard, Manager, OneKernel, with_sent, answer_to, without_message, Made, came, stayed, lands-is, Sound, by_step, answer_id, without_note, MoveNote}
+use Rattle.dm_rulelaws.proofs.Names.{◌≡◌, ◌==◌, ◌&&◌, Bool, true, false, not, refl, ap, ◌∙◌, sym, Some, false≢true, Pid, MsgId, MessageKind, plain_kind, PlainMessage, is_told_back, Point, About, Target, Of, Told, is_kernels, is_server}
+use Rattle.dm_rulelaws.proofs.Names.{is_fixed, Sort, sort_of, arith, ℕ, List, [], ◌∷◌, ◌++◌, ⊤, if◌then◌else◌, Option, None, pid_of, Line, Stage, Addresses, Sender, to_kernel, forwards_on, accepts, takes_chunk, takes_block, gives_piece}
+use Rattle.dm_rulelaws.proofs.Names.{sends_on, label_of, Part, Says, Routes, Again, Owns, Transmits, View, Known, Forward, view_after, handled, receiver_of, Label, ◌⊎◌, subst, is_some, length, inl, inr, take, drop, PlainWhat, switchboard}
+use Rattle.dm_rulelaws.proofs.Names.{manager, Switchboard, Manager, OneKernel, with_sent, answer_to, without_message, Made, came, stayed, lands-is, Sound, by_step, answer_id, without_note, MoveNote, Each}
 use Rattle.dm_rule.specs.View.{Place}
 use Rattle.dm_rule.specs.View as view
 use Rattle.dm_onekernel.specs.Pieces as pieces
@@ -43,12 +43,9 @@ pub record OwnTold (pt : Point) : Type 0 where
   pub sender : (i : MsgId) (x : PlainMessage) → pt.kernel.bag i ≡ Some x → is_told_back (plain_kind x.what) ≡ true → (x.sender.num == 0) ≡ false
 
 -- a kernel is told of a process by another kernel
-about_of : (a : About) → is_process a ≡ true → (p : Pid) × (a ≡ Of p)
+pub about_of : (a : About) → is_process a ≡ true → (p : Pid) × (a ≡ Of p)
 about_of (Of p) e = (p, refl)
 about_of _ e = absurd (false≢true e)
-
-pub own_between : (k : MessageKind) (q : Pid) (a : About) → own_sort k q a ≡ true → (q.num == 0) ≡ true → (is_between k ≡ true) × (p : Pid) × (a ≡ Of p)
-own_between k = search (arith, about_of, second)
 
 pub own_server : (k : MessageKind) (q : Pid) (a : About) → own_sort k q a ≡ true → (q.num == 0) ≡ false → is_server q ≡ true → k ≡ MessageKind.Update
 own_server k q a h1 h2 h3 = search arith
@@ -59,10 +56,6 @@ own_server k q a h1 h2 h3 = search arith
 abbrev pub HasNoOwn : Part → Type 0
 HasNoOwn (Owns k q b) = ⊥
 HasNoOwn _ = ⊤
-
-abbrev pub HaveNoOwn : List Part → Type 0
-HaveNoOwn [] = ⊤
-HaveNoOwn (p ∷ ps) = HasNoOwn p × HaveNoOwn ps
 
 -- what a group is about after a line between its own messages; of other lines none comes there
 abbrev pub topic_stage : About → Pid → Stage → About
@@ -81,7 +74,7 @@ Later a (Owns k q b ∷ ps) = (own_sort k q a ≡ true) × Later a ps
 Later a (Transmits c d l ∷ ps) = ⊥
 
 pub data OwnsFit (v : View) (ps : List Part) : Type 0 where
-  NoOwns : (none : HaveNoOwn ps) → OwnsFit v ps
+  NoOwns : (none : Each HasNoOwn ps) → OwnsFit v ps
   FirstOwns : (fit : Later v.topic ps) → OwnsFit v ps
   AnyOwns : (l : Line) → (qs : List Part) → (is : ps ≡ Says l ∷ qs) → (fit : (a : About) → Later a qs) → OwnsFit v ps
   ThenOwns : (l : Line) → (qs : List Part) → (is : ps ≡ Says l ∷ qs) → (none : label_of l ≡ None) → (fit : Later (view_after v l).topic qs) → OwnsFit v ps
@@ -106,13 +99,9 @@ pub accepts_own : (v : View) (from : ℕ) (p : Pid) (room : Bool) (slots blocks 
 accepts_own v from p true slots blocks = ThenOwns (Line.Migration Stage.Accepted p) (to_kernel MessageKind.PullState from ∷ []) refl refl (refl, tt)
 accepts_own v from p false slots blocks = ThenOwns (Line.Lacks p slots blocks) (to_kernel MessageKind.Refuse from ∷ []) refl refl (refl, tt)
 
-proto_topic : (v : View) (i : MsgId) (t : Told) (p : Pid) → v.told i ≡ Some t → t.about ≡ Of p → is_process (view_after v (Line.Proto i)).topic ≡ true
-proto_topic v i t p told about =
-    ap (λ (o : Option Told). is_process (view.after_proto (handled v i) o).topic) told ∙ ap is_process about
-
 pub piece_own : (v : View) (i : MsgId) (k : MessageKind) (t : Told) (p : Pid) → v.told i ≡ Some t → t.about ≡ Of p → ((a : About) → is_process a ≡ true → own_sort k (pid_of i.from.home 0) a ≡ true) → OwnsFit v (gives_piece i k)
 piece_own v i k t p told about sort =
-    ThenOwns (Line.Proto i) (to_kernel k i.from.home ∷ []) refl refl (sort (view_after v (Line.Proto i)).topic (proto_topic v i t p told about), tt)
+    ThenOwns (Line.Proto i) (to_kernel k i.from.home ∷ []) refl refl (sort (view_after v (Line.Proto i)).topic (ap (λ (o : Option Told). is_process (view.after_proto (handled v i) o).topic) told ∙ ap is_process about), tt)
 
 pub chunk_own : (v : View) (i : MsgId) (q : Pid) (last : Bool) (t : Told) (p : Pid) → v.told i ≡ Some t → t.about ≡ Of p → OwnsFit v (takes_chunk i q last)
 chunk_own v i q true t p told about = ThenOwns (Line.Migration Stage.StateTaken q) (to_kernel MessageKind.PullBlock i.from.home ∷ []) refl refl (refl, tt)
@@ -164,9 +153,6 @@ pub board_sender : (b : Switchboard) (m : PlainMessage) (w : PlainWhat) (k : boa
 board_sender b m (PlainWhat.User code channel body links) k e = search arith
 board_sender b m _ k e = cc
 
-pub manager_sender : (g : Manager) (machines images : ℕ) (m : PlainMessage) (w : PlainWhat) (k : manage.ManagerTook) → manage.manager_takes g machines images m w ≡ Some k → SentBy manager k.message
-manager_sender g machines images m w k = search (arith, by_over, by_manager, g.children, m.id.n, g.pending)
-
 server_brings : (s u : OneKernel) (q : Pid) (o : Option PlainMessage) → SentBy q o → is_server q ≡ true → Sub u s → Brings s (with_sent u o)
 server_brings s u q None sends server same i x there = inl (same i x there)
 server_brings s u q (Some m) sends server same i x there = in_brings s u m same (inr (inl (ap is_server sends ∙ server))) i x there
@@ -174,6 +160,8 @@ server_brings s u q (Some m) sends server same i x there = in_brings s u m same 
 -- a row a label
 pub brings : (s t : OneKernel) (l : Label) → ((p : Pid) (n : MoveNote) → s.notes p ≡ Some n → is_some (s.processes p) ≡ true) → step.step s l ≡ Some t → Brings s t
 brings s t l lives =
+    let manager_sender : (g : Manager) (machines images : ℕ) (m : PlainMessage) (w : PlainWhat) (k : manage.ManagerTook) → manage.manager_takes g machines images m w ≡ Some k → SentBy manager k.message =
+      λ g machines images m w k. search (arith, by_over, by_manager, g.children, m.id.n, g.pending) in
     let taken : (id : MsgId) (u : OneKernel) → ((i : MsgId) → u.bag i ≡ (without_message s id).bag i) → Sub u s = λ id u same i x there. stayed s id i x (sym (same i) ∙ there) in
     by_step (Brings s) s t l (record {
       ran = λ p k x m is w i z there. inl there;

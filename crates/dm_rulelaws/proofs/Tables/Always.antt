@@ -3,7 +3,7 @@ use Rattle.dm_rulelaws.proofs.Names.{◌≡◌, ℕ, ◌≤◌, Bool, true, nat_
 use Rattle.dm_rulelaws.proofs.Names.{Pid, pid_eq, plain_link, BootImage, BootProcess, Boot, Label, IsValid, starting_at, processes_are_valid, process_is_valid, slots_of, PlainProcess, Alive, OneKernel, begun, first_life, life_at, replay}
 use Rattle.dm_rulelaws.proofs.Names.{bind-is, Step, Point, first_point, labels, Leads, Each, ◌+◌, ◌-◌, ◌==◌, false, take, drop, ⊤, MsgId, PlainMessage, PlainWhat, Direction, Row, Reply, Why, PlainStatus, Moving, answer_to, without_message}
 use Rattle.dm_rulelaws.proofs.Names.{by_step, zero, suc, filter_map, nat_lt, slice_set, cons_option, length-take, PlainLink, first_empty, link_at, Waiting, reg, Called, Replies, Sends, Waits, Outputs, Ends, replicate, length-append}
-use Rattle.dm_rulelaws.proofs.Names.{length-replicate, Format, Manager, with_sent, slots_with, running_is, at_hand-is, without_note, answer_id}
+use Rattle.dm_rulelaws.proofs.Names.{length-replicate, Format, with_sent, slots_with, running_is, at_hand-is, without_note, answer_id}
 use Rattle.dm_onekernel.specs.Step as kernel
 use Rattle.dm_onekernel.specs.Calls as calls
 use Rattle.dm_onekernel.specs.Pieces as pieces
@@ -14,7 +14,7 @@ use Rattle.dm_onekernel.specs.Manager as manage
 use Rattle.dm_rulelaws.proofs.Fits.Rises.{both}
 use Rattle.dm_rulelaws.proofs.RunLabels.{group_replay}
 use Rattle.dm_rulelaws.proofs.Based.Constants.{constant_group}
-use Rattle.dm_rulelaws.proofs.Tables.{Tables, FewLinks, SameSlots, out_tables, put_tables, set_tables, end_tables, goes_tables, changed_tables}
+use Rattle.dm_rulelaws.proofs.Tables.{Tables, FewLinks, SameSlots, out_tables, put_tables, set_tables, end_tables}
 use Rattle.dm_rulelaws.proofs.Calling.{by_call}
 use Rattle.dm_rulelaws.proofs.Takes.{by_manager, by_over}
 
@@ -35,20 +35,10 @@ pub board_few : (b : _) (m : PlainMessage) (w : PlainWhat) (k : board.BoardTook)
 board_few b m (PlainWhat.User code channel body links) k e = let f : board.takes_request b body links ≡ k = cc in subst (λ (x : board.BoardTook). SendsFew x.answer) f (request_few b body links)
 board_few b m _ k e = cc
 
--- the manager
-pub took_few : (g : Manager) (machines images : ℕ) (m : PlainMessage) (w : PlainWhat) (k : manage.ManagerTook) → manage.manager_takes g machines images m w ≡ Some k → FewLinks w → SendsFew k.message
-took_few g machines images m w k e few = search (arith, by_manager, by_over, g.children, m.id.n, g.pending)
-
 -- a process that is made
 pub slots_with_length : {L : Type 0} (n : ℕ) (links : List L) → length links ≤ n → length (slots_with n links) ≡ n
 slots_with_length {L} n links le =
-    let a = length-append (map Some links) (replicate (n - length links) None) in
-    let b : length (map Some links) ≡ length links = length-map links Some in
-    let c : length (replicate (n - length links) None) ≡ n - length links = length-replicate {A = Option L} (n - length links) None in
-    omega (arith, a, b, c, le)
-
-pub child_length : (f : Format) (image : BootImage) (links : List PlainLink) → length links ≤ 4 → length (begun f image links).links ≡ slots_of f
-child_length f image links few = search (arith, slots_with_length)
+    omega (arith, length-append (map Some links) (replicate (n - length links) None), length-map links Some, length-replicate {A = Option L} (n - length links) None, le)
 
 -- Each label of a process keeps the number of link slots, and so does what its kernel is asked.
 
@@ -74,9 +64,7 @@ cons_few (Some l) ls = omega arith
 links_few : (slots : List (Option PlainLink)) (ss : List ℕ) → length (calls.links_in_slots slots ss) ≤ length ss
 links_few slots [] = omega arith
 links_few slots (s ∷ ss) =
-    let a = cons_few (link_at slots s) (filter_map (link_at slots) ss) in
-    let b = links_few slots ss in
-    omega (arith, a, b)
+    omega (arith, cons_few (link_at slots s) (filter_map (link_at slots) ss), links_few slots ss)
 
 -- what a call comes to
 abbrev pub CallTables : PlainProcess → Called → Type 0
@@ -86,21 +74,18 @@ CallTables x (Waits y) = SameSlots x y
 CallTables x (Outputs w y) = SameSlots x y
 CallTables x (Ends y) = ⊤
 
--- at most four links are sent
-listed_few : (x : PlainProcess) → nat_lt 4 (reg x.regs 4) ≡ false → length (calls.links_in_slots x.links (calls.listed x)) ≤ 4
-listed_few x e =
-    let a = links_few x.links (calls.listed x) in
-    let b : length (calls.listed x) ≡ _ = length-take (reg x.regs 4) (drop (reg x.regs 5) x.memory) in
-    let c : reg x.regs 4 ≤ 4 = grind (arith, nat_tests) in
-    omega (arith, a, b, c)
-
 -- data moves
 pub requests_few : (p : Pid) (x : PlainProcess) (dir : Direction) (owner : Pid) (base own left : ℕ) → FewLinks (pieces.requests p x dir owner base own left).message.what
 requests_few p x Direction.FromArea owner base own left = tt
 requests_few p x Direction.IntoArea owner base own left = tt
 
 pub call_tables : (p : Pid) (x : PlainProcess) (n : ℕ) → CallTables x (calls.call p x n)
-call_tables p x n = search (arith, by_call, set_length, x.links, x.regs, without_length, listed_few, requests_few)
+call_tables p x n =
+    -- at most four links are sent
+    let listed_few : (x : PlainProcess) → nat_lt 4 (reg x.regs 4) ≡ false → length (calls.links_in_slots x.links (calls.listed x)) ≤ 4 = λ x e.
+      let c : reg x.regs 4 ≤ 4 = grind (arith, nat_tests) in
+      omega (arith, links_few x.links (calls.listed x), length-take (reg x.regs 4) (drop (reg x.regs 5) x.memory), c) in
+    search (arith, by_call, set_length, x.links, x.regs, without_length, listed_few, requests_few)
 
 -- links are placed
 placed_step : (t : receiving.RegsAndLinks) (r : ℕ) (l : PlainLink) (o : Option ℕ) → length (receiving.place_into t r l o).links ≡ length t.links
@@ -131,20 +116,11 @@ record NextIs (s : OneKernel) (p : Pid) (n : kernel.Trap) : Type 0 where
   alive : s.processes p ≡ Some (Alive x)
   same : NextTables x n
 
-next_row_is : (s : OneKernel) (p : Pid) (x : PlainProcess) (w : Row) (n : kernel.Trap) → s.processes p ≡ Some (Alive x) → kernel.next_row p x w ≡ Some n → NextIs s p n
-next_row_is s p x w n h1 h2 = search (arith, call_tables, x.links)
-
-next_is : (s : OneKernel) (p : Pid) (n : kernel.Trap) → kernel.next_trap s p ≡ Some n → NextIs s p n
-next_is s p n e = search (arith, bind-is, next_row_is, running_is)
-
 -- receives
 record Completing (s : OneKernel) (p : Pid) (d : receiving.Completed) : Type 0 where
   x : PlainProcess
   alive : s.processes p ≡ Some (Alive x)
   same : CompletedTables x d
-
-completing_is : (s : OneKernel) (p : Pid) (id : MsgId) (d : receiving.Completed) → kernel.completing s p id ≡ Some d → Completing s p d
-completing_is s p id d e = search (arith, bind-is, s.bag, at_hand-is, status_tables)
 
 -- landings
 abbrev LandTables : PlainProcess → pieces.Landed → Type 0
@@ -168,20 +144,27 @@ lands_by : (p : Pid) (x : PlainProcess) (m : PlainMessage) (st : PlainStatus) (c
 lands_by p x m (Moving dir owner base own left pending) c e = lands_if p x (m.id.n == pending) dir owner base own left m.what c e
 lands_by p x m _ c e = cc
 
-gone_few : (w v : PlainWhat) → service.gone_what w ≡ Some v → FewLinks v
-gone_few w v h1 = search arith
-
 -- each step
 pub tables_step : (s t : OneKernel) (e : Label) → kernel.step s e ≡ Some t → Tables s → Tables t
-tables_step s t e = by_step (λ u. Tables s → Tables u) s t e (record {
-  ran = λ p k x m is w h. goes_tables s p x (kernel.with_machine x m) w.alive refl h;
-  replies = λ p n k c d y is w h. (let v = next_is s p (kernel.Calls k (calls.Replies d y)) w.is in goes_tables s p v.x y v.alive v.same h);
-  sends = λ p id k m y is same w h. (let v = next_is s p (kernel.Calls k (calls.Sends m y)) w.is in put_tables (kernel.goes_on s p y) m v.same.1 (goes_tables s p v.x y v.alive v.same.0 h));
-  waits = λ p k y is w h. (let v = next_is s p (kernel.Calls k (calls.Waits y)) w.is in goes_tables s p v.x y v.alive v.same h);
-  outputs = λ p w k o y is n h. (let v = next_is s p (kernel.Calls k (calls.Outputs o y)) n.is in goes_tables s p v.x y v.alive v.same h);
+tables_step s t e =
+    let completing_is : (s : OneKernel) (p : Pid) (id : MsgId) (d : receiving.Completed) → kernel.completing s p id ≡ Some d → Completing s p d = λ s p id d e. search (arith, bind-is, s.bag, at_hand-is, status_tables) in
+    let next_is : (s : OneKernel) (p : Pid) (n : kernel.Trap) → kernel.next_trap s p ≡ Some n → NextIs s p n = λ s p n e.
+      let next_row_is : (s : OneKernel) (p : Pid) (x : PlainProcess) (w : Row) (n : kernel.Trap) → s.processes p ≡ Some (Alive x) → kernel.next_row p x w ≡ Some n → NextIs s p n = λ s p x w n h1 h2. search (arith, call_tables, x.links) in
+      search (arith, bind-is, next_row_is, running_is) in
+    let child_length : (f : Format) (image : BootImage) (links : List PlainLink) → length links ≤ 4 → length (begun f image links).links ≡ slots_of f = λ f image links few. search (arith, slots_with_length) in
+    let gone_few : (w v : PlainWhat) → service.gone_what w ≡ Some v → FewLinks v = λ w v h1. search arith in
+    -- the receiver of a message goes on
+    let changed_tables : (s : OneKernel) (id : MsgId) (m : PlainMessage) (x y : PlainProcess) → s.processes m.to ≡ Some (Alive x) → SameSlots x y → Tables s → Tables (service.changed s id m y) =
+      λ s id m x y is same h. set_tables (without_message s id) m.to y (same ∙ (out_tables s id h).slots m.to x is) (out_tables s id h) in
+    by_step (λ u. Tables s → Tables u) s t e (record {
+  ran = λ p k x m is w h. set_tables s p (kernel.with_machine x m) (refl ∙ h.slots p x w.alive) h;
+  replies = λ p n k c d y is w h. (let v = next_is s p (kernel.Calls k (calls.Replies d y)) w.is in set_tables s p y (v.same ∙ h.slots p v.x v.alive) h);
+  sends = λ p id k m y is same w h. (let v = next_is s p (kernel.Calls k (calls.Sends m y)) w.is in put_tables (kernel.goes_on s p y) m v.same.1 (set_tables s p y (v.same.0 ∙ h.slots p v.x v.alive) h));
+  waits = λ p k y is w h. (let v = next_is s p (kernel.Calls k (calls.Waits y)) w.is in set_tables s p y (v.same ∙ h.slots p v.x v.alive) h);
+  outputs = λ p w k o y is n h. (let v = next_is s p (kernel.Calls k (calls.Outputs o y)) n.is in set_tables s p y (v.same ∙ h.slots p v.x v.alive) h);
   ends = λ p y next is w h. end_tables s p y h;
-  receives = λ p id y is w c h. (let v = completing_is s p id (receiving.Receives y) c in goes_tables (without_message s id) p v.x y v.alive v.same (out_tables s id h));
-  refuses = λ p id c d y is w f h. (let v = completing_is s p id (receiving.Refuses d y) f in goes_tables s p v.x y v.alive v.same h);
+  receives = λ p id y is w c h. (let v = completing_is s p id (receiving.Receives y) c in set_tables (without_message s id) p y (v.same ∙ (out_tables s id h).slots p v.x v.alive) (out_tables s id h));
+  refuses = λ p id c d y is w f h. (let v = completing_is s p id (receiving.Refuses d y) f in set_tables s p y (v.same ∙ h.slots p v.x v.alive) h);
   dropped = λ id m y is w f h. out_tables s id h;
   gone = λ id m y is w v f h. put_tables (without_message s id) (answer_to m v) (gone_few m.what v f) (out_tables s id h);
   asked = λ id m x machine is w f h. (let out = out_tables s id h in record { slots = out.slots; messages = out.messages });
@@ -199,7 +182,9 @@ tables_step s t e = by_step (λ u. Tables s → Tables u) s t e (record {
       put_maybe (record (without_message s id) { switchboard = k.switchboard }) k.answer (board_few s.switchboard m m.what k took) (record { slots = out.slots; messages = out.messages }));
   manager = λ id m k is there c took h.
       (let out = out_tables s id h in
-      put_maybe (record (without_message s id) { manager = k.manager }) k.message (took_few s.manager s.machines (length s.images) m m.what k took (h.messages id m there)) (record { slots = out.slots; messages = out.messages }));
+      -- the manager
+      let took_few : SendsFew k.message = search (arith, by_manager, by_over, s.manager.children, m.id.n, s.manager.pending, h.messages id m there) in
+      put_maybe (record (without_message s id) { manager = k.manager }) k.message took_few (record { slots = out.slots; messages = out.messages }));
   creates = λ id child m image links i is w found name h.
       (let few = subst FewLinks w.what (h.messages id m w.there) in
       let on = set_tables (without_message s id) child (begun s.format i links) (child_length s.format i links few) (out_tables s id h) in
@@ -213,14 +198,11 @@ tables_step s t e = by_step (λ u. Tables s → Tables u) s t e (record {
 abbrev ShortList : Boot → BootProcess → Type 0
 ShortList b p = nat_le (length p.links) (slots_of b.format) ≡ true
 
-short_is : (b : Boot) (others : ℕ) (p : BootProcess) → process_is_valid b others p ≡ true → ShortList b p
-short_is b others p h = search (arith, p.links, b.format, both, p.pid.home, b.machines, p.pid.num, p.image, b.images)
-
 shorts_are : (b : Boot) (earlier ps : List BootProcess) → processes_are_valid b earlier ps ≡ true → Each (ShortList b) ps
 shorts_are b earlier [] h = tt
 shorts_are b earlier (p ∷ ps) h =
     let k = both (process_is_valid b (starting_at p.pid.home earlier) p) (processes_are_valid b (earlier ++ p ∷ []) ps) h in
-    (short_is b (starting_at p.pid.home earlier) p k.0, shorts_are b (earlier ++ p ∷ []) ps k.1)
+    ((let e_ : ShortList b p = search (arith, p.links, b.format, both, p.pid.home, b.machines, p.pid.num, p.image, b.images, k.0) in e_), shorts_are b (earlier ++ p ∷ []) ps k.1)
 
 first_length : (b : Boot) (p : BootProcess) (x : PlainProcess) (o : Option BootImage) → ShortList b p → option_map (λ (image : BootImage). Alive (begun b.format image (map plain_link p.links))) o ≡ Some (Alive x) → length x.links ≡ slots_of b.format
 first_length b p x None short e = cc
