@@ -8,7 +8,7 @@ ghost use Rattle.dm_asm.specs.Forms.{form_of, operand_count, shape_of};
 use dm_processor::Opcode;
 
 /// An instruction, or a directive.
-#[derive(Clone, Copy, Debug, PartialEq, Eq)]
+#[derive(Clone, Copy)]
 pub enum Form {
     Instruction(Opcode),
     /// `.word`: one word.
@@ -20,7 +20,7 @@ pub enum Form {
 }
 
 /// What the operands of an instruction are.
-#[derive(Clone, Copy, Debug, PartialEq, Eq)]
+#[derive(Clone, Copy)]
 pub enum Shape {
     RegisterValue,
     TwoRegisters,

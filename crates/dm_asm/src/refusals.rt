@@ -6,7 +6,7 @@ ghost use Rattle.dm_asm.specs.declared.refusals.Stop.TheVariants as stops;
 use dm_memory::NoMemory;
 
 /// Why a line is refused.
-#[derive(Clone, Copy, Debug, PartialEq, Eq)]
+#[derive(Clone, Copy, Debug)]
 pub enum Why {
     /// No instruction, directive or label is written so.
     UnknownWord,
@@ -45,7 +45,7 @@ impl Why {
 }
 
 /// Why there is no image.
-#[derive(Clone, Copy, Debug, PartialEq, Eq, Drop)]
+#[derive(Clone, Copy, Debug, Drop)]
 pub enum AssembleError {
     /// A line is refused; lines count from 1.
     Fault { line: usize, why: Why },
@@ -54,7 +54,7 @@ pub enum AssembleError {
 }
 
 /// Why a line has no bytes.
-#[derive(Clone, Copy, Debug, PartialEq, Eq, Drop)]
+#[derive(Clone, Copy, Debug, Drop)]
 pub enum Stop {
     /// It is refused.
     Fault(Why),

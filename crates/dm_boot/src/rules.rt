@@ -6,7 +6,7 @@ use dm_memory::NoMemory;
 use thiserror::Error;
 
 /// The rule that a boot file breaks, in the order of their numbers.
-#[derive(Clone, Copy, Debug, PartialEq, Eq)]
+#[derive(Clone, Copy, Debug)]
 pub enum BootRule {
     /// The file is a document.
     Document,
@@ -82,7 +82,7 @@ impl BootRule {
 }
 
 /// A rule that tables alone decide; the others need the images' bytes, or the processes before.
-#[derive(Clone, Copy, Debug, PartialEq, Eq)]
+#[derive(Clone, Copy)]
 pub enum TableRule {
     TopKeys,
     Settings,
@@ -130,7 +130,7 @@ impl TableRule {
 }
 
 /// Why a boot file gives no system.
-#[derive(Clone, Copy, Debug, PartialEq, Eq, Error)]
+#[derive(Clone, Copy, Debug, Error)]
 pub enum BootError {
     /// The first rule that it breaks, and the place of the element that breaks it: its index in its
     /// array, or 0 for the top table.

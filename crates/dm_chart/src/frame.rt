@@ -15,7 +15,7 @@ const LEGEND: u32 = 620;
 pub const MOST_LANES: usize = 12;
 
 /// A point of a picture.
-#[derive(Clone, Copy, Debug, PartialEq, Eq)]
+#[derive(Clone, Copy)]
 pub struct Point {
     pub x: u32,
     pub y: u32,

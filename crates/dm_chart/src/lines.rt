@@ -20,7 +20,7 @@ use dm_memory::NoMemory;
 use std::alloc::Global;
 
 /// The way of a packet: from a machine to a machine, as packet k, from a row on.
-#[derive(Clone, Copy, Debug, PartialEq, Eq)]
+#[derive(Clone, Copy)]
 struct Sending {
     from: u8,
     to: u8,

@@ -9,7 +9,7 @@ use dm_onekernel::{Label, Reply};
 use dm_schedule::Step;
 
 /// What a line tells of a process's life on the machine of its group.
-#[derive(Clone, Copy, Debug, PartialEq, Eq)]
+#[derive(Clone, Copy)]
 pub enum Life {
     /// Nothing.
     Same,
@@ -26,7 +26,7 @@ pub enum Life {
 }
 
 /// A message that is put, from a machine to a machine.
-#[derive(Clone, Copy, Debug, PartialEq, Eq)]
+#[derive(Clone, Copy)]
 pub struct Letter {
     pub from: u8,
     pub to: u8,
@@ -36,7 +36,7 @@ pub struct Letter {
 }
 
 /// What a line is for a picture.
-#[derive(Clone, Copy, Debug, PartialEq, Eq)]
+#[derive(Clone, Copy)]
 pub enum Role {
     /// The head of a group.
     Head(Step),

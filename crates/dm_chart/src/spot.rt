@@ -10,7 +10,7 @@ use dm_schedule::Step;
 pub const MOST_ROWS: u32 = 1200;
 
 /// Where a picture stands behind some lines.
-#[derive(Clone, Copy, Debug, PartialEq, Eq)]
+#[derive(Clone, Copy)]
 pub struct Spot {
     /// How many rows there are so far; the last one is the line's.
     pub row: u32,

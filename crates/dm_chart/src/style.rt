@@ -5,7 +5,7 @@ ghost use Rattle.dm_chart.specs.Styles.{arrow_class, label_class, loop_name, sty
 use dm_message::MessageKind;
 
 /// How an arrow looks.
-#[derive(Clone, Copy, Debug, PartialEq, Eq)]
+#[derive(Clone, Copy)]
 pub enum Style {
     /// A process's or a server's own message.
     User,

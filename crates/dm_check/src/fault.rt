@@ -5,7 +5,7 @@ ghost use Rattle.dm_check.specs.Faults.{number_of_trace_fault};
 use thiserror::Error;
 
 /// What is wrong with a line of a trace.
-#[derive(Clone, Copy, Debug, PartialEq, Eq, Error)]
+#[derive(Clone, Copy, Debug, Error)]
 pub enum TraceFault {
     #[error("not a line of the format")]
     NotALine,

@@ -4,7 +4,7 @@ use dm_memory::NoMemory;
 use thiserror::Error;
 
 /// Why a text isn't what the system prints.
-#[derive(Clone, Copy, Debug, PartialEq, Eq, Error)]
+#[derive(Clone, Copy, Debug, Error)]
 pub enum CheckError {
     /// The first bad line, counted from 1, and what is wrong with it; where the text ends too early, the line behind its last.
     #[error("line {line}: {fault}")]

@@ -11,7 +11,7 @@ use dm_link::Pid;
 use dm_onekernel::Label;
 
 /// What another line comes to than the one that is due.
-#[derive(Clone, Copy, Debug, PartialEq, Eq)]
+#[derive(Clone, Copy)]
 pub(crate) enum Other {
     /// It is a step of this process, which ran fewer instructions by it, and no line can follow.
     Fewer(Pid),

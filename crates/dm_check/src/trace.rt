@@ -30,7 +30,7 @@ use dm_world::{Stop, World};
 use std::alloc::Global;
 
 /// A text that is what the system prints.
-#[derive(Clone, Copy, Debug, PartialEq, Eq)]
+#[derive(Clone, Copy)]
 pub struct Good {
     /// How many groups it has.
     pub groups: u64,

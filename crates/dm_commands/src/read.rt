@@ -7,7 +7,7 @@ use dm_outside::Shelf;
 use std::alloc::Global;
 
 /// Why a file was not read.
-#[derive(Clone, Copy, Debug, PartialEq, Eq)]
+#[derive(Clone, Copy, Debug)]
 pub enum ReadError {
     /// The shelf failed.
     Fault,

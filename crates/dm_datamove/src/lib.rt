@@ -20,7 +20,7 @@ pub use serving::{answer, gone, serve};
 
 /// What is left of a data move: `left` bytes, 1 to 65,536, from `base` in the owner's memory and from `own` in the
 /// mover's.
-#[derive(Clone, Copy, Debug, PartialEq, Eq)]
+#[derive(Clone, Copy)]
 pub struct Rest {
     pub dir: Direction,
     pub owner: Addr,

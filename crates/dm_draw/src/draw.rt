@@ -3,7 +3,7 @@ ghost use Rattle.std.specs.Prelude.{◌≡◌, ◌<◌};
 ghost use Rattle.dm_draw.specs.Draw.{drawn, stepped};
 
 /// A linear congruential generator: the seed is its first state.
-#[derive(Clone, Copy, Debug, PartialEq, Eq)]
+#[derive(Clone, Copy)]
 pub struct Generator {
     pub state: u64,
 }

@@ -1,7 +1,7 @@
 //! What a drill is drawn from.
 
 /// What a drill is drawn from, and whether its groups are printed.
-#[derive(Clone, Copy, Debug, PartialEq, Eq)]
+#[derive(Clone, Copy)]
 pub struct Drill {
     pub seed: u32,
     /// 2 to 16.

@@ -9,7 +9,7 @@ use dm_onekernel::Label;
 use std::alloc::Global;
 
 /// As what a line is counted.
-#[derive(Clone, Copy, Debug, PartialEq, Eq)]
+#[derive(Clone, Copy)]
 pub enum Counted {
     Put,
     Packet,

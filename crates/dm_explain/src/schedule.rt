@@ -8,7 +8,7 @@ use dm_memory::NoMemory;
 use dm_schedule::{Directive, LineFault, Step};
 
 /// A word of a schedule.
-#[derive(Clone, Copy, Debug, PartialEq, Eq)]
+#[derive(Clone, Copy)]
 pub enum Deed {
     Turn,
     Tick,

@@ -3,7 +3,7 @@ ghost use Rattle.std.specs.Prelude.{◌≡◌, map};
 ghost use Rattle.dm_explain.specs.Wanted.{channel_limits, control_wishes, image_limits, image_wishes, limit, limit_of, link_limits, link_wishes, machine_limits, machine_wishes, may, must, process_wishes, sort_words, top_limits, top_wishes, wish_of};
 
 /// What a value must be.
-#[derive(Clone, Copy, Debug, PartialEq, Eq)]
+#[derive(Clone, Copy)]
 pub enum Sort {
     Integer,
     Text,
@@ -27,7 +27,7 @@ impl Sort {
 }
 
 /// What a key must be, and whether it must be there.
-#[derive(Clone, Copy, Debug, PartialEq, Eq)]
+#[derive(Clone, Copy)]
 pub struct Key {
     pub name: &'static str,
     pub sort: Sort,
@@ -127,7 +127,7 @@ pub fn control_keys() -> [Key; 1]
 }
 
 /// The least and the most that a number may be.
-#[derive(Clone, Copy, Debug, PartialEq, Eq)]
+#[derive(Clone, Copy)]
 pub struct Range {
     pub name: &'static str,
     pub least: u32,

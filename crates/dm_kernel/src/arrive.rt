@@ -17,7 +17,7 @@ use crate::kernel::Kernel;
 use crate::part::Part;
 use dm_line::line::{Line, Stage};
 use dm_link::Pid;
-use dm_lists::Queue;
+use dm_lists::put_before;
 use dm_memory::{NoMemory, Parcel, list_of};
 use dm_message::{Message, MsgId, Outcome, What};
 use dm_migrate::{Arriving, Ask, Asked, Wanted, answer_ask};
@@ -217,19 +217,4 @@ fn piece_line(id: MsgId, pid: Pid, wanted: Wanted) -> Line
             pid,
         },
     }
-}
-
-/// Puts messages before those of a queue, the last of them first.
-fn put_before(
-    alloc: Global,
-    mut messages: Vec<Message>,
-    queue: &mut Queue<Parcel<Message>>,
-) -> Result<(), NoMemory>
-    ensures { OnOk result (queue.new ≡ messages.items ++ queue.old) }
-{
-    while let Some(message) = messages.pop() {
-        let message = Parcel::new(alloc, message)?;
-        queue.push_front(message)?;
-    }
-    Ok(())
 }

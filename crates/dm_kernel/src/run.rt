@@ -5,7 +5,7 @@ ghost use Rattle.dm_kernel.specs.Serve.{ran};
 use dm_processor::{Fault, Memory, Regs, Stepped, step};
 
 /// Why a process stops before its quantum is used up.
-#[derive(Clone, Copy, Debug, PartialEq, Eq)]
+#[derive(Clone, Copy)]
 pub enum Halt {
     /// It asks for the call of this number; its program counter is past the instruction.
     Call(u8),

@@ -7,7 +7,7 @@ use dm_onekernel::Why;
 use dm_process::Direction;
 
 /// Where a process stands on the machine that an end line names.
-#[derive(Clone, Copy, Debug, PartialEq, Eq)]
+#[derive(Clone, Copy)]
 pub enum Standing {
     Here,
     Leaving,
@@ -15,7 +15,7 @@ pub enum Standing {
 }
 
 /// What a process does.
-#[derive(Clone, Copy, Debug, PartialEq, Eq)]
+#[derive(Clone, Copy)]
 pub enum Doing {
     Ready,
     Waiting {

@@ -1,4 +1,6 @@
 //! The lines of groups.
+ghost use Rattle.std.specs.Prelude.{◌≡◌};
+
 use dm_link::Pid;
 use dm_message::{MessageKind, MsgId};
 use dm_onekernel::Label;
@@ -98,15 +100,22 @@ pub enum Line {
     Pinned(Pid),
 }
 
+/// The line of a packet that is put from one machine to another as number `k` of their wire.
+pub fn packet_line(from: u8, to: u8, k: u64, load: Load) -> Line
+    ensures { result ≡ Line.Packet from to k load }
+{
+    Line::Packet { from, to, k, load }
+}
+
 /// What a packet carries: message number n, or how many messages have come.
-#[derive(Clone, Copy, Debug, PartialEq, Eq)]
+#[derive(Clone, Copy)]
 pub enum Load {
     Data(u32),
     Ack(u32),
 }
 
 /// The steps of a migration that have a line of the same form, by their numbers 1 to 5, 7 and 8.
-#[derive(Clone, Copy, Debug, PartialEq, Eq)]
+#[derive(Clone, Copy)]
 pub enum Stage {
     Frozen,
     Asked,

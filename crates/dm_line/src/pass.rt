@@ -2,7 +2,7 @@
 
 /// A pass over all machines: of each ordered pair the packets arrive that were never delivered, and then machines take
 /// their turns.
-#[derive(Clone, Copy, Debug, PartialEq, Eq)]
+#[derive(Clone, Copy)]
 pub enum Pass {
     /// Each machine takes its turn; so many rounds come behind this one.
     Round(u32),

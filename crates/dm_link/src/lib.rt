@@ -23,7 +23,7 @@ pub const LAST_CHANNEL: u8 = 31;
 /// The name of a process: the machine that made it, and its number there. It never changes.
 ///
 /// Number 0 is the machine's kernel; 0.1 is the switchboard and 0.2 the process manager; others count from 3.
-#[derive(Clone, Copy, Debug, Default, PartialEq, Eq, PartialOrd, Ord, Hash)]
+#[derive(Clone, Copy, Default, PartialEq, Eq, PartialOrd, Ord)]
 pub struct Pid {
     /// The machine, 0 to 15.
     pub home: u8,
@@ -31,7 +31,7 @@ pub struct Pid {
 }
 
 /// Where a process was last known to be (1983): the machine, and how often the process had moved when it came there.
-#[derive(Clone, Copy, Debug, Default, PartialEq, Eq)]
+#[derive(Clone, Copy, Default)]
 pub struct Addr {
     pub pid: Pid,
     /// The machine, 0 to 15; it may be stale.
@@ -40,7 +40,7 @@ pub struct Addr {
 }
 
 /// A general link may be used and copied at will, a reply link serves for one message (1977).
-#[derive(Clone, Copy, Debug, Default, PartialEq, Eq)]
+#[derive(Clone, Copy, Default, PartialEq, Eq)]
 pub enum Kind {
     #[default]
     General,
@@ -48,7 +48,7 @@ pub enum Kind {
 }
 
 /// A part of the memory of a link's creator, and what its holder may do there (1977).
-#[derive(Clone, Copy, Debug, Default, PartialEq, Eq)]
+#[derive(Clone, Copy, Default, PartialEq, Eq)]
 pub struct Area {
     /// The first byte's address; `base + len` is at most 65,536.
     pub base: u32,
@@ -58,7 +58,7 @@ pub struct Area {
 }
 
 /// The right to send to a process, with what its creator wrote into it (1977).
-#[derive(Clone, Copy, Debug, Default, PartialEq, Eq)]
+#[derive(Clone, Copy, Default)]
 pub struct Link {
     pub addr: Addr,
     pub kind: Kind,

@@ -8,7 +8,7 @@ use crate::MOST_SLOTS;
 use dm_link::Pid;
 
 /// The slots whose links lead to a process: bit s for slot s.
-#[derive(Clone, Copy, Debug, Default, PartialEq, Eq)]
+#[derive(Clone, Copy)]
 pub struct Entry {
     pub receiver: Pid,
     pub slots: u128,

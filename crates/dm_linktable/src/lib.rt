@@ -48,7 +48,7 @@ impl Model for Table {
 }
 
 /// Why a link isn't copied.
-#[derive(Clone, Copy, Debug, PartialEq, Eq)]
+#[derive(Clone, Copy, Debug)]
 pub enum CopyError {
     /// There is no link in that slot, or no such slot.
     Empty,

@@ -5,4 +5,4 @@ pub mod items;
 pub mod queue;
 
 pub use items::Items;
-pub use queue::Queue;
+pub use queue::{Queue, put_before};

@@ -3,7 +3,7 @@ ghost use Rattle.std.specs.Prelude.{List, [], ◌∷◌, ◌++◌, ◌+◌, IfEr
 ghost use Rattle.std.specs.Fn.{CalledAt};
 ghost use Rattle.std.specs.List.Retain.{IsFiltered};
 
-use dm_memory::{NoMemory, push_back, push_back_or_return, push_front, room_for_both};
+use dm_memory::{NoMemory, Parcel, push_back, push_back_or_return, push_front, room_for_both};
 use std::alloc::Global;
 use std::collections::VecDeque;
 use std::marker::Model;
@@ -127,4 +127,19 @@ impl<T> Queue<T> {
     {
         self.items.len()
     }
+}
+
+/// Puts values before those of a queue of values on the heap, in their order.
+pub fn put_before<T: Drop>(
+    alloc: Global,
+    mut values: Vec<T>,
+    queue: &mut Queue<Parcel<T>>,
+) -> Result<(), NoMemory>
+    ensures { OnOk result (queue.new ≡ values.items ++ queue.old) }
+{
+    while let Some(value) = values.pop() {
+        let value = Parcel::new(alloc, value)?;
+        queue.push_front(value)?;
+    }
+    Ok(())
 }

@@ -22,6 +22,6 @@ use thiserror::Error;
 
 /// No memory was left. Only the calls of this crate make it, each where the allocator refused it memory, and nothing is
 /// turned into it: so no other refusal can be told as want of memory.
-#[derive(Clone, Copy, Debug, PartialEq, Eq, Drop, Error)]
+#[derive(Clone, Copy, Debug, Drop, Error)]
 #[error("out of memory")]
 pub struct NoMemory(());

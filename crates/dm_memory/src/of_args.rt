@@ -12,7 +12,7 @@ use std::env::Args;
 use std::io::ErrorKind;
 
 /// Why there are no words.
-#[derive(Clone, Copy, Debug, PartialEq, Eq)]
+#[derive(Clone, Copy, Debug)]
 pub enum ArgsError {
     /// One isn't Unicode.
     Unread,

@@ -12,7 +12,7 @@ use toml::Table;
 use toml::de::Error;
 
 /// Why there is no document.
-#[derive(Clone, Copy, Debug, PartialEq, Eq)]
+#[derive(Clone, Copy, Debug)]
 pub enum DocumentError {
     /// The bytes are none.
     Unread,

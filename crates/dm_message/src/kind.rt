@@ -6,7 +6,7 @@ ghost use Rattle.dm_message.specs.Plain.{plain_what};
 use crate::What;
 
 /// What kind of message it is.
-#[derive(Clone, Copy, Debug, PartialEq, Eq)]
+#[derive(Clone, Copy)]
 pub enum MessageKind {
     User,
     Stop,

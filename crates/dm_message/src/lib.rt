@@ -17,7 +17,7 @@ pub use kind::MessageKind;
 
 /// The name of a message: who sent it, how many that sender had sent before, and whether it is a kernel's answer to
 /// the message of that name.
-#[derive(Clone, Copy, Debug, PartialEq, Eq, PartialOrd, Ord, Hash)]
+#[derive(Clone, Copy, PartialEq, Eq)]
 pub struct MsgId {
     pub from: Pid,
     pub n: u32,
@@ -49,7 +49,7 @@ pub struct Message {
 }
 
 /// Who waits to hear how a requested move ended: the request's number, and the asker's address.
-#[derive(Clone, Copy, Debug, PartialEq, Eq)]
+#[derive(Clone, Copy)]
 pub struct Asker {
     pub n: u32,
     pub addr: Addr,
@@ -160,7 +160,7 @@ pub enum What {
 }
 
 /// How a requested move ended.
-#[derive(Clone, Copy, Debug, PartialEq, Eq)]
+#[derive(Clone, Copy)]
 pub enum Outcome {
     /// The process is there.
     Done,

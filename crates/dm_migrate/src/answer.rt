@@ -24,7 +24,7 @@ pub enum Asked {
 }
 
 /// What a process that asks to come says of itself.
-#[derive(Clone, Copy, Debug, PartialEq, Eq)]
+#[derive(Clone, Copy)]
 pub struct Ask {
     pub pid: Pid,
     /// Of its memory.

@@ -43,9 +43,9 @@ pub use Rattle.dm_rule.proofs.Names.{after, after_head, after_line, after_put, a
 pub use Rattle.dm_rule.proofs.Names.{both_true, chunks_of, counts, counts_process, destination, enclosed_from, encloses, ends_by, ends_move-is, filter, first_gives, first_point, first_trails, first_trodden, child_links}
 pub use Rattle.dm_rule.proofs.Names.{first_view, forwarded_for, forwards, forwards_on, front_of, given, gives, gives_piece, goes_out, goes_round, gone_to, group_of, handled, handled_first, hears, held_for, holder_eq, id_eq-is, id_eq-same}
 pub use Rattle.dm_rule.proofs.Names.{ids_at, is_away, is_behind, is_between, is_counted, is_due, is_early, is_here, is_kernels, is_over, is_restart, is_told_back, kernel_after, kernel_hears, kind_comes, kind_leaves, knowing, knows}
-pub use Rattle.dm_rule.proofs.Names.{label_of, lands-is, leads_to, leaves, leaves_for, left_true, length-append, lines_of, link_target, manager_sends, manager_takes_burden, manager_takes_lem, migrates, move_target, moved}
-pub use Rattle.dm_rule.proofs.Names.{not_server, outcome, own_given, own_id, packet_line, pending_of, pid_eq-is, pid_eq-same, pieces_of, place_told, plain_kind, process_told, puts, receiver_in, receiver_of, receives_burden}
-pub use Rattle.dm_rule.proofs.Names.{receives_links, released, right_true, seen, sender_in, sender_of, sends_burden, sends_on, sent_at, sent_off, served_told, slice_get_cases, slice_get_within, slot_after, sort_of, spelled}
+pub use Rattle.dm_rule.proofs.Names.{label_of, lands-is, leads_to, leaves, leaves_for, left_true, length-append, lines_of, link_target, manager_gets, manager_sends, manager_takes_lem, migrates, move_target, moved}
+pub use Rattle.dm_rule.proofs.Names.{not_server, outcome, own_given, own_id, packet_line, pending_of, pid_eq-is, pid_eq-same, pieces_of, place_told, plain_kind, process_told, puts, receiver_in, receiver_of, receiving_gets}
+pub use Rattle.dm_rule.proofs.Names.{receives_links, released, right_true, seen, sender_in, sender_of, sending_gets, sends_on, sent_at, sent_off, served_told, slice_get_cases, slice_get_within, slot_after, sort_of, spelled}
 pub use Rattle.dm_rule.proofs.Names.{standing, start-sound, stayed, taken_id, takes_block, takes_chunk, target_of, tells_asker, times, to_kernel, to_of, token_in, told_between, told_ended, told_here, told_server, told_step, topic_by}
 pub use Rattle.dm_rule.proofs.Names.{trails_after, unmoved, untaken, updated, updates, view_after, why_ended-is, with_pair, with_ring, without_front, without_id, ◌||◌}
 pub use Rattle.dm_rule.proofs.Once.{one_of-same}
@@ -82,7 +82,7 @@ pub use Rattle.dm_rule.proofs.Trails.Treads.{KnownFits, LabelFits, LineFits, Put
 pub use Rattle.dm_rule.proofs.Trails.Within.{HeadIn, Within, forwarded_acting, held_acting, line_within, queued_acting, trail_within}
 pub use Rattle.dm_rule.proofs.Turns.{created_off, ended_off, serving_off}
 pub use Rattle.dm_rule.specs.Acts.{act_of}
-pub use Rattle.dm_rule.specs.Addresses.{creates_burden, addresses_by}
+pub use Rattle.dm_rule.specs.Addresses.{child_gets, addresses_by}
 pub use Rattle.dm_rule.specs.Ends.{Stood, alive_lines, awaits, child_lines, doing_of, each_process, end_lines, first_with, holding_lines, homes_with, inbox_lines, link_lines, name_lines, pending_lines, process_lines, queue_at, queue_lines}
 pub use Rattle.dm_rule.specs.Ends.{server_lines, slot_line, standing_of, state_lines, stood, stood_at, stream_lines}
 pub use Rattle.dm_rule.specs.Migrating.{answers_in, behind_among, holders_numbered, holders_of, slot_holders}

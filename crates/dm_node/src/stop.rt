@@ -4,7 +4,7 @@ ghost use Rattle.std.specs.Prelude.{◌≡◌};
 use dm_memory::NoMemory;
 
 /// Why an event stops before its end. Its machine is not to be used again then.
-#[derive(Clone, Copy, Debug, PartialEq, Eq)]
+#[derive(Clone, Copy, Debug)]
 pub enum Stop {
     /// No memory was left.
     NoMemory(NoMemory),

@@ -6,7 +6,7 @@ use dm_link::{Link, Pid};
 use dm_lists::Items;
 
 /// Which limits hold.
-#[derive(Clone, Copy, Debug, PartialEq, Eq)]
+#[derive(Clone, Copy)]
 pub enum Format {
     /// 32 link slots for a process, 64 bytes in a message.
     One,
@@ -37,7 +37,7 @@ impl Format {
 }
 
 /// The room of a machine.
-#[derive(Clone, Copy, Debug, PartialEq, Eq)]
+#[derive(Clone, Copy)]
 pub struct BootMachine {
     /// How many processes, 0 to 64.
     pub slots: u8,

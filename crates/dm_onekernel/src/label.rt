@@ -7,7 +7,7 @@ use dm_message::{MsgId, Outcome};
 use dm_processor::Fault;
 
 /// What a call gives back in register 0.
-#[derive(Clone, Copy, Debug, PartialEq, Eq)]
+#[derive(Clone, Copy)]
 pub enum Reply {
     Done,
     /// The slot holds no link.
@@ -48,7 +48,7 @@ impl Reply {
 }
 
 /// Why a process ended.
-#[derive(Clone, Copy, Debug, PartialEq, Eq)]
+#[derive(Clone, Copy)]
 pub enum Why {
     Exit,
     /// It executed an instruction that faults.
@@ -74,7 +74,7 @@ impl Why {
 }
 
 /// A step of the kernel without machines.
-#[derive(Clone, Copy, Debug, PartialEq, Eq)]
+#[derive(Clone, Copy)]
 pub enum Label {
     /// The process executed so many plain instructions.
     Ran {

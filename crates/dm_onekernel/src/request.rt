@@ -1,7 +1,7 @@
 //! What the process manager asks of kernels and processes.
 
 /// What a request of the process manager asks for, one that it waits for an answer to.
-#[derive(Clone, Copy, Debug, PartialEq, Eq)]
+#[derive(Clone, Copy)]
 pub enum PendingKind {
     /// That a process be made.
     Create,

@@ -18,7 +18,7 @@ pub use real_shelf::RealShelf;
 pub use real_sink::RealSink;
 
 /// A read or a write that moved nothing, and was counted as a fault.
-#[derive(Clone, Copy, Debug, PartialEq, Eq)]
+#[derive(Clone, Copy, Debug)]
 pub struct Failed;
 
 /// Named files that can be read from any place on.

@@ -39,7 +39,7 @@ pub enum Packet {
 }
 
 /// Why some bytes are no packet: the first rule that they break, from the left.
-#[derive(Clone, Copy, Debug, PartialEq, Eq, Error)]
+#[derive(Clone, Copy, Debug, Error)]
 pub enum PacketError {
     /// A field's bytes are not all there.
     #[error("bytes are missing")]

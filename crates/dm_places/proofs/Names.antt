@@ -48,11 +48,11 @@ pub use Rattle.dm_rule.proofs.Homes.Steps.{OnlySlots, gives_same, made_is, only_
 pub use Rattle.dm_rule.proofs.Letters.{not_kernels}
 pub use Rattle.dm_rule.proofs.Names.{About, Addresses, Again, Answer, AskedBy, Child, Enclosed, Fault, Forward, Frozen, Gets, Holder, Inbox, IsStep, Known, Leads, Line, Load, MessageKind, Name, NamedLink, One, Owner, Owns, Pair, Part}
 pub use Rattle.dm_rule.proofs.Names.{Place, Point, Receiver, Routes, Says, Sender, SentLoad, Slot, Sort, Sound, Spelled, Spot, Stage, Step, TellsRight, Told, Transmits, View, acting_place, after, after_head, after_label}
-pub use Rattle.dm_rule.proofs.Names.{after_line, after_step, all_follow, answer_gets, ascends, at_hand-is, at_pid, behind, behind_count, belongs_to, bind-is, board_finds, board_keeps, board_takes_burden, call_gets}
+pub use Rattle.dm_rule.proofs.Names.{after_line, after_step, all_follow, answer_gets, ascends, at_hand-is, at_pid, behind, behind_count, belongs_to, bind-is, board_finds, board_gets, board_keeps, call_gets}
 pub use Rattle.dm_rule.proofs.Names.{child_number, enclosed_from, encloses, ends_move-is, fills, fills_by, filter, filter_map, first_addresses, first_gives, first_point, first_view, forwarded_for, forwards, gets, child_links}
 pub use Rattle.dm_rule.proofs.Names.{given, gives, group_of, handled, id_eq-is, id_eq-same, id_eq-swap, is_kernels, is_told_back, kernel_after, label_of, landing_gets, leads_to, lines_of, link_target, links_at, manager_answers}
-pub use Rattle.dm_rule.proofs.Names.{manager_sends, manager_takes_burden, moved, option_map_or, outcome, own_given, own_id, owner_in, pid_eq-is, pid_eq-same, place_known, place_named, place_of, place_told, plain_kind, puts}
-pub use Rattle.dm_rule.proofs.Names.{receiver_of, receives_burden, receives_links, reply_eq, seen, sends_burden, serves_burden, slot_after, slots_of, slots_with, sort_of, spelled, standing, start-sound, times, told_back_gets, unmoved}
+pub use Rattle.dm_rule.proofs.Names.{manager_gets, manager_sends, moved, option_map_or, outcome, own_given, own_id, owner_in, pid_eq-is, pid_eq-same, place_known, place_named, place_of, place_told, plain_kind, puts}
+pub use Rattle.dm_rule.proofs.Names.{receiver_of, receives_links, receiving_gets, reply_eq, seen, sending_gets, serving_gets, slot_after, slots_of, slots_with, sort_of, spelled, standing, start-sound, times, told_back_gets, unmoved}
 pub use Rattle.dm_rule.proofs.Names.{updated, updated_to, view_after, when-is, why_eq}
 pub use Rattle.dm_rule.proofs.Pairs.Moves.{or_first, or_first as or_second}
 pub use Rattle.dm_rule.proofs.Requests.{by_migrates}

@@ -13,7 +13,7 @@ use dm_processor::{BLOCK, MOST_BLOCKS, Memory, Regs};
 use std::alloc::Global;
 
 /// What a process does when it is served.
-#[derive(Clone, Copy, Debug, PartialEq, Eq)]
+#[derive(Clone, Copy)]
 pub enum Status {
     /// It executes instructions.
     Ready,
@@ -37,7 +37,7 @@ pub enum Status {
 }
 
 /// What a process does where it is served.
-#[derive(Clone, Copy, Debug, PartialEq, Eq)]
+#[derive(Clone, Copy)]
 pub enum Service {
     /// It executes instructions.
     Execute,
@@ -46,7 +46,7 @@ pub enum Service {
 }
 
 /// Which way a data move goes.
-#[derive(Clone, Copy, Debug, PartialEq, Eq)]
+#[derive(Clone, Copy)]
 pub enum Direction {
     /// From the area into the mover's memory.
     FromArea,

@@ -7,7 +7,7 @@ ghost use Rattle.dm_processor.specs.Instructions.{at_pc, branch_pc, past, regist
 pub const REGISTERS: usize = 16;
 
 /// The registers r0 to r15 and the program counter, a byte address.
-#[derive(Clone, Copy, Debug, PartialEq, Eq)]
+#[derive(Clone, Copy)]
 pub struct Regs {
     pub r: [u32; 16],
     pub pc: u32,
@@ -76,7 +76,7 @@ impl Regs {
 }
 
 /// Why an instruction could not be performed.
-#[derive(Clone, Copy, Debug, PartialEq, Eq)]
+#[derive(Clone, Copy, Debug)]
 pub enum Fault {
     /// An address, or the program counter, is outside the memory.
     OutOfRange,
@@ -100,7 +100,7 @@ impl Fault {
 }
 
 /// What one instruction came to.
-#[derive(Clone, Copy, Debug, PartialEq, Eq)]
+#[derive(Clone, Copy, Debug)]
 pub enum Stepped {
     /// It was performed.
     Plain,

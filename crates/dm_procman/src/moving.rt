@@ -12,7 +12,7 @@ use dm_message::{Message, MsgId, What};
 use thiserror::Error;
 
 /// Why no process is told to move.
-#[derive(Clone, Copy, Debug, PartialEq, Eq, Error)]
+#[derive(Clone, Copy, Debug, Error)]
 pub enum MoveError {
     #[error("it is no child of the manager")]
     Unknown,

@@ -6,7 +6,7 @@ use dm_link::Link;
 use dm_onekernel::PendingKind;
 
 /// A request without a taken answer.
-#[derive(Clone, Copy, Debug, PartialEq, Eq)]
+#[derive(Clone, Copy)]
 pub struct Pending {
     /// Its number among the manager's messages.
     pub n: u32,

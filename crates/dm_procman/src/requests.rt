@@ -22,7 +22,7 @@ const MOVE: u8 = 5;
 const BAD_REQUEST: u8 = 2;
 
 /// What is done to a child.
-#[derive(Clone, Copy, Debug, PartialEq, Eq)]
+#[derive(Clone, Copy)]
 enum Control {
     Stop,
     Resume,

@@ -22,7 +22,7 @@ pub enum Record<H, L, A, E> {
 }
 
 /// Which of these a machine knows.
-#[derive(Clone, Copy, Debug, PartialEq, Eq)]
+#[derive(Clone, Copy)]
 pub enum Whereabouts {
     Here,
     Frozen,

@@ -5,7 +5,7 @@ use std::marker::Model;
 use thiserror::Error;
 
 /// Why there was no room: what is free instead.
-#[derive(Clone, Copy, Debug, PartialEq, Eq, Error)]
+#[derive(Clone, Copy, Debug, Error)]
 #[error("{free_slots} slots and {free_blocks} blocks are free")]
 pub struct Lacks {
     /// Slots that are free.
@@ -15,7 +15,7 @@ pub struct Lacks {
 }
 
 /// The slots and blocks of one machine. It takes no memory.
-#[derive(Debug, Drop)]
+#[derive(Drop)]
 pub struct Room {
     slots: u8,
     blocks: u16,

@@ -8,7 +8,7 @@ use std::process::ExitCode;
 use std::{fs, str};
 
 /// A command that is tried.
-#[derive(Clone, Copy, Debug)]
+#[derive(Clone, Copy)]
 struct Tried {
     name: &'static str,
     /// The words behind the program's name, with a space between. Its shelf has two files, `boot` and `other`.

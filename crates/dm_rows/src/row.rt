@@ -5,7 +5,7 @@ use anyhow::Result;
 use std::fs;
 
 /// A row, and where it is shown.
-#[derive(Clone, Copy, Debug)]
+#[derive(Clone, Copy)]
 pub struct Row<'a> {
     pub name: &'a str,
     /// The name of a run.

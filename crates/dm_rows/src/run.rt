@@ -11,7 +11,7 @@ use std::{fmt, fs};
 const LONGEST_LINE: usize = 96;
 
 /// A row of the table of runs.
-#[derive(Clone, Copy, Debug)]
+#[derive(Clone, Copy)]
 pub struct Run<'a> {
     pub name: &'a str,
     /// The exit status.
@@ -27,7 +27,7 @@ pub struct Run<'a> {
 }
 
 /// How a run ended.
-#[derive(Clone, Copy, Debug, PartialEq, Eq)]
+#[derive(Clone, Copy, PartialEq, Eq)]
 pub enum Ending {
     AsSaid,
     OtherStatus,

@@ -53,9 +53,9 @@ pub use Rattle.dm_line.specs.declared.line.Line.{Line}
 pub use Rattle.dm_line.specs.declared.line.Load.{Load}
 pub use Rattle.dm_line.specs.declared.line.Stage.{Stage}
 pub use Rattle.dm_rule.specs.Addresses.{Addresses, Answer, AskedBy, Child, Enclosed, Gets, Holder, Name, Owner, Receiver, Sender, Slot, acting_place, all_follow, answer_gets, belongs_to, board_finds, addresses_by}
-pub use Rattle.dm_rule.specs.Addresses.{board_keeps, board_takes_burden, call_gets, child_links, child_number, enclosed_from, encloses, fills, fills_by, first_addresses, first_gives, forwards, gets, given, gives, holder_eq}
-pub use Rattle.dm_rule.specs.Addresses.{is_behind, is_told_back, landing_gets, leads_to, link_target, links_at, manager_answers, manager_sends, manager_takes_burden, manager_tells_burden, own_given, owner_in}
-pub use Rattle.dm_rule.specs.Addresses.{place_known, place_named, place_told, receives_burden, receives_links, sends_burden, serves_burden, slot_after, told_back_gets, unmoved, updated, updated_to}
+pub use Rattle.dm_rule.specs.Addresses.{board_gets, board_keeps, call_gets, child_links, child_number, enclosed_from, encloses, fills, fills_by, first_addresses, first_gives, forwards, gets, given, gives, holder_eq}
+pub use Rattle.dm_rule.specs.Addresses.{is_behind, is_told_back, landing_gets, leads_to, link_target, links_at, manager_answers, manager_gets, manager_sends, own_given, owner_in, telling_gets}
+pub use Rattle.dm_rule.specs.Addresses.{place_known, place_named, place_told, receives_links, receiving_gets, sending_gets, serving_gets, slot_after, told_back_gets, unmoved, updated, updated_to}
 pub use Rattle.dm_rule.specs.Apart.{AllSpare, IsOthers, Spares}
 pub use Rattle.dm_rule.specs.Good.{next_step}
 pub use Rattle.dm_rule.specs.Homes.{Homes, are_for_home, are_home, ascends, asker_in, enclosed_of, is_for_home, links_in, names, sender_of, to_of}

@@ -26,7 +26,7 @@ use Rattle.dm_rule.specs.Acts as act
 use Rattle.dm_rule.specs.View.{View, Told, About, Known, Frozen, Forward}
 use Rattle.dm_rule.specs.View as view
 pub use Rattle.dm_rule.specs.Holders.{Holder, Slot, Owner, Receiver, Sender, Enclosed, Child, Name, Answer, AskedBy, Addresses, holder_eq, Gets, gets, given, acting_place, unmoved}
-pub use Rattle.dm_rule.specs.Given.{encloses, enclosed_from, sends_burden, sends_next, send_gets, fills, fills_by, call_gets, slot_after, receives_links, receives_burden, reception_gets, answer_gets, landing_gets, serves_burden, service_gets, child_links, creates_burden, creation_gets, place_named, board_finds, board_keeps, board_asks, board_takes_burden, manager_controls, manager_tells_burden, manager_sends, manager_answers, manager_takes_burden, taking_gets, gives}
+pub use Rattle.dm_rule.specs.Given.{encloses, enclosed_from, sending_gets, sends_next, send_gets, fills, fills_by, call_gets, slot_after, receives_links, receiving_gets, reception_gets, answer_gets, landing_gets, serving_gets, service_gets, child_links, child_gets, creation_gets, place_named, board_finds, board_keeps, board_asks, board_gets, manager_controls, telling_gets, manager_sends, manager_answers, manager_gets, taking_gets, gives}
 
 -- a message that goes on, or that step 6 of a migration sends on, follows its receiver
 abbrev pub place_known : Known → ℕ → Place → Place

@@ -39,15 +39,15 @@ enclosed_from a id k ls = map (λ e. a (Enclosed id e.0)) (enumerate_from k ls)
 
 -- a process sends: over its link in slot r1, from where it is; the links that it encloses keep their places; what isn't a user
 -- message asks for the first piece of a data move, and the link's place is then the owner's too
-abbrev pub sends_burden : View → Addresses → Pid → PlainProcess → MsgId → PlainWhat → List Gets
-sends_burden v a p x id (what.User code channel body links) =
+abbrev pub sending_gets : View → Addresses → Pid → PlainProcess → MsgId → PlainWhat → List Gets
+sending_gets v a p x id (what.User code channel body links) =
     gets (Receiver id) (a (Slot p (reg x.regs 1))) ∷ gets (Sender id) (acting_place v p) ∷ encloses id 0 (map (λ k. a (Slot p k)) (calls.listed x))
-sends_burden v a p x id w =
+sending_gets v a p x id w =
     gets (Receiver id) (a (Slot p (reg x.regs 1))) ∷ gets (Sender id) (acting_place v p) ∷ gets (Owner p) (a (Slot p (reg x.regs 1))) ∷ []
 
 -- only a call that sends gives addresses
 abbrev pub sends_next : View → Addresses → Pid → PlainProcess → MsgId → Option kernel.Trap → List Gets
-sends_next v a p x id (Some (kernel.Calls number (calls.Sends m y))) = sends_burden v a p x id m.what
+sends_next v a p x id (Some (kernel.Calls number (calls.Sends m y))) = sending_gets v a p x id m.what
 sends_next v a p x id next = []
 
 -- the send of a process that executes
@@ -80,14 +80,14 @@ receives_links a p id k slots (l ∷ ls) =
     fills p (first_empty slots) (a (Enclosed id k)) ++ receives_links a p id (k + 1) (slot_after slots l (first_empty slots)) ls
 
 -- only a user message brings links to a process
-abbrev pub receives_burden : Addresses → Pid → MsgId → PlainProcess → PlainWhat → List Gets
-receives_burden a p id x (what.User code channel body links) = receives_links a p id 0 x.links links
-receives_burden a p id x w = []
+abbrev pub receiving_gets : Addresses → Pid → MsgId → PlainProcess → PlainWhat → List Gets
+receiving_gets a p id x (what.User code channel body links) = receives_links a p id 0 x.links links
+receiving_gets a p id x w = []
 
 -- a living process takes a message of the bag
 abbrev pub reception_gets : Addresses → Pid → MsgId → Option PlainProcess → Option PlainMessage → List Gets
 reception_gets a p id process message =
-    option_map_or (λ x. option_map_or (λ m. receives_burden a p id x m.what) message []) process []
+    option_map_or (λ x. option_map_or (λ m. receiving_gets a p id x m.what) message []) process []
 
 -- an answer goes back to where its request came from
 abbrev pub answer_gets : Addresses → MsgId → Place → List Gets
@@ -99,31 +99,31 @@ landing_gets v a p (Some (pieces.Next request x)) = gets (Receiver request.id) (
 landing_gets v a p landed = []
 
 -- what the kernel of a process does with a message for it: an answer, or the next request of its data move
-abbrev pub serves_burden : View → Addresses → MsgId → PlainMessage → PlainProcess → PlainWhat → List Gets
-serves_burden v a id m x (what.Read base len) = answer_gets a id (acting_place v m.to)
-serves_burden v a id m x (what.Write base bytes) = answer_gets a id (acting_place v m.to)
-serves_burden v a id m x (what.Block bytes) = landing_gets v a m.to (pieces.lands m.to x m x.status)
-serves_burden v a id m x what.Written = landing_gets v a m.to (pieces.lands m.to x m x.status)
-serves_burden v a id m x w = []
+abbrev pub serving_gets : View → Addresses → MsgId → PlainMessage → PlainProcess → PlainWhat → List Gets
+serving_gets v a id m x (what.Read base len) = answer_gets a id (acting_place v m.to)
+serving_gets v a id m x (what.Write base bytes) = answer_gets a id (acting_place v m.to)
+serving_gets v a id m x (what.Block bytes) = landing_gets v a m.to (pieces.lands m.to x m x.status)
+serving_gets v a id m x what.Written = landing_gets v a m.to (pieces.lands m.to x m x.status)
+serving_gets v a id m x w = []
 
 -- a message of the bag is served, only at a living process
 abbrev pub service_gets : OneKernel → View → Addresses → MsgId → Option PlainMessage → List Gets
 service_gets s v a id message =
-    option_map_or (λ m. option_map_or (λ x. serves_burden v a id m x m.what) (kernel.alive (s.processes m.to)) []) message []
+    option_map_or (λ m. option_map_or (λ x. serving_gets v a id m x m.what) (kernel.alive (s.processes m.to)) []) message []
 
 -- a child begins with the links that its request brought
 abbrev pub child_links : Addresses → Pid → MsgId → ℕ → List PlainLink → List Gets
 child_links a child id k ls = map (λ e. gets (Slot child e.0) (a (Enclosed id e.0))) (enumerate_from k ls)
 
 -- only a request to make a process brings links to it
-abbrev pub creates_burden : Addresses → MsgId → Pid → PlainWhat → List Gets
-creates_burden a id child (what.Create image links) = child_links a child id 0 links
-creates_burden a id child w = []
+abbrev pub child_gets : Addresses → MsgId → Pid → PlainWhat → List Gets
+child_gets a id child (what.Create image links) = child_links a child id 0 links
+child_gets a id child w = []
 
 -- a kernel makes a process, and answers
 abbrev pub creation_gets : View → Addresses → MsgId → Pid → Option PlainMessage → List Gets
 creation_gets v a id child message =
-    option_map_or (λ m. answer_gets a id (unmoved v.acting) ++ creates_burden a id child m.what) message []
+    option_map_or (λ m. answer_gets a id (unmoved v.acting) ++ child_gets a id child m.what) message []
 
 -- the place of a name in the switchboard's list, counted from n
 abbrev pub place_named : List ℕ → List NamedLink → ℕ → ℕ
@@ -146,10 +146,10 @@ board_asks v a id sent names body asked =
     gets (Receiver sent) (a (Enclosed id 0)) ∷ gets (Sender sent) (unmoved v.acting) ∷ board_finds a sent names body asked.answer ++ board_keeps a id names asked.answer
 
 -- the switchboard answers over the first link; what it hands out keeps its place, and what it keeps too
-abbrev pub board_takes_burden : OneKernel → View → Addresses → MsgId → PlainWhat → List Gets
-board_takes_burden s v a id (what.User code channel body (l ∷ ls)) =
+abbrev pub board_gets : OneKernel → View → Addresses → MsgId → PlainWhat → List Gets
+board_gets s v a id (what.User code channel body (l ∷ ls)) =
     board_asks v a id (id_of switchboard s.switchboard.sent) s.switchboard.names body (board.asks s.switchboard.names body ls)
-board_takes_burden s v a id w = []
+board_gets s v a id w = []
 
 -- the manager's message to a child goes over its link to it
 abbrev pub manager_controls : View → Addresses → ℕ → PlainMessage → List Gets
@@ -157,17 +157,17 @@ manager_controls v a code sent = gets (Receiver sent.id) (a (Child code)) ∷ ge
 
 -- the manager: a request to make a process goes to a kernel, a control message and a request to move over the link to the child,
 -- and an answer over the link that came with the request; the link for the answer to a request is kept, if one came
-abbrev pub manager_tells_burden : View → Addresses → MsgId → ℕ → PlainMessage → PlainWhat → List Gets
-manager_tells_burden v a id code sent (what.Create image links) =
+abbrev pub telling_gets : View → Addresses → MsgId → ℕ → PlainMessage → PlainWhat → List Gets
+telling_gets v a id code sent (what.Create image links) =
     gets (Receiver sent.id) (unmoved sent.to.home) ∷ gets (Sender sent.id) (unmoved v.acting) ∷ gets (Answer sent.id.n) (a (Enclosed id 0)) ∷ encloses sent.id 0 (enclosed_from a id 1 links)
-manager_tells_burden v a id code sent (what.User c channel body links) =
+telling_gets v a id code sent (what.User c channel body links) =
     gets (Receiver sent.id) (a (Enclosed id 0)) ∷ gets (Sender sent.id) (unmoved v.acting) ∷ []
-manager_tells_burden v a id code sent (what.Move machine) = gets (Answer sent.id.n) (a (Enclosed id 0)) ∷ manager_controls v a code sent
-manager_tells_burden v a id code sent w = manager_controls v a code sent
+telling_gets v a id code sent (what.Move machine) = gets (Answer sent.id.n) (a (Enclosed id 0)) ∷ manager_controls v a code sent
+telling_gets v a id code sent w = manager_controls v a code sent
 
 -- what the manager sends for a user message, if anything
 abbrev pub manager_sends : View → Addresses → MsgId → ℕ → Option PlainMessage → List Gets
-manager_sends v a id code message = option_map_or (λ sent. manager_tells_burden v a id code sent sent.what) message []
+manager_sends v a id code message = option_map_or (λ sent. telling_gets v a id code sent sent.what) message []
 
 -- an answer is passed on to whoever asked that a process be made, or move: over the link that was kept with request n
 abbrev pub manager_answers : View → Addresses → ℕ → Option PlainMessage → List Gets
@@ -175,18 +175,18 @@ manager_answers v a n message =
     option_map_or (λ sent. gets (Receiver sent.id) (a (Answer n)) ∷ gets (Sender sent.id) (unmoved v.acting) ∷ gets (Enclosed sent.id 0) (unmoved v.acting) ∷ []) message []
 
 -- the manager takes a message: a user's, or the answer to a request of its own
-abbrev pub manager_takes_burden : OneKernel → View → Addresses → PlainMessage → PlainWhat → Option manage.ManagerTook → List Gets
-manager_takes_burden s v a m w None = []
-manager_takes_burden s v a m (what.User code channel body links) (Some t) = manager_sends v a m.id code t.message
-manager_takes_burden s v a m (what.Created child) (Some t) =
+abbrev pub manager_gets : OneKernel → View → Addresses → PlainMessage → PlainWhat → Option manage.ManagerTook → List Gets
+manager_gets s v a m w None = []
+manager_gets s v a m (what.User code channel body links) (Some t) = manager_sends v a m.id code t.message
+manager_gets s v a m (what.Created child) (Some t) =
     gets (Child (length s.manager.children + 1)) (unmoved child.home) ∷ manager_answers v a m.id.n t.message
-manager_takes_burden s v a m w (Some t) = manager_answers v a m.id.n t.message
+manager_gets s v a m w (Some t) = manager_answers v a m.id.n t.message
 
 -- a server takes a message of the bag
 abbrev pub taking_gets : OneKernel → View → Addresses → MsgId → Option PlainMessage → List Gets
 taking_gets s v a id message =
-    option_map_or (λ m. if pid_eq m.to switchboard then board_takes_burden s v a id m.what
-    else manager_takes_burden s v a m m.what (manage.manager_takes s.manager s.machines (length s.images) m m.what)) message []
+    option_map_or (λ m. if pid_eq m.to switchboard then board_gets s v a id m.what
+    else manager_gets s v a m m.what (manage.manager_takes s.manager s.machines (length s.images) m m.what)) message []
 
 -- what each label gives, a row a label; a process that follows a request to move knows who sent it, and answers where it is then
 abbrev pub gives : OneKernel → View → Addresses → Label → List Gets

@@ -51,12 +51,12 @@ abbrev pub says : Label → Part
 says l = Says (line.Label l)
 
 -- a user message on a channel of the mask
-abbrev pub burden_is_awaited : ℕ → PlainWhat → Bool
-burden_is_awaited mask (what.User code channel body links) = on_mask mask channel
-burden_is_awaited mask w = false
+abbrev pub what_is_awaited : ℕ → PlainWhat → Bool
+what_is_awaited mask (what.User code channel body links) = on_mask mask channel
+what_is_awaited mask w = false
 
 abbrev pub is_awaited : ℕ → Option PlainMessage → Bool
-is_awaited mask message = option_map_or (λ m. burden_is_awaited mask m.what) message false
+is_awaited mask message = option_map_or (λ m. what_is_awaited mask m.what) message false
 
 -- the first of the queued messages that a process with this mask may take
 abbrev pub first_awaited : OneKernel → ℕ → List MsgId → Option MsgId

@@ -44,16 +44,15 @@ pub use Rattle.dm_rule.proofs.Moves.States.{front_kernels, front_one, front_way,
 pub use Rattle.dm_rule.proofs.Names.{About, Addresses, Again, Answer, AreStill, AskNone, AskedBy, Child, Enclosed, Forward, Frozen, Gets, Held, Here, Holder, Inbox, Incoming, IsIn, IsStep, IsStill, Known, LandsSo, Leads, LifeGrows, Line}
 pub use Rattle.dm_rule.proofs.Names.{Load, Made, MessageKind, Moves, Name, NamedLink, Next, NothingElse, Of, Owner, Owns, Pair, Part, Phase, Place, Point, Queue, Receiver, Regs, Rests, Routes, Runs, Says, Sender, ServerSends, Slot, Sort}
 pub use Rattle.dm_rule.proofs.Names.{Sound, Spelled, Spot, Stage, StandsAsBag, StandsNowhere, StandsOutside, StandsRight, Step, Target, Todo, Told, Transmits, Unknown, Untaken, View, accepts, after, after_head, after_label, after_line}
-pub use Rattle.dm_rule.proofs.Names.{after_proto, after_put, after_stage, after_step, after_taken, alive-is, all_follow, answers_move, are_for_home, are_home, ascends, asker_in, at_hand-is, at_id, at_machine, at_pair}
-pub use Rattle.dm_rule.proofs.Names.{at_record, begins, behind, bind-is, board_takes_burden, board_takes_lem, child_number, chunks_of, completing, cons_option, counts, dropped_for, ended, ends_by, ends_move-is}
-pub use Rattle.dm_rule.proofs.Names.{filter, filter_map, first_gives, first_point, first_view, fits, forward_about, forwarded_for, forwards, forwards_on, free_room, front_of, given, gives, gives_piece, goes_out, gone_to, group_of, handled}
-pub use Rattle.dm_rule.proofs.Names.{handled_first, hears, held_for, holder_eq, id_eq-is, id_eq-same, is_apart, is_away, is_behind, is_between, is_counted, is_dropped, is_early, is_for_home, is_here, is_kernels, is_restart, is_told_back}
-pub use Rattle.dm_rule.proofs.Names.{kernel_after, kernel_hears, kind_comes, kind_leaves, known_at, knows, label_of, landing_gets, lands-is, leaves, leaves_for, length-append, lines_of, link_target, manager_takes_burden}
-pub use Rattle.dm_rule.proofs.Names.{manager_takes_lem, marked, migrates, moved, moved_back, names, nexts, not_server, oldest, on_mask, option_and_then, option_map_or, outcome, own_given, own_id, packet_line, pending_of}
-pub use Rattle.dm_rule.proofs.Names.{pid_eq-is, pid_eq-same, pieces_of, place_known, place_told, plain_kind, process_told, puts, queued_for, receiver_in, receiver_of, reply_code, reply_eq, right_true, ring_at, routed_on, seen, sender_in}
-pub use Rattle.dm_rule.proofs.Names.{sender_of, sends_on, sent_at, served_told, serves_burden, slice_set, slots_of, slots_with, sort_of, spelled, standing, start-sound, stayed, taken_id, takes_block, takes_chunk, target_of}
-pub use Rattle.dm_rule.proofs.Names.{tells_asker, times, to_kernel, to_of, told_back_gets, told_between, told_ended, told_here, told_server, told_step, topic_by, unentered, untaken, updated, updated_to, updates, view_after, when-is}
-pub use Rattle.dm_rule.proofs.Names.{without, without_front, without_id, ◌||◌}
+pub use Rattle.dm_rule.proofs.Names.{after_proto, after_put, after_stage, after_step, after_taken, alive-is, all_follow, answers_move, are_for_home, are_home, ascends, asker_in, at_hand-is, at_id, at_machine, at_pair, at_record, begins}
+pub use Rattle.dm_rule.proofs.Names.{behind, bind-is, board_gets, board_takes_lem, child_number, chunks_of, completing, cons_option, counts, dropped_for, ended, ends_by, ends_move-is, filter, filter_map, first_gives, first_point}
+pub use Rattle.dm_rule.proofs.Names.{first_view, fits, forward_about, forwarded_for, forwards, forwards_on, free_room, front_of, given, gives, gives_piece, goes_out, gone_to, group_of, handled, handled_first, hears, held_for, holder_eq}
+pub use Rattle.dm_rule.proofs.Names.{id_eq-is, id_eq-same, is_apart, is_away, is_behind, is_between, is_counted, is_dropped, is_early, is_for_home, is_here, is_kernels, is_restart, is_told_back, kernel_after, kernel_hears, kind_comes}
+pub use Rattle.dm_rule.proofs.Names.{kind_leaves, known_at, knows, label_of, landing_gets, lands-is, leaves, leaves_for, length-append, lines_of, link_target, manager_gets, manager_takes_lem, marked, migrates, moved, moved_back, names}
+pub use Rattle.dm_rule.proofs.Names.{nexts, not_server, oldest, on_mask, option_and_then, option_map_or, outcome, own_given, own_id, packet_line, pending_of, pid_eq-is, pid_eq-same, pieces_of, place_known, place_told, plain_kind}
+pub use Rattle.dm_rule.proofs.Names.{process_told, puts, queued_for, receiver_in, receiver_of, reply_code, reply_eq, right_true, ring_at, routed_on, seen, sender_in, sender_of, sends_on, sent_at, served_told, serving_gets, slice_set}
+pub use Rattle.dm_rule.proofs.Names.{slots_of, slots_with, sort_of, spelled, standing, start-sound, stayed, taken_id, takes_block, takes_chunk, target_of, tells_asker, times, to_kernel, to_of, told_back_gets, told_between, told_ended}
+pub use Rattle.dm_rule.proofs.Names.{told_here, told_server, told_step, topic_by, unentered, untaken, updated, updated_to, updates, view_after, when-is, without, without_front, without_id, ◌||◌}
 pub use Rattle.dm_rule.proofs.Once.{one_of}
 pub use Rattle.dm_rule.proofs.Outcomes.{by_group, by_net, by_outcome, by_parts}
 pub use Rattle.dm_rule.proofs.Pairs.Moves.{or_first}

@@ -2,7 +2,7 @@
 use dm_memory::NoMemory;
 
 /// Why a run stopped before its end.
-#[derive(Clone, Copy, Debug, PartialEq, Eq)]
+#[derive(Clone, Copy, Debug)]
 pub enum Stop {
     /// No memory was left.
     NoMemory(NoMemory),

@@ -22,7 +22,7 @@ use thiserror::Error;
 pub const MOST_SCHEDULE: u32 = 16_777_216;
 
 /// A directive that can't be divided further.
-#[derive(Clone, Copy, Debug, PartialEq, Eq)]
+#[derive(Clone, Copy)]
 pub enum Step {
     /// A machine takes a turn.
     Turn(u8),
@@ -35,7 +35,7 @@ pub enum Step {
 }
 
 /// What a line of a schedule says.
-#[derive(Clone, Copy, Debug, PartialEq, Eq)]
+#[derive(Clone, Copy)]
 pub enum Directive {
     One(Step),
     /// Each packet that was never delivered arrives, and then each machine takes a turn.
@@ -47,7 +47,7 @@ pub enum Directive {
 }
 
 /// What is wrong with a line.
-#[derive(Clone, Copy, Debug, PartialEq, Eq, Error)]
+#[derive(Clone, Copy, Debug, Error)]
 pub enum LineFault {
     #[error("unknown word")]
     UnknownWord,
@@ -77,7 +77,7 @@ impl LineFault {
 }
 
 /// Why a schedule was not read.
-#[derive(Clone, Copy, Debug, PartialEq, Eq, Error)]
+#[derive(Clone, Copy, Debug, Error)]
 pub enum ScheduleError {
     /// The first bad line, counted from 1, and what is wrong with it.
     #[error("line {line}: {fault}")]

@@ -12,7 +12,7 @@ use crate::sort::Sort;
 use crate::split::split;
 
 /// The shape of a line.
-#[derive(Clone, Copy, Debug, PartialEq, Eq)]
+#[derive(Clone, Copy)]
 pub enum Shape {
     // The heads of groups.
     Turn,

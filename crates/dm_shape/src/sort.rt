@@ -11,7 +11,7 @@ use crate::number::number;
 use dm_message::MessageKind;
 
 /// What a word is.
-#[derive(Clone, Copy, Debug, PartialEq, Eq)]
+#[derive(Clone, Copy)]
 pub enum Sort {
     Choice(Choice),
     /// A machine: below 2^8.

@@ -49,7 +49,7 @@ pub struct Shell {
 }
 
 /// Why some bytes are no process: the first rule that they break, from the left.
-#[derive(Clone, Copy, Debug, PartialEq, Eq, Error)]
+#[derive(Clone, Copy, Debug, Error)]
 pub enum StateBytesError {
     /// A field's bytes are not all there.
     #[error("bytes are missing")]

@@ -14,7 +14,7 @@ use std::marker::Model;
 const PLACES: usize = WINDOW as usize;
 
 /// What an arrival is.
-#[derive(Debug, Drop)]
+#[derive(Drop)]
 pub enum Arrived<M> {
     /// The next message, which is handed back.
     Taken(M),

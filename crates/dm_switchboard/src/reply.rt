@@ -17,7 +17,7 @@ fn address_at(here: u8) -> Addr
 }
 
 /// The answer to a request.
-#[derive(Clone, Copy, Debug, PartialEq, Eq)]
+#[derive(Clone, Copy)]
 pub enum Reply {
     Registered,
     /// A copy of the link that is kept under the name.

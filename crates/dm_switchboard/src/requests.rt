@@ -10,7 +10,7 @@ use dm_link::Link;
 use dm_memory::NoMemory;
 
 /// What a request asks for.
-#[derive(Clone, Copy, Debug, PartialEq, Eq)]
+#[derive(Clone, Copy)]
 enum Operation {
     Register,
     LookUp,

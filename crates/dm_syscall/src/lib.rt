@@ -31,7 +31,7 @@ pub enum Called {
 }
 
 /// What became of a receive that a message came to.
-#[derive(Clone, Copy, Debug, PartialEq, Eq)]
+#[derive(Clone, Copy)]
 pub enum Completed {
     /// The process has the message, which has left its queue.
     Received(MsgId),

@@ -5,7 +5,7 @@ ghost use Rattle.dm_onekernel.specs.Calls.{call_number};
 ghost use Rattle.dm_syscall.specs.Numbers.{number_of};
 
 /// The calls of processes (1977).
-#[derive(Clone, Copy, Debug, PartialEq, Eq)]
+#[derive(Clone, Copy)]
 pub enum Call {
     Exit,
     Out,

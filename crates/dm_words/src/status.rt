@@ -13,7 +13,7 @@ pub const LONGEST_LINE: usize = 96;
 pub const LONGEST_TEXT: usize = LONGEST_LINE - 1;
 
 /// One of the files that the program reads.
-#[derive(Clone, Copy, Debug, PartialEq, Eq)]
+#[derive(Clone, Copy)]
 pub enum Input {
     Boot,
     Schedule,
@@ -21,7 +21,7 @@ pub enum Input {
 }
 
 /// How a run of the program ended.
-#[derive(Clone, Copy, Debug, PartialEq, Eq)]
+#[derive(Clone, Copy)]
 pub enum Status {
     /// The schedule was read to its end, and all lines are written.
     Done,

@@ -26,7 +26,7 @@ use std::alloc::Global;
 pub const MOST_LINES: u32 = 10_000;
 
 /// Why the words ask for nothing.
-#[derive(Clone, Copy, Debug, PartialEq, Eq)]
+#[derive(Clone, Copy, Debug)]
 pub enum WordsError {
     /// The words aren't those of a command.
     Usage,

@@ -11,7 +11,7 @@ use dm_line::pass::Pass;
 use dm_schedule::{Directive, Step};
 
 /// How far a directive has come.
-#[derive(Clone, Copy, Debug, PartialEq, Eq)]
+#[derive(Clone, Copy)]
 pub enum Cursor {
     /// This elementary directive is left of it.
     One(Step),
@@ -20,7 +20,7 @@ pub enum Cursor {
 }
 
 /// How far a pass has come.
-#[derive(Clone, Copy, Debug, PartialEq, Eq)]
+#[derive(Clone, Copy)]
 pub enum Place {
     /// The packets of the pairs from this one on are left, and then all turns.
     Packets { from: u8, to: u8 },

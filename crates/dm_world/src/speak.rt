@@ -3,14 +3,13 @@ ghost use Rattle.std.specs.Prelude.{◌≡◌, ◌++◌, ◌∷◌, ℕ, IfOk, O
 ghost use Rattle.std.specs.List.{All};
 ghost use Rattle.dm_packet.specs.Lawful.{IsLawfulPacket};
 ghost use Rattle.dm_packet.specs.Packets.{packet_of, spelling};
-ghost use Rattle.dm_line.specs.declared.line.Line.TheVariants as line_;
 ghost use Rattle.dm_wire.specs.Wire.{packets_on};
 ghost use Rattle.dm_node.specs.Wired.{packet_line, spoken, with_packet};
 ghost use Rattle.dm_world.specs.Meets.{IsSendable};
 ghost use Rattle.dm_world.specs.Spoke.{Spoke};
 ghost use Rattle.dm_world.specs.Readable.{AreReadBack};
 
-use dm_line::line::{Line, Load};
+use dm_line::line::{Line, Load, packet_line};
 use dm_memory::{NoMemory, push};
 use dm_node::Out;
 use dm_packet::{Packet, encode};
@@ -56,11 +55,4 @@ fn send(alloc: Global, wires: &mut Wire, packet: &Packet) -> Result<Line, NoMemo
             Ok(packet_line(from, to, k, Load::Ack(count)))
         }
     }
-}
-
-/// The line of a packet that is put from one machine to another as number `k` of their wire.
-fn packet_line(from: u8, to: u8, k: u64, load: Load) -> Line
-    ensures { result ≡ line_.Packet from to k load }
-{
-    Line::Packet { from, to, k, load }
 }

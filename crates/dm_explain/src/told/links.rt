@@ -17,7 +17,7 @@ use dm_memory::NoMemory;
 use toml::Value;
 
 /// A rule of links.
-#[derive(Clone, Copy, Debug, PartialEq, Eq)]
+#[derive(Clone, Copy)]
 pub enum LinkRule {
     Keys,
     Target,

@@ -1,6 +1,6 @@
 -- Which holders a label gives an address to doesn't rest on the addresses that there are.
 use Rattle.dm_movelaws.proofs.Names.{◌≡◌, ℕ, ◌+◌, Bool, List, [], ◌∷◌, ◌++◌, map, refl, ap, ◌∙◌, sym, ◌||◌, Option, Pid, Place, PlainLink, first_empty, MsgId, PlainMessage, PlainWhat, Label, PlainProcess, OneKernel, View, Addresses, Holder}
-use Rattle.dm_movelaws.proofs.Names.{Slot, Enclosed, Gets, gives, holder_eq, encloses, enclosed_from, sends_burden, receives_links, receives_burden, slot_after, creates_burden, manager_sends, gives_to, manager_takes_burden, child_links}
+use Rattle.dm_movelaws.proofs.Names.{Slot, Enclosed, Gets, gives, holder_eq, encloses, enclosed_from, sending_gets, receives_links, receiving_gets, slot_after, child_gets, manager_sends, gives_to, manager_gets, child_links}
 use Rattle.dm_movelaws.proofs.Names.{nat_tests, arith, None, Some, ◌==◌, ◌&&◌, true, false, if◌then◌else◌, pid_eq-same, given, leads_to, unmoved, ascends, eq_self, AtHome, HomesAre, homes_are, at_home, SaidOn, label_on, AskedBy, Receiver}
 use Rattle.dm_rule.proofs.Homes.Serves.{Named}
 use Rattle.dm_onekernel.specs.Manager as manage
@@ -35,7 +35,7 @@ enclosed_same : (a b : Addresses) (id from : MsgId) (n k : ℕ) (ls : List Plain
 enclosed_same a b id from n k [] = refl
 enclosed_same a b id from n k (l ∷ ls) = ap (λ (hs : List Holder). Enclosed id n ∷ hs) (enclosed_same a b id from (n + 1) (k + 1) ls)
 
-sends_what_same : (v w : View) (a b : Addresses) (p : Pid) (x : PlainProcess) (id : MsgId) (u : PlainWhat) → holders (sends_burden v a p x id u) ≡ holders (sends_burden w b p x id u)
+sends_what_same : (v w : View) (a b : Addresses) (p : Pid) (x : PlainProcess) (id : MsgId) (u : PlainWhat) → holders (sending_gets v a p x id u) ≡ holders (sending_gets w b p x id u)
 sends_what_same v w a b p x id u = grind (arith, nat_tests, encloses_same)
 
 sends_next_same : (v w : View) (a b : Addresses) (p : Pid) (x : PlainProcess) (id : MsgId) (o : Option kernel.Trap) → holders (addresses.sends_next v a p x id o) ≡ holders (addresses.sends_next w b p x id o)
@@ -56,7 +56,7 @@ links_same a b p id n slots (l ∷ ls) =
     (receives_links a p id (n + 1) (slot_after slots l (first_empty slots)) ls) (receives_links b p id (n + 1) (slot_after slots l (first_empty slots)) ls)
     fills_same (links_same a b p id (n + 1) (slot_after slots l (first_empty slots)) ls)
 
-receives_what_same : (a b : Addresses) (p : Pid) (id : MsgId) (x : PlainProcess) (u : PlainWhat) → holders (receives_burden a p id x u) ≡ holders (receives_burden b p id x u)
+receives_what_same : (a b : Addresses) (p : Pid) (id : MsgId) (x : PlainProcess) (u : PlainWhat) → holders (receiving_gets a p id x u) ≡ holders (receiving_gets b p id x u)
 receives_what_same a b p id x u = grind (arith, nat_tests, links_same)
 
 receives_same : (a b : Addresses) (p : Pid) (id : MsgId) (o : Option PlainProcess) (m : Option PlainMessage) → holders (addresses.reception_gets a p id o m) ≡ holders (addresses.reception_gets b p id o m)
@@ -71,7 +71,7 @@ child_same : (a b : Addresses) (child : Pid) (id : MsgId) (n : ℕ) (ls : List P
 child_same a b child id n [] = refl
 child_same a b child id n (l ∷ ls) = ap (λ (hs : List Holder). Slot child n ∷ hs) (child_same a b child id (n + 1) ls)
 
-creates_what_same : (a b : Addresses) (id : MsgId) (child : Pid) (u : PlainWhat) → holders (creates_burden a id child u) ≡ holders (creates_burden b id child u)
+creates_what_same : (a b : Addresses) (id : MsgId) (child : Pid) (u : PlainWhat) → holders (child_gets a id child u) ≡ holders (child_gets b id child u)
 creates_what_same a b id child u = grind (arith, nat_tests, child_same)
 
 creates_same : (v w : View) (a b : Addresses) (id : MsgId) (child : Pid) (o : Option PlainMessage) → holders (addresses.creation_gets v a id child o) ≡ holders (addresses.creation_gets w b id child o)
@@ -80,7 +80,7 @@ creates_same v w a b id child o = grind (arith, nat_tests, creates_what_same)
 manager_sends_same : (v w : View) (a b : Addresses) (id : MsgId) (code : ℕ) (o : Option PlainMessage) → holders (manager_sends v a id code o) ≡ holders (manager_sends w b id code o)
 manager_sends_same v w a b id code o = search (arith, enclosed_same)
 
-manager_takes_same : (s : OneKernel) (v w : View) (a b : Addresses) (m : PlainMessage) (u : PlainWhat) (o : Option manage.ManagerTook) → holders (manager_takes_burden s v a m u o) ≡ holders (manager_takes_burden s w b m u o)
+manager_takes_same : (s : OneKernel) (v w : View) (a b : Addresses) (m : PlainMessage) (u : PlainWhat) (o : Option manage.ManagerTook) → holders (manager_gets s v a m u o) ≡ holders (manager_gets s w b m u o)
 manager_takes_same s v w a b m u o = grind (arith, nat_tests, manager_sends_same)
 
 takes_same : (s : OneKernel) (v w : View) (a b : Addresses) (id : MsgId) (o : Option PlainMessage) → holders (addresses.taking_gets s v a id o) ≡ holders (addresses.taking_gets s w b id o)

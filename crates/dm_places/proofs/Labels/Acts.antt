@@ -1,7 +1,7 @@
 -- What a process that executes does, with places: plain instructions, calls and faults, a lemma a label.
 use Rattle.dm_places.proofs.Names.{◌≡◌, ℕ, ◌==◌, ◌&&◌, true, refl, ap, ◌∙◌, sym, subst, arith, Option, None, Some, nat_tests, Pid, MsgId, Message, id_eq, PlainMessage, plain_message, Process, Status, Label, Regs, Row, instruction, past}
 use Rattle.dm_places.proofs.Names.{Reply, Why, reply_eq, why_eq, bind, Ended, OneKernel, plain_process, plain_status, PlainProcess, Called, calls, plain_called, call_plainly, id_eq-is, bind-is, when-is, View, Addresses, given, gives}
-use Rattle.dm_places.proofs.Names.{call_gets, sends_burden, past_call, gives_by, made_is, gives_same, only_gives_by, Placed, Mirrors, MirrorsKernel, MirrorsProcess, Acted, acted, acts, after_call, after_done, if_ready, machine_of, ran}
+use Rattle.dm_places.proofs.Names.{call_gets, sending_gets, past_call, gives_by, made_is, gives_same, only_gives_by, Placed, Mirrors, MirrorsKernel, MirrorsProcess, Acted, acted, acts, after_call, after_done, if_ready, machine_of, ran}
 use Rattle.dm_places.proofs.Names.{running, with_acted, with_machine, with_process, with_sent, at_hand-is}
 use Rattle.dm_places.proofs.Keeps.{alive_of, goes_mirrors, ends_mirrors, kernel_process, kernel_sent, places_process, places_sends, this_process}
 use Rattle.dm_places.proofs.Labels.Calls.{MirrorsCalled, MirrorsSent, behind, does_call_kept}
@@ -67,7 +67,7 @@ ended = record { process = None; message = None }
 
 abbrev CalledAs : View → Addresses → Pid → Process → one.CallNumber → Acted → one.Called → Type 0
 CalledAs v a p x n w (one.Replies c z) = Goes v (given a (gives_by v a p (plain_process x) n c)) p w z
-CalledAs v a p x n w (one.Sends k z) = Sends v a (given a (sends_burden v a p (plain_process x) k.id k.what)) p w k z
+CalledAs v a p x n w (one.Sends k z) = Sends v a (given a (sending_gets v a p (plain_process x) k.id k.what)) p w k z
 CalledAs v a p x n w (one.Waits z) = Goes v a p w z
 CalledAs v a p x n w (one.Outputs u z) = Goes v a p w z
 CalledAs v a p x n w (one.Ends y) = w ≡ ended
@@ -151,9 +151,9 @@ send_row s t v a l p id (kernel.Calls number (one.Sends m z)) nx q is h =
     let name : m.id ≡ id = sym (id_eq-is id m.id k.0) in
     let x = plain_process q.x in
     let g = q.next in
-    let gs = sends_burden v a p x m.id m.what in
+    let gs = sending_gets v a p x m.id m.what in
     let gs_is : gs ≡ gives s v a (Label.Send p id) =
-    ap (λ (i : MsgId). sends_burden v a p x i m.what) name ∙ ap (addresses.sends_next v a p x id) (sym nx) ∙ ap (addresses.send_gets s v a p id) (sym q.runs) in
+    ap (λ (i : MsgId). sending_gets v a p x i m.what) name ∙ ap (addresses.sends_next v a p x id) (sym nx) ∙ ap (addresses.send_gets s v a p id) (sym q.runs) in
     let o = g.kept in (
       with_acted l p q.w,
       q.acts,

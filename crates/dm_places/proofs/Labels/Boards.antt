@@ -2,7 +2,7 @@
 use Rattle.dm_places.proofs.Names.{◌≡◌, ℕ, suc, ◌+◌, ◌==◌, Bool, false, List, [], ◌∷◌, ◌++◌, refl, ap, ◌∙◌, sym, subst, inl, inr, arith, if◌then◌else◌, map, slice_get, Option, None, Some, cases_Bool, length-map, Pid, Link, place_of}
 use Rattle.dm_places.proofs.Names.{PlainLink, plain_link, MsgId, Message, What, id_eq, id_of, PlainMessage, PlainWhat, plain_what, is_general, switchboard, bind, OneKernel, Switchboard, bytes_eq, is_name, Named, plain_board, plain_named}
 use Rattle.dm_places.proofs.Names.{Asked, plain_answer, plain_asks, plain_asked, plain_reply, id_eq-same, View, Addresses, given, Receiver, Sender, Enclosed, Child, Name, Answer, unmoved, place_named, board_asks, board_finds, board_keeps}
-use Rattle.dm_places.proofs.Names.{board_takes_burden, SameProcess, SameMessage, two, two_off, get_last, Placed, Mirrors, MirrorsKernel, MirrorsMessage, enclosed, board_took, without_message, AskedBy}
+use Rattle.dm_places.proofs.Names.{board_gets, SameProcess, SameMessage, two, two_off, get_last, Placed, Mirrors, MirrorsKernel, MirrorsMessage, enclosed, board_took, without_message, AskedBy}
 use Rattle.dm_switchboard.specs.declared.reply.Reply.{Reply}
 use Rattle.dm_places.proofs.Keeps.{answer_as, came_places, kernel_out, kernel_sent, out_mirrors, places_out, process_same}
 use Rattle.dm_places.proofs.Labels.Acts.{Follows}
@@ -137,7 +137,7 @@ request_mirrors s v a l id body w ws en h =
     }
 
 board_request : (s : OneKernel) (v : View) (a : Addresses) (l : Placed) (id : MsgId) (code channel : ℕ) (body : List ℕ) (links : List Link) → ((n : ℕ) (u : Link) → slice_get links n ≡ Some u → a (Enclosed id n) ≡ place_of u.addr) → Mirrors s v a l
-    → Mirrors (service.switchboard_took s id (one.takes_request s.switchboard body (map plain_link links))) v (given a (board_takes_burden s v a id (PlainWhat.User code channel body (map plain_link links)))) (board_took (without_message l id) (board.takes_request v.acting l.board body links))
+    → Mirrors (service.switchboard_took s id (one.takes_request s.switchboard body (map plain_link links))) v (given a (board_gets s v a id (PlainWhat.User code channel body (map plain_link links)))) (board_took (without_message l id) (board.takes_request v.acting l.board body links))
 board_request s v a l id code channel body [] en h = let u = out_mirrors s v a l id h in let p = u.plain in let g = u.places in search
 board_request s v a l id code channel body (w ∷ ws) en h =
     let asked = board.asks l.board.names body ws in
@@ -146,7 +146,7 @@ board_request s v a l id code channel body (w ∷ ws) en h =
 
 pub board_row : (s t : OneKernel) (v : View) (a : Addresses) (l : Placed) (id : MsgId) (m : Message) (k : PlainMessage) (u : PlainWhat) → plain_what m.what ≡ Some u → MirrorsMessage a id m → Mirrors s v a l
     → bind (one.board_takes s.switchboard k u) (λ (z : one.BoardTook). Some (service.switchboard_took s id z)) ≡ Some t
-    → Follows t v (given a (board_takes_burden s v a id u)) (bind (board.takes v.acting l.board m.what) (λ (z : board.Taken). Some (board_took (without_message l id) z)))
+    → Follows t v (given a (board_gets s v a id u)) (bind (board.takes v.acting l.board m.what) (λ (z : board.Taken). Some (board_took (without_message l id) z)))
 board_row s t v a l id m k (PlainWhat.User code channel bytes ls) says hm h e =
     let w = user_what m.what code channel bytes ls says in
     let f : service.switchboard_took s id (one.takes_request s.switchboard bytes ls) ≡ t = cc in
@@ -155,9 +155,9 @@ board_row s t v a l id m k (PlainWhat.User code channel bytes ls) says hm h e =
     let on = board_took (without_message l id) (board.takes_request v.acting l.board body links) in (
       on,
       ap (λ (x : What). bind (board.takes v.acting l.board x) (λ (z : board.Taken). Some (board_took (without_message l id) z))) w.is,
-      subst (λ (q : OneKernel). Mirrors q v (given a (board_takes_burden s v a id (PlainWhat.User code channel bytes ls))) on) f
-          (subst (λ (bs : List ℕ). Mirrors (service.switchboard_took s id (one.takes_request s.switchboard bs ls)) v (given a (board_takes_burden s v a id (PlainWhat.User code channel bs ls))) on) w.bytes_are
-          (subst (λ (ks : List PlainLink). Mirrors (service.switchboard_took s id (one.takes_request s.switchboard body ks)) v (given a (board_takes_burden s v a id (PlainWhat.User code channel body ks))) on) w.links_are
+      subst (λ (q : OneKernel). Mirrors q v (given a (board_gets s v a id (PlainWhat.User code channel bytes ls))) on) f
+          (subst (λ (bs : List ℕ). Mirrors (service.switchboard_took s id (one.takes_request s.switchboard bs ls)) v (given a (board_gets s v a id (PlainWhat.User code channel bs ls))) on) w.bytes_are
+          (subst (λ (ks : List PlainLink). Mirrors (service.switchboard_took s id (one.takes_request s.switchboard body ks)) v (given a (board_gets s v a id (PlainWhat.User code channel body ks))) on) w.links_are
           (board_request s v a l id code channel body links (λ n x g. hm.enclosed n x (ap (λ (y : What). slice_get (enclosed y) n) w.is ∙ g)) h))),
     )
 board_row s t v a l id m k u says hm h e = cc

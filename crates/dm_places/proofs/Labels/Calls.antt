@@ -2,7 +2,7 @@
 use Rattle.dm_places.proofs.Names.{◌≡◌, ℕ, Bool, true, false, List, [], ◌∷◌, refl, ap, ◌∙◌, sym, subst, arith, ⊤, if◌then◌else◌, map, slice_get, slice_set, filter_map, cons_option, is_none, Option, None, Some, Pid, Link, Place, place_of}
 use Rattle.dm_places.proofs.Names.{pid_eq, plain_link, first_empty, link_at, plain_slot, MsgId, Message, id_eq, PlainMessage, User, plain_message, Process, Direction, Regs, past, Reply, plain_process, reg, CallNumber, first_failed}
 use Rattle.dm_places.proofs.Names.{address_of, Called, Done, emptied, links_in, first_of, slot_at, pid_eq-same, id_eq-same, View, Addresses, Gets, gets, given, Slot, Owner, Receiver, Sender, acting_place, encloses, fills, fills_by}
-use Rattle.dm_places.proofs.Names.{sends_burden, set_link, emptied_link, SameProcess, SameMessage, SameServers, encloses_servers, encloses_process, encloses_message, encloses_at, gives_by, no_gives, or-left, or-right, MirrorsProcess}
+use Rattle.dm_places.proofs.Names.{sending_gets, set_link, emptied_link, SameProcess, SameMessage, SameServers, encloses_servers, encloses_process, encloses_message, encloses_at, gives_by, no_gives, or-left, or-right, MirrorsProcess}
 use Rattle.dm_places.proofs.Names.{MirrorsMessage, enclosed, owner_at}
 use Rattle.dm_onekernel.specs.Calls as one
 use Rattle.dm_syscall.specs.Calls as calls
@@ -20,7 +20,7 @@ pub record MirrorsSent (v : View) (a b : Addresses) (p : Pid) (m : Message) (y :
   pub servers : SameServers a b
 
 abbrev pub SentPlainly : View → Addresses → Pid → Process → Message → Process → Type 0
-SentPlainly v a p x m y = (k : PlainMessage) → plain_message m ≡ Some k → MirrorsSent v a (given a (sends_burden v a p (plain_process x) k.id k.what)) p m y
+SentPlainly v a p x m y = (k : PlainMessage) → plain_message m ≡ Some k → MirrorsSent v a (given a (sending_gets v a p (plain_process x) k.id k.what)) p m y
 
 abbrev pub MirrorsCalled : View → Addresses → Pid → Process → CallNumber → Called → Process → Type 0
 MirrorsCalled v a p x n (Called.Replied c) y = MirrorsProcess v (given a (gives_by v a p (plain_process x) n c)) p y
@@ -110,7 +110,7 @@ user_sent v a p x w over some h k e =
     let to = a (Slot p (reg x.regs 1)) in
     let z : PlainMessage = record { id = m.id; to = m.to.pid; sender = m.sender.pid; what = User w.code w.channel (one.memory_at (plain_process x) (reg x.regs 2) (reg x.regs 3)) (map plain_link (links_in x.table (calls.listed x))) } in
     let f : z ≡ k = cc in
-    subst (λ (u : PlainMessage). MirrorsSent v a (given a (sends_burden v a p (plain_process x) u.id u.what)) p m (calls.after_send (behind x))) f
+    subst (λ (u : PlainMessage). MirrorsSent v a (given a (sending_gets v a p (plain_process x) u.id u.what)) p m (calls.after_send (behind x))) f
     (record {
       process = record {
         pid = h.pid;

@@ -69,7 +69,7 @@ created_row s t v a l id m k child image links is none hm says links_are h =
     (subst (λ (i : MsgId). Mirrors (kernels.with_sent u (Some q)) v (given a (two (answer_id i) (a (Sender id)) (unmoved v.acting) ++ child_links a child id 0 ls)) (with_sent on (Some n))) hm.id sent)
 
 creates_row : (s t : OneKernel) (v : View) (a : Addresses) (l : Placed) (id : MsgId) (m : Message) (k : PlainMessage) (child : Pid) (u : PlainWhat) → plain_what m.what ≡ Some u → service.creates s id k child u ≡ Some t → v.moves child ≡ 0 → MirrorsMessage a id m
-    → plain_message m ≡ Some k → Mirrors s v a l → Follows t v (given a (answer_gets a id (unmoved v.acting) ++ addresses.creates_burden a id child u)) (placed.creates v.acting s.format s.images (without_message l id) m child m.what)
+    → plain_message m ≡ Some k → Mirrors s v a l → Follows t v (given a (answer_gets a id (unmoved v.acting) ++ addresses.child_gets a id child u)) (placed.creates v.acting s.format s.images (without_message l id) m child m.what)
 creates_row s t v a l id m k child (PlainWhat.Create number ls) u is none hm says h =
     let w = create_what m.what number ls u in
     let links = w.links.items in

@@ -2,7 +2,7 @@
 use Rattle.dm_places.proofs.Names.{◌≡◌, ℕ, suc, ◌+◌, ◌==◌, ◌&&◌, Bool, true, false, List, [], ◌∷◌, ◌++◌, length, refl, ap, ◌∙◌, sym, subst, inl, inr, arith, if◌then◌else◌, map, slice_get, slice_set, Option, None, Some, cases_Bool}
 use Rattle.dm_places.proofs.Names.{nat_tests, map-set, Pid, Link, place_of, pid_eq, PlainLink, plain_link, first_empty, link_at, plain_slot, MsgId, Message, What, Label, PlainMessage, PlainWhat, plain_message, Process, Status, on_mask}
 use Rattle.dm_places.proofs.Names.{what_is_on, Reply, reply_eq, bind, OneKernel, plain_process, plain_status, PlainProcess, first_failed, Completed, Completion, completion, completes, completes_unless, plain_completed, first_of}
-use Rattle.dm_places.proofs.Names.{status_plainly, pid_eq-same, pid_eq-is, bind-is, when-is, View, Addresses, Gets, given, gives, Slot, Enclosed, fills, receives_links, receives_burden, slot_after, set_at, set_off, is_empty, only_receives}
+use Rattle.dm_places.proofs.Names.{status_plainly, pid_eq-same, pid_eq-is, bind-is, when-is, View, Addresses, Gets, given, gives, Slot, Enclosed, fills, receives_links, receiving_gets, slot_after, set_at, set_off, is_empty, only_receives}
 use Rattle.dm_places.proofs.Names.{OnlySlots, Placed, Mirrors, MirrorsProcess, enclosed, with_process, without_message, and-both, at_hand-is}
 use Rattle.dm_places.proofs.Keeps.{alive_of, there_of, parts, goes_mirrors, kernel_out, kernel_process, places_out, places_process, this_process}
 use Rattle.dm_places.proofs.Labels.Acts.{Follows, mirrors_as}
@@ -86,7 +86,7 @@ record Received (v : View) (a b : Addresses) (p : Pid) (y : Process) : Type 0 wh
   only : OnlySlots a b p
 
 abbrev CompletedKept : View → Addresses → Pid → MsgId → Process → PlainWhat → one.Completed → Process → Type 0
-CompletedKept v a p id x u (one.Receives z) y = Received v a (given a (receives_burden a p id (plain_process x) u)) p y
+CompletedKept v a p id x u (one.Receives z) y = Received v a (given a (receiving_gets a p id (plain_process x) u)) p y
 CompletedKept v a p id x u (one.Refuses c z) y = MirrorsProcess v a p y
 
 unless_kept : (v : View) (a : Addresses) (p : Pid) (id i : MsgId) (x : Process) (base code channel : ℕ) (body : List ℕ) (links : List Link) (o : Option Reply) (d : one.Completed) → MirrorsProcess v a p x → EnclosedFrom a id 0 links
@@ -175,7 +175,7 @@ receive_row : (s t : OneKernel) (v : View) (a : Addresses) (l : Placed) (p : Pid
     → Follows t v (given a (gives s v a (Label.Receive p id))) (bind (placed.completed l p id) (λ (e : Completion). Some (with_process (without_message l id) p (Some e.process))))
 receive_row s t v a l p id (one.Receives z) w f h =
     let eq : kernel.goes_on (service.without_message s id) p z ≡ t = cc in
-    let gs = receives_burden a p id (plain_process w.x) w.k.what in
+    let gs = receiving_gets a p id (plain_process w.x) w.k.what in
     let gs_is : gs ≡ gives s v a (Label.Receive p id) = ap (addresses.reception_gets a p id (Some (plain_process w.x))) (sym w.there) ∙ ap (λ (o : Option PlainProcess). addresses.reception_gets a p id o (s.bag id)) (sym w.alive) in
     let y = w.e.process in
     let o = w.kept.only in

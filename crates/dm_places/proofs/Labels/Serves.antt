@@ -1,7 +1,7 @@
 -- What is served with places: control messages, pieces of data moves, and their landing.
 use Rattle.dm_places.proofs.Names.{◌≡◌, ℕ, ◌+◌, ◌==◌, Bool, true, false, List, [], length, refl, ap, ◌∙◌, sym, subst, nat_le, if◌then◌else◌, take, drop, Option, None, Some, ArrayVec, Pid, Addr, place_of, MsgId, Message, What, Label, Why}
 use Rattle.dm_places.proofs.Names.{PlainMessage, PlainWhat, plain_message, plain_what, Process, Direction, Status, Reply, bind, Ended, OneKernel, plain_process, plain_status, PlainProcess, answer_to, piece_of, written_at, Rest, Landed}
-use Rattle.dm_places.proofs.Names.{Landing, plain_landed, after_serving, answer, answer_of, answer_with, serving_answer, ends_plainly, goes_on_plainly, bind-is, View, Addresses, Gets, answer_gets, given, gives, acting_place, serves_burden}
+use Rattle.dm_places.proofs.Names.{Landing, plain_landed, after_serving, answer, answer_of, answer_with, serving_answer, ends_plainly, goes_on_plainly, bind-is, View, Addresses, Gets, answer_gets, given, gives, acting_place, serving_gets}
 use Rattle.dm_places.proofs.Names.{Owner, two, gone_lands, nothing_lands, Placed, Mirrors, MirrorsMessage, MirrorsProcess, enclosed, owner_at, after_landing, with_process, with_sent, without_message, some_is, landing_gets, at_hand-is}
 use Rattle.dm_places.proofs.Names.{option_map_or, arith}
 use Rattle.dm_places.proofs.Keeps.{alive_of, ends_mirrors, goes_mirrors, out_mirrors, parts, there_of}
@@ -133,7 +133,7 @@ answers_row s v a l id m x y u r w hm says ws none hx hy h e f =
 
 -- a row a kind
 serve_row : (s t : OneKernel) (v : View) (a : Addresses) (l : Placed) (id : MsgId) (m : Message) (x : Process) (u : PlainWhat) → plain_what m.what ≡ Some u → service.serves s id (plainly m u) (plain_process x) u ≡ Some t → MirrorsMessage a id m
-    → MirrorsProcess v a m.to.pid x → Mirrors s v a l → Follows t v (given a (serves_burden v a id (plainly m u) (plain_process x) u)) (placed.serves v.acting (without_message l id) m x m.what)
+    → MirrorsProcess v a m.to.pid x → Mirrors s v a l → Follows t v (given a (serving_gets v a id (plainly m u) (plain_process x) u)) (placed.serves v.acting (without_message l id) m x m.what)
 serve_row s t v a l id m x said.Stop says is hm hx h =
     let y : Process = record x { stopped = true } in
     let k : service.changed s id (plainly m said.Stop) (plain_process y) ≡ t = cc in
@@ -205,8 +205,8 @@ served_follows s t v a l id is h =
     (ap (λ (w : PlainMessage). bind (kernel.at_hand s w.to) (λ (p : PlainProcess). service.serves s id w p w.what)) (sym km) ∙ rest) in
     let alive : kernel.alive (s.processes m.to.pid) ≡ Some z = ap kernel.alive (at_hand-is s m.to.pid z hand).1 in
     let (x, stands, x_is) = alive_of s l m.to.pid z h.plain alive in
-    let gs_is : serves_burden v a id (plainly m u) (plain_process x) u ≡ gives s v a (Label.Served id) =
-    ap (λ (p : PlainProcess). serves_burden v a id (plainly m u) p u) x_is ∙ ap (λ (o : Option PlainProcess). option_map_or (λ y. serves_burden v a id (plainly m u) y u) o []) (sym alive)
+    let gs_is : serving_gets v a id (plainly m u) (plain_process x) u ≡ gives s v a (Label.Served id) =
+    ap (λ (p : PlainProcess). serving_gets v a id (plainly m u) p u) x_is ∙ ap (λ (o : Option PlainProcess). option_map_or (λ y. serving_gets v a id (plainly m u) y u) o []) (sym alive)
     ∙ ap (λ (w : PlainMessage). addresses.service_gets s v a id (Some w)) (sym km) ∙ ap (addresses.service_gets s v a id) (sym there) in
     let (on, step, mirrors) = serve_row s t v a l id m x u (parts m k says).what (ap (λ (p : PlainProcess). service.serves s id (plainly m u) p u) x_is ∙ last) (h.places.message id m found) (h.places.process m.to.pid x stands) h in (
       on,

@@ -2,7 +2,7 @@
 use Rattle.dm_places.proofs.Names.{◌≡◌, ℕ, ◌+◌, Bool, true, false, List, [], ◌∷◌, ◌++◌, length, refl, ap, ◌∙◌, sym, subst, arith, if◌then◌else◌, map, option_map, slice_get, Option, None, Some, nat_tests, length-map, Pid, Addr, Link, Place}
 use Rattle.dm_places.proofs.Names.{pid_eq, place_of, PlainLink, plain_link, MsgId, Message, What, id_of, Label, PlainMessage, PlainWhat, plain_message, plain_what, manager, switchboard, bind, Manager, OneKernel, goes_over, Pending}
 use Rattle.dm_places.proofs.Names.{Managing, at_home, plain_child, plain_manager, plain_pending, answer_over, control_link, Taken, child_address, pending_request, plain_bear, plain_pending_numbered, plain_without, id_eq-same, bind-is, View}
-use Rattle.dm_places.proofs.Names.{Addresses, Gets, gets, given, gives, Receiver, Sender, Enclosed, Child, Name, Answer, unmoved, board_takes_burden, manager_answers, manager_sends, manager_takes_burden, SameProcess, SameMessage, Placed}
+use Rattle.dm_places.proofs.Names.{Addresses, Gets, gets, given, gives, Receiver, Sender, Enclosed, Child, Name, Answer, unmoved, board_gets, manager_answers, manager_sends, manager_gets, SameProcess, SameMessage, Placed}
 use Rattle.dm_places.proofs.Names.{Mirrors, MirrorsKernel, MirrorsMessage, enclosed, board_took, manager_took, without_message, AnswerNames, AskedBy, Outcome, code_of_outcome}
 use Rattle.dm_places.proofs.Keeps.{answer_as, came_places, kernel_out, kernel_sent, message_same, parts, places_out, process_same, there_of}
 use Rattle.dm_places.proofs.Labels.Acts.{Follows}
@@ -163,7 +163,7 @@ moved_by s v a l id n outcome (Some r) k is e order h =
     ended_by s v a l id n (code_of_outcome outcome) r k is (let f : one.answers_over after (option_map plain_link r.answer) (code_of_outcome outcome) [] ≡ k = cc in f) order h
 
 abbrev manager_gives : OneKernel → View → Addresses → PlainMessage → PlainWhat → Addresses
-manager_gives s v a k u = given a (manager_takes_burden s v a k u (one.manager_takes s.manager s.machines (length s.images) k u))
+manager_gives s v a k u = given a (manager_gets s v a k u (one.manager_takes s.manager s.machines (length s.images) k u))
 
 -- what the manager takes with places
 abbrev manager_step : ℕ → Placed → MsgId → ℕ → What → Option Placed
@@ -196,8 +196,8 @@ manager_row s t v a l id m k (PlainWhat.Created child) name says hm order h e =
     let on = manager_took (without_message l id) r.t in (
       on,
       (λ i. manager_step v.acting l id (name i).n (created_what m.what child says i)) ∙ ap (λ (x : Option Taken). bind x (λ (y : Taken). Some (manager_took (without_message l id) y))) r.takes,
-      subst (λ (x : OneKernel). Mirrors x v (given a (manager_takes_burden s v a k (PlainWhat.Created child) o)) on) f
-          (subst (λ (x : Option one.ManagerTook). Mirrors (service.manager_took s id z) v (given a (manager_takes_burden s v a k (PlainWhat.Created child) x)) on) (sym took) r.mirrors),
+      subst (λ (x : OneKernel). Mirrors x v (given a (manager_gets s v a k (PlainWhat.Created child) o)) on) f
+          (subst (λ (x : Option one.ManagerTook). Mirrors (service.manager_took s id z) v (given a (manager_gets s v a k (PlainWhat.Created child) x)) on) (sym took) r.mirrors),
     )
 manager_row s t v a l id m k PlainWhat.NoRoom name says hm order h e =
     let n = k.id.n in
@@ -209,8 +209,8 @@ manager_row s t v a l id m k PlainWhat.NoRoom name says hm order h e =
     let on = manager_took (without_message l id) r.t in (
       on,
       (λ i. manager_step v.acting l id (name i).n (no_room_what m.what says i)) ∙ ap (λ (x : Option Taken). bind x (λ (y : Taken). Some (manager_took (without_message l id) y))) r.takes,
-      subst (λ (x : OneKernel). Mirrors x v (given a (manager_takes_burden s v a k PlainWhat.NoRoom o)) on) f
-          (subst (λ (x : Option one.ManagerTook). Mirrors (service.manager_took s id z) v (given a (manager_takes_burden s v a k PlainWhat.NoRoom x)) on) (sym took) r.mirrors),
+      subst (λ (x : OneKernel). Mirrors x v (given a (manager_gets s v a k PlainWhat.NoRoom o)) on) f
+          (subst (λ (x : Option one.ManagerTook). Mirrors (service.manager_took s id z) v (given a (manager_gets s v a k PlainWhat.NoRoom x)) on) (sym took) r.mirrors),
     )
 manager_row s t v a l id m k (PlainWhat.Moved outcome) name says hm order h e =
     let n = k.id.n in
@@ -222,8 +222,8 @@ manager_row s t v a l id m k (PlainWhat.Moved outcome) name says hm order h e =
     let on = manager_took (without_message l id) r.t in (
       on,
       (λ i. manager_step v.acting l id (name i).n (moved_what m.what outcome says i)) ∙ ap (λ (x : Option Taken). bind x (λ (y : Taken). Some (manager_took (without_message l id) y))) r.takes,
-      subst (λ (x : OneKernel). Mirrors x v (given a (manager_takes_burden s v a k (PlainWhat.Moved outcome) o)) on) f
-          (subst (λ (x : Option one.ManagerTook). Mirrors (service.manager_took s id z) v (given a (manager_takes_burden s v a k (PlainWhat.Moved outcome) x)) on) (sym took) r.mirrors),
+      subst (λ (x : OneKernel). Mirrors x v (given a (manager_gets s v a k (PlainWhat.Moved outcome) o)) on) f
+          (subst (λ (x : Option one.ManagerTook). Mirrors (service.manager_took s id z) v (given a (manager_gets s v a k (PlainWhat.Moved outcome) x)) on) (sym took) r.mirrors),
     )
 manager_row s t v a l id m k u name says hm order h e = cc
 
@@ -238,7 +238,7 @@ takes_by : (s t : OneKernel) (v : View) (a : Addresses) (l : Placed) (id : MsgId
     → (if b then bind (boards.board_takes s.switchboard k k.what) (λ (z : boards.BoardTook). Some (service.switchboard_took s id z))
     else if c then bind (one.manager_takes s.manager s.machines (length s.images) k k.what) (λ (z : one.ManagerTook). Some (service.manager_took s id z))
     else None) ≡ Some t
-    → Follows t v (given a (if b then board_takes_burden s v a id k.what else manager_takes_burden s v a k k.what (one.manager_takes s.manager s.machines (length s.images) k k.what))) (takes_if b c v.acting l id m)
+    → Follows t v (given a (if b then board_gets s v a id k.what else manager_gets s v a k k.what (one.manager_takes s.manager s.machines (length s.images) k k.what))) (takes_if b c v.acting l id m)
 takes_by s t v a l id m k true c says hm order h e = board_row s t v a l id m k k.what (parts m k says).what hm h e
 takes_by s t v a l id m k false true says hm order h e = let g = parts m k says in manager_row s t v a l id m k k.what g.id g.what hm order h e
 takes_by s t v a l id m k false false says hm order h e = cc

@@ -2,7 +2,7 @@
 use Rattle.dm_rule.proofs.Names.{◌≡◌, ℕ, zero, suc, ◌||◌, Bool, true, false, List, [], ◌∷◌, refl, ap, ◌∙◌, sym, subst, arith, nat_lt, ⊤, if◌then◌else◌, map, slice_get, slice_set, filter_map, cons_option, is_none, Option, None, Some, Pid}
 use Rattle.dm_rule.proofs.Names.{Place, pid_eq, PlainLink, first_empty, link_at, MsgId, id_eq, id_of, PlainMessage, Direction, direction_numbered, Regs, Row, instruction, past, Reply, PlainProcess, reg, setting, OneKernel, CallNumber}
 use Rattle.dm_rule.proofs.Names.{Called, Replies, Sends, Waits, Outputs, Ends, first_failed, pid_eq-same, id_eq-same, bind-is, View, Addresses, Gets, gets, given, Slot, Owner, Receiver, Sender, acting_place, encloses, fills, fills_by}
-use Rattle.dm_rule.proofs.Names.{sends_burden, owner_in, links_in, or_parts}
+use Rattle.dm_rule.proofs.Names.{sending_gets, owner_in, links_in, or_parts}
 use Rattle.dm_rule.proofs.Homes.{place_as, pid_as, HomeProcess, HomeMessage, AtHome}
 use Rattle.dm_rule.proofs.Homes.Slots.{set_link, emptied_link, without_replies_link, past_call}
 use Rattle.dm_rule.proofs.Homes.Rows.{SameProcess, SameMessage, SameServers, running_home, encloses_servers, encloses_process, encloses_message, encloses_at}
@@ -31,7 +31,7 @@ pub record HomeSent (P : Pid → Place → Type 0) (a b : Addresses) (p : Pid) (
 
 abbrev pub HomeCalled : (Pid → Place → Type 0) → View → Addresses → Pid → PlainProcess → CallNumber → Called → Type 0
 HomeCalled P v a p x n (Replies c y) = HomeProcess P (given a (gives_by v a p x n c)) p y
-HomeCalled P v a p x n (Sends m y) = HomeSent P a (given a (sends_burden v a p x m.id m.what)) p m y
+HomeCalled P v a p x n (Sends m y) = HomeSent P a (given a (sending_gets v a p x m.id m.what)) p m y
 HomeCalled P v a p x n (Waits y) = HomeProcess P a p y
 HomeCalled P v a p x n (Outputs w y) = HomeProcess P a p y
 HomeCalled P v a p x n (Ends because) = ⊤

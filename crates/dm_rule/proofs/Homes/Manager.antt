@@ -1,7 +1,7 @@
 -- What the process manager does keeps addresses where they may be.
 use Rattle.dm_rule.proofs.Names.{◌≡◌, ℕ, zero, suc, ◌+◌, ◌==◌, ◌&&◌, Bool, true, false, List, [], ◌∷◌, ◌++◌, refl, ap, ◌∙◌, sym, subst, inl, inr, arith, nat_lt, length, if◌then◌else◌, slice_get, Option, None, Some, nat_tests, Pid, Place}
 use Rattle.dm_rule.proofs.Names.{Holder, Slot, pid_eq, PlainLink, MsgId, id_of, Label, PlainMessage, PlainWhat, bind, OneKernel, without_message, id_eq-same, bind-is, View, Addresses, Gets, gets, given, gives, Receiver, Sender, Enclosed}
-use Rattle.dm_rule.proofs.Names.{unmoved, pid_of, ◌*◌, Pending, Manager, switchboard, manager, Child, Name, Answer, encloses, enclosed_from, board_takes_burden, manager_sends, manager_answers, manager_takes_burden, links_in, ascends}
+use Rattle.dm_rule.proofs.Names.{unmoved, pid_of, ◌*◌, Pending, Manager, switchboard, manager, Child, Name, Answer, encloses, enclosed_from, board_gets, manager_sends, manager_answers, manager_gets, links_in, ascends}
 use Rattle.dm_rule.proofs.Names.{AskedBy, Outcome, code_of_outcome, PendingKind, fun_ext, option_map_or}
 use Rattle.dm_rule.proofs.Homes.{place_as, pid_as, acts_at, AtHome}
 use Rattle.dm_rule.proofs.Homes.Rows.{SameProcess, SameMessage, sent_home, at_home_out, process_same, message_same, encloses_servers, encloses_process, encloses_message, encloses_at}
@@ -251,7 +251,7 @@ moved_by P s v a id n outcome (Some r) k is e at h =
 
 manager_row : (P : Pid → Place → Type 0) (s t : OneKernel) (v : View) (a : Addresses) (id : MsgId) (m : PlainMessage) (w : PlainWhat) → m.what ≡ w → m.id ≡ id → s.bag id ≡ Some m → v.acting ≡ 0 → AtHome P s a
     → bind (manage.manager_takes s.manager s.machines (length s.images) m w) (λ (k : manage.ManagerTook). Some (service.manager_took s id k)) ≡ Some t
-    → AtHome P t (given a (manager_takes_burden s v a m w (manage.manager_takes s.manager s.machines (length s.images) m w)))
+    → AtHome P t (given a (manager_gets s v a m w (manage.manager_takes s.manager s.machines (length s.images) m w)))
 manager_row P s t v a id m (PlainWhat.User code channel body links) is name there at h e =
     let k = manage.takes_user s.manager s.machines (length s.images) code body links in
     let f : service.manager_took s id k ≡ t = cc in
@@ -265,18 +265,18 @@ manager_row P s t v a id m (PlainWhat.User code channel body links) is name ther
 manager_row P s t v a id m (PlainWhat.Created child) is name there at h e =
     let o = (manage.takes_answer s.manager m.id.n (s.manager.children ++ child ∷ []) 0 (manage.control_link (length s.manager.children + 1) ∷ [])) (manage.pending_numbered m.id.n s.manager.pending) in
     let (k, took, last) = bind-is o (λ (x : manage.ManagerTook). Some (service.manager_took s id x)) t e in
-    subst (λ (u : OneKernel). AtHome P u (given a (manager_takes_burden s v a m (PlainWhat.Created child) o))) (let f : service.manager_took s id k ≡ t = cc in f)
-    (subst (λ (p : Option manage.ManagerTook). AtHome P (service.manager_took s id k) (given a (manager_takes_burden s v a m (PlainWhat.Created child) p))) (sym took) (created_by P s v a id m child (manage.pending_numbered m.id.n s.manager.pending) k refl took at h))
+    subst (λ (u : OneKernel). AtHome P u (given a (manager_gets s v a m (PlainWhat.Created child) o))) (let f : service.manager_took s id k ≡ t = cc in f)
+    (subst (λ (p : Option manage.ManagerTook). AtHome P (service.manager_took s id k) (given a (manager_gets s v a m (PlainWhat.Created child) p))) (sym took) (created_by P s v a id m child (manage.pending_numbered m.id.n s.manager.pending) k refl took at h))
 manager_row P s t v a id m PlainWhat.NoRoom is name there at h e =
     let o = (manage.takes_answer s.manager m.id.n s.manager.children 1 []) (manage.pending_numbered m.id.n s.manager.pending) in
     let (k, took, last) = bind-is o (λ (x : manage.ManagerTook). Some (service.manager_took s id x)) t e in
-    subst (λ (u : OneKernel). AtHome P u (given a (manager_takes_burden s v a m PlainWhat.NoRoom o))) (let f : service.manager_took s id k ≡ t = cc in f)
-    (subst (λ (p : Option manage.ManagerTook). AtHome P (service.manager_took s id k) (given a (manager_takes_burden s v a m PlainWhat.NoRoom p))) (sym took) (no_room_by P s v a id m.id.n (manage.pending_numbered m.id.n s.manager.pending) k refl took at h))
+    subst (λ (u : OneKernel). AtHome P u (given a (manager_gets s v a m PlainWhat.NoRoom o))) (let f : service.manager_took s id k ≡ t = cc in f)
+    (subst (λ (p : Option manage.ManagerTook). AtHome P (service.manager_took s id k) (given a (manager_gets s v a m PlainWhat.NoRoom p))) (sym took) (no_room_by P s v a id m.id.n (manage.pending_numbered m.id.n s.manager.pending) k refl took at h))
 manager_row P s t v a id m (PlainWhat.Moved outcome) is name there at h e =
     let o = (manage.takes_answer s.manager m.id.n s.manager.children (code_of_outcome outcome) []) (manage.pending_numbered m.id.n s.manager.pending) in
     let (k, took, last) = bind-is o (λ (x : manage.ManagerTook). Some (service.manager_took s id x)) t e in
-    subst (λ (u : OneKernel). AtHome P u (given a (manager_takes_burden s v a m (PlainWhat.Moved outcome) o))) (let f : service.manager_took s id k ≡ t = cc in f)
-    (subst (λ (p : Option manage.ManagerTook). AtHome P (service.manager_took s id k) (given a (manager_takes_burden s v a m (PlainWhat.Moved outcome) p))) (sym took)
+    subst (λ (u : OneKernel). AtHome P u (given a (manager_gets s v a m (PlainWhat.Moved outcome) o))) (let f : service.manager_took s id k ≡ t = cc in f)
+    (subst (λ (p : Option manage.ManagerTook). AtHome P (service.manager_took s id k) (given a (manager_gets s v a m (PlainWhat.Moved outcome) p))) (sym took)
     (moved_by P s v a id m.id.n outcome (manage.pending_numbered m.id.n s.manager.pending) k refl took at h))
 manager_row P s t v a id m _ is name there at h e = cc
 
@@ -284,7 +284,7 @@ takes_by : (P : Pid → Place → Type 0) (s t : OneKernel) (v : View) (a : Addr
     → (if b then bind (board.board_takes s.switchboard m m.what) (λ (k : board.BoardTook). Some (service.switchboard_took s id k))
     else if c then bind (manage.manager_takes s.manager s.machines (length s.images) m m.what) (λ (k : manage.ManagerTook). Some (service.manager_took s id k))
     else None) ≡ Some t
-    → AtHome P t (given a (if b then board_takes_burden s v a id m.what else manager_takes_burden s v a m m.what (manage.manager_takes s.manager s.machines (length s.images) m m.what)))
+    → AtHome P t (given a (if b then board_gets s v a id m.what else manager_gets s v a m m.what (manage.manager_takes s.manager s.machines (length s.images) m m.what)))
 takes_by P s t v a id m true c is as_ name there at h e = board_row P s t v a id m m.what refl there (let f : v.acting ≡ 0 = grind (arith, nat_tests) in f) h e
 takes_by P s t v a id m false true is as_ name there at h e = manager_row P s t v a id m m.what refl name there (let f : v.acting ≡ 0 = grind (arith, nat_tests) in f) h e
 takes_by P s t v a id m false false is as_ name there at h e = cc

@@ -1,7 +1,7 @@
 -- Receives keep addresses where they may be.
 use Rattle.dm_rule.proofs.Names.{◌≡◌, ℕ, zero, suc, ◌+◌, ◌==◌, ◌&&◌, Bool, true, false, List, [], ◌∷◌, ◌++◌, refl, ap, ◌∙◌, sym, subst, inl, inr, arith, nat_lt, length, if◌then◌else◌, cond, slice_get, slice_set, is_none, position_or_len}
 use Rattle.dm_rule.proofs.Names.{Option, None, Some, cases_Bool, false≢true, nat_tests, Pid, Place, pid_eq, PlainLink, first_empty, link_at, MsgId, Label, PlainMessage, PlainWhat, on_mask, Reply, bind, PlainProcess, PlainStatus, Waiting}
-use Rattle.dm_rule.proofs.Names.{Alive, OneKernel, first_failed, without_message, pid_eq-same, bind-is, when-is, View, Addresses, Gets, given, gives, Slot, Enclosed, fills, receives_links, receives_burden, slot_after, links_in, at_hand-is}
+use Rattle.dm_rule.proofs.Names.{Alive, OneKernel, first_failed, without_message, pid_eq-same, bind-is, when-is, View, Addresses, Gets, given, gives, Slot, Enclosed, fills, receives_links, receiving_gets, slot_after, links_in, at_hand-is}
 use Rattle.dm_rule.proofs.Homes.{place_as, pid_as, HomeProcess, AtHome}
 use Rattle.dm_rule.proofs.Homes.Rows.{at_home_process, at_home_out, home_goes, alive_on}
 use Rattle.dm_rule.proofs.Homes.Steps.{OnlySlots, only_none}
@@ -97,7 +97,7 @@ record HomeReceived (P : Pid → Place → Type 0) (a b : Addresses) (p : Pid) (
   only : OnlySlots a b p
 
 abbrev HomeCompleted : (Pid → Place → Type 0) → Addresses → Pid → MsgId → PlainProcess → PlainWhat → receiving.Completed → Type 0
-HomeCompleted P a p id x w (receiving.Receives y) = HomeReceived P a (given a (receives_burden a p id x w)) p y
+HomeCompleted P a p id x w (receiving.Receives y) = HomeReceived P a (given a (receiving_gets a p id x w)) p y
 HomeCompleted P a p id x w (receiving.Refuses c y) = HomeProcess P a p y
 
 completes_home : (P : Pid → Place → Type 0) (a : Addresses) (p : Pid) (id : MsgId) (x : PlainProcess) (base code channel : ℕ) (body : List ℕ) (links : List PlainLink) (o : Option Reply) → HomeProcess P a p x → EnclosedHome P a id 0 links
@@ -155,7 +155,7 @@ completing_home P s a p id d h e =
 
 receive_row : (P : Pid → Place → Type 0) (s t : OneKernel) (v : View) (a : Addresses) (p : Pid) (id : MsgId) (d : receiving.Completed) → Completing P s a p id d → kernel.receives s p id d ≡ Some t → AtHome P s a → AtHome P t (given a (gives s v a (Label.Receive p id)))
 receive_row P s t v a p id (receiving.Receives y) w e h =
-    let gs = receives_burden a p id w.x w.m.what in
+    let gs = receiving_gets a p id w.x w.m.what in
     let gs_is : gs ≡ gives s v a (Label.Receive p id) = ap (addresses.reception_gets a p id (Some w.x)) (sym w.there) ∙ ap (λ (o : Option PlainProcess). addresses.reception_gets a p id o (s.bag id)) (sym w.alive) in
     let o = w.home.only in
     subst (λ (u : OneKernel). AtHome P u (given a (gives s v a (Label.Receive p id)))) (let eq : kernel.goes_on (without_message s id) p y ≡ t = cc in eq)

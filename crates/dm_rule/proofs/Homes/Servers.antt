@@ -1,7 +1,7 @@
 -- What servers do keeps addresses where they may be.
 use Rattle.dm_rule.proofs.Names.{◌≡◌, ℕ, zero, suc, ◌+◌, ◌==◌, ◌&&◌, Bool, true, false, List, [], ◌∷◌, ◌++◌, refl, ap, ◌∙◌, sym, subst, ◌⊎◌, inl, inr, arith, nat_lt, nat_le, length, if◌then◌else◌, slice_get, Option, None, Some, cases_Bool}
 use Rattle.dm_rule.proofs.Names.{nat_tests, Pid, Place, PlainLink, MsgId, id_eq, id_of, PlainMessage, PlainWhat, bind, OneKernel, without_message, id_eq-same, View, Addresses, gets, given, Enclosed, unmoved, NamedLink, Pending, switchboard}
-use Rattle.dm_rule.proofs.Names.{is_general, Child, Name, Answer, AskedBy, place_named, board_finds, board_keeps, board_takes_burden, links_in, ascends, and_parts, bytes_eq, option_map_or}
+use Rattle.dm_rule.proofs.Names.{is_general, Child, Name, Answer, AskedBy, place_named, board_finds, board_keeps, board_gets, links_in, ascends, and_parts, bytes_eq, option_map_or}
 use Rattle.dm_rule.proofs.Homes.{place_as, pid_as, acts_at, AtHome}
 use Rattle.dm_rule.proofs.Homes.Rows.{SameProcess, SameMessage, sent_home, at_home_out, process_same}
 use Rattle.dm_rule.proofs.Homes.Serves.{two, two_off}
@@ -183,7 +183,7 @@ asks_home P a id sent names (op ∷ name) ls en h =
     (by_test (AsksHome P a id sent names (op ∷ name)) (op == 2) (board.asks_to_look_up names name ls) (board.board_bad_request names) (to_look_up P a id sent names op name ls h) (plain_asked P a sent names board.BadRequest refl h))
 
 board_request : (P : Pid → Place → Type 0) (s : OneKernel) (v : View) (a : Addresses) (id : MsgId) (code channel : ℕ) (body : List ℕ) (links : List PlainLink) → ((n : ℕ) (w : PlainLink) → slice_get links n ≡ Some w → P w.to (a (Enclosed id n))) → v.acting ≡ 0 → AtHome P s a
-    → AtHome P (service.switchboard_took s id (board.takes_request s.switchboard body links)) (given a (board_takes_burden s v a id (PlainWhat.User code channel body links)))
+    → AtHome P (service.switchboard_took s id (board.takes_request s.switchboard body links)) (given a (board_gets s v a id (PlainWhat.User code channel body links)))
 board_request P s v a id code channel body [] en at h =
     let u = at_home_out P s a id h in
     record { processes = u.processes; messages = u.messages; children = u.children; named = u.named; answers = u.answers; askers = u.askers; rooted = u.rooted; pending = u.pending }
@@ -209,9 +209,9 @@ board_request P s v a id code channel body (l ∷ ls) en at h =
     }
 
 pub board_row : (P : Pid → Place → Type 0) (s t : OneKernel) (v : View) (a : Addresses) (id : MsgId) (m : PlainMessage) (w : PlainWhat) → m.what ≡ w → s.bag id ≡ Some m → v.acting ≡ 0 → AtHome P s a
-    → bind (board.board_takes s.switchboard m w) (λ (k : board.BoardTook). Some (service.switchboard_took s id k)) ≡ Some t → AtHome P t (given a (board_takes_burden s v a id w))
+    → bind (board.board_takes s.switchboard m w) (λ (k : board.BoardTook). Some (service.switchboard_took s id k)) ≡ Some t → AtHome P t (given a (board_gets s v a id w))
 board_row P s t v a id m (PlainWhat.User code channel body links) is there at h e =
     let k : service.switchboard_took s id (board.takes_request s.switchboard body links) ≡ t = cc in
-    subst (λ (u : OneKernel). AtHome P u (given a (board_takes_burden s v a id (PlainWhat.User code channel body links)))) k
+    subst (λ (u : OneKernel). AtHome P u (given a (board_gets s v a id (PlainWhat.User code channel body links)))) k
     (board_request P s v a id code channel body links (λ n w f. (h.messages id m there).enclosed n w (ap (λ (x : PlainWhat). slice_get (links_in x) n) is ∙ f)) at h)
 board_row P s t v a id m _ is there at h e = cc

@@ -2,7 +2,7 @@
 use Rattle.dm_rule.proofs.Names.{◌≡◌, ℕ, zero, suc, ◌+◌, ◌==◌, ◌&&◌, Bool, true, false, List, [], ◌∷◌, ◌++◌, refl, ap, ◌∙◌, sym, subst, arith, nat_le, length, ⊤, if◌then◌else◌, map, slice_get, Option, None, Some, nat_tests, Pid, Place}
 use Rattle.dm_rule.proofs.Names.{pid_eq, PlainLink, link_at, MsgId, id_eq, Label, Why, PlainMessage, PlainWhat, Reply, bind, PlainProcess, PlainStatus, Moving, Alive, OneKernel, with_process, with_sent, without_message, pid_eq-same}
 use Rattle.dm_rule.proofs.Names.{id_eq-same, bind-is, when-is, View, Addresses, Gets, gets, given, gives, Slot, Owner, Receiver, Sender, Enclosed, unmoved, acting_place, replicate, ◌-◌, take, drop, Direction, BootImage, first_number}
-use Rattle.dm_rule.proofs.Names.{answer_id, answer_to, begun, pid_of, answer_gets, serves_burden, landing_gets, child_links, links_in, at_hand-is, AskedBy, MoveNote, Outcome, with_note, without_note, ends_move-is, option_map_or}
+use Rattle.dm_rule.proofs.Names.{answer_id, answer_to, begun, pid_of, answer_gets, serving_gets, landing_gets, child_links, links_in, at_hand-is, AskedBy, MoveNote, Outcome, with_note, without_note, ends_move-is, option_map_or}
 use Rattle.dm_rule.proofs.Names.{cond_some}
 use Rattle.dm_onekernel.specs.Kernel.{Ended}
 use Rattle.dm_rule.proofs.Homes.{place_as, pid_as, acts_at, HomeProcess, AtHome}
@@ -166,7 +166,7 @@ gone_row P s t v a id m x what_is hx at h e =
 
 -- a row a kind
 serve_row : (P : Pid → Place → Type 0) (s t : OneKernel) (v : View) (a : Addresses) (id : MsgId) (m : PlainMessage) (x : PlainProcess) (w : PlainWhat) → m.what ≡ w → service.serves s id m x w ≡ Some t → s.bag id ≡ Some m → m.id ≡ id → HomeProcess P a m.to x
-    → P m.to (acting_place v m.to) → AtHome P s a → AtHome P t (given a (serves_burden v a id m x w))
+    → P m.to (acting_place v m.to) → AtHome P s a → AtHome P t (given a (serving_gets v a id m x w))
 serve_row P s t v a id m x PlainWhat.Stop w is there name hx at h =
     let k : service.changed s id m (record x { stopped = true }) ≡ t = cc in
     subst (λ (u : OneKernel). AtHome P u a) k (home_goes P (without_message s id) a m.to (record x { stopped = true }) (at_home_out P s a id h) (record { slots = hx.slots; owner = hx.owner }))
@@ -197,8 +197,8 @@ served_home P s t v a id is named at h =
     let (m, there, rest) = bind-is (s.bag id) (λ (w : PlainMessage). bind (kernel.at_hand s w.to) (λ (p : PlainProcess). service.serves s id w p w.what)) t is in
     let (x, hand, last) = bind-is (kernel.at_hand s m.to) (λ (p : PlainProcess). service.serves s id m p m.what) t rest in
     let alive : kernel.alive (s.processes m.to) ≡ Some x = ap kernel.alive (at_hand-is s m.to x hand).1 in
-    let gs_is : serves_burden v a id m x m.what ≡ gives s v a (Label.Served id) =
-    ap (λ (o : Option PlainProcess). option_map_or (λ y. serves_burden v a id m y m.what) o []) (sym alive) ∙ ap (addresses.service_gets s v a id) (sym there) in
+    let gs_is : serving_gets v a id m x m.what ≡ gives s v a (Label.Served id) =
+    ap (λ (o : Option PlainProcess). option_map_or (λ y. serving_gets v a id m y m.what) o []) (sym alive) ∙ ap (addresses.service_gets s v a id) (sym there) in
     subst (λ (gs : List Gets). AtHome P t (given a gs)) gs_is
     (serve_row P s t v a id m x m.what refl last there (named id m there) (h.processes m.to x alive) (at m there) h)
 
@@ -253,7 +253,7 @@ created_row P s t v a id m child links image is there links_are named at h =
     (subst (λ (i : MsgId). AtHome P (with_sent u (Some n)) (given a (two (answer_id i) (a (Sender id)) (unmoved v.acting) ++ child_links a child id 0 links))) (named id m there) sent)
 
 creates_row : (P : Pid → Place → Type 0) (s t : OneKernel) (v : View) (a : Addresses) (id : MsgId) (m : PlainMessage) (child : Pid) (w : PlainWhat) → m.what ≡ w → service.creates s id m child w ≡ Some t → s.bag id ≡ Some m → Named s → ReceivedAt s v.acting id → AtHome P s a
-    → AtHome P t (given a (answer_gets a id (unmoved v.acting) ++ addresses.creates_burden a id child w))
+    → AtHome P t (given a (answer_gets a id (unmoved v.acting) ++ addresses.child_gets a id child w))
 creates_row P s t v a id m child (PlainWhat.Create image links) w is there named at h =
     let (i, image_is, last) = bind-is (slice_get s.images image) (service.creates_of s id m child links) t is in
     created_row P s t v a id m child links i last there (ap links_in w) named at h

@@ -1,7 +1,7 @@
 -- Each label of a process keeps addresses where they may be.
 use Rattle.dm_rule.proofs.Names.{◌≡◌, ℕ, ◌==◌, ◌&&◌, Bool, true, false, List, [], refl, ap, ◌∙◌, sym, subst, arith, if◌then◌else◌, Option, None, Some, nat_tests, Pid, Place, pid_eq, MsgId, id_eq, Label, Reply, Why, reply_eq, reply_code}
 use Rattle.dm_rule.proofs.Names.{why_eq, bind, PlainProcess, Alive, OneKernel, with_process, with_sent, Replies, Sends, Ends, id_eq-is, bind-is, when-is, View, Addresses, Gets, given, gives, Slot, acting_place, fills, fills_by, call_gets}
-use Rattle.dm_rule.proofs.Names.{sends_burden}
+use Rattle.dm_rule.proofs.Names.{sending_gets}
 use Rattle.dm_onekernel.specs.Kernel.{Ended}
 use Rattle.dm_rule.proofs.Homes.{AtHome, place_as}
 use Rattle.dm_rule.proofs.Homes.Rows.{SameProcess, SameMessage, SameServers, running_home, at_home_process, home_goes, at_home_goes, alive_on, set_home, sent_home}
@@ -79,9 +79,9 @@ send_row : (P : Pid → Place → Type 0) (s t : OneKernel) (v : View) (a : Addr
 send_row P s t v a p id (kernel.Calls number (calls.Sends m y)) nx w is h =
     let k = when-is (id_eq id m.id) (with_sent (kernel.goes_on s p y) (Some m)) t is in
     let x = w.x in
-    let gs = sends_burden v a p x m.id m.what in
+    let gs = sending_gets v a p x m.id m.what in
     let gs_is : gs ≡ gives s v a (Label.Send p id) =
-    ap (λ (i : MsgId). sends_burden v a p x i m.what) (sym (id_eq-is id m.id k.0)) ∙ ap (addresses.sends_next v a p x id) (sym nx) ∙ ap (addresses.send_gets s v a p id) (sym w.running) in
+    ap (λ (i : MsgId). sending_gets v a p x i m.what) (sym (id_eq-is id m.id k.0)) ∙ ap (addresses.sends_next v a p x id) (sym nx) ∙ ap (addresses.send_gets s v a p id) (sym w.running) in
     let o = w.home in
     subst (λ (u : OneKernel). AtHome P u (given a (gives s v a (Label.Send p id)))) k.1
     (subst (λ (g : List Gets). AtHome P (with_sent (kernel.goes_on s p y) (Some m)) (given a g)) gs_is

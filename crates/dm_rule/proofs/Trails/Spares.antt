@@ -1,8 +1,8 @@
 -- No label gives an address to a kernel's own message.
 use Rattle.dm_rule.proofs.Names.{◌≡◌, ℕ, ◌+◌, ◌==◌, ◌&&◌, Bool, true, false, not, List, [], ◌∷◌, ◌++◌, length, map, refl, ap, ◌∙◌, sym, subst, if◌then◌else◌, Option, None, Some, false≢true, Pid, Place, pid_eq, PlainLink, first_empty, MsgId}
 use Rattle.dm_rule.proofs.Names.{id_eq, PlainMessage, PlainWhat, Label, Reply, switchboard, manager, bind, PlainProcess, reg, NamedLink, OneKernel, with_sent, answer_id, id_eq-is, id_eq-same, sent_at, bind-is, when-is, View, is_kernels}
-use Rattle.dm_rule.proofs.Names.{Addresses, Holder, Slot, Owner, Receiver, Sender, Enclosed, Answer, Gets, gets, given, gives, holder_eq, encloses, enclosed_from, sends_burden, fills, call_gets, receives_links, slot_after, landing_gets}
-use Rattle.dm_rule.proofs.Names.{serves_burden, child_links, board_finds, board_keeps, board_takes_burden, manager_tells_burden, manager_sends, manager_takes_burden, both_true, at_hand-is, option_map_or, arith, nat_tests, AskedBy}
+use Rattle.dm_rule.proofs.Names.{Addresses, Holder, Slot, Owner, Receiver, Sender, Enclosed, Answer, Gets, gets, given, gives, holder_eq, encloses, enclosed_from, sending_gets, fills, call_gets, receives_links, slot_after, landing_gets}
+use Rattle.dm_rule.proofs.Names.{serving_gets, child_links, board_finds, board_keeps, board_gets, telling_gets, manager_sends, manager_gets, both_true, at_hand-is, option_map_or, arith, nat_tests, AskedBy}
 use Rattle.dm_rule.proofs.Names.{and_parts, not-true, false_from_ne_true, and_right}
 use Rattle.dm_onekernel.specs.Calls as calls
 use Rattle.dm_onekernel.specs.Pieces as pieces
@@ -69,7 +69,7 @@ pub made_spares : (v : View) (a : Addresses) (p : Pid) (n : ℕ) (c : Reply) (o 
 made_spares v a p n c o i = search (arith, fills_spares)
 
 -- sendings
-pub sends_what_spares : (v : View) (a : Addresses) (p : Pid) (x : PlainProcess) (id : MsgId) (w : PlainWhat) (i : MsgId) → id_eq id i ≡ false → spares i (sends_burden v a p x id w) ≡ true
+pub sends_what_spares : (v : View) (a : Addresses) (p : Pid) (x : PlainProcess) (id : MsgId) (w : PlainWhat) (i : MsgId) → id_eq id i ≡ false → spares i (sending_gets v a p x id w) ≡ true
 sends_what_spares v a p x id (PlainWhat.User b1 b2 b3 b4) i e = two_more i id (encloses id 0 (map (λ (n : ℕ). a (Slot p n)) (calls.listed x))) e (encloses_spares i id 0 (map (λ (n : ℕ). a (Slot p n)) (calls.listed x)))
 sends_what_spares v a p x id _ i e = two_more i id (gets (Owner p) (a (Slot p (reg x.regs 1))) ∷ []) e refl
 
@@ -111,11 +111,11 @@ lands_spares s t v a id m x i out own e =
     let (c, is, last) = bind-is (pieces.lands m.to x m x.status) (λ (w : pieces.Landed). Some (service.landed s id m w)) t e in
     subst (λ (o : Option pieces.Landed). spares i (landing_gets v a m.to o) ≡ true) (sym is) (landed_spares s t v a id m c i out own (let k : service.landed s id m c ≡ t = cc in k))
 
-serve_spares : (s t : OneKernel) (v : View) (a : Addresses) (id : MsgId) (m : PlainMessage) (x : PlainProcess) (w : PlainWhat) (i : MsgId) → Outside t → is_kernels i ≡ true → service.serves s id m x w ≡ Some t → spares i (serves_burden v a id m x w) ≡ true
+serve_spares : (s t : OneKernel) (v : View) (a : Addresses) (id : MsgId) (m : PlainMessage) (x : PlainProcess) (w : PlainWhat) (i : MsgId) → Outside t → is_kernels i ≡ true → service.serves s id m x w ≡ Some t → spares i (serving_gets v a id m x w) ≡ true
 serve_spares s t v a id m x w i h1 h2 h3 = search (arith, two_more, answers_apart, lands_spares)
 
 -- created
-pub creates_what_spares : (a : Addresses) (id : MsgId) (child : Pid) (w : PlainWhat) (i : MsgId) → spares i (addresses.creates_burden a id child w) ≡ true
+pub creates_what_spares : (a : Addresses) (id : MsgId) (child : Pid) (w : PlainWhat) (i : MsgId) → spares i (addresses.child_gets a id child w) ≡ true
 creates_what_spares a id child (PlainWhat.Create b1 b2) i = child_links_spares a child id 0 b2 i
 creates_what_spares a id child _ i = refl
 
@@ -127,12 +127,12 @@ pub keeps_spares : (a : Addresses) (id : MsgId) (names : List NamedLink) (k : bo
 keeps_spares a id names board.Registered i = refl
 keeps_spares a id names _ i = refl
 
-board_links_spares : (s : OneKernel) (v : View) (a : Addresses) (id : MsgId) (code channel : ℕ) (body : List ℕ) (links : List PlainLink) (i : MsgId) → is_kernels i ≡ true → spares i (board_takes_burden s v a id (PlainWhat.User code channel body links)) ≡ true
+board_links_spares : (s : OneKernel) (v : View) (a : Addresses) (id : MsgId) (code channel : ℕ) (body : List ℕ) (links : List PlainLink) (i : MsgId) → is_kernels i ≡ true → spares i (board_gets s v a id (PlainWhat.User code channel body links)) ≡ true
 board_links_spares s v a id code channel body [] i own = refl
 board_links_spares s v a id code channel body (l ∷ ls) i own = search (arith, two_more, apart, spares_both, finds_spares, keeps_spares)
 
 -- the manager
-pub tells_spares : (v : View) (a : Addresses) (id : MsgId) (code : ℕ) (sent : PlainMessage) (w : PlainWhat) (i : MsgId) → id_eq sent.id i ≡ false → spares i (manager_tells_burden v a id code sent w) ≡ true
+pub tells_spares : (v : View) (a : Addresses) (id : MsgId) (code : ℕ) (sent : PlainMessage) (w : PlainWhat) (i : MsgId) → id_eq sent.id i ≡ false → spares i (telling_gets v a id code sent w) ≡ true
 tells_spares v a id code sent (PlainWhat.Create b1 b2) i e = two_more i sent.id (gets (Answer sent.id.n) (a (Enclosed id 0)) ∷ encloses sent.id 0 (enclosed_from a id 1 b2)) e (encloses_spares i sent.id 0 (enclosed_from a id 1 b2))
 tells_spares v a id code sent _ i e = two_more i sent.id [] e refl
 
@@ -140,7 +140,7 @@ pub manager_sends_spares : (v : View) (a : Addresses) (id : MsgId) (code : ℕ) 
 manager_sends_spares v a id code None i e = refl
 manager_sends_spares v a id code (Some sent) i e = tells_spares v a id code sent sent.what i (e sent refl)
 
-pub manager_takes_spares : (s : OneKernel) (v : View) (a : Addresses) (m : PlainMessage) (w : PlainWhat) (o : Option manage.ManagerTook) (i : MsgId) → ((k : manage.ManagerTook) → o ≡ Some k → (x : PlainMessage) → k.message ≡ Some x → id_eq x.id i ≡ false) → spares i (manager_takes_burden s v a m w o) ≡ true
+pub manager_takes_spares : (s : OneKernel) (v : View) (a : Addresses) (m : PlainMessage) (w : PlainWhat) (o : Option manage.ManagerTook) (i : MsgId) → ((k : manage.ManagerTook) → o ≡ Some k → (x : PlainMessage) → k.message ≡ Some x → id_eq x.id i ≡ false) → spares i (manager_gets s v a m w o) ≡ true
 manager_takes_spares s v a m (PlainWhat.User b1 b2 b3 b4) None i e = refl
 manager_takes_spares s v a m (PlainWhat.User b1 b2 b3 b4) (Some k) i e = manager_sends_spares v a m.id b1 k.message i (e k refl)
 manager_takes_spares s v a m _ None i e = refl
@@ -156,8 +156,8 @@ takes_spares : (s t : OneKernel) (v : View) (a : Addresses) (id : MsgId) (m : Pl
     → (if b then bind (board.board_takes s.switchboard m m.what) (λ (k : board.BoardTook). Some (service.switchboard_took s id k))
     else if c then bind (manage.manager_takes s.manager s.machines (length s.images) m m.what) (λ (k : manage.ManagerTook). Some (service.manager_took s id k))
     else None) ≡ Some t
-    → spares i (if b then board_takes_burden s v a id m.what else manager_takes_burden s v a m m.what (manage.manager_takes s.manager s.machines (length s.images) m m.what)) ≡ true
-takes_spares s t v a id m true c i out own e = elim m.what as (λ w. spares i (board_takes_burden s v a id w) ≡ true)
+    → spares i (if b then board_gets s v a id m.what else manager_gets s v a m m.what (manage.manager_takes s.manager s.machines (length s.images) m m.what)) ≡ true
+takes_spares s t v a id m true c i out own e = elim m.what as (λ w. spares i (board_gets s v a id w) ≡ true)
     [ PlainWhat.User b1 b2 b3 b4 ↦ board_links_spares s v a id b1 b2 b3 b4 i own | _ ↦ refl ]
 takes_spares s t v a id m false true i out own e =
     let o = manage.manager_takes s.manager s.machines (length s.images) m m.what in
@@ -177,14 +177,14 @@ gives_spares s t v a (Label.Served id) i is out own =
     let (m, there, rest) = bind-is (s.bag id) (λ (w : PlainMessage). bind (kernel.at_hand s w.to) (λ (p : PlainProcess). service.serves s id w p w.what)) t is in
     let (x, hand, last) = bind-is (kernel.at_hand s m.to) (λ (p : PlainProcess). service.serves s id m p m.what) t rest in
     let alive : kernel.alive (s.processes m.to) ≡ Some x = ap kernel.alive (at_hand-is s m.to x hand).1 in
-    let gs_is : serves_burden v a id m x m.what ≡ gives s v a (Label.Served id) = ap (λ (o : Option PlainProcess). option_map_or (λ y. serves_burden v a id m y m.what) o []) (sym alive) ∙ ap (addresses.service_gets s v a id) (sym there) in
+    let gs_is : serving_gets v a id m x m.what ≡ gives s v a (Label.Served id) = ap (λ (o : Option PlainProcess). option_map_or (λ y. serving_gets v a id m y m.what) o []) (sym alive) ∙ ap (addresses.service_gets s v a id) (sym there) in
     subst (λ (gs : List Gets). spares i gs ≡ true) gs_is (serve_spares s t v a id m x m.what i out own last)
 gives_spares s t v a (Label.Gone id) i is out own = two_more i (answer_id id) [] (answers_apart i id own) refl
 gives_spares s t v a (Label.Took id) i is out own =
     let (m, there, rest) = bind-is (s.bag id) (service.takes s id) t is in
     subst (λ (gs : List Gets). spares i gs ≡ true) (ap (addresses.taking_gets s v a id) (sym there)) (takes_spares s t v a id m (pid_eq m.to switchboard) (pid_eq m.to manager) i out own rest)
 gives_spares s t v a (Label.Created id child) i is out own = elim (s.bag id) as (λ o. spares i (addresses.creation_gets v a id child o) ≡ true)
-    [ None ↦ refl | Some m ↦ two_more i (answer_id id) (addresses.creates_burden a id child m.what) (answers_apart i id own) (creates_what_spares a id child m.what i) ]
+    [ None ↦ refl | Some m ↦ two_more i (answer_id id) (addresses.child_gets a id child m.what) (answers_apart i id own) (creates_what_spares a id child m.what i) ]
 gives_spares s t v a (Label.NoSpace id f b) i is out own = two_more i (answer_id id) [] (answers_apart i id own) refl
 gives_spares s t v a (Label.Asked id) i is out own = elim (s.bag id) as (λ o. spares i (option_map_or (λ (m : PlainMessage). gets (AskedBy m.to) (a (Sender id)) ∷ []) o []) ≡ true) [ None ↦ refl | Some m ↦ refl ]
 gives_spares s t v a (Label.Answered id o) i is out own = grind (arith, nat_tests, two_more, answers_apart)

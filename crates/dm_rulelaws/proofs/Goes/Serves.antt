@@ -109,7 +109,7 @@ does_executes C b pt p queue x is free going ready drops home h =
 pub record Awaited (s : OneKernel) (mask : ℕ) (ids : List MsgId) (i : MsgId) : Type 0 where
   pub x : PlainMessage
   pub there : s.bag i ≡ Some x
-  pub what : rule.burden_is_awaited mask x.what ≡ true
+  pub what : rule.what_is_awaited mask x.what ≡ true
   pub stands : 1 ≤ times i ids
 
 awaited_if : (s : OneKernel) (mask : ℕ) (j : MsgId) (js : List MsgId) (i : MsgId) (c : Bool) → rule.is_awaited mask (s.bag j) ≡ c → (if c then Some j else rule.first_awaited s mask js) ≡ Some i → (rule.first_awaited s mask js ≡ Some i → Awaited s mask js i) → Awaited s mask (j ∷ js) i
@@ -129,7 +129,7 @@ rest_own : (c : Bool) (ps : List Part) → HaveNoOwn ps → HaveNoOwn (if c then
 rest_own true ps h = tt
 rest_own false ps h = h
 
-completes_what : (p : Pid) (x : PlainProcess) (k : PlainMessage) (mask base size : ℕ) (w : PlainWhat) → rule.burden_is_awaited mask w ≡ true → k.to ≡ p → (c : receiving.Completed) × (receiving.completes_what p x k mask base size w ≡ Some c)
+completes_what : (p : Pid) (x : PlainProcess) (k : PlainMessage) (mask base size : ℕ) (w : PlainWhat) → rule.what_is_awaited mask w ≡ true → k.to ≡ p → (c : receiving.Completed) × (receiving.completes_what p x k mask base size w ≡ Some c)
 completes_what p x k mask base size (PlainWhat.User code channel body links) e to =
     let c = receiving.completes x base size code channel body links in
     (c, ap (λ (d : Bool). if d && on_mask mask channel then Some c else None) (ap (λ v. pid_eq v p) to ∙ pid_eq-same p) ∙ ap (λ (d : Bool). if d then Some c else None) e)

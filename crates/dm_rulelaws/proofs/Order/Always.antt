@@ -90,11 +90,11 @@ first_goes s g mask from (j ∷ js) rest i e awaited one h =
     first_by s g mask from j js rest i (rule.is_awaited mask (s.bag j)) refl e awaited one h (λ f k. first_goes s g mask from js rest i f awaited one k)
 
 -- channels
-mask_of : (mask c : ℕ) (w : PlainWhat) → rule.burden_is_awaited mask w ≡ true → channel_in w ≡ Some c → on_mask mask c ≡ true
+mask_of : (mask c : ℕ) (w : PlainWhat) → rule.what_is_awaited mask w ≡ true → channel_in w ≡ Some c → on_mask mask c ≡ true
 mask_of mask c (PlainWhat.User code channel body links) e f = let k : channel ≡ c = cc in ap (on_mask mask) (sym k) ∙ e
 mask_of mask c _ e f = cc
 
-awaited_on : (mask c : ℕ) (w : PlainWhat) → on_channel c w ≡ true → on_mask mask c ≡ true → rule.burden_is_awaited mask w ≡ true
+awaited_on : (mask c : ℕ) (w : PlainWhat) → on_channel c w ≡ true → on_mask mask c ≡ true → rule.what_is_awaited mask w ≡ true
 awaited_on mask c (PlainWhat.User code channel body links) e f = let k : channel ≡ c = grind (arith, nat_tests) in ap (on_mask mask) k ∙ f
 awaited_on mask c _ e f = cc
 
@@ -121,7 +121,7 @@ taken_by m pt from to channel n mask x t sane acts home first step there queued 
     let a = first_is s mask (v.queue h to) i firsts in
     let ax : Some a.x ≡ Some x = sym a.there ∙ there in
     let same : a.x ≡ x = cc in
-    let masked : on_mask mask channel ≡ true = mask_of mask channel x.what (sym (ap (λ (z : PlainMessage). rule.burden_is_awaited mask z.what) same) ∙ a.what) on in
+    let masked : on_mask mask channel ≡ true = mask_of mask channel x.what (sym (ap (λ (z : PlainMessage). rule.what_is_awaited mask z.what) same) ∙ a.what) on in
     let receiver : x.to ≡ to = queued (subst (λ k. 1 ≤ times i (v.queue k to)) home a.stands) in
     let one : g i ≡ true = one_of s from to channel 0 n x there receiver on in
     let queue : w.queue h to ≡ without_id i (v.queue h to) = queue_on v.queue v.acting h to to (without_id i (v.queue v.acting to)) acting (pid_eq-same to) ∙ ap (λ k. without_id i (v.queue k to)) acting in
