@@ -3,7 +3,7 @@ use Rattle.dm_commands.proofs.Names.{◌≡◌, ◌⊎◌, inl, inr, ℕ, Bool, 
 use Rattle.dm_commands.proofs.Names.{Open, verdict, Status, Done, Usage, ReadFault, NoMemory, WriteFault, BootRefused, ScheduleRefused, TooLong, Worn, TraceRefused, CheckSays, GivesGood, GivesRefused, HasTrace, NoTrace, good_line}
 use Rattle.dm_commands.proofs.Names.{most_trace, IsLonger, AfterBoot, BlamesShelf, BlamesSink, IsWant, None}
 use Rattle.dm_check.specs.Judge.{Ended, Refused}
-use Rattle.dm_words.specs.declared.status.Input.TheVariants as input
+use Rattle.dm_ending.specs.declared.status.Input.TheVariants as input
 use Rattle.dm_commands.proofs.Outcomes.{Files, boot_part, above, not_above, long_boot, refused_boot, said_boot, want_or_not, some_one, same_boot}
 
 -- what the bytes of a trace come to

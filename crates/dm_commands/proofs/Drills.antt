@@ -3,7 +3,7 @@ use Rattle.dm_commands.proofs.Names.{◌≡◌, ◌⊎◌, inl, inr, ℕ, List, 
 use Rattle.dm_commands.proofs.Names.{ReadFault, NoMemory, WriteFault, BootRefused, ScheduleRefused, TooLong, Worn, TraceRefused, DrilledSays, BlamesShelf, BlamesSink, IsWant, ended_with, All, All-nil, All-cons, All-head, All-tail}
 use Rattle.dm_schedule.specs.declared.Directive.TheVariants as directive
 use Rattle.dm_schedule.specs.declared.Step.TheVariants as step
-use Rattle.dm_run.specs.declared.stop.Stop.TheVariants as stop
+use Rattle.dm_ending.specs.declared.stop.Stop.TheVariants as stop
 
 -- what is drawn for so many machines can be done on them
 for_machines : (machines : ℕ) (d : Directive) → IsDrawn machines d → IsFor machines d

@@ -1,7 +1,7 @@
 -- What the status of a run says.
 use Rattle.dm_commands.proofs.Names.{◌≡◌, ◌⊎◌, inl, inr, ℕ, List, refl, OnOk, Option, Some, Result, Ok, Err, Boot, Directive, World, RoseOrFull, Stop, Blames, Lasts, Wears, worn_same, Status, Done, Usage, ReadFault, NoMemory, WriteFault}
 use Rattle.dm_commands.proofs.Names.{BootRefused, ScheduleRefused, TooLong, Worn, TraceRefused, RunSays, BlamesShelf, BlamesSink, IsWant, ended_with}
-use Rattle.dm_run.specs.declared.stop.Stop.TheVariants as stop
+use Rattle.dm_ending.specs.declared.stop.Stop.TheVariants as stop
 use Rattle.dm_run.specs.Coming.{Ended}
 
 -- what a run comes to

@@ -3,7 +3,7 @@ use Rattle.dm_commands.proofs.Names.{◌≡◌, ◌⊎◌, inl, inr, ℕ, List, 
 use Rattle.dm_commands.proofs.Names.{ReadFault, NoMemory, WriteFault, BootRefused, ScheduleRefused, TooLong, Worn, TraceRefused, AsksFiles, AsksNamed, BeforeRun, NoInputs, SaysInputs, TellsFiles, TellsRead, TellsSchedule, ExplainsSystem}
 use Rattle.dm_commands.proofs.Names.{Wrote, NoBoot, NoDirectives, NoFiles, SaysBoot, BlamesShelf, BlamesSink, IsWant, None}
 use Rattle.dm_explain.specs.declared.explain.BootTold.TheVariants as told_as
-use Rattle.dm_words.specs.declared.status.Input.TheVariants as input
+use Rattle.dm_ending.specs.declared.status.Input.TheVariants as input
 use Rattle.dm_commands.proofs.Outcomes.{Files, boot_part, long_boot, never_sink, no_files, outcome, refused_boot, said_boot, said_files, want_or_not}
 
 -- memory may lack

@@ -54,16 +54,16 @@ pub use Rattle.dm_drill.proofs.Going.{nothing_drilled}
 pub use Rattle.dm_drill.proofs.Names.{Drill, DrillWears, Ended, Stop, summary, text_shown}
 pub use Rattle.dm_drill.specs.Counts.{totals_of}
 pub use Rattle.dm_words.specs.DrillWords.{IsWithin}
-pub use Rattle.dm_words.specs.Status.{BlamesShelf, BlamesSink, IsWant}
-pub use Rattle.dm_words.specs.declared.status.Input.{Input}
-pub use Rattle.dm_words.specs.declared.status.Status.{Status}
-pub use Rattle.dm_words.specs.declared.status.Status.TheVariants.{BootRefused, Done, NoMemory, ReadFault, ScheduleRefused, TooLong, TraceRefused, Usage, Worn, WriteFault}
+pub use Rattle.dm_ending.specs.Status.{BlamesShelf, BlamesSink, IsWant}
+pub use Rattle.dm_ending.specs.declared.status.Input.{Input}
+pub use Rattle.dm_ending.specs.declared.status.Status.{Status}
+pub use Rattle.dm_ending.specs.declared.status.Status.TheVariants.{BootRefused, Done, NoMemory, ReadFault, ScheduleRefused, TooLong, TraceRefused, Usage, Worn, WriteFault}
 pub use Rattle.dm_commands.specs.Asked.{AsksBoth, AsksFiles, FailsSecond}
 pub use Rattle.dm_commands.specs.Charts.{ChartSays, unless_failed}
 pub use Rattle.dm_commands.specs.Checks.{Accepts, CheckSays, GivesGood, GivesRefused, HasTrace, NoBytes, NoTrace, good_line, most_trace}
 pub use Rattle.dm_commands.specs.Drills.{DrilledSays}
 unfoldable pub use Rattle.dm_commands.specs.Drills.{directives_of_drill}
-pub use Rattle.dm_commands.specs.Ended.{ended_with}
+pub use Rattle.dm_ending.specs.Ended.{ended_with}
 pub use Rattle.dm_commands.specs.Explains.{AsksNamed, BeforeRun, ExplainsSystem, FailsNamed, NoInputs, SaysInputs, TellsFiles, TellsRead, TellsSchedule, Wrote}
 pub use Rattle.dm_commands.specs.Files.{IsLonger, SoFar, StartsSo}
 pub use Rattle.dm_commands.specs.Inputs.{AcceptsFiles, AfterBoot, HasFile, NoBoot, NoDirectives, NoFiles, RefusesBoot, RefusesSchedule, SaysBoot, SaysDirectives, most_boot, most_schedule}

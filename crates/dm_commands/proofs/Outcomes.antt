@@ -4,7 +4,7 @@ use Rattle.dm_commands.proofs.Names.{Schedule, Accepted, Refused, RoseOrFull, St
 use Rattle.dm_commands.proofs.Names.{RefusesBoot, RefusesSchedule, SaysBoot, SaysDirectives, most_boot, most_schedule, IsLonger, BlamesSink, IsWant, None}
 use Rattle.dm_boot.specs.Boot.{boot_of}
 use Rattle.dm_schedule.specs.Schedule.{directives_of, number_of_fault}
-use Rattle.dm_words.specs.declared.status.Input.TheVariants as input
+use Rattle.dm_ending.specs.declared.status.Input.TheVariants as input
 
 abbrev pub Files : Type 0
 Files = List ℕ → Option (List ℕ)

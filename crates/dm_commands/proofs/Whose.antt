@@ -1,7 +1,7 @@
 -- Whose read failed.
 use Rattle.dm_commands.proofs.Names.{◌≡◌, ℕ, List, subst, sym, false≢true, IfErr, IsErr, IsErrAnd, Ok, Err, Option, Result, RoseOrFull, Input, Status, AsksBoth, FailsSecond, NoBytes, NoDirectives}
-use Rattle.dm_words.specs.declared.status.Input.TheVariants as input
-use Rattle.dm_words.specs.declared.status.Status.TheVariants as status
+use Rattle.dm_ending.specs.declared.status.Input.TheVariants as input
+use Rattle.dm_ending.specs.declared.status.Status.TheVariants as status
 
 -- what holds of the one error holds of the error there is
 if_err : {A E : Type 0} (r : Result A E) (e : E) (P : E → Type 0) → IsErr r × IsErrAnd r (λ y. y ≡ e) → P e → IfErr r P

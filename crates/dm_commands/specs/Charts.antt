@@ -13,14 +13,14 @@ use Rattle.dm_outside.specs.declared.Failed.{Failed}
 use Rattle.dm_outside.specs.Outside.{appended}
 use Rattle.dm_run.specs.Appended.{IsCutShort}
 use Rattle.dm_drawing.specs.Pictured.{IsBeforeWorn, PictureIsWhole}
-use Rattle.dm_words.specs.declared.status.Input.TheVariants as input
-use Rattle.dm_words.specs.declared.status.Status.{Status}
-use Rattle.dm_words.specs.declared.status.Status.TheVariants.{Done, NoMemory, ReadFault, WriteFault, Worn}
+use Rattle.dm_ending.specs.declared.status.Input.TheVariants as input
+use Rattle.dm_ending.specs.declared.status.Status.{Status}
+use Rattle.dm_ending.specs.declared.status.Status.TheVariants.{Done, NoMemory, ReadFault, WriteFault, Worn}
 use Rattle.dm_commands.specs.Asked.{AsksFiles, FailsAlone, FailsSecond}
 use Rattle.dm_commands.specs.Inputs.{AcceptsFiles, NoFiles}
 use Rattle.dm_commands.specs.Outside.{Outside}
 use Rattle.dm_commands.specs.Runs.{Completes, Refuses, WearsOut}
-use Rattle.dm_words.specs.Status.{BlamesShelf, BlamesSink}
+use Rattle.dm_ending.specs.Status.{BlamesShelf, BlamesSink}
 
 -- the picture of all of the run was appended
 pub record ShowsWhole (b : Boot) (ds : List Directive) (before after : Option (List ℕ)) : Type 0 where

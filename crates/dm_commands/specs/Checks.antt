@@ -11,14 +11,14 @@ use Rattle.dm_check.specs.declared.fault.TraceFault.{TraceFault}
 use Rattle.dm_check.specs.Faults.{number_of_trace_fault}
 use Rattle.dm_check.specs.Good.{IsTrace, good_verdict}
 use Rattle.dm_check.specs.Judge.{Refused, verdict}
-use Rattle.dm_words.specs.declared.status.Input.TheVariants as input
-use Rattle.dm_words.specs.declared.status.Status.{Status}
-use Rattle.dm_words.specs.declared.status.Status.TheVariants as status
+use Rattle.dm_ending.specs.declared.status.Input.TheVariants as input
+use Rattle.dm_ending.specs.declared.status.Status.{Status}
+use Rattle.dm_ending.specs.declared.status.Status.TheVariants as status
 use Rattle.dm_commands.specs.Asked.{AsksFiles, FailsAlone, FailsSecond}
 use Rattle.dm_commands.specs.Files.{IsLonger}
 use Rattle.dm_commands.specs.Inputs.{AfterBoot, HasFile, RefusesBoot, SaysBoot, most_boot}
 use Rattle.dm_commands.specs.Outside.{Outside, NeverFails, NeverReadsBadly}
-use Rattle.dm_words.specs.Status.{BlamesShelf, BlamesSink, IsWant}
+use Rattle.dm_ending.specs.Status.{BlamesShelf, BlamesSink, IsWant}
 
 -- the most bytes of a trace
 abbrev pub most_trace : ℕ

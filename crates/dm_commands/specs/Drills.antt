@@ -9,10 +9,10 @@ use Rattle.dm_draw.specs.Boot.{boot_of_machines}
 use Rattle.dm_draw.specs.Directives.{directives_drawn}
 use Rattle.dm_draw.specs.declared.drill.Drill.{Drill}
 use Rattle.dm_drill.specs.Drilled.{DrillIsBegun, DrillIsOfFirst, DrillIsWhole, DrillWears}
-use Rattle.dm_words.specs.declared.status.Status.{Status}
-use Rattle.dm_words.specs.declared.status.Status.TheVariants.{Done, NoMemory, WriteFault, Worn}
+use Rattle.dm_ending.specs.declared.status.Status.{Status}
+use Rattle.dm_ending.specs.declared.status.Status.TheVariants.{Done, NoMemory, WriteFault, Worn}
 use Rattle.dm_commands.specs.Outside.{Outside, NeverFails}
-use Rattle.dm_words.specs.Status.{BlamesShelf, BlamesSink, IsWant}
+use Rattle.dm_ending.specs.Status.{BlamesShelf, BlamesSink, IsWant}
 
 -- the directives that are drawn
 abbrev pub directives_of_drill : Drill → List Directive

@@ -13,13 +13,13 @@ use Rattle.dm_run.specs.Appended.{IsCutShort}
 use Rattle.dm_explain.specs.declared.explain.BootTold.{BootTold}
 use Rattle.dm_explain.specs.Explained.{ExplainsBoot, TellsBoot, TellsRefused}
 use Rattle.dm_explain.specs.Schedules.{directives_told, line_told}
-use Rattle.dm_words.specs.declared.status.Input.TheVariants as input
-use Rattle.dm_words.specs.declared.status.Status.{Status}
-use Rattle.dm_words.specs.declared.status.Status.TheVariants.{Done, ReadFault, WriteFault, BootRefused, ScheduleRefused}
+use Rattle.dm_ending.specs.declared.status.Input.TheVariants as input
+use Rattle.dm_ending.specs.declared.status.Status.{Status}
+use Rattle.dm_ending.specs.declared.status.Status.TheVariants.{Done, ReadFault, WriteFault, BootRefused, ScheduleRefused}
 use Rattle.dm_commands.specs.Asked.{AsksFiles, FailsAlone, FailsSecond}
 use Rattle.dm_commands.specs.Inputs.{AcceptsFiles, HasFile, NoBoot, NoFiles, SaysBoot, most_boot, most_schedule}
 use Rattle.dm_commands.specs.Outside.{Outside, NeverFails}
-use Rattle.dm_words.specs.Status.{BlamesShelf, BlamesSink, IsWant}
+use Rattle.dm_ending.specs.Status.{BlamesShelf, BlamesSink, IsWant}
 
 -- the bytes of the boot file of this name, and what is said of them
 pub record TellsRead (files : Option (List ℕ → Option (List ℕ))) (name : List ℕ) (told : BootTold) : Type 0 where

@@ -10,9 +10,9 @@ use Rattle.dm_schedule.specs.declared.Directive.{Directive}
 use Rattle.dm_schedule.specs.declared.LineFault.{LineFault}
 use Rattle.dm_schedule.specs.Schedule.{Accepted, Refused, directives_of, number_of_fault}
 use Rattle.dm_outside.specs.Outside.{RoseOrFull}
-use Rattle.dm_words.specs.declared.status.Input.TheVariants as input
-use Rattle.dm_words.specs.declared.status.Status.{Status}
-use Rattle.dm_words.specs.declared.status.Status.TheVariants as status
+use Rattle.dm_ending.specs.declared.status.Input.TheVariants as input
+use Rattle.dm_ending.specs.declared.status.Status.{Status}
+use Rattle.dm_ending.specs.declared.status.Status.TheVariants as status
 use Rattle.dm_commands.specs.Files.{IsFile, IsLonger}
 
 -- the most bytes of a boot file, and of a schedule

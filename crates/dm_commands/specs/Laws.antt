@@ -8,14 +8,14 @@ use Rattle.dm_draw.specs.declared.drill.Drill.{Drill}
 use Rattle.dm_drill.specs.Summary.{summary}
 use Rattle.dm_drill.specs.Totals.{Totals}
 use Rattle.dm_check.specs.Judge.{Open, verdict}
-use Rattle.dm_words.specs.declared.status.Status.{Status}
-use Rattle.dm_words.specs.declared.status.Status.TheVariants.{Done, Worn}
+use Rattle.dm_ending.specs.declared.status.Status.{Status}
+use Rattle.dm_ending.specs.declared.status.Status.TheVariants.{Done, Worn}
 use Rattle.dm_commands.specs.Checks.{Accepts, good_line, most_trace}
 use Rattle.dm_words.specs.DrillWords.{IsWithin}
 use Rattle.dm_commands.specs.Drills.{DrillSays}
 use Rattle.dm_commands.specs.Outside.{Outside, NeverFails}
 use Rattle.dm_commands.specs.Runs.{SaysRun}
-use Rattle.dm_words.specs.Status.{IsWant}
+use Rattle.dm_ending.specs.Status.{IsWant}
 
 -- what a run has written, from nothing on, is the trace that is checked, with the same boot file
 pub record IsKept (boot trace : List ℕ) (run check : Outside) : Type 0 where

@@ -1,4 +1,3 @@
-pub mod Ended
 pub mod Files
 pub mod Inputs
 pub mod Asked

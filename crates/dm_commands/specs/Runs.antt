@@ -9,13 +9,13 @@ use Rattle.dm_schedule.specs.declared.Directive.{Directive}
 use Rattle.dm_world.specs.declared.world.World.{World}
 use Rattle.dm_mirror.specs.Todo.{IsDirective}
 use Rattle.dm_run.specs.Printed.{IsWhole, IsOfFirst, IsBegun, RunWears, Lasts, Wears}
-use Rattle.dm_words.specs.declared.status.Input.TheVariants as input
-use Rattle.dm_words.specs.declared.status.Status.{Status}
-use Rattle.dm_words.specs.declared.status.Status.TheVariants.{Done, NoMemory, ReadFault, WriteFault, Worn}
+use Rattle.dm_ending.specs.declared.status.Input.TheVariants as input
+use Rattle.dm_ending.specs.declared.status.Status.{Status}
+use Rattle.dm_ending.specs.declared.status.Status.TheVariants.{Done, NoMemory, ReadFault, WriteFault, Worn}
 use Rattle.dm_commands.specs.Asked.{AsksFiles, FailsAlone, FailsSecond}
 use Rattle.dm_commands.specs.Inputs.{AcceptsFiles, NoFiles}
 use Rattle.dm_commands.specs.Outside.{Outside, NeverFails, NeverReadsBadly}
-use Rattle.dm_words.specs.Status.{BlamesShelf, BlamesSink, IsWant}
+use Rattle.dm_ending.specs.Status.{BlamesShelf, BlamesSink, IsWant}
 
 -- what was written of the run of this system by these directives, all of them where none is worn
 abbrev pub RunSays : Boot → List Directive → Option (List ℕ) → Option (List ℕ) → Option World → Status → Type 0

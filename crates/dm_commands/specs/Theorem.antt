@@ -20,7 +20,7 @@ use Rattle.dm_rule.specs.Spots.{StandsRight, standing}
 use Rattle.dm_rulelaws.specs.Order.{LeadsBy}
 use Rattle.dm_text.specs.Text.{text_of_ends, text_of_lines}
 use Rattle.dm_outside.specs.Outside.{appended}
-use Rattle.dm_words.specs.declared.status.Status.TheVariants.{Done}
+use Rattle.dm_ending.specs.declared.status.Status.TheVariants.{Done}
 use Rattle.dm_commands.specs.Inputs.{AcceptsFiles}
 use Rattle.dm_commands.specs.Outside.{Outside}
 use Rattle.dm_commands.specs.Runs.{SaysRun}

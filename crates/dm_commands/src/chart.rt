@@ -3,19 +3,19 @@ ghost use Rattle.std.specs.Prelude.{◌≡◌, ◌≤◌, None, length};
 ghost use Rattle.std.specs.List.{All};
 ghost use Rattle.dm_onekernel.specs.Boot.{IsValid};
 ghost use Rattle.dm_run.specs.Coming.{IsFor};
-ghost use Rattle.dm_words.specs.declared.status.Input.TheVariants as input_;
+ghost use Rattle.dm_ending.specs.declared.status.Input.TheVariants as input_;
 ghost use Rattle.dm_commands.specs.Asked.{AsksFiles, FailsAlone, FailsSecond};
 ghost use Rattle.dm_commands.specs.Charts.{ChartSays, SaysChart, unless_failed};
 ghost use Rattle.dm_commands.specs.Outside.{around};
 ghost use Rattle.dm_commands.specs.Runs.{Completes, Refuses, WearsOut};
-ghost use Rattle.dm_words.specs.Status.{BlamesShelf, BlamesSink};
+ghost use Rattle.dm_ending.specs.Status.{BlamesShelf, BlamesSink};
 
 use crate::inputs::{Inputs, read_files};
 use dm_drawing::{Drawn, draw_run};
+use dm_ending::status::Status;
 use dm_outside::{Failed, Shelf, Sink};
 use dm_run::write_all;
 use dm_schedule::MOST_SCHEDULE;
-use dm_words::status::Status;
 use std::alloc::Global;
 
 /// Draws the run of the schedule of the second name on the system of the boot file of the first, and writes the picture.

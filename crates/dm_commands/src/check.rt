@@ -2,18 +2,18 @@
 ghost use Rattle.std.specs.Prelude.{◌≡◌, ◌≤◌, ℕ, List, None, length};
 ghost use Rattle.dm_onekernel.specs.declared.boot.Boot.{Boot as TheBoot};
 ghost use Rattle.dm_onekernel.specs.Boot.{IsValid};
-ghost use Rattle.dm_words.specs.declared.status.Input.TheVariants as input_;
+ghost use Rattle.dm_ending.specs.declared.status.Input.TheVariants as input_;
 ghost use Rattle.dm_commands.specs.Asked.{AsksFiles, FailsAlone, FailsSecond};
 ghost use Rattle.dm_commands.specs.Checks.{Accepts, CheckRefuses, CheckSays, Finds, IsGoodTrace, SaysCheck, end_word, good_line};
 ghost use Rattle.dm_commands.specs.Outside.{around};
-ghost use Rattle.dm_words.specs.Status.{BlamesShelf, BlamesSink};
+ghost use Rattle.dm_ending.specs.Status.{BlamesShelf, BlamesSink};
 
 use crate::inputs::{Traced, read_trace_files};
 use arrayvec::ArrayString;
 use dm_check::{CheckError, Good, MOST_TRACE, check_trace};
+use dm_ending::status::{Status, push_number, words};
 use dm_outside::{Shelf, Sink};
 use dm_run::write_all;
-use dm_words::status::{Status, push_number, words};
 use std::alloc::Global;
 
 /// Checks that the trace of the second name is what the system of the boot file of the first prints, and says so.

@@ -6,19 +6,18 @@ ghost use Rattle.dm_run.specs.Coming.{IsFor};
 ghost use Rattle.dm_draw.specs.Boot.{boot_of_machines};
 ghost use Rattle.dm_words.specs.DrillWords.{IsWithin};
 ghost use Rattle.dm_commands.specs.Drills.{DrilledSays, directives_of_drill};
-ghost use Rattle.dm_words.specs.Status.{BlamesSink};
+ghost use Rattle.dm_ending.specs.Status.{BlamesSink};
 
-use crate::run::status_of;
 use dm_draw::boot::drill_boot;
 use dm_draw::directives::drill_directives;
 use dm_draw::drill::Drill;
 use dm_drill::drill::run_drill;
+use dm_ending::status::{Status, status_of};
 use dm_memory::NoMemory;
 use dm_onekernel::Boot;
 use dm_outside::Sink;
 use dm_run::begin;
 use dm_schedule::{Directive, MOST_SCHEDULE};
-use dm_words::status::Status;
 use dm_world::World;
 use std::alloc::Global;
 

@@ -1,21 +1,21 @@
 //! The command `explain`: it says what a boot file and a schedule say, or what is wrong with them.
 ghost use Rattle.std.specs.Prelude.{◌≡◌, ◌≤◌, IfErr, IfOk, None, option_map};
-ghost use Rattle.dm_words.specs.declared.status.Input.TheVariants as input_;
+ghost use Rattle.dm_ending.specs.declared.status.Input.TheVariants as input_;
 ghost use Rattle.dm_commands.specs.Asked.{FailsAlone};
 ghost use Rattle.dm_commands.specs.Explains.{AsRun, AsksNamed, Decides, FailsNamed, NoInputs, SaysExplain, TellsFiles, TellsLines, TellsRead, TellsSchedule, Wrote};
 ghost use Rattle.dm_commands.specs.Inputs.{NoBoot, NoDirectives};
 ghost use Rattle.dm_commands.specs.Outside.{around};
-ghost use Rattle.dm_words.specs.Status.{BlamesShelf, BlamesSink};
+ghost use Rattle.dm_ending.specs.Status.{BlamesShelf, BlamesSink};
 ghost use Rattle.dm_explain.specs.Explained.{IsToldValid};
 
 use crate::inputs::MOST_BOOT;
 use crate::read::{ReadError, read_file};
+use dm_ending::status::{Input, Status};
 use dm_explain::{BootTold, ScheduleTold, explain_boot, explain_schedule};
 use dm_memory::{NoMemory, extend_from_slice};
 use dm_outside::{Shelf, Sink};
 use dm_run::write_all;
 use dm_schedule::MOST_SCHEDULE;
-use dm_words::status::{Input, Status};
 use std::alloc::Global;
 
 /// What is said of files, and how the program ends that has said it.

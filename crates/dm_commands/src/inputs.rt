@@ -5,16 +5,16 @@ ghost use Rattle.dm_onekernel.specs.Boot.{IsValid};
 ghost use Rattle.dm_commands.specs.Asked.{AsksFiles, FailsAlone, FailsSecond};
 ghost use Rattle.dm_commands.specs.Checks.{HasTrace, NoBytes, NoTrace, most_trace};
 ghost use Rattle.dm_commands.specs.Inputs.{AcceptsFiles, HasFile, NoBoot, NoDirectives, NoFiles, SaysBoot, SaysDirectives};
-ghost use Rattle.dm_words.specs.Status.{BlamesShelf};
+ghost use Rattle.dm_ending.specs.Status.{BlamesShelf};
 ghost use Rattle.dm_run.specs.Coming.{IsFor};
 
 use crate::read::{ReadError, read_file};
 use dm_boot::{BootError, read_boot};
 use dm_check::MOST_TRACE;
+use dm_ending::status::{Input, Status};
 use dm_onekernel::Boot;
 use dm_outside::Shelf;
 use dm_schedule::{Directive, MOST_SCHEDULE, ScheduleError, read_schedule};
-use dm_words::status::{Input, Status};
 use std::alloc::Global;
 
 /// The most bytes of a boot file.

@@ -3,18 +3,17 @@ ghost use Rattle.std.specs.Prelude.{◌≡◌, ◌≤◌, length};
 ghost use Rattle.std.specs.List.{All};
 ghost use Rattle.dm_onekernel.specs.Boot.{IsValid};
 ghost use Rattle.dm_run.specs.Coming.{IsFor};
-ghost use Rattle.dm_words.specs.declared.status.Input.TheVariants as input_;
+ghost use Rattle.dm_ending.specs.declared.status.Input.TheVariants as input_;
 ghost use Rattle.dm_commands.specs.Asked.{AsksFiles, FailsAlone, FailsSecond};
 ghost use Rattle.dm_commands.specs.Outside.{around};
 ghost use Rattle.dm_commands.specs.Runs.{Completes, Refuses, RunSays, SaysRun, WearsOut};
-ghost use Rattle.dm_words.specs.Status.{BlamesShelf, BlamesSink};
-ghost use Rattle.dm_commands.specs.Ended.{ended_with};
+ghost use Rattle.dm_ending.specs.Status.{BlamesShelf, BlamesSink};
 
 use crate::inputs::{Inputs, read_files};
+use dm_ending::status::{Status, status_of};
 use dm_outside::{Shelf, Sink};
-use dm_run::{Stop, begin, run_to_end};
+use dm_run::{begin, run_to_end};
 use dm_schedule::MOST_SCHEDULE;
-use dm_words::status::Status;
 use dm_world::World;
 use std::alloc::Global;
 
@@ -70,17 +69,5 @@ fn run<K: Sink>(alloc: Global, inputs: Inputs, out: &mut K, world: &mut Option<W
             status_of(ended)
         }
         Err(no) => Status::NoMemory(no),
-    }
-}
-
-/// The status of a run that came to its end, or stopped.
-pub fn status_of(ended: Result<(), Stop>) -> Status
-    ensures { result ≡ ended_with ended }
-{
-    match ended {
-        Ok(()) => Status::Done,
-        Err(Stop::NoMemory(no)) => Status::NoMemory(no),
-        Err(Stop::WriteFault) => Status::WriteFault,
-        Err(Stop::Worn { from, to }) => Status::Worn { from, to },
     }
 }

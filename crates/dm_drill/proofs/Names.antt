@@ -25,8 +25,8 @@ pub use Rattle.dm_run.proofs.Names.{Cursor, HasCome, IsErr, Lasts, Offered, Worl
 pub use Rattle.dm_run.proofs.Settling.{IsOnWay, goes_on_way}
 pub use Rattle.dm_run.proofs.Stepping.{are_directives, blames_err, one_group_more}
 pub use Rattle.dm_run.proofs.Writing.{some_left}
-pub use Rattle.dm_run.specs.declared.stop.Stop.{Stop}
-pub use Rattle.dm_run.specs.declared.stop.Stop.TheVariants.{NoMemory, Worn, WriteFault}
+pub use Rattle.dm_ending.specs.declared.stop.Stop.{Stop}
+pub use Rattle.dm_ending.specs.declared.stop.Stop.TheVariants.{NoMemory, Worn, WriteFault}
 pub use Rattle.dm_drill.specs.Counts.{counted_as, nothing, one_more, shown, with_group}
 unfoldable pub use Rattle.dm_drill.specs.Counts.{with_group_lines, with_groups}
 pub use Rattle.dm_drill.specs.Drilled.{Came, DrillIsOfFirst, DrillIsWhole, DrillTold, DrillWears, Ended, HasDrilled, Stopped, TellsQuiet, at, text_shown}

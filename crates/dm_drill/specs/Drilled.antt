@@ -19,8 +19,8 @@ use Rattle.dm_world.specs.Next.{world_next_step}
 use Rattle.dm_world.specs.Meets.{world_state}
 use Rattle.dm_mirror.specs.Run.{IsGood, RunStands, joined}
 use Rattle.dm_outside.specs.Outside.{appended}
-use Rattle.dm_run.specs.declared.stop.Stop.{Stop}
-use Rattle.dm_run.specs.declared.stop.Stop.TheVariants.{NoMemory, WriteFault, Worn}
+use Rattle.dm_ending.specs.declared.stop.Stop.{Stop}
+use Rattle.dm_ending.specs.declared.stop.Stop.TheVariants.{NoMemory, WriteFault, Worn}
 use Rattle.dm_run.specs.Printed.{IsOver, StandsFor, WearsAfter}
 use Rattle.dm_draw.specs.declared.drill.Drill.{Drill}
 use Rattle.dm_drill.specs.Counts.{with_groups, totals_of}

@@ -8,7 +8,7 @@ pub use Rattle.dm_linkupdate.proofs.Names.{None}
 pub use Rattle.dm_boot.proofs.Imports.{string_bytes}
 pub use Rattle.dm_drill.proofs.Names.{DrillIsOfFirst}
 pub use Rattle.dm_words.proofs.Names.{Chart, Check, Drill, Explain, IsTaken, Request, Run, request_of, request_said}
-pub use Rattle.dm_words.specs.Status.{status_of_no}
+pub use Rattle.dm_words.specs.Refused.{status_of_no}
 pub use Rattle.dm_words.specs.Words.{IsInRange}
 pub use Rattle.dm_words.specs.declared.words.Request.{Request as TheRequest}
 pub use Rattle.dm_words.specs.declared.words.WordsError.{WordsError}

@@ -9,8 +9,8 @@ use Rattle.std.specs.declared.result.Result.TheVariants.{Ok, Err}
 use Rattle.std.specs.Process.{exit_status}
 use Rattle.dm_world.specs.declared.world.World.{World}
 use Rattle.dm_run.specs.Appended.{Written}
-use Rattle.dm_words.specs.declared.status.Status.{Status}
-use Rattle.dm_words.specs.declared.status.Status.TheVariants.{Usage}
+use Rattle.dm_ending.specs.declared.status.Status.{Status}
+use Rattle.dm_ending.specs.declared.status.Status.TheVariants.{Usage}
 use Rattle.dm_words.specs.declared.words.WordsError.{WordsError}
 use Rattle.dm_commands.specs.Charts.{ChartMeets}
 use Rattle.dm_commands.specs.Checks.{CheckMeets}
@@ -19,7 +19,8 @@ use Rattle.dm_commands.specs.Explains.{ExplainMeets}
 use Rattle.dm_commands.specs.Outside.{Outside, around}
 use Rattle.dm_words.specs.Request.{Request, Chart, Check, Drill, Explain, Run}
 use Rattle.dm_commands.specs.Runs.{RunMeets}
-use Rattle.dm_words.specs.Status.{IsWant, code_of, line_of_status, status_of_no}
+use Rattle.dm_ending.specs.Status.{IsWant, code_of, line_of_status}
+use Rattle.dm_words.specs.Refused.{status_of_no}
 use Rattle.dm_words.specs.Words.{request_of}
 
 -- the words ask for nothing: they are refused, unless memory lacks; no file was asked for, nothing was written, and there is

@@ -2,11 +2,11 @@
 ghost use Rattle.std.specs.Prelude.{◌≡◌};
 ghost use Rattle.std.specs.Process.{exit_status};
 ghost use Rattle.dm_run.specs.Appended.{Written};
-ghost use Rattle.dm_words.specs.Status.{code_of, line_of_status};
+ghost use Rattle.dm_ending.specs.Status.{code_of, line_of_status};
 
+use dm_ending::status::{Status, status_line};
 use dm_outside::Sink;
 use dm_run::write_all;
-use dm_words::status::{Status, status_line};
 use std::process::ExitCode;
 
 /// Writes the line of a status, and gives its number. A line that the sink cuts changes no number.

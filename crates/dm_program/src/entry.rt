@@ -4,15 +4,15 @@ ghost use Rattle.std.specs.Vec.Iter.{into_iter_steps};
 ghost use Rattle.std.specs.Iterator.Runs.{WholeRun};
 ghost use Rattle.dm_memory.specs.Args.{ArgsLackMemory};
 ghost use Rattle.dm_program.specs.Program.{Finishes, GivenMeets};
-ghost use Rattle.dm_words.specs.Status.{BlamesShelf, BlamesSink};
+ghost use Rattle.dm_ending.specs.Status.{BlamesShelf, BlamesSink};
 ghost use Rattle.dm_words.specs.Words.{IsTaken};
 
 use crate::ending::end;
 use crate::program::run_program;
+use dm_ending::status::Status;
 use dm_memory::of_args::{ArgsError, collect};
 use dm_memory::{NoMemory, push};
 use dm_outside::{Shelf, Sink};
-use dm_words::status::Status;
 use dm_words::words::WordsError;
 use dm_world::World;
 use std::alloc::Global;

@@ -5,8 +5,8 @@ mod ending;
 mod entry;
 mod program;
 
+pub use dm_ending::status::{Input, Status, status_line, status_text};
 pub use dm_memory::of_args::args;
-pub use dm_words::status::{Input, Status, status_line, status_text};
 pub use dm_words::words::WordsError;
 pub use entry::{finish, run_given, words_of};
 pub use program::run_program;

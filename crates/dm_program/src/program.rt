@@ -2,7 +2,7 @@
 ghost use Rattle.std.specs.Prelude.{◌≡◌, ◌≤◌, map};
 ghost use Rattle.dm_commands.specs.Outside.{around};
 ghost use Rattle.dm_program.specs.Program.{ProgramMeets};
-ghost use Rattle.dm_words.specs.Status.{BlamesShelf, BlamesSink};
+ghost use Rattle.dm_ending.specs.Status.{BlamesShelf, BlamesSink};
 ghost use Rattle.dm_words.specs.Words.{IsTaken, request_of};
 
 use dm_commands::chart::chart_files;
@@ -10,8 +10,8 @@ use dm_commands::check::check_files;
 use dm_commands::drill::drill;
 use dm_commands::explain::explain_files;
 use dm_commands::run::run_files;
+use dm_ending::status::Status;
 use dm_outside::{Shelf, Sink};
-use dm_words::status::Status;
 use dm_words::words::{Request, read_words};
 use dm_world::World;
 use std::alloc::Global;

@@ -62,5 +62,5 @@ pub use Rattle.dm_mirror.specs.Ran.{RanGoes}
 pub use Rattle.dm_run.specs.Coming.{Blames, BlamesBy, Came, Ended, HasCome, IsAfter, IsFor, Offered, Stopped, rounds_of}
 pub use Rattle.dm_run.specs.Printed.{IsOfFirst, IsOver, IsWhole, Lasts, RunWears, Wears, WearsAfter}
 pub use Rattle.dm_run.specs.Running.{IsRunning, RanOn, RunsOn, StopsWorn}
-pub use Rattle.dm_run.specs.declared.stop.Stop.{Stop}
-pub use Rattle.dm_run.specs.declared.stop.Stop.TheVariants.{NoMemory, Worn, WriteFault}
+pub use Rattle.dm_ending.specs.declared.stop.Stop.{Stop}
+pub use Rattle.dm_ending.specs.declared.stop.Stop.TheVariants.{NoMemory, Worn, WriteFault}

@@ -26,8 +26,8 @@ use Rattle.dm_world.specs.Next.{world_next_step}
 use Rattle.dm_world.specs.Meets.{IsWorld, world_state}
 use Rattle.dm_mirror.specs.Run.{RunStands, joined}
 use Rattle.dm_outside.specs.Outside.{RoseOrFull, appended}
-use Rattle.dm_run.specs.declared.stop.Stop.{Stop}
-use Rattle.dm_run.specs.declared.stop.Stop.TheVariants.{NoMemory, WriteFault, Worn}
+use Rattle.dm_ending.specs.declared.stop.Stop.{Stop}
+use Rattle.dm_ending.specs.declared.stop.Stop.TheVariants.{NoMemory, WriteFault, Worn}
 use Rattle.dm_run.specs.Appended.{IsCutShort}
 use Rattle.dm_run.specs.Printed.{IsWhole, IsOfFirst, IsBegun, RunWears}
 

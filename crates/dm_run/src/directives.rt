@@ -13,7 +13,7 @@ ghost use Rattle.dm_run.specs.Printed.{Lasts};
 ghost use Rattle.dm_run.specs.Running.{IsRunning};
 
 use crate::offering::{offer, offer_ends};
-use crate::stop::Stop;
+use dm_ending::stop::Stop;
 use dm_outside::Sink;
 use dm_schedule::{Directive, MOST_SCHEDULE, Step};
 use dm_world::{Cursor, Stop as WorldStop, World};

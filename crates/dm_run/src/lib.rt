@@ -5,12 +5,10 @@ pub mod directives;
 mod fit;
 pub mod offering;
 pub mod running;
-pub mod stop;
 pub mod write;
 
 pub use directives::{run_directives, run_to_end};
 pub use fit::lines_fit;
 pub use offering::{offer, offer_bytes, offer_ends};
 pub use running::{begin, end_lines, step_on};
-pub use stop::Stop;
 pub use write::write_all;

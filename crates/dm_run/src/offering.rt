@@ -7,8 +7,8 @@ ghost use Rattle.dm_outside.specs.Outside.{RoseOrFull};
 ghost use Rattle.dm_run.specs.Coming.{Blames, Offered};
 
 use crate::fit::{ends_fit, lines_fit};
-use crate::stop::Stop;
 use crate::write::write_all;
+use dm_ending::stop::Stop;
 use dm_line::end_line::EndLine;
 use dm_line::line::Line;
 use dm_outside::Sink;

@@ -1,4 +1,4 @@
-pub mod Status
+pub mod Refused
 pub mod Request
 pub mod FileWords
 pub mod RunWords

@@ -1,5 +1,4 @@
-//! The words of the command line, and how the program ends.
+//! The words of the command line.
 #![tactic(auto)]
 
-pub mod status;
 pub mod words;

@@ -3,7 +3,7 @@ ghost use Rattle.std.specs.Prelude.{◌≡◌, ◌≤◌, map, option_and_then, 
 ghost use Rattle.clap.specs.Built.{AddsSubcommand};
 ghost use Rattle.clap.specs.Words.{app_of, found_of, rows_of, rule_of, subcommand_rows_of, with_subcommand as with_shape};
 ghost use Rattle.clap.specs.declared.builder.command.Command.{Command as TheCommand};
-ghost use Rattle.dm_words.specs.Status.{status_of_no};
+ghost use Rattle.dm_words.specs.Refused.{status_of_no};
 ghost use Rattle.dm_words.specs.CheckWords.{check_command as check_shape, check_request as check_asked};
 ghost use Rattle.clap.specs.Walk.{first_of};
 ghost use Rattle.dm_words.specs.DrillWords.{drill_command as drill_shape, drill_request as drill_asked, flag_option, lines_in, lines_asked, machines_in, machines_asked, number_option, seed_of, trace_of};
@@ -13,9 +13,9 @@ ghost use Rattle.dm_words.specs.FileWords.{file_option, free_option};
 ghost use Rattle.dm_words.specs.RunWords.{run_command as run_shape, run_request as run_asked};
 ghost use Rattle.dm_words.specs.Words.{IsInRange, IsTaken, demosmp, request_at, request_of, request_said};
 
-use crate::status::Status;
 use clap::{Arg, ArgAction, ArgMatches, Command};
 use dm_draw::drill::Drill;
+use dm_ending::status::Status;
 use dm_link::MACHINES;
 use dm_memory::NoMemory;
 use dm_memory::of_clap::{MatchesError, matches_from, with_arg, with_subcommand};

@@ -1,7 +1,7 @@
 use Rattle.dm_commands.proofs.Names.{◌≡◌, List, ℕ, Bor, option_map, subst, sym, Option, Status, FailsNamed}
 use Rattle.std.specs.Prelude.{IfErr}
-use Rattle.dm_words.specs.declared.status.Input.TheVariants as input
-use Rattle.dm_words.specs.declared.status.Status.TheVariants as status
+use Rattle.dm_ending.specs.declared.status.Input.TheVariants as input
+use Rattle.dm_ending.specs.declared.status.Status.TheVariants as status
 use Rattle.dm_commands.proofs.ExplainOutcomes.{asks_boot, no_system, refused_told, system_says}
 use Rattle.dm_commands.proofs.Whose.{late_fault}
 use Rattle.dm_commands.proofs.explain.tell_files.Goals as goal

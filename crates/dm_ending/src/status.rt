@@ -1,7 +1,9 @@
 //! How the program ends.
 ghost use Rattle.std.specs.Prelude.{◌≡◌, ◌+◌, ◌≤◌, ◌++◌, length, decimal};
-ghost use Rattle.dm_words.specs.Status.{code_of, line_of_status, text_of_status};
+ghost use Rattle.dm_ending.specs.Ended.{ended_with};
+ghost use Rattle.dm_ending.specs.Status.{code_of, line_of_status, text_of_status};
 
+use crate::stop::Stop;
 use arrayvec::ArrayString;
 use dm_memory::NoMemory;
 use itoa::Buffer;
@@ -62,6 +64,18 @@ impl Status {
             Status::Worn { .. } => 9,
             Status::TraceRefused { .. } => 10,
         }
+    }
+}
+
+/// The status of a run that came to its end, or stopped.
+pub fn status_of(ended: Result<(), Stop>) -> Status
+    ensures { result ≡ ended_with ended }
+{
+    match ended {
+        Ok(()) => Status::Done,
+        Err(Stop::NoMemory(no)) => Status::NoMemory(no),
+        Err(Stop::WriteFault) => Status::WriteFault,
+        Err(Stop::Worn { from, to }) => Status::Worn { from, to },
     }
 }
 

@@ -3,12 +3,10 @@ use Rattle.std.specs.Prelude.{◌≡◌, ℕ, List, [], ◌∷◌, ◌++◌, cod
 use Rattle.std.specs.Fmt.{decimal}
 use Rattle.dm_outside.specs.Outside.{RoseOrFull}
 use Rattle.dm_memory.specs.declared.NoMemory.{NoMemory as TheNoMemory}
-use Rattle.dm_words.specs.declared.status.Input.{Input}
-use Rattle.dm_words.specs.declared.status.Input.TheVariants.{Boot, Schedule, Trace}
-use Rattle.dm_words.specs.declared.words.WordsError.{WordsError}
-use Rattle.dm_words.specs.declared.words.WordsError.TheVariants as why
-use Rattle.dm_words.specs.declared.status.Status.{Status}
-use Rattle.dm_words.specs.declared.status.Status.TheVariants.{Done, Usage, ReadFault, NoMemory, WriteFault, BootRefused, ScheduleRefused, TooLong, Worn, TraceRefused}
+use Rattle.dm_ending.specs.declared.status.Input.{Input}
+use Rattle.dm_ending.specs.declared.status.Input.TheVariants.{Boot, Schedule, Trace}
+use Rattle.dm_ending.specs.declared.status.Status.{Status}
+use Rattle.dm_ending.specs.declared.status.Status.TheVariants.{Done, Usage, ReadFault, NoMemory, WriteFault, BootRefused, ScheduleRefused, TooLong, Worn, TraceRefused}
 
 -- the number that the program ends with
 abbrev pub code_of : Status → ℕ
@@ -50,11 +48,6 @@ as_line (x ∷ xs) = (x ∷ xs) ++ 10 ∷ []
 -- what the program writes of its status on standard error
 abbrev pub line_of_status : Status → List ℕ
 line_of_status s = as_line (text_of_status s)
-
--- the status of words that name no files
-abbrev pub status_of_no : WordsError → Status
-status_of_no why.Usage = Usage
-status_of_no (why.NoMemory lack) = NoMemory lack
 
 -- a status says that no memory was left
 abbrev pub IsWant : Status → Type 0

@@ -1,10 +1,10 @@
 -- How a run ends.
 use Rattle.std.specs.declared.result.Result.{Result}
 use Rattle.std.specs.declared.result.Result.TheVariants.{Ok, Err}
-use Rattle.dm_run.specs.declared.stop.Stop.{Stop}
-use Rattle.dm_run.specs.declared.stop.Stop.TheVariants as stop
-use Rattle.dm_words.specs.declared.status.Status.{Status}
-use Rattle.dm_words.specs.declared.status.Status.TheVariants.{Done, NoMemory, WriteFault, Worn}
+use Rattle.dm_ending.specs.declared.stop.Stop.{Stop}
+use Rattle.dm_ending.specs.declared.stop.Stop.TheVariants as stop
+use Rattle.dm_ending.specs.declared.status.Status.{Status}
+use Rattle.dm_ending.specs.declared.status.Status.TheVariants.{Done, NoMemory, WriteFault, Worn}
 
 -- the status of a run that came to its end, or stopped
 abbrev pub ended_with : {A : Type 0} → Result A Stop → Status
