@@ -1,11 +1,11 @@
 -- What a drill counts of the lines that are printed.
-use Rattle.std.specs.Prelude.{◌+◌, List, [], ◌∷◌, vec_len}
+use Rattle.std.specs.Prelude.{◌+◌, if◌then◌else◌, List, [], ◌∷◌, vec_len}
 use Rattle.dm_onekernel.specs.declared.label.Label.{Label}
 use Rattle.dm_onekernel.specs.declared.label.Label.TheVariants as label
 use Rattle.dm_line.specs.declared.line.Line.{Line}
 use Rattle.dm_line.specs.declared.line.Line.TheVariants as line
 use Rattle.dm_line.specs.declared.line.Stage.{Stage}
-use Rattle.dm_line.specs.declared.line.Stage.TheVariants as stage
+use Rattle.dm_line.specs.Stages.{is_last}
 use Rattle.std.specs.declared.option.Option.{Option}
 use Rattle.std.specs.declared.option.Option.TheVariants.{None, Some}
 use Rattle.dm_drill.specs.declared.counts.Counted.{Counted}
@@ -15,13 +15,7 @@ use Rattle.dm_drill.specs.Totals.{Totals}
 
 -- a process has come to the end of its move, at its new machine
 abbrev pub sort_of_step : Stage → Option Counted
-sort_of_step stage.Frozen = None
-sort_of_step stage.Asked = None
-sort_of_step stage.Accepted = None
-sort_of_step stage.StateTaken = None
-sort_of_step stage.MemoryTaken = None
-sort_of_step stage.Left = None
-sort_of_step stage.Restarted = Some counted_.Moved
+sort_of_step s = if is_last s then Some counted_.Moved else None
 
 -- a message was received
 abbrev pub sort_of_label : Label → Option Counted

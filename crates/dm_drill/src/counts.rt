@@ -131,8 +131,9 @@ fn sort_of_label(label: Label) -> Option<Counted>
 fn sort_of_step(step: Stage) -> Option<Counted>
     ensures { result ≡ sort_of_step step }
 {
-    match step {
-        Stage::Restarted => Some(Counted::Moved),
-        _ => None,
+    if step.is_last() {
+        Some(Counted::Moved)
+    } else {
+        None
     }
 }

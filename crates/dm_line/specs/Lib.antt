@@ -1,4 +1,5 @@
 pub mod Sets
+pub mod Stages
 pub mod Todo
 pub mod Ends
 pub mod Each

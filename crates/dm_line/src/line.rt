@@ -1,5 +1,6 @@
 //! The lines of groups.
 ghost use Rattle.std.specs.Prelude.{◌≡◌};
+ghost use Rattle.dm_line.specs.Stages.{is_last};
 
 use dm_link::Pid;
 use dm_message::{MessageKind, MsgId};
@@ -124,4 +125,21 @@ pub enum Stage {
     MemoryTaken,
     Left,
     Restarted,
+}
+
+impl Stage {
+    /// Whether a migration ends with it: the process goes on where it has come.
+    pub fn is_last(self) -> bool
+        ensures { result ≡ is_last self }
+    {
+        match self {
+            Stage::Frozen => false,
+            Stage::Asked => false,
+            Stage::Accepted => false,
+            Stage::StateTaken => false,
+            Stage::MemoryTaken => false,
+            Stage::Left => false,
+            Stage::Restarted => true,
+        }
+    }
 }

@@ -1,5 +1,5 @@
 -- A table as the list of its slots, each empty or with a link.
-use Rattle.std.specs.Prelude.{ℕ, Bool, false, List, slice_index_or}
+use Rattle.std.specs.Prelude.{ℕ, Bool, true, false, List, slice_index_or}
 use Rattle.std.specs.declared.option.Option.{Option}
 use Rattle.std.specs.declared.option.Option.TheVariants.{None, Some}
 use Rattle.std.specs.declared.result.Result.{Result}
@@ -22,6 +22,11 @@ link_at slots n = slice_index_or slots n None
 -- the lowest empty slot
 abbrev pub first_empty : {L : Type 0} → List (Option L) → Option ℕ
 first_empty slots = position is_none slots
+
+-- a link of this kind serves for one message alone
+abbrev pub is_reply : Kind → Bool
+is_reply General = false
+is_reply Reply = true
 
 abbrev pub copy_of_kind : Kind → Option ℕ → Result ℕ CopyError
 copy_of_kind Reply empty = Err no.ReplyLink

@@ -4,7 +4,7 @@
 ghost use Rattle.std.specs.Prelude.{◌≡◌, ◌⊎◌, ◌<◌, ◌↔◌, IsTrue, List, length, map, count_by, slice_set, IfOk, IfErr, MatchResult, option_copied, Some, None};
 ghost use Rattle.std.proofs.Math.ListN.{replicate};
 ghost use Rattle.std.specs.Option.{is_none};
-ghost use Rattle.dm_linktable.specs.Slots.{copy_of, first_empty, link_at, plain_slot, retargeted_slot, slot_is_behind};
+ghost use Rattle.dm_linktable.specs.Slots.{copy_of, first_empty, is_reply, link_at, plain_slot, retargeted_slot, slot_is_behind};
 
 mod index;
 mod slots;
@@ -141,7 +141,7 @@ impl Table {
             Some(link) => *link,
             None => return Err(CopyError::Empty),
         };
-        if serves_once(&link) {
+        if serves_once(link.kind) {
             return Err(CopyError::ReplyLink);
         }
         match self.put(link) {
@@ -161,9 +161,13 @@ impl Table {
     }
 }
 
-/// Whether a link serves for one message alone.
-fn serves_once(link: &Link) -> bool
-    ensures { IsTrue result ↔ link.now.kind ≡ Kind.Reply }
+/// Whether a link of this kind serves for one message alone: it isn't copied, and who sends over it, or encloses it, keeps it
+/// no longer.
+pub fn serves_once(kind: Kind) -> bool
+    ensures { result ≡ is_reply kind }
 {
-    link.kind == Kind::Reply
+    match kind {
+        Kind::Reply => true,
+        Kind::General => false,
+    }
 }

@@ -1,8 +1,10 @@
 //! Lists inside public values, which contracts see as lists.
 #![tactic(auto)]
 
+pub mod bytes;
 pub mod items;
 pub mod queue;
 
+pub use bytes::is_over;
 pub use items::Items;
 pub use queue::{Queue, put_before};

@@ -3,6 +3,7 @@
 
 ghost use Rattle.std.specs.Prelude.{◌≡◌, is_some};
 ghost use Rattle.dm_link.specs.Places.{relocated};
+ghost use Rattle.dm_message.specs.Ids.{bool_eq};
 ghost use Rattle.dm_message.specs.Kinds.{kind_of};
 ghost use Rattle.dm_message.specs.Lawful.{is_answer};
 ghost use Rattle.dm_message.specs.Outcomes.{code_of_outcome};
@@ -181,6 +182,22 @@ impl Outcome {
             Outcome::Ended => 3,
         }
     }
+}
+
+impl MsgId {
+    /// Whether the name says of a message of this kind what it is: an answer, or none.
+    pub fn fits(self, kind: MessageKind) -> bool
+        ensures { result ≡ bool_eq self.answer (is_answer kind) }
+    {
+        agree(self.answer, kind.is_answer())
+    }
+}
+
+/// Whether what is said is so.
+fn agree(said: bool, is_so: bool) -> bool
+    ensures { result ≡ bool_eq said is_so }
+{
+    said == is_so
 }
 
 impl MessageKind {

@@ -11,6 +11,7 @@ use Rattle.dm_link.specs.declared.Area.{Area}
 use Rattle.dm_link.specs.Plain.{PlainLink}
 use Rattle.dm_message.specs.Ids.{id_of}
 use Rattle.dm_message.specs.Plain.{PlainMessage, User}
+pub use Rattle.dm_linktable.specs.Slots.{is_reply}
 use Rattle.dm_linktable.specs.Slots.{first_empty, link_at}
 use Rattle.dm_process.specs.declared.process.Direction.{Direction}
 use Rattle.dm_process.specs.declared.process.Direction.TheVariants as direction
@@ -90,10 +91,6 @@ abbrev pub makes : Pid → PlainProcess → Called
 makes pid p = unless_refused (first_failed (make_refusals p)) p (puts_link p (own_link pid p) (first_empty p.links))
 
 -- call 4, COPY: the general link in slot r1, once more
-abbrev pub is_reply : Kind → Bool
-is_reply kind.General = false
-is_reply kind.Reply = true
-
 abbrev pub copies : PlainProcess → Option PlainLink → Called
 copies p None = refused reply.NoLink p
 copies p (Some l) = if is_reply l.kind then refused reply.NotCopyable p else puts_link p l (first_empty p.links)

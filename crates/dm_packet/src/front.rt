@@ -1,7 +1,4 @@
 //! What stands at the front of each packet, and of each message.
-ghost use Rattle.std.specs.Prelude.{◌≡◌};
-ghost use Rattle.dm_message.specs.Ids.{bool_eq};
-ghost use Rattle.dm_message.specs.Lawful.{is_answer};
 
 use dm_link::Addr;
 use dm_message::{MessageKind, MsgId};
@@ -44,13 +41,4 @@ pub enum Front {
         to: u8,
         count: u32,
     },
-}
-
-impl Head {
-    /// Whether the message's name says that it is an answer exactly where its kind does.
-    pub fn is_named_right(self) -> bool
-        ensures { result ≡ bool_eq self.id.answer (is_answer self.kind) }
-    {
-        self.id.answer == self.kind.is_answer()
-    }
 }

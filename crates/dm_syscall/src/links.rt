@@ -11,7 +11,7 @@ use crate::Called;
 use crate::calls::{ends_outside, reply};
 use dm_datamove::address_of;
 use dm_link::{Area, Kind, LAST_CHANNEL, Link};
-use dm_linktable::Table;
+use dm_linktable::{Table, serves_once};
 use dm_onekernel::Reply;
 use dm_process::Process;
 
@@ -128,10 +128,8 @@ pub fn copy(process: &mut Process) -> Called
 {
     match link_in(&process.table, process.regs.r[1]) {
         None => reply(process, Reply::NoLink),
-        Some(link) => match link.kind {
-            Kind::Reply => reply(process, Reply::NotCopyable),
-            Kind::General => put(process, link),
-        },
+        Some(link) if serves_once(link.kind) => reply(process, Reply::NotCopyable),
+        Some(link) => put(process, link),
     }
 }
 

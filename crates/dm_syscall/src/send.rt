@@ -2,7 +2,7 @@
 ghost use Rattle.std.specs.Prelude.{◌≡◌, ◌+◌, ◌≤◌, ◌<◌, ◌∷◌, [], ◌==◌, IfNone, None, Some, if◌then◌else◌, length, map};
 ghost use Rattle.dm_linktable.specs.Slots.{link_at, plain_slot};
 ghost use Rattle.dm_onekernel.specs.declared.label.Reply.TheVariants as reply;
-ghost use Rattle.dm_onekernel.specs.Calls.{any_empty, holds_reply, is_among, is_reply, reply_named_twice, send_refusals};
+ghost use Rattle.dm_onekernel.specs.Calls.{any_empty, holds_reply, is_among, reply_named_twice, send_refusals};
 ghost use Rattle.dm_onekernel.specs.Plain.{plain_process};
 ghost use Rattle.dm_onekernel.specs.PlainProcess.{reg};
 ghost use Rattle.dm_onekernel.specs.Refusals.{first_failed};
@@ -13,8 +13,8 @@ use crate::Called;
 use crate::calls::{ends_outside, reply};
 use crate::links::{empty_slot, link_in};
 use dm_datamove::{address_of, body_at};
-use dm_link::{Kind, Link};
-use dm_linktable::{FEW_SLOTS, Table};
+use dm_link::Link;
+use dm_linktable::{FEW_SLOTS, Table, serves_once};
 use dm_message::{Body, Enclosed, MOST_BODY, MOST_LINKS, Message, MsgId, What};
 use dm_onekernel::Reply;
 use dm_process::Process;
@@ -108,16 +108,6 @@ fn holds_reply(table: &Table, slot: u32) -> bool
     match link_in(table, slot) {
         Some(link) => serves_once(link.kind),
         None => false,
-    }
-}
-
-/// Whether a link of this kind serves for one message alone.
-fn serves_once(kind: Kind) -> bool
-    ensures { result ≡ is_reply kind }
-{
-    match kind {
-        Kind::Reply => true,
-        Kind::General => false,
     }
 }
 

@@ -13,10 +13,11 @@ pub mod parts;
 
 use crate::PacketError;
 use crate::front::{Front, Head, Opening, PacketKind};
+use dm_lists::is_over;
 use dm_message::{MsgId, What};
 use fields::{addr_at, byte_at, machine_at, pid_at, u32_at};
 use kinds::what_at;
-use parts::{is_over, kind_at, yes_or_no_at};
+use parts::{kind_at, yes_or_no_at};
 
 fn id_at(bytes: &[u8]) -> Result<(MsgId, &[u8]), PacketError>
     ensures { Reads result (id.read bytes.now) }
@@ -47,7 +48,7 @@ fn head_at(bytes: &[u8]) -> Result<(Head, &[u8]), PacketError>
     ensures { Reads result (head.read bytes.now) }
 {
     let (head, rest) = head_parts_at(bytes)?;
-    if !head.is_named_right() {
+    if !head.id.fits(head.kind) {
         return Err(PacketError::Answer);
     }
     Ok((head, rest))

@@ -9,13 +9,6 @@ use crate::PacketError;
 use dm_link::Pid;
 use dm_message::{Asker, MOST_BODY, MessageKind, Outcome};
 
-/// Whether nothing follows: a packet, and the state bytes of a process, end with their last field.
-pub fn is_over(rest: &[u8]) -> bool
-    ensures { result ≡ (length rest.now == 0) }
-{
-    rest.is_empty()
-}
-
 /// A yes or no.
 pub fn yes_or_no_at(bytes: &[u8], rule: PacketError) -> Result<(bool, &[u8]), PacketError>
     ensures { Reads result ((yes_or_no rule).read bytes.now) }
