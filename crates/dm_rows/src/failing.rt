@@ -1,11 +1,11 @@
 //! Commands over memory, where one read or one write fails, each in turn.
 
+use crate::program::{Done, run_program, sink_of};
 use anyhow::Result;
-use dm_outside::{MemShelf, MemSink};
-use dm_program::finish;
-use std::alloc::Global;
+use dm_outside::MemShelf;
+use std::alloc::{AllocError, Global};
 use std::process::ExitCode;
-use std::{fs, str};
+use std::{fs, io, str};
 
 /// A command that is tried.
 #[derive(Clone, Copy)]
@@ -81,123 +81,199 @@ const TRIED: [Tried; 6] = [
     },
 ];
 
+/// The call of a command that fails, and how many of its kind go well before it.
+#[derive(Clone, Copy)]
+enum Failing {
+    Nothing,
+    Read(u64),
+    Write(u64),
+}
+
+impl Failing {
+    /// What fails.
+    fn what(self) -> &'static str {
+        match self {
+            Failing::Nothing => "nothing",
+            Failing::Read(_) => "read",
+            Failing::Write(_) => "write",
+        }
+    }
+
+    /// How many calls of its kind go well before it.
+    fn before(self) -> u64 {
+        match self {
+            Failing::Nothing => 0,
+            Failing::Read(before) | Failing::Write(before) => before,
+        }
+    }
+
+    /// The numbers of the reads that fail, counted from 1.
+    fn reads(self, alloc: Global) -> Result<Vec<u64>, AllocError> {
+        match self {
+            Failing::Read(before) => number_behind(alloc, before),
+            _ => Ok(Vec::new(alloc)),
+        }
+    }
+
+    /// The numbers of the writes that fail, counted from 1.
+    fn writes(self, alloc: Global) -> Result<Vec<u64>, AllocError> {
+        match self {
+            Failing::Write(before) => number_behind(alloc, before),
+            _ => Ok(Vec::new(alloc)),
+        }
+    }
+}
+
+/// The number of the call behind so many.
+fn number_behind(alloc: Global, before: u64) -> Result<Vec<u64>, AllocError> {
+    Vec::from_slice(alloc, &[before.saturating_add(1)])
+}
+
 /// How a command ended.
 #[derive(Drop)]
 struct Ended {
-    status: ExitCode,
-    line: String,
-    written: Vec<u8>,
+    done: Done,
     reads: u64,
-    writes: u64,
 }
 
 impl Ended {
+    /// The line on standard error, without its line feed.
+    fn line(&self) -> &str {
+        str::from_utf8(self.done.errors.bytes())
+            .unwrap_or("")
+            .trim_end()
+    }
+
     /// Whether it ended with this status and this line, and wrote these first bytes of its output, so many.
     fn is(&self, status: u8, line: &str, whole: &[u8], count: u64) -> bool {
-        self.status == ExitCode::from(status)
-            && self.line.as_str() == line
-            && self.written.len() as u64 == count
-            && whole.starts_with(self.written.as_slice())
+        let written = self.done.out.bytes();
+        self.done.status == ExitCode::from(status)
+            && self.line() == line
+            && written.len() as u64 == count
+            && whole.starts_with(written)
     }
 }
 
 /// Does each command where one of its reads and then where one of its writes fails, each in turn, and says what came of it.
 pub fn fail_in_turn(rt: &HostRuntime) -> Result<()> {
     for tried in &TRIED {
-        for read in 0..tried.reads {
-            say_failed(rt, tried, "read", read, &[read + 1], &[])?;
-        }
-        for write in 0..tried.writes {
-            say_failed(rt, tried, "write", write, &[], &[write + 1])?;
-        }
-        say_failed(rt, tried, "nothing", 0, &[], &[])?;
-        fail_bytes(rt, tried)?;
+        fail_calls(rt, tried)?;
+        let whole = fs::read(rt, tried.output)?;
+        fail_bytes(rt, tried, whole.as_slice())?;
     }
     Ok(())
 }
 
-/// Does a command where these reads and these writes fail, and says what came of it.
-fn say_failed(
-    rt: &HostRuntime,
-    tried: &Tried,
-    what: &str,
-    before: u64,
-    reads: &[u64],
-    writes: &[u64],
-) -> Result<()> {
-    let ended = ending(rt, tried, reads, writes, false)?;
-    let (name, line, written) = (tried.name, ended.line.as_str(), ended.written.len());
-    println!(rt; "{name}, {what} fails behind {before}: {line:?}, {written} bytes")?;
+/// Does a command where each of its reads, each of its writes and then nothing fails, and says what came of it.
+fn fail_calls(rt: &HostRuntime, tried: &Tried) -> Result<()> {
+    for before in 0..tried.reads {
+        say_failed(rt, tried, Failing::Read(before))?;
+    }
+    for before in 0..tried.writes {
+        say_failed(rt, tried, Failing::Write(before))?;
+    }
+    say_failed(rt, tried, Failing::Nothing)
+}
+
+/// Does a command where a call fails, and says what came of it.
+fn say_failed(rt: &HostRuntime, tried: &Tried, failing: Failing) -> Result<()> {
+    let ended = ending(rt, tried, failing, false)?;
+    say_ended(rt, tried.name, failing, &ended)?;
     Ok(())
+}
+
+/// Says what came of a command where a call fails.
+fn say_ended(rt: &HostRuntime, name: &str, failing: Failing, ended: &Ended) -> io::Result<()> {
+    let (what, before) = (failing.what(), failing.before());
+    let (line, written) = (ended.line(), ended.done.out.bytes().len());
+    println!(rt; "{name}, {what} fails behind {before}: {line:?}, {written} bytes")
 }
 
 /// With one byte a call, a command comes to the same; where a read fails nothing is written, and where a write fails what the
 /// writes before it took. Each call fails in turn.
-fn fail_bytes(rt: &HostRuntime, tried: &Tried) -> Result<()> {
-    let whole = fs::read(rt, tried.output)?;
-    let calm = ending(rt, tried, &[], &[], true)?;
-    let (name, reads, writes) = (tried.name, calm.reads, calm.writes);
-    let mut same = calm.is(0, "", whole.as_slice(), whole.len() as u64);
+fn fail_bytes(rt: &HostRuntime, tried: &Tried, whole: &[u8]) -> Result<()> {
+    let calm = calm_by_byte(rt, tried, whole)?;
+    let (name, reads, writes, same) = (tried.name, calm.reads, calm.writes, calm.same);
     println!(rt; "{name}, one byte a call: {reads} reads, {writes} writes, the same: {same}")?;
-    for read in 0..reads {
-        let ended = ending(rt, tried, &[read + 1], &[], true)?;
-        same = same && ended.is(3, "read fault", whole.as_slice(), 0);
-    }
+    let same = fail_reads(rt, tried, whole, reads)? && same;
     println!(rt; "{name}, one byte a call: each read that fails leaves nothing: {same}")?;
-    for write in 0..writes {
-        if write.checked_rem(tried.stride) == Some(0) {
-            let ended = ending(rt, tried, &[], &[write + 1], true)?;
-            same = same && ended.is(5, "write fault", whole.as_slice(), write);
-        }
-    }
+    let same = fail_writes(rt, tried, whole, writes)? && same;
     println!(rt; "{name}, one byte a call: each write that fails leaves what came before: {same}")?;
     Ok(())
 }
 
-/// A shelf of these two files, where these reads fail.
-fn shelf_of(alloc: Global, boot: Vec<u8>, other: Vec<u8>, fails: &[u64]) -> Result<MemShelf> {
-    let boot = (String::from_str(alloc, "boot")?, boot);
-    let other = (String::from_str(alloc, "other")?, other);
-    let files = vec![in alloc; boot, other]?;
-    Ok(MemShelf::new(files, Vec::from_slice(alloc, fails)?))
+/// What a command does with one byte a call.
+#[derive(Clone, Copy)]
+struct Calm {
+    reads: u64,
+    writes: u64,
+    /// Whether it comes to the same.
+    same: bool,
 }
 
-/// What comes of a command where these reads and these writes fail. With `by_byte` each call gives or takes one byte.
-fn ending(
-    rt: &HostRuntime,
-    tried: &Tried,
-    reads: &[u64],
-    writes: &[u64],
-    by_byte: bool,
-) -> Result<Ended> {
-    let alloc = rt.alloc();
-    let mut shelf = shelf_of(
-        alloc,
-        fs::read(rt, "hi.boot")?,
-        fs::read(rt, tried.other)?,
-        reads,
-    )?;
-    let mut words = Vec::new(alloc);
-    words.push(String::from_str(alloc, "demosmp")?)?;
-    for word in tried.words.split(' ') {
-        words.push(String::from_str(alloc, word)?)?;
+/// Does a command with one byte a call, where nothing fails.
+fn calm_by_byte(rt: &HostRuntime, tried: &Tried, whole: &[u8]) -> Result<Calm> {
+    let ended = ending(rt, tried, Failing::Nothing, true)?;
+    Ok(Calm {
+        reads: ended.reads,
+        writes: ended.done.out.calls(),
+        same: ended.is(0, "", whole, whole.len() as u64),
+    })
+}
+
+/// Whether a command with one byte a call writes nothing where a read fails: each of so many in turn.
+fn fail_reads(rt: &HostRuntime, tried: &Tried, whole: &[u8], reads: u64) -> Result<bool> {
+    let mut same = true;
+    for before in 0..reads {
+        let ended = ending(rt, tried, Failing::Read(before), true)?;
+        same = same && ended.is(3, "read fault", whole, 0);
     }
-    let mut out = MemSink::new(
-        Vec::with_capacity(alloc, 8_192)?,
-        Vec::from_slice(alloc, writes)?,
-    );
+    Ok(same)
+}
+
+/// Whether a command with one byte a call writes what comes before a write that fails: one in so many in turn, of its stride.
+fn fail_writes(rt: &HostRuntime, tried: &Tried, whole: &[u8], writes: u64) -> Result<bool> {
+    let mut same = true;
+    for before in 0..writes {
+        if before.checked_rem(tried.stride) == Some(0) {
+            let ended = ending(rt, tried, Failing::Write(before), true)?;
+            same = same && ended.is(5, "write fault", whole, before);
+        }
+    }
+    Ok(same)
+}
+
+/// What comes of a command where a call fails. With `by_byte` each call gives or takes one byte.
+fn ending(rt: &HostRuntime, tried: &Tried, failing: Failing, by_byte: bool) -> Result<Ended> {
+    let mut shelf = filled_shelf(rt, tried, failing)?;
+    let mut out = sink_of(rt.alloc(), 8_192, failing.writes(rt.alloc())?)?;
     if by_byte {
         shelf.cut(1);
         out.cut(1);
     }
-    let mut errors = MemSink::new(Vec::with_capacity(alloc, 96)?, Vec::new(alloc));
-    let status = finish(alloc, Ok(words), &mut shelf, &mut out, &mut errors);
-    let line = str::from_utf8(errors.bytes()).unwrap_or("").trim_end();
+    let done = run_program(rt.alloc(), tried.words, &mut shelf, out)?;
     Ok(Ended {
-        status,
-        line: String::from_str(alloc, line)?,
-        written: Vec::from_slice(alloc, out.bytes())?,
+        done,
         reads: shelf.calls(),
-        writes: out.calls(),
     })
+}
+
+/// The shelf of a command, where a read may fail.
+fn filled_shelf(rt: &HostRuntime, tried: &Tried, failing: Failing) -> Result<MemShelf> {
+    let boot = fs::read(rt, "hi.boot")?;
+    let other = fs::read(rt, tried.other)?;
+    let alloc = rt.alloc();
+    Ok(shelf_of(alloc, boot, other, failing.reads(alloc)?)?)
+}
+
+/// A shelf of these two files, where these reads fail.
+fn shelf_of(
+    alloc: Global,
+    boot: Vec<u8>,
+    other: Vec<u8>,
+    fails: Vec<u64>,
+) -> Result<MemShelf, AllocError> {
+    let boot = (String::from_str(alloc, "boot")?, boot);
+    let other = (String::from_str(alloc, "other")?, other);
+    Ok(MemShelf::new(vec![in alloc; boot, other]?, fails))
 }

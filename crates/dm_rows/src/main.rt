@@ -4,6 +4,7 @@
 
 mod failing;
 mod others;
+mod program;
 mod row;
 mod run;
 
@@ -15,10 +16,7 @@ use run::{Ending, Run};
 use std::fs;
 
 fn main(rt: HostRuntime) -> Result<()> {
-    let runs = fs::read_to_string(&rt, "runs")?;
-    let rows = fs::read_to_string(&rt, "rows")?;
-    let good = do_runs(&rt, &runs)?;
-    show_rows(&rt, &rows, good.as_slice())?;
+    show_tables(&rt)?;
     fail_in_turn(&rt)?;
     read_files(&rt)?;
     write_out(&rt)?;
@@ -26,36 +24,56 @@ fn main(rt: HostRuntime) -> Result<()> {
     say_errors(&rt)
 }
 
+/// Does the runs of the one table, and says of the rows of the other whether they are shown.
+fn show_tables(rt: &HostRuntime) -> Result<()> {
+    let runs = fs::read_to_string(rt, "runs")?;
+    let rows = fs::read_to_string(rt, "rows")?;
+    let good = do_runs(rt, runs.as_str())?;
+    show_rows(rt, rows.as_str(), good.as_slice())
+}
+
 /// Does each run of the table, and says how it ended: those that ended as they must.
 fn do_runs<'a>(rt: &HostRuntime, table: &'a str) -> Result<Vec<Run<'a>>> {
     let mut good = Vec::new(rt.alloc());
-    for line in table.lines().filter(|line| is_entry(line)) {
-        let run = Run::of_line(line).context("a line of the table of runs")?;
-        let ending = run.ending(rt)?;
-        println!(rt; "run {}: {ending}", run.name)?;
-        if ending == Ending::AsSaid {
-            good.push(run)?;
+    for line in table.lines() {
+        if is_entry(line) {
+            do_run(rt, line, &mut good)?;
         }
     }
     Ok(good)
 }
 
+/// Does the run of a line, says how it ended, and adds it to the good ones where it ended as it must.
+fn do_run<'a>(rt: &HostRuntime, line: &'a str, good: &mut Vec<Run<'a>>) -> Result<()> {
+    let run = Run::of_line(line).context("a line of the table of runs")?;
+    let ending = run.ending(rt)?;
+    println!(rt; "run {}: {ending}", run.name)?;
+    if ending == Ending::AsSaid {
+        good.push(run)?;
+    }
+    Ok(())
+}
+
 /// Says of each row of the table whether its run shows it.
 fn show_rows(rt: &HostRuntime, table: &str, good: &[Run<'_>]) -> Result<()> {
-    for line in table.lines().filter(|line| is_entry(line)) {
-        let row = Row::of_line(line).context("a line of the table of rows")?;
-        let verdict = if row.is_shown(rt, good)? {
-            "shown"
-        } else {
-            "NOT shown"
-        };
-        println!(rt;
-            "row {}: {verdict} by {}, line {}",
-            row.name,
-            row.run,
-            row.number()
-        )?;
+    for line in table.lines() {
+        if is_entry(line) {
+            show_row(rt, line, good)?;
+        }
     }
+    Ok(())
+}
+
+/// Says of the row of a line whether its run shows it.
+fn show_row(rt: &HostRuntime, line: &str, good: &[Run<'_>]) -> Result<()> {
+    let row = Row::of_line(line).context("a line of the table of rows")?;
+    let verdict = if row.is_shown(rt, good)? {
+        "shown"
+    } else {
+        "NOT shown"
+    };
+    let (name, run, number) = (row.name, row.run, row.number());
+    println!(rt; "row {name}: {verdict} by {run}, line {number}")?;
     Ok(())
 }
 

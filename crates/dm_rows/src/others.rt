@@ -10,7 +10,7 @@ use dm_procman::MoveError;
 use dm_room::Lacks;
 use dm_schedule::{LineFault, ScheduleError};
 use dm_statebytes::StateBytesError;
-use std::io;
+use std::{fmt, io};
 
 /// Reads of real files: on in one, from the start of another, and those that don't go on where the last one ended.
 const READS: [(&str, u64); 11] = [
@@ -30,18 +30,59 @@ const READS: [(&str, u64); 11] = [
 /// Zero minus one, and then call 2.
 const ZERO_MINUS_ONE: [u8; 16] = [1, 1, 0, 0, 1, 2, 0, 1, 5, 1, 1, 2, 20, 0, 0, 2];
 
+const PACKET_ERRORS: [PacketError; 9] = [
+    PacketError::Missing,
+    PacketError::Version,
+    PacketError::PacketKind,
+    PacketError::Machine,
+    PacketError::MessageKind,
+    PacketError::Answer,
+    PacketError::Flags,
+    PacketError::Limit,
+    PacketError::Trailing,
+];
+
+const STATE_ERRORS: [StateBytesError; 6] = [
+    StateBytesError::Missing,
+    StateBytesError::Version,
+    StateBytesError::Machine,
+    StateBytesError::Flags,
+    StateBytesError::Limit,
+    StateBytesError::Trailing,
+];
+
+const LINE_FAULTS: [LineFault; 5] = [
+    LineFault::UnknownWord,
+    LineFault::WrongCount,
+    LineFault::NotANumber,
+    LineFault::OutOfRange,
+    LineFault::SameMachine,
+];
+
+const TRACE_FAULTS: [TraceFault; 4] = [
+    TraceFault::NotALine,
+    TraceFault::NotDue,
+    TraceFault::NotAStep,
+    TraceFault::NotTheEnd,
+];
+
 /// Reads two files of data/ in turn, and one that isn't there.
 pub fn read_files(rt: &HostRuntime) -> Result<()> {
     let mut shelf = RealShelf::new(rt);
-    for (name, from) in READS {
-        let mut bytes = *b"....";
-        match shelf.read(name, from, &mut bytes) {
-            Ok(count) => println!(rt; "read {name} from {from}: {count} of {bytes:?}")?,
-            Err(Failed) => println!(rt; "read {name} from {from}: a fault")?,
-        }
+    for (name, from) in &READS {
+        say_read(rt, &mut shelf, name, *from)?;
     }
     println!(rt; "read faults: {}", shelf.faults())?;
     Ok(())
+}
+
+/// Reads four bytes of a file, and says what came of it.
+fn say_read<F: Shelf>(rt: &HostRuntime, shelf: &mut F, name: &str, from: u64) -> io::Result<()> {
+    let mut bytes = *b"....";
+    match shelf.read(name, from, &mut bytes) {
+        Ok(count) => println!(rt; "read {name} from {from}: {count} of {bytes:?}"),
+        Err(Failed) => println!(rt; "read {name} from {from}: a fault"),
+    }
 }
 
 /// Writes a line, and nothing.
@@ -59,76 +100,84 @@ pub fn step_flat(rt: &HostRuntime) -> Result<()> {
     let mut memory = Flat::from_image(rt.alloc(), &ZERO_MINUS_ONE, 1)?;
     let mut regs = Regs::new();
     for _ in 0..4 {
-        let stepped = step(&mut regs, &mut memory);
-        let (r1, pc) = (regs.r[1], regs.pc);
-        println!(rt; "flat: {stepped:?}, r1 {r1}, pc {pc}")?;
+        say_step(rt, &mut regs, &mut memory)?;
     }
     Ok(())
 }
 
+/// One instruction over a flat memory, and what came of it.
+fn say_step(rt: &HostRuntime, regs: &mut Regs, memory: &mut Flat) -> io::Result<()> {
+    let stepped = step(regs, memory);
+    let (r1, pc) = (regs.r[1], regs.pc);
+    println!(rt; "flat: {stepped:?}, r1 {r1}, pc {pc}")
+}
+
 /// What errors say of themselves.
 pub fn say_errors(rt: &HostRuntime) -> Result<()> {
-    for bad in [
-        PacketError::Missing,
-        PacketError::Version,
-        PacketError::PacketKind,
-        PacketError::Machine,
-        PacketError::MessageKind,
-        PacketError::Answer,
-        PacketError::Flags,
-        PacketError::Limit,
-        PacketError::Trailing,
-    ] {
-        println!(rt; "packet, {}: {bad}", bad.number())?;
-    }
-    for bad in [
-        StateBytesError::Missing,
-        StateBytesError::Version,
-        StateBytesError::Machine,
-        StateBytesError::Flags,
-        StateBytesError::Limit,
-        StateBytesError::Trailing,
-    ] {
-        println!(rt; "state bytes, {}: {bad}", bad.number())?;
-    }
-    for fault in [
-        LineFault::UnknownWord,
-        LineFault::WrongCount,
-        LineFault::NotANumber,
-        LineFault::OutOfRange,
-        LineFault::SameMachine,
-    ] {
-        println!(rt;
-            "schedule, {}: {}",
-            fault.number(),
-            ScheduleError::Refused { line: 7, fault }
-        )?;
-    }
-    for fault in [
-        TraceFault::NotALine,
-        TraceFault::NotDue,
-        TraceFault::NotAStep,
-        TraceFault::NotTheEnd,
-    ] {
-        println!(rt;
-            "trace, {}: {}",
-            fault.number(),
-            CheckError::Refused { line: 7, fault }
-        )?;
-    }
+    say_packet_errors(rt)?;
+    say_state_errors(rt)?;
+    say_line_faults(rt)?;
+    say_trace_faults(rt)?;
     let rule = BootRule::ProcessRoom;
-    println!(rt;
-        "boot file, {}: {}",
-        rule.number(),
-        BootError::Refused { rule, place: 2 }
-    )?;
+    let refused = BootError::Refused { rule, place: 2 };
+    say_numbered(rt, "boot file", rule.number(), &refused)?;
     let lacks = Lacks {
         free_slots: 1,
         free_blocks: 20,
     };
-    println!(rt; "room: {lacks}")?;
-    for no in [MoveError::Unknown, MoveError::Pinned] {
-        println!(rt; "move: {no}")?;
+    say(rt, "room", &lacks)?;
+    say(rt, "move", &MoveError::Unknown)?;
+    say(rt, "move", &MoveError::Pinned)?;
+    Ok(())
+}
+
+fn say_packet_errors(rt: &HostRuntime) -> io::Result<()> {
+    for bad in &PACKET_ERRORS {
+        say_numbered(rt, "packet", bad.number(), bad)?;
     }
     Ok(())
+}
+
+fn say_state_errors(rt: &HostRuntime) -> io::Result<()> {
+    for bad in &STATE_ERRORS {
+        say_numbered(rt, "state bytes", bad.number(), bad)?;
+    }
+    Ok(())
+}
+
+fn say_line_faults(rt: &HostRuntime) -> io::Result<()> {
+    for fault in &LINE_FAULTS {
+        let refused = ScheduleError::Refused {
+            line: 7,
+            fault: *fault,
+        };
+        say_numbered(rt, "schedule", fault.number(), &refused)?;
+    }
+    Ok(())
+}
+
+fn say_trace_faults(rt: &HostRuntime) -> io::Result<()> {
+    for fault in &TRACE_FAULTS {
+        let refused = CheckError::Refused {
+            line: 7,
+            fault: *fault,
+        };
+        say_numbered(rt, "trace", fault.number(), &refused)?;
+    }
+    Ok(())
+}
+
+/// What an error with a number says of itself.
+fn say_numbered<E: fmt::Display>(
+    rt: &HostRuntime,
+    of: &str,
+    number: u8,
+    error: &E,
+) -> io::Result<()> {
+    println!(rt; "{of}, {number}: {error}")
+}
+
+/// What an error says of itself.
+fn say<E: fmt::Display>(rt: &HostRuntime, of: &str, error: &E) -> io::Result<()> {
+    println!(rt; "{of}: {error}")
 }

@@ -40,7 +40,7 @@ impl<'a> Row<'a> {
     pub fn is_shown(&self, rt: &HostRuntime, good: &[Run<'_>]) -> Result<bool> {
         for run in good {
             if run.name == self.run {
-                let output = fs::read_to_string(rt, run.output)?;
+                let output = fs::read_to_string(rt, run.expected.output)?;
                 return Ok(
                     says(run, &output, self.line)
                         && self.put.is_none_or(|put| says(run, &output, put)),
@@ -54,7 +54,7 @@ impl<'a> Row<'a> {
 /// Whether a run of this output says a numbered line.
 fn says(run: &Run<'_>, output: &str, line: &str) -> bool {
     match numbered(line) {
-        Some((0, text)) => run.line == text,
+        Some((0, text)) => run.expected.line == text,
         Some((number, text)) => output.lines().nth(number - 1) == Some(text),
         None => false,
     }

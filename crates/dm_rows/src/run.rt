@@ -1,29 +1,33 @@
 //! A run of the program, and what it must come to.
 
+use crate::program::{Done, run_program, sink_of};
 use anyhow::Result;
-use dm_outside::{MemSink, RealShelf};
-use dm_program::finish;
-use std::alloc::{AllocError, Global};
+use dm_outside::RealShelf;
+use std::alloc::AllocError;
 use std::process::ExitCode;
+use std::str::Split;
 use std::{fmt, fs};
-
-/// The most bytes of a line on standard error.
-const LONGEST_LINE: usize = 96;
 
 /// A row of the table of runs.
 #[derive(Clone, Copy)]
 pub struct Run<'a> {
     pub name: &'a str,
+    pub expected: Expected<'a>,
+    /// How many bytes standard output takes before it is full.
+    pub room: usize,
+    /// The words behind the program's name, with a space between.
+    pub words: &'a str,
+}
+
+/// What a run must come to.
+#[derive(Clone, Copy)]
+pub struct Expected<'a> {
     /// The exit status.
     pub status: u8,
     /// The line on standard error, without its line feed: empty for none.
     pub line: &'a str,
     /// The file of what is written to standard output.
     pub output: &'a str,
-    /// How many bytes standard output takes before it is full.
-    pub room: usize,
-    /// The words behind the program's name, with a space between.
-    pub words: &'a str,
 }
 
 /// How a run ended.
@@ -52,9 +56,7 @@ impl<'a> Run<'a> {
         let mut columns = line.split('\t');
         Some(Run {
             name: columns.next()?,
-            status: columns.next()?.parse().ok()?,
-            line: columns.next()?,
-            output: columns.next()?,
+            expected: Expected::of_columns(&mut columns)?,
             room: columns.next()?.parse().ok()?,
             words: columns.next()?,
         })
@@ -63,34 +65,41 @@ impl<'a> Run<'a> {
     /// Runs the program, and compares its exit status, its line on standard error and its whole output with what they
     /// must be.
     pub fn ending(&self, rt: &HostRuntime) -> Result<Ending> {
-        let alloc = rt.alloc();
-        let mut out = MemSink::new(Vec::with_capacity(alloc, self.room)?, Vec::new(alloc));
-        let mut errors = MemSink::new(Vec::with_capacity(alloc, LONGEST_LINE)?, Vec::new(alloc));
-        let words = self.given(alloc)?;
-        let mut shelf = RealShelf::new(rt);
-        let code = finish(alloc, Ok(words), &mut shelf, &mut out, &mut errors);
-        let output = fs::read(rt, self.output)?;
-        if code != ExitCode::from(self.status) {
-            Ok(Ending::OtherStatus)
-        } else if !is_line(errors.bytes(), self.line) {
-            Ok(Ending::OtherLine)
-        } else if out.bytes() != output.as_slice() {
-            Ok(Ending::OtherOutput)
-        } else {
-            Ok(Ending::AsSaid)
-        }
+        let done = self.done(rt)?;
+        let output = fs::read(rt, self.expected.output)?;
+        Ok(self.expected.ending(&done, output.as_slice()))
     }
 
-    /// The words that the program is given, its name first.
-    fn given(&self, alloc: Global) -> Result<Vec<String>, AllocError> {
-        let mut words = Vec::new(alloc);
-        words.push(String::from_str(alloc, "demosmp")?)?;
-        if !self.words.is_empty() {
-            for word in self.words.split(' ') {
-                words.push(String::from_str(alloc, word)?)?;
-            }
+    /// Runs the program.
+    fn done(&self, rt: &HostRuntime) -> Result<Done, AllocError> {
+        let alloc = rt.alloc();
+        let out = sink_of(alloc, self.room, Vec::new(alloc))?;
+        let mut shelf = RealShelf::new(rt);
+        run_program(alloc, self.words, &mut shelf, out)
+    }
+}
+
+impl<'a> Expected<'a> {
+    /// What the next three columns of a line tell.
+    fn of_columns(columns: &mut Split<'a, char>) -> Option<Expected<'a>> {
+        Some(Expected {
+            status: columns.next()?.parse().ok()?,
+            line: columns.next()?,
+            output: columns.next()?,
+        })
+    }
+
+    /// How a run ended that came to this, where its whole output must be these bytes.
+    fn ending(&self, done: &Done, output: &[u8]) -> Ending {
+        if done.status != ExitCode::from(self.status) {
+            Ending::OtherStatus
+        } else if !is_line(done.errors.bytes(), self.line) {
+            Ending::OtherLine
+        } else if done.out.bytes() != output {
+            Ending::OtherOutput
+        } else {
+            Ending::AsSaid
         }
-        Ok(words)
     }
 }
 

@@ -1,0 +1,57 @@
+//! The program on some words, over a shelf, and what it comes to.
+
+use dm_outside::{MemSink, Shelf};
+use dm_program::finish;
+use std::alloc::{AllocError, Global};
+use std::process::ExitCode;
+
+/// The most bytes of a line on standard error.
+const LONGEST_LINE: usize = 96;
+
+/// What the program came to.
+#[derive(Drop)]
+pub struct Done {
+    pub status: ExitCode,
+    pub out: MemSink,
+    pub errors: MemSink,
+}
+
+/// Runs the program over a shelf, into this standard output. Between its words stands a space, and its name isn't among them.
+pub fn run_program<F: Shelf>(
+    alloc: Global,
+    words: &str,
+    shelf: &mut F,
+    mut out: MemSink,
+) -> Result<Done, AllocError> {
+    let words = given(alloc, words)?;
+    let mut errors = sink_of(alloc, LONGEST_LINE, Vec::new(alloc))?;
+    let status = finish(alloc, Ok(words), shelf, &mut out, &mut errors);
+    Ok(Done {
+        status,
+        out,
+        errors,
+    })
+}
+
+/// A sink that takes so many bytes, and where these writes fail.
+pub fn sink_of(alloc: Global, room: usize, fails: Vec<u64>) -> Result<MemSink, AllocError> {
+    Ok(MemSink::new(Vec::with_capacity(alloc, room)?, fails))
+}
+
+/// The words that the program is given, its name first.
+fn given(alloc: Global, words: &str) -> Result<Vec<String>, AllocError> {
+    let mut given = Vec::new(alloc);
+    push_word(alloc, &mut given, "demosmp")?;
+    if !words.is_empty() {
+        for word in words.split(' ') {
+            push_word(alloc, &mut given, word)?;
+        }
+    }
+    Ok(given)
+}
+
+/// Adds a word.
+fn push_word(alloc: Global, words: &mut Vec<String>, word: &str) -> Result<(), AllocError> {
+    words.push(String::from_str(alloc, word)?)?;
+    Ok(())
+}
