@@ -193,13 +193,28 @@ fn say_ended(rt: &HostRuntime, name: &str, failing: Failing, ended: &Ended) -> i
 /// writes before it took. Each call fails in turn.
 fn fail_bytes(rt: &HostRuntime, tried: &Tried, whole: &[u8]) -> Result<()> {
     let calm = calm_by_byte(rt, tried, whole)?;
-    let (name, reads, writes, same) = (tried.name, calm.reads, calm.writes, calm.same);
-    println!(rt; "{name}, one byte a call: {reads} reads, {writes} writes, the same: {same}")?;
-    let same = fail_reads(rt, tried, whole, reads)? && same;
-    println!(rt; "{name}, one byte a call: each read that fails leaves nothing: {same}")?;
-    let same = fail_writes(rt, tried, whole, writes)? && same;
-    println!(rt; "{name}, one byte a call: each write that fails leaves what came before: {same}")?;
+    say_calm(rt, tried.name, calm)?;
+    let same = fail_reads(rt, tried, whole, calm.reads)? && calm.same;
+    say_same(rt, tried.name, "read that fails leaves nothing", same)?;
+    let same = fail_writes(rt, tried, whole, calm.writes)? && same;
+    say_same(
+        rt,
+        tried.name,
+        "write that fails leaves what came before",
+        same,
+    )?;
     Ok(())
+}
+
+/// Says what a command does with one byte a call.
+fn say_calm(rt: &HostRuntime, name: &str, calm: Calm) -> io::Result<()> {
+    let (reads, writes, same) = (calm.reads, calm.writes, calm.same);
+    println!(rt; "{name}, one byte a call: {reads} reads, {writes} writes, the same: {same}")
+}
+
+/// Says whether each call that fails left what it must.
+fn say_same(rt: &HostRuntime, name: &str, each: &str, same: bool) -> io::Result<()> {
+    println!(rt; "{name}, one byte a call: each {each}: {same}")
 }
 
 /// What a command does with one byte a call.

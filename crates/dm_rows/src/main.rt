@@ -13,7 +13,7 @@ use failing::fail_in_turn;
 use others::{read_files, say_errors, step_flat, write_out};
 use row::Row;
 use run::{Ending, Run};
-use std::fs;
+use std::{fs, io};
 
 fn main(rt: HostRuntime) -> Result<()> {
     show_tables(&rt)?;
@@ -72,9 +72,14 @@ fn show_row(rt: &HostRuntime, line: &str, good: &[Run<'_>]) -> Result<()> {
     } else {
         "NOT shown"
     };
-    let (name, run, number) = (row.name, row.run, row.number());
-    println!(rt; "row {name}: {verdict} by {run}, line {number}")?;
+    say_row(rt, &row, verdict)?;
     Ok(())
+}
+
+/// Says of a row whether its run shows it.
+fn say_row(rt: &HostRuntime, row: &Row<'_>, verdict: &str) -> io::Result<()> {
+    let (name, run, number) = (row.name, row.run, row.number());
+    println!(rt; "row {name}: {verdict} by {run}, line {number}")
 }
 
 /// Whether a line of a table is neither empty nor a remark.

@@ -69,10 +69,16 @@ const TRACE_FAULTS: [TraceFault; 4] = [
 /// Reads two files of data/ in turn, and one that isn't there.
 pub fn read_files(rt: &HostRuntime) -> Result<()> {
     let mut shelf = RealShelf::new(rt);
+    say_reads(rt, &mut shelf)?;
+    say_faults(rt, "read", shelf.faults())?;
+    Ok(())
+}
+
+/// Does the reads in turn.
+fn say_reads<F: Shelf>(rt: &HostRuntime, shelf: &mut F) -> io::Result<()> {
     for (name, from) in &READS {
-        say_read(rt, &mut shelf, name, *from)?;
+        say_read(rt, shelf, name, *from)?;
     }
-    println!(rt; "read faults: {}", shelf.faults())?;
     Ok(())
 }
 
@@ -88,11 +94,21 @@ fn say_read<F: Shelf>(rt: &HostRuntime, shelf: &mut F, name: &str, from: u64) ->
 /// Writes a line, and nothing.
 pub fn write_out(rt: &HostRuntime) -> Result<()> {
     let mut sink = RealSink::new(io::writer(rt));
+    say_writes(rt, &mut sink)?;
+    say_faults(rt, "write", sink.faults())?;
+    Ok(())
+}
+
+/// Does both writes, and says what came of them.
+fn say_writes<K: Sink>(rt: &HostRuntime, sink: &mut K) -> io::Result<()> {
     let line = sink.write(b"a line of the real sink\n");
     let nothing = sink.write(b"");
-    println!(rt; "written: {line:?}, {nothing:?}")?;
-    println!(rt; "write faults: {}", sink.faults())?;
-    Ok(())
+    println!(rt; "written: {line:?}, {nothing:?}")
+}
+
+/// How many calls of a kind were faults.
+fn say_faults(rt: &HostRuntime, of: &str, faults: u64) -> io::Result<()> {
+    println!(rt; "{of} faults: {faults}")
 }
 
 /// Four instructions over a flat memory.
@@ -131,6 +147,7 @@ pub fn say_errors(rt: &HostRuntime) -> Result<()> {
     Ok(())
 }
 
+/// Each error of a packet.
 fn say_packet_errors(rt: &HostRuntime) -> io::Result<()> {
     for bad in &PACKET_ERRORS {
         say_numbered(rt, "packet", bad.number(), bad)?;
@@ -138,6 +155,7 @@ fn say_packet_errors(rt: &HostRuntime) -> io::Result<()> {
     Ok(())
 }
 
+/// Each error of state bytes.
 fn say_state_errors(rt: &HostRuntime) -> io::Result<()> {
     for bad in &STATE_ERRORS {
         say_numbered(rt, "state bytes", bad.number(), bad)?;
@@ -145,6 +163,7 @@ fn say_state_errors(rt: &HostRuntime) -> io::Result<()> {
     Ok(())
 }
 
+/// Each fault of a line of a schedule.
 fn say_line_faults(rt: &HostRuntime) -> io::Result<()> {
     for fault in &LINE_FAULTS {
         let refused = ScheduleError::Refused {
@@ -156,6 +175,7 @@ fn say_line_faults(rt: &HostRuntime) -> io::Result<()> {
     Ok(())
 }
 
+/// Each fault of a line of a trace.
 fn say_trace_faults(rt: &HostRuntime) -> io::Result<()> {
     for fault in &TRACE_FAULTS {
         let refused = CheckError::Refused {
