@@ -1,5 +1,7 @@
 //! The operands of an instruction or directive.
-ghost use Rattle.std.specs.Prelude.{◌≡◌, ◌<◌, ◌≤◌, ◌^◌, ◌/◌, ◌%◌, IfOk};
+ghost use Rattle.std.specs.Prelude.{◌≡◌, ◌<◌, ◌≤◌, ◌^◌, ◌/◌, ◌%◌, IfOk, List, ℕ, Option};
+ghost use Rattle.dm_asm.specs.declared.forms.Shape.TheVariants as shape;
+ghost use Rattle.dm_asm.specs.declared.labels.Place.{Place};
 ghost use Rattle.dm_asm.specs.Labels.{place_in};
 ghost use Rattle.dm_asm.specs.Lines.{source_words};
 ghost use Rattle.dm_asm.specs.Numbers.{literal_value};
@@ -146,48 +148,89 @@ fn two_bytes(n: u32) -> (u8, u8)
 }
 
 /// The three last bytes of an instruction at an address.
-#[tactic(auto, unfolding(crate::specs::Operands::fields))]
 pub fn last_bytes(labels: &Labels, at: usize, shape: Shape, rest: &[u8]) -> Result<[u8; 3], Why>
     ensures { result ≡ fields (place_in labels.now) at shape (source_words rest.now) }
 {
     match shape {
-        Shape::RegisterValue => {
-            let (a, rest) = next_register(rest)?;
-            let (n, _) = next_value(labels, rest, 65_535)?;
-            let (high, low) = two_bytes(n);
-            Ok([a, high, low])
-        }
-        Shape::TwoRegisters => {
-            let (a, rest) = next_register(rest)?;
-            let (b, _) = next_register(rest)?;
-            Ok([a, b, 0])
-        }
-        Shape::ThreeRegisters => {
-            let (a, rest) = next_register(rest)?;
-            let (b, rest) = next_register(rest)?;
-            let (c, _) = next_register(rest)?;
-            Ok([a, b, c])
-        }
-        Shape::Access => {
-            let (a, rest) = next_register(rest)?;
-            let (b, rest) = next_register(rest)?;
-            let (n, _) = next_number(rest, 255)?;
-            Ok([a, b, n as u8])
-        }
-        Shape::Jump => {
-            let (n, _) = next_value(labels, rest, 65_535)?;
-            let (high, low) = two_bytes(n);
-            Ok([0, high, low])
-        }
-        Shape::Branch => {
-            let (a, rest) = next_register(rest)?;
-            let (b, rest) = next_register(rest)?;
-            let (d, _) = next_target(labels, rest, at)?;
-            Ok([a, b, d])
-        }
-        Shape::Call => {
-            let (n, _) = next_number(rest, 255)?;
-            Ok([0, 0, n as u8])
-        }
+        Shape::RegisterValue => register_value(labels, rest),
+        Shape::TwoRegisters => two_registers(rest),
+        Shape::ThreeRegisters => three_registers(rest),
+        Shape::Access => access(rest),
+        Shape::Jump => jump(labels, rest),
+        Shape::Branch => branch(labels, at, rest),
+        Shape::Call => call(rest),
     }
+}
+
+/// A register, and a number or the address of a label.
+#[tactic(auto, unfolding(crate::specs::Operands::fields))]
+fn register_value(labels: &Labels, rest: &[u8]) -> Result<[u8; 3], Why>
+    ensures { (n : ℕ) → result ≡ fields (place_in labels.now) n shape.RegisterValue (source_words rest.now) }
+{
+    let (a, rest) = next_register(rest)?;
+    let (n, _) = next_value(labels, rest, 65_535)?;
+    let (high, low) = two_bytes(n);
+    Ok([a, high, low])
+}
+
+/// Two registers.
+#[tactic(auto, unfolding(crate::specs::Operands::fields))]
+fn two_registers(rest: &[u8]) -> Result<[u8; 3], Why>
+    ensures { (places : List ℕ → Option Place) (n : ℕ) → result ≡ fields places n shape.TwoRegisters (source_words rest.now) }
+{
+    let (a, rest) = next_register(rest)?;
+    let (b, _) = next_register(rest)?;
+    Ok([a, b, 0])
+}
+
+/// Three registers.
+#[tactic(auto, unfolding(crate::specs::Operands::fields))]
+fn three_registers(rest: &[u8]) -> Result<[u8; 3], Why>
+    ensures { (places : List ℕ → Option Place) (n : ℕ) → result ≡ fields places n shape.ThreeRegisters (source_words rest.now) }
+{
+    let (a, rest) = next_register(rest)?;
+    let (b, rest) = next_register(rest)?;
+    let (c, _) = next_register(rest)?;
+    Ok([a, b, c])
+}
+
+/// Two registers, and a distance from the second's address.
+#[tactic(auto, unfolding(crate::specs::Operands::fields))]
+fn access(rest: &[u8]) -> Result<[u8; 3], Why>
+    ensures { (places : List ℕ → Option Place) (n : ℕ) → result ≡ fields places n shape.Access (source_words rest.now) }
+{
+    let (a, rest) = next_register(rest)?;
+    let (b, rest) = next_register(rest)?;
+    let (n, _) = next_number(rest, 255)?;
+    Ok([a, b, n as u8])
+}
+
+/// A number or the address of a label.
+#[tactic(auto, unfolding(crate::specs::Operands::fields))]
+fn jump(labels: &Labels, rest: &[u8]) -> Result<[u8; 3], Why>
+    ensures { (n : ℕ) → result ≡ fields (place_in labels.now) n shape.Jump (source_words rest.now) }
+{
+    let (n, _) = next_value(labels, rest, 65_535)?;
+    let (high, low) = two_bytes(n);
+    Ok([0, high, low])
+}
+
+/// Two registers, and how far away a label is.
+#[tactic(auto, unfolding(crate::specs::Operands::fields))]
+fn branch(labels: &Labels, at: usize, rest: &[u8]) -> Result<[u8; 3], Why>
+    ensures { result ≡ fields (place_in labels.now) at shape.Branch (source_words rest.now) }
+{
+    let (a, rest) = next_register(rest)?;
+    let (b, rest) = next_register(rest)?;
+    let (d, _) = next_target(labels, rest, at)?;
+    Ok([a, b, d])
+}
+
+/// The number of a call.
+#[tactic(auto, unfolding(crate::specs::Operands::fields))]
+fn call(rest: &[u8]) -> Result<[u8; 3], Why>
+    ensures { (places : List ℕ → Option Place) (n : ℕ) → result ≡ fields places n shape.Call (source_words rest.now) }
+{
+    let (n, _) = next_number(rest, 255)?;
+    Ok([0, 0, n as u8])
 }
