@@ -3,13 +3,14 @@ ghost use Rattle.std.specs.Prelude.{◌≡◌, ◌⊎◌, ◌==◌, None, replic
 ghost use Rattle.dm_packet.specs.Field.{number, version};
 ghost use Rattle.dm_packet.specs.Fields.{len_from};
 ghost use Rattle.dm_packet.specs.Reads.{Reads};
-ghost use Rattle.dm_statebytes.specs.Shell.{blocks, read_shell, registers, regs, shell, shell_of_bytes};
+ghost use Rattle.dm_statebytes.specs.Shell.{blocks, front, read_shell, registers, regs, shell, shell_of_bytes};
 ghost use Rattle.dm_statebytes.specs.Statuses.{direction, left_from, moving, read_status, status, status_kind, waiting};
 ghost use Rattle.dm_statebytes.specs.Table.{mask, read_slots, table};
 
 use crate::status::StatusKind;
 use crate::{Shell, StateBytesError, rule_of};
 use byteorder::{BigEndian, ByteOrder};
+use dm_link::Pid;
 use dm_linktable::{FEW_SLOTS, MOST_SLOTS, Table};
 use dm_packet::PacketError;
 use dm_packet::reading::fields::{addr_at, byte_at, link_at, pid_at, u16_at, u32_at};
@@ -202,13 +203,14 @@ fn version_at(bytes: &[u8]) -> Result<(u8, &[u8]), PacketError>
     Ok((version, rest))
 }
 
-/// A process with a table of so many slots, which is empty yet.
-fn shell_at(bytes: &[u8], cap: u8, empty: Table) -> Result<(Shell, &[u8]), PacketError>
-    requires cap { (cap ≡ FEW_SLOTS) ⊎ (cap ≡ MOST_SLOTS) }
-    requires empty { empty ≡ replicate cap None }
-    ensures { Reads result ((shell cap).read bytes.now) }
+/// What stands before the links: the version, the name, the blocks, whether it is stopped, the status, how many messages it
+/// has sent and how often it has moved, and the registers.
+type Front = (u8, (Pid, (u16, (bool, (Status, (u32, (u32, Regs)))))));
+
+fn front_at(bytes: &[u8]) -> Result<(Front, &[u8]), PacketError>
+    ensures { Reads result (front.read bytes.now) }
 {
-    let (_, rest) = version_at(bytes)?;
+    let (version, rest) = version_at(bytes)?;
     let (pid, rest) = pid_at(rest)?;
     let (blocks, rest) = blocks_at(rest)?;
     let (stopped, rest) = yes_or_no_at(rest, PacketError::Flags)?;
@@ -216,7 +218,22 @@ fn shell_at(bytes: &[u8], cap: u8, empty: Table) -> Result<(Shell, &[u8]), Packe
     let (sent, rest) = u32_at(rest)?;
     let (moves, rest) = u32_at(rest)?;
     let (regs, rest) = regs_at(rest)?;
+    let front = (
+        version,
+        (pid, (blocks, (stopped, (status, (sent, (moves, regs)))))),
+    );
+    Ok((front, rest))
+}
+
+/// A process with a table of so many slots, which is empty yet.
+fn shell_at(bytes: &[u8], cap: u8, empty: Table) -> Result<(Shell, &[u8]), PacketError>
+    requires cap { (cap ≡ FEW_SLOTS) ⊎ (cap ≡ MOST_SLOTS) }
+    requires empty { empty ≡ replicate cap None }
+    ensures { Reads result ((shell cap).read bytes.now) }
+{
+    let (front, rest) = front_at(bytes)?;
     let (table, rest) = table_at(rest, cap, empty)?;
+    let (_, (pid, (blocks, (stopped, (status, (sent, (moves, regs))))))) = front;
     let shell = Shell {
         pid,
         blocks,
