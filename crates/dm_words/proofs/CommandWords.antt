@@ -1,16 +1,19 @@
 -- The words, as the command takes them.
 use Rattle.dm_words.proofs.Names.{◌≡◌, List, [], ◌∷◌, codes, true, false, arith, refl, ap, sym, subst, ◌∙◌, None, if◌then◌else◌, option_map, ap₂, ne_eqb, option_and_then, Option, App, HasMatchesOf, Kinds, Text, fault_of, first_value}
 use Rattle.dm_words.proofs.Names.{is_simple, is_simple_and_free, rows_of, subcommand_of, subcommand_rows_of, Row, first_of, is_empty, ArgMatches, Found, clap_on_literals, first_value-rows, explain_request, explaining, both_files, two_files}
-use Rattle.dm_words.proofs.Names.{Request, demosmp, request_at, request_of, Some}
+use Rattle.dm_words.proofs.Names.{Bool, ◌&&◌, built, is_free_app, Request, demosmp, request_at, request_of, Some}
 
 -- no option of the command has a rule on another
 is_free : is_simple_and_free demosmp ≡ true
 unfolding clap_on_literals
 is_free = refl
 
+left_true : (a b : Bool) → (a && b) ≡ true → a ≡ true
+left_true true b e = refl
+left_true false b e = e
+
 is_plain : is_simple demosmp ≡ true
-unfolding clap_on_literals
-is_plain = refl
+is_plain = left_true (is_simple demosmp) (is_free_app (built demosmp)) is_free
 
 -- what is asked for, by what fails
 abbrev asked_by : List Text → Kinds → Option Request

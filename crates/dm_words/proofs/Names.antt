@@ -2,7 +2,7 @@
 unfoldable pub use Rattle.clap.proofs.OnLiterals.{clap_on_literals}
 pub use Rattle.clap.proofs.WalkLemmas.{first_value-rows}
 pub use Rattle.clap.specs.Facts.{explicit_source, unwrap_or_range}
-pub use Rattle.clap.specs.Faults.{action_fault, bundle_step_fault, check_fault, defaults_fault, entered_fault, flag_word_fault, level_fault, long_fault, option_fault, other_fault, positional_fault, react_fault, settle_fault, short_fault}
+pub use Rattle.clap.specs.Faults.{action_fault, bundle_step_fault, check_fault, defaults_fault, entered_fault, flag_word_fault, is_free_app, level_fault, long_fault, option_fault, other_fault, positional_fault, react_fault, settle_fault, short_fault}
 pub use Rattle.clap.specs.Faults.{step_fault, stray_fault, use_fault, word_fault}
 unfoldable pub use Rattle.clap.specs.Faults.{flags_fault, walk_fault}
 pub use Rattle.clap.specs.Kinds.{check_kinds, or_else, range_kinds}
@@ -23,7 +23,7 @@ pub use Rattle.clap.specs.declared.parser.matches.ValueSource.TheVariants.{Comma
 pub use Rattle.std.proofs.Common.{ap₂}
 pub use Rattle.std.proofs.lemmas.Result.{IfOk-weaker}
 pub use Rattle.std.specs.Option.{option_map_or}
-pub use Rattle.std.specs.Prelude.{encode_utf8, find, fold, option_and_then, option_map, ⊤}
+pub use Rattle.std.specs.Prelude.{IfOk, encode_utf8, find, fold, option_and_then, option_map, ⊤}
 pub use Rattle.std.specs.Str.{chars}
 pub use Rattle.dm_memory.specs.Clap.{FailsBy}
 pub use Rattle.dm_memory.specs.declared.of_clap.MatchesError.{MatchesError}
@@ -32,13 +32,13 @@ pub use Rattle.dm_linktable.proofs.Names.{map, rules, subst, ◌&&◌}
 pub use Rattle.dm_schedule.proofs.Names.{codes, if◌then◌else◌, not}
 pub use Rattle.dm_draw.proofs.Names.{inl, inr, ◌⊎◌}
 pub use Rattle.dm_process.proofs.Names.{slice_get}
-pub use Rattle.dm_text.proofs.Names.{Err, Option, ne_eqb, ◌||◌}
+pub use Rattle.dm_text.proofs.Names.{Err, Ok, Option, ne_eqb, ◌||◌}
 pub use Rattle.dm_shape.proofs.Imports.{bytes_eq, is_some}
 pub use Rattle.dm_words.specs.ChartWords.{chart_command}
 pub use Rattle.dm_words.specs.CheckWords.{check_command}
-pub use Rattle.dm_words.specs.DrillWords.{drawn_by, drill_command, flag_option, lines_asked, machines_asked, number_option, seed_of, trace_of}
+pub use Rattle.dm_words.specs.DrillWords.{drawn_by, drill_command, lines_asked, machines_asked, number_option, seed_of, trace_of}
 pub use Rattle.dm_words.specs.ExplainWords.{explain_command, explain_request, explaining}
-pub use Rattle.dm_words.specs.FileWords.{both_files, file_option, free_option, two_files}
+pub use Rattle.dm_words.specs.FileWords.{both_files, file_option, two_files}
 pub use Rattle.dm_words.specs.Request.{Chart, Check, Drill, Explain, Request, Run}
 pub use Rattle.dm_words.specs.RunWords.{run_command}
-pub use Rattle.dm_words.specs.Words.{AreTaken, IsTaken, demosmp, request_at, request_of, request_said}
+pub use Rattle.dm_words.specs.Words.{AreTaken, HasShape, IsTaken, bare, demosmp, request_at, request_of, request_said}

@@ -1,14 +1,14 @@
 -- The words of the command `run`.
-use Rattle.std.specs.Prelude.{List, [], ◌∷◌, codes}
+use Rattle.std.specs.Prelude.{List, codes}
 use Rattle.std.specs.declared.option.Option.{Option}
 use Rattle.clap.specs.Walk.{Row}
-use Rattle.clap.specs.Simple.{Shape, new_shape}
-use Rattle.dm_words.specs.FileWords.{file_option, two_files}
+use Rattle.clap.specs.Simple.{Shape}
+use Rattle.dm_words.specs.FileWords.{file_command, two_files}
 use Rattle.dm_words.specs.Request.{Request, Run}
 
 -- `run --boot FILE --schedule FILE`
 abbrev pub run_command : Shape
-run_command = record (new_shape (codes "run")) { rules = file_option (codes "boot") ∷ file_option (codes "schedule") ∷ [] }
+run_command = file_command (codes "run") (codes "boot") (codes "schedule")
 
 -- what its matches ask for
 abbrev pub run_request : List Row → Option Request

@@ -4,8 +4,10 @@ use Rattle.std.specs.Str.{bytes_eq}
 use Rattle.std.specs.declared.option.Option.{Option}
 use Rattle.std.specs.declared.option.Option.TheVariants.{None, Some}
 use Rattle.clap.specs.Walk.{Row, is_empty}
-use Rattle.clap.specs.Simple.{App, Shape, new_shape, subcommand_of, with_subcommand}
+use Rattle.clap.specs.Simple.{App, Shape, app_of, new_shape, subcommand_of, with_subcommand}
 use Rattle.clap.specs.Faults.{fault_of}
+use Rattle.clap.specs.Built.{AddsSubcommand}
+use Rattle.clap.specs.declared.builder.command.Command.{Command as TheCommand}
 use Rattle.dm_words.specs.declared.words.Request.{Request as TheRequest}
 use Rattle.dm_words.specs.declared.words.Request.TheVariants as the
 use Rattle.dm_words.specs.Request.{Request, Chart, Check, Drill, Explain, Run}
@@ -38,9 +40,17 @@ abbrev pub with_commands : App → List Command → App
 with_commands a [] = a
 with_commands a (c ∷ cs) = with_commands (with_subcommand a c.shape) cs
 
--- `demosmp COMMAND ..`, with no other word in place of a command
+-- `demosmp`, before its commands, with no other word in place of one
+abbrev pub bare : App
+bare = record { top = record (new_shape (codes "demosmp")) { disable_help_subcommand = true; subcommand_required = true }; subs = [] }
+
+-- `demosmp COMMAND ..`
 abbrev pub demosmp : App
-demosmp = with_commands (record { top = record (new_shape (codes "demosmp")) { disable_help_subcommand = true; subcommand_required = true }; subs = [] }) commands
+demosmp = with_commands bare commands
+
+-- whatever command line takes the command in has this shape behind its others
+abbrev pub HasShape : Shape → TheCommand → Type 0
+HasShape shape c = (old new : TheCommand) → AddsSubcommand old c new → app_of new ≡ with_subcommand (app_of old) shape
 
 -- what the matches of the command of this name ask for
 abbrev pub request_in : List Command → List ℕ → List Row → Option Request

@@ -1,17 +1,16 @@
 //! The words of the command line, and what they ask for.
 ghost use Rattle.std.specs.Prelude.{◌≡◌, ◌≤◌, map, option_and_then, option_map, false, Some, None, IfOk, IfErr, IfSome};
-ghost use Rattle.clap.specs.Built.{AddsSubcommand};
 ghost use Rattle.clap.specs.Words.{app_of, found_of, rows_of, rule_of, subcommand_rows_of, with_subcommand as with_shape};
-ghost use Rattle.clap.specs.declared.builder.command.Command.{Command as TheCommand};
+ghost use Rattle.clap.specs.Simple.{Shape};
 ghost use Rattle.dm_words.specs.Refused.{status_of_no};
-ghost use Rattle.dm_words.specs.CheckWords.{check_command as check_shape, check_request as check_asked};
+ghost use Rattle.dm_words.specs.CheckWords.{check_request as check_asked};
 ghost use Rattle.clap.specs.Walk.{first_of};
 ghost use Rattle.dm_words.specs.DrillWords.{drill_command as drill_shape, drill_request as drill_asked, flag_option, lines_in, lines_asked, machines_in, machines_asked, number_option, seed_of, trace_of};
-ghost use Rattle.dm_words.specs.ChartWords.{chart_command as chart_shape, chart_request as chart_asked};
+ghost use Rattle.dm_words.specs.ChartWords.{chart_request as chart_asked};
 ghost use Rattle.dm_words.specs.ExplainWords.{explain_command as explain_shape, explain_request as explain_asked};
-ghost use Rattle.dm_words.specs.FileWords.{file_option, free_option};
-ghost use Rattle.dm_words.specs.RunWords.{run_command as run_shape, run_request as run_asked};
-ghost use Rattle.dm_words.specs.Words.{IsInRange, IsTaken, demosmp, request_at, request_of, request_said};
+ghost use Rattle.dm_words.specs.FileWords.{file_command as file_shape, file_option, free_option};
+ghost use Rattle.dm_words.specs.RunWords.{run_request as run_asked};
+ghost use Rattle.dm_words.specs.Words.{HasShape, IsInRange, IsTaken, bare, demosmp, request_at, request_of, request_said};
 
 use clap::{Arg, ArgAction, ArgMatches, Command};
 use dm_draw::drill::Drill;
@@ -98,61 +97,64 @@ pub fn read_words<'a>(alloc: Global, words: &'a [&'a str]) -> Result<Request<'a>
 fn command<'a>(alloc: Global) -> Result<Command<'a>, NoMemory>
     ensures { IfOk result (λ c. app_of c ≡ demosmp) }
 {
-    let top = Command::new(alloc, "demosmp")
+    let one = with_command(bare(alloc), file_command(alloc, "run", "boot", "schedule"))?;
+    let two = with_command(one, file_command(alloc, "check", "boot", "trace"))?;
+    let three = with_command(two, file_command(alloc, "chart", "boot", "schedule"))?;
+    let four = with_command(three, explain_command(alloc))?;
+    with_command(four, drill_command(alloc))
+}
+
+/// The command line of the program, before its commands.
+fn bare<'a>(alloc: Global) -> Command<'a>
+    ensures { app_of result ≡ bare }
+{
+    Command::new(alloc, "demosmp")
         .disable_help_subcommand(true)
-        .subcommand_required(true);
-    let one = with_subcommand(top, run_command(alloc)?)?;
-    let two = with_subcommand(one, check_command(alloc)?)?;
-    let three = with_subcommand(two, chart_command(alloc)?)?;
-    let four = with_subcommand(three, explain_command(alloc)?)?;
-    with_subcommand(four, drill_command(alloc)?)
+        .subcommand_required(true)
 }
 
-/// The command `run`: whatever command line takes it in has its shape behind the others.
-fn run_command<'a>(alloc: Global) -> Result<Command<'a>, NoMemory>
-    ensures { IfOk result (λ c. (old new : TheCommand) → AddsSubcommand old c new → app_of new ≡ with_shape (app_of old) run_shape) }
+/// The command line with one more command, where memory was there to make that one.
+fn with_command<'a>(
+    line: Command<'a>,
+    made: Result<Command<'a>, NoMemory>,
+) -> Result<Command<'a>, NoMemory>
+    ensures { IfOk result (λ c. (shape : Shape) → IfOk made.entry (HasShape shape) → app_of c ≡ with_shape (app_of line.entry) shape) }
 {
-    let run = with_arg(Command::new(alloc, "run"), file(alloc, "boot"))?;
-    let run = with_arg(run, file(alloc, "schedule"))?;
-    Ok(run)
+    match made {
+        Ok(command) => with_subcommand(line, command),
+        Err(no) => Err(no),
+    }
 }
 
-/// The command `check`: whatever command line takes it in has its shape behind the others.
-fn check_command<'a>(alloc: Global) -> Result<Command<'a>, NoMemory>
-    ensures { IfOk result (λ c. (old new : TheCommand) → AddsSubcommand old c new → app_of new ≡ with_shape (app_of old) check_shape) }
+/// A command that names two files.
+fn file_command<'a>(
+    alloc: Global,
+    name: &'a str,
+    first: &'a str,
+    second: &'a str,
+) -> Result<Command<'a>, NoMemory>
+    ensures { IfOk result (HasShape (file_shape name.now first.now second.now)) }
 {
-    let check = with_arg(Command::new(alloc, "check"), file(alloc, "boot"))?;
-    let check = with_arg(check, file(alloc, "trace"))?;
-    Ok(check)
+    let command = with_arg(Command::new(alloc, name), file(alloc, first))?;
+    with_arg(command, file(alloc, second))
 }
 
-/// The command `chart`: whatever command line takes it in has its shape behind the others.
-fn chart_command<'a>(alloc: Global) -> Result<Command<'a>, NoMemory>
-    ensures { IfOk result (λ c. (old new : TheCommand) → AddsSubcommand old c new → app_of new ≡ with_shape (app_of old) chart_shape) }
-{
-    let chart = with_arg(Command::new(alloc, "chart"), file(alloc, "boot"))?;
-    let chart = with_arg(chart, file(alloc, "schedule"))?;
-    Ok(chart)
-}
-
-/// The command `explain`: whatever command line takes it in has its shape behind the others.
+/// The command `explain`.
 fn explain_command<'a>(alloc: Global) -> Result<Command<'a>, NoMemory>
-    ensures { IfOk result (λ c. (old new : TheCommand) → AddsSubcommand old c new → app_of new ≡ with_shape (app_of old) explain_shape) }
+    ensures { IfOk result (HasShape explain_shape) }
 {
     let explain = with_arg(Command::new(alloc, "explain"), file(alloc, "boot"))?;
-    let explain = with_arg(explain, free(alloc, "schedule"))?;
-    Ok(explain)
+    with_arg(explain, free(alloc, "schedule"))
 }
 
-/// The command `drill`: whatever command line takes it in has its shape behind the others.
+/// The command `drill`.
 fn drill_command<'a>(alloc: Global) -> Result<Command<'a>, NoMemory>
-    ensures { IfOk result (λ c. (old new : TheCommand) → AddsSubcommand old c new → app_of new ≡ with_shape (app_of old) drill_shape) }
+    ensures { IfOk result (HasShape drill_shape) }
 {
     let drill = with_arg(Command::new(alloc, "drill"), number(alloc, "seed"))?;
     let drill = with_arg(drill, number(alloc, "machines"))?;
     let drill = with_arg(drill, number(alloc, "lines"))?;
-    let drill = with_arg(drill, flag(alloc, "trace"))?;
-    Ok(drill)
+    with_arg(drill, flag(alloc, "trace"))
 }
 
 /// The option `--name FILE`, which has to be there.
