@@ -4,6 +4,7 @@ use Rattle.dm_shape.proofs.Imports.{AllFit, EndFits, left_out, link_row, message
 use Rattle.dm_line.specs.declared.end_line.Doing.TheVariants as doing
 use Rattle.dm_line.specs.declared.end_line.EndLine.TheVariants as end
 use Rattle.dm_shape.specs.declared.shape.Shape.TheVariants as shape
+use Rattle.dm_shape.specs.declared.shape.EndShape.TheVariants as end_shape
 use Rattle.dm_shape.specs.declared.sort.Sort.TheVariants as sort
 use Rattle.dm_shape.proofs.Listed.{has_row, listed}
 use Rattle.dm_shape.proofs.WordsFit.{machine_fits, number_fits, process_fits, message_fits, groups_fit, small_fits, why_fits, at_fits, moves_fits, code_fits, channel_fits, area_fits, ended_fits, ready_fits, waiting_fits, moving_fits, standing_fits, go_fits, link_kind_fits, rights_fit, direction_fits, block_fits, name_fits}
@@ -45,9 +46,9 @@ ids_fit [] h l = absurd (omega arith)
 ids_fit (i ∷ is) h l = are_messages (i ∷ is) h
 
 pub end_has_row : (e : EndLine) → EndFits e → IsFull e → has_row (end_words e) ≡ true
-end_has_row end.Final h f = listed (λ x. is_row (row_of x) (end_words end.Final)) shape.Final (refl)
-end_has_row (end.Ended p y) h f = listed (λ x. is_row (row_of x) (end_words (end.Ended p y))) shape.Ended (rw (process_fits p h.1.0, ended_fits, why_fits y) refl)
-end_has_row (end.Process p m s doing.Ready go sent) h f = listed (λ x. is_row (row_of x) (end_words (end.Process p m s doing.Ready go sent))) shape.Ready (rw (
+end_has_row end.Final h f = listed (λ x. is_row (row_of x) (end_words end.Final)) (shape.End end_shape.Final) (refl)
+end_has_row (end.Ended p y) h f = listed (λ x. is_row (row_of x) (end_words (end.Ended p y))) (shape.End end_shape.Ended) (rw (process_fits p h.1.0, ended_fits, why_fits y) refl)
+end_has_row (end.Process p m s doing.Ready go sent) h f = listed (λ x. is_row (row_of x) (end_words (end.Process p m s doing.Ready go sent))) (shape.End end_shape.Ready) (rw (
   process_fits p h.1.0,
   at_fits,
   machine_fits m h.1.1.1.0,
@@ -56,7 +57,7 @@ end_has_row (end.Process p m s doing.Ready go sent) h f = listed (λ x. is_row (
   go_fits go,
   number_fits sent h.1.1.1.1.1.1.1.0,
 ) refl)
-end_has_row (end.Process p m s (doing.Waiting a b c) go sent) h f = listed (λ x. is_row (row_of x) (end_words (end.Process p m s (doing.Waiting a b c) go sent))) shape.Waiting (rw (
+end_has_row (end.Process p m s (doing.Waiting a b c) go sent) h f = listed (λ x. is_row (row_of x) (end_words (end.Process p m s (doing.Waiting a b c) go sent))) (shape.End end_shape.Waiting) (rw (
   process_fits p h.1.0,
   at_fits,
   machine_fits m h.1.1.1.0,
@@ -68,7 +69,7 @@ end_has_row (end.Process p m s (doing.Waiting a b c) go sent) h f = listed (λ x
   go_fits go,
   number_fits sent h.1.1.1.1.1.1.1.1.1.1.0,
 ) refl)
-end_has_row (end.Process p m s (doing.Moving d q a b c) go sent) h f = listed (λ x. is_row (row_of x) (end_words (end.Process p m s (doing.Moving d q a b c) go sent))) shape.Moving (rw (
+end_has_row (end.Process p m s (doing.Moving d q a b c) go sent) h f = listed (λ x. is_row (row_of x) (end_words (end.Process p m s (doing.Moving d q a b c) go sent))) (shape.End end_shape.Moving) (rw (
   process_fits p h.1.0,
   at_fits,
   machine_fits m h.1.1.1.0,
@@ -82,15 +83,15 @@ end_has_row (end.Process p m s (doing.Moving d q a b c) go sent) h f = listed (�
   go_fits go,
   number_fits sent h.1.1.1.1.1.1.1.1.1.1.1.1.0,
 ) refl)
-end_has_row (end.Registers p r pc) h f = listed (λ x. is_row (row_of x) (end_words (end.Registers p r pc))) shape.Registers (rw (process_fits p h.1.0, numbers_fit (length r ≡ 16) 16 pc r (left_out (length r ≡ 16) r pc h.1.1) h.1.1) refl)
-end_has_row (end.Memory p k bytes) h f = listed (λ x. is_row (row_of x) (end_words (end.Memory p k bytes))) shape.Memory (rw (process_fits p h.1.0, small_fits k h.1.1.0, block_fits bytes.items h.1.1.1.0 f.0 f.1 f.2) refl)
-end_has_row (end.Link p slot l) h f = listed (λ x. is_row (row_of x) (end_words (end.Link p slot l))) shape.Link (rw (process_fits p h.1.0, small_fits slot h.1.1.0, link_fits l h.1.1.1) refl)
-end_has_row (end.Server p sent) h f = listed (λ x. is_row (row_of x) (end_words (end.Server p sent))) shape.Server (rw (process_fits p h.1.0, number_fits sent h.1.1.0) refl)
-end_has_row (end.Name name l) h f = listed (λ x. is_row (row_of x) (end_words (end.Name name l))) shape.Name (rw (name_fits name.items h.1.0 f.0 f.1, link_fits l h.1.1) refl)
-end_has_row (end.Child n p m) h f = listed (λ x. is_row (row_of x) (end_words (end.Child n p m))) shape.Child (rw (number_fits n h.1.0, process_fits p h.1.1.0, at_fits, machine_fits m h.1.1.1.1.0) refl)
-end_has_row (end.Pending i) h f = listed (λ x. is_row (row_of x) (end_words (end.Pending i))) shape.Pending (rw (message_fits i h.1.0) refl)
-end_has_row (end.Queue p ids) h f = listed (λ x. is_row (row_of x) (end_words (end.Queue p ids))) shape.Queue (rw (process_fits p h.1.0, ids_fit ids h.1.1 f) refl)
-end_has_row (end.Holding m p ids) h f = listed (λ x. is_row (row_of x) (end_words (end.Holding m p ids))) shape.Holding (rw (machine_fits m h.1.0, process_fits p h.1.1.0, ids_fit ids h.1.1.1 f) refl)
-end_has_row (end.Inbox m ids) h f = listed (λ x. is_row (row_of x) (end_words (end.Inbox m ids))) shape.Inbox (rw (machine_fits m h.1.0, ids_fit ids h.1.1 f) refl)
-end_has_row (end.Stream a b ids) h f = listed (λ x. is_row (row_of x) (end_words (end.Stream a b ids))) shape.Stream (rw (machine_fits a h.1.0, machine_fits b h.1.1.0, ids_fit ids h.1.1.1 f) refl)
-end_has_row (end.Groups g) h f = listed (λ x. is_row (row_of x) (end_words (end.Groups g))) shape.Groups (rw (groups_fit g h.1.0) refl)
+end_has_row (end.Registers p r pc) h f = listed (λ x. is_row (row_of x) (end_words (end.Registers p r pc))) (shape.End end_shape.Registers) (rw (process_fits p h.1.0, numbers_fit (length r ≡ 16) 16 pc r (left_out (length r ≡ 16) r pc h.1.1) h.1.1) refl)
+end_has_row (end.Memory p k bytes) h f = listed (λ x. is_row (row_of x) (end_words (end.Memory p k bytes))) (shape.End end_shape.Memory) (rw (process_fits p h.1.0, small_fits k h.1.1.0, block_fits bytes.items h.1.1.1.0 f.0 f.1 f.2) refl)
+end_has_row (end.Link p slot l) h f = listed (λ x. is_row (row_of x) (end_words (end.Link p slot l))) (shape.End end_shape.Link) (rw (process_fits p h.1.0, small_fits slot h.1.1.0, link_fits l h.1.1.1) refl)
+end_has_row (end.Server p sent) h f = listed (λ x. is_row (row_of x) (end_words (end.Server p sent))) (shape.End end_shape.Server) (rw (process_fits p h.1.0, number_fits sent h.1.1.0) refl)
+end_has_row (end.Name name l) h f = listed (λ x. is_row (row_of x) (end_words (end.Name name l))) (shape.End end_shape.Name) (rw (name_fits name.items h.1.0 f.0 f.1, link_fits l h.1.1) refl)
+end_has_row (end.Child n p m) h f = listed (λ x. is_row (row_of x) (end_words (end.Child n p m))) (shape.End end_shape.Child) (rw (number_fits n h.1.0, process_fits p h.1.1.0, at_fits, machine_fits m h.1.1.1.1.0) refl)
+end_has_row (end.Pending i) h f = listed (λ x. is_row (row_of x) (end_words (end.Pending i))) (shape.End end_shape.Pending) (rw (message_fits i h.1.0) refl)
+end_has_row (end.Queue p ids) h f = listed (λ x. is_row (row_of x) (end_words (end.Queue p ids))) (shape.End end_shape.Queue) (rw (process_fits p h.1.0, ids_fit ids h.1.1 f) refl)
+end_has_row (end.Holding m p ids) h f = listed (λ x. is_row (row_of x) (end_words (end.Holding m p ids))) (shape.End end_shape.Holding) (rw (machine_fits m h.1.0, process_fits p h.1.1.0, ids_fit ids h.1.1.1 f) refl)
+end_has_row (end.Inbox m ids) h f = listed (λ x. is_row (row_of x) (end_words (end.Inbox m ids))) (shape.End end_shape.Inbox) (rw (machine_fits m h.1.0, ids_fit ids h.1.1 f) refl)
+end_has_row (end.Stream a b ids) h f = listed (λ x. is_row (row_of x) (end_words (end.Stream a b ids))) (shape.End end_shape.Stream) (rw (machine_fits a h.1.0, machine_fits b h.1.1.0, ids_fit ids h.1.1.1 f) refl)
+end_has_row (end.Groups g) h f = listed (λ x. is_row (row_of x) (end_words (end.Groups g))) (shape.End end_shape.Groups) (rw (groups_fit g h.1.0) refl)

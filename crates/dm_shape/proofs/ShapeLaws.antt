@@ -6,6 +6,7 @@ use Rattle.dm_shape.proofs.Imports.{HeadsAreRead, has_shape, is_of_shape, is_row
 use Rattle.dm_schedule.specs.declared.Step.TheVariants as step
 use Rattle.dm_line.specs.declared.line.Line.TheVariants as line
 use Rattle.dm_shape.specs.declared.shape.Shape.TheVariants as shape
+use Rattle.dm_shape.specs.declared.shape.HeadShape.TheVariants as head_shape
 use Rattle.dm_shape.proofs.EndsFit.{end_has_row}
 use Rattle.dm_shape.proofs.LinesFit.{line_has_row}
 use Rattle.dm_shape.proofs.Listed.{has_row, listed}
@@ -67,13 +68,13 @@ some_is : {A : Type 0} (o : Option A) → is_some o ≡ true → (x : A) × (o �
 some_is None e = absurd (cc)
 some_is (Some x) e = (x, refl)
 
-turn_row : (ws : List (List ℕ)) (f : ℕ → Step) (e : Step) → of1 read_u8 f ws ≡ Some e → is_row (row_of shape.Turn) (codes "turn" ∷ ws) ≡ true
+turn_row : (ws : List (List ℕ)) (f : ℕ → Step) (e : Step) → of1 read_u8 f ws ≡ Some e → is_row (row_of (shape.Head head_shape.Turn)) (codes "turn" ∷ ws) ≡ true
 unfolding is_of
 turn_row [] f e h = absurd (cc)
 turn_row (x ∷ []) f e h = rw (made_here (Some f) (read_u8 x) e h) refl
 turn_row (x ∷ y ∷ zs) f e h = absurd (cc)
 
-tick_row : (ws : List (List ℕ)) (f : ℕ → Step) (e : Step) → of1 read_u8 f ws ≡ Some e → is_row (row_of shape.Tick) (codes "tick" ∷ ws) ≡ true
+tick_row : (ws : List (List ℕ)) (f : ℕ → Step) (e : Step) → of1 read_u8 f ws ≡ Some e → is_row (row_of (shape.Head head_shape.Tick)) (codes "tick" ∷ ws) ≡ true
 unfolding is_of
 tick_row [] f e h = absurd (cc)
 tick_row (x ∷ []) f e h = rw (made_here (Some f) (read_u8 x) e h) refl
@@ -85,7 +86,7 @@ migrating p m = step.Migrate p m
 abbrev delivering : ℕ → ℕ → ℕ → Step
 delivering a b k = step.Deliver a b k
 
-migrate_row : (ws : List (List ℕ)) (e : Step) → of2 read_pid read_u8 step.Migrate ws ≡ Some e → is_row (row_of shape.Migrate) (codes "migrate" ∷ ws) ≡ true
+migrate_row : (ws : List (List ℕ)) (e : Step) → of2 read_pid read_u8 step.Migrate ws ≡ Some e → is_row (row_of (shape.Head head_shape.Migrate)) (codes "migrate" ∷ ws) ≡ true
 unfolding is_of
 migrate_row [] e h = absurd (cc)
 migrate_row (x ∷ []) e h = absurd (cc)
@@ -95,7 +96,7 @@ migrate_row (x ∷ y ∷ []) e h =
     rw (made_here (Some migrating) (read_pid x) f is, m) refl
 migrate_row (x ∷ y ∷ z ∷ zs) e h = absurd (cc)
 
-deliver_row : (ws : List (List ℕ)) (e : Step) → of3 read_u8 read_u8 read_u64 step.Deliver ws ≡ Some e → is_row (row_of shape.Deliver) (codes "deliver" ∷ ws) ≡ true
+deliver_row : (ws : List (List ℕ)) (e : Step) → of3 read_u8 read_u8 read_u64 step.Deliver ws ≡ Some e → is_row (row_of (shape.Head head_shape.Deliver)) (codes "deliver" ∷ ws) ≡ true
 unfolding is_of
 deliver_row [] e h = absurd (cc)
 deliver_row (x ∷ []) e h = absurd (cc)
@@ -120,22 +121,22 @@ head_row w ws e h = turns (is w (codes "turn")) refl h
     go v e r = ap (λ (u : List ℕ). has_row (u ∷ ws)) e ∙ r
 
     migrates : (t : Bool) → is w (codes "migrate") ≡ t → (if t then of2 read_pid read_u8 step.Migrate ws else None) ≡ Some e → has_row (w ∷ ws) ≡ true
-    migrates true f k = go (codes "migrate") (named_so w (codes "migrate") f) (listed (λ x. is_row (row_of x) (codes "migrate" ∷ ws)) shape.Migrate (migrate_row ws e k))
+    migrates true f k = go (codes "migrate") (named_so w (codes "migrate") f) (listed (λ x. is_row (row_of x) (codes "migrate" ∷ ws)) (shape.Head head_shape.Migrate) (migrate_row ws e k))
     migrates false f k = absurd (cc)
 
     delivers : (t : Bool) → is w (codes "deliver") ≡ t → (if t then of3 read_u8 read_u8 read_u64 step.Deliver ws else if is w (codes "migrate") then of2 read_pid read_u8 step.Migrate ws else None) ≡ Some e → has_row (w ∷ ws) ≡ true
-    delivers true f k = go (codes "deliver") (named_so w (codes "deliver") f) (listed (λ x. is_row (row_of x) (codes "deliver" ∷ ws)) shape.Deliver (deliver_row ws e k))
+    delivers true f k = go (codes "deliver") (named_so w (codes "deliver") f) (listed (λ x. is_row (row_of x) (codes "deliver" ∷ ws)) (shape.Head head_shape.Deliver) (deliver_row ws e k))
     delivers false f k = migrates (is w (codes "migrate")) refl k
 
     ticks : (t : Bool) → is w (codes "tick") ≡ t
         → (if t then of1 read_u8 step.Tick ws else if is w (codes "deliver") then of3 read_u8 read_u8 read_u64 step.Deliver ws else if is w (codes "migrate") then of2 read_pid read_u8 step.Migrate ws else None) ≡ Some e → has_row (w ∷ ws) ≡ true
-    ticks true f k = go (codes "tick") (named_so w (codes "tick") f) (listed (λ x. is_row (row_of x) (codes "tick" ∷ ws)) shape.Tick (tick_row ws step.Tick e k))
+    ticks true f k = go (codes "tick") (named_so w (codes "tick") f) (listed (λ x. is_row (row_of x) (codes "tick" ∷ ws)) (shape.Head head_shape.Tick) (tick_row ws step.Tick e k))
     ticks false f k = delivers (is w (codes "deliver")) refl k
 
     turns : (t : Bool) → is w (codes "turn") ≡ t
         → (if t then of1 read_u8 step.Turn ws else if is w (codes "tick") then of1 read_u8 step.Tick ws else if is w (codes "deliver") then of3 read_u8 read_u8 read_u64 step.Deliver ws else if is w (codes "migrate") then of2 read_pid read_u8 step.Migrate ws else None) ≡ Some e
         → has_row (w ∷ ws) ≡ true
-    turns true f k = go (codes "turn") (named_so w (codes "turn") f) (listed (λ x. is_row (row_of x) (codes "turn" ∷ ws)) shape.Turn (turn_row ws step.Turn e k))
+    turns true f k = go (codes "turn") (named_so w (codes "turn") f) (listed (λ x. is_row (row_of x) (codes "turn" ∷ ws)) (shape.Head head_shape.Turn) (turn_row ws step.Turn e k))
     turns false f k = ticks (is w (codes "tick")) refl k
 
 head_in_row : (ws : List (List ℕ)) (e : Step) → head_in ws ≡ Some e → has_row ws ≡ true

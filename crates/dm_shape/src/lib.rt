@@ -14,5 +14,5 @@ mod sort;
 pub mod split;
 mod table;
 
-pub use shape::{Shape, has_shape};
+pub use shape::{EndShape, GroupShape, HeadShape, KernelShape, Shape, has_shape};
 pub use sort::Sort;

@@ -14,12 +14,28 @@ use crate::split::split;
 /// The shape of a line.
 #[derive(Clone, Copy)]
 pub enum Shape {
-    // The heads of groups.
+    /// The head of a group.
+    Head(HeadShape),
+    /// A step of the kernel without machines.
+    Kernel(KernelShape),
+    /// Another line of a group.
+    Group(GroupShape),
+    /// A line at the end of a run.
+    End(EndShape),
+}
+
+/// The shape of the head of a group.
+#[derive(Clone, Copy)]
+pub enum HeadShape {
     Turn,
     Tick,
     Deliver,
     Migrate,
-    // Steps of the kernel without machines.
+}
+
+/// The shape of a step of the kernel without machines.
+#[derive(Clone, Copy)]
+pub enum KernelShape {
     Ran,
     Call,
     Send,
@@ -36,7 +52,11 @@ pub enum Shape {
     NoSpace,
     Asked,
     Answered,
-    // The other lines of groups.
+}
+
+/// The shape of another line of a group.
+#[derive(Clone, Copy)]
+pub enum GroupShape {
     Idle,
     Put,
     Packet,
@@ -59,7 +79,11 @@ pub enum Shape {
     Proto,
     NoChild,
     Pinned,
-    // The lines at the end of a run.
+}
+
+/// The shape of a line at the end of a run.
+#[derive(Clone, Copy)]
+pub enum EndShape {
     Final,
     Ended,
     Ready,
@@ -81,65 +105,65 @@ pub enum Shape {
 
 /// All shapes.
 const SHAPES: [Shape; 59] = [
-    Shape::Turn,
-    Shape::Tick,
-    Shape::Deliver,
-    Shape::Migrate,
-    Shape::Ran,
-    Shape::Call,
-    Shape::Send,
-    Shape::Wait,
-    Shape::Out,
-    Shape::End,
-    Shape::Receive,
-    Shape::Refuse,
-    Shape::Dropped,
-    Shape::Served,
-    Shape::Gone,
-    Shape::Took,
-    Shape::Created,
-    Shape::NoSpace,
-    Shape::Asked,
-    Shape::Answered,
-    Shape::Idle,
-    Shape::Put,
-    Shape::Packet,
-    Shape::Taken,
-    Shape::Old,
-    Shape::Early,
-    Shape::Acked,
-    Shape::Nothing,
-    Shape::Resent,
-    Shape::Queued,
-    Shape::Held,
-    Shape::Forwarded,
-    Shape::Updated,
-    Shape::Stage,
-    Shape::SentOn,
-    Shape::Lacks,
-    Shape::Stays,
-    Shape::Here,
-    Shape::NoMove,
-    Shape::Proto,
-    Shape::NoChild,
-    Shape::Pinned,
-    Shape::Final,
-    Shape::Ended,
-    Shape::Ready,
-    Shape::Waiting,
-    Shape::Moving,
-    Shape::Registers,
-    Shape::Memory,
-    Shape::Link,
-    Shape::Server,
-    Shape::Name,
-    Shape::Child,
-    Shape::Pending,
-    Shape::Queue,
-    Shape::Holding,
-    Shape::Inbox,
-    Shape::Stream,
-    Shape::Groups,
+    Shape::Head(HeadShape::Turn),
+    Shape::Head(HeadShape::Tick),
+    Shape::Head(HeadShape::Deliver),
+    Shape::Head(HeadShape::Migrate),
+    Shape::Kernel(KernelShape::Ran),
+    Shape::Kernel(KernelShape::Call),
+    Shape::Kernel(KernelShape::Send),
+    Shape::Kernel(KernelShape::Wait),
+    Shape::Kernel(KernelShape::Out),
+    Shape::Kernel(KernelShape::End),
+    Shape::Kernel(KernelShape::Receive),
+    Shape::Kernel(KernelShape::Refuse),
+    Shape::Kernel(KernelShape::Dropped),
+    Shape::Kernel(KernelShape::Served),
+    Shape::Kernel(KernelShape::Gone),
+    Shape::Kernel(KernelShape::Took),
+    Shape::Kernel(KernelShape::Created),
+    Shape::Kernel(KernelShape::NoSpace),
+    Shape::Kernel(KernelShape::Asked),
+    Shape::Kernel(KernelShape::Answered),
+    Shape::Group(GroupShape::Idle),
+    Shape::Group(GroupShape::Put),
+    Shape::Group(GroupShape::Packet),
+    Shape::Group(GroupShape::Taken),
+    Shape::Group(GroupShape::Old),
+    Shape::Group(GroupShape::Early),
+    Shape::Group(GroupShape::Acked),
+    Shape::Group(GroupShape::Nothing),
+    Shape::Group(GroupShape::Resent),
+    Shape::Group(GroupShape::Queued),
+    Shape::Group(GroupShape::Held),
+    Shape::Group(GroupShape::Forwarded),
+    Shape::Group(GroupShape::Updated),
+    Shape::Group(GroupShape::Stage),
+    Shape::Group(GroupShape::SentOn),
+    Shape::Group(GroupShape::Lacks),
+    Shape::Group(GroupShape::Stays),
+    Shape::Group(GroupShape::Here),
+    Shape::Group(GroupShape::NoMove),
+    Shape::Group(GroupShape::Proto),
+    Shape::Group(GroupShape::NoChild),
+    Shape::Group(GroupShape::Pinned),
+    Shape::End(EndShape::Final),
+    Shape::End(EndShape::Ended),
+    Shape::End(EndShape::Ready),
+    Shape::End(EndShape::Waiting),
+    Shape::End(EndShape::Moving),
+    Shape::End(EndShape::Registers),
+    Shape::End(EndShape::Memory),
+    Shape::End(EndShape::Link),
+    Shape::End(EndShape::Server),
+    Shape::End(EndShape::Name),
+    Shape::End(EndShape::Child),
+    Shape::End(EndShape::Pending),
+    Shape::End(EndShape::Queue),
+    Shape::End(EndShape::Holding),
+    Shape::End(EndShape::Inbox),
+    Shape::End(EndShape::Stream),
+    Shape::End(EndShape::Groups),
 ];
 
 /// Whether a text without line feed is a line of the format.

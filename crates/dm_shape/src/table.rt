@@ -1,9 +1,9 @@
 //! The table of shapes, a row a shape.
 ghost use Rattle.std.specs.Prelude.{◌≡◌, false, true};
-ghost use Rattle.dm_shape.specs.Shapes.{row_of};
+ghost use Rattle.dm_shape.specs.Shapes.{end_row, group_row, head_row, kernel_row, row_of};
 
 use crate::choice::Choice;
-use crate::shape::Shape;
+use crate::shape::{EndShape, GroupShape, HeadShape, KernelShape, Shape};
 use crate::sort::Sort;
 use crate::sort::Sort::{Block, Groups, Kind, Machine, Message, Name, Number, Packet, Process};
 
@@ -81,97 +81,149 @@ impl Shape {
         ensures lists { result.lists ≡ (row_of self).lists }
     {
         match self {
-            Shape::Turn => plain("turn", &[Machine]),
-            Shape::Tick => plain("tick", &[Machine]),
-            Shape::Deliver => plain("deliver", &[Machine, Machine, Packet]),
-            Shape::Migrate => plain("migrate", &[Process, Machine]),
-            Shape::Ran => plain("ran", &[Process, Number]),
-            Shape::Call => plain("call", &[Process, Number, Number]),
-            Shape::Send => plain("send", &[Process, Message]),
-            Shape::Wait => plain("wait", &[Process]),
-            Shape::Out => plain("out", &[Process, Number]),
-            Shape::End => plain("end", &[Process, Number]),
-            Shape::Receive => plain("receive", &[Process, Message]),
-            Shape::Refuse => plain("refuse", &[Process, Message, Number]),
-            Shape::Dropped => plain("dropped", &[Message]),
-            Shape::Served => plain("served", &[Message]),
-            Shape::Gone => plain("gone", &[Message]),
-            Shape::Took => plain("took", &[Message]),
-            Shape::Created => plain("created", &[Message, Process]),
-            Shape::NoSpace => plain("nospace", &[Message, Number, Number]),
-            Shape::Asked => plain("asked", &[Message]),
-            Shape::Answered => plain("answered", &[Message, Number]),
-            Shape::Idle => plain("idle", &[Machine]),
-            Shape::Put => plain("put", &[Machine, Machine, Message, Kind, Process]),
-            Shape::Packet => plain("packet", &[Machine, Machine, Packet, LOAD, Number]),
-            Shape::Taken => plain("taken", &[Machine, Machine, Number]),
-            Shape::Old => plain("old", &[Machine, Machine, Number]),
-            Shape::Early => plain("early", &[Machine, Machine, Number]),
-            Shape::Acked => plain("acked", &[Machine, Machine, Number]),
-            Shape::Nothing => plain("none", &[]),
-            Shape::Resent => plain("resent", &[Machine, Number]),
-            Shape::Queued => plain("queued", &[Message]),
-            Shape::Held => plain("held", &[Message]),
-            Shape::Forwarded => plain("forwarded", &[Message, Machine]),
-            Shape::Updated => plain("updated", &[Message, Number]),
-            Shape::Stage => plain("step", &[STAGE, Process]),
-            Shape::SentOn => plain("step", &[SIX, Process, Number]),
-            Shape::Lacks => plain("lacks", &[Process, Number, Number]),
-            Shape::Stays => plain("stays", &[Process]),
-            Shape::Here => plain("here", &[Message]),
-            Shape::NoMove => plain("nomove", &[Message]),
-            Shape::Proto => plain("proto", &[Message]),
-            Shape::NoChild => plain("nochild", &[Process]),
-            Shape::Pinned => plain("pinned", &[Process]),
-            Shape::Final => plain("final", &[]),
-            Shape::Ended => plain("process", &[Process, ENDED, Number]),
-            Shape::Ready => plain(
+            Shape::Head(head) => head.row(),
+            Shape::Kernel(kernel) => kernel.row(),
+            Shape::Group(group) => group.row(),
+            Shape::End(end) => end.row(),
+        }
+    }
+}
+
+impl HeadShape {
+    /// The row of the shape.
+    fn row(self) -> Row
+        ensures name { result.name.now ≡ (head_row self).name }
+        ensures sorts { result.sorts.now ≡ (head_row self).sorts }
+        ensures lists { result.lists ≡ (head_row self).lists }
+    {
+        match self {
+            HeadShape::Turn => plain("turn", &[Machine]),
+            HeadShape::Tick => plain("tick", &[Machine]),
+            HeadShape::Deliver => plain("deliver", &[Machine, Machine, Packet]),
+            HeadShape::Migrate => plain("migrate", &[Process, Machine]),
+        }
+    }
+}
+
+impl KernelShape {
+    /// The row of the shape.
+    fn row(self) -> Row
+        ensures name { result.name.now ≡ (kernel_row self).name }
+        ensures sorts { result.sorts.now ≡ (kernel_row self).sorts }
+        ensures lists { result.lists ≡ (kernel_row self).lists }
+    {
+        match self {
+            KernelShape::Ran => plain("ran", &[Process, Number]),
+            KernelShape::Call => plain("call", &[Process, Number, Number]),
+            KernelShape::Send => plain("send", &[Process, Message]),
+            KernelShape::Wait => plain("wait", &[Process]),
+            KernelShape::Out => plain("out", &[Process, Number]),
+            KernelShape::End => plain("end", &[Process, Number]),
+            KernelShape::Receive => plain("receive", &[Process, Message]),
+            KernelShape::Refuse => plain("refuse", &[Process, Message, Number]),
+            KernelShape::Dropped => plain("dropped", &[Message]),
+            KernelShape::Served => plain("served", &[Message]),
+            KernelShape::Gone => plain("gone", &[Message]),
+            KernelShape::Took => plain("took", &[Message]),
+            KernelShape::Created => plain("created", &[Message, Process]),
+            KernelShape::NoSpace => plain("nospace", &[Message, Number, Number]),
+            KernelShape::Asked => plain("asked", &[Message]),
+            KernelShape::Answered => plain("answered", &[Message, Number]),
+        }
+    }
+}
+
+impl GroupShape {
+    /// The row of the shape.
+    fn row(self) -> Row
+        ensures name { result.name.now ≡ (group_row self).name }
+        ensures sorts { result.sorts.now ≡ (group_row self).sorts }
+        ensures lists { result.lists ≡ (group_row self).lists }
+    {
+        match self {
+            GroupShape::Idle => plain("idle", &[Machine]),
+            GroupShape::Put => plain("put", &[Machine, Machine, Message, Kind, Process]),
+            GroupShape::Packet => plain("packet", &[Machine, Machine, Packet, LOAD, Number]),
+            GroupShape::Taken => plain("taken", &[Machine, Machine, Number]),
+            GroupShape::Old => plain("old", &[Machine, Machine, Number]),
+            GroupShape::Early => plain("early", &[Machine, Machine, Number]),
+            GroupShape::Acked => plain("acked", &[Machine, Machine, Number]),
+            GroupShape::Nothing => plain("none", &[]),
+            GroupShape::Resent => plain("resent", &[Machine, Number]),
+            GroupShape::Queued => plain("queued", &[Message]),
+            GroupShape::Held => plain("held", &[Message]),
+            GroupShape::Forwarded => plain("forwarded", &[Message, Machine]),
+            GroupShape::Updated => plain("updated", &[Message, Number]),
+            GroupShape::Stage => plain("step", &[STAGE, Process]),
+            GroupShape::SentOn => plain("step", &[SIX, Process, Number]),
+            GroupShape::Lacks => plain("lacks", &[Process, Number, Number]),
+            GroupShape::Stays => plain("stays", &[Process]),
+            GroupShape::Here => plain("here", &[Message]),
+            GroupShape::NoMove => plain("nomove", &[Message]),
+            GroupShape::Proto => plain("proto", &[Message]),
+            GroupShape::NoChild => plain("nochild", &[Process]),
+            GroupShape::Pinned => plain("pinned", &[Process]),
+        }
+    }
+}
+
+impl EndShape {
+    /// The row of the shape.
+    fn row(self) -> Row
+        ensures name { result.name.now ≡ (end_row self).name }
+        ensures sorts { result.sorts.now ≡ (end_row self).sorts }
+        ensures lists { result.lists ≡ (end_row self).lists }
+    {
+        match self {
+            EndShape::Final => plain("final", &[]),
+            EndShape::Ended => plain("process", &[Process, ENDED, Number]),
+            EndShape::Ready => plain(
                 "process",
                 &[Process, AT, Machine, STANDING, READY, GOING, Number],
             ),
-            Shape::Waiting => plain(
+            EndShape::Waiting => plain(
                 "process",
                 &[
                     Process, AT, Machine, STANDING, WAITING, Number, Number, Number, GOING, Number,
                 ],
             ),
-            Shape::Moving => plain(
+            EndShape::Moving => plain(
                 "process",
                 &[
                     Process, AT, Machine, STANDING, MOVING, Number, Process, Number, Number,
                     Number, GOING, Number,
                 ],
             ),
-            Shape::Registers => plain(
+            EndShape::Registers => plain(
                 "registers",
                 &[
                     Process, Number, Number, Number, Number, Number, Number, Number, Number,
                     Number, Number, Number, Number, Number, Number, Number, Number, Number,
                 ],
             ),
-            Shape::Memory => plain("memory", &[Process, Number, Block]),
-            Shape::Link => plain(
+            EndShape::Memory => plain("memory", &[Process, Number, Block]),
+            EndShape::Link => plain(
                 "link",
                 &[
                     Process, Number, LINK_KIND, Process, AT, Machine, MOVES, Number, CODE, Number,
                     CHANNEL, Number, AREA, Number, Number, RIGHTS,
                 ],
             ),
-            Shape::Server => plain("server", &[Process, Number]),
-            Shape::Name => plain(
+            EndShape::Server => plain("server", &[Process, Number]),
+            EndShape::Name => plain(
                 "name",
                 &[
                     Name, LINK_KIND, Process, AT, Machine, MOVES, Number, CODE, Number, CHANNEL,
                     Number, AREA, Number, Number, RIGHTS,
                 ],
             ),
-            Shape::Child => plain("child", &[Number, Process, AT, Machine]),
-            Shape::Pending => plain("pending", &[Message]),
-            Shape::Queue => listing("queue", &[Process]),
-            Shape::Holding => listing("holding", &[Machine, Process]),
-            Shape::Inbox => listing("inbox", &[Machine]),
-            Shape::Stream => listing("stream", &[Machine, Machine]),
-            Shape::Groups => plain("end", &[Groups]),
+            EndShape::Child => plain("child", &[Number, Process, AT, Machine]),
+            EndShape::Pending => plain("pending", &[Message]),
+            EndShape::Queue => listing("queue", &[Process]),
+            EndShape::Holding => listing("holding", &[Machine, Process]),
+            EndShape::Inbox => listing("inbox", &[Machine]),
+            EndShape::Stream => listing("stream", &[Machine, Machine]),
+            EndShape::Groups => plain("end", &[Groups]),
         }
     }
 }
