@@ -2,22 +2,20 @@
 //! system's tables: both tables, `runs` and `rows`, lie in data/ beside the files that they name. Then what no run shows.
 #![tactic(auto)]
 
-mod failing;
 mod others;
 mod program;
 mod row;
 mod run;
 
 use anyhow::{Context, Result};
-use failing::fail_in_turn;
-use others::{read_files, say_errors, step_flat, write_out};
+use others::{count_writes, read_files, say_errors, step_flat, write_out};
 use row::Row;
 use run::{Ending, Run};
 use std::{fs, io};
 
 fn main(rt: HostRuntime) -> Result<()> {
     show_tables(&rt)?;
-    fail_in_turn(&rt)?;
+    count_writes(&rt)?;
     read_files(&rt)?;
     write_out(&rt)?;
     step_flat(&rt)?;

@@ -1,5 +1,7 @@
-//! What no run of the table shows: the real shelf and sink by themselves, a flat memory, and what errors say of themselves.
+//! What no run of the table shows: how often a run writes, the real shelf and sink by themselves, a flat memory, and what errors
+//! say of themselves.
 
+use crate::run::{Expected, Run};
 use anyhow::Result;
 use dm_boot::{BootError, BootRule};
 use dm_check::{CheckError, TraceFault};
@@ -66,12 +68,35 @@ const TRACE_FAULTS: [TraceFault; 4] = [
     TraceFault::NotTheEnd,
 ];
 
+/// The run whose writes are counted: eight directives.
+const COUNTED: Run<'static> = Run {
+    name: "hi",
+    expected: Expected {
+        status: 0,
+        line: "",
+        output: "hi.out",
+    },
+    room: 4_096,
+    words: "run --boot hi.boot --schedule hi.schedule",
+};
+
+/// A run writes each of its groups when it has come, and then the lines at the end: one write for each directive, and one more.
+pub fn count_writes(rt: &HostRuntime) -> Result<()> {
+    let done = COUNTED.done(rt)?;
+    say_count(rt, done.out.calls())?;
+    Ok(())
+}
+
+/// Says how often a run of eight directives writes.
+fn say_count(rt: &HostRuntime, writes: u64) -> io::Result<()> {
+    println!(rt; "writes of a run of eight directives: {writes}")
+}
+
 /// Reads two files of data/ in turn, and one that isn't there.
-pub fn read_files(rt: &HostRuntime) -> Result<()> {
+pub fn read_files(rt: &HostRuntime) -> io::Result<()> {
     let mut shelf = RealShelf::new(rt);
     say_reads(rt, &mut shelf)?;
-    say_faults(rt, "read", shelf.faults())?;
-    Ok(())
+    say_faults(rt, "read", shelf.faults())
 }
 
 /// Does the reads in turn.
@@ -92,11 +117,10 @@ fn say_read<F: Shelf>(rt: &HostRuntime, shelf: &mut F, name: &str, from: u64) ->
 }
 
 /// Writes a line, and nothing.
-pub fn write_out(rt: &HostRuntime) -> Result<()> {
+pub fn write_out(rt: &HostRuntime) -> io::Result<()> {
     let mut sink = RealSink::new(io::writer(rt));
     say_writes(rt, &mut sink)?;
-    say_faults(rt, "write", sink.faults())?;
-    Ok(())
+    say_faults(rt, "write", sink.faults())
 }
 
 /// Does both writes, and says what came of them.

@@ -24,7 +24,7 @@ pub fn run_program<F: Shelf>(
     mut out: MemSink,
 ) -> Result<Done, AllocError> {
     let words = given(alloc, words)?;
-    let mut errors = sink_of(alloc, LONGEST_LINE, Vec::new(alloc))?;
+    let mut errors = sink_of(alloc, LONGEST_LINE)?;
     let status = finish(alloc, Ok(words), shelf, &mut out, &mut errors);
     Ok(Done {
         status,
@@ -33,9 +33,12 @@ pub fn run_program<F: Shelf>(
     })
 }
 
-/// A sink that takes so many bytes, and where these writes fail.
-pub fn sink_of(alloc: Global, room: usize, fails: Vec<u64>) -> Result<MemSink, AllocError> {
-    Ok(MemSink::new(Vec::with_capacity(alloc, room)?, fails))
+/// A sink that takes so many bytes.
+pub fn sink_of(alloc: Global, room: usize) -> Result<MemSink, AllocError> {
+    Ok(MemSink::new(
+        Vec::with_capacity(alloc, room)?,
+        Vec::new(alloc),
+    ))
 }
 
 /// The words that the program is given, its name first.

@@ -71,9 +71,9 @@ impl<'a> Run<'a> {
     }
 
     /// Runs the program.
-    fn done(&self, rt: &HostRuntime) -> Result<Done, AllocError> {
+    pub fn done(&self, rt: &HostRuntime) -> Result<Done, AllocError> {
         let alloc = rt.alloc();
-        let out = sink_of(alloc, self.room, Vec::new(alloc))?;
+        let out = sink_of(alloc, self.room)?;
         let mut shelf = RealShelf::new(rt);
         run_program(alloc, self.words, &mut shelf, out)
     }
