@@ -12,13 +12,12 @@ ghost use Rattle.dm_kernel.specs.State.{own, turned, with_known, with_sent};
 ghost use Rattle.dm_line.specs.declared.line.Line.TheVariants as line_;
 ghost use Rattle.dm_line.specs.declared.line.Stage.TheVariants as stage_;
 
-use crate::depart::{step, tell_asker};
 use crate::kernel::Kernel;
 use crate::part::Part;
 use dm_line::line::{Line, Stage};
 use dm_link::Pid;
 use dm_lists::put_before;
-use dm_memory::{NoMemory, Parcel, list_of};
+use dm_memory::{NoMemory, Parcel};
 use dm_message::{Message, MsgId, Outcome, What};
 use dm_migrate::{Arriving, Ask, Asked, Wanted, answer_ask};
 use dm_onekernel::Boot;
@@ -63,11 +62,12 @@ impl Kernel {
         ensures { Answers result self.new (turned (with_sent (with_known (kernel_state self.old) pid (Incoming arriving)))
             (takes_step stage_.Accepted pid ∷ Part.Routes (own (kernel_state self.old) message.now.sender pull) ∷ [])) }
     {
-        if let Err((_, e)) = self.records.set(pid, Record::Incoming(arriving)) {
-            return Err(e);
-        }
-        let pull = Parcel::new(self.alloc, self.send(message.sender, pull))?;
-        list_of(self.alloc, [step(Stage::Accepted, pid), Part::Routes(pull)])
+        self.set_known(pid, Record::Incoming(arriving))?;
+        let said = Line::Migration {
+            step: Stage::Accepted,
+            pid,
+        };
+        self.pull(message, said, pull)
     }
 
     /// Refuses a process that asks to come, and says what is free.
@@ -165,33 +165,25 @@ impl Kernel {
     {
         let arriving = self.records.take_incoming(pid);
         let asker = arriving.asker();
-        let (process, held) = arriving.restart();
-        let mut parts = list_of(self.alloc, [step(Stage::Restarted, pid)])?;
-        tell_asker(
-            self.alloc,
-            &process,
-            self.here,
-            Outcome::Done,
-            asker,
-            &mut parts,
-        )?;
-        self.go_on(pid, process, held)?;
+        let going = arriving.restart();
+        let said = Line::Migration {
+            step: Stage::Restarted,
+            pid,
+        };
+        let parts = self.say_and_tell(said, &going.0, Outcome::Done, asker)?;
+        self.go_on(pid, going)?;
         Ok(parts)
     }
 
     /// Sets a process into its place, at the ring's back, and the messages that were held for it before the inbox.
-    pub(crate) fn go_on(
-        &mut self,
-        pid: Pid,
-        process: Process,
-        held: Vec<Message>,
-    ) -> Result<(), NoMemory>
+    pub(crate) fn go_on(&mut self, pid: Pid, going: (Process, Vec<Message>)) -> Result<(), NoMemory>
         requires { HasPlace self.old.records pid }
         ensures { OnOk result (IsIn self.new (record (kernel_state self.old)
-            { records = with_record (at self.old.records) pid (Here process); ring = self.old.ring ++ pid ∷ []; inbox = held.items ++ self.old.inbox })) }
+            { records = with_record (at self.old.records) pid (Here going.0); ring = self.old.ring ++ pid ∷ []; inbox = going.1.items ++ self.old.inbox })) }
     {
-        self.ring.push(pid)?;
+        let (process, held) = going;
         self.records.put_back(pid, Record::Here(process));
+        self.ring.push(pid)?;
         put_before(self.alloc, held, &mut self.inbox)
     }
 }

@@ -37,6 +37,7 @@ impl Kernel {
         ensures { IfOk result (λ k. IsIn k (empty boot.now here)) }
     {
         let machine = &boot.machines.as_slice()[usize::from(here)];
+        let servers = servers_of(alloc, boot, here)?;
         Ok(Kernel {
             alloc,
             here,
@@ -46,7 +47,7 @@ impl Kernel {
             made: 0,
             sent: 0,
             room: Room::new(machine.slots, machine.blocks),
-            servers: servers_of(alloc, boot, here)?,
+            servers,
         })
     }
 

@@ -1,6 +1,5 @@
 //! What a machine's kernel does where a process leaves it.
 ghost use Rattle.std.specs.Prelude.{◌≡◌, ◌≢◌, ◌<◌, ◌+◌, ◌++◌, ◌∷◌, [], IfOk, IfSome, IsSome, OnOk, length, map};
-ghost use Rattle.dm_message.specs.declared.Outcome.TheVariants as ends_;
 ghost use Rattle.dm_records.specs.Records.{at, frozen_of, here_of};
 ghost use Rattle.dm_migrate.specs.Departure.{CanMove, Departure};
 ghost use Rattle.dm_migrate.specs.Pieces.{HasBlock, HasChunk, block_of, chunk_of, state_of};
@@ -49,36 +48,29 @@ impl Kernel {
             (λ x. asked_to_move (kernel_state self.old) message.now x to)) }
         ensures whole { OnOk result (to ≢ self.old.here → IfSome (here_of (at self.old.records message.now.to.pid)) CanMove) }
     {
-        let asked = Part::Says(Line::Label(Label::Asked { id: message.id }));
-        let parts = list_of(self.alloc, [asked])?;
+        let asked = Line::Label(Label::Asked { id: message.id });
         let asker = Some(asker_of(message));
         if to == self.here {
-            self.tell_there(message.to.pid, asker, parts)
+            let process = self.records.here(message.to.pid).unwrap();
+            self.say_and_tell(asked, process, Outcome::Done, asker)
         } else {
+            let parts = self.say(asked)?;
             self.freeze(message.to.pid, to, asker, parts)
         }
     }
 
-    /// Tells who asked for the move of a process that it is there already, behind what is said so far.
-    fn tell_there(
+    /// The parts of a turn that says one line, and tells who asked for the move of a process how it ended, if somebody asked.
+    pub(crate) fn say_and_tell(
         &self,
-        pid: Pid,
+        line: Line,
+        process: &Process,
+        outcome: Outcome,
         asker: Option<Asker>,
-        mut parts: Vec<Part>,
     ) -> Result<Vec<Part>, NoMemory>
-        requires { IsSome (here_of (at self.now.records pid)) }
-        ensures { Answers result self.now (bind (here_of (at self.now.records pid))
-            (λ x. turned (kernel_state self.now) (parts.items ++ tells_asker self.now.here x ends_.Done asker))) }
+        ensures { IfOk result (λ parts. parts.items ≡ Part.Says line ∷ tells_asker self.now.here process.now outcome asker) }
     {
-        let process = self.records.here(pid).unwrap();
-        tell_asker(
-            self.alloc,
-            process,
-            self.here,
-            Outcome::Done,
-            asker,
-            &mut parts,
-        )?;
+        let mut parts = self.say(line)?;
+        tell_asker(self.alloc, process, self.here, outcome, asker, &mut parts)?;
         Ok(parts)
     }
 
@@ -116,8 +108,7 @@ impl Kernel {
         ensures { IfOk result (λ said. said.items ≡ parts.items ++ takes_step stage_.Frozen pid ∷ takes_step stage_.Asked pid ∷ Part.Routes ask ∷ []) }
     {
         push(&mut parts, step(Stage::Frozen, pid))?;
-        push(&mut parts, step(Stage::Asked, pid))?;
-        push(&mut parts, Part::Routes(Parcel::new(self.alloc, ask)?))?;
+        step_and_route(self.alloc, Stage::Asked, pid, ask, &mut parts)?;
         Ok(parts)
     }
 
@@ -141,19 +132,15 @@ impl Kernel {
         requires { IsSome (frozen_of (at self.old.records pid)) }
         ensures { Answers result self.new (bind (frozen_of (at self.old.records pid)) (stays (kernel_state self.old) pid)) }
     {
-        let leaving = self.records.take_frozen(pid);
-        let asker = leaving.asker();
-        let (process, held) = leaving.stay();
-        let mut parts = list_of(self.alloc, [Part::Says(Line::Stays(pid))])?;
-        tell_asker(
-            self.alloc,
-            &process,
-            self.here,
+        let leaving = self.records.frozen(pid).unwrap();
+        let parts = self.say_and_tell(
+            Line::Stays(pid),
+            leaving.process(),
             Outcome::Stayed,
-            asker,
-            &mut parts,
+            leaving.asker(),
         )?;
-        self.go_on(pid, process, held)?;
+        let going = self.records.take_frozen(pid).stay();
+        self.go_on(pid, going)?;
         Ok(parts)
     }
 
@@ -231,16 +218,15 @@ impl Kernel {
             Part.Says (line_.SentOn pid (length messages.items)) ∷ map Part.Routes messages.items ++ takes_step stage_.Left pid ∷ Part.Routes restart ∷ []) }
     {
         let count = messages.len() as u32;
-        let mut parts = list_of(self.alloc, [Part::Says(Line::SentOn { pid, count })])?;
+        let mut parts = self.say(Line::SentOn { pid, count })?;
         route_all(self.alloc, messages, &mut parts)?;
-        push(&mut parts, step(Stage::Left, pid))?;
-        push(&mut parts, Part::Routes(Parcel::new(self.alloc, restart)?))?;
+        step_and_route(self.alloc, Stage::Left, pid, restart, &mut parts)?;
         Ok(parts)
     }
 }
 
 /// Tells who asked for the move of a process how it ended, if somebody asked; the process is on machine `here`.
-pub(crate) fn tell_asker(
+fn tell_asker(
     alloc: Global,
     process: &Process,
     here: u8,
@@ -258,15 +244,28 @@ pub(crate) fn tell_asker(
         parts,
         Part::Says(Line::Label(Label::Answered { id, outcome })),
     )?;
-    let answer = Parcel::new(alloc, moved_answer(process, here, outcome, asker))?;
-    push(parts, Part::Routes(answer))
+    route(alloc, moved_answer(process, here, outcome, asker), parts)
 }
 
 /// What is said of a step of a migration.
-pub(crate) fn step(step: Stage, pid: Pid) -> Part
+fn step(step: Stage, pid: Pid) -> Part
     ensures { result ≡ takes_step step pid }
 {
     Part::Says(Line::Migration { step, pid })
+}
+
+/// Says a step of a migration, and routes a message behind it.
+fn step_and_route(
+    alloc: Global,
+    said: Stage,
+    pid: Pid,
+    message: Message,
+    parts: &mut Vec<Part>,
+) -> Result<(), NoMemory>
+    ensures { OnOk result (parts.new.items ≡ parts.old.items ++ takes_step said pid ∷ Part.Routes message ∷ []) }
+{
+    push(parts, step(said, pid))?;
+    route(alloc, message, parts)
 }
 
 /// Routes messages, in order.
@@ -274,7 +273,15 @@ fn route_all(alloc: Global, messages: Vec<Message>, parts: &mut Vec<Part>) -> Re
     ensures { OnOk result (parts.new.items ≡ parts.old.items ++ map Part.Routes messages.items) }
 {
     for message in messages {
-        push(parts, Part::Routes(Parcel::new(alloc, message)?))?;
+        route(alloc, message, parts)?;
     }
     Ok(())
+}
+
+/// Routes a message.
+fn route(alloc: Global, message: Message, parts: &mut Vec<Part>) -> Result<(), NoMemory>
+    ensures { OnOk result (parts.new.items ≡ parts.old.items ++ Part.Routes message ∷ []) }
+{
+    let message = Parcel::new(alloc, message)?;
+    push(parts, Part::Routes(message))
 }

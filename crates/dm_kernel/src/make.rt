@@ -12,7 +12,7 @@ ghost use Rattle.dm_kernel.specs.Begun.{child_of};
 ghost use Rattle.dm_kernel.specs.Handle.{has_room, kernel_handles, makes, next_pid};
 ghost use Rattle.dm_kernel.specs.May.{FitsKernel};
 ghost use Rattle.dm_kernel.specs.Meets.{Answers, IsIn, kernel_state};
-ghost use Rattle.dm_kernel.specs.State.{says};
+ghost use Rattle.dm_kernel.specs.State.{says, with_known};
 
 use crate::kernel::Kernel;
 use crate::part::Part;
@@ -22,8 +22,8 @@ use dm_link::{FIRST_NUMBER, Link, Pid};
 use dm_linktable::{FEW_SLOTS, MOST_SLOTS, Table};
 use dm_memory::{NoMemory, Parcel, list_of};
 use dm_message::{Message, What};
-use dm_migrate::Ask;
-use dm_onekernel::{Boot, BootImage, Label};
+use dm_migrate::{Arriving, Ask, Leaving};
+use dm_onekernel::{Boot, BootImage, Label, Why};
 use dm_process::Process;
 use dm_records::Record;
 use dm_room::Lacks;
@@ -119,11 +119,23 @@ impl Kernel {
             { records = with_record (at self.old.records) pid (Here process); ring = self.old.ring ++ pid ∷ []; made = self.old.made + 1 })) }
     {
         self.ring.push(pid)?;
-        if let Err((_, fault)) = self.records.set(pid, Record::Here(process)) {
-            return Err(fault);
-        }
+        self.set_known(pid, Record::Here(process))?;
         self.made += 1;
         Ok(())
+    }
+
+    /// Sets what is known of a process.
+    pub(crate) fn set_known(
+        &mut self,
+        pid: Pid,
+        known: Record<Process, Leaving, Arriving, Why>,
+    ) -> Result<(), NoMemory>
+        ensures { OnOk result (IsIn self.new (with_known (kernel_state self.old) pid known)) }
+    {
+        match self.records.set(pid, known) {
+            Ok(()) => Ok(()),
+            Err((_, e)) => Err(e),
+        }
     }
 
     /// What is said of a process that is made, and the answer to who asked for it.
