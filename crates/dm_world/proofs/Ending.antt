@@ -1,7 +1,7 @@
 -- What is left of a list from a place on, bytes up to the last that isn't 0, and the first machine that says something.
 use Rattle.dm_world.proofs.Names.{◌≡◌, ℕ, zero, suc, ◌+◌, ◌<◌, ◌≤◌, Bool, true, false, ◌==◌, if◌then◌else◌, List, [], ◌∷◌, ◌++◌, length, take, drop, get_or, refl, sym, ap, subst, ◌∙◌, inl, inr, arith, append-nil, append_assoc, drop-cons}
 use Rattle.dm_world.proofs.Names.{take-suc, slice_get, All, Option, None, Some, eqb_tells, nat_tests, get_or_from_slice_get, slice_get-get_or, slice_get_within, Message, MsgId, Named, IsLawfulNamed, EndLine, or, before_zeros, trimmed}
-use Rattle.dm_world.proofs.Names.{SaysSome, first_says, lines_in, name_lines, names_of}
+use Rattle.dm_world.proofs.Names.{Link, Pid, SaysSome, WorldState, first_says, home_with, homes_with, joined_below, lines_in, link_at, link_lines, name_lines, names_of, slot_line}
 use Rattle.dm_line.specs.declared.end_line.EndLine.TheVariants as end
 
 drop_at : {X : Type 0} (xs : List X) (i : ℕ) (x : X) → slice_get xs i ≡ Some x → drop i xs ≡ x ∷ drop (i + 1) xs
@@ -92,3 +92,29 @@ pub said_second : (said also : Bool) (o q : Option (List EndLine)) (old mid new 
 said_second said also None None old mid new is h g = g.1 ∙ h.1 ∙ sym (append-nil old)
 said_second said also None (Some ls) old mid new is h g = g.1 ∙ ap (λ l. l ++ ls) h.1
 said_second said also (Some ls) q old mid new is h g = let yes_ = h.0 in cc
+
+-- what one more says comes behind what was said so far
+pub said_more : (f : ℕ → List EndLine) (n : ℕ) (old mid new : List EndLine) → mid ≡ old ++ joined_below f n → new ≡ mid ++ f n → new ≡ old ++ joined_below f (n + 1)
+said_more f n old mid new h g =
+    let next : suc n ≡ n + 1 = omega arith in
+    g ∙ ap (λ ls. ls ++ f n) h ∙ append_assoc old (joined_below f n) (f n) ∙ ap (λ k. old ++ joined_below f k) next
+
+-- and what is said of one more home
+pub home_more : (w : WorldState) (f : Pid → List EndLine) (home : ℕ) (old mid new : List EndLine) → mid ≡ old ++ homes_with w f home
+    → new ≡ mid ++ home_with f home (w.nodes home).kernel.made → new ≡ old ++ homes_with w f (home + 1)
+home_more w f home old mid new h g =
+    let next : suc home ≡ home + 1 = omega arith in
+    g ∙ ap (λ ls. ls ++ home_with f home (w.nodes home).kernel.made) h ∙ append_assoc old (homes_with w f home) (home_with f home (w.nodes home).kernel.made)
+    ∙ ap (λ k. old ++ homes_with w f k) next
+
+-- all of them have said theirs
+pub all_said : (f : ℕ → List EndLine) (n all : ℕ) (old new : List EndLine) → n ≡ all → new ≡ old ++ joined_below f n → new ≡ old ++ joined_below f all
+all_said f n all old new end h = h ∙ ap (λ k. old ++ joined_below f k) end
+
+-- one more slot is said
+pub slot_more : (p : Pid) (table : List (Option Link)) (k : ℕ) (o : Option Link) (ls whole : List EndLine) → k < length table → link_at table k ≡ o → ls ++ link_lines p k (drop k table) ≡ whole
+    → (ls ++ slot_line p k o) ++ link_lines p (k + 1) (drop (k + 1) table) ≡ whole
+slot_more p table k o ls whole within e h =
+    let next : suc k ≡ k + 1 = omega arith in
+    let here : drop k table ≡ o ∷ drop (k + 1) table = drop-cons table k None within ∙ ap (λ x. x ∷ drop (suc k) table) e ∙ ap (λ n. o ∷ drop n table) next in
+    append_assoc ls (slot_line p k o) (link_lines p (k + 1) (drop (k + 1) table)) ∙ ap (λ t. ls ++ link_lines p k t) (sym here) ∙ h

@@ -7,7 +7,7 @@ pub use Rattle.std.proofs.lemmas.List.Elements.{All-weaker}
 pub use Rattle.std.proofs.lemmas.Option.{slice_get-get_or, slice_get_cases, slice_get_past}
 pub use Rattle.std.specs.List.{position_from}
 pub use Rattle.std.specs.Prelude.{option_map}
-pub use Rattle.dm_records.proofs.Names.{Bool, IsSome, Option, Some, ap, arith, cond, false, if◌then◌else◌, refl, rules, sym, true, ◌∙◌, ◌≡◌}
+pub use Rattle.dm_records.proofs.Names.{Bool, IsSome, Option, Pid, Some, ap, arith, cond, false, if◌then◌else◌, refl, rules, sym, true, ◌∙◌, ◌≡◌}
 pub use Rattle.dm_processor.proofs.Names.{List, [], drop, drop-append-le, drop-cons, get_or, get_or_append_left, length, length-append, nat_tests, set, suc, take, zero, ℕ, ◌*◌, ◌++◌, ◌+◌, ◌-◌, ◌<◌, ◌^◌, ◌∷◌, ◌≤◌}
 pub use Rattle.dm_room.proofs.Names.{slice_get}
 pub use Rattle.dm_wire.proofs.Names.{Sent, is_unseen, just_put, marked, position, slice_index_or}
@@ -23,10 +23,14 @@ pub use Rattle.dm_statebytes.proofs.Names.{PacketError}
 pub use Rattle.dm_migrate.proofs.Names.{Err, Ok, into_iter_items}
 pub use Rattle.dm_switchboard.proofs.Imports.{IsLawfulNamed, Named}
 pub use Rattle.dm_procman.proofs.Names.{Boot, IsValid, ◌||◌}
+pub use Rattle.dm_link.specs.Names.{pid_of}
+pub use Rattle.dm_link.specs.declared.Link.{Link}
+pub use Rattle.dm_linktable.specs.Slots.{link_at}
+pub use Rattle.dm_onekernel.specs.Boot.{first_number}
 pub use Rattle.dm_line.proofs.Below.{fails_at}
 pub use Rattle.dm_line.proofs.Names.{all_below, eqb_tells, false≢true}
 pub use Rattle.dm_line.specs.Each.{sum_below}
-pub use Rattle.dm_line.specs.Ends.{before_zeros, joined_below, home_with, list_line, memory_lines, trimmed}
+pub use Rattle.dm_line.specs.Ends.{before_zeros, block_line, joined_below, home_with, list_line, memory_lines, trimmed}
 pub use Rattle.dm_line.specs.Todo.{Next, Todo, Two, begin_pass, below, in_pass, is_over, next_delivery, next_directive, next_pass, next_turn, or, pairs_of, pairs_with, settles, takes_turn}
 pub use Rattle.dm_line.proofs.Deliveries.{here_or_later}
 pub use Rattle.dm_line.specs.declared.end_line.EndLine.{EndLine}
@@ -49,7 +53,7 @@ pub use Rattle.dm_world.specs.Cursor.{Falls, FirstIs, FirstTurnIs, InPassIs, IsF
 pub use Rattle.dm_world.specs.Cursor.{seen_count, todo_at, turn_at, turns_at, turns_of}
 unfoldable pub use Rattle.dm_world.specs.Cursor.{pairs_at, room}
 pub use Rattle.dm_world.specs.Ends.{SaysSome, awaited_lines, child_lines, first_awaited, first_had, first_says, held_line, homes_with, lines_in, link_lines, name_lines, names_of, pending_lines, process_lines, queue_of, record_lines}
-pub use Rattle.dm_world.specs.Ends.{record_queue, stream_line}
+pub use Rattle.dm_world.specs.Ends.{record_queue, slot_line, stream_line}
 pub use Rattle.dm_world.specs.Local.{ActsAlone, acts_on, bytes_of}
 pub use Rattle.dm_world.specs.May.{MayDeliver, MayRead, MayStep, sent_by}
 pub use Rattle.dm_world.specs.Meets.{ActedAt, ActedSome, Answers, AreNodes, IsNode, IsSendable, IsWorld, IsWornOut, Meets, MeetsSome, TurnAnswers, world_state}
