@@ -118,3 +118,17 @@ slot_more p table k o ls whole within e h =
     let next : suc k ≡ k + 1 = omega arith in
     let here : drop k table ≡ o ∷ drop (k + 1) table = drop-cons table k None within ∙ ap (λ x. x ∷ drop (suc k) table) e ∙ ap (λ n. o ∷ drop n table) next in
     append_assoc ls (slot_line p k o) (link_lines p (k + 1) (drop (k + 1) table)) ∙ ap (λ t. ls ++ link_lines p k t) (sym here) ∙ h
+
+-- machine m says nothing either
+pub still_none : (f : ℕ → Option (List EndLine)) (m : ℕ) (said : Bool) (o : Option (List EndLine)) (old mid new : List EndLine) → first_says f m ≡ None → o ≡ f m → said ≡ false → mid ≡ old
+    → SaysSome said mid new o → (first_says f (m + 1) ≡ None) × (new ≡ old)
+still_none f m said None old mid new none is no_ same says_ =
+    let next : m + 1 ≡ suc m = omega arith in
+    (ap (first_says f) next ∙ ap (λ o. or o (f m)) none ∙ sym is, says_.1 ∙ same)
+still_none f m said (Some ls) old mid new none is no_ same says_ = let yes_ = says_.0 in cc
+
+-- none of them says anything
+pub none_said : (f : ℕ → Option (List EndLine)) (m n : ℕ) (old new : List EndLine) → first_says f m ≡ None → m ≡ n → new ≡ old → new ≡ old ++ lines_in (first_says f n)
+none_said f m n old new none end_ same =
+    let all : first_says f n ≡ None = ap (first_says f) (sym end_) ∙ none in
+    same ∙ sym (append-nil old) ∙ ap (λ o. old ++ lines_in o) (sym all)
