@@ -31,6 +31,19 @@ pub fn put_broken(
     ensures { OnOk result (into.new.items ≡ into.old.items ++ broken_told rule place (view top.now)) }
 {
     let document = Document::new(alloc, top)?;
+    put_told(alloc, into, &document, rule, place)
+}
+
+/// Writes the same of a document.
+fn put_told(
+    alloc: Global,
+    into: &mut Vec<u8>,
+    document: &Document<'_>,
+    rule: BootRule,
+    place: u64,
+) -> Result<(), NoMemory>
+    ensures { OnOk result (into.new.items ≡ into.old.items ++ broken_told rule place (view document.now.top.now)) }
+{
     put_parts(
         into,
         &[
@@ -39,7 +52,7 @@ pub fn put_broken(
             Part::Text(": "),
         ],
     )?;
-    put_rule(alloc, into, &document, rule, place)?;
+    put_rule(alloc, into, document, rule, place)?;
     put(into, "\n")
 }
 
