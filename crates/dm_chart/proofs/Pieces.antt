@@ -1,5 +1,5 @@
 -- A text or a list that grows piece by piece, as a loop goes through what it is made of.
-use Rattle.dm_chart.proofs.Names.{◌≡◌, ℕ, ◌+◌, ◌<◌, ◌≤◌, List, [], ◌∷◌, ◌++◌, length, get_or, drop, map, refl, ap, sym, ◌∙◌, append_assoc, concat, flat_map, append-nil, drop_more, drop_of_length-le}
+use Rattle.dm_chart.proofs.Names.{◌≡◌, ℕ, zero, suc, ◌+◌, ◌<◌, ◌≤◌, List, [], ◌∷◌, ◌++◌, length, get_or, drop, map, refl, ap, sym, ◌∙◌, append_assoc, arith, concat, flat_map, append-nil, drop_more, drop_of_length-le}
 
 -- an element that was read, and those after it
 pub read_at : {X : Type 0} (xs : List X) (i : ℕ) (x : X) → i < length xs → x ≡ get_or xs i x → drop i xs ≡ x ∷ drop (i + 1) xs
@@ -39,6 +39,25 @@ pub mapped-more : {X Y A : Type 0} (g : Y → List A) (f : X → Y) (done : List
 mapped-more g f done xs i x within read =
     ap (λ ys. done ++ flat_map g (map f ys)) (read_at xs i x within read) ∙ sym (append_assoc done (g (f x)) (flat_map g (map f (drop (i + 1) xs))))
 
+-- what an element is read as behind its list's end doesn't matter before it
+pub get_or_same : {X : Type 0} (xs : List X) (i : ℕ) (d e : X) → i < length xs → get_or xs i d ≡ get_or xs i e
+get_or_same [] i d e within = absurd (omega arith)
+get_or_same (x ∷ xs) zero d e within = refl
+get_or_same (x ∷ xs) (suc i) d e within = get_or_same xs i d e (omega arith)
+
+-- the same of elements that are copied
+pub concat-copied : {X : Type 0} (f : X → List ℕ) (done : List ℕ) (xs : List X) (i : ℕ) (d : X) → i < length xs → done ++ concat (map f (drop i xs)) ≡ (done ++ f (get_or xs i d)) ++ concat (map f (drop (i + 1) xs))
+concat-copied f done xs i d within = concat-more f done xs i (get_or xs i d) within (get_or_same xs i d (get_or xs i d) within)
+
+pub mapped-copied : {X Y A : Type 0} (g : Y → List A) (f : X → Y) (done : List A) (xs : List X) (i : ℕ) (d : X) → i < length xs → done ++ flat_map g (map f (drop i xs)) ≡ (done ++ g (f (get_or xs i d))) ++ flat_map g (map f (drop (i + 1) xs))
+mapped-copied g f done xs i d within = mapped-more g f done xs i (get_or xs i d) within (get_or_same xs i d (get_or xs i d) within)
+
 pub ruleset mapped_lemmas = (mapped-end, mapped-more)
 
-pub ruleset pieces_lemmas = (flat-end, flat-more, concat-end, concat-more, map-end, map-more, same-end, same-more)
+pub ruleset flat_lemmas = (flat-end, flat-more)
+
+pub ruleset concat_lemmas = (concat-end)
+
+pub ruleset map_lemmas = (map-end, map-more)
+
+pub ruleset same_lemmas = (same-end, same-more)

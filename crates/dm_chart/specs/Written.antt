@@ -5,4 +5,4 @@ use Rattle.dm_chart.specs.declared.xml.Attribute.{Attribute}
 
 -- its name, and the text of its value
 abbrev pub seen : Attribute → List ℕ × List ℕ
-seen a = (a.name.now, word_text a.value)
+seen a = (a.0.now, word_text a.1)

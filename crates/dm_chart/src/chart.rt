@@ -15,7 +15,7 @@ use crate::key::{put_marks, put_meanings, put_style_sheet};
 use crate::lines::{put_lines, put_living};
 use crate::role::{Life, Role, role_of};
 use crate::spot::first_spot;
-use crate::xml::{put_alone, put_closing, put_opening, with};
+use crate::xml::{put_alone, put_closing, put_opening, Attribute};
 use dm_line::line::Line;
 use dm_link::Pid;
 use dm_lists::Items;
@@ -25,7 +25,7 @@ use dm_text::word::Word::{Byte, Name, Number, Wide};
 use std::alloc::Global;
 
 /// The names of the processes that are there from the start.
-#[tactic(auto, using(crate::proofs::Pieces::pieces_lemmas))]
+#[tactic(auto, using(crate::proofs::Pieces::map_lemmas))]
 pub fn starts_of(alloc: Global, boot: &Boot) -> Result<Items<Pid>, NoMemory>
     ensures { IfOk result (λ ps. ps ≡ boot_pids boot.now) }
 {
@@ -89,7 +89,7 @@ fn processes_in(alloc: Global, starts: &[Pid], lines: &[Line]) -> Result<Items<P
 }
 
 /// Adds the processes that are there from the start.
-#[tactic(auto, using(crate::proofs::Pieces::pieces_lemmas))]
+#[tactic(auto, using(crate::proofs::Pieces::same_lemmas))]
 fn push_starts(processes: &mut Items<Pid>, starts: &[Pid]) -> Result<(), NoMemory>
     ensures { OnOk result (processes.new ≡ processes.old ++ starts.now) }
 {
@@ -100,7 +100,7 @@ fn push_starts(processes: &mut Items<Pid>, starts: &[Pid]) -> Result<(), NoMemor
 }
 
 /// Adds the processes that are made.
-#[tactic(auto, using(crate::proofs::Pieces::pieces_lemmas))]
+#[tactic(auto, using(crate::proofs::Pieces::flat_lemmas))]
 fn push_made(processes: &mut Items<Pid>, lines: &[Line]) -> Result<(), NoMemory>
     ensures { OnOk result (processes.new ≡ processes.old ++ flat_map (λ l. made_in (role_of l)) lines.now) }
 {
@@ -177,9 +177,9 @@ fn put_extent(into: &mut Vec<u8>, frame: &Frame) -> Result<(), NoMemory>
         into,
         "svg",
         &[
-            with("xmlns", Name("http://www.w3.org/2000/svg")),
-            with("width", Number(breadth(frame))),
-            with("height", Number(height(frame.rows) + 44)),
+            Attribute("xmlns", Name("http://www.w3.org/2000/svg")),
+            Attribute("width", Number(breadth(frame))),
+            Attribute("height", Number(height(frame.rows) + 44)),
         ],
     )
 }
@@ -193,9 +193,9 @@ fn put_sheet(into: &mut Vec<u8>, frame: &Frame) -> Result<(), NoMemory>
         into,
         "rect",
         &[
-            with("width", Number(breadth(frame))),
-            with("height", Number(height(frame.rows) + 44)),
-            with("fill", Name("#fff")),
+            Attribute("width", Number(breadth(frame))),
+            Attribute("height", Number(height(frame.rows) + 44)),
+            Attribute("fill", Name("#fff")),
         ],
     )
 }

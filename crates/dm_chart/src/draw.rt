@@ -5,11 +5,11 @@ ghost use Rattle.dm_chart.specs.Measures.{on_axis};
 ghost use Rattle.dm_chart.specs.Drawn.{draw_arrow, draw_bar, draw_beside, draw_column, draw_group, draw_lost, draw_moves, draw_packet, draw_way, directive_words, drawn_mark, stroke, tinted, written};
 
 use crate::frame::{
-    Frame, Point, axis, beside, height, lane_at, number_of, on_axis, on_lane, towards,
+    Frame, Place, Point, axis, beside, height, lane_at, number_of, on_axis, on_lane, towards,
 };
 use crate::role::Letter;
 use crate::style::{Style, arrow_class, label_class, loop_name, tint};
-use crate::xml::{put_alone, put_around, with};
+use crate::xml::{put_alone, put_around, Attribute};
 use dm_link::Pid;
 use dm_memory::NoMemory;
 use dm_schedule::Step;
@@ -25,11 +25,11 @@ fn put_stroke(into: &mut Vec<u8>, class: &'static str, p: Point, q: Point) -> Re
         into,
         "line",
         &[
-            with("class", Name(class)),
-            with("x1", Number(p.x)),
-            with("y1", Number(p.y)),
-            with("x2", Number(q.x)),
-            with("y2", Number(q.y)),
+            Attribute("class", Name(class)),
+            Attribute("x1", Number(p.x)),
+            Attribute("y1", Number(p.y)),
+            Attribute("x2", Number(q.x)),
+            Attribute("y2", Number(q.y)),
         ],
     )
 }
@@ -49,12 +49,12 @@ fn put_tinted(
         into,
         "line",
         &[
-            with("class", Name(class)),
-            with("stroke", Name(colour)),
-            with("x1", Number(p.x)),
-            with("y1", Number(p.y)),
-            with("x2", Number(q.x)),
-            with("y2", Number(q.y)),
+            Attribute("class", Name(class)),
+            Attribute("stroke", Name(colour)),
+            Attribute("x1", Number(p.x)),
+            Attribute("y1", Number(p.y)),
+            Attribute("x2", Number(q.x)),
+            Attribute("y2", Number(q.y)),
         ],
     )
 }
@@ -68,9 +68,9 @@ fn put_mark(into: &mut Vec<u8>, name: &'static str, p: Point) -> Result<(), NoMe
         into,
         "use",
         &[
-            with("href", Name(name)),
-            with("x", Number(p.x)),
-            with("y", Number(p.y)),
+            Attribute("href", Name(name)),
+            Attribute("x", Number(p.x)),
+            Attribute("y", Number(p.y)),
         ],
     )
 }
@@ -89,9 +89,9 @@ pub fn put_written(
         into,
         "text",
         &[
-            with("class", Name(class)),
-            with("x", Number(p.x)),
-            with("y", Number(p.y)),
+            Attribute("class", Name(class)),
+            Attribute("x", Number(p.x)),
+            Attribute("y", Number(p.y)),
         ],
         words,
     )
@@ -101,17 +101,15 @@ pub fn put_written(
 #[tactic(auto, unfolding(crate::specs::Drawn::draw_beside))]
 pub fn put_beside(
     into: &mut Vec<u8>,
-    frame: &Frame,
-    m: u8,
-    row: u32,
+    place: &Place<'_>,
     class: &'static str,
     words: &[Word],
 ) -> Result<(), NoMemory>
-    ensures { OnOk result (into.new.items ≡ into.old.items ++ draw_beside frame.now m row class.now (map word_text words.now)) }
+    ensures { OnOk result (into.new.items ≡ into.old.items ++ draw_beside place.now.frame.now place.now.m place.now.row class.now (map word_text words.now)) }
 {
     let p = Point {
-        x: beside(frame, m),
-        y: height(row) - 3,
+        x: beside(place.frame, place.m),
+        y: height(place.row) - 3,
     };
     put_written(into, class, p, words)
 }
@@ -280,11 +278,14 @@ pub fn put_arrow(
     ensures { OnOk result (into.new.items ≡ into.old.items ++ draw_arrow frame.now style letter row last) }
 {
     put_way(into, frame, style, letter.from, letter.to, row, last)?;
+    let place = Place {
+        frame,
+        m: letter.from,
+        row,
+    };
     put_beside(
         into,
-        frame,
-        letter.from,
-        row,
+        &place,
         label_class(style),
         &[
             Message(letter.id),

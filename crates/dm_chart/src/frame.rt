@@ -33,6 +33,14 @@ pub struct Frame {
     pub rows: u32,
 }
 
+/// A row beside a machine of a picture.
+#[derive(Clone, Copy)]
+pub struct Place<'a> {
+    pub frame: &'a Frame,
+    pub m: u8,
+    pub row: u32,
+}
+
 /// How many lanes there are.
 fn few(count: usize) -> u32
     ensures few { result ≡ few count }

@@ -7,7 +7,7 @@ use crate::xml::put_text;
 use dm_memory::NoMemory;
 
 /// Writes texts, one behind another.
-#[tactic(auto, using(crate::proofs::Pieces::pieces_lemmas))]
+#[tactic(auto, using(crate::proofs::Pieces::concat_lemmas))]
 fn put_texts(into: &mut Vec<u8>, texts: &[&'static str]) -> Result<(), NoMemory>
     ensures { OnOk result (into.new.items ≡ into.old.items ++ concat (map (λ t. t.now) texts.now)) }
 {

@@ -8,7 +8,7 @@ ghost use Rattle.dm_chart.specs.Drawn.{draw_beside, draw_note};
 ghost use Rattle.dm_chart.specs.Notes.{call_note, label_note, note_of, resent_note, stage_words};
 
 use crate::draw::put_beside;
-use crate::frame::Frame;
+use crate::frame::{Frame, Place};
 use dm_line::line::{Line, Stage};
 use dm_link::Pid;
 use dm_memory::NoMemory;
@@ -34,66 +34,56 @@ const PACKET: &str = "c4";
 /// A note of a message.
 fn note_message(
     into: &mut Vec<u8>,
-    frame: &Frame,
-    m: u8,
-    row: u32,
+    place: &Place<'_>,
     class: &'static str,
     name: &'static str,
     id: MsgId,
 ) -> Result<(), NoMemory>
-    ensures { OnOk result (into.new.items ≡ into.old.items ++ draw_beside frame.now m row class.now (name.now ∷ id_word id ∷ [])) }
+    ensures { OnOk result (into.new.items ≡ into.old.items ++ draw_beside place.now.frame.now place.now.m place.now.row class.now (name.now ∷ id_word id ∷ [])) }
 {
-    put_beside(into, frame, m, row, class, &[Name(name), Message(id)])
+    put_beside(into, place, class, &[Name(name), Message(id)])
 }
 
 /// A note of a process.
 fn note_process(
     into: &mut Vec<u8>,
-    frame: &Frame,
-    m: u8,
-    row: u32,
+    place: &Place<'_>,
     class: &'static str,
     name: &'static str,
     pid: Pid,
 ) -> Result<(), NoMemory>
-    ensures { OnOk result (into.new.items ≡ into.old.items ++ draw_beside frame.now m row class.now (name.now ∷ pid_word pid ∷ [])) }
+    ensures { OnOk result (into.new.items ≡ into.old.items ++ draw_beside place.now.frame.now place.now.m place.now.row class.now (name.now ∷ pid_word pid ∷ [])) }
 {
-    put_beside(into, frame, m, row, class, &[Name(name), Process(pid)])
+    put_beside(into, place, class, &[Name(name), Process(pid)])
 }
 
 /// A note of a number.
 fn note_number(
     into: &mut Vec<u8>,
-    frame: &Frame,
-    m: u8,
-    row: u32,
+    place: &Place<'_>,
     class: &'static str,
     name: &'static str,
     n: u32,
 ) -> Result<(), NoMemory>
-    ensures { OnOk result (into.new.items ≡ into.old.items ++ draw_beside frame.now m row class.now (name.now ∷ decimal n ∷ [])) }
+    ensures { OnOk result (into.new.items ≡ into.old.items ++ draw_beside place.now.frame.now place.now.m place.now.row class.now (name.now ∷ decimal n ∷ [])) }
 {
-    put_beside(into, frame, m, row, class, &[Name(name), Number(n)])
+    put_beside(into, place, class, &[Name(name), Number(n)])
 }
 
 /// A note of what a process does with a message.
 fn note_done(
     into: &mut Vec<u8>,
-    frame: &Frame,
-    m: u8,
-    row: u32,
+    place: &Place<'_>,
     class: &'static str,
     pid: Pid,
     does: &'static str,
     id: MsgId,
 ) -> Result<(), NoMemory>
-    ensures { OnOk result (into.new.items ≡ into.old.items ++ draw_beside frame.now m row class.now (pid_word pid ∷ does.now ∷ id_word id ∷ [])) }
+    ensures { OnOk result (into.new.items ≡ into.old.items ++ draw_beside place.now.frame.now place.now.m place.now.row class.now (pid_word pid ∷ does.now ∷ id_word id ∷ [])) }
 {
     put_beside(
         into,
-        frame,
-        m,
-        row,
+        place,
         class,
         &[Process(pid), Name(does), Message(id)],
     )
@@ -102,21 +92,17 @@ fn note_done(
 /// A note of what a process does with a number.
 fn note_said(
     into: &mut Vec<u8>,
-    frame: &Frame,
-    m: u8,
-    row: u32,
+    place: &Place<'_>,
     class: &'static str,
     pid: Pid,
     does: &'static str,
     n: u32,
 ) -> Result<(), NoMemory>
-    ensures { OnOk result (into.new.items ≡ into.old.items ++ draw_beside frame.now m row class.now (pid_word pid ∷ does.now ∷ decimal n ∷ [])) }
+    ensures { OnOk result (into.new.items ≡ into.old.items ++ draw_beside place.now.frame.now place.now.m place.now.row class.now (pid_word pid ∷ does.now ∷ decimal n ∷ [])) }
 {
     put_beside(
         into,
-        frame,
-        m,
-        row,
+        place,
         class,
         &[Process(pid), Name(does), Number(n)],
     )
@@ -132,6 +118,7 @@ pub fn put_note(
 ) -> Result<(), NoMemory>
     ensures { OnOk result (into.new.items ≡ into.old.items ++ draw_note frame.now m row (note_of line.now)) }
 {
+    let place = &Place { frame, m, row };
     match *line {
         Line::Head(_)
         | Line::Idle(_)
@@ -142,46 +129,44 @@ pub fn put_note(
         | Line::Nothing
         | Line::Queued(_)
         | Line::Proto(_) => Ok(()),
-        Line::Label(label) => put_label_note(into, frame, m, row, label),
-        Line::Old { n, .. } => note_number(into, frame, m, row, PACKET, "again: number ", n),
-        Line::Early { n, .. } => note_number(into, frame, m, row, PACKET, "early: number ", n),
-        Line::Resent { count, .. } => put_resent(into, frame, m, row, count),
-        Line::Held(id) => note_message(into, frame, m, row, HELD, "held: ", id),
-        Line::Forwarded { id, .. } => { note_message(into, frame, m, row, HELD, "forwarded: ", id) }
+        Line::Label(label) => put_label_note(into, place, label),
+        Line::Old { n, .. } => note_number(into, place, PACKET, "again: number ", n),
+        Line::Early { n, .. } => note_number(into, place, PACKET, "early: number ", n),
+        Line::Resent { count, .. } => put_resent(into, place, count),
+        Line::Held(id) => note_message(into, place, HELD, "held: ", id),
+        Line::Forwarded { id, .. } => { note_message(into, place, HELD, "forwarded: ", id) }
         Line::Updated { count, .. } => {
-            note_number(into, frame, m, row, PLAIN, "links that follow: ", count)
+            note_number(into, place, PLAIN, "links that follow: ", count)
         }
         Line::Migration { step, pid } => {
-            note_process(into, frame, m, row, STEP, stage_name(step), pid)
+            note_process(into, place, STEP, stage_name(step), pid)
         }
-        Line::SentOn { pid, count } => put_sent_on(into, frame, m, row, pid, count),
+        Line::SentOn { pid, count } => put_sent_on(into, place, pid, count),
         Line::Lacks {
             pid,
             free_slots,
             free_blocks,
-        } => put_lacks(into, frame, m, row, pid, free_slots, free_blocks),
-        Line::Stays(pid) => note_process(into, frame, m, row, STEP, "stays: ", pid),
-        Line::Here(id) => note_message(into, frame, m, row, STEP, "is here already, ", id),
-        Line::NoMove(id) => note_message(into, frame, m, row, STEP, "has ended, ", id),
-        Line::NoChild(pid) => note_process(into, frame, m, row, STEP, "no child: ", pid),
-        Line::Pinned(pid) => note_process(into, frame, m, row, STEP, "can't move: ", pid),
+        } => put_lacks(into, place, pid, free_slots, free_blocks),
+        Line::Stays(pid) => note_process(into, place, STEP, "stays: ", pid),
+        Line::Here(id) => note_message(into, place, STEP, "is here already, ", id),
+        Line::NoMove(id) => note_message(into, place, STEP, "has ended, ", id),
+        Line::NoChild(pid) => note_process(into, place, STEP, "no child: ", pid),
+        Line::Pinned(pid) => note_process(into, place, STEP, "can't move: ", pid),
     }
 }
 
 /// The note of a tick that has something to send again.
 fn put_resent(
     into: &mut Vec<u8>,
-    frame: &Frame,
-    m: u8,
-    row: u32,
+    place: &Place<'_>,
     count: u32,
 ) -> Result<(), NoMemory>
-    ensures { OnOk result (into.new.items ≡ into.old.items ++ draw_note frame.now m row (resent_note count)) }
+    ensures { OnOk result (into.new.items ≡ into.old.items ++ draw_note place.now.frame.now place.now.m place.now.row (resent_note count)) }
 {
     if count == 0 {
         return Ok(());
     }
-    note_number(into, frame, m, row, PACKET, "sends again: ", count)
+    note_number(into, place, PACKET, "sends again: ", count)
 }
 
 /// The words of a step of a migration.
@@ -202,20 +187,16 @@ fn stage_name(step: Stage) -> &'static str
 /// The note of step 6 of a migration.
 fn put_sent_on(
     into: &mut Vec<u8>,
-    frame: &Frame,
-    m: u8,
-    row: u32,
+    place: &Place<'_>,
     pid: Pid,
     count: u32,
 ) -> Result<(), NoMemory>
     ensures { OnOk result (into.new.items ≡ into.old.items ++
-        draw_beside frame.now m row (codes "c3") (codes "6 sends on " ∷ decimal count ∷ codes ": " ∷ pid_word pid ∷ [])) }
+        draw_beside place.now.frame.now place.now.m place.now.row (codes "c3") (codes "6 sends on " ∷ decimal count ∷ codes ": " ∷ pid_word pid ∷ [])) }
 {
     put_beside(
         into,
-        frame,
-        m,
-        row,
+        place,
         STEP,
         &[Name("6 sends on "), Number(count), Name(": "), Process(pid)],
     )
@@ -224,22 +205,18 @@ fn put_sent_on(
 /// The note of a process that can't come.
 fn put_lacks(
     into: &mut Vec<u8>,
-    frame: &Frame,
-    m: u8,
-    row: u32,
+    place: &Place<'_>,
     pid: Pid,
     slots: u8,
     blocks: u16,
 ) -> Result<(), NoMemory>
     ensures { OnOk result (into.new.items ≡ into.old.items ++
-        draw_beside frame.now m row (codes "c3")
+        draw_beside place.now.frame.now place.now.m place.now.row (codes "c3")
         (codes "no room for " ∷ pid_word pid ∷ codes ": slots " ∷ decimal slots ∷ codes ", blocks " ∷ decimal blocks ∷ [])) }
 {
     put_beside(
         into,
-        frame,
-        m,
-        row,
+        place,
         STEP,
         &[
             Name("no room for "),
@@ -255,25 +232,21 @@ fn put_lacks(
 /// The note of a step of the kernel without machines.
 fn put_label_note(
     into: &mut Vec<u8>,
-    frame: &Frame,
-    m: u8,
-    row: u32,
+    place: &Place<'_>,
     label: Label,
 ) -> Result<(), NoMemory>
-    ensures { OnOk result (into.new.items ≡ into.old.items ++ draw_note frame.now m row (label_note label)) }
+    ensures { OnOk result (into.new.items ≡ into.old.items ++ draw_note place.now.frame.now place.now.m place.now.row (label_note label)) }
 {
     match label {
         Label::Ran { .. } | Label::Send { .. } | Label::Wait { .. } | Label::Took { .. } => Ok(()),
         Label::Call { pid, number, reply } => {
-            put_call(into, frame, m, row, pid, number, reply.code())
+            put_call(into, place, pid, number, reply.code())
         }
-        Label::Out { pid, word } => note_said(into, frame, m, row, RESULT, pid, " out ", word),
+        Label::Out { pid, word } => note_said(into, place, RESULT, pid, " out ", word),
         Label::End { pid, why } => {
             note_said(
                 into,
-                frame,
-                m,
-                row,
+                place,
                 RESULT,
                 pid,
                 " ends, why ",
@@ -281,40 +254,36 @@ fn put_label_note(
             )
         }
         Label::Receive { pid, id } => {
-            note_done(into, frame, m, row, PLAIN, pid, " receives ", id)
+            note_done(into, place, PLAIN, pid, " receives ", id)
         }
-        Label::Refuse { pid, id, reply } => put_refuse(into, frame, m, row, pid, id, reply),
-        Label::Dropped { id } => note_message(into, frame, m, row, HELD, "dropped ", id),
-        Label::Served { id } => note_message(into, frame, m, row, PLAIN, "served ", id),
-        Label::Gone { id } => note_message(into, frame, m, row, PLAIN, "gone, for ", id),
-        Label::Created { pid, .. } => note_process(into, frame, m, row, RESULT, "makes ", pid),
+        Label::Refuse { pid, id, reply } => put_refuse(into, place, pid, id, reply),
+        Label::Dropped { id } => note_message(into, place, HELD, "dropped ", id),
+        Label::Served { id } => note_message(into, place, PLAIN, "served ", id),
+        Label::Gone { id } => note_message(into, place, PLAIN, "gone, for ", id),
+        Label::Created { pid, .. } => note_process(into, place, RESULT, "makes ", pid),
         Label::NoSpace {
             free_slots,
             free_blocks,
             ..
-        } => put_no_space(into, frame, m, row, free_slots, free_blocks),
-        Label::Asked { id } => note_message(into, frame, m, row, STEP, "is asked to move, ", id),
-        Label::Answered { id, outcome } => put_answered(into, frame, m, row, id, outcome),
+        } => put_no_space(into, place, free_slots, free_blocks),
+        Label::Asked { id } => note_message(into, place, STEP, "is asked to move, ", id),
+        Label::Answered { id, outcome } => put_answered(into, place, id, outcome),
     }
 }
 
 /// The note of a request to move that is answered.
 fn put_answered(
     into: &mut Vec<u8>,
-    frame: &Frame,
-    m: u8,
-    row: u32,
+    place: &Place<'_>,
     id: MsgId,
     outcome: Outcome,
 ) -> Result<(), NoMemory>
     ensures { OnOk result (into.new.items ≡ into.old.items ++
-        draw_beside frame.now m row (codes "c3") (codes "answers " ∷ id_word id ∷ codes ": " ∷ decimal (code_of_outcome outcome) ∷ [])) }
+        draw_beside place.now.frame.now place.now.m place.now.row (codes "c3") (codes "answers " ∷ id_word id ∷ codes ": " ∷ decimal (code_of_outcome outcome) ∷ [])) }
 {
     put_beside(
         into,
-        frame,
-        m,
-        row,
+        place,
         STEP,
         &[
             Name("answers "),
@@ -328,23 +297,19 @@ fn put_answered(
 /// The note of a call that was refused.
 fn put_call(
     into: &mut Vec<u8>,
-    frame: &Frame,
-    m: u8,
-    row: u32,
+    place: &Place<'_>,
     pid: Pid,
     number: u8,
     code: u8,
 ) -> Result<(), NoMemory>
-    ensures { OnOk result (into.new.items ≡ into.old.items ++ draw_note frame.now m row (call_note pid number code)) }
+    ensures { OnOk result (into.new.items ≡ into.old.items ++ draw_note place.now.frame.now place.now.m place.now.row (call_note pid number code)) }
 {
     if code == 0 {
         return Ok(());
     }
     put_beside(
         into,
-        frame,
-        m,
-        row,
+        place,
         PLAIN,
         &[
             Process(pid),
@@ -359,21 +324,17 @@ fn put_call(
 /// The note of a refused receive.
 fn put_refuse(
     into: &mut Vec<u8>,
-    frame: &Frame,
-    m: u8,
-    row: u32,
+    place: &Place<'_>,
     pid: Pid,
     id: MsgId,
     reply: Reply,
 ) -> Result<(), NoMemory>
     ensures { OnOk result (into.new.items ≡ into.old.items ++
-        draw_beside frame.now m row (codes "c0") (pid_word pid ∷ codes " is refused " ∷ id_word id ∷ codes ": " ∷ decimal (reply_code reply) ∷ [])) }
+        draw_beside place.now.frame.now place.now.m place.now.row (codes "c0") (pid_word pid ∷ codes " is refused " ∷ id_word id ∷ codes ": " ∷ decimal (reply_code reply) ∷ [])) }
 {
     put_beside(
         into,
-        frame,
-        m,
-        row,
+        place,
         PLAIN,
         &[
             Process(pid),
@@ -388,20 +349,16 @@ fn put_refuse(
 /// The note of a process that could not be made.
 fn put_no_space(
     into: &mut Vec<u8>,
-    frame: &Frame,
-    m: u8,
-    row: u32,
+    place: &Place<'_>,
     slots: u8,
     blocks: u16,
 ) -> Result<(), NoMemory>
     ensures { OnOk result (into.new.items ≡ into.old.items ++
-        draw_beside frame.now m row (codes "c1") (codes "no room: slots " ∷ decimal slots ∷ codes ", blocks " ∷ decimal blocks ∷ [])) }
+        draw_beside place.now.frame.now place.now.m place.now.row (codes "c1") (codes "no room: slots " ∷ decimal slots ∷ codes ", blocks " ∷ decimal blocks ∷ [])) }
 {
     put_beside(
         into,
-        frame,
-        m,
-        row,
+        place,
         RESULT,
         &[
             Name("no room: slots "),

@@ -121,7 +121,7 @@ fn is_among(id: MsgId, ids: &[MsgId]) -> bool
 }
 
 /// The messages of these lines that kill a process.
-#[tactic(auto, using(crate::proofs::Pieces::pieces_lemmas))]
+#[tactic(auto, using(crate::proofs::Pieces::flat_lemmas))]
 pub fn kills_of(alloc: Global, lines: &[Line], pid: Pid) -> Result<Items<MsgId>, NoMemory>
     ensures { IfOk result (λ ids. ids ≡ kills_of pid lines.now) }
 {

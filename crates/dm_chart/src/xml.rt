@@ -10,18 +10,7 @@ use dm_text::word::{Word, put_bare};
 
 /// An attribute of an element.
 #[derive(Clone, Copy)]
-pub struct Attribute<'a> {
-    pub name: &'static str,
-    pub value: Word<'a>,
-}
-
-/// An attribute with this name and value.
-pub fn with<'a>(name: &'static str, value: Word<'a>) -> Attribute<'a>
-    ensures name { result.name.now ≡ name.now }
-    ensures value { result.value ≡ value.entry }
-{
-    Attribute { name, value }
-}
+pub struct Attribute<'a>(pub &'static str, pub Word<'a>);
 
 /// Writes a text.
 pub fn put_text(into: &mut Vec<u8>, text: &'static str) -> Result<(), NoMemory>
@@ -31,7 +20,7 @@ pub fn put_text(into: &mut Vec<u8>, text: &'static str) -> Result<(), NoMemory>
 }
 
 /// Writes words, one behind another.
-#[tactic(auto, using(crate::proofs::Pieces::pieces_lemmas))]
+#[tactic(auto, using(crate::proofs::Pieces::concat_lemmas))]
 pub fn put_words(into: &mut Vec<u8>, words: &[Word]) -> Result<(), NoMemory>
     ensures { OnOk result (into.new.items ≡ into.old.items ++ concat (map word_text words.now)) }
 {
@@ -42,14 +31,13 @@ pub fn put_words(into: &mut Vec<u8>, words: &[Word]) -> Result<(), NoMemory>
 }
 
 /// Writes an attribute.
-#[tactic(auto, using(crate::proofs::Pieces::pieces_lemmas))]
 fn put_attribute(into: &mut Vec<u8>, one: &Attribute) -> Result<(), NoMemory>
     ensures { OnOk result (into.new.items ≡ into.old.items ++ attribute (seen one.now)) }
 {
     put_text(into, " ")?;
-    put_text(into, one.name)?;
+    put_text(into, one.0)?;
     put_text(into, "='")?;
-    put_bare(into, &one.value)?;
+    put_bare(into, &one.1)?;
     put_text(into, "'")
 }
 
@@ -65,7 +53,7 @@ fn put_attributes(into: &mut Vec<u8>, all: &[Attribute]) -> Result<(), NoMemory>
 }
 
 /// Writes an element with nothing in it.
-#[tactic(auto, unfolding(crate::specs::Xml::alone), using(crate::proofs::Pieces::pieces_lemmas))]
+#[tactic(auto, unfolding(crate::specs::Xml::alone))]
 pub fn put_alone(
     into: &mut Vec<u8>,
     name: &'static str,
@@ -80,7 +68,7 @@ pub fn put_alone(
 }
 
 /// Writes an element round words.
-#[tactic(auto, unfolding(crate::specs::Xml::element_around), using(crate::proofs::Pieces::pieces_lemmas))]
+#[tactic(auto, unfolding(crate::specs::Xml::element_around))]
 pub fn put_around(
     into: &mut Vec<u8>,
     name: &'static str,
