@@ -5,13 +5,6 @@ use Rattle.dm_explain.proofs.Names.{◌≡◌, ℕ, zero, suc, ◌+◌, ◌<◌,
 pub read_at : {X : Type 0} (xs : List X) (i : ℕ) (x : X) → i < length xs → x ≡ get_or xs i x → drop i xs ≡ x ∷ drop (i + 1) xs
 read_at xs i x within read = drop_more xs i x within ∙ ap (λ y. y ∷ drop (i + 1) xs) (sym read)
 
-pub flat-end : {X A : Type 0} (f : X → List A) (done : List A) (xs : List X) (i : ℕ) → length xs ≤ i → done ++ flat_map f (drop i xs) ≡ done
-flat-end f done xs i past = ap (λ ys. done ++ flat_map f ys) (drop_of_length-le xs past) ∙ append-nil done
-
-pub flat-more : {X A : Type 0} (f : X → List A) (done : List A) (xs : List X) (i : ℕ) (x : X) → i < length xs → x ≡ get_or xs i x → done ++ flat_map f (drop i xs) ≡ (done ++ f x) ++ flat_map f (drop (i + 1) xs)
-flat-more f done xs i x within read =
-    ap (λ ys. done ++ flat_map f ys) (read_at xs i x within read) ∙ sym (append_assoc done (f x) (flat_map f (drop (i + 1) xs)))
-
 pub concat-end : {X : Type 0} (f : X → List ℕ) (done : List ℕ) (xs : List X) (i : ℕ) → length xs ≤ i → done ++ concat (map f (drop i xs)) ≡ done
 concat-end f done xs i past = ap (λ ys. done ++ concat (map f ys)) (drop_of_length-le xs past) ∙ append-nil done
 
@@ -25,12 +18,6 @@ map-end f done xs i past = ap (λ ys. done ++ map f ys) (drop_of_length-le xs pa
 pub map-more : {X A : Type 0} (f : X → A) (done : List A) (xs : List X) (i : ℕ) (x : X) → i < length xs → x ≡ get_or xs i x → done ++ map f (drop i xs) ≡ (done ++ f x ∷ []) ++ map f (drop (i + 1) xs)
 map-more f done xs i x within read =
     ap (λ ys. done ++ map f ys) (read_at xs i x within read) ∙ sym (append_assoc done (f x ∷ []) (map f (drop (i + 1) xs)))
-
-pub same-end : {X : Type 0} (done xs : List X) (i : ℕ) → length xs ≤ i → done ++ drop i xs ≡ done
-same-end done xs i past = ap (λ ys. done ++ ys) (drop_of_length-le xs past) ∙ append-nil done
-
-pub same-more : {X : Type 0} (done xs : List X) (i : ℕ) (x : X) → i < length xs → x ≡ get_or xs i x → done ++ drop i xs ≡ (done ++ x ∷ []) ++ drop (i + 1) xs
-same-more done xs i x within read = ap (λ ys. done ++ ys) (read_at xs i x within read) ∙ sym (append_assoc done (x ∷ []) (drop (i + 1) xs))
 
 pub mapped-end : {X Y A : Type 0} (g : Y → List A) (f : X → Y) (done : List A) (xs : List X) (i : ℕ) → length xs ≤ i → done ++ flat_map g (map f (drop i xs)) ≡ done
 mapped-end g f done xs i past = ap (λ ys. done ++ flat_map g (map f ys)) (drop_of_length-le xs past) ∙ append-nil done
@@ -58,10 +45,18 @@ get_or_same (x ∷ xs) (suc i) d e within = get_or_same xs i d e (omega arith)
 pub each-copied : {X : Type 0} (told : ℕ → X → List ℕ) (done : List ℕ) (xs : List X) (i : ℕ) (d : X) → i < length xs → done ++ each told i (drop i xs) ≡ (done ++ told i (get_or xs i d)) ++ each told (i + 1) (drop (i + 1) xs)
 each-copied told done xs i d within = each-more told done xs i (get_or xs i d) within (get_or_same xs i d (get_or xs i d) within)
 
+pub concat-copied : {X : Type 0} (f : X → List ℕ) (done : List ℕ) (xs : List X) (i : ℕ) (d : X) → i < length xs → done ++ concat (map f (drop i xs)) ≡ (done ++ f (get_or xs i d)) ++ concat (map f (drop (i + 1) xs))
+concat-copied f done xs i d within = concat-more f done xs i (get_or xs i d) within (get_or_same xs i d (get_or xs i d) within)
+
+pub map-copied : {X A : Type 0} (f : X → A) (done : List A) (xs : List X) (i : ℕ) (d : X) → i < length xs → done ++ map f (drop i xs) ≡ (done ++ f (get_or xs i d) ∷ []) ++ map f (drop (i + 1) xs)
+map-copied f done xs i d within = map-more f done xs i (get_or xs i d) within (get_or_same xs i d (get_or xs i d) within)
+
 pub ruleset each_lemmas = (each-end, each-more)
 
 pub ruleset join_lemmas = (append_assoc)
 
 pub ruleset mapped_lemmas = (mapped-end, mapped-more)
 
-pub ruleset pieces_lemmas = (flat-end, flat-more, concat-end, concat-more, map-end, map-more, same-end, same-more)
+pub ruleset concat_lemmas = (concat-end)
+
+pub ruleset map_lemmas = (map-end)

@@ -1,9 +1,12 @@
 //! What is said of a boot file and of a schedule, whether they break a rule or not.
-ghost use Rattle.std.specs.Prelude.{◌≡◌, ◌++◌, IfOk, None, OnOk, Some};
+ghost use Rattle.std.specs.Prelude.{◌≡◌, ◌++◌, IfOk, None, OnOk, Some, option_map};
 ghost use Rattle.toml.specs.Errors.{IsWithin};
-ghost use Rattle.toml.specs.View.{table_view};
+ghost use Rattle.toml.specs.Data.{table};
+ghost use Rattle.toml.specs.View.{view};
 ghost use Rattle.dm_boot.specs.Boot.{document_of};
 ghost use Rattle.dm_explain.specs.Explained.{ExplainsBoot, ExplainsSchedule, IsLineSaid, IsToldValid, line_behind, unread_told};
+ghost use Rattle.dm_explain.specs.System.{system_told};
+ghost use Rattle.dm_explain.specs.Told.{broken_told};
 
 use crate::part::{Part, put, put_parts};
 use crate::schedule::{put_directives, put_line};
@@ -15,8 +18,8 @@ use dm_memory::of_toml::{DocumentError, table_from_slice};
 use dm_onekernel::Boot;
 use dm_schedule::{Directive, LineFault, ScheduleError, read_schedule};
 use std::alloc::Global;
+use toml::Value;
 use toml::de::Error;
-use toml::{Table, Value};
 
 /// What is said of a boot file.
 #[derive(Drop)]
@@ -57,32 +60,47 @@ pub fn explain_boot(alloc: Global, bytes: &[u8]) -> Result<BootTold, NoMemory>
     ensures valid { IfOk result IsToldValid }
 {
     match table_from_slice(alloc, bytes) {
-        Ok(table) => explain_table(alloc, bytes, table),
+        Ok(table) => explain_top(alloc, bytes, &Value::Table(table)),
         Err(DocumentError::Unread) => explain_unread(alloc, bytes),
         Err(DocumentError::NoMemory(no)) => Err(no),
     }
 }
 
-/// The same of a file that is a document.
-#[tactic(auto, using(dm_boot::proofs::Documents::document_lemmas))]
-fn explain_table(alloc: Global, bytes: &[u8], table: Table) -> Result<BootTold, NoMemory>
-    requires { document_of bytes.now ≡ Some (table_view table) }
+/// The same of a file that is a document, with its top table.
+fn explain_top(alloc: Global, bytes: &[u8], top: &Value) -> Result<BootTold, NoMemory>
+    requires { option_map table (document_of bytes.now) ≡ Some (view top.now) }
     ensures explains { IfOk result (λ told. ExplainsBoot bytes.now told) }
     ensures valid { IfOk result IsToldValid }
 {
-    let top = Value::Table(table);
-    let mut text = Vec::new(alloc);
     match read_boot(alloc, bytes) {
         Ok(boot) => {
-            put_system(&mut text, &boot, &top)?;
+            let text = system_text(alloc, &boot, top)?;
             Ok(BootTold::System { boot, text })
         }
         Err(BootError::Refused { rule, place }) => {
-            put_broken(alloc, &mut text, &top, rule, place)?;
+            let text = broken_text(alloc, top, rule, place)?;
             Ok(BootTold::Refused { rule, place, text })
         }
         Err(BootError::NoMemory(no)) => Err(no),
     }
+}
+
+/// What a boot file says.
+fn system_text(alloc: Global, boot: &Boot, top: &Value) -> Result<Vec<u8>, NoMemory>
+    ensures { IfOk result (λ text. text.items ≡ system_told boot.now (view top.now)) }
+{
+    let mut text = Vec::new(alloc);
+    put_system(&mut text, boot, top)?;
+    Ok(text)
+}
+
+/// What is said of a rule that the element at a place breaks.
+fn broken_text(alloc: Global, top: &Value, rule: BootRule, place: u64) -> Result<Vec<u8>, NoMemory>
+    ensures { IfOk result (λ text. text.items ≡ broken_told rule place (view top.now)) }
+{
+    let mut text = Vec::new(alloc);
+    put_broken(alloc, &mut text, top, rule, place)?;
+    Ok(text)
 }
 
 /// The same of a file that isn't one.

@@ -23,7 +23,7 @@ pub enum Part<'a> {
 }
 
 /// Writes parts, one behind another.
-#[tactic(auto, using(crate::proofs::Pieces::pieces_lemmas))]
+#[tactic(auto, using(crate::proofs::Pieces::concat_lemmas))]
 pub fn put_parts(into: &mut Vec<u8>, parts: &[Part]) -> Result<(), NoMemory>
     ensures { OnOk result (into.new.items ≡ into.old.items ++ concat (map part_text parts.now)) }
 {
@@ -77,7 +77,7 @@ fn put_quoted(into: &mut Vec<u8>, text: &[u8]) -> Result<(), NoMemory>
 }
 
 /// Writes a text of a file; a byte that isn't printed is shown as a question mark.
-#[tactic(auto, unfolding(crate::specs::Parts::shown), using(crate::proofs::Pieces::pieces_lemmas))]
+#[tactic(auto, unfolding(crate::specs::Parts::shown), using(crate::proofs::Pieces::map_lemmas))]
 fn put_shown(into: &mut Vec<u8>, text: &[u8]) -> Result<(), NoMemory>
     ensures { OnOk result (into.new.items ≡ into.old.items ++ shown text.now) }
 {
