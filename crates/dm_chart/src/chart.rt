@@ -15,7 +15,7 @@ use crate::key::{put_marks, put_meanings, put_style_sheet};
 use crate::lines::{put_lines, put_living};
 use crate::role::{Life, Role, role_of};
 use crate::spot::first_spot;
-use crate::xml::{put_alone, put_closing, put_opening, Attribute};
+use crate::xml::{Attribute, put_alone, put_closing, put_opening};
 use dm_line::line::Line;
 use dm_link::Pid;
 use dm_lists::Items;

@@ -9,7 +9,7 @@ use crate::frame::{
 };
 use crate::role::Letter;
 use crate::style::{Style, arrow_class, label_class, loop_name, tint};
-use crate::xml::{put_alone, put_around, Attribute};
+use crate::xml::{Attribute, put_alone, put_around};
 use dm_link::Pid;
 use dm_memory::NoMemory;
 use dm_schedule::Step;

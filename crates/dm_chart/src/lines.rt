@@ -8,7 +8,7 @@ ghost use Rattle.dm_chart.specs.Spots.{first_spot};
 use crate::draw::{
     put_arrow, put_bar, put_group, put_lost, put_marked_packet, put_moves, put_packet,
 };
-use crate::frame::{Frame, lane_of};
+use crate::frame::{Frame, Place, lane_of};
 use crate::notes::put_note;
 use crate::role::{Letter, Life, Role, role_of};
 use crate::scan::{Wanted, first_ahead, is_delivery, kills_of, number_among, was_put};
@@ -76,7 +76,12 @@ fn put_line(
     let spot = next_spot(before, line);
     put_beginning(into, frame, before, spot)?;
     put_role(alloc, into, frame, page, before.own, spot, role_of(line))?;
-    put_note(into, frame, spot.machine, spot.row, line)
+    let place = Place {
+        frame,
+        m: spot.machine,
+        row: spot.row,
+    };
+    put_note(into, &place, line)
 }
 
 /// Draws that a group begins, where this is its first row.

@@ -8,7 +8,7 @@ ghost use Rattle.dm_chart.specs.Drawn.{draw_beside, draw_note};
 ghost use Rattle.dm_chart.specs.Notes.{call_note, label_note, note_of, resent_note, stage_words};
 
 use crate::draw::put_beside;
-use crate::frame::{Frame, Place};
+use crate::frame::Place;
 use dm_line::line::{Line, Stage};
 use dm_link::Pid;
 use dm_memory::NoMemory;
@@ -81,12 +81,7 @@ fn note_done(
 ) -> Result<(), NoMemory>
     ensures { OnOk result (into.new.items ≡ into.old.items ++ draw_beside place.now.frame.now place.now.m place.now.row class.now (pid_word pid ∷ does.now ∷ id_word id ∷ [])) }
 {
-    put_beside(
-        into,
-        place,
-        class,
-        &[Process(pid), Name(does), Message(id)],
-    )
+    put_beside(into, place, class, &[Process(pid), Name(does), Message(id)])
 }
 
 /// A note of what a process does with a number.
@@ -100,25 +95,13 @@ fn note_said(
 ) -> Result<(), NoMemory>
     ensures { OnOk result (into.new.items ≡ into.old.items ++ draw_beside place.now.frame.now place.now.m place.now.row class.now (pid_word pid ∷ does.now ∷ decimal n ∷ [])) }
 {
-    put_beside(
-        into,
-        place,
-        class,
-        &[Process(pid), Name(does), Number(n)],
-    )
+    put_beside(into, place, class, &[Process(pid), Name(does), Number(n)])
 }
 
 /// Writes the note of a line beside a machine, where it has one.
-pub fn put_note(
-    into: &mut Vec<u8>,
-    frame: &Frame,
-    m: u8,
-    row: u32,
-    line: &Line,
-) -> Result<(), NoMemory>
-    ensures { OnOk result (into.new.items ≡ into.old.items ++ draw_note frame.now m row (note_of line.now)) }
+pub fn put_note(into: &mut Vec<u8>, place: &Place<'_>, line: &Line) -> Result<(), NoMemory>
+    ensures { OnOk result (into.new.items ≡ into.old.items ++ draw_note place.now.frame.now place.now.m place.now.row (note_of line.now)) }
 {
-    let place = &Place { frame, m, row };
     match *line {
         Line::Head(_)
         | Line::Idle(_)
@@ -138,9 +121,7 @@ pub fn put_note(
         Line::Updated { count, .. } => {
             note_number(into, place, PLAIN, "links that follow: ", count)
         }
-        Line::Migration { step, pid } => {
-            note_process(into, place, STEP, stage_name(step), pid)
-        }
+        Line::Migration { step, pid } => { note_process(into, place, STEP, stage_name(step), pid) }
         Line::SentOn { pid, count } => put_sent_on(into, place, pid, count),
         Line::Lacks {
             pid,
@@ -156,11 +137,7 @@ pub fn put_note(
 }
 
 /// The note of a tick that has something to send again.
-fn put_resent(
-    into: &mut Vec<u8>,
-    place: &Place<'_>,
-    count: u32,
-) -> Result<(), NoMemory>
+fn put_resent(into: &mut Vec<u8>, place: &Place<'_>, count: u32) -> Result<(), NoMemory>
     ensures { OnOk result (into.new.items ≡ into.old.items ++ draw_note place.now.frame.now place.now.m place.now.row (resent_note count)) }
 {
     if count == 0 {
@@ -185,12 +162,7 @@ fn stage_name(step: Stage) -> &'static str
 }
 
 /// The note of step 6 of a migration.
-fn put_sent_on(
-    into: &mut Vec<u8>,
-    place: &Place<'_>,
-    pid: Pid,
-    count: u32,
-) -> Result<(), NoMemory>
+fn put_sent_on(into: &mut Vec<u8>, place: &Place<'_>, pid: Pid, count: u32) -> Result<(), NoMemory>
     ensures { OnOk result (into.new.items ≡ into.old.items ++
         draw_beside place.now.frame.now place.now.m place.now.row (codes "c3") (codes "6 sends on " ∷ decimal count ∷ codes ": " ∷ pid_word pid ∷ [])) }
 {
@@ -230,18 +202,12 @@ fn put_lacks(
 }
 
 /// The note of a step of the kernel without machines.
-fn put_label_note(
-    into: &mut Vec<u8>,
-    place: &Place<'_>,
-    label: Label,
-) -> Result<(), NoMemory>
+fn put_label_note(into: &mut Vec<u8>, place: &Place<'_>, label: Label) -> Result<(), NoMemory>
     ensures { OnOk result (into.new.items ≡ into.old.items ++ draw_note place.now.frame.now place.now.m place.now.row (label_note label)) }
 {
     match label {
         Label::Ran { .. } | Label::Send { .. } | Label::Wait { .. } | Label::Took { .. } => Ok(()),
-        Label::Call { pid, number, reply } => {
-            put_call(into, place, pid, number, reply.code())
-        }
+        Label::Call { pid, number, reply } => { put_call(into, place, pid, number, reply.code()) }
         Label::Out { pid, word } => note_said(into, place, RESULT, pid, " out ", word),
         Label::End { pid, why } => {
             note_said(
@@ -253,9 +219,7 @@ fn put_label_note(
                 u32::from(why.code()),
             )
         }
-        Label::Receive { pid, id } => {
-            note_done(into, place, PLAIN, pid, " receives ", id)
-        }
+        Label::Receive { pid, id } => { note_done(into, place, PLAIN, pid, " receives ", id) }
         Label::Refuse { pid, id, reply } => put_refuse(into, place, pid, id, reply),
         Label::Dropped { id } => note_message(into, place, HELD, "dropped ", id),
         Label::Served { id } => note_message(into, place, PLAIN, "served ", id),

@@ -8,7 +8,7 @@ ghost use Rattle.dm_chart.specs.Written.{seen};
 use dm_memory::NoMemory;
 use dm_text::word::{Word, put_bare};
 
-/// An attribute of an element.
+/// An attribute of an element: its name and its value.
 #[derive(Clone, Copy)]
 pub struct Attribute<'a>(pub &'static str, pub Word<'a>);
 
