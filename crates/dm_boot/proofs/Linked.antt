@@ -1,27 +1,17 @@
 -- The processes with their links, as a loop goes through them.
-use Rattle.dm_boot.proofs.Imports.{◌≡◌, ℕ, ◌+◌, ◌<◌, ◌≤◌, List, [], ◌∷◌, ◌++◌, length, get_or, drop, refl, ap, sym, ◌∙◌, append_assoc, append-nil, drop_more, drop_of_length-le, Value, Data, no_items, view, items_view, Link, BootProcess}
+use Rattle.dm_boot.proofs.Imports.{◌≡◌, ℕ, ◌+◌, ◌<◌, ◌≤◌, List, [], ◌∷◌, ◌++◌, length, get_or, drop, ap, sym, ◌∙◌, append_assoc, append-nil, drop_more, drop_of_length-le, Value, Data, view, items_view, Link, BootProcess}
 use Rattle.dm_boot.proofs.Imports.{linked, linked_all, links_of}
-use Rattle.dm_boot.proofs.Elements.{element_at, no_more}
+use Rattle.dm_boot.proofs.Elements.{element_at}
 
 start_at : (ps : List BootProcess) (i : ℕ) (p : BootProcess) → i < length ps → p ≡ get_or ps i p → drop i ps ≡ p ∷ drop (i + 1) ps
 start_at ps i p within read = drop_more ps i p within ∙ ap (λ q. q ∷ drop (i + 1) ps) (sym read)
 
-no_tables : (d : Data) (starts ps : List BootProcess) → linked_all d starts ps no_items ≡ []
-unfolding linked_all
-no_tables d starts [] = refl
-no_tables d starts (p ∷ ps) = refl
-
 pub linked-end : (d : Data) (done starts ps : List BootProcess) (vs : List Value) (i : ℕ) → length ps ≤ i → done ++ linked_all d starts (drop i ps) (items_view (drop i vs)) ≡ done
 unfolding linked_all
 linked-end d done starts ps vs i past = ap (λ l. done ++ linked_all d starts l (items_view (drop i vs))) (drop_of_length-le ps past) ∙ append-nil done
-
-pub linked-past : (d : Data) (done starts ps : List BootProcess) (vs : List Value) (i : ℕ) → length vs ≤ i → done ++ linked_all d starts (drop i ps) (items_view (drop i vs)) ≡ done
-linked-past d done starts ps vs i past = ap (λ ts. done ++ linked_all d starts (drop i ps) ts) (no_more vs i past) ∙ ap (λ l. done ++ l) (no_tables d starts (drop i ps)) ∙ append-nil done
 
 pub linked-more : (d : Data) (done starts ps : List BootProcess) (vs : List Value) (i : ℕ) (p : BootProcess) (v : Value) (ls : List Link) → i < length ps → p ≡ get_or ps i p → i < length vs → v ≡ get_or vs i v → ls ≡ links_of d starts (view v) → done ++ linked_all d starts (drop i ps) (items_view (drop i vs)) ≡ (done ++ linked p ls ∷ []) ++ linked_all d starts (drop (i + 1) ps) (items_view (drop (i + 1) vs))
 unfolding linked_all
 linked-more d done starts ps vs i p v ls within read within_too read_too links =
     rw (start_at ps i p within read, element_at vs i v within_too read_too, links)
     (sym (append_assoc done (linked p (links_of d starts (view v)) ∷ []) (linked_all d starts (drop (i + 1) ps) (items_view (drop (i + 1) vs)))))
-
-pub ruleset linked_lemmas = (linked-end, linked-past, linked-more)

@@ -42,7 +42,6 @@ struct Led {
 }
 
 /// The links of a process, the first in slot 0. The starts are the processes in the order of the file.
-#[tactic(auto, using(crate::proofs::Elements::map_lemmas))]
 pub fn links_of(
     alloc: Global,
     document: &Document<'_>,

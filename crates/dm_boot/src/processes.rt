@@ -23,7 +23,6 @@ pub struct ReadProcesses {
 }
 
 /// These processes, each with the links of its table.
-#[tactic(auto, using(crate::proofs::Linked::linked_lemmas, crate::proofs::Elements::count_lemmas))]
 pub fn processes_of(
     alloc: Global,
     document: &Document<'_>,

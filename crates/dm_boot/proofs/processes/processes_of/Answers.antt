@@ -1,9 +1,15 @@
-use Rattle.dm_boot.proofs.Imports.{◌≡◌, ◌≤◌, ◌<◌, ◌++◌, ◌∷◌, [], ◌&&◌, ap, sym, ◌∙◌, arith, length, view, count, linked, has_sound_links, all_items}
+use Rattle.dm_boot.proofs.Imports.{◌≡◌, ◌≤◌, ◌<◌, ◌++◌, ◌∷◌, [], ◌&&◌, ap, sym, ◌∙◌, arith, length, view, count, linked, linked_all, has_sound_links, all_items}
 use Rattle.dm_boot.proofs.Elements.{count-view}
-use Rattle.dm_boot.proofs.Linked.{linked-more}
+use Rattle.dm_boot.proofs.Linked.{linked-end, linked-more}
 use Rattle.dm_boot.proofs.Sound.{sound-more, sound-end, both-sound, first-unsound}
 use Rattle.dm_boot.proofs.processes.processes_of.Goals as goal
 use Rattle.dm_boot.proofs.processes.processes_of.Goals.{then-sound, else-sound}
+
+pub bounds-tables-i : goal.bounds-tables-i
+bounds-tables-i c =
+    let vs = c.items_at-tables.result.now in
+    let many : length c.args.starts.now ≡ length vs = c.requires.many ∙ ap count (sym c.items_at-tables.ensures) ∙ count-view vs in
+    omega (arith, many, c.loop-i-test.true)
 
 pub loop-i-preserved : goal.loop-i-preserved
 loop-i-preserved c =
@@ -31,3 +37,11 @@ returns-clause-sound c =
     let many : length c.args.starts.now ≡ length vs = c.requires.many ∙ ap count (sym c.items_at-tables.ensures) ∙ count-view vs in
     let past : length vs ≤ c.loop-i.i = omega (arith, many, c.loop-i-test.false) in
     sym (sound-end (has_sound_links d) c.loop-i.sound vs c.loop-i.i past) ∙ c.loop-i.invariant.sound ∙ ap (all_items (has_sound_links d)) c.items_at-tables.ensures
+
+pub returns-clause-processes : goal.returns-clause-processes
+returns-clause-processes c =
+    let d = view c.args.document.now.top.now in
+    let all = c.args.starts.now in
+    c.from_vec.ensures
+    ∙ (sym (linked-end d c.loop-i.processes.items all all c.items_at-tables.result.now c.loop-i.i c.loop-i-test.false)
+    ∙ (c.loop-i.invariant.processes ∙ ap (linked_all d all all) c.items_at-tables.ensures))
