@@ -35,10 +35,7 @@ pub fn run_program<F: Shelf>(
 
 /// A sink that takes so many bytes.
 pub fn sink_of(alloc: Global, room: usize) -> Result<MemSink, AllocError> {
-    Ok(MemSink::new(
-        Vec::with_capacity(alloc, room)?,
-        Vec::new(alloc),
-    ))
+    Ok(MemSink::new(Vec::with_capacity(alloc, room)?, Vec::new(alloc)))
 }
 
 /// The words that the program is given, its name first.
