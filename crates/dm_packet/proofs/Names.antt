@@ -1,4 +1,5 @@
 -- What the proofs of this crate name of what lies below it.
+pub use mathlib.Core.Path.{fun_ext}
 pub use Rattle.byteorder.specs.Endian.{big_bytes, big_from, big_number}
 pub use Rattle.byteorder.specs.Numbers.{big_from-cons, big_from-lt, big_number-reads_back, length-bytes_high_first}
 pub use Rattle.std.proofs.Common.{Bool, Err, List, None, Ok, Option, Result, Some, [], ap, append_assoc, arith, cond, drop, eqb, false, get_or, inl, inr, length, ltb, refl, replicate, subst, suc, sym, take, true, zero, ℕ, ◌%◌, ◌*◌, ◌++◌}
@@ -24,7 +25,7 @@ pub use Rattle.dm_link.specs.declared.Kind.TheVariants.{General, Reply}
 pub use Rattle.dm_link.specs.declared.Link.{Link}
 pub use Rattle.dm_link.specs.declared.Pid.{Pid}
 pub use Rattle.dm_message.specs.Ids.{bool_eq}
-pub use Rattle.dm_message.specs.Kinds.{all_kinds, kind_of, number_of}
+pub use Rattle.dm_message.specs.Kinds.{all_kinds, kind_numbered, kind_of, number_of}
 pub use Rattle.dm_message.specs.Lawful.{IsLawfulMessage, IsLawfulWhat, IsPiece, IsServer, IsSize, is_answer}
 pub use Rattle.dm_message.specs.declared.Asker.{Asker}
 pub use Rattle.dm_message.specs.declared.Message.{Message}

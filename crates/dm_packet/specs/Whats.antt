@@ -16,6 +16,8 @@ pub use Rattle.dm_message.specs.Outcomes.{code_of_outcome}
 use Rattle.dm_message.specs.Kinds.{all_kinds, number_of}
 use Rattle.dm_packet.specs.declared.PacketError.{PacketError}
 use Rattle.dm_packet.specs.declared.PacketError.TheVariants as bad
+use Rattle.dm_packet.specs.declared.reading.kinds.Naming.{Naming}
+use Rattle.dm_packet.specs.declared.reading.kinds.Naming.TheVariants as names
 use Rattle.dm_packet.specs.Field.{Field, ◌>>=◌, number, number_within, run, tested, both, made, counted}
 use Rattle.dm_packet.specs.Fields.{addr, bit_of, bytes_within, channel, links, machine, pid}
 
@@ -117,6 +119,14 @@ spell_what w = []
 -- what is read, put into a message
 abbrev pub read_as : {X : Type 0} → Field X → (X → What) → List ℕ → Result (What × List ℕ) PacketError
 read_as f make bytes = f.read bytes >>= λ x. Ok (make x.0, x.1)
+
+-- what a message says that names a process, and nothing else
+abbrev pub naming_of : Naming → Pid → What
+naming_of names.Created p = what.Created p
+naming_of names.AllTaken p = what.AllTaken p
+naming_of names.Restart p = what.Restart p
+naming_of names.CallOff p = what.CallOff p
+naming_of names.Bury p = what.Bury p
 
 -- what a message of this kind carries, or the first rule that is broken
 unfoldable pub read_what : MessageKind → List ℕ → Result (What × List ℕ) PacketError

@@ -1,7 +1,8 @@
 //! What the messages of each kind carry: one reader for each kind with fields of its own, and the choice among them.
 ghost use Rattle.dm_message.specs.declared.kind.MessageKind.TheVariants as kinds;
+ghost use Rattle.dm_packet.specs.Fields.{pid};
 ghost use Rattle.dm_packet.specs.Parts.{ReadsInto};
-ghost use Rattle.dm_packet.specs.Whats.{read_what};
+ghost use Rattle.dm_packet.specs.Whats.{naming_of, read_as, read_what};
 
 use super::fields::{addr_at, byte_at, channel_at, machine_at, pid_at, run_at, u16_at, u32_at};
 use super::lists::{bytes_within_at, kept, links_at, three_links_at};
@@ -157,48 +158,28 @@ fn memory_at<'a>(bytes: &'a [u8], into: &mut What) -> Result<&'a [u8], PacketErr
     Ok(rest)
 }
 
-#[tactic(auto, unfolding(crate::specs::Whats::read_what))]
-fn created_at<'a>(bytes: &'a [u8], into: &mut What) -> Result<&'a [u8], PacketError>
-    ensures { ReadsInto result into.new (read_what kinds.Created bytes.now) }
-{
-    let (pid, rest) = pid_at(bytes)?;
-    *into = What::Created { pid };
-    Ok(rest)
+/// What a message says of a process that it names, where it says no more.
+#[derive(Clone, Copy)]
+enum Naming {
+    Created,
+    AllTaken,
+    Restart,
+    CallOff,
+    Bury,
 }
 
-#[tactic(auto, unfolding(crate::specs::Whats::read_what))]
-fn all_taken_at<'a>(bytes: &'a [u8], into: &mut What) -> Result<&'a [u8], PacketError>
-    ensures { ReadsInto result into.new (read_what kinds.AllTaken bytes.now) }
+/// The name of a process, and nothing else.
+fn naming_at<'a>(naming: Naming, bytes: &'a [u8], into: &mut What) -> Result<&'a [u8], PacketError>
+    ensures { ReadsInto result into.new (read_as pid (naming_of naming) bytes.now) }
 {
     let (pid, rest) = pid_at(bytes)?;
-    *into = What::AllTaken { pid };
-    Ok(rest)
-}
-
-#[tactic(auto, unfolding(crate::specs::Whats::read_what))]
-fn restart_at<'a>(bytes: &'a [u8], into: &mut What) -> Result<&'a [u8], PacketError>
-    ensures { ReadsInto result into.new (read_what kinds.Restart bytes.now) }
-{
-    let (pid, rest) = pid_at(bytes)?;
-    *into = What::Restart { pid };
-    Ok(rest)
-}
-
-#[tactic(auto, unfolding(crate::specs::Whats::read_what))]
-fn call_off_at<'a>(bytes: &'a [u8], into: &mut What) -> Result<&'a [u8], PacketError>
-    ensures { ReadsInto result into.new (read_what kinds.CallOff bytes.now) }
-{
-    let (pid, rest) = pid_at(bytes)?;
-    *into = What::CallOff { pid };
-    Ok(rest)
-}
-
-#[tactic(auto, unfolding(crate::specs::Whats::read_what))]
-fn bury_at<'a>(bytes: &'a [u8], into: &mut What) -> Result<&'a [u8], PacketError>
-    ensures { ReadsInto result into.new (read_what kinds.Bury bytes.now) }
-{
-    let (pid, rest) = pid_at(bytes)?;
-    *into = What::Bury { pid };
+    match naming {
+        Naming::Created => *into = What::Created { pid },
+        Naming::AllTaken => *into = What::AllTaken { pid },
+        Naming::Restart => *into = What::Restart { pid },
+        Naming::CallOff => *into = What::CallOff { pid },
+        Naming::Bury => *into = What::Bury { pid },
+    }
     Ok(rest)
 }
 
@@ -273,7 +254,7 @@ pub fn what_at<'a>(
             Ok(bytes)
         }
         MessageKind::Create => create_at(bytes, into),
-        MessageKind::Created => created_at(bytes, into),
+        MessageKind::Created => naming_at(Naming::Created, bytes, into),
         MessageKind::NoRoom => {
             *into = What::NoRoom;
             Ok(bytes)
@@ -286,11 +267,11 @@ pub fn what_at<'a>(
         MessageKind::State => state_at(bytes, into),
         MessageKind::PullBlock => pull_block_at(bytes, into),
         MessageKind::Memory => memory_at(bytes, into),
-        MessageKind::AllTaken => all_taken_at(bytes, into),
-        MessageKind::Restart => restart_at(bytes, into),
+        MessageKind::AllTaken => naming_at(Naming::AllTaken, bytes, into),
+        MessageKind::Restart => naming_at(Naming::Restart, bytes, into),
         MessageKind::Move => move_at(bytes, into),
         MessageKind::Moved => moved_at(bytes, into),
-        MessageKind::CallOff => call_off_at(bytes, into),
-        MessageKind::Bury => bury_at(bytes, into),
+        MessageKind::CallOff => naming_at(Naming::CallOff, bytes, into),
+        MessageKind::Bury => naming_at(Naming::Bury, bytes, into),
     }
 }
