@@ -1,6 +1,6 @@
 //! Reading from the left, each field tested as soon as it is there.
 ghost use Rattle.std.specs.Prelude.{◌≡◌, ◌⊎◌, ◌==◌, None, replicate};
-ghost use Rattle.dm_packet.specs.Field.{number, version};
+ghost use Rattle.dm_packet.specs.Field.{both, number, version};
 ghost use Rattle.dm_packet.specs.Fields.{len_from};
 ghost use Rattle.dm_packet.specs.Reads.{Reads};
 ghost use Rattle.dm_statebytes.specs.Shell.{blocks, front, read_shell, registers, regs, shell, shell_of_bytes};
@@ -203,9 +203,22 @@ fn version_at(bytes: &[u8]) -> Result<(u8, &[u8]), PacketError>
     Ok((version, rest))
 }
 
-/// What stands before the links: the version, the name, the blocks, whether it is stopped, the status, how many messages it
-/// has sent and how often it has moved, and the registers.
-type Front = (u8, (Pid, (u16, (bool, (Status, (u32, (u32, Regs)))))));
+/// What is served of a process: its status, how many messages it has sent and how often it has moved, and its registers.
+type Served = (Status, (u32, (u32, Regs)));
+
+/// What is served of a process whose memory has `size` bytes.
+fn served_at(bytes: &[u8], size: u32) -> Result<(Served, &[u8]), PacketError>
+    ensures { Reads result ((both (status size) (λ _. both (number 4) (λ _. both (number 4) (λ _. regs)))).read bytes.now) }
+{
+    let (status, rest) = status_at(bytes, size)?;
+    let (sent, rest) = u32_at(rest)?;
+    let (moves, rest) = u32_at(rest)?;
+    let (regs, rest) = regs_at(rest)?;
+    Ok(((status, (sent, (moves, regs))), rest))
+}
+
+/// What stands before the links: the version, the name, the blocks, whether it is stopped, and what is served.
+type Front = (u8, (Pid, (u16, (bool, Served))));
 
 fn front_at(bytes: &[u8]) -> Result<(Front, &[u8]), PacketError>
     ensures { Reads result (front.read bytes.now) }
@@ -214,14 +227,8 @@ fn front_at(bytes: &[u8]) -> Result<(Front, &[u8]), PacketError>
     let (pid, rest) = pid_at(rest)?;
     let (blocks, rest) = blocks_at(rest)?;
     let (stopped, rest) = yes_or_no_at(rest, PacketError::Flags)?;
-    let (status, rest) = status_at(rest, 256 * u32::from(blocks))?;
-    let (sent, rest) = u32_at(rest)?;
-    let (moves, rest) = u32_at(rest)?;
-    let (regs, rest) = regs_at(rest)?;
-    let front = (
-        version,
-        (pid, (blocks, (stopped, (status, (sent, (moves, regs)))))),
-    );
+    let (served, rest) = served_at(rest, 256 * u32::from(blocks))?;
+    let front = (version, (pid, (blocks, (stopped, served))));
     Ok((front, rest))
 }
 
