@@ -1,5 +1,5 @@
 //! Reading from the left, each field tested as soon as it is there.
-ghost use Rattle.std.specs.Prelude.{◌≡◌, ◌⊎◌, ◌==◌, None, replicate};
+ghost use Rattle.std.specs.Prelude.{◌≡◌, ◌⊎◌, ◌*◌, ◌==◌, None, replicate};
 ghost use Rattle.dm_packet.specs.Field.{both, number, version};
 ghost use Rattle.dm_packet.specs.Fields.{len_from};
 ghost use Rattle.dm_packet.specs.Reads.{Reads};
@@ -206,11 +206,11 @@ fn version_at(bytes: &[u8]) -> Result<(u8, &[u8]), PacketError>
 /// What is served of a process: its status, how many messages it has sent and how often it has moved, and its registers.
 type Served = (Status, (u32, (u32, Regs)));
 
-/// What is served of a process whose memory has `size` bytes.
-fn served_at(bytes: &[u8], size: u32) -> Result<(Served, &[u8]), PacketError>
-    ensures { Reads result ((both (status size) (λ _. both (number 4) (λ _. both (number 4) (λ _. regs)))).read bytes.now) }
+/// What is served of a process of so many blocks.
+fn served_at(bytes: &[u8], blocks: u16) -> Result<(Served, &[u8]), PacketError>
+    ensures { Reads result ((both (status (256 * blocks)) (λ _. both (number 4) (λ _. both (number 4) (λ _. regs)))).read bytes.now) }
 {
-    let (status, rest) = status_at(bytes, size)?;
+    let (status, rest) = status_at(bytes, 256 * u32::from(blocks))?;
     let (sent, rest) = u32_at(rest)?;
     let (moves, rest) = u32_at(rest)?;
     let (regs, rest) = regs_at(rest)?;
@@ -227,7 +227,7 @@ fn front_at(bytes: &[u8]) -> Result<(Front, &[u8]), PacketError>
     let (pid, rest) = pid_at(rest)?;
     let (blocks, rest) = blocks_at(rest)?;
     let (stopped, rest) = yes_or_no_at(rest, PacketError::Flags)?;
-    let (served, rest) = served_at(rest, 256 * u32::from(blocks))?;
+    let (served, rest) = served_at(rest, blocks)?;
     let front = (version, (pid, (blocks, (stopped, served))));
     Ok((front, rest))
 }
