@@ -1,5 +1,5 @@
 -- What a text keeps of its beginning.
-use Rattle.dm_text.proofs.Names.{◌≡◌, ℕ, List, [], ◌∷◌, ◌++◌, length, take, refl, ap, sym, ◌∙◌, append_assoc, OnErr, Result, Ok, Err, Keeps, spaced}
+use Rattle.dm_text.proofs.Names.{◌≡◌, ℕ, List, [], ◌∷◌, ◌++◌, length, take, refl, ap, sym, ◌∙◌, append_assoc, append-nil, OnErr, Result, Ok, Err, Keeps, spaced}
 use Rattle.dm_text.proofs.Spacing.{spaced-append}
 
 pub keeps-front : (a x b : List ℕ) → Keeps (a ++ x) b → Keeps a b
@@ -29,3 +29,36 @@ kept-thrice r a x b y c z before now e f g h = kept-twice r a (x ++ y) c z befor
 pub listed-more : (into name : List ℕ) (a b c : List (List ℕ)) (t u v w x : List ℕ) → t ≡ into ++ name → u ≡ t ++ spaced a → v ≡ u ++ spaced b → w ≡ v ++ spaced c → x ≡ w ++ 10 ∷ [] → x ≡ into ++ (name ++ spaced (a ++ (b ++ c)) ++ 10 ∷ [])
 listed-more into name a b c t u v w x e f g h i =
     listed into name a (b ++ c) t u w x e f (h ∙ ap (λ s. s ++ spaced c) g ∙ append_assoc u (spaced b) (spaced c) ∙ ap (λ s. u ++ s) (sym (spaced-append b c))) i
+
+-- a text that goes on behind another
+pub record Behind (a now : List ℕ) : Type 0 where
+  rest : List ℕ
+  is : now ≡ a ++ rest
+
+pub behind : (a x now : List ℕ) → now ≡ a ++ x → Behind a now
+behind a x now e = record { rest = x; is = e }
+
+pub further : (a y t now : List ℕ) → Behind a t → now ≡ t ++ y → Behind a now
+further a y t now h e = record { rest = h.rest ++ y; is = e ∙ ap (λ s. s ++ y) h.is ∙ append_assoc a h.rest y }
+
+front-there : (a x : List ℕ) → Keeps a (a ++ x)
+front-there [] x = refl
+front-there (n ∷ a) x = ap (λ t. n ∷ t) (front-there a x)
+
+-- a call that lacks memory leaves the text as it is
+pub kept-as : {T E : Type 0} → (r : Result T E) (a t now : List ℕ) → Behind a t → now ≡ t → OnErr r (Keeps a now)
+kept-as (Ok y) a t now h e = tt
+kept-as (Err y) a t now h e = ap (λ s. take (length a) s) (e ∙ h.is) ∙ front-there a h.rest
+
+pub kept-all : {T E : Type 0} → (r : Result T E) (a now : List ℕ) → now ≡ a → OnErr r (Keeps a now)
+kept-all r a now e = kept-as r a a now (behind a [] a (sym (append-nil a))) e
+
+-- a line of one part
+pub named : (into name : List ℕ) (a : List (List ℕ)) (t u v : List ℕ) → t ≡ into ++ name → u ≡ t ++ spaced a → v ≡ u ++ 10 ∷ [] → v ≡ into ++ (name ++ spaced a ++ 10 ∷ [])
+named into name a t u v e f g =
+    g
+    ∙ ap (λ s. s ++ 10 ∷ []) f
+    ∙ append_assoc t (spaced a) (10 ∷ [])
+    ∙ ap (λ s. s ++ (spaced a ++ 10 ∷ [])) e
+    ∙ append_assoc into name (spaced a ++ 10 ∷ [])
+    ∙ ap (λ s. into ++ s) (sym (append_assoc name (spaced a) (10 ∷ [])))

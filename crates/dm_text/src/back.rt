@@ -212,17 +212,18 @@ pub fn line_fits(line: &Line)
             process_fits(receiver, 0, 0);
         }
         Line::Packet { from, to, k, load } => packet_fits(from, to, k, load),
-        Line::Taken { from, to, n } => pair_fits(from, to, n),
-        Line::Old { from, to, n } => pair_fits(from, to, n),
-        Line::Early { from, to, n } => pair_fits(from, to, n),
-        Line::Acked { from, to, n } => pair_fits(from, to, n),
+        Line::Taken { from, to, n }
+        | Line::Old { from, to, n }
+        | Line::Early { from, to, n }
+        | Line::Acked { from, to, n } => pair_fits(from, to, n),
         Line::Nothing => {}
         Line::Resent { machine, count } => pair_fits(machine, 0, count),
-        Line::Queued(id) => message_fits(id, 0, 0),
-        Line::Held(id) => message_fits(id, 0, 0),
+        Line::Queued(id) | Line::Held(id) | Line::Here(id) | Line::NoMove(id) | Line::Proto(id) =>
+            message_fits(id, 0, 0),
         Line::Forwarded { id, to } => message_fits(id, to, 0),
         Line::Updated { id, count } => message_fits(id, 0, count),
-        Line::Migration { pid, .. } => process_fits(pid, 0, 0),
+        Line::Migration { pid, .. } | Line::Stays(pid) | Line::NoChild(pid) | Line::Pinned(pid) =>
+            process_fits(pid, 0, 0),
         Line::SentOn { pid, count } => process_fits(pid, 0, count),
         Line::Lacks {
             pid,
@@ -232,11 +233,5 @@ pub fn line_fits(line: &Line)
             process_fits(pid, 0, 0);
             room_fits(free_slots, free_blocks);
         }
-        Line::Stays(pid) => process_fits(pid, 0, 0),
-        Line::Here(id) => message_fits(id, 0, 0),
-        Line::NoMove(id) => message_fits(id, 0, 0),
-        Line::Proto(id) => message_fits(id, 0, 0),
-        Line::NoChild(pid) => process_fits(pid, 0, 0),
-        Line::Pinned(pid) => process_fits(pid, 0, 0),
     }
 }

@@ -1,4 +1,4 @@
-use Rattle.dm_text.proofs.Kept.{kept-twice, kept-thrice, listed-more}
+use Rattle.dm_text.proofs.Kept.{behind, further, kept, kept-all, kept-as, kept-twice, kept-thrice, listed-more}
 use Rattle.dm_text.proofs.ends.put_process.Goals as goal
 
 pub returns-clause-ok : goal.returns-clause-ok
@@ -11,3 +11,13 @@ returns-in_err-put_doing-clause-err c = kept-twice _ _ _ _ _ _ _ c.in_ok-extend_
 pub returns-in_err-put_words-2-clause-err : goal.returns-in_err-put_words-2-clause-err
 returns-in_err-put_words-2-clause-err c =
     kept-thrice _ _ _ _ _ _ _ _ _ c.in_ok-extend_from_slice.ensures.items c.in_ok-put_words.ensures.ok c.in_ok-put_doing.ensures.ok c.in_err-put_words-2.ensures.err
+
+pub returns-in_err-extend_from_slice-clause-err : goal.returns-in_err-extend_from_slice-clause-err
+returns-in_err-extend_from_slice-clause-err c = kept-all _ _ _ c.in_err-extend_from_slice.ensures.items
+
+pub returns-in_err-put_words-clause-err : goal.returns-in_err-put_words-clause-err
+returns-in_err-put_words-clause-err c = kept _ _ _ _ _ c.in_ok-extend_from_slice.ensures.items c.in_err-put_words.ensures.err
+
+pub returns-in_err-push-clause-err : goal.returns-in_err-push-clause-err
+returns-in_err-push-clause-err c =
+    kept-as _ _ _ _ (further _ _ _ _ (further _ _ _ _ (further _ _ _ _ (behind _ _ _ c.in_ok-extend_from_slice.ensures.items) c.in_ok-put_words.ensures.ok) c.in_ok-put_doing.ensures.ok) c.in_ok-put_words-2.ensures.ok) c.in_err-push.ensures.items

@@ -1,5 +1,5 @@
 use Rattle.dm_text.proofs.Names.{◌≡◌, [], ◌∷◌, ◌++◌, codes, length, map, ap, sym, ◌∙◌, decimal, pid_word, only_if, sized, spelled_line}
-use Rattle.dm_text.proofs.Kept.{kept-thrice, listed-more}
+use Rattle.dm_text.proofs.Kept.{behind, further, kept, kept-all, kept-as, kept-twice, kept-thrice, listed-more}
 use Rattle.dm_text.proofs.Lists.{spellings-more}
 use Rattle.dm_text.proofs.ends.put_registers.Goals as goal
 
@@ -11,3 +11,16 @@ returns-clause-ok c =
 pub returns-in_err-put_words-2-clause-err : goal.returns-in_err-put_words-2-clause-err
 returns-in_err-put_words-2-clause-err c =
     kept-thrice _ _ _ _ _ _ _ _ _ c.in_ok-extend_from_slice.ensures.items c.in_ok-put_words.ensures.ok c.in_ok-put_numbers.ensures.ok c.in_err-put_words-2.ensures.err
+
+pub returns-in_err-extend_from_slice-clause-err : goal.returns-in_err-extend_from_slice-clause-err
+returns-in_err-extend_from_slice-clause-err c = kept-all _ _ _ c.in_err-extend_from_slice.ensures.items
+
+pub returns-in_err-put_words-clause-err : goal.returns-in_err-put_words-clause-err
+returns-in_err-put_words-clause-err c = kept _ _ _ _ _ c.in_ok-extend_from_slice.ensures.items c.in_err-put_words.ensures.err
+
+pub returns-in_err-push-clause-err : goal.returns-in_err-push-clause-err
+returns-in_err-push-clause-err c =
+    kept-as _ _ _ _ (further _ _ _ _ (further _ _ _ _ (further _ _ _ _ (behind _ _ _ c.in_ok-extend_from_slice.ensures.items) c.in_ok-put_words.ensures.ok) c.in_ok-put_numbers.ensures.ok) c.in_ok-put_words-2.ensures.ok) c.in_err-push.ensures.items
+
+pub returns-in_err-put_numbers-clause-err : goal.returns-in_err-put_numbers-clause-err
+returns-in_err-put_numbers-clause-err c = kept-twice _ _ _ _ _ _ _ c.in_ok-extend_from_slice.ensures.items c.in_ok-put_words.ensures.ok c.in_err-put_numbers.ensures.err
