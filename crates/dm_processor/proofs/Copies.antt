@@ -1,5 +1,7 @@
 -- Copying part by part.
-use Rattle.dm_processor.proofs.Names.{ℕ, ◌≡◌, ◌+◌, ◌≤◌, List, ◌++◌, length, take, drop, ap, sym, ◌∙◌, arith, length-append, take-add, take-append_seam, drop-append-add, length-take-le, common_steps}
+use Rattle.std.proofs.Common.{drop_of_length-le}
+use Rattle.std.proofs.lemmas.List.{append-nil, drop-replicate, length-replicate}
+use Rattle.dm_processor.proofs.Names.{ℕ, ◌≡◌, ◌+◌, ◌-◌, ◌≤◌, List, [], ◌++◌, length, take, drop, replicate, ap, sym, ◌∙◌, arith, length-append, take-add, take-append_seam, drop-append-add, length-take-le, take_all, zero-add, common_steps}
 
 -- a list that begins with so many elements of another list
 take_seam : (xs ys : List ℕ) (n : ℕ) → length xs ≡ n → take n (xs ++ ys) ≡ xs
@@ -32,3 +34,13 @@ copied_in m old new from at done n i j e f =
     let q : drop (at + done + n) old ≡ drop n (drop (at + done) m) = ap (λ (x : List ℕ). drop (at + done + n) x) e ∙ drop_seam (take at m ++ take done from) _ (at + done) n l in
     let s : take (done + n) from ≡ take done from ++ take n (drop done from) = take-add done n from in
     grind (arith, common_steps, f, p, q, s)
+
+-- zeros that begin with an image
+pub image_in : (image z now new : List ℕ) (n k len : ℕ) → k ≡ n → length image ≤ n → z ≡ replicate k 0 → now ≡ z → new ≡ image ++ drop (0 + length image) now → n ≤ len → take len (new ++ drop (length new) z) ≡ image ++ replicate (n - length image) 0
+image_in image z now new n k len e h zs same w l =
+    let f : z ≡ replicate n 0 = zs ∙ ap (λ (j : ℕ). replicate j 0) e in
+    let a : new ≡ image ++ replicate (n - length image) 0 = w ∙ ap (λ (j : ℕ). image ++ drop j now) (zero-add (length image)) ∙ ap (λ (t : List ℕ). image ++ drop (length image) t) (same ∙ f) ∙ ap (λ (t : List ℕ). image ++ t) (drop-replicate (length image) n 0) in
+    let b : length new ≡ n = ap length a ∙ omega (arith, h, length-append image (replicate (n - length image) 0), length-replicate {A = ℕ} (n - length image) 0) in
+    let c : length z ≡ n = ap length f ∙ length-replicate {A = ℕ} n 0 in
+    let d : drop (length new) z ≡ [] = drop_of_length-le z (omega (arith, b, c)) in
+    ap (λ (t : List ℕ). take len (new ++ t)) d ∙ ap (take len) (append-nil new) ∙ take_all len new (omega (arith, b, l)) ∙ a
