@@ -8,14 +8,14 @@ mod row;
 mod run;
 
 use anyhow::{Context, Result};
-use others::{count_writes, read_files, say_errors, step_flat, write_out};
+use others::{fail_writes, read_files, say_errors, step_flat, write_out};
 use row::Row;
 use run::{Ending, Run};
 use std::{fs, io};
 
 fn main(rt: HostRuntime) -> Result<()> {
     show_tables(&rt)?;
-    count_writes(&rt)?;
+    fail_writes(&rt)?;
     read_files(&rt)?;
     write_out(&rt)?;
     step_flat(&rt)?;

@@ -1,7 +1,7 @@
-//! What no run of the table shows: how often a run writes, the real shelf and sink by themselves, a flat memory, and what errors
-//! say of themselves.
+//! What no run of the table shows: each write of a run and of a drill that fails, the real shelf and sink by themselves, a flat
+//! memory, and what errors say of themselves.
 
-use crate::run::{Expected, Run};
+use crate::program::{run_over_files, sink_of};
 use anyhow::Result;
 use dm_boot::{BootError, BootRule};
 use dm_check::{CheckError, TraceFault};
@@ -68,28 +68,46 @@ const TRACE_FAULTS: [TraceFault; 4] = [
     TraceFault::NotTheEnd,
 ];
 
-/// The run whose writes are counted: eight directives.
-const COUNTED: Run<'static> = Run {
-    name: "hi",
-    expected: Expected {
-        status: 0,
-        line: "",
-        output: "hi.out",
-    },
-    room: 4_096,
-    words: "run --boot hi.boot --schedule hi.schedule",
-};
+/// What writes more than once: a name, the words, and how many writes there are.
+const WRITERS: [(&str, &str, u64); 2] = [
+    ("run", "run --boot hi.boot --schedule hi.schedule", 10),
+    ("drill", "drill --seed 0 --machines 2 --lines 1 --trace", 4),
+];
 
-/// A run writes each of its groups when it has come, and then the lines at the end: one write for each directive, and one more.
-pub fn count_writes(rt: &HostRuntime) -> Result<()> {
-    let done = COUNTED.done(rt)?;
-    say_count(rt, done.out.calls())?;
+/// Lets each write fail in turn, and none at last: each group is written when it has come, and none behind a write that failed.
+pub fn fail_writes(rt: &HostRuntime) -> Result<()> {
+    for (name, words, tries) in &WRITERS {
+        fail_each(rt, name, words, *tries)?;
+    }
     Ok(())
 }
 
-/// Says how often a run of eight directives writes.
-fn say_count(rt: &HostRuntime, writes: u64) -> io::Result<()> {
-    println!(rt; "writes of a run of eight directives: {writes}")
+/// Runs the program so often, each time with one more write before the one that fails.
+fn fail_each(rt: &HostRuntime, name: &str, words: &str, tries: u64) -> Result<()> {
+    for before in 0..tries {
+        fail_write(rt, name, words, before)?;
+    }
+    Ok(())
+}
+
+/// Runs the program with a write that fails behind so many, and says what it came to.
+fn fail_write(rt: &HostRuntime, name: &str, words: &str, before: u64) -> Result<()> {
+    let alloc = rt.alloc();
+    let fails = Vec::from_slice(alloc, &[before.saturating_add(1)])?;
+    let done = run_over_files(rt, words, sink_of(alloc, 4_096, fails)?)?;
+    say_done(rt, name, before, done.line(), done.out.bytes().len())?;
+    Ok(())
+}
+
+/// Says what a run came to whose write failed behind so many.
+fn say_done(
+    rt: &HostRuntime,
+    name: &str,
+    before: u64,
+    line: &str,
+    written: usize,
+) -> io::Result<()> {
+    println!(rt; "{name}, write fails behind {before}: {line:?}, {written} bytes")
 }
 
 /// Reads two files of data/ in turn, and one that isn't there.

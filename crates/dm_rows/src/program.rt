@@ -1,9 +1,10 @@
 //! The program on some words, over a shelf, and what it comes to.
 
-use dm_outside::{MemSink, Shelf};
+use dm_outside::{MemSink, RealShelf, Shelf};
 use dm_program::finish;
 use std::alloc::{AllocError, Global};
 use std::process::ExitCode;
+use std::str;
 
 /// The most bytes of a line on standard error.
 const LONGEST_LINE: usize = 96;
@@ -16,15 +17,28 @@ pub struct Done {
     pub errors: MemSink,
 }
 
-/// Runs the program over a shelf, into this standard output. Between its words stands a space, and its name isn't among them.
-pub fn run_program<F: Shelf>(
+impl Done {
+    /// The line on standard error, without its line feed: empty for none.
+    pub fn line(&self) -> &str {
+        str::from_utf8(self.errors.bytes()).unwrap_or("").trim_end()
+    }
+}
+
+/// Runs the program over real files, into this standard output. Between its words stands a space, and its name isn't among them.
+pub fn run_over_files(rt: &HostRuntime, words: &str, out: MemSink) -> Result<Done, AllocError> {
+    let mut shelf = RealShelf::new(rt);
+    run_program(rt.alloc(), words, &mut shelf, out)
+}
+
+/// Runs the program over a shelf, into this standard output.
+fn run_program<F: Shelf>(
     alloc: Global,
     words: &str,
     shelf: &mut F,
     mut out: MemSink,
 ) -> Result<Done, AllocError> {
     let words = given(alloc, words)?;
-    let mut errors = sink_of(alloc, LONGEST_LINE)?;
+    let mut errors = sink_of(alloc, LONGEST_LINE, Vec::new(alloc))?;
     let status = finish(alloc, Ok(words), shelf, &mut out, &mut errors);
     Ok(Done {
         status,
@@ -33,9 +47,9 @@ pub fn run_program<F: Shelf>(
     })
 }
 
-/// A sink that takes so many bytes.
-pub fn sink_of(alloc: Global, room: usize) -> Result<MemSink, AllocError> {
-    Ok(MemSink::new(Vec::with_capacity(alloc, room)?, Vec::new(alloc)))
+/// A sink that takes so many bytes, and fails at the writes of these numbers, counted from 1.
+pub fn sink_of(alloc: Global, room: usize, fails: Vec<u64>) -> Result<MemSink, AllocError> {
+    Ok(MemSink::new(Vec::with_capacity(alloc, room)?, fails))
 }
 
 /// The words that the program is given, its name first.

@@ -1,8 +1,7 @@
 //! A run of the program, and what it must come to.
 
-use crate::program::{Done, run_program, sink_of};
+use crate::program::{Done, run_over_files, sink_of};
 use anyhow::Result;
-use dm_outside::RealShelf;
 use std::alloc::AllocError;
 use std::process::ExitCode;
 use std::str::Split;
@@ -71,11 +70,10 @@ impl<'a> Run<'a> {
     }
 
     /// Runs the program.
-    pub fn done(&self, rt: &HostRuntime) -> Result<Done, AllocError> {
+    fn done(&self, rt: &HostRuntime) -> Result<Done, AllocError> {
         let alloc = rt.alloc();
-        let out = sink_of(alloc, self.room)?;
-        let mut shelf = RealShelf::new(rt);
-        run_program(alloc, self.words, &mut shelf, out)
+        let out = sink_of(alloc, self.room, Vec::new(alloc))?;
+        run_over_files(rt, self.words, out)
     }
 }
 
