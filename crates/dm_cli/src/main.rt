@@ -1,4 +1,4 @@
-//! The program `demosmp`: it runs a schedule on the system of a boot file, and prints what happens.
+//! The program `demosmp`: it does what the words of the command line ask for.
 #![tactic(auto)]
 
 use dm_outside::{RealShelf, RealSink};

@@ -1,7 +1,7 @@
 -- What is said of files, and how the program ends that has said it.
 use Rattle.dm_commands.proofs.Names.{◌≡◌, ◌⊎◌, inl, inr, ℕ, List, length, refl, ap, sym, subst, ◌∙◌, Option, Some, TheNoMemory, Boot, Vec, Global, IsValid, BootRule, rule_number, BootTold, IsToldValid, RoseOrFull, Status, Done, Usage}
 use Rattle.dm_commands.proofs.Names.{ReadFault, NoMemory, WriteFault, BootRefused, ScheduleRefused, TooLong, Worn, TraceRefused, AsksFiles, AsksNamed, BeforeRun, NoInputs, SaysInputs, TellsFiles, TellsRead, TellsSchedule, ExplainsSystem}
-use Rattle.dm_commands.proofs.Names.{Wrote, NoBoot, NoDirectives, NoFiles, SaysBoot, BlamesShelf, BlamesSink, IsWant, None}
+use Rattle.dm_commands.proofs.Names.{Wrote, NoBoot, NoDirectives, NoFiles, SaysBoot, BlamesShelf, BlamesSink, EndsAtRead, IsWant, None}
 use Rattle.dm_explain.specs.declared.explain.BootTold.TheVariants as told_as
 use Rattle.dm_ending.specs.declared.status.Input.TheVariants as input
 use Rattle.dm_commands.proofs.Outcomes.{Files, boot_part, long_boot, never_sink, no_files, outcome, refused_boot, said_boot, said_files, want_or_not}
@@ -53,6 +53,16 @@ wrote_shelf files boot schedule text before after old new k k' due s h w e = eli
   | inl a ↦ subst (λ (x : Status). BlamesShelf old new x) (sym a.ends) (due_shelf files boot schedule text old new due h e)
   | inr b ↦ subst (λ (x : Status). BlamesShelf old new x) (sym b.ends) e
 ]
+
+-- it says of no read that it failed, and of a write only where that was the last
+pub wrote_read : (files : Option Files) (boot : List ℕ) (schedule : Option (List ℕ)) (text : List ℕ) (before after : Option (List ℕ)) (k k' : ℕ) (due s : Status) (last : Type 0) → TellsFiles files boot schedule due text → Wrote due text before after k k' s → EndsAtRead last s
+wrote_read files boot schedule text before after k k' due s last h w = λ i e. elim w [
+  | inl a ↦ absurd (subst (λ (x : Status). TellsFiles files boot schedule x text) (sym a.ends ∙ e) h)
+  | inr b ↦ let f : WriteFault ≡ ReadFault i = sym b.ends ∙ e in cc
+]
+
+pub due_unwritten : (files : Option Files) (boot : List ℕ) (schedule : Option (List ℕ)) (text : List ℕ) (s : Status) → TellsFiles files boot schedule s text → s ≡ WriteFault → ⊥
+due_unwritten files boot schedule text s h e = subst (λ (x : Status). TellsFiles files boot schedule x text) e h
 
 says_boot : (files : Option Files) (boot : List ℕ) (b : Boot) (text : List ℕ) → ExplainsSystem files boot b text → SaysBoot files boot b
 says_boot files boot b text h = record { bytes = h.bytes; file = h.file; says = h.told.says }

@@ -54,7 +54,7 @@ pub use Rattle.dm_drill.proofs.Going.{nothing_drilled}
 pub use Rattle.dm_drill.proofs.Names.{Drill, DrillWears, Ended, Stop, summary, text_shown}
 pub use Rattle.dm_drill.specs.Counts.{totals_of}
 pub use Rattle.dm_words.specs.DrillWords.{IsWithin}
-pub use Rattle.dm_ending.specs.Status.{BlamesShelf, BlamesSink, IsWant}
+pub use Rattle.dm_ending.specs.Status.{BlamesShelf, BlamesSink, EndsAtRead, IsWant}
 pub use Rattle.dm_ending.specs.declared.status.Input.{Input}
 pub use Rattle.dm_ending.specs.declared.status.Status.{Status}
 pub use Rattle.dm_ending.specs.declared.status.Status.TheVariants.{BootRefused, Done, NoMemory, ReadFault, ScheduleRefused, TooLong, TraceRefused, Usage, Worn, WriteFault}

@@ -8,7 +8,7 @@ ghost use Rattle.dm_commands.specs.Asked.{AsksFiles, FailsAlone, FailsSecond};
 ghost use Rattle.dm_commands.specs.Charts.{ChartSays, SaysChart, unless_failed};
 ghost use Rattle.dm_commands.specs.Outside.{around};
 ghost use Rattle.dm_commands.specs.Runs.{Completes, Refuses, WearsOut};
-ghost use Rattle.dm_ending.specs.Status.{BlamesShelf, BlamesSink};
+ghost use Rattle.dm_ending.specs.Status.{BlamesShelf, BlamesSink, EndsAtRead, EndsAtWrite};
 
 use crate::inputs::{Inputs, read_files};
 use dm_drawing::{Drawn, draw_run};
@@ -40,7 +40,9 @@ pub fn chart_files<F: Shelf, K: Sink>(
         FailsSecond F.asked F.faults (F.told shelf.old) boot.now schedule.now shelf.old shelf.new }
     ensures same { F.told shelf.new ≡ F.told shelf.old }
     ensures shelf { BlamesShelf (F.faults shelf.old) (F.faults shelf.new) result }
+    ensures last_read { EndsAtRead (F.last_failed shelf.new) result }
     ensures sink { BlamesSink (K.faults out.old) (K.faults out.new) result }
+    ensures last_write { EndsAtWrite (K.last_failed out.new) result }
     ensures reads { F.faults shelf.old ≤ F.faults shelf.new }
     ensures writes { K.faults out.old ≤ K.faults out.new }
 {
@@ -57,6 +59,7 @@ fn chart<K: Sink>(alloc: Global, inputs: Inputs, out: &mut K) -> Status
     requires few { length inputs.directives.items ≤ MOST_SCHEDULE }
     ensures says { ChartSays inputs.boot inputs.directives.items (K.told out.old) (K.told out.new) result }
     ensures sink { BlamesSink (K.faults out.old) (K.faults out.new) result }
+    ensures last_write { EndsAtWrite (K.last_failed out.new) result }
     ensures writes { K.faults out.old ≤ K.faults out.new }
 {
     let Inputs { boot, directives } = inputs;

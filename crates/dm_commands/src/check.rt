@@ -6,12 +6,12 @@ ghost use Rattle.dm_ending.specs.declared.status.Input.TheVariants as input_;
 ghost use Rattle.dm_commands.specs.Asked.{AsksFiles, FailsAlone, FailsSecond};
 ghost use Rattle.dm_commands.specs.Checks.{Accepts, CheckRefuses, CheckSays, Finds, IsGoodTrace, SaysCheck, end_word, good_line};
 ghost use Rattle.dm_commands.specs.Outside.{around};
-ghost use Rattle.dm_ending.specs.Status.{BlamesShelf, BlamesSink};
+ghost use Rattle.dm_ending.specs.Status.{BlamesShelf, BlamesSink, EndsAtRead, EndsAtWrite};
 
 use crate::inputs::{Traced, read_trace_files};
 use arrayvec::ArrayString;
 use dm_check::{CheckError, Good, MOST_TRACE, check_trace};
-use dm_ending::status::{Status, push_number, words};
+use dm_ending::status::{LONGEST_LINE, Status, push_number, words};
 use dm_outside::{Shelf, Sink};
 use dm_run::write_all;
 use std::alloc::Global;
@@ -38,7 +38,9 @@ pub fn check_files<F: Shelf, K: Sink>(
         FailsSecond F.asked F.faults (F.told shelf.old) boot.now trace.now shelf.old shelf.new }
     ensures same { F.told shelf.new ≡ F.told shelf.old }
     ensures shelf { BlamesShelf (F.faults shelf.old) (F.faults shelf.new) result }
+    ensures last_read { EndsAtRead (F.last_failed shelf.new) result }
     ensures sink { BlamesSink (K.faults out.old) (K.faults out.new) result }
+    ensures last_write { EndsAtWrite (K.last_failed out.new) result }
     ensures reads { F.faults shelf.old ≤ F.faults shelf.new }
     ensures writes { K.faults out.old ≤ K.faults out.new }
 {
@@ -54,6 +56,7 @@ fn check<K: Sink>(alloc: Global, traced: Traced, out: &mut K) -> Status
     requires short { length traced.trace.items ≤ MOST_TRACE }
     ensures says { CheckSays traced.boot traced.trace.items (K.told out.old) (K.told out.new) result }
     ensures sink { BlamesSink (K.faults out.old) (K.faults out.new) result }
+    ensures last_write { EndsAtWrite (K.last_failed out.new) result }
     ensures writes { K.faults out.old ≤ K.faults out.new }
 {
     let Traced { boot, trace } = traced;
@@ -72,6 +75,7 @@ fn say_good<K: Sink>(good: Good, out: &mut K) -> Status
     ensures says { (b : TheBoot) (bytes : List ℕ) → IsGoodTrace b bytes good.groups good.ended →
         CheckSays b bytes (K.told out.old) (K.told out.new) result }
     ensures sink { BlamesSink (K.faults out.old) (K.faults out.new) result }
+    ensures last_write { EndsAtWrite (K.last_failed out.new) result }
     ensures writes { K.faults out.old ≤ K.faults out.new }
 {
     let line = good_line(good);
@@ -82,7 +86,7 @@ fn say_good<K: Sink>(good: Good, out: &mut K) -> Status
 }
 
 /// The line of a good trace, with its line feed.
-fn good_line(good: Good) -> ArrayString<96>
+fn good_line(good: Good) -> ArrayString<LONGEST_LINE>
     ensures { result.bytes ≡ good_line good.groups good.ended }
 {
     let mut line = words("good ");

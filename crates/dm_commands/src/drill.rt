@@ -6,7 +6,7 @@ ghost use Rattle.dm_run.specs.Coming.{IsFor};
 ghost use Rattle.dm_draw.specs.Boot.{boot_of_machines};
 ghost use Rattle.dm_words.specs.DrillWords.{IsWithin};
 ghost use Rattle.dm_commands.specs.Drills.{DrilledSays, directives_of_drill};
-ghost use Rattle.dm_ending.specs.Status.{BlamesSink};
+ghost use Rattle.dm_ending.specs.Status.{BlamesSink, EndsAtWrite};
 
 use dm_draw::boot::drill_boot;
 use dm_draw::directives::drill_directives;
@@ -40,6 +40,7 @@ pub fn drill<K: Sink>(
     ensures says { DrilledSays drill.now (boot_of_machines drill.now.machines) (directives_of_drill drill.now)
         (K.told out.old) (K.told out.new) world.new result }
     ensures sink { BlamesSink (K.faults out.old) (K.faults out.new) result }
+    ensures last_write { EndsAtWrite (K.last_failed out.new) result }
     ensures writes { K.faults out.old ≤ K.faults out.new }
 {
     *world = None;
@@ -76,6 +77,7 @@ fn run<K: Sink>(
     requires few { length drawn.directives.items ≤ MOST_SCHEDULE }
     ensures says { DrilledSays drill.now drawn.boot drawn.directives.items (K.told out.old) (K.told out.new) world.new result }
     ensures sink { BlamesSink (K.faults out.old) (K.faults out.new) result }
+    ensures last_write { EndsAtWrite (K.last_failed out.new) result }
     ensures writes { K.faults out.old ≤ K.faults out.new }
 {
     let Drawn { boot, directives } = drawn;

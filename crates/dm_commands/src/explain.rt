@@ -5,7 +5,7 @@ ghost use Rattle.dm_commands.specs.Asked.{FailsAlone};
 ghost use Rattle.dm_commands.specs.Explains.{AsRun, AsksNamed, Decides, FailsNamed, NoInputs, SaysExplain, TellsFiles, TellsLines, TellsRead, TellsSchedule, Wrote};
 ghost use Rattle.dm_commands.specs.Inputs.{NoBoot, NoDirectives};
 ghost use Rattle.dm_commands.specs.Outside.{around};
-ghost use Rattle.dm_ending.specs.Status.{BlamesShelf, BlamesSink};
+ghost use Rattle.dm_ending.specs.Status.{BlamesShelf, BlamesSink, EndsAtRead, EndsAtWrite};
 ghost use Rattle.dm_explain.specs.Explained.{IsToldValid};
 
 use crate::inputs::MOST_BOOT;
@@ -46,7 +46,9 @@ pub fn explain_files<F: Shelf, K: Sink>(
         FailsNamed F.asked F.faults (F.told shelf.old) boot.now (option_map (λ s. s.now) schedule.entry) shelf.old shelf.new }
     ensures same { F.told shelf.new ≡ F.told shelf.old }
     ensures shelf { BlamesShelf (F.faults shelf.old) (F.faults shelf.new) result }
+    ensures last_read { EndsAtRead (F.last_failed shelf.new) result }
     ensures sink { BlamesSink (K.faults out.old) (K.faults out.new) result }
+    ensures last_write { EndsAtWrite (K.last_failed out.new) result }
     ensures reads { F.faults shelf.old ≤ F.faults shelf.new }
     ensures writes { K.faults out.old ≤ K.faults out.new }
 {
@@ -59,6 +61,7 @@ pub fn explain_files<F: Shelf, K: Sink>(
 /// Writes what is said of files.
 fn say<K: Sink>(told: &Told, out: &mut K) -> Status
     ensures wrote { Wrote told.now.due told.now.text.items (K.told out.old) (K.told out.new) (K.faults out.old) (K.faults out.new) result }
+    ensures last_write { (told.now.due ≡ Status.WriteFault → ⊥) → EndsAtWrite (K.last_failed out.new) result }
     ensures writes { K.faults out.old ≤ K.faults out.new }
 {
     match write_all(out, told.text.as_slice()) {
@@ -80,6 +83,7 @@ fn tell_files<F: Shelf>(
     ensures same { F.told shelf.new ≡ F.told shelf.old }
     ensures steady { IfOk result (λ _. F.faults shelf.new ≡ F.faults shelf.old) }
     ensures blames { IfErr result (λ s. BlamesShelf (F.faults shelf.old) (F.faults shelf.new) s) }
+    ensures last_read { IfErr result (λ s. EndsAtRead (F.last_failed shelf.new) s) }
     ensures reads { F.faults shelf.old ≤ F.faults shelf.new }
     ensures asks { AsksNamed F.asked (F.told shelf.old) boot.now (option_map (λ s. s.now) schedule.entry) shelf.old shelf.new }
     ensures boot_fault { IfErr result (λ s. s ≡ Status.ReadFault input_.Boot → FailsAlone F.asked F.faults boot.now shelf.old shelf.new) }
@@ -113,6 +117,7 @@ fn tell_boot<F: Shelf>(alloc: Global, name: &str, shelf: &mut F) -> Result<BootT
     ensures same { F.told shelf.new ≡ F.told shelf.old }
     ensures steady { IfOk result (λ _. F.faults shelf.new ≡ F.faults shelf.old) }
     ensures blames { IfErr result (λ s. BlamesShelf (F.faults shelf.old) (F.faults shelf.new) s) }
+    ensures last_read { IfErr result (λ s. EndsAtRead (F.last_failed shelf.new) s) }
     ensures reads { F.faults shelf.old ≤ F.faults shelf.new }
     ensures asks { F.asked shelf.old name.now shelf.new }
 {
@@ -140,6 +145,7 @@ fn tell_schedule<F: Shelf>(
     ensures same { F.told shelf.new ≡ F.told shelf.old }
     ensures steady { IfOk result (λ _. F.faults shelf.new ≡ F.faults shelf.old) }
     ensures blames { IfErr result (λ s. BlamesShelf (F.faults shelf.old) (F.faults shelf.new) s) }
+    ensures last_read { IfErr result (λ s. EndsAtRead (F.last_failed shelf.new) s) }
     ensures reads { F.faults shelf.old ≤ F.faults shelf.new }
     ensures asks { F.asked shelf.old name.now shelf.new }
 {

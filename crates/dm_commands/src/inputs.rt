@@ -5,7 +5,7 @@ ghost use Rattle.dm_onekernel.specs.Boot.{IsValid};
 ghost use Rattle.dm_commands.specs.Asked.{AsksFiles, FailsAlone, FailsSecond};
 ghost use Rattle.dm_commands.specs.Checks.{HasTrace, NoBytes, NoTrace, most_trace};
 ghost use Rattle.dm_commands.specs.Inputs.{AcceptsFiles, HasFile, NoBoot, NoDirectives, NoFiles, SaysBoot, SaysDirectives};
-ghost use Rattle.dm_ending.specs.Status.{BlamesShelf};
+ghost use Rattle.dm_ending.specs.Status.{BlamesShelf, EndsAtRead};
 ghost use Rattle.dm_run.specs.Coming.{IsFor};
 
 use crate::read::{ReadError, read_file};
@@ -42,6 +42,7 @@ pub fn read_files<F: Shelf>(
     ensures same { F.told shelf.new ≡ F.told shelf.old }
     ensures steady { IfOk result (λ _. F.faults shelf.new ≡ F.faults shelf.old) }
     ensures blames { IfErr result (λ s. BlamesShelf (F.faults shelf.old) (F.faults shelf.new) s) }
+    ensures last_read { IfErr result (λ s. EndsAtRead (F.last_failed shelf.new) s) }
     ensures reads { F.faults shelf.old ≤ F.faults shelf.new }
     ensures asks { AsksFiles F.asked (F.told shelf.old) boot.now schedule.now shelf.old shelf.new }
     ensures boot_fault { IfErr result (λ s. s ≡ Status.ReadFault Input.Boot → FailsAlone F.asked F.faults boot.now shelf.old shelf.new) }
@@ -75,6 +76,7 @@ pub fn read_trace_files<F: Shelf>(
     ensures same { F.told shelf.new ≡ F.told shelf.old }
     ensures steady { IfOk result (λ _. F.faults shelf.new ≡ F.faults shelf.old) }
     ensures blames { IfErr result (λ s. BlamesShelf (F.faults shelf.old) (F.faults shelf.new) s) }
+    ensures last_read { IfErr result (λ s. EndsAtRead (F.last_failed shelf.new) s) }
     ensures reads { F.faults shelf.old ≤ F.faults shelf.new }
     ensures asks { AsksFiles F.asked (F.told shelf.old) boot.now trace.now shelf.old shelf.new }
     ensures boot_fault { IfErr result (λ s. s ≡ Status.ReadFault Input.Boot → FailsAlone F.asked F.faults boot.now shelf.old shelf.new) }
@@ -93,6 +95,7 @@ fn read_trace<F: Shelf>(alloc: Global, name: &str, shelf: &mut F) -> Result<Vec<
     ensures same { F.told shelf.new ≡ F.told shelf.old }
     ensures steady { IfOk result (λ _. F.faults shelf.new ≡ F.faults shelf.old) }
     ensures blames { IfErr result (λ s. BlamesShelf (F.faults shelf.old) (F.faults shelf.new) s) }
+    ensures last_read { IfErr result (λ s. EndsAtRead (F.last_failed shelf.new) s) }
     ensures reads { F.faults shelf.old ≤ F.faults shelf.new }
     ensures asks { F.asked shelf.old name.now shelf.new }
 {
@@ -112,6 +115,7 @@ fn read_system<F: Shelf>(alloc: Global, name: &str, shelf: &mut F) -> Result<Boo
     ensures same { F.told shelf.new ≡ F.told shelf.old }
     ensures steady { IfOk result (λ _. F.faults shelf.new ≡ F.faults shelf.old) }
     ensures blames { IfErr result (λ s. BlamesShelf (F.faults shelf.old) (F.faults shelf.new) s) }
+    ensures last_read { IfErr result (λ s. EndsAtRead (F.last_failed shelf.new) s) }
     ensures reads { F.faults shelf.old ≤ F.faults shelf.new }
     ensures asks { F.asked shelf.old name.now shelf.new }
 {
@@ -144,6 +148,7 @@ fn read_directives<F: Shelf>(
     ensures same { F.told shelf.new ≡ F.told shelf.old }
     ensures steady { IfOk result (λ _. F.faults shelf.new ≡ F.faults shelf.old) }
     ensures blames { IfErr result (λ s. BlamesShelf (F.faults shelf.old) (F.faults shelf.new) s) }
+    ensures last_read { IfErr result (λ s. EndsAtRead (F.last_failed shelf.new) s) }
     ensures reads { F.faults shelf.old ≤ F.faults shelf.new }
     ensures asks { F.asked shelf.old name.now shelf.new }
 {

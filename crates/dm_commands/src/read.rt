@@ -30,6 +30,7 @@ pub fn read_file<F: Shelf>(
     ensures long { IfErr result (λ e. e ≡ ReadError.TooLong → IsLonger (F.told shelf.old) name.now most) }
     ensures steady { IfOk result (λ _. F.faults shelf.new ≡ F.faults shelf.old) }
     ensures blames { IfErr result (λ e. BlamesRead (F.faults shelf.old) (F.faults shelf.new) e) }
+    ensures last { IfErr result (λ e. e ≡ ReadError.Fault → F.last_failed shelf.new) }
     ensures counts { F.faults shelf.old ≤ F.faults shelf.new }
     ensures asks { F.asked shelf.old name.now shelf.new }
 {
@@ -52,6 +53,7 @@ fn read_piece<F: Shelf>(shelf: &mut F, name: &str, bytes: &mut Vec<u8>) -> Resul
     ensures never_long { IfErr result (λ e. e ≡ ReadError.TooLong → ⊥) }
     ensures steady { IfOk result (λ _. F.faults shelf.new ≡ F.faults shelf.old) }
     ensures blames { IfErr result (λ e. BlamesRead (F.faults shelf.old) (F.faults shelf.new) e) }
+    ensures last { IfErr result (λ e. e ≡ ReadError.Fault → F.last_failed shelf.new) }
     ensures counts { F.faults shelf.old ≤ F.faults shelf.new }
     ensures asks { F.asked shelf.old name.now shelf.new }
 {

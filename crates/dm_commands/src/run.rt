@@ -7,7 +7,7 @@ ghost use Rattle.dm_ending.specs.declared.status.Input.TheVariants as input_;
 ghost use Rattle.dm_commands.specs.Asked.{AsksFiles, FailsAlone, FailsSecond};
 ghost use Rattle.dm_commands.specs.Outside.{around};
 ghost use Rattle.dm_commands.specs.Runs.{Completes, Refuses, RunSays, SaysRun, WearsOut};
-ghost use Rattle.dm_ending.specs.Status.{BlamesShelf, BlamesSink};
+ghost use Rattle.dm_ending.specs.Status.{BlamesShelf, BlamesSink, EndsAtRead, EndsAtWrite};
 
 use crate::inputs::{Inputs, read_files};
 use dm_ending::status::{Status, status_of};
@@ -41,7 +41,9 @@ pub fn run_files<F: Shelf, K: Sink>(
         FailsSecond F.asked F.faults (F.told shelf.old) boot.now schedule.now shelf.old shelf.new }
     ensures same { F.told shelf.new ≡ F.told shelf.old }
     ensures shelf { BlamesShelf (F.faults shelf.old) (F.faults shelf.new) result }
+    ensures last_read { EndsAtRead (F.last_failed shelf.new) result }
     ensures sink { BlamesSink (K.faults out.old) (K.faults out.new) result }
+    ensures last_write { EndsAtWrite (K.last_failed out.new) result }
     ensures reads { F.faults shelf.old ≤ F.faults shelf.new }
     ensures writes { K.faults out.old ≤ K.faults out.new }
 {
@@ -59,6 +61,7 @@ fn run<K: Sink>(alloc: Global, inputs: Inputs, out: &mut K, world: &mut Option<W
     requires few { length inputs.directives.items ≤ MOST_SCHEDULE }
     ensures says { RunSays inputs.boot inputs.directives.items (K.told out.old) (K.told out.new) world.new result }
     ensures sink { BlamesSink (K.faults out.old) (K.faults out.new) result }
+    ensures last_write { EndsAtWrite (K.last_failed out.new) result }
     ensures writes { K.faults out.old ≤ K.faults out.new }
 {
     let Inputs { boot, directives } = inputs;

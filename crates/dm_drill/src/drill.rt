@@ -7,7 +7,7 @@ ghost use Rattle.dm_text.specs.Fits.{LineFits};
 ghost use Rattle.dm_world.specs.May.{MayStep};
 ghost use Rattle.dm_world.specs.Meets.{IsWorld, world_state};
 ghost use Rattle.dm_world.specs.Next.{world_next_step};
-ghost use Rattle.dm_run.specs.Coming.{Blames, IsAfter, IsAtStart, IsFor, Offered, rounds_of};
+ghost use Rattle.dm_run.specs.Coming.{Blames, IsAfter, IsAtStart, IsFor, Offered, StopsThere};
 ghost use Rattle.dm_run.specs.Printed.{Lasts};
 ghost use Rattle.dm_drill.specs.Counts.{nothing, shown, with_group};
 ghost use Rattle.dm_drill.specs.Drilled.{Came, DrillTold, Ended, HasDrilled, IsDue, at, text_shown};
@@ -20,6 +20,7 @@ use dm_ending::stop::Stop;
 use dm_line::line::Line;
 use dm_memory::NoMemory;
 use dm_outside::Sink;
+use dm_run::directives::rounds_fit;
 use dm_run::{lines_fit, offer, offer_bytes};
 use dm_schedule::{Directive, MOST_SCHEDULE, Step};
 use dm_world::{Cursor, Stop as WorldStop, World};
@@ -39,6 +40,7 @@ pub fn run_drill<K: Sink>(
     ensures ended { Ended drill.now world.old.boot directives.now (K.told out.old) (K.told out.new) world.new result }
     ensures lasts { OnOk result (Lasts world.old.boot directives.now) }
     ensures blames { Blames (K.faults out.old) (K.faults out.new) result }
+    ensures last { StopsThere (K.last_failed out.new) result }
     ensures writes { K.faults out.old ≤ K.faults out.new }
 {
     let mut counts = Counts::new(alloc);
@@ -70,6 +72,7 @@ fn drill_directive<K: Sink>(
     ensures boot { OnOk result (world.new.boot ≡ world.old.boot) }
     ensures groups { OnOk result (world.new.groups ≤ world.old.groups + 2 ^ 90) }
     ensures blames { Blames (K.faults out.old) (K.faults out.new) result }
+    ensures last { StopsThere (K.last_failed out.new) result }
     ensures writes { K.faults out.old ≤ K.faults out.new }
 {
     let mut cursor = Cursor::new(directive);
@@ -80,11 +83,6 @@ fn drill_directive<K: Sink>(
     }
     Ok(())
 }
-
-/// A cursor's number of rounds is within its type.
-fn rounds_fit(cursor: Cursor)
-    ensures { rounds_of cursor < 2 ^ 32 }
-{}
 
 /// Does an elementary directive, counts its lines, and writes them where that is asked for.
 fn one_group<K: Sink>(
@@ -108,6 +106,7 @@ fn one_group<K: Sink>(
     ensures running { OnOk result (world.new.stopped ≡ false) }
     ensures boot { OnOk result (world.new.boot ≡ world.old.boot) }
     ensures blames { Blames (K.faults out.old) (K.faults out.new) result }
+    ensures last { StopsThere (K.last_failed out.new) result }
     ensures writes { K.faults out.old ≤ K.faults out.new }
 {
     match world.step(step) {
@@ -129,6 +128,7 @@ fn take_lines<K: Sink>(
     ensures counted { OnOk result (shown counts.new ≡ with_group (shown counts.old) lines.now) }
     ensures fits { All LineFits lines.now }
     ensures blames { Blames (K.faults out.old) (K.faults out.new) result }
+    ensures last { StopsThere (K.last_failed out.new) result }
     ensures writes { K.faults out.old ≤ K.faults out.new }
 {
     lines_fit(lines);
@@ -155,6 +155,7 @@ fn sum_up<K: Sink>(
         HasDrilled drill.now.trace world.now.boot ds (all_of []) before (at (K.told out.old) (shown counts.now)) (world_state world.now) →
         Ended drill.now world.now.boot ds before.text (K.told out.new) world.now result }
     ensures blames { Blames (K.faults out.old) (K.faults out.new) result }
+    ensures last { StopsThere (K.last_failed out.new) result }
     ensures writes { K.faults out.old ≤ K.faults out.new }
 {
     let quiet = world.is_quiet();

@@ -62,3 +62,11 @@ BlamesShelf old new _ = new ≡ old
 abbrev pub BlamesSink : ℕ → ℕ → Status → Type 0
 BlamesSink old new WriteFault = RoseOrFull old new
 BlamesSink old new _ = new ≡ old
+
+-- where a read is blamed, the shelf's last call failed: nothing was read behind it
+abbrev pub EndsAtRead : Type 0 → Status → Type 0
+EndsAtRead last_failed s = (input : Input) → s ≡ ReadFault input → last_failed
+
+-- and so the sink's, where a write is: nothing was written behind it
+abbrev pub EndsAtWrite : Type 0 → Status → Type 0
+EndsAtWrite last_failed s = s ≡ WriteFault → last_failed

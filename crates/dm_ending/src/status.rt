@@ -25,7 +25,7 @@ pub enum Input {
 /// How a run of the program ended.
 #[derive(Clone, Copy)]
 pub enum Status {
-    /// The schedule was read to its end, and all lines are written.
+    /// What was asked for is done, and all of it is written.
     Done,
     /// The words of the command line aren't those of a command.
     Usage,
@@ -80,7 +80,7 @@ pub fn status_of(ended: Result<(), Stop>) -> Status
 }
 
 /// The line of a status with its line feed, nothing where all is done. It takes no memory.
-pub fn status_line(status: &Status) -> ArrayString<96>
+pub fn status_line(status: &Status) -> ArrayString<LONGEST_LINE>
     ensures { result.bytes ≡ line_of_status status.now }
 {
     let mut line = status_text(status);
@@ -91,7 +91,7 @@ pub fn status_line(status: &Status) -> ArrayString<96>
 }
 
 /// What a status says in one line, nothing where all is done.
-pub fn status_text(status: &Status) -> ArrayString<96>
+pub fn status_text(status: &Status) -> ArrayString<LONGEST_LINE>
     ensures text { result.bytes ≡ text_of_status status.now }
     ensures short { length result.bytes ≤ LONGEST_TEXT }
 {
@@ -112,7 +112,7 @@ pub fn status_text(status: &Status) -> ArrayString<96>
 }
 
 /// A text of these words.
-pub fn words(s: &str) -> ArrayString<96>
+pub fn words(s: &str) -> ArrayString<LONGEST_LINE>
     requires { length s.now ≤ LONGEST_TEXT }
     ensures { result.bytes ≡ s.now }
 {
@@ -122,7 +122,7 @@ pub fn words(s: &str) -> ArrayString<96>
 }
 
 /// What a refused boot file is told.
-fn boot_refused(number: u8, place: u64) -> ArrayString<96>
+fn boot_refused(number: u8, place: u64) -> ArrayString<LONGEST_LINE>
     ensures short { length result.bytes ≤ LONGEST_TEXT }
     ensures text { result.bytes ≡ text_of_status (Status.BootRefused number place) }
 {
@@ -134,7 +134,7 @@ fn boot_refused(number: u8, place: u64) -> ArrayString<96>
 }
 
 /// What a refused schedule is told.
-fn schedule_refused(line: u64, why: u8) -> ArrayString<96>
+fn schedule_refused(line: u64, why: u8) -> ArrayString<LONGEST_LINE>
     ensures short { length result.bytes ≤ LONGEST_TEXT }
     ensures text { result.bytes ≡ text_of_status (Status.ScheduleRefused line why) }
 {
@@ -146,7 +146,7 @@ fn schedule_refused(line: u64, why: u8) -> ArrayString<96>
 }
 
 /// What a refused trace is told.
-fn trace_refused(line: u64, why: u8) -> ArrayString<96>
+fn trace_refused(line: u64, why: u8) -> ArrayString<LONGEST_LINE>
     ensures short { length result.bytes ≤ LONGEST_TEXT }
     ensures text { result.bytes ≡ text_of_status (Status.TraceRefused line why) }
 {
@@ -158,7 +158,7 @@ fn trace_refused(line: u64, why: u8) -> ArrayString<96>
 }
 
 /// What is told of two machines that count as many messages as they may.
-fn worn(from: u8, to: u8) -> ArrayString<96>
+fn worn(from: u8, to: u8) -> ArrayString<LONGEST_LINE>
     ensures short { length result.bytes ≤ LONGEST_TEXT }
     ensures text { result.bytes ≡ text_of_status (Status.Worn from to) }
 {
@@ -170,7 +170,7 @@ fn worn(from: u8, to: u8) -> ArrayString<96>
 }
 
 /// Adds a number in decimal digits.
-pub fn push_number(text: &mut ArrayString<96>, n: u64)
+pub fn push_number(text: &mut ArrayString<LONGEST_LINE>, n: u64)
     requires { length text.old.bytes + 20 ≤ LONGEST_LINE }
     ensures written { text.new.bytes ≡ text.old.bytes ++ decimal n }
     ensures room { length text.new.bytes ≤ length text.old.bytes + 20 }

@@ -25,12 +25,16 @@ pub struct Failed;
 ///
 /// `asked` says between which two states of a shelf only one name was asked for. A shelf that keeps no record of it
 /// gives what always holds; a function over every shelf knows of it what `read` and the two laws say, and no more.
+/// So it is with `last_failed`: a function that ends where it holds called nothing behind the call that failed.
 pub trait Shelf {
     // The bytes of each file by its name, None for a missing one, where the shelf tells them.
     ghost told: { Self → Option (List ℕ → Option (List ℕ)) };
 
     // How many calls failed so far.
     ghost faults: { Self → ℕ };
+
+    // The last call failed.
+    ghost last_failed: { Self → Type 0 };
 
     // From the first state to the second no file was asked for but the one of this name.
     ghost asked: { Self → List ℕ → Self → Type 0 };
@@ -43,6 +47,7 @@ pub trait Shelf {
         ensures bytes { ReadsTold (told self.old) name.now from result into.new }
         ensures asks { asked self.old name.now self.new }
         ensures failed { OnErr result (RoseOrFull (faults self.old) (faults self.new)) }
+        ensures last { OnErr result (last_failed self.new) }
         ensures steady { OnOk result (faults self.new ≡ faults self.old) }
         ensures counts { faults self.old ≤ faults self.new };
 
@@ -53,13 +58,16 @@ pub trait Shelf {
     ghost asks_on: { (a b c : Self) (name : List ℕ) → asked a name b → asked b name c → asked a name c };
 }
 
-/// Where bytes go, one after the other.
+/// Where bytes go, one after the other. `last_failed` is as a shelf's.
 pub trait Sink {
     // The bytes that it took so far, where the sink tells them.
     ghost told: { Self → Option (List ℕ) };
 
     // How many calls failed so far.
     ghost faults: { Self → ℕ };
+
+    // The last call failed.
+    ghost last_failed: { Self → Type 0 };
 
     /// Takes the first bytes of a piece, and says how many: at least one of a piece that isn't empty.
     fn write(&mut self, from: &[u8]) -> Result<usize, Failed>
@@ -68,6 +76,7 @@ pub trait Sink {
         ensures moves { IfOk result (λ n. 0 < length from.now → 0 < n) }
         ensures same { OnErr result (told self.new ≡ told self.old) }
         ensures failed { OnErr result (RoseOrFull (faults self.old) (faults self.new)) }
+        ensures last { OnErr result (last_failed self.new) }
         ensures steady { OnOk result (faults self.new ≡ faults self.old) }
         ensures counts { faults self.old ≤ faults self.new };
 }

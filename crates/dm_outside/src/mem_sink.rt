@@ -78,11 +78,14 @@ impl MemSink {
 }
 
 impl Sink for MemSink {
-    ghost use Rattle.std.specs.Prelude.{Some};
+    ghost use Rattle.std.specs.Prelude.{Some, ⊤};
 
     ghost told = { λ s. Some s.bytes };
 
     ghost faults = { λ s. s.faults };
+
+    // It keeps no record of it.
+    ghost last_failed = { λ _. ⊤ };
 
     fn write(&mut self, from: &[u8]) -> Result<usize, Failed>
         ensures within { IfOk result (λ n. n ≤ length from.now) }

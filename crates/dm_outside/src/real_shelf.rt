@@ -76,7 +76,9 @@ impl<R: Files> Shelf for RealShelf<R> {
 
     ghost faults = { λ s. s.faults };
 
-    // It keeps no record of names.
+    // It keeps no record of names, nor of which call failed.
+    ghost last_failed = { λ _. ⊤ };
+
     ghost asked = { λ _ _ _. ⊤ };
 
     ghost asks_nothing = { λ _ _. tt };

@@ -39,11 +39,14 @@ impl<W> RealSink<W> {
 }
 
 impl<W: Write> Sink for RealSink<W> {
-    ghost use Rattle.std.specs.Prelude.{None};
+    ghost use Rattle.std.specs.Prelude.{None, ⊤};
 
     ghost told = { λ _. None };
 
     ghost faults = { λ s. s.faults };
+
+    // It keeps no record of it.
+    ghost last_failed = { λ _. ⊤ };
 
     fn write(&mut self, from: &[u8]) -> Result<usize, Failed>
         ensures within { IfOk result (λ n. n ≤ length from.now) }

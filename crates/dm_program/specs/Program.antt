@@ -19,7 +19,7 @@ use Rattle.dm_commands.specs.Explains.{ExplainMeets}
 use Rattle.dm_commands.specs.Outside.{Outside, around}
 use Rattle.dm_words.specs.Request.{Request, Chart, Check, Drill, Explain, Run}
 use Rattle.dm_commands.specs.Runs.{RunMeets}
-use Rattle.dm_ending.specs.Status.{IsWant, code_of, line_of_status}
+use Rattle.dm_ending.specs.Status.{EndsAtRead, EndsAtWrite, IsWant, code_of, line_of_status}
 use Rattle.dm_words.specs.Refused.{status_of_no}
 use Rattle.dm_words.specs.Words.{request_of}
 
@@ -54,11 +54,14 @@ GivenMeets asked files reads told writes (Ok words) shelf shelf' sink sink' worl
     ProgramMeets asked reads (request_of (map string_bytes words.items)) (around files reads told writes shelf shelf' sink sink' world) shelf shelf' s
 GivenMeets asked files reads told writes (Err reason) shelf shelf' sink sink' world s = HasNoWords reason shelf shelf' sink sink' world s
 
--- the program has ended with a status: its line was offered to standard error, and its number is the program's
-pub record Finishes {F K E : Type 0} (asked : F → List ℕ → F → Type 0) (files : F → Option (List ℕ → Option (List ℕ))) (reads : F → ℕ) (told : K → Option (List ℕ)) (writes : K → ℕ) (said : E → Option (List ℕ)) (failed : E → ℕ)
+-- the program has ended with a status: where it blames a read or a write, that was the last one; its line was offered to standard
+-- error, and its number is the program's
+pub record Finishes {F K E : Type 0} (asked : F → List ℕ → F → Type 0) (files : F → Option (List ℕ → Option (List ℕ))) (reads : F → ℕ) (read_failed : F → Type 0) (told : K → Option (List ℕ)) (writes : K → ℕ) (write_failed : K → Type 0) (said : E → Option (List ℕ)) (failed : E → ℕ)
     (given : Result (Vec (String Global) Global) WordsError) (shelf shelf' : F) (sink sink' : K) (errors errors' : E) (code : ExitCode) : Type 0 where
   pub status : Status
   pub world : Option World
   pub meets : GivenMeets asked files reads told writes given shelf shelf' sink sink' world status
+  pub last_read : EndsAtRead (read_failed shelf') status
+  pub last_write : EndsAtWrite (write_failed sink') status
   pub says : Written (said errors) (line_of_status status) (said errors') (failed errors) (failed errors')
   pub number : exit_status code ≡ code_of status

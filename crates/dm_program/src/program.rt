@@ -2,7 +2,7 @@
 ghost use Rattle.std.specs.Prelude.{◌≡◌, ◌≤◌, map};
 ghost use Rattle.dm_commands.specs.Outside.{around};
 ghost use Rattle.dm_program.specs.Program.{ProgramMeets};
-ghost use Rattle.dm_ending.specs.Status.{BlamesShelf, BlamesSink};
+ghost use Rattle.dm_ending.specs.Status.{BlamesShelf, BlamesSink, EndsAtRead, EndsAtWrite};
 ghost use Rattle.dm_words.specs.Words.{IsTaken, request_of};
 
 use dm_commands::chart::chart_files;
@@ -29,7 +29,9 @@ pub fn run_program<F: Shelf, K: Sink>(
     ensures refused { result ≡ Status.Usage → IsTaken (map (λ w. w.now) words.now) → ⊥ }
     ensures same { F.told shelf.new ≡ F.told shelf.old }
     ensures shelf { BlamesShelf (F.faults shelf.old) (F.faults shelf.new) result }
+    ensures last_read { EndsAtRead (F.last_failed shelf.new) result }
     ensures sink { BlamesSink (K.faults out.old) (K.faults out.new) result }
+    ensures last_write { EndsAtWrite (K.last_failed out.new) result }
     ensures reads { F.faults shelf.old ≤ F.faults shelf.new }
     ensures writes { K.faults out.old ≤ K.faults out.new }
 {

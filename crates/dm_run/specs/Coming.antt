@@ -102,6 +102,16 @@ abbrev pub Blames : {A : Type 0} → ℕ → ℕ → Result A Stop → Type 0
 Blames old new (Ok _) = new ≡ old
 Blames old new (Err s) = BlamesBy old new s
 
+-- where the sink is blamed, its last call failed: nothing was offered to it behind that one
+abbrev pub StopsBy : Type 0 → Stop → Type 0
+StopsBy last (NoMemory lack) = ⊤
+StopsBy last WriteFault = last
+StopsBy last (Worn from to) = ⊤
+
+abbrev pub StopsThere : {A : Type 0} → Type 0 → Result A Stop → Type 0
+StopsThere last (Ok _) = ⊤
+StopsThere last (Err s) = StopsBy last s
+
 -- how many rounds are left of a directive, behind the pass that it is in
 abbrev pub rounds_of : Cursor → ℕ
 rounds_of (One e) = 0

@@ -8,7 +8,7 @@ ghost use Rattle.dm_world.specs.Ends.{MayEnd};
 ghost use Rattle.dm_world.specs.Meets.{IsWorld, world_state};
 ghost use Rattle.dm_world.specs.Next.{world_next_step};
 ghost use Rattle.dm_world.specs.World.{first_world};
-ghost use Rattle.dm_run.specs.Coming.{Blames, Came, Ended, HasCome, IsAfter, IsDue, IsFor, IsAtStart, rounds_of};
+ghost use Rattle.dm_run.specs.Coming.{Blames, Came, Ended, HasCome, IsAfter, IsDue, IsFor, IsAtStart, StopsThere, rounds_of};
 ghost use Rattle.dm_run.specs.Printed.{Lasts};
 ghost use Rattle.dm_run.specs.Running.{IsRunning};
 
@@ -35,6 +35,7 @@ pub fn run_directives<K: Sink>(
     // A directive has fewer than 2 ^ 90 groups.
     ensures groups { OnOk result (world.new.groups ≤ length directives.now * 2 ^ 90) }
     ensures blames { Blames (K.faults out.old) (K.faults out.new) result }
+    ensures last { StopsThere (K.last_failed out.new) result }
     ensures writes { K.faults out.old ≤ K.faults out.new }
 {
     let mut page = Vec::new(alloc);
@@ -57,6 +58,7 @@ pub fn run_to_end<K: Sink>(
     ensures ended { Ended world.old.boot directives.now (K.told out.old) (K.told out.new) world.new result }
     ensures lasts { OnOk result (Lasts world.old.boot directives.now) }
     ensures blames { Blames (K.faults out.old) (K.faults out.new) result }
+    ensures last { StopsThere (K.last_failed out.new) result }
     ensures writes { K.faults out.old ≤ K.faults out.new }
 {
     run_directives(alloc, directives, world, out)?;
@@ -84,6 +86,7 @@ fn run_directive<K: Sink>(
     ensures boot { OnOk result (world.new.boot ≡ world.old.boot) }
     ensures groups { OnOk result (world.new.groups ≤ world.old.groups + 2 ^ 90) }
     ensures blames { Blames (K.faults out.old) (K.faults out.new) result }
+    ensures last { StopsThere (K.last_failed out.new) result }
     ensures writes { K.faults out.old ≤ K.faults out.new }
 {
     let mut cursor = Cursor::new(directive);
@@ -120,6 +123,7 @@ fn one_group<K: Sink>(
     ensures running { OnOk result (world.new.stopped ≡ false) }
     ensures boot { OnOk result (world.new.boot ≡ world.old.boot) }
     ensures blames { Blames (K.faults out.old) (K.faults out.new) result }
+    ensures last { StopsThere (K.last_failed out.new) result }
     ensures writes { K.faults out.old ≤ K.faults out.new }
 {
     match world.step(step) {
@@ -141,6 +145,7 @@ fn say_end<K: Sink>(world: &World, page: &mut Vec<u8>, out: &mut K) -> Result<()
         HasCome world.now.boot ds (all_of []) before (K.told out.old) (world_state world.now) →
         Ended world.now.boot ds before (K.told out.new) world.now result }
     ensures blames { Blames (K.faults out.old) (K.faults out.new) result }
+    ensures last { StopsThere (K.last_failed out.new) result }
     ensures writes { K.faults out.old ≤ K.faults out.new }
 {
     match world.end_lines() {

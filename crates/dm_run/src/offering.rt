@@ -4,7 +4,7 @@ ghost use Rattle.std.specs.List.{All};
 ghost use Rattle.dm_text.specs.Fits.{EndFits, HidesNothing, LineFits};
 ghost use Rattle.dm_text.specs.Text.{text_of_ends, text_of_lines};
 ghost use Rattle.dm_outside.specs.Outside.{RoseOrFull};
-ghost use Rattle.dm_run.specs.Coming.{Blames, Offered};
+ghost use Rattle.dm_run.specs.Coming.{Blames, Offered, StopsThere};
 
 use crate::fit::{ends_fit, lines_fit};
 use crate::write::write_all;
@@ -19,6 +19,7 @@ pub fn offer<K: Sink>(lines: &[Line], page: &mut Vec<u8>, out: &mut K) -> Result
     ensures says { Offered (K.told out.old) (text_of_lines lines.now) (K.told out.new) result }
     ensures fits { All LineFits lines.now }
     ensures blames { Blames (K.faults out.old) (K.faults out.new) result }
+    ensures last { StopsThere (K.last_failed out.new) result }
     ensures writes { K.faults out.old ≤ K.faults out.new }
 {
     lines_fit(lines);
@@ -34,6 +35,7 @@ pub fn offer_ends<K: Sink>(ends: &[EndLine], page: &mut Vec<u8>, out: &mut K) ->
     ensures says { Offered (K.told out.old) (text_of_ends ends.now) (K.told out.new) result }
     ensures fits { All HidesNothing ends.now → All EndFits ends.now }
     ensures blames { Blames (K.faults out.old) (K.faults out.new) result }
+    ensures last { StopsThere (K.last_failed out.new) result }
     ensures writes { K.faults out.old ≤ K.faults out.new }
 {
     ends_fit(ends);
@@ -48,6 +50,7 @@ pub fn offer_ends<K: Sink>(ends: &[EndLine], page: &mut Vec<u8>, out: &mut K) ->
 pub fn offer_bytes<K: Sink>(bytes: &[u8], out: &mut K) -> Result<(), Stop>
     ensures says { Offered (K.told out.old) bytes.now (K.told out.new) result }
     ensures blames { Blames (K.faults out.old) (K.faults out.new) result }
+    ensures last { StopsThere (K.last_failed out.new) result }
     ensures writes { K.faults out.old ≤ K.faults out.new }
 {
     match write_all(out, bytes) {

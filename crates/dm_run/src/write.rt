@@ -10,6 +10,7 @@ pub fn write_all<K: Sink>(sink: &mut K, bytes: &[u8]) -> Result<(), Failed>
     ensures all { OnOk result (K.told sink.new ≡ appended (K.told sink.old) bytes.now) }
     ensures cut { OnErr result (IsCutShort (K.told sink.old) bytes.now (K.told sink.new)) }
     ensures fault { OnErr result (RoseOrFull (K.faults sink.old) (K.faults sink.new)) }
+    ensures last { OnErr result (K.last_failed sink.new) }
     ensures steady { OnOk result (K.faults sink.new ≡ K.faults sink.old) }
     ensures counts { K.faults sink.old ≤ K.faults sink.new }
 {

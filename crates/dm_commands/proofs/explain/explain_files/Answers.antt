@@ -1,5 +1,5 @@
 use Rattle.dm_commands.proofs.Names.{inl, inr, option_map, refl}
-use Rattle.dm_commands.proofs.ExplainOutcomes.{as_run, no_sink, one_end, wrote_shelf, wrote_sink}
+use Rattle.dm_commands.proofs.ExplainOutcomes.{as_run, due_unwritten, no_sink, one_end, wrote_read, wrote_shelf, wrote_sink}
 use Rattle.dm_commands.proofs.explain.explain_files.Goals as goal
 
 pub returns-in-Ok-clause-says : goal.returns-in-Ok-clause-says
@@ -24,6 +24,12 @@ returns-in-Ok-clause-shelf g c = wrote_shelf _ _ _ _ _ _ _ _ _ _ c.in-Ok.told.du
 
 pub returns-in-Ok-clause-sink : goal.returns-in-Ok-clause-sink
 returns-in-Ok-clause-sink g c = wrote_sink _ _ _ _ _ _ _ _ c.in-Ok.told.due c.say.result c.in-Ok.ensures.tells c.say.ensures.wrote
+
+pub returns-in-Ok-clause-last_read : goal.returns-in-Ok-clause-last_read
+returns-in-Ok-clause-last_read g c = wrote_read _ _ _ _ _ _ _ _ c.in-Ok.told.due c.say.result _ c.in-Ok.ensures.tells c.say.ensures.wrote
+
+pub returns-in-Ok-clause-last_write : goal.returns-in-Ok-clause-last_write
+returns-in-Ok-clause-last_write g c = c.say.ensures.last_write (due_unwritten _ _ _ _ c.in-Ok.told.due c.in-Ok.ensures.tells)
 
 pub returns-in-Err-clause-says : goal.returns-in-Err-clause-says
 returns-in-Err-clause-says g c = inr (record { why = c.in-Err.ensures.none; nothing = refl })
