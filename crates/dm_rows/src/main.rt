@@ -4,11 +4,13 @@
 
 mod others;
 mod program;
+mod real;
 mod row;
 mod run;
 
 use anyhow::{Context, Result};
-use others::{fail_writes, read_files, say_errors, step_flat, write_out};
+use others::{fail_writes, say_errors, step_flat};
+use real::{read_files, write_out};
 use row::Row;
 use run::{Ending, Run};
 use std::{fs, io};

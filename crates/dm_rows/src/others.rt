@@ -1,11 +1,10 @@
-//! What no run of the table shows: each write of a run and of a drill that fails, the real shelf and sink by themselves, a flat
-//! memory, and what errors say of themselves.
+//! What no run of the table shows: each write of a run and of a drill that fails, a flat memory, and what errors say of
+//! themselves.
 
 use crate::program::{run_over_files, sink_of};
 use anyhow::Result;
 use dm_boot::{BootError, BootRule};
 use dm_check::{CheckError, TraceFault};
-use dm_outside::{Failed, RealShelf, RealSink, Shelf, Sink};
 use dm_packet::PacketError;
 use dm_processor::{Flat, Regs, step};
 use dm_procman::MoveError;
@@ -13,21 +12,6 @@ use dm_room::Lacks;
 use dm_schedule::{LineFault, ScheduleError};
 use dm_statebytes::StateBytesError;
 use std::{fmt, io};
-
-/// Reads of real files: on in one, from the start of another, and those that don't go on where the last one ended.
-const READS: [(&str, u64); 11] = [
-    ("first", 0),
-    ("first", 4),
-    ("first", 6),
-    ("second", 0),
-    ("second", 4),
-    ("first", 5),
-    ("second", 5),
-    ("first", 0),
-    ("first", 6),
-    ("nowhere", 4),
-    ("nowhere", 0),
-];
 
 /// Zero minus one, and then call 2.
 const ZERO_MINUS_ONE: [u8; 16] = [1, 1, 0, 0, 1, 2, 0, 1, 5, 1, 1, 2, 20, 0, 0, 2];
@@ -108,49 +92,6 @@ fn say_done(
     written: usize,
 ) -> io::Result<()> {
     println!(rt; "{name}, write fails behind {before}: {line:?}, {written} bytes")
-}
-
-/// Reads two files of data/ in turn, and one that isn't there.
-pub fn read_files(rt: &HostRuntime) -> io::Result<()> {
-    let mut shelf = RealShelf::new(rt);
-    say_reads(rt, &mut shelf)?;
-    say_faults(rt, "read", shelf.faults())
-}
-
-/// Does the reads in turn.
-fn say_reads<F: Shelf>(rt: &HostRuntime, shelf: &mut F) -> io::Result<()> {
-    for (name, from) in &READS {
-        say_read(rt, shelf, name, *from)?;
-    }
-    Ok(())
-}
-
-/// Reads four bytes of a file, and says what came of it.
-fn say_read<F: Shelf>(rt: &HostRuntime, shelf: &mut F, name: &str, from: u64) -> io::Result<()> {
-    let mut bytes = *b"....";
-    match shelf.read(name, from, &mut bytes) {
-        Ok(count) => println!(rt; "read {name} from {from}: {count} of {bytes:?}"),
-        Err(Failed) => println!(rt; "read {name} from {from}: a fault"),
-    }
-}
-
-/// Writes a line, and nothing.
-pub fn write_out(rt: &HostRuntime) -> io::Result<()> {
-    let mut sink = RealSink::new(io::writer(rt));
-    say_writes(rt, &mut sink)?;
-    say_faults(rt, "write", sink.faults())
-}
-
-/// Does both writes, and says what came of them.
-fn say_writes<K: Sink>(rt: &HostRuntime, sink: &mut K) -> io::Result<()> {
-    let line = sink.write(b"a line of the real sink\n");
-    let nothing = sink.write(b"");
-    println!(rt; "written: {line:?}, {nothing:?}")
-}
-
-/// How many calls of a kind were faults.
-fn say_faults(rt: &HostRuntime, of: &str, faults: u64) -> io::Result<()> {
-    println!(rt; "{of} faults: {faults}")
 }
 
 /// Four instructions over a flat memory.

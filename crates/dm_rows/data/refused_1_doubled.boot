@@ -1,0 +1,7 @@
+quantum = 1
+name = "a"
+name = """
+b
+c
+"""
+machine = []
