@@ -56,12 +56,12 @@ GivenMeets asked files reads told writes (Err reason) shelf shelf' sink sink' wo
 
 -- the program has ended with a status: where it blames a read or a write, that was the last one; its line was offered to standard
 -- error, and its number is the program's
-pub record Finishes {F K E : Type 0} (asked : F → List ℕ → F → Type 0) (files : F → Option (List ℕ → Option (List ℕ))) (reads : F → ℕ) (read_failed : F → Type 0) (told : K → Option (List ℕ)) (writes : K → ℕ) (write_failed : K → Type 0) (said : E → Option (List ℕ)) (failed : E → ℕ)
+pub record Finishes {F K E : Type 0} (asked : F → List ℕ → F → Type 0) (files : F → Option (List ℕ → Option (List ℕ))) (reads : F → ℕ) (read_failed : F → Type 0) (told : K → Option (List ℕ)) (writes : K → ℕ) (write_failed : K → Type 0) (said : E → Option (List ℕ)) (failed : E → ℕ) (line_failed : E → Type 0)
     (given : Result (Vec (String Global) Global) WordsError) (shelf shelf' : F) (sink sink' : K) (errors errors' : E) (code : ExitCode) : Type 0 where
   pub status : Status
   pub world : Option World
   pub meets : GivenMeets asked files reads told writes given shelf shelf' sink sink' world status
   pub last_read : EndsAtRead (read_failed shelf') status
   pub last_write : EndsAtWrite (write_failed sink') status
-  pub says : Written (said errors) (line_of_status status) (said errors') (failed errors) (failed errors')
+  pub says : Written (said errors) (line_of_status status) (said errors') (failed errors) (failed errors') (line_failed errors')
   pub number : exit_status code ≡ code_of status

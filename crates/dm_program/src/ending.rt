@@ -12,7 +12,8 @@ use std::process::ExitCode;
 /// Writes the line of a status, and gives its number. A line that the sink cuts changes no number.
 pub fn end<K: Sink>(status: &Status, errors: &mut K) -> ExitCode
     ensures number { exit_status result ≡ code_of status.now }
-    ensures says { Written (K.told errors.old) (line_of_status status.now) (K.told errors.new) (K.faults errors.old) (K.faults errors.new) }
+    ensures says { Written (K.told errors.old) (line_of_status status.now) (K.told errors.new)
+        (K.faults errors.old) (K.faults errors.new) (K.last_failed errors.new) }
 {
     let line = status_line(status);
     let _ = write_all(errors, line.as_bytes());

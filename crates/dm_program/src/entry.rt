@@ -45,7 +45,7 @@ pub fn finish<F: Shelf, K: Sink, E: Sink>(
     out: &mut K,
     errors: &mut E,
 ) -> ExitCode
-    ensures { Finishes F.asked F.told F.faults F.last_failed K.told K.faults K.last_failed E.told E.faults
+    ensures { Finishes F.asked F.told F.faults F.last_failed K.told K.faults K.last_failed E.told E.faults E.last_failed
         given shelf.old shelf.new out.old out.new errors.old errors.new result }
 {
     let mut world = None;

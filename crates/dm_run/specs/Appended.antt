@@ -9,7 +9,7 @@ pub record IsCutShort (old : Option (List ℕ)) (bytes : List ℕ) (new : Option
   pub fewer : count < length bytes
   pub taken : new ≡ appended old (take count bytes)
 
--- all these bytes were appended, or the sink failed and fewer were
-abbrev pub Written : Option (List ℕ) → List ℕ → Option (List ℕ) → ℕ → ℕ → Type 0
-Written old bytes new faults_before faults_after =
-    (new ≡ appended old bytes) ⊎ (IsCutShort old bytes new × RoseOrFull faults_before faults_after)
+-- all these bytes were appended and no call failed; or fewer were, and the last call failed: nothing was offered behind it
+abbrev pub Written : Option (List ℕ) → List ℕ → Option (List ℕ) → ℕ → ℕ → Type 0 → Type 0
+Written old bytes new faults_before faults_after last_failed =
+    ((new ≡ appended old bytes) × (faults_after ≡ faults_before)) ⊎ (IsCutShort old bytes new × RoseOrFull faults_before faults_after × last_failed)
