@@ -1,0 +1,146 @@
+// What viewer/check has the browser do with each page: a page is written into a frame of its own, and its keys are pressed.
+"use strict";
+
+// A frame with the page in it, and what was wrong in its scripts.
+function opened(html) {
+    const frame = document.createElement("iframe");
+    frame.width = 1300;
+    document.body.append(frame);
+    const faults = [];
+    frame.contentDocument.open();
+    frame.contentWindow.onerror = (words) => {
+        faults.push(String(words));
+        return true;
+    };
+    frame.contentDocument.write(html);
+    frame.contentDocument.close();
+    return { frame, faults, window: frame.contentWindow, document: frame.contentDocument };
+}
+
+function press(tried, key, shiftKey = false) {
+    tried.document.body.dispatchEvent(new tried.window.KeyboardEvent("keydown", { key, shiftKey, bubbles: true, cancelable: true }));
+}
+
+function at(tried) {
+    return Number(tried.document.body.dataset.at);
+}
+
+function count(tried) {
+    return Number(tried.document.getElementById("slider").max);
+}
+
+// The keys and the slider.
+function triesKeys(tried, must) {
+    const all = count(tried);
+    must(at(tried) === 0, "begins before the first group");
+    press(tried, "ArrowRight");
+    must(at(tried) === Math.min(1, all), "the right arrow goes a group on");
+    press(tried, "ArrowLeft");
+    must(at(tried) === 0, "the left arrow goes a group back");
+    press(tried, "ArrowLeft");
+    must(at(tried) === 0, "there is nothing before the beginning");
+    press(tried, "ArrowRight", true);
+    must(at(tried) === Math.min(10, all), "shift and the right arrow go ten groups on");
+    press(tried, "End");
+    must(at(tried) === all, "End goes to the end");
+    press(tried, "ArrowRight");
+    must(at(tried) === all, "there is nothing behind the end");
+    press(tried, "Home");
+    must(at(tried) === 0, "Home goes to the beginning");
+    const slider = tried.document.getElementById("slider");
+    slider.value = Math.floor(all / 2);
+    slider.dispatchEvent(new tried.window.Event("input", { bubbles: true }));
+    must(at(tried) === Math.floor(all / 2), "the slider goes where it is put");
+    const shown = tried.document.querySelector("#lines .now .number");
+    must(at(tried) === 0 || shown.textContent === String(at(tried)), "the lines shown are those of the group");
+}
+
+// What stands on the page is the same whether one came forward to it or went back.
+function triesBack(tried, must) {
+    const middle = Math.floor(count(tried) / 2);
+    const look = () => tried.document.getElementById("system").textContent;
+    press(tried, "Home");
+    for (let g = 0; g < middle; g++) {
+        press(tried, "ArrowRight");
+    }
+    const forward = look();
+    press(tried, "End");
+    for (let g = count(tried); g > middle; g--) {
+        press(tried, "ArrowLeft");
+    }
+    must(look() === forward, "a group looks the same from both sides");
+}
+
+// The search.
+function triesSearch(tried, must) {
+    const find = tried.document.getElementById("find");
+    const lines = tried.document.getElementById("trace").textContent.split("\n");
+    press(tried, "Home");
+    find.value = "put";
+    find.dispatchEvent(new tried.window.KeyboardEvent("keydown", { key: "Enter", bubbles: true }));
+    const found = tried.document.querySelector("#lines .found");
+    const some = lines.some((line) => line.startsWith("put "));
+    must(some === (found !== null), "a line is found exactly where there is one");
+    if (found !== null) {
+        must(found.textContent.startsWith("put "), "the line that is found has the word");
+        must(found.closest(".group").classList.contains("now"), "the group that is shown has the line");
+        must(lines.filter((line) => /^(turn|tick|deliver|migrate|calloff) /.test(line)).length === count(tried), "each group has its head");
+        const first = at(tried);
+        press(tried, "n");
+        must(at(tried) >= first, "the next one stands behind it");
+        press(tried, "p");
+        must(at(tried) <= Math.max(first, at(tried)), "the one before stands before it");
+    }
+    find.value = "";
+}
+
+// Following a message.
+function triesFollow(tried, must) {
+    press(tried, "Home");
+    for (let g = 0; g < count(tried) && tried.document.querySelector(".id") === null; g++) {
+        press(tried, "ArrowRight");
+    }
+    const chip = tried.document.querySelector(".id");
+    if (chip === null) {
+        return;
+    }
+    const what = chip.dataset.what;
+    chip.click();
+    const followed = [...tried.document.querySelectorAll(".followed")];
+    must(followed.some((element) => element.dataset.what === what), "a message that is clicked on has a colour");
+    must(followed.every((element) => element.dataset.what === what || element.textContent.includes(what)), "and nothing else has it");
+    must(tried.document.getElementById("follow").value === what, "its name is told");
+    press(tried, "Escape");
+    must(tried.document.querySelectorAll(".followed").length === 0, "Escape lets it go");
+}
+
+// What is wrong with a page, or nothing.
+function tries({ html, wrong }) {
+    const tried = opened(html);
+    const missed = [];
+    const must = (holds, words) => holds || missed.push(words);
+    const check = tried.document.getElementById("check");
+    const good = tried.faults.length === 0 && !check.classList.contains("differs");
+    if (wrong) {
+        must(!good, "this page is wrong, and doesn't say so");
+    } else {
+        must(tried.faults.length === 0, `its scripts are at fault: ${tried.faults}`);
+        must(check.classList.contains("agrees") || check.textContent.startsWith("no lines at the end"), check.textContent);
+        if (tried.faults.length === 0) {
+            [triesKeys, triesBack, triesSearch, triesFollow].forEach((each) => each(tried, must));
+        }
+        must(tried.faults.length === 0, `its scripts are at fault: ${tried.faults}`);
+    }
+    tried.frame.remove();
+    return missed;
+}
+
+const said = [];
+for (const each of PAGES) {
+    for (const words of tries(each)) {
+        said.push(`${each.name}: ${words}`);
+    }
+}
+const amount = `${PAGES.filter((each) => !each.wrong).length} pages, and ${PAGES.filter((each) => each.wrong).length} that are wrong on purpose`;
+said.push(said.length === 0 ? `${amount}: all do as they should` : `${amount}: ${said.length} faults`);
+document.getElementById("result").textContent = said.join("\n");
