@@ -5,8 +5,9 @@ use dm_outside::{Failed, RealShelf, RealSink, Shelf, Sink};
 use std::io;
 
 /// Reads of real files: on in one, from the start of another, those that don't go on where the last one ended, a name with a blank
-/// at its end, and a file that can't be opened for writing, since it runs.
-const READS: [(&str, u64); 13] = [
+/// at its end, a file that can't be opened for writing, since it runs, and names that are nearly those of a file: with a capital, with
+/// a blank before it, in another folder, and the one that elsewhere stands for standard input.
+const READS: [(&str, u64); 17] = [
     ("first", 0),
     ("first", 4),
     ("first", 6),
@@ -20,13 +21,17 @@ const READS: [(&str, u64); 13] = [
     ("nowhere", 0),
     ("first ", 0),
     ("/proc/self/exe", 0),
+    ("First", 0),
+    (" first", 0),
+    ("../first", 0),
+    ("-", 0),
 ];
 
 /// How often "./" stands before "first" in the longest name that the system opens: 4,095 bytes.
 const MOST_STEPS: usize = 2_045;
 
-/// More bytes than any picture has.
-const LARGE: usize = 1_048_576;
+/// More bytes than any picture has, and more than two megabytes.
+const LARGE: usize = 2_097_153;
 
 /// Reads two files of data/ in turn, those that aren't there, and one by long names.
 pub fn read_files(rt: &HostRuntime) -> Result<()> {
