@@ -2,6 +2,7 @@
 
 import re
 
+import standing
 from ends import end_lines
 from values import Pid
 from world import World, Worn
@@ -22,6 +23,9 @@ asked I|answered I N
 final|process P ended N|registers P N N N N N N N N N N N N N N N N N|memory P N H|link P N L|server P N|name B L
 child N P at M|pending I|queue P I..|holding M P I..|inbox M I..|stream M M I..|end G
 """
+CALLING_OFF = "calloff P M|called P N|nocall P|stale I"
+BURYING = "buried I N"
+SERVERS_MOVE = "away|place P at M here|place P at M leaving|place P at M arriving"
 PLACES = ("here", "leaving", "arriving")
 STATUSES = ("ready", "waiting N N N", "moving 0 P N N N", "moving 1 P N N N")
 LINK = r"(?:general|reply) {P} at {M} moves {N} code {N} channel {N} area {N} {N} (?:-|r|w|rw)"
@@ -46,7 +50,9 @@ class Refused(Exception):
 
 def shapes():
     """Every shape, as its words."""
-    for shape in re.split(r"[|\n]", SHAPES.strip()):
+    written = [SHAPES.strip().replace("|pinned P", "") if standing.SERVERS_MOVE else SHAPES.strip()]
+    written += [CALLING_OFF] * standing.CALLING_OFF + [BURYING] * standing.BURYING + [SERVERS_MOVE] * standing.SERVERS_MOVE
+    for shape in re.split(r"[|\n]", "\n".join(written)):
         yield shape.split(" ")
     for place in PLACES:
         for status in STATUSES:
@@ -106,7 +112,7 @@ def directive_of(line, machines):
     elif word == "deliver":
         operands = [int(operand) for operand in operands]
         fits = operands[0] < machines and operands[1] < machines and operands[0] != operands[1]
-    elif word == "migrate":
+    elif word == "migrate" or word == "calloff" and standing.CALLING_OFF:
         pid = Pid(*map(int, operands[0].split(".")))
         operands = [pid, int(operands[1])]
         fits = pid.home < machines and operands[1] < machines

@@ -1,6 +1,6 @@
 """The lines at the end (docs/FORMATS.md, "Printed lines")."""
 
-from values import MANAGER, SWITCHBOARD
+from values import MANAGER, SERVERS, SWITCHBOARD
 from world import Ended, Frozen, Here, Incoming
 
 BLOCK = 256
@@ -11,8 +11,9 @@ def list_line(*words, messages):
 
 
 def standings(world):
-    """Where each process is, in the order of their pids: its record, and its machine."""
-    found = {}
+    """Where each process and each server is, in the order of their names: its record, and its machine. Of a process that has ended
+    the world knows why, where no machine knows of it any more."""
+    found = {pid: (Ended(why), 0) for pid, why in world.ended.items()}
     for machine in world.machines:
         for pid, record in machine.records.items():
             # what leaves is there until it has gone; only then what comes is it
@@ -21,11 +22,20 @@ def standings(world):
     return sorted(found.items())
 
 
+PLACES = {Here: "here", Frozen: "leaving", Incoming: "arriving"}
+
+
+def server_lines(pid, record, machine, server):
+    """How many a server has sent, and where it is, unless it is where it began."""
+    place = PLACES[type(record)]
+    return [f"server {pid} {server.sent}"] + ([] if (machine, place) == (0, "here") else [f"place {pid} at {machine} {place}"])
+
+
 def process_lines(pid, record, machine):
     if isinstance(record, Ended):
         return [f"process {pid} ended {record.why}"]
     process = record.process
-    place = {Here: "here", Frozen: "leaving", Incoming: "arriving"}[type(record)]
+    place = PLACES[type(record)]
     go = "stopped" if process.stopped else "go"
     lines = [
         f"process {pid} at {machine} {place} {process.status or 'ready'} {go} {process.sent}",
@@ -40,12 +50,15 @@ def process_lines(pid, record, machine):
 
 
 def end_lines(world):
-    found = standings(world)
+    everybody = standings(world)
+    found = [(pid, where) for pid, where in everybody if pid not in SERVERS]
+    servers = {SWITCHBOARD: world.switchboard, MANAGER: world.manager}
     lines = ["final"]
     for pid, (record, machine) in found:
         lines += process_lines(pid, record, machine)
-    lines.append(f"server {SWITCHBOARD} {world.switchboard.sent}")
-    lines.append(f"server {MANAGER} {world.manager.sent}")
+    for pid, (record, machine) in everybody:
+        if pid in SERVERS:
+            lines += server_lines(pid, record, machine, servers[pid])
     lines += [f"name {name.hex()} {link}" for name, link in world.switchboard.names.items()]
     lines += [f"child {number} {child.pid} at {child.at}" for number, child in enumerate(world.manager.children, 1)]
     lines += [f"pending {name}" for name in world.manager.pending]

@@ -5,14 +5,24 @@ from typing import NamedTuple
 from values import MANAGER, SWITCHBOARD, Address, Link, Message, Name, follow, kernel_of
 
 
+SERVER_HEAD = 14  # of a server's state bytes: the version, its name, how many it has sent, how often it has moved
+LINK, ADDRESS = 24, 10
+
+
 class Server:
+    """It takes no memory of a machine, and has no queue: what it is sent is done at once."""
+
+    blocks = 0
+
     def __init__(self, pid):
         self.pid = pid
         self.sent = 0
+        self.moves = 0
+        self.queue = []
 
     def address(self, here):
         """The server's address, on the machine where it is."""
-        return Address(self.pid, here)
+        return Address(self.pid, here, self.moves)
 
     def message(self, to, here, kind, what):
         """The server's next message."""
@@ -55,6 +65,10 @@ class Switchboard(Server):
         self.names[name] = links[1]
         return self.over(links[0], here, [self.REGISTERED])
 
+    def state_size(self):
+        """How many bytes its state has while it moves."""
+        return SERVER_HEAD + 4 + sum(1 + len(name) + LINK for name in self.names)
+
     def follow(self, about, at, moves):
         links, changed = follow(self.names.values(), about, at, moves)
         self.names = dict(zip(self.names, links))
@@ -79,6 +93,7 @@ class Manager(Server):
         self.images = len(boot.images)
         self.children = [Address(born.pid, born.machine) for born in boot.processes]
         self.pending = {}  # by the names of the requests, in the order in which they were sent
+        self.board = Address(SWITCHBOARD, 0)
 
     def take(self, message, here):
         """Does what a message asks, on the machine where the manager is: what is sent then, if anything."""
@@ -131,10 +146,22 @@ class Manager(Server):
         """The address of a child, if it is one."""
         return next((child for child in self.children if child.pid == pid), None)
 
+    def leads_to(self, pid, here):
+        """The manager's address of a process that is to move, on the machine where the manager is: of a child, or of a server."""
+        if pid == MANAGER:
+            return self.address(here)
+        return self.board if pid == SWITCHBOARD else self.child(pid)
+
+    def state_size(self):
+        """How many bytes its state has while it moves."""
+        requests = sum(6 + (0 if request.link is None else LINK) for request in self.pending.values())
+        return SERVER_HEAD + 4 + ADDRESS * (len(self.children) + 1) + 4 + requests
+
     def follow(self, about, at, moves):
-        """Children and links for answers: how many changed."""
-        links = [Link(child) for child in self.children] + [request.link for request in self.pending.values()]
+        """Children, links for answers, and its address of the switchboard: how many changed."""
+        links = [Link(child) for child in self.children] + [request.link for request in self.pending.values()] + [Link(self.board)]
         links, changed = follow(links, about, at, moves)
+        self.board = links.pop().address
         self.children = [link.address for link in links[: len(self.children)]]
         for name, link in zip(self.pending, links[len(self.children) :]):
             self.pending[name] = self.pending[name]._replace(link=link)

@@ -3,10 +3,11 @@
 Here a process that moves is handed over whole by the last piece of its state; what goes between the machines are the
 messages of its eight steps, as many as its state bytes and its blocks make pieces."""
 
-from collections import deque
+from collections import defaultdict, deque
 from dataclasses import dataclass, field
 from typing import Any
 
+import standing
 from network import Stream, Wire
 from process import Process, Waiting, answer, state_size
 from servers import Manager, Switchboard
@@ -51,6 +52,7 @@ class Incoming:
     moves: int
     asked_by: Message | None
     process: Any = None
+    whole: bool = False  # whether all of it has come
     held: list = field(default_factory=list)
 
 
@@ -72,23 +74,25 @@ class Machine:
         self.blocks = blocks
         self.inbox = deque()
         self.ring = []
-        self.records = {}
+        self.records = {}  # of processes, and of the servers
+        self.predecessors = defaultdict(set)  # by process: the machines that send on to this one
         self.count = 0  # of the kernel's own messages
         self.made = 0
 
     def free(self):
-        """The slots and blocks that no process takes."""
+        """The slots and blocks that no process takes; servers take none."""
         taken = [
             record.blocks if isinstance(record, Incoming) else record.process.blocks
-            for record in self.records.values()
-            if isinstance(record, (Here, Frozen, Incoming))
+            for pid, record in self.records.items()
+            if isinstance(record, (Here, Frozen, Incoming)) and pid not in SERVERS
         ]
         return self.slots - len(taken), self.blocks - sum(taken)
 
     def stands(self, process):
-        """A process is here, and last in the ring."""
+        """A process is here, and last in the ring; a server is in no ring."""
         self.records[process.pid] = Here(process)
-        self.ring.append(process.pid)
+        if process.pid not in SERVERS:
+            self.ring.append(process.pid)
 
     def next_pid(self):
         self.made += 1
@@ -107,7 +111,9 @@ class World:
         self.wires = {pair: Wire() for pair in self.pairs}
         self.switchboard = Switchboard()
         self.manager = Manager(boot)
-        self.servers = {SWITCHBOARD: self.switchboard, MANAGER: self.manager}
+        for server in (self.switchboard, self.manager):
+            self.machines[0].stands(server)
+        self.ended = {}  # why each process that has ended did
         self.groups = 0
         self.lines = []
         for born in boot.processes:
@@ -135,6 +141,9 @@ class World:
         elif word == "settle":
             while not self.is_quiet():
                 self.settling_pass()
+        elif word == "rest":
+            for _ in range(operands[0]):
+                self.resting_pass()
         else:
             self.group(word, *operands)
 
@@ -158,13 +167,34 @@ class World:
             if machine.inbox:
                 self.group("turn", machine.number)
 
+    def resting_pass(self):
+        """The same with turns of all machines that have something to do, until all is at rest."""
+        for a, b in self.pairs:
+            for k in list(self.wires[a, b].undelivered):
+                if self.is_at_rest():
+                    return
+                self.group("deliver", a, b, k)
+        for machine in self.machines:
+            if self.is_at_rest():
+                return
+            if machine.inbox or self.first_served(machine):
+                self.group("turn", machine.number)
+
+    def is_at_rest(self):
+        return self.is_quiet() and not any(self.first_served(machine) for machine in self.machines)
+
+    def first_served(self, machine):
+        """The first process of a machine's ring that can be served, if there is one."""
+        return next((pid for pid in machine.ring if machine.records[pid].process.can_be_served()), None)
+
     def is_quiet(self):
         return not any(machine.inbox for machine in self.machines) and all(stream.is_quiet() for stream in self.streams.values())
 
     def group(self, word, *operands):
         self.lines = []
         self.say(word, *operands)
-        {"turn": self.turn, "tick": self.tick, "deliver": self.deliver, "migrate": self.migrate}[word](*operands)
+        heads = {"turn": self.turn, "tick": self.tick, "deliver": self.deliver, "migrate": self.migrate, "calloff": self.call_off}
+        heads[word](*operands)
         self.groups += 1
         self.write(self.lines)
 
@@ -226,14 +256,13 @@ class World:
         if machine.inbox:
             self.handle(machine, machine.inbox.popleft())
             return
-        for pid in machine.ring:
-            process = machine.records[pid].process
-            if process.can_be_served():
-                machine.ring.remove(pid)
-                machine.ring.append(pid)
-                self.serve(machine, process)
-                return
-        self.say("idle", number)
+        pid = self.first_served(machine)
+        if pid is None:
+            self.say("idle", number)
+            return
+        machine.ring.remove(pid)
+        machine.ring.append(pid)
+        self.serve(machine, machine.records[pid].process)
 
     def serve(self, machine, process):
         pid = process.pid
@@ -264,21 +293,40 @@ class World:
             self.end(machine, process, done[1])
 
     def end(self, machine, process, why):
-        """A process has ended: its queue goes with it."""
+        """A process has ended: its queue goes with it, and where forwarding addresses are removed those that lead to it."""
         machine.ring.remove(process.pid)
         machine.records[process.pid] = Ended(why)
+        self.ended[process.pid] = why
         for message in process.queue:
             self.say("dropped", message.name)
+        if standing.BURYING:
+            self.forget(machine, process.pid, [])
+
+    def forget(self, machine, pid, said):
+        """A machine forgets a process that has ended, says this of it, and tells those that send on to it."""
+        del machine.records[pid]
+        told = sorted(machine.predecessors.pop(pid, ()))
+        if said:
+            self.say(*said, len(told))
+        for other in told:
+            self.to_kernel(machine, other, "bury", {"pid": pid})
+
+    def on_bury(self, machine, message):
+        pid = message.what["pid"]
+        if pid in machine.records:
+            self.forget(machine, pid, ["buried", message.name])
+        else:
+            self.say("buried", message.name, 0)
 
     def handle(self, machine, message):
         pid = message.to.pid
         if pid == kernel_of(machine.number):
             getattr(self, "on_" + message.kind)(machine, message)
-        elif pid in SERVERS:
-            self.handle_server(machine, message)
         else:
-            record = machine.records[pid]
-            if isinstance(record, Here):
+            record = machine.records.get(pid)
+            if isinstance(record, Here) and pid in SERVERS:
+                self.handle_server(machine, record.process, message)
+            elif isinstance(record, Here):
                 self.handle_here(machine, record.process, message)
             elif isinstance(record, (Frozen, Incoming)):
                 record.held.append(message)
@@ -288,10 +336,12 @@ class World:
             else:
                 self.handle_ended(machine, message)
 
-    def handle_server(self, machine, message):
-        server = self.servers[message.to.pid]
+    def handle_server(self, machine, server, message):
         if message.kind == "update":
             self.updated(server, message)
+            return
+        if message.kind == "migrate":
+            self.is_to_move(machine, server, message)
             return
         self.say("took", message.name)
         sent = server.take(message, machine.number)
@@ -375,16 +425,19 @@ class World:
     # Migration
 
     def migrate(self, pid, to):
-        machine = self.machines[0]
-        if pid in SERVERS:
+        machine = next((machine for machine in self.machines if isinstance(machine.records.get(MANAGER), Here)), None)
+        if machine is None:
+            self.say("away")
+            return
+        if pid in SERVERS and not standing.SERVERS_MOVE:
             self.say("pinned", pid)
             return
-        child = self.manager.child(pid)
+        child = self.manager.leads_to(pid, machine.number)
         if child is None:
             self.say("nochild", pid)
             return
         request = self.own(machine, child, "migrate", {"machine": to})
-        self.put(machine, Message(request.name, child, Address(MANAGER, 0), "migrate", request.what))
+        self.put(machine, Message(request.name, child, self.manager.address(machine.number), "migrate", request.what))
 
     def is_to_move(self, machine, process, message):
         """A schedule's request to move a process (migrate), or that of one who is told how it ended (move)."""
@@ -397,7 +450,8 @@ class World:
                 self.say("here", message.name)
             self.answered(machine, process, asked_by, MOVED)
             return
-        machine.ring.remove(pid)
+        if pid not in SERVERS:
+            machine.ring.remove(pid)
         machine.records[pid] = Frozen(process, to, asked_by)
         self.say("step", 1, pid)
         self.say("step", 2, pid)
@@ -413,13 +467,41 @@ class World:
     def on_ask(self, machine, message):
         pid, asked, source = message.what["pid"], message.what["blocks"], message.sender.at
         slots, blocks = machine.free()
-        if slots < 1 or blocks < asked:
+        if pid not in SERVERS and (slots < 1 or blocks < asked):
             self.say("lacks", pid, slots, blocks)
             self.to_kernel(machine, source, "refuse", {"pid": pid})
             return
         machine.records[pid] = Incoming(source, asked, message.what["moves"], message.what["asked_by"])
+        machine.predecessors[pid].add(source)
         self.say("step", 3, pid)
         self.to_kernel(machine, source, "pullstate", {"pid": pid, "chunk": 0})
+
+    def call_off(self, pid, number):
+        """A schedule's word that a process which comes to a machine is to stay where it was."""
+        machine = self.machines[number]
+        record = machine.records.get(pid)
+        if not isinstance(record, Incoming) or record.whole:
+            self.say("nocall", pid)
+            return
+        machine.records[pid] = Forward(record.source, record.moves)
+        self.say("called", pid, len(record.held))
+        for each in record.held:
+            self.put(machine, each.sent_on(record.source, record.moves))
+        self.to_kernel(machine, record.source, "calloff", {"pid": pid})
+
+    def on_calloff(self, machine, message):
+        pid = message.what["pid"]
+        machine.predecessors[pid].add(message.sender.at)
+        self.say("stays", pid)
+        self.goes_on(machine, machine.records[pid], STAYED)
+
+    def waited_for(self, machine, message):
+        """What is known of a process of which a piece has come, where this machine waits for it from the one that sent it."""
+        record = machine.records.get(message.what["pid"])
+        if isinstance(record, Incoming) and record.source == message.sender.at:
+            return record
+        self.say("stale", message.name)
+        return None
 
     def on_refuse(self, machine, message):
         record = machine.records[message.what["pid"]]
@@ -429,16 +511,22 @@ class World:
     def on_pullstate(self, machine, message):
         pid, chunk = message.what["pid"], message.what["chunk"]
         process = machine.records[pid].process
-        last = CHUNK * (chunk + 1) >= state_size(process)
+        last = CHUNK * (chunk + 1) >= (process.state_size() if pid in SERVERS else state_size(process))
         self.say("proto", message.name)
         self.to_kernel(machine, message.sender.at, "state", {"pid": pid, "chunk": chunk, "last": last, "process": process})
 
     def on_state(self, machine, message):
         pid = message.what["pid"]
+        record = self.waited_for(machine, message)
+        if record is None:
+            return
         if message.what["last"]:
-            machine.records[pid].process = message.what["process"]
+            record.process = message.what["process"]
             self.say("step", 4, pid)
-            self.to_kernel(machine, message.sender.at, "pullblock", {"pid": pid, "block": 0})
+            if pid in SERVERS:
+                self.has_come(machine, record, message)
+            else:
+                self.to_kernel(machine, message.sender.at, "pullblock", {"pid": pid, "block": 0})
         else:
             self.say("proto", message.name)
             self.to_kernel(machine, message.sender.at, "pullstate", {"pid": pid, "chunk": message.what["chunk"] + 1})
@@ -449,12 +537,21 @@ class World:
 
     def on_memory(self, machine, message):
         pid, block = message.what["pid"], message.what["block"]
-        if block == machine.records[pid].blocks - 1:
-            self.say("step", 5, pid)
-            self.to_kernel(machine, message.sender.at, "alltaken", {"pid": pid})
+        record = self.waited_for(machine, message)
+        if record is None:
+            return
+        if block == record.blocks - 1:
+            self.has_come(machine, record, message)
         else:
             self.say("proto", message.name)
             self.to_kernel(machine, message.sender.at, "pullblock", {"pid": pid, "block": block + 1})
+
+    def has_come(self, machine, record, message):
+        """The last piece has come: a process's last block, or a server's last chunk, since it has no memory."""
+        pid = message.what["pid"]
+        record.whole = True
+        self.say("step", 5, pid)
+        self.to_kernel(machine, message.sender.at, "alltaken", {"pid": pid})
 
     def on_alltaken(self, machine, message):
         pid = message.what["pid"]
