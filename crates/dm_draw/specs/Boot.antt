@@ -24,7 +24,7 @@ small_machines (suc n) = small_machines n ++ small_machine ∷ []
 abbrev pub pid_at : ℕ → ℕ → Pid
 pid_at machines i = pid_of (i % machines) (first_number + i / machines)
 
--- the bytes of the one program: it sends over link 0 eight bytes that begin with register 0, receives, moves data over link 1, and
+-- the bytes of the one program: it sends over link 0 the four bytes of its first instruction, receives, moves data over link 1, and
 -- goes round
 abbrev pub program : List ℕ
 program =

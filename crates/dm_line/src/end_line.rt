@@ -84,7 +84,7 @@ pub enum EndLine {
         pid: Pid,
         at: u8,
     },
-    /// A request to make a process, without a taken answer.
+    /// A request to make a process, or to move one, without a taken answer.
     Pending(MsgId),
     /// The messages of a list that isn't empty, its front first.
     Queue {

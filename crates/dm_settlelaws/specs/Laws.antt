@@ -28,7 +28,7 @@ use Rattle.dm_settlelaws.specs.Rests.{PairRests}
 abbrev pub PairsRestAlways : Type 0
 PairsRestAlways = (b : Boot) (es : List Step) (pt : Point) (a c : ℕ) → Leads b (first_point b) es pt → a ≢ c → PairRests (pt.view.pair a c) (pt.view.pair c a)
 
--- wherever the rule leads, a settle, wherever it stands, is over where nothing is on its way, and goes on where something is
+-- wherever the rule leads, a settle that has begun is over where nothing is on its way, and goes on where something is
 pub record Settles (pt : Point) (t : Todo) : Type 0 where
   pub over : IsQuiet pt.kernel.machines pt.view → next_step pt.kernel.machines pt.view t ≡ next_step pt.kernel.machines pt.view (all_of t.directives)
   pub goes : (IsQuiet pt.kernel.machines pt.view → ⊥) → SettleGoes pt.kernel.machines pt.view t
