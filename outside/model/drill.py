@@ -1,6 +1,8 @@
 """A system and directives drawn from a number, and what is counted of them (docs/FORMATS.md, "Drill")."""
 
 from boot import Boot, Born, Image
+from check import KINDS
+from counting import Counts, quiet_line
 from values import Address, Link, Pid
 from world import World
 
@@ -8,20 +10,6 @@ CODE = bytes.fromhex(
     "01010000 01030004 01040000 14000006 01010001 010200c8 01030008 14000007"
     "01010001 01020000 01030000 010400f0 01050008 14000008 10000000"
 )
-# The counts of the summary, and the words of the lines that each counts; a move is counted by its last step.
-COUNTS = {
-    "puts": "put",
-    "packets": "packet",
-    "taken": "taken",
-    "old": "old",
-    "early": "early",
-    "received": "receive",
-    "moved": "step 8",
-    "stayed": "stays",
-    "forwarded": "forwarded",
-    "held": "held",
-}
-
 
 class Drawing:
     """Numbers that are drawn one after another."""
@@ -64,21 +52,43 @@ def drawn_directive(drawing, machines):
     return "round", []
 
 
-def drill(seed, machines, count, trace, write):
+def own_directive(drawing, machines, pids):
+    """The same for somebody's own system, with these processes."""
+    draw = drawing.draw
+    kind = draw(9)
+    if kind in (4, 8) and pids:
+        pid = pids[draw(len(pids))]
+        return "migrate" if kind == 4 else "calloff", [pid, draw(machines)]
+    if kind in (0, 1, 2, 4, 8):
+        return "turn", [draw(machines)]
+    if kind == 3:
+        return "tick", [draw(machines)]
+    if kind == 5:
+        if machines == 1:
+            return "turn", [0]
+        a = draw(machines)
+        b = (a + 1 + draw(machines - 1)) % machines
+        return "deliver", [a, b, draw(64)]
+    return "round", []
+
+
+def directives_of(seed, machines, count, pids=None):
+    """The directives that a number draws: of a drawn system, or of one's own with these processes."""
+    drawing = Drawing(seed)
+    for _ in range(count):
+        yield drawn_directive(drawing, machines) if pids is None else own_directive(drawing, machines, pids)
+
+
+def drill(boot, seed, count, directives, trace, write):
     """Does the drill: its groups go to `write` if they are wanted, and then the summary."""
-    counts = dict.fromkeys(COUNTS, 0)
+    counts = Counts(KINDS)
 
     def group(lines):
-        for line in lines:
-            for name, word in COUNTS.items():
-                counts[name] += line.startswith(word + " ")
+        counts.add(lines)
         if trace:
             write(lines)
 
-    world = World(drawn_boot(machines), group)
-    drawing = Drawing(seed)
-    for _ in range(count):
-        world.do(drawn_directive(drawing, machines))
-    summary = [f"drill {seed} {machines} {count}", f"groups {world.groups}"]
-    summary += [f"{name} {number}" for name, number in counts.items()]
-    write(summary + [f"quiet {'yes' if world.is_quiet() else 'no'}"])
+    world = World(boot, group)
+    for directive in directives:
+        world.do(directive)
+    write([f"drill {seed} {len(boot.machines)} {count}"] + counts.lines() + [quiet_line(world)])

@@ -16,8 +16,11 @@ sys.dont_write_bytecode = True
 import boot as boot_file
 import check as trace_check
 import schedule as schedule_file
-from drill import drill
+import standing
+from counting import Counts, quiet_line
+from drill import directives_of, drawn_boot, drill
 from ends import end_lines
+from looking import Enough, look
 from world import World, Worn
 
 USAGE = "usage: demosmp run --boot FILE --schedule FILE"
@@ -34,14 +37,14 @@ class Stop(Exception):
         self.line = line
 
 
-def options_of(words, wanted, flag=None):
+def options_of(words, wanted, *flags):
     """What stands behind each of these options, each given once; a flag, which may be given once, has nothing behind it."""
     found, rest = {}, list(words)
     while rest and rest != ["--"]:  # which ends the options
         option, equals, value = rest.pop(0).partition("=")
-        if option in found or option not in wanted and (option != flag or equals):
+        if option in found or option not in wanted and (option not in flags or equals):
             raise Stop(2, USAGE)
-        if not equals and option != flag:
+        if not equals and option not in flags:
             # a word that begins like an option is no value, but for a single dash
             if not rest or re.match(r"-.", rest[0], re.DOTALL):
                 raise Stop(2, USAGE)
@@ -74,12 +77,15 @@ def boot_of(options):
     return boot_file.read_boot(bytes_of(options["--boot"], LONGEST_BOOT, "boot"))
 
 
+def directives_in(options, boot):
+    return schedule_file.read_schedule(bytes_of(options["--schedule"], LONGEST, "schedule"), len(boot.machines))
+
+
 def do_run(words, write):
     options = options_of(words, ["--boot", "--schedule"])
     boot = boot_of(options)
-    directives = schedule_file.read_schedule(bytes_of(options["--schedule"], LONGEST, "schedule"), len(boot.machines))
     world = World(boot, write)
-    for directive in directives:
+    for directive in directives_in(options, boot):
         world.do(directive)
     write(end_lines(world))
 
@@ -91,13 +97,54 @@ def do_check(words, write):
 
 
 def do_drill(words, write):
-    options = options_of(words, ["--seed", "--machines", "--lines"], "--trace")
+    own = standing.COMMANDS and any(word.partition("=")[0] == "--boot" for word in words)
+    wanted = ["--seed", "--lines", "--boot" if own else "--machines"]
+    options = options_of(words, wanted, *(["--trace", "--schedule"] if own else ["--trace"]))
+    if "--trace" in options and "--schedule" in options:
+        raise Stop(2, USAGE)
     seed = number_of(options["--seed"], 0, 2**32 - 1)
-    machines = number_of(options["--machines"], 2, 16)
-    drill(seed, machines, number_of(options["--lines"], 1, 10_000), "--trace" in options, write)
+    count = number_of(options["--lines"], 1, 10_000)
+    if own:
+        boot = boot_of(options)
+        directives = directives_of(seed, len(boot.machines), count, [born.pid for born in boot.processes])
+    else:
+        machines = number_of(options["--machines"], 2, 16)
+        boot, directives = drawn_boot(machines), directives_of(seed, machines, count)
+    if "--schedule" in options:
+        write([" ".join(map(str, [word, *operands])) for word, operands in directives])
+    else:
+        drill(boot, seed, count, directives, "--trace" in options, write)
+
+
+def do_count(words, write):
+    options = options_of(words, ["--boot", "--schedule"])
+    boot = boot_of(options)
+    counts = Counts(trace_check.KINDS)
+    world = World(boot, counts.add)
+    for directive in directives_in(options, boot):
+        world.do(directive)
+    write(counts.lines() + counts.kind_lines() + [quiet_line(world)])
+
+
+def do_look(words, write):
+    options = options_of(words, ["--boot", "--schedule", "--at"])
+    most = number_of(options["--at"], 0, 2**32 - 1)
+    boot = boot_of(options)
+    directives = directives_in(options, boot)
+    last = []
+
+    def group(lines):
+        last[:] = lines
+        if world.groups == most:
+            raise Enough
+
+    world = World(boot, group)
+    write(look(world, directives, most, last))
 
 
 COMMANDS = {"run": do_run, "check": do_check, "drill": do_drill}
+if standing.COMMANDS:
+    COMMANDS |= {"count": do_count, "look": do_look}
 
 
 def run(words, write):

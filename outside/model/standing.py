@@ -6,7 +6,7 @@ it nothing does, and the model refuses its words."""
 
 import os
 
-COMING = ("rest", "calloff", "bury", "servers")
+COMING = ("rest", "calloff", "bury", "servers", "commands")
 WITH = [word for word in os.environ.get("MODEL_WITH", "").split(",") if word]
 assert all(word in COMING for word in WITH), f"MODEL_WITH names {WITH}; there is {COMING}"
 
@@ -14,3 +14,4 @@ REST = "rest" in WITH  # the directive `rest N`
 CALLING_OFF = "calloff" in WITH  # a migration is called off
 BURYING = "bury" in WITH  # forwarding addresses are removed behind a process that has ended
 SERVERS_MOVE = "servers" in WITH  # the switchboard and the process manager move
+COMMANDS = "commands" in WITH  # count, look, and a drill of one's own system
