@@ -42,10 +42,11 @@ LIMITS = {"M": 2**8, "N": 2**32, "K": 2**64, "G": 2**128}
 
 
 class Refused(Exception):
-    """The first bad line, from 1, and why it is bad."""
+    """The first bad line, from 1, and why it is bad; what is told of it in words."""
 
-    def __init__(self, line, why):
+    def __init__(self, line, why, words=()):
         super().__init__(f"trace refused: line {line}, why {why}")
+        self.words = words
 
 
 def shapes():
@@ -138,18 +139,41 @@ def sort_of(line):
     return None
 
 
+WHYS = {1: "not a line", 2: "not the line that is due", 3: "not what the process does", 4: "not where everything stands"}
+LONGEST_SHOWN = 95
+BETWEEN = "a head, or final"
+
+
+def shown(line):
+    """A line as it is told: what isn't printed as `?`, and no more than its first bytes."""
+    text = "".join(chr(byte) if 32 <= byte <= 126 else "?" for byte in line)
+    return text if len(text) <= LONGEST_SHOWN else text[:LONGEST_SHOWN] + ".."
+
+
 class Judge:
     def __init__(self, boot, data):
         self.boot = boot
+        self.due = BETWEEN  # what is told as due, and the group where it is
+        self.where = None
         self.group = []
         self.world = World(boot, self.group.extend)
         self.lines = data.split(b"\n")
-        self.unended = bool(self.lines.pop())  # the last line has no line feed
+        self.last = self.lines.pop()
+        self.unended = bool(self.last)  # the last line has no line feed
         self.at = 0
 
     def refuse(self, why):
         """Refuses the line that was taken last, or the one behind the text."""
-        raise Refused(self.at, why)
+        if self.at <= len(self.lines):
+            line = shown(self.lines[self.at - 1])
+        else:
+            line = shown(self.last) if self.unended else "the text ends"
+        words = [f"line {self.at}: {line}", f"{WHYS[why]} (why {why})", f"due: {self.due}"]
+        raise Refused(self.at, why, words + ([f"group: {self.where}"] if self.where else []))
+
+    def at_line(self):
+        """The line that was taken last, with its number."""
+        return f"line {self.at}, {self.lines[self.at - 1].decode('latin-1')}"
 
     def take(self, ended_why):
         """The next line, which is one of the format; the text's end is at fault by this rule."""
@@ -166,6 +190,7 @@ class Judge:
 
     def verdict(self):
         while not self.is_over():
+            self.due, self.where = BETWEEN, None
             head = self.take(2)
             if head == "final":
                 self.judge_end()
@@ -176,13 +201,16 @@ class Judge:
             self.group.clear()
             try:
                 self.world.do(directive)
-            except Worn:
+            except Worn as worn:
+                self.due, self.where = f"no group, the pair {worn.a} {worn.b} is worn", self.at_line()
                 self.refuse(2)
+            self.where = self.at_line()
             self.judge_group(self.group[1:])
         return f"good {self.world.groups} open"
 
     def judge_group(self, due_lines):
         for due in due_lines:
+            self.due = due
             line = self.take(2)
             if line == due:
                 continue
@@ -194,12 +222,15 @@ class Judge:
         """Refuses a line that has another number of instructions, or the line behind it."""
         if count > due:
             self.refuse(3 if count <= self.boot.quantum else 2)
+        self.due = f"line {self.at}, {self.due}"
         self.refuse(3 if sort_of(self.take(2)) == ("doing", pid) else 2)
 
     def judge_end(self):
         for due in end_lines(self.world)[1:]:
+            self.due = due
             if self.take(4) != due:
                 self.refuse(4)
+        self.due = "nothing"
         if not self.is_over():
             self.take(4)
             self.refuse(4)

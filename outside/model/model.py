@@ -21,6 +21,8 @@ from counting import Counts, quiet_line
 from drill import directives_of, drawn_boot, drill
 from ends import end_lines
 from looking import Enough, look
+from onekernel import Refused as LabelsRefused
+from onekernel import check_labels
 from world import World, Worn
 
 USAGE = "usage: demosmp run --boot FILE --schedule FILE"
@@ -91,9 +93,25 @@ def do_run(words, write):
 
 
 def do_check(words, write):
+    if standing.COMMANDS and any(word.partition("=")[0] == "--labels" for word in words):
+        options = options_of(words, ["--boot", "--labels"])
+        boot = boot_of(options)
+        write([f"good {check_labels(boot, bytes_of(options['--labels'], LONGEST, 'labels'))} labels"])
+        return
     options = options_of(words, ["--boot", "--trace"])
     boot = boot_of(options)
     write([trace_check.check(boot, bytes_of(options["--trace"], LONGEST, "trace"))])
+
+
+def do_explain(words, write):
+    """Of a trace alone: what the boot file says isn't the model's to say."""
+    options = options_of(words, ["--boot", "--trace"])
+    boot = boot_of(options)
+    try:
+        write([trace_check.check(boot, bytes_of(options["--trace"], LONGEST, "trace"))])
+    except trace_check.Refused as refused:
+        write(refused.words)
+        raise
 
 
 def do_drill(words, write):
@@ -144,7 +162,7 @@ def do_look(words, write):
 
 COMMANDS = {"run": do_run, "check": do_check, "drill": do_drill}
 if standing.COMMANDS:
-    COMMANDS |= {"count": do_count, "look": do_look}
+    COMMANDS |= {"count": do_count, "look": do_look, "explain": do_explain}
 
 
 def run(words, write):
@@ -162,7 +180,7 @@ def run(words, write):
         return 7, str(refused)
     except Worn as worn:
         return 9, str(worn)
-    except trace_check.Refused as refused:
+    except (trace_check.Refused, LabelsRefused) as refused:
         return 10, str(refused)
     except OSError:
         return 5, "write fault"

@@ -23,6 +23,8 @@ class Worn(Exception):
 
     def __init__(self, a, b):
         super().__init__(f"worn: {a} to {b}")
+        self.a = a
+        self.b = b
 
 
 # What a machine knows of a process.
