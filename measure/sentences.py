@@ -3,7 +3,7 @@
 
 Without files: README.md, docs/PROMISES.md and docs/DEFINITIONS.md of the repository above this file. A sentence ends at a full
 stop, a colon before a list, or the end of its paragraph, item or cell; what stands in backticks counts as one word, and what
-stands between ``` isn't read. Prints each with its place; the status is 1 if there is one."""
+stands between ``` or begins a paragraph four places further in isn't read. Prints each with its place; the status is 1 if there is one."""
 import os, re, sys
 
 SENTENCE, CELL = 60, 40
@@ -33,8 +33,8 @@ def blocks(lines):
     """(line, text, whether it is a cell) of each paragraph, item and cell."""
     code, begin, found = False, 0, []
     for k, line in enumerate(lines + [""], 1):
-        mark = line.strip().startswith("```")
-        code ^= mark
+        mark = line.strip().startswith("```") or not found and re.match(r" {4,}(?![-*+]|\d+\.)\S", line)
+        code ^= line.strip().startswith("```")
         starts = re.match(r"\s*(?:[-*+]|\d+\.)\s|#", line)
         if found and (mark or code or not line.strip() or starts or line.startswith("|")):
             yield begin, " ".join(found), False
