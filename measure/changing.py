@@ -18,7 +18,7 @@ like = importlib.util.module_from_spec(importlib.util.spec_from_loader("like", l
 loader.exec_module(like)
 
 MOST = 5
-FILE = re.compile(r"(?<![\w/])((?:[\w.]+/)*[\w]+\.(?:rt|antt|md|txt|svg|toml))\b|(?<![\w/])((?:crates/|outside/|examples/|measure/)?[\w]+/[\w/]+)(?![\w/.:])")
+FILE = re.compile(r"(?<![\w/])((?:[\w.]+/)*[\w]+\.(?:rt|antt|md|txt|svg|toml|js))\b|(?<![\w/])((?:crates/|outside/|examples/|measure/)?[\w]+/[\w/]+)(?![\w/.:])")
 
 
 class Rows:
@@ -142,12 +142,12 @@ def faults(top, tree):
             path = f"{top}/{file}"
             if not os.path.exists(path):
                 yield f"{line}: {p.title}: there is no {file}"
-            elif file.endswith((".rt", ".antt")):
+            elif os.path.isfile(path):
                 words = set(re.findall(r"\w+", open(path, encoding="utf-8").read()))
                 for word in told:
                     if word not in words:
                         yield f"{line}: {p.title}: {file} has no {word}"
-                if not told and of_types and not words & of_types:
+                if not told and of_types and file.endswith((".rt", ".antt")) and not words & of_types:
                     yield f"{line}: {p.title}: {file} has none of its types"
         for t in p.rows:
             for file, names in rows.walks(t).items():
@@ -176,7 +176,7 @@ def main(words):
     if "--rows" in words:
         return table(tree, names)
     found = list(faults(top, tree))
-    print(*(f"docs/CHANGING.md:{x}" for x in found), sep="\n") if found else None
+    print(*(f"docs/CHANGING.md:{x}" for x in found) if found else ["docs/CHANGING.md names the files that have rows, and only files that there are"], sep="\n")
     return bool(found)
 
 

@@ -62,7 +62,7 @@ def faults(file):
 def main(files):
     top = os.path.normpath(os.path.join(os.path.dirname(os.path.abspath(__file__)), ".."))
     found = [x for f in files or [os.path.relpath(f"{top}/{p}") for p in PAGES] for x in faults(f)]
-    print(*found, sep="\n") if found else None
+    print(*found or [f"no sentence of more than {SENTENCE} words, no cell of more than {CELL}"], sep="\n")
     return bool(found)
 
 
