@@ -4,7 +4,9 @@
 What the proof files of a crate name of what lies outside its proofs/ is passed on by crates/CRATE/proofs/Names.antt (Imports.antt where the crate has a module `names`), and each
 file names it there. A name that stands for two things keeps its own line where it stands for the rarer one. Write a new import
 as any other, below the rest, and run this: it rewrites Names.antt and the heads of the files, and drops from Names.antt what
-nobody names any more. What crates above take from there stays. It can be run again at any time, lowest crate first."""
+nobody names any more. What crates above take from there stays. A name comes from the nearest of the crates in this one's line of
+crates.txt that passes it on (the one that stands on most others), and only where none does from where it is declared; so the line
+may leave out what only those stand on (measure/listed.py says what it may). It can be run again at any time, lowest crate first."""
 import collections, os, re, sys
 sys.dont_write_bytecode = True
 sys.path.insert(0, os.path.dirname(os.path.abspath(__file__)))
@@ -34,6 +36,16 @@ def wrap(head, items):
             rows.append([])
         rows[-1].append(x)
     return [f"{head}.{{{', '.join(row)}}}" for row in rows if row]
+
+
+def beneath(crate, deps, seen=None):
+    """The crates that a crate stands on, by way of others too."""
+    seen = set() if seen is None else seen
+    for c in deps.get(crate, ()):
+        if c not in seen:
+            seen.add(c)
+            beneath(c, deps, seen)
+    return seen
 
 
 def names_of(crate):
@@ -90,7 +102,7 @@ class Crate:
                         pick[there] = self.meaning(*self.passed[there])
                         spelled[there, pick[there]][self.passed[there]] += 1
         opened = {x for m in self.files for line in m.lines if re.match(r"^ *unfolding ", line) for x in line.split()[1:]}
-        below = [c for c in order if c in deps[self.name]]
+        below = sorted((c for c in order if c in deps[self.name]), key=lambda c: (-len(beneath(c, deps)), -order.index(c)))
         below = [n for n in (f"Rattle.{c}.proofs.{names_of(c)}" for c in below) if n in self.book.modules and self.book.modules[n].lines[0] == HEAD]
         origin = {}
         for here, what in pick.items():
