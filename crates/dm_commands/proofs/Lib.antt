@@ -10,4 +10,3 @@ pub mod ExplainOutcomes
 mod RunsChecked
 mod Sound
 mod DrillsChecked
-mod Whose

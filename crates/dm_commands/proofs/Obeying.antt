@@ -1,0 +1,98 @@
+-- What the program promises, whatever its words ask for.
+use Rattle.dm_commands.proofs.Names.{◌≡◌, inl, inr, ℕ, List, refl, ap, sym, subst, ◌∙◌, Option, Some, None, TheNoMemory, Boot, Directive, World, Input, Status, Done, Usage, ReadFault, NoMemory, WriteFault, NoFiles, NoTrace, NoInputs, NoBoot, Drill as TheDrill}
+use Rattle.dm_commands.proofs.Names.{Request, Chart, Check, Drill, Explain, Run, WordsError, status_of_no}
+use Rattle.dm_words.specs.declared.words.WordsError.TheVariants as why
+use Rattle.dm_ending.specs.declared.status.Input.TheVariants as input
+use Rattle.dm_commands.proofs.Checking as checking
+use Rattle.dm_commands.proofs.ExplainOutcomes as explaining
+use Rattle.dm_commands.proofs.Meeting.{unread, unwritten}
+use Rattle.dm_commands.proofs.Running as running
+use Rattle.dm_commands.specs.Asked.{Both, Named, Nothing, perhaps_both}
+use Rattle.dm_commands.specs.Checks.{CheckMeets, CheckSaying}
+use Rattle.dm_commands.specs.Commands.{CommandMeets, RefusesWords, Sayings, named_in}
+use Rattle.dm_commands.specs.Drills.{DrillMeets, DrillSaying, SaysDrill}
+use Rattle.dm_commands.specs.Explains.{ExplainMeets}
+use Rattle.dm_commands.specs.Meets.{MeetsOutside, MeetsShelf, MeetsSink}
+use Rattle.dm_commands.specs.Outside.{Around, Untouched}
+use Rattle.dm_commands.specs.Runs.{RunMeets, RunSaying}
+
+-- want of memory says nothing of a drill
+pub record IsSilent (Says : DrillSaying) : Type 0 where
+  pub is : (d : TheDrill) (told : Option (List ℕ)) (lack : TheNoMemory) → SaysDrill Says d told told None (NoMemory lack)
+
+silent : (Says : DrillSaying) (d : TheDrill) (before after : Option (List ℕ)) (world : Option World) (lack : TheNoMemory) → IsSilent Says → after ≡ before → world ≡ None → SaysDrill Says d before after world (NoMemory lack)
+silent Says d before after world lack h told no_world =
+    subst (λ w. SaysDrill Says d before after w (NoMemory lack)) (sym no_world) (subst (λ t. SaysDrill Says d before t None (NoMemory lack)) (sym told) (h.is d before lack))
+
+-- it blames nobody
+no_read : (lack : TheNoMemory) (i : Input) → NoMemory lack ≡ ReadFault i → ⊥
+no_read lack i e = cc
+
+no_write : (lack : TheNoMemory) → NoMemory lack ≡ WriteFault → ⊥
+no_write lack e = cc
+
+-- nothing was done for want of memory
+pub lacks_meets : {F K : Type 0} (say : Sayings) (r : Option Request) (a : Around F K) (world : Option World) (lack : TheNoMemory) → IsSilent say.drill → Untouched a world → ((name : List ℕ) → a.shelf.asked a.shelf.old name a.shelf.old) → CommandMeets say r a world (NoMemory lack)
+lacks_meets say None a world lack quiet h nothing = record { why = inr (lack, refl); untouched = h }
+lacks_meets say (Some (Run boot schedule)) a world lack quiet h nothing =
+    running.never_meets say.run boot schedule a world (NoMemory lack) tt (unread (Both boot input.Schedule schedule) a.shelf (NoMemory lack) h.unread nothing (no_read lack)) h.unwritten h.no_world
+lacks_meets say (Some (Check boot trace)) a world lack quiet h nothing =
+    checking.never_meets say.check boot trace a world (NoMemory lack) tt (unread (Both boot input.Trace trace) a.shelf (NoMemory lack) h.unread nothing (no_read lack)) h.unwritten h.no_world
+lacks_meets say (Some (Chart boot schedule)) a world lack quiet h nothing = record {
+  as_run = running.never_meets say.chart boot schedule a world (NoMemory lack) tt (unread (Both boot input.Schedule schedule) a.shelf (NoMemory lack) h.unread nothing (no_read lack)) h.unwritten h.no_world;
+  no_world = h.no_world;
+}
+lacks_meets say (Some (Explain boot schedule)) a world lack quiet h nothing =
+    explaining.never_meets boot schedule a world (NoMemory lack) (explaining.wants_memory (a.shelf.told a.shelf.old) boot schedule (a.shelf.faults a.shelf.old) (a.shelf.faults a.shelf.new) lack)
+    (unread (perhaps_both boot schedule) a.shelf (NoMemory lack) h.unread nothing (no_read lack)) h.unwritten h.no_world
+lacks_meets say (Some (Drill d)) a world lack quiet h nothing = record {
+  meets = record {
+    says = silent say.drill d (a.sink.told a.sink.old) (a.sink.told a.sink.new) world lack quiet (ap a.sink.told h.unwritten) h.no_world;
+    sink = unwritten a.sink (NoMemory lack) h.unwritten (no_write lack);
+  };
+  shelf = unread Nothing a.shelf (NoMemory lack) h.unread nothing (no_read lack);
+}
+
+-- there are no words of a command
+pub no_request : {F K : Type 0} (say : Sayings) (r : Option Request) (a : Around F K) (world : Option World) (reason : WordsError) → IsSilent say.drill → Untouched a world → ((name : List ℕ) → a.shelf.asked a.shelf.old name a.shelf.old) → (reason ≡ why.Usage → r ≡ None)
+    → CommandMeets say r a world (status_of_no reason)
+no_request say r a world why.Usage quiet h nothing usage = subst (λ x. CommandMeets say x a world Usage) (sym (usage refl)) (record { why = inl refl; untouched = h })
+no_request say r a world (why.NoMemory lack) quiet h nothing usage = lacks_meets say r a world lack quiet h nothing
+
+-- the words were not refused
+pub run_taken : {F K : Type 0} (Says : RunSaying) (boot schedule : List ℕ) (a : Around F K) (world : Option World) (s : Status) → ((b : Boot) (ds : List Directive) (before after : Option (List ℕ)) (w : Option World) → Says b ds before after w Usage → ⊥) → RunMeets Says boot schedule a world s → s ≡ Usage → ⊥
+run_taken Says boot schedule a world s never h e = elim h.says [
+  | inl r ↦ never r.system r.directives (a.sink.told a.sink.old) (a.sink.told a.sink.new) world (subst (Says r.system r.directives (a.sink.told a.sink.old) (a.sink.told a.sink.new) world) e r.says)
+  | inr n ↦ subst (NoFiles (a.shelf.told a.shelf.old) boot schedule (a.shelf.faults a.shelf.old) (a.shelf.faults a.shelf.new)) e n.why
+]
+
+pub check_taken : {F K : Type 0} (Says : CheckSaying) (boot trace : List ℕ) (a : Around F K) (world : Option World) (s : Status) → ((b : Boot) (bytes : List ℕ) (before after : Option (List ℕ)) → Says b bytes before after Usage → ⊥) → CheckMeets Says boot trace a world s → s ≡ Usage → ⊥
+check_taken Says boot trace a world s never h e = elim h.says [
+  | inl r ↦ never r.system r.bytes (a.sink.told a.sink.old) (a.sink.told a.sink.new) (subst (Says r.system r.bytes (a.sink.told a.sink.old) (a.sink.told a.sink.new)) e r.says)
+  | inr n ↦ subst (NoTrace (a.shelf.told a.shelf.old) boot trace (a.shelf.faults a.shelf.old) (a.shelf.faults a.shelf.new)) e n.why
+]
+
+pub explain_taken : {F K : Type 0} (boot : List ℕ) (schedule : Option (List ℕ)) (a : Around F K) (world : Option World) (s : Status) → ExplainMeets boot schedule a world s → s ≡ Usage → ⊥
+explain_taken boot schedule a world s h e = elim h.as_run [
+  | inl w ↦ let f : WriteFault ≡ Usage = sym w ∙ e in cc
+  | inr b ↦ elim b [
+    | inl done ↦ let f : Done ≡ Usage = sym done.0 ∙ e in cc
+    | inr why ↦ unnamed (a.shelf.told a.shelf.old) boot schedule (a.shelf.faults a.shelf.old) (a.shelf.faults a.shelf.new) (subst (NoInputs (a.shelf.told a.shelf.old) boot schedule (a.shelf.faults a.shelf.old) (a.shelf.faults a.shelf.new)) e why)
+  ]
+]
+  where
+    unnamed : (files : Option (List ℕ → Option (List ℕ))) (boot : List ℕ) (schedule : Option (List ℕ)) (old new : ℕ) → NoInputs files boot schedule old new Usage → ⊥
+    unnamed files boot None old new h = h
+    unnamed files boot (Some schedule) old new h = h
+
+-- what it promises of the shelf and of the sink, whatever its words ask for
+pub command_met : {F K : Type 0} (say : Sayings) (r : Option Request) (a : Around F K) (world : Option World) (s : Status) → ((name : List ℕ) → a.shelf.asked a.shelf.old name a.shelf.old) → CommandMeets say r a world s → MeetsOutside (named_in r) a s
+command_met say None a world s nothing h = record {
+  shelf = unread Nothing a.shelf s h.untouched.unread nothing (λ i e. elim h.why [ inl usage ↦ let f : Usage ≡ ReadFault i = sym usage ∙ e in cc | inr want ↦ no_read want.0 i (sym want.1 ∙ e) ]);
+  sink = unwritten a.sink s h.untouched.unwritten (λ e. elim h.why [ inl usage ↦ let f : Usage ≡ WriteFault = sym usage ∙ e in cc | inr want ↦ no_write want.0 (sym want.1 ∙ e) ]);
+}
+command_met say (Some (Run boot schedule)) a world s nothing h = h.met
+command_met say (Some (Check boot trace)) a world s nothing h = h.met
+command_met say (Some (Chart boot schedule)) a world s nothing h = h.as_run.met
+command_met say (Some (Explain boot schedule)) a world s nothing h = h.met
+command_met say (Some (Drill d)) a world s nothing h = record { shelf = h.shelf; sink = h.meets.sink }
