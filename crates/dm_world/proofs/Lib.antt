@@ -9,3 +9,4 @@ pub mod Ending
 pub mod Passing
 pub mod Falling
 pub mod Passes
+pub mod Beginning
