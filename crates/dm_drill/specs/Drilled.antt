@@ -8,7 +8,7 @@ use Rattle.std.specs.declared.result.Result.TheVariants.{Ok, Err}
 use Rattle.dm_onekernel.specs.declared.boot.Boot.{Boot}
 use Rattle.dm_schedule.specs.declared.Directive.{Directive}
 use Rattle.dm_line.specs.declared.line.Line.{Line}
-use Rattle.dm_line.specs.Runs.{joined}
+use Rattle.dm_run.specs.Runs.{joined}
 use Rattle.dm_text.specs.Fits.{LineFits}
 use Rattle.dm_text.specs.Text.{text_of_lines}
 use Rattle.dm_world.specs.declared.world.World.{World}

@@ -3,7 +3,7 @@ ghost use Rattle.std.specs.Prelude.{◌≡◌, ◌≤◌, ℕ, List, OnOk, Optio
 ghost use Rattle.std.specs.List.{All};
 ghost use Rattle.dm_onekernel.specs.declared.boot.Boot.{Boot as TheBoot};
 ghost use Rattle.dm_schedule.specs.declared.Directive.{Directive as TheDirective};
-ghost use Rattle.dm_line.specs.Runs.{IsFor};
+ghost use Rattle.dm_run.specs.Runs.{IsFor};
 ghost use Rattle.dm_text.specs.Fits.{LineFits};
 ghost use Rattle.dm_world.specs.Meets.{IsWorld};
 ghost use Rattle.dm_run.specs.Coming.{Blames, Offered, StopsThere};

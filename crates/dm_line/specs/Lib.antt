@@ -3,4 +3,3 @@ pub mod Stages
 pub mod Todo
 pub mod Ends
 pub mod Each
-pub mod Runs

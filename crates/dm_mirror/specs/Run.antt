@@ -1,5 +1,5 @@
 -- What a run of the world is: it stands for what was printed, and that is good.
-use Rattle.std.specs.Prelude.{◌≡◌, ℕ, ◌≤◌, ◌⊎◌, List, [], ◌∷◌, length}
+use Rattle.std.specs.Prelude.{◌≡◌, ℕ, ◌≤◌, ◌⊎◌, List, [], ◌∷◌, ◌++◌, length}
 use Rattle.std.specs.declared.option.Option.TheVariants.{Some}
 use Rattle.dm_onekernel.specs.declared.boot.Boot.{Boot}
 use Rattle.dm_onekernel.specs.Start.{start}
@@ -9,7 +9,6 @@ use Rattle.dm_message.specs.declared.MsgId.{MsgId}
 use Rattle.dm_schedule.specs.declared.Step.{Step}
 use Rattle.dm_schedule.specs.declared.Directive.{Directive}
 use Rattle.dm_line.specs.declared.line.Line.{Line}
-pub use Rattle.dm_line.specs.Runs.{joined}
 use Rattle.dm_line.specs.Todo.{Todo, all_of}
 use Rattle.dm_rule.specs.Good.{IsRun}
 use Rattle.dm_rule.specs.Laws.{Leads}
@@ -22,6 +21,11 @@ use Rattle.dm_world.specs.Readable.{IsReadable}
 use Rattle.dm_mirror.specs.Able.{AllMayAct}
 use Rattle.dm_mirror.specs.Stands.{Stands}
 use Rattle.dm_mirror.specs.Todo.{IsTodo}
+
+-- the lines of groups, in order
+abbrev pub joined : List (List Line) → List Line
+joined [] = []
+joined (g ∷ gs) = g ++ joined gs
 
 -- groups of lines are good: one for each of the first directives, by the rule, from where the boot file begins; they replay
 -- as a run of the kernel without machines; and no message is received twice

@@ -10,7 +10,6 @@ use Rattle.dm_onekernel.specs.Boot.{IsValid}
 use Rattle.dm_onekernel.specs.declared.label.Label.{Label}
 use Rattle.dm_onekernel.specs.declared.label.Label.TheVariants as label
 use Rattle.dm_line.specs.declared.line.Line.{Line}
-pub use Rattle.dm_line.specs.Runs.{IsStep}
 use Rattle.dm_schedule.specs.declared.Step.{Step}
 use Rattle.dm_schedule.specs.declared.Step.TheVariants as step
 use Rattle.dm_rule.specs.Point.{Point, first_point, label_of}
@@ -24,6 +23,13 @@ use Rattle.dm_rule.specs.Homes.{Homes}
 use Rattle.dm_rule.specs.Tells.{TellsRight}
 use Rattle.dm_rule.specs.Phases.{Phase, Moves, IsIn, is_due}
 use Rattle.dm_rule.specs.Apart.{AllSpare}
+
+-- a directive for so many machines
+abbrev pub IsStep : ℕ → Step → Type 0
+IsStep machines (step.Turn m) = m < machines
+IsStep machines (step.Tick m) = m < machines
+IsStep machines (step.Deliver a b k) = (a < machines) × (b < machines) × (a ≢ b)
+IsStep machines (step.Migrate p m) = m < machines
 
 -- the rule leads from a point to another, group by group
 abbrev pub Leads : Boot → Point → List Step → Point → Type 0

@@ -1,3 +1,4 @@
+pub mod Runs
 pub mod Appended
 pub mod Went
 pub mod Way

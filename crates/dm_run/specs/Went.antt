@@ -8,12 +8,12 @@ use Rattle.dm_schedule.specs.declared.Step.{Step}
 use Rattle.dm_schedule.specs.declared.Directive.{Directive}
 use Rattle.dm_line.specs.declared.line.Line.{Line}
 use Rattle.dm_line.specs.declared.pass.Pass.TheVariants.{Round}
-use Rattle.dm_line.specs.Runs.{IsFor, IsStep}
+use Rattle.dm_run.specs.Runs.{IsFor, IsStep, cursor_of}
 use Rattle.dm_text.specs.Fits.{HidesNothing}
 use Rattle.dm_world.specs.declared.cursor.Cursor.{Cursor}
 use Rattle.dm_world.specs.declared.cursor.Cursor.TheVariants.{Passing}
 use Rattle.dm_world.specs.declared.cursor.Place.TheVariants as place
-use Rattle.dm_world.specs.Cursor.{Falls, NextIs, cursor_of}
+use Rattle.dm_world.specs.Cursor.{Falls, NextIs}
 use Rattle.dm_world.specs.Ends.{MayEnd, end_lines}
 use Rattle.dm_world.specs.May.{MayStep}
 use Rattle.dm_world.specs.Readable.{AreReadBack, gave}

@@ -2,7 +2,7 @@
 ghost use Rattle.std.specs.Prelude.{◌≡◌, ◌≤◌, length};
 ghost use Rattle.std.specs.List.{All};
 ghost use Rattle.dm_chart.specs.Kept.{none_kept};
-ghost use Rattle.dm_line.specs.Runs.{IsFor};
+ghost use Rattle.dm_run.specs.Runs.{IsFor};
 ghost use Rattle.dm_world.specs.Meets.{world_state};
 ghost use Rattle.dm_run.specs.Pictured.{IsCollected};
 ghost use Rattle.dm_run.specs.Running.{IsAtStart};

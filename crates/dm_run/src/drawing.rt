@@ -3,7 +3,7 @@ ghost use Rattle.std.specs.Prelude.{◌≡◌, ◌≤◌, IfOk, length};
 ghost use Rattle.std.specs.List.{All};
 ghost use Rattle.dm_onekernel.specs.Boot.{IsValid};
 ghost use Rattle.dm_chart.specs.Picture.{boot_pids};
-ghost use Rattle.dm_line.specs.Runs.{IsFor};
+ghost use Rattle.dm_run.specs.Runs.{IsFor};
 ghost use Rattle.dm_run.specs.Notion.{by_world};
 ghost use Rattle.dm_run.specs.Pictured.{IsDrawn};
 ghost use Rattle.dm_run.specs.Running.{IsAtStart};

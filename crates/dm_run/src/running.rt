@@ -2,7 +2,7 @@
 ghost use Rattle.std.specs.Prelude.{◌≡◌, ◌<◌, ◌+◌, ◌^◌, IfErr, IfOk, OnErr, OnOk, length, true};
 ghost use Rattle.std.specs.List.{All};
 ghost use Rattle.dm_onekernel.specs.Boot.{IsValid};
-ghost use Rattle.dm_line.specs.Runs.{IsStep};
+ghost use Rattle.dm_run.specs.Runs.{IsStep};
 ghost use Rattle.dm_text.specs.Fits.{EndFits, LineFits};
 ghost use Rattle.dm_world.specs.Ends.{end_lines as ends_of};
 ghost use Rattle.dm_world.specs.Local.{ActsAlone, acts_on};

@@ -1,6 +1,7 @@
 //! How far directives have come, and which elementary one comes next.
 ghost use Rattle.std.specs.Prelude.{◌≡◌, ◌≤◌, length};
 ghost use Rattle.dm_world.specs.Meets.{IsWorld, world_state};
+ghost use Rattle.dm_run.specs.Runs.{cursor_of};
 ghost use Rattle.dm_run.specs.Way.{Nexts};
 ghost use Rattle.dm_run.specs.Went.{first_way};
 
@@ -22,10 +23,7 @@ impl Way {
     {
         Way {
             begun: 0,
-            cursor: Cursor::Passing {
-                pass: Pass::Round(0),
-                place: Place::End,
-            },
+            cursor: behind(Pass::Round(0)),
         }
     }
 }
@@ -45,7 +43,29 @@ pub fn next_step(world: &World, directives: &[Directive], way: &mut Way) -> Opti
         if way.begun == directives.len() {
             return None;
         }
-        way.cursor = Cursor::new(&directives[way.begun]);
+        way.cursor = cursor_of(&directives[way.begun]);
         way.begun += 1;
+    }
+}
+
+/// Nothing of a directive is done yet.
+fn cursor_of(directive: &Directive) -> Cursor
+    ensures { result ≡ cursor_of directive.now }
+{
+    match *directive {
+        Directive::One(step) => Cursor::One(step),
+        Directive::Round => behind(Pass::Round(1)),
+        Directive::Spin(rounds) => behind(Pass::Round(rounds)),
+        Directive::Settle => behind(Pass::Settle),
+    }
+}
+
+/// Only what comes behind a pass is left.
+fn behind(pass: Pass) -> Cursor
+    ensures { result ≡ Cursor.Passing pass Place.End }
+{
+    Cursor::Passing {
+        pass,
+        place: Place::End,
     }
 }

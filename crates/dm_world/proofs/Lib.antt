@@ -9,4 +9,3 @@ pub mod Ending
 pub mod Passing
 pub mod Falling
 pub mod Passes
-pub mod Beginning

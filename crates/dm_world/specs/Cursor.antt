@@ -42,13 +42,6 @@ abbrev pub todo_of : ℕ → Cursor → List Directive → Todo
 todo_of n (One s) ds = all_of (directive.One s ∷ ds)
 todo_of n (Passing p place) ds = todo_at n p place ds
 
--- a directive of which nothing is done yet
-abbrev pub cursor_of : Directive → Cursor
-cursor_of (directive.One s) = One s
-cursor_of directive.Round = Passing (Round 1) End
-cursor_of (directive.Spin n) = Passing (Round n) End
-cursor_of directive.Settle = Passing Settle End
-
 abbrev pub as_next : ℕ → List Directive → Option (Step × Cursor) → Option Next
 as_next n ds None = None
 as_next n ds (Some r) = Some (record { step = r.0; left = todo_of n r.1 ds })

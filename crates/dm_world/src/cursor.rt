@@ -1,8 +1,8 @@
 //! How far a directive has come, and which elementary one comes next.
-ghost use Rattle.std.specs.Prelude.{◌≡◌, ◌+◌, ◌<◌, ◌≤◌, ℕ, List, None, Option, Some, IfSome, [], length};
+ghost use Rattle.std.specs.Prelude.{◌≡◌, ◌∷◌, ◌+◌, ◌<◌, ◌≤◌, Bool, ℕ, List, None, Option, Some, IfSome, [], length};
 ghost use Rattle.dm_schedule.specs.declared.Directive.{Directive as TheDirective};
-ghost use Rattle.dm_line.specs.Todo.{Two, is_over, takes_turn};
-ghost use Rattle.dm_world.specs.Cursor.{Falls, FirstIs, FirstTurnIs, InPassIs, IsFresh, NextIs, NextPassIs, RoundGoes, RowIs, TakesTurn, cursor_of, pairs_at};
+ghost use Rattle.dm_line.specs.Todo.{Two, all_of, following, is_over, takes_turn};
+ghost use Rattle.dm_world.specs.Cursor.{Falls, FirstIs, FirstTurnIs, InPassIs, IsFresh, NextIs, NextPassIs, RoundGoes, RowIs, TakesTurn, pairs_at, todo_of};
 ghost use Rattle.dm_world.specs.Meets.{IsWorld, world_state};
 ghost use Rattle.dm_world.specs.Next.{world_has_mail, world_is_quiet};
 
@@ -33,7 +33,8 @@ pub enum Place {
 impl Cursor {
     /// Nothing of the directive is done yet.
     pub fn new(directive: &Directive) -> Cursor
-        ensures { result ≡ cursor_of directive.now }
+        ensures { (n : ℕ) (first : ℕ → ℕ → Option ℕ) (mail : ℕ → Bool) (quiet : Bool) (ds : List TheDirective) →
+            following n first mail quiet (todo_of n result ds) ≡ following n first mail quiet (all_of (directive.now ∷ ds)) }
     {
         match *directive {
             Directive::One(step) => Cursor::One(step),

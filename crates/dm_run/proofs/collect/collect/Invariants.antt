@@ -1,12 +1,15 @@
-use Rattle.dm_drawing.proofs.Names.{◌≡◌, ◌≤◌, ◌*◌, ◌^◌, false, drop, all_of, IsWorld, world_state, HasKept}
-use Rattle.dm_drawing.proofs.collect.collect.Given as goal
+use Rattle.dm_run.proofs.Names.{◌≡◌, ◌≤◌, ◌-◌, ◌*◌, ◌^◌, false, length, IsWorld, world_state, HasCome, Keeps}
+use Rattle.dm_run.proofs.collect.collect.Given as goal
 
-abbrev pub invariant-directives : goal.invariant-directives
-invariant-directives l = record {
+abbrev pub invariant-groups : goal.invariant-groups
+invariant-groups l = record {
   world : IsWorld l.world;
   running : l.world.stopped ≡ false;
   boot : l.world.boot ≡ l.initial.world.boot;
-  come : HasKept l.initial.world.boot l.directives (all_of (drop l.directive-index l.directives)) l.kept (world_state l.world);
-  groups : l.world.groups ≤ l.directive-index * 2 ^ 90;
+  within : l.way.begun ≤ length l.directives;
+  come : HasCome l.initial.world.boot l.directives (Keeps l.kept) l.way (world_state l.world);
   rows : l.kept.rows ≤ 1200;
 }
+
+abbrev pub decreases-groups : goal.decreases-groups
+decreases-groups l = length l.directives * 2 ^ 90 - l.world.groups

@@ -5,6 +5,10 @@ use Rattle.dm_schedule.specs.declared.Step.TheVariants as step
 use Rattle.dm_schedule.specs.declared.Directive.{Directive}
 use Rattle.dm_schedule.specs.declared.Directive.TheVariants as directive
 use Rattle.dm_line.specs.declared.line.Line.{Line}
+use Rattle.dm_line.specs.declared.pass.Pass.TheVariants.{Round, Settle}
+use Rattle.dm_world.specs.declared.cursor.Cursor.{Cursor}
+use Rattle.dm_world.specs.declared.cursor.Cursor.TheVariants.{One, Passing}
+use Rattle.dm_world.specs.declared.cursor.Place.TheVariants.{End}
 
 -- an elementary directive for so many machines
 abbrev pub IsStep : ℕ → Step → Type 0
@@ -31,3 +35,10 @@ IsFor machines directive.Settle = ⊤
 abbrev pub joined : List (List Line) → List Line
 joined [] = []
 joined (g ∷ gs) = g ++ joined gs
+
+-- a directive of which nothing is done yet
+abbrev pub cursor_of : Directive → Cursor
+cursor_of (directive.One s) = One s
+cursor_of directive.Round = Passing (Round 1) End
+cursor_of (directive.Spin n) = Passing (Round n) End
+cursor_of directive.Settle = Passing Settle End
