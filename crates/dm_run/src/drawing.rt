@@ -3,15 +3,18 @@ ghost use Rattle.std.specs.Prelude.{◌≡◌, ◌≤◌, IfOk, length};
 ghost use Rattle.std.specs.List.{All};
 ghost use Rattle.dm_onekernel.specs.Boot.{IsValid};
 ghost use Rattle.dm_chart.specs.Picture.{boot_pids};
-ghost use Rattle.dm_run.specs.Coming.{IsAtStart, IsFor};
-ghost use Rattle.dm_drawing.specs.Pictured.{IsDrawn};
+ghost use Rattle.dm_run.specs.Runs.{IsFor};
+ghost use Rattle.dm_run.specs.Notion.{by_world};
+ghost use Rattle.dm_run.specs.Pictured.{IsDrawn};
+ghost use Rattle.dm_run.specs.Running.{IsAtStart};
+ghost use Rattle.dm_run.specs.Went.{RunsGo};
 
 use crate::collect::collect;
+use crate::running::begin;
 use dm_chart::{Kept, picture, starts_of};
 use dm_link::Pid;
 use dm_memory::NoMemory;
 use dm_onekernel::Boot;
-use dm_run::begin;
 use dm_schedule::{Directive, MOST_SCHEDULE};
 use dm_world::{Stop, World};
 use std::alloc::Global;
@@ -27,10 +30,11 @@ pub enum Drawn {
 
 /// Does these directives on the system of a boot file, and draws what happens.
 pub fn draw_run(alloc: Global, boot: Boot, directives: &[Directive]) -> Result<Drawn, NoMemory>
+    requires law { RunsGo }
     requires valid { IsValid boot }
     requires each { All (IsFor (length boot.machines)) directives.now }
     requires few { length directives.now ≤ MOST_SCHEDULE }
-    ensures { IfOk result (λ d. IsDrawn boot directives.now d) }
+    ensures { IfOk result (λ d. IsDrawn by_world boot directives.now d) }
 {
     let machines = count_of(&boot);
     let starts = starts_of(alloc, &boot)?;
@@ -54,12 +58,13 @@ fn draw_world(
     directives: &[Directive],
     world: &mut World,
 ) -> Result<Drawn, NoMemory>
+    requires law { RunsGo }
     requires fresh { IsAtStart world.old }
     requires machines { machines ≡ length world.old.boot.machines }
     requires starts { starts.now ≡ boot_pids world.old.boot }
     requires each { All (IsFor (length world.old.boot.machines)) directives.now }
     requires few { length directives.now ≤ MOST_SCHEDULE }
-    ensures { IfOk result (λ d. IsDrawn world.old.boot directives.now d) }
+    ensures { IfOk result (λ d. IsDrawn by_world world.old.boot directives.now d) }
 {
     let mut kept = Kept::new(alloc);
     match collect(directives, world, &mut kept) {
