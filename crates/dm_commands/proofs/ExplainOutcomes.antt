@@ -1,5 +1,5 @@
 -- What is said of files, and how the program ends that has said it.
-use Rattle.dm_commands.proofs.Names.{◌≡◌, ◌⊎◌, inl, inr, ℕ, List, length, refl, ap, sym, subst, ◌∙◌, Option, Some, TheNoMemory, Boot, Vec, Global, IsValid, BootRule, rule_number, BootTold, IsToldValid, RoseOrFull, Status, Done, Usage}
+use Rattle.dm_commands.proofs.Names.{◌≡◌, ◌⊎◌, inl, inr, ℕ, List, length, refl, ap, sym, subst, ◌∙◌, Option, Some, TheNoMemory, Boot, Vec, Global, BootRule, rule_number, BootTold, RoseOrFull, Status, Done, Usage}
 use Rattle.dm_commands.proofs.Names.{ReadFault, NoMemory, WriteFault, BootRefused, ScheduleRefused, TooLong, Worn, TraceRefused, BeforeRun, NoInputs, SaysInputs, TellsFiles, TellsRead, TellsSchedule, ExplainsSystem}
 use Rattle.dm_commands.proofs.Names.{Wrote, NoBoot, NoDirectives, NoFiles, SaysBoot, BlamesSink, Input, IsWant, None, World}
 use Rattle.dm_explain.specs.declared.explain.BootTold.TheVariants as told_as

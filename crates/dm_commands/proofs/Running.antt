@@ -1,6 +1,7 @@
 -- What the commands promise that run a schedule.
 use Rattle.dm_commands.proofs.Names.{◌≡◌, ◌≤◌, inl, inr, ℕ, List, refl, ap, subst, length, Option, Some, None, Boot, IsValid, Directive, World, All, IsFor, Stop, Blames, Result, Ok, Err, Input, Status, Done, ReadFault, WriteFault, AcceptsFiles, NoFiles, ended_with}
-use Rattle.dm_run.specs.Coming.{StopsThere}
+use Rattle.dm_run.specs.Coming.{Ended, StopsThere}
+use Rattle.dm_run.specs.Notion.{Notion}
 use Rattle.dm_ending.specs.declared.stop.Stop.TheVariants as stop
 use Rattle.dm_ending.specs.declared.status.Input.TheVariants as input
 use Rattle.dm_commands.proofs.Meeting.{all_read, unwritten}
@@ -8,7 +9,7 @@ use Rattle.dm_commands.proofs.Outcomes.{one_reason, only_want}
 use Rattle.dm_commands.specs.Asked.{Both}
 use Rattle.dm_commands.specs.Meets.{MeetsShelf, MeetsSink}
 use Rattle.dm_commands.specs.Outside.{Around, SinkAround}
-use Rattle.dm_commands.specs.Runs.{RunMeets, RunSaying}
+use Rattle.dm_commands.specs.Runs.{RunMeets, RunSaying, RunSays}
 
 -- a run that ended, or stopped, blames the sink as it should
 pub ended_sink : {A K : Type 0} (k : SinkAround K) (r : Result A Stop) → Blames (k.faults k.old) (k.faults k.new) r → StopsThere (k.last_failed k.new) r → k.faults k.old ≤ k.faults k.new → MeetsSink k (ended_with r)
@@ -16,6 +17,13 @@ ended_sink k (Ok x) h l n = record { blames = h; last = λ e. absurd cc; counts 
 ended_sink k (Err (stop.NoMemory lack)) h l n = record { blames = h; last = λ e. absurd cc; counts = n }
 ended_sink k (Err stop.WriteFault) h l n = record { blames = h; last = λ e. l; counts = n }
 ended_sink k (Err (stop.Worn from to)) h l n = record { blames = h; last = λ e. absurd cc; counts = n }
+
+-- and says what it has written
+pub run_says : (A : Type 0) (r : Notion) (b : Boot) (ds : List Directive) (before after : Option (List ℕ)) (w : Option World) (x : Result A Stop) → Ended r b ds before after w x → RunSays r b ds before after w (ended_with x)
+run_says A r b ds before after w (Ok x) h = h
+run_says A r b ds before after w (Err (stop.NoMemory lack)) h = h
+run_says A r b ds before after w (Err stop.WriteFault) h = h
+run_says A r b ds before after w (Err (stop.Worn from to)) h = h
 
 -- the files say a system and directives, and something was done with them that reads nothing
 pub runs_meet : {F K : Type 0} (Says : RunSaying) (boot schedule : List ℕ) (a : Around F K) (world : Option World) (s : Status) (b : Boot) (ds : List Directive) → AcceptsFiles (a.shelf.told a.shelf.old) boot schedule b ds → IsValid b → All (IsFor (length b.machines)) ds

@@ -10,37 +10,33 @@ use Rattle.dm_world.specs.declared.world.World.{World}
 use Rattle.dm_outside.specs.declared.Failed.{Failed}
 use Rattle.dm_outside.specs.Outside.{appended}
 use Rattle.dm_run.specs.Appended.{IsCutShort}
+use Rattle.dm_run.specs.Notion.{Notion}
+use Rattle.dm_run.specs.Pictured.{IsBeforeWorn, PictureIsWhole}
 use Rattle.dm_ending.specs.declared.status.Status.{Status}
 use Rattle.dm_ending.specs.declared.status.Status.TheVariants.{Done, NoMemory, WriteFault, Worn}
 use Rattle.dm_commands.specs.Outside.{Around}
 use Rattle.dm_commands.specs.Runs.{RunMeets, RunSaying}
 
--- what a picture is of: of all of the run of a system by directives, or of what comes before two machines count as many messages as
--- they may
-pub record PictureMeans : Type 1 where
-  pub is_whole : Boot → List Directive → List ℕ → Type 0
-  pub is_before_worn : Boot → List Directive → List ℕ → ℕ → ℕ → Type 0
-
 -- the picture of all of the run was appended
-pub record ShowsWhole (m : PictureMeans) (b : Boot) (ds : List Directive) (before after : Option (List ℕ)) : Type 0 where
+pub record ShowsWhole (r : Notion) (b : Boot) (ds : List Directive) (before after : Option (List ℕ)) : Type 0 where
   pub text : List ℕ
-  pub is : m.is_whole b ds text
+  pub is : PictureIsWhole r b ds text
   pub written : after ≡ appended before text
 
 -- that of what comes before a worn pair
-pub record ShowsBegun (m : PictureMeans) (b : Boot) (ds : List Directive) (before after : Option (List ℕ)) (from to : ℕ) : Type 0 where
+pub record ShowsBegun (r : Notion) (b : Boot) (ds : List Directive) (before after : Option (List ℕ)) (from to : ℕ) : Type 0 where
   pub text : List ℕ
-  pub is : m.is_before_worn b ds text from to
+  pub is : IsBeforeWorn r b ds text from to
   pub written : after ≡ appended before text
 
 -- one of these pictures
-abbrev pub IsPicture : PictureMeans → Boot → List Directive → List ℕ → Type 0
-IsPicture m b ds text = m.is_whole b ds text ⊎ ((from to : ℕ) × m.is_before_worn b ds text from to)
+abbrev pub IsPicture : Notion → Boot → List Directive → List ℕ → Type 0
+IsPicture r b ds text = PictureIsWhole r b ds text ⊎ ((from to : ℕ) × IsBeforeWorn r b ds text from to)
 
 -- it was begun
-pub record BeginsPicture (m : PictureMeans) (b : Boot) (ds : List Directive) (before after : Option (List ℕ)) : Type 0 where
+pub record BeginsPicture (r : Notion) (b : Boot) (ds : List Directive) (before after : Option (List ℕ)) : Type 0 where
   pub text : List ℕ
-  pub is : IsPicture m b ds text
+  pub is : IsPicture r b ds text
   pub begun : IsCutShort before text after
 
 -- how the program ends that wrote a picture: so, unless the sink failed
@@ -48,13 +44,13 @@ abbrev pub unless_failed : {A : Type 0} → Result A Failed → Status → Statu
 unless_failed (Ok _) otherwise = otherwise
 unless_failed (Err _) otherwise = WriteFault
 
--- what was written of the run of this system by these directives, of which no world is left
-abbrev pub ChartSays : PictureMeans → RunSaying
-ChartSays m b ds before after world Done = ShowsWhole m b ds before after
-ChartSays m b ds before after world (NoMemory lack) = after ≡ before
-ChartSays m b ds before after world WriteFault = BeginsPicture m b ds before after
-ChartSays m b ds before after world (Worn from to) = ShowsBegun m b ds before after from to
-ChartSays m b ds before after world _ = ⊥
+-- what was written of the run of this system by these directives, by a notion of a run; no world is left
+abbrev pub ChartSays : Notion → RunSaying
+ChartSays r b ds before after world Done = ShowsWhole r b ds before after
+ChartSays r b ds before after world (NoMemory lack) = after ≡ before
+ChartSays r b ds before after world WriteFault = BeginsPicture r b ds before after
+ChartSays r b ds before after world (Worn from to) = ShowsBegun r b ds before after from to
+ChartSays r b ds before after world _ = ⊥
 
 -- all that the command promises, with files of these names: what `run` does, of a picture, and no world is left
 pub record ChartMeets (Says : RunSaying) {F K : Type 0} (boot schedule : List ℕ) (a : Around F K) (world : Option World) (s : Status) : Type 0 where

@@ -1,5 +1,5 @@
 -- What the status of the command `drill` says: why it comes, and what was written by then.
-use Rattle.std.specs.Prelude.{List}
+use Rattle.std.specs.Prelude.{ℕ, List}
 use Rattle.std.specs.declared.option.Option.{Option}
 use Rattle.dm_onekernel.specs.declared.boot.Boot.{Boot}
 use Rattle.dm_schedule.specs.declared.Directive.{Directive}
@@ -7,7 +7,10 @@ use Rattle.dm_world.specs.declared.world.World.{World}
 use Rattle.dm_draw.specs.Boot.{boot_of_machines}
 use Rattle.dm_draw.specs.Directives.{directives_drawn}
 use Rattle.dm_draw.specs.declared.drill.Drill.{Drill}
+use Rattle.dm_run.specs.Notion.{Notion}
+use Rattle.dm_drill.specs.Drilled.{DrillIsBegun, DrillIsOfFirst, DrillIsWhole, DrillWears}
 use Rattle.dm_ending.specs.declared.status.Status.{Status}
+use Rattle.dm_ending.specs.declared.status.Status.TheVariants.{Done, NoMemory, WriteFault, Worn}
 use Rattle.dm_commands.specs.Meets.{MeetsSink}
 use Rattle.dm_commands.specs.Outside.{SinkAround}
 use Rattle.dm_commands.specs.Runs.{RunSaying}
@@ -19,6 +22,14 @@ directives_of_drill d = directives_drawn d.machines d.seed d.lines
 -- what a status says of a drill of this system by these directives
 abbrev pub DrillSaying : Type 1
 DrillSaying = Drill → RunSaying
+
+-- what was written of the drill of this system by these directives, by a notion of a run
+abbrev pub DrilledSays : Notion → DrillSaying
+DrilledSays r d b ds before after world Done = DrillIsWhole r d b ds before after world
+DrilledSays r d b ds before after world (NoMemory lack) = DrillIsOfFirst r d.trace b ds before after
+DrilledSays r d b ds before after world WriteFault = DrillIsBegun r d b ds before after world
+DrilledSays r d b ds before after world (Worn from to) = DrillWears r d.trace b ds before after from to
+DrilledSays r d b ds before after world _ = ⊥
 
 -- that is said of the system and the directives that are drawn
 abbrev pub SaysDrill : DrillSaying → Drill → Option (List ℕ) → Option (List ℕ) → Option World → Status → Type 0

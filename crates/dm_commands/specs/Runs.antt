@@ -7,9 +7,12 @@ use Rattle.dm_onekernel.specs.declared.boot.Boot.{Boot}
 use Rattle.dm_onekernel.specs.Boot.{IsValid}
 use Rattle.dm_schedule.specs.declared.Directive.{Directive}
 use Rattle.dm_world.specs.declared.world.World.{World}
-use Rattle.dm_run.specs.Coming.{IsFor}
+use Rattle.dm_run.specs.Notion.{Notion}
+use Rattle.dm_run.specs.Printed.{IsBegun, IsOfFirst, IsWhole, RunWears}
+use Rattle.dm_run.specs.Runs.{IsFor}
 use Rattle.dm_ending.specs.declared.status.Input.TheVariants as input
 use Rattle.dm_ending.specs.declared.status.Status.{Status}
+use Rattle.dm_ending.specs.declared.status.Status.TheVariants.{Done, NoMemory, WriteFault, Worn}
 use Rattle.dm_ending.specs.Status.{IsWant}
 use Rattle.dm_commands.specs.Asked.{Both}
 use Rattle.dm_commands.specs.Inputs.{AcceptsFiles, NoFiles}
@@ -19,6 +22,14 @@ use Rattle.dm_commands.specs.Outside.{Around, Never, NeverReadsBadly, Outside, o
 -- what a status says of this system and these directives: of what the sink told before and after, and of the world that was left
 abbrev pub RunSaying : Type 1
 RunSaying = Boot → List Directive → Option (List ℕ) → Option (List ℕ) → Option World → Status → Type 0
+
+-- what was written of the run of this system by these directives, by a notion of a run
+abbrev pub RunSays : Notion → RunSaying
+RunSays r b ds before after world Done = IsWhole r b ds before after world
+RunSays r b ds before after world (NoMemory lack) = IsOfFirst r b ds before after
+RunSays r b ds before after world WriteFault = IsBegun r b ds before after world
+RunSays r b ds before after world (Worn from to) = RunWears r b ds before after from to
+RunSays r b ds before after world _ = ⊥
 
 -- that is said of the system and the directives that the files say: the system may start, and the directives are for its machines
 pub record Runs (Says : RunSaying) (boot schedule : List ℕ) (o : Outside) (s : Status) : Type 0 where

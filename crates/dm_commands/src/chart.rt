@@ -2,13 +2,15 @@
 ghost use Rattle.std.specs.Prelude.{◌≡◌, ◌≤◌, None, length};
 ghost use Rattle.std.specs.List.{All};
 ghost use Rattle.dm_onekernel.specs.Boot.{IsValid};
-ghost use Rattle.dm_run.specs.Coming.{IsFor};
+ghost use Rattle.dm_run.specs.Notion.{by_world};
+ghost use Rattle.dm_run.specs.Runs.{IsFor};
+ghost use Rattle.dm_run.specs.Went.{RunsGo};
 ghost use Rattle.dm_commands.specs.Charts.{ChartMeets, ChartSays, unless_failed};
 ghost use Rattle.dm_commands.specs.Meets.{MeetsSink};
 ghost use Rattle.dm_commands.specs.Outside.{around, shelf_around, sink_around};
 
 use crate::inputs::{Inputs, read_files};
-use dm_drawing::{Drawn, draw_run};
+use dm_run::{Drawn, draw_run};
 use dm_ending::status::Status;
 use dm_outside::{Failed, Shelf, Sink};
 use dm_run::write_all;
@@ -23,7 +25,8 @@ pub fn chart_files<F: Shelf, K: Sink>(
     shelf: &mut F,
     out: &mut K,
 ) -> Status
-    ensures meets { ChartMeets (ChartSays pictured) boot.now schedule.now
+    requires law { RunsGo }
+    ensures meets { ChartMeets (ChartSays by_world) boot.now schedule.now
         (around (shelf_around F.asked F.told F.faults F.last_failed shelf.old shelf.new)
             (sink_around K.told K.faults K.last_failed out.old out.new)) None result }
 {
@@ -35,10 +38,11 @@ pub fn chart_files<F: Shelf, K: Sink>(
 
 /// Draws the run of a system by these directives, and writes the picture.
 fn chart<K: Sink>(alloc: Global, inputs: Inputs, out: &mut K) -> Status
+    requires law { RunsGo }
     requires valid { IsValid inputs.boot }
     requires each { All (IsFor (length inputs.boot.machines)) inputs.directives.items }
     requires few { length inputs.directives.items ≤ MOST_SCHEDULE }
-    ensures says { ChartSays pictured inputs.boot inputs.directives.items (K.told out.old) (K.told out.new) None result }
+    ensures says { ChartSays by_world inputs.boot inputs.directives.items (K.told out.old) (K.told out.new) None result }
     ensures sink { MeetsSink (sink_around K.told K.faults K.last_failed out.old out.new) result }
 {
     let Inputs { boot, directives } = inputs;

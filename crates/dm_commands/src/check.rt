@@ -4,6 +4,8 @@ ghost use Rattle.dm_onekernel.specs.declared.boot.Boot.{Boot as TheBoot};
 ghost use Rattle.dm_onekernel.specs.Boot.{IsValid};
 ghost use Rattle.dm_commands.specs.Checks.{CheckMeets, CheckSays, IsGoodTrace, end_word, good_line};
 ghost use Rattle.dm_commands.specs.Meets.{MeetsSink};
+ghost use Rattle.dm_run.specs.Went.{RunsGo};
+ghost use Rattle.dm_commands.specs.Says.{traced_by_world};
 ghost use Rattle.dm_commands.specs.Outside.{around, shelf_around, sink_around};
 
 use crate::inputs::{Traced, read_trace_files};
@@ -22,7 +24,8 @@ pub fn check_files<F: Shelf, K: Sink>(
     shelf: &mut F,
     out: &mut K,
 ) -> Status
-    ensures meets { CheckMeets (CheckSays traced_by) boot.now trace.now
+    requires law { RunsGo }
+    ensures meets { CheckMeets (CheckSays traced_by_world) boot.now trace.now
         (around (shelf_around F.asked F.told F.faults F.last_failed shelf.old shelf.new)
             (sink_around K.told K.faults K.last_failed out.old out.new)) None result }
 {
@@ -34,9 +37,10 @@ pub fn check_files<F: Shelf, K: Sink>(
 
 /// Checks a trace, and says that it is good.
 fn check<K: Sink>(alloc: Global, traced: Traced, out: &mut K) -> Status
+    requires law { RunsGo }
     requires valid { IsValid traced.boot }
     requires short { length traced.trace.items ≤ MOST_TRACE }
-    ensures says { CheckSays traced_by traced.boot traced.trace.items (K.told out.old) (K.told out.new) result }
+    ensures says { CheckSays traced_by_world traced.boot traced.trace.items (K.told out.old) (K.told out.new) result }
     ensures sink { MeetsSink (sink_around K.told K.faults K.last_failed out.old out.new) result }
 {
     let Traced { boot, trace } = traced;
@@ -52,8 +56,8 @@ fn check<K: Sink>(alloc: Global, traced: Traced, out: &mut K) -> Status
 
 /// Says that a trace is good.
 fn say_good<K: Sink>(good: Good, out: &mut K) -> Status
-    ensures says { (b : TheBoot) (bytes : List ℕ) → IsGoodTrace traced_by b bytes good.groups good.ended →
-        CheckSays traced_by b bytes (K.told out.old) (K.told out.new) result }
+    ensures says { (b : TheBoot) (bytes : List ℕ) → IsGoodTrace traced_by_world b bytes good.groups good.ended →
+        CheckSays traced_by_world b bytes (K.told out.old) (K.told out.new) result }
     ensures sink { MeetsSink (sink_around K.told K.faults K.last_failed out.old out.new) result }
 {
     let line = good_line(good);

@@ -8,7 +8,7 @@ ghost use Rattle.dm_commands.specs.Inputs.{AcceptsFiles, HasFile, NoBoot, NoDire
 ghost use Rattle.dm_commands.specs.Meets.{MeetsShelf, status_so_far};
 ghost use Rattle.dm_commands.specs.Outside.{shelf_around};
 ghost use Rattle.dm_ending.specs.declared.status.Input.TheVariants as input_;
-ghost use Rattle.dm_run.specs.Coming.{IsFor};
+ghost use Rattle.dm_run.specs.Runs.{IsFor};
 
 use crate::read::{ReadError, read_file};
 use dm_boot::{BootError, read_boot};

@@ -2,11 +2,12 @@
 ghost use Rattle.std.specs.Prelude.{◌≤◌, length};
 ghost use Rattle.std.specs.List.{All};
 ghost use Rattle.dm_onekernel.specs.Boot.{IsValid};
-ghost use Rattle.dm_run.specs.Coming.{IsFor};
+ghost use Rattle.dm_run.specs.Notion.{by_world};
+ghost use Rattle.dm_run.specs.Runs.{IsFor};
+ghost use Rattle.dm_run.specs.Went.{RunsGo};
 ghost use Rattle.dm_commands.specs.Meets.{MeetsSink};
 ghost use Rattle.dm_commands.specs.Outside.{around, shelf_around, sink_around};
-ghost use Rattle.dm_commands.specs.Runs.{RunMeets};
-ghost use Rattle.dm_commands.specs.Says.{RunSays};
+ghost use Rattle.dm_commands.specs.Runs.{RunMeets, RunSays};
 
 use crate::inputs::{Inputs, read_files};
 use dm_ending::status::{Status, status_of};
@@ -26,7 +27,8 @@ pub fn run_files<F: Shelf, K: Sink>(
     out: &mut K,
     world: &mut Option<World>,
 ) -> Status
-    ensures meets { RunMeets RunSays boot.now schedule.now
+    requires law { RunsGo }
+    ensures meets { RunMeets (RunSays by_world) boot.now schedule.now
         (around (shelf_around F.asked F.told F.faults F.last_failed shelf.old shelf.new)
             (sink_around K.told K.faults K.last_failed out.old out.new)) world.new result }
 {
@@ -39,10 +41,11 @@ pub fn run_files<F: Shelf, K: Sink>(
 
 /// Runs a system by these directives, and writes the lines of the run.
 fn run<K: Sink>(alloc: Global, inputs: Inputs, out: &mut K, world: &mut Option<World>) -> Status
+    requires law { RunsGo }
     requires valid { IsValid inputs.boot }
     requires each { All (IsFor (length inputs.boot.machines)) inputs.directives.items }
     requires few { length inputs.directives.items ≤ MOST_SCHEDULE }
-    ensures says { RunSays inputs.boot inputs.directives.items (K.told out.old) (K.told out.new) world.new result }
+    ensures says { RunSays by_world inputs.boot inputs.directives.items (K.told out.old) (K.told out.new) world.new result }
     ensures sink { MeetsSink (sink_around K.told K.faults K.last_failed out.old out.new) result }
 {
     let Inputs { boot, directives } = inputs;
