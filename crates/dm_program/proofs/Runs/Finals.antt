@@ -1,13 +1,13 @@
 -- The lines at the end hide nothing: no process and no server has a link to a kernel.
-use Rattle.dm_run.proofs.Names.{◌≡◌, ◌<◌, ℕ, zero, suc, ◌+◌, ◌*◌, ◌/◌, ◌==◌, Bool, true, false, if◌then◌else◌, List, [], ◌∷◌, ◌++◌, length, take, drop, refl, arith, ⊤, All, IfSome, All-nil, All-cons, All-append, All-head, All-tail, Option}
-use Rattle.dm_run.proofs.Names.{None, Some, Addr, Link, Pid, pid_of, MsgId, Process, SlotIsLawful, Regs, Here, Frozen, Incoming, Forward, Named, IsLawfulNamed, Pending, first_number, switchboard, manager, KernelKnown, Servers}
-use Rattle.dm_run.proofs.Names.{IsLawfulKnown, IsLawfulPair, IsLawfulState, Arrival, restarted, Wanted, Chunk, Block, Nothing, EndLine, Standing, or, trimmed, block_line, memory_lines, joined_below, home_with, list_line, HidesNothing}
-use Rattle.dm_run.proofs.Names.{WorldState, of_known}
+use Rattle.dm_program.proofs.Runs.Names.{◌≡◌, ◌<◌, ℕ, zero, suc, ◌+◌, ◌*◌, ◌/◌, ◌==◌, Bool, true, false, if◌then◌else◌, List, [], ◌∷◌, ◌++◌, length, take, drop, refl, arith, ⊤, All, IfSome, All-nil, All-cons, All-append, All-head, All-tail, Option}
+use Rattle.dm_program.proofs.Runs.Names.{None, Some, Addr, Link, Pid, pid_of, MsgId, Process, SlotIsLawful, Regs, Here, Frozen, Incoming, Forward, Named, IsLawfulNamed, Pending, first_number, switchboard, manager, KernelKnown, Servers}
+use Rattle.dm_program.proofs.Runs.Names.{IsLawfulKnown, IsLawfulPair, IsLawfulState, Arrival, restarted, Wanted, Chunk, Block, Nothing, EndLine, Standing, or, trimmed, block_line, memory_lines, joined_below, home_with, list_line, HidesNothing}
+use Rattle.dm_program.proofs.Runs.Names.{WorldState, of_known}
 use Rattle.dm_records.specs.declared.record.Record.TheVariants.{Ended}
 use Rattle.dm_line.specs.declared.end_line.EndLine.TheVariants as end
 use Rattle.dm_line.specs.declared.end_line.Standing.TheVariants as standing
 use Rattle.dm_world.specs.Ends as ends
-use Rattle.dm_run.proofs.Restarted.{SlotHides, TableHides, restarted_hides}
+use Rattle.dm_program.proofs.Runs.Restarted.{SlotHides, TableHides, restarted_hides}
 
 abbrev Hide : List EndLine → Type 0
 Hide ls = All HidesNothing ls

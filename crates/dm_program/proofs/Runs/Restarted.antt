@@ -1,7 +1,7 @@
 -- The links that state bytes spell hide nothing: none leads to a kernel.
-use Rattle.dm_run.proofs.Names.{◌≡◌, ℕ, zero, suc, ◌/◌, ◌%◌, ◌==◌, Bool, true, false, List, [], ◌∷◌, length, refl, sym, ap, subst, ⊤, if◌then◌else◌, All, All-nil, All-cons, Option, None, Some, Result, Ok, Err, Link, Process, PacketError}
-use Rattle.dm_run.proofs.Names.{Field, ◌>>=◌, both, number, LinkParts, addr, channel, flags, len_from, link, link_of_parts, held_if, bind_ok, ok_is, StateBytesError, Shell, Front, by_rule, only_shell, front, read_shell, shell}
-use Rattle.dm_run.proofs.Names.{shell_of_bytes, shell_with, mask, read_slots, slots, table, Arrival, restarted, revived, revived_from}
+use Rattle.dm_program.proofs.Runs.Names.{◌≡◌, ℕ, zero, suc, ◌/◌, ◌%◌, ◌==◌, Bool, true, false, List, [], ◌∷◌, length, refl, sym, ap, subst, ⊤, if◌then◌else◌, All, All-nil, All-cons, Option, None, Some, Result, Ok, Err, Link, Process, PacketError}
+use Rattle.dm_program.proofs.Runs.Names.{Field, ◌>>=◌, both, number, LinkParts, addr, channel, flags, len_from, link, link_of_parts, held_if, bind_ok, ok_is, StateBytesError, Shell, Front, by_rule, only_shell, front, read_shell, shell}
+use Rattle.dm_program.proofs.Runs.Names.{shell_of_bytes, shell_with, mask, read_slots, slots, table, Arrival, restarted, revived, revived_from}
 use Rattle.dm_packet.specs.declared.PacketError.TheVariants as bad
 
 -- what a slot holds, if anything, leads to no kernel
