@@ -1,6 +1,7 @@
 -- What is said in some terms is said in others to which they are carried.
 use Rattle.dm_commands.proofs.Names.{◌≡◌, inl, inr, ℕ, Bool, List, length, Option, Some, None, Boot, Directive, IsValid, All, IsFor, World, Verdict, good_verdict, Drill as TheDrill, boot_of_machines, directives_of_drill, IsWithin}
-use Rattle.dm_commands.proofs.Names.{Status, Done, Usage, ReadFault, NoMemory, WriteFault, BootRefused, ScheduleRefused, TooLong, Worn, TraceRefused, Request, Chart, Check, Drill, Explain, Run}
+use Rattle.dm_commands.proofs.Names.{Status, Done, Usage, ReadFault, NoMemory, WriteFault, BootRefused, ScheduleRefused, TooLong, Worn, TraceRefused, Request, Chart, Check, Explain, Run}
+use Rattle.dm_words.specs.Request.{Drill}
 use Rattle.dm_run.proofs.Carried.{Carries, carried_before_worn, carried_begun, carried_first, carried_picture, carried_run_wears, carried_whole}
 use Rattle.dm_run.specs.Notion.{Notion}
 use Rattle.dm_drill.proofs.Carried.{carried_drill_begun, carried_drill_first, carried_drill_wears, carried_drill_whole}

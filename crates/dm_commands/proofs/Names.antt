@@ -43,7 +43,6 @@ pub use Rattle.dm_run.specs.Coming.{Blames}
 pub use Rattle.dm_run.specs.Runs.{IsFor}
 pub use Rattle.dm_check.specs.Good.{good_verdict}
 pub use Rattle.dm_check.specs.Judge.{Verdict}
-pub use Rattle.dm_check.specs.Laws.{HasHome}
 pub use Rattle.dm_drill.proofs.Going.{nothing_drilled}
 pub use Rattle.dm_drill.specs.Drilled.{Ended}
 pub use Rattle.dm_words.specs.DrillWords.{IsWithin}

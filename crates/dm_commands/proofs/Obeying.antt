@@ -1,6 +1,7 @@
 -- What the program promises, whatever its words ask for.
 use Rattle.dm_commands.proofs.Names.{◌≡◌, inl, inr, ℕ, List, refl, ap, sym, subst, ◌∙◌, Option, Some, None, TheNoMemory, Boot, Directive, World, Input, Status, Done, Usage, ReadFault, NoMemory, WriteFault, NoFiles, NoTrace, NoInputs, NoBoot, Drill as TheDrill}
-use Rattle.dm_commands.proofs.Names.{Request, Chart, Check, Drill, Explain, Run, WordsError, status_of_no}
+use Rattle.dm_commands.proofs.Names.{Request, Chart, Check, Explain, Run, WordsError, status_of_no}
+use Rattle.dm_words.specs.Request.{Drill}
 use Rattle.dm_words.specs.declared.words.WordsError.TheVariants as why
 use Rattle.dm_ending.specs.declared.status.Input.TheVariants as input
 use Rattle.dm_commands.proofs.Checking as checking
