@@ -63,17 +63,20 @@ next_fits law a b ds Keeps old new w e same valid each h =
     (λ g. law.fits b ds (record { begun = new.begun; cursor = g.from }) h.steps h.groups w e new.cursor valid each (g.reached h.steps h.groups h.led) g.comes)
 
 -- its group came
+pub led_on : (a b : Boot) (ds : List Directive) (Keeps : List (List Line) → Type 0) (old new : Way) (w u : WorldState) (e : Step) (lines : List Line) → a ≡ b → (h : HasCome b ds Keeps old w) → GoesOn a ds w old new e → Does a w e lines u → Led b ds new (h.steps ++ e ∷ []) (h.groups ++ lines ∷ []) u
+led_on a b ds Keeps old new w u e lines same h next d =
+    subst (λ (x : Boot). GoesOn x ds w old new e → Does x w e lines u → Led b ds new (h.steps ++ e ∷ []) (h.groups ++ lines ∷ []) u) (sym same)
+    (λ g k. does (record { begun = new.begun; cursor = g.from }) h.steps h.groups w e new.cursor lines u (g.reached h.steps h.groups h.led) g.comes k)
+    next d
+
 pub comes_on : (a b : Boot) (ds : List Directive) (Keeps Kept : List (List Line) → Type 0) (old new : Way) (w u : WorldState) (e : Step) (lines : List Line) → a ≡ b → HasCome b ds Keeps old w → GoesOn a ds w old new e → Does a w e lines u
     → ((gs : List (List Line)) → Keeps gs → Kept (gs ++ lines ∷ [])) → HasCome b ds Kept new u
-comes_on a b ds Keeps Kept old new w u e lines same h next d on =
-    subst (λ (x : Boot). GoesOn x ds w old new e → Does x w e lines u → HasCome b ds Kept new u) (sym same)
-    (λ g k. record {
-      steps = h.steps ++ e ∷ [];
-      groups = h.groups ++ lines ∷ [];
-      led = does (record { begun = new.begun; cursor = g.from }) h.steps h.groups w e new.cursor lines u (g.reached h.steps h.groups h.led) g.comes k;
-      kept = on h.groups h.kept;
-    })
-    next d
+comes_on a b ds Keeps Kept old new w u e lines same h next d on = record {
+  steps = h.steps ++ e ∷ [];
+  groups = h.groups ++ lines ∷ [];
+  led = led_on a b ds Keeps old new w u e lines same h next d;
+  kept = on h.groups h.kept;
+}
 
 -- none is left
 pub ends_there : (a b : Boot) (ds : List Directive) (Keeps : List (List Line) → Type 0) (old new : Way) (w : WorldState) → a ≡ b → HasCome b ds Keeps old w → Stays a ds w old new → HasEnded b ds Keeps w

@@ -3,7 +3,7 @@ use Rattle.dm_run.proofs.Names.{◌≡◌, inl, inr, ℕ, List, [], ◌∷◌, �
 use Rattle.dm_run.proofs.Names.{Boot, Step, Directive, EndLine, Line, EndFits, LineFits, joined, text, text_of_ends, text_of_lines, World, IsWorld, world_state, WorldState, world_end_lines, appended, Stop, NoMemory, WriteFault, Worn}
 use Rattle.dm_run.proofs.Names.{Way, first_way, first_world, Does, GoesOn, HasCome, HasEnded, IsThrough, IsWritten, Offered, Came, Ended, Stopped, StopsSo, IsOfFirst, RunWears, BlamesBy, Blames, by_world}
 use Rattle.dm_run.proofs.Writing.{appended_twice, some_left}
-use Rattle.dm_run.proofs.Going.{comes_first, comes_on, wears_there}
+use Rattle.dm_run.proofs.Going.{comes_first, comes_on, led_on, wears_there}
 
 pub text_append : (a b : List Line) → text_of_lines (a ++ b) ≡ text_of_lines a ++ text_of_lines b
 unfolding text_of_lines
@@ -81,11 +81,10 @@ pub offer_stops : (a b : Boot) (ds : List Directive) (old new : Way) (before now
 offer_stops a b ds old new before now after w u e ls (NoMemory lack) same one boot h next d fit o = of_first b ds old before now after w h o
 offer_stops a b ds old new before now after w u e ls (Worn from to) same one boot h next d fit o = absurd o
 offer_stops a b ds old new before now after w u e ls WriteFault same one boot h next d fit o =
-    let more = comes_on a b ds (IsWritten before now) (λ gs. Unit {0}) old new w (world_state u) e ls same h next d (λ gs k. tt) in
     record {
-      groups = more.groups;
-      at = record { way = new; steps = more.steps; state = world_state u };
-      good = more.led;
+      groups = h.groups ++ ls ∷ [];
+      at = record { way = new; steps = h.steps ++ e ∷ []; state = world_state u };
+      good = led_on a b ds (IsWritten before now) old new w (world_state u) e ls same h next d;
       last = [];
       last_is = inl refl;
       fits = fits_last h.groups ls h.kept.fits fit;
@@ -150,3 +149,9 @@ blames_err old mid new (Err y) e h same p = subst (λ (k : ℕ). BlamesBy k new 
 pub nothing_printed : (b : Boot) (ds : List Directive) (before : Option (List ℕ)) → IsOfFirst by_world b ds before before
 nothing_printed b ds before =
     of_first b ds first_way before before before (first_world b) (comes_first b ds (IsWritten before before) first_way (first_world b) refl refl (written_none before)) refl
+
+-- one more group was written
+pub comes_written : (a b : Boot) (ds : List Directive) (old new : Way) (before now after : Option (List ℕ)) (w u : WorldState) (e : Step) (ls : List Line) → a ≡ b → HasCome b ds (IsWritten before now) old w → GoesOn a ds w old new e → Does a w e ls u → All LineFits ls → after ≡ appended now (text_of_lines ls)
+    → HasCome b ds (IsWritten before after) new u
+comes_written a b ds old new before now after w u e ls same h next d fit o =
+    comes_on a b ds (IsWritten before now) (IsWritten before after) old new w u e ls same h next d (λ gs k. written_more before now after gs ls k fit o)
