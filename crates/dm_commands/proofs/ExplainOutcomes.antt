@@ -1,68 +1,31 @@
 -- What is said of files, and how the program ends that has said it.
-use Rattle.dm_commands.proofs.Names.{◌≡◌, ◌⊎◌, inl, inr, ℕ, List, length, refl, ap, sym, subst, ◌∙◌, Option, Some, TheNoMemory, Boot, Vec, Global, IsValid, BootRule, rule_number, BootTold, IsToldValid, RoseOrFull, Status, Done, Usage}
-use Rattle.dm_commands.proofs.Names.{ReadFault, NoMemory, WriteFault, BootRefused, ScheduleRefused, TooLong, Worn, TraceRefused, AsksFiles, AsksNamed, BeforeRun, NoInputs, SaysInputs, TellsFiles, TellsRead, TellsSchedule, ExplainsSystem}
-use Rattle.dm_commands.proofs.Names.{Wrote, NoBoot, NoDirectives, NoFiles, SaysBoot, BlamesShelf, BlamesSink, EndsAtRead, IsWant, None}
+use Rattle.dm_commands.proofs.Names.{◌≡◌, ◌⊎◌, inl, inr, ℕ, List, length, refl, ap, sym, subst, ◌∙◌, Option, Some, TheNoMemory, Boot, Vec, Global, BootRule, rule_number, BootTold, RoseOrFull, Status, Done, Usage}
+use Rattle.dm_commands.proofs.Names.{ReadFault, NoMemory, WriteFault, BootRefused, ScheduleRefused, TooLong, Worn, TraceRefused, BeforeRun, NoInputs, SaysInputs, TellsFiles, TellsRead, TellsSchedule, ExplainsSystem}
+use Rattle.dm_commands.proofs.Names.{Wrote, NoBoot, NoDirectives, NoFiles, SaysBoot, BlamesSink, Input, IsWant, None, World}
 use Rattle.dm_explain.specs.declared.explain.BootTold.TheVariants as told_as
 use Rattle.dm_ending.specs.declared.status.Input.TheVariants as input
-use Rattle.dm_commands.proofs.Outcomes.{Files, boot_part, long_boot, never_sink, no_files, outcome, refused_boot, said_boot, said_files, want_or_not}
+use Rattle.dm_commands.proofs.Meeting.{all_read, unwritten}
+use Rattle.dm_commands.specs.Asked.{perhaps_both}
+use Rattle.dm_commands.specs.Explains.{ExplainMeets}
+use Rattle.dm_commands.specs.Meets.{MeetsShelf, MeetsSink}
+use Rattle.dm_commands.specs.Outside.{Around}
+use Rattle.dm_commands.proofs.Outcomes.{Files, boot_part, long_boot, no_files, outcome, refused_boot, said_boot, said_files, want_or_not}
 
 -- memory may lack
 pub wants_memory : (files : Option Files) (boot : List ℕ) (schedule : Option (List ℕ)) (old new : ℕ) (lack : TheNoMemory) → NoInputs files boot schedule old new (NoMemory lack)
 wants_memory files boot None old new lack = tt
 wants_memory files boot (Some schedule) old new lack = tt
 
--- no file was asked for
-pub asks_nothing : {S : Type 0} (asked : S → List ℕ → S → Type 0) (files : Option Files) (boot : List ℕ) (schedule : Option (List ℕ)) (shelf : S) → ((name : List ℕ) → asked shelf name shelf) → AsksNamed asked files boot schedule shelf shelf
-asks_nothing asked files boot None shelf nothing = nothing boot
-asks_nothing asked files boot (Some schedule) shelf nothing = inl (nothing boot)
-
--- a status that is due blames nobody
-due_sink : (files : Option Files) (boot : List ℕ) (schedule : Option (List ℕ)) (text : List ℕ) (old new : ℕ) (s : Status) → TellsFiles files boot schedule s text → new ≡ old → BlamesSink old new s
-due_sink files boot schedule text old new Done h e = e
-due_sink files boot schedule text old new Usage h e = e
-due_sink files boot schedule text old new (ReadFault i) h e = e
-due_sink files boot schedule text old new (NoMemory lack) h e = e
-due_sink files boot schedule text old new WriteFault h e = absurd h
-due_sink files boot schedule text old new (BootRefused number place) h e = e
-due_sink files boot schedule text old new (ScheduleRefused line why) h e = e
-due_sink files boot schedule text old new (TooLong i) h e = e
-due_sink files boot schedule text old new (Worn from to) h e = e
-due_sink files boot schedule text old new (TraceRefused line why) h e = e
-
-due_shelf : (files : Option Files) (boot : List ℕ) (schedule : Option (List ℕ)) (text : List ℕ) (old new : ℕ) (s : Status) → TellsFiles files boot schedule s text → new ≡ old → BlamesShelf old new s
-due_shelf files boot schedule text old new Done h e = e
-due_shelf files boot schedule text old new Usage h e = e
-due_shelf files boot schedule text old new (ReadFault i) h e = absurd h
-due_shelf files boot schedule text old new (NoMemory lack) h e = e
-due_shelf files boot schedule text old new WriteFault h e = e
-due_shelf files boot schedule text old new (BootRefused number place) h e = e
-due_shelf files boot schedule text old new (ScheduleRefused line why) h e = e
-due_shelf files boot schedule text old new (TooLong i) h e = e
-due_shelf files boot schedule text old new (Worn from to) h e = e
-due_shelf files boot schedule text old new (TraceRefused line why) h e = e
-
--- and so the program that has said it blames the sink where that failed
-pub wrote_sink : (files : Option Files) (boot : List ℕ) (schedule : Option (List ℕ)) (text : List ℕ) (before after : Option (List ℕ)) (old new : ℕ) (due s : Status) → TellsFiles files boot schedule due text → Wrote due text before after old new s → BlamesSink old new s
-wrote_sink files boot schedule text before after old new due s h w = elim w [
-  | inl a ↦ subst (λ (x : Status). BlamesSink old new x) (sym a.ends) (due_sink files boot schedule text old new due h a.steady)
-  | inr b ↦ subst (λ (x : Status). BlamesSink old new x) (sym b.ends) b.rose
-]
-
-pub wrote_shelf : (files : Option Files) (boot : List ℕ) (schedule : Option (List ℕ)) (text : List ℕ) (before after : Option (List ℕ)) (old new k k' : ℕ) (due s : Status) → TellsFiles files boot schedule due text → Wrote due text before after k k' s → new ≡ old → BlamesShelf old new s
-wrote_shelf files boot schedule text before after old new k k' due s h w e = elim w [
-  | inl a ↦ subst (λ (x : Status). BlamesShelf old new x) (sym a.ends) (due_shelf files boot schedule text old new due h e)
-  | inr b ↦ subst (λ (x : Status). BlamesShelf old new x) (sym b.ends) e
-]
-
--- it says of no read that it failed, and of a write only where that was the last
-pub wrote_read : (files : Option Files) (boot : List ℕ) (schedule : Option (List ℕ)) (text : List ℕ) (before after : Option (List ℕ)) (k k' : ℕ) (due s : Status) (last : Type 0) → TellsFiles files boot schedule due text → Wrote due text before after k k' s → EndsAtRead last s
-wrote_read files boot schedule text before after k k' due s last h w = λ i e. elim w [
-  | inl a ↦ absurd (subst (λ (x : Status). TellsFiles files boot schedule x text) (sym a.ends ∙ e) h)
-  | inr b ↦ let f : WriteFault ≡ ReadFault i = sym b.ends ∙ e in cc
-]
-
+-- a status that is due blames no write
 pub due_unwritten : (files : Option Files) (boot : List ℕ) (schedule : Option (List ℕ)) (text : List ℕ) (s : Status) → TellsFiles files boot schedule s text → s ≡ WriteFault → ⊥
 due_unwritten files boot schedule text s h e = subst (λ (x : Status). TellsFiles files boot schedule x text) e h
+
+-- and the program that has said it blames no read
+pub wrote_unread : (files : Option Files) (boot : List ℕ) (schedule : Option (List ℕ)) (text : List ℕ) (before after : Option (List ℕ)) (k k' : ℕ) (due s : Status) → TellsFiles files boot schedule due text → Wrote due text before after k k' s → (i : Input) → s ≡ ReadFault i → ⊥
+wrote_unread files boot schedule text before after k k' due s h w i e = elim w [
+  | inl a ↦ subst (λ (x : Status). TellsFiles files boot schedule x text) (sym a.ends ∙ e) h
+  | inr b ↦ let f : WriteFault ≡ ReadFault i = sym b.ends ∙ e in cc
+]
 
 says_boot : (files : Option Files) (boot : List ℕ) (b : Boot) (text : List ℕ) → ExplainsSystem files boot b text → SaysBoot files boot b
 says_boot files boot b text h = record { bytes = h.bytes; file = h.file; says = h.told.says }
@@ -147,19 +110,10 @@ one_end told files boot schedule old new k k' due s is runs sink want some quiet
   ]
 ]
 
--- no reason blames the sink
-pub no_sink : (files : Option Files) (boot : List ℕ) (schedule : Option (List ℕ)) (old new k : ℕ) (s : Status) → NoInputs files boot schedule old new s → BlamesSink k k s
-no_sink files boot (Some schedule) old new k s h = never_sink boot schedule files old new k s h
-no_sink files boot None old new k Done h = refl
-no_sink files boot None old new k Usage h = refl
-no_sink files boot None old new k (ReadFault i) h = refl
-no_sink files boot None old new k (NoMemory lack) h = refl
-no_sink files boot None old new k WriteFault h = absurd h
-no_sink files boot None old new k (BootRefused number place) h = refl
-no_sink files boot None old new k (ScheduleRefused line why) h = refl
-no_sink files boot None old new k (TooLong i) h = refl
-no_sink files boot None old new k (Worn from to) h = refl
-no_sink files boot None old new k (TraceRefused line why) h = refl
+-- no reason blames a write
+pub inputs_unwritten : (files : Option Files) (boot : List ℕ) (schedule : Option (List ℕ)) (old new : ℕ) (s : Status) → NoInputs files boot schedule old new s → s ≡ WriteFault → ⊥
+inputs_unwritten files boot None old new s h e = subst (NoBoot files boot old new) e h
+inputs_unwritten files boot (Some schedule) old new s h e = subst (NoFiles files boot schedule old new) e h
 
 -- what is said of a boot file that breaks a rule, and of one that breaks none
 pub refused_told : (files : Option Files) (boot : List ℕ) (schedule : Option (List ℕ)) (rule : BootRule) (number place : ℕ) (text : Vec ℕ Global) (told : BootTold) → told ≡ told_as.Refused rule place text → number ≡ rule_number rule → TellsRead files boot told → TellsFiles files boot schedule (BootRefused number place) text.items
@@ -174,11 +128,6 @@ system_told files boot b text told is h =
 
 pub system_says : (files : Option Files) (boot : List ℕ) (b : Boot) (text : Vec ℕ Global) (told : BootTold) → told ≡ told_as.System b text → TellsRead files boot told → SaysBoot files boot b
 system_says files boot b text told is h = says_boot files boot b text.items (system_told files boot b text told is h)
-
--- no file was asked for but the boot file
-pub asks_boot : {S : Type 0} (asked : S → List ℕ → S → Type 0) (files : Option Files) (boot : List ℕ) (schedule : Option (List ℕ)) (old new : S) → asked old boot new → AsksNamed asked files boot schedule old new
-asks_boot asked files boot None old new h = h
-asks_boot asked files boot (Some schedule) old new h = inl h
 
 -- where there is no system nothing is said
 pub no_system : (files : Option Files) (boot : List ℕ) (schedule : Option (List ℕ)) (old new : ℕ) (s : Status) → NoBoot files boot old new s → NoInputs files boot schedule old new s
@@ -197,3 +146,38 @@ no_system files boot (Some schedule) old new (TooLong input.Schedule) h = absurd
 no_system files boot (Some schedule) old new (TooLong input.Trace) h = absurd h
 no_system files boot (Some schedule) old new (Worn from to) h = absurd h
 no_system files boot (Some schedule) old new (TraceRefused line why) h = absurd h
+
+-- files were explained
+pub explains_meet : {F K : Type 0} (boot : List ℕ) (schedule : Option (List ℕ)) (a : Around F K) (due s : Status) (text : List ℕ) → TellsFiles (a.shelf.told a.shelf.old) boot schedule due text
+    → Wrote due text (a.sink.told a.sink.old) (a.sink.told a.sink.new) (a.sink.faults a.sink.old) (a.sink.faults a.sink.new) s → MeetsShelf (perhaps_both boot schedule) a.shelf Done → MeetsSink a.sink s → ExplainMeets boot schedule a None s
+explains_meet boot schedule a due s text tells wrote shelf sink =
+    let files = a.shelf.told a.shelf.old in
+    let old = a.shelf.faults a.shelf.old in
+    let new = a.shelf.faults a.shelf.new in
+    let runs = as_run files boot schedule text (a.sink.told a.sink.old) (a.sink.told a.sink.new) old new (a.sink.faults a.sink.old) (a.sink.faults a.sink.new) due s tells wrote in
+    record {
+      says = inl (record { due = due; text = text; tells = tells; wrote = wrote });
+      as_run = runs;
+      decides = λ there end told before some never. one_end files there boot schedule old new (a.sink.faults a.sink.old) (a.sink.faults a.sink.new) end s told runs sink.blames before some never.reads never.writes;
+      no_world = refl;
+      met = record {
+        shelf = all_read (perhaps_both boot schedule) a.shelf s shelf (wrote_unread files boot schedule text (a.sink.told a.sink.old) (a.sink.told a.sink.new) (a.sink.faults a.sink.old) (a.sink.faults a.sink.new) due s tells wrote);
+        sink = sink;
+      };
+    }
+
+-- none were, and nothing was done
+pub never_meets : {F K : Type 0} (boot : List ℕ) (schedule : Option (List ℕ)) (a : Around F K) (world : Option World) (s : Status) → NoInputs (a.shelf.told a.shelf.old) boot schedule (a.shelf.faults a.shelf.old) (a.shelf.faults a.shelf.new) s → MeetsShelf (perhaps_both boot schedule) a.shelf s
+    → a.sink.new ≡ a.sink.old → world ≡ None → ExplainMeets boot schedule a world s
+never_meets boot schedule a world s why shelf same no_world =
+    let files = a.shelf.told a.shelf.old in
+    let old = a.shelf.faults a.shelf.old in
+    let new = a.shelf.faults a.shelf.new in
+    let sink : MeetsSink a.sink s = unwritten a.sink s same (inputs_unwritten files boot schedule old new s why) in
+    record {
+      says = inr (record { why = why; nothing = ap a.sink.told same; no_world = no_world });
+      as_run = inr (inr why);
+      decides = λ there end told before some never. one_end files there boot schedule old new (a.sink.faults a.sink.old) (a.sink.faults a.sink.new) end s told (inr (inr why)) sink.blames before some never.reads never.writes;
+      no_world = no_world;
+      met = record { shelf = shelf; sink = sink };
+    }

@@ -1,13 +1,14 @@
 pub mod Names
 pub mod Reading
 pub mod Schedules
-pub mod Endings
+pub mod Outcomes
+pub mod Meeting
+pub mod Running
+mod Charting
+pub mod CheckOutcomes
+mod Checking
 pub mod Drills
-mod Outcomes
-mod ChartOutcomes
-mod CheckOutcomes
-pub mod ExplainOutcomes
-mod RunsChecked
-mod Sound
-mod DrillsChecked
-mod Whose
+mod ExplainOutcomes
+pub mod Obeying
+pub mod Silent
+pub mod Carrying

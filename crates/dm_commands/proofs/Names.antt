@@ -1,73 +1,58 @@
 -- What the proofs of this crate name of what lies below it.
+pub use Rattle.std.proofs.Common.{Bor, ◌≡◌, ◌≢◌, ◌≤◌, ◌<◌, ◌⊎◌, ℕ, suc, ◌+◌, ◌-◌, Bool, true, false, cond, List, [], ◌∷◌, ◌++◌, length, take, drop, refl, ap, ap₂, ◌∙◌, sym, subst, inl, inr, arith, rules, Option, None, Some, Result, Ok, Err, append_assoc, length-append, length-drop, vec_len}
+pub use Rattle.std.proofs.lemmas.Bool.{false≢true}
+pub use Rattle.std.proofs.lemmas.Bool.Decides.{nat_tests}
+pub use Rattle.std.proofs.lemmas.List.{drop-drop, length-take-le, take-append-drop}
+pub use Rattle.std.proofs.lemmas.List.Elements.{All-cons, All-head, All-nil, All-tail}
+pub use Rattle.std.specs.List.{All}
+pub use Rattle.std.specs.Prelude.{◌==◌, ◌&&◌, if◌then◌else◌, nat_le, nat_lt, map, option_map, OnErr, OnOk, Vec, ⊤}
+pub use Rattle.std.specs.Result.{IsErr, IsErrAnd}
+pub use Rattle.std.specs.declared.alloc.Global.{Global}
 pub use Rattle.dm_memory.specs.declared.NoMemory.{NoMemory as TheNoMemory}
-pub use Rattle.dm_records.proofs.Names.{Bool, Option, Pid, Some, ap, arith, cond, false, if◌then◌else◌, refl, sym, true, ◌∙◌, ◌≡◌}
-pub use Rattle.dm_outside.specs.Outside.{ReadsFile, ReadsTold, RoseOrFull}
-pub use Rattle.dm_outside.specs.declared.Failed.{Failed}
-pub use Rattle.dm_processor.proofs.Names.{List, [], length, length-append, length-take-le, nat_tests, suc, take, zero, ℕ, ◌++◌, ◌+◌, ◌-◌, ◌<◌, ◌∷◌, ◌≤◌}
-pub use Rattle.dm_wire.proofs.Names.{vec_len}
-pub use Rattle.dm_stream.proofs.Names.{append-nil, inl, inr, nat_lt, subst, ◌≢◌, ◌⊎◌}
-pub use Rattle.dm_linktable.proofs.Names.{◌&&◌, ◌==◌}
-pub use Rattle.dm_packet.proofs.Names.{All, MsgId, OnOk, append_assoc, nat_le, take-append-drop}
+pub use Rattle.dm_link.specs.declared.Pid.{Pid}
+pub use Rattle.dm_onekernel.specs.Boot.{IsValid}
+pub use Rattle.dm_onekernel.specs.declared.boot.Boot.{Boot}
 pub use Rattle.dm_schedule.proofs.Names.{Accepted, Refused, Schedule, also, ends_line, is_return, keyword_of, line_ends, number_of_word, onto_first, process_of, words}
 pub use Rattle.dm_schedule.specs.Keywords.{Machine, Operand, Packet, Process, Rounds, operands}
 unfoldable pub use Rattle.dm_schedule.specs.Lines.{lines}
 pub use Rattle.dm_schedule.specs.Operands.{Value, Values, value_of, values_of, within, ◌>>=◌}
 pub use Rattle.dm_schedule.specs.Schedule.{begins_comment, directive_made, line_and_rest}
 unfoldable pub use Rattle.dm_schedule.specs.Schedule.{directive_of, line_directive, lines_from}
+pub use Rattle.dm_schedule.specs.declared.Directive.{Directive}
 pub use Rattle.dm_schedule.specs.declared.LineFault.{LineFault}
 pub use Rattle.dm_schedule.specs.declared.LineFault.TheVariants.{SameMachine, WrongCount}
 pub use Rattle.dm_schedule.specs.declared.keywords.Keyword.{Keyword}
 pub use Rattle.dm_schedule.specs.declared.keywords.Keyword.TheVariants.{Deliver, Migrate, Round, Settle, Spin, Tick, Turn}
-pub use Rattle.dm_draw.proofs.Drawing.{drawn_next, drawn_none}
-pub use Rattle.dm_draw.proofs.Names.{All-append, All-cons, All-nil, Boot, Directive, IsDrawn, IsValid, boot_of_machines, deliver_drawn, directives_drawn, drawn, migrate_drawn, round_drawn, state_behind, stepped, tick_drawn, turn_drawn}
-pub use Rattle.dm_draw.proofs.Within.{boot_machines, directives_fit, drawn_below}
-unfoldable pub use Rattle.dm_draw.specs.Directives.{directive_drawn}
-pub use Rattle.dm_asm.proofs.Names.{Vec, option_map}
-pub use Rattle.dm_linkupdate.proofs.Names.{None}
-pub use Rattle.dm_statebytes.proofs.Names.{length-drop}
-pub use Rattle.dm_migrate.proofs.Names.{Err, Ok, Result, ap₂}
-pub use Rattle.dm_switchboard.proofs.Imports.{OnErr}
-pub use Rattle.dm_laws.proofs.Names.{false≢true, ⊤}
-pub use Rattle.dm_boot.proofs.Imports.{Bor}
+pub use Rattle.dm_draw.proofs.Names.{IsDrawn}
+pub use Rattle.dm_draw.specs.Boot.{boot_of_machines}
+pub use Rattle.dm_draw.specs.declared.drill.Drill.{Drill}
 pub use Rattle.dm_boot.specs.Rules.{rule_number}
 pub use Rattle.dm_boot.specs.declared.rules.BootRule.{BootRule}
-pub use Rattle.dm_rule.proofs.Names.{Line, Point, Todo, all_of, first_point}
-pub use Rattle.dm_kernel.proofs.Names.{All-head, All-tail, Global}
-pub use Rattle.dm_movelaws.proofs.Open.Moves.{leads_of}
-pub use Rattle.dm_text.proofs.Names.{LineFits, text_of_lines}
-pub use Rattle.dm_explain.specs.Explained.{IsToldValid}
 pub use Rattle.dm_explain.specs.declared.explain.BootTold.{BootTold}
-pub use Rattle.dm_node.proofs.Names.{IsErrAnd}
-pub use Rattle.dm_mirror.proofs.Leading.{good_leads}
-pub use Rattle.dm_mirror.proofs.Names.{IsDirective, drop-drop, first_world, joined, stands_once_always}
-pub use Rattle.dm_run.proofs.Comes.{comes_first, lacks_there}
-pub use Rattle.dm_run.proofs.Endings.{worn_same}
-pub use Rattle.dm_run.proofs.Names.{Blames, IfErr, IsErr, IsFor, IsWhole, Lasts, Wears, World, appended, drop}
-pub use Rattle.dm_run.specs.Appended.{IsCutShort}
-pub use Rattle.dm_drawing.proofs.Names.{IsBeforeWorn, are_directives}
-pub use Rattle.dm_drawing.specs.declared.drawing.Drawn.{Drawn}
-pub use Rattle.dm_check.proofs.Names.{HasHome, IsGood, IsTrace, Open, Verdict, good_verdict, verdict}
-pub use Rattle.dm_check.proofs.Runs.{beginnings_open, runs_ended}
-pub use Rattle.dm_check.specs.Faults.{number_of_trace_fault}
-pub use Rattle.dm_check.specs.declared.fault.TraceFault.{TraceFault}
-pub use Rattle.dm_drill.proofs.Going.{nothing_drilled}
-pub use Rattle.dm_drill.proofs.Names.{Drill, DrillWears, Ended, Stop, summary, text_shown}
-pub use Rattle.dm_drill.specs.Counts.{totals_of}
-pub use Rattle.dm_words.specs.DrillWords.{IsWithin}
-pub use Rattle.dm_ending.specs.Status.{BlamesShelf, BlamesSink, EndsAtRead, IsWant}
+pub use Rattle.dm_world.specs.declared.world.World.{World}
+pub use Rattle.dm_outside.specs.Outside.{ReadsFile, ReadsTold, RoseOrFull, appended}
+pub use Rattle.dm_outside.specs.declared.Failed.{Failed}
+pub use Rattle.dm_ending.specs.Ended.{ended_with}
+pub use Rattle.dm_ending.specs.Status.{BlamesShelf, BlamesSink, IsWant}
 pub use Rattle.dm_ending.specs.declared.status.Input.{Input}
 pub use Rattle.dm_ending.specs.declared.status.Status.{Status}
 pub use Rattle.dm_ending.specs.declared.status.Status.TheVariants.{BootRefused, Done, NoMemory, ReadFault, ScheduleRefused, TooLong, TraceRefused, Usage, Worn, WriteFault}
-pub use Rattle.dm_commands.specs.Asked.{AsksBoth, AsksFiles, FailsSecond}
-pub use Rattle.dm_commands.specs.Charts.{ChartSays, unless_failed}
-pub use Rattle.dm_commands.specs.Checks.{Accepts, CheckSays, GivesGood, GivesRefused, HasTrace, NoBytes, NoTrace, good_line, most_trace}
-pub use Rattle.dm_commands.specs.Drills.{DrilledSays}
+pub use Rattle.dm_ending.specs.declared.stop.Stop.{Stop}
+pub use Rattle.dm_run.specs.Appended.{IsCutShort}
+pub use Rattle.dm_run.specs.Coming.{Blames}
+pub use Rattle.dm_run.specs.Runs.{IsFor}
+pub use Rattle.dm_check.specs.Good.{good_verdict}
+pub use Rattle.dm_check.specs.Judge.{Verdict}
+pub use Rattle.dm_drill.proofs.Going.{nothing_drilled}
+pub use Rattle.dm_drill.specs.Drilled.{Ended}
+pub use Rattle.dm_words.specs.DrillWords.{IsWithin}
+pub use Rattle.dm_words.specs.Refused.{status_of_no}
+pub use Rattle.dm_words.specs.Request.{Chart, Check, Explain, Request, Run}
+pub use Rattle.dm_words.specs.Words.{IsInRange, request_of, request_said}
+pub use Rattle.dm_words.specs.declared.words.Request.{Request as TheRequest}
+pub use Rattle.dm_words.specs.declared.words.WordsError.{WordsError}
+pub use Rattle.dm_commands.specs.Checks.{HasTrace, NoTrace, most_trace}
 unfoldable pub use Rattle.dm_commands.specs.Drills.{directives_of_drill}
-pub use Rattle.dm_ending.specs.Ended.{ended_with}
-pub use Rattle.dm_commands.specs.Explains.{AsksNamed, BeforeRun, ExplainsSystem, FailsNamed, NoInputs, SaysInputs, TellsFiles, TellsRead, TellsSchedule, Wrote}
+pub use Rattle.dm_commands.specs.Explains.{BeforeRun, ExplainsSystem, NoInputs, SaysInputs, TellsFiles, TellsRead, TellsSchedule, Wrote}
 pub use Rattle.dm_commands.specs.Files.{IsLonger, SoFar, StartsSo}
 pub use Rattle.dm_commands.specs.Inputs.{AcceptsFiles, AfterBoot, HasFile, NoBoot, NoDirectives, NoFiles, RefusesBoot, RefusesSchedule, SaysBoot, SaysDirectives, most_boot, most_schedule}
-pub use Rattle.dm_commands.specs.Laws.{DrillsCheck, IsGoodDrill, IsGoodWornDrill, IsKept, RunsCheck, SaysItIs, WornRunsCheck}
-pub use Rattle.dm_commands.specs.Outside.{NeverFails, Outside}
-pub use Rattle.dm_commands.specs.Runs.{RunSays}
-pub use Rattle.dm_commands.specs.Theorem.{IsSound, PrintsSoundly, RunsAreSound}

@@ -1,7 +1,7 @@
 -- Files say one thing: why there is no run is a function of them, where no read fails and memory is there.
 use Rattle.dm_commands.proofs.Names.{◌≡◌, ◌⊎◌, inl, inr, ◌≤◌, ◌<◌, ℕ, true, false, List, length, refl, ap, ap₂, sym, subst, ◌∙◌, cond, nat_lt, arith, nat_tests, Option, Some, Result, Ok, Err, Boot, BootRule, rule_number, Directive}
 use Rattle.dm_commands.proofs.Names.{Schedule, Accepted, Refused, RoseOrFull, Status, Done, Usage, ReadFault, NoMemory, WriteFault, BootRefused, ScheduleRefused, TooLong, Worn, TraceRefused, AcceptsFiles, AfterBoot, HasFile, NoFiles}
-use Rattle.dm_commands.proofs.Names.{RefusesBoot, RefusesSchedule, SaysBoot, SaysDirectives, most_boot, most_schedule, IsLonger, BlamesSink, IsWant, None}
+use Rattle.dm_commands.proofs.Names.{RefusesBoot, RefusesSchedule, SaysBoot, SaysDirectives, most_boot, most_schedule, IsLonger, IsWant, None}
 use Rattle.dm_boot.specs.Boot.{boot_of}
 use Rattle.dm_schedule.specs.Schedule.{directives_of, number_of_fault}
 use Rattle.dm_ending.specs.declared.status.Input.TheVariants as input
@@ -128,39 +128,14 @@ one_reason boot schedule told files old new s t is h g some quiet = elim (want_o
   | inr other ↦ inl (sym (no_files files boot schedule old new t quiet other (subst (λ f. NoFiles f boot schedule old new t) is h)) ∙ no_files files boot schedule old new s quiet some g)
 ]
 
-not_run : (boot schedule : List ℕ) (files : Files) (old new : ℕ) (s : Status) → s ≡ Done → NoFiles (Some files) boot schedule old new s → ⊥
-not_run boot schedule files old new Done e h = h
-not_run boot schedule files old new Usage e h = h
-not_run boot schedule files old new (ReadFault i) e h = cc
-not_run boot schedule files old new (NoMemory lack) e h = cc
-not_run boot schedule files old new WriteFault e h = h
-not_run boot schedule files old new (BootRefused number place) e h = cc
-not_run boot schedule files old new (ScheduleRefused line why) e h = cc
-not_run boot schedule files old new (TooLong i) e h = cc
-not_run boot schedule files old new (Worn from to) e h = h
-not_run boot schedule files old new (TraceRefused line why) e h = h
-
 -- where files are accepted, only want of memory comes before the run
 pub only_want : (boot schedule : List ℕ) (told : Option Files) (files : Files) (old new : ℕ) (b : Boot) (ds : List Directive) (t : Status) → told ≡ Some files → NoFiles told boot schedule old new t → AcceptsFiles (Some files) boot schedule b ds → (RoseOrFull old new → ⊥) → IsWant t
 only_want boot schedule told files old new b ds t is h a quiet = elim (want_or_not t) [
   | inl want ↦ want
   | inr other ↦
       let k : NoFiles (Some files) boot schedule old new t = subst (λ f. NoFiles f boot schedule old new t) is h in
-      absurd (not_run boot schedule files old new t (sym (no_files files boot schedule old new t quiet other k) ∙ said_files files boot schedule b ds a) k)
+      absurd (subst (NoFiles (Some files) boot schedule old new) (sym (no_files files boot schedule old new t quiet other k) ∙ said_files files boot schedule b ds a) k)
 ]
-
--- no reason blames the sink
-pub never_sink : (boot schedule : List ℕ) (told : Option Files) (old new k : ℕ) (s : Status) → NoFiles told boot schedule old new s → BlamesSink k k s
-never_sink boot schedule told old new k Done h = refl
-never_sink boot schedule told old new k Usage h = refl
-never_sink boot schedule told old new k (ReadFault i) h = refl
-never_sink boot schedule told old new k (NoMemory lack) h = refl
-never_sink boot schedule told old new k WriteFault h = absurd h
-never_sink boot schedule told old new k (BootRefused number place) h = refl
-never_sink boot schedule told old new k (ScheduleRefused line why) h = refl
-never_sink boot schedule told old new k (TooLong i) h = refl
-never_sink boot schedule told old new k (Worn from to) h = refl
-never_sink boot schedule told old new k (TraceRefused line why) h = refl
 
 -- and files that are accepted say one system and one list of directives
 pub record SaysSame (b c : Boot) (ds es : List Directive) : Type 0 where

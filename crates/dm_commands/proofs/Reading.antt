@@ -1,8 +1,6 @@
 -- A file that is read piece by piece.
 use Rattle.dm_commands.proofs.Names.{◌≡◌, ℕ, ◌+◌, ◌-◌, ◌≤◌, List, ◌++◌, length, take, drop, ap, sym, subst, ◌∙◌, append_assoc, length-append, arith, take-append-drop, length-take-le, length-drop, drop-drop, Option, Ok, ReadsFile, ReadsTold}
-use Rattle.dm_commands.proofs.Names.{StartsSo, SoFar}
-use Rattle.dm_processor.proofs.Names.{None}
-use Rattle.std.proofs.Common.{Some}
+use Rattle.dm_commands.proofs.Names.{StartsSo, SoFar, None, Some}
 
 -- the bytes after those that were read, once more were read
 pub rest_after : (content bytes into : List ℕ) (n : ℕ) → take n into ≡ take n (drop (length bytes) content) → n ≤ length content - length bytes → content ≡ bytes ++ drop (length bytes) content → content ≡ (bytes ++ take n into) ++ drop (length (bytes ++ take n into)) content

@@ -2,10 +2,24 @@
 use Rattle.dm_commands.proofs.Names.{◌≡◌, ◌≢◌, ◌≤◌, ◌<◌, ℕ, suc, ◌+◌, ◌==◌, Bool, true, false, ◌&&◌, nat_lt, nat_le, if◌then◌else◌, List, [], ◌∷◌, length, refl, subst, arith, ⊤, All, All-nil, All-cons, nat_tests, Option, Some, Result, Ok}
 use Rattle.dm_commands.proofs.Names.{Err, Pid, Directive, LineFault, SameMachine, WrongCount, Keyword, Turn, Tick, Deliver, Migrate, Round, Spin, Settle, keyword_of, operands, Operand, Machine, Process, Packet, Rounds, lines, words}
 use Rattle.dm_commands.proofs.Names.{onto_first, ends_line, is_return, line_ends, number_of_word, process_of, Value, Values, value_of, values_of, within, ◌>>=◌, Schedule, Accepted, Refused, directive_made, directive_of, begins_comment}
-use Rattle.dm_commands.proofs.Names.{line_directive, also, line_and_rest, lines_from, IsFor, HasHome, None}
+use Rattle.dm_commands.proofs.Names.{line_directive, also, line_and_rest, lines_from, IsFor, None}
+use Rattle.dm_schedule.specs.declared.Step.{Step}
 use Rattle.dm_schedule.specs.declared.Step.TheVariants as step
 use Rattle.dm_schedule.specs.declared.Directive.TheVariants as directive
 use Rattle.dm_schedule.specs.Schedule.{directives_of}
+
+-- a process that is to move is at home on one of so many machines
+abbrev pub IsHome : ℕ → Step → Type 0
+IsHome machines (step.Turn m) = ⊤
+IsHome machines (step.Tick m) = ⊤
+IsHome machines (step.Deliver a b k) = ⊤
+IsHome machines (step.Migrate p m) = p.home < machines
+
+abbrev pub HasHome : ℕ → Directive → Type 0
+HasHome machines (directive.One s) = IsHome machines s
+HasHome machines directive.Round = ⊤
+HasHome machines (directive.Spin n) = ⊤
+HasHome machines directive.Settle = ⊤
 
 -- a directive for so many machines, whose process is at home on one of them
 abbrev IsFit : ℕ → Directive → Type 0

@@ -9,17 +9,18 @@ use Rattle.dm_schedule.specs.Schedule.{Accepted, Refused, directives_of, number_
 use Rattle.dm_boot.specs.declared.rules.BootRule.{BootRule}
 use Rattle.dm_boot.specs.Rules.{rule_number}
 use Rattle.dm_outside.specs.Outside.{RoseOrFull, appended}
+use Rattle.dm_world.specs.declared.world.World.{World}
 use Rattle.dm_run.specs.Appended.{IsCutShort}
 use Rattle.dm_explain.specs.declared.explain.BootTold.{BootTold}
 use Rattle.dm_explain.specs.Explained.{ExplainsBoot, TellsBoot, TellsRefused}
 use Rattle.dm_explain.specs.Schedules.{directives_told, line_told}
-use Rattle.dm_ending.specs.declared.status.Input.TheVariants as input
 use Rattle.dm_ending.specs.declared.status.Status.{Status}
-use Rattle.dm_ending.specs.declared.status.Status.TheVariants.{Done, ReadFault, WriteFault, BootRefused, ScheduleRefused}
-use Rattle.dm_commands.specs.Asked.{AsksFiles, FailsAlone, FailsSecond}
+use Rattle.dm_ending.specs.declared.status.Status.TheVariants.{Done, WriteFault, BootRefused, ScheduleRefused}
+use Rattle.dm_commands.specs.Asked.{perhaps_both}
 use Rattle.dm_commands.specs.Inputs.{AcceptsFiles, HasFile, NoBoot, NoFiles, SaysBoot, most_boot, most_schedule}
-use Rattle.dm_commands.specs.Outside.{Outside, NeverFails}
-use Rattle.dm_ending.specs.Status.{BlamesShelf, BlamesSink, IsWant}
+use Rattle.dm_commands.specs.Meets.{MeetsOutside}
+use Rattle.dm_commands.specs.Outside.{Around, Never, NeverFails, Outside, outside}
+use Rattle.dm_ending.specs.Status.{IsWant}
 
 -- the bytes of the boot file of this name, and what is said of them
 pub record TellsRead (files : Option (List ℕ → Option (List ℕ))) (name : List ℕ) (told : BootTold) : Type 0 where
@@ -120,14 +121,9 @@ abbrev pub NoInputs : Option (List ℕ → Option (List ℕ)) → List ℕ → O
 NoInputs files boot None old new s = NoBoot files boot old new s
 NoInputs files boot (Some schedule) old new s = NoFiles files boot schedule old new s
 
--- none were, for a reason, and nothing was written
-pub record NeverExplains (boot : List ℕ) (schedule : Option (List ℕ)) (o : Outside) (s : Status) : Type 0 where
-  pub why : NoInputs o.files boot schedule o.reads_before o.reads_after s
-  pub nothing : o.after ≡ o.before
-
--- what a status says
+-- or none were
 abbrev pub SaysExplain : List ℕ → Option (List ℕ) → Outside → Status → Type 0
-SaysExplain boot schedule o s = Explains boot schedule o s ⊎ NeverExplains boot schedule o s
+SaysExplain boot schedule o s = Explains boot schedule o s ⊎ Never (NoInputs o.files boot schedule) o s
 
 -- these files say a system, and directives where there is a schedule
 pub record SaysSystem (files : Option (List ℕ → Option (List ℕ))) (boot : List ℕ) : Type 0 where
@@ -157,24 +153,10 @@ Decides boot schedule o s =
     (files : List ℕ → Option (List ℕ)) (due : Status) → o.files ≡ Some files
     → BeforeRun (Some files) boot schedule o.reads_before o.reads_after due → (IsWant due → ⊥) → NeverFails o → (s ≡ due) ⊎ IsWant s
 
--- which files were asked for
-abbrev pub AsksNamed : {S : Type 0} → (S → List ℕ → S → Type 0) → Option (List ℕ → Option (List ℕ)) → List ℕ → Option (List ℕ) → S → S → Type 0
-AsksNamed asked files boot None old new = asked old boot new
-AsksNamed asked files boot (Some schedule) old new = AsksFiles asked files boot schedule old new
-
--- a read of the schedule failed
-abbrev pub FailsNamed : {S : Type 0} → (S → List ℕ → S → Type 0) → (S → ℕ) → Option (List ℕ → Option (List ℕ)) → List ℕ → Option (List ℕ) → S → S → Type 0
-FailsNamed asked faults files boot None old new = ⊥
-FailsNamed asked faults files boot (Some schedule) old new = FailsSecond asked faults files boot schedule old new
-
 -- all that the command promises, with files of these names
-pub record ExplainMeets {F : Type 0} (asked : F → List ℕ → F → Type 0) (faults : F → ℕ) (boot : List ℕ) (schedule : Option (List ℕ)) (o : Outside) (old new : F) (s : Status) : Type 0 where
-  pub says : SaysExplain boot schedule o s
-  pub as_run : AsRun boot schedule o s
-  pub decides : Decides boot schedule o s
-  pub asks : AsksNamed asked o.files boot schedule old new
-  pub boot_fault : s ≡ ReadFault input.Boot → FailsAlone asked faults boot old new
-  pub schedule_fault : s ≡ ReadFault input.Schedule → FailsNamed asked faults o.files boot schedule old new
-  pub no_world : o.world ≡ None
-  pub shelf : BlamesShelf o.reads_before o.reads_after s
-  pub sink : BlamesSink o.writes_before o.writes_after s
+pub record ExplainMeets {F K : Type 0} (boot : List ℕ) (schedule : Option (List ℕ)) (a : Around F K) (world : Option World) (s : Status) : Type 0 where
+  pub says : SaysExplain boot schedule (outside a world) s
+  pub as_run : AsRun boot schedule (outside a world) s
+  pub decides : Decides boot schedule (outside a world) s
+  pub no_world : world ≡ None
+  pub met : MeetsOutside (perhaps_both boot schedule) a s

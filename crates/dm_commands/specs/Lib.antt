@@ -1,11 +1,12 @@
+pub mod Outside
 pub mod Files
 pub mod Inputs
 pub mod Asked
-pub mod Outside
+pub mod Meets
 pub mod Runs
 pub mod Checks
 pub mod Drills
 pub mod Charts
 pub mod Explains
-pub mod Laws
-pub mod Theorem
+pub mod Commands
+pub mod Says

@@ -2,11 +2,11 @@
 ghost use Rattle.std.specs.Prelude.{◌≡◌, ◌≤◌, ℕ, List, None, length};
 ghost use Rattle.dm_onekernel.specs.declared.boot.Boot.{Boot as TheBoot};
 ghost use Rattle.dm_onekernel.specs.Boot.{IsValid};
-ghost use Rattle.dm_ending.specs.declared.status.Input.TheVariants as input_;
-ghost use Rattle.dm_commands.specs.Asked.{AsksFiles, FailsAlone, FailsSecond};
-ghost use Rattle.dm_commands.specs.Checks.{Accepts, CheckRefuses, CheckSays, Finds, IsGoodTrace, SaysCheck, end_word, good_line};
-ghost use Rattle.dm_commands.specs.Outside.{around};
-ghost use Rattle.dm_ending.specs.Status.{BlamesShelf, BlamesSink, EndsAtRead, EndsAtWrite};
+ghost use Rattle.dm_commands.specs.Checks.{CheckMeets, CheckSays, IsGoodTrace, end_word, good_line};
+ghost use Rattle.dm_commands.specs.Meets.{MeetsSink};
+ghost use Rattle.dm_run.specs.Went.{RunsGo};
+ghost use Rattle.dm_commands.specs.Says.{traced_by_world};
+ghost use Rattle.dm_commands.specs.Outside.{around, shelf_around, sink_around};
 
 use crate::inputs::{Traced, read_trace_files};
 use arrayvec::ArrayString;
@@ -24,25 +24,10 @@ pub fn check_files<F: Shelf, K: Sink>(
     shelf: &mut F,
     out: &mut K,
 ) -> Status
-    ensures says { SaysCheck boot.now trace.now
-        (around F.told F.faults K.told K.faults shelf.old shelf.new out.old out.new None) result }
-    ensures accepts { Accepts boot.now trace.now
-        (around F.told F.faults K.told K.faults shelf.old shelf.new out.old out.new None) result }
-    ensures finds { Finds boot.now trace.now
-        (around F.told F.faults K.told K.faults shelf.old shelf.new out.old out.new None) result }
-    ensures refuses { CheckRefuses boot.now trace.now
-        (around F.told F.faults K.told K.faults shelf.old shelf.new out.old out.new None) result }
-    ensures asks { AsksFiles F.asked (F.told shelf.old) boot.now trace.now shelf.old shelf.new }
-    ensures boot_fault { result ≡ Status.ReadFault input_.Boot → FailsAlone F.asked F.faults boot.now shelf.old shelf.new }
-    ensures trace_fault { result ≡ Status.ReadFault input_.Trace →
-        FailsSecond F.asked F.faults (F.told shelf.old) boot.now trace.now shelf.old shelf.new }
-    ensures same { F.told shelf.new ≡ F.told shelf.old }
-    ensures shelf { BlamesShelf (F.faults shelf.old) (F.faults shelf.new) result }
-    ensures last_read { EndsAtRead (F.last_failed shelf.new) result }
-    ensures sink { BlamesSink (K.faults out.old) (K.faults out.new) result }
-    ensures last_write { EndsAtWrite (K.last_failed out.new) result }
-    ensures reads { F.faults shelf.old ≤ F.faults shelf.new }
-    ensures writes { K.faults out.old ≤ K.faults out.new }
+    requires law { RunsGo }
+    ensures meets { CheckMeets (CheckSays traced_by_world) boot.now trace.now
+        (around (shelf_around F.asked F.told F.faults F.last_failed shelf.old shelf.new)
+            (sink_around K.told K.faults K.last_failed out.old out.new)) None result }
 {
     match read_trace_files(alloc, boot, trace, shelf) {
         Ok(traced) => check(alloc, traced, out),
@@ -52,12 +37,11 @@ pub fn check_files<F: Shelf, K: Sink>(
 
 /// Checks a trace, and says that it is good.
 fn check<K: Sink>(alloc: Global, traced: Traced, out: &mut K) -> Status
+    requires law { RunsGo }
     requires valid { IsValid traced.boot }
     requires short { length traced.trace.items ≤ MOST_TRACE }
-    ensures says { CheckSays traced.boot traced.trace.items (K.told out.old) (K.told out.new) result }
-    ensures sink { BlamesSink (K.faults out.old) (K.faults out.new) result }
-    ensures last_write { EndsAtWrite (K.last_failed out.new) result }
-    ensures writes { K.faults out.old ≤ K.faults out.new }
+    ensures says { CheckSays traced_by_world traced.boot traced.trace.items (K.told out.old) (K.told out.new) result }
+    ensures sink { MeetsSink (sink_around K.told K.faults K.last_failed out.old out.new) result }
 {
     let Traced { boot, trace } = traced;
     match check_trace(alloc, boot, trace.as_slice()) {
@@ -72,11 +56,9 @@ fn check<K: Sink>(alloc: Global, traced: Traced, out: &mut K) -> Status
 
 /// Says that a trace is good.
 fn say_good<K: Sink>(good: Good, out: &mut K) -> Status
-    ensures says { (b : TheBoot) (bytes : List ℕ) → IsGoodTrace b bytes good.groups good.ended →
-        CheckSays b bytes (K.told out.old) (K.told out.new) result }
-    ensures sink { BlamesSink (K.faults out.old) (K.faults out.new) result }
-    ensures last_write { EndsAtWrite (K.last_failed out.new) result }
-    ensures writes { K.faults out.old ≤ K.faults out.new }
+    ensures says { (b : TheBoot) (bytes : List ℕ) → IsGoodTrace traced_by_world b bytes good.groups good.ended →
+        CheckSays traced_by_world b bytes (K.told out.old) (K.told out.new) result }
+    ensures sink { MeetsSink (sink_around K.told K.faults K.last_failed out.old out.new) result }
 {
     let line = good_line(good);
     match write_all(out, line.as_bytes()) {

@@ -2,11 +2,14 @@
 ghost use Rattle.std.specs.Prelude.{◌≡◌, ◌≤◌, IfOk, length};
 ghost use Rattle.std.specs.List.{All};
 ghost use Rattle.dm_onekernel.specs.Boot.{IsValid};
-ghost use Rattle.dm_run.specs.Coming.{IsFor};
+ghost use Rattle.dm_run.specs.Notion.{by_world};
+ghost use Rattle.dm_run.specs.Runs.{IsFor};
+ghost use Rattle.dm_run.specs.Went.{RunsGo};
 ghost use Rattle.dm_draw.specs.Boot.{boot_of_machines};
 ghost use Rattle.dm_words.specs.DrillWords.{IsWithin};
-ghost use Rattle.dm_commands.specs.Drills.{DrilledSays, directives_of_drill};
-ghost use Rattle.dm_ending.specs.Status.{BlamesSink, EndsAtWrite};
+ghost use Rattle.dm_commands.specs.Drills.{DrillMeets, DrilledSays, directives_of_drill};
+ghost use Rattle.dm_commands.specs.Meets.{MeetsSink};
+ghost use Rattle.dm_commands.specs.Outside.{sink_around};
 
 use dm_draw::boot::drill_boot;
 use dm_draw::directives::drill_directives;
@@ -36,12 +39,9 @@ pub fn drill<K: Sink>(
     out: &mut K,
     world: &mut Option<World>,
 ) -> Status
-    requires { IsWithin drill.now }
-    ensures says { DrilledSays drill.now (boot_of_machines drill.now.machines) (directives_of_drill drill.now)
-        (K.told out.old) (K.told out.new) world.new result }
-    ensures sink { BlamesSink (K.faults out.old) (K.faults out.new) result }
-    ensures last_write { EndsAtWrite (K.last_failed out.new) result }
-    ensures writes { K.faults out.old ≤ K.faults out.new }
+    requires law { RunsGo }
+    requires within { IsWithin drill.now }
+    ensures meets { DrillMeets (DrilledSays by_world) drill.now (sink_around K.told K.faults K.last_failed out.old out.new) world.new result }
 {
     *world = None;
     match draw(alloc, drill) {
@@ -72,13 +72,12 @@ fn run<K: Sink>(
     out: &mut K,
     world: &mut Option<World>,
 ) -> Status
+    requires law { RunsGo }
     requires valid { IsValid drawn.boot }
     requires each { All (IsFor (length drawn.boot.machines)) drawn.directives.items }
     requires few { length drawn.directives.items ≤ MOST_SCHEDULE }
-    ensures says { DrilledSays drill.now drawn.boot drawn.directives.items (K.told out.old) (K.told out.new) world.new result }
-    ensures sink { BlamesSink (K.faults out.old) (K.faults out.new) result }
-    ensures last_write { EndsAtWrite (K.last_failed out.new) result }
-    ensures writes { K.faults out.old ≤ K.faults out.new }
+    ensures says { DrilledSays by_world drill.now drawn.boot drawn.directives.items (K.told out.old) (K.told out.new) world.new result }
+    ensures sink { MeetsSink (sink_around K.told K.faults K.last_failed out.old out.new) result }
 {
     let Drawn { boot, directives } = drawn;
     match begin(alloc, boot) {

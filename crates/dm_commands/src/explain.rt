@@ -1,11 +1,11 @@
 //! The command `explain`: it says what a boot file and a schedule say, or what is wrong with them.
-ghost use Rattle.std.specs.Prelude.{◌≡◌, ◌≤◌, IfErr, IfOk, None, option_map};
+ghost use Rattle.std.specs.Prelude.{◌≡◌, IfErr, IfOk, None, option_map};
 ghost use Rattle.dm_ending.specs.declared.status.Input.TheVariants as input_;
-ghost use Rattle.dm_commands.specs.Asked.{FailsAlone};
-ghost use Rattle.dm_commands.specs.Explains.{AsRun, AsksNamed, Decides, FailsNamed, NoInputs, SaysExplain, TellsFiles, TellsLines, TellsRead, TellsSchedule, Wrote};
+ghost use Rattle.dm_commands.specs.Asked.{Alone, perhaps_both};
+ghost use Rattle.dm_commands.specs.Explains.{ExplainMeets, NoInputs, TellsFiles, TellsLines, TellsRead, TellsSchedule, Wrote};
 ghost use Rattle.dm_commands.specs.Inputs.{NoBoot, NoDirectives};
-ghost use Rattle.dm_commands.specs.Outside.{around};
-ghost use Rattle.dm_ending.specs.Status.{BlamesShelf, BlamesSink, EndsAtRead, EndsAtWrite};
+ghost use Rattle.dm_commands.specs.Meets.{MeetsShelf, MeetsSink, status_so_far};
+ghost use Rattle.dm_commands.specs.Outside.{around, shelf_around, sink_around};
 ghost use Rattle.dm_explain.specs.Explained.{IsToldValid};
 
 use crate::inputs::MOST_BOOT;
@@ -34,23 +34,9 @@ pub fn explain_files<F: Shelf, K: Sink>(
     shelf: &mut F,
     out: &mut K,
 ) -> Status
-    ensures says { SaysExplain boot.now (option_map (λ s. s.now) schedule.entry)
-        (around F.told F.faults K.told K.faults shelf.old shelf.new out.old out.new None) result }
-    ensures as_run { AsRun boot.now (option_map (λ s. s.now) schedule.entry)
-        (around F.told F.faults K.told K.faults shelf.old shelf.new out.old out.new None) result }
-    ensures decides { Decides boot.now (option_map (λ s. s.now) schedule.entry)
-        (around F.told F.faults K.told K.faults shelf.old shelf.new out.old out.new None) result }
-    ensures asks { AsksNamed F.asked (F.told shelf.old) boot.now (option_map (λ s. s.now) schedule.entry) shelf.old shelf.new }
-    ensures boot_fault { result ≡ Status.ReadFault input_.Boot → FailsAlone F.asked F.faults boot.now shelf.old shelf.new }
-    ensures schedule_fault { result ≡ Status.ReadFault input_.Schedule →
-        FailsNamed F.asked F.faults (F.told shelf.old) boot.now (option_map (λ s. s.now) schedule.entry) shelf.old shelf.new }
-    ensures same { F.told shelf.new ≡ F.told shelf.old }
-    ensures shelf { BlamesShelf (F.faults shelf.old) (F.faults shelf.new) result }
-    ensures last_read { EndsAtRead (F.last_failed shelf.new) result }
-    ensures sink { BlamesSink (K.faults out.old) (K.faults out.new) result }
-    ensures last_write { EndsAtWrite (K.last_failed out.new) result }
-    ensures reads { F.faults shelf.old ≤ F.faults shelf.new }
-    ensures writes { K.faults out.old ≤ K.faults out.new }
+    ensures meets { ExplainMeets boot.now (option_map (λ s. s.now) schedule.entry)
+        (around (shelf_around F.asked F.told F.faults F.last_failed shelf.old shelf.new)
+            (sink_around K.told K.faults K.last_failed out.old out.new)) None result }
 {
     match tell_files(alloc, boot, schedule, shelf) {
         Ok(told) => say(&told, out),
@@ -61,8 +47,7 @@ pub fn explain_files<F: Shelf, K: Sink>(
 /// Writes what is said of files.
 fn say<K: Sink>(told: &Told, out: &mut K) -> Status
     ensures wrote { Wrote told.now.due told.now.text.items (K.told out.old) (K.told out.new) (K.faults out.old) (K.faults out.new) result }
-    ensures last_write { (told.now.due ≡ Status.WriteFault → ⊥) → EndsAtWrite (K.last_failed out.new) result }
-    ensures writes { K.faults out.old ≤ K.faults out.new }
+    ensures sink { (told.now.due ≡ Status.WriteFault → ⊥) → MeetsSink (sink_around K.told K.faults K.last_failed out.old out.new) result }
 {
     match write_all(out, told.text.as_slice()) {
         Ok(()) => told.due,
@@ -80,15 +65,8 @@ fn tell_files<F: Shelf>(
     ensures tells { IfOk result (λ t. TellsFiles (F.told shelf.old) boot.now (option_map (λ s. s.now) schedule.entry) t.due t.text.items) }
     ensures none { IfErr result
         (λ s. NoInputs (F.told shelf.old) boot.now (option_map (λ s. s.now) schedule.entry) (F.faults shelf.old) (F.faults shelf.new) s) }
-    ensures same { F.told shelf.new ≡ F.told shelf.old }
-    ensures steady { IfOk result (λ _. F.faults shelf.new ≡ F.faults shelf.old) }
-    ensures blames { IfErr result (λ s. BlamesShelf (F.faults shelf.old) (F.faults shelf.new) s) }
-    ensures last_read { IfErr result (λ s. EndsAtRead (F.last_failed shelf.new) s) }
-    ensures reads { F.faults shelf.old ≤ F.faults shelf.new }
-    ensures asks { AsksNamed F.asked (F.told shelf.old) boot.now (option_map (λ s. s.now) schedule.entry) shelf.old shelf.new }
-    ensures boot_fault { IfErr result (λ s. s ≡ Status.ReadFault input_.Boot → FailsAlone F.asked F.faults boot.now shelf.old shelf.new) }
-    ensures schedule_fault { IfErr result (λ s. s ≡ Status.ReadFault input_.Schedule →
-        FailsNamed F.asked F.faults (F.told shelf.old) boot.now (option_map (λ s. s.now) schedule.entry) shelf.old shelf.new) }
+    ensures shelf { MeetsShelf (perhaps_both boot.now (option_map (λ s. s.now) schedule.entry))
+        (shelf_around F.asked F.told F.faults F.last_failed shelf.old shelf.new) (status_so_far result) }
 {
     match tell_boot(alloc, boot, shelf) {
         Ok(BootTold::Refused { rule, place, text }) => Ok(Told {
@@ -114,12 +92,8 @@ fn tell_boot<F: Shelf>(alloc: Global, name: &str, shelf: &mut F) -> Result<BootT
     ensures tells { IfOk result (λ t. TellsRead (F.told shelf.old) name.now t) }
     ensures valid { IfOk result IsToldValid }
     ensures none { IfErr result (λ s. NoBoot (F.told shelf.old) name.now (F.faults shelf.old) (F.faults shelf.new) s) }
-    ensures same { F.told shelf.new ≡ F.told shelf.old }
-    ensures steady { IfOk result (λ _. F.faults shelf.new ≡ F.faults shelf.old) }
-    ensures blames { IfErr result (λ s. BlamesShelf (F.faults shelf.old) (F.faults shelf.new) s) }
-    ensures last_read { IfErr result (λ s. EndsAtRead (F.last_failed shelf.new) s) }
-    ensures reads { F.faults shelf.old ≤ F.faults shelf.new }
-    ensures asks { F.asked shelf.old name.now shelf.new }
+    ensures shelf { MeetsShelf (Alone input_.Boot name.now)
+        (shelf_around F.asked F.told F.faults F.last_failed shelf.old shelf.new) (status_so_far result) }
 {
     match read_file(alloc, shelf, name, MOST_BOOT) {
         Ok(bytes) => match explain_boot(alloc, bytes.as_slice()) {
@@ -142,12 +116,8 @@ fn tell_schedule<F: Shelf>(
 ) -> Result<Told, Status>
     ensures tells { IfOk result (λ t. TellsSchedule (F.told shelf.old) name.now machines first.items t.due t.text.items) }
     ensures none { IfErr result (λ s. NoDirectives (F.told shelf.old) name.now machines (F.faults shelf.old) (F.faults shelf.new) s) }
-    ensures same { F.told shelf.new ≡ F.told shelf.old }
-    ensures steady { IfOk result (λ _. F.faults shelf.new ≡ F.faults shelf.old) }
-    ensures blames { IfErr result (λ s. BlamesShelf (F.faults shelf.old) (F.faults shelf.new) s) }
-    ensures last_read { IfErr result (λ s. EndsAtRead (F.last_failed shelf.new) s) }
-    ensures reads { F.faults shelf.old ≤ F.faults shelf.new }
-    ensures asks { F.asked shelf.old name.now shelf.new }
+    ensures shelf { MeetsShelf (Alone input_.Schedule name.now)
+        (shelf_around F.asked F.told F.faults F.last_failed shelf.old shelf.new) (status_so_far result) }
 {
     match read_file(alloc, shelf, name, MOST_SCHEDULE) {
         Ok(bytes) => match tell_lines(alloc, bytes.as_slice(), machines, first) {

@@ -1,12 +1,14 @@
 //! What the program reads before it does something: the boot file, and the schedule or the trace.
-ghost use Rattle.std.specs.Prelude.{◌≡◌, ◌≤◌, IfErr, IfOk, length};
+ghost use Rattle.std.specs.Prelude.{◌≤◌, IfErr, IfOk, length};
 ghost use Rattle.std.specs.List.{All};
 ghost use Rattle.dm_onekernel.specs.Boot.{IsValid};
-ghost use Rattle.dm_commands.specs.Asked.{AsksFiles, FailsAlone, FailsSecond};
+ghost use Rattle.dm_commands.specs.Asked.{Alone, Both};
 ghost use Rattle.dm_commands.specs.Checks.{HasTrace, NoBytes, NoTrace, most_trace};
 ghost use Rattle.dm_commands.specs.Inputs.{AcceptsFiles, HasFile, NoBoot, NoDirectives, NoFiles, SaysBoot, SaysDirectives};
-ghost use Rattle.dm_ending.specs.Status.{BlamesShelf, EndsAtRead};
-ghost use Rattle.dm_run.specs.Coming.{IsFor};
+ghost use Rattle.dm_commands.specs.Meets.{MeetsShelf, status_so_far};
+ghost use Rattle.dm_commands.specs.Outside.{shelf_around};
+ghost use Rattle.dm_ending.specs.declared.status.Input.TheVariants as input_;
+ghost use Rattle.dm_run.specs.Runs.{IsFor};
 
 use crate::read::{ReadError, read_file};
 use dm_boot::{BootError, read_boot};
@@ -39,15 +41,8 @@ pub fn read_files<F: Shelf>(
     ensures each { IfOk result (λ i. All (IsFor (length i.boot.machines)) i.directives.items) }
     ensures few { IfOk result (λ i. length i.directives.items ≤ MOST_SCHEDULE) }
     ensures none { IfErr result (λ s. NoFiles (F.told shelf.old) boot.now schedule.now (F.faults shelf.old) (F.faults shelf.new) s) }
-    ensures same { F.told shelf.new ≡ F.told shelf.old }
-    ensures steady { IfOk result (λ _. F.faults shelf.new ≡ F.faults shelf.old) }
-    ensures blames { IfErr result (λ s. BlamesShelf (F.faults shelf.old) (F.faults shelf.new) s) }
-    ensures last_read { IfErr result (λ s. EndsAtRead (F.last_failed shelf.new) s) }
-    ensures reads { F.faults shelf.old ≤ F.faults shelf.new }
-    ensures asks { AsksFiles F.asked (F.told shelf.old) boot.now schedule.now shelf.old shelf.new }
-    ensures boot_fault { IfErr result (λ s. s ≡ Status.ReadFault Input.Boot → FailsAlone F.asked F.faults boot.now shelf.old shelf.new) }
-    ensures schedule_fault { IfErr result (λ s. s ≡ Status.ReadFault Input.Schedule →
-        FailsSecond F.asked F.faults (F.told shelf.old) boot.now schedule.now shelf.old shelf.new) }
+    ensures shelf { MeetsShelf (Both boot.now input_.Schedule schedule.now)
+        (shelf_around F.asked F.told F.faults F.last_failed shelf.old shelf.new) (status_so_far result) }
 {
     let boot = read_system(alloc, boot, shelf)?;
     let machines = boot.machines.len() as u8;
@@ -73,15 +68,8 @@ pub fn read_trace_files<F: Shelf>(
     ensures valid { IfOk result (λ t. IsValid t.boot) }
     ensures short { IfOk result (λ t. length t.trace.items ≤ MOST_TRACE) }
     ensures none { IfErr result (λ s. NoTrace (F.told shelf.old) boot.now trace.now (F.faults shelf.old) (F.faults shelf.new) s) }
-    ensures same { F.told shelf.new ≡ F.told shelf.old }
-    ensures steady { IfOk result (λ _. F.faults shelf.new ≡ F.faults shelf.old) }
-    ensures blames { IfErr result (λ s. BlamesShelf (F.faults shelf.old) (F.faults shelf.new) s) }
-    ensures last_read { IfErr result (λ s. EndsAtRead (F.last_failed shelf.new) s) }
-    ensures reads { F.faults shelf.old ≤ F.faults shelf.new }
-    ensures asks { AsksFiles F.asked (F.told shelf.old) boot.now trace.now shelf.old shelf.new }
-    ensures boot_fault { IfErr result (λ s. s ≡ Status.ReadFault Input.Boot → FailsAlone F.asked F.faults boot.now shelf.old shelf.new) }
-    ensures trace_fault { IfErr result (λ s. s ≡ Status.ReadFault Input.Trace →
-        FailsSecond F.asked F.faults (F.told shelf.old) boot.now trace.now shelf.old shelf.new) }
+    ensures shelf { MeetsShelf (Both boot.now input_.Trace trace.now)
+        (shelf_around F.asked F.told F.faults F.last_failed shelf.old shelf.new) (status_so_far result) }
 {
     let boot = read_system(alloc, boot, shelf)?;
     let trace = read_trace(alloc, trace, shelf)?;
@@ -92,12 +80,8 @@ pub fn read_trace_files<F: Shelf>(
 fn read_trace<F: Shelf>(alloc: Global, name: &str, shelf: &mut F) -> Result<Vec<u8>, Status>
     ensures file { IfOk result (λ t. HasFile (F.told shelf.old) name.now most_trace t.items) }
     ensures none { IfErr result (λ s. NoBytes (F.told shelf.old) name.now (F.faults shelf.old) (F.faults shelf.new) s) }
-    ensures same { F.told shelf.new ≡ F.told shelf.old }
-    ensures steady { IfOk result (λ _. F.faults shelf.new ≡ F.faults shelf.old) }
-    ensures blames { IfErr result (λ s. BlamesShelf (F.faults shelf.old) (F.faults shelf.new) s) }
-    ensures last_read { IfErr result (λ s. EndsAtRead (F.last_failed shelf.new) s) }
-    ensures reads { F.faults shelf.old ≤ F.faults shelf.new }
-    ensures asks { F.asked shelf.old name.now shelf.new }
+    ensures shelf { MeetsShelf (Alone input_.Trace name.now)
+        (shelf_around F.asked F.told F.faults F.last_failed shelf.old shelf.new) (status_so_far result) }
 {
     match read_file(alloc, shelf, name, MOST_TRACE) {
         Ok(bytes) => Ok(bytes),
@@ -112,12 +96,8 @@ fn read_system<F: Shelf>(alloc: Global, name: &str, shelf: &mut F) -> Result<Boo
     ensures says { IfOk result (λ b. SaysBoot (F.told shelf.old) name.now b) }
     ensures valid { IfOk result (λ b. IsValid b) }
     ensures none { IfErr result (λ s. NoBoot (F.told shelf.old) name.now (F.faults shelf.old) (F.faults shelf.new) s) }
-    ensures same { F.told shelf.new ≡ F.told shelf.old }
-    ensures steady { IfOk result (λ _. F.faults shelf.new ≡ F.faults shelf.old) }
-    ensures blames { IfErr result (λ s. BlamesShelf (F.faults shelf.old) (F.faults shelf.new) s) }
-    ensures last_read { IfErr result (λ s. EndsAtRead (F.last_failed shelf.new) s) }
-    ensures reads { F.faults shelf.old ≤ F.faults shelf.new }
-    ensures asks { F.asked shelf.old name.now shelf.new }
+    ensures shelf { MeetsShelf (Alone input_.Boot name.now)
+        (shelf_around F.asked F.told F.faults F.last_failed shelf.old shelf.new) (status_so_far result) }
 {
     match read_file(alloc, shelf, name, MOST_BOOT) {
         Ok(bytes) => match read_boot(alloc, bytes.as_slice()) {
@@ -145,12 +125,8 @@ fn read_directives<F: Shelf>(
     ensures each { IfOk result (λ ds. All (IsFor machines) ds.items) }
     ensures few { IfOk result (λ ds. length ds.items ≤ MOST_SCHEDULE) }
     ensures none { IfErr result (λ s. NoDirectives (F.told shelf.old) name.now machines (F.faults shelf.old) (F.faults shelf.new) s) }
-    ensures same { F.told shelf.new ≡ F.told shelf.old }
-    ensures steady { IfOk result (λ _. F.faults shelf.new ≡ F.faults shelf.old) }
-    ensures blames { IfErr result (λ s. BlamesShelf (F.faults shelf.old) (F.faults shelf.new) s) }
-    ensures last_read { IfErr result (λ s. EndsAtRead (F.last_failed shelf.new) s) }
-    ensures reads { F.faults shelf.old ≤ F.faults shelf.new }
-    ensures asks { F.asked shelf.old name.now shelf.new }
+    ensures shelf { MeetsShelf (Alone input_.Schedule name.now)
+        (shelf_around F.asked F.told F.faults F.last_failed shelf.old shelf.new) (status_so_far result) }
 {
     match read_file(alloc, shelf, name, MOST_SCHEDULE) {
         Ok(bytes) => match read_schedule(alloc, bytes.as_slice(), machines) {

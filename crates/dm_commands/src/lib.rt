@@ -1,4 +1,4 @@
-//! What the program does, a file a command, and what it reads for it.
+//! What the program does, a file a command, and what it reads for it; and the command that its words ask for.
 #![tactic(auto)]
 
 pub mod chart;
@@ -6,6 +6,6 @@ pub mod check;
 pub mod drill;
 pub mod explain;
 pub mod inputs;
-pub mod laws;
 mod read;
 pub mod run;
+pub mod words;

@@ -1,13 +1,13 @@
 //! The command `run`: it runs a schedule on the system of a boot file, and writes what happens.
-ghost use Rattle.std.specs.Prelude.{◌≡◌, ◌≤◌, length};
+ghost use Rattle.std.specs.Prelude.{◌≤◌, length};
 ghost use Rattle.std.specs.List.{All};
 ghost use Rattle.dm_onekernel.specs.Boot.{IsValid};
-ghost use Rattle.dm_run.specs.Coming.{IsFor};
-ghost use Rattle.dm_ending.specs.declared.status.Input.TheVariants as input_;
-ghost use Rattle.dm_commands.specs.Asked.{AsksFiles, FailsAlone, FailsSecond};
-ghost use Rattle.dm_commands.specs.Outside.{around};
-ghost use Rattle.dm_commands.specs.Runs.{Completes, Refuses, RunSays, SaysRun, WearsOut};
-ghost use Rattle.dm_ending.specs.Status.{BlamesShelf, BlamesSink, EndsAtRead, EndsAtWrite};
+ghost use Rattle.dm_run.specs.Notion.{by_world};
+ghost use Rattle.dm_run.specs.Runs.{IsFor};
+ghost use Rattle.dm_run.specs.Went.{RunsGo};
+ghost use Rattle.dm_commands.specs.Meets.{MeetsSink};
+ghost use Rattle.dm_commands.specs.Outside.{around, shelf_around, sink_around};
+ghost use Rattle.dm_commands.specs.Runs.{RunMeets, RunSays};
 
 use crate::inputs::{Inputs, read_files};
 use dm_ending::status::{Status, status_of};
@@ -27,25 +27,10 @@ pub fn run_files<F: Shelf, K: Sink>(
     out: &mut K,
     world: &mut Option<World>,
 ) -> Status
-    ensures says { SaysRun boot.now schedule.now
-        (around F.told F.faults K.told K.faults shelf.old shelf.new out.old out.new world.new) result }
-    ensures completes { Completes boot.now schedule.now
-        (around F.told F.faults K.told K.faults shelf.old shelf.new out.old out.new world.new) result }
-    ensures wears { WearsOut boot.now schedule.now
-        (around F.told F.faults K.told K.faults shelf.old shelf.new out.old out.new world.new) result }
-    ensures refuses { Refuses boot.now schedule.now
-        (around F.told F.faults K.told K.faults shelf.old shelf.new out.old out.new world.new) result }
-    ensures asks { AsksFiles F.asked (F.told shelf.old) boot.now schedule.now shelf.old shelf.new }
-    ensures boot_fault { result ≡ Status.ReadFault input_.Boot → FailsAlone F.asked F.faults boot.now shelf.old shelf.new }
-    ensures schedule_fault { result ≡ Status.ReadFault input_.Schedule →
-        FailsSecond F.asked F.faults (F.told shelf.old) boot.now schedule.now shelf.old shelf.new }
-    ensures same { F.told shelf.new ≡ F.told shelf.old }
-    ensures shelf { BlamesShelf (F.faults shelf.old) (F.faults shelf.new) result }
-    ensures last_read { EndsAtRead (F.last_failed shelf.new) result }
-    ensures sink { BlamesSink (K.faults out.old) (K.faults out.new) result }
-    ensures last_write { EndsAtWrite (K.last_failed out.new) result }
-    ensures reads { F.faults shelf.old ≤ F.faults shelf.new }
-    ensures writes { K.faults out.old ≤ K.faults out.new }
+    requires law { RunsGo }
+    ensures meets { RunMeets (RunSays by_world) boot.now schedule.now
+        (around (shelf_around F.asked F.told F.faults F.last_failed shelf.old shelf.new)
+            (sink_around K.told K.faults K.last_failed out.old out.new)) world.new result }
 {
     *world = None;
     match read_files(alloc, boot, schedule, shelf) {
@@ -56,13 +41,12 @@ pub fn run_files<F: Shelf, K: Sink>(
 
 /// Runs a system by these directives, and writes the lines of the run.
 fn run<K: Sink>(alloc: Global, inputs: Inputs, out: &mut K, world: &mut Option<World>) -> Status
+    requires law { RunsGo }
     requires valid { IsValid inputs.boot }
     requires each { All (IsFor (length inputs.boot.machines)) inputs.directives.items }
     requires few { length inputs.directives.items ≤ MOST_SCHEDULE }
-    ensures says { RunSays inputs.boot inputs.directives.items (K.told out.old) (K.told out.new) world.new result }
-    ensures sink { BlamesSink (K.faults out.old) (K.faults out.new) result }
-    ensures last_write { EndsAtWrite (K.last_failed out.new) result }
-    ensures writes { K.faults out.old ≤ K.faults out.new }
+    ensures says { RunSays by_world inputs.boot inputs.directives.items (K.told out.old) (K.told out.new) world.new result }
+    ensures sink { MeetsSink (sink_around K.told K.faults K.last_failed out.old out.new) result }
 {
     let Inputs { boot, directives } = inputs;
     match begin(alloc, boot) {

@@ -1,2 +1,8 @@
-pub mod Names
-mod Lacking
+pub mod Runs
+mod Traces
+mod Deciding
+mod ByRule
+mod NoWords
+mod Sound
+mod RunsChecked
+mod DrillsChecked

@@ -4,7 +4,7 @@ ghost use Rattle.std.specs.Vec.Iter.{into_iter_steps};
 ghost use Rattle.std.specs.Iterator.Runs.{WholeRun};
 ghost use Rattle.dm_memory.specs.Args.{ArgsLackMemory};
 ghost use Rattle.dm_program.specs.Program.{Finishes, GivenMeets};
-ghost use Rattle.dm_ending.specs.Status.{BlamesShelf, BlamesSink, EndsAtRead, EndsAtWrite};
+ghost use Rattle.dm_commands.specs.Outside.{around, shelf_around, sink_around};
 ghost use Rattle.dm_words.specs.Words.{IsTaken};
 
 use crate::ending::end;
@@ -45,8 +45,10 @@ pub fn finish<F: Shelf, K: Sink, E: Sink>(
     out: &mut K,
     errors: &mut E,
 ) -> ExitCode
-    ensures { Finishes F.asked F.told F.faults F.last_failed K.told K.faults K.last_failed E.told E.faults E.last_failed
-        given shelf.old shelf.new out.old out.new errors.old errors.new result }
+    ensures { Finishes given
+        (around (shelf_around F.asked F.told F.faults F.last_failed shelf.old shelf.new)
+            (sink_around K.told K.faults K.last_failed out.old out.new))
+        (sink_around E.told E.faults E.last_failed errors.old errors.new) result }
 {
     let mut world = None;
     let status = run_given(alloc, given, shelf, out, &mut world);
@@ -62,12 +64,10 @@ pub fn run_given<F: Shelf, K: Sink>(
     out: &mut K,
     world: &mut Option<World>,
 ) -> Status
-    ensures meets { GivenMeets F.asked F.told F.faults K.told K.faults given shelf.old shelf.new out.old out.new world.new result }
+    ensures meets { GivenMeets given
+        (around (shelf_around F.asked F.told F.faults F.last_failed shelf.old shelf.new)
+            (sink_around K.told K.faults K.last_failed out.old out.new)) world.new result }
     ensures refused { IfOk given (λ words. result ≡ Status.Usage → IsTaken (map string_bytes words.items) → ⊥) }
-    ensures shelf { BlamesShelf (F.faults shelf.old) (F.faults shelf.new) result }
-    ensures last_read { EndsAtRead (F.last_failed shelf.new) result }
-    ensures sink { BlamesSink (K.faults out.old) (K.faults out.new) result }
-    ensures last_write { EndsAtWrite (K.last_failed out.new) result }
 {
     *world = None;
     match given {

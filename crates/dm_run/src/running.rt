@@ -2,20 +2,22 @@
 ghost use Rattle.std.specs.Prelude.{◌≡◌, ◌<◌, ◌+◌, ◌^◌, IfErr, IfOk, OnErr, OnOk, length, true};
 ghost use Rattle.std.specs.List.{All};
 ghost use Rattle.dm_onekernel.specs.Boot.{IsValid};
-ghost use Rattle.dm_rule.specs.Laws.{IsStep};
+ghost use Rattle.dm_run.specs.Runs.{IsStep};
 ghost use Rattle.dm_text.specs.Fits.{EndFits, LineFits};
+ghost use Rattle.dm_world.specs.Ends.{end_lines as ends_of};
 ghost use Rattle.dm_world.specs.Local.{ActsAlone, acts_on};
 ghost use Rattle.dm_world.specs.Meets.{world_state};
-ghost use Rattle.dm_run.specs.Coming.{IsAtStart};
-ghost use Rattle.dm_run.specs.Running.{EndsSo, IsRunning, RunsOn, StopsWorn};
+ghost use Rattle.dm_run.specs.Running.{IsAtStart, IsRunning, StopsSo, StopsWorn};
+ghost use Rattle.dm_run.specs.Went.{Does, RunsGo};
 
 use crate::fit::{ends_fit, lines_fit};
+use dm_ending::stop::Stop;
 use dm_line::end_line::EndLine;
 use dm_line::line::Line;
 use dm_memory::NoMemory;
 use dm_onekernel::Boot;
 use dm_schedule::Step;
-use dm_world::{Stop, World};
+use dm_world::{Stop as WorldStop, World};
 use std::alloc::Global;
 
 /// The system of a boot file, before its first directive.
@@ -31,11 +33,12 @@ pub fn begin(alloc: Global, boot: Boot) -> Result<World, NoMemory>
 }
 
 /// Does an elementary directive: the lines of its group, its head first. A world that stops takes no further directive.
-pub fn step_on(world: &mut World, step: &Step) -> Result<Vec<Line>, Stop>
+pub fn step_on(world: &mut World, step: &Step) -> Result<Vec<Line>, WorldStop>
+    requires law { RunsGo }
     requires running { IsRunning world.old }
     requires step { IsStep (length world.old.boot.machines) step.now }
     requires groups { world.old.groups < 2 ^ 127 }
-    ensures runs_on { IfOk result (λ lines. RunsOn (world_state world.old) world.old.boot step.now lines.items (world_state world.new)) }
+    ensures does { IfOk result (λ lines. Does world.old.boot (world_state world.old) step.now lines.items (world_state world.new)) }
     ensures running { OnOk result (IsRunning world.new) }
     ensures groups { OnOk result (world.new.groups ≡ world.old.groups + 1) }
     ensures fits { IfOk result (λ lines. All LineFits lines.items) }
@@ -49,10 +52,30 @@ pub fn step_on(world: &mut World, step: &Step) -> Result<Vec<Line>, Stop>
     Ok(lines)
 }
 
+/// The same, for a command that may stop for other reasons too.
+pub fn do_step(world: &mut World, step: &Step) -> Result<Vec<Line>, Stop>
+    requires law { RunsGo }
+    requires running { IsRunning world.old }
+    requires step { IsStep (length world.old.boot.machines) step.now }
+    requires groups { world.old.groups < 2 ^ 127 }
+    ensures does { IfOk result (λ lines. Does world.old.boot (world_state world.old) step.now lines.items (world_state world.new)) }
+    ensures running { OnOk result (IsRunning world.new) }
+    ensures groups { OnOk result (world.new.groups ≡ world.old.groups + 1) }
+    ensures boot { world.new.boot ≡ world.old.boot }
+    ensures stops { IfErr result (λ stop. StopsSo world.old.boot (world_state world.old) step.now stop) }
+{
+    match step_on(world, step) {
+        Ok(lines) => Ok(lines),
+        Err(WorldStop::NoMemory(no)) => Err(Stop::NoMemory(no)),
+        Err(WorldStop::Worn { from, to }) => Err(Stop::Worn { from, to }),
+    }
+}
+
 /// The lines at the end of a run: where everything stands then.
 pub fn end_lines(world: &World) -> Result<Vec<EndLine>, NoMemory>
-    requires { IsRunning world.now }
-    ensures ends { IfOk result (λ ends. EndsSo world.now.boot (world_state world.now) ends.items) }
+    requires law { RunsGo }
+    requires running { IsRunning world.now }
+    ensures ends { IfOk result (λ ends. ends.items ≡ ends_of (length world.now.boot.machines) (world_state world.now)) }
     ensures fits { IfOk result (λ ends. All EndFits ends.items) }
 {
     let ends = world.end_lines()?;

@@ -1,3 +1,4 @@
 pub mod Names
 pub mod CommandWords
 pub mod Given
+pub mod Ranges

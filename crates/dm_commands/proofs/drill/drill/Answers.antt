@@ -1,10 +1,23 @@
-use Rattle.dm_commands.proofs.Names.{List, subst, Boot, Directive, boot_of_machines, nothing_drilled, DrilledSays, directives_of_drill}
+use Rattle.dm_commands.proofs.Names.{List, subst, Boot, Directive, boot_of_machines, directives_of_drill, refl}
+use Rattle.dm_drill.proofs.Going.{nothing_drilled}
+use Rattle.dm_run.specs.Notion.{by_world}
+use Rattle.dm_commands.proofs.Meeting.{unwritten}
+use Rattle.dm_commands.specs.Drills.{DrilledSays}
 use Rattle.dm_commands.proofs.drill.drill.Goals as goal
 
-pub returns-in-Ok-clause-says : goal.returns-in-Ok-clause-says
-returns-in-Ok-clause-says g c =
-    subst (λ (ds : List Directive). DrilledSays c.args.drill.now (boot_of_machines c.args.drill.now.machines) ds (g.K.Sink.told c.args.out.now) (g.K.Sink.told c.run.new.out) c.run.new.world c.run.result) c.in-Ok.ensures.directives
-    (subst (λ (b : Boot). DrilledSays c.args.drill.now b c.in-Ok.drawn.directives.items (g.K.Sink.told c.args.out.now) (g.K.Sink.told c.run.new.out) c.run.new.world c.run.result) c.in-Ok.ensures.boot c.run.ensures.says)
+pub returns-in-Ok : goal.returns-in-Ok
+returns-in-Ok g c = record {
+  meets = record {
+    says = subst (λ (ds : List Directive). DrilledSays by_world c.args.drill.now (boot_of_machines c.args.drill.now.machines) ds (g.K.Sink.told c.args.out.now) (g.K.Sink.told c.run.new.out) c.run.new.world c.run.result) c.in-Ok.ensures.directives
+        (subst (λ (b : Boot). DrilledSays by_world c.args.drill.now b c.in-Ok.drawn.directives.items (g.K.Sink.told c.args.out.now) (g.K.Sink.told c.run.new.out) c.run.new.world c.run.result) c.in-Ok.ensures.boot c.run.ensures.says);
+    sink = c.run.ensures.sink;
+  };
+}
 
-pub returns-in-Err-clause-says : goal.returns-in-Err-clause-says
-returns-in-Err-clause-says g c = nothing_drilled c.args.drill.now.trace (boot_of_machines c.args.drill.now.machines) (directives_of_drill c.args.drill.now) (g.K.Sink.told c.args.out.now)
+pub returns-in-Err : goal.returns-in-Err
+returns-in-Err g c = record {
+  meets = record {
+    says = nothing_drilled c.args.drill.now.trace (boot_of_machines c.args.drill.now.machines) (directives_of_drill c.args.drill.now) (g.K.Sink.told c.args.out.now);
+    sink = unwritten _ _ refl (λ e. cc);
+  };
+}

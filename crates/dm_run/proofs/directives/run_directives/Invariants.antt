@@ -1,12 +1,15 @@
-use Rattle.dm_run.proofs.Names.{◌≡◌, ◌≤◌, ◌*◌, ◌^◌, false, drop, all_of, IsWorld, world_state, HasCome}
+use Rattle.dm_run.proofs.Names.{◌≡◌, ◌≤◌, ◌-◌, ◌*◌, ◌^◌, false, length, IsWorld, world_state, HasCome, IsWritten}
 use Rattle.dm_run.proofs.directives.run_directives.Given as goal
 
-abbrev pub invariant-directives : goal.invariant-directives
-invariant-directives g l = record {
+abbrev pub invariant-groups : goal.invariant-groups
+invariant-groups g l = record {
   world : IsWorld l.world;
   running : l.world.stopped ≡ false;
   boot : l.world.boot ≡ l.initial.world.boot;
-  come : HasCome l.initial.world.boot l.directives (all_of (drop l.directive-index l.directives)) (g.K.Sink.told l.initial.out) (g.K.Sink.told l.out) (world_state l.world);
-  groups : l.world.groups ≤ l.directive-index * 2 ^ 90;
+  within : l.way.begun ≤ length l.directives;
+  come : HasCome l.initial.world.boot l.directives (IsWritten (g.K.Sink.told l.initial.out) (g.K.Sink.told l.out)) l.way (world_state l.world);
   steady : g.K.Sink.faults l.out ≡ g.K.Sink.faults l.initial.out;
 }
+
+abbrev pub decreases-groups : goal.decreases-groups
+decreases-groups g l = length l.directives * 2 ^ 90 - l.world.groups

@@ -1,5 +1,5 @@
 use Rattle.dm_run.proofs.Names.{ap, sym, ◌∙◌, Boot, WorldState, first_world}
-use Rattle.dm_run.proofs.Steps.{running_first}
+use Rattle.dm_run.proofs.Going.{running_first}
 use Rattle.dm_run.proofs.running.begin.Goals as goal
 
 pub returns-clause-fresh : goal.returns-clause-fresh
@@ -10,7 +10,7 @@ returns-clause-fresh c = record {
 }
 
 pub returns-clause-running : goal.returns-clause-running
-returns-clause-running c = running_first c.in_ok-world.world c.args.boot c.requires c.in_ok-world.ensures.world c.in_ok-world.ensures.running c.in_ok-world.ensures.boot c.in_ok-world.ensures.state
+returns-clause-running c = running_first c.in_ok-world.world (returns-clause-fresh c)
 
 pub returns-clause-groups : goal.returns-clause-groups
 returns-clause-groups c = ap (λ (w : WorldState). w.groups) c.in_ok-world.ensures.state

@@ -1,0 +1,124 @@
+-- What is said in some terms is said in others to which they are carried.
+use Rattle.dm_commands.proofs.Names.{◌≡◌, inl, inr, ℕ, Bool, List, length, Option, Some, None, Boot, Directive, IsValid, All, IsFor, World, Verdict, good_verdict, Drill as TheDrill, boot_of_machines, directives_of_drill, IsWithin}
+use Rattle.dm_commands.proofs.Names.{Status, Done, Usage, ReadFault, NoMemory, WriteFault, BootRefused, ScheduleRefused, TooLong, Worn, TraceRefused, Request, Chart, Check, Explain, Run}
+use Rattle.dm_words.specs.Request.{Drill}
+use Rattle.dm_run.proofs.Carried.{Carries, carried_before_worn, carried_begun, carried_first, carried_picture, carried_run_wears, carried_whole}
+use Rattle.dm_run.specs.Notion.{Notion}
+use Rattle.dm_drill.proofs.Carried.{carried_drill_begun, carried_drill_first, carried_drill_wears, carried_drill_whole}
+use Rattle.dm_commands.specs.Charts.{BeginsPicture, ChartSays, IsPicture, ShowsBegun, ShowsWhole}
+use Rattle.dm_commands.specs.Checks.{CheckMeets, CheckSaying, CheckSays, IsGoodTrace, RefusesTrace, TraceMeans}
+use Rattle.dm_commands.specs.Commands.{CommandMeets, Terms}
+use Rattle.dm_commands.specs.Drills.{DrilledSays}
+use Rattle.dm_commands.specs.Outside.{Around}
+use Rattle.dm_commands.specs.Runs.{RunMeets, RunSaying, RunSays}
+
+-- a run of directives
+run_said : (r q : Notion) (b : Boot) (ds : List Directive) (before after : Option (List ℕ)) (world : Option World) (s : Status) → Carries r q b ds → RunSays r b ds before after world s → RunSays q b ds before after world s
+run_said r q b ds before after world Done c h = carried_whole r q b ds before after world c h
+run_said r q b ds before after world Usage c h = absurd h
+run_said r q b ds before after world (ReadFault i) c h = absurd h
+run_said r q b ds before after world (NoMemory lack) c h = carried_first r q b ds before after c h
+run_said r q b ds before after world WriteFault c h = carried_begun r q b ds before after world c h
+run_said r q b ds before after world (BootRefused number place) c h = absurd h
+run_said r q b ds before after world (ScheduleRefused line why) c h = absurd h
+run_said r q b ds before after world (TooLong i) c h = absurd h
+run_said r q b ds before after world (Worn from to) c h = carried_run_wears r q b ds before after from to c h
+run_said r q b ds before after world (TraceRefused line why) c h = absurd h
+
+picture_said : (r q : Notion) (b : Boot) (ds : List Directive) (text : List ℕ) → Carries r q b ds → IsPicture r b ds text → IsPicture q b ds text
+picture_said r q b ds text c (inl whole) = inl (carried_picture r q b ds text c whole)
+picture_said r q b ds text c (inr worn) = inr (worn.0, worn.1, carried_before_worn r q b ds text worn.0 worn.1 c worn.2)
+
+-- the picture of one
+chart_said : (r q : Notion) (b : Boot) (ds : List Directive) (before after : Option (List ℕ)) (world : Option World) (s : Status) → Carries r q b ds → ChartSays r b ds before after world s → ChartSays q b ds before after world s
+chart_said r q b ds before after world Done c h = record { text = h.text; is = carried_picture r q b ds h.text c h.is; written = h.written }
+chart_said r q b ds before after world Usage c h = absurd h
+chart_said r q b ds before after world (ReadFault i) c h = absurd h
+chart_said r q b ds before after world (NoMemory lack) c h = h
+chart_said r q b ds before after world WriteFault c h = record { text = h.text; is = picture_said r q b ds h.text c h.is; begun = h.begun }
+chart_said r q b ds before after world (BootRefused number place) c h = absurd h
+chart_said r q b ds before after world (ScheduleRefused line why) c h = absurd h
+chart_said r q b ds before after world (TooLong i) c h = absurd h
+chart_said r q b ds before after world (Worn from to) c h = record { text = h.text; is = carried_before_worn r q b ds h.text from to c h.is; written = h.written }
+chart_said r q b ds before after world (TraceRefused line why) c h = absurd h
+
+-- a drill
+drill_said : (r q : Notion) (d : TheDrill) (b : Boot) (ds : List Directive) (before after : Option (List ℕ)) (world : Option World) (s : Status) → Carries r q b ds → DrilledSays r d b ds before after world s → DrilledSays q d b ds before after world s
+drill_said r q d b ds before after world Done c h = carried_drill_whole r q d b ds before after world c h
+drill_said r q d b ds before after world Usage c h = absurd h
+drill_said r q d b ds before after world (ReadFault i) c h = absurd h
+drill_said r q d b ds before after world (NoMemory lack) c h = carried_drill_first r q d.trace b ds before after c h
+drill_said r q d b ds before after world WriteFault c h = carried_drill_begun r q d b ds before after world c h
+drill_said r q d b ds before after world (BootRefused number place) c h = absurd h
+drill_said r q d b ds before after world (ScheduleRefused line why) c h = absurd h
+drill_said r q d b ds before after world (TooLong i) c h = absurd h
+drill_said r q d b ds before after world (Worn from to) c h = carried_drill_wears r q d.trace b ds before after from to c h
+drill_said r q d b ds before after world (TraceRefused line why) c h = absurd h
+
+-- a trace
+pub record CarriesTraces (m n : TraceMeans) (b : Boot) : Type 0 where
+  pub comes_to : (bytes : List ℕ) (v : Verdict) → m.comes_to b bytes v → n.comes_to b bytes v
+  pub is_of : (bytes : List ℕ) (groups : ℕ) (ended : Bool) → m.is_of b bytes groups ended → n.is_of b bytes groups ended
+
+good_said : (m n : TraceMeans) (b : Boot) (bytes : List ℕ) (groups : ℕ) (ended : Bool) → CarriesTraces m n b → IsGoodTrace m b bytes groups ended → IsGoodTrace n b bytes groups ended
+good_said m n b bytes groups ended c h = record { verdict = c.comes_to bytes (good_verdict groups ended) h.verdict; trace = c.is_of bytes groups ended h.trace }
+
+refused_said : (m n : TraceMeans) (b : Boot) (bytes : List ℕ) (line why : ℕ) → CarriesTraces m n b → RefusesTrace m b bytes line why → RefusesTrace n b bytes line why
+refused_said m n b bytes line why c h = record { fault = h.fault; refused = c.comes_to bytes _ h.refused; why_is = h.why_is }
+
+check_said : (m n : TraceMeans) (b : Boot) (bytes : List ℕ) (before after : Option (List ℕ)) (s : Status) → CarriesTraces m n b → CheckSays m b bytes before after s → CheckSays n b bytes before after s
+check_said m n b bytes before after Done c h = record { groups = h.groups; ended = h.ended; good = good_said m n b bytes h.groups h.ended c h.good; written = h.written }
+check_said m n b bytes before after Usage c h = absurd h
+check_said m n b bytes before after (ReadFault i) c h = absurd h
+check_said m n b bytes before after (NoMemory lack) c h = h
+check_said m n b bytes before after WriteFault c h = record { groups = h.groups; ended = h.ended; good = good_said m n b bytes h.groups h.ended c h.good; begun = h.begun }
+check_said m n b bytes before after (BootRefused number place) c h = absurd h
+check_said m n b bytes before after (ScheduleRefused line why) c h = absurd h
+check_said m n b bytes before after (TooLong i) c h = absurd h
+check_said m n b bytes before after (Worn from to) c h = absurd h
+check_said m n b bytes before after (TraceRefused line why) c h = (refused_said m n b bytes line why c h.0, h.1)
+
+-- what a command promises that runs a schedule, and of one that checks a trace
+run_met : {F K : Type 0} (Says More : RunSaying) (boot schedule : List ℕ) (a : Around F K) (world : Option World) (s : Status)
+    → ((b : Boot) (ds : List Directive) (before after : Option (List ℕ)) → IsValid b → All (IsFor (length b.machines)) ds → Says b ds before after world s → More b ds before after world s) → RunMeets Says boot schedule a world s → RunMeets More boot schedule a world s
+run_met Says More boot schedule a world s more h = record {
+  says = elim h.says [
+    | inl r ↦ inl (record { system = r.system; directives = r.directives; accepts = r.accepts; valid = r.valid; within = r.within; says = more r.system r.directives _ _ r.valid r.within r.says })
+    | inr n ↦ inr n
+  ];
+  refuses = h.refuses;
+  met = h.met;
+}
+
+check_met : {F K : Type 0} (Says More : CheckSaying) (boot trace : List ℕ) (a : Around F K) (world : Option World) (s : Status)
+    → ((b : Boot) (bytes : List ℕ) (before after : Option (List ℕ)) → IsValid b → Says b bytes before after s → More b bytes before after s) → CheckMeets Says boot trace a world s → CheckMeets More boot trace a world s
+check_met Says More boot trace a world s more h = record {
+  says = elim h.says [
+    | inl r ↦ inl (record { system = r.system; bytes = r.bytes; has = r.has; valid = r.valid; says = more r.system r.bytes _ _ r.valid r.says })
+    | inr n ↦ inr n
+  ];
+  refuses = h.refuses;
+  no_world = h.no_world;
+  met = h.met;
+}
+
+-- terms are carried to others
+pub record CarriesTerms (t u : Terms) : Type 0 where
+  pub runs : (b : Boot) (ds : List Directive) → IsValid b → All (IsFor (length b.machines)) ds → Carries t.run u.run b ds
+  pub drills : (d : TheDrill) → IsWithin d → Carries t.run u.run (boot_of_machines d.machines) (directives_of_drill d)
+  pub traces : (b : Boot) → IsValid b → CarriesTraces t.trace u.trace b
+
+pub carried : {F K : Type 0} (t u : Terms) (r : Option Request) (a : Around F K) (world : Option World) (s : Status) → CarriesTerms t u → CommandMeets t r a world s → CommandMeets u r a world s
+carried t u None a world s c h = h
+carried t u (Some (Run boot schedule)) a world s c h = run_met (RunSays t.run) (RunSays u.run) boot schedule a world s (λ b ds before after valid each says. run_said t.run u.run b ds before after world s (c.runs b ds valid each) says) h
+carried t u (Some (Check boot trace)) a world s c h = check_met (CheckSays t.trace) (CheckSays u.trace) boot trace a world s (λ b bytes before after valid says. check_said t.trace u.trace b bytes before after s (c.traces b valid) says) h
+carried t u (Some (Chart boot schedule)) a world s c h = record {
+  as_run = run_met (ChartSays t.run) (ChartSays u.run) boot schedule a world s (λ b ds before after valid each says. chart_said t.run u.run b ds before after world s (c.runs b ds valid each) says) h.as_run;
+  no_world = h.no_world;
+}
+carried t u (Some (Explain boot schedule)) a world s c h = h
+carried t u (Some (Drill d)) a world s c h = record {
+  within = h.within;
+  meets = record { says = drill_said t.run u.run d (boot_of_machines d.machines) (directives_of_drill d) _ _ world s (c.drills d h.within) h.meets.says; sink = h.meets.sink };
+  shelf = h.shelf;
+}

@@ -1,5 +1,0 @@
-use Rattle.dm_commands.proofs.DrillsChecked.{drills_check}
-use Rattle.dm_commands.proofs.laws.drills_check.Goals as goal
-
-pub returns : goal.returns
-returns c = drills_check

@@ -1,0 +1,55 @@
+-- What the program promises, by what its words ask for.
+use Rattle.std.specs.Prelude.{◌≡◌, ◌⊎◌}
+use Rattle.std.specs.declared.option.Option.{Option}
+use Rattle.std.specs.declared.option.Option.TheVariants.{None, Some}
+use Rattle.dm_world.specs.declared.world.World.{World}
+use Rattle.dm_run.specs.Notion.{Notion}
+use Rattle.dm_ending.specs.declared.status.Input.TheVariants as input
+use Rattle.dm_ending.specs.declared.status.Status.{Status}
+use Rattle.dm_ending.specs.declared.status.Status.TheVariants.{Usage}
+use Rattle.dm_ending.specs.Status.{IsWant}
+use Rattle.dm_words.specs.DrillWords.{IsWithin}
+use Rattle.dm_words.specs.Request.{Request, Chart, Check, Drill, Explain, Run}
+use Rattle.dm_draw.specs.declared.drill.Drill.{Drill as TheDrill}
+use Rattle.dm_commands.specs.Asked.{Both, Named, Nothing, perhaps_both}
+use Rattle.dm_commands.specs.Charts.{ChartMeets, ChartSays}
+use Rattle.dm_commands.specs.Checks.{CheckMeets, CheckSays, TraceMeans}
+use Rattle.dm_commands.specs.Drills.{DrillMeets, DrilledSays}
+use Rattle.dm_commands.specs.Explains.{ExplainMeets}
+use Rattle.dm_commands.specs.Meets.{MeetsShelf}
+use Rattle.dm_commands.specs.Outside.{Around, Untouched}
+use Rattle.dm_commands.specs.Runs.{RunMeets, RunSays}
+
+-- what is said of runs and of traces: by the machines, or by their rule
+pub record Terms : Type 1 where
+  pub run : Notion
+  pub trace : TraceMeans
+
+-- the words ask for nothing: they are refused, unless memory lacks
+pub record RefusesWords {F K : Type 0} (a : Around F K) (world : Option World) (s : Status) : Type 0 where
+  pub why : (s ≡ Usage) ⊎ IsWant s
+  pub untouched : Untouched a world
+
+-- a drill is done whose numbers are in their ranges, and no file is asked for
+pub record Drills (r : Notion) {F K : Type 0} (d : TheDrill) (a : Around F K) (world : Option World) (s : Status) : Type 0 where
+  pub within : IsWithin d
+  pub meets : DrillMeets (DrilledSays r) d a.sink world s
+  pub shelf : MeetsShelf Nothing a.shelf s
+
+-- a row a command
+abbrev pub CommandMeets : {F K : Type 0} → Terms → Option Request → Around F K → Option World → Status → Type 0
+CommandMeets t None a world s = RefusesWords a world s
+CommandMeets t (Some (Run boot schedule)) a world s = RunMeets (RunSays t.run) boot schedule a world s
+CommandMeets t (Some (Check boot trace)) a world s = CheckMeets (CheckSays t.trace) boot trace a world s
+CommandMeets t (Some (Chart boot schedule)) a world s = ChartMeets (ChartSays t.run) boot schedule a world s
+CommandMeets t (Some (Explain boot schedule)) a world s = ExplainMeets boot schedule a world s
+CommandMeets t (Some (Drill drill)) a world s = Drills t.run drill a world s
+
+-- the files that a request names
+abbrev pub named_in : Option Request → Named
+named_in None = Nothing
+named_in (Some (Run boot schedule)) = Both boot input.Schedule schedule
+named_in (Some (Check boot trace)) = Both boot input.Trace trace
+named_in (Some (Chart boot schedule)) = Both boot input.Schedule schedule
+named_in (Some (Explain boot schedule)) = perhaps_both boot schedule
+named_in (Some (Drill drill)) = Nothing

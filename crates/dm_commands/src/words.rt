@@ -1,0 +1,47 @@
+//! What the words of the command line ask for is done.
+ghost use Rattle.std.specs.Prelude.{◌≡◌, map};
+ghost use Rattle.dm_run.specs.Went.{RunsGo};
+ghost use Rattle.dm_words.specs.Words.{IsTaken, request_of};
+ghost use Rattle.dm_commands.specs.Commands.{CommandMeets};
+ghost use Rattle.dm_commands.specs.Outside.{around, shelf_around, sink_around};
+ghost use Rattle.dm_commands.specs.Says.{of_world};
+
+use crate::chart::chart_files;
+use crate::check::check_files;
+use crate::drill::drill;
+use crate::explain::explain_files;
+use crate::run::run_files;
+use dm_ending::status::Status;
+use dm_outside::{Shelf, Sink};
+use dm_words::words::{Request, read_words};
+use dm_world::World;
+use std::alloc::Global;
+
+/// Does what the words ask for, a row a command. The world of a run is left in `world`, which is empty where there was none.
+pub fn do_words<F: Shelf, K: Sink>(
+    alloc: Global,
+    words: &[&str],
+    shelf: &mut F,
+    out: &mut K,
+    world: &mut Option<World>,
+) -> Status
+    requires law { RunsGo }
+    ensures meets { CommandMeets of_world (request_of (map (λ w. w.now) words.now))
+        (around (shelf_around F.asked F.told F.faults F.last_failed shelf.old shelf.new)
+            (sink_around K.told K.faults K.last_failed out.old out.new)) world.new result }
+    ensures refused { result ≡ Status.Usage → IsTaken (map (λ w. w.now) words.now) → ⊥ }
+{
+    *world = None;
+    match read_words(alloc, words) {
+        Ok(Request::Run { boot, schedule }) => {
+            run_files(alloc, boot, schedule, shelf, out, world)
+        }
+        Ok(Request::Check { boot, trace }) => check_files(alloc, boot, trace, shelf, out),
+        Ok(Request::Chart { boot, schedule }) => chart_files(alloc, boot, schedule, shelf, out),
+        Ok(Request::Explain { boot, schedule }) => {
+            explain_files(alloc, boot, schedule, shelf, out)
+        }
+        Ok(Request::Drill(drawn)) => drill(alloc, &drawn, out, world),
+        Err(no) => no.status(),
+    }
+}

@@ -1,0 +1,210 @@
+-- Where no read and no write fails and memory is there, the files decide what a command comes to.
+use Rattle.dm_commands.proofs.Names.{◌≡◌, ◌⊎◌, inl, inr, ℕ, Bool, true, false, List, refl, ap, ap₂, sym, subst, ◌∙◌, Option, Some, None, Boot, Directive, RoseOrFull, appended, Verdict, good_verdict, HasTrace, NoFiles, NoTrace, AcceptsFiles, Drill as TheDrill}
+use Rattle.dm_commands.proofs.Names.{BlamesSink, IsWant, Input, Status, Done, Usage, ReadFault, NoMemory, WriteFault, BootRefused, ScheduleRefused, TooLong, Worn, TraceRefused, Request, Chart, Check, Explain, Run, boot_of_machines, directives_of_drill}
+use Rattle.dm_words.specs.Request.{Drill}
+use Rattle.dm_check.specs.Faults.{number_of_trace_fault}
+use Rattle.dm_check.specs.Judge.{Refused}
+use Rattle.dm_checklaws.specs.Verdict.{verdict}
+use Rattle.dm_check.specs.declared.fault.TraceFault.{TraceFault}
+use Rattle.dm_commands.proofs.CheckOutcomes as checking
+use Rattle.dm_commands.proofs.Outcomes.{Files, only_want, same_boot, same_inputs, some_one}
+use Rattle.dm_commands.specs.Charts.{ChartSays}
+use Rattle.dm_commands.specs.Checks.{CheckSays, SaysCheck, good_line}
+use Rattle.dm_commands.specs.Commands.{CommandMeets}
+use Rattle.dm_commands.specs.Drills.{DrilledSays}
+use Rattle.dm_commands.specs.Outside.{Around, Outside, outside}
+use Rattle.dm_commands.specs.Runs.{RunSaying, RunSays, SaysRun}
+use Rattle.dm_world.specs.declared.world.World.{World}
+use Rattle.dm_program.proofs.Runs.Endings.{wears_after, worn_same}
+use Rattle.dm_program.specs.Decided.{Accepts, CheckIsDecided, DrillIsDecided, Finds, GivesGood, GivesRefused, IsDecided, RunIsDecided}
+use Rattle.dm_program.specs.Printed.{Lasts, Wears, by_rule}
+use Rattle.dm_program.specs.Rule.{of_rule, traced_by_rule}
+
+-- what a status may say of the directives of a system: that they came to their end, or to a worn pair, or why neither
+record Tells (Says : Status → Type 0) (b : Boot) (ds : List Directive) : Type 0 where
+  done : Says Done → Lasts b ds
+  worn : (from to : ℕ) → Says (Worn from to) → Wears b ds from to
+  usage : Says Usage → ⊥
+  read : (i : Input) → Says (ReadFault i) → ⊥
+  boot : (number place : ℕ) → Says (BootRefused number place) → ⊥
+  schedule : (line why : ℕ) → Says (ScheduleRefused line why) → ⊥
+  long : (i : Input) → Says (TooLong i) → ⊥
+  trace : (line why : ℕ) → Says (TraceRefused line why) → ⊥
+
+to_end : (Says : Status → Type 0) (b : Boot) (ds : List Directive) (old new : ℕ) (s : Status) → Tells Says b ds → Says s → BlamesSink old new s → Lasts b ds → (RoseOrFull old new → ⊥) → (s ≡ Done) ⊎ IsWant s
+to_end Says b ds old new Done t h k l q = inl refl
+to_end Says b ds old new Usage t h k l q = absurd (t.usage h)
+to_end Says b ds old new (ReadFault i) t h k l q = absurd (t.read i h)
+to_end Says b ds old new (NoMemory lack) t h k l q = inr (lack, refl)
+to_end Says b ds old new WriteFault t h k l q = absurd (q k)
+to_end Says b ds old new (BootRefused number place) t h k l q = absurd (t.boot number place h)
+to_end Says b ds old new (ScheduleRefused line why) t h k l q = absurd (t.schedule line why h)
+to_end Says b ds old new (TooLong i) t h k l q = absurd (t.long i h)
+to_end Says b ds old new (Worn from to) t h k l q = let w = t.worn from to h in absurd (l w.0 from to w.1)
+to_end Says b ds old new (TraceRefused line why) t h k l q = absurd (t.trace line why h)
+
+to_worn : (Says : Status → Type 0) (b : Boot) (ds : List Directive) (old new : ℕ) (s : Status) (from to : ℕ) → Tells Says b ds → Says s → BlamesSink old new s → Wears b ds from to → (RoseOrFull old new → ⊥) → (s ≡ Worn from to) ⊎ IsWant s
+to_worn Says b ds old new Done from to t h k w q = absurd (t.done h w.0 from to w.1)
+to_worn Says b ds old new Usage from to t h k w q = absurd (t.usage h)
+to_worn Says b ds old new (ReadFault i) from to t h k w q = absurd (t.read i h)
+to_worn Says b ds old new (NoMemory lack) from to t h k w q = inr (lack, refl)
+to_worn Says b ds old new WriteFault from to t h k w q = absurd (q k)
+to_worn Says b ds old new (BootRefused number place) from to t h k w q = absurd (t.boot number place h)
+to_worn Says b ds old new (ScheduleRefused line why) from to t h k w q = absurd (t.schedule line why h)
+to_worn Says b ds old new (TooLong i) from to t h k w q = absurd (t.long i h)
+to_worn Says b ds old new (Worn x y) from to t h k w q =
+    let v = t.worn x y h in
+    let same = worn_same b ds v.0 w.0 x y from to v.1 w.1 in
+    inl (λ i. Worn (same.0 i) (same.1 i))
+to_worn Says b ds old new (TraceRefused line why) from to t h k w q = absurd (t.trace line why h)
+
+-- so it is by the rule
+run_tells : (b : Boot) (ds : List Directive) (before after : Option (List ℕ)) (world : Option World) → Tells (RunSays by_rule b ds before after world) b ds
+run_tells b ds before after world = record {
+  done = λ h. h.rests.lasts;
+  worn = λ from to h. (h.groups, wears_after b ds h.groups from to h.wears);
+  usage = λ h. h;
+  read = λ i h. h;
+  boot = λ number place h. h;
+  schedule = λ line why h. h;
+  long = λ i h. h;
+  trace = λ line why h. h;
+}
+
+chart_tells : (b : Boot) (ds : List Directive) (before after : Option (List ℕ)) (world : Option World) → Tells (ChartSays by_rule b ds before after world) b ds
+chart_tells b ds before after world = record {
+  done = λ h. h.is.rests.lasts;
+  worn = λ from to h. (h.is.groups, wears_after b ds h.is.groups from to h.is.wears);
+  usage = λ h. h;
+  read = λ i h. h;
+  boot = λ number place h. h;
+  schedule = λ line why h. h;
+  long = λ i h. h;
+  trace = λ line why h. h;
+}
+
+drill_tells : (d : TheDrill) (b : Boot) (ds : List Directive) (before after : Option (List ℕ)) (world : Option World) → Tells (DrilledSays by_rule d b ds before after world) b ds
+drill_tells d b ds before after world = record {
+  done = λ h. h.rests.lasts;
+  worn = λ from to h. (h.groups, wears_after b ds h.groups from to h.wears);
+  usage = λ h. h;
+  read = λ i h. h;
+  boot = λ number place h. h;
+  schedule = λ line why h. h;
+  long = λ i h. h;
+  trace = λ line why h. h;
+}
+
+-- a run, or the picture of one
+run_decided : (Says : RunSaying) (boot schedule : List ℕ) (o : Outside) (s : Status) → ((b : Boot) (ds : List Directive) → Tells (Says b ds o.before o.after o.world) b ds) → SaysRun Says boot schedule o s → BlamesSink o.writes_before o.writes_after s → RunIsDecided boot schedule o s
+run_decided Says boot schedule o s tells says sink = record {
+  completes = λ files b ds told a lasts never. elim says [
+    | inl r ↦
+        let k = same_inputs boot schedule o.files files r.system b r.directives ds told r.accepts a in
+        to_end (Says r.system r.directives o.before o.after o.world) r.system r.directives o.writes_before o.writes_after s (tells r.system r.directives) r.says sink
+        (subst (λ (x : Boot). Lasts x r.directives) (sym k.boots) (subst (λ (xs : List Directive). Lasts b xs) (sym k.directives) lasts)) never.writes
+    | inr n ↦ inr (only_want boot schedule o.files files o.reads_before o.reads_after b ds s told n.why a never.reads)
+  ];
+  wears = λ files b ds from to told a wears never. elim says [
+    | inl r ↦
+        let k = same_inputs boot schedule o.files files r.system b r.directives ds told r.accepts a in
+        to_worn (Says r.system r.directives o.before o.after o.world) r.system r.directives o.writes_before o.writes_after s from to (tells r.system r.directives) r.says sink
+        (subst (λ (x : Boot). Wears x r.directives from to) (sym k.boots) (subst (λ (xs : List Directive). Wears b xs from to) (sym k.directives) wears)) never.writes
+    | inr n ↦ inr (only_want boot schedule o.files files o.reads_before o.reads_after b ds s told n.why a never.reads)
+  ];
+}
+
+-- files say one system and one trace
+record SaysSame (b c : Boot) (xs ys : List ℕ) : Type 0 where
+  boots : b ≡ c
+  bytes : xs ≡ ys
+
+same_trace : (boot trace : List ℕ) (told : Option Files) (files : Files) (b c : Boot) (xs ys : List ℕ) → told ≡ Some files → HasTrace told boot trace b xs → HasTrace (Some files) boot trace c ys → SaysSame b c xs ys
+same_trace boot trace told files b c xs ys is h k =
+    let g : HasTrace (Some files) boot trace b xs = subst (λ f. HasTrace f boot trace b xs) is h in
+    record { boots = same_boot files boot boot b c refl g.says_boot k.says_boot; bytes = some_one (files trace) xs ys g.file.is k.file.is }
+
+same_line : (n m : ℕ) (e f : Bool) → good_verdict n e ≡ good_verdict m f → good_line n e ≡ good_line m f
+same_line n m false false h = let g : n ≡ m = cc in ap (λ k. good_line k false) g
+same_line n m true true h = let g : n ≡ m = cc in ap (λ k. good_line k true) g
+same_line n m false true h = absurd (cc)
+same_line n m true false h = absurd (cc)
+
+-- a good verdict is no refusal
+good_or_not : (n line : ℕ) (ended : Bool) (fault : TraceFault) → good_verdict n ended ≡ Refused line fault → ⊥
+good_or_not n line false fault h = cc
+good_or_not n line true fault h = cc
+
+same_refusal : (line l : ℕ) (f g : TraceFault) → Refused line f ≡ Refused l g → TraceRefused line (number_of_trace_fault f) ≡ TraceRefused l (number_of_trace_fault g)
+same_refusal line l f g h = let x : line ≡ l = cc in let y : f ≡ g = cc in ap₂ (λ (k : ℕ) (e : TraceFault). TraceRefused k (number_of_trace_fault e)) x y
+
+-- the verdict on the one is that on the other
+moved : (b c : Boot) (xs ys : List ℕ) (v : Verdict) → SaysSame b c xs ys → verdict b xs ≡ v → verdict c ys ≡ v
+moved b c xs ys v same h = sym (ap₂ verdict same.boots same.bytes) ∙ h
+
+accepts : (boot trace : List ℕ) (told : Option Files) (files : Files) (b : Boot) (bytes : List ℕ) (before after : Option (List ℕ)) (k k' : ℕ) (s : Status) (groups : ℕ) (ended : Bool) → told ≡ Some files → HasTrace told boot trace b bytes → CheckSays traced_by_rule b bytes before after s
+    → BlamesSink k k' s → GivesGood files boot trace groups ended → (RoseOrFull k k' → ⊥) → ((s ≡ Done) × (after ≡ appended before (good_line groups ended))) ⊎ IsWant s
+accepts boot trace told files b bytes before after k k' Done groups ended is has says sink gives quiet =
+    let same = same_trace boot trace told files b gives.system bytes gives.bytes is has gives.has in
+    let one : good_verdict says.groups says.ended ≡ good_verdict groups ended = sym (moved b gives.system bytes gives.bytes _ same says.good.verdict) ∙ gives.good in
+    inl (refl, says.written ∙ ap (appended before) (same_line says.groups groups says.ended ended one))
+accepts boot trace told files b bytes before after k k' (NoMemory lack) groups ended is has says sink gives quiet = inr (lack, refl)
+accepts boot trace told files b bytes before after k k' WriteFault groups ended is has says sink gives quiet = absurd (quiet sink)
+accepts boot trace told files b bytes before after k k' (TraceRefused line why) groups ended is has says sink gives quiet =
+    let same = same_trace boot trace told files b gives.system bytes gives.bytes is has gives.has in
+    absurd (good_or_not groups line ended says.0.fault (sym gives.good ∙ moved b gives.system bytes gives.bytes _ same says.0.refused))
+accepts boot trace told files b bytes before after k k' Usage groups ended is has says sink gives quiet = absurd says
+accepts boot trace told files b bytes before after k k' (ReadFault i) groups ended is has says sink gives quiet = absurd says
+accepts boot trace told files b bytes before after k k' (BootRefused number place) groups ended is has says sink gives quiet = absurd says
+accepts boot trace told files b bytes before after k k' (ScheduleRefused line why) groups ended is has says sink gives quiet = absurd says
+accepts boot trace told files b bytes before after k k' (TooLong i) groups ended is has says sink gives quiet = absurd says
+accepts boot trace told files b bytes before after k k' (Worn from to) groups ended is has says sink gives quiet = absurd says
+
+finds : (boot trace : List ℕ) (told : Option Files) (files : Files) (b : Boot) (bytes : List ℕ) (before after : Option (List ℕ)) (s : Status) (line why : ℕ) → told ≡ Some files → HasTrace told boot trace b bytes → CheckSays traced_by_rule b bytes before after s
+    → GivesRefused files boot trace line why → (s ≡ TraceRefused line why) ⊎ IsWant s
+finds boot trace told files b bytes before after Done line why is has says gives =
+    let same = same_trace boot trace told files b gives.system bytes gives.bytes is has gives.has in
+    absurd (good_or_not says.groups line says.ended gives.refused.fault (sym (moved b gives.system bytes gives.bytes _ same says.good.verdict) ∙ gives.refused.refused))
+finds boot trace told files b bytes before after (NoMemory lack) line why is has says gives = inr (lack, refl)
+finds boot trace told files b bytes before after WriteFault line why is has says gives =
+    let same = same_trace boot trace told files b gives.system bytes gives.bytes is has gives.has in
+    absurd (good_or_not says.groups line says.ended gives.refused.fault (sym (moved b gives.system bytes gives.bytes _ same says.good.verdict) ∙ gives.refused.refused))
+finds boot trace told files b bytes before after (TraceRefused l w) line why is has says gives =
+    let same = same_trace boot trace told files b gives.system bytes gives.bytes is has gives.has in
+    let one : Refused l says.0.fault ≡ Refused line gives.refused.fault = sym (moved b gives.system bytes gives.bytes _ same says.0.refused) ∙ gives.refused.refused in
+    inl (ap (λ x. TraceRefused l x) says.0.why_is ∙ same_refusal l line says.0.fault gives.refused.fault one ∙ ap (λ x. TraceRefused line x) (sym gives.refused.why_is))
+finds boot trace told files b bytes before after Usage line why is has says gives = absurd says
+finds boot trace told files b bytes before after (ReadFault i) line why is has says gives = absurd says
+finds boot trace told files b bytes before after (BootRefused number place) line why is has says gives = absurd says
+finds boot trace told files b bytes before after (ScheduleRefused l w) line why is has says gives = absurd says
+finds boot trace told files b bytes before after (TooLong i) line why is has says gives = absurd says
+finds boot trace told files b bytes before after (Worn from to) line why is has says gives = absurd says
+
+-- a trace
+check_decided : (boot trace : List ℕ) (o : Outside) (s : Status) → SaysCheck (CheckSays traced_by_rule) boot trace o s → BlamesSink o.writes_before o.writes_after s → CheckIsDecided boot trace o s
+check_decided boot trace o s says sink = record {
+  accepts = λ files groups ended told gives never. elim says [
+    | inl r ↦ accepts boot trace o.files files r.system r.bytes o.before o.after o.writes_before o.writes_after s groups ended told r.has r.says sink gives never.writes
+    | inr n ↦ inr (checking.only_want boot trace o.files files o.reads_before o.reads_after gives.system gives.bytes s told n.why gives.has never.reads)
+  ];
+  finds = λ files line why told gives quiet. elim says [
+    | inl r ↦ finds boot trace o.files files r.system r.bytes o.before o.after s line why told r.has r.says gives
+    | inr n ↦ inr (checking.only_want boot trace o.files files o.reads_before o.reads_after gives.system gives.bytes s told n.why gives.has quiet)
+  ];
+}
+
+-- whatever the words ask for
+pub decided : {F K : Type 0} (r : Option Request) (a : Around F K) (world : Option World) (s : Status) → CommandMeets of_rule r a world s → IsDecided r (outside a world) s
+decided None a world s h = tt
+decided (Some (Run boot schedule)) a world s h = run_decided (RunSays by_rule) boot schedule (outside a world) s (λ b ds. run_tells b ds _ _ world) h.says h.met.sink.blames
+decided (Some (Check boot trace)) a world s h = check_decided boot trace (outside a world) s h.says h.met.sink.blames
+decided (Some (Chart boot schedule)) a world s h = run_decided (ChartSays by_rule) boot schedule (outside a world) s (λ b ds. chart_tells b ds _ _ world) h.as_run.says h.as_run.met.sink.blames
+decided (Some (Explain boot schedule)) a world s h = tt
+decided (Some (Drill d)) a world s h =
+    let b = boot_of_machines d.machines in
+    let ds = directives_of_drill d in
+    let tells = drill_tells d b ds (a.sink.told a.sink.old) (a.sink.told a.sink.new) world in
+    record {
+      completes = λ lasts never. to_end (DrilledSays by_rule d b ds (a.sink.told a.sink.old) (a.sink.told a.sink.new) world) b ds (a.sink.faults a.sink.old) (a.sink.faults a.sink.new) s tells h.meets.says h.meets.sink.blames lasts never.writes;
+      wears = λ from to wears never. to_worn (DrilledSays by_rule d b ds (a.sink.told a.sink.old) (a.sink.told a.sink.new) world) b ds (a.sink.faults a.sink.old) (a.sink.faults a.sink.new) s from to tells h.meets.says h.meets.sink.blames wears never.writes;
+    }

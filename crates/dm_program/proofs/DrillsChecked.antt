@@ -1,0 +1,91 @@
+-- What `drill --trace` writes of its groups, `check` finds good.
+use Rattle.dm_commands.proofs.Names.{◌≡◌, ◌≤◌, ◌==◌, nat_lt, ℕ, suc, Bool, true, false, List, [], ◌∷◌, ◌++◌, length, ap, sym, subst, ◌∙◌, arith, if◌then◌else◌, All, All-cons, All-nil, Option, Some, Boot, Directive, World, appended, Drill, IsWithin, boot_of_machines}
+use Rattle.std.proofs.Common.{zero}
+use Rattle.std.proofs.lemmas.List.{append-nil}
+use Rattle.std.proofs.lemmas.List.Elements.{All-append}
+use Rattle.dm_draw.proofs.Drawing.{drawn_next, drawn_none}
+use Rattle.dm_draw.proofs.Names.{deliver_drawn, directives_drawn, drawn, migrate_drawn, round_drawn, state_behind, stepped, tick_drawn, turn_drawn}
+use Rattle.dm_draw.proofs.Within.{boot_machines, drawn_below}
+use Rattle.dm_draw.proofs.Within as within_
+unfoldable use Rattle.dm_draw.specs.Directives.{directive_drawn}
+use Rattle.dm_line.specs.declared.line.Line.{Line}
+use Rattle.dm_text.specs.Fits.{LineFits}
+use Rattle.dm_text.specs.Text.{text_of_lines}
+use Rattle.dm_rule.specs.Point.{Point}
+use Rattle.dm_line.specs.Todo.{Todo}
+use Rattle.dm_mirror.specs.Run.{IsGood, joined}
+use Rattle.dm_mirror.specs.Todo.{IsDirective}
+use Rattle.dm_check.specs.Judge.{Open}
+use Rattle.dm_checklaws.proofs.Runs.{beginnings_open}
+use Rattle.dm_checklaws.specs.Laws.{HasHome}
+use Rattle.dm_checklaws.specs.Verdict.{verdict}
+use Rattle.dm_drill.specs.Counts.{totals_of}
+use Rattle.dm_drill.specs.Drilled.{DrillIsWhole, text_shown}
+use Rattle.dm_drill.specs.Summary.{summary}
+unfoldable use Rattle.dm_commands.specs.Drills.{directives_of_drill}
+use Rattle.dm_commands.proofs.Drills.{all_for}
+use Rattle.dm_program.proofs.Runs.Fits.{directives_fit}
+use Rattle.dm_program.specs.Laws.{DrillsCheck, IsGoodDrill, IsGoodWornDrill}
+use Rattle.dm_program.specs.Printed.{by_rule}
+
+-- a process that is to move is at home on one of the machines
+home_fits : (n x : ℕ) → 2 ≤ n → HasHome n (directive_drawn n x).directive
+unfolding directive_drawn
+home_fits n x least = go (nat_lt (drawn 8 x) 3) (drawn 8 x == 3) (drawn 8 x == 4) (drawn 8 x == 5)
+  where
+    go : (a b c d : Bool) → HasHome n (if a then turn_drawn n (stepped x) else if b then tick_drawn n (stepped x) else if c then migrate_drawn n (stepped x) else if d then deliver_drawn n (stepped x) else round_drawn (stepped x)).directive
+    go true b c d = tt
+    go false true c d = tt
+    go false false true d = drawn_below n (stepped x) (omega (arith, least))
+    go false false false true = tt
+    go false false false false = tt
+
+homes_fit : (n x k : ℕ) → 2 ≤ n → All (HasHome n) (directives_drawn n x k)
+homes_fit n x zero least = subst (All (HasHome n)) (sym (drawn_none n x)) (All-nil (HasHome n))
+homes_fit n x (suc k) least =
+    let d : Directive = (directive_drawn n (state_behind n x k)).directive in
+    subst (All (HasHome n)) (sym (drawn_next n x k)) (All-append (HasHome n) (directives_drawn n x k) (d ∷ []) (homes_fit n x k least) (All-cons (HasHome n) d [] (home_fits n (state_behind n x k) least) (All-nil (HasHome n))))
+
+-- the groups of a drill are good, open
+groups_open : (d : Drill) → IsWithin d → (groups : List (List Line)) (end : Point) (left : Todo) → IsGood (boot_of_machines d.machines) (directives_of_drill d) groups end left → All LineFits (joined groups) → verdict (boot_of_machines d.machines) (text_of_lines (joined groups)) ≡ Open (length groups)
+groups_open d within groups end left good fits =
+    let n = d.machines in
+    let b = boot_of_machines n in
+    let ds = directives_of_drill d in
+    let same : length b.machines ≡ n = boot_machines n in
+    let each : All (IsDirective (length b.machines)) ds = subst (λ (k : ℕ). All (IsDirective k) ds) (sym same) (directives_fit n ds (all_for n ds (within_.directives_fit n d.seed d.lines within.least))) in
+    let homes : All (HasHome (length b.machines)) ds = subst (λ (k : ℕ). All (HasHome k) ds) (sym same) (homes_fit n d.seed d.lines within.least) in
+    let all : IsGood b ds (groups ++ []) end left = subst (λ (gs : List (List Line)). IsGood b ds gs end left) (sym (append-nil groups)) good in
+    beginnings_open b ds groups [] end left each homes all fits
+
+-- from nothing on, what was appended is what is there
+from_nothing : (before after : Option (List ℕ)) (bytes : List ℕ) → before ≡ Some [] → after ≡ appended before bytes → after ≡ Some bytes
+from_nothing before after bytes none written = written ∙ ap (λ (o : Option (List ℕ)). appended o bytes) none
+
+shown : (trace : Bool) (ls : List Line) → trace ≡ true → text_shown trace ls ≡ text_of_lines ls
+shown trace ls e = ap (λ (t : Bool). text_shown t ls) e
+
+whole_checks : (d : Drill) (b : Boot) (ds : List Directive) (before after : Option (List ℕ)) (world : Option World) (w : DrillIsWhole by_rule d b ds before after world) → d.trace ≡ true → before ≡ Some []
+    → after ≡ Some (text_of_lines (joined w.groups) ++ summary d.seed d.machines d.lines (totals_of w.groups) w.sums.quiet)
+whole_checks d b ds before after world w trace none =
+    from_nothing before after (text_shown d.trace (joined w.groups) ++ w.last) none w.written
+    ∙ ap (λ (t : List ℕ). Some (t ++ w.last)) (shown d.trace (joined w.groups) trace)
+    ∙ ap (λ (t : List ℕ). Some (text_of_lines (joined w.groups) ++ t)) w.sums.is
+
+pub drills_check : DrillsCheck
+drills_check = record {
+  done = λ d o within trace none says. record {
+    printed = text_of_lines (joined says.groups);
+    groups = length says.groups;
+    totals = totals_of says.groups;
+    quiet = says.sums.quiet;
+    written = whole_checks d (boot_of_machines d.machines) (directives_of_drill d) o.before o.after o.world says trace none;
+    good = groups_open d within says.groups says.at.end says.at.left says.good says.fits;
+  };
+  worn = λ d o from to within trace none says. record {
+    printed = text_of_lines (joined says.groups);
+    groups = length says.groups;
+    written = from_nothing o.before o.after (text_shown d.trace (joined says.groups)) none says.written ∙ ap Some (shown d.trace (joined says.groups) trace);
+    good = groups_open d within says.groups says.wears.at.end says.wears.at.left says.wears.good says.fits;
+  };
+}

@@ -1,0 +1,25 @@
+-- There are no words.
+use Rattle.dm_commands.proofs.Names.{◌≡◌, ℕ, List, sym, ◌∙◌, Option, World, WordsError, status_of_no, Input, Status, Usage, ReadFault, NoMemory, WriteFault}
+use Rattle.dm_words.specs.declared.words.WordsError.TheVariants as why
+use Rattle.dm_commands.proofs.Meeting.{unread, unwritten}
+use Rattle.dm_commands.specs.Asked.{Nothing}
+use Rattle.dm_commands.specs.Outside.{Around, Untouched}
+use Rattle.dm_program.specs.Program.{HasNoWords}
+
+reads_none : (reason : WordsError) (i : Input) → status_of_no reason ≡ ReadFault i → ⊥
+reads_none why.Usage i e = cc
+reads_none (why.NoMemory lack) i e = cc
+
+writes_none : (reason : WordsError) → status_of_no reason ≡ WriteFault → ⊥
+writes_none why.Usage e = cc
+writes_none (why.NoMemory lack) e = cc
+
+pub no_words : {F K : Type 0} (reason : WordsError) (a : Around F K) (world : Option World) (s : Status) → s ≡ status_of_no reason → Untouched a world → ((name : List ℕ) → a.shelf.asked a.shelf.old name a.shelf.old) → HasNoWords reason a world s
+no_words reason a world s e h nothing = record {
+  why = e;
+  untouched = h;
+  met = record {
+    shelf = unread Nothing a.shelf s h.unread nothing (λ i f. reads_none reason i (sym e ∙ f));
+    sink = unwritten a.sink s h.unwritten (λ f. writes_none reason (sym e ∙ f));
+  };
+}

@@ -1,0 +1,34 @@
+-- What `run` has printed at its end is sound.
+use Rattle.dm_commands.proofs.Names.{◌≡◌, inl, inr, ℕ, List, length, Boot, Directive}
+use Rattle.dm_line.specs.declared.line.Line.{Line}
+use Rattle.dm_message.specs.declared.MsgId.{MsgId}
+use Rattle.dm_rule.specs.Point.{first_point}
+use Rattle.dm_movelaws.proofs.Open.Moves.{leads_of}
+use Rattle.dm_mirror.proofs.Leading.{good_leads}
+use Rattle.dm_mirror.proofs.Names.{joined, stands_once_always}
+use Rattle.dm_run.specs.Printed.{IsWhole}
+use Rattle.dm_program.proofs.Runs.Fits.{directives_fit}
+use Rattle.dm_program.specs.Printed.{by_rule}
+use Rattle.dm_program.specs.Theorem.{IsSound, PrintsSoundly, RunsAreSound}
+
+pub runs_are_sound : RunsAreSound
+runs_are_sound boot schedule o says = elim says [
+  | inl r ↦
+      let w : IsWhole by_rule r.system r.directives o.before o.after o.world = r.says in
+      let l = good_leads r.system r.directives w.groups w.at.end w.at.left r.valid (directives_fit (length r.system.machines) r.directives r.within) w.good in
+      let sound : IsSound r.system (joined w.groups) w.at.end =
+      record {
+        replays = w.good.replays;
+        received = w.good.received;
+        stands = λ (id : MsgId). stands_once_always r.system l.0 w.at.end id r.valid (leads_of r.system l.0 (joined w.groups) (first_point r.system) w.at.end l.1);
+        directives = l.0;
+        leads = l.1;
+      } in
+      record {
+        system = r.system;
+        directives = r.directives;
+        accepts = r.accepts;
+        prints = record { lines = joined w.groups; end = w.at.end; sound = sound; written = w.written };
+      }
+  | inr r ↦ absurd r.why
+]

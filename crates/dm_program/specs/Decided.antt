@@ -1,0 +1,81 @@
+-- What each command comes to, whoever asks: where no read and no write fails and memory is there, it is decided by the files.
+use Rattle.std.specs.Prelude.{◌≡◌, ⊤, ℕ, ◌⊎◌, Bool, List}
+use Rattle.std.specs.declared.option.Option.{Option}
+use Rattle.std.specs.declared.option.Option.TheVariants.{None, Some}
+use Rattle.dm_onekernel.specs.declared.boot.Boot.{Boot}
+use Rattle.dm_schedule.specs.declared.Directive.{Directive}
+use Rattle.dm_outside.specs.Outside.{appended}
+use Rattle.dm_draw.specs.Boot.{boot_of_machines}
+use Rattle.dm_draw.specs.declared.drill.Drill.{Drill as TheDrill}
+use Rattle.dm_ending.specs.declared.status.Status.{Status}
+use Rattle.dm_ending.specs.declared.status.Status.TheVariants.{Done, TraceRefused, Worn}
+use Rattle.dm_ending.specs.Status.{IsWant}
+use Rattle.dm_words.specs.Request.{Request, Chart, Check, Drill, Explain, Run}
+use Rattle.dm_check.specs.Good.{good_verdict}
+use Rattle.dm_checklaws.specs.Verdict.{verdict}
+use Rattle.dm_commands.specs.Checks.{HasTrace, RefusesTrace, good_line}
+use Rattle.dm_commands.specs.Drills.{directives_of_drill}
+use Rattle.dm_commands.specs.Inputs.{AcceptsFiles}
+use Rattle.dm_commands.specs.Outside.{NeverFails, NeverReadsBadly, Outside}
+use Rattle.dm_program.specs.Printed.{Lasts, Wears}
+use Rattle.dm_program.specs.Rule.{traced_by_rule}
+
+-- directives that last come to their end, unless memory lacks
+abbrev pub Completes : List ℕ → List ℕ → Outside → Status → Type 0
+Completes boot schedule o s =
+    (files : List ℕ → Option (List ℕ)) (b : Boot) (ds : List Directive) → o.files ≡ Some files → AcceptsFiles (Some files) boot schedule b ds
+    → Lasts b ds → NeverFails o → (s ≡ Done) ⊎ IsWant s
+
+-- directives that come to two machines that count as many as they may stop there, unless memory lacks
+abbrev pub WearsOut : List ℕ → List ℕ → Outside → Status → Type 0
+WearsOut boot schedule o s =
+    (files : List ℕ → Option (List ℕ)) (b : Boot) (ds : List Directive) (from to : ℕ) → o.files ≡ Some files
+    → AcceptsFiles (Some files) boot schedule b ds → Wears b ds from to → NeverFails o → (s ≡ Worn from to) ⊎ IsWant s
+
+-- so it is with a run, and with the picture of one
+pub record RunIsDecided (boot schedule : List ℕ) (o : Outside) (s : Status) : Type 0 where
+  pub completes : Completes boot schedule o s
+  pub wears : WearsOut boot schedule o s
+
+-- what files of these names come to, whoever asks: good, or refused
+pub record GivesGood (files : List ℕ → Option (List ℕ)) (boot trace : List ℕ) (groups : ℕ) (ended : Bool) : Type 0 where
+  pub system : Boot
+  pub bytes : List ℕ
+  pub has : HasTrace (Some files) boot trace system bytes
+  pub good : verdict system bytes ≡ good_verdict groups ended
+
+pub record GivesRefused (files : List ℕ → Option (List ℕ)) (boot trace : List ℕ) (line why : ℕ) : Type 0 where
+  pub system : Boot
+  pub bytes : List ℕ
+  pub has : HasTrace (Some files) boot trace system bytes
+  pub refused : RefusesTrace traced_by_rule system bytes line why
+
+-- what is good by the verdict checks as good, and that is said, unless memory lacks
+abbrev pub Accepts : List ℕ → List ℕ → Outside → Status → Type 0
+Accepts boot trace o s =
+    (files : List ℕ → Option (List ℕ)) (groups : ℕ) (ended : Bool) → o.files ≡ Some files → GivesGood files boot trace groups ended → NeverFails o
+    → ((s ≡ Done) × (o.after ≡ appended o.before (good_line groups ended))) ⊎ IsWant s
+
+-- others are refused at their first bad line
+abbrev pub Finds : List ℕ → List ℕ → Outside → Status → Type 0
+Finds boot trace o s =
+    (files : List ℕ → Option (List ℕ)) (line why : ℕ) → o.files ≡ Some files → GivesRefused files boot trace line why → NeverReadsBadly o → (s ≡ TraceRefused line why) ⊎ IsWant s
+
+-- so it is with a trace
+pub record CheckIsDecided (boot trace : List ℕ) (o : Outside) (s : Status) : Type 0 where
+  pub accepts : Accepts boot trace o s
+  pub finds : Finds boot trace o s
+
+-- and with a drill: directives that last come to their end, and others to the worn pair, unless memory lacks or a write fails
+pub record DrillIsDecided (d : TheDrill) (o : Outside) (s : Status) : Type 0 where
+  pub completes : Lasts (boot_of_machines d.machines) (directives_of_drill d) → NeverFails o → (s ≡ Done) ⊎ IsWant s
+  pub wears : (from to : ℕ) → Wears (boot_of_machines d.machines) (directives_of_drill d) from to → NeverFails o → (s ≡ Worn from to) ⊎ IsWant s
+
+-- a row a command: what `explain` comes to is among what it promises
+abbrev pub IsDecided : Option Request → Outside → Status → Type 0
+IsDecided None o s = ⊤
+IsDecided (Some (Run boot schedule)) o s = RunIsDecided boot schedule o s
+IsDecided (Some (Check boot trace)) o s = CheckIsDecided boot trace o s
+IsDecided (Some (Chart boot schedule)) o s = RunIsDecided boot schedule o s
+IsDecided (Some (Explain boot schedule)) o s = ⊤
+IsDecided (Some (Drill d)) o s = DrillIsDecided d o s

@@ -1,0 +1,98 @@
+-- The numbers of a drill that words ask for are in their ranges.
+use Rattle.std.proofs.Common.{◌≡◌, ◌≤◌, ℕ, Bool, true, false, List, [], ◌∷◌, refl, arith}
+use Rattle.std.proofs.lemmas.Bool.Decides.{nat_tests}
+use Rattle.std.specs.Prelude.{Option, Some, None, ⊤, nat_le, ◌&&◌, if◌then◌else◌, option_and_then, codes}
+use Rattle.std.specs.Str.{bytes_eq}
+use Rattle.clap.specs.Walk.{Row, first_of, is_empty}
+use Rattle.clap.specs.Simple.{subcommand_of}
+use Rattle.clap.specs.Faults.{fault_of}
+use Rattle.dm_text.specs.Reading.{read_u32, read_u8}
+use Rattle.dm_words.specs.ChartWords.{chart_request}
+use Rattle.dm_words.specs.CheckWords.{check_request}
+use Rattle.dm_words.specs.DrillWords.{IsWithin, drawn_by, drill_request, if_within, lines_asked, machines_asked, seed_of, trace_of}
+use Rattle.dm_words.specs.ExplainWords.{explaining}
+use Rattle.dm_words.specs.FileWords.{both_files}
+use Rattle.dm_words.specs.Request.{Request, Chart, Check, Drill, Explain, Run}
+use Rattle.dm_words.specs.RunWords.{run_request}
+use Rattle.dm_words.specs.Words.{Command, commands, demosmp, request_at, request_in, request_of}
+
+-- what is asked for can be done: a drill is of numbers in their ranges
+abbrev pub Fits : Option Request → Type 0
+Fits None = ⊤
+Fits (Some (Run boot schedule)) = ⊤
+Fits (Some (Check boot trace)) = ⊤
+Fits (Some (Chart boot schedule)) = ⊤
+Fits (Some (Explain boot schedule)) = ⊤
+Fits (Some (Drill drill)) = IsWithin drill
+
+-- a number, if there is one, is one of these
+abbrev IsBetween : ℕ → ℕ → Option ℕ → Type 0
+IsBetween least most None = ⊤
+IsBetween least most (Some n) = (least ≤ n) × (n ≤ most)
+
+below : (a b : ℕ) → nat_le a b ≡ true → a ≤ b
+below a b e = grind (arith, nat_tests)
+
+tested : (least most n : ℕ) (a b : Bool) → nat_le least n ≡ a → nat_le n most ≡ b → IsBetween least most (if a && b then Some n else None)
+tested least most n true true e f = (below least n e, below n most f)
+tested least most n true false e f = tt
+tested least most n false b e f = tt
+
+between : (least most : ℕ) (o : Option ℕ) → IsBetween least most (option_and_then (if_within least most) o)
+between least most None = tt
+between least most (Some n) = tested least most n (nat_le least n) (nat_le n most) refl refl
+
+named : (word : Option (List ℕ)) (read : List ℕ → Option ℕ) (least most : ℕ) → IsBetween least most (option_and_then (λ w. option_and_then (if_within least most) (read w)) word)
+named None read least most = tt
+named (Some w) read least most = between least most (read w)
+
+drawn_fits : (trace : Bool) (seed machines lines : Option ℕ) → IsBetween 2 16 machines → IsBetween 1 10000 lines → Fits (drawn_by trace seed machines lines)
+drawn_fits trace (Some seed) (Some machines) (Some lines) h k = record { least = h.0; most = h.1; few = k.1 }
+drawn_fits trace (Some seed) (Some machines) None h k = tt
+drawn_fits trace (Some seed) None lines h k = tt
+drawn_fits trace None machines lines h k = tt
+
+both_fit : (asked : List ℕ → List ℕ → Request) (one other : Option (List ℕ)) → ((x y : List ℕ) → Fits (Some (asked x y))) → Fits (both_files asked one other)
+both_fit asked (Some one) (Some other) h = h one other
+both_fit asked (Some one) None h = tt
+both_fit asked None other h = tt
+
+explain_fits : (boot schedule : Option (List ℕ)) → Fits (explaining boot schedule)
+explain_fits None schedule = tt
+explain_fits (Some boot) schedule = tt
+
+abbrev AllFit : List Command → Type 0
+AllFit [] = ⊤
+AllFit (c ∷ cs) = ((rows : List Row) → Fits (c.request rows)) × AllFit cs
+
+run_fits : (rows : List Row) → Fits (run_request rows)
+run_fits rows = both_fit (λ boot schedule. Run boot schedule) (first_of (codes "boot") rows) (first_of (codes "schedule") rows) (λ x y. tt)
+
+check_fits : (rows : List Row) → Fits (check_request rows)
+check_fits rows = both_fit (λ boot trace. Check boot trace) (first_of (codes "boot") rows) (first_of (codes "trace") rows) (λ x y. tt)
+
+chart_fits : (rows : List Row) → Fits (chart_request rows)
+chart_fits rows = both_fit (λ boot schedule. Chart boot schedule) (first_of (codes "boot") rows) (first_of (codes "schedule") rows) (λ x y. tt)
+
+drill_fits : (rows : List Row) → Fits (drill_request rows)
+drill_fits rows =
+    drawn_fits (trace_of rows) (seed_of rows) (machines_asked rows) (lines_asked rows) (named (first_of (codes "machines") rows) read_u8 2 16) (named (first_of (codes "lines") rows) read_u32 1 10000)
+
+-- a row a command
+commands_fit : AllFit commands
+commands_fit = (run_fits, (check_fits, (chart_fits, (λ rows. explain_fits (first_of (codes "boot") rows) (first_of (codes "schedule") rows), (drill_fits, tt)))))
+
+if_fits : (b : Bool) (x y : Option Request) → Fits x → Fits y → Fits (if b then x else y)
+if_fits true x y h k = h
+if_fits false x y h k = k
+
+in_fits : (cs : List Command) (name : List ℕ) (rows : List Row) → AllFit cs → Fits (request_in cs name rows)
+in_fits [] name rows all = tt
+in_fits (c ∷ cs) name rows all = if_fits (bytes_eq name c.shape.name) (c.request rows) (request_in cs name rows) (all.0 rows) (in_fits cs name rows all.1)
+
+at_fits : (o : Option (List ℕ × List Row)) → Fits (option_and_then request_at o)
+at_fits None = tt
+at_fits (Some found) = in_fits commands found.0 found.1 commands_fit
+
+pub asked_fits : (words : List (List ℕ)) → Fits (request_of words)
+asked_fits words = if_fits (is_empty (fault_of demosmp words)) (option_and_then request_at (subcommand_of demosmp words)) None (at_fits (subcommand_of demosmp words)) tt
