@@ -14,7 +14,7 @@ next_byte : (m : List ℕ) (i j : ℕ) → i < length m → suc i ≡ j → drop
 next_byte m i j h e = drop-cons m i 0 h ∙ ap (λ (k : ℕ). get_or m i 0 ∷ drop k m) e
 
 -- four bytes of a memory
-take_four : (m : List ℕ) (at : ℕ) → at + 4 ≤ length m → take 4 (drop at m) ≡ get_or m at 0 ∷ get_or m (at + 1) 0 ∷ get_or m (at + 2) 0 ∷ get_or m (at + 3) 0 ∷ []
+pub take_four : (m : List ℕ) (at : ℕ) → at + 4 ≤ length m → take 4 (drop at m) ≡ get_or m at 0 ∷ get_or m (at + 1) 0 ∷ get_or m (at + 2) 0 ∷ get_or m (at + 3) 0 ∷ []
 take_four m at h =
     let a = next_byte m at (at + 1) (omega arith) (omega arith) in
     let b = next_byte m (at + 1) (at + 2) (omega arith) (omega arith) in

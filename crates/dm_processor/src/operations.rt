@@ -6,15 +6,29 @@ use crate::registers::{Fault, REGISTERS, Regs, Stepped};
 use crate::storage::Cells;
 use byteorder::{BigEndian, ByteOrder};
 
-/// The word at an address.
+/// The four bytes at an address of a word.
+#[tactic(auto, using(crate::proofs::Words::take_four))]
+fn four_bytes<C: Cells>(cells: &C, at: u32) -> [u8; 4]
+    requires within { at + 4 ≤ length (C.bytes cells.now) }
+    requires aligned { at % 4 ≡ 0 }
+    ensures { result ≡ take 4 (drop at (C.bytes cells.now)) }
+{
+    [
+        cells.byte(at),
+        cells.byte(at + 1),
+        cells.byte(at + 2),
+        cells.byte(at + 3),
+    ]
+}
+
+/// The word at an address of one.
 #[tactic(auto, using(crate::proofs::Words::words))]
 fn word<C: Cells>(cells: &C, at: u32) -> u32
-    requires { at + 4 ≤ length (C.bytes cells.now) }
+    requires within { at + 4 ≤ length (C.bytes cells.now) }
+    requires aligned { at % 4 ≡ 0 }
     ensures { result ≡ word_at (C.bytes cells.now) at }
 {
-    let mut bytes = [0; 4];
-    cells.copy_out(at, &mut bytes);
-    BigEndian::read_u32(&bytes)
+    BigEndian::read_u32(&four_bytes(cells, at))
 }
 
 /// Changes the word at an address.
@@ -69,11 +83,7 @@ pub fn fetch<C: Cells>(pc: u32, cells: &C) -> Result<[u8; 4], Fault>
     ensures err { IfErr result (λ fault. (row : Row) → word_row (C.bytes cells.now) pc row ≡ Faults fault) }
 {
     match word_address(cells, u64::from(pc)) {
-        Ok(at) => {
-            let mut code = [0; 4];
-            cells.copy_out(at, &mut code);
-            Ok(code)
-        }
+        Ok(at) => Ok(four_bytes(cells, at)),
         Err(fault) => Err(fault),
     }
 }
