@@ -7,7 +7,7 @@ use Rattle.dm_schedule.specs.declared.Directive.TheVariants as directive
 use Rattle.dm_schedule.specs.declared.Step.TheVariants as step
 use Rattle.dm_schedule.specs.declared.LineFault.{LineFault}
 use Rattle.dm_schedule.specs.declared.LineFault.TheVariants.{UnknownWord, WrongCount, NotANumber, OutOfRange, SameMachine}
-use Rattle.dm_schedule.specs.Lines.{lines}
+use Rattle.dm_reading.specs.Lines.{lines}
 use Rattle.dm_schedule.specs.Schedule.{Schedule, Accepted, Refused, number_of_fault}
 use Rattle.dm_explain.specs.declared.schedule.Deed.{Deed}
 use Rattle.dm_explain.specs.declared.schedule.Deed.TheVariants.{Turn, Tick, Deliver, Migrate, Round, Spin, Settle}
