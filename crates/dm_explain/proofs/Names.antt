@@ -12,7 +12,7 @@ pub use Rattle.dm_explain.specs.Faults.{is_met, is_within, keys_text, wish_told}
 unfoldable pub use Rattle.dm_explain.specs.Faults.{first_bad, key_fault, limit_told, number_fault, wish_fault}
 pub use Rattle.dm_explain.specs.LineAt.{line_at, line_or_nothing}
 pub use Rattle.dm_explain.specs.Parts.{part_text, shown_byte}
-pub use Rattle.dm_explain.specs.Schedules.{is_deed}
+pub use Rattle.dm_explain.specs.Schedules.{is_of}
 pub use Rattle.dm_explain.specs.System.{boot_process_told, image_told, link_told, machine_told}
 unfoldable pub use Rattle.dm_explain.specs.System.{each}
 pub use Rattle.dm_explain.specs.Told.{link_keeps}

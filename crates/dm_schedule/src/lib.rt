@@ -15,6 +15,7 @@ use crate::directives::line_directive;
 use dm_link::Pid;
 use dm_memory::{NoMemory, push};
 use dm_reading::first_line;
+pub use keywords::Keyword;
 use std::alloc::Global;
 use thiserror::Error;
 
