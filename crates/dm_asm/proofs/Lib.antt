@@ -1,7 +1,6 @@
 pub mod Names
-pub mod Cuts
+pub mod Comments
 pub mod Defined
-pub mod Digits
 pub mod Meant
 mod Sizes
 mod Stands

@@ -13,7 +13,9 @@ pub use Rattle.std.specs.Option.{option_and_then}
 pub use Rattle.std.specs.Ordering.{nat_cmp}
 pub use Rattle.std.specs.Prelude.{Err, Ok, Result, if◌then◌else◌, is_some, ok_or, option_map, unwrap_or}
 pub use Rattle.std.specs.Str.{bytes_eq}
-pub use Rattle.dm_memory.specs.Cuts.{cut, ends_line}
+unfoldable pub use Rattle.dm_reading.specs.Lines.{source_lines}
+pub use Rattle.dm_reading.specs.Words.{source_words}
+unfoldable pub use Rattle.dm_reading.specs.Words.{words_between}
 pub use Rattle.dm_processor.proofs.Names.{Bool, List, None, Option, Some, [], ap, arith, common_steps, cond, drop, drop-cons, false, get_or, length, length-drop, length-take-le, nat_tests, refl, replicate, suc, sym, take, take-append_seam}
 pub use Rattle.dm_processor.proofs.Names.{take_all, true, zero, ℕ, ◌*◌, ◌++◌, ◌+◌, ◌-◌, ◌<◌, ◌^◌, ◌∙◌, ◌∷◌, ◌≡◌, ◌≤◌}
 pub use Rattle.dm_processor.specs.declared.opcodes.Opcode.{Opcode}
@@ -22,9 +24,7 @@ unfoldable pub use Rattle.dm_asm.specs.Assembled.{assembled, places_of, with_lin
 pub use Rattle.dm_asm.specs.Forms.{shape_of}
 unfoldable pub use Rattle.dm_asm.specs.Forms.{form_of}
 unfoldable pub use Rattle.dm_asm.specs.Labels.{place_in}
-pub use Rattle.dm_asm.specs.Lines.{is_semicolon, separates, without_comment}
-unfoldable pub use Rattle.dm_asm.specs.Lines.{source_lines, source_words}
-pub use Rattle.dm_asm.specs.Numbers.{base, digit, number_going_on}
+pub use Rattle.dm_asm.specs.Lines.{is_semicolon, without_comment}
 unfoldable pub use Rattle.dm_asm.specs.Numbers.{literal_value}
 pub use Rattle.dm_asm.specs.Operands.{wanted_number}
 unfoldable pub use Rattle.dm_asm.specs.Operands.{distance_of, fields, number_operand, operand_value, register, target, value}

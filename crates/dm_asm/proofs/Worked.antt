@@ -1,5 +1,5 @@
 -- The definitions, computed on worked texts.
-use Rattle.dm_asm.proofs.Names.{◌≡◌, ℕ, Ok, Err, Result, List, [], ◌∷◌, ◌++◌, map, codes, refl, Why, assembled, places_of, with_line, form_of, source_lines, source_words, literal_value, distance_of, fields, number_operand, register, target}
+use Rattle.dm_asm.proofs.Names.{◌≡◌, ℕ, Ok, Err, Result, List, [], ◌∷◌, ◌++◌, map, codes, refl, Why, assembled, places_of, with_line, form_of, source_lines, words_between, literal_value, distance_of, fields, number_operand, register, target}
 use Rattle.dm_asm.proofs.Names.{value, operand_value, has_label, line_size, why_code, line_bytes, listed_bytes, statement_bytes}
 
 -- the line and the number of a refusal; 0 and 0 where there is an image
@@ -92,9 +92,9 @@ refused =
     (codes ".zero 65537", (1, 4)) ∷ []
 
 pub images_are_these : map (λ row. assembled row.0) images ≡ map (λ row. Ok row.1) images
-unfolding assembled places_of with_line form_of source_lines source_words literal_value operand_value distance_of register number_operand value target fields line_size has_label listed_bytes statement_bytes line_bytes
+unfolding assembled places_of with_line form_of source_lines words_between literal_value operand_value distance_of register number_operand value target fields line_size has_label listed_bytes statement_bytes line_bytes
 images_are_these = refl
 
 pub refused_so : map (λ row. refusal (assembled row.0)) refused ≡ map (λ row. row.1) refused
-unfolding assembled places_of with_line form_of source_lines source_words literal_value operand_value distance_of register number_operand value target fields line_size has_label listed_bytes statement_bytes line_bytes
+unfolding assembled places_of with_line form_of source_lines words_between literal_value operand_value distance_of register number_operand value target fields line_size has_label listed_bytes statement_bytes line_bytes
 refused_so = refl

@@ -1,5 +1,6 @@
 -- The image of a text.
 use Rattle.std.specs.Prelude.{ℕ, ◌≡◌, nat_le, ◌+◌, ◌-◌, if◌then◌else◌, Option, Result, Ok, Err, List, [], ◌∷◌, ◌++◌, length, take}
+use Rattle.dm_reading.specs.Lines.{source_lines}
 use Rattle.dm_asm.specs.declared.labels.Place.{Place}
 use Rattle.dm_asm.specs.declared.refusals.Why.{Why}
 use Rattle.dm_asm.specs.declared.refusals.Why.TheVariants.{TooLong}
@@ -7,7 +8,6 @@ use Rattle.dm_asm.specs.declared.refusals.AssembleError.{AssembleError}
 use Rattle.dm_asm.specs.declared.refusals.AssembleError.TheVariants.{Fault, NoMemory}
 use Rattle.dm_asm.specs.declared.refusals.Stop.{Stop}
 use Rattle.dm_asm.specs.declared.refusals.Stop.TheVariants as stops
-use Rattle.dm_asm.specs.Lines.{source_lines}
 use Rattle.dm_asm.specs.Places.{place_from}
 use Rattle.dm_asm.specs.Refusals.{◌>>=◌}
 use Rattle.dm_asm.specs.Statements.{line_bytes}

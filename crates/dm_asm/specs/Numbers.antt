@@ -1,24 +1,9 @@
 -- Numbers, registers and names as they are written.
-use Rattle.std.specs.Prelude.{ℕ, Bool, true, false, ◌==◌, ◌&&◌, ◌||◌, nat_lt, nat_le, ◌+◌, ◌-◌, ◌*◌, if◌then◌else◌, not, Option, Some, None, List, [], ◌∷◌, length, drop, slice_index}
-use Rattle.std.specs.Option.{option_and_then}
+use Rattle.std.specs.Prelude.{ℕ, Bool, ◌==◌, ◌&&◌, ◌||◌, nat_lt, nat_le, ◌+◌, ◌-◌, if◌then◌else◌, not, Option, Some, None, List, [], ◌∷◌, length, drop, slice_index}
 use Rattle.std.specs.List.{list_all}
-use Rattle.dm_memory.specs.Cuts.{is_digit}
-
--- the value of a digit of a number to the base 10 or 16
-abbrev pub digit : Bool → ℕ → Option ℕ
-digit hex c =
-    if is_digit c then Some (c - 48)
-    else (if hex && nat_le 97 c && nat_le c 102 then Some (c - 87)
-    else (if hex && nat_le 65 c && nat_le c 70 then Some (c - 55) else None))
-
--- the base of a number
-abbrev pub base : Bool → ℕ
-base hex = if hex then 16 else 10
-
--- the number that begins with n and goes on with these digits
-abbrev pub number_going_on : Bool → ℕ → List ℕ → Option ℕ
-number_going_on hex n [] = Some n
-number_going_on hex n (c ∷ cs) = option_and_then (λ d. number_going_on hex (n * base hex + d) cs) (digit hex c)
+use Rattle.dm_reading.specs.Digits.{digits_after, is_digit}
+use Rattle.dm_reading.specs.Numbers.{number_after}
+use Rattle.dm_reading.specs.declared.numbers.Base.TheVariants.{Sixteen}
 
 -- whether a word begins with 0x and has more
 abbrev pub is_hex : List ℕ → Bool
@@ -26,7 +11,7 @@ is_hex word = (slice_index word 0 == 48) && (slice_index word 1 == 120) && nat_l
 
 -- the number that a word is: decimal digits, or 0x and hexadecimal ones
 unfoldable pub literal_value : List ℕ → Option ℕ
-literal_value word = if is_hex word then number_going_on true 0 (drop 2 word) else (if length word == 0 then None else number_going_on false 0 word)
+literal_value word = if is_hex word then digits_after Sixteen 0 (drop 2 word) else (if length word == 0 then None else number_after 0 word)
 
 -- the register that a word names: r0 to r15
 abbrev pub register_of : List ℕ → Option ℕ

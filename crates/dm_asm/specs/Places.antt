@@ -1,11 +1,12 @@
 -- The lines and addresses of the labels.
 use Rattle.std.specs.Prelude.{ℕ, Bool, false, ◌==◌, ◌&&◌, nat_le, ◌+◌, ◌-◌, if◌then◌else◌, Option, Some, None, is_some, unwrap_or, option_map, List, [], ◌∷◌, length, take, slice_index}
 use Rattle.std.specs.Str.{bytes_eq}
+use Rattle.dm_reading.specs.Words.{source_words}
 use Rattle.dm_asm.specs.declared.forms.Form.{Form}
 use Rattle.dm_asm.specs.declared.forms.Form.TheVariants.{Instruction, Word, Byte, Zero}
 use Rattle.dm_asm.specs.declared.labels.Place.{Place}
 use Rattle.dm_asm.specs.Forms.{form_of}
-use Rattle.dm_asm.specs.Lines.{source_words, without_comment}
+use Rattle.dm_asm.specs.Lines.{without_comment}
 use Rattle.dm_asm.specs.Numbers.{is_label_name, literal_value}
 
 -- the label that a word is with its colon

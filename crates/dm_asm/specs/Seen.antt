@@ -1,8 +1,8 @@
 -- What is read from a line, seen as words.
 use Rattle.std.specs.Prelude.{ℕ, List, Result, Ok, Err}
 use Rattle.std.specs.Borrow.{Bor}
+use Rattle.dm_reading.specs.Words.{source_words}
 use Rattle.dm_asm.specs.declared.refusals.Why.{Why}
-use Rattle.dm_asm.specs.Lines.{source_words}
 
 -- a value and the words behind it
 abbrev pub seen : Result (ℕ × Bor (List ℕ)) Why → Result (ℕ × List (List ℕ)) Why

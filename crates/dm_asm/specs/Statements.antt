@@ -1,5 +1,6 @@
 -- The bytes of a line.
-use Rattle.std.specs.Prelude.{ℕ, Bool, false, ◌==◌, not, nat_lt, ◌^◌, ◌-◌, if◌then◌else◌, Option, Some, None, unwrap_or, option_map, option_and_then, ok_or, Result, Ok, Err, List, [], ◌∷◌, length, replicate}
+use Rattle.std.specs.Prelude.{ℕ, Bool, false, ◌==◌, not, nat_lt, ◌^◌, ◌-◌, if◌then◌else◌, Option, unwrap_or, option_map, option_and_then, ok_or, Result, Ok, Err, List, [], ◌∷◌, length, replicate}
+use Rattle.dm_reading.specs.Words.{source_words}
 use Rattle.dm_processor.specs.declared.opcodes.Opcode.{Opcode}
 use Rattle.dm_processor.specs.Opcodes.{opcode_number}
 use Rattle.dm_processor.specs.Instructions.{word_bytes}
@@ -9,7 +10,7 @@ use Rattle.dm_asm.specs.declared.labels.Place.{Place}
 use Rattle.dm_asm.specs.declared.refusals.Why.{Why}
 use Rattle.dm_asm.specs.declared.refusals.Why.TheVariants.{UnknownWord, LabelTwice, OperandCount}
 use Rattle.dm_asm.specs.Forms.{form_of, operand_count, shape_of}
-use Rattle.dm_asm.specs.Lines.{source_words, without_comment}
+use Rattle.dm_asm.specs.Lines.{without_comment}
 use Rattle.dm_asm.specs.Numbers.{literal_value}
 use Rattle.dm_asm.specs.Operands.{fields, number_operand, value, wanted_number}
 use Rattle.dm_asm.specs.Places.{behind_label, label_of_words}

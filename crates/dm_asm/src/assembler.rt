@@ -1,18 +1,19 @@
 //! Assembling a text, line by line.
 ghost use Rattle.std.specs.Prelude.{◌≡◌, ◌≤◌, [], IfOk, OnOk, length, nat_lt};
 ghost use Rattle.std.specs.Option.{option_copied};
+ghost use Rattle.dm_reading.specs.Lines.{source_lines};
 ghost use Rattle.dm_asm.specs.Assembled.{Answers, assembled, at_line, with_line, with_lines};
 ghost use Rattle.dm_asm.specs.Labels.{place_in};
-ghost use Rattle.dm_asm.specs.Lines.{source_lines};
 ghost use Rattle.dm_asm.specs.Refusals.{Gives};
 ghost use Rattle.dm_asm.specs.Statements.{is_twice, line_bytes};
 
 use crate::image::Image;
 use crate::labels::{Labels, split_label};
-use crate::lines::{first_line, uncommented};
+use crate::lines::uncommented;
 use crate::refusals::{AssembleError, Stop, Why};
 use crate::statements::{add_statement, stands_elsewhere};
 use dm_processor::MOST_MEMORY;
+use dm_reading::first_source_line;
 use std::alloc::Global;
 
 /// Whether the label of a line, if any, is defined before.
@@ -66,7 +67,7 @@ fn all_lines(alloc: Global, labels: &Labels, text: &[u8]) -> Result<Vec<u8>, Ass
     let mut rest = text;
     let mut number = 1;
     while !rest.is_empty() {
-        let (line, others) = first_line(rest);
+        let (line, others) = first_source_line(rest);
         if let Err(stop) = add_line(labels, &mut image, number, line) {
             return Err(stopped(number, stop));
         }

@@ -2,14 +2,17 @@
 ghost use Rattle.std.specs.Prelude.{◌≡◌, ◌+◌, ℕ, List, IfOk, None, OnOk, Some, if◌then◌else◌};
 ghost use Rattle.std.specs.Option.{option_copied};
 ghost use Rattle.std.specs.Str.{bytes_eq};
+ghost use Rattle.dm_reading.specs.Lines.{source_lines};
+ghost use Rattle.dm_reading.specs.Words.{source_words};
 ghost use Rattle.dm_asm.specs.Labels.{place_in};
-ghost use Rattle.dm_asm.specs.Lines.{source_lines, source_words, without_comment};
+ghost use Rattle.dm_asm.specs.Lines.{without_comment};
 ghost use Rattle.dm_asm.specs.Places.{behind_label, first_of, has_label, label_in, label_of_words, line_size, place_from, statement_size, zeros_size};
 
 use crate::forms::Form;
-use crate::lines::{count_words, first_line, next_word, uncommented};
+use crate::lines::uncommented;
 use crate::numbers::{is_label, number};
 use dm_memory::{NoMemory, insert};
+use dm_reading::{Gap, count_words, first_source_line, next_word};
 use std::alloc::Global;
 use std::collections::BTreeMap;
 
@@ -76,7 +79,7 @@ pub fn split_label(line: &[u8]) -> (Option<&[u8]>, &[u8])
     ensures label { option_copied result.0 ≡ label_of_words (source_words line.now) }
     ensures rest { source_words result.1.now ≡ behind_label (source_words line.now) }
 {
-    match next_word(line) {
+    match next_word(line, Gap::Separators) {
         None => (None, line),
         Some((word, rest)) => match label_of_word(word) {
             Some(name) => (Some(name), rest),
@@ -97,10 +100,10 @@ fn defined_by(line: &[u8]) -> Option<&[u8]>
 fn zeros_counted(operands: &[u8]) -> usize
     ensures { result ≡ zeros_size (source_words operands.now) }
 {
-    if count_words(operands) != 1 {
+    if count_words(operands, Gap::Separators) != 1 {
         return 0;
     }
-    match next_word(operands) {
+    match next_word(operands, Gap::Separators) {
         Some((word, _)) => match number(word) {
             Some(n) if n <= 65_536 => n as usize,
             _ => 0,
@@ -113,12 +116,12 @@ fn zeros_counted(operands: &[u8]) -> usize
 fn statement_counted(statement: &[u8]) -> usize
     ensures { result ≡ statement_size (source_words statement.now) }
 {
-    match next_word(statement) {
+    match next_word(statement, Gap::Separators) {
         None => 0,
         Some((word, operands)) => match Form::from_word(word) {
             None => 0,
             Some(Form::Instruction(_) | Form::Word) => 4,
-            Some(Form::Byte) => count_words(operands),
+            Some(Form::Byte) => count_words(operands, Gap::Separators),
             Some(Form::Zero) => zeros_counted(operands),
         },
     }
@@ -147,7 +150,7 @@ impl<'t> Labels<'t> {
         };
         let mut rest = text;
         while !rest.is_empty() {
-            let (line, behind) = first_line(rest);
+            let (line, behind) = first_source_line(rest);
             labels.add_line(line, place)?;
             place = Place {
                 line: place.line + 1,

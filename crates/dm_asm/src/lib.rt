@@ -6,7 +6,7 @@ mod forms;
 mod image;
 mod labels;
 pub mod laws;
-pub mod lines;
+mod lines;
 mod numbers;
 mod operands;
 mod refusals;

@@ -1,47 +1,12 @@
 //! Numbers, registers and names as they are written.
-ghost use Rattle.std.specs.Prelude.{◌≡◌, ◌+◌, ◌*◌, ◌<◌, ◌≤◌, ◌^◌, IfSome, min, option_map, true};
+ghost use Rattle.std.specs.Prelude.{◌≡◌, ◌<◌, ◌^◌, IfSome, min, option_map};
 ghost use Rattle.std.specs.List.{list_all};
-ghost use Rattle.dm_asm.specs.Numbers.{base, begins_name, digit, is_label_name, is_name_part, literal_value, number_going_on, register_of};
+ghost use Rattle.dm_asm.specs.Numbers.{begins_name, is_label_name, is_name_part, literal_value, register_of};
+
+use dm_reading::{Base, capped_number};
 
 /// Numbers from here on are not told apart.
 const HUGE: u64 = 1 << 32;
-
-/// The value of a digit of a hexadecimal or decimal number.
-fn digit_value(hex: bool, c: u8) -> Option<u64>
-    ensures value { result ≡ digit hex c }
-    ensures small { IfSome result (λ d. d < 16) }
-{
-    match c {
-        b'0'..=b'9' => Some(u64::from(c - b'0')),
-        b'a'..=b'f' if hex => Some(u64::from(c - b'a') + 10),
-        b'A'..=b'F' if hex => Some(u64::from(c - b'A') + 10),
-        _ => None,
-    }
-}
-
-/// A number with one digit more, at most [`HUGE`].
-fn with_digit(hex: bool, value: u64, digit: u64) -> u64
-    requires small { value ≤ 2 ^ 32 }
-    requires digit { digit < 16 }
-    ensures { result ≡ min (value * base hex + digit) (2 ^ 32) }
-{
-    let base = if hex { 16 } else { 10 };
-    (value * base + digit).min(HUGE)
-}
-
-/// The number of hexadecimal or decimal digits, at most [`HUGE`].
-fn digits_value(hex: bool, digits: &[u8]) -> Option<u64>
-    ensures { result ≡ option_map (λ n. min n (2 ^ 32)) (number_going_on hex 0 digits.now) }
-{
-    let mut value = 0;
-    for c in digits {
-        match digit_value(hex, *c) {
-            Some(digit) => value = with_digit(hex, value, digit),
-            None => return None,
-        }
-    }
-    Some(value)
-}
 
 /// The number that a word is, at most [`HUGE`].
 #[tactic(auto, unfolding(crate::specs::Numbers::literal_value))]
@@ -49,11 +14,11 @@ pub fn number(word: &[u8]) -> Option<u64>
     ensures { result ≡ option_map (λ n. min n (2 ^ 32)) (literal_value word.now) }
 {
     if word.len() > 2 && word[0] == b'0' && word[1] == b'x' {
-        digits_value(true, &word[2..])
+        capped_number(Base::Sixteen, &word[2..], HUGE)
     } else if word.is_empty() {
         None
     } else {
-        digits_value(false, word)
+        capped_number(Base::Ten, word, HUGE)
     }
 }
 

@@ -1,18 +1,18 @@
 //! The operands of an instruction or directive.
 ghost use Rattle.std.specs.Prelude.{◌≡◌, ◌<◌, ◌≤◌, ◌^◌, ◌/◌, ◌%◌, IfOk, List, ℕ, Option};
+ghost use Rattle.dm_reading.specs.Words.{source_words};
 ghost use Rattle.dm_asm.specs.declared.forms.Shape.TheVariants as shape;
 ghost use Rattle.dm_asm.specs.declared.labels.Place.{Place};
 ghost use Rattle.dm_asm.specs.Labels.{place_in};
-ghost use Rattle.dm_asm.specs.Lines.{source_words};
 ghost use Rattle.dm_asm.specs.Numbers.{literal_value};
 ghost use Rattle.dm_asm.specs.Operands.{distance, distance_of, fields, number_operand, operand_value, register, target, value, wanted_number};
 ghost use Rattle.dm_asm.specs.Seen.{seen};
 
 use crate::forms::Shape;
 use crate::labels::Labels;
-use crate::lines::next_word;
 use crate::numbers::{looks_like_label, number, register};
 use crate::refusals::Why;
+use dm_reading::{Gap, next_word};
 
 /// A number that a word must be, at most so large.
 pub fn number_within(word: &[u8], most: u32) -> Result<u32, Why>
@@ -84,7 +84,7 @@ fn distance_to(labels: &Labels, word: &[u8], at: usize) -> Result<u8, Why>
 pub fn next_register(rest: &[u8]) -> Result<(u8, &[u8]), Why>
     ensures { seen result ≡ register (source_words rest.now) }
 {
-    match next_word(rest) {
+    match next_word(rest, Gap::Separators) {
         None => Err(Why::OperandCount),
         Some((word, behind)) => match register(word) {
             None => Err(Why::BadRegister),
@@ -99,7 +99,7 @@ pub fn next_number(rest: &[u8], most: u32) -> Result<(u32, &[u8]), Why>
     ensures value { seen result ≡ number_operand most (source_words rest.now) }
     ensures small { IfOk result (λ x. x.0 ≤ most) }
 {
-    match next_word(rest) {
+    match next_word(rest, Gap::Separators) {
         None => Err(Why::OperandCount),
         Some((word, behind)) => match number_within(word, most) {
             Err(why) => Err(why),
@@ -114,7 +114,7 @@ pub fn next_value<'r>(labels: &Labels, rest: &'r [u8], most: u32) -> Result<(u32
     ensures value { seen result ≡ value (place_in labels.now) most (source_words rest.now) }
     ensures small { IfOk result (λ x. x.0 ≤ most) }
 {
-    match next_word(rest) {
+    match next_word(rest, Gap::Separators) {
         None => Err(Why::OperandCount),
         Some((word, behind)) => match value_within(labels, word, most) {
             Err(why) => Err(why),
@@ -129,7 +129,7 @@ pub fn next_value<'r>(labels: &Labels, rest: &'r [u8], most: u32) -> Result<(u32
 fn next_target<'r>(labels: &Labels, rest: &'r [u8], at: usize) -> Result<(u8, &'r [u8]), Why>
     ensures { seen result ≡ target (place_in labels.now) at (source_words rest.now) }
 {
-    match next_word(rest) {
+    match next_word(rest, Gap::Separators) {
         None => Err(Why::OperandCount),
         Some((word, behind)) => match distance_to(labels, word, at) {
             Err(why) => Err(why),

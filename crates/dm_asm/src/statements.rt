@@ -1,19 +1,19 @@
 //! The bytes of statements.
 ghost use Rattle.std.specs.Prelude.{◌≡◌, ◌==◌, false, length, not, option_map, unwrap_or};
+ghost use Rattle.dm_reading.specs.Words.{source_words};
 ghost use Rattle.dm_asm.specs.Labels.{place_in};
-ghost use Rattle.dm_asm.specs.Lines.{source_words};
 ghost use Rattle.dm_asm.specs.Refusals.{Gives, bytes_behind};
 ghost use Rattle.dm_asm.specs.Statements.{form_bytes, instruction_bytes, listed_bytes, statement_bytes, takes_operands};
 ghost use Rattle.dm_asm.specs.declared.forms.Form.TheVariants.{Byte, Word, Zero};
 
 use crate::forms::{Form, Shape};
 use crate::labels::{Labels, Place};
-use crate::lines::{count_words, next_word};
 use crate::operands::{last_bytes, next_number, next_value, number_within};
 use crate::refusals::{Stop, Why};
 use byteorder::{BigEndian, ByteOrder};
 use dm_memory::{append_zeros, extend_from_slice, push};
 use dm_processor::Opcode;
+use dm_reading::{Gap, count_words, next_word};
 
 /// Adds an instruction.
 fn add_instruction(
@@ -49,7 +49,7 @@ fn add_listed(image: &mut Vec<u8>, operands: &[u8]) -> Result<(), Stop>
     ensures { Gives (λ _. image.new.items) result (bytes_behind image.old.items (listed_bytes (source_words operands.now))) }
 {
     let mut rest = operands;
-    while let Some((word, others)) = next_word(rest) {
+    while let Some((word, others)) = next_word(rest, Gap::Separators) {
         match number_within(word, 255) {
             Ok(byte) => push(image, byte as u8)?,
             Err(why) => return Err(Stop::Fault(why)),
@@ -104,13 +104,13 @@ pub fn add_statement(
     ensures { Gives (λ _. image.new.items) result
         (bytes_behind image.old.items (statement_bytes (place_in labels.now) (length image.old.items) twice (source_words statement.now))) }
 {
-    match next_word(statement) {
+    match next_word(statement, Gap::Separators) {
         None if twice => Err(Stop::Fault(Why::LabelTwice)),
         None => Ok(()),
         Some((word, operands)) => match Form::from_word(word) {
             None => Err(Stop::Fault(Why::UnknownWord)),
             Some(_) if twice => Err(Stop::Fault(Why::LabelTwice)),
-            Some(form) if can_have(form, count_words(operands)) => {
+            Some(form) if can_have(form, count_words(operands, Gap::Separators)) => {
                 add_form(labels, image, form, operands)
             }
             Some(_) => Err(Stop::Fault(Why::OperandCount)),

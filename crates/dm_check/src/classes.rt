@@ -5,9 +5,9 @@ ghost use Rattle.dm_check.specs.Classes.{is_id, names_pid, tells_call, tells_mad
 
 use dm_link::Pid;
 use dm_message::MsgId;
+use dm_reading::split;
 use dm_shape::choice::is_one_of;
 use dm_shape::names::{count, message, process};
-use dm_shape::split::split;
 
 /// Whether a word names this process.
 fn is_pid(word: &[u8], pid: Pid) -> bool

@@ -20,8 +20,8 @@ use crate::told::{Other, step_fault, told};
 use dm_line::end_line::EndLine;
 use dm_line::line::Line;
 use dm_link::Pid;
+use dm_reading::split;
 use dm_shape::has_shape;
-use dm_shape::split::split;
 use dm_text::text::{write_end, write_line};
 
 /// Follows the lines of a group through a text whose first line has this number, and gives the text behind them. The page

@@ -22,10 +22,10 @@ use crate::follow::{follow_ends, follow_lines, refused, unless_none};
 use crate::stop::CheckError;
 use dm_line::line::Line;
 use dm_onekernel::Boot;
+use dm_reading::split;
 use dm_run::{begin, end_lines, step_on};
 use dm_schedule::Step;
 use dm_shape::head::head;
-use dm_shape::split::split;
 use dm_world::{Stop, World};
 use std::alloc::Global;
 

@@ -14,7 +14,7 @@ pub use Rattle.dm_onekernel.specs.Boot.{IsValid}
 pub use Rattle.dm_onekernel.specs.declared.boot.Boot.{Boot}
 pub use Rattle.dm_schedule.proofs.Names.{Accepted, Refused, Schedule, also, ends_line, is_return, keyword_of, line_ends, number_of_word, onto_first, process_of, words}
 pub use Rattle.dm_schedule.specs.Keywords.{Machine, Operand, Packet, Process, Rounds, operands}
-unfoldable pub use Rattle.dm_schedule.specs.Lines.{lines}
+unfoldable pub use Rattle.dm_reading.specs.Lines.{lines}
 pub use Rattle.dm_schedule.specs.Operands.{Value, Values, value_of, values_of, within, ◌>>=◌}
 pub use Rattle.dm_schedule.specs.Schedule.{begins_comment, directive_made, line_and_rest}
 unfoldable pub use Rattle.dm_schedule.specs.Schedule.{directive_of, line_directive, lines_from}

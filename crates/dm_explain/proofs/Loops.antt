@@ -1,6 +1,6 @@
 -- Loops that look for the first that isn't good, and for a line.
 use Rattle.dm_explain.proofs.Names.{◌≡◌, ℕ, ◌+◌, ◌-◌, ◌<◌, ◌≤◌, zero, suc, Bool, true, false, if◌then◌else◌, List, [], ◌∷◌, ◌++◌, codes, length, get_or, drop, map, slice_get, refl, ap, ◌∙◌, None, arith, drop_of_length-le, Value, Data}
-use Rattle.dm_explain.proofs.Names.{get_item, items_view, source_lines, schedule_lines, has_only, first_bad, key_fault, keys_text, wish_fault, Wish, line_or_nothing}
+use Rattle.dm_explain.proofs.Names.{get_item, items_view, has_only, first_bad, key_fault, keys_text, wish_fault, Wish, line_or_nothing}
 use Rattle.dm_explain.proofs.Pieces.{get_or_same, read_at}
 
 pub bad-end : {K W : Type 0} (f : K → W) (good : W → Bool) (told : W → List ℕ) (other : List ℕ) (ks : List K) (i : ℕ) → length ks ≤ i → first_bad good told other (map f (drop i ks)) ≡ other
@@ -42,16 +42,6 @@ line-later ls l rest zero is some = absurd (some refl)
 line-later ls l rest (suc left) is some =
     let one : left ≡ suc left - 1 = omega arith in
     ap (λ xs. line_or_nothing (slice_get xs (suc left))) is ∙ ap (λ n. line_or_nothing (slice_get rest n)) one
-
-pub no-text-line : (text : List ℕ) (k : ℕ) → length text ≡ 0 → line_or_nothing (slice_get (source_lines text) k) ≡ []
-unfolding source_lines
-no-text-line [] k none = refl
-no-text-line (x ∷ xs) k none = absurd (omega arith)
-
-pub no-schedule-line : (text : List ℕ) (k : ℕ) → length text ≡ 0 → line_or_nothing (slice_get (schedule_lines text) k) ≡ []
-unfolding schedule_lines
-no-schedule-line [] k none = refl
-no-schedule-line (x ∷ xs) k none = absurd (omega arith)
 
 pub ruleset line_lemmas = (line-first, line-later)
 

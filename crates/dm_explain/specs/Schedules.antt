@@ -7,10 +7,10 @@ use Rattle.dm_schedule.specs.declared.Directive.TheVariants as directive
 use Rattle.dm_schedule.specs.declared.Step.TheVariants as step
 use Rattle.dm_schedule.specs.declared.LineFault.{LineFault}
 use Rattle.dm_schedule.specs.declared.LineFault.TheVariants.{UnknownWord, WrongCount, NotANumber, OutOfRange, SameMachine}
-use Rattle.dm_schedule.specs.Lines.{lines}
+use Rattle.dm_reading.specs.Lines.{lines}
+use Rattle.dm_schedule.specs.declared.keywords.Keyword.{Keyword}
+use Rattle.dm_schedule.specs.declared.keywords.Keyword.TheVariants.{Turn, Tick, Deliver, Migrate, Round, Spin, Settle}
 use Rattle.dm_schedule.specs.Schedule.{Schedule, Accepted, Refused, number_of_fault}
-use Rattle.dm_explain.specs.declared.schedule.Deed.{Deed}
-use Rattle.dm_explain.specs.declared.schedule.Deed.TheVariants.{Turn, Tick, Deliver, Migrate, Round, Spin, Settle}
 use Rattle.dm_explain.specs.LineAt.{line_at}
 use Rattle.dm_explain.specs.Parts.{quoted}
 
@@ -43,17 +43,17 @@ abbrev pub is_settle : Directive → Bool
 is_settle directive.Settle = true
 is_settle _ = false
 
-abbrev pub is_deed : Deed → Directive → Bool
-is_deed Turn d = is_turn d
-is_deed Tick d = is_tick d
-is_deed Deliver d = is_deliver d
-is_deed Migrate d = is_migrate d
-is_deed Round d = is_round d
-is_deed Spin d = is_spin d
-is_deed Settle d = is_settle d
+abbrev pub is_of : Keyword → Directive → Bool
+is_of Turn d = is_turn d
+is_of Tick d = is_tick d
+is_of Deliver d = is_deliver d
+is_of Migrate d = is_migrate d
+is_of Round d = is_round d
+is_of Spin d = is_spin d
+is_of Settle d = is_settle d
 
-abbrev pub many : Deed → List Directive → List ℕ
-many w ds = decimal (count_by (is_deed w) ds)
+abbrev pub many : Keyword → List Directive → List ℕ
+many k ds = decimal (count_by (is_of k) ds)
 
 abbrev pub directives_told : List Directive → List ℕ
 directives_told ds =

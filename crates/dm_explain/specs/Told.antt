@@ -6,7 +6,7 @@ use Rattle.toml.specs.Data.{Data, get_item}
 use Rattle.dm_asm.specs.declared.refusals.Why.{Why}
 use Rattle.dm_asm.specs.declared.refusals.Why.TheVariants.{UnknownWord, BadRegister, BadNumber, OutOfRange, UnknownLabel, LabelTwice, OperandCount, TooLong}
 use Rattle.dm_asm.specs.Assembled.{assembled}
-use Rattle.dm_asm.specs.Lines.{source_lines}
+use Rattle.dm_reading.specs.Lines.{source_lines}
 use Rattle.dm_onekernel.specs.Boot.{slots_of}
 use Rattle.dm_boot.specs.declared.rules.BootRule.{BootRule}
 use Rattle.dm_boot.specs.declared.rules.BootRule.TheVariants.{Document, TopKeys, Settings, MachineCount, MachineKeys, MachineRoom, ImageCount, ImageKeys, ImageName, ImageBlocks, ImageText, ImageBytes, ProcessKeys, ProcessName, ProcessMachine, ProcessImage, ProcessRoom, LinkCount, LinkTarget, LinkLimits}

@@ -1,23 +1,11 @@
 //! What is said of a schedule.
 ghost use Rattle.std.specs.Prelude.{◌≡◌, ◌≤◌, ◌++◌, OnOk, count_by, length};
-ghost use Rattle.dm_explain.specs.Schedules.{directives_told, fault_words, is_deed, line_told};
+ghost use Rattle.dm_explain.specs.Schedules.{directives_told, fault_words, is_of, line_told};
 
 use crate::line::schedule_line;
 use crate::part::{Part, put_parts};
 use dm_memory::NoMemory;
-use dm_schedule::{Directive, LineFault, Step};
-
-/// A word of a schedule.
-#[derive(Clone, Copy)]
-pub enum Deed {
-    Turn,
-    Tick,
-    Deliver,
-    Migrate,
-    Round,
-    Spin,
-    Settle,
-}
+use dm_schedule::{Directive, Keyword, LineFault, Step};
 
 /// Writes how many directives there are, by word.
 pub fn put_directives(into: &mut Vec<u8>, directives: &[Directive]) -> Result<(), NoMemory>
@@ -29,31 +17,31 @@ pub fn put_directives(into: &mut Vec<u8>, directives: &[Directive]) -> Result<()
             Part::Text("schedule: "),
             Part::Count(directives.len() as u64),
             Part::Text(" directives: turn "),
-            Part::Count(many(Deed::Turn, directives)),
+            Part::Count(many(Keyword::Turn, directives)),
             Part::Text(", tick "),
-            Part::Count(many(Deed::Tick, directives)),
+            Part::Count(many(Keyword::Tick, directives)),
             Part::Text(", deliver "),
-            Part::Count(many(Deed::Deliver, directives)),
+            Part::Count(many(Keyword::Deliver, directives)),
             Part::Text(", migrate "),
-            Part::Count(many(Deed::Migrate, directives)),
+            Part::Count(many(Keyword::Migrate, directives)),
             Part::Text(", round "),
-            Part::Count(many(Deed::Round, directives)),
+            Part::Count(many(Keyword::Round, directives)),
             Part::Text(", spin "),
-            Part::Count(many(Deed::Spin, directives)),
+            Part::Count(many(Keyword::Spin, directives)),
             Part::Text(", settle "),
-            Part::Count(many(Deed::Settle, directives)),
+            Part::Count(many(Keyword::Settle, directives)),
             Part::Text("\n"),
         ],
     )
 }
 
 /// How many of these directives are of a word.
-fn many(deed: Deed, directives: &[Directive]) -> u64
-    ensures { result ≡ count_by (is_deed deed) directives.now }
+fn many(keyword: Keyword, directives: &[Directive]) -> u64
+    ensures { result ≡ count_by (is_of keyword) directives.now }
 {
     let mut count = 0;
     for directive in directives {
-        if is_of(deed, directive) {
+        if is_of(keyword, directive) {
             count += 1;
         }
     }
@@ -61,17 +49,17 @@ fn many(deed: Deed, directives: &[Directive]) -> u64
 }
 
 /// Whether a directive is of a word.
-fn is_of(deed: Deed, directive: &Directive) -> bool
-    ensures { result ≡ is_deed deed directive.now }
+fn is_of(keyword: Keyword, directive: &Directive) -> bool
+    ensures { result ≡ is_of keyword directive.now }
 {
-    match deed {
-        Deed::Turn => matches!(*directive, Directive::One(Step::Turn(_))),
-        Deed::Tick => matches!(*directive, Directive::One(Step::Tick(_))),
-        Deed::Deliver => matches!(*directive, Directive::One(Step::Deliver { .. })),
-        Deed::Migrate => matches!(*directive, Directive::One(Step::Migrate { .. })),
-        Deed::Round => matches!(*directive, Directive::Round),
-        Deed::Spin => matches!(*directive, Directive::Spin(_)),
-        Deed::Settle => matches!(*directive, Directive::Settle),
+    match keyword {
+        Keyword::Turn => matches!(*directive, Directive::One(Step::Turn(_))),
+        Keyword::Tick => matches!(*directive, Directive::One(Step::Tick(_))),
+        Keyword::Deliver => matches!(*directive, Directive::One(Step::Deliver { .. })),
+        Keyword::Migrate => matches!(*directive, Directive::One(Step::Migrate { .. })),
+        Keyword::Round => matches!(*directive, Directive::Round),
+        Keyword::Spin => matches!(*directive, Directive::Spin(_)),
+        Keyword::Settle => matches!(*directive, Directive::Settle),
     }
 }
 

@@ -1,4 +1,3 @@
 pub mod Args
 pub mod Clap
-pub mod Cuts
 pub mod Toml

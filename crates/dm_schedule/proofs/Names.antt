@@ -7,11 +7,12 @@ pub use Rattle.std.proofs.lemmas.List.{append-nil, get_or-drop, length-take-le, 
 pub use Rattle.std.proofs.lemmas.List.Quantifiers.{position-Some}
 pub use Rattle.std.specs.List.{position, position_or_len}
 pub use Rattle.std.specs.Prelude.{Err, None, Ok, Option, Some, if◌then◌else◌, option_to_list}
-pub use Rattle.dm_memory.specs.Cuts.{cut, ends_line, onto_first}
+pub use Rattle.dm_reading.specs.Cuts.{cut, onto_first}
+pub use Rattle.dm_reading.specs.Lines.{ends_line, is_return, line_ends}
+unfoldable pub use Rattle.dm_reading.specs.Lines.{lines}
+pub use Rattle.dm_reading.specs.Words.{is_blank, words}
+unfoldable pub use Rattle.dm_reading.specs.Words.{words_between}
 unfoldable pub use Rattle.dm_schedule.specs.Keywords.{keyword_of}
-pub use Rattle.dm_schedule.specs.Lines.{is_blank, is_return, line_ends}
-unfoldable pub use Rattle.dm_schedule.specs.Lines.{lines, words}
-pub use Rattle.dm_schedule.specs.Numbers.{going_on}
 unfoldable pub use Rattle.dm_schedule.specs.Numbers.{number_of_word, process_of}
 pub use Rattle.dm_schedule.specs.Schedule.{Accepted, Refused, Schedule, also, number_of_fault}
 unfoldable pub use Rattle.dm_schedule.specs.Schedule.{directive_of, directives_of, line_directive, lines_from}

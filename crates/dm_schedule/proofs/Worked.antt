@@ -1,5 +1,5 @@
 -- The definitions, computed on worked texts, for two machines.
-use Rattle.dm_schedule.proofs.Names.{◌≡◌, ℕ, List, [], ◌∷◌, ◌++◌, map, codes, refl, keyword_of, lines, words, number_of_word, process_of, Schedule, Accepted, Refused, directive_of, directives_of, line_directive, lines_from, number_of_fault}
+use Rattle.dm_schedule.proofs.Names.{◌≡◌, ℕ, List, [], ◌∷◌, ◌++◌, map, codes, refl, keyword_of, lines, words_between, number_of_word, process_of, Schedule, Accepted, Refused, directive_of, directives_of, line_directive, lines_from, number_of_fault}
 use Rattle.dm_schedule.specs.declared.Directive.TheVariants as directive
 use Rattle.dm_schedule.specs.declared.Step.TheVariants as step
 
@@ -71,16 +71,16 @@ numbers =
     (codes "spin 65537", (1, 4)) ∷ []
 
 pub texts_are_refused_so : map (λ row. refusal (directives_of row.0 2)) texts ≡ map (λ row. row.1) texts
-unfolding directives_of lines_from line_directive directive_of keyword_of lines words number_of_word process_of
+unfolding directives_of lines_from line_directive directive_of keyword_of lines words_between number_of_word process_of
 texts_are_refused_so = refl
 
 pub numbers_are_refused_so : map (λ row. refusal (directives_of row.0 2)) numbers ≡ map (λ row. row.1) numbers
-unfolding directives_of lines_from line_directive directive_of keyword_of lines words number_of_word process_of
+unfolding directives_of lines_from line_directive directive_of keyword_of lines words_between number_of_word process_of
 numbers_are_refused_so = refl
 
 pub in_order :
     directives_of (codes "turn 00" ++ 13 ∷ 10 ∷ 10 ∷ 9 ∷ codes " tick" ++ 9 ∷ codes "1 " ++ 10 ∷ codes "# turn 1" ++ 10 ∷ codes "round" ++ 10 ∷ codes "deliver 1 0 7" ++ 10 ∷ codes "spin 65536" ++ 10 ∷ codes "migrate 00.03 01") 2
     ≡ Accepted (directive.One (step.Turn 0) ∷ directive.One (step.Tick 1) ∷ directive.Round ∷ directive.One (step.Deliver 1 0 7)
     ∷ directive.Spin 65536 ∷ directive.One (step.Migrate (record { home = 0; num = 3 }) 1) ∷ [])
-unfolding directives_of lines_from line_directive directive_of keyword_of lines words number_of_word process_of
+unfolding directives_of lines_from line_directive directive_of keyword_of lines words_between number_of_word process_of
 in_order = refl

@@ -1,5 +1,4 @@
 pub mod Keywords
-pub mod Lines
 pub mod Numbers
 pub mod Operands
 pub mod Schedule

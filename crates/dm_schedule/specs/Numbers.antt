@@ -1,19 +1,14 @@
 -- Numbers and names of processes as they are written.
-use Rattle.std.specs.Prelude.{ℕ, Bool, ◌==◌, ◌&&◌, nat_le, ◌+◌, ◌-◌, ◌*◌, if◌then◌else◌, Option, Some, None, List, [], ◌∷◌, length, take, drop}
+use Rattle.std.specs.Prelude.{ℕ, Bool, ◌==◌, ◌&&◌, nat_le, ◌+◌, if◌then◌else◌, Option, None, List, length, take, drop}
 use Rattle.std.specs.List.{position}
 use Rattle.std.specs.Option.{option_and_then, option_map}
 use Rattle.dm_link.specs.Names.{pid_of}
 use Rattle.dm_link.specs.declared.Pid.{Pid}
-use Rattle.dm_memory.specs.Cuts.{is_digit}
-
--- the number that begins with n and goes on with these digits
-abbrev pub going_on : ℕ → List ℕ → Option ℕ
-going_on n [] = Some n
-going_on n (c ∷ cs) = if is_digit c then going_on (n * 10 + (c - 48)) cs else None
+use Rattle.dm_reading.specs.Numbers.{number_after}
 
 -- the number that a word is: one to ten digits
 unfoldable pub number_of_word : List ℕ → Option ℕ
-number_of_word word = if nat_le 1 (length word) && nat_le (length word) 10 then going_on 0 word else None
+number_of_word word = if nat_le 1 (length word) && nat_le (length word) 10 then number_after 0 word else None
 
 -- the name that two numbers make, if both are there
 abbrev pub pid_from_numbers : Option ℕ → Option ℕ → Option Pid

@@ -1,5 +1,7 @@
 -- The directives of a schedule's text.
 use Rattle.std.specs.Prelude.{◌≡◌, ℕ, Bool, false, ◌+◌, ◌==◌, Option, Some, None, Result, Ok, Err, List, [], ◌∷◌, length, ⊤, if◌then◌else◌}
+use Rattle.dm_reading.specs.Lines.{lines}
+use Rattle.dm_reading.specs.Words.{words}
 use Rattle.dm_schedule.specs.declared.Step.TheVariants as step
 use Rattle.dm_schedule.specs.declared.Directive.{Directive}
 use Rattle.dm_schedule.specs.declared.Directive.TheVariants as directive
@@ -10,7 +12,6 @@ use Rattle.dm_schedule.specs.declared.ScheduleError.TheVariants as no
 use Rattle.dm_schedule.specs.declared.keywords.Keyword.{Keyword}
 use Rattle.dm_schedule.specs.declared.keywords.Keyword.TheVariants.{Turn, Tick, Deliver, Migrate, Round, Spin, Settle}
 use Rattle.dm_schedule.specs.Keywords.{keyword_of, operands}
-use Rattle.dm_schedule.specs.Lines.{lines, words}
 use Rattle.dm_schedule.specs.Operands.{Values, values_of, ◌>>=◌}
 
 -- what a text says: its directives, or its first bad line, counted from 1, and what is wrong there

@@ -1,13 +1,14 @@
 //! The directives of lines.
 ghost use Rattle.std.specs.Prelude.{◌≡◌, Some};
-ghost use Rattle.dm_schedule.specs.Lines.{words};
+ghost use Rattle.dm_reading.specs.Words.{words};
 ghost use Rattle.dm_schedule.specs.Schedule.{begins_comment, directive_of, line_directive};
 ghost use Rattle.dm_schedule.specs.declared.keywords.Keyword.TheVariants.{Deliver, Migrate, Round, Settle, Spin, Tick, Turn};
 
 use crate::keywords::Keyword;
-use crate::lines::{next_word, no_words, one_word, three_words, two_words};
 use crate::operands::{machine, packet, process, rounds};
+use crate::words::{no_words, one_word, three_words, two_words};
 use crate::{Directive, LineFault, Step};
+use dm_reading::{Gap, next_word};
 
 /// The directive `turn` with its operand.
 #[tactic(auto, unfolding(crate::specs::Schedule::directive_of))]
@@ -114,7 +115,7 @@ fn begins_comment(word: &[u8]) -> bool
 pub fn line_directive(machines: u8, line: &[u8]) -> Result<Option<Directive>, LineFault>
     ensures { result ≡ line_directive machines (words line.now) }
 {
-    let Some((word, operands)) = next_word(line) else {
+    let Some((word, operands)) = next_word(line, Gap::Blanks) else {
         return Ok(None);
     };
     if begins_comment(word) {

@@ -3,18 +3,19 @@
 
 mod directives;
 mod keywords;
-mod lines;
 mod numbers;
 mod operands;
+mod words;
 
 ghost use Rattle.std.specs.Prelude.{◌++◌, IfErr, IfOk, OnOk, option_to_list, ◌≡◌};
 ghost use Rattle.dm_schedule.specs.declared.ScheduleError.TheVariants as no;
 ghost use Rattle.dm_schedule.specs.Schedule.{Accepted, RefusedSo, directives_of, number_of_fault};
 
 use crate::directives::line_directive;
-use crate::lines::first_line;
 use dm_link::Pid;
 use dm_memory::{NoMemory, push};
+use dm_reading::first_line;
+pub use keywords::Keyword;
 use std::alloc::Global;
 use thiserror::Error;
 

@@ -1,26 +1,13 @@
 //! Numbers and names of processes as they are written.
-ghost use Rattle.std.specs.Prelude.{◌≡◌, ◌≤◌, ◌&&◌, length, nat_le, option_map};
+ghost use Rattle.std.specs.Prelude.{◌≡◌, ◌&&◌, nat_le, option_map};
 ghost use Rattle.std.specs.List.{position};
 ghost use Rattle.dm_link.specs.Names.{pid_of};
-ghost use Rattle.dm_schedule.specs.Numbers.{going_on, is_point, number_of_word, process_of};
+ghost use Rattle.dm_schedule.specs.Numbers.{is_point, number_of_word, process_of};
+
+use dm_reading::exact_number;
 
 /// The most digits of a number.
 const MOST_DIGITS: usize = 10;
-
-/// The number that so many digits are.
-fn digits_value(digits: &[u8]) -> Option<u64>
-    requires { length digits.now ≤ 10 }
-    ensures { result ≡ going_on 0 digits.now }
-{
-    let mut value: u64 = 0;
-    for c in digits {
-        if !c.is_ascii_digit() {
-            return None;
-        }
-        value = value * 10 + u64::from(*c - b'0');
-    }
-    Some(value)
-}
 
 /// Whether a number can have so many digits.
 fn can_have(digits: usize) -> bool
@@ -35,7 +22,7 @@ pub fn number(word: &[u8]) -> Option<u64>
     ensures { result ≡ number_of_word word.now }
 {
     if can_have(word.len()) {
-        digits_value(word)
+        exact_number(word)
     } else {
         None
     }

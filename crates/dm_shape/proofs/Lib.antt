@@ -1,6 +1,4 @@
 pub mod Imports
-pub mod Decimal
-pub mod PiecesAt
 pub mod NamesRead
 pub mod Fitting
 pub mod Listed

@@ -1,6 +1,6 @@
 -- Names read piece by piece: what stands behind the first separator has no other one, where it can be read.
-use Rattle.dm_shape.proofs.Imports.{◌≡◌, ℕ, zero, suc, ◌+◌, ◌-◌, ◌*◌, ◌^◌, ◌<◌, ◌≤◌, ◌==◌, nat_le, Bool, true, false, ◌&&◌, ◌||◌, if◌then◌else◌, List, [], ◌∷◌, ◌++◌, length, refl, ap, sym, ◌∙◌, subst, arith, Some, None, Option, nat_tests}
-use Rattle.dm_shape.proofs.Imports.{Pid, pid_of, MsgId, ◌<*>◌, longer, pieces, number_after, if_below, is_padded, read_number, read_u8, read_u32, read_pid, pid_in, message_named, message_numbered, id_in, free, free-append, pieces-free}
+use Rattle.dm_shape.proofs.Imports.{◌≡◌, ℕ, zero, suc, ◌+◌, ◌-◌, ◌*◌, ◌^◌, ◌<◌, ◌≤◌, ◌==◌, nat_le, Bool, true, false, ◌&&◌, ◌||◌, if◌then◌else◌, List, [], ◌∷◌, ◌++◌, length, refl, ap, sym, ◌∙◌, subst, arith, Some, None, Option, option_and_then, nat_tests}
+use Rattle.dm_shape.proofs.Imports.{Pid, pid_of, MsgId, ◌<*>◌, onto_first, pieces, number_after, if_below, is_padded, read_number, read_u8, read_u32, read_pid, pid_in, message_named, message_numbered, id_in, free, free-append, pieces-free}
 
 -- nothing comes of nothing
 pub of_none : {A B : Type 0} (o : Option (A → B)) (x : Option A) → x ≡ None → (o <*> x) ≡ None
@@ -16,7 +16,7 @@ stops_at : (sep b n : ℕ) (bs : List ℕ) (t : Bool) → IsApart sep → (b == 
 stops_at sep b n bs true apart e h go = let f : b ≡ sep = grind (arith, nat_tests, e) in rw (f, apart) refl
 stops_at sep b n bs false apart e h go = other (nat_le 48 b && nat_le b 57) (go h (10 * n + (b - 48)))
   where
-    other : (t : Bool) → number_after (10 * n + (b - 48)) bs ≡ None → (if t then number_after (10 * n + (b - 48)) bs else None) ≡ None
+    other : (t : Bool) → number_after (10 * n + (b - 48)) bs ≡ None → option_and_then (λ d. number_after (10 * n + d) bs) (if t then Some (b - 48) else None) ≡ None
     other true k = k
     other false k = refl
 
@@ -37,16 +37,16 @@ unfree_none sep limit w apart h = if_none (length w == 0 || is_padded w) (if_bel
 pub data IsCut : List (List ℕ) → Type 0 where
   Cut : (a b : List ℕ) (others : List (List ℕ)) → IsCut (a ∷ b ∷ others)
 
-longer_cut : (b : ℕ) (ps : List (List ℕ)) → IsCut ps → IsCut (longer b ps)
+longer_cut : (b : ℕ) (ps : List (List ℕ)) → IsCut ps → IsCut (onto_first b ps)
 longer_cut b (a ∷ c ∷ others) h = Cut (b ∷ a) c others
 longer_cut b (a ∷ []) h = elim h [ ]
 longer_cut b [] h = elim h [ ]
 
-longer_some : (b : ℕ) (ps : List (List ℕ)) → longer b ps ≡ [] → ⊥
+longer_some : (b : ℕ) (ps : List (List ℕ)) → onto_first b ps ≡ [] → ⊥
 longer_some b [] e = cc
 longer_some b (p ∷ ps) e = cc
 
-piece_first : (t : Bool) (b : ℕ) (ps : List (List ℕ)) → (if t then [] ∷ ps else longer b ps) ≡ [] → ⊥
+piece_first : (t : Bool) (b : ℕ) (ps : List (List ℕ)) → (if t then [] ∷ ps else onto_first b ps) ≡ [] → ⊥
 piece_first true b ps e = cc
 piece_first false b ps e = longer_some b ps e
 
@@ -60,7 +60,7 @@ cut_empty : (ps : List (List ℕ)) → (ps ≡ [] → ⊥) → IsCut ([] ∷ ps)
 cut_empty [] h = absurd (h refl)
 cut_empty (c ∷ cs) h = Cut [] c cs
 
-cut_first : (sep b : ℕ) (bs : List ℕ) (t : Bool) → (if t then false else free sep bs) ≡ false → (free sep bs ≡ false → IsCut (pieces sep bs)) → IsCut (if t then [] ∷ pieces sep bs else longer b (pieces sep bs))
+cut_first : (sep b : ℕ) (bs : List ℕ) (t : Bool) → (if t then false else free sep bs) ≡ false → (free sep bs ≡ false → IsCut (pieces sep bs)) → IsCut (if t then [] ∷ pieces sep bs else onto_first b (pieces sep bs))
 cut_first sep b bs true h go = cut_empty (pieces sep bs) (some_piece sep bs)
 cut_first sep b bs false h go = longer_cut b (pieces sep bs) (go h)
 
@@ -78,7 +78,7 @@ abbrev joined : ℕ → List (List ℕ) → List ℕ
 joined sep [] = []
 joined sep (a ∷ as_) = join sep a as_
 
-joined_longer : (sep b : ℕ) (ps : List (List ℕ)) → joined sep (longer b ps) ≡ b ∷ joined sep ps
+joined_longer : (sep b : ℕ) (ps : List (List ℕ)) → joined sep (onto_first b ps) ≡ b ∷ joined sep ps
 joined_longer sep b [] = refl
 joined_longer sep b (p ∷ []) = refl
 joined_longer sep b (p ∷ q ∷ qs) = refl
@@ -87,7 +87,7 @@ joined_empty : (sep : ℕ) (ps : List (List ℕ)) → (ps ≡ [] → ⊥) → jo
 joined_empty sep [] h = absurd (h refl)
 joined_empty sep (p ∷ ps) h = refl
 
-joined_first : (sep b : ℕ) (bs : List ℕ) (t : Bool) → (b == sep) ≡ t → joined sep (pieces sep bs) ≡ bs → joined sep (if t then [] ∷ pieces sep bs else longer b (pieces sep bs)) ≡ b ∷ bs
+joined_first : (sep b : ℕ) (bs : List ℕ) (t : Bool) → (b == sep) ≡ t → joined sep (pieces sep bs) ≡ bs → joined sep (if t then [] ∷ pieces sep bs else onto_first b (pieces sep bs)) ≡ b ∷ bs
 joined_first sep b bs true e h =
     let f : b ≡ sep = grind (arith, nat_tests, e) in
     joined_empty sep (pieces sep bs) (some_piece sep bs) ∙ ap (λ xs. sep ∷ xs) h ∙ ap (λ x. x ∷ bs) (sym f)
@@ -166,7 +166,7 @@ id_behind from rest = by_test (free 35 rest) refl
     by_test false e = id_cut from (pieces 35 rest) (unfree_cut 35 rest e) ∙ sym (numbered_cut (read_pid from) rest (pieces 33 rest) refl e)
 
 -- where something stands behind the mark of an answer, no message is named
-marked_more : (p : Option Pid) (n : List ℕ) (t : Bool) (b : ℕ) (ps : List (List ℕ)) → (ps ≡ [] → ⊥) → message_numbered p (n ∷ (if t then [] ∷ ps else longer b ps)) ≡ None
+marked_more : (p : Option Pid) (n : List ℕ) (t : Bool) (b : ℕ) (ps : List (List ℕ)) → (ps ≡ [] → ⊥) → message_numbered p (n ∷ (if t then [] ∷ ps else onto_first b ps)) ≡ None
 marked_more p n true b [] h = absurd (h refl)
 marked_more p n true b (q ∷ qs) h = refl
 marked_more p n false b [] h = refl

@@ -4,7 +4,8 @@ use Rattle.std.specs.declared.option.Option.{Option}
 use Rattle.std.specs.declared.option.Option.TheVariants.{None}
 use Rattle.dm_schedule.specs.declared.Step.{Step}
 use Rattle.dm_schedule.specs.declared.Step.TheVariants as step
-use Rattle.dm_text.specs.Reading.{pieces, read_u8, read_u64, read_pid}
+use Rattle.dm_reading.specs.Cuts.{pieces}
+use Rattle.dm_text.specs.Reading.{read_u8, read_u64, read_pid}
 use Rattle.dm_text.specs.Rows.{is, of1, of2, of3}
 
 abbrev pub head_named : List ℕ → List (List ℕ) → Option Step

@@ -1,5 +1,3 @@
-pub mod Pieces
-pub mod Digits
 pub mod Words
 pub mod Choices
 pub mod Sorts

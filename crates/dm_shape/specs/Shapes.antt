@@ -2,7 +2,7 @@
 use Rattle.std.specs.Prelude.{ℕ, zero, suc, Bool, true, false, ◌&&◌, if◌then◌else◌, List, [], ◌∷◌, codes}
 use Rattle.std.specs.List.{list_any, list_all}
 use Rattle.std.specs.Str.{bytes_eq}
-use Rattle.dm_text.specs.Reading.{pieces}
+use Rattle.dm_reading.specs.Cuts.{pieces}
 use Rattle.dm_shape.specs.declared.choice.Choice.{Choice}
 use Rattle.dm_shape.specs.declared.choice.Choice.TheVariants as choice
 use Rattle.dm_shape.specs.declared.sort.Sort.{Sort}

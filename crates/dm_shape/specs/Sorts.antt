@@ -3,7 +3,8 @@ use Rattle.std.specs.Prelude.{ℕ, ◌*◌, ◌%◌, ◌^◌, ◌==◌, nat_le, 
 use Rattle.std.specs.List.{list_all, list_any, ends_with}
 use Rattle.std.specs.Str.{bytes_eq}
 use Rattle.dm_message.specs.Kinds.{all_kinds, word_of}
-use Rattle.dm_text.specs.Reading.{read_number, read_u8, read_u32, read_u64, read_pid, read_id}
+use Rattle.dm_reading.specs.Numbers.{read_number}
+use Rattle.dm_text.specs.Reading.{read_u8, read_u32, read_u64, read_pid, read_id}
 use Rattle.dm_shape.specs.declared.sort.Sort.{Sort}
 use Rattle.dm_shape.specs.declared.sort.Sort.TheVariants as sort
 use Rattle.dm_shape.specs.Choices.{one_of, words_of}

@@ -1,14 +1,14 @@
 //! The heads of groups.
 ghost use Rattle.std.specs.Prelude.{◌≡◌, option_map};
+ghost use Rattle.dm_reading.specs.Cuts.{behind};
 ghost use Rattle.dm_schedule.specs.declared.Step.TheVariants as step;
 ghost use Rattle.dm_text.specs.Reading.{read_pid, read_u64, read_u8};
 ghost use Rattle.dm_text.specs.Rows.{of1, of2, of3};
 ghost use Rattle.dm_shape.specs.Heads.{head_step};
-ghost use Rattle.dm_shape.specs.Pieces.{behind};
 ghost use Rattle.dm_shape.specs.Words.{alone, pair, triple};
 
 use crate::names::{byte, process, wide};
-use crate::split::split;
+use dm_reading::split;
 use dm_schedule::Step;
 
 /// The directive that a text without line feed names, if it is the head of a group: for any machines, and any packet.

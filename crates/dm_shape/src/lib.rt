@@ -8,10 +8,8 @@ pub mod choice;
 pub mod head;
 pub mod laws;
 pub mod names;
-mod number;
 mod shape;
 mod sort;
-pub mod split;
 mod table;
 
 pub use shape::{EndShape, GroupShape, HeadShape, KernelShape, Shape, has_shape};

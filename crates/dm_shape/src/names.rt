@@ -1,18 +1,18 @@
 //! Numbers of fixed sizes, and names of processes and messages, as they are printed.
 ghost use Rattle.std.specs.Prelude.{◌≡◌, Some};
+ghost use Rattle.dm_reading.specs.Cuts.{pieces};
 ghost use Rattle.dm_link.specs.Names.{pid_of};
-ghost use Rattle.dm_text.specs.Reading.{◌<*>◌, message_named, message_numbered, pieces, read_id, read_pid, read_u32, read_u64, read_u8};
+ghost use Rattle.dm_text.specs.Reading.{◌<*>◌, message_named, message_numbered, read_id, read_pid, read_u32, read_u64, read_u8};
 
-use crate::number::number;
-use crate::split::split;
 use dm_link::Pid;
 use dm_message::MsgId;
+use dm_reading::{printed_number, split};
 
 /// The number below 2^8 that a word spells.
 pub fn byte(word: &[u8]) -> Option<u8>
     ensures { result ≡ read_u8 word.now }
 {
-    let n = number(word, u128::from(u8::MAX))?;
+    let n = printed_number(word, u128::from(u8::MAX))?;
     Some(n as u8)
 }
 
@@ -20,7 +20,7 @@ pub fn byte(word: &[u8]) -> Option<u8>
 pub fn count(word: &[u8]) -> Option<u32>
     ensures { result ≡ read_u32 word.now }
 {
-    let n = number(word, u128::from(u32::MAX))?;
+    let n = printed_number(word, u128::from(u32::MAX))?;
     Some(n as u32)
 }
 
@@ -28,7 +28,7 @@ pub fn count(word: &[u8]) -> Option<u32>
 pub fn wide(word: &[u8]) -> Option<u64>
     ensures { result ≡ read_u64 word.now }
 {
-    let n = number(word, u128::from(u64::MAX))?;
+    let n = printed_number(word, u128::from(u64::MAX))?;
     Some(n as u64)
 }
 
@@ -66,7 +66,7 @@ pub fn message(word: &[u8]) -> Option<MsgId>
 }
 
 /// The message of this sender, and of this number or the answer to it.
-#[tactic(auto, unfolding(dm_text::specs::Reading::pieces))]
+#[tactic(auto, unfolding(dm_reading::specs::Cuts::pieces))]
 fn numbered(from: &[u8], n: &[u8]) -> Option<MsgId>
     ensures { result ≡ message_numbered (read_pid from.now) (pieces 33 n.now) }
 {

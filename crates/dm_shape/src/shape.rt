@@ -1,15 +1,14 @@
 //! Which texts have a shape.
 ghost use Rattle.std.specs.Prelude.{◌≡◌, option_map};
 ghost use Rattle.std.specs.List.{list_all, list_any};
-ghost use Rattle.dm_text.specs.Reading.{pieces};
+ghost use Rattle.dm_reading.specs.Cuts.{behind, pieces};
 ghost use Rattle.dm_shape.specs.declared.sort.Sort.TheVariants as sort;
-ghost use Rattle.dm_shape.specs.Pieces.{behind};
 ghost use Rattle.dm_shape.specs.Shapes.{ends_so, fit, has_shape, is_of_shape};
 ghost use Rattle.dm_shape.specs.Sorts.{is_of};
 
 use crate::names::message;
 use crate::sort::Sort;
-use crate::split::split;
+use dm_reading::split;
 
 /// The shape of a line.
 #[derive(Clone, Copy)]

@@ -7,8 +7,8 @@ ghost use Rattle.dm_shape.specs.Sorts.{is_block, is_hex_digit, is_of, spells};
 
 use crate::choice::Choice;
 use crate::names::{byte, count, message, process, wide};
-use crate::number::number;
 use dm_message::MessageKind;
+use dm_reading::printed_number;
 
 /// What a word is.
 #[derive(Clone, Copy)]
@@ -78,7 +78,7 @@ impl Sort {
             Sort::Machine => byte(word).is_some(),
             Sort::Number => count(word).is_some(),
             Sort::Packet => wide(word).is_some(),
-            Sort::Groups => number(word, u128::MAX).is_some(),
+            Sort::Groups => printed_number(word, u128::MAX).is_some(),
             Sort::Process => process(word).is_some(),
             Sort::Message => message(word).is_some(),
             Sort::Kind => is_kind(word),

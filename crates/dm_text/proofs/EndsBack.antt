@@ -1,6 +1,6 @@
 -- Lines at the end of a run, read back from their words.
-use Rattle.dm_text.proofs.Names.{◌≡◌, ℕ, suc, ◌+◌, ◌^◌, ◌<◌, ◌==◌, Bool, true, false, List, [], ◌∷◌, ◌++◌, length, take, map, refl, ap, sym, ◌∙◌, arith, Some, None, All, decimal, eq-eqb, get_or_push, length_push, take-append_seam, Kind}
-use Rattle.dm_text.proofs.Names.{General, Reply, Link, Pid, MsgId, Direction, FromArea, IntoArea, EndLine, Standing, id_word, end_words, link_words, kind_word, rights_word, standing_word, direction_word, go_word, read_standing}
+use Rattle.dm_text.proofs.Names.{◌≡◌, ℕ, ◌+◌, ◌==◌, Bool, true, false, List, [], ◌∷◌, ◌++◌, length, take, map, refl, ap, sym, ◌∙◌, arith, Some, None, eq-eqb, get_or_push, length_push, take-append_seam, Kind}
+use Rattle.dm_text.proofs.Names.{General, Reply, Link, Pid, MsgId, Direction, FromArea, IntoArea, EndLine, Standing, end_words, link_words, kind_word, rights_word, standing_word, direction_word, go_word, read_standing}
 use Rattle.dm_text.proofs.Names.{read_direction, read_go, read_link_kind, read_rights, read_link, link_from, registers_from, read_u32, read_id, all_read, end_of_words, line_of_words, EndFits, AllFit, LineWord, only_if}
 use Rattle.dm_text.proofs.Names.{message_word, sized, link_row, spellings}
 use Rattle.dm_line.specs.declared.end_line.Doing.TheVariants as doing

@@ -11,6 +11,12 @@ pub use Rattle.std.specs.Prelude.{OnErr}
 pub use Rattle.std.specs.declared.option.Option.{Option}
 pub use Rattle.std.specs.declared.result.Result.{Result}
 pub use Rattle.std.specs.declared.result.Result.TheVariants.{Err, Ok}
+unfoldable pub use Rattle.dm_reading.specs.Cuts.{pieces}
+pub use Rattle.dm_reading.specs.Digits.{digit}
+pub use Rattle.dm_reading.specs.Numbers.{is_padded, number_after}
+unfoldable pub use Rattle.dm_reading.specs.Numbers.{read_number}
+pub use Rattle.dm_reading.specs.declared.numbers.Base.TheVariants.{Ten}
+pub use Rattle.std.specs.Option.{option_and_then}
 pub use Rattle.dm_link.specs.Names.{pid_of}
 pub use Rattle.dm_link.specs.declared.Kind.{Kind}
 pub use Rattle.dm_link.specs.declared.Kind.TheVariants.{General, Reply}
@@ -41,8 +47,8 @@ pub use Rattle.dm_text.specs.Fits.{EndFits, IdFits, IsByte, IsWord, LineFits}
 unfoldable pub use Rattle.dm_text.specs.GroupsOf.{read_stage}
 pub use Rattle.dm_text.specs.LinesOf.{Trace, at_end, end_of_words, ends_from, line_of_words, lines_from, lines_in, trace_from, trace_in}
 unfoldable pub use Rattle.dm_text.specs.LinesOf.{end_of, line_of, lines_of, trace_of}
-pub use Rattle.dm_text.specs.Reading.{is_padded, message_named, message_numbered, number_after, outcome_with, read_u32, reply_with, why_with}
-unfoldable pub use Rattle.dm_text.specs.Reading.{pieces, read_id, read_kind, read_number, read_outcome, read_pid, read_reply, read_why}
+pub use Rattle.dm_text.specs.Reading.{message_named, message_numbered, outcome_with, read_u32, reply_with, why_with}
+unfoldable pub use Rattle.dm_text.specs.Reading.{read_id, read_kind, read_outcome, read_pid, read_reply, read_why}
 pub use Rattle.dm_text.specs.Rows.{all_read}
 pub use Rattle.dm_text.specs.Text.{end_text, spaced, spelled_line, stage_word, text}
 unfoldable pub use Rattle.dm_text.specs.Text.{text_of_ends, text_of_lines}

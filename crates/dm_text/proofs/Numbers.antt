@@ -1,20 +1,20 @@
 -- Numbers in decimal, read back.
 use Rattle.dm_text.proofs.Names.{◌≡◌, ℕ, zero, suc, ◌+◌, ◌-◌, ◌*◌, ◌/◌, ◌%◌, ◌^◌, ◌<◌, ◌≤◌, ◌==◌, nat_lt, nat_le, Bool, true, false, ◌&&◌, ◌||◌, if◌then◌else◌, List, [], ◌∷◌, ◌++◌, length, get_or, refl, ap, sym, ◌∙◌, append_assoc, arith}
-use Rattle.dm_text.proofs.Names.{Some, None, length-append, decimal_digit, decimal_step, Option, decimal, and-false, nat_tests, ne_eqb, lt-ltb, le-ltb, decimal_by_steps_wide, get_or_append_left, number_after, read_number, is_padded}
+use Rattle.dm_text.proofs.Names.{Some, None, length-append, decimal_digit, decimal_step, Option, decimal, and-false, nat_tests, ne_eqb, lt-ltb, le-ltb, decimal_by_steps_wide, get_or_append_left, number_after, read_number, is_padded, option_and_then}
 use Rattle.dm_text.proofs.Pieces.{above, above-append}
 
 -- what a digit adds
 after_digit : (m d : ℕ) → d < 10 → number_after m ((48 + d) ∷ []) ≡ Some (10 * m + d)
 after_digit m d h = grind (arith, nat_tests)
 
-if_some : (t : Bool) (o : Option ℕ) (m : ℕ) → (if t then o else None) ≡ Some m → (t ≡ true) × (o ≡ Some m)
-if_some true o m h = (refl, h)
-if_some false o m h = absurd (cc)
+if_some : (t : Bool) (d : ℕ) (f : ℕ → Option ℕ) (m : ℕ) → option_and_then f (if t then Some d else None) ≡ Some m → (t ≡ true) × (f d ≡ Some m)
+if_some true d f m h = (refl, h)
+if_some false d f m h = absurd (cc)
 
 after-append : (a m : ℕ) (xs ys : List ℕ) → number_after a xs ≡ Some m → number_after a (xs ++ ys) ≡ number_after m ys
 after-append a m [] ys h = let e : a ≡ m = cc in ap (λ k. number_after k ys) e
 after-append a m (b ∷ bs) ys h =
-    let t : ((nat_le 48 b && nat_le b 57) ≡ true) × (number_after (10 * a + (b - 48)) bs ≡ Some m) = if_some (nat_le 48 b && nat_le b 57) (number_after (10 * a + (b - 48)) bs) m h in
+    let t : ((nat_le 48 b && nat_le b 57) ≡ true) × (number_after (10 * a + (b - 48)) bs ≡ Some m) = if_some (nat_le 48 b && nat_le b 57) (b - 48) (λ d. number_after (10 * a + d) bs) m h in
     rw t.0 (after-append (10 * a + (b - 48)) m bs ys t.1)
 
 above_digit : (d : ℕ) → above 47 ((48 + d) ∷ []) ≡ true

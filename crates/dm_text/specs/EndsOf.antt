@@ -2,6 +2,7 @@
 use Rattle.std.specs.Prelude.{ℕ, ◌+◌, ◌-◌, ◌*◌, ◌^◌, nat_le, Bool, true, false, ◌&&◌, if◌then◌else◌, ◌==◌, List, [], ◌∷◌, length, take, get_or, codes}
 use Rattle.std.specs.declared.option.Option.{Option}
 use Rattle.std.specs.declared.option.Option.TheVariants.{None, Some}
+use Rattle.dm_reading.specs.Numbers.{read_number}
 use Rattle.dm_link.specs.declared.Pid.{Pid}
 use Rattle.dm_link.specs.declared.Kind.{Kind}
 use Rattle.dm_link.specs.declared.Kind.TheVariants.{General, Reply}
@@ -14,7 +15,7 @@ use Rattle.dm_line.specs.declared.end_line.EndLine.{EndLine}
 use Rattle.dm_line.specs.declared.end_line.EndLine.TheVariants as end
 use Rattle.dm_line.specs.declared.end_line.Standing.{Standing}
 use Rattle.dm_line.specs.declared.end_line.Standing.TheVariants as standing
-use Rattle.dm_text.specs.Reading.{◌<*>◌, read_number, read_u8, read_u32, read_pid, read_id, read_why}
+use Rattle.dm_text.specs.Reading.{◌<*>◌, read_u8, read_u32, read_pid, read_id, read_why}
 use Rattle.dm_text.specs.Rows.{is, of0, of1, of2, all_read}
 
 unfoldable pub read_standing : List ℕ → Option Standing

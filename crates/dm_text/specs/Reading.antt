@@ -1,8 +1,10 @@
--- The pieces of a text, and the numbers, names and kinds that words spell.
-use Rattle.std.specs.Prelude.{ℕ, ◌+◌, ◌-◌, ◌*◌, ◌^◌, ◌==◌, nat_lt, nat_le, Bool, true, false, ◌&&◌, ◌||◌, if◌then◌else◌, List, [], ◌∷◌, length, slice_index}
+-- The numbers, names and kinds that words spell.
+use Rattle.std.specs.Prelude.{ℕ, ◌^◌, ◌==◌, Bool, true, false, if◌then◌else◌, List, [], ◌∷◌}
 use Rattle.std.specs.Str.{bytes_eq}
 use Rattle.std.specs.declared.option.Option.{Option}
 use Rattle.std.specs.declared.option.Option.TheVariants.{None, Some}
+unfoldable pub use Rattle.dm_reading.specs.Cuts.{pieces}
+use Rattle.dm_reading.specs.Numbers.{read_number}
 use Rattle.dm_link.specs.declared.Pid.{Pid}
 use Rattle.dm_link.specs.Names.{pid_of}
 use Rattle.dm_message.specs.declared.MsgId.{MsgId}
@@ -18,40 +20,12 @@ use Rattle.dm_onekernel.specs.declared.label.Reply.TheVariants as reply
 use Rattle.dm_onekernel.specs.declared.label.Why.{Why}
 use Rattle.dm_onekernel.specs.declared.label.Why.TheVariants as why
 
--- a byte before the first of some pieces
-abbrev pub longer : ℕ → List (List ℕ) → List (List ℕ)
-longer b [] = (b ∷ []) ∷ []
-longer b (p ∷ ps) = (b ∷ p) ∷ ps
-
--- the pieces of a text before, between and after its bytes sep: one more than it has of them
-unfoldable pub pieces : ℕ → List ℕ → List (List ℕ)
-pieces sep [] = [] ∷ []
-pieces sep (b ∷ bs) = if b == sep then [] ∷ pieces sep bs else longer b (pieces sep bs)
-
 -- the value of what makes it, where all of that is there
 infixl 30 ◌<*>◌
 abbrev pub ◌<*>◌ : {A B : Type 0} → Option (A → B) → Option A → Option B
 None <*> o = None
 Some f <*> None = None
 Some f <*> Some x = Some (f x)
-
--- the number that a word's digits make after those of n
-abbrev pub number_after : ℕ → List ℕ → Option ℕ
-number_after n [] = Some n
-number_after n (b ∷ bs) = if nat_le 48 b && nat_le b 57 then number_after (10 * n + (b - 48)) bs else None
-
--- the number, if it is below a limit
-abbrev pub if_below : ℕ → Option ℕ → Option ℕ
-if_below limit None = None
-if_below limit (Some n) = if nat_lt n limit then Some n else None
-
--- a digit 0 with others after it
-abbrev pub is_padded : List ℕ → Bool
-is_padded w = slice_index w 0 == 48 && nat_lt 1 (length w)
-
--- the number below a limit that a word spells in decimal, with no 0 in front
-unfoldable pub read_number : ℕ → List ℕ → Option ℕ
-read_number limit w = if length w == 0 || is_padded w then None else if_below limit (number_after 0 w)
 
 -- a machine, or another number of one byte
 abbrev pub read_u8 : List ℕ → Option ℕ

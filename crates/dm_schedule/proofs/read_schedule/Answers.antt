@@ -1,6 +1,6 @@
 -- A line that is bad, a line that says something or nothing, or no line more.
 use Rattle.dm_schedule.proofs.Names.{◌≡◌, ◌+◌, ◌∙◌, ap, sym, length, arith, nat_tests, lines, lines_from}
-use Rattle.dm_schedule.proofs.Cuts.{lines-none}
+use Rattle.dm_reading.proofs.LineCuts.{lines-none}
 use Rattle.dm_schedule.proofs.Following.{before, ends, goes_on, stops}
 use Rattle.dm_schedule.proofs.read_schedule.Goals as goal
 

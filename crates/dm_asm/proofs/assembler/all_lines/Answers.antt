@@ -1,6 +1,6 @@
 -- No lines are left.
 use Rattle.dm_asm.proofs.Names.{◌≡◌, ◌∙◌, ap, sym, length, arith, nat_tests, with_lines, place_in}
-use Rattle.dm_asm.proofs.Cuts.{source_lines-none}
+use Rattle.dm_reading.proofs.LineCuts.{source_lines-none}
 use Rattle.dm_asm.proofs.assembler.all_lines.Goals as goal
 
 pub returns-clause-exact : goal.returns-clause-exact

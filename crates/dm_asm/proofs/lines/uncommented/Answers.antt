@@ -1,6 +1,6 @@
 -- The comment begins at the first semicolon.
 use Rattle.dm_asm.proofs.Names.{sym}
-use Rattle.dm_asm.proofs.Cuts.{comment-position, comment-whole}
+use Rattle.dm_asm.proofs.Comments.{comment-position, comment-whole}
 use Rattle.dm_asm.proofs.lines.uncommented.Goals as goal
 
 pub returns-in-Some : goal.returns-in-Some

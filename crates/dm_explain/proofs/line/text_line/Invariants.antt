@@ -1,5 +1,4 @@
-use Rattle.dm_explain.proofs.Names.{◌≡◌, length, slice_get, line_at, line_or_nothing}
-use Rattle.dm_asm.specs.Lines.{source_lines}
+use Rattle.dm_explain.proofs.Names.{◌≡◌, length, slice_get, source_lines, line_at, line_or_nothing}
 use Rattle.dm_explain.proofs.line.text_line.Given as goal
 
 abbrev pub invariant-lines : goal.invariant-lines

@@ -1,6 +1,6 @@
 -- No lines are left.
 use Rattle.dm_asm.proofs.Names.{◌≡◌, ◌∙◌, ap, sym, length, arith, nat_tests, place_in, first_of, place_from}
-use Rattle.dm_asm.proofs.Cuts.{source_lines-none}
+use Rattle.dm_reading.proofs.LineCuts.{source_lines-none}
 use Rattle.dm_asm.proofs.Defined.{first_of-None}
 use Rattle.dm_asm.proofs.labels.Labels.of.Goals as goal
 

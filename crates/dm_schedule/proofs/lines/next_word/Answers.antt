@@ -1,7 +1,0 @@
--- There are only blanks.
-use Rattle.dm_schedule.proofs.Names.{sym}
-use Rattle.dm_schedule.proofs.Cuts.{words-none}
-use Rattle.dm_schedule.proofs.lines.next_word.Goals as goal
-
-pub returns-in-None-clause-none : goal.returns-in-None-clause-none
-returns-in-None-clause-none c = words-none c.args.line.now (sym c.in-None.ensures)
