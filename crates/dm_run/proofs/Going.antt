@@ -1,5 +1,5 @@
 -- A run of the world goes on, group by group, to its end.
-use Rattle.dm_run.proofs.Names.{◌≡◌, ◌≤◌, ℕ, ◌*◌, ◌^◌, false, List, [], ◌∷◌, ◌++◌, length, refl, ap, ◌∙◌, sym, subst, Some, All, Boot, IsValid, Step, Directive, Line, IsStep, IsFor, Cursor, World, IsWorld, world_state, WorldState}
+use Rattle.dm_run.proofs.Names.{◌≡◌, ◌≤◌, ◌<◌, ℕ, ◌+◌, ◌*◌, ◌^◌, false, get_or, slice_get-get_or, cursor_of, NoneLeft, List, [], ◌∷◌, ◌++◌, length, refl, ap, ◌∙◌, sym, subst, Some, All, Boot, IsValid, Step, Directive, Line, IsStep, IsFor, Cursor, World, IsWorld, world_state, WorldState}
 use Rattle.dm_run.proofs.Names.{MeetsSome, AreReadBack, gave, AreWhole, MayStep, first_world, world_step, Way, Does, WearsBy, Went, begins, goes, Led, starts, turns, does, first_way, EndsMay, RunsGo, GoesOn, Stays, IsDone, IsAtStart, IsRunning}
 use Rattle.dm_run.proofs.Names.{HasCome, HasEnded, WearsAfter, by_world, Answers, OrNoMemory, StopsWorn, Result, Ok, Err, IsErr, IsErrAnd, IfErr, false≢true}
 use Rattle.dm_node.specs.declared.stop.Stop as stopping
@@ -15,6 +15,12 @@ pub went : (b : Boot) (ds : List Directive) (way : Way) (es : List Step) (gs : L
 went b ds _ _ _ _ starts = begins
 went b ds _ _ _ _ (turns way es gs w d before none is) = went b ds way es gs w before
 went b ds _ _ _ _ (does way es gs w e after lines u before comes d) = goes es gs w e lines u (went b ds way es gs w before) d
+
+-- the next directive is begun
+pub turns_to : (b : Boot) (ds : List Directive) (way : Way) (c : Cursor) (es : List Step) (gs : List (List Line)) (w : WorldState) (x : Directive) → way.begun < length ds → c ≡ cursor_of (get_or ds way.begun x) → NoneLeft (length b.machines) w way.cursor → Led b ds way es gs w
+    → Led b ds (record { begun = way.begun + 1; cursor = c }) es gs w
+turns_to b ds way c es gs w x within same none led =
+    subst (λ (k : Cursor). Led b ds (record { begun = way.begun + 1; cursor = k }) es gs w) (sym same) (turns way es gs w (get_or ds way.begun x) led none (slice_get-get_or ds way.begun x within))
 
 -- a world as the boot file has it
 pub running_first : (w : World) → IsAtStart w → IsRunning w

@@ -22,7 +22,8 @@ pub use Rattle.dm_wire.specs.Sent.{bytes_at}
 pub use Rattle.dm_wire.specs.Wire.{after_mark}
 pub use Rattle.dm_stream.specs.Packets.{Ack, Data}
 pub use Rattle.dm_line.proofs.Names.{false≢true}
-pub use Rattle.dm_run.specs.Runs.{IsFor, IsStep, joined}
+pub use Rattle.std.proofs.lemmas.Option.{slice_get-get_or}
+pub use Rattle.dm_run.specs.Runs.{IsFor, IsStep, cursor_of, joined}
 pub use Rattle.dm_line.specs.declared.end_line.EndLine.{EndLine}
 pub use Rattle.dm_line.specs.declared.line.Line.{Line}
 pub use Rattle.dm_text.specs.Fits.{EndFits, HidesNothing, LineFits}

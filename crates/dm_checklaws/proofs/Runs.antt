@@ -1,20 +1,21 @@
 -- The verdict on the text of a run by the rule.
-use Rattle.dm_check.proofs.Names.{◌≡◌, ◌≢◌, ◌<◌, ℕ, zero, suc, ◌+◌, ◌==◌, Bool, true, false, not, ◌&&◌, nat_lt, if◌then◌else◌, List, [], ◌∷◌, ◌++◌, length, map, refl, ap, sym, ◌∙◌, subst, append_assoc, append-nil, length-append, arith}
-use Rattle.dm_check.proofs.Names.{Some, None, ⊤, codes, All, Option, nat_tests, All-nil, All-cons, All-head, All-tail, Pid, Boot, Step, Directive, Line, EndLine, Pass, Two, Todo, Next, all_of, below, pairs_of, here_or_later, next_delivery}
-use Rattle.dm_check.proofs.Names.{pass_begun, takes_turn, next_and_left, next_turn, in_pass, or, begin_pass, settles, next_directive, next_pass, is_over, following, end_lines, next_step, undelivered, IsKept, IsRun, IsStep, Spelled, Point}
-use Rattle.dm_check.proofs.Names.{first_point, labels, has_mail, is_quiet, group_of, View, worn_in, EndFits, LineFits, pieces, line_words, text, end_text, text_of_ends, text_of_lines, line_words-are, line_bytes, spelled_bytes}
-use Rattle.dm_check.proofs.Names.{pieces_of_line, ones, IsGood, joined, IsTwo, IsDirective, IsTodo, machines_group, next_fits, head_step, some_piece, heads_read, first_line, head_of_line, is_final, AllHeld, EndsFit, IsTrace, good_verdict}
-use Rattle.dm_check.proofs.Names.{text_behind, Open, Ended, can_hold, behind_line, judged_from, verdict, IsHome, HasHome, TracesAreGood, BeginningsAreOpen, RunsAreEnded}
+use Rattle.dm_checklaws.proofs.Names.{◌≡◌, ◌≢◌, ◌<◌, ℕ, zero, suc, ◌+◌, ◌==◌, Bool, true, false, not, ◌&&◌, nat_lt, if◌then◌else◌, List, [], ◌∷◌, ◌++◌, length, map, refl, ap, sym, ◌∙◌, subst, append_assoc, append-nil, length-append, arith}
+use Rattle.dm_checklaws.proofs.Names.{Some, None, ⊤, codes, All, Option, nat_tests, All-nil, All-cons, All-head, All-tail, Pid, Boot, Step, Directive, Line, EndLine, Pass, Two, Todo, Next, all_of, below, pairs_of, here_or_later, next_delivery}
+use Rattle.dm_checklaws.proofs.Names.{pass_begun, takes_turn, next_and_left, next_turn, in_pass, or, begin_pass, settles, next_directive, next_pass, is_over, following, end_lines, next_step, undelivered, IsKept, IsRun, IsStep, Spelled, Point}
+use Rattle.dm_checklaws.proofs.Names.{first_point, labels, has_mail, is_quiet, group_of, View, worn_in, EndFits, LineFits, pieces, line_words, text, end_text, text_of_ends, text_of_lines, line_words-are, line_bytes, spelled_bytes}
+use Rattle.dm_checklaws.proofs.Names.{pieces_of_line, ones, IsGood, joined, IsTwo, IsDirective, IsTodo, machines_group, next_fits, head_step, some_piece, heads_read, first_line, head_of_line, is_final, AllHeld, EndsFit, IsTrace, good_verdict}
+use Rattle.dm_checklaws.proofs.Names.{text_behind, Open, Ended, can_hold, behind_line, judged_from, verdict, verdict_by, by_rule, led, IsHome, HasHome, TracesAreGood, BeginningsAreOpen, RunsAreEnded}
 use Rattle.dm_schedule.specs.declared.Step.TheVariants as step
 use Rattle.dm_schedule.specs.declared.Directive.TheVariants as directive
 use Rattle.dm_line.specs.declared.line.Line.TheVariants as line
 use Rattle.dm_line.specs.declared.end_line.EndLine.TheVariants as end
 use Rattle.dm_line.specs.declared.pass.Pass.TheVariants as pass
 use Rattle.dm_check.specs.Judge as judge
-use Rattle.dm_check.proofs.Fulls.{ends_full}
-use Rattle.dm_check.proofs.Groups.{fresh_group, group_head}
 use Rattle.dm_check.proofs.Judging.{at_text_end, due_ends, due_group, ends_stand, first_of, group_stands, lines_append}
-use Rattle.dm_check.proofs.KeptNames.{AreNames, names_always}
+use Rattle.dm_checklaws.proofs.Fulls.{ends_full}
+use Rattle.dm_checklaws.proofs.Groups.{fresh_group, group_head}
+use Rattle.dm_checklaws.proofs.KeptNames.{AreNames, names_always}
+use Rattle.dm_checklaws.proofs.Led.{ends_there, group_there, led_last}
 
 first_is_head : (e : Step) (others : List Line) (rest : List ℕ) → LineFits (line.Head e) → head_of_line (first_line (pieces 10 (text_of_lines (line.Head e ∷ others) ++ rest))) ≡ Some e
 unfolding text_of_lines
@@ -26,14 +27,15 @@ first_is_head e others rest h =
     ∙ heads_read e (line_bytes ws) h (sym (spelled_bytes ws))
 
 -- a whole group stands
-group_judged : (b : Boot) (pt : Point) (n number : ℕ) (e : Step) (w : Spelled) (rest : List ℕ) → can_hold (length b.machines) e ≡ true → group_of b pt e ≡ Some w → worn_in b.numbers pt.view w.lines ≡ None → All LineFits w.lines
-    → judged_from b (judge.Head pt n) number (pieces 10 (text_of_lines w.lines ++ rest)) ≡ judged_from b (judge.Head w.point (n + 1)) (number + length w.lines) (pieces 10 rest)
-group_judged b pt n number e w rest held due fresh fits =
+group_judged : (b : Boot) (es : List Step) (pt : Point) (number : ℕ) (e : Step) (w : Spelled) (rest : List ℕ) → led b (first_point b) es ≡ Some pt → can_hold (length b.machines) e ≡ true → group_of b pt e ≡ Some w → worn_in b.numbers pt.view w.lines ≡ None → All LineFits w.lines
+    → judged_from (by_rule b) (judge.Head es) number (pieces 10 (text_of_lines w.lines ++ rest)) ≡ judged_from (by_rule b) (judge.Head (es ++ e ∷ [])) (number + length w.lines) (pieces 10 rest)
+group_judged b es pt number e w rest there held due fresh fits =
     let (others, begins) = group_head b pt e w due in
     let here : LineFits (line.Head e) = subst (All LineFits) begins fits 0 (line.Head e) (omega arith) in
     let head = ap (λ (ls : List Line). head_of_line (first_line (pieces 10 (text_of_lines ls ++ rest)))) begins ∙ first_is_head e others rest here in
-    due_group b pt n number (pieces 10 (text_of_lines w.lines ++ rest)) e w (line.Head e) others head held due fresh begins
-    ∙ group_stands b w.lines w.point (n + 1) number rest fits
+    due_group (by_rule b) es number (pieces 10 (text_of_lines w.lines ++ rest)) e (line.Head e) others head held (group_there b es pt e w there due fresh ∙ ap (λ (ls : List Line). Some ls) begins)
+    ∙ ap (λ ls. judged_from (by_rule b) (behind_line ls (es ++ e ∷ [])) number (pieces 10 (text_of_lines w.lines ++ rest))) (sym begins)
+    ∙ group_stands (by_rule b) w.lines (es ++ e ∷ []) number rest fits
 
 -- what is said of what is left to do, and goes on with it: the directives that follow are such as a schedule holds
 record Follows (machines : ℕ) (P : Todo → Type 0) : Type 0 where
@@ -45,15 +47,23 @@ fit_first (l ∷ ls) b h =
     let k = fit_first ls b (All-tail LineFits l (ls ++ b) h) in
     (All-cons LineFits l ls (All-head LineFits l (ls ++ b) h) k.0, k.1)
 
-run_judged : (b : Boot) (P : Todo → Type 0) → Follows (length b.machines) P → (gs : List (List Line)) (pt end : Point) (t left : Todo) (n number : ℕ) (rest : List ℕ) → pt.kernel.machines ≡ length b.machines → P t → All LineFits (joined gs)
-    → IsRun b pt t gs end left
-    → judged_from b (judge.Head pt n) number (pieces 10 (text_of_lines (joined gs) ++ rest)) ≡ judged_from b (judge.Head end (n + length gs)) (number + length (joined gs)) (pieces 10 rest)
+-- the groups of a run stand, and lead there
+record Stood (b : Boot) (es : List Step) (gs : List (List Line)) (end : Point) (number : ℕ) (rest : List ℕ) : Type 0 where
+  done : List Step
+  there : led b (first_point b) done ≡ Some end
+  size : length done ≡ length es + length gs
+  is : judged_from (by_rule b) (judge.Head es) number (pieces 10 (text_of_lines (joined gs) ++ rest)) ≡ judged_from (by_rule b) (judge.Head done) (number + length (joined gs)) (pieces 10 rest)
+
+run_judged : (b : Boot) (P : Todo → Type 0) → Follows (length b.machines) P → (gs : List (List Line)) (es : List Step) (pt end : Point) (t left : Todo) (number : ℕ) (rest : List ℕ) → led b (first_point b) es ≡ Some pt → pt.kernel.machines ≡ length b.machines → P t
+    → All LineFits (joined gs) → IsRun b pt t gs end left → Stood b es gs end number rest
 unfolding text_of_lines
-run_judged b P f [] pt end t left n number rest machines p fits run =
-    ap (λ (q : Point). judged_from b (judge.Head q n) number (pieces 10 rest)) run.0
-    ∙ ap (λ k. judged_from b (judge.Head end k) number (pieces 10 rest)) (omega arith)
-    ∙ ap (λ k. judged_from b (judge.Head end (n + 0)) k (pieces 10 rest)) (omega arith)
-run_judged b P f (g ∷ gs) pt end t left n number rest machines p fits (nx, w, is, due, said, kept, more) =
+run_judged b P f [] es pt end t left number rest there machines p fits run = record {
+  done = es;
+  there = there ∙ ap (λ (q : Point). Some q) run.0;
+  size = omega arith;
+  is = ap (λ k. judged_from (by_rule b) (judge.Head es) k (pieces 10 rest)) (omega arith);
+}
+run_judged b P f (g ∷ gs) es pt end t left number rest there machines p fits (nx, w, is, due, said, kept, more) =
     let (held, q) = f.follows pt.view t nx p (sym (ap (λ (k : ℕ). next_step k pt.view t) machines) ∙ is) in
     let fresh = fresh_group b pt nx.step w due kept.counts in
     let both = fit_first g (joined gs) fits in
@@ -61,14 +71,21 @@ run_judged b P f (g ∷ gs) pt end t left n number rest machines p fits (nx, w, 
     let later : List ℕ = text_of_lines (joined gs) ++ rest in
     let apart : text_of_lines (g ++ joined gs) ++ rest ≡ text_of_lines w.lines ++ later =
     ap (λ s. s ++ rest) (lines_append g (joined gs)) ∙ append_assoc (text_of_lines g) (text_of_lines (joined gs)) rest ∙ ap (λ ls. text_of_lines ls ++ later) (sym said) in
-    let groups : n + 1 + length gs ≡ n + length (g ∷ gs) = omega arith in
     let said_length : length w.lines ≡ length g = ap length said in
     let lines : number + length w.lines + length (joined gs) ≡ number + length (g ++ joined gs) = omega (arith, said_length, length-append g (joined gs)) in
-    ap (λ s. judged_from b (judge.Head pt n) number (pieces 10 s)) apart
-    ∙ group_judged b pt n number nx.step w later held due fresh here
-    ∙ run_judged b P f gs w.point end nx.left left (n + 1) (number + length w.lines) rest (machines_group b pt nx.step w due ∙ machines) q both.1 more
-    ∙ ap (λ k. judged_from b (judge.Head end k) (number + length w.lines + length (joined gs)) (pieces 10 rest)) groups
-    ∙ ap (λ k. judged_from b (judge.Head end (n + length (g ∷ gs))) k (pieces 10 rest)) lines
+    let r : Stood b (es ++ nx.step ∷ []) gs end (number + length w.lines) rest =
+    run_judged b P f gs (es ++ nx.step ∷ []) w.point end nx.left left (number + length w.lines) rest (led_last b es (first_point b) pt nx.step w there due) (machines_group b pt nx.step w due ∙ machines) q both.1 more in
+    let size : length r.done ≡ length (es ++ nx.step ∷ []) + length gs = r.size in
+    record {
+      done = r.done;
+      there = r.there;
+      size = omega (arith, size, length-append es (nx.step ∷ []));
+      is =
+          ap (λ s. judged_from (by_rule b) (judge.Head es) number (pieces 10 s)) apart
+          ∙ group_judged b es pt number nx.step w later there held due fresh here
+          ∙ r.is
+          ∙ ap (λ k. judged_from (by_rule b) (judge.Head r.done) k (pieces 10 rest)) lines;
+    }
 
 -- the lines at the end, behind whole groups
 final_first : (es : List EndLine) → (head_of_line (first_line (pieces 10 (text_of_ends (end.Final ∷ es)))) ≡ None) × (is_final (first_line (pieces 10 (text_of_ends (end.Final ∷ es)))) ≡ true)
@@ -83,10 +100,13 @@ abbrev behind_first : List EndLine → List EndLine
 behind_first [] = []
 behind_first (e ∷ es) = es
 
-ends_judged : (b : Boot) (pt : Point) (n number : ℕ) → All EndFits (end_lines pt) → AreNames pt.kernel.switchboard.names → judged_from b (judge.Head pt n) number (pieces 10 (text_of_ends (end_lines pt))) ≡ Ended n
-ends_judged b pt n number fits names =
+ends_judged : (b : Boot) (es : List Step) (pt : Point) (number : ℕ) → led b (first_point b) es ≡ Some pt → All EndFits (end_lines pt) → AreNames pt.kernel.switchboard.names
+    → judged_from (by_rule b) (judge.Head es) number (pieces 10 (text_of_ends (end_lines pt))) ≡ Ended (length es)
+ends_judged b es pt number there fits names =
     let first = final_first (behind_first (end_lines pt)) in
-    due_ends b pt n number (pieces 10 (text_of_ends (end_lines pt))) first.0 first.1 ∙ ends_stand b (end_lines pt) n number fits (ends_full pt names)
+    due_ends (by_rule b) es number (pieces 10 (text_of_ends (end_lines pt))) first.0 first.1
+    ∙ ap (λ ls. judged_from (by_rule b) (judge.End ls (length es)) number (pieces 10 (text_of_ends (end_lines pt)))) (ends_there b es pt there)
+    ∙ ends_stand (by_rule b) (end_lines pt) (length es) number fits (ends_full pt names)
 
 -- what is left is these elementary directives, which a schedule holds
 record LeftOnes (machines : ℕ) (t : Todo) : Type 0 where
@@ -106,19 +126,20 @@ ones_follow machines = record { follows = λ v t n p is. by_steps v n p.steps p.
         (All-head (λ d. can_hold machines d ≡ true) e es held, record { steps = es; is = refl; held = All-tail (λ d. can_hold machines d ≡ true) e es held })
 
 pub traces_good : TracesAreGood
-unfolding verdict
+unfolding verdict verdict_by
 traces_good b bytes n ended h =
-    let start = first_point b in
     let p : LeftOnes (length b.machines) (all_of (ones h.steps)) = record { steps = h.steps; is = refl; held = h.held } in
-    let counts : 0 + length h.groups ≡ n = omega (arith, h.counts) in
-    ap (λ t. judged_from b (judge.Head start 0) 1 (pieces 10 t)) h.text
-    ∙ run_judged b (LeftOnes (length b.machines)) (ones_follow (length b.machines)) h.groups start h.end (all_of (ones h.steps)) (all_of []) 0 1 (text_behind ended h.end) refl p h.fits h.good.run
-    ∙ ap (λ k. judged_from b (judge.Head h.end k) (1 + length (joined h.groups)) (pieces 10 (text_behind ended h.end))) counts
-    ∙ by_end ended h.ends_fit
+    let r : Stood b [] h.groups h.end 1 (text_behind ended (end_lines h.end)) =
+    run_judged b (LeftOnes (length b.machines)) (ones_follow (length b.machines)) h.groups [] (first_point b) h.end (all_of (ones h.steps)) (all_of []) 1 (text_behind ended (end_lines h.end)) refl refl p h.fits h.good.run in
+    let size : length r.done ≡ length h.groups = r.size ∙ omega arith in
+    ap (λ t. judged_from (by_rule b) (judge.Head []) 1 (pieces 10 t)) h.text
+    ∙ r.is
+    ∙ by_end r.done (1 + length (joined h.groups)) r.there ended h.ends_fit
+    ∙ ap (λ k. good_verdict k ended) (size ∙ h.counts)
   where
-    by_end : (e : Bool) → EndsFit e h.end → judged_from b (judge.Head h.end n) (1 + length (joined h.groups)) (pieces 10 (text_behind e h.end)) ≡ good_verdict n e
-    by_end false fit = at_text_end b (judge.Head h.end n) (1 + length (joined h.groups))
-    by_end true fit = ends_judged b h.end n (1 + length (joined h.groups)) fit (names_always b (labels (joined h.groups)) h.end.kernel h.good.replays)
+    by_end : (es : List Step) (number : ℕ) → led b (first_point b) es ≡ Some h.end → (e : Bool) → EndsFit e (end_lines h.end) → judged_from (by_rule b) (judge.Head es) number (pieces 10 (text_behind e (end_lines h.end))) ≡ good_verdict (length es) e
+    by_end es number there false fit = at_text_end (by_rule b) (judge.Head es) number
+    by_end es number there true fit = ends_judged b es h.end number there fit (names_always b (labels (joined h.groups)) h.end.kernel h.good.replays)
 
 -- what follows in any schedule
 abbrev HomeNext : ℕ → Option Next → Type 0
@@ -231,16 +252,22 @@ begun b (g ∷ gs) others pt end t left (n, w, is, due, said, kept, more) =
     record { end = r.end; left = r.left; run = (n, w, is, due, said, kept, r.run) }
 
 pub beginnings_open : BeginningsAreOpen
-unfolding verdict
+unfolding verdict verdict_by
 beginnings_open b ds groups others end left fit homes good fits =
     let r = begun b groups others (first_point b) end (all_of ds) left good.run in
-    ap (λ t. judged_from b (judge.Head (first_point b) 0) 1 (pieces 10 t)) (sym (append-nil (text_of_lines (joined groups))))
-    ∙ run_judged b (LeftOfAny (length b.machines)) (any_follow (length b.machines)) groups (first_point b) r.end (all_of ds) r.left 0 1 [] refl (any_begins (length b.machines) ds fit homes) fits r.run
-    ∙ at_text_end b (judge.Head r.end (0 + length groups)) (1 + length (joined groups)) ∙ ap (λ k. Open k) (omega arith)
+    let s : Stood b [] groups r.end 1 [] =
+    run_judged b (LeftOfAny (length b.machines)) (any_follow (length b.machines)) groups [] (first_point b) r.end (all_of ds) r.left 1 [] refl refl (any_begins (length b.machines) ds fit homes) fits r.run in
+    let size : length s.done ≡ length groups = s.size ∙ omega arith in
+    ap (λ t. judged_from (by_rule b) (judge.Head []) 1 (pieces 10 t)) (sym (append-nil (text_of_lines (joined groups))))
+    ∙ s.is
+    ∙ at_text_end (by_rule b) (judge.Head s.done) (1 + length (joined groups)) ∙ ap (λ k. Open k) size
 
 pub runs_ended : RunsAreEnded
-unfolding verdict
+unfolding verdict verdict_by
 runs_ended b ds groups end left fit homes good fits ends_fit =
-    run_judged b (LeftOfAny (length b.machines)) (any_follow (length b.machines)) groups (first_point b) end (all_of ds) left 0 1 (text_of_ends (end_lines end)) refl (any_begins (length b.machines) ds fit homes) fits good.run
-    ∙ ends_judged b end (0 + length groups) (1 + length (joined groups)) ends_fit (names_always b (labels (joined groups)) end.kernel good.replays)
-    ∙ ap (λ k. Ended k) (omega arith)
+    let s : Stood b [] groups end 1 (text_of_ends (end_lines end)) =
+    run_judged b (LeftOfAny (length b.machines)) (any_follow (length b.machines)) groups [] (first_point b) end (all_of ds) left 1 (text_of_ends (end_lines end)) refl refl (any_begins (length b.machines) ds fit homes) fits good.run in
+    let size : length s.done ≡ length groups = s.size ∙ omega arith in
+    s.is
+    ∙ ends_judged b s.done end (1 + length (joined groups)) s.there ends_fit (names_always b (labels (joined groups)) end.kernel good.replays)
+    ∙ ap (λ k. Ended k) size

@@ -15,8 +15,10 @@ use Rattle.dm_text.specs.Fits.{EndFits, LineFits}
 use Rattle.dm_text.specs.Text.{text_of_ends, text_of_lines}
 use Rattle.dm_mirror.specs.Run.{IsGood, joined}
 use Rattle.dm_mirror.specs.Todo.{IsDirective}
-use Rattle.dm_check.specs.Good.{IsTrace, good_verdict}
-use Rattle.dm_check.specs.Judge.{Ended, Open, verdict}
+use Rattle.dm_check.specs.Good.{good_verdict}
+use Rattle.dm_check.specs.Judge.{Ended, Open}
+use Rattle.dm_checklaws.specs.Good.{IsTrace}
+use Rattle.dm_checklaws.specs.Verdict.{verdict}
 
 -- a process that is to move is at home on one of so many machines
 abbrev pub IsHome : ℕ → Step → Type 0
