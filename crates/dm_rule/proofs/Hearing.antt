@@ -34,6 +34,7 @@ pub record Tells (P : List Part → Type 0) (o : Point) (m : ℕ) (id : MsgId) (
 -- what a machine knows of a receiver that is a process
 pub record At (o : Point) (m : ℕ) (t : Told) (k : Known) : Type 0 where
   pub known : o.view.known m t.receiver ≡ k
+  pub kernel : (t.receiver.num == 0) ≡ false
   pub server : (pid_eq t.receiver switchboard || pid_eq t.receiver manager) ≡ false
 
 -- and all that a kernel's own message may say, at each receiver
@@ -80,13 +81,13 @@ by_ended P o m id t k ps h1 h2 h3 h4 = search (arith, given)
 by_process : (P : List Part → Type 0) (o : Point) (m : ℕ) (id : MsgId) (t : Told) (k : Known) (ps : List Part) → Heard P o m id t → At o m t k → process_told o m id t k ≡ Some ps → P ps
 by_process P o m id t k ps h1 h2 h3 = search (arith, by_here, given, by_ended)
 
-by_receiver : (P : List Part → Type 0) (b : Boot) (o : Point) (m : ℕ) (id : MsgId) (t : Told) (c d g : Bool) (ps : List Part) → pid_eq t.receiver switchboard ≡ d → pid_eq t.receiver manager ≡ g → Heard P o m id t
+by_receiver : (P : List Part → Type 0) (b : Boot) (o : Point) (m : ℕ) (id : MsgId) (t : Told) (c d g : Bool) (ps : List Part) → (t.receiver.num == 0) ≡ c → pid_eq t.receiver switchboard ≡ d → pid_eq t.receiver manager ≡ g → Heard P o m id t
     → (if c then kernel_hears b o m id t.kind t.about else if d then told_server o id t (sort_of t.kind) else if g then told_server o id t (sort_of t.kind) else process_told o m id t (o.view.known m t.receiver)) ≡ Some ps → P ps
-by_receiver P b o m id t c d g ps h1 h2 h3 h4 = search (arith, by_kernel, by_server, by_process)
+by_receiver P b o m id t c d g ps h1 h2 h3 h4 h5 = search (arith, by_kernel, by_server, by_process)
 
 pub by_hears : (P : List Part → Type 0) (b : Boot) (o : Point) (m : ℕ) (id : MsgId) (q : Option Told) (ps : List Part) → ((t : Told) → q ≡ Some t → Heard P o m id t) → hears b o m id q ≡ Some ps → P ps
 by_hears P b o m id None ps h e = cc
-by_hears P b o m id (Some t) ps h e = by_receiver P b o m id t (t.receiver.num == 0) (pid_eq t.receiver switchboard) (pid_eq t.receiver manager) ps refl refl (h t refl) e
+by_hears P b o m id (Some t) ps h e = by_receiver P b o m id t (t.receiver.num == 0) (pid_eq t.receiver switchboard) (pid_eq t.receiver manager) ps refl refl refl (h t refl) e
 
 -- the lines that a kernel's own message brings about
 abbrev pub IsHeardLine : Line → Type 0

@@ -15,8 +15,7 @@ pub mod Parts
 pub mod Groups
 pub mod Turns
 use Rattle.dm_rule.proofs.Names.{◌≡◌, ℕ, true, refl, ap, sym, subst, slice_get, Option, None, Some, Pid, Place, PlainLink, link_at, MsgId, PlainMessage, PlainProcess, NamedLink, Pending, MoveNote, OneKernel, links_in, to_of, sender_of}
-use Rattle.dm_rule.proofs.Names.{enclosed_of, names, ascends, Addresses, Holder, Slot, Owner, Receiver, Sender, Enclosed, Child, Name, Answer, AskedBy, unmoved, link_target, owner_in, asker_in, option_and_then, option_map}
-use Rattle.dm_rule.proofs.Names.{arith}
+use Rattle.dm_rule.proofs.Names.{enclosed_of, names, ascends, Addresses, Holder, Slot, Owner, Receiver, Sender, Enclosed, Child, Name, Answer, AskedBy, unmoved, link_target, owner_in, asker_in, option_and_then, option_map, arith}
 use Rattle.dm_onekernel.specs.Manager as manage
 use Rattle.dm_onekernel.specs.Step as kernel
 

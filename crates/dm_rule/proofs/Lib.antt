@@ -3,6 +3,7 @@ pub mod Worked
 pub mod QuietWorked
 pub mod QuietTests
 pub mod SettleWorked
+pub mod OrderWorked
 pub mod Standing
 pub mod Once
 pub mod Lines
@@ -27,6 +28,7 @@ pub mod Phases
 pub mod Telling
 pub mod Rings
 pub mod Lives
+pub mod Ordered
 pub mod Rooted
 pub mod Apart
 pub mod Trails

@@ -171,7 +171,7 @@ past_place [] (suc k) e = (refl, refl)
 past_place (y ∷ ys) zero e = cc
 past_place (y ∷ ys) (suc k) e = past_place ys k e
 
-pair_off : {X : Type 0} (f : ℕ → ℕ → X) (a b c d : ℕ) (x : X) → ((a == c) && (b == d)) ≡ false → at_pair f a b x c d ≡ f c d
+pub pair_off : {X : Type 0} (f : ℕ → ℕ → X) (a b c d : ℕ) (x : X) → ((a == c) && (b == d)) ≡ false → at_pair f a b x c d ≡ f c d
 pair_off f a b c d x e = ap (λ (t : Bool). if t then x else f c d) e
 
 pub pair_at : {X : Type 0} (f : ℕ → ℕ → X) (a b : ℕ) (x : X) → at_pair f a b x a b ≡ x

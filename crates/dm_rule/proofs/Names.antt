@@ -4,8 +4,8 @@ pub use Rattle.std.proofs.lemmas.Bool.{and_parts, cases_eq, eq-eqb, eqb-true, fa
 pub use Rattle.std.proofs.lemmas.List.{length-append}
 pub use Rattle.std.proofs.lemmas.Option.{slice_get_cases, slice_get_within}
 pub use Rattle.std.specs.List.{cons_option, position_from}
-pub use Rattle.std.specs.Option.{option_map_or}
 pub use Rattle.std.specs.Prelude.{filter, filter_map, option_and_then, slice_set}
+pub use Rattle.std.specs.Str.{bytes_eq}
 pub use Rattle.dm_link.specs.Names.{Place, place_of}
 pub use Rattle.dm_link.specs.declared.Kind.TheVariants.{General}
 pub use Rattle.dm_processor.proofs.Names.{Bool, List, Row, [], ap, arith, cond, drop, drop-append-le, false, length, nat_tests, opcode_of, past, refl, replicate, slice_index, suc, sym, take, true, zero, ℕ, ◌%◌, ◌*◌, ◌++◌, ◌+◌, ◌-◌, ◌/◌}
@@ -18,7 +18,7 @@ pub use Rattle.dm_message.specs.Kinds.{plain_kind}
 pub use Rattle.dm_message.specs.Sorts.{Sort, sort_of}
 pub use Rattle.dm_message.specs.declared.kind.MessageKind.{MessageKind}
 pub use Rattle.dm_linktable.proofs.Names.{Link, Pid, first_empty, is_none, link_at, map, pid_eq, subst, ◌&&◌, ◌==◌, ◌≢◌}
-pub use Rattle.dm_schedule.proofs.Names.{append-nil, drop-length, if◌then◌else◌, nat_lt, not, position_or_len}
+pub use Rattle.dm_schedule.proofs.Names.{append-nil, append_assoc, drop-length, if◌then◌else◌, nat_lt, not, position_or_len}
 pub use Rattle.dm_schedule.specs.declared.Directive.{Directive}
 pub use Rattle.dm_schedule.specs.declared.Step.{Step}
 pub use Rattle.dm_process.proofs.Names.{slice_get}
@@ -38,8 +38,8 @@ pub use Rattle.dm_laws.proofs.Grown.{LifeGrows}
 pub use Rattle.dm_laws.proofs.Movers.{sent_at, sent_off, stayed}
 pub use Rattle.dm_laws.proofs.Names.{Alive, Boot, BootImage, BootProcess, CallNumber, Called, Direction, Ends, IsValid, Label, Life, Manager, MoveNote, Moving, MsgId, None, OneKernel, Option, Outcome, Outputs, Pending, PendingKind}
 pub use Rattle.dm_laws.proofs.Names.{PlainLink, PlainMessage, PlainProcess, PlainStatus, PlainWhat, Ready, Replies, Reply, Sends, Some, Waiting, Waits, Why, and_right, answer_id, answer_to, begun, bind, cases_Bool, code_of_outcome}
-pub use Rattle.dm_laws.proofs.Names.{cond_some, direction_numbered, entry, false≢true, first_failed, first_life, first_number, fun_ext, id_eq, id_of, in_bag, inl, inr, is_some, life_at, manager, nat_le, option_map, or_parts, pid_of}
-pub use Rattle.dm_laws.proofs.Names.{plain_link, processes_are_valid, reception, reg, start, starting_at, switchboard, when, with_note, with_process, with_sent, without_message, without_note, ⊤, ◌||◌, ◌⊎◌}
+pub use Rattle.dm_laws.proofs.Names.{cond_some, direction_numbered, entry, false≢true, first_failed, first_life, first_number, fun_ext, id_eq, id_of, in_bag, inl, inr, is_some, life_at, manager, nat_le, option_map, option_map_or, or_parts}
+pub use Rattle.dm_laws.proofs.Names.{pid_of, plain_link, processes_are_valid, reception, reg, start, starting_at, switchboard, when, with_note, with_process, with_sent, without_message, without_note, ⊤, ◌||◌, ◌⊎◌}
 pub use Rattle.dm_laws.proofs.Runs.{after_step, start-sound}
 pub use Rattle.dm_laws.proofs.Servers.{ServerSends, board_takes_lem, ends_move-is, manager_takes_lem, next_is_new, why_ended-is}
 pub use Rattle.dm_laws.proofs.Services.{LandsSo, lands-is}
@@ -52,16 +52,18 @@ pub use Rattle.dm_line.specs.Todo.{Next, Todo, all_of}
 pub use Rattle.dm_line.specs.declared.line.Line.{Line}
 pub use Rattle.dm_line.specs.declared.line.Load.{Load}
 pub use Rattle.dm_line.specs.declared.line.Stage.{Stage}
-pub use Rattle.dm_rule.specs.Addresses.{Addresses, Answer, AskedBy, Child, Enclosed, Gets, Holder, Name, Owner, Receiver, Sender, Slot, acting_place, all_follow, answer_gets, belongs_to, board_finds, addresses_by}
-pub use Rattle.dm_rule.specs.Addresses.{board_gets, board_keeps, call_gets, child_links, child_number, enclosed_from, encloses, fills, fills_by, first_addresses, first_gives, forwards, gets, given, gives, holder_eq}
-pub use Rattle.dm_rule.specs.Addresses.{is_behind, is_told_back, landing_gets, leads_to, link_target, links_at, manager_answers, manager_gets, manager_sends, own_given, owner_in, telling_gets}
-pub use Rattle.dm_rule.specs.Addresses.{place_known, place_named, place_told, receives_links, receiving_gets, sending_gets, serving_gets, slot_after, told_back_gets, unmoved, updated, updated_to}
+pub use Rattle.dm_rule.specs.Acts.{act_of}
+pub use Rattle.dm_rule.specs.Addresses.{Addresses, Answer, AskedBy, Child, Enclosed, Gets, Holder, Name, Owner, Receiver, Sender, Slot, acting_place, addresses_by, all_follow, answer_gets, belongs_to, board_finds, board_gets, board_keeps}
+pub use Rattle.dm_rule.specs.Addresses.{call_gets, child_links, child_number, enclosed_from, encloses, fills, fills_by, first_addresses, first_gives, forwards, gets, given, gives, holder_eq, is_behind, is_told_back, landing_gets, leads_to}
+pub use Rattle.dm_rule.specs.Addresses.{link_target, links_at, manager_answers, manager_gets, manager_sends, own_given, owner_in, place_known, place_named, place_told, receives_links, receiving_gets, sending_gets, serving_gets, slot_after}
+pub use Rattle.dm_rule.specs.Addresses.{telling_gets, told_back_gets, unmoved, updated, updated_to}
 pub use Rattle.dm_rule.specs.Apart.{AllSpare, IsOthers, Spares}
 pub use Rattle.dm_rule.specs.Good.{next_step}
 pub use Rattle.dm_rule.specs.Homes.{Homes, are_for_home, are_home, ascends, asker_in, enclosed_of, is_for_home, links_in, names, sender_of, to_of}
-pub use Rattle.dm_rule.specs.Laws.{AreStill, AskNone, IsStep, IsStill, IsUnasked, LeadHomeAlways, Leads, LeadsStill, MovingStaysAlways, PairsStandAlways, PhasesAlways, QuietIsTested, StandsOnceAlways, TellsRightAlways}
+pub use Rattle.dm_rule.specs.Laws.{AreStill, AskNone, IsStep, IsStill, IsUnasked, KernelsInOrderAlways, LeadHomeAlways, Leads, LeadsStill, MovingStaysAlways, PairsStandAlways, PhasesAlways, QuietIsTested, StandsOnceAlways, TellsRightAlways}
 pub use Rattle.dm_rule.specs.Migrating.{accepts, answers_move, asked_to_move, behind_count, chunks_of, forwards_on, gives_piece, leaves, leaves_for, migrates, migrates_child, pieces_of, process_told, sends_on, takes_block, takes_chunk}
 pub use Rattle.dm_rule.specs.Migrating.{tells_asker, to_kernel, told_ended, told_here, told_server, told_step, updates}
+pub use Rattle.dm_rule.specs.Order.{KernelsInOrder, is_between_from, ordered}
 pub use Rattle.dm_rule.specs.Pairs.{HomeStands, PairStands}
 pub use Rattle.dm_rule.specs.Parts.{Again, Owns, Part, Routes, Says, Spelled, Transmits, behind, goes_out, lines_of, packet_line, pair_window, puts, spelled}
 pub use Rattle.dm_rule.specs.Phases.{Alone, HasToken, IsIn, IsToken, Moves, Nowhere, Over, Phase, Rests, is_apart, is_away, is_between, is_due, is_early, is_here, is_over, is_restart, kind_comes, kind_leaves, knows, receiver_in, sender_in}
@@ -69,13 +71,11 @@ pub use Rattle.dm_rule.specs.Phases.{token_in, told_between}
 pub use Rattle.dm_rule.specs.Point.{Point, after, after_line, first_point, kernel_after, label_of, move_target, moved, seen, topic_by}
 pub use Rattle.dm_rule.specs.Quiet.{IsQuiet, has_mail, is_quiet, pair_is_quiet}
 pub use Rattle.dm_rule.specs.Rule.{Room, arrives, board_took, called, comes, comes_to, creation_parts, drop_parts, ended_handles, executes, first_awaited, first_runnable, fits, free_room, goes_round, group_of, has, has_room, hears}
-pub use Rattle.dm_rule.specs.Rule.{here_handles, kept_from, kernel_handles, kernel_hears, less, let_go, manager_parts, numbers_from, outcome, outstanding_count, process_handles, ran, repeats, resends, routes, says, serves_status}
-pub use Rattle.dm_rule.specs.Rule.{stops, takes_on, taking_parts, turns}
+pub use Rattle.dm_rule.specs.Rule.{here_handles, kept_from, kernel_handles, kernel_hears, less, let_go, manager_parts, numbers_from, outcome, outstanding_count, process_handles, ran, repeats, resends, routes, says, serves_status, stops}
+pub use Rattle.dm_rule.specs.Rule.{takes_on, taking_parts, turns}
 pub use Rattle.dm_rule.specs.Spots.{Held, Inbox, Queue, Spot, StandsAsBag, StandsNowhere, StandsOnce, StandsOutside, StandsRight, Untaken, ids_at, standing, times, untaken}
 pub use Rattle.dm_rule.specs.Tells.{TellsRight}
 pub use Rattle.dm_rule.specs.Trails.{AddressesOn, IsOn, LeadsAlong, OwnOn, StoodOnTrail, Trail, Trailed, Trails, TrailsAlways, Trodden, along, destination, first_trails, first_trodden, leads, leads_on, trails_after}
 pub use Rattle.dm_rule.specs.View.{About, Ended, Forward, Frozen, Here, Incoming, Known, NothingElse, Of, Pair, SentLoad, Target, Told, Unknown, View, actor, after_head, after_label, after_packet, after_proto, after_put, after_stage}
 pub use Rattle.dm_rule.specs.View.{after_taken, asks_on, at_least, begins, dropped_for, ended, ends_by, first_view, follows_by, forward_about, forwarded_for, front_of, frozen_for, gone_after, gone_to, handled, handled_first, held_for}
 pub use Rattle.dm_rule.specs.View.{is_kernels, knowing, known_at, marked, marked_at, oldest, own_id, queued_for, receiver_of, released, ring_at, routed_on, served_told, sets_off, taken_id, target_of, view_after, with_pair, with_ring}
-pub use Rattle.dm_rule.specs.Acts.{act_of}
-pub use Rattle.std.specs.Str.{bytes_eq}

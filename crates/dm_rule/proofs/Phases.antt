@@ -14,4 +14,6 @@ pub mod Lives
 pub mod Turns
 pub mod Groups
 pub mod Start
+pub mod Ranked
+pub mod Order
 pub mod Always

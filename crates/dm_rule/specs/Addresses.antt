@@ -1,5 +1,5 @@
 -- Addresses: the place that each link and each message names, folded from the lines beside the kernel without machines.
-use Rattle.std.specs.Prelude.{ℕ, zero, suc, ◌+◌, Bool, false, ◌&&◌, nat_lt, if◌then◌else◌, is_none, option_map, option_and_then, List, [], ◌∷◌, ◌++◌, map, slice_get}
+use Rattle.std.specs.Prelude.{ℕ, ◌+◌, Bool, false, ◌&&◌, nat_lt, if◌then◌else◌, is_none, option_map, option_and_then, List, [], ◌∷◌, ◌++◌, map, slice_get}
 use Rattle.std.specs.Option.{option_map_or}
 use Rattle.std.specs.List.{position_from}
 use Rattle.std.specs.declared.option.Option.{Option}
@@ -16,11 +16,10 @@ pub use Rattle.dm_message.specs.Told.{is_told_back}
 use Rattle.dm_onekernel.specs.declared.boot.BootProcess.{BootProcess}
 use Rattle.dm_onekernel.specs.declared.boot.Boot.{Boot}
 use Rattle.dm_onekernel.specs.Boot.{switchboard, manager}
-use Rattle.dm_onekernel.specs.PlainProcess.{PlainProcess, PlainStatus, Moving}
-use Rattle.dm_onekernel.specs.Kernel.{NamedLink, Pending, OneKernel}
+use Rattle.dm_onekernel.specs.PlainProcess.{PlainStatus, Moving}
+use Rattle.dm_onekernel.specs.Kernel.{OneKernel}
 use Rattle.dm_onekernel.specs.Manager as manage
 use Rattle.dm_onekernel.specs.Step as kernel
-use Rattle.dm_line.specs.declared.line.Line.{Line}
 use Rattle.dm_rule.specs.Acts.{Act, act_of}
 use Rattle.dm_rule.specs.Acts as act
 use Rattle.dm_rule.specs.View.{View, Told, About, Known, Frozen, Forward}

@@ -22,6 +22,7 @@ use Rattle.dm_rule.specs.Pairs.{PairStands, HomeStands}
 use Rattle.dm_rule.specs.Homes.{Homes}
 use Rattle.dm_rule.specs.Tells.{TellsRight}
 use Rattle.dm_rule.specs.Phases.{Phase, Moves, IsIn, is_due}
+use Rattle.dm_rule.specs.Order.{KernelsInOrder}
 use Rattle.dm_rule.specs.Apart.{AllSpare}
 
 -- a directive for so many machines
@@ -84,6 +85,10 @@ TellsRightAlways = (b : Boot) (es : List Step) (pt : Point) → IsValid b → Le
 -- under way and where
 abbrev pub PhasesAlways : Type 0
 PhasesAlways = (b : Boot) (es : List Step) (pt : Point) (p : Pid) → IsValid b → Leads b (first_point b) es pt → (phase : Phase) × IsIn pt.view p phase × (is_due phase ≡ false)
+
+-- wherever the rule leads, what kernels tell each other of migrations stands in the order in which it was put
+abbrev pub KernelsInOrderAlways : Type 0
+KernelsInOrderAlways = (b : Boot) (es : List Step) (pt : Point) → IsValid b → Leads b (first_point b) es pt → KernelsInOrder pt.view
 
 -- wherever the rule leads, the next group has no label of a process that moves, and leaves its plain value
 abbrev pub MovingStaysAlways : Type 0

@@ -11,6 +11,7 @@ pub mod Rule
 pub mod Pairs
 pub mod Quiet
 pub mod Phases
+pub mod Order
 pub mod Tells
 pub mod Trails
 pub mod Homes

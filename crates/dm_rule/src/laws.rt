@@ -1,5 +1,5 @@
 //! What holds wherever the rule leads, whoever ran by it.
-ghost use Rattle.dm_rule.specs.Laws.{StandsOnceAlways, PairsStandAlways, LeadHomeAlways, TellsRightAlways, PhasesAlways, MovingStaysAlways, QuietIsTested};
+ghost use Rattle.dm_rule.specs.Laws.{StandsOnceAlways, PairsStandAlways, LeadHomeAlways, TellsRightAlways, PhasesAlways, KernelsInOrderAlways, MovingStaysAlways, QuietIsTested};
 
 /// Wherever the rule leads from a boot file, each message that the kernel without machines holds stands exactly once
 /// among the queues, held lists, inboxes and streams of the printed lines, a kernel's own message at most once, and no other
@@ -31,6 +31,12 @@ pub fn tells_right_always()
 /// which one message of its migration is under way, from whom, and where it stands; no other message of it stands anywhere.
 pub fn phases_always()
     ensures { PhasesAlways }
+{}
+
+/// Wherever the rule leads from a boot file, what one kernel tells another of migrations stands in the order in which it was
+/// put: first in the other machine's inbox, and behind that on the pair that leads there.
+pub fn kernels_in_order_always()
+    ensures { KernelsInOrderAlways }
 {}
 
 /// Wherever the rule leads from a boot file, while a process moves no group has a label of it: it doesn't run, call, send, wait,

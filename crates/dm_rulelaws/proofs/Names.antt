@@ -18,8 +18,8 @@ pub use Rattle.dm_laws.proofs.Grown.{Grown}
 pub use Rattle.dm_laws.proofs.Movers.{One, came, out_at, out_off}
 pub use Rattle.dm_laws.proofs.Names.{Alive, Boot, BootImage, BootProcess, CallNumber, Called, Direction, Ended, Ends, IsValid, Label, Life, Manager, MoveNote, Moving, MsgId, None, OneKernel, Option, Outcome, Outputs, Pending, PendingKind}
 pub use Rattle.dm_laws.proofs.Names.{PlainLink, PlainMessage, PlainProcess, PlainStatus, PlainWhat, Ready, Replies, Reply, Sends, Some, Switchboard, Waiting, Waits, Why, answer_id, answer_to, begun, bind, cases_Bool, code_of_outcome}
-pub use Rattle.dm_laws.proofs.Names.{direction_numbered, entry, false≢true, first_failed, first_life, first_number, id_eq, id_of, in_bag, inl, inr, is_some, life_at, manager, nat_le, option_map, pid_of, plain_link, processes_are_valid}
-pub use Rattle.dm_laws.proofs.Names.{reception, reg, replay, start, starting_at, switchboard, when, with_note, with_process, with_sent, without_message, without_note, ⊤, ◌⊎◌}
+pub use Rattle.dm_laws.proofs.Names.{direction_numbered, entry, false≢true, first_failed, first_life, first_number, id_eq, id_of, in_bag, inl, inr, is_some, life_at, manager, nat_le, option_map, option_map_or, pid_of, plain_link}
+pub use Rattle.dm_laws.proofs.Names.{processes_are_valid, reception, reg, replay, start, starting_at, switchboard, when, with_note, with_process, with_sent, without_message, without_note, ⊤, ◌||◌, ◌⊎◌}
 pub use Rattle.dm_laws.proofs.Servers.{note-is}
 pub use Rattle.dm_rule.proofs.Bags.{BagStep, bag_answered, bag_call, bag_created, bag_dropped, bag_end, bag_gone, bag_no_space, bag_out, bag_ran, bag_receive, bag_refuse, bag_sends, bag_served, bag_took, bag_wait, board_id, id_in}
 pub use Rattle.dm_rule.proofs.Bags.{if_some-is, landed_id, manager_id, served_id, took_id, zero_if}
@@ -43,17 +43,18 @@ pub use Rattle.dm_rule.proofs.Moves.Sent.{least_of, sent_way}
 pub use Rattle.dm_rule.proofs.Moves.States.{front_kernels, front_one, front_way, not_first}
 pub use Rattle.dm_rule.proofs.Names.{About, Addresses, Again, Answer, AreStill, AskNone, AskedBy, Child, Enclosed, Forward, Frozen, Gets, Held, Here, Holder, Inbox, Incoming, IsIn, IsStep, IsStill, Known, LandsSo, Leads, LifeGrows, Line}
 pub use Rattle.dm_rule.proofs.Names.{Load, Made, MessageKind, Moves, Name, NamedLink, Next, NothingElse, Of, Owner, Owns, Pair, Part, Phase, Place, Point, Queue, Receiver, Regs, Rests, Routes, Runs, Says, Sender, ServerSends, Slot, Sort}
-pub use Rattle.dm_rule.proofs.Names.{Sound, Spelled, Spot, Stage, StandsAsBag, StandsNowhere, StandsOutside, StandsRight, Step, Target, Todo, Told, Transmits, Unknown, Untaken, View, accepts, after, after_head, after_label, after_line}
-pub use Rattle.dm_rule.proofs.Names.{after_proto, after_put, after_stage, after_step, after_taken, alive-is, all_follow, answers_move, are_for_home, are_home, ascends, asker_in, at_hand-is, at_id, at_machine, at_pair, at_record, begins}
-pub use Rattle.dm_rule.proofs.Names.{behind, bind-is, board_gets, board_takes_lem, child_number, chunks_of, completing, cons_option, counts, dropped_for, ended, ends_by, ends_move-is, filter, filter_map, first_gives, first_point}
-pub use Rattle.dm_rule.proofs.Names.{first_view, fits, forward_about, forwarded_for, forwards, forwards_on, free_room, front_of, given, gives, gives_piece, goes_out, gone_to, group_of, handled, handled_first, hears, held_for, holder_eq}
-pub use Rattle.dm_rule.proofs.Names.{id_eq-is, id_eq-same, is_apart, is_away, is_behind, is_between, is_counted, is_dropped, is_early, is_for_home, is_here, is_kernels, is_restart, is_told_back, kernel_after, kernel_hears, kind_comes}
-pub use Rattle.dm_rule.proofs.Names.{kind_leaves, known_at, knows, label_of, landing_gets, lands-is, leaves, leaves_for, length-append, lines_of, link_target, manager_gets, manager_takes_lem, marked, migrates, moved, moved_back, names}
-pub use Rattle.dm_rule.proofs.Names.{nexts, not_server, oldest, on_mask, option_and_then, option_map_or, outcome, own_given, own_id, packet_line, pending_of, pid_eq-is, pid_eq-same, pieces_of, place_known, place_told, plain_kind}
-pub use Rattle.dm_rule.proofs.Names.{process_told, puts, queued_for, receiver_in, receiver_of, reply_code, reply_eq, right_true, ring_at, routed_on, seen, sender_in, sender_of, sends_on, sent_at, served_told, serving_gets, slice_set}
-pub use Rattle.dm_rule.proofs.Names.{slots_of, slots_with, sort_of, spelled, standing, start-sound, stayed, taken_id, takes_block, takes_chunk, target_of, tells_asker, times, to_kernel, to_of, told_back_gets, told_between, told_ended}
-pub use Rattle.dm_rule.proofs.Names.{told_here, told_server, told_step, topic_by, unentered, untaken, updated, updated_to, updates, view_after, when-is, without, without_front, without_id, ◌||◌}
+pub use Rattle.dm_rule.proofs.Names.{Sound, Spelled, Spot, Stage, StandsAsBag, StandsNowhere, StandsOutside, StandsRight, Step, Target, Todo, Told, Transmits, Unknown, Untaken, View, accepts, acting_place, after, after_head, after_label}
+pub use Rattle.dm_rule.proofs.Names.{after_line, after_proto, after_put, after_stage, after_step, after_taken, alive-is, all_follow, answers_move, are_for_home, are_home, ascends, asker_in, at_hand-is, at_id, at_machine, at_pair, at_record}
+pub use Rattle.dm_rule.proofs.Names.{begins, behind, bind-is, board_gets, board_takes_lem, bytes_eq, child_number, chunks_of, completing, cons_option, counts, dropped_for, ended, ends_by, ends_move-is, filter, filter_map, first_gives}
+pub use Rattle.dm_rule.proofs.Names.{first_point, first_view, fits, forward_about, forwarded_for, forwards, forwards_on, free_room, front_of, gets, given, gives, gives_piece, goes_out, gone_to, group_of, handled, handled_first, hears}
+pub use Rattle.dm_rule.proofs.Names.{held_for, holder_eq, id_eq-is, id_eq-same, is_apart, is_away, is_behind, is_between, is_counted, is_dropped, is_early, is_for_home, is_here, is_kernels, is_restart, is_told_back, kernel_after}
+pub use Rattle.dm_rule.proofs.Names.{kernel_hears, kind_comes, kind_leaves, known_at, knows, label_of, landing_gets, lands-is, leaves, leaves_for, length-append, lines_of, link_target, manager_gets, manager_takes_lem, marked, migrates}
+pub use Rattle.dm_rule.proofs.Names.{move_target, moved, moved_back, names, nexts, not_server, oldest, on_mask, option_and_then, ordered, outcome, own_given, own_id, owner_in, packet_line, pending_of, pid_eq-is, pid_eq-same, pieces_of}
+pub use Rattle.dm_rule.proofs.Names.{place_known, place_told, plain_kind, position_from, process_told, puts, queued_for, receiver_in, receiver_of, reply_code, reply_eq, right_true, ring_at, routed_on, seen, sender_in, sender_of, sends_on}
+pub use Rattle.dm_rule.proofs.Names.{sent_at, served_told, serving_gets, slice_set, slots_of, slots_with, sort_of, spelled, standing, start-sound, stayed, taken_id, takes_block, takes_chunk, target_of, tells_asker, times, to_kernel, to_of}
+pub use Rattle.dm_rule.proofs.Names.{told_back_gets, told_between, told_ended, told_here, told_server, told_step, topic_by, unentered, untaken, updated, updated_to, updates, view_after, when-is, without, without_front, without_id}
 pub use Rattle.dm_rule.proofs.Once.{one_of}
+pub use Rattle.dm_rule.proofs.Ordered.{context, drop_one, first_not, first_one, put_not, put_one}
 pub use Rattle.dm_rule.proofs.Outcomes.{by_group, by_net, by_outcome, by_parts}
 pub use Rattle.dm_rule.proofs.Pairs.Moves.{or_first}
 pub use Rattle.dm_rule.proofs.Phases.Always.{Phased, phased_group, phased_start}
@@ -81,10 +82,10 @@ pub use Rattle.dm_rule.proofs.Trails.Spares.{Outside, creates_what_spares, finds
 pub use Rattle.dm_rule.proofs.Trails.Spares.{spares_both, two_more}
 pub use Rattle.dm_rule.proofs.Trails.Steps.{destination_expects, source_holds}
 pub use Rattle.dm_rule.proofs.Turns.{served_keeps}
-pub use Rattle.dm_rule.specs.Addresses.{goes_between, owner_in}
+pub use Rattle.dm_rule.specs.Addresses.{goes_between}
 pub use Rattle.dm_rule.specs.Good.{IsRun}
 pub use Rattle.dm_rule.specs.Phases.{tells_between, tells_onward}
-pub use Rattle.dm_rule.specs.Point.{labels, with_label, move_target}
+pub use Rattle.dm_rule.specs.Point.{labels, with_label}
 pub use Rattle.dm_rule.specs.View.{first_told, rejoins, target_in}
 pub use Rattle.dm_rulelaws.specs.Fits.{Each, IsPending, KernelFits, LinkFits, Lives, NoteFits, PendingFits, ProcessFits, SlotFits, WhatFits, awaits, gives_no_right, has_bytes, is_for, is_server, kind_eq, move_fits, piece_fits}
 pub use Rattle.dm_rulelaws.specs.Fits.{status_awaits, takes_users}
@@ -92,6 +93,3 @@ pub use Rattle.dm_rulelaws.specs.Found.{Found, ListsStand, has_no_queue, has_not
 pub use Rattle.dm_rulelaws.specs.KnownStands.{KnownStands, agrees, rings, server_at, turns_here}
 pub use Rattle.dm_rulelaws.specs.Laws.{FitsAlways, FoundAlways, GoesOnAlways, KnownAlways, RuleDecides, ShorterBegins}
 pub use Rattle.dm_rulelaws.specs.Order.{LeadsBy, ReceivesInOrder, channel_in}
-pub use Rattle.dm_rule.specs.Holders.{acting_place, gets}
-pub use Rattle.std.specs.List.{position_from}
-pub use Rattle.std.specs.Str.{bytes_eq}

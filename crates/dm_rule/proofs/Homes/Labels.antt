@@ -7,7 +7,6 @@ use Rattle.dm_rule.proofs.Homes.Receives.{receive_home, refuse_home}
 use Rattle.dm_rule.proofs.Homes.Serves.{Named, ReceivedAt, ServedAt, EndedAt, dropped_home, gone_home, no_space_home, served_home, created_home, AnsweredAt, asked_home, answered_home}
 use Rattle.dm_rule.proofs.Homes.Manager.{took_home}
 use Rattle.dm_onekernel.specs.Step as kernel
-use Rattle.dm_rule.specs.View as view
 
 -- a label is said where its process is at home, or where its message's receiver is
 abbrev pub SaidAt : OneKernel → ℕ → Label → Type 0

@@ -1,7 +1,7 @@
 -- Wherever the rule leads, each process is in a phase.
 use Rattle.dm_rule.proofs.Names.{◌≡◌, ℕ, ◌<◌, ◌≤◌, ◌==◌, ◌&&◌, ◌||◌, Bool, true, false, List, [], ◌∷◌, ◌++◌, length, refl, ap, ◌∙◌, sym, subst, inl, inr, arith, if◌then◌else◌, map, option_map, None, Some, cases_Bool, slice_get_cases}
 use Rattle.dm_rule.proofs.Names.{nat_tests, Pid, pid_eq, plain_link, BootProcess, Boot, IsValid, processes_are_valid, switchboard, manager, Alive, begun, first_life, life_at, Step, Known, Unknown, Here, known_at, ring_at, Point}
-use Rattle.dm_rule.proofs.Names.{first_point, is_due, IsStep, Leads, PhasesAlways, Spelled, group_of, false_from_ne_true}
+use Rattle.dm_rule.proofs.Names.{first_point, is_due, IsStep, Leads, PhasesAlways, Spelled, group_of, false_from_ne_true, KernelsInOrderAlways}
 use Rattle.dm_rule.proofs.Pairs.{Pairs, Pairs-start, Pairs-group}
 use Rattle.dm_rule.proofs.States.{State}
 use Rattle.dm_rule.proofs.Groups.{fits, State-start, State-group}
@@ -9,6 +9,8 @@ use Rattle.dm_rule.proofs.Telling.{Sane, sane_start, sane_group}
 use Rattle.dm_rule.proofs.Phases.Stand.{InPhases}
 use Rattle.dm_rule.proofs.Phases.Start.{phases_start}
 use Rattle.dm_rule.proofs.Phases.Groups.{phases_group}
+use Rattle.dm_rule.proofs.Phases.Ranked.{Ranked}
+use Rattle.dm_rule.proofs.Phases.Order.{ranked_start, ranked_group, ranked_order}
 use Rattle.dm_rule.proofs.Rings.{AllHere}
 use Rattle.dm_rule.proofs.Rooted.Groups.{Grounded, rooted, roots_group}
 
@@ -86,3 +88,12 @@ pub phases_always : PhasesAlways
 phases_always b es pt p valid leads =
     let h = phased_on b es (first_point b) pt leads (phased_start b valid) in
     (h.phases.of p, h.phases.each p, false_from_ne_true (is_due (h.phases.of p)) (λ e. let f : None ≡ Some p = h.phases.put p e in cc))
+
+-- and what kernels tell each other stays in order
+ranked_on : (b : Boot) (es : List Step) (pt end : Point) → Leads b pt es end → Phased pt → Ranked pt.view → Ranked end.view
+ranked_on b [] pt end leads h ranked = subst (λ (q : Point). Ranked q.view) leads ranked
+ranked_on b (d ∷ es) pt end (w, fit, is, rest) h ranked =
+    ranked_on b es w.point end rest (phased_group b pt d w fit is h) (ranked_group b pt d w is h.phases h.state h.sane (fits pt.view h.pairs) ranked)
+
+pub kernels_in_order_always : KernelsInOrderAlways
+kernels_in_order_always b es pt valid leads = ranked_order pt.view (ranked_on b es (first_point b) pt leads (phased_start b valid) (ranked_start b))

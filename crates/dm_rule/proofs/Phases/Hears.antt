@@ -106,7 +106,7 @@ told_row o pt m i is t p room x MessageKind.Restart parts w h sane state front t
 told_row o pt m i is t p room x _ parts w h sane state front told mine sees e about g n = cc
 
 -- the others, at a process or a server
-tame_of : (v : View) (i : MsgId) (t : Told) → v.told i ≡ Some t → is_between t.kind ≡ false → Tame v i
+pub tame_of : (v : View) (i : MsgId) (t : Told) → v.told i ≡ Some t → is_between t.kind ≡ false → Tame v i
 tame_of v i t told plain = record { what = t; told = told; plain = plain }
 
 one_quiet : (pt : Point) (p : List Part) (parts : List Part) (w : Spelled) → Whole pt → Sane pt → State None w.point → AllQuiet pt.view p → Some p ≡ Some parts → spelled pt parts ≡ Some w → Whole w.point

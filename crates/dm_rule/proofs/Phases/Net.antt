@@ -25,11 +25,11 @@ taken_view v a b n = with_pair v a b (taken_pair (v.pair a b) n)
 pub none_taken : (p : Pair) (n : ℕ) → slice_get p.ids p.taken ≡ None → untaken (taken_pair p n) ≡ untaken p
 none_taken p n is = let k = past_place p.ids p.taken is in let next : p.taken + 1 ≡ suc p.taken = omega arith in ap (λ m. drop m p.ids) next ∙ k.1 ∙ sym k.0
 
-taken_front : (p : Pair) (n : ℕ) (i : MsgId) → slice_get p.ids p.taken ≡ Some i → untaken p ≡ i ∷ untaken (taken_pair p n)
+pub taken_front : (p : Pair) (n : ℕ) (i : MsgId) → slice_get p.ids p.taken ≡ Some i → untaken p ≡ i ∷ untaken (taken_pair p n)
 taken_front p n i is = let next : suc p.taken ≡ p.taken + 1 = omega arith in at_place p.ids p.taken i is ∙ ap (λ m. i ∷ drop m p.ids) next
 
 -- the stream has one less, and the inbox one more
-stream_back : (v : View) (a b n : ℕ) (i j : MsgId) (c d : ℕ) → untaken (v.pair a b) ≡ i ∷ untaken (taken_pair (v.pair a b) n) → 1 ≤ times j (untaken (at_pair v.pair a b (taken_pair (v.pair a b) n) c d)) → 1 ≤ times j (untaken (v.pair c d))
+pub stream_back : (v : View) (a b n : ℕ) (i j : MsgId) (c d : ℕ) → untaken (v.pair a b) ≡ i ∷ untaken (taken_pair (v.pair a b) n) → 1 ≤ times j (untaken (at_pair v.pair a b (taken_pair (v.pair a b) n) c d)) → 1 ≤ times j (untaken (v.pair c d))
 stream_back v a b n i j c d front st = elim (cases_Bool ((a == c) && (b == d))) [
   | inl same ↦
       let both = and_parts (a == c) (b == d) same in

@@ -2,8 +2,8 @@
 use Rattle.dm_rule.proofs.Names.{◌≡◌, ℕ, ◌+◌, ◌==◌, ◌&&◌, Bool, true, false, not, List, [], ◌∷◌, ◌++◌, length, map, refl, ap, ◌∙◌, sym, subst, if◌then◌else◌, Option, None, Some, false≢true, Pid, Place, pid_eq, PlainLink, first_empty, MsgId}
 use Rattle.dm_rule.proofs.Names.{id_eq, PlainMessage, PlainWhat, Label, Reply, switchboard, manager, bind, PlainProcess, reg, NamedLink, OneKernel, with_sent, answer_id, id_eq-is, id_eq-same, sent_at, bind-is, when-is, View, is_kernels}
 use Rattle.dm_rule.proofs.Names.{Addresses, Holder, Slot, Owner, Receiver, Sender, Enclosed, Answer, Gets, gets, given, gives, holder_eq, encloses, enclosed_from, sending_gets, fills, call_gets, receives_links, slot_after, landing_gets}
-use Rattle.dm_rule.proofs.Names.{serving_gets, child_links, board_finds, board_keeps, board_gets, telling_gets, manager_sends, manager_gets, both_true, at_hand-is, option_map_or, arith, nat_tests, AskedBy}
-use Rattle.dm_rule.proofs.Names.{and_parts, not-true, false_from_ne_true, and_right}
+use Rattle.dm_rule.proofs.Names.{serving_gets, child_links, board_finds, board_keeps, board_gets, telling_gets, manager_sends, manager_gets, both_true, at_hand-is, option_map_or, arith, nat_tests, AskedBy, and_parts, not-true}
+use Rattle.dm_rule.proofs.Names.{false_from_ne_true, and_right}
 use Rattle.dm_onekernel.specs.Calls as calls
 use Rattle.dm_onekernel.specs.Pieces as pieces
 use Rattle.dm_onekernel.specs.Switchboard as board
@@ -11,7 +11,6 @@ use Rattle.dm_onekernel.specs.Manager as manage
 use Rattle.dm_onekernel.specs.Service as service
 use Rattle.dm_onekernel.specs.Step as kernel
 use Rattle.dm_rule.specs.Addresses as addresses
-use Rattle.dm_rule.specs.Given as request
 pub use Rattle.std.proofs.lemmas.Bool.{not-true as not_is}
 pub use Rattle.dm_laws.proofs.Facts.{and_no}
 

@@ -3,10 +3,11 @@ use Rattle.dm_rulelaws.proofs.Names.{◌≡◌, ◌≢◌, ℕ, ◌+◌, ◌<◌
 use Rattle.dm_rulelaws.proofs.Names.{entry, reception, Grown, after_step, View, Told, Unknown, Here, is_kernels, after_label, handled, receiver_of, Holder, Receiver, Sender, given, gives, to_of, Point, moved, at_record_at, grown_none, ◌∷◌}
 use Rattle.dm_rulelaws.proofs.Names.{not_kernels, AtHome, homes_are, at_home, SaidOn, label_on, ReceivedAt, dropped_known, Sane, Goes, Comes, Links, Outside, gives_spares, spared_receiver, spared_sender, label_told, label_topic, is_fixed}
 use Rattle.dm_rulelaws.proofs.Names.{zero_cases, acting_dropped, ◌⊎◌, Bool, pid_eq, plain_kind, PlainWhat, Alive, PlainProcess, pid_eq-is, bind-is, when-is, is_kill, nat_lt, List, [], length, if◌then◌else◌, id_eq, id_of, switchboard}
-use Rattle.dm_rulelaws.proofs.Names.{manager, bind, answer_id, id_eq-is, Addresses, Gets, landing_gets, serving_gets, board_gets, manager_gets, not_true, nat_tests, unentered, Sound, id_in, landed_id, served_id, board_id}
-use Rattle.dm_rulelaws.proofs.Names.{manager_id, took_id, bag_sends, bag_served, bag_gone, bag_no_space, bag_created, bag_took, spares, spares_both, two_more, made_spares, sends_spares, receives_spares, creates_what_spares, finds_spares}
-use Rattle.dm_rulelaws.proofs.Names.{keeps_spares, manager_takes_spares, KernelFits, topic_by, bag_answered, aim, sets, not, filter, ◌==◌, Step, Load, Stage, About, Known, Frozen, Incoming, view_after, after_head, after_stage, AskedBy}
-use Rattle.dm_rulelaws.proofs.Names.{after_proto, queued_for, held_for, taken_id, oldest, gone_to, front_of, label_of, kernel_after, is_put, hushed, queued_known, held_known, proto_known, proto_acting, option_map_or, NothingElse}
+use Rattle.dm_rulelaws.proofs.Names.{manager, bind, answer_id, id_eq-is, Addresses, Gets, landing_gets, serving_gets, board_gets, manager_gets, not_true, nat_tests, unentered, Sound, id_in, landed_id, served_id, board_id, manager_id}
+use Rattle.dm_rulelaws.proofs.Names.{took_id, bag_sends, bag_served, bag_gone, bag_no_space, bag_created, bag_took, spares, spares_both, two_more, made_spares, sends_spares, receives_spares, creates_what_spares, finds_spares, keeps_spares}
+use Rattle.dm_rulelaws.proofs.Names.{manager_takes_spares, KernelFits, topic_by, bag_answered, aim, sets, not, filter, ◌==◌, Step, Load, Stage, About, Known, Frozen, Incoming, view_after, after_head, after_stage, AskedBy, after_proto}
+use Rattle.dm_rulelaws.proofs.Names.{queued_for, held_for, taken_id, oldest, gone_to, front_of, label_of, kernel_after, is_put, hushed, queued_known, held_known, proto_known, proto_acting, option_map_or, NothingElse, acting_place}
+use Rattle.dm_rulelaws.proofs.Names.{move_target}
 use Rattle.dm_rule.specs.View.{Ended}
 use Rattle.dm_rule.proofs.Trails.Places.{Owns}
 use Rattle.dm_rulelaws.proofs.Fits.Start.{fits_step}
@@ -23,7 +24,6 @@ use Rattle.dm_onekernel.specs.Switchboard as board
 use Rattle.dm_onekernel.specs.Manager as manage
 use Rattle.dm_rule.specs.Addresses as addresses
 use Rattle.dm_rule.specs.Given as request
-use Rattle.dm_rulelaws.proofs.Names.{acting_place, move_target}
 
 -- what enters is none that was told of
 apart_from : (e : MsgId → ℕ) (i j : MsgId) → 1 ≤ e i → e j ≡ 0 → id_eq j i ≡ false

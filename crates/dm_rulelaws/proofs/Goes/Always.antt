@@ -1,7 +1,7 @@
 -- Wherever all of it holds, each directive has its group.
 use Rattle.dm_rulelaws.proofs.Names.{◌≡◌, ◌≢◌, ℕ, ◌+◌, ◌≤◌, ◌==◌, ◌&&◌, ◌||◌, Bool, true, false, not, List, [], ◌∷◌, refl, ap, ◌∙◌, sym, is_some, inl, inr, arith, ⊤, if◌then◌else◌, Option, None, Some, false≢true, Pid, pid_eq, MsgId}
-use Rattle.dm_rulelaws.proofs.Names.{PlainMessage, Boot, IsValid, Step, Line, MessageKind, child_number, migrates, Point, moved, Spelled, group_of, Spot, Queue, Inbox, standing, StandsOutside, Told, Target, is_kernels, IsStep}
-use Rattle.dm_rulelaws.proofs.Names.{arrives_net, resends_net, stands_right, StandsAsBag-elsewhere, Each, has_bytes, is_server, is_fixed, Life, OneKernel, pid_eq-is, cases_Bool, by_migrates, rooted, position_from}
+use Rattle.dm_rulelaws.proofs.Names.{PlainMessage, Boot, IsValid, Step, Line, MessageKind, child_number, migrates, Point, moved, Spelled, group_of, Spot, Queue, Inbox, standing, StandsOutside, Told, Target, is_kernels, IsStep, arrives_net}
+use Rattle.dm_rulelaws.proofs.Names.{resends_net, stands_right, StandsAsBag-elsewhere, Each, has_bytes, is_server, is_fixed, Life, OneKernel, pid_eq-is, cases_Bool, by_migrates, rooted, position_from}
 pub use Rattle.dm_rule.proofs.Moves.States.{front_one as stands_first}
 use Rattle.dm_rule.specs.Rule as rule
 use Rattle.dm_rule.specs.View as view

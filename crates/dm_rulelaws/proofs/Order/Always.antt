@@ -2,12 +2,12 @@
 use Rattle.dm_rulelaws.proofs.Names.{◌≡◌, suc, Bool, true, false, List, [], ◌∷◌, ◌++◌, refl, ap, ◌∙◌, sym, subst, arith, Option, Some, false≢true, Pid, MsgId, id_of, Boot, IsValid, Label, OneKernel, bind, start, replay, Step, Line, Spelled}
 use Rattle.dm_rulelaws.proofs.Names.{Point, first_point, labels, moved, LeadsBy, ReceivesInOrder, AreStill, ℕ, ◌+◌, ◌≤◌, inl, inr, if◌then◌else◌, None, cases_Bool, nat_tests, id_eq, PlainMessage, PlainWhat, on_mask, in_bag, counts}
 use Rattle.dm_rulelaws.proofs.Names.{pid_eq-same, id_eq-is, id_eq-same, after_step, without_id, times, untaken, View, after_label, Each, channel_in, is_for_home, are_for_home, About, NothingElse, begins, marked, homes_of, Sane, AskNone}
-use Rattle.dm_rulelaws.proofs.Names.{first_view, spelled}
+use Rattle.dm_rulelaws.proofs.Names.{first_view, spelled, ordered, first_one, first_not, drop_one, put_not}
 use Rattle.dm_rulelaws.proofs.RunLabels.{labels-append, replay-append, group_replay}
 use Rattle.dm_rulelaws.proofs.Goes.Parts.{said, Shape, Quiet, Takes, Goes, Reception, not_receive, no_receive, sane_by, AsksNone, unasked}
 use Rattle.dm_rulelaws.proofs.Goes.Always.{CalmFor, group_on}
 use Rattle.dm_rulelaws.proofs.Goes.Runs.{RunStarts, RunGoes, Stays, stays_start, stays_group, calm_for}
-use Rattle.dm_rulelaws.proofs.Order.Lines.{Which, Ord, ordered, first_one, first_not, drop_one, put_not, on_channel, is_one, is_told, ord_view, ord_step, thin_label, thin_same, box_same, was_told, counts_grown, one_is}
+use Rattle.dm_rulelaws.proofs.Order.Lines.{Which, Ord, on_channel, is_one, is_told, ord_view, ord_step, thin_label, thin_same, box_same, was_told, counts_grown, one_is}
 use Rattle.dm_rulelaws.proofs.Fits.Rises.{both, two}
 use Rattle.dm_rulelaws.proofs.Runs.{Run}
 use Rattle.dm_rulelaws.proofs.Goes.Serves.{first_is}

@@ -1,49 +1,12 @@
 -- Messages of one sender to one process on one channel stand in the order in which they were sent: each line keeps it.
 use Rattle.dm_rulelaws.proofs.Names.{Inbox, ◌≡◌, ℕ, suc, ◌+◌, ◌≤◌, ◌<◌, ◌==◌, ◌&&◌, Bool, true, false, not, List, [], ◌∷◌, ◌++◌, refl, ap, ◌∙◌, sym, subst, is_some, arith, if◌then◌else◌, Option, None, Some, false≢true, Pid, pid_eq, MsgId}
 use Rattle.dm_rulelaws.proofs.Names.{id_of, PlainMessage, PlainWhat, Label, Life, OneKernel, counts, is_counted, Grown, LifeGrows, after_step, at_machine, at_record, without_front, untaken, View, after_label, handled, Point, served_keeps}
-use Rattle.dm_rulelaws.proofs.Names.{Each, not_kernels, Sane, pid_eq-is, entry, reception, came_from, zero, drop, nat_le, ◌⊎◌, inl, inr, cases_Bool, nat_tests, without_id, at_pair, Pair, not_false}
+use Rattle.dm_rulelaws.proofs.Names.{Each, not_kernels, Sane, pid_eq-is, entry, reception, came_from, zero, drop, nat_le, ◌⊎◌, inl, inr, cases_Bool, nat_tests, without_id, at_pair, Pair, not_false, ordered, first_one, first_not, put_one}
+use Rattle.dm_rulelaws.proofs.Names.{put_not, drop_one, context}
 use Rattle.dm_rulelaws.proofs.Fits.Rises.{Each-on, both, two}
 use Rattle.dm_rulelaws.proofs.Queued.{is_user}
 use Rattle.dm_onekernel.specs.Step as kernel
 use Rattle.dm_rule.specs.View as view
-
--- those of which g is true have ascending numbers, from so much on
-abbrev pub ordered : (MsgId → Bool) → ℕ → List MsgId → Bool
-ordered g from [] = true
-ordered g from (i ∷ is) = if g i then nat_le from i.n && ordered g (i.n + 1) is else ordered g from is
-
--- the two ways of a first message
-pub first_one : (g : MsgId → Bool) (from : ℕ) (i : MsgId) (is : List MsgId) → g i ≡ true → ordered g from (i ∷ is) ≡ true → (from ≤ i.n) × (ordered g (i.n + 1) is ≡ true)
-first_one g from i is e h = search (arith, both, i.n)
-
-pub first_not : (g : MsgId → Bool) (from : ℕ) (i : MsgId) (is : List MsgId) → g i ≡ false → ordered g from (i ∷ is) ≡ true → ordered g from is ≡ true
-first_not g from i is e h = sym (ap (λ (c : Bool). if c then nat_le from i.n && ordered g (i.n + 1) is else ordered g from is) e) ∙ h
-
-put_one : (g : MsgId → Bool) (from : ℕ) (i : MsgId) (is : List MsgId) → g i ≡ true → from ≤ i.n → ordered g (i.n + 1) is ≡ true → ordered g from (i ∷ is) ≡ true
-put_one g from i is e le h =
-    ap (λ (c : Bool). if c then nat_le from i.n && ordered g (i.n + 1) is else ordered g from is) e ∙ two (nat_le from i.n) (ordered g (i.n + 1) is) (let z : nat_le from i.n ≡ true = grind (arith, nat_tests) in z) h
-
-pub put_not : (g : MsgId → Bool) (from : ℕ) (i : MsgId) (is : List MsgId) → g i ≡ false → ordered g from is ≡ true → ordered g from (i ∷ is) ≡ true
-put_not g from i is e h = ap (λ (c : Bool). if c then nat_le from i.n && ordered g (i.n + 1) is else ordered g from is) e ∙ h
-
-pub lower : (g : MsgId → Bool) (less from : ℕ) (is : List MsgId) → less ≤ from → ordered g from is ≡ true → ordered g less is ≡ true
-lower g less from [] le h = refl
-lower g less from (i ∷ is) le h = elim (cases_Bool (g i)) [
-  | inl one ↦ let k = first_one g from i is one h in let f = k.0 in put_one g less i is one (omega (arith, le, f)) k.1
-  | inr not_ ↦ put_not g less i is not_ (lower g less from is le (first_not g from i is not_ h))
-]
-
--- without the first
-pub drop_one : (g : MsgId → Bool) (from : ℕ) (i : MsgId) (is : List MsgId) → ordered g from (i ∷ is) ≡ true → ordered g from is ≡ true
-drop_one g from i is h = search (arith, first_one, lower, i.n, first_not)
-
--- what stands before doesn't matter
-pub context : (g : MsgId → Bool) (from : ℕ) (pre xs ys : List MsgId) → ((k : ℕ) → ordered g k xs ≡ true → ordered g k ys ≡ true) → ordered g from (pre ++ xs) ≡ true → ordered g from (pre ++ ys) ≡ true
-context g from [] xs ys f h = f from h
-context g from (i ∷ is) xs ys f h = elim (cases_Bool (g i)) [
-  | inl one ↦ let k = first_one g from i (is ++ xs) one h in put_one g from i (is ++ ys) one k.0 (context g (i.n + 1) is xs ys f k.1)
-  | inr not_ ↦ put_not g from i (is ++ ys) not_ (context g from is xs ys f (first_not g from i (is ++ xs) not_ h))
-]
 
 -- fewer are of the kind
 pub fewer : (g h : MsgId → Bool) (from : ℕ) (is : List MsgId) → Each (λ (i : MsgId). h i ≡ true → g i ≡ true) is → ordered g from is ≡ true → ordered h from is ≡ true

@@ -1,10 +1,10 @@
 -- A route, a delivery, a queue and a message that is taken keep the order in which messages were sent.
 use Rattle.dm_rulelaws.proofs.Names.{◌≡◌, ℕ, zero, suc, ◌+◌, ◌==◌, Bool, true, false, List, [], ◌∷◌, ◌++◌, drop, refl, ap, ◌∙◌, sym, subst, is_some, inl, inr, arith, if◌then◌else◌, Some, cases_Bool, nat_tests, Pid, MsgId, MessageKind}
 use Rattle.dm_rulelaws.proofs.Names.{id_of, PlainMessage, OneKernel, counts, id_eq-same, at_machine, at_pair, at_id, untaken, View, Pair, Told, after_put, Each, ◌⊎◌, plain_kind, pair_keeps, ◌&&◌, not, filter, slice_get, Option, None}
-use Rattle.dm_rulelaws.proofs.Names.{false≢true, pid_eq, pid_eq-is, at_record, without_front, after_taken, handled, at_place}
+use Rattle.dm_rulelaws.proofs.Names.{false≢true, pid_eq, pid_eq-is, at_record, without_front, after_taken, handled, at_place, context}
 use Rattle.dm_rule.specs.View as view
 use Rattle.dm_rulelaws.proofs.Queued.{is_user}
-use Rattle.dm_rulelaws.proofs.Order.Lines.{context, Each-both, thins_same, drop_end, Which, is_one, is_told, awaiting, Sourced, AllTold, Ord, ThinFor, ord_view, thin_same, box_same, told_on, handled_thin, append-assoc, append-none, Last}
+use Rattle.dm_rulelaws.proofs.Order.Lines.{Each-both, thins_same, drop_end, Which, is_one, is_told, awaiting, Sourced, AllTold, Ord, ThinFor, ord_view, thin_same, box_same, told_on, handled_thin, append-assoc, append-none, Last}
 use Rattle.dm_rulelaws.proofs.Order.Lines.{One, one_is, order_last, order_not, pair_at, pair_off, pair_on, pair_else, box_on, box_off, order_as}
 
 -- pairs whose messages stay
