@@ -1,4 +1,4 @@
-use Rattle.dm_drill.proofs.Names.{List, ap, refl, sym, ◌∙◌, arith, subst, All, Err, Line, LineFits, appended, World, WorldState, world_state, Way, Does, HasCome, IsCounted, Offered, shown, text_shown, with_group}
+use Rattle.dm_drill.proofs.Names.{◌≡◌, List, ap, refl, sym, ◌∙◌, arith, subst, All, Err, Line, LineFits, appended, World, WorldState, world_state, Way, Does, HasCome, IsCounted, Offered, shown, text_shown, with_group}
 use Rattle.dm_run.proofs.Going.{comes_first, few_come, next_fits, running_come}
 use Rattle.dm_run.proofs.Keeping.{kept_boot, kept_going, kept_state, kept_world}
 use Rattle.dm_drill.proofs.Going.{came_err, comes_counted, counted_none, offer_stops, stops_there}
@@ -49,7 +49,7 @@ pub groups-smaller : goal.groups-smaller
 groups-smaller g c =
     let come = (groups-preserved g c).come in
     let few = few_come c.requires.law c.args.world.now.boot c.args.directives.now (IsCounted c.args.drill.now.trace (g.K.Sink.told c.args.out.now) (g.K.Sink.told c.take_lines-taken.new.out) (shown c.take_lines-taken.new.counts)) c.next_step.new.way (world_state c.keep.new.self) c.requires.fresh.world.valid c.requires.each come in
-    let same = ap (λ (w : World). w.groups) c.keep.ensures in
+    let same : c.keep.new.self.groups ≡ c.do_step.new.world.groups = ap (λ (w : World). w.groups) c.keep.ensures in
     let one = c.in_ok-lines.ensures.groups in
     let within = c.in-Some.ensures.within in
     omega (arith, few, same, one, within)

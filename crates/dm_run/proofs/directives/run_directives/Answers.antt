@@ -1,4 +1,4 @@
-use Rattle.dm_run.proofs.Names.{List, ap, refl, sym, ◌∙◌, arith, subst, All, Err, Line, LineFits, text_of_lines, appended, World, WorldState, world_state, Way, Does, HasCome, IsWritten, Offered}
+use Rattle.dm_run.proofs.Names.{◌≡◌, List, ap, refl, sym, ◌∙◌, arith, subst, All, Err, Line, LineFits, text_of_lines, appended, World, WorldState, world_state, Way, Does, HasCome, IsWritten, Offered}
 use Rattle.dm_run.proofs.Going.{comes_first, few_come, next_fits, running_come}
 use Rattle.dm_run.proofs.Keeping.{kept_boot, kept_going, kept_state, kept_world}
 use Rattle.dm_run.proofs.Printing.{came_err, comes_written, offer_stops, stops_there, written_none}
@@ -48,7 +48,7 @@ pub groups-smaller : goal.groups-smaller
 groups-smaller g c =
     let come = (groups-preserved g c).come in
     let few = few_come c.requires.law c.args.world.now.boot c.args.directives.now (IsWritten (g.K.Sink.told c.args.out.now) (g.K.Sink.told c.offer-offered.new.out)) c.next_step.new.way (world_state c.keep.new.self) c.requires.fresh.world.valid c.requires.each come in
-    let same = ap (λ (w : World). w.groups) c.keep.ensures in
+    let same : c.keep.new.self.groups ≡ c.do_step.new.world.groups = ap (λ (w : World). w.groups) c.keep.ensures in
     let one = c.in_ok-lines.ensures.groups in
     let within = c.in-Some.ensures.within in
     omega (arith, few, same, one, within)
