@@ -1,6 +1,6 @@
 -- Lines that are due, one after another.
 use Rattle.dm_check.proofs.Names.{◌≡◌, ◌<◌, ◌≤◌, ℕ, suc, ◌+◌, ◌==◌, Bool, true, false, List, [], ◌∷◌, ◌++◌, length, take, drop, get_or, drop-cons, refl, ap, sym, ◌∙◌, subst, append_assoc, append-nil, length-append, arith, Bor, Some, None}
-use Rattle.dm_check.proofs.Names.{All, starts_with, nat_eq, codes, take_more, drop-length, take-length, Boot, Line, EndLine, Point, end_words, EndFits, LineFits, pieces, line_words, spaced, spelled_line, text, end_text, text_of_ends}
+use Rattle.dm_check.proofs.Names.{All, starts_with, nat_eq, codes, take_more, drop-length, take-length, Step, Line, EndLine, Course, end_words, EndFits, LineFits, pieces, line_words, spaced, spelled_line, text, end_text, text_of_ends}
 use Rattle.dm_check.proofs.Names.{text_of_lines, IsFull, CheckError, RefusedSo, Verdict, Ended, behind_line, judged_from}
 use Rattle.dm_check.specs.Judge as judge
 use Rattle.dm_check.proofs.Judging.{at_text_end, end_stands, lines_append}
@@ -10,20 +10,20 @@ from_here : {X : Type 0} (xs : List X) (i : ℕ) (d : X) → i < length xs → d
 from_here xs i d h = let next : suc i ≡ i + 1 = omega arith in drop-cons xs i d h ∙ ap (λ (k : ℕ). get_or xs i d ∷ drop k xs) next
 
 -- a line of the group stands: what was due goes on
-pub line_on : (b : Boot) (lines : List Line) (i : ℕ) (d : Line) (pt : Point) (n first number : ℕ) (all bytes rest : List ℕ) → i < length lines
-    → judged_from b (behind_line lines pt n) first (pieces 10 all) ≡ judged_from b (behind_line (drop i lines) pt n) number (pieces 10 bytes)
-    → judged_from b (judge.InGroup (get_or lines i d) (drop (i + 1) lines) pt n) number (pieces 10 bytes) ≡ judged_from b (behind_line (drop (i + 1) lines) pt n) (number + 1) (pieces 10 rest)
-    → judged_from b (behind_line lines pt n) first (pieces 10 all) ≡ judged_from b (behind_line (drop (i + 1) lines) pt n) (number + 1) (pieces 10 rest)
-line_on b lines i d pt n first number all bytes rest h so_far on =
-    so_far ∙ ap (λ ls. judged_from b (behind_line ls pt n) number (pieces 10 bytes)) (from_here lines i d h) ∙ on
+pub line_on : (c : Course) (lines : List Line) (i : ℕ) (d : Line) (es : List Step) (first number : ℕ) (all bytes rest : List ℕ) → i < length lines
+    → judged_from c (behind_line lines es) first (pieces 10 all) ≡ judged_from c (behind_line (drop i lines) es) number (pieces 10 bytes)
+    → judged_from c (judge.InGroup (get_or lines i d) (drop (i + 1) lines) es) number (pieces 10 bytes) ≡ judged_from c (behind_line (drop (i + 1) lines) es) (number + 1) (pieces 10 rest)
+    → judged_from c (behind_line lines es) first (pieces 10 all) ≡ judged_from c (behind_line (drop (i + 1) lines) es) (number + 1) (pieces 10 rest)
+line_on c lines i d es first number all bytes rest h so_far on =
+    so_far ∙ ap (λ ls. judged_from c (behind_line ls es) number (pieces 10 bytes)) (from_here lines i d h) ∙ on
 
 -- it doesn't
-pub line_off : (b : Boot) (lines : List Line) (i : ℕ) (d : Line) (pt : Point) (n first number : ℕ) (all bytes : List ℕ) (x : CheckError) → i < length lines
-    → judged_from b (behind_line lines pt n) first (pieces 10 all) ≡ judged_from b (behind_line (drop i lines) pt n) number (pieces 10 bytes)
-    → RefusedSo (judged_from b (judge.InGroup (get_or lines i d) (drop (i + 1) lines) pt n) number (pieces 10 bytes)) x
-    → RefusedSo (judged_from b (behind_line lines pt n) first (pieces 10 all)) x
-line_off b lines i d pt n first number all bytes x h so_far off =
-    subst (λ v. RefusedSo v x) (sym (so_far ∙ ap (λ ls. judged_from b (behind_line ls pt n) number (pieces 10 bytes)) (from_here lines i d h))) off
+pub line_off : (c : Course) (lines : List Line) (i : ℕ) (d : Line) (es : List Step) (first number : ℕ) (all bytes : List ℕ) (x : CheckError) → i < length lines
+    → judged_from c (behind_line lines es) first (pieces 10 all) ≡ judged_from c (behind_line (drop i lines) es) number (pieces 10 bytes)
+    → RefusedSo (judged_from c (judge.InGroup (get_or lines i d) (drop (i + 1) lines) es) number (pieces 10 bytes)) x
+    → RefusedSo (judged_from c (behind_line lines es) first (pieces 10 all)) x
+line_off c lines i d es first number all bytes x h so_far off =
+    subst (λ v. RefusedSo v x) (sym (so_far ∙ ap (λ ls. judged_from c (behind_line ls es) number (pieces 10 bytes)) (from_here lines i d h))) off
 
 one_line : (l : Line) → text_of_lines (l ∷ []) ≡ text l
 unfolding text_of_lines
@@ -74,17 +74,17 @@ one_end : (l : EndLine) → text_of_ends (l ∷ []) ≡ end_text l
 unfolding text_of_ends
 one_end l = append-nil (end_text l)
 
-pub end_on : (b : Boot) (ends : List EndLine) (i : ℕ) (d : EndLine) (n first number : ℕ) (all bytes rest : List ℕ) → i < length ends → All EndFits ends → All IsFull ends
-    → judged_from b (judge.End ends n) first (pieces 10 all) ≡ judged_from b (judge.End (drop i ends) n) number (pieces 10 bytes) → bytes ≡ end_text (get_or ends i d) ++ rest
-    → judged_from b (judge.End ends n) first (pieces 10 all) ≡ judged_from b (judge.End (drop (i + 1) ends) n) (number + 1) (pieces 10 rest)
-end_on b ends i d n first number all bytes rest h fits full so_far on =
-    so_far ∙ ap (λ es. judged_from b (judge.End es n) number (pieces 10 bytes)) (from_here ends i d h) ∙ end_stands b (get_or ends i d) (drop (i + 1) ends) n number bytes rest (fits i d h) (full i d h) on
+pub end_on : (c : Course) (ends : List EndLine) (i : ℕ) (d : EndLine) (n first number : ℕ) (all bytes rest : List ℕ) → i < length ends → All EndFits ends → All IsFull ends
+    → judged_from c (judge.End ends n) first (pieces 10 all) ≡ judged_from c (judge.End (drop i ends) n) number (pieces 10 bytes) → bytes ≡ end_text (get_or ends i d) ++ rest
+    → judged_from c (judge.End ends n) first (pieces 10 all) ≡ judged_from c (judge.End (drop (i + 1) ends) n) (number + 1) (pieces 10 rest)
+end_on c ends i d n first number all bytes rest h fits full so_far on =
+    so_far ∙ ap (λ ls. judged_from c (judge.End ls n) number (pieces 10 bytes)) (from_here ends i d h) ∙ end_stands c (get_or ends i d) (drop (i + 1) ends) n number bytes rest (fits i d h) (full i d h) on
 
-pub end_off : (b : Boot) (ends : List EndLine) (i : ℕ) (d : EndLine) (n first number : ℕ) (all bytes : List ℕ) (x : CheckError) → i < length ends
-    → judged_from b (judge.End ends n) first (pieces 10 all) ≡ judged_from b (judge.End (drop i ends) n) number (pieces 10 bytes)
-    → RefusedSo (judged_from b (judge.End (get_or ends i d ∷ drop (i + 1) ends) n) number (pieces 10 bytes)) x → RefusedSo (judged_from b (judge.End ends n) first (pieces 10 all)) x
-end_off b ends i d n first number all bytes x h so_far off =
-    subst (λ v. RefusedSo v x) (sym (so_far ∙ ap (λ es. judged_from b (judge.End es n) number (pieces 10 bytes)) (from_here ends i d h))) off
+pub end_off : (c : Course) (ends : List EndLine) (i : ℕ) (d : EndLine) (n first number : ℕ) (all bytes : List ℕ) (x : CheckError) → i < length ends
+    → judged_from c (judge.End ends n) first (pieces 10 all) ≡ judged_from c (judge.End (drop i ends) n) number (pieces 10 bytes)
+    → RefusedSo (judged_from c (judge.End (get_or ends i d ∷ drop (i + 1) ends) n) number (pieces 10 bytes)) x → RefusedSo (judged_from c (judge.End ends n) first (pieces 10 all)) x
+end_off c ends i d n first number all bytes x h so_far off =
+    subst (λ v. RefusedSo v x) (sym (so_far ∙ ap (λ ls. judged_from c (judge.End ls n) number (pieces 10 bytes)) (from_here ends i d h))) off
 
 pub read_end : (ends : List EndLine) (i : ℕ) (d : EndLine) (all bytes rest : List ℕ) → i < length ends → all ≡ text_of_ends (take i ends) ++ bytes → bytes ≡ end_text (get_or ends i d) ++ rest → all ≡ text_of_ends (take (i + 1) ends) ++ rest
 read_end ends i d all bytes rest h so_far on =
@@ -98,16 +98,16 @@ unfolding text_of_ends
 read_no_end ends bytes = refl
 
 -- all lines at the end stand: what is left behind them
-pub ends_left : (b : Boot) (ends : List EndLine) (i : ℕ) (n first number : ℕ) (all bytes : List ℕ) → i ≡ length ends
-    → judged_from b (judge.End ends n) first (pieces 10 all) ≡ judged_from b (judge.End (drop i ends) n) number (pieces 10 bytes)
-    → judged_from b (judge.End ends n) first (pieces 10 all) ≡ judged_from b (judge.End [] n) number (pieces 10 bytes)
-ends_left b ends i n first number all bytes e so_far =
+pub ends_left : (c : Course) (ends : List EndLine) (i : ℕ) (n first number : ℕ) (all bytes : List ℕ) → i ≡ length ends
+    → judged_from c (judge.End ends n) first (pieces 10 all) ≡ judged_from c (judge.End (drop i ends) n) number (pieces 10 bytes)
+    → judged_from c (judge.End ends n) first (pieces 10 all) ≡ judged_from c (judge.End [] n) number (pieces 10 bytes)
+ends_left c ends i n first number all bytes e so_far =
     let none : drop i ends ≡ [] = ap (λ k. drop k ends) e ∙ drop-length ends in
-    so_far ∙ ap (λ es. judged_from b (judge.End es n) number (pieces 10 bytes)) none
+    so_far ∙ ap (λ ls. judged_from c (judge.End ls n) number (pieces 10 bytes)) none
 
 -- and nothing is
-pub ends_done : (b : Boot) (ends : List EndLine) (i : ℕ) (n first number : ℕ) (all bytes : List ℕ) → i ≡ length ends → bytes ≡ []
-    → judged_from b (judge.End ends n) first (pieces 10 all) ≡ judged_from b (judge.End (drop i ends) n) number (pieces 10 bytes)
-    → judged_from b (judge.End ends n) first (pieces 10 all) ≡ Ended n
-ends_done b ends i n first number all bytes e none so_far =
-    ends_left b ends i n first number all bytes e so_far ∙ ap (λ t. judged_from b (judge.End [] n) number (pieces 10 t)) none ∙ at_text_end b (judge.End [] n) number
+pub ends_done : (c : Course) (ends : List EndLine) (i : ℕ) (n first number : ℕ) (all bytes : List ℕ) → i ≡ length ends → bytes ≡ []
+    → judged_from c (judge.End ends n) first (pieces 10 all) ≡ judged_from c (judge.End (drop i ends) n) number (pieces 10 bytes)
+    → judged_from c (judge.End ends n) first (pieces 10 all) ≡ Ended n
+ends_done c ends i n first number all bytes e none so_far =
+    ends_left c ends i n first number all bytes e so_far ∙ ap (λ t. judged_from c (judge.End [] n) number (pieces 10 t)) none ∙ at_text_end c (judge.End [] n) number

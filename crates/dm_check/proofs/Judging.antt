@@ -1,9 +1,9 @@
 -- What becomes of the verdict at each line of a text.
 use Rattle.dm_check.proofs.Names.{◌≡◌, ◌<◌, ℕ, suc, ◌+◌, ◌==◌, Bool, true, false, ◌&&◌, nat_lt, not, if◌then◌else◌, List, [], ◌∷◌, ◌++◌, length, refl, ap, sym, ◌∙◌, subst, append_assoc, append-nil, arith, Some, None, codes, All, bytes_eq}
-use Rattle.dm_check.proofs.Names.{IfErr, IsErr, IsErrAnd, Result, Ok, Err, false≢true, nat_tests, Option, bytes_eq-Decides, Pid, Boot, Step, Line, EndLine, Two, end_lines, Spelled, Point, group_of, worn_in, end_words, EndFits, LineFits}
+use Rattle.dm_check.proofs.Names.{IfErr, IsErr, IsErrAnd, Result, Ok, Err, false≢true, nat_tests, Option, bytes_eq-Decides, Pid, Step, Line, EndLine, end_words, EndFits, LineFits, Course}
 use Rattle.dm_check.proofs.Names.{pieces, line_words, spelled_line, text, end_text, text_of_ends, text_of_lines, end_words_are, line_words-are, line_bytes, spelled_bytes, pieces_of_line, IsFull, head_step, has_shape, some_piece, cut_is}
 use Rattle.dm_check.proofs.Names.{first_is, lines_have, ends_have, heads_have, TraceFault, NotALine, NotDue, NotTheEnd, CheckError, FallsBy, RefusedSo, first_line, head_of_line, is_final, Verdict, Ended, Refused, Due, Nothing, Judgement}
-use Rattle.dm_check.proofs.Names.{Stands, Falls, is_line_text, behind_line, told, at_end, at_head, begins_group, unless_worn, can_hold, taken, text_ended, judged_from}
+use Rattle.dm_check.proofs.Names.{Stands, Falls, is_line_text, behind_line, told, at_end, at_head, begins_group, can_hold, taken, text_ended, judged_from}
 use Rattle.dm_line.specs.declared.line.Line.TheVariants as line
 use Rattle.dm_check.specs.declared.stop.CheckError.TheVariants as stop
 use Rattle.dm_check.specs.Judge as judge
@@ -37,30 +37,30 @@ lines_append [] b = refl
 lines_append (l ∷ ls) b = ap (λ t. text l ++ t) (lines_append ls b) ∙ sym (append_assoc (text l) (text_of_lines ls) (text_of_lines b))
 
 -- the text is over
-pub at_text_end : (b : Boot) (due : Due) (number : ℕ) → judged_from b due number (pieces 10 []) ≡ text_ended due number
+pub at_text_end : (c : Course) (due : Due) (number : ℕ) → judged_from c due number (pieces 10 []) ≡ text_ended due number
 unfolding pieces
-at_text_end b due number = refl
+at_text_end c due number = refl
 
 -- the line stands, or falls, or is none of the format; a line feed is behind it
-pub goes_from : (b : Boot) (due d : Due) (number : ℕ) (l : List ℕ) (ps : List (List ℕ)) → (ps ≡ [] → ⊥) → has_shape l ≡ true → taken b due l ≡ Stands d → judged_from b due number (l ∷ ps) ≡ judged_from b d (number + 1) ps
-goes_from b due d number l [] some shape is = absurd (some refl)
-goes_from b due d number l (q ∷ ps) some shape is = rw (shape, is) refl
+pub goes_from : (c : Course) (due d : Due) (number : ℕ) (l : List ℕ) (ps : List (List ℕ)) → (ps ≡ [] → ⊥) → has_shape l ≡ true → taken c due l ≡ Stands d → judged_from c due number (l ∷ ps) ≡ judged_from c d (number + 1) ps
+goes_from c due d number l [] some shape is = absurd (some refl)
+goes_from c due d number l (q ∷ ps) some shape is = rw (shape, is) refl
 
-pub falls_from : (b : Boot) (due : Due) (f : TraceFault) (number : ℕ) (l : List ℕ) (ps : List (List ℕ)) → (ps ≡ [] → ⊥) → has_shape l ≡ true → taken b due l ≡ Falls f → judged_from b due number (l ∷ ps) ≡ Refused number f
-falls_from b due f number l [] some shape is = absurd (some refl)
-falls_from b due f number l (q ∷ ps) some shape is = rw (shape, is) refl
+pub falls_from : (c : Course) (due : Due) (f : TraceFault) (number : ℕ) (l : List ℕ) (ps : List (List ℕ)) → (ps ≡ [] → ⊥) → has_shape l ≡ true → taken c due l ≡ Falls f → judged_from c due number (l ∷ ps) ≡ Refused number f
+falls_from c due f number l [] some shape is = absurd (some refl)
+falls_from c due f number l (q ∷ ps) some shape is = rw (shape, is) refl
 
-pub no_shape_from : (b : Boot) (due : Due) (number : ℕ) (l : List ℕ) (ps : List (List ℕ)) → (ps ≡ [] → ⊥) → has_shape l ≡ false → judged_from b due number (l ∷ ps) ≡ Refused number NotALine
-no_shape_from b due number l [] some shape = absurd (some refl)
-no_shape_from b due number l (q ∷ ps) some shape = rw shape refl
+pub no_shape_from : (c : Course) (due : Due) (number : ℕ) (l : List ℕ) (ps : List (List ℕ)) → (ps ≡ [] → ⊥) → has_shape l ≡ false → judged_from c due number (l ∷ ps) ≡ Refused number NotALine
+no_shape_from c due number l [] some shape = absurd (some refl)
+no_shape_from c due number l (q ∷ ps) some shape = rw shape refl
 
 -- no line feed is behind it
-pub no_feed : (b : Boot) (due : Due) (number : ℕ) (l : List ℕ) → (length l == 0) ≡ false → judged_from b due number (l ∷ []) ≡ Refused number NotALine
-no_feed b due number l e = rw e refl
+pub no_feed : (c : Course) (due : Due) (number : ℕ) (l : List ℕ) → (length l == 0) ≡ false → judged_from c due number (l ∷ []) ≡ Refused number NotALine
+no_feed c due number l e = rw e refl
 
 -- two things due that take a line alike
-pub taken_alike : (b : Boot) (due d : Due) (number : ℕ) (l q : List ℕ) (ps : List (List ℕ)) → taken b due l ≡ taken b d l → judged_from b due number (l ∷ q ∷ ps) ≡ judged_from b d number (l ∷ q ∷ ps)
-taken_alike b due d number l q ps e = rw e refl
+pub taken_alike : (c : Course) (due d : Due) (number : ℕ) (l q : List ℕ) (ps : List (List ℕ)) → taken c due l ≡ taken c d l → judged_from c due number (l ∷ q ∷ ps) ≡ judged_from c d number (l ∷ q ∷ ps)
+taken_alike c due d number l q ps e = rw e refl
 
 -- a line is that of a text
 pub text_same : (bytes printed : List ℕ) → bytes ++ codes "\n" ≡ printed → is_line_text bytes printed ≡ true
@@ -74,61 +74,61 @@ text_other bytes printed h = by_test (is_line_text bytes printed) refl
     by_test false e = e
 
 -- the line that is due stands
-pub line_stands : (b : Boot) (l : Line) (ls : List Line) (pt : Point) (n number : ℕ) (bytes rest : List ℕ) → LineFits l → bytes ≡ text l ++ rest
-    → judged_from b (judge.InGroup l ls pt n) number (pieces 10 bytes) ≡ judged_from b (behind_line ls pt n) (number + 1) (pieces 10 rest)
-line_stands b l ls pt n number bytes rest h e =
+pub line_stands : (c : Course) (l : Line) (ls : List Line) (es : List Step) (number : ℕ) (bytes rest : List ℕ) → LineFits l → bytes ≡ text l ++ rest
+    → judged_from c (judge.InGroup l ls es) number (pieces 10 bytes) ≡ judged_from c (behind_line ls es) (number + 1) (pieces 10 rest)
+line_stands c l ls es number bytes rest h e =
     let w : List ℕ = line_bytes (line_words l) in
     let is : w ++ codes "\n" ≡ text l = sym (spelled_bytes (line_words l)) in
-    ap (λ t. judged_from b (judge.InGroup l ls pt n) number (pieces 10 t)) e
-    ∙ ap (judged_from b (judge.InGroup l ls pt n) number) (pieces_of_line (line_words l) rest (line_words-are l h))
-    ∙ goes_from b (judge.InGroup l ls pt n) (behind_line ls pt n) number w (pieces 10 rest) (some_piece 10 rest) (lines_have l w h is)
-    (ap (λ (t : Bool). if t then Stands (behind_line ls pt n) else told b.quantum l (pieces 32 w)) (text_same w (text l) is))
+    ap (λ t. judged_from c (judge.InGroup l ls es) number (pieces 10 t)) e
+    ∙ ap (judged_from c (judge.InGroup l ls es) number) (pieces_of_line (line_words l) rest (line_words-are l h))
+    ∙ goes_from c (judge.InGroup l ls es) (behind_line ls es) number w (pieces 10 rest) (some_piece 10 rest) (lines_have l w h is)
+    (ap (λ (t : Bool). if t then Stands (behind_line ls es) else told c.quantum l (pieces 32 w)) (text_same w (text l) is))
 
-pub end_stands : (b : Boot) (l : EndLine) (ls : List EndLine) (n number : ℕ) (bytes rest : List ℕ) → EndFits l → IsFull l → bytes ≡ end_text l ++ rest
-    → judged_from b (judge.End (l ∷ ls) n) number (pieces 10 bytes) ≡ judged_from b (judge.End ls n) (number + 1) (pieces 10 rest)
-end_stands b l ls n number bytes rest h f e =
+pub end_stands : (c : Course) (l : EndLine) (ls : List EndLine) (n number : ℕ) (bytes rest : List ℕ) → EndFits l → IsFull l → bytes ≡ end_text l ++ rest
+    → judged_from c (judge.End (l ∷ ls) n) number (pieces 10 bytes) ≡ judged_from c (judge.End ls n) (number + 1) (pieces 10 rest)
+end_stands c l ls n number bytes rest h f e =
     let w : List ℕ = line_bytes (end_words l) in
     let is : w ++ codes "\n" ≡ end_text l = sym (spelled_bytes (end_words l)) in
-    ap (λ t. judged_from b (judge.End (l ∷ ls) n) number (pieces 10 t)) e
-    ∙ ap (judged_from b (judge.End (l ∷ ls) n) number) (pieces_of_line (end_words l) rest (end_words_are l h))
-    ∙ goes_from b (judge.End (l ∷ ls) n) (judge.End ls n) number w (pieces 10 rest) (some_piece 10 rest) (ends_have l w h f is)
+    ap (λ t. judged_from c (judge.End (l ∷ ls) n) number (pieces 10 t)) e
+    ∙ ap (judged_from c (judge.End (l ∷ ls) n) number) (pieces_of_line (end_words l) rest (end_words_are l h))
+    ∙ goes_from c (judge.End (l ∷ ls) n) (judge.End ls n) number w (pieces 10 rest) (some_piece 10 rest) (ends_have l w h f is)
     (ap (λ (t : Bool). if t then Stands (judge.End ls n) else Falls NotTheEnd) (text_same w (end_text l) is))
 
 -- all lines of a group stand
-pub group_stands : (b : Boot) (ls : List Line) (pt : Point) (n number : ℕ) (rest : List ℕ) → All LineFits ls
-    → judged_from b (behind_line ls pt n) number (pieces 10 (text_of_lines ls ++ rest)) ≡ judged_from b (judge.Head pt n) (number + length ls) (pieces 10 rest)
+pub group_stands : (c : Course) (ls : List Line) (es : List Step) (number : ℕ) (rest : List ℕ) → All LineFits ls
+    → judged_from c (behind_line ls es) number (pieces 10 (text_of_lines ls ++ rest)) ≡ judged_from c (judge.Head es) (number + length ls) (pieces 10 rest)
 unfolding text_of_lines
-group_stands b [] pt n number rest h = ap (λ k. judged_from b (judge.Head pt n) k (pieces 10 rest)) (omega arith)
-group_stands b (l ∷ ls) pt n number rest h =
+group_stands c [] es number rest h = ap (λ k. judged_from c (judge.Head es) k (pieces 10 rest)) (omega arith)
+group_stands c (l ∷ ls) es number rest h =
     let here : LineFits l = h 0 l (omega arith) in
     let k : number + 1 + length ls ≡ number + length (l ∷ ls) = omega arith in
-    line_stands b l ls pt n number ((text l ++ text_of_lines ls) ++ rest) (text_of_lines ls ++ rest) here (append_assoc (text l) (text_of_lines ls) rest)
-    ∙ group_stands b ls pt n (number + 1) rest (λ i d x. h (suc i) d (omega arith))
-    ∙ ap (λ j. judged_from b (judge.Head pt n) j (pieces 10 rest)) k
+    line_stands c l ls es number ((text l ++ text_of_lines ls) ++ rest) (text_of_lines ls ++ rest) here (append_assoc (text l) (text_of_lines ls) rest)
+    ∙ group_stands c ls es (number + 1) rest (λ i d x. h (suc i) d (omega arith))
+    ∙ ap (λ j. judged_from c (judge.Head es) j (pieces 10 rest)) k
 
 -- all lines at the end stand
-pub ends_stand : (b : Boot) (ls : List EndLine) (n number : ℕ) → All EndFits ls → All IsFull ls → judged_from b (judge.End ls n) number (pieces 10 (text_of_ends ls)) ≡ Ended n
+pub ends_stand : (c : Course) (ls : List EndLine) (n number : ℕ) → All EndFits ls → All IsFull ls → judged_from c (judge.End ls n) number (pieces 10 (text_of_ends ls)) ≡ Ended n
 unfolding text_of_ends
-ends_stand b [] n number h f = at_text_end b (judge.End [] n) number
-ends_stand b (l ∷ ls) n number h f =
+ends_stand c [] n number h f = at_text_end c (judge.End [] n) number
+ends_stand c (l ∷ ls) n number h f =
     let here : EndFits l = h 0 l (omega arith) in
     let full : IsFull l = f 0 l (omega arith) in
-    end_stands b l ls n number (end_text l ++ text_of_ends ls) (text_of_ends ls) here full refl
-    ∙ ends_stand b ls n (number + 1) (λ i d x. h (suc i) d (omega arith)) (λ i d x. f (suc i) d (omega arith))
+    end_stands c l ls n number (end_text l ++ text_of_ends ls) (text_of_ends ls) here full refl
+    ∙ ends_stand c ls n (number + 1) (λ i d x. h (suc i) d (omega arith)) (λ i d x. f (suc i) d (omega arith))
 
 -- where a text doesn't begin with the line that is due, its first line is told as another one
-pub told_other : (b : Boot) (l : Line) (ls : List Line) (pt : Point) (n : ℕ) (bytes w rest : List ℕ) → ((others : List ℕ) → bytes ≡ text l ++ others → ⊥) → pieces 10 bytes ≡ w ∷ pieces 10 rest
-    → taken b (judge.InGroup l ls pt n) w ≡ told b.quantum l (pieces 32 w)
-told_other b l ls pt n bytes w rest other cut =
+pub told_other : (c : Course) (l : Line) (ls : List Line) (es : List Step) (bytes w rest : List ℕ) → ((others : List ℕ) → bytes ≡ text l ++ others → ⊥) → pieces 10 bytes ≡ w ∷ pieces 10 rest
+    → taken c (judge.InGroup l ls es) w ≡ told c.quantum l (pieces 32 w)
+told_other c l ls es bytes w rest other cut =
     let is : bytes ≡ w ++ 10 ∷ rest = cut_is 10 bytes w rest cut in
     let apart = text_other w (text l) (λ e. other rest (is ∙ sym (append_assoc w (codes "\n") rest) ∙ ap (λ t. t ++ rest) e)) in
-    ap (λ (t : Bool). if t then Stands (behind_line ls pt n) else told b.quantum l (pieces 32 w)) apart
+    ap (λ (t : Bool). if t then Stands (behind_line ls es) else told c.quantum l (pieces 32 w)) apart
 
 -- so it falls at the end
-pub falls_at_end : (b : Boot) (l : EndLine) (ls : List EndLine) (n number : ℕ) (bytes : List ℕ) → ((others : List ℕ) → bytes ≡ end_text l ++ others → ⊥) → FallsBy b (judge.End (l ∷ ls) n) number bytes NotTheEnd
-falls_at_end b l ls n number bytes other = record { ends = λ e. refl; lines = λ w is. by_pieces w (pieces 10 bytes) refl is }
+pub falls_at_end : (c : Course) (l : EndLine) (ls : List EndLine) (n number : ℕ) (bytes : List ℕ) → ((others : List ℕ) → bytes ≡ end_text l ++ others → ⊥) → FallsBy c (judge.End (l ∷ ls) n) number bytes NotTheEnd
+falls_at_end c l ls n number bytes other = record { ends = λ e. refl; lines = λ w is. by_pieces w (pieces 10 bytes) refl is }
   where
-    by_pieces : (w : List ℕ) (ps : List (List ℕ)) → pieces 10 bytes ≡ ps → first_line ps ≡ Some w → taken b (judge.End (l ∷ ls) n) w ≡ Falls NotTheEnd
+    by_pieces : (w : List ℕ) (ps : List (List ℕ)) → pieces 10 bytes ≡ ps → first_line ps ≡ Some w → taken c (judge.End (l ∷ ls) n) w ≡ Falls NotTheEnd
     by_pieces w [] cut is = absurd (cc)
     by_pieces w (p ∷ []) cut is = absurd (cc)
     by_pieces w (p ∷ q ∷ ps) cut is =
@@ -139,46 +139,42 @@ falls_at_end b l ls n number bytes other = record { ends = λ e. refl; lines = �
         ap (λ (t : Bool). if t then Stands (judge.End ls n) else Falls NotTheEnd) apart
 
 -- each line of the format falls, and so does the end of the text
-pub falls_so : (b : Boot) (due : Due) (number : ℕ) (bytes w rest : List ℕ) (f : TraceFault) → FallsBy b due number bytes f → pieces 10 bytes ≡ w ∷ pieces 10 rest → has_shape w ≡ true → judged_from b due number (pieces 10 bytes) ≡ Refused number f
-falls_so b due number bytes w rest f h cut shape =
-    ap (judged_from b due number) cut ∙ falls_from b due f number w (pieces 10 rest) (some_piece 10 rest) shape (h.lines w (ap first_line cut ∙ first_of (pieces 10 rest) (some_piece 10 rest)))
+pub falls_so : (c : Course) (due : Due) (number : ℕ) (bytes w rest : List ℕ) (f : TraceFault) → FallsBy c due number bytes f → pieces 10 bytes ≡ w ∷ pieces 10 rest → has_shape w ≡ true → judged_from c due number (pieces 10 bytes) ≡ Refused number f
+falls_so c due number bytes w rest f h cut shape =
+    ap (judged_from c due number) cut ∙ falls_from c due f number w (pieces 10 rest) (some_piece 10 rest) shape (h.lines w (ap first_line cut ∙ first_of (pieces 10 rest) (some_piece 10 rest)))
   where
     first_of : (ps : List (List ℕ)) → (ps ≡ [] → ⊥) → first_line (w ∷ ps) ≡ Some w
     first_of [] some = absurd (some refl)
     first_of (p ∷ ps) some = refl
 
-pub falls_over : (b : Boot) (due : Due) (number : ℕ) (bytes : List ℕ) (f : TraceFault) → FallsBy b due number bytes f → bytes ≡ [] → judged_from b due number (pieces 10 bytes) ≡ Refused number f
-falls_over b due number bytes f h e = ap (λ t. judged_from b due number (pieces 10 t)) e ∙ at_text_end b due number ∙ h.ends e
+pub falls_over : (c : Course) (due : Due) (number : ℕ) (bytes : List ℕ) (f : TraceFault) → FallsBy c due number bytes f → bytes ≡ [] → judged_from c due number (pieces 10 bytes) ≡ Refused number f
+falls_over c due number bytes f h e = ap (λ t. judged_from c due number (pieces 10 t)) e ∙ at_text_end c due number ∙ h.ends e
 
 -- the group of a head is due
-taken_group : (b : Boot) (pt : Point) (n : ℕ) (l : List ℕ) (e : Step) (w : Spelled) (first : Line) (others : List Line) → head_step l ≡ Some e → can_hold (length b.machines) e ≡ true → group_of b pt e ≡ Some w
-    → worn_in b.numbers pt.view w.lines ≡ None → w.lines ≡ first ∷ others → taken b (judge.Head pt n) l ≡ taken b (behind_line w.lines w.point (n + 1)) l
-taken_group b pt n l e w first others head held due fresh lines =
-    ap (at_head b pt n l) head
-    ∙ ap (λ (t : Bool). if t then begins_group b pt n l (group_of b pt e) else Falls NotDue) held
-    ∙ ap (begins_group b pt n l) due
-    ∙ ap (λ o. unless_worn o (judge.at_first_line b.quantum w.lines w.point (n + 1) l)) fresh
-    ∙ ap (λ ls. judge.at_first_line b.quantum ls w.point (n + 1) l) lines
-    ∙ sym (ap (λ ls. taken b (behind_line ls w.point (n + 1)) l) lines)
+taken_group : (c : Course) (es : List Step) (l : List ℕ) (e : Step) (first : Line) (others : List Line) → head_step l ≡ Some e → can_hold c.machines e ≡ true → c.group es e ≡ Some (first ∷ others)
+    → taken c (judge.Head es) l ≡ taken c (behind_line (first ∷ others) (es ++ e ∷ [])) l
+taken_group c es l e first others head held due =
+    ap (at_head c es l) head
+    ∙ ap (λ (t : Bool). if t then begins_group c.quantum (c.group es e) (es ++ e ∷ []) l else Falls NotDue) held
+    ∙ ap (λ o. begins_group c.quantum o (es ++ e ∷ []) l) due
 
-pub due_group : (b : Boot) (pt : Point) (n number : ℕ) (ps : List (List ℕ)) (e : Step) (w : Spelled) (first : Line) (others : List Line) → head_of_line (first_line ps) ≡ Some e → can_hold (length b.machines) e ≡ true → group_of b pt e ≡ Some w
-    → worn_in b.numbers pt.view w.lines ≡ None → w.lines ≡ first ∷ others → judged_from b (judge.Head pt n) number ps ≡ judged_from b (behind_line w.lines w.point (n + 1)) number ps
-due_group b pt n number [] e w first others head held due fresh lines = absurd (cc)
-due_group b pt n number (l ∷ []) e w first others head held due fresh lines = absurd (cc)
-due_group b pt n number (l ∷ q ∷ ps) e w first others head held due fresh lines =
-    taken_alike b (judge.Head pt n) (behind_line w.lines w.point (n + 1)) number l q ps (taken_group b pt n l e w first others head held due fresh lines)
+pub due_group : (c : Course) (es : List Step) (number : ℕ) (ps : List (List ℕ)) (e : Step) (first : Line) (others : List Line) → head_of_line (first_line ps) ≡ Some e → can_hold c.machines e ≡ true → c.group es e ≡ Some (first ∷ others)
+    → judged_from c (judge.Head es) number ps ≡ judged_from c (behind_line (first ∷ others) (es ++ e ∷ [])) number ps
+due_group c es number [] e first others head held due = absurd (cc)
+due_group c es number (l ∷ []) e first others head held due = absurd (cc)
+due_group c es number (l ∷ q ∷ ps) e first others head held due = taken_alike c (judge.Head es) (behind_line (first ∷ others) (es ++ e ∷ [])) number l q ps (taken_group c es l e first others head held due)
 
 -- no group is
-pub no_group : (b : Boot) (pt : Point) (n number : ℕ) (ps : List (List ℕ)) (e : Step) → head_of_line (first_line ps) ≡ Some e → ((bytes : List ℕ) → at_head b pt n bytes (Some e) ≡ Falls NotDue) → judged_from b (judge.Head pt n) number ps ≡ Refused number NotDue
-no_group b pt n number [] e head none = absurd (cc)
-no_group b pt n number (l ∷ []) e head none = absurd (cc)
-no_group b pt n number (l ∷ q ∷ ps) e head none = falls_from b (judge.Head pt n) NotDue number l (q ∷ ps) (λ x. cc) (heads_have l e head) (ap (at_head b pt n l) head ∙ none l)
+pub no_group : (c : Course) (es : List Step) (number : ℕ) (ps : List (List ℕ)) (e : Step) → head_of_line (first_line ps) ≡ Some e → ((bytes : List ℕ) → at_head c es bytes (Some e) ≡ Falls NotDue) → judged_from c (judge.Head es) number ps ≡ Refused number NotDue
+no_group c es number [] e head none = absurd (cc)
+no_group c es number (l ∷ []) e head none = absurd (cc)
+no_group c es number (l ∷ q ∷ ps) e head none = falls_from c (judge.Head es) NotDue number l (q ∷ ps) (λ x. cc) (heads_have l e head) (ap (at_head c es l) head ∙ none l)
 
 -- the lines at the end are due
-taken_ends : (b : Boot) (pt : Point) (n : ℕ) (l : List ℕ) → head_step l ≡ None → bytes_eq l (codes "final") ≡ true → taken b (judge.Head pt n) l ≡ taken b (judge.End (end_lines pt) n) l
-taken_ends b pt n l head is = ap (at_head b pt n l) head ∙ ap (λ (t : Bool). if t then at_end (end_lines pt) n l else Falls NotDue) is
+taken_ends : (c : Course) (es : List Step) (l : List ℕ) → head_step l ≡ None → bytes_eq l (codes "final") ≡ true → taken c (judge.Head es) l ≡ taken c (judge.End (c.ends es) (length es)) l
+taken_ends c es l head is = ap (at_head c es l) head ∙ ap (λ (t : Bool). if t then at_end (c.ends es) (length es) l else Falls NotDue) is
 
-pub due_ends : (b : Boot) (pt : Point) (n number : ℕ) (ps : List (List ℕ)) → head_of_line (first_line ps) ≡ None → is_final (first_line ps) ≡ true → judged_from b (judge.Head pt n) number ps ≡ judged_from b (judge.End (end_lines pt) n) number ps
-due_ends b pt n number [] head is = absurd (cc)
-due_ends b pt n number (l ∷ []) head is = absurd (cc)
-due_ends b pt n number (l ∷ q ∷ ps) head is = taken_alike b (judge.Head pt n) (judge.End (end_lines pt) n) number l q ps (taken_ends b pt n l head is)
+pub due_ends : (c : Course) (es : List Step) (number : ℕ) (ps : List (List ℕ)) → head_of_line (first_line ps) ≡ None → is_final (first_line ps) ≡ true → judged_from c (judge.Head es) number ps ≡ judged_from c (judge.End (c.ends es) (length es)) number ps
+due_ends c es number [] head is = absurd (cc)
+due_ends c es number (l ∷ []) head is = absurd (cc)
+due_ends c es number (l ∷ q ∷ ps) head is = taken_alike c (judge.Head es) (judge.End (c.ends es) (length es)) number l q ps (taken_ends c es l head is)

@@ -1,9 +1,6 @@
 pub mod Names
 pub mod Judging
-pub mod Groups
-pub mod KeptNames
-pub mod Fulls
+pub mod Heads
 pub mod Checks
 pub mod Following
-pub mod Runs
 pub mod Ending

@@ -3,7 +3,6 @@ use Rattle.std.specs.Prelude.{◌≡◌, ⊤, ℕ, Bool, true, false, List, [], 
 use Rattle.std.specs.Str.{bytes_eq}
 use Rattle.std.specs.declared.option.Option.{Option}
 use Rattle.std.specs.declared.option.Option.TheVariants.{None, Some}
-use Rattle.dm_onekernel.specs.declared.boot.Boot.{Boot}
 use Rattle.dm_schedule.specs.declared.Step.{Step}
 use Rattle.dm_text.specs.Reading.{pieces}
 use Rattle.dm_shape.specs.Heads.{head_step}
@@ -16,7 +15,7 @@ use Rattle.dm_check.specs.declared.told.Other.{Other}
 use Rattle.dm_check.specs.declared.told.Other.TheVariants as other
 use Rattle.dm_check.specs.declared.follow.Standing.{Standing}
 use Rattle.dm_check.specs.declared.follow.Standing.TheVariants as standing
-use Rattle.dm_check.specs.Judge.{Verdict, Refused, Due, Nothing, Judgement, Stands, Falls, text_ended, judged_from, taken}
+use Rattle.dm_check.specs.Judge.{Course, Verdict, Refused, Due, Nothing, Judgement, Stands, Falls, text_ended, judged_from, taken}
 
 -- what the code says of a line
 abbrev pub fault_of : TraceFault → Judgement
@@ -44,12 +43,12 @@ is_final (Some l) = bytes_eq l (codes "final")
 abbrev pub StandsAs : List ℕ → Standing → Type 0
 StandsAs text standing.Nothing = text ≡ []
 StandsAs text (standing.Line l others) = (pieces 10 text ≡ l.now ∷ pieces 10 others.now) × (has_shape l.now ≡ true)
-StandsAs text standing.NoLine = (b : Boot) (due : Due) (number : ℕ) → judged_from b due number (pieces 10 text) ≡ Refused number NotALine
+StandsAs text standing.NoLine = (c : Course) (due : Due) (number : ℕ) → judged_from c due number (pieces 10 text) ≡ Refused number NotALine
 
 -- each line of the format falls by this fault where a text begins, and so does the end of the text
-pub record FallsBy (b : Boot) (due : Due) (number : ℕ) (text : List ℕ) (fault : TraceFault) : Type 0 where
+pub record FallsBy (c : Course) (due : Due) (number : ℕ) (text : List ℕ) (fault : TraceFault) : Type 0 where
   pub ends : text ≡ [] → text_ended due number ≡ Refused number fault
-  pub lines : (l : List ℕ) → first_line (pieces 10 text) ≡ Some l → taken b due l ≡ Falls fault
+  pub lines : (l : List ℕ) → first_line (pieces 10 text) ≡ Some l → taken c due l ≡ Falls fault
 
 -- a refusal is the verdict; want of memory says nothing
 abbrev pub RefusedSo : Verdict → CheckError → Type 0

@@ -1,10 +1,9 @@
--- Whether a text is what the system prints, line by line: the first line at which it isn't, and why.
+-- Whether a text is what a system prints, line by line: the first line at which it isn't, and why.
 use Rattle.std.specs.Prelude.{ℕ, ◌+◌, Bool, true, false, ◌==◌, not, ◌&&◌, nat_lt, nat_le, if◌then◌else◌, List, [], ◌∷◌, ◌++◌, length, drop, codes}
 use Rattle.std.specs.Str.{bytes_eq}
 use Rattle.std.specs.declared.option.Option.{Option}
 use Rattle.std.specs.declared.option.Option.TheVariants.{None, Some}
 use Rattle.dm_link.specs.declared.Pid.{Pid}
-use Rattle.dm_onekernel.specs.declared.boot.Boot.{Boot}
 use Rattle.dm_onekernel.specs.declared.label.Label.{Label}
 use Rattle.dm_onekernel.specs.declared.label.Label.TheVariants as label
 use Rattle.dm_schedule.specs.declared.Step.{Step}
@@ -12,12 +11,6 @@ use Rattle.dm_schedule.specs.declared.Step.TheVariants as step
 use Rattle.dm_line.specs.declared.line.Line.{Line}
 use Rattle.dm_line.specs.declared.line.Line.TheVariants as line
 use Rattle.dm_line.specs.declared.end_line.EndLine.{EndLine}
-use Rattle.dm_line.specs.Todo.{Two}
-use Rattle.dm_rule.specs.Ends.{end_lines}
-use Rattle.dm_rule.specs.Parts.{Spelled}
-use Rattle.dm_rule.specs.Point.{Point, first_point}
-use Rattle.dm_rule.specs.Rule.{group_of}
-use Rattle.dm_rule.specs.Worn.{worn_in}
 use Rattle.dm_text.specs.Reading.{pieces}
 use Rattle.dm_text.specs.Text.{text, end_text}
 use Rattle.dm_shape.specs.Heads.{head_step}
@@ -25,6 +18,14 @@ use Rattle.dm_shape.specs.Shapes.{has_shape}
 use Rattle.dm_check.specs.declared.fault.TraceFault.{TraceFault}
 use Rattle.dm_check.specs.declared.fault.TraceFault.TheVariants.{NotALine, NotDue, NotAStep, NotTheEnd}
 use Rattle.dm_check.specs.Classes.{tells_call, tells_reception, tells_made, told_ran}
+
+-- a system, by what it prints: how many machines it has, and how many instructions a turn may run; behind the groups of these
+-- directives, the group of one more, if it has one, and the lines at the end
+pub record Course : Type 0 where
+  pub machines : ℕ
+  pub quantum : ℕ
+  pub group : List Step → Step → Option (List Line)
+  pub ends : List Step → List EndLine
 
 -- what a trace comes to: so many whole groups; these, and the lines at the end behind them; or its first bad line, counted
 -- from 1, and what is wrong with it
@@ -35,13 +36,13 @@ pub data Verdict : Type 0 where
 
 -- what is due where a line begins
 pub data Due : Type 0 where
-  -- the head of a group, or the lines at the end: so many groups are whole, and the run stands here
-  Head : (point : Point) → (groups : ℕ) → Due
-  -- this line of a group and these; then the run stands here, and so many groups are whole
-  InGroup : (due : Line) → (others : List Line) → (point : Point) → (groups : ℕ) → Due
+  -- the head of a group, or the lines at the end: the groups of these directives are whole
+  Head : (done : List Step) → Due
+  -- this line of a group and these; then the groups of these directives are whole
+  InGroup : (due : Line) → (others : List Line) → (done : List Step) → Due
   -- nothing: the process is said to have run fewer instructions than it runs, which is a step, but no line can follow
   Nothing : (pid : Pid) → Due
-  -- these of the lines at the end
+  -- these of the lines at the end, behind so many groups
   End : (due : List EndLine) → (groups : ℕ) → Due
 
 -- a schedule for so many machines can hold the directive, but for the number of its packet
@@ -61,9 +62,9 @@ abbrev pub is_line_text : List ℕ → List ℕ → Bool
 is_line_text bytes printed = bytes_eq (bytes ++ codes "\n") printed
 
 -- what is due behind lines of a group
-abbrev pub behind_line : List Line → Point → ℕ → Due
-behind_line [] pt n = Head pt n
-behind_line (l ∷ ls) pt n = InGroup l ls pt n
+abbrev pub behind_line : List Line → List Step → Due
+behind_line [] es = Head es
+behind_line (l ∷ ls) es = InGroup l ls es
 
 abbrev pub falls_as_step : Bool → Judgement
 falls_as_step true = Falls NotAStep
@@ -121,44 +122,39 @@ told quantum (line.NoChild p) ws = Falls NotDue
 told quantum (line.Pinned p) ws = Falls NotDue
 
 -- a line where this one is due
-abbrev pub at_line : ℕ → Line → List Line → Point → ℕ → List ℕ → Judgement
-at_line quantum l ls pt n bytes = if is_line_text bytes (text l) then Stands (behind_line ls pt n) else told quantum l (pieces 32 bytes)
+abbrev pub at_line : ℕ → Line → List Line → List Step → List ℕ → Judgement
+at_line quantum l ls es bytes = if is_line_text bytes (text l) then Stands (behind_line ls es) else told quantum l (pieces 32 bytes)
 
 -- a line where these of the lines at the end are due
 abbrev pub at_end : List EndLine → ℕ → List ℕ → Judgement
 at_end [] n bytes = Falls NotTheEnd
 at_end (e ∷ es) n bytes = if is_line_text bytes (end_text e) then Stands (End es n) else Falls NotTheEnd
 
--- the first line of a group
-abbrev pub at_first_line : ℕ → List Line → Point → ℕ → List ℕ → Judgement
-at_first_line quantum [] pt n bytes = Falls NotDue
-at_first_line quantum (l ∷ ls) pt n bytes = at_line quantum l ls pt n bytes
+-- the first line of a group, if there is one
+abbrev pub at_first_line : ℕ → List Line → List Step → List ℕ → Judgement
+at_first_line quantum [] es bytes = Falls NotDue
+at_first_line quantum (l ∷ ls) es bytes = at_line quantum l ls es bytes
 
--- the group of a head, unless it would route a message between two machines that count as many as they may
-abbrev pub unless_worn : Option Two → Judgement → Judgement
-unless_worn None t = t
-unless_worn (Some two) t = Falls NotDue
-
-abbrev pub begins_group : Boot → Point → ℕ → List ℕ → Option Spelled → Judgement
-begins_group b pt n bytes None = Falls NotDue
-begins_group b pt n bytes (Some w) = unless_worn (worn_in b.numbers pt.view w.lines) (at_first_line b.quantum w.lines w.point (n + 1) bytes)
+abbrev pub begins_group : ℕ → Option (List Line) → List Step → List ℕ → Judgement
+begins_group quantum None es bytes = Falls NotDue
+begins_group quantum (Some ls) es bytes = at_first_line quantum ls es bytes
 
 -- a line where a head is due, or the lines at the end
-abbrev pub at_head : Boot → Point → ℕ → List ℕ → Option Step → Judgement
-at_head b pt n bytes (Some e) = if can_hold (length b.machines) e then begins_group b pt n bytes (group_of b pt e) else Falls NotDue
-at_head b pt n bytes None = if bytes_eq bytes (codes "final") then at_end (end_lines pt) n bytes else Falls NotDue
+abbrev pub at_head : Course → List Step → List ℕ → Option Step → Judgement
+at_head c es bytes (Some e) = if can_hold c.machines e then begins_group c.quantum (c.group es e) (es ++ e ∷ []) bytes else Falls NotDue
+at_head c es bytes None = if bytes_eq bytes (codes "final") then at_end (c.ends es) (length es) bytes else Falls NotDue
 
 -- what becomes of a line of the format
-abbrev pub taken : Boot → Due → List ℕ → Judgement
-taken b (Head pt n) bytes = at_head b pt n bytes (head_step bytes)
-taken b (InGroup l ls pt n) bytes = at_line b.quantum l ls pt n bytes
-taken b (Nothing p) bytes = falls_as_step (tells_call p (pieces 32 bytes))
-taken b (End es n) bytes = at_end es n bytes
+abbrev pub taken : Course → Due → List ℕ → Judgement
+taken c (Head es) bytes = at_head c es bytes (head_step bytes)
+taken c (InGroup l ls es) bytes = at_line c.quantum l ls es bytes
+taken c (Nothing p) bytes = falls_as_step (tells_call p (pieces 32 bytes))
+taken c (End es n) bytes = at_end es n bytes
 
 -- the text ends, at the line behind its last
 abbrev pub text_ended : Due → ℕ → Verdict
-text_ended (Head pt n) number = Open n
-text_ended (InGroup l ls pt n) number = Refused number NotDue
+text_ended (Head es) number = Open (length es)
+text_ended (InGroup l ls es) number = Refused number NotDue
 text_ended (Nothing p) number = Refused number NotDue
 text_ended (End [] n) number = Ended n
 text_ended (End (e ∷ es) n) number = Refused number NotTheEnd
@@ -168,15 +164,15 @@ if_stands number (Stands due) next = next due
 if_stands number (Falls fault) next = Refused number fault
 
 -- from a line of this number on: these bytes up to the next line feed, and then these pieces; without a line feed they are no line
-abbrev pub judged : Boot → Due → ℕ → List ℕ → List (List ℕ) → Verdict
-judged b due number bytes [] = if length bytes == 0 then text_ended due number else Refused number NotALine
-judged b due number bytes (next ∷ others) =
-    if has_shape bytes then if_stands number (taken b due bytes) (λ d. judged b d (number + 1) next others) else Refused number NotALine
+abbrev pub judged : Course → Due → ℕ → List ℕ → List (List ℕ) → Verdict
+judged c due number bytes [] = if length bytes == 0 then text_ended due number else Refused number NotALine
+judged c due number bytes (next ∷ others) =
+    if has_shape bytes then if_stands number (taken c due bytes) (λ d. judged c d (number + 1) next others) else Refused number NotALine
 
-abbrev pub judged_from : Boot → Due → ℕ → List (List ℕ) → Verdict
-judged_from b due number [] = text_ended due number
-judged_from b due number (bytes ∷ others) = judged b due number bytes others
+abbrev pub judged_from : Course → Due → ℕ → List (List ℕ) → Verdict
+judged_from c due number [] = text_ended due number
+judged_from c due number (bytes ∷ others) = judged c due number bytes others
 
--- what the whole text comes to, by this boot file
-unfoldable pub verdict : Boot → List ℕ → Verdict
-verdict b bytes = judged_from b (Head (first_point b) 0) 1 (pieces 10 bytes)
+-- what the whole text comes to, by what this system prints
+unfoldable pub verdict_by : Course → List ℕ → Verdict
+verdict_by c bytes = judged_from c (Head []) 1 (pieces 10 bytes)

@@ -1,7 +1,7 @@
 pub mod Faults
 pub mod Classes
 pub mod Judge
-pub mod Good
 pub mod Checking
+pub mod Says
+pub mod Good
 pub mod Checked
-pub mod Laws

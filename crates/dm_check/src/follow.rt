@@ -3,15 +3,14 @@ ghost use Rattle.std.specs.Prelude.{◌≡◌, ◌∷◌, ◌++◌, ◌+◌, ◌
 ghost use Rattle.std.specs.List.{All};
 ghost use Rattle.dm_line.specs.declared.end_line.EndLine.{EndLine as TheEndLine};
 ghost use Rattle.dm_line.specs.declared.line.Line.{Line as TheLine};
-ghost use Rattle.dm_onekernel.specs.declared.boot.Boot.{Boot as TheBoot};
-ghost use Rattle.dm_rule.specs.Point.{Point};
+ghost use Rattle.dm_schedule.specs.declared.Step.{Step as TheStep};
 ghost use Rattle.dm_text.specs.Fits.{EndFits, LineFits};
 ghost use Rattle.dm_text.specs.Reading.{pieces};
 ghost use Rattle.dm_text.specs.Text.{end_text, text as line_text, text_of_ends, text_of_lines};
 ghost use Rattle.dm_shape.specs.Full.{IsFull};
 ghost use Rattle.dm_check.specs.Checking.{FallsBy, RefusedSo, StandsAs};
 ghost use Rattle.dm_check.specs.Judge as judge;
-ghost use Rattle.dm_check.specs.Judge.{Due, Ended, Refused, behind_line, judged_from};
+ghost use Rattle.dm_check.specs.Judge.{Course, Due, Ended, Refused, behind_line, judged_from};
 
 use crate::classes::tells_call;
 use crate::fault::TraceFault;
@@ -22,11 +21,11 @@ use dm_line::line::Line;
 use dm_link::Pid;
 use dm_shape::has_shape;
 use dm_shape::split::split;
-use dm_text::text::{write_end, write_line};
+use dm_text::text::{write_end, write_line, write_lines};
 
-/// Follows the lines of a group through a text whose first line has this number, and gives the text behind them. The page
-/// holds each line meanwhile.
-pub(crate) fn follow_lines<'a>(
+/// Follows a group through a text whose first line has this number, and gives the text behind it: all its lines at once, and
+/// where the text doesn't begin so, line by line. The page holds what is compared.
+pub(crate) fn follow_group<'a>(
     quantum: u32,
     lines: &[Line],
     text: &'a [u8],
@@ -36,11 +35,38 @@ pub(crate) fn follow_lines<'a>(
     requires fits { All LineFits lines.now }
     requires room { number + length text.now < 2 ^ 62 }
     ensures read { IfOk result (λ rest. text.now ≡ text_of_lines lines.now ++ rest.now) }
-    ensures goes { (b : TheBoot) (pt : Point) (n : ℕ) → IfOk result (λ rest.
-        judged_from b (behind_line lines.now pt n) number (pieces 10 text.now)
-        ≡ judged_from b (judge.Head pt n) (number + length lines.now) (pieces 10 rest.now)) }
-    ensures refused { (b : TheBoot) (pt : Point) (n : ℕ) → b.quantum ≡ quantum →
-        IfErr result (RefusedSo (judged_from b (behind_line lines.now pt n) number (pieces 10 text.now))) }
+    ensures goes { (c : Course) (es : List TheStep) → IfOk result (λ rest.
+        judged_from c (behind_line lines.now es) number (pieces 10 text.now)
+        ≡ judged_from c (judge.Head es) (number + length lines.now) (pieces 10 rest.now)) }
+    ensures refused { (c : Course) (es : List TheStep) → c.quantum ≡ quantum →
+        IfErr result (RefusedSo (judged_from c (behind_line lines.now es) number (pieces 10 text.now))) }
+{
+    page.clear();
+    if let Err(no) = write_lines(lines, page) {
+        return Err(CheckError::NoMemory(no));
+    }
+    match behind(text, page.as_slice()) {
+        Some(rest) => Ok(rest),
+        None => follow_lines(quantum, lines, text, number, page),
+    }
+}
+
+/// Follows the lines of a group one by one.
+fn follow_lines<'a>(
+    quantum: u32,
+    lines: &[Line],
+    text: &'a [u8],
+    number: u64,
+    page: &mut Vec<u8>,
+) -> Result<&'a [u8], CheckError>
+    requires fits { All LineFits lines.now }
+    requires room { number + length text.now < 2 ^ 62 }
+    ensures read { IfOk result (λ rest. text.now ≡ text_of_lines lines.now ++ rest.now) }
+    ensures goes { (c : Course) (es : List TheStep) → IfOk result (λ rest.
+        judged_from c (behind_line lines.now es) number (pieces 10 text.now)
+        ≡ judged_from c (judge.Head es) (number + length lines.now) (pieces 10 rest.now)) }
+    ensures refused { (c : Course) (es : List TheStep) → c.quantum ≡ quantum →
+        IfErr result (RefusedSo (judged_from c (behind_line lines.now es) number (pieces 10 text.now))) }
 {
     let mut rest = text;
     let mut at = number;
@@ -61,10 +87,10 @@ fn follow_line<'a>(
 ) -> Result<&'a [u8], CheckError>
     requires { number + length text.now < 2 ^ 62 }
     ensures read { IfOk result (λ rest. text.now ≡ line_text due.now ++ rest.now) }
-    ensures goes { (b : TheBoot) (ls : List TheLine) (pt : Point) (n : ℕ) → LineFits due.now → IfOk result (λ rest.
-        judged_from b (judge.InGroup due.now ls pt n) number (pieces 10 text.now) ≡ judged_from b (behind_line ls pt n) (number + 1) (pieces 10 rest.now)) }
-    ensures refused { (b : TheBoot) (ls : List TheLine) (pt : Point) (n : ℕ) → b.quantum ≡ quantum →
-        IfErr result (RefusedSo (judged_from b (judge.InGroup due.now ls pt n) number (pieces 10 text.now))) }
+    ensures goes { (c : Course) (ls : List TheLine) (es : List TheStep) → LineFits due.now → IfOk result (λ rest.
+        judged_from c (judge.InGroup due.now ls es) number (pieces 10 text.now) ≡ judged_from c (behind_line ls es) (number + 1) (pieces 10 rest.now)) }
+    ensures refused { (c : Course) (ls : List TheLine) (es : List TheStep) → c.quantum ≡ quantum →
+        IfErr result (RefusedSo (judged_from c (judge.InGroup due.now ls es) number (pieces 10 text.now))) }
 {
     page.clear();
     if let Err(no) = write_line(due, page) {
@@ -84,11 +110,10 @@ pub(crate) fn follow_ends(
     page: &mut Vec<u8>,
 ) -> Result<(), CheckError>
     requires fits { All EndFits ends.now }
-    requires full { All IsFull ends.now }
     requires room { number + length text.now < 2 ^ 62 }
     ensures read { OnOk result (text.now ≡ text_of_ends ends.now) }
-    ensures ended { (b : TheBoot) (n : ℕ) → OnOk result (judged_from b (judge.End ends.now n) number (pieces 10 text.now) ≡ Ended n) }
-    ensures refused { (b : TheBoot) (n : ℕ) → IfErr result (RefusedSo (judged_from b (judge.End ends.now n) number (pieces 10 text.now))) }
+    ensures ended { (c : Course) (n : ℕ) → All IsFull ends.now → OnOk result (judged_from c (judge.End ends.now n) number (pieces 10 text.now) ≡ Ended n) }
+    ensures refused { (c : Course) (n : ℕ) → All IsFull ends.now → IfErr result (RefusedSo (judged_from c (judge.End ends.now n) number (pieces 10 text.now))) }
 {
     let mut rest = text;
     let mut at = number;
@@ -111,8 +136,8 @@ fn follow_end<'a>(
     page: &mut Vec<u8>,
 ) -> Result<&'a [u8], CheckError>
     ensures read { IfOk result (λ rest. text.now ≡ end_text due.now ++ rest.now) }
-    ensures refused { (b : TheBoot) (es : List TheEndLine) (n : ℕ) →
-        IfErr result (RefusedSo (judged_from b (judge.End (due.now ∷ es) n) number (pieces 10 text.now))) }
+    ensures refused { (c : Course) (others : List TheEndLine) (n : ℕ) →
+        IfErr result (RefusedSo (judged_from c (judge.End (due.now ∷ others) n) number (pieces 10 text.now))) }
 {
     page.clear();
     if let Err(no) = write_end(due, page) {
@@ -145,8 +170,8 @@ pub(crate) fn refused(line: u64, fault: TraceFault) -> CheckError
 
 /// What is wrong at the beginning of a text where this is wrong with each line of the format, and with the end of the text.
 pub(crate) fn unless_none(text: &[u8], fault: TraceFault) -> TraceFault
-    ensures { (b : TheBoot) (due : Due) (number : ℕ) → FallsBy b due number text.now fault →
-        judged_from b due number (pieces 10 text.now) ≡ Refused number result }
+    ensures { (c : Course) (due : Due) (number : ℕ) → FallsBy c due number text.now fault →
+        judged_from c due number (pieces 10 text.now) ≡ Refused number result }
 {
     match stands(text) {
         Standing::Nothing => fault,
@@ -190,8 +215,8 @@ fn stands(text: &[u8]) -> Standing<'_>
 fn otherwise(quantum: u32, due: &Line, text: &[u8], number: u64) -> CheckError
     requires other { (rest : List ℕ) → text.now ≡ line_text due.now ++ rest → ⊥ }
     requires room { number < 2 ^ 62 }
-    ensures { (b : TheBoot) (ls : List TheLine) (pt : Point) (n : ℕ) → b.quantum ≡ quantum →
-        RefusedSo (judged_from b (judge.InGroup due.now ls pt n) number (pieces 10 text.now)) result }
+    ensures { (c : Course) (ls : List TheLine) (es : List TheStep) → c.quantum ≡ quantum →
+        RefusedSo (judged_from c (judge.InGroup due.now ls es) number (pieces 10 text.now)) result }
 {
     match stands(text) {
         Standing::Nothing => refused(number, TraceFault::NotDue),
@@ -205,7 +230,7 @@ fn otherwise(quantum: u32, due: &Line, text: &[u8], number: u64) -> CheckError
 
 /// What is wrong behind a line that tells of fewer instructions of a process than are due.
 fn behind_fewer(pid: Pid, text: &[u8]) -> TraceFault
-    ensures { (b : TheBoot) (number : ℕ) → judged_from b (judge.Nothing pid) number (pieces 10 text.now) ≡ Refused number result }
+    ensures { (c : Course) (number : ℕ) → judged_from c (judge.Nothing pid) number (pieces 10 text.now) ≡ Refused number result }
 {
     match stands(text) {
         Standing::Nothing => TraceFault::NotDue,

@@ -7,7 +7,6 @@
 mod classes;
 pub mod fault;
 mod follow;
-pub mod laws;
 mod stop;
 mod told;
 pub mod trace;

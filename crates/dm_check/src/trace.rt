@@ -3,22 +3,23 @@ ghost use Rattle.std.specs.Prelude.{◌≡◌, ◌+◌, ◌^◌, ◌<◌, ◌≤
 ghost use Rattle.std.specs.List.{All};
 ghost use Rattle.dm_line.specs.declared.line.Line.{Line as TheLine};
 ghost use Rattle.dm_onekernel.specs.Boot.{IsValid};
-ghost use Rattle.dm_rule.specs.Point.{Point};
 ghost use Rattle.dm_schedule.specs.declared.Step.{Step as TheStep};
 ghost use Rattle.dm_text.specs.Fits.{LineFits};
 ghost use Rattle.dm_text.specs.Reading.{pieces};
+ghost use Rattle.dm_world.specs.Ends.{end_lines as ends_of};
 ghost use Rattle.dm_world.specs.Meets.{world_state};
-ghost use Rattle.dm_mirror.specs.Ran.{Ran};
-ghost use Rattle.dm_run.specs.Running.{IsRunning, RunsOn};
+ghost use Rattle.dm_run.specs.Running.{IsRunning};
+ghost use Rattle.dm_run.specs.Went.{Does, RunsGo, Went};
 ghost use Rattle.dm_check.specs.Checked.{HasChecked, NoGroup};
 ghost use Rattle.dm_check.specs.Checking.{RefusedSo, first_line, head_of_line, is_final};
-ghost use Rattle.dm_check.specs.Good.{EndsFit, IsTrace, good_verdict, text_behind};
+ghost use Rattle.dm_check.specs.Good.{EndsFit, IsPrinted, good_verdict, text_behind};
 ghost use Rattle.dm_check.specs.Judge as judge;
-ghost use Rattle.dm_check.specs.Judge.{can_hold, judged_from, verdict};
+ghost use Rattle.dm_check.specs.Judge.{Course, can_hold, judged_from};
+ghost use Rattle.dm_check.specs.Says.{ComesTo, RefusedBy, SaysAs};
 
 use crate::MOST_TRACE;
 use crate::fault::TraceFault;
-use crate::follow::{follow_ends, follow_lines, refused, unless_none};
+use crate::follow::{follow_ends, follow_group, refused, unless_none};
 use crate::stop::CheckError;
 use dm_line::line::Line;
 use dm_onekernel::Boot;
@@ -38,13 +39,15 @@ pub struct Good {
     pub ended: bool,
 }
 
-/// Checks that a text is what the system of a boot file prints, for the directives that its heads are.
+/// Checks that a text is what the system of a boot file prints, for the directives that its heads are: what it comes to by whatever
+/// says what the machines say.
 pub fn check_trace(alloc: Global, boot: Boot, trace: &[u8]) -> Result<Good, CheckError>
+    requires law { RunsGo }
     requires valid { IsValid boot }
     requires short { length trace.now ≤ MOST_TRACE }
-    ensures verdict { IfOk result (λ g. verdict boot trace.now ≡ good_verdict g.groups g.ended) }
-    ensures good { IfOk result (λ g. IsTrace boot trace.now g.groups g.ended) }
-    ensures refused { IfErr result (RefusedSo (verdict boot trace.now)) }
+    ensures verdict { IfOk result (λ g. ComesTo boot trace.now (good_verdict g.groups g.ended)) }
+    ensures good { IfOk result (λ g. IsPrinted boot trace.now g.groups g.ended) }
+    ensures refused { IfErr result (RefusedBy boot trace.now) }
 {
     let quantum = boot.quantum;
     let machines = boot.machines.len() as u8;
@@ -62,15 +65,16 @@ fn check_on(
     world: &mut World,
     trace: &[u8],
 ) -> Result<Good, CheckError>
+    requires law { RunsGo }
     requires running { IsRunning world.old }
     requires begun { HasChecked world.old.boot trace.now trace.now 1 0 (world_state world.old) }
     requires groups { world.old.groups ≡ 0 }
     requires quantum { world.old.boot.quantum ≡ quantum }
     requires machines { length world.old.boot.machines ≡ machines }
     requires short { length trace.now ≤ MOST_TRACE }
-    ensures verdict { IfOk result (λ g. verdict world.old.boot trace.now ≡ good_verdict g.groups g.ended) }
-    ensures good { IfOk result (λ g. IsTrace world.old.boot trace.now g.groups g.ended) }
-    ensures refused { IfErr result (RefusedSo (verdict world.old.boot trace.now)) }
+    ensures verdict { IfOk result (λ g. ComesTo world.old.boot trace.now (good_verdict g.groups g.ended)) }
+    ensures good { IfOk result (λ g. IsPrinted world.old.boot trace.now g.groups g.ended) }
+    ensures refused { IfErr result (RefusedBy world.old.boot trace.now) }
 {
     let mut page = Vec::new(alloc);
     let mut rest = trace;
@@ -78,9 +82,10 @@ fn check_on(
     let mut groups: u64 = 0;
     'groups: while let Some(step) = first_head(rest) {
         let lines = group(machines, &step, number, world)?;
-        rest = follow_lines(quantum, lines.as_slice(), rest, number, &mut page)?;
+        rest = follow_group(quantum, lines.as_slice(), rest, number, &mut page)?;
         number += lines.len() as u64;
         groups += 1;
+        world.keep(lines);
     }
     let ended = is_ended(world, rest, number, &mut page)?;
     Ok(Good { groups, ended })
@@ -99,11 +104,12 @@ fn first_head(text: &[u8]) -> Option<Step>
 
 /// The group of a head that stands in the line of this number, if one is due.
 fn group(machines: u8, step: &Step, number: u64, world: &mut World) -> Result<Vec<Line>, CheckError>
+    requires law { RunsGo }
     requires running { IsRunning world.old }
     requires groups { world.old.groups < 2 ^ 127 }
     requires machines { length world.old.boot.machines ≡ machines }
     ensures held { OnOk result (can_hold machines step.now ≡ true) }
-    ensures runs_on { IfOk result (λ lines. RunsOn (world_state world.old) world.old.boot step.now lines.items (world_state world.new)) }
+    ensures does { IfOk result (λ lines. Does world.old.boot (world_state world.old) step.now lines.items (world_state world.new)) }
     ensures fits { IfOk result (λ lines. All LineFits lines.items) }
     ensures running { OnOk result (IsRunning world.new) }
     ensures counts { OnOk result (world.new.groups ≡ world.old.groups + 1) }
@@ -134,17 +140,16 @@ fn can_hold(machines: u8, step: &Step) -> bool
 
 /// Whether the lines at the end stand behind whole groups, where a text isn't over. No head begins it.
 fn is_ended(world: &World, text: &[u8], number: u64, page: &mut Vec<u8>) -> Result<bool, CheckError>
+    requires law { RunsGo }
     requires running { IsRunning world.now }
     requires no_head { head_of_line (first_line (pieces 10 text.now)) ≡ None }
     requires room { number + length text.now < 2 ^ 62 }
-    ensures verdict { (es : List TheStep) (gs : List (List TheLine)) (pt : Point) (n : ℕ) → Ran world.now.boot es gs pt (world_state world.now) →
-        IfOk result (λ ended. judged_from world.now.boot (judge.Head pt n) number (pieces 10 text.now) ≡ good_verdict n ended) }
-    ensures text { (es : List TheStep) (gs : List (List TheLine)) (pt : Point) → Ran world.now.boot es gs pt (world_state world.now) →
-        IfOk result (λ ended. text.now ≡ text_behind ended pt) }
-    ensures fits { (es : List TheStep) (gs : List (List TheLine)) (pt : Point) → Ran world.now.boot es gs pt (world_state world.now) →
-        IfOk result (λ ended. EndsFit ended pt) }
-    ensures refused { (es : List TheStep) (gs : List (List TheLine)) (pt : Point) (n : ℕ) → Ran world.now.boot es gs pt (world_state world.now) →
-        IfErr result (RefusedSo (judged_from world.now.boot (judge.Head pt n) number (pieces 10 text.now))) }
+    ensures verdict { (k : Course) (es : List TheStep) (gs : List (List TheLine)) → SaysAs world.now.boot k → Went world.now.boot es gs (world_state world.now) →
+        IfOk result (λ ended. judged_from k (judge.Head es) number (pieces 10 text.now) ≡ good_verdict (length es) ended) }
+    ensures text { IfOk result (λ ended. text.now ≡ text_behind ended (ends_of (length world.now.boot.machines) (world_state world.now))) }
+    ensures fits { IfOk result (λ ended. EndsFit ended (ends_of (length world.now.boot.machines) (world_state world.now))) }
+    ensures refused { (k : Course) (es : List TheStep) (gs : List (List TheLine)) → SaysAs world.now.boot k → Went world.now.boot es gs (world_state world.now) →
+        IfErr result (RefusedSo (judged_from k (judge.Head es) number (pieces 10 text.now))) }
 {
     if text.is_empty() {
         return Ok(false);

@@ -4,9 +4,9 @@ use Rattle.dm_check.proofs.Judging.{falls_at_end, refused_as}
 use Rattle.dm_check.proofs.follow.follow_end.Goals as goal
 
 pub returns-in-None-clause-refused : goal.returns-in-None-clause-refused
-returns-in-None-clause-refused c = λ b es n.
-    let due = judge.End (c.args.due.now ∷ es) n in
+returns-in-None-clause-refused c = λ k others n.
+    let due = judge.End (c.args.due.now ∷ others) n in
     let said : c.as_slice.result.now ≡ end_text c.args.due.now = c.as_slice.ensures.value ∙ c.in_default.ensures.written ∙ ap (λ (xs : List ℕ). xs ++ end_text c.args.due.now) c.clear.ensures.items in
-    refused_as (judged_from b due c.args.number (pieces 10 c.args.text.now)) c.refused.result c.args.number c.unless_none.result c.refused.ensures
-    (c.unless_none.ensures b due c.args.number
-    (falls_at_end b c.args.due.now es n c.args.number c.args.text.now (λ others e. c.in-None.ensures.none others (e ∙ ap (λ (t : List ℕ). t ++ others) (sym said)))))
+    refused_as (judged_from k due c.args.number (pieces 10 c.args.text.now)) c.refused.result c.args.number c.unless_none.result c.refused.ensures
+    (c.unless_none.ensures k due c.args.number
+    (falls_at_end k c.args.due.now others n c.args.number c.args.text.now (λ rest e. c.in-None.ensures.none rest (e ∙ ap (λ (t : List ℕ). t ++ rest) (sym said)))))
