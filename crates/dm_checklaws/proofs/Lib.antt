@@ -1,0 +1,9 @@
+pub mod Names
+pub mod Full
+pub mod Groups
+pub mod KeptNames
+pub mod Fulls
+pub mod Led
+pub mod Runs
+pub mod Printed
+pub mod First

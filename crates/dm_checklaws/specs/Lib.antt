@@ -1,0 +1,4 @@
+pub mod Verdict
+pub mod Good
+pub mod Laws
+pub mod First

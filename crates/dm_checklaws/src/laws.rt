@@ -1,0 +1,25 @@
+//! What the verdict is on what the system prints, whoever asks.
+ghost use Rattle.dm_checklaws.specs.First.{RefusalsAreFirst};
+ghost use Rattle.dm_checklaws.specs.Laws.{BeginningsAreOpen, RunsAreEnded, TracesAreGood};
+
+/// The text of good lines, each group for a directive that a schedule for this boot file can hold, is good, open; and with the
+/// lines at the end behind it good, ended.
+pub fn traces_are_good()
+    ensures { TracesAreGood }
+{}
+
+/// So is what a run prints of its first groups, rounds and settles taken apart.
+pub fn beginnings_are_open()
+    ensures { BeginningsAreOpen }
+{}
+
+/// And what a run prints to its end is good, ended.
+pub fn runs_are_ended()
+    ensures { RunsAreEnded }
+{}
+
+/// Where a text is refused, nothing behind its first bad line can help: each text with the same lines up to that one is refused there,
+/// for the same reason. That it is no line is said exactly where the line has no shape, or no line feed.
+pub fn refusals_are_first()
+    ensures { RefusalsAreFirst }
+{}
