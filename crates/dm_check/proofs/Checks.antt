@@ -116,9 +116,13 @@ checks_less b c quantum bytes rest number groups w v e lines slice x same equal 
 -- nor is a group that would route a message between two machines that count as many as they may
 none_worn : (b : Boot) (w : WorldState) (e : Step) (number from to : ℕ) (x : CheckError) → x ≡ no.Refused number NotDue → can_hold (length b.machines) e ≡ true → WearsBy b w e from to → NoGroup b w e number x
 none_worn b w e number from to x is held wears =
-    subst (NoGroup b w e number) (sym is) (refl, refl, λ k es gs bytes s went.
-      ap (λ (t : Bool). if t then begins_group k.quantum (k.group es e) (es ++ e ∷ []) bytes else Falls NotDue) (ap (λ (n : ℕ). can_hold n e) s.machines ∙ held)
-      ∙ ap (λ o. begins_group k.quantum o (es ++ e ∷ []) bytes) (s.worn es gs w e from to went wears))
+    subst (NoGroup b w e number) (sym is) (
+      refl,
+      refl,
+      λ k es gs bytes s went.
+          ap (λ (t : Bool). if t then begins_group k.quantum (k.group es e) (es ++ e ∷ []) bytes else Falls NotDue) (ap (λ (n : ℕ). can_hold n e) s.machines ∙ held)
+          ∙ ap (λ o. begins_group k.quantum o (es ++ e ∷ []) bytes) (s.worn es gs w e from to went wears),
+    )
 
 -- where its stop is that
 pub none_stopped : (b : Boot) (w : WorldState) (e : Step) (number from to : ℕ) (s : Stop) (x : CheckError) → s ≡ stop.Worn from to → x ≡ no.Refused number NotDue → can_hold (length b.machines) e ≡ true → StopsWorn b w e s → NoGroup b w e number x
