@@ -4,7 +4,7 @@ use Rattle.dm_commands.proofs.Names.{Status, Done, Usage, ReadFault, NoMemory, W
 use Rattle.dm_words.specs.Request.{Drill}
 use Rattle.dm_run.proofs.Carried.{Carries, carried_before_worn, carried_begun, carried_first, carried_picture, carried_run_wears, carried_whole}
 use Rattle.dm_run.specs.Notion.{Notion}
-use Rattle.dm_drill.proofs.Carried.{carried_drill_begun, carried_drill_first, carried_drill_wears, carried_drill_whole}
+use Rattle.dm_drill.proofs.Carried as drill
 use Rattle.dm_commands.specs.Charts.{BeginsPicture, ChartSays, IsPicture, ShowsBegun, ShowsWhole}
 use Rattle.dm_commands.specs.Checks.{CheckMeets, CheckSaying, CheckSays, IsGoodTrace, RefusesTrace, TraceMeans}
 use Rattle.dm_commands.specs.Commands.{CommandMeets, Terms}
@@ -44,15 +44,15 @@ chart_said r q b ds before after world (TraceRefused line why) c h = absurd h
 
 -- a drill
 drill_said : (r q : Notion) (d : TheDrill) (b : Boot) (ds : List Directive) (before after : Option (List ℕ)) (world : Option World) (s : Status) → Carries r q b ds → DrilledSays r d b ds before after world s → DrilledSays q d b ds before after world s
-drill_said r q d b ds before after world Done c h = carried_drill_whole r q d b ds before after world c h
+drill_said r q d b ds before after world Done c h = drill.carried_whole r q d b ds before after world c h
 drill_said r q d b ds before after world Usage c h = absurd h
 drill_said r q d b ds before after world (ReadFault i) c h = absurd h
-drill_said r q d b ds before after world (NoMemory lack) c h = carried_drill_first r q d.trace b ds before after c h
-drill_said r q d b ds before after world WriteFault c h = carried_drill_begun r q d b ds before after world c h
+drill_said r q d b ds before after world (NoMemory lack) c h = drill.carried_first r q d.trace b ds before after c h
+drill_said r q d b ds before after world WriteFault c h = drill.carried_begun r q d b ds before after world c h
 drill_said r q d b ds before after world (BootRefused number place) c h = absurd h
 drill_said r q d b ds before after world (ScheduleRefused line why) c h = absurd h
 drill_said r q d b ds before after world (TooLong i) c h = absurd h
-drill_said r q d b ds before after world (Worn from to) c h = carried_drill_wears r q d.trace b ds before after from to c h
+drill_said r q d b ds before after world (Worn from to) c h = drill.carried_drill_wears r q d.trace b ds before after from to c h
 drill_said r q d b ds before after world (TraceRefused line why) c h = absurd h
 
 -- a trace
