@@ -72,6 +72,7 @@ pub use Rattle.dm_run.specs.Runs.{IsFor, cursor_of}
 pub use Rattle.dm_run.specs.Way.{IsDone}
 pub use Rattle.dm_run.specs.Went.{ComesNext, Does, EndsMay, Led, NoneLeft, RunsGo, WearsBy, Went, begins, does, first_way, goes, starts, turns}
 pub use Rattle.dm_run.specs.declared.way.Way.{Way}
-pub use Rattle.dm_program.specs.Printed.{EndsWell, Lasts, RulePlace, RuleWears, Wears, WearsAfter, by_rule}
+pub use Rattle.dm_program.specs.Printed.{EndsWell, Lasts, RulePlace, RuleWears, Wears, WearsAfter}
 pub use Rattle.std.proofs.lemmas.Option.{get_or_from_slice_get, slice_get_within}
 pub use Rattle.std.proofs.lemmas.List.Elements.{All-get_or}
+pub use Rattle.std.specs.Prelude.{slice_get}

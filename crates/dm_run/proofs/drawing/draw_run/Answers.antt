@@ -1,5 +1,6 @@
-use Rattle.dm_drawing.proofs.Names.{subst, IfOk, Boot, Drawn, IsDrawn}
-use Rattle.dm_drawing.proofs.drawing.draw_run.Goals as goal
+use Rattle.std.specs.Prelude.{IfOk}
+use Rattle.dm_run.proofs.Names.{subst, Boot, Drawn, IsDrawn, by_world}
+use Rattle.dm_run.proofs.drawing.draw_run.Goals as goal
 
 pub returns : goal.returns
-returns c = subst (λ (b : Boot). IfOk c.draw_world.result (λ (d : Drawn). IsDrawn b c.args.directives.now d)) c.in_ok-world.ensures.boot c.draw_world.ensures
+returns c = subst (λ (b : Boot). IfOk c.draw_world.result (λ (d : Drawn). IsDrawn by_world b c.args.directives.now d)) c.in_ok-world.ensures.boot c.draw_world.ensures
