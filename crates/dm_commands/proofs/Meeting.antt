@@ -77,18 +77,19 @@ all_written k s e never = record { blames = sink_stays (k.faults k.old) (k.fault
 pub unwritten : {K : Type 0} (k : SinkAround K) (s : Status) → k.new ≡ k.old → (s ≡ WriteFault → ⊥) → MeetsSink k s
 unwritten k s e never = all_written k s (ap k.faults e) never
 
-asks_nothing : {F : Type 0} (names : Named) (f : ShelfAround F) → f.new ≡ f.old → ((name : List ℕ) → f.asked f.old name f.old) → Asks names f
+-- where nothing is asked for, no file is but these
+pub asks_nothing : {F : Type 0} (names : Named) (f : ShelfAround F) → f.new ≡ f.old → ((name : List ℕ) → f.asked f.old name f.old) → Asks names f
 asks_nothing Nothing f e nothing = e
 asks_nothing (Alone which name) f e nothing = subst (λ x. f.asked f.old name x) (sym e) (nothing name)
 asks_nothing (Both boot which name) f e nothing = inl (subst (λ x. f.asked f.old boot x) (sym e) (nothing boot))
 
 -- nothing was read
-pub unread : {F : Type 0} (names : Named) (f : ShelfAround F) (s : Status) → f.new ≡ f.old → ((name : List ℕ) → f.asked f.old name f.old) → ((i : Input) → s ≡ ReadFault i → ⊥) → MeetsShelf names f s
-unread names f s e nothing never = record {
+pub unread : {F : Type 0} (names : Named) (f : ShelfAround F) (s : Status) → f.new ≡ f.old → Asks names f → ((i : Input) → s ≡ ReadFault i → ⊥) → MeetsShelf names f s
+unread names f s e asks never = record {
   same = ap f.told e;
   blames = blames_nobody (f.faults f.old) (f.faults f.new) s (ap f.faults e) never;
   last = λ i h. absurd (never i h);
   counts = let x = ap f.faults e in omega (arith, x);
-  asks = asks_nothing names f e nothing;
+  asks = asks;
   fails = λ i h. absurd (never i h);
 }

@@ -6,7 +6,7 @@ use Rattle.dm_words.specs.declared.words.WordsError.TheVariants as why
 use Rattle.dm_ending.specs.declared.status.Input.TheVariants as input
 use Rattle.dm_commands.proofs.Checking as checking
 use Rattle.dm_commands.proofs.ExplainOutcomes as explaining
-use Rattle.dm_commands.proofs.Meeting.{unread, unwritten}
+use Rattle.dm_commands.proofs.Meeting.{asks_nothing, unread, unwritten}
 use Rattle.dm_commands.proofs.Running as running
 use Rattle.dm_commands.specs.Asked.{Both, Named, Nothing, perhaps_both}
 use Rattle.dm_commands.specs.Checks.{CheckMeets, CheckSaying, CheckSays}
@@ -39,23 +39,23 @@ no_write lack e = cc
 pub lacks_meets : {F K : Type 0} (t : Terms) (r : Option Request) (a : Around F K) (world : Option World) (lack : TheNoMemory) → IsSilent (DrilledSays t.run) → Fits r → Untouched a world → ((name : List ℕ) → a.shelf.asked a.shelf.old name a.shelf.old) → CommandMeets t r a world (NoMemory lack)
 lacks_meets t None a world lack quiet fits h nothing = record { why = inr (lack, refl); untouched = h }
 lacks_meets t (Some (Run boot schedule)) a world lack quiet fits h nothing =
-    running.never_meets (RunSays t.run) boot schedule a world (NoMemory lack) tt (unread (Both boot input.Schedule schedule) a.shelf (NoMemory lack) h.unread nothing (no_read lack)) h.unwritten h.no_world
+    running.never_meets (RunSays t.run) boot schedule a world (NoMemory lack) tt (unread (Both boot input.Schedule schedule) a.shelf (NoMemory lack) h.unread (asks_nothing (Both boot input.Schedule schedule) a.shelf h.unread nothing) (no_read lack)) h.unwritten h.no_world
 lacks_meets t (Some (Check boot trace)) a world lack quiet fits h nothing =
-    checking.never_meets (CheckSays t.trace) boot trace a world (NoMemory lack) tt (unread (Both boot input.Trace trace) a.shelf (NoMemory lack) h.unread nothing (no_read lack)) h.unwritten h.no_world
+    checking.never_meets (CheckSays t.trace) boot trace a world (NoMemory lack) tt (unread (Both boot input.Trace trace) a.shelf (NoMemory lack) h.unread (asks_nothing (Both boot input.Trace trace) a.shelf h.unread nothing) (no_read lack)) h.unwritten h.no_world
 lacks_meets t (Some (Chart boot schedule)) a world lack quiet fits h nothing = record {
-  as_run = running.never_meets (ChartSays t.run) boot schedule a world (NoMemory lack) tt (unread (Both boot input.Schedule schedule) a.shelf (NoMemory lack) h.unread nothing (no_read lack)) h.unwritten h.no_world;
+  as_run = running.never_meets (ChartSays t.run) boot schedule a world (NoMemory lack) tt (unread (Both boot input.Schedule schedule) a.shelf (NoMemory lack) h.unread (asks_nothing (Both boot input.Schedule schedule) a.shelf h.unread nothing) (no_read lack)) h.unwritten h.no_world;
   no_world = h.no_world;
 }
 lacks_meets t (Some (Explain boot schedule)) a world lack quiet fits h nothing =
     explaining.never_meets boot schedule a world (NoMemory lack) (explaining.wants_memory (a.shelf.told a.shelf.old) boot schedule (a.shelf.faults a.shelf.old) (a.shelf.faults a.shelf.new) lack)
-    (unread (perhaps_both boot schedule) a.shelf (NoMemory lack) h.unread nothing (no_read lack)) h.unwritten h.no_world
+    (unread (perhaps_both boot schedule) a.shelf (NoMemory lack) h.unread (asks_nothing (perhaps_both boot schedule) a.shelf h.unread nothing) (no_read lack)) h.unwritten h.no_world
 lacks_meets t (Some (Drill d)) a world lack quiet fits h nothing = record {
   within = fits;
   meets = record {
     says = silent (DrilledSays t.run) d (a.sink.told a.sink.old) (a.sink.told a.sink.new) world lack quiet (ap a.sink.told h.unwritten) h.no_world;
     sink = unwritten a.sink (NoMemory lack) h.unwritten (no_write lack);
   };
-  shelf = unread Nothing a.shelf (NoMemory lack) h.unread nothing (no_read lack);
+  shelf = unread Nothing a.shelf (NoMemory lack) h.unread h.unread (no_read lack);
 }
 
 -- there are no words of a command
@@ -91,16 +91,16 @@ explain_taken boot schedule a world s h e = elim h.as_run [
     unnamed files boot (Some schedule) old new h = h
 
 -- what it promises of the shelf and of the sink, whatever its words ask for
-pub command_met : {F K : Type 0} (t : Terms) (r : Option Request) (a : Around F K) (world : Option World) (s : Status) → ((name : List ℕ) → a.shelf.asked a.shelf.old name a.shelf.old) → CommandMeets t r a world s → MeetsOutside (named_in r) a s
-command_met t None a world s nothing h = record {
-  shelf = unread Nothing a.shelf s h.untouched.unread nothing (λ i e. elim h.why [ inl usage ↦ let f : Usage ≡ ReadFault i = sym usage ∙ e in cc | inr want ↦ no_read want.0 i (sym want.1 ∙ e) ]);
+pub command_met : {F K : Type 0} (t : Terms) (r : Option Request) (a : Around F K) (world : Option World) (s : Status) → CommandMeets t r a world s → MeetsOutside (named_in r) a s
+command_met t None a world s h = record {
+  shelf = unread Nothing a.shelf s h.untouched.unread h.untouched.unread (λ i e. elim h.why [ inl usage ↦ let f : Usage ≡ ReadFault i = sym usage ∙ e in cc | inr want ↦ no_read want.0 i (sym want.1 ∙ e) ]);
   sink = unwritten a.sink s h.untouched.unwritten (λ e. elim h.why [ inl usage ↦ let f : Usage ≡ WriteFault = sym usage ∙ e in cc | inr want ↦ no_write want.0 (sym want.1 ∙ e) ]);
 }
-command_met t (Some (Run boot schedule)) a world s nothing h = h.met
-command_met t (Some (Check boot trace)) a world s nothing h = h.met
-command_met t (Some (Chart boot schedule)) a world s nothing h = h.as_run.met
-command_met t (Some (Explain boot schedule)) a world s nothing h = h.met
-command_met t (Some (Drill d)) a world s nothing h = record { shelf = h.shelf; sink = h.meets.sink }
+command_met t (Some (Run boot schedule)) a world s h = h.met
+command_met t (Some (Check boot trace)) a world s h = h.met
+command_met t (Some (Chart boot schedule)) a world s h = h.as_run.met
+command_met t (Some (Explain boot schedule)) a world s h = h.met
+command_met t (Some (Drill d)) a world s h = record { shelf = h.shelf; sink = h.meets.sink }
 
 -- a drill says of no read that it failed, and is none of words that were refused
 pub drilled_unread : {K : Type 0} (r : Notion) (d : TheDrill) (k : SinkAround K) (world : Option World) (s : Status) → DrillMeets (DrilledSays r) d k world s → (i : Input) → s ≡ ReadFault i → ⊥

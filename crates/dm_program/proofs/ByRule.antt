@@ -29,11 +29,11 @@ by_rule = record {
   traces = carries_traces;
 }
 
-pub program_meets : {F K : Type 0} (r : Option Request) (a : Around F K) (world : Option World) (s : Status) → ((name : List ℕ) → a.shelf.asked a.shelf.old name a.shelf.old) → CommandMeets of_world r a world s → ProgramMeets r a world s
-program_meets r a world s nothing h =
+pub program_meets : {F K : Type 0} (r : Option Request) (a : Around F K) (world : Option World) (s : Status) → CommandMeets of_world r a world s → ProgramMeets r a world s
+program_meets r a world s h =
     let does = carried of_world of_rule r a world s by_rule h in
-    record { does = does; decided = decided r a world s does; met = command_met of_rule r a world s nothing does }
+    record { does = does; decided = decided r a world s does; met = command_met of_rule r a world s does }
 
 -- nothing was done for want of memory
 pub program_lacks : {F K : Type 0} (r : Option Request) (a : Around F K) (world : Option World) (lack : TheNoMemory) → Fits r → Untouched a world → ((name : List ℕ) → a.shelf.asked a.shelf.old name a.shelf.old) → ProgramMeets r a world (NoMemory lack)
-program_lacks r a world lack fits untouched nothing = program_meets r a world (NoMemory lack) nothing (lacks_meets of_world r a world lack silent fits untouched nothing)
+program_lacks r a world lack fits untouched nothing = program_meets r a world (NoMemory lack) (lacks_meets of_world r a world lack silent fits untouched nothing)

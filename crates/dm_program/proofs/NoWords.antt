@@ -14,12 +14,12 @@ writes_none : (reason : WordsError) → status_of_no reason ≡ WriteFault → �
 writes_none why.Usage e = cc
 writes_none (why.NoMemory lack) e = cc
 
-pub no_words : {F K : Type 0} (reason : WordsError) (a : Around F K) (world : Option World) (s : Status) → s ≡ status_of_no reason → Untouched a world → ((name : List ℕ) → a.shelf.asked a.shelf.old name a.shelf.old) → HasNoWords reason a world s
-no_words reason a world s e h nothing = record {
+pub no_words : {F K : Type 0} (reason : WordsError) (a : Around F K) (world : Option World) (s : Status) → s ≡ status_of_no reason → Untouched a world → HasNoWords reason a world s
+no_words reason a world s e h = record {
   why = e;
   untouched = h;
   met = record {
-    shelf = unread Nothing a.shelf s h.unread nothing (λ i f. reads_none reason i (sym e ∙ f));
+    shelf = unread Nothing a.shelf s h.unread h.unread (λ i f. reads_none reason i (sym e ∙ f));
     sink = unwritten a.sink s h.unwritten (λ f. writes_none reason (sym e ∙ f));
   };
 }

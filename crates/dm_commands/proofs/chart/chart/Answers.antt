@@ -1,10 +1,19 @@
 use Rattle.dm_commands.proofs.Names.{List, subst, sym, Directive, None, Status}
 use Rattle.dm_run.specs.Notion.{by_world}
-use Rattle.dm_run.specs.Pictured.{IsBeforeWorn, IsDrawn}
+use Rattle.dm_run.specs.Pictured.{IsBeforeWorn, IsDrawn, PictureIsWhole}
 use Rattle.dm_run.specs.declared.drawing.Drawn.{Drawn}
-use Rattle.dm_commands.proofs.Charting.{worn_says}
+use Rattle.dm_commands.proofs.Charting.{whole_says, worn_says}
 use Rattle.dm_commands.specs.Charts.{ChartSays}
 use Rattle.dm_commands.proofs.chart.chart.Goals as goal
+
+pub returns-in-Ok-Whole-clause-says : goal.returns-in-Ok-Whole-clause-says
+returns-in-Ok-Whole-clause-says g c =
+    let drawn : PictureIsWhole by_world c.args.inputs.boot c.args.inputs.directives.items c.in-Ok-Whole.text.items =
+    subst (λ (ds : List Directive). PictureIsWhole by_world c.args.inputs.boot ds c.in-Ok-Whole.text.items) c.as_slice.ensures.value
+    (subst (λ (d : Drawn). IsDrawn by_world c.args.inputs.boot c.as_slice.result.now d) c.in-Ok-Whole.field-0-is c.in-Ok-Whole.ensures) in
+    subst (λ (s : Status). ChartSays by_world c.args.inputs.boot c.args.inputs.directives.items (g.K.Sink.told c.args.out.now) (g.K.Sink.told c.write_all.new.sink) None s) (sym c.ended.ensures)
+    (whole_says by_world c.args.inputs.boot c.args.inputs.directives.items c.in-Ok-Whole.text.items (g.K.Sink.told c.args.out.now) (g.K.Sink.told c.write_all.new.sink) c.write_all.result drawn
+    (rw c.as_slice-in-Ok-Whole.ensures.value at c.write_all.ensures.all) (rw c.as_slice-in-Ok-Whole.ensures.value at c.write_all.ensures.cut))
 
 pub returns-in-Ok-Worn-clause-says : goal.returns-in-Ok-Worn-clause-says
 returns-in-Ok-Worn-clause-says g c =

@@ -4,6 +4,7 @@ use Rattle.dm_commands.proofs.Drills.{drill_says}
 use Rattle.dm_commands.proofs.Running.{ended_sink}
 use Rattle.dm_commands.specs.Drills.{DrilledSays}
 use Rattle.dm_commands.specs.Meets.{MeetsSink}
+use Rattle.dm_commands.specs.Outside.{sink_around}
 use Rattle.dm_commands.proofs.drill.run.Goals as goal
 
 pub returns-in-Ok-clause-says : goal.returns-in-Ok-clause-says
@@ -17,7 +18,8 @@ returns-in-Ok-clause-says g c =
 pub returns-in-Ok-clause-sink : goal.returns-in-Ok-clause-sink
 returns-in-Ok-clause-sink g c =
     let r = c.run_drill-ended in
-    subst (λ (s : Status). MeetsSink _ s) (sym c.status_of.ensures) (ended_sink _ r.result r.ensures.blames r.ensures.last r.ensures.writes)
+    let k = sink_around g.K.Sink.told g.K.Sink.faults g.K.Sink.last_failed c.args.out.now r.new.out in
+    subst (λ (s : Status). MeetsSink k s) (sym c.status_of.ensures) (ended_sink k r.result r.ensures.blames r.ensures.last r.ensures.writes)
 
 pub returns-clause-says : goal.returns-clause-says
 returns-clause-says g c = nothing_drilled c.args.drill.now.trace c.args.drawn.boot c.args.drawn.directives.items (g.K.Sink.told c.args.out.now)

@@ -4,6 +4,7 @@ use Rattle.dm_run.specs.Coming.{Ended}
 use Rattle.dm_run.specs.Notion.{by_world}
 use Rattle.dm_commands.proofs.Running.{ended_sink, run_says}
 use Rattle.dm_commands.specs.Meets.{MeetsSink}
+use Rattle.dm_commands.specs.Outside.{sink_around}
 use Rattle.dm_commands.specs.Runs.{RunSays}
 use Rattle.dm_commands.proofs.run.run.Goals as goal
 
@@ -18,7 +19,8 @@ returns-in-Ok-clause-says g c =
 pub returns-in-Ok-clause-sink : goal.returns-in-Ok-clause-sink
 returns-in-Ok-clause-sink g c =
     let r = c.run_to_end-ended in
-    subst (λ (s : Status). MeetsSink _ s) (sym c.status_of.ensures) (ended_sink _ r.result r.ensures.blames r.ensures.last r.ensures.writes)
+    let k = sink_around g.K.Sink.told g.K.Sink.faults g.K.Sink.last_failed c.args.out.now r.new.out in
+    subst (λ (s : Status). MeetsSink k s) (sym c.status_of.ensures) (ended_sink k r.result r.ensures.blames r.ensures.last r.ensures.writes)
 
 pub returns-clause-says : goal.returns-clause-says
 returns-clause-says g c = nothing_printed c.args.inputs.boot c.args.inputs.directives.items (g.K.Sink.told c.args.out.now)

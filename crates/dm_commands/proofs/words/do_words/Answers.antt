@@ -1,4 +1,4 @@
-use Rattle.dm_commands.proofs.Names.{rules, ◌≡◌, ◌∙◌, List, ℕ, ap, map, refl, sym, subst, Option, None, Some, Status, TheRequest, request_of, request_said, IsInRange}
+use Rattle.dm_commands.proofs.Names.{rules, ◌≡◌, ◌∙◌, List, ℕ, ap, map, refl, sym, subst, Option, None, Some, Status, Request, TheRequest, request_of, request_said, IsInRange}
 use Rattle.dm_run.specs.Notion.{by_world}
 use Rattle.dm_words.proofs.Ranges.{asked_fits}
 use Rattle.dm_commands.proofs.Meeting.{unread}
@@ -8,49 +8,54 @@ use Rattle.dm_commands.specs.Asked.{Nothing}
 use Rattle.dm_commands.specs.Charts.{ChartSays}
 use Rattle.dm_commands.specs.Checks.{CheckSays}
 use Rattle.dm_commands.specs.Commands.{CommandMeets}
+use Rattle.dm_commands.specs.Outside.{around, shelf_around, sink_around}
 use Rattle.dm_commands.specs.Runs.{RunSays}
 use Rattle.dm_commands.specs.Says.{of_world, traced_by_world}
 use Rattle.dm_commands.proofs.words.do_words.Goals as goal
 
 pub returns-in-Ok-Run-clause-meets : goal.returns-in-Ok-Run-clause-meets
 returns-in-Ok-Run-clause-meets g c =
-    subst (λ (r : Option Request). CommandMeets of_world r _ c.run_files.new.world c.run_files.result) (sym (c.in-Ok-Run.ensures.asks ∙ ap (λ (r : TheRequest). Some (request_said r)) c.in-Ok-Run.field-0-is)) c.run_files.ensures.meets
+    let a = around (shelf_around g.F.Shelf.asked g.F.Shelf.told g.F.Shelf.faults g.F.Shelf.last_failed c.args.shelf.now c.run_files.new.shelf) (sink_around g.K.Sink.told g.K.Sink.faults g.K.Sink.last_failed c.args.out.now c.run_files.new.out) in
+    subst (λ (r : Option Request). CommandMeets of_world r a c.run_files.new.world c.run_files.result) (sym (c.in-Ok-Run.ensures.asks ∙ ap (λ (r : TheRequest). Some (request_said r)) c.in-Ok-Run.field-0-is)) c.run_files.ensures.meets
 
 pub returns-in-Ok-Run-clause-refused : goal.returns-in-Ok-Run-clause-refused
 returns-in-Ok-Run-clause-refused g c = λ usage taken. run_taken (RunSays by_world) _ _ _ _ c.run_files.result (λ b ds before after w h. h) c.run_files.ensures.meets usage
 
 pub returns-in-Ok-Check-clause-meets : goal.returns-in-Ok-Check-clause-meets
 returns-in-Ok-Check-clause-meets g c =
-    subst (λ (r : Option Request). CommandMeets of_world r _ None c.check_files.result) (sym (c.in-Ok-Check.ensures.asks ∙ ap (λ (r : TheRequest). Some (request_said r)) c.in-Ok-Check.field-0-is)) c.check_files.ensures.meets
+    let a = around (shelf_around g.F.Shelf.asked g.F.Shelf.told g.F.Shelf.faults g.F.Shelf.last_failed c.args.shelf.now c.check_files.new.shelf) (sink_around g.K.Sink.told g.K.Sink.faults g.K.Sink.last_failed c.args.out.now c.check_files.new.out) in
+    subst (λ (r : Option Request). CommandMeets of_world r a None c.check_files.result) (sym (c.in-Ok-Check.ensures.asks ∙ ap (λ (r : TheRequest). Some (request_said r)) c.in-Ok-Check.field-0-is)) c.check_files.ensures.meets
 
 pub returns-in-Ok-Check-clause-refused : goal.returns-in-Ok-Check-clause-refused
 returns-in-Ok-Check-clause-refused g c = λ usage taken. check_taken (CheckSays traced_by_world) _ _ _ _ c.check_files.result (λ b bytes before after h. h) c.check_files.ensures.meets usage
 
 pub returns-in-Ok-Chart-clause-meets : goal.returns-in-Ok-Chart-clause-meets
 returns-in-Ok-Chart-clause-meets g c =
-    subst (λ (r : Option Request). CommandMeets of_world r _ None c.chart_files.result) (sym (c.in-Ok-Chart.ensures.asks ∙ ap (λ (r : TheRequest). Some (request_said r)) c.in-Ok-Chart.field-0-is)) c.chart_files.ensures.meets
+    let a = around (shelf_around g.F.Shelf.asked g.F.Shelf.told g.F.Shelf.faults g.F.Shelf.last_failed c.args.shelf.now c.chart_files.new.shelf) (sink_around g.K.Sink.told g.K.Sink.faults g.K.Sink.last_failed c.args.out.now c.chart_files.new.out) in
+    subst (λ (r : Option Request). CommandMeets of_world r a None c.chart_files.result) (sym (c.in-Ok-Chart.ensures.asks ∙ ap (λ (r : TheRequest). Some (request_said r)) c.in-Ok-Chart.field-0-is)) c.chart_files.ensures.meets
 
 pub returns-in-Ok-Chart-clause-refused : goal.returns-in-Ok-Chart-clause-refused
 returns-in-Ok-Chart-clause-refused g c = λ usage taken. run_taken (ChartSays by_world) _ _ _ _ c.chart_files.result (λ b ds before after w h. h) c.chart_files.ensures.meets.as_run usage
 
 pub returns-in-Ok-Explain-clause-meets : goal.returns-in-Ok-Explain-clause-meets
 returns-in-Ok-Explain-clause-meets g c =
-    subst (λ (r : Option Request). CommandMeets of_world r _ None c.explain_files.result) (sym (c.in-Ok-Explain.ensures.asks ∙ ap (λ (r : TheRequest). Some (request_said r)) c.in-Ok-Explain.field-0-is)) c.explain_files.ensures.meets
+    let a = around (shelf_around g.F.Shelf.asked g.F.Shelf.told g.F.Shelf.faults g.F.Shelf.last_failed c.args.shelf.now c.explain_files.new.shelf) (sink_around g.K.Sink.told g.K.Sink.faults g.K.Sink.last_failed c.args.out.now c.explain_files.new.out) in
+    subst (λ (r : Option Request). CommandMeets of_world r a None c.explain_files.result) (sym (c.in-Ok-Explain.ensures.asks ∙ ap (λ (r : TheRequest). Some (request_said r)) c.in-Ok-Explain.field-0-is)) c.explain_files.ensures.meets
 
 pub returns-in-Ok-Explain-clause-refused : goal.returns-in-Ok-Explain-clause-refused
 returns-in-Ok-Explain-clause-refused g c = λ usage taken. explain_taken _ _ _ _ c.explain_files.result c.explain_files.ensures.meets usage
 
 pub drill-requires : goal.drill-requires
-drill-requires g c = record { law = c.requires; within = subst IsInRange c.in-Ok-Drill.field-0-is c.in-Ok-Drill.ensures.within }
+drill-requires g c = record { law = c.requires.law; within = subst IsInRange c.in-Ok-Drill.field-0-is c.in-Ok-Drill.ensures.within }
 
 pub returns-in-Ok-Drill-clause-meets : goal.returns-in-Ok-Drill-clause-meets
 returns-in-Ok-Drill-clause-meets g c =
-    let nothing : (name : List ℕ) → g.F.Shelf.asked c.args.shelf.now name c.args.shelf.now = λ name. search rules in
-    subst (λ (r : Option Request). CommandMeets of_world r _ c.drill.new.world c.drill.result) (sym (c.in-Ok-Drill.ensures.asks ∙ ap (λ (r : TheRequest). Some (request_said r)) c.in-Ok-Drill.field-0-is))
+    let a = around (shelf_around g.F.Shelf.asked g.F.Shelf.told g.F.Shelf.faults g.F.Shelf.last_failed c.args.shelf.now c.args.shelf.now) (sink_around g.K.Sink.told g.K.Sink.faults g.K.Sink.last_failed c.args.out.now c.drill.new.out) in
+    subst (λ (r : Option Request). CommandMeets of_world r a c.drill.new.world c.drill.result) (sym (c.in-Ok-Drill.ensures.asks ∙ ap (λ (r : TheRequest). Some (request_said r)) c.in-Ok-Drill.field-0-is))
     (record {
       within = subst IsInRange c.in-Ok-Drill.field-0-is c.in-Ok-Drill.ensures.within;
       meets = c.drill.ensures.meets;
-      shelf = unread Nothing _ c.drill.result refl nothing (drilled_unread by_world c.in-Ok-Drill.drawn _ c.drill.new.world c.drill.result c.drill.ensures.meets);
+      shelf = unread Nothing a.shelf c.drill.result refl refl (drilled_unread by_world c.in-Ok-Drill.drawn a.sink c.drill.new.world c.drill.result c.drill.ensures.meets);
     })
 
 pub returns-in-Ok-Drill-clause-refused : goal.returns-in-Ok-Drill-clause-refused
@@ -59,5 +64,6 @@ returns-in-Ok-Drill-clause-refused g c = λ usage taken. drill_taken by_world c.
 pub returns-in-Err-clause-meets : goal.returns-in-Err-clause-meets
 returns-in-Err-clause-meets g c =
     let nothing : (name : List ℕ) → g.F.Shelf.asked c.args.shelf.now name c.args.shelf.now = λ name. search rules in
-    subst (λ (s : Status). CommandMeets of_world (request_of (map (λ w. w.now) c.args.words.now)) _ None s) (sym c.status.ensures)
-    (no_request of_world (request_of (map (λ w. w.now) c.args.words.now)) _ None c.in-Err.no silent (asked_fits (map (λ w. w.now) c.args.words.now)) (record { unread = refl; unwritten = refl; no_world = refl }) nothing c.in-Err.ensures.usage)
+    let a = around (shelf_around g.F.Shelf.asked g.F.Shelf.told g.F.Shelf.faults g.F.Shelf.last_failed c.args.shelf.now c.args.shelf.now) (sink_around g.K.Sink.told g.K.Sink.faults g.K.Sink.last_failed c.args.out.now c.args.out.now) in
+    subst (λ (s : Status). CommandMeets of_world (request_of (map (λ w. w.now) c.args.words.now)) a None s) (sym c.status.ensures)
+    (no_request of_world (request_of (map (λ w. w.now) c.args.words.now)) a None c.in-Err.no silent (asked_fits (map (λ w. w.now) c.args.words.now)) (record { unread = refl; unwritten = refl; no_world = refl }) nothing c.in-Err.ensures.usage)
