@@ -10,10 +10,9 @@ ghost use Rattle.dm_commands.specs.Meets.{MeetsSink};
 ghost use Rattle.dm_commands.specs.Outside.{around, shelf_around, sink_around};
 
 use crate::inputs::{Inputs, read_files};
-use dm_run::{Drawn, draw_run};
 use dm_ending::status::Status;
 use dm_outside::{Failed, Shelf, Sink};
-use dm_run::write_all;
+use dm_run::{Drawn, draw_run, write_all};
 use dm_schedule::MOST_SCHEDULE;
 use std::alloc::Global;
 
@@ -28,7 +27,7 @@ pub fn chart_files<F: Shelf, K: Sink>(
     requires law { RunsGo }
     ensures meets { ChartMeets (ChartSays by_world) boot.now schedule.now
         (around (shelf_around F.asked F.told F.faults F.last_failed shelf.old shelf.new)
-            (sink_around K.told K.faults K.last_failed out.old out.new)) None result }
+        (sink_around K.told K.faults K.last_failed out.old out.new)) None result }
 {
     match read_files(alloc, boot, schedule, shelf) {
         Ok(inputs) => chart(alloc, inputs, out),

@@ -27,7 +27,7 @@ pub fn check_files<F: Shelf, K: Sink>(
     requires law { RunsGo }
     ensures meets { CheckMeets (CheckSays traced_by_world) boot.now trace.now
         (around (shelf_around F.asked F.told F.faults F.last_failed shelf.old shelf.new)
-            (sink_around K.told K.faults K.last_failed out.old out.new)) None result }
+        (sink_around K.told K.faults K.last_failed out.old out.new)) None result }
 {
     match read_trace_files(alloc, boot, trace, shelf) {
         Ok(traced) => check(alloc, traced, out),

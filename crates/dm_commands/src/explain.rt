@@ -36,7 +36,7 @@ pub fn explain_files<F: Shelf, K: Sink>(
 ) -> Status
     ensures meets { ExplainMeets boot.now (option_map (λ s. s.now) schedule.entry)
         (around (shelf_around F.asked F.told F.faults F.last_failed shelf.old shelf.new)
-            (sink_around K.told K.faults K.last_failed out.old out.new)) None result }
+        (sink_around K.told K.faults K.last_failed out.old out.new)) None result }
 {
     match tell_files(alloc, boot, schedule, shelf) {
         Ok(told) => say(&told, out),

@@ -30,7 +30,7 @@ pub fn run_files<F: Shelf, K: Sink>(
     requires law { RunsGo }
     ensures meets { RunMeets (RunSays by_world) boot.now schedule.now
         (around (shelf_around F.asked F.told F.faults F.last_failed shelf.old shelf.new)
-            (sink_around K.told K.faults K.last_failed out.old out.new)) world.new result }
+        (sink_around K.told K.faults K.last_failed out.old out.new)) world.new result }
 {
     *world = None;
     match read_files(alloc, boot, schedule, shelf) {

@@ -28,7 +28,7 @@ pub fn do_words<F: Shelf, K: Sink>(
     requires law { RunsGo }
     ensures meets { CommandMeets of_world (request_of (map (λ w. w.now) words.now))
         (around (shelf_around F.asked F.told F.faults F.last_failed shelf.old shelf.new)
-            (sink_around K.told K.faults K.last_failed out.old out.new)) world.new result }
+        (sink_around K.told K.faults K.last_failed out.old out.new)) world.new result }
     ensures refused { result ≡ Status.Usage → IsTaken (map (λ w. w.now) words.now) → ⊥ }
 {
     *world = None;

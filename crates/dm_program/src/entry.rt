@@ -47,7 +47,7 @@ pub fn finish<F: Shelf, K: Sink, E: Sink>(
 ) -> ExitCode
     ensures { Finishes given
         (around (shelf_around F.asked F.told F.faults F.last_failed shelf.old shelf.new)
-            (sink_around K.told K.faults K.last_failed out.old out.new))
+        (sink_around K.told K.faults K.last_failed out.old out.new))
         (sink_around E.told E.faults E.last_failed errors.old errors.new) result }
 {
     let mut world = None;
@@ -66,7 +66,7 @@ pub fn run_given<F: Shelf, K: Sink>(
 ) -> Status
     ensures meets { GivenMeets given
         (around (shelf_around F.asked F.told F.faults F.last_failed shelf.old shelf.new)
-            (sink_around K.told K.faults K.last_failed out.old out.new)) world.new result }
+        (sink_around K.told K.faults K.last_failed out.old out.new)) world.new result }
     ensures refused { IfOk given (λ words. result ≡ Status.Usage → IsTaken (map string_bytes words.items) → ⊥) }
 {
     *world = None;

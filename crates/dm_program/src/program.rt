@@ -20,7 +20,7 @@ pub fn run_program<F: Shelf, K: Sink>(
 ) -> Status
     ensures meets { ProgramMeets (request_of (map (λ w. w.now) words.now))
         (around (shelf_around F.asked F.told F.faults F.last_failed shelf.old shelf.new)
-            (sink_around K.told K.faults K.last_failed out.old out.new)) world.new result }
+        (sink_around K.told K.faults K.last_failed out.old out.new)) world.new result }
     ensures refused { result ≡ Status.Usage → IsTaken (map (λ w. w.now) words.now) → ⊥ }
 {
     do_words(alloc, words, shelf, out, world)
