@@ -1,0 +1,5 @@
+pub mod Further
+pub mod Changes
+pub mod Calls
+pub mod Servers
+pub mod Runs
