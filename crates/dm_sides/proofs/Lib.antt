@@ -3,3 +3,4 @@ pub mod Changes
 pub mod Calls
 pub mod Servers
 pub mod Runs
+pub mod Printed
