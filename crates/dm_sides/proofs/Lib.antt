@@ -1,0 +1,6 @@
+pub mod Further
+pub mod Changes
+pub mod Calls
+pub mod Servers
+pub mod Runs
+pub mod Printed
