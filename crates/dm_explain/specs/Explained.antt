@@ -13,7 +13,7 @@ use Rattle.dm_explain.specs.declared.explain.BootTold.TheVariants as boot
 use Rattle.dm_explain.specs.declared.explain.ScheduleTold.{ScheduleTold}
 use Rattle.dm_explain.specs.declared.explain.ScheduleTold.TheVariants as schedule
 use Rattle.dm_explain.specs.Schedules.{directives_told, line_told}
-use Rattle.dm_explain.specs.System.{system_told}
+use Rattle.dm_explain.specs.SystemParts.{told_with_parts}
 use Rattle.dm_explain.specs.Told.{broken_told}
 
 -- the line of what stands behind these bytes
@@ -41,10 +41,10 @@ abbrev pub TellsBroken : List ℕ → Option Members → BootRule → ℕ → Li
 TellsBroken bytes None rule place text = TellsUnread bytes text
 TellsBroken bytes (Some ms) rule place text = text ≡ broken_told rule place (table ms)
 
--- a document that breaks none
+-- a document that breaks none: the system, and its parts
 abbrev pub TellsSystem : Option Members → Boot → List ℕ → Type 0
 TellsSystem None b text = ⊥
-TellsSystem (Some ms) b text = text ≡ system_told b (table ms)
+TellsSystem (Some ms) b text = text ≡ told_with_parts b (table ms)
 
 pub record TellsBoot (bytes : List ℕ) (b : Boot) (text : List ℕ) : Type 0 where
   pub says : boot_of bytes ≡ Ok b

@@ -4,5 +4,6 @@ pub mod Wanted
 pub mod Faults
 pub mod Told
 pub mod System
+pub mod SystemParts
 pub mod Schedules
 pub mod Explained

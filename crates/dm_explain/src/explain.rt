@@ -5,12 +5,13 @@ ghost use Rattle.toml.specs.Data.{table};
 ghost use Rattle.toml.specs.View.{view};
 ghost use Rattle.dm_boot.specs.Boot.{document_of};
 ghost use Rattle.dm_explain.specs.Explained.{ExplainsBoot, ExplainsSchedule, IsLineSaid, IsToldValid, line_behind, unread_told};
-ghost use Rattle.dm_explain.specs.System.{system_told};
+ghost use Rattle.dm_explain.specs.SystemParts.{told_with_parts};
 ghost use Rattle.dm_explain.specs.Told.{broken_told};
 
 use crate::part::{Part, put, put_parts};
 use crate::schedule::{put_directives, put_line};
 use crate::system::put_system;
+use crate::system_parts::put_system_parts;
 use crate::told::put_broken;
 use dm_boot::{BootError, BootRule, read_boot};
 use dm_memory::NoMemory;
@@ -85,12 +86,13 @@ fn explain_top(alloc: Global, bytes: &[u8], top: &Value) -> Result<BootTold, NoM
     }
 }
 
-/// What a boot file says.
+/// What a boot file says, and the parts of its system.
 fn system_text(alloc: Global, boot: &Boot, top: &Value) -> Result<Vec<u8>, NoMemory>
-    ensures { IfOk result (λ text. text.items ≡ system_told boot.now (view top.now)) }
+    ensures { IfOk result (λ text. text.items ≡ told_with_parts boot.now (view top.now)) }
 {
     let mut text = Vec::new(alloc);
     put_system(&mut text, boot, top)?;
+    put_system_parts(alloc, &mut text, boot, top)?;
     Ok(text)
 }
 

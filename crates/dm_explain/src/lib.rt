@@ -7,6 +7,7 @@ mod line;
 mod part;
 mod schedule;
 mod system;
+mod system_parts;
 mod told;
 mod wanted;
 

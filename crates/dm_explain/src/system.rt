@@ -223,7 +223,7 @@ fn rights_word(read: bool, write: bool) -> &'static str
 
 /// The text at a key of the table at a place; empty where there is none.
 #[tactic(auto, using(dm_boot::proofs::Elements::found_lemmas, crate::proofs::Loops::missing_lemmas))]
-fn text_in<'a>(tables: &'a [Value], place: usize, key: &str) -> &'a str
+pub fn text_in<'a>(tables: &'a [Value], place: usize, key: &str) -> &'a str
     ensures { result.now ≡ text_in key.now (get_item place (items_view tables.now)) }
 {
     match tables.get(place) {
