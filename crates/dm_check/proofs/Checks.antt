@@ -1,7 +1,7 @@
 -- How far a text has been checked, group by group.
-use Rattle.dm_check.proofs.Names.{◌≡◌, ◌≤◌, ◌<◌, ℕ, suc, ◌+◌, Bool, true, false, if◌then◌else◌, List, [], ◌∷◌, ◌++◌, length, refl, ap, sym, ◌∙◌, subst, append_assoc, append-nil, length-append, arith, Some, None, All, All-nil, All-cons}
-use Rattle.dm_check.proofs.Names.{All-append, Boot, Step, Line, LineFits, pieces, text_of_lines, WorldState, Says, joined, Stop, Went, goes, Does, WearsBy, StopsWorn, NotDue, CheckError, HasChecked, NoGroup, RefusedSo, ComesTo, RefusedBy, SaysAs}
-use Rattle.dm_check.proofs.Names.{first_line, head_of_line, AllHeld, AreHeads, Course, Verdict, Refused, Falls, Stands, at_head, behind_line, begins_group, can_hold, judged_from, verdict_by}
+use Rattle.dm_check.proofs.Names.{◌≡◌, ◌<◌, ℕ, ◌+◌, Bool, true, if◌then◌else◌, List, [], ◌∷◌, ◌++◌, length, refl, ap, sym, ◌∙◌, subst, append_assoc, append-nil, length-append, arith, Some, All, All-nil, All-cons}
+use Rattle.dm_check.proofs.Names.{All-append, Boot, Step, Line, LineFits, pieces, text_of_lines, WorldState, joined, Stop, Went, goes, Does, WearsBy, StopsWorn, NotDue, CheckError, HasChecked, NoGroup, RefusedSo, ComesTo, RefusedBy, SaysAs}
+use Rattle.dm_check.proofs.Names.{first_line, head_of_line, AllHeld, AreHeads, Course, Verdict, Refused, Falls, behind_line, begins_group, can_hold, judged_from, verdict_by}
 use Rattle.dm_line.specs.declared.line.Line.TheVariants as line
 use Rattle.dm_node.specs.declared.stop.Stop.TheVariants as stop
 use Rattle.dm_check.specs.declared.stop.CheckError.TheVariants as no

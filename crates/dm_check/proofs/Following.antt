@@ -1,7 +1,7 @@
 -- Lines that are due, one after another.
-use Rattle.dm_check.proofs.Names.{◌≡◌, ◌<◌, ◌≤◌, ℕ, suc, ◌+◌, ◌==◌, Bool, true, false, List, [], ◌∷◌, ◌++◌, length, take, drop, get_or, drop-cons, refl, ap, sym, ◌∙◌, subst, append_assoc, append-nil, length-append, arith, Bor, Some, None}
-use Rattle.dm_check.proofs.Names.{All, starts_with, nat_eq, codes, take_more, drop-length, take-length, Step, Line, EndLine, Course, end_words, EndFits, LineFits, pieces, line_words, spaced, spelled_line, text, end_text, text_of_ends}
-use Rattle.dm_check.proofs.Names.{text_of_lines, IsFull, CheckError, RefusedSo, Verdict, Ended, behind_line, judged_from}
+use Rattle.dm_check.proofs.Names.{◌≡◌, ◌<◌, ◌≤◌, ℕ, suc, ◌+◌, List, [], ◌∷◌, ◌++◌, length, take, drop, get_or, drop-cons, refl, ap, sym, ◌∙◌, subst, append_assoc, append-nil, length-append, arith}
+use Rattle.dm_check.proofs.Names.{All, codes, take_more, drop-length, Step, Line, EndLine, Course, end_words, EndFits, pieces, line_words, spaced, spelled_line, text, end_text, text_of_ends}
+use Rattle.dm_check.proofs.Names.{text_of_lines, IsFull, CheckError, RefusedSo, Ended, behind_line, judged_from}
 use Rattle.dm_check.specs.Judge as judge
 use Rattle.dm_check.proofs.Judging.{at_text_end, end_stands, lines_append}
 

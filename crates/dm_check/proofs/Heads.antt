@@ -1,6 +1,5 @@
 -- What machines print for a directive begins with its head.
 use Rattle.dm_check.proofs.Names.{◌≡◌, ℕ, ◌+◌, List, [], ◌∷◌, ap, sym, Option, None, Some, Result, Ok, Err, Boot, Step, Line, WorldState, Said, Says, WornOut, world_step}
-use Rattle.dm_message.specs.declared.Message.{Message}
 use Rattle.dm_packet.specs.declared.Packet.{Packet}
 use Rattle.dm_packet.specs.declared.Packet.TheVariants as packet
 use Rattle.dm_packet.specs.declared.PacketError.{PacketError}

@@ -1,16 +1,15 @@
 -- What the proofs of this crate name of what lies below it.
-pub use Rattle.std.proofs.Common.{◌≡◌, ◌≢◌, ◌≤◌, ◌<◌, ℕ, zero, suc, ◌+◌, ◌-◌, ◌==◌, Bool, true, false, not, ◌&&◌, nat_lt, nat_le, nat_eq, if◌then◌else◌, List, [], ◌∷◌, ◌++◌, length, take, drop, get_or, drop-cons, refl, ap, ◌∙◌, sym, subst, arith, rules, Option, None, Some, Result, Ok, Err}
-pub use Rattle.std.proofs.Common.{append_assoc, append-nil, length-append, codes, Bor}
-pub use Rattle.std.proofs.Math.Seq.{drop-length, take-length}
+pub use Rattle.std.proofs.Common.{◌≡◌, ◌≤◌, ◌<◌, ℕ, suc, ◌+◌, ◌==◌, Bool, true, false, if◌then◌else◌, List, [], ◌∷◌, ◌++◌, length, take, drop, get_or, drop-cons, refl, ap, ◌∙◌, sym, subst, arith, rules, Option, None, Some, Result, Ok, Err}
+pub use Rattle.std.proofs.Common.{append_assoc, append-nil, length-append, codes}
+pub use Rattle.std.proofs.Math.Seq.{drop-length}
 pub use Rattle.std.proofs.lemmas.Bool.{false≢true}
 pub use Rattle.std.proofs.lemmas.Bool.Decides.{Decides-eqb, nat_tests}
 pub use Rattle.std.proofs.lemmas.List.{take_more, take_rest}
 pub use Rattle.std.proofs.lemmas.List.Elements.{All-append, All-cons, All-nil}
 pub use Rattle.std.proofs.lemmas.Slice.Eq.{starts_is}
-pub use Rattle.std.specs.List.{All, starts_with}
+pub use Rattle.std.specs.List.{All}
 pub use Rattle.std.specs.Result.{IfErr, IsErr, IsErrAnd}
 pub use Rattle.dm_onekernel.specs.declared.boot.Boot.{Boot}
-pub use Rattle.dm_link.specs.declared.Pid.{Pid}
 pub use Rattle.dm_schedule.specs.declared.Step.{Step}
 pub use Rattle.dm_line.specs.declared.end_line.EndLine.{EndLine}
 pub use Rattle.dm_line.specs.declared.line.Line.{Line}
@@ -35,8 +34,8 @@ pub use Rattle.dm_run.specs.Running.{IsRunning, StopsWorn}
 pub use Rattle.dm_run.specs.Went.{Does, WearsBy, Went, begins, goes}
 pub use Rattle.dm_check.specs.Checked.{HasChecked, NoGroup}
 pub use Rattle.dm_check.specs.Checking.{FallsBy, RefusedSo, first_line, head_of_line, is_final, taken_of}
-pub use Rattle.dm_check.specs.Good.{AllHeld, AreHeads, EndsFit, good_verdict, text_behind}
-pub use Rattle.dm_check.specs.Judge.{Course, Due, Ended, Falls, Judgement, Nothing, Open, Refused, Stands, Verdict, at_end, at_head, begins_group, behind_line, can_hold, falls_as_step, is_line_text, judged_from, taken, text_ended, told}
+pub use Rattle.dm_check.specs.Good.{AllHeld, AreHeads, good_verdict}
+pub use Rattle.dm_check.specs.Judge.{Course, Due, Ended, Falls, Open, Refused, Stands, Verdict, at_end, at_head, begins_group, behind_line, can_hold, falls_as_step, is_line_text, judged_from, taken, text_ended, told}
 unfoldable pub use Rattle.dm_check.specs.Judge.{verdict_by}
 pub use Rattle.dm_check.specs.Says.{ComesTo, RefusedBy, SaysAs}
 pub use Rattle.dm_check.specs.declared.fault.TraceFault.{TraceFault}

@@ -1,7 +1,7 @@
 -- A refusal is at the first bad line: what stands behind that line doesn't matter, and it is no line exactly where that is said.
 use Rattle.dm_checklaws.proofs.Names.{◌++◌, ◌&&◌, nat_lt, nat_le, codes, bytes_eq, text, end_text, head_step, behind_line, can_hold, is_line_text}
-use Rattle.dm_checklaws.proofs.Names.{◌≡◌, ◌≤◌, ◌<◌, ℕ, zero, suc, ◌+◌, ◌==◌, Bool, true, false, if◌then◌else◌, List, [], ◌∷◌, length, refl, ap, sym, ◌∙◌, subst, arith, Option, Some, None, ⊤, pieces, EndLine, Line, Step, Boot, has_shape}
-use Rattle.dm_checklaws.proofs.Names.{TraceFault, NotALine, NotDue, NotAStep, NotTheEnd, Course, Due, Head, InGroup, End, Verdict, Open, Ended, Refused, Judgement, Stands, Falls, if_stands, text_ended, taken, judged, judged_from, told, told_label, told_count}
+use Rattle.dm_checklaws.proofs.Names.{◌≡◌, ◌≤◌, ◌<◌, ℕ, zero, suc, ◌+◌, ◌==◌, Bool, true, false, if◌then◌else◌, List, [], ◌∷◌, length, refl, ◌∙◌, subst, arith, Option, Some, None, ⊤, pieces, EndLine, Line, Step, has_shape}
+use Rattle.dm_checklaws.proofs.Names.{TraceFault, NotALine, NotDue, NotAStep, NotTheEnd, Course, Due, Head, InGroup, End, Verdict, Refused, Judgement, Stands, Falls, if_stands, text_ended, taken, judged, judged_from, told, told_label, told_count}
 use Rattle.dm_checklaws.proofs.Names.{falls_as_step, at_end, at_first_line, at_head, at_line, begins_group, verdict, verdict_by, by_rule, AreSame, IsNoLine, RefusalsAreFirst}
 use Rattle.dm_onekernel.specs.declared.label.Label.{Label}
 use Rattle.dm_onekernel.specs.declared.label.Label.TheVariants as label

@@ -1,6 +1,6 @@
 -- None of the lines at the end says nothing.
-use Rattle.dm_checklaws.proofs.Names.{◌≡◌, ◌≢◌, ℕ, zero, suc, ◌+◌, ◌-◌, ◌*◌, ◌/◌, ◌<◌, ◌≤◌, ◌==◌, Bool, true, false, ◌&&◌, nat_le, if◌then◌else◌, List, [], ◌∷◌, ◌++◌, length, take, drop, get_or, refl, ap, sym, ◌∙◌, subst, arith, Some, None}
-use Rattle.dm_checklaws.proofs.Names.{All, Option, nat_tests, length-take, All-nil, All-cons, All-append, Pid, pid_of, PlainLink, MsgId, id_of, first_number, manager, switchboard, Life, Alive, NamedLink, Pending, PlainProcess, is_name, EndLine}
+use Rattle.dm_checklaws.proofs.Names.{◌≡◌, ◌≢◌, ℕ, zero, suc, ◌+◌, ◌-◌, ◌*◌, ◌/◌, ◌<◌, ◌≤◌, ◌==◌, Bool, true, false, ◌&&◌, nat_le, if◌then◌else◌, List, [], ◌∷◌, ◌++◌, length, take, drop, get_or, refl, ap, sym, ◌∙◌, arith, Some, None}
+use Rattle.dm_checklaws.proofs.Names.{All, Option, nat_tests, length-take, All-nil, All-cons, All-append, Pid, pid_of, PlainLink, MsgId, first_number, manager, switchboard, Life, Alive, NamedLink, Pending, PlainProcess, EndLine}
 use Rattle.dm_checklaws.proofs.Names.{before_zeros, trimmed, block_line, memory_lines, home_with, joined_below, list_line, Addresses, Stood, end_lines, Point, untaken, View, IsFull}
 use Rattle.dm_onekernel.specs.Kernel as kernel
 use Rattle.dm_line.specs.declared.end_line.EndLine.TheVariants as end

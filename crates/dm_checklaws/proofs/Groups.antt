@@ -1,6 +1,6 @@
 -- The groups of the rule: each begins with its head, and none routes a message between two machines that count as many as they
 -- may.
-use Rattle.dm_checklaws.proofs.Names.{◌≡◌, ◌≤◌, ℕ, List, [], ◌∷◌, ◌++◌, length, refl, ap, sym, ◌∙◌, subst, arith, Some, None, Option, Boot, bind, bind-is, Step, Line, Todo, Two, IsKept, IsRun, Part, Spelled, Point, after_line, group_of, behind}
+use Rattle.dm_checklaws.proofs.Names.{◌≡◌, ◌≤◌, ℕ, List, [], ◌∷◌, ◌++◌, length, refl, ap, sym, subst, arith, Some, None, Option, Boot, bind, bind-is, Step, Line, Todo, Two, IsKept, IsRun, Part, Spelled, Point, after_line, group_of, behind}
 use Rattle.dm_checklaws.proofs.Names.{outcome, worn_in, spelled}
 use Rattle.dm_checklaws.proofs.Full.{group_over}
 use Rattle.dm_line.specs.declared.line.Line.TheVariants as line

@@ -1,5 +1,5 @@
 -- Each name that the switchboard keeps has 1 to 16 bytes.
-use Rattle.dm_checklaws.proofs.Names.{◌≡◌, ℕ, ◌==◌, ◌&&◌, Bool, true, false, if◌then◌else◌, List, [], ◌∷◌, ◌++◌, length, refl, ap, sym, subst, Some, None, Option, Pid, pid_eq, PlainLink, MsgId, PlainMessage, PlainWhat, Boot, BootImage, Label}
+use Rattle.dm_checklaws.proofs.Names.{◌≡◌, ℕ, ◌==◌, Bool, true, false, if◌then◌else◌, List, [], ◌∷◌, ◌++◌, length, refl, subst, Some, None, Option, Pid, pid_eq, PlainLink, MsgId, PlainMessage, PlainWhat, Boot, Label}
 use Rattle.dm_checklaws.proofs.Names.{Reply, Why, is_general, switchboard, manager, NamedLink, Switchboard, OneKernel, with_sent, bind, when, PlainProcess, start, is_name, Outcome, MoveNote}
 use Rattle.dm_message.specs.declared.Outcome.TheVariants as ends
 use Rattle.dm_message.specs.Plain as what

@@ -1,5 +1,5 @@
 -- Where directives lead by the rule, one by one.
-use Rattle.dm_checklaws.proofs.Names.{◌≡◌, ℕ, List, [], ◌∷◌, ◌++◌, refl, ap, sym, ◌∙◌, subst, Some, None, Option, bind, bind-is, Boot, Step, Line, EndLine, Two, Leads, Spelled, Point, first_point, group_of, worn_in, end_lines, by_rule, led, rule_group, rule_ends, unless_worn}
+use Rattle.dm_checklaws.proofs.Names.{◌≡◌, List, [], ◌∷◌, ◌++◌, ap, ◌∙◌, Some, None, bind, bind-is, Boot, Step, Two, Leads, Spelled, Point, first_point, group_of, worn_in, end_lines, by_rule, led, rule_group, rule_ends, unless_worn}
 
 -- they lead there
 pub led_of : (b : Boot) (es : List Step) (pt end : Point) → Leads b pt es end → led b pt es ≡ Some end

@@ -23,7 +23,6 @@ pub use Rattle.dm_line.specs.declared.pass.Pass.{Pass}
 pub use Rattle.dm_link.specs.Names.{pid_eq, pid_of}
 pub use Rattle.dm_link.specs.Plain.{PlainLink}
 pub use Rattle.dm_link.specs.declared.Pid.{Pid}
-pub use Rattle.dm_message.specs.Ids.{id_of}
 pub use Rattle.dm_message.specs.Plain.{PlainMessage, PlainWhat}
 pub use Rattle.dm_message.specs.declared.MsgId.{MsgId}
 pub use Rattle.dm_message.specs.declared.Outcome.{Outcome}
@@ -35,7 +34,7 @@ pub use Rattle.dm_mirror.proofs.Routing.{worn_alike}
 pub use Rattle.dm_mirror.proofs.Single.{ran_begins}
 pub use Rattle.dm_mirror.proofs.Totals.{Grows, grows_on, grows_same, ids_of, put_adds, seen_grows}
 pub use Rattle.dm_mirror.specs.Ran.{Ran, RanGoes, ones}
-pub use Rattle.dm_mirror.specs.Run.{GoesOn, IsGood, joined}
+pub use Rattle.dm_mirror.specs.Run.{joined}
 pub use Rattle.dm_mirror.specs.Todo.{IsDirective, IsTodo, IsTwo}
 pub use Rattle.dm_movelaws.proofs.After.{group_after}
 pub use Rattle.dm_onekernel.specs.Boot.{IsValid, first_number, is_general, manager, switchboard}
@@ -45,7 +44,6 @@ pub use Rattle.dm_onekernel.specs.PlainProcess.{PlainProcess}
 pub use Rattle.dm_onekernel.specs.Start.{start}
 pub use Rattle.dm_onekernel.specs.Switchboard.{is_name}
 pub use Rattle.dm_onekernel.specs.declared.boot.Boot.{Boot}
-pub use Rattle.dm_onekernel.specs.declared.boot.BootImage.{BootImage}
 pub use Rattle.dm_onekernel.specs.declared.label.Label.{Label}
 pub use Rattle.dm_onekernel.specs.declared.label.Reply.{Reply}
 pub use Rattle.dm_onekernel.specs.declared.label.Why.{Why}
@@ -77,8 +75,8 @@ pub use Rattle.dm_text.specs.Text.{end_text, text}
 unfoldable pub use Rattle.dm_text.specs.Text.{text_of_ends, text_of_lines}
 pub use Rattle.dm_text.specs.Written.{line_words}
 pub use Rattle.dm_world.specs.Ends.{end_lines as ends_of}
-pub use Rattle.dm_world.specs.World.{Said, Says, WorldState, WornOut, first_world, world_step}
-pub use Rattle.std.proofs.Common.{List, None, Some, [], ap, append-nil, append_assoc, arith, codes, drop, get_or, inl, inr, length, length-append, map, nat_lt, refl, subst, suc, sym, take, zero, ℕ, ◌&&◌, ◌*◌, ◌++◌, ◌+◌, ◌-◌, ◌/◌, ◌<◌, ◌==◌, ◌∙◌, ◌∷◌, ◌≢◌, ◌≤◌}
+pub use Rattle.dm_world.specs.World.{Said, Says, WorldState, WornOut}
+pub use Rattle.std.proofs.Common.{List, None, Some, [], ap, append-nil, append_assoc, arith, codes, drop, get_or, inl, inr, length, length-append, nat_lt, refl, subst, suc, sym, take, zero, ℕ, ◌&&◌, ◌*◌, ◌++◌, ◌+◌, ◌-◌, ◌/◌, ◌<◌, ◌==◌, ◌∙◌, ◌∷◌, ◌≢◌, ◌≤◌}
 pub use Rattle.std.proofs.lemmas.Bool.Decides.{nat_tests}
 pub use Rattle.std.proofs.lemmas.List.{length-take}
 pub use Rattle.std.proofs.lemmas.List.Elements.{All-append, All-cons, All-head, All-nil, All-tail}

@@ -2,7 +2,6 @@
 use Rattle.std.specs.Prelude.{◌≡◌, ⊤, ℕ, ◌<◌, Bool, List, ◌++◌, length}
 use Rattle.std.specs.List.{All}
 use Rattle.dm_onekernel.specs.declared.boot.Boot.{Boot}
-use Rattle.dm_onekernel.specs.Boot.{IsValid}
 use Rattle.dm_schedule.specs.declared.Step.{Step}
 use Rattle.dm_schedule.specs.declared.Step.TheVariants as step
 use Rattle.dm_schedule.specs.declared.Directive.{Directive}

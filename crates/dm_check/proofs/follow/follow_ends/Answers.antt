@@ -1,4 +1,4 @@
-use Rattle.dm_check.proofs.Names.{◌≡◌, ◌≤◌, ◌+◌, ◌++◌, ◌∷◌, [], ℕ, List, length, drop, get_or, refl, sym, ◌∙◌, subst, arith, EndLine, pieces, end_text, RefusedSo, judged_from}
+use Rattle.dm_check.proofs.Names.{◌≡◌, ◌+◌, ◌++◌, ◌∷◌, [], ℕ, length, drop, get_or, refl, sym, ◌∙◌, subst, arith, EndLine, pieces, end_text, RefusedSo, judged_from}
 use Rattle.dm_check.specs.Judge as judge
 use Rattle.dm_check.proofs.Following.{end_off, end_on, ends_done, read_end, read_no_end, shorter_end}
 use Rattle.dm_check.proofs.Judging.{if_err, none_left}

@@ -1,4 +1,4 @@
-use Rattle.dm_check.proofs.Names.{◌≡◌, ◌<◌, ◌+◌, ℕ, length, drop, refl, arith, pieces, RefusedSo, behind_line, judged_from}
+use Rattle.dm_check.proofs.Names.{◌<◌, ◌+◌, ℕ, length, drop, refl, arith, pieces, RefusedSo, behind_line, judged_from}
 use Rattle.dm_check.proofs.Following.{line_off, line_on, read_more, read_none, shorter}
 use Rattle.dm_check.proofs.Judging.{if_err}
 use Rattle.dm_check.proofs.follow.follow_lines.Goals as goal

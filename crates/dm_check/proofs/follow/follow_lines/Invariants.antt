@@ -1,4 +1,4 @@
-use Rattle.dm_check.proofs.Names.{◌≡◌, ◌≤◌, ℕ, ◌+◌, ◌++◌, length, take, drop, List, Course, Step, pieces, text_of_lines, behind_line, judged_from}
+use Rattle.dm_check.proofs.Names.{◌≡◌, ◌≤◌, ◌+◌, ◌++◌, length, take, drop, List, Course, Step, pieces, text_of_lines, behind_line, judged_from}
 use Rattle.dm_check.proofs.follow.follow_lines.Given as goal
 
 abbrev pub invariant-lines : goal.invariant-lines

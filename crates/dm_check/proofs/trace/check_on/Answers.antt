@@ -1,4 +1,4 @@
-use Rattle.dm_check.proofs.Names.{◌≡◌, ◌<◌, ◌≤◌, ◌+◌, ◌∙◌, ℕ, List, length, ap, sym, subst, arith, true, Boot, Line, EndLine, WorldState, Went, pieces, world_state, HasChecked, NoGroup, RefusedBy, first_line, head_of_line, can_hold, good_verdict, World, Vec, Global, IsRunning}
+use Rattle.dm_check.proofs.Names.{◌≡◌, ◌<◌, ◌≤◌, ◌+◌, ◌∙◌, ℕ, List, length, ap, sym, subst, arith, true, Boot, Line, pieces, world_state, HasChecked, NoGroup, RefusedBy, first_line, head_of_line, can_hold, good_verdict, World, Vec, Global, IsRunning}
 use Rattle.std.specs.declared.option.Option.TheVariants.{Some}
 use Rattle.dm_check.proofs.Checks.{checks_good, checks_less, checks_more, checks_refused, checks_stop, some_lines}
 use Rattle.dm_check.proofs.Following.{shorter_lines}

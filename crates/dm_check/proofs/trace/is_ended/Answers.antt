@@ -1,4 +1,4 @@
-use Rattle.dm_check.proofs.Names.{rules, ◌≡◌, ◌∙◌, List, [], ap, sym, subst, true, All, EndLine, ends_of, EndFits, pieces, length, world_state, IsFull, RefusedSo, first_line, is_final, Verdict, judged_from}
+use Rattle.dm_check.proofs.Names.{rules, ◌≡◌, ◌∙◌, List, [], ap, sym, subst, true, All, EndLine, ends_of, EndFits, pieces, length, world_state, RefusedSo, Verdict, judged_from}
 use Rattle.dm_check.specs.Judge as judge
 use Rattle.dm_check.proofs.Ending.{ended_by, full_there}
 use Rattle.dm_check.proofs.Judging.{at_text_end, none_left}
