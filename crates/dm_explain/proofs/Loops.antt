@@ -1,6 +1,6 @@
 -- Loops that look for the first that isn't good, and for a line.
-use Rattle.dm_explain.proofs.Names.{◌≡◌, ℕ, ◌+◌, ◌-◌, ◌<◌, ◌≤◌, zero, suc, Bool, true, false, if◌then◌else◌, List, [], ◌∷◌, ◌++◌, codes, length, get_or, drop, map, slice_get, refl, ap, ◌∙◌, None, arith, drop_of_length-le, Value, Data}
-use Rattle.dm_explain.proofs.Names.{get_item, items_view, has_only, first_bad, key_fault, keys_text, wish_fault, Wish, line_or_nothing}
+use Rattle.dm_explain.proofs.Names.{◌≡◌, ℕ, ◌+◌, ◌-◌, ◌<◌, ◌≤◌, zero, suc, Bool, true, false, ◌||◌, if◌then◌else◌, List, [], ◌∷◌, ◌++◌, codes, length, get_or, drop, map, slice_get, refl, ap, ◌∙◌, None, arith, drop_of_length-le, Value, Data}
+use Rattle.dm_explain.proofs.Names.{get_item, items_view, has_another, has_only, is_later, first_bad, key_fault, keys_text, wish_fault, Wish, line_or_nothing}
 use Rattle.dm_explain.proofs.Pieces.{get_or_same, read_at}
 
 pub bad-end : {K W : Type 0} (f : K → W) (good : W → Bool) (told : W → List ℕ) (other : List ℕ) (ks : List K) (i : ℕ) → length ks ≤ i → first_bad good told other (map f (drop i ks)) ≡ other
@@ -52,3 +52,18 @@ missing-item (v ∷ vs) zero past = absurd (omega arith)
 missing-item (v ∷ vs) (suc k) past = missing-item vs k (omega arith)
 
 pub ruleset missing_lemmas = (missing-item)
+
+-- whether a part has its first among the elements from a place on
+pub another-end : (last : ℕ) (ns : List ℕ) (i : ℕ) → length ns ≤ i → has_another last i (drop i ns) ≡ false
+unfolding has_another
+another-end last ns i past = ap (has_another last i) (drop_of_length-le ns past)
+
+another-at : (last : ℕ) (ns : List ℕ) (i d : ℕ) → i < length ns → has_another last i (drop i ns) ≡ is_later last i (get_or ns i d) || has_another last (i + 1) (drop (i + 1) ns)
+unfolding has_another
+another-at last ns i d within = ap (has_another last i) (read_at ns i (get_or ns i d) within (get_or_same ns i d (get_or ns i d) within))
+
+pub another-more : (last : ℕ) (ns : List ℕ) (i d : ℕ) → i < length ns → is_later last i (get_or ns i d) ≡ false → has_another last i (drop i ns) ≡ has_another last (i + 1) (drop (i + 1) ns)
+another-more last ns i d within fails = another-at last ns i d within ∙ ap (λ b. b || has_another last (i + 1) (drop (i + 1) ns)) fails
+
+pub another-here : (last : ℕ) (ns : List ℕ) (i d : ℕ) → i < length ns → is_later last i (get_or ns i d) ≡ true → has_another last i (drop i ns) ≡ true
+another-here last ns i d within holds = another-at last ns i d within ∙ ap (λ b. b || has_another last (i + 1) (drop (i + 1) ns)) holds

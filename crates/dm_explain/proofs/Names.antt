@@ -1,6 +1,6 @@
 -- What the proofs of this crate name of what lies below it.
 pub use Rattle.std.specs.List.{flat_map}
-pub use Rattle.std.specs.Prelude.{OnOk}
+pub use Rattle.std.specs.Prelude.{OnOk, ◌||◌}
 unfoldable pub use Rattle.dm_reading.specs.Lines.{lines, source_lines}
 pub use Rattle.dm_processor.proofs.Names.{Bool, List, None, [], ap, arith, concat, drop, false, get_or, length, refl, suc, sym, take, true, zero, ℕ, ◌++◌, ◌+◌, ◌-◌, ◌<◌, ◌∙◌, ◌∷◌, ◌≡◌, ◌≤◌}
 pub use Rattle.dm_linktable.proofs.Names.{count_by, map, rules, subst, ◌==◌}
@@ -15,5 +15,7 @@ pub use Rattle.dm_explain.specs.Parts.{part_text, shown_byte}
 pub use Rattle.dm_explain.specs.Schedules.{is_of}
 pub use Rattle.dm_explain.specs.System.{boot_process_told, image_told, link_told, machine_told}
 unfoldable pub use Rattle.dm_explain.specs.System.{each}
+pub use Rattle.dm_explain.specs.SystemParts.{is_later}
+unfoldable pub use Rattle.dm_explain.specs.SystemParts.{has_another}
 pub use Rattle.dm_explain.specs.Told.{link_keeps}
 pub use Rattle.dm_explain.specs.Wanted.{Limit, Wish, limit_of, wish_of}

@@ -25,10 +25,13 @@ is_first last place number = (number == place) && nat_lt place last
 unfoldable pub first_told : Items → ℕ → List ℕ → ℕ → ℕ → List ℕ
 first_told ts last numbers place number = if is_first last place number then part_told ts last numbers place else []
 
--- the first process is the first of its part; one of these is the first of another
+-- the file's first process is the first of its part; another is the first of another part
+abbrev pub is_later : ℕ → ℕ → ℕ → Bool
+is_later last place number = nat_lt 0 place && is_first last place number
+
 unfoldable pub has_another : ℕ → ℕ → List ℕ → Bool
 has_another last place [] = false
-has_another last place (n ∷ ns) = (is_first last place n && nat_lt 0 place) || has_another last (place + 1) ns
+has_another last place (n ∷ ns) = is_later last place n || has_another last (place + 1) ns
 
 unfoldable pub parts_told : Items → ℕ → List ℕ → List ℕ
 parts_told ts last numbers = if has_another last 0 numbers then each (first_told ts last numbers) 0 numbers else []

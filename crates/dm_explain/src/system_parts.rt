@@ -4,7 +4,7 @@ ghost use Rattle.toml.specs.View.{items_view, view};
 ghost use Rattle.dm_boot.specs.Build.{process_tables};
 ghost use Rattle.dm_parts.specs.Parts.{parts_of};
 ghost use Rattle.dm_explain.specs.System.{each};
-ghost use Rattle.dm_explain.specs.SystemParts.{first_told, has_another, is_first, member_told, named_told, part_told, parts_told};
+ghost use Rattle.dm_explain.specs.SystemParts.{first_told, has_another, is_first, is_later, member_told, named_told, part_told, parts_told};
 
 use crate::part::put;
 use crate::system::text_in;
@@ -51,16 +51,23 @@ fn put_told(
     }
 }
 
-/// Whether a process but the file's first is the first of its part.
+/// Whether one of these, the file's first aside, is the first of its part.
 fn has_another(last: usize, numbers: &[usize]) -> bool
     ensures { result ≡ has_another last 0 numbers.now }
 {
     for (place, number) in numbers.iter().enumerate() {
-        if is_first(last, place, *number) && 0 < place {
+        if is_later(last, place, *number) {
             return true;
         }
     }
     false
+}
+
+/// Whether a process, the file's first aside, is the first of its part.
+fn is_later(last: usize, place: usize, number: usize) -> bool
+    ensures { result ≡ is_later last place number }
+{
+    0 < place && is_first(last, place, number)
 }
 
 /// Whether a process is the first of its part.

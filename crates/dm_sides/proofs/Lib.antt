@@ -4,3 +4,4 @@ pub mod Calls
 pub mod Servers
 pub mod Runs
 pub mod Printed
+pub mod Worked

@@ -1,15 +1,14 @@
 -- What sides say of printed lines.
-use Rattle.dm_rulelaws.proofs.Names.{◌≡◌, ◌≢◌, ℕ, ◌&&◌, ◌||◌, Bool, true, false, List, [], ◌∷◌, ◌++◌, refl, ap, ◌∙◌, sym, subst, is_some, inl, inr, arith, nat_tests, if◌then◌else◌, Option, None, Some, cases_Bool, Pid, pid_eq, MsgId, id_of, Boot, IsValid, start, replay, bind, bind-is}
-use Rattle.dm_rulelaws.proofs.Names.{PlainMessage, PlainWhat, PlainProcess, PlainStatus, Waiting, OneKernel, Label, switchboard, manager, pid_eq-is, Step, Line, Point, first_point, Leads, labels, group_of, WhatFits, on_mask, at_hand-is, option_map_or, Made}
+use Rattle.dm_rulelaws.proofs.Names.{◌≡◌, ◌≢◌, ℕ, ◌&&◌, ◌||◌, Bool, true, false, List, [], ◌∷◌, ◌++◌, refl, ap, ◌∙◌, sym, subst, is_some, inl, inr, arith, nat_tests, if◌then◌else◌, Option, None, Some, cases_Bool, Pid, pid_eq, MsgId, Boot, start, replay, bind, bind-is}
+use Rattle.dm_rulelaws.proofs.Names.{PlainMessage, PlainWhat, PlainProcess, PlainStatus, Waiting, OneKernel, Label, switchboard, manager, pid_eq-is, Step, Line, Point, first_point, Leads, labels, WhatFits, on_mask, at_hand-is, option_map_or, Made}
 use Rattle.std.proofs.lemmas.Option.{cond_some}
-use Rattle.dm_rule.specs.View.{Told}
 use Rattle.dm_rulelaws.specs.Order.{LeadsBy}
 use Rattle.dm_onekernel.specs.Receiving as receiving
 use Rattle.dm_onekernel.specs.Step as kernel
 use Rattle.dm_rule.proofs.Telling.{tells_right_always}
 use Rattle.dm_rulelaws.proofs.RunLabels.{labels-append, replay-append, group_replay}
 use Rattle.dm_rulelaws.proofs.Fits.Rises.{both}
-use Rattle.dm_sides.specs.Sides.{Sides, Keeps, IsOn, LinkKeeps, MessageKeeps, is_there, next_sides, side_of, sides_after}
+use Rattle.dm_sides.specs.Sides.{Sides, IsOn, LinkKeeps, MessageKeeps, is_there, next_sides, side_of, sides_after}
 use Rattle.dm_sides.specs.Printed.{CreatesKeep, LinesKeep, PutsKeep, ReceivesKeep, SidedLines, TakesKeep}
 use Rattle.dm_sides.proofs.Changes.{created_of, took_told}
 use Rattle.dm_sides.proofs.Calls.{not_manager, on_of}

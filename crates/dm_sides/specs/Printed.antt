@@ -1,5 +1,5 @@
 -- What sides say of printed lines.
-use Rattle.std.specs.Prelude.{◌≡◌, ◌≢◌, ℕ, true, is_some, List, [], ◌∷◌, ◌++◌}
+use Rattle.std.specs.Prelude.{◌≡◌, ◌≢◌, true, is_some, List, [], ◌∷◌, ◌++◌}
 use Rattle.std.specs.declared.option.Option.TheVariants.{Some}
 use Rattle.dm_link.specs.declared.Pid.{Pid}
 use Rattle.dm_message.specs.declared.MsgId.{MsgId}
