@@ -18,7 +18,6 @@ use Rattle.dm_program.specs.Rule.{of_rule}
 
 -- the directives of a drill are for its machines
 drill_for : (d : Drill) → IsWithin d → All (IsFor (length (boot_of_machines d.machines).machines)) (directives_of_drill d)
-unfolding directives_of_drill
 drill_for d within =
     subst (λ (n : ℕ). All (IsFor n) (directives_of_drill d)) (sym (boot_machines d.machines)) (all_for d.machines (directives_of_drill d) (directives_fit d.machines d.seed d.lines within.least))
 

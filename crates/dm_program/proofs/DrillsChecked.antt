@@ -22,7 +22,7 @@ use Rattle.dm_checklaws.specs.Verdict.{verdict}
 use Rattle.dm_drill.specs.Counts.{totals_of}
 use Rattle.dm_drill.specs.Drilled.{DrillIsWhole, text_shown}
 use Rattle.dm_drill.specs.Summary.{summary}
-unfoldable use Rattle.dm_commands.specs.Drills.{directives_of_drill}
+use Rattle.dm_commands.specs.Drills.{directives_of_drill}
 use Rattle.dm_commands.proofs.Drills.{all_for}
 use Rattle.dm_program.proofs.Runs.Fits.{directives_fit}
 use Rattle.dm_program.specs.Laws.{DrillsCheck, IsGoodDrill, IsGoodWornDrill}
