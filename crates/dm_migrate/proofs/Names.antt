@@ -19,10 +19,11 @@ pub use Rattle.dm_statebytes.proofs.Sizes.{lawful_size}
 pub use Rattle.dm_statebytes.specs.declared.Shell.{Shell}
 pub use Rattle.dm_statebytes.specs.declared.StateBytesError.{StateBytesError}
 pub use Rattle.dm_migrate.specs.Arrival.{Arrival, IsNextChunk, IsNextPiece, IsStateFor, after_block, after_chunk, memory_come, pull, restarted, revived, revived_from, state_come, with_chunk, with_piece}
+pub use Rattle.dm_migrate.specs.Cargo.{Cargo, ask_for, cargo_of}
 pub use Rattle.dm_migrate.specs.Coming.{IsComing, IsStage, Parts, come_of}
 pub use Rattle.dm_migrate.specs.Departure.{CanMove, Departure, sent_on}
 unfoldable pub use Rattle.dm_migrate.specs.Departure.{IsReadAgain}
 pub use Rattle.dm_migrate.specs.Pieces.{HasBlock, HasChunk, block_of, chunk_bytes, chunk_of, is_last, state_of}
-pub use Rattle.dm_migrate.specs.Way.{ArrivesWhole, ComesByPieces, Goes, HasPiece, coming, count_of_pieces, moved, piece_for}
+pub use Rattle.dm_migrate.specs.Way.{ArrivesWhole, CanCome, ComesByPieces, ComesWhole, Goes, HasPiece, coming, count_of_pieces, moved, piece_for}
 pub use Rattle.dm_migrate.specs.declared.arriving.Wanted.{Wanted}
 pub use Rattle.dm_migrate.specs.declared.arriving.Wanted.TheVariants.{Block, Chunk, Nothing}

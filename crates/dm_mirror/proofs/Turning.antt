@@ -1,6 +1,6 @@
 -- What a turn says before the messages that it sends are routed.
 use Rattle.dm_mirror.proofs.Names.{◌≡◌, ◌≢◌, ℕ, ◌+◌, ◌≤◌, Bool, true, false, not, ◌==◌, ◌&&◌, List, [], ◌∷◌, ◌++◌, map, is_some, ⊤, Option, None, Some, Pid, place_of, kernel_at, Message, MsgId, MessageKind, Stage, kind_of, plain_message}
-use Rattle.dm_mirror.proofs.Names.{Process, incoming_of, Boot, manager, Step, Line, Receiver, Sender, given, own_given, is_between, Point, after, moved, outcome, at_machine, Spot, Queue, Held, Inbox, Untaken, standing, Known, Here, Frozen}
+use Rattle.dm_mirror.proofs.Names.{Cargo, cargo_at, incoming_of, Boot, manager, Step, Line, Receiver, Sender, given, own_given, is_between, Point, after, moved, outcome, at_machine, Spot, Queue, Held, Inbox, Untaken, standing, Known, Here, Frozen}
 use Rattle.dm_mirror.proofs.Names.{Incoming, Ended, Of, Told, own_id, Placed, Mirrors, enclosed, KernelState, Turned, turn, AllOwnStand, about_of, told_of, KernelStands, AllRecords, Carries, TokensStand, destination_of, Part, sort_of}
 use Rattle.dm_rule.specs.Parts as rule
 
@@ -70,10 +70,10 @@ rule_part_of (Own x) = rule.Owns (kind_of x.what) x.to.pid x.to.at
 
 -- a kernel's own message carries what it is to, where it is of a migration
 pub record IsCarried (placed : Placed) (asked : ℕ) (records : AllRecords) (p : Pid) (x : Message) : Type 0 where
-  pub process : Process
-  pub there : placed.processes p ≡ Some process
+  pub cargo : Cargo
+  pub there : cargo_at placed p ≡ Some cargo
   pub sender : x.sender ≡ kernel_at x.id.from.home
-  pub carries : Carries p process (placed.notes p) asked (incoming_of (records (destination_of x.id (told_of x)) p)) x.what
+  pub carries : Carries p cargo asked (incoming_of (records (destination_of x.id (told_of x)) p)) x.what
 
 -- the machine's kernel may put its next message, where the machines have these records
 pub record MayOwn (pt : Point) (placed : Placed) (records : AllRecords) (x : Message) : Type 0 where

@@ -71,7 +71,7 @@ pub record Answer (b : Boot) (m : ℕ) (pt : Point) (l : Placed) (records : AllR
   pub plain : plain_what what ≡ None
   pub encloses : enclosed what ≡ []
   pub gives : (v : View) (id : MsgId) (q : Pid) → own_given pt.kernel v pt.addresses id q (sort_of (kind_of what)) ≡ goes_between v id q
-  pub carries : Carries p a.process (l.notes p) (asked p) (incoming_of (state.records p)) what
+  pub carries : Carries p a.cargo (asked p) (incoming_of (state.records p)) what
 
 -- the token that was handled was the only one of its process, and those of others carry what they carried
 pub tokens_kept : (b : Boot) (m : ℕ) (pt : Point) (l : Placed) (records : AllRecords) (k : KernelState) (y : Message) (p : Pid) (c : Comes b m pt l records k y p) (a : Arrives b m pt l k y p) (box : List MsgId) (known : ℕ → Pid → Known) (asked : Pid → ℕ) (s : KernelState)
@@ -114,7 +114,7 @@ may_answer b m pt l records k y p c a h =
       asker = λ e. absurd (false≢true (sym (ap is_between e) ∙ h.between));
       carried = λ between q about.
           subst (λ (z : Pid). IsCarried l (h.asked z) (at_machine records m h.state.records) z x) (of_same p q (sym h.about ∙ about)) (search
-          (subst (λ (o : Option machine.KernelKnown). Carries p a.process (l.notes p) (h.asked p) (incoming_of o) h.what) (sym known) h.carries));
+          (subst (λ (o : Option machine.KernelKnown). Carries p a.cargo (h.asked p) (incoming_of o) h.what) (sym known) h.carries));
     }
   where
     of_same : (i j : Pid) → Of i ≡ Of j → i ≡ j

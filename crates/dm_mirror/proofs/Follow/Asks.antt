@@ -32,7 +32,7 @@ tokens_asked b pt l records k c p to q i t z told between about least =
     let one = c.tokens q i t z told between about (let e_ : 1 ≤ standing pt.view i z = grind (arith, nat_tests) in e_) in
     let n = destination_of i t in
     search
-    (carries_on q one.process (l.notes q) (pt.view.asked q) (incoming_of (records n q)) (incoming_of (at_machine records 0 k.records n q)) one.message.what
+    (carries_on q one.cargo (pt.view.asked q) (incoming_of (records n q)) (incoming_of (at_machine records 0 k.records n q)) one.message.what
     (λ u w. subst (λ (f : Pid → Option machine.KernelKnown). Wants (incoming_of (f q)) u) (sym (let e_ : (if (0 == n) then k.records else records n) ≡ records n = grind (arith, nat_tests, c.mine) in e_)) w) one.carries)
 
 own_asked : (b : Boot) (pt : Point) (l : Placed) (records : AllRecords) (k : KernelState) (c : Asks b pt l records k) (p : Pid) (to : ℕ) → AllOwnStand (asked_point pt p to).view l

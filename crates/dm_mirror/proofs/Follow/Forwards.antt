@@ -229,7 +229,7 @@ held_leaving b m pt l records k y c to fixed knows =
     let is = is_process_of p fixed in
     let (d, there, s) = recorded b pt l m k p (Frozen to) c.stands is.server knows in
     held_row b m pt l records k y c (Frozen to) (Record.Frozen d) (Record.Frozen (departure.with_held d y)) is knows there refl (λ x. refl) refl
-    (record { to = s.to; asker = s.asker; here = s.here; held = messages_push l.bag (pt.view.held m p) d.held y.id y s.held c.there; whole = s.whole }) (λ u h. h)
+    (record { to = s.to; cargo = s.cargo; here = s.here; held = messages_push l.bag (pt.view.held m p) d.held y.id y s.held c.there; whole = s.whole }) (λ u h. h)
 
 -- held where it comes
 pub held_coming : (b : Boot) (m : ℕ) (pt : Point) (l : Placed) (records : AllRecords) (k : KernelState) (y : Message) (c : Fronts b m pt l records k y) (from : ℕ) → is_fixed y.to.pid ≡ false → pt.view.known m y.to.pid ≡ Incoming from → TurnsAt b m pt l records k
@@ -238,4 +238,4 @@ held_coming b m pt l records k y c from fixed knows =
     let is = is_process_of p fixed in
     let (a, there, s) = recorded b pt l m k p (Incoming from) c.stands is.server knows in
     held_row b m pt l records k y c (Incoming from) (Record.Incoming a) (Record.Incoming (arrival.with_held a y)) is knows there refl (λ x. refl) refl
-    (record { process = s.process; there = s.there; whole = s.whole; pieces = ap (λ (z : Arrival). arrival.with_held z y) s.pieces; held = messages_push l.bag (pt.view.held m p) a.held y.id y s.held c.there }) (λ u h. h)
+    (record { cargo = s.cargo; there = s.there; whole = s.whole; pieces = ap (λ (z : Arrival). arrival.with_held z y) s.pieces; held = messages_push l.bag (pt.view.held m p) a.held y.id y s.held c.there }) (λ u h. h)

@@ -22,6 +22,8 @@ use Rattle.dm_kernel.specs.State as machine
 use Rattle.dm_rule.specs.Migrating as migrating
 use Rattle.dm_rule.specs.View as view
 use Rattle.dm_mirror.proofs.Leave.Fronts as owns
+use Rattle.dm_mirror.proofs.Names.{Cargo, cargo_at, cargo_of}
+use Rattle.dm_mirror.proofs.Cargoes.{same_cargo}
 
 -- the room is the same where machine m has the same of each process
 pub room_stays : (room given : Taken) (r s : Room) → s ≡ r → RoomStands room given r → RoomStands room given s
@@ -149,8 +151,9 @@ sets_off b m pt l records k p machine asker says t a box to on h =
     ap (λ (c : Bool). if c then Some (Record.Frozen (frozen x machine asker)) else k.records p) (pid_eq-same p) in
     let queued : HereStands on p (v.queue m p) x =
     ((h.here.0.0, h.processes p ∙ h.here.0.1), map_same l.bag on.bag (v.queue m p) (λ j least. h.kept (Queue m p) j (queue_apart m m p) least) ∙ h.here.1) in
+    let cargo : cargo_at on p ≡ Some (cargo_of x asker) = λ i. option_map (λ (z : Process). cargo_of z (h.note i)) (queued.0.1 i) in
     let leaves : LeavesStand on p (v.queue m p) (v.held m p) machine (frozen x machine asker) =
-    search (sym h.note, queued, ap (map on.bag) none_held, h.whole) in
+    search (cargo, queued, ap (map on.bag) none_held, h.whole) in
     let mine : KnownStands next on p (v.queue m p) (v.held m p) (next.view.known m p) (state.records p) =
     subst (KnownStands next on p (v.queue m p) (v.held m p) (next.view.known m p)) (sym frozen_record)
     (subst (λ (n : Known). KnownStands next on p (v.queue m p) (v.held m p) n (Some (Record.Frozen (frozen x machine asker)))) (sym frozen_known) leaves) in
@@ -193,7 +196,7 @@ sets_off b m pt l records k p machine asker says t a box to on h =
       );
       may = (
         may_between next on after_records m machine p ask (search
-            (ap kernel_at h.stands.here, h.absent ask.id (ap l.bag id_is ∙ absent_next b pt l m h.run h.mirrors h.own), ap v.told id_is ∙ untold_next b pt m h.run, ap Of x_is, h.processes p ∙ h.here.0.1)),
+            (ap kernel_at h.stands.here, h.absent ask.id (ap l.bag id_is ∙ absent_next b pt l m h.run h.mirrors h.own), ap v.told id_is ∙ untold_next b pt m h.run, ap Of x_is, leaves.cargo)),
         tt,
       );
       late_may = tt;
@@ -288,10 +291,10 @@ departing b m pt l records k y p h g = recorded b pt l m k p (Frozen g.to) h.sta
 
 -- what is heard carries what it was sent with
 pub record Carried (pt : Point) (l : Placed) (records : AllRecords) (p : Pid) (y : Message) : Type 0 where
-  pub process : Process
-  pub there : l.processes p ≡ Some process
+  pub cargo : Cargo
+  pub there : cargo_at l p ≡ Some cargo
   pub sender : y.sender ≡ kernel_at y.id.from.home
-  pub carries : Carries p process (l.notes p) (pt.view.asked p) (incoming_of (records (destination_of y.id (told_of y)) p)) y.what
+  pub carries : Carries p cargo (pt.view.asked p) (incoming_of (records (destination_of y.id (told_of y)) p)) y.what
 
 pub process_same : (o : Option Process) (x y : Process) → o ≡ Some x → o ≡ Some y → x ≡ y
 process_same o x y e f = let g : Some x ≡ Some y = sym e ∙ f in cc
@@ -302,7 +305,7 @@ carried b m pt l records k y p h between about =
     let same : t.message ≡ y = some_same t.message y (sym t.is ∙ h.there) in
     search (
       ap (λ (x : Message). x.sender) (sym same) ∙ t.sender,
-      subst (λ (x : Message). Carries p t.process (l.notes p) (pt.view.asked p) (incoming_of (records (destination_of y.id (told_of y)) p)) x.what) same t.carries,
+      subst (λ (x : Message). Carries p t.cargo (pt.view.asked p) (incoming_of (records (destination_of y.id (told_of y)) p)) x.what) same t.carries,
     )
 
 pub kernel_number : (m : ℕ) (p : Pid) → p ≡ pid_of m 0 → (p.num == 0) ≡ true
@@ -320,7 +323,7 @@ gives : (b : Boot) (m : ℕ) (pt : Point) (l : Placed) (records : AllRecords) (k
     → kernel_handles b (record k { inbox = h.rest }) y y.what ≡ gives_piece (record k { inbox = h.rest }) y w
     → kernel_hears b pt m y.id (kind_of y.what) (about_of y.what) ≡ Some (migrating.gives_piece y.id (kind_of w))
     → after_proto (handled (begun pt m).view y.id) (Some (told_of y)) ≡ view.about (handled (begun pt m).view y.id) (Of p)
-    → (x : Process) → l.processes p ≡ Some x → Carries p x (l.notes p) (pt.view.asked p) (incoming_of (records y.id.from.home p)) w → TurnsAt b m pt l records k
+    → (x : Cargo) → cargo_at l p ≡ Some x → Carries p x (pt.view.asked p) (incoming_of (records y.id.from.home p)) w → TurnsAt b m pt l records k
 gives b m pt l records k y p w h g piece c turn hears proto x there carries =
     let v = pt.view in
     let s : KernelState = record k { inbox = h.rest } in
@@ -358,7 +361,7 @@ gives b m pt l records k y p w h g piece c turn hears proto x there carries =
           ap kernel_at h.stands.here,
           ap l.bag id_is ∙ absent_next b pt l m h.run h.mirrors h.own,
           ap v.told id_is ∙ untold_next b pt m h.run,
-          subst (λ (n : ℕ). Carries p x (l.notes p) (v.asked p) (incoming_of (after_records n p)) w) (sym to_is) (subst (λ (r : Option machine.KernelKnown). Carries p x (l.notes p) (v.asked p) (incoming_of r) w) (sym same_there) carries),
+          subst (λ (n : ℕ). Carries p x (v.asked p) (incoming_of (after_records n p)) w) (sym to_is) (subst (λ (r : Option machine.KernelKnown). Carries p x (v.asked p) (incoming_of r) w) (sym same_there) carries),
         )),
         tt,
       );
@@ -388,13 +391,13 @@ gives_chunk b m pt l records k y p chunk h =
     let (departure, record_is, stands) = departing b m pt l records k z p h g in
     let c = carried b m pt l records k z p h refl refl in
     let x = departure.process in
-    let same : record x { queue = stands.here.0.0 } ≡ c.process = process_same (l.processes p) (record x { queue = stands.here.0.0 }) c.process stands.here.0.1 c.there in
+    let same : cargo_of x departure.asker ≡ c.cargo = same_cargo (cargo_of x departure.asker) c.cargo (sym stands.cargo ∙ c.there) in
     let name : x.pid ≡ p = (h.mirrors.places.process p (record x { queue = stands.here.0.0 }) stands.here.0.1).pid in
     gives b m pt l records k z p (chunk_of x.pid (state_of x) chunk) h g
     (record { about = ap Of name; plain = refl; encloses = refl; gives = λ o v a i q. refl; of_source = refl }) c
     (ap (λ (r : Option machine.KernelKnown). bind (frozen_of r) (λ (e : Departure). gives_piece s z (chunk_of e.process.pid (state_of e.process) chunk))) record_is)
-    (leaves_alive b m pt l p c.process y.id MessageKind.PullState (Some (migrating.gives_piece y.id MessageKind.State)) c.there (h.mirrors.plain.processes p) refl)
-    refl c.process c.there (ap (λ (u : Process). chunk_of u.pid (state_of u) chunk) same, c.carries.1, c.carries.2)
+    (leaves_alive b m pt l p (record x { queue = stands.here.0.0 }) y.id MessageKind.PullState (Some (migrating.gives_piece y.id MessageKind.State)) stands.here.0.1 (h.mirrors.plain.processes p) refl)
+    refl c.cargo c.there (ap (λ (u : Cargo). chunk_of u.pid u.state chunk) same, c.carries.1, c.carries.2)
 
 pub gives_block : (b : Boot) (m : ℕ) (pt : Point) (l : Placed) (records : AllRecords) (k : KernelState) (y : Message) (p : Pid) (block : ℕ) → Hearing b m pt l records k (record y { what = What.PullBlock p block })
     → TurnsAt b m pt l records k
@@ -405,10 +408,10 @@ gives_block b m pt l records k y p block h =
     let (departure, record_is, stands) = departing b m pt l records k z p h g in
     let c = carried b m pt l records k z p h refl refl in
     let x = departure.process in
-    let same : record x { queue = stands.here.0.0 } ≡ c.process = process_same (l.processes p) (record x { queue = stands.here.0.0 }) c.process stands.here.0.1 c.there in
+    let same : cargo_of x departure.asker ≡ c.cargo = same_cargo (cargo_of x departure.asker) c.cargo (sym stands.cargo ∙ c.there) in
     let name : x.pid ≡ p = (h.mirrors.places.process p (record x { queue = stands.here.0.0 }) stands.here.0.1).pid in
     gives b m pt l records k z p (block_of x.pid x.memory block) h g
     (record { about = ap Of name; plain = refl; encloses = refl; gives = λ o v a i q. refl; of_source = refl }) c
     (ap (λ (r : Option machine.KernelKnown). bind (frozen_of r) (λ (e : Departure). gives_piece s z (block_of e.process.pid e.process.memory block))) record_is)
-    (leaves_alive b m pt l p c.process y.id MessageKind.PullBlock (Some (migrating.gives_piece y.id MessageKind.Memory)) c.there (h.mirrors.plain.processes p) refl)
-    refl c.process c.there (ap (λ (u : Process). block_of u.pid u.memory block) same, c.carries.1, c.carries.2)
+    (leaves_alive b m pt l p (record x { queue = stands.here.0.0 }) y.id MessageKind.PullBlock (Some (migrating.gives_piece y.id MessageKind.Memory)) stands.here.0.1 (h.mirrors.plain.processes p) refl)
+    refl c.cargo c.there (ap (λ (u : Cargo). block_of u.pid u.memory block) same, c.carries.1, c.carries.2)

@@ -14,6 +14,8 @@ use Rattle.dm_kernel.specs.State as machine
 use Rattle.dm_mirror.proofs.Rooms.{taken_same}
 use Rattle.dm_rule.specs.Parts as rule
 use Rattle.dm_mirror.proofs.Turning as turning
+use Rattle.dm_mirror.proofs.Names.{CanBeCarried, IsSuch}
+use Rattle.dm_mirror.proofs.Cargoes.{cargo_same}
 
 pub record CoreStands (b : Boot) (w : WorldState) (pt : Point) (l : Placed) (h : History) : Type 0 where
   pub groups : w.groups ≡ pt.view.groups
@@ -50,14 +52,14 @@ module _ (b : Boot) (pt : Point) (l u : Placed) (a : Addresses) (e : MoreBag l u
 
   leaves_more : (p : Pid) (queue held : List MsgId) (to : ℕ) (d : Departure) → LeavesStand l p queue held to d → LeavesStand u p queue held to d
   leaves_more p queue held to d h =
-      record { to = h.to; asker = h.asker ∙ sym (e.notes p); here = here_more p queue d.process h.here; held = messages_more l.bag u.bag e.bag held d.held h.held; whole = h.whole }
+      record { to = h.to; cargo = cargo_same l u p (e.processes p) (e.notes p) ∙ h.cargo; here = here_more p queue d.process h.here; held = messages_more l.bag u.bag e.bag held d.held h.held; whole = h.whole }
 
   comes_more : (p : Pid) (held : List MsgId) (x : Arrival) → ComesStand l p held x → ComesStand u p held x
   comes_more p held x h = record {
-    process = h.process;
-    there = e.processes p ∙ h.there;
-    whole = h.whole;
-    pieces = h.pieces ∙ ap (λ (k : Option Asker). coming h.process k x.held x.wanted) (sym (e.notes p));
+    cargo = h.cargo;
+    there = cargo_same l u p (e.processes p) (e.notes p) ∙ h.there;
+    whole = subst (IsSuch (CanBeCarried x.cap)) (sym (e.processes p)) h.whole;
+    pieces = h.pieces;
     held = messages_more l.bag u.bag e.bag held x.held h.held;
   }
 
@@ -158,11 +160,10 @@ pub token_kept : (v u : View) (l k : Placed) (r s : AllRecords) (p : Pid) (i : M
 token_kept v u l k r s p i t more asked records h =
     let d : ℕ = destination_of i t in
     search (
-      more.processes p ∙ h.there,
+      cargo_same l k p (more.processes p) (more.notes p) ∙ h.there,
       more.bag i h.message h.is,
-      subst (λ (o : Option Asker). Carries p h.process o (u.asked p) (incoming_of (s d p)) h.message.what) (sym (more.notes p))
-          (subst (λ (n : ℕ). Carries p h.process (l.notes p) n (incoming_of (s d p)) h.message.what) (sym asked)
-          (subst (λ (f : Pid → Option machine.KernelKnown). Carries p h.process (l.notes p) (v.asked p) (incoming_of (f p)) h.message.what) (sym (records d)) h.carries)),
+      subst (λ (n : ℕ). Carries p h.cargo n (incoming_of (s d p)) h.message.what) (sym asked)
+          (subst (λ (f : Pid → Option machine.KernelKnown). Carries p h.cargo (v.asked p) (incoming_of (f p)) h.message.what) (sym (records d)) h.carries),
     )
 
 first_kind : (o : Option Told) (u t : Told) → Some (first_told o u) ≡ Some t → is_between u.kind ≡ false → ((s : Told) → o ≡ Some s → is_between s.kind ≡ false) → is_between t.kind ≡ false
@@ -211,7 +212,7 @@ route_tokens pt l r s m (Own x) may records sane fits mirrors h =
     subst (λ (z : Told). TokenStands (after_put pt.view m x.to.at x.id (kind_of x.what) x.to.pid) (with_message l x.id (Some x)) s p x.id z) is
     (search (
       bag_here l x,
-      subst (λ (f : Pid → Option machine.KernelKnown). Carries p c.process (l.notes p) (pt.view.asked p) (incoming_of (f p)) x.what) (sym (records (destination_of x.id (told_of x)))) c.carries,
+      subst (λ (f : Pid → Option machine.KernelKnown). Carries p c.cargo (pt.view.asked p) (incoming_of (f p)) x.what) (sym (records (destination_of x.id (told_of x)))) c.carries,
     )))
 
 -- the world stands for the point behind the put
