@@ -89,6 +89,8 @@ pub use Rattle.dm_rule.proofs.Trails.Within.{forwarded_acting, held_acting, queu
 pub use Rattle.dm_rule.proofs.Turns.{machine_same}
 pub use Rattle.dm_rule.specs.Acts.{Act, act_of}
 pub use Rattle.dm_rule.specs.Ends.{Stood, first_with, standing_of, stood_at}
+pub use Rattle.dm_rule.specs.Holders.{Holder, holder_eq}
+pub use Rattle.dm_message.specs.Sorts.{Sort}
 pub use Rattle.dm_rule.specs.Good.{IsKept, first_undelivered, undelivered}
 pub use Rattle.dm_rule.specs.Migrating.{links_size, status_size}
 pub use Rattle.dm_rule.specs.Rule.{and, blocks_of, taken_at, taken_by, taken_of_home, takes_room}

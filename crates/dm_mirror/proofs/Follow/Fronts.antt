@@ -257,11 +257,10 @@ pub record Follows (b : Boot) (m : ℕ) (pt : Point) (l : Placed) (records : All
   pub mirrors : Mirrors pt.kernel (handled_view pt m y.id held topic) addresses placed
   pub own_front : (z : Message) → placed.bag y.id ≡ Some z → plain_message z ≡ None → OwnStands pt.view y.id z
   pub sent : state.sent ≡ k.sent + owns routes
-  pub single : owns routes ≤ 1
   pub known : is_server process ≡ false → KnownStands (handled_point pt m y.id held topic addresses) placed process (pt.view.queue m process) (held m process) (pt.view.known m process) (state.records process)
   -- it is no message of a migration under way
   pub still : is_between (kind_of y.what) ≡ false
-  pub may : AllMayPut (handled_point pt m y.id held topic addresses) placed (at_machine records m state.records) routes
+  pub may : AllMayPut (handled_point pt m y.id held topic addresses) placed (at_machine records m state.records) 0 routes
   pub leaves : FollowLeaves m pt l k c.rest y.id process held placed state
 
 pub elsewhere_apart : (m : ℕ) (s : Spot) → is_elsewhere m s ≡ true → s ≢ Inbox m
@@ -395,7 +394,6 @@ turns_follow b m pt l records k y c h =
       elsewhere = elsewhere_follows b m pt l records k y c h;
       may = h.may;
       late_may = tt;
-      single = (let z = h.single in omega (arith, z));
       topic = tt;
       own = own_follows b m pt l records k y c h;
       tokens = tokens_follow b m pt l records k y c h;

@@ -12,7 +12,7 @@ use Rattle.dm_kernel.specs.State.{with_sent}
 use Rattle.dm_mirror.proofs.Rooms.{taken_same}
 use Rattle.dm_mirror.proofs.Leave.Fronts.{FrontGone, Hearing, Present, leaving_none, none_rests, outcome_hears, stood, turn_hears, Leaving, leaving, stands_first, absent_next, may_between, own_is, process_hears, records_as, three_off, to_process}
 use Rattle.dm_mirror.proofs.Leave.Fronts.{untold_next, to_kernel_hears, own_stays, tokens_one, front_rest}
-use Rattle.dm_mirror.proofs.Turning.{Nothing, Own, TurnsAt, begun, has_process, is_elsewhere, late_parts, late_rule_parts, part_of, rule_part_of}
+use Rattle.dm_mirror.proofs.Turning.{own_first, own_behind, Nothing, Own, TurnsAt, begun, has_process, is_elsewhere, late_parts, late_rule_parts, part_of, rule_part_of}
 use Rattle.dm_mirror.proofs.Handle.Taking.{eq_self, machine_self, machine_off, record_self, record_off, record_others, some_same, stands_set, held_apart, map_same, queue_apart}
 use Rattle.dm_mirror.proofs.Handle.Rows.{Elsewhere, here_left, standing_begun}
 use Rattle.dm_mirror.proofs.Follow.Fronts.{front_gone as front_off, elsewhere_apart}
@@ -66,7 +66,6 @@ here_already b m pt l records k y machine h at_m is =
       elsewhere = search;
       may = tt;
       late_may = tt;
-      single = omega arith;
       topic = tt;
       own = own_stays pt.view next.view l refl h.own;
       tokens = tokens_one pt.view next.view l l records (at_machine records m k.records) p
@@ -159,6 +158,7 @@ sets_off b m pt l records k p machine asker says t a box to on h =
     (subst (λ (n : Known). KnownStands next on p (v.queue m p) (v.held m p) n (Some (Record.Frozen (frozen x machine asker)))) (sym frozen_known) leaves) in
     let taken = taken_same pt next m h.machines h.made (λ q. taken_at_record pt next m p q (Frozen to) (h.lives q) refl (sym (ap takes_room h.at_m))) in
     let id_is : ask.id ≡ own_id next.view = λ i. record { from = record { home = h.stands.here i; num = 0 }; n = h.sent i; answer = false } in
+    let id_first : ask.id ≡ own_behind next.view 0 = id_is ∙ own_first next.view in
     let sets : (q : Pid) → pid_eq p q ≡ false → state.records q ≡ k.records q =
     λ q off. ap (λ (c : Bool). if c then Some (Record.Frozen (frozen x machine asker)) else k.records q) off in
     let keeps : is_server p ≡ true → state.records p ≡ k.records p = λ is. absurd (false≢true (sym h.server ∙ is)) in
@@ -195,12 +195,11 @@ sets_off b m pt l records k p machine asker says t a box to on h =
         λ (j : MsgId) (z : Spot) (is : is_elsewhere m z ≡ true) (least : 1 ≤ standing (begun pt m).view j z). h.kept z j (elsewhere_apart m z is) (subst (λ (n : ℕ). 1 ≤ n) (standing_begun pt m j z) least),
       );
       may = (
-        may_between next on after_records m machine p ask (search
+        may_between next on after_records m machine p 0 ask (search
             (ap kernel_at h.stands.here, h.absent ask.id (ap l.bag id_is ∙ absent_next b pt l m h.run h.mirrors h.own), ap v.told id_is ∙ untold_next b pt m h.run, ap Of x_is, leaves.cargo)),
         tt,
       );
       late_may = tt;
-      single = omega arith;
       topic = tt;
       own = λ j w there none. (let g = h.own j w (h.back j w none there) none in record { told = g.told; mine = g.mine; sender = g.sender });
       tokens = tokens_one v next.view l on records after_records p
@@ -336,6 +335,7 @@ gives b m pt l records k y p w h g piece c turn hears proto x there carries =
     let gone : FrontGone m h.ids v next.view = search (front_rest m h.ids v next.view box, machine_off) in
     let taken = taken_same pt next m refl (λ n. refl) (λ q. refl) in
     let id_is : message.id ≡ own_id next.view = own_is b m pt l records k y h in
+    let id_first : message.id ≡ own_behind next.view 0 = id_is ∙ own_first next.view in
     let to_is : destination_of message.id (told_of message) ≡ y.id.from.home = ap (λ (d : Bool). if d then y.sender.pid.home else message.id.from.home) piece.of_source ∙ ap (λ (a : Addr). a.pid.home) c.sender in
     let same_there : after_records y.id.from.home p ≡ records y.id.from.home p = records_as records m y.id.from.home k.records state.records p h.records_here refl in
     record {
@@ -355,7 +355,7 @@ gives b m pt l records k y p w h g piece c turn hears proto x there carries =
       sent = λ e. ap (λ (n : ℕ). n + 1) e;
       elsewhere = search;
       may = (
-        may_between next l after_records m y.id.from.home p message (search (
+        may_between next l after_records m y.id.from.home p 0 message (search (
           ap (with_what message) piece.plain,
           piece.gives next.kernel next.view next.addresses message.id message.to.pid,
           ap kernel_at h.stands.here,
@@ -366,7 +366,6 @@ gives b m pt l records k y p w h g piece c turn hears proto x there carries =
         tt,
       );
       late_may = tt;
-      single = omega arith;
       topic = tt;
       own = own_stays v next.view l refl h.own;
       tokens = tokens_one v next.view l l records after_records p

@@ -7,7 +7,7 @@ use Rattle.dm_mirror.proofs.Names.{refl, Addr, pid_eq, place_of, nat_tests, kern
 use Rattle.dm_mirror.proofs.Names.{kernel_hears, at_machine, Known, own_id, not_kernels, is_fixed, enclosed, Carries, destination_of, about_same, cases_Bool, Record, Departure, pid_eq-is, HereStands, KnownStands, LeavesStand, Asker}
 use Rattle.dm_mirror.proofs.Names.{sort_of}
 use Rattle.dm_mirror.proofs.Handle.Taking.{front_of, times_self, machine_self, machine_off, some_same}
-use Rattle.dm_mirror.proofs.Turning.{IsCarried, MayOwn}
+use Rattle.dm_mirror.proofs.Turning.{IsCarried, MayOwn, own_behind}
 pub use Rattle.dm_mirror.proofs.Handle.Taking.{to_kernel}
 use Rattle.dm_rule.specs.Parts as rule
 use Rattle.dm_rule.specs.Rule as ruled
@@ -197,10 +197,10 @@ absent_next b pt l m run mirrors own =
 pub own_is : (b : Boot) (m : ℕ) (pt : Point) (l : Placed) (records : AllRecords) (k : KernelState) (y : Message) → Hearing b m pt l records k y → machine.own_id k ≡ id_of (pid_of m 0) (pt.view.count m)
 own_is b m pt l records k y h = λ i. record { from = record { home = h.stands.here i; num = 0 }; n = h.sent i; answer = false }
 
--- a message to the kernel of a machine c, about process p
-pub record Between (pt : Point) (placed : Placed) (records : AllRecords) (m c : ℕ) (p : Pid) (x : Message) : Type 0 where
+-- a message to the kernel of a machine c, about process p, behind so many of the kernel's own
+pub record Between (pt : Point) (placed : Placed) (records : AllRecords) (m c : ℕ) (p : Pid) (j : ℕ) (x : Message) : Type 0 where
   pub acting : pt.view.acting ≡ m
-  pub id : x.id ≡ own_id pt.view
+  pub id : x.id ≡ own_behind pt.view j
   pub plain : plain_message x ≡ None
   pub encloses : enclosed x.what ≡ []
   pub gives : own_given pt.kernel pt.view pt.addresses x.id x.to.pid (sort_of (kind_of x.what)) ≡ gets (Receiver x.id) (unmoved x.to.pid.home) ∷ gets (Sender x.id) (unmoved pt.view.acting) ∷ []
@@ -215,8 +215,8 @@ pub record Between (pt : Point) (placed : Placed) (records : AllRecords) (m c : 
   pub there : cargo_at placed p ≡ Some cargo
   pub carries : Carries p cargo (pt.view.asked p) (incoming_of (records (destination_of x.id (told_of x)) p)) x.what
 
-pub may_between : (pt : Point) (placed : Placed) (records : AllRecords) (m c : ℕ) (p : Pid) (x : Message) → Between pt placed records m c p x → MayOwn pt placed records x
-may_between pt placed records m c p x h =
+pub may_between : (pt : Point) (placed : Placed) (records : AllRecords) (m c : ℕ) (p : Pid) (j : ℕ) (x : Message) → Between pt placed records m c p j x → MayOwn pt placed records j x
+may_between pt placed records m c p j x h =
     let a = pt.addresses in
     let q = x.to.pid in
     let second : List Gets = gets (Sender x.id) (unmoved pt.view.acting) ∷ [] in
