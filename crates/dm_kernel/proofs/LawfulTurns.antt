@@ -23,6 +23,8 @@ use Rattle.dm_kernel.proofs.Making.{image_fits}
 use Rattle.dm_kernel.proofs.Serving.{first_is_on, has_run, runs_lawfully}
 use Rattle.dm_kernel.proofs.LawfulMoves.{asked_lawfully, asks_lawfully, asks_move_lawfully, board_follows_lawfully, chunk_lawfully, forwards_lawfully, gives_lawfully}
 use Rattle.dm_kernel.proofs.LawfulMoves.{holds_arriving_lawfully, holds_leaving_lawfully, leaves_lawfully, manager_follows_lawfully, migrates_lawfully, not_server, process_follows_lawfully, restarts_lawfully, stays_lawfully, takes_lawfully}
+use Rattle.dm_kernel.specs.May.{FitsServer}
+use Rattle.dm_kernel.specs.Handle.{server_handles}
 use Rattle.dm_kernel.proofs.LawfulRows.{Lawfully, all_dropped, answer_lawfully, child_lawfully, enough, if_lawfully, none_said, of_known, routed, routes_lawfully, said, with_one_more, with_process, with_queued, with_stopped, without}
 
 -- a process that executes
@@ -181,15 +183,6 @@ ended_lawfully s m (what.Migrate to) machine h message fits = record { state = h
 ended_lawfully s m (what.Update about) machine h message fits = record { state = h; parts = said none_said }
 ended_lawfully s m w machine h message fits = absurd fits
 
-known_lawfully : (s : KernelState) (m : Message) (o : Option KernelKnown) → s.here < 16 → IsLawfulState s → IsLawfulMessage m → ((x : Process) → o ≡ Some (Here x) → ¬ IsServer x.pid) → FitsKnown s m o
-    → s.records m.to.pid ≡ o → Lawfully (process_handles s m o)
-known_lawfully s m None machine h message none fits e = tt
-known_lawfully s m (Some (Here x)) machine h message none fits e = here_lawfully s m x m.what machine h message message.what (of_known s m.to.pid (Some (Here x)) h e) (none x refl) fits
-known_lawfully s m (Some (Frozen d)) machine h message none fits e = holds_leaving_lawfully s m d h (of_known s m.to.pid (Some (Frozen d)) h e) message
-known_lawfully s m (Some (Incoming a)) machine h message none fits e = holds_arriving_lawfully s m a h (of_known s m.to.pid (Some (Incoming a)) h e) message
-known_lawfully s m (Some (Forward place moves)) machine h message none fits e = forwards_lawfully s m place moves machine (of_known s m.to.pid (Some (Forward place moves)) h e) h message
-known_lawfully s m (Some (Ended y)) machine h message none fits e = ended_lawfully s m m.what machine h message fits
-
 -- a message for the kernel
 makes_lawfully : (b : Boot) (s : KernelState) (m : Message) (links : List Link) (i : BootImage) (room : Bool) → s.here < 16 → IsLawfulState s → IsLawfulMessage m
     → image_is_valid i ≡ true → length links ≤ 3 → All IsLawfulEnclosed links → Lawfully (makes b s m links i room)
@@ -313,25 +306,32 @@ manager_lawfully : (s : KernelState) (m : Message) (o : Option Servers) → s.he
 manager_lawfully s m None machine h pair message fits = tt
 manager_lawfully s m (Some v) machine h pair message fits = manager_told_lawfully s m v m.what machine h pair message message.what fits refl
 
+server_lawfully : (s : KernelState) (m : Message) → s.here < 16 → IsLawfulState s → IsLawfulMessage m → FitsServer s m → Lawfully (server_handles s m)
+server_lawfully s m machine h message fits =
+    if_lawfully (pid_eq m.to.pid switchboard) (board_handles s m s.servers) (manager_handles s m s.servers) (λ is. board_lawfully s m s.servers machine h h.servers message) (λ off. manager_lawfully s m s.servers machine h h.servers message (fits.manager off))
+
+known_lawfully : (s : KernelState) (m : Message) (o : Option KernelKnown) → s.here < 16 → IsLawfulState s → IsLawfulMessage m → ((x : Process) → o ≡ Some (Here x) → ¬ IsServer x.pid) → FitsKnown s m o
+    → s.records m.to.pid ≡ o → Lawfully (process_handles s m o)
+known_lawfully s m None machine h message none fits e = server_lawfully s m machine h message fits
+known_lawfully s m (Some (Here x)) machine h message none fits e = here_lawfully s m x m.what machine h message message.what (of_known s m.to.pid (Some (Here x)) h e) (none x refl) fits
+known_lawfully s m (Some (Frozen d)) machine h message none fits e = holds_leaving_lawfully s m d h (of_known s m.to.pid (Some (Frozen d)) h e) message
+known_lawfully s m (Some (Incoming a)) machine h message none fits e = holds_arriving_lawfully s m a h (of_known s m.to.pid (Some (Incoming a)) h e) message
+known_lawfully s m (Some (Forward place moves)) machine h message none fits e = forwards_lawfully s m place moves machine (of_known s m.to.pid (Some (Forward place moves)) h e) h message
+known_lawfully s m (Some (Ended y)) machine h message none fits e = ended_lawfully s m m.what machine h message fits
+
 -- each process that is here bears its name
 abbrev AreNamed : KernelState → Type 0
 AreNamed s = (p : Pid) (x : Process) → s.records p ≡ Some (Here x) → x.pid ≡ p
 
-no_server_here : (s : KernelState) (p : Pid) → AreNamed s → pid_eq p switchboard ≡ false → pid_eq p manager ≡ false → (x : Process) → s.records p ≡ Some (Here x) → ¬ IsServer x.pid
-no_server_here s p named one two x e server = not_server p one two (subst IsServer (named p x e) server)
+no_server_here : (s : KernelState) (p : Pid) → AreNamed s → (IsServer p → s.records p ≡ None) → (x : Process) → s.records p ≡ Some (Here x) → ¬ IsServer x.pid
+no_server_here s p named none x e server = let f : None ≡ Some (Here x) = sym (none (subst IsServer (named p x e) server)) ∙ e in cc
 
 -- a message
 handles_lawfully : (b : Boot) (s : KernelState) (m : Message) → s.here < 16 → images_are_valid b.images ≡ true → IsLawfulState s → AreNamed s → MayHandle b s m → Lawfully (handles b s m)
 handles_lawfully b s m machine images h named may =
-    if_lawfully (m.to.pid.num == 0) (kernel_handles b s m m.what) _
+    if_lawfully (m.to.pid.num == 0) (kernel_handles b s m m.what) (process_handles s m (s.records m.to.pid))
     (λ is. kernel_lawfully b s m m.what machine images h may.lawful may.lawful.what (may.for_kernel is))
-    (λ no.
-    if_lawfully (pid_eq m.to.pid switchboard) (board_handles s m s.servers) _
-    (λ is. board_lawfully s m s.servers machine h h.servers may.lawful)
-    (λ nor.
-    if_lawfully (pid_eq m.to.pid manager) (manager_handles s m s.servers) (process_handles s m (s.records m.to.pid))
-    (λ is. manager_lawfully s m s.servers machine h h.servers may.lawful (may.for_manager is))
-    (λ none. known_lawfully s m (s.records m.to.pid) machine h may.lawful (no_server_here s m.to.pid named nor none) (may.for_process no nor none) refl)))
+    (λ no. known_lawfully s m (s.records m.to.pid) machine h may.lawful (no_server_here s m.to.pid named may.for_server) (may.for_process no) refl)
 
 -- without the message that is taken, and with the ring turned
 without_front : (s : KernelState) (m : Message) (rest : List Message) → s.inbox ≡ m ∷ rest → IsLawfulState s → IsLawfulState (record s { inbox = rest })
@@ -346,7 +346,7 @@ fits_still b s rest (what.Create image links) h = h
 fits_still b s rest w h = h
 
 known_still : (s : KernelState) (m : Message) (rest : List Message) (o : Option KernelKnown) → FitsKnown s m o → FitsKnown (record s { inbox = rest }) m o
-known_still s m rest None h = h
+known_still s m rest None h = record { board = h.board; manager = h.manager }
 known_still s m rest (Some (Here x)) h = here_still s m x rest m.what h
   where
     here_still : (s : KernelState) (m : Message) (x : Process) (rest : List Message) (w : What) → FitsHere s m x w → FitsHere (record s { inbox = rest }) m x w
@@ -360,7 +360,7 @@ known_still s m rest (Some (Ended y)) h = h
 
 may_front : (b : Boot) (s : KernelState) (m : Message) (rest : List Message) → MayHandle b s m → MayHandle b (record s { inbox = rest }) m
 may_front b s m rest h =
-    record { lawful = h.lawful; for_kernel = λ is. fits_still b s rest m.what (h.for_kernel is); for_board = h.for_board; for_manager = h.for_manager; for_process = λ no nor none. known_still s m rest (s.records m.to.pid) (h.for_process no nor none) }
+    record { lawful = h.lawful; for_kernel = λ is. fits_still b s rest m.what (h.for_kernel is); for_process = λ no. known_still s m rest (s.records m.to.pid) (h.for_process no); for_server = h.for_server }
 
 round_lawfully : (b : Boot) (s : KernelState) (o : Option Pid) → s.here < 16 → IsLawfulState s → Lawfully (goes_round b s o)
 round_lawfully b s None machine h = record { state = h; parts = said none_said }

@@ -7,6 +7,7 @@ use Rattle.dm_onekernel.specs.Step as kernel
 use Rattle.dm_rule.specs.Migrating as migrating
 use Rattle.dm_rule.specs.Rule as rule
 use Rattle.dm_places.proofs.Any.AnyPart.{EasyLine, EasyParts}
+use Rattle.dm_message.specs.Kinds.{plain_kind}
 
 -- parts that need nothing beside
 abbrev pub Easy : Option (List Part) → Type 0
@@ -60,8 +61,12 @@ here_easy pt m id k x w h1 = search (arith, drops_easy, lands_easy, if_parts)
 ended_easy : (id : MsgId) (w : PlainWhat) → Easy (rule.ended_handles id w)
 ended_easy id w = search arith
 
-pub process_easy : (pt : Point) (m : ℕ) (id : MsgId) (k : PlainMessage) (w : Known) → AsksEasily id k.what → Easy (rule.process_handles pt m id k w)
-process_easy pt m id k w h1 = search (arith, here_easy, if_parts, ended_easy)
+pub own_easy : (pt : Point) (m : ℕ) (id : MsgId) (k : PlainMessage) (o : Option PlainProcess) → AsksEasily id k.what → Easy (bind o (λ (x : PlainProcess). rule.here_handles pt m id k x k.what))
+own_easy pt m id k o h1 = search (arith, here_easy)
+
+-- a message whose receiver isn't here
+pub away_easy : (pt : Point) (id : MsgId) (k : PlainMessage) (here : Option (List Part)) (w : Known) → Easy here → Easy (migrating.by_known pt id (plain_kind k.what) k.sender here (rule.ended_handles id k.what) w)
+away_easy pt id k here w h1 = search (arith, if_parts, ended_easy)
 
 -- a kernel's own message
 told_easy : (l : Line) → IsHeardLine l → EasyLine l

@@ -19,6 +19,8 @@ pub use Rattle.dm_mirror.proofs.Kernel.Sets.{known_at as known_on, map_same}
 use Rattle.dm_mirror.proofs.Handle.Taking.{not_it, held_apart, machine_off, stands_set}
 pub use Rattle.dm_mirror.proofs.End.Servers.{off as eq_off}
 use Rattle.dm_mirror.proofs.Turning.{Elsewhere, Nothing, Route, TurnsAt, AllMayPut, begun, has_process, is_elsewhere, owns, part_of, rule_part_of}
+use Rattle.dm_mirror.proofs.Names.{hears, kernel_hears}
+use Rattle.dm_mirror.proofs.Handle.Taking.{to_known, rule_to_known}
 
 -- a message that stands somewhere stands there once, and nowhere else
 outside_once : (c : Bool) (f : Spot → ℕ) (x : Spot) → StandsOutside c f → 1 ≤ f x → StandsOnce f
@@ -167,21 +169,20 @@ fronted b m pt l records k i is below run own_told mirrors stands own tokens min
 
 -- What a machine and the rule do with a message for a process, by what they know of it.
 
--- the last of four rows
-pub last_row : {X : Type 0} (x y z w : X) (a b c : Bool) → a ≡ false → b ≡ false → c ≡ false → (if a then x else if b then y else if c then z else w) ≡ w
-last_row x y z w a b c e f g = ap (λ (t : Bool). if t then x else if b then y else if c then z else w) e ∙ ap (λ (t : Bool). if t then y else if c then z else w) f ∙ ap (λ (t : Bool). if t then z else w) g
-
 -- the machine does what it knows of the process, and so does the rule
 pub machine_process : (b : Boot) (s : KernelState) (y : Message) (r : Option machine.KernelKnown) (o : Option Turned) → IsProcess y.to.pid → s.records y.to.pid ≡ r → machine_handle.process_handles s y r ≡ o → handles b s y ≡ o
-machine_process b s y r o is e h = grind (arith, nat_tests, last_row)
+machine_process b s y r o is e h = to_known b s y r is.number e ∙ h
 
 bag_process : (b : Boot) (pt : Point) (m : ℕ) (id : MsgId) (x : PlainMessage) (k : Known) (o : Option (List rule.Part)) → IsProcess x.to → pt.view.known m x.to ≡ k → process_handles pt m id x k ≡ o → outcomes.handles b pt m id x ≡ o
-bag_process b pt m id x k o is e h = grind (arith, nat_tests, last_row)
+bag_process b pt m id x k o is e h = rule_to_known b pt m id x k is.number e ∙ h
 
 -- a message of the bag, or a kernel's own
 pub rule_process : (b : Boot) (m : ℕ) (pt : Point) (l : Placed) (records : AllRecords) (k : KernelState) (y : Message) (c : Fronts b m pt l records k y) (w : Known) (o : Option (List rule.Part)) (z : Option PlainMessage) → IsProcess y.to.pid → pt.view.known m y.to.pid ≡ w → plain_message y ≡ z
     → ((x : PlainMessage) → z ≡ Some x → process_handles pt m y.id x w ≡ o) → (z ≡ None → process_told pt m y.id c.told w ≡ o) → comes_to b pt m y.id (pt.kernel.bag y.id) ≡ o
-rule_process b m pt l records k y c w o None is e plain bag own = grind (arith, nat_tests, plain_there, last_row)
+rule_process b m pt l records k y c w o None is e plain bag own =
+    let num : (c.told.receiver.num == 0) ≡ false = ap (λ (p : Pid). p.num == 0) c.receiver ∙ is.number in
+    ap (comes_to b pt m y.id) (plain_there b m pt l records k y c ∙ plain) ∙ ap (hears b pt m y.id) c.told_is ∙ ap (λ (d : Bool). if d then kernel_hears b pt m y.id c.told.kind c.told.about else process_told pt m y.id c.told (pt.view.known m c.told.receiver)) num
+    ∙ ap (process_told pt m y.id c.told) (ap (pt.view.known m) c.receiver ∙ e) ∙ own refl
 rule_process b m pt l records k y c w o (Some x) is e plain bag own =
     let to : y.to.pid ≡ x.to = (parts y x plain).to in
     ap (comes_to b pt m y.id) (plain_there b m pt l records k y c ∙ plain) ∙ bag_process b pt m y.id x w o (subst IsProcess to is) (ap (pt.view.known m) (sym to) ∙ e) (bag x refl)

@@ -15,6 +15,8 @@ use Rattle.dm_onekernel.specs.Step as kernel
 use Rattle.dm_kernel.specs.Handle as machine_handle
 use Rattle.dm_kernel.specs.State as machine
 use Rattle.dm_rule.specs.Parts as rule
+use Rattle.dm_mirror.proofs.Names.{kernel_hears, process_told}
+use Rattle.dm_mirror.proofs.Handle.Taking.{no_server, server_here, to_board, to_manager}
 
 -- the servers may change, and addresses
 abbrev pub with_servers : Placed → Board → Managing → Placed
@@ -174,7 +176,7 @@ updated_here_turn b m pt l records k y c about fixed knows e =
       process = p;
       turn = machine_process b s y (Some (Record.Here x)) (Some (record { state = state; parts = Part.Says (Line.Updated y.id n) ∷ [] })) is here.1 (ap (machine_handle.here_handles s y x) e);
       outcome = rule_process b m pt l records k y c Here (Some (rule.Says (Line.Updated y.id n) ∷ [])) (plain_message y) is knows refl (λ w f. absurd (no_plain y w (ap plain_what e) f))
-          (λ f. ap (λ (k : MessageKind). told_here pt m y.id c.told (sort_of k)) (c.kind ∙ ap kind_of e) ∙ ap Some (counted_line pt y c.told n was count));
+          (λ f. no_server (pid_eq c.told.receiver switchboard) (pid_eq c.told.receiver manager) _ _ _ (ap (λ (q : Pid). pid_eq q switchboard) c.receiver ∙ is.board) (ap (λ (q : Pid). pid_eq q manager) c.receiver ∙ is.manager_) ∙ ap (λ (k : MessageKind). told_here pt m y.id c.told (sort_of k)) (c.kind ∙ ap kind_of e) ∙ ap Some (counted_line pt y c.told n was count));
       after = refl;
       mirrors = updated_mirrors (begun pt m) l y.id n (told_of y) r about.at about.moves z start told (ap about_of e) is.board is.manager_ there;
       own_front = λ w f plain. c.own y.id w f plain;
@@ -199,11 +201,18 @@ pub first_servers : (l : Placed) (m : ℕ) → m ≡ 0 → servers_at l m ≡ So
 first_servers l m e = ap (servers_at l) e
 
 -- the rule at a server
-server_board : (b : Boot) (pt : Point) (m : ℕ) (id : MsgId) (t : Told) (o : Option (List rule.Part)) → t.receiver ≡ switchboard → told_server pt id t (sort_of t.kind) ≡ o → hears b pt m id (Some t) ≡ o
-server_board b pt m id t o e h = grind (arith, nat_tests)
+server_told : (b : Boot) (pt : Point) (m : ℕ) (id : MsgId) (t : Told) (k : Known) → (t.receiver.num == 0) ≡ false → pt.view.known m t.receiver ≡ k → hears b pt m id (Some t) ≡ process_told pt m id t k
+server_told b pt m id t k num is = ap (λ (c : Bool). if c then kernel_hears b pt m id t.kind t.about else process_told pt m id t (pt.view.known m t.receiver)) num ∙ ap (process_told pt m id t) is
 
-server_manager : (b : Boot) (pt : Point) (m : ℕ) (id : MsgId) (t : Told) (o : Option (List rule.Part)) → t.receiver ≡ manager → told_server pt id t (sort_of t.kind) ≡ o → hears b pt m id (Some t) ≡ o
-server_manager b pt m id t o e h = grind (arith, nat_tests)
+server_board : (b : Boot) (pt : Point) (m : ℕ) (id : MsgId) (t : Told) (o : Option (List rule.Part)) → t.receiver ≡ switchboard → pt.view.known m switchboard ≡ Here → told_server pt id t (sort_of t.kind) ≡ o → hears b pt m id (Some t) ≡ o
+server_board b pt m id t o e here h = server_told b pt m id t Here (ap (λ (q : Pid). q.num == 0) e) (ap (pt.view.known m) e ∙ here) ∙ ap (λ (c : Bool). if c then told_server pt id t (sort_of t.kind) else if pid_eq t.receiver manager then told_server pt id t (sort_of t.kind) else told_here pt m id t (sort_of t.kind)) (ap (λ (q : Pid). pid_eq q switchboard) e) ∙ h
+
+server_manager : (b : Boot) (pt : Point) (m : ℕ) (id : MsgId) (t : Told) (o : Option (List rule.Part)) → t.receiver ≡ manager → pt.view.known m manager ≡ Here → told_server pt id t (sort_of t.kind) ≡ o → hears b pt m id (Some t) ≡ o
+server_manager b pt m id t o e here h =
+    let told = told_server pt id t (sort_of t.kind) in
+    let other = told_here pt m id t (sort_of t.kind) in
+    server_told b pt m id t Here (ap (λ (q : Pid). q.num == 0) e) (ap (pt.view.known m) e ∙ here) ∙ ap (λ (c : Bool). if c then told else if pid_eq t.receiver manager then told else other) (ap (λ (q : Pid). pid_eq q switchboard) e)
+    ∙ ap (λ (c : Bool). if c then told else other) (ap (λ (q : Pid). pid_eq q manager) e) ∙ h
 
 -- the switchboard's links follow
 pub updated_board_turn : (b : Boot) (m : ℕ) (pt : Point) (l : Placed) (records : AllRecords) (k : KernelState) (y : Message) (c : Fronts b m pt l records k y) (about : Addr) → y.to.pid ≡ switchboard → y.what ≡ What.Update about → TurnsAt b m pt l records k
@@ -224,9 +233,9 @@ updated_board_turn b m pt l records k y c about to e =
       board = placed.board;
       manager = l.manager;
       servers = Some (record v { board = placed.board });
-      turn = grind (arith, nat_tests);
+      turn = to_board b (record k { inbox = c.rest }) y (ap (λ (p : Pid). p.num == 0) to) (c.stands.no_server y.to.pid (ap is_server to)) (ap (λ (p : Pid). pid_eq p switchboard) to) ∙ (let e_ : machine_handle.board_handles (record k { inbox = c.rest }) y k.servers ≡ Some (record { state = record k { inbox = c.rest; servers = Some (record v { board = placed.board }) }; parts = Part.Says (Line.Updated y.id n) ∷ [] }) = grind (arith, nat_tests) in e_);
       outcome = ap (comes_to b pt m y.id) (plain_there b m pt l records k y c ∙ ap (λ (w : What). with_what y (plain_what w)) e) ∙ ap (hears b pt m y.id) c.told_is
-          ∙ server_board b pt m y.id c.told (Some (rule.Says (Line.Updated y.id n) ∷ [])) (c.receiver ∙ to) (ap (λ (k : MessageKind). told_server pt y.id c.told (sort_of k)) (c.kind ∙ ap kind_of e) ∙ ap Some (counted_line pt y c.told n was count));
+          ∙ server_board b pt m y.id c.told (Some (rule.Says (Line.Updated y.id n) ∷ [])) (c.receiver ∙ to) (server_here b pt m switchboard c.run home refl) (ap (λ (k : MessageKind). told_server pt y.id c.told (sort_of k)) (c.kind ∙ ap kind_of e) ∙ ap Some (counted_line pt y c.told n was count));
       after = refl;
       mirrors = updated_board_mirrors (begun pt m) l y.id n (told_of y) r about.at about.moves start told (ap about_of e) to none;
       board_stays = λ off. absurd (off home);
@@ -254,9 +263,9 @@ updated_manager_turn b m pt l records k y c about to e =
       board = l.board;
       manager = placed.manager;
       servers = Some (record v { manager = placed.manager });
-      turn = grind (arith, nat_tests);
+      turn = to_manager b (record k { inbox = c.rest }) y (ap (λ (p : Pid). p.num == 0) to) (c.stands.no_server y.to.pid (ap is_server to)) (ap (λ (p : Pid). pid_eq p switchboard) to) ∙ (let e_ : machine_handle.manager_handles (record k { inbox = c.rest }) y k.servers ≡ Some (record { state = record k { inbox = c.rest; servers = Some (record v { manager = placed.manager }) }; parts = Part.Says (Line.Updated y.id n) ∷ [] }) = grind (arith, nat_tests) in e_);
       outcome = ap (comes_to b pt m y.id) (plain_there b m pt l records k y c ∙ ap (λ (w : What). with_what y (plain_what w)) e) ∙ ap (hears b pt m y.id) c.told_is
-          ∙ server_manager b pt m y.id c.told (Some (rule.Says (Line.Updated y.id n) ∷ [])) (c.receiver ∙ to) (ap (λ (k : MessageKind). told_server pt y.id c.told (sort_of k)) (c.kind ∙ ap kind_of e) ∙ ap Some (counted_line pt y c.told n was count));
+          ∙ server_manager b pt m y.id c.told (Some (rule.Says (Line.Updated y.id n) ∷ [])) (c.receiver ∙ to) (server_here b pt m manager c.run home refl) (ap (λ (k : MessageKind). told_server pt y.id c.told (sort_of k)) (c.kind ∙ ap kind_of e) ∙ ap Some (counted_line pt y c.told n was count));
       after = refl;
       mirrors = updated_manager_mirrors (begun pt m) l y.id n (told_of y) r about.at about.moves start told (ap about_of e) to none;
       board_stays = λ off. refl;

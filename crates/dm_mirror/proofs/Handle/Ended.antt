@@ -10,7 +10,7 @@ use Rattle.dm_onekernel.specs.Kernel.{Ended, with_sent}
 use Rattle.dm_kernel.specs.declared.part.Part.TheVariants.{Routes}
 pub use Rattle.dm_rule.proofs.Turns.{without_front_none as front_none, at_record_same as queue_same}
 use Rattle.dm_mirror.proofs.Handle.Rows.{IsLeft, turns_row, handled_point, here_left}
-use Rattle.dm_mirror.proofs.Handle.Taking.{Taking, sane_of, known_on, map_same, IsProcess, no_kernel, not_server, to_process, rule_to_process}
+use Rattle.dm_mirror.proofs.Handle.Taking.{Taking, sane_of, known_on, map_same, IsProcess, no_kernel, not_server, to_process, rule_to_process, rule_to_here}
 use Rattle.dm_mirror.proofs.Turning.{Row, routed, rule_routed}
 use Rattle.dm_mirror.proofs.Handle.Servers.{placed_bag, placed_leaves, placed_processes, sent_leaves}
 use Rattle.dm_rule.specs.Rule as rule
@@ -165,7 +165,7 @@ pub here_turn : (b : Boot) (m : ℕ) (pt : Point) (l : Placed) (k : KernelState)
 here_turn b m pt l k y w c h o e = to_process b (record k { inbox = c.rest }) y h.process ∙ ap (process_handles (record k { inbox = c.rest }) y) h.there ∙ e
 
 pub here_outcome : (b : Boot) (m : ℕ) (pt : Point) (l : Placed) (k : KernelState) (y : Message) (w : PlainWhat) (h : IsHere b m pt l k y.to.pid) (o : Option (List Part)) → rule.here_handles pt m y.id (plainly y w) (plain_process h.x) w ≡ o → rule.handles b pt m y.id (plainly y w) ≡ o
-here_outcome b m pt l k y w h o e = grind (arith, nat_tests, rule_to_process)
+here_outcome b m pt l k y w h o e = grind (arith, nat_tests, rule_to_here b pt m y.id (plainly y w) h.process h.known)
 
 -- the kernel's step for a served message
 pub served_step : (s : OneKernel) (i : MsgId) (x : PlainMessage) (z : PlainProcess) (t : OneKernel) → s.bag i ≡ Some x → s.processes x.to ≡ Some (Alive z) → s.notes x.to ≡ None

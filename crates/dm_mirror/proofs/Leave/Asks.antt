@@ -10,7 +10,7 @@ use Rattle.dm_mirror.proofs.Names.{option_and_then}
 use Rattle.dm_mirror.proofs.Recorded.{Recorded, recorded}
 use Rattle.dm_kernel.specs.State.{with_sent}
 use Rattle.dm_mirror.proofs.Rooms.{taken_same}
-use Rattle.dm_mirror.proofs.Leave.Fronts.{FrontGone, Hearing, Present, leaving_none, none_rests, outcome_hears, stood, turn_hears, Leaving, leaving, stands_first, absent_next, may_between, own_is, process_hears, records_as, three_off, to_process}
+use Rattle.dm_mirror.proofs.Leave.Fronts.{FrontGone, Hearing, Present, leaving_none, none_rests, outcome_hears, stood, turn_hears, Leaving, leaving, stands_first, absent_next, may_between, own_is, here_hears, records_as, three_off, to_process}
 use Rattle.dm_mirror.proofs.Leave.Fronts.{untold_next, to_kernel_hears, own_stays, tokens_one, front_rest}
 use Rattle.dm_mirror.proofs.Turning.{Nothing, Own, TurnsAt, begun, has_process, is_elsewhere, late_parts, late_rule_parts, part_of, rule_part_of}
 use Rattle.dm_mirror.proofs.Handle.Taking.{eq_self, machine_self, machine_off, record_self, record_off, record_others, some_same, stands_set, held_apart, map_same, queue_apart}
@@ -53,7 +53,7 @@ here_already b m pt l records k y machine h at_m is =
       late = Nothing;
       turn = turn_hears b m pt l records k z h (turned s (Part.Says (Line.Here y.id) ∷ []))
           (to_process b s z (Some (Record.Here x)) loose is_here ∙ ap (λ (c : Bool). if c then turned s (Part.Says (Line.Here y.id) ∷ []) else freezes s p x machine) to_here);
-      outcome = outcome_hears b m pt l records k z h (Some (rule.Says (Line.Here y.id) ∷ [])) (process_hears b pt m y.id (told_of z) Here loose at_m
+      outcome = outcome_hears b m pt l records k z h (Some (rule.Says (Line.Here y.id) ∷ [])) (here_hears b pt m y.id (told_of z) loose at_m
           ∙ ap (λ (c : Bool). Some (if c then rule.Says (Line.Here y.id) ∷ [] else rule.Says (Line.Migration Stage.Frozen p) ∷ rule.Says (Line.Migration Stage.Asked p) ∷ to_kernel MessageKind.Ask machine ∷ [])) same);
       next = next;
       after = refl;
@@ -247,7 +247,7 @@ asks_other b m pt l records k y machine h at_m apart whole =
       turn = turn_hears b m pt l records k z h (freezes s p x machine)
           (to_process b s z (Some (Record.Here x)) loose is_here ∙ ap (λ (c : Bool). if c then turned s (Part.Says (Line.Here y.id) ∷ []) else freezes s p x machine) off_here);
       outcome = outcome_hears b m pt l records k z h (Some (leaves_for p machine))
-          (process_hears b pt m y.id (told_of z) Here loose at_m ∙ ap (λ (c : Bool). Some (if c then rule.Says (Line.Here y.id) ∷ [] else leaves_for p machine)) off_rule);
+          (here_hears b pt m y.id (told_of z) loose at_m ∙ ap (λ (c : Bool). Some (if c then rule.Says (Line.Here y.id) ∷ [] else leaves_for p machine)) off_rule);
       after = refl;
       on_mirrors = mirrors_view pt.kernel v next.view pt.addresses l refl h.mirrors;
       spared = record { lives = λ q. refl; made = λ n. refl; machines = refl; processes = λ q. refl; board = refl; manager = refl };

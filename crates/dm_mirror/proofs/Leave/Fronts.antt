@@ -12,6 +12,9 @@ pub use Rattle.dm_mirror.proofs.Handle.Taking.{to_kernel}
 use Rattle.dm_rule.specs.Parts as rule
 use Rattle.dm_rule.specs.Rule as ruled
 use Rattle.dm_kernel.specs.State as machine
+use Rattle.dm_mirror.proofs.Names.{is_server, told_here}
+use Rattle.dm_rule.proofs.Homes.Calls.{or-left}
+use Rattle.dm_mirror.proofs.Handle.Taking.{to_known, no_server}
 
 -- what stands of machine m and its kernel
 pub record Present (b : Boot) (m : ℕ) (pt : Point) (l : Placed) (records : AllRecords) (k : KernelState) : Type 0 where
@@ -239,10 +242,16 @@ pub three_off : (a b c : Bool) → (a || (b || c)) ≡ false → (a ≡ false) �
 three_off a b c e = grind (arith, nat_tests)
 
 pub to_process : (b : Boot) (s : KernelState) (y : Message) (r : Option machine.KernelKnown) → is_fixed y.to.pid ≡ false → s.records y.to.pid ≡ r → handles b s y ≡ process_handles s y r
-to_process b s y r loose is = grind (arith, nat_tests, three_off)
+to_process b s y r loose is = to_known b s y r (or-left (y.to.pid.num == 0) (is_server y.to.pid) loose) is
 
 pub process_hears : (b : Boot) (pt : Point) (m : ℕ) (i : MsgId) (t : Told) (n : Known) → is_fixed t.receiver ≡ false → pt.view.known m t.receiver ≡ n → hears b pt m i (Some t) ≡ process_told pt m i t n
-process_hears b pt m i t n loose is = grind (arith, nat_tests, three_off)
+process_hears b pt m i t n loose is =
+    ap (λ (c : Bool). if c then kernel_hears b pt m i t.kind t.about else process_told pt m i t (pt.view.known m t.receiver)) (or-left (t.receiver.num == 0) (is_server t.receiver) loose) ∙ ap (process_told pt m i t) is
+
+pub here_hears : (b : Boot) (pt : Point) (m : ℕ) (i : MsgId) (t : Told) → is_fixed t.receiver ≡ false → pt.view.known m t.receiver ≡ Here → hears b pt m i (Some t) ≡ told_here pt m i t (sort_of t.kind)
+here_hears b pt m i t loose is =
+    let (num, one, two) = three_off (t.receiver.num == 0) (pid_eq t.receiver switchboard) (pid_eq t.receiver manager) loose in
+    process_hears b pt m i t Here loose is ∙ no_server (pid_eq t.receiver switchboard) (pid_eq t.receiver manager) _ _ _ one two
 
 pub to_kernel_hears : (b : Boot) (pt : Point) (m : ℕ) (i : MsgId) (t : Told) → (t.receiver.num == 0) ≡ true → hears b pt m i (Some t) ≡ kernel_hears b pt m i t.kind t.about
 to_kernel_hears b pt m i t num = grind (arith, nat_tests)

@@ -9,7 +9,7 @@ use Rattle.dm_movelaws.proofs.Ends.Parts.{packet_smooth, one_if, zero_if, Rest, 
 use Rattle.dm_movelaws.proofs.Ends.Parts.{own_untold, smooth_same, Tame, still_same, Smooth, smooth_trans, moves_none, lines_count, smooth_still}
 use Rattle.dm_movelaws.proofs.Ends.Open.{Opens, Adds, Balance, level_balance, smooth_opens, add_opens, moving_in, still_moves, here_stays, Turn, Comes, quiet_row, and_off, line_then, other_still, pid_swap, Neither, net_none}
 use Rattle.dm_movelaws.proofs.Ends.Open.{net_level}
-use Rattle.dm_movelaws.proofs.Ends.Hears.{ComesOf, kernel_comes, process_comes, server_comes}
+use Rattle.dm_movelaws.proofs.Ends.Hears.{ComesOf, kernel_comes, process_comes}
 use Rattle.dm_movelaws.proofs.Leading.{next_of, part_leads, net_says, lines_are, asker_known}
 use Rattle.dm_movelaws.proofs.Asked.Following.{Row, Plain, Ends, IsHere, Leaves, outcome_row, plain_notes, ends_notes, here_notes, leaves_notes, AllUnmarked, IsUnmarked, net_unmarked, EndLine}
 use Rattle.dm_rule.specs.Rule as rule
@@ -288,7 +288,7 @@ directed : (p : Pid) (b : Boot) (pt : Point) (d : Step) (parts : List Part) (w :
 directed p b pt d parts w h phased known fits is =
     let hears_comes : (p : Pid) (b : Boot) (o : Point) (m : ℕ) (i : MsgId) (is : List MsgId) (t : Told) (h : Turn (turned o m) i is t) → ComesOf p (turned o m) h.phases (hears b o m i (Some t)) = λ p b o m i is t h.
     let of_if : (p : Pid) (pt : Point) (h : InPhases pt.view) (c : Bool) (x y : Option (List Part)) → ComesOf p pt h x → ComesOf p pt h y → ComesOf p pt h (if c then x else y) = λ p pt h c x y k l. grind (arith, nat_tests) in
-    search (of_if, kernel_comes, server_comes, process_comes) in
+    search (of_if, kernel_comes, process_comes) in
     by_outcome (λ x ps. (u : Spelled) → Row pt x ps → spelled (begun pt x) ps ≡ Some u → OwnDirected p x (begun pt x) (begun_phases pt x h) ps u) b pt d parts (record {
       round = λ m ps box e u row said.
           (let s = begins pt m phased known in

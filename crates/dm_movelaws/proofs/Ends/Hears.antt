@@ -13,6 +13,7 @@ use Rattle.dm_movelaws.proofs.Ends.Open.{line_then, and_off, other_still, set_he
 use Rattle.dm_movelaws.proofs.Leading.{next_of, part_leads, asker_known}
 use Rattle.dm_movelaws.proofs.Ends.Sources.{smooth_moves, held_smooth, again_told, all_sent, sends_count, sent_begins, rejoins_smooth, Sending}
 use Rattle.dm_rule.specs.View as view
+use Rattle.dm_movelaws.proofs.Names.{switchboard}
 
 abbrev pub ComesOf : Pid → (pt : Point) → InPhases pt.view → Option (List Part) → Type 0
 ComesOf p pt h None = ⊤
@@ -283,13 +284,19 @@ over_comes p pt i is t MessageKind.Migrate h e = ended_comes p pt i is t h e
 over_comes p pt i is t MessageKind.Update h e = updated_comes p pt i is t 0 h e
 over_comes p pt i is t k h e = tt
 
-pub server_comes : (p : Pid) (o pt : Point) (i : MsgId) (is : List MsgId) (t : Told) (k : MessageKind) (h : Turn pt i is t) → t.kind ≡ k → ComesOf p pt h.phases (told_server o i t (sort_of k))
+server_comes : (p : Pid) (o pt : Point) (i : MsgId) (is : List MsgId) (t : Told) (k : MessageKind) (h : Turn pt i is t) → t.kind ≡ k → ComesOf p pt h.phases (told_server o i t (sort_of k))
 server_comes p o pt i is t MessageKind.Update h e = updated_comes p pt i is t _ h e
 server_comes p o pt i is t k h e = tt
 
+own_comes : (p : Pid) (o : Point) (m : ℕ) (i : MsgId) (is : List MsgId) (t : Told) (d e : Bool) (h : Turn (turned o m) i is t) → o.view.known m t.receiver ≡ Here
+    → ComesOf p (turned o m) h.phases (if d then told_server o i t (sort_of t.kind) else if e then told_server o i t (sort_of t.kind) else told_here o m i t (sort_of t.kind))
+own_comes p o m i is t true e h known = server_comes p o (turned o m) i is t t.kind h refl
+own_comes p o m i is t false true h known = server_comes p o (turned o m) i is t t.kind h refl
+own_comes p o m i is t false false h known = here_comes p o m i is t t.kind h refl known
+
 pub process_comes : (p : Pid) (o : Point) (m : ℕ) (i : MsgId) (is : List MsgId) (t : Told) (k : Known) (h : Turn (turned o m) i is t) → o.view.known m t.receiver ≡ k → ComesOf p (turned o m) h.phases (process_told o m i t k)
 process_comes p o m i is t Unknown h known = tt
-process_comes p o m i is t Here h known = here_comes p o m i is t t.kind h refl known
+process_comes p o m i is t Here h known = own_comes p o m i is t (pid_eq t.receiver switchboard) (pid_eq t.receiver manager) h known
 process_comes p o m i is t (Forward at moves) h known = forwards_comes p (turned o m) i is t o.addresses t.kind manager at h
 process_comes p o m i is t Ended h known = over_comes p (turned o m) i is t t.kind h refl
 process_comes p o m i is t _ h known = held_comes p (turned o m) i is t h

@@ -11,6 +11,8 @@ use Rattle.dm_movelaws.proofs.Stages.Spares.{mark_in, spares_same, spares_calm, 
 use Rattle.dm_movelaws.proofs.Stages.Rows.{about_others, plain_others, row_marked, AllMild, mild_marks, net_marks, TameAt, parts_spare}
 use Rattle.dm_movelaws.proofs.Stages.Steps.{freezes_row, setting_row, told_marked, round_mild, handles_mild, Hears, Calms, Freezes, Handled, Spared, SetsOff, freezes, forwards_mild}
 use Rattle.dm_movelaws.proofs.Leading.{next_of, line_fits}
+use Rattle.dm_movelaws.proofs.Names.{told_here}
+use Rattle.dm_rule.specs.Migrating.{by_known, told_ended}
 
 -- where the parts of a turn begin
 pub record Turning (o pt : Point) (m : ℕ) : Type 0 where
@@ -50,24 +52,23 @@ process_marked o pt m i is t k ps w h front told plain known (Freezes here are) 
     (row_marked pt.view w.point.view q (λ p. marks_of p (freezes q to))
     (freezes_row pt i is q to w (record { sane = h.sane; fits = h.fits; front = front; others = plain_others pt.view i t q told plain }) h.topic here_ (ap (spelled pt) (sym are) ∙ n)))
 
-hears_by : (b : Boot) (o pt : Point) (m : ℕ) (i : MsgId) (is : List MsgId) (t : Told) (c d g : Bool) (ps : List Part) (w : Spelled) → Turning o pt m → (t.receiver.num == 0) ≡ c → pt.view.inbox pt.view.acting ≡ i ∷ is → pt.view.told i ≡ Some t
-    → (if c then rule.kernel_hears b o m i t.kind t.about else if d then told_server o i t (sort_of t.kind) else if g then told_server o i t (sort_of t.kind) else process_told o m i t (o.view.known m t.receiver)) ≡ Some ps → spelled pt ps ≡ Some w → MarkedBy pt w ps
-hears_by b o pt m i is t true d g ps w h c front told e n = kernel_marked b o pt m i is t t.about ps w h front told refl e n
-hears_by b o pt m i is t false true g ps w h c front told e n =
-    let server_mild : (o : Point) (id : MsgId) (t : Told) (k : MessageKind) (ps : List Part) → told_server o id t (sort_of k) ≡ Some ps → (me : Pid) → AllMild me (Some id) ps = λ o id t k ps e me. grind (arith, nat_tests) in
-    let plain = plain_by pt i is t h.phases (is_between t.kind) refl front told c in
-    mild_marked pt (Some i) ps w h.sane h.fits (tame_front pt.view i (record { what = t; told = told; plain = plain })) (server_mild o i t t.kind ps e) n
-hears_by b o pt m i is t false false true ps w h c front told e n =
-    let server_mild : (o : Point) (id : MsgId) (t : Told) (k : MessageKind) (ps : List Part) → told_server o id t (sort_of k) ≡ Some ps → (me : Pid) → AllMild me (Some id) ps = λ o id t k ps e me. grind (arith, nat_tests) in
-    let plain = plain_by pt i is t h.phases (is_between t.kind) refl front told c in
-    mild_marked pt (Some i) ps w h.sane h.fits (tame_front pt.view i (record { what = t; told = told; plain = plain })) (server_mild o i t t.kind ps e) n
-hears_by b o pt m i is t false false false ps w h c front told e n =
-    let process_hears : (o : Point) (m : ℕ) (id : MsgId) (t : Told) (k : Known) (ps : List Part) → process_told o m id t k ≡ Some ps → Hears k id t ps = λ o m id t k ps e. grind (arith, nat_tests, forwards_mild) in
-    search (process_marked, plain_by, process_hears)
+own_hears : (o : Point) (m : ℕ) (id : MsgId) (t : Told) (d g : Bool) (ps : List Part) → (if d then told_server o id t (sort_of t.kind) else if g then told_server o id t (sort_of t.kind) else told_here o m id t (sort_of t.kind)) ≡ Some ps → Hears Here id t ps
+own_hears o m id t true g ps e = let mild : (k : MessageKind) → told_server o id t (sort_of k) ≡ Some ps → (me : Pid) → AllMild me (Some id) ps = λ k f me. grind (arith, nat_tests) in Calms (mild t.kind e)
+own_hears o m id t false true ps e = let mild : (k : MessageKind) → told_server o id t (sort_of k) ≡ Some ps → (me : Pid) → AllMild me (Some id) ps = λ k f me. grind (arith, nat_tests) in Calms (mild t.kind e)
+own_hears o m id t false false ps e = let own : (k : MessageKind) → told_here o m id t (sort_of k) ≡ Some ps → Hears Here id t ps = λ k f. grind (arith, nat_tests) in own t.kind e
+
+process_hears : (o : Point) (m : ℕ) (id : MsgId) (t : Told) (k : Known) (ps : List Part) → process_told o m id t k ≡ Some ps → Hears k id t ps
+process_hears o m id t Here ps e = own_hears o m id t (pid_eq t.receiver switchboard) (pid_eq t.receiver manager) ps e
+process_hears o m id t k ps e = let away : (l : Known) → by_known o id t.kind manager None (told_ended id (sort_of t.kind)) l ≡ Some ps → Hears l id t ps = λ l f. grind (arith, nat_tests, forwards_mild) in away k e
+
+hears_by : (b : Boot) (o pt : Point) (m : ℕ) (i : MsgId) (is : List MsgId) (t : Told) (c : Bool) (ps : List Part) (w : Spelled) → Turning o pt m → (t.receiver.num == 0) ≡ c → pt.view.inbox pt.view.acting ≡ i ∷ is → pt.view.told i ≡ Some t
+    → (if c then rule.kernel_hears b o m i t.kind t.about else process_told o m i t (o.view.known m t.receiver)) ≡ Some ps → spelled pt ps ≡ Some w → MarkedBy pt w ps
+hears_by b o pt m i is t true ps w h c front told e n = kernel_marked b o pt m i is t t.about ps w h front told refl e n
+hears_by b o pt m i is t false ps w h c front told e n = search (process_marked, plain_by, process_hears)
 
 hears_marked : (b : Boot) (o pt : Point) (m : ℕ) (i : MsgId) (is : List MsgId) (q : Option Told) (ps : List Part) (w : Spelled) → Turning o pt m → pt.view.inbox pt.view.acting ≡ i ∷ is → pt.view.told i ≡ q → rule.hears b o m i q ≡ Some ps → spelled pt ps ≡ Some w → MarkedBy pt w ps
 hears_marked b o pt m i is None ps w h front told e n = cc
-hears_marked b o pt m i is (Some t) ps w h front told e n = hears_by b o pt m i is t (t.receiver.num == 0) (pid_eq t.receiver switchboard) (pid_eq t.receiver manager) ps w h refl front told e n
+hears_marked b o pt m i is (Some t) ps w h front told e n = hears_by b o pt m i is t (t.receiver.num == 0) ps w h refl front told e n
 
 -- a turn
 front_tame : (pt : Point) (i : MsgId) (is : List MsgId) (msg : PlainMessage) → Sane pt → State None pt → pt.view.inbox pt.view.acting ≡ i ∷ is → pt.kernel.bag i ≡ Some msg → Tame pt.view i

@@ -11,6 +11,8 @@ use Rattle.dm_onekernel.specs.Step as kernel
 use Rattle.dm_rule.specs.View as view
 use Rattle.dm_onekernel.specs.Manager as manage
 use Rattle.dm_rule.specs.Rule as rule
+use Rattle.std.proofs.lemmas.Bool.{false_from_ne_true}
+use Rattle.dm_rule.specs.View.{Known}
 
 -- the update is at the front of an inbox and not in the bag: its receiver is a server or here and the line counts the addresses
 -- that are behind, or its receiver has ended
@@ -18,7 +20,7 @@ pub record Handles (o : Point) (m : ℕ) (id : MsgId) (n : ℕ) : Type 0 where
   pub told : Told
   pub is : o.view.told id ≡ Some told
   pub update : told.kind ≡ MessageKind.Update
-  pub counts : (n ≡ behind_count o.kernel o.addresses told.receiver (place_told told.about)) ⊎ ((n ≡ 0) × (is_server told.receiver ≡ false) × (o.view.known m told.receiver ≡ Ended))
+  pub counts : (n ≡ behind_count o.kernel o.addresses told.receiver (place_told told.about)) ⊎ ((n ≡ 0) × (o.view.known m told.receiver ≡ Ended))
   pub rest : List MsgId
   pub box : o.view.inbox m ≡ id ∷ rest
   pub none : o.kernel.bag id ≡ None
@@ -70,7 +72,7 @@ hears_shape b o m id is q ps told box none = by_hears (Shape o) b o m id q ps (�
     record {
       told = λ p x about alive. grind (arith, nat_tests, sends_quiet);
       updated = λ kind. Updates m id (behind_count o.kernel o.addresses t.receiver (place_told t.about)) refl (record { told = t; is = f.is; update = kind; counts = inl refl; rest = f.rest; box = f.box; none = f.none });
-      updated_none = λ kind at_. Updates m id 0 refl (record { told = t; is = f.is; update = kind; counts = inr (refl, at_.server, at_.known); rest = f.rest; box = f.box; none = f.none });
+      updated_none = λ kind at_. Updates m id 0 refl (record { told = t; is = f.is; update = kind; counts = inr (refl, at_.known); rest = f.rest; box = f.box; none = f.none });
       no_move = λ at_. Quiet (refl, tt);
       leaving = λ to at_. Quiet (refl, tt);
       coming = λ from at_. Quiet (refl, tt);
@@ -271,6 +273,11 @@ record Kept (v w : View) : Type 0 where
 behind_is : (s : OneKernel) (a : Addresses) (q p : Pid) (c : ℕ) (h : Holder) (x : Bool) → belongs_to q h ≡ true → leads_to s h ≡ Some p → nat_lt (a h).moves c ≡ x → is_behind s a q p c h ≡ x
 behind_is s a q p c h x mine leads e = grind (arith, nat_tests)
 
+-- no server ends
+ended_loose : (s : OneKernel) (v : View) (m : ℕ) (q : Pid) → KnownStands s v → v.known m q ≡ Ended → is_server q ≡ false
+ended_loose s v m q known over =
+    false_from_ne_true (is_server q) (λ server. (elim (m == 0) as (λ c. (if c then Known.Here else Known.Unknown) ≡ Ended → ⊥) [ true ↦ λ e. cc | false ↦ λ e. cc ]) (sym (known.server m q server) ∙ over))
+
 updated_by : (b : Boot) (pt : Point) (d : Step) (w : Spelled) (id : MsgId) (n : ℕ) → Both b pt → Handled b pt d w id n → Updated pt w.point id n
 updated_by b pt d w id n both h =
     -- the head changes nothing that it reads
@@ -320,7 +327,7 @@ updated_by b pt d w id n both h =
             absurd (omega (arith, f, less))
         | inr e ↦ stay g e
       ];
-      count = count_is s pt.view a t x.process x.place h.machine n x.is both.run.based.known u.counts;
+      count = count_is s pt.view a t x.process x.place h.machine n x.is both.run.based.known (elim u.counts [ inl e ↦ inl e | inr over ↦ inr (over.0, ended_loose s pt.view h.machine t.receiver both.run.based.known over.1, over.1) ]);
       listed = λ g q mine other leads. listed s t.receiver g q both.run.based.phased.sane.sound.made both.run.based.pending mine other leads;
       kernel = sym (ap (λ (q : Point). q.kernel) h.point);
       known = sym (ap (λ (q : Point). q.view.known) h.point) ∙ (head_kept pt.view d).known;
