@@ -9,6 +9,7 @@ use Rattle.dm_onekernel.specs.Switchboard as board
 use Rattle.dm_onekernel.specs.Manager as manage
 use Rattle.dm_onekernel.specs.Step as kernel
 use Rattle.dm_settlelaws.proofs.Effects.{Effect, Returns, effect, takes_front}
+use Rattle.dm_settlelaws.proofs.Names.{bind}
 
 -- a line that changes no pair and brings nothing back; a route is no such line
 abbrev pub is_back : Effect → Bool

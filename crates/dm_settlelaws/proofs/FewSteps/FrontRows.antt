@@ -9,6 +9,7 @@ use Rattle.dm_settlelaws.proofs.Effects.{effect, takes_front}
 use Rattle.dm_settlelaws.proofs.Falls.Handles.{is_back}
 use Rattle.dm_rule.specs.Rule.{handles_here}
 use Rattle.dm_rule.proofs.Homes.Calls.{or-right}
+use Rattle.dm_settlelaws.proofs.Names.{bind, kernel_handles}
 
 -- a line with which such a message leaves the inbox: it routes nothing, and machines know what they knew
 pub record FrontLine (i : MsgId) (l : Line) : Type 0 where
