@@ -59,6 +59,7 @@ directive_words (step.Turn m) = codes "turn " ∷ decimal m ∷ []
 directive_words (step.Tick m) = codes "tick " ∷ decimal m ∷ []
 directive_words (step.Deliver a b k) = codes "deliver " ∷ decimal a ∷ codes " " ∷ decimal b ∷ codes " " ∷ decimal k ∷ []
 directive_words (step.Migrate p m) = codes "migrate " ∷ pid_word p ∷ codes " " ∷ decimal m ∷ []
+directive_words (step.CallOff p m) = codes "calloff " ∷ pid_word p ∷ codes " " ∷ decimal m ∷ []
 
 abbrev pub draw_group : Frame → ℕ → ℕ → Step → List ℕ
 draw_group f row group e =

@@ -22,6 +22,7 @@ acting_machine (step.Turn m) = m
 acting_machine (step.Tick m) = m
 acting_machine (step.Deliver a b k) = b
 acting_machine (step.Migrate p m) = 0
+acting_machine (step.CallOff p m) = m
 
 -- before the first line
 abbrev pub first_spot : Spot

@@ -234,6 +234,14 @@ fn put_directive(into: &mut Vec<u8>, p: Point, step: Step) -> Result<(), NoMemor
                 &[Name("migrate "), Process(pid), Name(" "), Byte(to)],
             )
         }
+        Step::CallOff { pid, at } => {
+            put_written(
+                into,
+                "g",
+                p,
+                &[Name("calloff "), Process(pid), Name(" "), Byte(at)],
+            )
+        }
     }
 }
 

@@ -123,6 +123,7 @@ pub fn put_note(into: &mut Vec<u8>, place: &Place<'_>, line: &Line) -> Result<()
         }
         Line::Migration { step, pid } => { note_process(into, place, STEP, stage_name(step), pid) }
         Line::SentOn { pid, count } => put_sent_on(into, place, pid, count),
+        Line::Called { pid, count } => put_called(into, place, pid, count),
         Line::Lacks {
             pid,
             free_slots,
@@ -131,7 +132,9 @@ pub fn put_note(into: &mut Vec<u8>, place: &Place<'_>, line: &Line) -> Result<()
         Line::Stays(pid) => note_process(into, place, STEP, "stays: ", pid),
         Line::Here(id) => note_message(into, place, STEP, "is here already, ", id),
         Line::NoMove(id) => note_message(into, place, STEP, "has ended, ", id),
+        Line::Stale(id) => note_message(into, place, PACKET, "too late: ", id),
         Line::NoChild(pid) => note_process(into, place, STEP, "no child: ", pid),
+        Line::NoCall(pid) => note_process(into, place, STEP, "nothing to call off: ", pid),
         Line::Pinned(pid) => note_process(into, place, STEP, "can't move: ", pid),
     }
 }
@@ -171,6 +174,24 @@ fn put_sent_on(into: &mut Vec<u8>, place: &Place<'_>, pid: Pid, count: u32) -> R
         place,
         STEP,
         &[Name("6 sends on "), Number(count), Name(": "), Process(pid)],
+    )
+}
+
+/// The note of a migration that is called off.
+fn put_called(into: &mut Vec<u8>, place: &Place<'_>, pid: Pid, count: u32) -> Result<(), NoMemory>
+    ensures { OnOk result (into.new.items ≡ into.old.items ++
+        draw_beside place.now.frame.now place.now.m place.now.row (codes "c3") (codes "is called off, " ∷ decimal count ∷ codes " go back: " ∷ pid_word pid ∷ [])) }
+{
+    put_beside(
+        into,
+        place,
+        STEP,
+        &[
+            Name("is called off, "),
+            Number(count),
+            Name(" go back: "),
+            Process(pid),
+        ],
     )
 }
 

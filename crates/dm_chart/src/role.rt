@@ -92,10 +92,13 @@ pub fn role_of(line: &Line) -> Role
         | Line::Forwarded { .. }
         | Line::Updated { .. }
         | Line::SentOn { .. }
+        | Line::Called { .. }
         | Line::Lacks { .. }
         | Line::Here(_)
         | Line::NoMove(_)
+        | Line::Stale(_)
         | Line::NoChild(_)
+        | Line::NoCall(_)
         | Line::Pinned(_) => Role::Note(Life::Same),
     }
 }

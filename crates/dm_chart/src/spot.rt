@@ -124,5 +124,6 @@ fn machine_of(step: Step) -> u8
         Step::Tick(m) => m,
         Step::Deliver { b, .. } => b,
         Step::Migrate { .. } => 0,
+        Step::CallOff { at, .. } => at,
     }
 }

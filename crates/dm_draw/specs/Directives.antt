@@ -64,6 +64,7 @@ IsDrawn machines (directive.One (step.Turn m)) = m < machines
 IsDrawn machines (directive.One (step.Tick m)) = m < machines
 IsDrawn machines (directive.One (step.Deliver a b k)) = (a < machines) × (b < machines) × (a ≢ b)
 IsDrawn machines (directive.One (step.Migrate p m)) = m < machines
+IsDrawn machines (directive.One (step.CallOff p m)) = m < machines
 IsDrawn machines directive.Round = ⊤
 IsDrawn machines (directive.Spin n) = ⊥
 IsDrawn machines directive.Settle = ⊥

@@ -9,7 +9,7 @@ use Rattle.dm_schedule.specs.declared.LineFault.{LineFault}
 use Rattle.dm_schedule.specs.declared.LineFault.TheVariants.{UnknownWord, WrongCount, NotANumber, OutOfRange, SameMachine}
 use Rattle.dm_reading.specs.Lines.{lines}
 use Rattle.dm_schedule.specs.declared.keywords.Keyword.{Keyword}
-use Rattle.dm_schedule.specs.declared.keywords.Keyword.TheVariants.{Turn, Tick, Deliver, Migrate, Round, Spin, Settle}
+use Rattle.dm_schedule.specs.declared.keywords.Keyword.TheVariants.{Turn, Tick, Deliver, Migrate, CallOff, Round, Spin, Settle}
 use Rattle.dm_schedule.specs.Schedule.{Schedule, Accepted, Refused, number_of_fault}
 use Rattle.dm_explain.specs.LineAt.{line_at}
 use Rattle.dm_explain.specs.Parts.{quoted}
@@ -31,6 +31,10 @@ abbrev pub is_migrate : Directive → Bool
 is_migrate (directive.One (step.Migrate p m)) = true
 is_migrate _ = false
 
+abbrev pub is_calloff : Directive → Bool
+is_calloff (directive.One (step.CallOff p m)) = true
+is_calloff _ = false
+
 abbrev pub is_round : Directive → Bool
 is_round directive.Round = true
 is_round _ = false
@@ -48,6 +52,7 @@ is_of Turn d = is_turn d
 is_of Tick d = is_tick d
 is_of Deliver d = is_deliver d
 is_of Migrate d = is_migrate d
+is_of CallOff d = is_calloff d
 is_of Round d = is_round d
 is_of Spin d = is_spin d
 is_of Settle d = is_settle d
@@ -58,7 +63,7 @@ many k ds = decimal (count_by (is_of k) ds)
 abbrev pub directives_told : List Directive → List ℕ
 directives_told ds =
     concat (codes "schedule: " ∷ decimal (length ds) ∷ codes " directives: turn " ∷ many Turn ds ∷ codes ", tick " ∷ many Tick ds ∷ codes ", deliver " ∷ many Deliver ds
-    ∷ codes ", migrate " ∷ many Migrate ds ∷ codes ", round " ∷ many Round ds ∷ codes ", spin " ∷ many Spin ds ∷ codes ", settle " ∷ many Settle ds ∷ codes "\n" ∷ [])
+    ∷ codes ", migrate " ∷ many Migrate ds ∷ codes ", calloff " ∷ many CallOff ds ∷ codes ", round " ∷ many Round ds ∷ codes ", spin " ∷ many Spin ds ∷ codes ", settle " ∷ many Settle ds ∷ codes "\n" ∷ [])
 
 abbrev pub fault_words : LineFault → List ℕ
 fault_words UnknownWord = codes "no such word"

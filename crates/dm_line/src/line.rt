@@ -83,6 +83,11 @@ pub enum Line {
         pid: Pid,
         count: u32,
     },
+    /// A migration is called off: so many messages that were held go back to the machine that the process was to leave.
+    Called {
+        pid: Pid,
+        count: u32,
+    },
     /// A process can't come for want of room.
     Lacks {
         pid: Pid,
@@ -94,11 +99,15 @@ pub enum Line {
     /// A process that is to move is where it is to go, or has ended.
     Here(MsgId),
     NoMove(MsgId),
+    /// A piece of a process comes from a machine from which it isn't awaited.
+    Stale(MsgId),
     /// A message of a migration that is no step of it.
     Proto(MsgId),
     /// A process that is to move is none of the manager's, or can't move.
     NoChild(Pid),
     Pinned(Pid),
+    /// A process whose migration is to be called off isn't on its way to the machine, or all of it has come.
+    NoCall(Pid),
 }
 
 /// The line of a packet that is put from one machine to another as number `k` of their wire.

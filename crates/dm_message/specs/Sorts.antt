@@ -1,5 +1,5 @@
 -- The kinds of message, a row a kind: the number, the word and the sort of each. What holds of some kinds is said of their sorts elsewhere, and what has no row there is of no such sort.
-use Rattle.std.specs.Prelude.{ℕ, List, codes}
+use Rattle.std.specs.Prelude.{ℕ, Bool, true, false, List, codes}
 use Rattle.dm_message.specs.declared.kind.MessageKind.{MessageKind}
 use Rattle.dm_message.specs.declared.kind.MessageKind.TheVariants as kind
 
@@ -13,6 +13,7 @@ pub data Passage : Type 0 where
   Memory : Passage
   AllTaken : Passage
   Restart : Passage
+  CallOff : Passage
 
 pub data Sort : Type 0 where
   -- from process to process
@@ -35,7 +36,7 @@ pub data Sort : Type 0 where
   Notice : Sort
   -- a step of a migration
   Between : (passage : Passage) → Sort
-  -- nothing sends these yet: from kernel to kernel
+  -- nothing sends this yet: from kernel to kernel
   Unsent : Sort
 
 -- each kind: its number in packets, its word in printed lines, and its sort
@@ -64,8 +65,19 @@ kind_row kind.AllTaken = (21, codes "alltaken", Between AllTaken)
 kind_row kind.Restart = (22, codes "restart", Between Restart)
 kind_row kind.Move = (23, codes "move", MoveAsked)
 kind_row kind.Moved = (24, codes "moved", MoveAnswered)
-kind_row kind.CallOff = (25, codes "calloff", Unsent)
+kind_row kind.CallOff = (25, codes "calloff", Between CallOff)
 kind_row kind.Bury = (26, codes "bury", Unsent)
 
 abbrev pub sort_of : MessageKind → Sort
 sort_of k = (kind_row k).2
+
+-- what asks for a piece of a process, and what brings one
+abbrev pub pulls_piece : Sort → Bool
+pulls_piece (Between PullState) = true
+pulls_piece (Between PullBlock) = true
+pulls_piece s = false
+
+abbrev pub brings_piece : Sort → Bool
+brings_piece (Between State) = true
+brings_piece (Between Memory) = true
+brings_piece s = false

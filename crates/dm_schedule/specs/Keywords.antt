@@ -3,11 +3,11 @@ use Rattle.std.specs.Prelude.{ℕ, List, [], ◌∷◌, Option, codes}
 use Rattle.std.specs.List.{find}
 use Rattle.std.specs.Str.{bytes_eq}
 use Rattle.dm_schedule.specs.declared.keywords.Keyword.{Keyword}
-use Rattle.dm_schedule.specs.declared.keywords.Keyword.TheVariants.{Turn, Tick, Deliver, Migrate, Round, Spin, Settle}
+use Rattle.dm_schedule.specs.declared.keywords.Keyword.TheVariants.{Turn, Tick, Deliver, Migrate, CallOff, Round, Spin, Settle}
 
 -- all keywords
 abbrev pub keywords : List Keyword
-keywords = Turn ∷ Tick ∷ Deliver ∷ Migrate ∷ Round ∷ Spin ∷ Settle ∷ []
+keywords = Turn ∷ Tick ∷ Deliver ∷ Migrate ∷ CallOff ∷ Round ∷ Spin ∷ Settle ∷ []
 
 -- what an operand is: a machine, a process, the place of a packet, or a number of rounds
 pub data Operand : Type 0 where
@@ -22,6 +22,7 @@ keyword_row Turn = (codes "turn", Machine ∷ [])
 keyword_row Tick = (codes "tick", Machine ∷ [])
 keyword_row Deliver = (codes "deliver", Machine ∷ Machine ∷ Packet ∷ [])
 keyword_row Migrate = (codes "migrate", Process ∷ Machine ∷ [])
+keyword_row CallOff = (codes "calloff", Process ∷ Machine ∷ [])
 keyword_row Round = (codes "round", [])
 keyword_row Spin = (codes "spin", Rounds ∷ [])
 keyword_row Settle = (codes "settle", [])

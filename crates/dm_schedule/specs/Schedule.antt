@@ -10,7 +10,7 @@ use Rattle.dm_schedule.specs.declared.LineFault.TheVariants.{UnknownWord, WrongC
 use Rattle.dm_schedule.specs.declared.ScheduleError.{ScheduleError}
 use Rattle.dm_schedule.specs.declared.ScheduleError.TheVariants as no
 use Rattle.dm_schedule.specs.declared.keywords.Keyword.{Keyword}
-use Rattle.dm_schedule.specs.declared.keywords.Keyword.TheVariants.{Turn, Tick, Deliver, Migrate, Round, Spin, Settle}
+use Rattle.dm_schedule.specs.declared.keywords.Keyword.TheVariants.{Turn, Tick, Deliver, Migrate, CallOff, Round, Spin, Settle}
 use Rattle.dm_schedule.specs.Keywords.{keyword_of, operands}
 use Rattle.dm_schedule.specs.Operands.{Values, values_of, ◌>>=◌}
 
@@ -33,6 +33,7 @@ directive_made Turn v = Ok (directive.One (step.Turn v.0))
 directive_made Tick v = Ok (directive.One (step.Tick v.0))
 directive_made Deliver v = if v.0 == v.1.0 then Err SameMachine else Ok (directive.One (step.Deliver v.0 v.1.0 v.1.1.0))
 directive_made Migrate v = Ok (directive.One (step.Migrate v.0 v.1.0))
+directive_made CallOff v = Ok (directive.One (step.CallOff v.0 v.1.0))
 directive_made Round v = Ok directive.Round
 directive_made Spin v = Ok (directive.Spin v.0)
 directive_made Settle v = Ok directive.Settle

@@ -2,7 +2,7 @@
 ghost use Rattle.std.specs.Prelude.{◌≡◌, Some};
 ghost use Rattle.dm_reading.specs.Words.{words};
 ghost use Rattle.dm_schedule.specs.Schedule.{begins_comment, directive_of, line_directive};
-ghost use Rattle.dm_schedule.specs.declared.keywords.Keyword.TheVariants.{Deliver, Migrate, Round, Settle, Spin, Tick, Turn};
+ghost use Rattle.dm_schedule.specs.declared.keywords.Keyword.TheVariants.{CallOff, Deliver, Migrate, Round, Settle, Spin, Tick, Turn};
 
 use crate::keywords::Keyword;
 use crate::operands::{machine, packet, process, rounds};
@@ -56,6 +56,17 @@ fn migrate(machines: u8, operands: &[u8]) -> Result<Directive, LineFault>
     Ok(Directive::One(Step::Migrate { pid, to }))
 }
 
+/// The directive `calloff` with its operands.
+#[tactic(auto, unfolding(crate::specs::Schedule::directive_of))]
+fn call_off(machines: u8, operands: &[u8]) -> Result<Directive, LineFault>
+    ensures { result ≡ directive_of machines (Some CallOff) (words operands.now) }
+{
+    let (name, place) = two_words(operands)?;
+    let pid = process(machines, name)?;
+    let at = machine(machines, place)?;
+    Ok(Directive::One(Step::CallOff { pid, at }))
+}
+
 /// The directive `spin` with its operand.
 #[tactic(auto, unfolding(crate::specs::Schedule::directive_of))]
 fn spin(machines: u8, operands: &[u8]) -> Result<Directive, LineFault>
@@ -97,6 +108,7 @@ fn keyword_directive(
         Keyword::Tick => tick(machines, operands),
         Keyword::Deliver => deliver(machines, operands),
         Keyword::Migrate => migrate(machines, operands),
+        Keyword::CallOff => call_off(machines, operands),
         Keyword::Round => round(machines, operands),
         Keyword::Spin => spin(machines, operands),
         Keyword::Settle => settle(machines, operands),

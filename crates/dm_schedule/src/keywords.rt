@@ -9,17 +9,19 @@ pub enum Keyword {
     Tick,
     Deliver,
     Migrate,
+    CallOff,
     Round,
     Spin,
     Settle,
 }
 
 /// All keywords.
-const KEYWORDS: [Keyword; 7] = [
+const KEYWORDS: [Keyword; 8] = [
     Keyword::Turn,
     Keyword::Tick,
     Keyword::Deliver,
     Keyword::Migrate,
+    Keyword::CallOff,
     Keyword::Round,
     Keyword::Spin,
     Keyword::Settle,
@@ -35,6 +37,7 @@ impl Keyword {
             Keyword::Tick => b"tick",
             Keyword::Deliver => b"deliver",
             Keyword::Migrate => b"migrate",
+            Keyword::CallOff => b"calloff",
             Keyword::Round => b"round",
             Keyword::Spin => b"spin",
             Keyword::Settle => b"settle",

@@ -33,6 +33,8 @@ pub enum Step {
     Deliver { a: u8, b: u8, k: u64 },
     /// A process is asked to move to a machine.
     Migrate { pid: Pid, to: u8 },
+    /// The migration of a process to a machine is called off there.
+    CallOff { pid: Pid, at: u8 },
 }
 
 /// What a line of a schedule says.

@@ -46,6 +46,7 @@ head_read (step.Turn m) h = rw (read_u8_back m h.1.0) refl
 head_read (step.Tick m) h = rw (read_u8_back m h.1.0) refl
 head_read (step.Deliver a b k) h = rw (read_u8_back a h.1.0, read_u8_back b h.1.1.0, read_u64_back k h.1.1.1.0) refl
 head_read (step.Migrate p m) h = rw (read_pid_back p h.1.0, read_u8_back m h.1.1.0) refl
+head_read (step.CallOff p m) h = rw (read_pid_back p h.1.0, read_u8_back m h.1.1.0) refl
 
 head_of_words : (ws : List (List ℕ)) (e : Step) (bytes : List ℕ) → AreWords ws → head_in ws ≡ Some e → IsLine bytes (spelled_line ws) → head_step bytes ≡ Some e
 head_of_words [] e bytes h r is = absurd (cc)
@@ -83,6 +84,9 @@ tick_row (x ∷ y ∷ zs) f e h = absurd (cc)
 abbrev migrating : Pid → ℕ → Step
 migrating p m = step.Migrate p m
 
+abbrev calling_off : Pid → ℕ → Step
+calling_off p m = step.CallOff p m
+
 abbrev delivering : ℕ → ℕ → ℕ → Step
 delivering a b k = step.Deliver a b k
 
@@ -95,6 +99,16 @@ migrate_row (x ∷ y ∷ []) e h =
     let (f, is) = some_is (Some migrating <*> read_pid x) (made_before (Some migrating <*> read_pid x) (read_u8 y) e h) in
     rw (made_here (Some migrating) (read_pid x) f is, m) refl
 migrate_row (x ∷ y ∷ z ∷ zs) e h = absurd (cc)
+
+calloff_row : (ws : List (List ℕ)) (e : Step) → of2 read_pid read_u8 step.CallOff ws ≡ Some e → is_row (row_of (shape.Head head_shape.CallOff)) (codes "calloff" ∷ ws) ≡ true
+unfolding is_of
+calloff_row [] e h = absurd (cc)
+calloff_row (x ∷ []) e h = absurd (cc)
+calloff_row (x ∷ y ∷ []) e h =
+    let m = made_here (Some calling_off <*> read_pid x) (read_u8 y) e h in
+    let (f, is) = some_is (Some calling_off <*> read_pid x) (made_before (Some calling_off <*> read_pid x) (read_u8 y) e h) in
+    rw (made_here (Some calling_off) (read_pid x) f is, m) refl
+calloff_row (x ∷ y ∷ z ∷ zs) e h = absurd (cc)
 
 deliver_row : (ws : List (List ℕ)) (e : Step) → of3 read_u8 read_u8 read_u64 step.Deliver ws ≡ Some e → is_row (row_of (shape.Head head_shape.Deliver)) (codes "deliver" ∷ ws) ≡ true
 unfolding is_of
@@ -120,21 +134,25 @@ head_row w ws e h = turns (is w (codes "turn")) refl h
     go : (v : List ℕ) → w ≡ v → has_row (v ∷ ws) ≡ true → has_row (w ∷ ws) ≡ true
     go v e r = ap (λ (u : List ℕ). has_row (u ∷ ws)) e ∙ r
 
-    migrates : (t : Bool) → is w (codes "migrate") ≡ t → (if t then of2 read_pid read_u8 step.Migrate ws else None) ≡ Some e → has_row (w ∷ ws) ≡ true
-    migrates true f k = go (codes "migrate") (named_so w (codes "migrate") f) (listed (λ x. is_row (row_of x) (codes "migrate" ∷ ws)) (shape.Head head_shape.Migrate) (migrate_row ws e k))
-    migrates false f k = absurd (cc)
+    calls_off : (t : Bool) → is w (codes "calloff") ≡ t → (if t then of2 read_pid read_u8 step.CallOff ws else None) ≡ Some e → has_row (w ∷ ws) ≡ true
+    calls_off true f k = go (codes "calloff") (named_so w (codes "calloff") f) (listed (λ x. is_row (row_of x) (codes "calloff" ∷ ws)) (shape.Head head_shape.CallOff) (calloff_row ws e k))
+    calls_off false f k = absurd (cc)
 
-    delivers : (t : Bool) → is w (codes "deliver") ≡ t → (if t then of3 read_u8 read_u8 read_u64 step.Deliver ws else if is w (codes "migrate") then of2 read_pid read_u8 step.Migrate ws else None) ≡ Some e → has_row (w ∷ ws) ≡ true
+    migrates : (t : Bool) → is w (codes "migrate") ≡ t → (if t then of2 read_pid read_u8 step.Migrate ws else if is w (codes "calloff") then of2 read_pid read_u8 step.CallOff ws else None) ≡ Some e → has_row (w ∷ ws) ≡ true
+    migrates true f k = go (codes "migrate") (named_so w (codes "migrate") f) (listed (λ x. is_row (row_of x) (codes "migrate" ∷ ws)) (shape.Head head_shape.Migrate) (migrate_row ws e k))
+    migrates false f k = calls_off (is w (codes "calloff")) refl k
+
+    delivers : (t : Bool) → is w (codes "deliver") ≡ t → (if t then of3 read_u8 read_u8 read_u64 step.Deliver ws else if is w (codes "migrate") then of2 read_pid read_u8 step.Migrate ws else if is w (codes "calloff") then of2 read_pid read_u8 step.CallOff ws else None) ≡ Some e → has_row (w ∷ ws) ≡ true
     delivers true f k = go (codes "deliver") (named_so w (codes "deliver") f) (listed (λ x. is_row (row_of x) (codes "deliver" ∷ ws)) (shape.Head head_shape.Deliver) (deliver_row ws e k))
     delivers false f k = migrates (is w (codes "migrate")) refl k
 
     ticks : (t : Bool) → is w (codes "tick") ≡ t
-        → (if t then of1 read_u8 step.Tick ws else if is w (codes "deliver") then of3 read_u8 read_u8 read_u64 step.Deliver ws else if is w (codes "migrate") then of2 read_pid read_u8 step.Migrate ws else None) ≡ Some e → has_row (w ∷ ws) ≡ true
+        → (if t then of1 read_u8 step.Tick ws else if is w (codes "deliver") then of3 read_u8 read_u8 read_u64 step.Deliver ws else if is w (codes "migrate") then of2 read_pid read_u8 step.Migrate ws else if is w (codes "calloff") then of2 read_pid read_u8 step.CallOff ws else None) ≡ Some e → has_row (w ∷ ws) ≡ true
     ticks true f k = go (codes "tick") (named_so w (codes "tick") f) (listed (λ x. is_row (row_of x) (codes "tick" ∷ ws)) (shape.Head head_shape.Tick) (tick_row ws step.Tick e k))
     ticks false f k = delivers (is w (codes "deliver")) refl k
 
     turns : (t : Bool) → is w (codes "turn") ≡ t
-        → (if t then of1 read_u8 step.Turn ws else if is w (codes "tick") then of1 read_u8 step.Tick ws else if is w (codes "deliver") then of3 read_u8 read_u8 read_u64 step.Deliver ws else if is w (codes "migrate") then of2 read_pid read_u8 step.Migrate ws else None) ≡ Some e
+        → (if t then of1 read_u8 step.Turn ws else if is w (codes "tick") then of1 read_u8 step.Tick ws else if is w (codes "deliver") then of3 read_u8 read_u8 read_u64 step.Deliver ws else if is w (codes "migrate") then of2 read_pid read_u8 step.Migrate ws else if is w (codes "calloff") then of2 read_pid read_u8 step.CallOff ws else None) ≡ Some e
         → has_row (w ∷ ws) ≡ true
     turns true f k = go (codes "turn") (named_so w (codes "turn") f) (listed (λ x. is_row (row_of x) (codes "turn" ∷ ws)) (shape.Head head_shape.Turn) (turn_row ws step.Turn e k))
     turns false f k = ticks (is w (codes "tick")) refl k

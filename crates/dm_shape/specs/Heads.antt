@@ -14,6 +14,7 @@ head_named w ws =
     else if is w (codes "tick") then of1 read_u8 step.Tick ws
     else if is w (codes "deliver") then of3 read_u8 read_u8 read_u64 step.Deliver ws
     else if is w (codes "migrate") then of2 read_pid read_u8 step.Migrate ws
+    else if is w (codes "calloff") then of2 read_pid read_u8 step.CallOff ws
     else None
 
 abbrev pub head_in : List (List ℕ) → Option Step

@@ -51,6 +51,7 @@ head_row head_shape.Turn = row (codes "turn") (sort.Machine ∷ [])
 head_row head_shape.Tick = row (codes "tick") (sort.Machine ∷ [])
 head_row head_shape.Deliver = row (codes "deliver") (sort.Machine ∷ sort.Machine ∷ sort.Packet ∷ [])
 head_row head_shape.Migrate = row (codes "migrate") (sort.Process ∷ sort.Machine ∷ [])
+head_row head_shape.CallOff = row (codes "calloff") (sort.Process ∷ sort.Machine ∷ [])
 
 -- of each step of the kernel without machines
 abbrev pub kernel_row : KernelShape → ShapeRow
@@ -89,12 +90,15 @@ group_row group_shape.Updated = row (codes "updated") (sort.Message ∷ sort.Num
 group_row group_shape.Stage = row (codes "step") (choose choice.Stage ∷ sort.Process ∷ [])
 group_row group_shape.SentOn = row (codes "step") (choose choice.Six ∷ sort.Process ∷ sort.Number ∷ [])
 group_row group_shape.Lacks = row (codes "lacks") (sort.Process ∷ sort.Number ∷ sort.Number ∷ [])
+group_row group_shape.Called = row (codes "called") (sort.Process ∷ sort.Number ∷ [])
 group_row group_shape.Stays = row (codes "stays") (sort.Process ∷ [])
 group_row group_shape.Here = row (codes "here") (sort.Message ∷ [])
 group_row group_shape.NoMove = row (codes "nomove") (sort.Message ∷ [])
+group_row group_shape.Stale = row (codes "stale") (sort.Message ∷ [])
 group_row group_shape.Proto = row (codes "proto") (sort.Message ∷ [])
 group_row group_shape.NoChild = row (codes "nochild") (sort.Process ∷ [])
 group_row group_shape.Pinned = row (codes "pinned") (sort.Process ∷ [])
+group_row group_shape.NoCall = row (codes "nocall") (sort.Process ∷ [])
 
 -- of each line at the end of a run
 abbrev pub end_row : EndShape → ShapeRow
@@ -128,12 +132,12 @@ row_of (shape.End s) = end_row s
 
 abbrev pub all_shapes : List Shape
 all_shapes =
-    shape.Head head_shape.Turn ∷ shape.Head head_shape.Tick ∷ shape.Head head_shape.Deliver ∷ shape.Head head_shape.Migrate
+    shape.Head head_shape.Turn ∷ shape.Head head_shape.Tick ∷ shape.Head head_shape.Deliver ∷ shape.Head head_shape.Migrate ∷ shape.Head head_shape.CallOff
     ∷ shape.Kernel kernel_shape.Ran ∷ shape.Kernel kernel_shape.Call ∷ shape.Kernel kernel_shape.Send ∷ shape.Kernel kernel_shape.Wait ∷ shape.Kernel kernel_shape.Out ∷ shape.Kernel kernel_shape.End ∷ shape.Kernel kernel_shape.Receive ∷ shape.Kernel kernel_shape.Refuse
     ∷ shape.Kernel kernel_shape.Dropped ∷ shape.Kernel kernel_shape.Served ∷ shape.Kernel kernel_shape.Gone ∷ shape.Kernel kernel_shape.Took ∷ shape.Kernel kernel_shape.Created ∷ shape.Kernel kernel_shape.NoSpace ∷ shape.Kernel kernel_shape.Asked ∷ shape.Kernel kernel_shape.Answered
     ∷ shape.Group group_shape.Idle ∷ shape.Group group_shape.Put ∷ shape.Group group_shape.Packet ∷ shape.Group group_shape.Taken ∷ shape.Group group_shape.Old ∷ shape.Group group_shape.Early ∷ shape.Group group_shape.Acked ∷ shape.Group group_shape.Nothing
-    ∷ shape.Group group_shape.Resent ∷ shape.Group group_shape.Queued ∷ shape.Group group_shape.Held ∷ shape.Group group_shape.Forwarded ∷ shape.Group group_shape.Updated ∷ shape.Group group_shape.Stage ∷ shape.Group group_shape.SentOn ∷ shape.Group group_shape.Lacks
-    ∷ shape.Group group_shape.Stays ∷ shape.Group group_shape.Here ∷ shape.Group group_shape.NoMove ∷ shape.Group group_shape.Proto ∷ shape.Group group_shape.NoChild ∷ shape.Group group_shape.Pinned
+    ∷ shape.Group group_shape.Resent ∷ shape.Group group_shape.Queued ∷ shape.Group group_shape.Held ∷ shape.Group group_shape.Forwarded ∷ shape.Group group_shape.Updated ∷ shape.Group group_shape.Stage ∷ shape.Group group_shape.SentOn ∷ shape.Group group_shape.Lacks ∷ shape.Group group_shape.Called
+    ∷ shape.Group group_shape.Stays ∷ shape.Group group_shape.Here ∷ shape.Group group_shape.NoMove ∷ shape.Group group_shape.Stale ∷ shape.Group group_shape.Proto ∷ shape.Group group_shape.NoChild ∷ shape.Group group_shape.Pinned ∷ shape.Group group_shape.NoCall
     ∷ shape.End end_shape.Final ∷ shape.End end_shape.Ended ∷ shape.End end_shape.Ready ∷ shape.End end_shape.Waiting ∷ shape.End end_shape.Moving ∷ shape.End end_shape.Registers ∷ shape.End end_shape.Memory ∷ shape.End end_shape.Link
     ∷ shape.End end_shape.Server ∷ shape.End end_shape.Name ∷ shape.End end_shape.Child ∷ shape.End end_shape.Pending ∷ shape.End end_shape.Queue ∷ shape.End end_shape.Holding ∷ shape.End end_shape.Inbox ∷ shape.End end_shape.Stream
     ∷ shape.End end_shape.Groups ∷ []

@@ -25,6 +25,8 @@ pub fn head(line: &[u8]) -> Option<Step>
         deliver(words)
     } else if name == "migrate".as_bytes() {
         migrate(words)
+    } else if name == "calloff".as_bytes() {
+        call_off(words)
     } else {
         None
     }
@@ -65,6 +67,16 @@ fn migrate(words: Option<&[u8]>) -> Option<Step>
     let pid = process(name)?;
     let to = byte(place)?;
     Some(Step::Migrate { pid, to })
+}
+
+/// The directive `calloff` with its operands.
+fn call_off(words: Option<&[u8]>) -> Option<Step>
+    ensures { result ≡ of2 read_pid read_u8 step.CallOff (behind 32 (option_map (λ t. t.now) words.entry)) }
+{
+    let (name, place) = only_two(words)?;
+    let pid = process(name)?;
+    let at = byte(place)?;
+    Some(Step::CallOff { pid, at })
 }
 
 /// The word, where there is just one.

@@ -30,6 +30,7 @@ pub enum HeadShape {
     Tick,
     Deliver,
     Migrate,
+    CallOff,
 }
 
 /// The shape of a step of the kernel without machines.
@@ -72,12 +73,15 @@ pub enum GroupShape {
     Stage,
     SentOn,
     Lacks,
+    Called,
     Stays,
     Here,
     NoMove,
+    Stale,
     Proto,
     NoChild,
     Pinned,
+    NoCall,
 }
 
 /// The shape of a line at the end of a run.
@@ -103,11 +107,12 @@ pub enum EndShape {
 }
 
 /// All shapes.
-const SHAPES: [Shape; 59] = [
+const SHAPES: [Shape; 63] = [
     Shape::Head(HeadShape::Turn),
     Shape::Head(HeadShape::Tick),
     Shape::Head(HeadShape::Deliver),
     Shape::Head(HeadShape::Migrate),
+    Shape::Head(HeadShape::CallOff),
     Shape::Kernel(KernelShape::Ran),
     Shape::Kernel(KernelShape::Call),
     Shape::Kernel(KernelShape::Send),
@@ -140,12 +145,15 @@ const SHAPES: [Shape; 59] = [
     Shape::Group(GroupShape::Stage),
     Shape::Group(GroupShape::SentOn),
     Shape::Group(GroupShape::Lacks),
+    Shape::Group(GroupShape::Called),
     Shape::Group(GroupShape::Stays),
     Shape::Group(GroupShape::Here),
     Shape::Group(GroupShape::NoMove),
+    Shape::Group(GroupShape::Stale),
     Shape::Group(GroupShape::Proto),
     Shape::Group(GroupShape::NoChild),
     Shape::Group(GroupShape::Pinned),
+    Shape::Group(GroupShape::NoCall),
     Shape::End(EndShape::Final),
     Shape::End(EndShape::Ended),
     Shape::End(EndShape::Ready),

@@ -101,6 +101,7 @@ impl HeadShape {
             HeadShape::Tick => plain("tick", &[Machine]),
             HeadShape::Deliver => plain("deliver", &[Machine, Machine, Packet]),
             HeadShape::Migrate => plain("migrate", &[Process, Machine]),
+            HeadShape::CallOff => plain("calloff", &[Process, Machine]),
         }
     }
 }
@@ -157,12 +158,15 @@ impl GroupShape {
             GroupShape::Stage => plain("step", &[STAGE, Process]),
             GroupShape::SentOn => plain("step", &[SIX, Process, Number]),
             GroupShape::Lacks => plain("lacks", &[Process, Number, Number]),
+            GroupShape::Called => plain("called", &[Process, Number]),
             GroupShape::Stays => plain("stays", &[Process]),
             GroupShape::Here => plain("here", &[Message]),
             GroupShape::NoMove => plain("nomove", &[Message]),
+            GroupShape::Stale => plain("stale", &[Message]),
             GroupShape::Proto => plain("proto", &[Message]),
             GroupShape::NoChild => plain("nochild", &[Process]),
             GroupShape::Pinned => plain("pinned", &[Process]),
+            GroupShape::NoCall => plain("nocall", &[Process]),
         }
     }
 }

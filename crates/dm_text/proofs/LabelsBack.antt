@@ -12,12 +12,14 @@ head_words_are (step.Turn m) h = (refl, (word_u8 m h.1.0, tt))
 head_words_are (step.Tick m) h = (refl, (word_u8 m h.1.0, tt))
 head_words_are (step.Deliver a b k) h = (refl, (word_u8 a h.1.0, (word_u8 b h.1.1.0, (word_u64 k h.1.1.1.0, tt))))
 head_words_are (step.Migrate p m) h = (refl, (word_pid 32 p (omega arith) h.1.0, (word_u8 m h.1.1.0, tt)))
+head_words_are (step.CallOff p m) h = (refl, (word_pid 32 p (omega arith) h.1.0, (word_u8 m h.1.1.0, tt)))
 
 pub head_back : (x : Step) → LineFits (line.Head x) → line_of_words (line_words (line.Head x)) ≡ Some (line.Head x)
 head_back (step.Turn m) h = rw (read_u8_back m h.1.0) refl
 head_back (step.Tick m) h = rw (read_u8_back m h.1.0) refl
 head_back (step.Deliver a b k) h = rw (read_u8_back a h.1.0, read_u8_back b h.1.1.0, read_u64_back k h.1.1.1.0) refl
 head_back (step.Migrate p m) h = rw (read_pid_back p h.1.0, read_u8_back m h.1.1.0) refl
+head_back (step.CallOff p m) h = rw (read_pid_back p h.1.0, read_u8_back m h.1.1.0) refl
 
 pub label_words_are : (x : Label) → LineFits (line.Label x) → AreWords (line_words (line.Label x))
 label_words_are (label.Ran p k) h = (refl, (word_pid 32 p (omega arith) h.1.0, (word_u32 k h.1.1.0, tt)))

@@ -58,11 +58,14 @@ group_named w ws =
     else if is w (codes "forwarded") then of2 read_id read_u8 line.Forwarded ws
     else if is w (codes "updated") then of2 read_id read_u32 line.Updated ws
     else if is w (codes "step") then step_of ws
+    else if is w (codes "called") then of2 read_pid read_u32 line.Called ws
     else if is w (codes "lacks") then of3 read_pid read_u8 read_u16 line.Lacks ws
     else if is w (codes "stays") then of1 read_pid line.Stays ws
     else if is w (codes "here") then of1 read_id line.Here ws
     else if is w (codes "nomove") then of1 read_id line.NoMove ws
+    else if is w (codes "stale") then of1 read_id line.Stale ws
     else if is w (codes "proto") then of1 read_id line.Proto ws
     else if is w (codes "nochild") then of1 read_pid line.NoChild ws
+    else if is w (codes "nocall") then of1 read_pid line.NoCall ws
     else if is w (codes "pinned") then of1 read_pid line.Pinned ws
     else None

@@ -15,6 +15,7 @@ head_named w ws =
     else if is w (codes "tick") then of1 read_u8 (λ m. line.Head (step.Tick m)) ws
     else if is w (codes "deliver") then of3 read_u8 read_u8 read_u64 (λ a b k. line.Head (step.Deliver a b k)) ws
     else if is w (codes "migrate") then of2 read_pid read_u8 (λ p m. line.Head (step.Migrate p m)) ws
+    else if is w (codes "calloff") then of2 read_pid read_u8 (λ p m. line.Head (step.CallOff p m)) ws
     else None
 
 abbrev pub label_named : List ℕ → List (List ℕ) → Option Line

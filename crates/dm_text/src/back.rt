@@ -218,13 +218,21 @@ pub fn line_fits(line: &Line)
         | Line::Acked { from, to, n } => pair_fits(from, to, n),
         Line::Nothing => {}
         Line::Resent { machine, count } => pair_fits(machine, 0, count),
-        Line::Queued(id) | Line::Held(id) | Line::Here(id) | Line::NoMove(id) | Line::Proto(id) =>
-            message_fits(id, 0, 0),
+        Line::Queued(id)
+        | Line::Held(id)
+        | Line::Here(id)
+        | Line::NoMove(id)
+        | Line::Stale(id)
+        | Line::Proto(id) => message_fits(id, 0, 0),
         Line::Forwarded { id, to } => message_fits(id, to, 0),
         Line::Updated { id, count } => message_fits(id, 0, count),
-        Line::Migration { pid, .. } | Line::Stays(pid) | Line::NoChild(pid) | Line::Pinned(pid) =>
-            process_fits(pid, 0, 0),
+        Line::Migration { pid, .. }
+        | Line::Stays(pid)
+        | Line::NoChild(pid)
+        | Line::NoCall(pid)
+        | Line::Pinned(pid) => process_fits(pid, 0, 0),
         Line::SentOn { pid, count } => process_fits(pid, 0, count),
+        Line::Called { pid, count } => process_fits(pid, 0, count),
         Line::Lacks {
             pid,
             free_slots,

@@ -21,6 +21,7 @@ pub(crate) fn put_head(into: &mut Vec<u8>, step: Step)
         Step::Tick(m) => put_machine(into, b"tick", m),
         Step::Deliver { a, b, k } => put_pair_number(into, b"deliver", a, b, k),
         Step::Migrate { pid, to } => put_process_number(into, b"migrate", pid, u32::from(to)),
+        Step::CallOff { pid, at } => put_process_number(into, b"calloff", pid, u32::from(at)),
     }
 }
 

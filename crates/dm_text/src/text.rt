@@ -9,7 +9,7 @@ use crate::ends::put_end;
 use crate::labels::{put_head, put_label};
 use crate::rows::{
     put_alone, put_machine, put_machine_number, put_message, put_message_number, put_pair_number,
-    put_process, put_process_room, put_routed, put_sent_on,
+    put_process, put_process_number, put_process_room, put_routed, put_sent_on,
 };
 use crate::within::{
     LINE_ROOM, end_line, make_room, put_bytes, put_spaced_number, put_spaced_pair, put_spaced_pid,
@@ -106,6 +106,7 @@ fn put_text(into: &mut Vec<u8>, line: &Line)
         Line::Updated { id, count } => put_message_number(into, b"updated", id, count),
         Line::Migration { step, pid } => put_stage(into, step, pid),
         Line::SentOn { pid, count } => put_sent_on(into, pid, count),
+        Line::Called { pid, count } => put_process_number(into, b"called", pid, count),
         Line::Lacks {
             pid,
             free_slots,
@@ -114,8 +115,10 @@ fn put_text(into: &mut Vec<u8>, line: &Line)
         Line::Stays(pid) => put_process(into, b"stays", pid),
         Line::Here(id) => put_message(into, b"here", id),
         Line::NoMove(id) => put_message(into, b"nomove", id),
+        Line::Stale(id) => put_message(into, b"stale", id),
         Line::Proto(id) => put_message(into, b"proto", id),
         Line::NoChild(pid) => put_process(into, b"nochild", pid),
+        Line::NoCall(pid) => put_process(into, b"nocall", pid),
         Line::Pinned(pid) => put_process(into, b"pinned", pid),
     }
 }

@@ -21,6 +21,14 @@ pub returns-in-NoChild : goal.returns-in-NoChild
 returns-in-NoChild c =
     subst (λ (l : Line). OnOk c.note_process-in-NoChild.result (c.note_process-in-NoChild.new.into.items ≡ c.args.into.now.items ++ draw_note c.args.place.now.frame.now c.args.place.now.m c.args.place.now.row (note_of l))) (sym c.in-NoChild.is) c.note_process-in-NoChild.ensures
 
+pub returns-in-NoCall : goal.returns-in-NoCall
+returns-in-NoCall c =
+    subst (λ (l : Line). OnOk c.note_process-in-NoCall.result (c.note_process-in-NoCall.new.into.items ≡ c.args.into.now.items ++ draw_note c.args.place.now.frame.now c.args.place.now.m c.args.place.now.row (note_of l))) (sym c.in-NoCall.is) c.note_process-in-NoCall.ensures
+
 pub returns-in-Pinned : goal.returns-in-Pinned
 returns-in-Pinned c =
     subst (λ (l : Line). OnOk c.note_process-in-Pinned.result (c.note_process-in-Pinned.new.into.items ≡ c.args.into.now.items ++ draw_note c.args.place.now.frame.now c.args.place.now.m c.args.place.now.row (note_of l))) (sym c.in-Pinned.is) c.note_process-in-Pinned.ensures
+
+pub returns-in-Stale : goal.returns-in-Stale
+returns-in-Stale c =
+    subst (λ (l : Line). OnOk c.note_message-in-Stale.result (c.note_message-in-Stale.new.into.items ≡ c.args.into.now.items ++ draw_note c.args.place.now.frame.now c.args.place.now.m c.args.place.now.row (note_of l))) (sym c.in-Stale.is) c.note_message-in-Stale.ensures
