@@ -1,6 +1,6 @@
 -- Rows of the rule whose parts need nothing beside, so that a kernel with places goes along.
 use Rattle.dm_places.proofs.Names.{◌≡◌, ℕ, zero, suc, ◌-◌, ◌==◌, Bool, List, [], ◌∷◌, ◌++◌, ⊤, if◌then◌else◌, Option, None, Some, Pid, MsgId, Line, PlainMessage, PlainWhat, Boot, manager, OneKernel, bind, PlainProcess, PlainStatus, Load}
-use Rattle.dm_places.proofs.Names.{Known, Pair, SentLoad, Told, View, Part, Point, by_migrates, IsHeardLine, hears_kept, id_of, arith}
+use Rattle.dm_places.proofs.Names.{Known, Pair, SentLoad, Told, View, Part, Point, by_migrates, IsHeardLine, hears_kept, id_of, arith, Kept, calls_off_kept}
 use Rattle.dm_onekernel.specs.Pieces as pieces
 use Rattle.dm_onekernel.specs.Receiving as receiving
 use Rattle.dm_onekernel.specs.Step as kernel
@@ -70,9 +70,12 @@ told_easy l h1 = search arith
 easy_of : (o : Option (List Part)) → ((ps : List Part) → o ≡ Some ps → EasyParts ps) → Easy o
 easy_of o h1 = search arith
 
+told_kept : Kept EasyParts
+told_kept = record { none = tt; says = λ l ps h k. (told_easy l h, k); again = λ i to ps k. (tt, k); owns = λ k q to ps h. (tt, h); answers = λ i r. (tt, (tt, tt)) }
+
 pub hears_easy : (b : Boot) (pt : Point) (m : ℕ) (id : MsgId) (o : Option Told) → Easy (rule.hears b pt m id o)
 hears_easy b pt m id o =
-    easy_of (rule.hears b pt m id o) (λ ps. hears_kept EasyParts (record { none = tt; says = λ l ps h k. (told_easy l h, k); again = λ i to ps k. (tt, k); owns = λ k q to ps h. (tt, h); answers = λ i r. (tt, (tt, tt)) }) b pt m id o ps)
+    easy_of (rule.hears b pt m id o) (λ ps. hears_kept EasyParts told_kept b pt m id o ps)
 
 -- the other directives
 repeats_easy : (a b : ℕ) (ns : List ℕ) → EasyParts (rule.repeats a b ns)
@@ -97,3 +100,6 @@ arrives_easy a b p q o = search (arith, load_easy)
 
 pub migrates_easy : (pt : Point) (p : Pid) → EasyParts (migrating.migrates pt p)
 migrates_easy pt p = by_migrates EasyParts pt p (tt, tt) (tt, tt) (λ n off is. (tt, tt))
+
+pub calls_off_easy : (pt : Point) (m : ℕ) (p : Pid) → EasyParts (migrating.calls_off pt m p (pt.view.known m p))
+calls_off_easy pt m p = calls_off_kept EasyParts told_kept pt m p

@@ -63,5 +63,6 @@ lines_keep pt pt' l (Line.Migration Stage.MemoryTaken p) keeps h e = says pt pt'
 lines_keep pt pt' l (Line.Migration Stage.Left p) keeps h e = says pt pt' l (Line.Migration Stage.Left p) refl h (cc)
 lines_keep pt pt' l (Line.Migration Stage.Restarted p) keeps h e = absurd keeps
 lines_keep pt pt' l (Line.SentOn p n) keeps h e = absurd keeps
+lines_keep pt pt' l (Line.Called p n) keeps h e = absurd keeps
 lines_keep pt pt' l (Line.Proto id) keeps h e = says pt pt' l (Line.Proto id) (moves_proto (handled pt.view id) (pt.view.told id)) h (cc)
 lines_keep pt pt' l any_ keeps h e = says pt pt' l any_ refl h (cc)

@@ -55,12 +55,15 @@ LineNeeds pt (line.Queued id) = ⊤
 LineNeeds pt (line.Held id) = ⊤
 LineNeeds pt (line.Migration step p) = ⊤
 LineNeeds pt (line.SentOn p n) = ⊤
+LineNeeds pt (line.Called p n) = ⊤
 LineNeeds pt (line.Lacks p slots blocks) = ⊤
 LineNeeds pt (line.Stays p) = ⊤
 LineNeeds pt (line.Here id) = ⊤
 LineNeeds pt (line.NoMove id) = ⊤
+LineNeeds pt (line.Stale id) = ⊤
 LineNeeds pt (line.Proto id) = ⊤
 LineNeeds pt (line.NoChild p) = ⊤
+LineNeeds pt (line.NoCall p) = ⊤
 LineNeeds pt (line.Pinned p) = ⊤
 
 abbrev pub LinesNeed : Point → List Line → Type 0

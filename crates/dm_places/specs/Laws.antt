@@ -82,12 +82,15 @@ KeepsPlaces pt (line.Migration stage.MemoryTaken p) = ⊤
 KeepsPlaces pt (line.Migration stage.Left p) = ⊤
 KeepsPlaces pt (line.Migration stage.Restarted p) = ⊥
 KeepsPlaces pt (line.SentOn p n) = ⊥
+KeepsPlaces pt (line.Called p n) = ⊥
 KeepsPlaces pt (line.Lacks p slots blocks) = ⊤
 KeepsPlaces pt (line.Stays p) = ⊤
 KeepsPlaces pt (line.Here id) = ⊤
 KeepsPlaces pt (line.NoMove id) = ⊤
+KeepsPlaces pt (line.Stale id) = ⊤
 KeepsPlaces pt (line.Proto id) = ⊤
 KeepsPlaces pt (line.NoChild p) = ⊤
+KeepsPlaces pt (line.NoCall p) = ⊤
 KeepsPlaces pt (line.Pinned p) = ⊤
 
 -- such a line leaves the kernel with places as it is

@@ -2,6 +2,7 @@
 use Rattle.dm_rule.proofs.Names.{◌≡◌, ℕ, zero, suc, ◌+◌, ◌-◌, ◌==◌, Bool, true, false, not, filter, List, [], ◌∷◌, ◌++◌, refl, ap, ◌∙◌, arith, length, ⊤, if◌then◌else◌, slice_get, Option, None, Some, nat_tests, MsgId, bind, OneKernel, Step}
 use Rattle.dm_rule.proofs.Names.{Line, Load, View, Pair, view_after, Point, label_of, kernel_after, moved, after_line, Part, Says, Transmits, Spelled, packet_line, spelled, Spot, Queue, Untaken, ids_at, standing, bind-is, Boot, Child}
 use Rattle.dm_rule.proofs.Names.{group_of, IsValid, SentLoad, after_head, pair_window, first_point, Leads, StandsOnceAlways, start-sound, Pid, PlainMessage, migrates, StandsAsBag, StandsOutside, StandsRight, eqb-true, MessageKind}
+use Rattle.dm_rule.proofs.Names.{calls_off}
 use Rattle.dm_rule.proofs.Lines.{Stands-stays, pair_keeps, eq_self, Bag, Stands, taken_by}
 use Rattle.dm_rule.proofs.States.{State, says_next, transmits_next, said, State-at, by_line, by_packet, PairsFit}
 use Rattle.dm_rule.proofs.Handled.{turns_row}
@@ -9,7 +10,8 @@ use Rattle.dm_rule.proofs.Pairs.{Pairs-group, Pairs-start, pair_stands, pair_hom
 use Rattle.dm_rule.proofs.Letters.{letters, letter_of}
 use Rattle.dm_rule.specs.View as view
 use Rattle.dm_rule.specs.Rule as rule
-use Rattle.dm_rule.proofs.Requests.{by_migrates}
+use Rattle.dm_rule.proofs.Requests.{by_migrates, by_calls_off}
+use Rattle.dm_rule.proofs.Moves.Called.{called_row}
 use Rattle.dm_rule.proofs.Moves.Sent.{line_ends, owns_ends}
 
 -- lines of deliveries and ticks
@@ -111,6 +113,10 @@ tick_off v m _ = refl
 pub migrate_off : (v : View) (p : Pid) (m : ℕ) (z : Spot) → ids_at (after_head v (Step.Migrate p m)) z ≡ ids_at v z
 migrate_off v p m z = grind (arith, nat_tests)
 
+pub call_off : (v : View) (p : Pid) (m : ℕ) (z : Spot) → ids_at (after_head v (Step.CallOff p m)) z ≡ ids_at v z
+call_off v p m (Queue n q) = refl
+call_off v p m _ = refl
+
 pub begun : (pt : Point) (d : Step) → State None pt → ((z : Spot) → ids_at (after_head pt.view d) z ≡ ids_at pt.view z) → ((i : MsgId) → (after_head pt.view d).told i ≡ pt.view.told i) → State None (moved pt (Line.Head d) pt.kernel)
 begun pt d h off told = by_line None pt (Line.Head d) refl h (Stands-stays (letters h.own pt.kernel.bag) pt.view (view_after pt.view (Line.Head d)) off told h.stands) told
 
@@ -162,6 +168,14 @@ State-group b pt (Step.Migrate p m) w e fits h =
     (λ e. line_ends pt (Line.NoChild p) w refl (by_line None pt (Line.NoChild p) refl h h.stands (λ j. refl)) e) (λ n off is e. owns_ends pt MessageKind.Migrate p (o.addresses (Child n)).at w (record { state = h; fits = fit }) e) in
     State-at None g.rest.point w.point g.point
     (migrates_row pt start p g.rest (begun pt (Step.Migrate p m) h (λ z. migrate_off pt.view p m z) (λ i. refl)) (record { within = fits.within; home = fits.home }) (ap (spelled start) f ∙ g.said))
+State-group b pt (Step.CallOff p m) w e fits h =
+    let g = group_is b pt (Step.CallOff p m) w e in
+    let f : calls_off pt m p (pt.view.known m p) ≡ g.parts = let k = g.is in cc in
+    let start = moved pt (Line.Head (Step.CallOff p m)) pt.kernel in
+    let state = begun pt (Step.CallOff p m) h (λ z. call_off pt.view p m z) (λ i. refl) in
+    State-at None g.rest.point w.point g.point
+    (by_calls_off (λ (ps : List Part). spelled start ps ≡ Some g.rest → State None g.rest.point) pt m p (λ e. line_ends start (Line.NoCall p) g.rest refl (by_line None start (Line.NoCall p) refl state state.stands (λ j. refl)) e)
+    (λ from is come e. called_row start p from g.rest state (record { within = fits.within; home = fits.home }) e) (ap (spelled start) f ∙ g.said))
 
 abbrev nobody : Option Pid
 nobody = None

@@ -1,9 +1,11 @@
 -- A kernel's own message is handled: what comes of it, row by row. Whatever holds of the parts of each row holds of what comes of the message.
-use Rattle.dm_rule.proofs.Names.{◌≡◌, ℕ, ◌==◌, ◌||◌, Bool, false, List, [], ◌∷◌, ◌++◌, refl, subst, length, ⊤, if◌then◌else◌, Option, None, Some, Pid, pid_of, pid_eq, MsgId, MessageKind, Line, Stage, Boot, switchboard, manager}
-use Rattle.dm_rule.proofs.Names.{PlainProcess, Told, About, Of, Known, Here, Frozen, Incoming, Forward, Ended, Point, Part, Says, Again, Owns, Addresses, place_told, to_kernel, forwards_on, gives_piece, sends_on, leaves, told_step, updates}
-use Rattle.dm_rule.proofs.Names.{told_here, told_ended, process_told, told_server, kernel_hears, hears, bind-is, behind_count, MoveNote, Outcome, answers_move, tells_asker, leaves_for, sort_of, arith}
-use Rattle.dm_rule.proofs.Requests.{by_test}
+use Rattle.dm_rule.proofs.Names.{◌≡◌, ℕ, ◌==◌, ◌||◌, Bool, false, List, [], ◌∷◌, ◌++◌, ◌⊎◌, ◌/◌, true, refl, ap, ◌∙◌, subst, length, ⊤, if◌then◌else◌, Option, None, Some, Pid, pid_of, pid_eq, MsgId, MessageKind, Line, Stage, Boot}
+use Rattle.dm_rule.proofs.Names.{switchboard, manager, PlainProcess, Told, About, Of, Known, Here, Frozen, Incoming, Forward, Ended, Point, Part, Says, Again, Owns, Addresses, place_told, to_kernel, forwards_on, gives_piece, sends_on}
+use Rattle.dm_rule.proofs.Names.{leaves, told_step, updates, told_here, told_ended, process_told, told_server, kernel_hears, hears, bind, bind-is, behind_count, MoveNote, Outcome, answers_move, tells_asker, leaves_for, sort_of, arith}
+use Rattle.dm_rule.proofs.Names.{calls_off, is_stale}
+use Rattle.dm_rule.proofs.Requests.{by_test, by_calls_off}
 use Rattle.dm_onekernel.specs.Step as kernel
+use Rattle.dm_rule.specs.Rule as rule
 
 -- a process's messages go on, and it has left
 abbrev pub left_parts : MsgId → Pid → List MsgId → ℕ → List Part
@@ -15,12 +17,16 @@ pub record Leaves (o : Point) (m : ℕ) (k : MessageKind) (p : Pid) (ids : List 
   pub known : o.view.known m p ≡ Frozen to
   pub lists : ids ≡ o.view.queue m p ++ o.view.held m p
 
+-- it stays where it is: it was refused, or called off
+abbrev pub TurnsBack : MessageKind → Type 0
+TurnsBack k = (k ≡ MessageKind.Refuse) ⊎ (k ≡ MessageKind.CallOff)
+
 -- what the kernels of two machines tell each other of a process
 pub record Tells (P : List Part → Type 0) (o : Point) (m : ℕ) (id : MsgId) (k : MessageKind) (p : Pid) : Type 0 where
   pub accepted : k ≡ MessageKind.Ask → P (Says (Line.Migration Stage.Accepted p) ∷ to_kernel MessageKind.PullState id.from.home ∷ [])
   pub lacks : (slots blocks : ℕ) → P (Says (Line.Lacks p slots blocks) ∷ to_kernel MessageKind.Refuse id.from.home ∷ [])
-  pub stays : k ≡ MessageKind.Refuse → o.kernel.notes p ≡ None → P (Says (Line.Stays p) ∷ [])
-  pub stays_asked : k ≡ MessageKind.Refuse → (n : MoveNote) → o.kernel.notes p ≡ Some n → P (Says (Line.Stays p) ∷ answers_move n.id Outcome.Stayed)
+  pub stays : TurnsBack k → o.kernel.notes p ≡ None → P (Says (Line.Stays p) ∷ [])
+  pub stays_asked : TurnsBack k → (n : MoveNote) → o.kernel.notes p ≡ Some n → P (Says (Line.Stays p) ∷ answers_move n.id Outcome.Stayed)
   pub state : P (gives_piece id MessageKind.State)
   pub next_chunk : P (Says (Line.Proto id) ∷ to_kernel MessageKind.PullState id.from.home ∷ [])
   pub last_chunk : P (Says (Line.Migration Stage.StateTaken p) ∷ to_kernel MessageKind.PullBlock id.from.home ∷ [])
@@ -39,7 +45,8 @@ pub record At (o : Point) (m : ℕ) (t : Told) (k : Known) : Type 0 where
 
 -- and all that a kernel's own message may say, at each receiver
 pub record Heard (P : List Part → Type 0) (o : Point) (m : ℕ) (id : MsgId) (t : Told) : Type 0 where
-  pub told : (p : Pid) (x : PlainProcess) → t.about ≡ Of p → kernel.alive (o.kernel.processes p) ≡ Some x → Tells P o m id t.kind p
+  pub told : (p : Pid) (x : PlainProcess) → t.about ≡ Of p → kernel.alive (o.kernel.processes p) ≡ Some x → is_stale o m id t.kind p ≡ false → Tells P o m id t.kind p
+  pub stale : (p : Pid) → t.about ≡ Of p → is_stale o m id t.kind p ≡ true → P (Says (Line.Stale id) ∷ [])
   pub updated : t.kind ≡ MessageKind.Update → P (updates o id t)
   pub updated_none : t.kind ≡ MessageKind.Update → At o m t Ended → P (Says (Line.Updated id 0) ∷ [])
   pub no_move : At o m t Ended → P (Says (Line.NoMove id) ∷ [])
@@ -64,9 +71,18 @@ by_leaves P o m id p ids _ ps lists h is e = cc
 by_told : (P : List Part → Type 0) (o : Point) (m : ℕ) (id : MsgId) (p : Pid) (room : Bool × ℕ × ℕ) (x : PlainProcess) (k : MessageKind) (ps : List Part) → Tells P o m id k p → told_step o m id p room x (sort_of k) ≡ Some ps → P ps
 by_told P o m id p room x k ps h1 h2 = search (arith, given, by_test, by_asker, by_leaves)
 
-pub by_kernel : (P : List Part → Type 0) (b : Boot) (o : Point) (m : ℕ) (id : MsgId) (k : MessageKind) (a : About) (ps : List Part) → ((p : Pid) (x : PlainProcess) → a ≡ Of p → kernel.alive (o.kernel.processes p) ≡ Some x → Tells P o m id k p)
-    → kernel_hears b o m id k a ≡ Some ps → P ps
-by_kernel P b o m id k a ps h1 h2 = search (arith, bind-is, by_told)
+by_due : (P : List Part → Type 0) (b : Boot) (o : Point) (m : ℕ) (id : MsgId) (k : MessageKind) (p : Pid) (stale : Bool) (ps : List Part) → (stale ≡ true → P (Says (Line.Stale id) ∷ []))
+    → ((x : PlainProcess) → kernel.alive (o.kernel.processes p) ≡ Some x → stale ≡ false → Tells P o m id k p)
+    → (if stale then Some (Says (Line.Stale id) ∷ []) else bind (kernel.alive (o.kernel.processes p)) (λ x. told_step o m id p (rule.fits (rule.free_room b o m) (length x.memory / 256)) x (sort_of k))) ≡ Some ps → P ps
+by_due P b o m id k p true ps late due e = given P (Says (Line.Stale id) ∷ []) ps (late refl) e
+by_due P b o m id k p false ps late due e =
+    let (x, alive, steps) = bind-is (kernel.alive (o.kernel.processes p)) (λ (x : PlainProcess). told_step o m id p (rule.fits (rule.free_room b o m) (length x.memory / 256)) x (sort_of k)) ps e in
+    by_told P o m id p (rule.fits (rule.free_room b o m) (length x.memory / 256)) x k ps (due x alive refl) steps
+
+pub by_kernel : (P : List Part → Type 0) (b : Boot) (o : Point) (m : ℕ) (id : MsgId) (k : MessageKind) (a : About) (ps : List Part) → ((p : Pid) → a ≡ Of p → is_stale o m id k p ≡ true → P (Says (Line.Stale id) ∷ []))
+    → ((p : Pid) (x : PlainProcess) → a ≡ Of p → kernel.alive (o.kernel.processes p) ≡ Some x → is_stale o m id k p ≡ false → Tells P o m id k p) → kernel_hears b o m id k a ≡ Some ps → P ps
+by_kernel P b o m id k (Of p) ps late due e = by_due P b o m id k p (is_stale o m id k p) ps (late p refl) (λ x alive is. due p x refl alive is) e
+by_kernel P b o m id k _ ps late due e = cc
 
 by_server : (P : List Part → Type 0) (o : Point) (id : MsgId) (t : Told) (k : MessageKind) (ps : List Part) → t.kind ≡ k → (t.kind ≡ MessageKind.Update → P (updates o id t)) → told_server o id t (sort_of k) ≡ Some ps → P ps
 by_server P o id t MessageKind.Update ps is h e = given P (updates o id t) ps (h is) e
@@ -83,21 +99,28 @@ by_process P o m id t k ps h1 h2 h3 = search (arith, by_here, given, by_ended)
 
 by_receiver : (P : List Part → Type 0) (b : Boot) (o : Point) (m : ℕ) (id : MsgId) (t : Told) (c d g : Bool) (ps : List Part) → (t.receiver.num == 0) ≡ c → pid_eq t.receiver switchboard ≡ d → pid_eq t.receiver manager ≡ g → Heard P o m id t
     → (if c then kernel_hears b o m id t.kind t.about else if d then told_server o id t (sort_of t.kind) else if g then told_server o id t (sort_of t.kind) else process_told o m id t (o.view.known m t.receiver)) ≡ Some ps → P ps
-by_receiver P b o m id t c d g ps h1 h2 h3 h4 h5 = search (arith, by_kernel, by_server, by_process)
+by_receiver P b o m id t true d g ps kernel board manager_ h e = by_kernel P b o m id t.kind t.about ps h.stale h.told e
+by_receiver P b o m id t false true g ps kernel board manager_ h e = by_server P o id t t.kind ps refl h.updated e
+by_receiver P b o m id t false false true ps kernel board manager_ h e = by_server P o id t t.kind ps refl h.updated e
+by_receiver P b o m id t false false false ps kernel board manager_ h e =
+    by_process P o m id t (o.view.known m t.receiver) ps h (record { known = refl; kernel = kernel; server = ap (λ (c : Bool). c || pid_eq t.receiver manager) board ∙ manager_ }) e
 
 pub by_hears : (P : List Part → Type 0) (b : Boot) (o : Point) (m : ℕ) (id : MsgId) (q : Option Told) (ps : List Part) → ((t : Told) → q ≡ Some t → Heard P o m id t) → hears b o m id q ≡ Some ps → P ps
 by_hears P b o m id None ps h e = cc
 by_hears P b o m id (Some t) ps h e = by_receiver P b o m id t (t.receiver.num == 0) (pid_eq t.receiver switchboard) (pid_eq t.receiver manager) ps refl refl refl (h t refl) e
 
--- the lines that a kernel's own message brings about
+-- the lines that a kernel's own message brings about, or calling off
 abbrev pub IsHeardLine : Line → Type 0
 IsHeardLine (Line.Migration step p) = ⊤
 IsHeardLine (Line.SentOn p n) = ⊤
+IsHeardLine (Line.Called p n) = ⊤
+IsHeardLine (Line.NoCall p) = ⊤
 IsHeardLine (Line.Lacks p slots blocks) = ⊤
 IsHeardLine (Line.Stays p) = ⊤
 IsHeardLine (Line.Proto i) = ⊤
 IsHeardLine (Line.Updated i n) = ⊤
 IsHeardLine (Line.NoMove i) = ⊤
+IsHeardLine (Line.Stale i) = ⊤
 IsHeardLine (Line.Held i) = ⊤
 IsHeardLine (Line.Forwarded i to) = ⊤
 IsHeardLine (Line.Here i) = ⊤
@@ -126,7 +149,8 @@ heard_kept P c o m id t =
     let two : (l : Line) (k : MessageKind) (b : ℕ) → IsHeardLine l → P (Says l ∷ to_kernel k b ∷ []) = λ l k b h. c.says l (to_kernel k b ∷ []) h (c.owns k (pid_of b 0) b [] c.none) in
     let home = id.from.home in
     record {
-      told = λ p x about alive. record {
+      stale = λ p about late. one (Line.Stale id) tt;
+      told = λ p x about alive due. record {
         accepted = λ ask. two (Line.Migration Stage.Accepted p) MessageKind.PullState home tt;
         lacks = λ slots blocks. two (Line.Lacks p slots blocks) MessageKind.Refuse home tt;
         stays = λ kind none. one (Line.Stays p) tt;
@@ -156,3 +180,11 @@ heard_kept P c o m id t =
 
 pub hears_kept : (P : List Part → Type 0) → Kept P → (b : Boot) (o : Point) (m : ℕ) (id : MsgId) (q : Option Told) (ps : List Part) → hears b o m id q ≡ Some ps → P ps
 hears_kept P c b o m id q ps = by_hears P b o m id q ps (λ t is. heard_kept P c o m id t)
+
+-- and of all that comes of calling a migration off
+pub calls_off_kept : (P : List Part → Type 0) → Kept P → (pt : Point) (m : ℕ) (p : Pid) → P (calls_off pt m p (pt.view.known m p))
+calls_off_kept P c pt m p =
+    by_calls_off P pt m p (c.says (Line.NoCall p) [] tt c.none) (λ from is come.
+    (let ids = pt.view.held m p in
+    let end = to_kernel MessageKind.CallOff from ∷ [] in
+    c.says (Line.Called p (length ids)) (sends_on from ids ++ end) tt (kept_on P c from ids end (c.owns MessageKind.CallOff (pid_of from 0) from [] c.none))))

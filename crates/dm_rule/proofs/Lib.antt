@@ -4,6 +4,7 @@ pub mod QuietWorked
 pub mod QuietTests
 pub mod SettleWorked
 pub mod OrderWorked
+pub mod CallOffWorked
 pub mod Standing
 pub mod Once
 pub mod Lines

@@ -2,4 +2,5 @@
 pub mod Lists
 pub mod States
 pub mod Sent
+pub mod Called
 pub mod Rows

@@ -8,20 +8,18 @@ pub use Rattle.std.specs.Prelude.{filter, filter_map, option_and_then, slice_set
 pub use Rattle.std.specs.Str.{bytes_eq}
 pub use Rattle.dm_link.specs.Names.{Place, place_of}
 pub use Rattle.dm_link.specs.declared.Kind.TheVariants.{General}
-pub use Rattle.dm_processor.proofs.Names.{Bool, List, Row, [], ap, arith, cond, drop, drop-append-le, false, length, nat_tests, opcode_of, past, refl, replicate, slice_index, suc, sym, take, true, zero, ℕ, ◌%◌, ◌*◌, ◌++◌, ◌+◌, ◌-◌, ◌/◌}
-pub use Rattle.dm_processor.proofs.Names.{◌<◌, ◌∙◌, ◌∷◌, ◌≡◌, ◌≤◌}
+pub use Rattle.dm_processor.proofs.Names.{drop-append-le, opcode_of, past, replicate, slice_index, ◌/◌}
 unfoldable pub use Rattle.dm_processor.specs.Instructions.{instruction}
 pub use Rattle.dm_processor.specs.declared.opcodes.Opcode.{Opcode}
 pub use Rattle.dm_processor.specs.declared.registers.Fault.{Fault}
 pub use Rattle.dm_processor.specs.declared.registers.Regs.{Regs}
 pub use Rattle.dm_message.specs.Kinds.{plain_kind}
-pub use Rattle.dm_message.specs.Sorts.{Sort, sort_of}
+pub use Rattle.dm_message.specs.Sorts.{Sort, brings_piece, pulls_piece, sort_of}
 pub use Rattle.dm_message.specs.declared.kind.MessageKind.{MessageKind}
-pub use Rattle.dm_linktable.proofs.Names.{Link, Pid, first_empty, is_none, link_at, map, pid_eq, subst, ◌&&◌, ◌==◌, ◌≢◌}
-pub use Rattle.dm_schedule.proofs.Names.{append-nil, append_assoc, drop-length, if◌then◌else◌, nat_lt, not, position_or_len}
+pub use Rattle.dm_linktable.proofs.Names.{Link, cond, is_none, ◌%◌}
+pub use Rattle.dm_schedule.proofs.Names.{append-nil, append_assoc, drop-length, not, position_or_len}
 pub use Rattle.dm_schedule.specs.declared.Directive.{Directive}
 pub use Rattle.dm_schedule.specs.declared.Step.{Step}
-pub use Rattle.dm_process.proofs.Names.{slice_get}
 pub use Rattle.dm_process.specs.Mail.{on_mask}
 pub use Rattle.dm_onekernel.specs.Boot.{is_general, slots_of}
 pub use Rattle.dm_onekernel.specs.Codes.{reply_code, reply_eq, why_eq}
@@ -36,17 +34,18 @@ pub use Rattle.dm_laws.proofs.Entered.{Entered, Made, asks, counts, is_counted, 
 pub use Rattle.dm_laws.proofs.Equal.{id_eq-is, id_eq-same, id_eq-swap, pid_eq-is, pid_eq-same}
 pub use Rattle.dm_laws.proofs.Grown.{LifeGrows}
 pub use Rattle.dm_laws.proofs.Movers.{sent_at, sent_off, stayed}
-pub use Rattle.dm_laws.proofs.Names.{Alive, Boot, BootImage, BootProcess, CallNumber, Called, Direction, Ends, IsValid, Label, Life, Manager, MoveNote, Moving, MsgId, None, OneKernel, Option, Outcome, Outputs, Pending, PendingKind}
-pub use Rattle.dm_laws.proofs.Names.{PlainLink, PlainMessage, PlainProcess, PlainStatus, PlainWhat, Ready, Replies, Reply, Sends, Some, Waiting, Waits, Why, and_right, answer_id, answer_to, begun, bind, cases_Bool, code_of_outcome}
-pub use Rattle.dm_laws.proofs.Names.{cond_some, direction_numbered, entry, false≢true, first_failed, first_life, first_number, fun_ext, id_eq, id_of, in_bag, inl, inr, is_some, life_at, manager, nat_le, option_map, option_map_or, or_parts}
-pub use Rattle.dm_laws.proofs.Names.{pid_of, plain_link, processes_are_valid, reception, reg, start, starting_at, switchboard, when, with_note, with_process, with_sent, without_message, without_note, ⊤, ◌||◌, ◌⊎◌}
+pub use Rattle.dm_laws.proofs.Names.{Alive, Boot, BootImage, BootProcess, CallNumber, Called, Direction, Ends, IsValid, Label, Life, List, Manager, MoveNote, Moving, MsgId, None, OneKernel, Option, Outcome, Outputs, Pending, PendingKind}
+pub use Rattle.dm_laws.proofs.Names.{Pid, PlainLink, PlainMessage, PlainProcess, PlainStatus, PlainWhat, Ready, Replies, Reply, Row, Sends, Some, Waiting, Waits, Why, [], and_right, answer_id, answer_to, begun, bind, cases_Bool}
+pub use Rattle.dm_laws.proofs.Names.{code_of_outcome, cond_some, direction_numbered, drop, entry, first_empty, first_failed, first_life, first_number, fun_ext, id_eq, id_of, if◌then◌else◌, in_bag, is_some, length, life_at, link_at, manager}
+pub use Rattle.dm_laws.proofs.Names.{map, nat_le, nat_lt, nat_tests, option_map, option_map_or, or_parts, pid_eq, pid_of, plain_link, processes_are_valid, reception, reg, slice_get, start, starting_at, switchboard, take, when, with_note}
+pub use Rattle.dm_laws.proofs.Names.{with_process, with_sent, without_message, without_note, ⊤, ◌*◌, ◌++◌, ◌+◌, ◌-◌, ◌==◌, ◌||◌, ◌∷◌, ◌≤◌, ◌⊎◌}
 pub use Rattle.dm_laws.proofs.Runs.{after_step, start-sound}
 pub use Rattle.dm_laws.proofs.Servers.{ServerSends, board_takes_lem, ends_move-is, manager_takes_lem, next_is_new, why_ended-is}
 pub use Rattle.dm_laws.proofs.Services.{LandsSo, lands-is}
 pub use Rattle.dm_laws.proofs.Sound.{Sound, counts_process, not_server}
 pub use Rattle.dm_laws.proofs.Steps.{Completing, Nexts, Runs, alive-is, at_hand-is, bind-is, completing, nexts, when-is}
 pub use Rattle.dm_line.proofs.Below.{all_of_each, both_true, each_of_all, left_true, right_true}
-pub use Rattle.dm_line.proofs.Names.{all_below}
+pub use Rattle.dm_line.proofs.Names.{Bool, all_below, ap, arith, false, false≢true, inl, inr, refl, subst, suc, sym, true, zero, ℕ, ◌&&◌, ◌<◌, ◌∙◌, ◌≡◌, ◌≢◌}
 pub use Rattle.dm_line.specs.Sets.{at_id, at_machine, at_pair, at_pid, at_record, moved_back, without, without_front, without_id}
 pub use Rattle.dm_line.specs.Todo.{Next, Todo, all_of}
 pub use Rattle.dm_line.specs.declared.line.Line.{Line}
@@ -61,21 +60,22 @@ pub use Rattle.dm_rule.specs.Apart.{AllSpare, IsOthers, Spares}
 pub use Rattle.dm_rule.specs.Good.{next_step}
 pub use Rattle.dm_rule.specs.Homes.{Homes, are_for_home, are_home, ascends, asker_in, enclosed_of, is_for_home, links_in, names, sender_of, to_of}
 pub use Rattle.dm_rule.specs.Laws.{AreStill, AskNone, IsStep, IsStill, IsUnasked, KernelsInOrderAlways, LeadHomeAlways, Leads, LeadsStill, MovingStaysAlways, PairsStandAlways, PhasesAlways, QuietIsTested, StandsOnceAlways, TellsRightAlways}
-pub use Rattle.dm_rule.specs.Migrating.{accepts, answers_move, asked_to_move, behind_count, chunks_of, forwards_on, gives_piece, leaves, leaves_for, migrates, migrates_child, pieces_of, process_told, sends_on, takes_block, takes_chunk}
-pub use Rattle.dm_rule.specs.Migrating.{tells_asker, to_kernel, told_ended, told_here, told_server, told_step, updates}
+pub use Rattle.dm_rule.specs.Migrating.{accepts, answers_move, asked_to_move, behind_count, calls_off, chunks_of, forwards_on, gives_piece, leaves, leaves_for, migrates, migrates_child, pieces_of, process_told, sends_on, takes_block}
+pub use Rattle.dm_rule.specs.Migrating.{takes_chunk, tells_asker, to_kernel, told_ended, told_here, told_server, told_step, updates}
 pub use Rattle.dm_rule.specs.Order.{KernelsInOrder, is_between_from, ordered}
 pub use Rattle.dm_rule.specs.Pairs.{HomeStands, PairStands}
 pub use Rattle.dm_rule.specs.Parts.{Again, Owns, Part, Routes, Says, Spelled, Transmits, behind, goes_out, lines_of, packet_line, pair_window, puts, spelled}
-pub use Rattle.dm_rule.specs.Phases.{Alone, HasToken, IsIn, IsToken, Moves, Nowhere, Over, Phase, Rests, is_apart, is_away, is_between, is_due, is_early, is_here, is_over, is_restart, kind_comes, kind_leaves, knows, receiver_in, sender_in}
-pub use Rattle.dm_rule.specs.Phases.{token_in, told_between}
+pub use Rattle.dm_rule.specs.Phases.{Alone, Asks, Comes, ComesIn, HasCome, HasToken, IsBefore, IsIn, IsLeft, IsToken, IsWay, Moves, Nowhere, Over, Phase, Rests, is_apart, is_away, is_between, is_calloff, is_due, is_early, is_here, is_over}
+pub use Rattle.dm_rule.specs.Phases.{is_restart, kind_comes, kind_leaves, knows, receiver_in, sender_in, tells_come, token_in, told_between}
 pub use Rattle.dm_rule.specs.Point.{Point, after, after_line, first_point, kernel_after, label_of, move_target, moved, seen, topic_by}
 pub use Rattle.dm_rule.specs.Quiet.{IsQuiet, has_mail, is_quiet, pair_is_quiet}
 pub use Rattle.dm_rule.specs.Rule.{Room, arrives, board_took, called, comes, comes_to, creation_parts, drop_parts, ended_handles, executes, first_awaited, first_runnable, fits, free_room, goes_round, group_of, has, has_room, hears}
-pub use Rattle.dm_rule.specs.Rule.{here_handles, kept_from, kernel_handles, kernel_hears, less, let_go, manager_parts, numbers_from, outcome, outstanding_count, process_handles, ran, repeats, resends, routes, says, serves_status, stops}
-pub use Rattle.dm_rule.specs.Rule.{takes_on, taking_parts, turns}
+pub use Rattle.dm_rule.specs.Rule.{here_handles, is_stale, is_waited_from, kept_from, kernel_handles, kernel_hears, less, let_go, manager_parts, numbers_from, outcome, outstanding_count, process_handles, ran, repeats, resends, routes, says}
+pub use Rattle.dm_rule.specs.Rule.{serves_status, stops, takes_on, taking_parts, turns}
 pub use Rattle.dm_rule.specs.Spots.{Held, Inbox, Queue, Spot, StandsAsBag, StandsNowhere, StandsOnce, StandsOutside, StandsRight, Untaken, ids_at, standing, times, untaken}
 pub use Rattle.dm_rule.specs.Tells.{TellsRight}
 pub use Rattle.dm_rule.specs.Trails.{AddressesOn, IsOn, LeadsAlong, OwnOn, StoodOnTrail, Trail, Trailed, Trails, TrailsAlways, Trodden, along, destination, first_trails, first_trodden, leads, leads_on, trails_after}
 pub use Rattle.dm_rule.specs.View.{About, Ended, Forward, Frozen, Here, Incoming, Known, NothingElse, Of, Pair, SentLoad, Target, Told, Unknown, View, actor, after_head, after_label, after_packet, after_proto, after_put, after_stage}
-pub use Rattle.dm_rule.specs.View.{after_taken, asks_on, at_least, begins, dropped_for, ended, ends_by, first_view, follows_by, forward_about, forwarded_for, front_of, frozen_for, gone_after, gone_to, handled, handled_first, held_for}
-pub use Rattle.dm_rule.specs.View.{is_kernels, knowing, known_at, marked, marked_at, oldest, own_id, queued_for, receiver_of, released, ring_at, routed_on, served_told, sets_off, taken_id, target_of, view_after, with_pair, with_ring}
+pub use Rattle.dm_rule.specs.View.{after_taken, asks_on, at_least, begins, dropped_for, ended, ends_by, first_view, follows_by, forward_about, forwarded_for, front_of, frozen_for, goes_back, gone_after, gone_to, handled, handled_first}
+pub use Rattle.dm_rule.specs.View.{held_for, is_kernels, knowing, known_at, marked, marked_at, oldest, own_id, queued_for, receiver_of, released, ring_at, routed_on, served_told, sets_off, taken_id, target_of, view_after, with_pair}
+pub use Rattle.dm_rule.specs.View.{with_ring}

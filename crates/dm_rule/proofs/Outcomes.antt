@@ -1,6 +1,6 @@
 -- The outcome of a directive: what holds of each way that it may come about holds of it.
 use Rattle.dm_rule.proofs.Names.{◌≡◌, ℕ, List, [], ◌∷◌, refl, subst, Option, None, Some, Pid, MsgId, Boot, PlainMessage, Step, Line, Load, Part, Says, Transmits, Point, migrates, bind, bind-is, Spelled, spelled, behind, lines_of, after}
-use Rattle.dm_rule.proofs.Names.{moved, group_of, arith}
+use Rattle.dm_rule.proofs.Names.{moved, group_of, arith, calls_off}
 use Rattle.dm_rule.proofs.Groups.{IsNetLine, IsNet, arrives_net, resends_net, group_is}
 use Rattle.dm_rule.specs.Rule as rule
 use Rattle.dm_rule.proofs.Hearing.{given}
@@ -12,7 +12,7 @@ by_net P none says transmits (Says l ∷ ps) h = says l ps h.0 (by_net P none sa
 by_net P none says transmits (Transmits a b l ∷ ps) h = transmits a b l ps (by_net P none says transmits ps h.1)
 by_net P none says transmits _ h = absurd h.0
 
--- an empty inbox, a message of the bag at its front, one that kernels sent, repeats, a delivery, and a request to move a process
+-- an empty inbox, a message of the bag at its front, one that kernels sent, repeats, a delivery, a request to move a process, and the calling off of a migration
 pub record Outcomes (P : Step → List Part → Type 0) (b : Boot) (o : Point) : Type 0 where
   pub round : (m : ℕ) (ps : List Part) → o.view.inbox m ≡ [] → rule.goes_round b o m (rule.first_runnable o.kernel (o.view.queue m) (o.view.ring m)) ≡ Some ps → P (Step.Turn m) ps
   pub handles : (m : ℕ) (i : MsgId) (is : List MsgId) (msg : PlainMessage) (ps : List Part) → o.view.inbox m ≡ i ∷ is → o.kernel.bag i ≡ Some msg → rule.handles b o m i msg ≡ Some ps → P (Step.Turn m) ps
@@ -20,6 +20,7 @@ pub record Outcomes (P : Step → List Part → Type 0) (b : Boot) (o : Point) :
   pub ticks : (m : ℕ) (ps : List Part) → IsNet ps → P (Step.Tick m) ps
   pub delivers : (a c k : ℕ) (ps : List Part) → IsNet ps → P (Step.Deliver a c k) ps
   pub asks : (p : Pid) (m : ℕ) → P (Step.Migrate p m) (migrates o p)
+  pub calls : (p : Pid) (m : ℕ) → P (Step.CallOff p m) (calls_off o m p (o.view.known m p))
 
 by_front : (P : Step → List Part → Type 0) (b : Boot) (o : Point) (m : ℕ) (i : MsgId) (is : List MsgId) (q : Option PlainMessage) (ps : List Part) → o.view.inbox m ≡ i ∷ is → o.kernel.bag i ≡ q → Outcomes P b o → rule.comes_to b o m i q ≡ Some ps → P (Step.Turn m) ps
 by_front P b o m i is None ps box there h e = h.hears m i is ps box there e

@@ -7,13 +7,13 @@ pub mod Turns
 pub mod Comes
 use Rattle.dm_rule.proofs.Names.{◌≡◌, ℕ, ◌≤◌, ◌==◌, ◌&&◌, Bool, true, false, List, [], ◌∷◌, refl, ap, ◌∙◌, sym, subst, arith, ◌≢◌, slice_get, Some, nat_tests, Boot, bind, Step, Line, at_pair, View, Pair, first_view, marked, Point, SentLoad}
 use Rattle.dm_rule.proofs.Names.{None, after_line, first_point, Part, Says, Spelled, spelled, outstanding_count, resends, arrives, outcome, behind, group_of, PairStands, HomeStands, IsStep, Leads, PairsStandAlways, migrates, Pid, Option}
-use Rattle.dm_rule.proofs.Names.{marked_at}
+use Rattle.dm_rule.proofs.Names.{marked_at, calls_off}
 use Rattle.dm_rule.proofs.Pairs.Stand.{WireStands-at, set_same, set_other, WireStands, WireStands-set}
 use Rattle.dm_rule.proofs.Pairs.Moves.{Paired, changed, Goes}
 use Rattle.dm_rule.proofs.Pairs.Lines.{bind-is, line_view, AllFit, keeps}
 use Rattle.dm_rule.proofs.Pairs.Turns.{turns_fit, resends_fit}
 use Rattle.dm_rule.proofs.Pairs.Comes.{arrives_keep}
-use Rattle.dm_rule.proofs.Pairs.Migrating.{migrates_fit}
+use Rattle.dm_rule.proofs.Pairs.Migrating.{migrates_fit, calls_off_fit}
 
 abbrev pub Pairs : View → Type 0
 Pairs v = Paired v.pair
@@ -73,6 +73,12 @@ migrate_keeps b pt p m w g h =
     let parts : migrates pt p ≡ g.parts = let f = g.follows in cc in
     subst (λ (q : Point). Pairs q.view) g.end (keeps g.parts g.begun g.rest (subst (AllFit g.begun.view.pair) parts (migrates_fit g.begun.view.pair pt p)) (subst Paired (sym is) h) g.on)
 
+calls_off_keeps : (b : Boot) (pt : Point) (p : Pid) (m : ℕ) (w : Spelled) → Group b pt (Step.CallOff p m) w → Pairs pt.view → Pairs w.point.view
+calls_off_keeps b pt p m w g h =
+    let is : g.begun.view.pair ≡ pt.view.pair = ap (λ (v : View). v.pair) (line_view pt g.begun (Line.Head (Step.CallOff p m)) g.begins) in
+    let parts : calls_off pt m p (pt.view.known m p) ≡ g.parts = let f = g.follows in cc in
+    subst (λ (q : Point). Pairs q.view) g.end (keeps g.parts g.begun g.rest (subst (AllFit g.begun.view.pair) parts (calls_off_fit g.begun.view.pair pt m p)) (subst Paired (sym is) h) g.on)
+
 pub Pairs-group : (b : Boot) (pt : Point) (e : Step) (w : Spelled) → IsStep pt.kernel.machines e → group_of b pt e ≡ Some w → Pairs pt.view → Pairs w.point.view
 Pairs-group b pt (Step.Turn m) w fits is h =
     let turn_keeps : (b : Boot) (pt : Point) (m : ℕ) (w : Spelled) → Group b pt (Step.Turn m) w → Pairs pt.view → Pairs w.point.view = λ b pt m w g h.
@@ -82,6 +88,7 @@ Pairs-group b pt (Step.Turn m) w fits is h =
 Pairs-group b pt (Step.Tick m) w fits is h = tick_keeps b pt m w (group b pt (Step.Tick m) w is) h
 Pairs-group b pt (Step.Deliver a c k) w fits is h = deliver_keeps b pt a c k w fits.2 (group b pt (Step.Deliver a c k) w is) h
 Pairs-group b pt (Step.Migrate p m) w fits is h = migrate_keeps b pt p m w (group b pt (Step.Migrate p m) w is) h
+Pairs-group b pt (Step.CallOff p m) w fits is h = calls_off_keeps b pt p m w (group b pt (Step.CallOff p m) w is) h
 
 Pairs-on : (b : Boot) (es : List Step) (pt end : Point) → Leads b pt es end → Pairs pt.view → Pairs end.view
 Pairs-on b [] pt end leads h = subst (λ (q : Point). Pairs q.view) leads h

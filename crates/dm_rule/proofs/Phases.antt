@@ -5,9 +5,11 @@ pub mod Quiet
 pub mod Stand
 pub mod Put
 pub mod Answers
+pub mod Left
 pub mod Pieces
 pub mod Rests
 pub mod Leaves
+pub mod Called
 pub mod Hears
 pub mod Net
 pub mod Lives
@@ -15,5 +17,6 @@ pub mod Turns
 pub mod Groups
 pub mod Start
 pub mod Ranked
+pub mod Behind
 pub mod Order
 pub mod Always

@@ -2,7 +2,7 @@
 use Rattle.dm_rule.proofs.Names.{◌≡◌, ℕ, ◌+◌, ◌≤◌, ◌==◌, ◌&&◌, Bool, true, false, List, [], ◌∷◌, length, is_some, refl, ap, ◌∙◌, sym, subst, inl, inr, arith, ⊤, if◌then◌else◌, Option, None, Some, cases_Bool, false≢true, Pid, MsgId}
 use Rattle.dm_rule.proofs.Names.{MessageKind, id_eq, plain_kind, Load, PlainMessage, PlainWhat, Boot, Label, IsValid, OneKernel, bind, Step, Line, View, Pair, Told, view_after, is_kernels, own_id, Receiver, Point, label_of, kernel_after}
 use Rattle.dm_rule.proofs.Names.{moved, after_line, after, first_point, Part, Says, Routes, Again, Owns, Transmits, Spelled, lines_of, puts, goes_out, packet_line, behind, spelled, group_of, outcome, Leads, TellsRightAlways, is_between}
-use Rattle.dm_rule.proofs.Names.{TellsRight, entry, in_bag, reception, id_eq-is, id_eq-same, Sound, bind-is, after_step, start-sound, at_machine, pid_of, id_of, slice_get, migrates}
+use Rattle.dm_rule.proofs.Names.{TellsRight, entry, in_bag, reception, id_eq-is, id_eq-same, Sound, bind-is, after_step, start-sound, at_machine, pid_of, id_of, slice_get, migrates, calls_off}
 use Rattle.std.proofs.Common.{is_none}
 use Rattle.dm_onekernel.specs.Step as kernel
 use Rattle.dm_rule.specs.View as view
@@ -13,7 +13,7 @@ use Rattle.dm_rule.proofs.Moves.States.{not_first, own_numbered}
 use Rattle.dm_rule.specs.Rule as rule
 use Rattle.dm_rule.proofs.Pairs.Lines.{AllFit}
 use Rattle.dm_rule.proofs.Pairs.Turns.{turns_fit}
-use Rattle.dm_rule.proofs.Pairs.Migrating.{migrates_fit}
+use Rattle.dm_rule.proofs.Pairs.Migrating.{migrates_fit, calls_off_fit}
 use Rattle.dm_rule.proofs.Groups.{IsNet, arrives_net, resends_net, group_is}
 use Rattle.dm_rule.proofs.Bags.{cases_zero}
 
@@ -220,6 +220,10 @@ outcome_sayable b pt (Step.Deliver a c k) ps is =
     let qs = rule.arrives a c (pt.view.pair a c) (pt.view.pair c a) (slice_get (pt.view.pair a c).wire k) in
     search (arith, net_sayable, arrives_net)
 outcome_sayable b pt (Step.Migrate p m) ps is = let f : migrates pt p ≡ ps = cc in subst AllSayable f (fit_sayable pt.view.pair (migrates pt p) (migrates_fit pt.view.pair pt p))
+outcome_sayable b pt (Step.CallOff p m) ps is =
+    let parts = calls_off pt m p (pt.view.known m p) in
+    let f : parts ≡ ps = cc in
+    subst AllSayable f (fit_sayable pt.view.pair parts (calls_off_fit pt.view.pair pt m p))
 
 pub sane_group : (b : Boot) (pt : Point) (d : Step) (w : Spelled) → group_of b pt d ≡ Some w → Sane pt → Sane w.point
 sane_group b pt d w is h =

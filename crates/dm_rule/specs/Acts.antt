@@ -16,6 +16,8 @@ pub data Act : Type 0 where
   -- a message goes on, or all those of a process that leaves
   GoesOn : (id : MsgId) → Act
   AllGoOn : (process : Pid) → Act
+  -- those that were held for a process go back
+  AllGoBack : (process : Pid) → Act
   -- links follow a process
   Updates : (id : MsgId) → Act
   -- other steps of a migration; a process can't come; it stays
@@ -30,6 +32,7 @@ act_of (line.Label l) = Steps l
 act_of (line.Put from to id k q) = Routes from to id k q
 act_of (line.Forwarded id m) = GoesOn id
 act_of (line.SentOn p n) = AllGoOn p
+act_of (line.Called p n) = AllGoBack p
 act_of (line.Updated id n) = Updates id
 act_of (line.Migration s p) = Migrates s p
 act_of (line.Lacks p s b) = Lacks p
@@ -47,6 +50,8 @@ act_of (line.Queued id) = Tells
 act_of (line.Held id) = Tells
 act_of (line.Here id) = Tells
 act_of (line.NoMove id) = Tells
+act_of (line.Stale id) = Tells
 act_of (line.Proto id) = Tells
 act_of (line.NoChild p) = Tells
 act_of (line.Pinned p) = Tells
+act_of (line.NoCall p) = Tells

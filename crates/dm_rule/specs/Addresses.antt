@@ -22,15 +22,16 @@ use Rattle.dm_onekernel.specs.Manager as manage
 use Rattle.dm_onekernel.specs.Step as kernel
 use Rattle.dm_rule.specs.Acts.{Act, act_of}
 use Rattle.dm_rule.specs.Acts as act
-use Rattle.dm_rule.specs.View.{View, Told, About, Known, Frozen, Forward}
+use Rattle.dm_rule.specs.View.{View, Told, About, Known, Frozen, Incoming, Forward}
 use Rattle.dm_rule.specs.View as view
 pub use Rattle.dm_rule.specs.Holders.{Holder, Slot, Owner, Receiver, Sender, Enclosed, Child, Name, Answer, AskedBy, Addresses, holder_eq, Gets, gets, given, acting_place, unmoved}
 pub use Rattle.dm_rule.specs.Given.{encloses, enclosed_from, sending_gets, sends_next, send_gets, fills, fills_by, call_gets, slot_after, receives_links, receiving_gets, reception_gets, answer_gets, landing_gets, serving_gets, service_gets, child_links, child_gets, creation_gets, place_named, board_finds, board_keeps, board_asks, board_gets, manager_controls, telling_gets, manager_sends, manager_answers, manager_gets, taking_gets, gives}
 
--- a message that goes on, or that step 6 of a migration sends on, follows its receiver
+-- a message that goes on, that step 6 of a migration sends on, or that goes back where one is called off, follows its receiver
 abbrev pub place_known : Known → ℕ → Place → Place
 place_known (Frozen to) moves p = record { at = to; moves = moves + 1 }
 place_known (Forward at count) moves p = record { at = at; moves = count }
+place_known (Incoming from) moves p = record { at = from; moves = moves }
 place_known k moves p = p
 
 -- one message goes where the acting machine knows its receiver to be
@@ -121,6 +122,7 @@ addresses_by s v a (act.Steps l) = given a (gives s v a l)
 addresses_by s v a (act.Routes from to id k q) = given a (first_gives (v.told id) (own_given s v a id q (sort_of k)))
 addresses_by s v a (act.GoesOn id) = given a (forwards v a id (v.told id))
 addresses_by s v a (act.AllGoOn p) = given a (all_follow v a p (v.queue v.acting p ++ v.held v.acting p))
+addresses_by s v a (act.AllGoBack p) = given a (all_follow v a p (v.held v.acting p))
 addresses_by s v a (act.Updates id) = updated s v a (v.told id)
 addresses_by s v a x = a
 

@@ -31,6 +31,7 @@ IsStep machines (step.Turn m) = m < machines
 IsStep machines (step.Tick m) = m < machines
 IsStep machines (step.Deliver a b k) = (a < machines) × (b < machines) × (a ≢ b)
 IsStep machines (step.Migrate p m) = m < machines
+IsStep machines (step.CallOff p m) = m < machines
 
 -- the rule leads from a point to another, group by group
 abbrev pub Leads : Boot → Point → List Step → Point → Type 0
@@ -43,6 +44,7 @@ IsStill (step.Turn m) = ⊤
 IsStill (step.Tick m) = ⊤
 IsStill (step.Deliver a b k) = ⊤
 IsStill (step.Migrate p m) = ⊥
+IsStill (step.CallOff p m) = ⊤
 
 abbrev pub AreStill : List Step → Type 0
 AreStill [] = ⊤
@@ -81,8 +83,8 @@ LeadHomeAlways = (b : Boot) (es : List Step) (pt : Point) → IsValid b → Lead
 abbrev pub TellsRightAlways : Type 0
 TellsRightAlways = (b : Boot) (es : List Step) (pt : Point) → IsValid b → Leads b (first_point b) es pt → TellsRight pt
 
--- wherever the rule leads, each process has a phase: what every machine knows of it, and which one message of its migration is
--- under way and where
+-- wherever the rule leads, each process has a phase: what every machine knows of it, which one message of its migration is under
+-- way and where, and what is left over of migrations that were called off
 abbrev pub PhasesAlways : Type 0
 PhasesAlways = (b : Boot) (es : List Step) (pt : Point) (p : Pid) → IsValid b → Leads b (first_point b) es pt → (phase : Phase) × IsIn pt.view p phase × (is_due phase ≡ false)
 

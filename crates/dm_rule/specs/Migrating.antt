@@ -100,6 +100,14 @@ leaves id p ids (Frozen to) =
     Some (Says (line.SentOn p (length ids)) ∷ sends_on to ids ++ Says (line.Migration stage.Left p) ∷ to_kernel kind.Restart id.from.home ∷ [])
 leaves id p ids k = None
 
+-- a migration is called off where the process is on its way here and not all of it has come: what was held for it goes back to the
+-- machine that it was to leave, and that machine's kernel is told
+abbrev pub calls_off : Point → ℕ → Pid → Known → List Part
+calls_off pt m p (Incoming from) =
+    if pt.view.come p then Says (line.NoCall p) ∷ []
+    else Says (line.Called p (length (pt.view.held m p))) ∷ sends_on from (pt.view.held m p) ++ to_kernel kind.CallOff from ∷ []
+calls_off pt m p k = Says (line.NoCall p) ∷ []
+
 -- what a kernel is told of a process by another kernel; `fits` says whether there is room for it, and what is free
 abbrev pub told_step : Point → ℕ → MsgId → Pid → (Bool × ℕ × ℕ) → PlainProcess → Sort → Option (List Part)
 told_step pt m id p fits x (sort.Between sort.Ask) = Some (accepts id.from.home p fits.0 fits.1 fits.2)
@@ -110,6 +118,7 @@ told_step pt m id p fits x (sort.Between sort.PullBlock) = Some (gives_piece id 
 told_step pt m id p fits x (sort.Between sort.Memory) = Some (takes_block id p (pt.view.asked p == pieces_of x))
 told_step pt m id p fits x (sort.Between sort.AllTaken) = leaves id p (pt.view.queue m p ++ pt.view.held m p) (pt.view.known m p)
 told_step pt m id p fits x (sort.Between sort.Restart) = Some (Says (line.Migration stage.Restarted p) ∷ tells_asker (pt.kernel.notes p) ends.Done)
+told_step pt m id p fits x (sort.Between sort.CallOff) = Some (Says (line.Stays p) ∷ tells_asker (pt.kernel.notes p) ends.Stayed)
 told_step pt m id p fits x s = None
 
 -- the holders that an update of a process or a server counts

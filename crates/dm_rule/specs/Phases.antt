@@ -1,14 +1,16 @@
--- How far the migration of each process has come: what every machine knows of it, and which one message of the protocol is under way.
-use Rattle.std.specs.Prelude.{◌≡◌, ◌⊎◌, ⊤, ℕ, ◌≤◌, Bool, true, false, not, ◌==◌, ◌&&◌, if◌then◌else◌}
+-- How far the migration of each process has come: what every machine knows of it, which one message of the protocol is under way, and
+-- what is left over of migrations that were called off.
+use Rattle.std.specs.Prelude.{◌≡◌, ◌⊎◌, ⊤, ℕ, ◌≤◌, ◌<◌, Bool, true, false, not, ◌==◌, ◌&&◌, ◌||◌, if◌then◌else◌}
 use Rattle.std.specs.declared.option.Option.{Option}
 use Rattle.std.specs.declared.option.Option.TheVariants.{None, Some}
 use Rattle.dm_link.specs.declared.Pid.{Pid}
 use Rattle.dm_link.specs.Names.{pid_of}
 use Rattle.dm_message.specs.declared.MsgId.{MsgId}
 use Rattle.dm_message.specs.declared.kind.MessageKind.{MessageKind}
-use Rattle.dm_message.specs.Sorts.{Sort, sort_of}
+use Rattle.dm_message.specs.declared.kind.MessageKind.TheVariants as kind
+use Rattle.dm_message.specs.Sorts.{Sort, sort_of, pulls_piece, brings_piece}
 use Rattle.dm_message.specs.Sorts as sort
-use Rattle.dm_rule.specs.View.{View, Told, Of, Known, Unknown, Here, Frozen, Incoming, Forward, Ended}
+use Rattle.dm_rule.specs.View.{View, Told, Of, Known, Unknown, Here, Frozen, Incoming, Forward, Ended, is_kernels}
 use Rattle.dm_rule.specs.Spots.{Spot, Inbox, Untaken, standing}
 
 -- what the kernels of two machines tell each other while a process moves from the source to the destination
@@ -73,17 +75,25 @@ tells_early s = false
 abbrev pub is_early : MessageKind → Bool
 is_early k = tells_early (sort_of k)
 
+-- the destination has called it off
+abbrev pub tells_calloff : Sort → Bool
+tells_calloff (sort.Between sort.CallOff) = true
+tells_calloff s = false
+
+abbrev pub is_calloff : MessageKind → Bool
+is_calloff k = tells_calloff (sort_of k)
+
 -- the source holds the process until the destination may restart it, and then forwards
 abbrev pub kind_leaves : MessageKind → ℕ → Known → Bool
 kind_leaves k to (Frozen m) = not (is_restart k) && (to == m)
 kind_leaves k to (Forward m moves) = is_restart k && (to == m)
 kind_leaves k to known = false
 
--- the destination expects it once it has accepted
+-- the destination expects it once it has accepted, and forwards to the source where it has called it off
 abbrev pub kind_comes : MessageKind → ℕ → Known → Bool
-kind_comes k from (Incoming m) = not (is_early k) && (from == m)
+kind_comes k from (Incoming m) = not (is_early k) && (not (is_calloff k) && (from == m))
 kind_comes k from Unknown = is_early k
-kind_comes k from (Forward m moves) = is_early k
+kind_comes k from (Forward m moves) = is_early k || (is_calloff k && (from == m))
 kind_comes k from known = false
 
 -- what a machine may know of a process in this phase
@@ -132,9 +142,27 @@ HasToken v p (Over at) = ⊤
 HasToken v p (Moves k s d None) = ⊤
 HasToken v p (Moves k s d (Some id)) = IsToken v p k s d id
 
--- no other message of the protocol about this process stands anywhere
-abbrev pub Alone : View → Pid → Option MsgId → Type 0
-Alone v p o = (i : MsgId) (t : Told) (z : Spot) → v.told i ≡ Some t → is_between t.kind ≡ true → t.about ≡ Of p → 1 ≤ standing v i z → o ≡ Some i
+-- a message of one machine's kernel to another's, and where it may stand
+pub record IsWay (v : View) (i : MsgId) (from to : ℕ) : Type 0 where
+  pub sender : i.from ≡ pid_of from 0
+  pub own : is_kernels i ≡ true
+  pub ways : (z : Spot) → 1 ≤ standing v i z → (z ≡ Inbox to) ⊎ (z ≡ Untaken from to)
+
+-- put before this one, if that was put
+abbrev pub IsBefore : MsgId → Option MsgId → Type 0
+IsBefore i None = ⊤
+IsBefore i (Some j) = i.n < j.n
+
+-- what is left over of a migration that was called off: what asks for a piece, until the source hears that it is called off; or a
+-- piece, until the destination says that it is stale. Where the destination has accepted again by then, that is by a later message
+pub data IsLeft (v : View) (p : Pid) (phase : Phase) (i : MsgId) (t : Told) : Type 0 where
+  Asks : (s d : ℕ) → (j : Option MsgId) → pulls_piece (sort_of t.kind) ≡ true → t ≡ told_between p t.kind s d → IsWay v i d s → phase ≡ Moves kind.CallOff s d j → IsBefore i j → IsLeft v p phase i t
+  Comes : (s d : ℕ) → brings_piece (sort_of t.kind) ≡ true → t ≡ told_between p t.kind s d → IsWay v i s d → (v.known d p ≡ Incoming s → ⊥)
+      → ((j : Option MsgId) → phase ≡ Moves kind.Ask s d j → IsBefore i j) → IsLeft v p phase i t
+
+-- each message of the protocol about this process that stands anywhere is the one that is under way, or is left over
+abbrev pub Alone : View → Pid → Phase → Type 0
+Alone v p phase = (i : MsgId) (t : Told) (z : Spot) → v.told i ≡ Some t → is_between t.kind ≡ true → t.about ≡ Of p → 1 ≤ standing v i z → (token_in phase ≡ Some i) ⊎ IsLeft v p phase i t
 
 abbrev pub is_apart : Phase → Bool
 is_apart Nowhere = true
@@ -142,9 +170,31 @@ is_apart (Rests at) = true
 is_apart (Over at) = true
 is_apart (Moves k s d id) = is_between k && not (s == d)
 
+-- whether all of the process has come, where what is under way says so
+abbrev pub tells_come : Sort → Option Bool
+tells_come (sort.Between sort.PullState) = Some false
+tells_come (sort.Between sort.State) = Some false
+tells_come (sort.Between sort.PullBlock) = Some false
+tells_come (sort.Between sort.Memory) = Some false
+tells_come (sort.Between sort.AllTaken) = Some true
+tells_come (sort.Between sort.Restart) = Some true
+tells_come (sort.Between sort.CallOff) = Some false
+tells_come s = None
+
+abbrev pub HasCome : Option Bool → Bool → Type 0
+HasCome None come = ⊤
+HasCome (Some told) come = come ≡ told
+
+abbrev pub ComesIn : Phase → Bool → Type 0
+ComesIn (Moves k s d id) come = HasCome (tells_come (sort_of k)) come
+ComesIn Nowhere come = ⊤
+ComesIn (Rests at) come = ⊤
+ComesIn (Over at) come = ⊤
+
 -- a process is in this phase
 pub record IsIn (v : View) (p : Pid) (phase : Phase) : Type 0 where
   pub known : (m : ℕ) → knows phase m (v.known m p) ≡ true
   pub token : HasToken v p phase
-  pub alone : Alone v p (token_in phase)
+  pub alone : Alone v p phase
   pub apart : is_apart phase ≡ true
+  pub come : ComesIn phase (v.come p)

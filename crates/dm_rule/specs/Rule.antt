@@ -10,7 +10,7 @@ use Rattle.dm_link.specs.declared.Pid.{Pid}
 use Rattle.dm_link.specs.Names.{pid_of, pid_eq}
 use Rattle.dm_message.specs.declared.MsgId.{MsgId}
 use Rattle.dm_message.specs.Kinds.{plain_kind}
-use Rattle.dm_message.specs.Sorts.{Sort, sort_of}
+use Rattle.dm_message.specs.Sorts.{Sort, sort_of, brings_piece}
 use Rattle.dm_message.specs.Sorts as sort
 use Rattle.dm_message.specs.declared.kind.MessageKind.{MessageKind}
 use Rattle.dm_message.specs.Plain as what
@@ -45,7 +45,7 @@ use Rattle.dm_rule.specs.View.{View, Pair, SentLoad, Told, About, Of, Known, Her
 use Rattle.dm_rule.specs.Point.{Point, after_line, move_target}
 use Rattle.dm_rule.specs.Parts.{Part, Says, Routes, Transmits, Spelled, spelled, pair_window}
 pub use Rattle.dm_rule.specs.Parts.{behind}
-use Rattle.dm_rule.specs.Migrating.{asked_to_move, by_known, told_step, told_server, process_told, migrates}
+use Rattle.dm_rule.specs.Migrating.{asked_to_move, by_known, told_step, told_server, process_told, migrates, calls_off}
 
 abbrev pub says : Label → Part
 says l = Says (line.Label l)
@@ -242,10 +242,20 @@ handles b pt m id msg =
 abbrev pub fits : Room → ℕ → Bool × ℕ × ℕ
 fits r blocks = (has_room r blocks, r.slots, r.blocks)
 
+-- a process is on its way here from this machine
+abbrev pub is_waited_from : ℕ → Known → Bool
+is_waited_from from (Incoming m) = from == m
+is_waited_from from k = false
+
+-- a piece of a process comes that isn't awaited from the kernel that sent it, whatever became of the process
+abbrev pub is_stale : Point → ℕ → MsgId → MessageKind → Pid → Bool
+is_stale pt m id k p = brings_piece (sort_of k) && not (is_waited_from id.from.home (pt.view.known m p))
+
 -- what a kernel's own message says of a process to another kernel
 abbrev pub kernel_hears : Boot → Point → ℕ → MsgId → MessageKind → About → Option (List Part)
 kernel_hears b pt m id k (Of p) =
-    bind (kernel.alive (pt.kernel.processes p)) (λ x. told_step pt m id p (fits (free_room b pt m) (length x.memory / 256)) x (sort_of k))
+    if is_stale pt m id k p then Some (Says (line.Stale id) ∷ [])
+    else bind (kernel.alive (pt.kernel.processes p)) (λ x. told_step pt m id p (fits (free_room b pt m) (length x.memory / 256)) x (sort_of k))
 kernel_hears b pt m id k about = None
 
 -- a message that isn't in the bag is a kernel's own: what its first put told of it
@@ -312,6 +322,7 @@ outcome b pt (step.Turn m) = turns b pt m (pt.view.inbox m)
 outcome b pt (step.Tick m) = Some (Says (line.Resent m (outstanding_count pt.view m pt.kernel.machines)) ∷ resends pt.view m pt.kernel.machines)
 outcome b pt (step.Deliver a c k) = Some (arrives a c (pt.view.pair a c) (pt.view.pair c a) (slice_get (pt.view.pair a c).wire k))
 outcome b pt (step.Migrate p m) = Some (migrates pt p)
+outcome b pt (step.CallOff p m) = Some (calls_off pt m p (pt.view.known m p))
 
 -- the group of a directive, and where it leads: its head, then what follows
 abbrev pub group_of : Boot → Point → Step → Option Spelled

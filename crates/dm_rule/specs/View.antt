@@ -82,6 +82,8 @@ pub record View : Type 0 where
   -- how often a process has moved, and how many pieces of it have been asked for since it was last accepted
   pub moves : Pid → ℕ
   pub asked : Pid → ℕ
+  -- whether all of a process has come to the machine that accepted it last
+  pub come : Pid → Bool
   pub told : MsgId → Option Told
   -- what the outcome line of this group was about
   pub topic : About
@@ -222,6 +224,7 @@ actor (step.Turn m) = m
 actor (step.Tick m) = m
 actor (step.Deliver a b k) = b
 actor (step.Migrate p m) = 0
+actor (step.CallOff p m) = m
 
 abbrev pub begins : View → ℕ → About → View
 begins v m a = record v { acting = m; groups = v.groups + 1; topic = a }
@@ -231,6 +234,7 @@ after_head v (step.Turn m) = begins v m NothingElse
 after_head v (step.Tick m) = begins v m NothingElse
 after_head v (step.Deliver a b k) = with_pair (begins v b NothingElse) a b (marked (v.pair a b) k)
 after_head v (step.Migrate p m) = begins v 0 (Target m)
+after_head v (step.CallOff p m) = begins v m NothingElse
 
 abbrev pub target_in : About → ℕ
 target_in (Target m) = m
@@ -263,6 +267,15 @@ abbrev pub gone_to : Known → ℕ → Known
 gone_to (Frozen to) moves = Forward to moves
 gone_to k moves = k
 
+-- a process that was coming is with the machine that it was to leave, where it has moved as often as before
+abbrev pub goes_back : Known → ℕ → Known
+goes_back (Incoming from) moves = Forward from moves
+goes_back k moves = k
+
+-- whether all of a process has come
+abbrev pub coming : View → Pid → Bool → View
+coming v p c = record v { come = at_pid v.come p c }
+
 -- one more piece of a process is asked for
 abbrev pub asking : View → Pid → ℕ → View
 asking v p n = record v { asked = at_pid v.asked p n }
@@ -294,9 +307,9 @@ sets_off v p a = frozen_for (handled_first v) p (target_of (option_and_then v.to
 abbrev pub after_stage : View → Pid → Stage → View
 after_stage v p stage.Frozen = sets_off v p v.topic
 after_stage v p stage.Asked = v
-after_stage v p stage.Accepted = about (asking (knowing (handled_first v) p (Incoming (front_of (v.inbox v.acting)))) p 1) (Of p)
+after_stage v p stage.Accepted = about (coming (asking (knowing (handled_first v) p (Incoming (front_of (v.inbox v.acting)))) p 1) p false) (Of p)
 after_stage v p stage.StateTaken = about (asking (handled_first v) p (v.asked p + 1)) (Of p)
-after_stage v p stage.MemoryTaken = about (handled_first v) (Of p)
+after_stage v p stage.MemoryTaken = about (coming (handled_first v) p true) (Of p)
 after_stage v p stage.Left = about (knowing v p (gone_to (v.known v.acting p) (v.moves p + 1))) (Of p)
 after_stage v p stage.Restarted = record (rejoins (handled_first v) p) { moves = at_pid v.moves p (v.moves p + 1) }
 
@@ -320,13 +333,17 @@ view_after v (line.Updated id n) = handled v id
 view_after v (line.Migration s p) = after_stage v p s
 view_after v (line.SentOn p n) =
     about (record (handled_first v) { queue = at_record v.queue v.acting p []; held = at_record v.held v.acting p [] }) (Of p)
+view_after v (line.Called p n) =
+    about (record (knowing v p (goes_back (v.known v.acting p) (v.moves p))) { held = at_record v.held v.acting p [] }) (Of p)
 view_after v (line.Lacks p s b) = about (handled_first v) (Of p)
 view_after v (line.Stays p) = rejoins (handled_first v) p
 view_after v (line.Here id) = handled v id
 view_after v (line.NoMove id) = handled v id
+view_after v (line.Stale id) = handled v id
 view_after v (line.Proto id) = after_proto (handled v id) (v.told id)
 view_after v (line.NoChild p) = v
 view_after v (line.Pinned p) = v
+view_after v (line.NoCall p) = v
 
 -- the processes of the boot file are where they start, and the servers on machine 0
 abbrev pub known_at : List BootProcess → ℕ → Pid → Known
@@ -352,6 +369,7 @@ first_view b =
       held = λ m p. [];
       moves = λ p. 0;
       asked = λ p. 0;
+      come = λ p. false;
       told = λ i. None;
       topic = NothingElse;
     }

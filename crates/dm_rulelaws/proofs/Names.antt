@@ -1,11 +1,9 @@
 -- What the proofs of this crate name of what lies below it.
 pub use Rattle.std.proofs.lemmas.List.{length-drop, length-replicate, length-take}
 pub use Rattle.dm_processor.proofs.Lengths.{instruction-lengths}
-pub use Rattle.dm_processor.proofs.Names.{Bool, KeepsLengths, List, Row, [], ap, arith, common_steps, drop, false, instruction, length, nat_tests, refl, replicate, suc, sym, take, true, zero, ℕ, ◌*◌, ◌++◌, ◌+◌, ◌-◌, ◌/◌, ◌<◌, ◌∙◌, ◌∷◌, ◌≡◌}
-pub use Rattle.dm_processor.proofs.Names.{◌≤◌}
-pub use Rattle.dm_linktable.proofs.Names.{Link, Pid, first_empty, length-map, link_at, map, pid_eq, subst, ◌&&◌, ◌==◌, ◌≢◌}
-pub use Rattle.dm_schedule.proofs.Names.{if◌then◌else◌, nat_lt, not}
-pub use Rattle.dm_process.proofs.Names.{min, slice_get}
+pub use Rattle.dm_processor.proofs.Names.{KeepsLengths}
+pub use Rattle.dm_linktable.proofs.Names.{common_steps, length-map}
+pub use Rattle.dm_process.proofs.Names.{min}
 pub use Rattle.dm_onekernel.specs.Boot.{area_is_empty, blocks_of_image, controls_child, leads_to_process, leads_to_server, link_is_valid, links_are_valid, memory_size, process_is_valid, process_named}
 pub use Rattle.dm_onekernel.specs.Codes.{why_code}
 pub use Rattle.dm_onekernel.specs.Pieces.{written_at}
@@ -16,16 +14,13 @@ pub use Rattle.dm_laws.proofs.Counted.{is_of_memory, is_piece}
 pub use Rattle.dm_laws.proofs.Equal.{pid_eq-swap}
 pub use Rattle.dm_laws.proofs.Grown.{Grown}
 pub use Rattle.dm_laws.proofs.Movers.{One, came, out_at, out_off}
-pub use Rattle.dm_laws.proofs.Names.{Alive, Boot, BootImage, BootProcess, CallNumber, Called, Direction, Ended, Ends, IsValid, Label, Life, Manager, MoveNote, Moving, MsgId, None, OneKernel, Option, Outcome, Outputs, Pending, PendingKind}
-pub use Rattle.dm_laws.proofs.Names.{PlainLink, PlainMessage, PlainProcess, PlainStatus, PlainWhat, Ready, Replies, Reply, Sends, Some, Switchboard, Waiting, Waits, Why, answer_id, answer_to, begun, bind, cases_Bool, code_of_outcome}
-pub use Rattle.dm_laws.proofs.Names.{direction_numbered, entry, false≢true, first_failed, first_life, first_number, id_eq, id_of, in_bag, inl, inr, is_some, life_at, manager, nat_le, option_map, option_map_or, pid_of, plain_link}
-pub use Rattle.dm_laws.proofs.Names.{processes_are_valid, reception, reg, replay, start, starting_at, switchboard, when, with_note, with_process, with_sent, without_message, without_note, ⊤, ◌||◌, ◌⊎◌}
+pub use Rattle.dm_laws.proofs.Names.{Ended, Switchboard, replay}
 pub use Rattle.dm_laws.proofs.Servers.{note-is}
 pub use Rattle.dm_rule.proofs.Bags.{BagStep, bag_answered, bag_call, bag_created, bag_dropped, bag_end, bag_gone, bag_no_space, bag_out, bag_ran, bag_receive, bag_refuse, bag_sends, bag_served, bag_took, bag_wait, board_id, id_in}
 pub use Rattle.dm_rule.proofs.Bags.{if_some-is, landed_id, manager_id, served_id, took_id, zero_if}
 pub use Rattle.dm_rule.proofs.Changes.{Changes, by_step, running_is}
-pub use Rattle.dm_rule.proofs.Groups.{IsNet, IsNetLine, arrives_net, group_is, resends_net, stands_right, turn_off}
-pub use Rattle.dm_rule.proofs.Hearing.{by_hears, left_parts}
+pub use Rattle.dm_rule.proofs.Groups.{IsNet, IsNetLine, arrives_net, call_off, group_is, resends_net, stands_right, turn_off}
+pub use Rattle.dm_rule.proofs.Hearing.{TurnsBack, by_hears, left_parts}
 pub use Rattle.dm_rule.proofs.Homes.{AtHome, at_home, homes_are}
 pub use Rattle.dm_rule.proofs.Homes.Labels.{SaidOn, is_still, label_on}
 pub use Rattle.dm_rule.proofs.Homes.Lines.{Home, acting_dropped, home_start, homes_of}
@@ -38,36 +33,44 @@ pub use Rattle.dm_rule.proofs.Hushed.{hushed, is_put}
 pub use Rattle.dm_rule.proofs.Letters.{kernels_fresh, letters, letters_bag, not_kernels}
 pub use Rattle.dm_rule.proofs.Lines.{at_machine_at, at_place, at_record_at, eq_is, eq_self, hidden, not_true, pair_keeps, parts}
 pub use Rattle.dm_rule.proofs.Lives.{Kept, grown_none}
+pub use Rattle.dm_rule.proofs.Moves.Called.{called_way}
 pub use Rattle.dm_rule.proofs.Moves.Lists.{both_lists, both_times, first_off, flip_zero, under_way, without_all, without_at, zero_cases}
 pub use Rattle.dm_rule.proofs.Moves.Sent.{least_of, sent_way}
 pub use Rattle.dm_rule.proofs.Moves.States.{front_kernels, front_one, front_way, not_first}
-pub use Rattle.dm_rule.proofs.Names.{About, Addresses, Again, Answer, AreStill, AskNone, AskedBy, Child, Enclosed, Forward, Frozen, Gets, Held, Here, Holder, Inbox, Incoming, IsIn, IsStep, IsStill, Known, LandsSo, Leads, LifeGrows, Line}
-pub use Rattle.dm_rule.proofs.Names.{Load, Made, MessageKind, Moves, Name, NamedLink, Next, NothingElse, Of, Owner, Owns, Pair, Part, Phase, Place, Point, Queue, Receiver, Regs, Rests, Routes, Runs, Says, Sender, ServerSends, Slot, Sort}
-pub use Rattle.dm_rule.proofs.Names.{Sound, Spelled, Spot, Stage, StandsAsBag, StandsNowhere, StandsOutside, StandsRight, Step, Target, Todo, Told, Transmits, Unknown, Untaken, View, accepts, acting_place, after, after_head, after_label}
-pub use Rattle.dm_rule.proofs.Names.{after_line, after_proto, after_put, after_stage, after_step, after_taken, alive-is, all_follow, answers_move, are_for_home, are_home, ascends, asker_in, at_hand-is, at_id, at_machine, at_pair, at_record}
-pub use Rattle.dm_rule.proofs.Names.{begins, behind, bind-is, board_gets, board_takes_lem, bytes_eq, child_number, chunks_of, completing, cons_option, counts, dropped_for, ended, ends_by, ends_move-is, filter, filter_map, first_gives}
-pub use Rattle.dm_rule.proofs.Names.{first_point, first_view, fits, forward_about, forwarded_for, forwards, forwards_on, free_room, front_of, gets, given, gives, gives_piece, goes_out, gone_to, group_of, handled, handled_first, hears}
-pub use Rattle.dm_rule.proofs.Names.{held_for, holder_eq, id_eq-is, id_eq-same, is_apart, is_away, is_behind, is_between, is_counted, is_dropped, is_early, is_for_home, is_here, is_kernels, is_restart, is_told_back, kernel_after}
-pub use Rattle.dm_rule.proofs.Names.{kernel_hears, kind_comes, kind_leaves, known_at, knows, label_of, landing_gets, lands-is, leaves, leaves_for, length-append, lines_of, link_target, manager_gets, manager_takes_lem, marked, migrates}
-pub use Rattle.dm_rule.proofs.Names.{move_target, moved, moved_back, names, nexts, not_server, oldest, on_mask, option_and_then, ordered, outcome, own_given, own_id, owner_in, packet_line, pending_of, pid_eq-is, pid_eq-same, pieces_of}
-pub use Rattle.dm_rule.proofs.Names.{place_known, place_told, plain_kind, position_from, process_told, puts, queued_for, receiver_in, receiver_of, reply_code, reply_eq, right_true, ring_at, routed_on, seen, sender_in, sender_of, sends_on}
-pub use Rattle.dm_rule.proofs.Names.{sent_at, served_told, serving_gets, slice_set, slots_of, slots_with, sort_of, spelled, standing, start-sound, stayed, taken_id, takes_block, takes_chunk, target_of, tells_asker, times, to_kernel, to_of}
-pub use Rattle.dm_rule.proofs.Names.{told_back_gets, told_between, told_ended, told_here, told_server, told_step, topic_by, unentered, untaken, updated, updated_to, updates, view_after, when-is, without, without_front, without_id}
+pub use Rattle.dm_rule.proofs.Names.{About, Addresses, Again, Alive, Answer, AreStill, AskNone, AskedBy, Bool, Boot, BootImage, BootProcess, CallNumber, Called, Child, Direction, Enclosed, Ends, Forward, Frozen, Gets, Held, Here, Holder}
+pub use Rattle.dm_rule.proofs.Names.{Inbox, Incoming, IsIn, IsLeft, IsStep, IsStill, IsValid, Known, Label, LandsSo, Leads, Life, LifeGrows, Line, Link, List, Load, Made, Manager, MessageKind, MoveNote, Moves, Moving, MsgId, Name}
+pub use Rattle.dm_rule.proofs.Names.{NamedLink, Next, None, NothingElse, Of, OneKernel, Option, Outcome, Outputs, Owner, Owns, Pair, Part, Pending, PendingKind, Phase, Pid, Place, PlainLink, PlainMessage, PlainProcess, PlainStatus}
+pub use Rattle.dm_rule.proofs.Names.{PlainWhat, Point, Queue, Ready, Receiver, Regs, Replies, Reply, Rests, Routes, Row, Runs, Says, Sender, Sends, ServerSends, Slot, Some, Sort, Sound, Spelled, Spot, Stage, StandsAsBag, StandsNowhere}
+pub use Rattle.dm_rule.proofs.Names.{StandsOutside, StandsRight, Step, Target, Todo, Told, Transmits, Unknown, Untaken, View, Waiting, Waits, Why, [], accepts, acting_place, after, after_head, after_label, after_line, after_proto}
+pub use Rattle.dm_rule.proofs.Names.{after_put, after_stage, after_step, after_taken, alive-is, all_follow, answer_id, answer_to, answers_move, ap, are_for_home, are_home, arith, ascends, asker_in, at_hand-is, at_id, at_machine, at_pair}
+pub use Rattle.dm_rule.proofs.Names.{at_record, begins, begun, behind, bind, bind-is, board_gets, board_takes_lem, bytes_eq, calls_off, cases_Bool, child_number, chunks_of, code_of_outcome, completing, cons_option, counts}
+pub use Rattle.dm_rule.proofs.Names.{direction_numbered, drop, dropped_for, ended, ends_by, ends_move-is, entry, false, false_from_ne_true, false≢true, filter, filter_map, first_empty, first_failed, first_gives, first_life, first_number}
+pub use Rattle.dm_rule.proofs.Names.{first_point, first_view, fits, forward_about, forwarded_for, forwards, forwards_on, free_room, front_of, gets, given, gives, gives_piece, goes_back, goes_out, gone_to, group_of, handled, handled_first}
+pub use Rattle.dm_rule.proofs.Names.{hears, held_for, holder_eq, id_eq, id_eq-is, id_eq-same, id_of, if◌then◌else◌, in_bag, inl, inr, instruction, is_apart, is_away, is_behind, is_between, is_calloff, is_counted, is_dropped, is_early}
+pub use Rattle.dm_rule.proofs.Names.{is_for_home, is_here, is_kernels, is_restart, is_some, is_told_back, kernel_after, kernel_hears, kind_comes, kind_leaves, known_at, knows, label_of, landing_gets, lands-is, leaves, leaves_for, length}
+pub use Rattle.dm_rule.proofs.Names.{length-append, life_at, lines_of, link_at, link_target, manager, manager_gets, manager_takes_lem, map, marked, migrates, move_target, moved, moved_back, names, nat_le, nat_lt, nat_tests, nexts, not}
+pub use Rattle.dm_rule.proofs.Names.{not_server, oldest, on_mask, option_and_then, option_map, option_map_or, ordered, outcome, own_given, own_id, owner_in, packet_line, pending_of, pid_eq, pid_eq-is, pid_eq-same, pid_of, pieces_of}
+pub use Rattle.dm_rule.proofs.Names.{place_known, place_told, plain_kind, plain_link, position_from, process_told, processes_are_valid, pulls_piece, puts, queued_for, receiver_in, receiver_of, reception, refl, reg, replicate, reply_code}
+pub use Rattle.dm_rule.proofs.Names.{reply_eq, right_true, ring_at, routed_on, seen, sender_in, sender_of, sends_on, sent_at, served_told, serving_gets, slice_get, slice_set, slots_of, slots_with, sort_of, spelled, standing, start}
+pub use Rattle.dm_rule.proofs.Names.{start-sound, starting_at, stayed, subst, suc, switchboard, sym, take, taken_id, takes_block, takes_chunk, target_of, tells_asker, times, to_kernel, to_of, told_back_gets, told_between, told_ended}
+pub use Rattle.dm_rule.proofs.Names.{told_here, told_server, told_step, topic_by, true, unentered, untaken, updated, updated_to, updates, view_after, when, when-is, with_note, with_process, with_sent, without, without_front, without_id}
+pub use Rattle.dm_rule.proofs.Names.{without_message, without_note, zero, ℕ, ⊤, ◌&&◌, ◌*◌, ◌++◌, ◌+◌, ◌-◌, ◌/◌, ◌<◌, ◌==◌, ◌||◌, ◌∙◌, ◌∷◌, ◌≡◌, ◌≢◌, ◌≤◌, ◌⊎◌}
 pub use Rattle.dm_rule.proofs.Once.{one_of}
 pub use Rattle.dm_rule.proofs.Ordered.{context, drop_one, first_not, first_one, put_not, put_one}
 pub use Rattle.dm_rule.proofs.Outcomes.{by_group, by_net, by_outcome, by_parts}
 pub use Rattle.dm_rule.proofs.Pairs.Moves.{or_first}
 pub use Rattle.dm_rule.proofs.Phases.Always.{Phased, phased_group, phased_start}
-pub use Rattle.dm_rule.proofs.Phases.Answers.{about_same, due, front_gone, inbox_is, second}
+pub use Rattle.dm_rule.proofs.Phases.Answers.{Due, about_same, due, due_or_left, front_gone, inbox_is, second}
 pub use Rattle.dm_rule.proofs.Phases.Groups.{Rooted}
 pub use Rattle.dm_rule.proofs.Phases.Leaves.{first_of, told_some}
+pub use Rattle.dm_rule.proofs.Phases.Left.{Pulled, pulled}
 pub use Rattle.dm_rule.proofs.Phases.Lines.{dropped_known, forwarded_known, held_known, put_at, queued_known}
 pub use Rattle.dm_rule.proofs.Phases.Net.{head_calm}
 pub use Rattle.dm_rule.proofs.Phases.Pieces.{not_false, proto_acting, proto_known}
 pub use Rattle.dm_rule.proofs.Phases.Quiet.{is_kill}
 pub use Rattle.dm_rule.proofs.Phases.Rests.{rests_here}
-pub use Rattle.dm_rule.proofs.Phases.Stand.{InPhases, calm_phases, token_at, token_is}
-pub use Rattle.dm_rule.proofs.Requests.{by_migrates}
+pub use Rattle.dm_rule.proofs.Phases.Stand.{InPhases, LeftOver, Token, calm_phases, token_at, token_is}
+pub use Rattle.dm_rule.proofs.Requests.{by_calls_off, by_migrates, called_parts}
 pub use Rattle.dm_rule.proofs.Rooted.Groups.{moves_away, rooted}
 pub use Rattle.dm_rule.proofs.Seen.{aim, seen_none, sets}
 pub use Rattle.dm_rule.proofs.Serving.{Stops, by_forwards, by_handles, by_round}
@@ -80,7 +83,7 @@ pub use Rattle.dm_rule.proofs.Trails.Places.{Comes, Goes, Links, Named, holder_i
 pub use Rattle.dm_rule.proofs.Trails.Puts.{child_is, is_own, not_own, plain_gives, put_named, told_again}
 pub use Rattle.dm_rule.proofs.Trails.Spares.{Outside, creates_what_spares, finds_spares, gives_spares, keeps_spares, made_spares, manager_takes_spares, not_is, receives_spares, sends_spares, spared_receiver, spared_sender, spares}
 pub use Rattle.dm_rule.proofs.Trails.Spares.{spares_both, two_more}
-pub use Rattle.dm_rule.proofs.Trails.Steps.{destination_expects, source_holds}
+pub use Rattle.dm_rule.proofs.Trails.Steps.{coming_is, destination_expects, source_holds, source_knows}
 pub use Rattle.dm_rule.proofs.Turns.{served_keeps}
 pub use Rattle.dm_rule.specs.Addresses.{goes_between}
 pub use Rattle.dm_rule.specs.Good.{IsRun}

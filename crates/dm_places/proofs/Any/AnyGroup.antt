@@ -2,7 +2,7 @@
 use Rattle.dm_places.proofs.Names.{◌≡◌, ℕ, ◌+◌, ◌==◌, ◌||◌, Bool, true, List, [], ◌∷◌, length, refl, ◌∙◌, subst, is_some, arith, ⊤, if◌then◌else◌, slice_get, Option, None, Some, nat_tests, pid_eq, pid_of, MsgId, Label, Line, PlainMessage}
 use Rattle.dm_places.proofs.Names.{PlainWhat, Boot, first_number, manager, switchboard, Life, OneKernel, bind, Step, bind-is, View, after_head, Part, Routes, Spelled, spelled, Point, after_line, moved, group_of, behind, outcome, Placed}
 use Rattle.dm_places.proofs.Names.{GroupNeeds, MirrorsPoint, or_second}
-use Rattle.dm_places.proofs.EasyRows.{AsksEasily, Easy, arrives_easy, hears_easy, migrates_easy, process_easy, resends_easy, round_easy, routes_easy}
+use Rattle.dm_places.proofs.EasyRows.{AsksEasily, Easy, arrives_easy, hears_easy, migrates_easy, calls_off_easy, process_easy, resends_easy, round_easy, routes_easy}
 use Rattle.dm_places.proofs.Any.AnyPart.{Behind, EasyParts, PartsNeed, SoundAt, parts_follow}
 use Rattle.dm_places.proofs.Lines.{lines_keep}
 use Rattle.dm_onekernel.specs.Manager as manage
@@ -71,6 +71,7 @@ outcome_fits b pt (Step.Turn m) h needs = turns_fit b pt (after_head pt.view (St
 outcome_fits b pt (Step.Tick m) h needs = easy_fits pt.kernel (after_head pt.view (Step.Tick m)) (outcome b pt (Step.Tick m)) (tt, resends_easy m pt.view pt.kernel.machines)
 outcome_fits b pt (Step.Deliver a c k) h needs = search (arith, easy_fits, arrives_easy)
 outcome_fits b pt (Step.Migrate p m) h needs = easy_fits pt.kernel (after_head pt.view (Step.Migrate p m)) (outcome b pt (Step.Migrate p m)) (migrates_easy pt p)
+outcome_fits b pt (Step.CallOff p m) h needs = easy_fits pt.kernel (after_head pt.view (Step.CallOff p m)) (outcome b pt (Step.CallOff p m)) (calls_off_easy pt m p)
 
 -- a group
 group_behind : (b : Boot) (pt : Point) (l : Placed) (d : Step) (w : Spelled) → SoundAt pt.kernel → GroupNeeds pt → group_of b pt d ≡ Some w → MirrorsPoint pt l → Behind w.point

@@ -112,6 +112,13 @@ line_stands pt pt' l (Line.SentOn p n) needs h e =
     let ids = v.queue v.acting p ++ v.held v.acting p in
     let f : moved pt (Line.SentOn p n) s ≡ pt' = cc in
     subst Stands f (other_view s v (view_after v (Line.SentOn p n)) (given a (all_follow v a p ids)) refl (all_follows s v a p ids (record { l = l; mirrors = h })))
+line_stands pt pt' l (Line.Called p n) needs h e =
+    let s = pt.kernel in
+    let v = pt.view in
+    let a = pt.addresses in
+    let ids = v.held v.acting p in
+    let f : moved pt (Line.Called p n) s ≡ pt' = cc in
+    subst Stands f (other_view s v (view_after v (Line.Called p n)) (given a (all_follow v a p ids)) refl (all_follows s v a p ids (record { l = l; mirrors = h })))
 line_stands pt pt' l (Line.Updated id n) apart h e =
     let s = pt.kernel in
     let v = pt.view in

@@ -2,7 +2,7 @@
 use Rattle.dm_places.proofs.Names.{◌≡◌, ℕ, ◌+◌, ◌≤◌, ◌||◌, Bool, true, List, [], ◌∷◌, ◌++◌, refl, ap, ◌∙◌, sym, subst, inl, inr, arith, if◌then◌else◌, option_map, Option, None, Some, cases_Bool, Pid, Place, place_of, MsgId, nat_tests}
 use Rattle.dm_places.proofs.Names.{Message, id_eq, Process, sent_on, OneKernel, plain_process, id_eq-is, id_eq-same, id_eq-swap, pid_eq-is, pid_eq-same, Line, Stage, at_pid, times, Forward, Frozen, Told, View, forwarded_for, handled}
 use Rattle.dm_places.proofs.Names.{own_id, receiver_of, view_after, Addresses, Gets, Receiver, Sender, all_follow, forwards, gets, given, is_told_back, place_known, told_back_gets, unmoved, Point, moved, Placed, Mirrors, MirrorsKernel}
-use Rattle.dm_places.proofs.Names.{MirrorsProcess, with_message, with_process, MirrorsPoint, is_among, sent_all, or_first}
+use Rattle.dm_places.proofs.Names.{MirrorsProcess, with_message, with_process, MirrorsPoint, is_among, sent_all, or_first, Known, Incoming}
 use Rattle.dm_migrate.specs.Way as way
 use Rattle.dm_onekernel.specs.Step as kernel
 use Rattle.dm_places.proofs.Following.Changed.{free_mirrors, free_off, sent_on_any, sent_on_one}
@@ -42,11 +42,11 @@ onward : Place → List MsgId → List Gets
 onward place [] = []
 onward place (i ∷ is) = gets (Receiver i) place ∷ onward place is
 
-all_onward : (v : View) (a : Addresses) (p : Pid) (to : ℕ) (ids : List MsgId) → v.known v.acting p ≡ Frozen to → all_follow v a p ids ≡ onward (record { at = to; moves = v.moves p + 1 }) ids
+all_onward : (v : View) (a : Addresses) (p : Pid) (place : Place) (ids : List MsgId) → ((before : Place) → place_known (v.known v.acting p) (v.moves p) before ≡ place) → all_follow v a p ids ≡ onward place ids
 unfolding onward
-all_onward v a p to [] knows = refl
-all_onward v a p to (i ∷ is) knows =
-    let rest = all_onward v a p to is knows in λ c. gets (Receiver i) (place_known (knows c) (v.moves p) (a (Receiver i))) ∷ rest c
+all_onward v a p place [] knows = refl
+all_onward v a p place (i ∷ is) knows =
+    let rest = all_onward v a p place is knows in λ c. gets (Receiver i) (knows (a (Receiver i)) c) ∷ rest c
 
 more_bag : (l : Placed) (at moves : ℕ) (i : MsgId) (is : List MsgId) (j : MsgId) → (with_message (sent_all l at moves is) i (option_map (sent_on at moves) (l.bag i))).bag j ≡ (sent_all l at moves (i ∷ is)).bag j
 more_bag l at moves i is j = grind (arith, nat_tests, option_map, id_eq-is)
@@ -77,8 +77,21 @@ sent_on_mirrors pt l p n to h knows =
     let ids = v.queue v.acting p ++ v.held v.acting p in
     let l' = sent_all l to (v.moves p + 1) ids in
     let w = view_after v (Line.SentOn p n) in
-    subst (λ (g : List Gets). Mirrors pt.kernel w (given a g) l') (sym (all_onward v a p to ids knows))
-    (mirrors_view pt.kernel v w (given a (onward (record { at = to; moves = v.moves p + 1 }) ids)) l' refl (all_on pt.kernel v a l to (v.moves p + 1) ids h))
+    let place : Place = record { at = to; moves = v.moves p + 1 } in
+    subst (λ (g : List Gets). Mirrors pt.kernel w (given a g) l') (sym (all_onward v a p place ids (λ before. ap (λ (k : Known). place_known k (v.moves p) before) knows)))
+    (mirrors_view pt.kernel v w (given a (onward place ids)) l' refl (all_on pt.kernel v a l to (v.moves p + 1) ids h))
+
+-- what was held goes back
+pub called_mirrors : (pt : Point) (l : Placed) (p : Pid) (n from : ℕ) → MirrorsPoint pt l → pt.view.known pt.view.acting p ≡ Incoming from → MirrorsPoint (moved pt (Line.Called p n) pt.kernel) (sent_all l from (pt.view.moves p) (pt.view.held pt.view.acting p))
+called_mirrors pt l p n from h knows =
+    let v = pt.view in
+    let a = pt.addresses in
+    let ids = v.held v.acting p in
+    let l' = sent_all l from (v.moves p) ids in
+    let w = view_after v (Line.Called p n) in
+    let place : Place = record { at = from; moves = v.moves p } in
+    subst (λ (g : List Gets). Mirrors pt.kernel w (given a g) l') (sym (all_onward v a p place ids (λ before. ap (λ (k : Known). place_known k (v.moves p) before) knows)))
+    (mirrors_view pt.kernel v w (given a (onward place ids)) l' refl (all_on pt.kernel v a l from (v.moves p) ids h))
 
 pub among_times : (i : MsgId) (ids : List MsgId) → 1 ≤ times i ids → is_among i ids ≡ true
 among_times i [] e = absurd (omega arith)

@@ -2,8 +2,8 @@
 use Rattle.dm_places.proofs.Names.{◌≡◌, ℕ, zero, suc, ◌==◌, Bool, true, false, List, [], ◌∷◌, map, refl, ap, ◌∙◌, sym, subst, inl, inr, if◌then◌else◌, nat_lt, option_map, slice_get, Option, None, Some, cases_Bool, slice_get-map, Pid, arith}
 use Rattle.dm_places.proofs.Names.{nat_tests, Addr, Link, pid_eq, place_of, relocated, retargeted, retargeted_link, plain_link, link_at, plain_map_retargeted, applied, status_after, MsgId, Process, Status, Line, manager, switchboard}
 use Rattle.dm_places.proofs.Names.{Manager, NamedLink, OneKernel, plain_process, plain_status, Named, retargeted_named, Pending, plain_child, plain_pending, retargeted_manager, retargeted_pending, child_address, pending_request, pid_eq-is}
-use Rattle.dm_places.proofs.Names.{pid_eq-same, pid_eq-swap, About, Told, View, view_after, Addresses, Answer, Child, Holder, Name, Owner, Slot, belongs_to, leads_to, link_target, owner_in, updated, updated_to, Point, PlainProcess}
-use Rattle.dm_places.proofs.Names.{moved, SameMessage, SameProcess, Placed, Mirrors, MirrorsProcess, owner_at, MirrorsPoint, with_process, AnswerNames, option_and_then}
+use Rattle.dm_places.proofs.Names.{pid_eq-same, pid_eq-swap, About, Told, View, view_after, Addresses, Answer, Child, Holder, Name, Owner, Slot, belongs_to, leads_to, link_target, owner_in, updated, updated_to, Point, PlainProcess, moved}
+use Rattle.dm_places.proofs.Names.{SameMessage, SameProcess, Placed, Mirrors, MirrorsProcess, owner_at, MirrorsPoint, with_process, AnswerNames, option_and_then}
 use Rattle.dm_link.specs.Places as places
 use Rattle.dm_onekernel.specs.Kernel as one
 use Rattle.dm_onekernel.specs.Manager as manage

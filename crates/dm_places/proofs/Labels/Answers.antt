@@ -12,7 +12,6 @@ use Rattle.dm_places.proofs.Labels.Calls.{stands_here}
 use Rattle.dm_places.proofs.Whats.{move_what, read_what, write_what}
 use Rattle.dm_places.proofs.Labels.Acts.{Follows, mirrors_as}
 use Rattle.dm_datamove.specs.Serving as serving
-use Rattle.dm_rule.specs.Given as giving
 use Rattle.dm_places.specs.PlacedStep as placed
 
 -- a message without links comes

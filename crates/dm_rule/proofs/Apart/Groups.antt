@@ -1,7 +1,7 @@
 -- A group has no label of a process that moves, and leaves its plain value.
 use Rattle.dm_rule.proofs.Names.{◌≡◌, ◌≢◌, ℕ, ◌+◌, ◌==◌, Bool, List, [], ◌∷◌, ◌++◌, length, refl, ap, ◌∙◌, sym, subst, if◌then◌else◌, slice_get, Option, Some, false≢true, Pid, pid_of, MsgId, MessageKind, plain_kind, Boot, Label}
 use Rattle.dm_rule.proofs.Names.{first_number, bind, OneKernel, Step, Load, Line, Here, own_id, Receiver, Point, label_of, kernel_after, moved, after_line, after, first_point, Part, Says, Routes, Again, Owns, Transmits, Spelled, lines_of}
-use Rattle.dm_rule.proofs.Names.{puts, goes_out, packet_line, behind, spelled, migrates, Nowhere, Moves, knows, IsIn, Spares, AllSpare, group_of, MovingStaysAlways, bind-is, arith}
+use Rattle.dm_rule.proofs.Names.{puts, goes_out, packet_line, behind, spelled, migrates, Nowhere, Moves, knows, IsIn, Spares, AllSpare, group_of, MovingStaysAlways, bind-is, arith, calls_off}
 use Rattle.dm_rule.proofs.Groups.{arrives_net, resends_net}
 use Rattle.dm_rule.proofs.Phases.Lives.{nowhere_known}
 use Rattle.dm_rule.proofs.Phases.Groups.{Rooted}
@@ -9,7 +9,7 @@ use Rattle.dm_rule.proofs.Phases.Always.{phased_start, phased_on}
 use Rattle.dm_rule.proofs.Rooted.Groups.{moves_away, rooted}
 use Rattle.dm_rule.proofs.Apart.Steps.{keeps_step}
 use Rattle.dm_rule.proofs.Apart.Rows.{SparesPart, FirstApart, ApartOf, apart_first}
-use Rattle.dm_rule.proofs.Apart.Turns.{turns_apart, net_apart, migrates_apart}
+use Rattle.dm_rule.proofs.Apart.Turns.{turns_apart, net_apart, migrates_apart, calls_off_apart}
 use Rattle.dm_rule.specs.Rule as rule
 
 -- what lines say, seen from a kernel, and where they lead
@@ -77,6 +77,7 @@ outcome_apart b pt (Step.Deliver a c k) y h child off =
     let qs = rule.arrives a c (pt.view.pair a c) (pt.view.pair c a) s in
     apart_first pt.kernel y qs (net_apart y qs (arrives_net a c (pt.view.pair a c) (pt.view.pair c a) s))
 outcome_apart b pt (Step.Migrate p m) y h child off = apart_first pt.kernel y (migrates pt p) (migrates_apart y pt p)
+outcome_apart b pt (Step.CallOff p m) y h child off = apart_first pt.kernel y (calls_off pt m p (pt.view.known m p)) (calls_off_apart y pt m p)
 
 -- what moves is here nowhere, and was made
 pub moves_known : (k : MessageKind) (s d : ℕ) (o : Option MsgId) → Moves k s d o ≡ Nowhere → ⊥

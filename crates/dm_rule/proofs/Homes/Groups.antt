@@ -88,6 +88,9 @@ group_keeps none b r e pt (Step.Deliver a c k) w still is ask h good =
     spells none r e c (moved pt (Line.Head (Step.Deliver a c k)) pt.kernel) ps (Step.Deliver a c k) w refl (good ps comes)
     (record { sound = h.sound; at = h.at; rings = rings_same v (view.with_pair v a c p) refl refl refl begun.rings; lists = same_lists pt.kernel e v a c p refl refl begun.lists }) rest ask
 group_keeps none b r e pt (Step.Migrate p m) w still is ask h good = absurd still
+group_keeps none b r e pt (Step.CallOff p m) w still is ask h good =
+    let (ps, comes, rest) = bind-is (outcome b pt (Step.CallOff p m)) (λ (xs : List Part). bind (after_line pt (Line.Head (Step.CallOff p m))) (λ (q : Point). bind (spelled q xs) (λ (z : Spelled). Some (behind (Line.Head (Step.CallOff p m) ∷ []) z)))) w is in
+    spells none r e m (moved pt (Line.Head (Step.CallOff p m)) pt.kernel) ps (Step.CallOff p m) w refl (good ps comes) (begun_home r e pt m h) rest ask
 
 -- parts that may stand anywhere
 parts_append : (m : ℕ) (ps qs : List Part) → PartsAnywhere m ps → PartsAnywhere m qs → PartsAnywhere m (ps ++ qs)

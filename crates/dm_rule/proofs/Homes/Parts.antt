@@ -30,6 +30,7 @@ LineAnywhere m (Line.Early a b n) = ⊤
 LineAnywhere m (Line.Acked a b n) = ⊤
 LineAnywhere m Line.Nothing = ⊤
 LineAnywhere m (Line.Resent n c) = ⊤
+LineAnywhere m (Line.NoCall p) = ⊤
 LineAnywhere m _ = ⊥
 
 abbrev pub PartAnywhere : ℕ → Part → Type 0
@@ -61,6 +62,8 @@ line_keeps none r e pt pt' Line.Nothing at h is =
     let f : moved pt Line.Nothing pt.kernel ≡ pt' = cc in subst (Kept pt.view.acting) f (record { r = r; e = e; home = still_home r e pt h; acting = refl })
 line_keeps none r e pt pt' (Line.Resent n c) at h is =
     let f : moved pt (Line.Resent n c) pt.kernel ≡ pt' = cc in subst (Kept pt.view.acting) f (record { r = r; e = e; home = still_home r e pt h; acting = refl })
+line_keeps none r e pt pt' (Line.NoCall p) at h is =
+    let f : moved pt (Line.NoCall p) pt.kernel ≡ pt' = cc in subst (Kept pt.view.acting) f (record { r = r; e = e; home = still_home r e pt h; acting = refl })
 line_keeps none r e pt pt' (Line.Packet a b k l) at h is =
     let f : moved pt (Line.Packet a b k l) pt.kernel ≡ pt' = cc in subst (Kept pt.view.acting) f (record { r = r; e = e; home = packet_line_home r e pt a b k l h; acting = refl })
 line_keeps none r e pt pt' (Line.Taken a b n) at h is =

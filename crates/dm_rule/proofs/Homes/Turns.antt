@@ -1,7 +1,7 @@
 -- A turn keeps all of it.
 use Rattle.dm_rule.proofs.Names.{◌≡◌, ℕ, ◌+◌, ◌==◌, Bool, true, false, List, [], ◌∷◌, refl, ap, ◌∙◌, sym, subst, inl, inr, arith, nat_le, ⊤, if◌then◌else◌, Option, None, Some, nat_tests, Pid, MsgId, PlainMessage, Boot, Label, Says}
 use Rattle.dm_rule.proofs.Names.{OneKernel, after_step, Point, first_point, Part, Routes, Spelled, Homes, is_for_home, are_home, IsStill, LeadHomeAlways, ◌≤◌, false≢true, is_kernels, Step, actor, group_of, pid_of, first_number, Known, Line}
-use Rattle.dm_rule.proofs.Names.{Frozen, Incoming, Forward, AskNone, LeadsStill, and_parts}
+use Rattle.dm_rule.proofs.Names.{Frozen, Incoming, Forward, AskNone, LeadsStill, and_parts, calls_off}
 use Rattle.dm_onekernel.specs.Step as kernel
 use Rattle.dm_rule.proofs.Homes.Labels.{SaidAt}
 use Rattle.dm_rule.proofs.Homes.Lists.{stands, all_stand}
@@ -18,6 +18,7 @@ use Rattle.dm_onekernel.specs.Pieces as pieces
 use Rattle.dm_rule.proofs.Homes.Serves.{ReceivedAt}
 use Rattle.dm_rule.proofs.Homes.Groups.{PartsGood, group_keeps, deliver_keeps, resends_good}
 use Rattle.dm_rule.proofs.Serving.{by_round, by_handles}
+use Rattle.dm_rule.proofs.Requests.{by_calls_off}
 
 abbrev pub GoodOf : OneKernel → (MsgId → ℕ) → ℕ → Option (List Part) → Type 0
 GoodOf s e m None = ⊤
@@ -123,6 +124,11 @@ home_group none b r e pt (Step.Tick m) w still is ask state h =
     tick_keeps none b r e pt m w is ask h
 home_group none b r e pt (Step.Deliver a c k) w still is ask state h = deliver_keeps none b r e pt a c k w is ask h
 home_group none b r e pt (Step.Migrate p m) w still is ask state h = absurd still
+home_group none b r e pt (Step.CallOff p m) w still is ask state h =
+    -- nothing comes, so there is nothing to call off
+    group_keeps none b r e pt (Step.CallOff p m) w tt is ask h
+    (λ ps comes. let f : calls_off pt m p (pt.view.known m p) ≡ ps = cc in
+    subst (PartsGood pt.kernel e m) f (by_calls_off (PartsGood pt.kernel e m) pt m p (inl (inl tt, tt)) (λ from is come. absurd (false≢true (sym (ap is_still is) ∙ h.rings.known m p)))))
 
 pub none_replaced : NoneReplaced
 none_replaced r e s t l is h i x y was there = (after_step r e s t l is h).only i x y was there

@@ -15,7 +15,7 @@ is_held _ = false
 pub inbox_held : (m n : ℕ) (p : Pid) → Inbox m ≢ Held n p
 inbox_held m n p e = false≢true (ap is_held e)
 
-held_apart : (m n : ℕ) (p q : Pid) → Held n q ≢ Held m p → ((m == n) && pid_eq p q) ≡ false
+pub held_apart : (m n : ℕ) (p q : Pid) → Held n q ≢ Held m p → ((m == n) && pid_eq p q) ≡ false
 held_apart m n p q apart = false_from_ne_true ((m == n) && pid_eq p q) (λ e. let k = and_parts (m == n) (pid_eq p q) e in apart (ap (λ x. Held x q) (sym (eqb-true m n k.0)) ∙ ap (Held m) (sym (pid_eq-is p q k.1))))
 
 -- a message goes from the front of the inbox to the back of its receiver's held list

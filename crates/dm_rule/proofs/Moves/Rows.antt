@@ -3,7 +3,9 @@ use Rattle.dm_rule.proofs.Names.{◌≡◌, ℕ, ◌==◌, Bool, true, false, Li
 use Rattle.dm_rule.proofs.Names.{PlainProcess, Line, View, Told, About, NothingElse, Known, Unknown, Here, Frozen, Forward, Ended, view_after, handled, handled_first, receiver_of, is_kernels, target_of, with_ring, knowing, released}
 use Rattle.dm_rule.proofs.Names.{after_proto, asks_on, held_for, Addresses, Sender, is_told_back, Point, moved, Part, Says, Again, Owns, Spelled, spelled, to_kernel, forwards_on, accepts, takes_chunk, takes_block, gives_piece, sends_on}
 use Rattle.dm_rule.proofs.Names.{leaves, told_step, chunks_of, pieces_of, told_here, told_ended, process_told, told_server, kernel_hears, hears, Spot, Queue, ids_at, bind-is, label_of, Label, MoveNote, Outcome, Target, answer_id}
-use Rattle.dm_rule.proofs.Names.{answers_move, frozen_for, leaves_for, tells_asker, sets_off, sort_of, option_and_then, slice_get, arith, nat_tests}
+use Rattle.dm_rule.proofs.Names.{answers_move, frozen_for, leaves_for, tells_asker, sets_off, sort_of, option_and_then, slice_get, arith, nat_tests, ◌/◌, bind, Of}
+use Rattle.dm_onekernel.specs.Step as kernel
+use Rattle.dm_rule.specs.Rule as rule
 use Rattle.dm_rule.proofs.Lines.{hidden, Stands-stays}
 use Rattle.dm_rule.proofs.Letters.{letters}
 use Rattle.dm_rule.proofs.Hushed.{is_put, hushed}
@@ -196,7 +198,23 @@ told_row o pt m i is p room x MessageKind.Restart parts w h fit front mine sees 
     let q = o.kernel.notes p in
     let l = Line.Migration Stage.Restarted p in
     ends_row pt l q Outcome.Done w refl refl fit (comes_back pt l i is p refl h front mine (λ z. restarted_off pt.view p z)) (given pt (Says l ∷ tells_asker q Outcome.Done) parts w e n)
+told_row o pt m i is p room x MessageKind.CallOff parts w h fit front mine sees e n =
+    let q = o.kernel.notes p in
+    ends_row pt (Line.Stays p) q Outcome.Stayed w refl refl fit (comes_back pt (Line.Stays p) i is p refl h front mine (λ z. refl)) (given pt (Says (Line.Stays p) ∷ tells_asker q Outcome.Stayed) parts w e n)
 told_row o pt m i is p room x _ parts w h fit front mine sees e n = cc
+
+-- a piece that isn't awaited, or what a kernel is told
+due_row : (b : Boot) (o pt : Point) (m : ℕ) (i : MsgId) (is : List MsgId) (k : MessageKind) (p : Pid) (stale : Bool) (parts : List Part) (w : Spelled) → State None pt → PairsFit pt.view → pt.view.inbox pt.view.acting ≡ i ∷ is → is_kernels i ≡ true → SeesSame o pt m
+    → (if stale then Some (Says (Line.Stale i) ∷ []) else bind (kernel.alive (o.kernel.processes p)) (λ (x : PlainProcess). told_step o m i p (rule.fits (rule.free_room b o m) (length x.memory / 256)) x (sort_of k))) ≡ Some parts → spelled pt parts ≡ Some w → State None w.point
+due_row b o pt m i is k p true parts w h fit front mine sees e n = line_ends pt (Line.Stale i) w refl (goes_front pt (Line.Stale i) i is refl h front mine (λ z. refl)) (given pt (Says (Line.Stale i) ∷ []) parts w e n)
+due_row b o pt m i is k p false parts w h fit front mine sees e n =
+    let (x, alive, steps) = bind-is (kernel.alive (o.kernel.processes p)) (λ (x : PlainProcess). told_step o m i p (rule.fits (rule.free_room b o m) (length x.memory / 256)) x (sort_of k)) parts e in
+    told_row o pt m i is p (rule.fits (rule.free_room b o m) (length x.memory / 256)) x k parts w h fit front mine sees steps n
+
+kernel_row : (b : Boot) (o pt : Point) (m : ℕ) (i : MsgId) (is : List MsgId) (k : MessageKind) (a : About) (parts : List Part) (w : Spelled) → State None pt → PairsFit pt.view → pt.view.inbox pt.view.acting ≡ i ∷ is → is_kernels i ≡ true → SeesSame o pt m
+    → kernel_hears b o m i k a ≡ Some parts → spelled pt parts ≡ Some w → State None w.point
+kernel_row b o pt m i is k (Of p) parts w h fit front mine sees e n = due_row b o pt m i is k p (rule.is_stale o m i k p) parts w h fit front mine sees e n
+kernel_row b o pt m i is k _ parts w h fit front mine sees e n = cc
 
 updated_row : (o pt : Point) (i : MsgId) (is : List MsgId) (n : ℕ) (parts : List Part) (w : Spelled) → State None pt → pt.view.inbox pt.view.acting ≡ i ∷ is → is_kernels i ≡ true → Some (Says (Line.Updated i n) ∷ []) ≡ Some parts → spelled pt parts ≡ Some w → State None w.point
 updated_row o pt i is n parts w h front mine e k = line_ends pt (Line.Updated i n) w refl (goes_front pt (Line.Updated i n) i is refl h front mine (λ z. refl)) (given pt (Says (Line.Updated i n) ∷ []) parts w e k)
@@ -229,7 +247,7 @@ process_row o pt m i is t _ parts w h fit topic front mine e n = held_row pt i i
 hears_by : (b : Boot) (o pt : Point) (m : ℕ) (i : MsgId) (is : List MsgId) (t : Told) (c d g : Bool) (parts : List Part) (w : Spelled) → State None pt → PairsFit pt.view → pt.view.topic ≡ NothingElse → pt.view.inbox pt.view.acting ≡ i ∷ is
     → is_kernels i ≡ true → SeesSame o pt m
     → (if c then kernel_hears b o m i t.kind t.about else if d then told_server o i t (sort_of t.kind) else if g then told_server o i t (sort_of t.kind) else process_told o m i t (o.view.known m t.receiver)) ≡ Some parts → spelled pt parts ≡ Some w → State None w.point
-hears_by b o pt m i is t true d g parts w h fit topic front mine sees e n = search (arith, bind-is, told_row)
+hears_by b o pt m i is t true d g parts w h fit topic front mine sees e n = kernel_row b o pt m i is t.kind t.about parts w h fit front mine sees e n
 hears_by b o pt m i is t false true g parts w h fit topic front mine sees e n = server_row o pt i is t t.kind parts w h front mine e n
 hears_by b o pt m i is t false false true parts w h fit topic front mine sees e n = server_row o pt i is t t.kind parts w h front mine e n
 hears_by b o pt m i is t false false false parts w h fit topic front mine sees e n = process_row o pt m i is t (o.view.known m t.receiver) parts w h fit topic front mine e n

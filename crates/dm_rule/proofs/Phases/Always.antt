@@ -1,7 +1,7 @@
 -- Wherever the rule leads, each process is in a phase.
 use Rattle.dm_rule.proofs.Names.{◌≡◌, ℕ, ◌<◌, ◌≤◌, ◌==◌, ◌&&◌, ◌||◌, Bool, true, false, List, [], ◌∷◌, ◌++◌, length, refl, ap, ◌∙◌, sym, subst, inl, inr, arith, if◌then◌else◌, map, option_map, None, Some, cases_Bool, slice_get_cases}
-use Rattle.dm_rule.proofs.Names.{nat_tests, Pid, pid_eq, plain_link, BootProcess, Boot, IsValid, processes_are_valid, switchboard, manager, Alive, begun, first_life, life_at, Step, Known, Unknown, Here, known_at, ring_at, Point}
-use Rattle.dm_rule.proofs.Names.{first_point, is_due, IsStep, Leads, PhasesAlways, Spelled, group_of, false_from_ne_true, KernelsInOrderAlways}
+use Rattle.dm_rule.proofs.Names.{nat_tests, Pid, pid_eq, plain_link, BootProcess, Boot, IsValid, processes_are_valid, switchboard, manager, Alive, begun, first_life, life_at, Step, View, first_view, Known, Unknown, Here, known_at, ring_at}
+use Rattle.dm_rule.proofs.Names.{Point, first_point, is_due, IsStep, Leads, PhasesAlways, Spelled, group_of, false_from_ne_true, KernelsInOrderAlways}
 use Rattle.dm_rule.proofs.Pairs.{Pairs, Pairs-start, Pairs-group}
 use Rattle.dm_rule.proofs.States.{State}
 use Rattle.dm_rule.proofs.Groups.{fits, State-start, State-group}
@@ -51,6 +51,10 @@ known_first b earlier (p ∷ ps) m q valid none le = elim (cases_Bool (pid_eq p.
       ∙ known_first b (earlier ++ p ∷ []) ps m q rest (sym (ap (λ (c : Bool). if c then first_life b p else life_at b ps q) off) ∙ none) le
 ]
 
+-- in order, as a word that searches through what holds don't open
+unfoldable pub IsRanked : View → Type 0
+IsRanked v = Ranked v
+
 -- all that holds together
 pub record Phased (pt : Point) : Type 0 where
   pub pairs : Pairs pt.view
@@ -58,6 +62,15 @@ pub record Phased (pt : Point) : Type 0 where
   pub sane : Sane pt
   pub ground : Grounded pt
   pub phases : InPhases pt.view
+  pub ranked : IsRanked pt.view
+
+is_ranked : (v : View) → Ranked v → IsRanked v
+unfolding IsRanked
+is_ranked v h = h
+
+pub ranked_in : (v : View) → IsRanked v → Ranked v
+unfolding IsRanked
+ranked_in v h = h
 
 pub phased_start : (b : Boot) → IsValid b → Phased (first_point b)
 phased_start b valid = record {
@@ -66,17 +79,20 @@ phased_start b valid = record {
   sane = sane_start b valid;
   ground = (search (arith, rings_first, known_first));
   phases = phases_start b;
+  ranked = is_ranked (first_view b) (ranked_start b);
 }
 
 pub phased_group : (b : Boot) (pt : Point) (d : Step) (w : Spelled) → IsStep pt.kernel.machines d → group_of b pt d ≡ Some w → Phased pt → Phased w.point
 phased_group b pt d w fit is h =
     let f = fits pt.view h.pairs in
+    let ranked = ranked_in pt.view h.ranked in
     record {
       pairs = Pairs-group b pt d w fit is h.pairs;
       state = State-group b pt d w is f h.state;
       sane = sane_group b pt d w is h.sane;
       ground = roots_group b pt d w is h.phases h.sane h.ground;
-      phases = phases_group b pt d w is h.phases h.state h.sane f (rooted pt h.sane h.ground);
+      phases = phases_group b pt d w is h.phases h.state h.sane f (rooted pt h.sane h.ground) ranked;
+      ranked = is_ranked w.point.view (ranked_group b pt d w is h.phases h.state h.sane f ranked);
     }
 
 pub phased_on : (b : Boot) (es : List Step) (pt end : Point) → Leads b pt es end → Phased pt → Phased end
@@ -90,10 +106,5 @@ phases_always b es pt p valid leads =
     (h.phases.of p, h.phases.each p, false_from_ne_true (is_due (h.phases.of p)) (λ e. let f : None ≡ Some p = h.phases.put p e in cc))
 
 -- and what kernels tell each other stays in order
-ranked_on : (b : Boot) (es : List Step) (pt end : Point) → Leads b pt es end → Phased pt → Ranked pt.view → Ranked end.view
-ranked_on b [] pt end leads h ranked = subst (λ (q : Point). Ranked q.view) leads ranked
-ranked_on b (d ∷ es) pt end (w, fit, is, rest) h ranked =
-    ranked_on b es w.point end rest (phased_group b pt d w fit is h) (ranked_group b pt d w is h.phases h.state h.sane (fits pt.view h.pairs) ranked)
-
 pub kernels_in_order_always : KernelsInOrderAlways
-kernels_in_order_always b es pt valid leads = ranked_order pt.view (ranked_on b es (first_point b) pt leads (phased_start b valid) (ranked_start b))
+kernels_in_order_always b es pt valid leads = ranked_order pt.view (ranked_in pt.view (phased_on b es (first_point b) pt leads (phased_start b valid)).ranked)

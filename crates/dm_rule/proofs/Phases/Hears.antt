@@ -2,7 +2,7 @@
 use Rattle.dm_rule.proofs.Names.{◌≡◌, ℕ, ◌==◌, Bool, true, false, List, [], ◌∷◌, ◌++◌, refl, ap, ◌∙◌, sym, subst, length, ◌/◌, if◌then◌else◌, Option, None, Some, false≢true, Pid, pid_eq, MsgId, MessageKind, Line, Stage, Boot, switchboard}
 use Rattle.dm_rule.proofs.Names.{manager, PlainProcess, View, Told, About, Of, Known, Unknown, Here, Forward, Ended, is_kernels, target_of, Addresses, Sender, is_told_back, Point, Part, Says, Owns, Spelled, spelled, forwards_on, accepts}
 use Rattle.dm_rule.proofs.Names.{takes_chunk, takes_block, gives_piece, told_step, chunks_of, pieces_of, updates, told_here, told_ended, process_told, told_server, fits, free_room, kernel_hears, hears, is_between, bind-is, Label, MoveNote}
-use Rattle.dm_rule.proofs.Names.{NothingElse, Outcome, bind, kernel_after, label_of, leaves_for, moved, tells_asker, sort_of, eq-eqb, receiver_in, knows, Rests, is_early}
+use Rattle.dm_rule.proofs.Names.{NothingElse, Outcome, bind, kernel_after, label_of, leaves_for, moved, tells_asker, sort_of, eq-eqb, is_stale, is_waited_from, pulls_piece, brings_piece, inl, inr, not, ◌&&◌}
 use Rattle.dm_onekernel.specs.Step as kernel
 use Rattle.dm_rule.proofs.Hushed.{is_put}
 use Rattle.dm_rule.proofs.States.{State, State-at}
@@ -12,10 +12,14 @@ use Rattle.dm_rule.proofs.Moves.Rows.{SeesSame, given, both_same, hears_row}
 use Rattle.dm_rule.proofs.Telling.{Sane, sane_line}
 use Rattle.dm_rule.proofs.Phases.Calm.{calm_same}
 use Rattle.dm_rule.proofs.Phases.Quiet.{Tame, AllQuiet, parts_settle}
-use Rattle.dm_rule.proofs.Phases.Stand.{InPhases, calm_phases}
-use Rattle.dm_rule.proofs.Phases.Answers.{Whole, due, Due}
-use Rattle.dm_rule.proofs.Phases.Pieces.{ask_row, pull_state_row, pull_block_row, chunk_row, block_row, due_known}
-use Rattle.dm_rule.proofs.Phases.Rests.{restart_whole, frozen_row, home_whole, at_acting, refused_if}
+use Rattle.dm_rule.proofs.Phases.Stand.{InPhases, calm_phases, left_receiver}
+use Rattle.dm_rule.proofs.Phases.Answers.{Whole, due, due_or_left, stale_left, remains_whole}
+use Rattle.dm_rule.proofs.Phases.Pieces.{ask_row, pull_state_row, pull_block_row, left_pull_row, chunk_row, block_row}
+use Rattle.dm_rule.proofs.Phases.Rests.{restart_whole, refused_whole, called_whole, frozen_row}
+use Rattle.dm_rule.proofs.Phases.Ranked.{Ranked}
+use Rattle.dm_rule.proofs.States.{said}
+use Rattle.dm_rule.proofs.Moves.Lists.{first_off}
+use Rattle.dm_rule.proofs.Moves.Rows.{goes_front}
 use Rattle.dm_rule.proofs.Phases.Leaves.{leaves_row}
 use Rattle.dm_rule.proofs.Phases.Put.{of_same}
 
@@ -52,58 +56,62 @@ ends_row pt l q r w none quiet h sane state e =
 
 -- a message of the protocol, by its kind
 told_row : (o pt : Point) (m : ℕ) (i : MsgId) (is : List MsgId) (t : Told) (p : Pid) (room : Bool × ℕ × ℕ) (x : PlainProcess) (k : MessageKind) (parts : List Part) (w : Spelled) (h : Whole pt) → Sane pt → State None w.point
-    → pt.view.inbox pt.view.acting ≡ i ∷ is → pt.view.told i ≡ Some t → is_kernels i ≡ true → SeesAll o pt m
+    → pt.view.inbox pt.view.acting ≡ i ∷ is → pt.view.told i ≡ Some t → is_kernels i ≡ true → SeesAll o pt m → Ranked pt.view → is_stale pt pt.view.acting i t.kind p ≡ false
     → t.kind ≡ k → t.about ≡ Of p → told_step o m i p room x (sort_of k) ≡ Some parts → spelled pt parts ≡ Some w → Whole w.point
-told_row o pt m i is t p room x MessageKind.Ask parts w h sane state front told mine sees e about g n =
-    let u = due pt i is t h.phases front told (ap is_between e) in
+told_row o pt m i is t p room x MessageKind.Ask parts w h sane state front told mine sees ranked fresh e about g n =
+    let u = due pt i is t h.phases p front told (ap is_between e) about (ap (λ (k : MessageKind). pulls_piece (sort_of k)) e) fresh in
     let pu : u.p ≡ p = of_same u.p p (sym (ap (λ (y : Told). y.about) u.told) ∙ about) in
     let mine_ : told_step o m i u.p room x (sort_of MessageKind.Ask) ≡ Some parts = subst (λ (q : Pid). told_step o m i q room x (sort_of MessageKind.Ask) ≡ Some parts) (sym pu) g in
-    ask_row pt i is t room.0 room.1 room.2 w h u (sym (ap (λ (y : Told). y.kind) u.told) ∙ e) front told mine (given pt (accepts i.from.home u.p room.0 room.1 room.2) parts w mine_ n)
-told_row o pt m i is t p room x MessageKind.Refuse parts w h sane state front told mine sees e about g n =
-    let u = due pt i is t h.phases front told (ap is_between e) in
+    ask_row pt i is t room.0 room.1 room.2 w h u (sym (ap (λ (y : Told). y.kind) u.told) ∙ e) ranked front told mine (given pt (accepts i.from.home u.p room.0 room.1 room.2) parts w mine_ n)
+told_row o pt m i is t p room x MessageKind.Refuse parts w h sane state front told mine sees ranked fresh e about g n =
+    let u = due pt i is t h.phases p front told (ap is_between e) about (ap (λ (k : MessageKind). pulls_piece (sort_of k)) e) fresh in
     let pu : u.p ≡ p = of_same u.p p (sym (ap (λ (y : Told). y.about) u.told) ∙ about) in
     let ku : u.k ≡ MessageKind.Refuse = sym (ap (λ (y : Told). y.kind) u.told) ∙ e in
     let mine_ : told_step o m i u.p room x (sort_of MessageKind.Refuse) ≡ Some parts = subst (λ (q : Pid). told_step o m i q room x (sort_of MessageKind.Refuse) ≡ Some parts) (sym pu) g in
     let q = o.kernel.notes u.p in
-    let stays_whole : (pt : Point) (i : MsgId) (is : List MsgId) (t : Told) (h : Whole pt) (u : Due pt i t h.phases) → u.k ≡ MessageKind.Refuse → pt.view.inbox pt.view.acting ≡ i ∷ is → pt.view.told i ≡ Some t → is_kernels i ≡ true
-    → Whole (moved pt (Line.Stays u.p) pt.kernel) = λ pt i is t h u e front told mine.
-    let at : pt.view.acting ≡ u.s = u.acting ∙ ap (λ (k : MessageKind). receiver_in k u.s u.d) e in
-    home_whole pt (Line.Stays u.p) i is t u.s h u refl refl refl front told mine (λ z. refl) refl
-    (λ m. ap (knows (Rests u.s) m) (at_acting pt.view u.s m u.p Here at) ∙ refused_if u.k u.s u.d m (Some i) (u.s == m) (pt.view.known m u.p) (ap is_early e) refl (due_known pt i t h.phases u m)) in
-    ends_row pt (Line.Stays u.p) q Outcome.Stayed w refl refl (stays_whole pt i is t h u ku front told mine) sane state (given pt (Says (Line.Stays u.p) ∷ tells_asker q Outcome.Stayed) parts w mine_ n)
-told_row o pt m i is t p room x MessageKind.PullState parts w h sane state front told mine sees e about g n =
-    let u = due pt i is t h.phases front told (ap is_between e) in
+    ends_row pt (Line.Stays u.p) q Outcome.Stayed w refl refl (refused_whole pt i is t h u ku front told mine) sane state (given pt (Says (Line.Stays u.p) ∷ tells_asker q Outcome.Stayed) parts w mine_ n)
+told_row o pt m i is t p room x MessageKind.CallOff parts w h sane state front told mine sees ranked fresh e about g n =
+    let u = due pt i is t h.phases p front told (ap is_between e) about (ap (λ (k : MessageKind). pulls_piece (sort_of k)) e) fresh in
     let pu : u.p ≡ p = of_same u.p p (sym (ap (λ (y : Told). y.about) u.told) ∙ about) in
-    let ku : u.k ≡ MessageKind.PullState = sym (ap (λ (y : Told). y.kind) u.told) ∙ e in
-    pull_state_row pt i is t w h u ku front told mine (given pt (gives_piece i MessageKind.State) parts w (subst (λ (q : Pid). told_step o m i q room x (sort_of MessageKind.PullState) ≡ Some parts) (sym pu) g) n)
-told_row o pt m i is t p room x MessageKind.State parts w h sane state front told mine sees e about g n =
-    let u = due pt i is t h.phases front told (ap is_between e) in
+    let ku : u.k ≡ MessageKind.CallOff = sym (ap (λ (y : Told). y.kind) u.told) ∙ e in
+    let mine_ : told_step o m i u.p room x (sort_of MessageKind.CallOff) ≡ Some parts = subst (λ (q : Pid). told_step o m i q room x (sort_of MessageKind.CallOff) ≡ Some parts) (sym pu) g in
+    let q = o.kernel.notes u.p in
+    ends_row pt (Line.Stays u.p) q Outcome.Stayed w refl refl (called_whole pt i is t h u ku ranked front told mine) sane state (given pt (Says (Line.Stays u.p) ∷ tells_asker q Outcome.Stayed) parts w mine_ n)
+told_row o pt m i is t p room x MessageKind.PullState parts w h sane state front told mine sees ranked fresh e about g n =
+    let gives = given pt (gives_piece i MessageKind.State) parts w g n in
+    elim (due_or_left pt i is t h.phases front told (ap is_between e)) [
+      | inl u ↦ pull_state_row pt i is t w h u (sym (ap (λ (y : Told). y.kind) u.told) ∙ e) front told mine gives
+      | inr r ↦ left_pull_row pt i is t MessageKind.State w h r (ap (λ (k : MessageKind). pulls_piece (sort_of k)) e) refl front told mine gives
+    ]
+told_row o pt m i is t p room x MessageKind.State parts w h sane state front told mine sees ranked fresh e about g n =
+    let u = due pt i is t h.phases p front told (ap is_between e) about (ap (λ (k : MessageKind). pulls_piece (sort_of k)) e) fresh in
     let pu : u.p ≡ p = of_same u.p p (sym (ap (λ (y : Told). y.about) u.told) ∙ about) in
     let mine_ : told_step o m i u.p room x (sort_of MessageKind.State) ≡ Some parts = subst (λ (q : Pid). told_step o m i q room x (sort_of MessageKind.State) ≡ Some parts) (sym pu) g in
     chunk_row pt i is t (o.view.asked u.p == chunks_of x) w h u (sym (ap (λ (y : Told). y.kind) u.told) ∙ e) front told mine (given pt (takes_chunk i u.p (o.view.asked u.p == chunks_of x)) parts w mine_ n)
-told_row o pt m i is t p room x MessageKind.PullBlock parts w h sane state front told mine sees e about g n =
-    let u = due pt i is t h.phases front told (ap is_between e) in
-    let pu : u.p ≡ p = of_same u.p p (sym (ap (λ (y : Told). y.about) u.told) ∙ about) in
-    let ku : u.k ≡ MessageKind.PullBlock = sym (ap (λ (y : Told). y.kind) u.told) ∙ e in
-    pull_block_row pt i is t w h u ku front told mine (given pt (gives_piece i MessageKind.Memory) parts w (subst (λ (q : Pid). told_step o m i q room x (sort_of MessageKind.PullBlock) ≡ Some parts) (sym pu) g) n)
-told_row o pt m i is t p room x MessageKind.Memory parts w h sane state front told mine sees e about g n =
-    let u = due pt i is t h.phases front told (ap is_between e) in
+told_row o pt m i is t p room x MessageKind.PullBlock parts w h sane state front told mine sees ranked fresh e about g n =
+    let gives = given pt (gives_piece i MessageKind.Memory) parts w g n in
+    elim (due_or_left pt i is t h.phases front told (ap is_between e)) [
+      | inl u ↦ pull_block_row pt i is t w h u (sym (ap (λ (y : Told). y.kind) u.told) ∙ e) front told mine gives
+      | inr r ↦ left_pull_row pt i is t MessageKind.Memory w h r (ap (λ (k : MessageKind). pulls_piece (sort_of k)) e) refl front told mine gives
+    ]
+told_row o pt m i is t p room x MessageKind.Memory parts w h sane state front told mine sees ranked fresh e about g n =
+    let u = due pt i is t h.phases p front told (ap is_between e) about (ap (λ (k : MessageKind). pulls_piece (sort_of k)) e) fresh in
     let pu : u.p ≡ p = of_same u.p p (sym (ap (λ (y : Told). y.about) u.told) ∙ about) in
     let mine_ : told_step o m i u.p room x (sort_of MessageKind.Memory) ≡ Some parts = subst (λ (q : Pid). told_step o m i q room x (sort_of MessageKind.Memory) ≡ Some parts) (sym pu) g in
     block_row pt i is t (o.view.asked u.p == pieces_of x) w h u (sym (ap (λ (y : Told). y.kind) u.told) ∙ e) front told mine (given pt (takes_block i u.p (o.view.asked u.p == pieces_of x)) parts w mine_ n)
-told_row o pt m i is t p room x MessageKind.AllTaken parts w h sane state front told mine sees e about g n =
-    let u = due pt i is t h.phases front told (ap is_between e) in
+told_row o pt m i is t p room x MessageKind.AllTaken parts w h sane state front told mine sees ranked fresh e about g n =
+    let u = due pt i is t h.phases p front told (ap is_between e) about (ap (λ (k : MessageKind). pulls_piece (sort_of k)) e) fresh in
     let pu : u.p ≡ p = of_same u.p p (sym (ap (λ (y : Told). y.about) u.told) ∙ about) in
     let mine_ : told_step o m i u.p room x (sort_of MessageKind.AllTaken) ≡ Some parts = subst (λ (q : Pid). told_step o m i q room x (sort_of MessageKind.AllTaken) ≡ Some parts) (sym pu) g in
     leaves_row pt i is t (o.view.queue m u.p ++ o.view.held m u.p) (o.view.known m u.p) parts w h u (sym (ap (λ (y : Told). y.kind) u.told) ∙ e) front told mine (both_same o pt m u.p sees.same) mine_ n
-told_row o pt m i is t p room x MessageKind.Restart parts w h sane state front told mine sees e about g n =
-    let u = due pt i is t h.phases front told (ap is_between e) in
+told_row o pt m i is t p room x MessageKind.Restart parts w h sane state front told mine sees ranked fresh e about g n =
+    let u = due pt i is t h.phases p front told (ap is_between e) about (ap (λ (k : MessageKind). pulls_piece (sort_of k)) e) fresh in
     let pu : u.p ≡ p = of_same u.p p (sym (ap (λ (y : Told). y.about) u.told) ∙ about) in
     let mine_ : told_step o m i u.p room x (sort_of MessageKind.Restart) ≡ Some parts = subst (λ (q : Pid). told_step o m i q room x (sort_of MessageKind.Restart) ≡ Some parts) (sym pu) g in
     let q = o.kernel.notes u.p in
     let l = Line.Migration Stage.Restarted u.p in
     ends_row pt l q Outcome.Done w refl refl (restart_whole pt i is t h u (sym (ap (λ (y : Told). y.kind) u.told) ∙ e) front told mine) sane state (given pt (Says l ∷ tells_asker q Outcome.Done) parts w mine_ n)
-told_row o pt m i is t p room x _ parts w h sane state front told mine sees e about g n = cc
+told_row o pt m i is t p room x _ parts w h sane state front told mine sees ranked fresh e about g n = cc
 
 -- the others, at a process or a server
 pub tame_of : (v : View) (i : MsgId) (t : Told) → v.told i ≡ Some t → is_between t.kind ≡ false → Tame v i
@@ -143,31 +151,52 @@ process_row o pt m i is t (Forward at moves) parts w h sane state plain front to
 process_row o pt m i is t Ended parts w h sane state plain front told mine sees here g n = ended_row pt i t t.kind parts w h sane state (tame_of pt.view i t told plain) g n
 process_row o pt m i is t _ parts w h sane state plain front told mine sees here g n = one_quiet pt (Says (Line.Held i) ∷ []) parts w h sane state (tame_of pt.view i t told plain, tt) g n
 
-kernel_row : (b : Boot) (o pt : Point) (m : ℕ) (i : MsgId) (is : List MsgId) (t : Told) (a : About) (parts : List Part) (w : Spelled) (h : Whole pt) → Sane pt → State None w.point → pt.view.inbox pt.view.acting ≡ i ∷ is
-    → pt.view.told i ≡ Some t → is_kernels i ≡ true → SeesAll o pt m
-    → t.about ≡ a → kernel_hears b o m i t.kind a ≡ Some parts → spelled pt parts ≡ Some w → Whole w.point
-kernel_row b o pt m i is t (Of p) parts w h sane state front told mine sees about g n =
+-- a piece that isn't awaited goes
+stale_row : (pt : Point) (i : MsgId) (is : List MsgId) (t : Told) (p : Pid) (w : Spelled) (h : Whole pt) → pt.view.inbox pt.view.acting ≡ i ∷ is → pt.view.told i ≡ Some t → is_kernels i ≡ true → t.about ≡ Of p → is_stale pt pt.view.acting i t.kind p ≡ true → spelled pt (Says (Line.Stale i) ∷ []) ≡ Some w → Whole w.point
+stale_row pt i is t p w h front told mine about stale e =
+    let l = Line.Stale i in
+    let n = line_next pt l [] w refl e in
+    let whole = remains_whole pt l i is t h (stale_left pt i is t h.phases p front told about stale) refl refl refl front told (goes_front pt l i is refl h.state front mine (λ z. refl)) (λ z. sym (first_off pt.view i is front z)) refl refl in
+    subst Whole n.point (subst Whole (said (moved pt l pt.kernel) n.rest n.more) whole.whole)
+
+stale_by : (b : Boot) (o pt : Point) (m : ℕ) (i : MsgId) (is : List MsgId) (t : Told) (p : Pid) (stale : Bool) (parts : List Part) (w : Spelled) (h : Whole pt) → Sane pt → State None w.point → pt.view.inbox pt.view.acting ≡ i ∷ is
+    → pt.view.told i ≡ Some t → is_kernels i ≡ true → SeesAll o pt m → Ranked pt.view → t.about ≡ Of p → is_stale pt pt.view.acting i t.kind p ≡ stale
+    → (if stale then Some (Says (Line.Stale i) ∷ []) else bind (kernel.alive (o.kernel.processes p)) (λ x. told_step o m i p (fits (free_room b o m) (length x.memory / 256)) x (sort_of t.kind))) ≡ Some parts → spelled pt parts ≡ Some w → Whole w.point
+stale_by b o pt m i is t p true parts w h sane state front told mine sees ranked about stale g n = stale_row pt i is t p w h front told mine about stale (given pt (Says (Line.Stale i) ∷ []) parts w g n)
+stale_by b o pt m i is t p false parts w h sane state front told mine sees ranked about fresh g n =
     let (x, there, last) = bind-is (kernel.alive (o.kernel.processes p)) (λ x. told_step o m i p (fits (free_room b o m) (length x.memory / 256)) x (sort_of t.kind)) parts g in
-    told_row o pt m i is t p (fits (free_room b o m) (length x.memory / 256)) x t.kind parts w h sane state front told mine sees refl about last n
-kernel_row b o pt m i is t _ parts w h sane state front told mine sees about g n = cc
+    told_row o pt m i is t p (fits (free_room b o m) (length x.memory / 256)) x t.kind parts w h sane state front told mine sees ranked fresh refl about last n
+
+kernel_row : (b : Boot) (o pt : Point) (m : ℕ) (i : MsgId) (is : List MsgId) (t : Told) (a : About) (parts : List Part) (w : Spelled) (h : Whole pt) → Sane pt → State None w.point → pt.view.inbox pt.view.acting ≡ i ∷ is
+    → pt.view.told i ≡ Some t → is_kernels i ≡ true → SeesAll o pt m → Ranked pt.view
+    → t.about ≡ a → kernel_hears b o m i t.kind a ≡ Some parts → spelled pt parts ≡ Some w → Whole w.point
+kernel_row b o pt m i is t (Of p) parts w h sane state front told mine sees ranked about g n =
+    stale_by b o pt m i is t p (is_stale o m i t.kind p) parts w h sane state front told mine sees ranked about (ap (λ (k : Known). brings_piece (sort_of t.kind) && not (is_waited_from i.from.home k)) (sym (sees.known p))) g n
+kernel_row b o pt m i is t _ parts w h sane state front told mine sees ranked about g n = cc
+
+-- what kernels tell each other of migrations is told to a kernel
+kernel_told : (pt : Point) (i : MsgId) (is : List MsgId) (t : Told) (h : InPhases pt.view) → is_between t.kind ≡ true → pt.view.inbox pt.view.acting ≡ i ∷ is → pt.view.told i ≡ Some t → t.receiver.num ≡ 0
+kernel_told pt i is t h b front told = elim (due_or_left pt i is t h front told b) [
+  | inl u ↦ ap (λ (y : Told). y.receiver.num) u.told
+  | inr r ↦ left_receiver pt.view r.p (h.of r.p) i t r.left
+]
 
 pub plain_by : (pt : Point) (i : MsgId) (is : List MsgId) (t : Told) (h : InPhases pt.view) (b : Bool) → is_between t.kind ≡ b → pt.view.inbox pt.view.acting ≡ i ∷ is → pt.view.told i ≡ Some t → (t.receiver.num == 0) ≡ false → b ≡ false
-plain_by pt i is t h true e front told off =
-    absurd (false≢true (sym off ∙ eq-eqb t.receiver.num 0 (ap (λ (y : Told). y.receiver.num) (due pt i is t h front told e).told)))
+plain_by pt i is t h true e front told off = absurd (false≢true (sym off ∙ eq-eqb t.receiver.num 0 (kernel_told pt i is t h e front told)))
 plain_by pt i is t h false e front told off = refl
 
-hears_by : (b : Boot) (o pt : Point) (m : ℕ) (i : MsgId) (is : List MsgId) (t : Told) (c d g : Bool) (parts : List Part) (w : Spelled) (h : Whole pt) → Sane pt → State None w.point → (t.receiver.num == 0) ≡ c → pt.view.inbox pt.view.acting ≡ i ∷ is → pt.view.told i ≡ Some t → is_kernels i ≡ true → SeesAll o pt m
+hears_by : (b : Boot) (o pt : Point) (m : ℕ) (i : MsgId) (is : List MsgId) (t : Told) (c d g : Bool) (parts : List Part) (w : Spelled) (h : Whole pt) → Sane pt → State None w.point → (t.receiver.num == 0) ≡ c → pt.view.inbox pt.view.acting ≡ i ∷ is → pt.view.told i ≡ Some t → is_kernels i ≡ true → SeesAll o pt m → Ranked pt.view
     → (if c then kernel_hears b o m i t.kind t.about else if d then told_server o i t (sort_of t.kind) else if g then told_server o i t (sort_of t.kind) else process_told o m i t (o.view.known m t.receiver)) ≡ Some parts → spelled pt parts ≡ Some w → Whole w.point
-hears_by b o pt m i is t true d g parts w h sane state c front told mine sees e n = kernel_row b o pt m i is t t.about parts w h sane state front told mine sees refl e n
-hears_by b o pt m i is t false true g parts w h sane state c front told mine sees e n = server_row o pt i t t.kind parts w h sane state (tame_of pt.view i t told (plain_by pt i is t h.phases (is_between t.kind) refl front told c)) e n
-hears_by b o pt m i is t false false true parts w h sane state c front told mine sees e n = server_row o pt i t t.kind parts w h sane state (tame_of pt.view i t told (plain_by pt i is t h.phases (is_between t.kind) refl front told c)) e n
-hears_by b o pt m i is t false false false parts w h sane state c front told mine sees e n =
+hears_by b o pt m i is t true d g parts w h sane state c front told mine sees ranked e n = kernel_row b o pt m i is t t.about parts w h sane state front told mine sees ranked refl e n
+hears_by b o pt m i is t false true g parts w h sane state c front told mine sees ranked e n = server_row o pt i t t.kind parts w h sane state (tame_of pt.view i t told (plain_by pt i is t h.phases (is_between t.kind) refl front told c)) e n
+hears_by b o pt m i is t false false true parts w h sane state c front told mine sees ranked e n = server_row o pt i t t.kind parts w h sane state (tame_of pt.view i t told (plain_by pt i is t h.phases (is_between t.kind) refl front told c)) e n
+hears_by b o pt m i is t false false false parts w h sane state c front told mine sees ranked e n =
     process_row o pt m i is t (o.view.known m t.receiver) parts w h sane state (plain_by pt i is t h.phases (is_between t.kind) refl front told c) front told mine sees (sym (sees.known t.receiver)) e n
 
 -- a kernel's own message at the front of the inbox
-pub phases_hears : (b : Boot) (o pt : Point) (m : ℕ) (i : MsgId) (is : List MsgId) (t : Option Told) (parts : List Part) (w : Spelled) (h : Whole pt) → Sane pt → pt.view.inbox pt.view.acting ≡ i ∷ is → pt.kernel.bag i ≡ None → pt.view.told i ≡ t → SeesAll o pt m
+pub phases_hears : (b : Boot) (o pt : Point) (m : ℕ) (i : MsgId) (is : List MsgId) (t : Option Told) (parts : List Part) (w : Spelled) (h : Whole pt) → Sane pt → Ranked pt.view → pt.view.inbox pt.view.acting ≡ i ∷ is → pt.kernel.bag i ≡ None → pt.view.told i ≡ t → SeesAll o pt m
     → hears b o m i t ≡ Some parts → spelled pt parts ≡ Some w → Whole w.point
-phases_hears b o pt m i is None parts w h sane front none told sees e n = cc
-phases_hears b o pt m i is (Some t) parts w h sane front none told sees e n =
+phases_hears b o pt m i is None parts w h sane ranked front none told sees e n = cc
+phases_hears b o pt m i is (Some t) parts w h sane ranked front none told sees e n =
     hears_by b o pt m i is t (t.receiver.num == 0) (pid_eq t.receiver switchboard) (pid_eq t.receiver manager) parts w h sane
-    (hears_row b o pt m i is (Some t) parts w h.state h.fits sees.topic front none sees.same e n) refl front told (front_kernels pt i is h.state front none) sees e n
+    (hears_row b o pt m i is (Some t) parts w h.state h.fits sees.topic front none sees.same e n) refl front told (front_kernels pt i is h.state front none) sees ranked e n

@@ -2,6 +2,7 @@
 use Rattle.dm_rule.proofs.Names.{◌≡◌, ℕ, ◌+◌, ◌≤◌, ◌==◌, ◌&&◌, Bool, true, false, not, List, [], ◌∷◌, ◌++◌, length, refl, ap, ◌∙◌, sym, subst, inl, inr, arith, if◌then◌else◌, Option, None, Some, cases_Bool, false≢true, Pid, pid_eq, MsgId}
 use Rattle.dm_rule.proofs.Names.{MessageKind, Line, Stage, id_eq, bind, Load, at_record, View, Told, Known, Frozen, view_after, handled_first, gone_to, receiver_of, is_kernels, Point, moved, after, Part, Says, Again, Spelled, lines_of}
 use Rattle.dm_rule.proofs.Names.{puts, behind, spelled, to_kernel, sends_on, leaves, Spot, times, standing, is_between, Phase, Moves, knows, token_in, sender_in, receiver_in, id_eq-is, id_eq-same, pid_eq-same, bind-is, nat_tests, eqb-true}
+use Rattle.dm_rule.proofs.Names.{Of, Incoming, sort_of, ComesIn}
 use Rattle.dm_rule.specs.View as view
 use Rattle.dm_rule.specs.Phases as phase
 use Rattle.dm_rule.proofs.Once.{one_of}
@@ -18,9 +19,9 @@ use Rattle.dm_rule.proofs.Moves.Rows.{left_off}
 use Rattle.dm_rule.proofs.Phases.Calm.{Calm}
 use Rattle.dm_rule.proofs.Phases.Lines.{handled_spots, put_calm, packet_calm}
 use Rattle.dm_rule.proofs.Phases.Quiet.{Tame, tame_on, tame_kind}
-use Rattle.dm_rule.proofs.Phases.Stand.{PhasesBut, none_only, some_only, InPhases, calm_phases, queued_plain, held_plain, Learns, learns_phases}
+use Rattle.dm_rule.proofs.Phases.Stand.{PhasesBut, none_only, some_only, InPhases, calm_phases, queued_plain, held_plain, Learns, learns_phases, quiet_left, calls_in}
 use Rattle.dm_rule.proofs.Phases.Answers.{WholeBut, Whole, Due, owns_whole, nowhere_of, token_one}
-use Rattle.dm_rule.proofs.Phases.Pieces.{record_off, same_row, due_apart, to_sender}
+use Rattle.dm_rule.proofs.Phases.Pieces.{record_off, same_row, same_come, due_apart, to_sender}
 use Rattle.dm_rule.proofs.Bags.{zero_if}
 use Rattle.dm_rule.proofs.Phases.Put.{of_same}
 
@@ -30,6 +31,7 @@ pub record WayIn (p : Pid) (ph : Phase) (a : ℕ) (gone : List MsgId) (pt : Poin
   pub phases : PhasesBut (Some p) pt.view
   pub now : phases.of p ≡ ph
   pub acting : pt.view.acting ≡ a
+  pub topic : pt.view.topic ≡ Of p
   pub tame : (i : MsgId) → 1 ≤ times i gone → Tame pt.view i
 
 in_packet : (p : Pid) (ph : Phase) (a : ℕ) (gone : List MsgId) (q : Point) (x y k : ℕ) (l : Load) → WayIn p ph a gone q → WayIn p ph a gone (moved q (Line.Packet x y k l) q.kernel)
@@ -40,6 +42,7 @@ in_packet p ph a gone q x y k l h =
       phases = calm_phases q.view (view_after q.view (Line.Packet x y k l)) c h.phases;
       now = h.now;
       acting = h.acting;
+      topic = h.topic;
       tame = λ i least. tame_on q.view (view_after q.view (Line.Packet x y k l)) i c (h.tame i least);
     }
 
@@ -59,10 +62,11 @@ one_again p ph a pt b i is ps w h e =
       phases = calm_phases v (view.after_put v v.acting b i t.kind t.receiver) c h.phases;
       now = h.now;
       acting = h.acting;
+      topic = h.topic;
       tame = λ j least. tame_on v (view.after_put v v.acting b i t.kind t.receiver) j c (h.tame j (omega (arith, least)));
     }) e
 
-all_again : (p : Pid) (ph : Phase) (a : ℕ) (is : List MsgId) (pt : Point) (b : ℕ) (ps : List Part) (w : Spelled) → WayIn p ph a is pt → spelled pt (sends_on b is ++ ps) ≡ Some w → PutNext (WayIn p ph a []) ps w
+pub all_again : (p : Pid) (ph : Phase) (a : ℕ) (is : List MsgId) (pt : Point) (b : ℕ) (ps : List Part) (w : Spelled) → WayIn p ph a is pt → spelled pt (sends_on b is ++ ps) ≡ Some w → PutNext (WayIn p ph a []) ps w
 all_again p ph a [] pt b ps w h e = record { next = pt; stands = h; rest = w; more = e; point = refl }
 all_again p ph a (i ∷ is) pt b ps w h e =
     let n = one_again p ph a pt b i is (sends_on b is ++ ps) w h e in
@@ -97,6 +101,7 @@ sent_learns pt n i is t h u front told =
     λ v i is j front apart z. ap (times j) (first_off v i is front z) ∙ handled_spots v i j apart z in
     record {
       calm = λ m q off. refl;
+      come = λ q off. refl;
       fresh = λ j x e b. e;
       kept = λ j x e. e;
       back = λ j x e b z st. elim (cases_Bool (id_eq i j)) [
@@ -130,6 +135,11 @@ left_by : (v : View) (a m : ℕ) (p : Pid) (n : ℕ) (b : Bool) → (a == m) ≡
 left_by v a m p n true e = ap (λ (x : ℕ). gone_to (v.known x p) n) (eqb-true a m e)
 left_by v a m p n false e = refl
 
+gone_awaited : (b : Bool) (y : Known) (n s : ℕ) → (if b then gone_to y n else y) ≡ Incoming s → y ≡ Incoming s
+gone_awaited true (Frozen m) n s e = cc
+gone_awaited true _ n s e = e
+gone_awaited false y n s e = e
+
 left_row : (pt : Point) (p : Pid) (s d b : ℕ) (w : Spelled) (h : WayIn p (Moves MessageKind.AllTaken s d None) s [] pt) → (is_between MessageKind.AllTaken && not (s == d)) ≡ true → b ≡ d → spelled pt (Says (Line.Migration Stage.Left p) ∷ to_kernel MessageKind.Restart b ∷ []) ≡ Some w → Whole w.point
 left_row pt p s d b w h apart to e =
     let left_known : (s d m n : ℕ) (b : Bool) (y : Known) → (s == m) ≡ b → knows (Moves MessageKind.AllTaken s d None) m y ≡ true → knows (Moves MessageKind.Restart s d None) m (if b then gone_to y n else y) ≡ true =
@@ -148,13 +158,16 @@ left_row pt p s d b w h apart to e =
     ∙ left_by v v.acting m p n (v.acting == m) refl ∙ ap (λ (x : ℕ). if x == m then gone_to (v.known m p) n else v.known m p) e in
     let turned = learns_phases v next.view p (Moves MessageKind.Restart s d None) h.phases (some_only p) (record {
       calm = λ m q off. record_off v.known v.acting p (gone_to (v.known v.acting p) (v.moves p + 1)) m q off;
+      come = λ q off. refl;
       fresh = λ j x e b. e;
       kept = λ j x e. e;
       back = λ j x e b z st. inl (subst (λ n. 1 ≤ n) (ap (times j) (left_off v p z)) st);
       on = λ j x q apart e b ab z st. (z, subst (λ n. 1 ≤ n) (sym (ap (times j) (left_off v p z))) st);
     }) refl apart
     (λ m. ap (knows (Moves MessageKind.Restart s d None) m) (left_at v s m p (v.moves p + 1) h.acting) ∙ left_known s d m (v.moves p + 1) (s == m) (v.known m p) refl (was m))
-    (λ j x z. absurd (let f : None ≡ Some j = sym (ap token_in h.now) ∙ x in cc)) in
+    (subst (λ (x : Phase). ComesIn x (v.come p)) h.now (h.phases.each p).come)
+    (quiet_left v next.view p (h.phases.of p) (Moves MessageKind.Restart s d None) refl (ap calls_in h.now) (λ m n here. gone_awaited (s == m) (v.known m p) (v.moves p + 1) n (sym (left_at v s m p (v.moves p + 1) h.acting) ∙ here))
+    (λ j x z. absurd (let f : None ≡ Some j = sym (ap token_in h.now) ∙ x in cc))) in
     subst Whole n.point (owns_whole next p MessageKind.Restart s d b n.rest (let whole : WholeBut (Some p) next = (search (arith, by_line, Stands-stays, left_off, fits_as, pair_same)) in whole) turned.now refl h.acting to n.more)
 
 pub leaves_row : (pt : Point) (i : MsgId) (is : List MsgId) (t : Told) (ids : List MsgId) (k : Known) (parts : List Part) (w : Spelled) (h : Whole pt) (u : Due pt i t h.phases) → u.k ≡ MessageKind.AllTaken → pt.view.inbox pt.view.acting ≡ i ∷ is → pt.view.told i ≡ Some t → is_kernels i ≡ true
@@ -168,14 +181,17 @@ leaves_row pt i is t ids (Frozen to) parts w h u e front told mine same f n =
     let ph = Moves MessageKind.AllTaken u.s u.d None in
     let apart : (is_between MessageKind.AllTaken && not (u.s == u.d)) ≡ true = ap (λ (k : MessageKind). is_between k && not (u.s == u.d)) (sym e) ∙ due_apart pt i t h.phases u in
     let turned = learns_phases v next.view u.p ph h.phases (none_only u.p) (sent_learns pt (length ids) i is t h u front told) refl apart
-    (same_row pt i t h.phases u MessageKind.AllTaken next.view (λ m. refl) (ap phase.is_restart e) (ap phase.is_early e))
-    (λ j x z. subst (λ (y : MsgId). standing next.view y z ≡ 0) (token_one (h.phases.of u.p) u.k u.s u.d i j u.phase x) (sent_gone pt u.p (length ids) i is h.state front z)) in
+    (same_row pt i t h.phases u MessageKind.AllTaken next.view (λ m. refl) (ap phase.is_restart e) (ap phase.is_early e) (ap phase.is_calloff e))
+    (same_come pt i t h.phases u MessageKind.AllTaken next.view refl (ap (λ (k : MessageKind). phase.tells_come (sort_of k)) e))
+    (quiet_left v next.view u.p (h.phases.of u.p) ph refl (ap calls_in u.phase ∙ ap phase.is_calloff e) (λ m s here. here)
+    (λ j x z. subst (λ (y : MsgId). standing next.view y z ≡ 0) (token_one (h.phases.of u.p) u.k u.s u.d i j u.phase x) (sent_gone pt u.p (length ids) i is h.state front z))) in
     let sent : Between ids next = subst (λ (js : List MsgId). Between js next) same (sent_way pt u.p (length ids) i is h.state front mine) in
     let way : WayIn u.p ph u.s ids next = record {
       way = record { between = sent; fits = fits_as v next.view (pair_same v l refl) h.fits };
       phases = turned.phases;
       now = turned.now;
       acting = u.acting ∙ ap (λ (k : MessageKind). receiver_in k u.s u.d) e;
+      topic = refl;
       tame = λ j least. (let (q, x, y) = sent.way j least in let z = lists_tame v u.p j q h.phases (subst (λ (js : List MsgId). 1 ≤ times j js) (sym same) least) y in record { what = z.what; told = z.told; plain = z.plain });
     } in
     let a = all_again u.p ph u.s ids next to end k.rest way k.more in

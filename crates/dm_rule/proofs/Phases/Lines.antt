@@ -1,13 +1,74 @@
 -- Lines that leave the migrations of all processes as they are.
 use Rattle.dm_rule.proofs.Names.{◌≡◌, ℕ, zero, suc, ◌+◌, ◌==◌, ◌&&◌, Bool, true, false, List, [], ◌∷◌, ◌++◌, drop, length, refl, ap, ◌∙◌, sym, subst, inl, inr, arith, if◌then◌else◌, Option, None, Some, cases_Bool, length-append}
 use Rattle.dm_rule.proofs.Names.{drop-length, Pid, MsgId, MessageKind, id_eq, Load, Line, at_machine, at_pair, at_record, without_id, without_front, View, Pair, Told, handled, queued_for, held_for, dropped_for, forwarded_for, view_after}
-use Rattle.dm_rule.proofs.Names.{after_put, routed_on, Spot, Inbox, Untaken, times, untaken, standing, is_between, pid_eq-is, id_eq-is, id_eq-same, id_eq-swap, nat_tests, and_parts, eqb-true}
+use Rattle.dm_rule.proofs.Names.{after_put, routed_on, Spot, Inbox, Untaken, times, untaken, standing, is_between, pid_eq-is, id_eq-is, id_eq-same, id_eq-swap, nat_tests, and_parts, eqb-true, Label, Stage, Step, About, Of, Target}
+use Rattle.dm_rule.proofs.Names.{after_head, served_told, ends_by, sort_of, false≢true}
 use Rattle.dm_rule.specs.View as view
 use Rattle.dm_rule.proofs.Standing.{times-append}
 use Rattle.dm_rule.proofs.Once.{one_of}
-use Rattle.dm_rule.proofs.Lines.{pair_keeps}
+use Rattle.dm_rule.proofs.Lines.{pair_keeps, taken_pair}
 use Rattle.dm_rule.proofs.States.{PairsFit, put_told_off}
 use Rattle.dm_rule.proofs.Phases.Calm.{Calm, Plain, calm_others, calm_still}
+
+-- whether all of a process has come changes where it is accepted, and where all has come
+abbrev pub keeps_come : Line → Bool
+keeps_come (Line.Migration Stage.Accepted p) = false
+keeps_come (Line.Migration Stage.MemoryTaken p) = false
+keeps_come l = true
+
+come_head : (v : View) (d : Step) → (after_head v d).come ≡ v.come
+come_head v (Step.Turn m) = refl
+come_head v _ = refl
+
+come_served : (v : View) (o : Option Told) → (served_told v o).come ≡ v.come
+come_served v None = refl
+come_served v (Some t) = elim t.kind as (λ k. (ends_by (sort_of k) v (Some t.receiver)).come ≡ v.come) [ MessageKind.Kill ↦ refl | _ ↦ refl ]
+
+come_dropped : (v : View) (i : MsgId) (o : Option Pid) → (dropped_for v i o).come ≡ v.come
+come_dropped v i None = refl
+come_dropped v i (Some p) = refl
+
+come_label : (v : View) (l : Label) → (view.after_label v l).come ≡ v.come
+come_label v (Label.Served i) = come_served (handled v i) (v.told i)
+come_label v (Label.Dropped i) = come_dropped (handled v i) i (view.receiver_of (v.told i))
+come_label v _ = refl
+
+come_taken : (v : View) (b : ℕ) (o : Option MsgId) → (view.taken_id v b o).come ≡ v.come
+come_taken v b None = refl
+come_taken v b (Some i) = refl
+
+come_queued : (v : View) (i : MsgId) (o : Option Pid) → ((queued_for v i o).come ≡ v.come) × ((held_for v i o).come ≡ v.come) × ((forwarded_for v o).come ≡ v.come)
+come_queued v i None = (refl, refl, refl)
+come_queued v i (Some p) = (refl, refl, refl)
+
+come_sets : (v : View) (p : Pid) (a : About) → (view.sets_off v p a).come ≡ v.come
+come_sets v p (Target m) = refl
+come_sets v p _ = refl
+
+come_asks : (v : View) (a : About) → ((view.asks_on v a).known ≡ v.known) × ((view.asks_on v a).come ≡ v.come)
+come_asks v (Of p) = (refl, refl)
+come_asks v _ = (refl, refl)
+
+-- a message of pieces: nothing is learned, and the next goes the other way
+pub proto_knows : (v : View) (o : Option Told) → ((view.after_proto v o).known ≡ v.known) × ((view.after_proto v o).come ≡ v.come)
+proto_knows v None = (refl, refl)
+proto_knows v (Some t) = elim t.kind as (λ k. ((view.follows_by v t.about (sort_of k)).known ≡ v.known) × ((view.follows_by v t.about (sort_of k)).come ≡ v.come)) [ MessageKind.State ↦ come_asks v t.about | MessageKind.Memory ↦ come_asks v t.about | _ ↦ (refl, refl) ]
+
+pub come_same : (v : View) (l : Line) → keeps_come l ≡ true → (view_after v l).come ≡ v.come
+come_same v (Line.Head d) h = come_head v d
+come_same v (Line.Label l) h = come_label v l
+come_same v (Line.Taken a b n) h = come_taken (view.with_pair v a b (taken_pair (v.pair a b) n)) b (view.oldest (v.pair a b))
+come_same v (Line.Queued i) h = (come_queued (handled v i) i (view.receiver_of (v.told i))).0
+come_same v (Line.Held i) h = (come_queued (handled v i) i (view.receiver_of (v.told i))).1
+come_same v (Line.Forwarded i m) h = (come_queued (handled v i) i (view.receiver_of (v.told i))).2
+come_same v (Line.Proto i) h = (proto_knows (handled v i) (v.told i)).1
+come_same v (Line.Migration Stage.Accepted p) h = absurd (false≢true h)
+come_same v (Line.Migration Stage.MemoryTaken p) h = absurd (false≢true h)
+come_same v (Line.Migration Stage.Frozen p) h = come_sets v p v.topic
+come_same v _ h = refl
+
+pub come_at : (v : View) (l : Line) (p : Pid) → keeps_come l ≡ true → (view_after v l).come p ≡ v.come p
+come_at v l p h = ap (λ (f : Pid → Bool). f p) (come_same v l h)
 
 -- lists with one message more or less count the others alike
 pub off_zero : (i j : MsgId) → id_eq i j ≡ false → one_of j i ≡ 0
@@ -116,10 +177,10 @@ put_calm v a b i k q fits e plain =
     (λ t is. (let f : Some (view.first_told (v.told i) u) ≡ Some t = sym (put_at v a b i k q) ∙ is in let g : view.first_told (v.told i) u ≡ t = cc in
     subst (λ (s : Told). is_between s.kind ≡ false) g (let e_ : is_between (view.first_told (v.told i) (record { kind = k; receiver = q; about = v.topic })).kind ≡ false = grind (arith, nat_tests) in e_)))
     (λ t is. put_at v a b i k q ∙ first_kept (v.told i) u t is)
-    (record { known = λ m p. refl; told = λ j apart. put_told_off v a b i j k q apart; spots = λ j apart z. put_spots v a b i j k q fits apart z })
+    (record { known = λ m p. refl; come = λ p. refl; told = λ j apart. put_told_off v a b i j k q apart; spots = λ j apart z. put_spots v a b i j k q fits apart z })
 
 -- a packet
 pub packet_calm : (v : View) (a b k : ℕ) (l : Load) → Calm v (view_after v (Line.Packet a b k l))
 packet_calm v a b k l =
-    calm_still v (view_after v (Line.Packet a b k l)) (λ m p. refl) (λ i. refl) (λ i z.
+    calm_still v (view_after v (Line.Packet a b k l)) (λ m p. refl) (λ p. refl) (λ i. refl) (λ i z.
     (elim z as (λ z_. standing (view_after v (Line.Packet a b k l)) i z_ ≡ standing v i z_) [ Untaken c' d' ↦ ap (times i) (pair_keeps v.pair a b _ refl c' d') | _ ↦ refl ]))

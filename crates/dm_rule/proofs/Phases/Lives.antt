@@ -5,16 +5,17 @@ use Rattle.dm_rule.proofs.Names.{kind_leaves, false_from_ne_true}
 use Rattle.dm_rule.proofs.Turns.{ended_off}
 use Rattle.dm_rule.proofs.Phases.Calm.{Plain}
 use Rattle.dm_rule.proofs.Phases.Lines.{handled_spots}
-use Rattle.dm_rule.proofs.Phases.Stand.{none_only, InPhases, Learns, learns_phases}
+use Rattle.dm_rule.proofs.Phases.Stand.{none_only, InPhases, Learns, learns_phases, quiet_left, calls_in, kept_awaited}
 use Rattle.dm_rule.proofs.Phases.Pieces.{record_off}
 use Rattle.dm_rule.proofs.Phases.Rests.{rests_here}
 use Rattle.dm_rule.proofs.Trails.Steps.{set_at}
 use Rattle.dm_rule.specs.View as view
 
 -- one machine learns something of one process, and no message of the protocol stands elsewhere
-pub still_learns : (v w : View) (p : Pid) (x : Known) → w.known ≡ at_record v.known v.acting p x → w.told ≡ v.told → ((j : MsgId) (t : Told) → v.told j ≡ Some t → is_between t.kind ≡ true → (z : Spot) → standing w j z ≡ standing v j z) → Learns v w p
-still_learns v w p x known told spots = record {
+pub still_learns : (v w : View) (p : Pid) (x : Known) → w.known ≡ at_record v.known v.acting p x → w.come ≡ v.come → w.told ≡ v.told → ((j : MsgId) (t : Told) → v.told j ≡ Some t → is_between t.kind ≡ true → (z : Spot) → standing w j z ≡ standing v j z) → Learns v w p
+still_learns v w p x known come told spots = record {
   calm = λ m q off. ap (λ (f : ℕ → Pid → Known). f m q) known ∙ record_off v.known v.acting p x m q off;
+  come = λ q off. ap (λ (f : Pid → Bool). f q) come;
   fresh = λ j t e b. sym (ap (λ (f : MsgId → Option Told). f j) told) ∙ e;
   kept = λ j t e. ap (λ (f : MsgId → Option Told). f j) told ∙ e;
   back = λ j t e b z st. inl (subst (λ n. 1 ≤ n) (spots j t e b z) st);
@@ -26,14 +27,15 @@ over_of : (a m : ℕ) (b : Bool) (y : Known) → (a == m) ≡ b → knows (Rests
 over_of a m true y e h = ap (λ (c : Bool). if c then is_over Ended else is_away Ended) e
 over_of a m false y e h = ap (λ (c : Bool). if c then is_over y else is_away y) e ∙ sym (ap (λ (c : Bool). if c then is_here y else is_away y) e) ∙ h
 
-pub ends_phases : (v w : View) (p : Pid) → InPhases v → v.known v.acting p ≡ Here → w.known ≡ at_record v.known v.acting p Ended → w.told ≡ v.told → ((j : MsgId) (t : Told) → v.told j ≡ Some t → is_between t.kind ≡ true → (z : Spot) → standing w j z ≡ standing v j z) → InPhases w
-ends_phases v w p h here known told spots =
+pub ends_phases : (v w : View) (p : Pid) → InPhases v → v.known v.acting p ≡ Here → w.known ≡ at_record v.known v.acting p Ended → w.come ≡ v.come → w.told ≡ v.told → ((j : MsgId) (t : Told) → v.told j ≡ Some t → is_between t.kind ≡ true → (z : Spot) → standing w j z ≡ standing v j z) → InPhases w
+ends_phases v w p h here known come told spots =
     let a = v.acting in
     let phase : h.of p ≡ Rests a = rests_here (h.of p) a (sym (ap (knows (h.of p) a) here) ∙ (h.each p).known a) in
     let rested : (m : ℕ) → knows (Rests a) m (v.known m p) ≡ true = λ m. subst (λ (x : Phase). knows x m (v.known m p) ≡ true) phase ((h.each p).known m) in
-    (learns_phases v w p (Over a) h (none_only p) (still_learns v w p Ended known told spots) refl refl
-    (λ m. ap (λ (f : ℕ → Pid → Known). knows (Over a) m (f m p)) known ∙ ap (knows (Over a) m) (set_at v p Ended m) ∙ over_of a m (a == m) (v.known m p) refl (rested m))
-    (λ j x z. absurd (let f : None ≡ Some j = sym (ap token_in phase) ∙ x in cc))).phases
+    (learns_phases v w p (Over a) h (none_only p) (still_learns v w p Ended known come told spots) refl refl
+    (λ m. ap (λ (f : ℕ → Pid → Known). knows (Over a) m (f m p)) known ∙ ap (knows (Over a) m) (set_at v p Ended m) ∙ over_of a m (a == m) (v.known m p) refl (rested m)) tt
+    (quiet_left v w p (h.of p) (Over a) refl (ap calls_in phase) (λ m s is. kept_awaited (a == m) Ended (v.known m p) s (λ s e. cc) (sym (ap (λ (f : ℕ → Pid → Known). f m p) known ∙ set_at v p Ended m) ∙ is))
+    (λ j x z. absurd (let f : None ≡ Some j = sym (ap token_in phase) ∙ x in cc)))).phases
 
 moves_if : (k : MessageKind) (s d : ℕ) → (if s == s then kind_leaves k d Unknown else if d == s then kind_comes k s Unknown else is_away Unknown) ≡ false
 moves_if k s d = ap (λ (c : Bool). if c then kind_leaves k d Unknown else if d == s then kind_comes k s Unknown else is_away Unknown) (let e : (s == s) ≡ true = grind (arith, nat_tests) in e)
@@ -50,13 +52,15 @@ nowhere_known (Over at) h =
 nowhere_known (Moves k s d o) h = absurd (false≢true (sym (moves_if k s d) ∙ h s))
 
 -- one is made on the acting machine
-pub made_phases : (v w : View) (p : Pid) → InPhases v → ((m : ℕ) → v.known m p ≡ Unknown) → w.known ≡ at_record v.known v.acting p Here → w.told ≡ v.told → ((j : MsgId) (t : Told) → v.told j ≡ Some t → is_between t.kind ≡ true → (z : Spot) → standing w j z ≡ standing v j z) → InPhases w
-made_phases v w p h unknown known told spots =
+pub made_phases : (v w : View) (p : Pid) → InPhases v → ((m : ℕ) → v.known m p ≡ Unknown) → w.known ≡ at_record v.known v.acting p Here → w.come ≡ v.come → w.told ≡ v.told → ((j : MsgId) (t : Told) → v.told j ≡ Some t → is_between t.kind ≡ true → (z : Spot) → standing w j z ≡ standing v j z) → InPhases w
+made_phases v w p h unknown known come told spots =
     let made_of : (a m : ℕ) (b : Bool) → (a == m) ≡ b → knows (Rests a) m (if b then Here else Unknown) ≡ true = λ a m b h1. search arith in
     let a = v.acting in
-    (learns_phases v w p (Rests a) h (none_only p) (still_learns v w p Here known told spots) refl refl
-    (λ m. ap (λ (f : ℕ → Pid → Known). knows (Rests a) m (f m p)) known ∙ ap (knows (Rests a) m) (set_at v p Here m ∙ ap (λ (y : Known). if a == m then Here else y) (unknown m)) ∙ made_of a m (a == m) refl)
-    (λ j x z. absurd (let f : None ≡ Some j = sym (ap token_in (nowhere_known (h.of p) (λ m. sym (ap (knows (h.of p) m) (unknown m)) ∙ (h.each p).known m))) ∙ x in cc))).phases
+    let nowhere : h.of p ≡ Nowhere = nowhere_known (h.of p) (λ m. sym (ap (knows (h.of p) m) (unknown m)) ∙ (h.each p).known m) in
+    (learns_phases v w p (Rests a) h (none_only p) (still_learns v w p Here known come told spots) refl refl
+    (λ m. ap (λ (f : ℕ → Pid → Known). knows (Rests a) m (f m p)) known ∙ ap (knows (Rests a) m) (set_at v p Here m ∙ ap (λ (y : Known). if a == m then Here else y) (unknown m)) ∙ made_of a m (a == m) refl) tt
+    (quiet_left v w p (h.of p) (Rests a) refl (ap calls_in nowhere) (λ m s is. kept_awaited (a == m) Here (v.known m p) s (λ s e. cc) (sym (ap (λ (f : ℕ → Pid → Known). f m p) known ∙ set_at v p Here m) ∙ is))
+    (λ j x z. absurd (let f : None ≡ Some j = sym (ap token_in nowhere) ∙ x in cc)))).phases
 
 -- by a message at the front of the inbox that is none of the protocol
 pub front_spots : (v : View) (i j : MsgId) (t : Told) → Plain v i → v.told j ≡ Some t → is_between t.kind ≡ true → (z : Spot) → standing (handled v i) j z ≡ standing v j z
@@ -66,4 +70,4 @@ front_spots v i j t plain told b z = handled_spots v i j (false_from_ne_true (id
 pub killed_phases : (v : View) (i : MsgId) (t : Told) → InPhases v → Plain v i → v.told i ≡ Some t → t.kind ≡ MessageKind.Kill → v.known v.acting t.receiver ≡ Here → InPhases (view_after v (Line.Label (Label.Served i)))
 killed_phases v i t h plain told k here =
     subst InPhases (sym (let e_ : served_told (handled v i) (v.told i) ≡ view.ended (handled v i) t.receiver = grind (arith, nat_tests) in e_))
-    (ends_phases v (view.ended (handled v i) t.receiver) t.receiver h here refl refl (λ j u e b z. ap (times j) (ended_off (handled v i) t.receiver z) ∙ front_spots v i j u plain e b z))
+    (ends_phases v (view.ended (handled v i) t.receiver) t.receiver h here refl refl refl (λ j u e b z. ap (times j) (ended_off (handled v i) t.receiver z) ∙ front_spots v i j u plain e b z))

@@ -6,7 +6,7 @@ use Rattle.dm_rule.proofs.Standing.{times-append}
 use Rattle.dm_rule.proofs.Once.{one_of}
 use Rattle.dm_rule.proofs.Lines.{at_place, past_place, pair_keeps, eq_self, taken_pair}
 use Rattle.dm_rule.proofs.States.{says_next, transmits_next, said}
-use Rattle.dm_rule.proofs.Groups.{IsNetLine, IsNet, early_off, acked_off, turn_off, tick_off, deliver_off, migrate_off}
+use Rattle.dm_rule.proofs.Groups.{IsNetLine, IsNet, early_off, acked_off, turn_off, tick_off, deliver_off, migrate_off, call_off}
 use Rattle.dm_rule.proofs.Phases.Calm.{Came, Calm, calm_about, calm_same, calm_trans, calm_still}
 use Rattle.dm_rule.proofs.Phases.Lines.{packet_calm}
 use Rattle.dm_rule.proofs.Phases.Quiet.{AllQuiet, moves_none}
@@ -14,10 +14,11 @@ use Rattle.dm_rule.proofs.Requests.{by_migrates}
 use Rattle.dm_rule.proofs.Bags.{cases_zero}
 
 pub head_calm : (v : View) (s : Step) → Calm v (after_head v s)
-head_calm v (Step.Turn m) = calm_still v (after_head v (Step.Turn m)) (λ n q. refl) (λ i. refl) (λ i z. ap (times i) (turn_off v m z))
-head_calm v (Step.Tick m) = calm_still v (after_head v (Step.Tick m)) (λ n q. refl) (λ i. refl) (λ i z. ap (times i) (tick_off v m z))
-head_calm v (Step.Deliver a b k) = calm_still v (after_head v (Step.Deliver a b k)) (λ n q. refl) (λ i. refl) (λ i z. ap (times i) (deliver_off v a b k z))
-head_calm v (Step.Migrate p m) = calm_still v (after_head v (Step.Migrate p m)) (λ n q. refl) (λ i. refl) (λ i z. ap (times i) (migrate_off v p m z))
+head_calm v (Step.Turn m) = calm_still v (after_head v (Step.Turn m)) (λ n q. refl) (λ q. refl) (λ i. refl) (λ i z. ap (times i) (turn_off v m z))
+head_calm v (Step.Tick m) = calm_still v (after_head v (Step.Tick m)) (λ n q. refl) (λ q. refl) (λ i. refl) (λ i z. ap (times i) (tick_off v m z))
+head_calm v (Step.Deliver a b k) = calm_still v (after_head v (Step.Deliver a b k)) (λ n q. refl) (λ q. refl) (λ i. refl) (λ i z. ap (times i) (deliver_off v a b k z))
+head_calm v (Step.Migrate p m) = calm_still v (after_head v (Step.Migrate p m)) (λ n q. refl) (λ q. refl) (λ i. refl) (λ i z. ap (times i) (migrate_off v p m z))
+head_calm v (Step.CallOff p m) = calm_still v (after_head v (Step.CallOff p m)) (λ n q. refl) (λ q. refl) (λ i. refl) (λ i z. ap (times i) (call_off v p m z))
 
 abbrev pub taken_view : View → ℕ → ℕ → ℕ → View
 taken_view v a b n = with_pair v a b (taken_pair (v.pair a b) n)
@@ -77,12 +78,13 @@ taken_on v a b n i j (Untaken c d) front st = elim (cases_Bool ((a == c) && (b =
 ]
 
 taken_by : (v : View) (a b n : ℕ) (o : Option MsgId) → slice_get (v.pair a b).ids (v.pair a b).taken ≡ o → Calm v (taken_id (taken_view v a b n) b o)
-taken_by v a b n None is = calm_still v (taken_view v a b n) (λ m p. refl) (λ i. refl) (λ i z. ap (times i) (elim z as (λ z_. ids_at (taken_view v a b n) z_ ≡ ids_at v z_)
+taken_by v a b n None is = calm_still v (taken_view v a b n) (λ m p. refl) (λ p. refl) (λ i. refl) (λ i z. ap (times i) (elim z as (λ z_. ids_at (taken_view v a b n) z_ ≡ ids_at v z_)
     [ Untaken c d ↦ pair_keeps v.pair a b (taken_pair (v.pair a b) n) (none_taken (v.pair a b) n is) c d | _ ↦ refl ]))
 taken_by v a b n (Some i) is =
     let front = taken_front (v.pair a b) n i is in
     record {
       known = λ m p. refl;
+      come = λ p. refl;
       fresh = λ j t e c. e;
       kept = λ j t e. e;
       back = λ j t e c z st.
@@ -96,8 +98,8 @@ taken_calm v a b n = taken_by v a b n (slice_get (v.pair a b).ids (v.pair a b).t
 net_calm : (v : View) (l : Line) → IsNetLine l → Calm v (view_after v l)
 net_calm v (Line.Taken a b n) h = taken_calm v a b n
 net_calm v (Line.Old a b n) h = calm_same v
-net_calm v (Line.Early a b n) h = moves_none v (Line.Early a b n) refl (λ m q. refl) (λ z. early_off v a b n z)
-net_calm v (Line.Acked a b n) h = moves_none v (Line.Acked a b n) refl (λ m q. refl) (λ z. acked_off v a b n z)
+net_calm v (Line.Early a b n) h = moves_none v (Line.Early a b n) refl refl (λ m q. refl) (λ z. early_off v a b n z)
+net_calm v (Line.Acked a b n) h = moves_none v (Line.Acked a b n) refl refl (λ m q. refl) (λ z. acked_off v a b n z)
 net_calm v Line.Nothing h = calm_same v
 net_calm v (Line.Resent m n) h = calm_same v
 net_calm v _ h = absurd h

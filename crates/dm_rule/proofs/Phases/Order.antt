@@ -1,9 +1,9 @@
 -- What kernels tell each other of migrations stays in the order in which it was put, group by group.
 use Rattle.dm_rule.proofs.Names.{◌≡◌, ℕ, ◌+◌, ◌≤◌, ◌==◌, Bool, true, false, List, [], ◌∷◌, ◌++◌, refl, ap, ◌∙◌, sym, subst, inl, inr, arith, ⊤, if◌then◌else◌, length, slice_get, cases_Bool, false≢true, Option, None, Some, Pid, pid_of}
-use Rattle.dm_rule.proofs.Names.{MsgId, MessageKind, id_eq, id_eq-is, plain_kind, PlainMessage, Load, Stage, Step, Boot, Line, View, Told, own_id, view_after, after_put, after_head, Addresses, Sender}
-use Rattle.dm_rule.proofs.Names.{Receiver, is_told_back, at_machine, Point, moved, seen, after, Part, Says, Routes, Again, Owns, Transmits, Spelled, spelled, lines_of, puts, goes_out, packet_line}
-use Rattle.dm_rule.proofs.Names.{forwards_on, sends_on, to_kernel, migrates, is_between, Inbox, Untaken, Queue, Held, Spot, standing, times, untaken, first_view, manager, pid_eq, option_map_or, and_parts, ne_eqb}
-use Rattle.dm_rule.proofs.Names.{nat_tests, ◌&&◌, id_eq-same, group_of, bind-is, append_assoc, KernelsInOrder, is_between_from, ordered}
+use Rattle.dm_rule.proofs.Names.{MsgId, MessageKind, id_eq, id_eq-is, plain_kind, PlainMessage, Load, Stage, Step, Boot, Line, View, Told, own_id, view_after, after_put, after_head, Addresses, Sender, Receiver, is_told_back, at_machine}
+use Rattle.dm_rule.proofs.Names.{Point, moved, seen, after, Part, Says, Routes, Again, Owns, Transmits, Spelled, spelled, lines_of, puts, goes_out, packet_line, forwards_on, sends_on, to_kernel, migrates, is_between, Inbox, Untaken, Queue}
+use Rattle.dm_rule.proofs.Names.{Held, Spot, standing, times, untaken, first_view, manager, pid_eq, option_map_or, and_parts, ne_eqb, nat_tests, ◌&&◌, id_eq-same, group_of, bind-is, append_assoc, KernelsInOrder, is_between_from, ordered}
+use Rattle.dm_rule.proofs.Names.{calls_off}
 use Rattle.dm_rule.specs.View as view
 use Rattle.dm_rule.specs.Rule as rule
 use Rattle.dm_rule.proofs.Hushed.{is_put, hushed}
@@ -16,7 +16,7 @@ use Rattle.dm_rule.proofs.Moves.States.{front_one, not_first}
 use Rattle.dm_rule.proofs.Moves.Sent.{fits_put, fits_packet, least_of}
 use Rattle.dm_rule.proofs.Telling.{Sane, Sayable, sane_line, part_sane, plain_not}
 use Rattle.dm_rule.proofs.Groups.{group_is, IsNetLine, IsNet, arrives_net, resends_net, early_off, acked_off}
-use Rattle.dm_rule.proofs.Requests.{by_migrates}
+use Rattle.dm_rule.proofs.Requests.{by_migrates, by_calls_off}
 use Rattle.dm_rule.proofs.Hearing.{by_hears, Heard}
 use Rattle.dm_rule.proofs.Serving.{Loose, loose_round, loose_handles}
 use Rattle.dm_rule.proofs.Ordered.{narrower, shorter}
@@ -201,7 +201,8 @@ heard_orderly : (o : Point) (m : ℕ) (i : MsgId) (t : Told) → ((t.receiver.nu
 heard_orderly o m i t tame listed =
     let v = o.view in
     record {
-      told = λ p x about alive. record {
+      stale = λ p about late. (tt, tt);
+      told = λ p x about alive fresh. record {
         accepted = λ ask. (tt, (tt, tt));
         lacks = λ slots blocks. (tt, (tt, tt));
         stays = λ kind none. (tt, tt);
@@ -232,12 +233,15 @@ standing_told pt z i h there =
     let (q, way) = under_way (letters h.own pt.kernel.bag i) (standing pt.view i) z there (h.stands.kept i) in
     told_some (pt.view.told i) q (h.stands.told i q way)
 
+held_tame : (pt : Point) (m : ℕ) (p : Pid) (i : MsgId) → State None pt → InPhases pt.view → 1 ≤ times i (pt.view.held m p) → Tame pt.view i
+held_tame pt m p i state h there = let (t, told) = standing_told pt (Held m p) i state there in record { what = t; told = told; plain = held_plain pt.view m p i t h told there }
+
 listed_tame : (pt : Point) (m : ℕ) (p : Pid) (i : MsgId) → State None pt → InPhases pt.view → 1 ≤ times i (pt.view.queue m p ++ pt.view.held m p) → Tame pt.view i
 listed_tame pt m p i state h least =
     let sum = times-append i (pt.view.queue m p) (pt.view.held m p) in
     elim (least_of (times i (pt.view.queue m p)) (times i (pt.view.held m p)) (omega (arith, least, sum))) [
       | inl there ↦ let (t, told) = standing_told pt (Queue m p) i state there in record { what = t; told = told; plain = queued_plain pt.view m p i t h told there }
-      | inr there ↦ let (t, told) = standing_told pt (Held m p) i state there in record { what = t; told = told; plain = held_plain pt.view m p i t h told there }
+      | inr there ↦ held_tame pt m p i state h there
     ]
 
 -- where a group begins
@@ -279,6 +283,12 @@ ranked_group b pt (Step.Migrate p m) w e phases state sane fits h =
     let c : Begins pt = record { phases = phases; state = state; sane = sane; fits = fits } in
     let ok : AllOrderly pt.view (migrates pt p) = by_migrates (AllOrderly pt.view) pt p (tt, tt) (tt, tt) (λ n off is. (tt, tt)) in
     subst (λ (q : Point). Ranked q.view) g.point (turning pt (Step.Migrate p m) g.parts g.rest c (record { within = fits.within; home = fits.home }) (λ i t told. told) (subst (AllOrderly pt.view) (let f : migrates pt p ≡ g.parts = let k = g.is in cc in f) ok) h g.said)
+ranked_group b pt (Step.CallOff p m) w e phases state sane fits h =
+    let g = group_is b pt (Step.CallOff p m) w e in
+    let c : Begins pt = record { phases = phases; state = state; sane = sane; fits = fits } in
+    let ok : AllOrderly pt.view (calls_off pt m p (pt.view.known m p)) =
+    by_calls_off (AllOrderly pt.view) pt m p (tt, tt) (λ from is come. (tt, sends_orderly pt.view from (pt.view.held m p) (to_kernel MessageKind.CallOff from ∷ []) (λ i least. held_tame pt m p i state phases least) (tt, tt))) in
+    subst (λ (q : Point). Ranked q.view) g.point (turning pt (Step.CallOff p m) g.parts g.rest c (record { within = fits.within; home = fits.home }) (λ i t told. told) (subst (AllOrderly pt.view) (let f : calls_off pt m p (pt.view.known m p) ≡ g.parts = let k = g.is in cc in f) ok) h g.said)
 ranked_group b pt (Step.Tick m) w e phases state sane fits h =
     let g = group_is b pt (Step.Tick m) w e in
     let qs = Says (Line.Resent m (rule.outstanding_count pt.view m pt.kernel.machines)) ∷ rule.resends pt.view m pt.kernel.machines in

@@ -14,7 +14,7 @@ use Rattle.dm_rule.proofs.Turns.{served_keeps, serving_off}
 use Rattle.dm_rule.proofs.Moves.Sent.{fits_put, fits_packet}
 use Rattle.dm_rule.proofs.Telling.{Sane, plain_not, Sayable, part_sane}
 use Rattle.dm_rule.proofs.Phases.Calm.{Calm, Plain, calm_about, calm_same, calm_trans, calm_others, calm_still}
-use Rattle.dm_rule.proofs.Phases.Lines.{handled_spots, queued_spots, held_spots, dropped_spots, forwarded_spots, queued_known, held_known, dropped_known, forwarded_known, record_times, without_times, put_calm, packet_calm}
+use Rattle.dm_rule.proofs.Phases.Lines.{keeps_come, come_at, handled_spots, queued_spots, held_spots, dropped_spots, forwarded_spots, queued_known, held_known, dropped_known, forwarded_known, record_times, without_times, put_calm, packet_calm}
 pub use Rattle.dm_rule.proofs.Serving.{is_kill}
 
 -- a message that was told of, and is none of the protocol
@@ -47,6 +47,7 @@ QuietLine v (Line.Updated i n) = Tame v i
 QuietLine v (Line.Here i) = Tame v i
 QuietLine v (Line.NoMove i) = Tame v i
 QuietLine v (Line.NoChild p) = ⊤
+QuietLine v (Line.NoCall p) = ⊤
 QuietLine v (Line.Pinned p) = ⊤
 QuietLine v (Line.Migration Stage.Asked p) = ⊤
 QuietLine v (Line.Migration Stage.Frozen p) = ⊥
@@ -105,15 +106,15 @@ tame_plain : (v : View) (i : MsgId) → Tame v i → Plain v i
 tame_plain v i h t told = (let f : Some h.what ≡ Some t = sym h.told ∙ told in let g : h.what ≡ t = cc in subst (λ (s : Told). is_between s.kind ≡ false) g h.plain)
 
 -- a line that tells nothing and moves one message that is none of the protocol
-hushed_calm : (v : View) (l : Line) (i : MsgId) → is_put l ≡ false → Plain v i → ((m : ℕ) (p : Pid) → (view_after v l).known m p ≡ v.known m p)
+hushed_calm : (v : View) (l : Line) (i : MsgId) → is_put l ≡ false → keeps_come l ≡ true → Plain v i → ((m : ℕ) (p : Pid) → (view_after v l).known m p ≡ v.known m p)
     → ((j : MsgId) → id_eq i j ≡ false → (z : Spot) → standing (view_after v l) j z ≡ standing v j z) → Calm v (view_after v l)
-hushed_calm v l i quiet plain known spots =
+hushed_calm v l i quiet come plain known spots =
     let same : (j : MsgId) → (view_after v l).told j ≡ v.told j = λ j. ap (λ (f : MsgId → Option Told). f j) (hushed v l quiet).told in
-    calm_others v (view_after v l) i plain (λ t told. plain t (sym (same i) ∙ told)) (λ t told. same i ∙ told) (record { known = known; told = λ j apart. same j; spots = spots })
+    calm_others v (view_after v l) i plain (λ t told. plain t (sym (same i) ∙ told)) (λ t told. same i ∙ told) (record { known = known; come = λ p. come_at v l p come; told = λ j apart. same j; spots = spots })
 
 -- a line that moves none
-pub moves_none : (v : View) (l : Line) → is_put l ≡ false → ((m : ℕ) (p : Pid) → (view_after v l).known m p ≡ v.known m p) → ((z : Spot) → ids_at (view_after v l) z ≡ ids_at v z) → Calm v (view_after v l)
-moves_none v l quiet known off = calm_still v (view_after v l) known (λ j. ap (λ (f : MsgId → Option Told). f j) (hushed v l quiet).told) (λ i z. ap (times i) (off z))
+pub moves_none : (v : View) (l : Line) → is_put l ≡ false → keeps_come l ≡ true → ((m : ℕ) (p : Pid) → (view_after v l).known m p ≡ v.known m p) → ((z : Spot) → ids_at (view_after v l) z ≡ ids_at v z) → Calm v (view_after v l)
+moves_none v l quiet come known off = calm_still v (view_after v l) known (λ p. come_at v l p come) (λ j. ap (λ (f : MsgId → Option Told). f j) (hushed v l quiet).told) (λ i z. ap (times i) (off z))
 
 pub received_spots : (v : View) (p : Pid) (i j : MsgId) → id_eq i j ≡ false → (z : Spot) → standing (record (view.serving v p) { queue = at_record v.queue v.acting p (without_id i (v.queue v.acting p)) }) j z ≡ standing v j z
 received_spots v p i j e (Queue m q) = record_times v.queue v.acting p (without_id i (v.queue v.acting p)) j (without_times i j (v.queue v.acting p) e) m q
@@ -128,28 +129,28 @@ pub gone_plain : (pt : Point) (s : OneKernel) (l : Label) (i : MsgId) → Sane p
 gone_plain pt s l i h is goes = let g = gone_in pt.kernel s l i is goes in plain_in_bag pt i g.message h g.there
 
 label_calm : (pt : Point) (s : OneKernel) (l : Label) → Sane pt → QuietLabel pt.view l → kernel.step pt.kernel l ≡ Some s → Calm pt.view (view_after pt.view (Line.Label l))
-label_calm pt s (Label.Ran p k) h quiet is = moves_none pt.view (Line.Label (Label.Ran p k)) refl (λ m q. refl) (λ z. serving_off pt.view p z)
+label_calm pt s (Label.Ran p k) h quiet is = moves_none pt.view (Line.Label (Label.Ran p k)) refl refl (λ m q. refl) (λ z. serving_off pt.view p z)
 label_calm pt s (Label.End p y) h quiet is = absurd quiet
 label_calm pt s (Label.Receive p id) h quiet is =
-    hushed_calm pt.view (Line.Label (Label.Receive p id)) id refl (gone_plain pt s (Label.Receive p id) id h is refl) (λ m q. refl) (λ j e z. received_spots pt.view p id j e z)
-label_calm pt s (Label.Refuse p id c) h quiet is = moves_none pt.view (Line.Label (Label.Refuse p id c)) refl (λ m q. refl) (λ z. serving_off pt.view p z)
+    hushed_calm pt.view (Line.Label (Label.Receive p id)) id refl refl (gone_plain pt s (Label.Receive p id) id h is refl) (λ m q. refl) (λ j e z. received_spots pt.view p id j e z)
+label_calm pt s (Label.Refuse p id c) h quiet is = moves_none pt.view (Line.Label (Label.Refuse p id c)) refl refl (λ m q. refl) (λ z. serving_off pt.view p z)
 label_calm pt s (Label.Dropped id) h quiet is =
     let o = receiver_of (pt.view.told id) in
-    hushed_calm pt.view (Line.Label (Label.Dropped id)) id refl (gone_plain pt s (Label.Dropped id) id h is refl) (λ m q. dropped_known (handled pt.view id) id o m q)
+    hushed_calm pt.view (Line.Label (Label.Dropped id)) id refl refl (gone_plain pt s (Label.Dropped id) id h is refl) (λ m q. dropped_known (handled pt.view id) id o m q)
     (λ j e z. dropped_spots (handled pt.view id) id j o e z ∙ handled_spots pt.view id j e z)
 label_calm pt s (Label.Served id) h quiet is =
-    hushed_calm pt.view (Line.Label (Label.Served id)) id refl (gone_plain pt s (Label.Served id) id h is refl)
+    hushed_calm pt.view (Line.Label (Label.Served id)) id refl refl (gone_plain pt s (Label.Served id) id h is refl)
     (λ m q. served_known (handled pt.view id) (pt.view.told id) quiet.tame.what quiet.tame.told quiet.spares m q)
     (λ j e z. ap (times j) ((served_keeps (handled pt.view id) (pt.view.told id)).0 z) ∙ handled_spots pt.view id j e z)
 label_calm pt s (Label.Gone id) h quiet is =
-    hushed_calm pt.view (Line.Label (Label.Gone id)) id refl (gone_plain pt s (Label.Gone id) id h is refl) (λ m q. refl) (λ j e z. handled_spots pt.view id j e z)
+    hushed_calm pt.view (Line.Label (Label.Gone id)) id refl refl (gone_plain pt s (Label.Gone id) id h is refl) (λ m q. refl) (λ j e z. handled_spots pt.view id j e z)
 label_calm pt s (Label.Took id) h quiet is =
-    hushed_calm pt.view (Line.Label (Label.Took id)) id refl (gone_plain pt s (Label.Took id) id h is refl) (λ m q. refl) (λ j e z. handled_spots pt.view id j e z)
+    hushed_calm pt.view (Line.Label (Label.Took id)) id refl refl (gone_plain pt s (Label.Took id) id h is refl) (λ m q. refl) (λ j e z. handled_spots pt.view id j e z)
 label_calm pt s (Label.Asked id) h quiet is =
-    hushed_calm pt.view (Line.Label (Label.Asked id)) id refl (gone_plain pt s (Label.Asked id) id h is refl) (λ m q. refl) (λ j e z. handled_spots pt.view id j e z)
+    hushed_calm pt.view (Line.Label (Label.Asked id)) id refl refl (gone_plain pt s (Label.Asked id) id h is refl) (λ m q. refl) (λ j e z. handled_spots pt.view id j e z)
 label_calm pt s (Label.Created id p) h quiet is = absurd quiet
 label_calm pt s (Label.NoSpace id a b) h quiet is =
-    hushed_calm pt.view (Line.Label (Label.NoSpace id a b)) id refl (gone_plain pt s (Label.NoSpace id a b) id h is refl) (λ m q. refl) (λ j e z. handled_spots pt.view id j e z)
+    hushed_calm pt.view (Line.Label (Label.NoSpace id a b)) id refl refl (gone_plain pt s (Label.NoSpace id a b) id h is refl) (λ m q. refl) (λ j e z. handled_spots pt.view id j e z)
 label_calm pt s _ h quiet is = calm_same pt.view
 
 pub line_calm : (pt : Point) (s : OneKernel) (l : Line) → Sane pt → QuietLine pt.view l → kernel_after pt.kernel (label_of l) ≡ Some s → Calm pt.view (view_after pt.view l)
@@ -158,13 +159,14 @@ line_calm pt s (Line.Label l) h quiet is = label_calm pt s l h quiet is
 line_calm pt s (Line.Old a b n) h quiet is = calm_same pt.view
 line_calm pt s Line.Nothing h quiet is = calm_same pt.view
 line_calm pt s (Line.Resent m n) h quiet is = calm_same pt.view
-line_calm pt s (Line.Queued i) h quiet is = (let o = receiver_of (pt.view.told i) in hushed_calm pt.view (Line.Queued i) i refl (tame_plain pt.view i quiet) (λ m q. queued_known (handled pt.view i) i o m q) (λ j e z. queued_spots (handled pt.view i) i j o e z ∙ handled_spots pt.view i j e z))
-line_calm pt s (Line.Held i) h quiet is = (let o = receiver_of (pt.view.told i) in hushed_calm pt.view (Line.Held i) i refl (tame_plain pt.view i quiet) (λ m q. held_known (handled pt.view i) i o m q) (λ j e z. held_spots (handled pt.view i) i j o e z ∙ handled_spots pt.view i j e z))
-line_calm pt s (Line.Forwarded i m) h quiet is = (let o = receiver_of (pt.view.told i) in hushed_calm pt.view (Line.Forwarded i m) i refl (tame_plain pt.view i quiet) (λ n q. forwarded_known (handled pt.view i) o n q) (λ j e z. forwarded_spots (handled pt.view i) j o z ∙ handled_spots pt.view i j e z))
-line_calm pt s (Line.Updated i n) h quiet is = hushed_calm pt.view (Line.Updated i n) i refl (tame_plain pt.view i quiet) (λ m q. refl) (λ j e z. handled_spots pt.view i j e z)
-line_calm pt s (Line.Here i) h quiet is = hushed_calm pt.view (Line.Here i) i refl (tame_plain pt.view i quiet) (λ m q. refl) (λ j e z. handled_spots pt.view i j e z)
-line_calm pt s (Line.NoMove i) h quiet is = hushed_calm pt.view (Line.NoMove i) i refl (tame_plain pt.view i quiet) (λ m q. refl) (λ j e z. handled_spots pt.view i j e z)
+line_calm pt s (Line.Queued i) h quiet is = (let o = receiver_of (pt.view.told i) in hushed_calm pt.view (Line.Queued i) i refl refl (tame_plain pt.view i quiet) (λ m q. queued_known (handled pt.view i) i o m q) (λ j e z. queued_spots (handled pt.view i) i j o e z ∙ handled_spots pt.view i j e z))
+line_calm pt s (Line.Held i) h quiet is = (let o = receiver_of (pt.view.told i) in hushed_calm pt.view (Line.Held i) i refl refl (tame_plain pt.view i quiet) (λ m q. held_known (handled pt.view i) i o m q) (λ j e z. held_spots (handled pt.view i) i j o e z ∙ handled_spots pt.view i j e z))
+line_calm pt s (Line.Forwarded i m) h quiet is = (let o = receiver_of (pt.view.told i) in hushed_calm pt.view (Line.Forwarded i m) i refl refl (tame_plain pt.view i quiet) (λ n q. forwarded_known (handled pt.view i) o n q) (λ j e z. forwarded_spots (handled pt.view i) j o z ∙ handled_spots pt.view i j e z))
+line_calm pt s (Line.Updated i n) h quiet is = hushed_calm pt.view (Line.Updated i n) i refl refl (tame_plain pt.view i quiet) (λ m q. refl) (λ j e z. handled_spots pt.view i j e z)
+line_calm pt s (Line.Here i) h quiet is = hushed_calm pt.view (Line.Here i) i refl refl (tame_plain pt.view i quiet) (λ m q. refl) (λ j e z. handled_spots pt.view i j e z)
+line_calm pt s (Line.NoMove i) h quiet is = hushed_calm pt.view (Line.NoMove i) i refl refl (tame_plain pt.view i quiet) (λ m q. refl) (λ j e z. handled_spots pt.view i j e z)
 line_calm pt s (Line.NoChild p) h quiet is = calm_same pt.view
+line_calm pt s (Line.NoCall p) h quiet is = calm_same pt.view
 line_calm pt s (Line.Pinned p) h quiet is = calm_same pt.view
 line_calm pt s (Line.Migration Stage.Asked p) h quiet is = calm_same pt.view
 line_calm pt s _ h quiet is = absurd quiet

@@ -1,9 +1,8 @@
 -- What kernels tell each other of migrations stays in order, line by line.
 use Rattle.dm_rule.proofs.Names.{◌≡◌, ◌⊎◌, ℕ, ◌+◌, ◌<◌, ◌≤◌, ◌==◌, ◌&&◌, Bool, true, false, List, [], ◌∷◌, ◌++◌, refl, ap, ◌∙◌, sym, subst, inl, inr, arith, ⊤, if◌then◌else◌, length, drop, slice_get, drop-append-le, drop-length}
-use Rattle.dm_rule.proofs.Names.{length-append, cases_Bool, false≢true, nat_tests, Option, None, Some, Pid, pid_of, pid_eq, pid_eq-same, MsgId, MessageKind, id_eq, id_eq-is, id_of, Load, Label, Stage, Step, Line, at_machine}
-use Rattle.dm_rule.proofs.Names.{at_pair, at_record, without_front, View, Pair, Told, About, NothingElse, Target, own_id, view_after, after_put, after_head, after_label, handled, handled_first, queued_for, held_for, dropped_for}
-use Rattle.dm_rule.proofs.Names.{forwarded_for, receiver_of, served_told, ends_by, sort_of, released, is_between, untaken, times, both_true, id_eq-same, routed_on, option_map_or, eqb-true, false_from_ne_true, and_parts, append_assoc}
-use Rattle.dm_rule.proofs.Names.{and_right, ordered}
+use Rattle.dm_rule.proofs.Names.{length-append, cases_Bool, false≢true, nat_tests, Option, None, Some, Pid, pid_of, pid_eq, pid_eq-same, MsgId, MessageKind, id_eq, id_eq-is, id_of, Load, Label, Stage, Step, Line, at_machine, at_pair}
+use Rattle.dm_rule.proofs.Names.{at_record, without_front, View, Pair, Told, About, NothingElse, Target, own_id, view_after, after_put, after_head, after_label, handled, handled_first, queued_for, held_for, dropped_for, forwarded_for}
+use Rattle.dm_rule.proofs.Names.{receiver_of, served_told, ends_by, sort_of, released, is_between, untaken, times, both_true, id_eq-same, routed_on, option_map_or, eqb-true, false_from_ne_true, and_parts, append_assoc, and_right, ordered}
 use Rattle.dm_rule.specs.View as view
 use Rattle.dm_rule.proofs.Hushed.{is_put, hushed}
 use Rattle.dm_rule.proofs.Standing.{times-append}
@@ -193,6 +192,15 @@ line_lists v l h =
       | Line.Nothing ↦ λ h_. lists_same v v refl refl
       | Line.Resent m n ↦ λ h_. lists_same v v refl refl
       | Line.NoChild p ↦ λ h_. lists_same v v refl refl
+      | Line.NoCall p ↦ λ h_. lists_same v v refl refl
+      | Line.Stale i ↦ λ h_. lists_handled v (handled v i) i refl refl
+      | Line.Called p n ↦ λ h_. record {
+        inbox = λ c g from rest e. e;
+        held = λ m q i there. elim (cases_Bool ((v.acting == m) && pid_eq p q)) [
+          | inl same ↦ absurd (let none : times i (at_record v.held v.acting p [] m q) ≡ 0 = ap (λ (c : Bool). times i (if c then [] else v.held m q)) same in omega (arith, there, none))
+          | inr off ↦ subst (λ k. 1 ≤ k) (ap (λ (c : Bool). times i (if c then [] else v.held m q)) off) there
+        ];
+      }
       | Line.Pinned p ↦ λ h_. lists_same v v refl refl
       | _ ↦ λ h_. absurd h_
     ]) h
@@ -447,4 +455,5 @@ pub ranked_head : (v : View) (d : Step) → Ranked v → Ranked (after_head v d)
 ranked_head v (Step.Turn m) h = record { order = h.order; sent = h.sent; held = h.held }
 ranked_head v (Step.Tick m) h = record { order = h.order; sent = h.sent; held = h.held }
 ranked_head v (Step.Migrate p m) h = record { order = h.order; sent = h.sent; held = h.held }
+ranked_head v (Step.CallOff p m) h = record { order = h.order; sent = h.sent; held = h.held }
 ranked_head v (Step.Deliver a b k) h = thin_off v (after_head v (Step.Deliver a b k)) refl refl refl refl (λ x c. pair_keeps v.pair a b (view.marked (v.pair a b) k) refl x c) h

@@ -47,7 +47,7 @@ drops_quiet v (i ∷ is) = (tt, drops_quiet v is)
 ends_row : (pt : Point) (p : Pid) (y : Why) (queue : List MsgId) (w : Spelled) → Fit pt → pt.view.known pt.view.acting p ≡ Here → spelled pt (rule.says (Label.End p y) ∷ rule.drop_parts queue) ≡ Some w → InPhases w.point.view
 ends_row pt p y queue w h here e =
     -- an end by a call or a fault
-    let end_line_phases : InPhases (view_after pt.view (Line.Label (Label.End p y))) = ends_phases pt.view (view_after pt.view (Line.Label (Label.End p y))) p h.phases here refl refl (λ j t e b z. ap (times j) (ended_off pt.view p z)) in
+    let end_line_phases : InPhases (view_after pt.view (Line.Label (Label.End p y))) = ends_phases pt.view (view_after pt.view (Line.Label (Label.End p y))) p h.phases here refl refl refl (λ j t e b z. ap (times j) (ended_off pt.view p z)) in
     line_first pt (Line.Label (Label.End p y)) (rule.drop_parts queue) w h refl refl (λ s k. end_line_phases)
     (λ s next rest more. quiet_parts (rule.drop_parts queue) (moved pt (Line.Label (Label.End p y)) s) rest next (drops_quiet (view_after pt.view (Line.Label (Label.End p y))) queue) more) e
 
@@ -86,7 +86,7 @@ creates_row : (pt : Point) (i : MsgId) (msg : PlainMessage) (child : Pid) (room 
 creates_row pt i msg child true slots blocks w h f unknown e =
     let l = Line.Label (Label.Created i child) in
     let created_phases : (v : View) (i : MsgId) (p : Pid) → InPhases v → Plain v i → ((m : ℕ) → v.known m p ≡ Unknown) → InPhases (view_after v (Line.Label (Label.Created i p))) =
-    λ v i p h plain unknown. made_phases v (view_after v (Line.Label (Label.Created i p))) p h unknown refl refl (λ j t e b z. ap (times j) (created_off v i p z) ∙ front_spots v i j t plain e b z) in
+    λ v i p h plain unknown. made_phases v (view_after v (Line.Label (Label.Created i p))) p h unknown refl refl refl (λ j t e b z. ap (times j) (created_off v i p z) ∙ front_spots v i j t plain e b z) in
     line_first pt l (Routes (answer_id i) ∷ []) w h refl refl (λ s k. created_phases pt.view i child h.phases (plain_in_bag pt i msg h.sane f.there) unknown)
     (λ s next rest more. quiet_parts (Routes (answer_id i) ∷ []) (moved pt l s) rest next (tt, tt) more) e
 creates_row pt i msg child false slots blocks w h f unknown e = quiet_parts (rule.says (Label.NoSpace i slots blocks) ∷ Routes (answer_id i) ∷ []) pt w h (tt, (tt, tt)) e

@@ -1,7 +1,7 @@
 -- Each group keeps that rings list what is here, and that nothing is known of what was never made.
 use Rattle.dm_rule.proofs.Names.{◌≡◌, ℕ, ◌+◌, ◌==◌, Bool, false, List, [], ◌∷◌, length, refl, ap, ◌∙◌, subst, arith, if◌then◌else◌, slice_get, Option, Some, nat_tests, Pid, pid_of, MsgId, MessageKind, plain_kind, Boot, first_number, bind}
 use Rattle.dm_rule.proofs.Names.{OneKernel, Step, Line, Load, Told, Known, Here, own_id, Receiver, Point, label_of, kernel_after, moved, after_line, after, Part, Says, Routes, Again, Owns, Transmits, Spelled, lines_of, puts, goes_out}
-use Rattle.dm_rule.proofs.Names.{packet_line, behind, spelled, migrates, is_between, Moves, knows, group_of, bind-is, next_is_new}
+use Rattle.dm_rule.proofs.Names.{packet_line, behind, spelled, migrates, is_between, Moves, knows, group_of, bind-is, next_is_new, calls_off, to_kernel, sort_of, pulls_piece}
 use Rattle.dm_onekernel.specs.Step as kernel
 use Rattle.dm_rule.specs.Rule as rule
 use Rattle.dm_rule.proofs.Groups.{group_is, arrives_net, resends_net}
@@ -14,8 +14,8 @@ use Rattle.dm_rule.proofs.Lives.{Kept}
 use Rattle.dm_rule.proofs.Rings.{AllHere}
 use Rattle.dm_rule.proofs.Rooted.Lines.{Roots, Needs, kept_by, line_roots}
 use Rattle.dm_rule.proofs.Rooted.Rows.{NeedsPart, First, FirstOf, loose_first, AllLoose}
-use Rattle.dm_rule.proofs.Rooted.Turns.{Asks, turns_first, net_loose}
-use Rattle.dm_rule.proofs.Requests.{by_migrates}
+use Rattle.dm_rule.proofs.Rooted.Turns.{Asks, turns_first, net_loose, again_loose}
+use Rattle.dm_rule.proofs.Requests.{by_migrates, by_calls_off}
 
 abbrev pub Grounded : Point → Type 0
 Grounded pt = Roots pt.kernel pt.view
@@ -103,7 +103,7 @@ pub roots_group : (b : Boot) (pt : Point) (d : Step) (w : Spelled) → group_of 
 roots_group b pt (Step.Turn m) w e phases sane h =
     let asks_by : (pt : Point) (i : MsgId) (is : List MsgId) (t : Told) → InPhases pt.view → pt.view.inbox pt.view.acting ≡ i ∷ is → pt.view.told i ≡ Some t → Asks pt t = λ pt i is t h front told e p about here.
     let v = pt.view in
-    let u = due pt i is t h front told (ap is_between e) in
+    let u = due pt i is t h p front told (ap is_between e) about (ap (λ (k : MessageKind). pulls_piece (sort_of k)) e) (ap (λ (k : MessageKind). rule.is_stale pt v.acting i k p) e) in
     search (arith, moves_away) in
     let start = begun pt (Step.Turn m) in
     let there : InPhases start.view = calm_phases pt.view start.view (head_calm pt.view (Step.Turn m)) phases in
@@ -123,3 +123,9 @@ roots_group b pt (Step.Migrate p m) w e phases sane h =
     let migrates_loose : (s : OneKernel) (o : Point) (p : Pid) → AllLoose s (migrates o p) = λ s o p. by_migrates (AllLoose s) o p (λ pt k. tt, tt) (λ pt k. tt, tt) (λ n off is. (λ pt k. tt, tt)) in
     group_ground b pt (Step.Migrate p m) w e
     (λ ps is. first_some start (rule.outcome b pt (Step.Migrate p m)) ps is (loose_first pt.kernel start (migrates pt p) (λ q none. none) (migrates_loose pt.kernel pt p))) sane h
+roots_group b pt (Step.CallOff p m) w e phases sane h =
+    let start = begun pt (Step.CallOff p m) in
+    let loose : AllLoose pt.kernel (calls_off pt m p (pt.view.known m p)) =
+    by_calls_off (AllLoose pt.kernel) pt m p (λ q k. tt, tt) (λ from is come. (λ q k. tt, again_loose pt.kernel from (pt.view.held m p) (to_kernel MessageKind.CallOff from ∷ []) (λ q k. tt, tt))) in
+    group_ground b pt (Step.CallOff p m) w e
+    (λ ps is. first_some start (rule.outcome b pt (Step.CallOff p m)) ps is (loose_first pt.kernel start (calls_off pt m p (pt.view.known m p)) (λ q none. none) loose)) sane h

@@ -1,7 +1,7 @@
 -- Rings list what is here, and nothing is known of what was never made: a line after the other.
 use Rattle.dm_rule.proofs.Names.{◌≡◌, ℕ, ◌+◌, ◌≤◌, ◌==◌, not, filter, [], ◌∷◌, ◌++◌, refl, ap, ◌∙◌, sym, subst, ⊤, Option, None, Some, Pid, MsgId, MessageKind, Step, Stage, Label, bind, Life, Alive, OneKernel, Line, at_machine, at_record}
 use Rattle.dm_rule.proofs.Names.{without, moved_back, View, Told, About, Of, Known, Unknown, Here, Frozen, Incoming, Ended, view_after, handled, receiver_of, ends_by, served_told, front_of, gone_to, Point, label_of, kernel_after}
-use Rattle.dm_rule.proofs.Names.{pid_eq-same, bind-is, when-is, nexts, after_step, at_hand-is, seen, sort_of, arith}
+use Rattle.dm_rule.proofs.Names.{pid_eq-same, bind-is, when-is, nexts, after_step, at_hand-is, seen, sort_of, arith, goes_back}
 use Rattle.dm_rule.proofs.Seen.{aim, sets}
 use Rattle.dm_rule.proofs.Telling.{Sane}
 use Rattle.dm_rule.proofs.Rings.{Rings, all_moved, learnt_without, learnt_last, rings_same, rings_ring, rings_learn, rings_known}
@@ -114,12 +114,16 @@ label_roots pt t _ need sane kept e h = record { rings = h.rings; lives = lives_
 gone_here : (k : Known) (moves : ℕ) → k ≡ Here → gone_to k moves ≡ Here
 gone_here k moves e = ap (λ (x : Known). gone_to x moves) e
 
+back_here : (k : Known) (moves : ℕ) → k ≡ Here → goes_back k moves ≡ Here
+back_here k moves e = ap (λ (x : Known). goes_back x moves) e
+
 -- the other lines
 line_by : (pt : Point) (t : OneKernel) (l : Line) → Needs pt l → Sane pt → Kept pt.kernel t → kernel_after pt.kernel (label_of l) ≡ Some t → Roots pt.kernel pt.view → Roots t (view_after pt.view l)
 line_by pt t (Line.Head (Step.Turn m)) need sane kept e h = roots_idle pt.kernel t pt.view (view_after pt.view (Line.Head (Step.Turn m))) kept (record { known = refl; ring = refl }) h
 line_by pt t (Line.Head (Step.Tick m)) need sane kept e h = roots_idle pt.kernel t pt.view (view_after pt.view (Line.Head (Step.Tick m))) kept (record { known = refl; ring = refl }) h
 line_by pt t (Line.Head (Step.Deliver a b k)) need sane kept e h = roots_idle pt.kernel t pt.view (view_after pt.view (Line.Head (Step.Deliver a b k))) kept (record { known = refl; ring = refl }) h
 line_by pt t (Line.Head (Step.Migrate p m)) need sane kept e h = roots_idle pt.kernel t pt.view (view_after pt.view (Line.Head (Step.Migrate p m))) kept (record { known = refl; ring = refl }) h
+line_by pt t (Line.Head (Step.CallOff p m)) need sane kept e h = roots_idle pt.kernel t pt.view (view_after pt.view (Line.Head (Step.CallOff p m))) kept (record { known = refl; ring = refl }) h
 line_by pt t (Line.Label l) need sane kept e h = label_roots pt t l need sane kept e h
 line_by pt t (Line.Migration Stage.Asked p) need sane kept e h = roots_idle pt.kernel t pt.view (view_after pt.view (Line.Migration Stage.Asked p)) kept (record { known = refl; ring = refl }) h
 line_by pt t (Line.Migration Stage.StateTaken p) need sane kept e h = roots_idle pt.kernel t pt.view (view_after pt.view (Line.Migration Stage.StateTaken p)) kept (record { known = refl; ring = refl }) h
@@ -149,6 +153,7 @@ line_by pt t (Line.Migration Stage.Frozen p) need sane kept e h =
 line_by pt t (Line.Migration Stage.Accepted p) need sane kept e h = roots_known pt.kernel t pt.view (view_after pt.view (Line.Migration Stage.Accepted p)) p (Incoming (front_of (pt.view.inbox pt.view.acting))) kept (λ none le. absurd (need.0 (kept p none) le)) refl refl (λ here. absurd (need.1 here)) h
 line_by pt t (Line.Migration Stage.Left p) need sane kept e h = roots_known pt.kernel t pt.view (view_after pt.view (Line.Migration Stage.Left p)) p (gone_to (pt.view.known pt.view.acting p) (pt.view.moves p + 1)) kept (λ none le. ap (λ (x : Known). gone_to x (pt.view.moves p + 1)) (h.lives.none p (kept p none) le pt.view.acting)) refl refl (gone_here (pt.view.known pt.view.acting p) (pt.view.moves p + 1)) h
 line_by pt t (Line.Migration Stage.Restarted p) need sane kept e h = roots_comes pt.kernel t pt.view (view_after pt.view (Line.Migration Stage.Restarted p)) p kept (λ none le. need (kept p none) le) refl refl h
+line_by pt t (Line.Called p n) need sane kept e h = roots_known pt.kernel t pt.view (view_after pt.view (Line.Called p n)) p (goes_back (pt.view.known pt.view.acting p) (pt.view.moves p)) kept (λ none le. ap (λ (x : Known). goes_back x (pt.view.moves p)) (h.lives.none p (kept p none) le pt.view.acting)) refl refl (back_here (pt.view.known pt.view.acting p) (pt.view.moves p)) h
 line_by pt t (Line.Stays p) need sane kept e h = roots_comes pt.kernel t pt.view (view_after pt.view (Line.Stays p)) p kept (λ none le. need (kept p none) le) refl refl h
 line_by pt t any_ need sane kept e h = roots_idle pt.kernel t pt.view (view_after pt.view any_) kept (record { known = refl; ring = refl }) h
 

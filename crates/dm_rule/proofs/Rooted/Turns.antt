@@ -9,7 +9,7 @@ use Rattle.dm_rule.proofs.Rooted.Rows.{AllLoose, First, FirstOf, round_first, fo
 use Rattle.dm_rule.proofs.Hearing.{by_hears}
 
 -- a kernel's own message is handled
-again_loose : (s : OneKernel) (to : ℕ) (ids : List MsgId) (ps : List Part) → AllLoose s ps → AllLoose s (sends_on to ids ++ ps)
+pub again_loose : (s : OneKernel) (to : ℕ) (ids : List MsgId) (ps : List Part) → AllLoose s ps → AllLoose s (sends_on to ids ++ ps)
 again_loose s to [] ps h = h
 again_loose s to (i ∷ is) ps h = (λ q k. tt, again_loose s to is ps h)
 

@@ -65,24 +65,24 @@ forward_is : (b : Bool) (d n : ℕ) (y : Known) (k j : ℕ) → (if b then Forwa
 forward_is true d n y k j e = inl (refl, (let f : d ≡ k = cc in f), (let f : n ≡ j = cc in f))
 forward_is false d n y k j e = inr e
 
-pub trail_left : (v w : View) (t : Trails) (p : Pid) (d : ℕ) → Learnt v w p (Forward d (v.moves p + 1)) → v.known v.acting p ≢ Unknown → slice_get (t p) (v.moves p + 1) ≡ Some d → length (t p) ≡ v.moves p + 2 → d ≢ v.acting → Trail v t p → Trail w t p
-trail_left v w t p d known there at long apart h = record {
+pub trail_left : (v w : View) (t : Trails) (p : Pid) (d n : ℕ) → Learnt v w p (Forward d n) → v.known v.acting p ≢ Unknown → slice_get (t p) n ≡ Some d → length (t p) ≡ n + 1 → d ≢ v.acting → Trail v t p → Trail w t p
+trail_left v w t p d n known there at long apart h = record {
   begins = h.begins;
-  named = λ m k j e. elim (forward_is (v.acting == m) d (v.moves p + 1) (v.known m p) k j (sym (known m) ∙ e)) [
+  named = λ m k j e. elim (forward_is (v.acting == m) d n (v.known m p) k j (sym (known m) ∙ e)) [
     | inl x ↦ sym (ap (λ (i : ℕ). slice_get (t p) i) x.2) ∙ at ∙ ap Some x.1
     | inr y ↦ h.named m k j y
   ];
-  behind = λ m k j c e f. elim (forward_is (v.acting == m) d (v.moves p + 1) (v.known m p) k j (sym (known m) ∙ e)) [
+  behind = λ m k j c e f. elim (forward_is (v.acting == m) d n (v.known m p) k j (sym (known m) ∙ e)) [
     | inl x ↦ less m c j f x.0 x.2
     | inr y ↦ h.behind m k j c y f
   ];
-  kept = λ m n c e f g. is_known (v.acting == m) (Forward d (v.moves p + 1)) (v.known m p) (λ x. cc) (h.kept m v.acting c there f) (sym (known m) ∙ g);
+  kept = λ m i c e f g. is_known (v.acting == m) (Forward d n) (v.known m p) (λ x. cc) (h.kept m v.acting c there f) (sym (known m) ∙ g);
 }
   where
-    before : (c a l j : ℕ) → c < l → l ≡ a + 2 → (c == a + 1) ≡ false → a + 1 ≡ j → c < j
-    before c a l j x y z n = grind (arith, nat_tests)
+    before : (c a l j : ℕ) → c < l → l ≡ a + 1 → (c == a) ≡ false → a ≡ j → c < j
+    before c a l j x y z e = grind (arith, nat_tests)
 
-    less : (m c j : ℕ) → slice_get (t p) c ≡ Some m → (v.acting == m) ≡ true → v.moves p + 1 ≡ j → c < j
-    less m c j f s n =
+    less : (m c j : ℕ) → slice_get (t p) c ≡ Some m → (v.acting == m) ≡ true → n ≡ j → c < j
+    less m c j f s e =
         let within = slice_get_within (t p) c m f in
         search (arith, eqb-true)

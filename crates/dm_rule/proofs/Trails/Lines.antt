@@ -1,8 +1,8 @@
 -- Lines that give addresses beside the kernel keep each on its trail: a message that is forwarded, messages that are sent on, an
 -- update, and the first put of a kernel's own message.
 use Rattle.dm_rule.proofs.Names.{◌≡◌, ℕ, ◌+◌, ◌≤◌, ◌&&◌, Bool, true, false, List, [], ◌∷◌, ◌++◌, refl, ap, sym, subst, inl, inr, arith, nat_lt, if◌then◌else◌, slice_get, Option, None, Some, cases_Bool, false≢true, Pid, Place, MsgId, id_eq}
-use Rattle.dm_rule.proofs.Names.{MessageKind, manager, OneKernel, pid_eq-is, id_eq-same, View, Told, About, Known, Frozen, Forward, is_kernels, own_id, Addresses, Holder, Receiver, Sender, given, place_known, all_follow, is_told_back}
-use Rattle.dm_rule.proofs.Names.{told_back_gets, forwards, place_told, belongs_to, leads_to, is_behind, updated_to, updated, names, times, Trails, Trail, IsOn, AddressesOn, OwnOn, nat_tests, and_parts, option_map_or, pid_eq}
+use Rattle.dm_rule.proofs.Names.{MessageKind, manager, OneKernel, pid_eq-is, id_eq-same, View, Told, About, Known, Frozen, Incoming, Forward, is_kernels, own_id, Addresses, Holder, Receiver, Sender, given, place_known, all_follow}
+use Rattle.dm_rule.proofs.Names.{is_told_back, told_back_gets, forwards, place_told, belongs_to, leads_to, is_behind, updated_to, updated, names, times, Trails, Trail, IsOn, AddressesOn, OwnOn, nat_tests, and_parts, option_map_or, pid_eq}
 use Rattle.dm_rule.proofs.Once.{one_of}
 use Rattle.dm_rule.proofs.Trails.Places.{Goes, Comes, Named, Links, Owns, AllAre, AllGet, given_on, all_grown}
 
@@ -41,14 +41,13 @@ forwarded_all s v a t id u d n told at for bag fresh trail h =
 pub forwarded_back : (v : View) (a : Addresses) (id : MsgId) (u : Told) → v.told id ≡ Some u → id_eq id (own_id v) ≡ false → is_told_back u.kind ≡ true → given a (forwards v a id (v.told id)) (Receiver (own_id v)) ≡ a (Sender id)
 forwarded_back v a id u told other back = grind (arith, nat_tests, id_eq-same)
 
--- its messages are sent on to where a process goes
-follow_gets : (s : OneKernel) (v : View) (a : Addresses) (t : Trails) (p : Pid) (d : ℕ) (ids : List MsgId) → v.known v.acting p ≡ Frozen d → slice_get (t p) (v.moves p + 1) ≡ Some d
-    → ((i : MsgId) (q : Pid) → 1 ≤ times i ids → Named s v (Receiver i) q → q ≡ p) → AllGet s v t (all_follow v a p ids)
-follow_gets s v a t p d [] at last for = tt
-follow_gets s v a t p d (i ∷ is) at last for = (
+-- messages of a process follow it to a place of its trail
+follow_gets : (s : OneKernel) (v : View) (a : Addresses) (t : Trails) (p : Pid) (ids : List MsgId) → ((place : Place) → IsOn t p (place_known (v.known v.acting p) (v.moves p) place)) → ((i : MsgId) (q : Pid) → 1 ≤ times i ids → Named s v (Receiver i) q → q ≡ p) → AllGet s v t (all_follow v a p ids)
+follow_gets s v a t p [] on for = tt
+follow_gets s v a t p (i ∷ is) on for = (
   (λ q e. let same : q ≡ p = for i q first e in
-      subst (λ (x : Known). IsOn t q (place_known x (v.moves p) (a (Receiver i)))) (sym at) (subst (λ (r : Pid). slice_get (t r) (v.moves p + 1) ≡ Some d) (sym same) last)),
-  follow_gets s v a t p d is at last (λ j q least. for j q (more j least)),
+      subst (λ (r : Pid). IsOn t r (place_known (v.known v.acting p) (v.moves p) (a (Receiver i)))) (sym same) (on (a (Receiver i)))),
+  follow_gets s v a t p is on (λ j q least. for j q (more j least)),
 )
   where
     first : 1 ≤ times i (i ∷ is)
@@ -57,9 +56,16 @@ follow_gets s v a t p d (i ∷ is) at last for = (
     more : (j : MsgId) → 1 ≤ times j is → 1 ≤ times j (i ∷ is)
     more j least = omega (arith, least)
 
+-- its messages are sent on to where a process goes
 pub sent_on_all : (s : OneKernel) (v : View) (a : Addresses) (t u : Trails) (p : Pid) (d : ℕ) (ids : List MsgId) → v.known v.acting p ≡ Frozen d → ((q : Pid) → (ds : List ℕ) × (u q ≡ t q ++ ds)) → slice_get (u p) (v.moves p + 1) ≡ Some d
     → ((i : MsgId) (q : Pid) → 1 ≤ times i ids → Named s v (Receiver i) q → q ≡ p) → AllAre s v a t → AllAre s v (given a (all_follow v a p ids)) u
-sent_on_all s v a t u p d ids at grows last for h = given_on s v a u (all_follow v a p ids) (all_grown s v a t u grows h) (follow_gets s v a u p d ids at last for)
+sent_on_all s v a t u p d ids at grows last for h =
+    given_on s v a u (all_follow v a p ids) (all_grown s v a t u grows h) (follow_gets s v a u p ids (λ place. subst (λ (x : Known). IsOn u p (place_known x (v.moves p) place)) (sym at) last) for)
+
+-- and what was held goes back to where it stands
+pub called_all : (s : OneKernel) (v : View) (a : Addresses) (t : Trails) (p : Pid) (from : ℕ) (ids : List MsgId) → v.known v.acting p ≡ Incoming from → slice_get (t p) (v.moves p) ≡ Some from
+    → ((i : MsgId) (q : Pid) → 1 ≤ times i ids → Named s v (Receiver i) q → q ≡ p) → AllAre s v a t → AllAre s v (given a (all_follow v a p ids)) t
+called_all s v a t p from ids comes at for h = given_on s v a t (all_follow v a p ids) h (follow_gets s v a t p ids (λ place. subst (λ (x : Known). IsOn t p (place_known x (v.moves p) place)) (sym comes) at) for)
 
 -- an update
 pub pid_there : (p : Pid) (o : Option Pid) → (option_map_or (pid_eq p) o false) ≡ true → o ≡ Some p

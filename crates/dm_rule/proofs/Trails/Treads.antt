@@ -10,9 +10,9 @@ use Rattle.dm_rule.proofs.Phases.Lines.{queued_known, held_known, dropped_known,
 use Rattle.dm_rule.proofs.Phases.Pieces.{proto_known}
 use Rattle.dm_rule.proofs.Trails.Known.{get_at_end, trail_same}
 use Rattle.dm_rule.proofs.Trails.Places.{Named, AllAre, on_grown, Links, Goes, Comes, Owns}
-use Rattle.dm_rule.proofs.Trails.Lines.{all_are, links_are, receivers_are, senders_are, forwarded_all, sent_on_all, updated_all}
+use Rattle.dm_rule.proofs.Trails.Lines.{all_are, links_are, receivers_are, senders_are, forwarded_all, sent_on_all, called_all, updated_all}
 use Rattle.dm_rule.proofs.Trails.Puts.{is_own, put_all, put_routed, told_again, about_put}
-use Rattle.dm_rule.proofs.Trails.Steps.{frozen_trail, accepted_trail, stays_trail, ended_trail, born_trail, sent_on_at, sent_on_grows, sent_on_trail, left_line_trail, source_holds, back_trail, destination_expects}
+use Rattle.dm_rule.proofs.Trails.Steps.{frozen_trail, accepted_trail, stays_trail, ended_trail, born_trail, sent_on_at, sent_on_grows, sent_on_trail, left_line_trail, called_trail, source_holds, back_trail, destination_knows}
 use Rattle.dm_rule.proofs.Trails.Spares.{Outside}
 use Rattle.dm_rule.proofs.Trails.Labels.{label_links, label_own, label_pending}
 use Rattle.dm_onekernel.specs.Step as kernel
@@ -60,6 +60,15 @@ pub record SentOnFits (pt : Point) (t : Trails) (p : Pid) : Type 0 where
   pub long : length (t p) ≡ pt.view.moves p + 1
   pub for_it : (i : MsgId) (q : Pid) → 1 ≤ times i (pt.view.queue pt.view.acting p ++ pt.view.held pt.view.acting p) → Named pt.kernel pt.view (Receiver i) q → q ≡ p
 
+-- a process that was coming goes back to where it stands, at the end of its trail
+pub record CalledFits (pt : Point) (t : Trails) (p : Pid) : Type 0 where
+  pub from : ℕ
+  pub comes : pt.view.known pt.view.acting p ≡ Incoming from
+  pub at : slice_get (t p) (pt.view.moves p) ≡ Some from
+  pub long : length (t p) ≡ pt.view.moves p + 1
+  pub apart : from ≢ pt.view.acting
+  pub for_it : (i : MsgId) (q : Pid) → 1 ≤ times i (pt.view.held pt.view.acting p) → Named pt.kernel pt.view (Receiver i) q → q ≡ p
+
 pub record LeftFits (pt : Point) (t : Trails) (p : Pid) : Type 0 where
   pub d : ℕ
   pub holds : pt.view.known pt.view.acting p ≡ Frozen d
@@ -95,6 +104,7 @@ LineFits pt t (Line.Label l) = LabelFits pt t l
 LineFits pt t (Line.Put a b id k q) = PutFits pt t id k q
 LineFits pt t (Line.Forwarded id m) = ForwardFits pt id
 LineFits pt t (Line.SentOn p n) = SentOnFits pt t p
+LineFits pt t (Line.Called p n) = CalledFits pt t p
 LineFits pt t (Line.Migration s p) = StageFits pt t p s
 LineFits pt t (Line.Stays p) = MovesFits pt p is_restart
 LineFits pt t _ = ⊤
@@ -216,6 +226,20 @@ sent_on_treads pt t p n fits h =
       pending = h.pending;
     }
 
+-- messages that go back
+called_treads : (pt : Point) (t : Trails) (p : Pid) (n : ℕ) → CalledFits pt t p → Treads pt t → Treads (moved pt (Line.Called p n) pt.kernel) t
+called_treads pt t p n fits h =
+    let v = pt.view in
+    let ids = v.held v.acting p in
+    let b = given pt.addresses (all_follow v pt.addresses p ids) in
+    let all = called_all pt.kernel v pt.addresses t p fits.from ids fits.comes fits.at fits.for_it (all_are pt.kernel v pt.addresses t h.links h.own) in
+    record {
+      trail = λ q. called_trail v t p q n fits.from fits.comes fits.at fits.long fits.apart (h.trail q);
+      links = links_are pt.kernel v b t all;
+      own = own_as v (view_after v (Line.Called p n)) b t refl (λ r m c e. cc) (own_of pt.kernel v b t all h.own.about h.own.topic);
+      pending = h.pending;
+    }
+
 -- an update
 updated_treads : (pt : Point) (t : Trails) (id : MsgId) (n : ℕ) → Treads pt t → Treads (moved pt (Line.Updated id n) pt.kernel) t
 updated_treads pt t id n h =
@@ -264,7 +288,7 @@ stage_treads pt t p Stage.Accepted fits h = learns_treads pt (view_after pt.view
 stage_treads pt t p Stage.Left fits h = learns_treads pt (view_after pt.view (Line.Migration Stage.Left p)) t (λ q. left_line_trail pt.view t p q fits.d fits.holds fits.at fits.long fits.apart (h.trail q)) refl (λ r m c e. cc) h
 stage_treads pt t p Stage.Restarted fits h =
     let restarted_trail : (v : View) (t : Trails) (p q : Pid) (k : MessageKind) (s d : ℕ) (o : Option MsgId) → IsIn v p (Moves k s d o) → is_early k ≡ false → Trail v t q → Trail (view_after v (Line.Migration Stage.Restarted p)) t q =
-    λ v t p q k s d o phase e h. back_trail v (view_after v (Line.Migration Stage.Restarted p)) t p q d refl (λ f. let g : Incoming s ≡ Unknown = sym (destination_expects v p k s d o phase e) ∙ f in cc) h in
+    λ v t p q k s d o phase e h. back_trail v (view_after v (Line.Migration Stage.Restarted p)) t p q d refl (destination_knows v p k s d o phase e) h in
     learns_treads pt (view_after pt.view (Line.Migration Stage.Restarted p)) t (λ q. restarted_trail pt.view t p q fits.k fits.s fits.d fits.o fits.phase fits.off (h.trail q)) refl h.own.topic h
 stage_treads pt t p any_ fits h = quiet_treads pt (view_after pt.view (Line.Migration any_ p)) t (λ m q. refl) refl (λ r m c e. cc) h
 
@@ -282,6 +306,7 @@ line_treads pt next t (Line.Lacks p a b) is fits h = let f : moved pt (Line.Lack
 line_treads pt next t (Line.Stays p) is fits h = let f : moved pt (Line.Stays p) pt.kernel ≡ next = cc in subst (λ (z : Point). Treads z (trails_after pt.view t (Line.Stays p))) f (learns_treads pt (view_after pt.view (Line.Stays p)) t (λ q. stays_trail pt.view t p q fits.k fits.s fits.d fits.o fits.phase fits.off (h.trail q)) refl h.own.topic h)
 line_treads pt next t (Line.Forwarded i m) is fits h = let f : moved pt (Line.Forwarded i m) pt.kernel ≡ next = cc in subst (λ (z : Point). Treads z (trails_after pt.view t (Line.Forwarded i m))) f (forwarded_treads pt t i m fits h)
 line_treads pt next t (Line.SentOn p n) is fits h = let f : moved pt (Line.SentOn p n) pt.kernel ≡ next = cc in subst (λ (z : Point). Treads z (trails_after pt.view t (Line.SentOn p n))) f (sent_on_treads pt t p n fits h)
+line_treads pt next t (Line.Called p n) is fits h = let f : moved pt (Line.Called p n) pt.kernel ≡ next = cc in subst (λ (z : Point). Treads z (trails_after pt.view t (Line.Called p n))) f (called_treads pt t p n fits h)
 line_treads pt next t (Line.Updated i n) is fits h = let f : moved pt (Line.Updated i n) pt.kernel ≡ next = cc in subst (λ (z : Point). Treads z (trails_after pt.view t (Line.Updated i n))) f (updated_treads pt t i n h)
 line_treads pt next t (Line.Put x y i k q) is fits h = let f : moved pt (Line.Put x y i k q) pt.kernel ≡ next = cc in subst (λ (z : Point). Treads z (trails_after pt.view t (Line.Put x y i k q))) f (put_treads pt t x y i k q fits h)
 line_treads pt next t (Line.Migration s p) is fits h = let f : moved pt (Line.Migration s p) pt.kernel ≡ next = cc in subst (λ (z : Point). Treads z (trails_after pt.view t (Line.Migration s p))) f (stage_treads pt t p s fits h)

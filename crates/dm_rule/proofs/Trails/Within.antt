@@ -47,6 +47,7 @@ line_within n v (Line.Label l) e h =
     label_within n v l h
 line_within n v (Line.Migration s p) e h = search (arith, sets, within_set)
 line_within n v (Line.Stays p) e h = within_set n v (view_after v (Line.Stays p)) p Here refl refl h
+line_within n v (Line.Called p k) e h = within_set n v (view_after v (Line.Called p k)) p (view.goes_back (v.known v.acting p) (v.moves p)) refl refl h
 line_within n v (Line.Queued i) e h = within_same n v (view_after v (Line.Queued i)) (λ m q. queued_known (handled v i) i (receiver_of (v.told i)) m q) (queued_acting (handled v i) i (receiver_of (v.told i))) h
 line_within n v (Line.Held i) e h = within_same n v (view_after v (Line.Held i)) (λ m q. held_known (handled v i) i (receiver_of (v.told i)) m q) (held_acting (handled v i) i (receiver_of (v.told i))) h
 line_within n v (Line.Forwarded i k) e h = within_same n v (view_after v (Line.Forwarded i k)) (λ m q. forwarded_known (handled v i) (receiver_of (v.told i)) m q) (forwarded_acting (handled v i) (receiver_of (v.told i))) h
@@ -59,6 +60,7 @@ line_within n v (Line.Idle m) e h = h
 line_within n v (Line.Old a b k) e h = h
 line_within n v (Line.Resent m k) e h = h
 line_within n v (Line.NoChild p) e h = h
+line_within n v (Line.NoCall p) e h = h
 line_within n v (Line.Pinned p) e h = h
 line_within n v Line.Nothing e h = h
 line_within n v _ e h = record { known = h.known; acting = h.acting }

@@ -2,9 +2,9 @@
 use Rattle.dm_rulelaws.proofs.Names.{◌≡◌, ℕ, ◌==◌, Bool, true, false, not, List, [], ◌∷◌, ◌++◌, length, refl, ap, ◌∙◌, sym, subst, Option, None, Some, arith, Pid, MsgId, MessageKind, Stage, Boot, manager, Step, Line, View, Told, Of, Known}
 use Rattle.dm_rulelaws.proofs.Names.{Frozen, Incoming, after_head, Point, moved, Says, Spelled, is_between, is_apart, is_away, is_here, Phase, Moves, knows, receiver_in, to_kernel, sends_on, updates, migrates, group_of, at_record_at}
 use Rattle.dm_rulelaws.proofs.Names.{front_way, Sane, InPhases, calm_phases, due, head_calm, told_some, Rooted, Phased, rooted, moves_away, State, is_server, has_nothing_held, KnownStands, right_true, by_migrates, by_hears, left_parts}
-use Rattle.dm_rulelaws.proofs.Names.{by_net, by_outcome, answers_move, Outcome}
+use Rattle.dm_rulelaws.proofs.Names.{by_net, by_outcome, answers_move, Outcome, calls_off, pulls_piece, TurnsBack, sort_of, inl, inr, Here, Unknown, by_calls_off, server_at, false_from_ne_true, if◌then◌else◌, Part}
 use Rattle.dm_rule.specs.Rule as rule
-use Rattle.dm_rulelaws.proofs.Based.Needs.{Leaving, Keeps, Walks, WalksOf, AllLoose, loose_walks, first_walks, said_by, again_rides, begun, begun_sane, outcome_keeps}
+use Rattle.dm_rulelaws.proofs.Based.Needs.{Leaving, Calling, Keeps, Walks, WalksOf, AllLoose, loose_walks, first_walks, said_by, again_rides, begun, begun_sane, outcome_keeps}
 use Rattle.dm_rulelaws.proofs.Based.Rows.{walks_of, known_living, turned, resting, living, round_walks, handles_walks, forwards_walks}
 
 again_walks : (p : Pid) (to : ℕ) (id : MsgId) (ids : List MsgId) (pt : Point) → Leaving pt.view p → Walks pt (sends_on to ids ++ Says (Line.Migration Stage.Left p) ∷ to_kernel MessageKind.Restart id.from.home ∷ [])
@@ -21,10 +21,18 @@ leaves_walks pt id p ids to known server = (
       again_walks p to id ids next (subst (λ (q : Point). Leaving q.view p) k.is left),
 )
 
--- a process of which this kind is due is not here, and away where it is asked for
+-- a process of which this kind is due, where it asks for no piece, is not here, and away where it is asked for
 pub record Expects (v : View) (p : Pid) (k : MessageKind) : Type 0 where
   pub asked : k ≡ MessageKind.Ask → is_away (v.known v.acting p) ≡ true
-  pub off : is_between k ≡ true → is_here (v.known v.acting p) ≡ false
+  pub off : is_between k ≡ true → pulls_piece (sort_of k) ≡ false → is_here (v.known v.acting p) ≡ false
+
+-- it stays, where it was refused or called off, or it is restarted
+turns_off : (v : View) (p : Pid) (k : MessageKind) → Expects v p k → TurnsBack k → is_here (v.known v.acting p) ≡ false
+turns_off v p k e (inl kind) = e.off (ap is_between kind) (ap (λ (j : MessageKind). pulls_piece (sort_of j)) kind)
+turns_off v p k e (inr kind) = e.off (ap is_between kind) (ap (λ (j : MessageKind). pulls_piece (sort_of j)) kind)
+
+restarts_off : (v : View) (p : Pid) (k : MessageKind) → Expects v p k → k ≡ MessageKind.Restart → is_here (v.known v.acting p) ≡ false
+restarts_off v p k e kind = e.off (ap is_between kind) (ap (λ (j : MessageKind). pulls_piece (sort_of j)) kind)
 
 -- at a process or a server
 held_own : (pt : Point) (id : MsgId) (t : Told) → pt.view.told id ≡ Some t → has_nothing_held (pt.view.known pt.view.acting t.receiver) ≡ false → (u : Told) → pt.view.told id ≡ Some u → has_nothing_held (pt.view.known pt.view.acting u.receiver) ≡ false
@@ -37,23 +45,24 @@ not_here k s d m o x h1 = search (arith, moves_away)
 asked_away : (s d : ℕ) (o : Option MsgId) (x : Known) (b : Bool) → (s == d) ≡ b → not b ≡ true → knows (Moves MessageKind.Ask s d o) d x ≡ true → is_away x ≡ true
 asked_away s d o x b h1 h2 h3 = search arith
 
-moving : (pt : Point) (i : MsgId) (is : List MsgId) (t : Told) (p : Pid) (h : InPhases pt.view) → pt.view.inbox pt.view.acting ≡ i ∷ is → pt.view.told i ≡ Some t → t.about ≡ Of p → Expects pt.view p t.kind
-moving pt i is t p h front told about =
+moving : (pt : Point) (i : MsgId) (is : List MsgId) (t : Told) (p : Pid) (h : InPhases pt.view) → pt.view.inbox pt.view.acting ≡ i ∷ is → pt.view.told i ≡ Some t → t.about ≡ Of p → rule.is_stale pt pt.view.acting i t.kind p ≡ false → Expects pt.view p t.kind
+moving pt i is t p h front told about fresh =
     let v = pt.view in
-    let phase : (b : is_between t.kind ≡ true) → let u = due pt i is t h front told b in (h.of p ≡ Moves u.k u.s u.d (Some i)) × (u.k ≡ t.kind) = λ b. (let u = due pt i is t h front told b in
+    let phase : (b : is_between t.kind ≡ true) (none : pulls_piece (sort_of t.kind) ≡ false) → let u = due pt i is t h p front told b about none fresh in (h.of p ≡ Moves u.k u.s u.d (Some i)) × (u.k ≡ t.kind) = λ b none. (let u = due pt i is t h p front told b about none fresh in
     let same : u.p ≡ p = (let f : Of u.p ≡ Of p = sym (ap (λ (y : Told). y.about) u.told) ∙ about in cc) in
     (ap h.of (sym same) ∙ u.phase, sym (ap (λ (y : Told). y.kind) u.told))) in
     record {
       asked = λ e. (let b : is_between t.kind ≡ true = ap is_between e in
-          let u = due pt i is t h front told b in
-          let f = phase b in
+          let none : pulls_piece (sort_of t.kind) ≡ false = ap (λ (k : MessageKind). pulls_piece (sort_of k)) e in
+          let u = due pt i is t h p front told b about none fresh in
+          let f = phase b none in
           let now : h.of p ≡ Moves MessageKind.Ask u.s u.d (Some i) = f.0 ∙ ap (λ (k : MessageKind). Moves k u.s u.d (Some i)) (f.1 ∙ e) in
           let acts : v.acting ≡ u.d = u.acting ∙ ap (λ (k : MessageKind). receiver_in k u.s u.d) (f.1 ∙ e) in
           let apart : not (u.s == u.d) ≡ true = right_true (is_between MessageKind.Ask) (not (u.s == u.d)) (sym (ap is_apart now) ∙ (h.each p).apart) in
           let k : knows (Moves MessageKind.Ask u.s u.d (Some i)) u.d (v.known v.acting p) ≡ true = ap (λ (n : ℕ). knows (Moves MessageKind.Ask u.s u.d (Some i)) n (v.known v.acting p)) (sym acts) ∙ ap (λ (x : Phase). knows x v.acting (v.known v.acting p)) (sym now) ∙ (h.each p).known v.acting in
           asked_away u.s u.d (Some i) (v.known v.acting p) (u.s == u.d) refl apart k);
-      off = λ b. (let u = due pt i is t h front told b in
-          let f = phase b in
+      off = λ b none. (let u = due pt i is t h p front told b about none fresh in
+          let f = phase b none in
           not_here u.k u.s u.d v.acting (Some i) (v.known v.acting p) (ap (λ (x : Phase). knows x v.acting (v.known v.acting p)) (sym f.0) ∙ (h.each p).known v.acting));
     }
 
@@ -72,15 +81,16 @@ hears_walks b o m i is q h front told = walks_of (turned o m) (rule.hears b o m 
     let held : (k : Known) → o.view.known m t.receiver ≡ k → has_nothing_held k ≡ false → Walks pt (Says (Line.Held i) ∷ []) =
     λ k known none. first_walks (Says (Line.Held i)) [] pt (held_own pt i t found (ap has_nothing_held known ∙ none)) tt in
     record {
-      told = λ p x about alive. (
+      stale = λ p about late. loose_walks (Says (Line.Stale i) ∷ []) pt (λ q. tt, tt);
+      told = λ p x about alive due_. (
           let lived = living pt p x h.sane alive in
-          let e = moving pt i is t p h.phases front found about in
+          let e = moving pt i is t p h.phases front found about due_ in
           record {
             accepted = λ ask. first_walks (Says (Line.Migration Stage.Accepted p)) (to_kernel MessageKind.PullState i.from.home ∷ []) pt (lived, e.asked ask) (λ q. tt, tt);
             lacks = λ slots blocks. loose_walks (Says (Line.Lacks p slots blocks) ∷ to_kernel MessageKind.Refuse i.from.home ∷ []) pt (λ q. tt, (λ q. tt, tt));
-            stays = λ kind free. first_walks (Says (Line.Stays p)) [] pt (lived, e.off (ap is_between kind)) tt;
-            stays_asked = λ kind n noted. first_walks (Says (Line.Stays p)) (answers_move n.id Outcome.Stayed) pt (lived, e.off (ap is_between kind)) (λ q. tt, (λ q. tt, tt));
-            restarted_asked = λ kind n noted. first_walks (Says (Line.Migration Stage.Restarted p)) (answers_move n.id Outcome.Done) pt (lived, e.off (ap is_between kind)) (λ q. tt, (λ q. tt, tt));
+            stays = λ kind free. first_walks (Says (Line.Stays p)) [] pt (lived, turns_off pt.view p t.kind e kind) tt;
+            stays_asked = λ kind n noted. first_walks (Says (Line.Stays p)) (answers_move n.id Outcome.Stayed) pt (lived, turns_off pt.view p t.kind e kind) (λ q. tt, (λ q. tt, tt));
+            restarted_asked = λ kind n noted. first_walks (Says (Line.Migration Stage.Restarted p)) (answers_move n.id Outcome.Done) pt (lived, restarts_off pt.view p t.kind e kind) (λ q. tt, (λ q. tt, tt));
             state = loose_walks (Says (Line.Proto i) ∷ to_kernel MessageKind.State i.from.home ∷ []) pt (λ q. tt, (λ q. tt, tt));
             next_chunk = loose_walks (Says (Line.Proto i) ∷ to_kernel MessageKind.PullState i.from.home ∷ []) pt (λ q. tt, (λ q. tt, tt));
             last_chunk = loose_walks (Says (Line.Migration Stage.StateTaken p) ∷ to_kernel MessageKind.PullBlock i.from.home ∷ []) pt (λ q. tt, (λ q. tt, tt));
@@ -88,7 +98,7 @@ hears_walks b o m i is q h front told = walks_of (turned o m) (rule.hears b o m 
             next_block = loose_walks (Says (Line.Proto i) ∷ to_kernel MessageKind.PullBlock i.from.home ∷ []) pt (λ q. tt, (λ q. tt, tt));
             last_block = loose_walks (Says (Line.Migration Stage.MemoryTaken p) ∷ to_kernel MessageKind.AllTaken i.from.home ∷ []) pt (λ q. tt, (λ q. tt, tt));
             left = λ ids to leaves. leaves_walks pt i p ids to leaves.known lived.server;
-            restarted = λ kind free. first_walks (Says (Line.Migration Stage.Restarted p)) [] pt (lived, e.off (ap is_between kind)) tt;
+            restarted = λ kind free. first_walks (Says (Line.Migration Stage.Restarted p)) [] pt (lived, restarts_off pt.view p t.kind e kind) tt;
           }
           );
       updated = λ kind. loose_walks (updates o i t) pt (λ q. tt, tt);
@@ -105,6 +115,24 @@ hears_walks b o m i is q h front told = walks_of (turned o m) (rule.hears b o m 
 
 migrates_loose : (o : Point) (p : Pid) → AllLoose (migrates o p)
 migrates_loose o p = by_migrates AllLoose o p (λ pt. tt, tt) (λ pt. tt, tt) (λ n off is. (λ pt. tt, tt))
+
+sends_loose : (to : ℕ) (ids : List MsgId) (ps : List Part) → AllLoose ps → AllLoose (sends_on to ids ++ ps)
+sends_loose to [] ps h = h
+sends_loose to (i ∷ is) ps h = (λ q. tt, sends_loose to is ps h)
+
+-- what comes is no server
+comes_apart : (m from : ℕ) → Incoming from ≡ server_at m → ⊥
+comes_apart m from e = (elim (m == 0) as (λ c. Incoming from ≡ (if c then Here else Unknown) → ⊥) [ true ↦ λ f. cc | false ↦ λ f. cc ]) e
+
+calls_walks : (pt : Point) (m : ℕ) (p : Pid) → KnownStands pt.kernel pt.view → Walks (begun pt (Step.CallOff p m)) (calls_off pt m p (pt.view.known m p))
+calls_walks pt m p known =
+    let start = begun pt (Step.CallOff p m) in
+    by_calls_off (Walks start) pt m p (loose_walks (Says (Line.NoCall p) ∷ []) start (λ q. tt, tt)) (λ from is come. (
+    let ids = pt.view.held m p in
+    let end = to_kernel MessageKind.CallOff from ∷ [] in
+    let calling : Calling start.view p = record { from = from; comes = is; server = false_from_ne_true (is_server p) (λ s. comes_apart m from (sym is ∙ known.server m p s)) } in
+    first_walks (Says (Line.Called p (length ids))) (sends_on from ids ++ end) start calling (sends_loose from ids end (λ q. tt, tt))
+    ))
 
 pub begins : (o : Point) (m : ℕ) → Phased o → KnownStands o.kernel o.view → Begins o m
 begins o m h known = search (arith, begun_sane o (Step.Turn m) h.sane, calm_phases o.view (after_head o.view (Step.Turn m)) (head_calm o.view (Step.Turn m)) h.phases, rooted o h.sane h.ground, h.state)
@@ -125,6 +153,7 @@ outcome_walks b pt d h known = walks_of (begun pt d) (rule.outcome b pt d) (λ p
   ticks = λ m xs net. loose_walks xs (begun pt (Step.Tick m)) ((by_net AllLoose tt (λ l ps net h. ((λ pt. search arith), h)) (λ a b l ps h. (λ pt. tt, h))) xs net);
   delivers = λ a c k xs net. loose_walks xs (begun pt (Step.Deliver a c k)) ((by_net AllLoose tt (λ l ps net h. ((λ pt. search arith), h)) (λ a b l ps h. (λ pt. tt, h))) xs net);
   asks = λ p m. loose_walks (migrates pt p) (begun pt (Step.Migrate p m)) (migrates_loose pt p);
+  calls = λ p m. calls_walks pt m p known;
 }))
 
 -- each group keeps what each of its lines keeps

@@ -3,7 +3,7 @@ use Rattle.dm_rulelaws.proofs.Names.{◌≡◌, ℕ, ◌+◌, ◌==◌, true, fa
 use Rattle.dm_rulelaws.proofs.Names.{is_away, is_here, Point, label_of, kernel_after, moved, hushed, Sane, has_nothing_held, Bool, ap, ◌∙◌, sym, inl, inr, if◌then◌else◌, cases_Bool, false≢true, pid_eq, plain_kind, PlainMessage, PlainWhat}
 use Rattle.dm_rulelaws.proofs.Names.{Alive, Ended, Life, PlainProcess, answer_to, without_message, begun, pid_eq-is, pid_eq-same, is_kill, take, drop, by_step, is_some, seen, arith}
 use Rattle.dm_rule.proofs.Changes.{Lives}
-use Rattle.dm_rulelaws.proofs.Based.Needs.{Resting, Serves, Unborn, Living, Queues, Leaving, Needs, Rides, Keeps}
+use Rattle.dm_rulelaws.proofs.Based.Needs.{Resting, Serves, Unborn, Living, Queues, Leaving, Calling, Needs, Rides, Keeps}
 use Rattle.dm_onekernel.specs.Step as kernel
 use Rattle.dm_rule.specs.View as view
 use Rattle.dm_onekernel.specs.Kernel as kernels
@@ -176,6 +176,7 @@ pub record Loud (P : Point → Type 0) : Type 0 where
   pub restarted : (pt : Point) (p : Pid) → Living pt.kernel p → is_here (pt.view.known pt.view.acting p) ≡ false → P pt → P (moved pt (Line.Migration Stage.Restarted p) pt.kernel)
   pub stays_ : (pt : Point) (p : Pid) → Living pt.kernel p → is_here (pt.view.known pt.view.acting p) ≡ false → P pt → P (moved pt (Line.Stays p) pt.kernel)
   pub sent_on : (pt : Point) (p : Pid) (n : ℕ) → P pt → P (moved pt (Line.SentOn p n) pt.kernel)
+  pub called : (pt : Point) (p : Pid) (n : ℕ) → Calling pt.view p → P pt → P (moved pt (Line.Called p n) pt.kernel)
 
 -- a line that is no step
 unmoved_kernel : (P : Point → Type 0) (pt : Point) (t : OneKernel) (l : Line) → Some pt.kernel ≡ Some t → P (moved pt l pt.kernel) → P (moved pt l t)
@@ -205,6 +206,7 @@ line_keeps P loud pt t (Line.Head (Step.Turn m)) need sane is h = unmoved_kernel
 line_keeps P loud pt t (Line.Head (Step.Tick m)) need sane is h = unmoved_kernel P pt t (Line.Head (Step.Tick m)) is (quiet_line P loud pt (Line.Head (Step.Tick m)) refl (record { known = refl; ring = refl; queue = refl; held = refl; moves = refl }) refl sane h)
 line_keeps P loud pt t (Line.Head (Step.Deliver a b k)) need sane is h = unmoved_kernel P pt t (Line.Head (Step.Deliver a b k)) is (quiet_line P loud pt (Line.Head (Step.Deliver a b k)) refl (record { known = refl; ring = refl; queue = refl; held = refl; moves = refl }) refl sane h)
 line_keeps P loud pt t (Line.Head (Step.Migrate p m)) need sane is h = unmoved_kernel P pt t (Line.Head (Step.Migrate p m)) is (quiet_line P loud pt (Line.Head (Step.Migrate p m)) refl (record { known = refl; ring = refl; queue = refl; held = refl; moves = refl }) refl sane h)
+line_keeps P loud pt t (Line.Head (Step.CallOff p m)) need sane is h = unmoved_kernel P pt t (Line.Head (Step.CallOff p m)) is (quiet_line P loud pt (Line.Head (Step.CallOff p m)) refl (record { known = refl; ring = refl; queue = refl; held = refl; moves = refl }) refl sane h)
 line_keeps P loud pt t (Line.Migration Stage.Asked p) need sane is h = unmoved_kernel P pt t (Line.Migration Stage.Asked p) is (quiet_line P loud pt (Line.Migration Stage.Asked p) refl (record { known = refl; ring = refl; queue = refl; held = refl; moves = refl }) refl sane h)
 line_keeps P loud pt t (Line.Migration Stage.StateTaken p) need sane is h = unmoved_kernel P pt t (Line.Migration Stage.StateTaken p) is (quiet_line P loud pt (Line.Migration Stage.StateTaken p) refl (record { known = refl; ring = refl; queue = refl; held = refl; moves = refl }) refl sane h)
 line_keeps P loud pt t (Line.Migration Stage.MemoryTaken p) need sane is h = unmoved_kernel P pt t (Line.Migration Stage.MemoryTaken p) is (quiet_line P loud pt (Line.Migration Stage.MemoryTaken p) refl (record { known = refl; ring = refl; queue = refl; held = refl; moves = refl }) refl sane h)
@@ -222,6 +224,7 @@ line_keeps P loud pt t (Line.Migration Stage.Left p) need sane is h = unmoved_ke
 line_keeps P loud pt t (Line.Migration Stage.Restarted p) need sane is h = unmoved_kernel P pt t (Line.Migration Stage.Restarted p) is (loud.restarted pt p need.0 need.1 h)
 line_keeps P loud pt t (Line.Stays p) need sane is h = unmoved_kernel P pt t (Line.Stays p) is (loud.stays_ pt p need.0 need.1 h)
 line_keeps P loud pt t (Line.SentOn p n) need sane is h = unmoved_kernel P pt t (Line.SentOn p n) is (loud.sent_on pt p n h)
+line_keeps P loud pt t (Line.Called p n) need sane is h = unmoved_kernel P pt t (Line.Called p n) is (loud.called pt p n need h)
 line_keeps P loud pt t any_ need sane is h = unmoved_kernel P pt t any_ is (quiet_line P loud pt any_ refl (record { known = refl; ring = refl; queue = refl; held = refl; moves = refl }) refl sane h)
 
 pub keeps_by : (P : Point → Type 0) → Loud P → Keeps P

@@ -1,6 +1,6 @@
 -- What a line of a group needs, so that each line keeps what is known of processes; and a walk over a group's parts.
 use Rattle.dm_rulelaws.proofs.Names.{◌≡◌, ℕ, ◌==◌, Bool, true, false, List, [], ◌∷◌, length, refl, ap, ◌∙◌, subst, ⊤, if◌then◌else◌, Option, None, Some, Pid, MsgId, MessageKind, Stage, plain_kind, Boot, Label, PlainProcess, Alive}
-use Rattle.dm_rulelaws.proofs.Names.{OneKernel, bind-is, Step, Line, Load, View, Told, Unknown, Here, Frozen, is_kernels, own_id, Receiver, Point, label_of, kernel_after, moved, after_line, after, Part, Says, Routes, Again, Owns, Transmits}
+use Rattle.dm_rulelaws.proofs.Names.{OneKernel, bind-is, Step, Line, Load, View, Told, Unknown, Here, Frozen, Incoming, is_kernels, own_id, Receiver, Point, label_of, kernel_after, moved, after_line, after, Part, Says, Routes, Again, Owns, Transmits}
 use Rattle.dm_rulelaws.proofs.Names.{Spelled, lines_of, puts, goes_out, packet_line, spelled, is_away, is_here, group_of, group_is, is_kill, Sane, AllSayable, sane_line, part_sane, outcome_sayable, is_server, has_nothing_held, by_parts}
 use Rattle.dm_rule.specs.Rule as rule
 
@@ -40,6 +40,12 @@ pub record Leaving (v : View) (p : Pid) : Type 0 where
   pub queue : v.queue v.acting p ≡ []
   pub held : v.held v.acting p ≡ []
 
+-- a process is on its way here
+pub record Calling (v : View) (p : Pid) : Type 0 where
+  pub from : ℕ
+  pub comes : v.known v.acting p ≡ Incoming from
+  pub server : is_server p ≡ false
+
 abbrev pub NeedsLabel : Point → Label → Type 0
 NeedsLabel pt (Label.Ran p k) = pt.view.known pt.view.acting p ≡ Here
 NeedsLabel pt (Label.End p y) = Resting pt.view p
@@ -62,6 +68,7 @@ Needs pt (Line.Migration Stage.StateTaken p) = ⊤
 Needs pt (Line.Migration Stage.MemoryTaken p) = ⊤
 Needs pt (Line.Migration Stage.Left p) = Leaving pt.view p
 Needs pt (Line.Migration Stage.Restarted p) = Living pt.kernel p × (is_here (pt.view.known pt.view.acting p) ≡ false)
+Needs pt (Line.Called p n) = Calling pt.view p
 Needs pt (Line.Stays p) = Living pt.kernel p × (is_here (pt.view.known pt.view.acting p) ≡ false)
 Needs pt _ = ⊤
 

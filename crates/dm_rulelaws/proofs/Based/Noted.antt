@@ -4,7 +4,7 @@ use Rattle.dm_rulelaws.proofs.Names.{None, Some, Pid, pid_of, pid_eq, MsgId, Mes
 use Rattle.dm_rulelaws.proofs.Names.{Here, Frozen, Incoming, front_of, gone_to, handled, receiver_of, oldest, view_after, is_here, is_away, at_record, Point, label_of, kernel_after, after_line, after, moved, Part, Says, Routes, Spelled}
 use Rattle.dm_rulelaws.proofs.Names.{lines_of, puts, behind, spelled, group_of, group_is, sends_on, to_kernel, IsNetLine, queued_known, held_known, dropped_known, forwarded_known, proto_known, by_step, by_parts, by_outcome, by_round}
 use Rattle.dm_rulelaws.proofs.Names.{ends_move-is, by_handles, by_hears, by_net, by_migrates, by_forwards, Phased, KnownStands, pid_eq-is, pid_eq-same, left_parts, served_told, migrates, filter, not, ◌+◌, answers_move, leaves_for, aim}
-use Rattle.dm_rulelaws.proofs.Names.{sets, arith}
+use Rattle.dm_rulelaws.proofs.Names.{sets, arith, calls_off, by_calls_off}
 use Rattle.dm_onekernel.specs.Pieces as pieces
 use Rattle.dm_onekernel.specs.Step as kernel
 use Rattle.dm_rule.specs.Rule as rule
@@ -69,6 +69,9 @@ set_here v w p k known here m q e = search (arith, set_all, v.known, v.acting)
 gone_here : (k : Known) (n : ℕ) → is_here (gone_to k n) ≡ true → is_here k ≡ true
 gone_here k n h1 = search arith
 
+back_here : (k : Known) (n : ℕ) → is_here (view.goes_back k n) ≡ true → is_here k ≡ true
+back_here k n h1 = search arith
+
 served_here : (v : View) (o : Option Told) (m : ℕ) (q : Pid) → is_here ((served_told v o).known m q) ≡ true → is_here (v.known m q) ≡ true
 served_here v o m q h1 = search (arith, killed_or, v.known, set_here)
 
@@ -81,6 +84,7 @@ line_here v (Line.Head (Step.Turn m)) calm = λ n q e. e
 line_here v (Line.Head (Step.Tick m)) calm = λ n q e. e
 line_here v (Line.Head (Step.Deliver a b k)) calm = λ n q e. e
 line_here v (Line.Head (Step.Migrate p m)) calm = λ n q e. e
+line_here v (Line.Head (Step.CallOff p m)) calm = λ n q e. e
 line_here v (Line.Queued i) calm = same_here v (view_after v (Line.Queued i)) (queued_known (handled v i) i (receiver_of (v.told i)))
 line_here v (Line.Held i) calm = same_here v (view_after v (Line.Held i)) (held_known (handled v i) i (receiver_of (v.told i)))
 line_here v (Line.Forwarded i to) calm = same_here v (view_after v (Line.Forwarded i to)) (forwarded_known (handled v i) (receiver_of (v.told i)))
@@ -91,6 +95,7 @@ line_here v (Line.Taken a b n) calm =
 line_here v (Line.Migration Stage.Frozen p) calm = let set = sets v p v.topic in set_here v (view_after v (Line.Migration Stage.Frozen p)) p (Frozen (aim v v.topic)) set.known (λ e. absurd (false≢true e))
 line_here v (Line.Migration Stage.Accepted p) calm = set_here v (view_after v (Line.Migration Stage.Accepted p)) p (Incoming (front_of (v.inbox v.acting))) refl (λ e. absurd (false≢true e))
 line_here v (Line.Migration Stage.Left p) calm = set_here v (view_after v (Line.Migration Stage.Left p)) p (gone_to (v.known v.acting p) (v.moves p + 1)) refl (gone_here (v.known v.acting p) (v.moves p + 1))
+line_here v (Line.Called p n) calm = set_here v (view_after v (Line.Called p n)) p (view.goes_back (v.known v.acting p) (v.moves p)) refl (back_here (v.known v.acting p) (v.moves p))
 line_here v (Line.Migration Stage.Restarted p) calm = absurd calm
 line_here v (Line.Stays p) calm = absurd calm
 line_here v _ calm = λ m q e. e
@@ -299,7 +304,8 @@ hears_keeps b o m i q ps begins =
     let pt = turned o m in
     let calm : (qs : List Part) → AllCalm qs → Keeps pt qs = λ qs c. calm_keeps pt qs c in
     by_hears (Keeps pt) b o m i q ps (λ t there. record {
-      told = λ p x about alive. record {
+      stale = λ p about late. calm (Says (Line.Stale i) ∷ []) (tt, tt);
+      told = λ p x about alive due. record {
         accepted = λ ask. calm (Says (Line.Migration Stage.Accepted p) ∷ to_kernel MessageKind.PullState i.from.home ∷ []) (tt, (tt, tt));
         lacks = λ slots blocks. calm (Says (Line.Lacks p slots blocks) ∷ to_kernel MessageKind.Refuse i.from.home ∷ []) (tt, (tt, tt));
         stays = λ kind free. comes_keeps pt (Line.Stays p) p [] refl (λ t step. none_notes pt.kernel t step) (λ n noted. none_free (pt.kernel.notes p) n free noted) tt;
@@ -336,6 +342,7 @@ outcome_keeps b pt d ps h known = by_outcome (λ x xs. Keeps (moved pt (Line.Hea
   ticks = λ m xs net. calm_keeps (moved pt (Line.Head (Step.Tick m)) pt.kernel) xs ((by_net AllCalm tt (λ l ps net h. (net_calm l net, h)) (λ a b l ps h. (tt, h))) xs net);
   delivers = λ a c k xs net. calm_keeps (moved pt (Line.Head (Step.Deliver a c k)) pt.kernel) xs ((by_net AllCalm tt (λ l ps net h. (net_calm l net, h)) (λ a b l ps h. (tt, h))) xs net);
   asks = λ p m. calm_keeps (moved pt (Line.Head (Step.Migrate p m)) pt.kernel) (migrates pt p) (by_migrates AllCalm pt p (tt, tt) (tt, tt) (λ n off is. (tt, tt)));
+  calls = λ p m. calm_keeps (moved pt (Line.Head (Step.CallOff p m)) pt.kernel) (calls_off pt m p (pt.view.known m p)) (by_calls_off AllCalm pt m p (tt, tt) (λ from is come. (tt, sends_calm from (pt.view.held m p) (to_kernel MessageKind.CallOff from ∷ []) (tt, tt))));
 })
 
 pub noted_group : (b : Boot) (pt : Point) (d : Step) (w : Spelled) → group_of b pt d ≡ Some w → Phased pt → KnownStands pt.kernel pt.view → Away None pt.kernel pt.view → Away None w.point.kernel w.point.view

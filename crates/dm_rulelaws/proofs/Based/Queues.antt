@@ -111,6 +111,7 @@ waits_loud = record {
   restarted = λ pt p lives off h. record { queue = h.queue; held = λ n q i least. emptied pt.view p n q i h least };
   stays_ = λ pt p lives off h. record { queue = h.queue; held = λ n q i least. emptied pt.view p n q i h least };
   sent_on = λ pt p n h. (search (arith, set_all, pt.view.told, pt.view.queue, pt.view.acting, none_there, h.queue, emptied, pt.view));
+  called = λ pt p n calls h. record { queue = h.queue; held = λ m q i least. emptied pt.view p m q i h least };
 }
 
 pub waits_start : (b : Boot) → Waits (first_point b).view
@@ -214,17 +215,21 @@ lists_held_for : (v : View) (id : MsgId) (o : Option Told) → ((t : Told) → o
 lists_held_for v id None there h = h
 lists_held_for v id (Some t) there h = search (arith, set_all)
 
--- a process is here again: what was held comes to the inbox
-lists_rejoins : (v w : View) (p : Pid) → w.known ≡ at_record v.known v.acting p Here → w.queue ≡ v.queue → w.held ≡ at_record v.held v.acting p [] → ListsStand v → ListsStand w
-lists_rejoins v w p known queue held h =
+-- a machine learns something of a process, and holds nothing for it any more
+lists_unheld : (v w : View) (p : Pid) (k : Known) → w.known ≡ at_record v.known v.acting p k → w.queue ≡ v.queue → w.held ≡ at_record v.held v.acting p [] → (has_no_queue k ≡ true → v.queue v.acting p ≡ []) → ListsStand v → ListsStand w
+lists_unheld v w p k known queue held no_queue h =
     let a = v.acting in
     record {
       queue = λ m q e. ap (λ (f : ℕ → Pid → List MsgId). f m q) queue
-          ∙ set_all (λ n r x. has_no_queue x ≡ true → v.queue n r ≡ []) v.known a p Here (λ e. absurd (false≢true e)) (λ n r off. h.queue n r) m q (sym (ap (λ (f : ℕ → Pid → Known). has_no_queue (f m q)) known) ∙ e);
+          ∙ set_all (λ n r x. has_no_queue x ≡ true → v.queue n r ≡ []) v.known a p k no_queue (λ n r off. h.queue n r) m q (sym (ap (λ (f : ℕ → Pid → Known). has_no_queue (f m q)) known) ∙ e);
       held = λ m q e. ap (λ (f : ℕ → Pid → List MsgId). f m q) held
-          ∙ set_all (λ n r xs. has_nothing_held (at_record v.known a p Here n r) ≡ true → xs ≡ []) v.held a p [] (λ e. refl)
-          (λ n r off e. h.held n r (sym (ap (λ (c : Bool). has_nothing_held (if c then Here else v.known n r)) off) ∙ e)) m q (sym (ap (λ (f : ℕ → Pid → Known). has_nothing_held (f m q)) known) ∙ e);
+          ∙ set_all (λ n r xs. has_nothing_held (at_record v.known a p k n r) ≡ true → xs ≡ []) v.held a p [] (λ e. refl)
+          (λ n r off e. h.held n r (sym (ap (λ (c : Bool). has_nothing_held (if c then k else v.known n r)) off) ∙ e)) m q (sym (ap (λ (f : ℕ → Pid → Known). has_nothing_held (f m q)) known) ∙ e);
     }
+
+-- a process is here again: what was held comes to the inbox
+lists_rejoins : (v w : View) (p : Pid) → w.known ≡ at_record v.known v.acting p Here → w.queue ≡ v.queue → w.held ≡ at_record v.held v.acting p [] → ListsStand v → ListsStand w
+lists_rejoins v w p known queue held h = lists_unheld v w p Here known queue held (λ e. absurd (false≢true e)) h
 
 away_queue : (k : Known) → is_away k ≡ true → has_no_queue k ≡ true
 away_queue k h1 = search arith
@@ -258,6 +263,9 @@ lists_loud = record {
   sent_on = λ pt p n h.
       let v = pt.view in
       record { queue = set_all (NoQueue v) v.queue v.acting p [] (λ e. refl) (λ n r off. h.queue n r); held = set_all (NoneHeld v) v.held v.acting p [] (λ e. refl) (λ n r off. h.held n r) };
+  called = λ pt p n calls h.
+      let v = pt.view in
+      lists_unheld v (view.view_after v (Line.Called p n)) p (view.goes_back (v.known v.acting p) (v.moves p)) refl refl refl (λ e. h.queue v.acting p (ap has_no_queue calls.comes)) h;
 }
 
 pub lists_group : (b : Boot) (pt : Point) (d : Step) (w : Spelled) → group_of b pt d ≡ Some w → Phased pt → KnownStands pt.kernel pt.view → ListsStand pt.view → ListsStand w.point.view

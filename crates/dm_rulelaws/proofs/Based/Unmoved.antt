@@ -2,7 +2,7 @@
 use Rattle.dm_rulelaws.proofs.Names.{sets, ◌≡◌, ℕ, ◌+◌, Bool, refl, ap, ◌∙◌, sym, subst, inl, inr, if◌then◌else◌, cases_Bool, Option, None, Some, Pid, pid_eq, MsgId, Boot, Label, Line, Stage, PlainProcess, Alive, OneKernel, Step, pid_eq-is}
 use Rattle.dm_rulelaws.proofs.Names.{after_step, Spelled, Point, kernel_after, label_of, group_of, View, Told, handled, receiver_of, served_told, view_after, Kept, grown_none, Phased, Sane, KnownStands, ◌≢◌, ◌==◌, ◌&&◌, true, false, List}
 use Rattle.dm_rulelaws.proofs.Names.{[], ◌∷◌, ◌++◌, is_some, arith, false≢true, nat_tests, Life, bind-is, completing, at_machine, at_record, without, moved_back, Known, Unknown, Here, Frozen, Incoming, Forward, handled_first, front_of}
-use Rattle.dm_rulelaws.proofs.Names.{gone_to, rejoins, is_away, is_here, at_machine_at, is_kill, is_server, agrees, server_at, rings, turns_here, aim, at_hand-is}
+use Rattle.dm_rulelaws.proofs.Names.{gone_to, rejoins, is_away, is_here, at_machine_at, is_kill, is_server, agrees, server_at, rings, turns_here, aim, at_hand-is, goes_back}
 use Rattle.dm_rule.specs.View.{Ended}
 use Rattle.dm_onekernel.specs.Step as kernel
 use Rattle.dm_rule.specs.View as view
@@ -70,6 +70,7 @@ unmoved_loud = record {
   restarted = λ pt p lives off h. restarted_moves pt.kernel pt.view (view_after pt.view (Line.Migration Stage.Restarted p)) p lives.process lives.alive refl h;
   stays_ = λ pt p lives off h. record { none = h.none };
   sent_on = λ pt p n h. record { none = h.none };
+  called = λ pt p n calls h. record { none = h.none };
 }
 
 pub unmoved_group : (b : Boot) (pt : Point) (d : Step) (w : Spelled) → group_of b pt d ≡ Some w → Phased pt → KnownStands pt.kernel pt.view → Unmoved pt.kernel pt.view → Unmoved w.point.kernel w.point.view
@@ -96,6 +97,12 @@ agrees_alike k a b e = by_sort k a ∙ ap (agrees_by k) e ∙ sym (by_sort k b)
 
 here_agrees : (o : Option Life) → life_sort o ≡ Some true → agrees Here o ≡ true
 here_agrees o h1 = search arith
+
+coming_some : (from : ℕ) (o : Option Life) → agrees (Incoming from) o ≡ true → is_some o ≡ true
+coming_some from o h1 = search arith
+
+forward_agrees : (at moves : ℕ) (o : Option Life) → is_some o ≡ true → agrees (Forward at moves) o ≡ true
+forward_agrees at moves o h1 = search arith
 
 frozen_some : (d : ℕ) (o : Option Life) → agrees (Frozen d) o ≡ true → is_some o ≡ true
 frozen_some d o h1 = search arith
@@ -298,6 +305,22 @@ known_loud = record {
       comes_known pt.kernel pt.kernel pt.view (rejoins (handled_first pt.view) p) p lives.server refl refl (alive_set pt.kernel p lives.process lives.alive)
       (λ n o. h.agree n p lives.server) (λ e. ap is_some lives.alive) off h;
   sent_on = λ pt p n h. record { server = h.server; agree = h.agree; home = h.home; ring = h.ring };
+  called = λ pt p n calls h.
+      let v = pt.view in
+      let at = v.moves p in
+      let k : goes_back (v.known v.acting p) at ≡ Forward calls.from at = ap (λ (x : Known). goes_back x at) calls.comes in
+      let some = coming_some calls.from (pt.kernel.processes p) (sym (ap (λ (x : Known). agrees x (pt.kernel.processes p)) calls.comes) ∙ h.agree v.acting p calls.server) in
+      known_learns pt.kernel pt.kernel v (view_after v (Line.Called p n)) p (goes_back (v.known v.acting p) at) (record {
+        server = calls.server;
+        known = refl;
+        others = λ q apart. refl;
+        mine = ap (λ (x : Known). agrees x (pt.kernel.processes p)) k ∙ forward_agrees calls.from at (pt.kernel.processes p) some;
+        away = λ m off. h.agree m p calls.server;
+        some = λ e. (let f : Forward calls.from at ≡ Unknown = sym k ∙ e in cc);
+        far = λ e. some;
+        ring = h.ring v.acting p ∙ turns_off (is_server p) (v.known v.acting p) (ap is_here calls.comes) ∙ sym (turns_off false (goes_back (v.known v.acting p) at) (ap is_here k));
+        rings_ = λ m q off. refl;
+      }) h;
 }
 
 pub known_group : (b : Boot) (pt : Point) (d : Step) (w : Spelled) → group_of b pt d ≡ Some w → Phased pt → KnownStands pt.kernel pt.view → KnownStands w.point.kernel w.point.view

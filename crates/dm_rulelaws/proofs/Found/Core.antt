@@ -2,7 +2,7 @@
 use Rattle.dm_rulelaws.proofs.Names.{◌≡◌, ◌≢◌, ◌⊎◌, ℕ, ◌<◌, ◌==◌, ◌&&◌, Bool, true, false, is_some, refl, ap, ◌∙◌, sym, subst, inl, inr, ⊤, if◌then◌else◌, Option, Some, cases_Bool, Pid, Place, pid_eq, MsgId, PlainMessage, pid_eq-is}
 use Rattle.dm_rulelaws.proofs.Names.{at_record, View, Told, About, Target, Known, Unknown, Frozen, Incoming, Forward, is_kernels, Addresses, Receiver, ascends, Point, eq_is, parts, is_own, KernelFits, is_fixed, times, receiver_of, ◌≤◌}
 use Rattle.dm_rulelaws.proofs.Names.{None, false≢true, id_eq, MessageKind, Line, manager, id_eq-is, after_put, Sender, given, own_given, first_gives, moved, not_true, put_at, put_told_off, sort_of, List, [], ◌∷◌, ◌++◌, arith, own_id}
-use Rattle.dm_rulelaws.proofs.Names.{view_after, handled, forwarded_for, forward_about, place_known, all_follow, forwards, updated, Spot, standing, one_of, Named, zero_cases, flip_zero}
+use Rattle.dm_rulelaws.proofs.Names.{view_after, handled, forwarded_for, forward_about, place_known, all_follow, forwards, updated, Spot, standing, one_of, Named, zero_cases, flip_zero, goes_back}
 use Rattle.dm_rulelaws.proofs.Found.Lists.{Places, places_put, places_line, places_handled, places_forwarded, AllAre, all_as, put_all, put_routed, put_again, put_tells, routed_gives, forwarded_all, sent_on_all, updated_all, updated_leaves}
 use Rattle.dm_rulelaws.proofs.Found.Lists.{Sends}
 
@@ -289,6 +289,34 @@ sent_core n pt p k need h =
     let w = view_after v (Line.SentOn p k) in
     given_core n pt w b refl (λ m q. refl) refl tt (sent_on_all (Knows v) pt.kernel v a p ids need.knows h.all)
     (λ i z e. let x = places_line (IsAt a v) v (Line.SentOn p k) tt h.places i z e in (
+      elim (zero_cases (times i ids)) [
+        | inl none ↦ ap (λ (q : Place). q.at) (follow_off v a p i ids none) ∙ x.0
+        | inr least ↦ absurd (let f = need.gone i z k least in omega (arith, e, f))
+      ],
+      x.1,
+    )) h
+
+-- a process was on its way here from a machine that knows it, and what is held for it is for it
+pub record NeedsCalled (pt : Point) (p : Pid) : Type 0 where
+  pub from : ℕ
+  pub comes : pt.view.known pt.view.acting p ≡ Incoming from
+  pub there : pt.view.known from p ≢ Unknown
+  pub knows : (i : MsgId) (q : Pid) → 1 ≤ times i (pt.view.held pt.view.acting p) → Named pt.kernel pt.view (Receiver i) q → Knows pt.view q (place_known (pt.view.known pt.view.acting p) (pt.view.moves p) (pt.addresses (Receiver i)))
+  pub gone : (i : MsgId) (z : Spot) (k : ℕ) → 1 ≤ times i (pt.view.held pt.view.acting p) → standing (view_after pt.view (Line.Called p k)) i z ≡ 0
+
+-- what was held goes back, and so does the process
+pub called_core : (n : ℕ) (pt : Point) (p : Pid) (k : ℕ) → NeedsCalled pt p → LineCore n pt → LineCore n (moved pt (Line.Called p k) pt.kernel)
+called_core n pt p k need h =
+    let v = pt.view in
+    let a = pt.addresses in
+    let ids = v.held v.acting p in
+    let b = given a (all_follow v a p ids) in
+    let w = view_after v (Line.Called p k) in
+    let was = subst (KnownIs n v v.acting p) need.comes (h.known v.acting p) in
+    let back : goes_back (v.known v.acting p) (v.moves p) ≡ Forward need.from (v.moves p) = ap (λ (x : Known). goes_back x (v.moves p)) need.comes in
+    let learnt = learns n v w p (goes_back (v.known v.acting p) (v.moves p)) refl refl (λ e. let f : Forward need.from (v.moves p) ≡ Unknown = sym back ∙ e in cc) (subst (KnownIs n v v.acting p) (sym back) (was.0, need.there, was.2)) h.known in
+    core_view n pt w b h.acting learnt.grows learnt.known refl tt (sent_on_all (Knows v) pt.kernel v a p ids need.knows h.all)
+    (λ i z e. let x = places_line (IsAt a v) v (Line.Called p k) tt h.places i z e in (
       elim (zero_cases (times i ids)) [
         | inl none ↦ ap (λ (q : Place). q.at) (follow_off v a p i ids none) ∙ x.0
         | inr least ↦ absurd (let f = need.gone i z k least in omega (arith, e, f))

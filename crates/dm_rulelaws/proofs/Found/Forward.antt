@@ -2,9 +2,9 @@
 use Rattle.dm_rulelaws.proofs.Names.{◌≡◌, ◌≢◌, ℕ, ◌<◌, ◌≤◌, Bool, true, false, List, [], ◌∷◌, ◌++◌, length, refl, ap, ◌∙◌, sym, subst, inl, inr, arith, if◌then◌else◌, Option, None, Some, cases_Bool, false≢true, Pid, Place, MsgId, id_eq}
 use Rattle.dm_rulelaws.proofs.Names.{MessageKind, Line, Stage, id_eq-is, id_eq-same, View, Told, Known, Unknown, Frozen, Forward, is_kernels, own_id, handled, forwarded_for, forward_about, receiver_of, view_after, Addresses, Receiver}
 use Rattle.dm_rulelaws.proofs.Names.{Sender, given, place_known, all_follow, is_told_back, forwards, Point, moved, Part, Says, Again, Owns, to_kernel, forwards_on, sends_on, leaves, Spot, times, standing, StandsAsBag, letters, not_true}
-use Rattle.dm_rulelaws.proofs.Names.{both_lists, without_all, without_at, first_off, sent_way, one_of, front_gone, forwarded_known, State, Sane, Named, forwarded_back, is_own, is_fixed}
+use Rattle.dm_rulelaws.proofs.Names.{both_lists, without_all, without_at, first_off, sent_way, one_of, front_gone, forwarded_known, State, Sane, Named, forwarded_back, is_own, is_fixed, called_parts, called_way, Incoming}
 use Rattle.dm_rule.proofs.Trails.Places.{Owns}
-use Rattle.dm_rulelaws.proofs.Found.Core.{AboutIs, KnowsAt, Knows, IsReal, KnownIs, LineCore, Grows, knows_grow, real_grows, NeedsForward, NeedsSent}
+use Rattle.dm_rulelaws.proofs.Found.Core.{AboutIs, KnowsAt, Knows, IsReal, KnownIs, LineCore, Grows, knows_grow, real_grows, NeedsForward, NeedsSent, NeedsCalled}
 use Rattle.dm_rulelaws.proofs.Found.Parts.{AllNeed, NeedOf, NeedsOwn, Same, again_same, loose_need, own_outside, own_fresh, to_one}
 use Rattle.dm_rulelaws.proofs.Based.Needs.{said_by}
 
@@ -72,11 +72,11 @@ pub moves_back : (k : MessageKind) → is_own k ≡ true → is_told_back k ≡ 
 moves_back k h1 h2 = search arith
 
 -- all that wait for a process go on
-follow_at : (v : View) (a : Addresses) (p : Pid) (to : ℕ) (ids : List MsgId) (i : MsgId) → v.known v.acting p ≡ Frozen to → 1 ≤ times i ids → (given a (all_follow v a p ids) (Receiver i)).at ≡ to
+follow_at : (v : View) (a : Addresses) (p : Pid) (to : ℕ) (ids : List MsgId) (i : MsgId) → ((before : Place) → (place_known (v.known v.acting p) (v.moves p) before).at ≡ to) → 1 ≤ times i ids → (given a (all_follow v a p ids) (Receiver i)).at ≡ to
 follow_at v a p to [] i at least = absurd (omega (arith, least))
 follow_at v a p to (j ∷ js) i at least = elim (cases_Bool (id_eq j i)) [
   | inl same ↦
-      ap (λ (b : Bool). (if b then place_known (v.known v.acting p) (v.moves p) (a (Receiver j)) else given a (all_follow v a p js) (Receiver i)).at) same ∙ ap (λ (k : Known). (place_known k (v.moves p) (a (Receiver j))).at) at
+      ap (λ (b : Bool). (if b then place_known (v.known v.acting p) (v.moves p) (a (Receiver j)) else given a (all_follow v a p js) (Receiver i)).at) same ∙ at (a (Receiver j))
   | inr apart ↦
       let off : one_of i j ≡ 0 = ap (λ (b : Bool). if b then 1 else 0) (not_true (id_eq i j) (λ e. false≢true (sym apart ∙ ap (λ (x : MsgId). id_eq x i) (sym (id_eq-is i j e)) ∙ id_eq-same i))) in
       ap (λ (b : Bool). (if b then place_known (v.known v.acting p) (v.moves p) (a (Receiver j)) else given a (all_follow v a p js) (Receiver i)).at) apart ∙ follow_at v a p to js i at (omega (arith, least, off))
@@ -96,15 +96,15 @@ left_need : (n : ℕ) (start q : Point) (p : Pid) (to from : ℕ) → q.view.act
     → AllNeed n q (Says (Line.Migration Stage.Left p) ∷ to_kernel MessageKind.Restart from ∷ [])
 left_need n start q p to from acting known at there le = search (arith, start.view.known, q.view.acting, loose_need, to_one)
 
+none_stands : (o : Option Pid) (f : Spot → ℕ) → o ≡ None → StandsAsBag o f → (z : Spot) → f z ≡ 0
+none_stands None f e h z = h z
+none_stands (Some x) f e h z = cc
+
 sent_gone : (pt : Point) (p : Pid) (id : MsgId) (is : List MsgId) → State None pt → pt.view.inbox pt.view.acting ≡ id ∷ is → is_kernels id ≡ true → (i : MsgId) (z : Spot) (k : ℕ) → 1 ≤ times i (both_lists pt.view p) → standing (view_after pt.view (Line.SentOn p k)) i z ≡ 0
 sent_gone pt p id is state front own i z k least =
     let b = sent_way pt p k id is state front own in
     let bag = letters b.own pt.kernel.bag in
-    nowhere (without_all (both_lists pt.view p) bag i) (standing (view_after pt.view (Line.SentOn p k)) i) (without_at (both_lists pt.view p) bag i least) (b.stands.kept i) z
-  where
-    nowhere : (o : Option Pid) (f : Spot → ℕ) → o ≡ None → StandsAsBag o f → (z : Spot) → f z ≡ 0
-    nowhere None f e h z = h z
-    nowhere (Some x) f e h z = cc
+    none_stands (without_all (both_lists pt.view p) bag i) (standing (view_after pt.view (Line.SentOn p k)) i) (without_at (both_lists pt.view p) bag i least) (b.stands.kept i) z
 
 -- where all is taken of a process that leaves
 pub leaves_need : (n : ℕ) (pt : Point) (id : MsgId) (is : List MsgId) (p : Pid) (k : Known) → pt.view.inbox pt.view.acting ≡ id ∷ is → State None pt → LineCore n pt → is_kernels id ≡ true → pt.view.known pt.view.acting p ≡ k
@@ -124,7 +124,39 @@ leaves_need n pt id is p (Frozen to) front state h own at there free for le =
           let s = said_by pt next (Line.SentOn p (length ids)) (record { lines = ls; are = is_; leads = leads }) in
           let first = moved pt (Line.SentOn p (length ids)) s.kernel in
           subst (λ (q : Point). AllNeed n q (sends_on to ids ++ Says (Line.Migration Stage.Left p) ∷ to_kernel MessageKind.Restart id.from.home ∷ [])) s.is
-          (agains_need n pt first to ids (Says (Line.Migration Stage.Left p) ∷ to_kernel MessageKind.Restart id.from.home ∷ []) (λ i least. follow_at v a p to ids i at least) refl (λ m q. refl)
+          (agains_need n pt first to ids (Says (Line.Migration Stage.Left p) ∷ to_kernel MessageKind.Restart id.from.home ∷ []) (λ i least. follow_at v a p to ids i (λ before. ap (λ (k : Known). (place_known k (v.moves p) before).at) at) least) refl (λ m q. refl)
           (λ q acting same_known. left_need n pt q p to id.from.home acting same_known at known le))),
     )
 leaves_need n pt id is p _ front state h own at there free for le = tt
+
+called_gone : (pt : Point) (p : Pid) → State None pt → (i : MsgId) (z : Spot) (k : ℕ) → 1 ≤ times i (pt.view.held pt.view.acting p) → standing (view_after pt.view (Line.Called p k)) i z ≡ 0
+called_gone pt p state i z k least =
+    let b = called_way pt p k state in
+    let bag = letters b.own pt.kernel.bag in
+    let ids = pt.view.held pt.view.acting p in
+    none_stands (without_all ids bag i) (standing (view_after pt.view (Line.Called p k)) i) (without_at ids bag i least) (b.stands.kept i) z
+
+-- where a migration is called off
+pub calls_need : (n : ℕ) (pt : Point) (p : Pid) (from : ℕ) → State None pt → LineCore n pt → pt.view.known pt.view.acting p ≡ Incoming from → pt.view.known from p ≢ Unknown
+    → ((i : MsgId) (q : Pid) → 1 ≤ times i (pt.view.held pt.view.acting p) → Named pt.kernel pt.view (Receiver i) q → q ≡ p) → AllNeed n pt (called_parts p (pt.view.held pt.view.acting p) from)
+calls_need n pt p from state h comes there for =
+    let v = pt.view in
+    let a = pt.addresses in
+    let ids = v.held v.acting p in
+    let end = to_kernel MessageKind.CallOff from ∷ [] in
+    let was = subst (KnownIs n v v.acting p) comes (h.known v.acting p) in
+    let needs : NeedsCalled pt p = record {
+      from = from;
+      comes = comes;
+      there = there;
+      knows = λ i q least e. subst (λ (x : Known). Knows v q (place_known x (v.moves p) (a (Receiver i)))) (sym comes) (subst (λ (r : Pid). KnowsAt v r from) (sym (for i q least e)) (inr (was.2, there)));
+      gone = λ i z k least. called_gone pt p state i z k least;
+    } in (
+      needs,
+      (λ ls next is_ leads.
+          let s = said_by pt next (Line.Called p (length ids)) (record { lines = ls; are = is_; leads = leads }) in
+          let first = moved pt (Line.Called p (length ids)) s.kernel in
+          subst (λ (q : Point). AllNeed n q (sends_on from ids ++ end)) s.is
+          (agains_need n first first from ids end (λ i least. follow_at v a p from ids i (λ before. ap (λ (k : Known). (place_known k (v.moves p) before).at) comes) least) refl (λ m q. refl)
+          (λ q acting same_known. loose_need n q end (to_one n MessageKind.CallOff from (λ q. refl) (λ e. cc) refl was.1)))),
+    )

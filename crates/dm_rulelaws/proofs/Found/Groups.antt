@@ -2,13 +2,14 @@
 use Rattle.dm_rulelaws.proofs.Names.{◌≡◌, ℕ, ◌<◌, ◌≤◌, Bool, true, false, is_some, List, ◌∷◌, refl, ap, ◌∙◌, sym, subst, inl, inr, arith, if◌then◌else◌, Option, None, Some, Pid, MsgId, plain_kind, PlainMessage, MessageKind, Boot, manager}
 use Rattle.dm_rulelaws.proofs.Names.{Step, id_eq-same, alive-is, Line, View, Told, About, Of, Unknown, Here, Frozen, Incoming, Forward, is_kernels, receiver_of, target_in, target_of, front_of, Child, Receiver, Sender, names, sender_of}
 use Rattle.dm_rulelaws.proofs.Names.{IsStep, forwards_on, migrates, Part, Owns, Spelled, Moves, is_between, is_restart, is_early, knows, receiver_in, tells_onward, Point, moved, group_of, Inbox, Queue, Held, times, standing, group_is}
-use Rattle.dm_rulelaws.proofs.Names.{turn_off, letters, eq_is, parts, both_lists, both_times, under_way, front_kernels, Phased, due, head_calm, InPhases, calm_phases, rooted, State, Sane, sane_line, outcome_sayable, Comes, Named, Links}
-use Rattle.dm_rulelaws.proofs.Names.{child_is, source_holds, destination_expects, is_fixed, eq_self, about_same, front_one, least_of, by_migrates, by_net, by_outcome, sort_of, slice_get, option_and_then}
+use Rattle.dm_rulelaws.proofs.Names.{turn_off, letters, eq_is, parts, both_lists, both_times, under_way, front_kernels, Phased, head_calm, InPhases, calm_phases, rooted, State, Sane, sane_line, outcome_sayable, Comes, Named, Links}
+use Rattle.dm_rulelaws.proofs.Names.{child_is, source_holds, destination_expects, is_fixed, eq_self, about_same, front_one, least_of, by_migrates, by_net, by_outcome, sort_of, slice_get, option_and_then, call_off, by_calls_off, coming_is}
+use Rattle.dm_rulelaws.proofs.Names.{source_knows, calls_off, is_calloff, pulls_piece, Due, due_or_left, Pulled, pulled, false≢true, Says, []}
 use Rattle.dm_rule.proofs.Groups.{begun}
 use Rattle.dm_rule.proofs.Trails.Places.{Owns}
 use Rattle.dm_rulelaws.proofs.Found.Labels.{there_known, line_core}
 use Rattle.dm_rulelaws.proofs.Found.Core.{IsReal, AboutIs, KnownIs, LineCore, known_within}
-use Rattle.dm_rulelaws.proofs.Found.Forward.{forwards_need, moves_back, leaves_need, named_for}
+use Rattle.dm_rulelaws.proofs.Found.Forward.{forwards_need, moves_back, leaves_need, calls_need, named_for}
 use Rattle.dm_rulelaws.proofs.Found.Parts.{AllNeed, NeedOf, AllLoose, loose_need, first_need, parts_core, Heard, told_by_need, round_need, handles_need, Moves as MovesTo}
 use Rattle.dm_rulelaws.proofs.Found.Real.{made_free, child_real, sends_real, has_some}
 use Rattle.dm_rule.specs.Phases as phases
@@ -67,13 +68,12 @@ waits_for pt p i q holds state sane least named = elim (least_of (standing pt.vi
   | inr hold ↦ let (t, told, to) = holds pt.view.acting p i hold in told_for pt (pt.view.told i) i p q sane refl (ap receiver_of told ∙ ap Some to) named
 ]
 
--- a message of a migration is heard
-heard : (n : ℕ) (pt : Point) (m : ℕ) (i : MsgId) (is : List MsgId) (t : Told) (p : Pid) → LineCore n (headed pt (Step.Turn m)) → HeldFor pt.view → Sane (headed pt (Step.Turn m)) → State None (headed pt (Step.Turn m)) → InPhases (headed pt (Step.Turn m)).view
-    → pt.view.inbox m ≡ i ∷ is → pt.view.told i ≡ Some t → is_kernels i ≡ true → t.about ≡ Of p → is_between t.kind ≡ true → Heard n (headed pt (Step.Turn m)) pt m i p t.kind
-heard n pt m i is t p h holds sane state in_ front told own about between =
+-- a message of a migration is heard: the one of its process
+heard_due : (n : ℕ) (pt : Point) (m : ℕ) (i : MsgId) (is : List MsgId) (t : Told) (p : Pid) (in_ : InPhases (headed pt (Step.Turn m)).view) → LineCore n (headed pt (Step.Turn m)) → HeldFor pt.view → Sane (headed pt (Step.Turn m)) → State None (headed pt (Step.Turn m))
+    → pt.view.inbox m ≡ i ∷ is → is_kernels i ≡ true → t.about ≡ Of p → Due (headed pt (Step.Turn m)) i t in_ → Heard n (headed pt (Step.Turn m)) pt m i p t.kind
+heard_due n pt m i is t p in_ h holds sane state front own about u =
     let start = headed pt (Step.Turn m) in
     let v = start.view in
-    let u = due start i is t in_ front told between in
     let pq : p ≡ u.p = about_same p u.p (sym about ∙ ap (λ (x : Told). x.about) u.told) in
     let isin : phases.IsIn v u.p (Moves u.k u.s u.d (Some i)) = subst (phases.IsIn v u.p) u.phase (in_.each u.p) in
     let within = moves_within n v u.p u.k u.s u.d (Some i) (isin.known u.s) h.known in
@@ -87,13 +87,40 @@ heard n pt m i is t p h holds sane state in_ front told own about between =
           let late : is_restart u.k ≡ false = ap is_restart kind_ in
           let at : m ≡ u.s = u.acting ∙ ap (λ (x : MessageKind). receiver_in x u.s u.d) kind_ in
           let held : pt.view.known m p ≡ Frozen u.d = ap (pt.view.known m) pq ∙ ap (λ (x : ℕ). pt.view.known x u.p) at ∙ source_holds v u.p u.k u.s u.d (Some i) isin late in
-          let comes_ : pt.view.known u.d p ≡ Incoming u.s = ap (pt.view.known u.d) pq ∙ destination_expects v u.p u.k u.s u.d (Some i) isin (ap is_early kind_) in
+          let comes_ : pt.view.known u.d p ≡ Incoming u.s = ap (pt.view.known u.d) pq ∙ destination_expects v u.p u.k u.s u.d (Some i) isin (ap is_early kind_) (ap is_calloff kind_) in
           leaves_need n start i is p (pt.view.known m p) front state h own refl
           (λ to e f. let g : u.d ≡ to = cc (sym held ∙ e) in
           let z : Incoming u.s ≡ Unknown = sym comes_ ∙ ap (λ (x : ℕ). pt.view.known x p) g ∙ f in cc)
           free
           (λ j q least named. waits_for start p j q holds state sane least named) from),
     )
+
+-- or what asks for a piece of one that is called off
+heard_left : (n : ℕ) (pt : Point) (m : ℕ) (i : MsgId) (is : List MsgId) (t : Told) (p : Pid) (in_ : InPhases (headed pt (Step.Turn m)).view) → LineCore n (headed pt (Step.Turn m)) → Sane (headed pt (Step.Turn m)) → pt.view.inbox m ≡ i ∷ is
+    → Pulled (headed pt (Step.Turn m)).view p (in_.of p) i t m → Heard n (headed pt (Step.Turn m)) pt m i p t.kind
+heard_left n pt m i is t p in_ h sane front u =
+    let v = (headed pt (Step.Turn m)).view in
+    let isin : phases.IsIn v p (Moves MessageKind.CallOff u.s u.d u.id) = subst (phases.IsIn v p) u.is (in_.each p) in
+    let within = moves_within n v p MessageKind.CallOff u.s u.d u.id (isin.known u.s) h.known in
+    let from : i.from.home < n = subst (λ (x : ℕ). x < n) (sym (ap (λ (x : Pid). x.home) u.from)) within.1 in (
+      from,
+      (subst (λ (x : ℕ). x < n) (sym (ap front_of front)) from, within.2),
+      (λ z e. sane.sound.notes.noted p z e),
+      (λ all. absurd (false≢true (sym (ap (λ (k : MessageKind). pulls_piece (sort_of k)) all) ∙ u.pulls))),
+    )
+
+heard : (n : ℕ) (pt : Point) (m : ℕ) (i : MsgId) (is : List MsgId) (t : Told) (p : Pid) → LineCore n (headed pt (Step.Turn m)) → HeldFor pt.view → Sane (headed pt (Step.Turn m)) → State None (headed pt (Step.Turn m)) → InPhases (headed pt (Step.Turn m)).view
+    → pt.view.inbox m ≡ i ∷ is → pt.view.told i ≡ Some t → is_kernels i ≡ true → t.about ≡ Of p → is_between t.kind ≡ true → rule.is_stale pt m i t.kind p ≡ false → Heard n (headed pt (Step.Turn m)) pt m i p t.kind
+heard n pt m i is t p h holds sane state in_ front told own about between fresh =
+    let start = headed pt (Step.Turn m) in
+    let v = start.view in
+    elim (due_or_left start i is t in_ front told between) [
+      | inl u ↦ heard_due n pt m i is t p in_ h holds sane state front own about u
+      | inr r ↦
+          let same : r.p ≡ p = about_same r.p p (sym r.about ∙ about) in
+          let left : phases.IsLeft v p (in_.of p) i t = subst (λ (q : Pid). phases.IsLeft v q (in_.of q) i t) same r.left in
+          heard_left n pt m i is t p in_ h sane front (pulled v p (in_.of p) i t m left (front_one v m i is front) fresh)
+    ]
 
 -- a turn
 forward_free : (n : ℕ) (v : View) (m : ℕ) (p : Pid) (to c : ℕ) → v.known m p ≡ Forward to c → AllKnown n v → is_fixed p ≡ false
@@ -129,9 +156,24 @@ own_need n b pt m i is ps h holds sane state in_ front there e =
     let front_is : option_and_then start.view.told (slice_get (start.view.inbox m) 0) ≡ Some t = ap (λ (ids : List MsgId). option_and_then start.view.told (slice_get ids 0)) front ∙ told in
     subst (NeedOf n start) (ap (rule.hears b pt m i) (sym told) ∙ e)
     (told_by_need n start b pt m i t at le (subst (λ (x : Option Told). target_of x < n) (sym front_is) le)
-    (λ p about between. heard n pt m i is t p h holds sane state in_ front told own about between)
+    (λ p about between fresh. heard n pt m i is t p h holds sane state in_ front told own about between fresh)
     (λ to c f. forwards_need n start i is t manager to c front state sane h told f (forward_free n start.view m t.receiver to c f h.known)
     (λ back. (h.all (Sender i) manager (Owns (Comes i t refl own told (moves_back t.kind (h.real i t told own).1 back) refl)), inl (refl, some)))))
+
+-- a migration is called off
+held_for : (pt : Point) (p : Pid) (i : MsgId) (q : Pid) → HeldFor pt.view → Sane pt → 1 ≤ times i (pt.view.held pt.view.acting p) → Named pt.kernel pt.view (Receiver i) q → q ≡ p
+held_for pt p i q holds sane least named = let (t, told, to) = holds pt.view.acting p i least in told_for pt (pt.view.told i) i p q sane refl (ap receiver_of told ∙ ap Some to) named
+
+calls_off_need : (n : ℕ) (pt : Point) (p : Pid) (m : ℕ) → Phased pt → HeldFor pt.view → LineCore n (headed pt (Step.CallOff p m)) → AllNeed n (headed pt (Step.CallOff p m)) (calls_off pt m p (pt.view.known m p))
+calls_off_need n pt p m base holds h =
+    let start = headed pt (Step.CallOff p m) in
+    let state = begun pt (Step.CallOff p m) base.state (λ z. call_off pt.view p m z) (λ i. refl) in
+    by_calls_off (AllNeed n start) pt m p (first_need n start (Says (Line.NoCall p)) [] tt tt) (λ from is come. (
+    let phase = base.phases.of p in
+    let c = coming_is phase m from (sym (ap (knows phase m) is) ∙ (base.phases.each p).known m) in
+    let there = source_knows pt.view p c.kind from m c.id (subst (phases.IsIn pt.view p) c.is (base.phases.each p)) in
+    calls_need n start p from state h is there (λ i q least named. held_for start p i q holds (head_sane pt (Step.CallOff p m) base.sane) least named)
+    ))
 
 outcome_need : (n : ℕ) (b : Boot) (pt : Point) (d : Step) (ps : List Part) → Phased pt → HeldFor pt.view → LineCore n pt → rule.outcome b pt d ≡ Some ps → LineCore n (headed pt d) → AllNeed n (headed pt d) ps
 outcome_need n b pt d ps base holds core =
@@ -147,6 +189,7 @@ outcome_need n b pt d ps base holds core =
           own_need n b pt m i is xs h holds (head_sane pt (Step.Turn m) base.sane) (state m) (calm_phases pt.view (headed pt (Step.Turn m)).view (head_calm pt.view (Step.Turn m)) base.phases) box none e;
       ticks = λ m xs net h. loose_need n (headed pt (Step.Tick m)) xs ((by_net (AllLoose n) tt (λ l ps net h. ((λ pt. search arith), h)) (λ a b l ps h. (λ pt. tt, h))) xs net);
       delivers = λ a c k xs net h. loose_need n (headed pt (Step.Deliver a c k)) xs ((by_net (AllLoose n) tt (λ l ps net h. ((λ pt. search arith), h)) (λ a b l ps h. (λ pt. tt, h))) xs net);
+      calls = λ p m h. calls_off_need n pt p m base holds h;
       asks = λ p m h. migrates_need n (headed pt (Step.Migrate p m)) p refl h (λ k named. child_real pt n k p core named);
     })
 

@@ -12,8 +12,8 @@ use Rattle.dm_rule.specs.View.{Ended}
 use Rattle.dm_rule.proofs.Trails.Places.{Owns}
 use Rattle.dm_rulelaws.proofs.Fits.Start.{fits_step}
 use Rattle.dm_rulelaws.proofs.Found.Lists.{places_label, places_about, Places, Brings, places_line, AllAre, all_as, Sends, step_leaves, created_for}
-use Rattle.dm_rulelaws.proofs.Found.Core.{AboutIs, KnowsAt, Knows, IsAt, KnownIs, LineCore, Grows, Learns, learns_nothing, learns, knows_grow, own_grows, about_grows, core_view, known_grows, NeedsPut, put_core, NeedsForward, NeedsSent}
-use Rattle.dm_rulelaws.proofs.Found.Core.{forwarded_core, sent_core, updated_core}
+use Rattle.dm_rulelaws.proofs.Found.Core.{AboutIs, KnowsAt, Knows, IsAt, KnownIs, LineCore, Grows, Learns, learns_nothing, learns, knows_grow, own_grows, about_grows, core_view, known_grows, NeedsPut, put_core, NeedsForward, NeedsSent, NeedsCalled}
+use Rattle.dm_rulelaws.proofs.Found.Core.{forwarded_core, sent_core, called_core, updated_core}
 use Rattle.dm_rulelaws.proofs.Based.Loud.{SetLife, some_alike, step_alike, step_ends, step_serves, step_creates}
 use Rattle.dm_rulelaws.proofs.Fits.Rises.{both}
 use Rattle.dm_onekernel.specs.Pieces as pieces
@@ -23,7 +23,6 @@ use Rattle.dm_onekernel.specs.Service as service
 use Rattle.dm_onekernel.specs.Switchboard as board
 use Rattle.dm_onekernel.specs.Manager as manage
 use Rattle.dm_rule.specs.Addresses as addresses
-use Rattle.dm_rule.specs.Given as request
 
 -- what enters is none that was told of
 apart_from : (e : MsgId → ℕ) (i j : MsgId) → 1 ≤ e i → e j ≡ 0 → id_eq j i ≡ false
@@ -331,6 +330,7 @@ NeedsHead n (Step.Turn m) = m < n
 NeedsHead n (Step.Tick m) = m < n
 NeedsHead n (Step.Deliver a b k) = b < n
 NeedsHead n (Step.Migrate p m) = (0 < n) × (m < n)
+NeedsHead n (Step.CallOff p m) = m < n
 
 abbrev pub NeedsLine : ℕ → Point → Line → Type 0
 NeedsLine n pt (Line.Head d) = NeedsHead n d
@@ -340,6 +340,7 @@ NeedsLine n pt (Line.Queued id) = IsAt pt.addresses pt.view id pt.view.acting
 NeedsLine n pt (Line.Held id) = IsAt pt.addresses pt.view id pt.view.acting
 NeedsLine n pt (Line.Forwarded id m) = NeedsForward n pt id
 NeedsLine n pt (Line.SentOn p k) = NeedsSent pt p
+NeedsLine n pt (Line.Called p k) = NeedsCalled pt p
 NeedsLine n pt (Line.Migration s p) = NeedsStage n pt p s
 NeedsLine n pt _ = ⊤
 
@@ -360,6 +361,7 @@ line_core n pt s (Line.Head d) need sane is h = let f : pt.kernel ≡ s = cc in 
 line_core n pt s (Line.Put a b id k q) need sane is h = let f : pt.kernel ≡ s = cc in subst (λ (x : OneKernel). LineCore n (moved pt (Line.Put a b id k q) x)) f (put_core n pt a b id k q need h)
 line_core n pt s (Line.Forwarded id m) need sane is h = let f : pt.kernel ≡ s = cc in subst (λ (x : OneKernel). LineCore n (moved pt (Line.Forwarded id m) x)) f (forwarded_core n pt id m need h)
 line_core n pt s (Line.SentOn p k) need sane is h = let f : pt.kernel ≡ s = cc in subst (λ (x : OneKernel). LineCore n (moved pt (Line.SentOn p k) x)) f (sent_core n pt p k need h)
+line_core n pt s (Line.Called p k) need sane is h = let f : pt.kernel ≡ s = cc in subst (λ (x : OneKernel). LineCore n (moved pt (Line.Called p k) x)) f (called_core n pt p k need h)
 line_core n pt s (Line.Updated id k) need sane is h = let f : pt.kernel ≡ s = cc in subst (λ (x : OneKernel). LineCore n (moved pt (Line.Updated id k) x)) f (updated_core n pt id k h)
 line_core n pt s (Line.Migration t p) need sane is h = let f : pt.kernel ≡ s = cc in subst (λ (x : OneKernel). LineCore n (moved pt (Line.Migration t p) x)) f (stage_core n pt p t need h)
 line_core n pt s (Line.Stays p) need sane is h = let f : pt.kernel ≡ s = cc in subst (λ (x : OneKernel). LineCore n (moved pt (Line.Stays p) x)) f (stays_core n pt p h)

@@ -204,10 +204,13 @@ places_line G v (Line.Forwarded id m) new h = places_forwarded G (handled v id) 
 places_line G v (Line.Updated id n) new h = places_handled G v id h
 places_line G v (Line.Migration s p) new h = places_stage G v p s h
 places_line G v (Line.SentOn p n) new h = search (arith, places_of, set_record, (handled_first v).queue, (handled_first v).acting, (handled_first v).held, (places_first G v h))
+places_line G v (Line.Called p n) new h =
+    places_of G (view_after v (Line.Called p n)) (λ m q i e. h i (Queue m q) e) (λ m q i e. set_record G v.held v.acting p [] (λ j f. absurd (omega (arith, f))) (λ r s j f. h j (Held r s) f) m q i e) (λ m i e. h i (Inbox m) e) (λ a b i e. h i (Untaken a b) e)
 places_line G v (Line.Lacks p a b) new h = places_as G (handled_first v) (view_after v (Line.Lacks p a b)) refl refl refl (λ c d. refl) (places_first G v h)
 places_line G v (Line.Stays p) new h = places_rejoins G (handled_first v) p (places_first G v h)
 places_line G v (Line.Here id) new h = places_handled G v id h
 places_line G v (Line.NoMove id) new h = places_handled G v id h
+places_line G v (Line.Stale id) new h = places_handled G v id h
 places_line G v (Line.Proto id) new h = places_proto G (handled v id) (v.told id) (places_handled G v id h)
 places_line G v _ new h = h
 

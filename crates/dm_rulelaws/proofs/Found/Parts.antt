@@ -1,8 +1,8 @@
 -- The parts of a group keep where messages stand, where each has what it needs.
 use Rattle.dm_rulelaws.proofs.Names.{◌≡◌, ℕ, ◌<◌, true, false, List, [], ◌∷◌, refl, ◌∙◌, sym, arith, ⊤, Option, None, Some, Pid, pid_of, MsgId, MessageKind, plain_kind, PlainMessage, PlainWhat, manager, id_eq-same, bind-is, Line, Told}
 use Rattle.dm_rulelaws.proofs.Names.{own_id, Holder, Receiver, Sender, given, goes_between, own_given, Point, moved, after, Part, Says, Routes, Again, Owns, Transmits, Spelled, lines_of, puts, spelled, not_kernels, not_first, Sane}
-use Rattle.dm_rulelaws.proofs.Names.{AllSayable, part_sane, is_own, by_parts, ◌+◌, ap, subst, Label, Boot, first_number, PlainProcess, Forward, forwards_on, Stops, by_round, by_handles, ◌==◌, Bool, ◌++◌, if◌then◌else◌, pid_eq, Stage}
-use Rattle.dm_rulelaws.proofs.Names.{switchboard, bind, About, Of, Known, Unknown, Here, target_of, front_of, to_kernel, accepts, takes_block, leaves, pieces_of, told_step, told_here, process_told, told_server, is_between, is_fixed}
+use Rattle.dm_rulelaws.proofs.Names.{AllSayable, part_sane, is_own, by_parts, ◌+◌, ap, subst, Label, Boot, first_number, PlainProcess, Forward, forwards_on, Stops, by_round, by_handles, ◌==◌, Bool, ◌++◌, length, ◌/◌, if◌then◌else◌, pid_eq}
+use Rattle.dm_rulelaws.proofs.Names.{Stage, switchboard, bind, About, Of, Known, Unknown, Here, target_of, front_of, to_kernel, accepts, takes_block, leaves, pieces_of, told_step, told_here, process_told, told_server, is_between, is_fixed}
 use Rattle.dm_rulelaws.proofs.Names.{Outcome, MoveNote, OneKernel, answers_move, leaves_for, aim, label_of, kernel_after, at_record, at_record_at, tells_asker, View, after_line, packet_line, sort_of}
 use Rattle.dm_rule.specs.View.{Ended}
 use Rattle.dm_rulelaws.proofs.Found.Core.{Knows, IsReal, LineCore, KnowsAt, IsAt, NeedsPut, put_core}
@@ -214,15 +214,24 @@ told_need n pt o m id p room x MessageKind.Memory h = block_need n pt id p (o.vi
 told_need n pt o m id p room x MessageKind.AllTaken h = (h refl).3 refl
 told_need n pt o m id p room x MessageKind.Restart h =
     asker_need n pt (Line.Migration Stage.Restarted p) (o.kernel.notes p) Outcome.Done tt (λ z e s step q noted. comes_here pt.view (moved pt (Line.Migration Stage.Restarted p) s).view p q refl refl (h refl).1.1 (noted_same pt.kernel s z p q step ((h refl).2 z e) noted))
+told_need n pt o m id p room x MessageKind.CallOff h =
+    asker_need n pt (Line.Stays p) (o.kernel.notes p) Outcome.Stayed tt (λ z e s step q noted. comes_here pt.view (moved pt (Line.Stays p) s).view p q refl refl (h refl).1.1 (noted_same pt.kernel s z p q step ((h refl).2 z e) noted))
 told_need n pt o m id p room x _ h = tt
 
 bind_need : {X : Type 0} (n : ℕ) (pt : Point) (o : Option X) (f : X → Option (List Part)) → ((x : X) → o ≡ Some x → NeedOf n pt (f x)) → NeedOf n pt (bind o f)
 bind_need n pt None f h = tt
 bind_need n pt (Some x) f h = h x refl
 
-kernel_hears_need : (n : ℕ) (pt : Point) (b : Boot) (o : Point) (m : ℕ) (id : MsgId) (k : MessageKind) (a : About) → ((p : Pid) → a ≡ Of p → is_between k ≡ true → Heard n pt o m id p k)
+stale_need : (n : ℕ) (pt : Point) (id : MsgId) (c : Bool) (q : Option (List Part)) → (c ≡ false → NeedOf n pt q) → NeedOf n pt (if c then Some (Says (Line.Stale id) ∷ []) else q)
+stale_need n pt id true q h = first_need n pt (Says (Line.Stale id)) [] tt tt
+stale_need n pt id false q h = h refl
+
+kernel_hears_need : (n : ℕ) (pt : Point) (b : Boot) (o : Point) (m : ℕ) (id : MsgId) (k : MessageKind) (a : About) → ((p : Pid) → a ≡ Of p → is_between k ≡ true → rule.is_stale o m id k p ≡ false → Heard n pt o m id p k)
     → NeedOf n pt (rule.kernel_hears b o m id k a)
-kernel_hears_need n pt b o m id k (Of p) h = search (arith, bind_need, told_need)
+kernel_hears_need n pt b o m id k (Of p) h =
+    let step = λ (x : PlainProcess). told_step o m id p (rule.fits (rule.free_room b o m) (length x.memory / 256)) x (sort_of k) in
+    stale_need n pt id (rule.is_stale o m id k p) (bind (kernel.alive (o.kernel.processes p)) step)
+    (λ due. bind_need n pt (kernel.alive (o.kernel.processes p)) step (λ x e. told_need n pt o m id p (rule.fits (rule.free_room b o m) (length x.memory / 256)) x k (λ between. h p refl between due)))
 kernel_hears_need n pt b o m id k _ h = tt
 
 moves_need : (n : ℕ) (pt : Point) (id : MsgId) (p : Pid) (to : ℕ) (c : Bool) → to < n → (aim pt.view pt.view.topic < n) × (is_fixed p ≡ false)
@@ -253,7 +262,7 @@ by_receiver : (n : ℕ) (pt : Point) (q : Pid) (c d e : Bool) (x y z w : Option 
 by_receiver n pt q c d e x y z w h1 h2 h3 h4 h5 h6 h7 = search arith
 
 pub told_by_need : (n : ℕ) (pt : Point) (b : Boot) (o : Point) (m : ℕ) (id : MsgId) (t : Told) → Front pt id → target_of (Some t) < n → aim pt.view pt.view.topic < n
-    → ((p : Pid) → t.about ≡ Of p → is_between t.kind ≡ true → Heard n pt o m id p t.kind)
+    → ((p : Pid) → t.about ≡ Of p → is_between t.kind ≡ true → rule.is_stale o m id t.kind p ≡ false → Heard n pt o m id p t.kind)
     → ((to c : ℕ) → o.view.known m t.receiver ≡ Forward to c → AllNeed n pt (forwards_on o.addresses id t.kind manager to)) → NeedOf n pt (rule.hears b o m id (Some t))
 told_by_need n pt b o m id t at le front kernels forwards =
     let to_server = told_server o id t (sort_of t.kind) in

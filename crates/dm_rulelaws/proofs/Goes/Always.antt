@@ -1,18 +1,19 @@
 -- Wherever all of it holds, each directive has its group.
 use Rattle.dm_rulelaws.proofs.Names.{◌≡◌, ◌≢◌, ℕ, ◌+◌, ◌≤◌, ◌==◌, ◌&&◌, ◌||◌, Bool, true, false, not, List, [], ◌∷◌, refl, ap, ◌∙◌, sym, is_some, inl, inr, arith, ⊤, if◌then◌else◌, Option, None, Some, false≢true, Pid, pid_eq, MsgId}
 use Rattle.dm_rulelaws.proofs.Names.{PlainMessage, Boot, IsValid, Step, Line, MessageKind, child_number, migrates, Point, moved, Spelled, group_of, Spot, Queue, Inbox, standing, StandsOutside, Told, Target, is_kernels, IsStep, arrives_net}
-use Rattle.dm_rulelaws.proofs.Names.{resends_net, stands_right, StandsAsBag-elsewhere, Each, has_bytes, is_server, is_fixed, Life, OneKernel, pid_eq-is, cases_Bool, by_migrates, rooted, position_from}
+use Rattle.dm_rulelaws.proofs.Names.{resends_net, stands_right, StandsAsBag-elsewhere, Each, has_bytes, is_server, is_fixed, Life, OneKernel, pid_eq-is, cases_Bool, by_migrates, rooted, position_from, ◌++◌, length, Part, Of, Held}
+use Rattle.dm_rulelaws.proofs.Names.{to_kernel, sends_on, by_calls_off, called_parts, is_still}
 pub use Rattle.dm_rule.proofs.Moves.States.{front_one as stands_first}
 use Rattle.dm_rule.specs.Rule as rule
 use Rattle.dm_rule.specs.View as view
 use Rattle.dm_rulelaws.proofs.Runs.{Run}
-use Rattle.dm_rulelaws.proofs.Own.Told.{OwnTold, own_sort, OwnsFit, NoOwns, FirstOwns}
-use Rattle.dm_rulelaws.proofs.Goes.Parts.{ArePlain, Can, Shape, Goes, goes, can_plain, can_net}
+use Rattle.dm_rulelaws.proofs.Own.Told.{OwnTold, own_sort, OwnsFit, NoOwns, FirstOwns, ThenOwns, sends_own}
+use Rattle.dm_rulelaws.proofs.Goes.Parts.{ArePlain, Can, Shape, Goes, goes, can_plain, can_line, can_net}
 use Rattle.dm_rulelaws.proofs.Goes.Serves.{can_turn}
 use Rattle.dm_rulelaws.proofs.Goes.Turns.{queue_drops}
 use Rattle.dm_rulelaws.proofs.Goes.Front.{here_free, begun, begun_sane, Calm, CanTurn, Front}
 use Rattle.dm_rulelaws.proofs.Goes.Servers.{can_handle}
-use Rattle.dm_rulelaws.proofs.Goes.Own.{FrontOwn, can_hear}
+use Rattle.dm_rulelaws.proofs.Goes.Own.{FrontOwn, can_hear, sends_plain}
 
 -- the message at the front of an inbox
 abbrev is_box : Spot → Bool
@@ -90,6 +91,7 @@ migrates_own b pt p m h =
 abbrev pub CalmFor : Point → Step → Type 0
 CalmFor pt (Step.Turn m) = Calm m pt
 CalmFor pt (Step.Migrate p m) = ⊥
+CalmFor pt (Step.CallOff p m) = is_still (pt.view.known m p) ≡ true
 CalmFor pt _ = ⊤
 
 -- a group, whether it receives, and its kernels' own messages
@@ -108,6 +110,16 @@ group_on b pt (Step.Deliver a c k) h own = search (arith, group_by, can_net, arr
 group_on b pt (Step.Migrate p m) h own =
     let q = moved pt (Line.Head (Step.Migrate p m)) pt.kernel in
     group_by b pt (Step.Migrate p m) (can_plain ⊥ 0 q (migrates pt p) (λ c. c) (by_migrates (ArePlain q.view) pt p (refl, tt) (refl, tt) (λ n off is. (tt, tt))) (migrates_own b pt p m h))
+group_on b pt (Step.CallOff p m) h own =
+    let q = moved pt (Line.Head (Step.CallOff p m)) pt.kernel in
+    let calm = CalmFor pt (Step.CallOff p m) in
+    let ids = pt.view.held m p in
+    group_by b pt (Step.CallOff p m)
+    (by_calls_off (λ (ps : List Part). Can calm m q (Some ps)) pt m p (can_line calm m q (Line.NoCall p) refl refl (λ c k o. o)) (λ from is come. (
+    let end = to_kernel MessageKind.CallOff from ∷ [] in
+    can_plain calm m q (called_parts p ids from) (λ c. absurd (false≢true (sym (ap is_still is) ∙ c))) (refl, sends_plain q.view from [] ids end (λ j least. absurd (omega (arith, least))) (λ j least. h.found.told j (Held m p) least) (tt, tt))
+    (ThenOwns (Line.Called p (length ids)) (sends_on from ids ++ end) refl refl (sends_own (Of p) from ids end (refl, tt)))
+    )))
 
 -- each directive has its group
 pub goes_on : (b : Boot) (pt : Point) (e : Step) → IsValid b → Run b pt → OwnTold pt → IsStep pt.kernel.machines e → (w : Spelled) × (group_of b pt e ≡ Some w)

@@ -3,7 +3,8 @@ use Rattle.dm_rulelaws.proofs.Names.{◌≡◌, ◌≢◌, ℕ, ◌/◌, ◌≤�
 use Rattle.dm_rulelaws.proofs.Names.{pid_eq, MsgId, MessageKind, Line, Stage, Boot, switchboard, manager, bind, PlainProcess, Life, Alive, View, Told, Of, Known, Unknown, Here, Frozen, Forward, is_kernels, target_of, to_kernel, forwards_on}
 use Rattle.dm_rulelaws.proofs.Names.{accepts, takes_chunk, takes_block, gives_piece, told_step, chunks_of, pieces_of, updates, told_here, told_ended, process_told, told_server, sends_on, fits, free_room, kernel_hears, hears, is_between}
 use Rattle.dm_rulelaws.proofs.Names.{is_restart, kind_comes, knows, is_away, Moves, sender_in, receiver_in, told_between, IsIn, Point, Part, Says, Spot, Queue, Held, Inbox, times, standing, token_is, token_at, is_server, is_fixed, first_of}
-use Rattle.dm_rulelaws.proofs.Names.{eq_self, inbox_is, about_same, kind_leaves, Label, MoveNote, Outcome, label_of, with_label, is_put, moved, answers_move, tells_asker, agrees, sort_of, leaves_for}
+use Rattle.dm_rulelaws.proofs.Names.{eq_self, inbox_is, about_same, kind_leaves, Label, MoveNote, Outcome, label_of, with_label, is_put, moved, answers_move, tells_asker, agrees, sort_of, leaves_for, pulls_piece, IsLeft, Token, LeftOver}
+use Rattle.dm_rulelaws.proofs.Names.{pulled}
 use Rattle.dm_rulelaws.proofs.Runs.{Run}
 use Rattle.dm_rulelaws.proofs.Own.Told.{OwnTold, own_sort, own_between, own_server, NoOwns, ThenOwns, forwarded_place, forwards_own, accepts_own, piece_own, chunk_own, block_own, moves_own, sends_own}
 use Rattle.dm_rulelaws.proofs.Goes.Parts.{ArePlain, Can, can_as, can_plain, does_line, Quiet, no_receive}
@@ -72,25 +73,48 @@ moving_alive b m o p k run c =
     moving_server (is_server p) c.s c.d k b m o p (is_restart k) refl refl run off (source_knows k c.s c.d c.id (o.view.known c.s p) (c.phase.known c.s))
     (λ r. ap (λ (j : MessageKind). kind_comes j c.s (o.view.known c.d p)) (sym (is_it k r)) ∙ destination_knows k c.s c.d c.id (o.view.known c.d p) off (c.phase.known c.d))
 
-coming : (b : Boot) (m : ℕ) (o : Point) (i : MsgId) (p : Pid) (f : FrontOwn b m o i) → is_between f.told.kind ≡ true → f.told.about ≡ Of p → Coming b m o p f.told.kind
-coming b m o i p f between about =
+-- the process of a message is alive, and where all is taken it is the message of its migration
+record Hearing (b : Boot) (m : ℕ) (o : Point) (p : Pid) (k : MessageKind) : Type 0 where
+  alive : IsAlive (o.kernel.processes p)
+  all : k ≡ MessageKind.AllTaken → Coming b m o p k
+
+abbrev kind_in : Option Told → MessageKind
+kind_in None = MessageKind.Bury
+kind_in (Some t) = t.kind
+
+token_hearing : (b : Boot) (m : ℕ) (o : Point) (i : MsgId) (p : Pid) (f : FrontOwn b m o i) (k : MessageKind) (s d : ℕ) → f.run.based.phased.phases.of p ≡ Moves k s d (Some i) → Hearing b m o p f.told.kind
+token_hearing b m o i p f k s d phase =
     let v = o.view in
     let h = f.run.based.phased.phases in
-    let (q, k, s, d, of_q, phase) = token_is v h i f.told (Inbox m) f.told_is between f.first in
-    let token = token_at v q (h.of q) k s d i phase (h.each q) in
-    let kind_is : k ≡ f.told.kind = (let g : Some f.told ≡ Some (told_between q k s d) = sym f.told_is ∙ token.told in sym (ap kind_in g)) in
-    let same : q ≡ p = about_same q p (sym of_q ∙ about) in
-    record {
+    let token = token_at v p (h.of p) k s d i phase (h.each p) in
+    let kind_is : k ≡ f.told.kind = (let g : Some f.told ≡ Some (told_between p k s d) = sym f.told_is ∙ token.told in sym (ap kind_in g)) in
+    let c : Coming b m o p f.told.kind = record {
       s = s;
       d = d;
       id = Some i;
-      phase = subst (λ (j : MessageKind). IsIn v p (Moves j s d (Some i))) kind_is (subst (λ (r : Pid). IsIn v r (Moves k s d (Some i))) same (subst (IsIn v q) phase (h.each q)));
+      phase = subst (λ (j : MessageKind). IsIn v p (Moves j s d (Some i))) kind_is (subst (IsIn v p) phase (h.each p));
       here = inbox_is m (sender_in k s d) (receiver_in k s d) (token.ways (Inbox m) f.first) ∙ ap (λ (j : MessageKind). receiver_in j s d) kind_is;
-    }
-  where
-    kind_in : Option Told → MessageKind
-    kind_in None = MessageKind.Bury
-    kind_in (Some t) = t.kind
+    } in
+    record { alive = moving_alive b m o p f.told.kind f.run c; all = λ e. c }
+
+left_hearing : (b : Boot) (m : ℕ) (o : Point) (i : MsgId) (p : Pid) (f : FrontOwn b m o i) → IsLeft o.view p (f.run.based.phased.phases.of p) i f.told → rule.is_stale o m i f.told.kind p ≡ false → Hearing b m o p f.told.kind
+left_hearing b m o i p f left fresh =
+    let v = o.view in
+    let h = f.run.based.phased.phases in
+    let u = pulled v p (h.of p) i f.told m left f.first fresh in
+    let c : Coming b m o p MessageKind.CallOff = record { s = u.s; d = u.d; id = u.id; phase = subst (IsIn v p) u.is (h.each p); here = u.here } in
+    record { alive = moving_alive b m o p MessageKind.CallOff f.run c; all = λ e. absurd (false≢true (sym (ap (λ (k : MessageKind). pulls_piece (sort_of k)) e) ∙ u.pulls)) }
+
+hearing : (b : Boot) (m : ℕ) (o : Point) (i : MsgId) (p : Pid) (f : FrontOwn b m o i) → is_between f.told.kind ≡ true → f.told.about ≡ Of p → rule.is_stale o m i f.told.kind p ≡ false → Hearing b m o p f.told.kind
+hearing b m o i p f between about fresh =
+    let v = o.view in
+    let h = f.run.based.phased.phases in
+    let (q, of_q, which) = token_is v h i f.told (Inbox m) f.told_is between f.first in
+    let same : q ≡ p = about_same q p (sym of_q ∙ about) in
+    elim which [
+      | Token k s d phase ↦ token_hearing b m o i p f k s d (subst (λ (r : Pid). h.of r ≡ Moves k s d (Some i)) same phase)
+      | LeftOver left ↦ left_hearing b m o i p f (subst (λ (r : Pid). IsLeft v r (h.of r) i f.told) same left) fresh
+    ]
 
 -- parts of the protocol say nothing of the kernel
 accepts_plain : (v : View) (from : ℕ) (p : Pid) (room : Bool) (slots blocks : ℕ) → ArePlain v (accepts from p room slots blocks)
@@ -109,7 +133,7 @@ moves_plain : (v : View) (m : ℕ) (i : MsgId) (p : Pid) (to : ℕ) (c : Bool) �
 moves_plain v m i p to true = (refl, tt)
 moves_plain v m i p to false = (refl, (refl, (tt, tt)))
 
-sends_plain : (v : View) (to : ℕ) (xs ys : List MsgId) (ps : List Part) → ((i : MsgId) → 1 ≤ times i xs → is_some (v.told i) ≡ true) → ((i : MsgId) → 1 ≤ times i ys → is_some (v.told i) ≡ true) → ArePlain v ps → ArePlain v (sends_on to (xs ++ ys) ++ ps)
+pub sends_plain : (v : View) (to : ℕ) (xs ys : List MsgId) (ps : List Part) → ((i : MsgId) → 1 ≤ times i xs → is_some (v.told i) ≡ true) → ((i : MsgId) → 1 ≤ times i ys → is_some (v.told i) ≡ true) → ArePlain v ps → ArePlain v (sends_on to (xs ++ ys) ++ ps)
 sends_plain v to [] [] ps first more h = h
 sends_plain v to [] (y ∷ ys) ps first more h = (more y (first_of y ys), sends_plain v to [] ys ps first (λ i least. more i (omega (arith, least))) h)
 sends_plain v to (x ∷ xs) ys ps first more h = (first x (first_of x xs), sends_plain v to xs ys ps (λ i least. first i (omega (arith, least))) more h)
@@ -135,28 +159,33 @@ can_asker C never b m o l p (Some n) r notes none quiet ends run =
       owns = NoOwns (tt, (tt, (tt, tt)));
     }
 
-can_told : (C : Type 0) (never : C → ⊥) (b : Boot) (m : ℕ) (o : Point) (i : MsgId) (p : Pid) (room : Bool × ℕ × ℕ) (x : PlainProcess) (k : MessageKind) (t : Told) → o.view.told i ≡ Some t → t.about ≡ Of p → is_between k ≡ true → Coming b m o p k → Run b o → Can C m (begun o m) (told_step o m i p room x (sort_of k))
+can_told : (C : Type 0) (never : C → ⊥) (b : Boot) (m : ℕ) (o : Point) (i : MsgId) (p : Pid) (room : Bool × ℕ × ℕ) (x : PlainProcess) (k : MessageKind) (t : Told) → o.view.told i ≡ Some t → t.about ≡ Of p → is_between k ≡ true → (k ≡ MessageKind.AllTaken → Coming b m o p k) → Run b o → Can C m (begun o m) (told_step o m i p room x (sort_of k))
 can_told C never b m o i p room x MessageKind.Ask t told about e c run = can_plain C m (begun o m) (accepts i.from.home p room.0 room.1 room.2) never (accepts_plain (begun o m).view i.from.home p room.0 room.1 room.2) (accepts_own (begun o m).view i.from.home p room.0 room.1 room.2)
 can_told C never b m o i p room x MessageKind.Refuse t told about e c run = can_asker C never b m o (Line.Stays p) p (o.kernel.notes p) Outcome.Stayed refl refl refl (λ n. refl) run
 can_told C never b m o i p room x MessageKind.PullState t told about e c run = can_plain C m (begun o m) (gives_piece i MessageKind.State) never (refl, (tt, tt)) (piece_own (begun o m).view i MessageKind.State t p told about (λ a e. e))
 can_told C never b m o i p room x MessageKind.State t told about e c run = can_plain C m (begun o m) (takes_chunk i p (o.view.asked p == chunks_of x)) never (chunk_plain (begun o m).view i p (o.view.asked p == chunks_of x)) (chunk_own (begun o m).view i p (o.view.asked p == chunks_of x) t p told about)
 can_told C never b m o i p room x MessageKind.PullBlock t told about e c run = can_plain C m (begun o m) (gives_piece i MessageKind.Memory) never (refl, (tt, tt)) (piece_own (begun o m).view i MessageKind.Memory t p told about (λ a e. e))
 can_told C never b m o i p room x MessageKind.Memory t told about e c run = can_plain C m (begun o m) (takes_block i p (o.view.asked p == pieces_of x)) never (block_plain (begun o m).view i p (o.view.asked p == pieces_of x)) (block_own (begun o m).view i p (o.view.asked p == pieces_of x) t p told about)
-can_told C never b m o i p room x MessageKind.AllTaken t told about e c run = grind (arith, nat_tests, can_leave, o.view.known, c.d, c.here, source_knows, c.s, c.id, c.phase.known, run.found.told)
+can_told C never b m o i p room x MessageKind.AllTaken t told about e all run = let c = all refl in grind (arith, nat_tests, can_leave, o.view.known, c.d, c.here, source_knows, c.s, c.id, c.phase.known, run.found.told)
 can_told C never b m o i p room x MessageKind.Restart t told about e c run = can_asker C never b m o (Line.Migration Stage.Restarted p) p (o.kernel.notes p) Outcome.Done refl refl refl (λ n. refl) run
+can_told C never b m o i p room x MessageKind.CallOff t told about e c run = can_asker C never b m o (Line.Stays p) p (o.kernel.notes p) Outcome.Stayed refl refl refl (λ n. refl) run
 can_told C never b m o i p room x _ t told about e c run = absurd (false≢true e)
 
-can_hear_of : (C : Type 0) (never : C → ⊥) (b : Boot) (m : ℕ) (o : Point) (i : MsgId) (t : Told) (p : Pid) → o.view.told i ≡ Some t → t.about ≡ Of p → is_between t.kind ≡ true → Coming b m o p t.kind → Run b o → Can C m (begun o m) (kernel_hears b o m i t.kind t.about)
-can_hear_of C never b m o i t p told about between c run =
-    let (y, alive) = moving_alive b m o p t.kind run c in
-    can_as C m (begun o m) (kernel_hears b o m i t.kind t.about) (told_step o m i p (fits (free_room b o m) (length y.memory / 256)) y (sort_of t.kind))
-    (ap (kernel_hears b o m i t.kind) about ∙ ap (λ (l : Option Life). bind (kernel.alive l) (λ (x : PlainProcess). told_step o m i p (fits (free_room b o m) (length x.memory / 256)) x (sort_of t.kind))) alive)
-    (can_told C never b m o i p (fits (free_room b o m) (length y.memory / 256)) y t.kind t told about between c run)
+can_hear_of : (C : Type 0) (never : C → ⊥) (b : Boot) (m : ℕ) (o : Point) (i : MsgId) (t : Told) (p : Pid) (stale : Bool) → o.view.told i ≡ Some t → t.about ≡ Of p → is_between t.kind ≡ true → (stale ≡ false → Hearing b m o p t.kind) → Run b o
+    → Can C m (begun o m) (if stale then Some (Says (Line.Stale i) ∷ []) else bind (kernel.alive (o.kernel.processes p)) (λ (x : PlainProcess). told_step o m i p (fits (free_room b o m) (length x.memory / 256)) x (sort_of t.kind)))
+can_hear_of C never b m o i t p true told about between h run = can_plain C m (begun o m) (Says (Line.Stale i) ∷ []) never (refl, tt) (NoOwns (tt, tt))
+can_hear_of C never b m o i t p false told about between h run =
+    let k = h refl in
+    let (y, alive) = k.alive in
+    can_as C m (begun o m) (bind (kernel.alive (o.kernel.processes p)) (λ (x : PlainProcess). told_step o m i p (fits (free_room b o m) (length x.memory / 256)) x (sort_of t.kind))) (told_step o m i p (fits (free_room b o m) (length y.memory / 256)) y (sort_of t.kind))
+    (ap (λ (l : Option Life). bind (kernel.alive l) (λ (x : PlainProcess). told_step o m i p (fits (free_room b o m) (length x.memory / 256)) x (sort_of t.kind))) alive)
+    (can_told C never b m o i p (fits (free_room b o m) (length y.memory / 256)) y t.kind t told about between k.all run)
 
 can_kernel : (C : Type 0) (never : C → ⊥) (b : Boot) (m : ℕ) (o : Point) (i : MsgId) (f : FrontOwn b m o i) → (f.told.receiver.num == 0) ≡ true → Can C m (begun o m) (kernel_hears b o m i f.told.kind f.told.about)
 can_kernel C never b m o i f num =
     let (between, p, about) = own_between f.told.kind f.told.receiver f.told.about (own_sorted b m o i f) num in
-    can_hear_of C never b m o i f.told p f.told_is about between (coming b m o i p f between about) f.run
+    can_as C m (begun o m) (kernel_hears b o m i f.told.kind f.told.about) (kernel_hears b o m i f.told.kind (Of p)) (ap (kernel_hears b o m i f.told.kind) about)
+    (can_hear_of C never b m o i f.told p (rule.is_stale o m i f.told.kind p) f.told_is about between (λ fresh. hearing b m o i p f between about fresh) f.run)
 
 -- a server
 can_server : (C : Type 0) (never : C → ⊥) (m : ℕ) (o : Point) (i : MsgId) (t : Told) (k : MessageKind) → k ≡ MessageKind.Update → Can C m (begun o m) (told_server o i t (sort_of k))

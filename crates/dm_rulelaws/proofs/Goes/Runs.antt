@@ -77,4 +77,5 @@ calm_turn b pt m h = record {
 pub calm_for : (b : Boot) (pt : Point) (d : Step) → IsStill d → Stays b pt → CalmFor pt d
 calm_for b pt (Step.Turn m) still h = calm_turn b pt m h
 calm_for b pt (Step.Migrate p m) still h = absurd still
+calm_for b pt (Step.CallOff p m) still h = h.home.rings.known m p
 calm_for b pt _ still h = tt

@@ -28,6 +28,7 @@ pub ord_head : (q : Which) (s : OneKernel) (v : View) (d : Step) â†’ Ord q s v â
 ord_head q s v (Step.Turn m) o = ord_begins q s v m NothingElse o
 ord_head q s v (Step.Tick m) o = ord_begins q s v m NothingElse o
 ord_head q s v (Step.Migrate p m) o = ord_begins q s v 0 (view.Target m) o
+ord_head q s v (Step.CallOff p m) o = ord_begins q s v m NothingElse o
 ord_head q s v (Step.Deliver a c k) o =
     let w = begins v c NothingElse in
     ord_view q s w (view.with_pair w a c (marked (v.pair a c) k)) (thin_pair q w a c (marked (v.pair a c) k) refl) (ord_begins q s v c NothingElse o)
