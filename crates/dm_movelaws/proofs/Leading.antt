@@ -2,7 +2,7 @@
 use Rattle.dm_movelaws.proofs.Names.{◌≡◌, ℕ, ◌==◌, Bool, true, false, List, [], ◌∷◌, length, refl, ap, ◌∙◌, subst, ⊤, if◌then◌else◌, Some, Pid, MsgId, MessageKind, plain_kind, PlainMessage, OneKernel, bind-is, Line, Load, Told, own_id}
 use Rattle.dm_movelaws.proofs.Names.{Receiver, Point, label_of, kernel_after, moved, after, Part, Says, Routes, Again, Owns, Transmits, Spelled, puts, goes_out, packet_line, spelled, Steps, said_by, PacketsKeep, by_parts, AllSayable}
 use Rattle.dm_movelaws.proofs.Names.{Sayable, Sane, part_sane, lines_of, IsNetLine, IsNet, by_net, touches, Pair, AllFit, Boot, Step, turns_fit, resends_net, arrives_net, slice_get, migrates, migrates_fit, bind, behind, ◌++◌, nat_tests}
-use Rattle.dm_movelaws.proofs.Names.{arith, Label, Option, None, MoveNote, Outcome, Known, View, About, PairsFit, fits_as, pair_same, view_after, tells_asker, answers_move}
+use Rattle.dm_movelaws.proofs.Names.{arith, Label, Option, None, MoveNote, Outcome, Known, View, About, PairsFit, fits_as, pair_same, view_after, tells_asker, answers_move, calls_off, calls_off_fit}
 use Rattle.dm_rule.specs.Rule as rule
 use Rattle.dm_rule.specs.View as view
 
@@ -124,6 +124,10 @@ outcome_says Q fit net b pt (Step.Deliver a c k) ps is =
     let f : qs ≡ ps = cc in
     subst (All (Saying Q)) f (net_says Q net qs (arrives_net a c (pt.view.pair a c) (pt.view.pair c a) (slice_get (pt.view.pair a c).wire k)))
 outcome_says Q fit net b pt (Step.Migrate p m) ps is = let f : migrates pt p ≡ ps = cc in subst (All (Saying Q)) f (fit_says Q fit pt.view.pair (migrates pt p) (migrates_fit pt.view.pair pt p))
+outcome_says Q fit net b pt (Step.CallOff p m) ps is =
+    let qs = calls_off pt m p (pt.view.known m p) in
+    let f : qs ≡ ps = cc in
+    subst (All (Saying Q)) f (fit_says Q fit pt.view.pair qs (calls_off_fit pt.view.pair pt m p))
 
 -- deliveries and repeats say lines of the net and transmit, and route nothing
 abbrev NetPart : Part → Type 0

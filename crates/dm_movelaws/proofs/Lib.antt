@@ -10,6 +10,7 @@ pub mod CountsStay
 pub mod Promise
 pub mod Asked
 pub mod Ends
+pub mod Stales
 pub mod Forwards
 pub mod Pending
 pub mod Worked

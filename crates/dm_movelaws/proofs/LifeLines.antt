@@ -6,7 +6,7 @@ use Rattle.dm_movelaws.proofs.Names.{each_process, name_lines, child_lines, pend
 use Rattle.dm_movelaws.proofs.Names.{life_lines, IsSaid, LivesAreSaid, not, ◌&&◌, false≢true, MessageKind, Standing, or, Phase, Nowhere, Rests, Over, Moves, IsIn, knows, is_here, is_restart, is_early, Known, Unknown, agrees, living}
 use Rattle.dm_movelaws.proofs.Names.{stands_by, IsPlace, awaits}
 use Rattle.dm_movelaws.proofs.At.RestAlways.{is_unknown_is as unknown_by}
-use Rattle.dm_movelaws.proofs.Stages.Spares.{restart_late}
+use Rattle.dm_movelaws.proofs.Stages.Spares.{restart_late, restart_goes}
 use Rattle.dm_onekernel.specs.Step as kernel
 use Rattle.dm_rule.specs.Phases as phases
 
@@ -65,8 +65,8 @@ rests_stands v p at e =
 leaves_or : (k : MessageKind) (d : ℕ) (x : Known) → phases.kind_leaves k d x ≡ true → (stands_by x ≡ Some Standing.Leaving) ⊎ (is_restart k ≡ true)
 leaves_or k d x h1 = search arith
 
-comes_stands : (k : MessageKind) (s : ℕ) (x : Known) → is_early k ≡ false → phases.kind_comes k s x ≡ true → stands_by x ≡ Some Standing.Arriving
-comes_stands k s x late e = grind (arith, nat_tests)
+comes_stands : (k : MessageKind) (s : ℕ) (x : Known) → is_early k ≡ false → phases.is_calloff k ≡ false → phases.kind_comes k s x ≡ true → stands_by x ≡ Some Standing.Arriving
+comes_stands k s x late goes e = grind (arith, nat_tests)
 
 moves_stands : (v : View) (p : Pid) (k : MessageKind) (s d : ℕ) (id : Option MsgId) → IsIn v p (Moves k s d id) → Somewhere v p
 moves_stands v p k s d id h =
@@ -81,7 +81,7 @@ moves_stands v p k s d id h =
           let destination : phases.kind_comes k s (v.known d p) ≡ true =
           sym (ap (λ (c : Bool). if c then phases.kind_leaves k d (v.known d p) else if d == d then phases.kind_comes k s (v.known d p) else phases.is_away (v.known d p)) apart
           ∙ ap (λ (c : Bool). if c then phases.kind_comes k s (v.known d p) else phases.is_away (v.known d p)) at_d) ∙ h.known d in
-          record { machine = d; standing = Standing.Arriving; stands = comes_stands k s (v.known d p) (restart_late k restart) destination }
+          record { machine = d; standing = Standing.Arriving; stands = comes_stands k s (v.known d p) (restart_late k restart) (restart_goes k restart) destination }
     ]
   where
     other : (a b : Bool) → (a && not b) ≡ true → b ≡ false

@@ -1,75 +1,66 @@
 -- What the proofs of this crate name of what lies below it.
 pub use Rattle.std.proofs.Math.Seq.{drop-nil}
 pub use Rattle.std.proofs.lemmas.List.Elements.{filter-append}
-pub use Rattle.dm_processor.proofs.Names.{Bool, List, [], ap, arith, drop, false, length, nat_tests, refl, suc, sym, take, true, zero, ℕ, ◌++◌, ◌+◌, ◌-◌, ◌/◌, ◌<◌, ◌∙◌, ◌∷◌, ◌≡◌, ◌≤◌}
-pub use Rattle.dm_linktable.proofs.Names.{Pid, first_empty, link_at, map, pid_eq, subst, ◌&&◌, ◌==◌, ◌≢◌}
-pub use Rattle.dm_schedule.proofs.Names.{append-nil, append_assoc, drop-length, if◌then◌else◌, nat_lt, not}
-pub use Rattle.dm_process.proofs.Names.{slice_get}
+pub use Rattle.std.specs.Option.{option_and_then}
+unfoldable pub use Rattle.dm_processor.specs.Instructions.{instruction}
 pub use Rattle.dm_onekernel.specs.Pieces.{piece_of}
 pub use Rattle.dm_onekernel.specs.Service.{manager_took}
 pub use Rattle.dm_laws.proofs.Counted.{Sent}
-pub use Rattle.dm_laws.proofs.Names.{Alive, Boot, BootProcess, Called, Direction, IsValid, Label, Life, Manager, MoveNote, Moving, MsgId, None, OneKernel, Option, Outcome, Pending, PendingKind, PlainLink, PlainMessage, PlainProcess}
-pub use Rattle.dm_laws.proofs.Names.{PlainStatus, PlainWhat, Ready, Reply, Sends, Some, Waiting, Why, answer_id, answer_to, bind, bool_eq, cases_Bool, entry, false≢true, first_failed, first_number, id_eq, id_of, in_bag, inl, inr, is_some}
-pub use Rattle.dm_laws.proofs.Names.{life_at, manager, nat_le, pid_of, reception, receptions, replay, start, switchboard, with_note, with_process, with_sent, without_message, without_note, ⊤, ◌⊎◌}
+pub use Rattle.dm_laws.proofs.Names.{bool_eq, receptions}
 pub use Rattle.dm_laws.proofs.Notes.{Notes-agree}
 pub use Rattle.dm_laws.proofs.Runs.{ended_stays, notes_always_agree, reached}
 pub use Rattle.dm_laws.proofs.Sound.{not_counted}
 pub use Rattle.dm_laws.proofs.Steps.{Sent-from}
-pub use Rattle.dm_line.specs.Ends.{block_line, joined_below, home_with, list_line, memory_lines, trimmed}
+pub use Rattle.dm_line.specs.Ends.{block_line, home_with, joined_below, list_line, memory_lines, trimmed}
 pub use Rattle.dm_line.specs.Todo.{or}
 pub use Rattle.dm_line.specs.declared.end_line.EndLine.{EndLine}
 pub use Rattle.dm_line.specs.declared.end_line.Standing.{Standing}
-pub use Rattle.dm_rule.proofs.Apart.Groups.{moves_known, moving_stays_always}
+pub use Rattle.dm_rule.proofs.Apart.Groups.{moves_known, moving_stays_always, outcome_apart}
 pub use Rattle.dm_rule.proofs.Apart.Rows.{ApartOf, FirstApart, SparesPart, apart_first}
-pub use Rattle.dm_rule.proofs.Apart.Turns.{migrates_apart, net_apart, turns_apart}
+pub use Rattle.dm_rule.proofs.Apart.Turns.{calls_off_apart, migrates_apart, net_apart, turns_apart}
 pub use Rattle.dm_rule.proofs.Bags.{bag_asked, cases_zero, out_of}
 pub use Rattle.dm_rule.proofs.Changes.{Follows, Lives, is_served}
 pub use Rattle.dm_rule.proofs.Groups.{GroupIs, acked_off, deliver_off, early_off, fits, migrate_off, tick_off}
-pub use Rattle.dm_rule.proofs.Hearing.{IsHeardLine, Kept, hears_kept, kept_forward}
+pub use Rattle.dm_rule.proofs.Hearing.{IsHeardLine, Kept, calls_off_kept, hears_kept, kept_forward}
 pub use Rattle.dm_rule.proofs.Homes.{HomesAre}
 pub use Rattle.dm_rule.proofs.Homes.Lines.{acting_label}
 pub use Rattle.dm_rule.proofs.Homes.Parts.{acting_taken}
 pub use Rattle.dm_rule.proofs.Homes.Servers.{still_pending}
 pub use Rattle.dm_rule.proofs.Letters.{from_kernel, gone_in, letter_of}
 pub use Rattle.dm_rule.proofs.Lines.{at_machine_off, at_record_off, past_place, without_counts}
+pub use Rattle.dm_rule.proofs.Moves.Called.{called_off, unheld}
 pub use Rattle.dm_rule.proofs.Moves.Lists.{emptied}
 pub use Rattle.dm_rule.proofs.Moves.Rows.{accepted_off, asked_off, frozen_off, home_again, home_off, lacks_off, left_off, memory_off, proto_off, restarted_off, state_off}
 pub use Rattle.dm_rule.proofs.Moves.Sent.{least_of as either, fits_packet, fits_put, line_next}
 pub use Rattle.dm_rule.proofs.Moves.States.{kernels_by}
-pub use Rattle.dm_rule.proofs.Names.{About, Addresses, AddressesOn, Again, Answer, Child, Enclosed, Ended, Forward, Frozen, Gets, Held, Here, Holder, Inbox, Incoming, IsIn, IsOn, IsQuiet, IsStep, IsToken, Known, Leads, LifeGrows, Line}
-pub use Rattle.dm_rule.proofs.Names.{Load, MessageKind, Moves, Name, NamedLink, NothingElse, Nowhere, Of, Over, Owner, Owns, Pair, Part, Phase, Place, Point, Queue, Receiver, Rests, Routes, Says, Sender, ServerSends, Slot, Sort, Sound}
-pub use Rattle.dm_rule.proofs.Names.{Spares, Spelled, Spot, Stage, StandsOutside, StandsRight, Step, StoodOnTrail, Target, Told, Trail, Trails, TrailsAlways, Transmits, Trodden, Unknown, Untaken, View, accepts, actor}
-pub use Rattle.dm_rule.proofs.Names.{after, after_head, after_line, after_put, after_step, alive-is, all_follow, along, answers_move, ascends, at_machine, at_pair, at_record, behind, behind_count, belongs_to, bind-is, board_takes_lem}
-pub use Rattle.dm_rule.proofs.Names.{both_true, chunks_of, counts, counts_process, destination, enclosed_from, encloses, ends_by, ends_move-is, filter, first_gives, first_point, first_trails, first_trodden, child_links}
-pub use Rattle.dm_rule.proofs.Names.{first_view, forwarded_for, forwards, forwards_on, front_of, given, gives, gives_piece, goes_out, goes_round, gone_to, group_of, handled, handled_first, hears, held_for, holder_eq, id_eq-is, id_eq-same}
-pub use Rattle.dm_rule.proofs.Names.{ids_at, is_away, is_behind, is_between, is_counted, is_due, is_early, is_here, is_kernels, is_over, is_restart, is_told_back, kernel_after, kernel_hears, kind_comes, kind_leaves, knowing, knows}
-pub use Rattle.dm_rule.proofs.Names.{label_of, lands-is, leads_to, leaves, leaves_for, left_true, length-append, lines_of, link_target, manager_gets, manager_sends, manager_takes_lem, migrates, move_target, moved}
-pub use Rattle.dm_rule.proofs.Names.{not_server, outcome, own_given, own_id, packet_line, pending_of, pid_eq-is, pid_eq-same, pieces_of, place_told, plain_kind, process_told, puts, receiver_in, receiver_of, receiving_gets}
-pub use Rattle.dm_rule.proofs.Names.{receives_links, released, right_true, seen, sender_in, sender_of, sending_gets, sends_on, sent_at, sent_off, served_told, slice_get_cases, slice_get_within, slot_after, sort_of, spelled}
-pub use Rattle.dm_rule.proofs.Names.{standing, start-sound, stayed, taken_id, takes_block, takes_chunk, target_of, tells_asker, times, to_kernel, to_of, token_in, told_between, told_ended, told_here, told_server, told_step, topic_by}
-pub use Rattle.dm_rule.proofs.Names.{trails_after, unmoved, untaken, updated, updates, view_after, why_ended-is, with_pair, with_ring, without_front, without_id, ◌||◌}
+pub use Rattle.dm_rule.proofs.Names.{AddressesOn, Asks, Comes, ComesIn, Ended, IsOn, IsQuiet, IsToken, Nowhere, One, Over, Spares, StoodOnTrail, Trail, Trails, TrailsAlways, Trodden, act_of, actor, addresses_by, along, append-nil}
+pub use Rattle.dm_rule.proofs.Names.{append_assoc, behind_count, belongs_to, both_true, brings_piece, child_links, counts_process, destination, drop-length, enclosed_from, encloses, first_trails, first_trodden, goes_round, ids_at, is_due}
+pub use Rattle.dm_rule.proofs.Names.{is_over, is_stale, is_waited_from, knowing, leads_to, left_true, manager_sends, receives_links, receiving_gets, released, sending_gets, sent_off, slice_get_cases, slice_get_within, slot_after, token_in}
+pub use Rattle.dm_rule.proofs.Names.{trails_after, unmoved, why_ended-is, with_pair, with_ring}
 pub use Rattle.dm_rule.proofs.Once.{one_of-same}
 pub use Rattle.dm_rule.proofs.Pairs.Lines.{AllFit, line_view, onward, pair_same, taken_pair, touches}
-pub use Rattle.dm_rule.proofs.Pairs.Migrating.{migrates_fit}
+pub use Rattle.dm_rule.proofs.Pairs.Migrating.{calls_off_fit, migrates_fit}
 pub use Rattle.dm_rule.proofs.Pairs.Stand.{set_is, set_other}
 pub use Rattle.dm_rule.proofs.Pairs.Turns.{turns_fit}
 pub use Rattle.dm_rule.proofs.Phases.Always.{phases_always}
+pub use Rattle.dm_rule.proofs.Phases.Answers.{Remains, stale_left}
 pub use Rattle.dm_rule.proofs.Phases.Calm.{Calm, Plain, between_of, calm_about, calm_in, calm_same, other_than}
 pub use Rattle.dm_rule.proofs.Phases.Hears.{plain_by}
 pub use Rattle.dm_rule.proofs.Phases.Leaves.{fewer_record}
-pub use Rattle.dm_rule.proofs.Phases.Lines.{dropped_spots, first_kept, forwarded_spots, handled_spots, held_spots, off_zero, packet_calm, put_spots, queued_spots}
+pub use Rattle.dm_rule.proofs.Phases.Lines.{dropped_spots, first_kept, forwarded_spots, handled_spots, held_spots, off_zero, packet_calm, put_calm, put_spots, queued_spots}
 pub use Rattle.dm_rule.proofs.Phases.Lives.{nowhere_known}
 pub use Rattle.dm_rule.proofs.Phases.Net.{migrates_quiet, net_parts, taken_calm}
 pub use Rattle.dm_rule.proofs.Phases.Pieces.{and_false, record_off}
 pub use Rattle.dm_rule.proofs.Phases.Put.{first_none, last_there, put_spot, put_there}
-pub use Rattle.dm_rule.proofs.Phases.Quiet.{Tame, line_calm, parts_settle, plain_in_bag, received_spots}
+pub use Rattle.dm_rule.proofs.Phases.Quiet.{Tame, line_calm, parts_settle, plain_in_bag, received_spots, tame_kind}
 pub use Rattle.dm_rule.proofs.Phases.Rests.{released_on}
-pub use Rattle.dm_rule.proofs.Phases.Stand.{held_plain, queued_plain}
+pub use Rattle.dm_rule.proofs.Phases.Stand.{called_known, comes_known, held_plain, piece_ways, pull_ways, queued_plain}
 pub use Rattle.dm_rule.proofs.Phases.Start.{start_known}
 pub use Rattle.dm_rule.proofs.Said.{fits_as}
 pub use Rattle.dm_rule.proofs.Seen.{about_off}
 pub use Rattle.dm_rule.proofs.Serving.{Loose, loose_handles, loose_round}
-pub use Rattle.dm_rule.proofs.States.{PacketsKeep, PairsFit, said as last_point, puts_next, said, says_next, packet_off}
+pub use Rattle.dm_rule.proofs.States.{PacketsKeep, PairsFit, said as last_point, packet_off, puts_next, said, says_next}
+pub use Rattle.dm_rule.proofs.Telling.{plain_not}
 pub use Rattle.dm_rule.proofs.Trails.Along.{Carries, along_treads, trails_always_by}
 pub use Rattle.dm_rule.proofs.Trails.Found.{treads_start}
 pub use Rattle.dm_rule.proofs.Trails.Known.{get_at_end}
@@ -77,12 +68,11 @@ pub use Rattle.dm_rule.proofs.Trails.Labels.{ended_on}
 pub use Rattle.dm_rule.proofs.Trails.Leads.{less_test, trail_leads}
 pub use Rattle.dm_rule.proofs.Trails.Lines.{pid_there}
 pub use Rattle.dm_rule.proofs.Trails.Puts.{migrate_from, migrate_to}
-pub use Rattle.dm_rule.proofs.Trails.Steps.{sent_on_at, set_off, two_apart}
+pub use Rattle.dm_rule.proofs.Trails.Steps.{holds_on, sent_on_at, set_off, two_apart}
 pub use Rattle.dm_rule.proofs.Trails.Treads.{KnownFits, LabelFits, LineFits, PutFits, Treads, held_topic, line_treads, queued_topic, taken_topic}
 pub use Rattle.dm_rule.proofs.Trails.Within.{HeadIn, Within, forwarded_acting, held_acting, line_within, queued_acting, trail_within}
 pub use Rattle.dm_rule.proofs.Turns.{created_off, ended_off, serving_off}
-pub use Rattle.dm_rule.specs.Acts.{act_of}
-pub use Rattle.dm_rule.specs.Addresses.{child_gets, addresses_by}
+pub use Rattle.dm_rule.specs.Addresses.{child_gets}
 pub use Rattle.dm_rule.specs.Ends.{Stood, alive_lines, awaits, child_lines, doing_of, each_process, end_lines, first_with, holding_lines, homes_with, inbox_lines, link_lines, name_lines, pending_lines, process_lines, queue_at, queue_lines}
 pub use Rattle.dm_rule.specs.Ends.{server_lines, slot_line, standing_of, state_lines, stood, stood_at, stream_lines}
 pub use Rattle.dm_rule.specs.Migrating.{answers_in, behind_among, holders_numbered, holders_of, slot_holders}
@@ -114,14 +104,28 @@ pub use Rattle.dm_rulelaws.proofs.Goes.Parts.{some_is}
 pub use Rattle.dm_rulelaws.proofs.Goes.Runs.{Both, both_group, both_start}
 pub use Rattle.dm_rulelaws.proofs.Goes.Serves.{first_is}
 pub use Rattle.dm_rulelaws.proofs.Goes.Turns.{times_more, times_self}
-pub use Rattle.dm_rulelaws.proofs.Names.{AllSayable, AtHome, BagStep, Grown, InPhases, IsNet, IsNetLine, IsPending, KernelFits, KnownStands, LeadsBy, Links, Named, Outside, Phased, ReceivedAt, Rooted, SaidOn, Sane, Sayable, State, Stops}
-pub use Rattle.dm_rulelaws.proofs.Names.{WhatFits, about_same, agrees, aim, arrives_net, at_home, at_machine_at, at_place, at_record_at, bag_answered, bag_call, bag_created, bag_dropped, bag_end, bag_gone, bag_no_space, bag_out, bag_ran}
-pub use Rattle.dm_rulelaws.proofs.Names.{bag_receive, bag_refuse, bag_sends, bag_served, bag_took, bag_wait, both_lists, both_times, by_forwards, by_group, by_handles, by_hears, by_migrates, by_net, by_outcome, by_parts, by_round, by_step}
-pub use Rattle.dm_rulelaws.proofs.Names.{calm_phases, came, child_is, destination_expects, dropped_known, due, eq_is, eq_self, first_off, forwarded_back, forwarded_known, front_gone, front_kernels, front_way, goes_between, group_is}
-pub use Rattle.dm_rulelaws.proofs.Names.{grown_none, has_bytes, has_no_queue, has_nothing_held, head_calm, held_known, hidden, homes_are, hushed, is_fixed, is_kill, is_of_memory, is_piece, is_put, is_server, kernels_fresh, label_on}
-pub use Rattle.dm_rulelaws.proofs.Names.{label_topic, labels, left_parts, length-drop, length-take, letters, machine_of, move_fits, moves_away, not_false, not_kernels, not_true, note-is, numbered_from, one_of, or_first, out_off}
-pub use Rattle.dm_rulelaws.proofs.Names.{outcome_sayable, pair_keeps, part_sane, parts, phased_group, phased_start, pid_eq-swap, piece_fits, proto_acting, proto_known, put_at, put_told_off, queued_known, rejoins, resends_net, rests_here}
-pub use Rattle.dm_rulelaws.proofs.Names.{rooted, sane_line, second, seen_none, served_keeps, sets, source_holds, stands_right, status_awaits, tells_between, times-append, token_is, told_some, turn_off, under_way, with_label}
+pub use Rattle.dm_rulelaws.proofs.Names.{About, Addresses, Again, Alive, AllSayable, Answer, AskedBy, AtHome, BagStep, Bool, Boot, BootProcess, Called, Child, Direction, Due, Enclosed, Forward, Frozen, Gets, Grown, Held, Here, Holder}
+pub use Rattle.dm_rulelaws.proofs.Names.{InPhases, Inbox, Incoming, IsIn, IsLeft, IsNet, IsNetLine, IsPending, IsStep, IsValid, KernelFits, Known, KnownStands, Label, Leads, LeadsBy, LeftOver, Life, LifeGrows, Line, Links, List, Load}
+pub use Rattle.dm_rulelaws.proofs.Names.{Manager, MessageKind, MoveNote, Moves, Moving, MsgId, Name, Named, NamedLink, None, NothingElse, Of, OneKernel, Option, Outcome, Outside, Owner, Owns, Pair, Part, Pending, PendingKind, Phase, Phased}
+pub use Rattle.dm_rulelaws.proofs.Names.{Pid, Place, PlainLink, PlainMessage, PlainProcess, PlainStatus, PlainWhat, Point, Queue, Ready, ReceivedAt, Receiver, Reply, Rests, Rooted, Routes, SaidOn, Sane, Sayable, Says, Sender, Sends}
+pub use Rattle.dm_rulelaws.proofs.Names.{ServerSends, Slot, Some, Sort, Sound, Spelled, Spot, Stage, StandsOutside, StandsRight, State, Step, Stops, Switchboard, Target, Token, Told, Transmits, Unknown, Untaken, View, Waiting, WhatFits}
+pub use Rattle.dm_rulelaws.proofs.Names.{Why, [], about_same, accepts, acting_place, after, after_head, after_line, after_put, after_step, agrees, aim, alive-is, all_follow, answer_id, answer_to, answers_move, ap, arith, arrives_net}
+pub use Rattle.dm_rulelaws.proofs.Names.{ascends, at_home, at_machine, at_machine_at, at_pair, at_place, at_record, at_record_at, bag_answered, bag_call, bag_created, bag_dropped, bag_end, bag_gone, bag_no_space, bag_out, bag_ran}
+pub use Rattle.dm_rulelaws.proofs.Names.{bag_receive, bag_refuse, bag_sends, bag_served, bag_took, bag_wait, behind, bind, bind-is, board_takes_lem, both_lists, both_times, by_calls_off, by_forwards, by_group, by_handles, by_hears}
+pub use Rattle.dm_rulelaws.proofs.Names.{by_migrates, by_net, by_outcome, by_parts, by_round, by_step, call_off, called_parts, calls_off, calm_phases, came, cases_Bool, child_is, chunks_of, coming_is, counts, destination_expects, drop}
+pub use Rattle.dm_rulelaws.proofs.Names.{dropped_known, due, due_or_left, ends_by, ends_move-is, entry, eq_is, eq_self, false, false≢true, filter, first_empty, first_failed, first_gives, first_number, first_off, first_point, first_view}
+pub use Rattle.dm_rulelaws.proofs.Names.{forwarded_back, forwarded_for, forwarded_known, forwards, forwards_on, front_gone, front_kernels, front_of, front_way, gets, given, gives, gives_piece, goes_back, goes_between, goes_out, gone_to}
+pub use Rattle.dm_rulelaws.proofs.Names.{group_is, group_of, grown_none, handled, handled_first, has_bytes, has_no_queue, has_nothing_held, head_calm, hears, held_for, held_known, hidden, holder_eq, homes_are, hushed, id_eq, id_eq-is}
+pub use Rattle.dm_rulelaws.proofs.Names.{id_eq-same, id_of, if◌then◌else◌, in_bag, inl, inr, is_away, is_behind, is_between, is_calloff, is_counted, is_early, is_fixed, is_here, is_kernels, is_kill, is_of_memory, is_piece, is_put}
+pub use Rattle.dm_rulelaws.proofs.Names.{is_restart, is_server, is_some, is_told_back, kernel_after, kernel_hears, kernels_fresh, kind_comes, kind_leaves, knows, label_of, label_on, label_topic, labels, lands-is, leaves, leaves_for}
+pub use Rattle.dm_rulelaws.proofs.Names.{left_parts, length, length-append, length-drop, length-take, letters, life_at, lines_of, link_at, link_target, machine_of, manager, manager_gets, manager_takes_lem, map, migrates, move_fits}
+pub use Rattle.dm_rulelaws.proofs.Names.{move_target, moved, moves_away, nat_le, nat_lt, nat_tests, not, not_false, not_kernels, not_server, not_true, note-is, numbered_from, one_of, option_map_or, or_first, out_off, outcome}
+pub use Rattle.dm_rulelaws.proofs.Names.{outcome_sayable, own_given, own_id, packet_line, pair_keeps, part_sane, parts, pending_of, phased_group, phased_start, pid_eq, pid_eq-is, pid_eq-same, pid_eq-swap, pid_of, piece_fits, pieces_of}
+pub use Rattle.dm_rulelaws.proofs.Names.{place_told, plain_kind, process_told, proto_acting, proto_known, pulls_piece, put_at, put_told_off, puts, queued_known, receiver_in, receiver_of, reception, refl, rejoins, replay, resends_net}
+pub use Rattle.dm_rulelaws.proofs.Names.{rests_here, right_true, rooted, sane_line, second, seen, seen_none, sender_in, sender_of, sends_on, sent_at, served_keeps, served_told, sets, slice_get, sort_of, source_holds, spelled, standing}
+pub use Rattle.dm_rulelaws.proofs.Names.{stands_right, start, start-sound, status_awaits, stayed, subst, suc, switchboard, sym, take, taken_id, takes_block, takes_chunk, target_of, tells_asker, tells_between, tells_onward, times}
+pub use Rattle.dm_rulelaws.proofs.Names.{times-append, to_kernel, to_of, token_at, token_is, told_between, told_ended, told_here, told_server, told_some, told_step, topic_by, true, turn_off, under_way, untaken, updated, updates, view_after}
+pub use Rattle.dm_rulelaws.proofs.Names.{with_label, with_note, with_process, with_sent, without_front, without_id, without_message, without_note, zero, ℕ, ⊤, ◌&&◌, ◌++◌, ◌+◌, ◌-◌, ◌/◌, ◌<◌, ◌==◌, ◌||◌, ◌∙◌, ◌∷◌, ◌≡◌, ◌≢◌, ◌≤◌, ◌⊎◌}
 pub use Rattle.dm_rulelaws.proofs.Own.Told.{is_place, own_sort}
 pub use Rattle.dm_rulelaws.proofs.Queued.{IsQueued}
 pub use Rattle.dm_rulelaws.proofs.RunLabels.{after_replay, group_replay, labels-append, replay-append}
@@ -143,8 +147,7 @@ pub use Rattle.dm_movelaws.specs.Promise.{IsUnderWay, Promised, PromisesAlways, 
 pub use Rattle.dm_movelaws.specs.Protocol.{ProtocolMoves}
 pub use Rattle.dm_movelaws.specs.Real.{IsAboutReal, IsReal, Kernel, Made, RealAlways, Server}
 pub use Rattle.dm_movelaws.specs.Routed.{AreRouted, RoutedAlways, routed, with_put}
-pub use Rattle.dm_movelaws.specs.Stages.{Lacking, Mark, Reached, Staying, StepsInOrder, in_order, left_open, mark_for, marks, with_mark}
+pub use Rattle.dm_movelaws.specs.Stages.{Calling, Lacking, Mark, Reached, Staying, StepsInOrder, follows, in_order, left_open, mark_for, marks, step_number, with_mark}
+pub use Rattle.dm_movelaws.specs.Stales.{StalesAlways, calls, is_about, stales}
 pub use Rattle.dm_movelaws.specs.Trail.{AddressesLead, ByForward, ByHolder, ByOwn, ByRequest, ByUpdate, IsLast, IsLed, IsNamed, Reaches, TrailStands, TrailsStand, ends_walk, has_it, is_made}
 pub use Rattle.dm_movelaws.specs.Updates.{Updated, UpdatesAlways, is_owner, listings}
-pub use Rattle.std.specs.Option.{option_map_or, option_and_then, option_map}
-pub use Rattle.dm_rule.specs.Holders.{AskedBy, acting_place, gets}

@@ -28,6 +28,7 @@ count f (l ∷ ls) = (if f l then 1 else 0) + count f ls
 -- a directive to move this process
 abbrev pub asks_by : Pid → Step → Bool
 asks_by p (step.Migrate q m) = pid_eq p q
+asks_by p (step.CallOff q m) = false
 asks_by p (step.Turn m) = false
 asks_by p (step.Tick m) = false
 asks_by p (step.Deliver a b k) = false
@@ -50,12 +51,15 @@ asks p (line.Forwarded id m) = false
 asks p (line.Updated id n) = false
 asks p (line.Migration s q) = false
 asks p (line.SentOn q n) = false
+asks p (line.Called q n) = false
 asks p (line.Lacks q s b) = false
 asks p (line.Stays q) = false
 asks p (line.Here id) = false
 asks p (line.NoMove id) = false
+asks p (line.Stale id) = false
 asks p (line.Proto id) = false
 asks p (line.NoChild q) = false
+asks p (line.NoCall q) = false
 asks p (line.Pinned q) = false
 
 abbrev pub is_for : Pid → Option Told → Bool
@@ -95,6 +99,9 @@ ends told p (line.Held id) = false
 ends told p (line.Forwarded id m) = false
 ends told p (line.Updated id n) = false
 ends told p (line.SentOn q n) = false
+ends told p (line.Called q n) = false
+ends told p (line.Stale id) = false
+ends told p (line.NoCall q) = false
 ends told p (line.Lacks q s b) = false
 ends told p (line.Proto id) = false
 

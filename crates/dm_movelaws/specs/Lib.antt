@@ -16,4 +16,5 @@ pub mod Pending
 pub mod Movers
 pub mod Routed
 pub mod Protocol
+pub mod Stales
 pub mod LifeLines

@@ -24,7 +24,7 @@ use Rattle.dm_rule.specs.Phases.{Phase, Nowhere, Rests, Over, Moves, is_due, IsI
 use Rattle.dm_rule.specs.Point.{Point, label_of, labels, kernel_after, first_point, after}
 use Rattle.dm_rule.specs.Rule.{group_of}
 use Rattle.dm_rulelaws.specs.Order.{LeadsBy}
-use Rattle.dm_movelaws.specs.Stages.{Mark, Reached, Lacking, marks, left_open}
+use Rattle.dm_movelaws.specs.Stages.{Mark, Reached, Lacking, Calling, marks, left_open}
 
 -- the last of these marks, if its migration isn't over: step 8 ends it, and so does staying
 abbrev pub open_mark : Option Mark → List Mark → Option Mark
@@ -45,6 +45,7 @@ mark_told (sort.Between sort.PullBlock) = Some (Reached 4)
 mark_told (sort.Between sort.Memory) = Some (Reached 4)
 mark_told (sort.Between sort.AllTaken) = Some (Reached 5)
 mark_told (sort.Between sort.Restart) = Some (Reached 7)
+mark_told (sort.Between sort.CallOff) = Some Calling
 mark_told s = None
 
 abbrev pub mark_by : MessageKind → Option Mark

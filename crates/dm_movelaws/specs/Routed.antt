@@ -34,12 +34,15 @@ with_put (line.Forwarded id m) ids = ids
 with_put (line.Updated id n) ids = ids
 with_put (line.Migration s q) ids = ids
 with_put (line.SentOn q n) ids = ids
+with_put (line.Called q n) ids = ids
 with_put (line.Lacks q s b) ids = ids
 with_put (line.Stays q) ids = ids
 with_put (line.Here id) ids = ids
 with_put (line.NoMove id) ids = ids
+with_put (line.Stale id) ids = ids
 with_put (line.Proto id) ids = ids
 with_put (line.NoChild q) ids = ids
+with_put (line.NoCall q) ids = ids
 with_put (line.Pinned q) ids = ids
 
 -- all messages that these lines route, on whatever pair, each as often as it is

@@ -17,6 +17,7 @@ ghost use Rattle.dm_movelaws.specs.Protocol.{ProtocolMoves};
 ghost use Rattle.dm_movelaws.specs.Real.{RealAlways};
 ghost use Rattle.dm_movelaws.specs.Routed.{RoutedAlways};
 ghost use Rattle.dm_movelaws.specs.Stages.{StepsInOrder};
+ghost use Rattle.dm_movelaws.specs.Stales.{StalesAlways};
 ghost use Rattle.dm_movelaws.specs.Trail.{TrailsStand, AddressesLead};
 ghost use Rattle.dm_movelaws.specs.Updates.{UpdatesAlways};
 
@@ -48,10 +49,16 @@ pub fn lists_always()
     ensures { ListsAlways }
 {}
 
-/// Wherever the rule leads from a boot file, the lines of each process's migrations are steps 1 to 8 in order, or 1, 2, lacks and
-/// stays, one migration after another; the last may be unfinished.
+/// Wherever the rule leads from a boot file, the lines of each process's migrations are steps 1 to 8 in order; or 1, 2, lacks and
+/// stays; or 1 to 3 or 1 to 4, called and stays: one migration after another; the last may be unfinished.
 pub fn steps_in_order()
     ensures { StepsInOrder }
+{}
+
+/// Wherever the rule leads from a boot file, no more lines `stale` are about a process than lines `called`; and as many, where nothing
+/// is on its way between machines: of each migration that was called off one piece comes too late, and never more.
+pub fn stales_always()
+    ensures { StalesAlways }
 {}
 
 /// Wherever the rule leads from a boot file, a group that says that an update was handled says nothing else: each address of the
@@ -194,9 +201,9 @@ pub fn lists_for_theirs()
     ensures { ListsForTheirs }
 {}
 
-/// Wherever the rule leads from a boot file: each message by which two kernels move a process, of the kinds from ask to restart, that
-/// stands in any inbox, queue, held list or stream is about a process that moves, and is the one message of its migration that is
-/// under way.
+/// Wherever the rule leads from a boot file: each message by which two kernels move a process, of the kinds from ask to restart and
+/// calloff, that stands in any inbox, queue, held list or stream is about a process that moves, and is the one message of its migration
+/// that is under way; or it is left over of a migration of its process that was called off.
 pub fn protocol_moves()
     ensures { ProtocolMoves }
 {}

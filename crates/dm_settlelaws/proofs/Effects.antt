@@ -44,6 +44,7 @@ effect (Line.Lacks p a b) = First
 effect (Line.Stays p) = Returns p
 effect (Line.Here id) = Front id
 effect (Line.NoMove id) = Front id
+effect (Line.Stale id) = Front id
 effect (Line.Proto id) = Front id
 effect _ = Stays
 

@@ -4,42 +4,34 @@ pub use Rattle.std.proofs.lemmas.Bool.Decides.{leb_tells}
 pub use Rattle.std.proofs.lemmas.List.Elements.{All-append, All-cons, All-nil}
 pub use Rattle.std.proofs.lemmas.Nat.{mul-le}
 pub use Rattle.std.specs.List.{All}
-pub use Rattle.dm_processor.proofs.Names.{Bool, List, [], ap, arith, drop, false, length, length-append, length-drop, nat_tests, refl, suc, sym, take, true, zero, ℕ, ◌*◌, ◌++◌, ◌+◌, ◌-◌, ◌/◌, ◌<◌, ◌^◌, ◌∙◌, ◌∷◌, ◌≡◌, ◌≤◌}
+pub use Rattle.dm_processor.proofs.Names.{length-append}
 unfoldable pub use Rattle.dm_processor.specs.Instructions.{instruction}
-pub use Rattle.dm_linktable.proofs.Names.{Pid, pid_eq, subst, ◌&&◌, ◌==◌, ◌≢◌}
-pub use Rattle.dm_schedule.proofs.Names.{if◌then◌else◌, nat_lt, not}
-pub use Rattle.dm_process.proofs.Names.{slice_get}
-pub use Rattle.dm_laws.proofs.Names.{Alive, Boot, BootImage, IsValid, Label, Life, MoveNote, MsgId, None, OneKernel, Option, Outcome, Pending, PlainLink, PlainMessage, PlainProcess, PlainWhat, Some, answer_id, bind, cases_Bool, false≢true}
-pub use Rattle.dm_laws.proofs.Names.{first_number, id_eq, id_of, inl, inr, is_some, manager, nat_le, pid_of, switchboard, ⊤, ◌⊎◌}
+pub use Rattle.dm_schedule.proofs.Names.{length-drop, ◌^◌}
+pub use Rattle.dm_line.proofs.Deliveries.{here_or_later}
 pub use Rattle.dm_line.proofs.Names.{eqb_tells}
 pub use Rattle.dm_line.specs.Each.{sum_below}
 pub use Rattle.dm_line.specs.Todo.{Two, begin_pass, below, in_pass, is_over, next_and_left, next_delivery, next_directive, next_pass, next_turn, pairs_of, pairs_with, pass_begun, settles, takes_turn}
-pub use Rattle.dm_line.proofs.Deliveries.{here_or_later}
 pub use Rattle.dm_line.specs.declared.pass.Pass.{Pass}
 pub use Rattle.dm_line.specs.declared.pass.Pass.TheVariants.{Settle}
 pub use Rattle.dm_rule.proofs.Groups.{stands_once_always}
 pub use Rattle.dm_rule.proofs.Homes.Calls.{or-left}
-pub use Rattle.dm_rule.proofs.Names.{About, Addresses, Again, Child, Directive, Forward, Held, Here, Inbox, IsQuiet, IsStep, Known, Leads, Line, Load, MessageKind, Name, NamedLink, Next, NothingElse, Of, Owns, Pair, PairStands, Part, Point}
-pub use Rattle.dm_rule.proofs.Names.{Receiver, Room, Routes, Says, Sender, SentLoad, Slot, Spelled, Spot, Stage, StandsOutside, StandsRight, Step, Target, TellsRight, Todo, Told, Transmits, Untaken, View, accepts, after, after_line, all_of}
-pub use Rattle.dm_rule.proofs.Names.{answers_move, arrives, asks_on, at_id, at_least, at_machine, at_pair, behind, behind_count, bind-is, board_took, chunks_of, comes, comes_to, creation_parts, drop_parts, dropped_for, ended_handles}
-pub use Rattle.dm_rule.proofs.Names.{ends_by, filter, first_point, first_view, fits, follows_by, forwarded_for, forwards_on, free_room, goes_out, gone_after, group_of, handled, has, has_mail, has_room, hears, held_for, here_handles}
-pub use Rattle.dm_rule.proofs.Names.{id_eq-is, id_eq-same, is_between, is_kernels, is_quiet, is_told_back, kept_from, kernel_handles, kernel_hears, leads, leads_on, leaves, leaves_for, less, let_go, lines_of, manager_parts, marked}
-pub use Rattle.dm_rule.proofs.Names.{marked_at, migrates, moved, next_step, numbers_from, oldest, outcome, outstanding_count, own_id, packet_line, pair_window, pieces_of, place_told, plain_kind, process_handles, process_told, puts}
-pub use Rattle.dm_rule.proofs.Names.{queued_for, receiver_of, repeats, resends, right_true, routed_on, routes, says, seen, sends_on, served_told, slice_set, sort_of, spelled, standing, taken_id, takes_block, takes_chunk, takes_on}
-pub use Rattle.dm_rule.proofs.Names.{taking_parts, target_of, tells_asker, times, to_kernel, to_of, told_ended, told_here, told_server, told_step, turns, untaken, view_after, without_front, ◌||◌}
+pub use Rattle.dm_rule.proofs.Names.{Directive, PairStands, Room, SentLoad, TellsRight, all_of, arrives, asks_on, at_least, board_took, comes, comes_to, creation_parts, drop_parts, ended_handles, follows_by, gone_after, has, has_mail}
+pub use Rattle.dm_rule.proofs.Names.{has_room, here_handles, is_quiet, kept_from, kernel_handles, leads, leads_on, less, let_go, manager_parts, marked_at, next_step, numbers_from, outstanding_count, pair_window, process_handles, repeats}
+pub use Rattle.dm_rule.proofs.Names.{resends, routes, says, takes_on, taking_parts, turns}
 pub use Rattle.dm_rule.proofs.Pairs.{Pairs, Pairs-always, Pairs-group, Pairs-start, acked_out_by, pair_home, pairs_stand_always}
 pub use Rattle.dm_rule.proofs.Pairs.Comes.{less-left}
 pub use Rattle.dm_rule.proofs.Pairs.Lines.{AllFit-later, Fits, Onward, fitting_goes, one_view, says_view, transmits_view, two_views}
 pub use Rattle.dm_rule.proofs.Pairs.Moves.{Paired, at_least-more, off, off_has, or_cases, or_first as or_second}
 pub use Rattle.dm_rule.proofs.Pairs.Stand.{Apart, KeptStands, set_same, two_of}
 pub use Rattle.dm_rule.proofs.Pairs.Turns.{resends_fit}
+pub use Rattle.dm_rule.proofs.Phases.Stand.{left_ways}
 pub use Rattle.dm_rule.proofs.QuietTests.{passes_quiet, quiet_passes, eq_is as test_same}
 pub use Rattle.dm_rule.proofs.Telling.{tells_right_always}
 pub use Rattle.dm_rule.proofs.Worked.{hi}
 pub use Rattle.dm_rule.specs.Ends.{leading}
 pub use Rattle.dm_rule.specs.Good.{IsKept, first_undelivered, undelivered}
 pub use Rattle.dm_rule.specs.View.{is_own}
-pub use Rattle.dm_rulelaws.proofs.Names.{IsNet, IsNetLine, IsRun, acting_dropped, arrives_net, at_machine_at, eq_is, first_told, group_is, hushed, is_fixed, is_put, is_server, not_is, not_true, times-append}
+pub use Rattle.dm_rulelaws.proofs.Names.{BootImage, IsRun, Next, Todo, acting_dropped, at_id, dropped_for, first_told, fits, free_room, marked, not_is, oldest, queued_for, routed_on, slice_set, ◌*◌}
 pub use Rattle.dm_rulelaws.proofs.RunsAlways.{found_always}
 pub use Rattle.dm_movelaws.proofs.After.{group_after}
 pub use Rattle.dm_movelaws.proofs.At.RestAlways.{at_rest_always, within}
@@ -47,10 +39,18 @@ pub use Rattle.dm_movelaws.proofs.At.RestOnly.{dropped_known}
 pub use Rattle.dm_movelaws.proofs.At.RestPairs.{routed_always}
 pub use Rattle.dm_movelaws.proofs.Ends.Parts.{count-append}
 pub use Rattle.dm_movelaws.proofs.Ends.Sources.{line_ids}
-pub use Rattle.dm_movelaws.proofs.Names.{AllFit, AtRest, ByHolder, ByOwn, EndLine, GroupIs, IsNamed, Standing, Stood, alive_lines, awaits, based_always, block_line, child_lines, count, doing_of, drop-nil, joined_below, each_process}
-pub use Rattle.dm_movelaws.proofs.Names.{end_lines, first_with, forwarded_acting, handles, holding_lines, home_with, homes_with, inbox_lines, is_moving, landing_parts, line_view, link_lines, list_line, memory_lines, migrates_fit}
-pub use Rattle.dm_movelaws.proofs.Names.{more_front, name_lines, onward, or, pair_same, pending_lines, process_lines, queue_at, queue_lines, queued_acting, run_always, server_lines, set_is, set_other, slot_line, standing_of, state_lines}
-pub use Rattle.dm_movelaws.proofs.Names.{stood, stood_at, stream_lines, taken_pair, touches, trimmed, turns_fit}
+pub use Rattle.dm_movelaws.proofs.Names.{About, Addresses, Again, Alive, AllFit, AtRest, Bool, Boot, ByHolder, ByOwn, Child, EndLine, Forward, GroupIs, Held, Here, Inbox, IsNamed, IsNet, IsNetLine, IsQuiet, IsStep, IsValid, Known, Label}
+pub use Rattle.dm_movelaws.proofs.Names.{Leads, Life, Line, List, Load, MessageKind, MoveNote, MsgId, Name, NamedLink, None, NothingElse, Of, OneKernel, Option, Outcome, Owns, Pair, Part, Pending, Pid, PlainLink, PlainMessage, PlainProcess}
+pub use Rattle.dm_movelaws.proofs.Names.{PlainWhat, Point, Receiver, Routes, Says, Sender, Slot, Some, Spelled, Spot, Stage, Standing, StandsOutside, StandsRight, Step, Stood, Target, Told, Transmits, Untaken, View, [], accepts, after}
+pub use Rattle.dm_movelaws.proofs.Names.{after_line, alive_lines, answer_id, answers_move, ap, arith, arrives_net, at_machine, at_machine_at, at_pair, awaits, based_always, behind, behind_count, bind, bind-is, block_line, calls_off}
+pub use Rattle.dm_movelaws.proofs.Names.{calls_off_fit, cases_Bool, child_lines, chunks_of, count, doing_of, drop, drop-nil, each_process, end_lines, ends_by, eq_is, false, false≢true, filter, first_number, first_point, first_view}
+pub use Rattle.dm_movelaws.proofs.Names.{first_with, forwarded_acting, forwarded_for, forwards_on, goes_out, group_is, group_of, handled, handles, hears, held_for, holding_lines, home_with, homes_with, hushed, id_eq, id_eq-is, id_eq-same}
+pub use Rattle.dm_movelaws.proofs.Names.{id_of, if◌then◌else◌, inbox_lines, inl, inr, is_between, is_fixed, is_kernels, is_moving, is_put, is_server, is_some, is_stale, is_told_back, joined_below, kernel_hears, landing_parts, leaves}
+pub use Rattle.dm_movelaws.proofs.Names.{leaves_for, length, line_view, lines_of, link_lines, list_line, manager, memory_lines, migrates, migrates_fit, more_front, moved, name_lines, nat_le, nat_lt, nat_tests, not, not_true, onward, or}
+pub use Rattle.dm_movelaws.proofs.Names.{outcome, own_id, packet_line, pair_same, pending_lines, pid_eq, pid_of, pieces_of, place_told, plain_kind, process_lines, process_told, puts, queue_at, queue_lines, queued_acting, receiver_of, refl}
+pub use Rattle.dm_movelaws.proofs.Names.{right_true, run_always, seen, sends_on, served_told, server_lines, set_is, set_other, slice_get, slot_line, sort_of, spelled, standing, standing_of, state_lines, stood, stood_at, stream_lines, subst}
+pub use Rattle.dm_movelaws.proofs.Names.{suc, switchboard, sym, take, taken_id, taken_pair, takes_block, takes_chunk, target_of, tells_asker, times, times-append, to_kernel, to_of, told_ended, told_here, told_server, told_step, touches}
+pub use Rattle.dm_movelaws.proofs.Names.{trimmed, true, turns_fit, untaken, view_after, without_front, zero, ℕ, ⊤, ◌&&◌, ◌++◌, ◌+◌, ◌-◌, ◌/◌, ◌<◌, ◌==◌, ◌||◌, ◌∙◌, ◌∷◌, ◌≡◌, ◌≢◌, ◌≤◌, ◌⊎◌}
 pub use Rattle.dm_movelaws.proofs.Promise.Finds.{leads_append}
 pub use Rattle.dm_movelaws.proofs.ProtocolMoves.{protocol_moves}
 pub use Rattle.dm_movelaws.proofs.Trail.Rows.{or_first}

@@ -12,10 +12,11 @@ use Rattle.dm_line.specs.Each.{sum_below}
 use Rattle.dm_rule.specs.Spots.{untaken}
 use Rattle.dm_rule.specs.View.{Pair, SentLoad, Told, View}
 
--- a message that lets go what was held back, once it is handled: a restart or a refusal
+-- a message that lets go what was held back, once it is handled: a restart, a refusal, or that a migration is called off
 abbrev pub releases : Sort → Bool
 releases (sort.Between sort.Restart) = true
 releases (sort.Between sort.Refuse) = true
+releases (sort.Between sort.CallOff) = true
 releases s = false
 
 abbrev pub lets_go : MessageKind → Bool

@@ -27,6 +27,7 @@ turns_in (step.Turn m) = 1
 turns_in (step.Deliver a c k) = 0
 turns_in (step.Tick m) = 0
 turns_in (step.Migrate p m) = 0
+turns_in (step.CallOff p m) = 0
 
 -- a settle goes on with such a step, and what is behind it stays behind it
 pub record SettleGoes (n : ℕ) (v : View) (t : Todo) : Type 0 where

@@ -3,7 +3,7 @@ use Rattle.dm_movelaws.proofs.Names.{◌≡◌, ℕ, ◌==◌, Bool, true, false
 use Rattle.dm_movelaws.proofs.Names.{Moves, knows, is_here, is_over, IsIn, first_point, is_server, eq_self, run_always, nat_tests, arith, FollowsWhileMoving, MoveNote, Based, List, [], ◌∷◌, ◌++◌, None, pid_eq, Stage, Outcome, manager}
 use Rattle.dm_movelaws.proofs.Names.{Label, OneKernel, PlainMessage, PlainWhat, with_sent, Step, Line, Told, Here, Addresses, label_of, Part, Says, Spelled, spelled, outcome, sends_on, to_kernel, forwards_on, answers_move, leaves_for}
 use Rattle.dm_movelaws.proofs.Names.{IsNetLine, by_round, by_handles, by_hears, by_forwards, by_migrates, by_outcome, by_step, bind-is, said_by, plain_kind, asked_noted, ends_move-is, begun, asks, ◌+◌, ◌≤◌, id_eq, id_eq-is, id_eq-same}
-use Rattle.dm_movelaws.proofs.Names.{in_bag, entry, reception, replay, Sound, after_step, not_true}
+use Rattle.dm_movelaws.proofs.Names.{in_bag, entry, reception, replay, Sound, after_step, not_true, by_calls_off}
 use Rattle.dm_onekernel.specs.Step as kernel
 use Rattle.dm_rule.specs.Rule as rule
 use Rattle.dm_movelaws.proofs.Open.Moves.{leads_of}
@@ -115,7 +115,8 @@ sends_unmarked to (i ∷ is) ps h = (tt, sends_unmarked to is ps h)
 
 hears_row : (b : Boot) (o : Point) (m : ℕ) (id : MsgId) (q : Option Told) (ps : List Part) → rule.hears b o m id q ≡ Some ps → Row o (Step.Turn m) ps
 hears_row b o m id q ps = by_hears (Row o (Step.Turn m)) b o m id q ps (λ t is. record {
-  told = λ p x about alive. record {
+  stale = λ p about late. Plain (refl, tt);
+  told = λ p x about alive due. record {
     accepted = λ ask. Plain (refl, (tt, tt));
     lacks = λ slots blocks. Plain (refl, (tt, tt));
     stays = λ kind free. Plain (refl, tt);
@@ -151,6 +152,7 @@ outcome_row b o d ps = by_outcome (Row o) b o d ps (record {
   ticks = λ m xs net. Plain (net_says IsUnmarked net_unmarked xs net);
   delivers = λ a c k xs net. Plain (net_says IsUnmarked net_unmarked xs net);
   asks = λ p m. Plain (by_migrates AllUnmarked o p (refl, tt) (refl, tt) (λ n off is. (tt, tt)));
+  calls = λ p m. Plain (by_calls_off AllUnmarked o m p (refl, tt) (λ from is come. (refl, sends_unmarked from (o.view.held m p) (to_kernel MessageKind.CallOff from ∷ []) (tt, tt))));
 })
 
 -- what a process follows behind a step

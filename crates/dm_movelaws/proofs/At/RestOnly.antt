@@ -1,8 +1,8 @@
 -- Where a process has ended nothing comes to its queue: each group keeps it.
-use Rattle.dm_movelaws.proofs.Names.{◌≡◌, ℕ, ◌+◌, Bool, true, false, List, [], ◌∷◌, refl, ap, ◌∙◌, sym, false≢true, Option, None, Some, Pid, MsgId, MessageKind, plain_kind, Label, Step, Line, Stage, Part, Says, Routes, Spelled}
-use Rattle.dm_movelaws.proofs.Names.{spelled, Point, at_record, View, Told, Known, Here, Ended, view_after, handled, receiver_of, IsNetLine, set_all, ◌++◌, ⊤, PlainMessage, Boot, manager, Addresses, forwards_on, sends_on}
-use Rattle.dm_movelaws.proofs.Names.{is_kill, Sane, by_hears, by_round, by_handles, by_forwards, queued_known, held_known, forwarded_known, proto_known, nat_tests, arith, aim, sets, Frozen, subst, Life, OneKernel}
-use Rattle.dm_movelaws.proofs.Names.{after_step, is_away, kernel_after, label_of, group_of, without_id, without_front, Incoming, served_told, front_of, gone_to, Phased, KnownStands, group_keeps, Loud, keeps_by, killed_or}
+use Rattle.dm_movelaws.proofs.Names.{◌≡◌, ℕ, ◌+◌, Bool, true, false, List, [], ◌∷◌, refl, ap, ◌∙◌, sym, false≢true, Option, None, Some, Pid, MsgId, MessageKind, plain_kind, Label, Step, Line, Stage, Part, Says, Routes, Spelled, spelled}
+use Rattle.dm_movelaws.proofs.Names.{Point, at_record, View, Told, Known, Here, Ended, view_after, handled, receiver_of, IsNetLine, set_all, ◌++◌, ⊤, PlainMessage, Boot, manager, Addresses, forwards_on, sends_on, is_kill, Sane, by_hears}
+use Rattle.dm_movelaws.proofs.Names.{by_round, by_handles, by_forwards, queued_known, held_known, forwarded_known, proto_known, nat_tests, arith, aim, sets, Frozen, subst, Life, OneKernel, after_step, is_away, kernel_after, label_of}
+use Rattle.dm_movelaws.proofs.Names.{group_of, without_id, without_front, Incoming, served_told, front_of, gone_to, Phased, KnownStands, group_keeps, Loud, keeps_by, killed_or}
 use Rattle.dm_rule.specs.View as view
 use Rattle.dm_rule.specs.Rule as rule
 use Rattle.dm_onekernel.specs.Step as kernel
@@ -93,6 +93,8 @@ loud before = record {
   restarted = λ pt p lives off h.
       learns before pt.kernel pt.kernel pt.view (view.after_stage pt.view p Stage.Restarted) p Here (same pt.kernel) refl refl (λ e. absurd (false≢true (sym (ap is_dead lives.alive) ∙ h.dead pt.view.acting p e))) h;
   stays_ = λ pt p lives off h. learns before pt.kernel pt.kernel pt.view (view_after pt.view (Line.Stays p)) p Here (same pt.kernel) refl refl (λ e. absurd (false≢true (sym (ap is_dead lives.alive) ∙ h.dead pt.view.acting p e))) h;
+  called = λ pt p n calling h.
+      learns before pt.kernel pt.kernel pt.view (view_after pt.view (Line.Called p n)) p (view.goes_back (pt.view.known pt.view.acting p) (pt.view.moves p)) (same pt.kernel) refl refl (λ e. absurd (cc (sym calling.comes ∙ h.known pt.view.acting p e))) h;
   sent_on = λ pt p n h. queues before pt.kernel pt.kernel pt.view (view_after pt.view (Line.SentOn p n)) p [] (same pt.kernel) refl refl (λ e. refl) h;
 }
 
@@ -175,13 +177,14 @@ handles_ends b o m id msg ps sane there t told = by_handles (Ends o m) b o m id 
 })
 
 -- a kernel's own message ends no process
-sends_stay : (to : ℕ) (ids : List MsgId) (ps : List Part) → AllStay ps → AllStay (sends_on to ids ++ ps)
+pub sends_stay : (to : ℕ) (ids : List MsgId) (ps : List Part) → AllStay ps → AllStay (sends_on to ids ++ ps)
 sends_stay to [] ps h = h
 sends_stay to (i ∷ is) ps h = (tt, sends_stay to is ps h)
 
 hears_ends : (b : Boot) (o : Point) (m : ℕ) (id : MsgId) (q : Option Told) (ps : List Part) → rule.hears b o m id q ≡ Some ps → Ends o m ps
 hears_ends b o m id q ps = by_hears (Ends o m) b o m id q ps (λ t is. record {
-  told = λ p x about alive. grind (arith, nat_tests, sends_stay);
+  stale = λ p about late. Once tt;
+  told = λ p x about alive due. grind (arith, nat_tests, sends_stay);
   updated = λ kind. Once tt;
   updated_none = λ kind at_. Once tt;
   no_move = λ at_. Once tt;
@@ -228,6 +231,9 @@ line_only before v (Line.Queued id) e h = only_as before v (view_after v (Line.Q
 line_only before v (Line.Held id) e h = only_as before v (view_after v (Line.Held id)) (λ n q. held_known (handled v id) id (receiver_of (v.told id)) n q) h
 line_only before v (Line.Forwarded id m) e h = only_as before v (view_after v (Line.Forwarded id m)) (λ n q. forwarded_known (handled v id) (receiver_of (v.told id)) n q) h
 line_only before v (Line.Proto id) e h = only_as before v (view_after v (Line.Proto id)) (λ n q. proto_known (handled v id) (v.told id) n q) h
+line_only before v (Line.Called p n) e h =
+    let back_ended : (k : Known) (n : ℕ) → view.goes_back k n ≡ Ended → k ≡ Ended = λ k n e. grind (arith, nat_tests) in
+    only_set before v (view_after v (Line.Called p n)) p (view.goes_back (v.known v.acting p) (v.moves p)) refl (back_ended (v.known v.acting p) (v.moves p)) h
 line_only before v (Line.Migration s p) e h =
     let stage_only : (before : Knows) (v : View) (p : Pid) (s : Stage) → Only before v → Only before (view.after_stage v p s) = λ before v p s h1.
     let gone_ended : (k : Known) (n : ℕ) → view.gone_to k n ≡ Ended → k ≡ Ended = λ k n e. grind (arith, nat_tests) in

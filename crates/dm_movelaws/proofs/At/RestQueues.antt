@@ -1,7 +1,8 @@
 -- Where a process has ended no message is queued for it.
-use Rattle.dm_movelaws.proofs.Names.{◌≡◌, ◌⊎◌, ℕ, ◌≤◌, false, List, [], ◌∷◌, refl, ap, ◌∙◌, sym, subst, inl, inr, arith, cases_Bool, false≢true, nat_tests, Option, None, Some, Pid, MsgId, Boot, Label, id_eq-same, Step}
-use Rattle.dm_movelaws.proofs.Names.{Line, Part, Says, Spelled, spelled, Point, moved, group_of, at_record, times, View, Told, Ended, view_after, handled, PlainMessage, IsValid, Leads, first_point, Spot, Queue, Inbox, standing, StandsRight}
-use Rattle.dm_movelaws.proofs.Names.{is_kernels, group_is, arrives_net, resends_net, stands_right, kernels_fresh, not_true, is_kill, says_next, DropsAlways, killed_or, stands_first, Run, told_of, more_front, migrates, by_migrates}
+use Rattle.dm_movelaws.proofs.Names.{◌≡◌, ◌⊎◌, ℕ, ◌≤◌, false, List, [], ◌∷◌, refl, ap, ◌∙◌, sym, subst, inl, inr, arith, cases_Bool, false≢true, nat_tests, Option, None, Some, Pid, MsgId, Boot, Label, id_eq-same, Step, Line, Part, Says}
+use Rattle.dm_movelaws.proofs.Names.{Spelled, spelled, Point, moved, group_of, at_record, times, View, Told, Ended, view_after, handled, PlainMessage, IsValid, Leads, first_point, Spot, Queue, Inbox, standing, StandsRight, is_kernels}
+use Rattle.dm_movelaws.proofs.Names.{group_is, arrives_net, resends_net, stands_right, kernels_fresh, not_true, is_kill, says_next, DropsAlways, killed_or, stands_first, Run, told_of, more_front, migrates, by_migrates, calls_off}
+use Rattle.dm_movelaws.proofs.Names.{by_calls_off, to_kernel, MessageKind}
 use Rattle.dm_laws.proofs.Equal as equal
 use Rattle.dm_rule.specs.Rule as rule
 use Rattle.dm_rule.specs.View as view
@@ -9,6 +10,7 @@ use Rattle.dm_rule.proofs.Lines as lines
 use Rattle.dm_movelaws.proofs.At.RestOnly.{AllStay, LineEnds, LastEnds, Ends, Once, Runs, turns_ends, Only, only_as, parts_only, is_ending, net_stays, Knows, buried_group}
 use Rattle.dm_movelaws.proofs.After.{keeps_always}
 use Rattle.dm_movelaws.proofs.Leading.{net_says}
+use Rattle.dm_movelaws.proofs.At.RestOnly.{sends_stay}
 
 -- what is left of the queue of a process that has ended
 record Left (a : ℕ) (p : Pid) (known : Knows) (v : View) (ids : List MsgId) : Type 0 where
@@ -129,6 +131,11 @@ group_cleared b pt (Step.Migrate p m) w is h =
     let g = group_is b pt (Step.Migrate p m) w is in
     let migrates_stay : (pt : Point) (p : Pid) → AllStay (migrates pt p) = λ pt p. by_migrates AllStay pt p (refl, tt) (refl, tt) (λ n off is. (tt, tt)) in
     grind (arith, nat_tests, migrates_stay, cleared_only, parts_only)
+group_cleared b pt (Step.CallOff p m) w is h =
+    let g = group_is b pt (Step.CallOff p m) w is in
+    let calls_stay : (pt : Point) (m : ℕ) (p : Pid) → AllStay (calls_off pt m p (pt.view.known m p)) =
+    λ pt m p. by_calls_off AllStay pt m p (refl, tt) (λ from is come. (refl, sends_stay from (pt.view.held m p) (to_kernel MessageKind.CallOff from ∷ []) (tt, tt))) in
+    grind (arith, nat_tests, calls_stay, cleared_only, parts_only)
 
 -- no message waits for a process where it has ended
 pub record Dropped (v : View) : Type 0 where

@@ -3,7 +3,7 @@ use Rattle.dm_movelaws.proofs.Names.{◌≡◌, ℕ, ◌+◌, List, [], ◌∷�
 use Rattle.dm_movelaws.proofs.Names.{asks, count, EndsAlways, nat_tests, own_ends, ◌∙◌, ◌⊎◌, ◌<◌, ◌≤◌, Bool, true, false, drop, sym, inl, inr, Option, None, Some, false≢true, drop-length, PlainMessage, Phase, Moves, is_due, IsIn}
 use Rattle.dm_movelaws.proofs.Names.{told_between, Spot, Queue, Held, Inbox, Untaken, times, untaken, standing, View, Told, is_kernels, letters, kernels_fresh, under_way, kernels_by, between_of, Run, is_moving, not_true, times_self}
 use Rattle.dm_movelaws.proofs.Ends.Open.{Opens, moving_in, waits_or, IsOpen, waits_moves}
-use Rattle.dm_movelaws.proofs.Ends.Parts.{count-append, Extends, plain_in_bag}
+use Rattle.dm_movelaws.proofs.Ends.Parts.{count-append, Extends, plain_in_bag, asks_for}
 use Rattle.dm_movelaws.proofs.Ends.Groups.{group_balance, owned, owned_zero, own-append, leads_next}
 use Rattle.dm_movelaws.proofs.Ends.Sources.{Sources, group_acts}
 use Rattle.dm_movelaws.proofs.Asked.Following.{noted_moves}
@@ -69,20 +69,20 @@ quiet_own b pt h n is quiet sources i t told mine (Held m p) st =
 quiet_own b pt h n is quiet sources i t told mine any_ st = false≢true (own_listed b pt h n is quiet sources i t told mine any_ st)
 
 -- a request to move is a kernel's own
-outside : (p : Pid) (pt : Point) (b : Boot) (h : Run b pt) (i : MsgId) (o : Option PlainMessage) → IsOpen p pt.view i → pt.kernel.bag i ≡ o → pt.kernel.bag i ≡ None
+outside : (p : Pid) (pt : Point) (b : Boot) (h : Run b pt) (i : MsgId) (o : Option PlainMessage) → IsOpen (asks_for p) pt.view i → pt.kernel.bag i ≡ o → pt.kernel.bag i ≡ None
 outside p pt b h i None is e = e
-outside p pt b h i (Some x) is e = absurd (false≢true (sym (plain_in_bag p pt i x h.based.phased.sane e is.told is.is) ∙ is.asks))
+outside p pt b h i (Some x) is e = absurd (false≢true (sym (plain_in_bag p pt i x h.based.phased.sane e is.told is.is) ∙ is.picked))
 
-pub open_own : (p : Pid) (pt : Point) (b : Boot) (h : Run b pt) (i : MsgId) → IsOpen p pt.view i → is_kernels i ≡ true
+pub open_own : (p : Pid) (pt : Point) (b : Boot) (h : Run b pt) (i : MsgId) → IsOpen (asks_for p) pt.view i → is_kernels i ≡ true
 open_own p pt b h i is =
     let state = h.based.phased.state in
     let (z, st) = is.stands in
     let (q, way) = under_way (letters state.own pt.kernel.bag i) (standing pt.view i) z st (state.stands.kept i) in
     kernels_by state.own pt.kernel.bag i q (is_kernels i) refl (outside p pt b h i (pt.kernel.bag i) is refl) way
 
-pub empty_by : (p : Pid) (v : View) (ids : List MsgId) → ((i : MsgId) → IsOpen p v i → ⊥) → Opens p v ids → length ids ≡ 0
-empty_by p v [] none h = refl
-empty_by p v (i ∷ is) none h = absurd (none i (h.each i (times_self i is)))
+pub empty_by : (picks : Told → Bool) (v : View) (ids : List MsgId) → ((i : MsgId) → IsOpen picks v i → ⊥) → Opens picks v ids → length ids ≡ 0
+empty_by picks v [] none h = refl
+empty_by picks v (i ∷ is) none h = absurd (none i (h.each i (times_self i is)))
 
 -- Wherever the rule leads, each directive to move a process has at most one end, and one where nothing is on its way.
 
@@ -96,10 +96,10 @@ record Ran (p : Pid) (b : Boot) (pt end : Point) (ls : List Line) (n : ℕ) : Ty
   grows : Extends pt.view.told end.view.told
   sources : Sources (length b.machines) end.view
   left : List MsgId
-  opens : Opens p end.view left
+  opens : Opens (asks_for p) end.view left
   sum : count (asks p) ls + n ≡ own_ends end.view.told p ls + (length left + moving_at b end both p)
 
-none_ran : (p : Pid) (b : Boot) (pt : Point) (ls : List Line) (ids : List MsgId) (h : Both b pt) → Sources (length b.machines) pt.view → Opens p pt.view ids → ls ≡ [] → Ran p b pt pt ls (length ids + moving_at b pt h p)
+none_ran : (p : Pid) (b : Boot) (pt : Point) (ls : List Line) (ids : List MsgId) (h : Both b pt) → Sources (length b.machines) pt.view → Opens (asks_for p) pt.view ids → ls ≡ [] → Ran p b pt pt ls (length ids + moving_at b pt h p)
 none_ran p b pt ls ids h sources opens none = record {
   both = h;
   grows = λ i t e. e;
@@ -112,7 +112,7 @@ none_ran p b pt ls ids h sources opens none = record {
 pub step_for : (b : Boot) (pt : Point) (d : Step) → Both b pt → IsStep pt.kernel.machines d → IsStep (length b.machines) d
 step_for b pt d h fit = subst (λ (n : ℕ). IsStep n d) h.run.based.machines fit
 
-ran : (p : Pid) (b : Boot) (es : List Step) (pt end : Point) (ls : List Line) (ids : List MsgId) → IsValid b → (h : Both b pt) → Sources (length b.machines) pt.view → Opens p pt.view ids → LeadsBy b pt es ls end → Ran p b pt end ls (length ids + moving_at b pt h p)
+ran : (p : Pid) (b : Boot) (es : List Step) (pt end : Point) (ls : List Line) (ids : List MsgId) → IsValid b → (h : Both b pt) → Sources (length b.machines) pt.view → Opens (asks_for p) pt.view ids → LeadsBy b pt es ls end → Ran p b pt end ls (length ids + moving_at b pt h p)
 ran p b [] pt end ls ids valid h sources opens (none, at) = subst (λ (x : Point). Ran p b pt x ls (length ids + moving_at b pt h p)) at (none_ran p b pt ls ids h sources opens none)
 ran p b (d ∷ ds) pt end ls ids valid h sources opens (w, rest, fit, is, split, more) =
     let based = h.run.based in
@@ -147,9 +147,9 @@ ends_always b es ls pt p valid leads =
           let n = length b.machines in
           let is = r.both.run.based.machines in
           let still : IsQuiet n pt.view = subst (λ (k : ℕ). IsQuiet k pt.view) is quiet in
-          let none_open : (p : Pid) (b : Boot) (pt : Point) (h : Run b pt) (n : ℕ) → pt.kernel.machines ≡ n → IsQuiet n pt.view → Sources n pt.view → (i : MsgId) → IsOpen p pt.view i → ⊥ =
+          let none_open : (p : Pid) (b : Boot) (pt : Point) (h : Run b pt) (n : ℕ) → pt.kernel.machines ≡ n → IsQuiet n pt.view → Sources n pt.view → (i : MsgId) → IsOpen (asks_for p) pt.view i → ⊥ =
           λ p b pt h n is quiet sources i k. let (z, st) = k.stands in quiet_own b pt h n is quiet sources i k.told k.is (open_own p pt b h i k) z st in
-          let none = empty_by p pt.view r.left (none_open p b pt r.both.run n is still r.sources) r.opens in
+          let none = empty_by (asks_for p) pt.view r.left (none_open p b pt r.both.run n is still r.sources) r.opens in
           let rests = owned_zero (pt.kernel.notes p) (moving_in (r.both.run.based.phased.phases.of p)) (quiet_stays b pt r.both.run n is still r.sources p) in
           omega (arith, zero_, sum, none, rests);
     }

@@ -1,18 +1,21 @@
 -- Ends of moves that no process asked for: those that no answer to a request follows.
 use Rattle.dm_movelaws.proofs.Names.{◌≡◌, ℕ, ◌+◌, Bool, true, List, [], ◌∷◌, length, refl, ap, ◌∙◌, sym, subst, inl, inr, arith, if◌then◌else◌, Option, Some, cases_Bool, Pid, pid_eq, MsgId, MessageKind, Boot, Step, Line, Child, migrates}
-use Rattle.dm_movelaws.proofs.Names.{View, Told, after_head, after_put, view_after, own_id, Point, Part, Says, Owns, Spelled, behind, spelled, group_of, IsNet, front_way, Phased, told_some, put_spots, put_at, head_calm, put_there, put_spot}
-use Rattle.dm_movelaws.proofs.Names.{InPhases, calm_phases, PairsFit, PacketsKeep, put_told_off, said, Sane, KnownStands, Begins, begins, WalksOf, loose_walks, begun, begun_sane, turned, resting, round_walks, handles_walks, asks, ends}
-use Rattle.dm_movelaws.proofs.Names.{count, first_none, by_migrates, by_outcome, group_is, None, false, label_of, nat_tests, seen_none, MoveNote, Outcome, PlainMessage, PlainWhat, Label, Stage, Target, Frozen, Known, Here, to_kernel}
+use Rattle.dm_movelaws.proofs.Names.{View, Told, after_head, after_put, view_after, own_id, Point, Part, Says, Owns, Spelled, behind, spelled, group_of, IsNet, front_way, Phased, told_some, head_calm}
+use Rattle.dm_movelaws.proofs.Names.{InPhases, calm_phases, PairsFit, PacketsKeep, said, Sane, KnownStands, Begins, begins, WalksOf, loose_walks, begun, begun_sane, turned, resting, round_walks, handles_walks, asks, ends}
+use Rattle.dm_movelaws.proofs.Names.{count, by_migrates, by_outcome, group_is, None, false, label_of, nat_tests, seen_none, MoveNote, Outcome, PlainMessage, PlainWhat, Label, Stage, Target, Frozen, Known, Here, to_kernel}
 use Rattle.dm_movelaws.proofs.Names.{leaves_for, answers_move, said_by, part_sane, move_target, sets, aim, asked_off, moved, is_moving, Walks, pid_eq-is, pid_eq-same, own_ends, ◌&&◌, not, ◌++◌, lines_of, LeadsBy, by_parts, NothingElse}
-use Rattle.dm_movelaws.proofs.Names.{is_answered_next, is_answer_by, act_of, hears, line_next, loose_round, loose_handles, by_forwards, plain_kind, turn_off, tick_off, deliver_off, migrate_off, option_map_or}
+use Rattle.dm_movelaws.proofs.Names.{is_answered_next, is_answer_by, act_of, hears, line_next, loose_round, loose_handles, by_forwards, plain_kind, turn_off, tick_off, deliver_off, migrate_off, option_map_or, calls_off, by_calls_off}
+use Rattle.dm_movelaws.proofs.Names.{call_off, not_true, is_due}
 use Rattle.dm_movelaws.proofs.Ends.Parts.{packet_smooth, one_if, zero_if, Rest, rest_packet, rest_behind, Handled, Quiets, SetsOff, part_count, unit_if, is_migrate, Extends, Still, plain_in_bag, AllQuiet, quiet_loose, Silent, count-append}
-use Rattle.dm_movelaws.proofs.Ends.Parts.{own_untold, smooth_same, Tame, still_same, Smooth, smooth_trans, moves_none, lines_count, smooth_still}
-use Rattle.dm_movelaws.proofs.Ends.Open.{Opens, Adds, Balance, level_balance, smooth_opens, add_opens, moving_in, still_moves, here_stays, Turn, Comes, quiet_row, and_off, line_then, other_still, pid_swap, Neither, net_none}
-use Rattle.dm_movelaws.proofs.Ends.Open.{net_level}
+use Rattle.dm_movelaws.proofs.Ends.Parts.{smooth_same, Tame, still_same, Smooth, smooth_trans, moves_none, lines_count, smooth_still}
+use Rattle.dm_movelaws.proofs.Ends.Open.{Opens, Balance, level_balance, smooth_opens, add_opens, moving_in, still_moves, here_stays, Turn, Comes, quiet_row, and_off, line_then, other_still, pid_swap, Neither, net_none}
+use Rattle.dm_movelaws.proofs.Ends.Open.{net_level, own_adds}
+use Rattle.dm_movelaws.proofs.Ends.Parts.{asks_for}
 use Rattle.dm_movelaws.proofs.Ends.Hears.{ComesOf, kernel_comes, process_comes, server_comes}
 use Rattle.dm_movelaws.proofs.Leading.{next_of, part_leads, net_says, lines_are, asker_known}
 use Rattle.dm_movelaws.proofs.Asked.Following.{Row, Plain, Ends, IsHere, Leaves, outcome_row, plain_notes, ends_notes, here_notes, leaves_notes, AllUnmarked, IsUnmarked, net_unmarked, EndLine}
 use Rattle.dm_rule.specs.Rule as rule
+use Rattle.dm_movelaws.proofs.Ends.Hears.{called_comes, nocall_comes}
 
 abbrev pub is_answer_part : List Part → Bool
 is_answer_part (Says l ∷ ps) = is_answer_by (act_of l)
@@ -56,7 +59,7 @@ owned_zero (Some k) n e = refl
 -- what a group does, where only these ends count
 pub record OwnBalance (p : Pid) (w : View) (ids : List MsgId) (asked before behind : ℕ) (parts : List Part) : Type 0 where
   pub left : List MsgId
-  pub opens : Opens p w left
+  pub opens : Opens (asks_for p) w left
   pub quiet : part_count (asks p) parts ≡ 0
   pub sum : (f : MsgId → Option Told) → Extends w.told f → asked + (length ids + before) ≡ own_count f p parts + (length left + behind)
 
@@ -89,11 +92,11 @@ leads_next b (d ∷ ds) pt end ls (w, rest, fit, is, split, more) =
 
 -- What each group does with requests to move a process: directives and ends are counted against those that are under way.
 
-abbrev begun_phases : (pt : Point) (d : Step) → InPhases pt.view → InPhases (begun pt d).view
+abbrev pub begun_phases : (pt : Point) (d : Step) → InPhases pt.view → InPhases (begun pt d).view
 begun_phases pt d h = calm_phases pt.view (after_head pt.view d) (head_calm pt.view d) h
 
 -- what a turn begins with, at the message at the front of the inbox
-abbrev front_turn : (o : Point) (m : ℕ) (i : MsgId) (is : List MsgId) → InPhases o.view → Begins o m → PairsFit o.view → o.view.inbox m ≡ i ∷ is → (t : Told) × Turn (turned o m) i is t
+abbrev pub front_turn : (o : Point) (m : ℕ) (i : MsgId) (is : List MsgId) → InPhases o.view → Begins o m → PairsFit o.view → o.view.inbox m ≡ i ∷ is → (t : Told) × Turn (turned o m) i is t
 front_turn o m i is h s fits front =
     let (q, way) = front_way (turned o m) i is s.state front in
     let (t, told) = told_some (o.view.told i) q (s.state.stands.told i q way) in
@@ -113,7 +116,7 @@ abbrev asked_by : Pid → Step → ℕ
 asked_by p d = one_if (asks p) (Line.Head d)
 
 abbrev Directed : Pid → Step → (pt : Point) → InPhases pt.view → List Part → Spelled → Type 0
-Directed p d pt h parts w = (g : InPhases w.point.view) (ids : List MsgId) → Opens p pt.view ids → Balance p w.point.view ids (asked_by p d) (moving_in (h.of p)) (moving_in (g.of p)) parts
+Directed p d pt h parts w = (g : InPhases w.point.view) (ids : List MsgId) → Opens (asks_for p) pt.view ids → Balance p w.point.view ids (asked_by p d) (moving_in (h.of p)) (moving_in (g.of p)) parts
 
 said_comes : (p q : Pid) (m : ℕ) (pt : Point) (l : Line) (h : InPhases pt.view) (w : Spelled) → label_of l ≡ None → view_after pt.view l ≡ pt.view → asks p l ≡ false → ((f : MsgId → Option Told) → ends f p l ≡ pid_eq p q) → spelled pt (Says l ∷ []) ≡ Some w
     → Directed p (Step.Migrate q m) pt h (Says l ∷ []) w
@@ -125,21 +128,8 @@ said_comes p q m pt l h w none alike plain ended e g ids opens =
 
 -- a request is put
 record Added (p : Pid) (v : View) (ids : List MsgId) (w : View) : Type 0 where
-  opens : Opens p w ids
+  opens : Opens (asks_for p) w ids
   still : Still p v w
-
-request_adds : (p q : Pid) (pt : Point) (b : ℕ) → Sane pt → PairsFit pt.view → pid_eq p q ≡ true → Adds p pt.view (after_put pt.view pt.view.acting b (own_id pt.view) MessageKind.Migrate q) (own_id pt.view)
-request_adds p q pt b sane fits same =
-    let v = pt.view in
-    let i = own_id v in
-    let u : Told = record { kind = MessageKind.Migrate; receiver = q; about = v.topic } in
-    let untold = own_untold pt sane in
-    record {
-      untold = untold;
-      now = record { told = u; is = put_at v v.acting b i MessageKind.Migrate q ∙ first_none (v.told i) u untold; asks = same; stands = (put_spot v.acting b, put_there v v.acting b i MessageKind.Migrate q fits) };
-      told = λ j apart. put_told_off v v.acting b i j MessageKind.Migrate q apart;
-      spots = λ j apart z. put_spots v v.acting b i j MessageKind.Migrate q fits apart z;
-    }
 
 request_comes : (p q : Pid) (m b : ℕ) (pt : Point) (h : InPhases pt.view) (w : Spelled) → Sane pt → PairsFit pt.view → pid_eq p q ≡ true → spelled pt (Owns MessageKind.Migrate q b ∷ []) ≡ Some w → Directed p (Step.Migrate q m) pt h (Owns MessageKind.Migrate q b ∷ []) w
 request_comes p q m b pt h w sane fits same e g ids opens =
@@ -147,10 +137,10 @@ request_comes p q m b pt h w sane fits same e g ids opens =
     let i = own_id v in
     let n = next_of pt (Owns MessageKind.Migrate q b) [] w e in
     let at : n.next ≡ w.point = said n.next n.rest n.more ∙ n.point in
-    let first : Added p v (i ∷ ids) (after_put v v.acting b i MessageKind.Migrate q) = record { opens = add_opens p v (after_put v v.acting b i MessageKind.Migrate q) ids i (request_adds p q pt b sane fits same) opens; still = λ n. refl } in
+    let first : Added p v (i ∷ ids) (after_put v v.acting b i MessageKind.Migrate q) = record { opens = add_opens (asks_for p) v (after_put v v.acting b i MessageKind.Migrate q) ids i (own_adds (asks_for p) pt b MessageKind.Migrate q sane fits same) opens; still = λ n. refl } in
     let to : Point → Type 0 = λ x. Added p v (i ∷ ids) x.view in
     let added_packet : (p : Pid) (v : View) (ids : List MsgId) → PacketsKeep (λ q. Added p v ids q.view) =
-    λ p v ids q a b k l h. record { opens = smooth_opens p q.view (view_after q.view (Line.Packet a b k l)) ids (packet_smooth p q.view a b k l) h.opens; still = h.still } in
+    λ p v ids q a b k l h. record { opens = smooth_opens (asks_for p) q.view (view_after q.view (Line.Packet a b k l)) ids (packet_smooth (asks_for p) q.view a b k l) h.opens; still = h.still } in
     let there : Added p v (i ∷ ids) w.point.view = subst to at (part_leads to (added_packet p v (i ∷ ids)) pt n.next (Owns MessageKind.Migrate q b) first n.steps) in
     let mv = still_moves p v w.point.view h g there.still in
     let one : asked_by p (Step.Migrate q m) ≡ 1 = ap (λ (c : Bool). if c then 1 else 0) same in
@@ -176,7 +166,7 @@ abbrev Follows : Pid → (pt : Point) → InPhases pt.view → Type 0
 Follows p pt h = (n : MoveNote) → pt.kernel.notes p ≡ Some n → moving_in (h.of p) ≡ 1
 
 abbrev OwnDirected : Pid → Step → (pt : Point) → InPhases pt.view → List Part → Spelled → Type 0
-OwnDirected p d pt h parts w = (g : InPhases w.point.view) (ids : List MsgId) → Opens p pt.view ids → Follows p pt h → Follows p w.point g
+OwnDirected p d pt h parts w = (g : InPhases w.point.view) (ids : List MsgId) → Opens (asks_for p) pt.view ids → Follows p pt h → Follows p w.point g
     → OwnBalance p w.point.view ids (asked_by p d) (owned (pt.kernel.notes p) (moving_in (h.of p))) (owned (w.point.kernel.notes p) (moving_in (g.of p))) parts
 
 -- a process is asked to move, and sets off
@@ -197,8 +187,8 @@ leaves_own p d pt h id msg to w unasked sane fits there here what e g ids opens 
     let rest = line_then p n.next l2 ps n.rest refl refl refl sane_ c.fits (tt, (refl, tt)) (loose_walks ps (moved n.next l2 n.next.kernel) (λ y. tt, (λ y. tt, tt))) n.more in
     let set = sets mid q mid.topic in
     let x = Frozen (aim mid mid.topic) in
-    let first : Smooth p mid (view_after mid l2) = moves_none p mid l2 refl (λ z. asked_off mid q to topic z) in
-    let smooth : Smooth p pt.view w.point.view = subst (λ (y : Point). Smooth p pt.view y.view) n.point (smooth_trans p pt.view mid n.rest.point.view c.smooth (smooth_trans p mid (view_after mid l2) n.rest.point.view first rest.smooth)) in
+    let first : Smooth (asks_for p) mid (view_after mid l2) = moves_none (asks_for p) mid l2 refl (λ z. asked_off mid q to topic z) in
+    let smooth : Smooth (asks_for p) pt.view w.point.view = subst (λ (y : Point). Smooth (asks_for p) pt.view y.view) n.point (smooth_trans (asks_for p) pt.view mid n.rest.point.view c.smooth (smooth_trans (asks_for p) mid (view_after mid l2) n.rest.point.view first rest.smooth)) in
     let notes = leaves_notes pt id msg to p w there e in
     let zero_ = zero_if (asks p (Line.Head d)) unasked in
     elim (cases_Bool (pid_eq q p)) [
@@ -206,7 +196,7 @@ leaves_own p d pt h id msg to w unasked sane fits there here what e g ids opens 
           let none : moving_in (h.of p) ≡ 0 = here_stays pt.view h p pt.view.acting (ap (pt.view.known pt.view.acting) (sym (pid_eq-is q p same)) ∙ here) in
           let now : owned (w.point.kernel.notes p) (moving_in (g.of p)) ≡ 0 = ap (λ (o : Option MoveNote). owned o (moving_in (g.of p))) (notes ∙ ap (λ (b : Bool). if b then Some (record { id = id; asker = msg.sender }) else pt.kernel.notes p) same) in
           let was = owned_zero (pt.kernel.notes p) (moving_in (h.of p)) none in
-          record { left = ids; opens = smooth_opens p pt.view w.point.view ids smooth opens; quiet = refl; sum = λ f ext. (let z : own_count f p (rule.says (Label.Asked id) ∷ leaves_for q to) ≡ 0 = refl in omega (arith, z, zero_, now, was)) }
+          record { left = ids; opens = smooth_opens (asks_for p) pt.view w.point.view ids smooth opens; quiet = refl; sum = λ f ext. (let z : own_count f p (rule.says (Label.Asked id) ∷ leaves_for q to) ≡ 0 = refl in omega (arith, z, zero_, now, was)) }
       | inr off ↦
           let off_ : pid_eq p q ≡ false = pid_swap q p off in
           let still : Still p pt.view w.point.view = subst (λ (y : Point). Still p pt.view y.view) n.point
@@ -214,7 +204,7 @@ leaves_own p d pt h id msg to w unasked sane fits there here what e g ids opens 
           let moves = still_moves p pt.view w.point.view h g still in
           let kept : w.point.kernel.notes p ≡ pt.kernel.notes p = notes ∙ ap (λ (b : Bool). if b then Some (record { id = id; asker = msg.sender }) else pt.kernel.notes p) off in
           let same : owned (pt.kernel.notes p) (moving_in (h.of p)) ≡ owned (w.point.kernel.notes p) (moving_in (g.of p)) = ap (owned (pt.kernel.notes p)) moves ∙ ap (λ (o : Option MoveNote). owned o (moving_in (g.of p))) (sym kept) in
-          record { left = ids; opens = smooth_opens p pt.view w.point.view ids smooth opens; quiet = refl; sum = λ f ext. (let z : own_count f p (rule.says (Label.Asked id) ∷ leaves_for q to) ≡ 0 = refl in omega (arith, z, zero_, same)) }
+          record { left = ids; opens = smooth_opens (asks_for p) pt.view w.point.view ids smooth opens; quiet = refl; sum = λ f ext. (let z : own_count f p (rule.says (Label.Asked id) ∷ leaves_for q to) ≡ 0 = refl in omega (arith, z, zero_, same)) }
     ]
 
 -- parts that say nothing of requests to move
@@ -322,13 +312,27 @@ directed p b pt d parts w h phased known fits is =
           (let x = Step.Migrate q m in
           let pairs : PairsFit (begun pt x).view = record { within = fits.within; home = fits.home } in
           own_of p pt x (begun_phases pt x h) (migrates pt q) u (begun_sane pt x phased.sane) pairs row said (migrates_comes p q m pt (begun pt x) (begun_phases pt x h) u (begun_sane pt x phased.sane) pairs said));
+      calls = λ q m u row said.
+          (let x = Step.CallOff q m in
+          let ps = calls_off pt m q (pt.view.known m q) in
+          let start = begun pt x in
+          let sane = begun_sane pt x phased.sane in
+          let phases = begun_phases pt x h in
+          let pairs : PairsFit start.view = record { within = fits.within; home = fits.home } in
+          let due : is_due (phases.of q) ≡ false = not_true (is_due (phases.of q)) (λ e. let f : None ≡ Some q = phases.put q e in cc) in
+          own_of p pt x phases ps u sane pairs row said
+          (by_calls_off (λ qs. spelled start qs ≡ Some u → Comes p start phases qs u) pt m q (λ k. nocall_comes p start phases q u sane pairs k) (λ from is come k. called_comes p start phases q from u sane pairs due is come k) said));
     }) is w (outcome_row b pt d parts is)
 
 -- what comes of a group
 pub record GroupBalance (p : Pid) (w : Spelled) (ids : List MsgId) (before behind : ℕ) : Type 0 where
   pub left : List MsgId
-  pub opens : Opens p w.point.view left
+  pub opens : Opens (asks_for p) w.point.view left
   pub sum : (f : MsgId → Option Told) → Extends w.point.view.told f → count (asks p) w.lines + (length ids + before) ≡ own_ends f p w.lines + (length left + behind)
+
+-- the lines of parts, counted
+pub parts_count : (f : Line → Bool) → Silent f → (ps : List Part) (pt : Point) (w : Spelled) → spelled pt ps ≡ Some w → count f w.lines ≡ part_count f ps
+parts_count f h = by_parts (λ ps pt w. count f w.lines ≡ part_count f ps) (λ pt. refl) (λ x ps pt next ls z lines leads rest. count-append f ls z.lines ∙ ap (λ n. count f ls + n) rest ∙ lines_count f pt x ps ls h lines)
 
 whole_balance : (p : Pid) (d : Step) (parts : List Part) (ids : List MsgId) (before behind : ℕ) (start : Point) (rest : Spelled) → spelled start parts ≡ Some rest → OwnBalance p rest.point.view ids (asked_by p d) before behind parts
     → GroupBalance p (rule.behind (Line.Head d ∷ []) rest) ids before behind
@@ -337,8 +341,6 @@ whole_balance p d parts ids before behind start rest e h = record {
   opens = h.opens;
   sum = λ f ext.
       let s = h.sum f ext in
-      let parts_count : (f : Line → Bool) → Silent f → (ps : List Part) (pt : Point) (w : Spelled) → spelled pt ps ≡ Some w → count f w.lines ≡ part_count f ps =
-      λ f h. by_parts (λ ps pt w. count f w.lines ≡ part_count f ps) (λ pt. refl) (λ x ps pt next ls z lines leads rest. count-append f ls z.lines ∙ ap (λ n. count f ls + n) rest ∙ lines_count f pt x ps ls h lines) in
       let a = parts_count (asks p) (record { put = λ a b i k q. refl; packet = λ a b k l. refl }) parts start rest e in
       let q = h.quiet in
       let o = (own_is f p parts start rest e).0 in
@@ -346,13 +348,13 @@ whole_balance p d parts ids before behind start rest e h = record {
 }
 
 pub group_balance : (p : Pid) (b : Boot) (pt : Point) (d : Step) (w : Spelled) (h : InPhases pt.view) (g : InPhases w.point.view) (ids : List MsgId) → Phased pt → KnownStands pt.kernel pt.view → PairsFit pt.view
-    → group_of b pt d ≡ Some w → Opens p pt.view ids → Follows p pt h → Follows p w.point g
+    → group_of b pt d ≡ Some w → Opens (asks_for p) pt.view ids → Follows p pt h → Follows p w.point g
     → GroupBalance p w ids (owned (pt.kernel.notes p) (moving_in (h.of p))) (owned (w.point.kernel.notes p) (moving_in (g.of p)))
 group_balance p b pt d w h g ids phased known fits e opens before behind =
     let head_still : (p : Pid) (v : View) (d : Step) → Still p v (after_head v d) = λ p v d m. grind (arith, nat_tests) in
     let k = group_is b pt d w e in
-    let head_smooth : Smooth p pt.view (after_head pt.view d) = grind (arith, nat_tests, smooth_still, turn_off, tick_off, deliver_off, migrate_off) in
-    let start : Opens p (begun pt d).view ids = smooth_opens p pt.view (begun pt d).view ids head_smooth opens in
+    let head_smooth : Smooth (asks_for p) pt.view (after_head pt.view d) = grind (arith, nat_tests, smooth_still, turn_off, tick_off, deliver_off, migrate_off, call_off) in
+    let start : Opens (asks_for p) (begun pt d).view ids = smooth_opens (asks_for p) pt.view (begun pt d).view ids head_smooth opens in
     let back : InPhases k.rest.point.view = subst (λ (x : Spelled). InPhases x.point.view) (sym k.whole) g in
     let same : moving_in (back.of p) ≡ moving_in (g.of p) = still_moves p k.rest.point.view w.point.view back g (subst (λ (x : Spelled). Still p k.rest.point.view x.point.view) k.whole (still_same p k.rest.point.view)) in
     let notes : k.rest.point.kernel.notes p ≡ w.point.kernel.notes p = ap (λ (x : Spelled). x.point.kernel.notes p) k.whole in

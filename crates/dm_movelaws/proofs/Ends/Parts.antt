@@ -1,10 +1,10 @@
--- Lines and parts that leave all requests to move a process where they stand, and end none.
+-- Lines and parts that leave all messages of a sort where they stand: the requests to move a process, of which they end none.
 use Rattle.dm_movelaws.proofs.Names.{◌≡◌, ℕ, ◌+◌, ◌&&◌, Bool, false, List, [], ◌∷◌, ◌++◌, refl, ap, ◌∙◌, sym, subst, arith, ⊤, if◌then◌else◌, Option, None, Some, Pid, pid_eq, MsgId, MessageKind, plain_kind, Line, Load, View, Told}
 use Rattle.dm_movelaws.proofs.Names.{view_after, own_id, after_put, Point, Part, Says, Routes, Again, Owns, Transmits, Spelled, lines_of, spelled, touches, pair_same, PairsFit, put_told_off, fits_as, fits_put, fits_packet, Sane, Sayable}
-use Rattle.dm_movelaws.proofs.Names.{part_sane, put_spots, put_at, Needs, NeedsPart, Walks, Steps, asks, ends, count, packet_off, by_parts, PacketsKeep, OneKernel, label_of, kernel_after, nat_tests, PlainMessage, Loose}
-use Rattle.dm_movelaws.proofs.Names.{moved, About, PlainWhat, Label, Here, leaves_for, Stage, handled, receiver_of, times, out_of, gone_in, served_keeps, ended_off, serving_off, created_off}
-use Rattle.dm_movelaws.proofs.Names.{handled_spots, queued_spots, held_spots, dropped_spots, forwarded_spots, received_spots, and_false, at_record, Known, Ended, pid_eq-is, parts, eq_is, queued_known, held_known, dropped_known}
-use Rattle.dm_movelaws.proofs.Names.{forwarded_known, NeedsLabel, killed_or, is_moving, ◌≤◌, true, false≢true, id_eq, id_eq-is, Spot, ids_at, standing, is_put, hushed, not_true, about_off}
+use Rattle.dm_movelaws.proofs.Names.{part_sane, put_spots, put_at, Needs, NeedsPart, Walks, Steps, asks, ends, count, packet_off, by_parts, PacketsKeep, OneKernel, label_of, kernel_after, nat_tests, PlainMessage, Loose, moved, About}
+use Rattle.dm_movelaws.proofs.Names.{PlainWhat, Label, Here, leaves_for, Stage, handled, receiver_of, times, out_of, gone_in, served_keeps, ended_off, serving_off, created_off, handled_spots, queued_spots, held_spots, dropped_spots}
+use Rattle.dm_movelaws.proofs.Names.{forwarded_spots, received_spots, and_false, at_record, Known, Ended, pid_eq-is, parts, eq_is, queued_known, held_known, dropped_known, forwarded_known, NeedsLabel, killed_or, is_moving, ◌≤◌, true}
+use Rattle.dm_movelaws.proofs.Names.{false≢true, id_eq, id_eq-is, Spot, ids_at, standing, is_put, hushed, not_true, about_off}
 pub use Rattle.dm_rule.proofs.Phases.Lines.{first_kept}
 pub use Rattle.dm_rule.proofs.Moves.Rows.{proto_off}
 pub use Rattle.dm_rulelaws.proofs.Found.Parts.{own_fresh as own_untold}
@@ -27,28 +27,29 @@ Somewhere v i = (z : Spot) × (1 ≤ standing v i z)
 abbrev pub Extends : (MsgId → Option Told) → (MsgId → Option Told) → Type 0
 Extends f g = (i : MsgId) (t : Told) → f i ≡ Some t → g i ≡ Some t
 
-pub record Smooth (p : Pid) (v w : View) : Type 0 where
+-- each message that is picked is told of as before, and stands somewhere as before
+pub record Smooth (picks : Told → Bool) (v w : View) : Type 0 where
   pub kept : Extends v.told w.told
-  pub fresh : (i : MsgId) (t : Told) → w.told i ≡ Some t → asks_for p t ≡ true → v.told i ≡ Some t
-  pub on : (i : MsgId) (t : Told) → v.told i ≡ Some t → asks_for p t ≡ true → Somewhere v i → Somewhere w i
-  pub back : (i : MsgId) (t : Told) → v.told i ≡ Some t → asks_for p t ≡ true → Somewhere w i → Somewhere v i
+  pub fresh : (i : MsgId) (t : Told) → w.told i ≡ Some t → picks t ≡ true → v.told i ≡ Some t
+  pub on : (i : MsgId) (t : Told) → v.told i ≡ Some t → picks t ≡ true → Somewhere v i → Somewhere w i
+  pub back : (i : MsgId) (t : Told) → v.told i ≡ Some t → picks t ≡ true → Somewhere w i → Somewhere v i
 
-pub smooth_same : (p : Pid) (v : View) → Smooth p v v
-smooth_same p v = record { kept = λ i t e. e; fresh = λ i t e a. e; on = λ i t e a s. s; back = λ i t e a s. s }
+pub smooth_same : (picks : Told → Bool) (v : View) → Smooth picks v v
+smooth_same picks v = record { kept = λ i t e. e; fresh = λ i t e a. e; on = λ i t e a s. s; back = λ i t e a s. s }
 
-pub smooth_trans : (p : Pid) (u v w : View) → Smooth p u v → Smooth p v w → Smooth p u w
-smooth_trans p u v w h k = grind (arith, nat_tests)
+pub smooth_trans : (picks : Told → Bool) (u v w : View) → Smooth picks u v → Smooth picks v w → Smooth picks u w
+smooth_trans picks u v w h k = grind (arith, nat_tests)
 
 -- what a machine knows of the process makes it wait before and behind, or neither
 abbrev pub Still : Pid → View → View → Type 0
 Still p v w = (m : ℕ) → is_moving (w.known m p) ≡ is_moving (v.known m p)
 
--- a message that is no request to move this process
-abbrev pub Plain : Pid → View → MsgId → Type 0
-Plain p v i = (t : Told) → v.told i ≡ Some t → asks_for p t ≡ false
+-- a message that isn't picked
+abbrev pub Plain : (Told → Bool) → View → MsgId → Type 0
+Plain picks v i = (t : Told) → v.told i ≡ Some t → picks t ≡ false
 
-pub other_than : (p : Pid) (v : View) (i j : MsgId) (t : Told) → Plain p v i → v.told j ≡ Some t → asks_for p t ≡ true → id_eq i j ≡ false
-other_than p v i j t plain told a = not_true (id_eq i j) (λ e. let is : i ≡ j = id_eq-is i j e in false≢true (sym (plain t (ap v.told is ∙ told)) ∙ a))
+pub other_than : (picks : Told → Bool) (v : View) (i j : MsgId) (t : Told) → Plain picks v i → v.told j ≡ Some t → picks t ≡ true → id_eq i j ≡ false
+other_than picks v i j t plain told a = not_true (id_eq i j) (λ e. let is : i ≡ j = id_eq-is i j e in false≢true (sym (plain t (ap v.told is ∙ told)) ∙ a))
 
 -- only one message stands elsewhere
 pub record Others (v w : View) (i : MsgId) : Type 0 where
@@ -61,23 +62,23 @@ stands_as v w j e (z, s) = (z, subst (λ n. 1 ≤ n) (sym (e z)) s)
 pub stands_was : (v w : View) (j : MsgId) → ((z : Spot) → standing w j z ≡ standing v j z) → Somewhere w j → Somewhere v j
 stands_was v w j e (z, s) = (z, subst (λ n. 1 ≤ n) (e z) s)
 
-pub smooth_others : (p : Pid) (v w : View) (i : MsgId) → Plain p v i → Plain p w i → ((t : Told) → v.told i ≡ Some t → w.told i ≡ Some t) → Others v w i → Smooth p v w
-smooth_others p v w i plain after kept h = grind (arith, nat_tests, id_eq-is, other_than, stands_as, stands_was)
+pub smooth_others : (picks : Told → Bool) (v w : View) (i : MsgId) → Plain picks v i → Plain picks w i → ((t : Told) → v.told i ≡ Some t → w.told i ≡ Some t) → Others v w i → Smooth picks v w
+smooth_others picks v w i plain after kept h = grind (arith, nat_tests, id_eq-is, other_than, stands_as, stands_was)
 
 -- nothing stands elsewhere
-pub smooth_still : (p : Pid) (v w : View) → ((i : MsgId) → w.told i ≡ v.told i) → ((i : MsgId) (z : Spot) → standing w i z ≡ standing v i z) → Smooth p v w
-smooth_still p v w told spots = grind (arith, nat_tests, stands_as, stands_was)
+pub smooth_still : (picks : Told → Bool) (v w : View) → ((i : MsgId) → w.told i ≡ v.told i) → ((i : MsgId) (z : Spot) → standing w i z ≡ standing v i z) → Smooth picks v w
+smooth_still picks v w told spots = grind (arith, nat_tests, stands_as, stands_was)
 
 pub told_by : (v : View) (l : Line) → is_put l ≡ false → (j : MsgId) → (view_after v l).told j ≡ v.told j
 told_by v l quiet j = ap (λ (f : MsgId → Option Told). f j) (hushed v l quiet).told
 
 -- a line that tells nothing and moves one message
-pub hushed_smooth : (p : Pid) (v : View) (l : Line) (i : MsgId) → is_put l ≡ false → Plain p v i → ((j : MsgId) → id_eq i j ≡ false → (z : Spot) → standing (view_after v l) j z ≡ standing v j z) → Smooth p v (view_after v l)
-hushed_smooth p v l i quiet plain spots = grind (arith, nat_tests, told_by, smooth_others)
+pub hushed_smooth : (picks : Told → Bool) (v : View) (l : Line) (i : MsgId) → is_put l ≡ false → Plain picks v i → ((j : MsgId) → id_eq i j ≡ false → (z : Spot) → standing (view_after v l) j z ≡ standing v j z) → Smooth picks v (view_after v l)
+hushed_smooth picks v l i quiet plain spots = grind (arith, nat_tests, told_by, smooth_others)
 
 -- a line that moves none
-pub moves_none : (p : Pid) (v : View) (l : Line) → is_put l ≡ false → ((z : Spot) → ids_at (view_after v l) z ≡ ids_at v z) → Smooth p v (view_after v l)
-moves_none p v l quiet off = smooth_still p v (view_after v l) (told_by v l quiet) (λ i z. ap (times i) (off z))
+pub moves_none : (picks : Told → Bool) (v : View) (l : Line) → is_put l ≡ false → ((z : Spot) → ids_at (view_after v l) z ≡ ids_at v z) → Smooth picks v (view_after v l)
+moves_none picks v l quiet off = smooth_still picks v (view_after v l) (told_by v l quiet) (λ i z. ap (times i) (off z))
 
 -- a message of the bag is none
 pub plain_not : (w : PlainWhat) → is_migrate (plain_kind w) ≡ false
@@ -86,7 +87,7 @@ plain_not w = grind (arith, nat_tests)
 pub kind_not : (p : Pid) (t : Told) → is_migrate t.kind ≡ false → asks_for p t ≡ false
 kind_not p t e = ap (λ (c : Bool). c && pid_eq p t.receiver) e
 
-pub plain_in_bag : (p : Pid) (pt : Point) (i : MsgId) (x : PlainMessage) → Sane pt → pt.kernel.bag i ≡ Some x → Plain p pt.view i
+pub plain_in_bag : (p : Pid) (pt : Point) (i : MsgId) (x : PlainMessage) → Sane pt → pt.kernel.bag i ≡ Some x → Plain (asks_for p) pt.view i
 plain_in_bag p pt i x h there t told = kind_not p t (ap is_migrate (h.tells.kind i x t there told) ∙ plain_not x.what)
 
 -- a message that was told of, and is no request to move this process
@@ -114,7 +115,9 @@ QuietLine p v (Line.Updated i n) = Tame p v i
 QuietLine p v (Line.Proto i) = Tame p v i
 QuietLine p v (Line.Here i) = Foreign p v i
 QuietLine p v (Line.NoMove i) = Foreign p v i
+QuietLine p v (Line.Stale i) = Tame p v i
 QuietLine p v (Line.NoChild q) = pid_eq p q ≡ false
+QuietLine p v (Line.NoCall q) = ⊤
 QuietLine p v (Line.Pinned q) = pid_eq p q ≡ false
 QuietLine p v (Line.Migration Stage.Asked q) = ⊤
 QuietLine p v _ = ⊥
@@ -122,57 +125,62 @@ QuietLine p v _ = ⊥
 pub told_one : (o : Option Told) (t u : Told) → o ≡ Some t → o ≡ Some u → t ≡ u
 told_one o t u e f = let g : Some t ≡ Some u = sym e ∙ f in cc
 
-pub tame_plain : (p : Pid) (v : View) (i : MsgId) → Tame p v i → Plain p v i
+pub tame_plain : (p : Pid) (v : View) (i : MsgId) → Tame p v i → Plain (asks_for p) v i
 tame_plain p v i h t told = subst (λ (s : Told). asks_for p s ≡ false) (told_one (v.told i) h.what t h.told told) h.plain
 
-foreign_plain : (p : Pid) (v : View) (i : MsgId) → Foreign p v i → Plain p v i
+foreign_plain : (p : Pid) (v : View) (i : MsgId) → Foreign p v i → Plain (asks_for p) v i
 foreign_plain p v i h = tame_plain p v i (record { what = h.what; told = h.told; plain = and_false (is_migrate h.what.kind) (pid_eq p h.what.receiver) h.other })
 
--- what goes by a label was in the bag
-gone_plain : (p : Pid) (pt : Point) (s : OneKernel) (l : Label) (i : MsgId) → Sane pt → kernel.step pt.kernel l ≡ Some s → out_of l ≡ Some i → Plain p pt.view i
-gone_plain p pt s l i h is goes = let g = gone_in pt.kernel s l i is goes in plain_in_bag p pt i g.message h g.there
+-- what goes by a label was in the bag, and no message of the bag is one of these
+abbrev pub SparesBag : (Told → Bool) → Point → Type 0
+SparesBag picks pt = (i : MsgId) (x : PlainMessage) → pt.kernel.bag i ≡ Some x → Plain picks pt.view i
 
-label_smooth : (p : Pid) (pt : Point) (s : OneKernel) (l : Label) → Sane pt → kernel.step pt.kernel l ≡ Some s → Smooth p pt.view (view_after pt.view (Line.Label l))
-label_smooth p pt s (Label.Ran q k) h is = moves_none p pt.view (Line.Label (Label.Ran q k)) refl (λ z. serving_off pt.view q z)
-label_smooth p pt s (Label.End q y) h is = moves_none p pt.view (Line.Label (Label.End q y)) refl (λ z. ended_off pt.view q z)
-label_smooth p pt s (Label.Receive q id) h is = hushed_smooth p pt.view (Line.Label (Label.Receive q id)) id refl (gone_plain p pt s (Label.Receive q id) id h is refl) (λ j e z. received_spots pt.view q id j e z)
-label_smooth p pt s (Label.Refuse q id c) h is = moves_none p pt.view (Line.Label (Label.Refuse q id c)) refl (λ z. serving_off pt.view q z)
-label_smooth p pt s (Label.Dropped id) h is =
+gone_plain : (picks : Told → Bool) (pt : Point) (s : OneKernel) (l : Label) (i : MsgId) → SparesBag picks pt → kernel.step pt.kernel l ≡ Some s → out_of l ≡ Some i → Plain picks pt.view i
+gone_plain picks pt s l i h is goes = let g = gone_in pt.kernel s l i is goes in h i g.message g.there
+
+pub label_smooth : (picks : Told → Bool) (pt : Point) (s : OneKernel) (l : Label) → SparesBag picks pt → kernel.step pt.kernel l ≡ Some s → Smooth picks pt.view (view_after pt.view (Line.Label l))
+label_smooth picks pt s (Label.Ran q k) h is = moves_none picks pt.view (Line.Label (Label.Ran q k)) refl (λ z. serving_off pt.view q z)
+label_smooth picks pt s (Label.End q y) h is = moves_none picks pt.view (Line.Label (Label.End q y)) refl (λ z. ended_off pt.view q z)
+label_smooth picks pt s (Label.Receive q id) h is = hushed_smooth picks pt.view (Line.Label (Label.Receive q id)) id refl (gone_plain picks pt s (Label.Receive q id) id h is refl) (λ j e z. received_spots pt.view q id j e z)
+label_smooth picks pt s (Label.Refuse q id c) h is = moves_none picks pt.view (Line.Label (Label.Refuse q id c)) refl (λ z. serving_off pt.view q z)
+label_smooth picks pt s (Label.Dropped id) h is =
     let o = receiver_of (pt.view.told id) in
-    hushed_smooth p pt.view (Line.Label (Label.Dropped id)) id refl (gone_plain p pt s (Label.Dropped id) id h is refl) (λ j e z. dropped_spots (handled pt.view id) id j o e z ∙ handled_spots pt.view id j e z)
-label_smooth p pt s (Label.Served id) h is =
-    hushed_smooth p pt.view (Line.Label (Label.Served id)) id refl (gone_plain p pt s (Label.Served id) id h is refl)
+    hushed_smooth picks pt.view (Line.Label (Label.Dropped id)) id refl (gone_plain picks pt s (Label.Dropped id) id h is refl) (λ j e z. dropped_spots (handled pt.view id) id j o e z ∙ handled_spots pt.view id j e z)
+label_smooth picks pt s (Label.Served id) h is =
+    hushed_smooth picks pt.view (Line.Label (Label.Served id)) id refl (gone_plain picks pt s (Label.Served id) id h is refl)
     (λ j e z. ap (times j) ((served_keeps (handled pt.view id) (pt.view.told id)).0 z) ∙ handled_spots pt.view id j e z)
-label_smooth p pt s (Label.Gone id) h is = hushed_smooth p pt.view (Line.Label (Label.Gone id)) id refl (gone_plain p pt s (Label.Gone id) id h is refl) (λ j e z. handled_spots pt.view id j e z)
-label_smooth p pt s (Label.Took id) h is = hushed_smooth p pt.view (Line.Label (Label.Took id)) id refl (gone_plain p pt s (Label.Took id) id h is refl) (λ j e z. handled_spots pt.view id j e z)
-label_smooth p pt s (Label.Created id q) h is =
-    hushed_smooth p pt.view (Line.Label (Label.Created id q)) id refl (gone_plain p pt s (Label.Created id q) id h is refl) (λ j e z. ap (times j) (created_off pt.view id q z) ∙ handled_spots pt.view id j e z)
-label_smooth p pt s (Label.NoSpace id a b) h is = hushed_smooth p pt.view (Line.Label (Label.NoSpace id a b)) id refl (gone_plain p pt s (Label.NoSpace id a b) id h is refl) (λ j e z. handled_spots pt.view id j e z)
-label_smooth p pt s (Label.Asked id) h is = hushed_smooth p pt.view (Line.Label (Label.Asked id)) id refl (gone_plain p pt s (Label.Asked id) id h is refl) (λ j e z. handled_spots pt.view id j e z)
-label_smooth p pt s _ h is = smooth_same p pt.view
+label_smooth picks pt s (Label.Gone id) h is = hushed_smooth picks pt.view (Line.Label (Label.Gone id)) id refl (gone_plain picks pt s (Label.Gone id) id h is refl) (λ j e z. handled_spots pt.view id j e z)
+label_smooth picks pt s (Label.Took id) h is = hushed_smooth picks pt.view (Line.Label (Label.Took id)) id refl (gone_plain picks pt s (Label.Took id) id h is refl) (λ j e z. handled_spots pt.view id j e z)
+label_smooth picks pt s (Label.Created id q) h is =
+    hushed_smooth picks pt.view (Line.Label (Label.Created id q)) id refl (gone_plain picks pt s (Label.Created id q) id h is refl) (λ j e z. ap (times j) (created_off pt.view id q z) ∙ handled_spots pt.view id j e z)
+label_smooth picks pt s (Label.NoSpace id a b) h is = hushed_smooth picks pt.view (Line.Label (Label.NoSpace id a b)) id refl (gone_plain picks pt s (Label.NoSpace id a b) id h is refl) (λ j e z. handled_spots pt.view id j e z)
+label_smooth picks pt s (Label.Asked id) h is = hushed_smooth picks pt.view (Line.Label (Label.Asked id)) id refl (gone_plain picks pt s (Label.Asked id) id h is refl) (λ j e z. handled_spots pt.view id j e z)
+label_smooth picks pt s _ h is = smooth_same picks pt.view
 
 -- the topic moves no message
-pub smooth_about : (p : Pid) (v w : View) (a : About) → Smooth p v w → Smooth p v (view.about w a)
-smooth_about p v w a h = smooth_trans p v w (view.about w a) h (smooth_still p w (view.about w a) (λ i. refl) (λ i z. ap (times i) (about_off w a z)))
+pub smooth_about : (picks : Told → Bool) (v w : View) (a : About) → Smooth picks v w → Smooth picks v (view.about w a)
+smooth_about picks v w a h = smooth_trans picks v w (view.about w a) h (smooth_still picks w (view.about w a) (λ i. refl) (λ i z. ap (times i) (about_off w a z)))
 
 -- a message of a migration that is no step of it
-pub line_smooth : (p : Pid) (pt : Point) (s : OneKernel) (l : Line) → Sane pt → QuietLine p pt.view l → kernel_after pt.kernel (label_of l) ≡ Some s → Smooth p pt.view (view_after pt.view l)
-line_smooth p pt s (Line.Idle m) h quiet is = smooth_same p pt.view
-line_smooth p pt s (Line.Label l) h quiet is = label_smooth p pt s l h is
-line_smooth p pt s (Line.Old a b n) h quiet is = smooth_same p pt.view
-line_smooth p pt s Line.Nothing h quiet is = smooth_same p pt.view
-line_smooth p pt s (Line.Resent m n) h quiet is = smooth_same p pt.view
-line_smooth p pt s (Line.Queued i) h quiet is = (let o = receiver_of (pt.view.told i) in hushed_smooth p pt.view (Line.Queued i) i refl (tame_plain p pt.view i quiet) (λ j e z. queued_spots (handled pt.view i) i j o e z ∙ handled_spots pt.view i j e z))
-line_smooth p pt s (Line.Held i) h quiet is = (let o = receiver_of (pt.view.told i) in hushed_smooth p pt.view (Line.Held i) i refl (tame_plain p pt.view i quiet) (λ j e z. held_spots (handled pt.view i) i j o e z ∙ handled_spots pt.view i j e z))
+pub line_smooth : (p : Pid) (pt : Point) (s : OneKernel) (l : Line) → Sane pt → QuietLine p pt.view l → kernel_after pt.kernel (label_of l) ≡ Some s → Smooth (asks_for p) pt.view (view_after pt.view l)
+line_smooth p pt s (Line.Idle m) h quiet is = smooth_same (asks_for p) pt.view
+line_smooth p pt s (Line.Label l) h quiet is = label_smooth (asks_for p) pt s l (λ i x there. plain_in_bag p pt i x h there) is
+line_smooth p pt s (Line.Old a b n) h quiet is = smooth_same (asks_for p) pt.view
+line_smooth p pt s Line.Nothing h quiet is = smooth_same (asks_for p) pt.view
+line_smooth p pt s (Line.Resent m n) h quiet is = smooth_same (asks_for p) pt.view
+line_smooth p pt s (Line.Queued i) h quiet is = (let o = receiver_of (pt.view.told i) in hushed_smooth (asks_for p) pt.view (Line.Queued i) i refl (tame_plain p pt.view i quiet) (λ j e z. queued_spots (handled pt.view i) i j o e z ∙ handled_spots pt.view i j e z))
+line_smooth p pt s (Line.Held i) h quiet is = (let o = receiver_of (pt.view.told i) in hushed_smooth (asks_for p) pt.view (Line.Held i) i refl (tame_plain p pt.view i quiet) (λ j e z. held_spots (handled pt.view i) i j o e z ∙ handled_spots pt.view i j e z))
 line_smooth p pt s (Line.Forwarded i m) h quiet is =
-    (let o = receiver_of (pt.view.told i) in hushed_smooth p pt.view (Line.Forwarded i m) i refl (tame_plain p pt.view i quiet) (λ j e z. forwarded_spots (handled pt.view i) j o z ∙ handled_spots pt.view i j e z))
-line_smooth p pt s (Line.Updated i n) h quiet is = hushed_smooth p pt.view (Line.Updated i n) i refl (tame_plain p pt.view i quiet) (λ j e z. handled_spots pt.view i j e z)
-line_smooth p pt s (Line.Here i) h quiet is = hushed_smooth p pt.view (Line.Here i) i refl (foreign_plain p pt.view i quiet) (λ j e z. handled_spots pt.view i j e z)
-line_smooth p pt s (Line.NoMove i) h quiet is = hushed_smooth p pt.view (Line.NoMove i) i refl (foreign_plain p pt.view i quiet) (λ j e z. handled_spots pt.view i j e z)
-line_smooth p pt s (Line.NoChild q) h quiet is = smooth_same p pt.view
-line_smooth p pt s (Line.Pinned q) h quiet is = smooth_same p pt.view
-line_smooth p pt s (Line.Proto i) h quiet is = hushed_smooth p pt.view (Line.Proto i) i refl (tame_plain p pt.view i quiet) (λ j e z. ap (times j) (proto_off (handled pt.view i) (pt.view.told i) z) ∙ handled_spots pt.view i j e z)
-line_smooth p pt s (Line.Migration Stage.Asked q) h quiet is = smooth_same p pt.view
+    (let o = receiver_of (pt.view.told i) in hushed_smooth (asks_for p) pt.view (Line.Forwarded i m) i refl (tame_plain p pt.view i quiet) (λ j e z. forwarded_spots (handled pt.view i) j o z ∙ handled_spots pt.view i j e z))
+line_smooth p pt s (Line.Updated i n) h quiet is = hushed_smooth (asks_for p) pt.view (Line.Updated i n) i refl (tame_plain p pt.view i quiet) (λ j e z. handled_spots pt.view i j e z)
+line_smooth p pt s (Line.Here i) h quiet is = hushed_smooth (asks_for p) pt.view (Line.Here i) i refl (foreign_plain p pt.view i quiet) (λ j e z. handled_spots pt.view i j e z)
+line_smooth p pt s (Line.NoMove i) h quiet is = hushed_smooth (asks_for p) pt.view (Line.NoMove i) i refl (foreign_plain p pt.view i quiet) (λ j e z. handled_spots pt.view i j e z)
+line_smooth p pt s (Line.Stale i) h quiet is = hushed_smooth (asks_for p) pt.view (Line.Stale i) i refl (tame_plain p pt.view i quiet) (λ j e z. handled_spots pt.view i j e z)
+line_smooth p pt s (Line.NoChild q) h quiet is = smooth_same (asks_for p) pt.view
+line_smooth p pt s (Line.NoCall q) h quiet is = smooth_same (asks_for p) pt.view
+line_smooth p pt s (Line.Pinned q) h quiet is = smooth_same (asks_for p) pt.view
+line_smooth p pt s (Line.Proto i) h quiet is = hushed_smooth (asks_for p) pt.view (Line.Proto i) i refl (tame_plain p pt.view i quiet) (λ j e z. ap (times j) (proto_off (handled pt.view i) (pt.view.told i) z) ∙ handled_spots pt.view i j e z)
+line_smooth p pt s (Line.Migration Stage.Asked q) h quiet is = smooth_same (asks_for p) pt.view
 line_smooth p pt s _ h quiet is = absurd quiet
 
 pub still_same : (p : Pid) (v : View) → Still p v v
@@ -211,7 +219,9 @@ line_still p pt (Line.Updated i n) quiet need = λ m. refl
 line_still p pt (Line.Proto i) quiet need = λ m. grind (arith, nat_tests)
 line_still p pt (Line.Here i) quiet need = λ m. refl
 line_still p pt (Line.NoMove i) quiet need = λ m. refl
+line_still p pt (Line.Stale i) quiet need = λ m. refl
 line_still p pt (Line.NoChild q) quiet need = λ m. refl
+line_still p pt (Line.NoCall q) quiet need = λ m. refl
 line_still p pt (Line.Pinned q) quiet need = λ m. refl
 line_still p pt (Line.Migration Stage.Asked q) quiet need = λ m. refl
 line_still p pt _ quiet need = absurd quiet
@@ -219,19 +229,18 @@ line_still p pt _ quiet need = absurd quiet
 -- Parts that leave all requests to move a process where they stand, and end none; and the lines of parts, counted.
 
 -- a put of a message that is no request to move this process
-first_plain : (p : Pid) (o : Option Told) (k : MessageKind) (q : Pid) (a : view.About) (t : Told) → Some (view.first_told o (record { kind = k; receiver = q; about = a })) ≡ Some t → (is_migrate k && pid_eq p q) ≡ false → ((u : Told) → o ≡ Some u → asks_for p u ≡ false)
-    → asks_for p t ≡ false
-first_plain p None k q a t e plain was = let f : record { kind = k; receiver = q; about = a } ≡ t = cc in subst (λ (s : Told). asks_for p s ≡ false) f plain
-first_plain p (Some u) k q a t e plain was = let f : u ≡ t = cc in subst (λ (s : Told). asks_for p s ≡ false) f (was u refl)
+first_plain : (picks : Told → Bool) (o : Option Told) (u t : Told) → Some (view.first_told o u) ≡ Some t → picks u ≡ false → ((x : Told) → o ≡ Some x → picks x ≡ false) → picks t ≡ false
+first_plain picks None u t e plain was = let f : u ≡ t = cc in subst (λ (x : Told). picks x ≡ false) f plain
+first_plain picks (Some x) u t e plain was = let f : x ≡ t = cc in subst (λ (y : Told). picks y ≡ false) f (was x refl)
 
-pub put_smooth : (p : Pid) (v : View) (a b : ℕ) (i : MsgId) (k : MessageKind) (q : Pid) → PairsFit v → (is_migrate k && pid_eq p q) ≡ false → Plain p v i → Smooth p v (after_put v a b i k q)
-put_smooth p v a b i k q fits plain was =
+pub put_smooth : (picks : Told → Bool) (v : View) (a b : ℕ) (i : MsgId) (k : MessageKind) (q : Pid) → PairsFit v → picks (record { kind = k; receiver = q; about = v.topic }) ≡ false → Plain picks v i → Smooth picks v (after_put v a b i k q)
+put_smooth picks v a b i k q fits plain was =
     let u : Told = record { kind = k; receiver = q; about = v.topic } in
-    smooth_others p v (after_put v a b i k q) i was (λ t is. first_plain p (v.told i) k q v.topic t (sym (put_at v a b i k q) ∙ is) plain was) (λ t is. put_at v a b i k q ∙ first_kept (v.told i) u t is)
+    smooth_others picks v (after_put v a b i k q) i was (λ t is. first_plain picks (v.told i) u t (sym (put_at v a b i k q) ∙ is) plain was) (λ t is. put_at v a b i k q ∙ first_kept (v.told i) u t is)
     (record { told = λ j apart. put_told_off v a b i j k q apart; spots = λ j apart z. put_spots v a b i j k q fits apart z })
 
-pub packet_smooth : (p : Pid) (v : View) (a b k : ℕ) (l : Load) → Smooth p v (view_after v (Line.Packet a b k l))
-packet_smooth p v a b k l = moves_none p v (Line.Packet a b k l) refl (λ z. packet_off v a b k l z)
+pub packet_smooth : (picks : Told → Bool) (v : View) (a b k : ℕ) (l : Load) → Smooth picks v (view_after v (Line.Packet a b k l))
+packet_smooth picks v a b k l = moves_none picks v (Line.Packet a b k l) refl (λ z. packet_off v a b k l z)
 
 -- parts
 abbrev pub Quiet : Pid → View → Part → Type 0
@@ -245,21 +254,21 @@ AllQuiet p v = All (Quiet p v)
 
 -- what is kept through parts
 pub record Settled (p : Pid) (v : View) (pt : Point) : Type 0 where
-  pub smooth : Smooth p v pt.view
+  pub smooth : Smooth (asks_for p) v pt.view
   pub still : Still p v pt.view
   pub sane : Sane pt
   pub fits : PairsFit pt.view
 
 pub record Rest (p : Pid) (v w : View) : Type 0 where
-  pub smooth : Smooth p v w
+  pub smooth : Smooth (asks_for p) v w
   pub still : Still p v w
   pub fits : PairsFit w
 
 pub rest_packet : (p : Pid) (v : View) → PacketsKeep (λ q. Rest p v q.view)
 rest_packet p v q a b k l h = search (smooth_trans, packet_smooth, fits_packet)
 
-put_rest : (p : Pid) (v : View) (b : ℕ) (i : MsgId) (k : MessageKind) (q : Pid) → PairsFit v → (is_migrate k && pid_eq p q) ≡ false → Plain p v i → Rest p v (after_put v v.acting b i k q)
-put_rest p v b i k q fits e plain = record { smooth = put_smooth p v v.acting b i k q fits e plain; still = λ m. refl; fits = fits_put v v.acting b i k q fits }
+put_rest : (p : Pid) (v : View) (b : ℕ) (i : MsgId) (k : MessageKind) (q : Pid) → PairsFit v → (is_migrate k && pid_eq p q) ≡ false → Plain (asks_for p) v i → Rest p v (after_put v v.acting b i k q)
+put_rest p v b i k q fits e plain = record { smooth = put_smooth (asks_for p) v v.acting b i k q fits e plain; still = λ m. refl; fits = fits_put v v.acting b i k q fits }
 
 says_rest : (p : Pid) (pt : Point) (s : OneKernel) (l : Line) → Sane pt → PairsFit pt.view → QuietLine p pt.view l → Needs pt l → kernel_after pt.kernel (label_of l) ≡ Some s → Rest p pt.view (view_after pt.view l)
 says_rest p pt s l h fits quiet need step =
@@ -271,19 +280,19 @@ first_off b c e = ap (λ (x : Bool). x && c) e
 
 pub rest_behind : (p : Pid) (pt : Point) (x : Part) → Sane pt → PairsFit pt.view → Quiet p pt.view x → NeedsPart pt x → Behind (λ q. Rest p pt.view q.view) pt x
 rest_behind p pt (Says l) h fits quiet need =
-    let rest_about : (p : Pid) (v w : View) (a : About) → Rest p v w → Rest p v (view.about w a) = λ p v w a h. record { smooth = smooth_about p v w a h.smooth; still = h.still; fits = fits_about w a h.fits } in
+    let rest_about : (p : Pid) (v w : View) (a : About) → Rest p v w → Rest p v (view.about w a) = λ p v w a h. record { smooth = smooth_about (asks_for p) v w a h.smooth; still = h.still; fits = fits_about w a h.fits } in
     λ s step. rest_about p pt.view (view_after pt.view l) (moved pt l s).view.topic (says_rest p pt s l h fits quiet need step)
 rest_behind p pt (Routes i) h fits quiet need = λ m there. put_rest p pt.view _ i (plain_kind m.what) m.to fits (first_off (is_migrate (plain_kind m.what)) (pid_eq p m.to) (plain_not m.what)) (plain_in_bag p pt i m h there)
 rest_behind p pt (Again i b) h fits quiet need = λ t there. put_rest p pt.view b i t.kind t.receiver fits (tame_plain p pt.view i quiet t there) (tame_plain p pt.view i quiet)
 rest_behind p pt (Owns k q b) h fits quiet need =
-    let untold_plain : (p : Pid) (v : View) (i : MsgId) → v.told i ≡ None → Plain p v i = λ p v i none t told. absurd (let f : None ≡ Some t = sym none ∙ told in cc) in
+    let untold_plain : (p : Pid) (v : View) (i : MsgId) → v.told i ≡ None → Plain (asks_for p) v i = λ p v i none t told. absurd (let f : None ≡ Some t = sym none ∙ told in cc) in
     put_rest p pt.view b (own_id pt.view) k q fits quiet (untold_plain p pt.view (own_id pt.view) (own_untold pt h))
-rest_behind p pt (Transmits a b l) h fits quiet need = record { smooth = smooth_same p pt.view; still = λ m. refl; fits = fits }
+rest_behind p pt (Transmits a b l) h fits quiet need = record { smooth = smooth_same (asks_for p) pt.view; still = λ m. refl; fits = fits }
 
 pub settled_same : (p : Pid) (pt : Point) → Sane pt → PairsFit pt.view → Settled p pt.view pt
-settled_same p pt sane fits = record { smooth = smooth_same p pt.view; still = still_same p pt.view; sane = sane; fits = fits }
+settled_same p pt sane fits = record { smooth = smooth_same (asks_for p) pt.view; still = still_same p pt.view; sane = sane; fits = fits }
 
-quiet_on : (p : Pid) (v w : View) (x : Part) → Smooth p v w → Quiet p v x → Quiet p w x
+quiet_on : (p : Pid) (v w : View) (x : Part) → Smooth (asks_for p) v w → Quiet p v x → Quiet p w x
 quiet_on p v w x c h = search arith
 
 pub parts_settle : (p : Pid) (ps : List Part) (v : View) (pt : Point) (w : Spelled) → AllQuiet p v ps → Walks pt ps → Settled p v pt → spelled pt ps ≡ Some w → Settled p v w.point

@@ -6,7 +6,7 @@ use Rattle.dm_movelaws.proofs.Names.{Queue, Held, Inbox, Untaken, times, ids_at,
 use Rattle.dm_movelaws.proofs.Names.{part_sane, pid_eq-is, last_there, fewer_record}
 pub use Rattle.dm_rule.proofs.Moves.States.{again_told}
 use Rattle.dm_rule.specs.View as view
-use Rattle.dm_movelaws.proofs.Ends.Parts.{first_kept, Extends, told_by, packet_smooth, part_count, asks_for, Somewhere, Smooth, Plain, smooth_trans, smooth_still, stands_as, stands_was, other_than as other_front}
+use Rattle.dm_movelaws.proofs.Ends.Parts.{first_kept, Extends, told_by, packet_smooth, part_count, Somewhere, Smooth, Plain, smooth_trans, smooth_still, stands_as, stands_was, other_than as other_front}
 use Rattle.dm_movelaws.proofs.Leading.{All, Behind, whatever_put, parts_lead, Saying, outcome_says, next_of, part_leads}
 use Rattle.dm_movelaws.proofs.Ends.Open.{front_one, first_spots, zero_cases}
 
@@ -68,8 +68,8 @@ group_acts n b pt d w fit e h =
 -- Messages that go on, those that are held, and those that come back from a held list: all stand somewhere again.
 
 -- one message stands elsewhere, and the others where they stood
-pub smooth_moves : (p : Pid) (v w : View) (i : MsgId) → ((j : MsgId) → w.told j ≡ v.told j) → Somewhere v i → Somewhere w i → ((j : MsgId) → id_eq i j ≡ false → (z : Spot) → standing w j z ≡ standing v j z) → Smooth p v w
-smooth_moves p v w i told was now spots = record {
+pub smooth_moves : (picks : Told → Bool) (v w : View) (i : MsgId) → ((j : MsgId) → w.told j ≡ v.told j) → Somewhere v i → Somewhere w i → ((j : MsgId) → id_eq i j ≡ false → (z : Spot) → standing w j z ≡ standing v j z) → Smooth picks v w
+smooth_moves picks v w i told was now spots = record {
   kept = λ j t e. told j ∙ e;
   fresh = λ j t e a. sym (told j) ∙ e;
   on = λ j t e a s. elim (cases_Bool (id_eq i j)) [
@@ -86,24 +86,24 @@ held_there : (v : View) (i : MsgId) (o : Option Pid) (q : Pid) → o ≡ Some q 
 held_there v i None q e = cc
 held_there v i (Some r) q e = (Held v.acting r, subst (λ n. 1 ≤ n) (sym (ap (times i) (at_record_at v.held v.acting r (v.held v.acting r ++ i ∷ [])))) (last_there i (v.held v.acting r)))
 
-pub held_smooth : (p : Pid) (v : View) (i : MsgId) (is : List MsgId) (t : Told) → v.inbox v.acting ≡ i ∷ is → v.told i ≡ Some t → Smooth p v (view_after v (Line.Held i))
-held_smooth p v i is t front told =
+pub held_smooth : (picks : Told → Bool) (v : View) (i : MsgId) (is : List MsgId) (t : Told) → v.inbox v.acting ≡ i ∷ is → v.told i ≡ Some t → Smooth picks v (view_after v (Line.Held i))
+held_smooth picks v i is t front told =
     let o = receiver_of (v.told i) in
-    smooth_moves p v (view_after v (Line.Held i)) i (told_by v (Line.Held i) refl) (Inbox v.acting, front_one v v.acting i is front) (held_there (handled v i) i o t.receiver (ap receiver_of told))
+    smooth_moves picks v (view_after v (Line.Held i)) i (told_by v (Line.Held i) refl) (Inbox v.acting, front_one v v.acting i is front) (held_there (handled v i) i o t.receiver (ap receiver_of told))
     (λ j e z. held_spots (handled v i) i j o e z ∙ handled_spots v i j e z)
 
 -- messages on the way from their lists to their puts
-pub record Sending (p : Pid) (v : View) (js : List MsgId) (w : View) : Type 0 where
+pub record Sending (picks : Told → Bool) (v : View) (js : List MsgId) (w : View) : Type 0 where
   pub told : (i : MsgId) → w.told i ≡ v.told i
-  pub on : (i : MsgId) (t : Told) → v.told i ≡ Some t → asks_for p t ≡ true → Somewhere v i → Somewhere w i ⊎ (1 ≤ times i js)
-  pub back : (i : MsgId) (t : Told) → v.told i ≡ Some t → asks_for p t ≡ true → Somewhere w i → Somewhere v i
-  pub from : (i : MsgId) (t : Told) → v.told i ≡ Some t → asks_for p t ≡ true → 1 ≤ times i js → Somewhere v i
+  pub on : (i : MsgId) (t : Told) → v.told i ≡ Some t → picks t ≡ true → Somewhere v i → Somewhere w i ⊎ (1 ≤ times i js)
+  pub back : (i : MsgId) (t : Told) → v.told i ≡ Some t → picks t ≡ true → Somewhere w i → Somewhere v i
+  pub from : (i : MsgId) (t : Told) → v.told i ≡ Some t → picks t ≡ true → 1 ≤ times i js → Somewhere v i
   pub known : (m : ℕ) (q : Pid) → w.known m q ≡ v.known m q
   pub fits : PairsFit w
   pub acting : w.acting ≡ v.acting
 
-pub sending_put : (p : Pid) (v : View) (j : MsgId) (js : List MsgId) (w : View) (b : ℕ) (u : Told) → w.told j ≡ Some u → Sending p v (j ∷ js) w → Sending p v js (after_put w w.acting b j u.kind u.receiver)
-sending_put p v j js w b u told h =
+pub sending_put : (picks : Told → Bool) (v : View) (j : MsgId) (js : List MsgId) (w : View) (b : ℕ) (u : Told) → w.told j ≡ Some u → Sending picks v (j ∷ js) w → Sending picks v js (after_put w w.acting b j u.kind u.receiver)
+sending_put picks v j js w b u told h =
     let n = after_put w w.acting b j u.kind u.receiver in
     let same = again_told w w.acting b j u told in
     let spots : (i : MsgId) → id_eq j i ≡ false → (z : Spot) → standing n i z ≡ standing w i z = λ i e z. put_spots w w.acting b j i u.kind u.receiver h.fits e z in
@@ -132,29 +132,42 @@ sending_put p v j js w b u told h =
     }
 
 -- all are put again
-pub record Sent (p : Pid) (v : View) (ps : List Part) (w : Spelled) : Type 0 where
+pub record Sent (picks : Told → Bool) (v : View) (ps : List Part) (w : Spelled) : Type 0 where
   pub next : Point
-  pub sending : Sending p v [] next.view
+  pub sending : Sending picks v [] next.view
   pub sane : Sane next
   pub rest : Spelled
   pub more : spelled next ps ≡ Some rest
   pub point : rest.point ≡ w.point
 
-pub all_sent : (p : Pid) (v : View) (js : List MsgId) (b : ℕ) (ps : List Part) (pt : Point) (w : Spelled) → Sending p v js pt.view → Sane pt → spelled pt (sends_on b js ++ ps) ≡ Some w → Sent p v ps w
-all_sent p v [] b ps pt w h sane e = record { next = pt; sending = h; sane = sane; rest = w; more = e; point = refl }
-all_sent p v (j ∷ js) b ps pt w h sane e =
-    let sending_packet : (p : Pid) (v : View) (js : List MsgId) → PacketsKeep (λ q. Sending p v js q.view) = λ p v js q a b k l h. grind (arith, nat_tests, packet_smooth, fits_packet) in
+pub all_sent : (picks : Told → Bool) (v : View) (js : List MsgId) (b : ℕ) (ps : List Part) (pt : Point) (w : Spelled) → Sending picks v js pt.view → Sane pt → spelled pt (sends_on b js ++ ps) ≡ Some w → Sent picks v ps w
+all_sent picks v [] b ps pt w h sane e = record { next = pt; sending = h; sane = sane; rest = w; more = e; point = refl }
+all_sent picks v (j ∷ js) b ps pt w h sane e =
+    let sending_packet : (picks : Told → Bool) (v : View) (js : List MsgId) → PacketsKeep (λ q. Sending picks v js q.view) = λ picks v js q a b k l h.
+    let c = packet_smooth picks q.view a b k l in
+    record {
+      told = h.told;
+      on = λ i t e y s. elim (h.on i t e y s) [ inl x ↦ inl (c.on i t (h.told i ∙ e) y x) | inr x ↦ inr x ];
+      back = λ i t e y s. h.back i t e y (c.back i t (h.told i ∙ e) y s);
+      from = h.from;
+      known = h.known;
+      fits = fits_packet q.view a b k l h.fits;
+      acting = h.acting;
+    } in
     let n = next_of pt (Again j b) (sends_on b js ++ ps) w e in
-    let step = part_leads (λ (q : Point). Sending p v js q.view) (sending_packet p v js) pt n.next (Again j b) (λ t there. sending_put p v j js pt.view b t there h) n.steps in
-    let r = all_sent p v js b ps n.next n.rest step (part_sane pt n.next (Again j b) n.steps.lines tt n.steps.are n.steps.leads sane) n.more in
+    let step = part_leads (λ (q : Point). Sending picks v js q.view) (sending_packet picks v js) pt n.next (Again j b) (λ t there. sending_put picks v j js pt.view b t there h) n.steps in
+    let r = all_sent picks v js b ps n.next n.rest step (part_sane pt n.next (Again j b) n.steps.lines tt n.steps.are n.steps.leads sane) n.more in
     record { next = r.next; sending = r.sending; sane = r.sane; rest = r.rest; more = r.more; point = ◌∙◌ {a = r.rest.point} r.point n.point }
+
+pub sent_smooth : (picks : Told → Bool) (v w : View) → Sending picks v [] w → Smooth picks v w
+sent_smooth picks v w h = grind (arith, nat_tests)
 
 pub sends_count : (f : Line → Bool) (b : ℕ) (js : List MsgId) (ps : List Part) → part_count f (sends_on b js ++ ps) ≡ part_count f ps
 sends_count f b [] ps = refl
 sends_count f b (j ∷ js) ps = sends_count f b js ps
 
 -- what begins: the front goes, and the lists of a process are emptied
-emptied_on : (f : ℕ → Pid → List MsgId) (a : ℕ) (q : Pid) (i : MsgId) (m : ℕ) (r : Pid) → 1 ≤ times i (f m r) → (1 ≤ times i (at_record f a q [] m r)) ⊎ (1 ≤ times i (f a q))
+pub emptied_on : (f : ℕ → Pid → List MsgId) (a : ℕ) (q : Pid) (i : MsgId) (m : ℕ) (r : Pid) → 1 ≤ times i (f m r) → (1 ≤ times i (at_record f a q [] m r)) ⊎ (1 ≤ times i (f a q))
 emptied_on f a q i m r least = grind (arith, nat_tests, parts, eq_is, pid_eq-is)
 
 abbrev sent_view : View → Pid → ℕ → View
@@ -192,13 +205,13 @@ both_stand v q i least =
       | inr some ↦ (Queue v.acting q, some)
     ]
 
-pub sent_begins : (p : Pid) (v : View) (q : Pid) (n : ℕ) (i : MsgId) (is : List MsgId) → v.inbox v.acting ≡ i ∷ is → Plain p v i → PairsFit v → Sending p v (v.queue v.acting q ++ v.held v.acting q) (sent_view v q n)
-sent_begins p v q n i is front plain fits =
+pub sent_begins : (picks : Told → Bool) (v : View) (q : Pid) (n : ℕ) (i : MsgId) (is : List MsgId) → v.inbox v.acting ≡ i ∷ is → Plain picks v i → PairsFit v → Sending picks v (v.queue v.acting q ++ v.held v.acting q) (sent_view v q n)
+sent_begins picks v q n i is front plain fits =
     let same : (j : MsgId) → id_eq i j ≡ false → (z : Spot) → standing (handled_first v) j z ≡ standing v j z = first_spots v (handled_first v) i is front (λ z. refl) in
     record {
       told = λ j. refl;
-      on = λ j t e a s. sent_on v q n j (same j (other_front p v i j t plain e a)) s.0 s.1;
-      back = λ j t e a s. sent_back v q n j (same j (other_front p v i j t plain e a)) s.0 s.1;
+      on = λ j t e a s. sent_on v q n j (same j (other_front picks v i j t plain e a)) s.0 s.1;
+      back = λ j t e a s. sent_back v q n j (same j (other_front picks v i j t plain e a)) s.0 s.1;
       from = λ j t e a least. both_stand v q j least;
       known = λ m r. refl;
       fits = record { within = fits.within; home = fits.home };
@@ -238,9 +251,9 @@ released_back v q i (Inbox m) st = elim (cases_Bool (v.acting == m)) [
 ]
 released_back v q i (Untaken a b) st = (Untaken a b, st)
 
-pub rejoins_smooth : (p : Pid) (v : View) (q : Pid) → Smooth p v (view.rejoins v q)
-rejoins_smooth p v q =
+pub rejoins_smooth : (picks : Told → Bool) (v : View) (q : Pid) → Smooth picks v (view.rejoins v q)
+rejoins_smooth picks v q =
     let here_off : (v : View) (q : Pid) (ring : List Pid) (z : Spot) → ids_at (with_ring (knowing v q Here) ring) z ≡ ids_at v z = λ v q ring z. grind (arith, nat_tests) in
     let u = with_ring (knowing v q Here) (v.ring v.acting ++ q ∷ []) in
-    let released_smooth : Smooth p u (released u q) = record { kept = λ i t e. e; fresh = λ i t e a. e; on = λ i t e a s. released_on u q i s.0 s.1; back = λ i t e a s. released_back u q i s.0 s.1 } in
-    smooth_trans p v u (released u q) (smooth_still p v u (λ i. refl) (λ i z. ap (times i) (here_off v q (v.ring v.acting ++ q ∷ []) z))) released_smooth
+    let released_smooth : Smooth picks u (released u q) = record { kept = λ i t e. e; fresh = λ i t e a. e; on = λ i t e a s. released_on u q i s.0 s.1; back = λ i t e a s. released_back u q i s.0 s.1 } in
+    smooth_trans picks v u (released u q) (smooth_still picks v u (λ i. refl) (λ i z. ap (times i) (here_off v q (v.ring v.acting ++ q ∷ []) z))) released_smooth

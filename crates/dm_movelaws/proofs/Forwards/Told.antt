@@ -2,7 +2,7 @@
 use Rattle.dm_movelaws.proofs.Names.{◌≡◌, ℕ, Bool, true, List, [], ◌∷◌, ◌++◌, refl, ap, ◌∙◌, sym, subst, if◌then◌else◌, None, Some, Pid, Place, MsgId, MessageKind, plain_kind, PlainMessage, Boot, manager, Step, Line, Sender, is_told_back}
 use Rattle.dm_movelaws.proofs.Names.{Part, Says, Again, Owns, Spelled, lines_of, spelled, Point, View, Told, About, Forward, own_id, actor, fits, fits_put, fits_packet, pair_same, put_at, fits_as, PairsFit, Sane, part_sane, Steps, begun}
 use Rattle.dm_movelaws.proofs.Names.{begun_sane, said_by, again_rides, again_same, own_fresh, front, Run, Tells, ForwardsTell, RequestsTell, update_of, IsUnderWay, run_always, last_point, first_none, forwarded_own, GroupIs, group_is}
-use Rattle.dm_movelaws.proofs.Names.{by_parts, Addresses, forwards_on, sends_on, by_migrates, Loose, loose_round, loose_handles, by_forwards, by_net, by_outcome, by_hears, nat_tests, arith}
+use Rattle.dm_movelaws.proofs.Names.{by_parts, Addresses, forwards_on, sends_on, by_migrates, Loose, loose_round, loose_handles, by_forwards, by_net, by_outcome, by_hears, nat_tests, arith, by_calls_off, to_kernel}
 use Rattle.dm_rule.specs.View as view
 use Rattle.dm_rule.specs.Rule as rule
 use Rattle.dm_movelaws.proofs.Leading.{next_of, puts_lead, lines_are}
@@ -79,7 +79,8 @@ handles_form b o m id is msg ps box there = loose_handles (Form o (Step.Turn m))
 
 hears_form : (b : Boot) (o : Point) (m : ℕ) (id : MsgId) (ps : List Part) → o.kernel.bag id ≡ None → rule.hears b o m id (o.view.told id) ≡ Some ps → Form o (Step.Turn m) ps
 hears_form b o m id ps none = by_hears (Form o (Step.Turn m)) b o m id (o.view.told id) ps (λ t told. record {
-  told = λ p x about alive. grind (arith, nat_tests, sends_none);
+  stale = λ p about late. Nothing refl;
+  told = λ p x about alive due. grind (arith, nat_tests, sends_none);
   updated = λ kind. Nothing refl;
   updated_none = λ kind at_. Nothing refl;
   no_move = λ at_. Nothing refl;
@@ -99,6 +100,7 @@ outcome_form b o d ps = by_outcome (Form o) b o d ps (record {
   ticks = λ m xs net. Nothing ((by_net (λ ps. forwards_of ps ≡ []) refl (λ l ps net h. (let e_ : with_forward l (forwards_of ps) ≡ (forwards_of ps) = grind (arith, nat_tests) in e_) ∙ h) (λ a b l ps h. h)) xs net);
   delivers = λ a c k xs net. Nothing ((by_net (λ ps. forwards_of ps ≡ []) refl (λ l ps net h. (let e_ : with_forward l (forwards_of ps) ≡ (forwards_of ps) = grind (arith, nat_tests) in e_) ∙ h) (λ a b l ps h. h)) xs net);
   asks = λ p m. Nothing (by_migrates (λ (ps : List Part). forwards_of ps ≡ []) o p refl refl (λ n off is. refl));
+  calls = λ p m. Nothing (by_calls_off (λ (ps : List Part). forwards_of ps ≡ []) o m p refl (λ from is come. sends_none from (o.view.held m p) (to_kernel MessageKind.CallOff from ∷ [])));
 })
 
 -- the messages that lines send on

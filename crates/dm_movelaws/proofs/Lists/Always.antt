@@ -3,7 +3,7 @@ use Rattle.dm_movelaws.proofs.Names.{◌≡◌, ℕ, ◌≤◌, Bool, true, fals
 use Rattle.dm_movelaws.proofs.Names.{ListsAlways, some_is, by_outcome, by_group, run_always, sym, inl, inr, Option, None, cases_Bool, false≢true, Spot, Queue, Held, StandsOutside, StandsRight, standing, is_kernels, stands_right}
 use Rattle.dm_movelaws.proofs.Names.{kernels_fresh, IsQueued, IsUserFor, IsFor, ListsForTheirs, user_kind, nat_tests, subst, ⊤, plain_kind, Label, bind-is, Stage, lines_of, spelled, after_line, after, at_record, Told, view_after, handled}
 use Rattle.dm_movelaws.proofs.Names.{receiver_of, IsNetLine, IsNet, is_put, hushed, line_view, set_all, killed_or, told_kept, by_parts, migrates, hears, by_migrates, IsHeardLine, Kept, kept_forward, hears_kept, goes_round, handles, Loose}
-use Rattle.dm_movelaws.proofs.Names.{loose_round, loose_handles, sets, seen}
+use Rattle.dm_movelaws.proofs.Names.{loose_round, loose_handles, sets, seen, calls_off, calls_off_kept}
 use Rattle.dm_rule.specs.Rule as rule
 use Rattle.dm_rule.specs.View as view
 use Rattle.dm_movelaws.proofs.At.RestQueues.{drops_always}
@@ -120,7 +120,8 @@ outcome_ok b pt d ps h is =
     λ ok b pt m id msg ps need e.
     loose_handles (AllOk ok) (AllOk ok) (ok_loose ok) (λ qs h. h) b pt m id msg ps (λ here. (need here.process, tt)) (tt, tt) (λ to here what apart. (tt, (tt, (tt, (tt, tt)))))
     (λ to moves at_. kept_forward (AllOk ok) (ok_kept ok) pt.addresses id (plain_kind msg.what) msg.sender to) e in
-    by_outcome (λ x. AllOk (ForProcess pt.view)) b pt d ps (search (round_ok, handles_ok, front_process, hears_ok, nets_ok, migrates_ok)) is
+    let calls_ok : (ok : MsgId → Type 0) (pt : Point) (m : ℕ) (p : Pid) → AllOk ok (calls_off pt m p (pt.view.known m p)) = λ ok pt m p. calls_off_kept (AllOk ok) (ok_kept ok) pt m p in
+    by_outcome (λ x. AllOk (ForProcess pt.view)) b pt d ps (search (round_ok, handles_ok, front_process, hears_ok, nets_ok, migrates_ok, calls_ok)) is
 
 abbrev NoneQueued : View → Type 0
 NoneQueued v = (m : ℕ) (p : Pid) → is_server p ≡ true → v.queue m p ≡ []

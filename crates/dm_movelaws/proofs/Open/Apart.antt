@@ -1,13 +1,12 @@
 -- Each line of a group leaves a process that moves alone, where it stands.
 use Rattle.dm_movelaws.proofs.Names.{◌≡◌, ◌≢◌, ℕ, ◌+◌, ◌==◌, Bool, true, false, List, [], ◌∷◌, ◌++◌, refl, ap, ◌∙◌, sym, subst, ⊤, Option, Some, false≢true, Pid, pid_of, MsgId, MessageKind, PlainMessage, Boot, Label, Why, first_number}
-use Rattle.dm_movelaws.proofs.Names.{OneKernel, bind, bind-is, Step, Line, Spares, migrates, Part, Spelled, spelled, Moves, knows, IsIn, Point, label_of, kernel_after, moved, after_line, after, group_of, Here}
-use Rattle.dm_movelaws.proofs.Names.{FirstApart, ApartOf, apart_first, turns_apart, net_apart, migrates_apart, arrives_net, resends_net, Rooted, nowhere_known, moves_away, is_fixed, IsAnothersIf, moves_known, by_parts, by_group, is_some}
-use Rattle.dm_movelaws.proofs.Names.{IsValid, start, replay, ended_stays, Phase, is_between, is_restart, kind_comes, first_point, labels, moving_stays_always, is_server, LeadsBy, after_replay, Run, run_always, mark_while, IsSpared}
-use Rattle.dm_movelaws.proofs.Names.{OpenSpares, apart_is, destination_knows, server_leaves, why_ended-is, kind_leaves, nat_tests, arith}
+use Rattle.dm_movelaws.proofs.Names.{OneKernel, bind, bind-is, Step, Line, Spares, migrates, Part, Spelled, spelled, Moves, knows, IsIn, Point, label_of, kernel_after, moved, after_line, after, group_of, Here, FirstApart, ApartOf}
+use Rattle.dm_movelaws.proofs.Names.{apart_first, turns_apart, net_apart, migrates_apart, arrives_net, resends_net, Rooted, nowhere_known, moves_away, is_fixed, IsAnothersIf, moves_known, by_parts, by_group, is_some, IsValid, start, replay}
+use Rattle.dm_movelaws.proofs.Names.{ended_stays, Phase, is_between, is_restart, kind_comes, first_point, labels, moving_stays_always, is_server, LeadsBy, after_replay, Run, run_always, mark_while, IsSpared, OpenSpares, apart_is}
+use Rattle.dm_movelaws.proofs.Names.{destination_knows, server_leaves, why_ended-is, kind_leaves, nat_tests, arith, calls_off, calls_off_apart}
 use Rattle.dm_onekernel.specs.Kernel.{Ended}
 pub use Rattle.dm_rule.proofs.Apart.Groups.{kernel_same}
 pub use Rattle.dm_rulelaws.proofs.Goes.Own.{source_knows}
-use Rattle.dm_onekernel.specs.Step as kernel
 use Rattle.dm_rule.specs.Rule as rule
 use Rattle.dm_movelaws.proofs.Leading.{lines_are}
 use Rattle.dm_movelaws.proofs.After.{after-append, group_after}
@@ -92,6 +91,7 @@ outcome_apart b pt (Step.Turn m) y h child off = turns_apart y b pt m (pt.view.i
 outcome_apart b pt (Step.Tick m) y h child off = (tt, net_apart y (rule.resends pt.view m pt.kernel.machines) (resends_net pt.view m pt.kernel.machines))
 outcome_apart b pt (Step.Deliver a c k) y h child off = search (apart_first, net_apart, arrives_net)
 outcome_apart b pt (Step.Migrate p m) y h child off = apart_first pt.kernel y (migrates pt p) (migrates_apart y pt p)
+outcome_apart b pt (Step.CallOff p m) y h child off = apart_first pt.kernel y (calls_off pt m p (pt.view.known m p)) (calls_off_apart y pt m p)
 
 pub moving_off : (pt : Point) (y : Pid) (k : MessageKind) (s t : ℕ) (o : Option MsgId) → IsIn pt.view y (Moves k s t o) → (m : ℕ) (p : Pid) → pt.view.known m p ≡ Here → p ≢ y
 moving_off pt y k s t o phase m p here is = false≢true (sym (moves_away k s t m o (s == m) (t == m) refl refl) ∙ sym (ap (knows (Moves k s t o) m) (ap (pt.view.known m) (sym is) ∙ here)) ∙ phase.known m)

@@ -1,10 +1,11 @@
 -- The open mark among the lines of a run says in what phase a process is.
 use Rattle.dm_movelaws.proofs.Names.{◌≡◌, List, [], ◌∷◌, refl, ap, ◌∙◌, subst, Option, None, Some, Pid, Boot, Step, Line, Leads, Phase, Point, first_point, after, first_view, Phased, phased_start, phased_group, LeadsBy, Mark, marks}
-use Rattle.dm_movelaws.proofs.Names.{left_open, open_mark, mark_while, OpenMoves, nat_tests, arith}
+use Rattle.dm_movelaws.proofs.Names.{left_open, open_mark, mark_while, OpenMoves, nat_tests, arith, rooted}
 use Rattle.dm_movelaws.proofs.After.{after-append, group_after}
 use Rattle.dm_movelaws.proofs.Stages.Spares.{mark_in, open_after, open-append, marks-append}
 use Rattle.dm_movelaws.proofs.Stages.Always.{group_marked}
 pub use Rattle.dm_movelaws.proofs.Stages.Always.{not_due as none_due}
+use Rattle.dm_movelaws.proofs.Stages.Waits.{group_waits}
 
 -- the lines of a run lead where the run leads
 pub leads_of : (b : Boot) (es : List Step) (ls : List Line) (pt end : Point) → LeadsBy b pt es ls end → Leads b pt es end
@@ -35,7 +36,8 @@ run_open b [] ls pt end p (none, at) h =
 run_open b (d ∷ ds) ls pt end p (w, rest, fit, is, split, more) h =
     let k = phased_group b pt d w fit is h in
     let o = mark_in (h.phases.of p) in
-    let g = group_marked b pt d w is h p (h.phases.of p) (k.phases.of p) (h.phases.each p) (k.phases.each p) (none_due pt.view h.phases p) (none_due w.point.view k.phases p) in
+    let g = group_marked b pt d w is h p (h.phases.of p) (k.phases.of p) (h.phases.each p) (k.phases.each p) (none_due pt.view h.phases p) (none_due w.point.view k.phases p)
+    (group_waits b pt d w p (h.phases.of p) h.sane (rooted pt h.sane h.ground) (h.phases.each p) (none_due pt.view h.phases p) is) in
     let later = run_open b ds rest w.point end p more k in
     record {
       phased = later.phased;

@@ -1,13 +1,14 @@
 -- Each line between a process's step 1 and its step 8 or `stays` is another's, and leaves its plain value.
-use Rattle.dm_movelaws.proofs.Names.{◌≡◌, ℕ, true, false, List, [], ◌∷◌, ◌++◌, is_some, refl, ap, ◌∙◌, sym, subst, Option, None, Some, Pid, MsgId, MessageKind, Boot, IsValid, OneKernel, bind, bind-is, Step, Line, Spelled, Moves}
-use Rattle.dm_movelaws.proofs.Names.{IsIn, Point, label_of, kernel_after, moved, after_line, after, first_point, group_of, first_view, rooted, is_fixed, LeadsBy, Both, both_start, both_group, after_replay, Run, run_start, run_group}
-use Rattle.dm_movelaws.proofs.Names.{IsAnothersIf, OpenStays, Mark, marks, append_assoc, start, replay, labels, labels-append, replay-append, AllOpen, OpenKeeps, nat_tests, arith, Known, KnownIs, View, kind_leaves, by_group}
+use Rattle.dm_movelaws.proofs.Names.{◌≡◌, ℕ, true, false, List, [], ◌∷◌, ◌++◌, is_some, refl, ap, ◌∙◌, sym, subst, Option, None, Some, Pid, MsgId, MessageKind, Boot, IsValid, OneKernel, bind, bind-is, Step, Line, Spelled, Moves, IsIn}
+use Rattle.dm_movelaws.proofs.Names.{Point, label_of, kernel_after, moved, after_line, after, first_point, group_of, first_view, rooted, is_fixed, LeadsBy, Both, both_start, both_group, after_replay, Run, run_start, run_group, IsAnothersIf}
+use Rattle.dm_movelaws.proofs.Names.{OpenStays, Mark, marks, append_assoc, start, replay, labels, labels-append, replay-append, AllOpen, OpenKeeps, nat_tests, arith, Known, KnownIs, View, kind_leaves, by_group}
 use Rattle.dm_movelaws.proofs.After.{after-append, group_after}
 use Rattle.dm_movelaws.proofs.Open.Apart.{AllAlone, moving_off, moving_alone, kernel_same, alone_rest, anothers_if, source_knows, moving_lives}
 use Rattle.dm_movelaws.proofs.Open.Moves.{open_is, none_due}
 use Rattle.dm_movelaws.proofs.Stages.Always.{group_marked}
 use Rattle.dm_movelaws.proofs.Stages.Spares.{mark_in, open_after, open-append, marks-append}
 use Rattle.dm_movelaws.proofs.Open.Fine.{Fine, group_fine, fine_at, Shut, shut_at, none_open, parts_shut, outcome_shut}
+use Rattle.dm_movelaws.proofs.Stages.Waits.{group_waits}
 
 -- a line behind others, from some point on
 record At (pt : Point) (earlier : List Line) (l : Line) (p : Pid) : Type 0 where
@@ -92,7 +93,8 @@ by_lies b ds pt end d w rest earlier later l p h k e begun go (Later between are
     let a = h.run.based.phased in
     let c = k.run.based.phased in
     let o = mark_in (a.phases.of p) in
-    let g = group_marked b pt d w e a p (a.phases.of p) (c.phases.of p) (a.phases.each p) (c.phases.each p) (none_due pt.view a.phases p) (none_due w.point.view c.phases p) in
+    let g = group_marked b pt d w e a p (a.phases.of p) (c.phases.of p) (a.phases.each p) (c.phases.each p) (none_due pt.view a.phases p) (none_due w.point.view c.phases p)
+    (group_waits b pt d w p (a.phases.of p) a.sane (rooted pt a.sane a.ground) (a.phases.each p) (none_due pt.view a.phases p) e) in
     let same : open_after o (marks p earlier) ≡ open_after (mark_in (c.phases.of p)) (marks p between) =
     ap (λ (xs : List Line). open_after o (marks p xs)) are ∙ ap (open_after o) (marks-append p w.lines between) ∙ open-append o (marks p w.lines) (marks p between) ∙ ap (λ (x : Option Mark). open_after x (marks p between)) g.1 in
     let at = go between others (ap is_some (sym same) ∙ begun) in

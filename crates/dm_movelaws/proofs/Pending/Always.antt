@@ -1,16 +1,15 @@
 -- Each step of a process or of its kernel keeps one message under each pending request's number.
 use Rattle.dm_movelaws.proofs.Names.{◌≡◌, ◌⊎◌, ℕ, ◌+◌, ◌<◌, ◌≤◌, ◌==◌, Bool, true, false, List, [], ◌∷◌, ◌++◌, length, is_some, refl, ap, ◌∙◌, subst, inl, inr, arith, if◌then◌else◌, Option, None, Some, cases_Bool, false≢true, nat_tests}
 use Rattle.dm_movelaws.proofs.Names.{Pid, PlainLink, MsgId, id_of, plain_kind, PlainMessage, PlainWhat, manager, Label, Manager, Pending, OneKernel, with_sent, without_message, replay, entry, reception, after_step, ServerSends}
-use Rattle.dm_movelaws.proofs.Names.{manager_takes_lem, Sound, bind-is, ascends, View, still_pending, WhatFits, KernelFits, based_always, fits_step, group_replay, is_pending, HasOne, IsOfPending, PendingHasOne}
-use Rattle.dm_movelaws.proofs.Names.{PendingAscends, requests, Outcome, answer_id, sym, PendingKind, IsPending, asked_by, answered_by, sort_of, take, drop, pid_eq, bind, PlainProcess, Alive, answer_to, lands-is, not_server}
-use Rattle.dm_movelaws.proofs.Names.{by_step, is_served, MoveNote, Follows, note-is, without_note, id_eq-is, sent_off, id_eq-same, with_note, out_off}
+use Rattle.dm_movelaws.proofs.Names.{manager_takes_lem, Sound, bind-is, ascends, View, still_pending, WhatFits, KernelFits, based_always, fits_step, group_replay, is_pending, HasOne, IsOfPending, PendingHasOne, PendingAscends, requests}
+use Rattle.dm_movelaws.proofs.Names.{Outcome, answer_id, sym, PendingKind, IsPending, asked_by, answered_by, sort_of, take, drop, pid_eq, bind, PlainProcess, Alive, answer_to, lands-is, not_server, by_step, is_served, MoveNote, Follows}
+use Rattle.dm_movelaws.proofs.Names.{note-is, without_note, id_eq-is, sent_off, id_eq-same, with_note, out_off, Switchboard}
 use Rattle.dm_rulelaws.specs.Fits.{is_for}
 use Rattle.dm_laws.proofs.Entered.{asks}
 use Rattle.dm_onekernel.specs.Manager as manage
 use Rattle.dm_onekernel.specs.Service as service
 use Rattle.dm_onekernel.specs.Step as kernel
 use Rattle.dm_onekernel.specs.Switchboard as board
-use Rattle.dm_onekernel.specs.Kernel.{Switchboard}
 use Rattle.dm_onekernel.specs.Pieces as pieces
 use Rattle.dm_onekernel.specs.Receiving as receiving
 use Rattle.dm_movelaws.proofs.Pending.Pairs.{is_request, Neither, neither, answer_of, Ones, off_both, out_ones, put_ones, from_other, took_pair, asked_pair, PairAt, is_answer, answered_ones, made_ones, Off, followed_pair, off_by}

@@ -4,12 +4,13 @@ use Rattle.dm_movelaws.proofs.Names.{LeadsBy, update_of, nat_tests, ◌⊎◌, �
 use Rattle.dm_movelaws.proofs.Names.{label_of, kernel_after, Part, Says, Again, Owns, spelled, times, sends_on, is_put, not_true, parts, touches, pair_same, fits_as, PairsFit, fits_put, fits_packet, Sane, Sayable, part_sane, Steps, said_by}
 use Rattle.dm_movelaws.proofs.Names.{OneKernel, PlainMessage, Addresses, Sender, forwards_on, Loose, loose_round, loose_handles, by_forwards, seen, Label, PlainWhat, to_kernel, moved, leaves_for, move_target, Target, length, NothingElse}
 use Rattle.dm_movelaws.proofs.Names.{if◌then◌else◌, manager, Known, Unknown, Here, Forward, Ended, process_told, both_lists, last_point, by_hears, behind_count, place_told, answers_move, Outcome, false≢true, migrates, not_kernels, IsNet}
-use Rattle.dm_movelaws.proofs.Names.{fits, under_way, kernels_by, begun, begun_sane, by_migrates, by_outcome, group_is, topic_by, deliver_off, migrate_off, tick_off, turn_off, option_map_or}
+use Rattle.dm_movelaws.proofs.Names.{fits, under_way, kernels_by, begun, begun_sane, by_migrates, by_outcome, group_is, topic_by, deliver_off, migrate_off, tick_off, turn_off, option_map_or, called_parts, by_calls_off}
 use Rattle.dm_rule.specs.Rule as rule
 use Rattle.dm_movelaws.proofs.After.{after-append, group_after}
 use Rattle.dm_movelaws.proofs.Promise.Spots.{Stands, Spares, line_stands, label_stands, put_this, put_stands, packet_stands, Fronts, about_stands, Front, sent_stands, held_this, fronts, net_stands, stands_off, lines_told}
 use Rattle.dm_movelaws.proofs.Promise.Spots.{told_stays}
 use Rattle.dm_movelaws.proofs.Leading.{Behind, whatever_put, part_leads, next_of, net_lead}
+use Rattle.dm_movelaws.proofs.Promise.Spots.{called_stands}
 
 -- a kernel's own message that was told of
 pub record Base (j : MsgId) (t : Told) (pt : Point) : Type 0 where
@@ -30,6 +31,7 @@ is_loose_line (Line.Old a b n) = true
 is_loose_line Line.Nothing = true
 is_loose_line (Line.Resent m n) = true
 is_loose_line (Line.NoChild p) = true
+is_loose_line (Line.NoCall p) = true
 is_loose_line (Line.Pinned p) = true
 is_loose_line (Line.Migration Stage.Asked p) = true
 is_loose_line (Line.Migration Stage.Left p) = true
@@ -185,7 +187,8 @@ hears_goes j t pt b o m i q ps are h k =
     let proto : (c : MessageKind) → Goes j pt (Says (Line.Proto i) ∷ to_kernel c home ∷ []) = λ c. first_row j t pt (Says (Line.Proto i)) (to_kernel c home ∷ []) h k.apart refl in
     let about : (l : Line) → Spares j pt.view l → Goes j pt (Says l ∷ []) = λ l spares. first_row j t pt (Says l) [] h spares refl in
     by_hears (Goes j pt) b o m i q ps (λ u is. record {
-      told = λ p x is_about alive. record {
+      stale = λ p is_about late. about (Line.Stale i) k.apart;
+      told = λ p x is_about alive due. record {
         accepted = λ ask. first_row j t pt (Says (Line.Migration Stage.Accepted p)) (to_kernel MessageKind.PullState home ∷ []) h k.front refl;
         lacks = λ slots blocks. first_row j t pt (Says (Line.Lacks p slots blocks)) (to_kernel MessageKind.Refuse home ∷ []) h k.front refl;
         stays = λ kind free. about (Line.Stays p) k.front;
@@ -209,6 +212,19 @@ hears_goes j t pt b o m i q ps are h k =
       stays_here = λ at_. about (Line.Here i) k.apart;
       frozen = λ to at_. first_row j t pt (Says (Line.Migration Stage.Frozen u.receiver)) (Says (Line.Migration Stage.Asked u.receiver) ∷ to_kernel MessageKind.Ask to ∷ []) h (fronts pt.view j pt.view.topic k.front) refl;
     })
+
+-- a migration is called off
+called_goes : (j : MsgId) (t : Told) (pt : Point) (p : Pid) (ids : List MsgId) (from : ℕ) → pt.view.held pt.view.acting p ≡ ids → Waits j t pt → Goes j pt (called_parts p ids from)
+called_goes j t pt p ids from are h w is =
+    let l = Line.Called p (length ids) in
+    let last = to_kernel MessageKind.CallOff from ∷ [] in
+    let n = next_of pt (Says l) (sends_on from ids ++ last) w is in
+    let s = said_by pt n.next l n.steps in
+    let on : Stands n.next.view j ⊎ (1 ≤ times j ids) = elim (called_stands pt.view p (length ids) j h.stands) [
+      | inl there ↦ inl (subst (λ (x : Point). Stands x.view j) s.is there)
+      | inr goes ↦ inr (subst (λ (xs : List MsgId). 1 ≤ times j xs) are goes)
+    ] in
+    inl (subst (λ (x : Point). Stands x.view j) n.point (sends_stand ids j t from last n.next n.rest refl (base_says j t pt n.next l refl refl h.base n.steps) on n.more))
 
 -- the update itself
 updates_this : (j : MsgId) (pt : Point) (n : ℕ) → Goes j pt (Says (Line.Updated j n) ∷ [])
@@ -273,6 +289,9 @@ outcome_goes b o d ps j p q place h = by_outcome (λ e. Goes j (begun o e)) b o 
   ticks = λ m xs net w is. inl (net_goes xs j (begun o (Step.Tick m)) w net (h (Step.Tick m)).stands is);
   delivers = λ a c k xs net w is. inl (net_goes xs j (begun o (Step.Deliver a c k)) w net (h (Step.Deliver a c k)).stands is);
   asks = λ r m. loose_row j (update_of p q place) (begun o (Step.Migrate r m)) (migrates o r) (h (Step.Migrate r m)) (by_migrates (λ (ps : List Part). all_loose ps ≡ true) o r refl refl (λ n off is. refl));
+  calls = λ r m. (let begins = begun o (Step.CallOff r m) in
+      by_calls_off (Goes j begins) o m r (loose_row j (update_of p q place) begins (Says (Line.NoCall r) ∷ []) (h (Step.CallOff r m)) refl)
+      (λ from is come. called_goes j (update_of p q place) begins r (o.view.held m r) from refl (h (Step.CallOff r m))));
 })
 
 -- a head leaves the streams as they are

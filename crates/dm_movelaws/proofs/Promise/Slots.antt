@@ -1,13 +1,12 @@
 -- Which holders a label gives an address to doesn't rest on the addresses that there are.
 use Rattle.dm_movelaws.proofs.Names.{◌≡◌, ℕ, ◌+◌, Bool, List, [], ◌∷◌, ◌++◌, map, refl, ap, ◌∙◌, sym, ◌||◌, Option, Pid, Place, PlainLink, first_empty, MsgId, PlainMessage, PlainWhat, Label, PlainProcess, OneKernel, View, Addresses, Holder}
-use Rattle.dm_movelaws.proofs.Names.{Slot, Enclosed, Gets, gives, holder_eq, encloses, enclosed_from, sending_gets, receives_links, receiving_gets, slot_after, child_gets, manager_sends, gives_to, manager_gets, child_links}
-use Rattle.dm_movelaws.proofs.Names.{nat_tests, arith, None, Some, ◌==◌, ◌&&◌, true, false, if◌then◌else◌, pid_eq-same, given, leads_to, unmoved, ascends, eq_self, AtHome, HomesAre, homes_are, at_home, SaidOn, label_on, AskedBy, Receiver}
+use Rattle.dm_movelaws.proofs.Names.{Slot, Enclosed, Gets, gives, holder_eq, encloses, enclosed_from, sending_gets, receives_links, receiving_gets, slot_after, child_gets, manager_sends, gives_to, manager_gets, child_links, nat_tests}
+use Rattle.dm_movelaws.proofs.Names.{arith, None, Some, ◌==◌, ◌&&◌, true, false, if◌then◌else◌, pid_eq-same, given, leads_to, unmoved, ascends, eq_self, AtHome, HomesAre, homes_are, at_home, SaidOn, label_on, AskedBy, Receiver, Sender}
+use Rattle.dm_movelaws.proofs.Names.{acting_place, answer_id, gets, option_map_or}
 use Rattle.dm_rule.proofs.Homes.Serves.{Named}
 use Rattle.dm_onekernel.specs.Manager as manage
 use Rattle.dm_onekernel.specs.Step as kernel
 use Rattle.dm_rule.specs.Addresses as addresses
-use Rattle.dm_rule.specs.Given as request
-use Rattle.dm_movelaws.proofs.Names.{Sender, acting_place, answer_id, gets, option_map_or}
 
 abbrev pub holders : List Gets → List Holder
 holders [] = []

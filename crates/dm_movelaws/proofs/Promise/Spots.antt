@@ -4,13 +4,14 @@ use Rattle.dm_movelaws.proofs.Names.{handled_first, released, receiver_of, Spot,
 use Rattle.dm_movelaws.proofs.Names.{home_off, proto_off, accepted_off, state_off, memory_off, lacks_off, left_off, restarted_off, handled_spots, queued_spots, held_spots, forwarded_spots, ◌⊎◌, Bool, true, not, filter, if◌then◌else◌}
 use Rattle.dm_movelaws.proofs.Names.{Option, None, Some, false≢true, MessageKind, OneKernel, id_eq-is, id_eq-same, Step, Load, Told, NothingElse, is_kernels, taken_id, held_for, Point, out_of, not_kernels, gone_in, at_record_at, not_true}
 use Rattle.dm_movelaws.proofs.Names.{one_of, PairsFit, served_keeps, serving_off, created_off, IsNetLine, early_off, acked_off, emptied, both_lists, both_times, dropped_spots, put_spots, taken_calm, put_spot, put_there, Sane, packet_off}
-use Rattle.dm_movelaws.proofs.Names.{received_spots, ended_off, nat_tests, About, Target, aim, about_off, after_step, Sound, bind-is, Addresses, Holder, Slot, Gets, gives, all_follow, first_gives, leads_to, updated, addresses_by}
-use Rattle.dm_movelaws.proofs.Names.{ascends, label_of, kernel_after, after_line, after, moved, hushed, put_at, put_told_off, gives_to, fills, Unfilled, first_kept, ◌≢◌, length, slice_get, Boot, IsValid, Leads, first_point, Trails}
-use Rattle.dm_movelaws.proofs.Names.{AddressesOn, Unknown, is_moving, IsThere}
+use Rattle.dm_movelaws.proofs.Names.{received_spots, ended_off, nat_tests, About, Target, aim, about_off, after_step, Sound, bind-is, Addresses, Holder, Slot, Gets, gives, all_follow, first_gives, leads_to, updated, addresses_by, ascends}
+use Rattle.dm_movelaws.proofs.Names.{label_of, kernel_after, after_line, after, moved, hushed, put_at, put_told_off, gives_to, fills, Unfilled, first_kept, ◌≢◌, length, slice_get, Boot, IsValid, Leads, first_point, Trails, AddressesOn}
+use Rattle.dm_movelaws.proofs.Names.{Unknown, is_moving, IsThere, unheld, called_off}
 use Rattle.dm_rule.proofs.Moves.Sent.{sent_off}
 use Rattle.dm_movelaws.proofs.Promise.Slots.{not_given, step_pending, led_before}
 use Rattle.dm_onekernel.specs.Step as kernel
 use Rattle.dm_rule.specs.View as view
+use Rattle.dm_laws.proofs.Equal as equal
 
 pub record Stands (v : View) (j : MsgId) : Type 0 where
   pub spot : Spot
@@ -63,6 +64,7 @@ Spares j v (Line.Forwarded i m) = id_eq i j ≡ false
 Spares j v (Line.Updated i n) = id_eq i j ≡ false
 Spares j v (Line.Here i) = id_eq i j ≡ false
 Spares j v (Line.NoMove i) = id_eq i j ≡ false
+Spares j v (Line.Stale i) = id_eq i j ≡ false
 Spares j v (Line.Proto i) = id_eq i j ≡ false
 Spares j v (Line.Migration Stage.Frozen p) = Fronts v j v.topic
 Spares j v (Line.Migration s p) = Front v j
@@ -71,6 +73,7 @@ Spares j v (Line.Stays p) = Front v j
 Spares j v (Line.Early a b n) = ⊥
 Spares j v (Line.Acked a b n) = ⊥
 Spares j v (Line.SentOn p n) = ⊥
+Spares j v (Line.Called p n) = ⊥
 Spares j v (Line.Head s) = ⊥
 Spares j v (Line.Put a b i k q) = ⊥
 Spares j v (Line.Packet a b k l) = ⊥
@@ -125,6 +128,7 @@ line_stands v j (Line.Old a b n) e step_ h = h
 line_stands v j Line.Nothing e step_ h = h
 line_stands v j (Line.Resent m n) e step_ h = h
 line_stands v j (Line.NoChild p) e step_ h = h
+line_stands v j (Line.NoCall p) e step_ h = h
 line_stands v j (Line.Pinned p) e step_ h = h
 line_stands v j (Line.Migration Stage.Asked p) e step_ h = h
 line_stands v j (Line.Migration Stage.Left p) e step_ h = stands_off v (view_after v (Line.Migration Stage.Left p)) j (λ z. left_off v p z) h
@@ -134,6 +138,7 @@ line_stands v j (Line.Forwarded i m) e step_ h = stands_as (handled v i) (view_a
 line_stands v j (Line.Updated i n) e step_ h = stands_as v (handled v i) j (λ z. handled_spots v i j e z) h
 line_stands v j (Line.Here i) e step_ h = stands_as v (handled v i) j (λ z. handled_spots v i j e z) h
 line_stands v j (Line.NoMove i) e step_ h = stands_as v (handled v i) j (λ z. handled_spots v i j e z) h
+line_stands v j (Line.Stale i) e step_ h = stands_as v (handled v i) j (λ z. handled_spots v i j e z) h
 line_stands v j (Line.Proto i) e step_ h = stands_off (handled v i) (view_after v (Line.Proto i)) j (λ z. proto_off (handled v i) (v.told i) z) (stands_as v (handled v i) j (λ z. handled_spots v i j e z) h)
 line_stands v j (Line.Migration Stage.Frozen p) e step_ h = sets_stands v j p v.topic e h
 line_stands v j (Line.Migration Stage.Accepted p) e step_ h = stands_off (handled_first v) (view_after v (Line.Migration Stage.Accepted p)) j (λ z. accepted_off v p z) (first_stands v j e h)
@@ -202,6 +207,22 @@ sent_stands v p n j f h =
       | inl there ↦ inl (stands_off (emptied (handled_first v) p) (view_after v (Line.SentOn p n)) j (sent_off v p n) there)
       | inr on ↦ inr on
     ]
+
+-- what was held is sent back
+unheld_at : (v : View) (p : Pid) (j : MsgId) (z : Spot) → 1 ≤ standing v j z → (1 ≤ standing (unheld v p) j z) ⊎ (1 ≤ times j (v.held v.acting p))
+unheld_at v p j (Queue m q) h = inl h
+unheld_at v p j (Inbox m) h = inl h
+unheld_at v p j (Untaken a c) h = inl h
+unheld_at v p j (Held m q) h = elim (cases_Bool ((v.acting == m) && pid_eq p q)) [
+  | inl same ↦ inr (let both = parts (v.acting == m) (pid_eq p q) same in subst (λ (r : Pid). 1 ≤ times j (v.held v.acting r)) (sym (equal.pid_eq-is p q both.1)) (subst (λ (n : ℕ). 1 ≤ times j (v.held n q)) (sym (eq_is v.acting m both.0)) h))
+  | inr off ↦ inl (subst (λ (xs : List MsgId). 1 ≤ times j xs) (sym (ap (λ (c : Bool). if c then [] else v.held m q) off)) h)
+]
+
+pub called_stands : (v : View) (p : Pid) (n : ℕ) (j : MsgId) → Stands v j → Stands (view_after v (Line.Called p n)) j ⊎ (1 ≤ times j (v.held v.acting p))
+called_stands v p n j h = elim (unheld_at v p j h.spot h.least) [
+  | inl there ↦ inl (stands_off (unheld v p) (view_after v (Line.Called p n)) j (called_off v p n) (record { spot = h.spot; least = there }))
+  | inr goes ↦ inr goes
+]
 
 -- the message itself is held
 held_by : (v : View) (i : MsgId) (o : Option Pid) (p : Pid) → o ≡ Some p → Stands (held_for v i o) i

@@ -2,9 +2,10 @@
 use Rattle.dm_movelaws.proofs.Names.{◌≡◌, ◌≢◌, ℕ, ◌<◌, ◌≤◌, true, false, ◌∷◌, is_some, refl, ap, ◌∙◌, sym, subst, inl, inr, arith, Option, Some, cases_Bool, nat_tests, Pid, MsgId, Line, PlainMessage, PlainWhat, Boot, manager, Life}
 use Rattle.dm_movelaws.proofs.Names.{OneKernel, Step, IsStep, Spelled, Point, group_of, Inbox, times, View, Told, Unknown, Here, after_head, is_kernels, actor, group_is, outcome_sayable, line_within, is_server, WhatFits, begun, begun_sane}
 use Rattle.dm_movelaws.proofs.Names.{named_real, times_self, Run, IsReal, Kernel, Server, Made, IsAboutReal, RealAlways, or_cases, from_kernel, run_always, ◌⊎◌, List, None, false≢true, MessageKind, plain_kind, Stage, Label, id_eq-is}
-use Rattle.dm_movelaws.proofs.Names.{LifeGrows, after_step, Sound, Receiver, Part, Says, Routes, Again, Owns, Transmits, spelled, label_of, kernel_after, moved, About, view_after, handled, receiver_of, own_id, not_kernels}
-use Rattle.dm_movelaws.proofs.Names.{grown_none, put_at, PacketsKeep, put_told_off, Sane, AllSayable, label_topic, Within, has_bytes, KernelFits, step_constant, fits_step, queued_topic, held_topic, taken_topic, told_kept, [], ◌++◌, ⊤}
-use Rattle.dm_movelaws.proofs.Names.{pid_eq-same, alive-is, to_kernel, sends_on, IsNetLine, by_migrates, by_outcome, by_forwards, by_hears, topic_by, sets, InOrder, Loose, loose_handles, HeadIn, counts, first_point, is_put, NothingElse}
+use Rattle.dm_movelaws.proofs.Names.{LifeGrows, after_step, Sound, Receiver, Part, Says, Routes, Again, Owns, Transmits, spelled, label_of, kernel_after, moved, About, view_after, handled, receiver_of, own_id, not_kernels, grown_none}
+use Rattle.dm_movelaws.proofs.Names.{put_at, PacketsKeep, put_told_off, Sane, AllSayable, label_topic, Within, has_bytes, KernelFits, step_constant, fits_step, queued_topic, held_topic, taken_topic, told_kept, [], ◌++◌, ⊤, pid_eq-same}
+use Rattle.dm_movelaws.proofs.Names.{alive-is, to_kernel, sends_on, IsNetLine, by_migrates, by_outcome, by_forwards, by_hears, topic_by, sets, InOrder, Loose, loose_handles, HeadIn, counts, first_point, is_put, NothingElse, move_target}
+use Rattle.dm_movelaws.proofs.Names.{option_map_or, by_calls_off, Incoming}
 use Rattle.dm_rulelaws.proofs.Found.Core as core
 use Rattle.dm_rule.specs.View as view
 use Rattle.dm_rule.specs.Rule as rule
@@ -14,12 +15,12 @@ use Rattle.dm_movelaws.proofs.Leading.{Behind, sane_lead, All, Saying, net_says}
 use Rattle.dm_movelaws.proofs.Stages.Rows.{MildLine, AllMild}
 use Rattle.dm_movelaws.proofs.Stages.Steps.{round_mild}
 use Rattle.dm_movelaws.proofs.NumbersAlways.{bag_counted, told_counted}
-use Rattle.dm_movelaws.proofs.Names.{move_target, option_map_or}
 
 -- a row a line, seen from where its group begins
 abbrev pub LineReal : Point → Line → Type 0
 LineReal o (Line.Migration s p) = IsReal o.kernel p
 LineReal o (Line.SentOn p n) = IsReal o.kernel p
+LineReal o (Line.Called p n) = IsReal o.kernel p
 LineReal o (Line.Lacks p a b) = IsReal o.kernel p
 LineReal o (Line.Forwarded i m) = is_some (o.view.told i) ≡ true
 LineReal o (Line.Head d) = ⊥
@@ -41,6 +42,7 @@ mild_line o front (Line.Migration Stage.Asked q) told h = absurd (false≢true (
 mild_line o front (Line.Migration Stage.Left q) told h = absurd (false≢true (sym (h q) ∙ pid_eq-same q))
 mild_line o front (Line.Migration s q) told h = absurd (h q)
 mild_line o front (Line.SentOn q n) told h = absurd (h q)
+mild_line o front (Line.Called q n) told h = absurd (h q)
 mild_line o front (Line.Lacks q a b) told h = absurd (h q)
 mild_line o front (Line.Forwarded i m) told h = told i (h manager)
 mild_line o front (Line.Head d) told h = absurd (h manager)
@@ -67,13 +69,14 @@ sends_real : (o : Point) (to : ℕ) (ids : List MsgId) (ps : List Part) → AllR
 sends_real o to [] ps h = h
 sends_real o to (i ∷ is) ps h = (tt, sends_real o to is ps h)
 
--- whom a machine has is somebody
-abbrev pub HereReal : Point → Type 0
-HereReal o = (m : ℕ) (q : Pid) → o.view.known m q ≡ Here → IsReal o.kernel q
+-- whom a machine knows is somebody
+abbrev pub KnownReal : Point → Type 0
+KnownReal o = (m : ℕ) (q : Pid) → o.view.known m q ≢ Unknown → IsReal o.kernel q
 
-hears_real : (b : Boot) (o : Point) (m : ℕ) (i : MsgId) (q : Option Told) (ps : List Part) → FrontTold o (Some i) → HereReal o → rule.hears b o m i q ≡ Some ps → AllReal o ps
+hears_real : (b : Boot) (o : Point) (m : ℕ) (i : MsgId) (q : Option Told) (ps : List Part) → FrontTold o (Some i) → KnownReal o → rule.hears b o m i q ≡ Some ps → AllReal o ps
 hears_real b o m i q ps told here = by_hears (AllReal o) b o m i q ps (λ t is. record {
-  told = λ p x about alive. (
+  stale = λ p about late. (tt, tt);
+  told = λ p x about alive due. (
       let h : IsReal o.kernel p = Made (ap is_some (alive-is (o.kernel.processes p) x alive)) in
       record {
         accepted = λ ask. (h, (tt, tt));
@@ -98,14 +101,14 @@ hears_real b o m i q ps told here = by_hears (AllReal o) b o m i q ps (λ t is. 
   coming = λ from at_. (tt, tt);
   forwarded = λ to moves at_. by_forwards (AllReal o) o.addresses i t.kind manager to (told i refl, (tt, tt)) (told i refl, (tt, (tt, tt)));
   stays_here = λ at_. (tt, tt);
-  frozen = λ to at_. (let h = here m t.receiver at_.known in (h, (h, (tt, tt))));
+  frozen = λ to at_. (let h = here m t.receiver (λ e. let f : Here ≡ Unknown = sym at_.known ∙ e in cc) in (h, (h, (tt, tt))));
 })
 
-handles_real : (b : Boot) (o : Point) (m : ℕ) (i : MsgId) (msg : PlainMessage) (ps : List Part) → FrontTold o (Some i) → HereReal o → rule.handles b o m i msg ≡ Some ps → AllReal o ps
+handles_real : (b : Boot) (o : Point) (m : ℕ) (i : MsgId) (msg : PlainMessage) (ps : List Part) → FrontTold o (Some i) → KnownReal o → rule.handles b o m i msg ≡ Some ps → AllReal o ps
 handles_real b o m i msg ps told here e =
     -- what a turn says of a message of the bag
     let real_loose : Loose (AllReal o) = record { none = tt; label = λ l ps h. (tt, h); routes = λ i ps h. (tt, h) } in
-    loose_handles (AllReal o) (AllReal o) real_loose (λ qs h. h) b o m i msg ps (λ at_. (tt, tt)) (tt, tt) (λ to at_ what apart. (let h = here m msg.to at_.known in (tt, (h, (h, (tt, tt))))))
+    loose_handles (AllReal o) (AllReal o) real_loose (λ qs h. h) b o m i msg ps (λ at_. (tt, tt)) (tt, tt) (λ to at_ what apart. (let h = here m msg.to (λ e. let f : Here ≡ Unknown = sym at_.known ∙ e in cc) in (tt, (h, (h, (tt, tt))))))
     (λ to moves at_. by_forwards (AllReal o) o.addresses i (plain_kind msg.what) msg.sender to (told i refl, (tt, tt)) (told i refl, (tt, (tt, tt)))) e
 
 -- what stands in an inbox was told of
@@ -115,7 +118,7 @@ InboxTold o = (m : ℕ) (i : MsgId) (is : List MsgId) → o.view.inbox m ≡ i �
 front_is : (o : Point) (m : ℕ) (i : MsgId) (is : List MsgId) → InboxTold o → o.view.inbox m ≡ i ∷ is → FrontTold o (Some i)
 front_is o m i is told at j e = let f : i ≡ j = cc in subst (λ (x : MsgId). is_some (o.view.told x) ≡ true) f (told m i is at)
 
-pub outcome_real : (b : Boot) (o : Point) (d : Step) (ps : List Part) → InboxTold o → HereReal o → rule.outcome b o d ≡ Some ps → AllReal o ps
+pub outcome_real : (b : Boot) (o : Point) (d : Step) (ps : List Part) → InboxTold o → KnownReal o → rule.outcome b o d ≡ Some ps → AllReal o ps
 outcome_real b o d ps told here = by_outcome (λ x. AllReal o) b o d ps (record {
   round = λ m xs box e. mild_real o None xs (λ i k. cc) (λ p. round_mild p None b o m (rule.first_runnable o.kernel (o.view.queue m) (o.view.ring m)) xs e);
   handles = λ m i is msg xs box there e. handles_real b o m i msg xs (front_is o m i is told box) here e;
@@ -123,6 +126,8 @@ outcome_real b o d ps told here = by_outcome (λ x. AllReal o) b o d ps (record 
   ticks = λ m. net_says (LineReal o) (net_line o);
   delivers = λ a c k. net_says (LineReal o) (net_line o);
   asks = λ p m. by_migrates (AllReal o) o p (tt, tt) (tt, tt) (λ n off is. (tt, tt));
+  calls = λ p m. by_calls_off (AllReal o) o m p (tt, tt)
+      (λ from is come. (here m p (λ e. let f : Incoming from ≡ Unknown = sym is ∙ e in cc), sends_real o from (o.view.held m p) (to_kernel MessageKind.CallOff from ∷ []) (tt, tt)));
 })
 
 -- who was made stays so, and there are as many machines
@@ -167,6 +172,7 @@ line_topic o pt (Line.Migration Stage.StateTaken p) known need h = real_rises o.
 line_topic o pt (Line.Migration Stage.MemoryTaken p) known need h = real_rises o.kernel pt.kernel p h.rises need
 line_topic o pt (Line.Migration Stage.Left p) known need h = real_rises o.kernel pt.kernel p h.rises need
 line_topic o pt (Line.SentOn p n) known need h = real_rises o.kernel pt.kernel p h.rises need
+line_topic o pt (Line.Called p n) known need h = real_rises o.kernel pt.kernel p h.rises need
 line_topic o pt (Line.Lacks p a b) known need h = real_rises o.kernel pt.kernel p h.rises need
 line_topic o pt (Line.Forwarded i m) known need h = search (arith, pt.kernel, real_rises, o.kernel, h.rises, h.topic)
 line_topic o pt (Line.Proto i) known need h =
@@ -313,7 +319,7 @@ real_group b pt d w fit e run h =
     let parts_reals : (o : Point) (ps : List Part) (pt : Point) (w : Spelled) → Receivers o → AllReal o ps → AllSayable ps → Sane pt → spelled pt ps ≡ Some w → Reals o pt → Reals o w.point = λ o qs q w known need ok sane is h.
     let packet_reals : (o : Point) → PacketsKeep (Reals o) = λ o pt a b k l h. search in
     sane_lead (Reals o) (packet_reals o) (PartReal o) (λ pt p so say fine. reals_behind o pt p known so fine) qs q w need ok sane is h in
-    let here_real : (b : Boot) (pt : Point) → Run b pt → HereReal pt = λ b pt run m q here. known_real b pt m q run (λ e. let f : Here ≡ Unknown = sym here ∙ e in cc) in
+    let here_real : (b : Boot) (pt : Point) → Run b pt → KnownReal pt = λ b pt run m q known. known_real b pt m q run known in
     let g = group_is b pt d w e in
     let inbox_told : (b : Boot) (pt : Point) → Run b pt → InboxTold pt =
     λ b pt run m i is at. run.found.told i (Inbox m) (let a : times i (pt.view.inbox m) ≡ times i (i ∷ is) = ap (times i) at in let c = times_self i is in subst (λ (n : ℕ). 1 ≤ n) (sym a) c) in

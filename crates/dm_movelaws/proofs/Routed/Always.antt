@@ -5,7 +5,8 @@ use Rattle.dm_movelaws.proofs.Names.{view_after, hushed, without_counts, one_of,
 use Rattle.dm_movelaws.proofs.Names.{plain_kind, PlainMessage, Label, Sound, Part, Spelled, label_of, kernel_after, moved, group_of, Inbox, Queue, BagStep, out_of, bag_sends, bag_ran, bag_call, bag_wait, bag_out, bag_end, bag_refuse}
 use Rattle.dm_movelaws.proofs.Names.{bag_receive, bag_dropped, bag_gone, bag_no_space, bag_created, bag_served, bag_took, group_is, stands_right, is_put, hidden, Sane, outcome_sayable, Rides, begun, begun_sane, Run, Sayable, ⊤, IsNetLine}
 use Rattle.dm_movelaws.proofs.Names.{first_is, times_self, by_migrates, IsHeardLine, hears_kept, by_round, by_handles, by_forwards, by_outcome, bag_asked, bag_answered, answer_id, ◌+◌, Bool, if◌then◌else◌, take, drop, PlainWhat, Why, Life}
-use Rattle.dm_movelaws.proofs.Names.{with_process, with_sent, answer_to, without_message, pid_eq-is, id_eq-same, Sent, sent_at, ServerSends, board_takes_lem, manager_takes_lem, lands-is, Sent-from, name_is, by_step, with_note}
+use Rattle.dm_movelaws.proofs.Names.{with_process, with_sent, answer_to, without_message, pid_eq-is, id_eq-same, Sent, sent_at, ServerSends, board_takes_lem, manager_takes_lem, lands-is, Sent-from, name_is, by_step, with_note, Kept}
+use Rattle.dm_movelaws.proofs.Names.{calls_off_kept}
 use Rattle.dm_onekernel.specs.Kernel.{Ended}
 use Rattle.dm_onekernel.specs.Step as kernel
 use Rattle.dm_rule.specs.Rule as rule
@@ -195,8 +196,11 @@ outs_line : (P : MsgId → Type 0) (l : Line) → IsHeardLine l → LineOuts P l
 outs_line P (Line.Label l) h = absurd h
 outs_line P _ h = tt
 
+outs_kept : (P : MsgId → Type 0) → Kept (AllOuts P)
+outs_kept P = record { none = tt; says = λ l ps h k. (outs_line P l h, k); again = λ i to ps k. (tt, k); owns = λ k q to ps h. (tt, h); answers = λ i r. (nothing P, (tt, tt)) }
+
 hears_outs : (P : MsgId → Type 0) (b : Boot) (o : Point) (m : ℕ) (id : MsgId) (q : Option Told) (ps : List Part) → rule.hears b o m id q ≡ Some ps → AllOuts P ps
-hears_outs P b o m id q ps = hears_kept (AllOuts P) (record { none = tt; says = λ l ps h k. (outs_line P l h, k); again = λ i to ps k. (tt, k); owns = λ k q to ps h. (tt, h); answers = λ i r. (nothing P, (tt, tt)) }) b o m id q ps
+hears_outs P b o m id q ps = hears_kept (AllOuts P) (outs_kept P) b o m id q ps
 
 -- deliveries, repeats and requests to move have none
 net_line : (P : MsgId → Type 0) (l : Line) → IsNetLine l → LineOuts P l
@@ -211,6 +215,7 @@ outcome_outs P b o d ps h q = by_outcome (λ x. AllOuts P) b o d ps (record {
   ticks = λ m. net_says (LineOuts P) (net_line P);
   delivers = λ a c k. net_says (LineOuts P) (net_line P);
   asks = λ p m. by_migrates (AllOuts P) o p (tt, tt) (tt, tt) (λ n off is. (tt, tt));
+  calls = λ p m. calls_off_kept (AllOuts P) (outs_kept P) o m p;
 })
 
 -- a message that was told of

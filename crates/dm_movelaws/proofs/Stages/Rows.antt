@@ -3,11 +3,13 @@ use Rattle.dm_movelaws.proofs.Names.{◌≡◌, ℕ, ◌≤◌, Bool, true, fals
 use Rattle.dm_movelaws.proofs.Names.{Line, View, Told, Of, own_id, view_after, handled, is_between, Point, label_of, kernel_after, moved, Part, Says, Owns, Spelled, behind, spelled, Spot, Inbox, times, ids_at, id_eq-is, id_eq-same}
 use Rattle.dm_movelaws.proofs.Names.{pid_eq-is, pid_eq-same, is_put, not_true, line_next, one_of, touches, onward, handled_spots, packet_calm, put_at, put_there, put_spot, PairsFit, puts_next, said, Sane, sane_line, Mark, with_mark}
 use Rattle.dm_movelaws.proofs.Names.{in_order, first_none, nat_tests, seen_none, ⊤, Stage, Label, OneKernel, at_record, Known, served_told, Transmits, standing, pid_eq-swap, out_of, IsNet, hushed, gone_in, Plain, record_off, Tame}
-use Rattle.dm_movelaws.proofs.Names.{line_calm, plain_in_bag, created_off, served_keeps, other_than, fits_put, fits_packet, Sayable, part_sane, by_parts, Steps, PacketsKeep}
+use Rattle.dm_movelaws.proofs.Names.{line_calm, plain_in_bag, created_off, served_keeps, other_than, fits_put, fits_packet, Sayable, part_sane, by_parts, Steps, PacketsKeep, pid_of, sort_of, sender_in, receiver_in, Incoming, Load, Phase}
+use Rattle.dm_movelaws.proofs.Names.{IsIn, ◌||◌, pulls_piece, brings_piece, IsLeft, piece_ways, pull_ways}
 pub use Rattle.dm_rule.proofs.Phases.Put.{of_same}
 use Rattle.dm_onekernel.specs.Step as kernel
 use Rattle.dm_movelaws.proofs.Stages.Spares.{is_settled, mark_of, Spares, TokenOf, HasMark, token_mark, Marked, none_marked, some_marked, spares_same, spares_calm, spares_trans, spares_put, spares_about, open_after, mark_other, marks_of}
 use Rattle.dm_movelaws.proofs.Leading.{line_fits, whatever_put, part_leads}
+use Rattle.dm_movelaws.proofs.Stages.Spares.{IsAwaited, SparesBut, but_trans, left_marked}
 
 -- what is said of the message at the front, and steps of another process that handle no message
 abbrev pub MildLine : Pid → Option MsgId → Line → Type 0
@@ -145,11 +147,11 @@ plain_others v i t q told plain p j u off other b a = not_true (id_eq i j) (λ e
     false≢true (sym plain ∙ ap (λ (x : Told). is_between x.kind) g ∙ b))
 
 -- it is the process's token
-pub front_token : (v : View) (i : MsgId) (is : List MsgId) (t : Told) (q : Pid) → v.inbox v.acting ≡ i ∷ is → v.told i ≡ Some t → is_between t.kind ≡ true → t.about ≡ Of q → TokenOf v q t.kind
-front_token v i is t q front told between about =
+pub front_token : (v : View) (i : MsgId) (is : List MsgId) (t : Told) (q : Pid) → v.inbox v.acting ≡ i ∷ is → v.told i ≡ Some t → is_between t.kind ≡ true → t.about ≡ Of q → IsAwaited v q i t → TokenOf v q t.kind
+front_token v i is t q front told between about awaited =
     let a : times i (v.inbox v.acting) ≡ times i (i ∷ is) = ap (times i) front in
     let b : one_of i i ≡ 1 = ap (λ (c : Bool). if c then 1 else 0) (id_eq-same i) in
-    record { id = i; what = t; told = told; kind = refl; between = between; about = about; spot = Inbox v.acting; stands = (let one : 1 ≤ times i (v.inbox v.acting) = omega (arith, a, b) in one) }
+    record { id = i; what = t; told = told; kind = refl; between = between; about = about; spot = Inbox v.acting; stands = (let one : 1 ≤ times i (v.inbox v.acting) = omega (arith, a, b) in one); awaited = awaited }
 
 -- a line by which it goes, and nothing else
 pub first_spares : (pt : Point) (i : MsgId) (is : List MsgId) (q p : Pid) (l : Line) → Handling pt i is q → pid_eq q p ≡ false → is_put l ≡ false → ((z : Spot) → ids_at (view_after pt.view l) z ≡ ids_at (handled pt.view i) z)
@@ -160,8 +162,38 @@ first_spares pt i is q p l h apart quiet off known =
     (λ j t z told b a st. same_spot v (view_after v l) j z (ap (times j) (off z) ∙ handled_spots v i j (h.others p j t apart told b a) z) st)
     (λ m e. ap is_settled (known m) ∙ e)
 
-pub owns_token : (pt : Point) (k : MessageKind) (q r : Pid) (b : ℕ) (w : Spelled) → Sane pt → PairsFit pt.view → is_between k ≡ true → pt.view.topic ≡ Of q → spelled pt (Owns k r b ∷ []) ≡ Some w → TokenOf w.point.view q k
-owns_token pt k q r b w sane fits between topic e =
+-- the machine to which the process is on its way expects it from the other: where this one asks for a piece, and where it sends one
+pub record Expects (v : View) (q : Pid) (k : MessageKind) (b : ℕ) : Type 0 where
+  pub pulls : pulls_piece (sort_of k) ≡ true → v.known v.acting q ≡ Incoming b
+  pub brings : brings_piece (sort_of k) ≡ true → v.known b q ≡ Incoming v.acting
+
+-- nothing is to be expected
+pub no_piece : (v : View) (q : Pid) (k : MessageKind) (b : ℕ) → pulls_piece (sort_of k) ≡ false → brings_piece (sort_of k) ≡ false → Expects v q k b
+no_piece v q k b pulls brings = record { pulls = λ e. absurd (false≢true (sym pulls ∙ e)); brings = λ e. absurd (false≢true (sym brings ∙ e)) }
+
+own_awaited : (v : View) (q : Pid) (k : MessageKind) (b : ℕ) → Expects v q k b → IsAwaited v q (own_id v) (record { kind = k; receiver = pid_of b 0; about = v.topic })
+own_awaited v q k b h s d piece from is =
+    let sender : v.acting ≡ sender_in k s d = ap (λ (x : Pid). x.home) from in
+    let receiver : b ≡ receiver_in k s d = ap (λ (x : Told). x.receiver.home) is in
+    elim (cases_Bool (pulls_piece (sort_of k))) [
+      | inl pulls ↦
+          let f = pull_ways k s d pulls in
+          subst (λ (x : ℕ). v.known x q ≡ Incoming s) (sender ∙ f.0) (subst (λ (y : ℕ). v.known v.acting q ≡ Incoming y) (receiver ∙ f.1) (h.pulls pulls))
+      | inr off ↦
+          let brings : brings_piece (sort_of k) ≡ true = ap (λ (c : Bool). c || brings_piece (sort_of k)) (sym off) ∙ piece in
+          let f = piece_ways k s d brings in
+          subst (λ (x : ℕ). v.known x q ≡ Incoming s) (receiver ∙ f.1) (subst (λ (y : ℕ). v.known b q ≡ Incoming y) (sender ∙ f.0) (h.brings brings))
+    ]
+
+token_packet : (v : View) (q : Pid) (k : MessageKind) (a b n : ℕ) (l : Load) → TokenOf v q k → TokenOf (view_after v (Line.Packet a b n l)) q k
+token_packet v q k a b n l h =
+    let c = packet_calm v a b n l in
+    let (y, st) = c.on h.id h.what h.told (ap is_between h.kind ∙ h.between) h.spot h.stands in
+    record { id = h.id; what = h.what; told = c.kept h.id h.what h.told; kind = h.kind; between = h.between; about = h.about; spot = y; stands = st; awaited = λ s d piece from is. c.known d q ∙ h.awaited s d piece from is }
+
+pub owns_token : (pt : Point) (k : MessageKind) (q : Pid) (b : ℕ) (w : Spelled) → Sane pt → PairsFit pt.view → is_between k ≡ true → pt.view.topic ≡ Of q → Expects pt.view q k b → spelled pt (Owns k (pid_of b 0) b ∷ []) ≡ Some w → TokenOf w.point.view q k
+owns_token pt k q b w sane fits between topic expects e =
+    let r = pid_of b 0 in
     let v = pt.view in
     let i = own_id v in
     let u : Told = record { kind = k; receiver = r; about = v.topic } in
@@ -176,8 +208,9 @@ owns_token pt k q r b w sane fits between topic e =
       about = topic;
       spot = put_spot v.acting b;
       stands = put_there v v.acting b i k r fits;
+      awaited = own_awaited v q k b expects;
     } in
-    let n = puts_next (λ (x : Point). TokenOf x.view q k) (λ x c d m l h. (let e_ : TokenOf (view_after x.view (Line.Packet c d m l)) q k = grind (arith, nat_tests, packet_calm) in e_)) pt (Owns k r b) b i k r [] w refl token e in
+    let n = puts_next (λ (x : Point). TokenOf x.view q k) (λ x c d m l h. token_packet x.view q k c d m l h) pt (Owns k r b) b i k r [] w refl token e in
     subst (λ (x : Point). TokenOf x.view q k) n.point (subst (λ (x : Point). TokenOf x.view q k) (said n.next n.rest n.more) n.stands)
 
 -- what a line that is no step keeps
@@ -203,15 +236,17 @@ row_marked v w q f h p = elim (cases_Bool (pid_eq q p)) [
 ]
 
 -- an answer: a line, and the next message
-pub answer : (pt : Point) (i : MsgId) (is : List MsgId) (q r : Pid) (l : Line) (k : MessageKind) (b : ℕ) (ns : List Mark) (x : Option Mark) (w : Spelled) → Handling pt i is q → label_of l ≡ None → is_put l ≡ false → touches l ≡ false
+pub answer : (pt : Point) (i : MsgId) (is : List MsgId) (q : Pid) (l : Line) (k : MessageKind) (b : ℕ) (ns : List Mark) (x : Option Mark) (w : Spelled) → Handling pt i is q → label_of l ≡ None → is_put l ≡ false → touches l ≡ false
     → ((z : Spot) → ids_at (view_after pt.view l) z ≡ ids_at (handled pt.view i) z) → ((m : ℕ) (p : Pid) → pid_eq q p ≡ false → (view_after pt.view l).known m p ≡ pt.view.known m p) → (view_after pt.view l).topic ≡ Of q → is_between k ≡ true
-    → ((p : Pid) → pid_eq q p ≡ false → with_mark p l [] ≡ []) → with_mark q l [] ≡ ns → HasMark pt.view q x → in_order x ns ≡ true → open_after x ns ≡ mark_of k
-    → spelled pt (Says l ∷ Owns k r b ∷ []) ≡ Some w → Row pt.view w.point.view q (λ p. with_mark p l [])
-answer pt i is q r l k b ns x w h none quiet calm off known topic between unmarked marked before order ends e =
+    → ((p : Pid) → pid_eq q p ≡ false → with_mark p l [] ≡ []) → with_mark q l [] ≡ ns → HasMark pt.view q x → in_order x ns ≡ true → open_after x ns ≡ mark_of k → Expects (view_after pt.view l) q k b
+    → spelled pt (Says l ∷ Owns k (pid_of b 0) b ∷ []) ≡ Some w → Row pt.view w.point.view q (λ p. with_mark p l [])
+answer pt i is q l k b ns x w h none quiet calm off known topic between unmarked marked before order ends expects e =
     let v = pt.view in
+    let r = pid_of b 0 in
     let n = line_next pt l (Owns k r b ∷ []) w none e in
     let next = moved pt l pt.kernel in
-    let token : TokenOf w.point.view q k = subst (λ (y : Point). TokenOf y.view q k) n.point (owns_token next k q r b n.rest (line_sane pt l none quiet h.sane) (line_fits pt pt.kernel l calm h.fits) between (ap (λ (x : View). x.topic) (seen_none pt.kernel v l none) ∙ topic) n.more) in
+    let seen : Expects next.view q k b = record { pulls = expects.pulls; brings = expects.brings } in
+    let token : TokenOf w.point.view q k = subst (λ (y : Point). TokenOf y.view q k) n.point (owns_token next k q b n.rest (line_sane pt l none quiet h.sane) (line_fits pt pt.kernel l calm h.fits) between (ap (λ (x : View). x.topic) (seen_none pt.kernel v l none) ∙ topic) seen n.more) in
     search (line_and_parts, first_spares, some_marked, token_mark)
 
 -- parts after parts
@@ -233,4 +268,24 @@ split (p ∷ ps) qs pt w e =
       rest = s.rest;
       more = s.more;
       point = s.point ∙ o.end;
+    }
+
+-- a message that is left over is handled: what is said of it marks nothing, and what follows spares all
+pub left_row : (pt : Point) (i : MsgId) (is : List MsgId) (t : Told) (q : Pid) (phase : Phase) (l : Line) (ps : List Part) (w : Spelled) → Handling pt i is q → IsIn pt.view q phase → pt.view.told i ≡ Some t → IsLeft pt.view q phase i t → label_of l ≡ None → is_put l ≡ false → touches l ≡ false
+    → ((z : Spot) → ids_at (view_after pt.view l) z ≡ ids_at (handled pt.view i) z) → ((m : ℕ) (p : Pid) → (view_after pt.view l).known m p ≡ pt.view.known m p) → ((p : Pid) → marks_of p (Says l ∷ ps) ≡ []) → ((p : Pid) → AllMild p None ps) → spelled pt (Says l ∷ ps) ≡ Some w
+    → Row pt.view w.point.view q (λ p. marks_of p (Says l ∷ ps))
+left_row pt i is t q phase l ps w h in_ told left none quiet calm off known unmarked mild e =
+    let v = pt.view in
+    let next = moved pt l pt.kernel in
+    let n = line_next pt l ps w none e in
+    let first : SparesBut v (view_after v l) q i = record {
+      kept = λ j u is. ap (λ (f : MsgId → Option Told). f j) (hushed v l quiet).told ∙ is;
+      on = λ j u z apart is between about st. same_spot v (view_after v l) j z (ap (times j) (off z) ∙ handled_spots v i j apart z) st;
+      still = λ m f. ap is_settled (known m q) ∙ f;
+    } in
+    let start : Kept (view_after v l) q None next = search (arith, line_sane pt l none quiet h.sane, line_fits pt pt.kernel l calm h.fits, v, seen_none) in
+    let later : Spares (view_after v l) w.point.view q = subst (λ (x : Point). Spares (view_after v l) x.view q) n.point (parts_spare q None ps (view_after v l) next n.rest (mild q) start n.more).spares in
+    record {
+      others = λ p apart. (unmarked p, line_and_parts pt p l ps w none quiet calm h.sane h.fits (first_spares pt i is q p l h apart quiet off (λ m. known m p)) (mild p) e);
+      mine = subst (Marked v w.point.view q) (sym (unmarked q)) (left_marked v w.point.view q phase i t in_ told left (but_trans v (view_after v l) w.point.view q i first later));
     }

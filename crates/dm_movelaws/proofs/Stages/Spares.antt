@@ -3,7 +3,8 @@ use Rattle.dm_movelaws.proofs.Names.{◌≡◌, ℕ, ◌≤◌, ◌==◌, Bool, 
 use Rattle.dm_movelaws.proofs.Names.{Unknown, Here, Frozen, Incoming, after_put, Spot, standing, is_between, is_restart, is_early, is_away, is_here, is_over, knows, Phase, Nowhere, Rests, Over, Moves, is_due, token_in, told_between, IsIn}
 use Rattle.dm_movelaws.proofs.Names.{id_eq-is, PairsFit, put_told_off, Calm, between_of, put_spots, put_at, put_there, put_spot, rests_here, Mark, Reached, Lacking, in_order, eq_self, not_false, right_true, first_kept, nat_tests, arith}
 use Rattle.dm_movelaws.proofs.Names.{calm_about, calm_same, About, ◌∷◌, ◌++◌, pid_eq, Boot, pid_eq-same, Step, Line, Point, moved, Part, Says, Spelled, lines_of, spelled, sends_on, group_of, outcome, mark_for, with_mark, marks, left_open}
-use Rattle.dm_movelaws.proofs.Names.{left_true, both_true, by_parts, group_is}
+use Rattle.dm_movelaws.proofs.Names.{left_true, both_true, by_parts, group_is, pid_of, ◌&&◌, kind_comes, sort_of, sender_in, receiver_in, eq_is, tells_onward, is_calloff, Calling, ◌||◌, pulls_piece, brings_piece, IsLeft, Asks, Comes}
+use Rattle.dm_movelaws.proofs.Names.{piece_ways, pull_ways, comes_known, called_known, not_true, Forward}
 use Rattle.dm_rule.specs.View as view
 use Rattle.dm_movelaws.proofs.Leading.{lines_are}
 
@@ -74,6 +75,7 @@ mark_of MessageKind.PullBlock = Some (Reached 4)
 mark_of MessageKind.Memory = Some (Reached 4)
 mark_of MessageKind.AllTaken = Some (Reached 5)
 mark_of MessageKind.Restart = Some (Reached 7)
+mark_of MessageKind.CallOff = Some Calling
 mark_of _ = None
 
 abbrev pub mark_in : Phase → Option Mark
@@ -118,7 +120,7 @@ spares_put v b i k q p fits =
     }
 
 -- where nothing is under way
-rest_settled : (phase : Phase) (m : ℕ) (k : Known) → is_due phase ≡ false → token_in phase ≡ None → knows phase m k ≡ true → is_settled k ≡ true
+pub rest_settled : (phase : Phase) (m : ℕ) (k : Known) → is_due phase ≡ false → token_in phase ≡ None → knows phase m k ≡ true → is_settled k ≡ true
 rest_settled Nowhere m Unknown d e h = refl
 rest_settled (Rests at) m k d e h = here_settled (at == m) k h
   where
@@ -144,10 +146,27 @@ rest_settled Nowhere m _ d e h = absurd (false≢true h)
 pub restart_late : (k : MessageKind) → is_restart k ≡ true → is_early k ≡ false
 restart_late k e = grind (arith, nat_tests)
 
-moves_unsettled : (v : View) (p : Pid) (k : MessageKind) (s d : ℕ) (o : Option MsgId) → IsIn v p (Moves k s d o) → ((m : ℕ) → is_settled (v.known m p) ≡ true) → ⊥
-moves_unsettled v p k s d o h settled = search (arith, settled s, not_false, right_true, h.apart, v.known, eq_self, h.known, restart_late)
+pub restart_goes : (k : MessageKind) → is_restart k ≡ true → is_calloff k ≡ false
+restart_goes k e = grind (arith, nat_tests)
 
--- a message about a process's migration that stands somewhere
+moves_unsettled : (v : View) (p : Pid) (k : MessageKind) (s d : ℕ) (o : Option MsgId) → IsIn v p (Moves k s d o) → ((m : ℕ) → is_settled (v.known m p) ≡ true) → ⊥
+moves_unsettled v p k s d o h settled = search (arith, settled s, not_false, right_true, h.apart, v.known, eq_self, h.known, restart_late, restart_goes)
+
+-- what asks for a piece of a process, or brings one
+abbrev pub is_piece : MessageKind → Bool
+is_piece k = pulls_piece (sort_of k) || brings_piece (sort_of k)
+
+-- a message that asks for a piece or brings one is awaited: the machine to which the process is on its way expects it from there
+abbrev pub IsAwaited : View → Pid → MsgId → Told → Type 0
+IsAwaited v p i t = (s d : ℕ) → is_piece t.kind ≡ true → i.from ≡ pid_of (sender_in t.kind s d) 0 → t ≡ told_between p t.kind s d → v.known d p ≡ Incoming s
+
+pub pulls_is_piece : (k : MessageKind) → pulls_piece (sort_of k) ≡ true → is_piece k ≡ true
+pulls_is_piece k e = ap (λ (c : Bool). c || brings_piece (sort_of k)) e
+
+pub brings_is_piece : (k : MessageKind) → brings_piece (sort_of k) ≡ true → is_piece k ≡ true
+brings_is_piece k e = grind (arith, nat_tests)
+
+-- a message about a process's migration that stands somewhere, and isn't left over
 pub record TokenOf (v : View) (p : Pid) (k : MessageKind) : Type 0 where
   pub id : MsgId
   pub what : Told
@@ -157,6 +176,7 @@ pub record TokenOf (v : View) (p : Pid) (k : MessageKind) : Type 0 where
   pub about : what.about ≡ Of p
   pub spot : Spot
   pub stands : 1 ≤ standing v id spot
+  pub awaited : IsAwaited v p id what
 
 -- it is the phase's
 
@@ -164,30 +184,119 @@ pub record TokenOf (v : View) (p : Pid) (k : MessageKind) : Type 0 where
 abbrev pub HasMark : View → Pid → Option Mark → Type 0
 HasMark v p o = (a : Phase) → IsIn v p a → is_due a ≡ false → mark_in a ≡ o
 
+-- no such message is left over
+awaited_left : (v : View) (p : Pid) (a : Phase) (i : MsgId) (t : Told) → IsIn v p a → IsAwaited v p i t → IsLeft v p a i t → ⊥
+awaited_left v p a i t h awaited (Asks s d j pulls is way phase before) =
+    let piece = pulls_is_piece t.kind pulls in
+    called_known v p s d j (subst (IsIn v p) phase h) (awaited s d piece (way.sender ∙ ap (λ (n : ℕ). pid_of n 0) (sym (pull_ways t.kind s d pulls).0)) is)
+awaited_left v p a i t h awaited (Comes s d brings is way none later) =
+    let piece = brings_is_piece t.kind brings in
+    none (awaited s d piece (way.sender ∙ ap (λ (n : ℕ). pid_of n 0) (sym (piece_ways t.kind s d brings).0)) is)
+
+token_by : (v : View) (p : Pid) (k : MessageKind) (t : TokenOf v p k) (a : Phase) → IsIn v p a → token_in a ≡ Some t.id → mark_in a ≡ mark_of k
+token_by v p k t (Moves c s d (Some i)) h e =
+    let same : i ≡ t.id = cc in
+    let f : Some (told_between p c s d) ≡ Some t.what = sym h.token.told ∙ ap v.told same ∙ t.told in
+    let g : told_between p c s d ≡ t.what = cc in
+    ap mark_of (ap (λ (x : Told). x.kind) g ∙ t.kind)
+token_by v p k t _ h e = cc
+
 pub token_mark : (v : View) (p : Pid) (k : MessageKind) → TokenOf v p k → HasMark v p (mark_of k)
-token_mark v p k t a h due = grind (arith, nat_tests)
+token_mark v p k t a h due = elim (h.alone t.id t.what t.spot t.told (ap is_between t.kind ∙ t.between) t.about t.stands) [
+  | inl token ↦ token_by v p k t a h token
+  | inr left ↦ absurd (awaited_left v p a t.id t.what h t.awaited left)
+]
 
 pub here_mark : (v : View) (p : Pid) (m : ℕ) → v.known m p ≡ Here → HasMark v p None
 here_mark v p m here a h due = ap mark_in (rests_here a m (sym (ap (knows a m) here) ∙ h.known m))
 
-pub spares_mark : (v w : View) (p : Pid) (a b : Phase) → Spares v w p → IsIn v p a → IsIn w p b → is_due a ≡ false → is_due b ≡ false → mark_in b ≡ mark_in a
-spares_mark v w p (Moves c m n None) b s h k da db = cc
-spares_mark v w p (Moves c m n (Some i)) b s h k da db =
-    let t = told_between p c m n in
-    let between = between_of c m n h.apart in
-    let (y, x) = s.on i t h.token.spot h.token.told between refl h.token.stands in
-    let token : TokenOf w p c = record { id = i; what = t; told = s.kept i t h.token.told; kind = refl; between = between; about = refl; spot = y; stands = x } in
-    token_mark w p c token b k db
-spares_mark v w p any_ b s h k da db =
-    let settled_mark : (v : View) (p : Pid) → ((m : ℕ) → is_settled (v.known m p) ≡ true) → HasMark v p None = λ v p settled e h due. grind (arith, nat_tests, moves_unsettled) in
-    settled_mark w p (λ m. s.still m (rest_settled any_ m (v.known m p) da refl (h.known m))) b k db
+-- where all machines are settled nothing moves
+settled_mark : (v : View) (p : Pid) → ((m : ℕ) → is_settled (v.known m p) ≡ true) → HasMark v p None
+settled_mark v p settled e h due = grind (arith, nat_tests, moves_unsettled)
+
+-- the two ends of a message are those of its phase
+ends_same : (k : MessageKind) (s d m n : ℕ) → sender_in k s d ≡ sender_in k m n → receiver_in k s d ≡ receiver_in k m n → (s ≡ m) × (d ≡ n)
+ends_same k s d m n h g = by_way (tells_onward (sort_of k)) h g
+  where
+    by_way : (c : Bool) → (if c then s else d) ≡ (if c then m else n) → (if c then d else s) ≡ (if c then n else m) → (s ≡ m) × (d ≡ n)
+    by_way true h g = (h, g)
+    by_way false h g = (g, h)
+
+-- where a piece is the message that is under way, the destination expects the process
+pub piece_late : (k : MessageKind) → is_piece k ≡ true → (is_early k ≡ false) × (is_calloff k ≡ false)
+piece_late k piece = (grind (arith, nat_tests), grind (arith, nat_tests))
+
+piece_comes : (k : MessageKind) (m : ℕ) (x : Known) → is_piece k ≡ true → kind_comes k m x ≡ true → x ≡ Incoming m
+piece_comes k m (Incoming n) piece h = let e : (m == n) ≡ true = grind (arith, nat_tests) in ap Incoming (sym (eq_is m n e))
+piece_comes k m Unknown piece h = absurd (false≢true (sym (piece_late k piece).0 ∙ h))
+piece_comes k m (Forward at moves) piece h =
+    let late = piece_late k piece in
+    absurd (false≢true (sym (ap (λ (c : Bool). c || (is_calloff k && (m == at))) late.0 ∙ ap (λ (c : Bool). c && (m == at)) late.1) ∙ h))
+piece_comes k m _ piece h = absurd (false≢true h)
+
+pub phase_awaited : (v : View) (p : Pid) (k : MessageKind) (s d : ℕ) (i : MsgId) → IsIn v p (Moves k s d (Some i)) → (m n : ℕ) → is_piece k ≡ true → i.from ≡ pid_of (sender_in k m n) 0 → told_between p k s d ≡ told_between p k m n → v.known n p ≡ Incoming m
+phase_awaited v p k s d i h m n piece from told =
+    let sender : sender_in k s d ≡ sender_in k m n = ap (λ (q : Pid). q.home) (sym h.token.from ∙ from) in
+    let receiver : receiver_in k s d ≡ receiver_in k m n = ap (λ (t : Told). t.receiver.home) told in
+    let same = ends_same k s d m n sender receiver in
+    let awaited = piece_comes k s (v.known d p) piece (comes_known v p k s d (Some i) h) in
+    subst (λ (x : ℕ). v.known n p ≡ Incoming x) same.0 (subst (λ (y : ℕ). v.known y p ≡ Incoming s) same.1 awaited)
+
+-- where no line marks it, a process that is on its way to a machine stays so
+abbrev pub Waits : View → View → Pid → List Mark → Type 0
+Waits v w p ms = ms ≡ [] → (m s : ℕ) → v.known m p ≡ Incoming s → w.known m p ≡ Incoming s
 
 -- from one view to another with these marks of a process
 abbrev pub Marked : View → View → Pid → List Mark → Type 0
-Marked v w p ms = (a b : Phase) → IsIn v p a → IsIn w p b → is_due a ≡ false → is_due b ≡ false → (in_order (mark_in a) ms ≡ true) × (open_after (mark_in a) ms ≡ mark_in b)
+Marked v w p ms = (a b : Phase) → IsIn v p a → IsIn w p b → is_due a ≡ false → is_due b ≡ false → Waits v w p ms → (in_order (mark_in a) ms ≡ true) × (open_after (mark_in a) ms ≡ mark_in b)
+
+-- all but this message of the protocol are spared
+pub record SparesBut (v w : View) (p : Pid) (x : MsgId) : Type 0 where
+  pub kept : (i : MsgId) (t : Told) → v.told i ≡ Some t → w.told i ≡ Some t
+  pub on : (i : MsgId) (t : Told) (z : Spot) → id_eq x i ≡ false → v.told i ≡ Some t → is_between t.kind ≡ true → t.about ≡ Of p → 1 ≤ standing v i z → (y : Spot) × (1 ≤ standing w i y)
+  pub still : (m : ℕ) → is_settled (v.known m p) ≡ true → is_settled (w.known m p) ≡ true
+
+pub but_trans : (u v w : View) (p : Pid) (x : MsgId) → SparesBut u v p x → Spares v w p → SparesBut u w p x
+but_trans u v w p x h k = record {
+  kept = λ i t e. k.kept i t (h.kept i t e);
+  on = λ i t z apart e between about st. (let (y, s) = h.on i t z apart e between about st in k.on i t y (h.kept i t e) between about s);
+  still = λ m e. k.still m (h.still m e);
+}
+
+-- a message that is left over is of no phase
+pub left_never : (v : View) (p : Pid) (a b : Phase) (i : MsgId) (t : Told) → IsIn v p a → IsIn v p b → v.told i ≡ Some t → IsLeft v p b i t → token_in a ≡ Some i → ⊥
+left_never v p (Moves k s d (Some j)) b i t h g told left e =
+    let same : j ≡ i = cc in
+    let f : Some (told_between p k s d) ≡ Some t = sym h.token.told ∙ ap v.told same ∙ told in
+    let is : told_between p k s d ≡ t = cc in
+    awaited_left v p b i t g (subst (IsAwaited v p i) is (subst (λ (x : MsgId). IsAwaited v p x (told_between p k s d)) same (λ m n piece from was. phase_awaited v p k s d j h m n piece from was))) left
+left_never v p _ b i t h g told left e = cc
+
+pub left_marked : (v w : View) (p : Pid) (phase : Phase) (x : MsgId) (t : Told) → IsIn v p phase → v.told x ≡ Some t → IsLeft v p phase x t → SparesBut v w p x → Marked v w p []
+left_marked v w p phase x t is told left s (Moves c m n (Some i)) b h k da db waits =
+    let u = told_between p c m n in
+    let between = between_of c m n h.apart in
+    let apart : id_eq x i ≡ false = not_true (id_eq x i) (λ e. left_never v p (Moves c m n (Some i)) phase x t h is told left (ap Some (sym (id_eq-is x i e)))) in
+    let (y, st) = s.on i u h.token.spot apart h.token.told between refl h.token.stands in
+    let token : TokenOf w p c = record { id = i; what = u; told = s.kept i u h.token.told; kind = refl; between = between; about = refl; spot = y; stands = st; awaited = λ f g piece from was. waits refl g f (phase_awaited v p c m n i h f g piece from was) } in
+    (refl, sym (token_mark w p c token b k db))
+left_marked v w p phase x t is told left s (Moves c m n None) b h k da db waits = cc
+left_marked v w p phase x t is told left s any_ b h k da db waits =
+    (refl, sym (settled_mark w p (λ m. s.still m (rest_settled any_ m (v.known m p) da refl (h.known m))) b k db))
+
+pub spares_mark : (v w : View) (p : Pid) (a b : Phase) → Spares v w p → IsIn v p a → IsIn w p b → is_due a ≡ false → is_due b ≡ false → ((m s : ℕ) → v.known m p ≡ Incoming s → w.known m p ≡ Incoming s) → mark_in b ≡ mark_in a
+spares_mark v w p (Moves c m n None) b s h k da db waits = cc
+spares_mark v w p (Moves c m n (Some i)) b s h k da db waits =
+    let t = told_between p c m n in
+    let between = between_of c m n h.apart in
+    let (y, x) = s.on i t h.token.spot h.token.told between refl h.token.stands in
+    let token : TokenOf w p c = record { id = i; what = t; told = s.kept i t h.token.told; kind = refl; between = between; about = refl; spot = y; stands = x; awaited = λ f g piece from is. waits g f (phase_awaited v p c m n i h f g piece from is) } in
+    token_mark w p c token b k db
+spares_mark v w p any_ b s h k da db waits =
+    settled_mark w p (λ m. s.still m (rest_settled any_ m (v.known m p) da refl (h.known m))) b k db
 
 pub none_marked : (v w : View) (p : Pid) (ms : List Mark) → ms ≡ [] → Spares v w p → Marked v w p ms
-none_marked v w p ms none s a b h k da db = grind (arith, nat_tests, spares_mark)
+none_marked v w p ms none s a b h k da db waits = let same = spares_mark v w p a b s h k da db (waits none) in grind (arith, nat_tests)
 
 pub some_marked : (v w : View) (p : Pid) (ms ns : List Mark) (x y : Option Mark) → ms ≡ ns → HasMark v p x → HasMark w p y → in_order x ns ≡ true → open_after x ns ≡ y → Marked v w p ms
-some_marked v w p ms ns x y is before behind order ends a b h k da db = grind (arith, nat_tests)
+some_marked v w p ms ns x y is before behind order ends a b h k da db waits = grind (arith, nat_tests)

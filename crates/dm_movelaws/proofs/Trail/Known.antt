@@ -5,6 +5,7 @@ use Rattle.dm_movelaws.proofs.Names.{along_treads, treads_start, Treads, is_movi
 use Rattle.dm_movelaws.proofs.Names.{trails_always_by, Both, both_start, both_group, run_start, run_group, is_some, refl, cases_Bool, false≢true, None, Place, Label, Life, OneKernel, after_step, Stage, kernel_after, at_record, Told, About}
 use Rattle.dm_movelaws.proofs.Names.{NothingElse, Here, Frozen, Forward, view_after, handled, receiver_of, served_told, hushed, grown_none, Phased, queued_known, held_known, dropped_known, Sane, label_topic, is_server, KnownStands}
 use Rattle.dm_movelaws.proofs.Names.{group_keeps, Loud, keeps_by, set_all, killed_or, named_real, is_made, IsNamed, ByHolder, ByOwn, ByRequest, ByUpdate, ByForward, queued_topic, held_topic, or_first, run_always, sets, seen, label_of, Of}
+use Rattle.dm_movelaws.proofs.Names.{Incoming}
 use Rattle.dm_rulelaws.proofs.Found.Core.{IsReal}
 use Rattle.dm_onekernel.specs.Step as kernel
 use Rattle.dm_rule.specs.View as view
@@ -113,9 +114,10 @@ trail_known b es pt valid leads =
 
 -- Whom a place is named for is a kernel, a server or a process that was made.
 
--- a process that leaves a machine, or has left it
+-- a process that leaves a machine, or has left it, or comes to one
 abbrev passes : Known → Bool
 passes (Frozen to) = true
+passes (Incoming from) = true
 passes (Forward at_ moves) = true
 passes _ = false
 
@@ -218,6 +220,9 @@ passing_loud = record {
   left = grind (arith, nat_tests, line_passing, set_known);
   restarted = grind (arith, nat_tests, line_passing, set_known);
   stays_ = grind (arith, nat_tests, line_passing, set_known);
+  called = λ pt p n calling h.
+      line_passing pt pt.kernel (Line.Called p n) (λ q e. e)
+      (set_known pt.kernel pt.view (view_after pt.view (Line.Called p n)) p (view.goes_back (pt.view.known pt.view.acting p) (pt.view.moves p)) refl (λ f. h.known pt.view.acting p (ap passes calling.comes)) h) refl h;
   sent_on = λ pt p n h. line_passing pt pt.kernel (Line.SentOn p n) (λ q e. e) h.known refl h;
 }
 

@@ -110,6 +110,28 @@ placed_left v w t p d n known moves at long none only = record {
       | inr old ↦ only k s (sym old.is ∙ f)
     ]
 
+-- it is called off: who expected it forwards to where it is held
+pub placed_back : (v w : View) (t : Trails) (p : Pid) (from n : ℕ) → Learnt v w p (Forward from n) → w.moves p ≡ v.moves p → ((k s : ℕ) → v.known k p ≡ Incoming s → k ≡ v.acting) → Placed v t p → Placed w t p
+placed_back v w t p from n known moves only h = record {
+  now = λ m e. ap (slice_get (t p)) moves ∙ h.now m (held m e);
+  long = λ m e. h.long m (held m e) ∙ ap (λ (i : ℕ). i + 1) (sym moves);
+  next = λ s k c e f. absurd (none k s f);
+  longer = λ s k c e f. absurd (none k s f);
+  unmade = λ e. absurd (let f : Forward from n ≡ Unknown = sym (learnt_here v w p (Forward from n) known) ∙ e v.acting in cc);
+}
+  where
+    held : (m : ℕ) → is_held (w.known m p) ≡ true → is_held (v.known m p) ≡ true
+    held m e = elim (learnt_either v w p (Forward from n) m known) [
+      | inl new ↦ absurd (false≢true (sym (ap is_held new.1) ∙ e))
+      | inr old ↦ sym (ap is_held old.is) ∙ e
+    ]
+
+    none : (k s : ℕ) → w.known k p ≡ Incoming s → ⊥
+    none k s f = elim (learnt_either v w p (Forward from n) k known) [
+      | inl new ↦ (let g : Forward from n ≡ Incoming s = sym new.1 ∙ f in cc)
+      | inr old ↦ false≢true (sym old.off ∙ ap (λ (i : ℕ). v.acting == i) (only k s (sym old.is ∙ f)) ∙ eq_self v.acting)
+    ]
+
 pub places_set : (v w : View) (t u : Trails) (p : Pid) (x : Known) → w.known ≡ at_record v.known v.acting p x → ((q : Pid) → pid_eq p q ≡ false → w.moves q ≡ v.moves q) → ((q : Pid) → pid_eq p q ≡ false → u q ≡ t q)
     → ((q : Pid) → pid_eq p q ≡ false → Placed v t q) → (Learnt v w p x → Placed w u p) → Places w u
 places_set v w t u p x known moves same h on q = elim (cases_Bool (pid_eq p q)) [

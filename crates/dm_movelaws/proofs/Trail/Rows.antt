@@ -1,12 +1,13 @@
 -- What a turn says of a kernel's own message fits the trails.
 use Rattle.dm_movelaws.proofs.Names.{◌≡◌, ℕ, ◌+◌, Bool, true, false, List, [], ◌∷◌, refl, ap, ◌∙◌, sym, subst, arith, ◌||◌, if◌then◌else◌, slice_get, Option, None, Some, Pid, pid_of, MsgId, MessageKind, Label, Line, plain_kind, proto_known}
-use Rattle.dm_movelaws.proofs.Names.{PlainMessage, Boot, first_number, View, Told, Unknown, Here, Forward, Ended, handled, ends_by, served_told, view_after, Receiver, Point, moved, Part, Says, Routes, Nowhere, forwards_on, Trails}
-use Rattle.dm_movelaws.proofs.Names.{Trail, ReceivedAt, ended_on, is_fixed, Unborn, said_by, Stops, by_round, by_handles, StoodOnTrail, nat_tests, ◌≤◌, inl, inr, PutFits, manager, Step, Of, is_kernels, own_id, after_head, front_of, Child}
-use Rattle.dm_movelaws.proofs.Names.{Sender, to_of, sender_of, Spelled, IsIn, is_between, group_of, Inbox, Queue, Held, times, standing, both_lists, both_times, front_kernels, Phased, due, outcome_sayable, Named, Links, child_is, parts}
-use Rattle.dm_movelaws.proofs.Names.{migrate_to, migrate_from, Treads, line_treads, KnownStands, Begins, begins, begun, begun_sane, turned, unborn, FoundBy, KnowsAt, moves_back, own_outside, own_fresh, told_there, about_same, stands_first}
-use Rattle.dm_movelaws.proofs.Names.{queued_for, told_for, either, fixed_home, by_migrates, migrates, by_outcome, by_group, answers_move, leaves_for, Outcome, asked_noted, ◌++◌, false≢true, Stage, pid_eq-same, Frozen, Incoming, to_kernel}
-use Rattle.dm_movelaws.proofs.Names.{Moves, receiver_in, sender_in, Sane, source_holds, destination_expects, by_hears, place_told, behind_count, left_parts, MoveNote, OneKernel, Known, label_of, kernel_after, at_record, at_record_at, Said}
-use Rattle.dm_movelaws.proofs.Names.{aim, sets, sort_of, is_restart, kind_leaves, eq_is, eq_self}
+use Rattle.dm_movelaws.proofs.Names.{PlainMessage, Boot, first_number, View, Told, Unknown, Here, Forward, Ended, handled, ends_by, served_told, view_after, Receiver, Point, moved, Part, Says, Routes, Nowhere, forwards_on, Trails, Trail}
+use Rattle.dm_movelaws.proofs.Names.{ReceivedAt, ended_on, is_fixed, Unborn, said_by, Stops, by_round, by_handles, StoodOnTrail, nat_tests, ◌≤◌, inl, inr, PutFits, manager, Step, Of, is_kernels, own_id, after_head, front_of, Child, Sender}
+use Rattle.dm_movelaws.proofs.Names.{to_of, sender_of, Spelled, IsIn, is_between, group_of, Inbox, Queue, Held, times, standing, both_lists, both_times, front_kernels, Phased, outcome_sayable, Named, Links, child_is, parts, migrate_to}
+use Rattle.dm_movelaws.proofs.Names.{migrate_from, Treads, line_treads, KnownStands, Begins, begins, begun, begun_sane, turned, unborn, FoundBy, KnowsAt, moves_back, own_outside, own_fresh, told_there, about_same, stands_first, queued_for}
+use Rattle.dm_movelaws.proofs.Names.{told_for, either, fixed_home, by_migrates, migrates, by_outcome, by_group, answers_move, leaves_for, Outcome, asked_noted, ◌++◌, false≢true, Stage, pid_eq-same, Frozen, Incoming, to_kernel, Moves}
+use Rattle.dm_movelaws.proofs.Names.{receiver_in, sender_in, Sane, source_holds, destination_expects, by_hears, place_told, behind_count, left_parts, MoveNote, OneKernel, Known, label_of, kernel_after, at_record, at_record_at, Said, aim}
+use Rattle.dm_movelaws.proofs.Names.{sets, sort_of, is_restart, kind_leaves, eq_is, eq_self, tells_onward, called_parts, by_calls_off, coming_is, holds_on, two_apart, calm_phases, head_calm, knows, InPhases, sends_on, again_rides, ◌==◌}
+use Rattle.dm_movelaws.proofs.Names.{length}
 use Rattle.dm_onekernel.specs.Pieces as pieces
 use Rattle.dm_rule.specs.Rule as rule
 use Rattle.dm_rule.proofs.Hearing as hearing
@@ -14,6 +15,11 @@ use Rattle.dm_movelaws.proofs.Trail.Placed.{is_held, Placed, Places, Learnt, pla
 use Rattle.dm_movelaws.proofs.Trail.Loose.{Walks, AllLoose, loose_walks, places_same, label_fits, label_walks, routes_loose, queued_loose, held_loose, dropped_loose, drops_loose, AllGood, parts_good, owns_leave, at_pid}
 use Rattle.dm_movelaws.proofs.Trail.Loose.{net_loose, first_walks, to_between, Loose, quiet, forwards_walks}
 use Rattle.dm_movelaws.proofs.Trail.Loose.{leaves_walks}
+use Rattle.dm_movelaws.proofs.Stages.Spares.{is_piece}
+use Rattle.dm_movelaws.proofs.Ends.Open.{whole_due}
+use Rattle.dm_movelaws.proofs.Trail.Placed.{placed_back}
+use Rattle.dm_rule.specs.View as view
+use Rattle.dm_movelaws.proofs.Trail.Loose.{places_ride}
 
 pub at_end : (pt : Point) (t : Trails) (p : Pid) → pt.view.known pt.view.acting p ≡ Here → Places pt.view t → slice_get (t p) (pt.view.moves p) ≡ Some pt.view.acting
 at_end pt t p here h = (h p).now pt.view.acting (ap is_held here)
@@ -60,12 +66,18 @@ accepts_walks pt t from p u h =
     first_walks (Line.Migration Stage.Accepted p) (to_kernel MessageKind.PullState from ∷ []) pt t
     (λ sane on. (record { k = MessageKind.Ask; s = u.s; d = u.d; o = u.o; phase = u.phase; off = refl }, λ next s. subst (λ (z : Point). Places z.view t) s.is (accepted_places pt t p u h))) (to_between MessageKind.PullState from refl)
 
-stays_walks : (pt : Point) (t : Trails) (p : Pid) → Heard pt p MessageKind.Refuse → Places pt.view t → Walks pt t (Says (Line.Stays p) ∷ [])
-stays_walks pt t p u h =
+-- the source holds the process where it is told that it stays
+source_had : (pt : Point) (p : Pid) (k : MessageKind) → is_restart k ≡ false → tells_onward (sort_of k) ≡ false → Heard pt p k → is_held (pt.view.known pt.view.acting p) ≡ true
+source_had pt p k late back u =
+    let acts : pt.view.acting ≡ u.s = u.acts ∙ ap (λ (c : Bool). if c then u.d else u.s) back in
+    ap (λ (m : ℕ). is_held (pt.view.known m p)) acts ∙ ap is_held (source_holds pt.view p k u.s u.d u.o u.phase late)
+
+stays_walks : (pt : Point) (t : Trails) (p : Pid) (k : MessageKind) → is_restart k ≡ false → tells_onward (sort_of k) ≡ false → Heard pt p k → Places pt.view t → Walks pt t (Says (Line.Stays p) ∷ [])
+stays_walks pt t p k late back u h =
     let v = pt.view in
-    let had : is_held (v.known v.acting p) ≡ true = ap (λ (m : ℕ). is_held (v.known m p)) u.acts ∙ ap is_held (source_holds v p MessageKind.Refuse u.s u.d u.o u.phase refl) in
+    let had = source_had pt p k late back u in
     first_walks (Line.Stays p) [] pt t
-    (λ sane on. (record { k = MessageKind.Refuse; s = u.s; d = u.d; o = u.o; phase = u.phase; off = refl }, λ next s. subst (λ (z : Point). Places z.view t) s.is (places_held v (view_after v (Line.Stays p)) t p Here refl refl refl had h))) tt
+    (λ sane on. (record { k = k; s = u.s; d = u.d; o = u.o; phase = u.phase; off = late }, λ next s. subst (λ (z : Point). Places z.view t) s.is (places_held v (view_after v (Line.Stays p)) t p Here refl refl refl had h))) tt
 
 restarted_places : (pt : Point) (t : Trails) (p : Pid) → Heard pt p MessageKind.Restart → Places pt.view t → Places (view_after pt.view (Line.Migration Stage.Restarted p)) t
 restarted_places pt t p u h =
@@ -76,7 +88,7 @@ restarted_places pt t p u h =
     let v = pt.view in
     let w = view_after v (Line.Migration Stage.Restarted p) in
     let (c, away) = moves_forward v p MessageKind.Restart u.s u.d u.o u.phase refl in
-    let comes = destination_expects v p MessageKind.Restart u.s u.d u.o u.phase refl in
+    let comes = destination_expects v p MessageKind.Restart u.s u.d u.o u.phase refl refl in
     places_set v w t t p Here refl (λ q apart. ap (λ (b : Bool). if b then v.moves p + 1 else v.moves q) apart) (λ q apart. refl) (λ q apart. h q)
     (λ learnt. placed_restarts v w t p learnt (ap (λ (b : Bool). if b then v.moves p + 1 else v.moves p) (pid_eq-same p)) ((h p).next u.s u.d c away comes ∙ ap Some (sym u.acts)) ((h p).longer u.s u.d c away comes)
     (λ m held. false≢true (sym (moves_held v p MessageKind.Restart u.s u.d m u.o u.phase held).1)) (λ k from at. moves_comes v p MessageKind.Restart u.s u.d k from u.o u.phase at ∙ sym u.acts))
@@ -94,11 +106,11 @@ answers_at pt t p l n r none known acting noted sane places next s =
     subst (λ (x : Pid). (view_after pt.view l).known (view_after pt.view l).acting x ≡ Here) same_ here) places in
     subst (λ (z : Point). Walks z t (answers_move n.id r)) s.is (subst (λ (u : OneKernel). Walks (moved pt l u) t (answers_move n.id r)) same walks)
 
-stays_asked : (pt : Point) (t : Trails) (p : Pid) (n : MoveNote) → Heard pt p MessageKind.Refuse → pt.kernel.notes p ≡ Some n → Places pt.view t → Walks pt t (Says (Line.Stays p) ∷ answers_move n.id Outcome.Stayed)
-stays_asked pt t p n u noted h =
+stays_asked : (pt : Point) (t : Trails) (p : Pid) (n : MoveNote) (k : MessageKind) → is_restart k ≡ false → tells_onward (sort_of k) ≡ false → Heard pt p k → pt.kernel.notes p ≡ Some n → Places pt.view t → Walks pt t (Says (Line.Stays p) ∷ answers_move n.id Outcome.Stayed)
+stays_asked pt t p n k late back u noted h =
     let v = pt.view in
-    let had : is_held (v.known v.acting p) ≡ true = ap (λ (m : ℕ). is_held (v.known m p)) u.acts ∙ ap is_held (source_holds v p MessageKind.Refuse u.s u.d u.o u.phase refl) in
-    λ sane on. (record { k = MessageKind.Refuse; s = u.s; d = u.d; o = u.o; phase = u.phase; off = refl }, λ next s. answers_at pt t p (Line.Stays p) n Outcome.Stayed refl refl refl noted sane (places_held v (view_after v (Line.Stays p)) t p Here refl refl refl had h) next (said_by pt next (Line.Stays p) s))
+    let had = source_had pt p k late back u in
+    λ sane on. (record { k = k; s = u.s; d = u.d; o = u.o; phase = u.phase; off = late }, λ next s. answers_at pt t p (Line.Stays p) n Outcome.Stayed refl refl refl noted sane (places_held v (view_after v (Line.Stays p)) t p Here refl refl refl had h) next (said_by pt next (Line.Stays p) s))
 
 restarts_asked : (pt : Point) (t : Trails) (p : Pid) (n : MoveNote) → Heard pt p MessageKind.Restart → pt.kernel.notes p ≡ Some n → Places pt.view t → Walks pt t (Says (Line.Migration Stage.Restarted p) ∷ answers_move n.id Outcome.Done)
 restarts_asked pt t p n u noted h =
@@ -109,7 +121,7 @@ AnotherHeard pt o t m id v = hearing.Heard (Walks pt t) o m id v
 
 pub hears_walks : (pt : Point) (b : Boot) (o : Point) (t : Trails) (m : ℕ) (id : MsgId) (u : Told) (ps : List Part) → ((p : Pid) → both_lists pt.view p ≡ o.view.queue m p ++ o.view.held m p)
     → ((p : Pid) (n : MoveNote) → o.kernel.notes p ≡ Some n → pt.kernel.notes p ≡ Some n) → pt.view.known pt.view.acting u.receiver ≡ o.view.known m u.receiver
-    → ((p : Pid) → u.about ≡ Of p → is_between u.kind ≡ true → Heard pt p u.kind) → ((to c : ℕ) → o.view.known m u.receiver ≡ Forward to c → Walks pt t (forwards_on o.addresses id u.kind manager to)) → Places pt.view t → rule.hears b o m id (Some u) ≡ Some ps → Walks pt t ps
+    → ((p : Pid) → u.about ≡ Of p → is_between u.kind ≡ true → is_piece u.kind ≡ false → Heard pt p u.kind) → ((to c : ℕ) → o.view.known m u.receiver ≡ Forward to c → Walks pt t (forwards_on o.addresses id u.kind manager to)) → Places pt.view t → rule.hears b o m id (Some u) ≡ Some ps → Walks pt t ps
 hears_walks pt b o t m id u ps same notes known kernels forwards h =
     let proto_loose : (i : MsgId) → Loose (Says (Line.Proto i)) =
     λ i. quiet (Line.Proto i) (λ pt t. tt) (λ v t. refl) (λ v n q. proto_known (handled v i) (v.told i) n q) (λ v q. at_pid (view_after v (Line.Proto i)).moves v.moves q (grind (arith, nat_tests))) in
@@ -120,17 +132,24 @@ hears_walks pt b o t m id u ps same notes known kernels forwards h =
     let e : u ≡ v = cc in
     let updated_loose : (i : MsgId) (k : ℕ) → Loose (Says (Line.Updated i k)) = λ i k. quiet (Line.Updated i k) (λ pt t. tt) (λ v t. refl) (λ v n q. refl) (λ v q. refl) in
     subst (AnotherHeard pt o t m id) e (record {
-      told = λ p x about alive. (
-          let at : (k : MessageKind) → u.kind ≡ k → is_between k ≡ true → Heard pt p k = λ k kind between. subst (Heard pt p) kind (kernels p about (ap is_between kind ∙ between)) in
+      stale = λ p about late. one (Line.Stale id) (quiet (Line.Stale id) (λ pt t. tt) (λ v t. refl) (λ v n q. refl) (λ v q. refl));
+      told = λ p x about alive due. (
+          let at : (k : MessageKind) → u.kind ≡ k → is_between k ≡ true → is_piece k ≡ false → Heard pt p k = λ k kind between whole. subst (Heard pt p) kind (kernels p about (ap is_between kind ∙ between) (ap is_piece kind ∙ whole)) in
           let lacks_loose : (p : Pid) (a b : ℕ) → Loose (Says (Line.Lacks p a b)) = λ p a b. quiet (Line.Lacks p a b) (λ pt t. tt) (λ v t. refl) (λ v n q. refl) (λ v q. refl) in
           let memory_loose : Loose (Says (Line.Migration Stage.MemoryTaken p)) = quiet (Line.Migration Stage.MemoryTaken p) (λ pt t. tt) (λ v t. refl) (λ v n q. refl) (λ v q. refl) in
           let state_loose : Loose (Says (Line.Migration Stage.StateTaken p)) = quiet (Line.Migration Stage.StateTaken p) (λ pt t. tt) (λ v t. refl) (λ v n q. refl) (λ v q. refl) in
           record {
-            accepted = λ ask. accepts_walks pt t home p (at MessageKind.Ask ask refl) h;
+            accepted = λ ask. accepts_walks pt t home p (at MessageKind.Ask ask refl refl) h;
             lacks = λ slots blocks. loose_walks (Says (Line.Lacks p slots blocks) ∷ to_kernel MessageKind.Refuse home ∷ []) pt t (lacks_loose p slots blocks, to_between MessageKind.Refuse home refl) h;
-            stays = λ kind free. stays_walks pt t p (at MessageKind.Refuse kind refl) h;
-            stays_asked = λ kind n noted. stays_asked pt t p n (at MessageKind.Refuse kind refl) (notes p n noted) h;
-            restarted_asked = λ kind n noted. restarts_asked pt t p n (at MessageKind.Restart kind refl) (notes p n noted) h;
+            stays = λ kind free. elim kind [
+              | inl refused ↦ stays_walks pt t p MessageKind.Refuse refl refl (at MessageKind.Refuse refused refl refl) h
+              | inr called ↦ stays_walks pt t p MessageKind.CallOff refl refl (at MessageKind.CallOff called refl refl) h
+            ];
+            stays_asked = λ kind n noted. elim kind [
+              | inl refused ↦ stays_asked pt t p n MessageKind.Refuse refl refl (at MessageKind.Refuse refused refl refl) (notes p n noted) h
+              | inr called ↦ stays_asked pt t p n MessageKind.CallOff refl refl (at MessageKind.CallOff called refl refl) (notes p n noted) h
+            ];
+            restarted_asked = λ kind n noted. restarts_asked pt t p n (at MessageKind.Restart kind refl refl) (notes p n noted) h;
             state = proto MessageKind.State (to_between MessageKind.State home refl);
             next_chunk = proto MessageKind.PullState (to_between MessageKind.PullState home refl);
             last_chunk = loose_walks (Says (Line.Migration Stage.StateTaken p) ∷ to_kernel MessageKind.PullBlock home ∷ []) pt t (state_loose, to_between MessageKind.PullBlock home refl) h;
@@ -138,10 +157,10 @@ hears_walks pt b o t m id u ps same notes known kernels forwards h =
             next_block = proto MessageKind.PullBlock (to_between MessageKind.PullBlock home refl);
             last_block = loose_walks (Says (Line.Migration Stage.MemoryTaken p) ∷ to_kernel MessageKind.AllTaken home ∷ []) pt t (memory_loose, to_between MessageKind.AllTaken home refl) h;
             left = λ ids to leaves.
-                (let k = at MessageKind.AllTaken leaves.kind refl in
+                (let k = at MessageKind.AllTaken leaves.kind refl refl in
                 subst (λ (js : List MsgId). Walks pt t (left_parts id p js to)) (same p ∙ sym leaves.lists) (leaves_walks pt t id p (Frozen to) k.s k.d k.o k.phase k.acts h k.for_it));
             restarted = λ kind free.
-                (let k = at MessageKind.Restart kind refl in
+                (let k = at MessageKind.Restart kind refl refl in
                 first_walks (Line.Migration Stage.Restarted p) [] pt t
                 (λ sane on. (record { k = MessageKind.Restart; s = k.s; d = k.d; o = k.o; phase = k.phase; off = refl }, λ next s. subst (λ (z : Point). Places z.view t) s.is (restarted_places pt t p k h))) tt);
           }
@@ -274,10 +293,10 @@ waits_for o m p i q start h least named =
       | inr hold ↦ told_for pt (pt.view.told i) i p q start.sane refl (h.held m p i hold) named
     ]
 
-heard : (o : Point) (m : ℕ) (i : MsgId) (is : List MsgId) (u : Told) (p : Pid) → Begins o m → FoundBy o → o.view.inbox m ≡ i ∷ is → o.view.told i ≡ Some u → u.about ≡ Of p → is_between u.kind ≡ true → Heard (turned o m) p u.kind
-heard o m i is u p start h front told about between =
+heard : (o : Point) (m : ℕ) (i : MsgId) (is : List MsgId) (u : Told) (p : Pid) → Begins o m → FoundBy o → o.view.inbox m ≡ i ∷ is → o.view.told i ≡ Some u → u.about ≡ Of p → is_between u.kind ≡ true → is_piece u.kind ≡ false → Heard (turned o m) p u.kind
+heard o m i is u p start h front told about between whole =
     let pt = turned o m in
-    let w = due pt i is u start.phases front told between in
+    let w = whole_due pt i is u start.phases p front told between about whole in
     let pq : w.p ≡ p = about_same w.p p (sym (ap (λ (x : Told). x.about) w.told) ∙ about) in
     let kk : w.k ≡ u.kind = sym (ap (λ (x : Told). x.kind) w.told) in
     let first : Heard pt w.p w.k = record {
@@ -319,7 +338,7 @@ own_walks b o t m i is ps start h at front there e =
     let (u, told) = told_there (o.view.told i) stands.1 in
     let own : is_kernels i ≡ true = front_kernels pt i is start.state front there in
     let placed : Places pt.view t = places_same o.view pt.view t (λ n q. refl) (λ q. refl) at in
-    hears_walks pt b o t m i u ps (λ p. refl) (λ p n e. e) refl (λ p about between. heard o m i is u p start h front told about between)
+    hears_walks pt b o t m i u ps (λ p. refl) (λ p n e. e) refl (λ p about between whole. heard o m i is u p start h front told about between whole)
     (λ to c e. forwards_walks pt t i u manager to c told e placed (λ yes_ on. on.own.sender i u own told (moves_back u.kind (h.real i u told own).1 yes_))) placed (ap (rule.hears b o m i) (sym told) ∙ e)
 
 -- a directive to move a process
@@ -332,6 +351,31 @@ migrates_walks pt t p first h =
           (λ k. migrate_from pt.kernel pt.view pt.addresses t (own_id pt.view) p first (on.trail manager)),
       (λ next s. owns_leave MessageKind.Migrate p (pt.addresses (Child n)).at pt next t s h),
     ))
+
+-- a migration is called off: what was held goes back to the source, which holds the process
+called_places : (v : View) (t : Trails) (p : Pid) (n from : ℕ) (o : Option MsgId) (c : MessageKind) → IsIn v p (Moves c from v.acting o) → v.known v.acting p ≡ Incoming from → Places v t → Places (view_after v (Line.Called p n)) t
+called_places v t p n from o c phase comes h =
+    let w = view_after v (Line.Called p n) in
+    places_set v w t t p (view.goes_back (v.known v.acting p) (v.moves p)) refl (λ r apart. refl) (λ r apart. refl) (λ r apart. h r)
+    (λ learnt. placed_back v w t p from (v.moves p) (λ m. learnt m ∙ ap (λ (x : Known). if v.acting == m then view.goes_back x (v.moves p) else v.known m p) comes) refl (λ m s at. moves_comes v p c from v.acting m s o phase at) (h p))
+
+back_walks : (t : Trails) (from to : ℕ) (ids : List MsgId) (q : Point) → Places q.view t → Walks q t (sends_on to ids ++ to_kernel MessageKind.CallOff from ∷ [])
+back_walks t from to [] q h = loose_walks (to_kernel MessageKind.CallOff from ∷ []) q t (to_between MessageKind.CallOff from refl) h
+back_walks t from to (i ∷ is) q h = λ sane on. (tt, λ next s. back_walks t from to is next (again_rides (λ (z : Point). Places z.view t) (places_ride t) q next i to s h))
+
+called_walks : (pt : Point) (t : Trails) (p : Pid) (from : ℕ) → InPhases pt.view → pt.view.known pt.view.acting p ≡ Incoming from → pt.view.come p ≡ false
+    → (Sane pt → (i : MsgId) (q : Pid) → 1 ≤ times i (pt.view.held pt.view.acting p) → Named pt.kernel pt.view (Receiver i) q → q ≡ p) → Places pt.view t → Walks pt t (called_parts p (pt.view.held pt.view.acting p) from)
+called_walks pt t p from phases comes off for h = λ sane on.
+    let v = pt.view in
+    let ids = v.held v.acting p in
+    let c = coming_is (phases.of p) v.acting from (sym (ap (knows (phases.of p) v.acting) comes) ∙ (phases.each p).known v.acting) in
+    let in_ : IsIn v p (Moves c.kind from v.acting c.id) = subst (IsIn v p) c.is (phases.each p) in
+    let holds : v.known from p ≡ Frozen v.acting = source_holds v p c.kind from v.acting c.id in_ (holds_on v p c.kind from v.acting c.id in_ off) in (
+      record { from = from; comes = comes; at = (h p).now from (ap is_held holds); long = (h p).long from (ap is_held holds); apart = λ e. two_apart v p c.kind from v.acting c.id in_ (sym e); for_it = for sane },
+      (λ next r.
+          let k = said_by pt next (Line.Called p (length ids)) r in
+          back_walks t from from ids next (subst (λ (z : Point). Places z.view t) k.is (called_places v t p (length ids) from c.id c.kind in_ comes h))),
+    )
 
 head_places : (v : View) (t : Trails) (d : Step) → Places v t → Places (after_head v d) t
 head_places v t (Step.Turn m) h = places_same v (after_head v (Step.Turn m)) t (λ n q. refl) (λ q. refl) h
@@ -348,6 +392,14 @@ outcome_walks b pt t d ps base known h at = by_outcome (λ x. Walks (begun pt x)
   ticks = λ m xs net. loose_walks xs (begun pt (Step.Tick m)) t (net_loose xs net) (head_places pt.view t (Step.Tick m) at);
   delivers = λ a c k xs net. loose_walks xs (begun pt (Step.Deliver a c k)) t (net_loose xs net) (head_places pt.view t (Step.Deliver a c k) at);
   asks = λ p m. migrates_walks (begun pt (Step.Migrate p m)) t p refl (head_places pt.view t (Step.Migrate p m) at);
+  calls = λ p m. (
+      let start = begun pt (Step.CallOff p m) in
+      let places = head_places pt.view t (Step.CallOff p m) at in
+      let phases : InPhases start.view = calm_phases pt.view start.view (head_calm pt.view (Step.CallOff p m)) base.phases in
+      let sound = begun_sane pt (Step.CallOff p m) base.sane in
+      by_calls_off (Walks start t) pt m p (loose_walks (Says (Line.NoCall p) ∷ []) start t (quiet (Line.NoCall p) (λ pt t. tt) (λ v t. refl) (λ v n q. refl) (λ v q. refl), tt) places)
+      (λ from is come. called_walks start t p from phases is come (λ sane i q least named. told_for start (start.view.told i) i p q sound refl (h.held m p i least) named) places)
+      );
 })
 
 -- a group

@@ -1,7 +1,7 @@
 -- The trails that printed lines lay stand, and from each place that is named for a process the forwarding addresses lead to it.
-use Rattle.dm_movelaws.proofs.Names.{◌≡◌, ◌≢◌, ℕ, suc, ◌-◌, ◌==◌, true, false, List, [], ◌∷◌, ◌++◌, length, refl, ap, ◌∙◌, sym, subst, inl, inr, arith, cases_Bool, slice_get_within, slice_get, Option, None, Some, Pid, Place, Boot}
-use Rattle.dm_movelaws.proofs.Names.{IsValid, OneKernel, bind, Step, bind-is, Line, unmoved, Leads, Point, first_point, after, after_line, Trails, Trail, IsOn, Trodden, first_trodden, along, trails_after, View, Known, Unknown, Here}
-use Rattle.dm_movelaws.proofs.Names.{Forward, along_treads, treads_start, trail_leads, Treads, Within, trail_within, is_server, is_fixed, KnownStands, agrees, LeadsBy, made_free, server_fixed, is_made, ends_walk, IsNamed, Reaches, IsLast}
+use Rattle.dm_movelaws.proofs.Names.{◌≡◌, ◌≢◌, ℕ, suc, ◌-◌, ◌==◌, true, false, List, [], ◌∷◌, ◌++◌, length, refl, ap, ◌∙◌, sym, subst, inl, inr, arith, cases_Bool, slice_get_within, slice_get, Option, None, Some, Pid, Place, Boot, IsValid}
+use Rattle.dm_movelaws.proofs.Names.{OneKernel, bind, Step, bind-is, Line, unmoved, Leads, Point, first_point, after, after_line, Trails, Trail, IsOn, Trodden, first_trodden, along, trails_after, View, Known, Unknown, Here, Forward}
+use Rattle.dm_movelaws.proofs.Names.{along_treads, treads_start, trail_leads, Treads, Within, trail_within, is_server, is_fixed, KnownStands, agrees, LeadsBy, made_free, server_fixed, is_made, ends_walk, IsNamed, Reaches, IsLast}
 use Rattle.dm_movelaws.proofs.Names.{TrailStands, TrailsStand, IsLed, AddressesLead, nat_tests, has_it}
 use Rattle.dm_movelaws.proofs.After.{group_after}
 use Rattle.dm_movelaws.proofs.Trail.Known.{Holds, carries, none_is, made_by, passed_always}

@@ -4,7 +4,7 @@ use Rattle.dm_movelaws.proofs.Names.{MsgId, Boot, switchboard, manager, OneKerne
 use Rattle.dm_movelaws.proofs.Names.{answers_in, slot_holders, Spelled, Point, View, Told, About, Ended, after_head, is_server, KnownStands, Updated, UpdatesAlways, front_own, Both, is_place, own_sort, run_always, pid_there, second, zero}
 use Rattle.dm_movelaws.proofs.Names.{suc, ◌+◌, List, ◌∷◌, length, slice_get, slice_get_cases, PlainLink, link_at, NamedLink, Pending, PlainProcess, pid_eq-is, not_server, alive-is, Slot, Owner, Child, Name, Answer, holder_eq, link_target}
 use Rattle.dm_movelaws.proofs.Names.{ascends, listings, is_owner, group_is, ◌||◌, MessageKind, plain_kind, Line, Part, Says, lines_of, spelled, moved, GroupIs, by_parts, sends_on, by_migrates, by_hears, option_and_then, option_map_or}
-use Rattle.dm_movelaws.proofs.Names.{by_net, by_outcome, ⊤, PlainMessage, forwards_on, Loose, loose_round, loose_handles, by_forwards}
+use Rattle.dm_movelaws.proofs.Names.{by_net, by_outcome, ⊤, PlainMessage, forwards_on, Loose, loose_round, loose_handles, by_forwards, by_calls_off, to_kernel}
 use Rattle.dm_laws.proofs.Entered.{Made}
 use Rattle.dm_movelaws.proofs.Leading.{lines_are}
 use Rattle.dm_onekernel.specs.Step as kernel
@@ -68,7 +68,8 @@ hears_shape : (b : Boot) (o : Point) (m : ℕ) (id : MsgId) (is : List MsgId) (q
 hears_shape b o m id is q ps told box none = by_hears (Shape o) b o m id q ps (λ t there. (
     let f : Front o m id t = record { is = told ∙ there; rest = is; box = box; none = none } in
     record {
-      told = λ p x about alive. grind (arith, nat_tests, sends_quiet);
+      stale = λ p about late. Quiet (refl, tt);
+      told = λ p x about alive due. grind (arith, nat_tests, sends_quiet);
       updated = λ kind. Updates m id (behind_count o.kernel o.addresses t.receiver (place_told t.about)) refl (record { told = t; is = f.is; update = kind; counts = inl refl; rest = f.rest; box = f.box; none = f.none });
       updated_none = λ kind at_. Updates m id 0 refl (record { told = t; is = f.is; update = kind; counts = inr (refl, at_.server, at_.known); rest = f.rest; box = f.box; none = f.none });
       no_move = λ at_. Quiet (refl, tt);
@@ -89,6 +90,7 @@ outcome_shape b o d ps = by_outcome (λ x. Shape o) b o d ps (record {
   ticks = λ m xs net. Quiet ((by_net AllQuiet tt (λ l ps net h. ((let e_ : is_updated l ≡ false = grind (arith, nat_tests) in e_), h)) (λ a b l ps h. (tt, h))) xs net);
   delivers = λ a c k xs net. Quiet ((by_net AllQuiet tt (λ l ps net h. ((let e_ : is_updated l ≡ false = grind (arith, nat_tests) in e_), h)) (λ a b l ps h. (tt, h))) xs net);
   asks = λ p m. Quiet (by_migrates AllQuiet o p (refl, tt) (refl, tt) (λ n off is. (tt, tt)));
+  calls = λ p m. Quiet (by_calls_off AllQuiet o m p (refl, tt) (λ from is come. (refl, sends_quiet from (o.view.held m p) (to_kernel MessageKind.CallOff from ∷ []) (tt, tt))));
 })
 
 abbrev begun : Point → Step → Point

@@ -3,7 +3,7 @@ use Rattle.dm_settlelaws.proofs.Names.{◌≡◌, ℕ, ◌+◌, ◌/◌, ◌==�
 use Rattle.dm_settlelaws.proofs.Names.{Stage, plain_kind, PlainMessage, PlainWhat, Boot, BootImage, first_number, switchboard, manager, PlainProcess, answer_id, bind-is, Line, Sender, is_told_back, accepts, chunks_of, told_ended}
 use Rattle.dm_settlelaws.proofs.Names.{forwards_on, told_here, told_step, leaves, pieces_of, process_told, sends_on, told_server, takes_block, takes_chunk, to_kernel, Part, Says, Routes, Again, Owns, Transmits, Point, Room, board_took}
 use Rattle.dm_settlelaws.proofs.Names.{comes_to, creation_parts, drop_parts, ended_handles, fits, free_room, handles, has_room, hears, here_handles, kernel_handles, kernel_hears, landing_parts, manager_parts, process_handles, routes, says}
-use Rattle.dm_settlelaws.proofs.Names.{About, Known, Of, Told, target_of, touches, lets_go, told_lets_go, MoveNote, Outcome, answers_move, leaves_for, tells_asker, sort_of}
+use Rattle.dm_settlelaws.proofs.Names.{About, Known, Of, Told, target_of, touches, lets_go, told_lets_go, MoveNote, Outcome, answers_move, leaves_for, tells_asker, sort_of, bind, is_stale}
 use Rattle.dm_onekernel.specs.Pieces as pieces
 use Rattle.dm_onekernel.specs.Switchboard as board
 use Rattle.dm_onekernel.specs.Manager as manage
@@ -176,6 +176,8 @@ kernel_told_row : (pt : Point) (m : ℕ) (i : MsgId) (t : Told) (p : Pid) (room 
 kernel_told_row pt m i t p room x MessageKind.Ask is ps e = accepts_row i (Some t) i.from.home p room.0 room.1 room.2 ps e
 kernel_told_row pt m i t p room x MessageKind.Refuse is ps e =
     back_row i (Some t) (Line.Stays p) (tells_asker (pt.kernel.notes p) Outcome.Stayed) ps tt refl (ap lets_go is) (asker_calm (pt.kernel.notes p) Outcome.Stayed) e
+kernel_told_row pt m i t p room x MessageKind.CallOff is ps e =
+    back_row i (Some t) (Line.Stays p) (tells_asker (pt.kernel.notes p) Outcome.Stayed) ps tt refl (ap lets_go is) (asker_calm (pt.kernel.notes p) Outcome.Stayed) e
 kernel_told_row pt m i t p room x MessageKind.PullState is ps e = quiet_row i (Some t) (Line.Proto i) (to_kernel MessageKind.State i.from.home ∷ []) ps refl refl refl (tt, tt) e
 kernel_told_row pt m i t p room x MessageKind.State is ps e = chunk_row i (Some t) p (pt.view.asked p == chunks_of x) ps e
 kernel_told_row pt m i t p room x MessageKind.PullBlock is ps e = quiet_row i (Some t) (Line.Proto i) (to_kernel MessageKind.Memory i.from.home ∷ []) ps refl refl refl (tt, tt) e
@@ -187,8 +189,11 @@ kernel_told_row pt m i t p room x k is ps e = cc
 
 kernel_hears_row : (b : Boot) (pt : Point) (m : ℕ) (i : MsgId) (t : Told) (a : About) → HandlesBy i (Some t) (kernel_hears b pt m i t.kind a)
 kernel_hears_row b pt m i t (Of p) ps e =
+    chosen i (Some t) (is_stale pt m i t.kind p) (Some (Says (Line.Stale i) ∷ [])) (bind (kernel.alive (pt.kernel.processes p)) (λ x. told_step pt m i p (fits (free_room b pt m) (length x.memory / 256)) x (sort_of t.kind)))
+    (λ ps e. quiet_row i (Some t) (Line.Stale i) [] ps refl refl refl tt e)
+    (λ ps e.
     let (x, there, is) = bind-is (kernel.alive (pt.kernel.processes p)) (λ x. told_step pt m i p (fits (free_room b pt m) (length x.memory / 256)) x (sort_of t.kind)) ps e in
-    kernel_told_row pt m i t p (fits (free_room b pt m) (length x.memory / 256)) x t.kind refl ps is
+    kernel_told_row pt m i t p (fits (free_room b pt m) (length x.memory / 256)) x t.kind refl ps is) ps e
 kernel_hears_row b pt m i t a ps e = cc
 
 server_row : (pt : Point) (i : MsgId) (t : Told) (k : MessageKind) → HandlesBy i (Some t) (told_server pt i t (sort_of k))

@@ -2,7 +2,7 @@
 use Rattle.dm_settlelaws.proofs.Names.{◌≡◌, ℕ, suc, ◌+◌, ◌-◌, ◌<◌, ◌≤◌, Bool, true, false, List, [], ◌∷◌, ◌++◌, drop, length, length-drop, nat_lt, refl, ap, ◌∙◌, sym, subst, inl, inr, arith, if◌then◌else◌, Option, None, Some, cases_Bool}
 use Rattle.dm_settlelaws.proofs.Names.{false≢true, eqb_tells, leb_tells, Pid, MsgId, MessageKind, Boot, IsValid, id_eq-same, Step, Line, sum_below, IsKept, Leads, Part, Says, Spelled, spelled, is_between, Point, first_point, moved}
 use Rattle.dm_settlelaws.proofs.Names.{has_mail, group_of, turns, Held, Untaken, times, untaken, Pair, Told, View, view_after, group_is, hushed, pairs_stand_always, onward, pair_same, says_view, seen, touches, run_always, IsOfMove, within}
-use Rattle.dm_settlelaws.proofs.Names.{routed_always, leads_append, protocol_moves, IsLess, Left, Messages, Numbers, Releases, left, lets_go, numbers_left, one_each, one_let_go, told_lets_go, weight, weight_of}
+use Rattle.dm_settlelaws.proofs.Names.{routed_always, leads_append, protocol_moves, IsLess, Left, Messages, Numbers, Releases, left, lets_go, numbers_left, one_each, one_let_go, told_lets_go, weight, weight_of, left_ways}
 use Rattle.dm_settlelaws.proofs.Effects.{Effect, Returns, back_in, effect, line_takes, takes_front}
 use Rattle.dm_settlelaws.proofs.Grows.{Grows, Longer, Lowers, calm_light, grows_on, grows_same, has_route, longer_last, no_back, parts_grow, parts_longer, parts_lower, touches_none}
 use Rattle.dm_settlelaws.proofs.Falls.Handles.{AllCalm, comes_row, is_back}
@@ -77,13 +77,14 @@ ends_within b es fs v w valid before leads grows l =
           record { from = from; to = to_within b fs w l.from l.to valid leads (omega (arith, more, stands, same)) }
     ]
 
--- a restart or a refusal is never held back
+-- a restart, a refusal or a calling off is never held back
 not_held : (v : View) (m : ℕ) (p : Pid) (i : MsgId) (t : Told) → IsOfMove v i t → 1 ≤ times i (v.held m p) → ⊥
 not_held v m p i t h stands = elim (h.moves.token.ways (Held m p) stands) [ inl e ↦ cc | inr e ↦ cc ]
 
 between : (k : MessageKind) → lets_go k ≡ true → is_between k ≡ true
 between MessageKind.Restart e = refl
 between MessageKind.Refuse e = refl
+between MessageKind.CallOff e = refl
 between k e = cc
 
 none_held : (b : Boot) (es : List Step) (pt : Point) (m : ℕ) (p : Pid) (i : MsgId) → IsValid b → Leads b (first_point b) es pt → 1 ≤ times i (pt.view.held m p) → one_let_go pt.view i ≡ 0
@@ -92,7 +93,10 @@ none_held b es pt m p i valid leads stands = ap (λ (c : Bool). if c then 1 else
     by : (o : Option Told) → pt.view.told i ≡ o → told_lets_go o ≡ false
     by None e = refl
     by (Some t) e = elim (cases_Bool (lets_go t.kind)) [
-      | inl so ↦ absurd (not_held pt.view m p i t (protocol_moves b es pt i t (Held m p) valid leads e (between t.kind so) stands) stands)
+      | inl so ↦ elim (protocol_moves b es pt i t (Held m p) valid leads e (between t.kind so) stands) [
+        | inl h ↦ absurd (not_held pt.view m p i t h stands)
+        | inr h ↦ absurd (false≢true (sym (left_ways pt.view h.process h.phase i t (Held m p) h.left stands)))
+      ]
       | inr not_so ↦ not_so
     ]
 

@@ -1,7 +1,7 @@
 -- No message goes to a machine that there isn't.
 use Rattle.dm_settlelaws.proofs.Names.{◌≡◌, ◌≢◌, ℕ, zero, suc, ◌-◌, ◌≤◌, ◌==◌, Bool, true, false, List, [], ◌∷◌, ◌++◌, length, refl, ap, ◌∙◌, subst, inl, inr, arith, if◌then◌else◌, Some, eqb_tells, MsgId, Boot, IsValid, Step, Line, Leads}
 use Rattle.dm_settlelaws.proofs.Names.{migrates, Part, Says, Routes, Again, Owns, Transmits, Spelled, Point, first_point, moved, group_of, numbers_from, outstanding_count, repeats, resends, Pair, View, GroupIs, group_is, pairs_stand_always}
-use Rattle.dm_settlelaws.proofs.Names.{AllFit, migrates_fit, turns_fit, run_always, routed_always, leads_append}
+use Rattle.dm_settlelaws.proofs.Names.{AllFit, migrates_fit, turns_fit, run_always, routed_always, leads_append, calls_off, calls_off_fit}
 use Rattle.dm_settlelaws.proofs.Falls.Delivers.{deliver_ids}
 use Rattle.dm_settlelaws.proofs.Grows.{AllLight, Grows, parts_grow}
 use Rattle.dm_settlelaws.proofs.Falls.TurnFalls.{to_within}
@@ -77,6 +77,10 @@ far_group b es fs v (Step.Migrate p m) w valid before leads e h =
     let g = group_is b v (Step.Migrate p m) w e in
     let are : migrates v p ≡ g.parts = let t = g.is in cc in
     grown_far b es fs v w.point valid before leads (light_grows b v (Step.Migrate p m) w g refl (subst AllLight are (fit_light v.view.pair (migrates v p) (migrates_fit v.view.pair v p)))) h
+far_group b es fs v (Step.CallOff p m) w valid before leads e h =
+    let g = group_is b v (Step.CallOff p m) w e in
+    let are : calls_off v m p (v.view.known m p) ≡ g.parts = let t = g.is in cc in
+    grown_far b es fs v w.point valid before leads (light_grows b v (Step.CallOff p m) w g refl (subst AllLight are (fit_light v.view.pair (calls_off v m p (v.view.known m p)) (calls_off_fit v.view.pair v m p)))) h
 
 far_on : (b : Boot) (es ds : List Step) (v w : Point) → IsValid b → Leads b (first_point b) es v → Leads b v ds w → Far (length b.machines) v.view → Far (length b.machines) w.view
 far_on b es [] v w valid before leads h = subst (λ (q : Point). Far (length b.machines) q.view) leads h

@@ -1,6 +1,7 @@
 -- Wherever the rule leads, on each pair of machines each has done its part.
 use Rattle.dm_settlelaws.proofs.Names.{◌≡◌, ℕ, ◌==◌, false, List, [], ◌∷◌, refl, ap, ◌∙◌, subst, inl, arith, slice_get, Some, nat_tests, Boot, Step, Line, IsStep, Leads, migrates, Says, Spelled, spelled, Point, first_point, moved, arrives}
-use Rattle.dm_settlelaws.proofs.Names.{group_of, outstanding_count, resends, first_view, arrives_net, group_is, Pairs, Pairs-group, Pairs-start, AllFit, migrates_fit, resends_fit, turns_fit, PairsRestAlways, acked_out_by}
+use Rattle.dm_settlelaws.proofs.Names.{group_of, outstanding_count, resends, first_view, arrives_net, group_is, Pairs, Pairs-group, Pairs-start, AllFit, migrates_fit, resends_fit, turns_fit, PairsRestAlways, acked_out_by, calls_off}
+use Rattle.dm_settlelaws.proofs.Names.{calls_off_fit}
 use Rattle.dm_settlelaws.proofs.Rests.RestsComes.{arrives_rest, net_pairs}
 use Rattle.dm_settlelaws.proofs.Rests.RestsParts.{Rest, parts_rest}
 
@@ -48,6 +49,12 @@ rest_group b pt (Step.Migrate p m) w fit is pairs h =
     let parts : migrates pt p ≡ g.parts = let x = g.is in cc in
     subst (λ (q : Point). Rest q.view.pair) g.point
     (parts_rest g.parts begun g.rest (subst (AllFit begun.view.pair) parts (migrates_fit begun.view.pair pt p)) pairs h g.said)
+rest_group b pt (Step.CallOff p m) w fit is pairs h =
+    let g = group_is b pt (Step.CallOff p m) w is in
+    let begun = moved pt (Line.Head (Step.CallOff p m)) pt.kernel in
+    let parts : calls_off pt m p (pt.view.known m p) ≡ g.parts = let x = g.is in cc in
+    subst (λ (q : Point). Rest q.view.pair) g.point
+    (parts_rest g.parts begun g.rest (subst (AllFit begun.view.pair) parts (calls_off_fit begun.view.pair pt m p)) pairs h g.said)
 
 rest_on : (b : Boot) (es : List Step) (pt end : Point) → Leads b pt es end → Pairs pt.view → Rest pt.view.pair → Rest end.view.pair
 rest_on b [] pt end leads pairs h = subst (λ (q : Point). Rest q.view.pair) leads h

@@ -1,8 +1,8 @@
 -- A delivery keeps what has been done on each pair of machines.
 use Rattle.dm_settlelaws.proofs.Names.{◌≡◌, ◌≢◌, ◌⊎◌, ℕ, zero, suc, ◌+◌, ◌<◌, ◌≤◌, ◌==◌, ◌&&◌, ◌||◌, not, Bool, true, false, List, [], ◌∷◌, ◌++◌, length, nat_lt, refl, ap, ◌∙◌, sym, subst, inl, inr, arith, if◌then◌else◌, slice_get, Option}
-use Rattle.dm_settlelaws.proofs.Names.{None, Some, false≢true, eqb_tells, nat_tests, Line, Load, at_pair, Part, Says, Transmits, Spelled, spelled, pair_window, Point, arrives, comes, has, kept_from, let_go, repeats, taking_parts}
-use Rattle.dm_settlelaws.proofs.Names.{takes_on, Pair, SentLoad, View, at_least, marked, view_after, Apart, KeptStands, set_other, set_same, off, off_has, or_cases, onward, says_view, taken_pair, transmits_view, IsNet, IsNetLine, PairRests}
-use Rattle.dm_settlelaws.proofs.Names.{not_true, or_first, or_second}
+use Rattle.dm_settlelaws.proofs.Names.{None, Some, false≢true, eqb_tells, nat_tests, Line, Load, at_pair, Part, Says, Transmits, Spelled, spelled, pair_window, Point, arrives, comes, has, kept_from, let_go, repeats, taking_parts, takes_on}
+use Rattle.dm_settlelaws.proofs.Names.{Pair, SentLoad, View, at_least, marked, view_after, Apart, KeptStands, set_other, set_same, off, off_has, or_cases, onward, says_view, taken_pair, transmits_view, IsNet, IsNetLine, PairRests, not_true}
+use Rattle.dm_settlelaws.proofs.Names.{or_first, or_second}
 use Rattle.dm_rule.specs.View as view
 use Rattle.dm_settlelaws.proofs.Rests.RestsPairs.{Comes, ack_back, ack_rests, acknowledged, data_back, data_rests, heard_of, repeated, sent_all}
 use Rattle.dm_settlelaws.proofs.Rests.RestsParts.{Rest, Two, rest_two}
