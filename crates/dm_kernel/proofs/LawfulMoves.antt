@@ -6,6 +6,8 @@ use Rattle.dm_kernel.proofs.Names.{Nothing, Arrival, expected, pull, with_block,
 use Rattle.dm_kernel.proofs.Names.{slots_of, switchboard, MoveError, moves_child, moves_lawful, Servers, Part, Routes, asks_manager, asks_move, told_to_move, accepts, answers_ask, holds_arriving, restarts, restarts_as, takes_piece}
 use Rattle.dm_kernel.proofs.Names.{took_piece, freezes, gives_piece, holds_leaving, leaves, migrates, stays, board_follows, forwards, forwards_and, manager_follows, process_follows, AreLawful, IsLawfulArrival, IsLawfulDeparture}
 use Rattle.dm_kernel.proofs.Names.{IsLawfulPair, IsLawfulPart, IsLawfulState, MayRestart, KernelState, own, own_id, Outcome, asker_of, moved_answer, asked_to_move, freezing, tells_asker, with_frozen, IsLawfulAsker, with_sent, state_of}
+use Rattle.dm_kernel.proofs.Names.{incoming_of, all_sent_back, comes_from, is_whole, calling_off, calls_arriving_off, calls_off, hears_piece, is_not_called, says_stale, turns_back, without_arriving, IsLawfulKnown, IsLawfulTurned}
+use Rattle.dm_kernel.proofs.Names.{KernelKnown, Ended}
 use Rattle.dm_message.specs.declared.What.TheVariants as what
 use Rattle.dm_message.specs.declared.Outcome.TheVariants as ends
 use Rattle.dm_procman.specs.declared.moving.MoveError.TheVariants as no
@@ -206,7 +208,7 @@ accepts_lawfully b s m p blocks moves size asker true here h message home asks =
     record {
       state =
           record {
-            records = knows s p (Incoming (expected p blocks moves size asker (slots_of b.format))) h (record { home = home; asker = asks; held = All-nil IsLawfulMessage });
+            records = knows s p (Incoming (expected p m.id.from.home blocks moves size asker (slots_of b.format))) h (record { home = home; source = message.from; asker = asks; held = All-nil IsLawfulMessage });
             room = same_room s.room _ _ h.room;
             inbox = h.inbox;
             servers = h.servers;
@@ -229,7 +231,7 @@ holds_arriving_lawfully s m a h lawful message =
     record {
       state =
           record {
-            records = knows s m.to.pid (Incoming (with_held_too a m)) h (record { home = lawful.home; asker = lawful.asker; held = All-push IsLawfulMessage a.held m lawful.held message });
+            records = knows s m.to.pid (Incoming (with_held_too a m)) h (record { home = lawful.home; source = lawful.source; asker = lawful.asker; held = All-push IsLawfulMessage a.held m lawful.held message });
             room = h.room;
             inbox = h.inbox;
             servers = h.servers;
@@ -256,9 +258,9 @@ took_lawfully s m p a here h message lawful =
 
 piece_lawfully : (s : KernelState) (m : Message) (p : Pid) (a : Arrival) (w : What) → s.here < 16 → IsLawfulState s → IsLawfulMessage m → IsLawfulArrival a → Lawfully (took_piece s m p (with_piece a w))
 piece_lawfully s m p a (what.State q k last bytes) here h message lawful =
-    took_lawfully s m p (with_chunk a k last bytes.items) here h message (record { home = lawful.home; asker = lawful.asker; held = lawful.held })
+    took_lawfully s m p (with_chunk a k last bytes.items) here h message (record { home = lawful.home; source = lawful.source; asker = lawful.asker; held = lawful.held })
 piece_lawfully s m p a (what.Memory q k bytes) here h message lawful =
-    took_lawfully s m p (with_block a k bytes) here h message (record { home = lawful.home; asker = lawful.asker; held = lawful.held })
+    took_lawfully s m p (with_block a k bytes) here h message (record { home = lawful.home; source = lawful.source; asker = lawful.asker; held = lawful.held })
 piece_lawfully s m p a w here h message lawful = tt
 
 pub takes_lawfully : (s : KernelState) (m : Message) (p : Pid) (a : Arrival) → s.here < 16 → IsLawfulState s → IsLawfulMessage m → IsLawfulArrival a → Lawfully (takes_piece s m p a)
@@ -280,6 +282,45 @@ restarts_as_lawfully s p a x here h lawful process =
 pub restarts_lawfully : (s : KernelState) (p : Pid) (a : Arrival) → s.here < 16 → IsLawfulState s → IsLawfulArrival a → MayRestart a → Lawfully (restarts s p a)
 restarts_lawfully s p a here h lawful may =
     subst (λ (o : Option Process). Lawfully (restarts_as s p a o)) (sym may.restarts) (restarts_as_lawfully s p a may.process here h lawful may.lawful)
+
+-- what comes of a piece, if it is waited for
+pub hears_lawfully : (s : KernelState) (m : Message) (p : Pid) (o : Option Arrival) → s.here < 16 → IsLawfulState s → IsLawfulMessage m → IfSome o IsLawfulArrival → Lawfully (hears_piece s m p o)
+hears_lawfully s m p None here h message lawful = record { state = h; parts = said none_said }
+hears_lawfully s m p (Some a) here h message lawful =
+    if_lawfully (comes_from a m.id.from.home) (takes_piece s m p a) (says_stale s m) (λ awaited. takes_lawfully s m p a here h message lawful)
+    (λ other. record { state = h; parts = said none_said })
+
+-- a migration is called off
+turns_back_lawfully : (s : KernelState) (p : Pid) (a : Arrival) → s.here < 16 → IsLawfulState s → IsLawfulArrival a → IsLawfulTurned (record { state = with_sent (without_arriving s p a); parts = calling_off s p a })
+turns_back_lawfully s p a here h lawful =
+    let back : All IsLawfulMessage (all_sent_back a) = lawful_all a.source a.moves (all_sent_back a) [] a.held refl lawful.source (All-nil IsLawfulMessage) lawful.held in
+    let to : IsMachine a.source = lawful.source in
+    record {
+      state =
+          record {
+            records = knows s p (Forward a.source a.moves) h lawful.source;
+            room = same_room s.room _ _ h.room;
+            inbox = h.inbox;
+            servers = h.servers;
+          };
+      parts = said (all_routed (all_sent_back a) _ back (routed _ (own_lawfully s (kernel_at a.source) (what.CallOff a.pid) here (kernel_address a.source (omega arith)) refl lawful.home)));
+    }
+
+arriving_called_off : (s : KernelState) (p : Pid) (o : Option Arrival) → s.here < 16 → IsLawfulState s → IfSome o IsLawfulArrival → Lawfully (calls_arriving_off s p o)
+arriving_called_off s p None here h lawful = record { state = h; parts = said none_said }
+arriving_called_off s p (Some a) here h lawful =
+    if_lawfully (is_whole a.wanted) (is_not_called s p) (turns_back s p a) (λ all. record { state = h; parts = said none_said }) (λ some. turns_back_lawfully s p a here h lawful)
+
+pub arriving_known : (o : Option KernelKnown) → IfSome o IsLawfulKnown → IfSome (incoming_of o) IsLawfulArrival
+arriving_known None h = tt
+arriving_known (Some (Here x)) h = tt
+arriving_known (Some (Frozen d)) h = tt
+arriving_known (Some (Incoming a)) h = h
+arriving_known (Some (Forward place moves)) h = tt
+arriving_known (Some (Ended y)) h = tt
+
+pub called_off_lawfully : (s : KernelState) (p : Pid) → s.here < 16 → IsLawfulState s → Lawfully (calls_off s p)
+called_off_lawfully s p here h = arriving_called_off s p (incoming_of (s.records p)) here h (arriving_known (s.records p) (h.records p))
 
 -- a process is told to move
 told_lawfully : (s : KernelState) (p : Pid) (r : Result Message MoveError) → IsLawfulState s → IfOk r IsLawfulMessage → Lawfully (told_to_move s p r)

@@ -4,10 +4,10 @@ use Rattle.dm_kernel.proofs.Names.{Addr, Link, Pid, IsLawfulEnclosed, IsMachine,
 use Rattle.dm_kernel.proofs.Names.{Incoming, Forward, Ended, frozen_of, incoming_of, Arrival, Departure, HasChunk, block_of, chunk_of, bind, Landed, Landing, IsAwaited, IsLawfulLanded, landing, IsWithin, after_serving, gone_answer}
 use Rattle.dm_kernel.proofs.Names.{serving_answer, IsLawfulLanding, lands_lawfully, answers_lawfully, serves_lawfully, Boot, BootImage, Reply, Why, image_is_valid, images_are_valid, manager, slots_of, switchboard, plain_process}
 use Rattle.dm_kernel.proofs.Names.{receive_refusals, first_failed, heard, manager_after, message_after, moved_back, answer_after, board_after, Called, calls, Completion, completes, completes_unless, completion, refusal, IsLawfulCalled}
-use Rattle.dm_kernel.proofs.Names.{completes_lawfully, IsLawfulDone, call_lawfully, Servers, Halt, asks_move, child_of, restarts, takes_piece, gives_piece, leaves, stays, answers_with, board_handles, board_took, ended_handles, handles}
+use Rattle.dm_kernel.proofs.Names.{completes_lawfully, IsLawfulDone, call_lawfully, Servers, Halt, asks_move, child_of, restarts, gives_piece, leaves, stays, answers_with, board_handles, board_took, ended_handles, handles}
 use Rattle.dm_kernel.proofs.Names.{here_handles, kernel_handles, lands, lands_as, makes, makes_of, manager_handles, manager_took, next_pid, process_handles, told_board, told_manager, IsLawfulArrival, IsLawfulDeparture, IsLawfulKnown}
 use Rattle.dm_kernel.proofs.Names.{IsLawfulPair, IsLawfulState, IsLawfulTurned, FitsEnded, FitsHere, FitsKernel, FrontMay, FitsKnown, FitsManager, FitsManagerWhat, IsSuch, MayHandle, MayRestart, MayTurn, called_with, ends, halts}
-use Rattle.dm_kernel.proofs.Names.{processor_of, ran, received_by, receives, serves, serves_status, with_machine, KernelState, KernelKnown, Turned, with_here, first_runnable, goes_round, turn, turns, answer, gone_what, state_of}
+use Rattle.dm_kernel.proofs.Names.{processor_of, ran, received_by, receives, serves, serves_status, with_machine, KernelState, KernelKnown, Turned, with_here, first_runnable, goes_round, turn, turns, answer, gone_what, state_of, calls_off}
 use Rattle.dm_message.specs.declared.What.TheVariants as what
 use Rattle.dm_message.specs.declared.Outcome.TheVariants as ends
 use Rattle.dm_process.specs.declared.process.Status.TheVariants as status
@@ -22,7 +22,8 @@ use Rattle.dm_kernel.specs.Handle.{has_room}
 use Rattle.dm_kernel.proofs.Making.{image_fits}
 use Rattle.dm_kernel.proofs.Serving.{first_is_on, has_run, runs_lawfully}
 use Rattle.dm_kernel.proofs.LawfulMoves.{asked_lawfully, asks_lawfully, asks_move_lawfully, board_follows_lawfully, chunk_lawfully, forwards_lawfully, gives_lawfully}
-use Rattle.dm_kernel.proofs.LawfulMoves.{holds_arriving_lawfully, holds_leaving_lawfully, leaves_lawfully, manager_follows_lawfully, migrates_lawfully, not_server, process_follows_lawfully, restarts_lawfully, stays_lawfully, takes_lawfully}
+use Rattle.dm_kernel.proofs.LawfulMoves.{holds_arriving_lawfully, holds_leaving_lawfully, leaves_lawfully, manager_follows_lawfully, migrates_lawfully, not_server, process_follows_lawfully, restarts_lawfully, stays_lawfully}
+use Rattle.dm_kernel.proofs.LawfulMoves.{arriving_known, called_off_lawfully, hears_lawfully}
 use Rattle.dm_kernel.proofs.LawfulRows.{Lawfully, all_dropped, answer_lawfully, child_lawfully, enough, if_lawfully, none_said, of_known, routed, routes_lawfully, said, with_one_more, with_process, with_queued, with_stopped, without}
 
 -- a process that executes
@@ -229,7 +230,7 @@ such : {X : Type 0} (P : X → Type 0) (o : Option X) (x : X) → o ≡ Some x �
 such P None x e h = absurd h
 such P (Some y) x e h = let same : y ≡ x = cc in subst P same h
 
-kernel_lawfully : (b : Boot) (s : KernelState) (m : Message) (w : What) → s.here < 16 → images_are_valid b.images ≡ true → IsLawfulState s → IsLawfulMessage m → IsLawfulWhat w → FitsKernel b s w
+kernel_lawfully : (b : Boot) (s : KernelState) (m : Message) (w : What) → s.here < 16 → images_are_valid b.images ≡ true → IsLawfulState s → IsLawfulMessage m → IsLawfulWhat w → FitsKernel b s m w
     → Lawfully (kernel_handles b s m w)
 kernel_lawfully b s m (what.Create image links) machine images h message lawful fits =
     makes_of_lawfully b s m links.items (slice_get b.images image) machine h message (λ i at. image_fits b.images image i images at) lawful.0 lawful.1
@@ -241,17 +242,18 @@ kernel_lawfully b s m (what.PullState pid chunk) machine images h message lawful
     gives_lawfully s m (chunk_of d.process.pid (state_of d.process) chunk) machine h message refl
     (chunk_lawfully d.process chunk leaving.process.home (such (λ (d : Departure). HasChunk (state_of d.process) chunk) (frozen_of (s.records pid)) d e fits.0)))
 kernel_lawfully b s m (what.State pid chunk last bytes) machine images h message lawful fits =
-    each_arriving (s.records pid) (takes_piece s m pid) (h.records pid) (λ a e arriving. takes_lawfully s m pid a machine h message arriving)
+    hears_lawfully s m pid (incoming_of (s.records pid)) machine h message (arriving_known (s.records pid) (h.records pid))
 kernel_lawfully b s m (what.PullBlock pid block) machine images h message lawful fits =
     each_leaving (s.records pid) (λ d. gives_piece s m (block_of d.process.pid d.process.memory block)) (h.records pid)
     (λ d e leaving. gives_lawfully s m (block_of d.process.pid d.process.memory block) machine h message refl leaving.process.home)
 kernel_lawfully b s m (what.Memory pid block bytes) machine images h message lawful fits =
-    each_arriving (s.records pid) (takes_piece s m pid) (h.records pid) (λ a e arriving. takes_lawfully s m pid a machine h message arriving)
+    hears_lawfully s m pid (incoming_of (s.records pid)) machine h message (arriving_known (s.records pid) (h.records pid))
 kernel_lawfully b s m (what.AllTaken pid) machine images h message lawful fits =
     each_leaving (s.records pid) (leaves s pid) (h.records pid) (λ d e leaving. leaves_lawfully s pid d machine lawful h leaving)
 kernel_lawfully b s m (what.Restart pid) machine images h message lawful fits =
     each_arriving (s.records pid) (restarts s pid) (h.records pid)
     (λ a e arriving. restarts_lawfully s pid a machine h arriving (such MayRestart (incoming_of (s.records pid)) a e fits))
+kernel_lawfully b s m (what.CallOff pid) machine images h message lawful fits = each_leaving (s.records pid) (stays s pid) (h.records pid) (λ d e leaving. stays_lawfully s pid d machine h leaving)
 kernel_lawfully b s m w machine images h message lawful fits = absurd fits
 
 -- a message for a server
@@ -341,9 +343,9 @@ without_front s m rest e h =
 with_ring : (s : KernelState) (ring : List Pid) → IsLawfulState s → IsLawfulState (record s { ring = ring })
 with_ring s ring h = record { records = h.records; room = h.room; inbox = h.inbox; servers = h.servers }
 
-fits_still : (b : Boot) (s : KernelState) (rest : List Message) (w : What) → FitsKernel b s w → FitsKernel b (record s { inbox = rest }) w
-fits_still b s rest (what.Create image links) h = h
-fits_still b s rest w h = h
+fits_still : (b : Boot) (s : KernelState) (m : Message) (rest : List Message) (w : What) → FitsKernel b s m w → FitsKernel b (record s { inbox = rest }) m w
+fits_still b s m rest (what.Create image links) h = h
+fits_still b s m rest w h = h
 
 known_still : (s : KernelState) (m : Message) (rest : List Message) (o : Option KernelKnown) → FitsKnown s m o → FitsKnown (record s { inbox = rest }) m o
 known_still s m rest None h = h
@@ -360,7 +362,7 @@ known_still s m rest (Some (Ended y)) h = h
 
 may_front : (b : Boot) (s : KernelState) (m : Message) (rest : List Message) → MayHandle b s m → MayHandle b (record s { inbox = rest }) m
 may_front b s m rest h =
-    record { lawful = h.lawful; for_kernel = λ is. fits_still b s rest m.what (h.for_kernel is); for_board = h.for_board; for_manager = h.for_manager; for_process = λ no nor none. known_still s m rest (s.records m.to.pid) (h.for_process no nor none) }
+    record { lawful = h.lawful; for_kernel = λ is. fits_still b s m rest m.what (h.for_kernel is); for_board = h.for_board; for_manager = h.for_manager; for_process = λ no nor none. known_still s m rest (s.records m.to.pid) (h.for_process no nor none) }
 
 round_lawfully : (b : Boot) (s : KernelState) (o : Option Pid) → s.here < 16 → IsLawfulState s → Lawfully (goes_round b s o)
 round_lawfully b s None machine h = record { state = h; parts = said none_said }
@@ -383,3 +385,7 @@ turn_lawful b s t images may h e = some_lawfully (turn b s) t e (turns_lawfully 
 -- asking for a move
 pub asked_lawful : (s : KernelState) (p : Pid) (machine : ℕ) (t : Turned) → s.here < 16 → IsMachine machine → IsLawfulState s → asks_move s p machine ≡ Some t → IsLawfulTurned t
 asked_lawful s p machine t here to h e = some_lawfully (asks_move s p machine) t e (asks_move_lawfully s p machine here to h)
+
+-- calling a migration off
+pub called_off_lawful : (s : KernelState) (p : Pid) (t : Turned) → s.here < 16 → IsLawfulState s → calls_off s p ≡ Some t → IsLawfulTurned t
+called_off_lawful s p t here h e = some_lawfully (calls_off s p) t e (called_off_lawfully s p here h)

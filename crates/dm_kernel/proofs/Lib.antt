@@ -12,6 +12,7 @@ pub mod Fitting
 pub mod LawfulRows
 pub mod LawfulMoves
 pub mod LawfulTurns
+pub mod Calling
 pub mod LawfulStart
 pub mod Worked
 mod WorkedMoves

@@ -10,33 +10,33 @@ pub use Rattle.std.specs.Option.{option_copied_mut}
 pub use Rattle.std.specs.Prelude.{Vec, ⊤}
 pub use Rattle.std.specs.declared.alloc.Global.{Global}
 pub use Rattle.dm_link.specs.Names.{pid_of}
-pub use Rattle.dm_records.proofs.Names.{Bool, IsSome, Option, Pid, ap, arith, at, common_steps, false, if◌then◌else◌, pid_eq, refl, rules, sym, true, ◌∙◌, ◌≡◌}
-pub use Rattle.dm_records.specs.Records.{frozen_of, here_of, incoming_of, with_record}
+pub use Rattle.dm_records.proofs.Names.{at}
+pub use Rattle.dm_records.specs.Records.{frozen_of, here_of, incoming_of, with_record, without_record}
 pub use Rattle.dm_records.specs.declared.record.Record.TheVariants.{Ended, Forward, Frozen, Here, Incoming}
 pub use Rattle.dm_processor.proofs.Lengths.{instruction-lengths}
-pub use Rattle.dm_processor.proofs.Names.{KeepsLengths, List, None, Row, Some, [], drop, get_or, length, nat_tests, replicate, suc, take, zero, ℕ, ◌*◌, ◌++◌, ◌+◌, ◌-◌, ◌/◌, ◌<◌, ◌∷◌, ◌≤◌}
+pub use Rattle.dm_processor.proofs.Names.{KeepsLengths, Row}
 pub use Rattle.dm_processor.specs.Instructions.{DoesRow}
 unfoldable pub use Rattle.dm_processor.specs.Instructions.{instruction}
-pub use Rattle.dm_room.proofs.Names.{HasTaken, remove, slice_get}
+pub use Rattle.dm_room.proofs.Names.{HasTaken}
 pub use Rattle.dm_room.specs.Room.{Taken, free_blocks, free_slots, has_room, with_reserved}
 pub use Rattle.dm_message.specs.Ids.{id_of}
 pub use Rattle.dm_message.specs.Lawful.{IsServer}
-pub use Rattle.dm_linktable.proofs.Names.{Link, first_empty, is_none, length-map, link_at, map, set, subst, ◌&&◌, ◌==◌}
 pub use Rattle.dm_linktable.proofs.ReceiverOrder.{pid_eq_same}
-pub use Rattle.dm_schedule.proofs.Names.{not, position_or_len}
-pub use Rattle.dm_process.proofs.Names.{Message, add-one, first_on, is_on, min, without_first_on}
+pub use Rattle.dm_schedule.proofs.Names.{not}
+pub use Rattle.dm_process.proofs.Names.{first_on, is_on, remove, without_first_on}
 pub use Rattle.dm_process.specs.Process.{is_runnable}
 pub use Rattle.dm_process.specs.Service.{IsServiceOf, Takes}
 pub use Rattle.dm_process.specs.declared.process.Service.{Service}
 pub use Rattle.dm_process.specs.declared.process.Service.TheVariants.{Execute}
 pub use Rattle.dm_linkupdate.proofs.Lawful.{applied_lawful}
-pub use Rattle.dm_linkupdate.proofs.Names.{Addr, All, All-map, IsLawfulAddr, IsLawfulEnclosed, IsLawfulProcess, IsLawfulStatus, IsMachine, Process, Ready, SlotIsLawful, Status}
 pub use Rattle.dm_linkupdate.specs.Notice.{is_told_back, update_of}
-pub use Rattle.dm_statebytes.proofs.Names.{Direction, General, IfOk, IfSome, IsLawfulMessage, Regs, direction_numbered, inl, inr, length-drop, nat_le, ◌⊎◌}
+pub use Rattle.dm_statebytes.proofs.Names.{Ready}
 unfoldable pub use Rattle.dm_statebytes.specs.Shell.{registers, shell_of_bytes, shell_spelling}
 pub use Rattle.dm_migrate.proofs.Messages.{lawful_all}
-pub use Rattle.dm_migrate.proofs.Names.{All-append, All-cons, Arrival, Asker, Departure, Err, HasChunk, Ok, Result, What, block_of, chunk_bytes, chunk_of, into_iter_items, length-take, pull, sent_on, state_of, with_chunk, with_piece}
-pub use Rattle.dm_migrate.specs.Arrival.{expected, with_block, with_held as with_held_too}
+pub use Rattle.dm_migrate.proofs.Names.{All, All-append, All-cons, All-map, Arrival, Asker, Departure, Err, HasChunk, IfOk, IsLawfulMessage, IsLawfulProcess, IsLawfulStatus, IsMachine, List, Message, None, Ok, Process, Result, Some, What}
+pub use Rattle.dm_migrate.proofs.Names.{[], block_of, chunk_bytes, chunk_of, common_steps, drop, get_or, if◌then◌else◌, into_iter_items, length, length-drop, length-take, map, min, nat_tests, pull, replicate, sent_on, set, state_of, take}
+pub use Rattle.dm_migrate.proofs.Names.{with_chunk, with_piece, ◌*◌, ◌++◌, ◌+◌, ◌-◌, ◌/◌, ◌∷◌, ◌≤◌, ◌⊎◌}
+pub use Rattle.dm_migrate.specs.Arrival.{all_sent_back, comes_from, expected, is_whole, with_block, with_held as with_held_too}
 pub use Rattle.dm_migrate.specs.Asking.{asker_of, moved_answer}
 pub use Rattle.dm_migrate.specs.Departure.{all_sent_on, ask_of, frozen, with_held}
 pub use Rattle.dm_migrate.specs.declared.arriving.Wanted.{Wanted}
@@ -50,31 +50,34 @@ pub use Rattle.dm_onekernel.specs.declared.boot.BootMachine.{BootMachine}
 pub use Rattle.dm_onekernel.specs.declared.boot.Format.{Format}
 pub use Rattle.dm_onekernel.specs.declared.boot.Format.TheVariants.{One, Two}
 pub use Rattle.dm_onekernel.specs.declared.label.Why.{Why}
-pub use Rattle.dm_switchboard.proofs.Imports.{All-push, IsLawfulNamed, IsLawfulWhat, NoMemory, is_some, plain_link, switchboard}
+pub use Rattle.dm_switchboard.proofs.Imports.{IsLawfulNamed, is_some}
 pub use Rattle.dm_switchboard.proofs.Lawful.{answer_after, board_after}
 pub use Rattle.dm_procman.proofs.Hearing.{heard}
 pub use Rattle.dm_procman.proofs.Lawful.{manager_after, message_after, moves_lawful, started_lawful}
-pub use Rattle.dm_procman.proofs.Names.{Boot, BootProcess, IsForManager, IsValid, MsgId, Outcome, is_answer, kernel_at, kind_of, manager, moves_child, process_is_valid, processes_are_valid, starting, starting_at, ◌||◌}
+pub use Rattle.dm_procman.proofs.Names.{All-push, Boot, BootProcess, IsForManager, IsLawfulAddr, IsSome, IsValid, NoMemory, Outcome, kernel_at, manager, moves_child, process_is_valid, processes_are_valid, rules, starting, starting_at}
+pub use Rattle.dm_procman.proofs.Names.{switchboard, ◌||◌}
 pub use Rattle.dm_procman.specs.declared.moving.MoveError.{MoveError}
 pub use Rattle.dm_datamove.proofs.Landings.{lands_lawfully}
-pub use Rattle.dm_datamove.proofs.Names.{All-nil, IsAwaited, IsLawfulLanded, IsWithin, Landing, Reply, after_serving, answer, bind, gone_answer, landing, plain_process, serving_answer}
+pub use Rattle.dm_datamove.proofs.Names.{IsAwaited, IsLawfulLanded, IsWithin, Landing, Pid, after_serving, answer, gone_answer, is_answer, kind_of, landing, nat_le, serving_answer}
 pub use Rattle.dm_datamove.proofs.Services.{answers_lawfully, serves_lawfully}
 pub use Rattle.dm_datamove.proofs.Tested.{none_lawful}
 pub use Rattle.dm_datamove.specs.Serving.{gone_what}
 pub use Rattle.dm_datamove.specs.declared.Landed.{Landed}
 pub use Rattle.dm_syscall.proofs.Completes.{completes_lawfully}
 pub use Rattle.dm_syscall.proofs.LawfulCalls.{IsLawfulDone, call_lawfully}
-pub use Rattle.dm_syscall.proofs.Names.{CallNumber, Completion, Copy, Done, Drop, Exit, IsLawfulCalled, IsLawfulLanding, Make, Move, Out, Receive, Send, Unknown, after_send, begins, call_number, calls, completes, completes_unless}
-pub use Rattle.dm_syscall.proofs.Names.{completion, copies, does_call, drop-cons, first_failed, is_outside, is_reply, make_refusals, message_over, move_refusals, moves, moves_bytes, moves_over, own_link, pid_eq_self, puts_link}
-pub use Rattle.dm_syscall.proofs.Names.{receive_refusals, refusal, reg, replied, send_refusals, sends, unless_refused, waits, whole}
+pub use Rattle.dm_syscall.proofs.Names.{Addr, All-nil, CallNumber, Completion, Copy, Direction, Done, Drop, Exit, General, IfSome, IsLawfulCalled, IsLawfulEnclosed, IsLawfulLanding, IsLawfulWhat, Link, Make, Move, MsgId, Option, Out}
+pub use Rattle.dm_syscall.proofs.Names.{Receive, Regs, Reply, Send, SlotIsLawful, Status, Unknown, add-one, after_send, begins, bind, call_number, calls, completes, completes_unless, completion, copies, direction_numbered, does_call}
+pub use Rattle.dm_syscall.proofs.Names.{drop-cons, first_empty, first_failed, is_none, is_outside, is_reply, length-map, link_at, make_refusals, message_over, move_refusals, moves, moves_bytes, moves_over, own_link, pid_eq, pid_eq_self}
+pub use Rattle.dm_syscall.proofs.Names.{plain_link, plain_process, position_or_len, puts_link, receive_refusals, refusal, reg, replied, send_refusals, sends, slice_get, unless_refused, waits, whole, ◌==◌}
 pub use Rattle.dm_syscall.specs.declared.Called.{Called}
 pub use Rattle.dm_syscall.specs.declared.Completed.{Completed}
+pub use Rattle.dm_line.proofs.Names.{Bool, ap, arith, false, inl, inr, refl, subst, suc, sym, true, zero, ℕ, ◌&&◌, ◌<◌, ◌∙◌, ◌≡◌}
 pub use Rattle.dm_line.specs.Sets.{moved_back, without}
 pub use Rattle.dm_line.specs.declared.line.Line.{Line}
 pub use Rattle.dm_kernel.proofs.All.{with_all}
 pub use Rattle.dm_kernel.specs.Asking.{asks_manager, asks_move, told_to_move}
 pub use Rattle.dm_kernel.specs.Begun.{begins_process, child_of, empty, opened, room_of, with_child}
-pub use Rattle.dm_kernel.specs.Coming.{accepts, answers_ask, holds_arriving, restarts, restarts_as, takes_piece, took_piece}
+pub use Rattle.dm_kernel.specs.Coming.{accepts, answers_ask, calling_off, calls_arriving_off, calls_off, hears_piece, holds_arriving, is_not_called, restarts, restarts_as, says_stale, takes_piece, took_piece, turns_back, without_arriving}
 pub use Rattle.dm_kernel.specs.Departing.{asked_to_move, freezes, freezing, gives_piece, holds_leaving, leaves, migrates, stays, tells_asker, with_frozen}
 pub use Rattle.dm_kernel.specs.Following.{board_follows, forwards, forwards_and, manager_follows, process_follows}
 pub use Rattle.dm_kernel.specs.Handle.{answers_with, board_handles, board_took, ended_handles, handles, here_handles, kernel_handles, lands, lands_as, makes, makes_of, manager_handles, manager_took, next_pid, process_handles, routes}

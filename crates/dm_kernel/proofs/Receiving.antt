@@ -1,7 +1,7 @@
 -- What taking a message comes to, from what the end of the receive gives.
 use Rattle.dm_kernel.proofs.Names.{◌≡◌, ◌∙◌, ℕ, List, [], ◌∷◌, ap, map, remove, slice_get, subst, sym, Some, None, IfOk, Vec, Global, Option, Ok, Err, NoMemory, Link, Pid, plain_link, Message, What, first_on, without_first_on, Takes}
-use Rattle.dm_kernel.proofs.Names.{Process, Status, Reply, plain_process, receive_refusals, first_failed, Completion, completes, completes_unless, completion, Kernel, Part, Answers, IsIn, MeetsSome, kernel_state, completed_label}
-use Rattle.dm_kernel.proofs.Names.{received, received_by, receives, KernelState, Turned, says, turned, with_here}
+use Rattle.dm_kernel.proofs.Names.{Process, Status, Reply, plain_process, receive_refusals, first_failed, Completion, completes, completes_unless, completion, Kernel, Part, Answers, IsIn, MeetsSome, kernel_state, completed_label, received}
+use Rattle.dm_kernel.proofs.Names.{received_by, receives, KernelState, Turned, says, turned, with_here}
 use Rattle.std.specs.Prelude.{Result}
 use Rattle.dm_message.specs.declared.What.TheVariants as what
 use Rattle.dm_process.specs.declared.process.Status.TheVariants as status

@@ -1,6 +1,5 @@
 -- The first process of the ring that can be served, where looking for it changes nothing.
-use Rattle.dm_kernel.proofs.Names.{◌≡◌, ◌∙◌, ℕ, suc, true, false, take, Some, None, slice_get, ap, subst, sym, Option, IfSome, Pid, IsServiceOf, Process, Service, here_of, IsHere}
-use Rattle.dm_kernel.proofs.Names.{KernelState, KernelKnown, first_runnable, known_is_runnable}
+use Rattle.dm_kernel.proofs.Names.{◌≡◌, ◌∙◌, ℕ, suc, true, false, take, Some, None, slice_get, ap, subst, sym, Option, IfSome, Pid, IsServiceOf, Process, Service, here_of, IsHere, KernelState, KernelKnown, first_runnable, known_is_runnable}
 use Rattle.dm_kernel.proofs.Known.{is_here_as}
 use Rattle.dm_kernel.proofs.Ringing.{found, not_found}
 

@@ -1,6 +1,6 @@
 -- Worked cases, computed: what the kernels of two machines say where a process moves from the one to the other.
 use Rattle.dm_kernel.proofs.Names.{◌≡◌, ℕ, ◌==◌, List, [], ◌∷◌, ◌++◌, map, refl, if◌then◌else◌, Option, pid_of, Message, id_of, kind_of, registers, shell_of_bytes, shell_spelling, Boot, One, bind, Line, Part, Says, Routes, asks_move}
-use Rattle.dm_kernel.proofs.Names.{opened, KernelState, Turned, turn, true, MsgId}
+use Rattle.dm_kernel.proofs.Names.{opened, KernelState, Turned, turn, true, MsgId, calls_off}
 use Rattle.std.specs.declared.option.Option.TheVariants.{Some}
 use Rattle.dm_message.specs.declared.Outcome.TheVariants as ends
 use Rattle.dm_message.specs.declared.What.TheVariants as what
@@ -14,9 +14,10 @@ record Pair : Type 0 where
   zero : KernelState
   one : KernelState
 
--- the process on machine 0 is told to move, or a machine takes a turn
+-- the process on machine 0 is told to move, its move to a machine is called off, or a machine takes a turn
 data Event : Type 0 where
   Asks : (machine : ℕ) → Event
+  Calls : (machine : ℕ) → Event
   Turns : (machine : ℕ) → Event
 
 abbrev line_of : ℕ → Part → Line
@@ -37,10 +38,12 @@ come p (Routes m ∷ parts) = come (comes_to p m) parts
 -- machine 0 or machine 1
 abbrev acts : Boot → Pair → Event → Option Turned
 acts b p (Asks machine) = asks_move p.zero (pid_of 0 3) machine
+acts b p (Calls machine) = calls_off (if machine == 0 then p.zero else p.one) (pid_of 0 3)
 acts b p (Turns machine) = turn b (if machine == 0 then p.zero else p.one)
 
 abbrev machine_of : Event → ℕ
 machine_of (Asks machine) = 0
+machine_of (Calls machine) = machine
 machine_of (Turns machine) = machine
 
 abbrev set : Pair → ℕ → KernelState → Pair
@@ -98,6 +101,51 @@ moves : groups (places 2) (at_first 2) (Asks 1 ∷ Turns 0 ∷ Asks 0 ∷ Turns 
     ∷ [])
 unfolding shell_spelling registers shell_of_bytes
 moves = refl
+
+-- its move is called off: the piece that it was asked for comes nevertheless, and is stale; and it can't be called off again
+called_off : groups (places 2) (at_first 2) (Asks 1 ∷ Turns 0 ∷ Turns 1 ∷ Calls 1 ∷ Turns 0 ∷ Turns 0 ∷ Turns 1 ∷ Calls 1 ∷ [])
+    ≡ Some (
+    (line.Put 0 0 (id_of (pid_of 0 0) 0) kind.Migrate (pid_of 0 3) ∷ [])
+    ∷ (line.Migration stage.Frozen (pid_of 0 3) ∷ line.Migration stage.Asked (pid_of 0 3) ∷ line.Put 0 1 (id_of (pid_of 0 0) 1) kind.Ask (pid_of 1 0) ∷ [])
+    ∷ (line.Migration stage.Accepted (pid_of 0 3) ∷ line.Put 1 0 (id_of (pid_of 1 0) 0) kind.PullState (pid_of 0 0) ∷ [])
+    ∷ (line.Called (pid_of 0 3) 0 ∷ line.Put 1 0 (id_of (pid_of 1 0) 1) kind.CallOff (pid_of 0 0) ∷ [])
+    ∷ (line.Proto (id_of (pid_of 1 0) 0) ∷ line.Put 0 1 (id_of (pid_of 0 0) 2) kind.State (pid_of 1 0) ∷ [])
+    ∷ (line.Stays (pid_of 0 3) ∷ [])
+    ∷ (line.Stale (id_of (pid_of 0 0) 2) ∷ [])
+    ∷ (line.NoCall (pid_of 0 3) ∷ [])
+    ∷ [])
+unfolding shell_spelling registers
+called_off = refl
+
+-- it has moved, and its move back is called off: the message that was held goes to where it is
+called_back : groups (places 2) (at_first 2)
+    (Asks 1 ∷ Turns 0 ∷ Asks 0 ∷ Turns 0 ∷ Turns 1 ∷ Turns 0 ∷ Turns 1 ∷ Turns 0 ∷ Turns 1 ∷ Turns 0 ∷ Turns 1 ∷ Turns 1 ∷ Turns 1 ∷ Turns 0 ∷ Asks 1 ∷ Turns 0 ∷ Calls 0 ∷ Turns 1 ∷ Turns 1 ∷ Turns 1 ∷ Turns 1 ∷ Turns 0 ∷ [])
+    ≡ Some (
+    (line.Put 0 0 (id_of (pid_of 0 0) 0) kind.Migrate (pid_of 0 3) ∷ [])
+    ∷ (line.Migration stage.Frozen (pid_of 0 3) ∷ line.Migration stage.Asked (pid_of 0 3) ∷ line.Put 0 1 (id_of (pid_of 0 0) 1) kind.Ask (pid_of 1 0) ∷ [])
+    ∷ (line.Put 0 0 (id_of (pid_of 0 0) 2) kind.Migrate (pid_of 0 3) ∷ [])
+    ∷ (line.Held (id_of (pid_of 0 0) 2) ∷ [])
+    ∷ (line.Migration stage.Accepted (pid_of 0 3) ∷ line.Put 1 0 (id_of (pid_of 1 0) 0) kind.PullState (pid_of 0 0) ∷ [])
+    ∷ (line.Proto (id_of (pid_of 1 0) 0) ∷ line.Put 0 1 (id_of (pid_of 0 0) 3) kind.State (pid_of 1 0) ∷ [])
+    ∷ (line.Migration stage.StateTaken (pid_of 0 3) ∷ line.Put 1 0 (id_of (pid_of 1 0) 1) kind.PullBlock (pid_of 0 0) ∷ [])
+    ∷ (line.Proto (id_of (pid_of 1 0) 1) ∷ line.Put 0 1 (id_of (pid_of 0 0) 4) kind.Memory (pid_of 1 0) ∷ [])
+    ∷ (line.Migration stage.MemoryTaken (pid_of 0 3) ∷ line.Put 1 0 (id_of (pid_of 1 0) 2) kind.AllTaken (pid_of 0 0) ∷ [])
+    ∷ (line.SentOn (pid_of 0 3) 1 ∷ line.Put 0 1 (id_of (pid_of 0 0) 2) kind.Migrate (pid_of 0 3) ∷ line.Migration stage.Left (pid_of 0 3) ∷ line.Put 0 1 (id_of (pid_of 0 0) 5) kind.Restart (pid_of 1 0) ∷ [])
+    ∷ (line.Held (id_of (pid_of 0 0) 2) ∷ [])
+    ∷ (line.Migration stage.Restarted (pid_of 0 3) ∷ [])
+    ∷ (line.Migration stage.Frozen (pid_of 0 3) ∷ line.Migration stage.Asked (pid_of 0 3) ∷ line.Put 1 0 (id_of (pid_of 1 0) 3) kind.Ask (pid_of 0 0) ∷ [])
+    ∷ (line.Migration stage.Accepted (pid_of 0 3) ∷ line.Put 0 1 (id_of (pid_of 0 0) 6) kind.PullState (pid_of 1 0) ∷ [])
+    ∷ (line.Put 0 0 (id_of (pid_of 0 0) 7) kind.Migrate (pid_of 0 3) ∷ [])
+    ∷ (line.Held (id_of (pid_of 0 0) 7) ∷ [])
+    ∷ (line.Called (pid_of 0 3) 1 ∷ line.Put 0 1 (id_of (pid_of 0 0) 7) kind.Migrate (pid_of 0 3) ∷ line.Put 0 1 (id_of (pid_of 0 0) 8) kind.CallOff (pid_of 1 0) ∷ [])
+    ∷ (line.Proto (id_of (pid_of 0 0) 6) ∷ line.Put 1 0 (id_of (pid_of 1 0) 4) kind.State (pid_of 0 0) ∷ [])
+    ∷ (line.Held (id_of (pid_of 0 0) 7) ∷ [])
+    ∷ (line.Stays (pid_of 0 3) ∷ [])
+    ∷ (line.Here (id_of (pid_of 0 0) 7) ∷ [])
+    ∷ (line.Stale (id_of (pid_of 1 0) 4) ∷ [])
+    ∷ [])
+unfolding shell_spelling registers shell_of_bytes
+called_back = refl
 
 -- a message that comes to where it was goes on, and its sender is told
 follows : groups (places 2) (at_first 2) (Asks 1 ∷ Turns 0 ∷ Turns 1 ∷ Turns 0 ∷ Turns 1 ∷ Turns 0 ∷ Turns 1 ∷ Turns 0 ∷ Asks 1 ∷ Turns 0 ∷ Turns 0 ∷ Turns 1 ∷ Turns 1 ∷ [])

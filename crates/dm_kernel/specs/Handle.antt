@@ -30,7 +30,7 @@ use Rattle.dm_kernel.specs.declared.part.Part.{Part}
 use Rattle.dm_kernel.specs.declared.part.Part.TheVariants.{Says, Routes}
 use Rattle.dm_kernel.specs.Begun.{child_of, with_child}
 use Rattle.dm_kernel.specs.declared.kernel.Servers.{Servers}
-use Rattle.dm_kernel.specs.Coming.{answers_ask, holds_arriving, restarts, takes_piece}
+use Rattle.dm_kernel.specs.Coming.{answers_ask, hears_piece, holds_arriving, restarts}
 use Rattle.dm_kernel.specs.Departing.{asked_to_move, gives_piece, holds_leaving, leaves, migrates, stays}
 use Rattle.dm_kernel.specs.Following.{board_follows, forwards, manager_follows, process_follows, updated}
 use Rattle.dm_kernel.specs.State.{KernelState, KernelKnown, Turned, turned, says, with_here, without_process, drops}
@@ -171,14 +171,14 @@ kernel_handles b s m (what.Update about) = None
 kernel_handles b s m (what.Ask pid blocks moves size asker) = answers_ask b s m pid blocks moves size asker
 kernel_handles b s m (what.Refuse pid free_slots free_blocks) = bind (frozen_of (s.records pid)) (stays s pid)
 kernel_handles b s m (what.PullState pid chunk) = bind (frozen_of (s.records pid)) (λ d. gives_piece s m (chunk_of d.process.pid (state_of d.process) chunk))
-kernel_handles b s m (what.State pid chunk last bytes) = bind (incoming_of (s.records pid)) (takes_piece s m pid)
+kernel_handles b s m (what.State pid chunk last bytes) = hears_piece s m pid (incoming_of (s.records pid))
 kernel_handles b s m (what.PullBlock pid block) = bind (frozen_of (s.records pid)) (λ d. gives_piece s m (block_of d.process.pid d.process.memory block))
-kernel_handles b s m (what.Memory pid block bytes) = bind (incoming_of (s.records pid)) (takes_piece s m pid)
+kernel_handles b s m (what.Memory pid block bytes) = hears_piece s m pid (incoming_of (s.records pid))
 kernel_handles b s m (what.AllTaken pid) = bind (frozen_of (s.records pid)) (leaves s pid)
 kernel_handles b s m (what.Restart pid) = bind (incoming_of (s.records pid)) (restarts s pid)
 kernel_handles b s m (what.Move machine) = None
 kernel_handles b s m (what.Moved outcome) = None
-kernel_handles b s m (what.CallOff pid) = None
+kernel_handles b s m (what.CallOff pid) = bind (frozen_of (s.records pid)) (stays s pid)
 kernel_handles b s m (what.Bury pid) = None
 
 -- a server takes a message, and sends at most one; what it doesn't take is an update, and its links follow a process

@@ -34,8 +34,10 @@ pub record IsLawfulDeparture (d : Departure) : Type 0 where
   pub asker : IsLawfulAsker d.asker
   pub held : All IsLawfulMessage d.held
 
+-- one that comes, comes from a machine
 pub record IsLawfulArrival (a : Arrival) : Type 0 where
   pub home : IsMachine a.pid.home
+  pub source : IsMachine a.source
   pub asker : IsLawfulAsker a.asker
   pub held : All IsLawfulMessage a.held
 

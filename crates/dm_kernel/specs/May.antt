@@ -1,5 +1,6 @@
 -- What a machine's turn counts on, as every machine of a good run has it.
 use Rattle.std.specs.Prelude.{◌≡◌, ⊤, ℕ, ◌+◌, ◌^◌, ◌<◌, ◌==◌, true, false, List, [], ◌∷◌, length, IsSome}
+use Rattle.std.specs.Option.{IfSome}
 use Rattle.std.specs.declared.option.Option.{Option}
 use Rattle.std.specs.declared.option.Option.TheVariants.{None, Some}
 use Rattle.dm_link.specs.declared.Pid.{Pid}
@@ -24,6 +25,7 @@ use Rattle.dm_procman.specs.Taking.{IsForManager}
 use Rattle.dm_onekernel.specs.declared.boot.Boot.{Boot}
 use Rattle.dm_onekernel.specs.Boot.{first_number, switchboard, manager}
 use Rattle.dm_kernel.specs.declared.kernel.Servers.{Servers}
+use Rattle.dm_kernel.specs.Coming.{is_expected}
 use Rattle.dm_kernel.specs.State.{KernelKnown, KernelState, blocks_of}
 
 -- counts and process numbers are below the greatest u32
@@ -95,20 +97,26 @@ pub record MayRestart (a : Arrival) : Type 0 where
   pub restarts : restarted a ≡ Some process
   pub lawful : IsLawfulProcess process
 
+-- a piece that is waited for from the machine that sent it is the next one, and the kernel can ask for one more; of another nothing
+-- is asked
+abbrev pub FitsPiece : KernelState → Message → What → Option Arrival → Type 0
+FitsPiece s m w a = is_expected a m.id.from.home ≡ true → IsSuch (λ x. IsNextPiece x w) a × (s.sent < most)
+
 -- a kernel is asked for a process of an image that there is; a process that can move once more asks to come; and of a
 -- migration that is under way the next message comes: to where the process leaves, an answer to the ask, or a piece is asked
--- for that there is; to where it comes, the piece that was asked for, or it may go on
-abbrev pub FitsKernel : Boot → KernelState → What → Type 0
-FitsKernel b s (what.Create image links) = (image < length b.images) × (first_number + s.made < most)
-FitsKernel b s (what.Ask pid blocks moves size asker) = IsAskOfProcess (what.Ask pid blocks moves size asker) × (s.sent < most)
-FitsKernel b s (what.Refuse pid free_slots free_blocks) = IsSome (frozen_of (s.records pid))
-FitsKernel b s (what.PullState pid chunk) = IsSuch (λ d. HasChunk (state_of d.process) chunk) (frozen_of (s.records pid)) × (s.sent < most)
-FitsKernel b s (what.State pid chunk last bytes) = IsSuch (λ a. IsNextPiece a (what.State pid chunk last bytes)) (incoming_of (s.records pid)) × (s.sent < most)
-FitsKernel b s (what.PullBlock pid block) = IsSuch (λ d. HasBlock d.process.memory block) (frozen_of (s.records pid)) × (s.sent < most)
-FitsKernel b s (what.Memory pid block bytes) = IsSuch (λ a. IsNextPiece a (what.Memory pid block bytes)) (incoming_of (s.records pid)) × (s.sent < most)
-FitsKernel b s (what.AllTaken pid) = IsSuch (MayLeave s.room) (frozen_of (s.records pid)) × (s.sent < most)
-FitsKernel b s (what.Restart pid) = IsSuch MayRestart (incoming_of (s.records pid))
-FitsKernel b s w = ⊥
+-- for that there is, or the migration is called off; to where it comes, the piece that was asked for, or it may go on
+abbrev pub FitsKernel : Boot → KernelState → Message → What → Type 0
+FitsKernel b s m (what.Create image links) = (image < length b.images) × (first_number + s.made < most)
+FitsKernel b s m (what.Ask pid blocks moves size asker) = IsAskOfProcess (what.Ask pid blocks moves size asker) × (s.sent < most)
+FitsKernel b s m (what.Refuse pid free_slots free_blocks) = IsSome (frozen_of (s.records pid))
+FitsKernel b s m (what.PullState pid chunk) = IsSuch (λ d. HasChunk (state_of d.process) chunk) (frozen_of (s.records pid)) × (s.sent < most)
+FitsKernel b s m (what.State pid chunk last bytes) = FitsPiece s m (what.State pid chunk last bytes) (incoming_of (s.records pid))
+FitsKernel b s m (what.PullBlock pid block) = IsSuch (λ d. HasBlock d.process.memory block) (frozen_of (s.records pid)) × (s.sent < most)
+FitsKernel b s m (what.Memory pid block bytes) = FitsPiece s m (what.Memory pid block bytes) (incoming_of (s.records pid))
+FitsKernel b s m (what.AllTaken pid) = IsSuch (MayLeave s.room) (frozen_of (s.records pid)) × (s.sent < most)
+FitsKernel b s m (what.Restart pid) = IsSuch MayRestart (incoming_of (s.records pid))
+FitsKernel b s m (what.CallOff pid) = IsSome (frozen_of (s.records pid))
+FitsKernel b s m w = ⊥
 
 -- a server takes a message that is one for it, and can send one more; the addresses that it keeps can be counted
 abbrev pub FitsBoardWhat : Servers → What → Type 0
@@ -130,7 +138,7 @@ FitsManager m (Some v) = FitsManagerWhat v m.id.n m.what
 
 pub record MayHandle (b : Boot) (s : KernelState) (m : Message) : Type 0 where
   pub lawful : IsLawfulMessage m
-  pub for_kernel : (m.to.pid.num == 0) ≡ true → FitsKernel b s m.what
+  pub for_kernel : (m.to.pid.num == 0) ≡ true → FitsKernel b s m m.what
   pub for_board : pid_eq m.to.pid switchboard ≡ true → FitsBoard m s.servers
   pub for_manager : pid_eq m.to.pid manager ≡ true → FitsManager m s.servers
   pub for_process : (m.to.pid.num == 0) ≡ false → pid_eq m.to.pid switchboard ≡ false → pid_eq m.to.pid manager ≡ false → FitsKnown s m (s.records m.to.pid)
@@ -149,3 +157,11 @@ pub record MayAskMove (s : KernelState) : Type 0 where
   pub here : s.here < 16
   pub sent : s.sent < most
   pub servers : IsSome s.servers
+
+-- what calling off counts on: the machine can send one more message; a process that comes has its slot and its blocks, and what goes
+-- back can be counted
+pub record MayCallOff (s : KernelState) (p : Pid) : Type 0 where
+  pub here : s.here < 16
+  pub sent : s.sent < most
+  pub room : IfSome (incoming_of (s.records p)) (λ (a : Arrival). HasTaken s.room a.blocks)
+  pub few : IfSome (incoming_of (s.records p)) (λ (a : Arrival). length a.held < most)

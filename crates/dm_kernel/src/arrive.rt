@@ -1,10 +1,10 @@
 //! What a machine's kernel does where a process comes to it.
-ghost use Rattle.std.specs.Prelude.{◌≡◌, ◌<◌, ◌≤◌, ◌++◌, ◌∷◌, [], IsSome, OnOk, Some};
+ghost use Rattle.std.specs.Prelude.{◌≡◌, ◌<◌, ◌≤◌, ◌++◌, ◌∷◌, [], IsSome, OnOk, Some, true};
 ghost use Rattle.dm_records.specs.Records.{HasPlace, at, incoming_of, with_record};
 ghost use Rattle.dm_records.specs.declared.record.Record.TheVariants.{Here, Incoming};
 ghost use Rattle.dm_migrate.specs.Arrival.{Arrival, IsNextChunk, with_block, with_chunk};
 ghost use Rattle.dm_onekernel.specs.Options.{bind};
-ghost use Rattle.dm_kernel.specs.Coming.{answers_ask, holds_arriving, piece_line, restarts, took_piece};
+ghost use Rattle.dm_kernel.specs.Coming.{answers_ask, holds_arriving, if_expected, is_expected, piece_line, restarts, took_piece};
 ghost use Rattle.dm_kernel.specs.Departing.{takes_step};
 ghost use Rattle.dm_kernel.specs.May.{IsSuch, MayRestart};
 ghost use Rattle.dm_kernel.specs.Meets.{Answers, IsIn, kernel_state};
@@ -41,6 +41,7 @@ impl Kernel {
         requires most { ask.blocks ≤ MOST_BLOCKS }
         requires moves { ask.moves < u32.MAX }
         requires size { ask.size ≤ MOST_STATE }
+        requires source { ask.source ≡ message.now.id.from.home }
         ensures { Answers result self.new (answers_ask boot.now (kernel_state self.old) message.now ask.pid ask.blocks ask.moves ask.size ask.asker) }
     {
         match answer_ask(self.alloc, ask, &mut self.room, boot.format.slots()) {
@@ -109,7 +110,8 @@ impl Kernel {
         }
     }
 
-    /// Takes the chunk that was asked for of the state bytes of a process that comes, and asks for the next piece.
+    /// Takes the chunk that was asked for of the state bytes of a process that comes, and asks for the next piece; unless the process
+    /// doesn't come from the machine that sent it.
     pub(crate) fn take_chunk(
         &mut self,
         message: &Message,
@@ -118,18 +120,22 @@ impl Kernel {
         last: bool,
         bytes: &[u8],
     ) -> Result<Vec<Part>, NoMemory>
-        requires sent { self.old.sent < u32.MAX }
-        requires chunk { IsSuch (λ (a : Arrival). IsNextChunk a pid chunk last bytes.now) (incoming_of (at self.old.records pid)) }
-        ensures { Answers result self.new (bind (incoming_of (at self.old.records pid))
+        requires chunk { is_expected (incoming_of (at self.old.records pid)) message.now.id.from.home ≡ true →
+            IsSuch (λ (a : Arrival). IsNextChunk a pid chunk last bytes.now) (incoming_of (at self.old.records pid)) × (self.old.sent < u32.MAX) }
+        ensures { Answers result self.new (if_expected (kernel_state self.old) message.now (incoming_of (at self.old.records pid))
             (λ a. took_piece (kernel_state self.old) message.now pid (Some (with_chunk a chunk last bytes.now)))) }
     {
+        if !self.expects(pid, message.id.from.home) {
+            return self.say(Line::Stale(message.id));
+        }
         let arriving = self.records.incoming_mut(pid).unwrap();
         let pull = arriving.take_chunk(chunk, last, bytes);
         let said = piece_line(message.id, pid, arriving.wanted());
         self.pull(message, said, pull)
     }
 
-    /// Takes the block that was asked for of the memory of a process that comes, and asks for the next piece.
+    /// Takes the block that was asked for of the memory of a process that comes, and asks for the next piece; unless the process
+    /// doesn't come from the machine that sent it.
     pub(crate) fn take_block(
         &mut self,
         message: &Message,
@@ -137,15 +143,28 @@ impl Kernel {
         block: u8,
         bytes: &[u8; 256],
     ) -> Result<Vec<Part>, NoMemory>
-        requires sent { self.old.sent < u32.MAX }
-        requires block { IsSuch (λ (a : Arrival). (pid ≡ a.pid) × (a.wanted ≡ Wanted.Block block)) (incoming_of (at self.old.records pid)) }
-        ensures { Answers result self.new (bind (incoming_of (at self.old.records pid))
+        requires block { is_expected (incoming_of (at self.old.records pid)) message.now.id.from.home ≡ true →
+            IsSuch (λ (a : Arrival). (pid ≡ a.pid) × (a.wanted ≡ Wanted.Block block)) (incoming_of (at self.old.records pid)) × (self.old.sent < u32.MAX) }
+        ensures { Answers result self.new (if_expected (kernel_state self.old) message.now (incoming_of (at self.old.records pid))
             (λ a. took_piece (kernel_state self.old) message.now pid (Some (with_block a block bytes.now)))) }
     {
+        if !self.expects(pid, message.id.from.home) {
+            return self.say(Line::Stale(message.id));
+        }
         let arriving = self.records.incoming_mut(pid).unwrap();
         let pull = arriving.take_block(block, bytes);
         let said = piece_line(message.id, pid, arriving.wanted());
         self.pull(message, said, pull)
+    }
+
+    /// Whether a process is on its way here from a machine.
+    fn expects(&self, pid: Pid, machine: u8) -> bool
+        ensures { result ≡ is_expected (incoming_of (at self.now.records pid)) machine }
+    {
+        match self.records.incoming(pid) {
+            Some(arriving) => arriving.comes_from(machine),
+            None => false,
+        }
     }
 
     /// Asks who sent a piece for the next.

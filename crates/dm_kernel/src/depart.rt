@@ -269,7 +269,11 @@ fn step_and_route(
 }
 
 /// Routes messages, in order.
-fn route_all(alloc: Global, messages: Vec<Message>, parts: &mut Vec<Part>) -> Result<(), NoMemory>
+pub(crate) fn route_all(
+    alloc: Global,
+    messages: Vec<Message>,
+    parts: &mut Vec<Part>,
+) -> Result<(), NoMemory>
     ensures { OnOk result (parts.new.items ≡ parts.old.items ++ map Part.Routes messages.items) }
 {
     for message in messages {
@@ -279,7 +283,7 @@ fn route_all(alloc: Global, messages: Vec<Message>, parts: &mut Vec<Part>) -> Re
 }
 
 /// Routes a message.
-fn route(alloc: Global, message: Message, parts: &mut Vec<Part>) -> Result<(), NoMemory>
+pub(crate) fn route(alloc: Global, message: Message, parts: &mut Vec<Part>) -> Result<(), NoMemory>
     ensures { OnOk result (parts.new.items ≡ parts.old.items ++ Part.Routes message ∷ []) }
 {
     let message = Parcel::new(alloc, message)?;

@@ -6,6 +6,7 @@ ghost use Rattle.dm_link.specs.Lawful.{IsMachine};
 ghost use Rattle.dm_link.specs.declared.Pid.{Pid};
 ghost use Rattle.dm_kernel.specs.Asking.{asks_move};
 ghost use Rattle.dm_kernel.specs.Begun.{opened};
+ghost use Rattle.dm_kernel.specs.Coming.{calls_off};
 ghost use Rattle.dm_kernel.specs.Lawful.{IsLawfulState, IsLawfulTurned};
 ghost use Rattle.dm_kernel.specs.May.{MayTurn};
 ghost use Rattle.dm_kernel.specs.State.{KernelState, Turned};
@@ -23,6 +24,11 @@ pub fn turns_are_lawful()
 pub fn moves_are_asked_lawfully()
     ensures { (s : KernelState) (p : Pid) (machine : ℕ) (t : Turned) → s.here < MACHINES → IsMachine machine → IsLawfulState s → asks_move s p machine ≡
         Some t → IsLawfulTurned t }
+{}
+
+/// What calling off a migration leaves and routes is lawful.
+pub fn calls_off_lawfully()
+    ensures { (s : KernelState) (p : Pid) (t : Turned) → s.here < MACHINES → IsLawfulState s → calls_off s p ≡ Some t → IsLawfulTurned t }
 {}
 
 /// Each machine of a boot file may take a turn as the file has it, and is lawful.

@@ -5,6 +5,7 @@
 mod arrive;
 mod ask;
 mod begin;
+mod call_off;
 mod depart;
 mod ending;
 mod follow;
@@ -24,5 +25,7 @@ mod turn;
 
 pub use dm_memory::NoMemory;
 pub use kernel::{Kernel, Servers};
-pub use law::{machines_open_lawfully, moves_are_asked_lawfully, turns_are_lawful};
+pub use law::{
+    calls_off_lawfully, machines_open_lawfully, moves_are_asked_lawfully, turns_are_lawful,
+};
 pub use part::Part;

@@ -38,7 +38,7 @@ impl Kernel {
     ) -> Result<Vec<Part>, NoMemory>
         requires lawful { IsLawfulMessage message.now }
         requires images { images_are_valid boot.now.images ≡ true }
-        requires fits { FitsKernel boot.now (kernel_state self.old) message.now.what }
+        requires fits { FitsKernel boot.now (kernel_state self.old) message.now message.now.what }
         ensures { Answers result self.new (kernel_handles boot.now (kernel_state self.old) message.now message.now.what) }
     {
         match &message.what {
@@ -54,6 +54,7 @@ impl Kernel {
             } => {
                 let ask = Ask {
                     pid: *pid,
+                    source: message.id.from.home,
                     blocks: *blocks,
                     moves: *moves,
                     size: *size,
@@ -73,6 +74,7 @@ impl Kernel {
             What::Memory { pid, block, bytes } => { self.take_block(message, *pid, *block, bytes) }
             What::AllTaken { pid } => self.let_go(*pid),
             What::Restart { pid } => self.restart(*pid),
+            What::CallOff { pid } => self.stay(*pid),
             // No other kind is sent to a kernel: what a message must fit says so.
             _ => unreachable!(),
         }

@@ -44,6 +44,7 @@ chunk_after a k ends bytes h n = record {
 pub chunk_view : (a : Parts) (k : ℕ) (ends : Bool) (bytes : List ℕ) → IsNextChunk (come_of a) a.pid k ends bytes → come_of (chunk_put a k ends bytes) ≡ with_chunk (come_of a) k ends bytes
 chunk_view a k ends bytes n i = record {
   pid = a.pid;
+  source = a.source;
   blocks = (come_of a).blocks;
   moves = a.moves;
   size = length-put a.state bytes (512 * k) (fits a k ends bytes n) i;

@@ -3,4 +3,5 @@ pub mod Pieces
 pub mod Coming
 pub mod Messages
 pub mod Way
+pub mod Readdressed
 pub mod Worked

@@ -17,14 +17,14 @@ IsAskOfProcess _ = ⊥
 
 -- it may come where there is room, which is reserved, and its first chunk is asked for; it is refused where there is none,
 -- with what is free; want of memory leaves the room
-abbrev pub AnswersFor : Pid → ℕ → ℕ → ℕ → Option Asker → ℕ → Taken → Taken → Asked → Type 0
-AnswersFor p blocks moves size asker cap old new (Accepted a w) =
-    HasRoom old blocks × (new ≡ with_reserved old blocks) × (a ≡ expected p blocks moves size asker cap) × (w ≡ what.PullState p 0)
-AnswersFor p blocks moves size asker cap old new (Refused w lacks) =
+abbrev pub AnswersFor : Pid → ℕ → ℕ → ℕ → ℕ → Option Asker → ℕ → Taken → Taken → Asked → Type 0
+AnswersFor p source blocks moves size asker cap old new (Accepted a w) =
+    HasRoom old blocks × (new ≡ with_reserved old blocks) × (a ≡ expected p source blocks moves size asker cap) × (w ≡ what.PullState p 0)
+AnswersFor p source blocks moves size asker cap old new (Refused w lacks) =
     ((free_slots old ≡ 0) ⊎ (free_blocks old < blocks)) × (new ≡ old) × (lacks ≡ lack old) × (w ≡ what.Refuse p (free_slots old) (free_blocks old))
-AnswersFor p blocks moves size asker cap old new (NoMemory why) = HasRoom old blocks × (new ≡ old)
+AnswersFor p source blocks moves size asker cap old new (NoMemory why) = HasRoom old blocks × (new ≡ old)
 
--- the answer to an ask, on a machine whose tables have so many slots, and its room before and after
-abbrev pub Answers : What → ℕ → Taken → Taken → Asked → Type 0
-Answers (what.Ask p blocks moves size asker) cap old new answer = AnswersFor p blocks moves size asker cap old new answer
-Answers _ cap old new answer = ⊥
+-- the answer to an ask of a machine, on one whose tables have so many slots, and its room before and after
+abbrev pub Answers : What → ℕ → ℕ → Taken → Taken → Asked → Type 0
+Answers (what.Ask p blocks moves size asker) source cap old new answer = AnswersFor p source blocks moves size asker cap old new answer
+Answers _ source cap old new answer = ⊥

@@ -1,5 +1,5 @@
 -- A process that comes, piece by piece.
-use Rattle.std.specs.Prelude.{◌≡◌, ℕ, ◌+◌, ◌*◌, Bool, true, false, nat_lt, if◌then◌else◌, List, [], ◌∷◌, ◌++◌, length, take, Ok}
+use Rattle.std.specs.Prelude.{◌≡◌, ℕ, ◌+◌, ◌*◌, ◌==◌, Bool, true, false, nat_lt, if◌then◌else◌, List, [], ◌∷◌, ◌++◌, length, map, take, Ok}
 use Rattle.std.specs.declared.option.Option.{Option}
 use Rattle.std.specs.declared.option.Option.TheVariants.{None, Some}
 use Rattle.std.specs.declared.result.Result.{Result}
@@ -15,12 +15,14 @@ use Rattle.dm_statebytes.specs.declared.Shell.{Shell}
 use Rattle.dm_statebytes.specs.Shell.{shell_of_bytes}
 use Rattle.dm_migrate.specs.declared.arriving.Wanted.{Wanted}
 use Rattle.dm_migrate.specs.declared.arriving.Wanted.TheVariants.{Chunk, Block, Nothing}
+use Rattle.dm_migrate.specs.Departure.{sent_on}
 use Rattle.dm_migrate.specs.Pieces.{HasChunk, chunk_bytes, is_last}
 
--- what its machine was told of the process and how large its tables are here; the pieces that have come, in order;
--- the piece that is asked for; and the messages that came for it meanwhile, in order
+-- the machine that it comes from; what that one told of the process, and how large its tables are here; the pieces that have come,
+-- in order; the piece that is asked for; and the messages that came for it meanwhile, in order
 pub record Arrival : Type 0 where
   pub pid : Pid
+  pub source : ℕ
   pub blocks : ℕ
   pub moves : ℕ
   pub size : ℕ
@@ -32,10 +34,11 @@ pub record Arrival : Type 0 where
   pub held : List Message
 
 -- nothing has come yet
-abbrev pub expected : Pid → ℕ → ℕ → ℕ → Option Asker → ℕ → Arrival
-expected p blocks moves size asker cap =
+abbrev pub expected : Pid → ℕ → ℕ → ℕ → ℕ → Option Asker → ℕ → Arrival
+expected p source blocks moves size asker cap =
     record {
       pid = p;
+      source = source;
       blocks = blocks;
       moves = moves;
       size = size;
@@ -47,9 +50,23 @@ expected p blocks moves size asker cap =
       held = [];
     }
 
+-- it comes from this machine, and from no other
+abbrev pub comes_from : Arrival → ℕ → Bool
+comes_from a machine = machine == a.source
+
 -- one message more is held
 abbrev pub with_held : Arrival → Message → Arrival
 with_held a m = record a { held = a.held ++ m ∷ [] }
+
+-- all of it has come
+abbrev pub is_whole : Wanted → Bool
+is_whole (Chunk k) = false
+is_whole (Block k) = false
+is_whole Nothing = true
+
+-- what was held goes back to the machine that it comes from, where it has moved as often as before
+abbrev pub all_sent_back : Arrival → List Message
+all_sent_back a = map (sent_on a.source a.moves) a.held
 
 -- the message that asks for a piece, or says that all has come
 abbrev pub pull : Pid → Wanted → What

@@ -11,6 +11,7 @@ use Rattle.dm_migrate.specs.Arrival.{Arrival, IsStateFor, memory_come, state_com
 -- as many state bytes, and as much memory, as there will be
 pub record Parts : Type 0 where
   pub pid : Pid
+  pub source : ℕ
   pub moves : ℕ
   pub asker : Option Asker
   pub cap : ℕ
@@ -24,6 +25,7 @@ abbrev pub come_of : Parts → Arrival
 come_of a =
     record {
       pid = a.pid;
+      source = a.source;
       blocks = length a.memory / 256;
       moves = a.moves;
       size = length a.state;

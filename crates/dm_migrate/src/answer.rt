@@ -23,10 +23,12 @@ pub enum Asked {
     NoMemory(NoMemory),
 }
 
-/// What a process that asks to come says of itself.
+/// What a process that asks to come says of itself, and where it is.
 #[derive(Clone, Copy)]
 pub struct Ask {
     pub pid: Pid,
+    /// The machine that it is to leave, 0 to 15.
+    pub source: u8,
     /// Of its memory.
     pub blocks: u16,
     /// How often it has moved before.
@@ -45,7 +47,7 @@ pub fn answer_ask(alloc: Global, ask: Ask, room: &mut Room, cap: u8) -> Asked
     requires moves { ask.moves < u32.MAX }
     requires size { ask.size ≤ MOST_STATE }
     requires cap { (cap ≡ FEW_SLOTS) ⊎ (cap ≡ MOST_SLOTS) }
-    ensures { AnswersFor ask.pid ask.blocks ask.moves ask.size ask.asker cap room.old room.new result }
+    ensures { AnswersFor ask.pid ask.source ask.blocks ask.moves ask.size ask.asker cap room.old room.new result }
 {
     if let Err(lacks) = room.reserve(ask.blocks) {
         let refuse = What::Refuse {

@@ -1,11 +1,12 @@
 //! A process that comes to a machine, piece by piece.
-ghost use Rattle.std.specs.Prelude.{◌≡◌, ◌⊎◌, ◌+◌, ◌*◌, ◌<◌, ◌≤◌, ◌++◌, ◌∷◌, [], IfErr, IfOk, None, Ok, OnErr, OnOk, Some, length, map, replicate, take, drop};
+ghost use Rattle.std.specs.Prelude.{◌≡◌, ◌⊎◌, ◌+◌, ◌*◌, ◌<◌, ◌≤◌, ◌++◌, ◌∷◌, [], IfErr, IfOk, None, Ok, OnErr, OnOk, Some, false, length, map, replicate, take, drop, true};
 ghost use Rattle.dm_statebytes.specs.Shell.{shell_of_bytes};
 ghost use Rattle.dm_process.specs.Lawful.{IsLawfulProcess};
-ghost use Rattle.dm_migrate.specs.Arrival.{IsNextChunk, after_block, after_chunk, expected, pull, restarted, revived, with_block, with_chunk, with_held};
+ghost use Rattle.dm_migrate.specs.Arrival.{IsNextChunk, after_block, after_chunk, all_sent_back, comes_from, expected, is_whole, pull, restarted, revived, with_block, with_chunk, with_held};
+ghost use Rattle.dm_migrate.specs.Departure.{sent_on};
 
 use crate::answer::Ask;
-use dm_link::Pid;
+use dm_link::{Pid, Placeless};
 use dm_linktable::{FEW_SLOTS, MOST_SLOTS, Table};
 use dm_memory::{NoMemory, push_or_return, zeros};
 use dm_message::{Asker, CHUNK, Message, What};
@@ -30,6 +31,8 @@ pub enum Wanted {
 #[derive(Drop)]
 pub struct Arriving {
     pid: Pid,
+    /// The machine that it comes from, 0 to 15.
+    source: u8,
     moves: u32,
     asker: Option<Asker>,
     cap: u8,
@@ -53,18 +56,19 @@ impl Model for Arriving {
 
     ghost view = { λ a. come_of (record {
       pid = a.pid;
+      source = a.source;
       moves = a.moves;
       asker = a.asker;
       cap = a.cap;
       state = a.state.items;
       memory = a.memory;
-      wanted
-          = a.wanted;
+      wanted = a.wanted;
       held = a.held.items;
     }) };
 
     ghost invariant = { λ a. IsComing (record {
       pid = a.pid;
+      source = a.source;
       moves = a.moves;
       asker = a.asker;
       cap = a.cap;
@@ -82,10 +86,11 @@ pub(crate) fn expect(alloc: Global, ask: Ask, cap: u8) -> Result<Arriving, NoMem
     requires moves { ask.moves < u32.MAX }
     requires size { ask.size ≤ MOST_STATE }
     requires cap { (cap ≡ FEW_SLOTS) ⊎ (cap ≡ MOST_SLOTS) }
-    ensures { IfOk result (λ a. a ≡ expected ask.pid ask.blocks ask.moves ask.size ask.asker cap) }
+    ensures { IfOk result (λ a. a ≡ expected ask.pid ask.source ask.blocks ask.moves ask.size ask.asker cap) }
 {
     Ok(Arriving {
         pid: ask.pid,
+        source: ask.source,
         moves: ask.moves,
         asker: ask.asker,
         cap,
@@ -104,6 +109,20 @@ impl Arriving {
         ensures { result ≡ self.now.pid }
     {
         self.pid
+    }
+
+    /// The machine that it comes from, 0 to 15.
+    pub fn source(&self) -> u8
+        ensures { result ≡ self.now.source }
+    {
+        self.source
+    }
+
+    /// Whether it comes from a machine: a piece that another one sends isn't one of it.
+    pub fn comes_from(&self, machine: u8) -> bool
+        ensures { result ≡ comes_from self.now machine }
+    {
+        machine == self.source
     }
 
     /// How many blocks of memory it has, 1 to 256.
@@ -197,6 +216,29 @@ impl Arriving {
         push_or_return(&mut self.held, message)
     }
 
+    /// It doesn't come: the messages that go back to the machine that it was to leave, which are those that were held, and what tells
+    /// that one's kernel. It takes no memory. Where all of it has come, it is handed back.
+    pub fn call_off(self) -> Result<(Vec<Message>, What), Arriving>
+        ensures messages { IfOk result (λ r. r.0.items ≡ all_sent_back self) }
+        ensures told { IfOk result (λ r. r.1 ≡ What.CallOff self.pid) }
+        ensures coming { OnOk result (is_whole self.wanted ≡ false) }
+        ensures whole { OnErr result (is_whole self.wanted ≡ true) }
+        ensures returned { IfErr result (λ a. a ≡ self) }
+    {
+        if is_whole(self.wanted) {
+            return Err(self);
+        }
+        let Arriving {
+            pid,
+            source,
+            moves,
+            mut held,
+            ..
+        } = self;
+        send_back(held.as_mut_slice(), source, moves);
+        Ok((held, What::CallOff { pid }))
+    }
+
     /// It is here: the process that has come, which has moved once more, and what was held. It takes no memory.
     pub fn restart(self) -> (Process, Vec<Message>)
         requires { self.wanted ≡ Wanted.Nothing }
@@ -246,6 +288,26 @@ impl Arriving {
         let blocks = self.memory.blocks();
         self.memory.put_block(block, bytes);
         self.wanted = after_block(block, blocks);
+    }
+}
+
+/// Whether all has come.
+fn is_whole(wanted: Wanted) -> bool
+    ensures { result ≡ is_whole wanted }
+{
+    match wanted {
+        Wanted::Chunk(_) => false,
+        Wanted::Block(_) => false,
+        Wanted::Nothing => true,
+    }
+}
+
+/// Addresses messages to a machine, where their receiver has moved so many times.
+fn send_back(messages: &mut [Message], to: u8, moves: u32)
+    ensures { messages.new ≡ map (sent_on to moves) messages.old }
+{
+    for message in messages.iter_mut() {
+        message.relocate(to, moves);
     }
 }
 

@@ -4,11 +4,11 @@ use Rattle.dm_node.proofs.Names.{Forward, Ended, frozen_of, incoming_of, is_told
 use Rattle.dm_node.proofs.Names.{serving_answer, Boot, BootImage, BootProcess, manager, switchboard, MoveError, moves_child, moved_back, Called, Completed, calls, Completion, completion, Servers, asks_manager, asks_move, told_to_move}
 use Rattle.dm_node.proofs.Names.{begins_process, child_of, empty, with_all, with_child, accepts, restarts, restarts_as, takes_piece, took_piece, gives_piece, leaves, stays, forwards_and, Halt, answers_with, board_handles, board_took}
 use Rattle.dm_node.proofs.Names.{ended_handles, handles, has_room, here_handles, kernel_handles, lands, lands_as, makes, makes_of, manager_handles, manager_took, process_handles, told_board, told_manager, called_with, halts, processor_of}
-use Rattle.dm_node.proofs.Names.{ran, received, received_by, receives, serves, serves_status, with_machine, KernelState, KernelKnown, Turned, own_id, with_here, first_runnable, goes_round, turn, here, node_opened}
+use Rattle.dm_node.proofs.Names.{ran, received, received_by, receives, serves, serves_status, with_machine, KernelState, KernelKnown, Turned, own_id, with_here, first_runnable, goes_round, turn, here, node_opened, state_of}
+use Rattle.dm_node.proofs.Names.{calls_arriving_off, calls_off, hears_piece, is_not_called, says_stale, turns_back, comes_from, is_whole}
 use Rattle.std.specs.declared.result.Result.{Result}
 use Rattle.dm_message.specs.declared.What.TheVariants as what
 use Rattle.dm_process.specs.declared.process.Status.TheVariants as status
-use Rattle.dm_migrate.specs.Pieces.{state_of}
 use Rattle.dm_datamove.specs.declared.Landed.TheVariants as landed
 use Rattle.dm_procman.specs.declared.moving.MoveError.TheVariants as no
 use Rattle.dm_procman.specs.Taking as manage
@@ -147,6 +147,10 @@ piece_stays : (s : KernelState) (m : Message) (p : Pid) (o : Option Arrival) →
 piece_stays s m p None = tt
 piece_stays s m p (Some a) = refl
 
+hears_stays : (s : KernelState) (m : Message) (p : Pid) (o : Option Arrival) → StaysAt s.here (hears_piece s m p o)
+hears_stays s m p None = refl
+hears_stays s m p (Some a) = either s.here (comes_from a m.id.from.home) (takes_piece s m p a) (says_stale s m) (piece_stays s m p (with_piece a m.what)) refl
+
 restart_stays : (s : KernelState) (p : Pid) (a : Arrival) (o : Option Process) → StaysAt s.here (restarts_as s p a o)
 restart_stays s p a None = tt
 restart_stays s p a (Some x) = refl
@@ -156,11 +160,12 @@ kernel_stays b s m (what.Create image links) = makes_of_stays b s m links.items 
 kernel_stays b s m (what.Ask p blocks moves size asker) = asks_stays b s m p blocks moves size asker (has_room_for s.room blocks)
 kernel_stays b s m (what.Refuse p slots blocks) = leaving_stays s (frozen_of (s.records p)) (stays s p) (λ d. refl)
 kernel_stays b s m (what.PullState p chunk) = leaving_stays s (frozen_of (s.records p)) (λ d. gives_piece s m (chunk_of d.process.pid (state_of d.process) chunk)) (λ d. refl)
-kernel_stays b s m (what.State p chunk last bytes) = arriving_stays s (incoming_of (s.records p)) (takes_piece s m p) (λ a. piece_stays s m p (with_piece a m.what))
+kernel_stays b s m (what.State p chunk last bytes) = hears_stays s m p (incoming_of (s.records p))
 kernel_stays b s m (what.PullBlock p block) = leaving_stays s (frozen_of (s.records p)) (λ d. gives_piece s m (block_of d.process.pid d.process.memory block)) (λ d. refl)
-kernel_stays b s m (what.Memory p block bytes) = arriving_stays s (incoming_of (s.records p)) (takes_piece s m p) (λ a. piece_stays s m p (with_piece a m.what))
+kernel_stays b s m (what.Memory p block bytes) = hears_stays s m p (incoming_of (s.records p))
 kernel_stays b s m (what.AllTaken p) = leaving_stays s (frozen_of (s.records p)) (leaves s p) (λ d. refl)
 kernel_stays b s m (what.Restart p) = arriving_stays s (incoming_of (s.records p)) (restarts s p) (λ a. restart_stays s p a (restarted a))
+kernel_stays b s m (what.CallOff p) = leaving_stays s (frozen_of (s.records p)) (stays s p) (λ d. refl)
 kernel_stays b s m w = tt
 
 told_board_stays : (s : KernelState) (m : Message) (v : Servers) (w : What) → StaysAt s.here (told_board s m v w)
@@ -217,6 +222,14 @@ asks_manager_stays s p machine (Some v) = told_stays s p (moves_child v.manager.
 
 pub asks_move_stays : (s : KernelState) (p : Pid) (machine : ℕ) → StaysAt s.here (asks_move s p machine)
 asks_move_stays s p machine = asks_manager_stays s p machine s.servers
+
+-- calling a migration off
+arriving_called_off : (s : KernelState) (p : Pid) (o : Option Arrival) → StaysAt s.here (calls_arriving_off s p o)
+arriving_called_off s p None = refl
+arriving_called_off s p (Some a) = either s.here (is_whole a.wanted) (is_not_called s p) (turns_back s p a) refl refl
+
+pub calls_off_stays : (s : KernelState) (p : Pid) → StaysAt s.here (calls_off s p)
+calls_off_stays s p = arriving_called_off s p (incoming_of (s.records p))
 
 -- a machine of the boot file has its number
 begin_here : (test : Bool) (s t : KernelState) → t.here ≡ s.here → (if test then t else s).here ≡ s.here

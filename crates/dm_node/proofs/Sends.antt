@@ -4,11 +4,14 @@ use Rattle.dm_node.proofs.Names.{All-cons, All-drop, All-get_or, All-head, All-n
 use Rattle.dm_node.proofs.Names.{outstanding, window, with_acked, with_given, with_sent, after_arrival, after_next, arrival, next, Arrived, Taken, Old, Early, Boot, images_are_valid, Line, Part, IsLawfulPart, IsLawfulState, IsLawfulTurned}
 use Rattle.dm_node.proofs.Names.{Turned, asked_lawful, turn_lawful, Out, Says, Sends, NodeState, here, with_message, with_receiver, with_sender, Acted, Acts, Goes, Worn, behind, then_, acknowledges, acts, again, all_out, arrives, comes_in}
 use Rattle.dm_node.proofs.Names.{count_out, first_out, gives, is_worn, lets_go, lets_next, none_waits, put_line, routes, routes_away, routes_home, sends_due, takes_kept, takes_next, then_acknowledges, tick, turns, ActsLawfully, IsLawfulOut}
-use Rattle.dm_node.proofs.Names.{MayAct, MayArrive, MayAskMove, MayTurn}
+use Rattle.dm_node.proofs.Names.{MayAct, MayArrive, MayAskMove, MayTurn, called_off_lawful, MayCallOff}
 use Rattle.dm_packet.specs.declared.Packet.TheVariants as packet
 use Rattle.dm_line.specs.declared.line.Line.TheVariants as line
 use Rattle.dm_kernel.specs.declared.part.Part.TheVariants as part
 use Rattle.dm_kernel.specs.Asking as asking
+use Rattle.dm_kernel.specs.Coming as coming
+use Rattle.dm_node.specs.Acts.{calls_off}
+use Rattle.dm_node.proofs.Here.{calls_off_stays}
 use Rattle.dm_kernel.specs.Turn as kernel
 use Rattle.dm_node.specs.Acts.{asks_move, turn}
 use Rattle.dm_node.proofs.Here.{StaysAt, asks_move_stays, turn_stays}
@@ -127,6 +130,10 @@ turns_lawfully b n a images may lawful e =
 pub asks_lawfully : (n : NodeState) (p : Pid) (machine : ℕ) (a : Acted) → IsMachine machine → MayAskMove n → IsLawfulState n.kernel → asks_move n p machine ≡ Some (Goes a) → ActsLawfully (here n) a
 asks_lawfully n p machine a to may lawful e =
     some_lawfully n (asking.asks_move n.kernel p machine) a e (asks_move_stays n.kernel p machine) (λ t is. asked_lawful n.kernel p machine t may.kernel.here to lawful is) may.acts
+
+pub calls_off_lawfully : (n : NodeState) (p : Pid) (a : Acted) → MayCallOff n p → IsLawfulState n.kernel → calls_off n p ≡ Some (Goes a) → ActsLawfully (here n) a
+calls_off_lawfully n p a may lawful e =
+    some_lawfully n (coming.calls_off n.kernel p) a e (calls_off_stays n.kernel p) (λ t is. called_off_lawful n.kernel p t may.kernel.here lawful is) may.acts
 
 -- a tick
 again_lawfully : (n : NodeState) (b : ℕ) (o : Option (ℕ × Message)) → IsRoute (here n) b → NumberFits o → All (IsLawfulOut (here n)) (again n b o)

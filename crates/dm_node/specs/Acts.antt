@@ -19,6 +19,7 @@ use Rattle.dm_kernel.specs.declared.part.Part.{Part}
 use Rattle.dm_kernel.specs.declared.part.Part.TheVariants as part
 use Rattle.dm_kernel.specs.State.{Turned}
 use Rattle.dm_kernel.specs.Asking as asking
+use Rattle.dm_kernel.specs.Coming as coming
 use Rattle.dm_kernel.specs.Turn as kernel
 use Rattle.dm_node.specs.State.{NodeState, here, with_sender, with_message, with_receiver}
 use Rattle.dm_node.specs.declared.out.Out.{Out}
@@ -76,6 +77,10 @@ turn b n = turns n (kernel.turn b n.kernel)
 -- the machine with the manager has it tell a process to move
 abbrev pub asks_move : NodeState → Pid → ℕ → Option Acts
 asks_move n p machine = turns n (asking.asks_move n.kernel p machine)
+
+-- a migration is called off
+abbrev pub calls_off : NodeState → Pid → Option Acts
+calls_off n p = turns n (coming.calls_off n.kernel p)
 
 -- a tick: all that is out and not acknowledged goes out again, by machine and by number
 abbrev pub count_out : Sending Message → ℕ

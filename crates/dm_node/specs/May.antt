@@ -1,6 +1,7 @@
 -- What the events of a machine count on, as every machine of a good run has it.
 use Rattle.std.specs.Prelude.{◌≡◌, ℕ, ◌+◌, ◌-◌, ◌^◌, ◌<◌, ◌≤◌, ◌≢◌}
 use Rattle.std.specs.List.{All}
+use Rattle.dm_link.specs.declared.Pid.{Pid}
 use Rattle.dm_message.specs.declared.Message.{Message}
 use Rattle.dm_message.specs.Lawful.{IsLawfulMessage}
 use Rattle.dm_packet.specs.declared.Packet.{Packet}
@@ -25,6 +26,10 @@ pub record MayTurn (b : Boot) (n : NodeState) : Type 0 where
 pub record MayAskMove (n : NodeState) : Type 0 where
   pub acts : MayAct n
   pub kernel : kernel.MayAskMove n.kernel
+
+pub record MayCallOff (n : NodeState) (p : Pid) : Type 0 where
+  pub acts : MayAct n
+  pub kernel : kernel.MayCallOff n.kernel p
 
 -- a number comes from machine a that is in the window, and a count of what has gone out
 abbrev pub FitsLoad : NodeState → ℕ → Load Message → Type 0

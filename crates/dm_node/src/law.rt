@@ -7,9 +7,9 @@ ghost use Rattle.dm_onekernel.specs.declared.boot.Boot.{Boot};
 ghost use Rattle.dm_onekernel.specs.Boot.{images_are_valid};
 ghost use Rattle.dm_stream.specs.Packets.{Load};
 ghost use Rattle.dm_kernel.specs.Lawful.{IsLawfulState};
-ghost use Rattle.dm_node.specs.Acts.{arrives, asks_move, tick, turn};
+ghost use Rattle.dm_node.specs.Acts.{arrives, asks_move, calls_off, tick, turn};
 ghost use Rattle.dm_node.specs.Lawful.{ActsLawfully};
-ghost use Rattle.dm_node.specs.May.{MayAct, MayArrive, MayAskMove, MayTurn};
+ghost use Rattle.dm_node.specs.May.{MayAct, MayArrive, MayAskMove, MayCallOff, MayTurn};
 ghost use Rattle.dm_node.specs.Out.{Acted, Goes};
 ghost use Rattle.dm_node.specs.State.{NodeState, here};
 
@@ -19,6 +19,8 @@ pub fn events_send_lawfully()
         Some (Goes a) → ActsLawfully (here n) a }
     ensures asks { (n : NodeState) (p : Pid) (machine : ℕ) (a : Acted) → IsMachine machine → MayAskMove n → IsLawfulState n.kernel →
         asks_move n p machine ≡ Some (Goes a) → ActsLawfully (here n) a }
+    ensures calls { (n : NodeState) (p : Pid) (a : Acted) → MayCallOff n p → IsLawfulState n.kernel → calls_off n p ≡ Some (Goes a) →
+        ActsLawfully (here n) a }
     ensures ticks { (n : NodeState) → MayAct n → ActsLawfully (here n) (tick n) }
     ensures arrivals { (n : NodeState) (from : ℕ) (carried : Load Message) → MayArrive n from carried → ActsLawfully (here n) (arrives n from carried) }
 {}

@@ -4,15 +4,15 @@ ghost use Rattle.std.specs.List.{All};
 ghost use Rattle.dm_onekernel.specs.Boot.{images_are_valid};
 ghost use Rattle.dm_kernel.specs.Carried.{FreezesWhole};
 ghost use Rattle.dm_kernel.specs.Lawful.{IsLawfulPart, IsLawfulState};
-ghost use Rattle.dm_node.specs.Acts.{acts, all_out, asks_move, count_out, counts_out, first_out, tick, turn};
-ghost use Rattle.dm_node.specs.May.{MayAct, MayAskMove, MayTurn};
+ghost use Rattle.dm_node.specs.Acts.{acts, all_out, asks_move, calls_off, count_out, counts_out, first_out, tick, turn};
+ghost use Rattle.dm_node.specs.May.{MayAct, MayAskMove, MayCallOff, MayTurn};
 ghost use Rattle.dm_node.specs.Meets.{Answers, AnswersSome, Gave, HasStreams, OrNoMemory, node_state};
 
 use crate::node::Node;
 use crate::out::Out;
 use crate::route::push;
 use crate::stop::Stop;
-use dm_kernel::{Part, moves_are_asked_lawfully, turns_are_lawful};
+use dm_kernel::{Part, calls_off_lawfully, moves_are_asked_lawfully, turns_are_lawful};
 use dm_line::line::Line;
 use dm_link::{MACHINES, Pid};
 use dm_memory::{NoMemory, Parcel};
@@ -48,6 +48,21 @@ impl Node {
     {
         moves_are_asked_lawfully();
         match self.kernel.ask_move(pid, to) {
+            Ok(parts) => self.act(parts, outs),
+            Err(e) => Err(Stop::NoMemory(e)),
+        }
+    }
+
+    /// Calls off the migration of a process to this machine. What it gives comes to the end of `outs`, and it stops as worn like
+    /// a turn.
+    pub fn call_off(&mut self, pid: Pid, outs: &mut Vec<Out>) -> Result<(), Stop>
+        requires may { MayCallOff (node_state self.old) pid }
+        requires lawful { IsLawfulState (node_state self.old).kernel }
+        requires streams { HasStreams self.old }
+        ensures { AnswersSome result self.new outs.old.items outs.new.items (calls_off (node_state self.old) pid) }
+    {
+        calls_off_lawfully();
+        match self.kernel.call_off(pid) {
             Ok(parts) => self.act(parts, outs),
             Err(e) => Err(Stop::NoMemory(e)),
         }

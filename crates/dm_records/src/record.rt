@@ -113,6 +113,19 @@ impl<H, L, A, E> Record<H, L, A, E> {
         }
     }
 
+    /// What has come of the process, if parts have come.
+    pub fn incoming(&self) -> Option<&A>
+        ensures { option_copied result ≡ arriving_of self.now }
+    {
+        match self {
+            Record::Here(_) => None,
+            Record::Frozen(_) => None,
+            Record::Incoming(arriving) => Some(arriving),
+            Record::Forward { .. } => None,
+            Record::Ended(_) => None,
+        }
+    }
+
     /// The process, if it is here.
     pub fn into_here(self) -> Option<H>
     where

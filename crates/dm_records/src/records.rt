@@ -80,6 +80,16 @@ impl<H, L, A, E> Records<H, L, A, E> {
         }
     }
 
+    /// What has come of a process, where parts have come.
+    pub fn incoming(&self, pid: Pid) -> Option<&A>
+        ensures { option_copied result ≡ incoming_of (at self.now pid) }
+    {
+        match self.get(pid) {
+            Some(record) => record.incoming(),
+            None => None,
+        }
+    }
+
     /// Sets the record of a process, or hands it back; it can't fail where there is one.
     pub fn set(
         &mut self,

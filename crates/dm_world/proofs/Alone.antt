@@ -2,7 +2,7 @@
 use Rattle.dm_world.proofs.Names.{◌≡◌, ◌≢◌, ℕ, zero, suc, ◌<◌, ◌≤◌, Bool, true, false, ◌==◌, List, [], ◌∷◌, length, refl, sym, ap, subst, ◌∙◌, inl, inr, arith, Result, ⊤, if◌then◌else◌, ◌&&◌, map, All, Option, None, Some, Ok, Err}
 use Rattle.dm_world.proofs.Names.{eqb_tells, All-head, All-tail, Message, Packet, PacketError, packet_of, Load, Data, Ack, Sent, bytes_at, marked, after_mark, is_pair, Boot, images_are_valid, Line, at_machine, Step, Out, ActsLawfully}
 use Rattle.dm_world.proofs.Names.{IsFrom, IsLawfulOut, MayArrive, Acted, Acts, Goes, Worn, NodeState, here, spoken, with_packet, arrives_lawfully, asks_lawfully, ticks_lawfully, turns_lawfully, ActsAlone, acts_on, bytes_of, MayDeliver}
-use Rattle.dm_world.proofs.Names.{MayRead, MayStep, MeetsSome, Happened, Says, WorldState, WornOut, acted, arrives, delivers, reads, turned, world_step}
+use Rattle.dm_world.proofs.Names.{MayRead, MayStep, MeetsSome, Happened, Says, WorldState, WornOut, acted, arrives, delivers, reads, turned, world_step, calls_off_lawfully}
 use Rattle.dm_packet.specs.declared.Packet.TheVariants as packet
 use Rattle.dm_schedule.specs.declared.Step.TheVariants as step
 use Rattle.dm_node.specs.declared.out.Out.TheVariants as out
@@ -103,6 +103,9 @@ step_alone b w (step.Migrate p m) images few h may =
     let some : 0 < length b.machines = omega (arith, within) in
     let small : m ≤ 15 = omega (arith, within, few) in
     turned_alone w (step.Migrate p m) 0 (node.asks_move (w.nodes 0) p m) (λ a e. subst (λ k. ActsLawfully k a) (h 0 some) (asks_lawfully (w.nodes 0) p m a small may.1 may.2 e))
+step_alone b w (step.CallOff p m) images few h may =
+    turned_alone w (step.CallOff p m) m (node.calls_off (w.nodes m) p)
+    (λ a e. subst (λ k. ActsLawfully k a) (h m may.0) (calls_off_lawfully (w.nodes m) p a may.1 may.2 e))
 
 -- so is the world that the code comes to
 alone_met : (m : ℕ) (w s : WorldState) (lines : List Line) (o : Option Happened) → MeetsSome s lines o → AloneIn m w o → ActsAlone m w s

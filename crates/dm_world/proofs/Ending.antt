@@ -1,7 +1,7 @@
 -- What is left of a list from a place on, bytes up to the last that isn't 0, and the first machine that says something.
 use Rattle.dm_world.proofs.Names.{◌≡◌, ℕ, zero, suc, ◌+◌, ◌<◌, ◌≤◌, Bool, true, false, ◌==◌, if◌then◌else◌, List, [], ◌∷◌, ◌++◌, length, take, drop, get_or, refl, sym, ap, subst, ◌∙◌, inl, inr, arith, append-nil, append_assoc, drop-cons}
-use Rattle.dm_world.proofs.Names.{take-suc, slice_get, All, Option, None, Some, eqb_tells, nat_tests, get_or_from_slice_get, slice_get-get_or, slice_get_within, Message, MsgId, Named, IsLawfulNamed, EndLine, or, before_zeros, trimmed}
-use Rattle.dm_world.proofs.Names.{Link, Pid, SaysSome, WorldState, first_says, home_with, homes_with, joined_below, lines_in, link_at, link_lines, name_lines, names_of, slot_line}
+use Rattle.dm_world.proofs.Names.{take-suc, slice_get, All, Option, None, Some, eqb_tells, nat_tests, get_or_from_slice_get, slice_get-get_or, slice_get_within, Message, MsgId, Named, IsLawfulNamed, EndLine, or, before_zeros, trimmed, Link}
+use Rattle.dm_world.proofs.Names.{Pid, SaysSome, WorldState, first_says, home_with, homes_with, joined_below, lines_in, link_at, link_lines, name_lines, names_of, slot_line}
 use Rattle.dm_line.specs.declared.end_line.EndLine.TheVariants as end
 
 drop_at : {X : Type 0} (xs : List X) (i : ℕ) (x : X) → slice_get xs i ≡ Some x → drop i xs ≡ x ∷ drop (i + 1) xs

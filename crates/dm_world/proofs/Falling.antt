@@ -136,6 +136,7 @@ step_more b w (step.Turn m) = turned_more w (step.Turn m) m (node.turn b (w.node
 step_more b w (step.Tick m) = acted_more w (step.Tick m) m (node.tick (w.nodes m))
 step_more b w (step.Deliver a c k) = delivers_more w (step.Deliver a c k) a c k (bytes_at (w.wires a c) k)
 step_more b w (step.Migrate p m) = turned_more w (step.Migrate p m) 0 (node.asks_move (w.nodes 0) p m)
+step_more b w (step.CallOff p m) = turned_more w (step.CallOff p m) m (node.calls_off (w.nodes m) p)
 
 more_said : (w : WorldState) (o : Option Happened) (s : Said) → o ≡ Some (Says s) → MoreIn w o → SeenMore w s.state
 more_said w o s e h = subst (MoreIn w) e h

@@ -2,12 +2,10 @@
 use Rattle.dm_world.proofs.Names.{◌≡◌, ◌≢◌, ℕ, suc, ◌+◌, ◌<◌, ◌≤◌, Bool, List, [], ◌∷◌, ◌++◌, length, refl, sym, ap, subst, ◌∙◌, inl, inr, arith, length-set, get_or, get_or-set_same, get_or-set_other, length-append, get_or-append_seam}
 use Rattle.dm_world.proofs.Names.{get_or_append_left, set, ◌⊎◌, if◌then◌else◌, slice_get, slice_index_or, All, Option, None, Some, Err, eqb_tells, leb_tells, leb-true, All-weaker, get_or_from_slice_get, slice_get-get_or, slice_get_cases}
 use Rattle.dm_world.proofs.Names.{slice_get_past, slice_get_within, Boot, Packet, Data, Ack, at_machine, Node, Stop, Out, NodeState, here, node_opened, Acted, Acts, Goes, Worn, arrives_packet, MayArrivePacket, arrives_lawfully}
-use Rattle.std.specs.Option.{option_map_or}
-use Rattle.dm_world.proofs.Names.{ActsLawfully, IsLawfulOut, AnswersSome, Gave, GaveSome, World, ActedAt, ActedSome, AreNodes, IsNode, IsSendable, IsWorld, TurnAnswers, node_in}
+use Rattle.dm_world.proofs.Names.{option_map_or, ActsLawfully, IsLawfulOut, AnswersSome, Gave, GaveSome, World, ActedAt, ActedSome, AreNodes, IsNode, IsSendable, IsWorld, TurnAnswers, node_in, node_state}
 use Rattle.dm_packet.specs.declared.Packet.TheVariants as packet
 use Rattle.dm_node.specs.declared.stop.Stop.TheVariants as stop
 use Rattle.dm_node.specs.declared.out.Out.TheVariants as out
-use Rattle.dm_node.specs.Meets.{node_state}
 
 -- a list with one place written
 pub set_get_same : {X : Type 0} (xs : List X) (i : ℕ) (v : X) → i < length xs → slice_get (set xs i v) i ≡ Some v

@@ -146,6 +146,7 @@ SettleGoes n w c (step.Turn m) after = (m < n) × (world_has_mail w m ≡ true) 
 SettleGoes n w c (step.Deliver a b k) after = IsFresh n w a b k × LeavesFewer n w c (step.Deliver a b k) after
 SettleGoes n w c (step.Tick m) after = ⊥
 SettleGoes n w c (step.Migrate p m) after = ⊥
+SettleGoes n w c (step.CallOff p m) after = ⊥
 
 abbrev pub Falls : ℕ → WorldState → Cursor → Step → Cursor → Type 0
 Falls n w (One s) e after = LeavesFewer n w (One s) e after

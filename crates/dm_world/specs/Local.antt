@@ -11,6 +11,7 @@ acts_on (step.Turn m) = m
 acts_on (step.Tick m) = m
 acts_on (step.Deliver a c k) = c
 acts_on (step.Migrate p m) = 0
+acts_on (step.CallOff p m) = m
 
 abbrev pub bytes_of : Sent → List ℕ
 bytes_of p = p.bytes

@@ -36,3 +36,4 @@ MayStep b w (step.Turn m) = (m < length b.machines) × node.MayTurn b (w.nodes m
 MayStep b w (step.Tick m) = (m < length b.machines) × node.MayAct (w.nodes m)
 MayStep b w (step.Deliver a c k) = (a < length b.machines) × (c < length b.machines) × (a ≢ c) × MayDeliver w a c (bytes_at (w.wires a c) k)
 MayStep b w (step.Migrate p m) = (m < length b.machines) × node.MayAskMove (w.nodes 0) × IsLawfulState (w.nodes 0).kernel
+MayStep b w (step.CallOff p m) = (m < length b.machines) × node.MayCallOff (w.nodes m) p × IsLawfulState (w.nodes m).kernel

@@ -65,3 +65,4 @@ gave b w (step.Turn m) = gave_some (node.turn b (w.nodes m))
 gave b w (step.Tick m) = (node.tick (w.nodes m)).outs
 gave b w (step.Deliver a c k) = gave_bytes w a c (bytes_at (w.wires a c) k)
 gave b w (step.Migrate p m) = gave_some (node.asks_move (w.nodes 0) p m)
+gave b w (step.CallOff p m) = gave_some (node.calls_off (w.nodes m) p)

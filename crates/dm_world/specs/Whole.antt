@@ -11,3 +11,4 @@ AreWhole w (step.Turn m) = FreezesWhole (w.nodes m).kernel (w.nodes m).kernel.in
 AreWhole w (step.Tick m) = ⊤
 AreWhole w (step.Deliver a c k) = ⊤
 AreWhole w (step.Migrate p m) = ⊤
+AreWhole w (step.CallOff p m) = ⊤

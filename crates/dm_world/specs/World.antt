@@ -70,6 +70,7 @@ world_step b w (step.Turn m) = turned w (step.Turn m) m (node.turn b (w.nodes m)
 world_step b w (step.Tick m) = Some (Says (acted w (step.Tick m) m (node.tick (w.nodes m))))
 world_step b w (step.Deliver a c k) = delivers w (step.Deliver a c k) a c k (bytes_at (w.wires a c) k)
 world_step b w (step.Migrate p m) = turned w (step.Migrate p m) 0 (node.asks_move (w.nodes 0) p m)
+world_step b w (step.CallOff p m) = turned w (step.CallOff p m) m (node.calls_off (w.nodes m) p)
 
 -- the world as the boot file has it
 abbrev pub first_world : Boot → WorldState

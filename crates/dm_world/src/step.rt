@@ -10,7 +10,7 @@ ghost use Rattle.dm_kernel.specs.Carried.{FreezesWhole};
 ghost use Rattle.dm_kernel.specs.Lawful.{IsLawfulState};
 ghost use Rattle.dm_node.specs.Acts as node;
 ghost use Rattle.dm_node.specs.declared.out.Out.TheVariants as out;
-ghost use Rattle.dm_node.specs.May.{MayAct, MayArrivePacket, MayAskMove, MayTurn};
+ghost use Rattle.dm_node.specs.May.{MayAct, MayArrivePacket, MayAskMove, MayCallOff, MayTurn};
 ghost use Rattle.dm_node.specs.Meets.{OrNoMemory};
 ghost use Rattle.dm_node.specs.Wired.{spoken};
 ghost use Rattle.dm_line.specs.declared.line.Line.TheVariants as line;
@@ -68,6 +68,7 @@ impl World {
             Step::Tick(m) => self.tick(m),
             Step::Deliver { a, b, k } => self.deliver(a, b, k),
             Step::Migrate { pid, to } => self.ask_move(pid, to),
+            Step::CallOff { pid, at } => self.call_off(pid, at),
         }
     }
 
@@ -96,6 +97,20 @@ impl World {
         let empty = emptied(self.alloc, &mut self.outs);
         let outs = ask_manager(empty, &mut self.nodes, &self.boot, pid, to)?;
         let lines = self.group(Step::Migrate { pid, to }, outs)?;
+        Ok(lines)
+    }
+
+    /// The migration of a process to a machine is called off there.
+    fn call_off(&mut self, pid: Pid, m: u8) -> Result<Vec<Line>, Stop>
+        requires world { IsWorld self.old }
+        requires may { MayStep self.old.boot (world_state self.old) (directive.CallOff pid m) }
+        requires groups { self.old.groups < 2 ^ 127 }
+        ensures meets { StepMeets self.old self.new (directive.CallOff pid m) result }
+        ensures stopped { self.new.stopped ≡ self.old.stopped }
+    {
+        let empty = emptied(self.alloc, &mut self.outs);
+        let outs = call_off(empty, &mut self.nodes, &self.boot, pid, m)?;
+        let lines = self.group(Step::CallOff { pid, at: m }, outs)?;
         Ok(lines)
     }
 
@@ -238,6 +253,29 @@ fn ask_manager(
 {
     let mut outs = empty;
     match nodes[0].ask_move(pid, to, &mut outs) {
+        Ok(()) => Ok(outs),
+        Err(stop) => Err(stop),
+    }
+}
+
+/// Machine `m` calls the migration of a process off; what it gives, in a list that was empty.
+fn call_off(
+    empty: Vec<Out>,
+    nodes: &mut [Node],
+    boot: &Boot,
+    pid: Pid,
+    m: u8,
+) -> Result<Vec<Out>, Stop>
+    requires empty { empty.items ≡ [] }
+    requires within { m < length nodes.old }
+    requires nodes { AreNodes nodes.old }
+    requires may { MayCallOff (node_in boot.now nodes.old m) pid }
+    requires lawful { IsLawfulState (node_in boot.now nodes.old m).kernel }
+    ensures answers { TurnAnswers result boot.now nodes.old nodes.new m (node.calls_off (node_in boot.now nodes.old m) pid) }
+    ensures outs { IfOk result (λ outs. All IsSendable outs.items) }
+{
+    let mut outs = empty;
+    match nodes[place_of(m)].call_off(pid, &mut outs) {
         Ok(()) => Ok(outs),
         Err(stop) => Err(stop),
     }

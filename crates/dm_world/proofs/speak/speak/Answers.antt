@@ -1,5 +1,5 @@
-use Rattle.dm_world.proofs.Names.{◌∷◌, ◌+◌, ◌∙◌, ap, drop, packets_on, spoken, subst, sym}
-use Rattle.dm_node.specs.declared.out.Out.TheVariants.{Says, Sends}
+use Rattle.dm_world.proofs.Names.{◌∷◌, ◌+◌, ◌∙◌, ap, drop, packets_on, spoken, subst, sym, Sends}
+use Rattle.dm_node.specs.declared.out.Out.TheVariants.{Says}
 use Rattle.dm_world.proofs.Speaking.{Leads, at_place, leads_line, leads_packet}
 use Rattle.dm_world.proofs.Rereading.{back_line, back_packet}
 use Rattle.dm_world.proofs.speak.speak.Goals as goal

@@ -1,5 +1,4 @@
-use Rattle.dm_world.proofs.Names.{◌++◌, ◌∙◌, ap, refl, sym, subst, tick, ActsLawfully, MayAct, HasStreams, ticks_lawfully, node_in}
-use Rattle.dm_node.specs.Meets.{node_state}
+use Rattle.dm_world.proofs.Names.{◌++◌, ◌∙◌, ap, refl, sym, subst, tick, ActsLawfully, MayAct, HasStreams, ticks_lawfully, node_in, node_state}
 use Rattle.dm_world.proofs.Nodes.{acted_still, all_sendable, here_at, is_node_at, node_at}
 use Rattle.dm_world.proofs.step.send_again.Goals as goal
 

@@ -1,5 +1,4 @@
-use Rattle.dm_world.proofs.Names.{◌≡◌, ◌++◌, ◌∷◌, ℕ, [], length, ◌+◌, ap, sym, subst, ◌∙◌, length-append, slice_get, Some, Node, here, node_opened, AreNodes, opened_here}
-use Rattle.dm_node.specs.Meets.{node_state}
+use Rattle.dm_world.proofs.Names.{◌≡◌, ◌++◌, ◌∷◌, ℕ, [], length, ◌+◌, ap, sym, subst, ◌∙◌, length-append, slice_get, Some, Node, here, node_opened, AreNodes, opened_here, node_state}
 use Rattle.dm_world.proofs.Nodes.{are_pushed, opened_pushed}
 use Rattle.dm_world.proofs.world.open_all.Goals as goal
 

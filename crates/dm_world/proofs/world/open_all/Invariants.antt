@@ -1,5 +1,4 @@
-use Rattle.dm_world.proofs.Names.{◌≡◌, ℕ, length, slice_get, Some, Node, node_opened, AreNodes}
-use Rattle.dm_node.specs.Meets.{node_state}
+use Rattle.dm_world.proofs.Names.{◌≡◌, ℕ, length, slice_get, Some, Node, node_opened, AreNodes, node_state}
 use Rattle.dm_world.proofs.world.open_all.Given as goal
 
 abbrev pub invariant-loop-here : goal.invariant-loop-here

@@ -5,7 +5,7 @@ use Rattle.dm_migrate.proofs.Coming.{chunk_after, chunk_view, fits}
 
 -- what is there, and what is asked for, in the words of the fields
 abbrev parts : (c : goal.After-self-1) → Parts
-parts c = record { pid = c.self.inside.pid; moves = c.self.inside.moves; asker = c.self.inside.asker; cap = c.self.inside.cap; state = c.self.inside.state.items; memory = c.self.inside.memory; wanted = c.self.inside.wanted; held = c.self.inside.held.items }
+parts c = record { pid = c.self.inside.pid; source = c.self.inside.source; moves = c.self.inside.moves; asker = c.self.inside.asker; cap = c.self.inside.cap; state = c.self.inside.state.items; memory = c.self.inside.memory; wanted = c.self.inside.wanted; held = c.self.inside.held.items }
 
 next : (a : Parts) (x : Arrival) (k : ℕ) (ends : Bool) (bytes : List ℕ) → come_of a ≡ x → IsNextChunk x x.pid k ends bytes → IsNextChunk (come_of a) a.pid k ends bytes
 next a x k ends bytes v n = subst (λ (y : Arrival). IsNextChunk y y.pid k ends bytes) (sym v) n
@@ -13,7 +13,7 @@ next a x k ends bytes v n = subst (λ (y : Arrival). IsNextChunk y y.pid k ends 
 -- src/arriving.rt:184:9
 pub put_at-requires : goal.put_at-requires
 put_at-requires c =
-    let a : Parts = record { pid = c.self.inside.pid; moves = c.self.inside.moves; asker = c.self.inside.asker; cap = c.self.inside.cap; state = c.self.inside.state.items; memory = c.self.inside.memory; wanted = c.self.inside.wanted; held = c.self.inside.held.items } in
+    let a : Parts = record { pid = c.self.inside.pid; source = c.self.inside.source; moves = c.self.inside.moves; asker = c.self.inside.asker; cap = c.self.inside.cap; state = c.self.inside.state.items; memory = c.self.inside.memory; wanted = c.self.inside.wanted; held = c.self.inside.held.items } in
     fits a c.args.chunk c.args.last c.args.bytes.now (next a c.args.self.now c.args.chunk c.args.last c.args.bytes.now c.self.view_is c.requires)
 
 -- src/arriving.rt:180:5

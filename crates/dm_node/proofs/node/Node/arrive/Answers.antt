@@ -1,8 +1,6 @@
 -- What is in the envelope is the packet.
-use Rattle.std.specs.Prelude.{OnOk}
-use Rattle.dm_node.proofs.Names.{◌≡◌, ◌∙◌, ap, sym, subst, Packet, MayArrivePacket, Gave, arrives_packet, node_state}
+use Rattle.dm_node.proofs.Names.{OnOk, ◌≡◌, ◌∙◌, ap, sym, subst, Packet, MayArrivePacket, Gave, arrives_packet, node_state, packet_in}
 use Rattle.dm_packet.specs.declared.Packet.TheVariants as packet
-use Rattle.dm_node.specs.Contents.{packet_in}
 use Rattle.dm_node.proofs.node.Node.arrive.Goals as goal
 
 pub take-requires-clause-may : goal.take-requires-clause-may

@@ -1,5 +1,4 @@
-use Rattle.dm_world.proofs.Names.{◌<◌, length, ap, ◌∙◌, sym, subst, HasStreams}
-use Rattle.dm_node.specs.Meets.{node_state}
+use Rattle.dm_world.proofs.Names.{◌<◌, length, ap, ◌∙◌, sym, subst, HasStreams, node_state}
 use Rattle.dm_world.proofs.Nodes.{is_node_at, node_at}
 use Rattle.dm_world.proofs.world.World.machine.Goals as goal
 
