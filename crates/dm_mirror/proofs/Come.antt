@@ -4,3 +4,4 @@ pub mod Turns
 pub mod Pieces
 pub mod Answers
 pub mod Restarts
+pub mod Stale

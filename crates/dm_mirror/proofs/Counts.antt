@@ -3,8 +3,9 @@ pub mod Pairs
 pub mod AtEnds
 pub mod Waiting
 use Rattle.dm_mirror.proofs.Names.{◌≡◌, inl, inr, ℕ, ◌+◌, ◌<◌, ◌≤◌, true, List, [], ◌∷◌, length, nat_le, refl, ap, ◌∙◌, sym, subst, arith, Some, nat_tests, Pid, Boot, IsValid, Step, Line, Stage, Known, ascends, IsStep, Leads, false≢true}
-use Rattle.dm_mirror.proofs.Names.{Says, Spelled, spelled, Point, first_point, moved, group_of, at_pid, at_record, actor, view_after, GroupIs, group_is, said, says_next, both, Both, RunGoes, RunStarts, both_group, both_start, Run}
-use Rattle.dm_mirror.proofs.Names.{Label, None, Option, Routes, answer_id, Outcome, MoveNote, Pending}
+use Rattle.dm_mirror.proofs.Names.{Says, Spelled, spelled, Point, first_point, moved, group_of, at_pid, at_record, actor, view_after, GroupIs, group_is, said, says_next, both, Both, RunGoes, RunStarts, both_group, both_start, Run, Label}
+use Rattle.dm_mirror.proofs.Names.{None, Option, Routes, answer_id, Outcome, MoveNote}
+use Rattle.dm_rulelaws.proofs.Names.{Pending}
 use Rattle.dm_rule.proofs.Names.{Part}
 use Rattle.dm_rule.specs.Migrating.{tells_asker}
 use Rattle.dm_mirror.proofs.Counts.AtEnds.{BearEnds, Ends, PutsOne, Under, bear_ends, ends, ends_before, own_puts, part_next, under_more, under_within, Bears, FrontRestarts, Pays, Restarts, Sort, SortIf, outcome_sort}

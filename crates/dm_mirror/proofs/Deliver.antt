@@ -4,11 +4,10 @@ pub mod Stands
 pub mod Moves
 pub mod Goes
 pub mod Outs
-use Rattle.dm_mirror.proofs.Names.{PairStands, stream_of}
-use Rattle.dm_mirror.proofs.Names.{◌≡◌, ◌≢◌, ℕ, ◌+◌, ◌^◌, ◌<◌, ◌≤◌, ◌⊎◌, ◌==◌, nat_le, nat_lt, Bool, true, false, List, [], ◌∷◌, length, refl, ap, ◌∙◌, sym, subst, inl, inr, arith, if◌then◌else◌, slice_get, option_map, Ok, All, Option}
-use Rattle.dm_mirror.proofs.Names.{None, Some, cases_Bool, eqb_tells, nat_tests, All-drop, Message, IsLawfulMessage, Packet, Step, Line, packet_of, spelling, Data, Ack, load_at, MayCome-stands, bytes_at, after_mark, Boot, IsValid}
-use Rattle.dm_mirror.proofs.Names.{Spelled, spelled, Point, moved, behind, kept_from, at_least, Run, Placed, MayAct, WorldState, acted, arrives, delivers, reads, world_step, MayDeliver, MayRead, CountsStand, History, StandsWith, line_of}
-use Rattle.dm_mirror.proofs.Names.{load_of, GoesOn, IsNet, arrives_net}
+use Rattle.dm_mirror.proofs.Names.{PairStands, stream_of, ◌≡◌, ◌≢◌, ℕ, ◌+◌, ◌^◌, ◌<◌, ◌≤◌, ◌⊎◌, ◌==◌, nat_le, nat_lt, Bool, true, false, List, [], ◌∷◌, length, refl, ap, ◌∙◌, sym, subst, inl, inr, arith, if◌then◌else◌, slice_get}
+use Rattle.dm_mirror.proofs.Names.{option_map, All, Option, None, Some, cases_Bool, eqb_tells, nat_tests, All-drop, Message, IsLawfulMessage, Packet, Step, Line, packet_of, spelling, Data, Ack, load_at, MayCome-stands, bytes_at, after_mark}
+use Rattle.dm_mirror.proofs.Names.{Boot, IsValid, Spelled, spelled, Point, moved, behind, kept_from, at_least, Run, Placed, MayAct, WorldState, acted, arrives, delivers, reads, world_step, MayDeliver, MayRead, CountsStand, History}
+use Rattle.dm_mirror.proofs.Names.{StandsWith, line_of, load_of, GoesOn, IsNet, arrives_net, Ok}
 use Rattle.dm_rule.proofs.Names.{Part}
 use Rattle.dm_stream.specs.Packets.{Load}
 use Rattle.dm_mirror.proofs.Deliver.Goes.{Comes, acked_comes, early_comes, old_comes, taken_comes, IsReadAs, ReadsAs, bytes_are, bytes_for, lines_are, load_is, reads_ack, Same, arrives_sent, counts_on, net_same, few}

@@ -10,11 +10,12 @@ use Rattle.dm_mirror.proofs.Follow.Asks.{asks_turn}
 use Rattle.dm_mirror.proofs.Going.{run_goes_on_by, leads_last}
 use Rattle.dm_mirror.proofs.Single.{ran_goes_on_by, end_is_said_by}
 use Rattle.dm_mirror.proofs.Machines.{machines_are, made_always}
-use Rattle.dm_mirror.proofs.May.{all_lawful, may_step_migrate, may_step_turn, may_step_tick}
+use Rattle.dm_mirror.proofs.May.{all_lawful, may_step_calloff, may_step_migrate, may_step_turn, may_step_tick}
+use Rattle.dm_mirror.proofs.Call.{calls_turn}
 use Rattle.dm_mirror.proofs.Ticks.{tick_goes}
 use Rattle.dm_mirror.proofs.TurnAll.{turns_all}
 use Rattle.dm_mirror.proofs.Deliver.Goes.{reads_as, few}
-use Rattle.dm_mirror.proofs.TurnSteps.{move_goes, turn_goes}
+use Rattle.dm_mirror.proofs.TurnSteps.{call_goes, move_goes, turn_goes}
 use Rattle.dm_mirror.proofs.Come.Answers.{Around}
 use Rattle.dm_mirror.proofs.End.Processes.{FewAlways, end_may_by}
 
@@ -53,6 +54,15 @@ move_stands b es w pt p m valid leads ((l, h, st), sent) lt may =
     move_goes run_group b w pt l h p m valid both.run both.own may.1.kernel.here machine st sent first (below b es pt m leads lt)
     (asks_turn b pt l (λ n. (w.nodes n).kernel.records) (w.nodes 0).kernel p m (search (sent 0 first)))
 
+call_stands : (b : Boot) (es : List Step) (w : WorldState) (pt : Point) (p : Pid) (m : ℕ) → IsValid b → Leads b (first_point b) es pt → Stands b w pt → m < length b.machines → MayStep b w (Step.CallOff p m) → Steps b w pt (Step.CallOff p m)
+call_stands b es w pt p m valid leads ((l, h, st), sent) lt may =
+    let both = run_always b es pt valid leads in
+    let within = below b es pt m leads lt in
+    let node = st.nodes m within in
+    call_goes run_group b w pt l h p m valid both.run both.own may.1.kernel.here st sent within
+    (calls_turn b m pt l (λ n. (w.nodes n).kernel.records) (w.nodes m).kernel p (made_always b es pt valid leads)
+    (record { run = both.run; mirrors = st.mirrors; stands = node.kernel; own = st.own; tokens = st.tokens; records_here = refl; sent = sent m within }))
+
 -- a delivery
 steps_stand_by : FewAlways → TablesAlways → StepsStand
 steps_stand_by fews tables b es w pt (Step.Turn m) valid leads stands able readable lt =
@@ -73,6 +83,9 @@ steps_stand_by fews tables b es w pt (Step.Deliver a c k) valid leads ((l, h, s)
 steps_stand_by fews tables b es w pt (Step.Migrate p m) valid leads stands able readable lt =
     let may = may_step_migrate b es w pt p m valid leads (fews b es pt valid leads stands.0.2.counts) stands able lt in
     (may, λ whole. move_stands b es w pt p m valid leads stands lt may)
+steps_stand_by fews tables b es w pt (Step.CallOff p m) valid leads stands able readable lt =
+    let may = may_step_calloff b es w pt p m valid leads (fews b es pt valid leads stands.0.2.counts) stands able lt in
+    (may, λ whole. call_stands b es w pt p m valid leads stands lt may)
 
 few_always : FewAlways
 few_always b es pt valid leads counts = counts_few run_start run_group b es pt valid leads (run_always b es pt valid leads).run counts

@@ -1,7 +1,8 @@
 -- A message is given to the stream of a pair, and goes out at once or waits.
 use Rattle.dm_mirror.proofs.Names.{◌≡◌, ◌≢◌, ℕ, ◌+◌, ◌<◌, ◌≤◌, ◌==◌, ◌&&◌, Bool, false, [], ◌∷◌, ◌++◌, length, refl, ap, ◌∙◌, sym, subst, arith, if◌then◌else◌, Some, eqb-true, nat_tests, length-append, Pid, Message, MessageKind}
-use Rattle.dm_mirror.proofs.Names.{IsLawfulMessage, Sending, due, given_count, with_given, with_sent, Receiving, Stream, Boot, NodeState, with_sender, at_machine, at_pair, Pair, View, after_packet, after_put, routed_on, Point, Placed}
-use Rattle.dm_mirror.proofs.Names.{WorldState, History, NodeStands, PairStands, StandsWith, stream_of}
+use Rattle.dm_mirror.proofs.Names.{IsLawfulMessage, Sending, due, given_count, with_given, Receiving, Stream, Boot, NodeState, with_sender, at_machine, at_pair, Pair, View, after_packet, after_put, routed_on, Point, Placed, WorldState}
+use Rattle.dm_mirror.proofs.Names.{History, NodeStands, PairStands, StandsWith, stream_of}
+use Rattle.dm_node.proofs.Names.{with_sent}
 use Rattle.dm_stream.specs.Packets.{Load}
 use Rattle.dm_stream.specs.Stream.{is_worn}
 use Rattle.dm_line.specs.declared.line.Load.TheVariants as load

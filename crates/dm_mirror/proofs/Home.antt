@@ -1,7 +1,6 @@
 -- A message that is routed to its own machine comes into the inbox at once.
-use Rattle.dm_mirror.proofs.Names.{◌≡◌, ◌≢◌, ℕ, ◌+◌, ◌<◌, ◌==◌, ◌&&◌, Bool, List, [], ◌∷◌, ◌++◌, length, refl, ap, ◌∙◌, sym, subst, arith, if◌then◌else◌, Some, eqb-true, eq-eqb, nat_tests, length-append, All-push, Pid}
-use Rattle.dm_mirror.proofs.Names.{Message, MsgId, MessageKind, IsLawfulMessage, Boot, IsLawfulState, KernelState, NodeState, with_message, at_machine, Pair, View, after_put, routed_on, Point, Placed, WorldState, AreMessages, History}
-use Rattle.dm_mirror.proofs.Names.{NodeStands}
+use Rattle.dm_mirror.proofs.Names.{◌≡◌, ◌≢◌, ℕ, ◌+◌, ◌<◌, ◌==◌, ◌&&◌, Bool, List, [], ◌∷◌, ◌++◌, length, refl, ap, ◌∙◌, sym, subst, arith, if◌then◌else◌, Some, eqb-true, eq-eqb, nat_tests, length-append, All-push, Pid, Message, MsgId}
+use Rattle.dm_mirror.proofs.Names.{MessageKind, IsLawfulMessage, Boot, IsLawfulState, KernelState, NodeState, with_message, at_machine, Pair, View, after_put, routed_on, Point, Placed, WorldState, AreMessages, History, NodeStands}
 use Rattle.dm_mirror.proofs.Streams.{pair_stays, at_here, at_other, kernel_box, nodes_are, pair_here, pair_other}
 use Rattle.dm_mirror.proofs.Deliver.Moves.{messages_push}
 use Rattle.dm_mirror.proofs.Giving.{more_if, one_more}

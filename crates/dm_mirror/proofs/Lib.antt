@@ -2,12 +2,15 @@ pub mod Names
 pub mod Turning
 pub mod Rooms
 pub mod Recorded
+pub mod Cargoes
+pub mod LeftOver
 pub mod Kernel
 pub mod Serve
 pub mod Serving
 pub mod Row
 pub mod Handle
 pub mod Leave
+pub mod Call
 pub mod Come
 pub mod Follow
 pub mod TurnAll

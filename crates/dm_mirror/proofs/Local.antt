@@ -1,13 +1,14 @@
 -- A directive acts on one machine.
 use Rattle.dm_mirror.proofs.Names.{◌≡◌, ℕ, zero, suc, ◌+◌, ◌==◌, ◌&&◌, Bool, true, false, List, [], ◌∷◌, map, refl, ap, ◌∙◌, sym, subst, arith, ⊤, if◌then◌else◌, Option, None, Some, Result, Err, nat_tests, append-nil, All-nil, Message}
 use Rattle.dm_mirror.proofs.Names.{Packet, Line, PacketError, packet_of, Sent, bytes_at, after_mark, Data, Ack, Boot, Step, KernelState, Turned, Pid, NodeState, here, Acted, Acts, Goes, StaysAt, asks_move_stays, WorldState, Said, acted}
-use Rattle.dm_mirror.proofs.Names.{arrives, reads, delivers, world_step, IsFresh, PutsFrom, marked_by, ActsLocally, SamePacket, unnumbered, DoesSame, ReadsLocally, NothingComes, AsLong, length_marked, actor}
-use Rattle.std.specs.declared.result.Result.TheVariants.{Ok}
+use Rattle.dm_mirror.proofs.Names.{arrives, reads, delivers, world_step, IsFresh, PutsFrom, marked_by, ActsLocally, SamePacket, unnumbered, DoesSame, ReadsLocally, NothingComes, AsLong, length_marked, actor, calls_off_stays}
+use Rattle.dm_world.proofs.Names.{Ok}
 use Rattle.dm_wire.specs.Sent.{marked}
 use Rattle.dm_stream.specs.Packets.{Load}
 use Rattle.dm_world.specs.World.{Says, turned}
 use Rattle.dm_kernel.specs.Turn as kernel
 use Rattle.dm_kernel.specs.Asking as asking
+use Rattle.dm_kernel.specs.Coming as coming
 use Rattle.dm_node.specs.Acts as machine
 use Rattle.dm_mirror.proofs.LocalLines.{spoken_unnumbered, spoken_same}
 use Rattle.dm_mirror.proofs.Outs.{IsFrom, ActsFrom, acts_from, tick_from, arrives_from, packets_to, all_fresh, spoken_off, spoken_on}
@@ -52,6 +53,13 @@ asks_is w p m s is happens =
     let asks_here : (o : Option Turned) (h : ℕ) → StaysAt h o → (t : Turned) → o ≡ Some t → t.state.here ≡ h = λ o h stays t e. subst (StaysAt h) e stays in
     turned_is (Step.Migrate p m) 0 w (machine.asks_move (w.nodes 0) p m) s
     (turns_from (w.nodes 0) 0 (asking.asks_move k p m) is (asks_here (asking.asks_move k p m) k.here (asks_move_stays k p m))) happens
+
+calls_is : (w : WorldState) (p : Pid) (m : ℕ) (s : Said) → here (w.nodes m) ≡ m → turned w (Step.CallOff p m) m (machine.calls_off (w.nodes m) p) ≡ Some (Says s) → Turns (Step.CallOff p m) m w (machine.calls_off (w.nodes m) p) s
+calls_is w p m s is happens =
+    let k = (w.nodes m).kernel in
+    -- the machine calls off what comes to it
+    let called_here : (o : Option Turned) (h : ℕ) → StaysAt h o → (t : Turned) → o ≡ Some t → t.state.here ≡ h = λ o h stays t e. subst (StaysAt h) e stays in
+    turned_is (Step.CallOff p m) m w (machine.calls_off (w.nodes m) p) s (turns_from (w.nodes m) m (coming.calls_off k p) is (called_here (coming.calls_off k p) k.here (calls_off_stays k p))) happens
 
 -- a delivery: what comes of the packet that some bytes spell
 record Comes (w : WorldState) (e : Step) (a c : ℕ) (r : Result Packet PacketError) (s : Said) : Type 0 where
@@ -147,6 +155,9 @@ reads_locally stays b w u (Step.Deliver a c k) s is node same happens = delivers
 reads_locally stays b w u (Step.Migrate p m) s is node same happens =
     let t = asks_is w p m s is happens in
     acted_same b w u (Step.Migrate p m) s t.acted_ t.from t.said (ap (turned u (Step.Migrate p m) 0) (ap (λ (n : NodeState). machine.asks_move n p m) node ∙ t.is))
+reads_locally stays b w u (Step.CallOff p m) s is node same happens =
+    let t = calls_is w p m s is happens in
+    acted_same b w u (Step.CallOff p m) s t.acted_ t.from t.said (ap (turned u (Step.CallOff p m) m) (ap (λ (n : NodeState). machine.calls_off n p) node ∙ t.is))
 
 -- a world does what it does
 pub acts_locally : KernelStays → ActsLocally

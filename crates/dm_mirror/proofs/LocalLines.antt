@@ -1,11 +1,8 @@
 -- The lines that a machine says hang on the wires only by the numbers of its packets.
-use Rattle.dm_mirror.proofs.Names.{◌≡◌, ℕ, Bool, List, [], ◌∷◌, length, map, refl, ap, ◌∙◌, sym, arith, if◌then◌else◌, length-append, Packet, spelling, Sent, is_pair, Step, Line, Out, Sends, Acted, with_packet, nat_tests, spoken}
-use Rattle.dm_mirror.proofs.Names.{WorldState, acted, AsLong, marked_by, unnumbered, length_marked}
-use Rattle.dm_wire.specs.Sent.{marked}
-use Rattle.dm_wire.specs.Wire.{after_put}
+use Rattle.dm_mirror.proofs.Names.{◌≡◌, ℕ, List, [], ◌∷◌, length, map, refl, ap, ◌∙◌, arith, length-append, Packet, Sent, Line, Out, Sends, with_packet, nat_tests, spoken, unnumbered}
 use Rattle.dm_node.specs.declared.out.Out.TheVariants.{Says}
 use Rattle.dm_node.specs.Wired.{packet_line}
-use Rattle.dm_mirror.proofs.Outs.{AreFrom, IsFrom}
+use Rattle.dm_mirror.proofs.Outs.{AreFrom}
 
 abbrev Wires : Type 0
 Wires = ℕ → ℕ → List Sent

@@ -5,7 +5,6 @@ use Rattle.dm_mirror.proofs.Names.{slice_get, start, first_life, replay, pid_eq-
 use Rattle.dm_laws.proofs.Names.{begun}
 use Rattle.dm_onekernel.specs.Step as kernel
 use Rattle.dm_mirror.proofs.Numbering.{life_named, named_all, named_is, some_of as some_is}
-use Rattle.dm_mirror.proofs.Raises.{Stays}
 use Rattle.dm_mirror.proofs.RaisesMade.{Makes, step_makes}
 
 -- there are as many machines as at first

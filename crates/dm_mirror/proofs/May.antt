@@ -5,13 +5,18 @@ pub mod Turns
 use Rattle.dm_mirror.proofs.Names.{◌≡◌, ℕ, ◌+◌, ◌^◌, ◌<◌, ◌≤◌, ◌==◌, Bool, true, false, List, [], ◌∷◌, length, refl, ap, sym, subst, arith, if◌then◌else◌, IsSome, All, Option, None, Some, Result, Err, nat_tests, All-nil, Message}
 use Rattle.dm_mirror.proofs.Names.{IsLawfulMessage, Packet, Line, PacketError, packet_of, Data, Ack, bytes_at, after_mark, Boot, IsValid, Step, Leads, Point, first_point, OwnTold, Run, Placed, IsLawfulState, KernelState, Turned}
 use Rattle.dm_mirror.proofs.Names.{asks_manager, asks_move, told_to_move, Servers, MoveError, moves_child, Pid, opened_may, asked_lawful, turn_lawful, Acted, Acts, Goes, Worn, NodeState, MayAct, MayArrive, MayAskMove, MayAfter, arrives_may}
-use Rattle.dm_mirror.proofs.Names.{turn_may, Said, WorldState, acted, arrives, delivers, first_world, reads, world_step, MayDeliver, MayRead, MayStep, AllMayAct, MadeStands, CountsStand, History, Stands, StandsWith, servers_at}
-use Rattle.std.specs.declared.result.Result.TheVariants.{Ok}
+use Rattle.dm_mirror.proofs.Names.{turn_may, Said, WorldState, acted, arrives, delivers, first_world, reads, world_step, MayDeliver, MayRead, MayStep, AllMayAct, MadeStands, CountsStand, History, Stands, StandsWith, servers_at, calls_off}
+use Rattle.dm_mirror.proofs.Names.{MayCallOff, called_off_lawful, StaysAt, calls_off_stays, ◌∙◌, inl, inr, cases_Bool, length-map, Arrival, Record, HasTaken, Mirrors, KernelStands, KnownStands, incoming_of, is_server, takes_room, map, ◌/◌}
+use Rattle.dm_mirror.proofs.Names.{MsgId, IfSome}
+use Rattle.dm_world.proofs.Names.{Ok}
 use Rattle.dm_stream.specs.Packets.{Load}
 use Rattle.dm_kernel.specs.State.{own_id}
 use Rattle.dm_node.specs.May.{MayTurn}
 use Rattle.dm_world.specs.World.{Says, turned}
 use Rattle.dm_kernel.specs.Turn as kernel
+use Rattle.dm_mirror.proofs.Call.{coming_by, coming_fits}
+use Rattle.dm_mirror.proofs.May.Own.{has_taken, life_is}
+use Rattle.dm_kernel.specs.State as state
 use Rattle.dm_node.specs.Acts as node
 use Rattle.dm_mirror.proofs.Machines.{few_machines, machines_are, some_machine, made_always}
 use Rattle.dm_mirror.proofs.Counts.Pairs.{CountsFew}
@@ -60,6 +65,40 @@ may_step_migrate b es w pt p m valid leads counts ((l, h, st), sent) acts lt =
       node.lawful,
     )
 
+-- what comes is called off: it has taken its room, and few messages were held for it
+abbrev MayCall : Option state.KernelKnown → KernelState → Type 0
+MayCall r k = IfSome (incoming_of r) (λ (a : Arrival). HasTaken k.room a.blocks) × IfSome (incoming_of r) (λ (a : Arrival). length a.held < 4294967295)
+
+may_call_by : (b : Boot) (pt : Point) (l : Placed) (m : ℕ) (k : KernelState) (p : Pid) (r : Option state.KernelKnown) → k.records p ≡ r → MadeStands pt.kernel → CountsFew pt → Mirrors pt.kernel pt.view pt.addresses l → KernelStands b pt l m k → is_server p ≡ false → MayCall r k
+may_call_by b pt l m k p (Some (Record.Incoming a)) is made counts mirrors h loose =
+    let (from, known, stands) = coming_by pt l p (pt.view.queue m p) (pt.view.held m p) (pt.view.known m p) a (subst (KnownStands pt l p (pt.view.queue m p) (pt.view.held m p) (pt.view.known m p)) is (h.known p loose)) in
+    let fits = coming_fits pt l p from (pt.view.held m p) a mirrors stands in
+    let held_ = sym (length-map a.held Some) ∙ ap length (sym stands.held) ∙ length-map (pt.view.held m p) l.bag in
+    let few = counts.waiting m p in (
+      subst (HasTaken k.room) (sym fits.blocks) (has_taken b pt l m k p fits.process made h (ap takes_room known) (life_is pt l p fits.process mirrors fits.there)),
+      omega (arith, held_, few),
+    )
+may_call_by b pt l m k p _ is made counts mirrors h loose = (tt, tt)
+
+may_call : (b : Boot) (pt : Point) (l : Placed) (m : ℕ) (k : KernelState) (p : Pid) → MadeStands pt.kernel → CountsFew pt → Mirrors pt.kernel pt.view pt.addresses l → KernelStands b pt l m k → MayCall (k.records p) k
+may_call b pt l m k p made counts mirrors h = elim (cases_Bool (is_server p)) [
+  | inl server ↦ subst (λ (r : Option state.KernelKnown). MayCall r k) (sym (h.no_server p server)) (tt, tt)
+  | inr loose ↦ may_call_by b pt l m k p (k.records p) refl made counts mirrors h loose
+]
+
+pub may_step_calloff : (b : Boot) (es : List Step) (w : WorldState) (pt : Point) (p : Pid) (m : ℕ) → IsValid b → Leads b (first_point b) es pt → CountsFew pt → Stands b w pt → AllMayAct b w → m < length b.machines → MayStep b w (Step.CallOff p m)
+may_step_calloff b es w pt p m valid leads counts ((l, h, st), sent) acts lt =
+    let few = few_machines b valid in
+    let within : m < pt.kernel.machines = omega (arith, lt, machines_are b es pt leads) in
+    let node = st.nodes m within in
+    let here = node.kernel.here in
+    let own = counts.own m in
+    let may = may_call b pt l m (w.nodes m).kernel p (made_always b es pt valid leads) counts st.mirrors node.kernel in (
+      lt,
+      record { acts = acts.each m lt; kernel = record { here = omega (arith, here, lt, few); sent = omega (arith, sent m within, own); room = may.0; few = may.1 } },
+      node.lawful,
+    )
+
 -- a tick
 pub may_step_tick : (b : Boot) (w : WorldState) (m : ℕ) → AllMayAct b w → m < length b.machines → MayStep b w (Step.Tick m)
 may_step_tick b w m acts lt = (lt, acts.each m lt)
@@ -103,6 +142,14 @@ ask_stays b w p m (Some t) s e is to may lawful acts =
     let manager_here : t.state.here ≡ (w.nodes 0).kernel.here = grind (arith, nat_tests) in
     turned_may b w (Step.Migrate p m) 0 (node.acts (record (w.nodes 0) { kernel = t.state }) t.parts) s is (turn_may (w.nodes 0) t manager_here fit.parts.each may.acts) acts
 
+call_stays : (b : Boot) (w : WorldState) (p : Pid) (m : ℕ) (o : Option Turned) (s : Said) → calls_off (w.nodes m).kernel p ≡ o → turned w (Step.CallOff p m) m (node.turns (w.nodes m) o) ≡ Some (Says s) → MayCallOff (w.nodes m) p → IsLawfulState (w.nodes m).kernel → AllMayAct b w → AllMayAct b s.state
+call_stays b w p m None s e is may lawful acts = cc
+call_stays b w p m (Some t) s e is may lawful acts =
+    let k = (w.nodes m).kernel in
+    let fit = called_off_lawful k p t may.kernel.here lawful e in
+    let stays : t.state.here ≡ k.here = subst (StaysAt k.here) e (calls_off_stays k p) in
+    turned_may b w (Step.CallOff p m) m (node.acts (record (w.nodes m) { kernel = t.state }) t.parts) s is (turn_may (w.nodes m) t stays fit.parts.each may.acts) acts
+
 arrived_may : (b : Boot) (w u : WorldState) (e : Step) (a c : ℕ) (l : Load Message) (s : Said) → u.nodes ≡ w.nodes → arrives u e a c l ≡ Some (Says s) → MayArrive (w.nodes c) a l → AllMayAct b w → AllMayAct b s.state
 arrived_may b w u e a c l s same is may acts =
     let f : acted u e c (node.arrives (u.nodes c) a l) ≡ s = cc in
@@ -127,3 +174,4 @@ acts_step stays b w (Step.Tick m) s valid may is acts = acted_may b w (Step.Tick
 acts_step stays b w (Step.Deliver a c k) s valid may is acts = delivered_may b w (Step.Deliver a c k) a c k (bytes_at (w.wires a c) k) s is may.3 acts
 acts_step stays b w (Step.Migrate p m) s valid may is acts =
     ask_stays b w p m (asks_move (w.nodes 0).kernel p m) s refl is (omega (arith, may.0, few_machines b valid)) may.1 may.2 acts
+acts_step stays b w (Step.CallOff p m) s valid may is acts = call_stays b w p m (calls_off (w.nodes m).kernel p) s refl is may.1 may.2 acts

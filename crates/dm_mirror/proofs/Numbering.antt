@@ -1,7 +1,7 @@
 -- How a boot file numbers its processes: those of each home from the first number on, in the order of the file.
 use Rattle.dm_mirror.proofs.Names.{◌≡◌, inl, inr, ℕ, ◌+◌, ◌<◌, ◌≤◌, ◌==◌, Bool, true, false, List, [], ◌∷◌, ◌++◌, length, refl, ap, ◌∙◌, sym, subst, is_some, nat_le, nat_lt, arith, ◌&&◌, if◌then◌else◌, slice_get, Option, None, Some}
 use Rattle.dm_mirror.proofs.Names.{cases_Bool, nat_tests, Pid, pid_of, pid_eq, BootImage, BootProcess, Boot, starting_at, slots_of, links_are_valid, processes_are_valid, process_is_valid, process_named, Life, bind, first_life, life_at}
-use Rattle.dm_mirror.proofs.Names.{started, started_at, pid_eq-is, both, get_some, ◌||◌, map, option_map, plain_link, IsValid, switchboard, manager, Alive, first_point, Known, known_at, is_server, servers_known}
+use Rattle.dm_mirror.proofs.Names.{started, started_at, pid_eq-is, both, get_some, IsValid, first_point, Known, is_server}
 pub use Rattle.dm_rulelaws.proofs.Based.Start.{known_first, known_of_life, one_if, starting-last}
 
 pub life_named : (b : Boot) (ps : List BootProcess) (q : Pid) → life_at b ps q ≡ bind (process_named q ps) (first_life b)

@@ -1,15 +1,13 @@
 -- A turn on one machine leaves the kernels of the others as they stand, and each pair.
-use Rattle.dm_mirror.proofs.Names.{◌≡◌, ◌≢◌, ℕ, zero, suc, ◌+◌, ◌≤◌, ◌==◌, true, not, List, refl, ap, ◌∙◌, sym, subst, is_some, inl, inr, arith, if◌then◌else◌, drop, take, slice_get, Option, None, Some, eqb_tells, Pid, nat_tests, pid_of}
-use Rattle.dm_mirror.proofs.Names.{Message, MsgId, Record, Process, Receiving, kept_under, Sending, Boot, first_number, Point, Room, and, blocks_of, has, takes_room, taken_at, taken_by, taken_of_home, Queue, Held, Inbox, Untaken, times}
-use Rattle.dm_mirror.proofs.Names.{standing, Pair, Placed, KernelState, room_of, WorldState, AreMessages, HereStands, KnownStands, RoomStands, servers_at, KernelStands, History, PairStands, Asker, coming, stream_of}
+use Rattle.dm_mirror.proofs.Names.{◌≡◌, ◌≢◌, ℕ, zero, suc, ◌+◌, ◌≤◌, ◌==◌, true, not, List, refl, ap, ◌∙◌, sym, subst, inl, inr, arith, if◌then◌else◌, drop, slice_get, eqb_tells, Pid, nat_tests, pid_of, MsgId, Boot, first_number, Point}
+use Rattle.dm_mirror.proofs.Names.{Room, and, blocks_of, takes_room, taken_at, taken_by, taken_of_home, Queue, Held, Inbox, Untaken, standing, Placed, KernelState, room_of, WorldState, AreMessages, KnownStands, RoomStands, servers_at}
+use Rattle.dm_mirror.proofs.Names.{KernelStands, History, PairStands, stream_of}
 use Rattle.dm_mirror.proofs.Streams.{Joined, joined, pair_stands}
 pub use Rattle.dm_rule.proofs.QuietTests.{eq_not as apart_tells}
-use Rattle.dm_stream.specs.Order as order
 use Rattle.dm_onekernel.specs.Step as kernel
 use Rattle.dm_rule.specs.View as view
-use Rattle.dm_kernel.specs.State as machine
 use Rattle.dm_mirror.proofs.Rooms.{same_home, same_homes}
-use Rattle.dm_mirror.proofs.Turning.{Elsewhere, has_process}
+use Rattle.dm_mirror.proofs.Turning.{Elsewhere}
 use Rattle.dm_mirror.proofs.Kernel.Sets.{known_same, messages_on as messages_stay}
 
 -- what a process takes of a machine's room

@@ -1,12 +1,12 @@
 -- What a machine sends goes from it, and what that puts on the wires.
-use Rattle.dm_mirror.proofs.Names.{◌≡◌, ◌≢◌, ℕ, zero, suc, ◌==◌, Bool, true, false, List, [], ◌∷◌, ◌++◌, refl, ap, ◌∙◌, sym, subst, append_assoc, arith, ⊤, if◌then◌else◌, All, Option, None, Some, nat_tests, append-nil, All-nil, All-cons}
-use Rattle.dm_mirror.proofs.Names.{All-append, Message, Packet, Line, spelling, Sent, Data, Ack, Sending, window, due, outstanding, with_given, with_acked, arrival, after_arrival, next, after_next, Arrived, NodeState, here, with_sender}
-use Rattle.dm_mirror.proofs.Names.{with_message, with_receiver, Out, Sends, Acted, Acts, Goes, Worn, then_, acts, routes, routes_home, routes_away, gives, sends, sends_due, put_line, is_worn, none_waits, count_out, again, first_out}
-use Rattle.dm_mirror.proofs.Names.{all_out, acknowledges, before, takes_next, takes_kept, then_acknowledges, comes_in, lets_next, lets_go, with_packet, spoken, IsFresh, Part, with_sent}
+use Rattle.dm_mirror.proofs.Names.{◌≡◌, ◌≢◌, ℕ, zero, suc, ◌==◌, Bool, List, [], ◌∷◌, ◌++◌, refl, ap, ◌∙◌, sym, subst, append_assoc, arith, ⊤, if◌then◌else◌, All, Option, None, Some, nat_tests, append-nil, All-nil, All-cons, All-append}
+use Rattle.dm_mirror.proofs.Names.{Message, Packet, Line, spelling, Sent, Data, Ack, window, due, outstanding, with_acked, arrival, after_arrival, next, after_next, NodeState, here, with_sender, with_message, with_receiver, Out, Sends}
+use Rattle.dm_mirror.proofs.Names.{Acted, Acts, Goes, Worn, then_, acts, routes, sends, sends_due, count_out, again, first_out, all_out, acknowledges, before, takes_next, takes_kept, then_acknowledges, comes_in, lets_next, lets_go}
+use Rattle.dm_mirror.proofs.Names.{with_packet, spoken, IsFresh, Part}
+use Rattle.dm_node.proofs.Names.{with_sent}
 use Rattle.dm_node.proofs.Names.{behind}
 use Rattle.dm_wire.specs.Sent.{just_put}
 use Rattle.dm_stream.specs.Packets.{Load}
-use Rattle.dm_stream.specs.declared.receiver.Arrived.TheVariants.{Taken}
 use Rattle.dm_node.specs.declared.out.Out.TheVariants.{Says}
 use Rattle.dm_node.specs.Acts as node
 

@@ -1,8 +1,8 @@
 -- Where a turn raises a count, it routes a message.
 use Rattle.dm_mirror.proofs.Names.{Run, ◌≡◌, ◌⊎◌, inl, inr, ℕ, ◌+◌, ◌==◌, Bool, true, false, List, [], ◌∷◌, length, refl, ap, ◌∙◌, sym, subst, arith, ⊤, if◌then◌else◌, slice_get, Option, None, Some, Pid, pid_eq, pid_of, MsgId, Why}
-use Rattle.dm_mirror.proofs.Names.{PlainMessage, PlainWhat, Boot, BootImage, Label, first_number, switchboard, manager, bind, PlainProcess, PlainStatus, Ready, Waiting, Moving, OneKernel, answer_id, Point, label_of, kernel_after, Says}
-use Rattle.dm_mirror.proofs.Names.{Routes, Again, Owns, Transmits, IsNet, Addresses, Sender, is_told_back, forwards_on, plain_kind, MessageKind, nat_tests, Outcome, PendingKind, MoveNote, Pending, Each, PendingFits, WhatFits, is_for}
-use Rattle.dm_mirror.proofs.Names.{kind_eq, answers_move, leaves_for, option_map, each_pending}
+use Rattle.dm_mirror.proofs.Names.{PlainMessage, PlainWhat, Boot, Label, first_number, switchboard, manager, bind, PlainProcess, PlainStatus, Ready, Waiting, Moving, OneKernel, answer_id, Point, label_of, kernel_after, Says, Routes, Again}
+use Rattle.dm_mirror.proofs.Names.{Owns, Transmits, IsNet, Addresses, Sender, is_told_back, forwards_on, plain_kind, MessageKind, nat_tests, Outcome, PendingKind, MoveNote, PendingFits, WhatFits, is_for, kind_eq, answers_move, leaves_for}
+use Rattle.dm_mirror.proofs.Names.{option_map, each_pending}
 use Rattle.dm_rule.proofs.Names.{Part}
 use Rattle.dm_onekernel.specs.Calls as calls
 use Rattle.dm_onekernel.specs.Pieces as pieces

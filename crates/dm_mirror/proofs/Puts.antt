@@ -117,7 +117,7 @@ stands_put b pt l w h m c nodes s ld apart senders others records here there bac
       pairs = λ a d small less differ. pairs_put b pt l w h m c nodes s ld apart senders there back a d (st.pairs a d small less differ);
       counts = λ a d. subst (λ (z : ℕ). z ≤ b.numbers) (sym (ap length (own a d))) (st.counts a d);
       own = λ i x there_ plain. (let k = st.own i x there_ plain in record { told = k.told; mine = k.mine; sender = k.sender });
-      tokens = tokens_same pt.view (after_packet pt.view m c (load_of ld)) l (λ d. (w.nodes d).kernel.records) (λ d. (nodes d).kernel.records) (λ i. refl) (λ p. refl) (λ i z. put_standing pt.view m c (load_of ld) i z) records st.tokens;
+      tokens = tokens_same pt.view (after_packet pt.view m c (load_of ld)) l (λ d. (w.nodes d).kernel.records) (λ d. (nodes d).kernel.records) (λ i. refl) (λ p. refl) (λ n p. refl) (λ i z. put_standing pt.view m c (load_of ld) i z) records st.tokens;
     }
 
 -- behind the head of a directive the world stands
@@ -132,5 +132,5 @@ stands_begins b w pt l h m a st =
       pairs = λ d c small less differ. pair_stays b pt next l w (record w { groups = w.groups + 1 }) h h d c (record { sender = refl; receiver = refl; given = refl; out = refl; back = refl; wire = refl; pair = refl }) (st.pairs d c small less differ);
       counts = st.counts;
       own = λ i x there plain. (let k = st.own i x there plain in record { told = k.told; mine = k.mine; sender = k.sender });
-      tokens = tokens_same pt.view (begins pt.view m a) l (λ d. (w.nodes d).kernel.records) (λ d. (w.nodes d).kernel.records) (λ i. refl) (λ p. refl) (λ i z. begins_standing pt.view m a i z) (λ d. refl) st.tokens;
+      tokens = tokens_same pt.view (begins pt.view m a) l (λ d. (w.nodes d).kernel.records) (λ d. (w.nodes d).kernel.records) (λ i. refl) (λ p. refl) (λ n p. refl) (λ i z. begins_standing pt.view m a i z) (λ d. refl) st.tokens;
     }

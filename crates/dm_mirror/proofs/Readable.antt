@@ -1,9 +1,10 @@
 -- Packets are read again, from the start on and after each directive.
 use Rattle.dm_mirror.proofs.Names.{◌≡◌, ℕ, ◌+◌, List, [], ◌∷◌, refl, subst, Option, None, Some, Result, Err, Packet, Line, PacketError, packet_of, Data, Ack, bytes_at, after_mark, Boot, Step, Turned, Acts, Goes, Worn, StaysAt}
-use Rattle.dm_mirror.proofs.Names.{asks_move_stays, turn_stays, WorldState, Said, acted, delivers, reads, world_step, MayDeliver, MayRead, MayStep, AreReadBack, IsReadable, gave, gave_bytes, gave_read, gave_some}
-use Rattle.std.specs.declared.result.Result.TheVariants.{Ok}
+use Rattle.dm_mirror.proofs.Names.{asks_move_stays, turn_stays, WorldState, Said, acted, delivers, reads, world_step, MayDeliver, MayRead, MayStep, AreReadBack, IsReadable, gave, gave_bytes, gave_read, gave_some, calls_off_stays}
+use Rattle.dm_world.proofs.Names.{Ok}
 use Rattle.dm_world.specs.World.{Says, turned}
 use Rattle.dm_kernel.specs.Asking as asking
+use Rattle.dm_kernel.specs.Coming as coming
 use Rattle.dm_kernel.specs.Turn as kernel
 use Rattle.dm_node.specs.Acts as node
 use Rattle.dm_node.specs.May as node_may
@@ -43,3 +44,4 @@ readable_step b w (Step.Tick m) s may happens again h =
     let same : acted w (Step.Tick m) m (node.tick (w.nodes m)) ≡ s = cc in subst (λ (x : Said). IsReadable x.state) same (tick_readable w (Step.Tick m) m again h)
 readable_step b w (Step.Deliver a c k) s may happens again h = deliver_readable w a c k (bytes_at (w.wires a c) k) s may.3 happens again h
 readable_step b w (Step.Migrate p m) s may happens again h = turn_is_readable w (Step.Migrate p m) 0 (asking.asks_move (w.nodes 0).kernel p m) s (asks_move_stays (w.nodes 0).kernel p m) happens again h
+readable_step b w (Step.CallOff p m) s may happens again h = turn_is_readable w (Step.CallOff p m) m (coming.calls_off (w.nodes m).kernel p) s (calls_off_stays (w.nodes m).kernel p) happens again h

@@ -2,8 +2,8 @@
 use Rattle.dm_mirror.proofs.Names.{◌≡◌, ◌≢◌, ℕ, ◌+◌, ◌-◌, ◌<◌, ◌≤◌, ◌==◌, ◌&&◌, nat_lt, Bool, true, false, List, [], ◌∷◌, ◌++◌, length, refl, ap, ◌∙◌, sym, subst, arith, inl, inr, if◌then◌else◌, slice_get, Option, None, Some, eqb-true}
 use Rattle.dm_mirror.proofs.Names.{nat_tests, Message, kind_of, IsLawfulMessage, Sending, due, given_count, numbered, with_given, Boot, NodeState, here, Out, Sends, Acts, Goes, Worn, gives, is_worn, none_waits, put_line, routes}
 use Rattle.dm_mirror.proofs.Names.{routes_away, routes_home, sends_due, Line, or, after_put, view_after, goes_out, Point, moved, at_machine, PairsFit, Sane, is_full, worn_in, Placed, WorldState, History, PairStands, StandsWith, AllRecords}
-use Rattle.dm_mirror.proofs.Names.{map, OneKernel, bind, bind-is, Two, Spelled, spelled, label_of, kernel_after, after_line, after, View, full_route, is_put, AllSayable, sane_line, Sent, acts, says, spoken, packet_of_load, Part, MsgId}
-use Rattle.dm_mirror.proofs.Names.{nat_le, routed_on, Act, act_of, seen}
+use Rattle.dm_mirror.proofs.Names.{map, OneKernel, bind, bind-is, Two, Spelled, spelled, label_of, kernel_after, after_line, after, View, full_route, AllSayable, sane_line, Sent, acts, says, spoken, packet_of_load, Part, nat_le, Act}
+use Rattle.dm_mirror.proofs.Names.{act_of, seen}
 use Rattle.dm_node.proofs.Names.{behind}
 use Rattle.dm_stream.specs.Packets.{Load}
 use Rattle.dm_node.specs.declared.out.Out.TheVariants.{Says}

@@ -1,8 +1,8 @@
 -- What a machine has as the boot file has it, field by field.
 use Rattle.dm_mirror.proofs.Names.{◌≡◌, ℕ, ◌<◌, ◌==◌, Bool, true, false, List, [], ◌∷◌, length, map, refl, ap, ◌∙◌, sym, subst, is_some, nat_lt, arith, if◌then◌else◌, slice_get, Option, None, Some, nat_tests, All-nil, Pid, pid_eq, Message}
-use Rattle.dm_mirror.proofs.Names.{IsLawfulMessage, Process, Sending, fresh_sending, fresh_receiving, kept_under, StreamStands-start, BootImage, BootMachine, BootProcess, Boot, IsValid, process_named, bind, first_life, KernelState}
-use Rattle.dm_mirror.proofs.Names.{child_of, empty, opened, room_of, with_all, with_child, opened_lawful, Record, placed_start, started, start_mirrors, first_point, Known, is_server, first_world, History, KernelStands}
-use Rattle.dm_mirror.proofs.Names.{KnownStands, PairStands, StartStands, ◌+◌, ◌++◌, append_assoc, append-nil, starting_at, blocks_at, blocks_of_image, processes_are_valid, pid_eq-is, ring_at, begins_process, KernelKnown}
+use Rattle.dm_mirror.proofs.Names.{IsLawfulMessage, Process, Sending, fresh_sending, fresh_receiving, kept_under, StreamStands-start, BootImage, BootProcess, Boot, IsValid, process_named, bind, first_life, KernelState, child_of, empty}
+use Rattle.dm_mirror.proofs.Names.{opened, room_of, with_all, with_child, opened_lawful, Record, placed_start, started, start_mirrors, first_point, Known, is_server, first_world, History, KernelStands, KnownStands, PairStands, StartStands}
+use Rattle.dm_mirror.proofs.Names.{◌+◌, ◌++◌, append_assoc, append-nil, starting_at, blocks_at, blocks_of_image, processes_are_valid, pid_eq-is, ring_at, begins_process, KernelKnown}
 use Rattle.dm_records.specs.declared.record.Record.TheVariants.{Here}
 use Rattle.dm_stream.specs.Order as order
 use Rattle.dm_mirror.proofs.Numbering.{named_is, none_below, started_named, known_of_life, first_known, listed, none_again, one_if}

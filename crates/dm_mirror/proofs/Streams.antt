@@ -1,9 +1,9 @@
 -- An event of a stream, and what stands of its pair of machines behind it.
 use Rattle.dm_mirror.proofs.Names.{◌≡◌, ℕ, ◌+◌, ◌<◌, ◌≤◌, nat_lt, Bool, true, false, List, [], ◌∷◌, ◌++◌, length, map, drop, is_some, refl, ap, ◌∙◌, sym, subst, arith, if◌then◌else◌, All, Option, None, Some, nat_tests, map-append}
 use Rattle.dm_mirror.proofs.Names.{drop-append-le, length-map, All-push, Message, MsgId, IsLawfulMessage, due, outstanding, numbered, with_given, kept_under, Stream, Give, GoOut, GoAgain, OtherData, goes_again, StreamStands-happens}
-use Rattle.dm_mirror.proofs.Names.{spelling, Boot, Load, Pair, gone_after, Point, has, Placed, WorldState, AreMessages, History, PairStands, bytes_of, line_of, load_of, stream_of, zero, suc, ◌==◌, ◌&&◌, slice_get, eqb-true, eq-eqb, Pid}
-use Rattle.dm_mirror.proofs.Names.{pid_of, first_number, KernelState, room_of, NodeState, at_machine, at_pair, Spot, standing, View, and, taken_at, taken_by, taken_of_home, Mirrors, incoming_of, KernelStands, NodeStands, RoomStands}
-use Rattle.dm_mirror.proofs.Names.{AllRecords, Carries, TokensStand, destination_of, two_of, packet_of_load, SentLoad, message_id, with_sent}
+use Rattle.dm_mirror.proofs.Names.{spelling, Boot, Load, Pair, gone_after, Point, has, Placed, WorldState, AreMessages, History, PairStands, bytes_of, line_of, load_of, stream_of, ◌==◌, ◌&&◌, slice_get, eqb-true, eq-eqb, Pid, KernelState}
+use Rattle.dm_mirror.proofs.Names.{room_of, NodeState, at_machine, at_pair, Spot, standing, View, Mirrors, KernelStands, NodeStands, RoomStands, AllRecords, TokensStand, two_of, packet_of_load, SentLoad, message_id}
+use Rattle.dm_node.proofs.Names.{with_sent}
 use Rattle.dm_stream.specs.Stream.{gives, goes_out, is_worn}
 pub use Rattle.dm_rule.proofs.QuietTests.{eq_not as apart_is}
 use Rattle.dm_stream.specs.Packets as stream
@@ -11,6 +11,7 @@ use Rattle.dm_stream.specs.Order as order
 use Rattle.dm_wire.specs.Sent as wire
 use Rattle.dm_kernel.specs.State as machine
 use Rattle.dm_mirror.proofs.Rooms.{taken_same}
+use Rattle.dm_mirror.proofs.LeftOver.{tokens_less}
 
 -- what stands of a pair, over its stream, the bytes on its wire, and what the lines say of it
 pub record Joined (b : Boot) (bag : MsgId → Option Message) (a c : ℕ) (s : Stream Message) (sent : List wire.Sent) (p : Pair) : Type 0 where
@@ -202,10 +203,7 @@ pairs_are b pt next l w after h later m c there back others a d s = is ((m == a)
     is false false e f = pair_stays b pt next l w after h later a d (others a d e f) s
 
 -- the messages of migrations under way carry the same, where nothing that they are read by changes
-pub tokens_same : (v u : View) (l : Placed) (r s : AllRecords) → ((i : MsgId) → u.told i ≡ v.told i) → ((p : Pid) → u.asked p ≡ v.asked p) → ((i : MsgId) (z : Spot) → standing u i z ≡ standing v i z) → ((d : ℕ) → s d ≡ r d)
+pub tokens_same : (v u : View) (l : Placed) (r s : AllRecords) → ((i : MsgId) → u.told i ≡ v.told i) → ((p : Pid) → u.asked p ≡ v.asked p) → ((n : ℕ) (p : Pid) → u.known n p ≡ v.known n p) → ((i : MsgId) (z : Spot) → standing u i z ≡ standing v i z) → ((d : ℕ) → s d ≡ r d)
     → TokensStand v l r → TokensStand u l s
-tokens_same v u l r s told asked spots records h p i t z is between about st =
-    let k = h p i t z (sym (told i) ∙ is) between about (subst (λ (n : ℕ). 1 ≤ n) (spots i z) st) in
-    let d : ℕ = destination_of i t in
-    search (subst (λ (n : ℕ). Carries p k.process (l.notes p) n (incoming_of (s d p)) k.message.what) (sym (asked p))
-    (subst (λ (f : Pid → Option machine.KernelKnown). Carries p k.process (l.notes p) (v.asked p) (incoming_of (f p)) k.message.what) (sym (records d)) k.carries))
+tokens_same v u l r s told asked known spots records h =
+    tokens_less v u l r s told asked known (λ n p. ap (λ (f : Pid → Option machine.KernelKnown). f p) (records n)) (λ i t z was between st. (z, subst (λ (n : ℕ). 1 ≤ n) (spots i z) st)) h

@@ -1,6 +1,5 @@
 -- How many messages were routed, pair by pair and in all: no line takes any away, and a route adds one.
-use Rattle.dm_mirror.proofs.Names.{◌≡◌, inl, inr, ℕ, zero, suc, ◌+◌, ◌*◌, ◌<◌, ◌≤◌, ◌==◌, false, not, filter, [], ◌∷◌, ◌++◌, length, refl, ap, subst, arith, cases_Bool, nat_tests, Pid, MsgId, MessageKind, Step, Line, at_pair, View, Pair}
-use Rattle.dm_mirror.proofs.Names.{view_after, handled, eq_is, queued_pair, held_pair, forwarded_pair, taken_pair, label_pair, stage_pair, proto_pair, OneKernel, seen}
+use Rattle.dm_mirror.proofs.Names.{◌≡◌, inl, inr, ℕ, zero, suc, ◌+◌, ◌*◌, ◌<◌, ◌≤◌, ◌==◌, length, ap, subst, arith, cases_Bool, nat_tests, Pid, MsgId, MessageKind, Line, View, Pair, view_after, eq_is, OneKernel, seen}
 use Rattle.dm_rule.proofs.Lines.{parts}
 use Rattle.dm_rule.specs.View as view
 use Rattle.dm_mirror.proofs.RaisesMade.{append-longer}

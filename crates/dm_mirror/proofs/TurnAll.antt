@@ -1,19 +1,23 @@
 -- A turn with a kernel's own message at the inbox's front, a row a kind.
 use Rattle.dm_mirror.proofs.Names.{◌≡◌, ℕ, ◌<◌, false, List, [], ◌∷◌, refl, ap, ◌∙◌, sym, inl, inr, Option, None, Some, cases_Bool, Message, MsgId, PlainMessage, plain_message, Boot, IsValid, bind, FreezesWhole, IsLawfulState, KernelState}
 use Rattle.dm_mirror.proofs.Names.{Point, Known, Unknown, Here, Ended, is_fixed, OwnTold, Run, Placed, Mirrors, parts, MadeStands, AllOwnStand, KernelStands, AllRecords, TokensStand, true, subst, false≢true, Pid, What, kind_of, PlainWhat}
-use Rattle.dm_mirror.proofs.Names.{plain_what, with_what, FreezesReceiverWhole, is_between, tells_onward, Frozen, Incoming, Forward, Of, own_sort, about_of, told_of, ◌==◌, manager, pid_eq, switchboard, sort_of}
+use Rattle.dm_mirror.proofs.Names.{plain_what, with_what, is_between, tells_onward, Of, own_sort, about_of, told_of, ◌==◌, manager, pid_eq, switchboard, sort_of, Inbox, MessageKind, incoming_of, kernel_handles, left_true, is_due_piece}
+use Rattle.dm_mirror.proofs.Names.{is_piece, hears_piece, brings_piece, is_stale, pulled, is_process}
 use Rattle.dm_mirror.proofs.Follow.Fronts.{fronted, Fronts}
-use Rattle.dm_mirror.proofs.Leave.Fronts.{heard, Hearing, three_off}
+use Rattle.dm_mirror.proofs.Leave.Fronts.{heard, Hearing, stands_first, three_off}
 use Rattle.dm_mirror.proofs.Turning.{TurnsAt}
 use Rattle.dm_mirror.proofs.Handle.Ended.{is_here}
 use Rattle.dm_mirror.proofs.Handle.Taking.{IsProcess, Taking, took}
 use Rattle.dm_mirror.proofs.Leave.Asked.{asked_turn}
 use Rattle.dm_mirror.proofs.Leave.Asks.{gives_block, gives_chunk, hears_migrate}
 use Rattle.dm_mirror.proofs.Leave.Goes.{goes}
-use Rattle.dm_mirror.proofs.Leave.Stays.{refuses}
+use Rattle.dm_mirror.proofs.Leave.Stays.{called_off, refuses}
 use Rattle.dm_mirror.proofs.Row.Tokens.{row_turns, serve_turns}
 use Rattle.dm_mirror.proofs.Handle.Created.{BagFor, ForFixed, ForHere, ForEnded, bag_row}
 use Rattle.dm_mirror.proofs.Come.Answers.{Around, turns_come}
+use Rattle.dm_mirror.proofs.Come.Stale.{turns_stale}
+use Rattle.dm_mirror.proofs.LeftOver.{brings_on, over_of, plainly_due}
+use Rattle.dm_rule.specs.View as view
 use Rattle.dm_mirror.proofs.Follow.Asks.{apart_turn, front_known, migrate_apart, update_turn}
 
 module _ (b : Boot) (m : ℕ) (pt : Point) (l : Placed) (records : AllRecords) (k : KernelState) (y : Message) (h : Hearing b m pt l records k y) (plain : plain_message y ≡ None) (below : m < pt.kernel.machines) (made : MadeStands pt.kernel) (around : Around b pt l) (whole : FreezesWhole k k.inbox) where
@@ -21,9 +25,41 @@ module _ (b : Boot) (m : ℕ) (pt : Point) (l : Placed) (records : AllRecords) (
   fronts = search
 
   -- what the machine that a process leaves says
-  comes : (p : Pid) (w : What) → y.what ≡ w → is_between (kind_of w) ≡ true → tells_onward (sort_of (kind_of w)) ≡ true → about_of w ≡ Of p → TurnsAt b m pt l records k
-  comes p w e between source about = turns_come b m pt l records k y p (search
-      (ap (λ (x : What). is_between (kind_of x)) e ∙ between, ap (λ (x : What). tells_onward (sort_of (kind_of x))) e ∙ source, ap about_of e ∙ about)) around
+  comes : (p : Pid) (w : What) → y.what ≡ w → is_between (kind_of w) ≡ true → tells_onward (sort_of (kind_of w)) ≡ true → about_of w ≡ Of p → is_due_piece pt.view p y.id (told_of y) ≡ true → TurnsAt b m pt l records k
+  comes p w e between source about due = turns_come b m pt l records k y p (search
+      (due, ap (λ (x : What). is_between (kind_of x)) e ∙ between, ap (λ (x : What). tells_onward (sort_of (kind_of x))) e ∙ source, ap about_of e ∙ about)) around
+
+  -- what asks for no piece and brings none
+  plainly : (p : Pid) (w : What) → y.what ≡ w → is_piece (sort_of (kind_of w)) ≡ false → is_due_piece pt.view p y.id (told_of y) ≡ true
+  plainly p w e none = plainly_due pt.view p y.id (told_of y) (ap (λ (x : What). is_piece (sort_of (kind_of x))) e ∙ none)
+
+  -- a piece that isn't stale is due
+  fresh_due : (p : Pid) → is_between (kind_of y.what) ≡ true → about_of y.what ≡ Of p → brings_piece (sort_of (kind_of y.what)) ≡ true → is_stale pt m y.id (kind_of y.what) p ≡ false → is_due_piece pt.view p y.id (told_of y) ≡ true
+  fresh_due p between about brings fresh = elim (cases_Bool (is_due_piece pt.view p y.id (told_of y))) [
+    | inl due ↦ due
+    | inr off ↦
+        let phases = h.run.based.phased.phases in
+        let first = stands_first b m pt l records k y h in
+        let u = pulled pt.view p (phases.of p) y.id (told_of y) m (over_of pt.view phases p y.id (told_of y) (Inbox m) h.told between about first off) first fresh in
+        absurd (false≢true (sym (brings_on (kind_of y.what) brings).2 ∙ u.pulls))
+  ]
+
+  -- a kernel's message for another kernel
+  number_of : (k : MessageKind) (q : Pid) (a : view.About) → brings_piece (sort_of k) ≡ true → own_sort k q a ≡ true → (q.num == 0) ≡ true
+  number_of MessageKind.State q a e f = left_true (q.num == 0) (is_process a) f
+  number_of MessageKind.Memory q a e f = left_true (q.num == 0) (is_process a) f
+  number_of _ q a e f = absurd (false≢true e)
+
+  -- a piece
+  piece : (p : Pid) (w : What) → y.what ≡ w → is_between (kind_of w) ≡ true → tells_onward (sort_of (kind_of w)) ≡ true → about_of w ≡ Of p → brings_piece (sort_of (kind_of w)) ≡ true
+      → ((s : KernelState) → kernel_handles b s y w ≡ hears_piece s y p (incoming_of (s.records p))) → TurnsAt b m pt l records k
+  piece p w e between source about brings turn =
+      let brings_ : brings_piece (sort_of (kind_of y.what)) ≡ true = ap (λ (x : What). brings_piece (sort_of (kind_of x))) e ∙ brings in
+      let about_ : about_of y.what ≡ Of p = ap about_of e ∙ about in
+      elim (cases_Bool (is_stale pt m y.id (kind_of y.what) p)) [
+        | inl stale ↦ turns_stale b m pt l records k y p h about_ (number_of (kind_of y.what) y.to.pid (about_of y.what) brings_ (h.sorts.own y.id (told_of y) h.told h.mine)) (λ s. ap (kernel_handles b s y) e ∙ turn s) stale
+        | inr fresh ↦ comes p w e between source about (fresh_due p (ap (λ (x : What). is_between (kind_of x)) e ∙ between) about_ brings_ fresh)
+      ]
 
   migrates : (machine : ℕ) (w : Known) → y.what ≡ What.Migrate machine → pt.view.known m y.to.pid ≡ w → TurnsAt b m pt l records k
   migrates machine Here e knows = hears_migrate b m pt l records k y machine h e knows (subst (FreezesWhole k) h.inbox whole)
@@ -44,15 +80,15 @@ module _ (b : Boot) (m : ℕ) (pt : Point) (l : Placed) (records : AllRecords) (
   by_what : (w : What) → y.what ≡ w → TurnsAt b m pt l records k
   by_what (What.Migrate machine) e = migrates machine (pt.view.known m y.to.pid) e refl
   by_what (What.Update about) e = update_turn b m pt l records k y fronts about e
-  by_what (What.Ask pid blocks moves size asker) e = comes pid (What.Ask pid blocks moves size asker) e refl refl refl
+  by_what (What.Ask pid blocks moves size asker) e = comes pid (What.Ask pid blocks moves size asker) e refl refl refl (plainly pid (What.Ask pid blocks moves size asker) e refl)
   by_what (What.Refuse pid slots blocks) e = refuses b m pt l records k y pid slots blocks (as_is _ e)
   by_what (What.PullState pid chunk) e = gives_chunk b m pt l records k y pid chunk (as_is _ e)
-  by_what (What.State pid chunk last bytes) e = comes pid (What.State pid chunk last bytes) e refl refl refl
+  by_what (What.State pid chunk last bytes) e = piece pid (What.State pid chunk last bytes) e refl refl refl refl (λ s. refl)
   by_what (What.PullBlock pid block) e = gives_block b m pt l records k y pid block (as_is _ e)
-  by_what (What.Memory pid block bytes) e = comes pid (What.Memory pid block bytes) e refl refl refl
+  by_what (What.Memory pid block bytes) e = piece pid (What.Memory pid block bytes) e refl refl refl refl (λ s. refl)
   by_what (What.AllTaken pid) e = goes b m pt l records k y pid (as_is _ e) made
-  by_what (What.Restart pid) e = comes pid (What.Restart pid) e refl refl refl
-  by_what (What.CallOff pid) e = not_sent (What.CallOff pid) e refl
+  by_what (What.Restart pid) e = comes pid (What.Restart pid) e refl refl refl (plainly pid (What.Restart pid) e refl)
+  by_what (What.CallOff pid) e = called_off b m pt l records k y pid (as_is _ e)
   by_what (What.Bury pid) e = not_sent (What.Bury pid) e refl
   by_what any_ e = not_plain any_ _ e refl
 

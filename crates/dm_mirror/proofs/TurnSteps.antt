@@ -2,7 +2,7 @@
 use Rattle.dm_mirror.proofs.Names.{◌≡◌, ℕ, ◌+◌, ◌<◌, ◌≤◌, ◌==◌, List, [], ◌∷◌, ◌++◌, length, map, refl, ap, ◌∙◌, sym, subst, inl, inr, All, Option, Some, cases_Bool, eqb-true, All-head, All-tail, Boot, OneKernel, bind, bind-is, Step, Line}
 use Rattle.dm_mirror.proofs.Names.{Stage, Out, Spelled, spelled, Point, after_line, moved, group_of, outcome, at_machine, standing, About, Pair, begins, worn_in, PairsFit, AllSayable, Sane, outcome_sayable, sane_line, machine_of, Run}
 use Rattle.dm_mirror.proofs.Names.{Placed, Mirrors, lines_keep, IsLawfulPart, IsLawfulTurned, NodeState, Acts, Goes, Worn, acts, Spoken, spoken, WorldState, acted, world_step, GoesOn, StopsWorn, Steps, CountsStand, History, StandsWith, Pid}
-use Rattle.dm_mirror.proofs.Names.{IsMachine, IsValid, NothingElse, Target, goes_on, RunGoes, OwnTold, asks_move, MayTurn, turn, asked_lawful, turn_lawful, Part}
+use Rattle.dm_mirror.proofs.Names.{IsMachine, IsValid, NothingElse, Target, goes_on, RunGoes, OwnTold, asks_move, MayTurn, turn, asked_lawful, turn_lawful, Part, called_off_lawful, calls_off}
 use Rattle.std.proofs.lemmas.List.{append_assoc}
 use Rattle.dm_rule.proofs.Groups.{fits}
 use Rattle.dm_world.specs.World.{turned}
@@ -213,3 +213,12 @@ move_goes goes b w pt l h p to valid run own here machine stands sent below with
     turn_steps b w pt l h 0 (Step.Migrate p to) (asks_move (w.nodes 0).kernel p to) (Target to) (record { head = refl; happens = refl }) run stands sent below t
     (asked_lawful (w.nodes 0).kernel p to (record { state = t.state; parts = map Part.Says t.says ++ map part_of t.routes ++ late_parts t.late }) here machine (stands.nodes 0 below).lawful t.turn)
     group due (goes b pt (Step.Migrate p to) group valid within due run own)
+
+-- a machine calls off what comes to it
+pub call_goes : RunGoes → (b : Boot) (w : WorldState) (pt : Point) (l : Placed) (h : History) (p : Pid) (m : ℕ) → IsValid b → Run b pt → OwnTold pt → (w.nodes m).kernel.here < 16 → StandsWith b w pt l h → CountsStand w pt → m < pt.kernel.machines
+    → Turns b m (Step.CallOff p m) (calls_off (w.nodes m).kernel p) pt (moved pt (Line.Head (Step.CallOff p m)) pt.kernel) l (λ n. (w.nodes n).kernel.records) (w.nodes m).kernel → Steps b w pt (Step.CallOff p m)
+call_goes goes b w pt l h p m valid run own here stands sent below t =
+    let (group, due) = goes_on b pt (Step.CallOff p m) valid run own below in
+    turn_steps b w pt l h m (Step.CallOff p m) (calls_off (w.nodes m).kernel p) NothingElse (record { head = refl; happens = refl }) run stands sent below t
+    (called_off_lawful (w.nodes m).kernel p (record { state = t.state; parts = map Part.Says t.says ++ map part_of t.routes ++ late_parts t.late }) here (stands.nodes m below).lawful t.turn)
+    group due (goes b pt (Step.CallOff p m) group valid below due run own)

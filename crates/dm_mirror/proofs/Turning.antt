@@ -1,7 +1,8 @@
 -- What a turn says before the messages that it sends are routed.
 use Rattle.dm_mirror.proofs.Names.{◌≡◌, ◌≢◌, ℕ, ◌+◌, ◌≤◌, Bool, true, false, not, ◌==◌, ◌&&◌, List, [], ◌∷◌, ◌++◌, map, is_some, ⊤, Option, None, Some, Pid, place_of, kernel_at, Message, MsgId, MessageKind, Stage, kind_of, plain_message}
-use Rattle.dm_mirror.proofs.Names.{Process, incoming_of, Boot, manager, Step, Line, Receiver, Sender, given, own_given, is_between, Point, after, moved, outcome, at_machine, Spot, Queue, Held, Inbox, Untaken, standing, Known, Here, Frozen}
-use Rattle.dm_mirror.proofs.Names.{Incoming, Ended, Of, Told, own_id, Placed, Mirrors, enclosed, KernelState, Turned, turn, AllOwnStand, about_of, told_of, KernelStands, AllRecords, Carries, TokensStand, destination_of, Part, sort_of}
+use Rattle.dm_mirror.proofs.Names.{Cargo, cargo_at, incoming_of, Boot, manager, Step, Line, Receiver, Sender, given, own_given, is_between, Point, after, moved, outcome, at_machine, Spot, Queue, Held, Inbox, Untaken, standing, Known, Here}
+use Rattle.dm_mirror.proofs.Names.{Frozen, Incoming, Ended, Of, Told, own_id, Placed, Mirrors, enclosed, KernelState, Turned, turn, AllOwnStand, about_of, told_of, KernelStands, AllRecords, Carries, TokensStand, destination_of, Part}
+use Rattle.dm_mirror.proofs.Names.{sort_of, ◌⊎◌, View, LeftCarries, is_due_piece}
 use Rattle.dm_rule.specs.Parts as rule
 
 -- behind the head of a turn
@@ -70,10 +71,16 @@ rule_part_of (Own x) = rule.Owns (kind_of x.what) x.to.pid x.to.at
 
 -- a kernel's own message carries what it is to, where it is of a migration
 pub record IsCarried (placed : Placed) (asked : ℕ) (records : AllRecords) (p : Pid) (x : Message) : Type 0 where
-  pub process : Process
-  pub there : placed.processes p ≡ Some process
+  pub cargo : Cargo
+  pub there : cargo_at placed p ≡ Some cargo
   pub sender : x.sender ≡ kernel_at x.id.from.home
-  pub carries : Carries p process (placed.notes p) asked (incoming_of (records (destination_of x.id (told_of x)) p)) x.what
+  pub carries : Carries p cargo asked (incoming_of (records (destination_of x.id (told_of x)) p)) x.what
+
+-- or it is left over, as it is behind this point
+pub record IsLeftOver (v : View) (placed : Placed) (p : Pid) (x : Message) : Type 0 where
+  pub over : is_due_piece v p x.id (told_of x) ≡ false
+  pub sender : x.sender ≡ kernel_at x.id.from.home
+  pub carries : LeftCarries p (cargo_at placed p) x.what
 
 -- the machine's kernel may put its next message, where the machines have these records
 pub record MayOwn (pt : Point) (placed : Placed) (records : AllRecords) (x : Message) : Type 0 where
@@ -87,7 +94,7 @@ pub record MayOwn (pt : Point) (placed : Placed) (records : AllRecords) (x : Mes
   pub about : pt.view.topic ≡ about_of x.what
   -- a request to move a process is the manager's
   pub asker : kind_of x.what ≡ MessageKind.Migrate → x.sender.pid ≡ manager
-  pub carried : is_between (kind_of x.what) ≡ true → (p : Pid) → about_of x.what ≡ Of p → IsCarried placed (pt.view.asked p) records p x
+  pub carried : is_between (kind_of x.what) ≡ true → (p : Pid) → about_of x.what ≡ Of p → IsCarried placed (pt.view.asked p) records p x ⊎ IsLeftOver pt.view placed p x
 
 -- a message may be put
 abbrev pub MayPut : Point → Placed → AllRecords → Route → Type 0

@@ -32,6 +32,7 @@ marked_by (step.Turn m) w = w
 marked_by (step.Tick m) w = w
 marked_by (step.Deliver a c k) w = record w { wires = after_mark w.wires a c k }
 marked_by (step.Migrate p m) w = w
+marked_by (step.CallOff p m) w = w
 
 -- a directive changes the machine that acts and no other; only that machine puts packets on wires, and none is taken off;
 -- and but for the mark of a delivery nothing changes on wires
@@ -45,6 +46,7 @@ SamePacket (step.Turn m) w u = Unit {0}
 SamePacket (step.Tick m) w u = Unit {0}
 SamePacket (step.Deliver a c k) w u = bytes_at (u.wires a c) k ≡ bytes_at (w.wires a c) k
 SamePacket (step.Migrate p m) w u = Unit {0}
+SamePacket (step.CallOff p m) w u = Unit {0}
 
 -- a line but for its packet's number, which is how many stand on the wire before it; a row a line
 abbrev pub unnumbered : Line → Line
@@ -65,12 +67,15 @@ unnumbered (line.Forwarded id m) = line.Forwarded id m
 unnumbered (line.Updated id n) = line.Updated id n
 unnumbered (line.Migration s q) = line.Migration s q
 unnumbered (line.SentOn q n) = line.SentOn q n
+unnumbered (line.Called q n) = line.Called q n
 unnumbered (line.Lacks q s t) = line.Lacks q s t
 unnumbered (line.Stays q) = line.Stays q
 unnumbered (line.Here id) = line.Here id
 unnumbered (line.NoMove id) = line.NoMove id
+unnumbered (line.Stale id) = line.Stale id
 unnumbered (line.Proto id) = line.Proto id
 unnumbered (line.NoChild q) = line.NoChild q
+unnumbered (line.NoCall q) = line.NoCall q
 unnumbered (line.Pinned q) = line.Pinned q
 
 -- machine m has put as many packets on each of its wires

@@ -122,6 +122,7 @@ line_has v (Line.Head (Step.Deliver x y i)) a c k n h = set_has v x y (marked (v
 line_has v (Line.Head (Step.Turn m)) a c k n h = h
 line_has v (Line.Head (Step.Tick m)) a c k n h = h
 line_has v (Line.Head (Step.Migrate p m)) a c k n h = h
+line_has v (Line.Head (Step.CallOff p m)) a c k n h = h
 line_has v (Line.Put x y i m q) a c k n h = has_same v (view_after v (Line.Put x y i m q)) a c k n (set_keeps (λ (p : Pair). p.wire) v.pair x y (routed_on x y (v.pair x y) i) a c refl) h
 line_has v (Line.Taken x y i) a c k n h = has_same v (view_after v (Line.Taken x y i)) a c k n (taken_keeps (λ (p : Pair). p.wire) v x y i a c refl) h
 line_has v (Line.Early x y i) a c k n h =

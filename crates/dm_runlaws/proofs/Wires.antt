@@ -27,6 +27,7 @@ ids_same v (Line.Put a b i k q) c d quiet = cc
 ids_same v (Line.Head (Step.Turn m)) c d quiet = refl
 ids_same v (Line.Head (Step.Tick m)) c d quiet = refl
 ids_same v (Line.Head (Step.Migrate p m)) c d quiet = refl
+ids_same v (Line.Head (Step.CallOff p m)) c d quiet = refl
 ids_same v (Line.Head (Step.Deliver a b k)) c d quiet = set_keeps (λ (p : Pair). p.ids) v.pair a b (marked (v.pair a b) k) c d refl
 ids_same v (Line.Packet a b k l) c d quiet =
     set_keeps (λ (p : Pair). p.ids) v.pair a b (record (v.pair a b) { gone = gone_after l (v.pair a b).gone; wire = (v.pair a b).wire ++ record { load = l; delivered = false } ∷ [] }) c d refl

@@ -1,9 +1,10 @@
 -- A machine is asked to take a process: there is room for it, or what is free is said.
 use Rattle.dm_mirror.proofs.Names.{◌≡◌, ◌≢◌, ℕ, ◌+◌, ◌/◌, ◌<◌, ◌==◌, ◌&&◌, Bool, true, false, nat_le, List, [], length, map, refl, ap, ◌∙◌, sym, subst, arith, if◌then◌else◌, slice_get, Option, Some, false≢true, All-nil, Pid, pid_eq, after}
-use Rattle.dm_mirror.proofs.Names.{Message, MsgId, What, Record, Line, Stage, MessageKind, kind_of, IsLawfulMessage, Process, free_blocks, free_slots, with_reserved, incoming_of, Chunk, expected, CanMove, HasChunk, state_of, coming}
-use Rattle.dm_mirror.proofs.Names.{Boot, slots_of, plain_process, PlainProcess, pid_eq-same, told_step, Moves, kind_comes, knows, kind_leaves, Point, Room, fits, free_room, taken_at, taken_by, at_pid, at_record, Known, Unknown, Frozen, ◌∷◌}
+use Rattle.dm_mirror.proofs.Names.{Message, MsgId, What, Record, Line, Stage, MessageKind, kind_of, IsLawfulMessage, Process, free_blocks, free_slots, with_reserved, incoming_of, Chunk, expected, CanMove, HasChunk, state_of, coming, Boot}
+use Rattle.dm_mirror.proofs.Names.{slots_of, plain_process, PlainProcess, pid_eq-same, told_step, Moves, kind_comes, knows, kind_leaves, Point, Room, fits, free_room, taken_at, taken_by, at_pid, at_record, Known, Unknown, Frozen, ◌∷◌}
 use Rattle.dm_mirror.proofs.Names.{Incoming, Forward, front_of, is_server, has_nothing_held, Placed, room_of, accepts, with_expected, kernel_handles, KernelState, KnownStands, KernelStands, RoomStands, AllRecords, Carries, source_knows}
-use Rattle.dm_mirror.proofs.Names.{and_false, tells_onward, nat_tests, sort_of, drop}
+use Rattle.dm_mirror.proofs.Names.{and_false, tells_onward, nat_tests, sort_of, drop, IsReadAgain, Cargo, CanBeCarried, ask_for, IsSuch, ◌⊎◌, ◌≤◌, Of, Spot, Told, View, apart_is, cases_Bool, eqb-true, inl, inr, is_between, pid_of, standing}
+use Rattle.dm_mirror.proofs.Names.{told_of, is_due_piece, pulls_piece, Asks, Brought, IsLeft, is_calloff, ranked_in, never_behind, Ranked}
 use Rattle.dm_room.specs.Room as room_
 use Rattle.dm_onekernel.specs.Step as kernel
 use Rattle.dm_rule.specs.Migrating as rule_moves
@@ -19,7 +20,7 @@ use Rattle.dm_mirror.proofs.Turning.{TurnsAt, begun}
 use Rattle.dm_mirror.proofs.Handle.Taking.{pid_apart as pid_off, some_same}
 use Rattle.dm_mirror.proofs.Come.Restarts.{turns_restart}
 use Rattle.dm_mirror.proofs.Handle.Kills.{free_of as free_as}
-unfoldable use Rattle.dm_migrate.specs.Departure.{IsReadAgain}
+use Rattle.dm_mirror.proofs.LeftOver.{brings_on, piece_only, piece_over}
 
 -- the machine that it leaves holds it back
 frozen_is : (d : ℕ) (n : Known) → kind_leaves MessageKind.Ask d n ≡ true → (to : ℕ) × (n ≡ Frozen to)
@@ -55,7 +56,7 @@ pub can_come : (b : Boot) (m : ℕ) (pt : Point) (l : Placed) (records : AllReco
 can_come b m pt l records k y p c a is nodes =
     let (to, frozen) = leaves_where b m pt l k y p a is in
     let (z, stands) = nodes a.source (c.run.found.known_within a.source p (λ e. frozen_unknown to (sym frozen ∙ e))) in
-    can_by b pt l a.source to z p a.process frozen a.server stands a.there
+    can_by b pt l a.source to z p a.process frozen a.server stands a.is_process
 
 -- nothing of it is here
 record Absent (n : Known) : Type 0 where
@@ -77,13 +78,17 @@ lacks_row b m pt l records k y p c a is handles none =
     let r = free_room b pt m in
     let free = free_as k.room (slice_get b.machines m) (taken_at pt m pt.kernel.machines) c.stands.room in
     let box = drop 1 (v.inbox m) in
-    let next = come_point pt (come_view v m p box v.known v.asked) in
+    let next = come_point pt (come_view v m p box v.known v.asked v.come) in
+    let over : (i : MsgId) (t : Told) (z : Spot) → v.told i ≡ Some t → is_between t.kind ≡ true → t.about ≡ Of p → 1 ≤ standing v i z → is_due_piece v p i t ≡ false → is_due_piece (come_view v m p box v.known v.asked v.come) p i t ≡ false =
+    λ i t z told between about st off. off in
     turns_answer b m pt l records k y p c a (search (
+      over,
+      v.come,
       turn_kernel b m pt l records k y p c a (accepts b s y p (length a.process.memory / 256) a.process.moves (length (state_of a.process)) (l.notes p) false) handles,
       outcome_kernel b m pt l records k y p c a _ (ap (λ (k : MessageKind). told_step pt m y.id p (fits r (length a.process.memory / 256)) (plain_process a.process) (sort_of k)) is ∙ ap (λ (d : Bool). Some (rule_moves.accepts y.id.from.home p d r.slots r.blocks)) none ∙ (λ i. Some (rule_moves.accepts y.id.from.home p false (sym free.0 i) (sym free.1 i)))),
-      (let e_ : after (begun pt m) (Line.Lacks p (free_slots k.room) (free_blocks k.room) ∷ []) ≡ Some (come_point pt (come_view pt.view m p (drop 1 (pt.view.inbox m)) pt.view.known pt.view.asked)) = refl in e_),
+      (let e_ : after (begun pt m) (Line.Lacks p (free_slots k.room) (free_blocks k.room) ∷ []) ≡ Some (come_point pt (come_view pt.view m p (drop 1 (pt.view.inbox m)) pt.view.known pt.view.asked pt.view.come)) = refl in e_),
       first_gone y.id c.ids (v.inbox m) c.box,
-      room_kept b pt m p box v.asked l records k y c,
+      room_kept b pt m p box v.asked v.come l records k y c,
       known_on pt next l l p (v.queue m p) (v.held m p) (v.known m p) (k.records p) refl refl refl (λ j least. refl) (λ j least. refl) (c.stands.known p a.server),
     ))
 
@@ -95,11 +100,11 @@ record_off : (f : ℕ → Pid → Known) (m n : ℕ) (p q : Pid) (x : Known) →
 record_off f m n p q x off = ap (λ (d : Bool). if d then x else f n q) (and_false (m == n) (pid_eq p q) off)
 
 -- what the process takes here then
-taken_then : (b : Boot) (m : ℕ) (pt : Point) (l : Placed) (records : AllRecords) (k : KernelState) (y : Message) (p : Pid) (c : Comes b m pt l records k y p) (a : Arrives b m pt l k y p) (box : List MsgId) (from : ℕ) (asked : Pid → ℕ) → Absent (pt.view.known m p)
-    → RoomStands (with_reserved k.room (length a.process.memory / 256)) (room_of (slice_get b.machines m)) (taken_at (come_point pt (come_view pt.view m p box (at_record pt.view.known m p (Incoming from)) asked)) m pt.kernel.machines)
-taken_then b m pt l records k y p c a box from asked none =
+taken_then : (b : Boot) (m : ℕ) (pt : Point) (l : Placed) (records : AllRecords) (k : KernelState) (y : Message) (p : Pid) (c : Comes b m pt l records k y p) (a : Arrives b m pt l k y p) (box : List MsgId) (from : ℕ) (asked : Pid → ℕ) (come : Pid → Bool) → Absent (pt.view.known m p)
+    → RoomStands (with_reserved k.room (length a.process.memory / 256)) (room_of (slice_get b.machines m)) (taken_at (come_point pt (come_view pt.view m p box (at_record pt.view.known m p (Incoming from)) asked come)) m pt.kernel.machines)
+taken_then b m pt l records k y p c a box from asked come none =
     let v = pt.view in
-    let next = come_point pt (come_view v m p box (at_record v.known m p (Incoming from)) asked) in
+    let next = come_point pt (come_view v m p box (at_record v.known m p (Incoming from)) asked come) in
     let changed = taken_changed pt next m p refl (λ h. refl) (c.made.home p a.is_made) (c.made.first p a.is_made) (c.made.below p a.is_made)
     (λ q apart. ap (λ (n : Known). takes_as n (rule.blocks_of (kernel.alive (pt.kernel.processes q)))) (record_off v.known m m p q (Incoming from) (pid_off p q apart))) in
     let before : taken_by pt m p ≡ record { slots = 0; blocks = 0 } = ap (λ (n : ℕ). record { slots = n; blocks = if n == 0 then 0 else rule.blocks_of (kernel.alive (pt.kernel.processes p)) }) none.room in
@@ -126,6 +131,50 @@ taken_then b m pt l records k y p c a box from asked none =
     reserve : (new old none_ some_ taken more : ℕ) → new + none_ ≡ old + some_ → none_ ≡ 0 → some_ ≡ more → taken ≡ old → taken + more ≡ new
     reserve new old none_ some_ taken more e f g h = omega (arith, e, f, g, h)
 
+-- what is left over of an earlier move from there stands before the request, and so nowhere
+accepted_over : (b : Boot) (m : ℕ) (pt : Point) (l : Placed) (records : AllRecords) (k : KernelState) (y : Message) (p : Pid) (c : Comes b m pt l records k y p) (a : Arrives b m pt l k y p) → kind_of y.what ≡ MessageKind.Ask → (box : List MsgId) (asked : Pid → ℕ) (come : Pid → Bool)
+    → (i : MsgId) (t : Told) (z : Spot) → pt.view.told i ≡ Some t → is_between t.kind ≡ true → t.about ≡ Of p → 1 ≤ standing pt.view i z → is_due_piece pt.view p i t ≡ false
+    → is_due_piece (come_view pt.view m p box (at_record pt.view.known m p (Incoming (front_of (pt.view.inbox m)))) asked come) p i t ≡ false
+accepted_over b m pt l records k y p c a is box asked come i t z told between about st off =
+    let v = pt.view in
+    let from = front_of (v.inbox m) in
+    let w = come_view v m p box (at_record v.known m p (Incoming from)) asked come in
+    let source : from ≡ a.source = ap front_of c.box ∙ ap (λ (q : Pid). q.home) a.from in
+    elim (a.phase.alone i t z told between about st) [
+      | inl mine ↦
+          let e : y.id ≡ i = some_same y.id i mine in
+          let u : told_of y ≡ t = some_same (told_of y) t (sym a.told ∙ ap v.told e ∙ told) in
+          absurd (false≢true (sym off ∙ (λ j. is_due_piece v p (sym e j) (sym u j)) ∙ c.due))
+      | inr left ↦
+          by_left v w p (kind_of y.what) a.source m y.id c.ids (told_of y) i t z a.on is (λ n here. awaits_same v p m n from a.source source here) (ranked_in v c.run.based.phased.ranked) (apart_is (is_between (kind_of y.what)) a.source m a.phase.apart) c.box a.from a.told c.between told between st
+          (off, left)
+    ]
+  where
+    -- which machine awaits it then
+    awaits_same : (v : View) (p : Pid) (m n from source : ℕ) → from ≡ source → (s : ℕ) → at_record v.known m p (Incoming from) n p ≡ Incoming s → ((m ≡ n) × (source ≡ s)) ⊎ (v.known n p ≡ Incoming s)
+    awaits_same v p m n from source e s here = elim (cases_Bool (m == n)) [
+      | inl same ↦
+          let f : Incoming from ≡ Incoming s = sym (ap (λ (d : Bool). if d && pid_eq p p then Incoming from else v.known n p) same ∙ ap (λ (d : Bool). if d then Incoming from else v.known n p) (pid_eq-same p)) ∙ here in
+          let g : from ≡ s = cc in
+          inl (eqb-true m n same, sym e ∙ g)
+      | inr other ↦ inr (sym (ap (λ (d : Bool). if d && pid_eq p p then Incoming from else v.known n p) other) ∙ here)
+    ]
+
+    no_piece_asks : (v : View) (p : Pid) (k : MessageKind) (s d : ℕ) (o : Option MsgId) (i : MsgId) (t : Told) → is_calloff k ≡ false → IsLeft v p (Moves k s d o) i t → pulls_piece (sort_of t.kind) ≡ false
+    no_piece_asks v p k s d o i t on left = (brings_on t.kind (piece_only v p k s d o i t on left)).2
+
+    by_left : (v w : View) (p : Pid) (k : MessageKind) (source m : ℕ) (j : MsgId) (ids : List MsgId) (u : Told) (i : MsgId) (t : Told) (z : Spot) → is_calloff k ≡ false → k ≡ MessageKind.Ask
+        → ((n s : ℕ) → w.known n p ≡ Incoming s → ((m ≡ n) × (source ≡ s)) ⊎ (v.known n p ≡ Incoming s)) → Ranked v → (source == m) ≡ false → v.inbox m ≡ j ∷ ids → j.from ≡ pid_of source 0 → v.told j ≡ Some u → is_between u.kind ≡ true
+        → v.told i ≡ Some t → is_between t.kind ≡ true → 1 ≤ standing v i z → (is_due_piece v p i t ≡ false) × IsLeft v p (Moves k source m (Some j)) i t → is_due_piece w p i t ≡ false
+    by_left v w p k source m j ids u i t z on ask awaits ranked apart front from told_j between_j told between st (off, Asks s d o pulls say way is first) = absurd (false≢true (sym (no_piece_asks v p k source m (Some j) i t on (Asks s d o pulls say way is first)) ∙ pulls))
+    by_left v w p k source m j ids u i t z on ask awaits ranked apart front from told_j between_j told between st (off, Brought s d brings say way away first) =
+        piece_over w p i t s d brings say way.sender (λ here. elim (awaits d s here) [
+          | inr was ↦ away was
+          | inl both ↦
+              let less : i.n < j.n = first (Some j) (λ e. Moves (ask e) (both.1 e) (both.0 e) (Some j)) in
+              never_behind v s d j ids u i t z ranked (subst (λ (n : ℕ). (s == n) ≡ false) both.0 (subst (λ (n : ℕ). (n == m) ≡ false) both.1 apart)) (subst (λ (n : ℕ). v.inbox n ≡ j ∷ ids) both.0 front) (from ∙ ap (λ (n : ℕ). pid_of n 0) both.1) told_j between_j way told between st less
+        ])
+
 accepts_row : (b : Boot) (m : ℕ) (pt : Point) (l : Placed) (records : AllRecords) (k : KernelState) (y : Message) (p : Pid) (c : Comes b m pt l records k y p) (a : Arrives b m pt l k y p) → kind_of y.what ≡ MessageKind.Ask
     → kernel_handles b (record k { inbox = c.rest }) y y.what ≡ accepts b (record k { inbox = c.rest }) y p (length a.process.memory / 256) a.process.moves (length (state_of a.process)) (l.notes p) true
     → rule.has_room (free_room b pt m) (length a.process.memory / 256) ≡ true → CanMove (record a.process { queue = [] }) → length a.process.table ≡ slots_of b.format → TurnsAt b m pt l records k
@@ -139,14 +188,17 @@ accepts_row b m pt l records k y p c a is handles some_ whole table =
     let from = front_of (v.inbox m) in
     let now = at_record v.known m p (Incoming from) in
     let asked = at_pid v.asked p 1 in
-    let next = come_point pt (come_view v m p box now asked) in
-    let new = expected p (length x.memory / 256) x.moves (length (state_of x)) (l.notes p) (slots_of b.format) in
-    let state = machine.with_sent (with_expected b s p (length x.memory / 256) x.moves (length (state_of x)) (l.notes p)) in
-    let pieces : new ≡ coming x (l.notes p) [] (Chunk 0) = λ i. expected (sym a.named i) (length x.memory / 256) x.moves (length (state_of x)) (l.notes p) (sym table i) in
+    let come = at_pid v.come p false in
+    let next = come_point pt (come_view v m p box now asked come) in
+    let new = expected p y.id.from.home (length x.memory / 256) x.moves (length (state_of x)) (l.notes p) (slots_of b.format) in
+    let state = machine.with_sent (with_expected b s p y.id.from.home (length x.memory / 256) x.moves (length (state_of x)) (l.notes p)) in
+    let named : x.pid ≡ p = ap (λ (z : Cargo). z.pid) a.is_cargo ∙ a.named in
+    let pieces : new ≡ coming a.cargo y.id.from.home (slots_of b.format) [] (Chunk 0) =
+    (λ i. expected (sym named i) y.id.from.home (length x.memory / 256) x.moves (length (state_of x)) (l.notes p) (slots_of b.format)) ∙ ap (λ (z : Cargo). coming z y.id.from.home (slots_of b.format) [] (Chunk 0)) a.is_cargo in
     let there : state.records p ≡ Some (Record.Incoming new) = ap (λ (d : Bool). if d then Some (Record.Incoming new) else k.records p) (pid_eq-same p) in
     let one : asked p ≡ 1 = ap (λ (d : Bool). if d then 1 else v.asked p) (pid_eq-same p) in
     let held : v.held m p ≡ [] = c.run.based.lists.held m p none.held in
-    let first : HasChunk (state_of x) 0 = (let least = whole.least in omega (arith, least)) in
+    let first : HasChunk a.cargo.state 0 = subst (λ (z : Cargo). HasChunk z.state 0) a.is_cargo (let least = whole.least in let some : HasChunk (state_of x) 0 = omega (arith, least) in some) in
     turns_answer b m pt l records k y p c a (record {
       line = Line.Migration Stage.Accepted p;
       what = What.PullState p 0;
@@ -154,6 +206,7 @@ accepts_row b m pt l records k y p c a is handles some_ whole table =
       box = box;
       known = now;
       asked = asked;
+      come = come;
       turn = turn_kernel b m pt l records k y p c a (accepts b s y p (length x.memory / 256) x.moves (length (state_of x)) (l.notes p) true) handles;
       outcome = outcome_kernel b m pt l records k y p c a _ (ap (λ (k : MessageKind). told_step pt m y.id p (fits r (length x.memory / 256)) (plain_process x) (sort_of k)) is
           ∙ ap (λ (d : Bool). Some (rule_moves.accepts y.id.from.home p d r.slots r.blocks)) some_);
@@ -162,6 +215,7 @@ accepts_row b m pt l records k y p c a is handles some_ whole table =
       known_off = λ n q off. record_off v.known m n p q (Incoming from) off;
       known_away = λ n q off. ap (λ (d : Bool). if d && pid_eq p q then (Incoming from) else v.known n q) (eq_off m n off);
       asked_off = λ q off. ap (λ (d : Bool). if d then 1 else v.asked q) off;
+      over = accepted_over b m pt l records k y p c a is box asked come;
       here = refl;
       records_off = λ q off. ap (λ (d : Bool). if d then Some (Record.Incoming new) else k.records q) off;
       ring = refl;
@@ -169,18 +223,18 @@ accepts_row b m pt l records k y p c a is handles some_ whole table =
       made = refl;
       sent = refl;
       servers = refl;
-      room = taken_then b m pt l records k y p c a box from asked none;
+      room = taken_then b m pt l records k y p c a box from asked come none;
       mine =
           subst (λ (n : Known). KnownStands next l p (v.queue m p) (v.held m p) n (state.records p)) (sym (record_self v.known m p (Incoming from)))
           (subst (KnownStands next l p (v.queue m p) (v.held m p) (Incoming from)) (sym there)
-          (record { process = x; there = a.there; whole = whole; pieces = pieces; held = ap (map l.bag) held }));
+          (record { source = sym (ap front_of c.box); cargo = a.cargo; there = a.there; whole = subst (IsSuch (CanBeCarried (slots_of b.format))) (sym a.is_process) (whole, sym table); pieces = pieces; held = ap (map l.bag) held }));
       between = refl;
       is_reply = refl;
       about = refl;
       plain = refl;
       encloses = refl;
       gives = λ w i q. refl;
-      carries = subst (λ (o : Option machine.KernelKnown). Carries p x (l.notes p) (asked p) (incoming_of o) (What.PullState p 0)) (sym there)
+      carries = subst (λ (o : Option machine.KernelKnown). Carries p a.cargo (asked p) (incoming_of o) (What.PullState p 0)) (sym there)
           (refl, (one, first), refl);
     })
 
@@ -196,13 +250,13 @@ turns_ask b m pt l records k y p q blocks moves size asker c e nodes tables =
     let a = arrives b m pt l records k y p c in
     let x = a.process in
     let s = record k { inbox = c.rest } in
-    let carried = subst (λ (w : What). Carries p x (l.notes p) (pt.view.asked p) (incoming_of (k.records p)) w) e a.carries in
+    let carried = subst (λ (w : What). Carries p a.cargo (pt.view.asked p) (incoming_of (k.records p)) w) e a.carries in
     let is : kind_of y.what ≡ MessageKind.Ask = ap kind_of e in
     let free = free_as k.room (slice_get b.machines m) (taken_at pt m pt.kernel.machines) c.stands.room in
-    ask_by b m pt l records k y p c a (rule.has_room (free_room b pt m) (length x.memory / 256)) is (ap (kernel_handles b s y) (e ∙ carried)
-    ∙ ap (λ (z : Pid). accepts b s y z (length x.memory / 256) x.moves (length (state_of x)) (l.notes p) (room_.has_room k.room (length x.memory / 256))) a.named
+    ask_by b m pt l records k y p c a (rule.has_room (free_room b pt m) (length x.memory / 256)) is (ap (kernel_handles b s y) (e ∙ carried ∙ ap ask_for (sym a.is_cargo))
+    ∙ ap (λ (z : Pid). accepts b s y z (length x.memory / 256) x.moves (length (state_of x)) (l.notes p) (room_.has_room k.room (length x.memory / 256))) (ap (λ (z : Cargo). z.pid) a.is_cargo ∙ a.named)
     ∙ ap (accepts b s y p (length x.memory / 256) x.moves (length (state_of x)) (l.notes p)) (λ i. nat_le 1 (free.0 i) && nat_le (length x.memory / 256) (free.1 i)))
-    refl (can_come b m pt l records k y p c a is nodes) (tables x a.there)
+    refl (can_come b m pt l records k y p c a is nodes) (tables x a.is_process)
 
 -- A turn that handles what the machine that a process leaves tells the machine that it comes to.
 

@@ -1,14 +1,16 @@
 -- A message about a process that comes to a machine, at the front of its inbox: what is known then.
 use Rattle.dm_mirror.proofs.Names.{◌≡◌, ℕ, ◌+◌, ◌≤◌, Bool, true, false, List, ◌∷◌, refl, ap, ◌∙◌, sym, subst, inl, inr, is_some, arith, if◌then◌else◌, option_map, Option, None, Some, false≢true, nat_tests, Pid, pid_of, kernel_at, Message}
-use Rattle.dm_mirror.proofs.Names.{MsgId, MessageKind, kind_of, PlainMessage, plain_message, Process, incoming_of, Boot, bind, plain_process, id_eq-same, is_between, tells_onward, Moves, IsIn, receiver_in, sender_in}
-use Rattle.dm_mirror.proofs.Names.{told_between, Point, Spot, Inbox, StandsOnce, StandsOutside, standing, times, Of, Told, is_kernels, stands_right, not_kernels, token_is, token_at, is_server, Run, Placed, Mirrors, KernelState, MadeStands}
-use Rattle.dm_mirror.proofs.Names.{AllOwnStand, OwnStands, about_of, told_of, AreMessages, KernelStands, AllRecords, Carries, TokensStand, destination_of, inbox_is, about_same, ◌*◌, ◌/◌, ◌==◌, not, [], length, map, nat_lt, nat_le}
-use Rattle.dm_mirror.proofs.Names.{flat_map, length-append, flat_map-cons, Link, plain_link, Shell, registers, shell_of, spell_slot, numbers_size, Chunk, Block, Nothing, after_block, after_chunk, is_last, state_of, HasPiece, plain_status}
-use Rattle.dm_mirror.proofs.Names.{chunks_of, links_size, pieces_of, status_size, IsAsked, shell_spelling, sort_of, option_map_or}
+use Rattle.dm_mirror.proofs.Names.{MsgId, MessageKind, kind_of, PlainMessage, plain_message, Process, incoming_of, Boot, bind, plain_process, id_eq-same, is_between, tells_onward, Moves, IsIn, receiver_in, sender_in, Point, Spot, Inbox}
+use Rattle.dm_mirror.proofs.Names.{StandsOnce, StandsOutside, standing, times, Of, Told, is_kernels, stands_right, not_kernels, token_at, is_server, Run, Placed, Mirrors, KernelState, MadeStands, AllOwnStand, OwnStands, about_of, told_of}
+use Rattle.dm_mirror.proofs.Names.{AreMessages, KernelStands, AllRecords, Carries, TokensStand, destination_of, inbox_is, ◌*◌, ◌/◌, ◌==◌, not, [], length, map, nat_lt, nat_le, flat_map, length-append, flat_map-cons, Link, plain_link, Shell}
+use Rattle.dm_mirror.proofs.Names.{registers, shell_of, spell_slot, numbers_size, Chunk, Block, Nothing, after_block, after_chunk, is_last, state_of, HasPiece, plain_status, chunks_of, links_size, pieces_of, status_size, IsAsked}
+use Rattle.dm_mirror.proofs.Names.{shell_spelling, sort_of, option_map_or, ◌<◌, Cargo, cargo_at, cargo_of, ◌&&◌, eq_self, is_due_piece, brings_piece, is_calloff, is_stale, is_waited_from, destination_expects}
 use Rattle.dm_rule.proofs.QuietTests.{eq_is}
 use Rattle.dm_onekernel.specs.Step as kernel
 use Rattle.dm_mirror.proofs.Leave.Goes.{life_some as alive_made}
 use Rattle.dm_mirror.proofs.Handle.Taking.{some_same}
+use Rattle.dm_mirror.proofs.Cargoes.{IsCargoOf, is_cargo_of}
+use Rattle.dm_mirror.proofs.LeftOver.{brings_on, due_of, onward_on, piece_late}
 
 -- machine m, with kernel k, has at its inbox's front message y, which the machine that process p leaves sends
 pub record Comes (b : Boot) (m : ℕ) (pt : Point) (l : Placed) (records : AllRecords) (k : KernelState) (y : Message) (p : Pid) : Type 0 where
@@ -25,6 +27,8 @@ pub record Comes (b : Boot) (m : ℕ) (pt : Point) (l : Placed) (records : AllRe
   pub between : is_between (kind_of y.what) ≡ true
   pub of_source : tells_onward (sort_of (kind_of y.what)) ≡ true
   pub about : about_of y.what ≡ Of p
+  -- it isn't left over
+  pub due : is_due_piece pt.view p y.id (told_of y) ≡ true
   -- the messages behind it
   pub ids : List MsgId
   pub box : pt.view.inbox m ≡ y.id ∷ ids
@@ -41,13 +45,19 @@ pub record Arrives (b : Boot) (m : ℕ) (pt : Point) (l : Placed) (k : KernelSta
   pub unplain : pt.kernel.bag y.id ≡ None
   pub first : 1 ≤ standing pt.view y.id (Inbox m)
   pub phase : IsIn pt.view p (Moves (kind_of y.what) source m (Some y.id))
+  pub on : is_calloff (kind_of y.what) ≡ false
+  pub fresh : is_stale pt m y.id (kind_of y.what) p ≡ false
   pub to : y.to.pid ≡ pid_of m 0
   pub from : y.id.from ≡ pid_of source 0
   pub sender : y.sender ≡ kernel_at y.id.from.home
+  pub cargo : Cargo
+  pub there : cargo_at l p ≡ Some cargo
+  pub carries : Carries p cargo (pt.view.asked p) (incoming_of (k.records p)) y.what
+  pub named : cargo.pid ≡ p
+  -- the process that it is of
   pub process : Process
-  pub there : l.processes p ≡ Some process
-  pub carries : Carries p process (l.notes p) (pt.view.asked p) (incoming_of (k.records p)) y.what
-  pub named : process.pid ≡ p
+  pub is_process : l.processes p ≡ Some process
+  pub is_cargo : cargo_of process (l.notes p) ≡ cargo
   pub alive : kernel.alive (pt.kernel.processes p) ≡ Some (plain_process process)
   pub is_made : is_some (pt.kernel.processes p) ≡ true
   pub server : is_server p ≡ false
@@ -86,23 +96,33 @@ record Token (pt : Point) (m : ℕ) (y : Message) (p : Pid) : Type 0 where
   from : y.id.from ≡ pid_of source 0
 
 token_of : (b : Boot) (m : ℕ) (pt : Point) (y : Message) (p : Pid) → Run b pt → is_between (kind_of y.what) ≡ true → tells_onward (sort_of (kind_of y.what)) ≡ true → about_of y.what ≡ Of p → pt.view.told y.id ≡ Some (told_of y) → 1 ≤ standing pt.view y.id (Inbox m)
-    → Token pt m y p
-token_of b m pt y p run between of_source about told first =
+    → is_due_piece pt.view p y.id (told_of y) ≡ true → Token pt m y p
+token_of b m pt y p run between of_source about told first due =
     let v = pt.view in
     let h = run.based.phased.phases in
-    let (q, j, s, d, of_q, phase) = token_is v h y.id (told_of y) (Inbox m) told between first in
-    let token = token_at v q (h.of q) j s d y.id phase (h.each q) in
-    let t : told_between q j s d ≡ told_of y = some_same (told_between q j s d) (told_of y) (sym token.told ∙ told) in
-    let kind_is : j ≡ kind_of y.what = ap (λ (z : Told). z.kind) t in
-    let same : q ≡ p = about_same q p (sym of_q ∙ about) in
+    let u = due_of v h p y.id (told_of y) (Inbox m) told between about first due in
+    let j = u.kind in
+    let s = u.s in
+    let d = u.d in
+    let token = token_at v p (h.of p) j s d y.id u.phase (h.each p) in
+    let kind_is : j ≡ kind_of y.what = sym u.kind_is in
     let source : tells_onward (sort_of j) ≡ true = ap (λ (k : MessageKind). tells_onward (sort_of k)) kind_is ∙ of_source in
     let here : m ≡ d = inbox_is m (sender_in j s d) (receiver_in j s d) (token.ways (Inbox m) first) ∙ ap (λ (c : Bool). if c then d else s) source in
     record {
       source = s;
-      phase = subst (λ (n : ℕ). IsIn v p (Moves (kind_of y.what) s n (Some y.id))) (sym here) (subst (λ (i : MessageKind). IsIn v p (Moves i s d (Some y.id))) kind_is (subst (λ (r : Pid). IsIn v r (Moves j s d (Some y.id))) same (subst (IsIn v q) phase (h.each q))));
-      to = sym (ap (λ (z : Told). z.receiver) t) ∙ ap (λ (n : ℕ). pid_of n 0) (ap (λ (c : Bool). if c then d else s) source ∙ sym here);
-      from = token.from ∙ ap (λ (n : ℕ). pid_of n 0) (ap (λ (c : Bool). if c then s else d) source);
+      phase = subst (λ (n : ℕ). IsIn v p (Moves (kind_of y.what) s n (Some y.id))) (sym here) (subst (λ (i : MessageKind). IsIn v p (Moves i s d (Some y.id))) kind_is (subst (IsIn v p) u.phase (h.each p)));
+      to = ap (λ (z : Told). z.receiver) u.told ∙ ap (λ (n : ℕ). pid_of n 0) (ap (λ (c : Bool). if c then d else s) source ∙ sym here);
+      from = u.from ∙ ap (λ (n : ℕ). pid_of n 0) (ap (λ (c : Bool). if c then s else d) source);
     }
+
+-- and so it is no stale piece
+fresh_by : (pt : Point) (m : ℕ) (y : Message) (p : Pid) (source : ℕ) (c : Bool) → IsIn pt.view p (Moves (kind_of y.what) source m (Some y.id)) → y.id.from ≡ pid_of source 0 → is_calloff (kind_of y.what) ≡ false → brings_piece (sort_of (kind_of y.what)) ≡ c → is_stale pt m y.id (kind_of y.what) p ≡ false
+fresh_by pt m y p source false phase from on e = ap (λ (d : Bool). d && not (is_waited_from y.id.from.home (pt.view.known m p))) e
+fresh_by pt m y p source true phase from on e =
+    let early = (piece_late (kind_of y.what) (brings_on (kind_of y.what) e).1).0 in
+    let known = destination_expects pt.view p (kind_of y.what) source m (Some y.id) phase early on in
+    let waited : is_waited_from y.id.from.home (pt.view.known m p) ≡ true = ap (is_waited_from y.id.from.home) known ∙ ap (λ (q : Pid). q.home == source) from ∙ eq_self source in
+    ap (λ (d : Bool). brings_piece (sort_of (kind_of y.what)) && not d) waited ∙ ap (λ (d : Bool). d && false) e
 
 destination_is : (m : ℕ) (y : Message) → tells_onward (sort_of (kind_of y.what)) ≡ true → y.to.pid ≡ pid_of m 0 → destination_of y.id (told_of y) ≡ m
 destination_is m y of_source to = ap (λ (c : Bool). if c then y.to.pid.home else y.id.from.home) of_source ∙ ap (λ (q : Pid). q.home) to
@@ -111,18 +131,23 @@ pub arrives : (b : Boot) (m : ℕ) (pt : Point) (l : Placed) (records : AllRecor
 arrives b m pt l records k y p c =
     let stood : OwnStands pt.view y.id y = c.own y.id y c.there c.plain in
     let first : 1 ≤ standing pt.view y.id (Inbox m) = grind (arith, nat_tests, times_self, c.box) in
-    let t = token_of b m pt y p c.run c.between c.of_source c.about stood.told first in
-    let token = c.tokens p y.id (told_of y) (Inbox m) stood.told c.between c.about first in
+    let t = token_of b m pt y p c.run c.between c.of_source c.about stood.told first c.due in
+    let token = (c.tokens p y.id (told_of y) (Inbox m) stood.told c.between c.about first).0 c.due in
+    let on : is_calloff (kind_of y.what) ≡ false = onward_on (kind_of y.what) c.of_source in
+    let fresh : is_stale pt m y.id (kind_of y.what) p ≡ false = fresh_by pt m y p t.source (brings_piece (sort_of (kind_of y.what))) t.phase t.from on refl in
     let same : token.message ≡ y = some_same token.message y (sym token.is ∙ c.there) in
     let records_is : records (destination_of y.id (told_of y)) p ≡ k.records p = ap (λ (n : ℕ). records n p) (destination_is m y c.of_source t.to) ∙ (λ i. c.mine i p) in
-    let alive : kernel.alive (pt.kernel.processes p) ≡ Some (plain_process token.process) = c.mirrors.plain.processes p ∙ ap (option_map plain_process) token.there in
-    let is_made = alive_made (pt.kernel.processes p) (plain_process token.process) alive in
+    let of : IsCargoOf (l.processes p) (l.notes p) token.cargo = is_cargo_of (l.processes p) (l.notes p) token.cargo token.there in
+    let alive : kernel.alive (pt.kernel.processes p) ≡ Some (plain_process of.process) = c.mirrors.plain.processes p ∙ ap (option_map plain_process) of.there in
+    let is_made = alive_made (pt.kernel.processes p) (plain_process of.process) alive in
     search (
+      on,
+      fresh,
       sym (c.mirrors.plain.bag y.id) ∙ ap (λ (o : Option Message). bind o plain_message) c.there ∙ c.plain,
       sym (ap (λ (x : Message). x.sender) same) ∙ token.sender,
-      subst (λ (x : Message). Carries p token.process (l.notes p) (pt.view.asked p) (incoming_of (k.records p)) x.what) same
-          (subst (λ o. Carries p token.process (l.notes p) (pt.view.asked p) (incoming_of o) token.message.what) records_is token.carries),
-      (c.mirrors.places.process p token.process token.there).pid,
+      subst (λ (x : Message). Carries p token.cargo (pt.view.asked p) (incoming_of (k.records p)) x.what) same
+          (subst (λ o. Carries p token.cargo (pt.view.asked p) (incoming_of o) token.message.what) records_is token.carries),
+      ap (λ (z : Cargo). z.pid) (sym of.is) ∙ (c.mirrors.places.process p of.process of.there).pid,
       (let e_ : is_server p ≡ false = grind (arith, nat_tests, c.run.based.phased.sane.sound.made) in e_),
     )
 
@@ -145,27 +170,34 @@ shell_length s sixteen = grind (arith, nat_tests, flat_map, length-append, regis
 pub chunks_same : (x : Process) → length x.regs.r ≡ 16 → (length (state_of x) + 511) / 512 ≡ chunks_of (plain_process x)
 chunks_same x sixteen = ap (λ (n : ℕ). (n + 511) / 512) (shell_length (shell_of x) sixteen)
 
+pub pieces_same : (x : Process) → length x.regs.r ≡ 16 → (length (state_of x) + 511) / 512 + length x.memory / 256 ≡ pieces_of (plain_process x)
+pieces_same x sixteen = ap (λ (n : ℕ). n + length x.memory / 256) (chunks_same x sixteen)
+
 least_of : (a c : ℕ) → nat_le a c ≡ true → a ≤ c
 least_of a c e = grind (arith, nat_tests)
 
 -- a chunk is the last where as many were asked for as there are
-pub chunk_last : (x : Process) (n k : ℕ) → length x.regs.r ≡ 16 → IsAsked x n (Chunk k) → (n == chunks_of (plain_process x)) ≡ is_last (state_of x) k
-chunk_last x n k sixteen asked =
-    ap (λ (c : ℕ). n == c) (sym (chunks_same x sixteen)) ∙ (let e_ : (n == ((length (state_of x)) + 511) / 512) ≡ (is_last (state_of x) k) = grind (arith, nat_tests, least_of, eq_is, asked.0, asked.1) in e_)
+pub chunk_last : (c : Cargo) (n k chunks : ℕ) → (length c.state + 511) / 512 ≡ chunks → IsAsked c n (Chunk k) → (n == chunks) ≡ is_last c.state k
+chunk_last c n k chunks e asked =
+    ap (λ (d : ℕ). n == d) (sym e) ∙ (let e_ : (n == (length c.state + 511) / 512) ≡ (is_last c.state k) = grind (arith, nat_tests, least_of, eq_is, asked.0, asked.1) in e_)
 
 -- what is asked for then
-pub chunk_next : (last : Bool) (x : Process) (n k : ℕ) → nat_le (length (state_of x)) (512 * (k + 1)) ≡ last → IsAsked x n (Chunk k) → HasPiece x (after_chunk k last) → IsAsked x (n + 1) (after_chunk k last)
-chunk_next true x n k e asked there =
-    let f : (length (state_of x) + 511) / 512 ≡ k + 1 = (let g = least_of (length (state_of x)) (512 * (k + 1)) e in let h = asked.1 in omega (arith, g, h)) in
+pub chunk_next : (last : Bool) (c : Cargo) (n k : ℕ) → nat_le (length c.state) (512 * (k + 1)) ≡ last → IsAsked c n (Chunk k) → HasPiece c (after_chunk k last) → IsAsked c (n + 1) (after_chunk k last)
+chunk_next true c n k e asked there =
+    let f : (length c.state + 511) / 512 ≡ k + 1 = (let g = least_of (length c.state) (512 * (k + 1)) e in let h = asked.1 in omega (arith, g, h)) in
     (omega (arith, f, asked.0), there)
-chunk_next false x n k e asked there = (omega (arith, asked.0), there)
+chunk_next false c n k e asked there = (omega (arith, asked.0), there)
 
-pub block_last : (x : Process) (n j : ℕ) → length x.regs.r ≡ 16 → length x.memory ≡ 256 * (length x.memory / 256) → IsAsked x n (Block j) → (n == pieces_of (plain_process x)) ≡ not (nat_lt (j + 1) (length x.memory / 256))
-block_last x n j sixteen whole asked = grind (arith, nat_tests, chunks_same, nat_lt)
+-- a piece behind all the chunks is the last where as many were asked for as there are
+piece_last : (n pieces chunks blocks j : ℕ) → n ≡ chunks + j + 1 → chunks + blocks ≡ pieces → j < blocks → (n == pieces) ≡ not (nat_lt (j + 1) blocks)
+piece_last n pieces chunks blocks j e f less = grind (arith, nat_tests)
 
-block_next : (more : Bool) (x : Process) (n j : ℕ) → IsAsked x n (Block j) → HasPiece x (if more then Block (j + 1) else Nothing) → IsAsked x (n + 1) (if more then Block (j + 1) else Nothing)
-block_next true x n j asked there = (omega (arith, asked.0), there)
-block_next false x n j asked there = tt
+pub block_last : (c : Cargo) (n j pieces : ℕ) → (length c.state + 511) / 512 + length c.memory / 256 ≡ pieces → length c.memory ≡ 256 * (length c.memory / 256) → IsAsked c n (Block j) → (n == pieces) ≡ not (nat_lt (j + 1) (length c.memory / 256))
+block_last c n j pieces e whole asked = piece_last n pieces ((length c.state + 511) / 512) (length c.memory / 256) j asked.0 e (let there = asked.1 in omega (arith, there, whole))
 
-pub asked_after_block : (x : Process) (n j : ℕ) → IsAsked x n (Block j) → HasPiece x (after_block j (length x.memory / 256)) → IsAsked x (n + 1) (after_block j (length x.memory / 256))
-asked_after_block x n j asked there = block_next (nat_lt (j + 1) (length x.memory / 256)) x n j asked there
+block_next : (more : Bool) (c : Cargo) (n j : ℕ) → IsAsked c n (Block j) → HasPiece c (if more then Block (j + 1) else Nothing) → IsAsked c (n + 1) (if more then Block (j + 1) else Nothing)
+block_next true c n j asked there = (omega (arith, asked.0), there)
+block_next false c n j asked there = tt
+
+pub asked_after_block : (c : Cargo) (n j : ℕ) → IsAsked c n (Block j) → HasPiece c (after_block j (length c.memory / 256)) → IsAsked c (n + 1) (after_block j (length c.memory / 256))
+asked_after_block c n j asked there = block_next (nat_lt (j + 1) (length c.memory / 256)) c n j asked there

@@ -1,44 +1,51 @@
 -- What a machine and the rule do with a message about a process that comes, and where the lines of it lead.
-use Rattle.dm_mirror.proofs.Names.{◌≡◌, ℕ, ◌/◌, Bool, true, false, List, [], ◌∷◌, length, refl, ap, ◌∙◌, sym, subst, if◌then◌else◌, slice_get, Option, Some, Pid, pid_eq, Message, MsgId, kind_of, Process, Record, incoming_of, Wanted, Chunk}
-use Rattle.dm_mirror.proofs.Names.{Nothing, Arrival, pull, with_piece, CanMove, coming, Boot, bind, plain_process, pid_eq-same, Line, told_step, to_kernel, is_early, Point, after, fits, free_room, taken_at, Incoming, Known, Of, Placed}
-use Rattle.dm_mirror.proofs.Names.{room_of, piece_line, takes_piece, took_piece, kernel_handles, KernelState, about_of, ComesStand, KnownStands, RoomStands, AllRecords, Carries, IsAsked, ◌+◌, ◌==◌, MessageKind, Step, Stage, arith}
-use Rattle.dm_mirror.proofs.Names.{nat_tests, kind_comes, outcome, at_pid, without_front, About, Turned, turn, apart_is, expects_is, not, nat_lt, What, Block, after_chunk, is_last, state_of, ComesByPieces, by_pieces, chunks_of, pieces_of}
-use Rattle.dm_mirror.proofs.Names.{takes_block, takes_chunk, Wants, Asker, sort_of, drop}
+use Rattle.dm_mirror.proofs.Names.{◌≡◌, ℕ, ◌/◌, Bool, true, false, List, [], ◌∷◌, length, refl, ap, ◌∙◌, sym, subst, if◌then◌else◌, slice_get, Option, Some, Pid, pid_eq, Message, MsgId, kind_of, Record, incoming_of, Wanted, Chunk, Nothing}
+use Rattle.dm_mirror.proofs.Names.{Arrival, pull, with_piece, coming, Boot, bind, plain_process, pid_eq-same, Line, told_step, to_kernel, is_early, Point, after, fits, free_room, taken_at, Incoming, Known, Of, Placed, room_of, piece_line}
+use Rattle.dm_mirror.proofs.Names.{takes_piece, took_piece, kernel_handles, KernelState, about_of, ComesStand, KnownStands, RoomStands, AllRecords, Carries, IsAsked, ◌+◌, ◌==◌, MessageKind, Step, Stage, arith, nat_tests, kind_comes}
+use Rattle.dm_mirror.proofs.Names.{outcome, at_pid, without_front, About, Turned, turn, apart_is, expects_is, not, nat_lt, What, Block, after_chunk, is_last, ComesByPieces, by_pieces, chunks_of, pieces_of, takes_block, takes_chunk, Wants}
+use Rattle.dm_mirror.proofs.Names.{sort_of, drop, Cargo, CanCome, CanBeCarried, IsSuch, PlainProcess, comes_to, hears, kernel_hears, told_of, Addresses, None, OneKernel, View, enclosed, goes_between, is_between, own_given, plain_what}
+use Rattle.dm_mirror.proofs.Names.{tells_onward, hears_piece, says_stale}
 use Rattle.dm_rule.proofs.Names.{Part}
 use Rattle.dm_kernel.specs.declared.part.Part.TheVariants as part
 use Rattle.dm_kernel.specs.State as machine
-use Rattle.dm_mirror.proofs.Come.Frames.{Arrives, Comes, arrives, asked_after_block, block_last, chunk_last, chunk_next}
+use Rattle.dm_mirror.proofs.Come.Frames.{Arrives, Comes, arrives, asked_after_block, block_last, chunk_last, chunk_next, chunks_same, pieces_same}
 use Rattle.dm_mirror.proofs.Come.Turns.{come_point, come_view, turns_answer, eq_self}
 use Rattle.dm_mirror.proofs.Recorded.{recorded}
 use Rattle.dm_mirror.proofs.Rooms.{taken_same}
 use Rattle.dm_mirror.proofs.Turning.{TurnsAt, begun}
 use Rattle.dm_mirror.proofs.Kernel.Sets.{on_if as if_true}
 use Rattle.dm_mirror.proofs.Follow.Fronts.{front_gone, set_self}
-use Rattle.dm_mirror.proofs.Handle.Taking.{some_same}
+use Rattle.dm_mirror.proofs.Cargoes.{same_cargo, cargo_comes}
+use Rattle.dm_mirror.proofs.Leave.Fronts.{to_kernel_hears}
+use Rattle.dm_onekernel.specs.Step as kernel
+use Rattle.dm_rule.specs.Rule as ruled
 
 pub turn_kernel : (b : Boot) (m : ℕ) (pt : Point) (l : Placed) (records : AllRecords) (k : KernelState) (y : Message) (p : Pid) (c : Comes b m pt l records k y p) (a : Arrives b m pt l k y p) (o : Option Turned) → kernel_handles b (record k { inbox = c.rest }) y y.what ≡ o → turn b k ≡ o
 turn_kernel b m pt l records k y p c a o e = grind (arith, nat_tests, if_true)
 
 pub outcome_kernel : (b : Boot) (m : ℕ) (pt : Point) (l : Placed) (records : AllRecords) (k : KernelState) (y : Message) (p : Pid) (c : Comes b m pt l records k y p) (a : Arrives b m pt l k y p) (o : Option (List Part))
     → told_step pt m y.id p (fits (free_room b pt m) (length a.process.memory / 256)) (plain_process a.process) (sort_of (kind_of y.what)) ≡ o → outcome b pt (Step.Turn m) ≡ o
-outcome_kernel b m pt l records k y p c a o e = search if_true
+outcome_kernel b m pt l records k y p c a o e =
+    let step : PlainProcess → Option (List Part) = λ x. told_step pt m y.id p (fits (free_room b pt m) (length x.memory / 256)) x (sort_of (kind_of y.what)) in
+    ap (ruled.turns b pt m) c.box ∙ ap (comes_to b pt m y.id) a.unplain ∙ ap (hears b pt m y.id) a.told ∙ to_kernel_hears b pt m y.id (told_of y) (ap (λ (q : Pid). q.num == 0) a.to)
+    ∙ ap (kernel_hears b pt m y.id (kind_of y.what)) c.about ∙ ap (λ (d : Bool). if d then Some (Part.Says (Line.Stale y.id) ∷ []) else bind (kernel.alive (pt.kernel.processes p)) step) a.fresh ∙ ap (λ (q : Option PlainProcess). bind q step) a.alive ∙ e
 
 pub comes_known : (b : Boot) (m : ℕ) (pt : Point) (l : Placed) (k : KernelState) (y : Message) (p : Pid) (a : Arrives b m pt l k y p) → kind_comes (kind_of y.what) a.source (pt.view.known m p) ≡ true
 comes_known b m pt l k y p a = grind (arith, nat_tests, apart_is, eq_self)
 
 pub known_incoming : (b : Boot) (m : ℕ) (pt : Point) (l : Placed) (k : KernelState) (y : Message) (p : Pid) (a : Arrives b m pt l k y p) → is_early (kind_of y.what) ≡ false → pt.view.known m p ≡ Incoming a.source
-known_incoming b m pt l k y p a late = expects_is (kind_of y.what) a.source (pt.view.known m p) late (comes_known b m pt l k y p a)
+known_incoming b m pt l k y p a late = expects_is (kind_of y.what) a.source (pt.view.known m p) late a.on (comes_known b m pt l k y p a)
 
 pub first_gone : (i : MsgId) (is xs : List MsgId) → xs ≡ i ∷ is → drop 1 xs ≡ is
 first_gone i is xs e = ap (drop 1) e
 
 -- a piece that isn't the last
 pub after_piece : (pt : Point) (m : ℕ) (p q : Pid) (i : MsgId) (k : MessageKind) → (k ≡ MessageKind.State) → pt.view.told i ≡ Some (record { kind = k; receiver = q; about = Of p })
-    → after (begun pt m) (Line.Proto i ∷ []) ≡ Some (come_point pt (come_view pt.view m p (without_front i (pt.view.inbox m)) pt.view.known (at_pid pt.view.asked p (pt.view.asked p + 1))))
+    → after (begun pt m) (Line.Proto i ∷ []) ≡ Some (come_point pt (come_view pt.view m p (without_front i (pt.view.inbox m)) pt.view.known (at_pid pt.view.asked p (pt.view.asked p + 1)) pt.view.come))
 after_piece pt m p q i k is told = grind (arith, nat_tests)
 
 pub after_block : (pt : Point) (m : ℕ) (p q : Pid) (i : MsgId) (k : MessageKind) → (k ≡ MessageKind.Memory) → pt.view.told i ≡ Some (record { kind = k; receiver = q; about = Of p })
-    → after (begun pt m) (Line.Proto i ∷ []) ≡ Some (come_point pt (come_view pt.view m p (without_front i (pt.view.inbox m)) pt.view.known (at_pid pt.view.asked p (pt.view.asked p + 1))))
+    → after (begun pt m) (Line.Proto i ∷ []) ≡ Some (come_point pt (come_view pt.view m p (without_front i (pt.view.inbox m)) pt.view.known (at_pid pt.view.asked p (pt.view.asked p + 1)) pt.view.come))
 after_block pt m p q i k is told = grind (arith, nat_tests)
 
 -- what was told of it
@@ -48,57 +55,75 @@ told_about b m pt l records k y p c a = a.told ∙ ap (λ (x : About). Some (rec
 
 -- A piece comes of a process that comes, and the next is asked for, or all is said to have come.
 
-pull_carries : (p : Pid) (x : Process) (k : Option Asker) (n : ℕ) (held : List Message) (w : Wanted) → x.pid ≡ p → IsAsked x n w → Carries p x k n (Some (coming x k held w)) (pull x.pid w)
-pull_carries p x k n held Nothing named asked = (named, refl)
-pull_carries p x k n held _ named asked = (named, asked, refl)
+pull_carries : (p : Pid) (c : Cargo) (n source size : ℕ) (held : List Message) (w : Wanted) → c.pid ≡ p → IsAsked c n w → Carries p c n (Some (coming c source size held w)) (pull c.pid w)
+pull_carries p c n source size held Nothing named asked = (named, refl)
+pull_carries p c n source size held _ named asked = (named, asked, refl)
+
+-- what asks for a piece, or says that all has come
+record AsksFor (p : Pid) (w : What) : Type 0 where
+  between : is_between (kind_of w) ≡ true
+  back : tells_onward (sort_of (kind_of w)) ≡ false
+  about : about_of w ≡ Of p
+  plain : plain_what w ≡ None
+  encloses : enclosed w ≡ []
+  gives : (s : OneKernel) (v : View) (a : Addresses) (i : MsgId) (q : Pid) → own_given s v a i q (sort_of (kind_of w)) ≡ goes_between v i q
+
+asks_for : (p : Pid) (w : Wanted) → AsksFor p (pull p w)
+asks_for p (Chunk n) = record { between = refl; back = refl; about = refl; plain = refl; encloses = refl; gives = λ s v a i q. refl }
+asks_for p (Block n) = record { between = refl; back = refl; about = refl; plain = refl; encloses = refl; gives = λ s v a i q. refl }
+asks_for p Nothing = record { between = refl; back = refl; about = refl; plain = refl; encloses = refl; gives = λ s v a i q. refl }
 
 -- where other records are, a machine's room is as it was
-pub room_kept : (b : Boot) (pt : Point) (m : ℕ) (p : Pid) (box : List MsgId) (asked : Pid → ℕ) (l : Placed) (records : AllRecords) (k : KernelState) (y : Message) (c : Comes b m pt l records k y p)
-    → RoomStands k.room (room_of (slice_get b.machines m)) (taken_at (come_point pt (come_view pt.view m p box pt.view.known asked)) m pt.kernel.machines)
-room_kept b pt m p box asked l records k y c =
-    subst (RoomStands k.room (room_of (slice_get b.machines m))) (sym (taken_same pt (come_point pt (come_view pt.view m p box pt.view.known asked)) m refl (λ h. refl) (λ q. refl))) c.stands.room
+pub room_kept : (b : Boot) (pt : Point) (m : ℕ) (p : Pid) (box : List MsgId) (asked : Pid → ℕ) (come : Pid → Bool) (l : Placed) (records : AllRecords) (k : KernelState) (y : Message) (c : Comes b m pt l records k y p)
+    → RoomStands k.room (room_of (slice_get b.machines m)) (taken_at (come_point pt (come_view pt.view m p box pt.view.known asked come)) m pt.kernel.machines)
+room_kept b pt m p box asked come l records k y c =
+    subst (RoomStands k.room (room_of (slice_get b.machines m))) (sym (taken_same pt (come_point pt (come_view pt.view m p box pt.view.known asked come)) m refl (λ h. refl) (λ q. refl))) c.stands.room
 
 -- a piece has come, and this is asked for then
 pub record Piece (b : Boot) (m : ℕ) (pt : Point) (l : Placed) (records : AllRecords) (k : KernelState) (y : Message) (p : Pid) (c : Comes b m pt l records k y p) (a : Arrives b m pt l k y p) : Type 0 where
   pub late : is_early (kind_of y.what) ≡ false
   pub arrival : Arrival
   pub is : k.records p ≡ Some (Record.Incoming arrival)
-  pub whole : CanMove (record a.process { queue = [] })
-  pub held : ComesStand l p (pt.view.held m p) arrival
+  pub held : ComesStand l p a.source (pt.view.held m p) arrival
   pub wanted : Wanted
   pub line : Line
   pub box : List MsgId
   pub asked : Pid → ℕ
-  pub takes : kernel_handles b (record k { inbox = c.rest }) y y.what ≡ bind (incoming_of (k.records p)) (takes_piece (record k { inbox = c.rest }) y p)
-  pub took : with_piece arrival y.what ≡ Some (coming a.process (l.notes p) arrival.held wanted)
+  pub come : Pid → Bool
+  pub takes : kernel_handles b (record k { inbox = c.rest }) y y.what ≡ hears_piece (record k { inbox = c.rest }) y p (incoming_of (k.records p))
+  pub took : with_piece arrival y.what ≡ Some (coming a.cargo arrival.source arrival.cap arrival.held wanted)
   pub says : piece_line y.id p wanted ≡ line
-  pub told : told_step pt m y.id p (fits (free_room b pt m) (length a.process.memory / 256)) (plain_process a.process) (sort_of (kind_of y.what)) ≡ Some (Part.Says line ∷ to_kernel (kind_of (pull a.process.pid wanted)) y.id.from.home ∷ [])
-  pub after : after (begun pt m) (line ∷ []) ≡ Some (come_point pt (come_view pt.view m p box pt.view.known asked))
+  pub told : told_step pt m y.id p (fits (free_room b pt m) (length a.process.memory / 256)) (plain_process a.process) (sort_of (kind_of y.what)) ≡ Some (Part.Says line ∷ to_kernel (kind_of (pull a.cargo.pid wanted)) y.id.from.home ∷ [])
+  pub after : after (begun pt m) (line ∷ []) ≡ Some (come_point pt (come_view pt.view m p box pt.view.known asked come))
   pub is_box : box ≡ c.ids
   pub asked_off : (q : Pid) → pid_eq p q ≡ false → asked q ≡ pt.view.asked q
-  pub is_asked : IsAsked a.process (asked p) wanted
+  pub is_asked : IsAsked a.cargo (asked p) wanted
 
 pub turns_piece : (b : Boot) (m : ℕ) (pt : Point) (l : Placed) (records : AllRecords) (k : KernelState) (y : Message) (p : Pid) (c : Comes b m pt l records k y p) (a : Arrives b m pt l k y p) → Piece b m pt l records k y p c a → TurnsAt b m pt l records k
 turns_piece b m pt l records k y p c a h =
     let s = record k { inbox = c.rest } in
-    let now = coming a.process (l.notes p) h.arrival.held h.wanted in
+    let now = coming a.cargo h.arrival.source h.arrival.cap h.arrival.held h.wanted in
     let state : KernelState = machine.with_sent (machine.with_known s p (Record.Incoming now)) in
-    let next = come_point pt (come_view pt.view m p h.box pt.view.known h.asked) in
+    let next = come_point pt (come_view pt.view m p h.box pt.view.known h.asked h.come) in
+    let asks = asks_for a.cargo.pid h.wanted in
+    let expected : (y.id.from.home == h.arrival.source) ≡ true = ap (λ (n : ℕ). n == h.arrival.source) (ap (λ (q : Pid). q.home) a.from ∙ sym h.held.source) ∙ eq_self h.arrival.source in
     turns_answer b m pt l records k y p c a (record {
       line = h.line;
-      what = pull a.process.pid h.wanted;
+      what = pull a.cargo.pid h.wanted;
       state = state;
       box = h.box;
       known = pt.view.known;
       asked = h.asked;
-      turn = turn_kernel b m pt l records k y p c a (Some (record { state = state; parts = part.Says h.line ∷ part.Routes (machine.own k y.sender (pull a.process.pid h.wanted)) ∷ [] }))
-          (h.takes ∙ ap (λ (o : Option machine.KernelKnown). bind (incoming_of o) (takes_piece s y p)) h.is ∙ ap (took_piece s y p) h.took
-          ∙ ap (λ (x : Line). Some (record { state = state; parts = part.Says x ∷ part.Routes (machine.own k y.sender (pull a.process.pid h.wanted)) ∷ [] })) h.says);
-      outcome = outcome_kernel b m pt l records k y p c a (Some (Part.Says h.line ∷ to_kernel (kind_of (pull a.process.pid h.wanted)) y.id.from.home ∷ [])) h.told;
+      come = h.come;
+      turn = turn_kernel b m pt l records k y p c a (Some (record { state = state; parts = part.Says h.line ∷ part.Routes (machine.own k y.sender (pull a.cargo.pid h.wanted)) ∷ [] }))
+          (h.takes ∙ ap (λ (o : Option machine.KernelKnown). hears_piece s y p (incoming_of o)) h.is ∙ ap (λ (d : Bool). if d then takes_piece s y p h.arrival else says_stale s y) expected ∙ ap (took_piece s y p) h.took
+          ∙ ap (λ (x : Line). Some (record { state = state; parts = part.Says x ∷ part.Routes (machine.own k y.sender (pull a.cargo.pid h.wanted)) ∷ [] })) h.says);
+      outcome = outcome_kernel b m pt l records k y p c a (Some (Part.Says h.line ∷ to_kernel (kind_of (pull a.cargo.pid h.wanted)) y.id.from.home ∷ [])) h.told;
       after = h.after;
       is_box = h.is_box;
       known_off = λ n q off. refl;
       known_away = λ n q off. refl;
+      over = λ i t z told between about st off. off;
       asked_off = h.asked_off;
       here = refl;
       records_off = λ q off. ap (λ (d : Bool). if d then Some (Record.Incoming now) else k.records q) off;
@@ -107,19 +132,19 @@ turns_piece b m pt l records k y p c a h =
       made = refl;
       sent = refl;
       servers = refl;
-      room = room_kept b pt m p h.box h.asked l records k y c;
+      room = room_kept b pt m p h.box h.asked h.come l records k y c;
       mine =
           subst (λ (n : Known). KnownStands next l p (pt.view.queue m p) (pt.view.held m p) n (state.records p)) (sym (known_incoming b m pt l k y p a h.late))
           (subst (KnownStands next l p (pt.view.queue m p) (pt.view.held m p) (Incoming a.source)) (sym (set_self k.records p (Record.Incoming now)))
-          (record { process = a.process; there = a.there; whole = h.whole; pieces = refl; held = h.held.held }));
-      between = grind (arith, nat_tests);
-      is_reply = grind (arith, nat_tests);
-      about = (let e_ : about_of (pull a.process.pid h.wanted) ≡ Of a.process.pid = grind (arith, nat_tests) in e_) ∙ ap Of a.named;
-      plain = grind (arith, nat_tests);
-      encloses = grind (arith, nat_tests);
-      gives = λ v i q. grind (arith, nat_tests);
-      carries = subst (λ (o : Option machine.KernelKnown). Carries p a.process (l.notes p) (h.asked p) (incoming_of o) (pull a.process.pid h.wanted)) (sym (set_self k.records p (Record.Incoming now)))
-          (pull_carries p a.process (l.notes p) (h.asked p) h.arrival.held h.wanted a.named h.is_asked);
+          (record { source = h.held.source; cargo = a.cargo; there = a.there; whole = h.held.whole; pieces = refl; held = h.held.held }));
+      between = asks.between;
+      is_reply = asks.back;
+      about = asks.about ∙ ap Of a.named;
+      plain = asks.plain;
+      encloses = asks.encloses;
+      gives = λ v i q. asks.gives pt.kernel v pt.addresses i q;
+      carries = subst (λ (o : Option machine.KernelKnown). Carries p a.cargo (h.asked p) (incoming_of o) (pull a.cargo.pid h.wanted)) (sym (set_self k.records p (Record.Incoming now)))
+          (pull_carries p a.cargo (h.asked p) h.arrival.source h.arrival.cap h.arrival.held h.wanted a.named h.is_asked);
     })
 
 -- A chunk of the state of a process that comes, and a block of its memory.
@@ -128,16 +153,21 @@ turns_piece b m pt l records k y p c a h =
 pub record Before (b : Boot) (m : ℕ) (pt : Point) (l : Placed) (k : KernelState) (y : Message) (p : Pid) (a : Arrives b m pt l k y p) (w : Wanted) : Type 0 where
   pub arrival : Arrival
   pub is : k.records p ≡ Some (Record.Incoming arrival)
-  pub comes_ : ComesStand l p (pt.view.held m p) arrival
-  pub whole : CanMove (record a.process { queue = [] })
-  pub pieces : arrival ≡ coming a.process (l.notes p) arrival.held w
+  pub comes_ : ComesStand l p a.source (pt.view.held m p) arrival
+  pub pieces : arrival ≡ coming a.cargo arrival.source arrival.cap arrival.held w
+  pub process : CanBeCarried arrival.cap a.process
+  pub comes : ComesByPieces a.cargo arrival.source arrival.cap arrival.held
 
 pub before : (b : Boot) (m : ℕ) (pt : Point) (l : Placed) (records : AllRecords) (k : KernelState) (y : Message) (p : Pid) (c : Comes b m pt l records k y p) (a : Arrives b m pt l k y p) (w : Wanted) → is_early (kind_of y.what) ≡ false → Wants (incoming_of (k.records p)) w → Before b m pt l k y p a w
 before b m pt l records k y p c a w late wants =
     let (arrival, is, h) = recorded b pt l m k p (Incoming a.source) c.stands a.server (known_incoming b m pt l k y p a late) in
-    let same : h.process ≡ a.process = some_same h.process a.process (sym h.there ∙ a.there) in
+    let same : h.cargo ≡ a.cargo = same_cargo h.cargo a.cargo (sym h.there ∙ a.there) in
     let is_wanted : arrival.wanted ≡ w = subst (λ (o : Option machine.KernelKnown). Wants (incoming_of o) w) is wants in
-    search (subst (λ (z : Process). CanMove (record z { queue = [] })) same h.whole, h.pieces ∙ (λ i. coming (same i) (l.notes p) arrival.held (is_wanted i)))
+    search (
+      h.pieces ∙ (λ i. coming (same i) arrival.source arrival.cap arrival.held (is_wanted i)),
+      subst (IsSuch (CanBeCarried arrival.cap)) a.is_process h.whole,
+      by_pieces a.cargo arrival.source arrival.cap arrival.held (cargo_comes (l.processes p) (l.notes p) a.cargo arrival.cap a.there h.whole),
+    )
 
 asked_others : (f : Pid → ℕ) (p q : Pid) (n : ℕ) → pid_eq p q ≡ false → at_pid f p n q ≡ f q
 asked_others f p q n off = ap (λ (d : Bool). if d then n else f q) off
@@ -145,30 +175,32 @@ asked_others f p q n off = ap (λ (d : Bool). if d then n else f q) off
 -- a chunk, the last or another
 -- where the lines lead
 state_by : (b : Boot) (m : ℕ) (pt : Point) (l : Placed) (records : AllRecords) (k : KernelState) (y : Message) (p : Pid) (c : Comes b m pt l records k y p) (a : Arrives b m pt l k y p) (chunk : ℕ) (h : Before b m pt l k y p a (Chunk chunk)) (d : Bool)
-    → kind_of y.what ≡ MessageKind.State → kernel_handles b (record k { inbox = c.rest }) y y.what ≡ bind (incoming_of (k.records p)) (takes_piece (record k { inbox = c.rest }) y p)
-    → with_piece h.arrival y.what ≡ Some (coming a.process (l.notes p) h.arrival.held (after_chunk chunk d))
-    → IsAsked a.process (pt.view.asked p + 1) (after_chunk chunk d) → (pt.view.asked p == chunks_of (plain_process a.process)) ≡ d → TurnsAt b m pt l records k
+    → kind_of y.what ≡ MessageKind.State → kernel_handles b (record k { inbox = c.rest }) y y.what ≡ hears_piece (record k { inbox = c.rest }) y p (incoming_of (k.records p))
+    → with_piece h.arrival y.what ≡ Some (coming a.cargo h.arrival.source h.arrival.cap h.arrival.held (after_chunk chunk d))
+    → IsAsked a.cargo (pt.view.asked p + 1) (after_chunk chunk d) → (pt.view.asked p == chunks_of (plain_process a.process)) ≡ d → TurnsAt b m pt l records k
 state_by b m pt l records k y p c a chunk h true is takes took asked test =
     let v = pt.view in
     turns_piece b m pt l records k y p c a (search (
       ap is_early is,
       at_pid v.asked p (v.asked p + 1),
+      v.come,
       ap (λ (k : MessageKind). told_step pt m y.id p (fits (free_room b pt m) (length a.process.memory / 256)) (plain_process a.process) (sort_of k)) is ∙ ap (λ (e : Bool). Some (takes_chunk y.id p e)) test,
-      (let e_ : after (begun pt m) (Line.Migration Stage.StateTaken p ∷ []) ≡ Some (come_point pt (come_view pt.view m p (drop 1 (pt.view.inbox m)) pt.view.known (at_pid pt.view.asked p (pt.view.asked p + 1)))) = refl in e_),
+      (let e_ : after (begun pt m) (Line.Migration Stage.StateTaken p ∷ []) ≡ Some (come_point pt (come_view pt.view m p (drop 1 (pt.view.inbox m)) pt.view.known (at_pid pt.view.asked p (pt.view.asked p + 1)) pt.view.come)) = refl in e_),
       first_gone y.id c.ids (v.inbox m) c.box,
       asked_others,
-      subst (λ (n : ℕ). IsAsked a.process n (Block 0)) (sym (ap (λ (d : Bool). if d then (v.asked p + 1) else v.asked p) (pid_eq-same p))) asked,
+      subst (λ (n : ℕ). IsAsked a.cargo n (Block 0)) (sym (ap (λ (d : Bool). if d then (v.asked p + 1) else v.asked p) (pid_eq-same p))) asked,
     ))
 state_by b m pt l records k y p c a chunk h false is takes took asked test =
     let v = pt.view in
     turns_piece b m pt l records k y p c a (search (
       ap is_early is,
       at_pid v.asked p (v.asked p + 1),
+      v.come,
       ap (λ (k : MessageKind). told_step pt m y.id p (fits (free_room b pt m) (length a.process.memory / 256)) (plain_process a.process) (sort_of k)) is ∙ ap (λ (e : Bool). Some (takes_chunk y.id p e)) test,
       after_piece pt m p y.to.pid y.id (kind_of y.what) is (told_about b m pt l records k y p c a),
       front_gone y.id c.ids (v.inbox m) c.box,
       asked_others,
-      subst (λ (n : ℕ). IsAsked a.process n (Chunk (chunk + 1)))
+      subst (λ (n : ℕ). IsAsked a.cargo n (Chunk (chunk + 1)))
           (sym (ap (λ (d : Bool). if d then (v.asked p + 1) else v.asked p) (pid_eq-same p))) asked,
     ))
 
@@ -177,40 +209,41 @@ turns_state b m pt l records k y p q chunk last bytes c e =
     let a = arrives b m pt l records k y p c in
     let x = a.process in
     let s = record k { inbox = c.rest } in
-    let carried = subst (λ (w : What). Carries p x (l.notes p) (pt.view.asked p) (incoming_of (k.records p)) w) e a.carries in
+    let carried = subst (λ (w : What). Carries p a.cargo (pt.view.asked p) (incoming_of (k.records p)) w) e a.carries in
     let is : kind_of y.what ≡ MessageKind.State = ap kind_of e in
     let h = before b m pt l records k y p c a (Chunk chunk) (ap is_early is) carried.2 in
-    let pieces : ComesByPieces (record x { queue = [] }) (l.notes p) h.arrival.held = by_pieces (record x { queue = [] }) (l.notes p) h.arrival.held h.whole in
-    let chunk_pid : q ≡ x.pid = cc (carried.0) in
-    state_by b m pt l records k y p c a chunk h (is_last (state_of x) chunk) is
-    (ap (kernel_handles b s y) e ∙ ap (λ (z : Pid). bind (incoming_of (k.records z)) (takes_piece s y z)) (chunk_pid ∙ a.named))
-    ((λ i. with_piece (h.pieces i) ((e ∙ carried.0) i)) ∙ pieces.chunk_taken chunk carried.1.1)
-    (chunk_next (is_last (state_of x) chunk) x (pt.view.asked p) chunk refl carried.1 (pieces.after_chunk chunk carried.1.1))
-    (chunk_last x (pt.view.asked p) chunk h.whole.lawful.registers carried.1)
+    let chunk_pid : q ≡ a.cargo.pid = cc (carried.0) in
+    let chunks : (length a.cargo.state + 511) / 512 ≡ chunks_of (plain_process x) = ap (λ (z : Cargo). (length z.state + 511) / 512) (sym a.is_cargo) ∙ chunks_same x h.process.0.lawful.registers in
+    state_by b m pt l records k y p c a chunk h (is_last a.cargo.state chunk) is
+    (ap (kernel_handles b s y) e ∙ ap (λ (z : Pid). hears_piece s y z (incoming_of (k.records z))) (chunk_pid ∙ a.named))
+    ((λ i. with_piece (h.pieces i) ((e ∙ carried.0) i)) ∙ h.comes.chunk_taken chunk carried.1.1)
+    (chunk_next (is_last a.cargo.state chunk) a.cargo (pt.view.asked p) chunk refl carried.1 (h.comes.after_chunk chunk carried.1.1))
+    (chunk_last a.cargo (pt.view.asked p) chunk (chunks_of (plain_process x)) chunks carried.1)
 
 -- a block, another or the last
 memory_by : (b : Boot) (m : ℕ) (pt : Point) (l : Placed) (records : AllRecords) (k : KernelState) (y : Message) (p : Pid) (c : Comes b m pt l records k y p) (a : Arrives b m pt l k y p) (block : ℕ) (h : Before b m pt l k y p a (Block block)) (more : Bool)
-    → kind_of y.what ≡ MessageKind.Memory → kernel_handles b (record k { inbox = c.rest }) y y.what ≡ bind (incoming_of (k.records p)) (takes_piece (record k { inbox = c.rest }) y p)
-    → with_piece h.arrival y.what ≡ Some (coming a.process (l.notes p) h.arrival.held (if more then Block (block + 1) else Nothing)) → IsAsked a.process (pt.view.asked p + 1) (if more then Block (block + 1) else Nothing)
+    → kind_of y.what ≡ MessageKind.Memory → kernel_handles b (record k { inbox = c.rest }) y y.what ≡ hears_piece (record k { inbox = c.rest }) y p (incoming_of (k.records p))
+    → with_piece h.arrival y.what ≡ Some (coming a.cargo h.arrival.source h.arrival.cap h.arrival.held (if more then Block (block + 1) else Nothing)) → IsAsked a.cargo (pt.view.asked p + 1) (if more then Block (block + 1) else Nothing)
     → (pt.view.asked p == pieces_of (plain_process a.process)) ≡ not more → (block + 1 == 0) ≡ false → TurnsAt b m pt l records k
 memory_by b m pt l records k y p c a block h true is takes took asked test later =
     let v = pt.view in
     turns_piece b m pt l records k y p c a (search (
       ap is_early is,
       at_pid v.asked p (v.asked p + 1),
+      v.come,
       ap (λ (e : Bool). if e then Line.Migration Stage.StateTaken p else Line.Proto y.id) later,
       ap (λ (k : MessageKind). told_step pt m y.id p (fits (free_room b pt m) (length a.process.memory / 256)) (plain_process a.process) (sort_of k)) is ∙ ap (λ (e : Bool). Some (takes_block y.id p e)) test,
       after_block pt m p y.to.pid y.id (kind_of y.what) is (told_about b m pt l records k y p c a),
       front_gone y.id c.ids (v.inbox m) c.box,
       asked_others,
-      subst (λ (n : ℕ). IsAsked a.process n (Block (block + 1)))
+      subst (λ (n : ℕ). IsAsked a.cargo n (Block (block + 1)))
           (sym (ap (λ (d : Bool). if d then (v.asked p + 1) else v.asked p) (pid_eq-same p))) asked,
     ))
 memory_by b m pt l records k y p c a block h false is takes took asked test later =
     turns_piece b m pt l records k y p c a (search (
       ap is_early is,
       ap (λ (k : MessageKind). told_step pt m y.id p (fits (free_room b pt m) (length a.process.memory / 256)) (plain_process a.process) (sort_of k)) is ∙ ap (λ (e : Bool). Some (takes_block y.id p e)) test,
-      (let e_ : after (begun pt m) (Line.Migration Stage.MemoryTaken p ∷ []) ≡ Some (come_point pt (come_view pt.view m p (drop 1 (pt.view.inbox m)) pt.view.known pt.view.asked)) = refl in e_),
+      (let e_ : after (begun pt m) (Line.Migration Stage.MemoryTaken p ∷ []) ≡ Some (come_point pt (come_view pt.view m p (drop 1 (pt.view.inbox m)) pt.view.known pt.view.asked (at_pid pt.view.come p true))) = refl in e_),
       first_gone y.id c.ids (pt.view.inbox m) c.box,
     ))
 
@@ -219,16 +252,18 @@ turns_memory b m pt l records k y p q block bytes c e =
     let a = arrives b m pt l records k y p c in
     let x = a.process in
     let s = record k { inbox = c.rest } in
-    let carried = subst (λ (w : What). Carries p x (l.notes p) (pt.view.asked p) (incoming_of (k.records p)) w) e a.carries in
+    let carried = subst (λ (w : What). Carries p a.cargo (pt.view.asked p) (incoming_of (k.records p)) w) e a.carries in
     let is : kind_of y.what ≡ MessageKind.Memory = ap kind_of e in
     let h = before b m pt l records k y p c a (Block block) (ap is_early is) carried.2 in
-    let pieces : ComesByPieces (record x { queue = [] }) (l.notes p) h.arrival.held = by_pieces (record x { queue = [] }) (l.notes p) h.arrival.held h.whole in
-    let block_pid : q ≡ x.pid = cc (carried.0) in
-    memory_by b m pt l records k y p c a block h (nat_lt (block + 1) (length x.memory / 256)) is
-    (ap (kernel_handles b s y) e ∙ ap (λ (z : Pid). bind (incoming_of (k.records z)) (takes_piece s y z)) (block_pid ∙ a.named))
-    ((λ i. with_piece (h.pieces i) ((e ∙ carried.0) i)) ∙ pieces.block_taken block carried.1.1)
-    (asked_after_block x (pt.view.asked p) block carried.1 (pieces.after_block block carried.1.1))
-    (block_last x (pt.view.asked p) block h.whole.lawful.registers (grind (arith, nat_tests, h.whole.lawful)) carried.1) (not_first block)
+    let block_pid : q ≡ a.cargo.pid = cc (carried.0) in
+    let pieces : (length a.cargo.state + 511) / 512 + length a.cargo.memory / 256 ≡ pieces_of (plain_process x) =
+    ap (λ (z : Cargo). (length z.state + 511) / 512 + length z.memory / 256) (sym a.is_cargo) ∙ pieces_same x h.process.0.lawful.registers in
+    let can_come : CanCome a.cargo h.arrival.cap = cargo_comes (l.processes p) (l.notes p) a.cargo h.arrival.cap a.there h.comes_.whole in
+    memory_by b m pt l records k y p c a block h (nat_lt (block + 1) (length a.cargo.memory / 256)) is
+    (ap (kernel_handles b s y) e ∙ ap (λ (z : Pid). hears_piece s y z (incoming_of (k.records z))) (block_pid ∙ a.named))
+    ((λ i. with_piece (h.pieces i) ((e ∙ carried.0) i)) ∙ h.comes.block_taken block carried.1.1)
+    (asked_after_block a.cargo (pt.view.asked p) block carried.1 (h.comes.after_block block carried.1.1))
+    (block_last a.cargo (pt.view.asked p) block (pieces_of (plain_process x)) pieces can_come.whole carried.1) (not_first block)
   where
     not_first : (n : ℕ) → (n + 1 == 0) ≡ false
     not_first n = grind (arith, nat_tests)

@@ -1,10 +1,9 @@
 -- A process that has come goes on: it is here, at the ring's back, and what was held for it comes before the inbox.
-use Rattle.dm_mirror.proofs.Names.{takes_room}
-use Rattle.dm_mirror.proofs.Names.{◌≡◌, ◌≢◌, ℕ, ◌+◌, ◌/◌, ◌≤◌, ◌==◌, Bool, true, false, List, [], ◌∷◌, ◌++◌, length, map, refl, ap, ◌∙◌, sym, subst, inl, inr, arith, if◌then◌else◌, Option, Some, cases_Bool, nat_tests}
-use Rattle.dm_mirror.proofs.Names.{false≢true, Pid, pid_eq, Message, MsgId, What, Record, Line, Stage, MessageKind, kind_of, incoming_of, with_record, Nothing, restarted, ComesByPieces, by_pieces, Boot, bind, plain_process}
-use Rattle.dm_mirror.proofs.Names.{pid_eq-is, pid_eq-same, told_step, Moves, is_early, knows, Point, moved, fits, free_room, at_machine, Spot, Held, Inbox, standing, times, Known, Here}
-use Rattle.dm_mirror.proofs.Names.{Of, View, once_at, times-append, is_server, has_no_queue, Placed, restarted_mirrors, mirrors_view, restarts, restarts_as, kernel_handles, KernelState, AreMessages}
-use Rattle.dm_mirror.proofs.Names.{KnownStands, AllRecords, Carries, least_of, at_record_at, Outcome, Arrival, tells_asker, Told, is_between, sort_of, drop}
+use Rattle.dm_mirror.proofs.Names.{takes_room, ◌≡◌, ◌≢◌, ℕ, ◌+◌, ◌/◌, ◌≤◌, ◌==◌, Bool, true, false, List, [], ◌∷◌, ◌++◌, length, map, refl, ap, ◌∙◌, sym, subst, inl, inr, arith, if◌then◌else◌, Option, Some, cases_Bool, nat_tests}
+use Rattle.dm_mirror.proofs.Names.{false≢true, Pid, pid_eq, Message, MsgId, What, Record, Line, Stage, MessageKind, kind_of, incoming_of, with_record, Nothing, Boot, bind, plain_process, pid_eq-is, pid_eq-same, told_step, Moves, is_early}
+use Rattle.dm_mirror.proofs.Names.{knows, Point, moved, fits, free_room, at_machine, Spot, Held, Inbox, standing, times, Known, Here, Of, View, once_at, times-append, is_server, has_no_queue, Placed, restarted_mirrors, mirrors_view}
+use Rattle.dm_mirror.proofs.Names.{restarts, restarts_as, kernel_handles, KernelState, AreMessages, KnownStands, AllRecords, Carries, least_of, at_record_at, Outcome, Arrival, tells_asker, Told, is_between, sort_of, drop, Cargo, LeftStands}
+use Rattle.dm_mirror.proofs.Names.{is_due_piece, pulls_piece}
 use Rattle.dm_rule.proofs.Names.{Part}
 use Rattle.dm_places.specs.PlacedStep.{with_process}
 use Rattle.dm_mirror.proofs.Leave.Answered.{EndsMove, ends_move_row}
@@ -18,11 +17,12 @@ use Rattle.dm_mirror.proofs.Handle.Taking.{machine_off, record_off as record_awa
 use Rattle.dm_mirror.proofs.Leave.Asks.{room_stays, taken_at_record}
 use Rattle.dm_mirror.proofs.Leave.Fronts.{records_as, tokens_one}
 use Rattle.dm_migrate.specs.Way as way
-use Rattle.dm_onekernel.specs.Step as kernel
-use Rattle.dm_rule.specs.Rule as group
 use Rattle.dm_kernel.specs.declared.part.Part.TheVariants as part
 use Rattle.dm_kernel.specs.State as machine
 use Rattle.dm_rule.specs.Migrating as migrating
+use Rattle.dm_mirror.proofs.Cargoes.{comes_again}
+use Rattle.dm_mirror.proofs.Handle.Taking.{some_same}
+use Rattle.dm_mirror.proofs.LeftOver.{brings_on, left_keeps, left_told, over_is, piece_only, record_apart, record_kept, still_over}
 
 abbrev pub back_point : Point → ℕ → Pid → Point
 back_point pt m p = moved (begun pt m) (Line.Migration Stage.Restarted p) pt.kernel
@@ -47,7 +47,7 @@ inbox_back : (v : View) (m n : ℕ) (p : Pid) (j : MsgId) (d : Bool) → (m == n
 inbox_back v m n p j d e = grind (arith, nat_tests, times-append, machine_self)
 
 back_standing : (pt : Point) (m : ℕ) (p : Pid) (j : MsgId) (z : Spot)
-    → standing (back_point pt m p).view j z ≤ standing (come_view pt.view m p (drop 1 (pt.view.inbox m)) pt.view.known pt.view.asked) j z + standing pt.view j (Held m p)
+    → standing (back_point pt m p).view j z ≤ standing (come_view pt.view m p (drop 1 (pt.view.inbox m)) pt.view.known pt.view.asked pt.view.come) j z + standing pt.view j (Held m p)
 back_standing pt m p j z = grind (arith, nat_tests, held_fewer, inbox_back)
 
 -- what stands then stood before, and no message of its migration stands
@@ -56,24 +56,35 @@ back_stood : (b : Boot) (m : ℕ) (pt : Point) (l : Placed) (records : AllRecord
 back_stood b m pt l records k y p c i z st =
     let v = pt.view in
     let box = drop 1 (v.inbox m) in
-    elim (least_of (standing (come_view v m p box v.known v.asked) i z) (standing v i (Held m p)) (omega (arith, back_standing pt m p i z, st))) [
-      | inl e ↦ (z, (let f = fewer v m p c.ids box v.known v.asked y.id i z c.box (first_gone y.id c.ids (v.inbox m) c.box) in omega (arith, e, f)))
+    elim (least_of (standing (come_view v m p box v.known v.asked v.come) i z) (standing v i (Held m p)) (omega (arith, back_standing pt m p i z, st))) [
+      | inl e ↦ (z, (let f = fewer v m p c.ids box v.known v.asked v.come y.id i z c.box (first_gone y.id c.ids (v.inbox m) c.box) in omega (arith, e, f)))
       | inr e ↦ (Held m p, e)
     ]
 
-none_back : (b : Boot) (m : ℕ) (pt : Point) (l : Placed) (records : AllRecords) (k : KernelState) (y : Message) (p : Pid) (c : Comes b m pt l records k y p) (a : Arrives b m pt l k y p) (i : MsgId) (t : Told) (z : Spot)
-    → pt.view.told i ≡ Some t → is_between t.kind ≡ true → t.about ≡ Of p → 1 ≤ standing (back_point pt m p).view i z → ⊥
-none_back b m pt l records k y p c a i t z told between about st =
+-- of its migrations only pieces that are left over stand then
+left_back : (b : Boot) (m : ℕ) (pt : Point) (l placed : Placed) (records : AllRecords) (k : KernelState) (y : Message) (p : Pid) (c : Comes b m pt l records k y p) (a : Arrives b m pt l k y p) (i : MsgId) (t : Told) (z : Spot)
+    → pt.view.told i ≡ Some t → is_between t.kind ≡ true → t.about ≡ Of p → 1 ≤ standing (back_point pt m p).view i z → placed.bag i ≡ l.bag i → (is_due_piece (back_point pt m p).view p i t ≡ false) × LeftStands placed p i
+left_back b m pt l placed records k y p c a i t z told between about st bag =
     let v = pt.view in
     let box = drop 1 (v.inbox m) in
     let (where_, least) = back_stood b m pt l records k y p c i z st in
-    let mine : Some y.id ≡ Some i = a.phase.alone i t where_ told between about least in
-    let is : y.id ≡ i = cc in
-    let one = once_at (standing v y.id) (Inbox m) (own_once b pt y.id (Inbox m) c.run a.unplain a.mine a.first) a.first in
-    let none : standing (come_view v m p box v.known v.asked) i z ≡ 0 =
-    ap (λ (j : MsgId). standing (come_view v m p box v.known v.asked) j z) (sym is) ∙ gone v m p c.ids box v.known v.asked y.id z c.box (first_gone y.id c.ids (v.inbox m) c.box) one.0 one.1 in
-    let held : standing v i (Held m p) ≡ 0 = ap (λ (j : MsgId). standing v j (Held m p)) (sym is) ∙ one.1 (Held m p) (λ x. cc) in
-    omega (arith, back_standing pt m p i z, none, held, st)
+    elim (a.phase.alone i t where_ told between about least) [
+      | inl mine ↦
+          let is : y.id ≡ i = some_same y.id i mine in
+          let one = once_at (standing v y.id) (Inbox m) (own_once b pt y.id (Inbox m) c.run a.unplain a.mine a.first) a.first in
+          let none : standing (come_view v m p box v.known v.asked v.come) i z ≡ 0 =
+          ap (λ (j : MsgId). standing (come_view v m p box v.known v.asked v.come) j z) (sym is) ∙ gone v m p c.ids box v.known v.asked v.come y.id z c.box (first_gone y.id c.ids (v.inbox m) c.box) one.0 one.1 in
+          let held : standing v i (Held m p) ≡ 0 = ap (λ (j : MsgId). standing v j (Held m p)) (sym is) ∙ one.1 (Held m p) (λ x. cc) in
+          absurd (omega (arith, back_standing pt m p i z, none, held, st))
+      | inr left ↦
+          let off = over_is v p (Moves (kind_of y.what) a.source m (Some y.id)) i t a.phase left in
+          let was = (c.tokens p i t where_ told between about least).1 off in
+          let brings = piece_only v p (kind_of y.what) a.source m (Some y.id) i t a.on left in (
+            still_over v (back_point pt m p).view p i t off (λ n from waits. record_kept v.known m p p Here (λ d. refl) n from waits),
+            left_keeps l placed p i was
+                (λ asks. absurd (false≢true (sym (brings_on t.kind brings).2 ∙ ap (λ (u : Told). pulls_piece (sort_of u.kind)) (left_told v l p i t was c.own told) ∙ asks))) (bag ∙ was.is),
+          )
+    ]
 
 pub turns_restart : (b : Boot) (m : ℕ) (pt : Point) (l : Placed) (records : AllRecords) (k : KernelState) (y : Message) (p : Pid) (q : Pid) → Comes b m pt l records k y p → y.what ≡ What.Restart q → TurnsAt b m pt l records k
 turns_restart b m pt l records k y p q c e =
@@ -81,12 +92,11 @@ turns_restart b m pt l records k y p q c e =
     let a = arrives b m pt l records k y p c in
     let x = a.process in
     let s = record k { inbox = c.rest } in
-    let carried = subst (λ (w : What). Carries p x (l.notes p) (v.asked p) (incoming_of (k.records p)) w) e a.carries in
+    let carried = subst (λ (w : What). Carries p a.cargo (v.asked p) (incoming_of (k.records p)) w) e a.carries in
     let is : kind_of y.what ≡ MessageKind.Restart = ap kind_of e in
     let late : is_early (kind_of y.what) ≡ false = ap is_early is in
     let h = before b m pt l records k y p c a Nothing late carried.1 in
     let incoming = known_incoming b m pt l k y p a late in
-    let pieces : ComesByPieces (record x { queue = [] }) (l.notes p) h.arrival.held = by_pieces (record x { queue = [] }) (l.notes p) h.arrival.held h.whole in
     let state : KernelState = record s { records = with_record k.records p (Record.Here (way.moved x)); ring = k.ring ++ p ∷ []; inbox = h.arrival.held ++ c.rest } in
     let next = back_point pt m p in
     let placed = with_process l p (Some (way.moved x)) in
@@ -106,13 +116,13 @@ turns_restart b m pt l records k y p q c e =
       | inr apart ↦ set r apart
     ] in
     let line = Line.Migration Stage.Restarted p in
-    let asker : h.arrival.asker ≡ l.notes p = ap (λ (z : Arrival). z.asker) h.pieces in
+    let asker : h.arrival.asker ≡ l.notes p = ap (λ (z : Arrival). z.asker) h.pieces ∙ ap (λ (z : Cargo). z.asker) (sym a.is_cargo) in
     -- where messages stand then
     let back_box : v.held m p ++ at_machine v.inbox m (drop 1 (v.inbox m)) m ≡ v.held m p ++ c.ids = ap (λ (xs : List MsgId). v.held m p ++ xs) (machine_self v.inbox m (drop 1 (v.inbox m)) ∙ first_gone y.id c.ids (v.inbox m) c.box) in
     let ends : EndsMove b m pt l records k p line state next.view placed = record {
       run = c.run;
       said = refl;
-      mirrors = restarted_mirrors (begun pt m) l p x (mirrors_view pt.kernel v (begun pt m).view pt.addresses l refl c.mirrors) a.there;
+      mirrors = restarted_mirrors (begun pt m) l p x (mirrors_view pt.kernel v (begun pt m).view pt.addresses l refl c.mirrors) a.is_process;
       kernel = stands_set b pt next l placed m k state p (search (others, set, record_others, mine, keeps)) stands
           (ap (λ ring. ring ++ p ∷ []) stands.ring ∙ sym (machine_self v.ring m (v.ring m ++ p ∷ [])))
           (subst (λ (is : List MsgId). AreMessages l.bag is (h.arrival.held ++ c.rest)) (sym (machine_self front m (v.held m p ++ front m) ∙ back_box))
@@ -122,9 +132,16 @@ turns_restart b m pt l records k y p q c e =
       elsewhere = search (boxes, machine_off, record_away, processes);
       own = λ i z f plain. let g = c.own i z f plain in record { told = g.told; mine = g.mine; sender = g.sender };
       tokens = tokens_one v next.view l placed records (at_machine records m state.records) p (record {
-        stays = search (set, λ (n : ℕ) (r : Pid) (off : pid_eq p r ≡ false). records_as records m n k.records state.records r c.mine (others r off));
+        stays = record {
+          told = refl;
+          asked = λ r off. refl;
+          processes = set;
+          notes = λ r off. refl;
+          records = λ n r off. records_as records m n k.records state.records r c.mine (others r off);
+          known = λ n r off. record_apart v.known m n p r Here off;
+        };
         came = λ i t z told between st. (back_stood b m pt l records k y p c i z st, refl);
-        none = none_back b m pt l records k y p c a;
+        left = λ i t z told between about st. left_back b m pt l placed records k y p c a i t z told between about st refl;
       }) c.tokens;
       process = way.moved x;
       is = there;
@@ -132,13 +149,13 @@ turns_restart b m pt l records k y p q c e =
       server = a.server;
       alone = λ n off. not_elsewhere b m pt l k y p a n is off;
       stood = back_stood b m pt l records k y p c;
-      none = none_back b m pt l records k y p c a;
+      left = λ i t z told between about st. left_back b m pt l placed records k y p c a i t z told between about st refl;
     } in
     ends_move_row b m pt l records k p line state next.view placed ends Outcome.Done (l.notes p) refl (λ n. refl)
     (turn_kernel b m pt l records k y p c a (Some (record { state = state; parts = part.Says line ∷ tells_asker m (way.moved x) Outcome.Done (l.notes p) }))
     (ap (kernel_handles b s y) e ∙ ap (λ (z : Pid). bind (incoming_of (k.records z)) (restarts s z)) carried.0
     ∙ ap (λ (o : Option machine.KernelKnown). bind (incoming_of o) (restarts s p)) h.is
-    ∙ ap (restarts_as s p h.arrival) (ap restarted h.pieces ∙ pieces.whole)
+    ∙ ap (restarts_as s p h.arrival) (comes_again l p a.source (v.held m p) h.arrival x a.is_process (ap (λ (z : Arrival). z.wanted) h.pieces) h.comes_)
     ∙ (λ i. Some (record { state = state; parts = part.Says line ∷ tells_asker (stands.here i) (way.moved x) Outcome.Done (asker i) }))))
     (outcome_kernel b m pt l records k y p c a (Some (Part.Says line ∷ migrating.tells_asker (pt.kernel.notes p) Outcome.Done))
     (ap (λ (k : MessageKind). told_step pt m y.id p (fits (free_room b pt m) (length x.memory / 256)) (plain_process x) (sort_of k)) is))

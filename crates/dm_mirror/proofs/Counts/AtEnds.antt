@@ -1,9 +1,8 @@
 -- What a group may do to counts: raise them and route a message, put a message of a kernel's own, or restart a process.
-use Rattle.dm_mirror.proofs.Names.{false≢true}
-use Rattle.dm_mirror.proofs.Names.{Run, ◌≡◌, ◌⊎◌, inl, inr, ℕ, ◌+◌, ◌≤◌, ◌==◌, Bool, true, false, List, [], ◌∷◌, length, refl, ap, ◌∙◌, sym, subst, arith, if◌then◌else◌, Option, None, Some, Pid, MsgId, MessageKind, plain_kind, Label}
-use Rattle.dm_mirror.proofs.Names.{OneKernel, bind-is, Line, Stage, Load, Receiver, Says, Routes, Again, Owns, Transmits, Spelled, goes_out, packet_line, puts, spelled, Point, after, kernel_after, label_of, moved, View, own_id, view_after}
-use Rattle.dm_mirror.proofs.Names.{onward, said, says_next, transmits_next, ◌++◌, ⊤, slice_get, PlainMessage, Boot, manager, Step, migrates, sends_on, to_kernel, updates, outcome, About, Told, actor, arrives_net, resends_net, by_migrates}
-use Rattle.dm_mirror.proofs.Names.{by_hears, nat_tests, Outcome, MoveNote, leaves_for, seen}
+use Rattle.dm_mirror.proofs.Names.{false≢true, Run, ◌≡◌, ◌⊎◌, inl, inr, ℕ, ◌+◌, ◌≤◌, ◌==◌, Bool, true, false, List, [], ◌∷◌, length, refl, ap, ◌∙◌, sym, subst, arith, if◌then◌else◌, Option, None, Some, Pid, MsgId, MessageKind, plain_kind}
+use Rattle.dm_mirror.proofs.Names.{Label, OneKernel, bind-is, Line, Stage, Load, Receiver, Says, Routes, Again, Owns, Transmits, Spelled, goes_out, packet_line, puts, spelled, Point, after, kernel_after, label_of, moved, View, own_id}
+use Rattle.dm_mirror.proofs.Names.{view_after, onward, said, says_next, transmits_next, ◌++◌, ⊤, slice_get, PlainMessage, Boot, manager, Step, migrates, sends_on, to_kernel, updates, outcome, About, Told, actor, arrives_net, resends_net}
+use Rattle.dm_mirror.proofs.Names.{by_migrates, by_hears, nat_tests, Outcome, MoveNote, leaves_for, seen, by_calls_off}
 use Rattle.dm_rule.proofs.Names.{Part}
 use Rattle.dm_rule.specs.Migrating.{tells_asker}
 use Rattle.dm_rule.specs.Rule as rule
@@ -65,7 +64,8 @@ sort_of pt m (Some ps) h = h ps refl
 
 hears_sort : (b : Boot) (pt : Point) (m : ℕ) (i : MsgId) (is : List MsgId) (o : Option Told) → pt.view.inbox m ≡ i ∷ is → pt.view.told i ≡ o → SortIf pt m (rule.hears b pt m i o)
 hears_sort b pt m i is o box told = sort_of pt m (rule.hears b pt m i o) (λ ps. by_hears (Sort pt m) b pt m i o ps (λ t there. record {
-  told = λ p x about alive. record {
+  stale = λ p about late. mute pt m (Says (Line.Stale i) ∷ []) (refl, refl, tt);
+  told = λ p x about alive due. record {
     accepted = λ ask. Bears (refl, tt) tt;
     lacks = λ slots blocks. mute pt m (Says (Line.Lacks p slots blocks) ∷ to_kernel MessageKind.Refuse i.from.home ∷ []) (refl, refl, tt);
     stays = λ kind none. mute pt m (Says (Line.Stays p) ∷ []) (refl, refl, tt);
@@ -107,6 +107,10 @@ outcome_sort b pt (Step.Deliver a c k) run =
     let there = slice_get (pt.view.pair a c).wire k in
     Pays (net_paid (rule.arrives a c (pt.view.pair a c) (pt.view.pair c a) there) pt.kernel (arrives_net a c (pt.view.pair a c) (pt.view.pair c a) there))
 outcome_sort b pt (Step.Migrate p m) run = mute pt 0 (migrates pt p) (by_migrates AreMute pt p (refl, refl, tt) (refl, refl, tt) (λ n off is. tt))
+outcome_sort b pt (Step.CallOff p m) run =
+    let calls : ℕ → List Part = λ from. to_kernel MessageKind.CallOff from ∷ [] in
+    by_calls_off (Sort pt m) pt m p (mute pt m (Says (Line.NoCall p) ∷ []) (refl, refl, tt))
+    (λ from is come. Bears (refl, sends_bear from (pt.view.held m p) (calls from) tt) (sends_own from (pt.view.held m p) (calls from) tt))
 
 -- Where a group ends: what was routed, how high its counts are, and what has moved.
 

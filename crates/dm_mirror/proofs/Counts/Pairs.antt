@@ -1,16 +1,17 @@
 -- Which lines leave what has moved, comes or has gone on.
-use Rattle.dm_mirror.proofs.Names.{◌≡◌, ◌≢◌, ◌⊎◌, inl, inr, ℕ, ◌+◌, ◌<◌, ◌≤◌, ◌==◌, ◌&&◌, Bool, true, false, List, [], ◌∷◌, ◌++◌, length, drop, refl, ap, ◌∙◌, sym, subst, arith, if◌then◌else◌, slice_get, Option, None, Some}
-use Rattle.dm_mirror.proofs.Names.{cases_Bool, false≢true, nat_tests, Pid, MsgId, MessageKind, plain_kind, PlainMessage, Boot, id_eq-same, bind-is, Step, Line, Load, Receiver, IsStep, Says, Routes, Again, Owns, Transmits, Spelled, goes_out}
-use Rattle.dm_mirror.proofs.Names.{packet_line, puts, spelled, Point, after, moved, group_of, Spot, Untaken, standing, times, View, Pair, after_put, gone_after, is_kernels, own_id, view_after, routed_on, migrates, to_of}
-use Rattle.dm_mirror.proofs.Names.{machine_of, Pairs, pair_stands, IsNet, IsNetLine, arrives_net, group_is, resends_net, stands_right, AllFit, onward, pair_same, migrates_fit, turns_fit, said, says_next, transmits_next, Run, told_there}
-use Rattle.dm_mirror.proofs.Names.{cases_zero, own_by, taken_pair, OneKernel, after_line, kernel_after, label_of, is_own, hushed, is_put, Stage, Label, About, first_number, Alive, PlainProcess}
-use Rattle.dm_mirror.proofs.Names.{proto_acting, queued_acting, held_acting, forwarded_acting, acting_label, seen}
+use Rattle.dm_mirror.proofs.Names.{◌≡◌, ◌≢◌, ◌⊎◌, inl, inr, ℕ, ◌+◌, ◌<◌, ◌≤◌, ◌==◌, ◌&&◌, Bool, true, false, List, [], ◌∷◌, ◌++◌, length, drop, refl, ap, ◌∙◌, sym, subst, arith, if◌then◌else◌, slice_get, Option, None, Some, cases_Bool}
+use Rattle.dm_mirror.proofs.Names.{false≢true, nat_tests, Pid, MsgId, MessageKind, plain_kind, PlainMessage, Boot, id_eq-same, bind-is, Step, Line, Load, Receiver, IsStep, Says, Routes, Again, Owns, Transmits, Spelled, goes_out}
+use Rattle.dm_mirror.proofs.Names.{packet_line, puts, spelled, Point, after, moved, group_of, Spot, Untaken, standing, times, View, Pair, after_put, gone_after, is_kernels, own_id, view_after, routed_on, migrates, to_of, machine_of, Pairs}
+use Rattle.dm_mirror.proofs.Names.{pair_stands, IsNet, IsNetLine, arrives_net, group_is, resends_net, stands_right, AllFit, onward, pair_same, migrates_fit, turns_fit, said, says_next, transmits_next, Run, told_there, cases_zero, own_by}
+use Rattle.dm_mirror.proofs.Names.{taken_pair, OneKernel, after_line, kernel_after, label_of, is_own, hushed, is_put, Stage, About, first_number, Alive, PlainProcess, proto_acting, queued_acting, held_acting, forwarded_acting, acting_label}
+use Rattle.dm_mirror.proofs.Names.{seen, calls_off_fit}
 use Rattle.dm_rule.proofs.Names.{Part, marked}
 use Rattle.dm_rule.proofs.Lines.{parts}
 pub use Rattle.dm_rule.proofs.Lines.{eq_is as same_of}
 use Rattle.dm_mirror.proofs.Totals.{ids_of, Grows, line_grows, put_adds, total, total_adds, total_grows}
 pub use Rattle.dm_mirror.proofs.Puts.{ids_if as set_ids}
 use Rattle.dm_rule.specs.Rule as rule
+use Rattle.dm_rule.specs.Migrating as migrating
 use Rattle.dm_rule.specs.View as view
 
 -- a process comes, has gone on or moves again by these alone
@@ -18,6 +19,7 @@ abbrev pub is_free : Line → Bool
 is_free (Line.Migration Stage.Accepted p) = false
 is_free (Line.Migration Stage.Left p) = false
 is_free (Line.Migration Stage.Restarted p) = false
+is_free (Line.Called p n) = false
 is_free _ = true
 
 -- no step of the kernel, and no process has moved
@@ -289,3 +291,10 @@ within_group b pt (Step.Migrate p m) w n some same after_ fit e pairs run h =
     let start = moved pt (Line.Head (Step.Migrate p m)) pt.kernel in
     let fresh = fresh_parts (migrates pt p) pt.view.pair pt.view 0 start g.rest (migrates_fit pt.view.pair pt p) (ap (spelled start) f ∙ g.said) (fresh_start pt.view start.view 0 refl refl pairs) in
     fresh_within b pt.view 0 n w.point after_ some run (subst (λ (q : Point). Fresh pt.view 0 q.view) g.point fresh) h
+within_group b pt (Step.CallOff p m) w n some same after_ fit e pairs run h =
+    let g = group_is b pt (Step.CallOff p m) w e in
+    let qs = migrating.calls_off pt m p (pt.view.known m p) in
+    let f : qs ≡ g.parts = let k = g.is in cc in
+    let start = moved pt (Line.Head (Step.CallOff p m)) pt.kernel in
+    let fresh = fresh_parts qs pt.view.pair pt.view m start g.rest (calls_off_fit pt.view.pair pt m p) (ap (spelled start) f ∙ g.said) (fresh_start pt.view start.view m refl refl pairs) in
+    fresh_within b pt.view m n w.point after_ fit run (subst (λ (q : Point). Fresh pt.view m q.view) g.point fresh) h

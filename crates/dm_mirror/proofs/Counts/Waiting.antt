@@ -1,9 +1,9 @@
 -- What waits for a process was routed: it is no more than all that was.
 use Rattle.dm_mirror.proofs.Names.{◌≡◌, ◌≢◌, inl, inr, ℕ, zero, suc, ◌+◌, ◌<◌, ◌≤◌, ◌==◌, ◌&&◌, Bool, true, false, List, [], ◌∷◌, ◌++◌, length, is_some, refl, ap, ◌∙◌, sym, subst, arith, if◌then◌else◌, Option, Some, cases_Bool, false≢true}
-use Rattle.dm_mirror.proofs.Names.{nat_tests, Pid, id_eq, MsgId, MessageKind, Boot, id_eq-is, id_eq-same, Line, Point, Held, Queue, standing, times, View, Pair, Told, after_put, first_told, first_view, routed_on}
-use Rattle.dm_mirror.proofs.Names.{view_after, hushed, is_put, StandsAsBag-elsewhere, StandsAsBag-one, times-append, letters, Run, cases_zero, last_there, ◌*◌, map, option_map, slice_get, None, pid_eq, plain_link, BootImage, BootProcess}
-use Rattle.dm_mirror.proofs.Names.{IsValid, processes_are_valid, starting_at, Alive, life_at, first_point, Known, known_at, room_from, pid_eq-is, Phase, Rests, kind_comes, is_between, knows, kind_leaves, at_pid, at_record, rests_here}
-use Rattle.dm_mirror.proofs.Names.{InPhases, stands_first}
+use Rattle.dm_mirror.proofs.Names.{nat_tests, Pid, id_eq, MsgId, MessageKind, Boot, id_eq-is, id_eq-same, Line, Point, Held, Queue, standing, times, View, Pair, Told, after_put, first_told, first_view, routed_on, view_after, hushed, is_put}
+use Rattle.dm_mirror.proofs.Names.{StandsAsBag-elsewhere, StandsAsBag-one, times-append, letters, Run, cases_zero, last_there, ◌*◌, map, option_map, slice_get, None, pid_eq, plain_link, BootImage, BootProcess, IsValid, processes_are_valid}
+use Rattle.dm_mirror.proofs.Names.{starting_at, Alive, life_at, first_point, Known, known_at, room_from, pid_eq-is, Phase, Rests, kind_comes, is_between, knows, kind_leaves, at_pid, at_record, rests_here, InPhases, stands_first, sort_of}
+use Rattle.dm_mirror.proofs.Names.{is_piece}
 use Rattle.dm_laws.proofs.Names.{begun}
 use Rattle.std.proofs.Common.{length-append}
 use Rattle.dm_mirror.proofs.Counts.Pairs.{line_ids, same_of, PairsWithin, Still}
@@ -13,6 +13,7 @@ use Rattle.dm_mirror.proofs.Machines.{few_machines}
 use Rattle.dm_mirror.proofs.Numbering.{listed, one_if}
 use Rattle.dm_mirror.proofs.Raises.{sent_of}
 use Rattle.dm_mirror.proofs.May.OwnKernel.{is_moved}
+use Rattle.dm_mirror.proofs.LeftOver.{plainly_due}
 
 -- whatever was told of was routed
 pub record IsRouted (v : View) (i : MsgId) : Type 0 where
@@ -175,7 +176,7 @@ incoming_from s n e = grind (arith, nat_tests)
 
 may_move : (b : Boot) (pt : Point) (m : ℕ) (p : Pid) (n : ℕ) → Run b pt → FrontRestarts pt m p → MovesFew n pt.view → pt.view.moves p + 1 ≤ total pt.view n
 may_move b pt m p n run f h =
-    let c = is_moved b pt m f.id f.told p run f.told_is (ap is_between f.kind_is) f.about (stands_first pt.view m f.id f.rest f.box) in
+    let c = is_moved b pt m f.id f.told p run f.told_is (ap is_between f.kind_is) f.about (stands_first pt.view m f.id f.rest f.box) (plainly_due pt.view p f.id f.told (ap (λ (k : MessageKind). is_piece (sort_of k)) f.kind_is)) in
     let (k, j, at_s) = forward_at c.d (pt.view.known c.s p) (ap (λ (x : MessageKind). kind_leaves x c.d (pt.view.known c.s p)) (sym f.kind_is) ∙ c.source) in
     h.moving p c.d c.s k j (incoming_from c.s (pt.view.known c.d p) (ap (λ (x : MessageKind). kind_comes x c.s (pt.view.known c.d p)) (sym f.kind_is) ∙ c.destination)) at_s
 

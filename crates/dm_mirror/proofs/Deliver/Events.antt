@@ -1,10 +1,8 @@
 -- What each event of a delivery makes of a pair: its stream, its wire, and what the lines say of it.
-use Rattle.dm_mirror.proofs.Names.{drop-map}
-use Rattle.dm_mirror.proofs.Names.{◌≡◌, ℕ, zero, suc, ◌+◌, ◌-◌, ◌<◌, max, List, [], ◌∷◌, map, drop, refl, ap, ◌∙◌, sym, subst, arith, slice_get, option_map, Option, Some, nat_tests, slice_get-map, Message, MsgId}
-use Rattle.dm_mirror.proofs.Names.{with_acked, kept_once, advanced, next, Data, Ack, load_at, Stream, Deliver, TakeKept, Acknowledge, DeliverBack, OtherAck, happens}
-use Rattle.dm_mirror.proofs.Names.{get-drop, drop-more, Sent, Boot, Pair, at_least, has, AreMessages, bytes_of, line_of, is_some, Receiving, kept_under, StreamStands-happens}
-use Rattle.dm_mirror.proofs.Names.{◌==◌, ◌&&◌, Bool, not, filter, nat_lt, length, if◌then◌else◌, moved_up, arrival, after_arrival, after_next, Old, Early, place-moved_up, place-kept_same}
-use Rattle.dm_mirror.proofs.Names.{place-kept_other, eq_not, marked}
+use Rattle.dm_mirror.proofs.Names.{drop-map, ◌≡◌, ℕ, zero, suc, ◌+◌, ◌-◌, ◌<◌, max, List, [], ◌∷◌, map, drop, refl, ap, ◌∙◌, sym, subst, arith, slice_get, option_map, Option, Some, nat_tests, slice_get-map, Message, MsgId, with_acked}
+use Rattle.dm_mirror.proofs.Names.{kept_once, advanced, next, Data, Ack, load_at, Stream, Deliver, TakeKept, Acknowledge, DeliverBack, OtherAck, happens, get-drop, drop-more, Sent, Boot, Pair, at_least, has, AreMessages, bytes_of, line_of}
+use Rattle.dm_mirror.proofs.Names.{is_some, Receiving, kept_under, StreamStands-happens, ◌==◌, ◌&&◌, Bool, not, filter, nat_lt, length, if◌then◌else◌, moved_up, arrival, after_arrival, after_next, Old, Early, place-moved_up}
+use Rattle.dm_mirror.proofs.Names.{place-kept_same, place-kept_other, eq_not, marked}
 use Rattle.dm_stream.specs.Packets.{Packet, Load}
 use Rattle.dm_stream.specs.Stream.{arrives, hears}
 use Rattle.dm_stream.specs.declared.receiver.Arrived.TheVariants.{Taken}

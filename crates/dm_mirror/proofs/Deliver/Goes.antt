@@ -1,11 +1,10 @@
 -- The delivery of a packet: the machines do what the rule says.
 use Rattle.dm_mirror.proofs.Names.{Early, Old, after_line, arrival, PairStands, stream_of, ◌≡◌, ◌≢◌, ℕ, ◌+◌, ◌-◌, ◌<◌, ◌≤◌, List, [], ◌∷◌, length, refl, ap, ◌∙◌, sym, subst, arith, Some, Message, Sending, with_acked, Receiving}
-use Rattle.dm_mirror.proofs.Names.{after_arrival, Arrived, Data, Ack, load_at, after_mark, Boot, nat_tests, Line, at_pair, Pair, oldest, at_least, Point, moved, has, kept_from, less, numbers_from, repeats, taken_pair, Placed}
-use Rattle.dm_mirror.proofs.Names.{NodeState, here, with_message, with_receiver, with_sender, acknowledges, before, lets_go, takes_kept, then_acknowledges, WorldState, History, StandsWith, less-right, ◌^◌, slice_get, option_map, Ok}
-use Rattle.dm_mirror.proofs.Names.{Option, slice_get-map, Packet, packet_of, spelling, packet_again, bytes_at, line_of, nat_le, nat_lt, true, drop, Result, PacketError, ◌>>=◌, IsRoute, only_packet, message, read_rest, spell_message}
-use Rattle.dm_mirror.proofs.Names.{IsField-number, guard_ok, outstanding}
-use Rattle.dm_mirror.proofs.Names.{MayCome-stands, get-drop, IsValid, IsReadable, zero, suc, eqb_tells, bind-is, MsgId, next, due, bind, Spelled, packet_line, spelled, after, at_machine, View, view_after, IsNet, IsNetLine, comes_in}
-use Rattle.dm_mirror.proofs.Names.{lets_next, takes_next, Acted, OneKernel, CountsStand, behind}
+use Rattle.dm_mirror.proofs.Names.{after_arrival, Arrived, Data, Ack, load_at, after_mark, Boot, nat_tests, Line, at_pair, Pair, oldest, at_least, Point, moved, has, kept_from, less, numbers_from, repeats, taken_pair, Placed, NodeState}
+use Rattle.dm_mirror.proofs.Names.{here, with_message, with_receiver, with_sender, acknowledges, before, lets_go, takes_kept, then_acknowledges, WorldState, History, StandsWith, less-right, ◌^◌, slice_get, option_map, Option, slice_get-map}
+use Rattle.dm_mirror.proofs.Names.{Packet, packet_of, spelling, packet_again, bytes_at, line_of, nat_le, nat_lt, true, drop, Result, PacketError, ◌>>=◌, IsRoute, only_packet, message, read_rest, spell_message, IsField-number, guard_ok}
+use Rattle.dm_mirror.proofs.Names.{outstanding, MayCome-stands, get-drop, IsValid, IsReadable, zero, suc, eqb_tells, bind-is, MsgId, next, due, bind, Spelled, packet_line, spelled, after, at_machine, View, view_after, IsNet, IsNetLine}
+use Rattle.dm_mirror.proofs.Names.{comes_in, lets_next, takes_next, Acted, OneKernel, CountsStand, behind, Ok}
 use Rattle.dm_rule.proofs.Names.{Part}
 use Rattle.dm_stream.specs.Packets.{Load}
 use Rattle.dm_node.specs.declared.out.Out.TheVariants.{Says}

@@ -1,10 +1,10 @@
 -- What each event of a delivery makes of the world, and that it stands behind it.
-use Rattle.dm_mirror.proofs.Names.{NodeStands, PairStands, Stream, TakeKept, View, after_packet, happens, stream_of, slice_get-map, option_map}
-use Rattle.dm_mirror.proofs.Names.{◌≡◌, ◌≢◌, ℕ, ◌+◌, ◌<◌, ◌≤◌, ◌==◌, ◌&&◌, Bool, true, false, List, [], ◌∷◌, ◌++◌, refl, ap, ◌∙◌, sym, subst, inl, inr, arith, if◌then◌else◌, slice_get, Option, Some, nat_tests, map-append, All-push}
-use Rattle.dm_mirror.proofs.Names.{All-get_or, get_or_from_slice_get, slice_get_within, Message, MsgId, IsLawfulMessage, Packet, Line, Load, spelling, due, with_sent, after_next, next, Data, Ack, just_put, after_mark, Boot}
-use Rattle.dm_mirror.proofs.Names.{at_machine, at_pair, Pair, gone_after, oldest, times, Point, moved, Placed, with_message, with_receiver, with_sender, WorldState, AreMessages, History, StandsWith, zero, suc, length}
-use Rattle.dm_mirror.proofs.Names.{is_some, None, length-map, Receiving, has, kept_from, taking_parts, taken_pair, NodeState, here, Sends, takes_kept, takes_next, then_acknowledges, ◌-◌, nat_le, nat_lt, drop, ◌⊎◌}
-use Rattle.dm_mirror.proofs.Names.{slice_get_cases, slice_get_past, Sending, numbered, get-drop, less, numbers_from, repeats, before, lets_go, lets_next, message_id}
+use Rattle.dm_mirror.proofs.Names.{NodeStands, PairStands, Stream, TakeKept, View, after_packet, happens, stream_of, slice_get-map, option_map, ◌≡◌, ◌≢◌, ℕ, ◌+◌, ◌<◌, ◌≤◌, ◌==◌, ◌&&◌, Bool, true, false, List, [], ◌∷◌, ◌++◌, refl, ap, ◌∙◌}
+use Rattle.dm_mirror.proofs.Names.{sym, subst, inl, inr, arith, if◌then◌else◌, slice_get, Option, Some, nat_tests, map-append, All-push, All-get_or, get_or_from_slice_get, slice_get_within, Message, MsgId, IsLawfulMessage, Packet, Line}
+use Rattle.dm_mirror.proofs.Names.{Load, spelling, due, after_next, next, Data, Ack, just_put, after_mark, Boot, at_machine, at_pair, Pair, gone_after, oldest, times, Point, moved, Placed, with_message, with_receiver, with_sender}
+use Rattle.dm_mirror.proofs.Names.{WorldState, AreMessages, History, StandsWith, zero, suc, length, is_some, None, length-map, Receiving, has, kept_from, taking_parts, taken_pair, NodeState, here, Sends, takes_kept, takes_next}
+use Rattle.dm_mirror.proofs.Names.{then_acknowledges, ◌-◌, nat_le, nat_lt, drop, ◌⊎◌, slice_get_cases, slice_get_past, Sending, numbered, get-drop, less, numbers_from, repeats, before, lets_go, lets_next, message_id}
+use Rattle.dm_node.proofs.Names.{with_sent}
 use Rattle.dm_rule.proofs.Names.{Part}
 use Rattle.dm_wire.specs.Wire.{after_put}
 use Rattle.dm_wire.specs.Sent as wire

@@ -1,13 +1,13 @@
 -- Where what a machine sends is read as it was put, so is all that it has out and not acknowledged, and each packet on the wires
 -- is read: each event keeps it.
-use Rattle.dm_mirror.proofs.Names.{MayCome-stands, NodeStands, Receiving, begins, has, stream_of, two_of}
+use Rattle.dm_mirror.proofs.Names.{MayCome-stands, NodeStands, Receiving, begins, has, stream_of, two_of, ◌≡◌, ◌⊎◌, ℕ, zero, suc, ◌==◌, ◌&&◌, Bool, true, false, List, [], ◌∷◌, ◌++◌, refl, ap, ◌∙◌, sym, subst, inl, inr, ⊤, if◌then◌else◌}
+use Rattle.dm_mirror.proofs.Names.{Option, None, Some, eqb_tells, Message, Packet, packet_of, spelling, Data, Ack, Sending, due, window, with_acked, with_given, after_arrival, after_next, arrival, next, Arrived, Sent, bytes_at, after_mark}
+use Rattle.dm_mirror.proofs.Names.{Turned, Out, NodeState, here, with_message, with_receiver, with_sender, Acted, Acts, Goes, Worn, then_, acts, comes_in, gives, is_worn, lets_go, lets_next, none_waits, routes, routes_away, routes_home}
+use Rattle.dm_mirror.proofs.Names.{sends_due, takes_kept, takes_next, FitsLoad, spoken, with_packet, AreReadBack, NodeReads, SenderReads, WiresRead, ◌+◌, nat_lt, arith, fresh_sending, Boot, Step, tick, WorldState, acted, first_world}
+use Rattle.dm_mirror.proofs.Names.{IsReadable, ◌-◌, ◌<◌, ◌≤◌, length, slice_get, cases_Bool, nat_tests, length-append, length-drop, slice_get_within, numbered, outstanding, get-drop, ◌≢◌, MsgId, advanced, kept_once, load_at, Line}
+use Rattle.dm_mirror.proofs.Names.{at_machine, at_pair, NothingElse, Pair, at_least, oldest, Inbox, times, Point, moved, Placed, History, StandsWith, marked, Part, Ok}
 use Rattle.dm_stream.specs.Stream as flow
-use Rattle.dm_mirror.proofs.Names.{◌≡◌, ◌⊎◌, ℕ, zero, suc, ◌==◌, ◌&&◌, Bool, true, false, List, [], ◌∷◌, ◌++◌, refl, ap, ◌∙◌, sym, subst, inl, inr, ⊤, if◌then◌else◌, Ok, Option, None, Some, eqb_tells, Message, Packet, packet_of, spelling}
-use Rattle.dm_mirror.proofs.Names.{Data, Ack, Sending, due, window, with_acked, with_given, with_sent, after_arrival, after_next, arrival, next, Arrived, Sent, bytes_at, after_mark, Turned, Out, NodeState, here, with_message, with_receiver}
-use Rattle.dm_mirror.proofs.Names.{with_sender, Acted, Acts, Goes, Worn, then_, acts, comes_in, gives, is_worn, lets_go, lets_next, none_waits, routes, routes_away, routes_home, sends_due, takes_kept, takes_next, FitsLoad, spoken}
-use Rattle.dm_mirror.proofs.Names.{with_packet, AreReadBack, NodeReads, SenderReads, WiresRead, ◌+◌, nat_lt, arith, fresh_sending, Boot, Step, tick, WorldState, acted, first_world, IsReadable, ◌-◌, ◌<◌, ◌≤◌, length, slice_get, cases_Bool}
-use Rattle.dm_mirror.proofs.Names.{nat_tests, length-append, length-drop, slice_get_within, numbered, outstanding, get-drop, ◌≢◌, MsgId, advanced, kept_once, load_at, Line, at_machine, at_pair, NothingElse, Pair}
-use Rattle.dm_mirror.proofs.Names.{at_least, oldest, Inbox, times, Point, moved, Placed, History, StandsWith, marked, Part}
+use Rattle.dm_node.proofs.Names.{with_sent}
 use Rattle.dm_node.proofs.Names.{behind}
 use Rattle.dm_stream.specs.Packets.{Load}
 use Rattle.dm_stream.specs.declared.receiver.Arrived.TheVariants.{Taken}

@@ -1,16 +1,15 @@
 -- What a machine gives, in order, is what the rule's parts say, and the world behind it stands.
-use Rattle.dm_mirror.proofs.Names.{drop-more, ◌-◌}
-use Rattle.dm_mirror.proofs.Names.{Stream, eqb-true}
-use Rattle.dm_mirror.proofs.Names.{◌≡◌, ◌≢◌, ℕ, ◌≤◌, ◌==◌, ◌&&◌, false, List, length, ap, ◌∙◌, sym, subst, inl, inr, arith, Option, All, cases_Bool, nat_tests, Pid, incoming_of, Message, MsgId, IsLawfulMessage, Sending}
-use Rattle.dm_mirror.proofs.Names.{Receiving, Sent, Boot, Pair, Point, Spot, Queue, Held, Inbox, Untaken, standing, times, two_of, Placed, NodeState, WorldState, AreMessages, History, NodeStands, PairStands}
-use Rattle.dm_mirror.proofs.Names.{StandsWith, Carries, TokensStand, destination_of, Bool, [], ◌∷◌, refl, if◌then◌else◌, Some, Packet, Line, Load, at_machine, Spelled, spelled, after_line, Sends, Acted, before, spoken, with_packet, zero}
-use Rattle.dm_mirror.proofs.Names.{suc, ◌+◌, ◌++◌, drop, slice_get, id_eq, id_eq-is, id_eq-same, at_pair, untaken, View, oldest, times-append, behind}
+use Rattle.dm_mirror.proofs.Names.{drop-more, ◌-◌, Stream, eqb-true, ◌≡◌, ◌≢◌, ℕ, ◌≤◌, ◌==◌, ◌&&◌, false, List, length, ap, ◌∙◌, sym, subst, inl, inr, arith, Option, All, cases_Bool, nat_tests, Pid, Message, MsgId, IsLawfulMessage, Sending}
+use Rattle.dm_mirror.proofs.Names.{Receiving, Sent, Boot, Pair, Point, Spot, Queue, Held, Inbox, Untaken, standing, times, two_of, Placed, NodeState, WorldState, AreMessages, History, NodeStands, PairStands, StandsWith, TokensStand, Bool}
+use Rattle.dm_mirror.proofs.Names.{[], ◌∷◌, refl, if◌then◌else◌, Some, Packet, Line, Load, at_machine, Spelled, spelled, after_line, Sends, Acted, before, spoken, with_packet, zero, suc, ◌+◌, ◌++◌, drop, slice_get, id_eq, id_eq-is}
+use Rattle.dm_mirror.proofs.Names.{id_eq-same, at_pair, untaken, View, oldest, times-append, behind}
 use Rattle.dm_rule.proofs.Names.{Part}
 use Rattle.dm_node.specs.declared.out.Out.TheVariants.{Says}
 use Rattle.dm_node.specs.Wired.{packet_line}
 use Rattle.dm_kernel.specs.State as machine
 use Rattle.dm_rule.specs.Parts as rule
 use Rattle.dm_stream.specs.Packets as stream
+use Rattle.dm_mirror.proofs.LeftOver.{tokens_less}
 use Rattle.dm_mirror.proofs.Streams.{Joined, apart_is, at_again, at_here, at_other, at_same, kernel_box, mirrors_same, nodes_are, pair_stands, pairs_are}
 
 -- the world after machine c has acted, but for the count of directives
@@ -192,10 +191,9 @@ module _ (b : Boot) (w : WorldState) (pt : Point) (l : Placed) (h : History) (a 
   records_at m = grind (arith, nat_tests, eqb-true, e.records)
 
   tokens_on : TokensStand next.view l (λ m. (after.nodes m).kernel.records)
-  tokens_on p i t z told between about least =
-      let (y, there) = stood i z least in
-      let k = s.tokens p i t y told between about there in
-      search (subst (λ (f : Pid → Option machine.KernelKnown). Carries p k.process (l.notes p) (pt.view.asked p) (incoming_of (f p)) k.message.what) (sym (records_at (destination_of i t))) k.carries)
+  tokens_on =
+      tokens_less pt.view next.view l (λ m. (w.nodes m).kernel.records) (λ m. (after.nodes m).kernel.records) (λ i. refl) (λ p. refl) (λ m p. refl) (λ m p. ap (λ (f : Pid → Option machine.KernelKnown). f p) (records_at m))
+      (λ i t z told between least. stood i z least) s.tokens
 
   pub moves_stand : StandsWith b after next l later
   moves_stand = record {

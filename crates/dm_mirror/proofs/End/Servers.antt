@@ -3,8 +3,7 @@ use Rattle.dm_mirror.proofs.Names.{◌≡◌, ◌≢◌, ℕ, suc, ◌+◌, ◌-
 use Rattle.dm_mirror.proofs.Names.{Place, plain_link, Message, Boot, switchboard, manager, Switchboard, Manager, Named, plain_named, plain_child, plain_pending, plain_manager, EndLine, Addresses, Child, Name, list_line, HomeStands, Point}
 use Rattle.dm_mirror.proofs.Names.{Placed, Mirrors, WorldState, History, PairStands, zero, ◌<◌, Option, None, Pid, pid_of, MsgId, first_number, or, home_with, joined_below, AreMessages, option_map, Link, link_at, Process, plain_process}
 use Rattle.dm_mirror.proofs.Names.{Standing, Slot, ◌⊎◌, subst, inl, inr, cases_Bool, false≢true, MessageKind, Phase, Nowhere, Rests, Over, Moves, IsIn, IsToken, kind_comes, is_away, is_due, is_restart, kind_leaves, View, Known, Unknown}
-use Rattle.dm_mirror.proofs.Names.{Here, Frozen, Incoming, Ended, eq_self, is_it, left_true, not_false, message_id}
-use Rattle.dm_places.proofs.Names.{Pending}
+use Rattle.dm_mirror.proofs.Names.{Here, Frozen, Incoming, Ended, eq_self, is_it, left_true, not_false, message_id, Pending}
 use Rattle.dm_message.specs.Ids as message
 use Rattle.dm_rule.specs.Ends as rule
 use Rattle.dm_rule.specs.Spots as spots

@@ -1,14 +1,15 @@
 -- A directive to move a process: the manager's message goes to its child, or a line says why none does.
-use Rattle.dm_mirror.proofs.Names.{Child, ◌≡◌, ℕ, ◌+◌, ◌≤◌, ◌==◌, ◌||◌, Bool, true, false, List, [], ◌∷◌, refl, ap, ◌∙◌, sym, subst, inl, inr, arith, if◌then◌else◌, cond, Option, None, Some, Err, cases_Bool, false≢true, nat_tests, Addr}
-use Rattle.dm_mirror.proofs.Names.{Pid, pid_eq, pid_of, place_of, Message, What, MessageKind, MoveError, Step, id_of, incoming_of, Boot, manager, switchboard, address_at, child_named, moves_child, tells_to_move, asks_manager}
-use Rattle.dm_mirror.proofs.Names.{asks_move, told_to_move, KernelState, id_eq-same, pid_eq-is, Line, Receiver, Sender, child_number, unmoved, migrates, migrates_child, Point, after, moved, at_machine, standing, Run, Placed, Mirrors}
-use Rattle.dm_mirror.proofs.Names.{mirrors_view, child_place, no_child, AllOwnStand, KernelStands, AllRecords, TokensStand, Wants, destination_of, ◌≢◌, ◌&&◌, not, kind_of, plain_what, Known, Unknown, Here, Frozen, Incoming, Forward, Ended}
-use Rattle.dm_mirror.proofs.Names.{is_server, is_fixed, is_place, is_target, own_sort, Part, option_map_or}
+use Rattle.dm_mirror.proofs.Names.{Child, ◌≡◌, ℕ, ◌+◌, ◌≤◌, ◌==◌, ◌||◌, Bool, true, false, List, [], ◌∷◌, refl, ap, ◌∙◌, sym, inl, inr, arith, if◌then◌else◌, cond, Option, None, Some, Err, cases_Bool, false≢true, nat_tests, Addr, Pid}
+use Rattle.dm_mirror.proofs.Names.{pid_eq, pid_of, place_of, Message, What, MessageKind, MoveError, Step, id_of, Boot, manager, switchboard, address_at, child_named, moves_child, tells_to_move, asks_manager, asks_move, told_to_move}
+use Rattle.dm_mirror.proofs.Names.{KernelState, id_eq-same, pid_eq-is, Line, Receiver, Sender, child_number, unmoved, migrates, migrates_child, Point, after, moved, at_machine, standing, Run, Placed, Mirrors, mirrors_view, child_place}
+use Rattle.dm_mirror.proofs.Names.{no_child, AllOwnStand, KernelStands, AllRecords, TokensStand, ◌≢◌, ◌&&◌, not, kind_of, plain_what, Known, Unknown, Here, Frozen, Incoming, Forward, Ended, is_server, is_fixed, is_place, is_target}
+use Rattle.dm_mirror.proofs.Names.{own_sort, Part, option_map_or}
 use Rattle.dm_kernel.specs.State.{with_sent}
 use Rattle.dm_mirror.proofs.Follow.Forwards.{next_free, next_untold, forwards_turn, held_coming, held_leaving}
 use Rattle.dm_mirror.proofs.Turning.{MayOwn, Nothing, Own, Turns, TurnsAt}
 use Rattle.dm_mirror.proofs.Follow.Updates.{updated_board_turn, updated_here_turn, updated_manager_turn, no_move_turn, updated_ended_turn}
-use Rattle.dm_mirror.proofs.Follow.Fronts.{Fronts, at_front, carries_on}
+use Rattle.dm_mirror.proofs.Follow.Fronts.{Fronts, at_front}
+use Rattle.dm_mirror.proofs.LeftOver.{tokens_less}
 use Rattle.dm_kernel.specs.State as machine
 use Rattle.dm_rule.specs.Parts as rule
 
@@ -28,12 +29,10 @@ pub record Asks (b : Boot) (pt : Point) (l : Placed) (records : AllRecords) (k :
   pub counted : k.sent ≡ pt.view.count 0
 
 tokens_asked : (b : Boot) (pt : Point) (l : Placed) (records : AllRecords) (k : KernelState) (c : Asks b pt l records k) (p : Pid) (to : ℕ) → TokensStand (asked_point pt p to).view l (at_machine records 0 k.records)
-tokens_asked b pt l records k c p to q i t z told between about least =
-    let one = c.tokens q i t z told between about (let e_ : 1 ≤ standing pt.view i z = grind (arith, nat_tests) in e_) in
-    let n = destination_of i t in
-    search
-    (carries_on q one.process (l.notes q) (pt.view.asked q) (incoming_of (records n q)) (incoming_of (at_machine records 0 k.records n q)) one.message.what
-    (λ u w. subst (λ (f : Pid → Option machine.KernelKnown). Wants (incoming_of (f q)) u) (sym (let e_ : (if (0 == n) then k.records else records n) ≡ records n = grind (arith, nat_tests, c.mine) in e_)) w) one.carries)
+tokens_asked b pt l records k c p to =
+    tokens_less pt.view (asked_point pt p to).view l records (at_machine records 0 k.records) (λ i. refl) (λ q. refl) (λ n q. refl)
+    (λ n q. ap (λ (f : Pid → Option machine.KernelKnown). f q) (let e_ : (if (0 == n) then k.records else records n) ≡ records n = grind (arith, nat_tests, c.mine) in e_))
+    (λ i t z told between least. (z, (let e_ : 1 ≤ standing pt.view i z = grind (arith, nat_tests) in e_))) c.tokens
 
 own_asked : (b : Boot) (pt : Point) (l : Placed) (records : AllRecords) (k : KernelState) (c : Asks b pt l records k) (p : Pid) (to : ℕ) → AllOwnStand (asked_point pt p to).view l
 own_asked b pt l records k c p to i x there plain = let o = c.own i x there plain in record { told = o.told; mine = o.mine; sender = o.sender }

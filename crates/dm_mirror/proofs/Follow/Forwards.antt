@@ -1,9 +1,9 @@
 -- A message for a process that has gone on follows it, and its sender may be told.
 use Rattle.dm_mirror.proofs.Names.{◌≡◌, ℕ, ◌+◌, Bool, true, false, List, [], ◌∷◌, map, refl, ap, ◌∙◌, sym, subst, is_some, arith, if◌then◌else◌, Option, None, Some, false≢true, Pid, pid_of, place_of, update_of, Message, MsgId, nat_tests}
-use Rattle.dm_mirror.proofs.Names.{Record, Line, MessageKind, id_eq, id_of, kind_of, plain_kind, PlainMessage, plain_message, plain_what, with_what, incoming_of, sent_on, Boot, manager, forwards_and, KernelState, id_eq-same}
-use Rattle.dm_mirror.proofs.Names.{id_eq-swap, Addresses, Receiver, Sender, is_told_back, unmoved, forwards_on, process_told, Point, moved, at_machine, Queue, Held, About, Known, Forward, forward_about, forwarded_for, handled, own_id}
-use Rattle.dm_mirror.proofs.Names.{receiver_of, is_fixed, Run, Placed, Mirrors, free_off, plain_sent_on, forwarded_mirrors, moves_forwarded, update_gets, parts, mirrors_view, AllOwnStand, OwnStands, KnownStands, AllRecords, Wants, ◌++◌}
-use Rattle.dm_mirror.proofs.Names.{Wanted, Arrival, with_known, pid_eq-is, at_record, times, Frozen, Incoming, is_server, Part}
+use Rattle.dm_mirror.proofs.Names.{Record, Line, MessageKind, id_eq, id_of, kind_of, plain_kind, PlainMessage, plain_message, plain_what, with_what, incoming_of, sent_on, Boot, manager, forwards_and, KernelState, id_eq-same, id_eq-swap}
+use Rattle.dm_mirror.proofs.Names.{Addresses, Receiver, Sender, is_told_back, unmoved, forwards_on, process_told, Point, moved, at_machine, Queue, Held, About, Known, Forward, forward_about, forwarded_for, handled, own_id, receiver_of}
+use Rattle.dm_mirror.proofs.Names.{is_fixed, Run, Placed, Mirrors, free_off, plain_sent_on, forwarded_mirrors, moves_forwarded, update_gets, parts, mirrors_view, AllOwnStand, OwnStands, KnownStands, AllRecords, Wants, ◌++◌, Wanted, Arrival}
+use Rattle.dm_mirror.proofs.Names.{with_known, pid_eq-is, at_record, times, Frozen, Incoming, is_server, Part}
 use Rattle.dm_kernel.specs.State.{with_sent}
 use Rattle.dm_rule.specs.Rule.{process_handles}
 use Rattle.dm_places.specs.PlacedStep.{with_message}
@@ -229,7 +229,7 @@ held_leaving b m pt l records k y c to fixed knows =
     let is = is_process_of p fixed in
     let (d, there, s) = recorded b pt l m k p (Frozen to) c.stands is.server knows in
     held_row b m pt l records k y c (Frozen to) (Record.Frozen d) (Record.Frozen (departure.with_held d y)) is knows there refl (λ x. refl) refl
-    (record { to = s.to; asker = s.asker; here = s.here; held = messages_push l.bag (pt.view.held m p) d.held y.id y s.held c.there; whole = s.whole }) (λ u h. h)
+    (record { to = s.to; cargo = s.cargo; here = s.here; held = messages_push l.bag (pt.view.held m p) d.held y.id y s.held c.there; whole = s.whole }) (λ u h. h)
 
 -- held where it comes
 pub held_coming : (b : Boot) (m : ℕ) (pt : Point) (l : Placed) (records : AllRecords) (k : KernelState) (y : Message) (c : Fronts b m pt l records k y) (from : ℕ) → is_fixed y.to.pid ≡ false → pt.view.known m y.to.pid ≡ Incoming from → TurnsAt b m pt l records k
@@ -238,4 +238,4 @@ held_coming b m pt l records k y c from fixed knows =
     let is = is_process_of p fixed in
     let (a, there, s) = recorded b pt l m k p (Incoming from) c.stands is.server knows in
     held_row b m pt l records k y c (Incoming from) (Record.Incoming a) (Record.Incoming (arrival.with_held a y)) is knows there refl (λ x. refl) refl
-    (record { process = s.process; there = s.there; whole = s.whole; pieces = ap (λ (z : Arrival). arrival.with_held z y) s.pieces; held = messages_push l.bag (pt.view.held m p) a.held y.id y s.held c.there }) (λ u h. h)
+    (record { source = s.source; cargo = s.cargo; there = s.there; whole = s.whole; pieces = ap (λ (z : Arrival). arrival.with_held z y) s.pieces; held = messages_push l.bag (pt.view.held m p) a.held y.id y s.held c.there }) (λ u h. h)

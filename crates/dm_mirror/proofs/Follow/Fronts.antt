@@ -1,10 +1,10 @@
 -- The kernel of a machine still stands where the message at its front is held, goes on or makes links follow.
-use Rattle.dm_mirror.proofs.Names.{◌≡◌, ℕ, ◌≤◌, ◌<◌, ◌==◌, Bool, true, false, List, [], ◌∷◌, map, refl, ap, ◌∙◌, sym, subst, Option, None, Some, false≢true, Pid, pid_eq, MsgId, Message, What, MessageKind, kind_of, plain_kind}
-use Rattle.dm_mirror.proofs.Names.{PlainMessage, PlainWhat, plain_message, plain_what, with_what, Boot, switchboard, manager, bind, KernelState, is_between, Point, Inbox, times, standing, About, Told, is_server, is_fixed, OwnTold, own_sort}
-use Rattle.dm_mirror.proofs.Names.{Run, Placed, Mirrors, parts, AllOwnStand, told_of, AreMessages, KernelStands, AllRecords, TokensStand, told_there, ◌≢◌, ◌+◌, inl, inr, arith, if◌then◌else◌, cases_Bool, nat_tests, id_eq, id_eq-is}
-use Rattle.dm_mirror.proofs.Names.{id_eq-same, at_machine, without_front, Spot, Held, StandsOnce, StandsOutside, StandsRight, Known, is_kernels, stands_right, once_at, KnownStands, with_record, handles, Turned, pid_eq-same, process_told}
-use Rattle.dm_mirror.proofs.Names.{comes_to, not, slice_get, Process, incoming_of, Taken, Wanted, Arrival, room_of, turns, pid_eq-is, Line, Addresses, after, after_line, taken_at, Queue, Of, View, handled, OwnStands, RoomStands}
-use Rattle.dm_mirror.proofs.Names.{servers_at, Carries, Wants, destination_of, Part, Asker}
+use Rattle.dm_mirror.proofs.Names.{◌≡◌, ℕ, ◌≤◌, ◌<◌, ◌==◌, Bool, true, false, List, [], ◌∷◌, map, refl, ap, ◌∙◌, sym, subst, Option, None, Some, false≢true, Pid, pid_eq, MsgId, Message, What, MessageKind, kind_of, plain_kind, PlainMessage}
+use Rattle.dm_mirror.proofs.Names.{PlainWhat, plain_message, plain_what, with_what, Boot, switchboard, manager, bind, KernelState, is_between, Point, Inbox, times, standing, About, Told, is_server, is_fixed, OwnTold, own_sort, Run, Placed}
+use Rattle.dm_mirror.proofs.Names.{Mirrors, parts, AllOwnStand, told_of, AreMessages, KernelStands, AllRecords, TokensStand, told_there, ◌≢◌, ◌+◌, inl, inr, arith, if◌then◌else◌, cases_Bool, nat_tests, id_eq, id_eq-is, id_eq-same}
+use Rattle.dm_mirror.proofs.Names.{at_machine, without_front, Spot, Held, StandsOnce, StandsOutside, StandsRight, Known, is_kernels, stands_right, once_at, KnownStands, with_record, handles, Turned, pid_eq-same, process_told, comes_to, not}
+use Rattle.dm_mirror.proofs.Names.{slice_get, incoming_of, Taken, Wanted, Arrival, room_of, turns, pid_eq-is, Line, Addresses, after, after_line, taken_at, Queue, Of, View, handled, OwnStands, RoomStands, servers_at, Carries, Wants}
+use Rattle.dm_mirror.proofs.Names.{destination_of, Part, Cargo, ◌⊎◌, cargo_at, sort_of, is_due_piece, pulls_piece}
 pub use Rattle.dm_rulelaws.proofs.Goes.Turns.{times_self, times_more}
 pub use Rattle.dm_rule.proofs.Lines.{eq_self, at_machine_at as machine_self}
 pub use Rattle.dm_rulelaws.proofs.Goes.Always.{queue_apart}
@@ -19,6 +19,8 @@ pub use Rattle.dm_mirror.proofs.Kernel.Sets.{known_at as known_on, map_same}
 use Rattle.dm_mirror.proofs.Handle.Taking.{not_it, held_apart, machine_off, stands_set}
 pub use Rattle.dm_mirror.proofs.End.Servers.{off as eq_off}
 use Rattle.dm_mirror.proofs.Turning.{Elsewhere, Nothing, Route, TurnsAt, AllMayPut, begun, has_process, is_elsewhere, owns, part_of, rule_part_of}
+use Rattle.dm_mirror.proofs.Cargoes.{cargo_same}
+use Rattle.dm_mirror.proofs.LeftOver.{known_due, left_keeps, left_told, one_keeps}
 
 -- a message that stands somewhere stands there once, and nowhere else
 outside_once : (c : Bool) (f : Spot → ℕ) (x : Spot) → StandsOutside c f → 1 ≤ f x → StandsOnce f
@@ -196,16 +198,17 @@ set_other records p r q off = ap (λ (c : Bool). if c then Some r else records q
 -- A row of a turn that says one line of the message at its front, and puts messages on: it leads to what a turn owes.
 
 -- what is asked for stays, so what a message carries does
-pub carries_on : (p : Pid) (x : Process) (k : Option Asker) (n : ℕ) (a c : Option Arrival) (w : What) → ((u : Wanted) → Wants a u → Wants c u) → Carries p x k n a w → Carries p x k n c w
-carries_on p x k n a c (What.Ask pid blocks moves size asker) same h = h
-carries_on p x k n a c (What.Refuse pid slots blocks) same h = h
-carries_on p x k n a c (What.PullState pid chunk) same h = (h.0, h.1, same (Wanted.Chunk chunk) h.2)
-carries_on p x k n a c (What.State pid chunk last bytes) same h = (h.0, h.1, same (Wanted.Chunk chunk) h.2)
-carries_on p x k n a c (What.PullBlock pid block) same h = (h.0, h.1, same (Wanted.Block block) h.2)
-carries_on p x k n a c (What.Memory pid block bytes) same h = (h.0, h.1, same (Wanted.Block block) h.2)
-carries_on p x k n a c (What.AllTaken pid) same h = (h.0, same Wanted.Nothing h.1)
-carries_on p x k n a c (What.Restart pid) same h = (h.0, same Wanted.Nothing h.1)
-carries_on p x k n a c _ same h = absurd h
+pub carries_on : (p : Pid) (x : Cargo) (n : ℕ) (a c : Option Arrival) (w : What) → ((u : Wanted) → Wants a u → Wants c u) → Carries p x n a w → Carries p x n c w
+carries_on p x n a c (What.Ask pid blocks moves size asker) same h = h
+carries_on p x n a c (What.Refuse pid slots blocks) same h = h
+carries_on p x n a c (What.PullState pid chunk) same h = (h.0, h.1, same (Wanted.Chunk chunk) h.2)
+carries_on p x n a c (What.State pid chunk last bytes) same h = (h.0, h.1, same (Wanted.Chunk chunk) h.2)
+carries_on p x n a c (What.PullBlock pid block) same h = (h.0, h.1, same (Wanted.Block block) h.2)
+carries_on p x n a c (What.Memory pid block bytes) same h = (h.0, h.1, same (Wanted.Block block) h.2)
+carries_on p x n a c (What.AllTaken pid) same h = (h.0, same Wanted.Nothing h.1)
+carries_on p x n a c (What.Restart pid) same h = (h.0, same Wanted.Nothing h.1)
+carries_on p x n a c (What.CallOff pid) same h = h
+carries_on p x n a c _ same h = absurd h
 
 -- the message is handled, held lists may have grown, and addresses may have changed
 abbrev pub handled_view : Point → ℕ → MsgId → (ℕ → Pid → List MsgId) → About → View
@@ -224,7 +227,7 @@ pub record FollowLeaves (m : ℕ) (pt : Point) (l : Placed) (k : KernelState) (r
   pub processes : (q : Pid) → pid_eq process q ≡ false → placed.processes q ≡ l.processes q
   pub notes : (q : Pid) → placed.notes q ≡ l.notes q
   pub elsewhere : (n : ℕ) → n ≢ m → has_process (pt.view.known n process) ≡ true → placed.processes process ≡ l.processes process
-  pub moving : (j : MsgId) (t : Told) (z : Spot) → pt.view.told j ≡ Some t → is_between t.kind ≡ true → t.about ≡ Of process → 1 ≤ standing pt.view j z → placed.processes process ≡ l.processes process
+  pub moving : (j : MsgId) (t : Told) (z : Spot) → pt.view.told j ≡ Some t → is_between t.kind ≡ true → t.about ≡ Of process → 1 ≤ standing pt.view j z → is_due_piece pt.view process j t ≡ true ⊎ pulls_piece (sort_of t.kind) ≡ true → placed.processes process ≡ l.processes process
   pub bag : (j : MsgId) → id_eq i j ≡ false → placed.bag j ≡ l.bag j
   pub board : m ≢ 0 → placed.board ≡ l.board
   pub manager : m ≢ 0 → placed.manager ≡ l.manager
@@ -287,11 +290,11 @@ stood b m pt l records k y c h i _ off least = least
 
 -- a process that a message under way is about stays
 process_stays : (b : Boot) (m : ℕ) (pt : Point) (l : Placed) (records : AllRecords) (k : KernelState) (y : Message) (c : Fronts b m pt l records k y) (h : Follows b m pt l records k y c) (p : Pid) (i : MsgId) (t : Told) (z : Spot)
-    → pt.view.told i ≡ Some t → is_between t.kind ≡ true → t.about ≡ Of p → 1 ≤ standing pt.view i z → h.placed.processes p ≡ l.processes p
-process_stays b m pt l records k y c h p i t z told between about least = elim (cases_Bool (pid_eq h.process p)) [
+    → pt.view.told i ≡ Some t → is_between t.kind ≡ true → t.about ≡ Of p → 1 ≤ standing pt.view i z → is_due_piece pt.view p i t ≡ true ⊎ pulls_piece (sort_of t.kind) ≡ true → h.placed.processes p ≡ l.processes p
+process_stays b m pt l records k y c h p i t z told between about least reads = elim (cases_Bool (pid_eq h.process p)) [
   | inl same ↦
       let e : h.process ≡ p = pid_eq-is h.process p same in
-      subst (λ (q : Pid). h.placed.processes q ≡ l.processes q) e (h.leaves.moving i t z told between (about ∙ ap Of (sym e)) least)
+      subst (λ (q : Pid). h.placed.processes q ≡ l.processes q) e (h.leaves.moving i t z told between (about ∙ ap Of (sym e)) least (subst (λ (q : Pid). is_due_piece pt.view q i t ≡ true ⊎ pulls_piece (sort_of t.kind) ≡ true) (sym e) reads))
   | inr off ↦ h.leaves.processes p off
 ]
 
@@ -315,14 +318,23 @@ tokens_follow : (b : Boot) (m : ℕ) (pt : Point) (l : Placed) (records : AllRec
 tokens_follow b m pt l records k y c h p i t z told between about least =
     let off = token_apart b m pt l records k y c i t h.still told between in
     let before = stood b m pt l records k y c h i z off least in
-    let one = c.tokens p i t z told between about before in
-    search (
-      process_stays b m pt l records k y c h p i t z told between about before ∙ one.there,
-      h.leaves.bag i off ∙ one.is,
-      subst (λ (o : Option Asker). Carries p one.process o (pt.view.asked p) (incoming_of (at_machine records m h.state.records (destination_of i t) p)) one.message.what) (sym (h.leaves.notes p))
-          (carries_on p one.process (l.notes p) (pt.view.asked p) (incoming_of (records (destination_of i t) p)) (incoming_of (at_machine records m h.state.records (destination_of i t) p)) one.message.what
-          (λ u w. all_wants b m pt l records k y c h p (destination_of i t) u (m == destination_of i t) refl w) one.carries),
-    )
+    let v = handled_view pt m y.id h.held h.topic in
+    let after = at_machine records m h.state.records in
+    let cargo : is_due_piece pt.view p i t ≡ true ⊎ pulls_piece (sort_of t.kind) ≡ true → cargo_at h.placed p ≡ cargo_at l p =
+    λ reads. cargo_same l h.placed p (process_stays b m pt l records k y c h p i t z told between about before reads) (h.leaves.notes p) in
+    one_keeps pt.view v l h.placed records after p i t (known_due pt.view v p i t (λ n. refl))
+    (λ due one. record {
+      cargo = one.cargo;
+      there = cargo (inl due) ∙ one.there;
+      message = one.message;
+      is = h.leaves.bag i off ∙ one.is;
+      sender = one.sender;
+      carries = carries_on p one.cargo (pt.view.asked p) (incoming_of (records (destination_of i t) p)) (incoming_of (after (destination_of i t) p)) one.message.what
+          (λ u w. all_wants b m pt l records k y c h p (destination_of i t) u (m == destination_of i t) refl w) one.carries;
+    })
+    (λ over one. left_keeps l h.placed p i one
+    (λ asks. cargo (inr (ap (λ (u : Told). pulls_piece (sort_of u.kind)) (left_told pt.view l p i t one c.own told) ∙ asks))) (h.leaves.bag i off ∙ one.is))
+    (c.tokens p i t z told between about before)
 
 own_follows : (b : Boot) (m : ℕ) (pt : Point) (l : Placed) (records : AllRecords) (k : KernelState) (y : Message) (c : Fronts b m pt l records k y) (h : Follows b m pt l records k y c) → AllOwnStand (handled_view pt m y.id h.held h.topic) h.placed
 own_follows b m pt l records k y c h i x there plain = elim (cases_Bool (id_eq y.id i)) [

@@ -1,10 +1,10 @@
 -- A message of a kernel that changes no process of its machine: what it leads to.
 use Rattle.dm_mirror.proofs.Names.{◌≡◌, ◌≢◌, ℕ, ◌+◌, ◌≤◌, ◌==◌, Bool, true, false, List, [], ◌∷◌, refl, ap, ◌∙◌, sym, subst, nat_le, arith, if◌then◌else◌, count_by, option_map, Option, None, Some, false≢true, Addr, Pid, pid_eq, nat_tests}
 use Rattle.dm_mirror.proofs.Names.{slot_is_behind, applied, Message, MsgId, What, Record, Line, kind_of, plain_message, plain_what, with_what, Process, incoming_of, named_is_behind, pending_is_behind, Boot, switchboard, manager, Life}
-use Rattle.dm_mirror.proofs.Names.{Servers, handles, KernelState, with_here, pid_eq-same, place_told, behind_count, told_here, told_server, updates, Phase, Rests, is_away, is_between, is_here, knows, token_in, Point, moved, comes_to, hears}
-use Rattle.dm_mirror.proofs.Names.{Inbox, Spot, standing, Known, Here, Of, Told, rests_here, is_fixed, Run, Placed, Mirrors, mirrors_view, board_told, manager_told, updated_board_mirrors, updated_manager_mirrors, updated_mirrors}
-use Rattle.dm_mirror.proofs.Names.{updated_board_count, updated_count, updated_manager_count, about_of, told_of, KnownStands, servers_at, AllRecords, Wants, MessageKind, PlainMessage, Why, Managing, Board, Addresses, told_ended}
-use Rattle.dm_mirror.proofs.Names.{after_line, Ended, updated_ended_mirrors, no_process, Wanted, is_server, Part, sort_of}
+use Rattle.dm_mirror.proofs.Names.{Servers, handles, KernelState, with_here, pid_eq-same, place_told, behind_count, told_here, told_server, updates, Phase, Rests, is_away, is_between, is_here, knows, Point, moved, comes_to, hears, Inbox}
+use Rattle.dm_mirror.proofs.Names.{Spot, standing, Known, Here, Of, Told, rests_here, is_fixed, Run, Placed, Mirrors, mirrors_view, board_told, manager_told, updated_board_mirrors, updated_manager_mirrors, updated_mirrors}
+use Rattle.dm_mirror.proofs.Names.{updated_board_count, updated_count, updated_manager_count, about_of, told_of, KnownStands, servers_at, AllRecords, Wants, MessageKind, PlainMessage, Why, Managing, Board, Addresses, told_ended, after_line}
+use Rattle.dm_mirror.proofs.Names.{Ended, updated_ended_mirrors, no_process, Wanted, is_server, Part, sort_of, ◌⊎◌, inl, inr, Moves, View, is_due_piece, pulls_piece, Asks, Comes}
 use Rattle.dm_places.specs.PlacedStep.{with_process}
 use Rattle.dm_mirror.proofs.Recorded.{recorded}
 use Rattle.dm_mirror.proofs.Follow.Fronts.{front_still, is_process_of, plain_there, Fronts, at_front, eq_off, known_on, machine_process, rule_process, set_other, set_self, handled_point, turns_follow, handled_view}
@@ -13,6 +13,7 @@ use Rattle.dm_mirror.proofs.Kernel.Sets.{away_process as away_not}
 use Rattle.dm_link.specs.Places as places
 use Rattle.dm_onekernel.specs.Step as kernel
 use Rattle.dm_kernel.specs.Handle as machine_handle
+use Rattle.dm_mirror.proofs.LeftOver.{IsDue, IsOver, Which, brings_on, which}
 use Rattle.dm_kernel.specs.State as machine
 use Rattle.dm_rule.specs.Parts as rule
 
@@ -126,10 +127,18 @@ nowhere_else b m n pt p run here apart has =
     let h = run.based.phased.phases in
     away_not (pt.view.known n p) (rests_away m n (pt.view.known n p) apart (sym (ap (λ (f : Phase). knows f n (pt.view.known n p)) (rests_at b m pt p run here)) ∙ (h.each p).known n)) has
 
-none_under_way : (b : Boot) (m : ℕ) (pt : Point) (p : Pid) (i : MsgId) (t : Told) (z : Spot) → Run b pt → pt.view.known m p ≡ Here → pt.view.told i ≡ Some t → is_between t.kind ≡ true → t.about ≡ Of p → 1 ≤ standing pt.view i z → ⊥
-none_under_way b m pt p i t z run here told between about least =
-    let f : None ≡ Some i = sym (ap token_in (rests_at b m pt p run here)) ∙ (run.based.phased.phases.each p).alone i t z told between about least in
-    cc
+-- while it is here only pieces that are left over stand
+only_left : (v : View) (m : ℕ) (p : Pid) (now : Phase) (i : MsgId) (t : Told) → now ≡ Rests m → Which v p now i t → is_due_piece v p i t ≡ true ⊎ pulls_piece (sort_of t.kind) ≡ true → ⊥
+only_left v m p now i t rests (IsDue d due) reads = (let f : Rests m ≡ Moves d.kind d.s d.d (Some i) = sym rests ∙ d.phase in cc)
+only_left v m p now i t rests (IsOver (Asks s d j pulls say way is first) off) reads = (let f : Rests m ≡ Moves MessageKind.CallOff s d j = sym rests ∙ is in cc)
+only_left v m p now i t rests (IsOver (Comes s d brings say way away first) off) (inl due) = false≢true (sym off ∙ due)
+only_left v m p now i t rests (IsOver (Comes s d brings say way away first) off) (inr pulls) = false≢true (sym (brings_on t.kind brings).2 ∙ pulls)
+
+none_under_way : (b : Boot) (m : ℕ) (pt : Point) (p : Pid) (i : MsgId) (t : Told) (z : Spot) → Run b pt → pt.view.known m p ≡ Here → pt.view.told i ≡ Some t → is_between t.kind ≡ true → t.about ≡ Of p → 1 ≤ standing pt.view i z
+    → is_due_piece pt.view p i t ≡ true ⊎ pulls_piece (sort_of t.kind) ≡ true → ⊥
+none_under_way b m pt p i t z run here told between about least reads =
+    let h = run.based.phased.phases in
+    only_left pt.view m p (h.of p) i t (rests_at b m pt p run here) (which pt.view h p i t z told between about least) reads
 
 -- the rule's line
 counted_line : (pt : Point) (y : Message) (t : Told) (n : ℕ) → t ≡ told_of y → behind_count pt.kernel pt.addresses y.to.pid (place_told (about_of y.what)) ≡ n → updates pt y.id t ≡ rule.Says (Line.Updated y.id n) ∷ []
@@ -159,8 +168,8 @@ updated_here_turn b m pt l records k y c about fixed knows e =
     let count = updated_count pt.kernel pt.view pt.addresses l p r about.at about.moves (about_of y.what) z c.mirrors (ap about_of e) is.board is.manager_ there in
     let processes : (q : Pid) → pid_eq p q ≡ false → placed.processes q ≡ l.processes q = λ q off. ap (λ (t : Bool). if t then Some (applied r about.at about.moves z) else l.processes q) off in
     let apart : (j : ℕ) → j ≢ m → has_process (pt.view.known j p) ≡ true → placed.processes p ≡ l.processes p = λ j off has. absurd (nowhere_else b m j pt p c.run knows off has) in
-    let moving : (i : MsgId) (t : Told) (j : Spot) → pt.view.told i ≡ Some t → is_between t.kind ≡ true → t.about ≡ Of p → 1 ≤ standing pt.view i j → placed.processes p ≡ l.processes p =
-    λ i t j told_ between about_ least. absurd (none_under_way b m pt p i t j c.run knows told_ between about_ least) in
+    let moving : (i : MsgId) (t : Told) (j : Spot) → pt.view.told i ≡ Some t → is_between t.kind ≡ true → t.about ≡ Of p → 1 ≤ standing pt.view i j → is_due_piece pt.view p i t ≡ true ⊎ pulls_piece (sort_of t.kind) ≡ true → placed.processes p ≡ l.processes p =
+    λ i t j told_ between about_ least reads. absurd (none_under_way b m pt p i t j c.run knows told_ between about_ least reads) in
     let keeps : is_server p ≡ true → state.records p ≡ k.records p = λ server. absurd (false≢true (sym is.server ∙ server)) in
     let wants : (u : Wanted) → Wants (incoming_of (k.records p)) u → Wants (incoming_of (state.records p)) u = λ u h. absurd (subst (λ (o : Option machine.KernelKnown). Wants (incoming_of o) u) here.1 h) in
     turns_follow b m pt l records k y c (record {

@@ -1,12 +1,12 @@
 -- Messages for a process that has ended here: dropped, or answered that it is gone.
-use Rattle.dm_mirror.proofs.Names.{◌≡◌, ℕ, true, List, [], ◌∷◌, refl, ap, ◌∙◌, sym, subst, is_some, Option, None, Some, false≢true, Pid, MsgId, Message, Record, Label, PlainWhat, plain_message, gone_answer, Boot, Why, bind, answer_id}
-use Rattle.dm_mirror.proofs.Names.{answer_to, without_message, is_dropped, Point, times, Known, View, handled, bag_none, bag_gone, agrees, ended_of, WhatFits, is_manager, dropped_is, Placed, plainly, user_what, read_what, write_what}
-use Rattle.dm_mirror.proofs.Names.{block_what, stop_what, resume_what, kill_what, written_what, gone_what, What, handles, process_handles, ended_handles, KernelState, Turned, turned, KnownStands, gone_is, ◌/◌, Bool, length, map}
-use Rattle.dm_mirror.proofs.Names.{if◌then◌else◌, plain_kind, PlainMessage, arith, nat_tests, Process, Alive, Life, OneKernel, plain_process, PlainProcess, pid_eq-same, blocks_of, alive_of, served_is, of_map, with_queue, here_handles}
-use Rattle.dm_mirror.proofs.Names.{with_here, AreMessages, is_server, pid_eq, false, begun, Outcome, move_what, here_free, sort_of}
+use Rattle.dm_mirror.proofs.Names.{◌≡◌, ℕ, true, List, [], ◌∷◌, refl, ap, ◌∙◌, sym, is_some, Option, None, Some, false≢true, Pid, MsgId, Message, Record, Label, PlainWhat, plain_message, gone_answer, Boot, Why, bind, answer_id, answer_to}
+use Rattle.dm_mirror.proofs.Names.{without_message, is_dropped, Point, times, Known, View, handled, bag_none, bag_gone, agrees, ended_of, WhatFits, is_manager, dropped_is, Placed, plainly, user_what, read_what, write_what, block_what}
+use Rattle.dm_mirror.proofs.Names.{stop_what, resume_what, kill_what, written_what, gone_what, What, handles, process_handles, ended_handles, KernelState, Turned, turned, KnownStands, gone_is, ◌/◌, Bool, length, map, if◌then◌else◌}
+use Rattle.dm_mirror.proofs.Names.{plain_kind, PlainMessage, arith, nat_tests, Process, Alive, Life, OneKernel, plain_process, PlainProcess, pid_eq-same, blocks_of, alive_of, served_is, of_map, with_queue, here_handles, with_here}
+use Rattle.dm_mirror.proofs.Names.{AreMessages, is_server, pid_eq, false, begun, Outcome, move_what, here_free, sort_of, with_sent}
 use Rattle.dm_mirror.proofs.Recorded.{recorded}
 use Rattle.dm_rule.proofs.Names.{Part}
-use Rattle.dm_onekernel.specs.Kernel.{Ended, with_sent}
+use Rattle.dm_onekernel.specs.Kernel.{Ended}
 use Rattle.dm_kernel.specs.declared.part.Part.TheVariants.{Routes}
 pub use Rattle.dm_rule.proofs.Turns.{without_front_none as front_none, at_record_same as queue_same}
 use Rattle.dm_mirror.proofs.Handle.Rows.{IsLeft, turns_row, handled_point, here_left}

@@ -1,13 +1,12 @@
 -- The queue of a process that has ended is dropped, message by message.
 use Rattle.dm_mirror.proofs.Names.{◌≡◌, ◌≢◌, ℕ, ◌+◌, ◌/◌, ◌≤◌, ◌<◌, ◌==◌, ◌&&◌, Bool, true, false, List, [], ◌∷◌, ◌++◌, length, map, refl, ap, ◌∙◌, sym, subst, is_some, arith, if◌then◌else◌, slice_get, Option, None, Some, false≢true}
 use Rattle.dm_mirror.proofs.Names.{nat_tests, Pid, pid_eq, MsgId, Message, plain_message, Record, Label, Line, Taken, Boot, Why, OneKernel, with_process, bind, plain_process, without_message, pid_eq-same, out_off, Point, after, moved, Room}
-use Rattle.dm_mirror.proofs.Names.{blocks_of, taken_at, taken_by, takes_room, without, without_front, Spot, Queue, Held, Inbox, times, standing, StandsAsBag, Known, View, after_label, handled, stands_right, StandsAsBag-elsewhere, served_is}
-use Rattle.dm_mirror.proofs.Names.{droppable_on, Run, Placed, Mirrors, with_queue, plainly, kill_what, room_of, here_handles, KernelState, turned, without_process, KnownStands, RoomStands, told_there, zero_if, inl, inr, cases_Bool, id_eq}
-use Rattle.dm_mirror.proofs.Names.{id_eq-is, id_eq-same, Droppable, dropped_is, mirrors_view, placed_follows, AreMessages, user_dropped, machine_same, zero, suc, ◌||◌, nat_le, nat_lt, pid_of, PlainLink, What, PlainMessage, PlainWhat}
-use Rattle.dm_mirror.proofs.Names.{free_slots, free_blocks, answer, BootImage, BootMachine, first_number, images_are_valid, image_is_valid, when, answer_id, answer_to, bag_none, bag_no_space, is_server, home_of, create_what, handles, makes}
-use Rattle.dm_mirror.proofs.Names.{and-both, Says, told_receiver, user_what, queued, with_here, begun, Part, append-nil, StandsRight}
+use Rattle.dm_mirror.proofs.Names.{blocks_of, taken_at, taken_by, takes_room, without, without_front, Spot, Queue, Held, Inbox, times, standing, Known, View, after_label, handled, stands_right, served_is, droppable_on, Placed, with_queue}
+use Rattle.dm_mirror.proofs.Names.{plainly, kill_what, room_of, here_handles, KernelState, turned, without_process, KnownStands, RoomStands, told_there, mirrors_view, zero, suc, ◌||◌, nat_le, nat_lt, pid_of, PlainLink, What, PlainMessage}
+use Rattle.dm_mirror.proofs.Names.{PlainWhat, free_slots, free_blocks, answer, BootImage, BootMachine, first_number, images_are_valid, image_is_valid, when, answer_id, answer_to, bag_none, bag_no_space, is_server, home_of, create_what}
+use Rattle.dm_mirror.proofs.Names.{handles, makes, and-both, Says, told_receiver, user_what, queued, with_here, begun, Part, append-nil, StandsRight, with_sent}
 use Rattle.dm_mirror.proofs.Leave.Asks.{room_stays}
-use Rattle.dm_onekernel.specs.Kernel.{Ended, with_sent}
+use Rattle.dm_onekernel.specs.Kernel.{Ended}
 use Rattle.dm_message.specs.Plain as said
 use Rattle.dm_onekernel.specs.Step as kernel
 use Rattle.dm_rule.specs.Parts as rule_part
@@ -19,16 +18,16 @@ use Rattle.dm_kernel.specs.State as state
 use Rattle.dm_onekernel.specs.Service as service
 use Rattle.dm_kernel.specs.Handle as machine
 use Rattle.dm_mirror.proofs.Handle.Rows.{IsLeft, Elsewhere, Over, Moves, here_left, kept_at, kept_behind, mirrors_one, own_back, own_kept, seen_point, standing_begun, handled_point, turns_row}
-use Rattle.dm_mirror.proofs.Handle.Taking.{Taking, apart_at, outcome_is, sane_of, turn_is, held_apart, queue_apart, waits, eq_off, eq_self, machine_off, machine_self, map_same, pid_apart, record_off, record_others}
-use Rattle.dm_mirror.proofs.Handle.Taking.{record_self, stands_set, times_more, times_self, not_server, known_on, to_kernel, rule_to_kernel}
+use Rattle.dm_mirror.proofs.Handle.Taking.{Taking, apart_at, outcome_is, sane_of, turn_is, held_apart, queue_apart, waits, eq_off, machine_off, machine_self, map_same, pid_apart, record_off, record_others}
+use Rattle.dm_mirror.proofs.Handle.Taking.{record_self, stands_set, not_server, known_on, to_kernel, rule_to_kernel}
 use Rattle.dm_mirror.proofs.Rooms.{taken_changed, taken_same}
 use Rattle.dm_mirror.proofs.Kernel.Sets.{is_queue_of, left_off, queue_not_elsewhere, queue_of_others, right_off}
 use Rattle.dm_mirror.proofs.Row.Lines.{ended_fewer, handled_fewer}
 use Rattle.dm_mirror.proofs.Serve.Runs.{AreAlone, Drops, drop_lines, drops_stand, drops_still, machine_drops, rule_drops}
 use Rattle.dm_mirror.proofs.Serving.{queue_alone}
-use Rattle.dm_mirror.proofs.Turning.{is_elsewhere, Row, are_still, has_process}
+use Rattle.dm_mirror.proofs.Turning.{is_elsewhere, Row, has_process}
 use Rattle.dm_mirror.proofs.Leave.Goes.{room_released}
-use Rattle.dm_mirror.proofs.Handle.Ended.{front_none, IsHere, here_outcome, here_turn, served_placed, served_step, here_known}
+use Rattle.dm_mirror.proofs.Handle.Ended.{IsHere, here_outcome, here_turn, served_placed, served_step, here_known}
 use Rattle.dm_mirror.proofs.Follow.Fronts.{front_gone, elsewhere_apart}
 pub use Rattle.dm_mirror.proofs.Deliver.Moves.{messages_push as last_message}
 

@@ -3,8 +3,9 @@
 use Rattle.dm_mirror.proofs.Names.{◌≡◌, ◌≢◌, ℕ, ◌≤◌, ◌==◌, ◌&&◌, not, Bool, true, false, List, [], ◌∷◌, map, refl, ap, ◌∙◌, sym, subst, inl, inr, arith, is_some, if◌then◌else◌, slice_get, Option, None, Some, cases_Bool, false≢true}
 use Rattle.dm_mirror.proofs.Names.{nat_tests, Pid, pid_eq, Message, MsgId, plain_message, Taken, with_released, Record, Boot, Life, OneKernel, KernelState, room_of, pid_eq-is, Point, Room, taken_at, taken_by, takes_room, blocks_of, Spot}
 use Rattle.dm_mirror.proofs.Names.{Queue, Held, Inbox, times, ids_at, standing, View, Known, Unknown, Here, Frozen, Incoming, Forward, Ended, is_away, is_server, Placed, MadeStands, AreMessages, KnownStands, KernelStands, RoomStands}
-use Rattle.dm_mirror.proofs.Names.{servers_at, coming, ◌/◌, length, Process, Why, Alive, plain_process, with_queue, id_eq, PlainMessage, Label, bind, id_eq-is, pid_eq-same, Line, moved, after, at_machine, at_record, without, without_front}
-use Rattle.dm_mirror.proofs.Names.{moved_back, StandsNowhere, StandsOutside, StandsRight, serving, handled, is_kernels, Mirrors, MirrorsKernel, placed_step, StepNeeds, mirrors_view, moves_label, placed_follows, ended, Asker, HereStands}
+use Rattle.dm_mirror.proofs.Names.{servers_at, ◌/◌, length, Process, Why, Alive, plain_process, with_queue, id_eq, PlainMessage, Label, bind, id_eq-is, pid_eq-same, Line, moved, after, at_machine, at_record, without, without_front}
+use Rattle.dm_mirror.proofs.Names.{moved_back, StandsNowhere, StandsOutside, StandsRight, serving, handled, is_kernels, Mirrors, MirrorsKernel, placed_step, StepNeeds, mirrors_view, moves_label, placed_follows, ended, HereStands}
+use Rattle.dm_mirror.proofs.Names.{CanBeCarried, IsSuch}
 pub use Rattle.dm_rulelaws.proofs.Goes.Turns.{times_self, times_more}
 pub use Rattle.dm_rule.proofs.Lines.{eq_self}
 pub use Rattle.std.proofs.lemmas.Bool.{and_left as left_off, cond-false as off_if, cond-true as on_if}
@@ -19,6 +20,7 @@ use Rattle.dm_onekernel.specs.Service as service
 use Rattle.dm_mirror.proofs.Turning.{Elsewhere, is_elsewhere, has_process}
 use Rattle.dm_mirror.proofs.Rooms.{taken_same, taken_changed}
 pub use Rattle.dm_mirror.proofs.End.Servers.{off as eq_apart}
+use Rattle.dm_mirror.proofs.Cargoes.{cargo_same}
 
 -- the queue of process p on machine m
 abbrev pub is_queue_of : ℕ → Pid → Spot → Bool
@@ -157,10 +159,10 @@ module _ (pt next : Point) (l placed : Placed) (p : Pid) (ids js : List MsgId) (
   known_same Unknown None process notes ended h = tt
   known_same Here (Some (Record.Here x)) process notes ended h = here_stays x (process refl) h
   known_same (Frozen to) (Some (Record.Frozen d)) process notes ended h =
-      record { to = h.to; asker = h.asker ∙ sym (notes refl); here = here_stays d.process (process refl) h.here; held = messages_on l.bag placed.bag js d.held held h.held; whole = h.whole }
+      record { to = h.to; cargo = cargo_same l placed p (process refl) (notes refl) ∙ h.cargo; here = here_stays d.process (process refl) h.here; held = messages_on l.bag placed.bag js d.held held h.held; whole = h.whole }
   known_same (Incoming from) (Some (Record.Incoming a)) process notes ended h =
-      let pieces = h.pieces ∙ ap (λ (k : Option Asker). coming h.process k a.held a.wanted) (sym (notes refl)) in
-      record { process = h.process; there = process refl ∙ h.there; whole = h.whole; pieces = pieces; held = messages_on l.bag placed.bag js a.held held h.held }
+      let whole = subst (IsSuch (CanBeCarried a.cap)) (sym (process refl)) h.whole in
+      record { source = h.source; cargo = h.cargo; there = cargo_same l placed p (process refl) (notes refl) ∙ h.there; whole = whole; pieces = h.pieces; held = messages_on l.bag placed.bag js a.held held h.held }
   known_same (Forward at_ moves) (Some (Record.Forward to n)) process notes ended h = h
   known_same Ended (Some (Record.Ended y)) process notes ended h = ap kernel.why_ended (ended refl) ∙ h
   known_same k r process notes ended h = h

@@ -2,7 +2,7 @@
 use Rattle.dm_mirror.proofs.Names.{◌≡◌, ◌≢◌, ℕ, ◌+◌, ◌≤◌, true, false, [], ◌∷◌, refl, ap, ◌∙◌, sym, subst, inl, inr, arith, Option, None, Some, option_map, cases_Bool, false≢true, Pid, pid_eq, pid_eq-is, Message, MsgId, id_eq}
 use Rattle.dm_mirror.proofs.Names.{plain_message, Record, Label, Line, Process, Boot, OneKernel, Step, bind, answer_id, bag_none, Point, View, Told, Of, Here, Known, Spot, Queue, Held, Inbox, standing, times, is_between, is_server, after}
 use Rattle.dm_mirror.proofs.Names.{after_line, moved, at_machine, outcome, Run, Placed, Mirrors, placed_step, StepNeeds, KernelState, turn, AllOwnStand, KernelStands, KnownStands, HereStands, RoomStands, AllRecords, TokensStand, room_of}
-use Rattle.dm_mirror.proofs.Names.{slice_get, Asker, Outcome, manager_request, moved_answer, MoveNote, bag_answered, plain_note, ends_move, without_note, Part, tells_asker}
+use Rattle.dm_mirror.proofs.Names.{slice_get, Asker, Outcome, manager_request, moved_answer, MoveNote, bag_answered, plain_note, ends_move, without_note, Part, tells_asker, LeftStands, is_due_piece}
 use Rattle.dm_onekernel.specs.Service as service
 use Rattle.dm_onekernel.specs.Step as kernel
 use Rattle.dm_rule.specs.Parts as rule
@@ -16,6 +16,7 @@ use Rattle.dm_mirror.proofs.Handle.Rows.{standing_begun}
 use Rattle.dm_mirror.proofs.Leave.Fronts.{tokens_one}
 use Rattle.dm_mirror.proofs.Rooms.{taken_same}
 use Rattle.dm_mirror.proofs.Turning.{is_elsewhere}
+use Rattle.dm_mirror.proofs.LeftOver.{left_asks}
 
 -- the point behind a line that changes what was seen alone
 abbrev pub with_view : Point → View → Point
@@ -37,9 +38,9 @@ pub record EndsMove (b : Boot) (m : ℕ) (pt : Point) (l : Placed) (records : Al
   pub known : v.known m p ≡ Here
   pub server : is_server p ≡ false
   pub alone : (n : ℕ) → n ≢ m → has_process (pt.view.known n p) ≡ false
-  -- what stands stood before, and no message of its migration stands
+  -- what stands stood before, and of its migration only what is left over
   pub stood : (i : MsgId) (z : Spot) → 1 ≤ standing v i z → (y : Spot) × (1 ≤ standing pt.view i y)
-  pub none : (i : MsgId) (t : Told) (z : Spot) → v.told i ≡ Some t → is_between t.kind ≡ true → t.about ≡ Of p → 1 ≤ standing v i z → ⊥
+  pub left : (i : MsgId) (t : Told) (z : Spot) → v.told i ≡ Some t → is_between t.kind ≡ true → t.about ≡ Of p → 1 ≤ standing v i z → (is_due_piece v p i t ≡ false) × LeftStands placed p i
 
 module _ (b : Boot) (m : ℕ) (pt : Point) (l : Placed) (records : AllRecords) (k : KernelState) (p : Pid) (line : Line) (state : KernelState) (v : View) (placed : Placed)
     (h : EndsMove b m pt l records k p line state v placed) where
@@ -153,7 +154,11 @@ module _ (b : Boot) (m : ℕ) (pt : Point) (l : Placed) (records : AllRecords) (
           | inr out ↦ h.own i x (sym (off_if (id_eq a.id i) (Some a) (placed.bag i) out) ∙ found) plain
         ];
         tokens = tokens_one v next.view placed on (at_machine records m state.records) (at_machine records m state.records) p
-            (record { stays = search (others); came = λ i u z told between least. ((z, least), same i z least); none = h.none }) h.tokens;
+            (record {
+              stays = record { told = refl; asked = λ q off. refl; processes = λ q off. refl; notes = others; records = λ w q off. refl; known = λ w q off. refl };
+              came = λ i u z told between least. ((z, least), same i z least);
+              left = λ i u z told between about least. (let x = h.left i u z told between about least in (x.0, left_asks placed on p i x.1 refl (same i z least ∙ x.1.is)));
+            }) h.tokens;
       }
 
   -- by who waits to hear

@@ -5,12 +5,12 @@ use Rattle.dm_mirror.proofs.Names.{pid_eq-is, pid_eq-same, to_kernel, Point, mov
 use Rattle.dm_mirror.proofs.Names.{is_fixed, Placed, mirrors_view, told_of, KnownStands, LeavesStand, RoomStands, AllRecords, eq_not, or-right, ◌/◌, length, option_map, Option, Addr, pid_of, kind_of, plain_what, with_what, frozen_of}
 use Rattle.dm_mirror.proofs.Names.{incoming_of, Departure, block_of, chunk_of, state_of, OneKernel, bind, plain_process, gives_piece, kernel_handles, Addresses, Receiver, Sender, gets, own_given, unmoved, told_step, is_between}
 use Rattle.dm_mirror.proofs.Names.{tells_onward, fits, free_room, kernel_hears, Inbox, standing, Told, View, after_proto, handled, Run, enclosed, about_of, Carries, destination_of, false≢true, ◌++◌, turn, outcome, after, Step}
-use Rattle.dm_mirror.proofs.Names.{plain_message, HereStands, Mirrors, AllOwnStand, KernelStands, TokensStand, AreMessages, Spot, Queue, Held, spot_cases, Asker, plain_note, leaves_for, here_free, Part, sort_of, drop, slice_get}
-use Rattle.dm_mirror.proofs.Names.{option_and_then}
+use Rattle.dm_mirror.proofs.Names.{plain_message, HereStands, Mirrors, AreMessages, Spot, Queue, Held, spot_cases, Asker, leaves_for, here_free, Part, sort_of, drop, slice_get, option_and_then, Cargo, cargo_at, cargo_of, ◌⊎◌, ◌||◌}
+use Rattle.dm_mirror.proofs.Names.{cases_Bool, PlainProcess, receiver_in, LeftCarries, is_due_piece, is_piece, brings_piece, pulls_piece, is_waited_from}
 use Rattle.dm_mirror.proofs.Recorded.{Recorded, recorded}
 use Rattle.dm_kernel.specs.State.{with_sent}
 use Rattle.dm_mirror.proofs.Rooms.{taken_same}
-use Rattle.dm_mirror.proofs.Leave.Fronts.{FrontGone, Hearing, Present, leaving_none, none_rests, outcome_hears, stood, turn_hears, Leaving, leaving, stands_first, absent_next, may_between, own_is, process_hears, records_as, three_off, to_process}
+use Rattle.dm_mirror.proofs.Leave.Fronts.{FrontGone, Hearing, Present, rests_over, outcome_hears, stood, turn_hears, Leaving, leaving, stands_first, absent_next, may_between, own_is, process_hears, records_as, three_off, to_process}
 use Rattle.dm_mirror.proofs.Leave.Fronts.{untold_next, to_kernel_hears, own_stays, tokens_one, front_rest}
 use Rattle.dm_mirror.proofs.Turning.{Nothing, Own, TurnsAt, begun, has_process, is_elsewhere, late_parts, late_rule_parts, part_of, rule_part_of}
 use Rattle.dm_mirror.proofs.Handle.Taking.{eq_self, machine_self, machine_off, record_self, record_off, record_others, some_same, stands_set, held_apart, map_same, queue_apart}
@@ -22,6 +22,9 @@ use Rattle.dm_kernel.specs.State as machine
 use Rattle.dm_rule.specs.Migrating as migrating
 use Rattle.dm_rule.specs.View as view
 use Rattle.dm_mirror.proofs.Leave.Fronts as owns
+use Rattle.dm_mirror.proofs.Cargoes.{same_cargo}
+use Rattle.dm_mirror.proofs.LeftOver.{PulledHere, left_asks, over_of, piece_over, pulled_here, record_apart, record_kept, still_over, tokens_less}
+use Rattle.dm_mirror.proofs.Turning.{IsCarried, IsLeftOver}
 
 -- the room is the same where machine m has the same of each process
 pub room_stays : (room given : Taken) (r s : Room) → s ≡ r → RoomStands room given r → RoomStands room given s
@@ -67,12 +70,8 @@ here_already b m pt l records k y machine h at_m is =
       single = omega arith;
       topic = tt;
       own = own_stays pt.view next.view l refl h.own;
-      tokens = tokens_one pt.view next.view l l records (at_machine records m k.records) p
-          (record {
-            stays = search (λ (n : ℕ) (q : Pid) (off : pid_eq p q ≡ false). records_as records m n k.records k.records q h.records_here refl);
-            came = λ i t spot told between least. (let g = stood m y.id h.ids pt.view next.view i spot h.box gone least in ((g.spot, g.stands), refl));
-            none = λ i t spot told between about least. (let g = stood m y.id h.ids pt.view next.view i spot h.box gone least in none_rests b pt m p i t g.spot h.run at_m told between about g.stands);
-          }) h.tokens;
+      tokens = tokens_less pt.view next.view l records (at_machine records m k.records) (λ i. refl) (λ q. refl) (λ n q. refl) (λ n q. records_as records m n k.records k.records q h.records_here refl)
+          (λ i t spot told between least. let g = stood m y.id h.ids pt.view next.view i spot h.box gone least in (g.spot, g.stands)) h.tokens;
     }
 
 pub taken_at_record : (pt next : Point) (m : ℕ) (p q : Pid) (n : Known) → next.kernel.processes q ≡ pt.kernel.processes q
@@ -149,8 +148,9 @@ sets_off b m pt l records k p machine asker says t a box to on h =
     ap (λ (c : Bool). if c then Some (Record.Frozen (frozen x machine asker)) else k.records p) (pid_eq-same p) in
     let queued : HereStands on p (v.queue m p) x =
     ((h.here.0.0, h.processes p ∙ h.here.0.1), map_same l.bag on.bag (v.queue m p) (λ j least. h.kept (Queue m p) j (queue_apart m m p) least) ∙ h.here.1) in
+    let cargo : cargo_at on p ≡ Some (cargo_of x asker) = λ i. option_map (λ (z : Process). cargo_of z (h.note i)) (queued.0.1 i) in
     let leaves : LeavesStand on p (v.queue m p) (v.held m p) machine (frozen x machine asker) =
-    search (sym h.note, queued, ap (map on.bag) none_held, h.whole) in
+    search (cargo, queued, ap (map on.bag) none_held, h.whole) in
     let mine : KnownStands next on p (v.queue m p) (v.held m p) (next.view.known m p) (state.records p) =
     subst (KnownStands next on p (v.queue m p) (v.held m p) (next.view.known m p)) (sym frozen_record)
     (subst (λ (n : Known). KnownStands next on p (v.queue m p) (v.held m p) n (Some (Record.Frozen (frozen x machine asker)))) (sym frozen_known) leaves) in
@@ -164,6 +164,12 @@ sets_off b m pt l records k p machine asker says t a box to on h =
     let holds : (q : Pid) (j : MsgId) → pid_eq p q ≡ false → 1 ≤ times j (v.held m q) → on.bag j ≡ l.bag j =
     λ q j off least. h.kept (Held m q) j (held_apart m m q) least in
     let lives : (q : Pid) → pid_eq p q ≡ false → t.processes q ≡ pt.kernel.processes q = λ q off. h.lives q in
+    let asks : IsCarried on (v.asked p) after_records p ask = record { cargo = cargo_of x asker; there = cargo; sender = refl; carries = refl } in
+    let asked_as : IsCarried on (next.view.asked p) after_records p ask ⊎ IsLeftOver next.view on p ask = inl asks in
+    let same : (i : MsgId) (z : Spot) → 1 ≤ standing next.view i z → on.bag i ≡ l.bag i = λ i z least. (
+    let e = stood m h.front h.ids v next.view i z h.first gone least in
+    elim (spot_cases e.spot (Inbox m)) [ inl is ↦ h.behind i (e.behind is) | inr off ↦ h.kept e.spot i off e.stands ]) in
+    let kept : (n from : ℕ) → is_waited_from from (next.view.known n p) ≡ true → is_waited_from from (v.known n p) ≡ true = λ n from waits. record_kept v.known m p p (Frozen to) (λ c. refl) n from waits in
     let processes : (q : Pid) → pid_eq p q ≡ false → on.processes q ≡ l.processes q = λ q off. h.processes q in
     record {
       state = state;
@@ -193,7 +199,7 @@ sets_off b m pt l records k p machine asker says t a box to on h =
       );
       may = (
         may_between next on after_records m machine p ask (search
-            (ap kernel_at h.stands.here, h.absent ask.id (ap l.bag id_is ∙ absent_next b pt l m h.run h.mirrors h.own), ap v.told id_is ∙ untold_next b pt m h.run, ap Of x_is, h.processes p ∙ h.here.0.1)),
+            (ap kernel_at h.stands.here, h.absent ask.id (ap l.bag id_is ∙ absent_next b pt l m h.run h.mirrors h.own), ap v.told id_is ∙ untold_next b pt m h.run, ap Of x_is, asked_as)),
         tt,
       );
       late_may = tt;
@@ -202,13 +208,20 @@ sets_off b m pt l records k p machine asker says t a box to on h =
       own = λ j w there none. (let g = h.own j w (h.back j w none there) none in record { told = g.told; mine = g.mine; sender = g.sender });
       tokens = tokens_one v next.view l on records after_records p
           (record {
-            stays = search (processes, h.notes, λ (n : ℕ) (q : Pid) (off : pid_eq p q ≡ false). records_as records m n k.records state.records q h.records_here (sets q off));
-            came = λ i u z told between least. (
-                let e = stood m h.front h.ids v next.view i z h.first gone least in (
-                  (e.spot, e.stands),
-                  elim (spot_cases e.spot (Inbox m)) [ inl is ↦ h.behind i (e.behind is) | inr off ↦ h.kept e.spot i off e.stands ],
-                ));
-            none = λ i u z told between about least. (let e = stood m h.front h.ids v next.view i z h.first gone least in none_rests b pt m p i u e.spot h.run h.at_m told between about e.stands);
+            stays = record {
+              told = refl;
+              asked = λ q off. refl;
+              processes = processes;
+              notes = h.notes;
+              records = λ n q off. records_as records m n k.records state.records q h.records_here (sets q off);
+              known = λ n q off. record_apart v.known m n p q (Frozen to) off;
+            };
+            came = λ i u z told between least. (let e = stood m h.front h.ids v next.view i z h.first gone least in ((e.spot, e.stands), same i z least));
+            left = λ i u z told between about least. (
+                let e = stood m h.front h.ids v next.view i z h.first gone least in
+                let off = rests_over b pt m p i u e.spot h.run h.at_m told between about e.stands in
+                let was = (h.tokens p i u e.spot told between about e.stands).1 off in
+                (still_over v next.view p i u off kept, left_asks l on p i was (h.processes p) (same i z least ∙ was.is)));
           }) h.tokens;
     }
 
@@ -288,21 +301,18 @@ departing b m pt l records k y p h g = recorded b pt l m k p (Frozen g.to) h.sta
 
 -- what is heard carries what it was sent with
 pub record Carried (pt : Point) (l : Placed) (records : AllRecords) (p : Pid) (y : Message) : Type 0 where
-  pub process : Process
-  pub there : l.processes p ≡ Some process
+  pub cargo : Cargo
+  pub there : cargo_at l p ≡ Some cargo
   pub sender : y.sender ≡ kernel_at y.id.from.home
-  pub carries : Carries p process (l.notes p) (pt.view.asked p) (incoming_of (records (destination_of y.id (told_of y)) p)) y.what
+  pub carries : Carries p cargo (pt.view.asked p) (incoming_of (records (destination_of y.id (told_of y)) p)) y.what
 
-pub process_same : (o : Option Process) (x y : Process) → o ≡ Some x → o ≡ Some y → x ≡ y
-process_same o x y e f = let g : Some x ≡ Some y = sym e ∙ f in cc
-
-pub carried : (b : Boot) (m : ℕ) (pt : Point) (l : Placed) (records : AllRecords) (k : KernelState) (y : Message) (p : Pid) → Hearing b m pt l records k y → is_between (kind_of y.what) ≡ true → about_of y.what ≡ Of p → Carried pt l records p y
-carried b m pt l records k y p h between about =
-    let t = h.tokens p y.id (told_of y) (Inbox m) h.told between about (stands_first b m pt l records k y h) in
+pub carried : (b : Boot) (m : ℕ) (pt : Point) (l : Placed) (records : AllRecords) (k : KernelState) (y : Message) (p : Pid) → Hearing b m pt l records k y → is_between (kind_of y.what) ≡ true → about_of y.what ≡ Of p → is_due_piece pt.view p y.id (told_of y) ≡ true → Carried pt l records p y
+carried b m pt l records k y p h between about due =
+    let t = (h.tokens p y.id (told_of y) (Inbox m) h.told between about (stands_first b m pt l records k y h)).0 due in
     let same : t.message ≡ y = some_same t.message y (sym t.is ∙ h.there) in
     search (
       ap (λ (x : Message). x.sender) (sym same) ∙ t.sender,
-      subst (λ (x : Message). Carries p t.process (l.notes p) (pt.view.asked p) (incoming_of (records (destination_of y.id (told_of y)) p)) x.what) same t.carries,
+      subst (λ (x : Message). Carries p t.cargo (pt.view.asked p) (incoming_of (records (destination_of y.id (told_of y)) p)) x.what) same t.carries,
     )
 
 pub kernel_number : (m : ℕ) (p : Pid) → p ≡ pid_of m 0 → (p.num == 0) ≡ true
@@ -316,25 +326,24 @@ pub record IsPiece (p : Pid) (w : What) : Type 0 where
   pub gives : (s : OneKernel) (v : View) (a : Addresses) (i : MsgId) (q : Pid) → own_given s v a i q (sort_of (kind_of w)) ≡ gets (Receiver i) (unmoved q.home) ∷ gets (Sender i) (unmoved v.acting) ∷ []
   pub of_source : tells_onward (sort_of (kind_of w)) ≡ true
 
-gives : (b : Boot) (m : ℕ) (pt : Point) (l : Placed) (records : AllRecords) (k : KernelState) (y : Message) (p : Pid) (w : What) (h : Hearing b m pt l records k y) → Leaving m pt y p → IsPiece p w → Carried pt l records p y
+gives : (b : Boot) (m : ℕ) (pt : Point) (l : Placed) (records : AllRecords) (k : KernelState) (y : Message) (p : Pid) (w : What) (h : Hearing b m pt l records k y) → y.to.pid ≡ pid_of m 0 → y.sender ≡ kernel_at y.id.from.home → IsPiece p w
     → kernel_handles b (record k { inbox = h.rest }) y y.what ≡ gives_piece (record k { inbox = h.rest }) y w
     → kernel_hears b pt m y.id (kind_of y.what) (about_of y.what) ≡ Some (migrating.gives_piece y.id (kind_of w))
     → after_proto (handled (begun pt m).view y.id) (Some (told_of y)) ≡ view.about (handled (begun pt m).view y.id) (Of p)
-    → (x : Process) → l.processes p ≡ Some x → Carries p x (l.notes p) (pt.view.asked p) (incoming_of (records y.id.from.home p)) w → TurnsAt b m pt l records k
-gives b m pt l records k y p w h g piece c turn hears proto x there carries =
+    → IsCarried l (pt.view.asked p) (at_machine records m k.records) p (own (record k { inbox = h.rest }) y.sender w) ⊎ IsLeftOver pt.view l p (own (record k { inbox = h.rest }) y.sender w) → TurnsAt b m pt l records k
+gives b m pt l records k y p w h receiver sender piece turn hears proto carries =
     let v = pt.view in
     let s : KernelState = record k { inbox = h.rest } in
     let state : KernelState = with_sent s in
     let message : Message = own s y.sender w in
-    let num = kernel_number m y.to.pid g.receiver in
+    let num = kernel_number m y.to.pid receiver in
     let next : Point = record { kernel = pt.kernel; view = view.about (handled (begun pt m).view y.id) (Of p); addresses = pt.addresses } in
     let after_records : AllRecords = at_machine records m state.records in
     let box : next.view.inbox m ≡ h.ids = machine_self v.inbox m (without_front y.id (v.inbox m)) ∙ front_off y.id h.ids (v.inbox m) h.box in
     let gone : FrontGone m h.ids v next.view = search (front_rest m h.ids v next.view box, machine_off) in
     let taken = taken_same pt next m refl (λ n. refl) (λ q. refl) in
     let id_is : message.id ≡ own_id next.view = own_is b m pt l records k y h in
-    let to_is : destination_of message.id (told_of message) ≡ y.id.from.home = ap (λ (d : Bool). if d then y.sender.pid.home else message.id.from.home) piece.of_source ∙ ap (λ (a : Addr). a.pid.home) c.sender in
-    let same_there : after_records y.id.from.home p ≡ records y.id.from.home p = records_as records m y.id.from.home k.records state.records p h.records_here refl in
+    let carries_on : IsCarried l (next.view.asked p) after_records p message ⊎ IsLeftOver next.view l p message = elim carries [ inl c ↦ inl c | inr c ↦ inr (record { over = c.over; sender = c.sender; carries = c.carries }) ] in
     record {
       state = state;
       says = Line.Proto y.id ∷ [];
@@ -342,7 +351,7 @@ gives b m pt l records k y p w h g piece c turn hears proto x there carries =
       late = Nothing;
       turn = turn_hears b m pt l records k y h (gives_piece s y w) (owns.to_kernel b s y num ∙ turn);
       outcome = outcome_hears b m pt l records k y h (Some (rule.Says (Line.Proto y.id) ∷ rule.Owns (kind_of w) y.sender.pid y.sender.at ∷ []))
-          (to_kernel_hears b pt m y.id (told_of y) num ∙ hears ∙ ap (λ (a : Addr). Some (rule.Says (Line.Proto y.id) ∷ rule.Owns (kind_of w) a.pid a.at ∷ [])) (sym c.sender));
+          (to_kernel_hears b pt m y.id (told_of y) num ∙ hears ∙ ap (λ (a : Addr). Some (rule.Says (Line.Proto y.id) ∷ rule.Owns (kind_of w) a.pid a.at ∷ [])) (sym sender));
       next = next;
       after = ap (λ (o : Option Told). Some (record { kernel = pt.kernel; view = after_proto (handled (begun pt m).view y.id) o; addresses = pt.addresses })) h.told
           ∙ ap (λ (u : View). Some (record { kernel = pt.kernel; view = u; addresses = pt.addresses })) proto;
@@ -358,7 +367,9 @@ gives b m pt l records k y p w h g piece c turn hears proto x there carries =
           ap kernel_at h.stands.here,
           ap l.bag id_is ∙ absent_next b pt l m h.run h.mirrors h.own,
           ap v.told id_is ∙ untold_next b pt m h.run,
-          subst (λ (n : ℕ). Carries p x (l.notes p) (v.asked p) (incoming_of (after_records n p)) w) (sym to_is) (subst (λ (r : Option machine.KernelKnown). Carries p x (l.notes p) (v.asked p) (incoming_of r) w) (sym same_there) carries),
+          carries_on,
+          sender,
+          piece.about,
         )),
         tt,
       );
@@ -366,49 +377,153 @@ gives b m pt l records k y p w h g piece c turn hears proto x there carries =
       single = omega arith;
       topic = tt;
       own = own_stays v next.view l refl h.own;
-      tokens = tokens_one v next.view l l records after_records p
-          (record {
-            stays = search (λ (n : ℕ) (q : Pid) (off : pid_eq p q ≡ false). records_as records m n k.records state.records q h.records_here refl);
-            came = λ i t spot told between least. (let d = stood m y.id h.ids v next.view i spot h.box gone least in ((d.spot, d.stands), refl));
-            none = leaving_none b m pt l records k y p h g next.view gone;
-          }) h.tokens;
+      tokens = tokens_less v next.view l records after_records (λ i. refl) (λ q. refl) (λ n q. refl) (λ n q. records_as records m n k.records state.records q h.records_here refl)
+          (λ i t spot told between least. let d = stood m y.id h.ids v next.view i spot h.box gone least in (d.spot, d.stands)) h.tokens;
     }
 
 -- while it leaves a process is alive
-pub leaves_alive : (b : Boot) (m : ℕ) (pt : Point) (l : Placed) (p : Pid) (x : Process) (i : MsgId) (k : MessageKind) (o : Option (List rule.Part)) → l.processes p ≡ Some x → kernel.alive (pt.kernel.processes p) ≡ option_map plain_process (l.processes p)
+pub no_piece : (k : MessageKind) → is_piece (sort_of k) ≡ false → brings_piece (sort_of k) ≡ false
+no_piece k e = or_second (pulls_piece (sort_of k)) (brings_piece (sort_of k)) e
+  where
+    or_second : (a c : Bool) → (a || c) ≡ false → c ≡ false
+    or_second true c e = absurd (false≢true (sym e))
+    or_second false c e = e
+
+pub leaves_alive : (b : Boot) (m : ℕ) (pt : Point) (l : Placed) (p : Pid) (x : Process) (i : MsgId) (k : MessageKind) (o : Option (List rule.Part)) → l.processes p ≡ Some x → kernel.alive (pt.kernel.processes p) ≡ option_map plain_process (l.processes p) → brings_piece (sort_of k) ≡ false
     → told_step pt m i p (fits (free_room b pt m) (length x.memory / 256)) (plain_process x) (sort_of k) ≡ o → kernel_hears b pt m i k (Of p) ≡ o
-leaves_alive b m pt l p x i k o there plain told = grind (arith, nat_tests, option_map)
+leaves_alive b m pt l p x i k o there plain none told =
+    let step : PlainProcess → Option (List rule.Part) = λ z. told_step pt m i p (fits (free_room b pt m) (length z.memory / 256)) z (sort_of k) in
+    ap (λ (d : Bool). if d && not (is_waited_from i.from.home (pt.view.known m p)) then Some (rule.Says (Line.Stale i) ∷ []) else bind (kernel.alive (pt.kernel.processes p)) step) none
+    ∙ ap (λ (q : Option PlainProcess). bind q step) (plain ∙ ap (option_map plain_process) there) ∙ told
+
+-- a piece that is due carries what it is to
+due_carried : (m : ℕ) (pt : Point) (l : Placed) (records : AllRecords) (k s : KernelState) (y : Message) (p : Pid) (w : What) → records m ≡ k.records → IsPiece p w → (c : Carried pt l records p y) → Carries p c.cargo (pt.view.asked p) (incoming_of (records y.id.from.home p)) w
+    → IsCarried l (pt.view.asked p) (at_machine records m k.records) p (own s y.sender w)
+due_carried m pt l records k s y p w mine piece c carries =
+    let message : Message = own s y.sender w in
+    let after_records : AllRecords = at_machine records m k.records in
+    let to_is : destination_of message.id (told_of message) ≡ y.id.from.home = ap (λ (d : Bool). if d then y.sender.pid.home else message.id.from.home) piece.of_source ∙ ap (λ (a : Addr). a.pid.home) c.sender in
+    let same_there : after_records y.id.from.home p ≡ records y.id.from.home p = records_as records m y.id.from.home k.records k.records p mine refl in
+    record {
+      cargo = c.cargo;
+      there = c.there;
+      sender = refl;
+      carries = subst (λ (n : ℕ). Carries p c.cargo (pt.view.asked p) (incoming_of (after_records n p)) w) (sym to_is)
+          (subst (λ (r : Option machine.KernelKnown). Carries p c.cargo (pt.view.asked p) (incoming_of r) w) (sym same_there) carries);
+    }
+
+-- and one that is asked for by what is left over is left over too
+left_carried : (m : ℕ) (v : View) (l : Placed) (s : KernelState) (y : Message) (p : Pid) (w : What) (t : Told) → PulledHere v p y.id t m → s.here ≡ m → y.sender ≡ kernel_at y.id.from.home → IsPiece p w → brings_piece (sort_of (kind_of w)) ≡ true → LeftCarries p (cargo_at l p) w
+    → IsLeftOver v l p (own s y.sender w)
+left_carried m v l s y p w t u here sender piece brings carries =
+    let x : Message = own s y.sender w in
+    let to : y.sender.pid ≡ pid_of (receiver_in (kind_of w) m u.d) 0 =
+    ap (λ (a : Addr). a.pid) sender ∙ ap (λ (q : Pid). pid_of q.home 0) u.from ∙ ap (λ (c : Bool). pid_of (if c then u.d else m) 0) (sym piece.of_source) in
+    record {
+      over = piece_over v p x.id (told_of x) m u.d brings (λ i. record { kind = kind_of w; receiver = to i; about = piece.about i }) (λ i. pid_of (here i) 0) u.away;
+      sender = refl;
+      carries = carries;
+    }
+
+-- what is left over and asks for a piece
+record Remains (b : Boot) (m : ℕ) (pt : Point) (l : Placed) (k : KernelState) (y : Message) (p : Pid) : Type 0 where
+  here : PulledHere pt.view p y.id (told_of y) m
+  departure : Departure
+  is : k.records p ≡ Some (Record.Frozen departure)
+  stands : LeavesStand l p (pt.view.queue m p) (pt.view.held m p) here.d departure
+  sender : y.sender ≡ kernel_at y.id.from.home
+
+remains : (b : Boot) (m : ℕ) (pt : Point) (l : Placed) (records : AllRecords) (k : KernelState) (y : Message) (p : Pid) → Hearing b m pt l records k y → is_between (kind_of y.what) ≡ true → about_of y.what ≡ Of p → pulls_piece (sort_of (kind_of y.what)) ≡ true → is_due_piece pt.view p y.id (told_of y) ≡ false
+    → Remains b m pt l k y p
+remains b m pt l records k y p h between about pulls off =
+    let v = pt.view in
+    let phases = h.run.based.phased.phases in
+    let first = stands_first b m pt l records k y h in
+    let u = pulled_here v p (phases.of p) y.id (told_of y) m (phases.each p) (over_of v phases p y.id (told_of y) (Inbox m) h.told between about first off) pulls first in
+    let (departure, is, stands) = recorded b pt l m k p (Frozen u.d) h.stands (leaves_no_server b pt m u.d p h.run u.known) u.known in
+    let x = (h.tokens p y.id (told_of y) (Inbox m) h.told between about first).1 off in
+    record { here = u; departure = departure; is = is; stands = stands; sender = ap (λ (z : Message). z.sender) (sym (some_same x.message y (sym x.is ∙ h.there))) ∙ x.sender }
+
+chunk_piece : (p q : Pid) (state : List ℕ) (n : ℕ) → q ≡ p → IsPiece p (chunk_of q state n)
+chunk_piece p q state n e = record { about = ap Of e; plain = refl; encloses = refl; gives = λ o v a i q. refl; of_source = refl }
+
+block_piece : (p q : Pid) (memory : List ℕ) (n : ℕ) → q ≡ p → IsPiece p (block_of q memory n)
+block_piece p q memory n e = record { about = ap Of e; plain = refl; encloses = refl; gives = λ o v a i q. refl; of_source = refl }
+
+chunk_due : (b : Boot) (m : ℕ) (pt : Point) (l : Placed) (records : AllRecords) (k : KernelState) (y : Message) (p : Pid) (chunk : ℕ) → Hearing b m pt l records k (record y { what = What.PullState p chunk }) → is_due_piece pt.view p y.id (told_of (record y { what = What.PullState p chunk })) ≡ true
+    → TurnsAt b m pt l records k
+chunk_due b m pt l records k y p chunk h due =
+    let z : Message = record y { what = What.PullState p chunk } in
+    let s : KernelState = record k { inbox = h.rest } in
+    let g = leaving b m pt l records k z p h refl refl refl refl due in
+    let (departure, record_is, stands) = departing b m pt l records k z p h g in
+    let c = carried b m pt l records k z p h refl refl due in
+    let x = departure.process in
+    let same : cargo_of x departure.asker ≡ c.cargo = same_cargo (cargo_of x departure.asker) c.cargo (sym stands.cargo ∙ c.there) in
+    let name : x.pid ≡ p = (h.mirrors.places.process p (record x { queue = stands.here.0.0 }) stands.here.0.1).pid in
+    let piece = chunk_piece p x.pid (state_of x) chunk name in
+    gives b m pt l records k z p (chunk_of x.pid (state_of x) chunk) h g.receiver c.sender piece
+    (ap (λ (r : Option machine.KernelKnown). bind (frozen_of r) (λ (e : Departure). gives_piece s z (chunk_of e.process.pid (state_of e.process) chunk))) record_is)
+    (leaves_alive b m pt l p (record x { queue = stands.here.0.0 }) y.id MessageKind.PullState (Some (migrating.gives_piece y.id MessageKind.State)) stands.here.0.1 (h.mirrors.plain.processes p) refl refl)
+    refl (inl (due_carried m pt l records k s z p (chunk_of x.pid (state_of x) chunk) h.records_here piece c (ap (λ (u : Cargo). chunk_of u.pid u.state chunk) same, c.carries.1, c.carries.2)))
+
+chunk_left : (b : Boot) (m : ℕ) (pt : Point) (l : Placed) (records : AllRecords) (k : KernelState) (y : Message) (p : Pid) (chunk : ℕ) → Hearing b m pt l records k (record y { what = What.PullState p chunk }) → is_due_piece pt.view p y.id (told_of (record y { what = What.PullState p chunk })) ≡ false
+    → TurnsAt b m pt l records k
+chunk_left b m pt l records k y p chunk h off =
+    let z : Message = record y { what = What.PullState p chunk } in
+    let s : KernelState = record k { inbox = h.rest } in
+    let g = remains b m pt l records k z p h refl refl refl off in
+    let x = g.departure.process in
+    let there = g.stands.here.0.1 in
+    let name : x.pid ≡ p = (h.mirrors.places.process p (record x { queue = g.stands.here.0.0 }) there).pid in
+    let piece = chunk_piece p x.pid (state_of x) chunk name in
+    gives b m pt l records k z p (chunk_of x.pid (state_of x) chunk) h g.here.receiver g.sender piece
+    (ap (λ (r : Option machine.KernelKnown). bind (frozen_of r) (λ (e : Departure). gives_piece s z (chunk_of e.process.pid (state_of e.process) chunk))) g.is)
+    (leaves_alive b m pt l p (record x { queue = g.stands.here.0.0 }) y.id MessageKind.PullState (Some (migrating.gives_piece y.id MessageKind.State)) there (h.mirrors.plain.processes p) refl refl)
+    refl (inr (left_carried m pt.view l s z p (chunk_of x.pid (state_of x) chunk) (told_of z) g.here h.stands.here g.sender piece refl name))
 
 pub gives_chunk : (b : Boot) (m : ℕ) (pt : Point) (l : Placed) (records : AllRecords) (k : KernelState) (y : Message) (p : Pid) (chunk : ℕ) → Hearing b m pt l records k (record y { what = What.PullState p chunk })
     → TurnsAt b m pt l records k
-gives_chunk b m pt l records k y p chunk h =
-    let z : Message = record y { what = What.PullState p chunk } in
+gives_chunk b m pt l records k y p chunk h = elim (cases_Bool (is_due_piece pt.view p y.id (told_of (record y { what = What.PullState p chunk })))) [
+  | inl due ↦ chunk_due b m pt l records k y p chunk h due
+  | inr off ↦ chunk_left b m pt l records k y p chunk h off
+]
+
+block_due : (b : Boot) (m : ℕ) (pt : Point) (l : Placed) (records : AllRecords) (k : KernelState) (y : Message) (p : Pid) (block : ℕ) → Hearing b m pt l records k (record y { what = What.PullBlock p block }) → is_due_piece pt.view p y.id (told_of (record y { what = What.PullBlock p block })) ≡ true
+    → TurnsAt b m pt l records k
+block_due b m pt l records k y p block h due =
+    let z : Message = record y { what = What.PullBlock p block } in
     let s : KernelState = record k { inbox = h.rest } in
-    let g = leaving b m pt l records k z p h refl refl refl refl in
+    let g = leaving b m pt l records k z p h refl refl refl refl due in
     let (departure, record_is, stands) = departing b m pt l records k z p h g in
-    let c = carried b m pt l records k z p h refl refl in
+    let c = carried b m pt l records k z p h refl refl due in
     let x = departure.process in
-    let same : record x { queue = stands.here.0.0 } ≡ c.process = process_same (l.processes p) (record x { queue = stands.here.0.0 }) c.process stands.here.0.1 c.there in
+    let same : cargo_of x departure.asker ≡ c.cargo = same_cargo (cargo_of x departure.asker) c.cargo (sym stands.cargo ∙ c.there) in
     let name : x.pid ≡ p = (h.mirrors.places.process p (record x { queue = stands.here.0.0 }) stands.here.0.1).pid in
-    gives b m pt l records k z p (chunk_of x.pid (state_of x) chunk) h g
-    (record { about = ap Of name; plain = refl; encloses = refl; gives = λ o v a i q. refl; of_source = refl }) c
-    (ap (λ (r : Option machine.KernelKnown). bind (frozen_of r) (λ (e : Departure). gives_piece s z (chunk_of e.process.pid (state_of e.process) chunk))) record_is)
-    (leaves_alive b m pt l p c.process y.id MessageKind.PullState (Some (migrating.gives_piece y.id MessageKind.State)) c.there (h.mirrors.plain.processes p) refl)
-    refl c.process c.there (ap (λ (u : Process). chunk_of u.pid (state_of u) chunk) same, c.carries.1, c.carries.2)
+    let piece = block_piece p x.pid x.memory block name in
+    gives b m pt l records k z p (block_of x.pid x.memory block) h g.receiver c.sender piece
+    (ap (λ (r : Option machine.KernelKnown). bind (frozen_of r) (λ (e : Departure). gives_piece s z (block_of e.process.pid e.process.memory block))) record_is)
+    (leaves_alive b m pt l p (record x { queue = stands.here.0.0 }) y.id MessageKind.PullBlock (Some (migrating.gives_piece y.id MessageKind.Memory)) stands.here.0.1 (h.mirrors.plain.processes p) refl refl)
+    refl (inl (due_carried m pt l records k s z p (block_of x.pid x.memory block) h.records_here piece c (ap (λ (u : Cargo). block_of u.pid u.memory block) same, c.carries.1, c.carries.2)))
+
+block_left : (b : Boot) (m : ℕ) (pt : Point) (l : Placed) (records : AllRecords) (k : KernelState) (y : Message) (p : Pid) (block : ℕ) → Hearing b m pt l records k (record y { what = What.PullBlock p block }) → is_due_piece pt.view p y.id (told_of (record y { what = What.PullBlock p block })) ≡ false
+    → TurnsAt b m pt l records k
+block_left b m pt l records k y p block h off =
+    let z : Message = record y { what = What.PullBlock p block } in
+    let s : KernelState = record k { inbox = h.rest } in
+    let g = remains b m pt l records k z p h refl refl refl off in
+    let x = g.departure.process in
+    let there = g.stands.here.0.1 in
+    let name : x.pid ≡ p = (h.mirrors.places.process p (record x { queue = g.stands.here.0.0 }) there).pid in
+    let piece = block_piece p x.pid x.memory block name in
+    gives b m pt l records k z p (block_of x.pid x.memory block) h g.here.receiver g.sender piece
+    (ap (λ (r : Option machine.KernelKnown). bind (frozen_of r) (λ (e : Departure). gives_piece s z (block_of e.process.pid e.process.memory block))) g.is)
+    (leaves_alive b m pt l p (record x { queue = g.stands.here.0.0 }) y.id MessageKind.PullBlock (Some (migrating.gives_piece y.id MessageKind.Memory)) there (h.mirrors.plain.processes p) refl refl)
+    refl (inr (left_carried m pt.view l s z p (block_of x.pid x.memory block) (told_of z) g.here h.stands.here g.sender piece refl name))
 
 pub gives_block : (b : Boot) (m : ℕ) (pt : Point) (l : Placed) (records : AllRecords) (k : KernelState) (y : Message) (p : Pid) (block : ℕ) → Hearing b m pt l records k (record y { what = What.PullBlock p block })
     → TurnsAt b m pt l records k
-gives_block b m pt l records k y p block h =
-    let z : Message = record y { what = What.PullBlock p block } in
-    let s : KernelState = record k { inbox = h.rest } in
-    let g = leaving b m pt l records k z p h refl refl refl refl in
-    let (departure, record_is, stands) = departing b m pt l records k z p h g in
-    let c = carried b m pt l records k z p h refl refl in
-    let x = departure.process in
-    let same : record x { queue = stands.here.0.0 } ≡ c.process = process_same (l.processes p) (record x { queue = stands.here.0.0 }) c.process stands.here.0.1 c.there in
-    let name : x.pid ≡ p = (h.mirrors.places.process p (record x { queue = stands.here.0.0 }) stands.here.0.1).pid in
-    gives b m pt l records k z p (block_of x.pid x.memory block) h g
-    (record { about = ap Of name; plain = refl; encloses = refl; gives = λ o v a i q. refl; of_source = refl }) c
-    (ap (λ (r : Option machine.KernelKnown). bind (frozen_of r) (λ (e : Departure). gives_piece s z (block_of e.process.pid e.process.memory block))) record_is)
-    (leaves_alive b m pt l p c.process y.id MessageKind.PullBlock (Some (migrating.gives_piece y.id MessageKind.Memory)) c.there (h.mirrors.plain.processes p) refl)
-    refl c.process c.there (ap (λ (u : Process). block_of u.pid u.memory block) same, c.carries.1, c.carries.2)
+gives_block b m pt l records k y p block h = elim (cases_Bool (is_due_piece pt.view p y.id (told_of (record y { what = What.PullBlock p block })))) [
+  | inl due ↦ block_due b m pt l records k y p block h due
+  | inr off ↦ block_left b m pt l records k y p block h off
+]

@@ -1,17 +1,18 @@
 -- A machine hears a kernel's own message at its inbox's front: what holds then, and what stands where once the message is handled.
 use Rattle.dm_mirror.proofs.Names.{◌≡◌, ◌≢◌, ◌⊎◌, ℕ, ◌+◌, ◌≤◌, ◌==◌, Bool, true, false, List, ◌∷◌, ap, ◌∙◌, sym, subst, inl, inr, arith, if◌then◌else◌, Option, None, Some, eqb_tells, Pid, pid_of, Message, MsgId, kind_of, plain_message}
-use Rattle.dm_mirror.proofs.Names.{bind, Boot, Step, handles, KernelState, Turned, turn, turns, id_eq-same, is_apart, is_between, tells_onward, is_restart, knows, Moves, Phase, Rests, receiver_in, sender_in, told_between, token_in, Point}
-use Rattle.dm_mirror.proofs.Names.{comes_to, hears, outcome, Spot, Queue, Held, Inbox, Untaken, standing, times, Here, Frozen, Of, Told, View, is_kernels, letters, rests_here, token_at, token_is, StandsAsBag-one, StandsAsBag-elsewhere}
-use Rattle.dm_mirror.proofs.Names.{spot_cases, OwnTold, Run, Placed, Mirrors, AllOwnStand, about_of, told_of, AreMessages, KernelStands, AllRecords, TokensStand, eq_self, source_knows, inbox_is, of_same, more_front, holds_is, ◌||◌, []}
-use Rattle.dm_mirror.proofs.Names.{refl, Addr, pid_eq, place_of, nat_tests, kernel_at, id_of, MessageKind, PlainMessage, Process, incoming_of, process_handles, Gets, Receiver, Sender, gets, given, own_given, unmoved, process_told}
-use Rattle.dm_mirror.proofs.Names.{kernel_hears, at_machine, Known, own_id, not_kernels, is_fixed, enclosed, Carries, destination_of, about_same, cases_Bool, Record, Departure, pid_eq-is, HereStands, KnownStands, LeavesStand, Asker}
-use Rattle.dm_mirror.proofs.Names.{sort_of}
+use Rattle.dm_mirror.proofs.Names.{bind, Boot, Step, handles, KernelState, Turned, turn, turns, id_eq-same, is_apart, is_between, tells_onward, is_restart, knows, Moves, Phase, Rests, receiver_in, sender_in, token_in, Point, comes_to}
+use Rattle.dm_mirror.proofs.Names.{hears, outcome, Spot, Queue, Held, Inbox, Untaken, standing, times, Here, Frozen, Of, Told, View, is_kernels, letters, rests_here, token_at, StandsAsBag-one, StandsAsBag-elsewhere, spot_cases, OwnTold}
+use Rattle.dm_mirror.proofs.Names.{Run, Placed, Mirrors, AllOwnStand, about_of, told_of, AreMessages, KernelStands, AllRecords, TokensStand, eq_self, source_knows, inbox_is, more_front, holds_is, ◌||◌, [], refl, Addr, pid_eq, place_of}
+use Rattle.dm_mirror.proofs.Names.{nat_tests, kernel_at, id_of, MessageKind, PlainMessage, process_handles, Gets, Receiver, Sender, gets, given, own_given, unmoved, process_told, kernel_hears, at_machine, Known, own_id, not_kernels}
+use Rattle.dm_mirror.proofs.Names.{is_fixed, enclosed, about_same, cases_Bool, pid_eq-is, sort_of, What, false≢true, LeftStands, is_due_piece, is_waited_from}
 use Rattle.dm_mirror.proofs.Handle.Taking.{front_of, times_self, machine_self, machine_off, some_same}
-use Rattle.dm_mirror.proofs.Turning.{IsCarried, MayOwn}
+use Rattle.dm_mirror.proofs.Turning.{IsCarried, IsLeftOver, MayOwn}
 pub use Rattle.dm_mirror.proofs.Handle.Taking.{to_kernel}
 use Rattle.dm_rule.specs.Parts as rule
 use Rattle.dm_rule.specs.Rule as ruled
 use Rattle.dm_kernel.specs.State as machine
+use Rattle.dm_mirror.proofs.Cargoes.{cargo_same}
+use Rattle.dm_mirror.proofs.LeftOver.{IsDue, IsOver, OneStands, Which, due_of, known_due, left_asks, left_keeps, one_keeps, still_over, token_same, which}
 
 -- what stands of machine m and its kernel
 pub record Present (b : Boot) (m : ℕ) (pt : Point) (l : Placed) (records : AllRecords) (k : KernelState) : Type 0 where
@@ -124,56 +125,72 @@ front_nowhere b m pt l records k y h w z g least =
       | inr off ↦ (let none = not_elsewhere b m pt l records k y h s.spot off in let some = s.stands in absurd (omega (arith, none, some)))
     ]
 
--- no message of its migration stands anywhere while a process is here
-pub none_rests : (b : Boot) (pt : Point) (m : ℕ) (p : Pid) (i : MsgId) (t : Told) (z : Spot) → Run b pt → pt.view.known m p ≡ Here → pt.view.told i ≡ Some t → is_between t.kind ≡ true → t.about ≡ Of p → 1 ≤ standing pt.view i z → ⊥
-none_rests b pt m p i t z run at_m told between about least =
+-- while a process is here only what is left over of its migrations stands anywhere
+over_at : (v : View) (m : ℕ) (p : Pid) (now : Phase) (i : MsgId) (t : Told) → now ≡ Rests m → Which v p now i t → is_due_piece v p i t ≡ false
+over_at v m p now i t rests (IsDue d due) = (let f : Rests m ≡ Moves d.kind d.s d.d (Some i) = sym rests ∙ d.phase in cc)
+over_at v m p now i t rests (IsOver left off) = off
+
+pub rests_over : (b : Boot) (pt : Point) (m : ℕ) (p : Pid) (i : MsgId) (t : Told) (z : Spot) → Run b pt → pt.view.known m p ≡ Here → pt.view.told i ≡ Some t → is_between t.kind ≡ true → t.about ≡ Of p → 1 ≤ standing pt.view i z → is_due_piece pt.view p i t ≡ false
+rests_over b pt m p i t z run at_m told between about least =
     let h = run.based.phased.phases in
     let phase = h.of p in
-    let rests : phase ≡ Rests m = rests_here phase m (sym (ap (knows phase m) at_m) ∙ (h.each p).known m) in
-    let f : None ≡ Some i = sym (ap token_in rests) ∙ (h.each p).alone i t z told between about least in
-    cc
+    over_at pt.view m p phase i t (rests_here phase m (sym (ap (knows phase m) at_m) ∙ (h.each p).known m)) (which pt.view h p i t z told between about least)
 
 -- what the destination says of a migration is heard at the source, where the process leaves
 pub record Leaving (m : ℕ) (pt : Point) (y : Message) (p : Pid) : Type 0 where
   pub to : ℕ
   pub known : pt.view.known m p ≡ Frozen to
-  pub alone : (i : MsgId) (t : Told) (z : Spot) → pt.view.told i ≡ Some t → is_between t.kind ≡ true → t.about ≡ Of p → 1 ≤ standing pt.view i z → i ≡ y.id
+  -- the others about it are left over
+  pub others : (i : MsgId) (t : Told) (z : Spot) → pt.view.told i ≡ Some t → is_between t.kind ≡ true → t.about ≡ Of p → 1 ≤ standing pt.view i z → (i ≡ y.id) ⊎ (is_due_piece pt.view p i t ≡ false)
   pub from : y.id.from ≡ pid_of to 0
   pub apart : to ≢ m
   pub receiver : y.to.pid ≡ pid_of m 0
   pub phase : (n : ℕ) → knows (Moves (kind_of y.what) m to (Some y.id)) n (pt.view.known n p) ≡ true
 
+other_of : (v : View) (p : Pid) (now : Phase) (i j : MsgId) (t : Told) → token_in now ≡ Some j → Which v p now i t → (i ≡ j) ⊎ (is_due_piece v p i t ≡ false)
+other_of v p now i j t mine (IsDue d due) = inl (some_same i j (sym (ap token_in d.phase) ∙ mine))
+other_of v p now i j t mine (IsOver left off) = inr off
+
 pub leaving : (b : Boot) (m : ℕ) (pt : Point) (l : Placed) (records : AllRecords) (k : KernelState) (y : Message) (p : Pid) → Hearing b m pt l records k y → is_between (kind_of y.what) ≡ true → tells_onward (sort_of (kind_of y.what)) ≡ false → is_restart (kind_of y.what) ≡ false → about_of y.what ≡ Of p
-    → Leaving m pt y p
-leaving b m pt l records k y p h between source restart about =
+    → is_due_piece pt.view p y.id (told_of y) ≡ true → Leaving m pt y p
+leaving b m pt l records k y p h between source restart about due =
     let v = pt.view in
     let phases = h.run.based.phased.phases in
-    let (q, j, s, d, of_q, moves) = token_is v phases y.id (told_of y) (Inbox m) h.told between (stands_first b m pt l records k y h) in
-    let token = token_at v q (phases.of q) j s d y.id moves (phases.each q) in
-    let told : told_between q j s d ≡ told_of y = some_same (told_between q j s d) (told_of y) (sym token.told ∙ h.told) in
-    let kind : j ≡ kind_of y.what = ap (λ (t : Told). t.kind) told in
-    let of_source : tells_onward (sort_of j) ≡ false = ap (λ (k : MessageKind). tells_onward (sort_of k)) kind ∙ source in
-    let to_m : m ≡ receiver_in j s d = inbox_is m (sender_in j s d) (receiver_in j s d) (token.ways (Inbox m) (stands_first b m pt l records k y h)) in
-    let here : m ≡ s = to_m ∙ (ap (λ (c : Bool). if c then d else s) of_source) in
-    let phase : phases.of p ≡ Moves j s d (Some y.id) = ap phases.of (sym (of_same q p (sym of_q ∙ about))) ∙ moves in
+    let first = stands_first b m pt l records k y h in
+    let u = due_of v phases p y.id (told_of y) (Inbox m) h.told between about first due in
+    let j = u.kind in
+    let s = u.s in
+    let d = u.d in
+    let phase : phases.of p ≡ Moves j s d (Some y.id) = u.phase in
     let each = phases.each p in
+    let token = token_at v p (phases.of p) j s d y.id phase each in
+    let kind : j ≡ kind_of y.what = sym u.kind_is in
+    let of_source : tells_onward (sort_of j) ≡ false = ap (λ (k : MessageKind). tells_onward (sort_of k)) kind ∙ source in
+    let to_m : m ≡ receiver_in j s d = inbox_is m (sender_in j s d) (receiver_in j s d) (token.ways (Inbox m) first) in
+    let here : m ≡ s = to_m ∙ (ap (λ (c : Bool). if c then d else s) of_source) in
     let off : d ≢ s = grind (arith, nat_tests, eq_self, (sym (ap is_apart phase) ∙ each.apart)) in
     record {
       to = d;
       known = ap (λ (x : ℕ). v.known x p) here ∙ holds_is j d (v.known s p) (ap is_restart kind ∙ restart) (source_knows j s d (Some y.id) (v.known s p) (sym (ap (λ (x : Phase). knows x s (v.known s p)) phase) ∙ each.known s));
-      alone = λ i t z told_i between_i about_i least. some_same i y.id (sym (each.alone i t z told_i between_i about_i least) ∙ ap token_in phase);
-      from = token.from ∙ ap (λ (c : Bool). pid_of (if c then s else d) 0) of_source;
+      others = λ i t z told_i between_i about_i least. other_of v p (phases.of p) i y.id t (ap token_in phase) (which v phases p i t z told_i between_i about_i least);
+      from = u.from ∙ ap (λ (c : Bool). pid_of (if c then s else d) 0) of_source;
       apart = λ e. off (e ∙ here);
-      receiver = ap (λ (t : Told). t.receiver) (sym told) ∙ ap (λ (x : ℕ). pid_of x 0) (sym to_m);
+      receiver = ap (λ (t : Told). t.receiver) u.told ∙ ap (λ (x : ℕ). pid_of x 0) (sym to_m);
       phase = λ n. sym (ap (λ (x : Phase). knows x n (v.known n p)) (phase ∙ (λ i. Moves (kind i) (sym here i) d (Some y.id)))) ∙ each.known n;
     }
 
--- none of the messages of its migration stands behind it
-pub leaving_none : (b : Boot) (m : ℕ) (pt : Point) (l : Placed) (records : AllRecords) (k : KernelState) (y : Message) (p : Pid) (h : Hearing b m pt l records k y) → Leaving m pt y p → (w : View) → FrontGone m h.ids pt.view w
-    → (i : MsgId) (t : Told) (z : Spot) → pt.view.told i ≡ Some t → is_between t.kind ≡ true → t.about ≡ Of p → 1 ≤ standing w i z → ⊥
-leaving_none b m pt l records k y p h g w gone i t z told between about least =
+-- what stands of its migration behind it is left over
+pub leaving_left : (b : Boot) (m : ℕ) (pt : Point) (l : Placed) (records : AllRecords) (k : KernelState) (y : Message) (p : Pid) (h : Hearing b m pt l records k y) → Leaving m pt y p → (w : View) (placed : Placed) → FrontGone m h.ids pt.view w
+    → ((n from : ℕ) → is_waited_from from (w.known n p) ≡ true → is_waited_from from (pt.view.known n p) ≡ true) → placed.processes p ≡ l.processes p
+    → (i : MsgId) (t : Told) (z : Spot) → pt.view.told i ≡ Some t → is_between t.kind ≡ true → t.about ≡ Of p → 1 ≤ standing w i z → placed.bag i ≡ l.bag i → (is_due_piece w p i t ≡ false) × LeftStands placed p i
+leaving_left b m pt l records k y p h g w placed gone kept same i t z told between about least bag =
     let e = stood m y.id h.ids pt.view w i z h.box gone least in
-    front_nowhere b m pt l records k y h w z gone (subst (λ (j : MsgId). 1 ≤ standing w j z) (g.alone i t e.spot told between about e.stands) least)
+    elim (g.others i t e.spot told between about e.stands) [
+      | inl is ↦ absurd (front_nowhere b m pt l records k y h w z gone (subst (λ (j : MsgId). 1 ≤ standing w j z) is least))
+      | inr off ↦
+          let was = (h.tokens p i t e.spot told between about e.stands).1 off in
+          (still_over pt.view w p i t off kept, left_asks l placed p i was same (bag ∙ was.is))
+    ]
 
 -- The next message of a machine's kernel, where it goes to another kernel and is about a process that leaves.
 
@@ -209,16 +226,17 @@ pub record Between (pt : Point) (placed : Placed) (records : AllRecords) (m c : 
   pub from : x.id.from.home ≡ m
   pub about : about_of x.what ≡ Of p
   pub topic : pt.view.topic ≡ Of p
-  pub process : Process
-  pub there : placed.processes p ≡ Some process
-  pub carries : Carries p process (placed.notes p) (pt.view.asked p) (incoming_of (records (destination_of x.id (told_of x)) p)) x.what
+  pub carried : IsCarried placed (pt.view.asked p) records p x ⊎ IsLeftOver pt.view placed p x
+
+no_request : (w : What) (p : Pid) → kind_of w ≡ MessageKind.Migrate → about_of w ≡ Of p → ⊥
+no_request (What.Migrate machine) p e about = cc
+no_request _ p e about = cc
 
 pub may_between : (pt : Point) (placed : Placed) (records : AllRecords) (m c : ℕ) (p : Pid) (x : Message) → Between pt placed records m c p x → MayOwn pt placed records x
 may_between pt placed records m c p x h =
     let a = pt.addresses in
     let q = x.to.pid in
     let second : List Gets = gets (Sender x.id) (unmoved pt.view.acting) ∷ [] in
-    let carried_of : IsCarried placed (pt.view.asked p) records p x = record { process = h.process; there = h.there; sender = h.sender ∙ ap kernel_at (sym h.from); carries = h.carries } in
     record {
       id = h.id;
       plain = h.plain;
@@ -230,8 +248,8 @@ may_between pt placed records m c p x h =
       sender = ap (λ (g : List Gets). given a g (Sender x.id)) h.gives ∙ ap (λ (e : Bool). if e then unmoved pt.view.acting else a (Sender x.id)) (id_eq-same x.id)
           ∙ ap unmoved h.acting ∙ ap place_of (sym h.sender);
       about = h.topic ∙ sym h.about;
-      asker = λ e. absurd (grind (arith, nat_tests, h.carries));
-      carried = λ between r of_r. subst (λ (z : Pid). IsCarried placed (pt.view.asked z) records z x) (about_same p r (sym h.about ∙ of_r)) carried_of;
+      asker = λ e. absurd (no_request x.what p e h.about);
+      carried = λ between r of_r. subst (λ (z : Pid). IsCarried placed (pt.view.asked z) records z x ⊎ IsLeftOver pt.view placed z x) (about_same p r (sym h.about ∙ of_r)) h.carried;
     }
 
 -- the receiver is a process, or the kernel
@@ -260,30 +278,28 @@ pub record TokensStay (v w : View) (l placed : Placed) (before after : AllRecord
   pub processes : (q : Pid) → pid_eq p q ≡ false → placed.processes q ≡ l.processes q
   pub notes : (q : Pid) → pid_eq p q ≡ false → placed.notes q ≡ l.notes q
   pub records : (n : ℕ) (q : Pid) → pid_eq p q ≡ false → after n q ≡ before n q
+  pub known : (n : ℕ) (q : Pid) → pid_eq p q ≡ false → w.known n q ≡ v.known n q
 
--- the messages of the migrations of other processes carry what they carried, where none of this process's stands anywhere
+-- the messages of the migrations of other processes carry what they carried, where only what is left over of this process's stands anywhere
 pub record TokensOne (v w : View) (l placed : Placed) (before after : AllRecords) (p : Pid) : Type 0 where
   pub stays : TokensStay v w l placed before after p
   pub open stays use *
   pub came : (i : MsgId) (t : Told) (z : Spot) → v.told i ≡ Some t → is_between t.kind ≡ true → 1 ≤ standing w i z → ((y : Spot) × (1 ≤ standing v i y)) × (placed.bag i ≡ l.bag i)
-  pub none : (i : MsgId) (t : Told) (z : Spot) → v.told i ≡ Some t → is_between t.kind ≡ true → t.about ≡ Of p → 1 ≤ standing w i z → ⊥
+  pub left : (i : MsgId) (t : Told) (z : Spot) → v.told i ≡ Some t → is_between t.kind ≡ true → t.about ≡ Of p → 1 ≤ standing w i z → (is_due_piece w p i t ≡ false) × LeftStands placed p i
 
 pub tokens_one : (v w : View) (l placed : Placed) (before after : AllRecords) (p : Pid) → TokensOne v w l placed before after p → TokensStand v l before → TokensStand w placed after
 tokens_one v w l placed before after p c h q i t z told between about st =
     let was : v.told i ≡ Some t = ap (λ (f : MsgId → Option Told). f i) (sym c.told) ∙ told in
     elim (cases_Bool (pid_eq p q)) [
-      | inl same ↦ absurd (c.none i t z was between (about ∙ ap Of (sym (pid_eq-is p q same))) st)
+      | inl same ↦
+          let is : p ≡ q = pid_eq-is p q same in
+          let x = c.left i t z was between (about ∙ ap Of (sym is)) st in
+          subst (λ (r : Pid). OneStands w placed after r i t) is (λ due. absurd (false≢true (sym x.0 ∙ due)), λ off. x.1)
       | inr apart ↦
           let g = c.came i t z was between st in
-          let x = h q i t g.0.0 was between about g.0.1 in
-          let d = destination_of i t in
-          search (
-            c.processes q apart ∙ x.there,
-            g.1 ∙ x.is,
-            subst (λ (e : Option Asker). Carries q x.process e (w.asked q) (incoming_of (after d q)) x.message.what) (sym (c.notes q apart))
-                (subst (λ (n : ℕ). Carries q x.process (l.notes q) n (incoming_of (after d q)) x.message.what) (sym (c.asked q apart))
-                (subst (λ (r : Option machine.KernelKnown). Carries q x.process (l.notes q) (v.asked q) (incoming_of r) x.message.what) (sym (c.records d q apart)) x.carries)),
-          )
+          let cargo = cargo_same l placed q (c.processes q apart) (c.notes q apart) in
+          one_keeps v w l placed before after q i t (known_due v w q i t (λ n. c.known n q apart)) (λ due x. token_same v w l placed before after q i t cargo (c.asked q apart) (λ n. c.records n q apart) x (g.1 ∙ x.is))
+          (λ off x. left_keeps l placed q i x (λ asks. cargo) (g.1 ∙ x.is)) (h q i t g.0.0 was between about g.0.1)
     ]
 
 -- what was told stays

@@ -4,12 +4,12 @@ use Rattle.dm_mirror.proofs.Names.{nat_tests, pid_eq, kernel_at, Message, MsgId,
 use Rattle.dm_mirror.proofs.Names.{PlainProcess, without_leaving, KernelState, own, turned, pid_eq-same, sends_on, to_kernel, Point, moved, Room, blocks_of, taken_at, taken_by, takes_room, at_machine, Spot, Held, Inbox, Queue, standing}
 use Rattle.dm_mirror.proofs.Names.{times, Forward, Frozen, Known, gone_to, own_id, MirrorsPoint, sent_all, Placed, sent_on_mirrors, mirrors_view, MadeStands, told_of, AreMessages, KnownStands, RoomStands, AllRecords, Wants, ◌||◌, inr, None}
 use Rattle.dm_mirror.proofs.Names.{cases_Bool, id_eq, IsKindOfPlain, kind_of, PlainMessage, plain_message, plain_what, with_what, sent_on, id_eq-swap, is_between, Told, View, letters, held_plain, queued_plain, StandsAsBag-elsewhere, Run}
-use Rattle.dm_mirror.proofs.Names.{Mirrors, is_among, among_times, parts, AllOwnStand, told_there, more_front, leaves, is_server, Part, drop}
+use Rattle.dm_mirror.proofs.Names.{Mirrors, is_among, among_times, parts, AllOwnStand, told_there, more_front, leaves, is_server, Part, drop, ◌⊎◌, is_waited_from}
 use Rattle.dm_kernel.specs.State.{with_sent}
 use Rattle.dm_mirror.proofs.Join.{kind_plain}
 use Rattle.dm_mirror.proofs.Handle.Rows.{standing_begun}
 use Rattle.dm_mirror.proofs.Rooms.{taken_changed}
-use Rattle.dm_mirror.proofs.Leave.Fronts.{FrontGone, Hearing, leaving, leaving_none, outcome_hears, stood, turn_hears, absent_next, may_between, own_is, records_as, to_kernel_hears, untold_next, tokens_one}
+use Rattle.dm_mirror.proofs.Leave.Fronts.{FrontGone, Hearing, leaving, leaving_left, outcome_hears, stood, turn_hears, absent_next, may_between, own_is, records_as, to_kernel_hears, untold_next, tokens_one}
 use Rattle.dm_mirror.proofs.Leave.Stays.{messages_append, in_one}
 use Rattle.dm_mirror.proofs.Turning.{Leaves, On, TurnsAt, begun, is_elsewhere, part_of, rule_part_of, AllMayPut, MayPut, owns}
 use Rattle.dm_mirror.proofs.Leave.Asks.{carried, departing, kernel_number, leaves_alive, leaves_no_server}
@@ -20,6 +20,8 @@ use Rattle.dm_rule.specs.Migrating as migrating
 use Rattle.dm_rule.specs.Parts as rule
 use Rattle.dm_mirror.proofs.Leave.Fronts as owns
 use Rattle.dm_mirror.proofs.Turning as turning
+use Rattle.dm_mirror.proofs.LeftOver.{record_apart, record_kept}
+use Rattle.dm_mirror.proofs.Turning.{IsCarried, IsLeftOver}
 
 pub times_among : (i : MsgId) (ids : List MsgId) → is_among i ids ≡ true → 1 ≤ times i ids
 times_among i [] e = absurd (false≢true e)
@@ -145,9 +147,9 @@ goes b m pt l records k y p h made =
     let z : Message = record y { what = What.AllTaken p } in
     let v = pt.view in
     let s : KernelState = record k { inbox = h.rest } in
-    let g = leaving b m pt l records k z p h refl refl refl refl in
+    let g = leaving b m pt l records k z p h refl refl refl refl refl in
     let (departure, record_is, stands) = departing b m pt l records k z p h g in
-    let c = carried b m pt l records k z p h refl refl in
+    let c = carried b m pt l records k z p h refl refl refl in
     let num = kernel_number m y.to.pid g.receiver in
     let server = leaves_no_server b pt m g.to p h.run g.known in
     let x : Process = departure.process in
@@ -199,6 +201,25 @@ goes b m pt l records k y p h made =
     let blocks : now.blocks + length x.memory / 256 ≡ before.blocks + 0 = ap (λ (r : Room). now.blocks + r.blocks) (sym was) ∙ taken.1 ∙ ap (λ (r : Room). before.blocks + r.blocks) is in
     let start_mirrors : MirrorsPoint (begun pt m) l = mirrors_view pt.kernel v (begun pt m).view pt.addresses l refl h.mirrors in
     let next_mirrors : MirrorsPoint next placed = subst (λ (r : ℕ). MirrorsPoint next (sent_all l to (r + 1) ids)) (sym moves_is) (sent_on_mirrors (begun pt m) l p n to start_mirrors known_is) in
+    let restarts : IsCarried placed (end.view.asked p) after_records p restart = record {
+      cargo = c.cargo;
+      there = c.there;
+      sender = refl;
+      carries = (
+        refl,
+        subst (λ (r : Option machine.KernelKnown). Wants (incoming_of r) Wanted.Nothing) (sym (ap (λ (f : Pid → Option machine.KernelKnown). f p) (machine_off records m to state.records apart)))
+            (subst (λ (r : ℕ). Wants (incoming_of (records r p)) Wanted.Nothing) from_is c.carries.1),
+      );
+    } in
+    let restarts_as : IsCarried placed (end.view.asked p) after_records p restart ⊎ IsLeftOver end.view placed p restart = inl restarts in
+    let kept : (r from : ℕ) → is_waited_from from (end.view.known r p) ≡ true → is_waited_from from (v.known r p) ≡ true =
+    λ r from waits. record_kept v.known m p p forward (λ (n : ℕ). ap (is_waited_from n) forward_is) r from waits in
+    let same : (i : MsgId) (t : Told) (spot : Spot) → v.told i ≡ Some t → is_between t.kind ≡ true → 1 ≤ standing end.view i spot → placed.bag i ≡ l.bag i = λ i t spot told between least. (
+    let e = stood m y.id h.ids v end.view i spot h.box gone least in
+    let phases = h.run.based.phased.phases in
+    let none : is_between t.kind ≡ false → ⊥ = λ off. false≢true (sym off ∙ between) in
+    stays e.spot i (λ f. none (queued_plain v m p i t phases told (subst (λ (y : Spot). 1 ≤ standing v i y) f e.stands)))
+    (λ f. none (held_plain v m p i t phases told (subst (λ (y : Spot). 1 ≤ standing v i y) f e.stands))) e.stands) in
     let id_is : restart.id ≡ own_id end.view = own_is b m pt l records k z h in
     let sends : List Part = Part.Says (Line.Migration Stage.Left p) ∷ Part.Routes restart ∷ [] in
     let last : List rule.Part = rule.Says (Line.Migration Stage.Left p) ∷ to_kernel MessageKind.Restart to ∷ [] in
@@ -220,7 +241,7 @@ goes b m pt l records k y p h made =
           (owns.to_kernel b s z num ∙ ap (λ (r : Option machine.KernelKnown). bind (frozen_of r) (leaves s p)) record_is ∙ ap (λ (ps : List Part). turned state (Part.Says (Line.SentOn p n) ∷ ps ++ sends)) (sym (on_parts on)));
       outcome = outcome_hears b m pt l records k z h (Some (rule.Says (Line.SentOn p n) ∷ map rule_part_of (map On on) ++ last))
           (to_kernel_hears b pt m y.id (told_of z) num
-          ∙ leaves_alive b m pt l p (record x { queue = stands.here.0.0 }) y.id MessageKind.AllTaken (Some (rule.Says (Line.SentOn p n) ∷ map rule_part_of (map On on) ++ last)) there (h.mirrors.plain.processes p)
+          ∙ leaves_alive b m pt l p (record x { queue = stands.here.0.0 }) y.id MessageKind.AllTaken (Some (rule.Says (Line.SentOn p n) ∷ map rule_part_of (map On on) ++ last)) there (h.mirrors.plain.processes p) refl
           (ap (migrating.leaves y.id p ids) known_is
           ∙ ap (λ (r : ℕ). Some (rule.Says (Line.SentOn p (length ids)) ∷ sends_on to ids ++ rule.Says (Line.Migration Stage.Left p) ∷ to_kernel MessageKind.Restart r ∷ [])) from_is
           ∙ ap (λ (r : ℕ). Some (rule.Says (Line.SentOn p r) ∷ sends_on to ids ++ last)) (sym (on_length l.bag to moves ids ms lists))
@@ -246,20 +267,20 @@ goes b m pt l records k y p h made =
         ap kernel_at h.stands.here,
         bag_absent l to moves ids restart.id (ap l.bag id_is ∙ absent_next b pt l m h.run h.mirrors h.own),
         ap v.told id_is ∙ untold_next b pt m h.run,
-        subst (λ (r : Option machine.KernelKnown). Wants (incoming_of r) Wanted.Nothing) (sym (ap (λ (f : Pid → Option machine.KernelKnown). f p) (machine_off records m to state.records apart))) (subst (λ (r : ℕ). Wants (incoming_of (records r p)) Wanted.Nothing) from_is c.carries.1),
+        restarts_as,
       ));
       own = own_on v end.view l to moves ids refl h.own;
       tokens = tokens_one v end.view l placed records after_records p
           (record {
-            stays = search (λ (r : ℕ) (q : Pid) (off : pid_eq p q ≡ false). records_as records m r k.records state.records q h.records_here (sets q off));
-            came = λ i t spot told between least. (
-                let e = stood m y.id h.ids v end.view i spot h.box gone least in
-                let phases = h.run.based.phased.phases in
-                let none : is_between t.kind ≡ false → ⊥ = λ off. false≢true (sym off ∙ between) in (
-                  (e.spot, e.stands),
-                  stays e.spot i (λ f. none (queued_plain v m p i t phases told (subst (λ (y : Spot). 1 ≤ standing v i y) f e.stands)))
-                      (λ f. none (held_plain v m p i t phases told (subst (λ (y : Spot). 1 ≤ standing v i y) f e.stands))) e.stands,
-                ));
-            none = leaving_none b m pt l records k z p h g end.view gone;
+            stays = record {
+              told = refl;
+              asked = λ q off. refl;
+              processes = λ q off. refl;
+              notes = λ q off. refl;
+              records = λ r q off. records_as records m r k.records state.records q h.records_here (sets q off);
+              known = λ r q off. record_apart v.known m r p q forward off;
+            };
+            came = λ i t spot told between least. (let e = stood m y.id h.ids v end.view i spot h.box gone least in ((e.spot, e.stands), same i t spot told between least));
+            left = λ i t spot told between about least. leaving_left b m pt l records k z p h g end.view placed gone kept refl i t spot told between about least (same i t spot told between least);
           }) h.tokens;
     }

@@ -1,10 +1,11 @@
 -- A process that was to leave stays: it is served again, and what was held comes before the inbox.
 use Rattle.dm_mirror.proofs.Names.{◌≡◌, ◌≢◌, ◌⊎◌, ℕ, ◌≤◌, Bool, true, false, List, [], ◌∷◌, ◌++◌, map, nat_le, refl, ap, ◌∙◌, sym, subst, inl, inr, arith, if◌then◌else◌, Option, Some, nat_tests, Pid, pid_eq, Message, MsgId, What}
-use Rattle.dm_mirror.proofs.Names.{MessageKind, Record, Line, frozen_of, with_record, Boot, bind, stays, KernelState, pid_eq-same, Point, moved, takes_room, at_machine, standing, times, Here, Known, times-append, Placed, mirrors_view}
-use Rattle.dm_mirror.proofs.Names.{told_of, AreMessages, KnownStands, AllRecords, is_server, false≢true, ◌==◌, Moves, Spot, Told, is_between, knows, Of, turned, Outcome, tells_asker, drop}
+use Rattle.dm_mirror.proofs.Names.{MessageKind, Record, Line, frozen_of, with_record, Boot, bind, stays, KernelState, pid_eq-same, Point, moved, takes_room, at_machine, times, Here, Known, times-append, Placed, mirrors_view, told_of}
+use Rattle.dm_mirror.proofs.Names.{AreMessages, KnownStands, AllRecords, is_server, false≢true, ◌==◌, Moves, is_between, knows, Of, turned, Outcome, tells_asker, drop, kernel_handles, kernel_hears, kind_comes, kind_of, about_of}
+use Rattle.dm_mirror.proofs.Names.{tells_onward, is_restart, sort_of, told_step, PlainProcess, plain_process, fits, free_room, length, ◌/◌, is_piece, is_waited_from}
 use Rattle.dm_mirror.proofs.Leave.Answered.{ends_move_row}
 use Rattle.dm_mirror.proofs.Rooms.{taken_same}
-use Rattle.dm_mirror.proofs.Leave.Fronts.{FrontGone, Hearing, leaving, leaving_none, outcome_hears, stood, turn_hears, records_as, to_kernel, to_kernel_hears, own_stays, tokens_one}
+use Rattle.dm_mirror.proofs.Leave.Fronts.{FrontGone, Hearing, leaving, leaving_left, outcome_hears, stood, turn_hears, records_as, to_kernel, to_kernel_hears, own_stays, tokens_one}
 use Rattle.dm_mirror.proofs.Leave.Asks.{room_stays, taken_at_record, departing, kernel_number, leaves_alive, leaves_no_server}
 use Rattle.dm_mirror.proofs.Turning.{TurnsAt, begun, has_process}
 use Rattle.dm_mirror.proofs.Handle.Taking.{eq_off, machine_self, machine_off, record_self, record_off, record_others, stands_set}
@@ -12,6 +13,9 @@ use Rattle.dm_kernel.specs.declared.part.Part as part
 use Rattle.dm_kernel.specs.State as machine
 use Rattle.dm_rule.specs.Migrating as migrating
 use Rattle.dm_rule.specs.Parts as rule
+use Rattle.dm_mirror.proofs.Cargoes.{waits_for}
+use Rattle.dm_mirror.proofs.Leave.Asks.{no_piece}
+use Rattle.dm_mirror.proofs.LeftOver.{plainly_due, record_apart, record_kept}
 
 -- messages of two lists, one after the other
 pub messages_append : (bag : MsgId → Option Message) (is js : List MsgId) (ms ns : List Message) → AreMessages bag is ms → AreMessages bag js ns → AreMessages bag (is ++ js) (ms ++ ns)
@@ -27,16 +31,27 @@ messages_append bag (i ∷ is) js (m ∷ ms) ns e f =
 pub in_one : (j : MsgId) (is js : List MsgId) → 1 ≤ times j (is ++ js) → (1 ≤ times j js) ⊎ (1 ≤ times j is)
 in_one j is js least = grind (arith, nat_tests, nat_le, times-append)
 
-refused_away : (m d n : ℕ) (i : Option MsgId) (k : Known) (at_source at_destination : Bool) → (m == n) ≡ at_source → (d == n) ≡ at_destination → at_source ≡ false → knows (Moves MessageKind.Refuse m d i) n k ≡ true → has_process k ≡ false
-refused_away m d n i k at_source at_destination e f off h = grind (arith, nat_tests)
+away_by : (m d n : ℕ) (c : MessageKind) (i : Option MsgId) (k : Known) (at_source at_destination : Bool) → (m == n) ≡ at_source → (d == n) ≡ at_destination → at_source ≡ false → (kind_comes c m k ≡ true → has_process k ≡ false) → knows (Moves c m d i) n k ≡ true → has_process k ≡ false
+away_by m d n c i k at_source at_destination e f off comes h = grind (arith, nat_tests)
 
-pub refuses : (b : Boot) (m : ℕ) (pt : Point) (l : Placed) (records : AllRecords) (k : KernelState) (y : Message) (p : Pid) (slots blocks : ℕ) → Hearing b m pt l records k (record y { what = What.Refuse p slots blocks })
+-- a message that ends a move with the process staying
+pub record EndsStaying (b : Boot) (p : Pid) (w : What) : Type 0 where
+  pub between : is_between (kind_of w) ≡ true
+  pub back : tells_onward (sort_of (kind_of w)) ≡ false
+  pub late : is_restart (kind_of w) ≡ false
+  pub plain : is_piece (sort_of (kind_of w)) ≡ false
+  pub about : about_of w ≡ Of p
+  pub away : (m : ℕ) (x : Known) → kind_comes (kind_of w) m x ≡ true → has_process x ≡ false
+  pub turn : (s : KernelState) (y : Message) → kernel_handles b s y w ≡ bind (frozen_of (s.records p)) (stays s p)
+  pub step : (pt : Point) (m : ℕ) (i : MsgId) (room : Bool × ℕ × ℕ) (x : PlainProcess) → told_step pt m i p room x (sort_of (kind_of w)) ≡ Some (rule.Says (Line.Stays p) ∷ migrating.tells_asker (pt.kernel.notes p) Outcome.Stayed)
+
+stays_turn : (b : Boot) (m : ℕ) (pt : Point) (l : Placed) (records : AllRecords) (k : KernelState) (y : Message) (p : Pid) (w : What) → EndsStaying b p w → Hearing b m pt l records k (record y { what = w })
     → TurnsAt b m pt l records k
-refuses b m pt l records k y p slots blocks h =
-    let z : Message = record y { what = What.Refuse p slots blocks } in
+stays_turn b m pt l records k y p w f h =
+    let z : Message = record y { what = w } in
     let v = pt.view in
     let s : KernelState = record k { inbox = h.rest } in
-    let g = leaving b m pt l records k z p h refl refl refl refl in
+    let g = leaving b m pt l records k z p h f.between f.back f.late f.about (plainly_due v p y.id (told_of z) f.plain) in
     let (departure, record_is, stands) = departing b m pt l records k z p h g in
     let x = departure.process in
     let there = stands.here.0.1 in
@@ -67,9 +82,9 @@ refuses b m pt l records k y p slots blocks h =
     let taken = taken_same pt next m refl (λ n. refl) (λ q. taken_at_record pt next m p q Here refl refl (sym (ap takes_room g.known))) in
     let sets : (q : Pid) → pid_eq p q ≡ false → state.records q ≡ k.records q = λ q off. ap (λ (c : Bool). if c then Some (Record.Here x) else k.records q) off in
     let keeps : is_server p ≡ true → state.records p ≡ k.records p = λ is. absurd (false≢true (sym server ∙ is)) in
-    let none = leaving_none b m pt l records k z p h g next.view gone in
+    let kept : (n from : ℕ) → is_waited_from from (next.view.known n p) ≡ true → is_waited_from from (v.known n p) ≡ true = λ n from waits. record_kept v.known m p p Here (λ c. refl) n from waits in
     let away : (n : ℕ) → n ≢ m → has_process (v.known n p) ≡ false =
-    λ n off. refused_away m g.to n (Some y.id) (v.known n p) (m == n) (g.to == n) refl refl (eq_off m n off) (g.phase n) in
+    λ n off. away_by m g.to n (kind_of w) (Some y.id) (v.known n p) (m == n) (g.to == n) refl refl (eq_off m n off) (f.away m (v.known n p)) (g.phase n) in
     ends_move_row b m pt l records k p (Line.Stays p) state next.view l (record {
       run = h.run;
       said = refl;
@@ -84,9 +99,16 @@ refuses b m pt l records k y p slots blocks h =
       own = own_stays v next.view l refl h.own;
       tokens = tokens_one v next.view l l records (at_machine records m state.records) p
           (record {
-            stays = search (λ (n : ℕ) (q : Pid) (off : pid_eq p q ≡ false). records_as records m n k.records state.records q h.records_here (sets q off));
+            stays = record {
+              told = refl;
+              asked = λ q off. refl;
+              processes = λ q off. refl;
+              notes = λ q off. refl;
+              records = λ n q off. records_as records m n k.records state.records q h.records_here (sets q off);
+              known = λ n q off. record_apart v.known m n p q Here off;
+            };
             came = λ i t spot told between least. (let e = stood m y.id h.ids v next.view i spot h.box gone least in ((e.spot, e.stands), refl));
-            none = none;
+            left = λ i t spot told between about least. leaving_left b m pt l records k z p h g next.view l gone kept refl i t spot told between about least refl;
           }) h.tokens;
       process = x;
       is = here_record;
@@ -94,10 +116,25 @@ refuses b m pt l records k y p slots blocks h =
       server = server;
       alone = away;
       stood = λ i spot least. (let e = stood m y.id h.ids v next.view i spot h.box gone least in (e.spot, e.stands));
-      none = none;
-    }) Outcome.Stayed departure.asker (sym stands.asker) (λ n. refl)
-    (turn_hears b m pt l records k z h (stays s p departure) (to_kernel b s z num ∙ ap (λ (r : Option machine.KernelKnown). bind (frozen_of r) (stays s p)) record_is)
+      left = λ i t spot told between about least. leaving_left b m pt l records k z p h g next.view l gone kept refl i t spot told between about least refl;
+    }) Outcome.Stayed departure.asker (sym (waits_for l p (v.queue m p) (v.held m p) g.to departure stands)) (λ n. refl)
+    (turn_hears b m pt l records k z h (stays s p departure) (to_kernel b s z num ∙ f.turn s z ∙ ap (λ (r : Option machine.KernelKnown). bind (frozen_of r) (stays s p)) record_is)
     ∙ ap (λ (n : ℕ). turned state (part.Part.Says (Line.Stays p) ∷ tells_asker n x Outcome.Stayed departure.asker)) h.stands.here)
     (outcome_hears b m pt l records k z h (Some (rule.Says (Line.Stays p) ∷ migrating.tells_asker (pt.kernel.notes p) Outcome.Stayed))
     (to_kernel_hears b pt m y.id (told_of z) num
-    ∙ leaves_alive b m pt l p (record x { queue = stands.here.0.0 }) y.id MessageKind.Refuse (Some (rule.Says (Line.Stays p) ∷ migrating.tells_asker (pt.kernel.notes p) Outcome.Stayed)) there (h.mirrors.plain.processes p) refl))
+    ∙ ap (kernel_hears b pt m y.id (kind_of w)) f.about
+    ∙ leaves_alive b m pt l p (record x { queue = stands.here.0.0 }) y.id (kind_of w) (Some (rule.Says (Line.Stays p) ∷ migrating.tells_asker (pt.kernel.notes p) Outcome.Stayed)) there (h.mirrors.plain.processes p) (no_piece (kind_of w) f.plain)
+    (f.step pt m y.id (fits (free_room b pt m) (length x.memory / 256)) (plain_process x))))
+
+-- the other machine has refused, or has called it off
+pub refuses : (b : Boot) (m : ℕ) (pt : Point) (l : Placed) (records : AllRecords) (k : KernelState) (y : Message) (p : Pid) (slots blocks : ℕ) → Hearing b m pt l records k (record y { what = What.Refuse p slots blocks })
+    → TurnsAt b m pt l records k
+refuses b m pt l records k y p slots blocks h =
+    let away : (m : ℕ) (x : Known) → kind_comes MessageKind.Refuse m x ≡ true → has_process x ≡ false = λ m x e. grind (arith, nat_tests) in
+    stays_turn b m pt l records k y p (What.Refuse p slots blocks)
+    (record { between = refl; back = refl; late = refl; plain = refl; about = refl; away = away; turn = λ s z. refl; step = λ q n i room x. refl }) h
+
+pub called_off : (b : Boot) (m : ℕ) (pt : Point) (l : Placed) (records : AllRecords) (k : KernelState) (y : Message) (p : Pid) → Hearing b m pt l records k (record y { what = What.CallOff p }) → TurnsAt b m pt l records k
+called_off b m pt l records k y p h =
+    let away : (m : ℕ) (x : Known) → kind_comes MessageKind.CallOff m x ≡ true → has_process x ≡ false = λ m x e. grind (arith, nat_tests) in
+    stays_turn b m pt l records k y p (What.CallOff p) (record { between = refl; back = refl; late = refl; plain = refl; about = refl; away = away; turn = λ s z. refl; step = λ q n i room x. refl }) h

@@ -1,18 +1,16 @@
 -- The message at the front of a machine's inbox is one that the machine can handle: for a kernel, a server, or a process.
-use Rattle.dm_mirror.proofs.Names.{◌≡◌, ◌≢◌, ℕ, ◌+◌, ◌<◌, ◌≤◌, ◌==◌, ◌&&◌, ◌||◌, Bool, true, false, List, ◌∷◌, length, refl, ap, ◌∙◌, sym, subst, arith, length-map, Option, None, Some, false≢true, Pid, Message, MsgId, What, MessageKind}
-use Rattle.dm_mirror.proofs.Names.{Record, kind_of, plain_message, Process, plain_child, plain_pending, plain_named, Boot, switchboard, manager, Manager, Switchboard, Point, Inbox, standing, Unknown, is_server, is_fixed, stands_first}
-use Rattle.dm_mirror.proofs.Names.{OwnTold, own_sort, own_server, Run, Placed, Mirrors, Servers, FitsBoard, FitsBoardWhat, FitsEnded, FitsHere, FitsKnown, FitsManager, FitsManagerWhat, KernelState, AllOwnStand, about_of, told_of}
-use Rattle.dm_mirror.proofs.Names.{KernelStands, KnownStands, servers_at, nat_tests, pid_eq, PlainMessage, PlainWhat, plain_what, Direction, Status, IsAnswerOf, IsAwaited, IsWithin, Life, Alive, piece_of, plain_process, plain_status}
-use Rattle.dm_mirror.proofs.Names.{pid_eq-same, Known, WhatFits, awaits, has_bytes, piece_fits, status_awaits, both, block_what, gone_what, kill_what, read_what, resume_what, stop_what, user_what, write_what, written_what, inl, inr, zero}
-use Rattle.dm_mirror.proofs.Names.{suc, ◌/◌, is_some, if◌then◌else◌, option_map, cases_Bool, pid_of, HasTaken, first_number, alive-is, blocks_of, taken_at, taken_by, taken_of_home, takes_room, IsLawfulState, of_known, MadeStands, [], map}
-use Rattle.dm_mirror.proofs.Names.{plain_manager, IsForManager, pending_request, OneKernel, front, ForWhom, for_whom, home_of, told_receiver, create_what, created_what, no_room_what, FitsKernel, managed_fits, user_fits, PendingKind, is_for}
-use Rattle.dm_mirror.proofs.Names.{move_what, moved_what, IsPending}
-use Rattle.dm_places.proofs.Names.{Pending}
+use Rattle.dm_mirror.proofs.Names.{◌≡◌, ◌≢◌, ℕ, ◌+◌, ◌<◌, ◌≤◌, ◌==◌, ◌||◌, Bool, true, false, List, ◌∷◌, length, refl, ap, ◌∙◌, sym, subst, arith, length-map, Option, None, Some, false≢true, Pid, Message, MsgId, What, MessageKind, Record}
+use Rattle.dm_mirror.proofs.Names.{kind_of, plain_message, Process, plain_child, plain_pending, plain_named, Boot, switchboard, manager, Manager, Switchboard, Point, Inbox, standing, Unknown, is_server, is_fixed, stands_first, OwnTold}
+use Rattle.dm_mirror.proofs.Names.{own_sort, own_server, Run, Placed, Mirrors, Servers, FitsBoard, FitsBoardWhat, FitsHere, FitsKnown, FitsManager, FitsManagerWhat, KernelState, AllOwnStand, about_of, told_of, KernelStands, KnownStands}
+use Rattle.dm_mirror.proofs.Names.{servers_at, nat_tests, pid_eq, PlainMessage, PlainWhat, plain_what, Direction, Status, IsAnswerOf, IsAwaited, IsWithin, Life, Alive, piece_of, plain_process, plain_status, pid_eq-same, Known, WhatFits}
+use Rattle.dm_mirror.proofs.Names.{awaits, has_bytes, piece_fits, status_awaits, both, block_what, gone_what, kill_what, read_what, resume_what, stop_what, user_what, write_what, written_what, inl, inr, zero, suc, ◌/◌, is_some}
+use Rattle.dm_mirror.proofs.Names.{if◌then◌else◌, option_map, cases_Bool, pid_of, HasTaken, first_number, alive-is, blocks_of, taken_at, taken_by, taken_of_home, takes_room, IsLawfulState, of_known, MadeStands, [], map, plain_manager}
+use Rattle.dm_mirror.proofs.Names.{IsForManager, pending_request, OneKernel, front, ForWhom, for_whom, home_of, told_receiver, create_what, created_what, no_room_what, FitsKernel, managed_fits, user_fits, PendingKind, move_what, moved_what}
+use Rattle.dm_mirror.proofs.Names.{IsPending, Pending}
 use Rattle.dm_kernel.specs.May.{MayAct}
 pub use Rattle.dm_rulelaws.proofs.Goes.Servers.{server_fixed as fixed_server}
 use Rattle.dm_kernel.specs.State as machine
 use Rattle.dm_onekernel.specs.Step as kernel
-use Rattle.dm_onekernel.specs.Kernel as one
 use Rattle.dm_onekernel.specs.Manager as manage
 use Rattle.dm_mirror.proofs.Follow.Updates.{first_servers as servers_here}
 use Rattle.dm_mirror.proofs.Machines.{plainly_is}
@@ -66,12 +64,12 @@ is_managed (PlainWhat.Moved outcome) = true
 is_managed w = false
 
 -- for a kernel
-pub kernel_row : (b : Boot) (pt : Point) (k : KernelState) (i : MsgId) (x : Message) (p : PlainMessage) (w : PlainWhat) → plain_what x.what ≡ Some w → is_create w ≡ true → WhatFits pt.kernel i p w → pt.kernel.images ≡ b.images → first_number + k.made < 4294967295 → FitsKernel b k x.what
+pub kernel_row : (b : Boot) (pt : Point) (k : KernelState) (i : MsgId) (x : Message) (p : PlainMessage) (w : PlainWhat) → plain_what x.what ≡ Some w → is_create w ≡ true → WhatFits pt.kernel i p w → pt.kernel.images ≡ b.images → first_number + k.made < 4294967295 → FitsKernel b k x x.what
 kernel_row b pt k i x p (PlainWhat.Create image links) e c fits images made =
     let numbered = fits.2 in
     let all : length pt.kernel.images ≡ length b.images = ap length images in
     let within : image < length b.images = grind (arith, nat_tests) in
-    subst (FitsKernel b k) (sym (create_what x.what image links e).is) (within, made)
+    subst (FitsKernel b k x) (sym (create_what x.what image links e).is) (within, made)
 kernel_row b pt k i x p _ e c fits images made = cc
 
 pending_plainly : (n : ℕ) (ps : List Pending) → is_some (manage.pending_numbered n (map plain_pending ps)) ≡ is_some (pending_request n ps)

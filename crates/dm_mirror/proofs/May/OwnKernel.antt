@@ -1,18 +1,19 @@
 -- A kernel's own message at the front of another kernel's inbox is one that this kernel can handle: a process is leaving or
 -- coming, and the message carries what is asked for.
-use Rattle.dm_mirror.proofs.Names.{◌≡◌, ℕ, ◌/◌, ◌≤◌, ◌==◌, ◌&&◌, not, Bool, true, false, length, refl, ap, ◌∙◌, sym, subst, arith, if◌then◌else◌, length-map, Option, None, Some, false≢true, All-nil, Pid, Message, MsgId, What, MessageKind}
-use Rattle.dm_mirror.proofs.Names.{Record, kind_of, IsLawfulMessage, Process, IsLawfulProcess, frozen_of, incoming_of, IsAskOfProcess, Arrival, CanMove, Departure, ask_of, HasBlock, HasChunk, state_of, Boot, Phase, Moves, kind_comes}
-use Rattle.dm_mirror.proofs.Names.{is_apart, is_away, is_between, is_early, tells_onward, is_restart, knows, kind_leaves, receiver_in, sender_in, told_between, Point, Inbox, standing, View, Known, Unknown, Frozen, Incoming, Of, Told}
-use Rattle.dm_mirror.proofs.Names.{token_at, token_is, is_server, Run, Placed, IsSuch, KernelState, about_of, ComesStand, KernelStands, KnownStands, LeavesStand, Carries, TokensStand, Wants, destination_of, eq_self, apart_is, inbox_is}
-use Rattle.dm_mirror.proofs.Names.{about_same, ◌<◌, ◌||◌, [], IsSome, Chunk, Block, Nothing, IsNextPiece, restarted, block_of, chunk_of, coming, by_pieces, takes_room, own_sort, Mirrors, FitsKernel, MayLeave, MayRestart, MadeStands}
-use Rattle.dm_mirror.proofs.Names.{nat_tests, Asker, sort_of}
+use Rattle.dm_mirror.proofs.Names.{◌≡◌, ℕ, ◌/◌, ◌≤◌, ◌==◌, ◌&&◌, not, Bool, true, false, length, refl, ap, ◌∙◌, sym, subst, arith, if◌then◌else◌, length-map, Option, Some, false≢true, All-nil, Pid, Message, MsgId, What, MessageKind, Record}
+use Rattle.dm_mirror.proofs.Names.{kind_of, IsLawfulMessage, Process, IsLawfulProcess, frozen_of, incoming_of, IsAskOfProcess, Arrival, CanMove, Departure, ask_of, HasBlock, HasChunk, state_of, Boot, Moves, kind_comes, is_away, is_between}
+use Rattle.dm_mirror.proofs.Names.{is_early, tells_onward, is_restart, kind_leaves, receiver_in, sender_in, Point, Inbox, standing, Known, Frozen, Incoming, Of, Told, token_at, is_server, Run, Placed, IsSuch, KernelState, about_of}
+use Rattle.dm_mirror.proofs.Names.{ComesStand, KernelStands, LeavesStand, Carries, TokensStand, Wants, destination_of, eq_self, apart_is, inbox_is, ◌<◌, ◌||◌, [], IsSome, Chunk, Block, Nothing, IsNextPiece, block_of, chunk_of, coming}
+use Rattle.dm_mirror.proofs.Names.{by_pieces, takes_room, own_sort, Mirrors, FitsKernel, MayLeave, MayRestart, MadeStands, nat_tests, Asker, sort_of, List, Cargo, CanBeCarried, cargo_at, cargo_of, ask_for, IsIn, cases_Bool, inl, inr}
+use Rattle.dm_mirror.proofs.Names.{LeftCarries, is_due_piece, is_expected, pulls_piece, is_calloff, is_waited_from}
 use Rattle.dm_migrate.specs.Way.{moved}
 use Rattle.dm_mirror.proofs.May.Own.{OwnFront, has_taken, life_is}
 use Rattle.dm_mirror.proofs.Turning.{is_moving}
-use Rattle.dm_mirror.proofs.Leave.Asks.{process_same as same_process}
 use Rattle.dm_mirror.proofs.Recorded.{recorded}
 use Rattle.dm_mirror.proofs.Counts.Pairs.{CountsFew}
-use Rattle.dm_kernel.specs.State as machine
+use Rattle.dm_mirror.proofs.Cargoes.{same_cargo, is_cargo_of, cargo_comes, comes_again}
+use Rattle.dm_mirror.proofs.LeftOver.{due_of, over_of, pulled_here}
+use Rattle.dm_mirror.proofs.Recorded.{expected_waits}
 
 -- what source and destination know of a process whose message comes here
 pub record IsMoved (pt : Point) (m : ℕ) (p : Pid) (k : MessageKind) : Type 0 where
@@ -28,27 +29,24 @@ source_knows k s d n e = sym (ap (λ (c : Bool). if c then kind_leaves k d n els
 destination_knows : (k : MessageKind) (s d : ℕ) (n : Known) → (s == d) ≡ false → (if s == d then kind_leaves k d n else if d == d then kind_comes k s n else is_away n) ≡ true → kind_comes k s n ≡ true
 destination_knows k s d n off e = grind (arith, nat_tests, eq_self)
 
-abbrev pub kind_in : Option Told → MessageKind
-kind_in None = MessageKind.Bury
-kind_in (Some t) = t.kind
-
-pub is_moved : (b : Boot) (pt : Point) (m : ℕ) (i : MsgId) (t : Told) (p : Pid) → Run b pt → pt.view.told i ≡ Some t → is_between t.kind ≡ true → t.about ≡ Of p → 1 ≤ standing pt.view i (Inbox m) → IsMoved pt m p t.kind
-is_moved b pt m i t p run told between about first =
+pub is_moved : (b : Boot) (pt : Point) (m : ℕ) (i : MsgId) (t : Told) (p : Pid) → Run b pt → pt.view.told i ≡ Some t → is_between t.kind ≡ true → t.about ≡ Of p → 1 ≤ standing pt.view i (Inbox m) → is_due_piece pt.view p i t ≡ true → IsMoved pt m p t.kind
+is_moved b pt m i t p run told between about first due =
     let v = pt.view in
     let h = run.based.phased.phases in
-    let (q, k, s, d, of_q, phase) = token_is v h i t (Inbox m) told between first in
-    let token = token_at v q (h.of q) k s d i phase (h.each q) in
-    let kind_is : k ≡ t.kind = (let g : Some t ≡ Some (told_between q k s d) = sym told ∙ token.told in sym (ap kind_in g)) in
-    let known : (n : ℕ) → knows (Moves k s d (Some i)) n (v.known n q) ≡ true = λ n. sym (ap (λ f. knows f n (v.known n q)) phase) ∙ (h.each q).known n in
-    let is : IsMoved pt m q k = search (
-      source_knows k s d (v.known s q) (known s),
-      destination_knows k s d (v.known d q) (apart_is (is_between k) s d (apart_of v q k s d i (h.of q) phase (h.each q).apart)) (known d),
-      inbox_is m (sender_in k s d) (receiver_in k s d) (token.ways (Inbox m) first),
-    ) in
-    subst (λ (j : MessageKind). IsMoved pt m p j) kind_is (subst (λ (r : Pid). IsMoved pt m r k) (about_same q p (sym of_q ∙ about)) is)
-  where
-    apart_of : (v : View) (q : Pid) (k : MessageKind) (s d : ℕ) (i : MsgId) (f : Phase) → f ≡ Moves k s d (Some i) → is_apart f ≡ true → (is_between k && not (s == d)) ≡ true
-    apart_of v q k s d i f e h = sym (ap is_apart e) ∙ h
+    let u = due_of v h p i t (Inbox m) told between about first due in
+    let k = u.kind in
+    let s = u.s in
+    let d = u.d in
+    let inside : IsIn v p (Moves k s d (Some i)) = subst (IsIn v p) u.phase (h.each p) in
+    let token = token_at v p (h.of p) k s d i u.phase (h.each p) in
+    let is : IsMoved pt m p k = record {
+      s = s;
+      d = d;
+      source = source_knows k s d (v.known s p) (inside.known s);
+      destination = destination_knows k s d (v.known d p) (apart_is (is_between k) s d inside.apart) (inside.known d);
+      here = inbox_is m (sender_in k s d) (receiver_in k s d) (token.ways (Inbox m) first);
+    } in
+    subst (λ (j : MessageKind). IsMoved pt m p j) (sym u.kind_is) is
 
 -- the source holds the process until it may restart, and the destination expects it once it has accepted
 pub frozen_at : (k : MessageKind) (d : ℕ) (n : Known) → kind_leaves k d n ≡ true → is_restart k ≡ false → (to : ℕ) × (n ≡ Frozen to)
@@ -74,28 +72,29 @@ leaves_at b pt l n k p to run h known =
 pub record Comes (pt : Point) (l : Placed) (n : ℕ) (k : KernelState) (p : Pid) : Type 0 where
   pub arrival : Arrival
   pub is : k.records p ≡ Some (Record.Incoming arrival)
-  pub stands : ComesStand l p (pt.view.held n p) arrival
+  pub from : ℕ
+  pub stands : ComesStand l p from (pt.view.held n p) arrival
 
 -- the message of the migration, and what its machines know
 pub record IsToken (pt : Point) (l : Placed) (ks : ℕ → KernelState) (m : ℕ) (i : MsgId) (x : Message) (w : What) (p : Pid) : Type 0 where
-  pub process : Process
-  pub there : l.processes p ≡ Some process
-  pub carries : Carries p process (l.notes p) (pt.view.asked p) (incoming_of ((ks (destination_of i (record { kind = kind_of w; receiver = x.to.pid; about = about_of w }))).records p)) w
+  pub cargo : Cargo
+  pub there : cargo_at l p ≡ Some cargo
+  pub carries : Carries p cargo (pt.view.asked p) (incoming_of ((ks (destination_of i (record { kind = kind_of w; receiver = x.to.pid; about = about_of w }))).records p)) w
   pub moved : IsMoved pt m p (kind_of w)
 
 abbrev pub own_told : Message → What → Told
 own_told x w = record { kind = kind_of w; receiver = x.to.pid; about = about_of w }
 
-pub token_of : (b : Boot) (pt : Point) (l : Placed) (ks : ℕ → KernelState) (m : ℕ) (i : MsgId) (x : Message) (w : What) (p : Pid) → x.what ≡ w → Run b pt → TokensStand pt.view l (λ n. (ks n).records) → OwnFront pt l m i x → is_between (kind_of w) ≡ true → about_of w ≡ Of p
+pub token_of : (b : Boot) (pt : Point) (l : Placed) (ks : ℕ → KernelState) (m : ℕ) (i : MsgId) (x : Message) (w : What) (p : Pid) → x.what ≡ w → Run b pt → TokensStand pt.view l (λ n. (ks n).records) → OwnFront pt l m i x → is_between (kind_of w) ≡ true → about_of w ≡ Of p → is_due_piece pt.view p i (own_told x w) ≡ true
     → IsToken pt l ks m i x w p
-token_of b pt l ks m i x w p e run tokens f between about =
+token_of b pt l ks m i x w p e run tokens f between about due =
     let told : pt.view.told i ≡ Some (own_told x w) = f.told ∙ ap (λ (v : What). Some (own_told x v)) e in
-    let t = tokens p i (own_told x w) (Inbox m) told between about f.first in
+    let t = (tokens p i (own_told x w) (Inbox m) told between about f.first).0 due in
     let same : t.message ≡ x = (let g : Some t.message ≡ Some x = sym t.is ∙ f.there in cc) in
     let what_is : t.message.what ≡ w = ap (λ (v : Message). v.what) same ∙ e in
     search (
-      subst (Carries p t.process (l.notes p) (pt.view.asked p) (incoming_of ((ks (destination_of i (own_told x w))).records p))) what_is t.carries,
-      is_moved b pt m i (own_told x w) p run told between about f.first,
+      subst (Carries p t.cargo (pt.view.asked p) (incoming_of ((ks (destination_of i (own_told x w))).records p))) what_is t.carries,
+      is_moved b pt m i (own_told x w) p run told between about f.first due,
     )
 
 pub frozen_is : (k : KernelState) (p : Pid) (d : Departure) (P : Departure → Type 0) → k.records p ≡ Some (Record.Frozen d) → P d → IsSuch P (frozen_of (k.records p))
@@ -112,14 +111,14 @@ source_leaves b pt l m k p c run stands h side early =
     leaves_at b pt l m k p to run stands (ap (λ (n : ℕ). pt.view.known n p) here ∙ known)
 
 -- where it comes
-pub destination_comes : (b : Boot) (pt : Point) (l : Placed) (m : ℕ) (k : KernelState) (p : Pid) (c : MessageKind) → Run b pt → KernelStands b pt l m k → (h : IsMoved pt m p c) → tells_onward (sort_of c) ≡ true → is_early c ≡ false → Comes pt l m k p
-destination_comes b pt l m k p c run stands h side early =
+pub destination_comes : (b : Boot) (pt : Point) (l : Placed) (m : ℕ) (k : KernelState) (p : Pid) (c : MessageKind) → Run b pt → KernelStands b pt l m k → (h : IsMoved pt m p c) → tells_onward (sort_of c) ≡ true → is_early c ≡ false → is_calloff c ≡ false → Comes pt l m k p
+destination_comes b pt l m k p c run stands h side early on =
     let here : m ≡ h.d = h.here ∙ ap (λ (d : Bool). if d then h.d else h.s) side in
     let (from, known) = (let e_ : (from : ℕ) × ((pt.view.known h.d p) ≡ Incoming from) = grind (arith, nat_tests, h.destination) in e_) in
     let comes_at : (b : Boot) (pt : Point) (l : Placed) (n : ℕ) (k : KernelState) (p : Pid) (from : ℕ) → Run b pt → KernelStands b pt l n k → pt.view.known n p ≡ Incoming from → Comes pt l n k p = λ b pt l n k p from run h known.
     let server = not_server b pt n p (is_server p) refl run (ap is_moving known) in
     let (a, is, stands) = recorded b pt l n k p (Incoming from) h server known in
-    record { arrival = a; is = is; stands = stands } in
+    record { arrival = a; is = is; from = from; stands = stands } in
     comes_at b pt l m k p from run stands (ap (λ (n : ℕ). pt.view.known n p) here ∙ known)
 
 -- it asks to come
@@ -147,21 +146,17 @@ pub record Around (b : Boot) (pt : Point) (l : Placed) (ks : ℕ → KernelState
   pub front : OwnFront pt l m i x
 
 -- the piece that is asked for
-next_chunk : (z y : Process) (k : Option Asker) (a : Arrival) (w : What) (n : ℕ) → CanMove (record z { queue = [] }) → y ≡ z → a ≡ coming z k a.held a.wanted → a.wanted ≡ Chunk n → w ≡ chunk_of y.pid (state_of y) n → HasChunk (state_of y) n
-    → IsNextPiece a w
-next_chunk z y k a w n whole same pieces wanted is there =
-    let there_ : HasChunk (state_of z) n = subst (λ (v : Process). HasChunk (state_of v) n) same there in
-    let is_ : w ≡ chunk_of z.pid (state_of z) n = is ∙ ap (λ (v : Process). chunk_of v.pid (state_of v) n) same in
-    let come : a ≡ coming z k a.held (Chunk n) = pieces ∙ ap (coming z k a.held) wanted in
-    subst (λ (v : Arrival). IsNextPiece v w) (sym come) (subst (IsNextPiece (coming z k a.held (Chunk n))) (sym is_) ((by_pieces (record z { queue = [] }) k a.held whole).chunk_asked n there_))
+next_chunk : (l : Placed) (p : Pid) (from : ℕ) (held : List MsgId) (c : Cargo) (a : Arrival) (w : What) (n : ℕ) → cargo_at l p ≡ Some c → ComesStand l p from held a → a.wanted ≡ Chunk n → w ≡ chunk_of c.pid c.state n → HasChunk c.state n → IsNextPiece a w
+next_chunk l p from held c a w n is h wanted piece there =
+    let come : a ≡ coming c a.source a.cap a.held (Chunk n) = h.pieces ∙ (λ i. coming (same_cargo h.cargo c (sym h.there ∙ is) i) a.source a.cap a.held (wanted i)) in
+    subst (λ (v : Arrival). IsNextPiece v w) (sym come)
+    (subst (IsNextPiece (coming c a.source a.cap a.held (Chunk n))) (sym piece) ((by_pieces c a.source a.cap a.held (cargo_comes (l.processes p) (l.notes p) c a.cap is h.whole)).chunk_asked n there))
 
-next_block : (z y : Process) (k : Option Asker) (a : Arrival) (w : What) (n : ℕ) → CanMove (record z { queue = [] }) → y ≡ z → a ≡ coming z k a.held a.wanted → a.wanted ≡ Block n → w ≡ block_of y.pid y.memory n → HasBlock y.memory n
-    → IsNextPiece a w
-next_block z y k a w n whole same pieces wanted is there =
-    let there_ : HasBlock z.memory n = subst (λ (v : Process). HasBlock v.memory n) same there in
-    let is_ : w ≡ block_of z.pid z.memory n = is ∙ ap (λ (v : Process). block_of v.pid v.memory n) same in
-    let come : a ≡ coming z k a.held (Block n) = pieces ∙ ap (coming z k a.held) wanted in
-    subst (λ (v : Arrival). IsNextPiece v w) (sym come) (subst (IsNextPiece (coming z k a.held (Block n))) (sym is_) ((by_pieces (record z { queue = [] }) k a.held whole).block_asked n there_))
+next_block : (l : Placed) (p : Pid) (from : ℕ) (held : List MsgId) (c : Cargo) (a : Arrival) (w : What) (n : ℕ) → cargo_at l p ≡ Some c → ComesStand l p from held a → a.wanted ≡ Block n → w ≡ block_of c.pid c.memory n → HasBlock c.memory n → IsNextPiece a w
+next_block l p from held c a w n is h wanted piece there =
+    let come : a ≡ coming c a.source a.cap a.held (Block n) = h.pieces ∙ (λ i. coming (same_cargo h.cargo c (sym h.there ∙ is) i) a.source a.cap a.held (wanted i)) in
+    subst (λ (v : Arrival). IsNextPiece v w) (sym come)
+    (subst (IsNextPiece (coming c a.source a.cap a.held (Block n))) (sym piece) ((by_pieces c a.source a.cap a.held (cargo_comes (l.processes p) (l.notes p) c a.cap is h.whole)).block_asked n there))
 
 -- the machine is the receiver's home
 home_is : (b : Boot) (pt : Point) (l : Placed) (ks : ℕ → KernelState) (m : ℕ) (i : MsgId) (x : Message) → Around b pt l ks m i x → (x.to.pid.num == 0) ≡ true → x.to.pid.home ≡ m
@@ -181,65 +176,123 @@ leaves_here b pt l ks m i x p h d =
 
 -- it asks to come, and can move
 asks_to_come : (b : Boot) (pt : Point) (l : Placed) (ks : ℕ → KernelState) (m : ℕ) (i : MsgId) (x : Message) (w : What) (p : Pid) → Around b pt l ks m i x → (t : IsToken pt l ks m i x w p) → kind_of w ≡ MessageKind.Ask
-    → w ≡ ask_of t.process (l.notes p) → IsAskOfProcess w
+    → w ≡ ask_for t.cargo → IsAskOfProcess w
 asks_to_come b pt l ks m i x w p h t is asked =
     let s = t.moved.s in
     let (to, known) = frozen_at (kind_of w) t.moved.d (pt.view.known s p) t.moved.source (ap is_restart is) in
     let within : s < pt.kernel.machines = h.run.found.known_within s p (λ none. (let e_ : ⊥ = cc (sym known ∙ none) in e_)) in
     let d = leaves_at b pt l s (ks s) p to h.run (h.nodes s within) known in
-    let same = same_process (l.processes p) t.process (record d.departure.process { queue = d.stands.here.0.0 }) t.there d.stands.here.0.1 in
-    subst IsAskOfProcess (sym (asked ∙ ap (λ (v : Process). ask_of v (l.notes p)) same)) (whole_asks d.departure.process (l.notes p) d.stands.whole)
+    let same = same_cargo t.cargo (cargo_of d.departure.process d.departure.asker) (sym t.there ∙ d.stands.cargo) in
+    subst IsAskOfProcess (sym (asked ∙ ap ask_for same)) (whole_asks d.departure.process d.departure.asker d.stands.whole)
 
 sorted_of : (b : Boot) (pt : Point) (l : Placed) (ks : ℕ → KernelState) (m : ℕ) (i : MsgId) (x : Message) (w : What) → x.what ≡ w → Around b pt l ks m i x → own_sort (kind_of w) x.to.pid (about_of w) ≡ true
 sorted_of b pt l ks m i x w e h = ap (λ (v : What). own_sort (kind_of v) x.to.pid (about_of v)) (sym e) ∙ h.front.sort
 
-kernel_row : (b : Boot) (pt : Point) (l : Placed) (ks : ℕ → KernelState) (m : ℕ) (i : MsgId) (x : Message) (w : What) → x.what ≡ w → Around b pt l ks m i x → (x.to.pid.num == 0) ≡ true → (ks m).sent < 4294967295 → FitsKernel b (ks m) w
+-- what is left over and asks for a piece: the process is held back here
+record IsRest (pt : Point) (l : Placed) (ks : ℕ → KernelState) (m : ℕ) (w : What) (p : Pid) : Type 0 where
+  carries : LeftCarries p (cargo_at l p) w
+  leaves : Leaves pt l m (ks m) p
+
+left_over : (b : Boot) (pt : Point) (l : Placed) (ks : ℕ → KernelState) (m : ℕ) (i : MsgId) (x : Message) (w : What) (p : Pid) → x.what ≡ w → Around b pt l ks m i x → is_between (kind_of w) ≡ true → about_of w ≡ Of p → pulls_piece (sort_of (kind_of w)) ≡ true → is_due_piece pt.view p i (own_told x w) ≡ false
+    → IsRest pt l ks m w p
+left_over b pt l ks m i x w p e h between about pulls off =
+    let v = pt.view in
+    let phases = h.run.based.phased.phases in
+    let f = h.front in
+    let told : v.told i ≡ Some (own_told x w) = f.told ∙ ap (λ (v : What). Some (own_told x v)) e in
+    let y = (h.tokens p i (own_told x w) (Inbox m) told between about f.first).1 off in
+    let same : y.message ≡ x = (let g : Some y.message ≡ Some x = sym y.is ∙ f.there in cc) in
+    let u = pulled_here v p (phases.of p) i (own_told x w) m (phases.each p) (over_of v phases p i (own_told x w) (Inbox m) told between about f.first off) pulls f.first in
+    record { carries = subst (LeftCarries p (cargo_at l p)) (ap (λ (v : Message). v.what) same ∙ e) y.carries; leaves = leaves_at b pt l m (ks m) p u.d h.run (h.nodes m h.within) u.known }
+
+chunk_due : (b : Boot) (pt : Point) (l : Placed) (ks : ℕ → KernelState) (m : ℕ) (i : MsgId) (x : Message) (pid : Pid) (chunk : ℕ) → x.what ≡ What.PullState pid chunk → Around b pt l ks m i x → (x.to.pid.num == 0) ≡ true → (ks m).sent < 4294967295
+    → is_due_piece pt.view pid i (own_told x (What.PullState pid chunk)) ≡ true → FitsKernel b (ks m) x (What.PullState pid chunk)
+chunk_due b pt l ks m i x pid chunk e h num sent due =
+    let t = token_of b pt l ks m i x (What.PullState pid chunk) pid e h.run h.tokens h.front refl refl due in
+    let d = source_leaves b pt l m (ks m) pid MessageKind.PullState h.run (h.nodes m h.within) t.moved refl refl in
+    let same = same_cargo t.cargo (cargo_of d.departure.process d.departure.asker) (sym t.there ∙ d.stands.cargo) in
+    (frozen_is (ks m) pid d.departure (λ (v : Departure). HasChunk (state_of v.process) chunk) d.is (subst (λ (v : Cargo). HasChunk v.state chunk) same t.carries.1.1), sent)
+
+chunk_left : (b : Boot) (pt : Point) (l : Placed) (ks : ℕ → KernelState) (m : ℕ) (i : MsgId) (x : Message) (pid : Pid) (chunk : ℕ) → x.what ≡ What.PullState pid chunk → Around b pt l ks m i x → (x.to.pid.num == 0) ≡ true → (ks m).sent < 4294967295
+    → is_due_piece pt.view pid i (own_told x (What.PullState pid chunk)) ≡ false → FitsKernel b (ks m) x (What.PullState pid chunk)
+chunk_left b pt l ks m i x pid chunk e h num sent off =
+    let t = left_over b pt l ks m i x (What.PullState pid chunk) pid e h refl refl refl off in
+    let d = t.leaves in
+    (frozen_is (ks m) pid d.departure (λ (v : Departure). HasChunk (state_of v.process) chunk) d.is (subst (IsSuch (λ (v : Cargo). HasChunk v.state chunk)) d.stands.cargo t.carries.1), sent)
+
+block_due : (b : Boot) (pt : Point) (l : Placed) (ks : ℕ → KernelState) (m : ℕ) (i : MsgId) (x : Message) (pid : Pid) (block : ℕ) → x.what ≡ What.PullBlock pid block → Around b pt l ks m i x → (x.to.pid.num == 0) ≡ true → (ks m).sent < 4294967295
+    → is_due_piece pt.view pid i (own_told x (What.PullBlock pid block)) ≡ true → FitsKernel b (ks m) x (What.PullBlock pid block)
+block_due b pt l ks m i x pid block e h num sent due =
+    let t = token_of b pt l ks m i x (What.PullBlock pid block) pid e h.run h.tokens h.front refl refl due in
+    let d = source_leaves b pt l m (ks m) pid MessageKind.PullBlock h.run (h.nodes m h.within) t.moved refl refl in
+    let same = same_cargo t.cargo (cargo_of d.departure.process d.departure.asker) (sym t.there ∙ d.stands.cargo) in
+    (frozen_is (ks m) pid d.departure (λ (v : Departure). HasBlock v.process.memory block) d.is (subst (λ (v : Cargo). HasBlock v.memory block) same t.carries.1.1), sent)
+
+block_left : (b : Boot) (pt : Point) (l : Placed) (ks : ℕ → KernelState) (m : ℕ) (i : MsgId) (x : Message) (pid : Pid) (block : ℕ) → x.what ≡ What.PullBlock pid block → Around b pt l ks m i x → (x.to.pid.num == 0) ≡ true → (ks m).sent < 4294967295
+    → is_due_piece pt.view pid i (own_told x (What.PullBlock pid block)) ≡ false → FitsKernel b (ks m) x (What.PullBlock pid block)
+block_left b pt l ks m i x pid block e h num sent off =
+    let t = left_over b pt l ks m i x (What.PullBlock pid block) pid e h refl refl refl off in
+    let d = t.leaves in
+    (frozen_is (ks m) pid d.departure (λ (v : Departure). HasBlock v.process.memory block) d.is (subst (IsSuch (λ (v : Cargo). HasBlock v.memory block)) d.stands.cargo t.carries.1), sent)
+
+-- a piece that is awaited is due
+awaited_due : (b : Boot) (pt : Point) (l : Placed) (ks : ℕ → KernelState) (m : ℕ) (i : MsgId) (x : Message) (p : Pid) → Around b pt l ks m i x → (x.to.pid.num == 0) ≡ true → is_expected (incoming_of ((ks m).records p)) x.id.from.home ≡ true → is_waited_from i.from.home (pt.view.known x.to.pid.home p) ≡ true
+awaited_due b pt l ks m i x p h num expected =
+    let waits = expected_waits b pt l m (ks m) p x.id.from.home (is_server p) refl (h.nodes m h.within) expected in
+    (λ j. is_waited_from (sym (ap (λ (q : MsgId). q.from.home) (h.mirrors.places.message i x h.front.there).id) j) (pt.view.known (home_is b pt l ks m i x h num j) p)) ∙ waits
+
+kernel_row : (b : Boot) (pt : Point) (l : Placed) (ks : ℕ → KernelState) (m : ℕ) (i : MsgId) (x : Message) (w : What) → x.what ≡ w → Around b pt l ks m i x → (x.to.pid.num == 0) ≡ true → (ks m).sent < 4294967295 → FitsKernel b (ks m) x w
 kernel_row b pt l ks m i x (What.Ask pid blocks moves size asker) e h num sent =
-    let t = token_of b pt l ks m i x (What.Ask pid blocks moves size asker) pid e h.run h.tokens h.front refl refl in
+    let t = token_of b pt l ks m i x (What.Ask pid blocks moves size asker) pid e h.run h.tokens h.front refl refl refl in
     (asks_to_come b pt l ks m i x (What.Ask pid blocks moves size asker) pid h t refl t.carries, sent)
 kernel_row b pt l ks m i x (What.Refuse pid slots blocks) e h num sent =
-    let t = token_of b pt l ks m i x (What.Refuse pid slots blocks) pid e h.run h.tokens h.front refl refl in
+    let t = token_of b pt l ks m i x (What.Refuse pid slots blocks) pid e h.run h.tokens h.front refl refl refl in
     let d = source_leaves b pt l m (ks m) pid MessageKind.Refuse h.run (h.nodes m h.within) t.moved refl refl in
     subst (λ (o : Option Departure). IsSome o) (sym (ap frozen_of d.is)) refl
-kernel_row b pt l ks m i x (What.PullState pid chunk) e h num sent =
-    let t = token_of b pt l ks m i x (What.PullState pid chunk) pid e h.run h.tokens h.front refl refl in
-    let d = source_leaves b pt l m (ks m) pid MessageKind.PullState h.run (h.nodes m h.within) t.moved refl refl in
-    let same = same_process (l.processes pid) t.process (record d.departure.process { queue = d.stands.here.0.0 }) t.there d.stands.here.0.1 in
-    (frozen_is (ks m) pid d.departure (λ (v : Departure). HasChunk (state_of v.process) chunk) d.is (subst (λ (v : Process). HasChunk (state_of v) chunk) same t.carries.1.1), sent)
-kernel_row b pt l ks m i x (What.State pid chunk last bytes) e h num sent =
+kernel_row b pt l ks m i x (What.PullState pid chunk) e h num sent = elim (cases_Bool (is_due_piece pt.view pid i (own_told x (What.PullState pid chunk)))) [
+  | inl due ↦ chunk_due b pt l ks m i x pid chunk e h num sent due
+  | inr off ↦ chunk_left b pt l ks m i x pid chunk e h num sent off
+]
+kernel_row b pt l ks m i x (What.State pid chunk last bytes) e h num sent = λ expected.
     let w = What.State pid chunk last bytes in
-    let t = token_of b pt l ks m i x w pid e h.run h.tokens h.front refl refl in
-    let c = destination_comes b pt l m (ks m) pid MessageKind.State h.run (h.nodes m h.within) t.moved refl refl in
+    let t = token_of b pt l ks m i x w pid e h.run h.tokens h.front refl refl (awaited_due b pt l ks m i x pid h num expected) in
+    let c = destination_comes b pt l m (ks m) pid MessageKind.State h.run (h.nodes m h.within) t.moved refl refl refl in
     let wanted = subst (λ (v : Option Arrival). Wants v (Chunk chunk)) (ap (λ (n : ℕ). incoming_of ((ks n).records pid)) (home_is b pt l ks m i x h num) ∙ ap incoming_of c.is) t.carries.2 in
-    let same = same_process (l.processes pid) t.process c.stands.process t.there c.stands.there in
-    (incoming_is (ks m) pid c.arrival (λ (a : Arrival). IsNextPiece a w) c.is (next_chunk c.stands.process t.process (l.notes pid) c.arrival w chunk c.stands.whole same c.stands.pieces wanted t.carries.0 t.carries.1.1), sent)
-kernel_row b pt l ks m i x (What.PullBlock pid block) e h num sent =
-    let t = token_of b pt l ks m i x (What.PullBlock pid block) pid e h.run h.tokens h.front refl refl in
-    let d = source_leaves b pt l m (ks m) pid MessageKind.PullBlock h.run (h.nodes m h.within) t.moved refl refl in
-    let same = same_process (l.processes pid) t.process (record d.departure.process { queue = d.stands.here.0.0 }) t.there d.stands.here.0.1 in
-    (frozen_is (ks m) pid d.departure (λ (v : Departure). HasBlock v.process.memory block) d.is (subst (λ (v : Process). HasBlock v.memory block) same t.carries.1.1), sent)
-kernel_row b pt l ks m i x (What.Memory pid block bytes) e h num sent =
+    (incoming_is (ks m) pid c.arrival (λ (a : Arrival). IsNextPiece a w) c.is (next_chunk l pid c.from (pt.view.held m pid) t.cargo c.arrival w chunk t.there c.stands wanted t.carries.0 t.carries.1.1), sent)
+kernel_row b pt l ks m i x (What.PullBlock pid block) e h num sent = elim (cases_Bool (is_due_piece pt.view pid i (own_told x (What.PullBlock pid block)))) [
+  | inl due ↦ block_due b pt l ks m i x pid block e h num sent due
+  | inr off ↦ block_left b pt l ks m i x pid block e h num sent off
+]
+kernel_row b pt l ks m i x (What.Memory pid block bytes) e h num sent = λ expected.
     let w = What.Memory pid block bytes in
-    let t = token_of b pt l ks m i x w pid e h.run h.tokens h.front refl refl in
-    let c = destination_comes b pt l m (ks m) pid MessageKind.Memory h.run (h.nodes m h.within) t.moved refl refl in
+    let t = token_of b pt l ks m i x w pid e h.run h.tokens h.front refl refl (awaited_due b pt l ks m i x pid h num expected) in
+    let c = destination_comes b pt l m (ks m) pid MessageKind.Memory h.run (h.nodes m h.within) t.moved refl refl refl in
     let wanted = subst (λ (v : Option Arrival). Wants v (Block block)) (ap (λ (n : ℕ). incoming_of ((ks n).records pid)) (home_is b pt l ks m i x h num) ∙ ap incoming_of c.is) t.carries.2 in
-    let same = same_process (l.processes pid) t.process c.stands.process t.there c.stands.there in
-    (incoming_is (ks m) pid c.arrival (λ (a : Arrival). IsNextPiece a w) c.is (next_block c.stands.process t.process (l.notes pid) c.arrival w block c.stands.whole same c.stands.pieces wanted t.carries.0 t.carries.1.1), sent)
+    (incoming_is (ks m) pid c.arrival (λ (a : Arrival). IsNextPiece a w) c.is (next_block l pid c.from (pt.view.held m pid) t.cargo c.arrival w block t.there c.stands wanted t.carries.0 t.carries.1.1), sent)
 kernel_row b pt l ks m i x (What.AllTaken pid) e h num sent =
-    let t = token_of b pt l ks m i x (What.AllTaken pid) pid e h.run h.tokens h.front refl refl in
+    let t = token_of b pt l ks m i x (What.AllTaken pid) pid e h.run h.tokens h.front refl refl refl in
     let d = source_leaves b pt l m (ks m) pid MessageKind.AllTaken h.run (h.nodes m h.within) t.moved refl refl in
     (frozen_is (ks m) pid d.departure (MayLeave (ks m).room) d.is (leaves_here b pt l ks m i x pid h d), sent)
 kernel_row b pt l ks m i x (What.Restart pid) e h num sent =
-    let t = token_of b pt l ks m i x (What.Restart pid) pid e h.run h.tokens h.front refl refl in
-    let c = destination_comes b pt l m (ks m) pid MessageKind.Restart h.run (h.nodes m h.within) t.moved refl refl in
+    let t = token_of b pt l ks m i x (What.Restart pid) pid e h.run h.tokens h.front refl refl refl in
+    let c = destination_comes b pt l m (ks m) pid MessageKind.Restart h.run (h.nodes m h.within) t.moved refl refl refl in
     let wanted = subst (λ (v : Option Arrival). Wants v Nothing) (ap (λ (n : ℕ). incoming_of ((ks n).records pid)) (home_is b pt l ks m i x h num) ∙ ap incoming_of c.is) t.carries.1 in
-    let all_come : (z : Process) (k : Option Asker) (a : Arrival) → CanMove (record z { queue = [] }) → a ≡ coming z k a.held a.wanted → a.wanted ≡ Nothing → MayRestart a = λ z k a whole pieces wanted.
-    let come : a ≡ coming z k a.held Nothing = pieces ∙ ap (coming z k a.held) wanted in
-    record { whole = wanted; process = moved z; restarts = ap restarted come ∙ (by_pieces (record z { queue = [] }) k a.held whole).whole; lawful = moved_lawful (record z { queue = [] }) whole.lawful } in
-    incoming_is (ks m) pid c.arrival MayRestart c.is (all_come c.stands.process (l.notes pid) c.arrival c.stands.whole c.stands.pieces wanted)
+    let of = is_cargo_of (l.processes pid) (l.notes pid) c.stands.cargo c.stands.there in
+    let z = of.process in
+    let carried : CanBeCarried c.arrival.cap z = subst (IsSuch (CanBeCarried c.arrival.cap)) of.there c.stands.whole in
+    incoming_is (ks m) pid c.arrival MayRestart c.is (record {
+      whole = wanted;
+      process = moved z;
+      restarts = comes_again l pid c.from (pt.view.held m pid) c.arrival z of.there wanted c.stands;
+      lawful = moved_lawful (record z { queue = [] }) carried.0.lawful;
+    })
+kernel_row b pt l ks m i x (What.CallOff pid) e h num sent =
+    let t = token_of b pt l ks m i x (What.CallOff pid) pid e h.run h.tokens h.front refl refl refl in
+    let d = source_leaves b pt l m (ks m) pid MessageKind.CallOff h.run (h.nodes m h.within) t.moved refl refl in
+    subst (λ (o : Option Departure). IsSome o) (sym (ap frozen_of d.is)) refl
 kernel_row b pt l ks m i x (What.Migrate machine_) e h num sent = absurd (false≢true (sym (ap (λ (c : Bool). not (c || is_server x.to.pid) && true) num) ∙ sorted_of b pt l ks m i x (What.Migrate machine_) e h))
 kernel_row b pt l ks m i x (What.Update about) e h num sent = absurd (false≢true (sym (ap (λ (c : Bool). not c && true) num) ∙ sorted_of b pt l ks m i x (What.Update about) e h))
 kernel_row b pt l ks m i x any_ e h num sent = absurd (false≢true (sorted_of b pt l ks m i x any_ e h))
 
-pub own_kernel : (b : Boot) (pt : Point) (l : Placed) (ks : ℕ → KernelState) (m : ℕ) (i : MsgId) (x : Message) → Around b pt l ks m i x → (x.to.pid.num == 0) ≡ true → (ks m).sent < 4294967295 → FitsKernel b (ks m) x.what
+pub own_kernel : (b : Boot) (pt : Point) (l : Placed) (ks : ℕ → KernelState) (m : ℕ) (i : MsgId) (x : Message) → Around b pt l ks m i x → (x.to.pid.num == 0) ≡ true → (ks m).sent < 4294967295 → FitsKernel b (ks m) x x.what
 own_kernel b pt l ks m i x h num sent = kernel_row b pt l ks m i x x.what refl h num sent

@@ -1,14 +1,15 @@
 -- What stands somewhere stands there behind messages that are put.
 use Rattle.dm_mirror.proofs.Names.{◌≡◌, ℕ, ◌+◌, ◌≤◌, ◌==◌, Bool, true, false, List, [], ◌∷◌, ◌++◌, length, map, refl, ap, ◌∙◌, sym, subst, arith, if◌then◌else◌, Option, None, Some, Pid, MsgId, MessageKind, kind_of, plain_kind, PlainMessage}
 use Rattle.dm_mirror.proofs.Names.{nat_tests, bind, bind-is, Line, Load, Stage, Receiver, Spelled, goes_out, puts, spelled, Point, after, moved, at_machine, Spot, standing, Told, View, is_own, own_id, fits_packet, fits_put, PairsFit, Sane}
-use Rattle.dm_mirror.proofs.Names.{Placed, Mirrors, AllRecords, pid_of, Message, id_eq, id_of, id_eq-is, Gets, Sender, first_gives, given, own_given, is_kernels, not_kernels, put_told_off, not_first, zero, suc, ◌&&◌, drop, eqb-true}
-use Rattle.dm_mirror.proofs.Names.{drop-append-le, Inbox, Untaken, times, untaken, Pair, after_packet, after_put, routed_on, two_of, put_spot, put_there, times-append, home_full, behind, sort_of}
+use Rattle.dm_mirror.proofs.Names.{Placed, Mirrors, AllRecords, pid_of, Message, id_eq, id_of, id_eq-is, Gets, Sender, first_gives, given, own_given, not_kernels, put_told_off, not_first, zero, suc, drop, eqb-true, drop-append-le, Inbox}
+use Rattle.dm_mirror.proofs.Names.{Untaken, times, untaken, Pair, after_packet, after_put, routed_on, two_of, put_spot, put_there, times-append, home_full, behind, sort_of, Known, inl, inr, told_of}
 use Rattle.dm_rule.specs.Parts as rule
 use Rattle.dm_mirror.proofs.Turning.{Route, First, On, Own, Late, Nothing, Leaves, MayPut, late_rule_parts, message_of, rule_part_of, MayOwn, AllMayPut, LateMay, late_owns, owns}
 use Rattle.dm_mirror.proofs.Puts.{put_standing}
 use Rattle.dm_mirror.proofs.Route.Puts.{after_route, route_keeps, route_more, told_stays, own_gives_same}
 use Rattle.dm_mirror.proofs.Join.{put_end, plain_of, put_point}
 use Rattle.dm_mirror.proofs.Turning as turning
+use Rattle.dm_mirror.proofs.LeftOver.{known_due}
 
 more_times : (j : MsgId) (xs ys : List MsgId) → 1 ≤ times j xs → 1 ≤ times j (xs ++ ys)
 more_times j xs ys h = let a = times-append j xs ys in omega (arith, a, h)
@@ -51,6 +52,7 @@ pub record SameEnd (put end : Point) : Type 0 where
   pub told : end.view.told ≡ put.view.told
   pub topic : end.view.topic ≡ put.view.topic
   pub asked : end.view.asked ≡ put.view.asked
+  pub known : end.view.known ≡ put.view.known
   pub groups : end.view.groups ≡ put.view.groups
 
 pub same_end : (q : Point) (m c : ℕ) (x : Message) (home out : Bool) → SameEnd (put_point q m c x) (put_end q m c x home out)
@@ -73,6 +75,7 @@ record Keeps (pt end : Point) (i : MsgId) : Type 0 where
   told : end.view.told i ≡ pt.view.told i
   topic : end.view.topic ≡ pt.view.topic
   asked : end.view.asked ≡ pt.view.asked
+  known : end.view.known ≡ pt.view.known
 
 own_stays : (pt end : Point) (l : Placed) (records : AllRecords) (x : Message) → Keeps pt end x.id → MayOwn pt l records x → MayOwn end l records x
 own_stays pt end l records x k may =
@@ -88,7 +91,10 @@ own_stays pt end l records x k may =
       sender = (λ i. given (k.addresses i) (gives i) (Sender x.id)) ∙ may.sender;
       about = k.topic ∙ may.about;
       asker = may.asker;
-      carried = λ between p about. subst (λ (f : Pid → ℕ). turning.IsCarried l (f p) records p x) (sym k.asked) (may.carried between p about);
+      carried = λ between p about. elim (may.carried between p about) [
+        | inl c ↦ inl (subst (λ (f : Pid → ℕ). turning.IsCarried l (f p) records p x) (sym k.asked) c)
+        | inr c ↦ inr (record { over = known_due pt.view end.view p x.id (told_of x) (λ n. ap (λ (f : ℕ → Pid → Known). f n p) k.known) ∙ c.over; sender = c.sender; carries = c.carries })
+      ];
     }
 
 apart_bag : (l : Placed) (x y : Message) → l.bag x.id ≡ Some x → l.bag y.id ≡ None → id_eq x.id y.id ≡ false

@@ -3,9 +3,9 @@
 use Rattle.dm_mirror.proofs.Names.{◌≡◌, ℕ, ◌≤◌, Bool, true, false, [], refl, ap, ◌∙◌, sym, subst, inl, inr, arith, if◌then◌else◌, Option, None, Some, cases_Bool, false≢true, Pid, Message, MsgId, MessageKind, id_eq, kind_of, plain_kind}
 use Rattle.dm_mirror.proofs.Names.{nat_tests, plain_message, incoming_of, Boot, bind, id_eq-is, id_eq-same, first_gives, own_given, is_between, Point, Spot, standing, Of, Told, View, after_put, first_told, is_kernels, put_at, put_spots}
 use Rattle.dm_mirror.proofs.Names.{PairsFit, put_told_off, Sane, plain_not, Placed, Mirrors, KeepsPlaces, lines_keep, routed_keeps, told_keeps, own_put_mirrors, WorldState, AllOwnStand, OwnStands, told_of, History, StandsWith, AllRecords}
-use Rattle.dm_mirror.proofs.Names.{Carries, TokenStands, TokensStand, destination_of, first_none, length, ◌⊎◌, at_machine, is_full, routes, Acted, Goes, Worn, spoken, Line, Load, Stage, OneKernel, Addresses, given, moved, at_id, About}
-use Rattle.dm_mirror.proofs.Names.{sort_of, ◌≢◌, zero, suc, ◌+◌, ◌<◌, ◌==◌, List, ◌∷◌, map, drop, slice_get, pid_of, Record, Process, Departure, Arrival, first_number, KernelState, room_of, NodeState, and, taken_at, taken_by, taken_of_home}
-use Rattle.dm_mirror.proofs.Names.{Known, Unknown, Here, Frozen, Incoming, Forward, Ended, AreMessages, ComesStand, HereStands, KernelStands, KnownStands, LeavesStand, NodeStands, PairStands, RoomStands, servers_at, Asker, coming}
+use Rattle.dm_mirror.proofs.Names.{Carries, TokensStand, destination_of, first_none, length, ◌⊎◌, at_machine, is_full, routes, Acted, Goes, Worn, spoken, Line, Load, Stage, OneKernel, Addresses, given, moved, at_id, About, sort_of, ◌≢◌}
+use Rattle.dm_mirror.proofs.Names.{◌<◌, ◌==◌, List, ◌∷◌, map, drop, slice_get, Record, Process, Departure, Arrival, KernelState, room_of, NodeState, Known, Unknown, Here, Frozen, Incoming, Forward, Ended, AreMessages, ComesStand}
+use Rattle.dm_mirror.proofs.Names.{HereStands, KernelStands, KnownStands, LeavesStand, NodeStands, PairStands, RoomStands, servers_at, CanBeCarried, IsSuch, cargo_at}
 use Rattle.dm_places.specs.PlacedStep.{with_message}
 pub use Rattle.dm_rulelaws.proofs.Based.Queues.{told_kept as told_stays}
 use Rattle.dm_mirror.proofs.Turning.{Route, First, On, Own, MayOwn, MayPut, IsCarried, message_of, rule_part_of, Late, Nothing, Leaves, LateTopic, late_point}
@@ -14,6 +14,9 @@ use Rattle.dm_kernel.specs.State as machine
 use Rattle.dm_mirror.proofs.Rooms.{taken_same}
 use Rattle.dm_rule.specs.Parts as rule
 use Rattle.dm_mirror.proofs.Turning as turning
+use Rattle.dm_mirror.proofs.Cargoes.{cargo_same}
+use Rattle.dm_mirror.proofs.Turning.{IsLeftOver}
+use Rattle.dm_mirror.proofs.LeftOver.{OneStands, cargo_named, known_due, left_keeps, left_of, one_keeps, over_piece, token_same}
 
 pub record CoreStands (b : Boot) (w : WorldState) (pt : Point) (l : Placed) (h : History) : Type 0 where
   pub groups : w.groups ≡ pt.view.groups
@@ -50,14 +53,15 @@ module _ (b : Boot) (pt : Point) (l u : Placed) (a : Addresses) (e : MoreBag l u
 
   leaves_more : (p : Pid) (queue held : List MsgId) (to : ℕ) (d : Departure) → LeavesStand l p queue held to d → LeavesStand u p queue held to d
   leaves_more p queue held to d h =
-      record { to = h.to; asker = h.asker ∙ sym (e.notes p); here = here_more p queue d.process h.here; held = messages_more l.bag u.bag e.bag held d.held h.held; whole = h.whole }
+      record { to = h.to; cargo = cargo_same l u p (e.processes p) (e.notes p) ∙ h.cargo; here = here_more p queue d.process h.here; held = messages_more l.bag u.bag e.bag held d.held h.held; whole = h.whole }
 
-  comes_more : (p : Pid) (held : List MsgId) (x : Arrival) → ComesStand l p held x → ComesStand u p held x
-  comes_more p held x h = record {
-    process = h.process;
-    there = e.processes p ∙ h.there;
-    whole = h.whole;
-    pieces = h.pieces ∙ ap (λ (k : Option Asker). coming h.process k x.held x.wanted) (sym (e.notes p));
+  comes_more : (p : Pid) (from : ℕ) (held : List MsgId) (x : Arrival) → ComesStand l p from held x → ComesStand u p from held x
+  comes_more p from held x h = record {
+    source = h.source;
+    cargo = h.cargo;
+    there = cargo_same l u p (e.processes p) (e.notes p) ∙ h.there;
+    whole = subst (IsSuch (CanBeCarried x.cap)) (sym (e.processes p)) h.whole;
+    pieces = h.pieces;
     held = messages_more l.bag u.bag e.bag held x.held h.held;
   }
 
@@ -65,7 +69,7 @@ module _ (b : Boot) (pt : Point) (l u : Placed) (a : Addresses) (e : MoreBag l u
   known_more p queue held Unknown None h = h
   known_more p queue held Here (Some (Record.Here x)) h = here_more p queue x h
   known_more p queue held (Frozen to) (Some (Record.Frozen d)) h = leaves_more p queue held to d h
-  known_more p queue held (Incoming from) (Some (Record.Incoming x)) h = comes_more p held x h
+  known_more p queue held (Incoming from) (Some (Record.Incoming x)) h = comes_more p from held x h
   known_more p queue held (Forward to moves) (Some (Record.Forward at n)) h = h
   known_more p queue held Ended (Some (Record.Ended y)) h = h
   known_more p queue held k r h = h
@@ -154,16 +158,12 @@ route_own pt l records m (Own x) may h i y there plain = elim (cases_Bool (id_eq
 ]
 
 -- what a message of a migration carries stays
-pub token_kept : (v u : View) (l k : Placed) (r s : AllRecords) (p : Pid) (i : MsgId) (t : Told) → MoreBag l k → u.asked p ≡ v.asked p → ((d : ℕ) → s d ≡ r d) → TokenStands v l r p i t → TokenStands u k s p i t
-token_kept v u l k r s p i t more asked records h =
-    let d : ℕ = destination_of i t in
-    search (
-      more.processes p ∙ h.there,
-      more.bag i h.message h.is,
-      subst (λ (o : Option Asker). Carries p h.process o (u.asked p) (incoming_of (s d p)) h.message.what) (sym (more.notes p))
-          (subst (λ (n : ℕ). Carries p h.process (l.notes p) n (incoming_of (s d p)) h.message.what) (sym asked)
-          (subst (λ (f : Pid → Option machine.KernelKnown). Carries p h.process (l.notes p) (v.asked p) (incoming_of (f p)) h.message.what) (sym (records d)) h.carries)),
-    )
+pub token_kept : (v u : View) (l k : Placed) (r s : AllRecords) (p : Pid) (i : MsgId) (t : Told) → MoreBag l k → ((n : ℕ) → u.known n p ≡ v.known n p) → u.asked p ≡ v.asked p → ((d : ℕ) → s d ≡ r d) → OneStands v l r p i t → OneStands u k s p i t
+token_kept v u l k r s p i t more known asked records h =
+    let cargo = cargo_same l k p (more.processes p) (more.notes p) in
+    one_keeps v u l k r s p i t (known_due v u p i t known)
+    (λ due x. token_same v u l k r s p i t cargo asked (λ n. ap (λ (f : Pid → Option machine.KernelKnown). f p) (records n)) x (more.bag i x.message x.is))
+    (λ off x. left_keeps l k p i x (λ asks. cargo) (more.bag i x.message x.is)) h
 
 first_kind : (o : Option Told) (u t : Told) → Some (first_told o u) ≡ Some t → is_between u.kind ≡ false → ((s : Told) → o ≡ Some s → is_between s.kind ≡ false) → is_between t.kind ≡ false
 first_kind o u t e new old = grind (arith, nat_tests)
@@ -177,20 +177,40 @@ module _ (pt : Point) (l : Placed) (r s : AllRecords) (m : ℕ) (route : Route) 
 
   -- another one than the message that is put
   other_token : PairsFit pt.view → TokensStand pt.view l r → (p : Pid) (i : MsgId) (t : Told) (z : Spot) → id_eq x.id i ≡ false → behind.told i ≡ Some t → is_between t.kind ≡ true → t.about ≡ Of p → 1 ≤ standing behind i z
-      → TokenStands behind (after_route l route) s p i t
+      → OneStands behind (after_route l route) s p i t
   other_token fits h p i t z apart told between about st =
-      token_kept pt.view behind l (after_route l route) r s p i t (route_more pt l r route may) refl records
+      token_kept pt.view behind l (after_route l route) r s p i t (route_more pt l r route may) (λ n. refl) refl records
       (h p i t z (sym (put_told_off pt.view m x.to.at x.id i (kind_of x.what) x.to.pid apart) ∙ told) between about
       (subst (λ (n : ℕ). 1 ≤ n) (put_spots pt.view m x.to.at x.id i (kind_of x.what) x.to.pid fits apart z) st))
 
   -- where the message itself is none of a migration, or carries what it is to
-  tokens_by : PairsFit pt.view → TokensStand pt.view l r → ((p : Pid) (t : Told) → behind.told x.id ≡ Some t → is_between t.kind ≡ true → t.about ≡ Of p → TokenStands behind (after_route l route) s p x.id t) → TokensStand behind (after_route l route) s
+  tokens_by : PairsFit pt.view → TokensStand pt.view l r → ((p : Pid) (t : Told) → behind.told x.id ≡ Some t → is_between t.kind ≡ true → t.about ≡ Of p → OneStands behind (after_route l route) s p x.id t) → TokensStand behind (after_route l route) s
   tokens_by fits h itself p i t z told between about st = elim (cases_Bool (id_eq x.id i)) [
     | inl same ↦
         let is : x.id ≡ i = id_eq-is x.id i same in
-        subst (λ (j : MsgId). TokenStands behind (after_route l route) s p j t) is (itself p t (ap behind.told is ∙ told) between about)
+        subst (λ (j : MsgId). OneStands behind (after_route l route) s p j t) is (itself p t (ap behind.told is ∙ told) between about)
     | inr apart ↦ other_token fits h p i t z apart told between about st
   ]
+
+-- the next own message: due, or left over
+own_carried : (pt : Point) (l : Placed) (r s : AllRecords) (m : ℕ) (x : Message) (p : Pid) → ((d : ℕ) → s d ≡ r d) → Mirrors pt.kernel pt.view pt.addresses l → IsCarried l (pt.view.asked p) r p x ⊎ IsLeftOver pt.view l p x
+    → OneStands (after_put pt.view m x.to.at x.id (kind_of x.what) x.to.pid) (with_message l x.id (Some x)) s p x.id (told_of x)
+own_carried pt l r s m x p records mirrors (inl c) =
+    let v = after_put pt.view m x.to.at x.id (kind_of x.what) x.to.pid in
+    let carries : Carries p c.cargo (pt.view.asked p) (incoming_of (s (destination_of x.id (told_of x)) p)) x.what =
+    subst (λ (f : Pid → Option machine.KernelKnown). Carries p c.cargo (pt.view.asked p) (incoming_of (f p)) x.what) (sym (records (destination_of x.id (told_of x)))) c.carries in (
+      λ due. record { cargo = c.cargo; there = c.there; message = x; is = bag_here l x; sender = c.sender; carries = carries },
+      λ off. record {
+        message = x;
+        is = bag_here l x;
+        sender = c.sender;
+        carries = left_of p c.cargo (pt.view.asked p) (incoming_of (s (destination_of x.id (told_of x)) p)) (cargo_at l p) x.what (cargo_named pt l p c.cargo mirrors c.there) c.there (over_piece v p x.id (told_of x) off).0 carries;
+      },
+    )
+own_carried pt l r s m x p records mirrors (inr c) = (
+  λ due. absurd (false≢true (sym c.over ∙ due)),
+  λ off. record { message = x; is = bag_here l x; sender = c.sender; carries = c.carries },
+)
 
 pub route_tokens : (pt : Point) (l : Placed) (r s : AllRecords) (m : ℕ) (route : Route) → MayPut pt l r route → ((d : ℕ) → s d ≡ r d) → Sane pt → PairsFit pt.view → Mirrors pt.kernel pt.view pt.addresses l → TokensStand pt.view l r
     → TokensStand (put_point pt m (message_of route).to.at (message_of route)).view (after_route l route) s
@@ -207,12 +227,8 @@ route_tokens pt l r s m (On x) may records sane fits mirrors h =
 route_tokens pt l r s m (Own x) may records sane fits mirrors h =
     tokens_by pt l r s m (Own x) may records fits h (λ p t told between about.
     let is : told_of x ≡ t = cc (own_told pt l r m x may) in
-    let c : IsCarried l (pt.view.asked p) r p x = may.carried (ap (λ (z : Told). is_between z.kind) is ∙ between) p (ap (λ (z : Told). z.about) is ∙ about) in
-    subst (λ (z : Told). TokenStands (after_put pt.view m x.to.at x.id (kind_of x.what) x.to.pid) (with_message l x.id (Some x)) s p x.id z) is
-    (search (
-      bag_here l x,
-      subst (λ (f : Pid → Option machine.KernelKnown). Carries p c.process (l.notes p) (pt.view.asked p) (incoming_of (f p)) x.what) (sym (records (destination_of x.id (told_of x)))) c.carries,
-    )))
+    subst (λ (z : Told). OneStands (after_put pt.view m x.to.at x.id (kind_of x.what) x.to.pid) (with_message l x.id (Some x)) s p x.id z) is
+    (own_carried pt l r s m x p records mirrors (may.carried (ap (λ (z : Told). is_between z.kind) is ∙ between) p (ap (λ (z : Told). z.about) is ∙ about))))
 
 -- the world stands for the point behind the put
 pub stands_routed : (b : Boot) (pt : Point) (l : Placed) (r : AllRecords) (m : ℕ) (route : Route) (w : WorldState) (h : History) → MayPut pt l r route → ((d : ℕ) → (w.nodes d).kernel.records ≡ r d) → Sane pt → PairsFit pt.view → Mirrors pt.kernel pt.view pt.addresses l

@@ -1,8 +1,8 @@
 -- Behind the lines of a still row as many pieces were asked for as before, and a kernel's own message that stands somewhere stood there before.
 use Rattle.dm_mirror.proofs.Names.{◌≡◌, ℕ, ◌≤◌, ◌&&◌, Bool, true, false, List, [], ◌∷◌, ◌++◌, map, refl, ap, ◌∙◌, subst, arith, Option, None, Some, false≢true, Pid, MsgId, nat_tests, MessageKind, Label, OneKernel, bind, id_eq-is, pid_eq-is}
-use Rattle.dm_mirror.proofs.Names.{bind-is, Line, Says, Point, after, after_line, kernel_after, label_of, moved, without_front, without_id, Spot, Queue, Inbox, times, standing, View, Told, after_label, view_after, handled, queued_for}
-use Rattle.dm_mirror.proofs.Names.{dropped_for, receiver_of, is_kernels, eq_is, queued_spots, Needs, Walks, not, ⊤, Message, PlainMessage, Step, Boot, letter_of, Phased, told_some, Begins, WalksOf, resting, round_walks, handles_walks}
-use Rattle.dm_mirror.proofs.Names.{by_hears, about_off, seen, sort_of}
+use Rattle.dm_mirror.proofs.Names.{bind-is, Line, Says, Point, after, after_line, kernel_after, label_of, moved, without_front, without_id, Spot, times, standing, View, Told, after_label, view_after, handled, queued_for, dropped_for}
+use Rattle.dm_mirror.proofs.Names.{receiver_of, is_kernels, eq_is, queued_spots, Needs, Walks, not, ⊤, Message, PlainMessage, Step, Boot, letter_of, Phased, told_some, Begins, WalksOf, resting, round_walks, handles_walks, by_hears}
+use Rattle.dm_mirror.proofs.Names.{about_off, seen, sort_of, is_waited_from, knowing, NeedsLabel, Resting, is_kill, ◌==◌, if◌then◌else◌, sym, Known, Here, Ended, pid_eq, eqb-true}
 use Rattle.dm_rule.proofs.Names.{Part}
 use Rattle.dm_rule.proofs.Lines.{parts}
 use Rattle.dm_rulelaws.specs.KnownStands.{KnownStands}
@@ -64,29 +64,63 @@ label_fewer v _ = same_fewer v
 dropped_asked : (v : View) (id : MsgId) (o : Option Pid) → (dropped_for v id o).asked ≡ v.asked
 dropped_asked v id o = grind (arith, nat_tests)
 
+-- a machine awaits a process from another as before
+abbrev pub AwaitsAs : View → View → Type 0
+AwaitsAs v w = (n : ℕ) (p : Pid) (from : ℕ) → is_waited_from from (w.known n p) ≡ is_waited_from from (v.known n p)
+
+set_by : (c : Bool) (x y : Known) (from : ℕ) → is_waited_from from x ≡ false → (c ≡ true → is_waited_from from y ≡ false) → is_waited_from from (if c then x else y) ≡ is_waited_from from y
+set_by true x y from e f = e ∙ sym (f refl)
+set_by false x y from e f = refl
+
+awaits_set : (v : View) (p : Pid) (x : Known) → ((from : ℕ) → is_waited_from from x ≡ false) → ((from : ℕ) → is_waited_from from (v.known v.acting p) ≡ false) → AwaitsAs v (knowing v p x)
+awaits_set v p x off was n q from = set_by ((v.acting == n) && pid_eq p q) x (v.known n q) from (off from) (λ e.
+    let both = parts (v.acting == n) (pid_eq p q) e in
+    ap (λ (a : ℕ). is_waited_from from (v.known a q)) (sym (eqb-true v.acting n both.0)) ∙ ap (λ (r : Pid). is_waited_from from (v.known v.acting r)) (sym (pid_eq-is p q both.1)) ∙ was from)
+
+rests_awaits : (v : View) (p : Pid) → Resting v p → AwaitsAs v (knowing v p Ended)
+rests_awaits v p h = awaits_set v p Ended (λ from. refl) (λ from. ap (is_waited_from from) h.here)
+
+kind_awaits : (v : View) (p : Pid) (k : MessageKind) → (is_kill k ≡ true → Resting v p) → AwaitsAs v (view.ends_by (sort_of k) v (Some p))
+kind_awaits v p MessageKind.Kill rests = rests_awaits v p (rests refl)
+kind_awaits v p _ rests = λ n q from. refl
+
+dropped_known : (v : View) (id : MsgId) (o : Option Pid) → (dropped_for v id o).known ≡ v.known
+dropped_known v id o = grind (arith, nat_tests)
+
+label_awaits : (pt : Point) (e : Label) → NeedsLabel pt e → AwaitsAs pt.view (after_label pt.view e)
+label_awaits pt (Label.End p y) need = rests_awaits pt.view p need
+label_awaits pt (Label.Created id p) need = awaits_set pt.view p Here (λ from. refl) (λ from. ap (is_waited_from from) (need.unknown pt.view.acting))
+label_awaits pt (Label.Served id) need = λ n q from.
+    let v = handled pt.view id in
+    ap (λ (o : Option Told). is_waited_from from ((view.served_told v o).known n q)) need.is ∙ kind_awaits v need.told.receiver need.told.kind (λ k. let h = need.rests k in record { here = h.here; away = h.away }) n q from
+label_awaits pt (Label.Dropped id) need = λ n q from. let v = handled pt.view id in ap (λ (f : ℕ → Pid → Known). is_waited_from from (f n q)) (dropped_known v id (receiver_of (v.told id)))
+label_awaits pt _ need = λ n q from. refl
+
 pub record StillKeeps (v w : View) : Type 0 where
   pub asked : w.asked ≡ v.asked
+  pub awaits : AwaitsAs v w
   pub stood : (i : MsgId) (z : Spot) → is_kernels i ≡ true → 1 ≤ standing w i z → 1 ≤ standing v i z
 
-fewer_keeps : (v w : View) → w.asked ≡ v.asked → Fewer v w → StillKeeps v w
-fewer_keeps v w asked fewer = record { asked = asked; stood = λ i z mine least. (let f = fewer i z in omega (arith, least, f)) }
+fewer_keeps : (v w : View) → w.asked ≡ v.asked → AwaitsAs v w → Fewer v w → StillKeeps v w
+fewer_keeps v w asked awaits fewer = record { asked = asked; awaits = awaits; stood = λ i z mine least. (let f = fewer i z in omega (arith, least, f)) }
 
 still_on : (u v w : View) → StillKeeps u v → StillKeeps v w → StillKeeps u w
-still_on u v w g h = record { asked = h.asked ∙ g.asked; stood = λ i z mine least. g.stood i z mine (h.stood i z mine least) }
+still_on u v w g h = record { asked = h.asked ∙ g.asked; awaits = λ n p from. h.awaits n p from ∙ g.awaits n p from; stood = λ i z mine least. g.stood i z mine (h.stood i z mine least) }
 
 queued_keeps : (pt : Point) (id : MsgId) (o : Option Told) → pt.view.told id ≡ o → Needs pt (Line.Queued id) → StillKeeps (handled pt.view id) (queued_for (handled pt.view id) id (receiver_of o))
-queued_keeps pt id None e need = fewer_keeps (handled pt.view id) (handled pt.view id) refl (same_fewer (handled pt.view id))
+queued_keeps pt id None e need = fewer_keeps (handled pt.view id) (handled pt.view id) refl (λ n p from. refl) (same_fewer (handled pt.view id))
 queued_keeps pt id (Some t) e need = record {
   asked = refl;
+  awaits = λ n p from. refl;
   stood = λ i z mine least. subst (λ (n : ℕ). 1 ≤ n) (queued_spots (handled pt.view id) id i (Some t.receiver) (grind (arith, nat_tests, id_eq-is, (need t e).other)) z) least;
 }
 
 line_keeps : (pt : Point) (l : Line) → is_still l ≡ true → Needs pt l → StillKeeps pt.view (view_after pt.view l)
-line_keeps pt (Line.Label e) still need = fewer_keeps pt.view (after_label pt.view e) (grind (arith, nat_tests, dropped_asked)) (label_fewer pt.view e)
+line_keeps pt (Line.Label e) still need = fewer_keeps pt.view (after_label pt.view e) (grind (arith, nat_tests, dropped_asked)) (label_awaits pt e need) (label_fewer pt.view e)
 line_keeps pt (Line.Queued id) still need =
     let v = handled pt.view id in
-    still_on pt.view v (view_after pt.view (Line.Queued id)) (fewer_keeps pt.view v refl (handled_fewer pt.view id)) (queued_keeps pt id (pt.view.told id) refl need)
-line_keeps pt (Line.Idle m) still need = fewer_keeps pt.view pt.view refl (same_fewer pt.view)
+    still_on pt.view v (view_after pt.view (Line.Queued id)) (fewer_keeps pt.view v refl (λ n p from. refl) (handled_fewer pt.view id)) (queued_keeps pt id (pt.view.told id) refl need)
+line_keeps pt (Line.Idle m) still need = fewer_keeps pt.view pt.view refl (λ n p from. refl) (same_fewer pt.view)
 line_keeps pt l still need = absurd (false≢true still)
 
 -- the topic is no part of it
@@ -94,11 +128,11 @@ seen_keeps : (pt : Point) (l : Line) → is_still l ≡ true → Needs pt l → 
 seen_keeps pt l still need =
     let h = line_keeps pt l still need in
     let w = view_after pt.view l in
-    record { asked = h.asked; stood = λ i z mine least. h.stood i z mine (subst (λ (is : List MsgId). 1 ≤ times i is) (about_off w (seen pt.kernel pt.view l).topic z) least) }
+    record { asked = h.asked; awaits = h.awaits; stood = λ i z mine least. h.stood i z mine (subst (λ (is : List MsgId). 1 ≤ times i is) (about_off w (seen pt.kernel pt.view l).topic z) least) }
 
 -- all lines of the row
 pub still_keeps : (rest : List Part) (says : List Line) (pt next : Point) → are_still says ≡ true → Walks pt (map Says says ++ rest) → after pt says ≡ Some next → StillKeeps pt.view next.view
-still_keeps rest [] pt next still walks leads = let e : pt ≡ next = cc in subst (λ (q : Point). StillKeeps pt.view q.view) e (fewer_keeps pt.view pt.view refl (same_fewer pt.view))
+still_keeps rest [] pt next still walks leads = let e : pt ≡ next = cc in subst (λ (q : Point). StillKeeps pt.view q.view) e (fewer_keeps pt.view pt.view refl (λ n p from. refl) (same_fewer pt.view))
 still_keeps rest (l ∷ ls) pt next still walks leads =
     let two = parts (is_still l) (are_still ls) still in
     let (mid, first, last) = bind-is (after_line pt l) (λ (q : Point). after q ls) next leads in

@@ -1,58 +1,62 @@
 -- What the one message of a migration under way carries stays, where a row is no migration's.
-use Rattle.dm_mirror.proofs.Names.{◌≡◌, ℕ, ◌≤◌, ◌==◌, ◌&&◌, Bool, true, false, not, refl, ap, ◌∙◌, sym, subst, if◌then◌else◌, Option, None, Some, false≢true, Pid, pid_of, Message, MsgId, What, MessageKind, kind_of, plain_message}
-use Rattle.dm_mirror.proofs.Names.{plain_what, with_what, Process, incoming_of, Arrival, Phase, Moves, kind_comes, is_apart, is_away, is_between, is_early, tells_onward, knows, kind_leaves, receiver_in, sender_in, told_between, Point, Spot}
-use Rattle.dm_mirror.proofs.Names.{standing, View, Known, Of, Told, is_kernels, InPhases, token_is, token_at, Placed, AllOwnStand, told_of, AllRecords, Carries, TokenStands, TokensStand, destination_of, left_true, right_true, List, [], ◌∷◌}
-use Rattle.dm_mirror.proofs.Names.{◌++◌, map, inl, inr, arith, eqb_tells, Boot, at_machine, Run, KernelState, nat_tests, Part, Asker, sort_of}
-use Rattle.dm_mirror.proofs.Turning.{is_moving, AllMayPut, First, IsSent, Nothing, Route, Row, TurnsAt, begun, owns, part_of, routed, rule_part_of, rule_routed}
-use Rattle.dm_mirror.proofs.Kernel.Sets.{eq_self, not_is, off_if, on_if, eq_apart}
+use Rattle.dm_mirror.proofs.Names.{◌≡◌, ℕ, ◌==◌, Bool, true, false, refl, ap, ◌∙◌, sym, subst, Option, None, Some, false≢true, Pid, pid_of, Message, MsgId, What, MessageKind, kind_of, plain_message, with_what, incoming_of, Arrival, Phase}
+use Rattle.dm_mirror.proofs.Names.{Moves, is_between, is_early, sender_in, told_between, Point, View, Told, is_kernels, InPhases, Placed, AllOwnStand, told_of, AllRecords, Carries, TokenStands, TokensStand, destination_of, List, [], ◌∷◌}
+use Rattle.dm_mirror.proofs.Names.{◌++◌, map, inl, inr, arith, eqb_tells, Boot, at_machine, Run, KernelState, nat_tests, Part, sort_of, Cargo, ◌||◌, is_restart, cargo_at, Wanted, IsIn, Wants, LeftStands, pulls_piece, IsLeft, is_calloff}
+use Rattle.dm_mirror.proofs.Names.{destination_expects, source_holds}
+use Rattle.dm_mirror.proofs.Turning.{is_moving, First, Nothing, Route, Row, TurnsAt, begun, owns, part_of, routed, rule_part_of, rule_routed}
+use Rattle.dm_mirror.proofs.Kernel.Sets.{eq_self, off_if, on_if, eq_apart}
 use Rattle.dm_mirror.proofs.Row.Lines.{StillKeeps, still_keeps, row_walks}
 use Rattle.dm_mirror.proofs.Serve.Stops.{nothing_more}
 use Rattle.dm_mirror.proofs.Serve.Receives.{Ready, serve_row}
 use Rattle.dm_kernel.specs.State as machine
 use Rattle.dm_rule.specs.Parts as rule
+use Rattle.dm_mirror.proofs.Cargoes.{cargo_same}
+use Rattle.dm_mirror.proofs.LeftOver.{DueOf, carries_plain, destination_is, due_of, due_same, left_held, left_keeps, left_plain, left_told, one_keeps, over_of, some_told}
 
--- what a message of a migration carries has no plain meaning
-pub carries_plain : (p : Pid) (x : Process) (k : Option Asker) (n : ℕ) (a : Option Arrival) (w : What) → Carries p x k n a w → plain_what w ≡ None
-carries_plain p x k n a w h = grind (arith, nat_tests)
-
-at_destination : (k : MessageKind) (s d : ℕ) (i : MsgId) (x : Known) → (s == d) ≡ false → knows (Moves k s d (Some i)) d x ≡ true → kind_comes k s x ≡ true
-at_destination k s d i x apart h = sym (off_if (s == d) (kind_leaves k d x) (if d == d then kind_comes k s x else is_away x) apart ∙ on_if (d == d) (kind_comes k s x) (is_away x) (eq_self d)) ∙ h
-
--- the machine that it comes to
-destination_if : (c : Bool) (s d : ℕ) → (if c then (if c then d else s) else (if c then s else d)) ≡ d
-destination_if c s d = grind (arith, nat_tests)
+-- what it carries doesn't depend on what comes while that isn't accepted yet, nor once it is called off
+carries_with : (p : Pid) (c : Cargo) (n : ℕ) (a b : Option Arrival) (w : What) → (is_early (kind_of w) ≡ false → is_calloff (kind_of w) ≡ false → a ≡ b) → Carries p c n a w → Carries p c n b w
+carries_with p c n a b (What.PullState q chunk) same h = (h.0, h.1, subst (λ (o : Option Arrival). Wants o (Wanted.Chunk chunk)) (same refl refl) h.2)
+carries_with p c n a b (What.State q chunk last bytes) same h = (h.0, h.1, subst (λ (o : Option Arrival). Wants o (Wanted.Chunk chunk)) (same refl refl) h.2)
+carries_with p c n a b (What.PullBlock q block) same h = (h.0, h.1, subst (λ (o : Option Arrival). Wants o (Wanted.Block block)) (same refl refl) h.2)
+carries_with p c n a b (What.Memory q block bytes) same h = (h.0, h.1, subst (λ (o : Option Arrival). Wants o (Wanted.Block block)) (same refl refl) h.2)
+carries_with p c n a b (What.AllTaken q) same h = (h.0, subst (λ (o : Option Arrival). Wants o Wanted.Nothing) (same refl refl) h.1)
+carries_with p c n a b (What.Restart q) same h = (h.0, subst (λ (o : Option Arrival). Wants o Wanted.Nothing) (same refl refl) h.1)
+carries_with p c n a b (What.Ask q blocks moves size asker) same h = h
+carries_with p c n a b (What.Refuse q slots blocks) same h = h
+carries_with p c n a b (What.CallOff q) same h = h
+carries_with p c n a b _ same h = absurd h
 
 -- a process that moves leaves a machine or comes to one
 pub record Moving (v : View) (p : Pid) (i : MsgId) (t : Told) : Type 0 where
   pub at : ℕ
   pub moving : is_moving (v.known at p) ≡ true
-  -- once it was accepted, it comes there
-  pub comes_ : is_early t.kind ≡ false → at ≡ destination_of i t
+  -- once it was accepted, and until it is called off, it comes there
+  pub comes_ : is_early t.kind ≡ false → is_calloff t.kind ≡ false → at ≡ destination_of i t
 
-moving_by : (v : View) (p : Pid) (i : MsgId) (t : Told) (k : MessageKind) (s d : ℕ) → t ≡ told_between p k s d → i.from ≡ pid_of (sender_in k s d) 0 → (s == d) ≡ false → ((m : ℕ) → knows (Moves k s d (Some i)) m (v.known m p) ≡ true) → (c : Bool) → is_early k ≡ c
-    → Moving v p i t
-moving_by v p i t k s d is from apart known true early = record {
+held_on : (k : MessageKind) → (is_early k || is_calloff k) ≡ true → is_restart k ≡ false
+held_on MessageKind.Ask e = refl
+held_on MessageKind.Refuse e = refl
+held_on MessageKind.CallOff e = refl
+held_on _ e = absurd (false≢true e)
+
+neither : (a b : Bool) → (a || b) ≡ false → (a ≡ false) × (b ≡ false)
+neither true b e = absurd (false≢true (sym e))
+neither false b e = (refl, e)
+
+moving_by : (v : View) (p : Pid) (i : MsgId) (t : Told) (k : MessageKind) (s d : ℕ) → t ≡ told_between p k s d → i.from ≡ pid_of (sender_in k s d) 0 → IsIn v p (Moves k s d (Some i)) → (c : Bool) → (is_early k || is_calloff k) ≡ c → Moving v p i t
+moving_by v p i t k s d is from inside true held = record {
   at = s;
-  moving = grind (arith, nat_tests, left_true, (sym (on_if (s == s) (kind_leaves k d (v.known s p)) (if d == s then kind_comes k s (v.known s p) else is_away (v.known s p)) (eq_self s)) ∙ (known s)));
-  comes_ = λ late. absurd (false≢true (sym late ∙ ap (λ (u : Told). is_early u.kind) is ∙ early));
+  moving = ap is_moving (source_holds v p k s d (Some i) inside (held_on k held));
+  comes_ = λ late on. absurd (false≢true (sym (ap (λ (a : Bool). a || is_calloff k) (sym (ap (λ (u : Told). is_early u.kind) is) ∙ late) ∙ sym (ap (λ (u : Told). is_calloff u.kind) is) ∙ on) ∙ held));
 }
-moving_by v p i t k s d is from apart known false late = record {
+moving_by v p i t k s d is from inside false comes = record {
   at = d;
-  moving = grind (arith, nat_tests, (at_destination k s d i (v.known d p) apart (known d)));
-  comes_ = λ e. sym (ap (destination_of i) is ∙ (ap (λ (q : Pid). if tells_onward (sort_of k) then (receiver_in k s d) else q.home) from ∙ destination_if (tells_onward (sort_of k)) s d));
+  moving = (let both = neither (is_early k) (is_calloff k) comes in ap is_moving (destination_expects v p k s d (Some i) inside both.0 both.1));
+  comes_ = λ late on. sym (ap (destination_of i) is ∙ destination_is p k s d i from);
 }
 
-pub moving_of : (v : View) (p : Pid) (i : MsgId) (t : Told) (z : Spot) → InPhases v → v.told i ≡ Some t → is_between t.kind ≡ true → t.about ≡ Of p → 1 ≤ standing v i z → Moving v p i t
-moving_of v p i t z h told b about st =
-    let (q, k, s, d, about_, phase) = token_is v h i t z told b st in
-    let same_ : Of q ≡ Of p = sym about_ ∙ about in
-    let same : q ≡ p = cc in
-    let now : h.of p ≡ Moves k s d (Some i) = ap h.of (sym same) ∙ phase in
-    let token = token_at v p (h.of p) k s d i now (h.each p) in
-    let is_ : Some t ≡ Some (told_between p k s d) = sym told ∙ token.told in
-    let is : t ≡ told_between p k s d = cc in
-    let apart : (is_between k && not (s == d)) ≡ true = sym (ap is_apart now) ∙ (h.each p).apart in
-    moving_by v p i t k s d is token.from (not_is (s == d) (right_true (is_between k) (not (s == d)) apart)) (λ m. ap (λ (x : Phase). knows x m (v.known m p)) (sym now) ∙ (h.each p).known m) (is_early k) refl
+pub moving_of : (v : View) (p : Pid) (i : MsgId) (t : Told) (h : InPhases v) → DueOf v p (h.of p) i t → Moving v p i t
+moving_of v p i t h d = moving_by v p i t d.kind d.s d.d d.told d.from (subst (λ (x : Phase). IsIn v p x) d.phase (h.each p)) (is_early d.kind || is_calloff d.kind) refl
 
 -- what a row leaves of what moves
 pub record LeavesMoving (pt : Point) (l : Placed) (records : AllRecords) (next : Point) (placed : Placed) (after : AllRecords) : Type 0 where
@@ -63,25 +67,34 @@ pub record LeavesMoving (pt : Point) (l : Placed) (records : AllRecords) (next :
   pub lines : StillKeeps pt.view next.view
   pub own : (i : MsgId) (x : Message) → plain_message x ≡ None → l.bag i ≡ Some x → placed.bag i ≡ Some x
 
--- what it carries depends on what comes only once that was accepted
 token_keeps : (pt : Point) (l : Placed) (records : AllRecords) (next : Point) (placed : Placed) (after : AllRecords) (p : Pid) (i : MsgId) (t : Told) → LeavesMoving pt l records next placed after → AllOwnStand pt.view l → Moving pt.view p i t → pt.view.told i ≡ Some t
     → TokenStands pt.view l records p i t → TokenStands next.view placed after p i t
 token_keeps pt l records next placed after p i t g own h told s =
     let x = s.message in
-    let none : plain_message x ≡ None = ap (with_what x) (carries_plain p s.process (l.notes p) (pt.view.asked p) (incoming_of (records (destination_of i t) p)) x.what s.carries) in
+    let none : plain_message x ≡ None = ap (with_what x) (carries_plain p s.cargo (pt.view.asked p) (incoming_of (records (destination_of i t) p)) x.what s.carries) in
     let o = own i x s.is none in
-    let is_ : Some t ≡ Some (told_of x) = sym told ∙ o.told in
-    let is : t ≡ told_of x = cc in
-    let same : is_early (kind_of x.what) ≡ false → incoming_of (records (destination_of i t) p) ≡ incoming_of (after (destination_of i t) p) =
-    λ late. (let at = h.comes_ (ap (λ (u : Told). is_early u.kind) is ∙ late) in
+    let is : t ≡ told_of x = some_told t (told_of x) (sym told ∙ o.told) in
+    let same : is_early (kind_of x.what) ≡ false → is_calloff (kind_of x.what) ≡ false → incoming_of (records (destination_of i t) p) ≡ incoming_of (after (destination_of i t) p) =
+    λ late on. (let at = h.comes_ (ap (λ (u : Told). is_early u.kind) is ∙ late) (ap (λ (u : Told). is_calloff u.kind) is ∙ on) in
     ap (λ (r : Option machine.KernelKnown). incoming_of r) (g.records_ (destination_of i t) p (subst (λ (n : ℕ). is_moving (pt.view.known n p) ≡ true) at h.moving))) in
-    search (
-      g.process h.at p h.moving ∙ s.there,
-      g.own i x none s.is,
-      subst (λ (o : Option Asker). Carries p s.process o (next.view.asked p) (incoming_of (after (destination_of i t) p)) x.what) (sym (g.notes h.at p h.moving))
-          (subst (λ (n : ℕ). Carries p s.process (l.notes p) n (incoming_of (after (destination_of i t) p)) x.what) (ap (λ (f : Pid → ℕ). f p) (sym g.lines.asked))
-          (let e_ : Carries p s.process (l.notes p) (pt.view.asked p) (incoming_of (after (destination_of i t) p)) x.what = grind (arith, nat_tests, s.carries) in e_)),
-    )
+    record {
+      cargo = s.cargo;
+      there = cargo_same l placed p (g.process h.at p h.moving) (g.notes h.at p h.moving) ∙ s.there;
+      message = x;
+      is = g.own i x none s.is;
+      sender = s.sender;
+      carries = subst (λ (n : ℕ). Carries p s.cargo n (incoming_of (after (destination_of i t) p)) x.what) (ap (λ (f : Pid → ℕ). f p) (sym g.lines.asked))
+          (carries_with p s.cargo (pt.view.asked p) (incoming_of (records (destination_of i t) p)) (incoming_of (after (destination_of i t) p)) x.what same s.carries);
+    }
+
+-- what is left over and asks for a piece asks for one of what leaves
+over_keeps : (pt : Point) (l : Placed) (records : AllRecords) (next : Point) (placed : Placed) (after : AllRecords) (p : Pid) (i : MsgId) (t : Told) (h : InPhases pt.view) → LeavesMoving pt l records next placed after → AllOwnStand pt.view l → pt.view.told i ≡ Some t
+    → IsLeft pt.view p (h.of p) i t → LeftStands l p i → LeftStands placed p i
+over_keeps pt l records next placed after p i t h g own told left x =
+    let kind : t.kind ≡ kind_of x.message.what = ap (λ (u : Told). u.kind) (left_told pt.view l p i t x own told) in
+    left_keeps l placed p i x
+    (λ asks. let (s, d, held) = left_held pt.view p (h.of p) i t (h.each p) left (ap (λ (k : MessageKind). pulls_piece (sort_of k)) kind ∙ asks) in cargo_same l placed p (g.process s p (ap is_moving held)) (g.notes s p (ap is_moving held)))
+    (g.own i x.message (ap (with_what x.message) (left_plain p (cargo_at l p) x.message.what x.carries)) x.is)
 
 -- a message of the protocol is a kernel's own
 abbrev pub TokensAreOwn : View → Type 0
@@ -92,7 +105,9 @@ pub tokens_keep : (pt : Point) (l : Placed) (records : AllRecords) (next : Point
 tokens_keep pt l records next placed after phases mine g own h p i t z told b about st =
     let before : pt.view.told i ≡ Some t = ap (λ (f : MsgId → Option Told). f i) (sym g.told) ∙ told in
     let stood = g.lines.stood i z (mine i t before b) st in
-    token_keeps pt l records next placed after p i t g own (moving_of pt.view p i t z phases before b about stood) before (h p i t z before b about stood)
+    one_keeps pt.view next.view l placed records after p i t (due_same pt.view next.view p i t (λ n from. g.lines.awaits n p from))
+    (λ due x. token_keeps pt l records next placed after p i t g own (moving_of pt.view p i t phases (due_of pt.view phases p i t z before b about stood due)) before x)
+    (λ off x. over_keeps pt l records next placed after p i t phases g own before (over_of pt.view phases p i t z before b about stood off) x) (h p i t z before b about stood)
 
 -- A row that is no migration's is a turn: it leaves what moves, and the kernels' own messages, as they are.
 
@@ -131,7 +146,7 @@ row_leaves b m pt l records k run same r = record {
     | inr e ↦ ap (λ (f : Pid → Option machine.KernelKnown). f p) (sym (off_if (m == n) r.state.records (records n) (eq_apart m n e.1)))
   ];
   told = r.elsewhere.told;
-  lines = (let h = still_keeps (rule_routed r.route) r.says (begun pt m) r.next r.still (row_walks b pt m r.says r.route run.based.phased run.based.known r.still r.outcome) r.after in record { asked = h.asked; stood = h.stood });
+  lines = (let h = still_keeps (rule_routed r.route) r.says (begun pt m) r.next r.still (row_walks b pt m r.says r.route run.based.phased run.based.known r.still r.outcome) r.after in record { asked = h.asked; awaits = h.awaits; stood = h.stood });
   own = r.own;
 }
 

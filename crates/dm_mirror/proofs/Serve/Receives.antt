@@ -1,10 +1,10 @@
 -- A waiting process is served: it receives the first message that it waits for, or is refused it.
 use Rattle.dm_mirror.proofs.Names.{◌≡◌, ℕ, ◌+◌, ◌≤◌, Bool, true, false, List, [], ◌∷◌, map, length, refl, ap, ◌∙◌, sym, subst, inl, inr, arith, if◌then◌else◌, Option, None, Some, cases_Bool, nat_tests, ArrayVec, Link, Pid, pid_eq}
-use Rattle.dm_mirror.proofs.Names.{plain_link, Message, MsgId, What, Record, Label, Line, id_eq, PlainMessage, plain_message, IsLawfulProcess, IsLawfulStatus, first_on, what_is_on, without_first_on, Process, Status, Boot, Reply, reply_code}
-use Rattle.dm_mirror.proofs.Names.{bind, when, Life, Alive, OneKernel, plain_process, plain_status, PlainProcess, receive_refusals, first_failed, length-written, Completion, plain_completed, status_plainly, id_eq-is, pid_eq-same, Point}
-use Rattle.dm_mirror.proofs.Names.{moved, moved_back, without_id, Spot, Queue, times, standing, StandsRight, View, serving, once_at, set_at, Placed, Ends, completed_matches, with_queue, KernelState, turned, with_here, AreMessages, not}
-use Rattle.dm_mirror.proofs.Names.{is_some, option_map, pid_of, status_is_runnable, pid_eq-is, Phase, Rests, knows, stands_right, letter_of, InPhases, rests_here, rings, both, Run, queue_drops, Mirrors, mirrors_view, IsLawfulState}
-use Rattle.dm_mirror.proofs.Names.{of_known, AllOwnStand, MadeStands, KernelStands, Part, here_free, at_hand_of}
+use Rattle.dm_mirror.proofs.Names.{plain_link, Message, MsgId, What, Record, Label, Line, id_eq, PlainMessage, plain_message, IsLawfulProcess, IsLawfulStatus, first_on, without_first_on, Process, Status, Boot, Reply, reply_code, bind, when}
+use Rattle.dm_mirror.proofs.Names.{Life, Alive, OneKernel, plain_process, plain_status, PlainProcess, receive_refusals, first_failed, length-written, Completion, plain_completed, status_plainly, id_eq-is, pid_eq-same, Point, moved}
+use Rattle.dm_mirror.proofs.Names.{moved_back, without_id, Spot, Queue, times, standing, StandsRight, View, serving, once_at, set_at, Placed, Ends, completed_matches, with_queue, KernelState, turned, with_here, AreMessages, not, is_some}
+use Rattle.dm_mirror.proofs.Names.{option_map, pid_of, status_is_runnable, pid_eq-is, Phase, Rests, knows, stands_right, letter_of, InPhases, rests_here, rings, both, Run, queue_drops, Mirrors, mirrors_view, IsLawfulState, of_known}
+use Rattle.dm_mirror.proofs.Names.{AllOwnStand, MadeStands, KernelStands, Part, here_free, at_hand_of}
 use Rattle.dm_syscall.specs.Completing.{IsAwaited}
 use Rattle.dm_onekernel.specs.Receiving as receiving
 use Rattle.dm_onekernel.specs.Service as service

@@ -1,6 +1,6 @@
 -- The machine and the rule serve the same process: its messages, which process can be served, and how far it comes.
 use Rattle.dm_mirror.proofs.Names.{◌≡◌, ℕ, zero, suc, ◌+◌, ◌<◌, ◌≤◌, ◌&&◌, Bool, true, false, List, [], ◌∷◌, map, refl, ap, ◌∙◌, sym, subst, inl, inr, arith, is_some, if◌then◌else◌, option_map, Option, None, Some, cases_Bool, nat_tests}
-use Rattle.dm_mirror.proofs.Names.{false≢true, Pid, Message, MsgId, What, Record, Halt, id_eq, plain_message, plain_what, with_what, Regs, Fault, Row, instruction, first_on, is_on, what_is_on, without_first_on, status_is_runnable, Process}
+use Rattle.dm_mirror.proofs.Names.{false≢true, Pid, Message, MsgId, Record, Halt, id_eq, plain_message, plain_what, with_what, Regs, Fault, Row, instruction, first_on, is_on, what_is_on, without_first_on, status_is_runnable, Process}
 use Rattle.dm_mirror.proofs.Names.{Status, Boot, bind, Life, Alive, OneKernel, plain_process, plain_status, PlainProcess, Machine, pid_eq-same, id_eq-is, id_eq-same, Point, without_id, times, is_server, rings, Placed, MirrorsKernel}
 use Rattle.dm_mirror.proofs.Names.{with_queue, KernelState, AreMessages, KnownStands, KernelStands, ◌==◌, pid_eq, Label, Why, out_off, Line, moved, after, without_front, Spot, Queue, Inbox, standing, View, handled, dropped_for, receiver_of}
 use Rattle.dm_mirror.proofs.Names.{Droppable, droppable_on, dropped_is, Mirrors, user_dropped, Part, option_map_or, drop}

@@ -2,8 +2,8 @@
 use Rattle.dm_mirror.proofs.Names.{◌≡◌, ℕ, ◌+◌, ◌≤◌, Bool, false, List, [], ◌∷◌, map, length, refl, ap, ◌∙◌, sym, subst, arith, nat_le, is_some, true, not, ◌==◌, ◌&&◌, None, Some, false≢true, nat_tests, Pid, pid_eq, Message, MsgId, id_eq}
 use Rattle.dm_mirror.proofs.Names.{PlainMessage, plain_message, Process, Record, Label, Called, Line, Known, Boot, Why, Alive, OneKernel, with_process, plain_process, PlainProcess, id_eq-same, pid_eq-same, not_counted, counts_process}
 use Rattle.dm_mirror.proofs.Names.{not_server, after_ran, nexts, Point, moved, moved_back, Spot, Queue, times, standing, View, is_kernels, set_at, droppable_on, Placed, parts, with_queue, KernelState, turned, with_here, without_process}
-use Rattle.dm_mirror.proofs.Names.{AllOwnStand, AreMessages, if◌then◌else◌, Status, plain_status, Machine, Mirrors, StepNeeds, ran_matches, running_of, Part, seen}
-use Rattle.dm_onekernel.specs.Kernel.{Ended, with_sent}
+use Rattle.dm_mirror.proofs.Names.{AllOwnStand, AreMessages, if◌then◌else◌, Status, plain_status, Machine, Mirrors, StepNeeds, ran_matches, running_of, Part, seen, with_sent}
+use Rattle.dm_onekernel.specs.Kernel.{Ended}
 pub use Rattle.dm_rulelaws.proofs.Goes.Serves.{ran_steps}
 use Rattle.dm_onekernel.specs.Step as kernel
 use Rattle.dm_rule.specs.Parts as rule_part
