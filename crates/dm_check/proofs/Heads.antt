@@ -39,3 +39,4 @@ headed b w (step.Turn m) s is = turned_headed w (step.Turn m) m (node.turn b (w.
 headed b w (step.Tick m) s is = let f : acted w (step.Tick m) m (node.tick (w.nodes m)) ≡ s = cc in (_, sym (ap (λ (x : Said). x.lines) f))
 headed b w (step.Deliver a c k) s is = delivers_headed w (step.Deliver a c k) a c k (bytes_at (w.wires a c) k) s is
 headed b w (step.Migrate p m) s is = turned_headed w (step.Migrate p m) 0 (node.asks_move (w.nodes 0) p m) s is
+headed b w (step.CallOff p m) s is = turned_headed w (step.CallOff p m) m (node.calls_off (w.nodes m) p) s is

@@ -51,6 +51,7 @@ can_hold machines (step.Turn m) = nat_lt m machines
 can_hold machines (step.Tick m) = nat_lt m machines
 can_hold machines (step.Deliver a b k) = nat_lt a machines && nat_lt b machines && not (a == b)
 can_hold machines (step.Migrate p m) = nat_lt p.home machines && nat_lt m machines
+can_hold machines (step.CallOff p m) = nat_lt p.home machines && nat_lt m machines
 
 -- what becomes of a line: another is due behind it, or it is refused
 pub data Judgement : Type 0 where
@@ -113,12 +114,15 @@ told quantum (line.Forwarded i m) ws = Falls NotDue
 told quantum (line.Updated i n) ws = Falls NotDue
 told quantum (line.Migration s p) ws = Falls NotDue
 told quantum (line.SentOn p n) ws = Falls NotDue
+told quantum (line.Called p n) ws = Falls NotDue
 told quantum (line.Lacks p s b) ws = Falls NotDue
 told quantum (line.Stays p) ws = Falls NotDue
 told quantum (line.Here i) ws = Falls NotDue
 told quantum (line.NoMove i) ws = Falls NotDue
+told quantum (line.Stale i) ws = Falls NotDue
 told quantum (line.Proto i) ws = Falls NotDue
 told quantum (line.NoChild p) ws = Falls NotDue
+told quantum (line.NoCall p) ws = Falls NotDue
 told quantum (line.Pinned p) ws = Falls NotDue
 
 -- a line where this one is due

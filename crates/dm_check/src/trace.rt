@@ -135,6 +135,7 @@ fn can_hold(machines: u8, step: &Step) -> bool
         Step::Tick(m) => m < machines,
         Step::Deliver { a, b, .. } => a < machines && b < machines && a != b,
         Step::Migrate { pid, to } => pid.home < machines && to < machines,
+        Step::CallOff { pid, at } => pid.home < machines && at < machines,
     }
 }
 

@@ -18,6 +18,7 @@ step_same n (step.Turn m) h = h
 step_same n (step.Tick m) h = h
 step_same n (step.Deliver a b k) h = h
 step_same n (step.Migrate p m) h = h
+step_same n (step.CallOff p m) h = h
 
 -- a run of the machines stands for one by the rule
 pub record RanThere (b : Boot) (es : List Step) (gs : List (List Line)) (w : WorldState) : Type 0 where

@@ -223,6 +223,7 @@ held_of machines (step.Turn m) h k = below_test m machines h
 held_of machines (step.Tick m) h k = below_test m machines h
 held_of machines (step.Deliver a b n) h k = rw (below_test a machines h.0, below_test b machines h.1, apart_test a b h.2) refl
 held_of machines (step.Migrate p m) h k = rw (below_test p.home machines k, below_test m machines h) refl
+held_of machines (step.CallOff p m) h k = rw (below_test p.home machines k, below_test m machines h) refl
 
 record LeftOfAny (machines : ℕ) (t : Todo) : Type 0 where
   todo : IsTodo machines t

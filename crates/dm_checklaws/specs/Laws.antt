@@ -25,6 +25,7 @@ IsHome machines (step.Turn m) = ⊤
 IsHome machines (step.Tick m) = ⊤
 IsHome machines (step.Deliver a b k) = ⊤
 IsHome machines (step.Migrate p m) = p.home < machines
+IsHome machines (step.CallOff p m) = p.home < machines
 
 abbrev pub HasHome : ℕ → Directive → Type 0
 HasHome machines (directive.One s) = IsHome machines s

@@ -12,6 +12,7 @@ for_machines machines (directive.One (step.Turn m)) h = h
 for_machines machines (directive.One (step.Tick m)) h = h
 for_machines machines (directive.One (step.Deliver a b k)) h = h
 for_machines machines (directive.One (step.Migrate p m)) h = h
+for_machines machines (directive.One (step.CallOff p m)) h = h
 for_machines machines directive.Round h = tt
 for_machines machines (directive.Spin k) h = absurd h
 for_machines machines directive.Settle h = tt

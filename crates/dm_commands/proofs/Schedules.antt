@@ -1,6 +1,6 @@
 -- What the directives of a schedule are that is accepted.
 use Rattle.dm_commands.proofs.Names.{◌≡◌, ◌≢◌, ◌≤◌, ◌<◌, ℕ, suc, ◌+◌, ◌==◌, Bool, true, false, ◌&&◌, nat_lt, nat_le, if◌then◌else◌, List, [], ◌∷◌, length, refl, subst, arith, ⊤, All, All-nil, All-cons, nat_tests, Option, Some, Result, Ok}
-use Rattle.dm_commands.proofs.Names.{Err, Pid, Directive, LineFault, SameMachine, WrongCount, Keyword, Turn, Tick, Deliver, Migrate, Round, Spin, Settle, keyword_of, operands, Operand, Machine, Process, Packet, Rounds, lines, words}
+use Rattle.dm_commands.proofs.Names.{Err, Pid, Directive, LineFault, SameMachine, WrongCount, Keyword, Turn, Tick, Deliver, Migrate, CallOff, Round, Spin, Settle, keyword_of, operands, Operand, Machine, Process, Packet, Rounds, lines, words}
 use Rattle.dm_commands.proofs.Names.{onto_first, ends_line, is_return, line_ends, number_of_word, process_of, Value, Values, value_of, values_of, within, ◌>>=◌, Schedule, Accepted, Refused, directive_made, directive_of, begins_comment}
 use Rattle.dm_commands.proofs.Names.{line_directive, also, line_and_rest, lines_from, IsFor, None}
 use Rattle.dm_schedule.specs.declared.Step.{Step}
@@ -14,6 +14,7 @@ IsHome machines (step.Turn m) = ⊤
 IsHome machines (step.Tick m) = ⊤
 IsHome machines (step.Deliver a b k) = ⊤
 IsHome machines (step.Migrate p m) = p.home < machines
+IsHome machines (step.CallOff p m) = p.home < machines
 
 abbrev pub HasHome : ℕ → Directive → Type 0
 HasHome machines (directive.One s) = IsHome machines s
@@ -104,6 +105,7 @@ made_has machines Turn v h = (is_below v.0 machines h.0, tt)
 made_has machines Tick v h = (is_below v.0 machines h.0, tt)
 made_has machines Deliver v h = deliver_has machines v.0 v.1.0 v.1.1.0 (v.0 == v.1.0) refl (is_below v.0 machines h.0) (is_below v.1.0 machines h.1.0)
 made_has machines Migrate v h = (is_below v.1.0 machines h.1.0, is_below v.0.home machines (left_of (nat_lt v.0.home machines) (nat_le v.0.num 4294967295) h.0))
+made_has machines CallOff v h = (is_below v.1.0 machines h.1.0, is_below v.0.home machines (left_of (nat_lt v.0.home machines) (nat_le v.0.num 4294967295) h.0))
 made_has machines Round v h = (tt, tt)
 made_has machines Spin v h = (in_range v.0 h.0, tt)
 made_has machines Settle v h = (tt, tt)

@@ -55,12 +55,15 @@ counted_as (line.Forwarded id m) = Some counted_.Forwarded
 counted_as (line.Updated id n) = None
 counted_as (line.Migration s p) = sort_of_step s
 counted_as (line.SentOn p n) = None
+counted_as (line.Called p n) = None
 counted_as (line.Lacks p s b) = None
 counted_as (line.Stays p) = Some counted_.Stayed
 counted_as (line.Here id) = None
 counted_as (line.NoMove id) = None
+counted_as (line.Stale id) = None
 counted_as (line.Proto id) = None
 counted_as (line.NoChild p) = None
+counted_as (line.NoCall p) = None
 counted_as (line.Pinned p) = None
 
 -- one more of these

@@ -23,6 +23,7 @@ step_home machines (step.Turn m) h = h
 step_home machines (step.Tick m) h = h
 step_home machines (step.Deliver a b k) h = h
 step_home machines (step.Migrate p m) h = h
+step_home machines (step.CallOff p m) h = h
 
 directive_home : (machines : ℕ) (d : Directive) → schedules.HasHome machines d → HasHome machines d
 directive_home machines (directive.One e) h = step_home machines e h

@@ -29,6 +29,7 @@ counts b w (step.Turn m) s is = turned_counts w (step.Turn m) m (node.turn b (w.
 counts b w (step.Tick m) s is = let f : acted w (step.Tick m) m (node.tick (w.nodes m)) ≡ s = cc in sym (ap (λ (x : Said). x.state.groups) f)
 counts b w (step.Deliver a c k) s is = delivers_counts w (step.Deliver a c k) a c k (bytes_at (w.wires a c) k) s is
 counts b w (step.Migrate p m) s is = turned_counts w (step.Migrate p m) 0 (node.asks_move (w.nodes 0) p m) s is
+counts b w (step.CallOff p m) s is = turned_counts w (step.CallOff p m) m (node.calls_off (w.nodes m) p) s is
 
 -- what the world did
 pub happens : (w : WorldState) (lines : List Line) (o : Option Happened) → MeetsSome w lines o → o ≡ Some (Says (record { state = w; lines = lines }))

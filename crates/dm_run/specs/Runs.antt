@@ -16,6 +16,7 @@ IsStep machines (step.Turn m) = m < machines
 IsStep machines (step.Tick m) = m < machines
 IsStep machines (step.Deliver a b k) = (a < machines) × (b < machines) × (a ≢ b)
 IsStep machines (step.Migrate p m) = m < machines
+IsStep machines (step.CallOff p m) = m < machines
 
 -- a directive for them
 abbrev pub IsDirective : ℕ → Directive → Type 0

@@ -10,12 +10,14 @@ step_fits n (step.Turn m) h = h
 step_fits n (step.Tick m) h = h
 step_fits n (step.Deliver a b k) h = h
 step_fits n (step.Migrate p m) h = h
+step_fits n (step.CallOff p m) h = h
 
 pub step_is : (n : ℕ) (e : Step) → rule.IsStep n e → run.IsStep n e
 step_is n (step.Turn m) h = h
 step_is n (step.Tick m) h = h
 step_is n (step.Deliver a b k) h = h
 step_is n (step.Migrate p m) h = h
+step_is n (step.CallOff p m) h = h
 
 directive_fits : (n : ℕ) (d : Directive) → IsFor n d → IsDirective n d
 directive_fits n (directive.One e) h = step_fits n e h

@@ -78,6 +78,7 @@ step_said b es pt w c next (step.Turn m) valid leads stands (small, mail, more) 
 step_said b es pt w c next (step.Deliver a k i) valid leads stands (fresh, fewer) = sym (undelivered_said b es w pt a k valid leads stands fresh.from fresh.to fresh.apart) ∙ fresh.first
 step_said b es pt w c next (step.Tick m) valid leads stands h = absurd h
 step_said b es pt w c next (step.Migrate p m) valid leads stands h = absurd h
+step_said b es pt w c next (step.CallOff p m) valid leads stands h = absurd h
 
 -- and leaves fewer turns, or as many and less room
 settle_fewer : (b : Boot) (w : WorldState) (c next : Cursor) (e : Step) (s : Said) (x y : ℕ) → SettleGoes (length b.machines) w c e next → world_step b w e ≡ Some (Says s) → y + turns_in e ≤ x → left (length b.machines) s.state next + y < left (length b.machines) w c + x
@@ -85,6 +86,7 @@ settle_fewer b w c next (step.Turn m) s x y (small, mail, more) happens h = let 
 settle_fewer b w c next (step.Deliver a k i) s x y (fresh, fewer) happens h = let k = fewer b s happens in omega (arith, h, k)
 settle_fewer b w c next (step.Tick m) s x y goes happens h = absurd goes
 settle_fewer b w c next (step.Migrate p m) s x y goes happens h = absurd goes
+settle_fewer b w c next (step.CallOff p m) s x y goes happens h = absurd goes
 
 settling_ahead : (b : Boot) (c : Cursor) (v : View) → IsSettling c → turns_ahead b c v ≡ turns_left (settle.left b.numbers (length b.machines) v)
 settling_ahead b (One e) v h = absurd h
