@@ -15,15 +15,14 @@ KINDS = (
 # What stands in a line: M a machine or home, N a number, K a packet's number, G a number of groups, P a process, I a message,
 # I.. one or more messages, L a link, H bytes whose last isn't 0, B the bytes of a name, T a kind.
 SHAPES = """
-turn M|tick M|deliver M M K|migrate P M|idle M|ran P N|call P N N|send P I|wait P|out P N|end P N|receive P I|refuse P I N
+turn M|tick M|deliver M M K|migrate P M|calloff P M|idle M|ran P N|call P N N|send P I|wait P|out P N|end P N|receive P I|refuse P I N
 put M M I T P|packet M M K data N|packet M M K ack N|taken M M N|old M M N|early M M N|acked M M N|none|resent M N
 queued I|held I|forwarded I M|dropped I|served I|gone I|took I|created I P|nospace I N N|updated I N
-step 1 P|step 2 P|step 3 P|step 4 P|step 5 P|step 6 P N|step 7 P|step 8 P|lacks P N N|stays P|here I|nomove I|proto I|nochild P|pinned P
+step 1 P|step 2 P|step 3 P|step 4 P|step 5 P|step 6 P N|step 7 P|step 8 P|lacks P N N|stays P|called P N|nocall P|stale I|here I|nomove I|proto I|nochild P|pinned P
 asked I|answered I N
 final|process P ended N|registers P N N N N N N N N N N N N N N N N N|memory P N H|link P N L|server P N|name B L
 child N P at M|pending I|queue P I..|holding M P I..|inbox M I..|stream M M I..|end G
 """
-CALLING_OFF = "calloff P M|called P N|nocall P|stale I"
 BURYING = "buried I N"
 SERVERS_MOVE = "away|place P at M here|place P at M leaving|place P at M arriving"
 PLACES = ("here", "leaving", "arriving")
@@ -52,7 +51,7 @@ class Refused(Exception):
 def shapes():
     """Every shape, as its words."""
     written = [SHAPES.strip().replace("|pinned P", "") if standing.SERVERS_MOVE else SHAPES.strip()]
-    written += [CALLING_OFF] * standing.CALLING_OFF + [BURYING] * standing.BURYING + [SERVERS_MOVE] * standing.SERVERS_MOVE
+    written += [BURYING] * standing.BURYING + [SERVERS_MOVE] * standing.SERVERS_MOVE
     for shape in re.split(r"[|\n]", "\n".join(written)):
         yield shape.split(" ")
     for place in PLACES:
@@ -113,7 +112,7 @@ def directive_of(line, machines):
     elif word == "deliver":
         operands = [int(operand) for operand in operands]
         fits = operands[0] < machines and operands[1] < machines and operands[0] != operands[1]
-    elif word == "migrate" or word == "calloff" and standing.CALLING_OFF:
+    elif word in ("migrate", "calloff"):
         pid = Pid(*map(int, operands[0].split(".")))
         operands = [pid, int(operands[1])]
         fits = pid.home < machines and operands[1] < machines

@@ -240,11 +240,19 @@ class System(Drawing):
                 packets = self.pick([[0], [1, 0], [1, 2, 0], [2, 1, 0, 1], [0, 0]])
                 lines += [f"deliver {a} {b} {first + packet}" for packet in packets]
             elif d in (7, 8):
-                lines.append(f"migrate {self.pid()} {self.between(0, most)}")
+                pid, machine = self.pid(), self.between(0, most)
+                lines.append(f"migrate {pid} {machine}")
+                if self.one_in(3):
+                    lines += self.pick([["round"], ["round", "round"], [f"spin {self.between(1, 6)}"], []])
+                    lines.append(f"calloff {pid} {machine}")
             elif d == 9:
                 pid = self.pid()
                 for _ in range(self.between(2, 5)):
-                    lines.append(f"migrate {pid} {self.between(0, most)}")
+                    machine = self.between(0, most)
+                    lines.append(f"migrate {pid} {machine}")
+                    if self.one_in(3):
+                        lines += self.pick([["round"], ["round", "round"], [f"spin {self.between(1, 4)}"], []])
+                        lines.append(f"calloff {pid} {machine}")
                     spins = f"spin {self.between(1, 20)}"
                     lines += self.pick([["settle"], ["round"], [spins], ["settle", spins], []])
             elif d in (10, 11):
@@ -371,10 +379,11 @@ class Files(Drawing):
 
     def directive(self):
         """A line of a schedule, with its line feed."""
-        word = self.pick(["turn", "tick", "deliver", "migrate", "round", "spin", "settle"])
+        word = self.pick(["turn", "tick", "deliver", "migrate", "calloff", "round", "spin", "settle"])
         a = self.below(self.machines)
         pid = f"{a}.{self.below(6)}"
-        operands = {"deliver": [a, (a + 1) % self.machines, self.pick([0, 1, 2**32 - 1])], "migrate": [pid, a], "turn": [a], "tick": [a]}
+        operands = {"deliver": [a, (a + 1) % self.machines, self.pick([0, 1, 2**32 - 1])], "turn": [a], "tick": [a]}
+        operands.update(dict.fromkeys(["migrate", "calloff"], [pid, a]))
         words = [str(operand) for operand in operands.get(word, [self.between(1, 3)] if word == "spin" else [])]
         change = self.below(16) if self.odd == "schedule" else None
         if change == 0 and words:

@@ -8,11 +8,9 @@ from values import Pid
 NUMBER = re.compile(rb"[0-9]{1,10}")
 MOST = 2**32 - 1
 # What the operands of each word are: m machine, k number of a packet, n number of rounds, p process.
-FORMS = {"turn": "m", "tick": "m", "deliver": "mmk", "migrate": "pm", "round": "", "spin": "n", "settle": ""}
+FORMS = {"turn": "m", "tick": "m", "deliver": "mmk", "migrate": "pm", "calloff": "pm", "round": "", "spin": "n", "settle": ""}
 if standing.REST:
     FORMS["rest"] = "n"
-if standing.CALLING_OFF:
-    FORMS["calloff"] = "pm"
 
 
 class Refused(Exception):
