@@ -5,24 +5,25 @@ pub use Rattle.std.proofs.lemmas.List.Elements.{All-append, All-cons, All-map}
 pub use Rattle.std.specs.Vec.Iter.{into_iter_items}
 pub use Rattle.std.specs.declared.result.Result.{Result}
 pub use Rattle.std.specs.declared.result.Result.TheVariants.{Err, Ok}
-pub use Rattle.dm_processor.proofs.Names.{Bool, List, None, Option, Some, [], ap, arith, common_steps, drop, false, length, length-append, length-take-le, nat_tests, refl, replicate, suc, sym, take, take-add, take_all, true, zero, ℕ, ◌*◌}
-pub use Rattle.dm_processor.proofs.Names.{◌++◌, ◌+◌, ◌-◌, ◌/◌, ◌<◌, ◌∙◌, ◌∷◌, ◌≡◌, ◌≤◌}
+pub use Rattle.dm_processor.proofs.Names.{length-append, length-take-le, replicate, take-add}
 pub use Rattle.dm_message.specs.Plain.{PlainWhat, plain_message, plain_what, with_what}
 pub use Rattle.dm_message.specs.declared.Asker.{Asker}
 pub use Rattle.dm_message.specs.declared.What.{What}
-pub use Rattle.dm_linktable.proofs.Names.{map, subst, vec_capacity, vec_len}
-pub use Rattle.dm_process.proofs.Names.{Message, min}
+pub use Rattle.dm_linktable.proofs.Names.{map, vec_capacity, vec_len}
+pub use Rattle.dm_process.proofs.Names.{min}
 pub use Rattle.dm_statebytes.proofs.Lawful.{shell_is_lawful}
-pub use Rattle.dm_statebytes.proofs.Names.{All, FitsShell, IfOk, IsLawfulMessage, IsLawfulProcess, IsLawfulShell, IsLawfulStatus, IsMachine, Process, if◌then◌else◌, length-drop, nat_lt, shell_of, shell_of_bytes, ◌⊎◌}
+pub use Rattle.dm_statebytes.proofs.Names.{All, Bool, FitsShell, IfOk, IsLawfulMessage, IsLawfulProcess, IsLawfulShell, IsLawfulStatus, IsMachine, List, Message, None, Option, Process, Some, [], ap, arith, common_steps, drop, false}
+pub use Rattle.dm_statebytes.proofs.Names.{if◌then◌else◌, length, length-drop, nat_lt, nat_tests, refl, shell_of, shell_of_bytes, subst, suc, sym, take, take_all, true, zero, ℕ, ◌*◌, ◌++◌, ◌+◌, ◌-◌, ◌/◌, ◌<◌, ◌∙◌, ◌∷◌, ◌≡◌, ◌≤◌, ◌⊎◌}
 pub use Rattle.dm_statebytes.proofs.Shells.{shell_back, shell_ended}
 pub use Rattle.dm_statebytes.proofs.Sizes.{lawful_size}
 pub use Rattle.dm_statebytes.specs.declared.Shell.{Shell}
 pub use Rattle.dm_statebytes.specs.declared.StateBytesError.{StateBytesError}
 pub use Rattle.dm_migrate.specs.Arrival.{Arrival, IsNextChunk, IsNextPiece, IsStateFor, after_block, after_chunk, memory_come, pull, restarted, revived, revived_from, state_come, with_chunk, with_piece}
+pub use Rattle.dm_migrate.specs.Cargo.{Cargo, cargo_of}
 pub use Rattle.dm_migrate.specs.Coming.{IsComing, IsStage, Parts, come_of}
 pub use Rattle.dm_migrate.specs.Departure.{CanMove, Departure, sent_on}
 unfoldable pub use Rattle.dm_migrate.specs.Departure.{IsReadAgain}
 pub use Rattle.dm_migrate.specs.Pieces.{HasBlock, HasChunk, block_of, chunk_bytes, chunk_of, is_last, state_of}
-pub use Rattle.dm_migrate.specs.Way.{ArrivesWhole, ComesByPieces, Goes, HasPiece, coming, count_of_pieces, moved, piece_for}
+pub use Rattle.dm_migrate.specs.Way.{ArrivesWhole, CanCome, ComesByPieces, ComesWhole, Goes, HasPiece, coming, count_of_pieces, moved, piece_for}
 pub use Rattle.dm_migrate.specs.declared.arriving.Wanted.{Wanted}
 pub use Rattle.dm_migrate.specs.declared.arriving.Wanted.TheVariants.{Block, Chunk, Nothing}

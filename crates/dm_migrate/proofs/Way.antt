@@ -1,8 +1,8 @@
 -- Piece by piece, from the first chunk to the process.
 use Rattle.dm_migrate.proofs.Names.{ℕ, zero, suc, ◌≡◌, ◌+◌, ◌-◌, ◌*◌, ◌/◌, ◌<◌, ◌≤◌, Bool, true, false, nat_lt, if◌then◌else◌, List, [], ◌++◌, length, take, drop, Option, Some, ap, sym, subst, ◌∙◌, refl, arith, take-add, take_all}
-use Rattle.dm_migrate.proofs.Names.{nat_tests, Asker, Message, What, Process, IsLawfulProcess, IsLawfulShell, shell_of, shell_of_bytes, Ok, FitsShell, shell_is_lawful, shell_back, shell_ended, lawful_size, Wanted, Chunk, Block, Nothing, Arrival, IsNextPiece, after_block}
-use Rattle.dm_migrate.proofs.Names.{after_chunk, pull, restarted, revived_from, with_piece, memory_come, state_come, CanMove, IsReadAgain, HasBlock, HasChunk, block_of, chunk_bytes, chunk_of, is_last, state_of, ArrivesWhole, ComesByPieces}
-use Rattle.dm_migrate.proofs.Names.{Goes, HasPiece, coming, count_of_pieces, moved, piece_for}
+use Rattle.dm_migrate.proofs.Names.{nat_tests, Asker, Message, What, Process, IsLawfulProcess, IsLawfulShell, shell_of, shell_of_bytes, Ok, FitsShell, shell_is_lawful, shell_back, shell_ended, lawful_size, Wanted, Chunk, Block, Nothing}
+use Rattle.dm_migrate.proofs.Names.{Arrival, IsNextPiece, after_block, after_chunk, pull, restarted, revived_from, with_piece, memory_come, state_come, CanMove, IsReadAgain, HasBlock, HasChunk, block_of, chunk_bytes, chunk_of, is_last}
+use Rattle.dm_migrate.proofs.Names.{state_of, ArrivesWhole, ComesByPieces, ComesWhole, CanCome, Goes, HasPiece, Cargo, cargo_of, coming, count_of_pieces, moved, piece_for}
 use Rattle.dm_message.specs.declared.What.TheVariants as what
 use Rattle.dm_migrate.proofs.Pieces.{memory_waits}
 
@@ -48,157 +48,171 @@ whole_memory p h =
       most = omega (arith, d, h.lawful.size.3);
     }
 
-piece_after_chunk : (last : Bool) (p : Process) (k : ℕ) → CanMove p → last ≡ is_last (state_of p) k → HasPiece p (after_chunk k last)
-piece_after_chunk true p k h e = let w : IsWhole p = whole_memory p h in omega (arith, w.all, w.least)
-piece_after_chunk false p k h e = grind (arith, nat_tests, e)
-
-piece_after_block : (more : Bool) (p : Process) (k : ℕ) → CanMove p → more ≡ nat_lt (k + 1) (length p.memory / 256) → HasPiece p (if more then Block (k + 1) else Nothing)
-piece_after_block true p k h e =
-    let w : IsWhole p = whole_memory p h in
-    let j : k + 1 < length p.memory / 256 = grind (arith, nat_tests, e) in
-    omega (arith, w.all, j)
-piece_after_block false p k h e = tt
-
 read_again : (p : Process) → IsReadAgain p → shell_of_bytes (state_of p) (length p.table) ≡ Ok (shell_of p)
 unfolding IsReadAgain
 read_again p again = shell_ended (length p.table) (state_of p) (shell_of p) again
 
-module _ (p : Process) (asker : Option Asker) (held : List Message) (h : CanMove p) where
-  chunk_asked : (k : ℕ) → HasChunk (state_of p) k → IsNextPiece (coming p asker held (Chunk k)) (chunk_of p.pid (state_of p) k)
+piece_after_chunk : (last : Bool) (c : Cargo) (cap k : ℕ) → CanCome c cap → last ≡ is_last c.state k → HasPiece c (after_chunk k last)
+piece_after_chunk true c cap k h e = omega (arith, h.whole, h.least)
+piece_after_chunk false c cap k h e = grind (arith, nat_tests, e)
+
+piece_after_block : (more : Bool) (c : Cargo) (cap k : ℕ) → CanCome c cap → more ≡ nat_lt (k + 1) (length c.memory / 256) → HasPiece c (if more then Block (k + 1) else Nothing)
+piece_after_block true c cap k h e =
+    let j : k + 1 < length c.memory / 256 = grind (arith, nat_tests, e) in
+    omega (arith, h.whole, j)
+piece_after_block false c cap k h e = tt
+
+module _ (c : Cargo) (cap : ℕ) (held : List Message) (h : CanCome c cap) where
+  chunk_asked : (k : ℕ) → HasChunk c.state k → IsNextPiece (coming c cap held (Chunk k)) (chunk_of c.pid c.state k)
   chunk_asked k n = record {
     pid = refl;
     wanted = refl;
-    whole = state_of p;
-    state = record { size = refl; shell = shell_of p; read = read_again p h.again; pid = refl; blocks = refl; moves = refl };
+    whole = c.state;
+    state = (let s = h.state in record { size = s.size; shell = s.shell; read = s.read; pid = s.pid; blocks = s.blocks; moves = s.moves });
     number = n;
     before = refl;
     here = refl;
     last = refl;
   }
 
-  chunk_taken : (k : ℕ) → HasChunk (state_of p) k → with_piece (coming p asker held (Chunk k)) (chunk_of p.pid (state_of p) k) ≡ Some (coming p asker held (after_chunk k (is_last (state_of p) k)))
+  chunk_taken : (k : ℕ) → HasChunk c.state k → with_piece (coming c cap held (Chunk k)) (chunk_of c.pid c.state k) ≡ Some (coming c cap held (after_chunk k (is_last c.state k)))
   chunk_taken k n = λ i. Some (record {
-    pid = p.pid;
-    blocks = length p.memory / 256;
-    moves = p.moves;
-    size = length (state_of p);
-    asker = asker;
-    cap = length p.table;
-    state = state_after (is_last (state_of p) k) (state_of p) k refl i;
-    memory = sym (memory_waits (is_last (state_of p) k) k p.memory) i;
-    wanted = after_chunk k (is_last (state_of p) k);
+    pid = c.pid;
+    blocks = length c.memory / 256;
+    moves = c.moves;
+    size = length c.state;
+    asker = c.asker;
+    cap = cap;
+    state = state_after (is_last c.state k) c.state k refl i;
+    memory = sym (memory_waits (is_last c.state k) k c.memory) i;
+    wanted = after_chunk k (is_last c.state k);
     held = held;
   })
 
-  block_taken : (k : ℕ) → HasBlock p.memory k → with_piece (coming p asker held (Block k)) (block_of p.pid p.memory k) ≡ Some (coming p asker held (after_block k (length p.memory / 256)))
+  block_taken : (k : ℕ) → HasBlock c.memory k → with_piece (coming c cap held (Block k)) (block_of c.pid c.memory k) ≡ Some (coming c cap held (after_block k (length c.memory / 256)))
   block_taken k n = λ i. Some (record {
-    pid = p.pid;
-    blocks = length p.memory / 256;
-    moves = p.moves;
-    size = length (state_of p);
-    asker = asker;
-    cap = length p.table;
-    state = state_stays (nat_lt (k + 1) (length p.memory / 256)) (state_of p) k i;
-    memory = memory_after (nat_lt (k + 1) (length p.memory / 256)) p.memory k refl (whole_memory p h).all i;
-    wanted = after_block k (length p.memory / 256);
+    pid = c.pid;
+    blocks = length c.memory / 256;
+    moves = c.moves;
+    size = length c.state;
+    asker = c.asker;
+    cap = cap;
+    state = state_stays (nat_lt (k + 1) (length c.memory / 256)) c.state k i;
+    memory = memory_after (nat_lt (k + 1) (length c.memory / 256)) c.memory k refl h.whole i;
+    wanted = after_block k (length c.memory / 256);
     held = held;
   })
 
-  whole : restarted (coming p asker held Nothing) ≡ Some (moved p)
-  whole = ap (λ r. revived_from r p.memory) (read_again p h.again)
-
-  pub by_pieces : ComesByPieces p asker held
+  pub by_pieces : ComesByPieces c cap held
   by_pieces = record {
     begins = refl;
-    first = omega (arith, h.least);
+    first = omega (arith, h.some);
     chunk_asked = chunk_asked;
     chunk_taken = chunk_taken;
-    after_chunk = λ k n. piece_after_chunk (is_last (state_of p) k) p k h refl;
+    after_chunk = λ k n. piece_after_chunk (is_last c.state k) c cap k h refl;
     block_asked = λ k n. (refl, refl);
     block_taken = block_taken;
-    after_block = λ k n. piece_after_block (nat_lt (k + 1) (length p.memory / 256)) p k h refl;
-    whole = whole;
+    after_block = λ k n. piece_after_block (nat_lt (k + 1) (length c.memory / 256)) c cap k h refl;
   }
 
   -- nothing or another block is asked for after a block
-  no_more : (k : ℕ) → k + 1 ≡ length p.memory / 256 → after_block k (length p.memory / 256) ≡ Nothing
+  no_more : (k : ℕ) → k + 1 ≡ length c.memory / 256 → after_block k (length c.memory / 256) ≡ Nothing
   no_more k e = grind (arith, nat_tests, e)
 
-  one_block_more : (k : ℕ) → k + 1 < length p.memory / 256 → after_block k (length p.memory / 256) ≡ Block (k + 1)
+  one_block_more : (k : ℕ) → k + 1 < length c.memory / 256 → after_block k (length c.memory / 256) ≡ Block (k + 1)
   one_block_more k e = grind (arith, nat_tests, e)
 
-  block_there : (k : ℕ) → HasBlock p.memory k → piece_for p (what.PullBlock p.pid k) ≡ Some (block_of p.pid p.memory k)
+  block_there : (k : ℕ) → HasBlock c.memory k → piece_for c (what.PullBlock c.pid k) ≡ Some (block_of c.pid c.memory k)
   block_there k n = grind (arith, nat_tests, n)
 
-  chunk_there : (k : ℕ) → HasChunk (state_of p) k → piece_for p (what.PullState p.pid k) ≡ Some (chunk_of p.pid (state_of p) k)
+  chunk_there : (k : ℕ) → HasChunk c.state k → piece_for c (what.PullState c.pid k) ≡ Some (chunk_of c.pid c.state k)
   chunk_there k n = grind (arith, nat_tests, n)
 
-  blocks_go : (n k : ℕ) → suc n + k ≡ length p.memory / 256 → Goes p (suc n) (coming p asker held (Block k)) (what.PullBlock p.pid k) (coming p asker held Nothing)
+  blocks_go : (n k : ℕ) → suc n + k ≡ length c.memory / 256 → Goes c (suc n) (coming c cap held (Block k)) (what.PullBlock c.pid k) (coming c cap held Nothing)
   blocks_go zero k e =
-      let b : HasBlock p.memory k = omega (arith, e, (whole_memory p h).all) in (
-        block_of p.pid p.memory k,
-        coming p asker held (after_block k (length p.memory / 256)),
+      let b : HasBlock c.memory k = omega (arith, e, h.whole) in (
+        block_of c.pid c.memory k,
+        coming c cap held (after_block k (length c.memory / 256)),
         block_there k b,
         (refl, refl),
         block_taken k b,
-        subst (λ (w : Wanted). Goes p zero (coming p asker held w) (pull p.pid w) (coming p asker held Nothing)) (sym (no_more k (omega (arith, e)))) (refl, refl),
+        subst (λ (w : Wanted). Goes c zero (coming c cap held w) (pull c.pid w) (coming c cap held Nothing)) (sym (no_more k (omega (arith, e)))) (refl, refl),
       )
   blocks_go (suc n) k e =
-      let b : HasBlock p.memory k = omega (arith, e, (whole_memory p h).all) in (
-        block_of p.pid p.memory k,
-        coming p asker held (after_block k (length p.memory / 256)),
+      let b : HasBlock c.memory k = omega (arith, e, h.whole) in (
+        block_of c.pid c.memory k,
+        coming c cap held (after_block k (length c.memory / 256)),
         block_there k b,
         (refl, refl),
         block_taken k b,
-        subst (λ (w : Wanted). Goes p (suc n) (coming p asker held w) (pull p.pid w) (coming p asker held Nothing)) (sym (one_block_more k (omega (arith, e)))) (blocks_go n (k + 1) (omega (arith, e))),
+        subst (λ (w : Wanted). Goes c (suc n) (coming c cap held w) (pull c.pid w) (coming c cap held Nothing)) (sym (one_block_more k (omega (arith, e)))) (blocks_go n (k + 1) (omega (arith, e))),
       )
 
-  all_blocks : (n : ℕ) → n ≡ length p.memory / 256 → Goes p n (coming p asker held (Block 0)) (what.PullBlock p.pid 0) (coming p asker held Nothing)
-  all_blocks zero e = absurd (omega (arith, e, (whole_memory p h).least))
+  all_blocks : (n : ℕ) → n ≡ length c.memory / 256 → Goes c n (coming c cap held (Block 0)) (what.PullBlock c.pid 0) (coming c cap held Nothing)
+  all_blocks zero e = absurd (omega (arith, e, h.least))
   all_blocks (suc n) e = blocks_go n 0 (omega (arith, e))
 
-  last_chunk : (k : ℕ) → length (state_of p) ≤ 512 * (k + 1) → is_last (state_of p) k ≡ true
+  last_chunk : (k : ℕ) → length c.state ≤ 512 * (k + 1) → is_last c.state k ≡ true
   last_chunk k e = grind (arith, nat_tests, e)
 
-  not_last_chunk : (k : ℕ) → 512 * (k + 1) < length (state_of p) → is_last (state_of p) k ≡ false
+  not_last_chunk : (k : ℕ) → 512 * (k + 1) < length c.state → is_last c.state k ≡ false
   not_last_chunk k e = grind (arith, nat_tests, e)
 
-  chunks_go : (c k n : ℕ) → length (state_of p) ≤ 512 * (k + suc c) → 512 * (k + c) < length (state_of p) → n ≡ suc c + length p.memory / 256 → Goes p n (coming p asker held (Chunk k)) (what.PullState p.pid k) (coming p asker held Nothing)
-  chunks_go c k zero e f g = absurd (omega (arith, g))
+  chunks_go : (d k n : ℕ) → length c.state ≤ 512 * (k + suc d) → 512 * (k + d) < length c.state → n ≡ suc d + length c.memory / 256 → Goes c n (coming c cap held (Chunk k)) (what.PullState c.pid k) (coming c cap held Nothing)
+  chunks_go d k zero e f g = absurd (omega (arith, g))
   chunks_go zero k (suc n) e f g =
-      let b : HasChunk (state_of p) k = omega (arith, f) in (
-        chunk_of p.pid (state_of p) k,
-        coming p asker held (after_chunk k (is_last (state_of p) k)),
+      let b : HasChunk c.state k = omega (arith, f) in (
+        chunk_of c.pid c.state k,
+        coming c cap held (after_chunk k (is_last c.state k)),
         chunk_there k b,
         chunk_asked k b,
         chunk_taken k b,
-        subst (λ (l : Bool). Goes p n (coming p asker held (after_chunk k l)) (pull p.pid (after_chunk k l)) (coming p asker held Nothing)) (sym (last_chunk k (omega (arith, e)))) (all_blocks n (omega (arith, g))),
+        subst (λ (l : Bool). Goes c n (coming c cap held (after_chunk k l)) (pull c.pid (after_chunk k l)) (coming c cap held Nothing)) (sym (last_chunk k (omega (arith, e)))) (all_blocks n (omega (arith, g))),
       )
-  chunks_go (suc c) k (suc n) e f g =
-      let b : HasChunk (state_of p) k = omega (arith, f) in (
-        chunk_of p.pid (state_of p) k,
-        coming p asker held (after_chunk k (is_last (state_of p) k)),
+  chunks_go (suc d) k (suc n) e f g =
+      let b : HasChunk c.state k = omega (arith, f) in (
+        chunk_of c.pid c.state k,
+        coming c cap held (after_chunk k (is_last c.state k)),
         chunk_there k b,
         chunk_asked k b,
         chunk_taken k b,
-        subst (λ (l : Bool). Goes p n (coming p asker held (after_chunk k l)) (pull p.pid (after_chunk k l)) (coming p asker held Nothing)) (sym (not_last_chunk k (omega (arith, f)))) (chunks_go c (k + 1) n (omega (arith, e)) (omega (arith, f)) (omega (arith, g))),
+        subst (λ (l : Bool). Goes c n (coming c cap held (after_chunk k l)) (pull c.pid (after_chunk k l)) (coming c cap held Nothing)) (sym (not_last_chunk k (omega (arith, f)))) (chunks_go d (k + 1) n (omega (arith, e)) (omega (arith, f)) (omega (arith, g))),
       )
 
-  goes_whole : Goes p (count_of_pieces p) (coming p asker held (Chunk 0)) (what.PullState p.pid 0) (coming p asker held Nothing)
+  goes_whole : Goes c (count_of_pieces c) (coming c cap held (Chunk 0)) (what.PullState c.pid 0) (coming c cap held Nothing)
   goes_whole =
-      let len : ℕ = length (state_of p) in
-      chunks_go ((length (state_of p) + 511) / 512 - 1) 0 (count_of_pieces p) (omega (arith, h.least)) (omega (arith, h.least)) (omega (arith, h.least))
+      chunks_go ((length c.state + 511) / 512 - 1) 0 (count_of_pieces c) (omega (arith, h.some)) (omega (arith, h.some)) (omega (arith, h.some))
+
+-- what moves of a process that can move
+pub can_come : (p : Process) (asker : Option Asker) → CanMove p → CanCome (cargo_of p asker) (length p.table)
+can_come p asker h =
+    let w : IsWhole p = whole_memory p h in
+    record {
+      state = record { size = refl; shell = shell_of p; read = read_again p h.again; pid = refl; blocks = refl; moves = refl };
+      some = omega (arith, h.least);
+      whole = w.all;
+      least = w.least;
+    }
+
+pub comes_back : (p : Process) (asker : Option Asker) (held : List Message) → CanMove p → restarted (coming (cargo_of p asker) (length p.table) held Nothing) ≡ Some (moved p)
+comes_back p asker held h = ap (λ r. revived_from r p.memory) (read_again p h.again)
+
+pub comes_whole : (p : Process) (asker : Option Asker) (held : List Message) → CanMove p → ComesWhole p asker held
+comes_whole p asker held h = record { pieces = by_pieces (cargo_of p asker) (length p.table) held (can_come p asker h); whole = comes_back p asker held h }
 
 pub arrives : (p : Process) (asker : Option Asker) → CanMove p → ArrivesWhole p asker
-arrives p asker h = record {
-  may_ask = let w : IsWhole p = whole_memory p h in (w.least, w.most, h.moves, h.most);
-  arrives = λ old new a asked answers. (
-    coming p asker [] Nothing,
-    subst (λ (w : What). Goes p (count_of_pieces p) a w (coming p asker [] Nothing)) (sym answers.3)
-        (subst (λ (x : Arrival). Goes p (count_of_pieces p) x (what.PullState p.pid 0) (coming p asker [] Nothing)) (sym answers.2) (goes_whole p asker [] h)),
-    whole p asker [] h,
-  );
-}
+arrives p asker h =
+    let c : Cargo = cargo_of p asker in
+    let end : Arrival = coming c (length p.table) [] Nothing in
+    record {
+      may_ask = let w : IsWhole p = whole_memory p h in (w.least, w.most, h.moves, h.most);
+      arrives = λ old new a asked answers. (
+        end,
+        subst (λ (w : What). Goes c (count_of_pieces c) a w end) (sym answers.3)
+            (subst (λ (x : Arrival). Goes c (count_of_pieces c) x (what.PullState p.pid 0) end) (sym answers.2) (goes_whole c (length p.table) [] (can_come p asker h))),
+        comes_back p asker [] h,
+      );
+    }
 
 is_read_again : (p : Process) → IsLawfulProcess p → IsLawfulShell (length p.table) (shell_of p) → FitsShell (shell_of p) → IsReadAgain p
 unfolding IsReadAgain

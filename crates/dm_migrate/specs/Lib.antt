@@ -4,4 +4,5 @@ pub mod Arrival
 pub mod Answer
 pub mod Asking
 pub mod Coming
+pub mod Cargo
 pub mod Way

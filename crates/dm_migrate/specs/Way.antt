@@ -1,5 +1,5 @@
 -- The whole way of a process, from the machine that it leaves to the one that it comes to.
-use Rattle.std.specs.Prelude.{◌≡◌, ℕ, zero, suc, ◌+◌, ◌*◌, ◌/◌, nat_lt, if◌then◌else◌, List, [], length}
+use Rattle.std.specs.Prelude.{◌≡◌, ℕ, zero, suc, ◌+◌, ◌*◌, ◌/◌, ◌≤◌, nat_lt, if◌then◌else◌, List, [], length}
 use Rattle.std.specs.declared.option.Option.{Option}
 use Rattle.std.specs.declared.option.Option.TheVariants.{None, Some}
 use Rattle.dm_message.specs.declared.Asker.{Asker}
@@ -12,65 +12,78 @@ use Rattle.dm_migrate.specs.declared.answer.Asked.TheVariants.{Accepted}
 use Rattle.dm_migrate.specs.declared.arriving.Wanted.{Wanted}
 use Rattle.dm_migrate.specs.declared.arriving.Wanted.TheVariants.{Chunk, Block, Nothing}
 use Rattle.dm_migrate.specs.Answer.{Answers, IsAskOfProcess}
-use Rattle.dm_migrate.specs.Arrival.{Arrival, IsNextPiece, after_block, after_chunk, expected, memory_come, pull, restarted, state_come, with_piece}
+use Rattle.dm_migrate.specs.Arrival.{Arrival, IsNextPiece, IsStateFor, after_block, after_chunk, expected, memory_come, pull, restarted, state_come, with_piece}
+use Rattle.dm_migrate.specs.Cargo.{Cargo, cargo_of}
 use Rattle.dm_migrate.specs.Departure.{ask_of}
-use Rattle.dm_migrate.specs.Pieces.{HasBlock, HasChunk, block_of, chunk_of, is_last, state_of}
+use Rattle.dm_migrate.specs.Pieces.{HasBlock, HasChunk, block_of, chunk_of, is_last}
 
--- what has come of a process where this is asked for, and these messages are held
-abbrev pub coming : Process → Option Asker → List Message → Wanted → Arrival
-coming p asker held wanted =
+-- what has come of it on a machine whose tables have so many slots, where this is asked for and these messages are held
+abbrev pub coming : Cargo → ℕ → List Message → Wanted → Arrival
+coming c cap held wanted =
     record {
-      pid = p.pid;
-      blocks = length p.memory / 256;
-      moves = p.moves;
-      size = length (state_of p);
-      asker = asker;
-      cap = length p.table;
-      state = state_come wanted (state_of p);
-      memory = memory_come wanted p.memory;
+      pid = c.pid;
+      blocks = length c.memory / 256;
+      moves = c.moves;
+      size = length c.state;
+      asker = c.asker;
+      cap = cap;
+      state = state_come wanted c.state;
+      memory = memory_come wanted c.memory;
       wanted = wanted;
       held = held;
     }
+
+-- such a machine reads its state bytes as what they are of, and its memory is one of whole blocks
+pub record CanCome (c : Cargo) (cap : ℕ) : Type 0 where
+  pub state : IsStateFor (coming c cap [] Nothing) c.state
+  pub some : 1 ≤ length c.state
+  pub whole : length c.memory ≡ 256 * (length c.memory / 256)
+  pub least : 1 ≤ length c.memory / 256
 
 -- the process where it has come to
 abbrev pub moved : Process → Process
 moved p = record p { moves = p.moves + 1; queue = [] }
 
 -- what is asked for is there
-abbrev pub HasPiece : Process → Wanted → Type 0
-HasPiece p (Chunk k) = HasChunk (state_of p) k
-HasPiece p (Block k) = HasBlock p.memory k
-HasPiece p Nothing = Unit {0}
+abbrev pub HasPiece : Cargo → Wanted → Type 0
+HasPiece c (Chunk k) = HasChunk c.state k
+HasPiece c (Block k) = HasBlock c.memory k
+HasPiece c Nothing = Unit {0}
 
--- each piece is the one that is asked for once those before it have come, and then another is, or the process is there
-pub record ComesByPieces (p : Process) (asker : Option Asker) (held : List Message) : Type 0 where
-  pub begins : coming p asker held (Chunk 0) ≡ record (expected p.pid (length p.memory / 256) p.moves (length (state_of p)) asker (length p.table)) { held = held }
-  pub first : HasPiece p (Chunk 0)
-  pub chunk_asked : (k : ℕ) → HasChunk (state_of p) k → IsNextPiece (coming p asker held (Chunk k)) (chunk_of p.pid (state_of p) k)
-  pub chunk_taken : (k : ℕ) → HasChunk (state_of p) k → with_piece (coming p asker held (Chunk k)) (chunk_of p.pid (state_of p) k) ≡ Some (coming p asker held (after_chunk k (is_last (state_of p) k)))
-  pub after_chunk : (k : ℕ) → HasChunk (state_of p) k → HasPiece p (after_chunk k (is_last (state_of p) k))
-  pub block_asked : (k : ℕ) → HasBlock p.memory k → IsNextPiece (coming p asker held (Block k)) (block_of p.pid p.memory k)
-  pub block_taken : (k : ℕ) → HasBlock p.memory k → with_piece (coming p asker held (Block k)) (block_of p.pid p.memory k) ≡ Some (coming p asker held (after_block k (length p.memory / 256)))
-  pub after_block : (k : ℕ) → HasBlock p.memory k → HasPiece p (after_block k (length p.memory / 256))
-  pub whole : restarted (coming p asker held Nothing) ≡ Some (moved p)
+-- each piece is the one that is asked for once those before it have come, and then another is, or all has come
+pub record ComesByPieces (c : Cargo) (cap : ℕ) (held : List Message) : Type 0 where
+  pub begins : coming c cap held (Chunk 0) ≡ record (expected c.pid (length c.memory / 256) c.moves (length c.state) c.asker cap) { held = held }
+  pub first : HasPiece c (Chunk 0)
+  pub chunk_asked : (k : ℕ) → HasChunk c.state k → IsNextPiece (coming c cap held (Chunk k)) (chunk_of c.pid c.state k)
+  pub chunk_taken : (k : ℕ) → HasChunk c.state k → with_piece (coming c cap held (Chunk k)) (chunk_of c.pid c.state k) ≡ Some (coming c cap held (after_chunk k (is_last c.state k)))
+  pub after_chunk : (k : ℕ) → HasChunk c.state k → HasPiece c (after_chunk k (is_last c.state k))
+  pub block_asked : (k : ℕ) → HasBlock c.memory k → IsNextPiece (coming c cap held (Block k)) (block_of c.pid c.memory k)
+  pub block_taken : (k : ℕ) → HasBlock c.memory k → with_piece (coming c cap held (Block k)) (block_of c.pid c.memory k) ≡ Some (coming c cap held (after_block k (length c.memory / 256)))
+  pub after_block : (k : ℕ) → HasBlock c.memory k → HasPiece c (after_block k (length c.memory / 256))
 
--- the piece of a frozen process that a message asks for, if it asks for one and there is such a piece
-abbrev pub piece_for : Process → What → Option What
-piece_for p (what.PullState q k) = if nat_lt (512 * k) (length (state_of p)) then Some (chunk_of p.pid (state_of p) k) else None
-piece_for p (what.PullBlock q k) = if nat_lt (256 * k) (length p.memory) then Some (block_of p.pid p.memory k) else None
-piece_for p _ = None
+-- and what has come in the end is the process
+pub record ComesWhole (p : Process) (asker : Option Asker) (held : List Message) : Type 0 where
+  pub pieces : ComesByPieces (cargo_of p asker) (length p.table) held
+  pub whole : restarted (coming (cargo_of p asker) (length p.table) held Nothing) ≡ Some (moved p)
+
+-- the piece of what is frozen that a message asks for, if it asks for one and there is such a piece
+abbrev pub piece_for : Cargo → What → Option What
+piece_for c (what.PullState q k) = if nat_lt (512 * k) (length c.state) then Some (chunk_of c.pid c.state k) else None
+piece_for c (what.PullBlock q k) = if nat_lt (256 * k) (length c.memory) then Some (block_of c.pid c.memory k) else None
+piece_for c _ = None
 
 -- each piece that is asked for comes and may be taken, so many of them; then the arriving machine says that all has come
-abbrev pub Goes : Process → ℕ → Arrival → What → Arrival → Type 0
-Goes p zero a asked end = (asked ≡ what.AllTaken p.pid) × (a ≡ end)
-Goes p (suc n) a asked end =
-    (piece : What) × (b : Arrival) × (piece_for p asked ≡ Some piece) × IsNextPiece a piece × (with_piece a piece ≡ Some b) × Goes p n b (pull b.pid b.wanted) end
+abbrev pub Goes : Cargo → ℕ → Arrival → What → Arrival → Type 0
+Goes c zero a asked end = (asked ≡ what.AllTaken c.pid) × (a ≡ end)
+Goes c (suc n) a asked end =
+    (piece : What) × (b : Arrival) × (piece_for c asked ≡ Some piece) × IsNextPiece a piece × (with_piece a piece ≡ Some b) × Goes c n b (pull b.pid b.wanted) end
 
--- how many pieces a process has
-abbrev pub count_of_pieces : Process → ℕ
-count_of_pieces p = (length (state_of p) + 511) / 512 + length p.memory / 256
+-- how many pieces it has
+abbrev pub count_of_pieces : Cargo → ℕ
+count_of_pieces c = (length c.state + 511) / 512 + length c.memory / 256
 
 -- where a frozen process may come, all its pieces in turn give the process
 pub record ArrivesWhole (p : Process) (asker : Option Asker) : Type 0 where
   pub may_ask : IsAskOfProcess (ask_of p asker)
-  pub arrives : (old new : Taken) (a : Arrival) (asked : What) → Answers (ask_of p asker) (length p.table) old new (Accepted a asked) → (end : Arrival) × Goes p (count_of_pieces p) a asked end × (restarted end ≡ Some (moved p))
+  pub arrives : (old new : Taken) (a : Arrival) (asked : What) → Answers (ask_of p asker) (length p.table) old new (Accepted a asked)
+      → (end : Arrival) × Goes (cargo_of p asker) (count_of_pieces (cargo_of p asker)) a asked end × (restarted end ≡ Some (moved p))

@@ -8,7 +8,7 @@ ghost use Rattle.dm_process.specs.Lawful.{IsLawfulProcess};
 ghost use Rattle.dm_statebytes.specs.Shell.{shell_of};
 ghost use Rattle.dm_statebytes.specs.Widths.{FitsShell};
 ghost use Rattle.dm_migrate.specs.Departure.{CanMove};
-ghost use Rattle.dm_migrate.specs.Way.{ArrivesWhole, ComesByPieces};
+ghost use Rattle.dm_migrate.specs.Way.{ArrivesWhole, ComesWhole};
 
 /// Every lawful process can move, where its numbers fit their fields, as those of a process that stands in memory do, and
 /// its count of moves isn't the greatest.
@@ -19,7 +19,7 @@ pub fn can_move()
 /// Each piece that a frozen process gives is the one that is asked for, in order, whatever messages are held meanwhile;
 /// and when all have come, they give the process, which has moved once more.
 pub fn comes_by_pieces()
-    ensures { (p : Process) (asker : Option Asker) (held : List Message) → CanMove p → ComesByPieces p asker held }
+    ensures { (p : Process) (asker : Option Asker) (held : List Message) → CanMove p → ComesWhole p asker held }
 {}
 
 /// A process is frozen, its machine asks, the other machine accepts, and each piece that it asks for comes: what is there

@@ -2,6 +2,7 @@ pub mod Names
 pub mod Turning
 pub mod Rooms
 pub mod Recorded
+pub mod Cargoes
 pub mod Kernel
 pub mod Serve
 pub mod Serving

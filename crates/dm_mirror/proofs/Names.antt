@@ -30,7 +30,9 @@ pub use Rattle.dm_statebytes.proofs.Sizes.{numbers_size}
 unfoldable pub use Rattle.dm_statebytes.specs.Shell.{registers, shell_spelling}
 pub use Rattle.dm_migrate.proofs.Names.{All-append, All-cons, Arrival, CanMove, ComesByPieces, Departure, Err, HasBlock, HasChunk, HasPiece, IsNextPiece, PlainWhat, Result, Shell, after_block, after_chunk, block_of, chunk_of, coming}
 pub use Rattle.dm_migrate.proofs.Names.{is_last, map-append, plain_message, plain_what, pull, restarted, sent_on, state_of, with_piece, with_what}
-pub use Rattle.dm_migrate.proofs.Way.{by_pieces}
+pub use Rattle.dm_migrate.proofs.Way.{by_pieces, can_come, comes_back}
+pub use Rattle.dm_migrate.specs.Cargo.{Cargo, ask_for, cargo_of}
+pub use Rattle.dm_migrate.specs.Way.{CanCome, count_of_pieces}
 pub use Rattle.dm_migrate.specs.Answer.{IsAskOfProcess}
 pub use Rattle.dm_switchboard.proofs.Imports.{ArrayVec, Board, Named, named_is_behind, plain_board, plain_link, plain_named, switchboard}
 pub use Rattle.dm_switchboard.proofs.Plain.{plain_request}
@@ -87,6 +89,8 @@ pub use Rattle.dm_rule.proofs.Trails.Within.{forwarded_acting, held_acting, queu
 pub use Rattle.dm_rule.proofs.Turns.{machine_same}
 pub use Rattle.dm_rule.specs.Acts.{Act, act_of}
 pub use Rattle.dm_rule.specs.Ends.{Stood, first_with, standing_of, stood_at}
+pub use Rattle.dm_rule.specs.Holders.{Holder, holder_eq}
+pub use Rattle.dm_message.specs.Sorts.{Sort}
 pub use Rattle.dm_rule.specs.Good.{IsKept, first_undelivered, undelivered}
 pub use Rattle.dm_rule.specs.Migrating.{links_size, status_size}
 pub use Rattle.dm_rule.specs.Rule.{and, blocks_of, taken_at, taken_by, taken_of_home, takes_room}
@@ -182,9 +186,9 @@ pub use Rattle.dm_mirror.specs.Made.{MadeStands}
 pub use Rattle.dm_mirror.specs.Own.{AllOwnStand, OwnStands, about_of, told_of}
 pub use Rattle.dm_mirror.specs.Ran.{Ran, RanBegins, RanGoesOn, RunIsRan, ones}
 pub use Rattle.dm_mirror.specs.Run.{GoesOn, RunStands, Steps, StopsWorn, joined}
-pub use Rattle.dm_mirror.specs.Stands.{AreMessages, ComesStand, CountsStand, HereStands, History, KernelStands, KnownStands, LeavesStand, NodeStands, PairStands, RoomStands, Stands, StandsWith, bytes_of, line_of, load_of, message_id}
+pub use Rattle.dm_mirror.specs.Stands.{AreMessages, CanBeCarried, ComesStand, CountsStand, HereStands, History, KernelStands, KnownStands, LeavesStand, NodeStands, PairStands, RoomStands, Stands, StandsWith, bytes_of, line_of, load_of, message_id}
 pub use Rattle.dm_mirror.specs.Stands.{servers_at, stream_of}
 pub use Rattle.dm_mirror.specs.Todo.{IsDirective, IsTodo, IsTwo}
-pub use Rattle.dm_mirror.specs.Tokens.{AllRecords, Carries, IsAsked, TokenStands, TokensStand, Wants, destination_of}
+pub use Rattle.dm_mirror.specs.Tokens.{AllRecords, Carries, IsAsked, TokenStands, TokensStand, Wants, cargo_at, destination_of}
 pub use Rattle.dm_rule.specs.Addresses.{addresses_by}
 pub use Rattle.dm_rule.specs.Point.{move_target}

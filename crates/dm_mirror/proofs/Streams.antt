@@ -207,5 +207,5 @@ pub tokens_same : (v u : View) (l : Placed) (r s : AllRecords) → ((i : MsgId) 
 tokens_same v u l r s told asked spots records h p i t z is between about st =
     let k = h p i t z (sym (told i) ∙ is) between about (subst (λ (n : ℕ). 1 ≤ n) (spots i z) st) in
     let d : ℕ = destination_of i t in
-    search (subst (λ (n : ℕ). Carries p k.process (l.notes p) n (incoming_of (s d p)) k.message.what) (sym (asked p))
-    (subst (λ (f : Pid → Option machine.KernelKnown). Carries p k.process (l.notes p) (v.asked p) (incoming_of (f p)) k.message.what) (sym (records d)) k.carries))
+    search (subst (λ (n : ℕ). Carries p k.cargo n (incoming_of (s d p)) k.message.what) (sym (asked p))
+    (subst (λ (f : Pid → Option machine.KernelKnown). Carries p k.cargo (v.asked p) (incoming_of (f p)) k.message.what) (sym (records d)) k.carries))

@@ -132,7 +132,6 @@ module _ (b : Boot) (w : WorldState) (pt : Point) (l : Placed) (h : History) (m 
     may = t.may;
     late_may = t.late_may;
     same = λ n. turned_records begun m t.state n;
-    single = t.single;
     topic = t.topic;
     due = spells.1;
     within = λ i z st. subst (λ (p : Point). machine_of z < p.kernel.machines) (sym end_point) (stands_within b group.point ends i z (subst (λ (p : Point). 1 ≤ standing p.view i z) end_point st));

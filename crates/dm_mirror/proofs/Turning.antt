@@ -1,7 +1,7 @@
 -- What a turn says before the messages that it sends are routed.
 use Rattle.dm_mirror.proofs.Names.{◌≡◌, ◌≢◌, ℕ, ◌+◌, ◌≤◌, Bool, true, false, not, ◌==◌, ◌&&◌, List, [], ◌∷◌, ◌++◌, map, is_some, ⊤, Option, None, Some, Pid, place_of, kernel_at, Message, MsgId, MessageKind, Stage, kind_of, plain_message}
-use Rattle.dm_mirror.proofs.Names.{Process, incoming_of, Boot, manager, Step, Line, Receiver, Sender, given, own_given, is_between, Point, after, moved, outcome, at_machine, Spot, Queue, Held, Inbox, Untaken, standing, Known, Here, Frozen}
-use Rattle.dm_mirror.proofs.Names.{Incoming, Ended, Of, Told, own_id, Placed, Mirrors, enclosed, KernelState, Turned, turn, AllOwnStand, about_of, told_of, KernelStands, AllRecords, Carries, TokensStand, destination_of, Part, sort_of}
+use Rattle.dm_mirror.proofs.Names.{Cargo, cargo_at, incoming_of, Boot, manager, Step, Line, Receiver, Sender, given, own_given, is_between, Point, after, moved, outcome, at_machine, Spot, Queue, Held, Inbox, Untaken, standing, Known, Here, Frozen}
+use Rattle.dm_mirror.proofs.Names.{Incoming, Ended, Of, Told, View, ap, arith, own_id, id_of, pid_of, Placed, Mirrors, enclosed, KernelState, Turned, turn, AllOwnStand, about_of, told_of, KernelStands, AllRecords, Carries, TokensStand, destination_of, Part, sort_of}
 use Rattle.dm_rule.specs.Parts as rule
 
 -- behind the head of a turn
@@ -70,14 +70,22 @@ rule_part_of (Own x) = rule.Owns (kind_of x.what) x.to.pid x.to.at
 
 -- a kernel's own message carries what it is to, where it is of a migration
 pub record IsCarried (placed : Placed) (asked : ℕ) (records : AllRecords) (p : Pid) (x : Message) : Type 0 where
-  pub process : Process
-  pub there : placed.processes p ≡ Some process
+  pub cargo : Cargo
+  pub there : cargo_at placed p ≡ Some cargo
   pub sender : x.sender ≡ kernel_at x.id.from.home
-  pub carries : Carries p process (placed.notes p) asked (incoming_of (records (destination_of x.id (told_of x)) p)) x.what
+  pub carries : Carries p cargo asked (incoming_of (records (destination_of x.id (told_of x)) p)) x.what
 
--- the machine's kernel may put its next message, where the machines have these records
-pub record MayOwn (pt : Point) (placed : Placed) (records : AllRecords) (x : Message) : Type 0 where
-  pub id : x.id ≡ own_id pt.view
+-- the name of what the acting machine's kernel says behind so many other messages of its own
+abbrev pub own_behind : View → ℕ → MsgId
+own_behind v j = id_of (pid_of v.acting 0) (v.count v.acting + j)
+
+-- the next of its own is behind none
+pub own_first : (v : View) → own_id v ≡ own_behind v 0
+own_first v = let e : v.count v.acting ≡ v.count v.acting + 0 = omega arith in ap (id_of (pid_of v.acting 0)) e
+
+-- the machine's kernel may put this message behind so many others of its own, where the machines have these records
+pub record MayOwn (pt : Point) (placed : Placed) (records : AllRecords) (j : ℕ) (x : Message) : Type 0 where
+  pub id : x.id ≡ own_behind pt.view j
   pub plain : plain_message x ≡ None
   pub encloses : enclosed x.what ≡ []
   pub bag : placed.bag x.id ≡ None
@@ -89,15 +97,11 @@ pub record MayOwn (pt : Point) (placed : Placed) (records : AllRecords) (x : Mes
   pub asker : kind_of x.what ≡ MessageKind.Migrate → x.sender.pid ≡ manager
   pub carried : is_between (kind_of x.what) ≡ true → (p : Pid) → about_of x.what ≡ Of p → IsCarried placed (pt.view.asked p) records p x
 
--- a message may be put
-abbrev pub MayPut : Point → Placed → AllRecords → Route → Type 0
-MayPut pt placed records (First x) = (placed.bag x.id ≡ Some x) × (is_some (plain_message x) ≡ true)
-MayPut pt placed records (On x) = (placed.bag x.id ≡ Some x) × ((t : Told) × (pt.view.told x.id ≡ Some t) × (t.kind ≡ kind_of x.what) × (t.receiver ≡ x.to.pid)) × (is_between (kind_of x.what) ≡ false)
-MayPut pt placed records (Own x) = MayOwn pt placed records x
-
-abbrev pub AllMayPut : Point → Placed → AllRecords → List Route → Type 0
-AllMayPut pt placed records [] = ⊤
-AllMayPut pt placed records (r ∷ rs) = MayPut pt placed records r × AllMayPut pt placed records rs
+-- a message may be put, behind so many of the kernel's own
+abbrev pub MayPut : Point → Placed → AllRecords → ℕ → Route → Type 0
+MayPut pt placed records j (First x) = (placed.bag x.id ≡ Some x) × (is_some (plain_message x) ≡ true)
+MayPut pt placed records j (On x) = (placed.bag x.id ≡ Some x) × ((t : Told) × (pt.view.told x.id ≡ Some t) × (t.kind ≡ kind_of x.what) × (t.receiver ≡ x.to.pid)) × (is_between (kind_of x.what) ≡ false)
+MayPut pt placed records j (Own x) = MayOwn pt placed records j x
 
 -- where a process leaves, its machine's last line and message stand behind the messages that go on
 pub data Late : Type 0 where
@@ -125,13 +129,18 @@ abbrev pub owns : List Route → ℕ
 owns [] = 0
 owns (r ∷ rs) = is_own r + owns rs
 
+-- they may be put one after the other, behind so many of the kernel's own
+abbrev pub AllMayPut : Point → Placed → AllRecords → ℕ → List Route → Type 0
+AllMayPut pt placed records j [] = ⊤
+AllMayPut pt placed records j (r ∷ rs) = MayPut pt placed records j r × AllMayPut pt placed records (j + is_own r) rs
+
 abbrev pub late_owns : Late → ℕ
 late_owns Nothing = 0
 late_owns (Leaves p x) = 1
 
-abbrev pub LateMay : Point → Placed → AllRecords → Late → Type 0
-LateMay pt placed records Nothing = ⊤
-LateMay pt placed records (Leaves p x) = MayOwn pt placed records x
+abbrev pub LateMay : Point → Placed → AllRecords → ℕ → Late → Type 0
+LateMay pt placed records j Nothing = ⊤
+LateMay pt placed records j (Leaves p x) = MayOwn pt placed records j x
 
 -- the lines name the process that leaves before its messages go on
 abbrev pub LateTopic : Point → Late → Type 0
@@ -154,12 +163,10 @@ pub record Turns (b : Boot) (m : ℕ) (d : Step) (turned : Option Turned) (pt st
   pub kernel : KernelStands b (late_point next late) placed m state
   -- the kernel of the machine has counted its own messages of this turn already
   pub sent : k.sent ≡ pt.view.count m → state.sent ≡ next.view.count m + (owns routes + late_owns late)
-  -- at most one message is the kernel's own
-  pub single : owns routes + late_owns late ≤ 1
   pub topic : LateTopic next late
   pub elsewhere : Elsewhere m start l (late_point next late) placed
-  pub may : AllMayPut (late_point next late) placed (at_machine records m state.records) routes
-  pub late_may : LateMay (late_point next late) placed (at_machine records m state.records) late
+  pub may : AllMayPut (late_point next late) placed (at_machine records m state.records) 0 routes
+  pub late_may : LateMay (late_point next late) placed (at_machine records m state.records) (owns routes) late
   pub own : AllOwnStand (late_point next late).view placed
   pub tokens : TokensStand (late_point next late).view placed (at_machine records m state.records)
 

@@ -17,6 +17,7 @@ use Rattle.dm_stream.specs.Order as order
 use Rattle.dm_packet.specs.Packets.{spelling}
 use Rattle.dm_wire.specs.Sent as wire
 use Rattle.dm_process.specs.declared.process.Process.{Process}
+use Rattle.dm_migrate.specs.Cargo.{Cargo, cargo_of}
 use Rattle.dm_migrate.specs.Departure.{CanMove, Departure}
 use Rattle.dm_migrate.specs.Arrival.{Arrival}
 use Rattle.dm_migrate.specs.Way.{coming}
@@ -27,6 +28,7 @@ use Rattle.dm_kernel.specs.State as machine
 use Rattle.dm_kernel.specs.State.{KernelState}
 use Rattle.dm_kernel.specs.Begun.{room_of}
 use Rattle.dm_kernel.specs.Lawful.{IsLawfulState}
+use Rattle.dm_kernel.specs.May.{IsSuch}
 use Rattle.dm_node.specs.State.{NodeState}
 use Rattle.dm_node.specs.Out.{packet_of_load}
 use Rattle.dm_line.specs.declared.line.Load.{Load}
@@ -38,7 +40,7 @@ use Rattle.dm_rulelaws.specs.Fits.{is_server}
 use Rattle.dm_places.specs.Placed.{Placed, Mirrors}
 use Rattle.dm_world.specs.World.{WorldState}
 use Rattle.dm_mirror.specs.Own.{AllOwnStand}
-use Rattle.dm_mirror.specs.Tokens.{TokensStand}
+use Rattle.dm_mirror.specs.Tokens.{TokensStand, cargo_at}
 
 -- these are the messages with these names
 abbrev pub AreMessages : (MsgId → Option Message) → List MsgId → List Message → Type 0
@@ -51,18 +53,22 @@ HereStands l p queue x = ((q : List Message) × (l.processes p ≡ Some (record 
 -- a process that leaves for a machine is held back there, and can be carried whole
 pub record LeavesStand (l : Placed) (p : Pid) (queue held_ : List MsgId) (at : ℕ) (d : Departure) : Type 0 where
   pub to : d.to ≡ at
-  pub asker : d.asker ≡ l.notes p
+  -- what moves, and so who waits to hear of it
+  pub cargo : cargo_at l p ≡ Some (cargo_of d.process d.asker)
   pub here : HereStands l p queue d.process
   pub held : AreMessages l.bag held_ d.held
   pub whole : CanMove d.process
 
--- of a process that comes there are the pieces up to the one that is asked for
+-- a process can be carried whole, whatever waits for it, to a machine whose tables have so many slots
+abbrev pub CanBeCarried : ℕ → Process → Type 0
+CanBeCarried cap x = CanMove (record x { queue = [] }) × (cap ≡ length x.table)
+
+-- of what comes there are the pieces up to the one that is asked for
 pub record ComesStand (l : Placed) (p : Pid) (held_ : List MsgId) (a : Arrival) : Type 0 where
-  pub process : Process
-  pub there : l.processes p ≡ Some process
-  -- whatever waits for it
-  pub whole : CanMove (record process { queue = [] })
-  pub pieces : a ≡ coming process (l.notes p) a.held a.wanted
+  pub cargo : Cargo
+  pub there : cargo_at l p ≡ Some cargo
+  pub whole : IsSuch (CanBeCarried a.cap) (l.processes p)
+  pub pieces : a ≡ coming cargo a.cap a.held a.wanted
   pub held : AreMessages l.bag held_ a.held
 
 -- what a machine knows of a process is what the lines say

@@ -1,10 +1,9 @@
 -- What the one message of a migration that is under way carries: the ask, a piece that is asked for, or a piece.
-use Rattle.std.specs.Prelude.{◌≡◌, ⊤, ℕ, ◌+◌, ◌/◌, ◌≤◌, true, if◌then◌else◌, length}
+use Rattle.std.specs.Prelude.{◌≡◌, ⊤, ℕ, ◌+◌, ◌/◌, ◌≤◌, true, if◌then◌else◌, length, option_map}
 use Rattle.std.specs.declared.option.Option.{Option}
 use Rattle.std.specs.declared.option.Option.TheVariants.{None, Some}
 use Rattle.dm_link.specs.declared.Pid.{Pid}
 use Rattle.dm_linkupdate.specs.Notice.{kernel_at}
-use Rattle.dm_message.specs.declared.Asker.{Asker}
 use Rattle.dm_message.specs.declared.Message.{Message}
 use Rattle.dm_message.specs.declared.MsgId.{MsgId}
 use Rattle.dm_message.specs.declared.What.{What}
@@ -14,8 +13,8 @@ use Rattle.dm_records.specs.Records.{incoming_of}
 use Rattle.dm_migrate.specs.declared.arriving.Wanted.{Wanted}
 use Rattle.dm_migrate.specs.declared.arriving.Wanted.TheVariants.{Chunk, Block, Nothing}
 use Rattle.dm_migrate.specs.Arrival.{Arrival}
-use Rattle.dm_migrate.specs.Departure.{ask_of}
-use Rattle.dm_migrate.specs.Pieces.{HasBlock, HasChunk, block_of, chunk_of, state_of}
+use Rattle.dm_migrate.specs.Cargo.{Cargo, ask_for, cargo_of}
+use Rattle.dm_migrate.specs.Pieces.{HasBlock, HasChunk, block_of, chunk_of}
 use Rattle.dm_kernel.specs.State as machine
 use Rattle.dm_rule.specs.Phases.{is_between, tells_onward}
 use Rattle.dm_rule.specs.Spots.{Spot, standing}
@@ -24,44 +23,48 @@ use Rattle.dm_places.specs.Placed.{Placed}
 use Rattle.dm_message.specs.Sorts.{sort_of}
 
 -- this is what is asked for once so many pieces were, first the chunks of the state and then the blocks, and it is there
-abbrev pub IsAsked : Process → ℕ → Wanted → Type 0
-IsAsked x n (Chunk k) = (n ≡ k + 1) × HasChunk (state_of x) k
-IsAsked x n (Block k) = (n ≡ (length (state_of x) + 511) / 512 + k + 1) × HasBlock x.memory k
-IsAsked x n Nothing = ⊤
+abbrev pub IsAsked : Cargo → ℕ → Wanted → Type 0
+IsAsked c n (Chunk k) = (n ≡ k + 1) × HasChunk c.state k
+IsAsked c n (Block k) = (n ≡ (length c.state + 511) / 512 + k + 1) × HasBlock c.memory k
+IsAsked c n Nothing = ⊤
 
 -- where it comes to, this is asked for
 abbrev pub Wants : Option Arrival → Wanted → Type 0
 Wants None w = ⊥
 Wants (Some a) w = a.wanted ≡ w
 
--- what the message carries, where so many pieces were asked for, and this one waits to hear how the move ends, if somebody does
-abbrev pub Carries : Pid → Process → Option Asker → ℕ → Option Arrival → What → Type 0
-Carries p x k n a (what.Ask pid blocks moves size asker) = what.Ask pid blocks moves size asker ≡ ask_of x k
-Carries p x k n a (what.Refuse pid slots blocks) = pid ≡ p
-Carries p x k n a (what.PullState pid chunk) = (pid ≡ p) × IsAsked x n (Chunk chunk) × Wants a (Chunk chunk)
-Carries p x k n a (what.State pid chunk last bytes) = (what.State pid chunk last bytes ≡ chunk_of x.pid (state_of x) chunk) × IsAsked x n (Chunk chunk) × Wants a (Chunk chunk)
-Carries p x k n a (what.PullBlock pid block) = (pid ≡ p) × IsAsked x n (Block block) × Wants a (Block block)
-Carries p x k n a (what.Memory pid block bytes) = (what.Memory pid block bytes ≡ block_of x.pid x.memory block) × IsAsked x n (Block block) × Wants a (Block block)
-Carries p x k n a (what.AllTaken pid) = (pid ≡ p) × Wants a Nothing
-Carries p x k n a (what.Restart pid) = (pid ≡ p) × Wants a Nothing
-Carries p x k n a w = ⊥
+-- what the message carries, where this is what moves and so many pieces of it were asked for
+abbrev pub Carries : Pid → Cargo → ℕ → Option Arrival → What → Type 0
+Carries p c n a (what.Ask pid blocks moves size asker) = what.Ask pid blocks moves size asker ≡ ask_for c
+Carries p c n a (what.Refuse pid slots blocks) = pid ≡ p
+Carries p c n a (what.PullState pid chunk) = (pid ≡ p) × IsAsked c n (Chunk chunk) × Wants a (Chunk chunk)
+Carries p c n a (what.State pid chunk last bytes) = (what.State pid chunk last bytes ≡ chunk_of c.pid c.state chunk) × IsAsked c n (Chunk chunk) × Wants a (Chunk chunk)
+Carries p c n a (what.PullBlock pid block) = (pid ≡ p) × IsAsked c n (Block block) × Wants a (Block block)
+Carries p c n a (what.Memory pid block bytes) = (what.Memory pid block bytes ≡ block_of c.pid c.memory block) × IsAsked c n (Block block) × Wants a (Block block)
+Carries p c n a (what.AllTaken pid) = (pid ≡ p) × Wants a Nothing
+Carries p c n a (what.Restart pid) = (pid ≡ p) × Wants a Nothing
+Carries p c n a w = ⊥
 
 -- the machine that the process comes to: the source's messages go there, and the others come from there
 abbrev pub destination_of : MsgId → Told → ℕ
 destination_of i t = if tells_onward (sort_of t.kind) then t.receiver.home else i.from.home
+
+-- what moves where a process does, as the kernel with places has it
+abbrev pub cargo_at : Placed → Pid → Option Cargo
+cargo_at l p = option_map (λ (x : Process). cargo_of x (l.notes p)) (l.processes p)
 
 -- what each machine knows of each process
 abbrev pub AllRecords : Type 0
 AllRecords = ℕ → Pid → Option machine.KernelKnown
 
 pub record TokenStands (v : View) (l : Placed) (records : AllRecords) (p : Pid) (i : MsgId) (t : Told) : Type 0 where
-  pub process : Process
-  pub there : l.processes p ≡ Some process
+  pub cargo : Cargo
+  pub there : cargo_at l p ≡ Some cargo
   pub message : Message
   pub is : l.bag i ≡ Some message
   -- it comes from a kernel
   pub sender : message.sender ≡ kernel_at i.from.home
-  pub carries : Carries p process (l.notes p) (v.asked p) (incoming_of (records (destination_of i t) p)) message.what
+  pub carries : Carries p cargo (v.asked p) (incoming_of (records (destination_of i t) p)) message.what
 
 abbrev pub TokensStand : View → Placed → AllRecords → Type 0
 TokensStand v l records = (p : Pid) (i : MsgId) (t : Told) (z : Spot) → v.told i ≡ Some t → is_between t.kind ≡ true → t.about ≡ Of p → 1 ≤ standing v i z → TokenStands v l records p i t

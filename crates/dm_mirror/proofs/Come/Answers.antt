@@ -20,6 +20,7 @@ use Rattle.dm_mirror.proofs.Handle.Taking.{pid_apart as pid_off, some_same}
 use Rattle.dm_mirror.proofs.Come.Restarts.{turns_restart}
 use Rattle.dm_mirror.proofs.Handle.Kills.{free_of as free_as}
 unfoldable use Rattle.dm_migrate.specs.Departure.{IsReadAgain}
+use Rattle.dm_mirror.proofs.Names.{Cargo, CanBeCarried, ask_for, IsSuch}
 
 -- the machine that it leaves holds it back
 frozen_is : (d : ℕ) (n : Known) → kind_leaves MessageKind.Ask d n ≡ true → (to : ℕ) × (n ≡ Frozen to)
@@ -55,7 +56,7 @@ pub can_come : (b : Boot) (m : ℕ) (pt : Point) (l : Placed) (records : AllReco
 can_come b m pt l records k y p c a is nodes =
     let (to, frozen) = leaves_where b m pt l k y p a is in
     let (z, stands) = nodes a.source (c.run.found.known_within a.source p (λ e. frozen_unknown to (sym frozen ∙ e))) in
-    can_by b pt l a.source to z p a.process frozen a.server stands a.there
+    can_by b pt l a.source to z p a.process frozen a.server stands a.is_process
 
 -- nothing of it is here
 record Absent (n : Known) : Type 0 where
@@ -142,11 +143,13 @@ accepts_row b m pt l records k y p c a is handles some_ whole table =
     let next = come_point pt (come_view v m p box now asked) in
     let new = expected p (length x.memory / 256) x.moves (length (state_of x)) (l.notes p) (slots_of b.format) in
     let state = machine.with_sent (with_expected b s p (length x.memory / 256) x.moves (length (state_of x)) (l.notes p)) in
-    let pieces : new ≡ coming x (l.notes p) [] (Chunk 0) = λ i. expected (sym a.named i) (length x.memory / 256) x.moves (length (state_of x)) (l.notes p) (sym table i) in
+    let named : x.pid ≡ p = ap (λ (z : Cargo). z.pid) a.is_cargo ∙ a.named in
+    let pieces : new ≡ coming a.cargo (slots_of b.format) [] (Chunk 0) =
+    (λ i. expected (sym named i) (length x.memory / 256) x.moves (length (state_of x)) (l.notes p) (slots_of b.format)) ∙ ap (λ (z : Cargo). coming z (slots_of b.format) [] (Chunk 0)) a.is_cargo in
     let there : state.records p ≡ Some (Record.Incoming new) = ap (λ (d : Bool). if d then Some (Record.Incoming new) else k.records p) (pid_eq-same p) in
     let one : asked p ≡ 1 = ap (λ (d : Bool). if d then 1 else v.asked p) (pid_eq-same p) in
     let held : v.held m p ≡ [] = c.run.based.lists.held m p none.held in
-    let first : HasChunk (state_of x) 0 = (let least = whole.least in omega (arith, least)) in
+    let first : HasChunk a.cargo.state 0 = subst (λ (z : Cargo). HasChunk z.state 0) a.is_cargo (let least = whole.least in let some : HasChunk (state_of x) 0 = omega (arith, least) in some) in
     turns_answer b m pt l records k y p c a (record {
       line = Line.Migration Stage.Accepted p;
       what = What.PullState p 0;
@@ -173,14 +176,14 @@ accepts_row b m pt l records k y p c a is handles some_ whole table =
       mine =
           subst (λ (n : Known). KnownStands next l p (v.queue m p) (v.held m p) n (state.records p)) (sym (record_self v.known m p (Incoming from)))
           (subst (KnownStands next l p (v.queue m p) (v.held m p) (Incoming from)) (sym there)
-          (record { process = x; there = a.there; whole = whole; pieces = pieces; held = ap (map l.bag) held }));
+          (record { cargo = a.cargo; there = a.there; whole = subst (IsSuch (CanBeCarried (slots_of b.format))) (sym a.is_process) (whole, sym table); pieces = pieces; held = ap (map l.bag) held }));
       between = refl;
       is_reply = refl;
       about = refl;
       plain = refl;
       encloses = refl;
       gives = λ w i q. refl;
-      carries = subst (λ (o : Option machine.KernelKnown). Carries p x (l.notes p) (asked p) (incoming_of o) (What.PullState p 0)) (sym there)
+      carries = subst (λ (o : Option machine.KernelKnown). Carries p a.cargo (asked p) (incoming_of o) (What.PullState p 0)) (sym there)
           (refl, (one, first), refl);
     })
 
@@ -196,13 +199,13 @@ turns_ask b m pt l records k y p q blocks moves size asker c e nodes tables =
     let a = arrives b m pt l records k y p c in
     let x = a.process in
     let s = record k { inbox = c.rest } in
-    let carried = subst (λ (w : What). Carries p x (l.notes p) (pt.view.asked p) (incoming_of (k.records p)) w) e a.carries in
+    let carried = subst (λ (w : What). Carries p a.cargo (pt.view.asked p) (incoming_of (k.records p)) w) e a.carries in
     let is : kind_of y.what ≡ MessageKind.Ask = ap kind_of e in
     let free = free_as k.room (slice_get b.machines m) (taken_at pt m pt.kernel.machines) c.stands.room in
-    ask_by b m pt l records k y p c a (rule.has_room (free_room b pt m) (length x.memory / 256)) is (ap (kernel_handles b s y) (e ∙ carried)
-    ∙ ap (λ (z : Pid). accepts b s y z (length x.memory / 256) x.moves (length (state_of x)) (l.notes p) (room_.has_room k.room (length x.memory / 256))) a.named
+    ask_by b m pt l records k y p c a (rule.has_room (free_room b pt m) (length x.memory / 256)) is (ap (kernel_handles b s y) (e ∙ carried ∙ ap ask_for (sym a.is_cargo))
+    ∙ ap (λ (z : Pid). accepts b s y z (length x.memory / 256) x.moves (length (state_of x)) (l.notes p) (room_.has_room k.room (length x.memory / 256))) (ap (λ (z : Cargo). z.pid) a.is_cargo ∙ a.named)
     ∙ ap (accepts b s y p (length x.memory / 256) x.moves (length (state_of x)) (l.notes p)) (λ i. nat_le 1 (free.0 i) && nat_le (length x.memory / 256) (free.1 i)))
-    refl (can_come b m pt l records k y p c a is nodes) (tables x a.there)
+    refl (can_come b m pt l records k y p c a is nodes) (tables x a.is_process)
 
 -- A turn that handles what the machine that a process leaves tells the machine that it comes to.
 

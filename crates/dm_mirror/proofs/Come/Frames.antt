@@ -9,6 +9,8 @@ use Rattle.dm_rule.proofs.QuietTests.{eq_is}
 use Rattle.dm_onekernel.specs.Step as kernel
 use Rattle.dm_mirror.proofs.Leave.Goes.{life_some as alive_made}
 use Rattle.dm_mirror.proofs.Handle.Taking.{some_same}
+use Rattle.dm_mirror.proofs.Names.{◌<◌, Cargo, cargo_at, cargo_of}
+use Rattle.dm_mirror.proofs.Cargoes.{IsCargoOf, is_cargo_of}
 
 -- machine m, with kernel k, has at its inbox's front message y, which the machine that process p leaves sends
 pub record Comes (b : Boot) (m : ℕ) (pt : Point) (l : Placed) (records : AllRecords) (k : KernelState) (y : Message) (p : Pid) : Type 0 where
@@ -44,10 +46,14 @@ pub record Arrives (b : Boot) (m : ℕ) (pt : Point) (l : Placed) (k : KernelSta
   pub to : y.to.pid ≡ pid_of m 0
   pub from : y.id.from ≡ pid_of source 0
   pub sender : y.sender ≡ kernel_at y.id.from.home
+  pub cargo : Cargo
+  pub there : cargo_at l p ≡ Some cargo
+  pub carries : Carries p cargo (pt.view.asked p) (incoming_of (k.records p)) y.what
+  pub named : cargo.pid ≡ p
+  -- the process that it is of
   pub process : Process
-  pub there : l.processes p ≡ Some process
-  pub carries : Carries p process (l.notes p) (pt.view.asked p) (incoming_of (k.records p)) y.what
-  pub named : process.pid ≡ p
+  pub is_process : l.processes p ≡ Some process
+  pub is_cargo : cargo_of process (l.notes p) ≡ cargo
   pub alive : kernel.alive (pt.kernel.processes p) ≡ Some (plain_process process)
   pub is_made : is_some (pt.kernel.processes p) ≡ true
   pub server : is_server p ≡ false
@@ -115,14 +121,15 @@ arrives b m pt l records k y p c =
     let token = c.tokens p y.id (told_of y) (Inbox m) stood.told c.between c.about first in
     let same : token.message ≡ y = some_same token.message y (sym token.is ∙ c.there) in
     let records_is : records (destination_of y.id (told_of y)) p ≡ k.records p = ap (λ (n : ℕ). records n p) (destination_is m y c.of_source t.to) ∙ (λ i. c.mine i p) in
-    let alive : kernel.alive (pt.kernel.processes p) ≡ Some (plain_process token.process) = c.mirrors.plain.processes p ∙ ap (option_map plain_process) token.there in
-    let is_made = alive_made (pt.kernel.processes p) (plain_process token.process) alive in
+    let of : IsCargoOf (l.processes p) (l.notes p) token.cargo = is_cargo_of (l.processes p) (l.notes p) token.cargo token.there in
+    let alive : kernel.alive (pt.kernel.processes p) ≡ Some (plain_process of.process) = c.mirrors.plain.processes p ∙ ap (option_map plain_process) of.there in
+    let is_made = alive_made (pt.kernel.processes p) (plain_process of.process) alive in
     search (
       sym (c.mirrors.plain.bag y.id) ∙ ap (λ (o : Option Message). bind o plain_message) c.there ∙ c.plain,
       sym (ap (λ (x : Message). x.sender) same) ∙ token.sender,
-      subst (λ (x : Message). Carries p token.process (l.notes p) (pt.view.asked p) (incoming_of (k.records p)) x.what) same
-          (subst (λ o. Carries p token.process (l.notes p) (pt.view.asked p) (incoming_of o) token.message.what) records_is token.carries),
-      (c.mirrors.places.process p token.process token.there).pid,
+      subst (λ (x : Message). Carries p token.cargo (pt.view.asked p) (incoming_of (k.records p)) x.what) same
+          (subst (λ o. Carries p token.cargo (pt.view.asked p) (incoming_of o) token.message.what) records_is token.carries),
+      ap (λ (z : Cargo). z.pid) (sym of.is) ∙ (c.mirrors.places.process p of.process of.there).pid,
       (let e_ : is_server p ≡ false = grind (arith, nat_tests, c.run.based.phased.sane.sound.made) in e_),
     )
 
@@ -145,27 +152,34 @@ shell_length s sixteen = grind (arith, nat_tests, flat_map, length-append, regis
 pub chunks_same : (x : Process) → length x.regs.r ≡ 16 → (length (state_of x) + 511) / 512 ≡ chunks_of (plain_process x)
 chunks_same x sixteen = ap (λ (n : ℕ). (n + 511) / 512) (shell_length (shell_of x) sixteen)
 
+pub pieces_same : (x : Process) → length x.regs.r ≡ 16 → (length (state_of x) + 511) / 512 + length x.memory / 256 ≡ pieces_of (plain_process x)
+pieces_same x sixteen = ap (λ (n : ℕ). n + length x.memory / 256) (chunks_same x sixteen)
+
 least_of : (a c : ℕ) → nat_le a c ≡ true → a ≤ c
 least_of a c e = grind (arith, nat_tests)
 
 -- a chunk is the last where as many were asked for as there are
-pub chunk_last : (x : Process) (n k : ℕ) → length x.regs.r ≡ 16 → IsAsked x n (Chunk k) → (n == chunks_of (plain_process x)) ≡ is_last (state_of x) k
-chunk_last x n k sixteen asked =
-    ap (λ (c : ℕ). n == c) (sym (chunks_same x sixteen)) ∙ (let e_ : (n == ((length (state_of x)) + 511) / 512) ≡ (is_last (state_of x) k) = grind (arith, nat_tests, least_of, eq_is, asked.0, asked.1) in e_)
+pub chunk_last : (c : Cargo) (n k chunks : ℕ) → (length c.state + 511) / 512 ≡ chunks → IsAsked c n (Chunk k) → (n == chunks) ≡ is_last c.state k
+chunk_last c n k chunks e asked =
+    ap (λ (d : ℕ). n == d) (sym e) ∙ (let e_ : (n == (length c.state + 511) / 512) ≡ (is_last c.state k) = grind (arith, nat_tests, least_of, eq_is, asked.0, asked.1) in e_)
 
 -- what is asked for then
-pub chunk_next : (last : Bool) (x : Process) (n k : ℕ) → nat_le (length (state_of x)) (512 * (k + 1)) ≡ last → IsAsked x n (Chunk k) → HasPiece x (after_chunk k last) → IsAsked x (n + 1) (after_chunk k last)
-chunk_next true x n k e asked there =
-    let f : (length (state_of x) + 511) / 512 ≡ k + 1 = (let g = least_of (length (state_of x)) (512 * (k + 1)) e in let h = asked.1 in omega (arith, g, h)) in
+pub chunk_next : (last : Bool) (c : Cargo) (n k : ℕ) → nat_le (length c.state) (512 * (k + 1)) ≡ last → IsAsked c n (Chunk k) → HasPiece c (after_chunk k last) → IsAsked c (n + 1) (after_chunk k last)
+chunk_next true c n k e asked there =
+    let f : (length c.state + 511) / 512 ≡ k + 1 = (let g = least_of (length c.state) (512 * (k + 1)) e in let h = asked.1 in omega (arith, g, h)) in
     (omega (arith, f, asked.0), there)
-chunk_next false x n k e asked there = (omega (arith, asked.0), there)
+chunk_next false c n k e asked there = (omega (arith, asked.0), there)
 
-pub block_last : (x : Process) (n j : ℕ) → length x.regs.r ≡ 16 → length x.memory ≡ 256 * (length x.memory / 256) → IsAsked x n (Block j) → (n == pieces_of (plain_process x)) ≡ not (nat_lt (j + 1) (length x.memory / 256))
-block_last x n j sixteen whole asked = grind (arith, nat_tests, chunks_same, nat_lt)
+-- a piece behind all the chunks is the last where as many were asked for as there are
+piece_last : (n pieces chunks blocks j : ℕ) → n ≡ chunks + j + 1 → chunks + blocks ≡ pieces → j < blocks → (n == pieces) ≡ not (nat_lt (j + 1) blocks)
+piece_last n pieces chunks blocks j e f less = grind (arith, nat_tests)
 
-block_next : (more : Bool) (x : Process) (n j : ℕ) → IsAsked x n (Block j) → HasPiece x (if more then Block (j + 1) else Nothing) → IsAsked x (n + 1) (if more then Block (j + 1) else Nothing)
-block_next true x n j asked there = (omega (arith, asked.0), there)
-block_next false x n j asked there = tt
+pub block_last : (c : Cargo) (n j pieces : ℕ) → (length c.state + 511) / 512 + length c.memory / 256 ≡ pieces → length c.memory ≡ 256 * (length c.memory / 256) → IsAsked c n (Block j) → (n == pieces) ≡ not (nat_lt (j + 1) (length c.memory / 256))
+block_last c n j pieces e whole asked = piece_last n pieces ((length c.state + 511) / 512) (length c.memory / 256) j asked.0 e (let there = asked.1 in omega (arith, there, whole))
 
-pub asked_after_block : (x : Process) (n j : ℕ) → IsAsked x n (Block j) → HasPiece x (after_block j (length x.memory / 256)) → IsAsked x (n + 1) (after_block j (length x.memory / 256))
-asked_after_block x n j asked there = block_next (nat_lt (j + 1) (length x.memory / 256)) x n j asked there
+block_next : (more : Bool) (c : Cargo) (n j : ℕ) → IsAsked c n (Block j) → HasPiece c (if more then Block (j + 1) else Nothing) → IsAsked c (n + 1) (if more then Block (j + 1) else Nothing)
+block_next true c n j asked there = (omega (arith, asked.0), there)
+block_next false c n j asked there = tt
+
+pub asked_after_block : (c : Cargo) (n j : ℕ) → IsAsked c n (Block j) → HasPiece c (after_block j (length c.memory / 256)) → IsAsked c (n + 1) (after_block j (length c.memory / 256))
+asked_after_block c n j asked there = block_next (nat_lt (j + 1) (length c.memory / 256)) c n j asked there

@@ -7,7 +7,7 @@ use Rattle.dm_mirror.proofs.Names.{takes_block, takes_chunk, Wants, Asker, sort_
 use Rattle.dm_rule.proofs.Names.{Part}
 use Rattle.dm_kernel.specs.declared.part.Part.TheVariants as part
 use Rattle.dm_kernel.specs.State as machine
-use Rattle.dm_mirror.proofs.Come.Frames.{Arrives, Comes, arrives, asked_after_block, block_last, chunk_last, chunk_next}
+use Rattle.dm_mirror.proofs.Come.Frames.{Arrives, Comes, arrives, asked_after_block, block_last, chunk_last, chunk_next, chunks_same, pieces_same}
 use Rattle.dm_mirror.proofs.Come.Turns.{come_point, come_view, turns_answer, eq_self}
 use Rattle.dm_mirror.proofs.Recorded.{recorded}
 use Rattle.dm_mirror.proofs.Rooms.{taken_same}
@@ -15,6 +15,8 @@ use Rattle.dm_mirror.proofs.Turning.{TurnsAt, begun}
 use Rattle.dm_mirror.proofs.Kernel.Sets.{on_if as if_true}
 use Rattle.dm_mirror.proofs.Follow.Fronts.{front_gone, set_self}
 use Rattle.dm_mirror.proofs.Handle.Taking.{some_same}
+use Rattle.dm_mirror.proofs.Names.{Cargo, CanCome, CanBeCarried, IsSuch}
+use Rattle.dm_mirror.proofs.Cargoes.{same_cargo, cargo_comes}
 
 pub turn_kernel : (b : Boot) (m : ℕ) (pt : Point) (l : Placed) (records : AllRecords) (k : KernelState) (y : Message) (p : Pid) (c : Comes b m pt l records k y p) (a : Arrives b m pt l k y p) (o : Option Turned) → kernel_handles b (record k { inbox = c.rest }) y y.what ≡ o → turn b k ≡ o
 turn_kernel b m pt l records k y p c a o e = grind (arith, nat_tests, if_true)
@@ -48,9 +50,9 @@ told_about b m pt l records k y p c a = a.told ∙ ap (λ (x : About). Some (rec
 
 -- A piece comes of a process that comes, and the next is asked for, or all is said to have come.
 
-pull_carries : (p : Pid) (x : Process) (k : Option Asker) (n : ℕ) (held : List Message) (w : Wanted) → x.pid ≡ p → IsAsked x n w → Carries p x k n (Some (coming x k held w)) (pull x.pid w)
-pull_carries p x k n held Nothing named asked = (named, refl)
-pull_carries p x k n held _ named asked = (named, asked, refl)
+pull_carries : (p : Pid) (c : Cargo) (n cap : ℕ) (held : List Message) (w : Wanted) → c.pid ≡ p → IsAsked c n w → Carries p c n (Some (coming c cap held w)) (pull c.pid w)
+pull_carries p c n cap held Nothing named asked = (named, refl)
+pull_carries p c n cap held _ named asked = (named, asked, refl)
 
 -- where other records are, a machine's room is as it was
 pub room_kept : (b : Boot) (pt : Point) (m : ℕ) (p : Pid) (box : List MsgId) (asked : Pid → ℕ) (l : Placed) (records : AllRecords) (k : KernelState) (y : Message) (c : Comes b m pt l records k y p)
@@ -63,38 +65,37 @@ pub record Piece (b : Boot) (m : ℕ) (pt : Point) (l : Placed) (records : AllRe
   pub late : is_early (kind_of y.what) ≡ false
   pub arrival : Arrival
   pub is : k.records p ≡ Some (Record.Incoming arrival)
-  pub whole : CanMove (record a.process { queue = [] })
   pub held : ComesStand l p (pt.view.held m p) arrival
   pub wanted : Wanted
   pub line : Line
   pub box : List MsgId
   pub asked : Pid → ℕ
   pub takes : kernel_handles b (record k { inbox = c.rest }) y y.what ≡ bind (incoming_of (k.records p)) (takes_piece (record k { inbox = c.rest }) y p)
-  pub took : with_piece arrival y.what ≡ Some (coming a.process (l.notes p) arrival.held wanted)
+  pub took : with_piece arrival y.what ≡ Some (coming a.cargo arrival.cap arrival.held wanted)
   pub says : piece_line y.id p wanted ≡ line
-  pub told : told_step pt m y.id p (fits (free_room b pt m) (length a.process.memory / 256)) (plain_process a.process) (sort_of (kind_of y.what)) ≡ Some (Part.Says line ∷ to_kernel (kind_of (pull a.process.pid wanted)) y.id.from.home ∷ [])
+  pub told : told_step pt m y.id p (fits (free_room b pt m) (length a.process.memory / 256)) (plain_process a.process) (sort_of (kind_of y.what)) ≡ Some (Part.Says line ∷ to_kernel (kind_of (pull a.cargo.pid wanted)) y.id.from.home ∷ [])
   pub after : after (begun pt m) (line ∷ []) ≡ Some (come_point pt (come_view pt.view m p box pt.view.known asked))
   pub is_box : box ≡ c.ids
   pub asked_off : (q : Pid) → pid_eq p q ≡ false → asked q ≡ pt.view.asked q
-  pub is_asked : IsAsked a.process (asked p) wanted
+  pub is_asked : IsAsked a.cargo (asked p) wanted
 
 pub turns_piece : (b : Boot) (m : ℕ) (pt : Point) (l : Placed) (records : AllRecords) (k : KernelState) (y : Message) (p : Pid) (c : Comes b m pt l records k y p) (a : Arrives b m pt l k y p) → Piece b m pt l records k y p c a → TurnsAt b m pt l records k
 turns_piece b m pt l records k y p c a h =
     let s = record k { inbox = c.rest } in
-    let now = coming a.process (l.notes p) h.arrival.held h.wanted in
+    let now = coming a.cargo h.arrival.cap h.arrival.held h.wanted in
     let state : KernelState = machine.with_sent (machine.with_known s p (Record.Incoming now)) in
     let next = come_point pt (come_view pt.view m p h.box pt.view.known h.asked) in
     turns_answer b m pt l records k y p c a (record {
       line = h.line;
-      what = pull a.process.pid h.wanted;
+      what = pull a.cargo.pid h.wanted;
       state = state;
       box = h.box;
       known = pt.view.known;
       asked = h.asked;
-      turn = turn_kernel b m pt l records k y p c a (Some (record { state = state; parts = part.Says h.line ∷ part.Routes (machine.own k y.sender (pull a.process.pid h.wanted)) ∷ [] }))
+      turn = turn_kernel b m pt l records k y p c a (Some (record { state = state; parts = part.Says h.line ∷ part.Routes (machine.own k y.sender (pull a.cargo.pid h.wanted)) ∷ [] }))
           (h.takes ∙ ap (λ (o : Option machine.KernelKnown). bind (incoming_of o) (takes_piece s y p)) h.is ∙ ap (took_piece s y p) h.took
-          ∙ ap (λ (x : Line). Some (record { state = state; parts = part.Says x ∷ part.Routes (machine.own k y.sender (pull a.process.pid h.wanted)) ∷ [] })) h.says);
-      outcome = outcome_kernel b m pt l records k y p c a (Some (Part.Says h.line ∷ to_kernel (kind_of (pull a.process.pid h.wanted)) y.id.from.home ∷ [])) h.told;
+          ∙ ap (λ (x : Line). Some (record { state = state; parts = part.Says x ∷ part.Routes (machine.own k y.sender (pull a.cargo.pid h.wanted)) ∷ [] })) h.says);
+      outcome = outcome_kernel b m pt l records k y p c a (Some (Part.Says h.line ∷ to_kernel (kind_of (pull a.cargo.pid h.wanted)) y.id.from.home ∷ [])) h.told;
       after = h.after;
       is_box = h.is_box;
       known_off = λ n q off. refl;
@@ -111,15 +112,15 @@ turns_piece b m pt l records k y p c a h =
       mine =
           subst (λ (n : Known). KnownStands next l p (pt.view.queue m p) (pt.view.held m p) n (state.records p)) (sym (known_incoming b m pt l k y p a h.late))
           (subst (KnownStands next l p (pt.view.queue m p) (pt.view.held m p) (Incoming a.source)) (sym (set_self k.records p (Record.Incoming now)))
-          (record { process = a.process; there = a.there; whole = h.whole; pieces = refl; held = h.held.held }));
+          (record { cargo = a.cargo; there = a.there; whole = h.held.whole; pieces = refl; held = h.held.held }));
       between = grind (arith, nat_tests);
       is_reply = grind (arith, nat_tests);
-      about = (let e_ : about_of (pull a.process.pid h.wanted) ≡ Of a.process.pid = grind (arith, nat_tests) in e_) ∙ ap Of a.named;
+      about = (let e_ : about_of (pull a.cargo.pid h.wanted) ≡ Of a.cargo.pid = grind (arith, nat_tests) in e_) ∙ ap Of a.named;
       plain = grind (arith, nat_tests);
       encloses = grind (arith, nat_tests);
       gives = λ v i q. grind (arith, nat_tests);
-      carries = subst (λ (o : Option machine.KernelKnown). Carries p a.process (l.notes p) (h.asked p) (incoming_of o) (pull a.process.pid h.wanted)) (sym (set_self k.records p (Record.Incoming now)))
-          (pull_carries p a.process (l.notes p) (h.asked p) h.arrival.held h.wanted a.named h.is_asked);
+      carries = subst (λ (o : Option machine.KernelKnown). Carries p a.cargo (h.asked p) (incoming_of o) (pull a.cargo.pid h.wanted)) (sym (set_self k.records p (Record.Incoming now)))
+          (pull_carries p a.cargo (h.asked p) h.arrival.cap h.arrival.held h.wanted a.named h.is_asked);
     })
 
 -- A chunk of the state of a process that comes, and a block of its memory.
@@ -129,15 +130,20 @@ pub record Before (b : Boot) (m : ℕ) (pt : Point) (l : Placed) (k : KernelStat
   pub arrival : Arrival
   pub is : k.records p ≡ Some (Record.Incoming arrival)
   pub comes_ : ComesStand l p (pt.view.held m p) arrival
-  pub whole : CanMove (record a.process { queue = [] })
-  pub pieces : arrival ≡ coming a.process (l.notes p) arrival.held w
+  pub pieces : arrival ≡ coming a.cargo arrival.cap arrival.held w
+  pub process : CanBeCarried arrival.cap a.process
+  pub comes : ComesByPieces a.cargo arrival.cap arrival.held
 
 pub before : (b : Boot) (m : ℕ) (pt : Point) (l : Placed) (records : AllRecords) (k : KernelState) (y : Message) (p : Pid) (c : Comes b m pt l records k y p) (a : Arrives b m pt l k y p) (w : Wanted) → is_early (kind_of y.what) ≡ false → Wants (incoming_of (k.records p)) w → Before b m pt l k y p a w
 before b m pt l records k y p c a w late wants =
     let (arrival, is, h) = recorded b pt l m k p (Incoming a.source) c.stands a.server (known_incoming b m pt l k y p a late) in
-    let same : h.process ≡ a.process = some_same h.process a.process (sym h.there ∙ a.there) in
+    let same : h.cargo ≡ a.cargo = same_cargo h.cargo a.cargo (sym h.there ∙ a.there) in
     let is_wanted : arrival.wanted ≡ w = subst (λ (o : Option machine.KernelKnown). Wants (incoming_of o) w) is wants in
-    search (subst (λ (z : Process). CanMove (record z { queue = [] })) same h.whole, h.pieces ∙ (λ i. coming (same i) (l.notes p) arrival.held (is_wanted i)))
+    search (
+      h.pieces ∙ (λ i. coming (same i) arrival.cap arrival.held (is_wanted i)),
+      subst (IsSuch (CanBeCarried arrival.cap)) a.is_process h.whole,
+      by_pieces a.cargo arrival.cap arrival.held (cargo_comes (l.processes p) (l.notes p) a.cargo arrival.cap a.there h.whole),
+    )
 
 asked_others : (f : Pid → ℕ) (p q : Pid) (n : ℕ) → pid_eq p q ≡ false → at_pid f p n q ≡ f q
 asked_others f p q n off = ap (λ (d : Bool). if d then n else f q) off
@@ -146,8 +152,8 @@ asked_others f p q n off = ap (λ (d : Bool). if d then n else f q) off
 -- where the lines lead
 state_by : (b : Boot) (m : ℕ) (pt : Point) (l : Placed) (records : AllRecords) (k : KernelState) (y : Message) (p : Pid) (c : Comes b m pt l records k y p) (a : Arrives b m pt l k y p) (chunk : ℕ) (h : Before b m pt l k y p a (Chunk chunk)) (d : Bool)
     → kind_of y.what ≡ MessageKind.State → kernel_handles b (record k { inbox = c.rest }) y y.what ≡ bind (incoming_of (k.records p)) (takes_piece (record k { inbox = c.rest }) y p)
-    → with_piece h.arrival y.what ≡ Some (coming a.process (l.notes p) h.arrival.held (after_chunk chunk d))
-    → IsAsked a.process (pt.view.asked p + 1) (after_chunk chunk d) → (pt.view.asked p == chunks_of (plain_process a.process)) ≡ d → TurnsAt b m pt l records k
+    → with_piece h.arrival y.what ≡ Some (coming a.cargo h.arrival.cap h.arrival.held (after_chunk chunk d))
+    → IsAsked a.cargo (pt.view.asked p + 1) (after_chunk chunk d) → (pt.view.asked p == chunks_of (plain_process a.process)) ≡ d → TurnsAt b m pt l records k
 state_by b m pt l records k y p c a chunk h true is takes took asked test =
     let v = pt.view in
     turns_piece b m pt l records k y p c a (search (
@@ -157,7 +163,7 @@ state_by b m pt l records k y p c a chunk h true is takes took asked test =
       (let e_ : after (begun pt m) (Line.Migration Stage.StateTaken p ∷ []) ≡ Some (come_point pt (come_view pt.view m p (drop 1 (pt.view.inbox m)) pt.view.known (at_pid pt.view.asked p (pt.view.asked p + 1)))) = refl in e_),
       first_gone y.id c.ids (v.inbox m) c.box,
       asked_others,
-      subst (λ (n : ℕ). IsAsked a.process n (Block 0)) (sym (ap (λ (d : Bool). if d then (v.asked p + 1) else v.asked p) (pid_eq-same p))) asked,
+      subst (λ (n : ℕ). IsAsked a.cargo n (Block 0)) (sym (ap (λ (d : Bool). if d then (v.asked p + 1) else v.asked p) (pid_eq-same p))) asked,
     ))
 state_by b m pt l records k y p c a chunk h false is takes took asked test =
     let v = pt.view in
@@ -168,7 +174,7 @@ state_by b m pt l records k y p c a chunk h false is takes took asked test =
       after_piece pt m p y.to.pid y.id (kind_of y.what) is (told_about b m pt l records k y p c a),
       front_gone y.id c.ids (v.inbox m) c.box,
       asked_others,
-      subst (λ (n : ℕ). IsAsked a.process n (Chunk (chunk + 1)))
+      subst (λ (n : ℕ). IsAsked a.cargo n (Chunk (chunk + 1)))
           (sym (ap (λ (d : Bool). if d then (v.asked p + 1) else v.asked p) (pid_eq-same p))) asked,
     ))
 
@@ -177,21 +183,21 @@ turns_state b m pt l records k y p q chunk last bytes c e =
     let a = arrives b m pt l records k y p c in
     let x = a.process in
     let s = record k { inbox = c.rest } in
-    let carried = subst (λ (w : What). Carries p x (l.notes p) (pt.view.asked p) (incoming_of (k.records p)) w) e a.carries in
+    let carried = subst (λ (w : What). Carries p a.cargo (pt.view.asked p) (incoming_of (k.records p)) w) e a.carries in
     let is : kind_of y.what ≡ MessageKind.State = ap kind_of e in
     let h = before b m pt l records k y p c a (Chunk chunk) (ap is_early is) carried.2 in
-    let pieces : ComesByPieces (record x { queue = [] }) (l.notes p) h.arrival.held = by_pieces (record x { queue = [] }) (l.notes p) h.arrival.held h.whole in
-    let chunk_pid : q ≡ x.pid = cc (carried.0) in
-    state_by b m pt l records k y p c a chunk h (is_last (state_of x) chunk) is
+    let chunk_pid : q ≡ a.cargo.pid = cc (carried.0) in
+    let chunks : (length a.cargo.state + 511) / 512 ≡ chunks_of (plain_process x) = ap (λ (z : Cargo). (length z.state + 511) / 512) (sym a.is_cargo) ∙ chunks_same x h.process.0.lawful.registers in
+    state_by b m pt l records k y p c a chunk h (is_last a.cargo.state chunk) is
     (ap (kernel_handles b s y) e ∙ ap (λ (z : Pid). bind (incoming_of (k.records z)) (takes_piece s y z)) (chunk_pid ∙ a.named))
-    ((λ i. with_piece (h.pieces i) ((e ∙ carried.0) i)) ∙ pieces.chunk_taken chunk carried.1.1)
-    (chunk_next (is_last (state_of x) chunk) x (pt.view.asked p) chunk refl carried.1 (pieces.after_chunk chunk carried.1.1))
-    (chunk_last x (pt.view.asked p) chunk h.whole.lawful.registers carried.1)
+    ((λ i. with_piece (h.pieces i) ((e ∙ carried.0) i)) ∙ h.comes.chunk_taken chunk carried.1.1)
+    (chunk_next (is_last a.cargo.state chunk) a.cargo (pt.view.asked p) chunk refl carried.1 (h.comes.after_chunk chunk carried.1.1))
+    (chunk_last a.cargo (pt.view.asked p) chunk (chunks_of (plain_process x)) chunks carried.1)
 
 -- a block, another or the last
 memory_by : (b : Boot) (m : ℕ) (pt : Point) (l : Placed) (records : AllRecords) (k : KernelState) (y : Message) (p : Pid) (c : Comes b m pt l records k y p) (a : Arrives b m pt l k y p) (block : ℕ) (h : Before b m pt l k y p a (Block block)) (more : Bool)
     → kind_of y.what ≡ MessageKind.Memory → kernel_handles b (record k { inbox = c.rest }) y y.what ≡ bind (incoming_of (k.records p)) (takes_piece (record k { inbox = c.rest }) y p)
-    → with_piece h.arrival y.what ≡ Some (coming a.process (l.notes p) h.arrival.held (if more then Block (block + 1) else Nothing)) → IsAsked a.process (pt.view.asked p + 1) (if more then Block (block + 1) else Nothing)
+    → with_piece h.arrival y.what ≡ Some (coming a.cargo h.arrival.cap h.arrival.held (if more then Block (block + 1) else Nothing)) → IsAsked a.cargo (pt.view.asked p + 1) (if more then Block (block + 1) else Nothing)
     → (pt.view.asked p == pieces_of (plain_process a.process)) ≡ not more → (block + 1 == 0) ≡ false → TurnsAt b m pt l records k
 memory_by b m pt l records k y p c a block h true is takes took asked test later =
     let v = pt.view in
@@ -203,7 +209,7 @@ memory_by b m pt l records k y p c a block h true is takes took asked test later
       after_block pt m p y.to.pid y.id (kind_of y.what) is (told_about b m pt l records k y p c a),
       front_gone y.id c.ids (v.inbox m) c.box,
       asked_others,
-      subst (λ (n : ℕ). IsAsked a.process n (Block (block + 1)))
+      subst (λ (n : ℕ). IsAsked a.cargo n (Block (block + 1)))
           (sym (ap (λ (d : Bool). if d then (v.asked p + 1) else v.asked p) (pid_eq-same p))) asked,
     ))
 memory_by b m pt l records k y p c a block h false is takes took asked test later =
@@ -219,16 +225,18 @@ turns_memory b m pt l records k y p q block bytes c e =
     let a = arrives b m pt l records k y p c in
     let x = a.process in
     let s = record k { inbox = c.rest } in
-    let carried = subst (λ (w : What). Carries p x (l.notes p) (pt.view.asked p) (incoming_of (k.records p)) w) e a.carries in
+    let carried = subst (λ (w : What). Carries p a.cargo (pt.view.asked p) (incoming_of (k.records p)) w) e a.carries in
     let is : kind_of y.what ≡ MessageKind.Memory = ap kind_of e in
     let h = before b m pt l records k y p c a (Block block) (ap is_early is) carried.2 in
-    let pieces : ComesByPieces (record x { queue = [] }) (l.notes p) h.arrival.held = by_pieces (record x { queue = [] }) (l.notes p) h.arrival.held h.whole in
-    let block_pid : q ≡ x.pid = cc (carried.0) in
-    memory_by b m pt l records k y p c a block h (nat_lt (block + 1) (length x.memory / 256)) is
+    let block_pid : q ≡ a.cargo.pid = cc (carried.0) in
+    let pieces : (length a.cargo.state + 511) / 512 + length a.cargo.memory / 256 ≡ pieces_of (plain_process x) =
+    ap (λ (z : Cargo). (length z.state + 511) / 512 + length z.memory / 256) (sym a.is_cargo) ∙ pieces_same x h.process.0.lawful.registers in
+    let can_come : CanCome a.cargo h.arrival.cap = cargo_comes (l.processes p) (l.notes p) a.cargo h.arrival.cap a.there h.comes_.whole in
+    memory_by b m pt l records k y p c a block h (nat_lt (block + 1) (length a.cargo.memory / 256)) is
     (ap (kernel_handles b s y) e ∙ ap (λ (z : Pid). bind (incoming_of (k.records z)) (takes_piece s y z)) (block_pid ∙ a.named))
-    ((λ i. with_piece (h.pieces i) ((e ∙ carried.0) i)) ∙ pieces.block_taken block carried.1.1)
-    (asked_after_block x (pt.view.asked p) block carried.1 (pieces.after_block block carried.1.1))
-    (block_last x (pt.view.asked p) block h.whole.lawful.registers (grind (arith, nat_tests, h.whole.lawful)) carried.1) (not_first block)
+    ((λ i. with_piece (h.pieces i) ((e ∙ carried.0) i)) ∙ h.comes.block_taken block carried.1.1)
+    (asked_after_block a.cargo (pt.view.asked p) block carried.1 (h.comes.after_block block carried.1.1))
+    (block_last a.cargo (pt.view.asked p) block (pieces_of (plain_process x)) pieces can_come.whole carried.1) (not_first block)
   where
     not_first : (n : ℕ) → (n + 1 == 0) ≡ false
     not_first n = grind (arith, nat_tests)

@@ -23,6 +23,8 @@ use Rattle.dm_rule.specs.Rule as group
 use Rattle.dm_kernel.specs.declared.part.Part.TheVariants as part
 use Rattle.dm_kernel.specs.State as machine
 use Rattle.dm_rule.specs.Migrating as migrating
+use Rattle.dm_mirror.proofs.Names.{Cargo}
+use Rattle.dm_mirror.proofs.Cargoes.{comes_again}
 
 abbrev pub back_point : Point → ℕ → Pid → Point
 back_point pt m p = moved (begun pt m) (Line.Migration Stage.Restarted p) pt.kernel
@@ -81,12 +83,11 @@ turns_restart b m pt l records k y p q c e =
     let a = arrives b m pt l records k y p c in
     let x = a.process in
     let s = record k { inbox = c.rest } in
-    let carried = subst (λ (w : What). Carries p x (l.notes p) (v.asked p) (incoming_of (k.records p)) w) e a.carries in
+    let carried = subst (λ (w : What). Carries p a.cargo (v.asked p) (incoming_of (k.records p)) w) e a.carries in
     let is : kind_of y.what ≡ MessageKind.Restart = ap kind_of e in
     let late : is_early (kind_of y.what) ≡ false = ap is_early is in
     let h = before b m pt l records k y p c a Nothing late carried.1 in
     let incoming = known_incoming b m pt l k y p a late in
-    let pieces : ComesByPieces (record x { queue = [] }) (l.notes p) h.arrival.held = by_pieces (record x { queue = [] }) (l.notes p) h.arrival.held h.whole in
     let state : KernelState = record s { records = with_record k.records p (Record.Here (way.moved x)); ring = k.ring ++ p ∷ []; inbox = h.arrival.held ++ c.rest } in
     let next = back_point pt m p in
     let placed = with_process l p (Some (way.moved x)) in
@@ -106,13 +107,13 @@ turns_restart b m pt l records k y p q c e =
       | inr apart ↦ set r apart
     ] in
     let line = Line.Migration Stage.Restarted p in
-    let asker : h.arrival.asker ≡ l.notes p = ap (λ (z : Arrival). z.asker) h.pieces in
+    let asker : h.arrival.asker ≡ l.notes p = ap (λ (z : Arrival). z.asker) h.pieces ∙ ap (λ (z : Cargo). z.asker) (sym a.is_cargo) in
     -- where messages stand then
     let back_box : v.held m p ++ at_machine v.inbox m (drop 1 (v.inbox m)) m ≡ v.held m p ++ c.ids = ap (λ (xs : List MsgId). v.held m p ++ xs) (machine_self v.inbox m (drop 1 (v.inbox m)) ∙ first_gone y.id c.ids (v.inbox m) c.box) in
     let ends : EndsMove b m pt l records k p line state next.view placed = record {
       run = c.run;
       said = refl;
-      mirrors = restarted_mirrors (begun pt m) l p x (mirrors_view pt.kernel v (begun pt m).view pt.addresses l refl c.mirrors) a.there;
+      mirrors = restarted_mirrors (begun pt m) l p x (mirrors_view pt.kernel v (begun pt m).view pt.addresses l refl c.mirrors) a.is_process;
       kernel = stands_set b pt next l placed m k state p (search (others, set, record_others, mine, keeps)) stands
           (ap (λ ring. ring ++ p ∷ []) stands.ring ∙ sym (machine_self v.ring m (v.ring m ++ p ∷ [])))
           (subst (λ (is : List MsgId). AreMessages l.bag is (h.arrival.held ++ c.rest)) (sym (machine_self front m (v.held m p ++ front m) ∙ back_box))
@@ -138,7 +139,7 @@ turns_restart b m pt l records k y p q c e =
     (turn_kernel b m pt l records k y p c a (Some (record { state = state; parts = part.Says line ∷ tells_asker m (way.moved x) Outcome.Done (l.notes p) }))
     (ap (kernel_handles b s y) e ∙ ap (λ (z : Pid). bind (incoming_of (k.records z)) (restarts s z)) carried.0
     ∙ ap (λ (o : Option machine.KernelKnown). bind (incoming_of o) (restarts s p)) h.is
-    ∙ ap (restarts_as s p h.arrival) (ap restarted h.pieces ∙ pieces.whole)
+    ∙ ap (restarts_as s p h.arrival) (comes_again l p (v.held m p) h.arrival x a.is_process (ap (λ (z : Arrival). z.wanted) h.pieces) h.comes_)
     ∙ (λ i. Some (record { state = state; parts = part.Says line ∷ tells_asker (stands.here i) (way.moved x) Outcome.Done (asker i) }))))
     (outcome_kernel b m pt l records k y p c a (Some (Part.Says line ∷ migrating.tells_asker (pt.kernel.notes p) Outcome.Done))
     (ap (λ (k : MessageKind). told_step pt m y.id p (fits (free_room b pt m) (length x.memory / 256)) (plain_process x) (sort_of k)) is))

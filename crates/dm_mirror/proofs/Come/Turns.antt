@@ -7,7 +7,7 @@ use Rattle.dm_rule.proofs.Names.{Part}
 pub use Rattle.dm_rule.proofs.Lines.{eq_self, at_machine_at as machine_self}
 pub use Rattle.dm_mirror.proofs.Leave.Answered.{with_view as come_point}
 use Rattle.dm_mirror.proofs.Come.Frames.{Arrives, Comes, fresh_own, own_once, times_self}
-use Rattle.dm_mirror.proofs.Turning.{IsCarried, MayOwn, Nothing, Own, TurnsAt, begun}
+use Rattle.dm_mirror.proofs.Turning.{own_first, IsCarried, MayOwn, Nothing, Own, TurnsAt, begun}
 pub use Rattle.dm_mirror.proofs.End.Servers.{off as eq_off}
 use Rattle.dm_mirror.proofs.Handle.Taking.{machine_off, stands_set}
 use Rattle.dm_mirror.proofs.Leave.Fronts.{records_as, tokens_one, untold_next as next_untold}
@@ -71,7 +71,7 @@ pub record Answer (b : Boot) (m : ℕ) (pt : Point) (l : Placed) (records : AllR
   pub plain : plain_what what ≡ None
   pub encloses : enclosed what ≡ []
   pub gives : (v : View) (id : MsgId) (q : Pid) → own_given pt.kernel v pt.addresses id q (sort_of (kind_of what)) ≡ goes_between v id q
-  pub carries : Carries p a.process (l.notes p) (asked p) (incoming_of (state.records p)) what
+  pub carries : Carries p a.cargo (asked p) (incoming_of (state.records p)) what
 
 -- the token that was handled was the only one of its process, and those of others carry what they carried
 pub tokens_kept : (b : Boot) (m : ℕ) (pt : Point) (l : Placed) (records : AllRecords) (k : KernelState) (y : Message) (p : Pid) (c : Comes b m pt l records k y p) (a : Arrives b m pt l k y p) (box : List MsgId) (known : ℕ → Pid → Known) (asked : Pid → ℕ) (s : KernelState)
@@ -92,7 +92,7 @@ tokens_kept b m pt l records k y p c a box known asked s is_box asked_off record
 
 -- the next message of the kernel may be put
 may_answer : (b : Boot) (m : ℕ) (pt : Point) (l : Placed) (records : AllRecords) (k : KernelState) (y : Message) (p : Pid) (c : Comes b m pt l records k y p) (a : Arrives b m pt l k y p) (h : Answer b m pt l records k y p c a)
-    → MayOwn (come_point pt (come_view pt.view m p h.box h.known h.asked)) l (at_machine records m h.state.records) (own k y.sender h.what)
+    → MayOwn (come_point pt (come_view pt.view m p h.box h.known h.asked)) l (at_machine records m h.state.records) 0 (own k y.sender h.what)
 may_answer b m pt l records k y p c a h =
     let v = come_view pt.view m p h.box h.known h.asked in
     let x = own k y.sender h.what in
@@ -103,7 +103,7 @@ may_answer b m pt l records k y p c a h =
     let known : at_machine records m h.state.records (destination_of x.id (told_of x)) p ≡ h.state.records p =
     ap (λ (n : ℕ). at_machine records m h.state.records n p) (ap (λ (d : Bool). if d then y.sender.pid.home else k.here) h.is_reply ∙ here) ∙ (λ i. machine_self records m h.state.records i p) in
     record {
-      id = id;
+      id = id ∙ own_first v;
       plain = ap (with_what x) h.plain;
       encloses = h.encloses;
       bag = fresh_own b pt l x.id c.run c.mirrors c.own refl untold;
@@ -114,7 +114,7 @@ may_answer b m pt l records k y p c a h =
       asker = λ e. absurd (false≢true (sym (ap is_between e) ∙ h.between));
       carried = λ between q about.
           subst (λ (z : Pid). IsCarried l (h.asked z) (at_machine records m h.state.records) z x) (of_same p q (sym h.about ∙ about)) (search
-          (subst (λ (o : Option machine.KernelKnown). Carries p a.process (l.notes p) (h.asked p) (incoming_of o) h.what) (sym known) h.carries));
+          (subst (λ (o : Option machine.KernelKnown). Carries p a.cargo (h.asked p) (incoming_of o) h.what) (sym known) h.carries));
     }
   where
     of_same : (i j : Pid) → Of i ≡ Of j → i ≡ j
@@ -144,7 +144,6 @@ turns_answer b m pt l records k y p c a h =
       elsewhere = search (machine_off, h.known_away);
       may = (may_answer b m pt l records k y p c a h, tt);
       late_may = tt;
-      single = omega arith;
       topic = tt;
       own = λ i z there plain. let s = c.own i z there plain in record { told = s.told; mine = s.mine; sender = s.sender };
       tokens = tokens_kept b m pt l records k y p c a h.box h.known h.asked h.state h.is_box h.asked_off h.records_off;

@@ -195,7 +195,7 @@ module _ (b : Boot) (w : WorldState) (pt : Point) (l : Placed) (h : History) (a 
   tokens_on p i t z told between about least =
       let (y, there) = stood i z least in
       let k = s.tokens p i t y told between about there in
-      search (subst (λ (f : Pid → Option machine.KernelKnown). Carries p k.process (l.notes p) (pt.view.asked p) (incoming_of (f p)) k.message.what) (sym (records_at (destination_of i t))) k.carries)
+      search (subst (λ (f : Pid → Option machine.KernelKnown). Carries p k.cargo (pt.view.asked p) (incoming_of (f p)) k.message.what) (sym (records_at (destination_of i t))) k.carries)
 
   pub moves_stand : StandsWith b after next l later
   moves_stand = record {

@@ -24,6 +24,8 @@ use Rattle.dm_statebytes.specs.Shell.{shell_of, shell_of_bytes}
 use Rattle.dm_migrate.specs.Pieces.{state_of}
 use Rattle.dm_migrate.specs.Departure.{CanMove}
 use Rattle.std.specs.declared.result.Result.TheVariants.{Ok}
+use Rattle.dm_mirror.proofs.Names.{Cargo}
+use Rattle.dm_mirror.proofs.Cargoes.{is_cargo_of, comes_again}
 
 -- a machine that says nothing
 pub silent_has : (k : Known) → is_silent k ≡ true → rule.standing_of k ≡ None
@@ -54,20 +56,13 @@ is_at pt l p q held m s Ended (Some (Record.Ended x)) e h = cc
 is_at pt l p q held m s k r e h = absurd h
 
 -- the message that lets a process restart tells that all of it has come
-pub restart_wants : (p : Pid) (x : Process) (k : Option Asker) (n : ℕ) (o : Option Arrival) (w : What) → kind_of w ≡ MessageKind.Restart → Carries p x k n o w → Wants o Nothing
-restart_wants p x k n o (What.Restart pid) e h = h.1
-restart_wants p x k n o _ e h = cc
-
--- its state bytes are read again
-state_back : (x : Process) → CanMove x → shell_of_bytes (state_of x) (length x.table) ≡ Ok (shell_of x)
-unfolding IsReadAgain
-state_back x h = shell_ended (length x.table) (state_of x) (shell_of x) h.again
+pub restart_wants : (p : Pid) (x : Cargo) (n : ℕ) (o : Option Arrival) (w : What) → kind_of w ≡ MessageKind.Restart → Carries p x n o w → Wants o Nothing
+restart_wants p x n o (What.Restart pid) e h = h.1
+restart_wants p x n o _ e h = cc
 
 -- all its pieces give the process
-pub come_all : (l : Placed) (p : Pid) (held : List MsgId) (a : Arrival) (c : ComesStand l p held a) → a.wanted ≡ Nothing → come_whole a a.wanted ≡ Some (moved c.process)
-come_all l p held a c wanted =
-    let back : shell_of_bytes (state_of c.process) (length c.process.table) ≡ Ok (shell_of c.process) = state_back (record c.process { queue = [] }) c.whole in
-    grind (arith, nat_tests, back)
+pub come_all : (l : Placed) (p : Pid) (held : List MsgId) (a : Arrival) (c : ComesStand l p held a) (x : Process) → l.processes p ≡ Some x → a.wanted ≡ Nothing → come_whole a a.wanted ≡ Some (moved x)
+come_all l p held a c x there wanted = ap (come_whole a) wanted ∙ comes_again l p held a x there wanted c
 
 -- the messages that are held
 pub held_said : (pt : Point) (l : Placed) (p : Pid) (q held : List MsgId) (k : Known) (r : Option machine.KernelKnown) → ((i : MsgId) (m : Message) → l.bag i ≡ Some m → m.id ≡ i) → (has_nothing_held k ≡ true → held ≡ []) → KnownStands pt l p q held k r → names_of (held_for r) ≡ held
@@ -189,24 +184,25 @@ module _ (b : Boot) (w : WorldState) (pt : Point) (l : Placed) (h : History) (p 
       let told = a.token.told in
       let t = g.stands.tokens p a.id (record { kind = MessageKind.Restart; receiver = pid_of a.to 0; about = About.Of p }) a.token.spot told refl refl a.token.stands in
       let m = t.message in
-      let own = g.stands.own a.id m t.is (ap (with_what m) (carried_own p t.process (l.notes p) (pt.view.asked p) (incoming_of ((w.nodes a.to).kernel.records p)) m.what t.carries)) in
+      let own = g.stands.own a.id m t.is (ap (with_what m) (carried_own p t.cargo (pt.view.asked p) (incoming_of ((w.nodes a.to).kernel.records p)) m.what t.carries)) in
       let same : told_of m ≡ record { kind = MessageKind.Restart; receiver = pid_of a.to 0; about = About.Of p } = some_same (told_of m) (record { kind = MessageKind.Restart; receiver = pid_of a.to 0; about = About.Of p }) (sym own.told ∙ told) in
       subst (λ (o : Option machine.KernelKnown). Wants (incoming_of o) Nothing) is
-      (restart_wants p t.process (l.notes p) (pt.view.asked p) (incoming_of ((w.nodes a.to).kernel.records p)) m.what (ap (λ (x : Told). x.kind) same) t.carries)
+      (restart_wants p t.cargo (pt.view.asked p) (incoming_of ((w.nodes a.to).kernel.records p)) m.what (ap (λ (x : Told). x.kind) same) t.carries)
 
   to_said : (a : ComesTo pt.view p) → world.process_lines pt.kernel.machines w p ≡ rule.process_lines pt p (pt.kernel.processes p)
   to_said a =
       let below = within_to a in
       let n = pt.kernel.machines in
       let (c, is, comes) = to_machine a in
-      let x = comes.process in
-      let there_ = comes.there in
+      let of = is_cargo_of (l.processes p) (l.notes p) comes.cargo comes.there in
+      let x = of.process in
+      let there_ = of.there in
       let f : ℕ → Option (List EndLine) = λ m. record_lines m p ((w.nodes m).kernel.records p) in
       let v : ℕ → Option (List EndLine) = λ m. awaited_lines m p ((w.nodes m).kernel.records p) in
       let had : first_had n w p ≡ None = first_none (first_says f) f n refl (λ m. refl) (λ m less. silent_machine m (none_has pt.view p a m) less) in
       let awaited : first_awaited n w p ≡ Some (alive_lines a.to p Standing.Arriving (moved x)) =
       first_at (first_says v) v a.to n refl (λ m. refl) below (λ m less apart. away_machine m (a.others m apart) less)
-      ∙ (ap (awaited_lines a.to p) is ∙ ap (come_lines a.to p) (come_all l p (pt.view.held a.to p) c comes (all_come a c is))) in
+      ∙ (ap (awaited_lines a.to p) is ∙ ap (come_lines a.to p) (come_all l p (pt.view.held a.to p) c comes x there_ (all_come a c is))) in
       let there : Option Stood = Some (record { at = a.to; standing = Standing.Arriving }) in
       let has : first_with rule.standing_of pt.view p n ≡ None =
       first_none (first_with rule.standing_of pt.view p) (λ m. stood_at m (rule.standing_of (pt.view.known m p))) n refl (λ m. refl) (λ m less. ap (stood_at m) (silent_has (pt.view.known m p) (none_has pt.view p a m))) in

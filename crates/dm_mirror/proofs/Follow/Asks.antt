@@ -6,7 +6,7 @@ use Rattle.dm_mirror.proofs.Names.{mirrors_view, child_place, no_child, AllOwnSt
 use Rattle.dm_mirror.proofs.Names.{is_server, is_fixed, is_place, is_target, own_sort, Part, option_map_or}
 use Rattle.dm_kernel.specs.State.{with_sent}
 use Rattle.dm_mirror.proofs.Follow.Forwards.{next_free, next_untold, forwards_turn, held_coming, held_leaving}
-use Rattle.dm_mirror.proofs.Turning.{MayOwn, Nothing, Own, Turns, TurnsAt}
+use Rattle.dm_mirror.proofs.Turning.{own_first, MayOwn, Nothing, Own, Turns, TurnsAt}
 use Rattle.dm_mirror.proofs.Follow.Updates.{updated_board_turn, updated_here_turn, updated_manager_turn, no_move_turn, updated_ended_turn}
 use Rattle.dm_mirror.proofs.Follow.Fronts.{Fronts, at_front, carries_on}
 use Rattle.dm_kernel.specs.State as machine
@@ -32,7 +32,7 @@ tokens_asked b pt l records k c p to q i t z told between about least =
     let one = c.tokens q i t z told between about (let e_ : 1 ≤ standing pt.view i z = grind (arith, nat_tests) in e_) in
     let n = destination_of i t in
     search
-    (carries_on q one.process (l.notes q) (pt.view.asked q) (incoming_of (records n q)) (incoming_of (at_machine records 0 k.records n q)) one.message.what
+    (carries_on q one.cargo (pt.view.asked q) (incoming_of (records n q)) (incoming_of (at_machine records 0 k.records n q)) one.message.what
     (λ u w. subst (λ (f : Pid → Option machine.KernelKnown). Wants (incoming_of (f q)) u) (sym (let e_ : (if (0 == n) then k.records else records n) ≡ records n = grind (arith, nat_tests, c.mine) in e_)) w) one.carries)
 
 own_asked : (b : Boot) (pt : Point) (l : Placed) (records : AllRecords) (k : KernelState) (c : Asks b pt l records k) (p : Pid) (to : ℕ) → AllOwnStand (asked_point pt p to).view l
@@ -63,7 +63,6 @@ asked_line b pt l records k c p to said turn is goes = record {
   elsewhere = search;
   may = tt;
   late_may = tt;
-  single = omega arith;
   topic = tt;
   own = own_asked b pt l records k c p to;
   tokens = tokens_asked b pt l records k c p to;
@@ -83,7 +82,7 @@ named_is (d ∷ ds) p c e = elim (cases_Bool (pid_eq d.pid p)) [
 abbrev move_of : KernelState → Addr → ℕ → Message
 move_of k child to = record { id = machine.own_id k; to = child; sender = address_at 0; what = What.Migrate to }
 
-move_may : (b : Boot) (pt : Point) (l : Placed) (records all : AllRecords) (k : KernelState) (c : Asks b pt l records k) (p : Pid) (to : ℕ) (child : Addr) → child_named p l.manager.children ≡ Some child → MayOwn (asked_point pt p to) l all (move_of k child to)
+move_may : (b : Boot) (pt : Point) (l : Placed) (records all : AllRecords) (k : KernelState) (c : Asks b pt l records k) (p : Pid) (to : ℕ) (child : Addr) → child_named p l.manager.children ≡ Some child → MayOwn (asked_point pt p to) l all 0 (move_of k child to)
 move_may b pt l records all k c p to child found =
     let named : machine.own_id k ≡ id_of (pid_of 0 0) (pt.view.count 0) = λ i. record { from = pid_of (c.stands.here i) 0; n = c.counted i; answer = false } in
     let (n, number, place) = child_place pt.kernel pt.view pt.addresses l p child c.mirrors found in
@@ -91,7 +90,7 @@ move_may b pt l records all k c p to child found =
     let i = machine.own_id k in
     let to_child : option_map_or (λ c. pt.addresses (Child c)) (child_number pt.kernel child.pid) (unmoved 0) ≡ place_of child = ap (λ (q : Pid). option_map_or (λ c. pt.addresses (Child c)) (child_number pt.kernel q) (unmoved 0)) is ∙ ap (λ (o : Option ℕ). option_map_or (λ c. pt.addresses (Child c)) o (unmoved 0)) number ∙ place in
     record {
-      id = named;
+      id = named ∙ own_first (asked_point pt p to).view;
       plain = refl;
       encloses = refl;
       bag = ap l.bag named ∙ next_free b 0 pt l c.run c.mirrors c.own;
@@ -138,7 +137,6 @@ asked_other b pt l records k c p to (Some child) found turn is =
       elsewhere = search;
       may = (move_may b pt l records (at_machine records 0 (with_sent k).records) k c p to child found, tt);
       late_may = tt;
-      single = omega arith;
       topic = tt;
       own = own_asked b pt l records k c p to;
       tokens = tokens_asked b pt l records k c p to;

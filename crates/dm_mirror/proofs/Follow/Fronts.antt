@@ -19,6 +19,8 @@ pub use Rattle.dm_mirror.proofs.Kernel.Sets.{known_at as known_on, map_same}
 use Rattle.dm_mirror.proofs.Handle.Taking.{not_it, held_apart, machine_off, stands_set}
 pub use Rattle.dm_mirror.proofs.End.Servers.{off as eq_off}
 use Rattle.dm_mirror.proofs.Turning.{Elsewhere, Nothing, Route, TurnsAt, AllMayPut, begun, has_process, is_elsewhere, owns, part_of, rule_part_of}
+use Rattle.dm_mirror.proofs.Names.{Cargo}
+use Rattle.dm_mirror.proofs.Cargoes.{cargo_same}
 
 -- a message that stands somewhere stands there once, and nowhere else
 outside_once : (c : Bool) (f : Spot → ℕ) (x : Spot) → StandsOutside c f → 1 ≤ f x → StandsOnce f
@@ -196,16 +198,16 @@ set_other records p r q off = ap (λ (c : Bool). if c then Some r else records q
 -- A row of a turn that says one line of the message at its front, and puts messages on: it leads to what a turn owes.
 
 -- what is asked for stays, so what a message carries does
-pub carries_on : (p : Pid) (x : Process) (k : Option Asker) (n : ℕ) (a c : Option Arrival) (w : What) → ((u : Wanted) → Wants a u → Wants c u) → Carries p x k n a w → Carries p x k n c w
-carries_on p x k n a c (What.Ask pid blocks moves size asker) same h = h
-carries_on p x k n a c (What.Refuse pid slots blocks) same h = h
-carries_on p x k n a c (What.PullState pid chunk) same h = (h.0, h.1, same (Wanted.Chunk chunk) h.2)
-carries_on p x k n a c (What.State pid chunk last bytes) same h = (h.0, h.1, same (Wanted.Chunk chunk) h.2)
-carries_on p x k n a c (What.PullBlock pid block) same h = (h.0, h.1, same (Wanted.Block block) h.2)
-carries_on p x k n a c (What.Memory pid block bytes) same h = (h.0, h.1, same (Wanted.Block block) h.2)
-carries_on p x k n a c (What.AllTaken pid) same h = (h.0, same Wanted.Nothing h.1)
-carries_on p x k n a c (What.Restart pid) same h = (h.0, same Wanted.Nothing h.1)
-carries_on p x k n a c _ same h = absurd h
+pub carries_on : (p : Pid) (x : Cargo) (n : ℕ) (a c : Option Arrival) (w : What) → ((u : Wanted) → Wants a u → Wants c u) → Carries p x n a w → Carries p x n c w
+carries_on p x n a c (What.Ask pid blocks moves size asker) same h = h
+carries_on p x n a c (What.Refuse pid slots blocks) same h = h
+carries_on p x n a c (What.PullState pid chunk) same h = (h.0, h.1, same (Wanted.Chunk chunk) h.2)
+carries_on p x n a c (What.State pid chunk last bytes) same h = (h.0, h.1, same (Wanted.Chunk chunk) h.2)
+carries_on p x n a c (What.PullBlock pid block) same h = (h.0, h.1, same (Wanted.Block block) h.2)
+carries_on p x n a c (What.Memory pid block bytes) same h = (h.0, h.1, same (Wanted.Block block) h.2)
+carries_on p x n a c (What.AllTaken pid) same h = (h.0, same Wanted.Nothing h.1)
+carries_on p x n a c (What.Restart pid) same h = (h.0, same Wanted.Nothing h.1)
+carries_on p x n a c _ same h = absurd h
 
 -- the message is handled, held lists may have grown, and addresses may have changed
 abbrev pub handled_view : Point → ℕ → MsgId → (ℕ → Pid → List MsgId) → About → View
@@ -255,11 +257,10 @@ pub record Follows (b : Boot) (m : ℕ) (pt : Point) (l : Placed) (records : All
   pub mirrors : Mirrors pt.kernel (handled_view pt m y.id held topic) addresses placed
   pub own_front : (z : Message) → placed.bag y.id ≡ Some z → plain_message z ≡ None → OwnStands pt.view y.id z
   pub sent : state.sent ≡ k.sent + owns routes
-  pub single : owns routes ≤ 1
   pub known : is_server process ≡ false → KnownStands (handled_point pt m y.id held topic addresses) placed process (pt.view.queue m process) (held m process) (pt.view.known m process) (state.records process)
   -- it is no message of a migration under way
   pub still : is_between (kind_of y.what) ≡ false
-  pub may : AllMayPut (handled_point pt m y.id held topic addresses) placed (at_machine records m state.records) routes
+  pub may : AllMayPut (handled_point pt m y.id held topic addresses) placed (at_machine records m state.records) 0 routes
   pub leaves : FollowLeaves m pt l k c.rest y.id process held placed state
 
 pub elsewhere_apart : (m : ℕ) (s : Spot) → is_elsewhere m s ≡ true → s ≢ Inbox m
@@ -317,11 +318,10 @@ tokens_follow b m pt l records k y c h p i t z told between about least =
     let before = stood b m pt l records k y c h i z off least in
     let one = c.tokens p i t z told between about before in
     search (
-      process_stays b m pt l records k y c h p i t z told between about before ∙ one.there,
+      cargo_same l h.placed p (process_stays b m pt l records k y c h p i t z told between about before) (h.leaves.notes p) ∙ one.there,
       h.leaves.bag i off ∙ one.is,
-      subst (λ (o : Option Asker). Carries p one.process o (pt.view.asked p) (incoming_of (at_machine records m h.state.records (destination_of i t) p)) one.message.what) (sym (h.leaves.notes p))
-          (carries_on p one.process (l.notes p) (pt.view.asked p) (incoming_of (records (destination_of i t) p)) (incoming_of (at_machine records m h.state.records (destination_of i t) p)) one.message.what
-          (λ u w. all_wants b m pt l records k y c h p (destination_of i t) u (m == destination_of i t) refl w) one.carries),
+      carries_on p one.cargo (pt.view.asked p) (incoming_of (records (destination_of i t) p)) (incoming_of (at_machine records m h.state.records (destination_of i t) p)) one.message.what
+          (λ u w. all_wants b m pt l records k y c h p (destination_of i t) u (m == destination_of i t) refl w) one.carries,
     )
 
 own_follows : (b : Boot) (m : ℕ) (pt : Point) (l : Placed) (records : AllRecords) (k : KernelState) (y : Message) (c : Fronts b m pt l records k y) (h : Follows b m pt l records k y c) → AllOwnStand (handled_view pt m y.id h.held h.topic) h.placed
@@ -394,7 +394,6 @@ turns_follow b m pt l records k y c h =
       elsewhere = elsewhere_follows b m pt l records k y c h;
       may = h.may;
       late_may = tt;
-      single = (let z = h.single in omega (arith, z));
       topic = tt;
       own = own_follows b m pt l records k y c h;
       tokens = tokens_follow b m pt l records k y c h;

@@ -58,7 +58,6 @@ turns_quiet b m pt l records k y c h =
       mirrors = h.mirrors;
       own_front = λ z e plain. c.own y.id z e plain;
       sent = (let e : k.sent ≡ k.sent + 0 = omega arith in e);
-      single = omega arith;
       known = λ server. known_on pt (handled_point pt m y.id pt.view.held topic h.addresses) l placed p (pt.view.queue m p) (pt.view.held m p) (pt.view.known m p) (k.records p)
           refl refl refl (λ j least. refl) (λ j least. refl) (c.stands.known p server);
       still = front_still b m pt l records k y c h.number;
@@ -179,7 +178,6 @@ updated_here_turn b m pt l records k y c about fixed knows e =
       mirrors = updated_mirrors (begun pt m) l y.id n (told_of y) r about.at about.moves z start told (ap about_of e) is.board is.manager_ there;
       own_front = λ w f plain. c.own y.id w f plain;
       sent = (let f : k.sent ≡ k.sent + 0 = omega arith in f);
-      single = omega arith;
       known = λ server. subst (KnownStands (handled_point pt m y.id held topic a) placed p (pt.view.queue m p) (pt.view.held m p) (pt.view.known m p)) (sym (set_self k.records p (Record.Here next)))
           (subst (λ (j : Known). KnownStands (handled_point pt m y.id held topic a) placed p (pt.view.queue m p) (pt.view.held m p) j (Some (Record.Here next))) (sym knows)
           ((here.2.0.0, ap (λ (t : Bool). if t then Some (applied r about.at about.moves z) else l.processes p) (pid_eq-same p)), here.2.1));

@@ -19,6 +19,8 @@ use Rattle.dm_onekernel.specs.Service as service
 use Rattle.dm_mirror.proofs.Turning.{Elsewhere, is_elsewhere, has_process}
 use Rattle.dm_mirror.proofs.Rooms.{taken_same, taken_changed}
 pub use Rattle.dm_mirror.proofs.End.Servers.{off as eq_apart}
+use Rattle.dm_mirror.proofs.Names.{CanBeCarried, IsSuch}
+use Rattle.dm_mirror.proofs.Cargoes.{cargo_same}
 
 -- the queue of process p on machine m
 abbrev pub is_queue_of : ℕ → Pid → Spot → Bool
@@ -157,10 +159,10 @@ module _ (pt next : Point) (l placed : Placed) (p : Pid) (ids js : List MsgId) (
   known_same Unknown None process notes ended h = tt
   known_same Here (Some (Record.Here x)) process notes ended h = here_stays x (process refl) h
   known_same (Frozen to) (Some (Record.Frozen d)) process notes ended h =
-      record { to = h.to; asker = h.asker ∙ sym (notes refl); here = here_stays d.process (process refl) h.here; held = messages_on l.bag placed.bag js d.held held h.held; whole = h.whole }
+      record { to = h.to; cargo = cargo_same l placed p (process refl) (notes refl) ∙ h.cargo; here = here_stays d.process (process refl) h.here; held = messages_on l.bag placed.bag js d.held held h.held; whole = h.whole }
   known_same (Incoming from) (Some (Record.Incoming a)) process notes ended h =
-      let pieces = h.pieces ∙ ap (λ (k : Option Asker). coming h.process k a.held a.wanted) (sym (notes refl)) in
-      record { process = h.process; there = process refl ∙ h.there; whole = h.whole; pieces = pieces; held = messages_on l.bag placed.bag js a.held held h.held }
+      let whole = subst (IsSuch (CanBeCarried a.cap)) (sym (process refl)) h.whole in
+      record { cargo = h.cargo; there = cargo_same l placed p (process refl) (notes refl) ∙ h.there; whole = whole; pieces = h.pieces; held = messages_on l.bag placed.bag js a.held held h.held }
   known_same (Forward at_ moves) (Some (Record.Forward to n)) process notes ended h = h
   known_same Ended (Some (Record.Ended y)) process notes ended h = ap kernel.why_ended (ended refl) ∙ h
   known_same k r process notes ended h = h

@@ -59,7 +59,6 @@ module _ (b : Boot) (m : ℕ) (pt : Point) (l : Placed) (records : AllRecords) (
     mirrors = h.mirrors;
     kernel = h.kernel;
     sent = λ e. h.sent e ∙ (let f : (n : ℕ) → n ≡ n + 0 = λ n. omega arith in f (v.count m));
-    single = omega arith;
     topic = tt;
     elsewhere = h.elsewhere;
     may = tt;
@@ -138,7 +137,6 @@ module _ (b : Boot) (m : ℕ) (pt : Point) (l : Placed) (records : AllRecords) (
             (map_same placed.bag on.bag (v.inbox m) (λ j least. same j (Inbox m) least) ∙ h.kernel.inbox) h.kernel.made
             (subst (RoomStands state.room (room_of (slice_get b.machines m))) (sym (taken_same mid next m refl (λ w. refl) (λ q. refl))) h.kernel.room) h.kernel.servers;
         sent = λ f. h.sent f ∙ (let z : (w : ℕ) → w ≡ w + 0 = λ w. omega arith in z (v.count m));
-        single = omega arith;
         topic = tt;
         elsewhere = search (
           g,

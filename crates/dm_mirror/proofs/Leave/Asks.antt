@@ -12,7 +12,7 @@ use Rattle.dm_kernel.specs.State.{with_sent}
 use Rattle.dm_mirror.proofs.Rooms.{taken_same}
 use Rattle.dm_mirror.proofs.Leave.Fronts.{FrontGone, Hearing, Present, leaving_none, none_rests, outcome_hears, stood, turn_hears, Leaving, leaving, stands_first, absent_next, may_between, own_is, process_hears, records_as, three_off, to_process}
 use Rattle.dm_mirror.proofs.Leave.Fronts.{untold_next, to_kernel_hears, own_stays, tokens_one, front_rest}
-use Rattle.dm_mirror.proofs.Turning.{Nothing, Own, TurnsAt, begun, has_process, is_elsewhere, late_parts, late_rule_parts, part_of, rule_part_of}
+use Rattle.dm_mirror.proofs.Turning.{own_first, own_behind, Nothing, Own, TurnsAt, begun, has_process, is_elsewhere, late_parts, late_rule_parts, part_of, rule_part_of}
 use Rattle.dm_mirror.proofs.Handle.Taking.{eq_self, machine_self, machine_off, record_self, record_off, record_others, some_same, stands_set, held_apart, map_same, queue_apart}
 use Rattle.dm_mirror.proofs.Handle.Rows.{Elsewhere, here_left, standing_begun}
 use Rattle.dm_mirror.proofs.Follow.Fronts.{front_gone as front_off, elsewhere_apart}
@@ -22,6 +22,8 @@ use Rattle.dm_kernel.specs.State as machine
 use Rattle.dm_rule.specs.Migrating as migrating
 use Rattle.dm_rule.specs.View as view
 use Rattle.dm_mirror.proofs.Leave.Fronts as owns
+use Rattle.dm_mirror.proofs.Names.{Cargo, cargo_at, cargo_of}
+use Rattle.dm_mirror.proofs.Cargoes.{same_cargo}
 
 -- the room is the same where machine m has the same of each process
 pub room_stays : (room given : Taken) (r s : Room) → s ≡ r → RoomStands room given r → RoomStands room given s
@@ -64,7 +66,6 @@ here_already b m pt l records k y machine h at_m is =
       elsewhere = search;
       may = tt;
       late_may = tt;
-      single = omega arith;
       topic = tt;
       own = own_stays pt.view next.view l refl h.own;
       tokens = tokens_one pt.view next.view l l records (at_machine records m k.records) p
@@ -149,13 +150,15 @@ sets_off b m pt l records k p machine asker says t a box to on h =
     ap (λ (c : Bool). if c then Some (Record.Frozen (frozen x machine asker)) else k.records p) (pid_eq-same p) in
     let queued : HereStands on p (v.queue m p) x =
     ((h.here.0.0, h.processes p ∙ h.here.0.1), map_same l.bag on.bag (v.queue m p) (λ j least. h.kept (Queue m p) j (queue_apart m m p) least) ∙ h.here.1) in
+    let cargo : cargo_at on p ≡ Some (cargo_of x asker) = λ i. option_map (λ (z : Process). cargo_of z (h.note i)) (queued.0.1 i) in
     let leaves : LeavesStand on p (v.queue m p) (v.held m p) machine (frozen x machine asker) =
-    search (sym h.note, queued, ap (map on.bag) none_held, h.whole) in
+    search (cargo, queued, ap (map on.bag) none_held, h.whole) in
     let mine : KnownStands next on p (v.queue m p) (v.held m p) (next.view.known m p) (state.records p) =
     subst (KnownStands next on p (v.queue m p) (v.held m p) (next.view.known m p)) (sym frozen_record)
     (subst (λ (n : Known). KnownStands next on p (v.queue m p) (v.held m p) n (Some (Record.Frozen (frozen x machine asker)))) (sym frozen_known) leaves) in
     let taken = taken_same pt next m h.machines h.made (λ q. taken_at_record pt next m p q (Frozen to) (h.lives q) refl (sym (ap takes_room h.at_m))) in
     let id_is : ask.id ≡ own_id next.view = λ i. record { from = record { home = h.stands.here i; num = 0 }; n = h.sent i; answer = false } in
+    let id_first : ask.id ≡ own_behind next.view 0 = id_is ∙ own_first next.view in
     let sets : (q : Pid) → pid_eq p q ≡ false → state.records q ≡ k.records q =
     λ q off. ap (λ (c : Bool). if c then Some (Record.Frozen (frozen x machine asker)) else k.records q) off in
     let keeps : is_server p ≡ true → state.records p ≡ k.records p = λ is. absurd (false≢true (sym h.server ∙ is)) in
@@ -192,12 +195,11 @@ sets_off b m pt l records k p machine asker says t a box to on h =
         λ (j : MsgId) (z : Spot) (is : is_elsewhere m z ≡ true) (least : 1 ≤ standing (begun pt m).view j z). h.kept z j (elsewhere_apart m z is) (subst (λ (n : ℕ). 1 ≤ n) (standing_begun pt m j z) least),
       );
       may = (
-        may_between next on after_records m machine p ask (search
-            (ap kernel_at h.stands.here, h.absent ask.id (ap l.bag id_is ∙ absent_next b pt l m h.run h.mirrors h.own), ap v.told id_is ∙ untold_next b pt m h.run, ap Of x_is, h.processes p ∙ h.here.0.1)),
+        may_between next on after_records m machine p 0 ask (search
+            (ap kernel_at h.stands.here, h.absent ask.id (ap l.bag id_is ∙ absent_next b pt l m h.run h.mirrors h.own), ap v.told id_is ∙ untold_next b pt m h.run, ap Of x_is, leaves.cargo)),
         tt,
       );
       late_may = tt;
-      single = omega arith;
       topic = tt;
       own = λ j w there none. (let g = h.own j w (h.back j w none there) none in record { told = g.told; mine = g.mine; sender = g.sender });
       tokens = tokens_one v next.view l on records after_records p
@@ -288,10 +290,10 @@ departing b m pt l records k y p h g = recorded b pt l m k p (Frozen g.to) h.sta
 
 -- what is heard carries what it was sent with
 pub record Carried (pt : Point) (l : Placed) (records : AllRecords) (p : Pid) (y : Message) : Type 0 where
-  pub process : Process
-  pub there : l.processes p ≡ Some process
+  pub cargo : Cargo
+  pub there : cargo_at l p ≡ Some cargo
   pub sender : y.sender ≡ kernel_at y.id.from.home
-  pub carries : Carries p process (l.notes p) (pt.view.asked p) (incoming_of (records (destination_of y.id (told_of y)) p)) y.what
+  pub carries : Carries p cargo (pt.view.asked p) (incoming_of (records (destination_of y.id (told_of y)) p)) y.what
 
 pub process_same : (o : Option Process) (x y : Process) → o ≡ Some x → o ≡ Some y → x ≡ y
 process_same o x y e f = let g : Some x ≡ Some y = sym e ∙ f in cc
@@ -302,7 +304,7 @@ carried b m pt l records k y p h between about =
     let same : t.message ≡ y = some_same t.message y (sym t.is ∙ h.there) in
     search (
       ap (λ (x : Message). x.sender) (sym same) ∙ t.sender,
-      subst (λ (x : Message). Carries p t.process (l.notes p) (pt.view.asked p) (incoming_of (records (destination_of y.id (told_of y)) p)) x.what) same t.carries,
+      subst (λ (x : Message). Carries p t.cargo (pt.view.asked p) (incoming_of (records (destination_of y.id (told_of y)) p)) x.what) same t.carries,
     )
 
 pub kernel_number : (m : ℕ) (p : Pid) → p ≡ pid_of m 0 → (p.num == 0) ≡ true
@@ -320,7 +322,7 @@ gives : (b : Boot) (m : ℕ) (pt : Point) (l : Placed) (records : AllRecords) (k
     → kernel_handles b (record k { inbox = h.rest }) y y.what ≡ gives_piece (record k { inbox = h.rest }) y w
     → kernel_hears b pt m y.id (kind_of y.what) (about_of y.what) ≡ Some (migrating.gives_piece y.id (kind_of w))
     → after_proto (handled (begun pt m).view y.id) (Some (told_of y)) ≡ view.about (handled (begun pt m).view y.id) (Of p)
-    → (x : Process) → l.processes p ≡ Some x → Carries p x (l.notes p) (pt.view.asked p) (incoming_of (records y.id.from.home p)) w → TurnsAt b m pt l records k
+    → (x : Cargo) → cargo_at l p ≡ Some x → Carries p x (pt.view.asked p) (incoming_of (records y.id.from.home p)) w → TurnsAt b m pt l records k
 gives b m pt l records k y p w h g piece c turn hears proto x there carries =
     let v = pt.view in
     let s : KernelState = record k { inbox = h.rest } in
@@ -333,6 +335,7 @@ gives b m pt l records k y p w h g piece c turn hears proto x there carries =
     let gone : FrontGone m h.ids v next.view = search (front_rest m h.ids v next.view box, machine_off) in
     let taken = taken_same pt next m refl (λ n. refl) (λ q. refl) in
     let id_is : message.id ≡ own_id next.view = own_is b m pt l records k y h in
+    let id_first : message.id ≡ own_behind next.view 0 = id_is ∙ own_first next.view in
     let to_is : destination_of message.id (told_of message) ≡ y.id.from.home = ap (λ (d : Bool). if d then y.sender.pid.home else message.id.from.home) piece.of_source ∙ ap (λ (a : Addr). a.pid.home) c.sender in
     let same_there : after_records y.id.from.home p ≡ records y.id.from.home p = records_as records m y.id.from.home k.records state.records p h.records_here refl in
     record {
@@ -352,18 +355,17 @@ gives b m pt l records k y p w h g piece c turn hears proto x there carries =
       sent = λ e. ap (λ (n : ℕ). n + 1) e;
       elsewhere = search;
       may = (
-        may_between next l after_records m y.id.from.home p message (search (
+        may_between next l after_records m y.id.from.home p 0 message (search (
           ap (with_what message) piece.plain,
           piece.gives next.kernel next.view next.addresses message.id message.to.pid,
           ap kernel_at h.stands.here,
           ap l.bag id_is ∙ absent_next b pt l m h.run h.mirrors h.own,
           ap v.told id_is ∙ untold_next b pt m h.run,
-          subst (λ (n : ℕ). Carries p x (l.notes p) (v.asked p) (incoming_of (after_records n p)) w) (sym to_is) (subst (λ (r : Option machine.KernelKnown). Carries p x (l.notes p) (v.asked p) (incoming_of r) w) (sym same_there) carries),
+          subst (λ (n : ℕ). Carries p x (v.asked p) (incoming_of (after_records n p)) w) (sym to_is) (subst (λ (r : Option machine.KernelKnown). Carries p x (v.asked p) (incoming_of r) w) (sym same_there) carries),
         )),
         tt,
       );
       late_may = tt;
-      single = omega arith;
       topic = tt;
       own = own_stays v next.view l refl h.own;
       tokens = tokens_one v next.view l l records after_records p
@@ -388,13 +390,13 @@ gives_chunk b m pt l records k y p chunk h =
     let (departure, record_is, stands) = departing b m pt l records k z p h g in
     let c = carried b m pt l records k z p h refl refl in
     let x = departure.process in
-    let same : record x { queue = stands.here.0.0 } ≡ c.process = process_same (l.processes p) (record x { queue = stands.here.0.0 }) c.process stands.here.0.1 c.there in
+    let same : cargo_of x departure.asker ≡ c.cargo = same_cargo (cargo_of x departure.asker) c.cargo (sym stands.cargo ∙ c.there) in
     let name : x.pid ≡ p = (h.mirrors.places.process p (record x { queue = stands.here.0.0 }) stands.here.0.1).pid in
     gives b m pt l records k z p (chunk_of x.pid (state_of x) chunk) h g
     (record { about = ap Of name; plain = refl; encloses = refl; gives = λ o v a i q. refl; of_source = refl }) c
     (ap (λ (r : Option machine.KernelKnown). bind (frozen_of r) (λ (e : Departure). gives_piece s z (chunk_of e.process.pid (state_of e.process) chunk))) record_is)
-    (leaves_alive b m pt l p c.process y.id MessageKind.PullState (Some (migrating.gives_piece y.id MessageKind.State)) c.there (h.mirrors.plain.processes p) refl)
-    refl c.process c.there (ap (λ (u : Process). chunk_of u.pid (state_of u) chunk) same, c.carries.1, c.carries.2)
+    (leaves_alive b m pt l p (record x { queue = stands.here.0.0 }) y.id MessageKind.PullState (Some (migrating.gives_piece y.id MessageKind.State)) stands.here.0.1 (h.mirrors.plain.processes p) refl)
+    refl c.cargo c.there (ap (λ (u : Cargo). chunk_of u.pid u.state chunk) same, c.carries.1, c.carries.2)
 
 pub gives_block : (b : Boot) (m : ℕ) (pt : Point) (l : Placed) (records : AllRecords) (k : KernelState) (y : Message) (p : Pid) (block : ℕ) → Hearing b m pt l records k (record y { what = What.PullBlock p block })
     → TurnsAt b m pt l records k
@@ -405,10 +407,10 @@ gives_block b m pt l records k y p block h =
     let (departure, record_is, stands) = departing b m pt l records k z p h g in
     let c = carried b m pt l records k z p h refl refl in
     let x = departure.process in
-    let same : record x { queue = stands.here.0.0 } ≡ c.process = process_same (l.processes p) (record x { queue = stands.here.0.0 }) c.process stands.here.0.1 c.there in
+    let same : cargo_of x departure.asker ≡ c.cargo = same_cargo (cargo_of x departure.asker) c.cargo (sym stands.cargo ∙ c.there) in
     let name : x.pid ≡ p = (h.mirrors.places.process p (record x { queue = stands.here.0.0 }) stands.here.0.1).pid in
     gives b m pt l records k z p (block_of x.pid x.memory block) h g
     (record { about = ap Of name; plain = refl; encloses = refl; gives = λ o v a i q. refl; of_source = refl }) c
     (ap (λ (r : Option machine.KernelKnown). bind (frozen_of r) (λ (e : Departure). gives_piece s z (block_of e.process.pid e.process.memory block))) record_is)
-    (leaves_alive b m pt l p c.process y.id MessageKind.PullBlock (Some (migrating.gives_piece y.id MessageKind.Memory)) c.there (h.mirrors.plain.processes p) refl)
-    refl c.process c.there (ap (λ (u : Process). block_of u.pid u.memory block) same, c.carries.1, c.carries.2)
+    (leaves_alive b m pt l p (record x { queue = stands.here.0.0 }) y.id MessageKind.PullBlock (Some (migrating.gives_piece y.id MessageKind.Memory)) stands.here.0.1 (h.mirrors.plain.processes p) refl)
+    refl c.cargo c.there (ap (λ (u : Cargo). block_of u.pid u.memory block) same, c.carries.1, c.carries.2)

@@ -7,11 +7,13 @@ use Rattle.dm_mirror.proofs.Names.{refl, Addr, pid_eq, place_of, nat_tests, kern
 use Rattle.dm_mirror.proofs.Names.{kernel_hears, at_machine, Known, own_id, not_kernels, is_fixed, enclosed, Carries, destination_of, about_same, cases_Bool, Record, Departure, pid_eq-is, HereStands, KnownStands, LeavesStand, Asker}
 use Rattle.dm_mirror.proofs.Names.{sort_of}
 use Rattle.dm_mirror.proofs.Handle.Taking.{front_of, times_self, machine_self, machine_off, some_same}
-use Rattle.dm_mirror.proofs.Turning.{IsCarried, MayOwn}
+use Rattle.dm_mirror.proofs.Turning.{IsCarried, MayOwn, own_behind}
 pub use Rattle.dm_mirror.proofs.Handle.Taking.{to_kernel}
 use Rattle.dm_rule.specs.Parts as rule
 use Rattle.dm_rule.specs.Rule as ruled
 use Rattle.dm_kernel.specs.State as machine
+use Rattle.dm_mirror.proofs.Names.{Cargo, cargo_at}
+use Rattle.dm_mirror.proofs.Cargoes.{cargo_same}
 
 -- what stands of machine m and its kernel
 pub record Present (b : Boot) (m : ℕ) (pt : Point) (l : Placed) (records : AllRecords) (k : KernelState) : Type 0 where
@@ -195,10 +197,10 @@ absent_next b pt l m run mirrors own =
 pub own_is : (b : Boot) (m : ℕ) (pt : Point) (l : Placed) (records : AllRecords) (k : KernelState) (y : Message) → Hearing b m pt l records k y → machine.own_id k ≡ id_of (pid_of m 0) (pt.view.count m)
 own_is b m pt l records k y h = λ i. record { from = record { home = h.stands.here i; num = 0 }; n = h.sent i; answer = false }
 
--- a message to the kernel of a machine c, about process p
-pub record Between (pt : Point) (placed : Placed) (records : AllRecords) (m c : ℕ) (p : Pid) (x : Message) : Type 0 where
+-- a message to the kernel of a machine c, about process p, behind so many of the kernel's own
+pub record Between (pt : Point) (placed : Placed) (records : AllRecords) (m c : ℕ) (p : Pid) (j : ℕ) (x : Message) : Type 0 where
   pub acting : pt.view.acting ≡ m
-  pub id : x.id ≡ own_id pt.view
+  pub id : x.id ≡ own_behind pt.view j
   pub plain : plain_message x ≡ None
   pub encloses : enclosed x.what ≡ []
   pub gives : own_given pt.kernel pt.view pt.addresses x.id x.to.pid (sort_of (kind_of x.what)) ≡ gets (Receiver x.id) (unmoved x.to.pid.home) ∷ gets (Sender x.id) (unmoved pt.view.acting) ∷ []
@@ -209,16 +211,16 @@ pub record Between (pt : Point) (placed : Placed) (records : AllRecords) (m c : 
   pub from : x.id.from.home ≡ m
   pub about : about_of x.what ≡ Of p
   pub topic : pt.view.topic ≡ Of p
-  pub process : Process
-  pub there : placed.processes p ≡ Some process
-  pub carries : Carries p process (placed.notes p) (pt.view.asked p) (incoming_of (records (destination_of x.id (told_of x)) p)) x.what
+  pub cargo : Cargo
+  pub there : cargo_at placed p ≡ Some cargo
+  pub carries : Carries p cargo (pt.view.asked p) (incoming_of (records (destination_of x.id (told_of x)) p)) x.what
 
-pub may_between : (pt : Point) (placed : Placed) (records : AllRecords) (m c : ℕ) (p : Pid) (x : Message) → Between pt placed records m c p x → MayOwn pt placed records x
-may_between pt placed records m c p x h =
+pub may_between : (pt : Point) (placed : Placed) (records : AllRecords) (m c : ℕ) (p : Pid) (j : ℕ) (x : Message) → Between pt placed records m c p j x → MayOwn pt placed records j x
+may_between pt placed records m c p j x h =
     let a = pt.addresses in
     let q = x.to.pid in
     let second : List Gets = gets (Sender x.id) (unmoved pt.view.acting) ∷ [] in
-    let carried_of : IsCarried placed (pt.view.asked p) records p x = record { process = h.process; there = h.there; sender = h.sender ∙ ap kernel_at (sym h.from); carries = h.carries } in
+    let carried_of : IsCarried placed (pt.view.asked p) records p x = record { cargo = h.cargo; there = h.there; sender = h.sender ∙ ap kernel_at (sym h.from); carries = h.carries } in
     record {
       id = h.id;
       plain = h.plain;
@@ -278,11 +280,10 @@ tokens_one v w l placed before after p c h q i t z told between about st =
           let x = h q i t g.0.0 was between about g.0.1 in
           let d = destination_of i t in
           search (
-            c.processes q apart ∙ x.there,
+            cargo_same l placed q (c.processes q apart) (c.notes q apart) ∙ x.there,
             g.1 ∙ x.is,
-            subst (λ (e : Option Asker). Carries q x.process e (w.asked q) (incoming_of (after d q)) x.message.what) (sym (c.notes q apart))
-                (subst (λ (n : ℕ). Carries q x.process (l.notes q) n (incoming_of (after d q)) x.message.what) (sym (c.asked q apart))
-                (subst (λ (r : Option machine.KernelKnown). Carries q x.process (l.notes q) (v.asked q) (incoming_of r) x.message.what) (sym (c.records d q apart)) x.carries)),
+            subst (λ (n : ℕ). Carries q x.cargo n (incoming_of (after d q)) x.message.what) (sym (c.asked q apart))
+                (subst (λ (r : Option machine.KernelKnown). Carries q x.cargo (v.asked q) (incoming_of r) x.message.what) (sym (c.records d q apart)) x.carries),
           )
     ]
 

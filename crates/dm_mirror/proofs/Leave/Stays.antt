@@ -12,6 +12,7 @@ use Rattle.dm_kernel.specs.declared.part.Part as part
 use Rattle.dm_kernel.specs.State as machine
 use Rattle.dm_rule.specs.Migrating as migrating
 use Rattle.dm_rule.specs.Parts as rule
+use Rattle.dm_mirror.proofs.Cargoes.{waits_for}
 
 -- messages of two lists, one after the other
 pub messages_append : (bag : MsgId → Option Message) (is js : List MsgId) (ms ns : List Message) → AreMessages bag is ms → AreMessages bag js ns → AreMessages bag (is ++ js) (ms ++ ns)
@@ -95,7 +96,7 @@ refuses b m pt l records k y p slots blocks h =
       alone = away;
       stood = λ i spot least. (let e = stood m y.id h.ids v next.view i spot h.box gone least in (e.spot, e.stands));
       none = none;
-    }) Outcome.Stayed departure.asker (sym stands.asker) (λ n. refl)
+    }) Outcome.Stayed departure.asker (sym (waits_for l p (v.queue m p) (v.held m p) g.to departure stands)) (λ n. refl)
     (turn_hears b m pt l records k z h (stays s p departure) (to_kernel b s z num ∙ ap (λ (r : Option machine.KernelKnown). bind (frozen_of r) (stays s p)) record_is)
     ∙ ap (λ (n : ℕ). turned state (part.Part.Says (Line.Stays p) ∷ tells_asker n x Outcome.Stayed departure.asker)) h.stands.here)
     (outcome_hears b m pt l records k z h (Some (rule.Says (Line.Stays p) ∷ migrating.tells_asker (pt.kernel.notes p) Outcome.Stayed))

@@ -13,6 +13,8 @@ use Rattle.dm_mirror.proofs.Leave.Asks.{process_same as same_process}
 use Rattle.dm_mirror.proofs.Recorded.{recorded}
 use Rattle.dm_mirror.proofs.Counts.Pairs.{CountsFew}
 use Rattle.dm_kernel.specs.State as machine
+use Rattle.dm_mirror.proofs.Names.{List, Cargo, CanBeCarried, cargo_at, cargo_of, ask_for}
+use Rattle.dm_mirror.proofs.Cargoes.{same_cargo, is_cargo_of, cargo_comes, comes_again}
 
 -- what source and destination know of a process whose message comes here
 pub record IsMoved (pt : Point) (m : ℕ) (p : Pid) (k : MessageKind) : Type 0 where
@@ -78,9 +80,9 @@ pub record Comes (pt : Point) (l : Placed) (n : ℕ) (k : KernelState) (p : Pid)
 
 -- the message of the migration, and what its machines know
 pub record IsToken (pt : Point) (l : Placed) (ks : ℕ → KernelState) (m : ℕ) (i : MsgId) (x : Message) (w : What) (p : Pid) : Type 0 where
-  pub process : Process
-  pub there : l.processes p ≡ Some process
-  pub carries : Carries p process (l.notes p) (pt.view.asked p) (incoming_of ((ks (destination_of i (record { kind = kind_of w; receiver = x.to.pid; about = about_of w }))).records p)) w
+  pub cargo : Cargo
+  pub there : cargo_at l p ≡ Some cargo
+  pub carries : Carries p cargo (pt.view.asked p) (incoming_of ((ks (destination_of i (record { kind = kind_of w; receiver = x.to.pid; about = about_of w }))).records p)) w
   pub moved : IsMoved pt m p (kind_of w)
 
 abbrev pub own_told : Message → What → Told
@@ -94,7 +96,7 @@ token_of b pt l ks m i x w p e run tokens f between about =
     let same : t.message ≡ x = (let g : Some t.message ≡ Some x = sym t.is ∙ f.there in cc) in
     let what_is : t.message.what ≡ w = ap (λ (v : Message). v.what) same ∙ e in
     search (
-      subst (Carries p t.process (l.notes p) (pt.view.asked p) (incoming_of ((ks (destination_of i (own_told x w))).records p))) what_is t.carries,
+      subst (Carries p t.cargo (pt.view.asked p) (incoming_of ((ks (destination_of i (own_told x w))).records p))) what_is t.carries,
       is_moved b pt m i (own_told x w) p run told between about f.first,
     )
 
@@ -147,21 +149,17 @@ pub record Around (b : Boot) (pt : Point) (l : Placed) (ks : ℕ → KernelState
   pub front : OwnFront pt l m i x
 
 -- the piece that is asked for
-next_chunk : (z y : Process) (k : Option Asker) (a : Arrival) (w : What) (n : ℕ) → CanMove (record z { queue = [] }) → y ≡ z → a ≡ coming z k a.held a.wanted → a.wanted ≡ Chunk n → w ≡ chunk_of y.pid (state_of y) n → HasChunk (state_of y) n
-    → IsNextPiece a w
-next_chunk z y k a w n whole same pieces wanted is there =
-    let there_ : HasChunk (state_of z) n = subst (λ (v : Process). HasChunk (state_of v) n) same there in
-    let is_ : w ≡ chunk_of z.pid (state_of z) n = is ∙ ap (λ (v : Process). chunk_of v.pid (state_of v) n) same in
-    let come : a ≡ coming z k a.held (Chunk n) = pieces ∙ ap (coming z k a.held) wanted in
-    subst (λ (v : Arrival). IsNextPiece v w) (sym come) (subst (IsNextPiece (coming z k a.held (Chunk n))) (sym is_) ((by_pieces (record z { queue = [] }) k a.held whole).chunk_asked n there_))
+next_chunk : (l : Placed) (p : Pid) (held : List MsgId) (c : Cargo) (a : Arrival) (w : What) (n : ℕ) → cargo_at l p ≡ Some c → ComesStand l p held a → a.wanted ≡ Chunk n → w ≡ chunk_of c.pid c.state n → HasChunk c.state n → IsNextPiece a w
+next_chunk l p held c a w n is h wanted piece there =
+    let come : a ≡ coming c a.cap a.held (Chunk n) = h.pieces ∙ (λ i. coming (same_cargo h.cargo c (sym h.there ∙ is) i) a.cap a.held (wanted i)) in
+    subst (λ (v : Arrival). IsNextPiece v w) (sym come)
+    (subst (IsNextPiece (coming c a.cap a.held (Chunk n))) (sym piece) ((by_pieces c a.cap a.held (cargo_comes (l.processes p) (l.notes p) c a.cap is h.whole)).chunk_asked n there))
 
-next_block : (z y : Process) (k : Option Asker) (a : Arrival) (w : What) (n : ℕ) → CanMove (record z { queue = [] }) → y ≡ z → a ≡ coming z k a.held a.wanted → a.wanted ≡ Block n → w ≡ block_of y.pid y.memory n → HasBlock y.memory n
-    → IsNextPiece a w
-next_block z y k a w n whole same pieces wanted is there =
-    let there_ : HasBlock z.memory n = subst (λ (v : Process). HasBlock v.memory n) same there in
-    let is_ : w ≡ block_of z.pid z.memory n = is ∙ ap (λ (v : Process). block_of v.pid v.memory n) same in
-    let come : a ≡ coming z k a.held (Block n) = pieces ∙ ap (coming z k a.held) wanted in
-    subst (λ (v : Arrival). IsNextPiece v w) (sym come) (subst (IsNextPiece (coming z k a.held (Block n))) (sym is_) ((by_pieces (record z { queue = [] }) k a.held whole).block_asked n there_))
+next_block : (l : Placed) (p : Pid) (held : List MsgId) (c : Cargo) (a : Arrival) (w : What) (n : ℕ) → cargo_at l p ≡ Some c → ComesStand l p held a → a.wanted ≡ Block n → w ≡ block_of c.pid c.memory n → HasBlock c.memory n → IsNextPiece a w
+next_block l p held c a w n is h wanted piece there =
+    let come : a ≡ coming c a.cap a.held (Block n) = h.pieces ∙ (λ i. coming (same_cargo h.cargo c (sym h.there ∙ is) i) a.cap a.held (wanted i)) in
+    subst (λ (v : Arrival). IsNextPiece v w) (sym come)
+    (subst (IsNextPiece (coming c a.cap a.held (Block n))) (sym piece) ((by_pieces c a.cap a.held (cargo_comes (l.processes p) (l.notes p) c a.cap is h.whole)).block_asked n there))
 
 -- the machine is the receiver's home
 home_is : (b : Boot) (pt : Point) (l : Placed) (ks : ℕ → KernelState) (m : ℕ) (i : MsgId) (x : Message) → Around b pt l ks m i x → (x.to.pid.num == 0) ≡ true → x.to.pid.home ≡ m
@@ -181,14 +179,14 @@ leaves_here b pt l ks m i x p h d =
 
 -- it asks to come, and can move
 asks_to_come : (b : Boot) (pt : Point) (l : Placed) (ks : ℕ → KernelState) (m : ℕ) (i : MsgId) (x : Message) (w : What) (p : Pid) → Around b pt l ks m i x → (t : IsToken pt l ks m i x w p) → kind_of w ≡ MessageKind.Ask
-    → w ≡ ask_of t.process (l.notes p) → IsAskOfProcess w
+    → w ≡ ask_for t.cargo → IsAskOfProcess w
 asks_to_come b pt l ks m i x w p h t is asked =
     let s = t.moved.s in
     let (to, known) = frozen_at (kind_of w) t.moved.d (pt.view.known s p) t.moved.source (ap is_restart is) in
     let within : s < pt.kernel.machines = h.run.found.known_within s p (λ none. (let e_ : ⊥ = cc (sym known ∙ none) in e_)) in
     let d = leaves_at b pt l s (ks s) p to h.run (h.nodes s within) known in
-    let same = same_process (l.processes p) t.process (record d.departure.process { queue = d.stands.here.0.0 }) t.there d.stands.here.0.1 in
-    subst IsAskOfProcess (sym (asked ∙ ap (λ (v : Process). ask_of v (l.notes p)) same)) (whole_asks d.departure.process (l.notes p) d.stands.whole)
+    let same = same_cargo t.cargo (cargo_of d.departure.process d.departure.asker) (sym t.there ∙ d.stands.cargo) in
+    subst IsAskOfProcess (sym (asked ∙ ap ask_for same)) (whole_asks d.departure.process d.departure.asker d.stands.whole)
 
 sorted_of : (b : Boot) (pt : Point) (l : Placed) (ks : ℕ → KernelState) (m : ℕ) (i : MsgId) (x : Message) (w : What) → x.what ≡ w → Around b pt l ks m i x → own_sort (kind_of w) x.to.pid (about_of w) ≡ true
 sorted_of b pt l ks m i x w e h = ap (λ (v : What). own_sort (kind_of v) x.to.pid (about_of v)) (sym e) ∙ h.front.sort
@@ -204,27 +202,25 @@ kernel_row b pt l ks m i x (What.Refuse pid slots blocks) e h num sent =
 kernel_row b pt l ks m i x (What.PullState pid chunk) e h num sent =
     let t = token_of b pt l ks m i x (What.PullState pid chunk) pid e h.run h.tokens h.front refl refl in
     let d = source_leaves b pt l m (ks m) pid MessageKind.PullState h.run (h.nodes m h.within) t.moved refl refl in
-    let same = same_process (l.processes pid) t.process (record d.departure.process { queue = d.stands.here.0.0 }) t.there d.stands.here.0.1 in
-    (frozen_is (ks m) pid d.departure (λ (v : Departure). HasChunk (state_of v.process) chunk) d.is (subst (λ (v : Process). HasChunk (state_of v) chunk) same t.carries.1.1), sent)
+    let same = same_cargo t.cargo (cargo_of d.departure.process d.departure.asker) (sym t.there ∙ d.stands.cargo) in
+    (frozen_is (ks m) pid d.departure (λ (v : Departure). HasChunk (state_of v.process) chunk) d.is (subst (λ (v : Cargo). HasChunk v.state chunk) same t.carries.1.1), sent)
 kernel_row b pt l ks m i x (What.State pid chunk last bytes) e h num sent =
     let w = What.State pid chunk last bytes in
     let t = token_of b pt l ks m i x w pid e h.run h.tokens h.front refl refl in
     let c = destination_comes b pt l m (ks m) pid MessageKind.State h.run (h.nodes m h.within) t.moved refl refl in
     let wanted = subst (λ (v : Option Arrival). Wants v (Chunk chunk)) (ap (λ (n : ℕ). incoming_of ((ks n).records pid)) (home_is b pt l ks m i x h num) ∙ ap incoming_of c.is) t.carries.2 in
-    let same = same_process (l.processes pid) t.process c.stands.process t.there c.stands.there in
-    (incoming_is (ks m) pid c.arrival (λ (a : Arrival). IsNextPiece a w) c.is (next_chunk c.stands.process t.process (l.notes pid) c.arrival w chunk c.stands.whole same c.stands.pieces wanted t.carries.0 t.carries.1.1), sent)
+    (incoming_is (ks m) pid c.arrival (λ (a : Arrival). IsNextPiece a w) c.is (next_chunk l pid (pt.view.held m pid) t.cargo c.arrival w chunk t.there c.stands wanted t.carries.0 t.carries.1.1), sent)
 kernel_row b pt l ks m i x (What.PullBlock pid block) e h num sent =
     let t = token_of b pt l ks m i x (What.PullBlock pid block) pid e h.run h.tokens h.front refl refl in
     let d = source_leaves b pt l m (ks m) pid MessageKind.PullBlock h.run (h.nodes m h.within) t.moved refl refl in
-    let same = same_process (l.processes pid) t.process (record d.departure.process { queue = d.stands.here.0.0 }) t.there d.stands.here.0.1 in
-    (frozen_is (ks m) pid d.departure (λ (v : Departure). HasBlock v.process.memory block) d.is (subst (λ (v : Process). HasBlock v.memory block) same t.carries.1.1), sent)
+    let same = same_cargo t.cargo (cargo_of d.departure.process d.departure.asker) (sym t.there ∙ d.stands.cargo) in
+    (frozen_is (ks m) pid d.departure (λ (v : Departure). HasBlock v.process.memory block) d.is (subst (λ (v : Cargo). HasBlock v.memory block) same t.carries.1.1), sent)
 kernel_row b pt l ks m i x (What.Memory pid block bytes) e h num sent =
     let w = What.Memory pid block bytes in
     let t = token_of b pt l ks m i x w pid e h.run h.tokens h.front refl refl in
     let c = destination_comes b pt l m (ks m) pid MessageKind.Memory h.run (h.nodes m h.within) t.moved refl refl in
     let wanted = subst (λ (v : Option Arrival). Wants v (Block block)) (ap (λ (n : ℕ). incoming_of ((ks n).records pid)) (home_is b pt l ks m i x h num) ∙ ap incoming_of c.is) t.carries.2 in
-    let same = same_process (l.processes pid) t.process c.stands.process t.there c.stands.there in
-    (incoming_is (ks m) pid c.arrival (λ (a : Arrival). IsNextPiece a w) c.is (next_block c.stands.process t.process (l.notes pid) c.arrival w block c.stands.whole same c.stands.pieces wanted t.carries.0 t.carries.1.1), sent)
+    (incoming_is (ks m) pid c.arrival (λ (a : Arrival). IsNextPiece a w) c.is (next_block l pid (pt.view.held m pid) t.cargo c.arrival w block t.there c.stands wanted t.carries.0 t.carries.1.1), sent)
 kernel_row b pt l ks m i x (What.AllTaken pid) e h num sent =
     let t = token_of b pt l ks m i x (What.AllTaken pid) pid e h.run h.tokens h.front refl refl in
     let d = source_leaves b pt l m (ks m) pid MessageKind.AllTaken h.run (h.nodes m h.within) t.moved refl refl in
@@ -233,10 +229,15 @@ kernel_row b pt l ks m i x (What.Restart pid) e h num sent =
     let t = token_of b pt l ks m i x (What.Restart pid) pid e h.run h.tokens h.front refl refl in
     let c = destination_comes b pt l m (ks m) pid MessageKind.Restart h.run (h.nodes m h.within) t.moved refl refl in
     let wanted = subst (λ (v : Option Arrival). Wants v Nothing) (ap (λ (n : ℕ). incoming_of ((ks n).records pid)) (home_is b pt l ks m i x h num) ∙ ap incoming_of c.is) t.carries.1 in
-    let all_come : (z : Process) (k : Option Asker) (a : Arrival) → CanMove (record z { queue = [] }) → a ≡ coming z k a.held a.wanted → a.wanted ≡ Nothing → MayRestart a = λ z k a whole pieces wanted.
-    let come : a ≡ coming z k a.held Nothing = pieces ∙ ap (coming z k a.held) wanted in
-    record { whole = wanted; process = moved z; restarts = ap restarted come ∙ (by_pieces (record z { queue = [] }) k a.held whole).whole; lawful = moved_lawful (record z { queue = [] }) whole.lawful } in
-    incoming_is (ks m) pid c.arrival MayRestart c.is (all_come c.stands.process (l.notes pid) c.arrival c.stands.whole c.stands.pieces wanted)
+    let of = is_cargo_of (l.processes pid) (l.notes pid) c.stands.cargo c.stands.there in
+    let z = of.process in
+    let carried : CanBeCarried c.arrival.cap z = subst (IsSuch (CanBeCarried c.arrival.cap)) of.there c.stands.whole in
+    incoming_is (ks m) pid c.arrival MayRestart c.is (record {
+      whole = wanted;
+      process = moved z;
+      restarts = comes_again l pid (pt.view.held m pid) c.arrival z of.there wanted c.stands;
+      lawful = moved_lawful (record z { queue = [] }) carried.0.lawful;
+    })
 kernel_row b pt l ks m i x (What.Migrate machine_) e h num sent = absurd (false≢true (sym (ap (λ (c : Bool). not (c || is_server x.to.pid) && true) num) ∙ sorted_of b pt l ks m i x (What.Migrate machine_) e h))
 kernel_row b pt l ks m i x (What.Update about) e h num sent = absurd (false≢true (sym (ap (λ (c : Bool). not c && true) num) ∙ sorted_of b pt l ks m i x (What.Update about) e h))
 kernel_row b pt l ks m i x any_ e h num sent = absurd (false≢true (sorted_of b pt l ks m i x any_ e h))

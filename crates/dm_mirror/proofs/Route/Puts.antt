@@ -14,6 +14,8 @@ use Rattle.dm_kernel.specs.State as machine
 use Rattle.dm_mirror.proofs.Rooms.{taken_same}
 use Rattle.dm_rule.specs.Parts as rule
 use Rattle.dm_mirror.proofs.Turning as turning
+use Rattle.dm_mirror.proofs.Names.{CanBeCarried, IsSuch}
+use Rattle.dm_mirror.proofs.Cargoes.{cargo_same}
 
 pub record CoreStands (b : Boot) (w : WorldState) (pt : Point) (l : Placed) (h : History) : Type 0 where
   pub groups : w.groups ≡ pt.view.groups
@@ -50,14 +52,14 @@ module _ (b : Boot) (pt : Point) (l u : Placed) (a : Addresses) (e : MoreBag l u
 
   leaves_more : (p : Pid) (queue held : List MsgId) (to : ℕ) (d : Departure) → LeavesStand l p queue held to d → LeavesStand u p queue held to d
   leaves_more p queue held to d h =
-      record { to = h.to; asker = h.asker ∙ sym (e.notes p); here = here_more p queue d.process h.here; held = messages_more l.bag u.bag e.bag held d.held h.held; whole = h.whole }
+      record { to = h.to; cargo = cargo_same l u p (e.processes p) (e.notes p) ∙ h.cargo; here = here_more p queue d.process h.here; held = messages_more l.bag u.bag e.bag held d.held h.held; whole = h.whole }
 
   comes_more : (p : Pid) (held : List MsgId) (x : Arrival) → ComesStand l p held x → ComesStand u p held x
   comes_more p held x h = record {
-    process = h.process;
-    there = e.processes p ∙ h.there;
-    whole = h.whole;
-    pieces = h.pieces ∙ ap (λ (k : Option Asker). coming h.process k x.held x.wanted) (sym (e.notes p));
+    cargo = h.cargo;
+    there = cargo_same l u p (e.processes p) (e.notes p) ∙ h.there;
+    whole = subst (IsSuch (CanBeCarried x.cap)) (sym (e.processes p)) h.whole;
+    pieces = h.pieces;
     held = messages_more l.bag u.bag e.bag held x.held h.held;
   }
 
@@ -105,16 +107,16 @@ bag_here l x = ap (λ (c : Bool). if c then Some x else l.bag x.id) (id_eq-same 
 bag_off : (l : Placed) (x : Message) (i : MsgId) → id_eq x.id i ≡ false → (with_message l x.id (Some x)).bag i ≡ l.bag i
 bag_off l x i e = ap (λ (c : Bool). if c then Some x else l.bag i) e
 
-pub route_more : (pt : Point) (l : Placed) (records : AllRecords) (r : Route) → MayPut pt l records r → MoreBag l (after_route l r)
+pub route_more : (pt : Point) (l : Placed) (records : AllRecords) (r : Route) → MayPut pt l records 0 r → MoreBag l (after_route l r)
 route_more pt l records (Own x) may =
     record { bag = λ i y e. grind (arith, nat_tests, id_eq-is, bag_off, may.bag); processes = λ p. refl; notes = λ p. refl; board = refl; manager = refl }
 route_more pt l records _ may = record { bag = λ i x e. e; processes = λ p. refl; notes = λ p. refl; board = refl; manager = refl }
 
-pub route_there : (pt : Point) (l : Placed) (records : AllRecords) (r : Route) → MayPut pt l records r → (after_route l r).bag (message_of r).id ≡ Some (message_of r)
+pub route_there : (pt : Point) (l : Placed) (records : AllRecords) (r : Route) → MayPut pt l records 0 r → (after_route l r).bag (message_of r).id ≡ Some (message_of r)
 route_there pt l records r may = grind (arith, nat_tests, bag_here)
 
 -- a message that isn't the kernel's own gets no addresses
-pub route_keeps : (pt : Point) (l : Placed) (records : AllRecords) (m : ℕ) (r : Route) → turning.is_own r ≡ 0 → MayPut pt l records r → Mirrors pt.kernel pt.view pt.addresses l → KeepsPlaces pt (line_put m (message_of r).to.at (message_of r))
+pub route_keeps : (pt : Point) (l : Placed) (records : AllRecords) (m : ℕ) (r : Route) → turning.is_own r ≡ 0 → MayPut pt l records 0 r → Mirrors pt.kernel pt.view pt.addresses l → KeepsPlaces pt (line_put m (message_of r).to.at (message_of r))
 route_keeps pt l records m (First x) none may h =
     let p : IsPlain (pt.kernel.bag x.id) x = plain_of pt l x h may.0 may.1 in
     subst (λ (k : MessageKind). first_gives (pt.view.told x.id) (own_given pt.kernel pt.view pt.addresses x.id x.to.pid (sort_of k)) ≡ []) p.kind (subst (λ (q : Pid). first_gives (pt.view.told x.id) (own_given pt.kernel pt.view pt.addresses x.id q (sort_of (plain_kind p.m.what))) ≡ []) p.to (routed_keeps pt m x.to.at x.id p.m))
@@ -122,7 +124,7 @@ route_keeps pt l records m (On x) none may h = told_keeps pt m x.to.at x.id (kin
 route_keeps pt l records m (Own x) none may h = absurd (omega (arith, none))
 
 -- the kernel with places mirrors the point behind the put
-pub route_mirrors : (pt : Point) (l : Placed) (records : AllRecords) (m : ℕ) (r : Route) → MayPut pt l records r → Mirrors pt.kernel pt.view pt.addresses l
+pub route_mirrors : (pt : Point) (l : Placed) (records : AllRecords) (m : ℕ) (r : Route) → MayPut pt l records 0 r → Mirrors pt.kernel pt.view pt.addresses l
     → Mirrors (put_point pt m (message_of r).to.at (message_of r)).kernel (put_point pt m (message_of r).to.at (message_of r)).view (put_point pt m (message_of r).to.at (message_of r)).addresses (after_route l r)
 route_mirrors pt l records m (First x) may h = lines_keep pt (put_point pt m x.to.at x) l (line_put m x.to.at x) (route_keeps pt l records m (First x) refl may h) h refl
 route_mirrors pt l records m (On x) may h = lines_keep pt (put_point pt m x.to.at x) l (line_put m x.to.at x) (route_keeps pt l records m (On x) refl may h) h refl
@@ -130,14 +132,14 @@ route_mirrors pt l records m (Own x) may h =
     own_put_mirrors pt l m x.to.at (kind_of x.what) x.to.pid x h may.plain may.encloses (sym (h.plain.bag x.id) ∙ ap (λ (o : Option Message). bind o plain_message) may.bag) may.untold may.receiver may.sender
 
 -- what is told of the next own message is what it is
-pub own_told : (pt : Point) (l : Placed) (records : AllRecords) (m : ℕ) (x : Message) → MayOwn pt l records x → (after_put pt.view m x.to.at x.id (kind_of x.what) x.to.pid).told x.id ≡ Some (told_of x)
+pub own_told : (pt : Point) (l : Placed) (records : AllRecords) (m : ℕ) (x : Message) → MayOwn pt l records 0 x → (after_put pt.view m x.to.at x.id (kind_of x.what) x.to.pid).told x.id ≡ Some (told_of x)
 own_told pt l records m x may = grind (arith, nat_tests, put_at, first_none)
 
 own_kept : (v u : View) (i : MsgId) (y : Message) → ((t : Told) → v.told i ≡ Some t → u.told i ≡ Some t) → OwnStands v i y → OwnStands u i y
 own_kept v u i y told k = record { told = told (told_of y) k.told; mine = k.mine; sender = k.sender }
 
 -- the kernels' own messages were told as what they are
-pub route_own : (pt : Point) (l : Placed) (records : AllRecords) (m : ℕ) (r : Route) → MayPut pt l records r → AllOwnStand pt.view l → AllOwnStand (put_point pt m (message_of r).to.at (message_of r)).view (after_route l r)
+pub route_own : (pt : Point) (l : Placed) (records : AllRecords) (m : ℕ) (r : Route) → MayPut pt l records 0 r → AllOwnStand pt.view l → AllOwnStand (put_point pt m (message_of r).to.at (message_of r)).view (after_route l r)
 route_own pt l records m (First x) may h i y there plain =
     own_kept pt.view (after_put pt.view m x.to.at x.id (kind_of x.what) x.to.pid) i y (λ t. told_stays pt.view m x.to.at x.id (kind_of x.what) x.to.pid i t) (h i y there plain)
 route_own pt l records m (On x) may h i y there plain =
@@ -158,17 +160,16 @@ pub token_kept : (v u : View) (l k : Placed) (r s : AllRecords) (p : Pid) (i : M
 token_kept v u l k r s p i t more asked records h =
     let d : ℕ = destination_of i t in
     search (
-      more.processes p ∙ h.there,
+      cargo_same l k p (more.processes p) (more.notes p) ∙ h.there,
       more.bag i h.message h.is,
-      subst (λ (o : Option Asker). Carries p h.process o (u.asked p) (incoming_of (s d p)) h.message.what) (sym (more.notes p))
-          (subst (λ (n : ℕ). Carries p h.process (l.notes p) n (incoming_of (s d p)) h.message.what) (sym asked)
-          (subst (λ (f : Pid → Option machine.KernelKnown). Carries p h.process (l.notes p) (v.asked p) (incoming_of (f p)) h.message.what) (sym (records d)) h.carries)),
+      subst (λ (n : ℕ). Carries p h.cargo n (incoming_of (s d p)) h.message.what) (sym asked)
+          (subst (λ (f : Pid → Option machine.KernelKnown). Carries p h.cargo (v.asked p) (incoming_of (f p)) h.message.what) (sym (records d)) h.carries),
     )
 
 first_kind : (o : Option Told) (u t : Told) → Some (first_told o u) ≡ Some t → is_between u.kind ≡ false → ((s : Told) → o ≡ Some s → is_between s.kind ≡ false) → is_between t.kind ≡ false
 first_kind o u t e new old = grind (arith, nat_tests)
 
-module _ (pt : Point) (l : Placed) (r s : AllRecords) (m : ℕ) (route : Route) (may : MayPut pt l r route) (records : (d : ℕ) → s d ≡ r d) where
+module _ (pt : Point) (l : Placed) (r s : AllRecords) (m : ℕ) (route : Route) (may : MayPut pt l r 0 route) (records : (d : ℕ) → s d ≡ r d) where
   abbrev x : Message
   x = message_of route
 
@@ -192,7 +193,7 @@ module _ (pt : Point) (l : Placed) (r s : AllRecords) (m : ℕ) (route : Route) 
     | inr apart ↦ other_token fits h p i t z apart told between about st
   ]
 
-pub route_tokens : (pt : Point) (l : Placed) (r s : AllRecords) (m : ℕ) (route : Route) → MayPut pt l r route → ((d : ℕ) → s d ≡ r d) → Sane pt → PairsFit pt.view → Mirrors pt.kernel pt.view pt.addresses l → TokensStand pt.view l r
+pub route_tokens : (pt : Point) (l : Placed) (r s : AllRecords) (m : ℕ) (route : Route) → MayPut pt l r 0 route → ((d : ℕ) → s d ≡ r d) → Sane pt → PairsFit pt.view → Mirrors pt.kernel pt.view pt.addresses l → TokensStand pt.view l r
     → TokensStand (put_point pt m (message_of route).to.at (message_of route)).view (after_route l route) s
 route_tokens pt l r s m (First x) may records sane fits mirrors h =
     let p : IsPlain (pt.kernel.bag x.id) x = plain_of pt l x mirrors may.0 may.1 in
@@ -211,11 +212,11 @@ route_tokens pt l r s m (Own x) may records sane fits mirrors h =
     subst (λ (z : Told). TokenStands (after_put pt.view m x.to.at x.id (kind_of x.what) x.to.pid) (with_message l x.id (Some x)) s p x.id z) is
     (search (
       bag_here l x,
-      subst (λ (f : Pid → Option machine.KernelKnown). Carries p c.process (l.notes p) (pt.view.asked p) (incoming_of (f p)) x.what) (sym (records (destination_of x.id (told_of x)))) c.carries,
+      subst (λ (f : Pid → Option machine.KernelKnown). Carries p c.cargo (pt.view.asked p) (incoming_of (f p)) x.what) (sym (records (destination_of x.id (told_of x)))) c.carries,
     )))
 
 -- the world stands for the point behind the put
-pub stands_routed : (b : Boot) (pt : Point) (l : Placed) (r : AllRecords) (m : ℕ) (route : Route) (w : WorldState) (h : History) → MayPut pt l r route → ((d : ℕ) → (w.nodes d).kernel.records ≡ r d) → Sane pt → PairsFit pt.view → Mirrors pt.kernel pt.view pt.addresses l
+pub stands_routed : (b : Boot) (pt : Point) (l : Placed) (r : AllRecords) (m : ℕ) (route : Route) (w : WorldState) (h : History) → MayPut pt l r 0 route → ((d : ℕ) → (w.nodes d).kernel.records ≡ r d) → Sane pt → PairsFit pt.view → Mirrors pt.kernel pt.view pt.addresses l
     → AllOwnStand pt.view l → TokensStand pt.view l r → CoreStands b w (put_point pt m (message_of route).to.at (message_of route)) (after_route l route) h → StandsWith b w (put_point pt m (message_of route).to.at (message_of route)) (after_route l route) h
 stands_routed b pt l r m route w h may records sane fits mirrors own tokens core = search (
   route_mirrors pt l r m route may mirrors,

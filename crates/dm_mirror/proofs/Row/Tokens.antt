@@ -10,10 +10,12 @@ use Rattle.dm_mirror.proofs.Serve.Stops.{nothing_more}
 use Rattle.dm_mirror.proofs.Serve.Receives.{Ready, serve_row}
 use Rattle.dm_kernel.specs.State as machine
 use Rattle.dm_rule.specs.Parts as rule
+use Rattle.dm_mirror.proofs.Names.{Cargo}
+use Rattle.dm_mirror.proofs.Cargoes.{cargo_same}
 
 -- what a message of a migration carries has no plain meaning
-pub carries_plain : (p : Pid) (x : Process) (k : Option Asker) (n : ℕ) (a : Option Arrival) (w : What) → Carries p x k n a w → plain_what w ≡ None
-carries_plain p x k n a w h = grind (arith, nat_tests)
+pub carries_plain : (p : Pid) (x : Cargo) (n : ℕ) (a : Option Arrival) (w : What) → Carries p x n a w → plain_what w ≡ None
+carries_plain p x n a w h = grind (arith, nat_tests)
 
 at_destination : (k : MessageKind) (s d : ℕ) (i : MsgId) (x : Known) → (s == d) ≡ false → knows (Moves k s d (Some i)) d x ≡ true → kind_comes k s x ≡ true
 at_destination k s d i x apart h = sym (off_if (s == d) (kind_leaves k d x) (if d == d then kind_comes k s x else is_away x) apart ∙ on_if (d == d) (kind_comes k s x) (is_away x) (eq_self d)) ∙ h
@@ -68,7 +70,7 @@ token_keeps : (pt : Point) (l : Placed) (records : AllRecords) (next : Point) (p
     → TokenStands pt.view l records p i t → TokenStands next.view placed after p i t
 token_keeps pt l records next placed after p i t g own h told s =
     let x = s.message in
-    let none : plain_message x ≡ None = ap (with_what x) (carries_plain p s.process (l.notes p) (pt.view.asked p) (incoming_of (records (destination_of i t) p)) x.what s.carries) in
+    let none : plain_message x ≡ None = ap (with_what x) (carries_plain p s.cargo (pt.view.asked p) (incoming_of (records (destination_of i t) p)) x.what s.carries) in
     let o = own i x s.is none in
     let is_ : Some t ≡ Some (told_of x) = sym told ∙ o.told in
     let is : t ≡ told_of x = cc in
@@ -76,11 +78,10 @@ token_keeps pt l records next placed after p i t g own h told s =
     λ late. (let at = h.comes_ (ap (λ (u : Told). is_early u.kind) is ∙ late) in
     ap (λ (r : Option machine.KernelKnown). incoming_of r) (g.records_ (destination_of i t) p (subst (λ (n : ℕ). is_moving (pt.view.known n p) ≡ true) at h.moving))) in
     search (
-      g.process h.at p h.moving ∙ s.there,
+      cargo_same l placed p (g.process h.at p h.moving) (g.notes h.at p h.moving) ∙ s.there,
       g.own i x none s.is,
-      subst (λ (o : Option Asker). Carries p s.process o (next.view.asked p) (incoming_of (after (destination_of i t) p)) x.what) (sym (g.notes h.at p h.moving))
-          (subst (λ (n : ℕ). Carries p s.process (l.notes p) n (incoming_of (after (destination_of i t) p)) x.what) (ap (λ (f : Pid → ℕ). f p) (sym g.lines.asked))
-          (let e_ : Carries p s.process (l.notes p) (pt.view.asked p) (incoming_of (after (destination_of i t) p)) x.what = grind (arith, nat_tests, s.carries) in e_)),
+      subst (λ (n : ℕ). Carries p s.cargo n (incoming_of (after (destination_of i t) p)) x.what) (ap (λ (f : Pid → ℕ). f p) (sym g.lines.asked))
+          (let e_ : Carries p s.cargo (pt.view.asked p) (incoming_of (after (destination_of i t) p)) x.what = grind (arith, nat_tests, s.carries) in e_),
     )
 
 -- a message of the protocol is a kernel's own
@@ -152,7 +153,6 @@ row_turns b m pt l records k run own tokens same r = record {
   elsewhere = r.elsewhere;
   may = grind (arith, nat_tests, r.sent);
   late_may = tt;
-  single = (let z = routes_owns r.route in omega (arith, z));
   topic = tt;
   own = λ i x there none. (let o = own i x (r.own_back i x none there) none in record { told = ap (λ (f : MsgId → Option Told). f i) r.elsewhere.told ∙ o.told; mine = o.mine; sender = o.sender });
   tokens = tokens_keep pt l records r.next r.placed (at_machine records m r.state.records) run.based.phased.phases run.based.phased.sane.tells.own (row_leaves b m pt l records k run same r) own tokens;
