@@ -14,4 +14,4 @@ REST = "rest" in WITH  # the directive `rest N`
 CALLING_OFF = "calloff" in WITH  # a migration is called off
 BURYING = "bury" in WITH  # forwarding addresses are removed behind a process that has ended
 SERVERS_MOVE = "servers" in WITH  # the switchboard and the process manager move
-COMMANDS = "commands" in WITH  # count, look, a drill of one's own system, a trace's fault in words, labels alone
+COMMANDS = "commands" in WITH  # look, a drill of one's own system, a trace's fault in words, labels alone

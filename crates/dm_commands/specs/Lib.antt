@@ -7,6 +7,7 @@ pub mod Runs
 pub mod Checks
 pub mod Drills
 pub mod Charts
+pub mod Looks
 pub mod Explains
 pub mod Commands
 pub mod Says

@@ -3,9 +3,11 @@
 
 pub mod chart;
 pub mod check;
+pub mod count;
 pub mod drill;
 pub mod explain;
 pub mod inputs;
+pub mod look;
 mod read;
 pub mod run;
 pub mod words;

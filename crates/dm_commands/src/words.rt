@@ -8,8 +8,10 @@ ghost use Rattle.dm_commands.specs.Says.{of_world};
 
 use crate::chart::chart_files;
 use crate::check::check_files;
+use crate::count::count_files;
 use crate::drill::drill;
 use crate::explain::explain_files;
+use crate::look::look_files;
 use crate::run::run_files;
 use dm_ending::status::Status;
 use dm_outside::{Shelf, Sink};
@@ -41,6 +43,16 @@ pub fn do_words<F: Shelf, K: Sink>(
         Ok(Request::Explain { boot, schedule }) => {
             explain_files(alloc, boot, schedule, shelf, out)
         }
+        Ok(Request::Count { boot, schedule }) => {
+            count_files(alloc, boot, schedule, shelf, out, world)
+        }
+        Ok(
+            Request::Look {
+                boot,
+                schedule,
+                groups,
+            },
+        ) => look_files(alloc, boot, schedule, groups, shelf, out),
         Ok(Request::Drill(drawn)) => drill(alloc, &drawn, out, world),
         Err(no) => no.status(),
     }

@@ -2,4 +2,5 @@ pub mod Sets
 pub mod Stages
 pub mod Todo
 pub mod Ends
+pub mod Letters
 pub mod Each

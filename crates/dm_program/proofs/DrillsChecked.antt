@@ -22,7 +22,7 @@ use Rattle.dm_checklaws.specs.Verdict.{verdict}
 use Rattle.dm_drill.specs.Counts.{totals_of}
 use Rattle.dm_drill.specs.Drilled.{DrillIsWhole, text_shown}
 use Rattle.dm_drill.specs.Summary.{summary}
-use Rattle.dm_commands.specs.Drills.{directives_of_drill}
+use Rattle.dm_commands.specs.Drills.{directives_of_drill, report_of}
 use Rattle.dm_commands.proofs.Drills.{all_for}
 use Rattle.dm_program.proofs.Runs.Fits.{directives_fit}
 use Rattle.dm_program.specs.Laws.{DrillsCheck, IsGoodDrill, IsGoodWornDrill}
@@ -65,7 +65,7 @@ from_nothing before after bytes none written = written ∙ ap (λ (o : Option (L
 shown : (trace : Bool) (ls : List Line) → trace ≡ true → text_shown trace ls ≡ text_of_lines ls
 shown trace ls e = ap (λ (t : Bool). text_shown t ls) e
 
-whole_checks : (d : Drill) (b : Boot) (ds : List Directive) (before after : Option (List ℕ)) (world : Option World) (w : DrillIsWhole by_rule d b ds before after world) → d.trace ≡ true → before ≡ Some []
+whole_checks : (d : Drill) (b : Boot) (ds : List Directive) (before after : Option (List ℕ)) (world : Option World) (w : DrillIsWhole by_rule d.trace (report_of d) b ds before after world) → d.trace ≡ true → before ≡ Some []
     → after ≡ Some (text_of_lines (joined w.groups) ++ summary d.seed d.machines d.lines (totals_of w.groups) w.sums.quiet)
 whole_checks d b ds before after world w trace none =
     from_nothing before after (text_shown d.trace (joined w.groups) ++ w.last) none w.written

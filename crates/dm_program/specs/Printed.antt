@@ -9,6 +9,7 @@ use Rattle.dm_line.specs.declared.line.Line.{Line}
 use Rattle.dm_line.specs.Todo.{Todo, Next}
 use Rattle.dm_rule.specs.Ends.{end_lines}
 use Rattle.dm_rule.specs.Good.{next_step}
+use Rattle.dm_rule.specs.Letters.{HoldsLetters}
 use Rattle.dm_rule.specs.Point.{Point}
 use Rattle.dm_rule.specs.Quiet.{IsQuiet}
 use Rattle.dm_rule.specs.Worn as rule
@@ -65,6 +66,7 @@ by_rule = record {
   Rests = λ b ds p. EndsWell b ds p;
   Wears = λ b ds p from to. RuleWears b p from to;
   ends = λ b p. end_lines p.end;
+  Holds = λ b p letters. HoldsLetters p.end letters;
   IsQuiet = λ b p. IsQuiet p.end.kernel.machines p.end.view;
   Stands = λ b p w. Stands b (world_state w) p.end;
 }

@@ -18,5 +18,6 @@ pub mod Homes
 pub mod Good
 pub mod Worn
 pub mod Ends
+pub mod Letters
 pub mod Laws
 pub mod Apart

@@ -1,5 +1,6 @@
 -- One notion of a run carries to another what is said by it.
 use Rattle.dm_run.proofs.Names.{◌≡◌, ◌↔◌, ◌⊎◌, inl, inr, ℕ, ◌++◌, List, [], ap, ◌∙◌, sym, subst, All, Option, None, Some, Boot, Directive, EndLine, Line, EndFits, text_of_ends, text_of_lines, joined, World, appended}
+use Rattle.dm_line.specs.Letters.{Letter}
 use Rattle.dm_run.proofs.Names.{Notion, StandsFor, IsWhole, IsOfFirst, IsBegun, WearsAfter, RunWears, PictureIsWhole, IsBeforeWorn}
 
 -- where a run has come by one notion, it has by the other, and all is alike there
@@ -10,6 +11,7 @@ pub record Carried (r s : Notion) (b : Boot) (ds : List Directive) (gs : List (L
   pub rests : r.IsOver b ds p → s.Rests b ds at
   pub wears : (from to : ℕ) → r.Wears b ds p from to → s.Wears b ds at from to
   pub ends : r.ends b p ≡ s.ends b at
+  pub holds : (letters : List Letter) → r.Holds b p letters → s.Holds b at letters
   pub quiet : r.IsQuiet b p ↔ s.IsQuiet b at
   pub stands : (w : World) → r.Stands b p w → s.Stands b at w
 

@@ -6,11 +6,13 @@ use Rattle.dm_schedule.specs.declared.Step.{Step}
 use Rattle.dm_schedule.specs.declared.Directive.{Directive}
 use Rattle.dm_line.specs.declared.end_line.EndLine.{EndLine}
 use Rattle.dm_line.specs.declared.line.Line.{Line}
+use Rattle.dm_line.specs.Letters.{Letter}
 use Rattle.dm_world.specs.declared.cursor.Cursor.{Cursor}
 use Rattle.dm_world.specs.declared.world.World.{World}
 use Rattle.dm_world.specs.Ends.{end_lines}
 use Rattle.dm_world.specs.Meets.{world_state}
 use Rattle.dm_world.specs.Next.{world_is_quiet}
+use Rattle.dm_world.specs.Waiting.{AreLetters, waiting}
 use Rattle.dm_world.specs.World.{WorldState}
 use Rattle.dm_run.specs.declared.way.Way.{Way}
 use Rattle.dm_run.specs.Way.{IsDone}
@@ -29,6 +31,8 @@ pub record Notion : Type 1 where
   pub Wears : Boot → List Directive → Place → ℕ → ℕ → Type 0
   -- the lines that say where all stands
   pub ends : Boot → Place → List EndLine
+  -- these letters are what is in the messages that wait, by their names
+  pub Holds : Boot → Place → List Letter → Type 0
   -- nothing is on its way
   pub IsQuiet : Boot → Place → Type 0
   -- the world is there
@@ -56,6 +60,7 @@ by_world = record {
   Rests = λ b ds p. ⊤;
   Wears = λ b ds p from to. WorldWears b p from to;
   ends = λ b p. end_lines (length b.machines) p.state;
+  Holds = λ b p letters. AreLetters (waiting (length b.machines) p.state) letters;
   IsQuiet = λ b p. world_is_quiet (length b.machines) p.state ≡ true;
   Stands = λ b p w. world_state w ≡ p.state;
 }

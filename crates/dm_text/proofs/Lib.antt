@@ -13,4 +13,5 @@ pub mod WordsBack
 pub mod Numbers
 pub mod Pieces
 pub mod Spacing
+pub mod Lettered
 mod Worked

@@ -8,4 +8,5 @@ pub mod LabelsOf
 pub mod GroupsOf
 pub mod EndsOf
 pub mod LinesOf
+pub mod Letters
 pub mod Fits

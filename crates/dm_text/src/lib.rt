@@ -4,6 +4,7 @@
 pub mod back;
 mod ends;
 mod labels;
+pub mod letters;
 mod rows;
 pub mod text;
 mod within;

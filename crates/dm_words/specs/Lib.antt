@@ -6,4 +6,6 @@ pub mod CheckWords
 pub mod DrillWords
 pub mod ChartWords
 pub mod ExplainWords
+pub mod CountWords
+pub mod LookWords
 pub mod Words

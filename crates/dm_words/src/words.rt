@@ -7,8 +7,10 @@ ghost use Rattle.dm_words.specs.CheckWords.{check_request as check_asked};
 ghost use Rattle.clap.specs.Walk.{first_of};
 ghost use Rattle.dm_words.specs.DrillWords.{drill_command as drill_shape, drill_request as drill_asked, flag_option, lines_in, lines_asked, machines_in, machines_asked, number_option, seed_of, trace_of};
 ghost use Rattle.dm_words.specs.ChartWords.{chart_request as chart_asked};
+ghost use Rattle.dm_words.specs.CountWords.{count_request as count_asked};
 ghost use Rattle.dm_words.specs.ExplainWords.{explain_command as explain_shape, explain_request as explain_asked};
 ghost use Rattle.dm_words.specs.FileWords.{file_command as file_shape, file_option, free_option};
+ghost use Rattle.dm_words.specs.LookWords.{groups_of, look_command as look_shape, look_request as look_asked};
 ghost use Rattle.dm_words.specs.RunWords.{run_request as run_asked};
 ghost use Rattle.dm_words.specs.Words.{HasShape, IsInRange, IsTaken, bare, demosmp, request_at, request_of, request_said};
 
@@ -68,6 +70,17 @@ pub enum Request<'a> {
         boot: &'a str,
         schedule: Option<&'a str>,
     },
+    /// To run the schedule of a file on the system of a boot file, and count what happens.
+    Count {
+        boot: &'a str,
+        schedule: &'a str,
+    },
+    /// To say where the run of a schedule stands behind so many groups, and what is in the messages.
+    Look {
+        boot: &'a str,
+        schedule: &'a str,
+        groups: u32,
+    },
     /// To do a drill: its machines are 2 to 16, its directives 1 to 10,000.
     Drill(Drill),
 }
@@ -101,7 +114,9 @@ fn command<'a>(alloc: Global) -> Result<Command<'a>, NoMemory>
     let two = with_command(one, file_command(alloc, "check", "boot", "trace"))?;
     let three = with_command(two, file_command(alloc, "chart", "boot", "schedule"))?;
     let four = with_command(three, explain_command(alloc))?;
-    with_command(four, drill_command(alloc))
+    let five = with_command(four, file_command(alloc, "count", "boot", "schedule"))?;
+    let six = with_command(five, look_command(alloc))?;
+    with_command(six, drill_command(alloc))
 }
 
 /// The command line of the program, before its commands.
@@ -145,6 +160,15 @@ fn explain_command<'a>(alloc: Global) -> Result<Command<'a>, NoMemory>
 {
     let explain = with_arg(Command::new(alloc, "explain"), file(alloc, "boot"))?;
     with_arg(explain, free(alloc, "schedule"))
+}
+
+/// The command `look`.
+fn look_command<'a>(alloc: Global) -> Result<Command<'a>, NoMemory>
+    ensures { IfOk result (HasShape look_shape) }
+{
+    let look = with_arg(Command::new(alloc, "look"), file(alloc, "boot"))?;
+    let look = with_arg(look, file(alloc, "schedule"))?;
+    with_arg(look, number(alloc, "at"))
 }
 
 /// The command `drill`.
@@ -217,6 +241,12 @@ fn request_of_command<'a>(name: &str, found: &ArgMatches<'a>) -> Option<Request<
     if name == "explain" {
         return explain_request(found);
     }
+    if name == "count" {
+        return count_request(found);
+    }
+    if name == "look" {
+        return look_request(found);
+    }
     if name == "drill" {
         return drill_request(found);
     }
@@ -259,6 +289,41 @@ fn explain_request<'a>(matches: &ArgMatches<'a>) -> Option<Request<'a>>
     let boot = matches.get_str("boot")?;
     let schedule = matches.get_str("schedule");
     Some(Request::Explain { boot, schedule })
+}
+
+/// The two files that the matches of `count` name.
+fn count_request<'a>(matches: &ArgMatches<'a>) -> Option<Request<'a>>
+    ensures asked { option_map request_said result ≡ count_asked (rows_of (found_of matches.now)) }
+    ensures within { IfSome result IsInRange }
+{
+    let boot = matches.get_str("boot")?;
+    let schedule = matches.get_str("schedule")?;
+    Some(Request::Count { boot, schedule })
+}
+
+/// The two files and the number of groups that the matches of `look` name.
+fn look_request<'a>(matches: &ArgMatches<'a>) -> Option<Request<'a>>
+    ensures asked { option_map request_said result ≡ look_asked (rows_of (found_of matches.now)) }
+    ensures within { IfSome result IsInRange }
+{
+    let boot = matches.get_str("boot")?;
+    let schedule = matches.get_str("schedule")?;
+    let groups = groups(matches)?;
+    Some(Request::Look {
+        boot,
+        schedule,
+        groups,
+    })
+}
+
+/// The number of the option `--at`.
+fn groups(matches: &ArgMatches<'_>) -> Option<u32>
+    ensures { result ≡ groups_of (rows_of (found_of matches.now)) }
+{
+    match value(matches, "at") {
+        Some(word) => count(word.as_bytes()),
+        None => None,
+    }
 }
 
 /// The drill that the matches of `drill` ask for, where its numbers are in their ranges.

@@ -6,6 +6,7 @@ pub mod Rereading
 pub mod Alone
 pub mod Delivering
 pub mod Ending
+pub mod Finding
 pub mod Passing
 pub mod Falling
 pub mod Passes

@@ -2,6 +2,7 @@ pub mod World
 pub mod May
 pub mod Next
 pub mod Ends
+pub mod Waiting
 pub mod Meets
 pub mod Spoke
 pub mod Local

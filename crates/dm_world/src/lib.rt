@@ -10,6 +10,7 @@ mod end_servers;
 mod quiet;
 mod speak;
 mod step;
+mod waiting;
 pub mod world;
 
 pub use cursor::{Cursor, Place};

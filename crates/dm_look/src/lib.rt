@@ -1,0 +1,8 @@
+//! A look into a run: where everything stands behind so many groups, and what is in the messages.
+#![tactic(auto)]
+
+mod contents;
+mod groups;
+mod look;
+
+pub use look::look_at;
