@@ -1,0 +1,14 @@
+pub mod Keys
+pub mod Taken
+pub mod Executing
+pub mod Rows
+pub mod Receives
+pub mod Keeping
+pub mod Making
+pub mod Lawful
+pub mod Beginning
+pub mod Managing
+pub mod Serves
+pub mod ServerRows
+pub mod EndRows
+pub mod MoveRows
