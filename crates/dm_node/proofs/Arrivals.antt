@@ -110,3 +110,8 @@ pub message_came : (n m : NodeState) (after : Node) (from seq : ℕ) (x y : Arri
     → new ≡ mid ++ acknowledges (node_state after) from → Gave after old new (comes n from seq y)
 message_came n m after from seq x y old mid new e f g outs =
     gave_acknowledged after old mid new (comes_in n from seq y) from (subst (λ z. Gave after old mid (comes_in n from seq z)) f (subst (λ z. Gave after old mid (comes_in z from seq x)) e g)) outs
+
+-- a machine that sends what is due is itself
+pub due_here : (n : NodeState) (b : ℕ) (d : Option (ℕ × Message)) → here (sends_due n b d).state ≡ here n
+due_here n b None = refl
+due_here n b (Some p) = refl

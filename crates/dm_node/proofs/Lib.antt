@@ -6,3 +6,4 @@ pub mod Beginnings
 pub mod Staying
 pub mod Here
 pub mod Sends
+pub mod Letters

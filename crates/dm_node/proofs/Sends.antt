@@ -5,6 +5,8 @@ use Rattle.dm_node.proofs.Names.{outstanding, window, with_acked, with_given, wi
 use Rattle.dm_node.proofs.Names.{Turned, asked_lawful, turn_lawful, Out, Says, Sends, NodeState, here, with_message, with_receiver, with_sender, Acted, Acts, Goes, Worn, behind, then_, acknowledges, acts, again, all_out, arrives, comes_in}
 use Rattle.dm_node.proofs.Names.{count_out, first_out, gives, is_worn, lets_go, lets_next, none_waits, put_line, routes, routes_away, routes_home, sends_due, takes_kept, takes_next, then_acknowledges, tick, turns, ActsLawfully, IsLawfulOut}
 use Rattle.dm_node.proofs.Names.{MayAct, MayArrive, MayAskMove, MayTurn}
+use Rattle.std.specs.Borrow.{Bor}
+use Rattle.std.specs.Option.{IfSome, option_map}
 use Rattle.dm_packet.specs.declared.Packet.TheVariants as packet
 use Rattle.dm_line.specs.declared.line.Line.TheVariants as line
 use Rattle.dm_kernel.specs.declared.part.Part.TheVariants as part
@@ -18,7 +20,7 @@ abbrev pub Lawfully : ℕ → Acts → Type 0
 Lawfully m (Goes a) = ActsLawfully m a
 Lawfully m (Worn x y) = ⊤
 
-route_of : (a b : ℕ) → a < 16 → b < 16 → b ≢ a → IsRoute a b
+pub route_of : (a b : ℕ) → a < 16 → b < 16 → b ≢ a → IsRoute a b
 route_of a b h k apart = record { from = omega arith; to = omega arith; apart = apart }
 
 data_out : (m b k : ℕ) (w : Message) → IsRoute m b → IsLawfulMessage w → IsLawfulOut m (Sends (packet.Data m b k w))
@@ -34,7 +36,7 @@ line_out : (m : ℕ) (l : Line) → All (IsLawfulOut m) (Says l ∷ [])
 line_out m l = one_out m (Says l) tt
 
 -- the messages of a stream
-abbrev NumberFits : Option (ℕ × Message) → Type 0
+abbrev pub NumberFits : Option (ℕ × Message) → Type 0
 NumberFits None = ⊤
 NumberFits (Some p) = IsLawfulMessage p.1
 
@@ -42,19 +44,24 @@ message_at : (xs : List Message) (k n : ℕ) (o : Option Message) → slice_get 
 message_at xs k n None e h = tt
 message_at xs k n (Some m) e h = subst IsLawfulMessage (get_or_from_slice_get xs k m m e) (All-get_or IsLawfulMessage xs k m (slice_get_within xs k m e) h)
 
-due_fits : (s : Sending Message) → All IsLawfulMessage s.unacked → NumberFits (due s)
+pub due_fits : (s : Sending Message) → All IsLawfulMessage s.unacked → NumberFits (due s)
 due_fits s h =
     elim (nat_lt s.gone (s.acked + window)) as (λ (t : Bool). NumberFits (if t then numbered s.gone (slice_get s.unacked (s.gone - s.acked)) else None)) [
       | true ↦ message_at s.unacked (s.gone - s.acked) s.gone (slice_get s.unacked (s.gone - s.acked)) refl h
       | false ↦ tt
     ]
 
-outstanding_fits : (s : Sending Message) (k : ℕ) → All IsLawfulMessage s.unacked → NumberFits (outstanding s k)
+pub outstanding_fits : (s : Sending Message) (k : ℕ) → All IsLawfulMessage s.unacked → NumberFits (outstanding s k)
 outstanding_fits s k h =
     elim (nat_lt (s.acked + k) s.gone) as (λ (t : Bool). NumberFits (if t then numbered (s.acked + k) (slice_get s.unacked k) else None)) [
       | true ↦ message_at s.unacked k (s.acked + k) (slice_get s.unacked k) refl h
       | false ↦ tt
     ]
+
+-- the message that was found by its number
+pub found_fits : (o : Option (ℕ × Bor Message)) (d : Option (ℕ × Message)) → option_map (λ p. (p.0, p.1.now)) o ≡ d → NumberFits d → IfSome o (λ m. IsLawfulMessage m.1.now)
+found_fits None d e h = tt
+found_fits (Some m) d e h = subst NumberFits (sym e) h
 
 -- what is due goes out
 due_lawfully : (n : NodeState) (b : ℕ) (o : Option (ℕ × Message)) → IsRoute (here n) b → NumberFits o → ActsLawfully (here n) (sends_due n b o)
@@ -110,7 +117,7 @@ acts_lawfully m n (part.Routes w ∷ ps) e fit h =
     then_lawfully m (routes n w) (λ next. acts next ps) (subst (λ k. Lawfully k (routes n w)) e (routes_lawfully n w l h)) (routes_may n w l h)
     (λ s f g. acts_lawfully m s ps f (All-tail IsLawfulPart (part.Routes w) ps fit) g)
 
-with_kernel_may : (n : NodeState) (t : Turned) → t.state.here ≡ here n → MayAct n → MayAct (record n { kernel = t.state })
+pub with_kernel_may : (n : NodeState) (t : Turned) → t.state.here ≡ here n → MayAct n → MayAct (record n { kernel = t.state })
 with_kernel_may n t same h = record { here = subst (λ k. k < 16) (sym same) h.here; machines = h.machines; numbers = h.numbers; home = h.home; unacked = h.unacked }
 
 some_lawfully : (n : NodeState) (o : Option Turned) (a : Acted) → turns n o ≡ Some (Goes a) → StaysAt (here n) o → ((t : Turned) → o ≡ Some t → IsLawfulTurned t) → MayAct n
@@ -170,7 +177,7 @@ unfolding takes_kept
 kept_lawfully zero m n a e = record { here = e; outs = none_out m }
 kept_lawfully (suc k) m n a e = next_lawfully m n a (next (n.receivers a)) (λ s. takes_kept k s a) e (λ s f. kept_lawfully k m s a f)
 
-in_lawfully : (m : ℕ) (n : NodeState) (a k : ℕ) (x : Arrived Message) → here n ≡ m → ActsLawfully m (comes_in n a k x)
+pub in_lawfully : (m : ℕ) (n : NodeState) (a k : ℕ) (x : Arrived Message) → here n ≡ m → ActsLawfully m (comes_in n a k x)
 in_lawfully m n a k (Taken w) e =
     let r : ActsLawfully m (takes_kept window (with_message n w) a) = kept_lawfully window m (with_message n w) a e in
     record { here = r.here; outs = All-cons (IsLawfulOut m) (Says (line.Taken a (here n) k)) (takes_kept window (with_message n w) a).outs tt r.outs }

@@ -1,7 +1,7 @@
 -- What the events of a machine count on stays: what waits to be acknowledged can be put into packets.
 use Rattle.dm_node.proofs.Names.{◌≡◌, ℕ, zero, suc, ◌-◌, ◌<◌, Bool, true, false, ◌==◌, List, [], ◌∷◌, sym, subst, inl, inr, arith, ⊤, if◌then◌else◌, All, Option, None, Some, eqb_tells, All-drop, All-head, All-push, All-tail, Message}
 use Rattle.dm_node.proofs.Names.{IsLawfulMessage, Part, IsLawfulPart, Turned, Packet, Load, Data, Ack, Sending, due, window, with_acked, with_given, with_sent, Receiving, after_arrival, after_next, arrival, next, Arrived, Taken, Old, Early}
-use Rattle.dm_node.proofs.Names.{Out, NodeState, here, with_message, with_receiver, with_sender, Acted, Acts, Goes, Worn, behind, then_, acts, arrives, arrives_packet, comes_in, gives, is_worn, lets_go, lets_next, none_waits, routes}
+use Rattle.dm_node.proofs.Names.{Node, Out, GaveActs, node_state, NodeState, here, with_message, with_receiver, with_sender, Acted, Acts, Goes, Worn, behind, then_, acts, arrives, arrives_packet, comes_in, gives, is_worn, lets_go, lets_next, none_waits, routes}
 use Rattle.dm_node.proofs.Names.{routes_away, routes_home, sends_due, takes_kept, takes_next, MayAct, MayArrive, MayArrivePacket}
 use Rattle.dm_kernel.specs.declared.part.Part.TheVariants as part
 use Rattle.dm_packet.specs.declared.Packet.TheVariants as packet
@@ -28,7 +28,7 @@ with_message_may : (n : NodeState) (m : Message) → MayAct n → MayAct (with_m
 with_message_may n m h = record { here = h.here; machines = h.machines; numbers = h.numbers; home = h.home; unacked = h.unacked }
 
 -- a message that is due goes out
-due_may : (n : NodeState) (b : ℕ) (d : Option (ℕ × Message)) → b < 16 → MayAct n → MayAct (sends_due n b d).state
+pub due_may : (n : NodeState) (b : ℕ) (d : Option (ℕ × Message)) → b < 16 → MayAct n → MayAct (sends_due n b d).state
 due_may n b None k h = h
 due_may n b (Some p) k h = with_sender_may n b (with_sent (n.senders b)) h (h.unacked b k)
 
@@ -118,3 +118,8 @@ arrives_may n a (Ack k) h =
     let s = with_acked (n.senders a) k in
     let u = (n.senders a).unacked in
     let_go_may window (with_sender n a s) a h.from.0 (with_sender_may n a s h.acts (All-drop IsLawfulMessage (k - (n.senders a).acked) u (h.acts.unacked a h.from.0)))
+
+-- a machine of the code goes on as the plain one
+pub gave_may : (a : Acts) (after : Node) (old new : List Out) → GaveActs after old new a → MayAfter a → MayAct (node_state after)
+gave_may (Goes a) after old new g h = subst MayAct (sym g.state) h
+gave_may (Worn x y) after old new g h = absurd g

@@ -6,3 +6,4 @@ pub mod Wired
 pub mod Meets
 pub mod May
 pub mod Lawful
+pub mod Letters

@@ -1,5 +1,8 @@
 //! The ends of a machine's streams, as steps of the machine.
-ghost use Rattle.std.specs.Prelude.{◌≡◌, ◌<◌, ◌≤◌, ◌+◌, ◌-◌, ◌^◌, IsSome};
+ghost use Rattle.std.specs.Prelude.{◌≡◌, ◌<◌, ◌≤◌, ◌+◌, ◌-◌, ◌^◌, IfOk, IfSome, IsSome, option_map};
+ghost use Rattle.std.specs.List.{All};
+ghost use Rattle.dm_message.specs.Lawful.{IsLawfulMessage};
+ghost use Rattle.dm_packet.specs.Lawful.{IsRoute};
 ghost use Rattle.dm_stream.specs.Sending.{due, outstanding, with_acked, with_sent};
 ghost use Rattle.dm_stream.specs.Receiving.{after_arrival, after_next, arrival, next};
 ghost use Rattle.dm_node.specs.Acts.{count_out, none_waits};
@@ -7,14 +10,15 @@ ghost use Rattle.dm_node.specs.Meets.{Gives, HasStreams, node_state};
 ghost use Rattle.dm_node.specs.Out.{numbered};
 ghost use Rattle.dm_node.specs.State.{with_receiver, with_sender};
 
+use crate::letter::Letter;
 use crate::node::Node;
 use crate::stop::Stop;
 use crate::streams;
 use dm_link::MACHINES;
-use dm_memory::Parcel;
+use dm_memory::{NoMemory, Parcel};
 use dm_message::Message;
-use dm_packet::Packet;
 use dm_stream::{Arrived, GiveError, WINDOW};
+use std::alloc::Global;
 
 impl Node {
     /// Whether all messages to machine `to` have gone out.
@@ -43,12 +47,14 @@ impl Node {
     }
 
     /// The packet that is due to machine `to`.
-    pub(crate) fn due(&self, to: u8) -> Option<Packet>
+    pub(crate) fn due(&self, to: u8) -> Result<Option<Letter>, NoMemory>
         requires streams { HasStreams self.now }
-        requires to { to < MACHINES }
-        ensures { result ≡ numbered self.now.kernel.here to (due ((node_state self.now).senders to)) }
+        requires route { IsRoute self.now.kernel.here to }
+        requires lawful { All IsLawfulMessage ((node_state self.now).senders to).unacked }
+        ensures { IfOk result (λ found. found ≡ numbered self.now.kernel.here to (due ((node_state self.now).senders to))) }
     {
-        streams::due(&self.senders, self.kernel.here(), to)
+        let message = streams::due(&self.senders, to);
+        letter_of(self.alloc, self.kernel.here(), to, message)
     }
 
     /// The packet that is due to machine `to` has gone out.
@@ -63,12 +69,14 @@ impl Node {
     }
 
     /// The packet at a place, from 0 on, among those that are out to machine `to`.
-    pub(crate) fn outstanding(&self, to: u8, place: usize) -> Option<Packet>
+    pub(crate) fn outstanding(&self, to: u8, place: usize) -> Result<Option<Letter>, NoMemory>
         requires streams { HasStreams self.now }
-        requires to { to < MACHINES }
-        ensures { result ≡ numbered self.now.kernel.here to (outstanding ((node_state self.now).senders to) place) }
+        requires route { IsRoute self.now.kernel.here to }
+        requires lawful { All IsLawfulMessage ((node_state self.now).senders to).unacked }
+        ensures { IfOk result (λ found. found ≡ numbered self.now.kernel.here to (outstanding ((node_state self.now).senders to) place)) }
     {
-        streams::outstanding(&self.senders, self.kernel.here(), to, place)
+        let message = streams::outstanding(&self.senders, to, place);
+        letter_of(self.alloc, self.kernel.here(), to, message)
     }
 
     /// How many packets are out to machine `to` and not acknowledged, 0 to 8.
@@ -128,5 +136,22 @@ impl Node {
         ensures streams { HasStreams self.new }
     {
         streams::next_kept(&mut self.receivers, from)
+    }
+}
+
+/// The packet of a message with its number, if there is one.
+fn letter_of(
+    alloc: Global,
+    from: u8,
+    to: u8,
+    message: Option<(u32, &Parcel<Message>)>,
+) -> Result<Option<Letter>, NoMemory>
+    requires route { IsRoute from to }
+    requires lawful { IfSome message (λ m. IsLawfulMessage m.1.now) }
+    ensures { IfOk result (λ found. found ≡ numbered from to (option_map (λ p. (p.0, p.1.now)) message)) }
+{
+    match message {
+        Some((seq, message)) => Ok(Some(Letter::data(alloc, from, to, seq, message.get())?)),
+        None => Ok(None),
     }
 }

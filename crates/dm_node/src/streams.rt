@@ -1,17 +1,15 @@
 //! The ends of a machine's streams, by machine.
-ghost use Rattle.std.specs.Prelude.{◌≡◌, ◌<◌, ◌≤◌, ◌+◌, ◌-◌, ◌^◌, ◌↔◌, IfErr, IsSome, OnOk, Err, length, ℕ};
+ghost use Rattle.std.specs.Prelude.{◌≡◌, ◌<◌, ◌≤◌, ◌+◌, ◌-◌, ◌^◌, ◌↔◌, IfErr, IsSome, OnOk, Err, length, option_map, ℕ};
 ghost use Rattle.dm_stream.specs.Sending.{due, given_count, outstanding, with_acked, with_given, with_sent};
 ghost use Rattle.dm_stream.specs.Receiving.{after_arrival, after_next, arrival, next};
 ghost use Rattle.dm_stream.specs.Returned.{message_in};
 ghost use Rattle.dm_stream.specs.declared.sender.GiveError.TheVariants as no;
 ghost use Rattle.dm_node.specs.Acts.{count_out, none_waits};
-ghost use Rattle.dm_node.specs.Out.{numbered};
 ghost use Rattle.dm_node.specs.Meets.{receiver_at, sender_at};
 ghost use Rattle.dm_line.specs.Sets.{at_machine};
 
 use dm_memory::Parcel;
 use dm_message::Message;
-use dm_packet::Packet;
 use dm_stream::{Arrived, GiveError, Receiver, Sender, WINDOW};
 
 /// Whether all messages to machine `to` have gone out.
@@ -38,20 +36,12 @@ pub fn give(
     senders[usize::from(to)].give(message)
 }
 
-/// The packet that is due on the stream from machine `here` to machine `to`.
-pub fn due(senders: &[Sender<Parcel<Message>>], here: u8, to: u8) -> Option<Packet>
+/// The message that is due to machine `to`, with its number.
+pub fn due(senders: &[Sender<Parcel<Message>>], to: u8) -> Option<(u32, &Parcel<Message>)>
     requires { to < length senders.now }
-    ensures { result ≡ numbered here to (due (sender_at senders.now to)) }
+    ensures { option_map (λ p. (p.0, p.1.now)) result ≡ due (sender_at senders.now to) }
 {
-    match senders[usize::from(to)].due() {
-        Some((seq, message)) => Some(Packet::Data {
-            from: here,
-            to,
-            seq,
-            message: message.get().copied(),
-        }),
-        None => None,
-    }
+    senders[usize::from(to)].due()
 }
 
 /// The packet that is due to machine `to` has gone out.
@@ -64,25 +54,16 @@ pub fn sent_due(senders: &mut [Sender<Parcel<Message>>], to: u8)
     senders[usize::from(to)].sent_due();
 }
 
-/// The packet at a place among those that are out from machine `here` to machine `to`.
+/// The message at a place among those that are out to machine `to`, with its number.
 pub fn outstanding(
     senders: &[Sender<Parcel<Message>>],
-    here: u8,
     to: u8,
     place: usize,
-) -> Option<Packet>
+) -> Option<(u32, &Parcel<Message>)>
     requires { to < length senders.now }
-    ensures { result ≡ numbered here to (outstanding (sender_at senders.now to) place) }
+    ensures { option_map (λ p. (p.0, p.1.now)) result ≡ outstanding (sender_at senders.now to) place }
 {
-    match senders[usize::from(to)].outstanding(place) {
-        Some((seq, message)) => Some(Packet::Data {
-            from: here,
-            to,
-            seq,
-            message: message.get().copied(),
-        }),
-        None => None,
-    }
+    senders[usize::from(to)].outstanding(place)
 }
 
 /// How many packets are out to machine `to` and not acknowledged.

@@ -1,6 +1,8 @@
 //! A turn and a tick of a machine.
 ghost use Rattle.std.specs.Prelude.{◌≡◌, ◌<◌, ◌≤◌, ◌+◌, ◌^◌, ◌++◌, [], IfOk, true, OnOk};
 ghost use Rattle.std.specs.List.{All};
+ghost use Rattle.dm_message.specs.Lawful.{IsLawfulMessage};
+ghost use Rattle.dm_packet.specs.Lawful.{IsRoute};
 ghost use Rattle.dm_onekernel.specs.Boot.{images_are_valid};
 ghost use Rattle.dm_kernel.specs.Carried.{FreezesWhole};
 ghost use Rattle.dm_kernel.specs.Lawful.{IsLawfulPart, IsLawfulState};
@@ -15,7 +17,7 @@ use crate::stop::Stop;
 use dm_kernel::{Part, moves_are_asked_lawfully, turns_are_lawful};
 use dm_line::line::Line;
 use dm_link::{MACHINES, Pid};
-use dm_memory::{NoMemory, Parcel};
+use dm_memory::NoMemory;
 use dm_onekernel::Boot;
 
 impl Node {
@@ -57,8 +59,7 @@ impl Node {
     fn act(&mut self, parts: Vec<Part>, outs: &mut Vec<Out>) -> Result<(), Stop>
         requires streams { HasStreams self.old }
         requires parts { All IsLawfulPart parts.items }
-        requires home { self.old.home ≤ self.old.numbers }
-        requires numbers { self.old.numbers < 2 ^ 32 }
+        requires may { MayAct (node_state self.old) }
         ensures { Answers result self.new outs.old.items outs.new.items (acts (node_state self.old) parts.items) }
     {
         for part in parts {
@@ -107,13 +108,14 @@ impl Node {
     /// Sends all packets again that are out to machine `to`.
     fn send_again(&self, to: u8, outs: &mut Vec<Out>) -> Result<(), NoMemory>
         requires streams { HasStreams self.now }
-        requires to { to < MACHINES }
+        requires route { IsRoute self.now.kernel.here to }
+        requires lawful { All IsLawfulMessage ((node_state self.now).senders to).unacked }
         ensures { OnOk result (outs.new.items ≡ outs.old.items ++ first_out (node_state self.now) to (count_out ((node_state self.now).senders to))) }
     {
         let count = self.count_out(to);
         for place in 0..count {
-            if let Some(packet) = self.outstanding(to, place as usize) {
-                push(outs, Out::Sends(Parcel::new(self.alloc, packet)?))?;
+            if let Some(letter) = self.outstanding(to, place as usize)? {
+                push(outs, Out::Sends(letter))?;
             }
         }
         Ok(())

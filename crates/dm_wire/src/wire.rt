@@ -1,7 +1,8 @@
 //! The wires of all pairs of machines.
-ghost use Rattle.std.specs.Prelude.{IfOk, None, OnErr, OnOk, [], false, true, length, option_map, position, slice_index_or, vec_len, ◌*◌, ◌+◌, ◌<◌, ◌^◌, ◌≡◌, ◌≤◌, ℕ};
+ghost use Rattle.std.specs.Prelude.{IfOk, None, OnErr, OnOk, [], false, true, length, option_map, position, slice_index_or, vec_len, ◌*◌, ◌+◌, ◌<◌, ◌^◌, ◌≡◌, ◌≢◌, ◌≤◌, ℕ};
+ghost use Rattle.std.specs.Int.{bit_at};
 ghost use Rattle.dm_wire.specs.Sent.{is_unseen};
-ghost use Rattle.dm_wire.specs.Wire.{IsDelivered, packets_on};
+ghost use Rattle.dm_wire.specs.Wire.{packets_on};
 
 use crate::packets::Packets;
 use dm_link::MACHINES;
@@ -14,8 +15,8 @@ use std::marker::Model;
 #[derive(Drop)]
 pub struct Wire {
     pairs: Vec<Packets>,
-    /// Of each sender, whether there may be a packet that isn't marked.
-    pending: [bool; MACHINES as usize],
+    /// Of each sender, a bit for each receiver: whether there may be a packet that isn't marked.
+    pending: [u16; MACHINES as usize],
     alloc: Global,
 }
 
@@ -62,17 +63,17 @@ fn unseen(pairs: &[Packets], a: u8, b: u8) -> Option<u64>
     }
 }
 
-/// Whether a packet from machine `a` isn't marked.
-fn is_open(pairs: &[Packets], a: u8) -> bool
-    requires { a < MACHINES }
-    ensures { result ≡ false → IsDelivered pairs.now a }
+/// A mask with the bit of machine `b` set or cleared.
+fn with_bit(mask: u16, b: u8, is_set: bool) -> u16
+    requires { b < MACHINES }
+    ensures here { bit_at result b ≡ 0 → is_set ≡ false }
+    ensures others { (c : ℕ) → c < MACHINES → c ≢ b → bit_at result c ≡ bit_at mask c }
 {
-    for b in 0..MACHINES {
-        if unseen(pairs, a, b).is_some() {
-            return true;
-        }
+    if is_set {
+        mask | (1 << b)
+    } else {
+        mask & !(1 << b)
     }
-    false
 }
 
 #[tactic(auto, unfolding(crate::specs::Wire::packets_on))]
@@ -86,7 +87,7 @@ impl Wire {
     {
         Wire {
             pairs: Vec::new(alloc),
-            pending: [false; MACHINES as usize],
+            pending: [0; MACHINES as usize],
             alloc,
         }
     }
@@ -98,7 +99,7 @@ impl Wire {
         ensures number { IfOk result (λ k. k ≡ length (packets_on self.old a b)) }
         ensures err { OnErr result ((x y : ℕ) → packets_on self.new x y ≡ packets_on self.old x y) }
     {
-        self.pending[usize::from(a)] = true;
+        self.pending[usize::from(a)] = with_bit(self.pending[usize::from(a)], b, true);
         let place = place(a, b);
         reach(&mut self.pairs, self.alloc, place + 1)?;
         self.pairs[place].put(bytes)
@@ -132,7 +133,8 @@ impl Wire {
         ensures { (x y : ℕ) → packets_on self.new x y ≡ after_mark (packets_on self.old) a b number x y }
     {
         self.pairs[place(a, b)].mark(number);
-        self.pending[usize::from(a)] = is_open(&self.pairs, a);
+        let is_open = unseen(&self.pairs, a, b).is_some();
+        self.pending[usize::from(a)] = with_bit(self.pending[usize::from(a)], b, is_open);
     }
 
     /// Whether a packet from machine `a` may not be marked yet: where not, all are.
@@ -140,7 +142,7 @@ impl Wire {
         requires { a < MACHINES }
         ensures { result ≡ false → (b : ℕ) → position is_unseen (packets_on self.now a b) ≡ None }
     {
-        self.pending[usize::from(a)]
+        self.pending[usize::from(a)] != 0
     }
 
     /// The least number on the wire from `a` to `b` that isn't marked. It looks at no packet that was delivered.

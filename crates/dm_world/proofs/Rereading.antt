@@ -6,13 +6,6 @@ use Rattle.dm_node.specs.declared.out.Out.TheVariants.{Says}
 use Rattle.dm_node.specs.Acts as node
 use Rattle.dm_world.proofs.Delivering.{may_read, read_bytes}
 
--- where what is left is read back, all is
-pub back_line : (l : Line) (all outs items : List Out) → items ≡ Says l ∷ outs → (AreReadBack items → AreReadBack all) → AreReadBack outs → AreReadBack all
-back_line l all outs items is h rest = h (subst AreReadBack (sym is) rest)
-
-pub back_packet : (p : Packet) (all outs items : List Out) → items ≡ Sends p ∷ outs → packet_of (spelling p) ≡ Ok p → (AreReadBack items → AreReadBack all) → AreReadBack outs → AreReadBack all
-back_packet p all outs items is again h rest = h (subst AreReadBack (sym is) (again, rest))
-
 -- a turn, which may not have taken place
 pub turn_back : (b : Boot) (xs ys : List Node) (m : ℕ) (outs : List Out) (o : Option Acts) → ActedSome b xs ys m outs o → AreReadBack outs → AreReadBack (gave_some o)
 turn_back b xs ys m outs None h back = absurd h

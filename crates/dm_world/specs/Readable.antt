@@ -39,7 +39,11 @@ pub record IsReadable (w : WorldState) : Type 0 where
   pub reads : WiresRead w.wires
   pub out : (m : ℕ) → NodeReads (w.nodes m)
 
--- the bytes of each packet that a machine gives are read as that packet
+-- the bytes of a packet that a machine gives are read as that packet
+abbrev pub IsReadBack : Out → Type 0
+IsReadBack (Says l) = ⊤
+IsReadBack (Sends p) = packet_of (spelling p) ≡ Ok p
+
 abbrev pub AreReadBack : List Out → Type 0
 AreReadBack [] = ⊤
 AreReadBack (Says l ∷ outs) = AreReadBack outs

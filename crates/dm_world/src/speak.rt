@@ -1,58 +1,48 @@
 //! How what a machine gives is printed and put on the wires.
-ghost use Rattle.std.specs.Prelude.{◌≡◌, ◌++◌, ◌∷◌, ℕ, IfOk, Ok, OnOk};
-ghost use Rattle.std.specs.List.{All};
-ghost use Rattle.dm_packet.specs.Lawful.{IsLawfulPacket};
+ghost use Rattle.std.specs.Prelude.{◌≡◌, ℕ, IfOk, Ok, OnOk};
 ghost use Rattle.dm_packet.specs.Packets.{packet_of, spelling};
 ghost use Rattle.dm_wire.specs.Wire.{packets_on};
 ghost use Rattle.dm_node.specs.Wired.{packet_line, spoken, with_packet};
-ghost use Rattle.dm_world.specs.Meets.{IsSendable};
-ghost use Rattle.dm_world.specs.Spoke.{Spoke};
-ghost use Rattle.dm_world.specs.Readable.{AreReadBack};
+ghost use Rattle.dm_world.specs.Readable.{AreReadBack, IsReadBack};
+ghost use Rattle.dm_world.specs.Spoke.{Spoke, line_said, wires_behind};
 
-use dm_line::line::{Line, Load, packet_line};
+use dm_line::line::{Line, packet_line};
 use dm_memory::{NoMemory, push};
-use dm_node::Out;
-use dm_packet::{Packet, encode};
+use dm_node::{Letter, Out};
 use dm_wire::Wire;
-use std::alloc::Global;
 
-/// Says what a machine gave, in order, and puts its packets on the wires.
-pub fn speak(
-    alloc: Global,
-    wires: &mut Wire,
-    outs: &[Out],
-    lines: &mut Vec<Line>,
-) -> Result<(), NoMemory>
-    requires { All IsSendable outs.now }
-    ensures spoke { OnOk result (Spoke lines.old.items lines.new.items (packets_on wires.new) (spoken (packets_on wires.old) outs.now)) }
-    ensures again { OnOk result (AreReadBack outs.now) }
+/// Says what a machine gave, in order, and puts its packets on the wires. Nothing of it is left behind then.
+pub fn speak(wires: &mut Wire, outs: &mut Vec<Out>, lines: &mut Vec<Line>) -> Result<(), NoMemory>
+    ensures spoke { OnOk result (Spoke lines.old.items lines.new.items (packets_on wires.new) (spoken (packets_on wires.old) outs.old.items)) }
+    ensures again { OnOk result (AreReadBack outs.old.items) }
 {
-    for out in outs {
-        match out {
-            Out::Says(line) => push(lines, *line)?,
-            Out::Sends(packet) => push(lines, send(alloc, wires, packet.get())?)?,
-        }
+    outs.reverse();
+    while let Some(out) = outs.pop() {
+        let line = say(wires, out)?;
+        push(lines, line)?;
     }
     Ok(())
 }
 
-/// Puts a packet on the wire from its sender to its receiver; its line.
-fn send(alloc: Global, wires: &mut Wire, packet: &Packet) -> Result<Line, NoMemory>
-    requires { IsLawfulPacket packet.now }
-    ensures line { IfOk result (λ l. l ≡ packet_line (packets_on wires.old) packet.now) }
-    ensures wires { OnOk result ((x y : ℕ) → packets_on wires.new x y ≡ with_packet (packets_on wires.old) packet.now x y) }
-    ensures again { OnOk result (packet_of (spelling packet.now) ≡ Ok packet.now) }
+/// The line of what a machine gave, whose packet goes on the wires.
+fn say(wires: &mut Wire, out: Out) -> Result<Line, NoMemory>
+    ensures line { IfOk result (λ l. l ≡ line_said (packets_on wires.old) out) }
+    ensures wires { OnOk result ((x y : ℕ) → packets_on wires.new x y ≡ wires_behind (packets_on wires.old) out x y) }
+    ensures again { OnOk result (IsReadBack out) }
 {
-    let mut bytes = Vec::new(alloc);
-    encode(packet, &mut bytes)?;
-    match *packet {
-        Packet::Data { from, to, seq, .. } => {
-            let k = wires.put(from, to, bytes)?;
-            Ok(packet_line(from, to, k, Load::Data(seq)))
-        }
-        Packet::Ack { from, to, count } => {
-            let k = wires.put(from, to, bytes)?;
-            Ok(packet_line(from, to, k, Load::Ack(count)))
-        }
+    match out {
+        Out::Says(line) => Ok(line),
+        Out::Sends(letter) => send(wires, letter),
     }
+}
+
+/// Puts a packet on the wire from its sender to its receiver; its line.
+fn send(wires: &mut Wire, letter: Letter) -> Result<Line, NoMemory>
+    ensures line { IfOk result (λ l. l ≡ packet_line (packets_on wires.old) letter) }
+    ensures wires { OnOk result ((x y : ℕ) → packets_on wires.new x y ≡ with_packet (packets_on wires.old) letter x y) }
+    ensures again { OnOk result (packet_of (spelling letter) ≡ Ok letter) }
+{
+    let (from, to, load) = (letter.from(), letter.to(), letter.load());
+    let k = wires.put(from, to, letter.into_bytes())?;
+    Ok(packet_line(from, to, k, load))
 }

@@ -1,6 +1,5 @@
 //! What a directive does.
 ghost use Rattle.std.specs.Prelude.{◌≡◌, ◌<◌, ◌+◌, ◌^◌, ◌∷◌, ℕ, IfOk, IfSome, IsOk, OnErr, OnOk, None, Ok, Some, [], false, length, option_map, true};
-ghost use Rattle.std.specs.List.{All};
 ghost use Rattle.dm_onekernel.specs.Boot.{images_are_valid};
 ghost use Rattle.dm_packet.specs.Packets.{packet_of};
 ghost use Rattle.dm_schedule.specs.declared.Step.TheVariants as directive;
@@ -16,7 +15,7 @@ ghost use Rattle.dm_node.specs.Wired.{spoken};
 ghost use Rattle.dm_line.specs.declared.line.Line.TheVariants as line;
 ghost use Rattle.dm_world.specs.Local.{ActsAlone, acts_on};
 ghost use Rattle.dm_world.specs.May.{MayDeliver, MayStep};
-ghost use Rattle.dm_world.specs.Meets.{ActedAt, AreNodes, IsSendable, IsWorld, TurnAnswers, node_in, world_state};
+ghost use Rattle.dm_world.specs.Meets.{ActedAt, AreNodes, IsWorld, TurnAnswers, node_in, world_state};
 ghost use Rattle.dm_world.specs.Readable.{AreReadBack};
 ghost use Rattle.dm_world.specs.Stepped.{StepMeets};
 
@@ -165,7 +164,6 @@ impl World {
 
     /// The group of a directive that comes to this: its head first. What it comes to is kept, for its memory.
     fn group(&mut self, step: Step, outs: Vec<Out>) -> Result<Vec<Line>, NoMemory>
-        requires outs { All IsSendable outs.items }
         requires groups { self.old.groups < 2 ^ 127 }
         ensures lines { IfOk result (λ lines. lines.items ≡ line.Head step ∷ (spoken (packets_on self.old.wires) outs.items).lines) }
         ensures wires { OnOk result ((x y : ℕ) → packets_on self.new.wires x y ≡ (spoken (packets_on self.old.wires) outs.items).wires x y) }
@@ -177,7 +175,8 @@ impl World {
     {
         let mut lines = emptied(self.alloc, &mut self.lines);
         push(&mut lines, Line::Head(step))?;
-        speak(self.alloc, &mut self.wires, &outs, &mut lines)?;
+        let mut outs = outs;
+        speak(&mut self.wires, &mut outs, &mut lines)?;
         self.outs = outs;
         self.groups += 1;
         Ok(lines)
@@ -202,7 +201,6 @@ fn take_turn(empty: Vec<Out>, nodes: &mut [Node], boot: &Boot, m: u8) -> Result<
     requires images { images_are_valid boot.now.images ≡ true }
     requires lawful { IsLawfulState (node_in boot.now nodes.old m).kernel }
     ensures answers { TurnAnswers result boot.now nodes.old nodes.new m (node.turn boot.now (node_in boot.now nodes.old m)) }
-    ensures outs { IfOk result (λ outs. All IsSendable outs.items) }
     ensures whole { OrNoMemory result (FreezesWhole (node_in boot.now nodes.old m).kernel (node_in boot.now nodes.old m).kernel.inbox) }
 {
     let mut outs = empty;
@@ -234,7 +232,6 @@ fn ask_manager(
     requires to { to < MACHINES }
     requires lawful { IsLawfulState (node_in boot.now nodes.old 0).kernel }
     ensures answers { TurnAnswers result boot.now nodes.old nodes.new 0 (node.asks_move (node_in boot.now nodes.old 0) pid to) }
-    ensures outs { IfOk result (λ outs. All IsSendable outs.items) }
 {
     let mut outs = empty;
     match nodes[0].ask_move(pid, to, &mut outs) {
@@ -250,7 +247,6 @@ fn send_again(empty: Vec<Out>, boot: &Boot, nodes: &[Node], m: u8) -> Result<Vec
     requires nodes { AreNodes nodes.now }
     requires may { MayAct (node_in boot.now nodes.now m) }
     ensures answers { IfOk result (λ outs. ActedAt boot.now nodes.now nodes.now m outs.items (node.tick (node_in boot.now nodes.now m))) }
-    ensures outs { IfOk result (λ outs. All IsSendable outs.items) }
 {
     let mut outs = empty;
     nodes[usize::from(m)].tick(&mut outs)?;
@@ -270,7 +266,6 @@ fn receive(
     requires nodes { AreNodes nodes.old }
     requires may { MayArrivePacket (node_in boot.now nodes.old m) packet }
     ensures answers { IfOk result (λ outs. ActedAt boot.now nodes.old nodes.new m outs.items (node.arrives_packet (node_in boot.now nodes.old m) packet)) }
-    ensures outs { IfOk result (λ outs. All IsSendable outs.items) }
 {
     let mut outs = empty;
     nodes[usize::from(m)].arrive(packet, &mut outs)?;

@@ -87,28 +87,27 @@ fn put_opening(out: &mut Buffer, kind: PacketKind, from: u8, to: u8)
     put_byte(out, to);
 }
 
-/// A packet, where nothing was put yet.
+/// A data packet, where nothing was put yet.
 #[tactic(auto, unfolding(crate::specs::Packets::spelling))]
-pub fn put_packet(out: &mut Buffer, packet: &Packet)
+pub fn put_data(out: &mut Buffer, from: u8, to: u8, seq: u32, message: &Message)
     requires empty { out.old.items ≡ [] }
-    requires lawful { IsLawfulPacket packet.now }
-    ensures put { Puts out.old out.new (spelling packet.now) }
-    ensures fits { FitsPacket packet.now }
+    requires lawful { IsLawfulPacket (Packet.Data from to seq message.now) }
+    ensures put { Puts out.old out.new (spelling (Packet.Data from to seq message.now)) }
+    ensures fits { FitsPacket (Packet.Data from to seq message.now) }
 {
-    match packet {
-        Packet::Data {
-            from,
-            to,
-            seq,
-            message,
-        } => {
-            put_opening(out, PacketKind::Data, *from, *to);
-            put_u32(out, *seq);
-            put_message(out, message);
-        }
-        Packet::Ack { from, to, count } => {
-            put_opening(out, PacketKind::Ack, *from, *to);
-            put_u32(out, *count);
-        }
-    }
+    put_opening(out, PacketKind::Data, from, to);
+    put_u32(out, seq);
+    put_message(out, message);
+}
+
+/// An acknowledgement, where nothing was put yet.
+#[tactic(auto, unfolding(crate::specs::Packets::spelling))]
+pub fn put_ack(out: &mut Buffer, from: u8, to: u8, count: u32)
+    requires empty { out.old.items ≡ [] }
+    requires lawful { IsLawfulPacket (Packet.Ack from to count) }
+    ensures put { Puts out.old out.new (spelling (Packet.Ack from to count)) }
+    ensures fits { FitsPacket (Packet.Ack from to count) }
+{
+    put_opening(out, PacketKind::Ack, from, to);
+    put_u32(out, count);
 }

@@ -1,5 +1,5 @@
 use Rattle.dm_world.proofs.Names.{refl, sym, subst, Err, IsLawfulState, asks_move, ActsLawfully, MayAskMove, AnswersSome, GaveSome, asks_lawfully, node_in}
-use Rattle.dm_world.proofs.Nodes.{acted_some, here_at, is_node_at, node_at, small, stopped, turn_sendable}
+use Rattle.dm_world.proofs.Nodes.{acted_some, here_at, is_node_at, node_at, small, stopped}
 use Rattle.dm_world.proofs.step.ask_manager.Goals as goal
 
 pub ask_move-requires-clause-may : goal.ask_move-requires-clause-may
@@ -20,17 +20,6 @@ returns-in-Ok-clause-answers c =
     let same = node_at b nodes 0 0 c.index-nodes-0.result refl c.requires.within in
     let gave = subst (λ s. GaveSome c.ask_move.new.self c.args.empty.items c.ask_move.new.outs.items (asks_move s c.args.pid c.args.to)) same c.in-Ok.ensures in
     acted_some b nodes 0 0 c.ask_move.new.self c.args.empty.items c.ask_move.new.outs.items (asks_move n c.args.pid c.args.to) refl c.requires.within c.requires.nodes c.requires.empty gave
-    (λ a e. subst (λ k. ActsLawfully k a) (here_at b nodes 0 c.index-nodes-0.result c.requires.within c.requires.nodes)
-    (asks_lawfully n c.args.pid c.args.to a (small c.args.to c.requires.to) c.requires.may c.requires.lawful e))
-
-pub returns-in-Ok-clause-outs : goal.returns-in-Ok-clause-outs
-returns-in-Ok-clause-outs c =
-    let b = c.args.boot.now in
-    let nodes = c.args.nodes.now in
-    let n = node_in b nodes 0 in
-    let same = node_at b nodes 0 0 c.index-nodes-0.result refl c.requires.within in
-    let gave = subst (λ s. GaveSome c.ask_move.new.self c.args.empty.items c.ask_move.new.outs.items (asks_move s c.args.pid c.args.to)) same c.in-Ok.ensures in
-    turn_sendable 0 c.ask_move.new.self c.args.empty.items c.ask_move.new.outs.items (asks_move n c.args.pid c.args.to) c.requires.empty gave
     (λ a e. subst (λ k. ActsLawfully k a) (here_at b nodes 0 c.index-nodes-0.result c.requires.within c.requires.nodes)
     (asks_lawfully n c.args.pid c.args.to a (small c.args.to c.requires.to) c.requires.may c.requires.lawful e))
 

@@ -1,6 +1,16 @@
-use Rattle.dm_node.proofs.Names.{on_ok_weaker, after_arrival, arrival, node_state, with_receiver}
+use Rattle.dm_node.proofs.Names.{◌≡◌, ◌∙◌, ap, sym, refl, subst, here, IsRoute, on_ok_weaker, after_arrival, arrival, node_state, with_receiver}
 use Rattle.dm_node.proofs.Arrivals.{message_came}
+use Rattle.dm_node.proofs.Sends.{in_lawfully, route_of}
 use Rattle.dm_node.proofs.node.Node.take.Goals as goal
+
+pub acknowledge-requires-clause-route : goal.acknowledge-requires-clause-route
+acknowledge-requires-clause-route c =
+    let n = node_state c.args.self.now in
+    let m = node_state c.receive-arrived.new.self in
+    let may = c.requires.may in
+    let stays : here (node_state c.take_in.new.self) ≡ here n =
+    ap here c.in_ok-take_in.ensures.state ∙ (in_lawfully (here m) m c.args.from c.args.seq c.receive-arrived.result refl).here ∙ ap here c.receive-arrived.ensures.state in
+    subst (λ k. IsRoute k c.args.from) (sym stays) (route_of (here n) c.args.from may.acts.here may.from.0 may.from.1)
 
 pub returns : goal.returns
 returns c =
