@@ -16,6 +16,7 @@ for_machines machines (directive.One (step.CallOff p m)) h = h
 for_machines machines directive.Round h = tt
 for_machines machines (directive.Spin k) h = absurd h
 for_machines machines directive.Settle h = tt
+for_machines machines (directive.Rest k) h = absurd h
 
 pub all_for : (machines : ℕ) (ds : List Directive) → All (IsDrawn machines) ds → All (IsFor machines) ds
 all_for machines [] h = All-nil (IsFor machines)

@@ -22,7 +22,7 @@ pub use Rattle.dm_schedule.specs.declared.Directive.{Directive}
 pub use Rattle.dm_schedule.specs.declared.LineFault.{LineFault}
 pub use Rattle.dm_schedule.specs.declared.LineFault.TheVariants.{SameMachine, WrongCount}
 pub use Rattle.dm_schedule.specs.declared.keywords.Keyword.{Keyword}
-pub use Rattle.dm_schedule.specs.declared.keywords.Keyword.TheVariants.{Deliver, Migrate, CallOff, Round, Settle, Spin, Tick, Turn}
+pub use Rattle.dm_schedule.specs.declared.keywords.Keyword.TheVariants.{Deliver, Migrate, CallOff, Rest, Round, Settle, Spin, Tick, Turn}
 pub use Rattle.dm_draw.proofs.Names.{IsDrawn}
 pub use Rattle.dm_draw.specs.Boot.{boot_of_machines}
 pub use Rattle.dm_draw.specs.declared.drill.Drill.{Drill}

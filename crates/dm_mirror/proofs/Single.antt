@@ -6,6 +6,7 @@ use Rattle.dm_rule.specs.Ends as rule
 use Rattle.dm_rule.specs.Spots as spots
 use Rattle.dm_world.specs.Ends as world
 use Rattle.dm_mirror.proofs.Going.{leads_last, replays_last, run_last, run_behind}
+use Rattle.dm_rule.specs.Good.{seen_at}
 use Rattle.dm_mirror.proofs.Machines.{machines_group, made_always}
 use Rattle.dm_mirror.proofs.May.{acts_start, acts_step}
 use Rattle.dm_mirror.proofs.Next.{machines_stay, next_fits}
@@ -61,7 +62,7 @@ record Elements (b : Boot) (gs : List (List Line)) (pt end : Point) : Type 0 whe
 elements : (b : Boot) (gs : List (List Line)) (pt end : Point) (t left : Todo) → pt.kernel.machines ≡ length b.machines → IsTodo (length b.machines) t → IsRun b pt t gs end left → Elements b gs pt end
 elements b [] pt end t left machines todo run = record { steps = []; run = (run.0, refl); leads = run.0 }
 elements b (g ∷ gs) pt end t left machines todo (n, w, next, is, said, kept, rest) =
-    let fits = next_fits (length b.machines) (undelivered pt.view) (has_mail pt.view) (is_quiet (length b.machines) pt.view) t n todo (sym (ap (λ (k : ℕ). next_step k pt.view t) machines) ∙ next) in
+    let fits = next_fits (length b.machines) (seen_at (length b.machines) pt) t n todo (sym (ap (λ (k : ℕ). next_step k pt t) machines) ∙ next) in
     let more = elements b gs w.point end n.left left (machines_group b pt n.step w is ∙ machines) fits.left rest in
     record {
       steps = n.step ∷ more.steps;

@@ -4,6 +4,7 @@ pub mod Wires
 pub mod Delivers
 pub mod Runs
 pub mod Settles
+pub mod Rests
 pub mod AllOut
 pub mod Through
 pub mod Worked

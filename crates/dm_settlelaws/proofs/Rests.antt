@@ -6,3 +6,6 @@ pub mod RestsAlways
 pub mod EndsQuiet
 pub mod EndsAtRest
 pub mod EndsResting
+pub mod EndsRested
+pub mod StillAlways
+pub mod EndsStill

@@ -3,3 +3,4 @@ pub mod Rests
 pub mod Passes
 pub mod Puts
 pub mod Laws
+pub mod Still

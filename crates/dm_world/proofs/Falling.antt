@@ -3,6 +3,7 @@ use Rattle.dm_world.proofs.Names.{◌≡◌, ℕ, zero, suc, ◌+◌, ◌-◌, �
 use Rattle.dm_world.proofs.Names.{Option, None, Some, Ok, Err, eqb_tells, leb_tells, slice_get_cases, Packet, PacketError, packet_of, Data, Ack, Sent, bytes_at, just_put, marked, after_mark, is_pair, Boot, Step, Out, Acted, Acts, Goes}
 use Rattle.dm_world.proofs.Names.{Worn, spoken, with_packet, sum_below, Pass, Round, Settle, Cursor, One, Passing, Place, Packets, Turns, End, Falls, IsFresh, LeavesFewer, LeavesNoMore, SettleGoes, TakesTurn, room, room_of, seen_count}
 use Rattle.dm_world.proofs.Names.{turns_at, turns_of, first_unseen, Happened, Said, Says, WorldState, WornOut, acted, delivers, reads, turned, world_step}
+use Rattle.dm_line.specs.declared.pass.Pass.TheVariants.{Rest}
 use Rattle.dm_packet.specs.declared.Packet.TheVariants as packet
 use Rattle.dm_schedule.specs.declared.Step.TheVariants as step
 use Rattle.dm_node.specs.declared.out.Out.TheVariants as out
@@ -249,6 +250,7 @@ one_falls n w e = counted_fewer n w (One e) (Passing (Round 0) End) e (omega ari
 
 pub packet_falls : (n : ℕ) (w : WorldState) (p : Pass) (from to a c k : ℕ) → IsFresh n w a c k → Falls n w (Passing p (Packets from to)) (step.Deliver a c k) (Passing p (Packets a c))
 packet_falls n w (Round j) from to a c k fresh = packet_fewer n w (Passing (Round j) (Packets from to)) (Passing (Round j) (Packets a c)) a c k fresh (omega arith)
+packet_falls n w (Rest j) from to a c k fresh = packet_fewer n w (Passing (Rest j) (Packets from to)) (Passing (Rest j) (Packets a c)) a c k fresh (omega arith)
 packet_falls n w Settle from to a c k fresh = (tt, (fresh, packet_fewer n w (Passing Settle (Packets from to)) (Passing Settle (Packets a c)) a c k fresh (omega arith)))
 
 pub turn_falls : (n : ℕ) (w : WorldState) (p : Pass) (m k : ℕ) → TakesTurn n w p m k → Falls n w (Passing p (Turns m)) (step.Turn k) (Passing p (Turns (k + 1)))
@@ -256,4 +258,8 @@ turn_falls n w (Round j) m k h =
     let from = h.from in
     let within = h.within in
     counted_fewer n w (Passing (Round j) (Turns m)) (Passing (Round j) (Turns (k + 1))) (step.Turn k) (omega (arith, from, within))
+turn_falls n w (Rest j) m k h =
+    let from = h.from in
+    let within = h.within in
+    counted_fewer n w (Passing (Rest j) (Turns m)) (Passing (Rest j) (Turns (k + 1))) (step.Turn k) (omega (arith, from, within))
 turn_falls n w Settle m k h = (tt, (h.within, h.takes, counted_no_more n w (Passing Settle (Turns m)) (Passing Settle (Turns (k + 1))) (step.Turn k) (omega arith)))

@@ -1,0 +1,1 @@
+-- What the proofs of this crate name of what lies below it.
