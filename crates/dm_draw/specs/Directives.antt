@@ -68,3 +68,4 @@ IsDrawn machines (directive.One (step.CallOff p m)) = m < machines
 IsDrawn machines directive.Round = ⊤
 IsDrawn machines (directive.Spin n) = ⊥
 IsDrawn machines directive.Settle = ⊥
+IsDrawn machines (directive.Rest n) = ⊥

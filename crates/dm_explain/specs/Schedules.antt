@@ -9,7 +9,7 @@ use Rattle.dm_schedule.specs.declared.LineFault.{LineFault}
 use Rattle.dm_schedule.specs.declared.LineFault.TheVariants.{UnknownWord, WrongCount, NotANumber, OutOfRange, SameMachine}
 use Rattle.dm_reading.specs.Lines.{lines}
 use Rattle.dm_schedule.specs.declared.keywords.Keyword.{Keyword}
-use Rattle.dm_schedule.specs.declared.keywords.Keyword.TheVariants.{Turn, Tick, Deliver, Migrate, CallOff, Round, Spin, Settle}
+use Rattle.dm_schedule.specs.declared.keywords.Keyword.TheVariants.{Turn, Tick, Deliver, Migrate, CallOff, Round, Spin, Settle, Rest}
 use Rattle.dm_schedule.specs.Schedule.{Schedule, Accepted, Refused, number_of_fault}
 use Rattle.dm_explain.specs.LineAt.{line_at}
 use Rattle.dm_explain.specs.Parts.{quoted}
@@ -47,6 +47,10 @@ abbrev pub is_settle : Directive → Bool
 is_settle directive.Settle = true
 is_settle _ = false
 
+abbrev pub is_rest : Directive → Bool
+is_rest (directive.Rest n) = true
+is_rest _ = false
+
 abbrev pub is_of : Keyword → Directive → Bool
 is_of Turn d = is_turn d
 is_of Tick d = is_tick d
@@ -56,6 +60,7 @@ is_of CallOff d = is_calloff d
 is_of Round d = is_round d
 is_of Spin d = is_spin d
 is_of Settle d = is_settle d
+is_of Rest d = is_rest d
 
 abbrev pub many : Keyword → List Directive → List ℕ
 many k ds = decimal (count_by (is_of k) ds)
@@ -63,7 +68,8 @@ many k ds = decimal (count_by (is_of k) ds)
 abbrev pub directives_told : List Directive → List ℕ
 directives_told ds =
     concat (codes "schedule: " ∷ decimal (length ds) ∷ codes " directives: turn " ∷ many Turn ds ∷ codes ", tick " ∷ many Tick ds ∷ codes ", deliver " ∷ many Deliver ds
-    ∷ codes ", migrate " ∷ many Migrate ds ∷ codes ", calloff " ∷ many CallOff ds ∷ codes ", round " ∷ many Round ds ∷ codes ", spin " ∷ many Spin ds ∷ codes ", settle " ∷ many Settle ds ∷ codes "\n" ∷ [])
+    ∷ codes ", migrate " ∷ many Migrate ds ∷ codes ", calloff " ∷ many CallOff ds ∷ codes ", round " ∷ many Round ds ∷ codes ", spin " ∷ many Spin ds ∷ codes ", settle " ∷ many Settle ds
+    ∷ codes ", rest " ∷ many Rest ds ∷ codes "\n" ∷ [])
 
 abbrev pub fault_words : LineFault → List ℕ
 fault_words UnknownWord = codes "no such word"

@@ -32,6 +32,8 @@ pub fn put_directives(into: &mut Vec<u8>, directives: &[Directive]) -> Result<()
             Part::Count(many(Keyword::Spin, directives)),
             Part::Text(", settle "),
             Part::Count(many(Keyword::Settle, directives)),
+            Part::Text(", rest "),
+            Part::Count(many(Keyword::Rest, directives)),
             Part::Text("\n"),
         ],
     )
@@ -63,6 +65,7 @@ fn is_of(keyword: Keyword, directive: &Directive) -> bool
         Keyword::Round => matches!(*directive, Directive::Round),
         Keyword::Spin => matches!(*directive, Directive::Spin(_)),
         Keyword::Settle => matches!(*directive, Directive::Settle),
+        Keyword::Rest => matches!(*directive, Directive::Rest(_)),
     }
 }
 

@@ -8,4 +8,7 @@ pub enum Pass {
     Round(u32),
     /// Each machine that has mail takes its turn. The passes of a settle are over where nothing is on its way any more.
     Settle,
+    /// Each machine that has mail, or a process that can be served, takes its turn; at most so many passes come behind this
+    /// one. They are over where all is at rest: nothing is on its way any more, and no process can be served.
+    Rest(u32),
 }

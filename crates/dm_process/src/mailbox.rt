@@ -1,5 +1,5 @@
 //! The messages that wait for a process.
-ghost use Rattle.std.specs.Prelude.{◌≡◌, ◌<◌, ◌≤◌, ◌++◌, ◌∷◌, [], IfNone, IfSome, OnErr, OnOk, List, None, Some, length, remove, slice_get, take};
+ghost use Rattle.std.specs.Prelude.{◌≡◌, ◌<◌, ◌≤◌, ◌++◌, ◌∷◌, [], IfNone, IfSome, OnErr, OnOk, List, None, Some, is_some, length, remove, slice_get, take};
 ghost use Rattle.dm_process.specs.Mail.{first_on, is_on, on_mask, without_first_on, HasPassed};
 
 use dm_lists::Queue;
@@ -109,6 +109,13 @@ impl Mailbox {
         } else {
             None
         }
+    }
+
+    /// Whether a message is on a channel of the mask. It looks at none that the last search has passed for this mask.
+    pub(crate) fn has_match(&self, mask: u32) -> bool
+        ensures { result ≡ is_some (first_on mask self.now) }
+    {
+        first_place(&self.messages, mask, self.passed_for(mask)) < self.messages.len()
     }
 
     /// How many messages from the front on are known not to be on a mask.

@@ -123,6 +123,20 @@ impl Process {
         })
     }
 
+    /// Whether it can be served now: it isn't stopped, and is ready, or waits for a message that is in its queue.
+    pub fn is_runnable(&self) -> bool
+        ensures { result ≡ is_runnable self.now }
+    {
+        if self.stopped {
+            return false;
+        }
+        match self.status {
+            Status::Ready => true,
+            Status::Waiting { mask, .. } => self.queue.has_match(mask),
+            Status::Moving { .. } => false,
+        }
+    }
+
     /// What it does where it is served now; nothing where it can't be served.
     pub fn service(&mut self) -> Option<Service>
         ensures unchanged { self.new ≡ self.old }

@@ -26,6 +26,8 @@ texts =
     (codes "migrate 0.3", (1, 2)) ∷
     (codes "round 0", (1, 2)) ∷
     (codes "spin", (1, 2)) ∷
+    (codes "rest", (1, 2)) ∷
+    (codes "rest 3 3", (1, 2)) ∷
     (codes "turn #", (1, 3)) ∷
     (codes "turn 0" ++ 13 ∷ [], (1, 3)) ∷
     (codes "turn 0" ++ 13 ∷ codes "0" ++ 10 ∷ [], (1, 3)) ∷
@@ -68,7 +70,12 @@ numbers =
     (codes "spin 0", (1, 4)) ∷
     (codes "spin 1", (0, 0)) ∷
     (codes "spin 65536", (0, 0)) ∷
-    (codes "spin 65537", (1, 4)) ∷ []
+    (codes "spin 65537", (1, 4)) ∷
+    (codes "rest x", (1, 3)) ∷
+    (codes "rest 0", (1, 4)) ∷
+    (codes "rest 1", (0, 0)) ∷
+    (codes "rest 65536", (0, 0)) ∷
+    (codes "rest 65537", (1, 4)) ∷ []
 
 pub texts_are_refused_so : map (λ row. refusal (directives_of row.0 2)) texts ≡ map (λ row. row.1) texts
 unfolding directives_of lines_from line_directive directive_of keyword_of lines words_between number_of_word process_of
@@ -79,8 +86,8 @@ unfolding directives_of lines_from line_directive directive_of keyword_of lines 
 numbers_are_refused_so = refl
 
 pub in_order :
-    directives_of (codes "turn 00" ++ 13 ∷ 10 ∷ 10 ∷ 9 ∷ codes " tick" ++ 9 ∷ codes "1 " ++ 10 ∷ codes "# turn 1" ++ 10 ∷ codes "round" ++ 10 ∷ codes "deliver 1 0 7" ++ 10 ∷ codes "spin 65536" ++ 10 ∷ codes "migrate 00.03 01") 2
+    directives_of (codes "turn 00" ++ 13 ∷ 10 ∷ 10 ∷ 9 ∷ codes " tick" ++ 9 ∷ codes "1 " ++ 10 ∷ codes "# turn 1" ++ 10 ∷ codes "round" ++ 10 ∷ codes "deliver 1 0 7" ++ 10 ∷ codes "spin 65536" ++ 10 ∷ codes "settle" ++ 10 ∷ codes "rest 03" ++ 10 ∷ codes "migrate 00.03 01") 2
     ≡ Accepted (directive.One (step.Turn 0) ∷ directive.One (step.Tick 1) ∷ directive.Round ∷ directive.One (step.Deliver 1 0 7)
-    ∷ directive.Spin 65536 ∷ directive.One (step.Migrate (record { home = 0; num = 3 }) 1) ∷ [])
+    ∷ directive.Spin 65536 ∷ directive.Settle ∷ directive.Rest 3 ∷ directive.One (step.Migrate (record { home = 0; num = 3 }) 1) ∷ [])
 unfolding directives_of lines_from line_directive directive_of keyword_of lines words_between number_of_word process_of
 in_order = refl

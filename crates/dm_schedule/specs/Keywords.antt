@@ -3,13 +3,13 @@ use Rattle.std.specs.Prelude.{ℕ, List, [], ◌∷◌, Option, codes}
 use Rattle.std.specs.List.{find}
 use Rattle.std.specs.Str.{bytes_eq}
 use Rattle.dm_schedule.specs.declared.keywords.Keyword.{Keyword}
-use Rattle.dm_schedule.specs.declared.keywords.Keyword.TheVariants.{Turn, Tick, Deliver, Migrate, CallOff, Round, Spin, Settle}
+use Rattle.dm_schedule.specs.declared.keywords.Keyword.TheVariants.{Turn, Tick, Deliver, Migrate, CallOff, Round, Spin, Settle, Rest}
 
 -- all keywords
 abbrev pub keywords : List Keyword
-keywords = Turn ∷ Tick ∷ Deliver ∷ Migrate ∷ CallOff ∷ Round ∷ Spin ∷ Settle ∷ []
+keywords = Turn ∷ Tick ∷ Deliver ∷ Migrate ∷ CallOff ∷ Round ∷ Spin ∷ Settle ∷ Rest ∷ []
 
--- what an operand is: a machine, a process, the place of a packet, or a number of rounds
+-- what an operand is: a machine, a process, the place of a packet, or a number of rounds or passes
 pub data Operand : Type 0 where
   Machine : Operand
   Process : Operand
@@ -26,6 +26,7 @@ keyword_row CallOff = (codes "calloff", Process ∷ Machine ∷ [])
 keyword_row Round = (codes "round", [])
 keyword_row Spin = (codes "spin", Rounds ∷ [])
 keyword_row Settle = (codes "settle", [])
+keyword_row Rest = (codes "rest", Rounds ∷ [])
 
 abbrev pub word_of_keyword : Keyword → List ℕ
 word_of_keyword k = (keyword_row k).0

@@ -24,7 +24,7 @@ within fits None = Err NotANumber
 within fits (Some x) = if fits x then Ok x else Err OutOfRange
 
 -- the value of an operand that is written as a word, with so many machines: a machine is below their number; so is the home of a
--- process, whose number is below 2^32; the place of a packet is below 2^32; and there are 1 to 65,536 rounds
+-- process, whose number is below 2^32; the place of a packet is below 2^32; and there are 1 to 65,536 rounds or passes
 abbrev pub value_of : ℕ → (o : Operand) → List ℕ → Result (Value o) LineFault
 value_of machines Machine word = within (λ m. nat_lt m machines) (number_of_word word)
 value_of machines Process word = within (λ p. nat_lt p.home machines && nat_le p.num 4294967295) (process_of word)

@@ -10,7 +10,7 @@ use Rattle.dm_schedule.specs.declared.LineFault.TheVariants.{UnknownWord, WrongC
 use Rattle.dm_schedule.specs.declared.ScheduleError.{ScheduleError}
 use Rattle.dm_schedule.specs.declared.ScheduleError.TheVariants as no
 use Rattle.dm_schedule.specs.declared.keywords.Keyword.{Keyword}
-use Rattle.dm_schedule.specs.declared.keywords.Keyword.TheVariants.{Turn, Tick, Deliver, Migrate, CallOff, Round, Spin, Settle}
+use Rattle.dm_schedule.specs.declared.keywords.Keyword.TheVariants.{Turn, Tick, Deliver, Migrate, CallOff, Round, Spin, Settle, Rest}
 use Rattle.dm_schedule.specs.Keywords.{keyword_of, operands}
 use Rattle.dm_schedule.specs.Operands.{Values, values_of, ◌>>=◌}
 
@@ -37,6 +37,7 @@ directive_made CallOff v = Ok (directive.One (step.CallOff v.0 v.1.0))
 directive_made Round v = Ok directive.Round
 directive_made Spin v = Ok (directive.Spin v.0)
 directive_made Settle v = Ok directive.Settle
+directive_made Rest v = Ok (directive.Rest v.0)
 
 -- the directive of a keyword, if there is one, and the words behind it
 unfoldable pub directive_of : ℕ → Option Keyword → List (List ℕ) → Result Directive LineFault

@@ -2,7 +2,7 @@
 ghost use Rattle.std.specs.Prelude.{◌≡◌, Some};
 ghost use Rattle.dm_reading.specs.Words.{words};
 ghost use Rattle.dm_schedule.specs.Schedule.{begins_comment, directive_of, line_directive};
-ghost use Rattle.dm_schedule.specs.declared.keywords.Keyword.TheVariants.{CallOff, Deliver, Migrate, Round, Settle, Spin, Tick, Turn};
+ghost use Rattle.dm_schedule.specs.declared.keywords.Keyword.TheVariants.{CallOff, Deliver, Migrate, Rest, Round, Settle, Spin, Tick, Turn};
 
 use crate::keywords::Keyword;
 use crate::operands::{machine, packet, process, rounds};
@@ -95,6 +95,16 @@ fn settle(machines: u8, operands: &[u8]) -> Result<Directive, LineFault>
     Ok(Directive::Settle)
 }
 
+/// The directive `rest` with its operand.
+#[tactic(auto, unfolding(crate::specs::Schedule::directive_of))]
+fn rest(machines: u8, operands: &[u8]) -> Result<Directive, LineFault>
+    ensures { result ≡ directive_of machines (Some Rest) (words operands.now) }
+{
+    let word = one_word(operands)?;
+    let n = rounds(word)?;
+    Ok(Directive::Rest(n))
+}
+
 /// The directive of a keyword with its operands.
 fn keyword_directive(
     machines: u8,
@@ -112,6 +122,7 @@ fn keyword_directive(
         Keyword::Round => round(machines, operands),
         Keyword::Spin => spin(machines, operands),
         Keyword::Settle => settle(machines, operands),
+        Keyword::Rest => rest(machines, operands),
     }
 }
 

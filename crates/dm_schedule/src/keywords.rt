@@ -13,10 +13,11 @@ pub enum Keyword {
     Round,
     Spin,
     Settle,
+    Rest,
 }
 
 /// All keywords.
-const KEYWORDS: [Keyword; 8] = [
+const KEYWORDS: [Keyword; 9] = [
     Keyword::Turn,
     Keyword::Tick,
     Keyword::Deliver,
@@ -25,6 +26,7 @@ const KEYWORDS: [Keyword; 8] = [
     Keyword::Round,
     Keyword::Spin,
     Keyword::Settle,
+    Keyword::Rest,
 ];
 
 impl Keyword {
@@ -41,6 +43,7 @@ impl Keyword {
             Keyword::Round => b"round",
             Keyword::Spin => b"spin",
             Keyword::Settle => b"settle",
+            Keyword::Rest => b"rest",
         }
     }
 

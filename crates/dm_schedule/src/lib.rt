@@ -47,6 +47,9 @@ pub enum Directive {
     Spin(u32),
     /// Passes, each as a round but with turns only of machines that have mail, until nothing is on its way any more.
     Settle,
+    /// At most so many passes, 1 to 65,536: each as a settle's, but with turns of all machines that have mail or a process
+    /// that can be served, until nothing can go on any more.
+    Rest(u32),
 }
 
 /// What is wrong with a line.
