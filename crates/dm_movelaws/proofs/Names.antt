@@ -75,7 +75,7 @@ pub use Rattle.dm_rule.proofs.Turns.{created_off, ended_off, serving_off}
 pub use Rattle.dm_rule.specs.Addresses.{child_gets}
 pub use Rattle.dm_rule.specs.Ends.{Stood, alive_lines, awaits, child_lines, doing_of, each_process, end_lines, first_with, holding_lines, homes_with, inbox_lines, link_lines, name_lines, pending_lines, process_lines, queue_at, queue_lines}
 pub use Rattle.dm_rule.specs.Ends.{server_lines, slot_line, standing_of, state_lines, stood, stood_at, stream_lines}
-pub use Rattle.dm_rule.specs.Migrating.{answers_in, behind_among, holders_numbered, holders_of, slot_holders}
+pub use Rattle.dm_rule.specs.Migrating.{answers_in, behind_among, by_known, holders_numbered, holders_of, slot_holders}
 pub use Rattle.dm_rule.specs.Phases.{is_unknown}
 pub use Rattle.dm_rule.specs.Rule.{handles, landing_parts}
 pub use Rattle.dm_rulelaws.proofs.Based.Always.{based_always, based_group}
@@ -113,17 +113,17 @@ pub use Rattle.dm_rulelaws.proofs.Names.{Why, [], about_same, accepts, acting_pl
 pub use Rattle.dm_rulelaws.proofs.Names.{ascends, at_home, at_machine, at_machine_at, at_pair, at_place, at_record, at_record_at, bag_answered, bag_call, bag_created, bag_dropped, bag_end, bag_gone, bag_no_space, bag_out, bag_ran}
 pub use Rattle.dm_rulelaws.proofs.Names.{bag_receive, bag_refuse, bag_sends, bag_served, bag_took, bag_wait, behind, bind, bind-is, board_takes_lem, both_lists, both_times, by_calls_off, by_forwards, by_group, by_handles, by_hears}
 pub use Rattle.dm_rulelaws.proofs.Names.{by_migrates, by_net, by_outcome, by_parts, by_round, by_step, call_off, called_parts, calls_off, calm_phases, came, cases_Bool, child_is, chunks_of, coming_is, counts, destination_expects, drop}
-pub use Rattle.dm_rulelaws.proofs.Names.{dropped_known, due, due_or_left, ends_by, ends_move-is, entry, eq_is, eq_self, false, false≢true, filter, first_empty, first_failed, first_gives, first_number, first_off, first_point, first_view}
-pub use Rattle.dm_rulelaws.proofs.Names.{forwarded_back, forwarded_for, forwarded_known, forwards, forwards_on, front_gone, front_kernels, front_of, front_way, gets, given, gives, gives_piece, goes_back, goes_between, goes_out, gone_to}
-pub use Rattle.dm_rulelaws.proofs.Names.{group_is, group_of, grown_none, handled, handled_first, has_bytes, has_no_queue, has_nothing_held, head_calm, hears, held_for, held_known, hidden, holder_eq, homes_are, hushed, id_eq, id_eq-is}
-pub use Rattle.dm_rulelaws.proofs.Names.{id_eq-same, id_of, if◌then◌else◌, in_bag, inl, inr, is_away, is_behind, is_between, is_calloff, is_counted, is_early, is_fixed, is_here, is_kernels, is_kill, is_of_memory, is_piece, is_put}
-pub use Rattle.dm_rulelaws.proofs.Names.{is_restart, is_server, is_some, is_told_back, kernel_after, kernel_hears, kernels_fresh, kind_comes, kind_leaves, knows, label_of, label_on, label_topic, labels, lands-is, leaves, leaves_for}
-pub use Rattle.dm_rulelaws.proofs.Names.{left_parts, length, length-append, length-drop, length-take, letters, life_at, lines_of, link_at, link_target, machine_of, manager, manager_gets, manager_takes_lem, map, migrates, move_fits}
-pub use Rattle.dm_rulelaws.proofs.Names.{move_target, moved, moves_away, nat_le, nat_lt, nat_tests, not, not_false, not_kernels, not_server, not_true, note-is, numbered_from, one_of, option_map_or, or_first, out_off, outcome}
-pub use Rattle.dm_rulelaws.proofs.Names.{outcome_sayable, own_given, own_id, packet_line, pair_keeps, part_sane, parts, pending_of, phased_group, phased_start, pid_eq, pid_eq-is, pid_eq-same, pid_eq-swap, pid_of, piece_fits, pieces_of}
-pub use Rattle.dm_rulelaws.proofs.Names.{place_told, plain_kind, process_told, proto_acting, proto_known, pulls_piece, put_at, put_told_off, puts, queued_known, receiver_in, receiver_of, reception, refl, rejoins, replay, resends_net}
-pub use Rattle.dm_rulelaws.proofs.Names.{rests_here, right_true, rooted, sane_line, second, seen, seen_none, sender_in, sender_of, sends_on, sent_at, served_keeps, served_told, sets, slice_get, sort_of, source_holds, spelled, standing}
-pub use Rattle.dm_rulelaws.proofs.Names.{stands_right, start, start-sound, status_awaits, stayed, subst, suc, switchboard, sym, take, taken_id, takes_block, takes_chunk, target_of, tells_asker, tells_between, tells_onward, times}
+pub use Rattle.dm_rulelaws.proofs.Names.{dropped_known, due, due_or_left, ends_by, ends_move-is, entry, eq_is, eq_self, false, false_from_ne_true, false≢true, filter, first_empty, first_failed, first_gives, first_number, first_off}
+pub use Rattle.dm_rulelaws.proofs.Names.{first_point, first_view, forwarded_back, forwarded_for, forwarded_known, forwards, forwards_on, front_gone, front_kernels, front_of, front_way, gets, given, gives, gives_piece, goes_back}
+pub use Rattle.dm_rulelaws.proofs.Names.{goes_between, goes_out, gone_to, group_is, group_of, grown_none, handled, handled_first, has_bytes, has_no_queue, has_nothing_held, head_calm, hears, held_for, held_known, hidden, holder_eq}
+pub use Rattle.dm_rulelaws.proofs.Names.{homes_are, hushed, id_eq, id_eq-is, id_eq-same, id_of, if◌then◌else◌, in_bag, inl, inr, is_away, is_behind, is_between, is_calloff, is_counted, is_early, is_fixed, is_here, is_kernels, is_kill}
+pub use Rattle.dm_rulelaws.proofs.Names.{is_of_memory, is_piece, is_put, is_restart, is_server, is_some, is_told_back, kernel_after, kernel_hears, kernels_fresh, kind_comes, kind_leaves, knows, label_of, label_on, label_topic, labels}
+pub use Rattle.dm_rulelaws.proofs.Names.{lands-is, leaves, leaves_for, left_parts, length, length-append, length-drop, length-take, letters, life_at, lines_of, link_at, link_target, machine_of, manager, manager_gets, manager_takes_lem, map}
+pub use Rattle.dm_rulelaws.proofs.Names.{migrates, move_fits, move_target, moved, moves_away, nat_le, nat_lt, nat_tests, not, not_false, not_kernels, not_server, not_true, note-is, numbered_from, one_of, option_map_or, or_first, out_off}
+pub use Rattle.dm_rulelaws.proofs.Names.{outcome, outcome_sayable, own_given, own_id, packet_line, pair_keeps, part_sane, parts, pending_of, phased_group, phased_start, pid_eq, pid_eq-is, pid_eq-same, pid_eq-swap, pid_of, piece_fits}
+pub use Rattle.dm_rulelaws.proofs.Names.{pieces_of, place_told, plain_kind, process_told, proto_acting, proto_known, pulls_piece, put_at, put_told_off, puts, queued_known, receiver_in, receiver_of, reception, refl, rejoins, replay}
+pub use Rattle.dm_rulelaws.proofs.Names.{resends_net, rests_here, right_true, rooted, sane_line, second, seen, seen_none, sender_in, sender_of, sends_on, sent_at, served_keeps, served_told, sets, slice_get, sort_of, source_holds, spelled}
+pub use Rattle.dm_rulelaws.proofs.Names.{standing, stands_right, start, start-sound, status_awaits, stayed, subst, suc, switchboard, sym, take, taken_id, takes_block, takes_chunk, target_of, tells_asker, tells_between, tells_onward, times}
 pub use Rattle.dm_rulelaws.proofs.Names.{times-append, to_kernel, to_of, token_at, token_is, told_between, told_ended, told_here, told_server, told_some, told_step, topic_by, true, turn_off, under_way, untaken, updated, updates, view_after}
 pub use Rattle.dm_rulelaws.proofs.Names.{with_label, with_note, with_process, with_sent, without_front, without_id, without_message, without_note, zero, ℕ, ⊤, ◌&&◌, ◌++◌, ◌+◌, ◌-◌, ◌/◌, ◌<◌, ◌==◌, ◌||◌, ◌∙◌, ◌∷◌, ◌≡◌, ◌≢◌, ◌≤◌, ◌⊎◌}
 pub use Rattle.dm_rulelaws.proofs.Own.Told.{is_place, own_sort}

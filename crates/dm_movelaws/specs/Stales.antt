@@ -1,4 +1,4 @@
--- Of each migration that was called off one piece comes too late.
+-- As many pieces of a process come too late as migrations of it were called off.
 use Rattle.std.specs.Prelude.{◌≡◌, ◌≤◌, Bool, false, List}
 use Rattle.std.specs.Option.{option_map_or}
 use Rattle.std.specs.declared.option.Option.{Option}

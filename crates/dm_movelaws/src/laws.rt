@@ -56,7 +56,7 @@ pub fn steps_in_order()
 {}
 
 /// Wherever the rule leads from a boot file, no more lines `stale` are about a process than lines `called`; and as many, where nothing
-/// is on its way between machines: of each migration that was called off one piece comes too late, and never more.
+/// is on its way between machines: as many pieces come too late as migrations were called off.
 pub fn stales_always()
     ensures { StalesAlways }
 {}

@@ -1,6 +1,6 @@
 -- Rows of the rule whose parts need nothing beside, so that a kernel with places goes along.
 use Rattle.dm_places.proofs.Names.{◌≡◌, ℕ, zero, suc, ◌-◌, ◌==◌, Bool, List, [], ◌∷◌, ◌++◌, ⊤, if◌then◌else◌, Option, None, Some, Pid, MsgId, Line, PlainMessage, PlainWhat, Boot, manager, OneKernel, bind, PlainProcess, PlainStatus, Load}
-use Rattle.dm_places.proofs.Names.{Known, Pair, SentLoad, Told, View, Part, Point, by_migrates, IsHeardLine, hears_kept, id_of, arith, Kept, calls_off_kept}
+use Rattle.dm_places.proofs.Names.{Known, Pair, SentLoad, Told, View, Part, Point, by_migrates, IsHeardLine, hears_kept, id_of, arith, Kept, calls_off_kept, plain_kind}
 use Rattle.dm_onekernel.specs.Pieces as pieces
 use Rattle.dm_onekernel.specs.Receiving as receiving
 use Rattle.dm_onekernel.specs.Step as kernel
@@ -60,8 +60,12 @@ here_easy pt m id k x w h1 = search (arith, drops_easy, lands_easy, if_parts)
 ended_easy : (id : MsgId) (w : PlainWhat) → Easy (rule.ended_handles id w)
 ended_easy id w = search arith
 
-pub process_easy : (pt : Point) (m : ℕ) (id : MsgId) (k : PlainMessage) (w : Known) → AsksEasily id k.what → Easy (rule.process_handles pt m id k w)
-process_easy pt m id k w h1 = search (arith, here_easy, if_parts, ended_easy)
+pub own_easy : (pt : Point) (m : ℕ) (id : MsgId) (k : PlainMessage) (o : Option PlainProcess) → AsksEasily id k.what → Easy (bind o (λ (x : PlainProcess). rule.here_handles pt m id k x k.what))
+own_easy pt m id k o h1 = search (arith, here_easy)
+
+-- a message whose receiver isn't here
+pub away_easy : (pt : Point) (id : MsgId) (k : PlainMessage) (here : Option (List Part)) (w : Known) → Easy here → Easy (migrating.by_known pt id (plain_kind k.what) k.sender here (rule.ended_handles id k.what) w)
+away_easy pt id k here w h1 = search (arith, if_parts, ended_easy)
 
 -- a kernel's own message
 told_easy : (l : Line) → IsHeardLine l → EasyLine l

@@ -224,17 +224,6 @@ ended_row pt i is (PlainWhat.Move a) parts w h fits front e n = let f : says (La
 ended_row pt i is (PlainWhat.Moved a) parts w h fits front e n = cc
 ended_row pt i is _ parts w h fits front e n = let f : says (Label.Dropped i) ∷ [] ≡ parts = cc in dropped_row pt i is w h front (ap (spelled pt) f ∙ n)
 
-process_row : (o pt : Point) (m : ℕ) (i : MsgId) (is : List MsgId) (msg : PlainMessage) (k : view.Known) (parts : List Part) (w : Spelled) (h : State None pt) → PairsFit pt.view → pt.view.inbox pt.view.acting ≡ i ∷ is → pt.kernel.bag i ≡ Some msg → o.kernel ≡ pt.kernel
-    → o.view.queue m msg.to ≡ pt.view.queue pt.view.acting msg.to → rule.process_handles o m i msg k ≡ Some parts → spelled pt parts ≡ Some w → State None w.point
-process_row o pt m i is msg view.Unknown parts w h fits front there same queue e n = cc
-process_row o pt m i is msg view.Here parts w h fits front there same queue e n =
-    let (x, alive, rest) = bind-is (kernel.alive (o.kernel.processes msg.to)) (λ x. rule.here_handles o m i msg x msg.what) parts e in
-    here_row o pt m i is msg x msg.what parts w h fits front there (ap (λ (s : OneKernel). kernel.alive (s.processes msg.to)) (sym same) ∙ alive) refl queue rest n
-process_row o pt m i is msg (view.Forward at moves) parts w h fits front there same queue e n =
-    forwards_row pt o.addresses i is (plain_kind msg.what) msg.sender at w h fits front (ap (spelled pt) (let f : forwards_on o.addresses i (plain_kind msg.what) msg.sender at ≡ parts = cc in f) ∙ n)
-process_row o pt m i is msg view.Ended parts w h fits front there same queue e n = ended_row pt i is msg.what parts w h fits front e n
-process_row o pt m i is msg _ parts w h fits front there same queue e n = let f : Says (Line.Held i) ∷ [] ≡ parts = cc in held_row pt i is w h front (ap (spelled pt) f ∙ n)
-
 -- a server's work
 took_row : (pt : Point) (i : MsgId) (is : List MsgId) (m : PlainMessage) (o : Option PlainMessage) (w : Spelled) (h : State None pt) → PairsFit pt.view → pt.view.inbox pt.view.acting ≡ i ∷ is → pt.kernel.bag i ≡ Some m → took_id pt.kernel m ≡ id_in o
     → spelled pt (says (Label.Took i) ∷ rule.routes o) ≡ Some w → State None w.point
@@ -254,6 +243,36 @@ manager_row : (pt : Point) (i : MsgId) (is : List MsgId) (m : PlainMessage) (t :
 manager_row pt i is m None parts w h fits front there put e n = cc
 manager_row pt i is m (Some t) parts w h fits front there put e n = let f : says (Label.Took i) ∷ rule.routes t.message ≡ parts = cc in took_row pt i is m t.message w h fits front there put (ap (spelled pt) f ∙ n)
 
+-- the receiver is here: a server or another process
+own_row : (o pt : Point) (m : ℕ) (i : MsgId) (is : List MsgId) (msg : PlainMessage) (l n : Bool) (parts : List Part) (w : Spelled) (h : State None pt) → PairsFit pt.view → pt.view.inbox pt.view.acting ≡ i ∷ is → pt.kernel.bag i ≡ Some msg → o.kernel ≡ pt.kernel
+    → o.view.queue m msg.to ≡ pt.view.queue pt.view.acting msg.to → pid_eq msg.to switchboard ≡ l → pid_eq msg.to manager ≡ n
+    → (if l then rule.board_took i (board.board_takes o.kernel.switchboard msg msg.what) else if n then rule.manager_parts i (manage.manager_takes o.kernel.manager o.kernel.machines (length o.kernel.images) msg msg.what)
+    else bind (kernel.alive (o.kernel.processes msg.to)) (λ x. rule.here_handles o m i msg x msg.what)) ≡ Some parts
+    → spelled pt parts ≡ Some w → State None w.point
+own_row o pt m i is msg true n parts w h fits front there same queue x y e z =
+    let t = board.board_takes o.kernel.switchboard msg msg.what in
+    let put : took_id pt.kernel msg ≡ board_id t = ap (λ (c : Bool). if c then board_id (board.board_takes pt.kernel.switchboard msg msg.what) else if pid_eq msg.to manager then manager_id (manage.manager_takes pt.kernel.manager pt.kernel.machines (length pt.kernel.images) msg msg.what) else None) x
+    ∙ ap (λ (s : OneKernel). board_id (board.board_takes s.switchboard msg msg.what)) (sym same) in
+    board_row pt i is msg t parts w h fits front there put e z
+own_row o pt m i is msg false true parts w h fits front there same queue x y e z =
+    let t = manage.manager_takes o.kernel.manager o.kernel.machines (length o.kernel.images) msg msg.what in
+    let put : took_id pt.kernel msg ≡ manager_id t = ap (λ (c : Bool). if c then board_id (board.board_takes pt.kernel.switchboard msg msg.what) else if pid_eq msg.to manager then manager_id (manage.manager_takes pt.kernel.manager pt.kernel.machines (length pt.kernel.images) msg msg.what) else None) x
+    ∙ ap (λ (c : Bool). if c then manager_id (manage.manager_takes pt.kernel.manager pt.kernel.machines (length pt.kernel.images) msg msg.what) else None) y
+    ∙ ap (λ (s : OneKernel). manager_id (manage.manager_takes s.manager s.machines (length s.images) msg msg.what)) (sym same) in
+    manager_row pt i is msg t parts w h fits front there put e z
+own_row o pt m i is msg false false parts w h fits front there same queue x y e n =
+    let (x, alive, rest) = bind-is (kernel.alive (o.kernel.processes msg.to)) (λ x. rule.here_handles o m i msg x msg.what) parts e in
+    here_row o pt m i is msg x msg.what parts w h fits front there (ap (λ (s : OneKernel). kernel.alive (s.processes msg.to)) (sym same) ∙ alive) refl queue rest n
+
+process_row : (o pt : Point) (m : ℕ) (i : MsgId) (is : List MsgId) (msg : PlainMessage) (k : view.Known) (parts : List Part) (w : Spelled) (h : State None pt) → PairsFit pt.view → pt.view.inbox pt.view.acting ≡ i ∷ is → pt.kernel.bag i ≡ Some msg → o.kernel ≡ pt.kernel
+    → o.view.queue m msg.to ≡ pt.view.queue pt.view.acting msg.to → rule.process_handles o m i msg k ≡ Some parts → spelled pt parts ≡ Some w → State None w.point
+process_row o pt m i is msg view.Unknown parts w h fits front there same queue e n = cc
+process_row o pt m i is msg view.Here parts w h fits front there same queue e n = own_row o pt m i is msg (pid_eq msg.to switchboard) (pid_eq msg.to manager) parts w h fits front there same queue refl refl e n
+process_row o pt m i is msg (view.Forward at moves) parts w h fits front there same queue e n =
+    forwards_row pt o.addresses i is (plain_kind msg.what) msg.sender at w h fits front (ap (spelled pt) (let f : forwards_on o.addresses i (plain_kind msg.what) msg.sender at ≡ parts = cc in f) ∙ n)
+process_row o pt m i is msg view.Ended parts w h fits front there same queue e n = ended_row pt i is msg.what parts w h fits front e n
+process_row o pt m i is msg _ parts w h fits front there same queue e n = let f : Says (Line.Held i) ∷ [] ≡ parts = cc in held_row pt i is w h front (ap (spelled pt) f ∙ n)
+
 -- a kernel's work
 creates_row : (o pt : Point) (m : ℕ) (i : MsgId) (is : List MsgId) (b : Bool) (room : rule.Room) (w : Spelled) (h : State None pt) → PairsFit pt.view → pt.view.inbox pt.view.acting ≡ i ∷ is
     → spelled pt ((if b then says (Label.Created i (pid_of m (first_number + o.kernel.made m))) else says (Label.NoSpace i room.slots room.blocks)) ∷ Routes (answer_id i) ∷ []) ≡ Some w → State None w.point
@@ -270,25 +289,12 @@ kernel_row : (b : Boot) (o pt : Point) (m : ℕ) (i : MsgId) (is : List MsgId) (
 kernel_row b o pt m i is (PlainWhat.Create image links) parts w h fits front e n = creates_of o pt m i is (rule.free_room b o m) (slice_get b.images image) parts w h fits front e n
 kernel_row b o pt m i is _ parts w h fits front e n = cc
 
--- the receiver is a kernel, a server or a process
-handles_by : (b : Boot) (o pt : Point) (m : ℕ) (i : MsgId) (is : List MsgId) (msg : PlainMessage) (k l n : Bool) (parts : List Part) (w : Spelled) (h : State None pt) → PairsFit pt.view → pt.view.inbox pt.view.acting ≡ i ∷ is → pt.kernel.bag i ≡ Some msg → o.kernel ≡ pt.kernel
-    → o.view.queue m msg.to ≡ pt.view.queue pt.view.acting msg.to → pid_eq msg.to switchboard ≡ l → pid_eq msg.to manager ≡ n
-    → (if k then rule.kernel_handles b o m i msg.what else if l then rule.board_took i (board.board_takes o.kernel.switchboard msg msg.what)
-    else if n then rule.manager_parts i (manage.manager_takes o.kernel.manager o.kernel.machines (length o.kernel.images) msg msg.what) else rule.process_handles o m i msg (o.view.known m msg.to)) ≡ Some parts
-    → spelled pt parts ≡ Some w → State None w.point
-handles_by b o pt m i is msg true l n parts w h fits front there same queue x y e z = kernel_row b o pt m i is msg.what parts w h fits front e z
-handles_by b o pt m i is msg false true n parts w h fits front there same queue x y e z =
-    let t = board.board_takes o.kernel.switchboard msg msg.what in
-    let put : took_id pt.kernel msg ≡ board_id t = ap (λ (c : Bool). if c then board_id (board.board_takes pt.kernel.switchboard msg msg.what) else if pid_eq msg.to manager then manager_id (manage.manager_takes pt.kernel.manager pt.kernel.machines (length pt.kernel.images) msg msg.what) else None) x
-    ∙ ap (λ (s : OneKernel). board_id (board.board_takes s.switchboard msg msg.what)) (sym same) in
-    board_row pt i is msg t parts w h fits front there put e z
-handles_by b o pt m i is msg false false true parts w h fits front there same queue x y e z =
-    let t = manage.manager_takes o.kernel.manager o.kernel.machines (length o.kernel.images) msg msg.what in
-    let put : took_id pt.kernel msg ≡ manager_id t = ap (λ (c : Bool). if c then board_id (board.board_takes pt.kernel.switchboard msg msg.what) else if pid_eq msg.to manager then manager_id (manage.manager_takes pt.kernel.manager pt.kernel.machines (length pt.kernel.images) msg msg.what) else None) x
-    ∙ ap (λ (c : Bool). if c then manager_id (manage.manager_takes pt.kernel.manager pt.kernel.machines (length pt.kernel.images) msg msg.what) else None) y
-    ∙ ap (λ (s : OneKernel). manager_id (manage.manager_takes s.manager s.machines (length s.images) msg msg.what)) (sym same) in
-    manager_row pt i is msg t parts w h fits front there put e z
-handles_by b o pt m i is msg false false false parts w h fits front there same queue x y e z = process_row o pt m i is msg (o.view.known m msg.to) parts w h fits front there same queue e z
+-- the receiver is a kernel or none
+handles_by : (b : Boot) (o pt : Point) (m : ℕ) (i : MsgId) (is : List MsgId) (msg : PlainMessage) (k : Bool) (parts : List Part) (w : Spelled) (h : State None pt) → PairsFit pt.view → pt.view.inbox pt.view.acting ≡ i ∷ is → pt.kernel.bag i ≡ Some msg → o.kernel ≡ pt.kernel
+    → o.view.queue m msg.to ≡ pt.view.queue pt.view.acting msg.to
+    → (if k then rule.kernel_handles b o m i msg.what else rule.process_handles o m i msg (o.view.known m msg.to)) ≡ Some parts → spelled pt parts ≡ Some w → State None w.point
+handles_by b o pt m i is msg true parts w h fits front there same queue e z = kernel_row b o pt m i is msg.what parts w h fits front e z
+handles_by b o pt m i is msg false parts w h fits front there same queue e z = process_row o pt m i is msg (o.view.known m msg.to) parts w h fits front there same queue e z
 
 -- a turn: what the rule saw before the head, said after it
 goes_round_row : (b : Boot) (o pt : Point) (m : ℕ) (p : Option Pid) (parts : List Part) (w : Spelled) (h : State None pt) → PairsFit pt.view → o.kernel ≡ pt.kernel → ((q : Pid) → o.view.queue m q ≡ pt.view.queue pt.view.acting q) → rule.goes_round b o m p ≡ Some parts → spelled pt parts ≡ Some w → State None w.point
@@ -307,7 +313,7 @@ comes_row : (b : Boot) (o pt : Point) (m : ℕ) (i : MsgId) (is : List MsgId) (t
 comes_row b o pt m i is None parts w h fits topic front sees there e n =
     hears_row b o pt m i is (o.view.told i) parts w h fits topic front (ap (λ (s : OneKernel). s.bag i) (sym sees.kernel) ∙ there) sees e n
 comes_row b o pt m i is (Some msg) parts w h fits topic front sees there e n =
-    handles_by b o pt m i is msg (msg.to.num == 0) (pid_eq msg.to switchboard) (pid_eq msg.to manager) parts w h fits front (ap (λ (s : OneKernel). s.bag i) (sym sees.kernel) ∙ there) sees.kernel (sees.queue msg.to) refl refl e n
+    handles_by b o pt m i is msg (msg.to.num == 0) parts w h fits front (ap (λ (s : OneKernel). s.bag i) (sym sees.kernel) ∙ there) sees.kernel (sees.queue msg.to) e n
 
 pub turns_row : (b : Boot) (o pt : Point) (m : ℕ) (inbox : List MsgId) (parts : List Part) (w : Spelled) (h : State None pt) → PairsFit pt.view → pt.view.topic ≡ NothingElse → pt.view.inbox pt.view.acting ≡ inbox → SeesSame o pt m
     → rule.turns b o m inbox ≡ Some parts → spelled pt parts ≡ Some w → State None w.point

@@ -1,8 +1,7 @@
 -- A kernel's own message is handled: what comes of it, row by row. Whatever holds of the parts of each row holds of what comes of the message.
-use Rattle.dm_rule.proofs.Names.{◌≡◌, ℕ, ◌==◌, ◌||◌, Bool, false, List, [], ◌∷◌, ◌++◌, ◌⊎◌, ◌/◌, true, refl, ap, ◌∙◌, subst, length, ⊤, if◌then◌else◌, Option, None, Some, Pid, pid_of, pid_eq, MsgId, MessageKind, Line, Stage, Boot}
-use Rattle.dm_rule.proofs.Names.{switchboard, manager, PlainProcess, Told, About, Of, Known, Here, Frozen, Incoming, Forward, Ended, Point, Part, Says, Again, Owns, Addresses, place_told, to_kernel, forwards_on, gives_piece, sends_on}
-use Rattle.dm_rule.proofs.Names.{leaves, told_step, updates, told_here, told_ended, process_told, told_server, kernel_hears, hears, bind, bind-is, behind_count, MoveNote, Outcome, answers_move, tells_asker, leaves_for, sort_of, arith}
-use Rattle.dm_rule.proofs.Names.{calls_off, is_stale}
+use Rattle.dm_rule.proofs.Names.{◌≡◌, ℕ, ◌==◌, ◌||◌, Bool, false, List, [], ◌∷◌, ◌++◌, ◌⊎◌, ◌/◌, true, refl, subst, length, ⊤, if◌then◌else◌, Option, None, Some, Pid, pid_of, pid_eq, MsgId, MessageKind, Line, Stage, Boot, switchboard, manager}
+use Rattle.dm_rule.proofs.Names.{PlainProcess, Told, About, Of, Known, Here, Frozen, Incoming, Forward, Ended, Point, Part, Says, Again, Owns, Addresses, place_told, to_kernel, forwards_on, gives_piece, sends_on, leaves, told_step, updates, told_here}
+use Rattle.dm_rule.proofs.Names.{told_ended, process_told, told_server, kernel_hears, hears, bind, bind-is, behind_count, MoveNote, Outcome, answers_move, tells_asker, leaves_for, sort_of, arith, calls_off, is_stale, nat_tests}
 use Rattle.dm_rule.proofs.Requests.{by_test, by_calls_off}
 use Rattle.dm_onekernel.specs.Step as kernel
 use Rattle.dm_rule.specs.Rule as rule
@@ -37,9 +36,14 @@ pub record Tells (P : List Part → Type 0) (o : Point) (m : ℕ) (id : MsgId) (
   pub restarted : k ≡ MessageKind.Restart → o.kernel.notes p ≡ None → P (Says (Line.Migration Stage.Restarted p) ∷ [])
   pub restarted_asked : k ≡ MessageKind.Restart → (n : MoveNote) → o.kernel.notes p ≡ Some n → P (Says (Line.Migration Stage.Restarted p) ∷ answers_move n.id Outcome.Done)
 
--- what a machine knows of a receiver that is a process
+-- what a machine knows of a receiver, which is no kernel
 pub record At (o : Point) (m : ℕ) (t : Told) (k : Known) : Type 0 where
   pub known : o.view.known m t.receiver ≡ k
+  pub kernel : (t.receiver.num == 0) ≡ false
+
+-- it is here, and no server
+pub record AtHere (o : Point) (m : ℕ) (t : Told) : Type 0 where
+  pub known : o.view.known m t.receiver ≡ Here
   pub kernel : (t.receiver.num == 0) ≡ false
   pub server : (pid_eq t.receiver switchboard || pid_eq t.receiver manager) ≡ false
 
@@ -53,8 +57,8 @@ pub record Heard (P : List Part → Type 0) (o : Point) (m : ℕ) (id : MsgId) (
   pub leaving : (to : ℕ) → At o m t (Frozen to) → P (Says (Line.Held id) ∷ [])
   pub coming : (from : ℕ) → At o m t (Incoming from) → P (Says (Line.Held id) ∷ [])
   pub forwarded : (to moves : ℕ) → At o m t (Forward to moves) → P (forwards_on o.addresses id t.kind manager to)
-  pub stays_here : At o m t Here → P (Says (Line.Here id) ∷ [])
-  pub frozen : (to : ℕ) → At o m t Here → P (leaves_for t.receiver to)
+  pub stays_here : AtHere o m t → P (Says (Line.Here id) ∷ [])
+  pub frozen : (to : ℕ) → AtHere o m t → P (leaves_for t.receiver to)
 
 pub given : (P : List Part → Type 0) (qs ps : List Part) → P qs → Some qs ≡ Some ps → P ps
 given P qs ps h e = let k : qs ≡ ps = cc in subst P k h
@@ -88,26 +92,37 @@ by_server : (P : List Part → Type 0) (o : Point) (id : MsgId) (t : Told) (k : 
 by_server P o id t MessageKind.Update ps is h e = given P (updates o id t) ps (h is) e
 by_server P o id t _ ps is h e = cc
 
-by_here : (P : List Part → Type 0) (o : Point) (m : ℕ) (id : MsgId) (t : Told) (k : MessageKind) (ps : List Part) → t.kind ≡ k → Heard P o m id t → At o m t Here → told_here o m id t (sort_of k) ≡ Some ps → P ps
+by_here : (P : List Part → Type 0) (o : Point) (m : ℕ) (id : MsgId) (t : Told) (k : MessageKind) (ps : List Part) → t.kind ≡ k → Heard P o m id t → AtHere o m t → told_here o m id t (sort_of k) ≡ Some ps → P ps
 by_here P o m id t k ps h1 h2 h3 h4 = search (arith, given, by_test)
 
 by_ended : (P : List Part → Type 0) (o : Point) (m : ℕ) (id : MsgId) (t : Told) (k : MessageKind) (ps : List Part) → t.kind ≡ k → Heard P o m id t → At o m t Ended → told_ended id (sort_of k) ≡ Some ps → P ps
 by_ended P o m id t k ps h1 h2 h3 h4 = search (arith, given)
 
-by_process : (P : List Part → Type 0) (o : Point) (m : ℕ) (id : MsgId) (t : Told) (k : Known) (ps : List Part) → Heard P o m id t → At o m t k → process_told o m id t k ≡ Some ps → P ps
-by_process P o m id t k ps h1 h2 h3 = search (arith, by_here, given, by_ended)
+pub neither : (c d : Bool) → c ≡ false → d ≡ false → (c || d) ≡ false
+neither c d h k = grind (arith, nat_tests)
 
-by_receiver : (P : List Part → Type 0) (b : Boot) (o : Point) (m : ℕ) (id : MsgId) (t : Told) (c d g : Bool) (ps : List Part) → (t.receiver.num == 0) ≡ c → pid_eq t.receiver switchboard ≡ d → pid_eq t.receiver manager ≡ g → Heard P o m id t
-    → (if c then kernel_hears b o m id t.kind t.about else if d then told_server o id t (sort_of t.kind) else if g then told_server o id t (sort_of t.kind) else process_told o m id t (o.view.known m t.receiver)) ≡ Some ps → P ps
-by_receiver P b o m id t true d g ps kernel board manager_ h e = by_kernel P b o m id t.kind t.about ps h.stale h.told e
-by_receiver P b o m id t false true g ps kernel board manager_ h e = by_server P o id t t.kind ps refl h.updated e
-by_receiver P b o m id t false false true ps kernel board manager_ h e = by_server P o id t t.kind ps refl h.updated e
-by_receiver P b o m id t false false false ps kernel board manager_ h e =
-    by_process P o m id t (o.view.known m t.receiver) ps h (record { known = refl; kernel = kernel; server = ap (λ (c : Bool). c || pid_eq t.receiver manager) board ∙ manager_ }) e
+by_own : (P : List Part → Type 0) (o : Point) (m : ℕ) (id : MsgId) (t : Told) (d g : Bool) (ps : List Part) → pid_eq t.receiver switchboard ≡ d → pid_eq t.receiver manager ≡ g → Heard P o m id t → At o m t Here
+    → (if d then told_server o id t (sort_of t.kind) else if g then told_server o id t (sort_of t.kind) else told_here o m id t (sort_of t.kind)) ≡ Some ps → P ps
+by_own P o m id t true g ps board any h at_ e = by_server P o id t t.kind ps refl h.updated e
+by_own P o m id t false true ps off manager_ h at_ e = by_server P o id t t.kind ps refl h.updated e
+by_own P o m id t false false ps off others h at_ e = by_here P o m id t t.kind ps refl h (record { known = at_.known; kernel = at_.kernel; server = neither (pid_eq t.receiver switchboard) (pid_eq t.receiver manager) off others }) e
+
+by_process : (P : List Part → Type 0) (o : Point) (m : ℕ) (id : MsgId) (t : Told) (k : Known) (ps : List Part) → Heard P o m id t → At o m t k → process_told o m id t k ≡ Some ps → P ps
+by_process P o m id t Here ps h at_ e = by_own P o m id t (pid_eq t.receiver switchboard) (pid_eq t.receiver manager) ps refl refl h at_ e
+by_process P o m id t (Frozen to) ps h at_ e = given P (Says (Line.Held id) ∷ []) ps (h.leaving to at_) e
+by_process P o m id t (Incoming from) ps h at_ e = given P (Says (Line.Held id) ∷ []) ps (h.coming from at_) e
+by_process P o m id t (Forward to moves) ps h at_ e = given P (forwards_on o.addresses id t.kind manager to) ps (h.forwarded to moves at_) e
+by_process P o m id t Ended ps h at_ e = by_ended P o m id t t.kind ps refl h at_ e
+by_process P o m id t _ ps h at_ e = cc
+
+by_receiver : (P : List Part → Type 0) (b : Boot) (o : Point) (m : ℕ) (id : MsgId) (t : Told) (c : Bool) (ps : List Part) → (t.receiver.num == 0) ≡ c → Heard P o m id t
+    → (if c then kernel_hears b o m id t.kind t.about else process_told o m id t (o.view.known m t.receiver)) ≡ Some ps → P ps
+by_receiver P b o m id t true ps kernel_ h e = by_kernel P b o m id t.kind t.about ps h.stale h.told e
+by_receiver P b o m id t false ps kernel_ h e = by_process P o m id t (o.view.known m t.receiver) ps h (record { known = refl; kernel = kernel_ }) e
 
 pub by_hears : (P : List Part → Type 0) (b : Boot) (o : Point) (m : ℕ) (id : MsgId) (q : Option Told) (ps : List Part) → ((t : Told) → q ≡ Some t → Heard P o m id t) → hears b o m id q ≡ Some ps → P ps
 by_hears P b o m id None ps h e = cc
-by_hears P b o m id (Some t) ps h e = by_receiver P b o m id t (t.receiver.num == 0) (pid_eq t.receiver switchboard) (pid_eq t.receiver manager) ps refl refl refl (h t refl) e
+by_hears P b o m id (Some t) ps h e = by_receiver P b o m id t (t.receiver.num == 0) ps refl (h t refl) e
 
 -- the lines that a kernel's own message brings about, or calling off
 abbrev pub IsHeardLine : Line → Type 0

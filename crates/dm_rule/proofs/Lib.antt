@@ -2,7 +2,9 @@ pub mod Names
 pub mod Worked
 pub mod QuietWorked
 pub mod QuietTests
+pub mod RestTests
 pub mod SettleWorked
+pub mod RestWorked
 pub mod OrderWorked
 pub mod CallOffWorked
 pub mod Standing

@@ -29,6 +29,7 @@ pub use Rattle.dm_onekernel.specs.Service.{is_dropped}
 pub use Rattle.dm_onekernel.specs.Start.{slots_with}
 pub use Rattle.dm_onekernel.specs.Step.{machine_of, with_machine}
 pub use Rattle.dm_onekernel.specs.declared.boot.Format.TheVariants.{One}
+pub use Rattle.dm_onekernel.specs.declared.label.Why.TheVariants.{Exit}
 pub use Rattle.dm_laws.proofs.Counted.{pending_of}
 pub use Rattle.dm_laws.proofs.Entered.{Entered, Made, asks, counts, is_counted, request_id, unentered}
 pub use Rattle.dm_laws.proofs.Equal.{id_eq-is, id_eq-same, id_eq-swap, pid_eq-is, pid_eq-same}
@@ -47,7 +48,7 @@ pub use Rattle.dm_laws.proofs.Steps.{Completing, Nexts, Runs, alive-is, at_hand-
 pub use Rattle.dm_line.proofs.Below.{all_of_each, both_true, each_of_all, left_true, right_true}
 pub use Rattle.dm_line.proofs.Names.{Bool, all_below, ap, arith, false, false≢true, inl, inr, refl, subst, suc, sym, true, zero, ℕ, ◌&&◌, ◌<◌, ◌∙◌, ◌≡◌, ◌≢◌}
 pub use Rattle.dm_line.specs.Sets.{at_id, at_machine, at_pair, at_pid, at_record, moved_back, without, without_front, without_id}
-pub use Rattle.dm_line.specs.Todo.{Next, Todo, all_of}
+pub use Rattle.dm_line.specs.Todo.{Next, Todo, all_of, at_rest}
 pub use Rattle.dm_line.specs.declared.line.Line.{Line}
 pub use Rattle.dm_line.specs.declared.line.Load.{Load}
 pub use Rattle.dm_line.specs.declared.line.Stage.{Stage}
@@ -57,9 +58,10 @@ pub use Rattle.dm_rule.specs.Addresses.{call_gets, child_links, child_number, en
 pub use Rattle.dm_rule.specs.Addresses.{link_target, links_at, manager_answers, manager_gets, manager_sends, own_given, owner_in, place_known, place_named, place_told, receives_links, receiving_gets, sending_gets, serving_gets, slot_after}
 pub use Rattle.dm_rule.specs.Addresses.{telling_gets, told_back_gets, unmoved, updated, updated_to}
 pub use Rattle.dm_rule.specs.Apart.{AllSpare, IsOthers, Spares}
-pub use Rattle.dm_rule.specs.Good.{next_step}
+pub use Rattle.dm_rule.specs.Good.{next_step, seen_at}
 pub use Rattle.dm_rule.specs.Homes.{Homes, are_for_home, are_home, ascends, asker_in, enclosed_of, is_for_home, links_in, names, sender_of, to_of}
-pub use Rattle.dm_rule.specs.Laws.{AreStill, AskNone, IsStep, IsStill, IsUnasked, KernelsInOrderAlways, LeadHomeAlways, Leads, LeadsStill, MovingStaysAlways, PairsStandAlways, PhasesAlways, QuietIsTested, StandsOnceAlways, TellsRightAlways}
+pub use Rattle.dm_rule.specs.Laws.{AreStill, AskNone, IsStep, IsStill, IsUnasked, KernelsInOrderAlways, LeadHomeAlways, Leads, LeadsStill, MovingStaysAlways, PairsStandAlways, PhasesAlways, QuietIsTested, RestIsTested, StandsOnceAlways}
+pub use Rattle.dm_rule.specs.Laws.{TellsRightAlways}
 pub use Rattle.dm_rule.specs.Migrating.{accepts, answers_move, asked_to_move, behind_count, calls_off, chunks_of, forwards_on, gives_piece, leaves, leaves_for, migrates, migrates_child, pieces_of, process_told, sends_on, takes_block}
 pub use Rattle.dm_rule.specs.Migrating.{takes_chunk, tells_asker, to_kernel, told_ended, told_here, told_server, told_step, updates}
 pub use Rattle.dm_rule.specs.Order.{KernelsInOrder, is_between_from, ordered}
@@ -69,6 +71,7 @@ pub use Rattle.dm_rule.specs.Phases.{Alone, Asks, Comes, ComesIn, HasCome, HasTo
 pub use Rattle.dm_rule.specs.Phases.{is_restart, kind_comes, kind_leaves, knows, receiver_in, sender_in, tells_come, token_in, told_between}
 pub use Rattle.dm_rule.specs.Point.{Point, after, after_line, first_point, kernel_after, label_of, move_target, moved, seen, topic_by}
 pub use Rattle.dm_rule.specs.Quiet.{IsQuiet, has_mail, is_quiet, pair_is_quiet}
+pub use Rattle.dm_rule.specs.Rest.{IsAtRest, serves_some}
 pub use Rattle.dm_rule.specs.Rule.{Room, arrives, board_took, called, comes, comes_to, creation_parts, drop_parts, ended_handles, executes, first_awaited, first_runnable, fits, free_room, goes_round, group_of, has, has_room, hears}
 pub use Rattle.dm_rule.specs.Rule.{here_handles, is_stale, is_waited_from, kept_from, kernel_handles, kernel_hears, less, let_go, manager_parts, numbers_from, outcome, outstanding_count, process_handles, ran, repeats, resends, routes, says}
 pub use Rattle.dm_rule.specs.Rule.{serves_status, stops, takes_on, taking_parts, turns}

@@ -2,14 +2,14 @@
 use Rattle.dm_rule.proofs.Names.{◌≡◌, ℕ, ◌+◌, ◌==◌, ◌||◌, Bool, true, false, List, [], ◌∷◌, refl, length, if◌then◌else◌, Option, None, Some, Pid, pid_of, pid_eq, MsgId, MessageKind, Label, Reply, Why, plain_kind, PlainMessage, PlainWhat}
 use Rattle.dm_rule.proofs.Names.{instruction, Boot, first_number, switchboard, manager, PlainProcess, PlainStatus, Ready, Waiting, Moving, answer_id, with_machine, Line, Known, Here, Frozen, Incoming, Forward, Ended, Addresses, Sender}
 use Rattle.dm_rule.proofs.Names.{Point, Part, Says, Routes, Again, Owns, forwards_on, says, drop_parts, called, stops, executes, ran, first_awaited, serves_status, goes_round, kernel_handles, routes, board_took, manager_parts, here_handles}
-use Rattle.dm_rule.proofs.Names.{ended_handles, process_handles, bind-is, Outcome, answers_move, leaves_for, arith, machine_of}
+use Rattle.dm_rule.proofs.Names.{ended_handles, process_handles, bind-is, Outcome, answers_move, leaves_for, arith, machine_of, or_left, or_right, bind}
 use Rattle.dm_onekernel.specs.Calls as calls
 use Rattle.dm_onekernel.specs.Pieces as pieces
 use Rattle.dm_onekernel.specs.Switchboard as board
 use Rattle.dm_onekernel.specs.Manager as manage
 use Rattle.dm_onekernel.specs.Step as kernel
 use Rattle.dm_rule.specs.Rule as rule
-use Rattle.dm_rule.proofs.Hearing.{given}
+use Rattle.dm_rule.proofs.Hearing.{given, neither}
 
 -- a process stops: its turn is over, or a call follows, or its end with its queue behind
 pub record Stops (Q : List Part → Type 0) (p : Pid) (queue : List MsgId) : Type 0 where
@@ -43,14 +43,16 @@ by_round P b o m (Some p) ps idle h e =
     let (x, alive, more) = bind-is (kernel.alive (o.kernel.processes p)) (λ x. serves_status b.quantum o.kernel p (o.view.queue m p) x x.status) ps e in
     by_status P b.quantum o m p x x.status ps (h p x refl alive) more
 
--- what the machine knows of the receiver, a process
+-- what the machine knows of the receiver, which is no kernel
 pub record To (o : Point) (m : ℕ) (msg : PlainMessage) (k : Known) : Type 0 where
   pub known : o.view.known m msg.to ≡ k
-  pub process : (pid_eq msg.to switchboard || pid_eq msg.to manager) ≡ false
+  pub kernel : (msg.to.num == 0) ≡ false
 
--- the receiver is a kernel or a server, which never moves
-abbrev pub IsFixed : Pid → Type 0
-IsFixed p = (p.num == 0 || (pid_eq p switchboard || pid_eq p manager)) ≡ true
+-- it is here, and a server or none
+pub record ToHere (o : Point) (m : ℕ) (msg : PlainMessage) (server : Bool) : Type 0 where
+  pub known : o.view.known m msg.to ≡ Here
+  pub kernel : (msg.to.num == 0) ≡ false
+  pub process : (pid_eq msg.to switchboard || pid_eq msg.to manager) ≡ server
 
 abbrev pub is_kill : MessageKind → Bool
 is_kill MessageKind.Kill = true
@@ -58,22 +60,22 @@ is_kill _ = false
 
 -- a message of the bag is handled
 pub record Handles (P : List Part → Type 0) (o : Point) (m : ℕ) (id : MsgId) (msg : PlainMessage) : Type 0 where
-  pub created : IsFixed msg.to → P (says (Label.Created id (pid_of m (first_number + o.kernel.made m))) ∷ Routes (answer_id id) ∷ [])
-  pub no_space : IsFixed msg.to → (slots blocks : ℕ) → P (says (Label.NoSpace id slots blocks) ∷ Routes (answer_id id) ∷ [])
-  pub took : IsFixed msg.to → (sent : Option PlainMessage) → P (says (Label.Took id) ∷ routes sent)
-  pub queued : To o m msg Here → plain_kind msg.what ≡ MessageKind.User → P (Says (Line.Queued id) ∷ [])
-  pub served : To o m msg Here → is_kill (plain_kind msg.what) ≡ false → P (says (Label.Served id) ∷ [])
-  pub answers : To o m msg Here → is_kill (plain_kind msg.what) ≡ false → (i : MsgId) → P (says (Label.Served id) ∷ Routes i ∷ [])
-  pub kills : To o m msg Here → is_kill (plain_kind msg.what) ≡ true → P (says (Label.Served id) ∷ drop_parts (o.view.queue m msg.to))
-  pub moved : To o m msg Here → msg.what ≡ PlainWhat.Move m → P (says (Label.Asked id) ∷ answers_move id Outcome.Done)
-  pub sets_off : (to : ℕ) → To o m msg Here → msg.what ≡ PlainWhat.Move to → (m == to) ≡ false → P (says (Label.Asked id) ∷ leaves_for msg.to to)
+  pub created : (msg.to.num == 0) ≡ true → P (says (Label.Created id (pid_of m (first_number + o.kernel.made m))) ∷ Routes (answer_id id) ∷ [])
+  pub no_space : (msg.to.num == 0) ≡ true → (slots blocks : ℕ) → P (says (Label.NoSpace id slots blocks) ∷ Routes (answer_id id) ∷ [])
+  pub took : ToHere o m msg true → (sent : Option PlainMessage) → P (says (Label.Took id) ∷ routes sent)
+  pub queued : ToHere o m msg false → plain_kind msg.what ≡ MessageKind.User → P (Says (Line.Queued id) ∷ [])
+  pub served : ToHere o m msg false → is_kill (plain_kind msg.what) ≡ false → P (says (Label.Served id) ∷ [])
+  pub answers : ToHere o m msg false → is_kill (plain_kind msg.what) ≡ false → (i : MsgId) → P (says (Label.Served id) ∷ Routes i ∷ [])
+  pub kills : ToHere o m msg false → is_kill (plain_kind msg.what) ≡ true → P (says (Label.Served id) ∷ drop_parts (o.view.queue m msg.to))
+  pub moved : ToHere o m msg false → msg.what ≡ PlainWhat.Move m → P (says (Label.Asked id) ∷ answers_move id Outcome.Done)
+  pub sets_off : (to : ℕ) → ToHere o m msg false → msg.what ≡ PlainWhat.Move to → (m == to) ≡ false → P (says (Label.Asked id) ∷ leaves_for msg.to to)
   pub gone : To o m msg Ended → P (says (Label.Gone id) ∷ Routes (answer_id id) ∷ [])
   pub dropped : To o m msg Ended → P (says (Label.Dropped id) ∷ [])
   pub leaving : (to : ℕ) → To o m msg (Frozen to) → P (Says (Line.Held id) ∷ [])
   pub coming : (from : ℕ) → To o m msg (Incoming from) → P (Says (Line.Held id) ∷ [])
   pub forwarded : (to moves : ℕ) → To o m msg (Forward to moves) → P (forwards_on o.addresses id (plain_kind msg.what) msg.sender to)
 
-by_asked : (P : List Part → Type 0) (b : Boot) (o : Point) (m : ℕ) (id : MsgId) (msg : PlainMessage) (w : PlainWhat) (ps : List Part) → IsFixed msg.to → Handles P o m id msg → kernel_handles b o m id w ≡ Some ps → P ps
+by_asked : (P : List Part → Type 0) (b : Boot) (o : Point) (m : ℕ) (id : MsgId) (msg : PlainMessage) (w : PlainWhat) (ps : List Part) → (msg.to.num == 0) ≡ true → Handles P o m id msg → kernel_handles b o m id w ≡ Some ps → P ps
 by_asked P b o m id msg (PlainWhat.Create image links) ps fixed h e = search (arith, given)
 by_asked P b o m id msg _ ps fixed h e = cc
 
@@ -88,24 +90,38 @@ by_manager P id (Some t) ps h e = given P (says (Label.Took id) ∷ routes t.mes
 by_lands : (P : List Part → Type 0) (id : MsgId) (l : Option pieces.Landed) (ps : List Part) → P (says (Label.Served id) ∷ []) → ((i : MsgId) → P (says (Label.Served id) ∷ Routes i ∷ [])) → rule.landing_parts id l ≡ Some ps → P ps
 by_lands P id l ps h1 h2 h3 = search (arith, given)
 
-by_here : (P : List Part → Type 0) (o : Point) (m : ℕ) (id : MsgId) (msg : PlainMessage) (x : PlainProcess) (w : PlainWhat) (ps : List Part) → msg.what ≡ w → To o m msg Here → Handles P o m id msg → here_handles o m id msg x w ≡ Some ps → P ps
+by_here : (P : List Part → Type 0) (o : Point) (m : ℕ) (id : MsgId) (msg : PlainMessage) (x : PlainProcess) (w : PlainWhat) (ps : List Part) → msg.what ≡ w → ToHere o m msg false → Handles P o m id msg → here_handles o m id msg x w ≡ Some ps → P ps
 by_here P o m id msg x w ps h1 h2 h3 h4 = search (arith, given, by_lands)
 
 by_ended : (P : List Part → Type 0) (o : Point) (m : ℕ) (id : MsgId) (msg : PlainMessage) (w : PlainWhat) (ps : List Part) → To o m msg Ended → Handles P o m id msg → ended_handles id w ≡ Some ps → P ps
 by_ended P o m id msg w ps h1 h2 h3 = search (arith, given)
 
-by_process : (P : List Part → Type 0) (o : Point) (m : ℕ) (id : MsgId) (msg : PlainMessage) (k : Known) (ps : List Part) → To o m msg k → Handles P o m id msg → process_handles o m id msg k ≡ Some ps → P ps
-by_process P o m id msg k ps h1 h2 h3 = search (arith, bind-is, by_here, given, by_ended)
+by_own : (P : List Part → Type 0) (o : Point) (m : ℕ) (id : MsgId) (msg : PlainMessage) (d g : Bool) (ps : List Part) → pid_eq msg.to switchboard ≡ d → pid_eq msg.to manager ≡ g → To o m msg Here → Handles P o m id msg
+    → (if d then board_took id (board.board_takes o.kernel.switchboard msg msg.what) else if g then manager_parts id (manage.manager_takes o.kernel.manager o.kernel.machines (length o.kernel.images) msg msg.what)
+    else bind (kernel.alive (o.kernel.processes msg.to)) (λ x. here_handles o m id msg x msg.what)) ≡ Some ps → P ps
+by_own P o m id msg true g ps first any to h e =
+    by_board P id (board.board_takes o.kernel.switchboard msg msg.what) ps (h.took (record { known = to.known; kernel = to.kernel; process = or_left (pid_eq msg.to switchboard) (pid_eq msg.to manager) first })) e
+by_own P o m id msg false true ps off second to h e =
+    by_manager P id (manage.manager_takes o.kernel.manager o.kernel.machines (length o.kernel.images) msg msg.what) ps (h.took (record { known = to.known; kernel = to.kernel; process = or_right (pid_eq msg.to switchboard) (pid_eq msg.to manager) second })) e
+by_own P o m id msg false false ps off others to h e =
+    let (x, alive, is) = bind-is (kernel.alive (o.kernel.processes msg.to)) (λ x. here_handles o m id msg x msg.what) ps e in
+    by_here P o m id msg x msg.what ps refl (record { known = to.known; kernel = to.kernel; process = neither (pid_eq msg.to switchboard) (pid_eq msg.to manager) off others }) h is
 
-by_receiver : (P : List Part → Type 0) (b : Boot) (o : Point) (m : ℕ) (id : MsgId) (msg : PlainMessage) (c d g : Bool) (ps : List Part) → msg.to.num == 0 ≡ c → pid_eq msg.to switchboard ≡ d → pid_eq msg.to manager ≡ g → Handles P o m id msg
-    → (if c then kernel_handles b o m id msg.what else if d then board_took id (board.board_takes o.kernel.switchboard msg msg.what)
-    else if g then manager_parts id (manage.manager_takes o.kernel.manager o.kernel.machines (length o.kernel.images) msg msg.what) else process_handles o m id msg (o.view.known m msg.to)) ≡ Some ps → P ps
-by_receiver P b o m id msg c d g ps h1 h2 h3 h4 h5 =
-    let or_either : (a c d : Bool) → (c || d) ≡ true → (a || (c || d)) ≡ true = λ a c d e. elim a as (λ a_. (a_ || (c || d)) ≡ true) [ true ↦ refl | false ↦ e ] in
-    search (arith, by_asked, by_board, or_either, by_manager, by_process)
+by_process : (P : List Part → Type 0) (o : Point) (m : ℕ) (id : MsgId) (msg : PlainMessage) (k : Known) (ps : List Part) → To o m msg k → Handles P o m id msg → process_handles o m id msg k ≡ Some ps → P ps
+by_process P o m id msg Here ps to h e = by_own P o m id msg (pid_eq msg.to switchboard) (pid_eq msg.to manager) ps refl refl to h e
+by_process P o m id msg (Frozen at) ps to h e = given P (Says (Line.Held id) ∷ []) ps (h.leaving at to) e
+by_process P o m id msg (Incoming from) ps to h e = given P (Says (Line.Held id) ∷ []) ps (h.coming from to) e
+by_process P o m id msg (Forward at moves) ps to h e = given P (forwards_on o.addresses id (plain_kind msg.what) msg.sender at) ps (h.forwarded at moves to) e
+by_process P o m id msg Ended ps to h e = by_ended P o m id msg msg.what ps to h e
+by_process P o m id msg _ ps to h e = cc
+
+by_receiver : (P : List Part → Type 0) (b : Boot) (o : Point) (m : ℕ) (id : MsgId) (msg : PlainMessage) (c : Bool) (ps : List Part) → (msg.to.num == 0) ≡ c → Handles P o m id msg
+    → (if c then kernel_handles b o m id msg.what else process_handles o m id msg (o.view.known m msg.to)) ≡ Some ps → P ps
+by_receiver P b o m id msg true ps kernel_ h e = by_asked P b o m id msg msg.what ps kernel_ h e
+by_receiver P b o m id msg false ps kernel_ h e = by_process P o m id msg (o.view.known m msg.to) ps (record { known = refl; kernel = kernel_ }) h e
 
 pub by_handles : (P : List Part → Type 0) (b : Boot) (o : Point) (m : ℕ) (id : MsgId) (msg : PlainMessage) (ps : List Part) → Handles P o m id msg → rule.handles b o m id msg ≡ Some ps → P ps
-by_handles P b o m id msg ps h e = by_receiver P b o m id msg (msg.to.num == 0) (pid_eq msg.to switchboard) (pid_eq msg.to manager) ps refl refl refl h e
+by_handles P b o m id msg ps h e = by_receiver P b o m id msg (msg.to.num == 0) ps refl h e
 
 -- a message goes on, and its sender may be told
 pub by_forwards : (P : List Part → Type 0) (a : Addresses) (id : MsgId) (k : MessageKind) (sender : Pid) (to : ℕ) → P (Says (Line.Forwarded id to) ∷ Again id to ∷ [])
@@ -141,8 +157,8 @@ loose_round L c b o m q ps idle = by_round L b o m q ps idle (λ p x is alive. r
 })
 
 -- a message of the bag, where only these rows say more
-pub loose_handles : (P L : List Part → Type 0) → Loose L → ((ps : List Part) → L ps → P ps) → (b : Boot) (o : Point) (m : ℕ) (id : MsgId) (msg : PlainMessage) (ps : List Part) → (To o m msg Here → P (Says (Line.Queued id) ∷ [])) → P (Says (Line.Held id) ∷ [])
-    → ((to : ℕ) → To o m msg Here → msg.what ≡ PlainWhat.Move to → (m == to) ≡ false → P (says (Label.Asked id) ∷ leaves_for msg.to to))
+pub loose_handles : (P L : List Part → Type 0) → Loose L → ((ps : List Part) → L ps → P ps) → (b : Boot) (o : Point) (m : ℕ) (id : MsgId) (msg : PlainMessage) (ps : List Part) → (ToHere o m msg false → P (Says (Line.Queued id) ∷ [])) → P (Says (Line.Held id) ∷ [])
+    → ((to : ℕ) → ToHere o m msg false → msg.what ≡ PlainWhat.Move to → (m == to) ≡ false → P (says (Label.Asked id) ∷ leaves_for msg.to to))
     → ((to moves : ℕ) → To o m msg (Forward to moves) → P (forwards_on o.addresses id (plain_kind msg.what) msg.sender to)) → rule.handles b o m id msg ≡ Some ps → P ps
 loose_handles P L c up b o m id msg ps queued held leaves forwarded =
     let one : (l : Label) → P (says l ∷ []) = λ l. up (says l ∷ []) (c.label l [] c.none) in

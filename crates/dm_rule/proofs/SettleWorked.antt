@@ -11,7 +11,7 @@ pub data Came : Type 0 where
 
 abbrev pub comes : ℕ → Boot → Point → Todo → Came
 comes zero b pt t = More
-comes (suc k) b pt t = elim (next_step 2 pt.view t) [ None ↦ Over | Some n ↦ elim (group_of b pt n.step) [ None ↦ Stuck | Some w ↦ Group w.lines (comes k b w.point n.left) ] ]
+comes (suc k) b pt t = elim (next_step 2 pt t) [ None ↦ Over | Some n ↦ elim (group_of b pt n.step) [ None ↦ Stuck | Some w ↦ Group w.lines (comes k b w.point n.left) ] ]
 
 -- a process of machine 0 sends a message to one of machine 1: it comes, it is acknowledged, and machine 1 queues it; no process
 -- is served any more, and two settles more have no group

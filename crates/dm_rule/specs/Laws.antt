@@ -14,7 +14,10 @@ use Rattle.dm_schedule.specs.declared.Step.{Step}
 use Rattle.dm_schedule.specs.declared.Step.TheVariants as step
 use Rattle.dm_rule.specs.Point.{Point, first_point, label_of}
 use Rattle.dm_rule.specs.Parts.{Spelled}
+use Rattle.dm_line.specs.Todo.{at_rest}
+use Rattle.dm_rule.specs.Good.{seen_at}
 use Rattle.dm_rule.specs.Quiet.{IsQuiet, is_quiet}
+use Rattle.dm_rule.specs.Rest.{IsAtRest}
 use Rattle.dm_rule.specs.View.{View}
 use Rattle.dm_rule.specs.Rule.{group_of}
 use Rattle.dm_rule.specs.Spots.{StandsRight, standing}
@@ -101,3 +104,7 @@ MovingStaysAlways =
 -- the test for quiet is passed exactly where nothing is on its way
 abbrev pub QuietIsTested : Type 0
 QuietIsTested = (n : ℕ) (v : View) → (is_quiet n v ≡ true) ↔ IsQuiet n v
+
+-- the test for rest is passed exactly where all is at rest
+abbrev pub RestIsTested : Type 0
+RestIsTested = (n : ℕ) (pt : Point) → (at_rest n (seen_at n pt) ≡ true) ↔ IsAtRest n pt

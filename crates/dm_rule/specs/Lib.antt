@@ -10,6 +10,7 @@ pub mod Migrating
 pub mod Rule
 pub mod Pairs
 pub mod Quiet
+pub mod Rest
 pub mod Phases
 pub mod Order
 pub mod Tells

@@ -103,10 +103,14 @@ leaves id p ids k = None
 -- a migration is called off where the process is on its way here and not all of it has come: what was held for it goes back to the
 -- machine that it was to leave, and that machine's kernel is told
 abbrev pub calls_off : Point → ℕ → Pid → Known → List Part
+calls_off pt m p Unknown = Says (line.NoCall p) ∷ []
+calls_off pt m p Here = Says (line.NoCall p) ∷ []
+calls_off pt m p (Frozen to) = Says (line.NoCall p) ∷ []
 calls_off pt m p (Incoming from) =
     if pt.view.come p then Says (line.NoCall p) ∷ []
     else Says (line.Called p (length (pt.view.held m p))) ∷ sends_on from (pt.view.held m p) ++ to_kernel kind.CallOff from ∷ []
-calls_off pt m p k = Says (line.NoCall p) ∷ []
+calls_off pt m p (Forward at moves) = Says (line.NoCall p) ∷ []
+calls_off pt m p Ended = Says (line.NoCall p) ∷ []
 
 -- what a kernel is told of a process by another kernel; `fits` says whether there is room for it, and what is free
 abbrev pub told_step : Point → ℕ → MsgId → Pid → (Bool × ℕ × ℕ) → PlainProcess → Sort → Option (List Part)
@@ -170,14 +174,21 @@ by_known pt id k sender here over (Incoming from) = Some (Says (line.Held id) �
 by_known pt id k sender here over (Forward at moves) = Some (forwards_on pt.addresses id k sender at)
 by_known pt id k sender here over Ended = over
 
--- of these messages only a request to move is answered by an update, in the manager's name
-abbrev pub process_told : Point → ℕ → MsgId → Told → Known → Option (List Part)
-process_told pt m id t known = by_known pt id t.kind manager (told_here pt m id t (sort_of t.kind)) (told_ended id (sort_of t.kind)) known
-
 -- at a server, which never moves
 abbrev pub told_server : Point → MsgId → Told → Sort → Option (List Part)
 told_server pt id t sort.Notice = Some (updates pt id t)
 told_server pt id t s = None
+
+-- a kernel's own message whose receiver is here: the switchboard, the manager, or another process
+abbrev pub hears_here : Point → ℕ → MsgId → Told → Option (List Part)
+hears_here pt m id t =
+    if pid_eq t.receiver switchboard then told_server pt id t (sort_of t.kind)
+    else if pid_eq t.receiver manager then told_server pt id t (sort_of t.kind)
+    else told_here pt m id t (sort_of t.kind)
+
+-- of these messages only a request to move is answered by an update, in the manager's name
+abbrev pub process_told : Point → ℕ → MsgId → Told → Known → Option (List Part)
+process_told pt m id t known = by_known pt id t.kind manager (hears_here pt m id t) (told_ended id (sort_of t.kind)) known
 
 -- the manager is told to move a process: not a server, one of its children, along its link to it
 abbrev pub migrates_child : Addresses → Pid → Option ℕ → List Part

@@ -41,11 +41,11 @@ use Rattle.dm_line.specs.declared.line.Line.TheVariants as line
 use Rattle.dm_line.specs.declared.line.Load.{Load}
 use Rattle.dm_line.specs.declared.line.Load.TheVariants as load
 use Rattle.dm_line.specs.Each.{sum_below}
-use Rattle.dm_rule.specs.View.{View, Pair, SentLoad, Told, About, Of, Known, Here, Frozen, Incoming, target_in, at_least}
+use Rattle.dm_rule.specs.View.{View, Pair, SentLoad, Told, About, Of, Known, Unknown, Here, Frozen, Incoming, Forward, Ended, target_in, at_least}
 use Rattle.dm_rule.specs.Point.{Point, after_line, move_target}
 use Rattle.dm_rule.specs.Parts.{Part, Says, Routes, Transmits, Spelled, spelled, pair_window}
 pub use Rattle.dm_rule.specs.Parts.{behind}
-use Rattle.dm_rule.specs.Migrating.{asked_to_move, by_known, told_step, told_server, process_told, migrates, calls_off}
+use Rattle.dm_rule.specs.Migrating.{asked_to_move, by_known, told_step, process_told, migrates, calls_off}
 
 abbrev pub says : Label → Part
 says l = Says (line.Label l)
@@ -224,19 +224,20 @@ ended_takes id s = None
 abbrev pub ended_handles : MsgId → PlainWhat → Option (List Part)
 ended_handles id w = ended_takes id (sort_of (plain_kind w))
 
+-- a message whose receiver is here: the switchboard, the manager, or another process
+abbrev pub handles_here : Point → ℕ → MsgId → PlainMessage → Option (List Part)
+handles_here pt m id msg =
+    if pid_eq msg.to switchboard then board_took id (board.board_takes pt.kernel.switchboard msg msg.what)
+    else if pid_eq msg.to manager then manager_parts id (manage.manager_takes pt.kernel.manager pt.kernel.machines (length pt.kernel.images) msg msg.what)
+    else bind (kernel.alive (pt.kernel.processes msg.to)) (λ x. here_handles pt m id msg x msg.what)
+
 -- by what the machine knows of the receiver
 abbrev pub process_handles : Point → ℕ → MsgId → PlainMessage → Known → Option (List Part)
-process_handles pt m id msg known =
-    let here = bind (kernel.alive (pt.kernel.processes msg.to)) (λ x. here_handles pt m id msg x msg.what) in
-    by_known pt id (plain_kind msg.what) msg.sender here (ended_handles id msg.what) known
+process_handles pt m id msg known = by_known pt id (plain_kind msg.what) msg.sender (handles_here pt m id msg) (ended_handles id msg.what) known
 
--- the receiver is a kernel, a server or a process
+-- the receiver is a kernel, or a server or another process
 abbrev pub handles : Boot → Point → ℕ → MsgId → PlainMessage → Option (List Part)
-handles b pt m id msg =
-    if msg.to.num == 0 then kernel_handles b pt m id msg.what
-    else if pid_eq msg.to switchboard then board_took id (board.board_takes pt.kernel.switchboard msg msg.what)
-    else if pid_eq msg.to manager then manager_parts id (manage.manager_takes pt.kernel.manager pt.kernel.machines (length pt.kernel.images) msg msg.what)
-    else process_handles pt m id msg (pt.view.known m msg.to)
+handles b pt m id msg = if msg.to.num == 0 then kernel_handles b pt m id msg.what else process_handles pt m id msg (pt.view.known m msg.to)
 
 -- whether so many blocks and a slot are free, and what is
 abbrev pub fits : Room → ℕ → Bool × ℕ × ℕ
@@ -244,8 +245,12 @@ fits r blocks = (has_room r blocks, r.slots, r.blocks)
 
 -- a process is on its way here from this machine
 abbrev pub is_waited_from : ℕ → Known → Bool
+is_waited_from from Unknown = false
+is_waited_from from Here = false
+is_waited_from from (Frozen to) = false
 is_waited_from from (Incoming m) = from == m
-is_waited_from from k = false
+is_waited_from from (Forward at moves) = false
+is_waited_from from Ended = false
 
 -- a piece of a process comes that isn't awaited from the kernel that sent it, whatever became of the process
 abbrev pub is_stale : Point → ℕ → MsgId → MessageKind → Pid → Bool
@@ -261,10 +266,7 @@ kernel_hears b pt m id k about = None
 -- a message that isn't in the bag is a kernel's own: what its first put told of it
 abbrev pub hears : Boot → Point → ℕ → MsgId → Option Told → Option (List Part)
 hears b pt m id told =
-    bind told (λ t. if t.receiver.num == 0 then kernel_hears b pt m id t.kind t.about
-    else if pid_eq t.receiver switchboard then told_server pt id t (sort_of t.kind)
-    else if pid_eq t.receiver manager then told_server pt id t (sort_of t.kind)
-    else process_told pt m id t (pt.view.known m t.receiver))
+    bind told (λ t. if t.receiver.num == 0 then kernel_hears b pt m id t.kind t.about else process_told pt m id t (pt.view.known m t.receiver))
 
 abbrev pub comes_to : Boot → Point → ℕ → MsgId → Option PlainMessage → Option (List Part)
 comes_to b pt m id message = option_map_or (handles b pt m id) message (hears b pt m id (pt.view.told id))

@@ -269,8 +269,12 @@ gone_to k moves = k
 
 -- a process that was coming is with the machine that it was to leave, where it has moved as often as before
 abbrev pub goes_back : Known → ℕ → Known
+goes_back Unknown moves = Unknown
+goes_back Here moves = Here
+goes_back (Frozen to) moves = Frozen to
 goes_back (Incoming from) moves = Forward from moves
-goes_back k moves = k
+goes_back (Forward at n) moves = Forward at n
+goes_back Ended moves = Ended
 
 -- whether all of a process has come
 abbrev pub coming : View → Pid → Bool → View

@@ -1,5 +1,5 @@
 //! What holds wherever the rule leads, whoever ran by it.
-ghost use Rattle.dm_rule.specs.Laws.{StandsOnceAlways, PairsStandAlways, LeadHomeAlways, TellsRightAlways, PhasesAlways, KernelsInOrderAlways, MovingStaysAlways, QuietIsTested};
+ghost use Rattle.dm_rule.specs.Laws.{StandsOnceAlways, PairsStandAlways, LeadHomeAlways, TellsRightAlways, PhasesAlways, KernelsInOrderAlways, MovingStaysAlways, QuietIsTested, RestIsTested};
 
 /// Wherever the rule leads from a boot file, each message that the kernel without machines holds stands exactly once
 /// among the queues, held lists, inboxes and streams of the printed lines, a kernel's own message at most once, and no other
@@ -50,4 +50,9 @@ pub fn moving_stays_always()
 /// differ, and every inbox is empty.
 pub fn quiet_is_tested()
     ensures { QuietIsTested }
+{}
+
+/// The test of a rest is passed exactly where nothing is on its way, and no machine has a process that can be served.
+pub fn rest_is_tested()
+    ensures { RestIsTested }
 {}

@@ -87,6 +87,7 @@ pub use Rattle.dm_rule.proofs.Trails.Steps.{coming_is, destination_expects, sour
 pub use Rattle.dm_rule.proofs.Turns.{served_keeps}
 pub use Rattle.dm_rule.specs.Addresses.{goes_between}
 pub use Rattle.dm_rule.specs.Good.{IsRun}
+pub use Rattle.dm_rule.specs.Migrating.{hears_here}
 pub use Rattle.dm_rule.specs.Phases.{tells_between, tells_onward}
 pub use Rattle.dm_rule.specs.Point.{labels, with_label}
 pub use Rattle.dm_rule.specs.View.{first_told, rejoins, target_in}

@@ -2,6 +2,7 @@ pub mod Names
 pub mod Wires
 pub mod Rests
 pub mod PassHas
+pub mod RestHas
 pub mod Weights
 pub mod Effects
 pub mod Falls

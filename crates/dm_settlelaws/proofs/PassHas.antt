@@ -1,49 +1,63 @@
 -- Where not all is quiet a pass of a settle has something to do.
 use Rattle.dm_settlelaws.proofs.Names.{◌≡◌, ◌≢◌, ◌⊎◌, ℕ, zero, suc, ◌<◌, ◌≤◌, ◌==◌, Bool, true, false, List, [], ◌∷◌, ◌++◌, length, nat_lt, refl, ap, ◌∙◌, sym, subst, inl, inr, arith, if◌then◌else◌, Option, None, Some, false≢true}
 use Rattle.dm_settlelaws.proofs.Names.{leb_tells, nat_tests, Boot, Directive, Step, Load, Pass, Settle, Next, Todo, Two, all_of, begin_pass, below, here_or_later, in_pass, is_over, next_and_left, next_delivery, next_directive, next_pass}
-use Rattle.dm_settlelaws.proofs.Names.{next_turn, or, pairs_of, pairs_with, pass_begun, settles, takes_turn, first_undelivered, next_step, undelivered, Leads, PairStands, Point, first_point, IsQuiet, has_mail, is_quiet, Pair, View}
-use Rattle.dm_settlelaws.proofs.Names.{pairs_stand_always, passes_quiet, quiet_passes, SettlesAlways, IsSettleStep, SettleGoes, PairRests}
+use Rattle.dm_settlelaws.proofs.Names.{next_turn, or, pairs_of, pairs_with, pass_begun, settles, takes_turn, first_undelivered, next_step, undelivered, Leads, PairStands, Point, first_point, IsQuiet, is_quiet, Pair, View}
+use Rattle.dm_settlelaws.proofs.Names.{pairs_stand_always, passes_quiet, quiet_passes, SettlesAlways, IsSettleStep, SettleGoes, PairRests, Seen, seen_at}
 use Rattle.dm_settlelaws.proofs.Rests.RestsAlways.{pairs_rest_always}
 use Rattle.dm_settlelaws.proofs.Wires.{all_come}
 
--- what a pass of a settle finds is a step of one
-pub record Found (v : View) (t : Todo) (n : Next) : Type 0 where
-  pub step : IsSettleStep v n.step
+-- what a pass finds is such a step, and what is behind it stays
+pub record Found (S : Step → Type 0) (t : Todo) (n : Next) : Type 0 where
+  pub step : S n.step
   pub pass : n.left.pass ≡ t.pass
   pub behind : n.left.directives ≡ t.directives
 
-abbrev FoundBy : View → Todo → Option Next → Type 0
-FoundBy v t o = (n : Next) → o ≡ Some n → Found v t n
+abbrev FoundBy : (Step → Type 0) → Todo → Option Next → Type 0
+FoundBy S t o = (n : Next) → o ≡ Some n → Found S t n
 
-abbrev IsDelivery : View → Option (Step × List Two) → Type 0
-IsDelivery v o = (d : Step × List Two) → o ≡ Some d → IsSettleStep v d.0
+-- packets that were never delivered are such steps, and the turns of machines that take theirs
+abbrev pub Deliveries : (Step → Type 0) → View → Type 0
+Deliveries S v = (a c k : ℕ) → undelivered v a c ≡ Some k → S (Step.Deliver a c k)
 
-here_delivery : (v : View) (p : Two) (ps : List Two) (o : Option ℕ) (later : Option (Step × List Two)) → undelivered v p.from p.to ≡ o → IsDelivery v later → IsDelivery v (here_or_later p ps o later)
-here_delivery v p ps None later is h d e = h d e
-here_delivery v p ps (Some k) later is h d e = let f : Step.Deliver p.from p.to k ≡ d.0 = cc in subst (IsSettleStep v) f is
+abbrev pub TurnsOf : (Step → Type 0) → (ℕ → Bool) → Type 0
+TurnsOf S takes = (m : ℕ) → takes m ≡ true → S (Step.Turn m)
 
-pub delivery_found : (v : View) (ps : List Two) → IsDelivery v (next_delivery (undelivered v) ps)
-delivery_found v [] d e = cc
-delivery_found v (p ∷ ps) d e = here_delivery v p ps (undelivered v p.from p.to) (next_delivery (undelivered v) ps) refl (delivery_found v ps) d e
+abbrev IsDelivery : (Step → Type 0) → Option (Step × List Two) → Type 0
+IsDelivery S o = (d : Step × List Two) → o ≡ Some d → S d.0
 
-turn_or : (v : View) (t : Todo) (m : ℕ) (ms : List ℕ) (b : Bool) (o : Option Next) → has_mail v m ≡ b → FoundBy v t o → FoundBy v t (if b then next_and_left (Step.Turn m) (record t { pairs = []; machines = ms }) else o)
-turn_or v t m ms false o is h n e = h n e
-turn_or v t m ms true o is h n e =
+here_delivery : (S : Step → Type 0) (v : View) (p : Two) (ps : List Two) (o : Option ℕ) (later : Option (Step × List Two)) → Deliveries S v → undelivered v p.from p.to ≡ o → IsDelivery S later → IsDelivery S (here_or_later p ps o later)
+here_delivery S v p ps None later each is h d e = h d e
+here_delivery S v p ps (Some k) later each is h d e = let f : Step.Deliver p.from p.to k ≡ d.0 = cc in subst S f (each p.from p.to k is)
+
+delivery_found : (S : Step → Type 0) (v : View) (ps : List Two) → Deliveries S v → IsDelivery S (next_delivery (undelivered v) ps)
+delivery_found S v [] each d e = cc
+delivery_found S v (p ∷ ps) each d e = here_delivery S v p ps (undelivered v p.from p.to) (next_delivery (undelivered v) ps) each refl (delivery_found S v ps each) d e
+
+turn_or : (S : Step → Type 0) (t : Todo) (m : ℕ) (ms : List ℕ) (b : Bool) (o : Option Next) → (b ≡ true → S (Step.Turn m)) → FoundBy S t o → FoundBy S t (if b then next_and_left (Step.Turn m) (record t { pairs = []; machines = ms }) else o)
+turn_or S t m ms false o is h n e = h n e
+turn_or S t m ms true o is h n e =
     let k : Next = record { step = Step.Turn m; left = record t { pairs = []; machines = ms } } in
     let f : k ≡ n = cc in
-    subst (Found v t) f (record { step = is; pass = refl; behind = refl })
+    subst (Found S t) f (record { step = is refl; pass = refl; behind = refl })
 
-turn_found : (v : View) (t : Todo) (ms : List ℕ) → FoundBy v t (next_turn (has_mail v) t ms)
-turn_found v t [] n e = cc
-turn_found v t (m ∷ ms) n e = turn_or v t m ms (has_mail v m) (next_turn (has_mail v) t ms) refl (turn_found v t ms) n e
+turn_found : (S : Step → Type 0) (takes : ℕ → Bool) (t : Todo) (ms : List ℕ) → TurnsOf S takes → FoundBy S t (next_turn takes t ms)
+turn_found S takes t [] each n e = cc
+turn_found S takes t (m ∷ ms) each n e = turn_or S t m ms (takes m) (next_turn takes t ms) (each m) (turn_found S takes t ms each) n e
 
-in_found : (v : View) (t : Todo) (o : Option (Step × List Two)) → t.pass ≡ Settle → IsDelivery v o → FoundBy v t (in_pass (has_mail v) t o)
-in_found v t None is h n e =
-    turn_found v t t.machines n (ap (λ (p : Pass). next_turn (takes_turn p (has_mail v)) t t.machines) (sym is) ∙ e)
-in_found v t (Some d) is h n e =
+in_found : (S : Step → Type 0) (seen : Seen) (t : Todo) (o : Option (Step × List Two)) → TurnsOf S (takes_turn t.pass seen) → IsDelivery S o → FoundBy S t (in_pass seen t o)
+in_found S seen t None each h n e = turn_found S (takes_turn t.pass seen) t t.machines each n e
+in_found S seen t (Some d) each h n e =
     let k : Next = record { step = d.0; left = record t { pairs = d.1 } } in
     let f : k ≡ n = cc in
-    subst (Found v t) f (record { step = h d refl; pass = refl; behind = refl })
+    subst (Found S t) f (record { step = h d refl; pass = refl; behind = refl })
+
+-- of what is seen at a point
+pub pass_found : (S : Step → Type 0) (k : ℕ) (pt : Point) (t : Todo) (n : Next) → TurnsOf S (takes_turn t.pass (seen_at k pt)) → Deliveries S pt.view → in_pass (seen_at k pt) t (next_delivery (undelivered pt.view) t.pairs) ≡ Some n → Found S t n
+pass_found S k pt t n turns each e = in_found S (seen_at k pt) t (next_delivery (undelivered pt.view) t.pairs) turns (delivery_found S pt.view t.pairs each) n e
+
+-- the turns of a settle
+settle_turns : (k : ℕ) (pt : Point) (p : Pass) → p ≡ Settle → TurnsOf (IsSettleStep pt.view) (takes_turn p (seen_at k pt))
+settle_turns k pt p is m e = ap (λ (q : Pass). takes_turn q (seen_at k pt) m) (sym is) ∙ e
 
 -- a list has a machine
 abbrev Has : ℕ → List ℕ → Type 0
@@ -109,9 +123,9 @@ no_turn takes t m [] e h = absurd h
 no_turn takes t m (x ∷ xs) e h = no_turn_by takes t m x xs (takes x) refl e h (λ f g. no_turn takes t m xs f g)
 
 -- a pass that begins and finds nothing
-nothing_in : (mail : ℕ → Bool) (t : Todo) (o : Option (Step × List Two)) → in_pass mail t o ≡ None → (o ≡ None) × (next_turn (takes_turn t.pass mail) t t.machines ≡ None)
-nothing_in mail t None e = (refl, e)
-nothing_in mail t (Some d) e = cc
+nothing_in : (seen : Seen) (t : Todo) (o : Option (Step × List Two)) → in_pass seen t o ≡ None → (o ≡ None) × (next_turn (takes_turn t.pass seen) t t.machines ≡ None)
+nothing_in seen t None e = (refl, e)
+nothing_in seen t (Some d) e = cc
 
 -- a pair that has done its part, and whose packets were all delivered, is at rest
 pub record AllThere (p : Pair) : Type 0 where
@@ -136,18 +150,23 @@ all_there p q s r out back =
     let all : p.gone ≡ length p.ids = elim r.gone [ inl e ↦ e | inr e ↦ absurd (omega (arith, e, taken, heard)) ] in
     record { taken = taken ∙ all; acked = omega (arith, heard, under, taken, all) }
 
-no_mail : {X : Type 0} (xs : List X) → nat_lt 0 (length xs) ≡ false → xs ≡ []
+pub no_mail : {X : Type 0} (xs : List X) → nat_lt 0 (length xs) ≡ false → xs ≡ []
 no_mail [] e = refl
 no_mail (x ∷ xs) e = absurd (some (length xs) e)
   where
     some : (n : ℕ) → nat_lt 0 (suc n) ≡ false → ⊥
     some n e = grind (arith, nat_tests)
 
--- so all is quiet where it finds nothing
-pub nothing_quiet : (b : Boot) (es : List Step) (pt : Point) (ds : List Directive) (n : ℕ) → Leads b (first_point b) es pt → begin_pass n (undelivered pt.view) (has_mail pt.view) Settle ds ≡ None → IsQuiet n pt.view
-nothing_quiet b es pt ds n leads e =
+-- where it finds nothing, each pair has done its part, and no machine takes its turn
+pub record Nothing (n : ℕ) (pt : Point) (p : Pass) : Type 0 where
+  pub taken : (a c : ℕ) → a < n → c < n → (pt.view.pair a c).taken ≡ length (pt.view.pair a c).ids
+  pub acked : (a c : ℕ) → a < n → c < n → a ≢ c → (pt.view.pair a c).acked ≡ length (pt.view.pair a c).ids
+  pub turns : (m : ℕ) → m < n → takes_turn p (seen_at n pt) m ≡ false
+
+pub finds_nothing : (b : Boot) (es : List Step) (pt : Point) (p : Pass) (ds : List Directive) (n : ℕ) → Leads b (first_point b) es pt → begin_pass n (seen_at n pt) p ds ≡ None → Nothing n pt p
+finds_nothing b es pt p ds n leads e =
     let v = pt.view in
-    let k = nothing_in (has_mail v) (pass_begun n Settle ds) (next_delivery (undelivered v) (pairs_of (below n) (below n))) e in
+    let k = nothing_in (seen_at n pt) (pass_begun n p ds) (next_delivery (undelivered v) (pairs_of (below n) (below n))) e in
     let there = λ (a c : ℕ) (h : a < n) (g : c < n) (apart : a ≢ c).
     all_there (v.pair a c) (v.pair c a) (pairs_stand_always b es pt a c leads apart).0 (pairs_rest_always b es pt a c leads apart)
     (none_of (undelivered v) a c (below n) (below n) apart k.0 (has_below a n h) (has_below c n g)) (none_of (undelivered v) c a (below n) (below n) (λ same. apart (sym same)) k.0 (has_below c n g) (has_below a n h)) in
@@ -155,74 +174,89 @@ nothing_quiet b es pt ds n leads e =
     record {
       taken = λ a c h g. by v a c (a == c) refl (λ apart. (there a c h g apart).taken) (home a).taken;
       acked = λ a c h g apart. (there a c h g apart).acked;
-      inbox = λ m h. no_mail (v.inbox m) (no_turn (has_mail v) (pass_begun n Settle ds) m (below n) k.1 (has_below m n h));
+      turns = λ m h. no_turn (takes_turn p (seen_at n pt)) (pass_begun n p ds) m (below n) k.1 (has_below m n h);
     }
   where
     by : (v : View) (a c : ℕ) (same : Bool) → (a == c) ≡ same → (a ≢ c → (v.pair a c).taken ≡ length (v.pair a c).ids) → (v.pair a a).taken ≡ length (v.pair a a).ids → (v.pair a c).taken ≡ length (v.pair a c).ids
     by v a c true e apart home = let is : a ≡ c = grind (arith, nat_tests) in subst (λ (k : ℕ). (v.pair a k).taken ≡ length (v.pair a k).ids) is home
     by v a c false e apart home = apart (let ne : a ≢ c = grind (arith, nat_tests) in ne)
 
--- where not all is quiet a pass that begins finds something
-pub record Begins (n : ℕ) (v : View) (ds : List Directive) : Type 0 where
+-- so all is quiet where a settle's finds nothing
+pub nothing_quiet : (b : Boot) (es : List Step) (pt : Point) (ds : List Directive) (n : ℕ) → Leads b (first_point b) es pt → begin_pass n (seen_at n pt) Settle ds ≡ None → IsQuiet n pt.view
+nothing_quiet b es pt ds n leads e =
+    let h = finds_nothing b es pt Settle ds n leads e in
+    record { taken = h.taken; acked = h.acked; inbox = λ m k. no_mail (pt.view.inbox m) (h.turns m k) }
+
+-- a pass that begins finds something
+pub record Begins (S : Step → Type 0) (n : ℕ) (pt : Point) (p : Pass) (ds : List Directive) : Type 0 where
   pub next : Next
-  pub is : begin_pass n (undelivered v) (has_mail v) Settle ds ≡ Some next
-  pub found : Found v (pass_begun n Settle ds) next
+  pub is : begin_pass n (seen_at n pt) p ds ≡ Some next
+  pub found : Found S (pass_begun n p ds) next
 
-begins_by : (n : ℕ) (v : View) (ds : List Directive) (o : Option Next) → begin_pass n (undelivered v) (has_mail v) Settle ds ≡ o → (o ≡ None → IsQuiet n v) → is_quiet n v ≡ false → Begins n v ds
-begins_by n v ds None e quiet not_ = absurd (false≢true (sym not_ ∙ quiet_passes n v (quiet refl)))
-begins_by n v ds (Some k) e quiet not_ = record {
-  next = k;
-  is = e;
-  found = in_found v (pass_begun n Settle ds) (next_delivery (undelivered v) (pairs_of (below n) (below n))) refl (delivery_found v (pairs_of (below n) (below n))) k e;
-}
+pub begins_by : (S : Step → Type 0) (n : ℕ) (pt : Point) (p : Pass) (ds : List Directive) (o : Option Next) → TurnsOf S (takes_turn p (seen_at n pt)) → Deliveries S pt.view → begin_pass n (seen_at n pt) p ds ≡ o → (o ≡ None → ⊥) → Begins S n pt p ds
+begins_by S n pt p ds None turns each e some = absurd (some refl)
+begins_by S n pt p ds (Some k) turns each e some = record { next = k; is = e; found = pass_found S n pt (pass_begun n p ds) k turns each e }
 
-pub settle_begins : (b : Boot) (es : List Step) (pt : Point) (ds : List Directive) (n : ℕ) → Leads b (first_point b) es pt → is_quiet n pt.view ≡ false → Begins n pt.view ds
+-- where not all is quiet one of a settle does
+pub settle_begins : (b : Boot) (es : List Step) (pt : Point) (ds : List Directive) (n : ℕ) → Leads b (first_point b) es pt → is_quiet n pt.view ≡ false → Begins (IsSettleStep pt.view) n pt Settle ds
 settle_begins b es pt ds n leads not_ =
-    begins_by n pt.view ds (begin_pass n (undelivered pt.view) (has_mail pt.view) Settle ds) refl (nothing_quiet b es pt ds n leads) not_
+    begins_by (IsSettleStep pt.view) n pt Settle ds (begin_pass n (seen_at n pt) Settle ds) (settle_turns n pt Settle refl) (λ a c k e. e) refl
+    (λ none. false≢true (sym not_ ∙ quiet_passes n pt.view (nothing_quiet b es pt ds n leads none)))
 
--- in the midst of a settle
-over_by : (n : ℕ) (v : View) (t : Todo) (p : Pass) → t.pass ≡ p → p ≡ Settle → is_quiet n v ≡ true → next_step n v t ≡ next_step n v (all_of t.directives)
-over_by n v t p is settle quiet =
-    let here = in_pass (has_mail v) t (next_delivery (undelivered v) t.pairs) in
-    let begin = begin_pass n (undelivered v) (has_mail v) Settle t.directives in
-    let behind = next_directive n (undelivered v) (has_mail v) (is_quiet n v) t.directives in
-    ap (λ (q : Pass). or (if is_over q (is_quiet n v) then None else here) (next_pass n (undelivered v) (has_mail v) (is_quiet n v) q t.directives)) (is ∙ settle)
-    ∙ ap (λ (q : Bool). or (if q then None else here) (settles q begin behind)) quiet
+-- in the midst of a pass whose directive is over, or isn't
+pub over_midst : (n : ℕ) (pt : Point) (t : Todo) → is_over n (seen_at n pt) t.pass ≡ true → next_step n pt t ≡ next_pass n (seen_at n pt) t.pass t.directives
+over_midst n pt t e =
+    let here = in_pass (seen_at n pt) t (next_delivery (undelivered pt.view) t.pairs) in
+    ap (λ (q : Bool). or (if q then None else here) (next_pass n (seen_at n pt) t.pass t.directives)) e
 
-goes_by : (n : ℕ) (v : View) (t : Todo) (o : Option Next) → t.pass ≡ Settle → in_pass (has_mail v) t (next_delivery (undelivered v) t.pairs) ≡ o → is_quiet n v ≡ false → Begins n v t.directives → SettleGoes n v t
-goes_by n v t o is here not_ begin = pick o here
+pub not_over_midst : (n : ℕ) (pt : Point) (t : Todo) → is_over n (seen_at n pt) t.pass ≡ false
+    → next_step n pt t ≡ or (in_pass (seen_at n pt) t (next_delivery (undelivered pt.view) t.pairs)) (next_pass n (seen_at n pt) t.pass t.directives)
+not_over_midst n pt t e =
+    let here = in_pass (seen_at n pt) t (next_delivery (undelivered pt.view) t.pairs) in
+    ap (λ (q : Bool). or (if q then None else here) (next_pass n (seen_at n pt) t.pass t.directives)) e
+
+over_by : (n : ℕ) (pt : Point) (t : Todo) → t.pass ≡ Settle → is_quiet n pt.view ≡ true → next_step n pt t ≡ next_step n pt (all_of t.directives)
+over_by n pt t is quiet =
+    let begin = begin_pass n (seen_at n pt) Settle t.directives in
+    let behind = next_directive n (seen_at n pt) t.directives in
+    over_midst n pt t (ap (is_over n (seen_at n pt)) is ∙ quiet)
+    ∙ ap (λ (p : Pass). next_pass n (seen_at n pt) p t.directives) is
+    ∙ ap (λ (q : Bool). settles q begin behind) quiet
+
+goes_by : (n : ℕ) (pt : Point) (t : Todo) (o : Option Next) → t.pass ≡ Settle → in_pass (seen_at n pt) t (next_delivery (undelivered pt.view) t.pairs) ≡ o → is_quiet n pt.view ≡ false → Begins (IsSettleStep pt.view) n pt Settle t.directives → SettleGoes n pt t
+goes_by n pt t o is here not_ begin = pick o here
   where
-    unfolds : (n : ℕ) (v : View) (t : Todo) (o : Option Next) → t.pass ≡ Settle → in_pass (has_mail v) t (next_delivery (undelivered v) t.pairs) ≡ o → is_quiet n v ≡ false
-        → next_step n v t ≡ or o (or (begin_pass n (undelivered v) (has_mail v) Settle t.directives) (next_directive n (undelivered v) (has_mail v) (is_quiet n v) t.directives))
-    unfolds n v t o is here not_ =
-        let found = in_pass (has_mail v) t (next_delivery (undelivered v) t.pairs) in
-        let first = begin_pass n (undelivered v) (has_mail v) Settle t.directives in
-        let behind = next_directive n (undelivered v) (has_mail v) (is_quiet n v) t.directives in
-        ap (λ (q : Pass). or (if is_over q (is_quiet n v) then None else found) (next_pass n (undelivered v) (has_mail v) (is_quiet n v) q t.directives)) is
-        ∙ ap (λ (q : Bool). or (if q then None else found) (settles q first behind)) not_
-        ∙ ap (λ (x : Option Next). or x (or first behind)) here
+    unfolds : (n : ℕ) (pt : Point) (t : Todo) (o : Option Next) → t.pass ≡ Settle → in_pass (seen_at n pt) t (next_delivery (undelivered pt.view) t.pairs) ≡ o → is_quiet n pt.view ≡ false
+        → next_step n pt t ≡ or o (or (begin_pass n (seen_at n pt) Settle t.directives) (next_directive n (seen_at n pt) t.directives))
+    unfolds n pt t o is here not_ =
+        let first = begin_pass n (seen_at n pt) Settle t.directives in
+        let behind = next_directive n (seen_at n pt) t.directives in
+        not_over_midst n pt t (ap (is_over n (seen_at n pt)) is ∙ not_)
+        ∙ ap (λ (x : Option Next). or x (next_pass n (seen_at n pt) t.pass t.directives)) here
+        ∙ ap (λ (p : Pass). or o (next_pass n (seen_at n pt) p t.directives)) is
+        ∙ ap (λ (q : Bool). or o (settles q first behind)) not_
 
-    pick : (o : Option Next) → in_pass (has_mail v) t (next_delivery (undelivered v) t.pairs) ≡ o → SettleGoes n v t
+    pick : (o : Option Next) → in_pass (seen_at n pt) t (next_delivery (undelivered pt.view) t.pairs) ≡ o → SettleGoes n pt t
     pick None e =
         record {
           next = begin.next;
-          is = unfolds n v t None is e not_ ∙ ap (λ (x : Option Next). or x (next_directive n (undelivered v) (has_mail v) (is_quiet n v) t.directives)) begin.is;
+          is = unfolds n pt t None is e not_ ∙ ap (λ (x : Option Next). or x (next_directive n (seen_at n pt) t.directives)) begin.is;
           step = begin.found.step;
           pass = begin.found.pass;
           behind = begin.found.behind;
         }
     pick (Some k) e =
-        let f = in_found v t (next_delivery (undelivered v) t.pairs) is (delivery_found v t.pairs) k e in
-        record { next = k; is = unfolds n v t (Some k) is e not_; step = f.step; pass = f.pass ∙ is; behind = f.behind }
+        let f = pass_found (IsSettleStep pt.view) n pt t k (settle_turns n pt t.pass is) (λ a c k e. e) e in
+        record { next = k; is = unfolds n pt t (Some k) is e not_; step = f.step; pass = f.pass ∙ is; behind = f.behind }
 
 pub settles_always : SettlesAlways
 settles_always b es pt t valid leads is =
     let n = pt.kernel.machines in
     record {
-      over = λ q. over_by n pt.view t t.pass refl is (quiet_passes n pt.view q);
+      over = λ q. over_by n pt t is (quiet_passes n pt.view q);
       goes = λ not_.
           let e : is_quiet n pt.view ≡ false = no_quiet n pt.view (is_quiet n pt.view) refl not_ in
-          goes_by n pt.view t (in_pass (has_mail pt.view) t (next_delivery (undelivered pt.view) t.pairs)) is refl e (settle_begins b es pt t.directives n leads e);
+          goes_by n pt t (in_pass (seen_at n pt) t (next_delivery (undelivered pt.view) t.pairs)) is refl e (settle_begins b es pt t.directives n leads e);
     }
   where
     no_quiet : (n : ℕ) (v : View) (q : Bool) → is_quiet n v ≡ q → (IsQuiet n v → ⊥) → is_quiet n v ≡ false

@@ -6,3 +6,8 @@ pub mod RestsAlways
 pub mod EndsQuiet
 pub mod EndsAtRest
 pub mod EndsResting
+pub mod EndsRested
+pub mod StillAlways
+pub mod EndsStill
+pub mod StaysAtRest
+pub mod StaysWorked

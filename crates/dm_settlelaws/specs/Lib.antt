@@ -3,3 +3,5 @@ pub mod Rests
 pub mod Passes
 pub mod Puts
 pub mod Laws
+pub mod Still
+pub mod Stays

@@ -1,5 +1,7 @@
 //! What holds of a settle wherever the rule leads, whoever ran by it.
-ghost use Rattle.dm_settlelaws.specs.Laws.{EndsAtRest, EndsQuiet, EndsResting, FewPuts, LeftFalls, PairsRestAlways, SettlesAlways, TurnsFall, TurnsLeftFew};
+ghost use Rattle.dm_settlelaws.specs.Laws.{EndsAtRest, EndsQuiet, EndsRested, EndsResting, FewPuts, LeftFalls, PairsRestAlways, RestsAlways, SettlesAlways, TurnsFall, TurnsLeftFew};
+ghost use Rattle.dm_settlelaws.specs.Stays.{RestLasts, StaysAtRest};
+ghost use Rattle.dm_settlelaws.specs.Still.{EndsStill, StillAlways};
 
 /// Wherever the rule leads from a boot file, on each ordered pair of machines what may go out has gone, each number that went out
 /// has a packet, a data packet that came was taken or is kept, the next number isn't kept, the count of what was taken was
@@ -13,6 +15,19 @@ pub fn pairs_rest_always()
 /// that has mail: so no machine needs to send anything again.
 pub fn settles_always()
     ensures { SettlesAlways }
+{}
+
+/// Wherever the rule leads from a boot file, a rest, however far its pass has come, is over where all is at rest, and what is behind
+/// it follows. Where not all is, each of its passes that begins has a group, and one that has begun goes on or is gone through: with
+/// packets that were never delivered, and with turns of machines that have mail or a process that can be served.
+pub fn rests_always()
+    ensures { RestsAlways }
+{}
+
+/// Wherever the rule leads from a boot file and all directives are done, the last of them a rest, its passes were gone through whole,
+/// or all is at rest.
+pub fn ends_rested()
+    ensures { EndsRested }
 {}
 
 /// Wherever the rule leads from a boot file and all directives are done, the last of them a settle, nothing is on its way.
@@ -31,6 +46,33 @@ pub fn ends_resting()
 /// message, none is held back, and each process that lives is on one machine, and neither leaves nor comes.
 pub fn ends_at_rest()
     ensures { EndsAtRest }
+{}
+
+/// Wherever the rule leads from a boot file, where all is at rest: no process moves, nothing is held back, no request of the manager's is
+/// pending, and each message that there is waits in the queue of the process that it is for. No living process moves data, each waits or
+/// is stopped, and none that waits and isn't stopped has a message in its queue on a channel for which it waits.
+pub fn still_always()
+    ensures { StillAlways }
+{}
+
+/// Wherever the rule leads from a boot file, where all is at rest the lines of the end say so: no inbox and no stream has a message, none
+/// is held back, none is pending, and each process that lives is on one machine, and waits or is stopped.
+pub fn ends_still()
+    ensures { EndsStill }
+{}
+
+/// Wherever the rule leads from a boot file, where all is at rest only a `migrate` sets anything going. Each other directive for the
+/// machines has a group that says that nothing comes of it: a turn is `idle`, a tick `resent M 0`, a delivery `old` with the packet of
+/// its acknowledgement, `acked` or `none`, a calling off `nocall`. All stays at rest, no process, server or message changes, and each
+/// process and each queued message stays where it is.
+pub fn stays_at_rest()
+    ensures { StaysAtRest }
+{}
+
+/// Wherever the rule leads from a boot file, where all is at rest it stays so by whatever directives for the machines, until one is a
+/// `migrate`: no process, server or message changes, and each process and each queued message stays where it is.
+pub fn rest_lasts()
+    ensures { RestLasts }
 {}
 
 /// Wherever the rule leads from a boot file, each group of a settle leaves less to do: fewer messages that may still be routed, or

@@ -1,17 +1,14 @@
 -- Ends of moves that no process asked for: those that no answer to a request follows.
 use Rattle.dm_movelaws.proofs.Names.{◌≡◌, ℕ, ◌+◌, Bool, true, List, [], ◌∷◌, length, refl, ap, ◌∙◌, sym, subst, inl, inr, arith, if◌then◌else◌, Option, Some, cases_Bool, Pid, pid_eq, MsgId, MessageKind, Boot, Step, Line, Child, migrates}
-use Rattle.dm_movelaws.proofs.Names.{View, Told, after_head, after_put, view_after, own_id, Point, Part, Says, Owns, Spelled, behind, spelled, group_of, IsNet, front_way, Phased, told_some, head_calm}
-use Rattle.dm_movelaws.proofs.Names.{InPhases, calm_phases, PairsFit, PacketsKeep, said, Sane, KnownStands, Begins, begins, WalksOf, loose_walks, begun, begun_sane, turned, resting, round_walks, handles_walks, asks, ends}
-use Rattle.dm_movelaws.proofs.Names.{count, by_migrates, by_outcome, group_is, None, false, label_of, nat_tests, seen_none, MoveNote, Outcome, PlainMessage, PlainWhat, Label, Stage, Target, Frozen, Known, Here, to_kernel}
-use Rattle.dm_movelaws.proofs.Names.{leaves_for, answers_move, said_by, part_sane, move_target, sets, aim, asked_off, moved, is_moving, Walks, pid_eq-is, pid_eq-same, own_ends, ◌&&◌, not, ◌++◌, lines_of, LeadsBy, by_parts, NothingElse}
-use Rattle.dm_movelaws.proofs.Names.{is_answered_next, is_answer_by, act_of, hears, line_next, loose_round, loose_handles, by_forwards, plain_kind, turn_off, tick_off, deliver_off, migrate_off, option_map_or, calls_off, by_calls_off}
-use Rattle.dm_movelaws.proofs.Names.{call_off, not_true, is_due}
+use Rattle.dm_movelaws.proofs.Names.{View, Told, after_head, after_put, view_after, own_id, Point, Part, Says, Owns, Spelled, behind, spelled, group_of, IsNet, front_way, Phased, told_some, head_calm, InPhases, calm_phases, PairsFit}
+use Rattle.dm_movelaws.proofs.Names.{PacketsKeep, said, Sane, KnownStands, Begins, begins, WalksOf, loose_walks, begun, begun_sane, turned, resting, round_walks, handles_walks, asks, ends, count, by_migrates, by_outcome, group_is, None}
+use Rattle.dm_movelaws.proofs.Names.{false, label_of, nat_tests, seen_none, MoveNote, Outcome, PlainMessage, PlainWhat, Label, Stage, Target, Frozen, Known, Here, to_kernel, leaves_for, answers_move, said_by, part_sane, move_target, sets}
+use Rattle.dm_movelaws.proofs.Names.{aim, asked_off, moved, is_moving, Walks, pid_eq-is, pid_eq-same, own_ends, ◌&&◌, not, ◌++◌, lines_of, LeadsBy, by_parts, NothingElse, is_answered_next, is_answer_by, act_of, hears, line_next}
+use Rattle.dm_movelaws.proofs.Names.{loose_round, loose_handles, by_forwards, plain_kind, turn_off, tick_off, deliver_off, migrate_off, option_map_or, calls_off, by_calls_off, call_off, not_true, is_due}
 use Rattle.dm_movelaws.proofs.Ends.Parts.{packet_smooth, one_if, zero_if, Rest, rest_packet, rest_behind, Handled, Quiets, SetsOff, part_count, unit_if, is_migrate, Extends, Still, plain_in_bag, AllQuiet, quiet_loose, Silent, count-append}
-use Rattle.dm_movelaws.proofs.Ends.Parts.{smooth_same, Tame, still_same, Smooth, smooth_trans, moves_none, lines_count, smooth_still}
-use Rattle.dm_movelaws.proofs.Ends.Open.{Opens, Balance, level_balance, smooth_opens, add_opens, moving_in, still_moves, here_stays, Turn, Comes, quiet_row, and_off, line_then, other_still, pid_swap, Neither, net_none}
-use Rattle.dm_movelaws.proofs.Ends.Open.{net_level, own_adds}
-use Rattle.dm_movelaws.proofs.Ends.Parts.{asks_for}
-use Rattle.dm_movelaws.proofs.Ends.Hears.{ComesOf, kernel_comes, process_comes, server_comes}
+use Rattle.dm_movelaws.proofs.Ends.Parts.{smooth_same, Tame, still_same, Smooth, smooth_trans, moves_none, lines_count, smooth_still, asks_for}
+use Rattle.dm_movelaws.proofs.Ends.Open.{Opens, Balance, level_balance, smooth_opens, add_opens, moving_in, still_moves, here_stays, Turn, Comes, quiet_row, and_off, line_then, other_still, pid_swap, Neither, net_none, net_level, own_adds}
+use Rattle.dm_movelaws.proofs.Ends.Hears.{ComesOf, kernel_comes, process_comes}
 use Rattle.dm_movelaws.proofs.Leading.{next_of, part_leads, net_says, lines_are, asker_known}
 use Rattle.dm_movelaws.proofs.Asked.Following.{Row, Plain, Ends, IsHere, Leaves, outcome_row, plain_notes, ends_notes, here_notes, leaves_notes, AllUnmarked, IsUnmarked, net_unmarked, EndLine}
 use Rattle.dm_rule.specs.Rule as rule
@@ -278,7 +275,7 @@ directed : (p : Pid) (b : Boot) (pt : Point) (d : Step) (parts : List Part) (w :
 directed p b pt d parts w h phased known fits is =
     let hears_comes : (p : Pid) (b : Boot) (o : Point) (m : ℕ) (i : MsgId) (is : List MsgId) (t : Told) (h : Turn (turned o m) i is t) → ComesOf p (turned o m) h.phases (hears b o m i (Some t)) = λ p b o m i is t h.
     let of_if : (p : Pid) (pt : Point) (h : InPhases pt.view) (c : Bool) (x y : Option (List Part)) → ComesOf p pt h x → ComesOf p pt h y → ComesOf p pt h (if c then x else y) = λ p pt h c x y k l. grind (arith, nat_tests) in
-    search (of_if, kernel_comes, server_comes, process_comes) in
+    search (of_if, kernel_comes, process_comes) in
     by_outcome (λ x ps. (u : Spelled) → Row pt x ps → spelled (begun pt x) ps ≡ Some u → OwnDirected p x (begun pt x) (begun_phases pt x h) ps u) b pt d parts (record {
       round = λ m ps box e u row said.
           (let s = begins pt m phased known in

@@ -6,7 +6,7 @@ use Rattle.dm_movelaws.proofs.Names.{pair_same, handled_spots, held_known, forwa
 use Rattle.dm_movelaws.proofs.Names.{is_for, frozen_off, ◌+◌, ◌++◌, ⊤, pid_of, PlainProcess, accepts, takes_chunk, takes_block, sends_on, chunks_of, pieces_of, Incoming, rejoins, front_of, gone_to, is_between, parts, at_record_off, due}
 use Rattle.dm_movelaws.proofs.Names.{Walks, asks, ends, accepted_off, state_off, memory_off, lacks_off, left_off, leaves, label_of, is_put, touches, nat_tests, sets, aim, at_record, MoveNote, Outcome, tells_asker, restarted_off, times}
 use Rattle.dm_movelaws.proofs.Names.{sort_of, ◌⊎◌, ◌/◌, not, Phase, Moves, IsIn, is_due, is_restart, kind_leaves, ◌≤◌, standing, Queue, Held, Untaken, not_true, false≢true, eq_is, left_true, ComesIn, goes_back, is_stale, is_waited_from}
-use Rattle.dm_movelaws.proofs.Names.{brings_piece, called_parts, source_knows, Sane}
+use Rattle.dm_movelaws.proofs.Names.{brings_piece, called_parts, source_knows, Sane, switchboard}
 use Rattle.dm_movelaws.proofs.Ends.Parts.{AllQuiet, Rest, rest_packet, Settled, parts_settle, quiet_count, quiet_asks, zero_if, first_off as first_off_and, is_migrate, asks_for, kind_not, Smooth, Still, smooth_trans, told_by, Plain}
 use Rattle.dm_movelaws.proofs.Ends.Parts.{Tame, Foreign, still_by, smooth_still, moves_none, smooth_others}
 use Rattle.dm_movelaws.proofs.Ends.Open.{IsOpen, level_balance, close_opens, smooth_opens, moving_in, waits_moves, here_stays, still_moves, not_false, target_waits, Turn, plain_one, front_one, stands_front, first_smooth, first_closes}
@@ -14,12 +14,12 @@ use Rattle.dm_movelaws.proofs.Ends.Open.{line_then, and_off, other_still, set_he
 use Rattle.dm_movelaws.proofs.Leading.{next_of, part_leads, asker_known}
 use Rattle.dm_movelaws.proofs.Ends.Sources.{smooth_moves, held_smooth, again_told, all_sent, sends_count, sent_begins, rejoins_smooth, Sending, sent_smooth}
 use Rattle.dm_rule.specs.View as view
-use Rattle.dm_rule.specs.Rule as rule
-use Rattle.dm_onekernel.specs.Step as kernel
 use Rattle.dm_movelaws.proofs.Stages.Spares.{is_piece, is_settled, rest_settled}
 use Rattle.dm_movelaws.proofs.Ends.Open.{whole_due}
 use Rattle.dm_movelaws.proofs.Ends.Parts.{Somewhere, settled_same}
 use Rattle.dm_movelaws.proofs.Ends.Sources.{emptied_on}
+use Rattle.dm_rule.specs.Rule as rule
+use Rattle.dm_onekernel.specs.Step as kernel
 
 abbrev pub ComesOf : Pid → (pt : Point) → InPhases pt.view → Option (List Part) → Type 0
 ComesOf p pt h None = ⊤
@@ -290,13 +290,19 @@ over_comes p pt i is t MessageKind.Migrate h e = ended_comes p pt i is t h e
 over_comes p pt i is t MessageKind.Update h e = updated_comes p pt i is t 0 h e
 over_comes p pt i is t k h e = tt
 
-pub server_comes : (p : Pid) (o pt : Point) (i : MsgId) (is : List MsgId) (t : Told) (k : MessageKind) (h : Turn pt i is t) → t.kind ≡ k → ComesOf p pt h.phases (told_server o i t (sort_of k))
+server_comes : (p : Pid) (o pt : Point) (i : MsgId) (is : List MsgId) (t : Told) (k : MessageKind) (h : Turn pt i is t) → t.kind ≡ k → ComesOf p pt h.phases (told_server o i t (sort_of k))
 server_comes p o pt i is t MessageKind.Update h e = updated_comes p pt i is t _ h e
 server_comes p o pt i is t k h e = tt
 
+own_comes : (p : Pid) (o : Point) (m : ℕ) (i : MsgId) (is : List MsgId) (t : Told) (d e : Bool) (h : Turn (turned o m) i is t) → o.view.known m t.receiver ≡ Here
+    → ComesOf p (turned o m) h.phases (if d then told_server o i t (sort_of t.kind) else if e then told_server o i t (sort_of t.kind) else told_here o m i t (sort_of t.kind))
+own_comes p o m i is t true e h known = server_comes p o (turned o m) i is t t.kind h refl
+own_comes p o m i is t false true h known = server_comes p o (turned o m) i is t t.kind h refl
+own_comes p o m i is t false false h known = here_comes p o m i is t t.kind h refl known
+
 pub process_comes : (p : Pid) (o : Point) (m : ℕ) (i : MsgId) (is : List MsgId) (t : Told) (k : Known) (h : Turn (turned o m) i is t) → o.view.known m t.receiver ≡ k → ComesOf p (turned o m) h.phases (process_told o m i t k)
 process_comes p o m i is t Unknown h known = tt
-process_comes p o m i is t Here h known = here_comes p o m i is t t.kind h refl known
+process_comes p o m i is t Here h known = own_comes p o m i is t (pid_eq t.receiver switchboard) (pid_eq t.receiver manager) h known
 process_comes p o m i is t (Forward at moves) h known = forwards_comes p (turned o m) i is t o.addresses t.kind manager at h
 process_comes p o m i is t Ended h known = over_comes p (turned o m) i is t t.kind h refl
 process_comes p o m i is t _ h known = held_comes p (turned o m) i is t h

@@ -4,7 +4,8 @@ use Rattle.dm_movelaws.proofs.Names.{LeadsBy, update_of, nat_tests, ◌⊎◌, �
 use Rattle.dm_movelaws.proofs.Names.{label_of, kernel_after, Part, Says, Again, Owns, spelled, times, sends_on, is_put, not_true, parts, touches, pair_same, fits_as, PairsFit, fits_put, fits_packet, Sane, Sayable, part_sane, Steps, said_by}
 use Rattle.dm_movelaws.proofs.Names.{OneKernel, PlainMessage, Addresses, Sender, forwards_on, Loose, loose_round, loose_handles, by_forwards, seen, Label, PlainWhat, to_kernel, moved, leaves_for, move_target, Target, length, NothingElse}
 use Rattle.dm_movelaws.proofs.Names.{if◌then◌else◌, manager, Known, Unknown, Here, Forward, Ended, process_told, both_lists, last_point, by_hears, behind_count, place_told, answers_move, Outcome, false≢true, migrates, not_kernels, IsNet}
-use Rattle.dm_movelaws.proofs.Names.{fits, under_way, kernels_by, begun, begun_sane, by_migrates, by_outcome, group_is, topic_by, deliver_off, migrate_off, tick_off, turn_off, option_map_or, called_parts, by_calls_off}
+use Rattle.dm_movelaws.proofs.Names.{fits, under_way, kernels_by, begun, begun_sane, by_migrates, by_outcome, group_is, topic_by, deliver_off, migrate_off, tick_off, turn_off, option_map_or, called_parts, by_calls_off, told_server, pid_eq}
+use Rattle.dm_movelaws.proofs.Names.{switchboard, sort_of, updates}
 use Rattle.dm_rule.specs.Rule as rule
 use Rattle.dm_movelaws.proofs.After.{after-append, group_after}
 use Rattle.dm_movelaws.proofs.Promise.Spots.{Stands, Spares, line_stands, label_stands, put_this, put_stands, packet_stands, Fronts, about_stands, Front, sent_stands, held_this, fronts, net_stands, stands_off, lines_told}
@@ -243,9 +244,14 @@ forwarded_goes j t pt to h w is =
     let last : k.next ≡ k.rest.point = last_point k.next k.rest k.more in
     inl (subst (λ (x : Point). Stands x.view j) (last ∙ end) there)
 
+own_this : (j : MsgId) (pt o : Point) (p q : Pid) (place : Place) (d e : Bool) → GoesOf j pt (if d then told_server o j (update_of p q place) (sort_of MessageKind.Update) else if e then told_server o j (update_of p q place) (sort_of MessageKind.Update) else Some (updates o j (update_of p q place)))
+own_this j pt o p q place true e = updates_this j pt _
+own_this j pt o p q place false true = updates_this j pt _
+own_this j pt o p q place false false = updates_this j pt _
+
 process_this : (j : MsgId) (pt o : Point) (m : ℕ) (p q : Pid) (place : Place) (c : Known) → Waits j (update_of p q place) pt → GoesOf j pt (process_told o m j (update_of p q place) c)
 process_this j pt o m p q place Unknown h = tt
-process_this j pt o m p q place Here h = updates_this j pt _
+process_this j pt o m p q place Here h = own_this j pt o p q place (pid_eq p switchboard) (pid_eq p manager)
 process_this j pt o m p q place (Forward at moves) h = forwarded_goes j (update_of p q place) pt at h
 process_this j pt o m p q place Ended h = updates_this j pt 0
 process_this j pt o m p q place _ h = search (arith, next_of, said_by, held_this, loose_stands, base_says)
@@ -262,7 +268,7 @@ turned_by : (b : Boot) (o : Point) (m : ℕ) (j : MsgId) (p q : Pid) (place : Pl
 turned_by b o m j p q place i is ps true e front h said =
     let hears_this : (j : MsgId) (pt : Point) (b : Boot) (o : Point) (m : ℕ) (p q : Pid) (place : Place) → Waits j (update_of p q place) pt → GoesOf j pt (rule.hears b o m j (Some (update_of p q place))) = λ j pt b o m p q place h.
     let goes_if : (j : MsgId) (pt : Point) (c : Bool) (x y : Option (List Part)) → GoesOf j pt x → GoesOf j pt y → GoesOf j pt (if c then x else y) = λ j pt c x y h k. grind (arith, nat_tests) in
-    search (goes_if, updates_this, process_this) in
+    search (goes_if, process_this) in
     let same : i ≡ j = id_eq-is i j e in
     let pt = begun o (Step.Turn m) in
     subst (GoesOf j pt) (ap (rule.hears b o m j) (sym h.base.told) ∙ ap (λ (x : MsgId). rule.hears b o m x (o.view.told x)) (sym same) ∙ said) (hears_this j pt b o m p q place h)

@@ -3,8 +3,9 @@ use Rattle.dm_movelaws.proofs.Names.{◌≡◌, ℕ, ◌==◌, Bool, true, false
 use Rattle.dm_movelaws.proofs.Names.{Told, About, Of, Known, first_view, target_of, is_between, is_due, Point, first_point, Part, Spelled, spelled, told_step, told_server, process_told, migrates, group_of, bind-is, IsNet, not_true}
 use Rattle.dm_movelaws.proofs.Names.{front_way, Phased, phased_start, phased_group, Calm, calm_same, calm_in, told_some, head_calm, net_parts, migrates_quiet, Tame, plain_in_bag, parts_settle, InPhases, State, PairsFit, Sane, LeadsBy}
 use Rattle.dm_movelaws.proofs.Names.{begun, begun_sane, Mark, marks, in_order, StepsInOrder, plain_by, by_migrates, by_outcome, nat_tests, arith, NothingElse, Label, Says, said_by, moved, calm_about, view_after, line_calm, part_sane}
-use Rattle.dm_movelaws.proofs.Names.{move_target, Target, Here, sort_of, MessageKind, option_map_or, IsValid, inl, inr, cases_Bool, false≢true, PlainProcess, gives_piece, to_kernel, label_of, is_put, touches, Spot, ids_at}
-use Rattle.dm_movelaws.proofs.Names.{handled, proto_off, proto_known, ◌&&◌, not, pulls_piece, brings_piece, is_stale, is_waited_from, Due, Remains, due, due_or_left, stale_left, calm_phases, called_parts, by_calls_off, rooted, bind}
+use Rattle.dm_movelaws.proofs.Names.{move_target, Target, Here, sort_of, MessageKind, option_map_or, IsValid, inl, inr, cases_Bool, false≢true, PlainProcess, gives_piece, to_kernel, label_of, is_put, touches, Spot, ids_at, handled}
+use Rattle.dm_movelaws.proofs.Names.{proto_off, proto_known, ◌&&◌, not, pulls_piece, brings_piece, is_stale, is_waited_from, Due, Remains, due, due_or_left, stale_left, calm_phases, called_parts, by_calls_off, rooted, bind, told_here}
+use Rattle.dm_movelaws.proofs.Names.{by_known, told_ended}
 use Rattle.dm_onekernel.specs.Step as kernel
 use Rattle.dm_rule.specs.Rule as rule
 use Rattle.dm_rule.proofs.Groups as groups
@@ -103,24 +104,23 @@ process_marked o pt m i is t k ps w h front told plain known (Freezes here are) 
     (row_marked pt.view w.point.view q (λ p. marks_of p (freezes q to))
     (freezes_row pt i is q to w (record { sane = h.sane; fits = h.fits; front = front; others = plain_others pt.view i t q told plain }) h.topic here_ (ap (spelled pt) (sym are) ∙ n)))
 
-hears_by : (b : Boot) (o pt : Point) (m : ℕ) (i : MsgId) (is : List MsgId) (t : Told) (c d g : Bool) (ps : List Part) (w : Spelled) → Turning o pt m → (t.receiver.num == 0) ≡ c → pt.view.inbox pt.view.acting ≡ i ∷ is → pt.view.told i ≡ Some t
-    → (if c then rule.kernel_hears b o m i t.kind t.about else if d then told_server o i t (sort_of t.kind) else if g then told_server o i t (sort_of t.kind) else process_told o m i t (o.view.known m t.receiver)) ≡ Some ps → spelled pt ps ≡ Some w → MarkedBy pt w ps
-hears_by b o pt m i is t true d g ps w h c front told e n = kernel_marked b o pt m i is t t.about ps w h front told refl e n
-hears_by b o pt m i is t false true g ps w h c front told e n =
-    let server_mild : (o : Point) (id : MsgId) (t : Told) (k : MessageKind) (ps : List Part) → told_server o id t (sort_of k) ≡ Some ps → (me : Pid) → AllMild me (Some id) ps = λ o id t k ps e me. grind (arith, nat_tests) in
-    let plain = plain_by pt i is t h.phases (is_between t.kind) refl front told c in
-    mild_marked pt (Some i) ps w h.sane h.fits (tame_front pt.view i (record { what = t; told = told; plain = plain })) (server_mild o i t t.kind ps e) n
-hears_by b o pt m i is t false false true ps w h c front told e n =
-    let server_mild : (o : Point) (id : MsgId) (t : Told) (k : MessageKind) (ps : List Part) → told_server o id t (sort_of k) ≡ Some ps → (me : Pid) → AllMild me (Some id) ps = λ o id t k ps e me. grind (arith, nat_tests) in
-    let plain = plain_by pt i is t h.phases (is_between t.kind) refl front told c in
-    mild_marked pt (Some i) ps w h.sane h.fits (tame_front pt.view i (record { what = t; told = told; plain = plain })) (server_mild o i t t.kind ps e) n
-hears_by b o pt m i is t false false false ps w h c front told e n =
-    let process_hears : (o : Point) (m : ℕ) (id : MsgId) (t : Told) (k : Known) (ps : List Part) → process_told o m id t k ≡ Some ps → Hears k id t ps = λ o m id t k ps e. grind (arith, nat_tests, forwards_mild) in
-    search (process_marked, plain_by, process_hears)
+own_hears : (o : Point) (m : ℕ) (id : MsgId) (t : Told) (d g : Bool) (ps : List Part) → (if d then told_server o id t (sort_of t.kind) else if g then told_server o id t (sort_of t.kind) else told_here o m id t (sort_of t.kind)) ≡ Some ps → Hears Here id t ps
+own_hears o m id t true g ps e = let mild : (k : MessageKind) → told_server o id t (sort_of k) ≡ Some ps → (me : Pid) → AllMild me (Some id) ps = λ k f me. grind (arith, nat_tests) in Calms (mild t.kind e)
+own_hears o m id t false true ps e = let mild : (k : MessageKind) → told_server o id t (sort_of k) ≡ Some ps → (me : Pid) → AllMild me (Some id) ps = λ k f me. grind (arith, nat_tests) in Calms (mild t.kind e)
+own_hears o m id t false false ps e = let own : (k : MessageKind) → told_here o m id t (sort_of k) ≡ Some ps → Hears Here id t ps = λ k f. grind (arith, nat_tests) in own t.kind e
+
+process_hears : (o : Point) (m : ℕ) (id : MsgId) (t : Told) (k : Known) (ps : List Part) → process_told o m id t k ≡ Some ps → Hears k id t ps
+process_hears o m id t Here ps e = own_hears o m id t (pid_eq t.receiver switchboard) (pid_eq t.receiver manager) ps e
+process_hears o m id t k ps e = let away : (l : Known) → by_known o id t.kind manager None (told_ended id (sort_of t.kind)) l ≡ Some ps → Hears l id t ps = λ l f. grind (arith, nat_tests, forwards_mild) in away k e
+
+hears_by : (b : Boot) (o pt : Point) (m : ℕ) (i : MsgId) (is : List MsgId) (t : Told) (c : Bool) (ps : List Part) (w : Spelled) → Turning o pt m → (t.receiver.num == 0) ≡ c → pt.view.inbox pt.view.acting ≡ i ∷ is → pt.view.told i ≡ Some t
+    → (if c then rule.kernel_hears b o m i t.kind t.about else process_told o m i t (o.view.known m t.receiver)) ≡ Some ps → spelled pt ps ≡ Some w → MarkedBy pt w ps
+hears_by b o pt m i is t true ps w h c front told e n = kernel_marked b o pt m i is t t.about ps w h front told refl e n
+hears_by b o pt m i is t false ps w h c front told e n = search (process_marked, plain_by, process_hears)
 
 hears_marked : (b : Boot) (o pt : Point) (m : ℕ) (i : MsgId) (is : List MsgId) (q : Option Told) (ps : List Part) (w : Spelled) → Turning o pt m → pt.view.inbox pt.view.acting ≡ i ∷ is → pt.view.told i ≡ q → rule.hears b o m i q ≡ Some ps → spelled pt ps ≡ Some w → MarkedBy pt w ps
 hears_marked b o pt m i is None ps w h front told e n = cc
-hears_marked b o pt m i is (Some t) ps w h front told e n = hears_by b o pt m i is t (t.receiver.num == 0) (pid_eq t.receiver switchboard) (pid_eq t.receiver manager) ps w h refl front told e n
+hears_marked b o pt m i is (Some t) ps w h front told e n = hears_by b o pt m i is t (t.receiver.num == 0) ps w h refl front told e n
 
 -- a turn
 front_tame : (pt : Point) (i : MsgId) (is : List MsgId) (msg : PlainMessage) → Sane pt → State None pt → pt.view.inbox pt.view.acting ≡ i ∷ is → pt.kernel.bag i ≡ Some msg → Tame pt.view i

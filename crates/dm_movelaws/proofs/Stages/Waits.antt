@@ -1,9 +1,9 @@
 -- A process that is on its way to a machine is so behind a group that says no mark of it.
-use Rattle.dm_movelaws.proofs.Names.{◌≡◌, ◌≢◌, ℕ, false, List, [], ◌∷◌, ◌++◌, refl, ap, ◌∙◌, sym, subst, inl, inr, Option, None, Some, cases_Bool, false≢true, Pid, pid_eq, pid_eq-is, pid_eq-swap, MsgId, MessageKind, Boot}
-use Rattle.dm_movelaws.proofs.Names.{Label, OneKernel, Step, Line, Stage, View, Told, Known, Here, Frozen, Incoming, at_record, record_off, receiver_of, handled, after_head, view_after, served_told, sets, aim, Point, label_of, kernel_after}
-use Rattle.dm_movelaws.proofs.Names.{Part, Says, Spelled, spelled, Steps, group_of, Sane, part_sane, AllSayable, outcome_sayable, begun, begun_sane, gone_in, not_true, nat_tests, arith, Phase, Moves, knows, is_due}
-use Rattle.dm_movelaws.proofs.Names.{IsIn, Spares, FirstApart, apart_first, Rooted, nowhere_known, moves_away, moves_known, by_parts, PacketsKeep, Mark, Reached, mark_for, with_mark, marks, queued_known, held_known}
-use Rattle.dm_movelaws.proofs.Names.{forwarded_known, proto_known, if◌then◌else◌, Sort, sort_of, ◌+◌, ◌==◌, Staying, step_number, Calling, SparesPart, ApartOf, outcome_apart}
+use Rattle.dm_movelaws.proofs.Names.{◌≡◌, ◌≢◌, ℕ, false, List, [], ◌∷◌, ◌++◌, refl, ap, ◌∙◌, sym, subst, inl, inr, Option, None, Some, cases_Bool, false≢true, Pid, pid_eq, pid_eq-is, pid_eq-swap, MsgId, MessageKind, Boot, Label, OneKernel}
+use Rattle.dm_movelaws.proofs.Names.{Step, Line, Stage, View, Told, Known, Here, Frozen, Incoming, at_record, record_off, receiver_of, handled, after_head, view_after, served_told, sets, aim, Point, label_of, kernel_after, Part, Says}
+use Rattle.dm_movelaws.proofs.Names.{Spelled, spelled, Steps, group_of, Sane, part_sane, AllSayable, outcome_sayable, begun, begun_sane, gone_in, not_true, nat_tests, arith, Phase, Moves, knows, is_due, IsIn, Spares, FirstApart}
+use Rattle.dm_movelaws.proofs.Names.{apart_first, Rooted, nowhere_known, moves_away, moves_known, by_parts, PacketsKeep, Mark, Reached, mark_for, with_mark, marks, queued_known, held_known, forwarded_known, proto_known, if◌then◌else◌, Sort}
+use Rattle.dm_movelaws.proofs.Names.{sort_of, ◌+◌, ◌==◌, Staying, step_number, Calling, SparesPart, ApartOf, outcome_apart}
 use Rattle.dm_rule.specs.View as view
 use Rattle.dm_rule.specs.Rule as rule
 use Rattle.dm_onekernel.specs.Step as kernel

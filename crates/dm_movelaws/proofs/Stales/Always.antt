@@ -1,7 +1,6 @@
 -- Of each migration that was called off one piece comes too late, once all is at rest, and never more.
-use Rattle.dm_movelaws.proofs.Names.{◌≡◌, ℕ, ◌+◌, ◌≤◌, ◌&&◌, Bool, true, false, List, [], ◌∷◌, length, refl, ap, ◌∙◌, sym, subst, arith, nat_tests, if◌then◌else◌, None, Some, Pid, MsgId, MessageKind, Boot, IsValid, Step}
-use Rattle.dm_movelaws.proofs.Names.{Line, View, Point, first_point, IsQuiet, LeadsBy, Both, both_start, both_group, run_start, run_group, Phase, Moves, is_due, IsIn, told_between}
-use Rattle.dm_movelaws.proofs.Names.{times, count, marks, false≢true, pid_eq-same, StalesAlways, stales, is_about}
+use Rattle.dm_movelaws.proofs.Names.{◌≡◌, ℕ, ◌+◌, ◌≤◌, ◌&&◌, Bool, true, false, List, [], ◌∷◌, length, refl, ap, ◌∙◌, sym, subst, arith, nat_tests, if◌then◌else◌, None, Some, Pid, MsgId, MessageKind, Boot, IsValid, Step, Line, View, Point}
+use Rattle.dm_movelaws.proofs.Names.{first_point, IsQuiet, LeadsBy, Both, both_start, both_group, run_start, run_group, Phase, Moves, is_due, IsIn, told_between, times, count, marks, false≢true, pid_eq-same, StalesAlways, stales, is_about}
 use Rattle.dm_movelaws.proofs.Stages.Spares.{is_piece, mark_in, mark_of, open_after}
 use Rattle.dm_movelaws.proofs.Stages.Always.{marked_always, not_due}
 use Rattle.dm_movelaws.proofs.Ends.Parts.{Extends, count-append}

@@ -1,8 +1,8 @@
 -- What each group does with the messages that ask for a piece of a process or bring one.
-use Rattle.dm_movelaws.proofs.Names.{◌≡◌, ℕ, ◌+◌, List, [], ◌∷◌, length, refl, ap, ◌∙◌, sym, subst, arith, nat_tests, Option, Some, Pid, MsgId, MessageKind, plain_kind, Boot, Step, Line, Label, Stage, View}
-use Rattle.dm_movelaws.proofs.Names.{Told, NothingElse, Target, after_head, Point, Part, Says, Spelled, spelled, to_kernel, leaves_for, migrates, group_of, group_is, IsNet, net_parts, head_calm}
-use Rattle.dm_movelaws.proofs.Names.{PairsFit, Phased, Sane, KnownStands, begins, begun, begun_sane, turned, Loose, loose_round, loose_handles, by_migrates, by_outcome, Tame, plain_in_bag, part_sane, said_by, move_target}
-use Rattle.dm_movelaws.proofs.Names.{option_map_or, asked_off, PlainMessage, PlainWhat, count, fits, forwards_on, stales, by_calls_off}
+use Rattle.dm_movelaws.proofs.Names.{◌≡◌, ℕ, ◌+◌, List, [], ◌∷◌, length, refl, ap, ◌∙◌, sym, subst, arith, nat_tests, Option, Some, Pid, MsgId, MessageKind, plain_kind, Boot, Step, Line, Label, Stage, View, Told, NothingElse, Target}
+use Rattle.dm_movelaws.proofs.Names.{after_head, Point, Part, Says, Spelled, spelled, to_kernel, leaves_for, migrates, group_of, group_is, IsNet, net_parts, head_calm, PairsFit, Phased, Sane, KnownStands, begins, begun, begun_sane, turned}
+use Rattle.dm_movelaws.proofs.Names.{Loose, loose_round, loose_handles, by_migrates, by_outcome, Tame, plain_in_bag, part_sane, said_by, move_target, option_map_or, asked_off, PlainMessage, PlainWhat, count, fits, forwards_on, stales}
+use Rattle.dm_movelaws.proofs.Names.{by_calls_off}
 use Rattle.dm_rule.specs.Rule as rule
 use Rattle.dm_movelaws.proofs.Leading.{next_of, part_leads}
 use Rattle.dm_movelaws.proofs.Ends.Parts.{Smooth, Extends, smooth_same, smooth_trans, moves_none}

@@ -1,10 +1,9 @@
 -- A turn that handles a kernel's own message: what it does with the pieces that stand.
 use Rattle.dm_movelaws.proofs.Names.{◌≡◌, ℕ, ◌+◌, ◌/◌, ◌==◌, ◌&&◌, Bool, true, false, List, [], ◌∷◌, ◌++◌, length, refl, ap, ◌∙◌, sym, subst, arith, nat_tests, ⊤, if◌then◌else◌, not, Option, None, Some, bind, left_true, Pid, pid_eq, MsgId}
-use Rattle.dm_movelaws.proofs.Names.{MessageKind, Boot, Line, Stage, View, Told, About, Of, Known, Unknown, Here, Frozen, Forward, Ended, view_after, handled_first, target_of, Point, moved, Part, Says, Spelled, spelled}
-use Rattle.dm_movelaws.proofs.Names.{to_kernel, sends_on, accepts, takes_chunk, takes_block, tells_asker, leaves, told_step, told_here, told_ended, told_server, process_told, kernel_hears, manager, is_between, sort_of, Spot}
-use Rattle.dm_movelaws.proofs.Names.{ids_at, times, PairsFit, Sane, sane_line, Tame, MoveNote, Outcome, PlainProcess, chunks_of, pieces_of, accepted_off, state_off, memory_off, lacks_off, proto_off, restarted_off, frozen_off, first_off}
-use Rattle.dm_movelaws.proofs.Names.{rejoins, is_put, touches, line_next, turned, handled, label_of, by_forwards, Addresses, updates, leaves_for, hears, switchboard, plain_by, forwards_on, is_stale, is_waited_from, brings_piece, stales}
-use Rattle.dm_movelaws.proofs.Names.{called_parts}
+use Rattle.dm_movelaws.proofs.Names.{MessageKind, Boot, Line, Stage, View, Told, About, Of, Known, Unknown, Here, Frozen, Forward, Ended, view_after, handled_first, target_of, Point, moved, Part, Says, Spelled, spelled, to_kernel, sends_on}
+use Rattle.dm_movelaws.proofs.Names.{accepts, takes_chunk, takes_block, tells_asker, leaves, told_step, told_here, told_ended, told_server, process_told, kernel_hears, manager, is_between, sort_of, Spot, ids_at, times, PairsFit, Sane}
+use Rattle.dm_movelaws.proofs.Names.{sane_line, Tame, MoveNote, Outcome, PlainProcess, chunks_of, pieces_of, accepted_off, state_off, memory_off, lacks_off, proto_off, restarted_off, frozen_off, first_off, rejoins, is_put, touches}
+use Rattle.dm_movelaws.proofs.Names.{line_next, turned, handled, label_of, by_forwards, Addresses, updates, leaves_for, hears, switchboard, plain_by, forwards_on, is_stale, is_waited_from, brings_piece, stales, called_parts}
 use Rattle.dm_rule.specs.Rule as rule
 use Rattle.dm_rule.specs.View as view
 use Rattle.dm_onekernel.specs.Step as kernel
@@ -157,18 +156,24 @@ server_flows : (p : Pid) (o pt : Point) (i : MsgId) (t : Told) (k : MessageKind)
 server_flows p o pt i t MessageKind.Update sane fits tame = one_flows p pt (updates o i t) sane fits (tame, tt)
 server_flows p o pt i t _ sane fits tame = tt
 
+own_flows : (p : Pid) (o : Point) (m : ℕ) (i : MsgId) (is : List MsgId) (t : Told) (d g : Bool) → Turn (turned o m) i is t → Tame (turned o m).view i → is_piece t.kind ≡ false
+    → FlowsOf p (turned o m) (if d then told_server o i t (sort_of t.kind) else if g then told_server o i t (sort_of t.kind) else told_here o m i t (sort_of t.kind))
+own_flows p o m i is t true g h tame plain = server_flows p o (turned o m) i t t.kind h.sane h.fits tame
+own_flows p o m i is t false true h tame plain = server_flows p o (turned o m) i t t.kind h.sane h.fits tame
+own_flows p o m i is t false false h tame plain = here_flows p o m i is t t.kind h tame plain
+
 process_flows : (p : Pid) (o : Point) (m : ℕ) (i : MsgId) (is : List MsgId) (t : Told) (k : Known) → Turn (turned o m) i is t → Tame (turned o m).view i → is_piece t.kind ≡ false → FlowsOf p (turned o m) (process_told o m i t k)
 process_flows p o m i is t Unknown h tame plain = tt
-process_flows p o m i is t Here h tame plain = here_flows p o m i is t t.kind h tame plain
+process_flows p o m i is t Here h tame plain = own_flows p o m i is t (pid_eq t.receiver switchboard) (pid_eq t.receiver manager) h tame plain
 process_flows p o m i is t (Forward at moves) h tame plain = one_flows p (turned o m) (forwards_on o.addresses i t.kind manager at) h.sane h.fits (forwards_slight (turned o m).view o.addresses i t.kind manager at tame)
 process_flows p o m i is t Ended h tame plain = over_flows p (turned o m) i t.kind h.sane h.fits tame
 process_flows p o m i is t _ h tame plain = one_flows p (turned o m) (Says (Line.Held i) ∷ []) h.sane h.fits (tame, tt)
 
 -- by the receiver
-by_receiver : (p : Pid) (b : Boot) (o : Point) (m : ℕ) (i : MsgId) (is : List MsgId) (t : Told) (c d g : Bool) → Turn (turned o m) i is t → (t.receiver.num == 0) ≡ c
-    → FlowsOf p (turned o m) (if c then kernel_hears b o m i t.kind t.about else if d then told_server o i t (sort_of t.kind) else if g then told_server o i t (sort_of t.kind) else process_told o m i t (o.view.known m t.receiver))
-by_receiver p b o m i is t true d g h c = kernel_flows p b o m i is t t.about h refl
-by_receiver p b o m i is t false d g h c = by_servers d g
+by_receiver : (p : Pid) (b : Boot) (o : Point) (m : ℕ) (i : MsgId) (is : List MsgId) (t : Told) (c : Bool) → Turn (turned o m) i is t → (t.receiver.num == 0) ≡ c
+    → FlowsOf p (turned o m) (if c then kernel_hears b o m i t.kind t.about else process_told o m i t (o.view.known m t.receiver))
+by_receiver p b o m i is t true h c = kernel_flows p b o m i is t t.about h refl
+by_receiver p b o m i is t false h c = process_flows p o m i is t (o.view.known m t.receiver) h tame (plain_piece t.kind plain)
   where
     plain : is_between t.kind ≡ false
     plain = plain_by (turned o m) i is t h.phases (is_between t.kind) refl h.front h.told c
@@ -176,10 +181,5 @@ by_receiver p b o m i is t false d g h c = by_servers d g
     tame : Tame (turned o m).view i
     tame = record { what = t; told = h.told; plain = plain }
 
-    by_servers : (d g : Bool) → FlowsOf p (turned o m) (if d then told_server o i t (sort_of t.kind) else if g then told_server o i t (sort_of t.kind) else process_told o m i t (o.view.known m t.receiver))
-    by_servers true g = server_flows p o (turned o m) i t t.kind h.sane h.fits tame
-    by_servers false true = server_flows p o (turned o m) i t t.kind h.sane h.fits tame
-    by_servers false false = process_flows p o m i is t (o.view.known m t.receiver) h tame (plain_piece t.kind plain)
-
 pub hears_flows : (p : Pid) (b : Boot) (o : Point) (m : ℕ) (i : MsgId) (is : List MsgId) (t : Told) → Turn (turned o m) i is t → FlowsOf p (turned o m) (hears b o m i (Some t))
-hears_flows p b o m i is t h = by_receiver p b o m i is t (t.receiver.num == 0) (pid_eq t.receiver switchboard) (pid_eq t.receiver manager) h refl
+hears_flows p b o m i is t h = by_receiver p b o m i is t (t.receiver.num == 0) h refl

@@ -1,8 +1,7 @@
 -- Messages that ask for a piece of a process or bring one: what is no step of a migration leaves those that stand.
-use Rattle.dm_movelaws.proofs.Names.{◌≡◌, ℕ, ◌&&◌, Bool, true, false, List, [], ◌∷◌, refl, ap, ◌∙◌, sym, inl, inr, arith, nat_tests, ⊤, Option, None, Some, left_true, Pid, MsgId, MessageKind, plain_kind, Line, Stage, View, Told}
-use Rattle.dm_movelaws.proofs.Names.{own_id, view_after, after_put, Point, label_of, kernel_after, moved, OneKernel, Part, Says, Routes, Again, Owns, Transmits, Spelled, spelled, is_between, PairsFit, PacketsKeep}
-use Rattle.dm_movelaws.proofs.Names.{fits_put, fits_packet, Calm, Tame, Sane, Sayable, AllSayable, line_calm, plain_in_bag, left_off, touches, Receiver, is_about, stales, put_calm}
-use Rattle.dm_movelaws.proofs.Names.{tame_kind, plain_not}
+use Rattle.dm_movelaws.proofs.Names.{◌≡◌, ℕ, ◌&&◌, Bool, true, false, List, [], ◌∷◌, refl, ap, ◌∙◌, sym, inl, inr, arith, nat_tests, ⊤, Option, None, Some, left_true, Pid, MsgId, MessageKind, plain_kind, Line, Stage, View, Told, own_id}
+use Rattle.dm_movelaws.proofs.Names.{view_after, after_put, Point, label_of, kernel_after, moved, OneKernel, Part, Says, Routes, Again, Owns, Transmits, Spelled, spelled, is_between, PairsFit, PacketsKeep, fits_put, fits_packet, Calm, Tame}
+use Rattle.dm_movelaws.proofs.Names.{Sane, Sayable, AllSayable, line_calm, plain_in_bag, left_off, touches, Receiver, is_about, stales, put_calm, tame_kind, plain_not}
 use Rattle.dm_movelaws.proofs.Leading.{All, Behind, sane_lead, line_fits}
 use Rattle.dm_movelaws.proofs.Stages.Spares.{is_piece}
 use Rattle.dm_movelaws.proofs.Ends.Parts.{Smooth, SparesBag, Plain, label_smooth, moves_none, smooth_trans, smooth_about, put_smooth, packet_smooth, own_untold, part_count, none_count}

@@ -1,10 +1,7 @@
 -- What each row of the rule does with the messages that ask for a piece of a process or bring one.
-use Rattle.dm_movelaws.proofs.Names.{◌≡◌, ℕ, ◌+◌, ◌&&◌, Bool, true, false, List, [], ◌∷◌, length, refl, ap, ◌∙◌, sym, subst, arith, nat_tests, Option, None, Some, Pid, pid_of, pid_eq}
-use Rattle.dm_movelaws.proofs.Names.{MsgId, MessageKind, Line, View, Told, About, Of, own_id, after_put, view_after, handled_first, Point, label_of, moved, Part}
-use Rattle.dm_movelaws.proofs.Names.{Says, Owns, Spelled, spelled, to_kernel, Spot, ids_at, sort_of, PairsFit, PacketsKeep}
-use Rattle.dm_movelaws.proofs.Names.{Sane, first_off}
-use Rattle.dm_movelaws.proofs.Names.{is_put, touches, line_next, seen_none, said, option_map_or, brings_piece, is_about}
-use Rattle.dm_movelaws.proofs.Names.{stales}
+use Rattle.dm_movelaws.proofs.Names.{◌≡◌, ℕ, ◌+◌, ◌&&◌, Bool, true, false, List, [], ◌∷◌, length, refl, ap, ◌∙◌, sym, subst, arith, nat_tests, Option, None, Some, Pid, pid_of, pid_eq, MsgId, MessageKind, Line, View, Told, About, Of, own_id}
+use Rattle.dm_movelaws.proofs.Names.{after_put, view_after, handled_first, Point, label_of, moved, Part, Says, Owns, Spelled, spelled, to_kernel, Spot, ids_at, sort_of, PairsFit, PacketsKeep, Sane, first_off, is_put, touches, line_next}
+use Rattle.dm_movelaws.proofs.Names.{seen_none, said, option_map_or, brings_piece, is_about, stales}
 use Rattle.dm_movelaws.proofs.Leading.{next_of, part_leads, line_fits}
 use Rattle.dm_movelaws.proofs.Stages.Spares.{is_piece}
 use Rattle.dm_movelaws.proofs.Stages.Rows.{line_sane}

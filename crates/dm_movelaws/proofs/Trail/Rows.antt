@@ -1,13 +1,12 @@
 -- What a turn says of a kernel's own message fits the trails.
 use Rattle.dm_movelaws.proofs.Names.{◌≡◌, ℕ, ◌+◌, Bool, true, false, List, [], ◌∷◌, refl, ap, ◌∙◌, sym, subst, arith, ◌||◌, if◌then◌else◌, slice_get, Option, None, Some, Pid, pid_of, MsgId, MessageKind, Label, Line, plain_kind, proto_known}
-use Rattle.dm_movelaws.proofs.Names.{PlainMessage, Boot, first_number, View, Told, Unknown, Here, Forward, Ended, handled, ends_by, served_told, view_after, Receiver, Point, moved, Part, Says, Routes, Nowhere, forwards_on, Trails, Trail}
-use Rattle.dm_movelaws.proofs.Names.{ReceivedAt, ended_on, is_fixed, Unborn, said_by, Stops, by_round, by_handles, StoodOnTrail, nat_tests, ◌≤◌, inl, inr, PutFits, manager, Step, Of, is_kernels, own_id, after_head, front_of, Child, Sender}
-use Rattle.dm_movelaws.proofs.Names.{to_of, sender_of, Spelled, IsIn, is_between, group_of, Inbox, Queue, Held, times, standing, both_lists, both_times, front_kernels, Phased, outcome_sayable, Named, Links, child_is, parts, migrate_to}
-use Rattle.dm_movelaws.proofs.Names.{migrate_from, Treads, line_treads, KnownStands, Begins, begins, begun, begun_sane, turned, unborn, FoundBy, KnowsAt, moves_back, own_outside, own_fresh, told_there, about_same, stands_first, queued_for}
-use Rattle.dm_movelaws.proofs.Names.{told_for, either, fixed_home, by_migrates, migrates, by_outcome, by_group, answers_move, leaves_for, Outcome, asked_noted, ◌++◌, false≢true, Stage, pid_eq-same, Frozen, Incoming, to_kernel, Moves}
-use Rattle.dm_movelaws.proofs.Names.{receiver_in, sender_in, Sane, source_holds, destination_expects, by_hears, place_told, behind_count, left_parts, MoveNote, OneKernel, Known, label_of, kernel_after, at_record, at_record_at, Said, aim}
-use Rattle.dm_movelaws.proofs.Names.{sets, sort_of, is_restart, kind_leaves, eq_is, eq_self, tells_onward, called_parts, by_calls_off, coming_is, holds_on, two_apart, calm_phases, head_calm, knows, InPhases, sends_on, again_rides, ◌==◌}
-use Rattle.dm_movelaws.proofs.Names.{length}
+use Rattle.dm_movelaws.proofs.Names.{PlainMessage, Boot, first_number, View, Told, Unknown, Here, Forward, Ended, handled, ends_by, served_told, view_after, Receiver, Point, moved, Part, Says, Routes, Nowhere, forwards_on, Trails, Trail, ReceivedAt}
+use Rattle.dm_movelaws.proofs.Names.{ended_on, is_fixed, Unborn, said_by, Stops, by_round, by_handles, StoodOnTrail, nat_tests, ◌≤◌, inl, inr, PutFits, manager, Step, Of, is_kernels, own_id, after_head, front_of, Child, Sender, to_of, sender_of, Spelled}
+use Rattle.dm_movelaws.proofs.Names.{IsIn, is_between, group_of, Inbox, Queue, Held, times, standing, both_lists, both_times, front_kernels, Phased, outcome_sayable, Named, Links, child_is, parts, migrate_to, migrate_from, Treads, line_treads, KnownStands}
+use Rattle.dm_movelaws.proofs.Names.{Begins, begins, begun, begun_sane, turned, unborn, FoundBy, KnowsAt, moves_back, own_outside, own_fresh, told_there, about_same, stands_first, queued_for, told_for, either, fixed_home, by_migrates, migrates, by_outcome}
+use Rattle.dm_movelaws.proofs.Names.{by_group, answers_move, leaves_for, Outcome, asked_noted, ◌++◌, false≢true, Stage, pid_eq-same, Frozen, Incoming, to_kernel, Moves, receiver_in, sender_in, Sane, source_holds, destination_expects, by_hears, place_told}
+use Rattle.dm_movelaws.proofs.Names.{behind_count, left_parts, MoveNote, OneKernel, Known, label_of, kernel_after, at_record, at_record_at, Said, aim, sets, sort_of, is_restart, kind_leaves, eq_is, eq_self, tells_onward, called_parts, by_calls_off}
+use Rattle.dm_movelaws.proofs.Names.{coming_is, holds_on, two_apart, calm_phases, head_calm, knows, InPhases, sends_on, again_rides, ◌==◌, length, is_server}
 use Rattle.dm_onekernel.specs.Pieces as pieces
 use Rattle.dm_rule.specs.Rule as rule
 use Rattle.dm_rule.proofs.Hearing as hearing
@@ -269,9 +268,9 @@ asks_walks pt t id k ps f here rest = λ sane on. (
 pub handles_walks : (pt : Point) (b : Boot) (o : Point) (t : Trails) (m : ℕ) (id : MsgId) (k : PlainMessage) (ps : List Part) → Front pt t id k → Unborn pt.view (pid_of m (first_number + o.kernel.made m)) → pt.view.known pt.view.acting k.to ≡ o.view.known m k.to
     → ((to c : ℕ) → o.view.known m k.to ≡ Forward to c → Walks pt t (forwards_on o.addresses id (plain_kind k.what) k.sender to)) → rule.handles b o m id k ≡ Some ps → Walks pt t ps
 handles_walks pt b o t m id k ps f born known forwards = by_handles (Walks pt t) b o m id k ps (record {
-  created = λ fixed. creates_walks pt o t m id k (record { slots = 0; blocks = 0 }) true f fixed born;
-  no_space = λ fixed slots blocks. creates_walks pt o t m id k (record { slots = slots; blocks = blocks }) false f fixed born;
-  took = λ fixed sent. label_walks pt t (Label.Took id) (rule.routes sent) (λ on. (received pt t id k f fixed, tt, places_same pt.view (handled pt.view id) t (λ m q. refl) (λ q. refl) f.places)) (grind (arith, nat_tests, routes_loose));
+  created = λ kernel_. creates_walks pt o t m id k (record { slots = 0; blocks = 0 }) true f (ap (λ (c : Bool). c || is_server k.to) kernel_) born;
+  no_space = λ kernel_ slots blocks. creates_walks pt o t m id k (record { slots = slots; blocks = blocks }) false f (ap (λ (c : Bool). c || is_server k.to) kernel_) born;
+  took = λ to sent. label_walks pt t (Label.Took id) (rule.routes sent) (λ on. (received pt t id k f (ap (λ (c : Bool). c || is_server k.to) to.kernel ∙ to.process), tt, places_same pt.view (handled pt.view id) t (λ m q. refl) (λ q. refl) f.places)) (grind (arith, nat_tests, routes_loose));
   queued = λ to user. loose_walks (Says (Line.Queued id) ∷ []) pt t (queued_loose id, tt) f.places;
   served = λ to mild. served_walks pt t id k [] f (known ∙ to.known) tt;
   answers = λ to mild i. served_walks pt t id k (Routes i ∷ []) f (known ∙ to.known) (routes_loose i, tt);

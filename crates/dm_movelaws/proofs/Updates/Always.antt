@@ -4,7 +4,7 @@ use Rattle.dm_movelaws.proofs.Names.{MsgId, Boot, switchboard, manager, OneKerne
 use Rattle.dm_movelaws.proofs.Names.{answers_in, slot_holders, Spelled, Point, View, Told, About, Ended, after_head, is_server, KnownStands, Updated, UpdatesAlways, front_own, Both, is_place, own_sort, run_always, pid_there, second, zero}
 use Rattle.dm_movelaws.proofs.Names.{suc, ◌+◌, List, ◌∷◌, length, slice_get, slice_get_cases, PlainLink, link_at, NamedLink, Pending, PlainProcess, pid_eq-is, not_server, alive-is, Slot, Owner, Child, Name, Answer, holder_eq, link_target}
 use Rattle.dm_movelaws.proofs.Names.{ascends, listings, is_owner, group_is, ◌||◌, MessageKind, plain_kind, Line, Part, Says, lines_of, spelled, moved, GroupIs, by_parts, sends_on, by_migrates, by_hears, option_and_then, option_map_or}
-use Rattle.dm_movelaws.proofs.Names.{by_net, by_outcome, ⊤, PlainMessage, forwards_on, Loose, loose_round, loose_handles, by_forwards, by_calls_off, to_kernel}
+use Rattle.dm_movelaws.proofs.Names.{by_net, by_outcome, ⊤, PlainMessage, forwards_on, Loose, loose_round, loose_handles, by_forwards, by_calls_off, to_kernel, false_from_ne_true, Known}
 use Rattle.dm_laws.proofs.Entered.{Made}
 use Rattle.dm_movelaws.proofs.Leading.{lines_are}
 use Rattle.dm_onekernel.specs.Step as kernel
@@ -18,7 +18,7 @@ pub record Handles (o : Point) (m : ℕ) (id : MsgId) (n : ℕ) : Type 0 where
   pub told : Told
   pub is : o.view.told id ≡ Some told
   pub update : told.kind ≡ MessageKind.Update
-  pub counts : (n ≡ behind_count o.kernel o.addresses told.receiver (place_told told.about)) ⊎ ((n ≡ 0) × (is_server told.receiver ≡ false) × (o.view.known m told.receiver ≡ Ended))
+  pub counts : (n ≡ behind_count o.kernel o.addresses told.receiver (place_told told.about)) ⊎ ((n ≡ 0) × (o.view.known m told.receiver ≡ Ended))
   pub rest : List MsgId
   pub box : o.view.inbox m ≡ id ∷ rest
   pub none : o.kernel.bag id ≡ None
@@ -71,7 +71,7 @@ hears_shape b o m id is q ps told box none = by_hears (Shape o) b o m id q ps (�
       stale = λ p about late. Quiet (refl, tt);
       told = λ p x about alive due. grind (arith, nat_tests, sends_quiet);
       updated = λ kind. Updates m id (behind_count o.kernel o.addresses t.receiver (place_told t.about)) refl (record { told = t; is = f.is; update = kind; counts = inl refl; rest = f.rest; box = f.box; none = f.none });
-      updated_none = λ kind at_. Updates m id 0 refl (record { told = t; is = f.is; update = kind; counts = inr (refl, at_.server, at_.known); rest = f.rest; box = f.box; none = f.none });
+      updated_none = λ kind at_. Updates m id 0 refl (record { told = t; is = f.is; update = kind; counts = inr (refl, at_.known); rest = f.rest; box = f.box; none = f.none });
       no_move = λ at_. Quiet (refl, tt);
       leaving = λ to at_. Quiet (refl, tt);
       coming = λ from at_. Quiet (refl, tt);
@@ -273,6 +273,11 @@ record Kept (v w : View) : Type 0 where
 behind_is : (s : OneKernel) (a : Addresses) (q p : Pid) (c : ℕ) (h : Holder) (x : Bool) → belongs_to q h ≡ true → leads_to s h ≡ Some p → nat_lt (a h).moves c ≡ x → is_behind s a q p c h ≡ x
 behind_is s a q p c h x mine leads e = grind (arith, nat_tests)
 
+-- no server ends
+ended_loose : (s : OneKernel) (v : View) (m : ℕ) (q : Pid) → KnownStands s v → v.known m q ≡ Ended → is_server q ≡ false
+ended_loose s v m q known over =
+    false_from_ne_true (is_server q) (λ server. (elim (m == 0) as (λ c. (if c then Known.Here else Known.Unknown) ≡ Ended → ⊥) [ true ↦ λ e. cc | false ↦ λ e. cc ]) (sym (known.server m q server) ∙ over))
+
 updated_by : (b : Boot) (pt : Point) (d : Step) (w : Spelled) (id : MsgId) (n : ℕ) → Both b pt → Handled b pt d w id n → Updated pt w.point id n
 updated_by b pt d w id n both h =
     -- the head changes nothing that it reads
@@ -322,7 +327,7 @@ updated_by b pt d w id n both h =
             absurd (omega (arith, f, less))
         | inr e ↦ stay g e
       ];
-      count = count_is s pt.view a t x.process x.place h.machine n x.is both.run.based.known u.counts;
+      count = count_is s pt.view a t x.process x.place h.machine n x.is both.run.based.known (elim u.counts [ inl e ↦ inl e | inr over ↦ inr (over.0, ended_loose s pt.view h.machine t.receiver both.run.based.known over.1, over.1) ]);
       listed = λ g q mine other leads. listed s t.receiver g q both.run.based.phased.sane.sound.made both.run.based.pending mine other leads;
       kernel = sym (ap (λ (q : Point). q.kernel) h.point);
       known = sym (ap (λ (q : Point). q.view.known) h.point) ∙ (head_kept pt.view d).known;

@@ -1,13 +1,14 @@
 -- Behind each group there is a kernel with places, where there was one before.
 use Rattle.dm_places.proofs.Names.{◌≡◌, ℕ, ◌+◌, ◌==◌, ◌||◌, Bool, true, List, [], ◌∷◌, length, refl, ◌∙◌, subst, is_some, arith, ⊤, if◌then◌else◌, slice_get, Option, None, Some, nat_tests, pid_eq, pid_of, MsgId, Label, Line, PlainMessage}
 use Rattle.dm_places.proofs.Names.{PlainWhat, Boot, first_number, manager, switchboard, Life, OneKernel, bind, Step, bind-is, View, after_head, Part, Routes, Spelled, spelled, Point, after_line, moved, group_of, behind, outcome, Placed}
-use Rattle.dm_places.proofs.Names.{GroupNeeds, MirrorsPoint, or_second}
-use Rattle.dm_places.proofs.EasyRows.{AsksEasily, Easy, arrives_easy, hears_easy, migrates_easy, calls_off_easy, process_easy, resends_easy, round_easy, routes_easy}
+use Rattle.dm_places.proofs.Names.{GroupNeeds, MirrorsPoint, or_second, Known, PlainProcess}
+use Rattle.dm_places.proofs.EasyRows.{AsksEasily, Easy, arrives_easy, hears_easy, migrates_easy, calls_off_easy, resends_easy, round_easy, routes_easy, away_easy, own_easy}
 use Rattle.dm_places.proofs.Any.AnyPart.{Behind, EasyParts, PartsNeed, SoundAt, parts_follow}
 use Rattle.dm_places.proofs.Lines.{lines_keep}
 use Rattle.dm_onekernel.specs.Manager as manage
 use Rattle.dm_onekernel.specs.Pieces as pieces
 use Rattle.dm_onekernel.specs.Switchboard as board
+use Rattle.dm_onekernel.specs.Step as kernel
 use Rattle.dm_rule.specs.Rule as rule
 
 -- where the first part needs something
@@ -41,26 +42,34 @@ creates_if pt v m id r c h1 h2 h3 = search (arith, not_made)
 or_first : (b c : Bool) → b ≡ true → (b || c) ≡ true
 or_first b c h1 = grind (arith, nat_tests)
 
+-- a message whose receiver is here: a server, on machine 0, or another process
+here_fit : (pt : Point) (v : View) (m : ℕ) (id : MsgId) (k : PlainMessage) → ((pid_eq k.to switchboard || pid_eq k.to manager) ≡ true → v.acting ≡ 0) → GroupNeeds pt → AsksEasily id k.what → Fits pt.kernel v (rule.handles_here pt m id k)
+here_fit pt v m id k server needs asks =
+    let s = pt.kernel in
+    let two = rule.board_took id (board.board_takes s.switchboard k k.what) in
+    let three = rule.manager_parts id (manage.manager_takes s.manager s.machines (length s.images) k k.what) in
+    let four = bind (kernel.alive (s.processes k.to)) (λ (x : PlainProcess). rule.here_handles pt m id k x k.what) in
+    if_fits s v (pid_eq k.to switchboard) two (if pid_eq k.to manager then three else four)
+    (λ e. board_fits pt v id (board.board_takes s.switchboard k k.what) (server (or_first (pid_eq k.to switchboard) (pid_eq k.to manager) e)) needs)
+    (if_fits s v (pid_eq k.to manager) three four
+    (λ e. manager_fits pt v id (manage.manager_takes s.manager s.machines (length s.images) k k.what) (server (or_second (pid_eq k.to switchboard) (pid_eq k.to manager) e)) needs)
+    (easy_fits s v four (own_easy pt m id k (kernel.alive (s.processes k.to)) asks)))
+
+known_fit : (pt : Point) (v : View) (m : ℕ) (id : MsgId) (k : PlainMessage) (w : Known) → ((pid_eq k.to switchboard || pid_eq k.to manager) ≡ true → v.acting ≡ 0) → GroupNeeds pt → AsksEasily id k.what → Fits pt.kernel v (rule.process_handles pt m id k w)
+known_fit pt v m id k Known.Here server needs asks = here_fit pt v m id k server needs asks
+known_fit pt v m id k w server needs asks = easy_fits pt.kernel v (rule.process_handles pt m id k w) (away_easy pt id k (Some []) w tt)
+
 comes_fit : (b : Boot) (pt : Point) (v : View) (m : ℕ) (id : MsgId) (o : Option PlainMessage) → v.acting ≡ m → v.moves ≡ pt.view.moves → SoundAt pt.kernel → GroupNeeds pt
     → ((x : PlainMessage) → o ≡ Some x → (pid_eq x.to switchboard || pid_eq x.to manager) ≡ true → m ≡ 0) → ((x : PlainMessage) → o ≡ Some x → AsksEasily id x.what) → Fits pt.kernel v (rule.comes_to b pt m id o)
 comes_fit b pt v m id None acting counts h needs server asks = easy_fits pt.kernel v (rule.hears b pt m id (pt.view.told id)) (hears_easy b pt m id (pt.view.told id))
 comes_fit b pt v m id (Some k) acting counts h needs server asks =
     let s = pt.kernel in
     let one = rule.kernel_handles b pt m id k.what in
-    let two = rule.board_took id (board.board_takes s.switchboard k k.what) in
-    let three = rule.manager_parts id (manage.manager_takes s.manager s.machines (length s.images) k k.what) in
-    let four = rule.process_handles pt m id k (pt.view.known m k.to) in
-    let last = if pid_eq k.to manager then three else four in
-    if_fits s v (k.to.num == 0) one (if pid_eq k.to switchboard then two else last) (λ e. elim k.what as (λ w. Fits pt.kernel v (rule.kernel_handles b pt m id w)) [
+    if_fits s v (k.to.num == 0) one (rule.process_handles pt m id k (pt.view.known m k.to)) (λ e. elim k.what as (λ w. Fits pt.kernel v (rule.kernel_handles b pt m id w)) [
       | PlainWhat.Create image links ↦ (elim (slice_get b.images image) as (λ o. Fits pt.kernel v (rule.creation_parts pt m id (rule.free_room b pt m) o))
           [ None ↦ tt | Some i ↦ creates_if pt v m id (rule.free_room b pt m) (rule.has_room (rule.free_room b pt m) i.blocks) counts h needs ])
       | _ ↦ tt
-    ])
-    (if_fits s v (pid_eq k.to switchboard) two last
-    (λ e. board_fits pt v id (board.board_takes s.switchboard k k.what) (acting ∙ server k refl (or_first (pid_eq k.to switchboard) (pid_eq k.to manager) e)) needs)
-    (if_fits s v (pid_eq k.to manager) three four
-    (λ e. manager_fits pt v id (manage.manager_takes s.manager s.machines (length s.images) k k.what) (acting ∙ server k refl (or_second (pid_eq k.to switchboard) (pid_eq k.to manager) e)) needs)
-    (easy_fits s v four (process_easy pt m id k (pt.view.known m k.to) (asks k refl)))))
+    ]) (known_fit pt v m id k (pt.view.known m k.to) (λ to. acting ∙ server k refl to) needs (asks k refl))
 
 turns_fit : (b : Boot) (pt : Point) (v : View) (m : ℕ) (is : List MsgId) → pt.view.inbox m ≡ is → v.acting ≡ m → v.moves ≡ pt.view.moves → SoundAt pt.kernel → GroupNeeds pt → Fits pt.kernel v (rule.turns b pt m is)
 turns_fit b pt v m [] inbox acting counts h needs = search (arith, easy_fits, round_easy)

@@ -1,6 +1,6 @@
 -- A migration is called off: the held list of the process is emptied, its messages go back, and the kernel of the machine that it was to leave is told.
-use Rattle.dm_rule.proofs.Names.{◌≡◌, ◌≢◌, ℕ, ◌≤◌, [], ◌∷◌, ◌++◌, refl, ap, ◌∙◌, sym, subst, arith, length, inl, inr, Option, None, Some, Pid, pid_of, MsgId, MessageKind, Line, View, view_after, at_record, Point, moved, Spelled}
-use Rattle.dm_rule.proofs.Names.{spelled, sends_on, to_kernel, Spot, Held, times, ids_at, standing, StandsAsBag, StandsNowhere}
+use Rattle.dm_rule.proofs.Names.{◌≡◌, ◌≢◌, ℕ, ◌≤◌, [], ◌∷◌, ◌++◌, refl, ap, ◌∙◌, sym, subst, arith, length, inl, inr, Option, None, Some, Pid, pid_of, MsgId, MessageKind, Line, View, view_after, at_record, Point, moved, Spelled, spelled}
+use Rattle.dm_rule.proofs.Names.{sends_on, to_kernel, Spot, Held, times, ids_at, standing, StandsAsBag, StandsNowhere}
 use Rattle.dm_rule.proofs.Standing.{spot_cases, StandsAsBag-same, StandsAsBag-one, StandsAsBag-elsewhere}
 use Rattle.dm_rule.proofs.Once.{Kept}
 use Rattle.dm_rule.proofs.Bags.{cases_zero}

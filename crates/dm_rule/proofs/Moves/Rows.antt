@@ -235,26 +235,30 @@ server_row : (o pt : Point) (i : MsgId) (is : List MsgId) (t : Told) (k : Messag
 server_row o pt i is t MessageKind.Update parts w h front mine e n = updated_row o pt i is _ parts w h front mine e n
 server_row o pt i is t _ parts w h front mine e n = cc
 
+own_row : (o pt : Point) (m : ℕ) (i : MsgId) (is : List MsgId) (t : Told) (d g : Bool) (parts : List Part) (w : Spelled) → State None pt → PairsFit pt.view → pt.view.topic ≡ NothingElse → pt.view.inbox pt.view.acting ≡ i ∷ is → is_kernels i ≡ true
+    → (if d then told_server o i t (sort_of t.kind) else if g then told_server o i t (sort_of t.kind) else told_here o m i t (sort_of t.kind)) ≡ Some parts → spelled pt parts ≡ Some w → State None w.point
+own_row o pt m i is t true g parts w h fit topic front mine e n = server_row o pt i is t t.kind parts w h front mine e n
+own_row o pt m i is t false true parts w h fit topic front mine e n = server_row o pt i is t t.kind parts w h front mine e n
+own_row o pt m i is t false false parts w h fit topic front mine e n = here_row o pt m i is t t.kind parts w h fit topic front mine e n
+
 process_row : (o pt : Point) (m : ℕ) (i : MsgId) (is : List MsgId) (t : Told) (k : Known) (parts : List Part) (w : Spelled) → State None pt → PairsFit pt.view → pt.view.topic ≡ NothingElse → pt.view.inbox pt.view.acting ≡ i ∷ is → is_kernels i ≡ true
     → process_told o m i t k ≡ Some parts → spelled pt parts ≡ Some w → State None w.point
 process_row o pt m i is t Unknown parts w h fit topic front mine e n = cc
-process_row o pt m i is t Here parts w h fit topic front mine e n = here_row o pt m i is t t.kind parts w h fit topic front mine e n
+process_row o pt m i is t Here parts w h fit topic front mine e n = own_row o pt m i is t (pid_eq t.receiver switchboard) (pid_eq t.receiver manager) parts w h fit topic front mine e n
 process_row o pt m i is t (Forward at moves) parts w h fit topic front mine e n =
     forwards_row pt o.addresses i is t.kind manager at w h fit front (given pt (forwards_on o.addresses i t.kind manager at) parts w e n)
 process_row o pt m i is t Ended parts w h fit topic front mine e n = ended_row pt i is t.kind parts w h front mine e n
 process_row o pt m i is t _ parts w h fit topic front mine e n = held_row pt i is w h front (given pt (Says (Line.Held i) ∷ []) parts w e n)
 
-hears_by : (b : Boot) (o pt : Point) (m : ℕ) (i : MsgId) (is : List MsgId) (t : Told) (c d g : Bool) (parts : List Part) (w : Spelled) → State None pt → PairsFit pt.view → pt.view.topic ≡ NothingElse → pt.view.inbox pt.view.acting ≡ i ∷ is
+hears_by : (b : Boot) (o pt : Point) (m : ℕ) (i : MsgId) (is : List MsgId) (t : Told) (c : Bool) (parts : List Part) (w : Spelled) → State None pt → PairsFit pt.view → pt.view.topic ≡ NothingElse → pt.view.inbox pt.view.acting ≡ i ∷ is
     → is_kernels i ≡ true → SeesSame o pt m
-    → (if c then kernel_hears b o m i t.kind t.about else if d then told_server o i t (sort_of t.kind) else if g then told_server o i t (sort_of t.kind) else process_told o m i t (o.view.known m t.receiver)) ≡ Some parts → spelled pt parts ≡ Some w → State None w.point
-hears_by b o pt m i is t true d g parts w h fit topic front mine sees e n = kernel_row b o pt m i is t.kind t.about parts w h fit front mine sees e n
-hears_by b o pt m i is t false true g parts w h fit topic front mine sees e n = server_row o pt i is t t.kind parts w h front mine e n
-hears_by b o pt m i is t false false true parts w h fit topic front mine sees e n = server_row o pt i is t t.kind parts w h front mine e n
-hears_by b o pt m i is t false false false parts w h fit topic front mine sees e n = process_row o pt m i is t (o.view.known m t.receiver) parts w h fit topic front mine e n
+    → (if c then kernel_hears b o m i t.kind t.about else process_told o m i t (o.view.known m t.receiver)) ≡ Some parts → spelled pt parts ≡ Some w → State None w.point
+hears_by b o pt m i is t true parts w h fit topic front mine sees e n = kernel_row b o pt m i is t.kind t.about parts w h fit front mine sees e n
+hears_by b o pt m i is t false parts w h fit topic front mine sees e n = process_row o pt m i is t (o.view.known m t.receiver) parts w h fit topic front mine e n
 
 pub hears_row : (b : Boot) (o pt : Point) (m : ℕ) (i : MsgId) (is : List MsgId) (t : Option Told) (parts : List Part) (w : Spelled) → State None pt → PairsFit pt.view → pt.view.topic ≡ NothingElse → pt.view.inbox pt.view.acting ≡ i ∷ is
     → pt.kernel.bag i ≡ None → SeesSame o pt m
     → hears b o m i t ≡ Some parts → spelled pt parts ≡ Some w → State None w.point
 hears_row b o pt m i is None parts w h fit topic front none sees e n = cc
 hears_row b o pt m i is (Some t) parts w h fit topic front none sees e n =
-    hears_by b o pt m i is t (t.receiver.num == 0) (pid_eq t.receiver switchboard) (pid_eq t.receiver manager) parts w h fit topic front (front_kernels pt i is h front none) sees e n
+    hears_by b o pt m i is t (t.receiver.num == 0) parts w h fit topic front (front_kernels pt i is h front none) sees e n

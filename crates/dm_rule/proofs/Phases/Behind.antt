@@ -1,6 +1,6 @@
 -- What one kernel tells another stands in the order in which it was put: nothing that was put before stands behind the front.
-use Rattle.dm_rule.proofs.Names.{◌≡◌, ℕ, ◌+◌, ◌≤◌, ◌<◌, ◌==◌, Bool, true, false, List, [], ◌∷◌, ◌++◌, ap, ◌∙◌, sym, subst, inl, inr, arith, if◌then◌else◌, cases_Bool, Option, Some, Pid, pid_of, pid_eq, pid_eq-same, MsgId, View}
-use Rattle.dm_rule.proofs.Names.{Told, Spot, Inbox, times, untaken, standing, is_between, id_eq, id_eq-is, false_from_ne_true, both_true, option_map_or, ordered, IsWay}
+use Rattle.dm_rule.proofs.Names.{◌≡◌, ℕ, ◌+◌, ◌≤◌, ◌<◌, ◌==◌, Bool, true, false, List, [], ◌∷◌, ◌++◌, ap, ◌∙◌, sym, subst, inl, inr, arith, if◌then◌else◌, cases_Bool, Option, Some, Pid, pid_of, pid_eq, pid_eq-same, MsgId, View, Told, Spot}
+use Rattle.dm_rule.proofs.Names.{Inbox, times, untaken, standing, is_between, id_eq, id_eq-is, false_from_ne_true, both_true, option_map_or, ordered, IsWay}
 use Rattle.dm_rule.proofs.Standing.{times-append}
 use Rattle.dm_rule.proofs.Once.{one_of}
 use Rattle.dm_rule.proofs.Ordered.{first_one, first_not}

@@ -1,8 +1,8 @@
 -- A migration is called off: what was held goes back, what is under way is left over, and the kernel of the machine that the process was to leave is told.
-use Rattle.dm_rule.proofs.Names.{◌≡◌, ◌⊎◌, ℕ, ◌≤◌, ◌==◌, ◌&&◌, Bool, true, false, not, [], ◌∷◌, ◌++◌, length, refl, ap, ◌∙◌, sym, subst, inl, inr, arith, if◌then◌else◌, Option, None, Some, false≢true, Pid}
-use Rattle.dm_rule.proofs.Names.{MsgId, MessageKind, Line, View, Told, Known, Incoming, Forward, view_after, is_kernels, Point, moved, Spelled, spelled, to_kernel, sends_on, Spot}
-use Rattle.dm_rule.proofs.Names.{Held, times, standing, is_between, is_early, is_restart, is_due, is_away, kind_leaves, kind_comes, Phase, Nowhere, Rests, Over, Moves, knows, token_in, told_between, IsIn, sort_of}
-use Rattle.dm_rule.proofs.Names.{eqb-true, left_true, right_true, not-true, and_parts, IsWay, Asks, Comes, HasCome, tells_come, is_calloff, pulls_piece, brings_piece, Inbox, Untaken, sender_in, pid_of}
+use Rattle.dm_rule.proofs.Names.{◌≡◌, ◌⊎◌, ℕ, ◌≤◌, ◌==◌, ◌&&◌, Bool, true, false, not, [], ◌∷◌, ◌++◌, length, refl, ap, ◌∙◌, sym, subst, inl, inr, arith, if◌then◌else◌, Option, None, Some, false≢true, Pid, MsgId, MessageKind, Line, View}
+use Rattle.dm_rule.proofs.Names.{Told, Known, Incoming, Forward, view_after, is_kernels, Point, moved, Spelled, spelled, to_kernel, sends_on, Spot, Held, times, standing, is_between, is_early, is_restart, is_due, is_away, kind_leaves}
+use Rattle.dm_rule.proofs.Names.{kind_comes, Phase, Nowhere, Rests, Over, Moves, knows, token_in, told_between, IsIn, sort_of, eqb-true, left_true, right_true, not-true, and_parts, IsWay, Asks, Comes, HasCome, tells_come, is_calloff}
+use Rattle.dm_rule.proofs.Names.{pulls_piece, brings_piece, Inbox, Untaken, sender_in, pid_of}
 use Rattle.dm_rule.specs.View as view
 use Rattle.dm_rule.proofs.Lines.{eq_self}
 use Rattle.dm_rule.proofs.Pairs.Lines.{pair_same}

@@ -1,7 +1,7 @@
 -- What leaves the migrations of all processes as they are.
 use Rattle.dm_rule.proofs.Names.{◌≡◌, ◌⊎◌, ℕ, ◌≤◌, ◌==◌, ◌&&◌, not, Bool, true, false, refl, ap, ◌∙◌, sym, subst, inl, inr, Option, Some, false≢true, Pid, MsgId, MessageKind, id_eq, View, Told, Spot, Queue, Held, Inbox, Untaken, standing}
-use Rattle.dm_rule.proofs.Names.{id_eq-is, is_between, is_apart, told_between, Phase, Moves, token_in, sender_in, receiver_in, HasToken, IsIn, left_true, About, times, arith, nat_tests, false_from_ne_true, IsWay, IsLeft, IsBefore}
-use Rattle.dm_rule.proofs.Names.{Asks, Comes, ComesIn, knows, Incoming, sort_of, pulls_piece, brings_piece}
+use Rattle.dm_rule.proofs.Names.{id_eq-is, is_between, is_apart, told_between, Phase, Moves, token_in, sender_in, receiver_in, HasToken, IsIn, left_true, About, times, arith, nat_tests, false_from_ne_true, IsWay, IsLeft, IsBefore, Asks}
+use Rattle.dm_rule.proofs.Names.{Comes, ComesIn, knows, Incoming, sort_of, pulls_piece, brings_piece}
 use Rattle.dm_rule.specs.View as view
 use Rattle.dm_message.specs.declared.kind.MessageKind.TheVariants as kind
 use Rattle.dm_rule.proofs.Seen.{about_off}

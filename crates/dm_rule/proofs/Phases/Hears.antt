@@ -142,10 +142,16 @@ server_row : (o pt : Point) (i : MsgId) (t : Told) (k : MessageKind) (parts : Li
 server_row o pt i t MessageKind.Update parts w h sane state tame g n = one_quiet pt (updates o i t) parts w h sane state (tame, tt) g n
 server_row o pt i t _ parts w h sane state tame g n = cc
 
+own_row : (o pt : Point) (m : ℕ) (i : MsgId) (is : List MsgId) (t : Told) (d g : Bool) (parts : List Part) (w : Spelled) (h : Whole pt) → Sane pt → State None w.point → is_between t.kind ≡ false → pt.view.inbox pt.view.acting ≡ i ∷ is → pt.view.told i ≡ Some t → is_kernels i ≡ true → SeesAll o pt m
+    → pt.view.known pt.view.acting t.receiver ≡ Here → (if d then told_server o i t (sort_of t.kind) else if g then told_server o i t (sort_of t.kind) else told_here o m i t (sort_of t.kind)) ≡ Some parts → spelled pt parts ≡ Some w → Whole w.point
+own_row o pt m i is t true g parts w h sane state plain front told mine sees here e n = server_row o pt i t t.kind parts w h sane state (tame_of pt.view i t told plain) e n
+own_row o pt m i is t false true parts w h sane state plain front told mine sees here e n = server_row o pt i t t.kind parts w h sane state (tame_of pt.view i t told plain) e n
+own_row o pt m i is t false false parts w h sane state plain front told mine sees here e n = here_row o pt m i is t t.kind parts w h sane state plain front told mine sees here e n
+
 process_row : (o pt : Point) (m : ℕ) (i : MsgId) (is : List MsgId) (t : Told) (k : Known) (parts : List Part) (w : Spelled) (h : Whole pt) → Sane pt → State None w.point → is_between t.kind ≡ false → pt.view.inbox pt.view.acting ≡ i ∷ is → pt.view.told i ≡ Some t → is_kernels i ≡ true → SeesAll o pt m
     → pt.view.known pt.view.acting t.receiver ≡ k → process_told o m i t k ≡ Some parts → spelled pt parts ≡ Some w → Whole w.point
 process_row o pt m i is t Unknown parts w h sane state plain front told mine sees here g n = cc
-process_row o pt m i is t Here parts w h sane state plain front told mine sees here g n = here_row o pt m i is t t.kind parts w h sane state plain front told mine sees here g n
+process_row o pt m i is t Here parts w h sane state plain front told mine sees here g n = own_row o pt m i is t (pid_eq t.receiver switchboard) (pid_eq t.receiver manager) parts w h sane state plain front told mine sees here g n
 process_row o pt m i is t (Forward at moves) parts w h sane state plain front told mine sees here g n =
     one_quiet pt (forwards_on o.addresses i t.kind manager at) parts w h sane state (forwards_quiet pt.view o.addresses i t.kind manager at (tame_of pt.view i t told plain)) g n
 process_row o pt m i is t Ended parts w h sane state plain front told mine sees here g n = ended_row pt i t t.kind parts w h sane state (tame_of pt.view i t told plain) g n
@@ -185,12 +191,10 @@ pub plain_by : (pt : Point) (i : MsgId) (is : List MsgId) (t : Told) (h : InPhas
 plain_by pt i is t h true e front told off = absurd (false≢true (sym off ∙ eq-eqb t.receiver.num 0 (kernel_told pt i is t h e front told)))
 plain_by pt i is t h false e front told off = refl
 
-hears_by : (b : Boot) (o pt : Point) (m : ℕ) (i : MsgId) (is : List MsgId) (t : Told) (c d g : Bool) (parts : List Part) (w : Spelled) (h : Whole pt) → Sane pt → State None w.point → (t.receiver.num == 0) ≡ c → pt.view.inbox pt.view.acting ≡ i ∷ is → pt.view.told i ≡ Some t → is_kernels i ≡ true → SeesAll o pt m → Ranked pt.view
-    → (if c then kernel_hears b o m i t.kind t.about else if d then told_server o i t (sort_of t.kind) else if g then told_server o i t (sort_of t.kind) else process_told o m i t (o.view.known m t.receiver)) ≡ Some parts → spelled pt parts ≡ Some w → Whole w.point
-hears_by b o pt m i is t true d g parts w h sane state c front told mine sees ranked e n = kernel_row b o pt m i is t t.about parts w h sane state front told mine sees ranked refl e n
-hears_by b o pt m i is t false true g parts w h sane state c front told mine sees ranked e n = server_row o pt i t t.kind parts w h sane state (tame_of pt.view i t told (plain_by pt i is t h.phases (is_between t.kind) refl front told c)) e n
-hears_by b o pt m i is t false false true parts w h sane state c front told mine sees ranked e n = server_row o pt i t t.kind parts w h sane state (tame_of pt.view i t told (plain_by pt i is t h.phases (is_between t.kind) refl front told c)) e n
-hears_by b o pt m i is t false false false parts w h sane state c front told mine sees ranked e n =
+hears_by : (b : Boot) (o pt : Point) (m : ℕ) (i : MsgId) (is : List MsgId) (t : Told) (c : Bool) (parts : List Part) (w : Spelled) (h : Whole pt) → Sane pt → State None w.point → (t.receiver.num == 0) ≡ c → pt.view.inbox pt.view.acting ≡ i ∷ is → pt.view.told i ≡ Some t → is_kernels i ≡ true → SeesAll o pt m → Ranked pt.view
+    → (if c then kernel_hears b o m i t.kind t.about else process_told o m i t (o.view.known m t.receiver)) ≡ Some parts → spelled pt parts ≡ Some w → Whole w.point
+hears_by b o pt m i is t true parts w h sane state c front told mine sees ranked e n = kernel_row b o pt m i is t t.about parts w h sane state front told mine sees ranked refl e n
+hears_by b o pt m i is t false parts w h sane state c front told mine sees ranked e n =
     process_row o pt m i is t (o.view.known m t.receiver) parts w h sane state (plain_by pt i is t h.phases (is_between t.kind) refl front told c) front told mine sees (sym (sees.known t.receiver)) e n
 
 -- a kernel's own message at the front of the inbox
@@ -198,5 +202,5 @@ pub phases_hears : (b : Boot) (o pt : Point) (m : ℕ) (i : MsgId) (is : List Ms
     → hears b o m i t ≡ Some parts → spelled pt parts ≡ Some w → Whole w.point
 phases_hears b o pt m i is None parts w h sane ranked front none told sees e n = cc
 phases_hears b o pt m i is (Some t) parts w h sane ranked front none told sees e n =
-    hears_by b o pt m i is t (t.receiver.num == 0) (pid_eq t.receiver switchboard) (pid_eq t.receiver manager) parts w h sane
+    hears_by b o pt m i is t (t.receiver.num == 0) parts w h sane
     (hears_row b o pt m i is (Some t) parts w h.state h.fits sees.topic front none sees.same e n) refl front told (front_kernels pt i is h.state front none) sees ranked e n

@@ -1,6 +1,6 @@
 -- What is left over of a migration and stands in an inbox, and is no stale piece, asks for one: the migration is being called off.
-use Rattle.dm_rule.proofs.Names.{◌≡◌, ℕ, ◌≤◌, ◌&&◌, Bool, true, false, not, refl, ap, ◌∙◌, sym, Option, false≢true, Pid, pid_of, MsgId, MessageKind, View, Told, Inbox, standing, Phase, Moves, sort_of}
-use Rattle.dm_rule.proofs.Names.{pulls_piece, brings_piece, Incoming, IsLeft, Asks, Comes, is_waited_from}
+use Rattle.dm_rule.proofs.Names.{◌≡◌, ℕ, ◌≤◌, ◌&&◌, Bool, true, false, not, refl, ap, ◌∙◌, sym, Option, false≢true, Pid, pid_of, MsgId, MessageKind, View, Told, Inbox, standing, Phase, Moves, sort_of, pulls_piece, brings_piece, Incoming}
+use Rattle.dm_rule.proofs.Names.{IsLeft, Asks, Comes, is_waited_from}
 use Rattle.dm_rule.proofs.Phases.Answers.{inbox_is, waited_is}
 
 pub record Pulled (v : View) (p : Pid) (phase : Phase) (i : MsgId) (t : Told) (m : ℕ) : Type 0 where

@@ -1,9 +1,8 @@
 -- The rows of migration that answer with the next message: a request, the pieces, and that all is taken.
-use Rattle.dm_rule.proofs.Names.{◌≡◌, ℕ, ◌==◌, ◌&&◌, Bool, true, false, not, List, [], ◌∷◌, refl, ap, ◌∙◌, sym, subst, arith, if◌then◌else◌, Option, None, Some, Pid, pid_eq, MsgId, MessageKind, Line, Stage, at_record, View, Told}
-use Rattle.dm_rule.proofs.Names.{About, NothingElse, Known, Incoming, view_after, handled, front_of, after_proto, asks_on, is_kernels, Point, Says, Spelled, spelled, to_kernel, accepts, takes_chunk, takes_block, gives_piece, Spot, ids_at}
-use Rattle.dm_rule.proofs.Names.{is_between, is_apart, is_restart, is_early, kind_comes, is_away, Phase, Moves, knows, sender_in, receiver_in, pid_eq-same, right_true, kind_leaves, and_right, not-true, ◌<◌, ◌||◌, inl, inr}
-use Rattle.dm_rule.proofs.Names.{cases_Bool, false≢true, pid_of, sort_of, standing, Inbox, Forward, Unknown, handled_first, moved, eqb-true, both_true, IsLeft, IsWay, Asks, Comes, ComesIn, HasCome, tells_come}
-use Rattle.dm_rule.proofs.Names.{is_calloff, pulls_piece, brings_piece}
+use Rattle.dm_rule.proofs.Names.{◌≡◌, ℕ, ◌==◌, ◌&&◌, Bool, true, false, not, List, [], ◌∷◌, refl, ap, ◌∙◌, sym, subst, arith, if◌then◌else◌, Option, None, Some, Pid, pid_eq, MsgId, MessageKind, Line, Stage, at_record, View, Told, About}
+use Rattle.dm_rule.proofs.Names.{NothingElse, Known, Incoming, view_after, handled, front_of, after_proto, asks_on, is_kernels, Point, Says, Spelled, spelled, to_kernel, accepts, takes_chunk, takes_block, gives_piece, Spot, ids_at}
+use Rattle.dm_rule.proofs.Names.{is_between, is_apart, is_restart, is_early, kind_comes, is_away, Phase, Moves, knows, sender_in, receiver_in, pid_eq-same, right_true, kind_leaves, and_right, not-true, ◌<◌, ◌||◌, inl, inr, cases_Bool}
+use Rattle.dm_rule.proofs.Names.{false≢true, pid_of, sort_of, standing, Inbox, Forward, Unknown, handled_first, moved, eqb-true, both_true, IsLeft, IsWay, Asks, Comes, ComesIn, HasCome, tells_come, is_calloff, pulls_piece, brings_piece}
 use Rattle.dm_rule.proofs.Moves.Lists.{first_off}
 use Rattle.dm_rule.proofs.Moves.Rows.{goes_first, goes_front, accepted_off, state_off, memory_off, lacks_off, proto_off}
 use Rattle.dm_rule.proofs.Phases.Stand.{InPhases}

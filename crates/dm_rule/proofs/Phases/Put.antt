@@ -1,8 +1,8 @@
 -- The next message about a process that moves is put.
 use Rattle.dm_rule.proofs.Names.{◌≡◌, ◌⊎◌, ℕ, ◌+◌, ◌≤◌, ◌==◌, Bool, true, false, List, [], ◌∷◌, ◌++◌, drop, refl, ap, ◌∙◌, sym, subst, inl, inr, arith, if◌then◌else◌, Option, None, Some, cases_Bool, false≢true, drop-append-le, Pid, pid_of}
 use Rattle.dm_rule.proofs.Names.{pid_eq, MsgId, MessageKind, id_eq, at_machine, View, Told, About, Of, own_id, after_put, routed_on, Spot, Inbox, Untaken, times, untaken, standing, StandsOnce, Phase, Moves, knows, sender_in, receiver_in}
-use Rattle.dm_rule.proofs.Names.{told_between, HasToken, IsIn, id_eq-is, id_eq-same, pid_eq-same, false_from_ne_true, id_of, is_kernels, nat_lt, nat_tests, not, not-true, right_true, ◌<◌, sort_of, is_between, IsWay, IsLeft, IsBefore}
-use Rattle.dm_rule.proofs.Names.{Comes, ComesIn, brings_piece}
+use Rattle.dm_rule.proofs.Names.{told_between, HasToken, IsIn, id_eq-is, id_eq-same, pid_eq-same, false_from_ne_true, id_of, is_kernels, nat_lt, nat_tests, not, not-true, right_true, ◌<◌, sort_of, is_between, IsWay, IsLeft, IsBefore, Comes}
+use Rattle.dm_rule.proofs.Names.{ComesIn, brings_piece}
 use Rattle.dm_message.specs.declared.kind.MessageKind.TheVariants as kind
 use Rattle.dm_rule.proofs.Telling.{Numbered}
 use Rattle.dm_rule.proofs.Phases.Calm.{left_on, left_same}

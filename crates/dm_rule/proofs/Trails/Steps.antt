@@ -1,8 +1,8 @@
 -- Each line of a migration, of an end and of a birth keeps what machines know in agreement with the trails.
 use Rattle.dm_rule.proofs.Names.{◌≡◌, ◌≢◌, ℕ, ◌+◌, ◌==◌, Bool, true, false, not, List, [], ◌∷◌, ◌++◌, length, refl, ap, ◌∙◌, sym, subst, inl, inr, arith, if◌then◌else◌, slice_get, Option, Some, cases_Bool, false≢true, append-nil, Pid}
 use Rattle.dm_rule.proofs.Names.{pid_eq, MsgId, MessageKind, Line, Stage, at_record, View, Known, Unknown, Here, Frozen, Incoming, Ended, view_after, front_of, gone_to, Nowhere, Moves, IsIn, kind_comes, is_restart, is_early, is_between}
-use Rattle.dm_rule.proofs.Names.{is_away, Trails, Trail, StoodOnTrail, destination, trails_after, pid_eq-is, pid_eq-same, kind_leaves, and_parts, eqb-true, false_from_ne_true, slice_get_within, is_calloff, HasCome, tells_come, ◌&&◌}
-use Rattle.dm_rule.proofs.Names.{Phase, Rests, Over, knows, is_here, is_over, not-true, sort_of, goes_back}
+use Rattle.dm_rule.proofs.Names.{is_away, Trails, Trail, StoodOnTrail, destination, trails_after, pid_eq-is, pid_eq-same, kind_leaves, and_parts, eqb-true, false_from_ne_true, slice_get_within, is_calloff, HasCome, tells_come, ◌&&◌, Phase}
+use Rattle.dm_rule.proofs.Names.{Rests, Over, knows, is_here, is_over, not-true, sort_of, goes_back}
 use Rattle.dm_rule.proofs.Lines.{eq_self}
 use Rattle.dm_rule.proofs.Seen.{aim, sets}
 use Rattle.dm_rule.proofs.Trails.Known.{trail_same, trail_learns, trail_made, trail_left, trail_grows}

@@ -11,7 +11,7 @@ on_from (Some n) x go = go n
 abbrev treads : Boot → ℕ → Todo → Trodden → Option Trodden
 treads b zero left x = Some x
 treads b (suc k) left x =
-    on_from (next_step 2 x.point.view left) x (λ n. bind (group_of b x.point n.step) (λ w. bind (along x w.lines) (λ y. treads b k n.left y)))
+    on_from (next_step 2 x.point left) x (λ n. bind (group_of b x.point n.step) (λ w. bind (along x w.lines) (λ y. treads b k n.left y)))
 
 -- what is said of the process that moves: its trail, what both machines know of it, where its link, the manager's link and its
 -- message lead, and that from all three the forwards lead to it in one step

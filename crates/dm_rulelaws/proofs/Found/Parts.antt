@@ -248,24 +248,28 @@ server_told_need : (n : ℕ) (pt o : Point) (id : MsgId) (t : Told) (k : Message
 server_told_need n pt o id t MessageKind.Update = (tt, λ ls next is leads. tt)
 server_told_need n pt o id t _ = tt
 
-process_told_need : (n : ℕ) (pt o : Point) (m : ℕ) (id : MsgId) (t : Told) (k : Known) → Front pt id → target_of (Some t) < n → (aim pt.view pt.view.topic < n) × (is_fixed t.receiver ≡ false)
-    → ((to c : ℕ) → k ≡ Forward to c → AllNeed n pt (forwards_on o.addresses id t.kind manager to)) → NeedOf n pt (process_told o m id t k)
-process_told_need n pt o m id t Unknown at le front forwards = tt
-process_told_need n pt o m id t Here at le front forwards = here_told_need n pt o m id t t.kind le front
-process_told_need n pt o m id t (Forward to c) at le front forwards = forwards to c refl
-process_told_need n pt o m id t Ended at le front forwards = search (arith, t.kind)
-process_told_need n pt o m id t _ at le front forwards = first_need n pt (Says (Line.Held id)) [] at tt
-
 -- by whom it is for
 by_receiver : (n : ℕ) (pt : Point) (q : Pid) (c d e : Bool) (x y z w : Option (List Part)) → (q.num == 0) ≡ c → pid_eq q switchboard ≡ d → pid_eq q manager ≡ e → NeedOf n pt x → NeedOf n pt y → NeedOf n pt z → (is_fixed q ≡ false → NeedOf n pt w)
     → NeedOf n pt (if c then x else if d then y else if e then z else w)
 by_receiver n pt q c d e x y z w h1 h2 h3 h4 h5 h6 h7 = search arith
 
+process_told_need : (n : ℕ) (pt o : Point) (m : ℕ) (id : MsgId) (t : Told) (k : Known) → Front pt id → target_of (Some t) < n → aim pt.view pt.view.topic < n → (t.receiver.num == 0) ≡ false
+    → ((to c : ℕ) → k ≡ Forward to c → AllNeed n pt (forwards_on o.addresses id t.kind manager to)) → NeedOf n pt (process_told o m id t k)
+process_told_need n pt o m id t Unknown at le front num forwards = tt
+process_told_need n pt o m id t Here at le front num forwards =
+    by_receiver n pt t.receiver false (pid_eq t.receiver switchboard) (pid_eq t.receiver manager) None (told_server o id t (sort_of t.kind)) (told_server o id t (sort_of t.kind)) (told_here o m id t (sort_of t.kind)) num refl refl tt
+    (server_told_need n pt o id t t.kind) (server_told_need n pt o id t t.kind) (λ free. here_told_need n pt o m id t t.kind le (front, free))
+process_told_need n pt o m id t (Forward to c) at le front num forwards = forwards to c refl
+process_told_need n pt o m id t Ended at le front num forwards = search (arith, t.kind)
+process_told_need n pt o m id t _ at le front num forwards = first_need n pt (Says (Line.Held id)) [] at tt
+
+by_kernel : (n : ℕ) (pt : Point) (c : Bool) (x w : Option (List Part)) → NeedOf n pt x → (c ≡ false → NeedOf n pt w) → NeedOf n pt (if c then x else w)
+by_kernel n pt true x w h k = h
+by_kernel n pt false x w h k = k refl
+
 pub told_by_need : (n : ℕ) (pt : Point) (b : Boot) (o : Point) (m : ℕ) (id : MsgId) (t : Told) → Front pt id → target_of (Some t) < n → aim pt.view pt.view.topic < n
     → ((p : Pid) → t.about ≡ Of p → is_between t.kind ≡ true → rule.is_stale o m id t.kind p ≡ false → Heard n pt o m id p t.kind)
     → ((to c : ℕ) → o.view.known m t.receiver ≡ Forward to c → AllNeed n pt (forwards_on o.addresses id t.kind manager to)) → NeedOf n pt (rule.hears b o m id (Some t))
 told_by_need n pt b o m id t at le front kernels forwards =
-    let to_server = told_server o id t (sort_of t.kind) in
-    let to_process = process_told o m id t (o.view.known m t.receiver) in
-    by_receiver n pt t.receiver (t.receiver.num == 0) (pid_eq t.receiver switchboard) (pid_eq t.receiver manager) (rule.kernel_hears b o m id t.kind t.about) to_server to_server to_process refl refl refl (kernel_hears_need n pt b o m id t.kind t.about kernels)
-    (server_told_need n pt o id t t.kind) (server_told_need n pt o id t t.kind) (λ free. process_told_need n pt o m id t (o.view.known m t.receiver) at le (front, free) forwards)
+    by_kernel n pt (t.receiver.num == 0) (rule.kernel_hears b o m id t.kind t.about) (process_told o m id t (o.view.known m t.receiver)) (kernel_hears_need n pt b o m id t.kind t.about kernels)
+    (λ num. process_told_need n pt o m id t (o.view.known m t.receiver) at le front num forwards)

@@ -4,12 +4,13 @@ use Rattle.dm_rulelaws.proofs.Names.{pid_eq, MsgId, MessageKind, Line, Stage, Bo
 use Rattle.dm_rulelaws.proofs.Names.{accepts, takes_chunk, takes_block, gives_piece, told_step, chunks_of, pieces_of, updates, told_here, told_ended, process_told, told_server, sends_on, fits, free_room, kernel_hears, hears, is_between}
 use Rattle.dm_rulelaws.proofs.Names.{is_restart, kind_comes, knows, is_away, Moves, sender_in, receiver_in, told_between, IsIn, Point, Part, Says, Spot, Queue, Held, Inbox, times, standing, token_is, token_at, is_server, is_fixed, first_of}
 use Rattle.dm_rulelaws.proofs.Names.{eq_self, inbox_is, about_same, kind_leaves, Label, MoveNote, Outcome, label_of, with_label, is_put, moved, answers_move, tells_asker, agrees, sort_of, leaves_for, pulls_piece, IsLeft, Token, LeftOver}
-use Rattle.dm_rulelaws.proofs.Names.{pulled}
+use Rattle.dm_rulelaws.proofs.Names.{pulled, hears_here}
 use Rattle.dm_rulelaws.proofs.Runs.{Run}
 use Rattle.dm_rulelaws.proofs.Own.Told.{OwnTold, own_sort, own_between, own_server, NoOwns, ThenOwns, forwarded_place, forwards_own, accepts_own, piece_own, chunk_own, block_own, moves_own, sends_own}
 use Rattle.dm_rulelaws.proofs.Goes.Parts.{ArePlain, Can, can_as, can_plain, does_line, Quiet, no_receive}
-use Rattle.dm_rulelaws.proofs.Goes.Front.{begun, Calm, CanTurn, does_answers}
-use Rattle.dm_rulelaws.proofs.Goes.Process.{forwards_plain}
+use Rattle.dm_rulelaws.proofs.Goes.Front.{begun, Calm, CanTurn, does_answers, server_here}
+use Rattle.dm_rulelaws.proofs.Goes.Process.{forwards_plain, no_server}
+use Rattle.dm_rulelaws.proofs.Goes.Servers.{server_fixed}
 use Rattle.dm_onekernel.specs.Service as service
 use Rattle.dm_onekernel.specs.Step as kernel
 use Rattle.dm_rule.specs.Migrating as migrating
@@ -200,26 +201,39 @@ can_here C never m o i t _ e num = absurd (grind (arith, nat_tests))
 can_over : (C : Type 0) (never : C → ⊥) (m : ℕ) (o : Point) (i : MsgId) (t : Told) (k : MessageKind) → own_sort k t.receiver t.about ≡ true → (t.receiver.num == 0) ≡ false → Can C m (begun o m) (told_ended i (sort_of k))
 can_over C never m o i t k h1 h2 = search (arith, can_plain)
 
-can_known : (C : Type 0) (never : C → ⊥) (b : Boot) (m : ℕ) (o : Point) (i : MsgId) (f : FrontOwn b m o i) (n : Known) → o.view.known m f.told.receiver ≡ n → n ≢ Unknown → (f.told.receiver.num == 0) ≡ false → Can C m (begun o m) (process_told o m i f.told n)
-can_known C never b m o i f Unknown is there num = absurd (there refl)
-can_known C never b m o i f Here is there num = can_here C never m o i f.told f.told.kind (own_sorted b m o i f) num
-can_known C never b m o i f (Forward at_ moves) is there num = can_plain C m (begun o m) (forwards_on o.addresses i f.told.kind manager at_) never (forwards_plain (begun o m).view o.addresses i f.told.kind manager at_ (ap is_some f.told_is))
+can_known : (C : Type 0) (never : C → ⊥) (b : Boot) (m : ℕ) (o : Point) (i : MsgId) (f : FrontOwn b m o i) (n : Known) → o.view.known m f.told.receiver ≡ n → n ≢ Unknown → (f.told.receiver.num == 0) ≡ false → pid_eq f.told.receiver switchboard ≡ false → pid_eq f.told.receiver manager ≡ false → Can C m (begun o m) (process_told o m i f.told n)
+can_known C never b m o i f Unknown is there num one two = absurd (there refl)
+can_known C never b m o i f Here is there num one two =
+    can_as C m (begun o m) (process_told o m i f.told Here) (told_here o m i f.told (sort_of f.told.kind)) (no_server (pid_eq f.told.receiver switchboard) (pid_eq f.told.receiver manager) _ _ _ one two) (can_here C never m o i f.told f.told.kind (own_sorted b m o i f) num)
+can_known C never b m o i f (Forward at_ moves) is there num one two = can_plain C m (begun o m) (forwards_on o.addresses i f.told.kind manager at_) never (forwards_plain (begun o m).view o.addresses i f.told.kind manager at_ (ap is_some f.told_is))
     (forwards_own (begun o m).view o.addresses i f.told.kind manager at_ (forwarded_place (begun o m).view i at_ f.told at_ moves f.told_is is) (λ e. refl))
-can_known C never b m o i f Known.Ended is there num = can_over C never m o i f.told f.told.kind (own_sorted b m o i f) num
-can_known C never b m o i f _ is there num = can_plain C m (begun o m) (Says (Line.Held i) ∷ []) never (refl, tt) (NoOwns (tt, tt))
+can_known C never b m o i f Known.Ended is there num one two = can_over C never m o i f.told f.told.kind (own_sorted b m o i f) num
+can_known C never b m o i f _ is there num one two = can_plain C m (begun o m) (Says (Line.Held i) ∷ []) never (refl, tt) (NoOwns (tt, tt))
 
-can_by : (C : Type 0) (never : C → ⊥) (b : Boot) (m : ℕ) (o : Point) (i : MsgId) (f : FrontOwn b m o i) (c d e : Bool) → (f.told.receiver.num == 0) ≡ c → pid_eq f.told.receiver switchboard ≡ d → pid_eq f.told.receiver manager ≡ e
-    → Can C m (begun o m) (if c then kernel_hears b o m i f.told.kind f.told.about else if d then told_server o i f.told (sort_of f.told.kind) else if e then told_server o i f.told (sort_of f.told.kind) else process_told o m i f.told (o.view.known m f.told.receiver))
-can_by C never b m o i f true d e num one two = can_kernel C never b m o i f num
-can_by C never b m o i f false true e num one two = can_server C never m o i f.told f.told.kind (own_server f.told.kind f.told.receiver f.told.about (own_sorted b m o i f) num (ap (λ (c : Bool). c || pid_eq f.told.receiver manager) one))
-can_by C never b m o i f false false true num one two =
-    can_server C never m o i f.told f.told.kind (own_server f.told.kind f.told.receiver f.told.about (own_sorted b m o i f) num (ap (λ (c : Bool). c || pid_eq f.told.receiver manager) one ∙ two))
-can_by C never b m o i f false false false num one two =
+can_told_server : (C : Type 0) (never : C → ⊥) (b : Boot) (m : ℕ) (o : Point) (i : MsgId) (f : FrontOwn b m o i) → (f.told.receiver.num == 0) ≡ false → is_server f.told.receiver ≡ true → hears_here o m i f.told ≡ told_server o i f.told (sort_of f.told.kind)
+    → Can C m (begun o m) (process_told o m i f.told (o.view.known m f.told.receiver))
+can_told_server C never b m o i f num server is =
+    let here = server_here b m o f.told.receiver f.run server (sym (f.run.found.fixed i (Inbox m) f.told f.first f.told_is (server_fixed f.told.receiver server))) in
+    can_as C m (begun o m) (process_told o m i f.told (o.view.known m f.told.receiver)) (told_server o i f.told (sort_of f.told.kind)) (ap (process_told o m i f.told) here ∙ is)
+    (can_server C never m o i f.told f.told.kind (own_server f.told.kind f.told.receiver f.told.about (own_sorted b m o i f) num server))
+
+can_other : (C : Type 0) (never : C → ⊥) (b : Boot) (m : ℕ) (o : Point) (i : MsgId) (f : FrontOwn b m o i) (d e : Bool) → (f.told.receiver.num == 0) ≡ false → pid_eq f.told.receiver switchboard ≡ d → pid_eq f.told.receiver manager ≡ e → Can C m (begun o m) (process_told o m i f.told (o.view.known m f.told.receiver))
+can_other C never b m o i f false false num one two =
     let server : is_server f.told.receiver ≡ false = ap (λ (c : Bool). c || pid_eq f.told.receiver manager) one ∙ two in
     let loose : is_fixed f.told.receiver ≡ false = ap (λ (c : Bool). c || is_server f.told.receiver) num ∙ server in
-    can_known C never b m o i f (o.view.known m f.told.receiver) refl (f.run.found.process i (Inbox m) f.told f.first f.told_is loose) num
+    can_known C never b m o i f (o.view.known m f.told.receiver) refl (f.run.found.process i (Inbox m) f.told f.first f.told_is loose) num one two
+can_other C never b m o i f true e num one two = can_told_server C never b m o i f num (ap (λ (c : Bool). c || pid_eq f.told.receiver manager) one) (ap (λ (c : Bool). if c then told_server o i f.told (sort_of f.told.kind) else if pid_eq f.told.receiver manager then told_server o i f.told (sort_of f.told.kind) else told_here o m i f.told (sort_of f.told.kind)) one)
+can_other C never b m o i f false true num one two =
+    can_told_server C never b m o i f num (ap (λ (c : Bool). c || pid_eq f.told.receiver manager) one ∙ two)
+    (ap (λ (c : Bool). if c then told_server o i f.told (sort_of f.told.kind) else if pid_eq f.told.receiver manager then told_server o i f.told (sort_of f.told.kind) else told_here o m i f.told (sort_of f.told.kind)) one
+    ∙ ap (λ (c : Bool). if c then told_server o i f.told (sort_of f.told.kind) else told_here o m i f.told (sort_of f.told.kind)) two)
+
+can_by : (C : Type 0) (never : C → ⊥) (b : Boot) (m : ℕ) (o : Point) (i : MsgId) (f : FrontOwn b m o i) (c : Bool) → (f.told.receiver.num == 0) ≡ c
+    → Can C m (begun o m) (if c then kernel_hears b o m i f.told.kind f.told.about else process_told o m i f.told (o.view.known m f.told.receiver))
+can_by C never b m o i f true num = can_kernel C never b m o i f num
+can_by C never b m o i f false num = can_other C never b m o i f (pid_eq f.told.receiver switchboard) (pid_eq f.told.receiver manager) num refl refl
 
 pub can_hear : (b : Boot) (m : ℕ) (o : Point) (i : MsgId) (is : List MsgId) → o.view.inbox m ≡ i ∷ is → FrontOwn b m o i → o.kernel.bag i ≡ None → CanTurn m o (rule.comes_to b o m i (o.kernel.bag i))
 can_hear b m o i is box f none =
     can_as (Calm m o) m (begun o m) (rule.comes_to b o m i (o.kernel.bag i)) (hears b o m i (Some f.told)) (ap (rule.comes_to b o m i) none ∙ ap (hears b o m i) f.told_is)
-    (can_by (Calm m o) (λ c. c.none i is box none) b m o i f (f.told.receiver.num == 0) (pid_eq f.told.receiver switchboard) (pid_eq f.told.receiver manager) refl refl refl)
+    (can_by (Calm m o) (λ c. c.none i is box none) b m o i f (f.told.receiver.num == 0) refl)

@@ -209,19 +209,23 @@ ended_of _ e = cc
 pub forwards_plain : (v : View) (a : Addresses) (i : MsgId) (k : MessageKind) (sender : Pid) (to : ℕ) → is_some (v.told i) ≡ true → ArePlain v (forwards_on a i k sender to)
 forwards_plain v a i k sender to told = search arith
 
-can_known : (b : Boot) (m : ℕ) (o : Point) (i : MsgId) (x : PlainMessage) (k : Known) → o.view.known m x.to ≡ k → k ≢ view.Unknown → agrees k (o.kernel.processes x.to) ≡ true → (x.to.num == 0) ≡ false → pid_eq x.to manager ≡ false → Front b m o i x → OwnTold o → CanTurn m o (rule.process_handles o m i x k)
-can_known b m o i x view.Unknown is there agree num other f own = absurd (there refl)
-can_known b m o i x view.Here is there agree num other f own =
+-- a process that is no server
+pub no_server : {X : Type 0} (d e : Bool) (x y z : X) → d ≡ false → e ≡ false → (if d then x else if e then y else z) ≡ z
+no_server d e x y z h k = ap (λ (c : Bool). if c then x else if e then y else z) h ∙ ap (λ (c : Bool). if c then y else z) k
+
+can_known : (b : Boot) (m : ℕ) (o : Point) (i : MsgId) (x : PlainMessage) (k : Known) → o.view.known m x.to ≡ k → k ≢ view.Unknown → agrees k (o.kernel.processes x.to) ≡ true → (x.to.num == 0) ≡ false → pid_eq x.to switchboard ≡ false → pid_eq x.to manager ≡ false → Front b m o i x → OwnTold o → CanTurn m o (rule.process_handles o m i x k)
+can_known b m o i x view.Unknown is there agree num one other f own = absurd (there refl)
+can_known b m o i x view.Here is there agree num one other f own =
     let (y, alive) = alive_of (o.kernel.processes x.to) agree in
-    can_as (Calm m o) m (begun o m) (rule.process_handles o m i x view.Here) (rule.here_handles o m i x y x.what) (ap (λ (l : Option Life). bind (kernel.alive l) (λ (p : PlainProcess). rule.here_handles o m i x p x.what)) alive)
+    can_as (Calm m o) m (begun o m) (rule.process_handles o m i x view.Here) (rule.here_handles o m i x y x.what) (no_server (pid_eq x.to switchboard) (pid_eq x.to manager) _ _ _ one other ∙ ap (λ (l : Option Life). bind (kernel.alive l) (λ (p : PlainProcess). rule.here_handles o m i x p x.what)) alive)
     (can_here b m o i x y x.what refl num other alive (here_free o.kernel o.view m x.to f.run.based.noted is) f (f.run.based.fits.messages i x f.there))
-can_known b m o i x (view.Frozen to) is there agree num other f own = can_plain (Calm m o) m (begun o m) (Says (Line.Held i) ∷ []) (λ c. false≢true (sym (ap is_still is) ∙ c.known x.to)) (refl, tt) (NoOwns (tt, tt))
-can_known b m o i x (view.Incoming from) is there agree num other f own = can_plain (Calm m o) m (begun o m) (Says (Line.Held i) ∷ []) (λ c. false≢true (sym (ap is_still is) ∙ c.known x.to)) (refl, tt) (NoOwns (tt, tt))
-can_known b m o i x (view.Forward at_ moves) is there agree num other f own =
+can_known b m o i x (view.Frozen to) is there agree num one other f own = can_plain (Calm m o) m (begun o m) (Says (Line.Held i) ∷ []) (λ c. false≢true (sym (ap is_still is) ∙ c.known x.to)) (refl, tt) (NoOwns (tt, tt))
+can_known b m o i x (view.Incoming from) is there agree num one other f own = can_plain (Calm m o) m (begun o m) (Says (Line.Held i) ∷ []) (λ c. false≢true (sym (ap is_still is) ∙ c.known x.to)) (refl, tt) (NoOwns (tt, tt))
+can_known b m o i x (view.Forward at_ moves) is there agree num one other f own =
     let v = (begun o m).view in
     can_plain (Calm m o) m (begun o m) (forwards_on o.addresses i (plain_kind x.what) x.sender at_) (λ c. false≢true (sym (ap is_still is) ∙ c.known x.to)) (forwards_plain v o.addresses i (plain_kind x.what) x.sender at_ (ap is_some f.told_is))
     (forwards_own v o.addresses i (plain_kind x.what) x.sender at_ (forwarded_place v i at_ f.told at_ moves f.told_is (ap (o.view.known m) (told_receiver b m o i x f) ∙ is)) (λ e. own.sender i x f.there e))
-can_known b m o i x view.Ended is there agree num other f own =
+can_known b m o i x view.Ended is there agree num one other f own =
     let (y, over) = ended_of (o.kernel.processes x.to) agree in
     can_ended b m o i x y x.what refl num other over f (f.run.based.fits.messages i x f.there)
 

@@ -2,7 +2,7 @@
 use Rattle.dm_rulelaws.proofs.Names.{◌≡◌, ℕ, zero, suc, ◌+◌, ◌==◌, ◌&&◌, ◌||◌, ◌++◌, Bool, true, false, List, [], ◌∷◌, length, refl, ap, ◌∙◌, sym, nat_lt, arith, if◌then◌else◌, slice_get, Option, None, Some, false≢true, nat_tests, Pid}
 use Rattle.dm_rulelaws.proofs.Names.{pid_of, pid_eq, PlainLink, MsgId, Label, Line, PlainMessage, PlainWhat, BootImage, Boot, first_number, switchboard, manager, bind, when, Pending, OneKernel, with_sent, answer_id, answer_to}
 use Rattle.dm_rulelaws.proofs.Names.{without_message, pid_eq-same, Point, moved, Part, Routes, is_server, IsPending, WhatFits, is_fixed, counts, ServerSends, handled, is_kernels, not_kernels, or_first, board_takes_lem, manager_takes_lem}
-use Rattle.dm_rulelaws.proofs.Names.{is_for, PendingKind, code_of_outcome}
+use Rattle.dm_rulelaws.proofs.Names.{is_for, PendingKind, code_of_outcome, PlainProcess}
 use Rattle.dm_onekernel.specs.Switchboard as board
 use Rattle.dm_onekernel.specs.Manager as manage
 use Rattle.dm_onekernel.specs.Service as service
@@ -12,7 +12,7 @@ use Rattle.dm_rulelaws.proofs.Own.Told.{OwnTold, HaveNoOwn}
 use Rattle.dm_rulelaws.proofs.Goes.Parts.{said, no_receive, does_route, Can, can_as, can_say}
 use Rattle.dm_rulelaws.proofs.Goes.Serves.{never_counted}
 use Rattle.dm_rulelaws.proofs.Goes.Front.{begun, Calm, CanTurn, Front, name_of, home_of, process_not_kernel, process_not_board, process_not_manager, answer_there, does_routes}
-use Rattle.dm_rulelaws.proofs.Goes.Front.{sent_there}
+use Rattle.dm_rulelaws.proofs.Goes.Front.{sent_there, server_here}
 use Rattle.dm_rulelaws.proofs.Goes.Process.{can_process}
 use Rattle.dm_rulelaws.proofs.Order.Lines.{Last, next_id}
 
@@ -164,14 +164,28 @@ can_manager b m o i x (PlainWhat.Moved outcome) is num one two f h =
     can_manage b m o i x (PlainWhat.Moved outcome) (manage.answers_over (record g { pending = manage.without_pending x.id.n g.pending }) r.answer (code_of_outcome outcome) []) is one two (ap (manage.takes_answer g x.id.n g.children (code_of_outcome outcome) []) found) f
 can_manager b m o i x any_ is num one two f h = search (arith, process_not_manager)
 
+-- a message whose receiver is no kernel
+can_other : (b : Boot) (m : ℕ) (o : Point) (i : MsgId) (x : PlainMessage) (d e : Bool) → (x.to.num == 0) ≡ false → pid_eq x.to switchboard ≡ d → pid_eq x.to manager ≡ e → Front b m o i x → OwnTold o → CanTurn m o (rule.process_handles o m i x (o.view.known m x.to))
+can_other b m o i x true e num one two f own =
+    let server : is_server x.to ≡ true = ap (λ (c : Bool). c || pid_eq x.to manager) one in
+    let took = rule.board_took i (board.board_takes o.kernel.switchboard x x.what) in
+    can_as (Calm m o) m (begun o m) (rule.process_handles o m i x (o.view.known m x.to)) took
+    (ap (rule.process_handles o m i x) (server_here b m o x.to f.run server (home_of b m o i x (server_fixed x.to server) f)) ∙ ap (λ (c : Bool). if c then took else if pid_eq x.to manager then rule.manager_parts i (manage.manager_takes o.kernel.manager o.kernel.machines (length o.kernel.images) x x.what) else bind (kernel.alive (o.kernel.processes x.to)) (λ (p : PlainProcess). rule.here_handles o m i x p x.what)) one)
+    (can_board b m o i x x.what refl num one f (f.run.based.fits.messages i x f.there))
+can_other b m o i x false true num one two f own =
+    let server : is_server x.to ≡ true = ap (λ (c : Bool). c || pid_eq x.to manager) one ∙ two in
+    let took = rule.manager_parts i (manage.manager_takes o.kernel.manager o.kernel.machines (length o.kernel.images) x x.what) in
+    let own_ = bind (kernel.alive (o.kernel.processes x.to)) (λ (p : PlainProcess). rule.here_handles o m i x p x.what) in
+    can_as (Calm m o) m (begun o m) (rule.process_handles o m i x (o.view.known m x.to)) took
+    (ap (rule.process_handles o m i x) (server_here b m o x.to f.run server (home_of b m o i x (server_fixed x.to server) f))
+    ∙ ap (λ (c : Bool). if c then rule.board_took i (board.board_takes o.kernel.switchboard x x.what) else if pid_eq x.to manager then took else own_) one ∙ ap (λ (c : Bool). if c then took else own_) two)
+    (can_manager b m o i x x.what refl num one two f (f.run.based.fits.messages i x f.there))
+can_other b m o i x false false num one two f own = can_process b m o i x num one two f own
+
 -- whoever the message is for
-can_by : (b : Boot) (m : ℕ) (o : Point) (i : MsgId) (x : PlainMessage) (c d e : Bool) → (x.to.num == 0) ≡ c → pid_eq x.to switchboard ≡ d → pid_eq x.to manager ≡ e → Front b m o i x → OwnTold o
-    → CanTurn m o (if c then rule.kernel_handles b o m i x.what else if d then rule.board_took i (board.board_takes o.kernel.switchboard x x.what)
-    else if e then rule.manager_parts i (manage.manager_takes o.kernel.manager o.kernel.machines (length o.kernel.images) x x.what) else rule.process_handles o m i x (o.view.known m x.to))
-can_by b m o i x true d e num one two f own = can_kernel b m o i x x.what refl num f (f.run.based.fits.messages i x f.there)
-can_by b m o i x false true e num one two f own = can_board b m o i x x.what refl num one f (f.run.based.fits.messages i x f.there)
-can_by b m o i x false false true num one two f own = can_manager b m o i x x.what refl num one two f (f.run.based.fits.messages i x f.there)
-can_by b m o i x false false false num one two f own = can_process b m o i x num one two f own
+can_by : (b : Boot) (m : ℕ) (o : Point) (i : MsgId) (x : PlainMessage) (c : Bool) → (x.to.num == 0) ≡ c → Front b m o i x → OwnTold o → CanTurn m o (if c then rule.kernel_handles b o m i x.what else rule.process_handles o m i x (o.view.known m x.to))
+can_by b m o i x true num f own = can_kernel b m o i x x.what refl num f (f.run.based.fits.messages i x f.there)
+can_by b m o i x false num f own = can_other b m o i x (pid_eq x.to switchboard) (pid_eq x.to manager) num refl refl f own
 
 pub can_handle : (b : Boot) (m : ℕ) (o : Point) (i : MsgId) (x : PlainMessage) → Front b m o i x → OwnTold o → CanTurn m o (rule.comes_to b o m i (o.kernel.bag i))
 can_handle b m o i x f own = search (arith, can_as, o.kernel.bag, f.there, can_by)

@@ -1,8 +1,8 @@
 -- Messages of one sender to one process on one channel stand in the order in which they were sent: each line keeps it.
 use Rattle.dm_rulelaws.proofs.Names.{Inbox, ◌≡◌, ℕ, suc, ◌+◌, ◌≤◌, ◌<◌, ◌==◌, ◌&&◌, Bool, true, false, not, List, [], ◌∷◌, ◌++◌, refl, ap, ◌∙◌, sym, subst, is_some, arith, if◌then◌else◌, Option, None, Some, false≢true, Pid, pid_eq, MsgId}
 use Rattle.dm_rulelaws.proofs.Names.{id_of, PlainMessage, PlainWhat, Label, Life, OneKernel, counts, is_counted, Grown, LifeGrows, after_step, at_machine, at_record, without_front, untaken, View, after_label, handled, Point, served_keeps}
-use Rattle.dm_rulelaws.proofs.Names.{Each, not_kernels, Sane, pid_eq-is, entry, reception, came_from, zero, drop, ◌⊎◌, inl, inr, cases_Bool, nat_tests, without_id, at_pair, Pair, not_false, ordered, first_one, first_not, put_one}
-use Rattle.dm_rulelaws.proofs.Names.{put_not, drop_one, context}
+use Rattle.dm_rulelaws.proofs.Names.{Each, not_kernels, Sane, pid_eq-is, entry, reception, came_from, zero, drop, ◌⊎◌, inl, inr, cases_Bool, nat_tests, without_id, at_pair, Pair, not_false, ordered, first_one, first_not, put_one, put_not}
+use Rattle.dm_rulelaws.proofs.Names.{drop_one, context}
 use Rattle.dm_rulelaws.proofs.Fits.Rises.{Each-on, both, two}
 use Rattle.dm_rulelaws.proofs.Queued.{is_user}
 use Rattle.dm_onekernel.specs.Step as kernel

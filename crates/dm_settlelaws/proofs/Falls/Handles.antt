@@ -134,24 +134,26 @@ forwards_row pt i told k sender to ps e =
     let tells = if is_told_back k then Owns MessageKind.Update sender (pt.addresses (Sender i)).at ∷ [] else [] in
     quiet_row i told (Line.Forwarded i to) (Again i to ∷ tells) ps refl refl refl (tt, if_calm (is_told_back k) (Owns MessageKind.Update sender (pt.addresses (Sender i)).at ∷ []) [] (tt, tt) tt) e
 
-process_row : (pt : Point) (m : ℕ) (i : MsgId) (told : Option Told) (msg : PlainMessage) (k : Known) → HandlesBy i told (process_handles pt m i msg k)
-process_row pt m i told msg Known.Unknown ps e = cc
-process_row pt m i told msg Known.Here ps e =
-    let (x, there, is) = bind-is (kernel.alive (pt.kernel.processes msg.to)) (λ x. here_handles pt m i msg x msg.what) ps e in here_row pt m i told msg x msg.what ps is
-process_row pt m i told msg (Known.Forward at moves) ps e = forwards_row pt i told (plain_kind msg.what) msg.sender at ps e
-process_row pt m i told msg Known.Ended ps e = ended_row i told msg.what ps e
-process_row pt m i told msg _ ps e = quiet_row i told (Line.Held i) [] ps refl refl refl tt e
-
 chosen : (i : MsgId) (told : Option Told) (c : Bool) (o q : Option (List Part)) → HandlesBy i told o → HandlesBy i told q → HandlesBy i told (if c then o else q)
 chosen i told true o q h k ps e = h ps e
 chosen i told false o q h k ps e = k ps e
 
-bag_row : (b : Boot) (pt : Point) (m : ℕ) (i : MsgId) (told : Option Told) (msg : PlainMessage) → HandlesBy i told (handles b pt m i msg)
-bag_row b pt m i told msg =
-    chosen i told (msg.to.num == 0) (kernel_handles b pt m i msg.what) _ (kernel_row b pt m i told msg.what)
-    (chosen i told (pid_eq msg.to switchboard) (board_took i (board.board_takes pt.kernel.switchboard msg msg.what)) _ (board_row i told (board.board_takes pt.kernel.switchboard msg msg.what))
+own_row : (pt : Point) (m : ℕ) (i : MsgId) (told : Option Told) (msg : PlainMessage) → HandlesBy i told (bind (kernel.alive (pt.kernel.processes msg.to)) (λ x. here_handles pt m i msg x msg.what))
+own_row pt m i told msg ps e =
+    let (x, there, is) = bind-is (kernel.alive (pt.kernel.processes msg.to)) (λ x. here_handles pt m i msg x msg.what) ps e in here_row pt m i told msg x msg.what ps is
+
+process_row : (pt : Point) (m : ℕ) (i : MsgId) (told : Option Told) (msg : PlainMessage) (k : Known) → HandlesBy i told (process_handles pt m i msg k)
+process_row pt m i told msg Known.Unknown ps e = cc
+process_row pt m i told msg Known.Here ps e =
+    chosen i told (pid_eq msg.to switchboard) (board_took i (board.board_takes pt.kernel.switchboard msg msg.what)) _ (board_row i told (board.board_takes pt.kernel.switchboard msg msg.what))
     (chosen i told (pid_eq msg.to manager) (manager_parts i (manage.manager_takes pt.kernel.manager pt.kernel.machines (length pt.kernel.images) msg msg.what)) _
-    (manager_row i told (manage.manager_takes pt.kernel.manager pt.kernel.machines (length pt.kernel.images) msg msg.what)) (process_row pt m i told msg (pt.view.known m msg.to))))
+    (manager_row i told (manage.manager_takes pt.kernel.manager pt.kernel.machines (length pt.kernel.images) msg msg.what)) (own_row pt m i told msg)) ps e
+process_row pt m i told msg (Known.Forward at moves) ps e = forwards_row pt i told (plain_kind msg.what) msg.sender at ps e
+process_row pt m i told msg Known.Ended ps e = ended_row i told msg.what ps e
+process_row pt m i told msg _ ps e = quiet_row i told (Line.Held i) [] ps refl refl refl tt e
+
+bag_row : (b : Boot) (pt : Point) (m : ℕ) (i : MsgId) (told : Option Told) (msg : PlainMessage) → HandlesBy i told (handles b pt m i msg)
+bag_row b pt m i told msg = chosen i told (msg.to.num == 0) (kernel_handles b pt m i msg.what) _ (kernel_row b pt m i told msg.what) (process_row pt m i told msg (pt.view.known m msg.to))
 
 -- the kernels' own messages
 accepts_row : (i : MsgId) (told : Option Told) (from : ℕ) (p : Pid) (c : Bool) (slots blocks : ℕ) → HandlesBy i told (Some (accepts from p c slots blocks))
@@ -216,7 +218,9 @@ ended_told_row i t k ps e = cc
 
 process_told_row : (pt : Point) (m : ℕ) (i : MsgId) (t : Told) (k : Known) → HandlesBy i (Some t) (process_told pt m i t k)
 process_told_row pt m i t Known.Unknown ps e = cc
-process_told_row pt m i t Known.Here ps e = here_told_row pt m i t t.kind ps e
+process_told_row pt m i t Known.Here ps e =
+    chosen i (Some t) (pid_eq t.receiver switchboard) (told_server pt i t (sort_of t.kind)) _ (server_row pt i t t.kind)
+    (chosen i (Some t) (pid_eq t.receiver manager) (told_server pt i t (sort_of t.kind)) _ (server_row pt i t t.kind) (here_told_row pt m i t t.kind)) ps e
 process_told_row pt m i t (Known.Forward at moves) ps e = forwards_row pt i (Some t) t.kind manager at ps e
 process_told_row pt m i t Known.Ended ps e = ended_told_row i t t.kind ps e
 process_told_row pt m i t _ ps e = quiet_row i (Some t) (Line.Held i) [] ps refl refl refl tt e
@@ -224,9 +228,7 @@ process_told_row pt m i t _ ps e = quiet_row i (Some t) (Line.Held i) [] ps refl
 hears_row : (b : Boot) (pt : Point) (m : ℕ) (i : MsgId) (told : Option Told) → HandlesBy i told (hears b pt m i told)
 hears_row b pt m i None ps e = cc
 hears_row b pt m i (Some t) ps e =
-    chosen i (Some t) (t.receiver.num == 0) (kernel_hears b pt m i t.kind t.about) _ (kernel_hears_row b pt m i t t.about)
-    (chosen i (Some t) (pid_eq t.receiver switchboard) (told_server pt i t (sort_of t.kind)) _ (server_row pt i t t.kind)
-    (chosen i (Some t) (pid_eq t.receiver manager) (told_server pt i t (sort_of t.kind)) _ (server_row pt i t t.kind) (process_told_row pt m i t (pt.view.known m t.receiver)))) ps e
+    chosen i (Some t) (t.receiver.num == 0) (kernel_hears b pt m i t.kind t.about) _ (kernel_hears_row b pt m i t t.about) (process_told_row pt m i t (pt.view.known m t.receiver)) ps e
 
 -- whatever stands at the front
 pub comes_row : (b : Boot) (pt : Point) (m : ℕ) (i : MsgId) (o : Option PlainMessage) → HandlesBy i (pt.view.told i) (comes_to b pt m i o)

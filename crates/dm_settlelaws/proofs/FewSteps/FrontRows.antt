@@ -3,6 +3,7 @@ use Rattle.dm_settlelaws.proofs.Names.{◌≡◌, ℕ, ◌/◌, ◌==◌, ◌||�
 use Rattle.dm_settlelaws.proofs.Names.{PlainMessage, PlainWhat, Boot, manager, switchboard, PlainProcess, bind-is, Line, Sender, is_told_back, behind_count, told_ended, forwards_on, told_here, told_step, process_told, told_server}
 use Rattle.dm_settlelaws.proofs.Names.{place_told, Part, Says, Again, Owns, Point, comes_to, ended_handles, fits, free_room, handles, hears, here_handles, kernel_hears, outcome, process_handles, turns, TellsRight, About, Known, Of, Told}
 use Rattle.dm_settlelaws.proofs.Names.{View, handled, receiver_of, view_after, touches, is_server, is_fixed, is_moving, is_light_kind, says_put, not_is, acting_dropped, or-left, queued_acting, dropped_known, forwarded_acting, sort_of}
+use Rattle.dm_settlelaws.proofs.Names.{handles_here, or-right, bind, kernel_handles}
 use Rattle.dm_onekernel.specs.Step as kernel
 use Rattle.dm_rule.specs.View as view
 use Rattle.dm_settlelaws.proofs.Effects.{effect, takes_front}
@@ -82,30 +83,31 @@ ended_row : (pt : Point) (m : ℕ) (i : MsgId) (t : Told) (w : PlainWhat) (ps : 
 ended_row pt m i t (PlainWhat.User code channel body links) ps is e = stops pt.view m i t (Line.Label (Label.Dropped i)) ps (dropped i) e
 ended_row pt m i t w ps is e = cc
 
-process_row : (pt : Point) (m : ℕ) (i : MsgId) (t : Told) (msg : PlainMessage) (k : Known) (ps : List Part) → pt.view.known m t.receiver ≡ k → is_moving k ≡ false → plain_kind msg.what ≡ t.kind → plain_kind msg.what ≡ MessageKind.User → (t.receiver.num == 0) ≡ false
+pick : {X : Type 0} (b c : Bool) (y z w : X) → (b || c) ≡ false → (if b then y else if c then z else w) ≡ w
+pick true c y z w e = absurd (false≢true (sym e))
+pick false true y z w e = absurd (false≢true (sym e))
+pick false false y z w e = refl
+
+process_row : (pt : Point) (m : ℕ) (i : MsgId) (t : Told) (msg : PlainMessage) (k : Known) (ps : List Part) → pt.view.known m t.receiver ≡ k → is_moving k ≡ false → plain_kind msg.what ≡ t.kind → plain_kind msg.what ≡ MessageKind.User → (t.receiver.num == 0) ≡ false → is_server msg.to ≡ false
     → process_handles pt m i msg k ≡ Some ps → Shape pt.view m i t ps
-process_row pt m i t msg view.Unknown ps known still same user num e = cc
-process_row pt m i t msg view.Here ps known still same user num e =
-    let (x, there, is) = bind-is (kernel.alive (pt.kernel.processes msg.to)) (λ x. here_handles pt m i msg x msg.what) ps e in here_row pt m i t msg x msg.what ps user is
-process_row pt m i t msg (view.Forward at moves) ps known still same user num e =
+process_row pt m i t msg view.Unknown ps known still same user num free e = cc
+process_row pt m i t msg view.Here ps known still same user num free e =
+    let row : handles_here pt m i msg ≡ bind (kernel.alive (pt.kernel.processes msg.to)) (λ x. here_handles pt m i msg x msg.what) = pick (pid_eq msg.to switchboard) (pid_eq msg.to manager) _ _ (bind (kernel.alive (pt.kernel.processes msg.to)) (λ x. here_handles pt m i msg x msg.what)) free in
+    let (x, there, is) = bind-is (kernel.alive (pt.kernel.processes msg.to)) (λ x. here_handles pt m i msg x msg.what) ps (sym row ∙ e) in here_row pt m i t msg x msg.what ps user is
+process_row pt m i t msg (view.Forward at moves) ps known still same user num free e =
     let f : forwards_on pt.addresses i (plain_kind msg.what) msg.sender at ≡ ps = cc in
     Goes at moves msg.sender (pt.addresses (Sender i)).at num known (sym f ∙ ap (λ (k : MessageKind). goes_on i at k msg.sender (pt.addresses (Sender i)).at) same)
-process_row pt m i t msg view.Ended ps known still same user num e = ended_row pt m i t msg.what ps user e
-process_row pt m i t msg _ ps known still same user num e = absurd (false≢true (sym still))
-
-pick : {X : Type 0} (a b c : Bool) (x y z w : X) → (a || (b || c)) ≡ false → (if a then x else if b then y else if c then z else w) ≡ w
-pick true b c x y z w e = absurd (false≢true (sym e))
-pick false true c x y z w e = absurd (false≢true (sym e))
-pick false false true x y z w e = absurd (false≢true (sym e))
-pick false false false x y z w e = refl
+process_row pt m i t msg view.Ended ps known still same user num free e = ended_row pt m i t msg.what ps user e
+process_row pt m i t msg _ ps known still same user num free e = absurd (false≢true (sym still))
 
 bag_row : (b : Boot) (pt : Point) (m : ℕ) (i : MsgId) (t : Told) (msg : PlainMessage) (ps : List Part) → is_light_kind t.kind t.receiver ≡ true → t.kind ≡ plain_kind msg.what → t.receiver ≡ msg.to → ((n : ℕ) (p : Pid) → is_moving (pt.view.known n p) ≡ false)
     → handles b pt m i msg ≡ Some ps → Shape pt.view m i t ps
 bag_row b pt m i t msg ps light same to still e =
     let user = light_plain msg.what t.receiver (ap (λ (k : MessageKind). is_light_kind k t.receiver) (sym same) ∙ light) in
     let fixed : is_fixed msg.to ≡ false = ap is_fixed (sym to) ∙ user.1 in
-    let row : handles b pt m i msg ≡ process_handles pt m i msg (pt.view.known m msg.to) = pick (msg.to.num == 0) (pid_eq msg.to switchboard) (pid_eq msg.to manager) _ _ _ (process_handles pt m i msg (pt.view.known m msg.to)) fixed in
-    process_row pt m i t msg (pt.view.known m msg.to) ps (ap (pt.view.known m) to) (still m msg.to) (sym same) user.0 (or-left (t.receiver.num == 0) (is_server t.receiver) user.1) (sym row ∙ e)
+    let num : (msg.to.num == 0) ≡ false = or-left (msg.to.num == 0) (is_server msg.to) fixed in
+    let row : handles b pt m i msg ≡ process_handles pt m i msg (pt.view.known m msg.to) = ap (λ (c : Bool). if c then kernel_handles b pt m i msg.what else process_handles pt m i msg (pt.view.known m msg.to)) num in
+    process_row pt m i t msg (pt.view.known m msg.to) ps (ap (pt.view.known m) to) (still m msg.to) (sym same) user.0 (or-left (t.receiver.num == 0) (is_server t.receiver) user.1) (or-right (msg.to.num == 0) (is_server msg.to) fixed) (sym row ∙ e)
 
 -- one that isn't in the bag, by what was told of it
 here_told_row : (pt : Point) (m : ℕ) (i : MsgId) (t : Told) (k : MessageKind) (ps : List Part) → is_light_kind k t.receiver ≡ true → told_here pt m i t (sort_of k) ≡ Some ps → Shape pt.view m i t ps
@@ -120,9 +122,15 @@ server_row : (pt : Point) (m : ℕ) (i : MsgId) (t : Told) (k : MessageKind) (ps
 server_row pt m i t MessageKind.Update ps e = stops pt.view m i t (Line.Updated i (behind_count pt.kernel pt.addresses t.receiver (place_told t.about))) ps (updated i _) e
 server_row pt m i t k ps e = cc
 
+own_told_row : (pt : Point) (m : ℕ) (i : MsgId) (t : Told) (y z : Bool) (ps : List Part) → is_light_kind t.kind t.receiver ≡ true
+    → (if y then told_server pt i t (sort_of t.kind) else if z then told_server pt i t (sort_of t.kind) else told_here pt m i t (sort_of t.kind)) ≡ Some ps → Shape pt.view m i t ps
+own_told_row pt m i t true z ps light e = server_row pt m i t t.kind ps e
+own_told_row pt m i t false true ps light e = server_row pt m i t t.kind ps e
+own_told_row pt m i t false false ps light e = here_told_row pt m i t t.kind ps light e
+
 told_row : (pt : Point) (m : ℕ) (i : MsgId) (t : Told) (k : Known) (ps : List Part) → pt.view.known m t.receiver ≡ k → is_moving k ≡ false → is_light_kind t.kind t.receiver ≡ true → (t.receiver.num == 0) ≡ false → process_told pt m i t k ≡ Some ps → Shape pt.view m i t ps
 told_row pt m i t view.Unknown ps known still light num e = cc
-told_row pt m i t view.Here ps known still light num e = here_told_row pt m i t t.kind ps light e
+told_row pt m i t view.Here ps known still light num e = own_told_row pt m i t (pid_eq t.receiver switchboard) (pid_eq t.receiver manager) ps light e
 told_row pt m i t (view.Forward at moves) ps known still light num e =
     let f : forwards_on pt.addresses i t.kind manager at ≡ ps = cc in Goes at moves manager (pt.addresses (Sender i)).at num known (sym f)
 told_row pt m i t view.Ended ps known still light num e = ended_told_row pt m i t t.kind ps light e
@@ -139,18 +147,16 @@ kernel_row b pt m i a q MessageKind.User ps light num e = absurd (false≢true (
 kernel_row b pt m i a q MessageKind.Update ps light num e = kernel_none b pt m i a ps e
 kernel_row b pt m i a q k ps light num e = cc
 
-hears_by : (b : Boot) (pt : Point) (m : ℕ) (i : MsgId) (t : Told) (x y z : Bool) (ps : List Part) → (t.receiver.num == 0) ≡ x → is_moving (pt.view.known m t.receiver) ≡ false → is_light_kind t.kind t.receiver ≡ true
-    → (if x then kernel_hears b pt m i t.kind t.about else if y then told_server pt i t (sort_of t.kind) else if z then told_server pt i t (sort_of t.kind) else process_told pt m i t (pt.view.known m t.receiver)) ≡ Some ps → Shape pt.view m i t ps
-hears_by b pt m i t true y z ps num still light e = absurd (kernel_row b pt m i t.about t.receiver t.kind ps light num e)
-hears_by b pt m i t false true z ps num still light e = server_row pt m i t t.kind ps e
-hears_by b pt m i t false false true ps num still light e = server_row pt m i t t.kind ps e
-hears_by b pt m i t false false false ps num still light e = told_row pt m i t (pt.view.known m t.receiver) ps refl still light num e
+hears_by : (b : Boot) (pt : Point) (m : ℕ) (i : MsgId) (t : Told) (x : Bool) (ps : List Part) → (t.receiver.num == 0) ≡ x → is_moving (pt.view.known m t.receiver) ≡ false → is_light_kind t.kind t.receiver ≡ true
+    → (if x then kernel_hears b pt m i t.kind t.about else process_told pt m i t (pt.view.known m t.receiver)) ≡ Some ps → Shape pt.view m i t ps
+hears_by b pt m i t true ps num still light e = absurd (kernel_row b pt m i t.about t.receiver t.kind ps light num e)
+hears_by b pt m i t false ps num still light e = told_row pt m i t (pt.view.known m t.receiver) ps refl still light num e
 
 comes_row : (b : Boot) (pt : Point) (m : ℕ) (i : MsgId) (t : Told) (o : Option PlainMessage) (ps : List Part) → pt.kernel.bag i ≡ o → pt.view.told i ≡ Some t → is_light_kind t.kind t.receiver ≡ true → TellsRight pt → ((n : ℕ) (p : Pid) → is_moving (pt.view.known n p) ≡ false)
     → comes_to b pt m i o ≡ Some ps → Shape pt.view m i t ps
 comes_row b pt m i t (Some msg) ps there told light tells still e = bag_row b pt m i t msg ps light (tells.kind i msg t there told) (tells.receiver i msg t there told) still e
 comes_row b pt m i t None ps there told light tells still e =
-    hears_by b pt m i t (t.receiver.num == 0) (pid_eq t.receiver switchboard) (pid_eq t.receiver manager) ps refl (still m t.receiver) light (ap (hears b pt m i) (sym told) ∙ e)
+    hears_by b pt m i t (t.receiver.num == 0) ps refl (still m t.receiver) light (ap (hears b pt m i) (sym told) ∙ e)
 
 pub turn_shape : (b : Boot) (pt : Point) (m : ℕ) (i : MsgId) (is : List MsgId) (t : Told) (ps : List Part) → pt.view.inbox m ≡ i ∷ is → pt.view.told i ≡ Some t → is_light_kind t.kind t.receiver ≡ true → TellsRight pt
     → ((n : ℕ) (p : Pid) → is_moving (pt.view.known n p) ≡ false) → outcome b pt (Step.Turn m) ≡ Some ps → Shape pt.view m i t ps

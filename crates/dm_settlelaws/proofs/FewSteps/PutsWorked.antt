@@ -13,7 +13,7 @@ on_from (Some n) x go = go n
 
 abbrev comes : ℕ → Boot → Todo → Came → Option Came
 comes zero b t x = None
-comes (suc k) b t x = on_from (next_step 2 x.point.view t) x (λ n. bind (group_of b x.point n.step) (λ w. comes k b n.left (record { puts = x.puts + count says_put w.lines; point = w.point })))
+comes (suc k) b t x = on_from (next_step 2 x.point t) x (λ n. bind (group_of b x.point n.step) (λ w. comes k b n.left (record { puts = x.puts + count says_put w.lines; point = w.point })))
 
 -- what there is to see before and behind a settle: the messages on their way, whether the first of process 0.3's is such that the law
 -- speaks of it, and what machines know of the process that it is for
