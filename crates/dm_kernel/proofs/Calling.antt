@@ -9,7 +9,7 @@ record_of (Some (Here x)) a e = absurd (cc)
 record_of (Some (Frozen leaving)) a e = absurd (cc)
 record_of (Some (Incoming b)) a e = let same : b ≡ a = cc in ap (λ (x : Arrival). Some (Incoming x)) same
 record_of (Some (Forward machine moves)) a e = absurd (cc)
-record_of (Some (Ended y)) a e = absurd (cc)
+record_of (Some Ended) a e = absurd (cc)
 
 -- a record that was taken out and put back stands as it stood
 put_back_at : (same : Bool) (k : KernelKnown) (n o : Option KernelKnown) → n ≡ (if same then Some k else (if same then None else o)) → (same ≡ true → o ≡ Some k) → n ≡ o

@@ -1,9 +1,9 @@
 -- What the rows of a migration give is lawful.
-use Rattle.dm_kernel.proofs.Names.{◌≡◌, ◌∙◌, ℕ, ◌+◌, ◌-◌, ◌*◌, ◌/◌, min, ◌<◌, ◌≤◌, Bool, true, false, ◌==◌, List, [], ◌∷◌, ◌++◌, length, map, drop, Some, None, refl, sym, subst, ap, arith, inl, inr, All, IfSome, IfOk, Result, Ok, Err}
-use Rattle.dm_kernel.proofs.Names.{length-drop, length-take, All-append, All-cons, All-head, All-nil, All-push, All-tail, nat_tests, Option, Addr, Pid, IsMachine, IsLawfulAddr, pid_eq, is_told_back, kernel_at, update_of, applied_lawful}
+use Rattle.dm_kernel.proofs.Names.{◌≡◌, ◌∙◌, ℕ, ◌+◌, ◌-◌, ◌*◌, ◌/◌, min, ◌<◌, ◌≤◌, Bool, true, false, ◌==◌, List, [], ◌∷◌, ◌++◌, length, map, drop, Some, None, refl, sym, subst, ap, arith, All, IfSome, IfOk, Result, Ok, Err}
+use Rattle.dm_kernel.proofs.Names.{length-drop, length-take, All-append, All-cons, All-head, All-nil, All-push, All-tail, Option, Addr, Pid, IsMachine, IsLawfulAddr, is_told_back, kernel_at, update_of, applied_lawful}
 use Rattle.dm_kernel.proofs.Names.{Asker, Message, What, kind_of, IsLawfulMessage, IsLawfulWhat, IsServer, is_answer, Process, IsLawfulProcess, Taken, free_blocks, free_slots, has_room, Here, Frozen, Incoming, Forward, Wanted, Chunk, Block}
 use Rattle.dm_kernel.proofs.Names.{Nothing, Arrival, expected, pull, with_block, with_chunk, with_held_too, with_piece, Departure, all_sent_on, ask_of, frozen, sent_on, with_held, HasChunk, chunk_bytes, chunk_of, lawful_all, Boot, manager}
-use Rattle.dm_kernel.proofs.Names.{slots_of, switchboard, MoveError, moves_child, moves_lawful, Servers, Part, Routes, asks_manager, asks_move, told_to_move, accepts, answers_ask, holds_arriving, restarts, restarts_as, takes_piece}
+use Rattle.dm_kernel.proofs.Names.{slots_of, MoveError, moves_child, moves_lawful, Servers, Part, Routes, asks_manager, asks_move, told_to_move, accepts, answers_ask, holds_arriving, restarts, restarts_as, takes_piece}
 use Rattle.dm_kernel.proofs.Names.{took_piece, freezes, gives_piece, holds_leaving, leaves, migrates, stays, board_follows, forwards, forwards_and, manager_follows, process_follows, AreLawful, IsLawfulArrival, IsLawfulDeparture}
 use Rattle.dm_kernel.proofs.Names.{IsLawfulPair, IsLawfulPart, IsLawfulState, MayRestart, KernelState, own, own_id, Outcome, asker_of, moved_answer, asked_to_move, freezing, tells_asker, with_frozen, IsLawfulAsker, with_sent, state_of}
 use Rattle.dm_kernel.proofs.Names.{incoming_of, all_sent_back, comes_from, is_whole, calling_off, calls_arriving_off, calls_off, hears_piece, is_not_called, says_stale, turns_back, without_arriving, IsLawfulKnown, IsLawfulTurned}
@@ -83,10 +83,6 @@ manager_follows_lawfully s m v about h pair addr =
     }
 
 -- a process leaves
-pub not_server : (p : Pid) → pid_eq p switchboard ≡ false → pid_eq p manager ≡ false → IsServer p → ⊥
-not_server p one two (home, inl num) = grind (arith, nat_tests)
-not_server p one two (home, inr num) = grind (arith, nat_tests)
-
 blocks_are : (memory : List ℕ) (blocks : ℕ) → length memory ≡ 256 * blocks → length memory / 256 ≡ blocks
 blocks_are memory blocks h = omega arith
 
@@ -317,7 +313,7 @@ arriving_known (Some (Here x)) h = tt
 arriving_known (Some (Frozen d)) h = tt
 arriving_known (Some (Incoming a)) h = h
 arriving_known (Some (Forward place moves)) h = tt
-arriving_known (Some (Ended y)) h = tt
+arriving_known (Some Ended) h = tt
 
 pub called_off_lawfully : (s : KernelState) (p : Pid) → s.here < 16 → IsLawfulState s → Lawfully (calls_off s p)
 called_off_lawfully s p here h = arriving_called_off s p (incoming_of (s.records p)) here h (arriving_known (s.records p) (h.records p))

@@ -52,7 +52,7 @@ pub with_process : (s : KernelState) (p : Pid) (x : Process) → IsLawfulState s
 with_process s p x h lawful = record { records = knows s p (Here x) h lawful; room = h.room; inbox = h.inbox; servers = h.servers }
 
 pub without : (s : KernelState) (p : Pid) (x : Process) (w : Why) → IsLawfulState s → IsLawfulState (without_process s p x w)
-without s p x w h = record { records = knows s p (Ended w) h tt; room = same_room s.room _ _ h.room; inbox = h.inbox; servers = h.servers }
+without s p x w h = record { records = knows s p Ended h tt; room = same_room s.room _ _ h.room; inbox = h.inbox; servers = h.servers }
 
 pub with_one_more : (s : KernelState) (p : Pid) (x : Process) (blocks : ℕ) → IsLawfulState s → IsLawfulProcess x → IsLawfulState (with_child s p x blocks)
 with_one_more s p x blocks h lawful =

@@ -208,7 +208,7 @@ NoneMoves (Some (Here x)) = ⊤
 NoneMoves (Some (Frozen leaving)) = ⊥
 NoneMoves (Some (Incoming arriving)) = ⊥
 NoneMoves (Some (Forward machine moves)) = ⊥
-NoneMoves (Some (Ended y)) = ⊥
+NoneMoves (Some Ended) = ⊥
 
 record Opens (s : KernelState) : Type 0 where
   known : (p : Pid) → NoneMoves (s.records p)
@@ -254,7 +254,7 @@ known_lawful (Some (Here x)) h k = k x refl
 known_lawful (Some (Frozen leaving)) h k = absurd h
 known_lawful (Some (Incoming arriving)) h k = absurd h
 known_lawful (Some (Forward machine moves)) h k = absurd h
-known_lawful (Some (Ended y)) h k = absurd h
+known_lawful (Some Ended) h k = absurd h
 
 -- a machine that opens may take a turn
 pub opened_may : (b : Boot) (m : ℕ) → IsValid b → m < length b.machines → MayTurn b (opened b m)

@@ -4,10 +4,11 @@ use Rattle.dm_kernel.proofs.Names.{Addr, Link, Pid, IsLawfulEnclosed, IsMachine,
 use Rattle.dm_kernel.proofs.Names.{Incoming, Forward, Ended, frozen_of, incoming_of, Arrival, Departure, HasChunk, block_of, chunk_of, bind, Landed, Landing, IsAwaited, IsLawfulLanded, landing, IsWithin, after_serving, gone_answer}
 use Rattle.dm_kernel.proofs.Names.{serving_answer, IsLawfulLanding, lands_lawfully, answers_lawfully, serves_lawfully, Boot, BootImage, Reply, Why, image_is_valid, images_are_valid, manager, slots_of, switchboard, plain_process}
 use Rattle.dm_kernel.proofs.Names.{receive_refusals, first_failed, heard, manager_after, message_after, moved_back, answer_after, board_after, Called, calls, Completion, completes, completes_unless, completion, refusal, IsLawfulCalled}
-use Rattle.dm_kernel.proofs.Names.{completes_lawfully, IsLawfulDone, call_lawfully, Servers, Halt, asks_move, child_of, restarts, gives_piece, leaves, stays, answers_with, board_handles, board_took, ended_handles, handles}
-use Rattle.dm_kernel.proofs.Names.{here_handles, kernel_handles, lands, lands_as, makes, makes_of, manager_handles, manager_took, next_pid, process_handles, told_board, told_manager, IsLawfulArrival, IsLawfulDeparture, IsLawfulKnown}
-use Rattle.dm_kernel.proofs.Names.{IsLawfulPair, IsLawfulState, IsLawfulTurned, FitsEnded, FitsHere, FitsKernel, FrontMay, FitsKnown, FitsManager, FitsManagerWhat, IsSuch, MayHandle, MayRestart, MayTurn, called_with, ends, halts}
-use Rattle.dm_kernel.proofs.Names.{processor_of, ran, received_by, receives, serves, serves_status, with_machine, KernelState, KernelKnown, Turned, with_here, first_runnable, goes_round, turn, turns, answer, gone_what, state_of, calls_off}
+use Rattle.dm_kernel.proofs.Names.{completes_lawfully, IsLawfulDone, call_lawfully, Servers, Halt, asks_move, child_of, restarts, gives_piece, leaves, stays, answers_with, board_handles, board_took, ended_handles, handles, here_handles}
+use Rattle.dm_kernel.proofs.Names.{kernel_handles, lands, lands_as, makes, makes_of, manager_handles, manager_took, next_pid, process_handles, told_board, told_manager, IsLawfulArrival, IsLawfulDeparture, IsLawfulKnown, IsLawfulPair}
+use Rattle.dm_kernel.proofs.Names.{IsLawfulState, IsLawfulTurned, FitsEnded, FitsHere, FitsKernel, FrontMay, FitsKnown, FitsManager, FitsManagerWhat, IsSuch, MayHandle, MayRestart, MayTurn, called_with, ends, halts, processor_of, ran}
+use Rattle.dm_kernel.proofs.Names.{received_by, receives, serves, serves_status, with_machine, KernelState, KernelKnown, Turned, with_here, first_runnable, goes_round, turn, turns, answer, gone_what, state_of, calls_off, FitsServer}
+use Rattle.dm_kernel.proofs.Names.{server_handles, before_turn}
 use Rattle.dm_message.specs.declared.What.TheVariants as what
 use Rattle.dm_message.specs.declared.Outcome.TheVariants as ends
 use Rattle.dm_process.specs.declared.process.Status.TheVariants as status
@@ -22,8 +23,8 @@ use Rattle.dm_kernel.specs.Handle.{has_room}
 use Rattle.dm_kernel.proofs.Making.{image_fits}
 use Rattle.dm_kernel.proofs.Serving.{first_is_on, has_run, runs_lawfully}
 use Rattle.dm_kernel.proofs.LawfulMoves.{asked_lawfully, asks_lawfully, asks_move_lawfully, board_follows_lawfully, chunk_lawfully, forwards_lawfully, gives_lawfully}
-use Rattle.dm_kernel.proofs.LawfulMoves.{holds_arriving_lawfully, holds_leaving_lawfully, leaves_lawfully, manager_follows_lawfully, migrates_lawfully, not_server, process_follows_lawfully, restarts_lawfully, stays_lawfully}
-use Rattle.dm_kernel.proofs.LawfulMoves.{arriving_known, called_off_lawfully, hears_lawfully}
+use Rattle.dm_kernel.proofs.LawfulMoves.{holds_arriving_lawfully, holds_leaving_lawfully, leaves_lawfully, manager_follows_lawfully, migrates_lawfully, process_follows_lawfully, restarts_lawfully, stays_lawfully, arriving_known}
+use Rattle.dm_kernel.proofs.LawfulMoves.{called_off_lawfully, hears_lawfully}
 use Rattle.dm_kernel.proofs.LawfulRows.{Lawfully, all_dropped, answer_lawfully, child_lawfully, enough, if_lawfully, none_said, of_known, routed, routes_lawfully, said, with_one_more, with_process, with_queued, with_stopped, without}
 
 -- a process that executes
@@ -117,7 +118,7 @@ serves_known quantum s p (Some (Here x)) machine h e = status_lawfully quantum s
 serves_known quantum s p (Some (Frozen leaving)) machine h e = tt
 serves_known quantum s p (Some (Incoming arriving)) machine h e = tt
 serves_known quantum s p (Some (Forward place moves)) machine h e = tt
-serves_known quantum s p (Some (Ended y)) machine h e = tt
+serves_known quantum s p (Some Ended) machine h e = tt
 
 -- a message for a process
 answers_with_lawfully : (s : KernelState) (m : Message) (x : Process) (o : Option Message) → s.here < 16 → IsLawfulState s → IsLawfulMessage m → IsLawfulProcess x → IsWithin (length x.memory) m.what
@@ -182,15 +183,6 @@ ended_lawfully s m (what.Migrate to) machine h message fits = record { state = h
 ended_lawfully s m (what.Update about) machine h message fits = record { state = h; parts = said none_said }
 ended_lawfully s m w machine h message fits = absurd fits
 
-known_lawfully : (s : KernelState) (m : Message) (o : Option KernelKnown) → s.here < 16 → IsLawfulState s → IsLawfulMessage m → ((x : Process) → o ≡ Some (Here x) → ¬ IsServer x.pid) → FitsKnown s m o
-    → s.records m.to.pid ≡ o → Lawfully (process_handles s m o)
-known_lawfully s m None machine h message none fits e = tt
-known_lawfully s m (Some (Here x)) machine h message none fits e = here_lawfully s m x m.what machine h message message.what (of_known s m.to.pid (Some (Here x)) h e) (none x refl) fits
-known_lawfully s m (Some (Frozen d)) machine h message none fits e = holds_leaving_lawfully s m d h (of_known s m.to.pid (Some (Frozen d)) h e) message
-known_lawfully s m (Some (Incoming a)) machine h message none fits e = holds_arriving_lawfully s m a h (of_known s m.to.pid (Some (Incoming a)) h e) message
-known_lawfully s m (Some (Forward place moves)) machine h message none fits e = forwards_lawfully s m place moves machine (of_known s m.to.pid (Some (Forward place moves)) h e) h message
-known_lawfully s m (Some (Ended y)) machine h message none fits e = ended_lawfully s m m.what machine h message fits
-
 -- a message for the kernel
 makes_lawfully : (b : Boot) (s : KernelState) (m : Message) (links : List Link) (i : BootImage) (room : Bool) → s.here < 16 → IsLawfulState s → IsLawfulMessage m
     → image_is_valid i ≡ true → length links ≤ 3 → All IsLawfulEnclosed links → Lawfully (makes b s m links i room)
@@ -216,7 +208,7 @@ each_leaving (Some (Here x)) go h k = tt
 each_leaving (Some (Frozen d)) go h k = k d refl h
 each_leaving (Some (Incoming a)) go h k = tt
 each_leaving (Some (Forward place moves)) go h k = tt
-each_leaving (Some (Ended y)) go h k = tt
+each_leaving (Some Ended) go h k = tt
 
 each_arriving : (o : Option KernelKnown) (go : Arrival → Option Turned) → IfSome o IsLawfulKnown → ((a : Arrival) → incoming_of o ≡ Some a → IsLawfulArrival a → Lawfully (go a)) → Lawfully (bind (incoming_of o) go)
 each_arriving None go h k = tt
@@ -224,7 +216,7 @@ each_arriving (Some (Here x)) go h k = tt
 each_arriving (Some (Frozen d)) go h k = tt
 each_arriving (Some (Incoming a)) go h k = k a refl h
 each_arriving (Some (Forward place moves)) go h k = tt
-each_arriving (Some (Ended y)) go h k = tt
+each_arriving (Some Ended) go h k = tt
 
 such : {X : Type 0} (P : X → Type 0) (o : Option X) (x : X) → o ≡ Some x → IsSuch P o → P x
 such P None x e h = absurd h
@@ -315,27 +307,39 @@ manager_lawfully : (s : KernelState) (m : Message) (o : Option Servers) → s.he
 manager_lawfully s m None machine h pair message fits = tt
 manager_lawfully s m (Some v) machine h pair message fits = manager_told_lawfully s m v m.what machine h pair message message.what fits refl
 
+server_lawfully : (s : KernelState) (m : Message) → s.here < 16 → IsLawfulState s → IsLawfulMessage m → FitsServer s m → Lawfully (server_handles s m)
+server_lawfully s m machine h message fits =
+    if_lawfully (pid_eq m.to.pid switchboard) (board_handles s m s.servers) (if pid_eq m.to.pid manager then manager_handles s m s.servers else None)
+    (λ is. board_lawfully s m s.servers machine h h.servers message)
+    (λ off. if_lawfully (pid_eq m.to.pid manager) (manager_handles s m s.servers) None (λ is. manager_lawfully s m s.servers machine h h.servers message (fits.manager is)) (λ none. tt))
+
+known_lawfully : (s : KernelState) (m : Message) (o : Option KernelKnown) → s.here < 16 → IsLawfulState s → IsLawfulMessage m → ((x : Process) → o ≡ Some (Here x) → ¬ IsServer x.pid) → FitsKnown s m o
+    → s.records m.to.pid ≡ o → Lawfully (process_handles s m o)
+known_lawfully s m None machine h message none fits e = server_lawfully s m machine h message fits
+known_lawfully s m (Some (Here x)) machine h message none fits e = here_lawfully s m x m.what machine h message message.what (of_known s m.to.pid (Some (Here x)) h e) (none x refl) fits
+known_lawfully s m (Some (Frozen d)) machine h message none fits e = holds_leaving_lawfully s m d h (of_known s m.to.pid (Some (Frozen d)) h e) message
+known_lawfully s m (Some (Incoming a)) machine h message none fits e = holds_arriving_lawfully s m a h (of_known s m.to.pid (Some (Incoming a)) h e) message
+known_lawfully s m (Some (Forward place moves)) machine h message none fits e = forwards_lawfully s m place moves machine (of_known s m.to.pid (Some (Forward place moves)) h e) h message
+known_lawfully s m (Some Ended) machine h message none fits e = ended_lawfully s m m.what machine h message fits
+
 -- each process that is here bears its name
 abbrev AreNamed : KernelState → Type 0
 AreNamed s = (p : Pid) (x : Process) → s.records p ≡ Some (Here x) → x.pid ≡ p
 
-no_server_here : (s : KernelState) (p : Pid) → AreNamed s → pid_eq p switchboard ≡ false → pid_eq p manager ≡ false → (x : Process) → s.records p ≡ Some (Here x) → ¬ IsServer x.pid
-no_server_here s p named one two x e server = not_server p one two (subst IsServer (named p x e) server)
+no_server_here : (s : KernelState) (p : Pid) → AreNamed s → (IsServer p → s.records p ≡ None) → (x : Process) → s.records p ≡ Some (Here x) → ¬ IsServer x.pid
+no_server_here s p named none x e server = let f : None ≡ Some (Here x) = sym (none (subst IsServer (named p x e) server)) ∙ e in cc
 
 -- a message
 handles_lawfully : (b : Boot) (s : KernelState) (m : Message) → s.here < 16 → images_are_valid b.images ≡ true → IsLawfulState s → AreNamed s → MayHandle b s m → Lawfully (handles b s m)
 handles_lawfully b s m machine images h named may =
-    if_lawfully (m.to.pid.num == 0) (kernel_handles b s m m.what) _
+    if_lawfully (m.to.pid.num == 0) (kernel_handles b s m m.what) (process_handles s m (s.records m.to.pid))
     (λ is. kernel_lawfully b s m m.what machine images h may.lawful may.lawful.what (may.for_kernel is))
-    (λ no.
-    if_lawfully (pid_eq m.to.pid switchboard) (board_handles s m s.servers) _
-    (λ is. board_lawfully s m s.servers machine h h.servers may.lawful)
-    (λ nor.
-    if_lawfully (pid_eq m.to.pid manager) (manager_handles s m s.servers) (process_handles s m (s.records m.to.pid))
-    (λ is. manager_lawfully s m s.servers machine h h.servers may.lawful (may.for_manager is))
-    (λ none. known_lawfully s m (s.records m.to.pid) machine h may.lawful (no_server_here s m.to.pid named nor none) (may.for_process no nor none) refl)))
+    (λ no. known_lawfully s m (s.records m.to.pid) machine h may.lawful (no_server_here s m.to.pid named may.for_server) (may.for_process no) refl)
 
--- without the message that is taken, and with the ring turned
+-- before the turn, without the message that is taken, and with the ring turned
+pub before_lawful : (s : KernelState) → IsLawfulState s → IsLawfulState (before_turn s)
+before_lawful s h = record { records = h.records; room = h.room; inbox = h.inbox; servers = h.servers }
+
 without_front : (s : KernelState) (m : Message) (rest : List Message) → s.inbox ≡ m ∷ rest → IsLawfulState s → IsLawfulState (record s { inbox = rest })
 without_front s m rest e h =
     record { records = h.records; room = h.room; inbox = All-tail IsLawfulMessage m rest (subst (All IsLawfulMessage) e h.inbox); servers = h.servers }
@@ -343,26 +347,26 @@ without_front s m rest e h =
 with_ring : (s : KernelState) (ring : List Pid) → IsLawfulState s → IsLawfulState (record s { ring = ring })
 with_ring s ring h = record { records = h.records; room = h.room; inbox = h.inbox; servers = h.servers }
 
-fits_still : (b : Boot) (s : KernelState) (m : Message) (rest : List Message) (w : What) → FitsKernel b s m w → FitsKernel b (record s { inbox = rest }) m w
+fits_still : (b : Boot) (s : KernelState) (m : Message) (rest : List Message) (w : What) → FitsKernel b s m w → FitsKernel b (record (before_turn s) { inbox = rest }) m w
 fits_still b s m rest (what.Create image links) h = h
 fits_still b s m rest w h = h
 
-known_still : (s : KernelState) (m : Message) (rest : List Message) (o : Option KernelKnown) → FitsKnown s m o → FitsKnown (record s { inbox = rest }) m o
-known_still s m rest None h = h
+known_still : (s : KernelState) (m : Message) (rest : List Message) (o : Option KernelKnown) → FitsKnown s m o → FitsKnown (record (before_turn s) { inbox = rest }) m o
+known_still s m rest None h = record { server = h.server; board = h.board; manager = h.manager }
 known_still s m rest (Some (Here x)) h = here_still s m x rest m.what h
   where
-    here_still : (s : KernelState) (m : Message) (x : Process) (rest : List Message) (w : What) → FitsHere s m x w → FitsHere (record s { inbox = rest }) m x w
+    here_still : (s : KernelState) (m : Message) (x : Process) (rest : List Message) (w : What) → FitsHere s m x w → FitsHere (record (before_turn s) { inbox = rest }) m x w
     here_still s m x rest (what.Migrate to) h = h
     here_still s m x rest (what.Move to) h = h
     here_still s m x rest w h = h
 known_still s m rest (Some (Frozen d)) h = h
 known_still s m rest (Some (Incoming a)) h = h
 known_still s m rest (Some (Forward place moves)) h = h
-known_still s m rest (Some (Ended y)) h = h
+known_still s m rest (Some Ended) h = h
 
-may_front : (b : Boot) (s : KernelState) (m : Message) (rest : List Message) → MayHandle b s m → MayHandle b (record s { inbox = rest }) m
+may_front : (b : Boot) (s : KernelState) (m : Message) (rest : List Message) → MayHandle b s m → MayHandle b (record (before_turn s) { inbox = rest }) m
 may_front b s m rest h =
-    record { lawful = h.lawful; for_kernel = λ is. fits_still b s m rest m.what (h.for_kernel is); for_board = h.for_board; for_manager = h.for_manager; for_process = λ no nor none. known_still s m rest (s.records m.to.pid) (h.for_process no nor none) }
+    record { lawful = h.lawful; for_kernel = λ is. fits_still b s m rest m.what (h.for_kernel is); for_process = λ no. known_still s m rest (s.records m.to.pid) (h.for_process no); for_server = h.for_server }
 
 round_lawfully : (b : Boot) (s : KernelState) (o : Option Pid) → s.here < 16 → IsLawfulState s → Lawfully (goes_round b s o)
 round_lawfully b s None machine h = record { state = h; parts = said none_said }
@@ -370,10 +374,10 @@ round_lawfully b s (Some p) machine h =
     serves_known b.quantum (record s { ring = moved_back p s.ring }) p (s.records p) machine (with_ring s (moved_back p s.ring) h) refl
 
 turns_lawfully : (b : Boot) (s : KernelState) (inbox : List Message) → s.inbox ≡ inbox → s.here < 16 → images_are_valid b.images ≡ true → IsLawfulState s → AreNamed s
-    → FrontMay b s inbox → Lawfully (turns b s inbox)
-turns_lawfully b s [] e machine images h named may = round_lawfully b s (first_runnable s.records s.ring) machine h
+    → FrontMay b s inbox → Lawfully (turns b (before_turn s) inbox)
+turns_lawfully b s [] e machine images h named may = round_lawfully b (before_turn s) (first_runnable s.records s.ring) machine (before_lawful s h)
 turns_lawfully b s (m ∷ rest) e machine images h named may =
-    handles_lawfully b (record s { inbox = rest }) m machine images (without_front s m rest e h) named (may_front b s m rest may)
+    handles_lawfully b (record (before_turn s) { inbox = rest }) m machine images (without_front (before_turn s) m rest e (before_lawful s h)) named (may_front b s m rest may)
 
 some_lawfully : (o : Option Turned) (t : Turned) → o ≡ Some t → Lawfully o → IsLawfulTurned t
 some_lawfully None t e h = absurd (cc)

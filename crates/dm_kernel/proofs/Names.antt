@@ -6,8 +6,8 @@ pub use Rattle.std.proofs.lemmas.Fn.{filter_same}
 pub use Rattle.std.proofs.lemmas.List.{take_more}
 pub use Rattle.std.proofs.lemmas.List.Elements.{All-head, All-tail}
 pub use Rattle.std.proofs.lemmas.Option.{slice_get_read}
-pub use Rattle.std.specs.Option.{option_copied_mut}
-pub use Rattle.std.specs.Prelude.{Vec, ⊤}
+pub use Rattle.std.specs.Option.{option_copied, option_copied_mut}
+pub use Rattle.std.specs.Prelude.{Vec, fold, ⊤}
 pub use Rattle.std.specs.declared.alloc.Global.{Global}
 pub use Rattle.dm_link.specs.Names.{pid_of}
 pub use Rattle.dm_records.proofs.Names.{at}
@@ -81,13 +81,13 @@ pub use Rattle.dm_kernel.specs.Coming.{accepts, answers_ask, calling_off, calls_
 pub use Rattle.dm_kernel.specs.Departing.{asked_to_move, freezes, freezing, gives_piece, holds_leaving, leaves, migrates, stays, tells_asker, with_frozen}
 pub use Rattle.dm_kernel.specs.Following.{board_follows, forwards, forwards_and, manager_follows, process_follows}
 pub use Rattle.dm_kernel.specs.Handle.{answers_with, board_handles, board_took, ended_handles, handles, here_handles, kernel_handles, lands, lands_as, makes, makes_of, manager_handles, manager_took, next_pid, process_handles, routes}
-pub use Rattle.dm_kernel.specs.Handle.{told_board, told_manager}
+pub use Rattle.dm_kernel.specs.Handle.{server_handles, told_board, told_manager}
 pub use Rattle.dm_kernel.specs.Lawful.{AreLawful, IsLawfulArrival, IsLawfulAsker, IsLawfulDeparture, IsLawfulKnown, IsLawfulPair, IsLawfulPart, IsLawfulRoom, IsLawfulState, IsLawfulTurned}
-pub use Rattle.dm_kernel.specs.May.{FitsBoardWhat, FitsEnded, FitsHere, FitsKernel, FitsKnown, FitsManager, FitsManagerWhat, FrontMay, IsSuch, MayAct, MayHandle, MayRestart, MayTurn, most}
+pub use Rattle.dm_kernel.specs.May.{FitsBoardWhat, FitsEnded, FitsHere, FitsKernel, FitsKnown, FitsManager, FitsManagerWhat, FitsServer, FrontMay, IsSuch, MayAct, MayHandle, MayRestart, MayTurn, most}
 pub use Rattle.dm_kernel.specs.Meets.{Answers, IsIn, MeetsSome, kernel_state}
 pub use Rattle.dm_kernel.specs.Serve.{Ran, after_row, called_with, completed_label, does, ends, executes, halts, one_more, processor_of, ran, received, received_by, receives, serves, serves_status, with_machine}
 pub use Rattle.dm_kernel.specs.Served.{Executes, HasPlace, IsHere, Receives, Serves}
-pub use Rattle.dm_kernel.specs.State.{KernelKnown, KernelState, Turned, blocks_of, drops, own, own_id, says, turned, with_here, with_sent, without_process}
+pub use Rattle.dm_kernel.specs.State.{KernelKnown, KernelState, Turned, before_turn, blocks_of, drops, own, own_id, says, turned, with_here, with_sent, without_process}
 pub use Rattle.dm_kernel.specs.Turn.{first_runnable, goes_round, known_is_runnable, turn, turns}
 pub use Rattle.dm_kernel.specs.declared.kernel.Kernel.{Kernel}
 pub use Rattle.dm_kernel.specs.declared.kernel.Servers.{Servers}

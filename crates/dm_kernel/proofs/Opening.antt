@@ -15,6 +15,7 @@ is_state k s h =
       sent = h.sent i;
       room = h.room i;
       servers = h.servers i;
+      over = h.over i;
     }
 
 -- the processes that are left have their room

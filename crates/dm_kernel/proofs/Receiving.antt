@@ -54,6 +54,7 @@ is_in k s e =
       sent = ap (λ (t : KernelState). t.sent) e;
       room = ap (λ (t : KernelState). t.room) e;
       servers = ap (λ (t : KernelState). t.servers) e;
+      over = ap (λ (t : KernelState). t.over) e;
     }
 
 pub says_one : (k : Kernel) (s : KernelState) (part : Part) (r : Result (Vec Part Global) NoMemory) (o : Option Turned) → turned s (part ∷ []) ≡ o → kernel_state k ≡ s → IfOk r (λ parts. parts.items ≡ part ∷ [])

@@ -64,7 +64,7 @@ serves_ready quantum s p (Some (Here x)) h = sym (ap (serves_status quantum s p 
 serves_ready quantum s p (Some (Frozen leaving)) h = absurd h
 serves_ready quantum s p (Some (Incoming arriving)) h = absurd h
 serves_ready quantum s p (Some (Forward machine moves)) h = absurd h
-serves_ready quantum s p (Some (Ended y)) h = absurd h
+serves_ready quantum s p (Some Ended) h = absurd h
 
 pub serves_waiting : (quantum : ℕ) (s : KernelState) (p : Pid) (mask place : ℕ) (o : Option KernelKnown) → IsHere (λ x. Takes x mask place) o
     → bind (here_of o) (λ x. receives s p x mask (first_on mask x.queue)) ≡ serves quantum s p o
@@ -73,7 +73,7 @@ serves_waiting quantum s p mask place (Some (Here x)) h = sym (ap (serves_status
 serves_waiting quantum s p mask place (Some (Frozen leaving)) h = absurd h
 serves_waiting quantum s p mask place (Some (Incoming arriving)) h = absurd h
 serves_waiting quantum s p mask place (Some (Forward machine moves)) h = absurd h
-serves_waiting quantum s p mask place (Some (Ended y)) h = absurd h
+serves_waiting quantum s p mask place (Some Ended) h = absurd h
 
 -- it has its slot and its blocks still
 pub has_place : (s t : KernelState) (p : Pid) (x y : Process) (records : Pid → Option KernelKnown) → t.room ≡ s.room → ((q : Pid) → t.records q ≡ with_record records p (Here y) q)

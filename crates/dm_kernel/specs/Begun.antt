@@ -57,6 +57,7 @@ empty b m =
       sent = 0;
       room = room_of (slice_get b.machines m);
       servers = servers_of b m;
+      over = None;
     }
 
 abbrev pub opened : Boot → ℕ → KernelState

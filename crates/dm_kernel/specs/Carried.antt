@@ -47,7 +47,7 @@ KnownIsWhole here w (Some (Here x)) = WhereSentOff here w (CanMove x)
 KnownIsWhole here w (Some (Frozen leaving)) = ⊤
 KnownIsWhole here w (Some (Incoming arriving)) = ⊤
 KnownIsWhole here w (Some (Forward machine moves)) = ⊤
-KnownIsWhole here w (Some (Ended y)) = ⊤
+KnownIsWhole here w (Some Ended) = ⊤
 
 -- so it is with the receiver of a message, if that is no kernel and no server
 abbrev pub FreezesReceiverWhole : KernelState → Message → Type 0

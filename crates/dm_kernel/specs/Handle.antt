@@ -127,15 +127,6 @@ ended_handles s m (what.Moved outcome) = None
 ended_handles s m (what.CallOff pid) = None
 ended_handles s m (what.Bury pid) = None
 
--- by what is known of the receiver
-abbrev pub process_handles : KernelState → Message → Option KernelKnown → Option Turned
-process_handles s m None = None
-process_handles s m (Some (Here x)) = here_handles s m x m.what
-process_handles s m (Some (Frozen leaving)) = holds_leaving s m leaving
-process_handles s m (Some (Incoming arriving)) = holds_arriving s m arriving
-process_handles s m (Some (Forward machine moves)) = forwards s m machine moves
-process_handles s m (Some (Ended y)) = ended_handles s m m.what
-
 -- a process is made, the next of this home, or what is free is said
 abbrev pub next_pid : KernelState → Pid
 next_pid s = pid_of s.here (first_number + s.made)
@@ -210,10 +201,22 @@ abbrev pub manager_handles : KernelState → Message → Option Servers → Opti
 manager_handles s m None = None
 manager_handles s m (Some v) = manager_took s m v (manage.takes s.here v.manager m.id.n m.what)
 
--- the receiver is a kernel, a server or a process
-abbrev pub handles : Boot → KernelState → Message → Option Turned
-handles b s m =
-    if m.to.pid.num == 0 then kernel_handles b s m m.what
-    else if pid_eq m.to.pid switchboard then board_handles s m s.servers
+-- a server has no record where it is
+abbrev pub server_handles : KernelState → Message → Option Turned
+server_handles s m =
+    if pid_eq m.to.pid switchboard then board_handles s m s.servers
     else if pid_eq m.to.pid manager then manager_handles s m s.servers
-    else process_handles s m (s.records m.to.pid)
+    else None
+
+-- by what is known of the receiver
+abbrev pub process_handles : KernelState → Message → Option KernelKnown → Option Turned
+process_handles s m None = server_handles s m
+process_handles s m (Some (Here x)) = here_handles s m x m.what
+process_handles s m (Some (Frozen leaving)) = holds_leaving s m leaving
+process_handles s m (Some (Incoming arriving)) = holds_arriving s m arriving
+process_handles s m (Some (Forward machine moves)) = forwards s m machine moves
+process_handles s m (Some Ended) = ended_handles s m m.what
+
+-- the receiver is a kernel, or a server or another process
+abbrev pub handles : Boot → KernelState → Message → Option Turned
+handles b s m = if m.to.pid.num == 0 then kernel_handles b s m m.what else process_handles s m (s.records m.to.pid)

@@ -47,7 +47,7 @@ IsLawfulKnown (Here x) = IsLawfulProcess x
 IsLawfulKnown (Frozen d) = IsLawfulDeparture d
 IsLawfulKnown (Incoming a) = IsLawfulArrival a
 IsLawfulKnown (Forward machine moves) = IsMachine machine
-IsLawfulKnown (Ended y) = Unit {0}
+IsLawfulKnown Ended = Unit {0}
 
 -- no machine has more than packets can tell of
 pub record IsLawfulRoom (r : Taken) : Type 0 where

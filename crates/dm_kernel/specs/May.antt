@@ -1,5 +1,5 @@
 -- What a machine's turn counts on, as every machine of a good run has it.
-use Rattle.std.specs.Prelude.{◌≡◌, ⊤, ℕ, ◌+◌, ◌^◌, ◌<◌, ◌==◌, true, false, List, [], ◌∷◌, length, IsSome}
+use Rattle.std.specs.Prelude.{◌≡◌, ⊤, ℕ, ◌+◌, ◌^◌, ◌<◌, ◌==◌, ◌||◌, true, false, List, [], ◌∷◌, length, IsSome}
 use Rattle.std.specs.Option.{IfSome}
 use Rattle.std.specs.declared.option.Option.{Option}
 use Rattle.std.specs.declared.option.Option.TheVariants.{None, Some}
@@ -8,7 +8,7 @@ use Rattle.dm_link.specs.Names.{pid_eq}
 use Rattle.dm_message.specs.declared.Message.{Message}
 use Rattle.dm_message.specs.declared.What.{What}
 use Rattle.dm_message.specs.declared.What.TheVariants as what
-use Rattle.dm_message.specs.Lawful.{IsLawfulMessage}
+use Rattle.dm_message.specs.Lawful.{IsLawfulMessage, IsServer}
 use Rattle.dm_process.specs.declared.process.Process.{Process}
 use Rattle.dm_process.specs.Lawful.{IsLawfulProcess}
 use Rattle.dm_room.specs.Room.{HasTaken, Taken}
@@ -71,15 +71,6 @@ FitsEnded (what.Move machine) = ⊤
 FitsEnded (what.Update about) = ⊤
 FitsEnded w = ⊥
 
--- something is known of the receiver; what it may get waits or goes on where it leaves, comes or has gone
-abbrev pub FitsKnown : KernelState → Message → Option KernelKnown → Type 0
-FitsKnown s m None = ⊥
-FitsKnown s m (Some (Here x)) = FitsHere s m x m.what
-FitsKnown s m (Some (Frozen leaving)) = ⊤
-FitsKnown s m (Some (Incoming arriving)) = ⊤
-FitsKnown s m (Some (Forward machine moves)) = s.sent < most
-FitsKnown s m (Some (Ended y)) = FitsEnded m.what
-
 -- there is such a value
 abbrev pub IsSuch : {X : Type 0} → (X → Type 0) → Option X → Type 0
 IsSuch P None = ⊥
@@ -136,12 +127,27 @@ abbrev pub FitsManager : Message → Option Servers → Type 0
 FitsManager m None = ⊥
 FitsManager m (Some v) = FitsManagerWhat v m.id.n m.what
 
+-- a message for a server, which has no record where it is
+pub record FitsServer (s : KernelState) (m : Message) : Type 0 where
+  pub server : (pid_eq m.to.pid switchboard || pid_eq m.to.pid manager) ≡ true
+  pub board : pid_eq m.to.pid switchboard ≡ true → FitsBoard m s.servers
+  pub manager : pid_eq m.to.pid manager ≡ true → FitsManager m s.servers
+
+-- something is known of the receiver, or it is a server; what it may get waits or goes on where it leaves, comes or has gone
+abbrev pub FitsKnown : KernelState → Message → Option KernelKnown → Type 0
+FitsKnown s m None = FitsServer s m
+FitsKnown s m (Some (Here x)) = FitsHere s m x m.what
+FitsKnown s m (Some (Frozen leaving)) = ⊤
+FitsKnown s m (Some (Incoming arriving)) = ⊤
+FitsKnown s m (Some (Forward machine moves)) = s.sent < most
+FitsKnown s m (Some Ended) = FitsEnded m.what
+
 pub record MayHandle (b : Boot) (s : KernelState) (m : Message) : Type 0 where
   pub lawful : IsLawfulMessage m
   pub for_kernel : (m.to.pid.num == 0) ≡ true → FitsKernel b s m m.what
-  pub for_board : pid_eq m.to.pid switchboard ≡ true → FitsBoard m s.servers
-  pub for_manager : pid_eq m.to.pid manager ≡ true → FitsManager m s.servers
-  pub for_process : (m.to.pid.num == 0) ≡ false → pid_eq m.to.pid switchboard ≡ false → pid_eq m.to.pid manager ≡ false → FitsKnown s m (s.records m.to.pid)
+  pub for_process : (m.to.pid.num == 0) ≡ false → FitsKnown s m (s.records m.to.pid)
+  -- a server has no record where it is
+  pub for_server : IsServer m.to.pid → s.records m.to.pid ≡ None
 
 abbrev pub FrontMay : Boot → KernelState → List Message → Type 0
 FrontMay b s [] = ⊤

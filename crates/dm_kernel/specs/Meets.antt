@@ -23,6 +23,7 @@ pub record IsIn (k : Kernel) (s : KernelState) : Type 0 where
   pub sent : k.sent ≡ s.sent
   pub room : k.room ≡ s.room
   pub servers : k.servers ≡ s.servers
+  pub over : k.over ≡ s.over
 
 -- the kernel and the parts are these
 pub record Meets (k : Kernel) (said : List Part) (t : Turned) : Type 0 where

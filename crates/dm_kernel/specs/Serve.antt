@@ -108,4 +108,4 @@ serves quantum s p (Some (Here x)) = serves_status quantum s p x x.status
 serves quantum s p (Some (Frozen leaving)) = None
 serves quantum s p (Some (Incoming arriving)) = None
 serves quantum s p (Some (Forward machine moves)) = None
-serves quantum s p (Some (Ended y)) = None
+serves quantum s p (Some Ended) = None

@@ -24,7 +24,7 @@ IsHere P (Some (Here x)) = P x
 IsHere P (Some (Frozen leaving)) = ⊥
 IsHere P (Some (Incoming arriving)) = ⊥
 IsHere P (Some (Forward machine moves)) = ⊥
-IsHere P (Some (Ended y)) = ⊥
+IsHere P (Some Ended) = ⊥
 
 -- it is here, and has its slot and its blocks
 pub record HasPlace (s : KernelState) (x : Process) : Type 0 where

@@ -1,7 +1,7 @@
 -- The kernel of one machine over plain functions and lists, and what an event gives.
 use Rattle.std.specs.Prelude.{ℕ, ◌+◌, ◌/◌, false, List, length, map}
 use Rattle.std.specs.declared.option.Option.{Option}
-use Rattle.std.specs.declared.option.Option.TheVariants.{Some}
+use Rattle.std.specs.declared.option.Option.TheVariants.{None, Some}
 use Rattle.dm_link.specs.declared.Addr.{Addr}
 use Rattle.dm_link.specs.declared.Pid.{Pid}
 use Rattle.dm_link.specs.Names.{pid_of}
@@ -27,7 +27,7 @@ use Rattle.dm_kernel.specs.declared.part.Part.TheVariants.{Says}
 
 -- what a machine knows of a process
 abbrev pub KernelKnown : Type 0
-KernelKnown = record_.Record Process Departure Arrival Why
+KernelKnown = record_.Record Process Departure Arrival
 
 pub record KernelState : Type 0 where
   pub here : ℕ
@@ -42,6 +42,8 @@ pub record KernelState : Type 0 where
   pub sent : ℕ
   pub room : Taken
   pub servers : Option Servers
+  -- the process that ended in the last turn, if one did, and why
+  pub over : Option (Pid × Why)
 
 -- a kernel after an event, and what it says and routes, in order
 pub record Turned : Type 0 where
@@ -61,7 +63,7 @@ with_here s p x = record s { records = with_record s.records p (Here x) }
 abbrev pub blocks_of : Process → ℕ
 blocks_of x = length x.memory / 256
 
--- a process that ends leaves the ring, its slot and its blocks, and its queue goes message by message
+-- a process that ends leaves the ring, its slot and its blocks, and its queue goes message by message; the kernel says why
 abbrev pub dropped : Message → Part
 dropped m = says (label.Dropped m.id)
 
@@ -71,10 +73,15 @@ drops ms = map dropped ms
 abbrev pub without_process : KernelState → Pid → Process → Why → KernelState
 without_process s p x y =
     record s {
-      records = with_record s.records p (Ended y);
+      records = with_record s.records p Ended;
       ring = without p s.ring;
       room = with_released s.room (blocks_of x);
+      over = Some (p, y);
     }
+
+-- nobody has ended yet, as it is before a turn
+abbrev pub before_turn : KernelState → KernelState
+before_turn s = record s { over = None }
 
 -- what is known of a process is set
 abbrev pub with_known : KernelState → Pid → KernelKnown → KernelState

@@ -11,7 +11,7 @@ use Rattle.dm_onekernel.specs.declared.boot.Boot.{Boot}
 use Rattle.dm_line.specs.declared.line.Line.TheVariants as line
 use Rattle.dm_line.specs.Sets.{moved_back}
 use Rattle.dm_kernel.specs.declared.part.Part.TheVariants.{Says}
-use Rattle.dm_kernel.specs.State.{KernelKnown, KernelState, Turned, turned}
+use Rattle.dm_kernel.specs.State.{KernelKnown, KernelState, Turned, before_turn, turned}
 use Rattle.dm_kernel.specs.Serve.{serves}
 use Rattle.dm_kernel.specs.Handle.{handles}
 
@@ -22,7 +22,7 @@ known_is_runnable (Some (Here x)) = is_runnable x
 known_is_runnable (Some (Frozen leaving)) = false
 known_is_runnable (Some (Incoming arriving)) = false
 known_is_runnable (Some (Forward machine moves)) = false
-known_is_runnable (Some (Ended y)) = false
+known_is_runnable (Some Ended) = false
 
 abbrev pub first_runnable : (Pid → Option KernelKnown) → List Pid → Option Pid
 first_runnable records [] = None
@@ -38,4 +38,4 @@ turns b s [] = goes_round b s (first_runnable s.records s.ring)
 turns b s (m ∷ rest) = handles b (record s { inbox = rest }) m
 
 abbrev pub turn : Boot → KernelState → Option Turned
-turn b s = turns b s s.inbox
+turn b s = turns b (before_turn s) s.inbox

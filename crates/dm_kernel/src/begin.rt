@@ -47,6 +47,7 @@ impl Kernel {
             made: 0,
             sent: 0,
             room: Room::new(machine.slots, machine.blocks),
+            over: None,
             servers,
         })
     }

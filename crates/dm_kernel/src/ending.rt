@@ -35,14 +35,15 @@ impl Kernel {
         Ok(parts)
     }
 
-    /// Takes a process out of the machine, which knows from now on why it ended; what waited for it.
+    /// Takes a process out of the machine, which says that it ended, and why; what waited for it.
     pub(crate) fn take_out(&mut self, pid: Pid, why: Why) -> Queue<Message>
         requires { IsHere (HasPlace (kernel_state self.old)) (at self.old.records pid) }
         ensures state { (x : Process) → here_of (at self.old.records pid) ≡ Some x → IsIn self.new (without_process (kernel_state self.old) pid x why) }
         ensures queue { (x : Process) → here_of (at self.old.records pid) ≡ Some x → result ≡ x.queue }
     {
         let process = self.records.take_here(pid);
-        self.records.put_back(pid, Record::Ended(why));
+        self.records.put_back(pid, Record::Ended);
+        self.over = Some((pid, why));
         self.room.release(process.memory.blocks());
         remove(&mut self.ring, pid);
         let Process { queue, .. } = process;

@@ -1,4 +1,4 @@
-//! How a message is handled: by its receiver, by what is known of that, and by its kind.
+//! How a message is handled: by what is known of its receiver, by who that is, and by its kind.
 ghost use Rattle.std.specs.Prelude.{◌≡◌, ◌<◌, IfSome, OnOk, Some, true};
 ghost use Rattle.dm_records.specs.Records.{at, here_of};
 ghost use Rattle.dm_records.specs.declared.record.Record.TheVariants.{Here};
@@ -7,8 +7,8 @@ ghost use Rattle.dm_migrate.specs.Departure.{CanMove};
 ghost use Rattle.dm_onekernel.specs.Boot.{images_are_valid};
 ghost use Rattle.dm_onekernel.specs.Options.{bind};
 ghost use Rattle.dm_kernel.specs.Carried.{FreezesReceiverWhole, KnownIsWhole, WhereSentOff};
-ghost use Rattle.dm_kernel.specs.Handle.{ended_handles, handles, here_handles, process_handles};
-ghost use Rattle.dm_kernel.specs.May.{FitsEnded, FitsKnown, MayAct, MayHandle};
+ghost use Rattle.dm_kernel.specs.Handle.{ended_handles, handles, here_handles, process_handles, server_handles};
+ghost use Rattle.dm_kernel.specs.May.{FitsEnded, FitsKnown, FitsServer, MayAct, MayHandle};
 ghost use Rattle.dm_kernel.specs.Meets.{Answers, kernel_state};
 ghost use Rattle.dm_kernel.specs.Served.{Handles, IsHere};
 
@@ -35,19 +35,14 @@ impl Kernel {
         ensures answers { Answers result self.new (handles boot.now (kernel_state self.old) message) }
         ensures whole { OnOk result (FreezesReceiverWhole (kernel_state self.old) message) }
     {
-        let to = message.get().to.pid;
-        if to.num == 0 {
+        if message.get().to.pid.num == 0 {
             self.for_kernel(boot, message.get())
-        } else if to == SWITCHBOARD {
-            self.for_board(message.get())
-        } else if to == MANAGER {
-            self.for_manager(message.get())
         } else {
             self.for_process(message)
         }
     }
 
-    /// Handles a message for a process.
+    /// Handles a message for a process or a server.
     fn for_process(&mut self, message: Parcel<Message>) -> Result<Vec<Part>, NoMemory>
         requires lawful { IsLawfulMessage message }
         requires here { self.old.here < MACHINES }
@@ -56,15 +51,32 @@ impl Kernel {
         ensures answers { Answers result self.new (process_handles (kernel_state self.old) message (at self.old.records message.to.pid)) }
         ensures whole { OnOk result (KnownIsWhole self.old.here message.what (at self.old.records message.to.pid)) }
     {
-        match self.records.borrow(message.get().to.pid) {
-            Record::Here(_) => self.for_here(message),
-            Record::Frozen(_) => self.hold_leaving(message),
-            Record::Incoming(_) => self.hold_arriving(message),
-            Record::Forward { at, moves } => {
+        match self.records.get(message.get().to.pid) {
+            None => self.for_server(message.get()),
+            Some(Record::Here(_)) => self.for_here(message),
+            Some(Record::Frozen(_)) => self.hold_leaving(message),
+            Some(Record::Incoming(_)) => self.hold_arriving(message),
+            Some(Record::Forward { at, moves }) => {
                 let (at, moves) = (*at, *moves);
                 self.forward(message, at, moves)
             }
-            Record::Ended(_) => self.for_ended(message.get()),
+            Some(Record::Ended) => self.for_ended(message.get()),
+        }
+    }
+
+    /// Handles a message for a server, which has no record where it is.
+    fn for_server(&mut self, message: &Message) -> Result<Vec<Part>, NoMemory>
+        requires fits { FitsServer (kernel_state self.old) message.now }
+        requires here { self.old.here < MACHINES }
+        ensures { Answers result self.new (server_handles (kernel_state self.old) message.now) }
+    {
+        let to = message.to.pid;
+        if to == SWITCHBOARD {
+            self.for_board(message)
+        } else if to == MANAGER {
+            self.for_manager(message)
+        } else {
+            unreachable!()
         }
     }
 

@@ -19,7 +19,7 @@ pub struct Kernel {
     /// The machine's number, 0 to 15.
     pub(crate) here: u8,
     /// What is known of each process.
-    pub(crate) records: Records<Process, Leaving, Arriving, Why>,
+    pub(crate) records: Records<Process, Leaving, Arriving>,
     /// The processes that are here, in the order in which they are served.
     pub(crate) ring: Queue<Pid>,
     /// The messages that have come and wait to be handled.
@@ -30,6 +30,8 @@ pub struct Kernel {
     pub(crate) sent: u32,
     /// The slots and blocks.
     pub(crate) room: Room,
+    /// The process that ended in the last turn, and why.
+    pub(crate) over: Option<(Pid, Why)>,
     /// The servers, on machine 0.
     pub(crate) servers: Option<Servers>,
 }

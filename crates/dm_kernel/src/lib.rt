@@ -18,6 +18,7 @@ pub mod part;
 mod read;
 mod ring;
 pub mod run;
+mod runnable;
 mod serve;
 mod servers;
 mod service;

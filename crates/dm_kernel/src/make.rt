@@ -130,7 +130,7 @@ impl Kernel {
     pub(crate) fn set_known(
         &mut self,
         pid: Pid,
-        known: Record<Process, Leaving, Arriving, Why>,
+        known: Record<Process, Leaving, Arriving>,
     ) -> Result<(), NoMemory>
         ensures { OnOk result (IsIn self.new (with_known (kernel_state self.old) pid known)) }
     {

@@ -3,6 +3,7 @@ ghost use Rattle.std.specs.Prelude.{◌≡◌, ◌∷◌, ◌++◌, [], OnErr, O
 ghost use Rattle.std.specs.Option.{option_copied};
 
 use crate::kernel::{Kernel, Servers};
+use dm_link::Pid;
 use dm_lists::Queue;
 use dm_memory::{NoMemory, Parcel};
 use dm_message::Message;
@@ -22,7 +23,7 @@ impl Kernel {
     }
 
     /// What is known of each process.
-    pub fn records(&self) -> &Records<Process, Leaving, Arriving, Why>
+    pub fn records(&self) -> &Records<Process, Leaving, Arriving>
         ensures { result.now ≡ self.now.records }
     {
         &self.records
@@ -40,6 +41,13 @@ impl Kernel {
         ensures { result ≡ self.now.made }
     {
         self.made
+    }
+
+    /// The process that ended in the last turn, if one did, and why.
+    pub fn over(&self) -> Option<(Pid, Why)>
+        ensures { result ≡ self.now.over }
+    {
+        self.over
     }
 
     /// The servers, on machine 0.

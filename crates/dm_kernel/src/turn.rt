@@ -30,6 +30,7 @@ impl Kernel {
         // Where it froze a process, that one can be carried whole.
         ensures whole { OnOk result (FreezesWhole (kernel_state self.old) self.old.inbox) }
     {
+        self.over = None;
         match self.inbox.pop() {
             Some(message) => self.handle(boot, message),
             None => self.go_round(boot),

@@ -1,10 +1,10 @@
 -- A kernel stays on its machine, whatever a turn gives.
-use Rattle.dm_node.proofs.Names.{◌≡◌, ℕ, ◌==◌, Bool, true, false, List, [], ◌∷◌, refl, ◌∙◌, ⊤, if◌then◌else◌, slice_get, Option, None, Some, Ok, Err, Link, Pid, pid_eq, Message, What, Process, Status, first_on, Here, Frozen, Incoming}
-use Rattle.dm_node.proofs.Names.{Forward, Ended, frozen_of, incoming_of, is_told_back, Asker, kind_of, Arrival, restarted, with_piece, Departure, block_of, chunk_of, bind, has_room_for, Landed, Landing, landing, after_serving}
+use Rattle.dm_node.proofs.Names.{before_turn, ◌≡◌, ℕ, ◌==◌, Bool, true, false, List, [], ◌∷◌, refl, ◌∙◌, ⊤, if◌then◌else◌, slice_get, Option, None, Some, Ok, Err, Link, Pid, pid_eq, Message, What, Process, Status, first_on, Here, Frozen}
+use Rattle.dm_node.proofs.Names.{Incoming, Forward, Ended, frozen_of, incoming_of, is_told_back, Asker, kind_of, Arrival, restarted, with_piece, Departure, block_of, chunk_of, bind, has_room_for, Landed, Landing, landing, after_serving}
 use Rattle.dm_node.proofs.Names.{serving_answer, Boot, BootImage, BootProcess, manager, switchboard, MoveError, moves_child, moved_back, Called, Completed, calls, Completion, completion, Servers, asks_manager, asks_move, told_to_move}
 use Rattle.dm_node.proofs.Names.{begins_process, child_of, empty, with_all, with_child, accepts, restarts, restarts_as, takes_piece, took_piece, gives_piece, leaves, stays, forwards_and, Halt, answers_with, board_handles, board_took}
 use Rattle.dm_node.proofs.Names.{ended_handles, handles, has_room, here_handles, kernel_handles, lands, lands_as, makes, makes_of, manager_handles, manager_took, process_handles, told_board, told_manager, called_with, halts, processor_of}
-use Rattle.dm_node.proofs.Names.{ran, received, received_by, receives, serves, serves_status, with_machine, KernelState, KernelKnown, Turned, own_id, with_here, first_runnable, goes_round, turn, here, node_opened, state_of}
+use Rattle.dm_node.proofs.Names.{server_handles, ran, received, received_by, receives, serves, serves_status, with_machine, KernelState, KernelKnown, Turned, own_id, with_here, first_runnable, goes_round, turn, here, node_opened, state_of}
 use Rattle.dm_node.proofs.Names.{calls_arriving_off, calls_off, hears_piece, is_not_called, says_stale, turns_back, comes_from, is_whole}
 use Rattle.std.specs.declared.result.Result.{Result}
 use Rattle.dm_message.specs.declared.What.TheVariants as what
@@ -65,7 +65,7 @@ serves_stays quantum s p (Some (Here x)) = status_stays quantum s p x x.status
 serves_stays quantum s p (Some (Frozen leaving)) = tt
 serves_stays quantum s p (Some (Incoming arriving)) = tt
 serves_stays quantum s p (Some (Forward place moves)) = tt
-serves_stays quantum s p (Some (Ended y)) = tt
+serves_stays quantum s p (Some Ended) = tt
 
 -- a message is handled
 answers_stays : (s : KernelState) (m : Message) (x : Process) (o : Option Message) → StaysAt s.here (answers_with s m x o)
@@ -113,14 +113,6 @@ ended_stays s m w = tt
 forwards_stays : (s : KernelState) (m : Message) (place moves : ℕ) (told : Bool) → StaysAt s.here (forwards_and s m place moves told)
 forwards_stays s m place moves true = refl
 forwards_stays s m place moves false = refl
-
-known_stays : (s : KernelState) (m : Message) (o : Option KernelKnown) → StaysAt s.here (process_handles s m o)
-known_stays s m None = tt
-known_stays s m (Some (Here x)) = here_stays s m x m.what
-known_stays s m (Some (Frozen leaving)) = refl
-known_stays s m (Some (Incoming arriving)) = refl
-known_stays s m (Some (Forward place moves)) = forwards_stays s m place moves (is_told_back (kind_of m.what))
-known_stays s m (Some (Ended y)) = ended_stays s m m.what
 
 makes_stays : (b : Boot) (s : KernelState) (m : Message) (links : List Link) (i : BootImage) (room : Bool) → StaysAt s.here (makes b s m links i room)
 makes_stays b s m links i true = refl
@@ -192,11 +184,21 @@ manager_stays : (s : KernelState) (m : Message) (o : Option Servers) → StaysAt
 manager_stays s m None = tt
 manager_stays s m (Some v) = manager_took_stays s m v (manage.takes s.here v.manager m.id.n m.what)
 
+server_stays : (s : KernelState) (m : Message) → StaysAt s.here (server_handles s m)
+server_stays s m =
+    either s.here (pid_eq m.to.pid switchboard) (board_handles s m s.servers) (if pid_eq m.to.pid manager then manager_handles s m s.servers else None) (board_stays s m s.servers)
+    (either s.here (pid_eq m.to.pid manager) (manager_handles s m s.servers) None (manager_stays s m s.servers) tt)
+
+known_stays : (s : KernelState) (m : Message) (o : Option KernelKnown) → StaysAt s.here (process_handles s m o)
+known_stays s m None = server_stays s m
+known_stays s m (Some (Here x)) = here_stays s m x m.what
+known_stays s m (Some (Frozen leaving)) = refl
+known_stays s m (Some (Incoming arriving)) = refl
+known_stays s m (Some (Forward place moves)) = forwards_stays s m place moves (is_told_back (kind_of m.what))
+known_stays s m (Some Ended) = ended_stays s m m.what
+
 handles_stays : (b : Boot) (s : KernelState) (m : Message) → StaysAt s.here (handles b s m)
-handles_stays b s m =
-    either s.here (m.to.pid.num == 0) (kernel_handles b s m m.what) _ (kernel_stays b s m m.what)
-    (either s.here (pid_eq m.to.pid switchboard) (board_handles s m s.servers) _ (board_stays s m s.servers)
-    (either s.here (pid_eq m.to.pid manager) (manager_handles s m s.servers) (process_handles s m (s.records m.to.pid)) (manager_stays s m s.servers) (known_stays s m (s.records m.to.pid))))
+handles_stays b s m = either s.here (m.to.pid.num == 0) (kernel_handles b s m m.what) (process_handles s m (s.records m.to.pid)) (kernel_stays b s m m.what) (known_stays s m (s.records m.to.pid))
 
 -- a turn
 round_stays : (b : Boot) (s : KernelState) (o : Option Pid) → StaysAt s.here (goes_round b s o)
@@ -208,7 +210,7 @@ turns_stays b s [] = round_stays b s (first_runnable s.records s.ring)
 turns_stays b s (m ∷ rest) = handles_stays b (record s { inbox = rest }) m
 
 pub turn_stays : (b : Boot) (s : KernelState) → StaysAt s.here (turn b s)
-turn_stays b s = turns_stays b s s.inbox
+turn_stays b s = turns_stays b (before_turn s) s.inbox
 
 -- asking for a move
 told_stays : (s : KernelState) (p : Pid) (r : Result Message MoveError) → StaysAt s.here (told_to_move s p r)

@@ -5,10 +5,9 @@ ghost use Rattle.std.specs.Option.{option_copied, option_copied_mut};
 ghost use Rattle.dm_records.specs.Lent.{LendsArriving, LendsLeaving, LendsProcess};
 ghost use Rattle.dm_records.specs.Records.{arriving_of, leaving_of, process_of, whereabouts_of};
 
-/// What a machine knows of a process: `H` is a process that is here, `L` one that leaves, `A` one that arrives,
-/// `E` why one has ended.
+/// What a machine knows of a process: `H` is a process that is here, `L` one that leaves, `A` one that arrives.
 #[derive(Drop)]
-pub enum Record<H, L, A, E> {
+pub enum Record<H, L, A> {
     /// It is here.
     Here(H),
     /// It is here, but leaves, and doesn't run (1983).
@@ -18,7 +17,7 @@ pub enum Record<H, L, A, E> {
     /// It has gone on to machine `at`, 0 to 15, by its move number `moves`; that is all that is kept of it (1983).
     Forward { at: u8, moves: u32 },
     /// It has ended here.
-    Ended(E),
+    Ended,
 }
 
 /// Which of these a machine knows.
@@ -31,7 +30,7 @@ pub enum Whereabouts {
     Ended,
 }
 
-impl<H, L, A, E> Record<H, L, A, E> {
+impl<H, L, A> Record<H, L, A> {
     /// Where it says that its process is.
     pub fn whereabouts(&self) -> Whereabouts
         ensures { result ≡ whereabouts_of self.now }
@@ -44,12 +43,12 @@ impl<H, L, A, E> Record<H, L, A, E> {
                 at: *at,
                 moves: *moves,
             },
-            Record::Ended(_) => Whereabouts::Ended,
+            Record::Ended => Whereabouts::Ended,
         }
     }
     /// The process, if it is here, for writing.
     pub fn here_mut(&mut self) -> Option<&mut H>
-        ensures* writes_back { sem 𝓛 (LendsProcess H.row L.row A.row E.row self.entry result) }
+        ensures* writes_back { sem 𝓛 (LendsProcess H.row L.row A.row self.entry result) }
         ensures value { option_copied_mut result ≡ process_of self.old }
     {
         match self {
@@ -57,12 +56,12 @@ impl<H, L, A, E> Record<H, L, A, E> {
             Record::Frozen(_) => None,
             Record::Incoming(_) => None,
             Record::Forward { .. } => None,
-            Record::Ended(_) => None,
+            Record::Ended => None,
         }
     }
     /// The process, if it leaves, for writing.
     pub fn frozen_mut(&mut self) -> Option<&mut L>
-        ensures* writes_back { sem 𝓛 (LendsLeaving H.row L.row A.row E.row self.entry result) }
+        ensures* writes_back { sem 𝓛 (LendsLeaving H.row L.row A.row self.entry result) }
         ensures value { option_copied_mut result ≡ leaving_of self.old }
     {
         match self {
@@ -70,12 +69,12 @@ impl<H, L, A, E> Record<H, L, A, E> {
             Record::Frozen(leaving) => Some(leaving),
             Record::Incoming(_) => None,
             Record::Forward { .. } => None,
-            Record::Ended(_) => None,
+            Record::Ended => None,
         }
     }
     /// What has come of the process, if parts have come, for writing.
     pub fn incoming_mut(&mut self) -> Option<&mut A>
-        ensures* writes_back { sem 𝓛 (LendsArriving H.row L.row A.row E.row self.entry result) }
+        ensures* writes_back { sem 𝓛 (LendsArriving H.row L.row A.row self.entry result) }
         ensures value { option_copied_mut result ≡ arriving_of self.old }
     {
         match self {
@@ -83,7 +82,7 @@ impl<H, L, A, E> Record<H, L, A, E> {
             Record::Frozen(_) => None,
             Record::Incoming(arriving) => Some(arriving),
             Record::Forward { .. } => None,
-            Record::Ended(_) => None,
+            Record::Ended => None,
         }
     }
 
@@ -96,7 +95,7 @@ impl<H, L, A, E> Record<H, L, A, E> {
             Record::Frozen(_) => None,
             Record::Incoming(_) => None,
             Record::Forward { .. } => None,
-            Record::Ended(_) => None,
+            Record::Ended => None,
         }
     }
 
@@ -109,7 +108,7 @@ impl<H, L, A, E> Record<H, L, A, E> {
             Record::Frozen(leaving) => Some(leaving),
             Record::Incoming(_) => None,
             Record::Forward { .. } => None,
-            Record::Ended(_) => None,
+            Record::Ended => None,
         }
     }
 
@@ -122,7 +121,7 @@ impl<H, L, A, E> Record<H, L, A, E> {
             Record::Frozen(_) => None,
             Record::Incoming(arriving) => Some(arriving),
             Record::Forward { .. } => None,
-            Record::Ended(_) => None,
+            Record::Ended => None,
         }
     }
 
@@ -131,7 +130,6 @@ impl<H, L, A, E> Record<H, L, A, E> {
     where
         L: Drop,
         A: Drop,
-        E: Drop,
         ensures { result ≡ process_of self }
     {
         match self {
@@ -139,7 +137,7 @@ impl<H, L, A, E> Record<H, L, A, E> {
             Record::Frozen(_) => None,
             Record::Incoming(_) => None,
             Record::Forward { .. } => None,
-            Record::Ended(_) => None,
+            Record::Ended => None,
         }
     }
 
@@ -148,7 +146,6 @@ impl<H, L, A, E> Record<H, L, A, E> {
     where
         H: Drop,
         A: Drop,
-        E: Drop,
         ensures { result ≡ leaving_of self }
     {
         match self {
@@ -156,7 +153,7 @@ impl<H, L, A, E> Record<H, L, A, E> {
             Record::Frozen(leaving) => Some(leaving),
             Record::Incoming(_) => None,
             Record::Forward { .. } => None,
-            Record::Ended(_) => None,
+            Record::Ended => None,
         }
     }
 
@@ -165,7 +162,6 @@ impl<H, L, A, E> Record<H, L, A, E> {
     where
         H: Drop,
         L: Drop,
-        E: Drop,
         ensures { result ≡ arriving_of self }
     {
         match self {
@@ -173,7 +169,7 @@ impl<H, L, A, E> Record<H, L, A, E> {
             Record::Frozen(_) => None,
             Record::Incoming(arriving) => Some(arriving),
             Record::Forward { .. } => None,
-            Record::Ended(_) => None,
+            Record::Ended => None,
         }
     }
 }

@@ -15,13 +15,13 @@ use std::collections::BTreeMap;
 /// What a machine knows of processes. A record once made never goes, and only making one takes memory. A record can be
 /// taken out; its process keeps a place meanwhile, so it can be put back.
 #[derive(Drop)]
-pub struct Records<H, L, A, E> {
+pub struct Records<H, L, A> {
     /// A place for each process that ever had a record; it is empty while that is taken out.
-    places: BTreeMap<Pid, Option<Record<H, L, A, E>>>,
+    places: BTreeMap<Pid, Option<Record<H, L, A>>>,
 }
 
 #[tactic(auto, unfolding(crate::specs::Records::at, crate::specs::Records::HasPlace))]
-impl<H, L, A, E> Records<H, L, A, E> {
+impl<H, L, A> Records<H, L, A> {
     /// No records.
     pub fn new(alloc: Global) -> Self
         ensures { (q : Pid) → at result q ≡ None }
@@ -43,7 +43,7 @@ impl<H, L, A, E> Records<H, L, A, E> {
     }
 
     /// The record of a process, if there is one.
-    pub fn get(&self, pid: Pid) -> Option<&Record<H, L, A, E>>
+    pub fn get(&self, pid: Pid) -> Option<&Record<H, L, A>>
         ensures { option_copied result ≡ at self.now pid }
     {
         match self.places.get(&pid) {
@@ -53,7 +53,7 @@ impl<H, L, A, E> Records<H, L, A, E> {
     }
 
     /// The record of a process that has one.
-    pub fn borrow(&self, pid: Pid) -> &Record<H, L, A, E>
+    pub fn borrow(&self, pid: Pid) -> &Record<H, L, A>
         requires { IsSome (at self.now pid) }
         ensures { at self.now pid ≡ Some result.now }
     {
@@ -94,13 +94,12 @@ impl<H, L, A, E> Records<H, L, A, E> {
     pub fn set(
         &mut self,
         pid: Pid,
-        entry: Record<H, L, A, E>,
-    ) -> Result<(), (Record<H, L, A, E>, NoMemory)>
+        entry: Record<H, L, A>,
+    ) -> Result<(), (Record<H, L, A>, NoMemory)>
     where
         H: Drop,
         L: Drop,
         A: Drop,
-        E: Drop,
         ensures ok { OnOk result ((q : Pid) → at self.new q ≡ with_record (at self.old) pid entry q) }
         ensures err { OnErr result ((q : Pid) → at self.new q ≡ at self.old q) }
         ensures returned { IfErr result (λ e. e.0 ≡ entry) }
@@ -114,7 +113,7 @@ impl<H, L, A, E> Records<H, L, A, E> {
     }
 
     /// Takes out the record of a process.
-    pub fn take(&mut self, pid: Pid) -> Record<H, L, A, E>
+    pub fn take(&mut self, pid: Pid) -> Record<H, L, A>
         requires { IsSome (at self.old pid) }
         ensures before { at self.old pid ≡ Some result }
         ensures after { (q : Pid) → at self.new q ≡ without_record (at self.old) pid q }
@@ -124,12 +123,11 @@ impl<H, L, A, E> Records<H, L, A, E> {
     }
 
     /// Puts a record into the place of a process whose record was taken out.
-    pub fn put_back(&mut self, pid: Pid, entry: Record<H, L, A, E>)
+    pub fn put_back(&mut self, pid: Pid, entry: Record<H, L, A>)
     where
         H: Drop,
         L: Drop,
         A: Drop,
-        E: Drop,
         requires { HasPlace self.old pid }
         ensures { (q : Pid) → at self.new q ≡ with_record (at self.old) pid entry q }
     {
@@ -141,7 +139,6 @@ impl<H, L, A, E> Records<H, L, A, E> {
     where
         L: Drop,
         A: Drop,
-        E: Drop,
         requires { IsSome (here_of (at self.old pid)) }
         ensures before { here_of (at self.old pid) ≡ Some result }
         ensures after { (q : Pid) → at self.new q ≡ without_record (at self.old) pid q }
@@ -155,7 +152,6 @@ impl<H, L, A, E> Records<H, L, A, E> {
     where
         H: Drop,
         A: Drop,
-        E: Drop,
         requires { IsSome (frozen_of (at self.old pid)) }
         ensures before { frozen_of (at self.old pid) ≡ Some result }
         ensures after { (q : Pid) → at self.new q ≡ without_record (at self.old) pid q }
@@ -169,7 +165,6 @@ impl<H, L, A, E> Records<H, L, A, E> {
     where
         H: Drop,
         L: Drop,
-        E: Drop,
         requires { IsSome (incoming_of (at self.old pid)) }
         ensures before { incoming_of (at self.old pid) ≡ Some result }
         ensures after { (q : Pid) → at self.new q ≡ without_record (at self.old) pid q }
@@ -179,8 +174,8 @@ impl<H, L, A, E> Records<H, L, A, E> {
     }
 
     /// The record of a process, for writing.
-    pub fn get_mut(&mut self, pid: Pid) -> Option<&mut Record<H, L, A, E>>
-        ensures* writes_back { sem 𝓛 (LendsRecord H.row L.row A.row E.row self.entry pid result) }
+    pub fn get_mut(&mut self, pid: Pid) -> Option<&mut Record<H, L, A>>
+        ensures* writes_back { sem 𝓛 (LendsRecord H.row L.row A.row self.entry pid result) }
         ensures value { option_copied_mut result ≡ at self.old pid }
     {
         match self.places.get_mut(&pid) {
@@ -191,7 +186,7 @@ impl<H, L, A, E> Records<H, L, A, E> {
 
     /// A process that is here, for writing.
     pub fn here_mut(&mut self, pid: Pid) -> Option<&mut H>
-        ensures* writes_back { sem 𝓛 (LendsHere H.row L.row A.row E.row self.entry pid result) }
+        ensures* writes_back { sem 𝓛 (LendsHere H.row L.row A.row self.entry pid result) }
         ensures value { option_copied_mut result ≡ here_of (at self.old pid) }
     {
         match self.get_mut(pid) {
@@ -202,7 +197,7 @@ impl<H, L, A, E> Records<H, L, A, E> {
 
     /// A process that leaves, for writing.
     pub fn frozen_mut(&mut self, pid: Pid) -> Option<&mut L>
-        ensures* writes_back { sem 𝓛 (LendsFrozen H.row L.row A.row E.row self.entry pid result) }
+        ensures* writes_back { sem 𝓛 (LendsFrozen H.row L.row A.row self.entry pid result) }
         ensures value { option_copied_mut result ≡ frozen_of (at self.old pid) }
     {
         match self.get_mut(pid) {
@@ -213,7 +208,7 @@ impl<H, L, A, E> Records<H, L, A, E> {
 
     /// What has come of a process, for writing.
     pub fn incoming_mut(&mut self, pid: Pid) -> Option<&mut A>
-        ensures* writes_back { sem 𝓛 (LendsIncoming H.row L.row A.row E.row self.entry pid result) }
+        ensures* writes_back { sem 𝓛 (LendsIncoming H.row L.row A.row self.entry pid result) }
         ensures value { option_copied_mut result ≡ incoming_of (at self.old pid) }
     {
         match self.get_mut(pid) {

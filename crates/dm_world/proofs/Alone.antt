@@ -1,8 +1,8 @@
 -- A directive touches one machine, and puts packets on that machine's wires alone.
-use Rattle.dm_world.proofs.Names.{◌≡◌, ◌≢◌, ℕ, zero, suc, ◌<◌, ◌≤◌, Bool, true, false, ◌==◌, List, [], ◌∷◌, length, refl, sym, ap, subst, ◌∙◌, inl, inr, arith, Result, ⊤, if◌then◌else◌, ◌&&◌, map, All, Option, None, Some, Ok, Err}
-use Rattle.dm_world.proofs.Names.{eqb_tells, All-head, All-tail, Message, Packet, PacketError, packet_of, Load, Data, Ack, Sent, bytes_at, marked, after_mark, is_pair, Boot, images_are_valid, Line, at_machine, Step, Out, ActsLawfully}
-use Rattle.dm_world.proofs.Names.{IsFrom, IsLawfulOut, MayArrive, Acted, Acts, Goes, Worn, NodeState, here, spoken, with_packet, arrives_lawfully, asks_lawfully, ticks_lawfully, turns_lawfully, ActsAlone, acts_on, bytes_of, MayDeliver}
-use Rattle.dm_world.proofs.Names.{MayRead, MayStep, MeetsSome, Happened, Says, WorldState, WornOut, acted, arrives, delivers, reads, turned, world_step, calls_off_lawfully}
+use Rattle.dm_world.proofs.Names.{Pid, keeps_over, over_in, with_over, Why, ◌≡◌, ◌≢◌, ℕ, zero, suc, ◌<◌, ◌≤◌, Bool, true, false, ◌==◌, List, [], ◌∷◌, length, refl, sym, ap, subst, ◌∙◌, inl, inr, arith, Result, ⊤, if◌then◌else◌, ◌&&◌, map}
+use Rattle.dm_world.proofs.Names.{All, Option, None, Some, Ok, Err, eqb_tells, All-head, All-tail, Message, Packet, PacketError, packet_of, Load, Data, Ack, Sent, bytes_at, marked, after_mark, is_pair, Boot, images_are_valid, Line}
+use Rattle.dm_world.proofs.Names.{at_machine, Step, Out, ActsLawfully, IsFrom, IsLawfulOut, MayArrive, Acted, Acts, Goes, Worn, NodeState, here, spoken, with_packet, arrives_lawfully, asks_lawfully, ticks_lawfully, turns_lawfully}
+use Rattle.dm_world.proofs.Names.{ActsAlone, acts_on, bytes_of, MayDeliver, MayRead, MayStep, MeetsSome, Happened, Says, WorldState, WornOut, acted, arrives, delivers, reads, turned, world_step, calls_off_lawfully}
 use Rattle.dm_packet.specs.declared.Packet.TheVariants as packet
 use Rattle.dm_schedule.specs.declared.Step.TheVariants as step
 use Rattle.dm_node.specs.declared.out.Out.TheVariants as out
@@ -52,6 +52,12 @@ turned_alone w e m None h = tt
 turned_alone w e m (Some (Goes d)) h = acted_alone w e m d (h d refl)
 turned_alone w e m (Some (Worn from to)) h = tt
 
+-- who has ended is on no machine and no wire
+kept_alone : (w : WorldState) (kept : Pid → Option Why) (m : ℕ) (o : Option Happened) → AloneIn m (record w { ended = kept }) o → AloneIn m w o
+kept_alone w kept m None h = tt
+kept_alone w kept m (Some (Says s)) h = record { nodes = h.nodes; wires = h.wires }
+kept_alone w kept m (Some (WornOut from to)) h = tt
+
 -- a mark changes no bytes
 marked_bytes : (ps : List Sent) (k : ℕ) → map bytes_of (marked ps k) ≡ map bytes_of ps
 marked_bytes [] k = refl
@@ -93,8 +99,9 @@ delivers_alone w e a c k (Some bytes) h may =
 step_alone : (b : Boot) (w : WorldState) (e : Step) → images_are_valid b.images ≡ true → length b.machines ≤ 16 → ((m : ℕ) → m < length b.machines → here (w.nodes m) ≡ m) → MayStep b w e
     → AloneIn (acts_on e) w (world_step b w e)
 step_alone b w (step.Turn m) images few h may =
-    turned_alone w (step.Turn m) m (node.turn b (w.nodes m))
-    (λ a e. subst (λ k. ActsLawfully k a) (h m may.0) (turns_lawfully b (w.nodes m) a images may.1 may.2 e))
+    let o = node.turn b (w.nodes m) in
+    kept_alone w (with_over w.ended (over_in o)) m (world_step b w (step.Turn m))
+    (turned_alone (keeps_over w o) (step.Turn m) m o (λ a e. subst (λ k. ActsLawfully k a) (h m may.0) (turns_lawfully b (w.nodes m) a images may.1 may.2 e)))
 step_alone b w (step.Tick m) images few h may =
     acted_alone w (step.Tick m) m (node.tick (w.nodes m)) (subst (λ k. ActsLawfully k (node.tick (w.nodes m))) (h m may.0) (ticks_lawfully (w.nodes m) may.1))
 step_alone b w (step.Deliver a c k) images few h may = delivers_alone w (step.Deliver a c k) a c k (bytes_at (w.wires a c) k) (h c may.1) may.3

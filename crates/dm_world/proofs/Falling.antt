@@ -1,8 +1,8 @@
 -- Each step of a directive leaves fewer steps.
-use Rattle.dm_world.proofs.Names.{◌≡◌, ℕ, zero, suc, ◌+◌, ◌-◌, ◌*◌, ◌^◌, ◌<◌, ◌≤◌, Bool, true, false, ◌==◌, List, [], ◌∷◌, ◌++◌, length, refl, sym, ap, subst, ◌∙◌, inl, inr, arith, mul-suc, Result, ⊤, ◌&&◌, if◌then◌else◌, option_map}
-use Rattle.dm_world.proofs.Names.{Option, None, Some, Ok, Err, eqb_tells, leb_tells, slice_get_cases, Packet, PacketError, packet_of, Data, Ack, Sent, bytes_at, just_put, marked, after_mark, is_pair, Boot, Step, Out, Acted, Acts, Goes}
-use Rattle.dm_world.proofs.Names.{Worn, spoken, with_packet, sum_below, Pass, Round, Settle, Cursor, One, Passing, Place, Packets, Turns, End, Falls, IsFresh, LeavesFewer, LeavesNoMore, SettleGoes, TakesTurn, room, room_of, seen_count}
-use Rattle.dm_world.proofs.Names.{turns_at, turns_of, first_unseen, Happened, Said, Says, WorldState, WornOut, acted, delivers, reads, turned, world_step}
+use Rattle.dm_world.proofs.Names.{Pid, keeps_over, over_in, with_over, Why, ◌≡◌, ℕ, zero, suc, ◌+◌, ◌-◌, ◌*◌, ◌^◌, ◌<◌, ◌≤◌, Bool, true, false, ◌==◌, List, [], ◌∷◌, ◌++◌, length, refl, sym, ap, subst, ◌∙◌, inl, inr, arith, mul-suc, Result}
+use Rattle.dm_world.proofs.Names.{⊤, ◌&&◌, if◌then◌else◌, option_map, Option, None, Some, Ok, Err, eqb_tells, leb_tells, slice_get_cases, Packet, PacketError, packet_of, Data, Ack, Sent, bytes_at, just_put, marked, after_mark, is_pair}
+use Rattle.dm_world.proofs.Names.{Boot, Step, Out, Acted, Acts, Goes, Worn, spoken, with_packet, sum_below, Pass, Round, Settle, Cursor, One, Passing, Place, Packets, Turns, End, Falls, IsFresh, LeavesFewer, LeavesNoMore, SettleGoes}
+use Rattle.dm_world.proofs.Names.{TakesTurn, room, room_of, seen_count, turns_at, turns_of, first_unseen, Happened, Said, Says, WorldState, WornOut, acted, delivers, reads, turned, world_step, Rest}
 use Rattle.dm_packet.specs.declared.Packet.TheVariants as packet
 use Rattle.dm_schedule.specs.declared.Step.TheVariants as step
 use Rattle.dm_node.specs.declared.out.Out.TheVariants as out
@@ -112,6 +112,11 @@ turned_more w e m None = tt
 turned_more w e m (Some (Goes d)) = acted_more w e m d
 turned_more w e m (Some (Worn from to)) = tt
 
+kept_more : (w : WorldState) (kept : Pid → Option Why) (o : Option Happened) → MoreIn (record w { ended = kept }) o → MoreIn w o
+kept_more w kept None h = tt
+kept_more w kept (Some (Says s)) h = h
+kept_more w kept (Some (WornOut from to)) h = tt
+
 reads_more : (w : WorldState) (e : Step) (a c : ℕ) (r : Result Packet PacketError) → MoreIn w (reads w e a c r)
 reads_more w e a c (Ok (packet.Data from to k m)) = acted_more w e c (node.arrives (w.nodes c) a (Data k m))
 reads_more w e a c (Ok (packet.Ack from to k)) = acted_more w e c (node.arrives (w.nodes c) a (Ack k))
@@ -132,7 +137,9 @@ delivers_more w e a c k (Some bytes) =
     marked_more w a c k (reads (record w { wires = after_mark w.wires a c k }) e a c (packet_of bytes)) (reads_more (record w { wires = after_mark w.wires a c k }) e a c (packet_of bytes))
 
 pub step_more : (b : Boot) (w : WorldState) (e : Step) → MoreIn w (world_step b w e)
-step_more b w (step.Turn m) = turned_more w (step.Turn m) m (node.turn b (w.nodes m))
+step_more b w (step.Turn m) =
+    let o = node.turn b (w.nodes m) in
+    kept_more w (with_over w.ended (over_in o)) (world_step b w (step.Turn m)) (turned_more (keeps_over w o) (step.Turn m) m o)
 step_more b w (step.Tick m) = acted_more w (step.Tick m) m (node.tick (w.nodes m))
 step_more b w (step.Deliver a c k) = delivers_more w (step.Deliver a c k) a c k (bytes_at (w.wires a c) k)
 step_more b w (step.Migrate p m) = turned_more w (step.Migrate p m) 0 (node.asks_move (w.nodes 0) p m)
@@ -249,6 +256,7 @@ one_falls n w e = counted_fewer n w (One e) (Passing (Round 0) End) e (omega ari
 
 pub packet_falls : (n : ℕ) (w : WorldState) (p : Pass) (from to a c k : ℕ) → IsFresh n w a c k → Falls n w (Passing p (Packets from to)) (step.Deliver a c k) (Passing p (Packets a c))
 packet_falls n w (Round j) from to a c k fresh = packet_fewer n w (Passing (Round j) (Packets from to)) (Passing (Round j) (Packets a c)) a c k fresh (omega arith)
+packet_falls n w (Rest j) from to a c k fresh = packet_fewer n w (Passing (Rest j) (Packets from to)) (Passing (Rest j) (Packets a c)) a c k fresh (omega arith)
 packet_falls n w Settle from to a c k fresh = (tt, (fresh, packet_fewer n w (Passing Settle (Packets from to)) (Passing Settle (Packets a c)) a c k fresh (omega arith)))
 
 pub turn_falls : (n : ℕ) (w : WorldState) (p : Pass) (m k : ℕ) → TakesTurn n w p m k → Falls n w (Passing p (Turns m)) (step.Turn k) (Passing p (Turns (k + 1)))
@@ -256,4 +264,8 @@ turn_falls n w (Round j) m k h =
     let from = h.from in
     let within = h.within in
     counted_fewer n w (Passing (Round j) (Turns m)) (Passing (Round j) (Turns (k + 1))) (step.Turn k) (omega (arith, from, within))
+turn_falls n w (Rest j) m k h =
+    let from = h.from in
+    let within = h.within in
+    counted_fewer n w (Passing (Rest j) (Turns m)) (Passing (Rest j) (Turns (k + 1))) (step.Turn k) (omega (arith, from, within))
 turn_falls n w Settle m k h = (tt, (h.within, h.takes, counted_no_more n w (Passing Settle (Turns m)) (Passing Settle (Turns (k + 1))) (step.Turn k) (omega arith)))

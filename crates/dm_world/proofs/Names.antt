@@ -6,10 +6,12 @@ pub use Rattle.std.proofs.lemmas.List.{drop_all, drop_more}
 pub use Rattle.std.proofs.lemmas.List.Elements.{All-weaker}
 pub use Rattle.std.proofs.lemmas.Option.{slice_get-get_or, slice_get_cases, slice_get_past}
 pub use Rattle.std.specs.List.{position_from}
+pub use Rattle.dm_records.proofs.Names.{get, is_at}
 pub use Rattle.dm_processor.proofs.Names.{drop-append-le, drop-cons, get_or_append_left}
 pub use Rattle.dm_wire.proofs.Names.{Sent, is_unseen, just_put, marked}
 pub use Rattle.dm_wire.specs.Sent.{bytes_at}
 pub use Rattle.dm_wire.specs.Wire.{after_mark, is_pair, packets_on}
+pub use Rattle.dm_linktable.proofs.Names.{pid_cmp}
 pub use Rattle.dm_packet.proofs.Names.{cond, drop_at, leb-true, option_map, packet_of, spelling}
 pub use Rattle.dm_schedule.specs.declared.Directive.{Directive}
 pub use Rattle.dm_schedule.specs.declared.Step.{Step}
@@ -24,16 +26,16 @@ pub use Rattle.dm_line.proofs.Deliveries.{here_or_later}
 pub use Rattle.dm_line.proofs.Names.{all_below, false≢true}
 pub use Rattle.dm_line.specs.Each.{sum_below}
 pub use Rattle.dm_line.specs.Ends.{before_zeros, block_line, home_with, joined_below, list_line, memory_lines, trimmed}
-pub use Rattle.dm_line.specs.Todo.{Next, Todo, Two, begin_pass, below, in_pass, is_over, next_delivery, next_directive, next_pass, next_turn, or, pairs_of, pairs_with, settles, takes_turn}
+pub use Rattle.dm_line.specs.Todo.{Next, Seen, Todo, Two, at_rest, begin_pass, below, in_pass, is_over, next_delivery, next_directive, next_pass, next_turn, or, pairs_of, pairs_with, settles, takes_turn}
 pub use Rattle.dm_line.specs.declared.end_line.EndLine.{EndLine}
 pub use Rattle.dm_line.specs.declared.pass.Pass.{Pass}
-pub use Rattle.dm_line.specs.declared.pass.Pass.TheVariants.{Round, Settle}
-pub use Rattle.dm_kernel.proofs.Names.{Global, IsLawfulNamed, IsSome, IsValid, MsgId, Vec, drop, get_or, link_at, map, nat_tests, not, pid_of, rules, take, ◌&&◌, ◌||◌, ◌⊎◌}
+pub use Rattle.dm_line.specs.declared.pass.Pass.TheVariants.{Rest, Round, Settle}
+pub use Rattle.dm_kernel.proofs.Names.{Global, IsLawfulNamed, IsSome, IsValid, MsgId, Vec, Why, common_steps, drop, get_or, link_at, map, nat_tests, not, pid_of, rules, take, ◌&&◌, ◌||◌, ◌⊎◌}
 pub use Rattle.dm_node.proofs.Here.{opened_here}
 pub use Rattle.dm_node.proofs.Names.{Ack, Acted, Acts, ActsLawfully, All, All-head, All-tail, AnswersSome, Bool, Boot, Data, Err, FreezesWhole, Gave, Goes, HasStreams, IsLawfulOut, IsLawfulState, Line, Link, List, Load, MayAct, MayArrive}
 pub use Rattle.dm_node.proofs.Names.{MayArrivePacket, MayAskMove, MayCallOff, MayTurn, Message, NodeState, None, Ok, Option, Packet, Pid, Result, Some, Worn, [], ap, append-nil, append_assoc, arith, arrives_packet, at_machine, eqb_tells}
-pub use Rattle.dm_node.proofs.Names.{false, get_or_from_slice_get, here, if◌then◌else◌, images_are_valid, inl, inr, leb_tells, length, node_opened, node_state, refl, slice_get, slice_get_within, subst, suc, sym, tick, true, with_items}
-pub use Rattle.dm_node.proofs.Names.{with_items_is, zero, ℕ, ⊤, ◌*◌, ◌++◌, ◌+◌, ◌-◌, ◌<◌, ◌==◌, ◌∙◌, ◌∷◌, ◌≡◌, ◌≢◌, ◌≤◌}
+pub use Rattle.dm_node.proofs.Names.{false, get_or_from_slice_get, here, if◌then◌else◌, images_are_valid, inl, inr, leb_tells, length, node_opened, node_state, pid_eq, refl, slice_get, slice_get_within, subst, suc, sym, tick, true}
+pub use Rattle.dm_node.proofs.Names.{with_items, with_items_is, zero, ℕ, ⊤, ◌*◌, ◌++◌, ◌+◌, ◌-◌, ◌<◌, ◌==◌, ◌∙◌, ◌∷◌, ◌≡◌, ◌≢◌, ◌≤◌}
 pub use Rattle.dm_node.proofs.Sends.{arrives_lawfully, asks_lawfully, calls_off_lawfully, ticks_lawfully, turns_lawfully}
 pub use Rattle.dm_node.specs.Acts.{asks_move, calls_off, turn}
 pub use Rattle.dm_node.specs.Lawful.{IsFrom}
@@ -51,11 +53,11 @@ pub use Rattle.dm_world.specs.Ends.{record_queue, slot_line, stream_line}
 pub use Rattle.dm_world.specs.Local.{ActsAlone, acts_on, bytes_of}
 pub use Rattle.dm_world.specs.May.{MayDeliver, MayRead, MayStep, sent_by}
 pub use Rattle.dm_world.specs.Meets.{ActedAt, ActedSome, Answers, AreNodes, IsNode, IsSendable, IsWorld, IsWornOut, Meets, MeetsSome, TurnAnswers, world_state}
-unfoldable pub use Rattle.dm_world.specs.Meets.{node_in}
-pub use Rattle.dm_world.specs.Next.{all_heard, first_unseen, world_has_mail, world_is_quiet, world_next_step, world_undelivered}
+unfoldable pub use Rattle.dm_world.specs.Meets.{ended_in, node_in}
+pub use Rattle.dm_world.specs.Next.{all_heard, first_unseen, world_has_mail, world_is_quiet, world_next_step, world_seen, world_serves, world_undelivered}
 pub use Rattle.dm_world.specs.Readable.{AreReadBack, gave_bytes, gave_read, gave_some}
 pub use Rattle.dm_world.specs.Spoke.{Spoke}
-pub use Rattle.dm_world.specs.World.{Happened, Said, Says, WorldState, WornOut, acted, arrives, delivers, reads, turned, world_step}
+pub use Rattle.dm_world.specs.World.{Happened, Said, Says, WorldState, WornOut, acted, arrives, delivers, keeps_over, over_in, reads, turned, with_over, world_step}
 pub use Rattle.dm_world.specs.declared.cursor.Cursor.{Cursor}
 pub use Rattle.dm_world.specs.declared.cursor.Cursor.TheVariants.{One, Passing}
 pub use Rattle.dm_world.specs.declared.cursor.Place.{Place}

@@ -1,31 +1,33 @@
 -- A machine has acted, and what it gave is said: that is the world's step.
-use Rattle.dm_world.proofs.Names.{◌≡◌, ℕ, ◌+◌, List, [], ◌∷◌, length, sym, ap, subst, ◌∙◌, Vec, with_items, with_items_is, Global, Option, None, Some, Err, Packet, Sent, bytes_at, after_mark, packets_on, Boot, IsValid, Line, Step, Node}
-use Rattle.dm_world.proofs.Names.{Stop, Out, arrives_packet, Acted, Acts, Goes, Worn, IsWornSome, spoken, World, ActedAt, ActedSome, Answers, AreNodes, IsWorld, IsWornOut, Meets, MeetsSome, TurnAnswers, node_in, world_state, Says}
-use Rattle.dm_world.proofs.Names.{WorldState, WornOut, acted, delivers, turned}
+use Rattle.dm_world.proofs.Names.{Bool, Pid, NodeState, at_machine, eqb_tells, if◌then◌else◌, inl, inr, refl, ended_in, Why, over_in, with_over, is_at, cond, common_steps, arith, pid_cmp, pid_eq, true, false, ◌≡◌, ℕ, ◌+◌, List, [], ◌∷◌}
+use Rattle.dm_world.proofs.Names.{length, sym, ap, subst, ◌∙◌, Vec, with_items, with_items_is, Global, Option, None, Some, Err, Packet, Sent, bytes_at, after_mark, packets_on, Boot, IsValid, Line, Step, Node, Stop, Out, arrives_packet}
+use Rattle.dm_world.proofs.Names.{Acted, Acts, Goes, Worn, IsWornSome, spoken, World, ActedAt, ActedSome, Answers, AreNodes, IsWorld, IsWornOut, Meets, MeetsSome, TurnAnswers, node_in, world_state, Says, WorldState, WornOut, acted}
+use Rattle.dm_world.proofs.Names.{delivers, turned}
 use Rattle.dm_line.specs.declared.line.Line.TheVariants as line
 use Rattle.dm_node.specs.declared.stop.Stop.TheVariants as stop
 use Rattle.dm_node.specs.declared.out.Out.TheVariants as out
 use Rattle.dm_world.proofs.Delivering.{Arriving}
 
 -- what one directive makes of the world, but for its machines
-pub record Grouped (old now : World) (before : ℕ → ℕ → List Sent) (e : Step) (outs : List Out) (said : List Line) : Type 0 where
+pub record Grouped (old now : World) (before : ℕ → ℕ → List Sent) (kept : Pid → Option Why) (e : Step) (outs : List Out) (said : List Line) : Type 0 where
   pub lines : said ≡ line.Head e ∷ (spoken before outs).lines
   pub wires : (x y : ℕ) → packets_on now.wires x y ≡ (spoken before outs).wires x y
+  pub ended : (p : Pid) → ended_in now.ended p ≡ kept p
   pub groups : now.groups ≡ old.groups + 1
   pub boot : now.boot ≡ old.boot
 
-abbrev pub with_wires : WorldState → (ℕ → ℕ → List Sent) → WorldState
-with_wires w before = record { nodes = w.nodes; wires = before; groups = w.groups }
+abbrev pub with_wires : WorldState → (ℕ → ℕ → List Sent) → (Pid → Option Why) → WorldState
+with_wires w before kept = record { nodes = w.nodes; wires = before; ended = kept; groups = w.groups }
 
-pub stepped : (old now : World) (ys : List Node) (before : ℕ → ℕ → List Sent) (e : Step) (m : ℕ) (outs : List Out) (said : List Line) (a : Acted)
-    → ActedAt old.boot old.nodes.items ys m outs a → now.nodes.items ≡ ys → Grouped old now before e outs said
-    → Meets (world_state now) said (Says (acted (with_wires (world_state old) before) e m a))
-stepped old now ys before e m outs said a h are g =
+pub stepped : (old now : World) (ys : List Node) (before : ℕ → ℕ → List Sent) (kept : Pid → Option Why) (e : Step) (m : ℕ) (outs : List Out) (said : List Line) (a : Acted)
+    → ActedAt old.boot old.nodes.items ys m outs a → now.nodes.items ≡ ys → Grouped old now before kept e outs said
+    → Meets (world_state now) said (Says (acted (with_wires (world_state old) before kept) e m a))
+stepped old now ys before kept e m outs said a h are g =
     let nodes = λ (c : ℕ). ap (λ (b : Boot). node_in b now.nodes.items c) g.boot ∙ ap (λ ns. node_in old.boot ns c) are ∙ h.nodes c in
     let wires = λ (x y : ℕ). g.wires x y ∙ ap (λ o. (spoken before o).wires x y) h.outs in
     let lines = g.lines ∙ ap (λ o. line.Head e ∷ (spoken before o).lines) h.outs in
     record {
-      happened = λ i. Says (record { state = record { nodes = λ c. nodes c i; wires = λ x y. wires x y i; groups = g.groups i }; lines = lines i });
+      happened = λ i. Says (record { state = record { nodes = λ c. nodes c i; wires = λ x y. wires x y i; ended = λ p. g.ended p i; groups = g.groups i }; lines = lines i });
     }
 
 pub world_stays : (old now : World) (ys : List Node) (m : ℕ) (outs : List Out) (a : Acted) → IsWorld old → ActedAt old.boot old.nodes.items ys m outs a → now.nodes.items ≡ ys → now.boot ≡ old.boot
@@ -38,11 +40,11 @@ world_stays old now ys m outs a h acts are boot =
     }
 
 -- a turn, which may not have taken place
-pub turn_stepped : (old now : World) (ys : List Node) (e : Step) (m : ℕ) (outs : List Out) (said : List Line) (o : Option Acts) → ActedSome old.boot old.nodes.items ys m outs o
-    → now.nodes.items ≡ ys → Grouped old now (packets_on old.wires) e outs said → MeetsSome (world_state now) said (turned (world_state old) e m o)
-turn_stepped old now ys e m outs said None h are g = absurd h
-turn_stepped old now ys e m outs said (Some (Goes a)) h are g = stepped old now ys (packets_on old.wires) e m outs said a h are g
-turn_stepped old now ys e m outs said (Some (Worn from to)) h are g = absurd h
+pub turn_stepped : (old now : World) (ys : List Node) (kept : Pid → Option Why) (e : Step) (m : ℕ) (outs : List Out) (said : List Line) (o : Option Acts) → ActedSome old.boot old.nodes.items ys m outs o
+    → now.nodes.items ≡ ys → Grouped old now (packets_on old.wires) kept e outs said → MeetsSome (world_state now) said (turned (record (world_state old) { ended = kept }) e m o)
+turn_stepped old now ys kept e m outs said None h are g = absurd h
+turn_stepped old now ys kept e m outs said (Some (Goes a)) h are g = stepped old now ys (packets_on old.wires) kept e m outs said a h are g
+turn_stepped old now ys kept e m outs said (Some (Worn from to)) h are g = absurd h
 
 pub turn_world : (old now : World) (ys : List Node) (m : ℕ) (outs : List Out) (o : Option Acts) → IsWorld old → ActedSome old.boot old.nodes.items ys m outs o → now.nodes.items ≡ ys
     → now.boot ≡ old.boot → IsWorld now
@@ -55,28 +57,55 @@ acted_size b xs ys m outs None h = absurd h
 acted_size b xs ys m outs (Some (Goes a)) h = h.size
 acted_size b xs ys m outs (Some (Worn from to)) h = absurd h
 
+-- who ended in the turn stands in the machine's kernel then
+at_self : {X : Type 0} (f : ℕ → X) (m : ℕ) (x : X) → at_machine f m x m ≡ x
+at_self f m x = elim (eqb_tells m m) [
+  | inl e ↦ ap (λ (t : Bool). if t then x else f m) e.0
+  | inr e ↦ absurd (e.1 refl)
+]
+
+pub over_there : (b : Boot) (xs ys : List Node) (m : ℕ) (outs : List Out) (o : Option Acts) → ActedSome b xs ys m outs o → (node_in b ys m).kernel.over ≡ over_in o
+over_there b xs ys m outs None h = absurd h
+over_there b xs ys m outs (Some (Goes a)) h = ap (λ (n : NodeState). n.kernel.over) (h.nodes m ∙ at_self (node_in b xs) m a.state)
+over_there b xs ys m outs (Some (Worn from to)) h = absurd h
+
+-- one more is kept, or none
+same_at : (p q : Pid) → is_at (pid_cmp p) q ≡ pid_eq p q
+same_at p q = grind (arith, common_steps)
+
+either_is : (b : Bool) (x y : Option Why) → cond b x y ≡ (if b then x else y)
+either_is true x y = refl
+either_is false x y = refl
+
+pub one_kept : (old : Pid → Option Why) (over : Option (Pid × Why)) (q : Pid) (y : Why) (n : Option Why) (p : Pid) → over ≡ Some (q, y) → n ≡ cond (is_at (pid_cmp q) p) (Some y) (old p) → n ≡ with_over old over p
+one_kept old over q y n p is e =
+    e ∙ either_is (is_at (pid_cmp q) p) (Some y) (old p) ∙ ap (λ (b : Bool). if b then Some y else old p) (same_at q p) ∙ sym (ap (λ (o : Option (Pid × Why)). with_over old o p) is)
+
+pub none_kept : (old : Pid → Option Why) (over : Option (Pid × Why)) (p : Pid) → over ≡ None → old p ≡ with_over old over p
+none_kept old over p is = sym (ap (λ (o : Option (Pid × Why)). with_over old o p) is)
+
 -- what is written into the machines stands there
 pub written : (v : Vec Node Global) (ys : List Node) → length ys ≡ length v.items → (with_items v ys).items ≡ ys
 written v ys e = with_items_is v ys (e ∙ sym v.ok.0)
 
 -- there was no such packet
 pub found_nothing : (old now : World) (e : Step) (a c k : ℕ) (outs : List Out) (said : List Line) → outs ≡ out.Says line.Nothing ∷ [] → now.nodes ≡ old.nodes
-    → Grouped old now (packets_on old.wires) e outs said → MeetsSome (world_state now) said (delivers (world_state old) e a c k None)
+    → Grouped old now (packets_on old.wires) (ended_in old.ended) e outs said → MeetsSome (world_state now) said (delivers (world_state old) e a c k None)
 found_nothing old now e a c k outs said is are g =
     let nodes = λ (m : ℕ). ap (λ (b : Boot). node_in b now.nodes.items m) g.boot ∙ ap (λ v. node_in old.boot v.items m) are in
     let wires = λ (x y : ℕ). g.wires x y ∙ ap (λ o. (spoken (packets_on old.wires) o).wires x y) is in
     let lines = g.lines ∙ ap (λ o. line.Head e ∷ (spoken (packets_on old.wires) o).lines) is in
     record {
-      happened = λ i. Says (record { state = record { nodes = λ m. nodes m i; wires = λ x y. wires x y i; groups = g.groups i }; lines = lines i });
+      happened = λ i. Says (record { state = record { nodes = λ m. nodes m i; wires = λ x y. wires x y i; ended = λ p. g.ended p i; groups = g.groups i }; lines = lines i });
     }
 
 -- the packet came
 pub took : (old now : World) (ys : List Node) (before : ℕ → ℕ → List Sent) (e : Step) (a c k : ℕ) (p : Packet) (outs : List Out) (said : List Line) → Arriving (world_state old) e a c k p
     → ((x y : ℕ) → before x y ≡ after_mark (packets_on old.wires) a c k x y)
-    → ActedAt old.boot old.nodes.items ys c outs (arrives_packet (node_in old.boot old.nodes.items c) p) → now.nodes.items ≡ ys → Grouped old now before e outs said
+    → ActedAt old.boot old.nodes.items ys c outs (arrives_packet (node_in old.boot old.nodes.items c) p) → now.nodes.items ≡ ys → Grouped old now before (ended_in old.ended) e outs said
     → MeetsSome (world_state now) said (delivers (world_state old) e a c k (bytes_at (packets_on old.wires a c) k))
 took old now ys before e a c k p outs said h marks acts are g =
     let d = arrives_packet (node_in old.boot old.nodes.items c) p in
     let same : before ≡ after_mark (packets_on old.wires) a c k = λ i. λ x y. marks x y i in
     subst (MeetsSome (world_state now) said) (sym h.step)
-    (subst (λ f. Meets (world_state now) said (Says (acted (with_wires (world_state old) f) e c d))) same (stepped old now ys before e c outs said d acts are g))
+    (subst (λ f. Meets (world_state now) said (Says (acted (with_wires (world_state old) f (ended_in old.ended)) e c d))) same (stepped old now ys before (ended_in old.ended) e c outs said d acts are g))

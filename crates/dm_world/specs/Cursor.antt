@@ -10,13 +10,13 @@ use Rattle.dm_schedule.specs.declared.Directive.{Directive}
 use Rattle.dm_schedule.specs.declared.Directive.TheVariants as directive
 use Rattle.dm_line.specs.Each.{sum_below}
 use Rattle.dm_line.specs.declared.pass.Pass.{Pass}
-use Rattle.dm_line.specs.declared.pass.Pass.TheVariants.{Round, Settle}
+use Rattle.dm_line.specs.declared.pass.Pass.TheVariants.{Round, Settle, Rest}
 use Rattle.dm_line.specs.Todo.{Next, Todo, Two, all_of, below, in_pass, next_delivery, next_directive, next_pass, next_turn, or, is_over, pairs_of, pairs_with, takes_turn}
 use Rattle.dm_world.specs.declared.cursor.Cursor.{Cursor}
 use Rattle.dm_world.specs.declared.cursor.Cursor.TheVariants.{One, Passing}
 use Rattle.dm_world.specs.declared.cursor.Place.{Place}
 use Rattle.dm_world.specs.declared.cursor.Place.TheVariants.{Packets, Turns, End}
-use Rattle.dm_world.specs.Next.{world_has_mail, world_is_quiet, world_next_step, world_undelivered}
+use Rattle.dm_world.specs.Next.{world_has_mail, world_next_step, world_seen, world_undelivered}
 use Rattle.dm_world.specs.World.{Said, Says, WorldState, world_step}
 
 -- the ordered pairs of n machines from this one on
@@ -52,11 +52,11 @@ NextIs n w c ds r = world_next_step n w (todo_of n c ds) ≡ or (as_next n ds r)
 
 -- the same of the pass itself, and of the passes behind it
 abbrev pub InPassIs : ℕ → WorldState → Pass → Place → List Directive → Option (Step × Cursor) → Type 0
-InPassIs n w p place ds r = in_pass (world_has_mail w) (todo_at n p place ds) (next_delivery (world_undelivered w) (pairs_left n place)) ≡ as_next n ds r
+InPassIs n w p place ds r = in_pass (world_seen n w) (todo_at n p place ds) (next_delivery (world_undelivered w) (pairs_left n place)) ≡ as_next n ds r
 
 abbrev pub NextPassIs : ℕ → WorldState → Pass → List Directive → Option (Step × Cursor) → Type 0
 NextPassIs n w p ds r =
-    is_over p (world_is_quiet n w) ≡ false → next_pass n (world_undelivered w) (world_has_mail w) (world_is_quiet n w) p ds ≡ or (as_next n ds r) (next_directive n (world_undelivered w) (world_has_mail w) (world_is_quiet n w) ds)
+    is_over n (world_seen n w) p ≡ false → next_pass n (world_seen n w) p ds ≡ or (as_next n ds r) (next_directive n (world_seen n w) ds)
 
 -- the first packet that was never delivered, of the pairs from this one on
 abbrev pub found_at : ℕ → ℕ × ℕ × ℕ → Step × List Two
@@ -80,17 +80,18 @@ turn_at n None t = None
 turn_at n (Some k) t = Some (record { step = step.Turn k; left = record t { pairs = []; machines = drop (k + 1) (below n) } })
 
 abbrev pub FirstTurnIs : ℕ → WorldState → Pass → ℕ → Option ℕ → Type 0
-FirstTurnIs n w p m o = (t : Todo) → next_turn (takes_turn p (world_has_mail w)) t (drop m (below n)) ≡ turn_at n o t
+FirstTurnIs n w p m o = (t : Todo) → next_turn (takes_turn p (world_seen n w)) t (drop m (below n)) ≡ turn_at n o t
 
 pub record TakesTurn (n : ℕ) (w : WorldState) (p : Pass) (m k : ℕ) : Type 0 where
   pub from : m ≤ k
   pub within : k < n
-  pub takes : takes_turn p (world_has_mail w) k ≡ true
+  pub takes : takes_turn p (world_seen n w) k ≡ true
 
 -- a round isn't over before the turns
 abbrev pub RoundGoes : {A : Type 0} → Pass → Option A → Type 0
 RoundGoes (Round k) o = IsSome o
 RoundGoes Settle o = ⊤
+RoundGoes (Rest k) o = ⊤
 
 -- how many packets of a wire were delivered; there can't be as many as 2 ^ 64 packets
 abbrev pub seen_count : List Sent → ℕ
@@ -110,11 +111,12 @@ turns_at n (Packets from to) = n
 turns_at n (Turns m) = n - m
 turns_at n End = 0
 
--- how many turns are left of rounds, or the one directive; the turns of a settle aren't counted here
+-- how many turns are left of rounds or of the passes of a rest, or the one directive; the turns of a settle aren't counted here
 abbrev pub turns_of : ℕ → Cursor → ℕ
 turns_of n (One s) = 1
 turns_of n (Passing (Round k) place) = turns_at n place + n * k
 turns_of n (Passing Settle place) = 0
+turns_of n (Passing (Rest k) place) = turns_at n place + n * k
 
 -- how many steps can be left of a directive at most, the turns of a settle aside
 abbrev pub left : ℕ → WorldState → Cursor → ℕ
@@ -140,6 +142,7 @@ abbrev pub IsSettling : Cursor → Type 0
 IsSettling (One s) = ⊥
 IsSettling (Passing (Round k) place) = ⊥
 IsSettling (Passing Settle place) = ⊤
+IsSettling (Passing (Rest k) place) = ⊥
 
 abbrev pub SettleGoes : ℕ → WorldState → Cursor → Step → Cursor → Type 0
 SettleGoes n w c (step.Turn m) after = (m < n) × (world_has_mail w m ≡ true) × LeavesNoMore n w c (step.Turn m) after
@@ -152,3 +155,4 @@ abbrev pub Falls : ℕ → WorldState → Cursor → Step → Cursor → Type 0
 Falls n w (One s) e after = LeavesFewer n w (One s) e after
 Falls n w (Passing (Round k) place) e after = LeavesFewer n w (Passing (Round k) place) e after
 Falls n w (Passing Settle place) e after = IsSettling after × SettleGoes n w (Passing Settle place) e after
+Falls n w (Passing (Rest k) place) e after = LeavesFewer n w (Passing (Rest k) place) e after

@@ -20,6 +20,7 @@ use Rattle.dm_migrate.specs.declared.arriving.Wanted.TheVariants.{Chunk, Block, 
 use Rattle.dm_switchboard.specs.Board.{Named}
 use Rattle.dm_switchboard.specs.Lawful.{IsLawfulBoard}
 use Rattle.dm_procman.specs.declared.pending.Pending.{Pending}
+use Rattle.dm_onekernel.specs.declared.label.Why.{Why}
 use Rattle.dm_onekernel.specs.Boot.{first_number, switchboard, manager}
 use Rattle.dm_line.specs.declared.end_line.EndLine.{EndLine}
 use Rattle.dm_line.specs.declared.end_line.EndLine.TheVariants as end
@@ -57,14 +58,14 @@ state_lines p x = parts_lines p x.regs x.memory x.table
 abbrev pub alive_lines : ℕ → Pid → Standing → Process → List EndLine
 alive_lines m p s x = end.Process p m s (doing_of x.status) x.stopped x.sent ∷ state_lines p x
 
--- what a machine says of a process that is here, leaves or has ended there
+-- what a machine says of a process that is here or leaves
 abbrev pub record_lines : ℕ → Pid → Option KernelKnown → Option (List EndLine)
 record_lines m p None = None
 record_lines m p (Some (Here x)) = Some (alive_lines m p standing.Here x)
 record_lines m p (Some (Frozen leaving)) = Some (alive_lines m p standing.Leaving leaving.process)
 record_lines m p (Some (Incoming arriving)) = None
 record_lines m p (Some (Forward machine moves)) = None
-record_lines m p (Some (Ended y)) = Some (end.Ended p y ∷ [])
+record_lines m p (Some Ended) = None
 
 -- a process that comes is what its pieces make, once all of them have come
 abbrev pub come_whole : Arrival → Wanted → Option Process
@@ -83,7 +84,7 @@ awaited_lines m p (Some (Here x)) = None
 awaited_lines m p (Some (Frozen leaving)) = None
 awaited_lines m p (Some (Incoming arriving)) = come_lines m p (come_whole arriving arriving.wanted)
 awaited_lines m p (Some (Forward machine moves)) = None
-awaited_lines m p (Some (Ended y)) = None
+awaited_lines m p (Some Ended) = None
 
 abbrev pub names_of : List Message → List MsgId
 names_of ms = map (λ (m : Message). m.id) ms
@@ -94,7 +95,7 @@ record_queue p (Some (Here x)) = Some (list_line (end.Queue p) (names_of x.queue
 record_queue p (Some (Frozen leaving)) = Some (list_line (end.Queue p) (names_of leaving.process.queue))
 record_queue p (Some (Incoming arriving)) = None
 record_queue p (Some (Forward machine moves)) = None
-record_queue p (Some (Ended y)) = None
+record_queue p (Some Ended) = None
 
 -- the messages that a machine holds for a process that leaves or comes
 abbrev pub held_for : Option KernelKnown → List Message
@@ -103,7 +104,7 @@ held_for (Some (Here x)) = []
 held_for (Some (Frozen leaving)) = leaving.held
 held_for (Some (Incoming arriving)) = arriving.held
 held_for (Some (Forward machine moves)) = []
-held_for (Some (Ended y)) = []
+held_for (Some Ended) = []
 
 abbrev pub held_line : WorldState → ℕ → Pid → List EndLine
 held_line w m p = list_line (end.Holding m p) (names_of (held_for ((w.nodes m).kernel.records p)))
@@ -123,9 +124,17 @@ first_had machines w p = first_says (λ m. record_lines m p ((w.nodes m).kernel.
 abbrev pub first_awaited : ℕ → WorldState → Pid → Option (List EndLine)
 first_awaited machines w p = first_says (λ m. awaited_lines m p ((w.nodes m).kernel.records p)) machines
 
--- a process is here, leaves or has ended, or else it arrives
+-- a process is here or leaves, or else it arrives
+abbrev pub living_lines : ℕ → WorldState → Pid → List EndLine
+living_lines machines w p = lines_in (or (first_had machines w p) (first_awaited machines w p))
+
+-- but one that has ended is nowhere
+abbrev pub lines_by : ℕ → WorldState → Pid → Option Why → List EndLine
+lines_by machines w p None = living_lines machines w p
+lines_by machines w p (Some y) = end.Ended p y ∷ []
+
 abbrev pub process_lines : ℕ → WorldState → Pid → List EndLine
-process_lines machines w p = lines_in (or (first_had machines w p) (first_awaited machines w p))
+process_lines machines w p = lines_by machines w p (w.ended p)
 
 abbrev pub queue_of : ℕ → WorldState → Pid → List EndLine
 queue_of machines w p = lines_in (first_says (λ m. record_queue p ((w.nodes m).kernel.records p)) machines)

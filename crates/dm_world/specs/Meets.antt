@@ -1,14 +1,18 @@
 -- The world of the code, over the plain one.
 use Rattle.std.specs.Prelude.{◌≡◌, ⊤, ℕ, List, Vec, length, slice_get}
+use Rattle.std.specs.BTreeMap.{BTreeMap, get}
 use Rattle.std.specs.Option.{option_map_or}
 use Rattle.std.specs.declared.alloc.Global.{Global}
 use Rattle.std.specs.declared.option.Option.{Option}
 use Rattle.std.specs.declared.option.Option.TheVariants.{None, Some}
 use Rattle.std.specs.declared.result.Result.{Result}
 use Rattle.std.specs.declared.result.Result.TheVariants.{Ok, Err}
+use Rattle.dm_link.specs.declared.Pid.{Pid}
+use Rattle.dm_link.specs.Names.{pid_cmp}
 use Rattle.dm_packet.specs.Lawful.{IsLawfulPacket}
 use Rattle.dm_wire.specs.Wire.{packets_on}
 use Rattle.dm_onekernel.specs.declared.boot.Boot.{Boot}
+use Rattle.dm_onekernel.specs.declared.label.Why.{Why}
 use Rattle.dm_onekernel.specs.Boot.{IsValid}
 use Rattle.dm_line.specs.declared.line.Line.{Line}
 use Rattle.dm_line.specs.Sets.{at_machine}
@@ -28,8 +32,12 @@ use Rattle.dm_world.specs.World.{WorldState, Happened, Says, WornOut}
 unfoldable pub node_in : Boot → List Node → ℕ → NodeState
 node_in b nodes m = option_map_or node.node_state (slice_get nodes m) (node_opened b m)
 
+-- why each process ended that has
+unfoldable pub ended_in : BTreeMap Pid Why → Pid → Option Why
+ended_in ended p = get pid_cmp ended p
+
 abbrev pub world_state : World → WorldState
-world_state w = record { nodes = node_in w.boot w.nodes.items; wires = packets_on w.wires; groups = w.groups }
+world_state w = record { nodes = node_in w.boot w.nodes.items; wires = packets_on w.wires; ended = ended_in w.ended; groups = w.groups }
 
 -- machine m has its streams and its number
 pub record IsNode (m : ℕ) (n : Node) : Type 0 where

@@ -1,9 +1,11 @@
 -- All machines and the wires between them, and what a directive does.
-use Rattle.std.specs.Prelude.{ℕ, ◌+◌, List, [], ◌∷◌}
+use Rattle.std.specs.Prelude.{ℕ, ◌+◌, if◌then◌else◌, List, [], ◌∷◌}
 use Rattle.std.specs.declared.option.Option.{Option}
 use Rattle.std.specs.declared.option.Option.TheVariants.{None, Some}
 use Rattle.std.specs.declared.result.Result.{Result}
 use Rattle.std.specs.declared.result.Result.TheVariants.{Ok, Err}
+use Rattle.dm_link.specs.declared.Pid.{Pid}
+use Rattle.dm_link.specs.Names.{pid_eq}
 use Rattle.dm_message.specs.declared.Message.{Message}
 use Rattle.dm_stream.specs.Packets.{Load, Data, Ack}
 use Rattle.dm_packet.specs.declared.Packet.{Packet}
@@ -13,6 +15,7 @@ use Rattle.dm_packet.specs.Packets.{packet_of}
 use Rattle.dm_wire.specs.Sent.{Sent, bytes_at}
 use Rattle.dm_wire.specs.Wire.{after_mark}
 use Rattle.dm_onekernel.specs.declared.boot.Boot.{Boot}
+use Rattle.dm_onekernel.specs.declared.label.Why.{Why}
 use Rattle.dm_schedule.specs.declared.Step.{Step}
 use Rattle.dm_schedule.specs.declared.Step.TheVariants as step
 use Rattle.dm_line.specs.declared.line.Line.{Line}
@@ -27,6 +30,8 @@ pub record WorldState : Type 0 where
   pub nodes : ℕ → NodeState
   -- all packets ever put on the wire from one machine to another
   pub wires : ℕ → ℕ → List Sent
+  -- why each process ended that has
+  pub ended : Pid → Option Why
   -- how many directives there were
   pub groups : ℕ
 
@@ -44,12 +49,26 @@ pub data Happened : Type 0 where
 abbrev pub acted : WorldState → Step → ℕ → Acted → Said
 acted w e m d =
     let gave : Spoken = spoken w.wires d.outs in
-    record { state = record { nodes = at_machine w.nodes m d.state; wires = gave.wires; groups = w.groups + 1 }; lines = line.Head e ∷ gave.lines }
+    record { state = record { nodes = at_machine w.nodes m d.state; wires = gave.wires; ended = w.ended; groups = w.groups + 1 }; lines = line.Head e ∷ gave.lines }
 
 abbrev pub turned : WorldState → Step → ℕ → Option Acts → Option Happened
 turned w e m None = None
 turned w e m (Some (Goes d)) = Some (Says (acted w e m d))
 turned w e m (Some (Worn from to)) = Some (WornOut from to)
+
+-- who ended in a turn, and why
+abbrev pub over_in : Option Acts → Option (Pid × Why)
+over_in None = None
+over_in (Some (Goes d)) = d.state.kernel.over
+over_in (Some (Worn from to)) = None
+
+abbrev pub with_over : (Pid → Option Why) → Option (Pid × Why) → Pid → Option Why
+with_over ended None p = ended p
+with_over ended (Some (q, y)) p = if pid_eq q p then Some y else ended p
+
+-- the world keeps that
+abbrev pub keeps_over : WorldState → Option Acts → WorldState
+keeps_over w o = record w { ended = with_over w.ended (over_in o) }
 
 -- a packet is delivered: what it carries comes to machine c from machine a
 abbrev pub arrives : WorldState → Step → ℕ → ℕ → Load Message → Option Happened
@@ -66,7 +85,7 @@ delivers w e a c k (Some bytes) = reads (record w { wires = after_mark w.wires a
 
 -- an elementary directive, a row each; the manager, which tells a process to move, is on machine 0
 abbrev pub world_step : Boot → WorldState → Step → Option Happened
-world_step b w (step.Turn m) = turned w (step.Turn m) m (node.turn b (w.nodes m))
+world_step b w (step.Turn m) = turned (keeps_over w (node.turn b (w.nodes m))) (step.Turn m) m (node.turn b (w.nodes m))
 world_step b w (step.Tick m) = Some (Says (acted w (step.Tick m) m (node.tick (w.nodes m))))
 world_step b w (step.Deliver a c k) = delivers w (step.Deliver a c k) a c k (bytes_at (w.wires a c) k)
 world_step b w (step.Migrate p m) = turned w (step.Migrate p m) 0 (node.asks_move (w.nodes 0) p m)
@@ -74,4 +93,4 @@ world_step b w (step.CallOff p m) = turned w (step.CallOff p m) m (node.calls_of
 
 -- the world as the boot file has it
 abbrev pub first_world : Boot → WorldState
-first_world b = record { nodes = node_opened b; wires = λ x y. []; groups = 0 }
+first_world b = record { nodes = node_opened b; wires = λ x y. []; ended = λ p. None; groups = 0 }

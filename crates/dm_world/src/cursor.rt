@@ -1,10 +1,10 @@
 //! How far a directive has come, and which elementary one comes next.
-ghost use Rattle.std.specs.Prelude.{◌≡◌, ◌∷◌, ◌+◌, ◌<◌, ◌≤◌, Bool, ℕ, List, None, Option, Some, IfSome, [], length};
+ghost use Rattle.std.specs.Prelude.{◌≡◌, ◌∷◌, ◌+◌, ◌<◌, ◌≤◌, ℕ, List, None, Some, IfSome, [], length};
 ghost use Rattle.dm_schedule.specs.declared.Directive.{Directive as TheDirective};
-ghost use Rattle.dm_line.specs.Todo.{Two, all_of, following, is_over, takes_turn};
+ghost use Rattle.dm_line.specs.Todo.{Seen, Two, all_of, following, is_over, takes_turn};
 ghost use Rattle.dm_world.specs.Cursor.{Falls, FirstIs, FirstTurnIs, InPassIs, IsFresh, NextIs, NextPassIs, RoundGoes, RowIs, TakesTurn, pairs_at, todo_of};
 ghost use Rattle.dm_world.specs.Meets.{IsWorld, world_state};
-ghost use Rattle.dm_world.specs.Next.{world_has_mail, world_is_quiet};
+ghost use Rattle.dm_world.specs.Next.{world_seen};
 
 use crate::world::World;
 use dm_line::pass::Pass;
@@ -33,14 +33,15 @@ pub enum Place {
 impl Cursor {
     /// Nothing of the directive is done yet.
     pub fn new(directive: &Directive) -> Cursor
-        ensures { (n : ℕ) (first : ℕ → ℕ → Option ℕ) (mail : ℕ → Bool) (quiet : Bool) (ds : List TheDirective) →
-            following n first mail quiet (todo_of n result ds) ≡ following n first mail quiet (all_of (directive.now ∷ ds)) }
+        ensures { (n : ℕ) (seen : Seen) (ds : List TheDirective) →
+            following n seen (todo_of n result ds) ≡ following n seen (all_of (directive.now ∷ ds)) }
     {
         match *directive {
             Directive::One(step) => Cursor::One(step),
             Directive::Round => Cursor::behind(Pass::Round(1)),
             Directive::Spin(rounds) => Cursor::behind(Pass::Round(rounds)),
             Directive::Settle => Cursor::behind(Pass::Settle),
+            Directive::Rest(passes) => Cursor::behind(Pass::Rest(passes)),
         }
     }
 
@@ -58,7 +59,8 @@ impl Cursor {
 impl World {
     /// The elementary directive that comes next, and how far the directive has come with it; none where it is over. In a
     /// pass each ordered pair of machines is passed once, ascending, and no packet is looked at that was delivered. A
-    /// settle looks each time whether anything is on its way. It takes no memory.
+    /// settle looks each time whether anything is on its way, and a rest whether anything is or can be served. It takes no
+    /// memory.
     pub fn next(&self, cursor: Cursor) -> Option<(Step, Cursor)>
         requires { IsWorld self.now }
         ensures next { (ds : List TheDirective) → NextIs (length self.now.boot.machines) (world_state self.now) cursor ds result }
@@ -86,14 +88,16 @@ impl World {
         }
     }
 
-    /// Whether the directive of a pass is over in the midst of it: a settle is where nothing is on its way.
+    /// Whether the directive of a pass is over in the midst of it: a settle is where nothing is on its way, and a rest where
+    /// all is at rest.
     fn is_over(&self, pass: Pass) -> bool
         requires { IsWorld self.now }
-        ensures { result ≡ is_over pass (world_is_quiet (length self.now.boot.machines) (world_state self.now)) }
+        ensures { result ≡ is_over (length self.now.boot.machines) (world_seen (length self.now.boot.machines) (world_state self.now)) pass }
     {
         match pass {
             Pass::Round(_) => false,
             Pass::Settle => self.is_quiet(),
+            Pass::Rest(_) => self.is_at_rest(),
         }
     }
 
@@ -106,6 +110,7 @@ impl World {
         match pass {
             Pass::Round(rounds) => self.next_round(rounds),
             Pass::Settle => self.next_packet(Pass::Settle, 0, 0),
+            Pass::Rest(passes) => self.next_rest(passes),
         }
     }
 
@@ -121,6 +126,21 @@ impl World {
             None
         } else {
             self.next_packet(Pass::Round(rounds - 1), 0, 0)
+        }
+    }
+
+    /// What comes next where so many passes of a rest are left.
+    fn next_rest(&self, passes: u32) -> Option<(Step, Cursor)>
+        requires { IsWorld self.now }
+        ensures next { (ds : List TheDirective) →
+            NextPassIs (length self.now.boot.machines) (world_state self.now) (Pass.Rest passes) ds result }
+        ensures falls { IfSome result
+            (λ r. Falls (length self.now.boot.machines) (world_state self.now) (Cursor.Passing (Pass.Rest passes) Place.End) r.0 r.1) }
+    {
+        if passes == 0 {
+            None
+        } else {
+            self.next_packet(Pass::Rest(passes - 1), 0, 0)
         }
     }
 
@@ -196,11 +216,12 @@ impl World {
     fn takes_turn(&self, pass: Pass, m: u8) -> bool
         requires world { IsWorld self.now }
         requires within { m < length self.now.boot.machines }
-        ensures { result ≡ takes_turn pass (world_has_mail (world_state self.now)) m }
+        ensures { result ≡ takes_turn pass (world_seen (length self.now.boot.machines) (world_state self.now)) m }
     {
         match pass {
             Pass::Round(_) => true,
             Pass::Settle => self.has_mail(m),
+            Pass::Rest(_) => self.has_mail(m) || self.can_serve(m),
         }
     }
 

@@ -5,7 +5,7 @@ ghost use Rattle.dm_node.specs.Meets as node;
 ghost use Rattle.dm_node.specs.Meets.{HasStreams};
 ghost use Rattle.dm_line.specs.Ends.{joined_below, home_with, list_line};
 ghost use Rattle.dm_line.specs.declared.end_line.EndLine.TheVariants as end;
-ghost use Rattle.dm_world.specs.Ends.{MayEnd, SaysSome, awaited_lines, end_lines, first_awaited, first_had, homes_with, names_of, process_lines, queue_of, record_lines, record_queue, stream_line};
+ghost use Rattle.dm_world.specs.Ends.{MayEnd, SaysSome, awaited_lines, end_lines, first_awaited, first_had, homes_with, living_lines, names_of, process_lines, queue_of, record_lines, record_queue, stream_line};
 ghost use Rattle.dm_world.specs.Meets.{IsWorld, world_state};
 
 use crate::end_messages::{ids_of, ids_of_inbox, untaken_ids};
@@ -92,10 +92,22 @@ impl World {
         Ok(())
     }
 
-    /// The lines of a process, by the first machine that has it, or else by the first that awaits it.
+    /// The lines of a process: why it ended, or where it is.
+    #[tactic(auto, unfolding(crate::specs::Meets::ended_in))]
     fn say_process(&self, pid: Pid, lines: &mut Vec<EndLine>) -> Result<(), NoMemory>
         requires { IsWorld self.now }
         ensures { OnOk result (lines.new.items ≡ lines.old.items ++ process_lines (length self.now.boot.machines) (world_state self.now) pid) }
+    {
+        match self.ended.get(&pid) {
+            Some(why) => push(lines, EndLine::Ended { pid, why: *why }),
+            None => self.say_living(pid, lines),
+        }
+    }
+
+    /// The lines of a process, by the first machine that has it, or else by the first that awaits it.
+    fn say_living(&self, pid: Pid, lines: &mut Vec<EndLine>) -> Result<(), NoMemory>
+        requires { IsWorld self.now }
+        ensures { OnOk result (lines.new.items ≡ lines.old.items ++ living_lines (length self.now.boot.machines) (world_state self.now) pid) }
     {
         if self.say_had(pid, lines)? {
             return Ok(());
@@ -241,10 +253,6 @@ fn say_known(node: &Node, m: u8, pid: Pid, lines: &mut Vec<EndLine>) -> Result<b
         }
         Some(Record::Frozen(leaving)) => {
             say_alive(m, pid, Standing::Leaving, leaving.process(), lines)?;
-            Ok(true)
-        }
-        Some(Record::Ended(why)) => {
-            push(lines, EndLine::Ended { pid, why: *why })?;
             Ok(true)
         }
         _ => Ok(false),

@@ -1,8 +1,9 @@
-//! Whether anything is on its way.
-ghost use Rattle.std.specs.Prelude.{◌≡◌, ◌<◌, ◌==◌, length};
+//! Whether anything is on its way, and whether all is at rest.
+ghost use Rattle.std.specs.Prelude.{◌≡◌, ◌<◌, ◌==◌, length, not};
 ghost use Rattle.dm_line.specs.Each.{all_below};
+ghost use Rattle.dm_line.specs.Todo.{at_rest};
 ghost use Rattle.dm_world.specs.Meets.{IsWorld, world_state};
-ghost use Rattle.dm_world.specs.Next.{all_heard, world_has_mail, world_is_quiet};
+ghost use Rattle.dm_world.specs.Next.{all_heard, world_has_mail, world_is_quiet, world_seen, world_serves};
 
 use crate::world::World;
 
@@ -19,6 +20,36 @@ impl World {
             }
         }
         true
+    }
+
+    /// Whether all is at rest: nothing is on its way, and no machine has a process that can be served. It takes no memory.
+    pub fn is_at_rest(&self) -> bool
+        requires { IsWorld self.now }
+        ensures { result ≡ at_rest (length self.now.boot.machines) (world_seen (length self.now.boot.machines) (world_state self.now)) }
+    {
+        self.is_quiet() && self.none_is_served()
+    }
+
+    /// Whether no machine has a process that can be served.
+    fn none_is_served(&self) -> bool
+        requires { IsWorld self.now }
+        ensures { result ≡ all_below (length self.now.boot.machines) (λ m. not (world_serves (world_state self.now) m)) }
+    {
+        for m in 0..self.machines() {
+            if self.can_serve(m) {
+                return false;
+            }
+        }
+        true
+    }
+
+    /// Whether a machine has a process that can be served.
+    pub(crate) fn can_serve(&self, m: u8) -> bool
+        requires world { IsWorld self.now }
+        requires within { m < length self.now.boot.machines }
+        ensures { result ≡ world_serves (world_state self.now) m }
+    {
+        self.machine(m).kernel().can_serve()
     }
 
     /// Whether the inbox of a machine has a message.

@@ -1,6 +1,7 @@
 //! What a directive does.
 ghost use Rattle.std.specs.Prelude.{◌≡◌, ◌<◌, ◌+◌, ◌^◌, ◌∷◌, ℕ, IfOk, IfSome, IsOk, OnErr, OnOk, None, Ok, Some, [], false, length, option_map, true};
 ghost use Rattle.std.specs.List.{All};
+ghost use Rattle.dm_link.specs.declared.Pid.{Pid as ThePid};
 ghost use Rattle.dm_onekernel.specs.Boot.{images_are_valid};
 ghost use Rattle.dm_packet.specs.Packets.{packet_of};
 ghost use Rattle.dm_schedule.specs.declared.Step.TheVariants as directive;
@@ -16,15 +17,16 @@ ghost use Rattle.dm_node.specs.Wired.{spoken};
 ghost use Rattle.dm_line.specs.declared.line.Line.TheVariants as line;
 ghost use Rattle.dm_world.specs.Local.{ActsAlone, acts_on};
 ghost use Rattle.dm_world.specs.May.{MayDeliver, MayStep};
-ghost use Rattle.dm_world.specs.Meets.{ActedAt, AreNodes, IsSendable, IsWorld, TurnAnswers, node_in, world_state};
+ghost use Rattle.dm_world.specs.Meets.{ActedAt, AreNodes, IsSendable, IsWorld, TurnAnswers, ended_in, node_in, world_state};
 ghost use Rattle.dm_world.specs.Readable.{AreReadBack};
 ghost use Rattle.dm_world.specs.Stepped.{StepMeets};
+ghost use Rattle.dm_world.specs.World.{with_over};
 
 use crate::speak::speak;
 use crate::world::World;
 use dm_line::line::Line;
 use dm_link::{MACHINES, Pid};
-use dm_memory::{NoMemory, list_of, push};
+use dm_memory::{NoMemory, insert, list_of, push};
 use dm_node::{Envelope, Node, Out, Stop};
 use dm_onekernel::Boot;
 use dm_schedule::Step;
@@ -82,8 +84,21 @@ impl World {
     {
         let empty = emptied(self.alloc, &mut self.outs);
         let outs = take_turn(empty, &mut self.nodes, &self.boot, m)?;
+        self.keep_over(m)?;
         let lines = self.group(Step::Turn(m), outs)?;
         Ok(lines)
+    }
+
+    /// Keeps who ended in the turn that machine `m` has taken, and why.
+    fn keep_over(&mut self, m: u8) -> Result<(), NoMemory>
+        requires within { m < length self.old.nodes.items }
+        ensures ended { OnOk result ((p : ThePid) → ended_in self.new.ended p ≡ with_over (ended_in self.old.ended) (node_in self.old.boot self.old.nodes.items m).kernel.over p) }
+        ensures rest { self.new ≡ record self.old { ended = self.new.ended } }
+    {
+        if let Some((pid, why)) = self.nodes[place_of(m)].kernel().over() {
+            insert(&mut self.ended, pid, why)?;
+        }
+        Ok(())
     }
 
     /// The manager, on machine 0, is asked to have a process move.
@@ -188,6 +203,7 @@ impl World {
         ensures again { OnOk result (AreReadBack outs.items) }
         ensures nodes { self.new.nodes ≡ self.old.nodes }
         ensures boot { self.new.boot ≡ self.old.boot }
+        ensures ended { self.new.ended ≡ self.old.ended }
         ensures stopped { self.new.stopped ≡ self.old.stopped }
     {
         let mut lines = emptied(self.alloc, &mut self.lines);

@@ -8,12 +8,13 @@ ghost use Rattle.dm_world.specs.Meets.{AreNodes, IsNode, IsWorld, world_state};
 ghost use Rattle.dm_world.specs.World.{first_world};
 
 use dm_line::line::Line;
-use dm_link::MACHINES;
+use dm_link::{MACHINES, Pid};
 use dm_memory::{NoMemory, push};
 use dm_node::{Node, Out};
-use dm_onekernel::Boot;
+use dm_onekernel::{Boot, Why};
 use dm_wire::Wire;
 use std::alloc::Global;
+use std::collections::BTreeMap;
 
 /// A system that runs.
 #[derive(Drop)]
@@ -23,6 +24,8 @@ pub struct World {
     /// The machines of the boot file.
     pub(crate) nodes: Vec<Node>,
     pub(crate) wires: Wire,
+    /// Why each process ended that has.
+    pub(crate) ended: BTreeMap<Pid, Why>,
     /// What the last machine that acted gave, kept for its memory.
     pub(crate) outs: Vec<Out>,
     /// Lines that were printed, kept for their memory.
@@ -48,6 +51,7 @@ impl World {
             boot,
             nodes,
             wires: Wire::new(alloc),
+            ended: BTreeMap::new(alloc),
             outs: Vec::new(alloc),
             lines: Vec::new(alloc),
             groups: 0,

@@ -16,4 +16,5 @@ returns-in-Err c =
       sent = refl;
       room = refl;
       servers = refl;
+      over = refl;
     })

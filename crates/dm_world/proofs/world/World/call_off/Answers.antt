@@ -1,4 +1,4 @@
-use Rattle.dm_world.proofs.Names.{rules, ap, ◌∙◌, node_in, calls_off}
+use Rattle.dm_world.proofs.Names.{ended_in, rules, ap, ◌∙◌, node_in, calls_off}
 use Rattle.dm_schedule.specs.declared.Step.TheVariants as step
 use Rattle.dm_world.proofs.Rereading.{turn_back}
 use Rattle.dm_world.proofs.Stepping.{acted_size, turn_stepped, turn_world, written}
@@ -14,8 +14,8 @@ returns-clause-meets c =
     let acts = rw c.deref_mut.ensures.value at c.in_ok-outs.ensures.answers in
     let are = ap (λ v. v.items) c.group.ensures.nodes ∙ written old.nodes ys (acted_size old.boot old.nodes.items ys c.args.m outs o acts) in
     record {
-      answers = turn_stepped old now ys (step.CallOff c.args.pid c.args.m) c.args.m outs c.in_ok-lines.lines.items o acts are
-          (record { lines = c.in_ok-lines.ensures.lines; wires = c.in_ok-lines.ensures.wires; groups = c.in_ok-lines.ensures.groups; boot = c.group.ensures.boot });
+      answers = turn_stepped old now ys (ended_in old.ended) (step.CallOff c.args.pid c.args.m) c.args.m outs c.in_ok-lines.lines.items o acts are
+          (record { lines = c.in_ok-lines.ensures.lines; wires = c.in_ok-lines.ensures.wires; ended = λ p. ap (λ kept. ended_in kept p) c.group.ensures.ended; groups = c.in_ok-lines.ensures.groups; boot = c.group.ensures.boot });
       world = turn_world old now ys c.args.m outs o c.requires.world acts are c.group.ensures.boot;
       again = turn_back old.boot old.nodes.items ys c.args.m outs o acts c.in_ok-lines.ensures.again;
       whole = tt;

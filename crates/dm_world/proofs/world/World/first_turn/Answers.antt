@@ -1,4 +1,4 @@
-use Rattle.dm_world.proofs.Names.{◌+◌, ◌<◌, ◌≤◌, length, sym, ◌∙◌, arith, world_state, world_has_mail}
+use Rattle.dm_world.proofs.Names.{◌+◌, ◌<◌, ◌≤◌, length, sym, ◌∙◌, arith, world_state, world_seen}
 use Rattle.dm_world.proofs.Passes.{none_left, passes_over, stays_on, takes_next}
 use Rattle.dm_world.proofs.world.World.first_turn.Goals as goal
 
@@ -18,7 +18,7 @@ loop-k-preserved c =
     let test = c.loop-k-test.true in
     let takes = sym c.takes_turn.ensures ∙ c.if-takes_turn.false in (
       λ t. c.loop-k.invariant.0 t ∙ passes_over n (world_state w) c.args.pass c.loop-k.k t (omega (arith, all, test)) takes,
-      stays_on c.args.pass (world_has_mail (world_state w)) c.args.m c.loop-k.k (c.loop-k.k + 1) takes,
+      stays_on c.args.pass (world_seen n (world_state w)) c.args.m c.loop-k.k (c.loop-k.k + 1) takes,
     )
 
 pub returns-clause-first : goal.returns-clause-first

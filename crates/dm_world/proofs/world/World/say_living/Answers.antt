@@ -1,6 +1,6 @@
 use Rattle.dm_world.proofs.Names.{length, first_awaited, first_had, world_state}
 use Rattle.dm_world.proofs.Ending.{said_first, said_second}
-use Rattle.dm_world.proofs.world.World.say_process.Goals as goal
+use Rattle.dm_world.proofs.world.World.say_living.Goals as goal
 
 pub returns-then-branch : goal.returns-then-branch
 returns-then-branch c =
