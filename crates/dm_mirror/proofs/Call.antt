@@ -8,7 +8,7 @@ use Rattle.dm_kernel.specs.State.{with_sent}
 use Rattle.dm_mirror.proofs.Cargoes.{is_cargo_of}
 use Rattle.dm_mirror.proofs.Recorded.{recorded}
 use Rattle.dm_mirror.proofs.LeftOver.{cargo_named, come_is, record_apart, record_kept, tokens_called, tokens_less}
-use Rattle.dm_mirror.proofs.Turning.{AllMayPut, MayPut, Nothing, On, Own, Route, Turns, IsCarried, IsLeftOver, is_elsewhere, part_of, rule_part_of}
+use Rattle.dm_mirror.proofs.Turning.{NoneEnds, own_first, AllMayPut, MayOwn, MayPut, Nothing, On, Own, Route, Turns, IsCarried, IsLeftOver, is_elsewhere, part_of, rule_part_of}
 use Rattle.dm_mirror.proofs.Rooms.{taken_changed}
 use Rattle.dm_mirror.proofs.Leave.Fronts.{Present, absent_next, may_between, own_stays, records_as, untold_next}
 use Rattle.dm_mirror.proofs.Leave.Goes.{all_may, life_some, on_length, on_may, on_rule_parts, own_on, room_released, times_among}
@@ -78,7 +78,7 @@ none_called b m pt l records k p h turn is =
       elsewhere = search;
       may = tt;
       late_may = tt;
-      single = omega arith;
+      over = NoneEnds refl (λ q. refl);
       topic = tt;
       own = own_stays pt.view start.view l refl h.own;
       tokens = tokens_less pt.view start.view l records (at_machine records m k.records) (λ i. refl) (λ q. refl) (λ n q. refl) (λ n q. records_as records m n k.records k.records q h.records_here refl)
@@ -103,7 +103,7 @@ bag_kept b pt m p l at moves z j run off least =
 
 -- each of them may be put again
 held_may : (b : Boot) (pt end : Point) (m : ℕ) (p : Pid) (l : Placed) (records : AllRecords) (at moves : ℕ) (i : MsgId) (x : Message) → Run b pt → Mirrors pt.kernel pt.view pt.addresses l → AllOwnStand pt.view l → end.view.told ≡ pt.view.told
-    → 1 ≤ times i (pt.view.held m p) → l.bag i ≡ Some x → MayPut end (sent_all l at moves (pt.view.held m p)) records (On (sent_on at moves x))
+    → 1 ≤ times i (pt.view.held m p) → l.bag i ≡ Some x → MayPut end (sent_all l at moves (pt.view.held m p)) records 0 (On (sent_on at moves x))
 held_may b pt end m p l records at moves i x run mirrors own e least there =
     let v = pt.view in
     let ids = v.held m p in
@@ -115,9 +115,9 @@ held_may b pt end m p l records at moves i x run mirrors own e least there =
     (put, t.1, t.2)
 
 -- then the machine's kernel tells the other
-may_then : (pt : Point) (placed : Placed) (records : AllRecords) (rs : List Route) (r : Route) → AllMayPut pt placed records rs → MayPut pt placed records r → AllMayPut pt placed records (rs ++ r ∷ [])
-may_then pt placed records [] r h may = (may, tt)
-may_then pt placed records (q ∷ qs) r h may = (h.0, may_then pt placed records qs r h.1 may)
+may_then : (pt : Point) (placed : Placed) (records : AllRecords) (j : ℕ) (ms : List Message) (x : Message) → AllMayPut pt placed records j (map On ms) → MayOwn pt placed records j x → AllMayPut pt placed records j (map On ms ++ Own x ∷ [])
+may_then pt placed records j [] x h may = (may, tt)
+may_then pt placed records j (m ∷ ms) x h may = (h.0, may_then pt placed records (j + 0) ms x h.1 (let e : j ≡ j + 0 = omega arith in subst (λ (n : ℕ). MayOwn pt placed records n x) e may))
 
 parts_then : (ms : List Message) (x : Message) → map part_of (map On ms ++ Own x ∷ []) ++ [] ≡ map Part.Routes ms ++ Part.Routes x ∷ []
 parts_then [] x = refl
@@ -253,7 +253,7 @@ called b m pt l records k p made h c less come =
           }) h.stands h.stands.ring (map_same l.bag placed.bag (v.inbox m) (λ j least. stays (Inbox m) j (λ e. cc) least) ∙ h.stands.inbox) h.stands.made
           (room_released k.room _ before now a.blocks h.stands.room slots blocks) h.stands.servers;
       sent = λ e. (let f : k.sent + 1 ≡ v.count m + (turning.owns routes + 0) = omega (arith, e, owned) in f);
-      single = (let f : turning.owns routes + 0 ≤ 1 = omega (arith, owned) in f);
+      over = NoneEnds refl (λ q. refl);
       topic = tt;
       elsewhere = record {
         acting = refl;
@@ -276,11 +276,11 @@ called b m pt l records k p made h c less come =
         board = λ off. refl;
         manager = λ off. refl;
       };
-      may = may_then next placed after_records (map On on) (Own tells)
-          (all_may next placed after_records a.source a.moves l.bag ids a.held (λ i y least e. held_may b pt next m p l after_records a.source a.moves i y h.run h.mirrors h.own refl least e) stands.held)
-          (may_between next placed after_records m a.source p tells (record {
+      may = may_then next placed after_records 0 on tells
+          (all_may next placed after_records a.source a.moves l.bag ids a.held (λ i y least e. held_may b pt next m p l after_records a.source a.moves i y h.run h.mirrors h.own refl least e) stands.held 0)
+          (may_between next placed after_records m a.source p 0 tells (record {
             acting = refl;
-            id = id_is;
+            id = id_is ∙ own_first next.view;
             plain = refl;
             encloses = refl;
             gives = refl;

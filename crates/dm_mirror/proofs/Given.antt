@@ -1,7 +1,7 @@
 -- What the laws rest on.
 use Rattle.dm_mirror.proofs.Names.{◌≡◌, ℕ, ◌<◌, true, List, length, ap, ◌∙◌, sym, subst, inl, nat_le, arith, option_map, Some, nat_tests, length-map, Pid, IsMachine, plain_link, Boot, IsValid, slots_of, Alive, plain_process, PlainProcess}
 use Rattle.dm_mirror.proofs.Names.{Step, Leads, Point, first_point, run_always, run_group, run_start, format_always, tables_always, Placed, MayStep, AreWhole, WorldState, EndIsSaid, EndMay, RunGoesOn, StepsStand, Steps, History, Stands}
-use Rattle.dm_mirror.proofs.Names.{StandsWith, RanGoesOn, alive-is, ◌==◌, [], ◌∷◌, ◌++◌, refl, Inbox, tells_right_always, is_server, GroupNeeds, group_needs, places_follow_by, PlacesFollow, or_second, slice_get}
+use Rattle.dm_mirror.proofs.Names.{StandsWith, RanGoesOn, alive-is, ◌==◌, [], ◌∷◌, ◌++◌, refl, Inbox, tells_right_always, is_server, GroupNeeds, group_needs, places_follow_by, PlacesFollow, or_second, slice_get, before_turn, before_lawful}
 use Rattle.dm_onekernel.specs.Step as kernel
 use Rattle.dm_mirror.proofs.Counts.{counts_few}
 use Rattle.dm_mirror.proofs.Leave.Asked.{asked_by_manager}
@@ -14,6 +14,7 @@ use Rattle.dm_mirror.proofs.May.{all_lawful, may_step_calloff, may_step_migrate,
 use Rattle.dm_mirror.proofs.Call.{calls_turn}
 use Rattle.dm_mirror.proofs.Ticks.{tick_goes}
 use Rattle.dm_mirror.proofs.TurnAll.{turns_all}
+use Rattle.dm_mirror.proofs.Over.{before_stands, before_whole}
 use Rattle.dm_mirror.proofs.Deliver.Goes.{reads_as, few}
 use Rattle.dm_mirror.proofs.TurnSteps.{call_goes, move_goes, turn_goes}
 use Rattle.dm_mirror.proofs.Come.Answers.{Around}
@@ -42,8 +43,14 @@ turn_stands tables b es w pt m valid leads ((l, h, st), sent) lt may whole =
     let within = below b es pt m leads lt in
     let node = st.nodes m within in
     turn_goes run_group b w pt l h m valid both.run both.own may.1.kernel st sent within
-    (turns_all b m pt l (λ n. (w.nodes n).kernel.records) (w.nodes m).kernel (search
-    (made_always b es pt valid leads, sent m within, around_of tables b es w pt l h valid leads st)))
+    (turns_all b m pt l (λ n. (w.nodes n).kernel.records) (before_turn (w.nodes m).kernel) (search (
+      made_always b es pt valid leads,
+      sent m within,
+      around_of tables b es w pt l h valid leads st,
+      before_stands b pt l m (w.nodes m).kernel node.kernel,
+      before_lawful (w.nodes m).kernel node.lawful,
+      before_whole (w.nodes m).kernel (w.nodes m).kernel.inbox whole,
+    )))
 
 move_stands : (b : Boot) (es : List Step) (w : WorldState) (pt : Point) (p : Pid) (m : ℕ) → IsValid b → Leads b (first_point b) es pt → Stands b w pt → m < length b.machines → MayStep b w (Step.Migrate p m) → Steps b w pt (Step.Migrate p m)
 move_stands b es w pt p m valid leads ((l, h, st), sent) lt may =

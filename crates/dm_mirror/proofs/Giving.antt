@@ -100,6 +100,7 @@ module _ (b : Boot) (pt : Point) (l : Placed) (w : WorldState) (h : History) (m 
       let full : length (pt.view.pair m c).ids ≢ b.numbers = let e : given_count ((w.nodes m).senders c) ≡ length (pt.view.pair m c).ids = count_given b pt l w h m c pair in let f : ((w.nodes m).senders c).numbers ≡ b.numbers = pair.numbers in grind (arith, nat_tests, e, f, fresh) in
       record {
         groups = st.groups;
+        ended = st.ended;
         nodes = λ d few.
             nodes_are b pt l gave m w.nodes (at_machine w.nodes m (node_gave w m c x)) (λ z e. at_other w.nodes m _ z e) (λ z e. (λ i. box i z)) (λ z e. own z)
             (subst (λ (n : NodeState). NodeStands b next l m n) (sym (at_here w.nodes m (node_gave w m c x))) (node_streams b next l m (w.nodes m) (node_gave w m c x).senders (w.nodes m).receivers (node_same b pt l gave m (w.nodes m) (λ i. box i m) (own m) (st.nodes m small))))

@@ -43,6 +43,7 @@ module _ (b : Boot) (pt : Point) (l : Placed) (w : WorldState) (h : History) (m 
       let full : length (pt.view.pair m m).ids ≢ b.numbers = let e : (w.nodes m).home ≡ length (pt.view.pair m m).ids = (st.nodes m small).home in omega (arith, e, fresh) in
       record {
         groups = st.groups;
+        ended = st.ended;
         nodes = λ d few.
             nodes_are b pt l gave m w.nodes after.nodes (λ z e. at_other w.nodes m _ z e) (λ z e. (λ i. box_is i z) ∙ at_other pt.view.inbox m _ z e) (λ z e. ap (λ (p : Pair). p.ids) (pair_other pt.view.pair m m _ z z (ap (λ (t : Bool). t && (m == z)) e)))
             (subst (λ (n : NodeState). NodeStands b next l m n) (sym (at_here w.nodes m (node_home (w.nodes m) x))) (node_more there lawful (st.nodes m small)))

@@ -2,9 +2,10 @@
 use Rattle.dm_mirror.proofs.Names.{◌≡◌, ◌≢◌, ℕ, ◌<◌, ◌≤◌, ◌==◌, Bool, true, length, refl, ap, ◌∙◌, sym, subst, inl, inr, if◌then◌else◌, eqb_tells, Boot, Point, at_machine, Untaken, Pair, Placed, Mirrors, IsLawfulState, KernelState, arith}
 use Rattle.dm_mirror.proofs.Names.{nat_tests, NodeState, WorldState, AllOwnStand, KernelStands, NodeStands, History, StandsWith, AllRecords, TokensStand, ◌+◌, is_some, List, nat_lt, Option, None, Some, Pid, pid_of, MsgId, PlainMessage}
 use Rattle.dm_mirror.proofs.Names.{first_number, Life, OneKernel, reached, Sound, Line, Receiver, to_of, after, labels, Spot, standing, Known, stands_right, machine_of, Run, after_replay, own_by, [], ◌∷◌, Message, What, Load, IsKindOfPlain}
-use Rattle.dm_mirror.proofs.Names.{kind_of, plain_kind, plain_message, plain_what, bind, goes_out, lines_of, packet_line, puts, moved, own_id, MessageKind}
+use Rattle.dm_mirror.proofs.Names.{kind_of, plain_kind, plain_message, plain_what, bind, goes_out, lines_of, packet_line, puts, moved, own_id, MessageKind, Why}
+use Rattle.dm_onekernel.specs.Step as kernels
 use Rattle.dm_rulelaws.proofs.Goes.Always.{told_of}
-use Rattle.dm_mirror.proofs.Turning.{Elsewhere, Route, First, On, Own, MayPut, message_of, rule_part_of}
+use Rattle.dm_mirror.proofs.Turning.{own_first, Elsewhere, Route, First, On, Own, MayPut, message_of, rule_part_of}
 use Rattle.dm_mirror.proofs.Others.{MadeHere, apart_tells, kernel_stays, pair_stays}
 
 -- machine m with this kernel
@@ -36,13 +37,14 @@ node_stays b m i pt next l placed n apart made e h = search (
 -- the world stands for the point behind what is said
 pub turned_stands : (b : Boot) (w : WorldState) (pt next : Point) (l placed : Placed) (h : History) (m : ℕ) (k : KernelState) → StandsWith b w pt l h → m < pt.kernel.machines → ((i : ℕ) → i ≢ m → MadeHere m i pt next) → Elsewhere m pt l next placed
     → Mirrors next.kernel next.view next.addresses placed → KernelStands b next placed m k → IsLawfulState k → AllOwnStand next.view placed → TokensStand next.view placed (at_machine (λ (d : ℕ). (w.nodes d).kernel.records) m k.records)
-    → StandsWith b (with_turned w m k) next placed h
-turned_stands b w pt next l placed h m k x within made e mirrors kernel lawful own tokens =
-    let u : WorldState = with_turned w m k in
+    → (ended : Pid → Option Why) → ((p : Pid) → ended p ≡ kernels.why_ended (next.kernel.processes p)) → StandsWith b (record (with_turned w m k) { ended = ended }) next placed h
+turned_stands b w pt next l placed h m k x within made e mirrors kernel lawful own tokens ended is =
+    let u : WorldState = record (with_turned w m k) { ended = ended } in
     let machines : next.kernel.machines ≡ pt.kernel.machines = e.machines in
     record {
       mirrors = mirrors;
       groups = x.groups ∙ sym e.groups;
+      ended = is;
       nodes = λ i below.
           elim (eqb_tells i m) [
             | inl same ↦
@@ -146,7 +148,7 @@ puts_are : (pt : Point) (m c : ℕ) (x : Message) (id : MsgId) (k : MessageKind)
     → puts pt.view at_ id k q ≡ lines_put pt m c x home out
 puts_are pt m c x id k q at_ home out acting place name kind to same goes = grind (arith, nat_tests)
 
-pub part_is : (pt : Point) (l : Placed) (records : AllRecords) (m : ℕ) (r : Route) (home out : Bool) → Mirrors pt.kernel pt.view pt.addresses l → pt.view.acting ≡ m → MayPut pt l records r → (m == (message_of r).to.at) ≡ home → goes_out (pt.view.pair m (message_of r).to.at) ≡ out
+pub part_is : (pt : Point) (l : Placed) (records : AllRecords) (m : ℕ) (r : Route) (home out : Bool) → Mirrors pt.kernel pt.view pt.addresses l → pt.view.acting ≡ m → MayPut pt l records 0 r → (m == (message_of r).to.at) ≡ home → goes_out (pt.view.pair m (message_of r).to.at) ≡ out
     → lines_of pt (rule_part_of r) ≡ Some (lines_put pt m (message_of r).to.at (message_of r) home out)
 part_is pt l records m (First x) home out mirrors acting may same goes =
     let p : IsPlain (pt.kernel.bag x.id) x = plain_of pt l x mirrors may.0 may.1 in
@@ -155,4 +157,4 @@ part_is pt l records m (First x) home out mirrors acting may same goes =
     ∙ ap Some (puts_are pt m x.to.at x x.id (plain_kind p.m.what) p.m.to (pt.addresses (Receiver x.id)).at home out acting place refl p.kind p.to same goes)
 part_is pt l records m (On x) home out mirrors acting may same goes = grind (arith, nat_tests, puts_are)
 part_is pt l records m (Own x) home out mirrors acting may same goes =
-    ap Some (puts_are pt m x.to.at x (own_id pt.view) (kind_of x.what) x.to.pid x.to.at home out acting refl (sym may.id) refl refl same goes)
+    ap Some (puts_are pt m x.to.at x (own_id pt.view) (kind_of x.what) x.to.pid x.to.at home out acting refl (own_first pt.view ∙ sym may.id) refl refl same goes)

@@ -22,6 +22,7 @@ pub mod Home
 pub mod Routing
 pub mod Ticks
 pub mod Others
+pub mod Over
 pub mod Join
 pub mod TurnSteps
 pub mod Deliver

@@ -1,7 +1,8 @@
 -- A directive acts on one machine.
 use Rattle.dm_mirror.proofs.Names.{◌≡◌, ℕ, zero, suc, ◌+◌, ◌==◌, ◌&&◌, Bool, true, false, List, [], ◌∷◌, map, refl, ap, ◌∙◌, sym, subst, arith, ⊤, if◌then◌else◌, Option, None, Some, Result, Err, nat_tests, append-nil, All-nil, Message}
 use Rattle.dm_mirror.proofs.Names.{Packet, Line, PacketError, packet_of, Sent, bytes_at, after_mark, Data, Ack, Boot, Step, KernelState, Turned, Pid, NodeState, here, Acted, Acts, Goes, StaysAt, asks_move_stays, WorldState, Said, acted}
-use Rattle.dm_mirror.proofs.Names.{arrives, reads, delivers, world_step, IsFresh, PutsFrom, marked_by, ActsLocally, SamePacket, unnumbered, DoesSame, ReadsLocally, NothingComes, AsLong, length_marked, actor, calls_off_stays}
+use Rattle.dm_mirror.proofs.Names.{arrives, reads, delivers, world_step, IsFresh, PutsFrom, marked_by, ActsLocally, SamePacket, unnumbered, DoesSame, ReadsLocally, NothingComes, AsLong, length_marked, actor, calls_off_stays, Why}
+use Rattle.dm_mirror.proofs.Names.{keeps_over, over_in, with_over}
 use Rattle.dm_world.proofs.Names.{Ok}
 use Rattle.dm_wire.specs.Sent.{marked}
 use Rattle.dm_stream.specs.Packets.{Load}
@@ -18,8 +19,8 @@ abbrev pub KernelStays : Type 0
 KernelStays = (b : Boot) (k : KernelState) (t : Turned) → kernel.turn b k ≡ Some t → t.state.here ≡ k.here
 
 -- what an event of machine m gives to the world
-acted_puts : (w : WorldState) (e : Step) (m : ℕ) (d : Acted) → IsFrom m d → PutsFrom m (λ c. packets_to c d.outs) w (acted w e m d).state
-acted_puts w e m d h = record {
+acted_puts : (w : WorldState) (kept : Pid → Option Why) (e : Step) (m : ℕ) (d : Acted) → IsFrom m d → PutsFrom m (λ c. packets_to c d.outs) w (acted (record w { ended = kept }) e m d).state
+acted_puts w kept e m d h = record {
   nodes = λ n apart. ap (λ (c : Bool). if c then d.state else w.nodes n) (let f : (m == n) ≡ false = grind (arith, nat_tests) in f);
   others = λ a c apart. spoken_off m d.outs w.wires a c h.outs apart;
   own = λ c. spoken_on m d.outs w.wires c h.outs;
@@ -94,13 +95,14 @@ pub nothing_comes : NothingComes
 nothing_comes b w a c k none = ap (delivers w (Step.Deliver a c k) a c k) none
 
 -- an event that gives the same to both worlds
-acted_same : (b : Boot) (w u : WorldState) (e : Step) (s : Said) (d : Acted) → IsFrom (actor e) d → s ≡ acted (marked_by e w) e (actor e) d → world_step b u e ≡ Some (Says (acted (marked_by e u) e (actor e) d)) → DoesSame b w u e s
-acted_same b w u e s d from said happens =
+acted_same : (b : Boot) (w u : WorldState) (e : Step) (s : Said) (kept there : Pid → Option Why) (d : Acted) → IsFrom (actor e) d → s ≡ acted (record (marked_by e w) { ended = kept }) e (actor e) d
+    → world_step b u e ≡ Some (Says (acted (record (marked_by e u) { ended = there }) e (actor e) d)) → DoesSame b w u e s
+acted_same b w u e s kept there d from said happens =
     let marked_long : (m : ℕ) (e : Step) (w u : WorldState) → AsLong m w u → AsLong m (marked_by e w) (marked_by e u) = λ m e w u h n. grind (arith, nat_tests, length_marked) in
     let acted_node : (w : WorldState) (e : Step) (m : ℕ) (d : Acted) → (acted w e m d).state.nodes m ≡ d.state = λ w e m d. ap (λ (c : Bool). if c then d.state else w.nodes m) (let f : (m == m) ≡ true = grind (arith, nat_tests) in f) in
     let m = actor e in
-    let x = marked_by e w in
-    let y = marked_by e u in
+    let x = record (marked_by e w) { ended = kept } in
+    let y = record (marked_by e u) { ended = there } in
     let acted_unnumbered : (w u : WorldState) (e : Step) (m : ℕ) (d : Acted) → map unnumbered (acted u e m d).lines ≡ map unnumbered (acted w e m d).lines =
     λ w u e m d. ap (λ (ls : List Line). unnumbered (Line.Head e) ∷ ls) (spoken_unnumbered u.wires w.wires d.outs) in
     let acted_exact : (w u : WorldState) (e : Step) (m : ℕ) (d : Acted) → IsFrom m d → AsLong m w u → (acted u e m d).lines ≡ (acted w e m d).lines =
@@ -110,8 +112,8 @@ acted_same b w u e s d from said happens =
       happens = happens;
       node = acted_node y e m d ∙ sym (ap (λ (z : Said). z.state.nodes m) said ∙ acted_node x e m d);
       more = λ n. packets_to n d.outs;
-      puts = subst (λ (z : Said). PutsFrom m (λ n. packets_to n d.outs) x z.state) (sym said) (acted_puts x e m d from);
-      puts_there = acted_puts y e m d from;
+      puts = subst (λ (z : Said). PutsFrom m (λ n. packets_to n d.outs) (marked_by e w) z.state) (sym said) (acted_puts (marked_by e w) kept e m d from);
+      puts_there = acted_puts (marked_by e u) there e m d from;
       lines = acted_unnumbered x y e m d ∙ ap (λ (z : Said). map unnumbered z.lines) (sym said);
       exact = λ long. acted_exact x y e m d from (marked_long m e w u long) ∙ ap (λ (z : Said). z.lines) (sym said);
     }
@@ -140,24 +142,25 @@ delivers_same b w u a c k s (Some bytes) here_is there_is is node happens =
     let p = comes x e a c (packet_of bytes) s happens in
     let d = machine.arrives (w.nodes c) a p.load in
     let same : machine.arrives (u.nodes c) a p.load ≡ d = ap (λ (n : NodeState). machine.arrives n a p.load) node in
-    acted_same b w u e s d (arrives_from c (w.nodes c) a p.load is) p.said (ap (delivers u e a c k) there_is ∙ (p.is y ∙ ap (λ (v : Acted). Some (Says (acted y e c v))) same))
+    acted_same b w u e s w.ended u.ended d (arrives_from c (w.nodes c) a p.load is) p.said (ap (delivers u e a c k) there_is ∙ (p.is y ∙ ap (λ (v : Acted). Some (Says (acted y e c v))) same))
 
 pub reads_locally : KernelStays → ReadsLocally
 reads_locally stays b w u (Step.Turn m) s is node same happens =
-    let turn_is : KernelStays → (b : Boot) (w : WorldState) (m : ℕ) (s : Said) → here (w.nodes m) ≡ m → world_step b w (Step.Turn m) ≡ Some (Says s) → Turns (Step.Turn m) m w (machine.turn b (w.nodes m)) s =
-    λ stays b w m s is happens. turned_is (Step.Turn m) m w (machine.turn b (w.nodes m)) s (turns_from (w.nodes m) m (kernel.turn b (w.nodes m).kernel) is (λ t e. stays b (w.nodes m).kernel t e)) happens in
+    let turn_is : KernelStays → (b : Boot) (w : WorldState) (m : ℕ) (s : Said) → here (w.nodes m) ≡ m → world_step b w (Step.Turn m) ≡ Some (Says s) → Turns (Step.Turn m) m (keeps_over w (machine.turn b (w.nodes m))) (machine.turn b (w.nodes m)) s =
+    λ stays b w m s is happens. turned_is (Step.Turn m) m (keeps_over w (machine.turn b (w.nodes m))) (machine.turn b (w.nodes m)) s (turns_from (w.nodes m) m (kernel.turn b (w.nodes m).kernel) is (λ t e. stays b (w.nodes m).kernel t e)) happens in
     let t = turn_is stays b w m s is happens in
-    acted_same b w u (Step.Turn m) s t.acted_ t.from t.said (ap (turned u (Step.Turn m) m) (ap (machine.turn b) node ∙ t.is))
+    acted_same b w u (Step.Turn m) s (with_over w.ended (over_in (machine.turn b (w.nodes m)))) (with_over u.ended t.acted_.state.kernel.over) t.acted_ t.from t.said
+    (ap (λ (o : Option Acts). turned (keeps_over u o) (Step.Turn m) m o) (ap (machine.turn b) node ∙ t.is))
 reads_locally stays b w u (Step.Tick m) s is node same happens =
     let said : s ≡ acted w (Step.Tick m) m (machine.tick (w.nodes m)) = cc in
-    acted_same b w u (Step.Tick m) s (machine.tick (w.nodes m)) (tick_from m (w.nodes m) is) said (ap (λ (n : NodeState). Some (Says (acted u (Step.Tick m) m (machine.tick n)))) node)
+    acted_same b w u (Step.Tick m) s w.ended u.ended (machine.tick (w.nodes m)) (tick_from m (w.nodes m) is) said (ap (λ (n : NodeState). Some (Says (acted u (Step.Tick m) m (machine.tick n)))) node)
 reads_locally stays b w u (Step.Deliver a c k) s is node same happens = delivers_same b w u a c k s (bytes_at (w.wires a c) k) refl same is node happens
 reads_locally stays b w u (Step.Migrate p m) s is node same happens =
     let t = asks_is w p m s is happens in
-    acted_same b w u (Step.Migrate p m) s t.acted_ t.from t.said (ap (turned u (Step.Migrate p m) 0) (ap (λ (n : NodeState). machine.asks_move n p m) node ∙ t.is))
+    acted_same b w u (Step.Migrate p m) s w.ended u.ended t.acted_ t.from t.said (ap (turned u (Step.Migrate p m) 0) (ap (λ (n : NodeState). machine.asks_move n p m) node ∙ t.is))
 reads_locally stays b w u (Step.CallOff p m) s is node same happens =
     let t = calls_is w p m s is happens in
-    acted_same b w u (Step.CallOff p m) s t.acted_ t.from t.said (ap (turned u (Step.CallOff p m) m) (ap (λ (n : NodeState). machine.calls_off n p) node ∙ t.is))
+    acted_same b w u (Step.CallOff p m) s w.ended u.ended t.acted_ t.from t.said (ap (turned u (Step.CallOff p m) m) (ap (λ (n : NodeState). machine.calls_off n p) node ∙ t.is))
 
 -- a world does what it does
 pub acts_locally : KernelStays → ActsLocally

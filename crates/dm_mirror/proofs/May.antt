@@ -7,7 +7,7 @@ use Rattle.dm_mirror.proofs.Names.{IsLawfulMessage, Packet, Line, PacketError, p
 use Rattle.dm_mirror.proofs.Names.{asks_manager, asks_move, told_to_move, Servers, MoveError, moves_child, Pid, opened_may, asked_lawful, turn_lawful, Acted, Acts, Goes, Worn, NodeState, MayAct, MayArrive, MayAskMove, MayAfter, arrives_may}
 use Rattle.dm_mirror.proofs.Names.{turn_may, Said, WorldState, acted, arrives, delivers, first_world, reads, world_step, MayDeliver, MayRead, MayStep, AllMayAct, MadeStands, CountsStand, History, Stands, StandsWith, servers_at, calls_off}
 use Rattle.dm_mirror.proofs.Names.{MayCallOff, called_off_lawful, StaysAt, calls_off_stays, ◌∙◌, inl, inr, cases_Bool, length-map, Arrival, Record, HasTaken, Mirrors, KernelStands, KnownStands, incoming_of, is_server, takes_room, map, ◌/◌}
-use Rattle.dm_mirror.proofs.Names.{MsgId, IfSome}
+use Rattle.dm_mirror.proofs.Names.{MsgId, IfSome, keeps_over}
 use Rattle.dm_world.proofs.Names.{Ok}
 use Rattle.dm_stream.specs.Packets.{Load}
 use Rattle.dm_kernel.specs.State.{own_id}
@@ -128,12 +128,12 @@ turned_may : (b : Boot) (w : WorldState) (e : Step) (m : ℕ) (a : Acts) (s : Sa
 turned_may b w e m (Goes d) s is h acts = acted_may b w e m d s (let f : acted w e m d ≡ s = cc in f) h acts
 turned_may b w e m (Worn from to) s is h acts = cc
 
-turn_stays : (b : Boot) (w : WorldState) (m : ℕ) (o : Option Turned) (s : Said) → KernelsStay → IsValid b → kernel.turn b (w.nodes m).kernel ≡ o → turned w (Step.Turn m) m (node.turns (w.nodes m) o) ≡ Some (Says s)
+turn_stays : (b : Boot) (w : WorldState) (m : ℕ) (o : Option Turned) (s : Said) → KernelsStay → IsValid b → kernel.turn b (w.nodes m).kernel ≡ o → turned (keeps_over w (node.turns (w.nodes m) o)) (Step.Turn m) m (node.turns (w.nodes m) o) ≡ Some (Says s)
     → MayTurn b (w.nodes m) → IsLawfulState (w.nodes m).kernel → AllMayAct b w → AllMayAct b s.state
 turn_stays b w m None s stays valid e is may lawful acts = cc
 turn_stays b w m (Some t) s stays valid e is may lawful acts =
     let fit = turn_lawful b (w.nodes m).kernel t valid.images may.kernel lawful e in
-    turned_may b w (Step.Turn m) m (node.acts (record (w.nodes m) { kernel = t.state }) t.parts) s is (turn_may (w.nodes m) t (stays b (w.nodes m).kernel t e) fit.parts.each may.acts) acts
+    turned_may b (keeps_over w (node.turns (w.nodes m) (Some t))) (Step.Turn m) m (node.acts (record (w.nodes m) { kernel = t.state }) t.parts) s is (turn_may (w.nodes m) t (stays b (w.nodes m).kernel t e) fit.parts.each may.acts) (record { each = acts.each })
 
 ask_stays : (b : Boot) (w : WorldState) (p : Pid) (m : ℕ) (o : Option Turned) (s : Said) → asks_move (w.nodes 0).kernel p m ≡ o → turned w (Step.Migrate p m) 0 (node.turns (w.nodes 0) o) ≡ Some (Says s) → m < 16 → MayAskMove (w.nodes 0) → IsLawfulState (w.nodes 0).kernel → AllMayAct b w → AllMayAct b s.state
 ask_stays b w p m None s e is to may lawful acts = cc

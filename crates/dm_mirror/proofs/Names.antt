@@ -24,19 +24,20 @@ pub use Rattle.dm_migrate.proofs.Way.{by_pieces, can_come, comes_back}
 pub use Rattle.dm_migrate.specs.Answer.{IsAskOfProcess}
 pub use Rattle.dm_migrate.specs.Cargo.{ask_for}
 unfoldable pub use Rattle.dm_migrate.specs.Departure.{IsReadAgain}
+pub use Rattle.dm_onekernel.specs.Step.{why_ended}
 pub use Rattle.dm_switchboard.proofs.Imports.{Board}
 pub use Rattle.dm_switchboard.proofs.Plain.{plain_request}
 pub use Rattle.dm_procman.proofs.Names.{tells_to_move}
 pub use Rattle.dm_procman.proofs.Plain.{plain_created, plain_moved, plain_no_room, plain_user}
 pub use Rattle.dm_procman.specs.Making.{address_at}
 pub use Rattle.dm_laws.proofs.Runs.{reached, received_once}
-pub use Rattle.dm_laws.proofs.Servers.{why_ended-is as ended_is}
 pub use Rattle.dm_laws.proofs.Sound.{not_counted}
 pub use Rattle.dm_laws.proofs.Steps.{after_ran}
 pub use Rattle.dm_datamove.proofs.Names.{IsAnswerOf}
 pub use Rattle.dm_syscall.proofs.Names.{length-written}
 pub use Rattle.dm_syscall.specs.Plainly.{plain_sent}
 pub use Rattle.dm_line.proofs.Below.{all_same}
+pub use Rattle.dm_line.specs.Each.{all_below as each_below}
 pub use Rattle.dm_line.specs.Todo.{following, next_and_left, pass_begun}
 pub use Rattle.dm_line.specs.declared.end_line.Standing.{Standing}
 pub use Rattle.dm_rule.proofs.Bags.{bag_none, cases_zero}
@@ -46,7 +47,7 @@ pub use Rattle.dm_rule.proofs.Letters.{letter_of}
 pub use Rattle.dm_rule.proofs.Moves.Sent.{fits_packet, fits_put}
 pub use Rattle.dm_rule.proofs.Names.{Asks, Comes, Completing, Ended, HasCome, HomeStands, IsToken, Nexts, Nowhere, Over, Room, StandsOnce, actor, after_packet, all_of, append-nil, at_least, brings_piece, comes_to, counts_process, eq-eqb}
 pub use Rattle.dm_rule.proofs.Names.{eqb-true, gone_after, has, has_mail, ids_at, is_due, is_quiet, is_stale, is_waited_from, kept_from, knowing, left_true, less, migrates_child, next_step, numbers_from, pair_is_quiet, repeats, resends}
-pub use Rattle.dm_rule.proofs.Names.{taking_parts, tells_come, token_in}
+pub use Rattle.dm_rule.proofs.Names.{seen_at, serves_some, taking_parts, tells_come, token_in}
 pub use Rattle.dm_rule.proofs.Pairs.{Pairs, pair_home, pair_stands, pairs_stand_always}
 pub use Rattle.dm_rule.proofs.Pairs.Comes.{less-right}
 pub use Rattle.dm_rule.proofs.Pairs.Lines.{AllFit, onward, pair_same, taken_pair}
@@ -62,6 +63,7 @@ pub use Rattle.dm_rule.proofs.Phases.Put.{first_none, last_there, put_spot, put_
 pub use Rattle.dm_rule.proofs.Phases.Ranked.{Ranked}
 pub use Rattle.dm_rule.proofs.Phases.Stand.{TokenOrLeft, held_plain, queued_plain}
 pub use Rattle.dm_rule.proofs.QuietTests.{eq_not, passes_quiet, quiet_passes}
+pub use Rattle.dm_rule.proofs.RestTests.{passes_rest, rest_passes}
 pub use Rattle.dm_rule.proofs.Seen.{about_off}
 pub use Rattle.dm_rule.proofs.Standing.{once_at, spot_cases}
 pub use Rattle.dm_rule.proofs.States.{PairsFit, said, says_next, transmits_next}
@@ -86,17 +88,17 @@ pub use Rattle.dm_places.proofs.Keeps.{of_map, parts, there_of}
 pub use Rattle.dm_places.proofs.Labels.Serves.{plainly, plainly_is}
 pub use Rattle.dm_places.proofs.Lines.{lines_keep, mirrors_view, moves_label, routed_keeps, told_keeps}
 pub use Rattle.dm_places.proofs.Matches.{Ends, acted_with, answers_match, call_matches, completed_matches, fault_matches, lands_match, ran_matches}
-pub use Rattle.dm_places.proofs.Names.{About, Addr, Addresses, Again, Alive, ArrayVec, Child, Direction, Fault, Forward, Frozen, Gets, GroupNeeds, Inbox, Incoming, IsStep, KeepsPlaces, Known, Label, Leads, Life, Load, Machine, Manager}
-pub use Rattle.dm_places.proofs.Names.{Managing, MessageKind, Mirrors, MirrorsKernel, MirrorsPoint, MoveNote, Name, NamedLink, OneKernel, Outcome, Owns, Pair, Pending, PendingKind, Place, Placed, PlainLink, PlainMessage, PlainProcess}
-pub use Rattle.dm_places.proofs.Names.{PlainStatus, PlainWhat, Point, Receiver, Regs, Reply, Rest, Routes, Row, Says, Sender, SentLoad, Slot, Sound, Spelled, Spot, Stage, StepNeeds, Switchboard, Told, Transmits, View, Why, act_of}
-pub use Rattle.dm_places.proofs.Names.{addresses_by, after, after_label, after_landing, after_line, after_step, and-both, answer, answer_id, answer_of, answer_to, answer_with, applied, ascends, asker_of, at_hand-is, at_home, at_pid}
+pub use Rattle.dm_places.proofs.Names.{About, Addr, Addresses, Again, Alive, ArrayVec, Child, Direction, Fault, Forward, Frozen, Gets, GroupNeeds, Holder, Inbox, Incoming, IsStep, KeepsPlaces, Known, Label, Leads, Life, Load, Machine}
+pub use Rattle.dm_places.proofs.Names.{Manager, Managing, MessageKind, Mirrors, MirrorsKernel, MirrorsPoint, MoveNote, Name, NamedLink, OneKernel, Outcome, Owns, Pair, Pending, PendingKind, Place, Placed, PlainLink, PlainMessage}
+pub use Rattle.dm_places.proofs.Names.{PlainProcess, PlainStatus, PlainWhat, Point, Receiver, Regs, Reply, Rest, Routes, Row, Says, Sender, SentLoad, Slot, Sort, Sound, Spelled, Spot, Stage, StepNeeds, Switchboard, Told, Transmits, View}
+pub use Rattle.dm_places.proofs.Names.{act_of, addresses_by, after, after_label, after_landing, after_line, after_step, and-both, answer, answer_id, answer_of, answer_to, answer_with, applied, ascends, asker_of, at_hand-is, at_home, at_pid}
 pub use Rattle.dm_places.proofs.Names.{begun_process, behind, behind_count, bind-is, board_took, by_migrates, call_plainly, cases_Bool, child_named, child_number, code_of_outcome, control_link, count_by, enclosed, ends_move, ends_move-is}
 pub use Rattle.dm_places.proofs.Names.{ends_plainly, filter, first_failed, first_gives, first_point, first_told, first_view, forwarded_for, gets, given, goes_on_plainly, gone_answer, group_of, handled, id_eq, id_eq-is, id_eq-same}
 pub use Rattle.dm_places.proofs.Names.{id_eq-swap, id_of, instruction, is_among, is_kernels, is_own, kernel_after, kernel_at, label_of, length-map, lines_of, manager_request, manager_took, memory_of, moved, moved_answer, named_is_behind}
-pub use Rattle.dm_places.proofs.Names.{nat_le, not_kernels, or-right, or_second, outcome, own_given, own_id, pending_is_behind, pending_request, pid_eq-is, pid_eq-same, piece_of, place_of, place_told, placed_start, placed_step, plain_board}
-pub use Rattle.dm_places.proofs.Names.{plain_called, plain_child, plain_completed, plain_kind, plain_landed, plain_link, plain_manager, plain_message, plain_named, plain_note, plain_pending, plain_pending_numbered, plain_process}
-pub use Rattle.dm_places.proofs.Names.{plain_status, plain_what, puts, receiver_of, seen, sent_all, sent_on, slice_get-map, slot_is_behind, slots_of, slots_with, sort_of, spelled, standing, started, started_at, status_plainly, times}
-pub use Rattle.dm_places.proofs.Names.{unmoved, view_after, what_is_on, when-is, with_note, with_what, without_note, written_at}
+pub use Rattle.dm_places.proofs.Names.{nat_le, not_kernels, or-left, or-right, or_second, outcome, own_given, own_id, pending_is_behind, pending_request, pid_eq-is, pid_eq-same, piece_of, place_of, place_told, placed_start, placed_step}
+pub use Rattle.dm_places.proofs.Names.{plain_board, plain_called, plain_child, plain_completed, plain_kind, plain_landed, plain_link, plain_manager, plain_message, plain_named, plain_note, plain_pending, plain_pending_numbered}
+pub use Rattle.dm_places.proofs.Names.{plain_process, plain_status, plain_what, puts, receiver_of, seen, sent_all, sent_on, slice_get-map, slot_is_behind, slots_of, slots_with, sort_of, spelled, standing, started, started_at}
+pub use Rattle.dm_places.proofs.Names.{status_plainly, times, unmoved, view_after, what_is_on, when-is, with_note, with_what, without_note, written_at}
 pub use Rattle.dm_places.proofs.OwnPuts.{child_place, no_child, own_put_mirrors}
 pub use Rattle.dm_places.proofs.Queues.{calls_with, with_queue}
 pub use Rattle.dm_places.proofs.Starts.{start_mirrors}
@@ -105,9 +107,10 @@ pub use Rattle.dm_places.proofs.Whats.{block_what, create_what, created_what, go
 pub use Rattle.dm_kernel.proofs.Fitting.{managed_fits, user_fits}
 pub use Rattle.dm_kernel.proofs.LawfulRows.{of_known}
 pub use Rattle.dm_kernel.proofs.LawfulStart.{opened_lawful, opened_may}
+pub use Rattle.dm_kernel.proofs.LawfulTurns.{before_lawful}
 pub use Rattle.dm_kernel.proofs.Making.{image_fits}
 pub use Rattle.dm_kernel.proofs.Names.{Block, BootMachine, Chunk, FitsBoardWhat, FitsHere, FitsKernel, FitsKnown, FitsManager, FitsManagerWhat, FrontMay, HasChunk, HasTaken, IfSome, IsAwaited, IsForManager, IsLawfulPair, IsLawfulProcess}
-pub use Rattle.dm_kernel.proofs.Names.{IsLawfulStatus, IsSuch, IsWithin, MayHandle, MayRestart, MayTurn, Nothing, Result, Taken, Wanted, all_sent_back, all_sent_on, ask_of, blocks_at, blocks_of_image, common_steps, expected, free_blocks}
+pub use Rattle.dm_kernel.proofs.Names.{IsLawfulStatus, IsServer, IsSuch, IsWithin, MayHandle, MayRestart, MayTurn, Nothing, Result, Taken, Wanted, all_sent_back, all_sent_on, ask_of, blocks_at, blocks_of_image, expected, free_blocks}
 pub use Rattle.dm_kernel.proofs.Names.{free_slots, freezes, freezing, frozen, image_is_valid, is_on, length-drop, links_are_valid, next_pid, opened, own, process_is_valid, process_named, processes_are_valid, pull, receive_refusals, room_of}
 pub use Rattle.dm_kernel.proofs.Names.{starting_at, tells_asker, turned, turns, update_of, with_frozen, with_record, with_reserved, without, without_arriving, without_first_on, without_process, ◌/◌}
 pub use Rattle.dm_kernel.proofs.Opening.{room_from}
@@ -141,11 +144,11 @@ pub use Rattle.dm_rulelaws.proofs.Names.{AllSayable, Called, Held, Here, InPhase
 pub use Rattle.dm_rulelaws.proofs.Names.{Rests, Sane, Sayable, ServerSends, StandsAsBag, StandsAsBag-elsewhere, StandsAsBag-one, StandsNowhere, StandsOutside, StandsRight, Target, Token, Unknown, Untaken, Waiting, WhatFits, about_same}
 pub use Rattle.dm_rulelaws.proofs.Names.{after_proto, after_put, agrees, alive-is, answers_move, arrives_net, at_id, at_pair, at_record, at_record_at, awaits, bag_answered, bag_created, bag_gone, bag_no_space, bag_served, begins}
 pub use Rattle.dm_rulelaws.proofs.Names.{board_takes_lem, by_calls_off, by_hears, chunks_of, coming_is, completing, counts, destination_expects, dropped_for, ended, entry, eq_is, eq_self, false_from_ne_true, first_life, fits, forward_about}
-pub use Rattle.dm_rulelaws.proofs.Names.{forwards_on, free_room, front_of, goes_back, goes_between, goes_out, gone_to, group_is, has_bytes, has_no_queue, has_nothing_held, hears, hushed, if_some-is, inbox_is, is_apart, is_away, is_between}
-pub use Rattle.dm_rulelaws.proofs.Names.{is_calloff, is_counted, is_dropped, is_early, is_fixed, is_for, is_here, is_kill, is_put, is_restart, is_server, kernel_hears, kernels_fresh, kind_comes, kind_eq, kind_leaves, known_at, knows}
-pub use Rattle.dm_rulelaws.proofs.Names.{labels, lands-is, least_of, leaves_for, length-append, letters, life_at, machine_of, manager_takes_lem, migrates, move_target, nexts, not_false, not_first, not_server, not_true, oldest}
+pub use Rattle.dm_rulelaws.proofs.Names.{forwards_on, free_room, front_of, goes_back, goes_between, goes_out, gone_to, group_is, has_bytes, has_no_queue, has_nothing_held, hears, holder_eq, hushed, if_some-is, inbox_is, is_apart, is_away}
+pub use Rattle.dm_rulelaws.proofs.Names.{is_between, is_calloff, is_counted, is_dropped, is_early, is_fixed, is_for, is_here, is_kill, is_put, is_restart, is_server, kernel_hears, kernels_fresh, kind_comes, kind_eq, kind_leaves, known_at}
+pub use Rattle.dm_rulelaws.proofs.Names.{knows, labels, lands-is, least_of, leaves_for, length-append, letters, life_at, machine_of, manager_takes_lem, migrates, move_target, nexts, not_false, not_first, not_server, not_true, oldest}
 pub use Rattle.dm_rulelaws.proofs.Names.{option_and_then, out_off, outcome_sayable, packet_line, pair_keeps, part_sane, piece_fits, pieces_of, process_told, proto_acting, pulled, pulls_piece, put_at, put_told_off, queued_for, receiver_in}
-pub use Rattle.dm_rulelaws.proofs.Names.{reception, replay, reply_code, resends_net, rests_here, ring_at, rings, routed_on, sane_line, sender_in, sends_on, served_id, source_holds, stands_right, start, status_awaits, takes_block}
+pub use Rattle.dm_rulelaws.proofs.Names.{reception, replay, reply_code, resends_net, rests_here, ring_at, rings, routed_on, sane_line, sender_in, sends_on, served_id, server_at, source_holds, stands_right, start, status_awaits, takes_block}
 pub use Rattle.dm_rulelaws.proofs.Names.{takes_chunk, target_of, tells_onward, times-append, to_kernel, to_of, token_at, token_is, told_between, told_ended, told_here, told_server, told_some, told_step, unentered, untaken, updates, when}
 pub use Rattle.dm_rulelaws.proofs.Names.{why_code, with_process, with_sent, without_front, without_id, without_message, zero_if}
 pub use Rattle.dm_rulelaws.proofs.Own.Told.{OwnTold, is_place, is_process, is_target, own_server, own_sort}
@@ -157,31 +160,31 @@ pub use Rattle.dm_rulelaws.proofs.Tables.Always.{format_always, tables_always}
 pub use Rattle.dm_node.proofs.Here.{StaysAt, asks_move_stays, calls_off_stays, turn_stays}
 pub use Rattle.dm_node.proofs.Names.{All-append, All-cons, All-drop, All-get_or, All-nil, All-push, Arrival, Arrived, Asker, BootImage, BootProcess, Completion, Departure, Early, Halt, IsLawfulMessage, IsLawfulPart, IsLawfulTurned}
 pub use Rattle.dm_node.proofs.Names.{IsMachine, IsRoute, KernelKnown, KernelState, Landed, Landing, MoveError, Old, Part, Process, Receiving, Sending, Servers, Status, Turned, What, accepts, acknowledges, acts, after_arrival, after_next}
-pub use Rattle.dm_node.proofs.Names.{after_serving, again, all_out, arrival, asked_lawful, asks_manager, asks_move, before, begins_process, bind, block_of, board_handles, called_off_lawful, calls_arriving_off, calls_off, child_of, chunk_of}
-pub use Rattle.dm_node.proofs.Names.{comes_in, count_out, counts_out, due, empty, ended_handles, first_on, first_out, forwards_and, fresh_receiving, fresh_sending, frozen_of, given_count, gives, gives_piece, handles, hears_piece}
-pub use Rattle.dm_node.proofs.Names.{here_handles, incoming_of, is_not_called, is_some, is_told_back, is_whole, is_worn, kernel_handles, kind_of, leaves, lets_next, makes, manager, manager_handles, moved_back, moved_up, moves_child, nat_lt}
-pub use Rattle.dm_node.proofs.Names.{next, none_waits, numbered, outstanding, pid_eq, process_handles, put_line, restarted, restarts, restarts_as, routes, routes_away, routes_home, says_stale, sends_due, serving_answer, state_of, stays}
-pub use Rattle.dm_node.proofs.Names.{switchboard, takes_next, takes_piece, then_, then_acknowledges, told_to_move, took_piece, turn, turn_lawful, turns_back, window, with_acked, with_all, with_child, with_given, with_here, with_message}
-pub use Rattle.dm_node.proofs.Names.{with_piece, with_receiver, with_sender}
+pub use Rattle.dm_node.proofs.Names.{after_serving, again, all_out, arrival, asked_lawful, asks_manager, asks_move, before, before_turn, begins_process, bind, block_of, board_handles, called_off_lawful, calls_arriving_off, calls_off}
+pub use Rattle.dm_node.proofs.Names.{child_of, chunk_of, comes_in, count_out, counts_out, due, empty, ended_handles, first_on, first_out, forwards_and, fresh_receiving, fresh_sending, frozen_of, given_count, gives, gives_piece, handles}
+pub use Rattle.dm_node.proofs.Names.{hears_piece, here_handles, incoming_of, is_not_called, is_some, is_told_back, is_whole, is_worn, kernel_handles, kind_of, leaves, lets_next, makes, manager, manager_handles, moved_back, moved_up}
+pub use Rattle.dm_node.proofs.Names.{moves_child, nat_lt, next, none_waits, numbered, outstanding, process_handles, put_line, restarted, restarts, restarts_as, routes, routes_away, routes_home, says_stale, sends_due, serving_answer}
+pub use Rattle.dm_node.proofs.Names.{state_of, stays, switchboard, takes_next, takes_piece, then_, then_acknowledges, told_to_move, took_piece, turn, turn_lawful, turns_back, window, with_acked, with_all, with_child, with_given, with_here}
+pub use Rattle.dm_node.proofs.Names.{with_message, with_piece, with_receiver, with_sender}
 pub use Rattle.dm_node.proofs.Staying.{MayAfter, arrives_may, turn_may}
 pub use Rattle.dm_node.specs.Acts.{sends}
 unfoldable pub use Rattle.dm_node.specs.Acts.{lets_go, takes_kept}
 pub use Rattle.dm_node.specs.May.{FitsLoad}
 pub use Rattle.dm_node.specs.Out.{packet_of_load}
 pub use Rattle.dm_node.specs.Wired.{says}
-pub use Rattle.dm_world.proofs.Names.{Ack, Acted, Acts, All, All-head, All-tail, AreReadBack, Bool, Boot, Data, Directive, EndLine, Err, FreezesWhole, Goes, IsLawfulState, IsSome, IsValid, Line, Link, List, MayAct, MayArrive, MayAskMove}
-pub use Rattle.dm_world.proofs.Names.{MayCallOff, MayDeliver, MayRead, MayStep, Message, MsgId, Named, Next, NodeState, None, Option, Out, Packet, PacketError, Pass, Pid, Said, Sends, Sent, Some, Spoken, Step, Todo, Two, WorldState, Worn}
-pub use Rattle.dm_world.proofs.Names.{[], acted, after_mark, all_below, ap, append_assoc, arith, arrives, at_machine, awaited_lines, begin_pass, below, bytes_at, cond, delivers, drop, drop-append-le, drop_all, eqb_tells, false, false≢true}
-pub use Rattle.dm_world.proofs.Names.{first_awaited, first_had, first_number, first_says, first_unseen, gave_bytes, gave_read, gave_some, get_or_from_slice_get, here, here_or_later, home_with, if◌then◌else◌, images_are_valid, in_pass, inl}
-pub use Rattle.dm_world.proofs.Names.{inr, is_over, joined_below, length, lines_in, link_at, list_line, map, names_of, nat_tests, next_delivery, next_directive, next_pass, next_turn, not, option_map, option_map_or, or, pairs_of, pairs_with}
-pub use Rattle.dm_world.proofs.Names.{pid_of, reads, record_lines, record_queue, refl, settles, slice_get, slice_get_cases, slice_get_past, slice_get_within, spoken, subst, suc, sym, take, takes_turn, tick, true, with_packet, world_step}
-pub use Rattle.dm_world.proofs.Names.{zero, ℕ, ⊤, ◌&&◌, ◌*◌, ◌++◌, ◌+◌, ◌-◌, ◌<◌, ◌==◌, ◌^◌, ◌||◌, ◌∙◌, ◌∷◌, ◌≡◌, ◌≢◌, ◌≤◌, ◌⊎◌}
+pub use Rattle.dm_world.proofs.Names.{Ack, Acted, Acts, All, All-head, All-tail, AreReadBack, Bool, Boot, Data, Directive, EndLine, Err, FreezesWhole, Goes, Happened, IsLawfulState, IsSome, IsValid, Line, Link, List, MayAct, MayArrive}
+pub use Rattle.dm_world.proofs.Names.{MayAskMove, MayCallOff, MayDeliver, MayRead, MayStep, Message, MsgId, Named, Next, NodeState, None, Option, Out, Packet, PacketError, Pass, Pid, Said, Seen, Sends, Sent, Some, Spoken, Step, Todo, Two}
+pub use Rattle.dm_world.proofs.Names.{Why, WorldState, Worn, [], acted, after_mark, all_below, ap, append_assoc, arith, arrives, at_machine, at_rest, awaited_lines, begin_pass, below, bytes_at, common_steps, cond, delivers, drop}
+pub use Rattle.dm_world.proofs.Names.{drop-append-le, drop_all, eqb_tells, false, false≢true, first_awaited, first_had, first_number, first_says, first_unseen, gave_bytes, gave_read, gave_some, get_or_from_slice_get, here, here_or_later}
+pub use Rattle.dm_world.proofs.Names.{home_with, if◌then◌else◌, images_are_valid, in_pass, inl, inr, is_over, joined_below, keeps_over, length, lines_in, link_at, list_line, map, names_of, nat_tests, next_delivery, next_directive}
+pub use Rattle.dm_world.proofs.Names.{next_pass, next_turn, not, option_map, option_map_or, or, over_in, pairs_of, pairs_with, pid_eq, pid_of, reads, record_lines, record_queue, refl, settles, slice_get, slice_get_cases, slice_get_past}
+pub use Rattle.dm_world.proofs.Names.{slice_get_within, spoken, subst, suc, sym, take, takes_turn, tick, true, with_over, with_packet, world_step, zero, ℕ, ⊤, ◌&&◌, ◌*◌, ◌++◌, ◌+◌, ◌-◌, ◌<◌, ◌==◌, ◌^◌, ◌||◌, ◌∙◌, ◌∷◌, ◌≡◌, ◌≢◌, ◌≤◌, ◌⊎◌}
 pub use Rattle.dm_world.specs.Ends.{HasPlainEnd, alive_lines, come_lines, come_whole, held_for}
 pub use Rattle.dm_world.specs.Readable.{IsReadable, NodeReads, SenderReads, WiresRead, gave}
 pub use Rattle.dm_world.specs.Whole.{AreWhole}
 pub use Rattle.dm_world.specs.World.{first_world}
 pub use Rattle.dm_mirror.specs.Able.{AllMayAct}
-pub use Rattle.dm_mirror.specs.Laws.{EndIsSaid, EndMay, GoodLeads, MailIsSaid, NextIsSaid, PlacesFollow, QuietIsSaid, RunBegins, RunGoesOn, StartStands, StepsStand}
+pub use Rattle.dm_mirror.specs.Laws.{EndIsSaid, EndMay, GoodLeads, MailIsSaid, NextIsSaid, PlacesFollow, QuietIsSaid, RestIsSaid, RunBegins, RunGoesOn, StartStands, StepsStand}
 pub use Rattle.dm_mirror.specs.Local.{ActsLocally, AsLong, DoesSame, IsFresh, NothingComes, PutsFrom, ReadsLocally, SamePacket, marked_by, unnumbered}
 pub use Rattle.dm_mirror.specs.Made.{MadeStands}
 pub use Rattle.dm_mirror.specs.Own.{AllOwnStand, OwnStands, about_of, told_of}

@@ -159,28 +159,31 @@ told_paid s a i c sender = grind (arith, nat_tests)
 pub forwards_paid : (s : OneKernel) (a : Addresses) (i : MsgId) (k : MessageKind) (sender : Pid) (to : ℕ) → Paid s (forwards_on a i k sender to)
 forwards_paid s a i k sender to = (refl, λ t e. inl (line_within s t None refl e, told_paid t a i (is_told_back k) sender))
 
-process_paid : (pt : Point) (m : ℕ) (i : MsgId) (msg : PlainMessage) (k : view.Known) → pt.kernel.bag i ≡ Some msg → PaidIf pt.kernel (rule.process_handles pt m i msg k)
-process_paid pt m i msg view.Unknown there = tt
-process_paid pt m i msg view.Here there = paid_if pt.kernel (kernel.alive (pt.kernel.processes msg.to)) _ (λ x alive. here_paid pt m i msg x msg.what refl there alive)
-process_paid pt m i msg (view.Forward at moves) there = forwards_paid pt.kernel pt.addresses i (plain_kind msg.what) msg.sender at
-process_paid pt m i msg view.Ended there = ended_paid pt.kernel i msg.what
-process_paid pt m i msg _ there = (refl, λ t e. inl (line_within pt.kernel t None refl e, tt))
-
-handles_paid : (b : Boot) (pt : Point) (m : ℕ) (i : MsgId) (msg : PlainMessage) (c d e : Bool) → pid_eq msg.to switchboard ≡ d → HasAnswer pt.kernel.manager msg.id.n msg.what → pt.kernel.bag i ≡ Some msg
-    → PaidIf pt.kernel (if c then rule.kernel_handles b pt m i msg.what
-    else if d then rule.board_took i (board.board_takes pt.kernel.switchboard msg msg.what)
+own_paid : (pt : Point) (m : ℕ) (i : MsgId) (msg : PlainMessage) (d e : Bool) → pid_eq msg.to switchboard ≡ d → HasAnswer pt.kernel.manager msg.id.n msg.what → pt.kernel.bag i ≡ Some msg
+    → PaidIf pt.kernel (if d then rule.board_took i (board.board_takes pt.kernel.switchboard msg msg.what)
     else if e then rule.manager_parts i (manage.manager_takes pt.kernel.manager pt.kernel.machines (length pt.kernel.images) msg msg.what)
-    else rule.process_handles pt m i msg (pt.view.known m msg.to))
-handles_paid b pt m i msg true d e is has there = kernel_paid b pt m i msg.what
-handles_paid b pt m i msg false true e is has there =
+    else bind (kernel.alive (pt.kernel.processes msg.to)) (λ x. rule.here_handles pt m i msg x msg.what))
+own_paid pt m i msg true e is has there =
     let board_ = board.board_takes pt.kernel.switchboard msg msg.what in
     let manager_ = manage.manager_takes pt.kernel.manager pt.kernel.machines (length pt.kernel.images) msg msg.what in
     paid_map pt.kernel board_ _ (λ k took. took_paid pt.kernel i msg k.answer has there (ap (λ (c : Bool). if c then board_raise board_ else manager_raise manager_) is ∙ ap board_raise took))
-handles_paid b pt m i msg false false true is has there =
+own_paid pt m i msg false true is has there =
     let board_ = board.board_takes pt.kernel.switchboard msg msg.what in
     let manager_ = manage.manager_takes pt.kernel.manager pt.kernel.machines (length pt.kernel.images) msg msg.what in
     paid_map pt.kernel manager_ _ (λ k took. took_paid pt.kernel i msg k.message has there (ap (λ (c : Bool). if c then board_raise board_ else manager_raise manager_) is ∙ ap manager_raise took))
-handles_paid b pt m i msg false false false is has there = process_paid pt m i msg (pt.view.known m msg.to) there
+own_paid pt m i msg false false is has there = paid_if pt.kernel (kernel.alive (pt.kernel.processes msg.to)) _ (λ x alive. here_paid pt m i msg x msg.what refl there alive)
+
+process_paid : (pt : Point) (m : ℕ) (i : MsgId) (msg : PlainMessage) (k : view.Known) → HasAnswer pt.kernel.manager msg.id.n msg.what → pt.kernel.bag i ≡ Some msg → PaidIf pt.kernel (rule.process_handles pt m i msg k)
+process_paid pt m i msg view.Unknown has there = tt
+process_paid pt m i msg view.Here has there = own_paid pt m i msg (pid_eq msg.to switchboard) (pid_eq msg.to manager) refl has there
+process_paid pt m i msg (view.Forward at moves) has there = forwards_paid pt.kernel pt.addresses i (plain_kind msg.what) msg.sender at
+process_paid pt m i msg view.Ended has there = ended_paid pt.kernel i msg.what
+process_paid pt m i msg _ has there = (refl, λ t e. inl (line_within pt.kernel t None refl e, tt))
+
+handles_paid : (b : Boot) (pt : Point) (m : ℕ) (i : MsgId) (msg : PlainMessage) (c : Bool) → HasAnswer pt.kernel.manager msg.id.n msg.what → pt.kernel.bag i ≡ Some msg
+    → PaidIf pt.kernel (if c then rule.kernel_handles b pt m i msg.what else rule.process_handles pt m i msg (pt.view.known m msg.to))
+handles_paid b pt m i msg true has there = kernel_paid b pt m i msg.what
+handles_paid b pt m i msg false has there = process_paid pt m i msg (pt.view.known m msg.to) has there
 
 has_answer : (b : Boot) (pt : Point) (i : MsgId) (msg : PlainMessage) → Run b pt → pt.kernel.bag i ≡ Some msg → HasAnswer pt.kernel.manager msg.id.n msg.what
 has_answer b pt i msg run there child r is found =
@@ -193,7 +196,7 @@ has_answer b pt i msg run there child r is found =
     (each_pending (PendingFits pt.kernel.processes) rs msg.id.n r run.based.fits.answers found).making kind
 
 pub front_paid : (b : Boot) (pt : Point) (m : ℕ) (i : MsgId) (msg : PlainMessage) → Run b pt → pt.kernel.bag i ≡ Some msg → PaidIf pt.kernel (rule.handles b pt m i msg)
-front_paid b pt m i msg run e = handles_paid b pt m i msg (msg.to.num == 0) (pid_eq msg.to switchboard) (pid_eq msg.to manager) refl (has_answer b pt i msg run e) e
+front_paid b pt m i msg run e = handles_paid b pt m i msg (msg.to.num == 0) (has_answer b pt i msg run e) e
 
 -- lines without a step that move nothing
 abbrev pub AreMute : List Part → Type 0

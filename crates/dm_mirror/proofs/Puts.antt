@@ -113,6 +113,7 @@ stands_put b pt l w h m c nodes s ld apart senders others records here there bac
     record {
       mirrors = mirrors_same b pt l (after_packet pt.view m c (load_of ld)) st.mirrors;
       groups = st.groups;
+      ended = st.ended;
       nodes = λ d small. nodes_are b pt l (after_packet pt.view m c (load_of ld)) m w.nodes nodes others (λ z e. refl) (λ z e. own z z) here d (st.nodes d small);
       pairs = λ a d small less differ. pairs_put b pt l w h m c nodes s ld apart senders there back a d (st.pairs a d small less differ);
       counts = λ a d. subst (λ (z : ℕ). z ≤ b.numbers) (sym (ap length (own a d))) (st.counts a d);
@@ -128,6 +129,7 @@ stands_begins b w pt l h m a st =
     record {
       mirrors = mirrors_same b pt l (begins pt.view m a) st.mirrors;
       groups = ap (λ (n : ℕ). n + 1) st.groups;
+      ended = st.ended;
       nodes = λ d small. node_same b pt l (begins pt.view m a) d (w.nodes d) refl refl (st.nodes d small);
       pairs = λ d c small less differ. pair_stays b pt next l w (record w { groups = w.groups + 1 }) h h d c (record { sender = refl; receiver = refl; given = refl; out = refl; back = refl; wire = refl; pair = refl }) (st.pairs d c small less differ);
       counts = st.counts;

@@ -1,11 +1,17 @@
 -- Whether anything is on its way, and whether a machine has mail, is what the printed lines say.
 use Rattle.dm_mirror.proofs.Names.{◌≡◌, ◌≢◌, ℕ, suc, ◌<◌, ◌==◌, ◌&&◌, Bool, true, false, not, List, length, refl, ap, ◌∙◌, sym, subst, arith, ◌||◌, nat_tests, length-map, Boot, IsValid, Step, all_below, all_same, Leads, HomeStands, Point}
-use Rattle.dm_mirror.proofs.Names.{first_point, has_mail, is_quiet, pair_is_quiet, Pair, pairs_stand_always, passes_quiet, quiet_passes, Placed, WorldState, MailIsSaid, QuietIsSaid, History, PairStands, Stands, StandsWith}
+use Rattle.dm_mirror.proofs.Names.{first_point, has_mail, is_quiet, pair_is_quiet, Pair, pairs_stand_always, passes_quiet, quiet_passes, Placed, WorldState, MailIsSaid, QuietIsSaid, History, PairStands, Stands, StandsWith, is_some}
+use Rattle.dm_mirror.proofs.Names.{serves_some, based_always}
 use Rattle.dm_world.specs.Next as world
 use Rattle.dm_mirror.proofs.Machines.{machines_are}
+use Rattle.dm_mirror.proofs.Serve.Runs.{first_runs}
 
 pub mail_same : (b : Boot) (w : WorldState) (pt : Point) (l : Placed) (h : History) (m : ℕ) → m < pt.kernel.machines → StandsWith b w pt l h → world.world_has_mail w m ≡ has_mail pt.view m
 mail_same b w pt l h m small s = grind (arith, nat_tests, length-map)
+
+pub serves_same : (b : Boot) (es : List Step) (w : WorldState) (pt : Point) (l : Placed) (h : History) (m : ℕ) → IsValid b → Leads b (first_point b) es pt → m < pt.kernel.machines → StandsWith b w pt l h → world.world_serves w m ≡ serves_some pt m
+serves_same b es w pt l h m valid leads small s =
+    ap is_some (sym (first_runs b pt l m (w.nodes m).kernel (s.nodes m small).kernel s.mirrors.plain (λ i n there. (s.mirrors.places.message i n there).id) (based_always b es pt valid leads).known))
 
 heard_same : (b : Boot) (w : WorldState) (pt : Point) (l : Placed) (h : History) (a c : ℕ) (same : Bool) → (a == c) ≡ same → (same ≡ true → HomeStands (pt.view.pair a c)) → (same ≡ false → PairStands b pt l w h a c)
     → (same || (length ((w.nodes a).senders c).unacked == 0)) ≡ pair_is_quiet same (pt.view.pair a c)

@@ -1,6 +1,7 @@
 -- Packets are read again, from the start on and after each directive.
 use Rattle.dm_mirror.proofs.Names.{◌≡◌, ℕ, ◌+◌, List, [], ◌∷◌, refl, subst, Option, None, Some, Result, Err, Packet, Line, PacketError, packet_of, Data, Ack, bytes_at, after_mark, Boot, Step, Turned, Acts, Goes, Worn, StaysAt}
 use Rattle.dm_mirror.proofs.Names.{asks_move_stays, turn_stays, WorldState, Said, acted, delivers, reads, world_step, MayDeliver, MayRead, MayStep, AreReadBack, IsReadable, gave, gave_bytes, gave_read, gave_some, calls_off_stays}
+use Rattle.dm_mirror.proofs.Names.{keeps_over}
 use Rattle.dm_world.proofs.Names.{Ok}
 use Rattle.dm_world.specs.World.{Says, turned}
 use Rattle.dm_kernel.specs.Asking as asking
@@ -39,7 +40,8 @@ deliver_readable w a c k None s may e again h =
 deliver_readable w a c k (Some bytes) s may e again h = read_readable w a c k (packet_of bytes) s may e again h
 
 pub readable_step : (b : Boot) (w : WorldState) (e : Step) (s : Said) → MayStep b w e → world_step b w e ≡ Some (Says s) → AreReadBack (gave b w e) → IsReadable w → IsReadable s.state
-readable_step b w (Step.Turn m) s may happens again h = turn_is_readable w (Step.Turn m) m (kernel.turn b (w.nodes m).kernel) s (turn_stays b (w.nodes m).kernel) happens again h
+readable_step b w (Step.Turn m) s may happens again h =
+    turn_is_readable (keeps_over w (node.turn b (w.nodes m))) (Step.Turn m) m (kernel.turn b (w.nodes m).kernel) s (turn_stays b (w.nodes m).kernel) happens again (record { reads = h.reads; out = h.out })
 readable_step b w (Step.Tick m) s may happens again h =
     let same : acted w (Step.Tick m) m (node.tick (w.nodes m)) ≡ s = cc in subst (λ (x : Said). IsReadable x.state) same (tick_readable w (Step.Tick m) m again h)
 readable_step b w (Step.Deliver a c k) s may happens again h = deliver_readable w a c k (bytes_at (w.wires a c) k) s may.3 happens again h

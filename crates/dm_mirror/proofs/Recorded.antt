@@ -1,7 +1,6 @@
 -- What a machine has of a process, by what the lines say that it knows of it.
-use Rattle.dm_mirror.proofs.Names.{◌≡◌, ℕ, false, List, refl, subst, Option, None, Some, Pid, MsgId, Record, Process, Boot, Why, Point, Known, Unknown, Here, Frozen, Incoming, Forward, Ended, is_server, Placed, KernelState, Arrival}
-use Rattle.dm_mirror.proofs.Names.{Departure, HereStands, LeavesStand, ComesStand, KnownStands, KernelStands, ◌==◌, ◌∙◌, Bool, true, ap, sym, false≢true, incoming_of, is_expected, is_waited_from}
-use Rattle.dm_onekernel.specs.Step as kernel
+use Rattle.dm_mirror.proofs.Names.{◌≡◌, ℕ, false, List, refl, subst, Option, None, Some, Pid, MsgId, Record, Process, Boot, Point, Known, Unknown, Here, Frozen, Incoming, Forward, Ended, is_server, Placed, KernelState, Arrival, Departure}
+use Rattle.dm_mirror.proofs.Names.{HereStands, LeavesStand, ComesStand, KnownStands, KernelStands, ◌==◌, ◌∙◌, Bool, true, ap, sym, false≢true, incoming_of, is_expected, is_waited_from}
 use Rattle.dm_kernel.specs.State as machine
 
 abbrev pub Recorded : Point → Placed → Pid → List MsgId → List MsgId → Known → Option machine.KernelKnown → Type 0
@@ -10,7 +9,7 @@ Recorded pt l p queue held Here r = (x : Process) × (r ≡ Some (Record.Here x)
 Recorded pt l p queue held (Frozen to) r = (d : Departure) × (r ≡ Some (Record.Frozen d)) × LeavesStand l p queue held to d
 Recorded pt l p queue held (Incoming from) r = (a : Arrival) × (r ≡ Some (Record.Incoming a)) × ComesStand l p from held a
 Recorded pt l p queue held (Forward at moves) r = r ≡ Some (Record.Forward at moves)
-Recorded pt l p queue held Ended r = (y : Why) × (r ≡ Some (Record.Ended y)) × (kernel.why_ended (pt.kernel.processes p) ≡ Some y)
+Recorded pt l p queue held Ended r = r ≡ Some Record.Ended
 
 pub recorded_as : (pt : Point) (l : Placed) (p : Pid) (queue held : List MsgId) (k : Known) (r : Option machine.KernelKnown) → KnownStands pt l p queue held k r → Recorded pt l p queue held k r
 recorded_as pt l p queue held Unknown None h = refl
@@ -18,7 +17,7 @@ recorded_as pt l p queue held Here (Some (Record.Here x)) h = (x, refl, h)
 recorded_as pt l p queue held (Frozen to) (Some (Record.Frozen d)) h = (d, refl, h)
 recorded_as pt l p queue held (Incoming from) (Some (Record.Incoming a)) h = (a, refl, h)
 recorded_as pt l p queue held (Forward at moves) (Some (Record.Forward to count)) h = λ i. Some (Record.Forward (h.0 i) (h.1 i))
-recorded_as pt l p queue held Ended (Some (Record.Ended y)) h = (y, refl, h)
+recorded_as pt l p queue held Ended (Some Record.Ended) h = refl
 recorded_as pt l p queue held k r h = absurd h
 
 pub recorded : (b : Boot) (pt : Point) (l : Placed) (m : ℕ) (k : KernelState) (p : Pid) (w : Known) → KernelStands b pt l m k → is_server p ≡ false → pt.view.known m p ≡ w → Recorded pt l p (pt.view.queue m p) (pt.view.held m p) w (k.records p)
@@ -31,7 +30,7 @@ expects_by pt l p queue held from Here r h = ap (λ (o : Option machine.KernelKn
 expects_by pt l p queue held from (Frozen to) r h = ap (λ (o : Option machine.KernelKnown). is_expected (incoming_of o) from) h.1
 expects_by pt l p queue held from (Incoming source) r h = ap (λ (o : Option machine.KernelKnown). is_expected (incoming_of o) from) h.1 ∙ ap (λ (n : ℕ). from == n) h.2.source
 expects_by pt l p queue held from (Forward at moves) r h = ap (λ (o : Option machine.KernelKnown). is_expected (incoming_of o) from) h
-expects_by pt l p queue held from Ended r h = ap (λ (o : Option machine.KernelKnown). is_expected (incoming_of o) from) h.1
+expects_by pt l p queue held from Ended r h = ap (λ (o : Option machine.KernelKnown). is_expected (incoming_of o) from) h
 
 -- and awaits it then
 pub expected_waits : (b : Boot) (pt : Point) (l : Placed) (m : ℕ) (k : KernelState) (p : Pid) (from : ℕ) (server : Bool) → is_server p ≡ server → KernelStands b pt l m k → is_expected (incoming_of (k.records p)) from ≡ true → is_waited_from from (pt.view.known m p) ≡ true

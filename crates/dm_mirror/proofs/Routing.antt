@@ -63,7 +63,7 @@ pub record Ready (b : Boot) (w : WorldState) (pt : Point) (l : Placed) (h : Hist
   pub there : (message_of r).to.at < pt.kernel.machines
   pub acting : pt.view.acting ≡ m
   pub lawful : IsLawfulMessage (message_of r)
-  pub may : MayPut pt l (λ n. (w.nodes n).kernel.records) r
+  pub may : MayPut pt l (λ n. (w.nodes n).kernel.records) 0 r
   pub sane : Sane pt
   pub fits : PairsFit pt.view
 

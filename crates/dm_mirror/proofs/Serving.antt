@@ -1,9 +1,10 @@
 -- The process that a turn serves, and what serving it gives by the machine and by the rule.
 use Rattle.dm_mirror.proofs.Names.{◌≡◌, ◌≢◌, ℕ, ◌+◌, ◌≤◌, ◌&&◌, Bool, true, false, List, [], ◌∷◌, ◌++◌, map, length, refl, ap, ◌∙◌, sym, subst, inl, inr, arith, if◌then◌else◌, Option, Some, cases_Bool, false≢true, Pid, pid_eq, nat_tests}
 use Rattle.dm_mirror.proofs.Names.{Message, MsgId, id_eq, PlainMessage, Process, Record, Boot, Alive, OneKernel, plain_process, id_eq-is, pid_eq-same, Sound, Line, Point, after, moved_back, Spot, Queue, times, standing, StandsRight, View}
-use Rattle.dm_mirror.proofs.Names.{receiver_of, once_at, Droppable, IsFor, Placed, Mirrors, with_queue, KernelState, Turned, with_here, AllOwnStand, MadeStands, AreMessages, KernelStands, Part}
+use Rattle.dm_mirror.proofs.Names.{receiver_of, once_at, Droppable, IsFor, Placed, Mirrors, with_queue, KernelState, Turned, with_here, AllOwnStand, MadeStands, AreMessages, KernelStands, Part, Step}
+use Rattle.dm_onekernel.specs.Step as kernel
 use Rattle.dm_rule.specs.Parts as rule
-use Rattle.dm_mirror.proofs.Turning.{routed, rule_routed, are_still, IsSent}
+use Rattle.dm_mirror.proofs.Turning.{EndsSo, NoneEnds, spared, routed, rule_routed, are_still, IsSent}
 use Rattle.dm_mirror.proofs.Kernel.Sets.{Leaves, is_queue_of, off_if, on_if, eq_self, queue_of_others, inbox_stands, LivesHere, goes_stands}
 use Rattle.dm_mirror.proofs.Serve.Runs.{AreAlone}
 
@@ -38,6 +39,7 @@ pub record Acts (b : Boot) (m : ℕ) (pt : Point) (l : Placed) (k : KernelState)
   pub leaves : Leaves m (is_queue_of m p) p pt l next placed
   pub sent : IsSent placed route
   pub still : are_still says ≡ true
+  pub over : EndsSo (Step.Turn m) pt.kernel next.kernel k.over state.over
   pub count : state.sent ≡ k.sent
   pub records : (q : Pid) → pid_eq p q ≡ false → state.records q ≡ k.records q
 
@@ -72,6 +74,7 @@ goes_on_acts b m pt next l placed k p x y queue says route s leads mirrors leave
       leaves = leaves;
       sent = sent;
       still = still;
+      over = NoneEnds refl (spared pt.kernel next.kernel p leaves.kernel.life (ap kernel.why_ended alive ∙ sym (ap kernel.why_ended s.at.alive)));
       count = refl;
       records = records;
     }

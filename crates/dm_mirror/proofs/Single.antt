@@ -1,7 +1,7 @@
 -- Elementary directives, one by one.
 use Rattle.dm_mirror.proofs.Names.{◌≡◌, ℕ, List, [], ◌∷◌, ◌++◌, length, refl, ap, ◌∙◌, sym, subst, arith, map-append, All-nil, Boot, IsValid, received_once, Step, Directive, Line, Todo, all_of, next_step, undelivered, IsKept, IsRun, IsStep}
 use Rattle.dm_mirror.proofs.Names.{Leads, has_mail, is_quiet, Point, first_point, stands_once_always, WorldState, MayStep, AreReadBack, gave, IsTwo, IsTodo, GoesOn, StepsStand, ones, Ran, RanBegins, RanGoesOn, RunIsRan, ◌+◌, ◌<◌, nat_tests}
-use Rattle.dm_mirror.proofs.Names.{pid_of, first_number, EndLine, joined_below, list_line, first_with, pair_home, Run, Placed, History, StandsWith, MadeStands, EndIsSaid, standing_of}
+use Rattle.dm_mirror.proofs.Names.{pid_of, first_number, EndLine, joined_below, list_line, first_with, pair_home, Run, Placed, History, StandsWith, MadeStands, EndIsSaid, standing_of, seen_at}
 use Rattle.dm_rule.specs.Ends as rule
 use Rattle.dm_rule.specs.Spots as spots
 use Rattle.dm_world.specs.Ends as world
@@ -61,7 +61,7 @@ record Elements (b : Boot) (gs : List (List Line)) (pt end : Point) : Type 0 whe
 elements : (b : Boot) (gs : List (List Line)) (pt end : Point) (t left : Todo) → pt.kernel.machines ≡ length b.machines → IsTodo (length b.machines) t → IsRun b pt t gs end left → Elements b gs pt end
 elements b [] pt end t left machines todo run = record { steps = []; run = (run.0, refl); leads = run.0 }
 elements b (g ∷ gs) pt end t left machines todo (n, w, next, is, said, kept, rest) =
-    let fits = next_fits (length b.machines) (undelivered pt.view) (has_mail pt.view) (is_quiet (length b.machines) pt.view) t n todo (sym (ap (λ (k : ℕ). next_step k pt.view t) machines) ∙ next) in
+    let fits = next_fits (length b.machines) (seen_at (length b.machines) pt) t n todo (sym (ap (λ (k : ℕ). next_step k pt t) machines) ∙ next) in
     let more = elements b gs w.point end n.left left (machines_group b pt n.step w is ∙ machines) fits.left rest in
     record {
       steps = n.step ∷ more.steps;

@@ -2,7 +2,8 @@
 use Rattle.dm_mirror.proofs.Names.{◌≡◌, ℕ, ◌<◌, ◌==◌, Bool, true, false, List, [], ◌∷◌, length, map, refl, ap, ◌∙◌, sym, subst, is_some, nat_lt, arith, if◌then◌else◌, slice_get, Option, None, Some, nat_tests, All-nil, Pid, pid_eq, Message}
 use Rattle.dm_mirror.proofs.Names.{IsLawfulMessage, Process, Sending, fresh_sending, fresh_receiving, kept_under, StreamStands-start, BootImage, BootProcess, Boot, IsValid, process_named, bind, first_life, KernelState, child_of, empty}
 use Rattle.dm_mirror.proofs.Names.{opened, room_of, with_all, with_child, opened_lawful, Record, placed_start, started, start_mirrors, first_point, Known, is_server, first_world, History, KernelStands, KnownStands, PairStands, StartStands}
-use Rattle.dm_mirror.proofs.Names.{◌+◌, ◌++◌, append_assoc, append-nil, starting_at, blocks_at, blocks_of_image, processes_are_valid, pid_eq-is, ring_at, begins_process, KernelKnown}
+use Rattle.dm_mirror.proofs.Names.{◌+◌, ◌++◌, append_assoc, append-nil, starting_at, blocks_at, blocks_of_image, processes_are_valid, pid_eq-is, ring_at, begins_process, KernelKnown, Life, option_map, Alive, plain_link, life_at, why_ended}
+use Rattle.dm_onekernel.specs.Start.{begun}
 use Rattle.dm_records.specs.declared.record.Record.TheVariants.{Here}
 use Rattle.dm_stream.specs.Order as order
 use Rattle.dm_mirror.proofs.Numbering.{named_is, none_below, started_named, known_of_life, first_known, listed, none_again, one_if}
@@ -169,6 +170,19 @@ pair_first b a c valid lt =
       All-nil IsLawfulMessage,
     )
 
+-- nobody has ended
+either_none : (c : Bool) (x y : Option Life) → None ≡ why_ended x → None ≡ why_ended y → None ≡ why_ended (if c then x else y)
+either_none true x y e f = e
+either_none false x y e f = f
+
+image_none : (b : Boot) (p : BootProcess) (o : Option BootImage) → None ≡ why_ended (option_map (λ image. Alive (begun b.format image (map plain_link p.links))) o)
+image_none b p None = refl
+image_none b p (Some image) = refl
+
+begun_none : (b : Boot) (ps : List BootProcess) (q : Pid) → None ≡ why_ended (life_at b ps q)
+begun_none b [] q = refl
+begun_none b (p ∷ ps) q = either_none (pid_eq p.pid q) (first_life b p) (life_at b ps q) (image_none b p (slice_get b.images p.image)) (begun_none b ps q)
+
 pub start_stands : StartStands
 start_stands b valid = (
   (
@@ -177,6 +191,7 @@ start_stands b valid = (
     record {
       mirrors = start_mirrors b;
       groups = refl;
+      ended = begun_none b b.processes;
       nodes = λ m lt. record { kernel = kernel_first b m valid lt; lawful = opened_lawful b m valid; machines = refl; numbers = refl; home = refl };
       pairs = λ a c la lc apart. pair_first b a c valid lc;
       counts = λ a c. omega arith;

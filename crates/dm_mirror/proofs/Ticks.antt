@@ -160,5 +160,5 @@ tick_goes b w pt l h m st sent small =
       group = behind (Line.Head (Step.Tick m) ∷ []) (behind (said ∷ []) rest);
       due = ap (λ (o : Option Spelled). bind o (λ v. Some (behind (Line.Head (Step.Tick m) ∷ []) v))) (spelled_on begun begun (rule.Says said) (said ∷ []) (resends pt.view m pt.kernel.machines) rest refl refl ends);
       lines = λ i. Line.Head (Step.Tick m) ∷ Line.Resent ((st.nodes m small).kernel.here i) (count i) ∷ (a.said ∙ sym (append-nil a.lines)) i;
-      stands = ((l, a.history, subst (λ (f : ℕ → NodeState). StandsWith b (record { nodes = f; wires = (spoken w.wires (all_out n n.machines)).wires; groups = w.groups + 1 }) a.next l a.history) (sym (at_same w.nodes m)) a.stands), λ d few. tick_sent w m d a.next.view.count (a.counts) (sent d (subst (λ (k : ℕ). d < k) a.machines few)));
+      stands = ((l, a.history, subst (λ (f : ℕ → NodeState). StandsWith b (record { nodes = f; wires = (spoken w.wires (all_out n n.machines)).wires; ended = w.ended; groups = w.groups + 1 }) a.next l a.history) (sym (at_same w.nodes m)) a.stands), λ d few. tick_sent w m d a.next.view.count (a.counts) (sent d (subst (λ (k : ℕ). d < k) a.machines few)));
     }

@@ -2,10 +2,13 @@
 use Rattle.dm_mirror.proofs.Names.{◌≡◌, ℕ, ◌+◌, ◌<◌, ◌≤◌, ◌==◌, List, [], ◌∷◌, ◌++◌, length, map, refl, ap, ◌∙◌, sym, subst, inl, inr, All, Option, Some, cases_Bool, eqb-true, All-head, All-tail, Boot, OneKernel, bind, bind-is, Step, Line}
 use Rattle.dm_mirror.proofs.Names.{Stage, Out, Spelled, spelled, Point, after_line, moved, group_of, outcome, at_machine, standing, About, Pair, begins, worn_in, PairsFit, AllSayable, Sane, outcome_sayable, sane_line, machine_of, Run}
 use Rattle.dm_mirror.proofs.Names.{Placed, Mirrors, lines_keep, IsLawfulPart, IsLawfulTurned, NodeState, Acts, Goes, Worn, acts, Spoken, spoken, WorldState, acted, world_step, GoesOn, StopsWorn, Steps, CountsStand, History, StandsWith, Pid}
-use Rattle.dm_mirror.proofs.Names.{IsMachine, IsValid, NothingElse, Target, goes_on, RunGoes, OwnTold, asks_move, MayTurn, turn, asked_lawful, turn_lawful, Part, called_off_lawful, calls_off}
+use Rattle.dm_mirror.proofs.Names.{IsMachine, IsValid, NothingElse, Target, goes_on, RunGoes, OwnTold, asks_move, MayTurn, turn, asked_lawful, turn_lawful, Part, called_off_lawful, calls_off, Happened, over_in, with_over, Acted}
+use Rattle.dm_mirror.proofs.Names.{KernelState, Why, before_turn}
 use Rattle.std.proofs.lemmas.List.{append_assoc}
 use Rattle.dm_rule.proofs.Groups.{fits}
 use Rattle.dm_world.specs.World.{turned}
+use Rattle.dm_onekernel.specs.Step as kernel
+use Rattle.dm_mirror.proofs.Over.{acts_over, kept_over, still_over}
 use Rattle.dm_rule.specs.Parts as rule
 use Rattle.dm_kernel.specs.State as machine
 use Rattle.dm_node.specs.Acts as node
@@ -47,13 +50,15 @@ late_made : (m n : ℕ) (start q : Point) (late : Late) → MadeHere m n start q
 late_made m n start q Nothing h = h
 late_made m n start q (Leaves p x) h = record { more = h.more; fresh = h.fresh }
 
--- a directive that machine m acts on, with what its kernel does
+-- a directive that machine m acts on, with what its kernel does, and why the world then keeps that processes ended
 pub record Acting (b : Boot) (w : WorldState) (pt : Point) (m : ℕ) (d : Step) (o : Option machine.Turned) (a : About) : Type 0 where
   pub head : after_line pt (Line.Head d) ≡ Some (record pt { view = begins pt.view m a })
-  pub happens : world_step b w d ≡ turned w d m (node.turns (w.nodes m) o)
+  pub kept : Option Acts → Pid → Option Why
+  pub happens : world_step b w d ≡ turned (record w { ended = kept (node.turns (w.nodes m) o) }) d m (node.turns (w.nodes m) o)
 
 module _ (b : Boot) (w : WorldState) (pt : Point) (l : Placed) (h : History) (m : ℕ) (d : Step) (o : Option machine.Turned) (a : About) (e : Acting b w pt m d o a) (run : Run b pt) (stands : StandsWith b w pt l h) (sent : CountsStand w pt) (below : m < pt.kernel.machines)
-    (t : Turns b m d o pt (record pt { view = begins pt.view m a }) l (λ n. (w.nodes n).kernel.records) (w.nodes m).kernel)
+    (ready : KernelState) (counted : ready.sent ≡ pt.view.count m) (t : Turns b m d o pt (record pt { view = begins pt.view m a }) l (λ n. (w.nodes n).kernel.records) ready)
+    (keeps : (c : Acted) → c.state.kernel.over ≡ t.state.over → (p : Pid) → e.kept (Some (Goes c)) p ≡ kernel.why_ended (t.next.kernel.processes p))
     (lawful : IsLawfulTurned (record { state = t.state; parts = map Part.Says t.says ++ map part_of t.routes ++ late_parts t.late }))
     (group : Spelled) (due : group_of b pt d ≡ Some group) (ends : Run b group.point) where
   abbrev start : Point
@@ -97,12 +102,12 @@ module _ (b : Boot) (w : WorldState) (pt : Point) (l : Placed) (h : History) (m 
   begun = record w { groups = w.groups + 1 }
 
   abbrev world : WorldState
-  world = with_turned begun m t.state
+  world = record (with_turned begun m t.state) { ended = λ p. kernel.why_ended (t.next.kernel.processes p) }
 
   stood : StandsWith b world (late_point t.next t.late) t.placed h
   stood =
       turned_stands b begun start (late_point t.next t.late) l t.placed h m t.state (stands_begins b w pt l h m a stands) below
-      (λ i apart. late_made m i start t.next t.late (made_here b pt start t.next t.says m i run refl refl t.after)) t.elsewhere (late_mirrors t.next t.late t.placed t.mirrors) t.kernel lawful.state t.own t.tokens
+      (λ i apart. late_made m i start t.next t.late (made_here b pt start t.next t.says m i run refl refl t.after)) t.elsewhere (late_mirrors t.next t.late t.placed t.mirrors) t.kernel lawful.state t.own t.tokens (λ p. kernel.why_ended (t.next.kernel.processes p)) (λ p. ap (λ (s : OneKernel). kernel.why_ended (s.processes p)) (sym (late_kernel t.next t.late)))
 
   parts_lawful : AreLawful t.routes × IsLawfulLate t.late
   parts_lawful =
@@ -132,26 +137,30 @@ module _ (b : Boot) (w : WorldState) (pt : Point) (l : Placed) (h : History) (m 
     may = t.may;
     late_may = t.late_may;
     same = λ n. turned_records begun m t.state n;
-    single = t.single;
     topic = t.topic;
     due = spells.1;
     within = λ i z st. subst (λ (p : Point). machine_of z < p.kernel.machines) (sym end_point) (stands_within b group.point ends i z (subst (λ (p : Point). 1 ≤ standing p.view i z) end_point st));
-    sent = ap (λ (n : NodeState). n.kernel.sent) (turned_here begun m t.state) ∙ t.sent (sent m below);
+    sent = ap (λ (n : NodeState). n.kernel.sent) (turned_here begun m t.state) ∙ t.sent counted;
   }
 
   -- what the machine does
-  does : (c : Acts) → acts (world.nodes m) (map part_of t.routes ++ late_parts t.late) ≡ c → world_step b w d ≡ turned w d m (Some (behind (map Out.Says t.says) c))
+  abbrev step_of : Option Acts → Option Happened
+  step_of c = turned (record w { ended = e.kept c }) d m c
+
+  does : (c : Acts) → acts (world.nodes m) (map part_of t.routes ++ late_parts t.late) ≡ c → world_step b w d ≡ step_of (Some (behind (map Out.Says t.says) c))
   does c is =
       e.happens
-      ∙ ap (λ (p : Option machine.Turned). turned w d m (node.turns (w.nodes m) p)) (t.turn ∙ ap (λ (ps : List Part). Some (record { state = t.state; parts = ps })) parts_are)
-      ∙ ap (λ (x : Acts). turned w d m (Some x)) (acts_say (with_kernel (w.nodes m) t.state) t.says (map part_of t.routes ++ late_parts t.late))
-      ∙ ap (λ (x : Acts). turned w d m (Some (behind (map Out.Says t.says) x))) (ap (λ (n : NodeState). acts n (map part_of t.routes ++ late_parts t.late)) (sym (turned_here begun m t.state)) ∙ is)
+      ∙ ap (λ (p : Option machine.Turned). step_of (node.turns (w.nodes m) p)) (t.turn ∙ ap (λ (ps : List Part). Some (record { state = t.state; parts = ps })) parts_are)
+      ∙ ap (λ (x : Acts). step_of (Some x)) (acts_say (with_kernel (w.nodes m) t.state) t.says (map part_of t.routes ++ late_parts t.late))
+      ∙ ap (λ (x : Acts). step_of (Some (behind (map Out.Says t.says) x))) (ap (λ (n : NodeState). acts n (map part_of t.routes ++ late_parts t.late)) (sym (turned_here begun m t.state)) ∙ is)
 
   goes : RoutesOn b world t.next m t.routes t.late v → GoesOn b w pt d
   goes k =
       let gave : spoken w.wires (map Out.Says t.says ++ k.acted.outs) ≡ record { lines = t.says ++ (spoken w.wires k.acted.outs).lines; wires = (spoken w.wires k.acted.outs).wires } = spoken_says w.wires t.says k.acted.outs in
+      let done : Acted = record { state = k.acted.state; outs = map Out.Says t.says ++ k.acted.outs } in
+      let over_is : k.acted.state.kernel.over ≡ t.state.over = acts_over (world.nodes m) (map part_of t.routes ++ late_parts t.late) (Goes k.acted) k.goes ∙ ap (λ (n : NodeState). n.kernel.over) (turned_here begun m t.state) in
       record {
-        said = acted w d m (record { state = k.acted.state; outs = map Out.Says t.says ++ k.acted.outs });
+        said = acted (record w { ended = e.kept (Some (Goes done)) }) d m done;
         happens = does (Goes k.acted) k.goes;
         group = group;
         due = due;
@@ -160,9 +169,9 @@ module _ (b : Boot) (w : WorldState) (pt : Point) (l : Placed) (h : History) (m 
           (
             k.placed,
             k.history,
-            subst (λ (p : Point). StandsWith b (record { nodes = at_machine w.nodes m k.acted.state; wires = (spoken w.wires (map Out.Says t.says ++ k.acted.outs)).wires; groups = w.groups + 1 }) p k.placed k.history) end_point
+            subst (λ (p : Point). StandsWith b (record { nodes = at_machine w.nodes m k.acted.state; wires = (spoken w.wires (map Out.Says t.says ++ k.acted.outs)).wires; ended = e.kept (Some (Goes done)); groups = w.groups + 1 }) p k.placed k.history) end_point
                 (subst (λ (u : WorldState). StandsWith b u v.point k.placed k.history)
-                (λ i. record { nodes = at_again w.nodes m (with_kernel (w.nodes m) t.state) k.acted.state i; wires = (sym gave i).wires; groups = w.groups + 1 }) k.stands),
+                (λ i. record { nodes = at_again w.nodes m (with_kernel (w.nodes m) t.state) k.acted.state i; wires = (sym gave i).wires; ended = λ p. sym (keeps done over_is p) i; groups = w.groups + 1 }) k.stands),
           ),
           λ n few. elim (cases_Bool (m == n)) [
             | inl same ↦
@@ -198,10 +207,11 @@ module _ (b : Boot) (w : WorldState) (pt : Point) (l : Placed) (h : History) (m 
 
 -- a turn of machine m from where the world stands
 pub turn_goes : RunGoes → (b : Boot) (w : WorldState) (pt : Point) (l : Placed) (h : History) (m : ℕ) → IsValid b → Run b pt → OwnTold pt → MayTurn b (w.nodes m).kernel → StandsWith b w pt l h → CountsStand w pt → m < pt.kernel.machines
-    → TurnsAt b m pt l (λ n. (w.nodes n).kernel.records) (w.nodes m).kernel → Steps b w pt (Step.Turn m)
+    → TurnsAt b m pt l (λ n. (w.nodes n).kernel.records) (before_turn (w.nodes m).kernel) → Steps b w pt (Step.Turn m)
 turn_goes goes b w pt l h m valid run own may stands sent below t =
     let (group, due) = goes_on b pt (Step.Turn m) valid run own below in
-    turn_steps b w pt l h m (Step.Turn m) (turn b (w.nodes m).kernel) NothingElse (record { head = refl; happens = refl }) run stands sent below t
+    turn_steps b w pt l h m (Step.Turn m) (turn b (w.nodes m).kernel) NothingElse (record { head = refl; kept = λ c. with_over w.ended (over_in c); happens = refl }) run stands sent below (before_turn (w.nodes m).kernel) (sent m below) t
+    (λ c is p. ap (λ (o : Option (Pid × Why)). with_over w.ended o p) is ∙ kept_over w.ended (Step.Turn m) pt.kernel t.next.kernel t.state.over stands.ended t.over p)
     (turn_lawful b (w.nodes m).kernel (record { state = t.state; parts = map Part.Says t.says ++ map part_of t.routes ++ late_parts t.late }) valid.images may (stands.nodes m below).lawful t.turn)
     group due (goes b pt (Step.Turn m) group valid below due run own)
 
@@ -210,7 +220,8 @@ pub move_goes : RunGoes → (b : Boot) (w : WorldState) (pt : Point) (l : Placed
     → to < pt.kernel.machines → Turns b 0 (Step.Migrate p to) (asks_move (w.nodes 0).kernel p to) pt (moved pt (Line.Head (Step.Migrate p to)) pt.kernel) l (λ n. (w.nodes n).kernel.records) (w.nodes 0).kernel → Steps b w pt (Step.Migrate p to)
 move_goes goes b w pt l h p to valid run own here machine stands sent below within t =
     let (group, due) = goes_on b pt (Step.Migrate p to) valid run own within in
-    turn_steps b w pt l h 0 (Step.Migrate p to) (asks_move (w.nodes 0).kernel p to) (Target to) (record { head = refl; happens = refl }) run stands sent below t
+    turn_steps b w pt l h 0 (Step.Migrate p to) (asks_move (w.nodes 0).kernel p to) (Target to) (record { head = refl; kept = λ c. w.ended; happens = refl }) run stands sent below (w.nodes 0).kernel (sent 0 below) t
+    (λ c is. still_over w.ended (Step.Migrate p to) pt.kernel t.next.kernel (w.nodes 0).kernel.over t.state.over (λ n e. cc) stands.ended t.over)
     (asked_lawful (w.nodes 0).kernel p to (record { state = t.state; parts = map Part.Says t.says ++ map part_of t.routes ++ late_parts t.late }) here machine (stands.nodes 0 below).lawful t.turn)
     group due (goes b pt (Step.Migrate p to) group valid within due run own)
 
@@ -219,6 +230,7 @@ pub call_goes : RunGoes → (b : Boot) (w : WorldState) (pt : Point) (l : Placed
     → Turns b m (Step.CallOff p m) (calls_off (w.nodes m).kernel p) pt (moved pt (Line.Head (Step.CallOff p m)) pt.kernel) l (λ n. (w.nodes n).kernel.records) (w.nodes m).kernel → Steps b w pt (Step.CallOff p m)
 call_goes goes b w pt l h p m valid run own here stands sent below t =
     let (group, due) = goes_on b pt (Step.CallOff p m) valid run own below in
-    turn_steps b w pt l h m (Step.CallOff p m) (calls_off (w.nodes m).kernel p) NothingElse (record { head = refl; happens = refl }) run stands sent below t
+    turn_steps b w pt l h m (Step.CallOff p m) (calls_off (w.nodes m).kernel p) NothingElse (record { head = refl; kept = λ c. w.ended; happens = refl }) run stands sent below (w.nodes m).kernel (sent m below) t
+    (λ c is. still_over w.ended (Step.CallOff p m) pt.kernel t.next.kernel (w.nodes m).kernel.over t.state.over (λ n e. cc) stands.ended t.over)
     (called_off_lawful (w.nodes m).kernel p (record { state = t.state; parts = map Part.Says t.says ++ map part_of t.routes ++ late_parts t.late }) here (stands.nodes m below).lawful t.turn)
     group due (goes b pt (Step.CallOff p m) group valid below due run own)

@@ -1,8 +1,9 @@
 -- What a turn says before the messages that it sends are routed.
 use Rattle.dm_mirror.proofs.Names.{◌≡◌, ◌≢◌, ℕ, ◌+◌, ◌≤◌, Bool, true, false, not, ◌==◌, ◌&&◌, List, [], ◌∷◌, ◌++◌, map, is_some, ⊤, Option, None, Some, Pid, place_of, kernel_at, Message, MsgId, MessageKind, Stage, kind_of, plain_message}
 use Rattle.dm_mirror.proofs.Names.{Cargo, cargo_at, incoming_of, Boot, manager, Step, Line, Receiver, Sender, given, own_given, is_between, Point, after, moved, outcome, at_machine, Spot, Queue, Held, Inbox, Untaken, standing, Known, Here}
-use Rattle.dm_mirror.proofs.Names.{Frozen, Incoming, Ended, Of, Told, own_id, Placed, Mirrors, enclosed, KernelState, Turned, turn, AllOwnStand, about_of, told_of, KernelStands, AllRecords, Carries, TokensStand, destination_of, Part}
-use Rattle.dm_mirror.proofs.Names.{sort_of, ◌⊎◌, View, LeftCarries, is_due_piece}
+use Rattle.dm_mirror.proofs.Names.{Frozen, Incoming, Ended, Of, Told, own_id, id_of, pid_of, ap, arith, Placed, Mirrors, enclosed, KernelState, Turned, AllOwnStand, about_of, told_of, KernelStands, AllRecords, Carries, TokensStand}
+use Rattle.dm_mirror.proofs.Names.{destination_of, Part, sort_of, ◌⊎◌, View, LeftCarries, is_due_piece, OneKernel, Why, pid_eq, if◌then◌else◌, turns, ◌∙◌, sym, subst, inl, inr, cases_Bool, pid_eq-is, why_ended}
+use Rattle.dm_onekernel.specs.Kernel as kernels
 use Rattle.dm_rule.specs.Parts as rule
 
 -- behind the head of a turn
@@ -82,9 +83,17 @@ pub record IsLeftOver (v : View) (placed : Placed) (p : Pid) (x : Message) : Typ
   pub sender : x.sender ≡ kernel_at x.id.from.home
   pub carries : LeftCarries p (cargo_at placed p) x.what
 
--- the machine's kernel may put its next message, where the machines have these records
-pub record MayOwn (pt : Point) (placed : Placed) (records : AllRecords) (x : Message) : Type 0 where
-  pub id : x.id ≡ own_id pt.view
+-- the name of what the acting machine's kernel says behind so many other messages of its own
+abbrev pub own_behind : View → ℕ → MsgId
+own_behind v j = id_of (pid_of v.acting 0) (v.count v.acting + j)
+
+-- the next of its own is behind none
+pub own_first : (v : View) → own_id v ≡ own_behind v 0
+own_first v = let e : v.count v.acting ≡ v.count v.acting + 0 = omega arith in ap (id_of (pid_of v.acting 0)) e
+
+-- the machine's kernel may put this message behind so many others of its own, where the machines have these records
+pub record MayOwn (pt : Point) (placed : Placed) (records : AllRecords) (j : ℕ) (x : Message) : Type 0 where
+  pub id : x.id ≡ own_behind pt.view j
   pub plain : plain_message x ≡ None
   pub encloses : enclosed x.what ≡ []
   pub bag : placed.bag x.id ≡ None
@@ -96,15 +105,11 @@ pub record MayOwn (pt : Point) (placed : Placed) (records : AllRecords) (x : Mes
   pub asker : kind_of x.what ≡ MessageKind.Migrate → x.sender.pid ≡ manager
   pub carried : is_between (kind_of x.what) ≡ true → (p : Pid) → about_of x.what ≡ Of p → IsCarried placed (pt.view.asked p) records p x ⊎ IsLeftOver pt.view placed p x
 
--- a message may be put
-abbrev pub MayPut : Point → Placed → AllRecords → Route → Type 0
-MayPut pt placed records (First x) = (placed.bag x.id ≡ Some x) × (is_some (plain_message x) ≡ true)
-MayPut pt placed records (On x) = (placed.bag x.id ≡ Some x) × ((t : Told) × (pt.view.told x.id ≡ Some t) × (t.kind ≡ kind_of x.what) × (t.receiver ≡ x.to.pid)) × (is_between (kind_of x.what) ≡ false)
-MayPut pt placed records (Own x) = MayOwn pt placed records x
-
-abbrev pub AllMayPut : Point → Placed → AllRecords → List Route → Type 0
-AllMayPut pt placed records [] = ⊤
-AllMayPut pt placed records (r ∷ rs) = MayPut pt placed records r × AllMayPut pt placed records rs
+-- a message may be put, behind so many of the kernel's own
+abbrev pub MayPut : Point → Placed → AllRecords → ℕ → Route → Type 0
+MayPut pt placed records j (First x) = (placed.bag x.id ≡ Some x) × (is_some (plain_message x) ≡ true)
+MayPut pt placed records j (On x) = (placed.bag x.id ≡ Some x) × ((t : Told) × (pt.view.told x.id ≡ Some t) × (t.kind ≡ kind_of x.what) × (t.receiver ≡ x.to.pid)) × (is_between (kind_of x.what) ≡ false)
+MayPut pt placed records j (Own x) = MayOwn pt placed records j x
 
 -- where a process leaves, its machine's last line and message stand behind the messages that go on
 pub data Late : Type 0 where
@@ -132,18 +137,40 @@ abbrev pub owns : List Route → ℕ
 owns [] = 0
 owns (r ∷ rs) = is_own r + owns rs
 
+-- they may be put one after the other, behind so many of the kernel's own
+abbrev pub AllMayPut : Point → Placed → AllRecords → ℕ → List Route → Type 0
+AllMayPut pt placed records j [] = ⊤
+AllMayPut pt placed records j (r ∷ rs) = MayPut pt placed records j r × AllMayPut pt placed records (j + is_own r) rs
+
 abbrev pub late_owns : Late → ℕ
 late_owns Nothing = 0
 late_owns (Leaves p x) = 1
 
-abbrev pub LateMay : Point → Placed → AllRecords → Late → Type 0
-LateMay pt placed records Nothing = ⊤
-LateMay pt placed records (Leaves p x) = MayOwn pt placed records x
+abbrev pub LateMay : Point → Placed → AllRecords → ℕ → Late → Type 0
+LateMay pt placed records j Nothing = ⊤
+LateMay pt placed records j (Leaves p x) = MayOwn pt placed records j x
 
 -- the lines name the process that leaves before its messages go on
 abbrev pub LateTopic : Point → Late → Type 0
 LateTopic pt Nothing = ⊤
 LateTopic pt (Leaves p x) = pt.view.topic ≡ Of p
+
+-- who has ended behind a directive: nobody; or one process, by a turn, which the machine's kernel then says
+pub data EndsSo (d : Step) (s t : OneKernel) (before now : Option (Pid × Why)) : Type 0 where
+  NoneEnds : now ≡ before → ((q : Pid) → why_ended (t.processes q) ≡ why_ended (s.processes q)) → EndsSo d s t before now
+  OneEnds : (m : ℕ) (p : Pid) (y : Why) → d ≡ Step.Turn m → now ≡ Some (p, y) → ((q : Pid) → why_ended (t.processes q) ≡ (if pid_eq p q then Some y else why_ended (s.processes q))) → EndsSo d s t before now
+
+pub spared : (s t : OneKernel) (p : Pid) → ((q : Pid) → pid_eq p q ≡ false → t.processes q ≡ s.processes q) → why_ended (t.processes p) ≡ why_ended (s.processes p) → (q : Pid) → why_ended (t.processes q) ≡ why_ended (s.processes q)
+spared s t p others same q = elim (cases_Bool (pid_eq p q)) [
+  | inl is ↦ subst (λ (r : Pid). why_ended (t.processes r) ≡ why_ended (s.processes r)) (pid_eq-is p q is) same
+  | inr off ↦ ap why_ended (others q off)
+]
+
+pub one_ends : (s t : OneKernel) (p : Pid) (y : Why) → ((q : Pid) → pid_eq p q ≡ false → t.processes q ≡ s.processes q) → t.processes p ≡ Some (kernels.Ended y) → (q : Pid) → why_ended (t.processes q) ≡ (if pid_eq p q then Some y else why_ended (s.processes q))
+one_ends s t p y others is q = elim (cases_Bool (pid_eq p q)) [
+  | inl same ↦ subst (λ (r : Pid). why_ended (t.processes r) ≡ Some y) (pid_eq-is p q same) (ap why_ended is) ∙ sym (ap (λ (c : Bool). if c then Some y else why_ended (s.processes q)) same)
+  | inr off ↦ ap why_ended (others q off) ∙ sym (ap (λ (c : Bool). if c then Some y else why_ended (s.processes q)) off)
+]
 
 -- machine m's turn, or its part in a directive to move a process, from a point with the head said, with this kernel with places, these
 -- records of all machines and this kernel of the machine: what the kernel and the rule come to
@@ -161,12 +188,11 @@ pub record Turns (b : Boot) (m : ℕ) (d : Step) (turned : Option Turned) (pt st
   pub kernel : KernelStands b (late_point next late) placed m state
   -- the kernel of the machine has counted its own messages of this turn already
   pub sent : k.sent ≡ pt.view.count m → state.sent ≡ next.view.count m + (owns routes + late_owns late)
-  -- at most one message is the kernel's own
-  pub single : owns routes + late_owns late ≤ 1
+  pub over : EndsSo d pt.kernel next.kernel k.over state.over
   pub topic : LateTopic next late
   pub elsewhere : Elsewhere m start l (late_point next late) placed
-  pub may : AllMayPut (late_point next late) placed (at_machine records m state.records) routes
-  pub late_may : LateMay (late_point next late) placed (at_machine records m state.records) late
+  pub may : AllMayPut (late_point next late) placed (at_machine records m state.records) 0 routes
+  pub late_may : LateMay (late_point next late) placed (at_machine records m state.records) (owns routes) late
   pub own : AllOwnStand (late_point next late).view placed
   pub tokens : TokensStand (late_point next late).view placed (at_machine records m state.records)
 
@@ -203,7 +229,7 @@ pub record Row (b : Boot) (m : ℕ) (pt : Point) (l : Placed) (k : KernelState) 
   pub state : KernelState
   pub says : List Line
   pub route : Option Message
-  pub turn : turn b k ≡ Some (record { state = state; parts = map Part.Says says ++ routed route })
+  pub turn : turns b k k.inbox ≡ Some (record { state = state; parts = map Part.Says says ++ routed route })
   pub outcome : outcome b pt (Step.Turn m) ≡ Some (map rule.Says says ++ rule_routed route)
   pub next : Point
   pub after : after (begun pt m) says ≡ Some next
@@ -213,6 +239,7 @@ pub record Row (b : Boot) (m : ℕ) (pt : Point) (l : Placed) (k : KernelState) 
   pub elsewhere : Elsewhere m (begun pt m) l next placed
   pub sent : IsSent placed route
   pub still : are_still says ≡ true
+  pub over : EndsSo (Step.Turn m) pt.kernel next.kernel k.over state.over
   -- it counts no message of the kernel's own, and what leaves or comes here stays
   pub count : state.sent ≡ k.sent
   pub moving : (p : Pid) → is_moving (pt.view.known m p) ≡ true → (placed.processes p ≡ l.processes p) × (state.records p ≡ k.records p) × (placed.notes p ≡ l.notes p)
@@ -221,4 +248,4 @@ pub record Row (b : Boot) (m : ℕ) (pt : Point) (l : Placed) (k : KernelState) 
   pub own_back : (i : MsgId) (x : Message) → plain_message x ≡ None → placed.bag i ≡ Some x → l.bag i ≡ Some x
 
 abbrev pub TurnsAt : Boot → ℕ → Point → Placed → AllRecords → KernelState → Type 0
-TurnsAt b m pt l records k = Turns b m (Step.Turn m) (turn b k) pt (begun pt m) l records k
+TurnsAt b m pt l records k = Turns b m (Step.Turn m) (turns b k k.inbox) pt (begun pt m) l records k

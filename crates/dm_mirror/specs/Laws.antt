@@ -8,11 +8,12 @@ use Rattle.dm_schedule.specs.declared.Directive.{Directive}
 use Rattle.std.specs.List.{All}
 use Rattle.dm_line.specs.declared.line.Line.{Line}
 use Rattle.dm_rule.specs.Ends as rule_ends
-use Rattle.dm_line.specs.Todo.{Todo, Next, all_of}
+use Rattle.dm_line.specs.Todo.{Todo, Next, all_of, at_rest}
 use Rattle.dm_rule.specs.Good as rule
 use Rattle.dm_rule.specs.Laws.{IsStep, Leads}
 use Rattle.dm_rule.specs.Point.{Point, first_point}
 use Rattle.dm_rule.specs.Quiet.{IsQuiet, has_mail}
+use Rattle.dm_rule.specs.Rest.{IsAtRest}
 use Rattle.dm_rulelaws.specs.Order.{LeadsBy}
 use Rattle.dm_places.specs.Following.{MirrorsPoint}
 use Rattle.dm_places.specs.Placed.{Placed}
@@ -43,13 +44,19 @@ StepsStand =
 abbrev pub NextIsSaid : Type 0
 NextIsSaid =
     (b : Boot) (es : List Step) (w : WorldState) (pt : Point) (t : Todo) → IsValid b → Leads b (first_point b) es pt → Stands b w pt → IsTodo (length b.machines) t
-    → world.world_next_step (length b.machines) w t ≡ rule.next_step pt.kernel.machines pt.view t
+    → world.world_next_step (length b.machines) w t ≡ rule.next_step pt.kernel.machines pt t
 
 -- whether anything is on its way, and whether a machine has mail, is what the printed lines say
 abbrev pub QuietIsSaid : Type 0
 QuietIsSaid =
     (b : Boot) (es : List Step) (w : WorldState) (pt : Point) → IsValid b → Leads b (first_point b) es pt → Stands b w pt
     → (world.world_is_quiet (length b.machines) w ≡ true) ↔ IsQuiet pt.kernel.machines pt.view
+
+-- so is whether all is at rest
+abbrev pub RestIsSaid : Type 0
+RestIsSaid =
+    (b : Boot) (es : List Step) (w : WorldState) (pt : Point) → IsValid b → Leads b (first_point b) es pt → Stands b w pt
+    → (at_rest (length b.machines) (world.world_seen (length b.machines) w) ≡ true) ↔ IsAtRest pt.kernel.machines pt
 
 abbrev pub MailIsSaid : Type 0
 MailIsSaid =

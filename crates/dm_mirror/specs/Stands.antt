@@ -79,7 +79,7 @@ KnownStands pt l p queue held Here (Some (record_.Here x)) = HereStands l p queu
 KnownStands pt l p queue held (Frozen to) (Some (record_.Frozen d)) = LeavesStand l p queue held to d
 KnownStands pt l p queue held (Incoming from) (Some (record_.Incoming a)) = ComesStand l p from held a
 KnownStands pt l p queue held (Forward at moves) (Some (record_.Forward to count)) = (to ≡ at) × (count ≡ moves)
-KnownStands pt l p queue held Ended (Some (record_.Ended y)) = kernel.why_ended (pt.kernel.processes p) ≡ Some y
+KnownStands pt l p queue held Ended (Some record_.Ended) = ⊤
 KnownStands pt l p queue held k r = ⊥
 
 -- the room is the boot file's, and what is taken is what the processes of the lines take
@@ -162,6 +162,8 @@ pub record PairStands (b : Boot) (pt : Point) (l : Placed) (w : WorldState) (h :
 pub record StandsWith (b : Boot) (w : WorldState) (pt : Point) (l : Placed) (h : History) : Type 0 where
   pub mirrors : Mirrors pt.kernel pt.view pt.addresses l
   pub groups : w.groups ≡ pt.view.groups
+  -- why each process ended that has
+  pub ended : (p : Pid) → w.ended p ≡ kernel.why_ended (pt.kernel.processes p)
   pub nodes : (m : ℕ) → m < pt.kernel.machines → NodeStands b pt l m (w.nodes m)
   pub pairs : (a c : ℕ) → a < pt.kernel.machines → c < pt.kernel.machines → a ≢ c → PairStands b pt l w h a c
   -- no pair counts more messages than it may

@@ -17,6 +17,7 @@ IsDirective machines (directive.One s) = IsStep machines s
 IsDirective machines directive.Round = ⊤
 IsDirective machines (directive.Spin n) = ⊤
 IsDirective machines directive.Settle = ⊤
+IsDirective machines (directive.Rest n) = ⊤
 
 pub record IsTodo (machines : ℕ) (t : Todo) : Type 0 where
   pub pairs : All (IsTwo machines) t.pairs

@@ -1,7 +1,7 @@
 //! What holds of every run of the machines and their wires, whoever runs them.
 ghost use Rattle.dm_mirror.specs.Local.{ActsLocally, ReadsLocally, NothingComes};
 ghost use Rattle.dm_mirror.specs.Ran.{RanBegins, RanGoesOn, RunIsRan};
-ghost use Rattle.dm_mirror.specs.Laws.{StartStands, StepsStand, NextIsSaid, QuietIsSaid, MailIsSaid, EndIsSaid, EndMay, RunBegins, RunGoesOn, GoodLeads, PlacesFollow};
+ghost use Rattle.dm_mirror.specs.Laws.{StartStands, StepsStand, NextIsSaid, QuietIsSaid, RestIsSaid, MailIsSaid, EndIsSaid, EndMay, RunBegins, RunGoesOn, GoodLeads, PlacesFollow};
 
 /// The machines as the boot file has them, with empty wires, stand for the point where printed lines begin.
 pub fn start_stands()
@@ -24,6 +24,12 @@ pub fn next_is_said()
 /// and acknowledged where the machines differ, and every inbox is empty.
 pub fn quiet_is_said()
     ensures { QuietIsSaid }
+{}
+
+/// By the machines all is at rest exactly where, by the printed lines, nothing is on its way and no machine has a process that can be
+/// served.
+pub fn rest_is_said()
+    ensures { RestIsSaid }
 {}
 
 /// A machine has a message in its inbox exactly where the printed lines say so.

@@ -1,6 +1,7 @@
 -- From wherever a run stands all directives that are left come to their ends.
 use Rattle.dm_runlaws.proofs.Names.{List, [], ◌∷◌, length, refl, All, All-head, All-tail, Boot, IsValid, Directive, Point, IsDirective}
 use Rattle.dm_runlaws.proofs.Runs.{From, Stood, between, goes, over, rounds_out, same, spin_same}
+use Rattle.dm_runlaws.proofs.Rests.{rest_out, rest_same, todo}
 use Rattle.dm_runlaws.proofs.Settles.{settle_out}
 
 pub all_out : (b : Boot) (ds : List Directive) → IsValid b → All (IsDirective (length b.machines)) ds → (pt : Point) → Stood b pt → From b pt (between 0 ds)
@@ -17,3 +18,6 @@ all_out b (Directive.Spin n ∷ ds) valid fit pt s =
 all_out b (Directive.Settle ∷ ds) valid fit pt s =
     let ours = All-tail (IsDirective (length b.machines)) Directive.Settle ds fit in
     settle_out b ds valid ours (all_out b ds valid ours) pt s
+all_out b (Directive.Rest k ∷ ds) valid fit pt s =
+    let rest = all_out b ds valid (All-tail (IsDirective (length b.machines)) (Directive.Rest k) ds fit) in
+    same b pt (between 0 (Directive.Rest k ∷ ds)) (todo [] [] k ds) s (rest_same b pt k ds) (rest_out b k ds valid rest pt s)

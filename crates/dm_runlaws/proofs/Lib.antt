@@ -4,8 +4,10 @@ pub mod Wires
 pub mod Delivers
 pub mod Runs
 pub mod Settles
+pub mod Rests
 pub mod AllOut
 pub mod Through
 pub mod Worked
 pub mod Packets
 pub mod SettleFew
+pub mod Leading

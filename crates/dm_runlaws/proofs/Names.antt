@@ -44,5 +44,5 @@ pub use Rattle.dm_mirror.proofs.Staying.{kernel_stays}
 pub use Rattle.dm_mirror.specs.Run.{IsGood}
 pub use Rattle.dm_runlaws.specs.Order.{GoodInOrder, MoveNothing}
 pub use Rattle.dm_runlaws.specs.Packets.{GoesTo, HasNumber, PacketsAgree, PacketsSpell, Spells, number_in, number_of}
-pub use Rattle.dm_runlaws.specs.Settling.{SettleFew, puts_in}
+pub use Rattle.dm_runlaws.specs.Settling.{SettleFew, SettlesFromStart, puts_in, settle_begun}
 pub use Rattle.dm_runlaws.specs.Through.{AllBegin, HasEnded, Over, RunsThrough, Wears}

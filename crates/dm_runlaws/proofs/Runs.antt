@@ -3,6 +3,8 @@
 use Rattle.dm_runlaws.proofs.Names.{◌≡◌, ℕ, zero, suc, ◌≤◌, Bool, true, is_some, List, [], ◌∷◌, ◌++◌, length, refl, ap, ◌∙◌, sym, subst, arith, All, Option, None, Some, false≢true, All-head, All-tail, Boot, IsValid, Step, Directive, Line}
 use Rattle.dm_runlaws.proofs.Names.{Round, Two, Todo, Next, below, pairs_of, here_or_later, next_delivery, next_turn, takes_turn, in_pass, or, next_pass, following, next_step, undelivered, IsKept, IsRun, IsStep, Leads, Spelled, Point}
 use Rattle.dm_runlaws.proofs.Names.{first_point, has_mail, is_quiet, group_of, worn_in, stands_once_always, goes_on_always, group_after, IsTwo, leads_last, machines_group, some_machine, IsBelow, all_below, all_pairs, HasEnded, Over, Wears}
+use Rattle.dm_line.specs.Todo.{Seen}
+use Rattle.dm_rule.specs.Good.{seen_at}
 use Rattle.dm_runlaws.proofs.Wires.{Counts, lines_count}
 use Rattle.dm_runlaws.proofs.Delivers.{waits, fewer_wait}
 
@@ -22,7 +24,7 @@ pub record Stood (b : Boot) (pt : Point) : Type 0 where
   pub machines : pt.kernel.machines ≡ length b.machines
 
 abbrev pub follows : Boot → Point → Todo → Option Next
-follows b pt t = following (length b.machines) (undelivered pt.view) (has_mail pt.view) (is_quiet (length b.machines) pt.view) t
+follows b pt t = following (length b.machines) (seen_at (length b.machines) pt) t
 
 abbrev todo : List Two → List ℕ → ℕ → List Directive → Todo
 todo ps ms k ds = record { pairs = ps; machines = ms; pass = Round k; directives = ds }
@@ -31,15 +33,15 @@ todo ps ms k ds = record { pairs = ps; machines = ms; pass = Round k; directives
 abbrev pub between : ℕ → List Directive → Todo
 between k ds = todo [] [] k ds
 
-due : (b : Boot) (pt : Point) (t : Todo) (o : Option Next) → Stood b pt → follows b pt t ≡ o → next_step pt.kernel.machines pt.view t ≡ o
-due b pt t o s e = ap (λ (k : ℕ). next_step k pt.view t) s.machines ∙ e
+due : (b : Boot) (pt : Point) (t : Todo) (o : Option Next) → Stood b pt → follows b pt t ≡ o → next_step pt.kernel.machines pt t ≡ o
+due b pt t o s e = ap (λ (k : ℕ). next_step k pt t) s.machines ∙ e
 
 -- nothing is left
 pub over : (b : Boot) (pt : Point) (t : Todo) → Stood b pt → follows b pt t ≡ None → From b pt t
 over b pt t s e = record { groups = []; end = pt; left = t; run = (refl, refl); ended = Over (due b pt t None s e) }
 
 -- a directive goes on, or wears a pair
-wears_or_goes : (b : Boot) (pt : Point) (t : Todo) (n : Next) (w : Spelled) (o : Option Two) → IsValid b → Stood b pt → next_step pt.kernel.machines pt.view t ≡ Some n → IsStep pt.kernel.machines n.step → group_of b pt n.step ≡ Some w
+wears_or_goes : (b : Boot) (pt : Point) (t : Todo) (n : Next) (w : Spelled) (o : Option Two) → IsValid b → Stood b pt → next_step pt.kernel.machines pt t ≡ Some n → IsStep pt.kernel.machines n.step → group_of b pt n.step ≡ Some w
     → worn_in b.numbers pt.view w.lines ≡ o → (Stood b w.point → From b w.point n.left) → From b pt t
 wears_or_goes b pt t n w (Some p) valid s next fit is worn on = record {
   groups = [];
@@ -55,7 +57,7 @@ wears_or_goes b pt t n w None valid s next fit is worn on =
     let rest = on (record { steps = s.steps ++ n.step ∷ []; leads = leads; counts = counts; machines = machines_group b pt n.step w is ∙ s.machines }) in
     record { groups = w.lines ∷ rest.groups; end = rest.end; left = rest.left; run = (n, w, next, is, refl, kept, rest.run); ended = rest.ended }
 
-by_group : (b : Boot) (pt : Point) (t : Todo) (n : Next) (o : Option Spelled) → IsValid b → Stood b pt → next_step pt.kernel.machines pt.view t ≡ Some n → IsStep pt.kernel.machines n.step → group_of b pt n.step ≡ o → is_some o ≡ true
+by_group : (b : Boot) (pt : Point) (t : Todo) (n : Next) (o : Option Spelled) → IsValid b → Stood b pt → next_step pt.kernel.machines pt t ≡ Some n → IsStep pt.kernel.machines n.step → group_of b pt n.step ≡ o → is_some o ≡ true
     → ((w : Spelled) → group_of b pt n.step ≡ Some w → Stood b w.point → From b w.point n.left) → From b pt t
 by_group b pt t n None valid s next fit is some on = absurd (false≢true some)
 by_group b pt t n (Some w) valid s next fit is some on = wears_or_goes b pt t n w (worn_in b.numbers pt.view w.lines) valid s next fit is refl (on w is)
@@ -66,11 +68,11 @@ goes b pt t n valid s next fit on =
     by_group b pt t n (group_of b pt n.step) valid s (due b pt t (Some n) s next) step_ refl (goes_on_always b s.steps pt n.step valid s.leads step_) on
 
 -- where the same follows
-ended_same : (b : Boot) (pt : Point) (t u : Todo) → next_step pt.kernel.machines pt.view t ≡ next_step pt.kernel.machines pt.view u → HasEnded b pt u → HasEnded b pt t
+ended_same : (b : Boot) (pt : Point) (t u : Todo) → next_step pt.kernel.machines pt t ≡ next_step pt.kernel.machines pt u → HasEnded b pt u → HasEnded b pt t
 ended_same b pt t u e (Over x) = Over (e ∙ x)
 ended_same b pt t u e (Wears n from to next worn) = Wears n from to (e ∙ next) worn
 
-pub same_by : (b : Boot) (pt end : Point) (t u left : Todo) (gs : List (List Line)) → next_step pt.kernel.machines pt.view t ≡ next_step pt.kernel.machines pt.view u → IsRun b pt u gs end left → HasEnded b end left → From b pt t
+pub same_by : (b : Boot) (pt end : Point) (t u left : Todo) (gs : List (List Line)) → next_step pt.kernel.machines pt t ≡ next_step pt.kernel.machines pt u → IsRun b pt u gs end left → HasEnded b end left → From b pt t
 same_by b pt end t u left [] e (at, is) ended = record {
   groups = [];
   end = pt;
@@ -91,23 +93,23 @@ turns_out b (m ∷ ms) k ds valid fit rest pt s =
     (λ w is next. turns_out b ms k ds valid (All-tail (IsBelow (length b.machines)) m ms fit) rest w.point next)
 
 -- whatever pairs there were
-turn_same : (mail : ℕ → Bool) (ps qs : List Two) (all ms : List ℕ) (k : ℕ) (ds : List Directive) → next_turn (takes_turn (Round k) mail) (todo ps all k ds) ms ≡ next_turn (takes_turn (Round k) mail) (todo qs all k ds) ms
-turn_same mail ps qs all [] k ds = refl
-turn_same mail ps qs all (m ∷ ms) k ds = refl
+turn_same : (seen : Seen) (ps qs : List Two) (all ms : List ℕ) (k : ℕ) (ds : List Directive) → next_turn (takes_turn (Round k) seen) (todo ps all k ds) ms ≡ next_turn (takes_turn (Round k) seen) (todo qs all k ds) ms
+turn_same seen ps qs all [] k ds = refl
+turn_same seen ps qs all (m ∷ ms) k ds = refl
 
-in_same : (mail : ℕ → Bool) (ps qs : List Two) (ms : List ℕ) (k : ℕ) (ds : List Directive) (o : Option (Step × List Two)) → in_pass mail (todo ps ms k ds) o ≡ in_pass mail (todo qs ms k ds) o
-in_same mail ps qs ms k ds (Some d) = refl
-in_same mail ps qs ms k ds None = turn_same mail ps qs ms ms k ds
+in_same : (seen : Seen) (ps qs : List Two) (ms : List ℕ) (k : ℕ) (ds : List Directive) (o : Option (Step × List Two)) → in_pass seen (todo ps ms k ds) o ≡ in_pass seen (todo qs ms k ds) o
+in_same seen ps qs ms k ds (Some d) = refl
+in_same seen ps qs ms k ds None = turn_same seen ps qs ms ms k ds
 
 -- what follows the rounds that are left, and then the directives, as the lines say
 abbrev after : Boot → Point → ℕ → List Directive → Option Next
-after b pt k ds = next_pass (length b.machines) (undelivered pt.view) (has_mail pt.view) (is_quiet (length b.machines) pt.view) (Round k) ds
+after b pt k ds = next_pass (length b.machines) (seen_at (length b.machines) pt) (Round k) ds
 
 -- the packets of a pair
-abbrev first_on : Point → Two → Option ℕ
+abbrev pub first_on : Point → Two → Option ℕ
 first_on pt p = undelivered pt.view p.from p.to
 
-abbrev waits_on : Point → Two → ℕ
+abbrev pub waits_on : Point → Two → ℕ
 waits_on pt p = waits pt.view p.from p.to
 
 pair_step : (b : Boot) (p : Two) (ps : List Two) (ms : List ℕ) (k : ℕ) (ds : List Directive) (pt : Point) (o : Option ℕ) → IsValid b → IsTwo (length b.machines) p → Stood b pt → first_on pt p ≡ o → From b pt (todo ps ms k ds)
@@ -115,13 +117,13 @@ pair_step : (b : Boot) (p : Two) (ps : List Two) (ms : List ℕ) (k : ℕ) (ds :
 pair_step b p ps ms k ds pt None valid fit s first rest again =
     let later = next_delivery (undelivered pt.view) ps in
     let e : follows b pt (todo (p ∷ ps) ms k ds) ≡ follows b pt (todo ps ms k ds) =
-    ap (λ (o : Option ℕ). or (in_pass (has_mail pt.view) (todo (p ∷ ps) ms k ds) (here_or_later p ps o later)) (after b pt k ds)) first
-    ∙ ap (λ (o : Option Next). or o (after b pt k ds)) (in_same (has_mail pt.view) (p ∷ ps) ps ms k ds later) in
+    ap (λ (o : Option ℕ). or (in_pass (seen_at (length b.machines) pt) (todo (p ∷ ps) ms k ds) (here_or_later p ps o later)) (after b pt k ds)) first
+    ∙ ap (λ (o : Option Next). or o (after b pt k ds)) (in_same (seen_at (length b.machines) pt) (p ∷ ps) ps ms k ds later) in
     same b pt (todo (p ∷ ps) ms k ds) (todo ps ms k ds) s e rest
 pair_step b p ps ms k ds pt (Some j) valid fit s first rest again =
     let later = next_delivery (undelivered pt.view) ps in
     let e : follows b pt (todo (p ∷ ps) ms k ds) ≡ Some (record { step = Step.Deliver p.from p.to j; left = todo (p ∷ ps) ms k ds }) =
-    ap (λ (o : Option ℕ). or (in_pass (has_mail pt.view) (todo (p ∷ ps) ms k ds) (here_or_later p ps o later)) (after b pt k ds)) first in
+    ap (λ (o : Option ℕ). or (in_pass (seen_at (length b.machines) pt) (todo (p ∷ ps) ms k ds) (here_or_later p ps o later)) (after b pt k ds)) first in
     goes b pt (todo (p ∷ ps) ms k ds) (record { step = Step.Deliver p.from p.to j; left = todo (p ∷ ps) ms k ds }) valid s e (fit.from, fit.to, fit.apart)
     (λ w is next. again w.point next (fewer_wait b pt p.from p.to j w fit.apart first is))
 
@@ -144,16 +146,16 @@ some_below (suc n) h = first_of_all (below n) n
     first_of_all [] x = (x, [], refl)
     first_of_all (y ∷ ys) x = (y, ys ++ x ∷ [], refl)
 
-round_goes : (mail : ℕ → Bool) (ps : List Two) (ms : List ℕ) (m : ℕ) (rest : List ℕ) (k : ℕ) (ds : List Directive) (o : Option (Step × List Two)) (r : Option Next) → ms ≡ m ∷ rest → or (in_pass mail (todo ps ms k ds) o) r ≡ in_pass mail (todo ps ms k ds) o
-round_goes mail ps ms m rest k ds (Some d) r e = refl
-round_goes mail ps ms m rest k ds None r e = subst (λ (xs : List ℕ). or (in_pass mail (todo ps xs k ds) None) r ≡ in_pass mail (todo ps xs k ds) None) (sym e) refl
+round_goes : (seen : Seen) (ps : List Two) (ms : List ℕ) (m : ℕ) (rest : List ℕ) (k : ℕ) (ds : List Directive) (o : Option (Step × List Two)) (r : Option Next) → ms ≡ m ∷ rest → or (in_pass seen (todo ps ms k ds) o) r ≡ in_pass seen (todo ps ms k ds) o
+round_goes seen ps ms m rest k ds (Some d) r e = refl
+round_goes seen ps ms m rest k ds None r e = subst (λ (xs : List ℕ). or (in_pass seen (todo ps xs k ds) None) r ≡ in_pass seen (todo ps xs k ds) None) (sym e) refl
 
 round_out : (b : Boot) (k : ℕ) (ds : List Directive) → IsValid b → ((q : Point) → Stood b q → From b q (between k ds)) → (pt : Point) → Stood b pt → From b pt (between (suc k) ds)
 round_out b k ds valid rest pt s =
     let n = length b.machines in
     let ps = pairs_of (below n) (below n) in
     let (m, ms, some) = some_below n (some_machine b valid) in
-    let e : follows b pt (between (suc k) ds) ≡ follows b pt (todo ps (below n) k ds) = sym (round_goes (has_mail pt.view) ps (below n) m ms k ds (next_delivery (undelivered pt.view) ps) (after b pt k ds) some) in
+    let e : follows b pt (between (suc k) ds) ≡ follows b pt (todo ps (below n) k ds) = sym (round_goes (seen_at (length b.machines) pt) ps (below n) m ms k ds (next_delivery (undelivered pt.view) ps) (after b pt k ds) some) in
     same b pt (between (suc k) ds) (todo ps (below n) k ds) s e (packets_out b ps (below n) k ds valid (all_pairs n) (turns_out b (below n) k ds valid (all_below n) rest) pt s)
 
 pub rounds_out : (b : Boot) (k : ℕ) (ds : List Directive) → IsValid b → ((q : Point) → Stood b q → From b q (between 0 ds)) → (pt : Point) → Stood b pt → From b pt (between k ds)

@@ -2,6 +2,7 @@
 use Rattle.dm_runlaws.proofs.Names.{◌≡◌, ℕ, Bool, true, false, List, [], ◌∷◌, length, refl, ap, ◌∙◌, sym, subst, inl, inr, if◌then◌else◌, All, Option, None, Some, cases_Bool, false≢true, All-nil, Boot, IsValid, Directive, Settle, Next}
 use Rattle.dm_runlaws.proofs.Names.{Todo, next_pass, or, IsKept, next_step, undelivered, IsStep, Spelled, Point, has_mail, is_quiet, group_of, stands_once_always, passes_quiet, quiet_passes, IsDirective, IsTodo, IsTwo, IsBelow, next_fits}
 use Rattle.dm_runlaws.proofs.Names.{IsLess, Left, left, IsSettleStep, left_falls, Falls, by_left, settles_always}
+use Rattle.dm_rule.specs.Good.{seen_at}
 use Rattle.dm_runlaws.proofs.Runs.{From, Stood, between, follows, goes, same, same_by}
 
 -- a settle, wherever it stands, with these directives behind it
@@ -14,14 +15,14 @@ record IsSettle (b : Boot) (ds : List Directive) (t : Todo) : Type 0 where
 abbrev Comes : Boot → List Directive → Left → Type 0
 Comes b ds x = (pt : Point) (t : Todo) → Stood b pt → IsSettle b ds t → left b.numbers pt.kernel.machines pt.view ≡ x → From b pt t
 
-abbrev Rest : Boot → List Directive → Type 0
+abbrev pub Rest : Boot → List Directive → Type 0
 Rest b ds = (q : Point) → Stood b q → From b q (between 0 ds)
 
 -- where all is quiet, what is behind it follows
-goes_behind : (b : Boot) (ds : List Directive) (pt : Point) (t : Todo) → Rest b ds → Stood b pt → t.directives ≡ ds → next_step pt.kernel.machines pt.view t ≡ next_step pt.kernel.machines pt.view (between 0 t.directives) → From b pt t
+pub goes_behind : (b : Boot) (ds : List Directive) (pt : Point) (t : Todo) → Rest b ds → Stood b pt → t.directives ≡ ds → next_step pt.kernel.machines pt t ≡ next_step pt.kernel.machines pt (between 0 t.directives) → From b pt t
 goes_behind b ds pt t rest s behind e =
     let f = rest pt s in
-    same_by b pt f.end t (between 0 ds) f.left f.groups (e ∙ ap (λ (xs : List Directive). next_step pt.kernel.machines pt.view (between 0 xs)) behind) f.run f.ended
+    same_by b pt f.end t (between 0 ds) f.left f.groups (e ∙ ap (λ (xs : List Directive). next_step pt.kernel.machines pt (between 0 xs)) behind) f.run f.ended
 
 -- where something is on its way, the group that follows leaves less
 group_less : (b : Boot) (pt : Point) (n : Next) (w : Spelled) → IsValid b → Stood b pt → Stood b w.point → IsStep (length b.machines) n.step → IsSettleStep pt.view n.step → group_of b pt n.step ≡ Some w
@@ -40,8 +41,8 @@ settle_on b ds valid rest x smaller pt t s is e =
       | inl quiet ↦ goes_behind b ds pt t rest s is.behind (h.over (passes_quiet pt.kernel.machines pt.view quiet))
       | inr not_quiet ↦
           let g = h.goes (λ q. false≢true (sym not_quiet ∙ quiet_passes pt.kernel.machines pt.view q)) in
-          let due : follows b pt t ≡ Some g.next = ap (λ (k : ℕ). next_step k pt.view t) (sym s.machines) ∙ g.is in
-          let fits = next_fits n (undelivered pt.view) (has_mail pt.view) (is_quiet n pt.view) t g.next is.fits due in
+          let due : follows b pt t ≡ Some g.next = ap (λ (k : ℕ). next_step k pt t) (sym s.machines) ∙ g.is in
+          let fits = next_fits n (seen_at n pt) t g.next is.fits due in
           goes b pt t g.next valid s due fits.step
           (λ w group next.
           smaller (left b.numbers w.point.kernel.machines w.point.view) (subst (IsLess (left b.numbers w.point.kernel.machines w.point.view)) e (group_less b pt g.next w valid s next fits.step g.step group)) w.point g.next.left next
@@ -49,7 +50,7 @@ settle_on b ds valid rest x smaller pt t s is e =
     ]
 
 -- also where it begins
-none_if : (over : Bool) → ◌≡◌ {A = Option Next} (if over then None else None) None
+pub none_if : (over : Bool) → ◌≡◌ {A = Option Next} (if over then None else None) None
 none_if true = refl
 none_if false = refl
 
@@ -58,7 +59,7 @@ settle_out b ds valid fit rest pt s =
     let n = length b.machines in
     let begun : Todo = record { pairs = []; machines = []; pass = Settle; directives = ds } in
     let fits : IsTodo n begun = record { pairs = All-nil (IsTwo n); machines_ = All-nil (IsBelow n); directives = fit } in
-    let later = next_pass n (undelivered pt.view) (has_mail pt.view) (is_quiet n pt.view) Settle ds in
+    let later = next_pass n (seen_at n pt) Settle ds in
     let e : follows b pt (between 0 (Directive.Settle ∷ ds)) ≡ follows b pt begun = sym (ap (λ (o : Option Next). or o later) (none_if (is_quiet n pt.view))) in
     same b pt (between 0 (Directive.Settle ∷ ds)) begun s e
     (by_left (Comes b ds) (settle_on b ds valid rest) (left b.numbers pt.kernel.machines pt.view) pt begun s (record { fits = fits; pass = refl; behind = refl }) refl)

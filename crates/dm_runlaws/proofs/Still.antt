@@ -2,6 +2,8 @@
 use Rattle.dm_runlaws.proofs.Names.{◌≡◌, ℕ, zero, suc, Bool, true, false, List, [], ◌∷◌, ◌++◌, length, refl, ap, ◌∙◌, sym, subst, ⊤, if◌then◌else◌, Option, None, Some, All-nil, Boot, Step, Directive, Line, Pass, Two, Todo, Next}
 use Rattle.dm_runlaws.proofs.Names.{next_and_left, all_of, below, pairs_of, here_or_later, next_delivery, pass_begun, takes_turn, next_turn, in_pass, or, begin_pass, settles, next_directive, next_pass, is_over, following, next_step}
 use Rattle.dm_runlaws.proofs.Names.{undelivered, IsRun, IsStep, IsStill, AreStill, Point, first_point, has_mail, is_quiet, LeadsBy, receives_in_order, IsTwo, IsTodo, joined, machines_group, next_fits, MoveNothing, GoodInOrder}
+use Rattle.dm_line.specs.Todo.{Seen, at_rest}
+use Rattle.dm_rule.specs.Good.{seen_at}
 
 -- what follows moves nothing, and neither does what is left then
 abbrev NextStill : Option Next → Type 0
@@ -28,13 +30,13 @@ turn_still : (takes : ℕ → Bool) (t : Todo) (ms : List ℕ) → MoveNothing t
 turn_still takes t [] h = tt
 turn_still takes t (m ∷ ms) h = turn_or_later t m ms (takes m) (next_turn takes t ms) h (turn_still takes t ms h)
 
-pass_still : (mail : ℕ → Bool) (t : Todo) (d : Option (Step × List Two)) → MoveNothing t.directives → FirstStill d → NextStill (in_pass mail t d)
-pass_still mail t None h k = turn_still (takes_turn t.pass mail) t t.machines h
-pass_still mail t (Some d) h k = (k, h)
+pass_still : (seen : Seen) (t : Todo) (d : Option (Step × List Two)) → MoveNothing t.directives → FirstStill d → NextStill (in_pass seen t d)
+pass_still seen t None h k = turn_still (takes_turn t.pass seen) t t.machines h
+pass_still seen t (Some d) h k = (k, h)
 
-begun_still : (machines : ℕ) (first : ℕ → ℕ → Option ℕ) (mail : ℕ → Bool) (p : Pass) (ds : List Directive) → MoveNothing ds → NextStill (begin_pass machines first mail p ds)
-begun_still machines first mail p ds h =
-    pass_still mail (pass_begun machines p ds) (next_delivery first (pairs_of (below machines) (below machines))) h (delivery_still first (pairs_of (below machines) (below machines)))
+begun_still : (machines : ℕ) (seen : Seen) (p : Pass) (ds : List Directive) → MoveNothing ds → NextStill (begin_pass machines seen p ds)
+begun_still machines seen p ds h =
+    pass_still seen (pass_begun machines p ds) (next_delivery seen.first (pairs_of (below machines) (below machines))) h (delivery_still seen.first (pairs_of (below machines) (below machines)))
 
 or_still : (x y : Option Next) → NextStill x → NextStill y → NextStill (or x y)
 or_still None y h k = k
@@ -44,32 +46,38 @@ settles_still : (quiet : Bool) (x y : Option Next) → NextStill x → NextStill
 settles_still true x y h k = k
 settles_still false x y h k = or_still x y h k
 
-directive_still : (machines : ℕ) (first : ℕ → ℕ → Option ℕ) (mail : ℕ → Bool) (quiet : Bool) (ds : List Directive) → MoveNothing ds → NextStill (next_directive machines first mail quiet ds)
-directive_still machines first mail quiet [] h = tt
-directive_still machines first mail quiet (Directive.One s ∷ ds) h = h
-directive_still machines first mail quiet (Directive.Round ∷ ds) h = begun_still machines first mail (Pass.Round 0) ds h.1
-directive_still machines first mail quiet (Directive.Spin zero ∷ ds) h = directive_still machines first mail quiet ds h.1
-directive_still machines first mail quiet (Directive.Spin (suc n) ∷ ds) h = begun_still machines first mail (Pass.Round n) ds h.1
-directive_still machines first mail quiet (Directive.Settle ∷ ds) h =
-    settles_still quiet (begin_pass machines first mail Pass.Settle ds) (next_directive machines first mail quiet ds) (begun_still machines first mail Pass.Settle ds h.1) (directive_still machines first mail quiet ds h.1)
+directive_still : (machines : ℕ) (seen : Seen) (ds : List Directive) → MoveNothing ds → NextStill (next_directive machines seen ds)
+directive_still machines seen [] h = tt
+directive_still machines seen (Directive.One s ∷ ds) h = h
+directive_still machines seen (Directive.Round ∷ ds) h = begun_still machines seen (Pass.Round 0) ds h.1
+directive_still machines seen (Directive.Spin zero ∷ ds) h = directive_still machines seen ds h.1
+directive_still machines seen (Directive.Spin (suc n) ∷ ds) h = begun_still machines seen (Pass.Round n) ds h.1
+directive_still machines seen (Directive.Rest zero ∷ ds) h = directive_still machines seen ds h.1
+directive_still machines seen (Directive.Rest (suc n) ∷ ds) h =
+    settles_still (at_rest machines seen) (begin_pass machines seen (Pass.Rest n) ds) (next_directive machines seen ds) (begun_still machines seen (Pass.Rest n) ds h.1) (directive_still machines seen ds h.1)
+directive_still machines seen (Directive.Settle ∷ ds) h =
+    settles_still seen.quiet (begin_pass machines seen Pass.Settle ds) (next_directive machines seen ds) (begun_still machines seen Pass.Settle ds h.1) (directive_still machines seen ds h.1)
 
-later_still : (machines : ℕ) (first : ℕ → ℕ → Option ℕ) (mail : ℕ → Bool) (quiet : Bool) (p : Pass) (ds : List Directive) → MoveNothing ds → NextStill (next_pass machines first mail quiet p ds)
-later_still machines first mail quiet (Pass.Round zero) ds h = directive_still machines first mail quiet ds h
-later_still machines first mail quiet (Pass.Round (suc k)) ds h = begun_still machines first mail (Pass.Round k) ds h
-later_still machines first mail quiet Pass.Settle ds h =
-    settles_still quiet (begin_pass machines first mail Pass.Settle ds) (next_directive machines first mail quiet ds) (begun_still machines first mail Pass.Settle ds h) (directive_still machines first mail quiet ds h)
+later_still : (machines : ℕ) (seen : Seen) (p : Pass) (ds : List Directive) → MoveNothing ds → NextStill (next_pass machines seen p ds)
+later_still machines seen (Pass.Round zero) ds h = directive_still machines seen ds h
+later_still machines seen (Pass.Round (suc k)) ds h = begun_still machines seen (Pass.Round k) ds h
+later_still machines seen (Pass.Rest zero) ds h = directive_still machines seen ds h
+later_still machines seen (Pass.Rest (suc k)) ds h =
+    settles_still (at_rest machines seen) (begin_pass machines seen (Pass.Rest k) ds) (next_directive machines seen ds) (begun_still machines seen (Pass.Rest k) ds h) (directive_still machines seen ds h)
+later_still machines seen Pass.Settle ds h =
+    settles_still seen.quiet (begin_pass machines seen Pass.Settle ds) (next_directive machines seen ds) (begun_still machines seen Pass.Settle ds h) (directive_still machines seen ds h)
 
 unless_still : (over : Bool) (o : Option Next) → NextStill o → NextStill (if over then None else o)
 unless_still true o h = tt
 unless_still false o h = h
 
-next_still : (machines : ℕ) (first : ℕ → ℕ → Option ℕ) (mail : ℕ → Bool) (quiet : Bool) (t : Todo) (n : Next) → MoveNothing t.directives → following machines first mail quiet t ≡ Some n → NextStill (Some n)
-next_still machines first mail quiet t n h is =
-    let here = in_pass mail t (next_delivery first t.pairs) in
+next_still : (machines : ℕ) (seen : Seen) (t : Todo) (n : Next) → MoveNothing t.directives → following machines seen t ≡ Some n → NextStill (Some n)
+next_still machines seen t n h is =
+    let here = in_pass seen t (next_delivery seen.first t.pairs) in
     subst NextStill is
-    (or_still (if is_over t.pass quiet then None else here) (next_pass machines first mail quiet t.pass t.directives)
-    (unless_still (is_over t.pass quiet) here (pass_still mail t (next_delivery first t.pairs) h (delivery_still first t.pairs)))
-    (later_still machines first mail quiet t.pass t.directives h))
+    (or_still (if is_over machines seen t.pass then None else here) (next_pass machines seen t.pass t.directives)
+    (unless_still (is_over machines seen t.pass) here (pass_still seen t (next_delivery seen.first t.pairs) h (delivery_still seen.first t.pairs)))
+    (later_still machines seen t.pass t.directives h))
 
 -- a run
 record LeadsStill (b : Boot) (pt end : Point) (ls : List Line) : Type 0 where
@@ -80,8 +88,8 @@ record LeadsStill (b : Boot) (pt end : Point) (ls : List Line) : Type 0 where
 run_still : (b : Boot) (gs : List (List Line)) (pt end : Point) (t left : Todo) → pt.kernel.machines ≡ length b.machines → IsTodo (length b.machines) t → MoveNothing t.directives → IsRun b pt t gs end left → LeadsStill b pt end (joined gs)
 run_still b [] pt end t left machines todo none run = record { steps = []; still = tt; leads = (refl, run.0) }
 run_still b (g ∷ gs) pt end t left machines todo none (n, w, due, is, said, kept, rest) =
-    let fits = next_fits (length b.machines) (undelivered pt.view) (has_mail pt.view) (is_quiet (length b.machines) pt.view) t n todo (sym (ap (λ (k : ℕ). next_step k pt.view t) machines) ∙ due) in
-    let still = next_still pt.kernel.machines (undelivered pt.view) (has_mail pt.view) (is_quiet pt.kernel.machines pt.view) t n none due in
+    let fits = next_fits (length b.machines) (seen_at (length b.machines) pt) t n todo (sym (ap (λ (k : ℕ). next_step k pt t) machines) ∙ due) in
+    let still = next_still pt.kernel.machines (seen_at pt.kernel.machines pt) t n none due in
     let more = run_still b gs w.point end n.left left (machines_group b pt n.step w is ∙ machines) fits.left still.1 rest in
     record {
       steps = n.step ∷ more.steps;

@@ -41,7 +41,7 @@ no_more : (b : Boot) (fin end : Point) (rest left : Todo) (more : List (List Lin
 no_more b fin end rest left [] ended run = refl
 no_more b fin end rest left (g ∷ gs) (Over none) (n, w, next, is, said, kept, later) = absurd (let f : None ≡ Some n = sym none ∙ next in cc)
 no_more b fin end rest left (g ∷ gs) (Wears m from to due worn) (n, w, next, is, said, kept, later) =
-    let same : m ≡ n = some_is (next_step fin.kernel.machines fin.view rest) m n due next in
+    let same : m ≡ n = some_is (next_step fin.kernel.machines fin rest) m n due next in
     absurd (not_worn b fin n w from to is kept (subst (λ (x : Next). IsWorn b fin x.step from to) same worn))
 
 shorter_or : (m n : ℕ) → (m ≤ n) ⊎ (n ≤ m)

@@ -24,6 +24,7 @@ MovesNothing (directive.One s) = IsStill s
 MovesNothing directive.Round = ⊤
 MovesNothing (directive.Spin n) = ⊤
 MovesNothing directive.Settle = ⊤
+MovesNothing (directive.Rest n) = ⊤
 
 abbrev pub MoveNothing : List Directive → Type 0
 MoveNothing [] = ⊤

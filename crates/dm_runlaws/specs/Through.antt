@@ -15,8 +15,8 @@ use Rattle.dm_mirror.specs.Todo.{IsDirective}
 
 -- a run has come to its end: no directive is left, or the next one wears a pair of machines
 pub data HasEnded (b : Boot) (pt : Point) (left : Todo) : Type 0 where
-  Over : next_step pt.kernel.machines pt.view left ≡ None → HasEnded b pt left
-  Wears : (n : Next) → (from to : ℕ) → next_step pt.kernel.machines pt.view left ≡ Some n → IsWorn b pt n.step from to → HasEnded b pt left
+  Over : next_step pt.kernel.machines pt left ≡ None → HasEnded b pt left
+  Wears : (n : Next) → (from to : ℕ) → next_step pt.kernel.machines pt left ≡ Some n → IsWorn b pt n.step from to → HasEnded b pt left
 
 -- a good run for these directives that has
 pub record Ending (b : Boot) (ds : List Directive) : Type 0 where

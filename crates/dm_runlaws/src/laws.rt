@@ -1,8 +1,15 @@
 //! What holds of good groups for the directives of a schedule.
+ghost use Rattle.dm_runlaws.specs.Leading.{GoodIsOfRule};
 ghost use Rattle.dm_runlaws.specs.Order.{GoodInOrder};
 ghost use Rattle.dm_runlaws.specs.Packets.{PacketsAgree, PacketsSpell};
-ghost use Rattle.dm_runlaws.specs.Settling.{SettleFew};
+ghost use Rattle.dm_runlaws.specs.Settling.{SettleFew, SettlesFromStart};
 ghost use Rattle.dm_runlaws.specs.Through.{AllBegin, RunsThrough};
+
+/// Good groups for directives for these machines are a run by the rule, by their lines and by elementary directives one by one: so each
+/// law of such runs, whichever of both it asks for, speaks of printed lines.
+pub fn good_is_of_rule()
+    ensures { GoodIsOfRule }
+{}
 
 /// For each boot file that a system may start with and directives for its machines there is a good run that has come to
 /// an end: no directive is left, or the group of the next would route a message between two machines that count as many
@@ -40,4 +47,10 @@ pub fn packets_agree()
 /// begins, M the number of machines.
 pub fn settle_few()
     ensures { SettleFew }
+{}
+
+/// Wherever the rule leads from a boot file, a settle of which nothing is done yet is over where nothing is on its way, and what is behind
+/// it follows; where something is, it goes on as one that has begun (`dm_settlelaws::laws::settles_always`).
+pub fn settles_from_start()
+    ensures { SettlesFromStart }
 {}

@@ -203,6 +203,7 @@ accepts_row b m pt l records k y p c a is handles some_ whole table =
       line = Line.Migration Stage.Accepted p;
       what = What.PullState p 0;
       state = state;
+      over_is = refl;
       box = box;
       known = now;
       asked = asked;

@@ -1,10 +1,10 @@
 -- What a machine and the rule do with a message about a process that comes, and where the lines of it lead.
-use Rattle.dm_mirror.proofs.Names.{◌≡◌, ℕ, ◌/◌, Bool, true, false, List, [], ◌∷◌, length, refl, ap, ◌∙◌, sym, subst, if◌then◌else◌, slice_get, Option, Some, Pid, pid_eq, Message, MsgId, kind_of, Record, incoming_of, Wanted, Chunk, Nothing}
-use Rattle.dm_mirror.proofs.Names.{Arrival, pull, with_piece, coming, Boot, bind, plain_process, pid_eq-same, Line, told_step, to_kernel, is_early, Point, after, fits, free_room, taken_at, Incoming, Known, Of, Placed, room_of, piece_line}
-use Rattle.dm_mirror.proofs.Names.{takes_piece, took_piece, kernel_handles, KernelState, about_of, ComesStand, KnownStands, RoomStands, AllRecords, Carries, IsAsked, ◌+◌, ◌==◌, MessageKind, Step, Stage, arith, nat_tests, kind_comes}
-use Rattle.dm_mirror.proofs.Names.{outcome, at_pid, without_front, About, Turned, turn, apart_is, expects_is, not, nat_lt, What, Block, after_chunk, is_last, ComesByPieces, by_pieces, chunks_of, pieces_of, takes_block, takes_chunk, Wants}
-use Rattle.dm_mirror.proofs.Names.{sort_of, drop, Cargo, CanCome, CanBeCarried, IsSuch, PlainProcess, comes_to, hears, kernel_hears, told_of, Addresses, None, OneKernel, View, enclosed, goes_between, is_between, own_given, plain_what}
-use Rattle.dm_mirror.proofs.Names.{tells_onward, hears_piece, says_stale}
+use Rattle.dm_mirror.proofs.Names.{turns, ◌≡◌, ℕ, ◌/◌, Bool, true, false, List, [], ◌∷◌, length, refl, ap, ◌∙◌, sym, subst, if◌then◌else◌, slice_get, Option, Some, Pid, pid_eq, Message, MsgId, kind_of, Record, incoming_of, Wanted, Chunk}
+use Rattle.dm_mirror.proofs.Names.{Nothing, Arrival, pull, with_piece, coming, Boot, bind, plain_process, pid_eq-same, Line, told_step, to_kernel, is_early, Point, after, fits, free_room, taken_at, Incoming, Known, Of, Placed, room_of}
+use Rattle.dm_mirror.proofs.Names.{piece_line, takes_piece, took_piece, kernel_handles, KernelState, about_of, ComesStand, KnownStands, RoomStands, AllRecords, Carries, IsAsked, ◌+◌, ◌==◌, MessageKind, Step, Stage, arith, nat_tests}
+use Rattle.dm_mirror.proofs.Names.{kind_comes, outcome, at_pid, without_front, About, Turned, turn, apart_is, expects_is, not, nat_lt, What, Block, after_chunk, is_last, ComesByPieces, by_pieces, chunks_of, pieces_of, takes_block}
+use Rattle.dm_mirror.proofs.Names.{takes_chunk, Wants, sort_of, drop, Cargo, CanCome, CanBeCarried, IsSuch, PlainProcess, comes_to, hears, kernel_hears, told_of, Addresses, None, OneKernel, View, enclosed, goes_between, is_between}
+use Rattle.dm_mirror.proofs.Names.{own_given, plain_what, tells_onward, hears_piece, says_stale}
 use Rattle.dm_rule.proofs.Names.{Part}
 use Rattle.dm_kernel.specs.declared.part.Part.TheVariants as part
 use Rattle.dm_kernel.specs.State as machine
@@ -20,7 +20,7 @@ use Rattle.dm_mirror.proofs.Leave.Fronts.{to_kernel_hears}
 use Rattle.dm_onekernel.specs.Step as kernel
 use Rattle.dm_rule.specs.Rule as ruled
 
-pub turn_kernel : (b : Boot) (m : ℕ) (pt : Point) (l : Placed) (records : AllRecords) (k : KernelState) (y : Message) (p : Pid) (c : Comes b m pt l records k y p) (a : Arrives b m pt l k y p) (o : Option Turned) → kernel_handles b (record k { inbox = c.rest }) y y.what ≡ o → turn b k ≡ o
+pub turn_kernel : (b : Boot) (m : ℕ) (pt : Point) (l : Placed) (records : AllRecords) (k : KernelState) (y : Message) (p : Pid) (c : Comes b m pt l records k y p) (a : Arrives b m pt l k y p) (o : Option Turned) → kernel_handles b (record k { inbox = c.rest }) y y.what ≡ o → turns b k k.inbox ≡ o
 turn_kernel b m pt l records k y p c a o e = grind (arith, nat_tests, if_true)
 
 pub outcome_kernel : (b : Boot) (m : ℕ) (pt : Point) (l : Placed) (records : AllRecords) (k : KernelState) (y : Message) (p : Pid) (c : Comes b m pt l records k y p) (a : Arrives b m pt l k y p) (o : Option (List Part))
@@ -111,6 +111,7 @@ turns_piece b m pt l records k y p c a h =
       line = h.line;
       what = pull a.cargo.pid h.wanted;
       state = state;
+      over_is = refl;
       box = h.box;
       known = pt.view.known;
       asked = h.asked;

@@ -129,6 +129,7 @@ turns_restart b m pt l records k y p q c e =
           (are_both l.bag (v.held m p) c.ids h.arrival.held c.rest h.comes_.held c.others))
           stands.made (room_stays k.room _ _ _ (taken_same pt next m refl (λ n. refl) (λ q. taken_at_record pt next m p q Here refl refl (sym (ap takes_room incoming)))) stands.room) stands.servers;
       sent = λ count. count;
+      over = refl;
       elsewhere = search (boxes, machine_off, record_away, processes);
       own = λ i z f plain. let g = c.own i z f plain in record { told = g.told; mine = g.mine; sender = g.sender };
       tokens = tokens_one v next.view l placed records (at_machine records m state.records) p (record {

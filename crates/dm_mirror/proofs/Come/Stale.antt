@@ -4,7 +4,7 @@ use Rattle.dm_mirror.proofs.Names.{Point, moved, incoming_of, kernel_handles, Ke
 use Rattle.dm_mirror.proofs.Names.{mirrors_view, hears_piece, is_expected, says_stale, takes_piece, is_stale, is_waited_from, brings_piece, false_from_ne_true}
 use Rattle.dm_onekernel.specs.Step as kernel
 use Rattle.dm_rule.specs.Parts as rule
-use Rattle.dm_mirror.proofs.Turning.{Nothing, TurnsAt, begun}
+use Rattle.dm_mirror.proofs.Turning.{NoneEnds, Nothing, TurnsAt, begun}
 use Rattle.dm_mirror.proofs.LeftOver.{tokens_less}
 use Rattle.dm_mirror.proofs.Recorded.{expected_waits}
 use Rattle.dm_mirror.proofs.Rooms.{taken_same}
@@ -49,7 +49,7 @@ turns_stale b m pt l records k y p h about number handles stale =
       elsewhere = search;
       may = tt;
       late_may = tt;
-      single = omega arith;
+      over = NoneEnds refl (λ q. refl);
       topic = tt;
       own = own_stays v next.view l refl h.own;
       tokens = tokens_less v next.view l records (at_machine records m k.records) (λ i. refl) (λ q. refl) (λ n q. refl) (λ n q. records_as records m n k.records k.records q h.records_here refl)

@@ -1,5 +1,5 @@
 -- A turn that handles such a message says a line and answers, or says a line alone; what it leaves as it was.
-use Rattle.dm_mirror.proofs.Names.{◌≡◌, ◌≢◌, ℕ, ◌+◌, ◌≤◌, ◌==◌, Bool, true, false, List, [], ◌∷◌, map, refl, ap, ◌∙◌, sym, subst, arith, if◌then◌else◌, slice_get, Option, None, Some, false≢true, nat_tests, Addr, Pid, pid_eq, pid_of}
+use Rattle.dm_mirror.proofs.Names.{turns, ◌≡◌, ◌≢◌, ℕ, ◌+◌, ◌≤◌, ◌==◌, Bool, true, false, List, [], ◌∷◌, map, refl, ap, ◌∙◌, sym, subst, arith, if◌then◌else◌, slice_get, Option, None, Some, false≢true, nat_tests, Addr, Pid, pid_eq, pid_of}
 use Rattle.dm_mirror.proofs.Names.{place_of, kernel_at, Message, MsgId, What, id_of, kind_of, plain_what, with_what, Step, incoming_of, Boot, id_eq-same, Line, Addresses, Gets, Receiver, Sender, given, goes_between, own_given, unmoved}
 use Rattle.dm_mirror.proofs.Names.{to_kernel, is_between, tells_onward, Point, after, outcome, taken_at, at_machine, Spot, Inbox, standing, times, Known, Of, View, once_at, is_server, Placed, enclosed, mirrors_view, room_of, KernelState}
 use Rattle.dm_mirror.proofs.Names.{own, turn, about_of, told_of, KnownStands, RoomStands, AllRecords, Carries, TokensStand, destination_of, eq_is, sort_of, ◌⊎◌, inl, inr, Moves, Told, is_due_piece}
@@ -7,7 +7,7 @@ use Rattle.dm_rule.proofs.Names.{Part}
 pub use Rattle.dm_rule.proofs.Lines.{eq_self, at_machine_at as machine_self}
 pub use Rattle.dm_mirror.proofs.Leave.Answered.{with_view as come_point}
 use Rattle.dm_mirror.proofs.Come.Frames.{Arrives, Comes, fresh_own, own_once, times_self}
-use Rattle.dm_mirror.proofs.Turning.{IsCarried, MayOwn, Nothing, Own, TurnsAt, begun}
+use Rattle.dm_mirror.proofs.Turning.{NoneEnds, own_first, IsCarried, MayOwn, Nothing, Own, TurnsAt, begun}
 pub use Rattle.dm_mirror.proofs.End.Servers.{off as eq_off}
 use Rattle.dm_mirror.proofs.Handle.Taking.{machine_off, stands_set}
 use Rattle.dm_mirror.proofs.Leave.Fronts.{records_as, tokens_one, untold_next as next_untold}
@@ -51,7 +51,7 @@ pub record Answer (b : Boot) (m : ℕ) (pt : Point) (l : Placed) (records : AllR
   pub known : ℕ → Pid → Known
   pub asked : Pid → ℕ
   pub come : Pid → Bool
-  pub turn : turn b k ≡ Some (record { state = state; parts = part.Says line ∷ part.Routes (own k y.sender what) ∷ [] })
+  pub turn : turns b k k.inbox ≡ Some (record { state = state; parts = part.Says line ∷ part.Routes (own k y.sender what) ∷ [] })
   pub outcome : outcome b pt (Step.Turn m) ≡ Some (Part.Says line ∷ to_kernel (kind_of what) y.id.from.home ∷ [])
   pub after : after (begun pt m) (line ∷ []) ≡ Some (come_point pt (come_view pt.view m p box known asked come))
   pub is_box : box ≡ c.ids
@@ -68,6 +68,7 @@ pub record Answer (b : Boot) (m : ℕ) (pt : Point) (l : Placed) (records : AllR
   pub made : state.made ≡ k.made
   pub sent : state.sent ≡ k.sent + 1
   pub servers : state.servers ≡ k.servers
+  pub over_is : state.over ≡ k.over
   pub room : RoomStands state.room (room_of (slice_get b.machines m)) (taken_at (come_point pt (come_view pt.view m p box known asked come)) m pt.kernel.machines)
   pub mine : KnownStands (come_point pt (come_view pt.view m p box known asked come)) l p (pt.view.queue m p) (pt.view.held m p) (known m p) (state.records p)
   -- the answer
@@ -110,7 +111,7 @@ tokens_kept b m pt l records k y p c a box known asked come s is_box asked_off r
 
 -- the next message of the kernel may be put
 may_answer : (b : Boot) (m : ℕ) (pt : Point) (l : Placed) (records : AllRecords) (k : KernelState) (y : Message) (p : Pid) (c : Comes b m pt l records k y p) (a : Arrives b m pt l k y p) (h : Answer b m pt l records k y p c a)
-    → MayOwn (come_point pt (come_view pt.view m p h.box h.known h.asked h.come)) l (at_machine records m h.state.records) (own k y.sender h.what)
+    → MayOwn (come_point pt (come_view pt.view m p h.box h.known h.asked h.come)) l (at_machine records m h.state.records) 0 (own k y.sender h.what)
 may_answer b m pt l records k y p c a h =
     let v = come_view pt.view m p h.box h.known h.asked h.come in
     let x = own k y.sender h.what in
@@ -121,7 +122,7 @@ may_answer b m pt l records k y p c a h =
     let known : at_machine records m h.state.records (destination_of x.id (told_of x)) p ≡ h.state.records p =
     ap (λ (n : ℕ). at_machine records m h.state.records n p) (ap (λ (d : Bool). if d then y.sender.pid.home else k.here) h.is_reply ∙ here) ∙ (λ i. machine_self records m h.state.records i p) in
     record {
-      id = id;
+      id = id ∙ own_first v;
       plain = ap (with_what x) h.plain;
       encloses = h.encloses;
       bag = fresh_own b pt l x.id c.run c.mirrors c.own refl untold;
@@ -162,7 +163,7 @@ turns_answer b m pt l records k y p c a h =
       elsewhere = search (machine_off, h.known_away);
       may = (may_answer b m pt l records k y p c a h, tt);
       late_may = tt;
-      single = omega arith;
+      over = NoneEnds h.over_is (λ q. refl);
       topic = tt;
       own = λ i z there plain. let s = c.own i z there plain in record { told = s.told; mine = s.mine; sender = s.sender };
       tokens = tokens_kept b m pt l records k y p c a h.box h.known h.asked h.come h.state h.is_box h.asked_off h.records_off h.known_off h.over;

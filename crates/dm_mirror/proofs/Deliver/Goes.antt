@@ -23,7 +23,7 @@ use Rattle.dm_mirror.proofs.Deliver.Outs.{acked_stands, begun, come_to, early_st
 
 -- the world of a delivery before the machine acts
 abbrev marked_world : WorldState → ℕ → ℕ → ℕ → WorldState
-marked_world w a c k = record { nodes = w.nodes; wires = after_mark w.wires a c k; groups = w.groups + 1 }
+marked_world w a c k = record { nodes = w.nodes; wires = after_mark w.wires a c k; ended = w.ended; groups = w.groups + 1 }
 
 module _ (b : Boot) (w : WorldState) (pt : Point) (l : Placed) (h : History) (a c k : ℕ) (s : StandsWith b w pt l h) (a_in : a < pt.kernel.machines) (c_in : c < pt.kernel.machines) (apart : a ≢ c) where
   there : PairStands b pt l w h a c

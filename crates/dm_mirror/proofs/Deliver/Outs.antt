@@ -255,7 +255,7 @@ begun pt a c k = moved pt (Line.Head (Step.Deliver a c k)) pt.kernel
 
 -- the world behind the mark, where machine c is so
 abbrev pub come_to : WorldState → ℕ → ℕ → ℕ → NodeState → WorldState
-come_to w a c k n = record { nodes = at_machine w.nodes c n; wires = after_mark w.wires a c k; groups = w.groups + 1 }
+come_to w a c k n = record { nodes = at_machine w.nodes c n; wires = after_mark w.wires a c k; ended = w.ended; groups = w.groups + 1 }
 
 abbrev pub marked_in : History → ℕ → ℕ → ℕ → History
 marked_in h a c k = record h { packets = at_pair h.packets a c (marked (h.packets a c) k) }

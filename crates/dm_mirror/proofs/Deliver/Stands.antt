@@ -14,7 +14,7 @@ use Rattle.dm_mirror.proofs.Streams.{Joined, apart_is, at_again, at_here, at_oth
 
 -- the world after machine c has acted, but for the count of directives
 abbrev pub acted_on : WorldState → ℕ → Acted → WorldState
-acted_on w c d = record { nodes = at_machine w.nodes c d.state; wires = (spoken w.wires d.outs).wires; groups = w.groups }
+acted_on w c d = record { nodes = at_machine w.nodes c d.state; wires = (spoken w.wires d.outs).wires; ended = w.ended; groups = w.groups }
 
 pub record Follows (b : Boot) (c : ℕ) (w : WorldState) (pt : Point) (l : Placed) (d : Acted) (ps : List Part) : Type 0 where
   pub end : Spelled
@@ -31,7 +31,7 @@ nothing b c w pt l h n e s = record {
   lines = refl;
   history = h;
   stands = (let kept : w.nodes ≡ at_machine w.nodes c n = sym (at_same w.nodes c) ∙ ap (at_machine w.nodes c) e in
-      let same : w ≡ acted_on w c (record { state = n; outs = [] }) = λ i. record { nodes = kept i; wires = w.wires; groups = w.groups } in
+      let same : w ≡ acted_on w c (record { state = n; outs = [] }) = λ i. record { nodes = kept i; wires = w.wires; ended = w.ended; groups = w.groups } in
       subst (λ (v : WorldState). StandsWith b v pt l h) same s);
 }
 
@@ -43,7 +43,7 @@ says_on b c w pt q l n x y d ps same next f = record {
   spells = search (f.spells);
   lines = λ i. same i ∷ f.lines i;
   history = f.history;
-  stands = (let again : acted_on (record w { nodes = at_machine w.nodes c n }) c d ≡ acted_on w c d = λ i. record { nodes = at_again w.nodes c n d.state i; wires = (spoken w.wires d.outs).wires; groups = w.groups } in
+  stands = (let again : acted_on (record w { nodes = at_machine w.nodes c n }) c d ≡ acted_on w c d = λ i. record { nodes = at_again w.nodes c n d.state i; wires = (spoken w.wires d.outs).wires; ended = w.ended; groups = w.groups } in
       subst (λ (v : WorldState). StandsWith b v f.end.point l f.history) again f.stands);
 }
 
@@ -55,7 +55,7 @@ sends_on b c w pt q l n p from to carried d ps same next f = record {
   spells = search (f.spells);
   lines = λ i. same i ∷ f.lines i;
   history = f.history;
-  stands = (let again : acted_on (record w { nodes = at_machine w.nodes c n; wires = with_packet w.wires p }) c d ≡ acted_on w c (before (Sends p ∷ []) d) = λ i. record { nodes = at_again w.nodes c n d.state i; wires = (spoken (with_packet w.wires p) d.outs).wires; groups = w.groups } in
+  stands = (let again : acted_on (record w { nodes = at_machine w.nodes c n; wires = with_packet w.wires p }) c d ≡ acted_on w c (before (Sends p ∷ []) d) = λ i. record { nodes = at_again w.nodes c n d.state i; wires = (spoken (with_packet w.wires p) d.outs).wires; ended = w.ended; groups = w.groups } in
       subst (λ (v : WorldState). StandsWith b v f.end.point l f.history) again f.stands);
 }
 
@@ -199,6 +199,7 @@ module _ (b : Boot) (w : WorldState) (pt : Point) (l : Placed) (h : History) (a 
   moves_stand = record {
     mirrors = mirrors_same b pt l next.view s.mirrors;
     groups = s.groups;
+    ended = s.ended;
     nodes = λ d few. nodes_are b pt l next.view c w.nodes after.nodes (at_other w.nodes c n) e.boxes (λ z off. e.ids z z) (subst (NodeStands b next l c) (sym (at_here w.nodes c n)) e.node) d (s.nodes d few);
     pairs = λ x y few less differ. pairs_are b pt next l w after h later a c there_is back_is
         (λ x y t u. search (other_sender x y u, other_receiver x y t, e.on_packets x y t, e.on_packets y x (grind (arith, nat_tests)), e.on_wires x y t, e.pairs x y t u)) x y (s.pairs x y few less differ);

@@ -2,9 +2,10 @@
 use Rattle.dm_mirror.proofs.Names.{View, ◌≡◌, ◌≢◌, ◌⊎◌, ℕ, ◌<◌, true, false, is_some, List, refl, ap, ◌∙◌, sym, subst, inl, inr, arith, option_map, Option, None, Some, nat_tests, Pid, pid_of, MessageKind, Record, About, with_what, Process}
 use Rattle.dm_mirror.proofs.Names.{incoming_of, Arrival, Nothing, Boot, Alive, plain_process, EndLine, Standing, or, list_line, Stood, stood_at, first_with, is_away, is_due, Point, Known, Unknown, Incoming, Ended, Told, not_true, is_server}
 use Rattle.dm_mirror.proofs.Names.{Run, Placed, WorldState, alive_lines, awaited_lines, come_lines, first_awaited, first_had, first_says, lines_in, record_lines, record_queue, told_of, History, KnownStands, StandsWith, Wants, alive-is, []}
-use Rattle.dm_mirror.proofs.Names.{Message, MsgId, What, kind_of, Here, Frozen, Forward, come_whole, held_for, names_of, has_nothing_held, AreMessages, ComesStand, Carries, ended_is, ◌≤◌, ◌∷◌, length, map, IfSome, IsValid, Manager}
-use Rattle.dm_mirror.proofs.Names.{plain_child, IsLawfulPair, Servers, Step, Leads, first_point, HasPlainEnd, EndMay, servers_at, Cargo}
+use Rattle.dm_mirror.proofs.Names.{Message, MsgId, What, kind_of, Here, Frozen, Forward, come_whole, held_for, names_of, has_nothing_held, AreMessages, ComesStand, Carries, ◌≤◌, ◌∷◌, length, map, IfSome, IsValid, Manager, plain_child}
+use Rattle.dm_mirror.proofs.Names.{IsLawfulPair, Servers, Step, Leads, first_point, HasPlainEnd, EndMay, servers_at, Cargo, PlainProcess, agrees, ended_of}
 use Rattle.dm_migrate.specs.Way.{moved}
+use Rattle.dm_onekernel.specs.Step as kernel
 use Rattle.dm_rule.specs.Ends as rule
 use Rattle.dm_kernel.specs.State as machine
 use Rattle.dm_world.specs.Ends as world
@@ -43,7 +44,7 @@ is_at pt l p q held m s (Frozen to) (Some (Record.Frozen x)) e h = grind (arith,
 is_at pt l p q held m s Unknown None e h = cc
 is_at pt l p q held m s (Incoming from) (Some (Record.Incoming x)) e h = cc
 is_at pt l p q held m s (Forward at moves) (Some (Record.Forward x y)) e h = cc
-is_at pt l p q held m s Ended (Some (Record.Ended x)) e h = cc
+is_at pt l p q held m s Ended (Some Record.Ended) e h = cc
 is_at pt l p q held m s k r e h = absurd h
 
 -- the message that lets a process restart tells that all of it has come
@@ -124,6 +125,10 @@ module _ (b : Boot) (w : WorldState) (pt : Point) (l : Placed) (h : History) (p 
   alive_of : (x : Process) → l.processes p ≡ Some x → pt.kernel.processes p ≡ Some (Alive (plain_process x))
   alive_of x placed = alive-is (pt.kernel.processes p) (plain_process x) (g.stands.mirrors.plain.processes p ∙ ap (option_map plain_process) placed)
 
+  -- one that is alive hasn't ended
+  not_ended : (x : PlainProcess) → pt.kernel.processes p ≡ Some (Alive x) → w.ended p ≡ None
+  not_ended x alive = g.stands.ended p ∙ ap kernel.why_ended alive
+
   -- a process that a machine has
   at_machine : (a : HasIt pt.view p) → IsAt l p (pt.view.queue a.at p) a.at a.standing ((w.nodes a.at).kernel.records p)
   at_machine a =
@@ -136,7 +141,8 @@ module _ (b : Boot) (w : WorldState) (pt : Point) (l : Placed) (h : History) (p 
       let x = i.process in
       let stood : rule.stood pt.view p pt.kernel.machines ≡ (Some (record { at = a.at; standing = a.standing })) =
       ap (λ (o : Option Stood). or o (first_with rule.awaits pt.view p pt.kernel.machines)) (with_at a.at below a.others ∙ ap (stood_at a.at) a.known) in
-      ap (λ (o : Option (List EndLine)). lines_in (or o (first_awaited pt.kernel.machines w p))) (had_at a.at below a.others ∙ i.lines)
+      ap (world.lines_by pt.kernel.machines w p) (not_ended (plain_process x) (alive_of (record x { queue = i.rest }) i.placed))
+      ∙ ap (λ (o : Option (List EndLine)). lines_in (or o (first_awaited pt.kernel.machines w p))) (had_at a.at below a.others ∙ i.lines)
       ∙ (alive_same pt.addresses a.at p a.standing x (g.stands.mirrors.places.process p (record x { queue = i.rest }) i.placed).slots
       ∙ (ap (rule.alive_lines pt.addresses p (plain_process x)) (sym stood) ∙ ap (rule.process_lines pt p) (sym (alive_of (record x { queue = i.rest }) i.placed))))
 
@@ -155,15 +161,14 @@ module _ (b : Boot) (w : WorldState) (pt : Point) (l : Placed) (h : History) (p 
 
   over_said : (a : OverAt pt.view p) → world.process_lines pt.kernel.machines w p ≡ rule.process_lines pt p (pt.kernel.processes p)
   over_said a =
-      let e = over_machine a in
-      ap (λ (o : Option (List EndLine)). lines_in (or o (first_awaited pt.kernel.machines w p))) (had_at a.at (within_over a) a.others ∙ ap (record_lines a.at p) e.1)
-      ∙ ap (rule.process_lines pt p) (sym (ended_is (pt.kernel.processes p) e.0 e.2))
+      let (y, life) = ended_of (pt.kernel.processes p) (sym (ap (λ (n : Known). agrees n (pt.kernel.processes p)) a.known) ∙ g.run.based.known.agree a.at p g.server) in
+      ap (world.lines_by pt.kernel.machines w p) (g.stands.ended p ∙ ap kernel.why_ended life) ∙ ap (rule.process_lines pt p) (sym life)
 
   over_queue : (a : OverAt pt.view p) → world.queue_of pt.kernel.machines w p ≡ rule.queue_at pt.view p (first_with rule.standing_of pt.view p pt.kernel.machines)
   over_queue a =
       let below = within_over a in
       queue_by a.at below a.others
-      ∙ (ap (λ (r : Option machine.KernelKnown). lines_in (record_queue p r)) (over_machine a).1
+      ∙ (ap (λ (r : Option machine.KernelKnown). lines_in (record_queue p r)) (over_machine a)
       ∙ ap (rule.queue_at pt.view p) (sym (with_at a.at below a.others ∙ ap (λ (k : Known). stood_at a.at (rule.standing_of k)) a.known)))
 
   to_machine : (a : ComesTo pt.view p) → Recorded pt l p (pt.view.queue a.to p) (pt.view.held a.to p) (Incoming a.from) ((w.nodes a.to).kernel.records p)
@@ -201,7 +206,8 @@ module _ (b : Boot) (w : WorldState) (pt : Point) (l : Placed) (h : History) (p 
       first_at (first_with rule.awaits pt.view p) (λ m. stood_at m (rule.awaits (pt.view.known m p))) a.to n refl (λ m. refl) below (λ m less apart. ap (stood_at m) (away_awaits (pt.view.known m p) (a.others m apart)))
       ∙ ap (λ (k : Known). stood_at a.to (rule.awaits k)) a.known in
       let stood : rule.stood pt.view p n ≡ there = ap (λ (o : Option Stood). or o (first_with rule.awaits pt.view p n)) has ∙ awaits in
-      ap (λ (o : Option (List EndLine)). lines_in (or o (first_awaited n w p))) had
+      ap (world.lines_by n w p) (not_ended (plain_process x) (alive_of x there_))
+      ∙ ap (λ (o : Option (List EndLine)). lines_in (or o (first_awaited n w p))) had
       ∙ (ap lines_in awaited
       ∙ (alive_same pt.addresses a.to p Standing.Arriving (moved x) (g.stands.mirrors.places.process p x there_).slots
       ∙ (ap (rule.alive_lines pt.addresses p (plain_process x)) (sym stood) ∙ ap (rule.process_lines pt p) (sym (alive_of x there_)))))

@@ -6,7 +6,7 @@ use Rattle.dm_mirror.proofs.Names.{no_child, AllOwnStand, KernelStands, AllRecor
 use Rattle.dm_mirror.proofs.Names.{own_sort, Part, option_map_or}
 use Rattle.dm_kernel.specs.State.{with_sent}
 use Rattle.dm_mirror.proofs.Follow.Forwards.{next_free, next_untold, forwards_turn, held_coming, held_leaving}
-use Rattle.dm_mirror.proofs.Turning.{MayOwn, Nothing, Own, Turns, TurnsAt}
+use Rattle.dm_mirror.proofs.Turning.{NoneEnds, own_first, MayOwn, Nothing, Own, Turns, TurnsAt}
 use Rattle.dm_mirror.proofs.Follow.Updates.{updated_board_turn, updated_here_turn, updated_manager_turn, no_move_turn, updated_ended_turn}
 use Rattle.dm_mirror.proofs.Follow.Fronts.{Fronts, at_front}
 use Rattle.dm_mirror.proofs.LeftOver.{tokens_less}
@@ -62,7 +62,7 @@ asked_line b pt l records k c p to said turn is goes = record {
   elsewhere = search;
   may = tt;
   late_may = tt;
-  single = omega arith;
+  over = NoneEnds refl (λ q. refl);
   topic = tt;
   own = own_asked b pt l records k c p to;
   tokens = tokens_asked b pt l records k c p to;
@@ -82,7 +82,7 @@ named_is (d ∷ ds) p c e = elim (cases_Bool (pid_eq d.pid p)) [
 abbrev move_of : KernelState → Addr → ℕ → Message
 move_of k child to = record { id = machine.own_id k; to = child; sender = address_at 0; what = What.Migrate to }
 
-move_may : (b : Boot) (pt : Point) (l : Placed) (records all : AllRecords) (k : KernelState) (c : Asks b pt l records k) (p : Pid) (to : ℕ) (child : Addr) → child_named p l.manager.children ≡ Some child → MayOwn (asked_point pt p to) l all (move_of k child to)
+move_may : (b : Boot) (pt : Point) (l : Placed) (records all : AllRecords) (k : KernelState) (c : Asks b pt l records k) (p : Pid) (to : ℕ) (child : Addr) → child_named p l.manager.children ≡ Some child → MayOwn (asked_point pt p to) l all 0 (move_of k child to)
 move_may b pt l records all k c p to child found =
     let named : machine.own_id k ≡ id_of (pid_of 0 0) (pt.view.count 0) = λ i. record { from = pid_of (c.stands.here i) 0; n = c.counted i; answer = false } in
     let (n, number, place) = child_place pt.kernel pt.view pt.addresses l p child c.mirrors found in
@@ -90,7 +90,7 @@ move_may b pt l records all k c p to child found =
     let i = machine.own_id k in
     let to_child : option_map_or (λ c. pt.addresses (Child c)) (child_number pt.kernel child.pid) (unmoved 0) ≡ place_of child = ap (λ (q : Pid). option_map_or (λ c. pt.addresses (Child c)) (child_number pt.kernel q) (unmoved 0)) is ∙ ap (λ (o : Option ℕ). option_map_or (λ c. pt.addresses (Child c)) o (unmoved 0)) number ∙ place in
     record {
-      id = named;
+      id = named ∙ own_first (asked_point pt p to).view;
       plain = refl;
       encloses = refl;
       bag = ap l.bag named ∙ next_free b 0 pt l c.run c.mirrors c.own;
@@ -137,7 +137,7 @@ asked_other b pt l records k c p to (Some child) found turn is =
       elsewhere = search;
       may = (move_may b pt l records (at_machine records 0 (with_sent k).records) k c p to child found, tt);
       late_may = tt;
-      single = omega arith;
+      over = NoneEnds refl (λ q. refl);
       topic = tt;
       own = own_asked b pt l records k c p to;
       tokens = tokens_asked b pt l records k c p to;

@@ -18,7 +18,7 @@ use Rattle.dm_mirror.proofs.Recorded.{recorded}
 use Rattle.dm_mirror.proofs.Follow.Fronts.{IsProcess, front_still, is_process_of, plain_kinds, Fronts, apart_at, known_on, queue_apart, machine_process, rule_process, set_self, set_other, handled_point, handled_view}
 use Rattle.dm_mirror.proofs.Follow.Fronts.{turns_follow}
 use Rattle.dm_mirror.proofs.Deliver.Moves.{messages_push}
-use Rattle.dm_mirror.proofs.Turning.{AllMayPut, MayOwn, MayPut, On, Own, Route, TurnsAt, begun, owns, part_of, rule_part_of}
+use Rattle.dm_mirror.proofs.Turning.{own_first, AllMayPut, MayOwn, MayPut, On, Own, Route, TurnsAt, begun, owns, part_of, rule_part_of}
 use Rattle.dm_mirror.proofs.Handle.Taking.{held_apart, record_off, record_others}
 
 pub next_untold : (b : Boot) (m : ℕ) (pt : Point) → Run b pt → pt.view.told (id_of (pid_of m 0) (pt.view.count m)) ≡ None
@@ -80,7 +80,7 @@ outcome_forwards b m pt l records k y c id here at moves back z plain has =
 -- the update may be put
 -- both name it alike
 update_may : (b : Boot) (m : ℕ) (pt : Point) (l : Placed) (records all : AllRecords) (k : KernelState) (y : Message) (c : Fronts b m pt l records k y) (at moves : ℕ) → pt.view.known m y.to.pid ≡ Forward at moves → is_told_back (kind_of y.what) ≡ true
-    → MayOwn (handled_point pt m y.id pt.view.held (About.Place y.to.pid at moves) (forwarded pt m y at).addresses) (with_message l y.id (Some (sent_on at moves y))) all (update_of y (machine.own_id k) k.here at moves)
+    → MayOwn (handled_point pt m y.id pt.view.held (About.Place y.to.pid at moves) (forwarded pt m y at).addresses) (with_message l y.id (Some (sent_on at moves y))) all 0 (update_of y (machine.own_id k) k.here at moves)
 update_may b m pt l records all k y c at moves knows has =
     let start = mirrors_view pt.kernel pt.view (begun pt m).view pt.addresses l refl c.mirrors in
     let own = own_id (begun pt m).view in
@@ -89,7 +89,7 @@ update_may b m pt l records all k y c at moves knows has =
     let places = update_gets (begun pt m) l y.id y c.told at at moves start c.there c.told_is (ap (pt.view.known m) c.receiver ∙ knows) free (ap is_told_back c.kind ∙ has) in
     let off : id_eq y.id own ≡ false = id_eq-swap y.id own ∙ free_off l own y.id y free c.there in
     record {
-      id = named;
+      id = named ∙ own_first (begun pt m).view;
       plain = refl;
       encloses = refl;
       bag = ap (with_message l y.id (Some (sent_on at moves y))).bag named ∙ ap (λ (t : Bool). if t then Some (sent_on at moves y) else l.bag own) off ∙ free;
@@ -103,11 +103,11 @@ update_may b m pt l records all k y c at moves knows has =
 
 -- the message that goes on may be put
 on_may : (b : Boot) (m : ℕ) (pt : Point) (l : Placed) (records all : AllRecords) (k : KernelState) (y : Message) (c : Fronts b m pt l records k y) (at moves : ℕ) → IsProcess y.to.pid
-    → MayPut (handled_point pt m y.id pt.view.held (About.Place y.to.pid at moves) (forwarded pt m y at).addresses) (with_message l y.id (Some (sent_on at moves y))) all (On (sent_on at moves y))
+    → MayPut (handled_point pt m y.id pt.view.held (About.Place y.to.pid at moves) (forwarded pt m y at).addresses) (with_message l y.id (Some (sent_on at moves y))) all 0 (On (sent_on at moves y))
 on_may b m pt l records all k y c at moves is = search (id_eq-same, front_still, y.id, c.told_is, c.kind, c.receiver)
 
 all_may : (b : Boot) (m : ℕ) (pt : Point) (l : Placed) (records all : AllRecords) (k : KernelState) (y : Message) (c : Fronts b m pt l records k y) (at moves : ℕ) (back : Bool) → IsProcess y.to.pid → pt.view.known m y.to.pid ≡ Forward at moves → is_told_back (kind_of y.what) ≡ back
-    → AllMayPut (handled_point pt m y.id pt.view.held (About.Place y.to.pid at moves) (forwarded pt m y at).addresses) (with_message l y.id (Some (sent_on at moves y))) all (routes_of y (machine.own_id k) k.here at moves back)
+    → AllMayPut (handled_point pt m y.id pt.view.held (About.Place y.to.pid at moves) (forwarded pt m y at).addresses) (with_message l y.id (Some (sent_on at moves y))) all 0 (routes_of y (machine.own_id k) k.here at moves back)
 all_may b m pt l records all k y c at moves true is knows has = (on_may b m pt l records all k y c at moves is, (update_may b m pt l records all k y c at moves knows has, tt))
 all_may b m pt l records all k y c at moves false is knows has = (on_may b m pt l records all k y c at moves is, tt)
 
@@ -118,11 +118,12 @@ record Sent (k s : KernelState) (routes : List Route) : Type 0 where
   made : s.made ≡ k.made
   room : s.room ≡ k.room
   servers : s.servers ≡ k.servers
+  over : s.over ≡ k.over
   sent : s.sent ≡ k.sent + owns routes
 
 sent_is : (k : KernelState) (rest : List Message) (y : Message) (id : MsgId) (here at moves : ℕ) (back : Bool) → Sent k (sent_by (record k { inbox = rest }) back) (routes_of y id here at moves back)
-sent_is k rest y id here at moves true = record { here = refl; records = refl; ring = refl; made = refl; room = refl; servers = refl; sent = (let e : k.sent + 1 ≡ k.sent + (0 + (1 + 0)) = omega arith in e) }
-sent_is k rest y id here at moves false = record { here = refl; records = refl; ring = refl; made = refl; room = refl; servers = refl; sent = (let e : k.sent ≡ k.sent + (0 + 0) = omega arith in e) }
+sent_is k rest y id here at moves true = record { here = refl; records = refl; ring = refl; made = refl; room = refl; servers = refl; over = refl; sent = (let e : k.sent + 1 ≡ k.sent + (0 + (1 + 0)) = omega arith in e) }
+sent_is k rest y id here at moves false = record { here = refl; records = refl; ring = refl; made = refl; room = refl; servers = refl; over = refl; sent = (let e : k.sent ≡ k.sent + (0 + 0) = omega arith in e) }
 
 forward_row : (b : Boot) (m : ℕ) (pt : Point) (l : Placed) (records : AllRecords) (k : KernelState) (y : Message) (c : Fronts b m pt l records k y) (at moves : ℕ) (back : Bool) → IsProcess y.to.pid → pt.view.known m y.to.pid ≡ Forward at moves → is_told_back (kind_of y.what) ≡ back → TurnsAt b m pt l records k
 forward_row b m pt l records k y c at moves back is knows has =
@@ -159,13 +160,12 @@ forward_row b m pt l records k y c at moves back is knows has =
           let o = c.own y.id y c.there (sym (plain_sent_on at moves y) ∙ ap plain_message w ∙ plain) in
           subst (OwnStands pt.view y.id) w (record { told = o.told; mine = o.mine; sender = o.sender }));
       sent = same.sent;
-      single = grind (arith, nat_tests);
       known = λ server. subst (KnownStands (handled_point pt m y.id pt.view.held topic next.addresses) placed p (pt.view.queue m p) (pt.view.held m p) (pt.view.known m p)) (ap (λ (f : Pid → Option machine.KernelKnown). f p) (sym same.records))
           (known_on pt (handled_point pt m y.id pt.view.held topic next.addresses) l placed p (pt.view.queue m p) (pt.view.held m p) (pt.view.known m p) (k.records p) refl refl refl
           (λ j least. bag_off j (apart_at b m pt l records k y c (Queue m p) j (queue_apart m m p) least)) (λ j least. bag_off j (apart_at b m pt l records k y c (Held m p) j (held_apart m m p) least)) (c.stands.known p server));
       still = front_still b m pt l records k y c is.number;
       may = all_may b m pt l records (at_machine records m state.records) k y c at moves back is knows has;
-      leaves = search (bag_off, same.here, kept, same.ring, (let e_ : (sent_by (record k { inbox = c.rest }) back).inbox ≡ c.rest = grind (arith, nat_tests) in e_), same.made, same.room, same.servers ∙ c.stands.servers, wants);
+      leaves = search (bag_off, same.here, kept, same.ring, (let e_ : (sent_by (record k { inbox = c.rest }) back).inbox ≡ c.rest = grind (arith, nat_tests) in e_), same.made, same.room, same.servers ∙ c.stands.servers, same.over, wants);
     })
 
 -- where the process has gone on
@@ -213,7 +213,6 @@ held_row b m pt l records k y c w r new is knows there turn bag own known wants 
       mirrors = mirrors_view pt.kernel pt.view (handled_view pt m y.id held topic) pt.addresses l refl c.mirrors;
       own_front = λ z e plain. c.own y.id z e plain;
       sent = (let e : k.sent ≡ k.sent + 0 = omega arith in e);
-      single = omega arith;
       known = λ server. subst (KnownStands (handled_point pt m y.id held topic pt.addresses) l p (pt.view.queue m p) (held m p) (pt.view.known m p)) (sym (set_self k.records p new))
           (subst (λ (j : Known). KnownStands (handled_point pt m y.id held topic pt.addresses) l p (pt.view.queue m p) (held m p) j (Some new)) (sym knows)
           (subst (λ (h : List MsgId). KnownStands (handled_point pt m y.id held topic pt.addresses) l p (pt.view.queue m p) h w (Some new)) (sym (record_self pt.view.held m p (pt.view.held m p ++ y.id ∷ []))) known));

@@ -4,7 +4,7 @@ use Rattle.dm_mirror.proofs.Names.{PlainWhat, plain_message, plain_what, with_wh
 use Rattle.dm_mirror.proofs.Names.{Mirrors, parts, AllOwnStand, told_of, AreMessages, KernelStands, AllRecords, TokensStand, told_there, ◌≢◌, ◌+◌, inl, inr, arith, if◌then◌else◌, cases_Bool, nat_tests, id_eq, id_eq-is, id_eq-same}
 use Rattle.dm_mirror.proofs.Names.{at_machine, without_front, Spot, Held, StandsOnce, StandsOutside, StandsRight, Known, is_kernels, stands_right, once_at, KnownStands, with_record, handles, Turned, pid_eq-same, process_told, comes_to, not}
 use Rattle.dm_mirror.proofs.Names.{slice_get, incoming_of, Taken, Wanted, Arrival, room_of, turns, pid_eq-is, Line, Addresses, after, after_line, taken_at, Queue, Of, View, handled, OwnStands, RoomStands, servers_at, Carries, Wants}
-use Rattle.dm_mirror.proofs.Names.{destination_of, Part, Cargo, ◌⊎◌, cargo_at, sort_of, is_due_piece, pulls_piece}
+use Rattle.dm_mirror.proofs.Names.{destination_of, Part, Cargo, ◌⊎◌, cargo_at, sort_of, is_due_piece, pulls_piece, hears, kernel_hears}
 pub use Rattle.dm_rulelaws.proofs.Goes.Turns.{times_self, times_more}
 pub use Rattle.dm_rule.proofs.Lines.{eq_self, at_machine_at as machine_self}
 pub use Rattle.dm_rulelaws.proofs.Goes.Always.{queue_apart}
@@ -18,9 +18,10 @@ use Rattle.dm_rule.specs.Rule as outcomes
 pub use Rattle.dm_mirror.proofs.Kernel.Sets.{known_at as known_on, map_same}
 use Rattle.dm_mirror.proofs.Handle.Taking.{not_it, held_apart, machine_off, stands_set}
 pub use Rattle.dm_mirror.proofs.End.Servers.{off as eq_off}
-use Rattle.dm_mirror.proofs.Turning.{Elsewhere, Nothing, Route, TurnsAt, AllMayPut, begun, has_process, is_elsewhere, owns, part_of, rule_part_of}
+use Rattle.dm_mirror.proofs.Turning.{NoneEnds, Elsewhere, Nothing, Route, TurnsAt, AllMayPut, begun, has_process, is_elsewhere, owns, part_of, rule_part_of}
 use Rattle.dm_mirror.proofs.Cargoes.{cargo_same}
 use Rattle.dm_mirror.proofs.LeftOver.{known_due, left_keeps, left_told, one_keeps}
+use Rattle.dm_mirror.proofs.Handle.Taking.{to_known, rule_to_known}
 
 -- a message that stands somewhere stands there once, and nowhere else
 outside_once : (c : Bool) (f : Spot → ℕ) (x : Spot) → StandsOutside c f → 1 ≤ f x → StandsOnce f
@@ -169,21 +170,20 @@ fronted b m pt l records k i is below run own_told mirrors stands own tokens min
 
 -- What a machine and the rule do with a message for a process, by what they know of it.
 
--- the last of four rows
-pub last_row : {X : Type 0} (x y z w : X) (a b c : Bool) → a ≡ false → b ≡ false → c ≡ false → (if a then x else if b then y else if c then z else w) ≡ w
-last_row x y z w a b c e f g = ap (λ (t : Bool). if t then x else if b then y else if c then z else w) e ∙ ap (λ (t : Bool). if t then y else if c then z else w) f ∙ ap (λ (t : Bool). if t then z else w) g
-
 -- the machine does what it knows of the process, and so does the rule
 pub machine_process : (b : Boot) (s : KernelState) (y : Message) (r : Option machine.KernelKnown) (o : Option Turned) → IsProcess y.to.pid → s.records y.to.pid ≡ r → machine_handle.process_handles s y r ≡ o → handles b s y ≡ o
-machine_process b s y r o is e h = grind (arith, nat_tests, last_row)
+machine_process b s y r o is e h = to_known b s y r is.number e ∙ h
 
 bag_process : (b : Boot) (pt : Point) (m : ℕ) (id : MsgId) (x : PlainMessage) (k : Known) (o : Option (List rule.Part)) → IsProcess x.to → pt.view.known m x.to ≡ k → process_handles pt m id x k ≡ o → outcomes.handles b pt m id x ≡ o
-bag_process b pt m id x k o is e h = grind (arith, nat_tests, last_row)
+bag_process b pt m id x k o is e h = rule_to_known b pt m id x k is.number e ∙ h
 
 -- a message of the bag, or a kernel's own
 pub rule_process : (b : Boot) (m : ℕ) (pt : Point) (l : Placed) (records : AllRecords) (k : KernelState) (y : Message) (c : Fronts b m pt l records k y) (w : Known) (o : Option (List rule.Part)) (z : Option PlainMessage) → IsProcess y.to.pid → pt.view.known m y.to.pid ≡ w → plain_message y ≡ z
     → ((x : PlainMessage) → z ≡ Some x → process_handles pt m y.id x w ≡ o) → (z ≡ None → process_told pt m y.id c.told w ≡ o) → comes_to b pt m y.id (pt.kernel.bag y.id) ≡ o
-rule_process b m pt l records k y c w o None is e plain bag own = grind (arith, nat_tests, plain_there, last_row)
+rule_process b m pt l records k y c w o None is e plain bag own =
+    let num : (c.told.receiver.num == 0) ≡ false = ap (λ (p : Pid). p.num == 0) c.receiver ∙ is.number in
+    ap (comes_to b pt m y.id) (plain_there b m pt l records k y c ∙ plain) ∙ ap (hears b pt m y.id) c.told_is ∙ ap (λ (d : Bool). if d then kernel_hears b pt m y.id c.told.kind c.told.about else process_told pt m y.id c.told (pt.view.known m c.told.receiver)) num
+    ∙ ap (process_told pt m y.id c.told) (ap (pt.view.known m) c.receiver ∙ e) ∙ own refl
 rule_process b m pt l records k y c w o (Some x) is e plain bag own =
     let to : y.to.pid ≡ x.to = (parts y x plain).to in
     ap (comes_to b pt m y.id) (plain_there b m pt l records k y c ∙ plain) ∙ bag_process b pt m y.id x w o (subst IsProcess to is) (ap (pt.view.known m) (sym to) ∙ e) (bag x refl)
@@ -239,6 +239,7 @@ pub record FollowLeaves (m : ℕ) (pt : Point) (l : Placed) (k : KernelState) (r
   pub made : state.made ≡ k.made
   pub room : state.room ≡ k.room
   pub servers : state.servers ≡ servers_at placed m
+  pub over : state.over ≡ k.over
   pub keeps : is_server process ≡ true → state.records process ≡ k.records process
   pub wants : (u : Wanted) → Wants (incoming_of (k.records process)) u → Wants (incoming_of (state.records process)) u
 
@@ -258,11 +259,10 @@ pub record Follows (b : Boot) (m : ℕ) (pt : Point) (l : Placed) (records : All
   pub mirrors : Mirrors pt.kernel (handled_view pt m y.id held topic) addresses placed
   pub own_front : (z : Message) → placed.bag y.id ≡ Some z → plain_message z ≡ None → OwnStands pt.view y.id z
   pub sent : state.sent ≡ k.sent + owns routes
-  pub single : owns routes ≤ 1
   pub known : is_server process ≡ false → KnownStands (handled_point pt m y.id held topic addresses) placed process (pt.view.queue m process) (held m process) (pt.view.known m process) (state.records process)
   -- it is no message of a migration under way
   pub still : is_between (kind_of y.what) ≡ false
-  pub may : AllMayPut (handled_point pt m y.id held topic addresses) placed (at_machine records m state.records) routes
+  pub may : AllMayPut (handled_point pt m y.id held topic addresses) placed (at_machine records m state.records) 0 routes
   pub leaves : FollowLeaves m pt l k c.rest y.id process held placed state
 
 pub elsewhere_apart : (m : ℕ) (s : Spot) → is_elsewhere m s ≡ true → s ≢ Inbox m
@@ -406,7 +406,7 @@ turns_follow b m pt l records k y c h =
       elsewhere = elsewhere_follows b m pt l records k y c h;
       may = h.may;
       late_may = tt;
-      single = (let z = h.single in omega (arith, z));
+      over = NoneEnds h.leaves.over (λ q. refl);
       topic = tt;
       own = own_follows b m pt l records k y c h;
       tokens = tokens_follow b m pt l records k y c h;

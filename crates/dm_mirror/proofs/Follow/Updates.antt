@@ -3,8 +3,8 @@ use Rattle.dm_mirror.proofs.Names.{◌≡◌, ◌≢◌, ℕ, ◌+◌, ◌≤◌
 use Rattle.dm_mirror.proofs.Names.{slot_is_behind, applied, Message, MsgId, What, Record, Line, kind_of, plain_message, plain_what, with_what, Process, incoming_of, named_is_behind, pending_is_behind, Boot, switchboard, manager, Life}
 use Rattle.dm_mirror.proofs.Names.{Servers, handles, KernelState, with_here, pid_eq-same, place_told, behind_count, told_here, told_server, updates, Phase, Rests, is_away, is_between, is_here, knows, Point, moved, comes_to, hears, Inbox}
 use Rattle.dm_mirror.proofs.Names.{Spot, standing, Known, Here, Of, Told, rests_here, is_fixed, Run, Placed, Mirrors, mirrors_view, board_told, manager_told, updated_board_mirrors, updated_manager_mirrors, updated_mirrors}
-use Rattle.dm_mirror.proofs.Names.{updated_board_count, updated_count, updated_manager_count, about_of, told_of, KnownStands, servers_at, AllRecords, Wants, MessageKind, PlainMessage, Why, Managing, Board, Addresses, told_ended, after_line}
-use Rattle.dm_mirror.proofs.Names.{Ended, updated_ended_mirrors, no_process, Wanted, is_server, Part, sort_of, ◌⊎◌, inl, inr, Moves, View, is_due_piece, pulls_piece, Asks, Comes}
+use Rattle.dm_mirror.proofs.Names.{updated_board_count, updated_count, updated_manager_count, about_of, told_of, KnownStands, servers_at, AllRecords, Wants, MessageKind, PlainMessage, Managing, Board, Addresses, told_ended, after_line}
+use Rattle.dm_mirror.proofs.Names.{agrees, ended_of, Ended, updated_ended_mirrors, no_process, Wanted, is_server, Part, sort_of, ◌⊎◌, inl, inr, Moves, View, is_due_piece, pulls_piece, Asks, Comes, kernel_hears, process_told}
 use Rattle.dm_places.specs.PlacedStep.{with_process}
 use Rattle.dm_mirror.proofs.Recorded.{recorded}
 use Rattle.dm_mirror.proofs.Follow.Fronts.{front_still, is_process_of, plain_there, Fronts, at_front, eq_off, known_on, machine_process, rule_process, set_other, set_self, handled_point, turns_follow, handled_view}
@@ -16,6 +16,7 @@ use Rattle.dm_kernel.specs.Handle as machine_handle
 use Rattle.dm_mirror.proofs.LeftOver.{IsDue, IsOver, Which, brings_on, which}
 use Rattle.dm_kernel.specs.State as machine
 use Rattle.dm_rule.specs.Parts as rule
+use Rattle.dm_mirror.proofs.Handle.Taking.{no_server, server_here, to_board, to_manager}
 
 -- the servers may change, and addresses
 abbrev pub with_servers : Placed → Board → Managing → Placed
@@ -59,7 +60,6 @@ turns_quiet b m pt l records k y c h =
       mirrors = h.mirrors;
       own_front = λ z e plain. c.own y.id z e plain;
       sent = (let e : k.sent ≡ k.sent + 0 = omega arith in e);
-      single = omega arith;
       known = λ server. known_on pt (handled_point pt m y.id pt.view.held topic h.addresses) l placed p (pt.view.queue m p) (pt.view.held m p) (pt.view.known m p) (k.records p)
           refl refl refl (λ j least. refl) (λ j least. refl) (c.stands.known p server);
       still = front_still b m pt l records k y c h.number;
@@ -71,9 +71,6 @@ turns_quiet b m pt l records k y c h =
 pub no_plain : (y : Message) (x : PlainMessage) → plain_what y.what ≡ None → plain_message y ≡ Some x → ⊥
 no_plain y x none e = let f : None ≡ Some x = sym (ap (with_what y) none) ∙ e in cc
 
-not_alive : (o : Option Life) (y : Why) → kernel.why_ended o ≡ Some y → kernel.alive o ≡ None
-not_alive o y e = grind (arith, nat_tests)
-
 -- at a process that has ended
 pub ended_quiet : (b : Boot) (m : ℕ) (pt : Point) (l : Placed) (records : AllRecords) (k : KernelState) (y : Message) (c : Fronts b m pt l records k y) (said : Line) (a : Addresses) → is_fixed y.to.pid ≡ false → pt.view.known m y.to.pid ≡ Ended → plain_what y.what ≡ None
     → machine_handle.ended_handles (record k { inbox = c.rest }) y y.what ≡ Some (record { state = record k { inbox = c.rest }; parts = Part.Says said ∷ [] }) → told_ended y.id (sort_of (kind_of y.what)) ≡ Some (rule.Says said ∷ [])
@@ -82,17 +79,18 @@ ended_quiet b m pt l records k y c said a fixed knows none turn told after mirro
     let p = y.to.pid in
     let is = is_process_of p fixed in
     let s = record k { inbox = c.rest } in
-    let (because, there, over) = recorded b pt l m k p Ended c.stands is.server knows in
+    let there = recorded b pt l m k p Ended c.stands is.server knows in
+    let (because, over) = ended_of (pt.kernel.processes p) (sym (ap (λ (n : Known). agrees n (pt.kernel.processes p)) knows) ∙ c.run.based.known.agree m p is.server) in
     turns_quiet b m pt l records k y c (record {
       said = said;
       addresses = a;
       board = l.board;
       manager = l.manager;
       servers = k.servers;
-      turn = machine_process b s y (Some (Record.Ended because)) (Some (record { state = s; parts = Part.Says said ∷ [] })) is there turn;
+      turn = machine_process b s y (Some Record.Ended) (Some (record { state = s; parts = Part.Says said ∷ [] })) is there turn;
       outcome = rule_process b m pt l records k y c Ended (Some (rule.Says said ∷ [])) (plain_message y) is knows refl (λ x e. absurd (no_plain y x none e)) (λ e. ap (λ (t : MessageKind). told_ended y.id (sort_of t)) c.kind ∙ told);
       after = after;
-      mirrors = mirrors (no_process (l.processes p) (sym (c.mirrors.plain.processes p) ∙ not_alive (pt.kernel.processes p) because over));
+      mirrors = mirrors (no_process (l.processes p) (sym (c.mirrors.plain.processes p) ∙ ap kernel.alive over));
       board_stays = λ off. refl;
       manager_stays = λ off. refl;
       same = c.stands.servers;
@@ -183,12 +181,11 @@ updated_here_turn b m pt l records k y c about fixed knows e =
       process = p;
       turn = machine_process b s y (Some (Record.Here x)) (Some (record { state = state; parts = Part.Says (Line.Updated y.id n) ∷ [] })) is here.1 (ap (machine_handle.here_handles s y x) e);
       outcome = rule_process b m pt l records k y c Here (Some (rule.Says (Line.Updated y.id n) ∷ [])) (plain_message y) is knows refl (λ w f. absurd (no_plain y w (ap plain_what e) f))
-          (λ f. ap (λ (k : MessageKind). told_here pt m y.id c.told (sort_of k)) (c.kind ∙ ap kind_of e) ∙ ap Some (counted_line pt y c.told n was count));
+          (λ f. no_server (pid_eq c.told.receiver switchboard) (pid_eq c.told.receiver manager) _ _ _ (ap (λ (q : Pid). pid_eq q switchboard) c.receiver ∙ is.board) (ap (λ (q : Pid). pid_eq q manager) c.receiver ∙ is.manager_) ∙ ap (λ (k : MessageKind). told_here pt m y.id c.told (sort_of k)) (c.kind ∙ ap kind_of e) ∙ ap Some (counted_line pt y c.told n was count));
       after = refl;
       mirrors = updated_mirrors (begun pt m) l y.id n (told_of y) r about.at about.moves z start told (ap about_of e) is.board is.manager_ there;
       own_front = λ w f plain. c.own y.id w f plain;
       sent = (let f : k.sent ≡ k.sent + 0 = omega arith in f);
-      single = omega arith;
       known = λ server. subst (KnownStands (handled_point pt m y.id held topic a) placed p (pt.view.queue m p) (pt.view.held m p) (pt.view.known m p)) (sym (set_self k.records p (Record.Here next)))
           (subst (λ (j : Known). KnownStands (handled_point pt m y.id held topic a) placed p (pt.view.queue m p) (pt.view.held m p) j (Some (Record.Here next))) (sym knows)
           ((here.2.0.0, ap (λ (t : Bool). if t then Some (applied r about.at about.moves z) else l.processes p) (pid_eq-same p)), here.2.1));
@@ -208,11 +205,18 @@ pub first_servers : (l : Placed) (m : ℕ) → m ≡ 0 → servers_at l m ≡ So
 first_servers l m e = ap (servers_at l) e
 
 -- the rule at a server
-server_board : (b : Boot) (pt : Point) (m : ℕ) (id : MsgId) (t : Told) (o : Option (List rule.Part)) → t.receiver ≡ switchboard → told_server pt id t (sort_of t.kind) ≡ o → hears b pt m id (Some t) ≡ o
-server_board b pt m id t o e h = grind (arith, nat_tests)
+server_told : (b : Boot) (pt : Point) (m : ℕ) (id : MsgId) (t : Told) (k : Known) → (t.receiver.num == 0) ≡ false → pt.view.known m t.receiver ≡ k → hears b pt m id (Some t) ≡ process_told pt m id t k
+server_told b pt m id t k num is = ap (λ (c : Bool). if c then kernel_hears b pt m id t.kind t.about else process_told pt m id t (pt.view.known m t.receiver)) num ∙ ap (process_told pt m id t) is
 
-server_manager : (b : Boot) (pt : Point) (m : ℕ) (id : MsgId) (t : Told) (o : Option (List rule.Part)) → t.receiver ≡ manager → told_server pt id t (sort_of t.kind) ≡ o → hears b pt m id (Some t) ≡ o
-server_manager b pt m id t o e h = grind (arith, nat_tests)
+server_board : (b : Boot) (pt : Point) (m : ℕ) (id : MsgId) (t : Told) (o : Option (List rule.Part)) → t.receiver ≡ switchboard → pt.view.known m switchboard ≡ Here → told_server pt id t (sort_of t.kind) ≡ o → hears b pt m id (Some t) ≡ o
+server_board b pt m id t o e here h = server_told b pt m id t Here (ap (λ (q : Pid). q.num == 0) e) (ap (pt.view.known m) e ∙ here) ∙ ap (λ (c : Bool). if c then told_server pt id t (sort_of t.kind) else if pid_eq t.receiver manager then told_server pt id t (sort_of t.kind) else told_here pt m id t (sort_of t.kind)) (ap (λ (q : Pid). pid_eq q switchboard) e) ∙ h
+
+server_manager : (b : Boot) (pt : Point) (m : ℕ) (id : MsgId) (t : Told) (o : Option (List rule.Part)) → t.receiver ≡ manager → pt.view.known m manager ≡ Here → told_server pt id t (sort_of t.kind) ≡ o → hears b pt m id (Some t) ≡ o
+server_manager b pt m id t o e here h =
+    let told = told_server pt id t (sort_of t.kind) in
+    let other = told_here pt m id t (sort_of t.kind) in
+    server_told b pt m id t Here (ap (λ (q : Pid). q.num == 0) e) (ap (pt.view.known m) e ∙ here) ∙ ap (λ (c : Bool). if c then told else if pid_eq t.receiver manager then told else other) (ap (λ (q : Pid). pid_eq q switchboard) e)
+    ∙ ap (λ (c : Bool). if c then told else other) (ap (λ (q : Pid). pid_eq q manager) e) ∙ h
 
 -- the switchboard's links follow
 pub updated_board_turn : (b : Boot) (m : ℕ) (pt : Point) (l : Placed) (records : AllRecords) (k : KernelState) (y : Message) (c : Fronts b m pt l records k y) (about : Addr) → y.to.pid ≡ switchboard → y.what ≡ What.Update about → TurnsAt b m pt l records k
@@ -233,9 +237,9 @@ updated_board_turn b m pt l records k y c about to e =
       board = placed.board;
       manager = l.manager;
       servers = Some (record v { board = placed.board });
-      turn = grind (arith, nat_tests);
+      turn = to_board b (record k { inbox = c.rest }) y (ap (λ (p : Pid). p.num == 0) to) (c.stands.no_server y.to.pid (ap is_server to)) (ap (λ (p : Pid). pid_eq p switchboard) to) ∙ (let e_ : machine_handle.board_handles (record k { inbox = c.rest }) y k.servers ≡ Some (record { state = record k { inbox = c.rest; servers = Some (record v { board = placed.board }) }; parts = Part.Says (Line.Updated y.id n) ∷ [] }) = grind (arith, nat_tests) in e_);
       outcome = ap (comes_to b pt m y.id) (plain_there b m pt l records k y c ∙ ap (λ (w : What). with_what y (plain_what w)) e) ∙ ap (hears b pt m y.id) c.told_is
-          ∙ server_board b pt m y.id c.told (Some (rule.Says (Line.Updated y.id n) ∷ [])) (c.receiver ∙ to) (ap (λ (k : MessageKind). told_server pt y.id c.told (sort_of k)) (c.kind ∙ ap kind_of e) ∙ ap Some (counted_line pt y c.told n was count));
+          ∙ server_board b pt m y.id c.told (Some (rule.Says (Line.Updated y.id n) ∷ [])) (c.receiver ∙ to) (server_here b pt m switchboard c.run home refl) (ap (λ (k : MessageKind). told_server pt y.id c.told (sort_of k)) (c.kind ∙ ap kind_of e) ∙ ap Some (counted_line pt y c.told n was count));
       after = refl;
       mirrors = updated_board_mirrors (begun pt m) l y.id n (told_of y) r about.at about.moves start told (ap about_of e) to none;
       board_stays = λ off. absurd (off home);
@@ -263,9 +267,9 @@ updated_manager_turn b m pt l records k y c about to e =
       board = l.board;
       manager = placed.manager;
       servers = Some (record v { manager = placed.manager });
-      turn = grind (arith, nat_tests);
+      turn = to_manager b (record k { inbox = c.rest }) y (ap (λ (p : Pid). p.num == 0) to) (c.stands.no_server y.to.pid (ap is_server to)) (ap (λ (p : Pid). pid_eq p switchboard) to) (ap (λ (p : Pid). pid_eq p manager) to) ∙ (let e_ : machine_handle.manager_handles (record k { inbox = c.rest }) y k.servers ≡ Some (record { state = record k { inbox = c.rest; servers = Some (record v { manager = placed.manager }) }; parts = Part.Says (Line.Updated y.id n) ∷ [] }) = grind (arith, nat_tests) in e_);
       outcome = ap (comes_to b pt m y.id) (plain_there b m pt l records k y c ∙ ap (λ (w : What). with_what y (plain_what w)) e) ∙ ap (hears b pt m y.id) c.told_is
-          ∙ server_manager b pt m y.id c.told (Some (rule.Says (Line.Updated y.id n) ∷ [])) (c.receiver ∙ to) (ap (λ (k : MessageKind). told_server pt y.id c.told (sort_of k)) (c.kind ∙ ap kind_of e) ∙ ap Some (counted_line pt y c.told n was count));
+          ∙ server_manager b pt m y.id c.told (Some (rule.Says (Line.Updated y.id n) ∷ [])) (c.receiver ∙ to) (server_here b pt m manager c.run home refl) (ap (λ (k : MessageKind). told_server pt y.id c.told (sort_of k)) (c.kind ∙ ap kind_of e) ∙ ap Some (counted_line pt y c.told n was count));
       after = refl;
       mirrors = updated_manager_mirrors (begun pt m) l y.id n (told_of y) r about.at about.moves start told (ap about_of e) to none;
       board_stays = λ off. refl;

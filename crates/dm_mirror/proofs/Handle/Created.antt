@@ -3,7 +3,8 @@ use Rattle.dm_mirror.proofs.Names.{◌≡◌, ◌≢◌, ℕ, ◌+◌, ◌≤◌
 use Rattle.dm_mirror.proofs.Names.{pid_eq, PlainLink, MsgId, Message, What, Record, Label, Line, PlainMessage, PlainWhat, plain_message, Process, begun_process, answer, Boot, BootImage, first_number, image_is_valid, slots_of, Alive}
 use Rattle.dm_mirror.proofs.Names.{OneKernel, bind, answer_id, answer_to, without_message, memory_of, slots_with, pid_eq-same, Routes, Point, Room, and, taken_at, taken_by, at_record, without_front, Spot, Queue, Held, Inbox, standing}
 use Rattle.dm_mirror.proofs.Names.{Known, after_label, is_kernels, bag_none, bag_created, has_no_queue, fresh_child, Placed, plainly, create_what, child_of, with_child, next_pid, KernelState, turned, KnownStands, ◌<◌, ◌||◌, IsValid}
-use Rattle.dm_mirror.proofs.Names.{manager, switchboard, plain_process, is_server, WhatFits, is_fixed, can_handle, OwnTold, Run, Mirrors, plainly_is, MadeStands, AllOwnStand, KernelStands, nat_le, times, begun, Unknown, with_sent}
+use Rattle.dm_mirror.proofs.Names.{manager, switchboard, plain_process, is_server, WhatFits, is_fixed, can_handle, OwnTold, Run, Mirrors, plainly_is, MadeStands, AllOwnStand, KernelStands, nat_le, times, begun, Unknown, with_sent, home_of}
+use Rattle.dm_mirror.proofs.Names.{server_fixed}
 use Rattle.dm_rule.proofs.Names.{Part}
 use Rattle.dm_onekernel.specs.Service as service
 use Rattle.dm_onekernel.specs.Start as one
@@ -14,8 +15,8 @@ use Rattle.dm_kernel.specs.declared.part.Part.TheVariants as part
 use Rattle.dm_kernel.specs.State as state
 use Rattle.dm_mirror.proofs.Handle.Rows.{IsLeft, Elsewhere, Over, Moves, after_one, kept_at, kept_behind, mirrors_one, own_back, own_kept, seen_point, standing_begun, other_than}
 use Rattle.dm_mirror.proofs.Handle.Taking.{Taking, outcome_is, sane_of, sent_other, sent_there, turn_is, held_apart, queue_apart, eq_off, eq_self, machine_off, machine_self, map_same, pid_apart, record_off, record_others, record_self}
-use Rattle.dm_mirror.proofs.Handle.Taking.{stands_set, took, IsProcess, not_server, rule_to_board, rule_to_kernel, rule_to_manager}
-use Rattle.dm_mirror.proofs.Turning.{Row, has_process, is_elsewhere}
+use Rattle.dm_mirror.proofs.Handle.Taking.{stands_set, took, IsProcess, not_server, server_here, rule_to_board, rule_to_kernel, rule_to_manager}
+use Rattle.dm_mirror.proofs.Turning.{NoneEnds, spared, Row, has_process, is_elsewhere}
 use Rattle.dm_mirror.proofs.Handle.Ended.{ended_row, is_ended, IsHere, here_outcome, is_here}
 use Rattle.dm_mirror.proofs.Handle.Kills.{kill_row, no_room_row, valid_at, free_of, kernel_is, create_turn, kernel_home, child_off, user_row}
 use Rattle.dm_mirror.proofs.Handle.Landings.{block_row, gone_row, written_row, read_row, resume_row, stop_row, write_row}
@@ -138,6 +139,7 @@ created_row b m pt l k y image ls g c num found some valid =
       );
       sent = (a_there, refl);
       still = refl;
+      over = NoneEnds refl (spared s next child others_live (ap kernel.why_ended lives ∙ sym (ap kernel.why_ended none)));
       count = refl;
       moving = λ q is. let o = left q (Moves is) in (others_placed q o, ap (λ (d : Bool). if d then Some (Record.Here z) else k.records q) o, refl);
       own = own_kept b m pt l k y (PlainWhat.Create image ls) c on (Some a) bag_is other;
@@ -195,12 +197,20 @@ process_row b m pt l k y w ps c process (ForHere here stays) fits goes =
     here_row b m pt l k y w ps c h stays fits (sym (here_outcome b m pt l k y w h (rule.here_handles pt m y.id (plainly y w) (plain_process h.x) w) refl) ∙ goes)
 process_row b m pt l k y w ps c process (ForEnded over) fits goes = ended_row b m pt l k y w c (is_ended b m pt l k y w c process over) fits
 
+-- a server is here
+here_of : (b : Boot) (m : ℕ) (pt : Point) (l : Placed) (k : KernelState) (y : Message) (w : PlainWhat) (c : Taking b m pt l k y w) → is_server y.to.pid ≡ true → pt.view.known m y.to.pid ≡ Known.Here
+here_of b m pt l k y w c server =
+    let zero_ : y.to.pid.home ≡ 0 = grind (arith, nat_tests) in
+    server_here b pt m y.to.pid c.run (sym (home_of b m pt y.id (plainly y w) (server_fixed y.to.pid server) c.front) ∙ zero_) server
+
 -- a kernel, a server or a process
 row_by : (b : Boot) (m : ℕ) (pt : Point) (l : Placed) (k : KernelState) (y : Message) (w : PlainWhat) (ps : List Part) (d e f : Bool) (c : Taking b m pt l k y w) → (y.to.pid.num == 0) ≡ d → pid_eq y.to.pid switchboard ≡ e
     → pid_eq y.to.pid manager ≡ f → BagFor m pt y.to.pid w → WhatFits pt.kernel y.id (plainly y w) w → rule.handles b pt m y.id (plainly y w) ≡ Some ps → Row b m pt l k
 row_by b m pt l k y w ps true e f c num one two whom fits goes = kernel_row b m pt l k y w ps c num (sym (rule_to_kernel b pt m y.id (plainly y w) num) ∙ goes)
-row_by b m pt l k y w ps false true f c num one two whom fits goes = board_row b m pt l k y w ps c num one (sym (rule_to_board b pt m y.id (plainly y w) num one) ∙ goes)
-row_by b m pt l k y w ps false false true c num one two whom fits goes = manager_row b m pt l k y w ps c num one two fits (sym (rule_to_manager b pt m y.id (plainly y w) num one two) ∙ goes)
+row_by b m pt l k y w ps false true f c num one two whom fits goes =
+    board_row b m pt l k y w ps c num one (sym (rule_to_board b pt m y.id (plainly y w) num (here_of b m pt l k y w c (ap (λ (d : Bool). d || pid_eq y.to.pid manager) one)) one) ∙ goes)
+row_by b m pt l k y w ps false false true c num one two whom fits goes =
+    manager_row b m pt l k y w ps c num one two fits (sym (rule_to_manager b pt m y.id (plainly y w) num (here_of b m pt l k y w c (ap (λ (d : Bool). d || pid_eq y.to.pid manager) one ∙ two)) one two) ∙ goes)
 row_by b m pt l k y w ps false false false c num one two whom fits goes = process_row b m pt l k y w ps c (record { number = num; no_board = one; no_manager = two }) whom fits goes
 
 pub taking_row : (b : Boot) (m : ℕ) (pt : Point) (l : Placed) (k : KernelState) (y : Message) (w : PlainWhat) → Taking b m pt l k y w → BagFor m pt y.to.pid w → Row b m pt l k

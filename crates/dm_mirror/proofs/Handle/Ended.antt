@@ -10,7 +10,7 @@ use Rattle.dm_onekernel.specs.Kernel.{Ended}
 use Rattle.dm_kernel.specs.declared.part.Part.TheVariants.{Routes}
 pub use Rattle.dm_rule.proofs.Turns.{without_front_none as front_none, at_record_same as queue_same}
 use Rattle.dm_mirror.proofs.Handle.Rows.{IsLeft, turns_row, handled_point, here_left}
-use Rattle.dm_mirror.proofs.Handle.Taking.{Taking, sane_of, known_on, map_same, IsProcess, no_kernel, not_server, to_process, rule_to_process}
+use Rattle.dm_mirror.proofs.Handle.Taking.{Taking, sane_of, known_on, map_same, IsProcess, no_kernel, not_server, to_process, rule_to_process, rule_to_here}
 use Rattle.dm_mirror.proofs.Turning.{Row, routed, rule_routed}
 use Rattle.dm_mirror.proofs.Handle.Servers.{placed_bag, placed_leaves, placed_processes, sent_leaves}
 use Rattle.dm_rule.specs.Rule as rule
@@ -28,16 +28,14 @@ pub record IsEnded (b : Boot) (m : ℕ) (pt : Point) (l : Placed) (k : KernelSta
   pub because : Why
   pub life : pt.kernel.processes p ≡ Some (Ended because)
   pub known : pt.view.known m p ≡ view.Ended
-  pub why : Why
-  pub there : k.records p ≡ Some (Record.Ended why)
+  pub there : k.records p ≡ Some Record.Ended
 
 pub is_ended : (b : Boot) (m : ℕ) (pt : Point) (l : Placed) (k : KernelState) (y : Message) (w : PlainWhat) → Taking b m pt l k y w → IsProcess y.to.pid → pt.view.known m y.to.pid ≡ view.Ended → IsEnded b m pt l k y.to.pid
 is_ended b m pt l k y w c h known =
     let p = y.to.pid in
     let server = not_server p h in
     let (z, life) = ended_of (pt.kernel.processes p) (sym (ap (λ (n : Known). agrees n (pt.kernel.processes p)) known) ∙ c.run.based.known.agree m p server) in
-    let (q, there, gone) = recorded b pt l m k p view.Ended c.stands server known in
-    record { process = h; because = z; life = life; known = known; why = q; there = there }
+    record { process = h; because = z; life = life; known = known; there = recorded b pt l m k p view.Ended c.stands server known }
 
 -- the rows' parts
 ended_turn : (b : Boot) (m : ℕ) (pt : Point) (l : Placed) (k : KernelState) (y : Message) (w : PlainWhat) (c : Taking b m pt l k y w) (o : Option Turned) → IsEnded b m pt l k y.to.pid → ended_handles (record k { inbox = c.rest }) y y.what ≡ o → handles b (record k { inbox = c.rest }) y ≡ o
@@ -165,7 +163,7 @@ pub here_turn : (b : Boot) (m : ℕ) (pt : Point) (l : Placed) (k : KernelState)
 here_turn b m pt l k y w c h o e = to_process b (record k { inbox = c.rest }) y h.process ∙ ap (process_handles (record k { inbox = c.rest }) y) h.there ∙ e
 
 pub here_outcome : (b : Boot) (m : ℕ) (pt : Point) (l : Placed) (k : KernelState) (y : Message) (w : PlainWhat) (h : IsHere b m pt l k y.to.pid) (o : Option (List Part)) → rule.here_handles pt m y.id (plainly y w) (plain_process h.x) w ≡ o → rule.handles b pt m y.id (plainly y w) ≡ o
-here_outcome b m pt l k y w h o e = grind (arith, nat_tests, rule_to_process)
+here_outcome b m pt l k y w h o e = grind (arith, nat_tests, rule_to_here b pt m y.id (plainly y w) h.process h.known)
 
 -- the kernel's step for a served message
 pub served_step : (s : OneKernel) (i : MsgId) (x : PlainMessage) (z : PlainProcess) (t : OneKernel) → s.bag i ≡ Some x → s.processes x.to ≡ Some (Alive z) → s.notes x.to ≡ None
@@ -235,6 +233,7 @@ served_row b m pt l k y w c h d =
         (sent_leaves u d.q).2,
         (sent_leaves u d.q).1,
         lives,
+        ap kernel.why_ended alive ∙ sym (ap kernel.why_ended h.life),
         ap (λ (o : Option Life). blocks_of (kernel.alive o)) alive ∙ ap (λ (n : ℕ). n / 256) d.memory ∙ ap (λ (o : Option Life). blocks_of (kernel.alive o)) (sym h.life),
         processes,
         λ (j : MsgId). placed_bag set (placed.without_message l y.id) d.o j refl,

@@ -25,7 +25,7 @@ use Rattle.dm_mirror.proofs.Kernel.Sets.{is_queue_of, left_off, queue_not_elsewh
 use Rattle.dm_mirror.proofs.Row.Lines.{ended_fewer, handled_fewer}
 use Rattle.dm_mirror.proofs.Serve.Runs.{AreAlone, Drops, drop_lines, drops_stand, drops_still, machine_drops, rule_drops}
 use Rattle.dm_mirror.proofs.Serving.{queue_alone}
-use Rattle.dm_mirror.proofs.Turning.{is_elsewhere, Row, has_process}
+use Rattle.dm_mirror.proofs.Turning.{NoneEnds, OneEnds, one_ends, is_elsewhere, Row, has_process}
 use Rattle.dm_mirror.proofs.Leave.Goes.{room_released}
 use Rattle.dm_mirror.proofs.Handle.Ended.{IsHere, here_outcome, here_turn, served_placed, served_step, here_known}
 use Rattle.dm_mirror.proofs.Follow.Fronts.{front_gone, elsewhere_apart}
@@ -52,8 +52,8 @@ ended_stands pt m i p j (Inbox n) off = grind (arith, nat_tests)
 ended_stands pt m i p j z off = refl
 
 -- what is known of it then
-ended_known : (next : Point) (on : Placed) (p : Pid) (queue held : List MsgId) (z : Why) (r : Option state.KernelKnown) (n : Known) → r ≡ Some (Record.Ended z) → n ≡ view.Ended → kernel.why_ended (next.kernel.processes p) ≡ Some z → KnownStands next on p queue held n r
-ended_known next on p queue held z r n is gone ended = subst (λ (v : Known). KnownStands next on p queue held v r) (sym gone) (subst (KnownStands next on p queue held view.Ended) (sym is) ended)
+ended_known : (next : Point) (on : Placed) (p : Pid) (queue held : List MsgId) (r : Option state.KernelKnown) (n : Known) → r ≡ Some Record.Ended → n ≡ view.Ended → KnownStands next on p queue held n r
+ended_known next on p queue held r n is gone = subst (λ (v : Known). KnownStands next on p queue held v r) (sym gone) (subst (KnownStands next on p queue held view.Ended) (sym is) tt)
 
 queued_told : (b : Boot) (m : ℕ) (pt : Point) (l : Placed) (k : KernelState) (y : Message) (w : said.PlainWhat) → Taking b m pt l k y w → (p : Pid) (j : MsgId) → 1 ≤ times j (pt.view.queue m p) → view.receiver_of (pt.view.told j) ≡ Some p
 queued_told b m pt l k y w c p j least =
@@ -156,7 +156,7 @@ kill_row b m pt l k y c h =
       kernel = stands_set b pt g.next l g.placed m k end p
           (record {
             here = refl;
-            records = λ q off. ap (λ (d : Bool). if d then Some (Record.Ended Why.Killed) else k.records q) off;
+            records = λ q off. ap (λ (d : Bool). if d then Some Record.Ended else k.records q) off;
             queue = λ q off. views.lists (Queue m q) (queue_of_others m p q off);
             held = λ q off. views.held m q;
             known = others_known;
@@ -165,8 +165,8 @@ kill_row b m pt l k y c h =
             lives = others_live;
             bag = λ q j off least. bags.bag j (Queue m q) (queue_of_others m p q off) least ∙ kept (Queue m q) j (queue_apart m m q) least;
             holds = λ q j off least. bags.bag j (Held m q) refl least ∙ kept (Held m q) j (held_apart m m q) least;
-            mine = λ off. ended_known g.next g.placed p (g.next.view.queue m p) (g.next.view.held m p) Why.Killed (end.records p) (g.next.view.known m p)
-                (ap (λ (d : Bool). if d then Some (Record.Ended Why.Killed) else k.records p) (pid_eq-same p)) known (ap kernel.why_ended life);
+            mine = λ off. ended_known g.next g.placed p (g.next.view.queue m p) (g.next.view.held m p) (end.records p) (g.next.view.known m p)
+                (ap (λ (d : Bool). if d then Some Record.Ended else k.records p) (pid_eq-same p)) known;
             keeps = λ server. absurd (false≢true (sym (not_server p h.process) ∙ server));
           }) c.stands
           (ap (without p) c.stands.ring ∙ sym (g.ring ∙ machine_self pt.view.ring m (without p (pt.view.ring m))))
@@ -190,8 +190,9 @@ kill_row b m pt l k y c h =
       );
       sent = tt;
       still = drops_still ids;
+      over = OneEnds m p Why.Killed refl refl (one_ends s g.next.kernel p Why.Killed others_live life);
       count = refl;
-      moving = λ q is. let off = left q (Moves is) in (others_placed q off, ap (λ (d : Bool). if d then Some (Record.Ended Why.Killed) else k.records q) off, bags.notes q);
+      moving = λ q is. let off = left q (Moves is) in (others_placed q off, ap (λ (d : Bool). if d then Some Record.Ended else k.records q) off, bags.notes q);
       own = λ j a none there. bags.own j a none (own_kept b m pt l k y w c on None (λ n. refl) (λ z f. absurd (cc)) j a none there);
       own_back = λ j a none there. own_back l on i None (λ n. refl) (λ z f. absurd (cc)) j a none (bags.own_back j a none there);
     }
@@ -302,6 +303,7 @@ user_row b m pt l k y code channel bytes ls c h =
       elsewhere = search (machine_off, pt.view.inbox, record_off);
       sent = tt;
       still = refl;
+      over = NoneEnds refl (λ q. refl);
       count = refl;
       moving = λ q is. (refl, ap (λ (d : Bool). if d then Some (Record.Here z) else k.records q) (here_left pt m p q c.run.based.phased.phases h.known (Moves is)), refl);
       own = λ j a none there. there;

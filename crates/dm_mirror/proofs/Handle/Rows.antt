@@ -10,7 +10,7 @@ use Rattle.dm_kernel.specs.State as machine
 use Rattle.dm_mirror.proofs.Handle.Taking.{Taking, turn_is, outcome_is, sane_of, apart_at, apart_behind, fresh_at, sent_other, bag_kept, queue_apart, held_apart, sent_there, times_more, map_same, stands_set, eq_off, machine_self}
 use Rattle.dm_mirror.proofs.Handle.Taking.{machine_off}
 use Rattle.dm_mirror.proofs.Rooms.{taken_same}
-use Rattle.dm_mirror.proofs.Turning.{is_elsewhere, has_process, is_moving, routed, rule_routed, IsSent, Row}
+use Rattle.dm_mirror.proofs.Turning.{NoneEnds, spared, is_elsewhere, has_process, is_moving, routed, rule_routed, IsSent, Row}
 use Rattle.dm_mirror.proofs.Kernel.Sets.{away_process as has_none}
 use Rattle.dm_mirror.proofs.Follow.Fronts.{front_gone, elsewhere_apart}
 
@@ -73,6 +73,7 @@ pub record RowLeaves (m : ℕ) (pt : Point) (l : Placed) (k : KernelState) (rest
   pub made : (n : ℕ) → next.made n ≡ pt.kernel.made n
   pub lives : (q : Pid) → pid_eq process q ≡ false → next.processes q ≡ pt.kernel.processes q
   pub blocks : blocks_of (kernel.alive (next.processes process)) ≡ blocks_of (kernel.alive (pt.kernel.processes process))
+  pub ended : kernel.why_ended (next.processes process) ≡ kernel.why_ended (pt.kernel.processes process)
   -- the one with places
   pub processes : (q : Pid) → pid_eq process q ≡ false → placed.processes q ≡ l.processes q
   pub notes : (q : Pid) → placed.notes q ≡ l.notes q
@@ -88,6 +89,7 @@ pub record RowLeaves (m : ℕ) (pt : Point) (l : Placed) (k : KernelState) (rest
   pub sent : state.sent ≡ k.sent
   pub room : state.room ≡ k.room
   pub servers : state.servers ≡ servers_at placed m
+  pub over : state.over ≡ k.over
   pub keeps : is_server process ≡ true → state.records process ≡ k.records process
   -- the others stay
   pub left : (q : Pid) → IsLeft m pt q → (placed.processes q ≡ l.processes q) × (next.processes q ≡ pt.kernel.processes q) × (state.records q ≡ k.records q)
@@ -198,6 +200,7 @@ turns_row b m pt l k y w c h =
       );
       sent = sent;
       still = refl;
+      over = NoneEnds h.leaves.over (spared pt.kernel h.next h.process h.leaves.lives h.leaves.ended);
       count = h.leaves.sent;
       moving = λ q is. let stays = h.leaves.left q (Moves is) in (stays.0, stays.2, h.leaves.notes q);
       own = own_kept b m pt l k y w c h.placed h.route h.leaves.bag other;

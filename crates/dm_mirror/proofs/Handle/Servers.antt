@@ -19,7 +19,7 @@ use Rattle.dm_kernel.specs.declared.part.Part as parts_
 use Rattle.dm_kernel.specs.Handle as machine
 use Rattle.dm_kernel.specs.State as state
 use Rattle.dm_mirror.proofs.Handle.Rows.{turns_row}
-use Rattle.dm_mirror.proofs.Handle.Taking.{Taking, sane_of, some_of, rule_to_board, rule_to_manager}
+use Rattle.dm_mirror.proofs.Handle.Taking.{Taking, sane_of, some_of, server_here, to_board, to_manager, rule_to_board, rule_to_manager}
 use Rattle.dm_mirror.proofs.Turning.{routed, Row, rule_routed}
 use Rattle.dm_mirror.proofs.Follow.Updates.{first_servers as servers_zero}
 
@@ -118,6 +118,7 @@ took_row b m pt l k y w c h =
         (sent_leaves u said).1,
         lives,
         ap (λ (o : Option Life). blocks_of (kernel.alive o)) (lives p),
+        ap kernel.why_ended (lives p),
         processes,
         (placed_leaves before h.sent).0,
         λ (j : MsgId). placed_bag before (placed.without_message l y.id) h.sent j refl,
@@ -157,9 +158,9 @@ board_row b m pt l k y (PlainWhat.User code channel bytes ls) ps c num is goes =
           ∙ ap (λ (d : Bool). if d then bind (board.takes m l.board y.what) (λ (z : board.Taken). Some (board_took (placed.without_message l y.id) z))
           else if pid_eq y.to.pid manager then bind (manage.takes m l.manager y.id.n y.what) (λ (z : manage.Taken). Some (manager_took (placed.without_message l y.id) z)) else None) is
           ∙ ap (λ (o : Option board.Taken). bind o (λ (z : board.Taken). Some (board_took (placed.without_message l y.id) z))) taken;
-      turn = (let e_ : handles b k0 y ≡ board_handles k0 y k0.servers = grind (arith, nat_tests) in e_) ∙ ap (board_handles k0 y) (c.stands.servers ∙ servers_zero l m at)
+      turn = to_board b k0 y num (c.stands.no_server y.to.pid server) is ∙ ap (board_handles k0 y) (c.stands.servers ∙ servers_zero l m at)
           ∙ ap (λ (n : ℕ). machine.board_took k0 y v (board.takes n l.board y.what)) c.stands.here ∙ ap (machine.board_took k0 y v) taken;
-      outcome = rule_to_board b pt m y.id x num is ∙ ap (rule.board_took y.id) takes;
+      outcome = rule_to_board b pt m y.id x num (server_here b pt m y.to.pid c.run at server) is ∙ ap (rule.board_took y.id) takes;
       plain = grind (arith, nat_tests, plain_one);
       fresh = λ q e.
           let sends = subst (λ (o : Option PlainMessage). ServerSends switchboard s.switchboard.sent o kk.switchboard.sent) e (board_takes_lem s.switchboard x w kk takes).2 in
@@ -194,9 +195,9 @@ manager_by b m pt l k y w t c num off is taken takes plain =
           else if pid_eq y.to.pid manager then bind (manage.takes m l.manager y.id.n y.what) (λ (z : manage.Taken). Some (manager_took (placed.without_message l y.id) z)) else None) off
           ∙ ap (λ (d : Bool). if d then bind (manage.takes m l.manager y.id.n y.what) (λ (z : manage.Taken). Some (manager_took (placed.without_message l y.id) z)) else None) is
           ∙ ap (λ (o : Option manage.Taken). bind o (λ (z : manage.Taken). Some (manager_took (placed.without_message l y.id) z))) taken;
-      turn = (let e_ : handles b k0 y ≡ manager_handles k0 y k0.servers = search in e_) ∙ ap (manager_handles k0 y) (c.stands.servers ∙ servers_zero l m at)
+      turn = to_manager b k0 y num (c.stands.no_server y.to.pid server) off is ∙ ap (manager_handles k0 y) (c.stands.servers ∙ servers_zero l m at)
           ∙ ap (λ (n : ℕ). machine.manager_took k0 y v (manage.takes n l.manager y.id.n y.what)) c.stands.here ∙ ap (machine.manager_took k0 y v) taken;
-      outcome = rule_to_manager b pt m y.id x num off is ∙ ap (rule.manager_parts y.id) takes;
+      outcome = rule_to_manager b pt m y.id x num (server_here b pt m y.to.pid c.run at server) off is ∙ ap (rule.manager_parts y.id) takes;
       plain = plain;
       fresh = λ q e.
           let sends = subst (λ (o : Option PlainMessage). ServerSends manager s.manager.sent o kk.manager.sent) e (manager_takes_lem s.manager s.machines (length s.images) x w kk takes).2.sends in

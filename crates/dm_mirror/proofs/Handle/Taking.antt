@@ -3,7 +3,9 @@ use Rattle.dm_mirror.proofs.Names.{◌≡◌, ◌≢◌, ℕ, ◌+◌, ◌≤◌
 use Rattle.dm_mirror.proofs.Names.{nat_tests, PlainMessage, PlainWhat, plain_message, plain_what, Boot, IsValid, Label, OneKernel, bind, Step, entry, reception, after_step, id_eq-is, id_eq-same, Point, outcome, Spot, Queue, Held, Inbox}
 use Rattle.dm_mirror.proofs.Names.{times, standing, StandsAsBag, StandsNowhere, StandsOutside, StandsRight, is_kernels, stands_right, kernels_fresh, not_kernels, Sane, StandsAsBag-elsewhere, StandsAsBag-one, front, OwnTold, IsQueued, Run}
 use Rattle.dm_mirror.proofs.Names.{Front, Placed, Mirrors, MirrorsKernel, parts, there_of, plainly, plainly_is, handles, KernelState, Turned, turn, turns, MadeStands, AllOwnStand, AreMessages, KernelStands, ◌==◌, ◌&&◌, [], slice_get}
-use Rattle.dm_mirror.proofs.Names.{pid_eq, room_of, pid_eq-is, taken_at, at_machine, at_record, Known, is_server, KnownStands, RoomStands, servers_at, ◌||◌, length, switchboard, manager, kernel_handles, process_handles, not_true}
+use Rattle.dm_mirror.proofs.Names.{pid_eq, room_of, pid_eq-is, taken_at, at_machine, at_record, Known, is_server, KnownStands, RoomStands, servers_at, ◌||◌, length, switchboard, manager, kernel_handles, board_handles, manager_handles}
+use Rattle.dm_mirror.proofs.Names.{process_handles, not_true, PlainProcess, KernelKnown, server_at}
+pub use Rattle.dm_rulelaws.proofs.Goes.Process.{no_server}
 use Rattle.dm_rule.proofs.Names.{Part}
 use Rattle.dm_places.specs.PlacedStep.{with_sent, without_message}
 pub use Rattle.dm_rulelaws.proofs.Goes.Always.{queue_apart}
@@ -154,7 +156,7 @@ waits b pt m p i run least =
     waits_by i (state.e i) p pt (pt.kernel.bag i) (standing pt.view i) (Queue m p) refl least off (stands_right pt i state (pt.kernel.bag i) refl) q
 
 -- the machine's turn, and the rule's
-pub turn_is : (b : Boot) (m : ℕ) (pt : Point) (l : Placed) (k : KernelState) (y : Message) (w : PlainWhat) (c : Taking b m pt l k y w) (o : Option Turned) → handles b (record k { inbox = c.rest }) y ≡ o → turn b k ≡ o
+pub turn_is : (b : Boot) (m : ℕ) (pt : Point) (l : Placed) (k : KernelState) (y : Message) (w : PlainWhat) (c : Taking b m pt l k y w) (o : Option Turned) → handles b (record k { inbox = c.rest }) y ≡ o → turns b k k.inbox ≡ o
 turn_is b m pt l k y w c o e = ap (turns b k) c.inbox ∙ e
 
 pub outcome_is : (b : Boot) (m : ℕ) (pt : Point) (l : Placed) (k : KernelState) (y : Message) (w : PlainWhat) (c : Taking b m pt l k y w) (o : Option (List part_of_rule.Part)) → rule.handles b pt m y.id (plainly y w) ≡ o → outcome b pt (Step.Turn m) ≡ o
@@ -218,18 +220,46 @@ not_server p h = ap (λ (c : Bool). c || pid_eq p manager) h.no_board ∙ h.no_m
 pub to_kernel : (b : Boot) (s : KernelState) (y : Message) → (y.to.pid.num == 0) ≡ true → handles b s y ≡ kernel_handles b s y y.what
 to_kernel b s y num = grind (arith, nat_tests)
 
+pub to_known : (b : Boot) (s : KernelState) (y : Message) (r : Option KernelKnown) → (y.to.pid.num == 0) ≡ false → s.records y.to.pid ≡ r → handles b s y ≡ process_handles s y r
+to_known b s y r num is = ap (λ (c : Bool). if c then kernel_handles b s y y.what else process_handles s y (s.records y.to.pid)) num ∙ ap (process_handles s y) is
+
 pub to_process : (b : Boot) (s : KernelState) (y : Message) → IsProcess y.to.pid → handles b s y ≡ process_handles s y (s.records y.to.pid)
-to_process b s y h = search
+to_process b s y h = to_known b s y (s.records y.to.pid) h.number refl
+
+-- the servers have no records
+pub to_board : (b : Boot) (s : KernelState) (y : Message) → (y.to.pid.num == 0) ≡ false → s.records y.to.pid ≡ None → pid_eq y.to.pid switchboard ≡ true → handles b s y ≡ board_handles s y s.servers
+to_board b s y num none one = to_known b s y None num none ∙ ap (λ (c : Bool). if c then board_handles s y s.servers else if pid_eq y.to.pid manager then manager_handles s y s.servers else None) one
+
+pub to_manager : (b : Boot) (s : KernelState) (y : Message) → (y.to.pid.num == 0) ≡ false → s.records y.to.pid ≡ None → pid_eq y.to.pid switchboard ≡ false → pid_eq y.to.pid manager ≡ true → handles b s y ≡ manager_handles s y s.servers
+to_manager b s y num none off is =
+    to_known b s y None num none ∙ ap (λ (c : Bool). if c then board_handles s y s.servers else if pid_eq y.to.pid manager then manager_handles s y s.servers else None) off
+    ∙ ap (λ (c : Bool). if c then manager_handles s y s.servers else None) is
+
+-- a server is known on machine 0
+pub server_here : (b : Boot) (pt : Point) (m : ℕ) (p : Pid) → Run b pt → m ≡ 0 → is_server p ≡ true → pt.view.known m p ≡ Known.Here
+server_here b pt m p run zero_ server = run.based.known.server m p server ∙ ap server_at zero_
 
 pub rule_to_kernel : (b : Boot) (pt : Point) (m : ℕ) (i : MsgId) (x : PlainMessage) → (x.to.num == 0) ≡ true → rule.handles b pt m i x ≡ rule.kernel_handles b pt m i x.what
 rule_to_kernel b pt m i x num = grind (arith, nat_tests)
 
-pub rule_to_board : (b : Boot) (pt : Point) (m : ℕ) (i : MsgId) (x : PlainMessage) → (x.to.num == 0) ≡ false → pid_eq x.to switchboard ≡ true → rule.handles b pt m i x ≡ rule.board_took i (board.board_takes pt.kernel.switchboard x x.what)
-rule_to_board b pt m i x num one = grind (arith, nat_tests)
+pub rule_to_known : (b : Boot) (pt : Point) (m : ℕ) (i : MsgId) (x : PlainMessage) (k : Known) → (x.to.num == 0) ≡ false → pt.view.known m x.to ≡ k → rule.handles b pt m i x ≡ rule.process_handles pt m i x k
+rule_to_known b pt m i x k num is = ap (λ (c : Bool). if c then rule.kernel_handles b pt m i x.what else rule.process_handles pt m i x (pt.view.known m x.to)) num ∙ ap (rule.process_handles pt m i x) is
 
-pub rule_to_manager : (b : Boot) (pt : Point) (m : ℕ) (i : MsgId) (x : PlainMessage) → (x.to.num == 0) ≡ false → pid_eq x.to switchboard ≡ false → pid_eq x.to manager ≡ true
+pub rule_to_board : (b : Boot) (pt : Point) (m : ℕ) (i : MsgId) (x : PlainMessage) → (x.to.num == 0) ≡ false → pt.view.known m x.to ≡ Known.Here → pid_eq x.to switchboard ≡ true → rule.handles b pt m i x ≡ rule.board_took i (board.board_takes pt.kernel.switchboard x x.what)
+rule_to_board b pt m i x num here one =
+    rule_to_known b pt m i x Known.Here num here
+    ∙ ap (λ (c : Bool). if c then rule.board_took i (board.board_takes pt.kernel.switchboard x x.what) else if pid_eq x.to manager then rule.manager_parts i (manage.manager_takes pt.kernel.manager pt.kernel.machines (length pt.kernel.images) x x.what)
+    else bind (kernel.alive (pt.kernel.processes x.to)) (λ (z : PlainProcess). rule.here_handles pt m i x z x.what)) one
+
+pub rule_to_manager : (b : Boot) (pt : Point) (m : ℕ) (i : MsgId) (x : PlainMessage) → (x.to.num == 0) ≡ false → pt.view.known m x.to ≡ Known.Here → pid_eq x.to switchboard ≡ false → pid_eq x.to manager ≡ true
     → rule.handles b pt m i x ≡ rule.manager_parts i (manage.manager_takes pt.kernel.manager pt.kernel.machines (length pt.kernel.images) x x.what)
-rule_to_manager b pt m i x num one two = search
+rule_to_manager b pt m i x num here one two =
+    let parts_ = rule.manager_parts i (manage.manager_takes pt.kernel.manager pt.kernel.machines (length pt.kernel.images) x x.what) in
+    let own = bind (kernel.alive (pt.kernel.processes x.to)) (λ (z : PlainProcess). rule.here_handles pt m i x z x.what) in
+    rule_to_known b pt m i x Known.Here num here ∙ ap (λ (c : Bool). if c then rule.board_took i (board.board_takes pt.kernel.switchboard x x.what) else if pid_eq x.to manager then parts_ else own) one ∙ ap (λ (c : Bool). if c then parts_ else own) two
 
 pub rule_to_process : (b : Boot) (pt : Point) (m : ℕ) (i : MsgId) (x : PlainMessage) → IsProcess x.to → rule.handles b pt m i x ≡ rule.process_handles pt m i x (pt.view.known m x.to)
-rule_to_process b pt m i x h = search
+rule_to_process b pt m i x h = rule_to_known b pt m i x (pt.view.known m x.to) h.number refl
+
+pub rule_to_here : (b : Boot) (pt : Point) (m : ℕ) (i : MsgId) (x : PlainMessage) → IsProcess x.to → pt.view.known m x.to ≡ Known.Here → rule.handles b pt m i x ≡ bind (kernel.alive (pt.kernel.processes x.to)) (λ (z : PlainProcess). rule.here_handles pt m i x z x.what)
+rule_to_here b pt m i x h here = rule_to_known b pt m i x Known.Here h.number here ∙ no_server (pid_eq x.to switchboard) (pid_eq x.to manager) _ _ _ h.no_board h.no_manager

@@ -164,7 +164,7 @@ module _ (pt next : Point) (l placed : Placed) (p : Pid) (ids js : List MsgId) (
       let whole = subst (IsSuch (CanBeCarried a.cap)) (sym (process refl)) h.whole in
       record { source = h.source; cargo = h.cargo; there = cargo_same l placed p (process refl) (notes refl) ∙ h.there; whole = whole; pieces = h.pieces; held = messages_on l.bag placed.bag js a.held held h.held }
   known_same (Forward at_ moves) (Some (Record.Forward to n)) process notes ended h = h
-  known_same Ended (Some (Record.Ended y)) process notes ended h = ap kernel.why_ended (ended refl) ∙ h
+  known_same Ended (Some Record.Ended) process notes ended h = tt
   known_same k r process notes ended h = h
 
 -- what a machine knows of a process that stays
@@ -282,7 +282,7 @@ goes_stands b m t p pt next l placed k n x y queue at g s queues helds e room ri
 
 -- it ends, and its slot and its blocks are free again
 pub ends_stands : (b : Boot) (m : ℕ) (t : Spot → Bool) (p : Pid) (pt next : Point) (l placed : Placed) (k n : KernelState) (x y : Process) (because : Why) → LivesHere m pt l k p x → Leaves m t p pt l next placed → Stays k n p
-    → ((q : Pid) → pid_eq p q ≡ false → t (Queue m q) ≡ false) → ((q : Pid) → t (Held m q) ≡ false) → n.records p ≡ Some (Record.Ended because) → n.room ≡ with_released k.room (machine.blocks_of y) → n.ring ≡ next.view.ring m → AreMessages placed.bag (next.view.inbox m) n.inbox
+    → ((q : Pid) → pid_eq p q ≡ false → t (Queue m q) ≡ false) → ((q : Pid) → t (Held m q) ≡ false) → n.records p ≡ Some Record.Ended → n.room ≡ with_released k.room (machine.blocks_of y) → n.ring ≡ next.view.ring m → AreMessages placed.bag (next.view.inbox m) n.inbox
     → next.view.known m p ≡ view.Ended → next.kernel.processes p ≡ Some (Life.Ended because) → length y.memory ≡ length x.memory → MadeStands pt.kernel → KernelStands b pt l m k → KernelStands b next placed m n
 ends_stands b m t p pt next l placed k n x y because at g s queues helds e room ring inbox known ended memory made h =
     let after : taken_by next m p ≡ record { slots = 0; blocks = 0 } = grind (arith, nat_tests) in

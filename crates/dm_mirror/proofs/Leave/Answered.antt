@@ -1,5 +1,5 @@
 -- A move has ended: whoever asked for it is told.
-use Rattle.dm_mirror.proofs.Names.{◌≡◌, ◌≢◌, ℕ, ◌+◌, ◌≤◌, true, false, [], ◌∷◌, refl, ap, ◌∙◌, sym, subst, inl, inr, arith, Option, None, Some, option_map, cases_Bool, false≢true, Pid, pid_eq, pid_eq-is, Message, MsgId, id_eq}
+use Rattle.dm_mirror.proofs.Names.{turns, ◌≡◌, ◌≢◌, ℕ, ◌+◌, ◌≤◌, true, false, [], ◌∷◌, refl, ap, ◌∙◌, sym, subst, inl, inr, arith, Option, None, Some, option_map, cases_Bool, false≢true, Pid, pid_eq, pid_eq-is, Message, MsgId, id_eq}
 use Rattle.dm_mirror.proofs.Names.{plain_message, Record, Label, Line, Process, Boot, OneKernel, Step, bind, answer_id, bag_none, Point, View, Told, Of, Here, Known, Spot, Queue, Held, Inbox, standing, times, is_between, is_server, after}
 use Rattle.dm_mirror.proofs.Names.{after_line, moved, at_machine, outcome, Run, Placed, Mirrors, placed_step, StepNeeds, KernelState, turn, AllOwnStand, KernelStands, KnownStands, HereStands, RoomStands, AllRecords, TokensStand, room_of}
 use Rattle.dm_mirror.proofs.Names.{slice_get, Asker, Outcome, manager_request, moved_answer, MoveNote, bag_answered, plain_note, ends_move, without_note, Part, tells_asker, LeftStands, is_due_piece}
@@ -10,7 +10,7 @@ use Rattle.dm_rule.specs.Migrating as migrating
 use Rattle.dm_places.specs.PlacedStep.{with_sent}
 use Rattle.dm_kernel.specs.State as machine
 use Rattle.dm_mirror.proofs.Kernel.Sets.{after_label, label_mirrors, off_if, on_if}
-use Rattle.dm_mirror.proofs.Turning.{Elsewhere, First, is_elsewhere, Nothing, TurnsAt, begun, has_process}
+use Rattle.dm_mirror.proofs.Turning.{NoneEnds, Elsewhere, First, is_elsewhere, Nothing, TurnsAt, begun, has_process}
 use Rattle.dm_mirror.proofs.Handle.Taking.{fresh_at, map_same, sent_there, some_same, stands_set}
 use Rattle.dm_mirror.proofs.Handle.Rows.{standing_begun}
 use Rattle.dm_mirror.proofs.Leave.Fronts.{tokens_one}
@@ -29,6 +29,7 @@ pub record EndsMove (b : Boot) (m : ℕ) (pt : Point) (l : Placed) (records : Al
   pub mirrors : Mirrors pt.kernel v pt.addresses placed
   pub kernel : KernelStands b (with_view pt v) placed m state
   pub sent : k.sent ≡ pt.view.count m → state.sent ≡ v.count m
+  pub over : state.over ≡ k.over
   pub elsewhere : Elsewhere m (begun pt m) l (with_view pt v) placed
   pub own : AllOwnStand v placed
   pub tokens : TokensStand v placed (at_machine records m state.records)
@@ -45,7 +46,7 @@ pub record EndsMove (b : Boot) (m : ℕ) (pt : Point) (l : Placed) (records : Al
 module _ (b : Boot) (m : ℕ) (pt : Point) (l : Placed) (records : AllRecords) (k : KernelState) (p : Pid) (line : Line) (state : KernelState) (v : View) (placed : Placed)
     (h : EndsMove b m pt l records k p line state v placed) where
   -- nobody asked
-  ends_alone : turn b k ≡ Some (record { state = state; parts = Part.Says line ∷ [] }) → outcome b pt (Step.Turn m) ≡ Some (rule.Says line ∷ [])
+  ends_alone : turns b k k.inbox ≡ Some (record { state = state; parts = Part.Says line ∷ [] }) → outcome b pt (Step.Turn m) ≡ Some (rule.Says line ∷ [])
       → TurnsAt b m pt l records k
   ends_alone turns due = record {
     state = state;
@@ -60,7 +61,7 @@ module _ (b : Boot) (m : ℕ) (pt : Point) (l : Placed) (records : AllRecords) (
     mirrors = h.mirrors;
     kernel = h.kernel;
     sent = λ e. h.sent e ∙ (let f : (n : ℕ) → n ≡ n + 0 = λ n. omega arith in f (v.count m));
-    single = omega arith;
+    over = NoneEnds h.over (λ q. refl);
     topic = tt;
     elsewhere = h.elsewhere;
     may = tt;
@@ -79,7 +80,7 @@ module _ (b : Boot) (m : ℕ) (pt : Point) (l : Placed) (records : AllRecords) (
   -- somebody did
   ends_asked : (o : Outcome) (n : Asker) → placed.notes p ≡ Some n
       → service.ends_move pt.kernel (manager_request n) p (plain_note n) o ≡ Some (service.move_ended pt.kernel (manager_request n) p (plain_note n) o)
-      → turn b k ≡ Some (record { state = state; parts = Part.Says line ∷ tells_asker m h.process o (Some n) })
+      → turns b k k.inbox ≡ Some (record { state = state; parts = Part.Says line ∷ tells_asker m h.process o (Some n) })
       → outcome b pt (Step.Turn m) ≡ Some (rule.Says line ∷ migrating.answers_move (manager_request n) o) → TurnsAt b m pt l records k
   ends_asked o n notes ends turns due =
       let s = pt.kernel in
@@ -139,7 +140,7 @@ module _ (b : Boot) (m : ℕ) (pt : Point) (l : Placed) (records : AllRecords) (
             (map_same placed.bag on.bag (v.inbox m) (λ j least. same j (Inbox m) least) ∙ h.kernel.inbox) h.kernel.made
             (subst (RoomStands state.room (room_of (slice_get b.machines m))) (sym (taken_same mid next m refl (λ w. refl) (λ q. refl))) h.kernel.room) h.kernel.servers;
         sent = λ f. h.sent f ∙ (let z : (w : ℕ) → w ≡ w + 0 = λ w. omega arith in z (v.count m));
-        single = omega arith;
+        over = NoneEnds h.over (λ q. refl);
         topic = tt;
         elsewhere = search (
           g,
@@ -164,7 +165,7 @@ module _ (b : Boot) (m : ℕ) (pt : Point) (l : Placed) (records : AllRecords) (
   -- by who waits to hear
   pub ends_move_row : (o : Outcome) (asker : Option Asker) → placed.notes p ≡ asker
       → ((n : MoveNote) → service.ends_move pt.kernel n.id p n o ≡ Some (service.move_ended pt.kernel n.id p n o))
-      → turn b k ≡ Some (record { state = state; parts = Part.Says line ∷ tells_asker m h.process o asker })
+      → turns b k k.inbox ≡ Some (record { state = state; parts = Part.Says line ∷ tells_asker m h.process o asker })
       → outcome b pt (Step.Turn m) ≡ Some (rule.Says line ∷ migrating.tells_asker (pt.kernel.notes p) o) → TurnsAt b m pt l records k
   ends_move_row o None notes ends turns due =
       let free : pt.kernel.notes p ≡ None = sym (h.mirrors.plain.notes p) ∙ ap (option_map plain_note) notes in

@@ -13,7 +13,7 @@ use Rattle.dm_rule.specs.View as view
 use Rattle.dm_places.specs.PlacedStep as placed
 use Rattle.dm_places.specs.PlacedStep.{with_sent}
 use Rattle.dm_kernel.specs.State as kernels
-use Rattle.dm_mirror.proofs.Turning.{Row, TurnsAt, has_process, is_elsewhere}
+use Rattle.dm_mirror.proofs.Turning.{NoneEnds, Row, TurnsAt, has_process, is_elsewhere}
 use Rattle.dm_mirror.proofs.Kernel.Sets.{after_label, label_mirrors, off_if, on_if}
 use Rattle.dm_mirror.proofs.Handle.Taking.{Taking, eq_self, held_apart, machine_off, machine_self, map_same, not_server, outcome_is, queue_apart, sane_of, sent_there, some_same, stands_set, turn_is}
 use Rattle.dm_mirror.proofs.Handle.Rows.{Elsewhere, Moves, here_left, kept_at, kept_behind, mirrors_one, own_back, own_kept, standing_begun}
@@ -212,6 +212,7 @@ asked_here b m pt l k y machine c h is =
       );
       sent = (sent_there (without_note mid_placed p i) a, refl);
       still = refl;
+      over = NoneEnds refl (λ q. refl);
       count = refl;
       moving = λ q is. (refl, refl, others q (here_left pt m p q c.run.based.phased.phases h.known (Moves is)));
       own = own_kept b m pt l k y w c on (Some a) bag_is (λ n same. (both n same).1);

@@ -1,18 +1,18 @@
 -- A process is told to move: to where it is, or it is frozen, and the other machine is asked.
-use Rattle.dm_mirror.proofs.Names.{◌≡◌, ◌≢◌, ℕ, ◌+◌, ◌≤◌, ◌==◌, ◌&&◌, Bool, true, false, not, List, [], ◌∷◌, map, refl, ap, ◌∙◌, sym, subst, inl, inr, arith, if◌then◌else◌, None, Some, eqb_tells, Pid, pid_eq, kernel_at, Message, nat_tests}
-use Rattle.dm_mirror.proofs.Names.{MsgId, What, MessageKind, Record, Line, Stage, Process, CanMove, ask_of, frozen, Taken, Boot, manager, switchboard, FreezesReceiverWhole, KnownIsWhole, freezes, with_frozen, KernelState, own, turned}
-use Rattle.dm_mirror.proofs.Names.{pid_eq-is, pid_eq-same, to_kernel, Point, moved, Room, taken_by, takes_room, at_machine, at_record, without, without_front, times, Here, Frozen, Known, Of, own_id, target_of, is_server, has_nothing_held}
-use Rattle.dm_mirror.proofs.Names.{is_fixed, Placed, mirrors_view, told_of, KnownStands, LeavesStand, RoomStands, AllRecords, eq_not, or-right, ◌/◌, length, option_map, Option, Addr, pid_of, kind_of, plain_what, with_what, frozen_of}
-use Rattle.dm_mirror.proofs.Names.{incoming_of, Departure, block_of, chunk_of, state_of, OneKernel, bind, plain_process, gives_piece, kernel_handles, Addresses, Receiver, Sender, gets, own_given, unmoved, told_step, is_between}
+use Rattle.dm_mirror.proofs.Names.{turns, ◌≡◌, ◌≢◌, ℕ, ◌+◌, ◌≤◌, ◌==◌, ◌&&◌, Bool, true, false, not, List, [], ◌∷◌, map, refl, ap, ◌∙◌, sym, subst, inl, inr, arith, if◌then◌else◌, None, Some, eqb_tells, Pid, pid_eq, kernel_at, Message}
+use Rattle.dm_mirror.proofs.Names.{nat_tests, MsgId, What, MessageKind, Record, Line, Stage, Process, CanMove, ask_of, frozen, Taken, Boot, manager, switchboard, FreezesReceiverWhole, KnownIsWhole, freezes, with_frozen, KernelState, own}
+use Rattle.dm_mirror.proofs.Names.{turned, pid_eq-is, pid_eq-same, to_kernel, Point, moved, Room, taken_by, takes_room, at_machine, at_record, without, without_front, times, Here, Frozen, Known, Of, own_id, target_of, is_server}
+use Rattle.dm_mirror.proofs.Names.{has_nothing_held, is_fixed, Placed, mirrors_view, told_of, KnownStands, LeavesStand, RoomStands, AllRecords, eq_not, or-right, ◌/◌, length, option_map, Option, Addr, pid_of, kind_of, plain_what, with_what}
+use Rattle.dm_mirror.proofs.Names.{frozen_of, incoming_of, Departure, block_of, chunk_of, state_of, OneKernel, bind, plain_process, gives_piece, kernel_handles, Addresses, Receiver, Sender, gets, own_given, unmoved, told_step, is_between}
 use Rattle.dm_mirror.proofs.Names.{tells_onward, fits, free_room, kernel_hears, Inbox, standing, Told, View, after_proto, handled, Run, enclosed, about_of, Carries, destination_of, false≢true, ◌++◌, turn, outcome, after, Step}
 use Rattle.dm_mirror.proofs.Names.{plain_message, HereStands, Mirrors, AreMessages, Spot, Queue, Held, spot_cases, Asker, leaves_for, here_free, Part, sort_of, drop, slice_get, option_and_then, Cargo, cargo_at, cargo_of, ◌⊎◌, ◌||◌}
 use Rattle.dm_mirror.proofs.Names.{cases_Bool, PlainProcess, receiver_in, LeftCarries, is_due_piece, is_piece, brings_piece, pulls_piece, is_waited_from}
 use Rattle.dm_mirror.proofs.Recorded.{Recorded, recorded}
 use Rattle.dm_kernel.specs.State.{with_sent}
 use Rattle.dm_mirror.proofs.Rooms.{taken_same}
-use Rattle.dm_mirror.proofs.Leave.Fronts.{FrontGone, Hearing, Present, rests_over, outcome_hears, stood, turn_hears, Leaving, leaving, stands_first, absent_next, may_between, own_is, process_hears, records_as, three_off, to_process}
+use Rattle.dm_mirror.proofs.Leave.Fronts.{FrontGone, Hearing, Present, rests_over, outcome_hears, stood, turn_hears, Leaving, leaving, stands_first, absent_next, may_between, own_is, records_as, three_off, to_process, here_hears}
 use Rattle.dm_mirror.proofs.Leave.Fronts.{untold_next, to_kernel_hears, own_stays, tokens_one, front_rest}
-use Rattle.dm_mirror.proofs.Turning.{Nothing, Own, TurnsAt, begun, has_process, is_elsewhere, late_parts, late_rule_parts, part_of, rule_part_of}
+use Rattle.dm_mirror.proofs.Turning.{NoneEnds, own_first, own_behind, Nothing, Own, TurnsAt, begun, has_process, is_elsewhere, late_parts, late_rule_parts, part_of, rule_part_of}
 use Rattle.dm_mirror.proofs.Handle.Taking.{eq_self, machine_self, machine_off, record_self, record_off, record_others, some_same, stands_set, held_apart, map_same, queue_apart}
 use Rattle.dm_mirror.proofs.Handle.Rows.{Elsewhere, here_left, standing_begun}
 use Rattle.dm_mirror.proofs.Follow.Fronts.{front_gone as front_off, elsewhere_apart}
@@ -56,7 +56,7 @@ here_already b m pt l records k y machine h at_m is =
       late = Nothing;
       turn = turn_hears b m pt l records k z h (turned s (Part.Says (Line.Here y.id) ∷ []))
           (to_process b s z (Some (Record.Here x)) loose is_here ∙ ap (λ (c : Bool). if c then turned s (Part.Says (Line.Here y.id) ∷ []) else freezes s p x machine) to_here);
-      outcome = outcome_hears b m pt l records k z h (Some (rule.Says (Line.Here y.id) ∷ [])) (process_hears b pt m y.id (told_of z) Here loose at_m
+      outcome = outcome_hears b m pt l records k z h (Some (rule.Says (Line.Here y.id) ∷ [])) (here_hears b pt m y.id (told_of z) loose at_m
           ∙ ap (λ (c : Bool). Some (if c then rule.Says (Line.Here y.id) ∷ [] else rule.Says (Line.Migration Stage.Frozen p) ∷ rule.Says (Line.Migration Stage.Asked p) ∷ to_kernel MessageKind.Ask machine ∷ [])) same);
       next = next;
       after = refl;
@@ -67,7 +67,7 @@ here_already b m pt l records k y machine h at_m is =
       elsewhere = search;
       may = tt;
       late_may = tt;
-      single = omega arith;
+      over = NoneEnds refl (λ q. refl);
       topic = tt;
       own = own_stays pt.view next.view l refl h.own;
       tokens = tokens_less pt.view next.view l records (at_machine records m k.records) (λ i. refl) (λ q. refl) (λ n q. refl) (λ n q. records_as records m n k.records k.records q h.records_here refl)
@@ -117,7 +117,7 @@ pub record SetsOff (b : Boot) (m : ℕ) (pt : Point) (l : Placed) (records : All
   pub rest : List Message
   pub others : AreMessages l.bag ids rest
   -- what the machine does, and what the lines come to
-  pub turn : turn b k ≡ Some (record { state = off_state k rest p process machine asker; parts = map Part.Says says ++ map part_of (Own (off_ask k machine process asker) ∷ []) ++ late_parts Nothing })
+  pub turn : turns b k k.inbox ≡ Some (record { state = off_state k rest p process machine asker; parts = map Part.Says says ++ map part_of (Own (off_ask k machine process asker) ∷ []) ++ late_parts Nothing })
   pub outcome : outcome b pt (Step.Turn m) ≡ Some (map rule.Says says ++ map rule_part_of (Own (off_ask k machine process asker) ∷ []) ++ late_rule_parts Nothing)
   pub after : after (begun pt m) says ≡ Some (record { kernel = t; view = off_view pt m p box to; addresses = a })
   pub on_mirrors : Mirrors t (off_view pt m p box to) a on
@@ -156,6 +156,7 @@ sets_off b m pt l records k p machine asker says t a box to on h =
     (subst (λ (n : Known). KnownStands next on p (v.queue m p) (v.held m p) n (Some (Record.Frozen (frozen x machine asker)))) (sym frozen_known) leaves) in
     let taken = taken_same pt next m h.machines h.made (λ q. taken_at_record pt next m p q (Frozen to) (h.lives q) refl (sym (ap takes_room h.at_m))) in
     let id_is : ask.id ≡ own_id next.view = λ i. record { from = record { home = h.stands.here i; num = 0 }; n = h.sent i; answer = false } in
+    let id_first : ask.id ≡ own_behind next.view 0 = id_is ∙ own_first next.view in
     let sets : (q : Pid) → pid_eq p q ≡ false → state.records q ≡ k.records q =
     λ q off. ap (λ (c : Bool). if c then Some (Record.Frozen (frozen x machine asker)) else k.records q) off in
     let keeps : is_server p ≡ true → state.records p ≡ k.records p = λ is. absurd (false≢true (sym h.server ∙ is)) in
@@ -198,12 +199,12 @@ sets_off b m pt l records k p machine asker says t a box to on h =
         λ (j : MsgId) (z : Spot) (is : is_elsewhere m z ≡ true) (least : 1 ≤ standing (begun pt m).view j z). h.kept z j (elsewhere_apart m z is) (subst (λ (n : ℕ). 1 ≤ n) (standing_begun pt m j z) least),
       );
       may = (
-        may_between next on after_records m machine p ask (search
+        may_between next on after_records m machine p 0 ask (search
             (ap kernel_at h.stands.here, h.absent ask.id (ap l.bag id_is ∙ absent_next b pt l m h.run h.mirrors h.own), ap v.told id_is ∙ untold_next b pt m h.run, ap Of x_is, asked_as)),
         tt,
       );
       late_may = tt;
-      single = omega arith;
+      over = NoneEnds refl (λ q. ap kernel.why_ended (h.lives q));
       topic = tt;
       own = λ j w there none. (let g = h.own j w (h.back j w none there) none in record { told = g.told; mine = g.mine; sender = g.sender });
       tokens = tokens_one v next.view l on records after_records p
@@ -260,7 +261,7 @@ asks_other b m pt l records k y machine h at_m apart whole =
       turn = turn_hears b m pt l records k z h (freezes s p x machine)
           (to_process b s z (Some (Record.Here x)) loose is_here ∙ ap (λ (c : Bool). if c then turned s (Part.Says (Line.Here y.id) ∷ []) else freezes s p x machine) off_here);
       outcome = outcome_hears b m pt l records k z h (Some (leaves_for p machine))
-          (process_hears b pt m y.id (told_of z) Here loose at_m ∙ ap (λ (c : Bool). Some (if c then rule.Says (Line.Here y.id) ∷ [] else leaves_for p machine)) off_rule);
+          (here_hears b pt m y.id (told_of z) loose at_m ∙ ap (λ (c : Bool). Some (if c then rule.Says (Line.Here y.id) ∷ [] else leaves_for p machine)) off_rule);
       after = refl;
       on_mirrors = mirrors_view pt.kernel v next.view pt.addresses l refl h.mirrors;
       spared = record { lives = λ q. refl; made = λ n. refl; machines = refl; processes = λ q. refl; board = refl; manager = refl };
@@ -343,6 +344,7 @@ gives b m pt l records k y p w h receiver sender piece turn hears proto carries 
     let gone : FrontGone m h.ids v next.view = search (front_rest m h.ids v next.view box, machine_off) in
     let taken = taken_same pt next m refl (λ n. refl) (λ q. refl) in
     let id_is : message.id ≡ own_id next.view = own_is b m pt l records k y h in
+    let id_first : message.id ≡ own_behind next.view 0 = id_is ∙ own_first next.view in
     let carries_on : IsCarried l (next.view.asked p) after_records p message ⊎ IsLeftOver next.view l p message = elim carries [ inl c ↦ inl c | inr c ↦ inr (record { over = c.over; sender = c.sender; carries = c.carries }) ] in
     record {
       state = state;
@@ -361,7 +363,7 @@ gives b m pt l records k y p w h receiver sender piece turn hears proto carries 
       sent = λ e. ap (λ (n : ℕ). n + 1) e;
       elsewhere = search;
       may = (
-        may_between next l after_records m y.id.from.home p message (search (
+        may_between next l after_records m y.id.from.home p 0 message (search (
           ap (with_what message) piece.plain,
           piece.gives next.kernel next.view next.addresses message.id message.to.pid,
           ap kernel_at h.stands.here,
@@ -374,7 +376,7 @@ gives b m pt l records k y p w h receiver sender piece turn hears proto carries 
         tt,
       );
       late_may = tt;
-      single = omega arith;
+      over = NoneEnds refl (λ q. refl);
       topic = tt;
       own = own_stays v next.view l refl h.own;
       tokens = tokens_less v next.view l records after_records (λ i. refl) (λ q. refl) (λ n q. refl) (λ n q. records_as records m n k.records state.records q h.records_here refl)

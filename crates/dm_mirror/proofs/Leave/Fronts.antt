@@ -4,15 +4,16 @@ use Rattle.dm_mirror.proofs.Names.{bind, Boot, Step, handles, KernelState, Turne
 use Rattle.dm_mirror.proofs.Names.{hears, outcome, Spot, Queue, Held, Inbox, Untaken, standing, times, Here, Frozen, Of, Told, View, is_kernels, letters, rests_here, token_at, StandsAsBag-one, StandsAsBag-elsewhere, spot_cases, OwnTold}
 use Rattle.dm_mirror.proofs.Names.{Run, Placed, Mirrors, AllOwnStand, about_of, told_of, AreMessages, KernelStands, AllRecords, TokensStand, eq_self, source_knows, inbox_is, more_front, holds_is, ◌||◌, [], refl, Addr, pid_eq, place_of}
 use Rattle.dm_mirror.proofs.Names.{nat_tests, kernel_at, id_of, MessageKind, PlainMessage, process_handles, Gets, Receiver, Sender, gets, given, own_given, unmoved, process_told, kernel_hears, at_machine, Known, own_id, not_kernels}
-use Rattle.dm_mirror.proofs.Names.{is_fixed, enclosed, about_same, cases_Bool, pid_eq-is, sort_of, What, false≢true, LeftStands, is_due_piece, is_waited_from}
+use Rattle.dm_mirror.proofs.Names.{is_fixed, enclosed, about_same, cases_Bool, pid_eq-is, sort_of, What, false≢true, LeftStands, is_due_piece, is_waited_from, is_server, manager, switchboard, told_here, or-left}
 use Rattle.dm_mirror.proofs.Handle.Taking.{front_of, times_self, machine_self, machine_off, some_same}
-use Rattle.dm_mirror.proofs.Turning.{IsCarried, IsLeftOver, MayOwn}
+use Rattle.dm_mirror.proofs.Turning.{IsCarried, IsLeftOver, MayOwn, own_behind}
 pub use Rattle.dm_mirror.proofs.Handle.Taking.{to_kernel}
 use Rattle.dm_rule.specs.Parts as rule
 use Rattle.dm_rule.specs.Rule as ruled
 use Rattle.dm_kernel.specs.State as machine
 use Rattle.dm_mirror.proofs.Cargoes.{cargo_same}
 use Rattle.dm_mirror.proofs.LeftOver.{IsDue, IsOver, OneStands, Which, due_of, known_due, left_asks, left_keeps, one_keeps, still_over, token_same, which}
+use Rattle.dm_mirror.proofs.Handle.Taking.{to_known, no_server}
 
 -- what stands of machine m and its kernel
 pub record Present (b : Boot) (m : ℕ) (pt : Point) (l : Placed) (records : AllRecords) (k : KernelState) : Type 0 where
@@ -64,7 +65,7 @@ heard b m pt l records k i is run sorts mirrors stands own tokens here sent box 
     )
 
 -- the machine's turn, and the rule's
-pub turn_hears : (b : Boot) (m : ℕ) (pt : Point) (l : Placed) (records : AllRecords) (k : KernelState) (y : Message) (h : Hearing b m pt l records k y) (o : Option Turned) → handles b (record k { inbox = h.rest }) y ≡ o → turn b k ≡ o
+pub turn_hears : (b : Boot) (m : ℕ) (pt : Point) (l : Placed) (records : AllRecords) (k : KernelState) (y : Message) (h : Hearing b m pt l records k y) (o : Option Turned) → handles b (record k { inbox = h.rest }) y ≡ o → turns b k k.inbox ≡ o
 turn_hears b m pt l records k y h o e = ap (turns b k) h.inbox ∙ e
 
 pub outcome_hears : (b : Boot) (m : ℕ) (pt : Point) (l : Placed) (records : AllRecords) (k : KernelState) (y : Message) (h : Hearing b m pt l records k y) (o : Option (List rule.Part)) → hears b pt m y.id (Some (told_of y)) ≡ o → outcome b pt (Step.Turn m) ≡ o
@@ -212,10 +213,10 @@ absent_next b pt l m run mirrors own =
 pub own_is : (b : Boot) (m : ℕ) (pt : Point) (l : Placed) (records : AllRecords) (k : KernelState) (y : Message) → Hearing b m pt l records k y → machine.own_id k ≡ id_of (pid_of m 0) (pt.view.count m)
 own_is b m pt l records k y h = λ i. record { from = record { home = h.stands.here i; num = 0 }; n = h.sent i; answer = false }
 
--- a message to the kernel of a machine c, about process p
-pub record Between (pt : Point) (placed : Placed) (records : AllRecords) (m c : ℕ) (p : Pid) (x : Message) : Type 0 where
+-- a message to the kernel of a machine c, about process p, behind so many of the kernel's own
+pub record Between (pt : Point) (placed : Placed) (records : AllRecords) (m c : ℕ) (p : Pid) (j : ℕ) (x : Message) : Type 0 where
   pub acting : pt.view.acting ≡ m
-  pub id : x.id ≡ own_id pt.view
+  pub id : x.id ≡ own_behind pt.view j
   pub plain : plain_message x ≡ None
   pub encloses : enclosed x.what ≡ []
   pub gives : own_given pt.kernel pt.view pt.addresses x.id x.to.pid (sort_of (kind_of x.what)) ≡ gets (Receiver x.id) (unmoved x.to.pid.home) ∷ gets (Sender x.id) (unmoved pt.view.acting) ∷ []
@@ -232,8 +233,8 @@ no_request : (w : What) (p : Pid) → kind_of w ≡ MessageKind.Migrate → abou
 no_request (What.Migrate machine) p e about = cc
 no_request _ p e about = cc
 
-pub may_between : (pt : Point) (placed : Placed) (records : AllRecords) (m c : ℕ) (p : Pid) (x : Message) → Between pt placed records m c p x → MayOwn pt placed records x
-may_between pt placed records m c p x h =
+pub may_between : (pt : Point) (placed : Placed) (records : AllRecords) (m c : ℕ) (p : Pid) (j : ℕ) (x : Message) → Between pt placed records m c p j x → MayOwn pt placed records j x
+may_between pt placed records m c p j x h =
     let a = pt.addresses in
     let q = x.to.pid in
     let second : List Gets = gets (Sender x.id) (unmoved pt.view.acting) ∷ [] in
@@ -257,10 +258,16 @@ pub three_off : (a b c : Bool) → (a || (b || c)) ≡ false → (a ≡ false) �
 three_off a b c e = grind (arith, nat_tests)
 
 pub to_process : (b : Boot) (s : KernelState) (y : Message) (r : Option machine.KernelKnown) → is_fixed y.to.pid ≡ false → s.records y.to.pid ≡ r → handles b s y ≡ process_handles s y r
-to_process b s y r loose is = grind (arith, nat_tests, three_off)
+to_process b s y r loose is = to_known b s y r (or-left (y.to.pid.num == 0) (is_server y.to.pid) loose) is
 
 pub process_hears : (b : Boot) (pt : Point) (m : ℕ) (i : MsgId) (t : Told) (n : Known) → is_fixed t.receiver ≡ false → pt.view.known m t.receiver ≡ n → hears b pt m i (Some t) ≡ process_told pt m i t n
-process_hears b pt m i t n loose is = grind (arith, nat_tests, three_off)
+process_hears b pt m i t n loose is =
+    ap (λ (c : Bool). if c then kernel_hears b pt m i t.kind t.about else process_told pt m i t (pt.view.known m t.receiver)) (or-left (t.receiver.num == 0) (is_server t.receiver) loose) ∙ ap (process_told pt m i t) is
+
+pub here_hears : (b : Boot) (pt : Point) (m : ℕ) (i : MsgId) (t : Told) → is_fixed t.receiver ≡ false → pt.view.known m t.receiver ≡ Here → hears b pt m i (Some t) ≡ told_here pt m i t (sort_of t.kind)
+here_hears b pt m i t loose is =
+    let (num, one, two) = three_off (t.receiver.num == 0) (pid_eq t.receiver switchboard) (pid_eq t.receiver manager) loose in
+    process_hears b pt m i t Here loose is ∙ no_server (pid_eq t.receiver switchboard) (pid_eq t.receiver manager) _ _ _ one two
 
 pub to_kernel_hears : (b : Boot) (pt : Point) (m : ℕ) (i : MsgId) (t : Told) → (t.receiver.num == 0) ≡ true → hears b pt m i (Some t) ≡ kernel_hears b pt m i t.kind t.about
 to_kernel_hears b pt m i t num = grind (arith, nat_tests)

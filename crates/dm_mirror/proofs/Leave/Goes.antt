@@ -11,7 +11,7 @@ use Rattle.dm_mirror.proofs.Handle.Rows.{standing_begun}
 use Rattle.dm_mirror.proofs.Rooms.{taken_changed}
 use Rattle.dm_mirror.proofs.Leave.Fronts.{FrontGone, Hearing, leaving, leaving_left, outcome_hears, stood, turn_hears, absent_next, may_between, own_is, records_as, to_kernel_hears, untold_next, tokens_one}
 use Rattle.dm_mirror.proofs.Leave.Stays.{messages_append, in_one}
-use Rattle.dm_mirror.proofs.Turning.{Leaves, On, TurnsAt, begun, is_elsewhere, part_of, rule_part_of, AllMayPut, MayPut, owns}
+use Rattle.dm_mirror.proofs.Turning.{NoneEnds, own_first, own_behind, Leaves, On, TurnsAt, begun, is_elsewhere, part_of, rule_part_of, AllMayPut, MayPut, owns}
 use Rattle.dm_mirror.proofs.Leave.Asks.{carried, departing, kernel_number, leaves_alive, leaves_no_server}
 use Rattle.dm_mirror.proofs.Handle.Taking.{eq_self, machine_self, machine_off, map_same, pid_apart, record_self, record_off, record_others, times_more, times_self, some_same, stands_set}
 use Rattle.dm_onekernel.specs.Step as kernel
@@ -83,14 +83,14 @@ on_rule_parts bag at moves (i ∷ is) (m ∷ ms) named e =
     λ c. rule.Again ((named i m first) c) at ∷ (on_rule_parts bag at moves is ms named more) c
 
 pub all_may : (pt : Point) (placed : Placed) (records : AllRecords) (at moves : ℕ) (bag : MsgId → Option Message) (is : List MsgId) (ms : List Message)
-    → ((i : MsgId) (x : Message) → 1 ≤ times i is → bag i ≡ Some x → MayPut pt placed records (On (sent_on at moves x))) → AreMessages bag is ms → AllMayPut pt placed records (map On (map (sent_on at moves) ms))
-all_may pt placed records at moves bag [] [] may e = tt
-all_may pt placed records at moves bag [] (m ∷ ms) may e = cc
-all_may pt placed records at moves bag (i ∷ is) [] may e = cc
-all_may pt placed records at moves bag (i ∷ is) (m ∷ ms) may e =
+    → ((i : MsgId) (x : Message) → 1 ≤ times i is → bag i ≡ Some x → MayPut pt placed records 0 (On (sent_on at moves x))) → AreMessages bag is ms → (j : ℕ) → AllMayPut pt placed records j (map On (map (sent_on at moves) ms))
+all_may pt placed records at moves bag [] [] may e j = tt
+all_may pt placed records at moves bag [] (m ∷ ms) may e j = cc
+all_may pt placed records at moves bag (i ∷ is) [] may e j = cc
+all_may pt placed records at moves bag (i ∷ is) (m ∷ ms) may e n =
     let first : bag i ≡ Some m = cc in
     let more : map bag is ≡ map Some ms = cc in
-    (may i m (times_self i is) first, all_may pt placed records at moves bag is ms (λ j x least there. may j x (more_front j i is least) there) more)
+    (may i m (times_self i is) first, all_may pt placed records at moves bag is ms (λ j x least there. may j x (more_front j i is least) there) more (n + 0))
 
 -- what was told of one of them
 pub record IsTold (v : View) (i : MsgId) (x : Message) : Type 0 where
@@ -110,7 +110,7 @@ told_by b pt l i x z (Some w) run mirrors own least there plain =
 
 -- each of them may be put again
 pub on_may : (b : Boot) (pt end : Point) (m : ℕ) (p : Pid) (l : Placed) (records : AllRecords) (at moves : ℕ) (i : MsgId) (x : Message) → Run b pt → Mirrors pt.kernel pt.view pt.addresses l → AllOwnStand pt.view l → end.view.told ≡ pt.view.told
-    → 1 ≤ times i (pt.view.queue m p ++ pt.view.held m p) → l.bag i ≡ Some x → MayPut end (sent_all l at moves (pt.view.queue m p ++ pt.view.held m p)) records (On (sent_on at moves x))
+    → 1 ≤ times i (pt.view.queue m p ++ pt.view.held m p) → l.bag i ≡ Some x → MayPut end (sent_all l at moves (pt.view.queue m p ++ pt.view.held m p)) records 0 (On (sent_on at moves x))
 on_may b pt end m p l records at moves i x run mirrors own e least there =
     let v = pt.view in
     let ids = v.queue m p ++ v.held m p in
@@ -224,6 +224,7 @@ goes b m pt l records k y p h made =
     let sends : List Part = Part.Says (Line.Migration Stage.Left p) ∷ Part.Routes restart ∷ [] in
     let last : List rule.Part = rule.Says (Line.Migration Stage.Left p) ∷ to_kernel MessageKind.Restart to ∷ [] in
     let owned : turning.owns (map On on) ≡ 0 = on_owns on in
+    let id_late : restart.id ≡ own_behind end.view (turning.owns (map On on)) = id_is ∙ own_first end.view ∙ ap (own_behind end.view) (sym owned) in
     let sets : (q : Pid) → pid_eq p q ≡ false → state.records q ≡ k.records q = λ q off. ap (λ (c : Bool). if c then Some (Record.Forward to moves) else k.records q) off in
     let other_queue : (m : ℕ) (p q : Pid) → pid_eq p q ≡ false → Queue m q ≢ Queue m p = λ m p q off e. false≢true (sym off ∙ ap (pid_eq p) (ap (λ (z : Spot). pid_in z p) e) ∙ pid_eq-same p) in
     let waits : (q : Pid) (j : MsgId) → pid_eq p q ≡ false → 1 ≤ times j (v.queue m q) → placed.bag j ≡ l.bag j = λ q j off least. stays (Queue m q) j (other_queue m p q off) (λ e. cc) least in
@@ -260,10 +261,10 @@ goes b m pt l records k y p h made =
         λ (i : MsgId) (spot : Spot) (away : is_elsewhere m spot ≡ true) (least : 1 ≤ standing (begun pt m).view i spot).
             stays spot i (elsewhere_queue m p spot away) (λ e. false≢true (sym (ap not (eq_self m)) ∙ ap (is_elsewhere m) (sym e) ∙ away)) (subst (λ (r : ℕ). 1 ≤ r) (standing_begun pt m i spot) least),
       );
-      may = all_may end placed after_records to moves l.bag ids ms (λ i a least e. on_may b pt end m p l after_records to moves i a h.run h.mirrors h.own refl least e) lists;
-      single = omega (arith, owned);
+      may = all_may end placed after_records to moves l.bag ids ms (λ i a least e. on_may b pt end m p l after_records to moves i a h.run h.mirrors h.own refl least e) lists 0;
+      over = NoneEnds refl (λ q. refl);
       topic = refl;
-      late_may = may_between end placed after_records m to p restart (search (
+      late_may = may_between end placed after_records m to p (turning.owns (map On on)) restart (search (
         ap kernel_at h.stands.here,
         bag_absent l to moves ids restart.id (ap l.bag id_is ∙ absent_next b pt l m h.run h.mirrors h.own),
         ap v.told id_is ∙ untold_next b pt m h.run,

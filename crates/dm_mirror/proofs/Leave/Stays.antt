@@ -95,6 +95,7 @@ stays_turn b m pt l records k y p w f h =
           h.stands.made (room_stays k.room _ _ _ taken h.stands.room)
           h.stands.servers;
       sent = λ e. e;
+      over = refl;
       elsewhere = search (machine_off, v.ring, record_off);
       own = own_stays v next.view l refl h.own;
       tokens = tokens_one v next.view l l records (at_machine records m state.records) p

@@ -271,13 +271,13 @@ pub process_row : (b : Boot) (pt : Point) (l : Placed) (m : ℕ) (k : KernelStat
     → k.sent < 4294967295 → FrontSo pt m i x p
     → (p.to.num == 0) ≡ false → pid_eq p.to manager ≡ false → is_server p.to ≡ false → k.records p.to ≡ o → FitsKnown k x o
 process_row b pt l m k i x p None mirrors h counts sent f num other server is =
-    f.known (ap (λ (c : Bool). c || is_server p.to) num ∙ server) (known_some pt l p.to (pt.view.queue m p.to) (pt.view.held m p.to) (pt.view.known m p.to) (subst (KnownStands pt l p.to (pt.view.queue m p.to) (pt.view.held m p.to) (pt.view.known m p.to)) is (h.known p.to server)))
+    absurd (f.known (ap (λ (c : Bool). c || is_server p.to) num ∙ server) (known_some pt l p.to (pt.view.queue m p.to) (pt.view.held m p.to) (pt.view.known m p.to) (subst (KnownStands pt l p.to (pt.view.queue m p.to) (pt.view.held m p.to) (pt.view.known m p.to)) is (h.known p.to server))))
 process_row b pt l m k i x p (Some (Record.Here y)) mirrors h counts sent f num other server is =
     let so = here_so b pt l m k p.to y mirrors h server is in
     let moves = (mirrors.places.process p.to (record y { queue = so.queue }) so.there).moves in
     here_row k pt y i x p p.what f.what_is f.fits so.life f.id num other (omega (arith, moves, counts.moves p.to), sent)
 process_row b pt l m k i x p (Some (Record.Forward place moves)) mirrors h counts sent f num other server is = sent
-process_row b pt l m k i x p (Some (Record.Ended y)) mirrors h counts sent f num other server is = grind (arith, nat_tests, pid_eq-same, f.what_is, f.fits)
+process_row b pt l m k i x p (Some Record.Ended) mirrors h counts sent f num other server is = grind (arith, nat_tests, pid_eq-same, f.what_is, f.fits)
 process_row b pt l m k i x p _ mirrors h counts sent f num other server is = tt
 
 -- A kernel's own message at the front of a machine's inbox is one that the machine can handle: for a process or a server.
@@ -309,14 +309,14 @@ pub own_row : (b : Boot) (pt : Point) (l : Placed) (m : ℕ) (k : KernelState) (
     → (x.to.pid.num == 0) ≡ false → is_server x.to.pid ≡ false → k.records x.to.pid ≡ o → FitsKnown k x o
 own_row b pt l m k i x None mirrors h counts sent f num server is =
     let p = x.to.pid in
-    f.known (ap (λ (c : Bool). c || is_server p) num ∙ server) (known_some pt l p (pt.view.queue m p) (pt.view.held m p) (pt.view.known m p) (subst (KnownStands pt l p (pt.view.queue m p) (pt.view.held m p) (pt.view.known m p)) is (h.known p server)))
+    absurd (f.known (ap (λ (c : Bool). c || is_server p) num ∙ server) (known_some pt l p (pt.view.queue m p) (pt.view.held m p) (pt.view.known m p) (subst (KnownStands pt l p (pt.view.queue m p) (pt.view.held m p) (pt.view.known m p)) is (h.known p server))))
 own_row b pt l m k i x (Some (Record.Here y)) mirrors h counts sent f num server is =
     let p = x.to.pid in
     let so = here_so b pt l m k p y mirrors h server is in
     let moves = (mirrors.places.process p (record y { queue = so.queue }) so.there).moves in
     own_here k x y p x.what f.sort num (omega (arith, moves, counts.moves p)) sent
 own_row b pt l m k i x (Some (Record.Forward place moves)) mirrors h counts sent f num server is = sent
-own_row b pt l m k i x (Some (Record.Ended y)) mirrors h counts sent f num server is = grind (arith, nat_tests, f.sort)
+own_row b pt l m k i x (Some Record.Ended) mirrors h counts sent f num server is = grind (arith, nat_tests, f.sort)
 own_row b pt l m k i x _ mirrors h counts sent f num server is = tt
 
 -- at a server: the places that it keeps can be counted

@@ -33,10 +33,9 @@ pub record Going (b : Boot) (w : WorldState) (q : Point) (l : Placed) (h : Histo
   pub late_lawful : IsLawfulLate late
   pub sane : Sane (late_point q late)
   pub fits : PairsFit q.view
-  pub may : AllMayPut (late_point q late) l records rs
-  pub late_may : LateMay (late_point q late) l records late
+  pub may : AllMayPut (late_point q late) l records 0 rs
+  pub late_may : LateMay (late_point q late) l records (owns rs) late
   pub same : (n : ℕ) → (w.nodes n).kernel.records ≡ records n
-  pub single : owns rs + late_owns late ≤ 1
   pub topic : LateTopic q late
   pub due : spelled q (map rule_part_of rs ++ late_rule_parts late) ≡ Some v
   pub within : (i : MsgId) (z : Spot) → 1 ≤ standing v.point.view i z → machine_of z < v.point.kernel.machines
@@ -69,7 +68,7 @@ none_goes b w q l h m records v g =
     let z : Spelled = record { lines = []; point = q } in
     let is : z ≡ v = (let e : Some z ≡ Some v = g.due in cc) in
     let d : Acted = record { state = w.nodes m; outs = [] } in
-    let stays : StandsWith b (with_acted w m d) q l h = subst (λ (f : ℕ → NodeState). StandsWith b (record { nodes = f; wires = w.wires; groups = w.groups }) q l h) (sym (at_same w.nodes m)) g.stands in
+    let stays : StandsWith b (with_acted w m d) q l h = subst (λ (f : ℕ → NodeState). StandsWith b (record { nodes = f; wires = w.wires; ended = w.ended; groups = w.groups }) q l h) (sym (at_same w.nodes m)) g.stands in
     let count : (w.nodes m).kernel.sent ≡ q.view.count m = (let e : (w.nodes m).kernel.sent ≡ q.view.count m + (0 + 0) = g.sent in omega (arith, e)) in
     subst (λ (u : Spelled). RoutesGo b w q m [] Nothing u) is
     (inl (record { acted = d; goes = refl; spoken = refl; placed = l; history = h; stands = stays; sent = count; counts = λ n e. refl }))
@@ -123,8 +122,8 @@ module _ (b : Boot) (w : WorldState) (q : Point) (l : Placed) (h : History) (m :
   now : (λ (d : ℕ). (w.nodes d).kernel.records) ≡ records
   now = λ i. λ d. g.same d i
 
-  may : MayPut Q l (λ d. (w.nodes d).kernel.records) r
-  may = subst (λ (f : AllRecords). MayPut Q l f r) (sym now) g.may.0
+  may : MayPut Q l (λ d. (w.nodes d).kernel.records) 0 r
+  may = subst (λ (f : AllRecords). MayPut Q l f 0 r) (sym now) g.may.0
 
   acting : Q.view.acting ≡ m
   acting = late_acting q late ∙ g.acting
@@ -165,12 +164,6 @@ module _ (b : Boot) (w : WorldState) (q : Point) (l : Placed) (h : History) (m :
     node_is : world.nodes m ≡ on.acted.state
     node_is = at_here w.nodes m on.acted.state
 
-    few : turning.is_own r + owns rs ≤ 1
-    few = let e : (turning.is_own r + owns rs) + late_owns late ≤ 1 = g.single in omega (arith, e)
-
-    few_late : turning.is_own r + late_owns late ≤ 1
-    few_late = let e : (turning.is_own r + owns rs) + late_owns late ≤ 1 = g.single in omega (arith, e)
-
     counted : (d k : ℕ) → (put_end Q m x.to.at x on.home on.out).view.count d ≡ k → after_one.view.count d ≡ k
     counted d k e = sym (ap (λ (f : ℕ → ℕ). f d) (ap (λ (p : Point). p.view.count) moves_on ∙ late_count after_one late)) ∙ e
 
@@ -189,10 +182,12 @@ module _ (b : Boot) (w : WorldState) (q : Point) (l : Placed) (h : History) (m :
       late_lawful = g.late_lawful;
       sane = subst Sane moves_on (part_sane Q (put_end Q m x.to.at x on.home on.out) (rule_part_of r) (lines_put Q m x.to.at x on.home on.out) (sayable r) on.part (put_leads Q m x.to.at x on.home on.out) g.sane);
       fits = end_fits q m x.to.at x on.home on.out g.fits;
-      may = subst (λ (p : Point). AllMayPut p (after_route l r) records rs) moves_on (all_may_on Q l records m r rs on.home on.out g.sane g.stands.mirrors few g.may.0 g.may.1);
-      late_may = subst (λ (p : Point). LateMay p (after_route l r) records late) moves_on (late_may_on Q l records m r late on.home on.out g.sane g.stands.mirrors few_late g.may.0 g.late_may);
+      may = (
+          let behind : 0 + turning.is_own r ≡ turning.is_own r + 0 = omega arith in
+          subst (λ (p : Point). AllMayPut p (after_route l r) records 0 rs) moves_on
+          (all_may_on Q l records m r rs 0 on.home on.out g.sane g.stands.mirrors acting g.may.0 (subst (λ (j : ℕ). AllMayPut Q l records j rs) behind g.may.1)));
+      late_may = subst (λ (p : Point). LateMay p (after_route l r) records (owns rs) late) moves_on (late_may_on Q l records m r late (owns rs) on.home on.out g.sane g.stands.mirrors acting g.may.0 g.late_may);
       same = λ d. same_records w m on.acted.state d (m == d) refl on.records ∙ g.same d;
-      single = let e : (turning.is_own r + owns rs) + late_owns late ≤ 1 = g.single in omega (arith, e);
       topic = late_topic q late m x.to.at x on.home on.out g.topic;
       due = ap (λ (p : Point). spelled p parts) (next_is on.home on.out on.part) ∙ n.on;
       within = λ i z st. subst (λ (p : Point). machine_of z < p.kernel.machines) (sym end_point) (g.within i z (subst (λ (p : Point). 1 ≤ standing p.view i z) end_point st));
@@ -215,7 +210,7 @@ module _ (b : Boot) (w : WorldState) (q : Point) (l : Placed) (h : History) (m :
           history = k.history;
           stands = subst (λ (p : Point). StandsWith b (with_acted w m (record { state = k.acted.state; outs = on.acted.outs ++ k.acted.outs })) p k.placed k.history) end_point
               (subst (λ (u : WorldState). StandsWith b u n.rest.point k.placed k.history)
-              (λ i. record { nodes = at_again w.nodes m on.acted.state k.acted.state i; wires = (sym gave i).wires; groups = w.groups }) k.stands);
+              (λ i. record { nodes = at_again w.nodes m on.acted.state k.acted.state i; wires = (sym gave i).wires; ended = w.ended; groups = w.groups }) k.stands);
           sent = k.sent ∙ ap (λ (p : Point). p.view.count m) end_point;
           counts = λ d off. sym (ap (λ (p : Point). p.view.count d) end_point) ∙ k.counts d off ∙ count_n d off;
         }
@@ -287,7 +282,6 @@ module _ (b : Boot) (w : WorldState) (q : Point) (l : Placed) (h : History) (m :
     may = (g.late_may, tt);
     late_may = tt;
     same = g.same;
-    single = omega arith;
     topic = tt;
     due = ap (λ (z : Point). spelled z (rule_part_of (Own y) ∷ [])) left_is ∙ leave.on;
     within = λ i z st. subst (λ (e : Point). machine_of z < e.kernel.machines) (sym ends_at) (g.within i z (subst (λ (e : Point). 1 ≤ standing e.view i z) ends_at st));

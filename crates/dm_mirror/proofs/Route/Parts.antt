@@ -2,9 +2,10 @@
 use Rattle.dm_mirror.proofs.Names.{◌≡◌, ℕ, ◌+◌, ◌≤◌, ◌==◌, Bool, true, false, List, [], ◌∷◌, ◌++◌, length, map, refl, ap, ◌∙◌, sym, subst, arith, if◌then◌else◌, Option, None, Some, Pid, MsgId, MessageKind, kind_of, plain_kind, PlainMessage}
 use Rattle.dm_mirror.proofs.Names.{nat_tests, bind, bind-is, Line, Load, Stage, Receiver, Spelled, goes_out, puts, spelled, Point, after, moved, at_machine, Spot, standing, Told, View, is_own, own_id, fits_packet, fits_put, PairsFit, Sane}
 use Rattle.dm_mirror.proofs.Names.{Placed, Mirrors, AllRecords, pid_of, Message, id_eq, id_of, id_eq-is, Gets, Sender, first_gives, given, own_given, not_kernels, put_told_off, not_first, zero, suc, drop, eqb-true, drop-append-le, Inbox}
-use Rattle.dm_mirror.proofs.Names.{Untaken, times, untaken, Pair, after_packet, after_put, routed_on, two_of, put_spot, put_there, times-append, home_full, behind, sort_of, Known, inl, inr, told_of}
+use Rattle.dm_mirror.proofs.Names.{Untaken, times, untaken, Pair, after_packet, after_put, routed_on, two_of, put_spot, put_there, times-append, home_full, behind, sort_of, Known, inl, inr, told_of, Sort, Holder, holder_eq, Addresses}
+use Rattle.dm_mirror.proofs.Names.{OneKernel, Place, Child, unmoved, gets, child_number, option_map_or, incoming_of, Carries, cargo_at, destination_of, eq-eqb, cases_Bool, Cargo, LeftCarries}
 use Rattle.dm_rule.specs.Parts as rule
-use Rattle.dm_mirror.proofs.Turning.{Route, First, On, Own, Late, Nothing, Leaves, MayPut, late_rule_parts, message_of, rule_part_of, MayOwn, AllMayPut, LateMay, late_owns, owns}
+use Rattle.dm_mirror.proofs.Turning.{own_behind, Route, First, On, Own, Late, Nothing, Leaves, MayPut, late_rule_parts, message_of, rule_part_of, MayOwn, AllMayPut, LateMay, late_owns, owns}
 use Rattle.dm_mirror.proofs.Puts.{put_standing}
 use Rattle.dm_mirror.proofs.Route.Puts.{after_route, route_keeps, route_more, told_stays, own_gives_same}
 use Rattle.dm_mirror.proofs.Join.{put_end, plain_of, put_point}
@@ -58,88 +59,201 @@ pub record SameEnd (put end : Point) : Type 0 where
 pub same_end : (q : Point) (m c : ℕ) (x : Message) (home out : Bool) → SameEnd (put_point q m c x) (put_end q m c x home out)
 same_end q m c x home out = grind (arith, nat_tests)
 
-pub first_not_own : (pt : Point) (l : Placed) (records : AllRecords) (x : Message) → Sane pt → Mirrors pt.kernel pt.view pt.addresses l → MayPut pt l records (First x) → is_own x.id (pt.view.told x.id) ≡ false
+pub first_not_own : (pt : Point) (l : Placed) (records : AllRecords) (x : Message) → Sane pt → Mirrors pt.kernel pt.view pt.addresses l → MayPut pt l records 0 (First x) → is_own x.id (pt.view.told x.id) ≡ false
 first_not_own pt l records x sane mirrors may =
     let there = plain_of pt l x mirrors may.0 may.1 in
     grind (arith, nat_tests, not_kernels sane.r sane.e pt.kernel x.id there.m there.there sane.sound)
 
-pub on_not_own : (pt : Point) (l : Placed) (records : AllRecords) (x : Message) → MayPut pt l records (On x) → is_own x.id (pt.view.told x.id) ≡ false
+pub on_not_own : (pt : Point) (l : Placed) (records : AllRecords) (x : Message) → MayPut pt l records 0 (On x) → is_own x.id (pt.view.told x.id) ≡ false
 on_not_own pt l records x may = not_first x.id (pt.view.told x.id) may.1.0 may.1.1
 
--- the next message of a kernel's own still is
-record Keeps (pt end : Point) (i : MsgId) : Type 0 where
+-- how many own messages the machines count
+own_counted : (i : MsgId) (o : Option Told) (f : ℕ → ℕ) (m n : ℕ) → is_own i o ≡ true → i.from.home ≡ m → (if is_own i o then at_machine f i.from.home (f i.from.home + 1) else f) n ≡ at_machine f m (f m + 1) n
+own_counted i o f m n own home = ap (λ (t : Bool). (if t then at_machine f i.from.home (f i.from.home + 1) else f) n) own ∙ ap (λ (k : ℕ). at_machine f k (f k + 1) n) home
+
+set_here : (f : ℕ → ℕ) (m x n : ℕ) → (m == n) ≡ true → at_machine f m x n ≡ x
+set_here f m x n e = ap (λ (t : Bool). if t then x else f n) e
+
+set_off : (f : ℕ → ℕ) (m x n : ℕ) → (m == n) ≡ false → at_machine f m x n ≡ f n
+set_off f m x n e = ap (λ (t : Bool). if t then x else f n) e
+
+pub count_here : (pt : Point) (l : Placed) (records : AllRecords) (m : ℕ) (r : Route) (home out : Bool) → Sane pt → Mirrors pt.kernel pt.view pt.addresses l → pt.view.acting ≡ m → (m == m) ≡ true → MayPut pt l records 0 r
+    → (put_end pt m (message_of r).to.at (message_of r) home out).view.count m ≡ pt.view.count m + turning.is_own r
+count_here pt l records m (First x) home out sane mirrors acting self may =
+    ap (λ (f : ℕ → ℕ). f m) (same_end pt m x.to.at x home out).count
+    ∙ ap (λ (t : Bool). (if t then at_machine pt.view.count x.id.from.home (pt.view.count x.id.from.home + 1) else pt.view.count) m) (first_not_own pt l records x sane mirrors may) ∙ omega arith
+count_here pt l records m (On x) home out sane mirrors acting self may = grind (arith, nat_tests, same_end, on_not_own)
+count_here pt l records m (Own x) home out sane mirrors acting self may = grind (arith, nat_tests, same_end, own_counted, set_here)
+
+pub count_off : (pt : Point) (l : Placed) (records : AllRecords) (m n : ℕ) (r : Route) (home out : Bool) → Sane pt → Mirrors pt.kernel pt.view pt.addresses l → pt.view.acting ≡ m → (m == n) ≡ false → MayPut pt l records 0 r
+    → (put_end pt m (message_of r).to.at (message_of r) home out).view.count n ≡ pt.view.count n
+count_off pt l records m n (First x) home out sane mirrors acting off may =
+    ap (λ (f : ℕ → ℕ). f n) (same_end pt m x.to.at x home out).count
+    ∙ ap (λ (t : Bool). (if t then at_machine pt.view.count x.id.from.home (pt.view.count x.id.from.home + 1) else pt.view.count) n) (first_not_own pt l records x sane mirrors may)
+count_off pt l records m n (On x) home out sane mirrors acting off may = grind (arith, nat_tests, same_end, on_not_own)
+count_off pt l records m n (Own x) home out sane mirrors acting off may = grind (arith, nat_tests, same_end, own_counted, set_off)
+
+-- what may be put as a kernel's own behind so many others still may, behind so many
+record Keeps (pt end : Point) (y : Message) (i j : ℕ) : Type 0 where
   kernel : end.kernel ≡ pt.kernel
-  addresses : end.addresses ≡ pt.addresses
   acting : end.view.acting ≡ pt.view.acting
-  own : own_id end.view ≡ own_id pt.view
-  told : end.view.told i ≡ pt.view.told i
+  own : own_behind pt.view i ≡ own_behind end.view j
+  told : end.view.told y.id ≡ pt.view.told y.id
   topic : end.view.topic ≡ pt.view.topic
   asked : end.view.asked ≡ pt.view.asked
   known : end.view.known ≡ pt.view.known
+  -- its own addresses, and those of the manager's children
+  receiver : end.addresses (Receiver y.id) ≡ pt.addresses (Receiver y.id)
+  sender : end.addresses (Sender y.id) ≡ pt.addresses (Sender y.id)
+  child : (n : ℕ) → end.addresses (Child n) ≡ pt.addresses (Child n)
 
-own_stays : (pt end : Point) (l : Placed) (records : AllRecords) (x : Message) → Keeps pt end x.id → MayOwn pt l records x → MayOwn end l records x
-own_stays pt end l records x k may =
-    let gives : own_given end.kernel end.view end.addresses x.id x.to.pid (sort_of (kind_of x.what)) ≡ own_given pt.kernel pt.view pt.addresses x.id x.to.pid (sort_of (kind_of x.what)) =
-    (λ i. own_given (k.kernel i) end.view (k.addresses i) x.id x.to.pid (sort_of (kind_of x.what))) ∙ own_gives_same pt.kernel pt.view end.view pt.addresses x.id x.to.pid (kind_of x.what) k.acting in
+-- what its put gives it goes by these alone
+given_as : (a c : Addresses) (gs : List Gets) (h : Holder) → c h ≡ a h → given c gs h ≡ given a gs h
+given_as a c [] h e = e
+given_as a c (g ∷ gs) h e = λ i. if holder_eq g.holder h then g.place else given_as a c gs h e i
+
+own_given_as : (s : OneKernel) (v : View) (a c : Addresses) (id : MsgId) (q : Pid) (k : Sort) → ((n : ℕ) → c (Child n) ≡ a (Child n)) → own_given s v c id q k ≡ own_given s v a id q k
+own_given_as s v a c id q Sort.Request e = λ i. gets (Receiver id) (option_map_or (λ n. e n i) (child_number s q) (unmoved 0)) ∷ gets (Sender id) (unmoved v.acting) ∷ []
+own_given_as s v a c id q k e = refl
+
+own_stays : (pt end : Point) (l u : Placed) (records : AllRecords) (y : Message) (i j : ℕ) → Keeps pt end y i j → ((p : Pid) → cargo_at u p ≡ cargo_at l p) → u.bag y.id ≡ None → MayOwn pt l records i y → MayOwn end u records j y
+own_stays pt end l u records y i j k cargo none may =
+    let sort = sort_of (kind_of y.what) in
+    let gives : own_given end.kernel end.view end.addresses y.id y.to.pid sort ≡ own_given pt.kernel pt.view pt.addresses y.id y.to.pid sort =
+    (λ i. own_given (k.kernel i) end.view end.addresses y.id y.to.pid sort)
+    ∙ own_gives_same pt.kernel pt.view end.view end.addresses y.id y.to.pid (kind_of y.what) k.acting
+    ∙ own_given_as pt.kernel pt.view pt.addresses end.addresses y.id y.to.pid sort k.child in
+    let place : (h : Holder) → end.addresses h ≡ pt.addresses h → given end.addresses (own_given end.kernel end.view end.addresses y.id y.to.pid sort) h ≡ given pt.addresses (own_given pt.kernel pt.view pt.addresses y.id y.to.pid sort) h =
+    λ h e. ap (λ (g : List Gets). given end.addresses g h) gives ∙ given_as pt.addresses end.addresses (own_given pt.kernel pt.view pt.addresses y.id y.to.pid sort) h e in
     record {
-      id = may.id ∙ sym k.own;
+      id = may.id ∙ k.own;
       plain = may.plain;
       encloses = may.encloses;
-      bag = may.bag;
+      bag = none;
       untold = k.told ∙ may.untold;
-      receiver = (λ i. given (k.addresses i) (gives i) (Receiver x.id)) ∙ may.receiver;
-      sender = (λ i. given (k.addresses i) (gives i) (Sender x.id)) ∙ may.sender;
+      receiver = place (Receiver y.id) k.receiver ∙ may.receiver;
+      sender = place (Sender y.id) k.sender ∙ may.sender;
       about = k.topic ∙ may.about;
       asker = may.asker;
       carried = λ between p about. elim (may.carried between p about) [
-        | inl c ↦ inl (subst (λ (f : Pid → ℕ). turning.IsCarried l (f p) records p x) (sym k.asked) c)
-        | inr c ↦ inr (record { over = known_due pt.view end.view p x.id (told_of x) (λ n. ap (λ (f : ℕ → Pid → Known). f n p) k.known) ∙ c.over; sender = c.sender; carries = c.carries })
+        | inl c ↦ inl (record { cargo = c.cargo; there = cargo p ∙ c.there; sender = c.sender; carries = subst (λ (f : Pid → ℕ). Carries p c.cargo (f p) (incoming_of (records (destination_of y.id (told_of y)) p)) y.what) (sym k.asked) c.carries })
+        | inr c ↦
+            inr (record { over = known_due pt.view end.view p y.id (told_of y) (λ n. ap (λ (f : ℕ → Pid → Known). f n p) k.known) ∙ c.over; sender = c.sender; carries = subst (λ (o : Option Cargo). LeftCarries p o y.what) (sym (cargo p)) c.carries })
       ];
     }
 
 apart_bag : (l : Placed) (x y : Message) → l.bag x.id ≡ Some x → l.bag y.id ≡ None → id_eq x.id y.id ≡ false
 apart_bag l x y there none = grind (arith, nat_tests, id_eq-is)
 
--- a put of a message that isn't the kernel's own keeps it
-keeps_own : (pt : Point) (l : Placed) (m c : ℕ) (x y : Message) (home out : Bool) → is_own x.id (pt.view.told x.id) ≡ false → first_gives (pt.view.told x.id) (own_given pt.kernel pt.view pt.addresses x.id x.to.pid (sort_of (kind_of x.what))) ≡ [] → id_eq x.id y.id ≡ false
-    → Keeps pt (put_end pt m c x home out) y.id
-keeps_own pt l m c x y home out other gives apart =
+-- a put of a message that isn't the kernel's own
+keeps_own : (pt : Point) (l : Placed) (m c : ℕ) (x y : Message) (j : ℕ) (home out : Bool) → is_own x.id (pt.view.told x.id) ≡ false → first_gives (pt.view.told x.id) (own_given pt.kernel pt.view pt.addresses x.id x.to.pid (sort_of (kind_of x.what))) ≡ [] → id_eq x.id y.id ≡ false
+    → Keeps pt (put_end pt m c x home out) y (0 + j) j
+keeps_own pt l m c x y j home out other gives apart =
     let s = same_end pt m c x home out in
-    search (
-      s.addresses ∙ ap (λ (g : List Gets). given pt.addresses g) gives,
-      (λ i. id_of (pid_of (s.acting i) 0) (s.count i (s.acting i))) ∙ ap (λ (t : Bool). id_of (pid_of pt.view.acting 0) ((if t then at_machine pt.view.count x.id.from.home (pt.view.count x.id.from.home + 1) else pt.view.count) pt.view.acting)) other,
-      ap (λ (f : MsgId → Option Told). f y.id) s.told ∙ put_told_off pt.view m c x.id y.id (kind_of x.what) x.to.pid apart,
-    )
+    let places : (put_end pt m c x home out).addresses ≡ pt.addresses = s.addresses ∙ ap (λ (g : List Gets). given pt.addresses g) gives in
+    let same : 0 + j ≡ j = omega arith in
+    let now : own_behind (put_end pt m c x home out).view j ≡ own_behind pt.view j =
+    (λ i. id_of (pid_of (s.acting i) 0) (s.count i (s.acting i) + j))
+    ∙ ap (λ (t : Bool). id_of (pid_of pt.view.acting 0) ((if t then at_machine pt.view.count x.id.from.home (pt.view.count x.id.from.home + 1) else pt.view.count) pt.view.acting + j)) other in
+    record {
+      kernel = s.kernel;
+      acting = s.acting;
+      own = ap (own_behind pt.view) same ∙ sym now;
+      told = ap (λ (f : MsgId → Option Told). f y.id) s.told ∙ put_told_off pt.view m c x.id y.id (kind_of x.what) x.to.pid apart;
+      topic = s.topic;
+      asked = s.asked;
+      known = s.known;
+      receiver = ap (λ (a : Addresses). a (Receiver y.id)) places;
+      sender = ap (λ (a : Addresses). a (Sender y.id)) places;
+      child = λ n. ap (λ (a : Addresses). a (Child n)) places;
+    }
 
--- what holds of an own message behind another one that is put
-pub own_on : (pt : Point) (l : Placed) (records : AllRecords) (m : ℕ) (r : Route) (y : Message) (home out : Bool) → Sane pt → Mirrors pt.kernel pt.view pt.addresses l → turning.is_own r ≡ 0 → MayPut pt l records r → MayOwn pt l records y
-    → MayOwn (put_end pt m (message_of r).to.at (message_of r) home out) (after_route l r) records y
-own_on pt l records m (First x) y home out sane mirrors none may own =
-    own_stays pt (put_end pt m x.to.at x home out) l records y (keeps_own pt l m x.to.at x y home out (first_not_own pt l records x sane mirrors may) (route_keeps pt l records m (First x) refl may mirrors) (apart_bag l x y may.0 own.bag)) own
-own_on pt l records m (On x) y home out sane mirrors none may own =
-    own_stays pt (put_end pt m x.to.at x home out) l records y (keeps_own pt l m x.to.at x y home out (on_not_own pt l records x may) (route_keeps pt l records m (On x) refl may mirrors) (apart_bag l x y may.0 own.bag)) own
-own_on pt l records m (Own x) y home out sane mirrors none may own = absurd (omega (arith, none))
+-- two of the kernel's own have different names
+own_apart : (v : View) (x y : Message) (j : ℕ) → x.id ≡ own_behind v 0 → y.id ≡ own_behind v (1 + j) → id_eq x.id y.id ≡ false
+own_apart v x y j first more = elim (cases_Bool (id_eq x.id y.id)) [
+  | inl same ↦
+      let numbers : v.count v.acting + 0 ≡ v.count v.acting + (1 + j) = sym (ap (λ (i : MsgId). i.n) first) ∙ ap (λ (i : MsgId). i.n) (id_eq-is x.id y.id same) ∙ ap (λ (i : MsgId). i.n) more in
+      absurd (omega (arith, numbers))
+  | inr off ↦ off
+]
 
-pub may_on : (pt : Point) (l : Placed) (records : AllRecords) (m : ℕ) (r s : Route) (home out : Bool) → Sane pt → Mirrors pt.kernel pt.view pt.addresses l → turning.is_own r + turning.is_own s ≤ 1 → MayPut pt l records r → MayPut pt l records s
-    → MayPut (put_end pt m (message_of r).to.at (message_of r) home out) (after_route l r) records s
-may_on pt l records m r (First y) home out sane mirrors few may h = ((route_more pt l records r may).bag y.id y h.0, h.1)
-may_on pt l records m r (On y) home out sane mirrors few may h =
+-- what the put of one of them gives, it gives that one
+both_apart : (a : Addresses) (id : MsgId) (x y : Place) (h : Holder) → holder_eq (Receiver id) h ≡ false → holder_eq (Sender id) h ≡ false → given a (gets (Receiver id) x ∷ gets (Sender id) y ∷ []) h ≡ a h
+both_apart a id x y h e f = ap (λ (t : Bool). if t then x else if holder_eq (Sender id) h then y else a h) e ∙ ap (λ (t : Bool). if t then y else a h) f
+
+gives_apart : (a : Addresses) (s : OneKernel) (v : View) (c : Addresses) (id : MsgId) (q : Pid) (k : Sort) (h : Holder) → holder_eq (Receiver id) h ≡ false → holder_eq (Sender id) h ≡ false → given a (own_given s v c id q k) h ≡ a h
+gives_apart a s v c id q Sort.Request h e f = both_apart a id (option_map_or (λ n. c (Child n)) (child_number s q) (unmoved 0)) (unmoved v.acting) h e f
+gives_apart a s v c id q (Sort.Between passage) h e f = both_apart a id (unmoved q.home) (unmoved v.acting) h e f
+gives_apart a s v c id q Sort.Unsent h e f = both_apart a id (unmoved q.home) (unmoved v.acting) h e f
+gives_apart a s v c id q k h e f = refl
+
+-- a put of one of the kernel's own
+keeps_next : (pt : Point) (l : Placed) (records : AllRecords) (m : ℕ) (x y : Message) (j : ℕ) (home out : Bool) → Sane pt → Mirrors pt.kernel pt.view pt.addresses l → pt.view.acting ≡ m → MayOwn pt l records 0 x → MayOwn pt l records (1 + j) y
+    → Keeps pt (put_end pt m x.to.at x home out) y (1 + j) j
+keeps_next pt l records m x y j home out sane mirrors acting first more =
+    let s = same_end pt m x.to.at x home out in
+    let apart = own_apart pt.view x y j first.id more.id in
+    let new : first_gives (pt.view.told x.id) (own_given pt.kernel pt.view pt.addresses x.id x.to.pid (sort_of (kind_of x.what))) ≡ own_given pt.kernel pt.view pt.addresses x.id x.to.pid (sort_of (kind_of x.what)) =
+    ap (λ (t : Option Told). first_gives t (own_given pt.kernel pt.view pt.addresses x.id x.to.pid (sort_of (kind_of x.what)))) first.untold in
+    let places : (put_end pt m x.to.at x home out).addresses ≡ given pt.addresses (own_given pt.kernel pt.view pt.addresses x.id x.to.pid (sort_of (kind_of x.what))) = s.addresses ∙ ap (given pt.addresses) new in
+    let stay : (h : Holder) → holder_eq (Receiver x.id) h ≡ false → holder_eq (Sender x.id) h ≡ false → (put_end pt m x.to.at x home out).addresses h ≡ pt.addresses h =
+    λ h e f. ap (λ (a : Addresses). a h) places ∙ gives_apart pt.addresses pt.kernel pt.view pt.addresses x.id x.to.pid (sort_of (kind_of x.what)) h e f in
+    let count : (put_end pt m x.to.at x home out).view.count m ≡ pt.view.count m + 1 = count_here pt l records m (Own x) home out sane mirrors acting (eq-eqb m m refl) first in
+    let number : pt.view.count m + (1 + j) ≡ (put_end pt m x.to.at x home out).view.count m + j = omega (arith, count) in
+    let here : (put_end pt m x.to.at x home out).view.acting ≡ m = s.acting ∙ acting in
+    let before : own_behind pt.view (1 + j) ≡ id_of (pid_of m 0) (pt.view.count m + (1 + j)) = ap (λ (n : ℕ). id_of (pid_of n 0) (pt.view.count n + (1 + j))) acting in
+    let now : own_behind (put_end pt m x.to.at x home out).view j ≡ id_of (pid_of m 0) ((put_end pt m x.to.at x home out).view.count m + j) =
+    ap (λ (n : ℕ). id_of (pid_of n 0) ((put_end pt m x.to.at x home out).view.count n + j)) here in
+    record {
+      kernel = s.kernel;
+      acting = s.acting;
+      own = before ∙ ap (id_of (pid_of m 0)) number ∙ sym now;
+      told = ap (λ (f : MsgId → Option Told). f y.id) s.told ∙ put_told_off pt.view m x.to.at x.id y.id (kind_of x.what) x.to.pid apart;
+      topic = s.topic;
+      asked = s.asked;
+      known = s.known;
+      receiver = stay (Receiver y.id) apart refl;
+      sender = stay (Sender y.id) refl apart;
+      child = λ n. stay (Child n) refl refl;
+    }
+
+-- what holds of an own message behind another message that is put
+pub own_on : (pt : Point) (l : Placed) (records : AllRecords) (m : ℕ) (r : Route) (y : Message) (j : ℕ) (home out : Bool) → Sane pt → Mirrors pt.kernel pt.view pt.addresses l → pt.view.acting ≡ m → MayPut pt l records 0 r → MayOwn pt l records (turning.is_own r + j) y
+    → MayOwn (put_end pt m (message_of r).to.at (message_of r) home out) (after_route l r) records j y
+own_on pt l records m (First x) y j home out sane mirrors acting may own =
+    own_stays pt (put_end pt m x.to.at x home out) l l records y (0 + j) j
+    (keeps_own pt l m x.to.at x y j home out (first_not_own pt l records x sane mirrors may) (route_keeps pt l records m (First x) refl may mirrors) (apart_bag l x y may.0 own.bag)) (λ p. refl) own.bag own
+own_on pt l records m (On x) y j home out sane mirrors acting may own =
+    own_stays pt (put_end pt m x.to.at x home out) l l records y (0 + j) j
+    (keeps_own pt l m x.to.at x y j home out (on_not_own pt l records x may) (route_keeps pt l records m (On x) refl may mirrors) (apart_bag l x y may.0 own.bag)) (λ p. refl) own.bag own
+own_on pt l records m (Own x) y j home out sane mirrors acting may own =
+    own_stays pt (put_end pt m x.to.at x home out) l (after_route l (Own x)) records y (1 + j) j (keeps_next pt l records m x y j home out sane mirrors acting may own) (λ p. refl)
+    (ap (λ (c : Bool). if c then Some x else l.bag y.id) (own_apart pt.view x y j may.id own.id) ∙ own.bag) own
+
+pub may_on : (pt : Point) (l : Placed) (records : AllRecords) (m : ℕ) (r s : Route) (j : ℕ) (home out : Bool) → Sane pt → Mirrors pt.kernel pt.view pt.addresses l → pt.view.acting ≡ m → MayPut pt l records 0 r → MayPut pt l records (turning.is_own r + j) s
+    → MayPut (put_end pt m (message_of r).to.at (message_of r) home out) (after_route l r) records j s
+may_on pt l records m r (First y) j home out sane mirrors acting may h = ((route_more pt l records r may).bag y.id y h.0, h.1)
+may_on pt l records m r (On y) j home out sane mirrors acting may h =
     let x : Message = message_of r in
     let e = same_end pt m x.to.at x home out in
     let told = ap (λ (f : MsgId → Option Told). f y.id) e.told ∙ told_stays pt.view m x.to.at x.id (kind_of x.what) x.to.pid y.id h.1.0 h.1.1 in
     ((route_more pt l records r may).bag y.id y h.0, (h.1.0, told, h.1.2, h.1.3), h.2)
-may_on pt l records m r (Own y) home out sane mirrors few may h = own_on pt l records m r y home out sane mirrors (omega (arith, few)) may h
+may_on pt l records m r (Own y) j home out sane mirrors acting may h = own_on pt l records m r y j home out sane mirrors acting may h
 
-pub all_may_on : (pt : Point) (l : Placed) (records : AllRecords) (m : ℕ) (r : Route) (rs : List Route) (home out : Bool) → Sane pt → Mirrors pt.kernel pt.view pt.addresses l → turning.is_own r + owns rs ≤ 1 → MayPut pt l records r → AllMayPut pt l records rs
-    → AllMayPut (put_end pt m (message_of r).to.at (message_of r) home out) (after_route l r) records rs
-all_may_on pt l records m r [] home out sane mirrors few may h = tt
-all_may_on pt l records m r (s ∷ rs) home out sane mirrors few may h =
-    (may_on pt l records m r s home out sane mirrors (omega (arith, few)) may h.0, all_may_on pt l records m r rs home out sane mirrors (omega (arith, few)) may h.1)
+pub all_may_on : (pt : Point) (l : Placed) (records : AllRecords) (m : ℕ) (r : Route) (rs : List Route) (j : ℕ) (home out : Bool) → Sane pt → Mirrors pt.kernel pt.view pt.addresses l → pt.view.acting ≡ m → MayPut pt l records 0 r → AllMayPut pt l records (turning.is_own r + j) rs
+    → AllMayPut (put_end pt m (message_of r).to.at (message_of r) home out) (after_route l r) records j rs
+all_may_on pt l records m r [] j home out sane mirrors acting may h = tt
+all_may_on pt l records m r (s ∷ rs) j home out sane mirrors acting may h =
+    let n : ℕ = turning.is_own r in
+    let next : (n + j) + turning.is_own s ≡ n + (j + turning.is_own s) = omega arith in (
+      may_on pt l records m r s j home out sane mirrors acting may h.0,
+      all_may_on pt l records m r rs (j + turning.is_own s) home out sane mirrors acting may (subst (λ (k : ℕ). AllMayPut pt l records k rs) next h.1),
+    )
 
-pub late_may_on : (pt : Point) (l : Placed) (records : AllRecords) (m : ℕ) (r : Route) (late : Late) (home out : Bool) → Sane pt → Mirrors pt.kernel pt.view pt.addresses l → turning.is_own r + late_owns late ≤ 1 → MayPut pt l records r → LateMay pt l records late
-    → LateMay (put_end pt m (message_of r).to.at (message_of r) home out) (after_route l r) records late
-late_may_on pt l records m r Nothing home out sane mirrors few may h = tt
-late_may_on pt l records m r (Leaves p y) home out sane mirrors few may h = own_on pt l records m r y home out sane mirrors (omega (arith, few)) may h
+pub late_may_on : (pt : Point) (l : Placed) (records : AllRecords) (m : ℕ) (r : Route) (late : Late) (j : ℕ) (home out : Bool) → Sane pt → Mirrors pt.kernel pt.view pt.addresses l → pt.view.acting ≡ m → MayPut pt l records 0 r → LateMay pt l records (turning.is_own r + j) late
+    → LateMay (put_end pt m (message_of r).to.at (message_of r) home out) (after_route l r) records j late
+late_may_on pt l records m r Nothing j home out sane mirrors acting may h = tt
+late_may_on pt l records m r (Leaves p y) j home out sane mirrors acting may h = own_on pt l records m r y j home out sane mirrors acting may h
 
 -- The parts of a group that route messages, one after the other: what stands somewhere stays there, and what is counted.
 
@@ -235,29 +349,3 @@ all_grow (r ∷ rs) late q v e fits =
     let g = route_grows q n.next r n.lines n.is n.leads fits in
     let j = all_grow rs late n.next n.rest n.on g.fits in
     subst (Grows q) (ap (λ (z : Spelled). z.point) n.whole) (grows_then q n.next n.rest.point g j)
-
--- how many own messages the machines count
-own_counted : (i : MsgId) (o : Option Told) (f : ℕ → ℕ) (m n : ℕ) → is_own i o ≡ true → i.from.home ≡ m → (if is_own i o then at_machine f i.from.home (f i.from.home + 1) else f) n ≡ at_machine f m (f m + 1) n
-own_counted i o f m n own home = ap (λ (t : Bool). (if t then at_machine f i.from.home (f i.from.home + 1) else f) n) own ∙ ap (λ (k : ℕ). at_machine f k (f k + 1) n) home
-
-set_here : (f : ℕ → ℕ) (m x n : ℕ) → (m == n) ≡ true → at_machine f m x n ≡ x
-set_here f m x n e = ap (λ (t : Bool). if t then x else f n) e
-
-set_off : (f : ℕ → ℕ) (m x n : ℕ) → (m == n) ≡ false → at_machine f m x n ≡ f n
-set_off f m x n e = ap (λ (t : Bool). if t then x else f n) e
-
-pub count_here : (pt : Point) (l : Placed) (records : AllRecords) (m : ℕ) (r : Route) (home out : Bool) → Sane pt → Mirrors pt.kernel pt.view pt.addresses l → pt.view.acting ≡ m → (m == m) ≡ true → MayPut pt l records r
-    → (put_end pt m (message_of r).to.at (message_of r) home out).view.count m ≡ pt.view.count m + turning.is_own r
-count_here pt l records m (First x) home out sane mirrors acting self may =
-    ap (λ (f : ℕ → ℕ). f m) (same_end pt m x.to.at x home out).count
-    ∙ ap (λ (t : Bool). (if t then at_machine pt.view.count x.id.from.home (pt.view.count x.id.from.home + 1) else pt.view.count) m) (first_not_own pt l records x sane mirrors may) ∙ omega arith
-count_here pt l records m (On x) home out sane mirrors acting self may = grind (arith, nat_tests, same_end, on_not_own)
-count_here pt l records m (Own x) home out sane mirrors acting self may = grind (arith, nat_tests, same_end, own_counted, set_here)
-
-pub count_off : (pt : Point) (l : Placed) (records : AllRecords) (m n : ℕ) (r : Route) (home out : Bool) → Sane pt → Mirrors pt.kernel pt.view pt.addresses l → pt.view.acting ≡ m → (m == n) ≡ false → MayPut pt l records r
-    → (put_end pt m (message_of r).to.at (message_of r) home out).view.count n ≡ pt.view.count n
-count_off pt l records m n (First x) home out sane mirrors acting off may =
-    ap (λ (f : ℕ → ℕ). f n) (same_end pt m x.to.at x home out).count
-    ∙ ap (λ (t : Bool). (if t then at_machine pt.view.count x.id.from.home (pt.view.count x.id.from.home + 1) else pt.view.count) n) (first_not_own pt l records x sane mirrors may)
-count_off pt l records m n (On x) home out sane mirrors acting off may = grind (arith, nat_tests, same_end, on_not_own)
-count_off pt l records m n (Own x) home out sane mirrors acting off may = grind (arith, nat_tests, same_end, own_counted, set_off)

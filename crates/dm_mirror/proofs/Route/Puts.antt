@@ -11,6 +11,7 @@ pub use Rattle.dm_rulelaws.proofs.Based.Queues.{told_kept as told_stays}
 use Rattle.dm_mirror.proofs.Turning.{Route, First, On, Own, MayOwn, MayPut, IsCarried, message_of, rule_part_of, Late, Nothing, Leaves, LateTopic, late_point}
 use Rattle.dm_mirror.proofs.Join.{IsPlain, line_put, plain_of, put_point, lines_put, put_end}
 use Rattle.dm_kernel.specs.State as machine
+use Rattle.dm_onekernel.specs.Step as kernel
 use Rattle.dm_mirror.proofs.Rooms.{taken_same}
 use Rattle.dm_rule.specs.Parts as rule
 use Rattle.dm_mirror.proofs.Turning as turning
@@ -20,12 +21,13 @@ use Rattle.dm_mirror.proofs.LeftOver.{OneStands, cargo_named, known_due, left_ke
 
 pub record CoreStands (b : Boot) (w : WorldState) (pt : Point) (l : Placed) (h : History) : Type 0 where
   pub groups : w.groups ≡ pt.view.groups
+  pub ended : (p : Pid) → w.ended p ≡ kernel.why_ended (pt.kernel.processes p)
   pub nodes : (m : ℕ) → m < pt.kernel.machines → NodeStands b pt l m (w.nodes m)
   pub pairs : (a c : ℕ) → a < pt.kernel.machines → c < pt.kernel.machines → a ≢ c → PairStands b pt l w h a c
   pub counts : (a c : ℕ) → length (pt.view.pair a c).ids ≤ b.numbers
 
 pub core_of : (b : Boot) (w : WorldState) (pt : Point) (l : Placed) (h : History) → StandsWith b w pt l h → CoreStands b w pt l h
-core_of b w pt l h s = record { groups = s.groups; nodes = s.nodes; pairs = s.pairs; counts = s.counts }
+core_of b w pt l h s = record { groups = s.groups; ended = s.ended; nodes = s.nodes; pairs = s.pairs; counts = s.counts }
 
 -- the messages stay, and there may be more
 pub record MoreBag (l u : Placed) : Type 0 where
@@ -71,7 +73,7 @@ module _ (b : Boot) (pt : Point) (l u : Placed) (a : Addresses) (e : MoreBag l u
   known_more p queue held (Frozen to) (Some (Record.Frozen d)) h = leaves_more p queue held to d h
   known_more p queue held (Incoming from) (Some (Record.Incoming x)) h = comes_more p from held x h
   known_more p queue held (Forward to moves) (Some (Record.Forward at n)) h = h
-  known_more p queue held Ended (Some (Record.Ended y)) h = h
+  known_more p queue held Ended (Some Record.Ended) h = h
   known_more p queue held k r h = h
 
   servers_more : (m : ℕ) → servers_at u m ≡ servers_at l m
@@ -109,16 +111,16 @@ bag_here l x = ap (λ (c : Bool). if c then Some x else l.bag x.id) (id_eq-same 
 bag_off : (l : Placed) (x : Message) (i : MsgId) → id_eq x.id i ≡ false → (with_message l x.id (Some x)).bag i ≡ l.bag i
 bag_off l x i e = ap (λ (c : Bool). if c then Some x else l.bag i) e
 
-pub route_more : (pt : Point) (l : Placed) (records : AllRecords) (r : Route) → MayPut pt l records r → MoreBag l (after_route l r)
+pub route_more : (pt : Point) (l : Placed) (records : AllRecords) (r : Route) → MayPut pt l records 0 r → MoreBag l (after_route l r)
 route_more pt l records (Own x) may =
     record { bag = λ i y e. grind (arith, nat_tests, id_eq-is, bag_off, may.bag); processes = λ p. refl; notes = λ p. refl; board = refl; manager = refl }
 route_more pt l records _ may = record { bag = λ i x e. e; processes = λ p. refl; notes = λ p. refl; board = refl; manager = refl }
 
-pub route_there : (pt : Point) (l : Placed) (records : AllRecords) (r : Route) → MayPut pt l records r → (after_route l r).bag (message_of r).id ≡ Some (message_of r)
+pub route_there : (pt : Point) (l : Placed) (records : AllRecords) (r : Route) → MayPut pt l records 0 r → (after_route l r).bag (message_of r).id ≡ Some (message_of r)
 route_there pt l records r may = grind (arith, nat_tests, bag_here)
 
 -- a message that isn't the kernel's own gets no addresses
-pub route_keeps : (pt : Point) (l : Placed) (records : AllRecords) (m : ℕ) (r : Route) → turning.is_own r ≡ 0 → MayPut pt l records r → Mirrors pt.kernel pt.view pt.addresses l → KeepsPlaces pt (line_put m (message_of r).to.at (message_of r))
+pub route_keeps : (pt : Point) (l : Placed) (records : AllRecords) (m : ℕ) (r : Route) → turning.is_own r ≡ 0 → MayPut pt l records 0 r → Mirrors pt.kernel pt.view pt.addresses l → KeepsPlaces pt (line_put m (message_of r).to.at (message_of r))
 route_keeps pt l records m (First x) none may h =
     let p : IsPlain (pt.kernel.bag x.id) x = plain_of pt l x h may.0 may.1 in
     subst (λ (k : MessageKind). first_gives (pt.view.told x.id) (own_given pt.kernel pt.view pt.addresses x.id x.to.pid (sort_of k)) ≡ []) p.kind (subst (λ (q : Pid). first_gives (pt.view.told x.id) (own_given pt.kernel pt.view pt.addresses x.id q (sort_of (plain_kind p.m.what))) ≡ []) p.to (routed_keeps pt m x.to.at x.id p.m))
@@ -126,7 +128,7 @@ route_keeps pt l records m (On x) none may h = told_keeps pt m x.to.at x.id (kin
 route_keeps pt l records m (Own x) none may h = absurd (omega (arith, none))
 
 -- the kernel with places mirrors the point behind the put
-pub route_mirrors : (pt : Point) (l : Placed) (records : AllRecords) (m : ℕ) (r : Route) → MayPut pt l records r → Mirrors pt.kernel pt.view pt.addresses l
+pub route_mirrors : (pt : Point) (l : Placed) (records : AllRecords) (m : ℕ) (r : Route) → MayPut pt l records 0 r → Mirrors pt.kernel pt.view pt.addresses l
     → Mirrors (put_point pt m (message_of r).to.at (message_of r)).kernel (put_point pt m (message_of r).to.at (message_of r)).view (put_point pt m (message_of r).to.at (message_of r)).addresses (after_route l r)
 route_mirrors pt l records m (First x) may h = lines_keep pt (put_point pt m x.to.at x) l (line_put m x.to.at x) (route_keeps pt l records m (First x) refl may h) h refl
 route_mirrors pt l records m (On x) may h = lines_keep pt (put_point pt m x.to.at x) l (line_put m x.to.at x) (route_keeps pt l records m (On x) refl may h) h refl
@@ -134,14 +136,14 @@ route_mirrors pt l records m (Own x) may h =
     own_put_mirrors pt l m x.to.at (kind_of x.what) x.to.pid x h may.plain may.encloses (sym (h.plain.bag x.id) ∙ ap (λ (o : Option Message). bind o plain_message) may.bag) may.untold may.receiver may.sender
 
 -- what is told of the next own message is what it is
-pub own_told : (pt : Point) (l : Placed) (records : AllRecords) (m : ℕ) (x : Message) → MayOwn pt l records x → (after_put pt.view m x.to.at x.id (kind_of x.what) x.to.pid).told x.id ≡ Some (told_of x)
+pub own_told : (pt : Point) (l : Placed) (records : AllRecords) (m : ℕ) (x : Message) → MayOwn pt l records 0 x → (after_put pt.view m x.to.at x.id (kind_of x.what) x.to.pid).told x.id ≡ Some (told_of x)
 own_told pt l records m x may = grind (arith, nat_tests, put_at, first_none)
 
 own_kept : (v u : View) (i : MsgId) (y : Message) → ((t : Told) → v.told i ≡ Some t → u.told i ≡ Some t) → OwnStands v i y → OwnStands u i y
 own_kept v u i y told k = record { told = told (told_of y) k.told; mine = k.mine; sender = k.sender }
 
 -- the kernels' own messages were told as what they are
-pub route_own : (pt : Point) (l : Placed) (records : AllRecords) (m : ℕ) (r : Route) → MayPut pt l records r → AllOwnStand pt.view l → AllOwnStand (put_point pt m (message_of r).to.at (message_of r)).view (after_route l r)
+pub route_own : (pt : Point) (l : Placed) (records : AllRecords) (m : ℕ) (r : Route) → MayPut pt l records 0 r → AllOwnStand pt.view l → AllOwnStand (put_point pt m (message_of r).to.at (message_of r)).view (after_route l r)
 route_own pt l records m (First x) may h i y there plain =
     own_kept pt.view (after_put pt.view m x.to.at x.id (kind_of x.what) x.to.pid) i y (λ t. told_stays pt.view m x.to.at x.id (kind_of x.what) x.to.pid i t) (h i y there plain)
 route_own pt l records m (On x) may h i y there plain =
@@ -168,7 +170,7 @@ token_kept v u l k r s p i t more known asked records h =
 first_kind : (o : Option Told) (u t : Told) → Some (first_told o u) ≡ Some t → is_between u.kind ≡ false → ((s : Told) → o ≡ Some s → is_between s.kind ≡ false) → is_between t.kind ≡ false
 first_kind o u t e new old = grind (arith, nat_tests)
 
-module _ (pt : Point) (l : Placed) (r s : AllRecords) (m : ℕ) (route : Route) (may : MayPut pt l r route) (records : (d : ℕ) → s d ≡ r d) where
+module _ (pt : Point) (l : Placed) (r s : AllRecords) (m : ℕ) (route : Route) (may : MayPut pt l r 0 route) (records : (d : ℕ) → s d ≡ r d) where
   abbrev x : Message
   x = message_of route
 
@@ -212,7 +214,7 @@ own_carried pt l r s m x p records mirrors (inr c) = (
   λ off. record { message = x; is = bag_here l x; sender = c.sender; carries = c.carries },
 )
 
-pub route_tokens : (pt : Point) (l : Placed) (r s : AllRecords) (m : ℕ) (route : Route) → MayPut pt l r route → ((d : ℕ) → s d ≡ r d) → Sane pt → PairsFit pt.view → Mirrors pt.kernel pt.view pt.addresses l → TokensStand pt.view l r
+pub route_tokens : (pt : Point) (l : Placed) (r s : AllRecords) (m : ℕ) (route : Route) → MayPut pt l r 0 route → ((d : ℕ) → s d ≡ r d) → Sane pt → PairsFit pt.view → Mirrors pt.kernel pt.view pt.addresses l → TokensStand pt.view l r
     → TokensStand (put_point pt m (message_of route).to.at (message_of route)).view (after_route l route) s
 route_tokens pt l r s m (First x) may records sane fits mirrors h =
     let p : IsPlain (pt.kernel.bag x.id) x = plain_of pt l x mirrors may.0 may.1 in
@@ -231,7 +233,7 @@ route_tokens pt l r s m (Own x) may records sane fits mirrors h =
     (own_carried pt l r s m x p records mirrors (may.carried (ap (λ (z : Told). is_between z.kind) is ∙ between) p (ap (λ (z : Told). z.about) is ∙ about))))
 
 -- the world stands for the point behind the put
-pub stands_routed : (b : Boot) (pt : Point) (l : Placed) (r : AllRecords) (m : ℕ) (route : Route) (w : WorldState) (h : History) → MayPut pt l r route → ((d : ℕ) → (w.nodes d).kernel.records ≡ r d) → Sane pt → PairsFit pt.view → Mirrors pt.kernel pt.view pt.addresses l
+pub stands_routed : (b : Boot) (pt : Point) (l : Placed) (r : AllRecords) (m : ℕ) (route : Route) (w : WorldState) (h : History) → MayPut pt l r 0 route → ((d : ℕ) → (w.nodes d).kernel.records ≡ r d) → Sane pt → PairsFit pt.view → Mirrors pt.kernel pt.view pt.addresses l
     → AllOwnStand pt.view l → TokensStand pt.view l r → CoreStands b w (put_point pt m (message_of route).to.at (message_of route)) (after_route l route) h → StandsWith b w (put_point pt m (message_of route).to.at (message_of route)) (after_route l route) h
 stands_routed b pt l r m route w h may records sane fits mirrors own tokens core = search (
   route_mirrors pt l r m route may mirrors,
@@ -243,7 +245,7 @@ stands_routed b pt l r m route w h may records sane fits mirrors own tokens core
 
 -- the world after machine m has acted, but for the count of directives
 abbrev pub with_acted : WorldState → ℕ → Acted → WorldState
-with_acted w m d = record { nodes = at_machine w.nodes m d.state; wires = (spoken w.wires d.outs).wires; groups = w.groups }
+with_acted w m d = record { nodes = at_machine w.nodes m d.state; wires = (spoken w.wires d.outs).wires; ended = w.ended; groups = w.groups }
 
 -- it goes
 pub record RouteOn (b : Boot) (w : WorldState) (pt : Point) (l : Placed) (m : ℕ) (r : Route) : Type 0 where

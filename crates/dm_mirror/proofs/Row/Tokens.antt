@@ -167,7 +167,7 @@ row_turns b m pt l records k run own tokens same r = record {
   elsewhere = r.elsewhere;
   may = grind (arith, nat_tests, r.sent);
   late_may = tt;
-  single = (let z = routes_owns r.route in omega (arith, z));
+  over = r.over;
   topic = tt;
   own = λ i x there none. (let o = own i x (r.own_back i x none there) none in record { told = ap (λ (f : MsgId → Option Told). f i) r.elsewhere.told ∙ o.told; mine = o.mine; sender = o.sender });
   tokens = tokens_keep pt l records r.next r.placed (at_machine records m r.state.records) run.based.phased.phases run.based.phased.sane.tells.own (row_leaves b m pt l records k run same r) own tokens;

@@ -20,7 +20,7 @@ use Rattle.dm_mirror.proofs.Kernel.Sets.{Leaves, view_leaves_on, kernel_leaves_o
 use Rattle.dm_mirror.proofs.Kernel.Sets.{kernel_sets, kernel_out, placed_sets, placed_out, NotOwn, not_own_some, machine_on, record_on, label_mirrors, after_label, view_same, kernel_same, placed_same}
 use Rattle.dm_mirror.proofs.Serve.Runs.{Found, found, here_of, in_ring, first_runs, first_same}
 use Rattle.dm_mirror.proofs.Serving.{Served, Acts, acts_as, moved_round, goes_on_acts, is_for, queue_alone}
-use Rattle.dm_mirror.proofs.Turning.{Elsewhere, Row, begun, is_moving}
+use Rattle.dm_mirror.proofs.Turning.{NoneEnds, Elsewhere, Row, begun, is_moving}
 use Rattle.dm_mirror.proofs.Serve.Executes.{executes_acts}
 use Rattle.dm_mirror.proofs.Follow.Updates.{rests_away as away_of}
 
@@ -275,6 +275,7 @@ idle_acts b m pt l k p mirrors stands = record {
   leaves = record { view = view_same m (is_queue_of m p) p (begun pt m).view; kernel = kernel_same p pt.kernel; placed_ = placed_same (is_queue_of m p) p (begun pt m).view l };
   sent = tt;
   still = refl;
+  over = NoneEnds refl (λ q. refl);
   count = refl;
   records = λ q off. refl;
 }

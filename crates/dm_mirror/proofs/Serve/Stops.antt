@@ -6,6 +6,7 @@ use Rattle.dm_mirror.proofs.Names.{AllOwnStand, AreMessages, if◌then◌else◌
 use Rattle.dm_onekernel.specs.Kernel.{Ended}
 pub use Rattle.dm_rulelaws.proofs.Goes.Serves.{ran_steps}
 use Rattle.dm_onekernel.specs.Step as kernel
+use Rattle.dm_mirror.proofs.Turning.{OneEnds, one_ends}
 use Rattle.dm_rule.specs.Parts as rule_part
 use Rattle.dm_rule.specs.Rule as rule
 use Rattle.dm_places.specs.PlacedStep as placed
@@ -180,15 +181,16 @@ ends_acts b m pt l k p x y z c because s r step with_ queue_is memory =
       kernel = ends_stands b m t p pt d.next l d.placed k n x z because s.at leaves
           (record {
             here = refl;
-            records = λ q off. off_if (pid_eq p q) (Some (Record.Ended because)) ((with_here (moved_round k p) p z).records q) off ∙ off_if (pid_eq p q) (Some (Record.Here z)) (k.records q) off;
+            records = λ q off. off_if (pid_eq p q) (Some Record.Ended) ((with_here (moved_round k p) p z).records q) off ∙ off_if (pid_eq p q) (Some (Record.Here z)) (k.records q) off;
             made = refl;
             servers = refl;
           })
-          (λ q off. queue_of_others m p q off) (λ q. refl) (on_if (pid_eq p p) (Some (Record.Ended because)) ((with_here (moved_round k p) p z).records p) (pid_eq-same p)) refl ring
+          (λ q off. queue_of_others m p q off) (λ q. refl) (on_if (pid_eq p p) (Some Record.Ended) ((with_here (moved_round k p) p z).records p) (pid_eq-same p)) refl ring
           (inbox_stands m t p pt d.next l d.placed k.inbox leaves refl s.stands.inbox) (d.known ∙ record_on o.view.known o.view.acting m p Known.Ended s.acting) (d.process ∙ ended) memory s.made s.stands;
       leaves = leaves;
       sent = tt;
       still = drops_still ids;
+      over = OneEnds m p because refl refl (one_ends pt.kernel d.next.kernel p because leaves.kernel.life (d.process ∙ ended));
       count = refl;
-      records = λ q off. off_if (pid_eq p q) (Some (Record.Ended because)) ((with_here (moved_round k p) p z).records q) off ∙ off_if (pid_eq p q) (Some (Record.Here z)) (k.records q) off;
+      records = λ q off. off_if (pid_eq p q) (Some Record.Ended) ((with_here (moved_round k p) p z).records q) off ∙ off_if (pid_eq p q) (Some (Record.Here z)) (k.records q) off;
     }
