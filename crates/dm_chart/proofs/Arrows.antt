@@ -1,7 +1,7 @@
 -- Each message that is put has one arrow, and nothing else is an arrow.
-use Rattle.dm_chart.proofs.Names.{◌≡◌, ℕ, zero, suc, ◌-◌, Bool, true, false, List, [], ◌∷◌, ◌++◌, map, Some, None, refl, ap, ◌∙◌, Option, flat_map, not, ◌&&◌, if◌then◌else◌, flat_map-append, append-nil, Pid, MsgId, Line, Letter, Life, Role}
+use Rattle.dm_chart.proofs.Names.{◌≡◌, ℕ, zero, suc, ◌-◌, Bool, true, false, List, [], ◌∷◌, ◌++◌, map, Some, None, refl, ap, ◌∙◌, Option, flat_map, not, ◌&&◌, if◌then◌else◌, flat_map-append, append-nil, Pid, Line, Letter, Life, Role}
 use Rattle.dm_chart.proofs.Names.{Spot, is_delivery, letter_of_shape, letter_of_role, letters_of, role_of, Shape, Group, columns, deliveries, fate, fate_here, first_bar, group_shapes, life_shapes, line_shapes, lost_unless, moves_shown}
-use Rattle.dm_chart.proofs.Names.{own_shapes, sending_shapes, shapes, shapes_from, first_spot, next_spot}
+use Rattle.dm_chart.proofs.Names.{own_shapes, shapes, shapes_from, first_spot, next_spot}
 use Rattle.dm_chart.specs.declared.role.Life.TheVariants as life
 use Rattle.dm_chart.specs.declared.role.Role.TheVariants as role
 
@@ -55,16 +55,16 @@ none-lost : (b : Bool) (x y row : ℕ) → arrows (lost_unless b x y row) ≡ []
 none-lost true x y row = refl
 none-lost false x y row = refl
 
-none-moves : (p : Pid) (s : Spot) (o : Option Spot) → arrows (moves_shown p s o) ≡ []
-none-moves p s None = refl
-none-moves p s (Some t) = refl
+none-moves : (last : ℕ) (p : Pid) (s : Spot) (o : Option Spot) → arrows (moves_shown last p s o) ≡ []
+none-moves last p s None = refl
+none-moves last p s (Some t) = refl
 
 none-life : (last : ℕ) (all : List Line) (way : Life) (s : Spot) (after : List Line) → arrows (life_shapes last all way s after) ≡ []
 none-life last all life.Same s after = refl
 none-life last all (life.Made p) s after = refl
 none-life last all (life.From p) s after = refl
 none-life last all (life.Ends p) s after = refl
-none-life last all (life.Leaves p) s after = none-moves p s _
+none-life last all (life.Leaves p) s after = none-moves last p s _
 none-life last all (life.Served i) s after = refl
 
 -- a line has the arrow of the message that it puts

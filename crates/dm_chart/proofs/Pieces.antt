@@ -52,6 +52,12 @@ concat-copied f done xs i d within = concat-more f done xs i (get_or xs i d) wit
 pub mapped-copied : {X Y A : Type 0} (g : Y → List A) (f : X → Y) (done : List A) (xs : List X) (i : ℕ) (d : X) → i < length xs → done ++ flat_map g (map f (drop i xs)) ≡ (done ++ g (f (get_or xs i d))) ++ flat_map g (map f (drop (i + 1) xs))
 mapped-copied g f done xs i d within = mapped-more g f done xs i (get_or xs i d) within (get_or_same xs i d (get_or xs i d) within)
 
+-- four pieces, one behind another
+pub four-pieces : (t u v w a b c d : List ℕ) → u ≡ t ++ a → v ≡ u ++ b → w ≡ v ++ c → w ++ d ≡ t ++ (((a ++ b) ++ c) ++ d)
+four-pieces t u v w a b c d e f g =
+    ap (λ x. x ++ d) (g ∙ ap (λ x. x ++ c) (f ∙ ap (λ x. x ++ b) e))
+    ∙ (ap (λ x. (x ++ c) ++ d) (append_assoc t a b) ∙ (ap (λ x. x ++ d) (append_assoc t (a ++ b) c) ∙ append_assoc t ((a ++ b) ++ c) d))
+
 pub ruleset mapped_lemmas = (mapped-end, mapped-more)
 
 pub ruleset flat_lemmas = (flat-end, flat-more)

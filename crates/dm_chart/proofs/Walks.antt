@@ -1,7 +1,7 @@
 -- Walks over lines, as loops go through them.
-use Rattle.dm_chart.proofs.Names.{◌≡◌, ℕ, zero, suc, ◌+◌, ◌<◌, ◌≤◌, Bool, true, false, List, [], ◌∷◌, ◌++◌, length, get_or, take, drop, map, Some, None, refl, ap, sym, ◌∙◌, add-one, append_assoc, flat_map, flat_map-append, append-nil}
-use Rattle.dm_chart.proofs.Names.{drop_more, flat_map_more, take_more, drop_of_length-le, Pid, Line, Frame, Role, Spot, first_ahead, is_delivery, all_drawn, drawn_shape, role_of, Shape, Column, columns, deliveries, fate_here, first_bar}
-use Rattle.dm_chart.proofs.Names.{line_shapes, shapes_from, next_spot, spot_behind}
+use Rattle.dm_chart.proofs.Names.{◌≡◌, ℕ, ◌+◌, ◌<◌, ◌≤◌, Bool, true, false, List, [], ◌∷◌, ◌++◌, length, get_or, take, drop, map, Some, None, refl, ap, sym, ◌∙◌, add-one, append_assoc, flat_map-append, append-nil}
+use Rattle.dm_chart.proofs.Names.{drop_more, flat_map_more, take_more, drop_of_length-le, Pid, Line, Frame, Role, Spot, first_ahead, is_delivery, all_drawn, drawn_shape, role_of, Shape, Column, columns, deliveries, fate_here}
+use Rattle.dm_chart.proofs.Names.{line_shapes, shapes_from, next_spot, spot_behind, Option, MsgId, Letter, letter_last, news_from, news_here, puts_it}
 use Rattle.dm_chart.proofs.Pieces.{read_at}
 
 -- the first line ahead that passes a test
@@ -18,6 +18,21 @@ ahead-more test s n ls i d within next fails = rw (drop_more ls i d within, fail
 pub ahead-here : (test : Role → Bool) (s n : Spot) (ls : List Line) (i : ℕ) (d : Line) → i < length ls → n ≡ next_spot s (get_or ls i d) → test (role_of (get_or ls i d)) ≡ true → first_ahead test s (drop i ls) ≡ Some n
 unfolding first_ahead
 ahead-here test s n ls i d within next passes = rw (drop_more ls i d within, passes, next) refl
+
+-- where a message was put first that tells where a process is
+pub news-end : (id : MsgId) (last : Option Letter) (ls : List Line) (i : ℕ) → length ls ≤ i → news_from id last (drop i ls) ≡ None
+unfolding news_from
+news-end id last ls i past = ap (news_from id last) (drop_of_length-le ls past)
+
+pub ruleset news_lemmas = (news-end)
+
+pub news-more : (id : MsgId) (last : Option Letter) (ls : List Line) (i : ℕ) (d : Line) → i < length ls → puts_it id (role_of (get_or ls i d)) ≡ false → news_from id last (drop i ls) ≡ news_from id (letter_last last (role_of (get_or ls i d))) (drop (i + 1) ls)
+unfolding news_from
+news-more id last ls i d within fails = rw (drop_more ls i d within, fails) refl
+
+pub news-here : (id : MsgId) (last : Option Letter) (ls : List Line) (i : ℕ) (d : Line) → i < length ls → puts_it id (role_of (get_or ls i d)) ≡ true → news_from id last (drop i ls) ≡ news_here (role_of (get_or ls i d)) last
+unfolding news_from
+news-here id last ls i d within passes = rw (drop_more ls i d within, passes) refl
 
 -- behind all lines
 pub spot_behind-end : (s : Spot) (ls : List Line) (i : ℕ) → length ls ≤ i → spot_behind s (drop i ls) ≡ s

@@ -1,6 +1,8 @@
 -- What other lines tell of a message.
-use Rattle.std.specs.Prelude.{ℕ, ◌==◌, ◌&&◌, Bool, true, false, if◌then◌else◌, List, [], ◌∷◌, count_by}
+use Rattle.std.specs.Prelude.{ℕ, ◌==◌, ◌&&◌, Bool, false, if◌then◌else◌, List, [], ◌∷◌, count_by}
 use Rattle.std.specs.List.{list_any, flat_map}
+use Rattle.std.specs.declared.option.Option.{Option}
+use Rattle.std.specs.declared.option.Option.TheVariants.{None, Some}
 use Rattle.dm_link.specs.declared.Pid.{Pid}
 use Rattle.dm_link.specs.Names.{pid_eq}
 use Rattle.dm_message.specs.declared.MsgId.{MsgId}
@@ -8,8 +10,10 @@ use Rattle.dm_message.specs.declared.kind.MessageKind.{MessageKind}
 use Rattle.dm_message.specs.declared.kind.MessageKind.TheVariants as kind
 use Rattle.dm_message.specs.Ids.{id_eq}
 use Rattle.dm_line.specs.declared.line.Line.{Line}
+use Rattle.dm_chart.specs.declared.role.Letter.{Letter}
 use Rattle.dm_chart.specs.declared.role.Role.{Role}
 use Rattle.dm_chart.specs.declared.role.Role.TheVariants as role
+use Rattle.dm_chart.specs.declared.scan.News.{News}
 use Rattle.dm_chart.specs.Roles.{role_of}
 
 abbrev pub message_is_among : MsgId → List MsgId → Bool
@@ -51,3 +55,26 @@ kill_in p _ = []
 -- the messages of these lines that kill it
 abbrev pub kills_of : Pid → List Line → List MsgId
 kills_of p ls = flat_map (λ l. kill_in p (role_of l)) ls
+
+-- the last message that was put, with one more line
+abbrev pub letter_last : Option Letter → Role → Option Letter
+letter_last last (role.Put x) = Some x
+letter_last last _ = last
+
+-- of a message that tells where a process is: whom it tells, and by the message put before it, which is the one that was forwarded,
+-- of which process, and to which machine that has gone
+abbrev pub news_behind : Letter → Option Letter → Option News
+news_behind x None = None
+news_behind x (Some y) = Some (record { whom = x.receiver; of = y.receiver; at = y.to })
+
+abbrev pub news_here : Role → Option Letter → Option News
+news_here (role.Put x) last = news_behind x last
+news_here _ last = None
+
+-- where these lines put it first, behind what was put last
+unfoldable pub news_from : MsgId → Option Letter → List Line → Option News
+news_from i last [] = None
+news_from i last (l ∷ ls) = if puts_it i (role_of l) then news_here (role_of l) last else news_from i (letter_last last (role_of l)) ls
+
+abbrev pub news_of : MsgId → List Line → Option News
+news_of i ls = news_from i None ls

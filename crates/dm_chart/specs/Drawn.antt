@@ -1,5 +1,5 @@
 -- How each shape is drawn.
-use Rattle.std.specs.Prelude.{ℕ, ◌+◌, ◌-◌, ◌==◌, if◌then◌else◌, codes, List, [], ◌∷◌, ◌++◌}
+use Rattle.std.specs.Prelude.{ℕ, ◌-◌, ◌==◌, if◌then◌else◌, codes, List, [], ◌∷◌, ◌++◌}
 use Rattle.std.specs.List.{concat, flat_map}
 use Rattle.std.specs.Fmt.{decimal}
 use Rattle.std.specs.declared.option.Option.{Option}
@@ -108,7 +108,7 @@ drawn_shape f (Came a b row last) = draw_packet f a b row last
 drawn_shape f (Early a b row last) = draw_packet f a b row last ++ drawn_mark (codes "#early") (on_axis f b last)
 drawn_shape f (Again a b row last) = draw_packet f a b row last ++ drawn_mark (codes "#again") (on_axis f b last)
 drawn_shape f (Lost a b row) = draw_lost f a b row
-drawn_shape f (Beside m row l) = draw_note f m row (note_of l)
+drawn_shape f (Beside m row before l) = draw_note f m row (note_of before l)
 
 -- shapes, one after another
 abbrev pub all_drawn : Frame → List Shape → List ℕ

@@ -1,5 +1,5 @@
 -- What holds of every picture.
-use Rattle.std.specs.Prelude.{◌≡◌, ℕ, List, [], ◌∷◌, ◌++◌}
+use Rattle.std.specs.Prelude.{◌≡◌, ℕ, List, [], ◌∷◌}
 use Rattle.std.specs.List.{flat_map}
 use Rattle.dm_link.specs.declared.Pid.{Pid}
 use Rattle.dm_line.specs.declared.line.Line.{Line}
@@ -20,7 +20,7 @@ letter_of_shape (Came a b row last) = []
 letter_of_shape (Early a b row last) = []
 letter_of_shape (Again a b row last) = []
 letter_of_shape (Lost a b row) = []
-letter_of_shape (Beside m row l) = []
+letter_of_shape (Beside m row before l) = []
 
 -- the message that a line puts
 abbrev pub letter_of_role : Role → List Letter

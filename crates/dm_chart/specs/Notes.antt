@@ -1,6 +1,8 @@
--- The notes: what is written beside the machine of a group, a row a line.
+-- The notes: what is written beside the machine of a group, a row a line; of links that follow, by the lines before as well.
 use Rattle.std.specs.Prelude.{ℕ, ◌==◌, if◌then◌else◌, codes, List, [], ◌∷◌}
 use Rattle.std.specs.Fmt.{decimal}
+use Rattle.std.specs.declared.option.Option.{Option}
+use Rattle.std.specs.declared.option.Option.TheVariants.{None, Some}
 use Rattle.dm_link.specs.declared.Pid.{Pid}
 use Rattle.dm_message.specs.Outcomes.{code_of_outcome}
 use Rattle.dm_onekernel.specs.Codes.{reply_code, why_code}
@@ -10,7 +12,10 @@ use Rattle.dm_line.specs.declared.line.Line.{Line}
 use Rattle.dm_line.specs.declared.line.Line.TheVariants as line
 use Rattle.dm_line.specs.declared.line.Stage.{Stage}
 use Rattle.dm_line.specs.declared.line.Stage.TheVariants as stage
+use Rattle.dm_message.specs.declared.MsgId.{MsgId}
 use Rattle.dm_text.specs.Words.{pid_word, id_word}
+use Rattle.dm_chart.specs.declared.scan.News.{News}
+use Rattle.dm_chart.specs.Behind.{news_of}
 
 -- a note: its class, and its words
 pub record Note : Type 0 where
@@ -46,7 +51,7 @@ label_note (label.Served i) = note (codes "c0") (codes "served " ∷ id_word i �
 label_note (label.Gone i) = note (codes "c0") (codes "gone, for " ∷ id_word i ∷ [])
 label_note (label.Took i) = no_note
 label_note (label.Created i p) = note (codes "c1") (codes "makes " ∷ pid_word p ∷ [])
-label_note (label.NoSpace i s b) = note (codes "c1") (codes "no room: slots " ∷ decimal s ∷ codes ", blocks " ∷ decimal b ∷ [])
+label_note (label.NoSpace i s b) = note (codes "c1") (codes "no room, for " ∷ id_word i ∷ codes ": slots " ∷ decimal s ∷ codes ", blocks " ∷ decimal b ∷ [])
 label_note (label.Asked i) = note (codes "c3") (codes "is asked to move, " ∷ id_word i ∷ [])
 label_note (label.Answered i o) = note (codes "c3") (codes "answers " ∷ id_word i ∷ codes ": " ∷ decimal (code_of_outcome o) ∷ [])
 
@@ -59,31 +64,37 @@ stage_words stage.MemoryTaken = codes "5 memory has come: "
 stage_words stage.Left = codes "7 has left: "
 stage_words stage.Restarted = codes "8 goes on: "
 
-abbrev pub note_of : Line → Note
-note_of (line.Head s) = no_note
-note_of (line.Idle m) = no_note
-note_of (line.Label l) = label_note l
-note_of (line.Put a b id kind q) = no_note
-note_of (line.Packet a b k l) = no_note
-note_of (line.Taken a b n) = no_note
-note_of (line.Old a b n) = note (codes "c4") (codes "again: number " ∷ decimal n ∷ [])
-note_of (line.Early a b n) = note (codes "c4") (codes "early: number " ∷ decimal n ∷ [])
-note_of (line.Acked a b n) = no_note
-note_of line.Nothing = no_note
-note_of (line.Resent m n) = resent_note n
-note_of (line.Queued id) = no_note
-note_of (line.Held id) = note (codes "c2") (codes "held: " ∷ id_word id ∷ [])
-note_of (line.Forwarded id m) = note (codes "c2") (codes "forwarded: " ∷ id_word id ∷ [])
-note_of (line.Updated id n) = note (codes "c0") (codes "links that follow: " ∷ decimal n ∷ [])
-note_of (line.Migration s p) = note (codes "c3") (stage_words s ∷ pid_word p ∷ [])
-note_of (line.SentOn p n) = note (codes "c3") (codes "6 sends on " ∷ decimal n ∷ codes ": " ∷ pid_word p ∷ [])
-note_of (line.Called p n) = note (codes "c3") (codes "is called off, " ∷ decimal n ∷ codes " go back: " ∷ pid_word p ∷ [])
-note_of (line.Lacks p s b) = note (codes "c3") (codes "no room for " ∷ pid_word p ∷ codes ": slots " ∷ decimal s ∷ codes ", blocks " ∷ decimal b ∷ [])
-note_of (line.Stays p) = note (codes "c3") (codes "stays: " ∷ pid_word p ∷ [])
-note_of (line.Here id) = note (codes "c3") (codes "is here already, " ∷ id_word id ∷ [])
-note_of (line.NoMove id) = note (codes "c3") (codes "has ended, " ∷ id_word id ∷ [])
-note_of (line.Stale id) = note (codes "c4") (codes "too late: " ∷ id_word id ∷ [])
-note_of (line.Proto id) = no_note
-note_of (line.NoChild p) = note (codes "c3") (codes "no child: " ∷ pid_word p ∷ [])
-note_of (line.NoCall p) = note (codes "c3") (codes "nothing to call off: " ∷ pid_word p ∷ [])
-note_of (line.Pinned p) = note (codes "c3") (codes "can't move: " ∷ pid_word p ∷ [])
+-- whose links follow, which process, and to where; where the lines before don't say so, the message that told it
+abbrev pub follow_note : MsgId → ℕ → Option News → Note
+follow_note id n None = note (codes "c0") (codes "links that follow " ∷ id_word id ∷ codes ": " ∷ decimal n ∷ [])
+follow_note id n (Some x) =
+    note (codes "c0") (codes "links of " ∷ pid_word x.whom ∷ codes " follow " ∷ pid_word x.of ∷ codes " to machine " ∷ decimal x.at ∷ codes ": " ∷ decimal n ∷ [])
+
+abbrev pub note_of : List Line → Line → Note
+note_of before (line.Head s) = no_note
+note_of before (line.Idle m) = no_note
+note_of before (line.Label l) = label_note l
+note_of before (line.Put a b id kind q) = no_note
+note_of before (line.Packet a b k l) = no_note
+note_of before (line.Taken a b n) = no_note
+note_of before (line.Old a b n) = note (codes "c4") (codes "again: number " ∷ decimal n ∷ codes " from machine " ∷ decimal a ∷ [])
+note_of before (line.Early a b n) = note (codes "c4") (codes "early: number " ∷ decimal n ∷ codes " from machine " ∷ decimal a ∷ [])
+note_of before (line.Acked a b n) = no_note
+note_of before line.Nothing = no_note
+note_of before (line.Resent m n) = resent_note n
+note_of before (line.Queued id) = no_note
+note_of before (line.Held id) = note (codes "c2") (codes "held: " ∷ id_word id ∷ [])
+note_of before (line.Forwarded id m) = note (codes "c2") (codes "forwarded to machine " ∷ decimal m ∷ codes ": " ∷ id_word id ∷ [])
+note_of before (line.Updated id n) = follow_note id n (news_of id before)
+note_of before (line.Migration s p) = note (codes "c3") (stage_words s ∷ pid_word p ∷ [])
+note_of before (line.SentOn p n) = note (codes "c3") (codes "6 sends on " ∷ decimal n ∷ codes ": " ∷ pid_word p ∷ [])
+note_of before (line.Called p n) = note (codes "c3") (codes "called off, sends back " ∷ decimal n ∷ codes ": " ∷ pid_word p ∷ [])
+note_of before (line.Lacks p s b) = note (codes "c3") (codes "no room for " ∷ pid_word p ∷ codes ": slots " ∷ decimal s ∷ codes ", blocks " ∷ decimal b ∷ [])
+note_of before (line.Stays p) = note (codes "c3") (codes "stays: " ∷ pid_word p ∷ [])
+note_of before (line.Here id) = note (codes "c3") (codes "is here already, " ∷ id_word id ∷ [])
+note_of before (line.NoMove id) = note (codes "c3") (codes "has ended, " ∷ id_word id ∷ [])
+note_of before (line.Stale id) = note (codes "c4") (codes "too late: " ∷ id_word id ∷ [])
+note_of before (line.Proto id) = no_note
+note_of before (line.NoChild p) = note (codes "c3") (codes "no child: " ∷ pid_word p ∷ [])
+note_of before (line.NoCall p) = note (codes "c3") (codes "nothing to call off: " ∷ pid_word p ∷ [])
+note_of before (line.Pinned p) = note (codes "c3") (codes "can't move: " ∷ pid_word p ∷ [])

@@ -1,12 +1,13 @@
 -- The whole picture.
-use Rattle.std.specs.Prelude.{ℕ, ◌+◌, ◌-◌, codes, List, [], ◌∷◌, ◌++◌, map, length}
+use Rattle.std.specs.Prelude.{ℕ, ◌+◌, ◌-◌, ◌==◌, if◌then◌else◌, codes, List, [], ◌∷◌, ◌++◌, map, length}
 use Rattle.std.specs.List.{concat, flat_map}
 use Rattle.std.specs.Fmt.{decimal}
 use Rattle.dm_link.specs.declared.Pid.{Pid}
 use Rattle.dm_onekernel.specs.declared.boot.Boot.{Boot}
 use Rattle.dm_line.specs.declared.line.Line.{Line}
+use Rattle.dm_chart.specs.declared.chart.Reach.{Reach}
+use Rattle.dm_chart.specs.declared.chart.Reach.TheVariants as reach
 use Rattle.dm_chart.specs.declared.frame.Frame.{Frame}
-use Rattle.dm_chart.specs.declared.frame.Point.{Point}
 use Rattle.dm_chart.specs.declared.kept.Kept.{Kept}
 use Rattle.dm_chart.specs.declared.role.Life.{Life}
 use Rattle.dm_chart.specs.declared.role.Life.TheVariants as life
@@ -45,36 +46,51 @@ unfoldable pub sheet : Frame → List ℕ
 sheet f = alone (codes "rect") ((codes "width", decimal (breadth f)) ∷ (codes "height", decimal (height f.rows + 44)) ∷ (codes "fill", codes "#fff") ∷ [])
 
 unfoldable pub title : ℕ → Kept → List ℕ
-title machines k = written (codes "t") (point 10 24) (codes "machines " ∷ decimal machines ∷ codes ", groups " ∷ decimal k.groups ∷ codes ", messages " ∷ decimal k.messages ∷ [])
+title machines k = written (codes "t") (point 10 20) (codes "machines " ∷ decimal machines ∷ codes ", groups " ∷ decimal k.groups ∷ codes ", messages " ∷ decimal k.messages ∷ [])
 
--- what the picture leaves out: groups behind those that are shown, their messages, and bars
-unfoldable pub left_words : Point → ℕ → ℕ → ℕ → List ℕ
-left_words p groups messages bars =
-    written (codes "q") p
-    (codes "left out: " ∷ decimal groups ∷ codes " groups behind these, which put " ∷ decimal messages ∷ codes " messages; the bars of " ∷ decimal bars ∷ codes " processes" ∷ [])
+-- words at the foot of the picture, so far from its left side and from its last row, and a number that isn't 0
+unfoldable pub foot_line : Frame → ℕ → ℕ → List ℕ → ℕ → List ℕ
+foot_line f x down words n = if n == 0 then [] else written (codes "q") (point x (height f.rows + down)) (words ∷ decimal n ∷ [])
 
-abbrev pub left_out : Frame → Kept → List ℕ
-left_out f k = left_words (point 10 (height f.rows + 30)) k.left_groups k.left_messages (length f.processes - 12)
+-- how many processes have no lane
+abbrev pub bars_line : Frame → List ℕ
+bars_line f = foot_line f 10 34 (codes "processes without a bar: ") (length f.processes - 12)
+
+-- a run that ended at a worn pair says so
+unfoldable pub reach_line : Frame → Reach → List ℕ
+reach_line f reach.Whole = []
+reach_line f (reach.BeforeWorn from to) = written (codes "q") (point 290 (height f.rows + 34)) (codes "the run ended with status 9, worn: " ∷ decimal from ∷ codes " to " ∷ decimal to ∷ [])
+
+-- what the picture leaves out: groups behind those that are shown, what these put, and bars; and why it ends
+unfoldable pub foot : Frame → Kept → Reach → List ℕ
+foot f k r =
+    foot_line f 10 20 (codes "groups behind these, left out: ") k.left_groups
+    ++ foot_line f 290 20 (codes "messages that they put: ") k.left_messages
+    ++ bars_line f
+    ++ reach_line f r
 
 -- what stands before the shapes
 unfoldable pub picture_head : Frame → Kept → List ℕ
 picture_head f k = concat style_sheet ++ concat marks ++ sheet f ++ title f.machines k ++ concat meanings
 
-abbrev pub picture_in : Frame → List Pid → Kept → List ℕ
-picture_in f ps k =
+abbrev pub picture_in : Frame → List Pid → Kept → Reach → List ℕ
+picture_in f ps k r =
     opening_tag (codes "svg") (extent f)
     ++ picture_head f k
     ++ all_drawn f (shapes f.machines f.rows ps k.lines)
-    ++ left_out f k
+    ++ foot f k r
     ++ closing (codes "svg")
 
 -- the picture of what is kept, for so many machines and the processes that are there from the start
-unfoldable pub picture_of : ℕ → List Pid → Kept → List ℕ
-picture_of machines ps k = picture_in (frame_of machines ps k) ps k
+unfoldable pub picture_of : ℕ → List Pid → Kept → Reach → List ℕ
+picture_of machines ps k r = picture_in (frame_of machines ps k) ps k r
 
 abbrev pub boot_pids : Boot → List Pid
 boot_pids b = map (λ p. p.pid) b.processes
 
--- the picture of a run: of its boot file, and the lines of its groups
+-- the picture of a run: of its boot file, and the lines of its groups; and of one that ended at a worn pair
 abbrev pub chart_of : Boot → List (List Line) → List ℕ
-chart_of b gs = picture_of (length b.machines) (boot_pids b) (kept_of gs)
+chart_of b gs = picture_of (length b.machines) (boot_pids b) (kept_of gs) reach.Whole
+
+abbrev pub worn_chart_of : Boot → List (List Line) → ℕ → ℕ → List ℕ
+worn_chart_of b gs from to = picture_of (length b.machines) (boot_pids b) (kept_of gs) (reach.BeforeWorn from to)

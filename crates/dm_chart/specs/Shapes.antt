@@ -1,5 +1,5 @@
 -- What is drawn of a run: the shapes of each line, by where the picture stands, the lines before and the lines after it.
-use Rattle.std.specs.Prelude.{ℕ, zero, suc, ◌+◌, ◌-◌, ◌==◌, ◌&&◌, Bool, true, false, not, is_some, if◌then◌else◌, List, [], ◌∷◌, ◌++◌, map}
+use Rattle.std.specs.Prelude.{ℕ, zero, suc, ◌-◌, ◌==◌, ◌&&◌, Bool, true, false, not, is_some, if◌then◌else◌, List, [], ◌∷◌, ◌++◌, map}
 use Rattle.std.specs.declared.option.Option.{Option}
 use Rattle.std.specs.declared.option.Option.TheVariants.{None, Some}
 use Rattle.dm_link.specs.declared.Pid.{Pid}
@@ -24,7 +24,7 @@ pub data Shape : Type 0 where
   Column : ℕ → Shape
   -- a process on a machine, from a row to a row
   Bar : Pid → ℕ → ℕ → ℕ → Shape
-  -- a process moves from a machine and row to a machine and row
+  -- a process is frozen on a machine at a row, and until it goes on, on a machine at a row
   Moves : Pid → ℕ → ℕ → ℕ → ℕ → Shape
   -- a group begins at a row: which of those that are shown it is, from 0, and its directive
   Group : ℕ → ℕ → Step → Shape
@@ -36,8 +36,8 @@ pub data Shape : Type 0 where
   Again : ℕ → ℕ → ℕ → ℕ → Shape
   -- a packet between two machines, from a row on, that never came
   Lost : ℕ → ℕ → ℕ → Shape
-  -- what is written of a line beside a machine, at a row
-  Beside : ℕ → ℕ → Line → Shape
+  -- what is written of a line, behind some others, beside a machine, at a row
+  Beside : ℕ → ℕ → List Line → Line → Shape
 
 -- the row of a place, where there is one
 abbrev pub spot_row : Option Spot → Option ℕ
@@ -56,17 +56,17 @@ comes_at a b before s after = if a == b then Some s.row else spot_row (first_ahe
 abbrev pub bar : ℕ → List Line → Pid → ℕ → Spot → List Line → Shape
 bar last all p m s after = Bar p m s.row (row_or last (first_ahead (is_end p (kills_of p all)) s after))
 
--- where it goes on, if it does
-abbrev pub moves_shown : Pid → Spot → Option Spot → List Shape
-moves_shown p s None = []
-moves_shown p s (Some t) = Moves p s.machine s.row t.machine t.row ∷ []
+-- where it goes on; one that doesn't is still frozen behind the last row
+abbrev pub moves_shown : ℕ → Pid → Spot → Option Spot → List Shape
+moves_shown last p s None = Moves p s.machine s.row s.machine last ∷ []
+moves_shown last p s (Some t) = Moves p s.machine s.row t.machine t.row ∷ []
 
 abbrev pub life_shapes : ℕ → List Line → Life → Spot → List Line → List Shape
 life_shapes last all life.Same s after = []
 life_shapes last all (life.Made p) s after = bar last all p s.machine s after ∷ []
 life_shapes last all (life.From p) s after = bar last all p s.machine s after ∷ []
 life_shapes last all (life.Ends p) s after = []
-life_shapes last all (life.Leaves p) s after = moves_shown p s (first_ahead (is_restart p) s after)
+life_shapes last all (life.Leaves p) s after = moves_shown last p s (first_ahead (is_restart p) s after)
 life_shapes last all (life.Served i) s after = []
 
 -- what becomes of a packet where it is delivered; with its own message it is the message's arrow
@@ -101,7 +101,7 @@ sending_shapes a b k row own s after = deliveries a b k row own false s after ++
 
 -- a message that is put
 abbrev pub letter_shapes : Letter → List Line → Spot → List Line → List Shape
-letter_shapes x before s after = Arrow (style_of x.kind (was_put x.id before)) x s.row (comes_at x.from x.to before s after) ∷ []
+letter_shapes x before s after = Arrow (style_of s.step x.kind (was_put x.id before)) x s.row (comes_at x.from x.to before s after) ∷ []
 
 -- the shapes of a line itself, behind which the picture stands at s; `own` where the line before put a message
 abbrev pub own_shapes : ℕ → List Line → Bool → List Line → Spot → List Line → Role → List Shape
@@ -120,7 +120,7 @@ group_shapes before s = if not before.begun && s.begun then Group s.row (s.group
 
 abbrev pub line_shapes : ℕ → List Line → List Line → Spot → Line → List Line → List Shape
 line_shapes last all before s l after =
-    group_shapes s (next_spot s l) ++ own_shapes last all s.own before (next_spot s l) after (role_of l) ++ Beside (next_spot s l).machine (next_spot s l).row l ∷ []
+    group_shapes s (next_spot s l) ++ own_shapes last all s.own before (next_spot s l) after (role_of l) ++ Beside (next_spot s l).machine (next_spot s l).row before l ∷ []
 
 -- the shapes of lines, behind others
 unfoldable pub shapes_from : ℕ → List Line → List Line → Spot → List Line → List Shape

@@ -1,6 +1,6 @@
 -- Elements of a document: well formed by construction, since each is opened and closed by its name, and what stands between
 -- is elements or words without a bracket, a quotation mark or an ampersand.
-use Rattle.std.specs.Prelude.{ℕ, codes, List, [], ◌∷◌, ◌++◌}
+use Rattle.std.specs.Prelude.{ℕ, codes, List, ◌++◌}
 use Rattle.std.specs.List.{flat_map}
 
 -- an attribute: its name and its value

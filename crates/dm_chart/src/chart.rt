@@ -1,8 +1,8 @@
 //! The whole picture.
-ghost use Rattle.std.specs.Prelude.{◌≡◌, ◌-◌, [], ◌∷◌, ◌++◌, IfOk, OnOk, codes, length, map, option_to_list};
+ghost use Rattle.std.specs.Prelude.{◌≡◌, ◌≤◌, ◌-◌, [], ◌∷◌, ◌++◌, IfOk, OnOk, codes, length, map, option_to_list};
 ghost use Rattle.std.specs.List.{concat, flat_map};
 ghost use Rattle.dm_chart.specs.Drawn.{all_drawn};
-ghost use Rattle.dm_chart.specs.Picture.{boot_pids, extent, frame_of, left_out, left_words, made_in, made_with, picture_head, picture_in, picture_of, processes_in, sheet, title};
+ghost use Rattle.dm_chart.specs.Picture.{bars_line, boot_pids, extent, foot, foot_line, frame_of, made_in, made_with, picture_head, picture_in, picture_of, processes_in, reach_line, sheet, title};
 ghost use Rattle.dm_chart.specs.Roles.{role_of};
 ghost use Rattle.dm_chart.specs.Shapes.{columns, first_bar, shapes};
 ghost use Rattle.dm_chart.specs.Spots.{first_spot};
@@ -24,6 +24,15 @@ use dm_onekernel::boot::Boot;
 use dm_text::word::Word::{Byte, Name, Number, Wide};
 use std::alloc::Global;
 
+/// How far a picture goes.
+#[derive(Clone, Copy)]
+pub enum Reach {
+    /// To the end of its run.
+    Whole,
+    /// As far as its run came, before two machines count as many messages as they may.
+    BeforeWorn { from: u8, to: u8 },
+}
+
 /// The names of the processes that are there from the start.
 #[tactic(auto, using(crate::proofs::Pieces::map_lemmas))]
 pub fn starts_of(alloc: Global, boot: &Boot) -> Result<Items<Pid>, NoMemory>
@@ -44,12 +53,13 @@ pub fn picture(
     machines: u8,
     starts: &[Pid],
     kept: &Kept,
+    reach: Reach,
 ) -> Result<Vec<u8>, NoMemory>
-    ensures { IfOk result (λ text. text.items ≡ picture_of machines starts.now kept.now) }
+    ensures { IfOk result (λ text. text.items ≡ picture_of machines starts.now kept.now reach) }
 {
     let frame = frame_of(alloc, machines, starts, kept)?;
     let mut text = Vec::new(alloc);
-    put_picture(alloc, &mut text, &frame, starts, kept)?;
+    put_picture(alloc, &mut text, &frame, starts, kept, reach)?;
     Ok(text)
 }
 
@@ -146,13 +156,14 @@ fn put_picture(
     frame: &Frame,
     starts: &[Pid],
     kept: &Kept,
+    reach: Reach,
 ) -> Result<(), NoMemory>
-    ensures { OnOk result (into.new.items ≡ into.old.items ++ picture_in frame.now starts.now kept.now) }
+    ensures { OnOk result (into.new.items ≡ into.old.items ++ picture_in frame.now starts.now kept.now reach) }
 {
     put_extent(into, frame)?;
     put_head(into, frame, kept)?;
     put_shapes(alloc, into, frame, starts, kept)?;
-    put_left_out(into, frame, kept)?;
+    put_foot(into, frame, kept, reach)?;
     put_closing(into, "svg")
 }
 
@@ -208,7 +219,7 @@ fn put_title(into: &mut Vec<u8>, machines: u8, kept: &Kept) -> Result<(), NoMemo
     put_written(
         into,
         "t",
-        Point { x: 10, y: 24 },
+        Point { x: 10, y: 20 },
         &[
             Name("machines "),
             Byte(machines),
@@ -220,48 +231,93 @@ fn put_title(into: &mut Vec<u8>, machines: u8, kept: &Kept) -> Result<(), NoMemo
     )
 }
 
-/// Writes what the picture leaves out.
-fn put_left_out(into: &mut Vec<u8>, frame: &Frame, kept: &Kept) -> Result<(), NoMemory>
-    ensures { OnOk result (into.new.items ≡ into.old.items ++ left_out frame.now kept.now) }
+/// Writes what the picture leaves out, and why it ends.
+#[tactic(auto, unfolding(crate::specs::Picture::foot))]
+fn put_foot(into: &mut Vec<u8>, frame: &Frame, kept: &Kept, reach: Reach) -> Result<(), NoMemory>
+    ensures { OnOk result (into.new.items ≡ into.old.items ++ foot frame.now kept.now reach) }
 {
-    let p = Point {
-        x: 10,
-        y: height(frame.rows) + 30,
-    };
-    put_left_words(
+    put_foot_line(
         into,
-        p,
+        frame,
+        10,
+        20,
+        "groups behind these, left out: ",
         kept.left_groups,
+    )?;
+    put_foot_line(
+        into,
+        frame,
+        290,
+        20,
+        "messages that they put: ",
         kept.left_messages,
+    )?;
+    put_bars_line(into, frame)?;
+    put_reach(into, frame, reach)
+}
+
+/// Writes how many processes have no lane, where there are some.
+fn put_bars_line(into: &mut Vec<u8>, frame: &Frame) -> Result<(), NoMemory>
+    ensures { OnOk result (into.new.items ≡ into.old.items ++ bars_line frame.now) }
+{
+    put_foot_line(
+        into,
+        frame,
+        10,
+        34,
+        "processes without a bar: ",
         without_lane(frame),
     )
 }
 
-/// Writes that so many groups, messages and bars are left out.
-#[tactic(auto, unfolding(crate::specs::Picture::left_words))]
-fn put_left_words(
-    into: &mut Vec<u8>,
-    p: Point,
-    groups: u64,
-    messages: u64,
-    bars: u64,
-) -> Result<(), NoMemory>
-    ensures { OnOk result (into.new.items ≡ into.old.items ++ left_words p groups messages bars) }
+/// Writes that a run ended at a worn pair.
+#[tactic(auto, unfolding(crate::specs::Picture::reach_line))]
+fn put_reach(into: &mut Vec<u8>, frame: &Frame, reach: Reach) -> Result<(), NoMemory>
+    ensures { OnOk result (into.new.items ≡ into.old.items ++ reach_line frame.now reach) }
 {
-    put_written(
-        into,
-        "q",
-        p,
-        &[
-            Name("left out: "),
-            Wide(groups),
-            Name(" groups behind these, which put "),
-            Wide(messages),
-            Name(" messages; the bars of "),
-            Wide(bars),
-            Name(" processes"),
-        ],
-    )
+    match reach {
+        Reach::Whole => Ok(()),
+        Reach::BeforeWorn { from, to } => {
+            let p = Point {
+                x: 290,
+                y: height(frame.rows) + 34,
+            };
+            put_written(
+                into,
+                "q",
+                p,
+                &[
+                    Name("the run ended with status 9, worn: "),
+                    Byte(from),
+                    Name(" to "),
+                    Byte(to),
+                ],
+            )
+        }
+    }
+}
+
+/// Writes some words and a number at the foot of the picture, where it isn't 0.
+#[tactic(auto, unfolding(crate::specs::Picture::foot_line))]
+fn put_foot_line(
+    into: &mut Vec<u8>,
+    frame: &Frame,
+    x: u32,
+    down: u32,
+    words: &'static str,
+    n: u64,
+) -> Result<(), NoMemory>
+    requires { down ≤ 100 }
+    ensures { OnOk result (into.new.items ≡ into.old.items ++ foot_line frame.now x down words.now n) }
+{
+    if n == 0 {
+        return Ok(());
+    }
+    let p = Point {
+        x,
+        y: height(frame.rows) + down,
+    };
+    put_written(into, "q", p, &[Name(words), Wide(n)])
 }
 
 /// How many processes have no lane.

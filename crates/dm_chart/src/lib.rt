@@ -15,6 +15,6 @@ mod spot;
 mod style;
 mod xml;
 
-pub use chart::{picture, starts_of};
+pub use chart::{Reach, picture, starts_of};
 pub use kept::{Kept, keep};
 pub use spot::MOST_ROWS;

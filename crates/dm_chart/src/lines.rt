@@ -81,7 +81,7 @@ fn put_line(
         m: spot.machine,
         row: spot.row,
     };
-    put_note(into, &place, line)
+    put_note(into, &place, page.before, line)
 }
 
 /// Draws that a group begins, where this is its first row.
@@ -152,7 +152,7 @@ fn put_letter(
 ) -> Result<(), NoMemory>
     ensures { OnOk result (into.new.items ≡ into.old.items ++ all_drawn frame.now (letter_shapes letter before.now spot after.now)) }
 {
-    let style = style_of(letter.kind, was_put(before, letter.id));
+    let style = style_of(spot.step, letter.kind, was_put(before, letter.id));
     let last = comes_at(letter.from, letter.to, before, spot, after);
     put_arrow(into, frame, style, letter, spot.row, last)
 }
@@ -307,7 +307,7 @@ pub fn put_living(
     put_bar(into, frame, pid, m, spot.row, last, lane_of(frame, pid))
 }
 
-/// Draws where a process goes on that leaves, if it does.
+/// Draws where a process goes on that leaves, or that it is still frozen behind the last row.
 #[tactic(auto, unfolding(crate::specs::Ahead::is_wanted), using(crate::proofs::Walks::drawn_lemmas))]
 fn put_moving(
     into: &mut Vec<u8>,
@@ -316,20 +316,19 @@ fn put_moving(
     spot: Spot,
     after: &[Line],
 ) -> Result<(), NoMemory>
-    ensures { OnOk result (into.new.items ≡ into.old.items ++ all_drawn frame.now (moves_shown pid spot (first_ahead (is_restart pid) spot after.now))) }
+    ensures { OnOk result (into.new.items ≡ into.old.items ++ all_drawn frame.now (moves_shown frame.now.rows pid spot (first_ahead (is_restart pid) spot after.now))) }
 {
-    match first_ahead(Wanted::Restart(pid), spot, after) {
-        Some(found) => {
-            put_moves(
-                into,
-                frame,
-                spot.machine,
-                spot.row,
-                found.machine,
-                found.row,
-                lane_of(frame, pid),
-            )
-        }
-        None => Ok(()),
-    }
+    let (machine, row) = match first_ahead(Wanted::Restart(pid), spot, after) {
+        Some(found) => (found.machine, found.row),
+        None => (spot.machine, frame.rows),
+    };
+    put_moves(
+        into,
+        frame,
+        spot.machine,
+        spot.row,
+        machine,
+        row,
+        lane_of(frame, pid),
+    )
 }

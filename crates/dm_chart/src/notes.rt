@@ -5,10 +5,11 @@ ghost use Rattle.dm_message.specs.Outcomes.{code_of_outcome};
 ghost use Rattle.dm_onekernel.specs.Codes.{reply_code};
 ghost use Rattle.dm_text.specs.Words.{id_word, pid_word};
 ghost use Rattle.dm_chart.specs.Drawn.{draw_beside, draw_note};
-ghost use Rattle.dm_chart.specs.Notes.{call_note, label_note, note_of, resent_note, stage_words};
+ghost use Rattle.dm_chart.specs.Notes.{call_note, follow_note, label_note, note_of, resent_note, stage_words};
 
 use crate::draw::put_beside;
 use crate::frame::Place;
+use crate::scan::{News, news_of};
 use dm_line::line::{Line, Stage};
 use dm_link::Pid;
 use dm_memory::NoMemory;
@@ -70,6 +71,25 @@ fn note_number(
     put_beside(into, place, class, &[Name(name), Number(n)])
 }
 
+/// A note of a packet that a machine has put.
+fn note_packet(
+    into: &mut Vec<u8>,
+    place: &Place<'_>,
+    name: &'static str,
+    n: u32,
+    from: u8,
+) -> Result<(), NoMemory>
+    ensures { OnOk result (into.new.items ≡ into.old.items ++
+        draw_beside place.now.frame.now place.now.m place.now.row (codes "c4") (name.now ∷ decimal n ∷ codes " from machine " ∷ decimal from ∷ [])) }
+{
+    put_beside(
+        into,
+        place,
+        PACKET,
+        &[Name(name), Number(n), Name(" from machine "), Byte(from)],
+    )
+}
+
 /// A note of what a process does with a message.
 fn note_done(
     into: &mut Vec<u8>,
@@ -98,9 +118,14 @@ fn note_said(
     put_beside(into, place, class, &[Process(pid), Name(does), Number(n)])
 }
 
-/// Writes the note of a line beside a machine, where it has one.
-pub fn put_note(into: &mut Vec<u8>, place: &Place<'_>, line: &Line) -> Result<(), NoMemory>
-    ensures { OnOk result (into.new.items ≡ into.old.items ++ draw_note place.now.frame.now place.now.m place.now.row (note_of line.now)) }
+/// Writes the note of a line behind some others beside a machine, where it has one.
+pub fn put_note(
+    into: &mut Vec<u8>,
+    place: &Place<'_>,
+    before: &[Line],
+    line: &Line,
+) -> Result<(), NoMemory>
+    ensures { OnOk result (into.new.items ≡ into.old.items ++ draw_note place.now.frame.now place.now.m place.now.row (note_of before.now line.now)) }
 {
     match *line {
         Line::Head(_)
@@ -113,14 +138,12 @@ pub fn put_note(into: &mut Vec<u8>, place: &Place<'_>, line: &Line) -> Result<()
         | Line::Queued(_)
         | Line::Proto(_) => Ok(()),
         Line::Label(label) => put_label_note(into, place, label),
-        Line::Old { n, .. } => note_number(into, place, PACKET, "again: number ", n),
-        Line::Early { n, .. } => note_number(into, place, PACKET, "early: number ", n),
+        Line::Old { from, n, .. } => note_packet(into, place, "again: number ", n, from),
+        Line::Early { from, n, .. } => note_packet(into, place, "early: number ", n, from),
         Line::Resent { count, .. } => put_resent(into, place, count),
         Line::Held(id) => note_message(into, place, HELD, "held: ", id),
-        Line::Forwarded { id, .. } => { note_message(into, place, HELD, "forwarded: ", id) }
-        Line::Updated { count, .. } => {
-            note_number(into, place, PLAIN, "links that follow: ", count)
-        }
+        Line::Forwarded { id, to } => put_forwarded(into, place, id, to),
+        Line::Updated { id, count } => put_follow(into, place, id, count, news_of(before, id)),
         Line::Migration { step, pid } => { note_process(into, place, STEP, stage_name(step), pid) }
         Line::SentOn { pid, count } => put_sent_on(into, place, pid, count),
         Line::Called { pid, count } => put_called(into, place, pid, count),
@@ -136,6 +159,68 @@ pub fn put_note(into: &mut Vec<u8>, place: &Place<'_>, line: &Line) -> Result<()
         Line::NoChild(pid) => note_process(into, place, STEP, "no child: ", pid),
         Line::NoCall(pid) => note_process(into, place, STEP, "nothing to call off: ", pid),
         Line::Pinned(pid) => note_process(into, place, STEP, "can't move: ", pid),
+    }
+}
+
+/// The note of a message that goes on.
+fn put_forwarded(into: &mut Vec<u8>, place: &Place<'_>, id: MsgId, to: u8) -> Result<(), NoMemory>
+    ensures { OnOk result (into.new.items ≡ into.old.items ++
+        draw_beside place.now.frame.now place.now.m place.now.row (codes "c2") (codes "forwarded to machine " ∷ decimal to ∷ codes ": " ∷ id_word id ∷ [])) }
+{
+    put_beside(
+        into,
+        place,
+        HELD,
+        &[
+            Name("forwarded to machine "),
+            Byte(to),
+            Name(": "),
+            Message(id),
+        ],
+    )
+}
+
+/// The note of links that follow a process.
+fn put_follow(
+    into: &mut Vec<u8>,
+    place: &Place<'_>,
+    id: MsgId,
+    count: u32,
+    news: Option<News>,
+) -> Result<(), NoMemory>
+    ensures { OnOk result (into.new.items ≡ into.old.items ++ draw_note place.now.frame.now place.now.m place.now.row (follow_note id count news)) }
+{
+    match news {
+        None => {
+            put_beside(
+                into,
+                place,
+                PLAIN,
+                &[
+                    Name("links that follow "),
+                    Message(id),
+                    Name(": "),
+                    Number(count),
+                ],
+            )
+        }
+        Some(news) => {
+            put_beside(
+                into,
+                place,
+                PLAIN,
+                &[
+                    Name("links of "),
+                    Process(news.whom),
+                    Name(" follow "),
+                    Process(news.of),
+                    Name(" to machine "),
+                    Byte(news.at),
+                    Name(": "),
+                    Number(count),
+                ],
+            )
+        }
     }
 }
 
@@ -180,16 +265,16 @@ fn put_sent_on(into: &mut Vec<u8>, place: &Place<'_>, pid: Pid, count: u32) -> R
 /// The note of a migration that is called off.
 fn put_called(into: &mut Vec<u8>, place: &Place<'_>, pid: Pid, count: u32) -> Result<(), NoMemory>
     ensures { OnOk result (into.new.items ≡ into.old.items ++
-        draw_beside place.now.frame.now place.now.m place.now.row (codes "c3") (codes "is called off, " ∷ decimal count ∷ codes " go back: " ∷ pid_word pid ∷ [])) }
+        draw_beside place.now.frame.now place.now.m place.now.row (codes "c3") (codes "called off, sends back " ∷ decimal count ∷ codes ": " ∷ pid_word pid ∷ [])) }
 {
     put_beside(
         into,
         place,
         STEP,
         &[
-            Name("is called off, "),
+            Name("called off, sends back "),
             Number(count),
-            Name(" go back: "),
+            Name(": "),
             Process(pid),
         ],
     )
@@ -247,10 +332,10 @@ fn put_label_note(into: &mut Vec<u8>, place: &Place<'_>, label: Label) -> Result
         Label::Gone { id } => note_message(into, place, PLAIN, "gone, for ", id),
         Label::Created { pid, .. } => note_process(into, place, RESULT, "makes ", pid),
         Label::NoSpace {
+            id,
             free_slots,
             free_blocks,
-            ..
-        } => put_no_space(into, place, free_slots, free_blocks),
+        } => put_no_space(into, place, id, free_slots, free_blocks),
         Label::Asked { id } => note_message(into, place, STEP, "is asked to move, ", id),
         Label::Answered { id, outcome } => put_answered(into, place, id, outcome),
     }
@@ -335,18 +420,21 @@ fn put_refuse(
 fn put_no_space(
     into: &mut Vec<u8>,
     place: &Place<'_>,
+    id: MsgId,
     slots: u8,
     blocks: u16,
 ) -> Result<(), NoMemory>
     ensures { OnOk result (into.new.items ≡ into.old.items ++
-        draw_beside place.now.frame.now place.now.m place.now.row (codes "c1") (codes "no room: slots " ∷ decimal slots ∷ codes ", blocks " ∷ decimal blocks ∷ [])) }
+        draw_beside place.now.frame.now place.now.m place.now.row (codes "c1") (codes "no room, for " ∷ id_word id ∷ codes ": slots " ∷ decimal slots ∷ codes ", blocks " ∷ decimal blocks ∷ [])) }
 {
     put_beside(
         into,
         place,
         RESULT,
         &[
-            Name("no room: slots "),
+            Name("no room, for "),
+            Message(id),
+            Name(": slots "),
             Byte(slots),
             Name(", blocks "),
             Number(u32::from(blocks)),

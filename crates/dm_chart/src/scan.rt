@@ -4,7 +4,7 @@ ghost use Rattle.std.specs.List.{count_by, flat_map, list_any};
 ghost use Rattle.dm_link.specs.Names.{pid_eq};
 ghost use Rattle.dm_message.specs.Ids.{id_eq};
 ghost use Rattle.dm_chart.specs.Ahead.{first_ahead, is_delivery, is_end, is_restart, is_taken, is_wanted};
-ghost use Rattle.dm_chart.specs.Behind.{kill_in, kill_with, kills_of, message_is_among, number_among, puts_between, puts_id, was_put};
+ghost use Rattle.dm_chart.specs.Behind.{kill_in, kill_with, kills_of, letter_last, message_is_among, news_behind, news_from, news_here, news_of, number_among, puts_between, puts_id, puts_it, was_put};
 
 use crate::role::{Letter, Life, Role, role_of};
 use crate::spot::{Spot, next_spot};
@@ -164,6 +164,72 @@ fn kill_with(pid: Pid, letter: Letter) -> Option<MsgId>
             }
         }
         _ => None,
+    }
+}
+
+/// What a message says that tells where a process is.
+#[derive(Clone, Copy)]
+pub struct News {
+    /// Whose links follow.
+    pub whom: Pid,
+    /// The process that has moved, and the machine to which it has gone.
+    pub of: Pid,
+    pub at: u8,
+}
+
+/// What a message says that tells where a process is, by the lines before: it is put behind the message that was forwarded.
+#[tactic(auto, using(crate::proofs::Walks::news_lemmas))]
+pub fn news_of(lines: &[Line], id: MsgId) -> Option<News>
+    ensures { result ≡ news_of id lines.now }
+{
+    let mut last: Option<Letter> = None;
+    for line in lines {
+        let role = role_of(line);
+        if puts_it(id, role) {
+            return news_here(role, last);
+        }
+        last = letter_last(last, role);
+    }
+    None
+}
+
+/// The last message that was put, with a line of this role.
+fn letter_last(last: Option<Letter>, role: Role) -> Option<Letter>
+    ensures { result ≡ letter_last last role }
+{
+    match role {
+        Role::Put(letter) => Some(letter),
+        _ => last,
+    }
+}
+
+fn news_here(role: Role, last: Option<Letter>) -> Option<News>
+    ensures { result ≡ news_here role last }
+{
+    match role {
+        Role::Put(letter) => news_behind(letter, last),
+        _ => None,
+    }
+}
+
+fn news_behind(letter: Letter, last: Option<Letter>) -> Option<News>
+    ensures { result ≡ news_behind letter last }
+{
+    let forwarded = last?;
+    Some(News {
+        whom: letter.receiver,
+        of: forwarded.receiver,
+        at: forwarded.to,
+    })
+}
+
+/// Whether a line of this role puts a message.
+fn puts_it(id: MsgId, role: Role) -> bool
+    ensures { result ≡ puts_it id role }
+{
+    match role {
+        Role::Put(letter) => same_id(letter.id, id),
+        _ => false,
     }
 }
 

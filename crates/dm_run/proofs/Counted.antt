@@ -6,6 +6,7 @@ use Rattle.dm_schedule.specs.declared.Step.TheVariants as step
 use Rattle.dm_line.specs.declared.line.Line.TheVariants as line
 use Rattle.dm_node.specs.Out.{Worn}
 use Rattle.dm_node.specs.Acts as node
+use Rattle.dm_world.specs.World.{keeps_over}
 
 abbrev nothing : WorldState → Step → Said
 nothing w e = record { state = record w { groups = w.groups + 1 }; lines = line.Head e ∷ line.Nothing ∷ [] }
@@ -25,7 +26,7 @@ delivers_counts w e a c k None s is = let f : nothing w e ≡ s = cc in sym (ap 
 delivers_counts w e a c k (Some bytes) s is = reads_counts (record w { wires = after_mark w.wires a c k }) e a c (packet_of bytes) s is
 
 pub counts : (b : Boot) (w : WorldState) (e : Step) (s : Said) → world_step b w e ≡ Some (Says s) → s.state.groups ≡ w.groups + 1
-counts b w (step.Turn m) s is = turned_counts w (step.Turn m) m (node.turn b (w.nodes m)) s is
+counts b w (step.Turn m) s is = turned_counts (keeps_over w (node.turn b (w.nodes m))) (step.Turn m) m (node.turn b (w.nodes m)) s is
 counts b w (step.Tick m) s is = let f : acted w (step.Tick m) m (node.tick (w.nodes m)) ≡ s = cc in sym (ap (λ (x : Said). x.state.groups) f)
 counts b w (step.Deliver a c k) s is = delivers_counts w (step.Deliver a c k) a c k (bytes_at (w.wires a c) k) s is
 counts b w (step.Migrate p m) s is = turned_counts w (step.Migrate p m) 0 (node.asks_move (w.nodes 0) p m) s is

@@ -1,6 +1,8 @@
 -- What is kept of a run that came to its end, or to a worn pair, has its picture.
 use Rattle.dm_run.proofs.Names.{◌≡◌, ℕ, List, [], ◌∷◌, ◌++◌, length, refl, ap, sym, subst, ◌∙◌, fold-append, false≢true, IsErr, IsErrAnd, Result, Ok, Err, Pid, Boot, Step, Directive, Line, Kept, keep, kept_of, none_kept, chart_of, picture_of, boot_pids, WorldState}
 use Rattle.dm_run.proofs.Names.{Way, Does, GoesOn, HasCome, HasEnded, StopsWorn, Keeps, HasWorn, IsCollected, IsBeforeWorn, PictureIsWhole, by_world}
+use Rattle.dm_chart.specs.declared.chart.Reach.{Reach}
+use Rattle.dm_chart.specs.declared.chart.Reach.TheVariants as reach
 use Rattle.dm_node.specs.declared.stop.Stop.{Stop}
 use Rattle.dm_node.specs.declared.stop.Stop.TheVariants.{NoMemory, Worn}
 use Rattle.dm_run.proofs.Going.{comes_on, wears_there}
@@ -22,25 +24,25 @@ pub collected_err : {A : Type 0} (b : Boot) (ds : List Directive) (k : Kept) (u 
 collected_err b ds k u (Ok x) e h p = absurd (false≢true h.0)
 collected_err {A} b ds k u (Err y) e h p = kept_stop A b ds k u y (subst (λ (x : Stop). IsCollected {A = Unit {0}} b ds k u (Err x)) (sym h.1) p)
 
-text_is : (b : Boot) (groups : List (List Line)) (machines : ℕ) (starts : List Pid) (k : Kept) (text : List ℕ) → machines ≡ length b.machines → starts ≡ boot_pids b → k ≡ kept_of groups → text ≡ picture_of machines starts k → text ≡ chart_of b groups
-text_is b groups machines starts k text many there kept e =
-    e ∙ (ap (λ (n : ℕ). picture_of n starts k) many ∙ (ap (λ (ps : List Pid). picture_of (length b.machines) ps k) there ∙ ap (λ (x : Kept). picture_of (length b.machines) (boot_pids b) x) kept))
+text_is : (b : Boot) (groups : List (List Line)) (machines : ℕ) (starts : List Pid) (k : Kept) (r : Reach) (text : List ℕ) → machines ≡ length b.machines → starts ≡ boot_pids b → k ≡ kept_of groups → text ≡ picture_of machines starts k r → text ≡ picture_of (length b.machines) (boot_pids b) (kept_of groups) r
+text_is b groups machines starts k r text many there kept e =
+    e ∙ (ap (λ (n : ℕ). picture_of n starts k r) many ∙ (ap (λ (ps : List Pid). picture_of (length b.machines) ps k r) there ∙ ap (λ (x : Kept). picture_of (length b.machines) (boot_pids b) x r) kept))
 
-pub whole_drawn : (b : Boot) (ds : List Directive) (machines : ℕ) (starts : List Pid) (k : Kept) (w : WorldState) (text : List ℕ) → HasEnded b ds (Keeps k) w → machines ≡ length b.machines → starts ≡ boot_pids b → text ≡ picture_of machines starts k → PictureIsWhole by_world b ds text
+pub whole_drawn : (b : Boot) (ds : List Directive) (machines : ℕ) (starts : List Pid) (k : Kept) (w : WorldState) (text : List ℕ) → HasEnded b ds (Keeps k) w → machines ≡ length b.machines → starts ≡ boot_pids b → text ≡ picture_of machines starts k reach.Whole → PictureIsWhole by_world b ds text
 whole_drawn b ds machines starts k w text h many there e = record {
   groups = h.come.groups;
   at = record { way = h.way; steps = h.come.steps; state = w };
   good = h.come.led;
   over = h.done;
   rests = tt;
-  text_is = text_is b h.come.groups machines starts k text many there h.come.kept e;
+  text_is = text_is b h.come.groups machines starts k reach.Whole text many there h.come.kept e;
 }
 
-pub worn_drawn : (b : Boot) (ds : List Directive) (machines : ℕ) (starts : List Pid) (k : Kept) (text : List ℕ) (from to : ℕ) → HasWorn b ds k from to → machines ≡ length b.machines → starts ≡ boot_pids b → text ≡ picture_of machines starts k → IsBeforeWorn by_world b ds text from to
+pub worn_drawn : (b : Boot) (ds : List Directive) (machines : ℕ) (starts : List Pid) (k : Kept) (text : List ℕ) (from to : ℕ) → HasWorn b ds k from to → machines ≡ length b.machines → starts ≡ boot_pids b → text ≡ picture_of machines starts k (reach.BeforeWorn from to) → IsBeforeWorn by_world b ds text from to
 worn_drawn b ds machines starts k text from to h many there e = record {
   groups = h.groups;
   wears = h.wears;
-  text_is = text_is b h.groups machines starts k text many there h.kept e;
+  text_is = text_is b h.groups machines starts k (reach.BeforeWorn from to) text many there h.kept e;
 }
 
 -- one more group came

@@ -7,7 +7,7 @@ use Rattle.dm_schedule.specs.declared.Directive.{Directive}
 use Rattle.dm_line.specs.declared.line.Line.{Line}
 use Rattle.dm_chart.specs.declared.kept.Kept.{Kept}
 use Rattle.dm_chart.specs.Kept.{kept_of}
-use Rattle.dm_chart.specs.Picture.{chart_of}
+use Rattle.dm_chart.specs.Picture.{chart_of, worn_chart_of}
 use Rattle.dm_node.specs.declared.stop.Stop.{Stop}
 use Rattle.dm_node.specs.declared.stop.Stop.TheVariants.{NoMemory, Worn}
 use Rattle.dm_world.specs.World.{WorldState}
@@ -42,11 +42,11 @@ pub record PictureIsWhole (r : Notion) (b : Boot) (ds : List Directive) (text : 
   pub rests : r.Rests b ds at
   pub text_is : text ≡ chart_of b groups
 
--- the picture of the good groups that lead to a worn pair
+-- the picture of the good groups that lead to a worn pair, which says so
 pub record IsBeforeWorn (r : Notion) (b : Boot) (ds : List Directive) (text : List ℕ) (from to : ℕ) : Type 0 where
   pub groups : List (List Line)
   pub wears : WearsAfter r b ds groups from to
-  pub text_is : text ≡ chart_of b groups
+  pub text_is : text ≡ worn_chart_of b groups from to
 
 abbrev pub IsDrawn : Notion → Boot → List Directive → Drawn → Type 0
 IsDrawn r b ds (drawn.Whole text) = PictureIsWhole r b ds text.items

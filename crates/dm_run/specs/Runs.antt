@@ -5,7 +5,7 @@ use Rattle.dm_schedule.specs.declared.Step.TheVariants as step
 use Rattle.dm_schedule.specs.declared.Directive.{Directive}
 use Rattle.dm_schedule.specs.declared.Directive.TheVariants as directive
 use Rattle.dm_line.specs.declared.line.Line.{Line}
-use Rattle.dm_line.specs.declared.pass.Pass.TheVariants.{Round, Settle}
+use Rattle.dm_line.specs.declared.pass.Pass.TheVariants.{Round, Settle, Rest}
 use Rattle.dm_world.specs.declared.cursor.Cursor.{Cursor}
 use Rattle.dm_world.specs.declared.cursor.Cursor.TheVariants.{One, Passing}
 use Rattle.dm_world.specs.declared.cursor.Place.TheVariants.{End}
@@ -24,13 +24,15 @@ IsDirective machines (directive.One s) = IsStep machines s
 IsDirective machines directive.Round = ⊤
 IsDirective machines (directive.Spin n) = ⊤
 IsDirective machines directive.Settle = ⊤
+IsDirective machines (directive.Rest n) = ⊤
 
--- and a number of rounds in its range
+-- and a number of rounds or passes in its range
 abbrev pub IsFor : ℕ → Directive → Type 0
 IsFor machines (directive.One s) = IsStep machines s
 IsFor machines directive.Round = ⊤
 IsFor machines (directive.Spin n) = (1 ≤ n) × (n ≤ 65536)
 IsFor machines directive.Settle = ⊤
+IsFor machines (directive.Rest n) = (1 ≤ n) × (n ≤ 65536)
 
 -- the lines of groups, in order
 abbrev pub joined : List (List Line) → List Line
@@ -43,3 +45,4 @@ cursor_of (directive.One s) = One s
 cursor_of directive.Round = Passing (Round 1) End
 cursor_of (directive.Spin n) = Passing (Round n) End
 cursor_of directive.Settle = Passing Settle End
+cursor_of (directive.Rest n) = Passing (Rest n) End

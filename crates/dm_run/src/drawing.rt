@@ -11,7 +11,7 @@ ghost use Rattle.dm_run.specs.Went.{RunsGo};
 
 use crate::collect::collect;
 use crate::running::begin;
-use dm_chart::{Kept, picture, starts_of};
+use dm_chart::{Kept, Reach, picture, starts_of};
 use dm_link::Pid;
 use dm_memory::NoMemory;
 use dm_onekernel::Boot;
@@ -69,11 +69,12 @@ fn draw_world(
     let mut kept = Kept::new(alloc);
     match collect(directives, world, &mut kept) {
         Ok(()) => {
-            let whole = picture(alloc, machines, starts, &kept)?;
+            let whole = picture(alloc, machines, starts, &kept, Reach::Whole)?;
             Ok(Drawn::Whole(whole))
         }
         Err(Stop::Worn { from, to }) => {
-            let text = picture(alloc, machines, starts, &kept)?;
+            let reach = Reach::BeforeWorn { from, to };
+            let text = picture(alloc, machines, starts, &kept, reach)?;
             Ok(Drawn::Worn { text, from, to })
         }
         Err(Stop::NoMemory(no)) => Err(no),

@@ -57,6 +57,7 @@ fn cursor_of(directive: &Directive) -> Cursor
         Directive::Round => behind(Pass::Round(1)),
         Directive::Spin(rounds) => behind(Pass::Round(rounds)),
         Directive::Settle => behind(Pass::Settle),
+        Directive::Rest(passes) => behind(Pass::Rest(passes)),
     }
 }
 

@@ -1,4 +1,4 @@
-use Rattle.dm_chart.proofs.Names.{◌≡◌, ◌++◌, drop, map}
+use Rattle.dm_chart.proofs.Names.{◌≡◌, ◌++◌, drop}
 use Rattle.dm_chart.proofs.chart.copied.Given as goal
 
 abbrev pub invariant-loop-number : goal.invariant-loop-number

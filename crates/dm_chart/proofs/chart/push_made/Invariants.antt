@@ -1,4 +1,4 @@
-use Rattle.dm_chart.proofs.Names.{◌≡◌, ◌++◌, drop, map, flat_map, made_in, role_of}
+use Rattle.dm_chart.proofs.Names.{◌≡◌, ◌++◌, drop, flat_map, made_in, role_of}
 use Rattle.dm_chart.proofs.chart.push_made.Given as goal
 
 abbrev pub invariant-loop-line : goal.invariant-loop-line

@@ -1,5 +1,4 @@
-use Rattle.std.proofs.Common.{Bor}
-use Rattle.dm_chart.proofs.Names.{◌+◌, ◌++◌, List, ℕ, ap, concat, drop, map, sym, ◌∙◌}
+use Rattle.dm_chart.proofs.Names.{Bor, ◌+◌, ◌++◌, List, ℕ, ap, concat, drop, map, sym, ◌∙◌}
 use Rattle.dm_chart.proofs.Pieces.{concat-copied}
 use Rattle.dm_chart.proofs.key.put_texts.Goals as goal
 

@@ -1,4 +1,4 @@
-use Rattle.dm_chart.proofs.Names.{sym, ◌∙◌, arith}
+use Rattle.dm_chart.proofs.Names.{sym, ◌∙◌}
 use Rattle.dm_chart.proofs.Walks.{deliveries-end, deliveries-more}
 use Rattle.dm_chart.proofs.lines.put_deliveries.Goals as goal
 

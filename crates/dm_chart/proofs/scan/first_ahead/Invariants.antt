@@ -1,4 +1,4 @@
-use Rattle.dm_chart.proofs.Names.{◌≡◌, ◌++◌, drop, map, first_ahead, is_wanted}
+use Rattle.dm_chart.proofs.Names.{◌≡◌, drop, first_ahead, is_wanted}
 use Rattle.dm_chart.proofs.scan.first_ahead.Given as goal
 
 abbrev pub invariant-loop-line : goal.invariant-loop-line

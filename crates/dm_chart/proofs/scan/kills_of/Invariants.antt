@@ -1,4 +1,4 @@
-use Rattle.dm_chart.proofs.Names.{◌≡◌, ◌++◌, drop, map, flat_map, kill_in, role_of}
+use Rattle.dm_chart.proofs.Names.{◌≡◌, ◌++◌, drop, flat_map, kill_in, role_of}
 use Rattle.dm_chart.proofs.scan.kills_of.Given as goal
 
 abbrev pub invariant-loop-line : goal.invariant-loop-line
