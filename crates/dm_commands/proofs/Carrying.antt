@@ -1,14 +1,16 @@
 -- What is said in some terms is said in others to which they are carried.
-use Rattle.dm_commands.proofs.Names.{◌≡◌, inl, inr, ℕ, Bool, List, length, Option, Some, None, Boot, Directive, IsValid, All, IsFor, World, Verdict, good_verdict, Drill as TheDrill, boot_of_machines, directives_of_drill, IsWithin}
-use Rattle.dm_commands.proofs.Names.{Status, Done, Usage, ReadFault, NoMemory, WriteFault, BootRefused, ScheduleRefused, TooLong, Worn, TraceRefused, Request, Chart, Check, Explain, Run}
+use Rattle.dm_commands.proofs.Names.{◌≡◌, inl, inr, ℕ, Bool, false, List, length, Option, Some, None, Boot, Directive, IsValid, All, IsFor, World, Verdict, good_verdict, Drill as TheDrill, boot_of_machines, directives_of_drill, IsWithin}
+use Rattle.dm_commands.proofs.Names.{Status, Done, Usage, ReadFault, NoMemory, WriteFault, BootRefused, ScheduleRefused, TooLong, Worn, TraceRefused, Request, Chart, Check, Count, Explain, Run}
 use Rattle.dm_words.specs.Request.{Drill}
 use Rattle.dm_run.proofs.Carried.{Carries, carried_before_worn, carried_begun, carried_first, carried_picture, carried_run_wears, carried_whole}
 use Rattle.dm_run.specs.Notion.{Notion}
 use Rattle.dm_drill.proofs.Carried as drill
+use Rattle.dm_drill.specs.declared.report.Report.{Report}
+use Rattle.dm_drill.specs.declared.report.Report.TheVariants as report
 use Rattle.dm_commands.specs.Charts.{BeginsPicture, ChartSays, IsPicture, ShowsBegun, ShowsWhole}
 use Rattle.dm_commands.specs.Checks.{CheckMeets, CheckSaying, CheckSays, IsGoodTrace, RefusesTrace, TraceMeans}
 use Rattle.dm_commands.specs.Commands.{CommandMeets, Terms}
-use Rattle.dm_commands.specs.Drills.{DrilledSays}
+use Rattle.dm_commands.specs.Drills.{CountSays, CountedSays, report_of}
 use Rattle.dm_commands.specs.Outside.{Around}
 use Rattle.dm_commands.specs.Runs.{RunMeets, RunSaying, RunSays}
 
@@ -42,18 +44,18 @@ chart_said r q b ds before after world (TooLong i) c h = absurd h
 chart_said r q b ds before after world (Worn from to) c h = record { text = h.text; is = carried_before_worn r q b ds h.text from to c h.is; written = h.written }
 chart_said r q b ds before after world (TraceRefused line why) c h = absurd h
 
--- a drill
-drill_said : (r q : Notion) (d : TheDrill) (b : Boot) (ds : List Directive) (before after : Option (List ℕ)) (world : Option World) (s : Status) → Carries r q b ds → DrilledSays r d b ds before after world s → DrilledSays q d b ds before after world s
-drill_said r q d b ds before after world Done c h = drill.carried_whole r q d b ds before after world c h
-drill_said r q d b ds before after world Usage c h = absurd h
-drill_said r q d b ds before after world (ReadFault i) c h = absurd h
-drill_said r q d b ds before after world (NoMemory lack) c h = drill.carried_first r q d.trace b ds before after c h
-drill_said r q d b ds before after world WriteFault c h = drill.carried_begun r q d b ds before after world c h
-drill_said r q d b ds before after world (BootRefused number place) c h = absurd h
-drill_said r q d b ds before after world (ScheduleRefused line why) c h = absurd h
-drill_said r q d b ds before after world (TooLong i) c h = absurd h
-drill_said r q d b ds before after world (Worn from to) c h = drill.carried_drill_wears r q d.trace b ds before after from to c h
-drill_said r q d b ds before after world (TraceRefused line why) c h = absurd h
+-- a run that is counted, as a drill is
+counted_said : (r q : Notion) (tr : Bool) (k : Report) (b : Boot) (ds : List Directive) (before after : Option (List ℕ)) (world : Option World) (s : Status) → Carries r q b ds → CountedSays r tr k b ds before after world s → CountedSays q tr k b ds before after world s
+counted_said r q tr k b ds before after world Done c h = drill.carried_whole r q tr k b ds before after world c h
+counted_said r q tr k b ds before after world Usage c h = absurd h
+counted_said r q tr k b ds before after world (ReadFault i) c h = absurd h
+counted_said r q tr k b ds before after world (NoMemory lack) c h = drill.carried_first r q tr b ds before after c h
+counted_said r q tr k b ds before after world WriteFault c h = drill.carried_begun r q tr k b ds before after world c h
+counted_said r q tr k b ds before after world (BootRefused number place) c h = absurd h
+counted_said r q tr k b ds before after world (ScheduleRefused line why) c h = absurd h
+counted_said r q tr k b ds before after world (TooLong i) c h = absurd h
+counted_said r q tr k b ds before after world (Worn from to) c h = drill.carried_drill_wears r q tr b ds before after from to c h
+counted_said r q tr k b ds before after world (TraceRefused line why) c h = absurd h
 
 -- a trace
 pub record CarriesTraces (m n : TraceMeans) (b : Boot) : Type 0 where
@@ -117,8 +119,10 @@ carried t u (Some (Chart boot schedule)) a world s c h = record {
   no_world = h.no_world;
 }
 carried t u (Some (Explain boot schedule)) a world s c h = h
+carried t u (Some (Count boot schedule)) a world s c h =
+    run_met (CountSays t.run) (CountSays u.run) boot schedule a world s (λ b ds before after valid each says. counted_said t.run u.run false report.OfRun b ds before after world s (c.runs b ds valid each) says) h
 carried t u (Some (Drill d)) a world s c h = record {
   within = h.within;
-  meets = record { says = drill_said t.run u.run d (boot_of_machines d.machines) (directives_of_drill d) _ _ world s (c.drills d h.within) h.meets.says; sink = h.meets.sink };
+  meets = record { says = counted_said t.run u.run d.trace (report_of d) (boot_of_machines d.machines) (directives_of_drill d) _ _ world s (c.drills d h.within) h.meets.says; sink = h.meets.sink };
   shelf = h.shelf;
 }

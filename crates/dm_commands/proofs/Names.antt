@@ -22,7 +22,7 @@ pub use Rattle.dm_schedule.specs.declared.Directive.{Directive}
 pub use Rattle.dm_schedule.specs.declared.LineFault.{LineFault}
 pub use Rattle.dm_schedule.specs.declared.LineFault.TheVariants.{SameMachine, WrongCount}
 pub use Rattle.dm_schedule.specs.declared.keywords.Keyword.{Keyword}
-pub use Rattle.dm_schedule.specs.declared.keywords.Keyword.TheVariants.{Deliver, Migrate, CallOff, Round, Settle, Spin, Tick, Turn}
+pub use Rattle.dm_schedule.specs.declared.keywords.Keyword.TheVariants.{Deliver, Migrate, CallOff, Rest, Round, Settle, Spin, Tick, Turn}
 pub use Rattle.dm_draw.proofs.Names.{IsDrawn}
 pub use Rattle.dm_draw.specs.Boot.{boot_of_machines}
 pub use Rattle.dm_draw.specs.declared.drill.Drill.{Drill}
@@ -47,7 +47,7 @@ pub use Rattle.dm_drill.proofs.Going.{nothing_drilled}
 pub use Rattle.dm_drill.specs.Drilled.{Ended}
 pub use Rattle.dm_words.specs.DrillWords.{IsWithin}
 pub use Rattle.dm_words.specs.Refused.{status_of_no}
-pub use Rattle.dm_words.specs.Request.{Chart, Check, Explain, Request, Run}
+pub use Rattle.dm_words.specs.Request.{Chart, Check, Count, Explain, Request, Run}
 pub use Rattle.dm_words.specs.Words.{IsInRange, request_of, request_said}
 pub use Rattle.dm_words.specs.declared.words.Request.{Request as TheRequest}
 pub use Rattle.dm_words.specs.declared.words.WordsError.{WordsError}

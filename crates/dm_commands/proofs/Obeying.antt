@@ -1,6 +1,6 @@
 -- What the program promises, whatever its words ask for.
 use Rattle.dm_commands.proofs.Names.{◌≡◌, inl, inr, ℕ, List, refl, ap, sym, subst, ◌∙◌, Option, Some, None, TheNoMemory, Boot, Directive, World, Input, Status, Done, Usage, ReadFault, NoMemory, WriteFault, NoFiles, NoTrace, NoInputs, NoBoot, Drill as TheDrill}
-use Rattle.dm_commands.proofs.Names.{Request, Chart, Check, Explain, Run, WordsError, status_of_no}
+use Rattle.dm_commands.proofs.Names.{Request, Chart, Check, Count, Explain, Run, WordsError, status_of_no}
 use Rattle.dm_words.specs.Request.{Drill}
 use Rattle.dm_words.specs.declared.words.WordsError.TheVariants as why
 use Rattle.dm_ending.specs.declared.status.Input.TheVariants as input
@@ -11,7 +11,7 @@ use Rattle.dm_commands.proofs.Running as running
 use Rattle.dm_commands.specs.Asked.{Both, Named, Nothing, perhaps_both}
 use Rattle.dm_commands.specs.Checks.{CheckMeets, CheckSaying, CheckSays}
 use Rattle.dm_commands.specs.Commands.{CommandMeets, RefusesWords, Terms, named_in}
-use Rattle.dm_commands.specs.Drills.{DrillMeets, DrillSaying, DrilledSays, SaysDrill}
+use Rattle.dm_commands.specs.Drills.{CountSays, DrillMeets, DrillSaying, DrilledSays, SaysDrill}
 use Rattle.dm_commands.specs.Explains.{ExplainMeets}
 use Rattle.dm_commands.specs.Meets.{MeetsOutside, MeetsShelf, MeetsSink}
 use Rattle.dm_commands.specs.Outside.{Around, SinkAround, Untouched}
@@ -49,6 +49,8 @@ lacks_meets t (Some (Chart boot schedule)) a world lack quiet fits h nothing = r
 lacks_meets t (Some (Explain boot schedule)) a world lack quiet fits h nothing =
     explaining.never_meets boot schedule a world (NoMemory lack) (explaining.wants_memory (a.shelf.told a.shelf.old) boot schedule (a.shelf.faults a.shelf.old) (a.shelf.faults a.shelf.new) lack)
     (unread (perhaps_both boot schedule) a.shelf (NoMemory lack) h.unread (asks_nothing (perhaps_both boot schedule) a.shelf h.unread nothing) (no_read lack)) h.unwritten h.no_world
+lacks_meets t (Some (Count boot schedule)) a world lack quiet fits h nothing =
+    running.never_meets (CountSays t.run) boot schedule a world (NoMemory lack) tt (unread (Both boot input.Schedule schedule) a.shelf (NoMemory lack) h.unread (asks_nothing (Both boot input.Schedule schedule) a.shelf h.unread nothing) (no_read lack)) h.unwritten h.no_world
 lacks_meets t (Some (Drill d)) a world lack quiet fits h nothing = record {
   within = fits;
   meets = record {
@@ -100,6 +102,7 @@ command_met t (Some (Run boot schedule)) a world s h = h.met
 command_met t (Some (Check boot trace)) a world s h = h.met
 command_met t (Some (Chart boot schedule)) a world s h = h.as_run.met
 command_met t (Some (Explain boot schedule)) a world s h = h.met
+command_met t (Some (Count boot schedule)) a world s h = h.met
 command_met t (Some (Drill d)) a world s h = record { shelf = h.shelf; sink = h.meets.sink }
 
 -- a drill says of no read that it failed, and is none of words that were refused

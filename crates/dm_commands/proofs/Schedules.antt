@@ -1,6 +1,6 @@
 -- What the directives of a schedule are that is accepted.
 use Rattle.dm_commands.proofs.Names.{◌≡◌, ◌≢◌, ◌≤◌, ◌<◌, ℕ, suc, ◌+◌, ◌==◌, Bool, true, false, ◌&&◌, nat_lt, nat_le, if◌then◌else◌, List, [], ◌∷◌, length, refl, subst, arith, ⊤, All, All-nil, All-cons, nat_tests, Option, Some, Result, Ok}
-use Rattle.dm_commands.proofs.Names.{Err, Pid, Directive, LineFault, SameMachine, WrongCount, Keyword, Turn, Tick, Deliver, Migrate, CallOff, Round, Spin, Settle, keyword_of, operands, Operand, Machine, Process, Packet, Rounds, lines, words}
+use Rattle.dm_commands.proofs.Names.{Err, Pid, Directive, LineFault, SameMachine, WrongCount, Keyword, Turn, Tick, Deliver, Migrate, CallOff, Round, Spin, Settle, Rest, keyword_of, operands, Operand, Machine, Process, Packet, Rounds, lines, words}
 use Rattle.dm_commands.proofs.Names.{onto_first, ends_line, is_return, line_ends, number_of_word, process_of, Value, Values, value_of, values_of, within, ◌>>=◌, Schedule, Accepted, Refused, directive_made, directive_of, begins_comment}
 use Rattle.dm_commands.proofs.Names.{line_directive, also, line_and_rest, lines_from, IsFor, None}
 use Rattle.dm_schedule.specs.declared.Step.{Step}
@@ -21,6 +21,7 @@ HasHome machines (directive.One s) = IsHome machines s
 HasHome machines directive.Round = ⊤
 HasHome machines (directive.Spin n) = ⊤
 HasHome machines directive.Settle = ⊤
+HasHome machines (directive.Rest n) = ⊤
 
 -- a directive for so many machines, whose process is at home on one of them
 abbrev IsFit : ℕ → Directive → Type 0
@@ -109,6 +110,7 @@ made_has machines CallOff v h = (is_below v.1.0 machines h.1.0, is_below v.0.hom
 made_has machines Round v h = (tt, tt)
 made_has machines Spin v h = (in_range v.0 h.0, tt)
 made_has machines Settle v h = (tt, tt)
+made_has machines Rest v h = (in_range v.0 h.0, tt)
 
 counted_has : (machines : ℕ) (k : Keyword) (ws : List (List ℕ)) (b : Bool) → OkHas (IsFit machines) (if b then values_of machines (operands k) ws >>= directive_made k else Err WrongCount)
 counted_has machines k ws true = then_has (ValuesFit machines (operands k)) (IsFit machines) (values_of machines (operands k) ws) (directive_made k) (values_has machines (operands k) ws) (made_has machines k)

@@ -7,14 +7,15 @@ ghost use Rattle.dm_run.specs.Runs.{IsFor};
 ghost use Rattle.dm_run.specs.Went.{RunsGo};
 ghost use Rattle.dm_draw.specs.Boot.{boot_of_machines};
 ghost use Rattle.dm_words.specs.DrillWords.{IsWithin};
-ghost use Rattle.dm_commands.specs.Drills.{DrillMeets, DrilledSays, directives_of_drill};
+ghost use Rattle.dm_commands.specs.Drills.{DrillMeets, DrilledSays, directives_of_drill, report_of};
 ghost use Rattle.dm_commands.specs.Meets.{MeetsSink};
 ghost use Rattle.dm_commands.specs.Outside.{sink_around};
 
 use dm_draw::boot::drill_boot;
 use dm_draw::directives::drill_directives;
 use dm_draw::drill::Drill;
-use dm_drill::drill::run_drill;
+use dm_drill::drill::run_counted;
+use dm_drill::report::Report;
 use dm_ending::status::{Status, status_of};
 use dm_memory::NoMemory;
 use dm_onekernel::Boot;
@@ -82,10 +83,29 @@ fn run<K: Sink>(
     let Drawn { boot, directives } = drawn;
     match begin(alloc, boot) {
         Ok(mut begun) => {
-            let ended = run_drill(alloc, drill, directives.as_slice(), &mut begun, out);
+            let report = report_of(drill);
+            let ended = run_counted(
+                alloc,
+                drill.trace,
+                &report,
+                directives.as_slice(),
+                &mut begun,
+                out,
+            );
             *world = Some(begun);
             status_of(ended)
         }
         Err(no) => Status::NoMemory(no),
+    }
+}
+
+/// What the report of a drill is of.
+fn report_of(drill: &Drill) -> Report
+    ensures { result ≡ report_of drill.now }
+{
+    Report::OfDrill {
+        seed: drill.seed,
+        machines: drill.machines,
+        lines: drill.lines,
     }
 }

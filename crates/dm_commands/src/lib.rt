@@ -3,6 +3,7 @@
 
 pub mod chart;
 pub mod check;
+pub mod count;
 pub mod drill;
 pub mod explain;
 pub mod inputs;

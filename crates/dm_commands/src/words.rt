@@ -8,6 +8,7 @@ ghost use Rattle.dm_commands.specs.Says.{of_world};
 
 use crate::chart::chart_files;
 use crate::check::check_files;
+use crate::count::count_files;
 use crate::drill::drill;
 use crate::explain::explain_files;
 use crate::run::run_files;
@@ -40,6 +41,9 @@ pub fn do_words<F: Shelf, K: Sink>(
         Ok(Request::Chart { boot, schedule }) => chart_files(alloc, boot, schedule, shelf, out),
         Ok(Request::Explain { boot, schedule }) => {
             explain_files(alloc, boot, schedule, shelf, out)
+        }
+        Ok(Request::Count { boot, schedule }) => {
+            count_files(alloc, boot, schedule, shelf, out, world)
         }
         Ok(Request::Drill(drawn)) => drill(alloc, &drawn, out, world),
         Err(no) => no.status(),

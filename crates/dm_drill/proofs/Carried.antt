@@ -1,24 +1,24 @@
 -- One notion of a run carries to another what is said of a drill by it.
-use Rattle.dm_drill.proofs.Names.{◌≡◌, ◌↔◌, ◌⊎◌, inl, inr, ℕ, Bool, true, List, [], Option, Boot, Directive, Line, World, Drill, Notion, TellsQuiet, SumsUp, DrillIsBegun, DrillIsOfFirst, DrillIsWhole, DrillWears}
-use Rattle.dm_run.proofs.Carried.{Carried, Carries, carried_wears, carried_world}
+use Rattle.dm_drill.proofs.Names.{◌≡◌, ◌↔◌, ◌⊎◌, inl, inr, ℕ, Bool, true, List, [], Option, Boot, Directive, Line, World, Report, Notion, TellsQuiet, SumsUp, DrillIsBegun, DrillIsOfFirst, DrillIsWhole, DrillWears, Carried, Carries}
+use Rattle.dm_drill.proofs.Names.{carried_wears, carried_world}
 
 both_ways : (x y z : Type 0) → x ↔ y → y ↔ z → x ↔ z
 both_ways x y z f g = (λ a. g.0 (f.0 a), λ c. f.1 (g.1 c))
 
-carried_sums : (r s : Notion) (d : Drill) (b : Boot) (ds : List Directive) (gs : List (List Line)) (p : r.Place) (c : Carried r s b ds gs p) (text : List ℕ) → SumsUp r d b ds gs p text → SumsUp s d b ds gs c.at text
-carried_sums r s d b ds gs p c text h = record {
+carried_sums : (r s : Notion) (k : Report) (b : Boot) (ds : List Directive) (gs : List (List Line)) (p : r.Place) (c : Carried r s b ds gs p) (text : List ℕ) → SumsUp r k b ds gs p text → SumsUp s k b ds gs c.at text
+carried_sums r s k b ds gs p c text h = record {
   over = c.over h.over;
   quiet = h.quiet;
   tells = record { tells = both_ways (h.quiet ≡ true) (r.IsQuiet b p) (s.IsQuiet b c.at) h.tells.tells c.quiet };
   is = h.is;
 }
 
-carried_last : (r s : Notion) (d : Drill) (b : Boot) (ds : List Directive) (gs : List (List Line)) (p : r.Place) (c : Carried r s b ds gs p) (last : List ℕ) → (last ≡ []) ⊎ SumsUp r d b ds gs p last → (last ≡ []) ⊎ SumsUp s d b ds gs c.at last
-carried_last r s d b ds gs p c last (inl none) = inl none
-carried_last r s d b ds gs p c last (inr h) = inr (carried_sums r s d b ds gs p c last h)
+carried_last : (r s : Notion) (k : Report) (b : Boot) (ds : List Directive) (gs : List (List Line)) (p : r.Place) (c : Carried r s b ds gs p) (last : List ℕ) → (last ≡ []) ⊎ SumsUp r k b ds gs p last → (last ≡ []) ⊎ SumsUp s k b ds gs c.at last
+carried_last r s k b ds gs p c last (inl none) = inl none
+carried_last r s k b ds gs p c last (inr h) = inr (carried_sums r s k b ds gs p c last h)
 
-pub carried_whole : (r s : Notion) (d : Drill) (b : Boot) (ds : List Directive) (old new : Option (List ℕ)) (world : Option World) → Carries r s b ds → DrillIsWhole r d b ds old new world → DrillIsWhole s d b ds old new world
-carried_whole r s d b ds old new world carries h =
+pub carried_whole : (r s : Notion) (tr : Bool) (k : Report) (b : Boot) (ds : List Directive) (old new : Option (List ℕ)) (world : Option World) → Carries r s b ds → DrillIsWhole r tr k b ds old new world → DrillIsWhole s tr k b ds old new world
+carried_whole r s tr k b ds old new world carries h =
     let c = carries h.groups h.at h.good in
     record {
       groups = h.groups;
@@ -27,7 +27,7 @@ carried_whole r s d b ds old new world carries h =
       rests = c.rests h.sums.over;
       fits = h.fits;
       last = h.last;
-      sums = carried_sums r s d b ds h.groups h.at c h.last h.sums;
+      sums = carried_sums r s k b ds h.groups h.at c h.last h.sums;
       written = h.written;
       stands = carried_world r s b ds h.groups h.at c world h.stands;
     }
@@ -37,15 +37,15 @@ carried_first r s tr b ds old new carries h =
     let c = carries h.groups h.at h.good in
     record { groups = h.groups; at = c.at; good = c.good; fits = h.fits; written = h.written }
 
-pub carried_begun : (r s : Notion) (d : Drill) (b : Boot) (ds : List Directive) (old new : Option (List ℕ)) (world : Option World) → Carries r s b ds → DrillIsBegun r d b ds old new world → DrillIsBegun s d b ds old new world
-carried_begun r s d b ds old new world carries h =
+pub carried_begun : (r s : Notion) (tr : Bool) (k : Report) (b : Boot) (ds : List Directive) (old new : Option (List ℕ)) (world : Option World) → Carries r s b ds → DrillIsBegun r tr k b ds old new world → DrillIsBegun s tr k b ds old new world
+carried_begun r s tr k b ds old new world carries h =
     let c = carries h.groups h.at h.good in
     record {
       groups = h.groups;
       at = c.at;
       good = c.good;
       last = h.last;
-      last_is = carried_last r s d b ds h.groups h.at c h.last h.last_is;
+      last_is = carried_last r s k b ds h.groups h.at c h.last h.last_is;
       fits = h.fits;
       begun = h.begun;
       others = h.others;

@@ -1,5 +1,5 @@
 -- What a drill counts of the lines that are printed.
-use Rattle.std.specs.Prelude.{◌+◌, if◌then◌else◌, List, [], ◌∷◌, vec_len}
+use Rattle.std.specs.Prelude.{◌+◌, if◌then◌else◌, List, [], ◌∷◌, map, vec_len}
 use Rattle.dm_onekernel.specs.declared.label.Label.{Label}
 use Rattle.dm_onekernel.specs.declared.label.Label.TheVariants as label
 use Rattle.dm_line.specs.declared.line.Line.{Line}
@@ -11,6 +11,7 @@ use Rattle.std.specs.declared.option.Option.TheVariants.{None, Some}
 use Rattle.dm_drill.specs.declared.counts.Counted.{Counted}
 use Rattle.dm_drill.specs.declared.counts.Counted.TheVariants as counted_
 use Rattle.dm_drill.specs.declared.counts.Counts.{Counts}
+use Rattle.dm_drill.specs.Kinds.{is_between, kind_shown, no_kinds, with_put}
 use Rattle.dm_drill.specs.Totals.{Totals}
 
 -- a process has come to the end of its move, at its new machine
@@ -41,7 +42,7 @@ abbrev pub counted_as : Line → Option Counted
 counted_as (line.Head s) = None
 counted_as (line.Idle m) = None
 counted_as (line.Label l) = sort_of_label l
-counted_as (line.Put a b id kind q) = Some counted_.Put
+counted_as (line.Put a b id kind q) = Some (counted_.Put kind (is_between a b))
 counted_as (line.Packet a b k l) = Some counted_.Packet
 counted_as (line.Taken a b n) = Some counted_.Taken
 counted_as (line.Old a b n) = Some counted_.Old
@@ -69,7 +70,7 @@ counted_as (line.Pinned p) = None
 -- one more of these
 abbrev pub one_more : Option Counted → Totals → Totals
 one_more None t = t
-one_more (Some counted_.Put) t = record t { puts = t.puts + 1 }
+one_more (Some (counted_.Put kind far)) t = record t { puts = t.puts + 1; kinds = map (with_put kind far) t.kinds }
 one_more (Some counted_.Packet) t = record t { packets = t.packets + 1 }
 one_more (Some counted_.Taken) t = record t { taken = t.taken + 1 }
 one_more (Some counted_.Old) t = record t { repeated = t.repeated + 1 }
@@ -94,7 +95,7 @@ with_groups t [] = t
 with_groups t (g ∷ gs) = with_groups (with_group t g) gs
 
 abbrev pub nothing : Totals
-nothing = record { groups = 0; puts = 0; packets = 0; taken = 0; repeated = 0; early = 0; received = 0; moved = 0; stayed = 0; forwarded = 0; held = 0 }
+nothing = record { groups = 0; puts = 0; packets = 0; taken = 0; repeated = 0; early = 0; received = 0; moved = 0; stayed = 0; forwarded = 0; held = 0; kinds = no_kinds }
 
 -- how many groups there are, and lines of each sort
 abbrev pub totals_of : List (List Line) → Totals
@@ -114,4 +115,5 @@ shown c = record {
   stayed = vec_len c.stayed.marks;
   forwarded = vec_len c.forwarded.marks;
   held = vec_len c.held.marks;
+  kinds = map kind_shown c.kinds;
 }

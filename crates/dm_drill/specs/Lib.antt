@@ -1,4 +1,6 @@
+pub mod Kinds
 pub mod Totals
 pub mod Counts
 pub mod Summary
+pub mod Reported
 pub mod Drilled

@@ -1,5 +1,6 @@
 -- How many groups and lines of each sort a drill has printed.
-use Rattle.std.specs.Prelude.{ℕ}
+use Rattle.std.specs.Prelude.{ℕ, List}
+use Rattle.dm_drill.specs.Kinds.{KindTotal}
 
 pub record Totals : Type 0 where
   pub groups : ℕ
@@ -13,3 +14,5 @@ pub record Totals : Type 0 where
   pub stayed : ℕ
   pub forwarded : ℕ
   pub held : ℕ
+  -- of the messages that were put, a total for each kind, by the kinds' numbers
+  pub kinds : List KindTotal

@@ -1,17 +1,20 @@
 //! What a drill counts of the lines that are printed.
-ghost use Rattle.std.specs.Prelude.{◌≡◌, OnOk};
+ghost use Rattle.std.specs.Prelude.{◌≡◌, OnOk, Some};
 ghost use Rattle.dm_drill.specs.Counts.{shown, counted_as, sort_of_label, nothing, one_more, sort_of_step, with_group, with_group_lines};
 
+use crate::kinds::{KINDS, KindTally, add_put, no_kinds};
 use crate::tally::Tally;
 use dm_line::line::{Line, Stage};
 use dm_memory::NoMemory;
+use dm_message::MessageKind;
 use dm_onekernel::Label;
 use std::alloc::Global;
 
 /// As what a line is counted.
 #[derive(Clone, Copy)]
 pub enum Counted {
-    Put,
+    /// A message of this kind was put, from one machine to another if it is `far`.
+    Put { kind: MessageKind, far: bool },
     Packet,
     Taken,
     Old,
@@ -38,6 +41,8 @@ pub struct Counts {
     pub stayed: Tally,
     pub forwarded: Tally,
     pub held: Tally,
+    /// Of the messages that were put, a count for each kind, by the kinds' numbers.
+    pub kinds: [KindTally; KINDS],
 }
 
 impl Counts {
@@ -57,6 +62,7 @@ impl Counts {
             stayed: Tally::new(alloc),
             forwarded: Tally::new(alloc),
             held: Tally::new(alloc),
+            kinds: no_kinds(alloc),
         }
     }
 
@@ -84,7 +90,7 @@ impl Counts {
     {
         match counted {
             None => Ok(()),
-            Some(Counted::Put) => self.puts.add_one(),
+            Some(Counted::Put { kind, far }) => self.add_put(kind, far),
             Some(Counted::Packet) => self.packets.add_one(),
             Some(Counted::Taken) => self.taken.add_one(),
             Some(Counted::Old) => self.repeated.add_one(),
@@ -96,6 +102,14 @@ impl Counts {
             Some(Counted::Held) => self.held.add_one(),
         }
     }
+
+    /// Counts a message that was put.
+    fn add_put(&mut self, kind: MessageKind, far: bool) -> Result<(), NoMemory>
+        ensures { OnOk result (shown self.new ≡ one_more (Some (Counted.Put kind far)) (shown self.old)) }
+    {
+        self.puts.add_one()?;
+        add_put(&mut self.kinds, kind, far)
+    }
 }
 
 /// As what a line is counted, if it is.
@@ -104,7 +118,10 @@ pub fn sort_of(line: &Line) -> Option<Counted>
 {
     match *line {
         Line::Label(label) => sort_of_label(label),
-        Line::Put { .. } => Some(Counted::Put),
+        Line::Put { from, to, kind, .. } => Some(Counted::Put {
+            kind,
+            far: from != to,
+        }),
         Line::Packet { .. } => Some(Counted::Packet),
         Line::Taken { .. } => Some(Counted::Taken),
         Line::Old { .. } => Some(Counted::Old),

@@ -1,4 +1,4 @@
-//! A drill: directives are done one by one, what happens is counted, and a summary is written.
+//! A run that is counted, as a drill is: directives are done one by one, what happens is counted, and a report is written.
 ghost use Rattle.std.specs.Prelude.{◌≡◌, ◌≤◌, ℕ, List, OnOk, Option, Some, length};
 ghost use Rattle.std.specs.List.{All};
 ghost use Rattle.dm_onekernel.specs.declared.boot.Boot.{Boot as TheBoot};
@@ -12,11 +12,11 @@ ghost use Rattle.dm_run.specs.Running.{IsAtStart};
 ghost use Rattle.dm_run.specs.Went.{RunsGo};
 ghost use Rattle.dm_drill.specs.Counts.{nothing, shown, with_group};
 ghost use Rattle.dm_drill.specs.Drilled.{Came, Ended, IsThrough, text_shown};
-ghost use Rattle.dm_drill.specs.Summary.{summary};
+ghost use Rattle.dm_drill.specs.declared.report.Report.{Report as TheReport};
+ghost use Rattle.dm_drill.specs.Reported.{told};
 
 use crate::counts::Counts;
-use crate::summary::write_summary;
-use dm_draw::drill::Drill;
+use crate::report::{Report, write_report};
 use dm_ending::stop::Stop;
 use dm_line::line::Line;
 use dm_memory::NoMemory;
@@ -26,10 +26,11 @@ use dm_schedule::{Directive, MOST_SCHEDULE};
 use dm_world::World;
 use std::alloc::Global;
 
-/// Does these directives, counts what happens, writes the lines of each where that is asked for, and then the summary.
-pub fn run_drill<K: Sink>(
+/// Does these directives, counts what happens, writes the lines of each where that is asked for, and then the report.
+pub fn run_counted<K: Sink>(
     alloc: Global,
-    drill: &Drill,
+    trace: bool,
+    report: &Report,
     directives: &[Directive],
     world: &mut World,
     out: &mut K,
@@ -38,20 +39,20 @@ pub fn run_drill<K: Sink>(
     requires fresh { IsAtStart world.old }
     requires each { All (IsFor (length world.old.boot.machines)) directives.now }
     requires few { length directives.now ≤ MOST_SCHEDULE }
-    ensures ended { Ended by_world drill.now world.old.boot directives.now (K.told out.old) (K.told out.new) (Some world.new) result }
+    ensures ended { Ended by_world trace report.now world.old.boot directives.now (K.told out.old) (K.told out.new) (Some world.new) result }
     ensures blames { Blames (K.faults out.old) (K.faults out.new) result }
     ensures last { StopsThere (K.last_failed out.new) result }
     ensures writes { K.faults out.old ≤ K.faults out.new }
 {
     let mut counts = Counts::new(alloc);
     let mut page = Vec::new(alloc);
-    drill_directives(drill, directives, world, &mut counts, &mut page, out)?;
-    sum_up(drill, world, &counts, &mut page, out)
+    drill_directives(trace, directives, world, &mut counts, &mut page, out)?;
+    sum_up(trace, report, world, &counts, &mut page, out)
 }
 
 /// Does these directives, counts their lines, and writes them where that is asked for.
 fn drill_directives<K: Sink>(
-    drill: &Drill,
+    trace: bool,
     directives: &[Directive],
     world: &mut World,
     counts: &mut Counts,
@@ -63,7 +64,7 @@ fn drill_directives<K: Sink>(
     requires none { shown counts.old ≡ nothing }
     requires each { All (IsFor (length world.old.boot.machines)) directives.now }
     requires few { length directives.now ≤ MOST_SCHEDULE }
-    ensures came { Came drill.now world.old.boot directives.now (K.told out.old) (K.told out.new) (shown counts.new) world.new result }
+    ensures came { (report : TheReport) → Came trace report world.old.boot directives.now (K.told out.old) (K.told out.new) (shown counts.new) world.new result }
     ensures blames { Blames (K.faults out.old) (K.faults out.new) result }
     ensures last { StopsThere (K.last_failed out.new) result }
     ensures writes { K.faults out.old ≤ K.faults out.new }
@@ -71,7 +72,7 @@ fn drill_directives<K: Sink>(
     let mut way = Way::new();
     'groups: while let Some(step) = next_step(world, directives, &mut way) {
         let lines = do_step(world, &step)?;
-        let taken = take_lines(lines.as_slice(), drill.trace, counts, page, out);
+        let taken = take_lines(lines.as_slice(), trace, counts, page, out);
         world.keep(lines);
         taken?;
     }
@@ -104,9 +105,10 @@ fn take_lines<K: Sink>(
     }
 }
 
-/// Writes the summary. The page holds it meanwhile.
+/// Writes the report. The page holds it meanwhile.
 fn sum_up<K: Sink>(
-    drill: &Drill,
+    trace: bool,
+    report: &Report,
     world: &World,
     counts: &Counts,
     page: &mut Vec<u8>,
@@ -114,28 +116,28 @@ fn sum_up<K: Sink>(
 ) -> Result<(), Stop>
     requires world { IsWorld world.now }
     ensures ended { (b : TheBoot) (ds : List TheDirective) (before : Option (List ℕ)) →
-        IsThrough drill.now.trace b ds before (K.told out.old) (shown counts.now) world.now →
-        Ended by_world drill.now b ds before (K.told out.new) (Some world.now) result }
+        IsThrough trace b ds before (K.told out.old) (shown counts.now) world.now →
+        Ended by_world trace report.now b ds before (K.told out.new) (Some world.now) result }
     ensures blames { Blames (K.faults out.old) (K.faults out.new) result }
     ensures last { StopsThere (K.last_failed out.new) result }
     ensures writes { K.faults out.old ≤ K.faults out.new }
 {
     let quiet = world.is_quiet();
-    match fill_page(drill, counts, quiet, page) {
+    match fill_page(report, counts, quiet, page) {
         Ok(()) => offer_bytes(page.as_slice(), out),
         Err(no) => Err(Stop::NoMemory(no)),
     }
 }
 
-/// Puts the summary alone onto a page.
+/// Puts the report alone onto a page.
 fn fill_page(
-    drill: &Drill,
+    report: &Report,
     counts: &Counts,
     quiet: bool,
     page: &mut Vec<u8>,
 ) -> Result<(), NoMemory>
-    ensures { OnOk result (page.new.items ≡ summary drill.now.seed drill.now.machines drill.now.lines (shown counts.now) quiet) }
+    ensures { OnOk result (page.new.items ≡ told report.now (shown counts.now) quiet) }
 {
     page.clear();
-    write_summary(drill.seed, drill.machines, drill.lines, counts, quiet, page)
+    write_report(report, counts, quiet, page)
 }

@@ -1,7 +1,9 @@
-//! A drill: a run that is counted, and its summary.
+//! A run that is counted, as a drill is, and what is said of it.
 #![tactic(auto)]
 
 pub mod counts;
 pub mod drill;
+pub mod kinds;
+pub mod report;
 pub mod summary;
 pub mod tally;

@@ -29,7 +29,7 @@ pub fn write_summary(
 }
 
 /// Writes what was done.
-fn write_traffic(counts: &Counts, into: &mut Vec<u8>) -> Result<(), NoMemory>
+pub(crate) fn write_traffic(counts: &Counts, into: &mut Vec<u8>) -> Result<(), NoMemory>
     ensures { OnOk result (into.new.items ≡ into.old.items ++ traffic (shown counts.now)) }
 {
     write_count("groups", &counts.groups, into)?;
@@ -38,7 +38,7 @@ fn write_traffic(counts: &Counts, into: &mut Vec<u8>) -> Result<(), NoMemory>
 }
 
 /// Writes what came.
-fn write_arrivals(counts: &Counts, into: &mut Vec<u8>) -> Result<(), NoMemory>
+pub(crate) fn write_arrivals(counts: &Counts, into: &mut Vec<u8>) -> Result<(), NoMemory>
     ensures { OnOk result (into.new.items ≡ into.old.items ++ arrivals (shown counts.now)) }
 {
     write_count("taken", &counts.taken, into)?;
@@ -48,7 +48,7 @@ fn write_arrivals(counts: &Counts, into: &mut Vec<u8>) -> Result<(), NoMemory>
 }
 
 /// Writes what became of moves.
-fn write_moves(counts: &Counts, into: &mut Vec<u8>) -> Result<(), NoMemory>
+pub(crate) fn write_moves(counts: &Counts, into: &mut Vec<u8>) -> Result<(), NoMemory>
     ensures { OnOk result (into.new.items ≡ into.old.items ++ moves (shown counts.now)) }
 {
     write_count("moved", &counts.moved, into)?;
@@ -83,7 +83,7 @@ fn write_count(word: &str, tally: &Tally, into: &mut Vec<u8>) -> Result<(), NoMe
 }
 
 /// Writes whether all is quiet.
-fn write_quiet(quiet: bool, into: &mut Vec<u8>) -> Result<(), NoMemory>
+pub(crate) fn write_quiet(quiet: bool, into: &mut Vec<u8>) -> Result<(), NoMemory>
     ensures { OnOk result (into.new.items ≡ into.old.items ++ quiet_line quiet) }
 {
     if quiet {
@@ -95,7 +95,7 @@ fn write_quiet(quiet: bool, into: &mut Vec<u8>) -> Result<(), NoMemory>
 }
 
 /// Writes a number in decimal digits.
-fn write_number(n: u64, into: &mut Vec<u8>) -> Result<(), NoMemory>
+pub(crate) fn write_number(n: u64, into: &mut Vec<u8>) -> Result<(), NoMemory>
     ensures { OnOk result (into.new.items ≡ into.old.items ++ decimal n) }
 {
     let mut buffer = Buffer::new();

@@ -7,7 +7,7 @@ use Rattle.dm_words.proofs.Names.{reacted, reading_by, refused, settled, settled
 use Rattle.dm_words.proofs.Names.{used_as, used_by_id, value, values_or_missing, waits, walk, walk_from, walked, walked_from, with_default, with_values, without, word_met, done, check_kinds, or_else, range_kinds, is_given, action_fault}
 use Rattle.dm_words.proofs.Names.{bundle_step_fault, check_fault, defaults_fault, entered_fault, flag_word_fault, flags_fault, level_fault, long_fault, option_fault, other_fault, positional_fault, react_fault, settle_fault, short_fault}
 use Rattle.dm_words.proofs.Names.{step_fault, stray_fault, use_fault, walk_fault, word_fault, Shape, argument_words, built, entered, label_of, labels_of, rows_at, ValueSource, DefaultValue, CommandLine, Reading, drawn_by, lines_asked}
-use Rattle.dm_words.proofs.Names.{machines_asked, seed_of, trace_of, explaining, both_files, Request, Chart, Check, Explain, Run, run_command, AreTaken, IsTaken, demosmp, request_at, request_of, Some, Drill}
+use Rattle.dm_words.proofs.Names.{machines_asked, seed_of, trace_of, explaining, both_files, Request, Chart, Check, Count, Explain, Run, run_command, AreTaken, IsTaken, demosmp, request_at, request_of, Some, Drill}
 use Rattle.clap.specs.Walk.{Text}
 use Rattle.clap.specs.Kinds.{Kinds}
 use Rattle.clap.specs.Faults.{fault_of}
@@ -288,8 +288,11 @@ chart_built = in_place 2 (built demosmp).subs
 abbrev explain_built : Shape
 explain_built = in_place 3 (built demosmp).subs
 
+abbrev count_built : Shape
+count_built = in_place 4 (built demosmp).subs
+
 abbrev drill_built : Shape
-drill_built = in_place 4 (built demosmp).subs
+drill_built = in_place 5 (built demosmp).subs
 
 each_of_run : Each run_built.rules
 each_of_run = (inl (refl, refl), (inl (refl, refl), (inr refl, tt)))
@@ -302,6 +305,9 @@ each_of_chart = (inl (refl, refl), (inl (refl, refl), (inr refl, tt)))
 
 each_of_explain : Each explain_built.rules
 each_of_explain = (inl (refl, refl), (inl (refl, refl), (inr refl, tt)))
+
+each_of_count : Each count_built.rules
+each_of_count = (inl (refl, refl), (inl (refl, refl), (inr refl, tt)))
 
 one_given : (x : Bool) → check_kinds false false (not x || false) ≡ [] → x ≡ true
 one_given true e = refl
@@ -364,6 +370,11 @@ explain_asks words e values =
     let other : Option Text = first_of (codes "schedule") (matched explain_built words) in
     (Explain named.0 other, ap (λ (o : Option Text). explaining o other) named.1)
 
+count_asks : Asks count_built
+count_asks words e values =
+    let names = names_both count_built (codes "boot") (codes "schedule") words each_of_count (λ rows. refl) e in
+    (Count names.first.0 names.second.0, ap₂ (both_files (λ boot schedule. Count boot schedule)) names.first.1 names.second.1)
+
 -- a command that takes three numbers draws a drill of them
 all_there : (trace : Bool) (seed machines lines : Option ℕ) → is_some seed && (is_some machines && is_some lines) ≡ true → (r : Request) × (drawn_by trace seed machines lines ≡ Some r)
 all_there trace (Some seed) (Some machines) (Some lines) e = (Drill (record { seed = seed; machines = machines; lines = lines; trace = trace }), refl)
@@ -384,7 +395,7 @@ AllAsk (s ∷ ss) = Asks s × AllAsk ss
 
 -- a row a command
 all_ask : AllAsk (built demosmp).subs
-all_ask = (run_asks, (check_asks, (chart_asks, (explain_asks, (drill_asks, tt)))))
+all_ask = (run_asks, (check_asks, (chart_asks, (explain_asks, (count_asks, (drill_asks, tt))))))
 
 abbrev AsksIf : Option Shape → Type 0
 AsksIf None = ⊤

@@ -9,10 +9,11 @@ use Rattle.clap.specs.Faults.{fault_of}
 use Rattle.dm_text.specs.Reading.{read_u32, read_u8}
 use Rattle.dm_words.specs.ChartWords.{chart_request}
 use Rattle.dm_words.specs.CheckWords.{check_request}
+use Rattle.dm_words.specs.CountWords.{count_request}
 use Rattle.dm_words.specs.DrillWords.{IsWithin, drawn_by, drill_request, if_within, lines_asked, machines_asked, seed_of, trace_of}
 use Rattle.dm_words.specs.ExplainWords.{explaining}
 use Rattle.dm_words.specs.FileWords.{both_files}
-use Rattle.dm_words.specs.Request.{Request, Chart, Check, Drill, Explain, Run}
+use Rattle.dm_words.specs.Request.{Request, Chart, Check, Count, Drill, Explain, Run}
 use Rattle.dm_words.specs.RunWords.{run_request}
 use Rattle.dm_words.specs.Words.{Command, commands, demosmp, request_at, request_in, request_of}
 
@@ -23,6 +24,7 @@ Fits (Some (Run boot schedule)) = ⊤
 Fits (Some (Check boot trace)) = ⊤
 Fits (Some (Chart boot schedule)) = ⊤
 Fits (Some (Explain boot schedule)) = ⊤
+Fits (Some (Count boot schedule)) = ⊤
 Fits (Some (Drill drill)) = IsWithin drill
 
 -- a number, if there is one, is one of these
@@ -74,13 +76,16 @@ check_fits rows = both_fit (λ boot trace. Check boot trace) (first_of (codes "b
 chart_fits : (rows : List Row) → Fits (chart_request rows)
 chart_fits rows = both_fit (λ boot schedule. Chart boot schedule) (first_of (codes "boot") rows) (first_of (codes "schedule") rows) (λ x y. tt)
 
+count_fits : (rows : List Row) → Fits (count_request rows)
+count_fits rows = both_fit (λ boot schedule. Count boot schedule) (first_of (codes "boot") rows) (first_of (codes "schedule") rows) (λ x y. tt)
+
 drill_fits : (rows : List Row) → Fits (drill_request rows)
 drill_fits rows =
     drawn_fits (trace_of rows) (seed_of rows) (machines_asked rows) (lines_asked rows) (named (first_of (codes "machines") rows) read_u8 2 16) (named (first_of (codes "lines") rows) read_u32 1 10000)
 
 -- a row a command
 commands_fit : AllFit commands
-commands_fit = (run_fits, (check_fits, (chart_fits, (λ rows. explain_fits (first_of (codes "boot") rows) (first_of (codes "schedule") rows), (drill_fits, tt)))))
+commands_fit = (run_fits, (check_fits, (chart_fits, (λ rows. explain_fits (first_of (codes "boot") rows) (first_of (codes "schedule") rows), (count_fits, (drill_fits, tt))))))
 
 if_fits : (b : Bool) (x y : Option Request) → Fits x → Fits y → Fits (if b then x else y)
 if_fits true x y h k = h

@@ -6,4 +6,5 @@ pub mod CheckWords
 pub mod DrillWords
 pub mod ChartWords
 pub mod ExplainWords
+pub mod CountWords
 pub mod Words

@@ -13,5 +13,7 @@ pub data Request : Type 0 where
   Chart : (boot : List ℕ) → (schedule : List ℕ) → Request
   -- to say what the boot file of the first name says, and the schedule of the second where there is one, or what is wrong
   Explain : (boot : List ℕ) → (schedule : Option (List ℕ)) → Request
+  -- to run the schedule of the second name on the system of the boot file of the first, and count what happens
+  Count : (boot : List ℕ) → (schedule : List ℕ) → Request
   -- to do the drill that is drawn from these numbers
   Drill : (drill : TheDrill) → Request

@@ -10,9 +10,10 @@ use Rattle.clap.specs.Built.{AddsSubcommand}
 use Rattle.clap.specs.declared.builder.command.Command.{Command as TheCommand}
 use Rattle.dm_words.specs.declared.words.Request.{Request as TheRequest}
 use Rattle.dm_words.specs.declared.words.Request.TheVariants as the
-use Rattle.dm_words.specs.Request.{Request, Chart, Check, Drill, Explain, Run}
+use Rattle.dm_words.specs.Request.{Request, Chart, Check, Count, Drill, Explain, Run}
 use Rattle.dm_words.specs.ChartWords.{chart_command, chart_request}
 use Rattle.dm_words.specs.CheckWords.{check_command, check_request}
+use Rattle.dm_words.specs.CountWords.{count_command, count_request}
 use Rattle.dm_words.specs.DrillWords.{IsWithin, drill_command, drill_request, has_numbers}
 use Rattle.dm_words.specs.ExplainWords.{explain_command, explain_request}
 use Rattle.dm_words.specs.RunWords.{run_command, run_request}
@@ -34,6 +35,7 @@ commands =
     record { shape = check_command; takes = any; request = check_request } ∷
     record { shape = chart_command; takes = any; request = chart_request } ∷
     record { shape = explain_command; takes = any; request = explain_request } ∷
+    record { shape = count_command; takes = any; request = count_request } ∷
     record { shape = drill_command; takes = has_numbers; request = drill_request } ∷ []
 
 abbrev pub with_commands : App → List Command → App
@@ -85,6 +87,7 @@ request_said (the.Run boot schedule) = Run boot.now schedule.now
 request_said (the.Check boot trace) = Check boot.now trace.now
 request_said (the.Chart boot schedule) = Chart boot.now schedule.now
 request_said (the.Explain boot schedule) = Explain boot.now (option_map (λ s. s.now) schedule)
+request_said (the.Count boot schedule) = Count boot.now schedule.now
 request_said (the.Drill drill) = Drill drill
 
 -- the numbers of a drill are in their ranges
@@ -93,4 +96,5 @@ IsInRange (the.Run boot schedule) = ⊤
 IsInRange (the.Check boot trace) = ⊤
 IsInRange (the.Chart boot schedule) = ⊤
 IsInRange (the.Explain boot schedule) = ⊤
+IsInRange (the.Count boot schedule) = ⊤
 IsInRange (the.Drill drill) = IsWithin drill

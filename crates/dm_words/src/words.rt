@@ -7,6 +7,7 @@ ghost use Rattle.dm_words.specs.CheckWords.{check_request as check_asked};
 ghost use Rattle.clap.specs.Walk.{first_of};
 ghost use Rattle.dm_words.specs.DrillWords.{drill_command as drill_shape, drill_request as drill_asked, flag_option, lines_in, lines_asked, machines_in, machines_asked, number_option, seed_of, trace_of};
 ghost use Rattle.dm_words.specs.ChartWords.{chart_request as chart_asked};
+ghost use Rattle.dm_words.specs.CountWords.{count_request as count_asked};
 ghost use Rattle.dm_words.specs.ExplainWords.{explain_command as explain_shape, explain_request as explain_asked};
 ghost use Rattle.dm_words.specs.FileWords.{file_command as file_shape, file_option, free_option};
 ghost use Rattle.dm_words.specs.RunWords.{run_request as run_asked};
@@ -68,6 +69,11 @@ pub enum Request<'a> {
         boot: &'a str,
         schedule: Option<&'a str>,
     },
+    /// To run the schedule of a file on the system of a boot file, and count what happens.
+    Count {
+        boot: &'a str,
+        schedule: &'a str,
+    },
     /// To do a drill: its machines are 2 to 16, its directives 1 to 10,000.
     Drill(Drill),
 }
@@ -101,7 +107,8 @@ fn command<'a>(alloc: Global) -> Result<Command<'a>, NoMemory>
     let two = with_command(one, file_command(alloc, "check", "boot", "trace"))?;
     let three = with_command(two, file_command(alloc, "chart", "boot", "schedule"))?;
     let four = with_command(three, explain_command(alloc))?;
-    with_command(four, drill_command(alloc))
+    let five = with_command(four, file_command(alloc, "count", "boot", "schedule"))?;
+    with_command(five, drill_command(alloc))
 }
 
 /// The command line of the program, before its commands.
@@ -217,6 +224,9 @@ fn request_of_command<'a>(name: &str, found: &ArgMatches<'a>) -> Option<Request<
     if name == "explain" {
         return explain_request(found);
     }
+    if name == "count" {
+        return count_request(found);
+    }
     if name == "drill" {
         return drill_request(found);
     }
@@ -259,6 +269,16 @@ fn explain_request<'a>(matches: &ArgMatches<'a>) -> Option<Request<'a>>
     let boot = matches.get_str("boot")?;
     let schedule = matches.get_str("schedule");
     Some(Request::Explain { boot, schedule })
+}
+
+/// The two files that the matches of `count` name.
+fn count_request<'a>(matches: &ArgMatches<'a>) -> Option<Request<'a>>
+    ensures asked { option_map request_said result ≡ count_asked (rows_of (found_of matches.now)) }
+    ensures within { IfSome result IsInRange }
+{
+    let boot = matches.get_str("boot")?;
+    let schedule = matches.get_str("schedule")?;
+    Some(Request::Count { boot, schedule })
 }
 
 /// The drill that the matches of `drill` ask for, where its numbers are in their ranges.

@@ -7,7 +7,7 @@ invariant-groups g l = record {
   running : l.world.stopped ≡ false;
   boot : l.world.boot ≡ l.initial.world.boot;
   within : l.way.begun ≤ length l.directives;
-  come : HasCome l.initial.world.boot l.directives (IsCounted l.drill.trace (g.K.Sink.told l.initial.out) (g.K.Sink.told l.out) (shown l.counts)) l.way (world_state l.world);
+  come : HasCome l.initial.world.boot l.directives (IsCounted l.trace (g.K.Sink.told l.initial.out) (g.K.Sink.told l.out) (shown l.counts)) l.way (world_state l.world);
   steady : g.K.Sink.faults l.out ≡ g.K.Sink.faults l.initial.out;
 }
 
