@@ -11,7 +11,7 @@ use Rattle.dm_node.specs.Out.{Acts, Goes, Worn}
 use Rattle.dm_node.specs.Acts as node
 use Rattle.dm_wire.specs.Sent.{bytes_at}
 use Rattle.dm_wire.specs.Wire.{after_mark}
-use Rattle.dm_world.specs.World.{acted, turned, delivers, reads}
+use Rattle.dm_world.specs.World.{acted, keeps_over, turned, delivers, reads}
 
 -- these lines do
 abbrev pub IsHeaded : Step → List Line → Type 0
@@ -35,7 +35,7 @@ delivers_headed w e a c k None s is = let f : nothing w e ≡ s = cc in (_, sym 
 delivers_headed w e a c k (Some bytes) s is = reads_headed (record w { wires = after_mark w.wires a c k }) e a c (packet_of bytes) s is
 
 pub headed : (b : Boot) (w : WorldState) (e : Step) (s : Said) → world_step b w e ≡ Some (Says s) → IsHeaded e s.lines
-headed b w (step.Turn m) s is = turned_headed w (step.Turn m) m (node.turn b (w.nodes m)) s is
+headed b w (step.Turn m) s is = turned_headed (keeps_over w (node.turn b (w.nodes m))) (step.Turn m) m (node.turn b (w.nodes m)) s is
 headed b w (step.Tick m) s is = let f : acted w (step.Tick m) m (node.tick (w.nodes m)) ≡ s = cc in (_, sym (ap (λ (x : Said). x.lines) f))
 headed b w (step.Deliver a c k) s is = delivers_headed w (step.Deliver a c k) a c k (bytes_at (w.wires a c) k) s is
 headed b w (step.Migrate p m) s is = turned_headed w (step.Migrate p m) 0 (node.asks_move (w.nodes 0) p m) s is

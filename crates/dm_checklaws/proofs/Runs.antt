@@ -12,6 +12,8 @@ use Rattle.dm_line.specs.declared.end_line.EndLine.TheVariants as end
 use Rattle.dm_line.specs.declared.pass.Pass.TheVariants as pass
 use Rattle.dm_check.specs.Judge as judge
 use Rattle.dm_check.proofs.Judging.{at_text_end, due_ends, due_group, ends_stand, first_of, group_stands, lines_append}
+use Rattle.dm_line.specs.Todo.{Seen, at_rest}
+use Rattle.dm_rule.specs.Good.{seen_at}
 use Rattle.dm_checklaws.proofs.Fulls.{ends_full}
 use Rattle.dm_checklaws.proofs.Groups.{fresh_group, group_head}
 use Rattle.dm_checklaws.proofs.KeptNames.{AreNames, names_always}
@@ -39,7 +41,7 @@ group_judged b es pt number e w rest there held due fresh fits =
 
 -- what is said of what is left to do, and goes on with it: the directives that follow are such as a schedule holds
 record Follows (machines : ℕ) (P : Todo → Type 0) : Type 0 where
-  follows : (v : View) (t : Todo) (n : Next) → P t → next_step machines v t ≡ Some n → (can_hold machines n.step ≡ true) × P n.left
+  follows : (seen : Seen) (t : Todo) (n : Next) → P t → following machines seen t ≡ Some n → (can_hold machines n.step ≡ true) × P n.left
 
 fit_first : (a b : List Line) → All LineFits (a ++ b) → All LineFits a × All LineFits b
 fit_first [] b h = (All-nil LineFits, h)
@@ -64,7 +66,7 @@ run_judged b P f [] es pt end t left number rest there machines p fits run = rec
   is = ap (λ k. judged_from (by_rule b) (judge.Head es) k (pieces 10 rest)) (omega arith);
 }
 run_judged b P f (g ∷ gs) es pt end t left number rest there machines p fits (nx, w, is, due, said, kept, more) =
-    let (held, q) = f.follows pt.view t nx p (sym (ap (λ (k : ℕ). next_step k pt.view t) machines) ∙ is) in
+    let (held, q) = f.follows (seen_at (length b.machines) pt) t nx p (sym (ap (λ (k : ℕ). next_step k pt t) machines) ∙ is) in
     let fresh = fresh_group b pt nx.step w due kept.counts in
     let both = fit_first g (joined gs) fits in
     let here : All LineFits w.lines = subst (All LineFits) (sym said) both.0 in
@@ -115,11 +117,11 @@ record LeftOnes (machines : ℕ) (t : Todo) : Type 0 where
   held : AllHeld machines steps
 
 ones_follow : (machines : ℕ) → Follows machines (LeftOnes machines)
-ones_follow machines = record { follows = λ v t n p is. by_steps v n p.steps p.held (sym (ap (next_step machines v) p.is) ∙ is) }
+ones_follow machines = record { follows = λ seen t n p is. by_steps seen n p.steps p.held (sym (ap (following machines seen) p.is) ∙ is) }
   where
-    by_steps : (v : View) (n : Next) (es : List Step) → AllHeld machines es → next_step machines v (all_of (ones es)) ≡ Some n → (can_hold machines n.step ≡ true) × LeftOnes machines n.left
-    by_steps v n [] held is = absurd (cc)
-    by_steps v n (e ∷ es) held is =
+    by_steps : (seen : Seen) (n : Next) (es : List Step) → AllHeld machines es → following machines seen (all_of (ones es)) ≡ Some n → (can_hold machines n.step ≡ true) × LeftOnes machines n.left
+    by_steps seen n [] held is = absurd (cc)
+    by_steps seen n (e ∷ es) held is =
         let one : Next = record { step = e; left = all_of (ones es) } in
         let f : one ≡ n = cc in
         subst (λ (m : Next). (can_hold machines m.step ≡ true) × LeftOnes machines m.left) f
@@ -167,13 +169,13 @@ turn_home : (machines : ℕ) (takes : ℕ → Bool) (t : Todo) (ms : List ℕ) �
 turn_home machines takes t [] h = tt
 turn_home machines takes t (m ∷ ms) h = turn_or_later machines t m ms (takes m) (next_turn takes t ms) h (turn_home machines takes t ms h)
 
-pass_home : (machines : ℕ) (mail : ℕ → Bool) (t : Todo) (d : Option (Step × List Two)) → All (HasHome machines) t.directives → HomeFirst machines d → HomeNext machines (in_pass mail t d)
-pass_home machines mail t None h k = turn_home machines (takes_turn t.pass mail) t t.machines h
-pass_home machines mail t (Some d) h k = (k, h)
+pass_home : (machines : ℕ) (seen : Seen) (t : Todo) (d : Option (Step × List Two)) → All (HasHome machines) t.directives → HomeFirst machines d → HomeNext machines (in_pass seen t d)
+pass_home machines seen t None h k = turn_home machines (takes_turn t.pass seen) t t.machines h
+pass_home machines seen t (Some d) h k = (k, h)
 
-begun_home : (machines : ℕ) (first : ℕ → ℕ → Option ℕ) (mail : ℕ → Bool) (p : Pass) (ds : List Directive) → All (HasHome machines) ds → HomeNext machines (begin_pass machines first mail p ds)
-begun_home machines first mail p ds h =
-    pass_home machines mail (pass_begun machines p ds) (next_delivery first (pairs_of (below machines) (below machines))) h (delivery_home machines first (pairs_of (below machines) (below machines)))
+begun_home : (machines : ℕ) (seen : Seen) (p : Pass) (ds : List Directive) → All (HasHome machines) ds → HomeNext machines (begin_pass machines seen p ds)
+begun_home machines seen p ds h =
+    pass_home machines seen (pass_begun machines p ds) (next_delivery seen.first (pairs_of (below machines) (below machines))) h (delivery_home machines seen.first (pairs_of (below machines) (below machines)))
 
 or_home : (machines : ℕ) (x y : Option Next) → HomeNext machines x → HomeNext machines y → HomeNext machines (or x y)
 or_home machines None y h k = k
@@ -183,34 +185,41 @@ settles_home : (machines : ℕ) (quiet : Bool) (x y : Option Next) → HomeNext 
 settles_home machines true x y h k = k
 settles_home machines false x y h k = or_home machines x y h k
 
-directive_home : (machines : ℕ) (first : ℕ → ℕ → Option ℕ) (mail : ℕ → Bool) (quiet : Bool) (ds : List Directive) → All (HasHome machines) ds → HomeNext machines (next_directive machines first mail quiet ds)
-directive_home machines first mail quiet [] h = tt
-directive_home machines first mail quiet (directive.One s ∷ ds) h = (All-head (HasHome machines) (directive.One s) ds h, All-tail (HasHome machines) (directive.One s) ds h)
-directive_home machines first mail quiet (directive.Round ∷ ds) h = begun_home machines first mail (pass.Round 0) ds (All-tail (HasHome machines) directive.Round ds h)
-directive_home machines first mail quiet (directive.Spin zero ∷ ds) h = directive_home machines first mail quiet ds (All-tail (HasHome machines) (directive.Spin 0) ds h)
-directive_home machines first mail quiet (directive.Spin (suc n) ∷ ds) h = begun_home machines first mail (pass.Round n) ds (All-tail (HasHome machines) (directive.Spin (suc n)) ds h)
-directive_home machines first mail quiet (directive.Settle ∷ ds) h =
+directive_home : (machines : ℕ) (seen : Seen) (ds : List Directive) → All (HasHome machines) ds → HomeNext machines (next_directive machines seen ds)
+directive_home machines seen [] h = tt
+directive_home machines seen (directive.One s ∷ ds) h = (All-head (HasHome machines) (directive.One s) ds h, All-tail (HasHome machines) (directive.One s) ds h)
+directive_home machines seen (directive.Round ∷ ds) h = begun_home machines seen (pass.Round 0) ds (All-tail (HasHome machines) directive.Round ds h)
+directive_home machines seen (directive.Spin zero ∷ ds) h = directive_home machines seen ds (All-tail (HasHome machines) (directive.Spin 0) ds h)
+directive_home machines seen (directive.Spin (suc n) ∷ ds) h = begun_home machines seen (pass.Round n) ds (All-tail (HasHome machines) (directive.Spin (suc n)) ds h)
+directive_home machines seen (directive.Rest zero ∷ ds) h = directive_home machines seen ds (All-tail (HasHome machines) (directive.Rest 0) ds h)
+directive_home machines seen (directive.Rest (suc n) ∷ ds) h =
+    let rest = All-tail (HasHome machines) (directive.Rest (suc n)) ds h in
+    settles_home machines (at_rest machines seen) (begin_pass machines seen (pass.Rest n) ds) (next_directive machines seen ds) (begun_home machines seen (pass.Rest n) ds rest) (directive_home machines seen ds rest)
+directive_home machines seen (directive.Settle ∷ ds) h =
     let rest = All-tail (HasHome machines) directive.Settle ds h in
-    settles_home machines quiet (begin_pass machines first mail pass.Settle ds) (next_directive machines first mail quiet ds) (begun_home machines first mail pass.Settle ds rest) (directive_home machines first mail quiet ds rest)
+    settles_home machines seen.quiet (begin_pass machines seen pass.Settle ds) (next_directive machines seen ds) (begun_home machines seen pass.Settle ds rest) (directive_home machines seen ds rest)
 
-later_home : (machines : ℕ) (first : ℕ → ℕ → Option ℕ) (mail : ℕ → Bool) (quiet : Bool) (p : Pass) (ds : List Directive) → All (HasHome machines) ds → HomeNext machines (next_pass machines first mail quiet p ds)
-later_home machines first mail quiet (pass.Round zero) ds h = directive_home machines first mail quiet ds h
-later_home machines first mail quiet (pass.Round (suc k)) ds h = begun_home machines first mail (pass.Round k) ds h
-later_home machines first mail quiet pass.Settle ds h =
-    settles_home machines quiet (begin_pass machines first mail pass.Settle ds) (next_directive machines first mail quiet ds) (begun_home machines first mail pass.Settle ds h) (directive_home machines first mail quiet ds h)
+later_home : (machines : ℕ) (seen : Seen) (p : Pass) (ds : List Directive) → All (HasHome machines) ds → HomeNext machines (next_pass machines seen p ds)
+later_home machines seen (pass.Round zero) ds h = directive_home machines seen ds h
+later_home machines seen (pass.Round (suc k)) ds h = begun_home machines seen (pass.Round k) ds h
+later_home machines seen (pass.Rest zero) ds h = directive_home machines seen ds h
+later_home machines seen (pass.Rest (suc k)) ds h =
+    settles_home machines (at_rest machines seen) (begin_pass machines seen (pass.Rest k) ds) (next_directive machines seen ds) (begun_home machines seen (pass.Rest k) ds h) (directive_home machines seen ds h)
+later_home machines seen pass.Settle ds h =
+    settles_home machines seen.quiet (begin_pass machines seen pass.Settle ds) (next_directive machines seen ds) (begun_home machines seen pass.Settle ds h) (directive_home machines seen ds h)
 
 unless_home : (machines : ℕ) (over : Bool) (o : Option Next) → HomeNext machines o → HomeNext machines (if over then None else o)
 unless_home machines true o h = tt
 unless_home machines false o h = h
 
-next_home : (machines : ℕ) (first : ℕ → ℕ → Option ℕ) (mail : ℕ → Bool) (quiet : Bool) (t : Todo) (n : Next) → All (HasHome machines) t.directives → following machines first mail quiet t ≡ Some n
+next_home : (machines : ℕ) (seen : Seen) (t : Todo) (n : Next) → All (HasHome machines) t.directives → following machines seen t ≡ Some n
     → IsHome machines n.step × All (HasHome machines) n.left.directives
-next_home machines first mail quiet t n h is =
-    let here = in_pass mail t (next_delivery first t.pairs) in
+next_home machines seen t n h is =
+    let here = in_pass seen t (next_delivery seen.first t.pairs) in
     subst (HomeNext machines) is
-    (or_home machines (if is_over t.pass quiet then None else here) (next_pass machines first mail quiet t.pass t.directives)
-    (unless_home machines (is_over t.pass quiet) here (pass_home machines mail t (next_delivery first t.pairs) h (delivery_home machines first t.pairs)))
-    (later_home machines first mail quiet t.pass t.directives h))
+    (or_home machines (if is_over machines seen t.pass then None else here) (next_pass machines seen t.pass t.directives)
+    (unless_home machines (is_over machines seen t.pass) here (pass_home machines seen t (next_delivery seen.first t.pairs) h (delivery_home machines seen.first t.pairs)))
+    (later_home machines seen t.pass t.directives h))
 
 below_test : (m n : ℕ) → m < n → nat_lt m n ≡ true
 below_test m n h = grind (arith, nat_tests)
@@ -231,9 +240,9 @@ record LeftOfAny (machines : ℕ) (t : Todo) : Type 0 where
 
 any_follow : (machines : ℕ) → Follows machines (LeftOfAny machines)
 any_follow machines = record {
-  follows = λ v t n p is.
-      let fits = next_fits machines (undelivered v) (has_mail v) (is_quiet machines v) t n p.todo is in
-      let homes = next_home machines (undelivered v) (has_mail v) (is_quiet machines v) t n p.homes is in
+  follows = λ seen t n p is.
+      let fits = next_fits machines seen t n p.todo is in
+      let homes = next_home machines seen t n p.homes is in
       (held_of machines n.step fits.step homes.0, record { todo = fits.left; homes = homes.1 });
 }
 

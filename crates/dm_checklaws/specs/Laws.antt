@@ -32,6 +32,7 @@ HasHome machines (directive.One s) = IsHome machines s
 HasHome machines directive.Round = ⊤
 HasHome machines (directive.Spin n) = ⊤
 HasHome machines directive.Settle = ⊤
+HasHome machines (directive.Rest n) = ⊤
 
 -- a text that is good lines, and perhaps the lines at the end behind them, has that verdict
 abbrev pub TracesAreGood : Type 0

@@ -1,7 +1,9 @@
 -- Where no read and no write fails and memory is there, the files decide what a command comes to.
 use Rattle.dm_commands.proofs.Names.{◌≡◌, ◌⊎◌, inl, inr, ℕ, Bool, true, false, List, refl, ap, ap₂, sym, subst, ◌∙◌, Option, Some, None, Boot, Directive, RoseOrFull, appended, Verdict, good_verdict, HasTrace, NoFiles, NoTrace, AcceptsFiles, Drill as TheDrill}
-use Rattle.dm_commands.proofs.Names.{BlamesSink, IsWant, Input, Status, Done, Usage, ReadFault, NoMemory, WriteFault, BootRefused, ScheduleRefused, TooLong, Worn, TraceRefused, Request, Chart, Check, Explain, Run, boot_of_machines, directives_of_drill}
+use Rattle.dm_commands.proofs.Names.{BlamesSink, IsWant, Input, Status, Done, Usage, ReadFault, NoMemory, WriteFault, BootRefused, ScheduleRefused, TooLong, Worn, TraceRefused, Request, Chart, Check, Count, Explain, Run, boot_of_machines, directives_of_drill}
 use Rattle.dm_words.specs.Request.{Drill}
+use Rattle.dm_drill.specs.declared.report.Report.{Report}
+use Rattle.dm_drill.specs.declared.report.Report.TheVariants as report
 use Rattle.dm_check.specs.Faults.{number_of_trace_fault}
 use Rattle.dm_check.specs.Judge.{Refused}
 use Rattle.dm_checklaws.specs.Verdict.{verdict}
@@ -11,7 +13,7 @@ use Rattle.dm_commands.proofs.Outcomes.{Files, only_want, same_boot, same_inputs
 use Rattle.dm_commands.specs.Charts.{ChartSays}
 use Rattle.dm_commands.specs.Checks.{CheckSays, SaysCheck, good_line}
 use Rattle.dm_commands.specs.Commands.{CommandMeets}
-use Rattle.dm_commands.specs.Drills.{DrilledSays}
+use Rattle.dm_commands.specs.Drills.{CountSays, CountedSays, DrilledSays, report_of}
 use Rattle.dm_commands.specs.Outside.{Around, Outside, outside}
 use Rattle.dm_commands.specs.Runs.{RunSaying, RunSays, SaysRun}
 use Rattle.dm_world.specs.declared.world.World.{World}
@@ -83,8 +85,8 @@ chart_tells b ds before after world = record {
   trace = λ line why h. h;
 }
 
-drill_tells : (d : TheDrill) (b : Boot) (ds : List Directive) (before after : Option (List ℕ)) (world : Option World) → Tells (DrilledSays by_rule d b ds before after world) b ds
-drill_tells d b ds before after world = record {
+counted_tells : (tr : Bool) (k : Report) (b : Boot) (ds : List Directive) (before after : Option (List ℕ)) (world : Option World) → Tells (CountedSays by_rule tr k b ds before after world) b ds
+counted_tells tr k b ds before after world = record {
   done = λ h. h.rests.lasts;
   worn = λ from to h. (h.groups, wears_after b ds h.groups from to h.wears);
   usage = λ h. h;
@@ -200,10 +202,11 @@ decided (Some (Run boot schedule)) a world s h = run_decided (RunSays by_rule) b
 decided (Some (Check boot trace)) a world s h = check_decided boot trace (outside a world) s h.says h.met.sink.blames
 decided (Some (Chart boot schedule)) a world s h = run_decided (ChartSays by_rule) boot schedule (outside a world) s (λ b ds. chart_tells b ds _ _ world) h.as_run.says h.as_run.met.sink.blames
 decided (Some (Explain boot schedule)) a world s h = tt
+decided (Some (Count boot schedule)) a world s h = run_decided (CountSays by_rule) boot schedule (outside a world) s (λ b ds. counted_tells false report.OfRun b ds _ _ world) h.says h.met.sink.blames
 decided (Some (Drill d)) a world s h =
     let b = boot_of_machines d.machines in
     let ds = directives_of_drill d in
-    let tells = drill_tells d b ds (a.sink.told a.sink.old) (a.sink.told a.sink.new) world in
+    let tells = counted_tells d.trace (report_of d) b ds (a.sink.told a.sink.old) (a.sink.told a.sink.new) world in
     record {
       completes = λ lasts never. to_end (DrilledSays by_rule d b ds (a.sink.told a.sink.old) (a.sink.told a.sink.new) world) b ds (a.sink.faults a.sink.old) (a.sink.faults a.sink.new) s tells h.meets.says h.meets.sink.blames lasts never.writes;
       wears = λ from to wears never. to_worn (DrilledSays by_rule d b ds (a.sink.told a.sink.old) (a.sink.told a.sink.new) world) b ds (a.sink.faults a.sink.old) (a.sink.faults a.sink.new) s from to tells h.meets.says h.meets.sink.blames wears never.writes;

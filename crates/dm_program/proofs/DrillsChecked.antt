@@ -5,6 +5,7 @@ use Rattle.std.proofs.lemmas.List.{append-nil}
 use Rattle.std.proofs.lemmas.List.Elements.{All-append}
 use Rattle.dm_draw.proofs.Drawing.{drawn_next, drawn_none}
 use Rattle.dm_draw.proofs.Names.{deliver_drawn, directives_drawn, drawn, migrate_drawn, round_drawn, state_behind, stepped, tick_drawn, turn_drawn}
+use Rattle.dm_draw.proofs.Valid.{boot_valid}
 use Rattle.dm_draw.proofs.Within.{boot_machines, drawn_below}
 use Rattle.dm_draw.proofs.Within as within_
 unfoldable use Rattle.dm_draw.specs.Directives.{directive_drawn}
@@ -22,10 +23,10 @@ use Rattle.dm_checklaws.specs.Verdict.{verdict}
 use Rattle.dm_drill.specs.Counts.{totals_of}
 use Rattle.dm_drill.specs.Drilled.{DrillIsWhole, text_shown}
 use Rattle.dm_drill.specs.Summary.{summary}
-use Rattle.dm_commands.specs.Drills.{directives_of_drill}
+use Rattle.dm_commands.specs.Drills.{directives_of_drill, report_of}
 use Rattle.dm_commands.proofs.Drills.{all_for}
 use Rattle.dm_program.proofs.Runs.Fits.{directives_fit}
-use Rattle.dm_program.specs.Laws.{DrillsCheck, IsGoodDrill, IsGoodWornDrill}
+use Rattle.dm_program.specs.Laws.{DrillsCheck, DrillsMayStart, IsGoodDrill, IsGoodWornDrill}
 use Rattle.dm_program.specs.Printed.{by_rule}
 
 -- a process that is to move is at home on one of the machines
@@ -46,6 +47,16 @@ homes_fit n x (suc k) least =
     let d : Directive = (directive_drawn n (state_behind n x k)).directive in
     subst (All (HasHome n)) (sym (drawn_next n x k)) (All-append (HasHome n) (directives_drawn n x k) (d ∷ []) (homes_fit n x k least) (All-cons (HasHome n) d [] (home_fits n (state_behind n x k) least) (All-nil (HasHome n))))
 
+-- and each directive is for the machines
+each_for : (d : Drill) → IsWithin d → All (IsDirective (length (boot_of_machines d.machines).machines)) (directives_of_drill d)
+each_for d within =
+    let n = d.machines in
+    let ds = directives_of_drill d in
+    subst (λ (k : ℕ). All (IsDirective k) ds) (sym (boot_machines n)) (directives_fit n ds (all_for n ds (within_.directives_fit n d.seed d.lines within.least)))
+
+pub drills_may_start : DrillsMayStart
+drills_may_start d within = record { valid = boot_valid d.machines within.least within.most; within = each_for d within }
+
 -- the groups of a drill are good, open
 groups_open : (d : Drill) → IsWithin d → (groups : List (List Line)) (end : Point) (left : Todo) → IsGood (boot_of_machines d.machines) (directives_of_drill d) groups end left → All LineFits (joined groups) → verdict (boot_of_machines d.machines) (text_of_lines (joined groups)) ≡ Open (length groups)
 groups_open d within groups end left good fits =
@@ -53,10 +64,9 @@ groups_open d within groups end left good fits =
     let b = boot_of_machines n in
     let ds = directives_of_drill d in
     let same : length b.machines ≡ n = boot_machines n in
-    let each : All (IsDirective (length b.machines)) ds = subst (λ (k : ℕ). All (IsDirective k) ds) (sym same) (directives_fit n ds (all_for n ds (within_.directives_fit n d.seed d.lines within.least))) in
     let homes : All (HasHome (length b.machines)) ds = subst (λ (k : ℕ). All (HasHome k) ds) (sym same) (homes_fit n d.seed d.lines within.least) in
     let all : IsGood b ds (groups ++ []) end left = subst (λ (gs : List (List Line)). IsGood b ds gs end left) (sym (append-nil groups)) good in
-    beginnings_open b ds groups [] end left each homes all fits
+    beginnings_open b ds groups [] end left (each_for d within) homes all fits
 
 -- from nothing on, what was appended is what is there
 from_nothing : (before after : Option (List ℕ)) (bytes : List ℕ) → before ≡ Some [] → after ≡ appended before bytes → after ≡ Some bytes
@@ -65,7 +75,7 @@ from_nothing before after bytes none written = written ∙ ap (λ (o : Option (L
 shown : (trace : Bool) (ls : List Line) → trace ≡ true → text_shown trace ls ≡ text_of_lines ls
 shown trace ls e = ap (λ (t : Bool). text_shown t ls) e
 
-whole_checks : (d : Drill) (b : Boot) (ds : List Directive) (before after : Option (List ℕ)) (world : Option World) (w : DrillIsWhole by_rule d b ds before after world) → d.trace ≡ true → before ≡ Some []
+whole_checks : (d : Drill) (b : Boot) (ds : List Directive) (before after : Option (List ℕ)) (world : Option World) (w : DrillIsWhole by_rule d.trace (report_of d) b ds before after world) → d.trace ≡ true → before ≡ Some []
     → after ≡ Some (text_of_lines (joined w.groups) ++ summary d.seed d.machines d.lines (totals_of w.groups) w.sums.quiet)
 whole_checks d b ds before after world w trace none =
     from_nothing before after (text_shown d.trace (joined w.groups) ++ w.last) none w.written

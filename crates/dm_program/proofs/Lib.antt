@@ -6,3 +6,4 @@ mod NoWords
 mod Sound
 mod RunsChecked
 mod DrillsChecked
+mod TracesFor

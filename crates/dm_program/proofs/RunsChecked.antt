@@ -30,6 +30,7 @@ directive_home machines (directive.One e) h = step_home machines e h
 directive_home machines directive.Round h = tt
 directive_home machines (directive.Spin n) h = tt
 directive_home machines directive.Settle h = tt
+directive_home machines (directive.Rest n) h = tt
 
 homes : (machines : ℕ) (ds : List Directive) → All (schedules.HasHome machines) ds → All (HasHome machines) ds
 homes machines [] h = All-nil (HasHome machines)

@@ -16,19 +16,20 @@ runs_are_sound boot schedule o says = elim says [
   | inl r ↦
       let w : IsWhole by_rule r.system r.directives o.before o.after o.world = r.says in
       let l = good_leads r.system r.directives w.groups w.at.end w.at.left r.valid (directives_fit (length r.system.machines) r.directives r.within) w.good in
-      let sound : IsSound r.system (joined w.groups) w.at.end =
+      let sound : IsSound r.system r.directives w.groups w.at.end =
       record {
         replays = w.good.replays;
         received = w.good.received;
         stands = λ (id : MsgId). stands_once_always r.system l.0 w.at.end id r.valid (leads_of r.system l.0 (joined w.groups) (first_point r.system) w.at.end l.1);
-        directives = l.0;
-        leads = l.1;
+        left = w.at.left;
+        run = w.good.run;
+        over = w.over;
       } in
       record {
         system = r.system;
         directives = r.directives;
         accepts = r.accepts;
-        prints = record { lines = joined w.groups; end = w.at.end; sound = sound; written = w.written };
+        prints = record { groups = w.groups; end = w.at.end; sound = sound; written = w.written };
       }
   | inr r ↦ absurd r.why
 ]

@@ -10,7 +10,7 @@ use Rattle.dm_draw.specs.declared.drill.Drill.{Drill as TheDrill}
 use Rattle.dm_ending.specs.declared.status.Status.{Status}
 use Rattle.dm_ending.specs.declared.status.Status.TheVariants.{Done, TraceRefused, Worn}
 use Rattle.dm_ending.specs.Status.{IsWant}
-use Rattle.dm_words.specs.Request.{Request, Chart, Check, Drill, Explain, Run}
+use Rattle.dm_words.specs.Request.{Request, Chart, Check, Count, Drill, Explain, Run}
 use Rattle.dm_check.specs.Good.{good_verdict}
 use Rattle.dm_checklaws.specs.Verdict.{verdict}
 use Rattle.dm_commands.specs.Checks.{HasTrace, RefusesTrace, good_line}
@@ -78,4 +78,5 @@ IsDecided (Some (Run boot schedule)) o s = RunIsDecided boot schedule o s
 IsDecided (Some (Check boot trace)) o s = CheckIsDecided boot trace o s
 IsDecided (Some (Chart boot schedule)) o s = RunIsDecided boot schedule o s
 IsDecided (Some (Explain boot schedule)) o s = ⊤
+IsDecided (Some (Count boot schedule)) o s = RunIsDecided boot schedule o s
 IsDecided (Some (Drill d)) o s = DrillIsDecided d o s

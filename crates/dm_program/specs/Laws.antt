@@ -1,20 +1,26 @@
 -- What the commands say of each other.
 use Rattle.std.specs.Prelude.{◌≡◌, ◌≤◌, ℕ, ◌⊎◌, Bool, true, false, List, [], ◌++◌, length}
+use Rattle.std.specs.List.{All}
 use Rattle.std.specs.declared.option.Option.{Option}
 use Rattle.std.specs.declared.option.Option.TheVariants.{Some}
+use Rattle.dm_onekernel.specs.declared.boot.Boot.{Boot}
+use Rattle.dm_onekernel.specs.Boot.{IsValid}
 use Rattle.dm_outside.specs.Outside.{appended}
 use Rattle.dm_draw.specs.Boot.{boot_of_machines}
 use Rattle.dm_draw.specs.declared.drill.Drill.{Drill}
 use Rattle.dm_drill.specs.Summary.{summary}
 use Rattle.dm_drill.specs.Totals.{Totals}
+use Rattle.dm_mirror.specs.Ran.{ones}
+use Rattle.dm_mirror.specs.Todo.{IsDirective}
 use Rattle.dm_check.specs.Judge.{Open}
+use Rattle.dm_checklaws.specs.Good.{IsTrace}
 use Rattle.dm_checklaws.specs.Verdict.{verdict}
 use Rattle.dm_ending.specs.declared.status.Status.{Status}
 use Rattle.dm_ending.specs.declared.status.Status.TheVariants.{Done, Worn}
 use Rattle.dm_words.specs.DrillWords.{IsWithin}
 use Rattle.dm_ending.specs.Status.{IsWant}
 use Rattle.dm_commands.specs.Checks.{good_line, most_trace}
-use Rattle.dm_commands.specs.Drills.{DrilledSays, SaysDrill}
+use Rattle.dm_commands.specs.Drills.{DrilledSays, SaysDrill, directives_of_drill}
 use Rattle.dm_commands.specs.Outside.{NeverFails, Outside}
 use Rattle.dm_commands.specs.Runs.{RunSays, SaysRun}
 use Rattle.dm_program.specs.Decided.{Accepts}
@@ -68,3 +74,15 @@ pub record IsGoodWornDrill (d : Drill) (text : Option (List ℕ)) : Type 0 where
 pub record DrillsCheck : Type 0 where
   pub done : (d : Drill) (o : Outside) → IsWithin d → d.trace ≡ true → o.before ≡ Some [] → SaysDrill (DrilledSays by_rule) d o.before o.after o.world Done → IsGoodDrill d o.after
   pub worn : (d : Drill) (o : Outside) (from to : ℕ) → IsWithin d → d.trace ≡ true → o.before ≡ Some [] → SaysDrill (DrilledSays by_rule) d o.before o.after o.world (Worn from to) → IsGoodWornDrill d o.after
+
+-- the system that a drill draws may start, and its directives are for its machines: so the laws of good groups are about a drill's
+pub record IsDrillFor (d : Drill) : Type 0 where
+  pub valid : IsValid (boot_of_machines d.machines)
+  pub within : All (IsDirective (length (boot_of_machines d.machines).machines)) (directives_of_drill d)
+
+abbrev pub DrillsMayStart : Type 0
+DrillsMayStart = (d : Drill) → IsWithin d → IsDrillFor d
+
+-- the directives that the heads of a good trace are, are for the machines of its boot file: so those laws are about its groups
+abbrev pub TracesAreFor : Type 0
+TracesAreFor = (b : Boot) (bytes : List ℕ) (n : ℕ) (ended : Bool) → (t : IsTrace b bytes n ended) → All (IsDirective (length b.machines)) (ones t.steps)

@@ -1,5 +1,5 @@
 -- What a run is by the rule: its groups are those of the rule, and the world stands for where they lead.
-use Rattle.std.specs.Prelude.{◌≡◌, ℕ, true, List}
+use Rattle.std.specs.Prelude.{◌≡◌, ◌⊎◌, ℕ, true, List}
 use Rattle.std.specs.List.{All}
 use Rattle.std.specs.declared.option.Option.TheVariants.{None, Some}
 use Rattle.dm_onekernel.specs.declared.boot.Boot.{Boot}
@@ -11,8 +11,10 @@ use Rattle.dm_rule.specs.Ends.{end_lines}
 use Rattle.dm_rule.specs.Good.{next_step}
 use Rattle.dm_rule.specs.Point.{Point}
 use Rattle.dm_rule.specs.Quiet.{IsQuiet}
+use Rattle.dm_rule.specs.Rest.{IsAtRest}
 use Rattle.dm_rule.specs.Worn as rule
-use Rattle.dm_settlelaws.specs.Passes.{ends_settled, is_at_rest}
+use Rattle.dm_settlelaws.specs.Passes.{AreGoneThrough, ends_rested, ends_settled, is_at_rest}
+use Rattle.dm_settlelaws.specs.Still.{is_still}
 use Rattle.dm_world.specs.Meets.{world_state}
 use Rattle.dm_mirror.specs.Run.{IsGood}
 use Rattle.dm_mirror.specs.Stands.{Stands}
@@ -25,7 +27,7 @@ pub record WearsAfter (b : Boot) (ds : List Directive) (groups : List (List Line
   pub left : Todo
   pub good : IsGood b ds groups end left
   pub next : Next
-  pub next_is : next_step end.kernel.machines end.view left ≡ Some next
+  pub next_is : next_step end.kernel.machines end left ≡ Some next
   pub worn : rule.IsWorn b end next.step from to
 
 -- no directive comes to that
@@ -43,18 +45,32 @@ pub record RulePlace : Type 0 where
 
 -- no directive is left
 abbrev pub IsOver : Point → Todo → Type 0
-IsOver end left = next_step end.kernel.machines end.view left ≡ None
+IsOver end left = next_step end.kernel.machines end left ≡ None
 
 -- the next directive wears these two
 pub record RuleWears (b : Boot) (p : RulePlace) (from to : ℕ) : Type 0 where
   pub next : Next
-  pub next_is : next_step p.end.kernel.machines p.end.view p.left ≡ Some next
+  pub next_is : next_step p.end.kernel.machines p.end p.left ≡ Some next
   pub worn : rule.IsWorn b p.end next.step from to
 
--- no run of these directives wears a pair; and behind a settle nothing is on its way, and no process leaves or comes
+-- all is at rest, and the lines at the end show so: nothing is on its way, held back or pending, and each living process is where it is,
+-- and waits or is stopped
+pub record RestsAtEnd (end : Point) : Type 0 where
+  pub rest : IsAtRest end.kernel.machines end
+  pub lines : All (λ (l : EndLine). is_still l ≡ true) (end_lines end)
+
+-- nothing is on its way, acknowledgements too, and the lines at the end show what they can of it: no message is in an inbox or a stream or
+-- held back, and no process leaves or comes
+pub record QuietAtEnd (end : Point) : Type 0 where
+  pub quiet : IsQuiet end.kernel.machines end.view
+  pub lines : All (λ (l : EndLine). is_at_rest l ≡ true) (end_lines end)
+
+-- no run of these directives wears a pair; behind a last settle nothing is on its way; and behind a last rest its passes were gone through
+-- whole, or all is at rest
 pub record EndsWell (b : Boot) (ds : List Directive) (p : RulePlace) : Type 0 where
   pub lasts : Lasts b ds
-  pub rests : ends_settled ds ≡ true → All (λ (l : EndLine). is_at_rest l ≡ true) (end_lines p.end)
+  pub rests : ends_settled ds ≡ true → QuietAtEnd p.end
+  pub rested : ends_rested ds ≡ true → AreGoneThrough p.end.kernel.machines p.end p.left ⊎ RestsAtEnd p.end
 
 -- by the rule
 abbrev pub by_rule : Notion

@@ -1,8 +1,9 @@
 -- The theorem on what `run` prints, in one place. Where it ends with status 0, whatever the files say, the bytes that it wrote are
--- the text of lines of which this holds: their labels are a run of one kernel without machines, from the boot file on; no message
--- is received twice, and each stands exactly once; and the lines at the end say where that run stands.
--- It doesn't tie the lines to the schedule: a run that does no directive is sound too. That each directive's group is there, as the
--- rule has it, is `IsWhole` (dm_run), in the clause of `run`.
+-- the text of groups of lines, one for each directive of the schedule, each the one that the rule has there. Their labels are a run of one
+-- kernel without machines, from the boot file on; no message is received twice, and each stands exactly once; and the lines at the end say
+-- where that run stands.
+-- Of bytes it speaks where the shelf and the sink tell theirs: then `o.files` and `o.before` are `Some`. Those of real files and streams
+-- tell nothing, and of them it says nothing of content; the program is one body for every shelf and sink, which can't ask which it has.
 use Rattle.std.specs.Prelude.{◌≡◌, ℕ, ◌≤◌, List, ◌++◌}
 use Rattle.std.specs.declared.option.Option.{Option}
 use Rattle.std.specs.declared.option.Option.TheVariants.{Some}
@@ -12,46 +13,48 @@ use Rattle.dm_onekernel.specs.Start.{start}
 use Rattle.dm_onekernel.specs.Step.{replay}
 use Rattle.dm_laws.specs.Laws.{receptions}
 use Rattle.dm_schedule.specs.declared.Directive.{Directive}
-use Rattle.dm_schedule.specs.declared.Step.{Step}
 use Rattle.dm_line.specs.declared.line.Line.{Line}
+use Rattle.dm_line.specs.Todo.{Todo, all_of}
 use Rattle.dm_rule.specs.Ends.{end_lines}
+use Rattle.dm_rule.specs.Good.{IsRun}
 use Rattle.dm_rule.specs.Point.{Point, first_point, labels}
 use Rattle.dm_rule.specs.Spots.{StandsRight, standing}
-use Rattle.dm_rulelaws.specs.Order.{LeadsBy}
+use Rattle.dm_mirror.specs.Run.{joined}
 use Rattle.dm_text.specs.Text.{text_of_ends, text_of_lines}
 use Rattle.dm_outside.specs.Outside.{appended}
 use Rattle.dm_ending.specs.declared.status.Status.TheVariants.{Done}
 use Rattle.dm_commands.specs.Inputs.{AcceptsFiles}
 use Rattle.dm_commands.specs.Outside.{Outside}
 use Rattle.dm_commands.specs.Runs.{RunSays, SaysRun}
-use Rattle.dm_program.specs.Printed.{by_rule}
+use Rattle.dm_program.specs.Printed.{IsOver, by_rule}
 
--- lines of a system, and where the run of the kernel without machines stands behind them
-pub record IsSound (b : Boot) (lines : List Line) (end : Point) : Type 0 where
+-- groups of lines for the directives of a schedule, and where the run of the kernel without machines stands behind them
+pub record IsSound (b : Boot) (ds : List Directive) (groups : List (List Line)) (end : Point) : Type 0 where
   -- the labels among the lines are a run of that kernel, from where the boot file begins
-  pub replays : replay (start b) (labels lines) ≡ Some end.kernel
+  pub replays : replay (start b) (labels (joined groups)) ≡ Some end.kernel
   -- no message is received twice
-  pub received : (id : MsgId) → receptions id (labels lines) ≤ 1
+  pub received : (id : MsgId) → receptions id (labels (joined groups)) ≤ 1
   -- each message that the kernel holds stands exactly once among the printed queues, held lists, inboxes and streams; one that it
   -- doesn't hold stands nowhere, but a message of the machines' own kernels at most once
   pub stands : (id : MsgId) → StandsRight id (end.kernel.bag id) (standing end.view id)
-  -- group by group, the lines are those that the rule has for some directives
-  pub directives : List Step
-  pub leads : LeadsBy b (first_point b) directives lines end
+  -- directive by directive, the groups are those that the rule has, and no directive is left
+  pub left : Todo
+  pub run : IsRun b (first_point b) (all_of ds) groups end left
+  pub over : IsOver end left
 
--- such lines were written, and behind them those that say where everything stands
-pub record PrintsSoundly (b : Boot) (before after : Option (List ℕ)) : Type 0 where
-  pub lines : List Line
+-- such groups were written, and behind them those that say where everything stands
+pub record PrintsSoundly (b : Boot) (ds : List Directive) (before after : Option (List ℕ)) : Type 0 where
+  pub groups : List (List Line)
   pub end : Point
-  pub sound : IsSound b lines end
-  pub written : after ≡ appended before (text_of_lines lines ++ text_of_ends (end_lines end))
+  pub sound : IsSound b ds groups end
+  pub written : after ≡ appended before (text_of_lines (joined groups) ++ text_of_ends (end_lines end))
 
 -- the system of the boot file, for which the schedule's directives are, and a sound run of it
 pub record RunsSoundly (boot schedule : List ℕ) (o : Outside) : Type 0 where
   pub system : Boot
   pub directives : List Directive
   pub accepts : AcceptsFiles o.files boot schedule system directives
-  pub prints : PrintsSoundly system o.before o.after
+  pub prints : PrintsSoundly system directives o.before o.after
 
 abbrev pub RunsAreSound : Type 0
 RunsAreSound = (boot schedule : List ℕ) (o : Outside) → SaysRun (RunSays by_rule) boot schedule o Done → RunsSoundly boot schedule o

@@ -1,9 +1,9 @@
 //! What the commands promise together: the theorem on a run, and what the checker says of what the others write.
-ghost use Rattle.dm_program.specs.Laws.{DrillsCheck, RunsCheck, WornRunsCheck};
+ghost use Rattle.dm_program.specs.Laws.{DrillsCheck, DrillsMayStart, RunsCheck, TracesAreFor, WornRunsCheck};
 ghost use Rattle.dm_program.specs.Theorem.{RunsAreSound};
 
-/// Whatever the files say, a run that ends with status 0 wrote the text of lines whose labels are a run of one kernel without
-/// machines, where no message is received twice and each stands exactly once, and then that of where the run stands.
+/// Whatever the files say, a run that ends with status 0 wrote the text of groups of lines, one for each directive, whose labels are a run
+/// of one kernel without machines, where no message is received twice and each stands exactly once, and then that of where the run stands.
 pub fn runs_are_sound()
     ensures { RunsAreSound }
 {}
@@ -21,4 +21,14 @@ pub fn worn_runs_check()
 /// What `drill --trace` writes of its groups, without the summary, is good, open.
 pub fn drills_check()
     ensures { DrillsCheck }
+{}
+
+/// The system of a drill may start, and its directives are for its machines: so each law of good groups speaks of a drill's.
+pub fn drills_may_start()
+    ensures { DrillsMayStart }
+{}
+
+/// The directives that the heads of a good trace are, are for the machines of its boot file: so each law of good groups speaks of a trace's.
+pub fn traces_are_for()
+    ensures { TracesAreFor }
 {}

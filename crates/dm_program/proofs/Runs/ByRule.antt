@@ -2,15 +2,17 @@
 use Rattle.dm_program.proofs.Runs.Names.{◌≡◌, ℕ, true, List, [], length, drop, drop_all, refl, ap, ◌∙◌, sym, subst, inl, inr, arith, All, None, Some, Boot, IsValid, Step, Directive, EndLine, Line, Next, Todo, first_point, all_of, IsWorn, ends_settled, is_at_rest}
 use Rattle.dm_program.proofs.Runs.Names.{ends_at_rest, ends_quiet, Says, WornOut, todo_of, world_next_step, next_step, end_is_said, next_is_said, quiet_is_said, world_state, World, Stands, WorldState, IsFor, Carried, Carries, IsDone, WorldPlace, WorldWears}
 use Rattle.dm_program.proofs.Runs.Names.{by_world, EndsWell, IsGood, Lasts, RulePlace, RuleWears, WearsAfter}
+use Rattle.dm_settlelaws.proofs.Rests.EndsRested.{ends_rested_so}
+use Rattle.dm_settlelaws.proofs.Rests.EndsStill.{ends_still}
 use Rattle.dm_program.specs.Printed.{by_rule}
 use Rattle.dm_program.proofs.Runs.Decisions.{Wearing, ends_once}
 use Rattle.dm_program.proofs.Runs.Stands.{IsLed, goes_there, comes_there, is_led}
 
 -- which directive comes next, by the rule
-said : (b : Boot) (ds : List Directive) (p : WorldPlace) (gs : List (List Line)) → IsValid b → (h : IsLed b ds p.way gs p.state) → world_next_step (length b.machines) p.state h.left ≡ next_step h.end.kernel.machines h.end.view h.left
+said : (b : Boot) (ds : List Directive) (p : WorldPlace) (gs : List (List Line)) → IsValid b → (h : IsLed b ds p.way gs p.state) → world_next_step (length b.machines) p.state h.left ≡ next_step h.end.kernel.machines h.end h.left
 said b ds p gs valid h = next_is_said b h.stands.steps p.state h.end h.left valid h.stands.leads h.stands.stands h.stands.todo
 
-over : (b : Boot) (ds : List Directive) (p : WorldPlace) (gs : List (List Line)) → IsValid b → (h : IsLed b ds p.way gs p.state) → IsDone b ds p.state p.way → next_step h.end.kernel.machines h.end.view h.left ≡ None
+over : (b : Boot) (ds : List Directive) (p : WorldPlace) (gs : List (List Line)) → IsValid b → (h : IsLed b ds p.way gs p.state) → IsDone b ds p.state p.way → next_step h.end.kernel.machines h.end h.left ≡ None
 over b ds p gs valid h done =
     let n = length b.machines in
     sym (said b ds p gs valid h)
@@ -19,14 +21,20 @@ over b ds p gs valid h done =
     ∙ done.none []))
 
 -- a run that is over lasts: no other wears
-pub lasts : (b : Boot) (ds : List Directive) (gs : List (List Line)) (p : RulePlace) → IsGood b ds gs p.end p.left → next_step p.end.kernel.machines p.end.view p.left ≡ None → Lasts b ds
+pub lasts : (b : Boot) (ds : List Directive) (gs : List (List Line)) (p : RulePlace) → IsGood b ds gs p.end p.left → next_step p.end.kernel.machines p.end p.left ≡ None → Lasts b ds
 lasts b ds gs p good over groups from to w =
     ends_once b (first_point b) (all_of ds) gs groups p.end w.end p.left w.left from to good.run over w.good.run (record { next = w.next; next_is = w.next_is; worn = w.worn })
 
-rests : (b : Boot) (ds : List Directive) (p : WorldPlace) (gs : List (List Line)) → IsValid b → (h : IsLed b ds p.way gs p.state) → next_step h.end.kernel.machines h.end.view h.left ≡ None → EndsWell b ds (record { end = h.end; left = h.left })
+rests : (b : Boot) (ds : List Directive) (p : WorldPlace) (gs : List (List Line)) → IsValid b → (h : IsLed b ds p.way gs p.state) → next_step h.end.kernel.machines h.end h.left ≡ None → EndsWell b ds (record { end = h.end; left = h.left })
 rests b ds p gs valid h over = record {
   lasts = lasts b ds gs (record { end = h.end; left = h.left }) h.stands.good over;
-  rests = λ settled. ends_at_rest b h.stands.steps h.end valid h.stands.leads (ends_quiet b h.stands.steps ds gs h.end h.left valid h.stands.leads h.stands.good.run over settled);
+  rests = λ settled.
+      let quiet = ends_quiet b h.stands.steps ds gs h.end h.left valid h.stands.leads h.stands.good.run over settled in
+      record { quiet = quiet; lines = ends_at_rest b h.stands.steps h.end valid h.stands.leads quiet };
+  rested = λ last. elim (ends_rested_so b h.stands.steps ds gs h.end h.left valid h.stands.leads h.stands.good.run over last) [
+    | inl gone ↦ inl gone
+    | inr all ↦ inr (record { rest = all; lines = ends_still b h.stands.steps h.end valid h.stands.leads all })
+  ];
 }
 
 wears : (b : Boot) (ds : List Directive) (p : WorldPlace) (gs : List (List Line)) (from to : ℕ) → IsValid b → (h : IsLed b ds p.way gs p.state) → WorldWears b p from to → RuleWears b (record { end = h.end; left = h.left }) from to

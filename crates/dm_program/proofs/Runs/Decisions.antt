@@ -5,7 +5,7 @@ use Rattle.dm_program.proofs.Runs.Full.{group_over}
 -- a run stands before a directive that would be worn
 pub record Wearing (b : Boot) (end : Point) (left : Todo) (from to : ℕ) : Type 0 where
   pub next : Next
-  pub next_is : next_step end.kernel.machines end.view left ≡ Some next
+  pub next_is : next_step end.kernel.machines end left ≡ Some next
   pub worn : IsWorn b end next.step from to
 
 -- no run goes on from there
@@ -19,20 +19,20 @@ no_more b end fin left rest g more from to w (n, v, next, group, lines, kept, ot
     omega (arith, over, c)
 
 -- a run to where nothing is left to do and one to where it is worn
-over_not_worn : (b : Boot) (end fin : Point) (left rest : Todo) (more : List (List Line)) (from to : ℕ) → next_step end.kernel.machines end.view left ≡ None → Wearing b fin rest from to → IsRun b end left more fin rest → ⊥
+over_not_worn : (b : Boot) (end fin : Point) (left rest : Todo) (more : List (List Line)) (from to : ℕ) → next_step end.kernel.machines end left ≡ None → Wearing b fin rest from to → IsRun b end left more fin rest → ⊥
 over_not_worn b end fin left rest [] from to over w (at, same) =
-    let e : next_step end.kernel.machines end.view left ≡ Some w.next =
-    ap (λ (q : Point). next_step q.kernel.machines q.view left) at ∙ (ap (next_step fin.kernel.machines fin.view) same ∙ w.next_is) in
+    let e : next_step end.kernel.machines end left ≡ Some w.next =
+    ap (λ (q : Point). next_step q.kernel.machines q left) at ∙ (ap (next_step fin.kernel.machines fin) same ∙ w.next_is) in
     let bad : None ≡ Some w.next = sym over ∙ e in
     cc
 over_not_worn b end fin left rest (g ∷ more) from to over w (n, v, next, group, lines, kept, others) =
     let bad : None ≡ Some n = sym over ∙ next in
     cc
 
-worn_not_over : (b : Boot) (end fin : Point) (left rest : Todo) (more : List (List Line)) (from to : ℕ) → Wearing b end left from to → next_step fin.kernel.machines fin.view rest ≡ None → IsRun b end left more fin rest → ⊥
+worn_not_over : (b : Boot) (end fin : Point) (left rest : Todo) (more : List (List Line)) (from to : ℕ) → Wearing b end left from to → next_step fin.kernel.machines fin rest ≡ None → IsRun b end left more fin rest → ⊥
 worn_not_over b end fin left rest [] from to w over (at, same) =
-    let e : next_step fin.kernel.machines fin.view rest ≡ Some w.next =
-    ap (λ (q : Point). next_step q.kernel.machines q.view rest) (sym at) ∙ (ap (next_step end.kernel.machines end.view) (sym same) ∙ w.next_is) in
+    let e : next_step fin.kernel.machines fin rest ≡ Some w.next =
+    ap (λ (q : Point). next_step q.kernel.machines q rest) (sym at) ∙ (ap (next_step end.kernel.machines end) (sym same) ∙ w.next_is) in
     let bad : None ≡ Some w.next = sym over ∙ e in
     cc
 worn_not_over b end fin left rest (g ∷ more) from to w over run = no_more b end fin left rest g more from to w run
@@ -47,7 +47,7 @@ lesser (suc m) (suc n) = elim (lesser m n) [
 ]
 
 -- a run that came to its end isn't one that was worn
-pub ends_once : (b : Boot) (pt : Point) (t : Todo) (gs hs : List (List Line)) (end fin : Point) (left rest : Todo) (from to : ℕ) → IsRun b pt t gs end left → next_step end.kernel.machines end.view left ≡ None → IsRun b pt t hs fin rest → Wearing b fin rest from to → ⊥
+pub ends_once : (b : Boot) (pt : Point) (t : Todo) (gs hs : List (List Line)) (end fin : Point) (left rest : Todo) (from to : ℕ) → IsRun b pt t gs end left → next_step end.kernel.machines end left ≡ None → IsRun b pt t hs fin rest → Wearing b fin rest from to → ⊥
 ends_once b pt t gs hs end fin left rest from to r over s w = elim (lesser (length gs) (length hs)) [
   | inl h ↦ let k = shorter_begins b pt t gs hs end fin left rest r s h in over_not_worn b end fin left rest k.0 from to over w k.2
   | inr h ↦ let k = shorter_begins b pt t hs gs fin end rest left s r h in worn_not_over b fin end rest left k.0 from to w over k.2
@@ -56,8 +56,8 @@ ends_once b pt t gs hs end fin left rest from to r over s w = elim (lesser (leng
 -- and one that was worn was worn between these machines
 same_worn : (b : Boot) (end fin : Point) (left rest : Todo) (more : List (List Line)) (from to from' to' : ℕ) → Wearing b end left from to → Wearing b fin rest from' to' → IsRun b end left more fin rest → (from ≡ from') × (to ≡ to')
 same_worn b end fin left rest [] from to from' to' w v (at, same) =
-    let next : next_step fin.kernel.machines fin.view rest ≡ Some w.next =
-    ap (λ (q : Point). next_step q.kernel.machines q.view rest) (sym at) ∙ (ap (next_step end.kernel.machines end.view) (sym same) ∙ w.next_is) in
+    let next : next_step fin.kernel.machines fin rest ≡ Some w.next =
+    ap (λ (q : Point). next_step q.kernel.machines q rest) (sym at) ∙ (ap (next_step end.kernel.machines end) (sym same) ∙ w.next_is) in
     let n : w.next ≡ v.next = let e = v.next_is in cc in
     let due : group_of b fin v.next.step ≡ Some w.worn.group = ap (λ (q : Point). group_of b q v.next.step) (sym at) ∙ (ap (λ (x : Next). group_of b end x.step) (sym n) ∙ w.worn.due) in
     let g : w.worn.group ≡ v.worn.group = let e = v.worn.due in cc in

@@ -6,6 +6,7 @@ use Rattle.dm_program.proofs.Runs.Names.{WorldState, of_known}
 use Rattle.dm_records.specs.declared.record.Record.TheVariants.{Ended}
 use Rattle.dm_line.specs.declared.end_line.EndLine.TheVariants as end
 use Rattle.dm_line.specs.declared.end_line.Standing.TheVariants as standing
+use Rattle.dm_onekernel.specs.declared.label.Why.{Why}
 use Rattle.dm_world.specs.Ends as ends
 use Rattle.dm_program.proofs.Runs.Restarted.{SlotHides, TableHides, restarted_hides}
 
@@ -60,7 +61,7 @@ record_hides m p (Some (Here x)) h = alive_hides m p standing.Here x (lawful_hid
 record_hides m p (Some (Frozen leaving)) h = alive_hides m p standing.Leaving leaving.process (lawful_hides leaving.process.table (h (Frozen leaving) refl).process.links)
 record_hides m p (Some (Incoming arriving)) h = tt
 record_hides m p (Some (Forward machine moves)) h = tt
-record_hides m p (Some (Ended y)) h = and_hide _ [] tt none_hide
+record_hides m p (Some Ended) h = tt
 
 come_hides : (m : ℕ) (p : Pid) (o : Option Process) → ((x : Process) → o ≡ Some x → TableHides x.table) → SomeHide (ends.come_lines m p o)
 come_hides m p None h = tt
@@ -77,7 +78,7 @@ awaited_hides m p (Some (Here x)) = tt
 awaited_hides m p (Some (Frozen leaving)) = tt
 awaited_hides m p (Some (Incoming arriving)) = whole_hides m p arriving arriving.wanted
 awaited_hides m p (Some (Forward machine moves)) = tt
-awaited_hides m p (Some (Ended y)) = tt
+awaited_hides m p (Some Ended) = tt
 
 listed_hides : (f : List MsgId → EndLine) (ids : List MsgId) → ((is : List MsgId) → HidesNothing (f is)) → Hide (list_line f ids)
 listed_hides f [] h = none_hide
@@ -89,7 +90,7 @@ queue_hides p (Some (Here x)) = listed_hides (end.Queue p) (ends.names_of x.queu
 queue_hides p (Some (Frozen leaving)) = listed_hides (end.Queue p) (ends.names_of leaving.process.queue) (λ is. tt)
 queue_hides p (Some (Incoming arriving)) = tt
 queue_hides p (Some (Forward machine moves)) = tt
-queue_hides p (Some (Ended y)) = tt
+queue_hides p (Some Ended) = tt
 
 or_hides : (a b : Option (List EndLine)) → SomeHide a → SomeHide b → SomeHide (or a b)
 or_hides None b h k = k
@@ -139,13 +140,17 @@ stream_hides : (w : WorldState) (a c : ℕ) (same : Bool) → Hide (if same then
 stream_hides w a c true = none_hide
 stream_hides w a c false = listed_hides (end.Stream a c) (ends.names_of (ends.untaken w a c)) (λ is. tt)
 
+ended_hides : (machines : ℕ) (w : WorldState) (p : Pid) (o : Option Why) → Hide (ends.living_lines machines w p) → Hide (ends.lines_by machines w p o)
+ended_hides machines w p None h = h
+ended_hides machines w p (Some y) h = and_hide (end.Ended p y) [] tt none_hide
+
 -- the parts of the list at the end
 processes_hide : (machines : ℕ) (w : WorldState) → ((m : ℕ) → m < machines → IsLawfulState (w.nodes m).kernel) → Hide (ends.homes_with w (ends.process_lines machines w) machines)
 processes_hide machines w lawful =
-    homes_hide w (ends.process_lines machines w) machines (λ p. lines_hide (or (ends.first_had machines w p) (ends.first_awaited machines w p))
+    homes_hide w (ends.process_lines machines w) machines (λ p. ended_hides machines w p (w.ended p) (lines_hide (or (ends.first_had machines w p) (ends.first_awaited machines w p))
     (or_hides (ends.first_had machines w p) (ends.first_awaited machines w p)
     (first_hides (λ m. ends.record_lines m p ((w.nodes m).kernel.records p)) machines (λ m l. record_hides m p ((w.nodes m).kernel.records p) (λ k is. of_known (w.nodes m).kernel p (Some k) (lawful m l) is)))
-    (first_hides (λ m. ends.awaited_lines m p ((w.nodes m).kernel.records p)) machines (λ m l. awaited_hides m p ((w.nodes m).kernel.records p)))))
+    (first_hides (λ m. ends.awaited_lines m p ((w.nodes m).kernel.records p)) machines (λ m l. awaited_hides m p ((w.nodes m).kernel.records p))))))
 
 queues_hide : (machines : ℕ) (w : WorldState) → Hide (ends.homes_with w (ends.queue_of machines w) machines)
 queues_hide machines w =

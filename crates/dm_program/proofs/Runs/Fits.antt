@@ -24,6 +24,7 @@ directive_fits n (directive.One e) h = step_fits n e h
 directive_fits n directive.Round h = tt
 directive_fits n (directive.Spin k) h = tt
 directive_fits n directive.Settle h = tt
+directive_fits n (directive.Rest k) h = tt
 
 pub directives_fit : (n : ℕ) (ds : List Directive) → All (IsFor n) ds → All (IsDirective n) ds
 directives_fit n [] h = All-nil (IsDirective n)

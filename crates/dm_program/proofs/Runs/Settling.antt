@@ -1,16 +1,18 @@
--- Each group of a directive leaves less of it: so a directive ends, a settle too.
+-- Each group of a directive leaves less of it: so a directive ends, a settle and a rest too.
 use Rattle.dm_program.proofs.Runs.Names.{◌≡◌, ◌≤◌, ◌<◌, ℕ, zero, suc, ◌+◌, ◌*◌, ◌^◌, nat_le, true, List, [], ◌∷◌, ◌++◌, length, refl, ap, ◌∙◌, sym, subst, inl, inr, arith, nat_tests, Option, Some, Boot, IsValid, Step, Directive, Line, Round, Settle}
 use Rattle.dm_program.proofs.Runs.Names.{sum_below, Next, Todo, all_of, IsKept, IsStep, Leads, Spelled, Point, first_point, group_of, View, stands_once_always, turns_left, IsSettleStep, turns_in, turns_left_few, turns_fall, Cursor, One, Passing}
 use Rattle.dm_program.proofs.Runs.Names.{Place, Packets, Turns, End, Falls, IsSettling, SettleGoes, left, room, room_of, todo_of, turns_at, turns_of, world_has_mail, world_is_quiet, world_next_step, world_undelivered, WorldState, Said, Says}
 use Rattle.dm_program.proofs.Runs.Names.{world_step, Stands, machines_stay, next_fits, undelivered_said, mail_is_said, IsFor, cursor_of}
 use Rattle.dm_schedule.specs.declared.Step.TheVariants as step
 use Rattle.dm_schedule.specs.declared.Directive.TheVariants as directive
+use Rattle.dm_line.specs.declared.pass.Pass.TheVariants.{Rest}
 use Rattle.dm_settlelaws.specs.Left as settle
 
 -- what a settle leaves to turns, by what was printed; of another directive it is never looked at
 abbrev pub turns_ahead : Boot → Cursor → View → ℕ
 turns_ahead b (One e) v = 2 ^ 89
 turns_ahead b (Passing (Round k) place) v = 2 ^ 89
+turns_ahead b (Passing (Rest k) place) v = 2 ^ 89
 turns_ahead b (Passing Settle place) v = turns_left (settle.left b.numbers (length b.machines) v)
 
 -- how much is left of a directive
@@ -40,6 +42,7 @@ turns_most : (n : ℕ) (d : Directive) → n ≤ 16 → IsFor n d → turns_of n
 turns_most n (directive.One e) h k = omega arith
 turns_most n directive.Round h k = let m = times_most n 1 h in omega (arith, m)
 turns_most n (directive.Spin r) h k = let m = spins_most n r h k.1 in omega (arith, m)
+turns_most n (directive.Rest r) h k = let m = spins_most n r h k.1 in omega (arith, m)
 turns_most n directive.Settle h k = omega arith
 
 few_machines : (b : Boot) → IsValid b → length b.machines ≤ 16
@@ -60,6 +63,7 @@ settle_most b es pt w valid leads stands =
 turns_few : (b : Boot) (c : Cursor) (es : List Step) (pt : Point) (w : WorldState) → IsValid b → Leads b (first_point b) es pt → Stands b w pt → turns_ahead b c pt.view ≤ 2 ^ 89
 turns_few b (One e) es pt w valid leads stands = omega arith
 turns_few b (Passing (Round k) place) es pt w valid leads stands = omega arith
+turns_few b (Passing (Rest k) place) es pt w valid leads stands = omega arith
 turns_few b (Passing Settle place) es pt w valid leads stands = let h = settle_most b es pt w valid leads stands in omega (arith, h)
 
 -- before the first group of a directive
@@ -91,6 +95,7 @@ settle_fewer b w c next (step.CallOff p m) s x y goes happens h = absurd goes
 settling_ahead : (b : Boot) (c : Cursor) (v : View) → IsSettling c → turns_ahead b c v ≡ turns_left (settle.left b.numbers (length b.machines) v)
 settling_ahead b (One e) v h = absurd h
 settling_ahead b (Passing (Round k) place) v h = absurd h
+settling_ahead b (Passing (Rest k) place) v h = absurd h
 settling_ahead b (Passing Settle place) v h = refl
 
 -- the group is the rule's, and the world stands behind it
@@ -117,7 +122,7 @@ turns_behind b es pt next w u e s valid d is =
     subst (λ (q : Point). turns_left (settle.left b.numbers (length b.machines) q.view) + turns_in e ≤ turns_left (settle.left b.numbers (length b.machines) pt.view)) d.point
     (subst (λ (n : ℕ). turns_left (settle.left b.numbers n d.group.point.view) + turns_in e ≤ turns_left (settle.left b.numbers n pt.view)) machines fall)
 
--- of a round or an elementary directive the steps alone are counted
+-- of a round, a rest or an elementary directive the steps alone are counted
 other_falls : (b : Boot) (es : List Step) (pt next : Point) (w u : WorldState) (c after : Cursor) (e : Step) (s : Said) → IsValid b → IsGroup b es pt next w u e s → left (length b.machines) s.state after < left (length b.machines) w c
     → turns_ahead b c pt.view ≡ 2 ^ 89 → ahead b u after next.view < ahead b w c pt.view
 other_falls b es pt next w u c after e s valid d fewer all =
@@ -128,6 +133,7 @@ other_falls b es pt next w u c after e s valid d fewer all =
 pub falls_ahead : (b : Boot) (es : List Step) (pt next : Point) (w u : WorldState) (c after : Cursor) (e : Step) (s : Said) → IsValid b → IsGroup b es pt next w u e s → Falls (length b.machines) w c e after → ahead b u after next.view < ahead b w c pt.view
 falls_ahead b es pt next w u (One f) after e s valid d falls = other_falls b es pt next w u (One f) after e s valid d (falls b s d.happens) refl
 falls_ahead b es pt next w u (Passing (Round k) place) after e s valid d falls = other_falls b es pt next w u (Passing (Round k) place) after e s valid d (falls b s d.happens) refl
+falls_ahead b es pt next w u (Passing (Rest k) place) after e s valid d falls = other_falls b es pt next w u (Passing (Rest k) place) after e s valid d (falls b s d.happens) refl
 falls_ahead b es pt next w u (Passing Settle place) after e s valid d (settling, goes) =
     let is = step_said b es pt w (Passing Settle place) after e valid d.leads d.stands goes in
     let turns = turns_behind b es pt next w u e s valid d is in

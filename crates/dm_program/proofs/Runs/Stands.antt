@@ -2,6 +2,7 @@
 use Rattle.dm_program.proofs.Runs.Names.{◌≡◌, ◌≤◌, ◌<◌, ℕ, ◌+◌, ◌*◌, ◌^◌, List, [], ◌∷◌, ◌++◌, length, drop, get_or, slice_get, add-one, drop-cons, refl, ap, ◌∙◌, sym, subst, ◌⊎◌, inl, inr, arith, All, All-get_or, get_or_from_slice_get, slice_get_within, None, Some}
 use Rattle.dm_program.proofs.Runs.Names.{Boot, IsValid, Step, Directive, Line, Next, Todo, all_of, IsStep, Point, first_point, Cursor, todo_of, world_has_mail, world_is_quiet, world_next_step, world_undelivered, WorldState, Said, Says, WornOut, world_step}
 use Rattle.dm_program.proofs.Runs.Names.{GoesOn, RunGoes, RunStands, next_fits, run_begins, run_goes_on, counts, IsFor, cursor_of, ComesNext, Does, Led, NoneLeft, starts, turns, does, first_way, Way}
+use Rattle.dm_world.specs.Next.{world_seen}
 use Rattle.dm_program.proofs.Runs.Begun.{begun_next}
 use Rattle.dm_program.proofs.Runs.Fits.{directives_fit}
 use Rattle.dm_program.proofs.Runs.Settling.{IsGroup, ahead, falls_ahead, few_ahead}
@@ -46,7 +47,7 @@ turned b ds way gs w d valid each h none is =
       follows = h.follows
           ∙ (none (drop way.begun ds)
           ∙ (ap (λ (rest : List Directive). world_next_step n w (all_of rest)) (cut ds way.begun d is)
-          ∙ begun_next n (world_undelivered w) (world_has_mail w) (world_is_quiet n w) d (drop (way.begun + 1) ds)));
+          ∙ begun_next n (world_seen n w) d (drop (way.begun + 1) ds)));
       few = inr (omega (arith, few, more));
     }
 
@@ -63,7 +64,7 @@ goes_there b ds way gs w e after valid h comes =
 pub fits_next : (b : Boot) (ds : List Directive) (way : Way) (gs : List (List Line)) (w : WorldState) (e : Step) (after : Cursor) → (h : IsLed b ds way gs w) → ComesNext (length b.machines) w way.cursor e after → IsStep (length b.machines) e
 fits_next b ds way gs w e after h comes =
     let n = length b.machines in
-    (next_fits n (world_undelivered w) (world_has_mail w) (world_is_quiet n w) h.left (record { step = e; left = todo_of n after (drop way.begun ds) }) h.stands.todo (comes_there b ds way gs w e after h comes)).step
+    (next_fits n (world_seen n w) h.left (record { step = e; left = todo_of n after (drop way.begun ds) }) h.stands.todo (comes_there b ds way gs w e after h comes)).step
 
 -- nothing comes next before a directive is begun
 none_first : (b : Boot) (w : WorldState) (e : Step) (c after : Cursor) → c ≡ first_way.cursor → ComesNext (length b.machines) w c e after → ⊥
