@@ -253,7 +253,7 @@ class System(Drawing):
                     if self.one_in(3):
                         lines += self.pick([["round"], ["round", "round"], [f"spin {self.between(1, 4)}"], []])
                         lines.append(f"calloff {pid} {machine}")
-                    spins = f"spin {self.between(1, 20)}"
+                    spins = f"{self.pick(['spin', 'spin', 'rest'])} {self.between(1, 20)}"
                     lines += self.pick([["settle"], ["round"], [spins], ["settle", spins], []])
             elif d in (10, 11):
                 lines.append("round")
@@ -262,11 +262,11 @@ class System(Drawing):
             elif d == 13:
                 lines.append(f"spin {self.between(10, 60)}")
             elif d == 14:
-                lines.append("settle")
+                lines.append(self.pick(["settle", f"rest {self.between(1, 60)}"]))
             elif self.one_in(4):
                 lines.append(self.pick(["", "# nothing", " \t round\t", f"turn 00{self.between(0, most)}", f"migrate 0.{self.below(3)} 0"]))
         if self.one_in(2):
-            lines.append("settle")
+            lines.append(self.pick(["settle", f"rest {self.pick([1, 30, 300])}"]))
         return "\n".join(lines).encode() + b"\n" * self.below(2)
 
     def spoiled(self, data):
@@ -379,12 +379,12 @@ class Files(Drawing):
 
     def directive(self):
         """A line of a schedule, with its line feed."""
-        word = self.pick(["turn", "tick", "deliver", "migrate", "calloff", "round", "spin", "settle"])
+        word = self.pick(["turn", "tick", "deliver", "migrate", "calloff", "round", "spin", "settle", "rest"])
         a = self.below(self.machines)
         pid = f"{a}.{self.below(6)}"
         operands = {"deliver": [a, (a + 1) % self.machines, self.pick([0, 1, 2**32 - 1])], "turn": [a], "tick": [a]}
         operands.update(dict.fromkeys(["migrate", "calloff"], [pid, a]))
-        words = [str(operand) for operand in operands.get(word, [self.between(1, 3)] if word == "spin" else [])]
+        words = [str(operand) for operand in operands.get(word, [self.between(1, 3)] if word in ("spin", "rest") else [])]
         change = self.below(16) if self.odd == "schedule" else None
         if change == 0 and words:
             words[self.below(len(words))] = self.pick(self.ODD_NUMBERS)

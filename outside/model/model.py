@@ -4,6 +4,7 @@
     python3 outside/model/model.py run --boot FILE --schedule FILE
     python3 outside/model/model.py check --boot FILE --trace FILE
     python3 outside/model/model.py drill --seed N --machines M --lines L [--trace]
+    python3 outside/model/model.py count --boot FILE --schedule FILE
 
 writes what the program writes, and ends with its status and its line on standard error. It was written from the rules
 alone (README.md beside this file says how, and what it was compared with)."""
@@ -160,9 +161,9 @@ def do_look(words, write):
     write(look(world, directives, most, last))
 
 
-COMMANDS = {"run": do_run, "check": do_check, "drill": do_drill}
+COMMANDS = {"run": do_run, "check": do_check, "drill": do_drill, "count": do_count}
 if standing.COMMANDS:
-    COMMANDS |= {"count": do_count, "look": do_look, "explain": do_explain}
+    COMMANDS |= {"look": do_look, "explain": do_explain}
 
 
 def run(words, write):

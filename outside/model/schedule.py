@@ -7,10 +7,8 @@ from values import Pid
 
 NUMBER = re.compile(rb"[0-9]{1,10}")
 MOST = 2**32 - 1
-# What the operands of each word are: m machine, k number of a packet, n number of rounds, p process.
-FORMS = {"turn": "m", "tick": "m", "deliver": "mmk", "migrate": "pm", "calloff": "pm", "round": "", "spin": "n", "settle": ""}
-if standing.REST:
-    FORMS["rest"] = "n"
+# What the operands of each word are: m machine, k number of a packet, n number of rounds or passes, p process.
+FORMS = {"turn": "m", "tick": "m", "deliver": "mmk", "migrate": "pm", "calloff": "pm", "round": "", "spin": "n", "settle": "", "rest": "n"}
 
 
 class Refused(Exception):

@@ -6,11 +6,10 @@ it nothing does, and the model refuses its words."""
 
 import os
 
-COMING = ("rest", "bury", "servers", "commands")
+COMING = ("bury", "servers", "commands")
 WITH = [word for word in os.environ.get("MODEL_WITH", "").split(",") if word]
 assert all(word in COMING for word in WITH), f"MODEL_WITH names {WITH}; there is {COMING}"
 
-REST = "rest" in WITH  # the directive `rest N`
 BURYING = "bury" in WITH  # forwarding addresses are removed behind a process that has ended
 SERVERS_MOVE = "servers" in WITH  # the switchboard and the process manager move
-COMMANDS = "commands" in WITH  # count, look, a drill of one's own system, a trace's fault in words, labels alone
+COMMANDS = "commands" in WITH  # look, a drill of one's own system, a trace's fault in words, labels alone
