@@ -34,7 +34,7 @@ pub data Shape : Type 0 where
   Came : ℕ → ℕ → ℕ → ℕ → Shape
   Early : ℕ → ℕ → ℕ → ℕ → Shape
   Again : ℕ → ℕ → ℕ → ℕ → Shape
-  -- a packet between two machines, from a row on, that never came
+  -- a packet between two machines, from a row on, that comes at no row behind
   Lost : ℕ → ℕ → ℕ → Shape
   -- what is written of a line, behind some others, beside a machine, at a row
   Beside : ℕ → ℕ → List Line → Line → Shape

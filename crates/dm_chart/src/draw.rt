@@ -340,7 +340,7 @@ pub fn put_marked_packet(
     put_mark(into, name, on_axis(frame, to, last))
 }
 
-/// Draws a packet that never came.
+/// Draws a packet that comes at no row behind.
 pub fn put_lost(
     into: &mut Vec<u8>,
     frame: &Frame,
