@@ -1,6 +1,6 @@
 -- What is known of the process that an event is about.
 use Rattle.dm_kernel.proofs.Names.{◌≡◌, ◌∙◌, Bool, true, false, if◌then◌else◌, refl, ap, sym, subst, Some, None, IsSome, rules, Option, IfSome, Pid, pid_eq, pid_eq_same, pid_eq_self, is_runnable, IsServiceOf, Service, Process, HasTaken}
-use Rattle.dm_kernel.proofs.Names.{Taken, Here, Frozen, Incoming, Forward, Ended, here_of, with_record, bind, KernelState, KernelKnown, Turned, blocks_of, with_here, MayAct, IsHere, Serves, known_is_runnable}
+use Rattle.dm_kernel.proofs.Names.{Taken, Here, Frozen, Incoming, Forward, here_of, with_record, bind, KernelState, KernelKnown, Turned, blocks_of, with_here, MayAct, IsHere, Serves, known_is_runnable}
 
 -- what holds of it
 pub is_here : (P : Process → Type 0) (o : Option KernelKnown) (x : Process) → here_of o ≡ Some x → IsHere P o → P x
@@ -9,7 +9,6 @@ is_here P (Some (Here y)) x e h = let same : y ≡ x = cc in subst P same h
 is_here P (Some (Frozen leaving)) x e h = absurd h
 is_here P (Some (Incoming arriving)) x e h = absurd h
 is_here P (Some (Forward machine moves)) x e h = absurd h
-is_here P (Some Ended) x e h = absurd h
 
 -- what follows for the process that is here
 pub here_as : (P Q : Process → Type 0) (o : Option KernelKnown) → ((x : Process) → P x → Q x) → IsHere P o → IsHere Q o
@@ -18,7 +17,6 @@ here_as P Q (Some (Here x)) go h = go x h
 here_as P Q (Some (Frozen leaving)) go h = absurd h
 here_as P Q (Some (Incoming arriving)) go h = absurd h
 here_as P Q (Some (Forward machine moves)) go h = absurd h
-here_as P Q (Some Ended) go h = absurd h
 
 pub is_here_as : (P : Process → Type 0) (o : Option KernelKnown) (x : Process) → here_of o ≡ Some x → P x → IsHere P o
 is_here_as P None x e h = absurd (cc)
@@ -26,7 +24,6 @@ is_here_as P (Some (Here y)) x e h = let same : x ≡ y = cc in subst P same h
 is_here_as P (Some (Frozen leaving)) x e h = absurd (cc)
 is_here_as P (Some (Incoming arriving)) x e h = absurd (cc)
 is_here_as P (Some (Forward machine moves)) x e h = absurd (cc)
-is_here_as P (Some Ended) x e h = absurd (cc)
 
 -- whether it can be served goes by the process that is here
 pub here_runs : (o : Option KernelKnown) (x : Process) → here_of o ≡ Some x → known_is_runnable o ≡ is_runnable x
@@ -35,7 +32,6 @@ here_runs (Some (Here y)) x e = let same : y ≡ x = cc in ap is_runnable same
 here_runs (Some (Frozen leaving)) x e = absurd (cc)
 here_runs (Some (Incoming arriving)) x e = absurd (cc)
 here_runs (Some (Forward machine moves)) x e = absurd (cc)
-here_runs (Some Ended) x e = absurd (cc)
 
 pub none_runs : (o : Option KernelKnown) → here_of o ≡ None → known_is_runnable o ≡ false
 none_runs None e = refl
@@ -43,7 +39,6 @@ none_runs (Some (Here y)) e = absurd (cc)
 none_runs (Some (Frozen leaving)) e = refl
 none_runs (Some (Incoming arriving)) e = refl
 none_runs (Some (Forward machine moves)) e = refl
-none_runs (Some Ended) e = refl
 
 -- a process that is set as it is there changes nothing
 is_known : (o : Option KernelKnown) (x : Process) → here_of o ≡ Some x → Some (Here x) ≡ o
@@ -52,7 +47,6 @@ is_known (Some (Here y)) x e = let same : y ≡ x = cc in ap (λ (x : Process). 
 is_known (Some (Frozen leaving)) x e = absurd (cc)
 is_known (Some (Incoming arriving)) x e = absurd (cc)
 is_known (Some (Forward machine moves)) x e = absurd (cc)
-is_known (Some Ended) x e = absurd (cc)
 
 set_or_not : (same : Bool) (k o : Option KernelKnown) → (same ≡ true → k ≡ o) → (if same then k else o) ≡ o
 set_or_not true k o e = e refl
@@ -80,7 +74,6 @@ can_serve s t p service (Some (Here x)) room may h = record { acts = acts_still 
 can_serve s t p service (Some (Frozen leaving)) room may h = absurd h
 can_serve s t p service (Some (Incoming arriving)) room may h = absurd h
 can_serve s t p service (Some (Forward machine moves)) room may h = absurd h
-can_serve s t p service (Some Ended) room may h = absurd h
 
 -- a state with the same records
 pub same_state : (s : KernelState) (records : Pid → Option KernelKnown) → ((q : Pid) → records q ≡ s.records q) → record s { records = records } ≡ s

@@ -7,7 +7,7 @@ use Rattle.dm_kernel.proofs.Names.{slots_of, MoveError, moves_child, moves_lawfu
 use Rattle.dm_kernel.proofs.Names.{took_piece, freezes, gives_piece, holds_leaving, leaves, migrates, stays, board_follows, forwards, forwards_and, manager_follows, process_follows, AreLawful, IsLawfulArrival, IsLawfulDeparture}
 use Rattle.dm_kernel.proofs.Names.{IsLawfulPair, IsLawfulPart, IsLawfulState, MayRestart, KernelState, own, own_id, Outcome, asker_of, moved_answer, asked_to_move, freezing, tells_asker, with_frozen, IsLawfulAsker, with_sent, state_of}
 use Rattle.dm_kernel.proofs.Names.{incoming_of, all_sent_back, comes_from, is_whole, calling_off, calls_arriving_off, calls_off, hears_piece, is_not_called, says_stale, turns_back, without_arriving, IsLawfulKnown, IsLawfulTurned}
-use Rattle.dm_kernel.proofs.Names.{KernelKnown, Ended}
+use Rattle.dm_kernel.proofs.Names.{KernelKnown}
 use Rattle.dm_message.specs.declared.What.TheVariants as what
 use Rattle.dm_message.specs.declared.Outcome.TheVariants as ends
 use Rattle.dm_procman.specs.declared.moving.MoveError.TheVariants as no
@@ -313,7 +313,6 @@ arriving_known (Some (Here x)) h = tt
 arriving_known (Some (Frozen d)) h = tt
 arriving_known (Some (Incoming a)) h = h
 arriving_known (Some (Forward place moves)) h = tt
-arriving_known (Some Ended) h = tt
 
 pub called_off_lawfully : (s : KernelState) (p : Pid) → s.here < 16 → IsLawfulState s → Lawfully (calls_off s p)
 called_off_lawfully s p here h = arriving_called_off s p (incoming_of (s.records p)) here h (arriving_known (s.records p) (h.records p))

@@ -1,7 +1,7 @@
 -- A machine as the boot file has it may take a turn, and is lawful.
 use Rattle.dm_kernel.proofs.Names.{◌≡◌, ◌∙◌, ℕ, ◌+◌, ◌*◌, ◌/◌, ◌<◌, ◌≤◌, Bool, true, false, ◌==◌, if◌then◌else◌, List, [], ◌∷◌, ◌++◌, length, Some, None, slice_get, refl, ap, sym, subst, arith, ⊤, ◌&&◌, ◌||◌, nat_le, not, All, IfSome}
 use Rattle.dm_kernel.proofs.Names.{common_steps, All-cons, All-nil, and_parts, nat_tests, Option, Ok, Link, Pid, IsLawfulEnclosed, pid_eq, pid_eq_same, IsLawfulMessage, Process, IsLawfulProcess, HasTaken, Taken, with_reserved, Here, Frozen}
-use Rattle.dm_kernel.proofs.Names.{Incoming, Forward, Ended, Boot, BootImage, BootMachine, BootProcess, IsValid, blocks_at, blocks_of_image, controls_child, image_is_valid, images_are_valid, leads_somewhere, leads_to_process}
+use Rattle.dm_kernel.proofs.Names.{Incoming, Forward, Boot, BootImage, BootMachine, BootProcess, IsValid, blocks_at, blocks_of_image, controls_child, image_is_valid, images_are_valid, leads_somewhere, leads_to_process}
 use Rattle.dm_kernel.proofs.Names.{leads_to_server, link_is_valid, links_are_valid, machine_is_valid, manager, memory_size, process_is_valid, process_named, processes_are_valid, slots_of, starting_at, switchboard, memory_of, started_lawful}
 use Rattle.dm_kernel.proofs.Names.{starting, IsLawfulNamed, begins_process, child_of, empty, opened, room_of, with_all, with_child, IsLawfulKnown, IsLawfulPair, IsLawfulRoom, IsLawfulState, FrontMay, MayTurn, KernelState, KernelKnown}
 use Rattle.dm_kernel.proofs.Names.{blocks_of}
@@ -208,7 +208,6 @@ NoneMoves (Some (Here x)) = ⊤
 NoneMoves (Some (Frozen leaving)) = ⊥
 NoneMoves (Some (Incoming arriving)) = ⊥
 NoneMoves (Some (Forward machine moves)) = ⊥
-NoneMoves (Some Ended) = ⊥
 
 record Opens (s : KernelState) : Type 0 where
   known : (p : Pid) → NoneMoves (s.records p)
@@ -254,7 +253,6 @@ known_lawful (Some (Here x)) h k = k x refl
 known_lawful (Some (Frozen leaving)) h k = absurd h
 known_lawful (Some (Incoming arriving)) h k = absurd h
 known_lawful (Some (Forward machine moves)) h k = absurd h
-known_lawful (Some Ended) h k = absurd h
 
 -- a machine that opens may take a turn
 pub opened_may : (b : Boot) (m : ℕ) → IsValid b → m < length b.machines → MayTurn b (opened b m)

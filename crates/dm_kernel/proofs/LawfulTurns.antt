@@ -1,7 +1,7 @@
 -- What a turn gives is lawful.
 use Rattle.dm_kernel.proofs.Names.{◌≡◌, ◌∙◌, ℕ, suc, ◌<◌, ◌≤◌, Bool, true, false, ◌==◌, if◌then◌else◌, List, [], ◌∷◌, length, map, remove, slice_get, Some, None, refl, sym, subst, ap, arith, All, IfSome, common_steps, All-tail, Option, Ok}
 use Rattle.dm_kernel.proofs.Names.{Addr, Link, Pid, IsLawfulEnclosed, IsMachine, pid_eq, plain_link, Message, What, IsLawfulMessage, IsLawfulWhat, IsServer, Process, Status, IsLawfulProcess, first_on, is_on, without_first_on, Here, Frozen}
-use Rattle.dm_kernel.proofs.Names.{Incoming, Forward, Ended, frozen_of, incoming_of, Arrival, Departure, HasChunk, block_of, chunk_of, bind, Landed, Landing, IsAwaited, IsLawfulLanded, landing, IsWithin, after_serving, gone_answer}
+use Rattle.dm_kernel.proofs.Names.{Incoming, Forward, frozen_of, incoming_of, Arrival, Departure, HasChunk, block_of, chunk_of, bind, Landed, Landing, IsAwaited, IsLawfulLanded, landing, IsWithin, after_serving, gone_answer}
 use Rattle.dm_kernel.proofs.Names.{serving_answer, IsLawfulLanding, lands_lawfully, answers_lawfully, serves_lawfully, Boot, BootImage, Reply, Why, image_is_valid, images_are_valid, manager, slots_of, switchboard, plain_process}
 use Rattle.dm_kernel.proofs.Names.{receive_refusals, first_failed, heard, manager_after, message_after, moved_back, answer_after, board_after, Called, calls, Completion, completes, completes_unless, completion, refusal, IsLawfulCalled}
 use Rattle.dm_kernel.proofs.Names.{completes_lawfully, IsLawfulDone, call_lawfully, Servers, Halt, asks_move, child_of, restarts, gives_piece, leaves, stays, answers_with, board_handles, board_took, ended_handles, handles, here_handles}
@@ -25,6 +25,8 @@ use Rattle.dm_kernel.proofs.Serving.{first_is_on, has_run, runs_lawfully}
 use Rattle.dm_kernel.proofs.LawfulMoves.{asked_lawfully, asks_lawfully, asks_move_lawfully, board_follows_lawfully, chunk_lawfully, forwards_lawfully, gives_lawfully}
 use Rattle.dm_kernel.proofs.LawfulMoves.{holds_arriving_lawfully, holds_leaving_lawfully, leaves_lawfully, manager_follows_lawfully, migrates_lawfully, process_follows_lawfully, restarts_lawfully, stays_lawfully, arriving_known}
 use Rattle.dm_kernel.proofs.LawfulMoves.{called_off_lawfully, hears_lawfully}
+use Rattle.dm_kernel.specs.May.{FitsUnknown}
+use Rattle.dm_kernel.specs.Handle.{unknown_handles}
 use Rattle.dm_kernel.proofs.LawfulRows.{Lawfully, all_dropped, answer_lawfully, child_lawfully, enough, if_lawfully, none_said, of_known, routed, routes_lawfully, said, with_one_more, with_process, with_queued, with_stopped, without}
 
 -- a process that executes
@@ -118,7 +120,6 @@ serves_known quantum s p (Some (Here x)) machine h e = status_lawfully quantum s
 serves_known quantum s p (Some (Frozen leaving)) machine h e = tt
 serves_known quantum s p (Some (Incoming arriving)) machine h e = tt
 serves_known quantum s p (Some (Forward place moves)) machine h e = tt
-serves_known quantum s p (Some Ended) machine h e = tt
 
 -- a message for a process
 answers_with_lawfully : (s : KernelState) (m : Message) (x : Process) (o : Option Message) → s.here < 16 → IsLawfulState s → IsLawfulMessage m → IsLawfulProcess x → IsWithin (length x.memory) m.what
@@ -208,7 +209,6 @@ each_leaving (Some (Here x)) go h k = tt
 each_leaving (Some (Frozen d)) go h k = k d refl h
 each_leaving (Some (Incoming a)) go h k = tt
 each_leaving (Some (Forward place moves)) go h k = tt
-each_leaving (Some Ended) go h k = tt
 
 each_arriving : (o : Option KernelKnown) (go : Arrival → Option Turned) → IfSome o IsLawfulKnown → ((a : Arrival) → incoming_of o ≡ Some a → IsLawfulArrival a → Lawfully (go a)) → Lawfully (bind (incoming_of o) go)
 each_arriving None go h k = tt
@@ -216,7 +216,6 @@ each_arriving (Some (Here x)) go h k = tt
 each_arriving (Some (Frozen d)) go h k = tt
 each_arriving (Some (Incoming a)) go h k = k a refl h
 each_arriving (Some (Forward place moves)) go h k = tt
-each_arriving (Some Ended) go h k = tt
 
 such : {X : Type 0} (P : X → Type 0) (o : Option X) (x : X) → o ≡ Some x → IsSuch P o → P x
 such P None x e h = absurd h
@@ -307,11 +306,12 @@ manager_lawfully : (s : KernelState) (m : Message) (o : Option Servers) → s.he
 manager_lawfully s m None machine h pair message fits = tt
 manager_lawfully s m (Some v) machine h pair message fits = manager_told_lawfully s m v m.what machine h pair message message.what fits refl
 
-server_lawfully : (s : KernelState) (m : Message) → s.here < 16 → IsLawfulState s → IsLawfulMessage m → FitsServer s m → Lawfully (server_handles s m)
+server_lawfully : (s : KernelState) (m : Message) → s.here < 16 → IsLawfulState s → IsLawfulMessage m → FitsUnknown s m → Lawfully (unknown_handles s m)
 server_lawfully s m machine h message fits =
-    if_lawfully (pid_eq m.to.pid switchboard) (board_handles s m s.servers) (if pid_eq m.to.pid manager then manager_handles s m s.servers else None)
+    if_lawfully (pid_eq m.to.pid switchboard) (board_handles s m s.servers) (if pid_eq m.to.pid manager then manager_handles s m s.servers else ended_handles s m m.what)
     (λ is. board_lawfully s m s.servers machine h h.servers message)
-    (λ off. if_lawfully (pid_eq m.to.pid manager) (manager_handles s m s.servers) None (λ is. manager_lawfully s m s.servers machine h h.servers message (fits.manager is)) (λ none. tt))
+    (λ off. if_lawfully (pid_eq m.to.pid manager) (manager_handles s m s.servers) (ended_handles s m m.what) (λ is. manager_lawfully s m s.servers machine h h.servers message (fits.manager is))
+    (λ none. ended_lawfully s m m.what machine h message (fits.ended (ap (λ (c : Bool). c || pid_eq m.to.pid manager) off ∙ none))))
 
 known_lawfully : (s : KernelState) (m : Message) (o : Option KernelKnown) → s.here < 16 → IsLawfulState s → IsLawfulMessage m → ((x : Process) → o ≡ Some (Here x) → ¬ IsServer x.pid) → FitsKnown s m o
     → s.records m.to.pid ≡ o → Lawfully (process_handles s m o)
@@ -320,7 +320,6 @@ known_lawfully s m (Some (Here x)) machine h message none fits e = here_lawfully
 known_lawfully s m (Some (Frozen d)) machine h message none fits e = holds_leaving_lawfully s m d h (of_known s m.to.pid (Some (Frozen d)) h e) message
 known_lawfully s m (Some (Incoming a)) machine h message none fits e = holds_arriving_lawfully s m a h (of_known s m.to.pid (Some (Incoming a)) h e) message
 known_lawfully s m (Some (Forward place moves)) machine h message none fits e = forwards_lawfully s m place moves machine (of_known s m.to.pid (Some (Forward place moves)) h e) h message
-known_lawfully s m (Some Ended) machine h message none fits e = ended_lawfully s m m.what machine h message fits
 
 -- each process that is here bears its name
 abbrev AreNamed : KernelState → Type 0
@@ -362,7 +361,6 @@ known_still s m rest (Some (Here x)) h = here_still s m x rest m.what h
 known_still s m rest (Some (Frozen d)) h = h
 known_still s m rest (Some (Incoming a)) h = h
 known_still s m rest (Some (Forward place moves)) h = h
-known_still s m rest (Some Ended) h = h
 
 may_front : (b : Boot) (s : KernelState) (m : Message) (rest : List Message) → MayHandle b s m → MayHandle b (record (before_turn s) { inbox = rest }) m
 may_front b s m rest h =

@@ -12,7 +12,7 @@ pub use Rattle.std.specs.declared.alloc.Global.{Global}
 pub use Rattle.dm_link.specs.Names.{pid_of}
 pub use Rattle.dm_records.proofs.Names.{at}
 pub use Rattle.dm_records.specs.Records.{frozen_of, here_of, incoming_of, with_record, without_record}
-pub use Rattle.dm_records.specs.declared.record.Record.TheVariants.{Ended, Forward, Frozen, Here, Incoming}
+pub use Rattle.dm_records.specs.declared.record.Record.TheVariants.{Forward, Frozen, Here, Incoming}
 pub use Rattle.dm_processor.proofs.Lengths.{instruction-lengths}
 pub use Rattle.dm_processor.proofs.Names.{KeepsLengths, Row}
 pub use Rattle.dm_processor.specs.Instructions.{DoesRow}

@@ -1,7 +1,7 @@
 -- What serving a process gives, from what its parts give.
 use Rattle.dm_kernel.proofs.Names.{◌≡◌, ◌∙◌, ℕ, zero, suc, ◌/◌, Bool, true, false, ◌==◌, List, [], ◌∷◌, length, refl, ap, sym, subst, if◌then◌else◌, Some, None, IsSome, slice_get, ◌<◌, arith, rules, Option, Link, Pid, plain_link}
 use Rattle.dm_kernel.proofs.Names.{first_empty, link_at, pid_eq_self, Message, Row, instruction, KeepsLengths, instruction-lengths, Process, Direction, Status, IsLawfulProcess, IsLawfulStatus, direction_numbered, first_on, is_on, Takes}
-use Rattle.dm_kernel.proofs.Names.{HasTaken, Taken, Here, Frozen, Incoming, Forward, Ended, here_of, with_record, Reply, CallNumber, Exit, Out, Make, Copy, Drop, Send, Receive, Move, Unknown, call_number, is_outside, is_reply}
+use Rattle.dm_kernel.proofs.Names.{HasTaken, Taken, Here, Frozen, Incoming, Forward, here_of, with_record, Reply, CallNumber, Exit, Out, Make, Copy, Drop, Send, Receive, Move, Unknown, call_number, is_outside, is_reply}
 use Rattle.dm_kernel.proofs.Names.{make_refusals, move_refusals, send_refusals, bind, plain_process, reg, first_failed, Machine, Called, Done, after_send, calls, copies, does_call, message_over, moves, moves_bytes, moves_over, own_link}
 use Rattle.dm_kernel.proofs.Names.{puts_link, replied, sends, unless_refused, waits, whole, KernelState, KernelKnown, blocks_of, with_here, Ran, after_row, called_with, does, executes, halts, processor_of, ran, receives, serves}
 use Rattle.dm_kernel.proofs.Names.{serves_status, with_machine, MayAct, HasPlace, IsHere, begins}
@@ -64,7 +64,6 @@ serves_ready quantum s p (Some (Here x)) h = sym (ap (serves_status quantum s p 
 serves_ready quantum s p (Some (Frozen leaving)) h = absurd h
 serves_ready quantum s p (Some (Incoming arriving)) h = absurd h
 serves_ready quantum s p (Some (Forward machine moves)) h = absurd h
-serves_ready quantum s p (Some Ended) h = absurd h
 
 pub serves_waiting : (quantum : ℕ) (s : KernelState) (p : Pid) (mask place : ℕ) (o : Option KernelKnown) → IsHere (λ x. Takes x mask place) o
     → bind (here_of o) (λ x. receives s p x mask (first_on mask x.queue)) ≡ serves quantum s p o
@@ -73,7 +72,6 @@ serves_waiting quantum s p mask place (Some (Here x)) h = sym (ap (serves_status
 serves_waiting quantum s p mask place (Some (Frozen leaving)) h = absurd h
 serves_waiting quantum s p mask place (Some (Incoming arriving)) h = absurd h
 serves_waiting quantum s p mask place (Some (Forward machine moves)) h = absurd h
-serves_waiting quantum s p mask place (Some Ended) h = absurd h
 
 -- it has its slot and its blocks still
 pub has_place : (s t : KernelState) (p : Pid) (x y : Process) (records : Pid → Option KernelKnown) → t.room ≡ s.room → ((q : Pid) → t.records q ≡ with_record records p (Here y) q)

@@ -33,7 +33,7 @@ use Rattle.dm_node.specs.State.{NodeState}
 use Rattle.dm_node.specs.Out.{packet_of_load}
 use Rattle.dm_line.specs.declared.line.Load.{Load}
 use Rattle.dm_line.specs.declared.line.Load.TheVariants as load
-use Rattle.dm_rule.specs.View.{SentLoad, Known, Unknown, Here, Frozen, Incoming, Forward, Ended}
+use Rattle.dm_rule.specs.View.{SentLoad, Known, Unknown, Here, Frozen, Incoming, Forward}
 use Rattle.dm_rule.specs.Point.{Point}
 use Rattle.dm_rule.specs.Rule.{Room, taken_at, has}
 use Rattle.dm_rulelaws.specs.Fits.{is_server}
@@ -79,7 +79,6 @@ KnownStands pt l p queue held Here (Some (record_.Here x)) = HereStands l p queu
 KnownStands pt l p queue held (Frozen to) (Some (record_.Frozen d)) = LeavesStand l p queue held to d
 KnownStands pt l p queue held (Incoming from) (Some (record_.Incoming a)) = ComesStand l p from held a
 KnownStands pt l p queue held (Forward at moves) (Some (record_.Forward to count)) = (to ≡ at) × (count ≡ moves)
-KnownStands pt l p queue held Ended (Some record_.Ended) = ⊤
 KnownStands pt l p queue held k r = ⊥
 
 -- the room is the boot file's, and what is taken is what the processes of the lines take
@@ -98,6 +97,7 @@ pub record KernelStands (b : Boot) (pt : Point) (l : Placed) (m : ℕ) (k : Kern
   -- the servers have no records
   pub known : (p : Pid) → is_server p ≡ false → KnownStands pt l p (pt.view.queue m p) (pt.view.held m p) (pt.view.known m p) (k.records p)
   pub no_server : (p : Pid) → is_server p ≡ true → k.records p ≡ None
+  pub preds : (p : Pid) (n : ℕ) → k.preds p n ≡ pt.view.preds m p n
   pub ring : k.ring ≡ pt.view.ring m
   pub inbox : AreMessages l.bag (pt.view.inbox m) k.inbox
   pub made : k.made ≡ pt.kernel.made m
@@ -166,6 +166,8 @@ pub record StandsWith (b : Boot) (w : WorldState) (pt : Point) (l : Placed) (h :
   pub ended : (p : Pid) → w.ended p ≡ kernel.why_ended (pt.kernel.processes p)
   pub nodes : (m : ℕ) → m < pt.kernel.machines → NodeStands b pt l m (w.nodes m)
   pub pairs : (a c : ℕ) → a < pt.kernel.machines → c < pt.kernel.machines → a ≢ c → PairStands b pt l w h a c
+  -- the world knows why each process ended that has
+  pub why : (p : Pid) → w.ended p ≡ kernel.why_ended (pt.kernel.processes p)
   -- no pair counts more messages than it may
   pub counts : (a c : ℕ) → length (pt.view.pair a c).ids ≤ b.numbers
   -- the kernels' own messages, and those of them that carry what moves

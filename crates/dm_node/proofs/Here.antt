@@ -1,6 +1,6 @@
 -- A kernel stays on its machine, whatever a turn gives.
 use Rattle.dm_node.proofs.Names.{before_turn, ◌≡◌, ℕ, ◌==◌, Bool, true, false, List, [], ◌∷◌, refl, ◌∙◌, ⊤, if◌then◌else◌, slice_get, Option, None, Some, Ok, Err, Link, Pid, pid_eq, Message, What, Process, Status, first_on, Here, Frozen}
-use Rattle.dm_node.proofs.Names.{Incoming, Forward, Ended, frozen_of, incoming_of, is_told_back, Asker, kind_of, Arrival, restarted, with_piece, Departure, block_of, chunk_of, bind, has_room_for, Landed, Landing, landing, after_serving}
+use Rattle.dm_node.proofs.Names.{Incoming, Forward, frozen_of, incoming_of, is_told_back, Asker, kind_of, Arrival, restarted, with_piece, Departure, block_of, chunk_of, bind, has_room_for, Landed, Landing, landing, after_serving}
 use Rattle.dm_node.proofs.Names.{serving_answer, Boot, BootImage, BootProcess, manager, switchboard, MoveError, moves_child, moved_back, Called, Completed, calls, Completion, completion, Servers, asks_manager, asks_move, told_to_move}
 use Rattle.dm_node.proofs.Names.{begins_process, child_of, empty, with_all, with_child, accepts, restarts, restarts_as, takes_piece, took_piece, gives_piece, leaves, stays, forwards_and, Halt, answers_with, board_handles, board_took}
 use Rattle.dm_node.proofs.Names.{ended_handles, handles, has_room, here_handles, kernel_handles, lands, lands_as, makes, makes_of, manager_handles, manager_took, process_handles, told_board, told_manager, called_with, halts, processor_of}
@@ -65,7 +65,6 @@ serves_stays quantum s p (Some (Here x)) = status_stays quantum s p x x.status
 serves_stays quantum s p (Some (Frozen leaving)) = tt
 serves_stays quantum s p (Some (Incoming arriving)) = tt
 serves_stays quantum s p (Some (Forward place moves)) = tt
-serves_stays quantum s p (Some Ended) = tt
 
 -- a message is handled
 answers_stays : (s : KernelState) (m : Message) (x : Process) (o : Option Message) → StaysAt s.here (answers_with s m x o)
@@ -195,7 +194,6 @@ known_stays s m (Some (Here x)) = here_stays s m x m.what
 known_stays s m (Some (Frozen leaving)) = refl
 known_stays s m (Some (Incoming arriving)) = refl
 known_stays s m (Some (Forward place moves)) = forwards_stays s m place moves (is_told_back (kind_of m.what))
-known_stays s m (Some Ended) = ended_stays s m m.what
 
 handles_stays : (b : Boot) (s : KernelState) (m : Message) → StaysAt s.here (handles b s m)
 handles_stays b s m = either s.here (m.to.pid.num == 0) (kernel_handles b s m m.what) (process_handles s m (s.records m.to.pid)) (kernel_stays b s m m.what) (known_stays s m (s.records m.to.pid))

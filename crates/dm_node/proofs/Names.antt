@@ -23,7 +23,7 @@ pub use Rattle.dm_syscall.proofs.Names.{All-drop}
 pub use Rattle.dm_line.proofs.Names.{eqb_tells, ◌≢◌}
 pub use Rattle.dm_line.specs.Sets.{at_machine}
 pub use Rattle.dm_kernel.proofs.LawfulTurns.{asked_lawful, called_off_lawful, turn_lawful}
-pub use Rattle.dm_kernel.proofs.Names.{All, All-append, All-cons, All-head, All-nil, All-push, All-tail, Arrival, Asker, Bool, Boot, BootImage, BootProcess, Called, Completed, Completion, Departure, Ended, Err, Forward, Frozen, Here}
+pub use Rattle.dm_kernel.proofs.Names.{All, All-append, All-cons, All-head, All-nil, All-push, All-tail, Arrival, Asker, Bool, Boot, BootImage, BootProcess, Called, Completed, Completion, Departure, Err, Forward, Frozen, Here}
 pub use Rattle.dm_kernel.proofs.Names.{Incoming, IsLawfulMessage, IsLawfulPart, IsLawfulState, IsLawfulTurned, IsMachine, KernelKnown, KernelState, Landed, Landing, Line, Link, List, MeetsSome, Message, MoveError, NoMemory, Ok, Option, Pid}
 pub use Rattle.dm_kernel.proofs.Names.{Process, Status, Turned, What, [], accepts, after_serving, answers_with, ap, arith, asks_manager, asks_move, before_turn, begins_process, bind, block_of, board_handles, board_took, called_with, calls}
 pub use Rattle.dm_kernel.proofs.Names.{calls_arriving_off, calls_off, child_of, chunk_of, comes_from, completion, empty, ended_handles, false, first_on, first_runnable, forwards_and, frozen_of, gives_piece, goes_round, halts, handles}

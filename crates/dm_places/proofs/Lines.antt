@@ -55,6 +55,7 @@ lines_keep pt pt' l (Line.Queued id) keeps h e = says pt pt' l (Line.Queued id) 
 lines_keep pt pt' l (Line.Held id) keeps h e = says pt pt' l (Line.Held id) (moves_held (handled pt.view id) id (view.receiver_of (pt.view.told id))) h (cc)
 lines_keep pt pt' l (Line.Forwarded id m) keeps h e = absurd keeps
 lines_keep pt pt' l (Line.Updated id n) keeps h e = absurd keeps
+lines_keep pt pt' l (Line.Buried id n) keeps h e = absurd keeps
 lines_keep pt pt' l (Line.Migration Stage.Frozen p) keeps h e = says pt pt' l (Line.Migration Stage.Frozen p) (moves_sets pt.view p pt.view.topic) h (cc)
 lines_keep pt pt' l (Line.Migration Stage.Asked p) keeps h e = says pt pt' l (Line.Migration Stage.Asked p) refl h (cc)
 lines_keep pt pt' l (Line.Migration Stage.Accepted p) keeps h e = says pt pt' l (Line.Migration Stage.Accepted p) refl h (cc)

@@ -266,11 +266,10 @@ own_row o pt m i is msg false false parts w h fits front there same queue x y e 
 
 process_row : (o pt : Point) (m : ℕ) (i : MsgId) (is : List MsgId) (msg : PlainMessage) (k : view.Known) (parts : List Part) (w : Spelled) (h : State None pt) → PairsFit pt.view → pt.view.inbox pt.view.acting ≡ i ∷ is → pt.kernel.bag i ≡ Some msg → o.kernel ≡ pt.kernel
     → o.view.queue m msg.to ≡ pt.view.queue pt.view.acting msg.to → rule.process_handles o m i msg k ≡ Some parts → spelled pt parts ≡ Some w → State None w.point
-process_row o pt m i is msg view.Unknown parts w h fits front there same queue e n = cc
+process_row o pt m i is msg view.Unknown parts w h fits front there same queue e n = ended_row pt i is msg.what parts w h fits front e n
 process_row o pt m i is msg view.Here parts w h fits front there same queue e n = own_row o pt m i is msg (pid_eq msg.to switchboard) (pid_eq msg.to manager) parts w h fits front there same queue refl refl e n
 process_row o pt m i is msg (view.Forward at moves) parts w h fits front there same queue e n =
     forwards_row pt o.addresses i is (plain_kind msg.what) msg.sender at w h fits front (ap (spelled pt) (let f : forwards_on o.addresses i (plain_kind msg.what) msg.sender at ≡ parts = cc in f) ∙ n)
-process_row o pt m i is msg view.Ended parts w h fits front there same queue e n = ended_row pt i is msg.what parts w h fits front e n
 process_row o pt m i is msg _ parts w h fits front there same queue e n = let f : Says (Line.Held i) ∷ [] ≡ parts = cc in held_row pt i is w h front (ap (spelled pt) f ∙ n)
 
 -- a kernel's work

@@ -52,6 +52,7 @@ pub use Rattle.dm_line.specs.Todo.{Next, Todo, all_of, at_rest}
 pub use Rattle.dm_line.specs.declared.line.Line.{Line}
 pub use Rattle.dm_line.specs.declared.line.Load.{Load}
 pub use Rattle.dm_line.specs.declared.line.Stage.{Stage}
+pub use Rattle.dm_rule.specs.Burying.{buried, buries, ends_with, preds_of, tells_end}
 pub use Rattle.dm_rule.specs.Acts.{act_of}
 pub use Rattle.dm_rule.specs.Addresses.{Addresses, Answer, AskedBy, Child, Enclosed, Gets, Holder, Name, Owner, Receiver, Sender, Slot, acting_place, addresses_by, all_follow, answer_gets, belongs_to, board_finds, board_gets, board_keeps}
 pub use Rattle.dm_rule.specs.Addresses.{call_gets, child_links, child_number, enclosed_from, encloses, fills, fills_by, first_addresses, first_gives, forwards, gets, given, gives, holder_eq, is_behind, is_told_back, landing_gets, leads_to}
@@ -78,7 +79,7 @@ pub use Rattle.dm_rule.specs.Rule.{serves_status, stops, takes_on, taking_parts,
 pub use Rattle.dm_rule.specs.Spots.{Held, Inbox, Queue, Spot, StandsAsBag, StandsNowhere, StandsOnce, StandsOutside, StandsRight, Untaken, ids_at, standing, times, untaken}
 pub use Rattle.dm_rule.specs.Tells.{TellsRight}
 pub use Rattle.dm_rule.specs.Trails.{AddressesOn, IsOn, LeadsAlong, OwnOn, StoodOnTrail, Trail, Trailed, Trails, TrailsAlways, Trodden, along, destination, first_trails, first_trodden, leads, leads_on, trails_after}
-pub use Rattle.dm_rule.specs.View.{About, Ended, Forward, Frozen, Here, Incoming, Known, NothingElse, Of, Pair, SentLoad, Target, Told, Unknown, View, actor, after_head, after_label, after_packet, after_proto, after_put, after_stage}
+pub use Rattle.dm_rule.specs.View.{About, Forward, Frozen, Here, Incoming, Known, NothingElse, Of, Pair, SentLoad, Target, Told, Unknown, View, actor, after_head, after_label, after_packet, after_proto, after_put, after_stage}
 pub use Rattle.dm_rule.specs.View.{after_taken, asks_on, at_least, begins, dropped_for, ended, ends_by, first_view, follows_by, forward_about, forwarded_for, front_of, frozen_for, goes_back, gone_after, gone_to, handled, handled_first}
 pub use Rattle.dm_rule.specs.View.{held_for, is_kernels, knowing, known_at, marked, marked_at, oldest, own_id, queued_for, receiver_of, released, ring_at, routed_on, served_told, sets_off, taken_id, target_of, view_after, with_pair}
 pub use Rattle.dm_rule.specs.View.{with_ring}

@@ -38,6 +38,7 @@ effect (Line.Queued id) = Front id
 effect (Line.Held id) = Front id
 effect (Line.Forwarded id m) = Front id
 effect (Line.Updated id n) = Front id
+effect (Line.Buried id n) = Front id
 effect (Line.Migration s p) = stage_effect p s
 effect (Line.SentOn p n) = First
 effect (Line.Lacks p a b) = First

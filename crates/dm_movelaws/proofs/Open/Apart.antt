@@ -101,7 +101,7 @@ moving_alone b pt d w y k s t o h phase e =
     group_alone b pt d w y
     (outcome_apart b pt d y h
     (λ m is. moves_known k s t o (nowhere_known (Moves k s t o)
-    (λ j. sym (ap (knows (Moves k s t o) j) (ap (pt.view.known j) (sym is) ∙ h.unborn m j)) ∙ phase.known j)))
+    (λ j. sym (ap (knows (Moves k s t o) j) (ap (pt.view.known j) (sym is) ∙ h.unborn m j)) ∙ phase.known j) (λ at over. cc)))
     (moving_off pt y k s t o phase)) e
 
 -- somewhere among the lines

@@ -3,7 +3,7 @@ use Rattle.dm_movelaws.proofs.Names.{◌≡◌, ℕ, List, [], ◌∷◌, ◌++�
 use Rattle.dm_movelaws.proofs.Names.{LeadsBy, update_of, nat_tests, ◌⊎◌, ◌≤◌, ◌&&◌, Bool, true, false, ◌∙◌, ⊤, Option, None, cases_Bool, MessageKind, plain_kind, id_eq, id_eq-is, id_eq-same, Stage, View, Told, is_kernels, view_after}
 use Rattle.dm_movelaws.proofs.Names.{label_of, kernel_after, Part, Says, Again, Owns, spelled, times, sends_on, is_put, not_true, parts, touches, pair_same, fits_as, PairsFit, fits_put, fits_packet, Sane, Sayable, part_sane, Steps, said_by}
 use Rattle.dm_movelaws.proofs.Names.{OneKernel, PlainMessage, Addresses, Sender, forwards_on, Loose, loose_round, loose_handles, by_forwards, seen, Label, PlainWhat, to_kernel, moved, leaves_for, move_target, Target, length, NothingElse}
-use Rattle.dm_movelaws.proofs.Names.{if◌then◌else◌, manager, Known, Unknown, Here, Forward, Ended, process_told, both_lists, last_point, by_hears, behind_count, place_told, answers_move, Outcome, false≢true, migrates, not_kernels, IsNet}
+use Rattle.dm_movelaws.proofs.Names.{if◌then◌else◌, manager, Known, Unknown, Here, Forward, process_told, both_lists, last_point, by_hears, behind_count, place_told, answers_move, Outcome, false≢true, migrates, not_kernels, IsNet}
 use Rattle.dm_movelaws.proofs.Names.{fits, under_way, kernels_by, begun, begun_sane, by_migrates, by_outcome, group_is, topic_by, deliver_off, migrate_off, tick_off, turn_off, option_map_or, called_parts, by_calls_off, told_server, pid_eq}
 use Rattle.dm_movelaws.proofs.Names.{switchboard, sort_of, updates}
 use Rattle.dm_rule.specs.Rule as rule
@@ -250,10 +250,9 @@ own_this j pt o p q place false true = updates_this j pt _
 own_this j pt o p q place false false = updates_this j pt _
 
 process_this : (j : MsgId) (pt o : Point) (m : ℕ) (p q : Pid) (place : Place) (c : Known) → Waits j (update_of p q place) pt → GoesOf j pt (process_told o m j (update_of p q place) c)
-process_this j pt o m p q place Unknown h = tt
+process_this j pt o m p q place Unknown h = updates_this j pt 0
 process_this j pt o m p q place Here h = own_this j pt o p q place (pid_eq p switchboard) (pid_eq p manager)
 process_this j pt o m p q place (Forward at moves) h = forwarded_goes j (update_of p q place) pt at h
-process_this j pt o m p q place Ended h = updates_this j pt 0
 process_this j pt o m p q place _ h = search (arith, next_of, said_by, held_this, loose_stands, base_says)
 
 -- Each group leaves an update that is under way standing somewhere, or says that it was handled, and nothing else.

@@ -102,7 +102,7 @@ moving_waits b pt d w p k s t o sane h phase e none m y is =
     let g = group_says b pt d w e in
     let apart : ApartOf pt.kernel p (rule.outcome b pt d) =
     outcome_apart b pt d p h
-    (λ n same. moves_known k s t o (nowhere_known (Moves k s t o) (λ j. sym (ap (knows (Moves k s t o) j) (ap (pt.view.known j) (sym same) ∙ h.unborn n j)) ∙ phase.known j)))
+    (λ n same. moves_known k s t o (nowhere_known (Moves k s t o) (λ j. sym (ap (knows (Moves k s t o) j) (ap (pt.view.known j) (sym same) ∙ h.unborn n j)) ∙ phase.known j) (λ at over. cc)))
     (λ n q here same. false≢true (sym (moves_away k s t n o (s == n) (t == n) refl refl) ∙ sym (ap (knows (Moves k s t o) n) (ap (pt.view.known n) (sym same) ∙ here)) ∙ phase.known n)) in
     let start : Knows m p y (begun pt d) = line_waits pt pt.kernel (Line.Head d) p m y sane tt refl refl is in
     subst (Knows m p y) g.point

@@ -1,6 +1,6 @@
 -- A turn that handles a kernel's own message: what it does with the pieces that stand.
 use Rattle.dm_movelaws.proofs.Names.{◌≡◌, ℕ, ◌+◌, ◌/◌, ◌==◌, ◌&&◌, Bool, true, false, List, [], ◌∷◌, ◌++◌, length, refl, ap, ◌∙◌, sym, subst, arith, nat_tests, ⊤, if◌then◌else◌, not, Option, None, Some, bind, left_true, Pid, pid_eq, MsgId}
-use Rattle.dm_movelaws.proofs.Names.{MessageKind, Boot, Line, Stage, View, Told, About, Of, Known, Unknown, Here, Frozen, Forward, Ended, view_after, handled_first, target_of, Point, moved, Part, Says, Spelled, spelled, to_kernel, sends_on}
+use Rattle.dm_movelaws.proofs.Names.{MessageKind, Boot, Line, Stage, View, Told, About, Of, Known, Unknown, Here, Frozen, Forward, view_after, handled_first, target_of, Point, moved, Part, Says, Spelled, spelled, to_kernel, sends_on}
 use Rattle.dm_movelaws.proofs.Names.{accepts, takes_chunk, takes_block, tells_asker, leaves, told_step, told_here, told_ended, told_server, process_told, kernel_hears, manager, is_between, sort_of, Spot, ids_at, times, PairsFit, Sane}
 use Rattle.dm_movelaws.proofs.Names.{sane_line, Tame, MoveNote, Outcome, PlainProcess, chunks_of, pieces_of, accepted_off, state_off, memory_off, lacks_off, proto_off, restarted_off, frozen_off, first_off, rejoins, is_put, touches}
 use Rattle.dm_movelaws.proofs.Names.{line_next, turned, handled, label_of, by_forwards, Addresses, updates, leaves_for, hears, switchboard, plain_by, forwards_on, is_stale, is_waited_from, brings_piece, stales, called_parts}
@@ -163,10 +163,9 @@ own_flows p o m i is t false true h tame plain = server_flows p o (turned o m) i
 own_flows p o m i is t false false h tame plain = here_flows p o m i is t t.kind h tame plain
 
 process_flows : (p : Pid) (o : Point) (m : ℕ) (i : MsgId) (is : List MsgId) (t : Told) (k : Known) → Turn (turned o m) i is t → Tame (turned o m).view i → is_piece t.kind ≡ false → FlowsOf p (turned o m) (process_told o m i t k)
-process_flows p o m i is t Unknown h tame plain = tt
+process_flows p o m i is t Unknown h tame plain = over_flows p (turned o m) i t.kind h.sane h.fits tame
 process_flows p o m i is t Here h tame plain = own_flows p o m i is t (pid_eq t.receiver switchboard) (pid_eq t.receiver manager) h tame plain
 process_flows p o m i is t (Forward at moves) h tame plain = one_flows p (turned o m) (forwards_on o.addresses i t.kind manager at) h.sane h.fits (forwards_slight (turned o m).view o.addresses i t.kind manager at tame)
-process_flows p o m i is t Ended h tame plain = over_flows p (turned o m) i t.kind h.sane h.fits tame
 process_flows p o m i is t _ h tame plain = one_flows p (turned o m) (Says (Line.Held i) ∷ []) h.sane h.fits (tame, tt)
 
 -- by the receiver

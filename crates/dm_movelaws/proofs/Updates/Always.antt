@@ -26,6 +26,7 @@ pub record Handles (o : Point) (m : ℕ) (id : MsgId) (n : ℕ) : Type 0 where
 -- no update is handled
 abbrev pub is_updated : Line → Bool
 is_updated (Line.Updated id n) = true
+is_updated (Line.Buried id n) = true
 is_updated l = false
 
 abbrev pub PartQuiet : Part → Type 0

@@ -125,6 +125,12 @@ line_stands pt pt' l (Line.Updated id n) apart h e =
     let a = pt.addresses in
     let f : moved pt (Line.Updated id n) s ≡ pt' = cc in
     subst Stands f (other_view s v (view_after v (Line.Updated id n)) (λ h. updated s v a (v.told id) h) refl (update_follows s v a l (v.told id) apart h))
+line_stands pt pt' l (Line.Buried id n) apart h e =
+    let s = pt.kernel in
+    let v = pt.view in
+    let a = pt.addresses in
+    let f : moved pt (Line.Buried id n) s ≡ pt' = cc in
+    subst Stands f (other_view s v (view_after v (Line.Buried id n)) (λ h. updated s v a (v.told id) h) refl (update_follows s v a l (v.told id) apart h))
 line_stands pt pt' l (Line.Migration step p) needs h e = stage_stands pt pt' l p step h e
 line_stands pt pt' l any_ needs h e = keeps pt pt' l any_ tt h e
 

@@ -7,6 +7,7 @@ use Rattle.dm_settlelaws.proofs.Rests.EndsStill.{ends_still}
 use Rattle.dm_program.specs.Printed.{by_rule}
 use Rattle.dm_program.proofs.Runs.Decisions.{Wearing, ends_once}
 use Rattle.dm_program.proofs.Runs.Stands.{IsLed, goes_there, comes_there, is_led}
+use Rattle.dm_movelaws.proofs.At.RestAlways.{at_rest_always}
 
 -- which directive comes next, by the rule
 said : (b : Boot) (ds : List Directive) (p : WorldPlace) (gs : List (List Line)) → IsValid b → (h : IsLed b ds p.way gs p.state) → world_next_step (length b.machines) p.state h.left ≡ next_step h.end.kernel.machines h.end h.left
@@ -31,9 +32,10 @@ rests b ds p gs valid h over = record {
   rests = λ settled.
       let quiet = ends_quiet b h.stands.steps ds gs h.end h.left valid h.stands.leads h.stands.good.run over settled in
       record { quiet = quiet; lines = ends_at_rest b h.stands.steps h.end valid h.stands.leads quiet };
+  forgotten = λ settled. (at_rest_always b h.stands.steps h.end valid h.stands.leads (ends_quiet b h.stands.steps ds gs h.end h.left valid h.stands.leads h.stands.good.run over settled)).forgotten;
   rested = λ last. elim (ends_rested_so b h.stands.steps ds gs h.end h.left valid h.stands.leads h.stands.good.run over last) [
     | inl gone ↦ inl gone
-    | inr all ↦ inr (record { rest = all; lines = ends_still b h.stands.steps h.end valid h.stands.leads all })
+    | inr all ↦ inr (record { rest = all; lines = ends_still b h.stands.steps h.end valid h.stands.leads all; forgotten = (at_rest_always b h.stands.steps h.end valid h.stands.leads all.quiet).forgotten })
   ];
 }
 

@@ -1,6 +1,6 @@
 -- The rows of migration keep that each message stands once.
 use Rattle.dm_rule.proofs.Names.{◌≡◌, ℕ, ◌==◌, Bool, true, false, List, [], ◌∷◌, ◌++◌, refl, ap, ◌∙◌, sym, subst, length, if◌then◌else◌, Option, None, Some, Pid, pid_of, pid_eq, MsgId, MessageKind, Stage, Boot, switchboard, manager}
-use Rattle.dm_rule.proofs.Names.{PlainProcess, Line, View, Told, About, NothingElse, Known, Unknown, Here, Frozen, Forward, Ended, view_after, handled, handled_first, receiver_of, is_kernels, target_of, with_ring, knowing, released}
+use Rattle.dm_rule.proofs.Names.{PlainProcess, Line, View, Told, About, NothingElse, Known, Unknown, Here, Frozen, Forward, view_after, handled, handled_first, receiver_of, is_kernels, target_of, with_ring, knowing, released}
 use Rattle.dm_rule.proofs.Names.{after_proto, asks_on, held_for, Addresses, Sender, is_told_back, Point, moved, Part, Says, Again, Owns, Spelled, spelled, to_kernel, forwards_on, accepts, takes_chunk, takes_block, gives_piece, sends_on}
 use Rattle.dm_rule.proofs.Names.{leaves, told_step, chunks_of, pieces_of, told_here, told_ended, process_told, told_server, kernel_hears, hears, Spot, Queue, ids_at, bind-is, label_of, Label, MoveNote, Outcome, Target, answer_id}
 use Rattle.dm_rule.proofs.Names.{answers_move, frozen_for, leaves_for, tells_asker, sets_off, sort_of, option_and_then, slice_get, arith, nat_tests, ◌/◌, bind, Of}
@@ -243,11 +243,10 @@ own_row o pt m i is t false false parts w h fit topic front mine e n = here_row 
 
 process_row : (o pt : Point) (m : ℕ) (i : MsgId) (is : List MsgId) (t : Told) (k : Known) (parts : List Part) (w : Spelled) → State None pt → PairsFit pt.view → pt.view.topic ≡ NothingElse → pt.view.inbox pt.view.acting ≡ i ∷ is → is_kernels i ≡ true
     → process_told o m i t k ≡ Some parts → spelled pt parts ≡ Some w → State None w.point
-process_row o pt m i is t Unknown parts w h fit topic front mine e n = cc
+process_row o pt m i is t Unknown parts w h fit topic front mine e n = ended_row pt i is t.kind parts w h front mine e n
 process_row o pt m i is t Here parts w h fit topic front mine e n = own_row o pt m i is t (pid_eq t.receiver switchboard) (pid_eq t.receiver manager) parts w h fit topic front mine e n
 process_row o pt m i is t (Forward at moves) parts w h fit topic front mine e n =
     forwards_row pt o.addresses i is t.kind manager at w h fit front (given pt (forwards_on o.addresses i t.kind manager at) parts w e n)
-process_row o pt m i is t Ended parts w h fit topic front mine e n = ended_row pt i is t.kind parts w h front mine e n
 process_row o pt m i is t _ parts w h fit topic front mine e n = held_row pt i is w h front (given pt (Says (Line.Held i) ∷ []) parts w e n)
 
 hears_by : (b : Boot) (o pt : Point) (m : ℕ) (i : MsgId) (is : List MsgId) (t : Told) (c : Bool) (parts : List Part) (w : Spelled) → State None pt → PairsFit pt.view → pt.view.topic ≡ NothingElse → pt.view.inbox pt.view.acting ≡ i ∷ is

@@ -1,6 +1,6 @@
 -- A kernel's own message is handled: each process stays in a phase.
 use Rattle.dm_rule.proofs.Names.{◌≡◌, ℕ, ◌==◌, Bool, true, false, List, [], ◌∷◌, ◌++◌, refl, ap, ◌∙◌, sym, subst, length, ◌/◌, if◌then◌else◌, Option, None, Some, false≢true, Pid, pid_eq, MsgId, MessageKind, Line, Stage, Boot, switchboard}
-use Rattle.dm_rule.proofs.Names.{manager, PlainProcess, View, Told, About, Of, Known, Unknown, Here, Forward, Ended, is_kernels, target_of, Addresses, Sender, is_told_back, Point, Part, Says, Owns, Spelled, spelled, forwards_on, accepts}
+use Rattle.dm_rule.proofs.Names.{manager, PlainProcess, View, Told, About, Of, Known, Unknown, Here, Forward, is_kernels, target_of, Addresses, Sender, is_told_back, Point, Part, Says, Owns, Spelled, spelled, forwards_on, accepts}
 use Rattle.dm_rule.proofs.Names.{takes_chunk, takes_block, gives_piece, told_step, chunks_of, pieces_of, updates, told_here, told_ended, process_told, told_server, fits, free_room, kernel_hears, hears, is_between, bind-is, Label, MoveNote}
 use Rattle.dm_rule.proofs.Names.{NothingElse, Outcome, bind, kernel_after, label_of, leaves_for, moved, tells_asker, sort_of, eq-eqb, is_stale, is_waited_from, pulls_piece, brings_piece, inl, inr, not, ◌&&◌}
 use Rattle.dm_onekernel.specs.Step as kernel
@@ -150,11 +150,10 @@ own_row o pt m i is t false false parts w h sane state plain front told mine see
 
 process_row : (o pt : Point) (m : ℕ) (i : MsgId) (is : List MsgId) (t : Told) (k : Known) (parts : List Part) (w : Spelled) (h : Whole pt) → Sane pt → State None w.point → is_between t.kind ≡ false → pt.view.inbox pt.view.acting ≡ i ∷ is → pt.view.told i ≡ Some t → is_kernels i ≡ true → SeesAll o pt m
     → pt.view.known pt.view.acting t.receiver ≡ k → process_told o m i t k ≡ Some parts → spelled pt parts ≡ Some w → Whole w.point
-process_row o pt m i is t Unknown parts w h sane state plain front told mine sees here g n = cc
+process_row o pt m i is t Unknown parts w h sane state plain front told mine sees here g n = ended_row pt i t t.kind parts w h sane state (tame_of pt.view i t told plain) g n
 process_row o pt m i is t Here parts w h sane state plain front told mine sees here g n = own_row o pt m i is t (pid_eq t.receiver switchboard) (pid_eq t.receiver manager) parts w h sane state plain front told mine sees here g n
 process_row o pt m i is t (Forward at moves) parts w h sane state plain front told mine sees here g n =
     one_quiet pt (forwards_on o.addresses i t.kind manager at) parts w h sane state (forwards_quiet pt.view o.addresses i t.kind manager at (tame_of pt.view i t told plain)) g n
-process_row o pt m i is t Ended parts w h sane state plain front told mine sees here g n = ended_row pt i t t.kind parts w h sane state (tame_of pt.view i t told plain) g n
 process_row o pt m i is t _ parts w h sane state plain front told mine sees here g n = one_quiet pt (Says (Line.Held i) ∷ []) parts w h sane state (tame_of pt.view i t told plain, tt) g n
 
 -- a piece that isn't awaited goes

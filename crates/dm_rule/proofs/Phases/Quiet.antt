@@ -44,6 +44,7 @@ QuietLine v (Line.Queued i) = Tame v i
 QuietLine v (Line.Held i) = Tame v i
 QuietLine v (Line.Forwarded i m) = Tame v i
 QuietLine v (Line.Updated i n) = Tame v i
+QuietLine v (Line.Buried i n) = Tame v i
 QuietLine v (Line.Here i) = Tame v i
 QuietLine v (Line.NoMove i) = Tame v i
 QuietLine v (Line.NoChild p) = ⊤
@@ -83,6 +84,7 @@ line_on v w (Line.Queued i) c h = tame_on v w i c h
 line_on v w (Line.Held i) c h = tame_on v w i c h
 line_on v w (Line.Forwarded i m) c h = tame_on v w i c h
 line_on v w (Line.Updated i n) c h = tame_on v w i c h
+line_on v w (Line.Buried i n) c h = tame_on v w i c h
 line_on v w (Line.Here i) c h = tame_on v w i c h
 line_on v w (Line.NoMove i) c h = tame_on v w i c h
 line_on v w (Line.Migration Stage.Frozen p) c h = h
@@ -163,6 +165,7 @@ line_calm pt s (Line.Queued i) h quiet is = (let o = receiver_of (pt.view.told i
 line_calm pt s (Line.Held i) h quiet is = (let o = receiver_of (pt.view.told i) in hushed_calm pt.view (Line.Held i) i refl refl (tame_plain pt.view i quiet) (λ m q. held_known (handled pt.view i) i o m q) (λ j e z. held_spots (handled pt.view i) i j o e z ∙ handled_spots pt.view i j e z))
 line_calm pt s (Line.Forwarded i m) h quiet is = (let o = receiver_of (pt.view.told i) in hushed_calm pt.view (Line.Forwarded i m) i refl refl (tame_plain pt.view i quiet) (λ n q. forwarded_known (handled pt.view i) o n q) (λ j e z. forwarded_spots (handled pt.view i) j o z ∙ handled_spots pt.view i j e z))
 line_calm pt s (Line.Updated i n) h quiet is = hushed_calm pt.view (Line.Updated i n) i refl refl (tame_plain pt.view i quiet) (λ m q. refl) (λ j e z. handled_spots pt.view i j e z)
+line_calm pt s (Line.Buried i n) h quiet is = hushed_calm pt.view (Line.Buried i n) i refl refl (tame_plain pt.view i quiet) (λ m q. refl) (λ j e z. handled_spots pt.view i j e z)
 line_calm pt s (Line.Here i) h quiet is = hushed_calm pt.view (Line.Here i) i refl refl (tame_plain pt.view i quiet) (λ m q. refl) (λ j e z. handled_spots pt.view i j e z)
 line_calm pt s (Line.NoMove i) h quiet is = hushed_calm pt.view (Line.NoMove i) i refl refl (tame_plain pt.view i quiet) (λ m q. refl) (λ j e z. handled_spots pt.view i j e z)
 line_calm pt s (Line.NoChild p) h quiet is = calm_same pt.view

@@ -73,7 +73,7 @@ abbrev pub is_own_sort : Sort → Bool
 is_own_sort Sort.Request = true
 is_own_sort Sort.Notice = true
 is_own_sort (Sort.Between passage) = true
-is_own_sort Sort.Unsent = true
+is_own_sort Sort.Buries = true
 is_own_sort _ = false
 
 abbrev pub is_own : MessageKind → Bool

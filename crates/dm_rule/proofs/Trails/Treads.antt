@@ -308,6 +308,7 @@ line_treads pt next t (Line.Forwarded i m) is fits h = let f : moved pt (Line.Fo
 line_treads pt next t (Line.SentOn p n) is fits h = let f : moved pt (Line.SentOn p n) pt.kernel ≡ next = cc in subst (λ (z : Point). Treads z (trails_after pt.view t (Line.SentOn p n))) f (sent_on_treads pt t p n fits h)
 line_treads pt next t (Line.Called p n) is fits h = let f : moved pt (Line.Called p n) pt.kernel ≡ next = cc in subst (λ (z : Point). Treads z (trails_after pt.view t (Line.Called p n))) f (called_treads pt t p n fits h)
 line_treads pt next t (Line.Updated i n) is fits h = let f : moved pt (Line.Updated i n) pt.kernel ≡ next = cc in subst (λ (z : Point). Treads z (trails_after pt.view t (Line.Updated i n))) f (updated_treads pt t i n h)
+line_treads pt next t (Line.Buried i n) is fits h = let f : moved pt (Line.Buried i n) pt.kernel ≡ next = cc in subst (λ (z : Point). Treads z (trails_after pt.view t (Line.Buried i n))) f (updated_treads pt t i n h)
 line_treads pt next t (Line.Put x y i k q) is fits h = let f : moved pt (Line.Put x y i k q) pt.kernel ≡ next = cc in subst (λ (z : Point). Treads z (trails_after pt.view t (Line.Put x y i k q))) f (put_treads pt t x y i k q fits h)
 line_treads pt next t (Line.Migration s p) is fits h = let f : moved pt (Line.Migration s p) pt.kernel ≡ next = cc in subst (λ (z : Point). Treads z (trails_after pt.view t (Line.Migration s p))) f (stage_treads pt t p s fits h)
 line_treads pt next t any_ is fits h = let f : moved pt any_ pt.kernel ≡ next = cc in subst (λ (z : Point). Treads z (trails_after pt.view t any_)) f (quiet_treads pt (view_after pt.view any_) t (λ m q. refl) (hushed pt.view any_ refl).told (h.own.topic) h)

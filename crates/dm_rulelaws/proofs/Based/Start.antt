@@ -12,7 +12,7 @@ one_if c = if c then 1 else 0
 abbrev pub known_of_life : Option Life → Known
 known_of_life None = Known.Unknown
 known_of_life (Some (Alive x)) = Known.Here
-known_of_life (Some (Life.Ended y)) = Known.Ended
+known_of_life (Some (Life.Ended y)) = Known.Unknown
 
 abbrev is_alive : Option Life → Bool
 is_alive (Some (Alive x)) = true

@@ -3,7 +3,6 @@ use Rattle.dm_rulelaws.proofs.Names.{sets, ◌≡◌, ℕ, ◌+◌, Bool, refl, 
 use Rattle.dm_rulelaws.proofs.Names.{after_step, Spelled, Point, kernel_after, label_of, group_of, View, Told, handled, receiver_of, served_told, view_after, Kept, grown_none, Phased, Sane, KnownStands, ◌≢◌, ◌==◌, ◌&&◌, true, false, List}
 use Rattle.dm_rulelaws.proofs.Names.{[], ◌∷◌, ◌++◌, is_some, arith, false≢true, nat_tests, Life, bind-is, completing, at_machine, at_record, without, moved_back, Known, Unknown, Here, Frozen, Incoming, Forward, handled_first, front_of}
 use Rattle.dm_rulelaws.proofs.Names.{gone_to, rejoins, is_away, is_here, at_machine_at, is_kill, is_server, agrees, server_at, rings, turns_here, aim, at_hand-is, goes_back}
-use Rattle.dm_rule.specs.View.{Ended}
 use Rattle.dm_onekernel.specs.Step as kernel
 use Rattle.dm_rule.specs.View as view
 use Rattle.dm_rulelaws.proofs.Based.Groups.{group_keeps}
@@ -82,8 +81,6 @@ unmoved_group b pt d w is phased known h = group_keeps (λ q. Unmoved q.kernel q
 agrees_by : Known → Option Bool → Bool
 agrees_by Unknown o = true
 agrees_by (Forward at moves) (Some b) = true
-agrees_by Ended (Some true) = false
-agrees_by Ended (Some false) = true
 agrees_by _ None = false
 agrees_by _ (Some true) = true
 agrees_by _ (Some false) = false
@@ -180,7 +177,7 @@ serving_ring s v p h server here m q =
 
 -- a process ends
 ends_known : (s t : OneKernel) (v : View) (p : Pid) → is_server p ≡ false → is_some (s.processes p) ≡ true → SetLife s t p (Some false) → Resting v p → KnownStands s v → KnownStands t (view.ended v p)
-ends_known s t v p server some set rests h = known_learns s t v (view.ended v p) p Ended (record {
+ends_known s t v p server some set rests h = known_learns s t v (view.ended v p) p Unknown (record {
   server = server;
   known = refl;
   others = set.off;

@@ -363,6 +363,7 @@ line_core n pt s (Line.Forwarded id m) need sane is h = let f : pt.kernel ≡ s 
 line_core n pt s (Line.SentOn p k) need sane is h = let f : pt.kernel ≡ s = cc in subst (λ (x : OneKernel). LineCore n (moved pt (Line.SentOn p k) x)) f (sent_core n pt p k need h)
 line_core n pt s (Line.Called p k) need sane is h = let f : pt.kernel ≡ s = cc in subst (λ (x : OneKernel). LineCore n (moved pt (Line.Called p k) x)) f (called_core n pt p k need h)
 line_core n pt s (Line.Updated id k) need sane is h = let f : pt.kernel ≡ s = cc in subst (λ (x : OneKernel). LineCore n (moved pt (Line.Updated id k) x)) f (updated_core n pt id k h)
+line_core n pt s (Line.Buried id k) need sane is h = let f : pt.kernel ≡ s = cc in subst (λ (x : OneKernel). LineCore n (moved pt (Line.Buried id k) x)) f (updated_core n pt id k h)
 line_core n pt s (Line.Migration t p) need sane is h = let f : pt.kernel ≡ s = cc in subst (λ (x : OneKernel). LineCore n (moved pt (Line.Migration t p) x)) f (stage_core n pt p t need h)
 line_core n pt s (Line.Stays p) need sane is h = let f : pt.kernel ≡ s = cc in subst (λ (x : OneKernel). LineCore n (moved pt (Line.Stays p) x)) f (stays_core n pt p h)
 line_core n pt s (Line.Idle m) need sane is h = let f : pt.kernel ≡ s = cc in subst (λ (x : OneKernel). LineCore n (moved pt (Line.Idle m) x)) f (quiet_core n pt (Line.Idle m) refl (refl) (λ m q. refl) (refl) (h.topic) tt h)

@@ -202,6 +202,7 @@ places_line G v (Line.Queued id) new h = places_queued G (handled v id) id (rece
 places_line G v (Line.Held id) new h = places_held G (handled v id) id (receiver_of (v.told id)) new (places_handled G v id h)
 places_line G v (Line.Forwarded id m) new h = places_forwarded G (handled v id) (receiver_of (v.told id)) (places_handled G v id h)
 places_line G v (Line.Updated id n) new h = places_handled G v id h
+places_line G v (Line.Buried id n) new h = places_handled G v id h
 places_line G v (Line.Migration s p) new h = places_stage G v p s h
 places_line G v (Line.SentOn p n) new h = search (arith, places_of, set_record, (handled_first v).queue, (handled_first v).acting, (handled_first v).held, (places_first G v h))
 places_line G v (Line.Called p n) new h =

@@ -4,7 +4,6 @@ use Rattle.dm_rulelaws.proofs.Names.{own_id, Holder, Receiver, Sender, given, go
 use Rattle.dm_rulelaws.proofs.Names.{AllSayable, part_sane, is_own, by_parts, ◌+◌, ap, subst, Label, Boot, first_number, PlainProcess, Forward, forwards_on, Stops, by_round, by_handles, ◌==◌, Bool, ◌++◌, length, ◌/◌, if◌then◌else◌, pid_eq}
 use Rattle.dm_rulelaws.proofs.Names.{Stage, switchboard, bind, About, Of, Known, Unknown, Here, target_of, front_of, to_kernel, accepts, takes_block, leaves, pieces_of, told_step, told_here, process_told, told_server, is_between, is_fixed}
 use Rattle.dm_rulelaws.proofs.Names.{Outcome, MoveNote, OneKernel, answers_move, leaves_for, aim, label_of, kernel_after, at_record, at_record_at, tells_asker, View, after_line, packet_line, sort_of}
-use Rattle.dm_rule.specs.View.{Ended}
 use Rattle.dm_rulelaws.proofs.Found.Core.{Knows, IsReal, LineCore, KnowsAt, IsAt, NeedsPut, put_core}
 use Rattle.dm_rulelaws.proofs.Based.Needs.{by_puts, said_by}
 use Rattle.dm_rulelaws.proofs.Fits.Serves.{asked_noted}
@@ -255,12 +254,11 @@ by_receiver n pt q c d e x y z w h1 h2 h3 h4 h5 h6 h7 = search arith
 
 process_told_need : (n : ℕ) (pt o : Point) (m : ℕ) (id : MsgId) (t : Told) (k : Known) → Front pt id → target_of (Some t) < n → aim pt.view pt.view.topic < n → (t.receiver.num == 0) ≡ false
     → ((to c : ℕ) → k ≡ Forward to c → AllNeed n pt (forwards_on o.addresses id t.kind manager to)) → NeedOf n pt (process_told o m id t k)
-process_told_need n pt o m id t Unknown at le front num forwards = tt
+process_told_need n pt o m id t Unknown at le front num forwards = search (arith, t.kind)
 process_told_need n pt o m id t Here at le front num forwards =
     by_receiver n pt t.receiver false (pid_eq t.receiver switchboard) (pid_eq t.receiver manager) None (told_server o id t (sort_of t.kind)) (told_server o id t (sort_of t.kind)) (told_here o m id t (sort_of t.kind)) num refl refl tt
     (server_told_need n pt o id t t.kind) (server_told_need n pt o id t t.kind) (λ free. here_told_need n pt o m id t t.kind le (front, free))
 process_told_need n pt o m id t (Forward to c) at le front num forwards = forwards to c refl
-process_told_need n pt o m id t Ended at le front num forwards = search (arith, t.kind)
 process_told_need n pt o m id t _ at le front num forwards = first_need n pt (Says (Line.Held id)) [] at tt
 
 by_kernel : (n : ℕ) (pt : Point) (c : Bool) (x w : Option (List Part)) → NeedOf n pt x → (c ≡ false → NeedOf n pt w) → NeedOf n pt (if c then x else w)

@@ -201,14 +201,13 @@ can_here C never m o i t _ e num = absurd (grind (arith, nat_tests))
 can_over : (C : Type 0) (never : C → ⊥) (m : ℕ) (o : Point) (i : MsgId) (t : Told) (k : MessageKind) → own_sort k t.receiver t.about ≡ true → (t.receiver.num == 0) ≡ false → Can C m (begun o m) (told_ended i (sort_of k))
 can_over C never m o i t k h1 h2 = search (arith, can_plain)
 
-can_known : (C : Type 0) (never : C → ⊥) (b : Boot) (m : ℕ) (o : Point) (i : MsgId) (f : FrontOwn b m o i) (n : Known) → o.view.known m f.told.receiver ≡ n → n ≢ Unknown → (f.told.receiver.num == 0) ≡ false → pid_eq f.told.receiver switchboard ≡ false → pid_eq f.told.receiver manager ≡ false → Can C m (begun o m) (process_told o m i f.told n)
-can_known C never b m o i f Unknown is there num one two = absurd (there refl)
-can_known C never b m o i f Here is there num one two =
+can_known : (C : Type 0) (never : C → ⊥) (b : Boot) (m : ℕ) (o : Point) (i : MsgId) (f : FrontOwn b m o i) (n : Known) → o.view.known m f.told.receiver ≡ n → (f.told.receiver.num == 0) ≡ false → pid_eq f.told.receiver switchboard ≡ false → pid_eq f.told.receiver manager ≡ false → Can C m (begun o m) (process_told o m i f.told n)
+can_known C never b m o i f Unknown is num one two = can_over C never m o i f.told f.told.kind (own_sorted b m o i f) num
+can_known C never b m o i f Here is num one two =
     can_as C m (begun o m) (process_told o m i f.told Here) (told_here o m i f.told (sort_of f.told.kind)) (no_server (pid_eq f.told.receiver switchboard) (pid_eq f.told.receiver manager) _ _ _ one two) (can_here C never m o i f.told f.told.kind (own_sorted b m o i f) num)
-can_known C never b m o i f (Forward at_ moves) is there num one two = can_plain C m (begun o m) (forwards_on o.addresses i f.told.kind manager at_) never (forwards_plain (begun o m).view o.addresses i f.told.kind manager at_ (ap is_some f.told_is))
+can_known C never b m o i f (Forward at_ moves) is num one two = can_plain C m (begun o m) (forwards_on o.addresses i f.told.kind manager at_) never (forwards_plain (begun o m).view o.addresses i f.told.kind manager at_ (ap is_some f.told_is))
     (forwards_own (begun o m).view o.addresses i f.told.kind manager at_ (forwarded_place (begun o m).view i at_ f.told at_ moves f.told_is is) (λ e. refl))
-can_known C never b m o i f Known.Ended is there num one two = can_over C never m o i f.told f.told.kind (own_sorted b m o i f) num
-can_known C never b m o i f _ is there num one two = can_plain C m (begun o m) (Says (Line.Held i) ∷ []) never (refl, tt) (NoOwns (tt, tt))
+can_known C never b m o i f _ is num one two = can_plain C m (begun o m) (Says (Line.Held i) ∷ []) never (refl, tt) (NoOwns (tt, tt))
 
 can_told_server : (C : Type 0) (never : C → ⊥) (b : Boot) (m : ℕ) (o : Point) (i : MsgId) (f : FrontOwn b m o i) → (f.told.receiver.num == 0) ≡ false → is_server f.told.receiver ≡ true → hears_here o m i f.told ≡ told_server o i f.told (sort_of f.told.kind)
     → Can C m (begun o m) (process_told o m i f.told (o.view.known m f.told.receiver))
@@ -221,7 +220,7 @@ can_other : (C : Type 0) (never : C → ⊥) (b : Boot) (m : ℕ) (o : Point) (i
 can_other C never b m o i f false false num one two =
     let server : is_server f.told.receiver ≡ false = ap (λ (c : Bool). c || pid_eq f.told.receiver manager) one ∙ two in
     let loose : is_fixed f.told.receiver ≡ false = ap (λ (c : Bool). c || is_server f.told.receiver) num ∙ server in
-    can_known C never b m o i f (o.view.known m f.told.receiver) refl (f.run.found.process i (Inbox m) f.told f.first f.told_is loose) num one two
+    can_known C never b m o i f (o.view.known m f.told.receiver) refl num one two
 can_other C never b m o i f true e num one two = can_told_server C never b m o i f num (ap (λ (c : Bool). c || pid_eq f.told.receiver manager) one) (ap (λ (c : Bool). if c then told_server o i f.told (sort_of f.told.kind) else if pid_eq f.told.receiver manager then told_server o i f.told (sort_of f.told.kind) else told_here o m i f.told (sort_of f.told.kind)) one)
 can_other C never b m o i f false true num one two =
     can_told_server C never b m o i f num (ap (λ (c : Bool). c || pid_eq f.told.receiver manager) one ∙ two)

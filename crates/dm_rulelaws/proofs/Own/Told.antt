@@ -30,6 +30,7 @@ to_kernels q a = (q.num == 0) && is_process a
 
 abbrev pub sort_fits : Sort → Pid → About → Bool
 sort_fits (Sort.Between passage) q a = to_kernels q a
+sort_fits Sort.Buries q a = to_kernels q a
 sort_fits Sort.Notice q a = not (q.num == 0) && is_place a
 sort_fits Sort.Request q a = not (is_fixed q) && is_target a
 sort_fits _ q a = false

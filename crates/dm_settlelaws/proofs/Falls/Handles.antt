@@ -143,13 +143,12 @@ own_row pt m i told msg ps e =
     let (x, there, is) = bind-is (kernel.alive (pt.kernel.processes msg.to)) (λ x. here_handles pt m i msg x msg.what) ps e in here_row pt m i told msg x msg.what ps is
 
 process_row : (pt : Point) (m : ℕ) (i : MsgId) (told : Option Told) (msg : PlainMessage) (k : Known) → HandlesBy i told (process_handles pt m i msg k)
-process_row pt m i told msg Known.Unknown ps e = cc
+process_row pt m i told msg Known.Unknown ps e = ended_row i told msg.what ps e
 process_row pt m i told msg Known.Here ps e =
     chosen i told (pid_eq msg.to switchboard) (board_took i (board.board_takes pt.kernel.switchboard msg msg.what)) _ (board_row i told (board.board_takes pt.kernel.switchboard msg msg.what))
     (chosen i told (pid_eq msg.to manager) (manager_parts i (manage.manager_takes pt.kernel.manager pt.kernel.machines (length pt.kernel.images) msg msg.what)) _
     (manager_row i told (manage.manager_takes pt.kernel.manager pt.kernel.machines (length pt.kernel.images) msg msg.what)) (own_row pt m i told msg)) ps e
 process_row pt m i told msg (Known.Forward at moves) ps e = forwards_row pt i told (plain_kind msg.what) msg.sender at ps e
-process_row pt m i told msg Known.Ended ps e = ended_row i told msg.what ps e
 process_row pt m i told msg _ ps e = quiet_row i told (Line.Held i) [] ps refl refl refl tt e
 
 bag_row : (b : Boot) (pt : Point) (m : ℕ) (i : MsgId) (told : Option Told) (msg : PlainMessage) → HandlesBy i told (handles b pt m i msg)
@@ -217,12 +216,11 @@ ended_told_row i t MessageKind.Update ps e = quiet_row i (Some t) (Line.Updated 
 ended_told_row i t k ps e = cc
 
 process_told_row : (pt : Point) (m : ℕ) (i : MsgId) (t : Told) (k : Known) → HandlesBy i (Some t) (process_told pt m i t k)
-process_told_row pt m i t Known.Unknown ps e = cc
+process_told_row pt m i t Known.Unknown ps e = ended_told_row i t t.kind ps e
 process_told_row pt m i t Known.Here ps e =
     chosen i (Some t) (pid_eq t.receiver switchboard) (told_server pt i t (sort_of t.kind)) _ (server_row pt i t t.kind)
     (chosen i (Some t) (pid_eq t.receiver manager) (told_server pt i t (sort_of t.kind)) _ (server_row pt i t t.kind) (here_told_row pt m i t t.kind)) ps e
 process_told_row pt m i t (Known.Forward at moves) ps e = forwards_row pt i (Some t) t.kind manager at ps e
-process_told_row pt m i t Known.Ended ps e = ended_told_row i t t.kind ps e
 process_told_row pt m i t _ ps e = quiet_row i (Some t) (Line.Held i) [] ps refl refl refl tt e
 
 hears_row : (b : Boot) (pt : Point) (m : ℕ) (i : MsgId) (told : Option Told) → HandlesBy i told (hears b pt m i told)
