@@ -73,6 +73,11 @@ pub enum Line {
         id: MsgId,
         count: u32,
     },
+    /// A process that has ended is forgotten, and so many other machines are told.
+    Buried {
+        id: MsgId,
+        count: u32,
+    },
     /// A step of a migration.
     Migration {
         step: Stage,

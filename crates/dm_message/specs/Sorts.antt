@@ -36,8 +36,8 @@ pub data Sort : Type 0 where
   Notice : Sort
   -- a step of a migration
   Between : (passage : Passage) → Sort
-  -- nothing sends this yet: from kernel to kernel
-  Unsent : Sort
+  -- a process has ended that another machine's kernel may know of
+  Buries : Sort
 
 -- each kind: its number in packets, its word in printed lines, and its sort
 abbrev pub kind_row : MessageKind → ℕ × List ℕ × Sort
@@ -66,7 +66,7 @@ kind_row kind.Restart = (22, codes "restart", Between Restart)
 kind_row kind.Move = (23, codes "move", MoveAsked)
 kind_row kind.Moved = (24, codes "moved", MoveAnswered)
 kind_row kind.CallOff = (25, codes "calloff", Between CallOff)
-kind_row kind.Bury = (26, codes "bury", Unsent)
+kind_row kind.Bury = (26, codes "bury", Buries)
 
 abbrev pub sort_of : MessageKind → Sort
 sort_of k = (kind_row k).2

@@ -154,7 +154,7 @@ pub enum What {
     CallOff {
         pid: Pid,
     },
-    /// What is known of an ended process may be forgotten.
+    /// A process has ended: what is known of it is to be forgotten.
     Bury {
         pid: Pid,
     },
