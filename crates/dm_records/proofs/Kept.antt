@@ -32,3 +32,23 @@ pub in_same : {R : Type 0} (old : Pid → Option (Option R)) (n : Option (Option
     → option_flatten n ≡ option_flatten (old q)
 in_same old n p q w is e =
     in_set old n p q w e ∙ as_it_was (pid_eq p q) w (option_flatten (old q)) (λ same. sym (ap option_flatten is) ∙ ap (λ (r : Pid). option_flatten (old r)) (pid_same p q same))
+
+-- what is seen of a place that is set, and of the others
+seen_chosen : {P X : Type 0} (see : Option P → X) (same : Bool) (n o : Option P) (w : P) → n ≡ cond same (Some w) o → see n ≡ (if same then see (Some w) else see o)
+seen_chosen see true n o w e = ap see e
+seen_chosen see false n o w e = ap see e
+
+pub seen_set : {P X : Type 0} (see : Option P → X) (old : Pid → Option P) (n : Option P) (p q : Pid) (w : P) → n ≡ cond (is_at (pid_cmp p) q) (Some w) (old q) → see n ≡ (if pid_eq p q then see (Some w) else see (old q))
+seen_set see old n p q w e = seen_chosen see (pid_eq p q) n (old q) w (e ∙ ap (λ (b : Bool). cond b (Some w) (old q)) (same_at p q))
+
+seen_as : {X : Type 0} (same : Bool) (n o : X) → (same ≡ true → n ≡ o) → (if same then n else o) ≡ o
+seen_as true n o e = e refl
+seen_as false n o e = refl
+
+-- and where what is seen of it stays
+pub seen_kept : {P X : Type 0} (see : Option P → X) (old : Pid → Option P) (n : Option P) (p q : Pid) (w : P) → see (Some w) ≡ see (old p) → n ≡ cond (is_at (pid_cmp p) q) (Some w) (old q) → see n ≡ see (old q)
+seen_kept see old n p q w is e = seen_set see old n p q w e ∙ seen_as (pid_eq p q) (see (Some w)) (see (old q)) (λ same. is ∙ ap (λ (r : Pid). see (old r)) (pid_same p q same))
+
+-- a record that is set as it was
+pub same_set : {R : Type 0} (records : Pid → Option R) (n : Option R) (p q : Pid) (x : R) → records p ≡ Some x → n ≡ (if pid_eq p q then Some x else records q) → n ≡ records q
+same_set records n p q x is e = e ∙ seen_as (pid_eq p q) (Some x) (records q) (λ same. sym is ∙ ap records (pid_same p q same))

@@ -1,20 +1,33 @@
 -- What a machine's records say, as a function of the process.
-use Rattle.std.specs.Prelude.{if◌then◌else◌, IsSome, option_and_then}
-use Rattle.std.specs.Option.{option_flatten}
+use Rattle.std.specs.Prelude.{◌≡◌, ℕ, Bool, false, ◌==◌, ◌&&◌, ◌||◌, if◌then◌else◌, IsSome, option_and_then}
+use Rattle.std.specs.Option.{option_map_or}
 use Rattle.std.specs.declared.option.Option.{Option}
 use Rattle.std.specs.declared.option.Option.TheVariants.{None, Some}
 use Rattle.std.specs.BTreeMap.{get}
 use Rattle.dm_link.specs.declared.Pid.{Pid}
 use Rattle.dm_link.specs.Names.{pid_eq, pid_cmp}
 use Rattle.dm_records.specs.declared.record.Record.{Record}
-use Rattle.dm_records.specs.declared.record.Record.TheVariants.{Here, Frozen, Incoming, Forward, Ended}
+use Rattle.dm_records.specs.declared.record.Record.TheVariants.{Here, Frozen, Incoming, Forward}
 use Rattle.dm_records.specs.declared.record.Whereabouts.{Whereabouts}
 use Rattle.dm_records.specs.declared.record.Whereabouts.TheVariants as where_
+use Rattle.dm_records.specs.declared.records.Place.{Place}
 use Rattle.dm_records.specs.declared.records.Records.{Records}
+use Rattle.dm_records.specs.Machines.{has}
+
+-- what a place has
+abbrev pub known_in : {H L A : Type 0} → Place H L A → Option (Record H L A)
+known_in place = place.known
+
+abbrev pub precedes : {H L A : Type 0} → Place H L A → ℕ → Bool
+precedes place n = has place.predecessors n
 
 -- the record of a process
 unfoldable pub at : {H L A : Type 0} → Records H L A → Pid → Option (Record H L A)
-at records q = option_flatten (get pid_cmp records.places q)
+at records q = option_and_then known_in (get pid_cmp records.places q)
+
+-- whether another machine is a predecessor of a process
+unfoldable pub pred_at : {H L A : Type 0} → Records H L A → Pid → ℕ → Bool
+pred_at records q n = option_map_or (λ place. precedes place n) (get pid_cmp records.places q) false
 
 -- a process has a place, with its record or without
 unfoldable pub HasPlace : {H L A : Type 0} → Records H L A → Pid → Type 0
@@ -28,13 +41,24 @@ with_record records p entry q = if pid_eq p q then Some entry else records q
 abbrev pub without_record : {H L A : Type 0} → (Pid → Option (Record H L A)) → Pid → Pid → Option (Record H L A)
 without_record records p q = if pid_eq p q then None else records q
 
+-- the predecessors with one more of p
+abbrev pub with_pred : (Pid → ℕ → Bool) → Pid → ℕ → Pid → ℕ → Bool
+with_pred preds p m q n = (pid_eq p q && (m == n)) || preds q n
+
+-- the predecessors without those of p
+abbrev pub without_preds : (Pid → ℕ → Bool) → Pid → Pid → ℕ → Bool
+without_preds preds p q n = if pid_eq p q then false else preds q n
+
+-- the predecessors stay
+abbrev pub KeepsPreds : {H L A : Type 0} → Records H L A → Records H L A → Type 0
+KeepsPreds before after = (q : Pid) (n : ℕ) → pred_at after q n ≡ pred_at before q n
+
 -- where a record says that its process is
 abbrev pub whereabouts_of : {H L A : Type 0} → Record H L A → Whereabouts
 whereabouts_of (Here process) = where_.Here
 whereabouts_of (Frozen leaving) = where_.Frozen
 whereabouts_of (Incoming arriving) = where_.Incoming
 whereabouts_of (Forward machine moves) = where_.Forward machine moves
-whereabouts_of Ended = where_.Ended
 
 -- the process, where it is here
 abbrev pub process_of : {H L A : Type 0} → Record H L A → Option H

@@ -14,10 +14,8 @@ pub enum Record<H, L, A> {
     Frozen(L),
     /// Parts of it have come from another machine (1983).
     Incoming(A),
-    /// It has gone on to machine `at`, 0 to 15, by its move number `moves`; that is all that is kept of it (1983).
+    /// It has gone on to machine `at`, 0 to 15, by its move number `moves`; that is all that is kept of it, until it ends (1983).
     Forward { at: u8, moves: u32 },
-    /// It has ended here.
-    Ended,
 }
 
 /// Which of these a machine knows.
@@ -27,7 +25,6 @@ pub enum Whereabouts {
     Frozen,
     Incoming,
     Forward { at: u8, moves: u32 },
-    Ended,
 }
 
 impl<H, L, A> Record<H, L, A> {
@@ -43,7 +40,6 @@ impl<H, L, A> Record<H, L, A> {
                 at: *at,
                 moves: *moves,
             },
-            Record::Ended => Whereabouts::Ended,
         }
     }
     /// The process, if it is here, for writing.
@@ -56,7 +52,6 @@ impl<H, L, A> Record<H, L, A> {
             Record::Frozen(_) => None,
             Record::Incoming(_) => None,
             Record::Forward { .. } => None,
-            Record::Ended => None,
         }
     }
     /// The process, if it leaves, for writing.
@@ -69,7 +64,6 @@ impl<H, L, A> Record<H, L, A> {
             Record::Frozen(leaving) => Some(leaving),
             Record::Incoming(_) => None,
             Record::Forward { .. } => None,
-            Record::Ended => None,
         }
     }
     /// What has come of the process, if parts have come, for writing.
@@ -82,7 +76,6 @@ impl<H, L, A> Record<H, L, A> {
             Record::Frozen(_) => None,
             Record::Incoming(arriving) => Some(arriving),
             Record::Forward { .. } => None,
-            Record::Ended => None,
         }
     }
 
@@ -95,7 +88,6 @@ impl<H, L, A> Record<H, L, A> {
             Record::Frozen(_) => None,
             Record::Incoming(_) => None,
             Record::Forward { .. } => None,
-            Record::Ended => None,
         }
     }
 
@@ -108,7 +100,6 @@ impl<H, L, A> Record<H, L, A> {
             Record::Frozen(leaving) => Some(leaving),
             Record::Incoming(_) => None,
             Record::Forward { .. } => None,
-            Record::Ended => None,
         }
     }
 
@@ -121,7 +112,6 @@ impl<H, L, A> Record<H, L, A> {
             Record::Frozen(_) => None,
             Record::Incoming(arriving) => Some(arriving),
             Record::Forward { .. } => None,
-            Record::Ended => None,
         }
     }
 
@@ -137,7 +127,6 @@ impl<H, L, A> Record<H, L, A> {
             Record::Frozen(_) => None,
             Record::Incoming(_) => None,
             Record::Forward { .. } => None,
-            Record::Ended => None,
         }
     }
 
@@ -153,7 +142,6 @@ impl<H, L, A> Record<H, L, A> {
             Record::Frozen(leaving) => Some(leaving),
             Record::Incoming(_) => None,
             Record::Forward { .. } => None,
-            Record::Ended => None,
         }
     }
 
@@ -169,7 +157,6 @@ impl<H, L, A> Record<H, L, A> {
             Record::Frozen(_) => None,
             Record::Incoming(arriving) => Some(arriving),
             Record::Forward { .. } => None,
-            Record::Ended => None,
         }
     }
 }

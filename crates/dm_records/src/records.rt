@@ -1,37 +1,49 @@
 //! The records of a machine, by process.
-ghost use Rattle.std.specs.Prelude.{IfErr, IsSome, None, OnErr, OnOk, Some, ◌≡◌, ◌↔◌, option_map};
+ghost use Rattle.std.specs.Prelude.{IfErr, IsSome, None, OnErr, OnOk, Some, ℕ, ◌≡◌, ◌<◌, ◌↔◌, false, option_map};
 ghost use Rattle.std.specs.Borrow.{sem};
 ghost use Rattle.std.specs.Option.{option_copied, option_copied_mut};
 ghost use Rattle.dm_link.specs.declared.Pid.{Pid};
 ghost use Rattle.dm_records.specs.Lent.{LendsFrozen, LendsHere, LendsIncoming, LendsRecord};
-ghost use Rattle.dm_records.specs.Records.{HasPlace, Grows, at, frozen_of, here_of, incoming_of, whereabouts_of, with_record, without_record};
+ghost use Rattle.dm_records.specs.Machines.{has};
+ghost use Rattle.dm_records.specs.Records.{HasPlace, Grows, KeepsPreds, at, frozen_of, here_of, incoming_of, pred_at, whereabouts_of, with_pred, with_record, without_preds, without_record};
 
+use crate::machines::Machines;
 use crate::record::{Record, Whereabouts};
-use dm_link::Pid;
+use dm_link::{MACHINES, Pid};
 use dm_memory::{NoMemory, insert_or_return};
 use std::alloc::Global;
 use std::collections::BTreeMap;
 
-/// What a machine knows of processes. A record once made never goes, and only making one takes memory. A record can be
-/// taken out; its process keeps a place meanwhile, so it can be put back.
+/// What is kept of a process.
 #[derive(Drop)]
-pub struct Records<H, L, A> {
-    /// A place for each process that ever had a record; it is empty while that is taken out.
-    places: BTreeMap<Pid, Option<Record<H, L, A>>>,
+struct Place<H, L, A> {
+    /// Its record; nothing while that is taken out.
+    known: Option<Record<H, L, A>>,
+    /// The other machines that may send on to this one what comes for it.
+    predecessors: Machines,
 }
 
-#[tactic(auto, unfolding(crate::specs::Records::at, crate::specs::Records::HasPlace))]
+/// What a machine knows of processes, and beside each record the predecessors of its process, which stay as the record changes. Only
+/// making a record takes memory. A record can be taken out; its process keeps a place meanwhile, so it can be put back.
+#[derive(Drop)]
+pub struct Records<H, L, A> {
+    /// A place for each process that has a record.
+    places: BTreeMap<Pid, Place<H, L, A>>,
+}
+
+#[tactic(auto, unfolding(crate::specs::Records::at, crate::specs::Records::pred_at, crate::specs::Records::HasPlace))]
 impl<H, L, A> Records<H, L, A> {
     /// No records.
     pub fn new(alloc: Global) -> Self
-        ensures { (q : Pid) → at result q ≡ None }
+        ensures records { (q : Pid) → at result q ≡ None }
+        ensures preds { (q : Pid) (n : ℕ) → pred_at result q n ≡ false }
     {
         Records {
             places: BTreeMap::new(alloc),
         }
     }
 
-    /// Where a process is, as far as this machine knows; nothing exactly where no record was made.
+    /// Where a process is, as far as this machine knows; nothing exactly where there is no record.
     pub fn whereabouts(&self, pid: Pid) -> Option<Whereabouts>
         ensures place { result ≡ option_map whereabouts_of (at self.now pid) }
         ensures known { IsSome result ↔ IsSome (at self.now pid) }
@@ -47,7 +59,7 @@ impl<H, L, A> Records<H, L, A> {
         ensures { option_copied result ≡ at self.now pid }
     {
         match self.places.get(&pid) {
-            Some(place) => place.as_ref(),
+            Some(place) => place.known.as_ref(),
             None => None,
         }
     }
@@ -90,7 +102,7 @@ impl<H, L, A> Records<H, L, A> {
         }
     }
 
-    /// Sets the record of a process, or hands it back; it can't fail where there is one.
+    /// Sets the record of a process, or hands it back; it can't fail where there is one. The predecessors stay.
     pub fn set(
         &mut self,
         pid: Pid,
@@ -105,21 +117,83 @@ impl<H, L, A> Records<H, L, A> {
         ensures returned { IfErr result (λ e. e.0 ≡ entry) }
         ensures absent { OnErr result (at self.old pid ≡ None) }
         ensures grows { Grows (at self.old) (at self.new) }
+        ensures preds { KeepsPreds self.old self.new }
     {
-        match insert_or_return(&mut self.places, pid, Some(entry)) {
-            Ok(_) => Ok(()),
-            Err(((_, place), no)) => Err((place.unwrap(), no)),
+        match self.places.get_mut(&pid) {
+            Some(place) => {
+                place.known = Some(entry);
+                Ok(())
+            }
+            None => self.add(pid, entry),
         }
     }
 
-    /// Takes out the record of a process.
+    /// Sets the first record of a process, or hands it back.
+    fn add(&mut self, pid: Pid, entry: Record<H, L, A>) -> Result<(), (Record<H, L, A>, NoMemory)>
+    where
+        H: Drop,
+        L: Drop,
+        A: Drop,
+        requires no_record { at self.old pid ≡ None }
+        requires no_preds { (n : ℕ) → pred_at self.old pid n ≡ false }
+        ensures ok { OnOk result ((q : Pid) → at self.new q ≡ with_record (at self.old) pid entry q) }
+        ensures err { OnErr result ((q : Pid) → at self.new q ≡ at self.old q) }
+        ensures returned { IfErr result (λ e. e.0 ≡ entry) }
+        ensures preds { KeepsPreds self.old self.new }
+    {
+        let place = Place {
+            known: Some(entry),
+            predecessors: Machines::none(),
+        };
+        match insert_or_return(&mut self.places, pid, place) {
+            Ok(_) => Ok(()),
+            Err(((_, place), no)) => Err((place.known.unwrap(), no)),
+        }
+    }
+
+    /// Removes what is kept of a process, and answers the record that it had.
+    pub fn remove(&mut self, pid: Pid) -> Option<Record<H, L, A>>
+        ensures before { at self.old pid ≡ result }
+        ensures after { (q : Pid) → at self.new q ≡ without_record (at self.old) pid q }
+        ensures preds { (q : Pid) (n : ℕ) → pred_at self.new q n ≡ without_preds (pred_at self.old) pid q n }
+    {
+        match self.places.remove(&pid) {
+            Some(place) => place.known,
+            None => None,
+        }
+    }
+
+    /// The predecessors of a process: the other machines that may send on to this one what comes for it. None where there is no record.
+    pub fn predecessors(&self, pid: Pid) -> Machines
+        ensures { (n : ℕ) → has result n ≡ pred_at self.now pid n }
+    {
+        match self.places.get(&pid) {
+            Some(place) => place.predecessors,
+            None => Machines::none(),
+        }
+    }
+
+    /// Adds a machine to the predecessors of a process.
+    pub fn add_predecessor(&mut self, pid: Pid, machine: u8)
+        requires place { HasPlace self.old pid }
+        requires machine { machine < MACHINES }
+        ensures preds { (q : Pid) (n : ℕ) → pred_at self.new q n ≡ with_pred (pred_at self.old) pid machine q n }
+        ensures records { (q : Pid) → at self.new q ≡ at self.old q }
+        ensures places { (q : Pid) → HasPlace self.old q → HasPlace self.new q }
+    {
+        let place = self.places.get_mut(&pid).unwrap();
+        place.predecessors = place.predecessors.with(machine);
+    }
+
+    /// Takes out the record of a process, whose place and predecessors stay.
     pub fn take(&mut self, pid: Pid) -> Record<H, L, A>
         requires { IsSome (at self.old pid) }
         ensures before { at self.old pid ≡ Some result }
         ensures after { (q : Pid) → at self.new q ≡ without_record (at self.old) pid q }
         ensures place { HasPlace self.new pid }
+        ensures preds { KeepsPreds self.old self.new }
     {
-        self.places.get_mut(&pid).unwrap().take().unwrap()
+        self.places.get_mut(&pid).unwrap().known.take().unwrap()
     }
 
     /// Puts a record into the place of a process whose record was taken out.
@@ -129,9 +203,11 @@ impl<H, L, A> Records<H, L, A> {
         L: Drop,
         A: Drop,
         requires { HasPlace self.old pid }
-        ensures { (q : Pid) → at self.new q ≡ with_record (at self.old) pid entry q }
+        ensures records { (q : Pid) → at self.new q ≡ with_record (at self.old) pid entry q }
+        ensures place { HasPlace self.new pid }
+        ensures preds { KeepsPreds self.old self.new }
     {
-        *self.places.get_mut(&pid).unwrap() = Some(entry);
+        self.places.get_mut(&pid).unwrap().known = Some(entry);
     }
 
     /// Takes out a process that is here.
@@ -143,6 +219,7 @@ impl<H, L, A> Records<H, L, A> {
         ensures before { here_of (at self.old pid) ≡ Some result }
         ensures after { (q : Pid) → at self.new q ≡ without_record (at self.old) pid q }
         ensures place { HasPlace self.new pid }
+        ensures preds { KeepsPreds self.old self.new }
     {
         self.take(pid).into_here().unwrap()
     }
@@ -156,6 +233,7 @@ impl<H, L, A> Records<H, L, A> {
         ensures before { frozen_of (at self.old pid) ≡ Some result }
         ensures after { (q : Pid) → at self.new q ≡ without_record (at self.old) pid q }
         ensures place { HasPlace self.new pid }
+        ensures preds { KeepsPreds self.old self.new }
     {
         self.take(pid).into_frozen().unwrap()
     }
@@ -169,6 +247,7 @@ impl<H, L, A> Records<H, L, A> {
         ensures before { incoming_of (at self.old pid) ≡ Some result }
         ensures after { (q : Pid) → at self.new q ≡ without_record (at self.old) pid q }
         ensures place { HasPlace self.new pid }
+        ensures preds { KeepsPreds self.old self.new }
     {
         self.take(pid).into_incoming().unwrap()
     }
@@ -179,7 +258,7 @@ impl<H, L, A> Records<H, L, A> {
         ensures value { option_copied_mut result ≡ at self.old pid }
     {
         match self.places.get_mut(&pid) {
-            Some(place) => place.as_mut(),
+            Some(place) => place.known.as_mut(),
             None => None,
         }
     }
