@@ -1,8 +1,7 @@
 -- A step of the kernel without machines: where it leads, row by row. Whatever holds where each row leads holds where the step leads.
 use Rattle.dm_rule.proofs.Names.{◌≡◌, ℕ, ◌+◌, ◌==◌, ◌&&◌, Bool, true, false, take, drop, refl, subst, length, if◌then◌else◌, slice_get, Option, None, Some, Pid, pid_of, pid_eq, MsgId, id_eq, Label, Reply, Why, reply_eq, why_eq}
 use Rattle.dm_rule.proofs.Names.{PlainMessage, PlainWhat, BootImage, first_number, switchboard, manager, bind, PlainProcess, PlainStatus, Ready, Alive, OneKernel, with_process, with_sent, without_message, answer_to, plain_kind, bind-is}
-use Rattle.dm_rule.proofs.Names.{when-is, at_hand-is, Nexts, nexts, is_dropped, why_ended-is, Runs, Completing, completing, pending_of, MoveNote, Outcome, with_note, arith, nat_tests, and_parts}
-use Rattle.dm_onekernel.specs.Kernel.{Ended}
+use Rattle.dm_rule.proofs.Names.{when-is, at_hand-is, Nexts, nexts, is_dropped, why_ended-is, Runs, Completing, completing, pending_of, MoveNote, Outcome, with_note, arith, nat_tests, and_parts, Ended}
 use Rattle.dm_onekernel.specs.Calls as calls
 use Rattle.dm_onekernel.specs.Manager as manage
 use Rattle.dm_onekernel.specs.Pieces as pieces

@@ -2,7 +2,7 @@
 use Rattle.dm_rule.proofs.Names.{◌≡◌, ℕ, ◌+◌, ◌≤◌, ◌==◌, Bool, true, false, List, [], ◌∷◌, refl, ap, ◌∙◌, sym, subst, arith, length, if◌then◌else◌, slice_get, Option, None, Some, Pid, pid_eq, MsgId, Label, PlainMessage, PlainWhat, bind}
 use Rattle.dm_rule.proofs.Names.{OneKernel, Line, at_record, without_id, View, view_after, handled, receiver_of, Point, label_of, kernel_after, moved, Part, Says, Routes, Spelled, spelled, Spot, Queue, times, ids_at, id_eq-same, bind-is}
 use Rattle.dm_rule.proofs.Names.{Boot, BootImage, Why, first_number, switchboard, manager, PlainProcess, PlainStatus, Ready, Waiting, Moving, answer_id, pid_of, forwards_on, says, drop_parts, plain_kind, instruction, NothingElse, Outcome}
-use Rattle.dm_rule.proofs.Names.{Target, answers_move, asked_to_move, leaves_for, move_target, option_map_or}
+use Rattle.dm_rule.proofs.Names.{◌++◌, map, MessageKind, preds_of, to_kernel, Target, answers_move, asked_to_move, leaves_for, move_target, option_map_or}
 use Rattle.dm_onekernel.specs.Step as kernel
 use Rattle.dm_rule.specs.View as view
 use Rattle.dm_rule.proofs.Lines.{Stands-queued, Stands-dequeued, without_counts}
@@ -19,7 +19,8 @@ use Rattle.dm_rule.proofs.Bags.{bag_created, bag_no_space}
 use Rattle.dm_rule.proofs.States.{State, says_next, said, State-at, by_label, by_line, PairsFit}
 use Rattle.dm_rule.proofs.Turns.{served_keeps, serving_off, created_off, quiet_label, front_label, dropped_told, front_unqueued, all_dropped, ended_off, gone_out, at_record_same, without_front_none}
 use Rattle.dm_rule.proofs.Letters.{letters, letter_of}
-use Rattle.dm_rule.proofs.Said.{fits_as, one_line, line_and_route}
+use Rattle.dm_rule.proofs.Said.{Steady, fits_as, one_line, line_and_route}
+use Rattle.dm_rule.proofs.Moves.Sent.{owns_all}
 use Rattle.dm_rule.proofs.Moves.Rows.{held_row, forwards_row, hears_row, answers_row, SeesSame}
 use Rattle.dm_rule.proofs.Moves.Rows.{frozen_state}
 use Rattle.dm_rule.proofs.Moves.Rows.{goes_row}
@@ -30,43 +31,53 @@ line_and_maybe : (pt : Point) (l : Line) (o : Option PlainMessage) (w : Spelled)
 line_and_maybe pt l None w e pair fits h = one_line pt l w e h
 line_and_maybe pt l (Some m) w e pair fits h = line_and_route pt l m.id w e pair fits h
 
--- a process ends, and its queue is dropped
-ends_row : (pt : Point) (p : Pid) (y : Why) (queue : List MsgId) (w : Spelled) → State None pt → pt.view.queue pt.view.acting p ≡ queue → spelled pt (says (Label.End p y) ∷ drop_parts queue) ≡ Some w → State None w.point
-ends_row pt p y queue w h is e =
+-- a process has ended: its queue is dropped, and the kernels of other machines are told
+abbrev after_end : List MsgId → List ℕ → List Part
+after_end queue ms = drop_parts queue ++ map (to_kernel MessageKind.Bury) ms
+
+ended_behind : (pt : Point) (p : Pid) (queue : List MsgId) (ms : List ℕ) (w : Spelled) → Steady pt → pt.view.queue pt.view.acting p ≡ queue → spelled pt (after_end queue ms) ≡ Some w → State None w.point
+ended_behind pt p queue ms w h is e =
+    let n = all_dropped queue (map (to_kernel MessageKind.Bury) ms) pt p w h is e in
+    State-at None n.rest.point w.point n.point (owns_all MessageKind.Bury ms n.next n.rest n.stands n.more)
+
+ends_row : (pt : Point) (p : Pid) (y : Why) (queue : List MsgId) (ms : List ℕ) (w : Spelled) → State None pt → PairsFit pt.view → pt.view.queue pt.view.acting p ≡ queue → spelled pt (says (Label.End p y) ∷ after_end queue ms) ≡ Some w → State None w.point
+ends_row pt p y queue ms w h fits is e =
     let l = Label.End p y in
-    let k = says_next pt (Line.Label l) (drop_parts queue) w e in
-    State-at None k.rest.point w.point k.point (all_dropped queue (moved pt (Line.Label l) k.s) p k.rest (quiet_label pt l k.s None h k.is (bag_end h.e pt.kernel k.s p y k.is) (λ z. ended_off pt.view p z) (λ i. refl)) is k.more)
+    let k = says_next pt (Line.Label l) (after_end queue ms) w e in
+    let next = moved pt (Line.Label l) k.s in
+    State-at None k.rest.point w.point k.point
+    (ended_behind next p queue ms k.rest (record { state = quiet_label pt l k.s None h k.is (bag_end h.e pt.kernel k.s p y k.is) (λ z. ended_off pt.view p z) (λ i. refl); fits = fits_as pt.view next.view refl fits }) is k.more)
 
 -- what a call comes to
-called_row : (pt : Point) (p : Pid) (n : ℕ) (queue : List MsgId) (c : calls.Called) (w : Spelled) → State None pt → PairsFit pt.view → pt.view.queue pt.view.acting p ≡ queue → spelled pt (rule.called p n queue c) ≡ Some w → State None w.point
-called_row pt p n queue (calls.Replies reply x) w h fits is e =
+called_row : (pt : Point) (p : Pid) (n : ℕ) (queue : List MsgId) (ms : List ℕ) (c : calls.Called) (w : Spelled) → State None pt → PairsFit pt.view → pt.view.queue pt.view.acting p ≡ queue → spelled pt (rule.called p n (after_end queue ms) c) ≡ Some w → State None w.point
+called_row pt p n queue ms (calls.Replies reply x) w h fits is e =
     one_line pt (Line.Label (Label.Call p n reply)) w e (λ s k. quiet_label pt (Label.Call p n reply) s None h k (bag_call h.e pt.kernel s p n reply k) (λ z. refl) (λ i. refl))
-called_row pt p n queue (calls.Sends m x) w h fits is e =
+called_row pt p n queue ms (calls.Sends m x) w h fits is e =
     line_and_route pt (Line.Label (Label.Send p m.id)) m.id w e refl fits
     (λ s k. quiet_label pt (Label.Send p m.id) s (Some m.id) h k (bag_sends h.r h.e pt.kernel s p m.id k h.sound) (λ z. refl) (λ i. refl))
-called_row pt p n queue (calls.Waits x) w h fits is e =
+called_row pt p n queue ms (calls.Waits x) w h fits is e =
     one_line pt (Line.Label (Label.Wait p)) w e (λ s k. quiet_label pt (Label.Wait p) s None h k (bag_wait h.e pt.kernel s p k) (λ z. refl) (λ i. refl))
-called_row pt p n queue (calls.Outputs word x) w h fits is e =
+called_row pt p n queue ms (calls.Outputs word x) w h fits is e =
     one_line pt (Line.Label (Label.Out p word)) w e (λ s k. quiet_label pt (Label.Out p word) s None h k (bag_out h.e pt.kernel s p word k) (λ z. refl) (λ i. refl))
-called_row pt p n queue (calls.Ends because) w h fits is e = ends_row pt p because queue w h is e
+called_row pt p n queue ms (calls.Ends because) w h fits is e = ends_row pt p because queue ms w h fits is e
 
-stops_row : (pt : Point) (p : Pid) (queue : List MsgId) (o : Option kernel.Trap) (w : Spelled) → State None pt → PairsFit pt.view → pt.view.queue pt.view.acting p ≡ queue → spelled pt (rule.stops p queue o) ≡ Some w → State None w.point
-stops_row pt p queue None w h fits is e = State-at None pt w.point (said pt w e) h
-stops_row pt p queue (Some (kernel.Calls n c)) w h fits is e = called_row pt p n queue c w h fits is e
-stops_row pt p queue (Some (kernel.Faults fault)) w h fits is e = ends_row pt p (Why.Fault fault) queue w h is e
+stops_row : (pt : Point) (p : Pid) (queue : List MsgId) (ms : List ℕ) (o : Option kernel.Trap) (w : Spelled) → State None pt → PairsFit pt.view → pt.view.queue pt.view.acting p ≡ queue → spelled pt (rule.stops p (after_end queue ms) o) ≡ Some w → State None w.point
+stops_row pt p queue ms None w h fits is e = State-at None pt w.point (said pt w e) h
+stops_row pt p queue ms (Some (kernel.Calls n c)) w h fits is e = called_row pt p n queue ms c w h fits is e
+stops_row pt p queue ms (Some (kernel.Faults fault)) w h fits is e = ends_row pt p (Why.Fault fault) queue ms w h fits is e
 
-maybe_stops : (pt : Point) (p : Pid) (queue : List MsgId) (full : Bool) (o : Option kernel.Trap) (w : Spelled) → State None pt → PairsFit pt.view → pt.view.queue pt.view.acting p ≡ queue → spelled pt (if full then [] else rule.stops p queue o) ≡ Some w → State None w.point
-maybe_stops pt p queue true o w h fits is e = State-at None pt w.point (said pt w e) h
-maybe_stops pt p queue false o w h fits is e = stops_row pt p queue o w h fits is e
+maybe_stops : (pt : Point) (p : Pid) (queue : List MsgId) (ms : List ℕ) (full : Bool) (o : Option kernel.Trap) (w : Spelled) → State None pt → PairsFit pt.view → pt.view.queue pt.view.acting p ≡ queue → spelled pt (if full then [] else rule.stops p (after_end queue ms) o) ≡ Some w → State None w.point
+maybe_stops pt p queue ms true o w h fits is e = State-at None pt w.point (said pt w e) h
+maybe_stops pt p queue ms false o w h fits is e = stops_row pt p queue ms o w h fits is e
 
-executes_row : (pt : Point) (quantum : ℕ) (p : Pid) (queue : List MsgId) (x : PlainProcess) (r : rule.Ran) (w : Spelled) → State None pt → PairsFit pt.view → pt.view.queue pt.view.acting p ≡ queue → spelled pt (rule.executes quantum p queue x r) ≡ Some w → State None w.point
-executes_row pt quantum p queue x r w h fits is e =
+executes_row : (pt : Point) (quantum : ℕ) (p : Pid) (queue : List MsgId) (ms : List ℕ) (x : PlainProcess) (r : rule.Ran) (w : Spelled) → State None pt → PairsFit pt.view → pt.view.queue pt.view.acting p ≡ queue → spelled pt (rule.executes quantum p (after_end queue ms) x r) ≡ Some w → State None w.point
+executes_row pt quantum p queue ms x r w h fits is e =
     let l = Label.Ran p r.count in
-    let k = says_next pt (Line.Label l) (if r.count == quantum then [] else rule.stops p queue (kernel.next_row p (kernel.with_machine x r.machine) (instruction r.machine.regs r.machine.bytes))) w e in
+    let k = says_next pt (Line.Label l) (if r.count == quantum then [] else rule.stops p (after_end queue ms) (kernel.next_row p (kernel.with_machine x r.machine) (instruction r.machine.regs r.machine.bytes))) w e in
     let next = moved pt (Line.Label l) k.s in
     let there = quiet_label pt l k.s None h k.is (bag_ran h.e pt.kernel k.s p r.count k.is) (λ z. serving_off pt.view p z) (λ i. refl) in
     State-at None k.rest.point w.point k.point
-    (maybe_stops next p queue (r.count == quantum) (kernel.next_row p (kernel.with_machine x r.machine) (instruction r.machine.regs r.machine.bytes)) k.rest there (fits_as pt.view next.view refl fits) is k.more)
+    (maybe_stops next p queue ms (r.count == quantum) (kernel.next_row p (kernel.with_machine x r.machine) (instruction r.machine.regs r.machine.bytes)) k.rest there (fits_as pt.view next.view refl fits) is k.more)
 
 awaited_if : (s : OneKernel) (mask : ℕ) (i : MsgId) (is : List MsgId) (id : MsgId) (b : Bool) → (if b then Some i else rule.first_awaited s mask is) ≡ Some id → (rule.first_awaited s mask is ≡ Some id → 1 ≤ times id is) → 1 ≤ times id (i ∷ is)
 awaited_if s mask i is id true e later =
@@ -96,12 +107,13 @@ receives_row pt p x mask (Some id) parts w h first is e =
     let (c, done, last) = bind-is (receiving.completes_with p x m) (λ c. Some (rule.completion_parts p id c)) parts rest in
     completes_row pt p id c w h (awaited_stands pt.kernel mask (pt.view.queue pt.view.acting p) id first) (ap (spelled pt) (let f : rule.completion_parts p id c ≡ parts = cc in f) ∙ e)
 
-serves_row : (pt : Point) (quantum : ℕ) (p : Pid) (x : PlainProcess) (st : PlainStatus) (parts : List Part) (w : Spelled) → State None pt → PairsFit pt.view → rule.serves_status quantum pt.kernel p (pt.view.queue pt.view.acting p) x st ≡ Some parts → spelled pt parts ≡ Some w → State None w.point
-serves_row pt quantum p x Ready parts w h fits is e =
-    let f : rule.executes quantum p (pt.view.queue pt.view.acting p) x (rule.ran quantum (kernel.machine_of x)) ≡ parts = cc in
-    executes_row pt quantum p (pt.view.queue pt.view.acting p) x (rule.ran quantum (kernel.machine_of x)) w h fits refl (ap (spelled pt) f ∙ e)
-serves_row pt quantum p x (Waiting mask base size) parts w h fits is e = receives_row pt p x mask (rule.first_awaited pt.kernel mask (pt.view.queue pt.view.acting p)) parts w h refl is e
-serves_row pt quantum p x (Moving dir owner base own left pending) parts w h fits is e = cc
+serves_row : (pt : Point) (quantum : ℕ) (p : Pid) (ms : List ℕ) (x : PlainProcess) (st : PlainStatus) (parts : List Part) (w : Spelled) → State None pt → PairsFit pt.view
+    → rule.serves_status quantum pt.kernel p (pt.view.queue pt.view.acting p) (after_end (pt.view.queue pt.view.acting p) ms) x st ≡ Some parts → spelled pt parts ≡ Some w → State None w.point
+serves_row pt quantum p ms x Ready parts w h fits is e =
+    let f : rule.executes quantum p (after_end (pt.view.queue pt.view.acting p) ms) x (rule.ran quantum (kernel.machine_of x)) ≡ parts = cc in
+    executes_row pt quantum p (pt.view.queue pt.view.acting p) ms x (rule.ran quantum (kernel.machine_of x)) w h fits refl (ap (spelled pt) f ∙ e)
+serves_row pt quantum p ms x (Waiting mask base size) parts w h fits is e = receives_row pt p x mask (rule.first_awaited pt.kernel mask (pt.view.queue pt.view.acting p)) parts w h refl is e
+serves_row pt quantum p ms x (Moving dir owner base own left pending) parts w h fits is e = cc
 
 -- labels that answer the message at the inbox's front
 gone_row : (pt : Point) (i : MsgId) (is : List MsgId) (w : Spelled) → State None pt → PairsFit pt.view → pt.view.inbox pt.view.acting ≡ i ∷ is → spelled pt (says (Label.Gone i) ∷ Routes (answer_id i) ∷ []) ≡ Some w → State None w.point
@@ -178,15 +190,16 @@ lands_row pt i is m x (Some (pieces.Next request y)) parts w h fits front there 
 lands_row pt i is m x (Some (pieces.Done reply y)) parts w h fits front there alive put e k =
     served_alone pt i is m x w h front there alive put (ap (spelled pt) (let f : says (Label.Served i) ∷ [] ≡ parts = cc in f) ∙ k)
 
-killed_row : (pt : Point) (i : MsgId) (is : List MsgId) (m : PlainMessage) (x : PlainProcess) (w : Spelled) (h : State None pt) → pt.view.inbox pt.view.acting ≡ i ∷ is → pt.kernel.bag i ≡ Some m → kernel.alive (pt.kernel.processes m.to) ≡ Some x
-    → served_id i m x m.what ≡ None → spelled pt (says (Label.Served i) ∷ drop_parts (pt.view.queue pt.view.acting m.to)) ≡ Some w → State None w.point
-killed_row pt i is m x w h front there alive none e =
+killed_row : (pt : Point) (i : MsgId) (is : List MsgId) (m : PlainMessage) (x : PlainProcess) (ms : List ℕ) (w : Spelled) (h : State None pt) → PairsFit pt.view → pt.view.inbox pt.view.acting ≡ i ∷ is → pt.kernel.bag i ≡ Some m → kernel.alive (pt.kernel.processes m.to) ≡ Some x
+    → served_id i m x m.what ≡ None → spelled pt (says (Label.Served i) ∷ after_end (pt.view.queue pt.view.acting m.to) ms) ≡ Some w → State None w.point
+killed_row pt i is m x ms w h fits front there alive none e =
     let l = Label.Served i in
-    let k = says_next pt (Line.Label l) (drop_parts (pt.view.queue pt.view.acting m.to)) w e in
+    let k = says_next pt (Line.Label l) (after_end (pt.view.queue pt.view.acting m.to) ms) w e in
     let next = moved pt (Line.Label l) k.s in
     let keeps = served_keeps (handled pt.view i) (pt.view.told i) in
     let there_ = served_label pt i is None k.s h front k.is (subst (BagStep h.e pt.kernel k.s (Some i)) none (served_put pt i m x k.s h there alive k.is)) in
-    State-at None k.rest.point w.point k.point (all_dropped (pt.view.queue pt.view.acting m.to) next m.to k.rest there_ (ap (λ a. next.view.queue a m.to) keeps.3 ∙ ap (λ f. f pt.view.acting m.to) keeps.4) k.more)
+    State-at None k.rest.point w.point k.point
+    (ended_behind next m.to (pt.view.queue pt.view.acting m.to) ms k.rest (record { state = there_; fits = fits_as pt.view next.view keeps.2 fits }) (ap (λ a. next.view.queue a m.to) keeps.3 ∙ ap (λ f. f pt.view.acting m.to) keeps.4) k.more)
 
 queued_row : (pt : Point) (i : MsgId) (is : List MsgId) (m : PlainMessage) (w : Spelled) → State None pt → pt.view.inbox pt.view.acting ≡ i ∷ is → pt.kernel.bag i ≡ Some m → spelled pt (Says (Line.Queued i) ∷ []) ≡ Some w → State None w.point
 queued_row pt i is m w h front there e =
@@ -202,8 +215,9 @@ here_row o pt m i is msg x (PlainWhat.User a b c d) parts w h fits front there a
 here_row o pt m i is msg x PlainWhat.Stop parts w h fits front there alive k queue e n = let f : says (Label.Served i) ∷ [] ≡ parts = cc in served_alone pt i is msg x w h front there alive (ap (served_id i msg x) k) (ap (spelled pt) f ∙ n)
 here_row o pt m i is msg x PlainWhat.Resume parts w h fits front there alive k queue e n = let f : says (Label.Served i) ∷ [] ≡ parts = cc in served_alone pt i is msg x w h front there alive (ap (served_id i msg x) k) (ap (spelled pt) f ∙ n)
 here_row o pt m i is msg x PlainWhat.Kill parts w h fits front there alive k queue e n =
-    let f : says (Label.Served i) ∷ drop_parts (o.view.queue m msg.to) ≡ parts = cc in
-    killed_row pt i is msg x w h front there alive (ap (served_id i msg x) k) (ap (λ q. spelled pt (says (Label.Served i) ∷ drop_parts q)) (sym queue) ∙ ap (spelled pt) f ∙ n)
+    let ms = preds_of o m msg.to in
+    let f : says (Label.Served i) ∷ after_end (o.view.queue m msg.to) ms ≡ parts = cc in
+    killed_row pt i is msg x ms w h fits front there alive (ap (served_id i msg x) k) (ap (λ q. spelled pt (says (Label.Served i) ∷ after_end q ms)) (sym queue) ∙ ap (spelled pt) f ∙ n)
 here_row o pt m i is msg x (PlainWhat.Read a b) parts w h fits front there alive k queue e n =
     let f : says (Label.Served i) ∷ Routes (answer_id i) ∷ [] ≡ parts = cc in served_routes pt i is msg x (answer_id i) w h fits front there alive (ap (served_id i msg x) k) (ap (spelled pt) f ∙ n)
 here_row o pt m i is msg x (PlainWhat.Write a b) parts w h fits front there alive k queue e n =
@@ -266,11 +280,10 @@ own_row o pt m i is msg false false parts w h fits front there same queue x y e 
 
 process_row : (o pt : Point) (m : ℕ) (i : MsgId) (is : List MsgId) (msg : PlainMessage) (k : view.Known) (parts : List Part) (w : Spelled) (h : State None pt) → PairsFit pt.view → pt.view.inbox pt.view.acting ≡ i ∷ is → pt.kernel.bag i ≡ Some msg → o.kernel ≡ pt.kernel
     → o.view.queue m msg.to ≡ pt.view.queue pt.view.acting msg.to → rule.process_handles o m i msg k ≡ Some parts → spelled pt parts ≡ Some w → State None w.point
-process_row o pt m i is msg view.Unknown parts w h fits front there same queue e n = cc
+process_row o pt m i is msg view.Unknown parts w h fits front there same queue e n = ended_row pt i is msg.what parts w h fits front e n
 process_row o pt m i is msg view.Here parts w h fits front there same queue e n = own_row o pt m i is msg (pid_eq msg.to switchboard) (pid_eq msg.to manager) parts w h fits front there same queue refl refl e n
 process_row o pt m i is msg (view.Forward at moves) parts w h fits front there same queue e n =
     forwards_row pt o.addresses i is (plain_kind msg.what) msg.sender at w h fits front (ap (spelled pt) (let f : forwards_on o.addresses i (plain_kind msg.what) msg.sender at ≡ parts = cc in f) ∙ n)
-process_row o pt m i is msg view.Ended parts w h fits front there same queue e n = ended_row pt i is msg.what parts w h fits front e n
 process_row o pt m i is msg _ parts w h fits front there same queue e n = let f : Says (Line.Held i) ∷ [] ≡ parts = cc in held_row pt i is w h front (ap (spelled pt) f ∙ n)
 
 -- a kernel's work
@@ -302,10 +315,12 @@ goes_round_row b o pt m None parts w h fits same queue e n =
     let f : Says (Line.Idle m) ∷ [] ≡ parts = cc in
     one_line pt (Line.Idle m) w (ap (spelled pt) f ∙ n) (λ s k. let g : pt.kernel ≡ s = cc in State-at None (moved pt (Line.Idle m) pt.kernel) (moved pt (Line.Idle m) s) (ap (moved pt (Line.Idle m)) g) (by_line None pt (Line.Idle m) refl h h.stands (λ i. refl)))
 goes_round_row b o pt m (Some p) parts w h fits same queue e n =
-    let (x, alive, rest) = bind-is (kernel.alive (o.kernel.processes p)) (λ x. rule.serves_status b.quantum o.kernel p (o.view.queue m p) x x.status) parts e in
-    let here : rule.serves_status b.quantum pt.kernel p (pt.view.queue pt.view.acting p) x x.status ≡ Some parts =
-    ap (λ s. rule.serves_status b.quantum s p (pt.view.queue pt.view.acting p) x x.status) (sym same) ∙ ap (λ q. rule.serves_status b.quantum o.kernel p q x x.status) (sym (queue p)) ∙ rest in
-    serves_row pt b.quantum p x x.status parts w h fits here n
+    let ms = preds_of o m p in
+    let (x, alive, rest) = bind-is (kernel.alive (o.kernel.processes p)) (λ x. rule.serves_status b.quantum o.kernel p (o.view.queue m p) (after_end (o.view.queue m p) ms) x x.status) parts e in
+    let here : rule.serves_status b.quantum pt.kernel p (pt.view.queue pt.view.acting p) (after_end (pt.view.queue pt.view.acting p) ms) x x.status ≡ Some parts =
+    ap (λ s. rule.serves_status b.quantum s p (pt.view.queue pt.view.acting p) (after_end (pt.view.queue pt.view.acting p) ms) x x.status) (sym same)
+    ∙ ap (λ q. rule.serves_status b.quantum o.kernel p q (after_end q ms) x x.status) (sym (queue p)) ∙ rest in
+    serves_row pt b.quantum p ms x x.status parts w h fits here n
 
 comes_row : (b : Boot) (o pt : Point) (m : ℕ) (i : MsgId) (is : List MsgId) (t : Option PlainMessage) (parts : List Part) (w : Spelled) (h : State None pt) → PairsFit pt.view → pt.view.topic ≡ NothingElse
     → pt.view.inbox pt.view.acting ≡ i ∷ is → SeesSame o pt m → o.kernel.bag i ≡ t

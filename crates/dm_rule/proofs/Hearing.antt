@@ -1,7 +1,8 @@
 -- A kernel's own message is handled: what comes of it, row by row. Whatever holds of the parts of each row holds of what comes of the message.
-use Rattle.dm_rule.proofs.Names.{◌≡◌, ℕ, ◌==◌, ◌||◌, Bool, false, List, [], ◌∷◌, ◌++◌, ◌⊎◌, ◌/◌, true, refl, subst, length, ⊤, if◌then◌else◌, Option, None, Some, Pid, pid_of, pid_eq, MsgId, MessageKind, Line, Stage, Boot, switchboard, manager}
-use Rattle.dm_rule.proofs.Names.{PlainProcess, Told, About, Of, Known, Here, Frozen, Incoming, Forward, Ended, Point, Part, Says, Again, Owns, Addresses, place_told, to_kernel, forwards_on, gives_piece, sends_on, leaves, told_step, updates, told_here}
-use Rattle.dm_rule.proofs.Names.{told_ended, process_told, told_server, kernel_hears, hears, bind, bind-is, behind_count, MoveNote, Outcome, answers_move, tells_asker, leaves_for, sort_of, arith, calls_off, is_stale, nat_tests}
+use Rattle.dm_rule.proofs.Names.{◌≡◌, ℕ, ◌==◌, ◌||◌, Bool, false, List, [], ◌∷◌, ◌++◌, ◌⊎◌, ◌/◌, true, refl, subst, length, ⊤, if◌then◌else◌, Option, None, Some, Pid, pid_of, pid_eq, MsgId, MessageKind, Line, Stage, Boot, switchboard}
+use Rattle.dm_rule.proofs.Names.{manager, PlainProcess, Told, About, Of, Known, Unknown, Here, Frozen, Incoming, Forward, Point, Part, Says, Again, Owns, Addresses, place_told, to_kernel, forwards_on, gives_piece, sends_on, leaves}
+use Rattle.dm_rule.proofs.Names.{told_step, updates, told_here, told_ended, process_told, told_server, kernel_hears, hears, bind, bind-is, behind_count, MoveNote, Outcome, answers_move, tells_asker, leaves_for, sort_of, arith, calls_off}
+use Rattle.dm_rule.proofs.Names.{is_stale, nat_tests, map, buried, buries, preds_of, tells_end}
 use Rattle.dm_rule.proofs.Requests.{by_test, by_calls_off}
 use Rattle.dm_onekernel.specs.Step as kernel
 use Rattle.dm_rule.specs.Rule as rule
@@ -51,9 +52,10 @@ pub record AtHere (o : Point) (m : ℕ) (t : Told) : Type 0 where
 pub record Heard (P : List Part → Type 0) (o : Point) (m : ℕ) (id : MsgId) (t : Told) : Type 0 where
   pub told : (p : Pid) (x : PlainProcess) → t.about ≡ Of p → kernel.alive (o.kernel.processes p) ≡ Some x → is_stale o m id t.kind p ≡ false → Tells P o m id t.kind p
   pub stale : (p : Pid) → t.about ≡ Of p → is_stale o m id t.kind p ≡ true → P (Says (Line.Stale id) ∷ [])
+  pub buried : (p : Pid) → t.about ≡ Of p → t.kind ≡ MessageKind.Bury → P (buried o m id p)
   pub updated : t.kind ≡ MessageKind.Update → P (updates o id t)
-  pub updated_none : t.kind ≡ MessageKind.Update → At o m t Ended → P (Says (Line.Updated id 0) ∷ [])
-  pub no_move : At o m t Ended → P (Says (Line.NoMove id) ∷ [])
+  pub updated_none : t.kind ≡ MessageKind.Update → At o m t Unknown → P (Says (Line.Updated id 0) ∷ [])
+  pub no_move : At o m t Unknown → P (Says (Line.NoMove id) ∷ [])
   pub leaving : (to : ℕ) → At o m t (Frozen to) → P (Says (Line.Held id) ∷ [])
   pub coming : (from : ℕ) → At o m t (Incoming from) → P (Says (Line.Held id) ∷ [])
   pub forwarded : (to moves : ℕ) → At o m t (Forward to moves) → P (forwards_on o.addresses id t.kind manager to)
@@ -83,10 +85,24 @@ by_due P b o m id k p false ps late due e =
     let (x, alive, steps) = bind-is (kernel.alive (o.kernel.processes p)) (λ (x : PlainProcess). told_step o m id p (rule.fits (rule.free_room b o m) (length x.memory / 256)) x (sort_of k)) ps e in
     by_told P o m id p (rule.fits (rule.free_room b o m) (length x.memory / 256)) x k ps (due x alive refl) steps
 
-pub by_kernel : (P : List Part → Type 0) (b : Boot) (o : Point) (m : ℕ) (id : MsgId) (k : MessageKind) (a : About) (ps : List Part) → ((p : Pid) → a ≡ Of p → is_stale o m id k p ≡ true → P (Says (Line.Stale id) ∷ []))
+-- of these only a burial tells of an end
+pub bury_is : (k : MessageKind) → tells_end (sort_of k) ≡ true → k ≡ MessageKind.Bury
+bury_is MessageKind.Bury e = refl
+bury_is _ e = cc
+
+by_over : (P : List Part → Type 0) (b : Boot) (o : Point) (m : ℕ) (id : MsgId) (k : MessageKind) (p : Pid) (over : Bool) (ps : List Part) → (over ≡ true → P (buried o m id p)) → (is_stale o m id k p ≡ true → P (Says (Line.Stale id) ∷ []))
+    → ((x : PlainProcess) → kernel.alive (o.kernel.processes p) ≡ Some x → is_stale o m id k p ≡ false → Tells P o m id k p)
+    → (if over then Some (buried o m id p)
+    else if is_stale o m id k p then Some (Says (Line.Stale id) ∷ [])
+    else bind (kernel.alive (o.kernel.processes p)) (λ x. told_step o m id p (rule.fits (rule.free_room b o m) (length x.memory / 256)) x (sort_of k))) ≡ Some ps
+    → P ps
+by_over P b o m id k p true ps ends late due e = given P (buried o m id p) ps (ends refl) e
+by_over P b o m id k p false ps ends late due e = by_due P b o m id k p (is_stale o m id k p) ps late due e
+
+pub by_kernel : (P : List Part → Type 0) (b : Boot) (o : Point) (m : ℕ) (id : MsgId) (k : MessageKind) (a : About) (ps : List Part) → ((p : Pid) → a ≡ Of p → k ≡ MessageKind.Bury → P (buried o m id p)) → ((p : Pid) → a ≡ Of p → is_stale o m id k p ≡ true → P (Says (Line.Stale id) ∷ []))
     → ((p : Pid) (x : PlainProcess) → a ≡ Of p → kernel.alive (o.kernel.processes p) ≡ Some x → is_stale o m id k p ≡ false → Tells P o m id k p) → kernel_hears b o m id k a ≡ Some ps → P ps
-by_kernel P b o m id k (Of p) ps late due e = by_due P b o m id k p (is_stale o m id k p) ps (late p refl) (λ x alive is. due p x refl alive is) e
-by_kernel P b o m id k _ ps late due e = cc
+by_kernel P b o m id k (Of p) ps ends late due e = by_over P b o m id k p (tells_end (sort_of k)) ps (λ over. ends p refl (bury_is k over)) (late p refl) (λ x alive is. due p x refl alive is) e
+by_kernel P b o m id k _ ps ends late due e = cc
 
 by_server : (P : List Part → Type 0) (o : Point) (id : MsgId) (t : Told) (k : MessageKind) (ps : List Part) → t.kind ≡ k → (t.kind ≡ MessageKind.Update → P (updates o id t)) → told_server o id t (sort_of k) ≡ Some ps → P ps
 by_server P o id t MessageKind.Update ps is h e = given P (updates o id t) ps (h is) e
@@ -95,7 +111,7 @@ by_server P o id t _ ps is h e = cc
 by_here : (P : List Part → Type 0) (o : Point) (m : ℕ) (id : MsgId) (t : Told) (k : MessageKind) (ps : List Part) → t.kind ≡ k → Heard P o m id t → AtHere o m t → told_here o m id t (sort_of k) ≡ Some ps → P ps
 by_here P o m id t k ps h1 h2 h3 h4 = search (arith, given, by_test)
 
-by_ended : (P : List Part → Type 0) (o : Point) (m : ℕ) (id : MsgId) (t : Told) (k : MessageKind) (ps : List Part) → t.kind ≡ k → Heard P o m id t → At o m t Ended → told_ended id (sort_of k) ≡ Some ps → P ps
+by_ended : (P : List Part → Type 0) (o : Point) (m : ℕ) (id : MsgId) (t : Told) (k : MessageKind) (ps : List Part) → t.kind ≡ k → Heard P o m id t → At o m t Unknown → told_ended id (sort_of k) ≡ Some ps → P ps
 by_ended P o m id t k ps h1 h2 h3 h4 = search (arith, given)
 
 pub neither : (c d : Bool) → c ≡ false → d ≡ false → (c || d) ≡ false
@@ -112,12 +128,11 @@ by_process P o m id t Here ps h at_ e = by_own P o m id t (pid_eq t.receiver swi
 by_process P o m id t (Frozen to) ps h at_ e = given P (Says (Line.Held id) ∷ []) ps (h.leaving to at_) e
 by_process P o m id t (Incoming from) ps h at_ e = given P (Says (Line.Held id) ∷ []) ps (h.coming from at_) e
 by_process P o m id t (Forward to moves) ps h at_ e = given P (forwards_on o.addresses id t.kind manager to) ps (h.forwarded to moves at_) e
-by_process P o m id t Ended ps h at_ e = by_ended P o m id t t.kind ps refl h at_ e
-by_process P o m id t _ ps h at_ e = cc
+by_process P o m id t Unknown ps h at_ e = by_ended P o m id t t.kind ps refl h at_ e
 
 by_receiver : (P : List Part → Type 0) (b : Boot) (o : Point) (m : ℕ) (id : MsgId) (t : Told) (c : Bool) (ps : List Part) → (t.receiver.num == 0) ≡ c → Heard P o m id t
     → (if c then kernel_hears b o m id t.kind t.about else process_told o m id t (o.view.known m t.receiver)) ≡ Some ps → P ps
-by_receiver P b o m id t true ps kernel_ h e = by_kernel P b o m id t.kind t.about ps h.stale h.told e
+by_receiver P b o m id t true ps kernel_ h e = by_kernel P b o m id t.kind t.about ps h.buried h.stale h.told e
 by_receiver P b o m id t false ps kernel_ h e = by_process P o m id t (o.view.known m t.receiver) ps h (record { known = refl; kernel = kernel_ }) e
 
 pub by_hears : (P : List Part → Type 0) (b : Boot) (o : Point) (m : ℕ) (id : MsgId) (q : Option Told) (ps : List Part) → ((t : Told) → q ≡ Some t → Heard P o m id t) → hears b o m id q ≡ Some ps → P ps
@@ -134,6 +149,7 @@ IsHeardLine (Line.Lacks p slots blocks) = ⊤
 IsHeardLine (Line.Stays p) = ⊤
 IsHeardLine (Line.Proto i) = ⊤
 IsHeardLine (Line.Updated i n) = ⊤
+IsHeardLine (Line.Buried i n) = ⊤
 IsHeardLine (Line.NoMove i) = ⊤
 IsHeardLine (Line.Stale i) = ⊤
 IsHeardLine (Line.Held i) = ⊤
@@ -157,6 +173,11 @@ kept_on P c to (i ∷ is) ps h = c.again i to (sends_on to is ++ ps) (kept_on P 
 pub kept_forward : (P : List Part → Type 0) → Kept P → (a : Addresses) (id : MsgId) (k : MessageKind) (sender : Pid) (to : ℕ) → P (forwards_on a id k sender to)
 kept_forward P c a id k sender to = search (arith, by_test)
 
+-- others are told of an end
+kept_buries : (P : List Part → Type 0) → Kept P → (ms : List ℕ) → P (map (to_kernel MessageKind.Bury) ms)
+kept_buries P c [] = c.none
+kept_buries P c (m ∷ ms) = c.owns MessageKind.Bury (pid_of m 0) m (map (to_kernel MessageKind.Bury) ms) (kept_buries P c ms)
+
 -- holds of all that comes of a kernel's own message
 heard_kept : (P : List Part → Type 0) → Kept P → (o : Point) (m : ℕ) (id : MsgId) (t : Told) → Heard P o m id t
 heard_kept P c o m id t =
@@ -164,6 +185,7 @@ heard_kept P c o m id t =
     let two : (l : Line) (k : MessageKind) (b : ℕ) → IsHeardLine l → P (Says l ∷ to_kernel k b ∷ []) = λ l k b h. c.says l (to_kernel k b ∷ []) h (c.owns k (pid_of b 0) b [] c.none) in
     let home = id.from.home in
     record {
+      buried = λ p about kind. c.says (Line.Buried id (length (preds_of o m p))) (buries o m p) tt (kept_buries P c (preds_of o m p));
       stale = λ p about late. one (Line.Stale id) tt;
       told = λ p x about alive due. record {
         accepted = λ ask. two (Line.Migration Stage.Accepted p) MessageKind.PullState home tt;

@@ -7,6 +7,7 @@ pub mod SettleWorked
 pub mod RestWorked
 pub mod OrderWorked
 pub mod CallOffWorked
+pub mod BuryWorked
 pub mod Standing
 pub mod Once
 pub mod Lines

@@ -3,7 +3,7 @@ pub use Rattle.std.proofs.Common.{lit<}
 pub use Rattle.std.proofs.lemmas.Bool.{and_parts, cases_eq, eq-eqb, eqb-true, false_from_ne_true, lt-ltb, ne_eqb, not-true, or_cases, or_left, or_right}
 pub use Rattle.std.proofs.lemmas.List.{length-append}
 pub use Rattle.std.proofs.lemmas.Option.{slice_get_cases, slice_get_within}
-pub use Rattle.std.specs.List.{cons_option, position_from}
+pub use Rattle.std.specs.List.{cons_option, position_from, range_with_len}
 pub use Rattle.std.specs.Prelude.{filter, filter_map, option_and_then, slice_set}
 pub use Rattle.std.specs.Str.{bytes_eq}
 pub use Rattle.dm_link.specs.Names.{Place, place_of}
@@ -35,12 +35,12 @@ pub use Rattle.dm_laws.proofs.Entered.{Entered, Made, asks, counts, is_counted, 
 pub use Rattle.dm_laws.proofs.Equal.{id_eq-is, id_eq-same, id_eq-swap, pid_eq-is, pid_eq-same}
 pub use Rattle.dm_laws.proofs.Grown.{LifeGrows}
 pub use Rattle.dm_laws.proofs.Movers.{sent_at, sent_off, stayed}
-pub use Rattle.dm_laws.proofs.Names.{Alive, Boot, BootImage, BootProcess, CallNumber, Called, Direction, Ends, IsValid, Label, Life, List, Manager, MoveNote, Moving, MsgId, None, OneKernel, Option, Outcome, Outputs, Pending, PendingKind}
-pub use Rattle.dm_laws.proofs.Names.{Pid, PlainLink, PlainMessage, PlainProcess, PlainStatus, PlainWhat, Ready, Replies, Reply, Row, Sends, Some, Waiting, Waits, Why, [], and_right, answer_id, answer_to, begun, bind, cases_Bool}
-pub use Rattle.dm_laws.proofs.Names.{code_of_outcome, cond_some, direction_numbered, drop, entry, first_empty, first_failed, first_life, first_number, fun_ext, id_eq, id_of, if◌then◌else◌, in_bag, is_some, length, life_at, link_at, manager}
-pub use Rattle.dm_laws.proofs.Names.{map, nat_le, nat_lt, nat_tests, option_map, option_map_or, or_parts, pid_eq, pid_of, plain_link, processes_are_valid, reception, reg, slice_get, start, starting_at, switchboard, take, when, with_note}
-pub use Rattle.dm_laws.proofs.Names.{with_process, with_sent, without_message, without_note, ⊤, ◌*◌, ◌++◌, ◌+◌, ◌-◌, ◌==◌, ◌||◌, ◌∷◌, ◌≤◌, ◌⊎◌}
-pub use Rattle.dm_laws.proofs.Runs.{after_step, start-sound}
+pub use Rattle.dm_laws.proofs.Names.{Alive, Boot, BootImage, BootProcess, CallNumber, Called, Direction, Ended, Ends, IsValid, Label, Life, List, Manager, MoveNote, Moving, MsgId, None, OneKernel, Option, Outcome, Outputs, Pending}
+pub use Rattle.dm_laws.proofs.Names.{PendingKind, Pid, PlainLink, PlainMessage, PlainProcess, PlainStatus, PlainWhat, Ready, Replies, Reply, Row, Sends, Some, Waiting, Waits, Why, [], and_right, answer_id, answer_to, begun, bind}
+pub use Rattle.dm_laws.proofs.Names.{cases_Bool, code_of_outcome, cond_some, direction_numbered, drop, entry, first_empty, first_failed, first_life, first_number, fun_ext, id_eq, id_of, if◌then◌else◌, in_bag, is_some, length, life_at}
+pub use Rattle.dm_laws.proofs.Names.{link_at, manager, map, nat_le, nat_lt, nat_tests, option_map, option_map_or, or_parts, pid_eq, pid_of, plain_link, processes_are_valid, reception, reg, slice_get, start, starting_at, switchboard, take}
+pub use Rattle.dm_laws.proofs.Names.{when, with_note, with_process, with_sent, without_message, without_note, ⊤, ◌*◌, ◌++◌, ◌+◌, ◌-◌, ◌==◌, ◌||◌, ◌∷◌, ◌≤◌, ◌⊎◌}
+pub use Rattle.dm_laws.proofs.Runs.{after_step, ended_stays_of, start-sound}
 pub use Rattle.dm_laws.proofs.Servers.{ServerSends, board_takes_lem, ends_move-is, manager_takes_lem, next_is_new, why_ended-is}
 pub use Rattle.dm_laws.proofs.Services.{LandsSo, lands-is}
 pub use Rattle.dm_laws.proofs.Sound.{Sound, counts_process, not_server}
@@ -58,6 +58,7 @@ pub use Rattle.dm_rule.specs.Addresses.{call_gets, child_links, child_number, en
 pub use Rattle.dm_rule.specs.Addresses.{link_target, links_at, manager_answers, manager_gets, manager_sends, own_given, owner_in, place_known, place_named, place_told, receives_links, receiving_gets, sending_gets, serving_gets, slot_after}
 pub use Rattle.dm_rule.specs.Addresses.{telling_gets, told_back_gets, unmoved, updated, updated_to}
 pub use Rattle.dm_rule.specs.Apart.{AllSpare, IsOthers, Spares}
+pub use Rattle.dm_rule.specs.Burying.{buried, buries, ends_with, preds_of, tells_end}
 pub use Rattle.dm_rule.specs.Good.{next_step, seen_at}
 pub use Rattle.dm_rule.specs.Homes.{Homes, are_for_home, are_home, ascends, asker_in, enclosed_of, is_for_home, links_in, names, sender_of, to_of}
 pub use Rattle.dm_rule.specs.Laws.{AreStill, AskNone, IsStep, IsStill, IsUnasked, KernelsInOrderAlways, LeadHomeAlways, Leads, LeadsStill, MovingStaysAlways, PairsStandAlways, PhasesAlways, QuietIsTested, RestIsTested, StandsOnceAlways}
@@ -67,8 +68,8 @@ pub use Rattle.dm_rule.specs.Migrating.{takes_chunk, tells_asker, to_kernel, tol
 pub use Rattle.dm_rule.specs.Order.{KernelsInOrder, is_between_from, ordered}
 pub use Rattle.dm_rule.specs.Pairs.{HomeStands, PairStands}
 pub use Rattle.dm_rule.specs.Parts.{Again, Owns, Part, Routes, Says, Spelled, Transmits, behind, goes_out, lines_of, packet_line, pair_window, puts, spelled}
-pub use Rattle.dm_rule.specs.Phases.{Alone, Asks, Comes, ComesIn, HasCome, HasToken, IsBefore, IsIn, IsLeft, IsToken, IsWay, Moves, Nowhere, Over, Phase, Rests, is_apart, is_away, is_between, is_calloff, is_due, is_early, is_here, is_over}
-pub use Rattle.dm_rule.specs.Phases.{is_restart, kind_comes, kind_leaves, knows, receiver_in, sender_in, tells_come, token_in, told_between}
+pub use Rattle.dm_rule.specs.Phases.{Alone, Asks, Comes, ComesIn, HasCome, HasToken, IsBefore, IsIn, IsLeft, IsToken, IsWay, Moves, Nowhere, Over, Phase, Rests, is_apart, is_away, is_between, is_calloff, is_due, is_early, is_here}
+pub use Rattle.dm_rule.specs.Phases.{is_restart, is_unknown, kind_comes, kind_leaves, knows, receiver_in, sender_in, tells_come, token_in, told_between}
 pub use Rattle.dm_rule.specs.Point.{Point, after, after_line, first_point, kernel_after, label_of, move_target, moved, seen, topic_by}
 pub use Rattle.dm_rule.specs.Quiet.{IsQuiet, has_mail, is_quiet, pair_is_quiet}
 pub use Rattle.dm_rule.specs.Rest.{IsAtRest, serves_some}
@@ -77,8 +78,8 @@ pub use Rattle.dm_rule.specs.Rule.{here_handles, is_stale, is_waited_from, kept_
 pub use Rattle.dm_rule.specs.Rule.{serves_status, stops, takes_on, taking_parts, turns}
 pub use Rattle.dm_rule.specs.Spots.{Held, Inbox, Queue, Spot, StandsAsBag, StandsNowhere, StandsOnce, StandsOutside, StandsRight, Untaken, ids_at, standing, times, untaken}
 pub use Rattle.dm_rule.specs.Tells.{TellsRight}
-pub use Rattle.dm_rule.specs.Trails.{AddressesOn, IsOn, LeadsAlong, OwnOn, StoodOnTrail, Trail, Trailed, Trails, TrailsAlways, Trodden, along, destination, first_trails, first_trodden, leads, leads_on, trails_after}
-pub use Rattle.dm_rule.specs.View.{About, Ended, Forward, Frozen, Here, Incoming, Known, NothingElse, Of, Pair, SentLoad, Target, Told, Unknown, View, actor, after_head, after_label, after_packet, after_proto, after_put, after_stage}
-pub use Rattle.dm_rule.specs.View.{after_taken, asks_on, at_least, begins, dropped_for, ended, ends_by, first_view, follows_by, forward_about, forwarded_for, front_of, frozen_for, goes_back, gone_after, gone_to, handled, handled_first}
-pub use Rattle.dm_rule.specs.View.{held_for, is_kernels, knowing, known_at, marked, marked_at, oldest, own_id, queued_for, receiver_of, released, ring_at, routed_on, served_told, sets_off, taken_id, target_of, view_after, with_pair}
-pub use Rattle.dm_rule.specs.View.{with_ring}
+pub use Rattle.dm_rule.specs.Trails.{AddressesOn, IsOn, LeadsAlong, OwnOn, StoodOnTrail, Trail, Trails, TrailsAlways, Trodden, along, destination, first_trails, first_trodden, is_alive, is_made, is_server, leads, leads_on, trails_after}
+pub use Rattle.dm_rule.specs.View.{About, Forward, Frozen, Here, Incoming, Known, NothingElse, Of, Pair, SentLoad, Target, Told, Unknown, View, actor, after_head, after_label, after_packet, after_proto, after_put, after_stage, after_taken}
+pub use Rattle.dm_rule.specs.View.{asks_on, at_least, begins, buried_for, dropped_for, ended, ends_by, first_view, follows_by, forgotten, forward_about, forwarded_for, front_of, frozen_for, goes_back, gone_after, gone_to, handled}
+pub use Rattle.dm_rule.specs.View.{handled_first, held_for, is_kernels, knowing, known_at, marked, marked_at, nobody, oldest, own_id, queued_for, receiver_of, released, ring_at, routed_on, served_told, sets_off, taken_id, target_of}
+pub use Rattle.dm_rule.specs.View.{view_after, with_pair, with_ring}

@@ -6,6 +6,7 @@ pub mod Stand
 pub mod Put
 pub mod Answers
 pub mod Left
+pub mod Ends
 pub mod Pieces
 pub mod Rests
 pub mod Leaves
@@ -19,4 +20,7 @@ pub mod Start
 pub mod Ranked
 pub mod Behind
 pub mod Order
+pub mod Lived
+pub mod EndLines
+pub mod Ending
 pub mod Always

@@ -1,6 +1,6 @@
 -- The test for rest decides whether all is at rest.
-use Rattle.dm_rule.proofs.Names.{◌≡◌, ℕ, ◌<◌, ◌&&◌, Bool, true, not, is_some, refl, ap, ◌∙◌, Option, None, Some, false≢true, sym, all_below, all_of_each, both_true, each_of_all, left_true, right_true, is_quiet, Point, first_runnable}
-use Rattle.dm_rule.proofs.Names.{at_rest, seen_at, RestIsTested, IsAtRest, serves_some}
+use Rattle.dm_rule.proofs.Names.{◌≡◌, ℕ, true, not, is_some, refl, ap, Option, None, Some, false≢true, all_below, all_of_each, both_true, each_of_all, left_true, right_true, is_quiet, Point, first_runnable, at_rest, seen_at, RestIsTested}
+use Rattle.dm_rule.proofs.Names.{IsAtRest, serves_some}
 use Rattle.dm_rule.proofs.QuietTests.{passes_quiet, quiet_passes}
 
 none_some : {X : Type 0} (o : Option X) → not (is_some o) ≡ true → o ≡ None

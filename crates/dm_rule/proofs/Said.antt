@@ -6,6 +6,10 @@ use Rattle.dm_rule.proofs.States.{State, says_next, said, State-at, PairsFit, Pu
 pub fits_as : (v w : View) → w.pair ≡ v.pair → PairsFit v → PairsFit w
 fits_as v w e h = search arith
 
+pub record Steady (pt : Point) : Type 0 where
+  pub state : State None pt
+  pub fits : PairsFit pt.view
+
 -- one line is said, and that is all
 pub one_line : (pt : Point) (l : Line) (w : Spelled) → spelled pt (Says l ∷ []) ≡ Some w → ((s : OneKernel) → kernel_after pt.kernel (label_of l) ≡ Some s → State None (moved pt l s)) → State None w.point
 one_line pt l w e h =

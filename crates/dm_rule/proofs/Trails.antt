@@ -1,5 +1,6 @@
 -- Lemmas of the family Trails, by file.
 pub mod Worked
+pub mod Alive
 pub mod Known
 pub mod Leads
 pub mod Places

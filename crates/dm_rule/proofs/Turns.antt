@@ -1,13 +1,14 @@
 -- Each turn, delivery and tick keeps that each message stands once.
 use Rattle.dm_rule.proofs.Names.{◌≡◌, ◌≢◌, ℕ, ◌≤◌, ◌==◌, ◌&&◌, Bool, true, false, List, [], ◌∷◌, refl, ap, ◌∙◌, subst, arith, inl, inr, if◌then◌else◌, Option, None, Some, cases_Bool, false≢true, Pid, pid_eq, MsgId, MessageKind, Line, Label}
 use Rattle.dm_rule.proofs.Names.{bind, OneKernel, at_machine, at_record, without_front, View, Told, view_after, handled, receiver_of, Point, moved, Spelled, spelled, Spot, Queue, Inbox, times, ids_at, standing, pid_eq-is, pid_eq-same, ◌+◌}
-use Rattle.dm_rule.proofs.Names.{id_eq-same, bind-is, is_kernels, drop_parts, sort_of, and_parts, eqb-true}
+use Rattle.dm_rule.proofs.Names.{id_eq-same, bind-is, is_kernels, drop_parts, sort_of, and_parts, eqb-true, Part, ◌++◌}
 use Rattle.dm_rule.proofs.Standing.{StandsAsBag-elsewhere}
 use Rattle.dm_rule.proofs.Lines.{Stands-stays, Stands-handled, Stands-dequeued, eq_self, spots_differ}
 use Rattle.dm_rule.proofs.Bags.{BagStep, out_of, bag_dropped}
 use Rattle.dm_rule.proofs.Letters.{letters, letter_of, not_kernels, gone_in}
 use Rattle.dm_rule.proofs.Once.{one_of}
-use Rattle.dm_rule.proofs.States.{State, says_next, said, State-at, by_label}
+use Rattle.dm_rule.proofs.States.{State, says_next, by_label, PutNext}
+use Rattle.dm_rule.proofs.Said.{Steady, fits_as}
 use Rattle.dm_onekernel.specs.Step as kernel
 use Rattle.dm_rule.specs.View as view
 
@@ -112,16 +113,18 @@ queue_told pt j js p s h front is =
     let letter : letters h.own pt.kernel.bag j ≡ Some x.to = letter_of h.r h.e h.own pt.kernel j x there h.sound in
     h.stands.told j x.to letter ∙ ap Some (h.stands.mine v.acting p j x.to one letter)
 
--- the whole queue is dropped
-pub all_dropped : (js : List MsgId) (pt : Point) (p : Pid) (w : Spelled) → State None pt → pt.view.queue pt.view.acting p ≡ js → spelled pt (drop_parts js) ≡ Some w → State None w.point
-all_dropped [] pt p w h front e = State-at None pt w.point (said pt w e) h
-all_dropped (j ∷ js) pt p w h front e =
-    let k = says_next pt (Line.Label (Label.Dropped j)) (drop_parts js) w e in
+-- the whole queue is dropped, and other parts follow
+pub all_dropped : (js : List MsgId) (ps : List Part) (pt : Point) (p : Pid) (w : Spelled) → Steady pt → pt.view.queue pt.view.acting p ≡ js → spelled pt (drop_parts js ++ ps) ≡ Some w → PutNext Steady ps w
+all_dropped [] ps pt p w h front e = record { next = pt; stands = h; rest = w; more = e; point = refl }
+all_dropped (j ∷ js) ps pt p w h front e =
+    let k = says_next pt (Line.Label (Label.Dropped j)) (drop_parts js ++ ps) w e in
     let is : kernel.step pt.kernel (Label.Dropped j) ≡ Some k.s = k.is in
     let next = moved pt (Line.Label (Label.Dropped j)) k.s in
-    let told = queue_told pt j js p k.s h front is in
+    let told = queue_told pt j js p k.s h.state front is in
+    let pair : next.view.pair ≡ pt.view.pair = elim (receiver_of (pt.view.told j)) as (λ o. (view.dropped_for (handled pt.view j) j o).pair ≡ pt.view.pair) [ None ↦ refl | Some p ↦ refl ] in
     let acting : next.view.acting ≡ pt.view.acting = elim (receiver_of (pt.view.told j)) as (λ o. (view.dropped_for (handled pt.view j) j o).acting ≡ pt.view.acting)
     [ None ↦ refl | Some p ↦ refl ] in
     -- its queue after one was dropped
     let dropped_queue : (view.dropped_for (handled pt.view j) j (receiver_of (pt.view.told j))).queue pt.view.acting p ≡ js = search (arith, eq_self, pid_eq-same, id_eq-same) in
-    State-at None k.rest.point w.point k.point (all_dropped js next p k.rest (queue_front pt k.s j js p h front is) (ap (λ m. next.view.queue m p) acting ∙ dropped_queue) k.more)
+    let n = all_dropped js ps next p k.rest (record { state = queue_front pt k.s j js p h.state front is; fits = fits_as pt.view next.view pair h.fits }) (ap (λ m. next.view.queue m p) acting ∙ dropped_queue) k.more in
+    record { next = n.next; stands = n.stands; rest = n.rest; more = n.more; point = n.point ∙ k.point }

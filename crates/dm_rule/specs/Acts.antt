@@ -51,6 +51,7 @@ act_of (line.Held id) = Tells
 act_of (line.Here id) = Tells
 act_of (line.NoMove id) = Tells
 act_of (line.Stale id) = Tells
+act_of (line.Buried id n) = Tells
 act_of (line.Proto id) = Tells
 act_of (line.NoChild p) = Tells
 act_of (line.Pinned p) = Tells

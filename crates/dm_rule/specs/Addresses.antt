@@ -63,7 +63,7 @@ goes_between v id q = gets (Receiver id) (unmoved q.home) ∷ gets (Sender id) (
 abbrev pub own_given : OneKernel → View → Addresses → MsgId → Pid → Sort → List Gets
 own_given s v a id q sort.Request = gets (Receiver id) (option_map_or (λ n. a (Child n)) (child_number s q) (unmoved 0)) ∷ gets (Sender id) (unmoved v.acting) ∷ []
 own_given s v a id q (sort.Between passage) = goes_between v id q
-own_given s v a id q sort.Unsent = goes_between v id q
+own_given s v a id q sort.Buries = goes_between v id q
 own_given s v a id q w = []
 
 -- only a message's first put gives addresses

@@ -1,6 +1,6 @@
 -- As long as nothing moves, or is asked to: each address names the home of its process, with count 0, and each message stands where its
 -- receiver is at home.
-use Rattle.std.specs.Prelude.{◌≡◌, ℕ, ◌+◌, Bool, true, ◌==◌, ◌&&◌, nat_le, List, [], ◌∷◌, slice_get}
+use Rattle.std.specs.Prelude.{◌≡◌, ℕ, ◌+◌, Bool, true, false, ◌==◌, ◌&&◌, nat_le, List, [], ◌∷◌, slice_get}
 use Rattle.std.specs.declared.option.Option.{Option}
 use Rattle.std.specs.declared.option.Option.TheVariants.{None, Some}
 use Rattle.dm_link.specs.declared.Pid.{Pid}
@@ -74,10 +74,12 @@ abbrev pub ascends : ℕ → List Pending → ℕ → Bool
 ascends from [] to = nat_le from to
 ascends from (r ∷ rs) to = nat_le from r.n && ascends (r.n + 1) rs to
 
--- no process has moved: each address, and whatever waits on a machine, is of a process whose home that is
+-- no process has moved, and no machine forwards to another: each address, and whatever waits on a machine, is of a process whose home
+-- that is
 pub record Homes (pt : Point) : Type 0 where
   pub home : (h : Holder) (q : Pid) → names pt.kernel h ≡ Some q → pt.addresses h ≡ unmoved q.home
   pub moves : (p : Pid) → pt.view.moves p ≡ 0
+  pub preds : (m n : ℕ) (p : Pid) → pt.view.preds m p n ≡ false
   pub ring : (m : ℕ) → are_home m (pt.view.ring m) ≡ true
   pub inbox : (m : ℕ) → are_for_home pt.kernel m (pt.view.inbox m) ≡ true
   pub queue : (m : ℕ) (p : Pid) → are_for_home pt.kernel m (pt.view.queue m p) ≡ true

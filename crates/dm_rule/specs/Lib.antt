@@ -7,6 +7,7 @@ pub mod Point
 pub mod Spots
 pub mod Parts
 pub mod Migrating
+pub mod Burying
 pub mod Rule
 pub mod Pairs
 pub mod Quiet

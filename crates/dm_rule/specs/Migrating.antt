@@ -23,7 +23,7 @@ use Rattle.dm_onekernel.specs.Step as kernel
 use Rattle.dm_line.specs.declared.line.Line.{Line}
 use Rattle.dm_line.specs.declared.line.Line.TheVariants as line
 use Rattle.dm_line.specs.declared.line.Stage.TheVariants as stage
-use Rattle.dm_rule.specs.View.{Told, Known, Unknown, Here, Frozen, Incoming, Forward, Ended, target_of}
+use Rattle.dm_rule.specs.View.{Told, Known, Unknown, Here, Frozen, Incoming, Forward, target_of}
 use Rattle.dm_rule.specs.Addresses.{Addresses, Holder, Slot, Sender, Child, Name, Answer, is_behind, is_told_back, child_number, place_told}
 use Rattle.dm_rule.specs.Point.{Point}
 use Rattle.dm_rule.specs.Parts.{Part, Says, Routes, Again, Owns}
@@ -110,7 +110,6 @@ calls_off pt m p (Incoming from) =
     if pt.view.come p then Says (line.NoCall p) ∷ []
     else Says (line.Called p (length (pt.view.held m p))) ∷ sends_on from (pt.view.held m p) ++ to_kernel kind.CallOff from ∷ []
 calls_off pt m p (Forward at moves) = Says (line.NoCall p) ∷ []
-calls_off pt m p Ended = Says (line.NoCall p) ∷ []
 
 -- what a kernel is told of a process by another kernel; `fits` says whether there is room for it, and what is free
 abbrev pub told_step : Point → ℕ → MsgId → Pid → (Bool × ℕ × ℕ) → PlainProcess → Sort → Option (List Part)
@@ -164,15 +163,14 @@ told_ended id sort.Request = Some (Says (line.NoMove id) ∷ [])
 told_ended id sort.Notice = Some (Says (line.Updated id 0) ∷ [])
 told_ended id s = None
 
--- by what the machine knows of a message's receiver: what is done where it is here and where it has ended; else the message is held,
--- or goes on
+-- by what the machine knows of a message's receiver: what is done where it is here, and where it has ended, which it has where nothing
+-- is known of it; else the message is held, or goes on
 abbrev pub by_known : Point → MsgId → MessageKind → Pid → Option (List Part) → Option (List Part) → Known → Option (List Part)
-by_known pt id k sender here over Unknown = None
+by_known pt id k sender here over Unknown = over
 by_known pt id k sender here over Here = here
 by_known pt id k sender here over (Frozen to) = Some (Says (line.Held id) ∷ [])
 by_known pt id k sender here over (Incoming from) = Some (Says (line.Held id) ∷ [])
 by_known pt id k sender here over (Forward at moves) = Some (forwards_on pt.addresses id k sender at)
-by_known pt id k sender here over Ended = over
 
 -- at a server, which never moves
 abbrev pub told_server : Point → MsgId → Told → Sort → Option (List Part)

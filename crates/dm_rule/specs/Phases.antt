@@ -10,7 +10,8 @@ use Rattle.dm_message.specs.declared.kind.MessageKind.{MessageKind}
 use Rattle.dm_message.specs.declared.kind.MessageKind.TheVariants as kind
 use Rattle.dm_message.specs.Sorts.{Sort, sort_of, pulls_piece, brings_piece}
 use Rattle.dm_message.specs.Sorts as sort
-use Rattle.dm_rule.specs.View.{View, Told, Of, Known, Unknown, Here, Frozen, Incoming, Forward, Ended, is_kernels}
+use Rattle.dm_rule.specs.View.{View, Told, Of, Known, Unknown, Here, Frozen, Incoming, Forward, is_kernels}
+pub use Rattle.dm_rule.specs.View.{tells_calloff, is_calloff}
 use Rattle.dm_rule.specs.Spots.{Spot, Inbox, Untaken, standing}
 
 -- what the kernels of two machines tell each other while a process moves from the source to the destination
@@ -29,8 +30,8 @@ tells_onward (sort.Between sort.Memory) = true
 tells_onward (sort.Between sort.Restart) = true
 tells_onward s = false
 
--- a process was never made, rests on a machine, has ended on one, or moves: the kind of the message that is under way, and its
--- name once it was put
+-- a process was never made, rests on a machine, has ended on one, which has forgotten it, or moves: the kind of the message that is under
+-- way, and its name once it was put
 pub data Phase : Type 0 where
   Nowhere : Phase
   Rests : (at : ℕ) → Phase
@@ -43,7 +44,7 @@ is_away Unknown = true
 is_away (Forward at moves) = true
 is_away k = false
 
--- nor did it ever come there
+-- it knows nothing of it
 abbrev pub is_unknown : Known → Bool
 is_unknown Unknown = true
 is_unknown k = false
@@ -52,11 +53,6 @@ is_unknown k = false
 abbrev pub is_here : Known → Bool
 is_here Here = true
 is_here k = false
-
--- it has ended here
-abbrev pub is_over : Known → Bool
-is_over Ended = true
-is_over k = false
 
 -- the message that lets the destination restart the process
 abbrev pub tells_restart : Sort → Bool
@@ -75,14 +71,6 @@ tells_early s = false
 abbrev pub is_early : MessageKind → Bool
 is_early k = tells_early (sort_of k)
 
--- the destination has called it off
-abbrev pub tells_calloff : Sort → Bool
-tells_calloff (sort.Between sort.CallOff) = true
-tells_calloff s = false
-
-abbrev pub is_calloff : MessageKind → Bool
-is_calloff k = tells_calloff (sort_of k)
-
 -- the source holds the process until the destination may restart it, and then forwards
 abbrev pub kind_leaves : MessageKind → ℕ → Known → Bool
 kind_leaves k to (Frozen m) = not (is_restart k) && (to == m)
@@ -100,7 +88,7 @@ kind_comes k from known = false
 abbrev pub knows : Phase → ℕ → Known → Bool
 knows Nowhere m k = is_unknown k
 knows (Rests at) m k = if at == m then is_here k else is_away k
-knows (Over at) m k = if at == m then is_over k else is_away k
+knows (Over at) m k = if at == m then is_unknown k else is_away k
 knows (Moves kind s d id) m k = if s == m then kind_leaves kind d k else if d == m then kind_comes kind s k else is_away k
 
 -- where the message goes from and to

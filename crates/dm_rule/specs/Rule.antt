@@ -41,11 +41,13 @@ use Rattle.dm_line.specs.declared.line.Line.TheVariants as line
 use Rattle.dm_line.specs.declared.line.Load.{Load}
 use Rattle.dm_line.specs.declared.line.Load.TheVariants as load
 use Rattle.dm_line.specs.Each.{sum_below}
-use Rattle.dm_rule.specs.View.{View, Pair, SentLoad, Told, About, Of, Known, Unknown, Here, Frozen, Incoming, Forward, Ended, target_in, at_least}
+use Rattle.dm_rule.specs.View.{View, Pair, SentLoad, Told, About, Of, Known, Unknown, Here, Frozen, Incoming, Forward, target_in, at_least}
 use Rattle.dm_rule.specs.Point.{Point, after_line, move_target}
 use Rattle.dm_rule.specs.Parts.{Part, Says, Routes, Transmits, Spelled, spelled, pair_window}
 pub use Rattle.dm_rule.specs.Parts.{behind}
 use Rattle.dm_rule.specs.Migrating.{asked_to_move, by_known, told_step, process_told, migrates, calls_off}
+pub use Rattle.dm_rule.specs.Burying.{drop_parts}
+use Rattle.dm_rule.specs.Burying.{buried, ends_with, tells_end}
 
 abbrev pub says : Label → Part
 says l = Says (line.Label l)
@@ -87,27 +89,23 @@ abbrev pub ran : ℕ → Machine → Ran
 ran zero m = record { count = 0; machine = m }
 ran (suc k) m = option_map_or (λ n. ran_one_more (ran k n)) (plain_row (instruction m.regs m.bytes)) (record { count = 0; machine = m })
 
--- the queue of a process that ends goes message by message
-abbrev pub drop_parts : List MsgId → List Part
-drop_parts ids = map (λ i. says (label.Dropped i)) ids
+-- what a call or a fault says, a row an outcome, where this follows an end
+abbrev pub called : Pid → ℕ → List Part → calls.Called → List Part
+called p n over (calls.Replies reply x) = says (label.Call p n reply) ∷ []
+called p n over (calls.Sends m x) = says (label.Send p m.id) ∷ Routes m.id ∷ []
+called p n over (calls.Waits x) = says (label.Wait p) ∷ []
+called p n over (calls.Outputs word x) = says (label.Out p word) ∷ []
+called p n over (calls.Ends because) = says (label.End p because) ∷ over
 
--- what a call or a fault says, a row an outcome
-abbrev pub called : Pid → ℕ → List MsgId → calls.Called → List Part
-called p n queue (calls.Replies reply x) = says (label.Call p n reply) ∷ []
-called p n queue (calls.Sends m x) = says (label.Send p m.id) ∷ Routes m.id ∷ []
-called p n queue (calls.Waits x) = says (label.Wait p) ∷ []
-called p n queue (calls.Outputs word x) = says (label.Out p word) ∷ []
-called p n queue (calls.Ends because) = says (label.End p because) ∷ drop_parts queue
-
-abbrev pub stops : Pid → List MsgId → Option kernel.Trap → List Part
-stops p queue None = []
-stops p queue (Some (kernel.Calls n c)) = called p n queue c
-stops p queue (Some (kernel.Faults fault)) = says (label.End p (why.Fault fault)) ∷ drop_parts queue
+abbrev pub stops : Pid → List Part → Option kernel.Trap → List Part
+stops p over None = []
+stops p over (Some (kernel.Calls n c)) = called p n over c
+stops p over (Some (kernel.Faults fault)) = says (label.End p (why.Fault fault)) ∷ over
 
 -- a ready process runs as far as the quantum allows; where it stops before, the call or fault follows
-abbrev pub executes : ℕ → Pid → List MsgId → PlainProcess → Ran → List Part
-executes quantum p queue x r =
-    says (label.Ran p r.count) ∷ (if r.count == quantum then [] else stops p queue (kernel.next_row p (with_machine x r.machine) (instruction r.machine.regs r.machine.bytes)))
+abbrev pub executes : ℕ → Pid → List Part → PlainProcess → Ran → List Part
+executes quantum p over x r =
+    says (label.Ran p r.count) ∷ (if r.count == quantum then [] else stops p over (kernel.next_row p (with_machine x r.machine) (instruction r.machine.regs r.machine.bytes)))
 
 -- a waiting process takes the first queued message on its mask, or is refused it
 abbrev pub completion_parts : Pid → MsgId → receiving.Completed → List Part
@@ -117,15 +115,15 @@ completion_parts p id (receiving.Refuses reply x) = says (label.Refuse p id repl
 abbrev pub reception_parts : OneKernel → Pid → PlainProcess → Option MsgId → Option (List Part)
 reception_parts s p x first = bind first (λ id. bind (s.bag id) (λ m. bind (receiving.completes_with p x m) (λ c. Some (completion_parts p id c))))
 
-abbrev pub serves_status : ℕ → OneKernel → Pid → List MsgId → PlainProcess → PlainStatus → Option (List Part)
-serves_status quantum s p queue x Ready = Some (executes quantum p queue x (ran quantum (machine_of x)))
-serves_status quantum s p queue x (Waiting mask base cap_) = reception_parts s p x (first_awaited s mask queue)
-serves_status quantum s p queue x (Moving dir owner base own left pending) = None
+abbrev pub serves_status : ℕ → OneKernel → Pid → List MsgId → List Part → PlainProcess → PlainStatus → Option (List Part)
+serves_status quantum s p queue over x Ready = Some (executes quantum p over x (ran quantum (machine_of x)))
+serves_status quantum s p queue over x (Waiting mask base cap_) = reception_parts s p x (first_awaited s mask queue)
+serves_status quantum s p queue over x (Moving dir owner base own left pending) = None
 
 -- with an empty inbox the first process of the ring that can be served is served
 abbrev pub goes_round : Boot → Point → ℕ → Option Pid → Option (List Part)
 goes_round b pt m first =
-    option_map_or (λ p. bind (kernel.alive (pt.kernel.processes p)) (λ x. serves_status b.quantum pt.kernel p (pt.view.queue m p) x x.status)) first (Some (Says (line.Idle m) ∷ []))
+    option_map_or (λ p. bind (kernel.alive (pt.kernel.processes p)) (λ x. serves_status b.quantum pt.kernel p (pt.view.queue m p) (ends_with pt m p) x x.status)) first (Some (Says (line.Idle m) ∷ []))
 
 -- a process that is here, leaves or comes takes a slot
 abbrev pub takes_room : Known → ℕ
@@ -202,7 +200,7 @@ landing_parts id (Some (pieces.Done reply x)) = Some (says (label.Served id) ∷
 abbrev pub here_takes : Point → ℕ → MsgId → PlainMessage → PlainProcess → About → Sort → Option (List Part)
 here_takes pt m id msg x target sort.Letter = Some (Says (line.Queued id) ∷ [])
 here_takes pt m id msg x target sort.Holds = Some (says (label.Served id) ∷ [])
-here_takes pt m id msg x target sort.Kills = Some (says (label.Served id) ∷ drop_parts (pt.view.queue m msg.to))
+here_takes pt m id msg x target sort.Kills = Some (says (label.Served id) ∷ ends_with pt m msg.to)
 here_takes pt m id msg x target sort.PieceAsked = Some (says (label.Served id) ∷ Routes (answer_id id) ∷ [])
 here_takes pt m id msg x target sort.PieceAnswered = landing_parts id (pieces.lands msg.to x msg x.status)
 here_takes pt m id msg x target sort.MoveAsked = Some (asked_to_move m id msg.to (target_in target))
@@ -250,16 +248,16 @@ is_waited_from from Here = false
 is_waited_from from (Frozen to) = false
 is_waited_from from (Incoming m) = from == m
 is_waited_from from (Forward at moves) = false
-is_waited_from from Ended = false
 
 -- a piece of a process comes that isn't awaited from the kernel that sent it, whatever became of the process
 abbrev pub is_stale : Point → ℕ → MsgId → MessageKind → Pid → Bool
 is_stale pt m id k p = brings_piece (sort_of k) && not (is_waited_from id.from.home (pt.view.known m p))
 
--- what a kernel's own message says of a process to another kernel
+-- what a kernel's own message says of a process to another kernel: that it has ended, or something of its migration
 abbrev pub kernel_hears : Boot → Point → ℕ → MsgId → MessageKind → About → Option (List Part)
 kernel_hears b pt m id k (Of p) =
-    if is_stale pt m id k p then Some (Says (line.Stale id) ∷ [])
+    if tells_end (sort_of k) then Some (buried pt m id p)
+    else if is_stale pt m id k p then Some (Says (line.Stale id) ∷ [])
     else bind (kernel.alive (pt.kernel.processes p)) (λ x. told_step pt m id p (fits (free_room b pt m) (length x.memory / 256)) x (sort_of k))
 kernel_hears b pt m id k about = None
 

@@ -1,22 +1,23 @@
 -- The machines that each process has been on; that each address names one of them, at its place; and that from there the forwards lead
 -- to the process.
-use Rattle.std.specs.Prelude.{◌≡◌, ◌≢◌, ℕ, zero, suc, ◌+◌, ◌<◌, Bool, true, false, ◌&&◌, nat_lt, List, [], ◌∷◌, ◌++◌, length, slice_get}
+use Rattle.std.specs.Prelude.{◌≡◌, ◌≢◌, ℕ, zero, suc, ◌+◌, ◌<◌, Bool, true, false, not, ◌&&◌, ◌||◌, nat_lt, is_some, List, [], ◌∷◌, ◌++◌, length, slice_get}
 use Rattle.std.specs.declared.option.Option.{Option}
 use Rattle.std.specs.declared.option.Option.TheVariants.{None, Some}
 use Rattle.dm_link.specs.declared.Pid.{Pid}
-use Rattle.dm_link.specs.Names.{Place}
+use Rattle.dm_link.specs.Names.{Place, pid_eq}
 use Rattle.dm_message.specs.declared.MsgId.{MsgId}
 use Rattle.dm_message.specs.declared.kind.MessageKind.TheVariants as kind
 use Rattle.dm_onekernel.specs.declared.boot.Boot.{Boot}
-use Rattle.dm_onekernel.specs.Boot.{IsValid, manager}
+use Rattle.dm_onekernel.specs.Boot.{IsValid, switchboard, manager}
 use Rattle.dm_onekernel.specs.Kernel.{OneKernel}
 use Rattle.dm_onekernel.specs.Options.{bind}
+use Rattle.dm_onekernel.specs.Step as kernel
 use Rattle.dm_schedule.specs.declared.Step.{Step}
 use Rattle.dm_line.specs.declared.line.Line.{Line}
 use Rattle.dm_rule.specs.Acts.{Act, act_of}
 use Rattle.dm_rule.specs.Acts as act
 use Rattle.dm_line.specs.Sets.{at_pid}
-use Rattle.dm_rule.specs.View.{View, Told, Known, Unknown, Here, Frozen, Incoming, Forward, Ended, is_kernels}
+use Rattle.dm_rule.specs.View.{View, Told, Known, Unknown, Here, Frozen, Incoming, Forward, is_kernels}
 use Rattle.dm_rule.specs.View as view
 use Rattle.dm_rule.specs.Addresses.{Addresses, Holder, Receiver, Sender}
 use Rattle.dm_rule.specs.Homes.{names}
@@ -63,15 +64,26 @@ along x (l ∷ ls) = bind (after_line x.point l) (λ next. along (record { point
 abbrev pub IsOn : Trails → Pid → Place → Type 0
 IsOn t q place = slice_get (t q) place.moves ≡ Some place.at
 
+-- a server, or a process that was made
+abbrev pub is_server : Pid → Bool
+is_server p = pid_eq p switchboard || pid_eq p manager
+
+abbrev pub is_made : OneKernel → Pid → Bool
+is_made s p = is_server p || is_some (s.processes p)
+
+-- a server, or a process that was made and hasn't ended
+abbrev pub is_alive : OneKernel → Pid → Bool
+is_alive s p = is_server p || is_some (kernel.alive (s.processes p))
+
 -- what machines know of a process agrees with its trail
-pub record Trail (v : View) (t : Trails) (p : Pid) : Type 0 where
+pub record Trail (lives : Bool) (v : View) (t : Trails) (p : Pid) : Type 0 where
   -- it begins at home
   pub begins : slice_get (t p) 0 ≡ Some p.home
   -- a forward names the machine at its place, which is behind each place where the forwarding machine stands
   pub named : (m k j : ℕ) → v.known m p ≡ Forward k j → slice_get (t p) j ≡ Some k
   pub behind : (m k j c : ℕ) → v.known m p ≡ Forward k j → slice_get (t p) c ≡ Some m → c < j
-  -- where one machine knows a process, each machine of its trail does
-  pub kept : (m n c : ℕ) → v.known n p ≢ Unknown → slice_get (t p) c ≡ Some m → v.known m p ≢ Unknown
+  -- where one machine knows a process that lives, each machine of its trail does
+  pub kept : lives ≡ true → (m n c : ℕ) → v.known n p ≢ Unknown → slice_get (t p) c ≡ Some m → v.known m p ≢ Unknown
 
 -- where a process is, or leaves from
 abbrev pub phase_place : Pid → Phase → ℕ
@@ -115,24 +127,23 @@ pub record OwnOn (v : View) (a : Addresses) (t : Trails) : Type 0 where
 
 -- all of it, where the phases of the processes are known
 pub record Trailed (pt : Point) (t : Trails) (of : Pid → Phase) : Type 0 where
-  pub trail : (p : Pid) → Trail pt.view t p
+  pub trail : (p : Pid) → Trail (is_alive pt.kernel p) pt.view t p
   pub stood : (p : Pid) → StoodOnTrail pt.view t p (of p)
   pub links : AddressesOn pt.kernel pt.addresses t
   pub own : OwnOn pt.view pt.addresses t
 
--- from a machine, with a count, the forwards lead with rising counts to where a process is here, frozen, incoming or has ended,
--- within so many steps
-abbrev pub leads_on : Known → ℕ → (ℕ → ℕ → Bool) → Bool
-leads_on Unknown c next = false
-leads_on Here c next = true
-leads_on (Frozen to) c next = true
-leads_on (Incoming from) c next = true
-leads_on (Forward at moves) c next = nat_lt c moves && next moves at
-leads_on Ended c next = true
+-- from a machine, with a count, the forwards lead with rising counts to where a process is here, frozen or incoming, within so many
+-- steps; or, of one that has ended, to a machine that knows nothing of it
+abbrev pub leads_on : Bool → Known → ℕ → (ℕ → ℕ → Bool) → Bool
+leads_on over Unknown c next = over
+leads_on over Here c next = true
+leads_on over (Frozen to) c next = true
+leads_on over (Incoming from) c next = true
+leads_on over (Forward at moves) c next = nat_lt c moves && next moves at
 
-abbrev pub leads : View → Pid → ℕ → ℕ → ℕ → Bool
-leads v p zero c m = leads_on (v.known m p) c (λ d k. false)
-leads v p (suc n) c m = leads_on (v.known m p) c (leads v p n)
+abbrev pub leads : Bool → View → Pid → ℕ → ℕ → ℕ → Bool
+leads over v p zero c m = leads_on over (v.known m p) c (λ d k. false)
+leads over v p (suc n) c m = leads_on over (v.known m p) c (leads over v p n)
 
 -- the rule leads from a point and its trails to others, group by group
 abbrev pub LeadsAlong : Boot → Trodden → List Step → Trodden → Type 0
@@ -140,8 +151,8 @@ LeadsAlong b x [] end = x ≡ end
 LeadsAlong b x (e ∷ es) end = (w : Spelled) × (y : Trodden) × IsStep x.point.kernel.machines e × (group_of b x.point e ≡ Some w) × (along x w.lines ≡ Some y) × LeadsAlong b y es end
 
 -- wherever the rule leads, each address names a machine at its place of the trail of its process, and from there the forwards
--- lead to the process in fewer steps than there are machines
+-- lead to the process in fewer steps than there are machines; or, where it has ended, to a machine without a record
 abbrev pub TrailsAlways : Type 0
 TrailsAlways =
-    (b : Boot) (es : List Step) (x : Trodden) (h : Holder) (q : Pid) (n m : ℕ) → IsValid b → LeadsAlong b (first_trodden b) es x → names x.point.kernel h ≡ Some q → x.point.view.known m q ≢ Unknown → x.point.kernel.machines ≡ suc n
-    → IsOn x.trails q (x.point.addresses h) × (leads x.point.view q n (x.point.addresses h).moves (x.point.addresses h).at ≡ true)
+    (b : Boot) (es : List Step) (x : Trodden) (h : Holder) (q : Pid) (n : ℕ) → IsValid b → LeadsAlong b (first_trodden b) es x → names x.point.kernel h ≡ Some q → is_made x.point.kernel q ≡ true → x.point.kernel.machines ≡ suc n
+    → IsOn x.trails q (x.point.addresses h) × (leads (not (is_alive x.point.kernel q)) x.point.view q n (x.point.addresses h).moves (x.point.addresses h).at ≡ true)

@@ -34,7 +34,6 @@ pub data Known : Type 0 where
   Frozen : (to : ℕ) → Known
   Incoming : (from : ℕ) → Known
   Forward : (at : ℕ) → (moves : ℕ) → Known
-  Ended : Known
 
 -- a packet of a wire
 pub record SentLoad : Type 0 where
@@ -79,6 +78,8 @@ pub record View : Type 0 where
   pub known : ℕ → Pid → Known
   pub queue : ℕ → Pid → List MsgId
   pub held : ℕ → Pid → List MsgId
+  -- its predecessors: the other machines that may forward what comes for the process to this one
+  pub preds : ℕ → Pid → ℕ → Bool
   -- how often a process has moved, and how many pieces of it have been asked for since it was last accepted
   pub moves : Pid → ℕ
   pub asked : Pid → ℕ
@@ -121,12 +122,40 @@ held_for v id to = option_map_or (λ p. record v { held = at_record v.held v.act
 abbrev pub dropped_for : View → MsgId → Option Pid → View
 dropped_for v id to = option_map_or (λ p. record v { queue = at_record v.queue v.acting p (without_front id (v.queue v.acting p)) }) to v
 
+-- one machine more is a predecessor
+abbrev pub added : ℕ → (ℕ → Bool) → ℕ → Bool
+added m preds n = (m == n) || preds n
+
+abbrev pub with_preds : View → Pid → (ℕ → Bool) → View
+with_preds v p preds = record v { preds = at_record v.preds v.acting p preds }
+
+abbrev pub with_pred : View → Pid → ℕ → View
+with_pred v p m = with_preds v p (added m (v.preds v.acting p))
+
+-- the acting machine forgets a process
+abbrev pub nobody : ℕ → Bool
+nobody n = false
+
+abbrev pub forgetting : View → Pid → View
+forgetting v p = with_preds (knowing v p Unknown) p nobody
+
 -- a process is served, and goes to the ring's back
 abbrev pub serving : View → Pid → View
 serving v p = with_ring v (moved_back p (v.ring v.acting))
 
+-- a process that ends leaves the ring, and its machine forgets it
 abbrev pub ended : View → Pid → View
-ended v p = with_ring (knowing v p Ended) (without p (v.ring v.acting))
+ended v p = about (forgetting (with_ring v (without p (v.ring v.acting))) p) (Of p)
+
+-- what a message is about is forgotten, where that is a process alone
+abbrev pub forgotten : View → About → View
+forgotten v NothingElse = v
+forgotten v (Target m) = v
+forgotten v (Of p) = about (forgetting v p) (Of p)
+forgotten v (Place p at moves) = v
+
+abbrev pub buried_for : View → Option Told → View
+buried_for v told = option_map_or (λ t. forgotten v t.about) told v
 
 -- of the messages that a kernel serves, only a kill ends the receiver
 abbrev pub ends_by : Sort → View → Option Pid → View
@@ -274,7 +303,27 @@ goes_back Here moves = Here
 goes_back (Frozen to) moves = Frozen to
 goes_back (Incoming from) moves = Forward from moves
 goes_back (Forward at n) moves = Forward at n
-goes_back Ended moves = Ended
+
+-- a destination tells the source that it has called a migration off
+abbrev pub tells_calloff : Sort → Bool
+tells_calloff (sort.Between sort.CallOff) = true
+tells_calloff s = false
+
+abbrev pub is_calloff : MessageKind → Bool
+is_calloff k = tells_calloff (sort_of k)
+
+-- a process stays where it was: behind a calling off, the machine that sent the message at the front forwards to this one from now on
+abbrev pub with_caller : Bool → ℕ → (ℕ → Bool) → ℕ → Bool
+with_caller called m preds n = (called && (m == n)) || preds n
+
+abbrev pub calls_back : Option Told → Bool
+calls_back told = option_map_or (λ t. is_calloff t.kind) told false
+
+abbrev pub front_told : View → Option Told
+front_told v = option_and_then v.told (slice_get (v.inbox v.acting) 0)
+
+abbrev pub staying : View → Pid → View
+staying v p = with_preds v p (with_caller (calls_back (front_told v)) (front_of (v.inbox v.acting)) (v.preds v.acting p))
 
 -- whether all of a process has come
 abbrev pub coming : View → Pid → Bool → View
@@ -311,7 +360,8 @@ sets_off v p a = frozen_for (handled_first v) p (target_of (option_and_then v.to
 abbrev pub after_stage : View → Pid → Stage → View
 after_stage v p stage.Frozen = sets_off v p v.topic
 after_stage v p stage.Asked = v
-after_stage v p stage.Accepted = about (coming (asking (knowing (handled_first v) p (Incoming (front_of (v.inbox v.acting)))) p 1) p false) (Of p)
+after_stage v p stage.Accepted =
+    about (coming (asking (with_pred (knowing (handled_first v) p (Incoming (front_of (v.inbox v.acting)))) p (front_of (v.inbox v.acting))) p 1) p false) (Of p)
 after_stage v p stage.StateTaken = about (asking (handled_first v) p (v.asked p + 1)) (Of p)
 after_stage v p stage.MemoryTaken = about (coming (handled_first v) p true) (Of p)
 after_stage v p stage.Left = about (knowing v p (gone_to (v.known v.acting p) (v.moves p + 1))) (Of p)
@@ -334,13 +384,14 @@ view_after v (line.Queued id) = queued_for (handled v id) id (receiver_of (v.tol
 view_after v (line.Held id) = held_for (handled v id) id (receiver_of (v.told id))
 view_after v (line.Forwarded id m) = forwarded_for (handled v id) (receiver_of (v.told id))
 view_after v (line.Updated id n) = handled v id
+view_after v (line.Buried id n) = buried_for (handled v id) (v.told id)
 view_after v (line.Migration s p) = after_stage v p s
 view_after v (line.SentOn p n) =
     about (record (handled_first v) { queue = at_record v.queue v.acting p []; held = at_record v.held v.acting p [] }) (Of p)
 view_after v (line.Called p n) =
     about (record (knowing v p (goes_back (v.known v.acting p) (v.moves p))) { held = at_record v.held v.acting p [] }) (Of p)
 view_after v (line.Lacks p s b) = about (handled_first v) (Of p)
-view_after v (line.Stays p) = rejoins (handled_first v) p
+view_after v (line.Stays p) = rejoins (handled_first (staying v p)) p
 view_after v (line.Here id) = handled v id
 view_after v (line.NoMove id) = handled v id
 view_after v (line.Stale id) = handled v id
@@ -371,6 +422,7 @@ first_view b =
       known = known_at b.processes;
       queue = λ m p. [];
       held = λ m p. [];
+      preds = λ m p n. false;
       moves = λ p. 0;
       asked = λ p. 0;
       come = λ p. false;

@@ -88,7 +88,7 @@ moving_left b pt d w y k s t o h phase e =
     group_left b pt d w y
     (outcome_apart b pt d y h
     (λ m is. moves_known k s t o (nowhere_known (Moves k s t o)
-    (λ j. sym (ap (knows (Moves k s t o) j) (ap (pt.view.known j) (sym is) ∙ h.unborn m j)) ∙ phase.known j)))
+    (λ j. sym (ap (knows (Moves k s t o) j) (ap (pt.view.known j) (sym is) ∙ h.unborn m j)) ∙ phase.known j) (λ at over. cc)))
     (λ m p here is. false≢true (sym (moves_away k s t m o (s == m) (t == m) refl refl) ∙ sym (ap (knows (Moves k s t o) m) (ap (pt.view.known m) (sym is) ∙ here)) ∙ phase.known m))) e
 
 -- wherever the rule leads

@@ -1,7 +1,7 @@
 -- The labels of a group: what is another process's.
-use Rattle.dm_rule.proofs.Names.{◌≡◌, ◌≢◌, ℕ, ◌+◌, List, [], ◌∷◌, refl, ⊤, Option, None, Some, Pid, pid_of, MsgId, plain_kind, PlainMessage, Boot, first_number, OneKernel, Here, Point, label_of, Part, Says, Spares}
+use Rattle.dm_rule.proofs.Names.{◌≡◌, ◌≢◌, ℕ, ◌+◌, List, [], ◌∷◌, refl, ⊤, Option, None, Some, Pid, pid_of, MsgId, plain_kind, PlainMessage, Boot, first_number, ends_with, OneKernel, Here, Point, label_of, Part, Says, Spares}
 use Rattle.dm_rule.specs.Rule as rule
-use Rattle.dm_rule.proofs.Serving.{by_round, by_handles, by_forwards}
+use Rattle.dm_rule.proofs.Serving.{by_round, by_handles, by_forwards, ends_kept}
 
 abbrev pub SparesPart : OneKernel → Pid → Part → Type 0
 SparesPart z y (Says l) = Spares z y (label_of l)
@@ -28,9 +28,8 @@ apart_of z y None h = tt
 apart_of z y (Some ps) h = h ps refl
 
 -- another process is served
-drops_apart : (y : Pid) (ids : List MsgId) → AllApart y (rule.drop_parts ids)
-drops_apart y [] = tt
-drops_apart y (i ∷ is) = (λ s. tt, drops_apart y is)
+ends_apart : (y : Pid) (o : Point) (m : ℕ) (p : Pid) → AllApart y (ends_with o m p)
+ends_apart y o m p = ends_kept (AllApart y) tt (λ i ps h. (λ s. tt, h)) (λ to ps h. (λ s. tt, h)) o m p
 
 pub round_apart : (z : OneKernel) (y : Pid) (b : Boot) (o : Point) (m : ℕ) (q : Option Pid) → ((p : Pid) → q ≡ Some p → p ≢ y) → ApartOf z y (rule.goes_round b o m q)
 round_apart z y b o m q off = apart_of z y (rule.goes_round b o m q) (λ ps. by_round (FirstApart z y) b o m q ps (tt, tt) (λ p x is alive. record {
@@ -42,7 +41,7 @@ round_apart z y b o m q off = apart_of z y (rule.goes_round b o m q) (λ ps. by_
       sends = λ id. (λ s. off p is, (λ s. tt, tt));
       waits = (λ s. off p is, tt);
       outputs = λ word. (λ s. off p is, tt);
-      ends = λ w. (λ s. off p is, drops_apart y (o.view.queue m p));
+      ends = λ w. (λ s. off p is, ends_apart y o m p);
     }),
   );
   takes = λ mask id first. (off p is, tt);
@@ -61,7 +60,7 @@ handles_apart z y b o m id msg child off = apart_of z y (rule.handles b o m id m
   queued = λ to user. (tt, tt);
   served = λ to mild. (off to.known, tt);
   answers = λ to mild i. (off to.known, (λ s. tt, tt));
-  kills = λ to kills. (off to.known, drops_apart y (o.view.queue m msg.to));
+  kills = λ to kills. (off to.known, ends_apart y o m msg.to);
   moved = λ to what. (off to.known, (λ s. tt, (λ s. tt, tt)));
   sets_off = λ machine to what apart. (off to.known, (λ s. tt, (λ s. tt, (λ s. tt, tt))));
   gone = λ to. (tt, (λ s. tt, tt));

@@ -37,7 +37,7 @@ queued_keeps r e pt pt' id at h is =
     λ s e v id at h. search (arith, queue_set, all_stand_last, handled_lists s e v id h) in
     let w = handled pt.view id in
     let rings_queued : (v : View) (id : MsgId) (o : Option Pid) → RingsHome v → RingsHome (queued_for v id o) =
-    λ v id o h. elim o as (λ o_. RingsHome (queued_for v id o_)) [ None ↦ h | Some p' ↦ record { moves = h.moves; ring = h.ring; known = h.known } ] in
+    λ v id o h. elim o as (λ o_. RingsHome (queued_for v id o_)) [ None ↦ h | Some p' ↦ record { moves = h.moves; ring = h.ring; known = h.known; preds = h.preds } ] in
     subst (Kept pt.view.acting) (let f : moved pt (Line.Queued id) pt.kernel ≡ pt' = cc in f) ((search (arith, rings_queued, rings_same, queue_lists, queued_acting)))
 
 pub first_keeps : NoneReplaced → (r e : MsgId → ℕ) (pt pt' : Point) (p : Part) (ls : List Line) → FirstGood pt.kernel e pt.view.acting p → Home r e pt → lines_of pt p ≡ Some ls → after pt ls ≡ Some pt' → Kept pt.view.acting pt'
@@ -62,7 +62,7 @@ good_keep none (p ∷ ps) r e m pt w acting at h is ask =
 
 -- the head
 pub begun_home : (r e : MsgId → ℕ) (pt : Point) (m : ℕ) → Home r e pt → Home r e (record { kernel = pt.kernel; view = begins pt.view m NothingElse; addresses = pt.addresses })
-begun_home r e pt m h = record { sound = h.sound; at = h.at; rings = record { moves = h.rings.moves; ring = h.rings.ring; known = h.rings.known }; lists = record { inbox = h.lists.inbox; queue = h.lists.queue; untaken = h.lists.untaken } }
+begun_home r e pt m h = record { sound = h.sound; at = h.at; rings = record { moves = h.rings.moves; ring = h.rings.ring; known = h.rings.known; preds = h.rings.preds }; lists = record { inbox = h.lists.inbox; queue = h.lists.queue; untaken = h.lists.untaken } }
 
 spells : NoneReplaced → (r e : MsgId → ℕ) (m : ℕ) (begun : Point) (ps : List Part) (d : Step) (w : Spelled) → begun.view.acting ≡ m → PartsGood begun.kernel e m ps → Home r e begun
     → bind (spelled begun ps) (λ (z : Spelled). Some (behind (Line.Head d ∷ []) z)) ≡ Some w → AskNone w.lines → Kept m w.point
@@ -86,7 +86,7 @@ group_keeps none b r e pt (Step.Deliver a c k) w still is ask h good =
     let begun = begun_home r e pt c h in
     let p = marked (pt.view.pair a c) k in
     spells none r e c (moved pt (Line.Head (Step.Deliver a c k)) pt.kernel) ps (Step.Deliver a c k) w refl (good ps comes)
-    (record { sound = h.sound; at = h.at; rings = rings_same v (view.with_pair v a c p) refl refl refl begun.rings; lists = same_lists pt.kernel e v a c p refl refl begun.lists }) rest ask
+    (record { sound = h.sound; at = h.at; rings = rings_same v (view.with_pair v a c p) refl refl refl refl begun.rings; lists = same_lists pt.kernel e v a c p refl refl begun.lists }) rest ask
 group_keeps none b r e pt (Step.Migrate p m) w still is ask h good = absurd still
 group_keeps none b r e pt (Step.CallOff p m) w still is ask h good =
     let (ps, comes, rest) = bind-is (outcome b pt (Step.CallOff p m)) (λ (xs : List Part). bind (after_line pt (Line.Head (Step.CallOff p m))) (λ (q : Point). bind (spelled q xs) (λ (z : Spelled). Some (behind (Line.Head (Step.CallOff p m) ∷ []) z)))) w is in

@@ -1,6 +1,6 @@
 -- Each label keeps addresses where they may be, as at homes, and what it does to the rings too.
-use Rattle.dm_rule.proofs.Names.{◌≡◌, ℕ, ◌==◌, ◌&&◌, Bool, true, false, not, List, [], ◌∷◌, ◌++◌, refl, ap, ◌∙◌, arith, ⊤, if◌then◌else◌, filter, Some, nat_tests, Pid, Place, pid_eq, Label, OneKernel, Why, at_machine, at_record, without}
-use Rattle.dm_rule.proofs.Names.{View, Known, Frozen, Incoming, Forward, Addresses, given, gives, acting_place, are_home, and_parts, bind-is}
+use Rattle.dm_rule.proofs.Names.{◌≡◌, ℕ, ◌==◌, ◌&&◌, Bool, true, false, not, List, [], ◌∷◌, ◌++◌, refl, ap, ◌∙◌, arith, ⊤, if◌then◌else◌, filter, Some, nat_tests, Pid, Place, pid_eq, Label, OneKernel, Why, at_machine, at_record, nobody}
+use Rattle.dm_rule.proofs.Names.{without, View, Known, Frozen, Incoming, Forward, Addresses, given, gives, acting_place, are_home, and_parts, bind-is}
 use Rattle.dm_rule.proofs.Homes.{IsHome, AtHome}
 use Rattle.dm_rule.proofs.Homes.Steps.{ran_home, call_home, send_home, end_row, wait_home, out_home}
 use Rattle.dm_rule.proofs.Homes.Receives.{receive_home, refuse_home}
@@ -83,7 +83,6 @@ pub joins_home : (m : ℕ) (p : Pid) (ps : List Pid) → p.home ≡ m → are_ho
 joins_home m p [] e h = grind (arith, nat_tests)
 joins_home m p (q ∷ qs) e h = let k = and_parts (q.home == m) (are_home m qs) h in ap (λ (c : Bool). c && are_home m (qs ++ p ∷ [])) k.0 ∙ joins_home m p qs e k.1
 
--- rings whose processes are at home, and no process has moved
 -- what a machine knows of a process as long as nothing moves
 abbrev pub is_still : Known → Bool
 is_still (Frozen to) = false
@@ -91,20 +90,27 @@ is_still (Incoming from) = false
 is_still (Forward at moves) = false
 is_still _ = true
 
+-- rings whose processes are at home, and no process has moved
 pub record RingsHome (v : View) : Type 0 where
   pub moves : (p : Pid) → v.moves p ≡ 0
   pub ring : (m : ℕ) → are_home m (v.ring m) ≡ true
   pub known : (m : ℕ) (p : Pid) → is_still (v.known m p) ≡ true
+  -- so no machine forwards to another
+  pub preds : (m n : ℕ) (p : Pid) → v.preds m p n ≡ false
 
 pub known_set : (v : View) (a : ℕ) (p : Pid) (k : Known) → is_still k ≡ true → RingsHome v → (m : ℕ) (q : Pid) → is_still (at_record v.known a p k m q) ≡ true
 known_set v a p k h r m q = elim ((a == m) && pid_eq p q) as (λ b. is_still (if b then k else (v.known m q)) ≡ true) [ true ↦ h | false ↦ (r.known m q) ]
 
-pub rings_set : (v w : View) (ps : List Pid) → w.moves ≡ v.moves → w.ring ≡ at_machine v.ring v.acting ps → ((m : ℕ) (p : Pid) → is_still (w.known m p) ≡ true) → are_home v.acting ps ≡ true → RingsHome v → RingsHome w
-rings_set v w ps moves ring known h k = record {
+pub preds_none : (v : View) (a : ℕ) (p : Pid) → RingsHome v → (m n : ℕ) (q : Pid) → at_record v.preds a p nobody m q n ≡ false
+preds_none v a p r m n q = elim ((a == m) && pid_eq p q) as (λ b. (if b then nobody else v.preds m q) n ≡ false) [ true ↦ refl | false ↦ r.preds m n q ]
+
+pub rings_set : (v w : View) (ps : List Pid) → w.moves ≡ v.moves → w.ring ≡ at_machine v.ring v.acting ps → ((m : ℕ) (p : Pid) → is_still (w.known m p) ≡ true) → ((m n : ℕ) (p : Pid) → w.preds m p n ≡ false) → are_home v.acting ps ≡ true → RingsHome v → RingsHome w
+rings_set v w ps moves ring known preds h k = record {
   known = known;
+  preds = preds;
   moves = λ p. ap (λ (f : Pid → ℕ). f p) moves ∙ k.moves p;
   ring = λ m. ap (λ (f : ℕ → List Pid). are_home m (f m)) ring ∙ (search arith);
 }
 
-pub rings_same : (v w : View) → w.moves ≡ v.moves → w.ring ≡ v.ring → w.known ≡ v.known → RingsHome v → RingsHome w
-rings_same v w moves ring known k = search arith
+pub rings_same : (v w : View) → w.moves ≡ v.moves → w.ring ≡ v.ring → w.known ≡ v.known → w.preds ≡ v.preds → RingsHome v → RingsHome w
+rings_same v w moves ring known preds k = search arith

@@ -6,7 +6,7 @@ use Rattle.dm_rule.proofs.Names.{Homes, is_for_home, gives, topic_by, About, sor
 use Rattle.std.proofs.Common.{is_none}
 use Rattle.dm_rule.proofs.Homes.{IsHome, AtHome, homes_are}
 use Rattle.dm_rule.proofs.Homes.Start.{start_at_home, Homes-start}
-use Rattle.dm_rule.proofs.Homes.Labels.{SaidAt, RingsHome, is_still, rings_same, rings_set, known_set, without_home, joins_home, label_home}
+use Rattle.dm_rule.proofs.Homes.Labels.{SaidAt, RingsHome, is_still, rings_same, rings_set, known_set, preds_none, without_home, joins_home, label_home}
 use Rattle.dm_rule.proofs.Homes.Lists.{stands, ListsHome, Old, label_lists, pair_set, are_for, inbox_set, all_stand_last, routed_stands, stand_on, all_stand}
 use Rattle.dm_onekernel.specs.Step as kernel
 use Rattle.dm_rule.specs.View as view
@@ -26,6 +26,7 @@ pub homes_of : (r e : MsgId → ℕ) (pt : Point) → Home r e pt → Homes pt
 homes_of r e pt h = record {
   home = homes_are IsHome pt.kernel pt.addresses h.at;
   moves = h.rings.moves;
+  preds = h.rings.preds;
   ring = h.rings.ring;
   inbox = λ m. are_for pt.kernel e m (pt.view.inbox m) (h.lists.inbox m);
   queue = λ m p. are_for pt.kernel e m (pt.view.queue m p) (h.lists.queue m p);
@@ -58,13 +59,13 @@ label_line : NoneReplaced → (r e : MsgId → ℕ) (pt : Point) (l : Label) (t 
 label_line none r e pt l t is at h =
     -- what a group is about changes none of it
     let told_rings : (v : View) (o : Option Told) → RingsHome v → RingsHome (served_told v o) =
-    λ v o h1. let kills_rings : (v : View) (k : MessageKind) (o : Option Pid) → RingsHome v → RingsHome (ends_by (sort_of k) v o) = λ v k o h1. search (arith, rings_set, known_set, without_home) in search (arith, kills_rings) in
+    λ v o h1. let kills_rings : (v : View) (k : MessageKind) (o : Option Pid) → RingsHome v → RingsHome (ends_by (sort_of k) v o) = λ v k o h1. search (arith, rings_set, known_set, preds_none, without_home) in search (arith, kills_rings) in
     let label_rings : (s : OneKernel) (v : View) (l : Label) → SaidAt s v.acting l → RingsHome v → RingsHome (after_label v l) =
     let back_home : (v : View) (p : Pid) → p.home ≡ v.acting → RingsHome v → are_home v.acting (moved_back p (v.ring v.acting)) ≡ true =
     λ v p at h. joins_home v.acting p (without p (v.ring v.acting)) at (without_home v.acting p (v.ring v.acting) (h.ring v.acting)) in
     let dropped_rings : (v : View) (id : MsgId) (o : Option Pid) → RingsHome v → RingsHome (view.dropped_for v id o) =
-    λ v id o h. elim o as (λ o_. RingsHome (view.dropped_for v id o_)) [ None ↦ h | Some p' ↦ record { moves = h.moves; ring = h.ring; known = h.known } ] in
-    λ s v l h1 h2. search (arith, rings_set, back_home, known_set, without_home, dropped_rings, told_rings, joins_home) in
+    λ v id o h. elim o as (λ o_. RingsHome (view.dropped_for v id o_)) [ None ↦ h | Some p' ↦ record { moves = h.moves; ring = h.ring; known = h.known; preds = h.preds } ] in
+    λ s v l h1 h2. search (arith, rings_set, back_home, known_set, preds_none, without_home, dropped_rings, told_rings, joins_home) in
     let lists_on : (s t : OneKernel) (e f : MsgId → ℕ) (v : View) → Old e s t → ((i : MsgId) → e i ≤ f i) → ListsHome s e v → ListsHome t f v = λ s t e f v old le h. search (arith, stand_on) in
     let topic_home : (r e : MsgId → ℕ) (s : OneKernel) (v : View) (t : About) (a : Addresses) → Home r e (record { kernel = s; view = v; addresses = a }) → Home r e (record { kernel = s; view = view.about v t; addresses = a }) =
     λ r e s v t a h. search arith in
@@ -115,7 +116,7 @@ routed_home r e pt id m b there is h =
     let put_lists : ListsHome pt.kernel e (after_put pt.view pt.view.acting b id (plain_kind m.what) m.to) = search (arith, inbox_if, inbox_set, all_stand_last, pair_set, routed_stands, h.lists) in
     let put_at_home : (s : OneKernel) (v : View) (a : Addresses) (from b : ℕ) (id : MsgId) (w : PlainWhat) (q : Pid) → AtHome IsHome s a → AtHome IsHome s (addresses_by s v a (act_of (Line.Put from b id (plain_kind w) q))) =
     λ s v a from b id w q h. subst (AtHome IsHome s) (sym (ap (given a) (first_none (v.told id) (own_given s v a id q (sort_of (plain_kind w))) (own_none s v a id q w)))) h in
-    record { sound = h.sound; at = put_at_home pt.kernel pt.view pt.addresses pt.view.acting b id m.what m.to h.at; rings = rings_same pt.view w refl refl refl h.rings; lists = put_lists }
+    record { sound = h.sound; at = put_at_home pt.kernel pt.view pt.addresses pt.view.acting b id m.what m.to h.at; rings = rings_same pt.view w refl refl refl refl h.rings; lists = put_lists }
 
 -- its packet goes out at once, or later
 packet_if : (r e : MsgId → ℕ) (pt pt' : Point) (c d : Bool) (a b k : ℕ) (l : Load) → Home r e pt → after pt (if c then [] else if d then Line.Packet a b k l ∷ [] else []) ≡ Some pt' → Kept pt.view.acting pt'

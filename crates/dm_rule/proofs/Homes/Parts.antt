@@ -73,11 +73,11 @@ line_keeps none r e pt pt' (Line.Taken a b n) at h is =
     let p = pt.view.pair a b in
     let w = view.with_pair pt.view a b (record p { taken = p.taken + 1; kept = filter (λ k. not (k == n)) p.kept }) in
     let rings_taken : (v : View) (b : ℕ) (o : Option MsgId) → RingsHome v → RingsHome (view.taken_id v b o) =
-    λ v b o h. elim o as (λ o_. RingsHome (view.taken_id v b o_)) [ None ↦ h | Some id' ↦ record { moves = h.moves; ring = h.ring; known = h.known } ] in
+    λ v b o h. elim o as (λ o_. RingsHome (view.taken_id v b o_)) [ None ↦ h | Some id' ↦ record { moves = h.moves; ring = h.ring; known = h.known; preds = h.preds } ] in
     subst (Kept pt.view.acting) (let f : moved pt (Line.Taken a b n) pt.kernel ≡ pt' = cc in f) (record {
       r = r;
       e = e;
-      home = record { sound = h.sound; at = h.at; rings = rings_taken w b (view.oldest p) (rings_same pt.view w refl refl refl h.rings); lists = taken_lists pt.kernel e pt.view a b n h.lists };
+      home = record { sound = h.sound; at = h.at; rings = rings_taken w b (view.oldest p) (rings_same pt.view w refl refl refl refl h.rings); lists = taken_lists pt.kernel e pt.view a b n h.lists };
       acting = acting_taken w b (view.oldest p);
     })
 line_keeps none r e pt pt' (Line.Early a b n) at h is =
@@ -85,13 +85,13 @@ line_keeps none r e pt pt' (Line.Early a b n) at h is =
     let p = pt.view.pair a b in
     let q : Pair = record p { kept = n ∷ filter (λ k. not (k == n)) p.kept } in
     let w = view.with_pair pt.view a b q in
-    subst (Kept pt.view.acting) f (record { r = r; e = e; home = record { sound = h.sound; at = h.at; rings = rings_same pt.view w refl refl refl h.rings; lists = same_lists pt.kernel e pt.view a b q refl refl h.lists }; acting = refl })
+    subst (Kept pt.view.acting) f (record { r = r; e = e; home = record { sound = h.sound; at = h.at; rings = rings_same pt.view w refl refl refl refl h.rings; lists = same_lists pt.kernel e pt.view a b q refl refl h.lists }; acting = refl })
 line_keeps none r e pt pt' (Line.Acked a b n) at h is =
     let f : moved pt (Line.Acked a b n) pt.kernel ≡ pt' = cc in
     let p = pt.view.pair b a in
     let q : Pair = record p { acked = view.at_least p.acked n } in
     let w = view.with_pair pt.view b a q in
-    subst (Kept pt.view.acting) f (record { r = r; e = e; home = record { sound = h.sound; at = h.at; rings = rings_same pt.view w refl refl refl h.rings; lists = same_lists pt.kernel e pt.view b a q refl refl h.lists }; acting = refl })
+    subst (Kept pt.view.acting) f (record { r = r; e = e; home = record { sound = h.sound; at = h.at; rings = rings_same pt.view w refl refl refl refl h.rings; lists = same_lists pt.kernel e pt.view b a q refl refl h.lists }; acting = refl })
 line_keeps none r e pt pt' _ at h is = absurd at
 
 pub part_keeps : NoneReplaced → (r e : MsgId → ℕ) (pt pt' : Point) (p : Part) (ls : List Line) → PartAnywhere pt.view.acting p → Home r e pt → lines_of pt p ≡ Some ls → after pt ls ≡ Some pt' → Kept pt.view.acting pt'

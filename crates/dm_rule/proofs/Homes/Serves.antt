@@ -3,7 +3,7 @@ use Rattle.dm_rule.proofs.Names.{◌≡◌, ℕ, zero, suc, ◌+◌, ◌==◌, �
 use Rattle.dm_rule.proofs.Names.{pid_eq, PlainLink, link_at, MsgId, id_eq, Label, Why, PlainMessage, PlainWhat, Reply, bind, PlainProcess, PlainStatus, Moving, Alive, OneKernel, with_process, with_sent, without_message, pid_eq-same}
 use Rattle.dm_rule.proofs.Names.{id_eq-same, bind-is, when-is, View, Addresses, Gets, gets, given, gives, Slot, Owner, Receiver, Sender, Enclosed, unmoved, acting_place, replicate, ◌-◌, take, drop, Direction, BootImage, first_number}
 use Rattle.dm_rule.proofs.Names.{answer_id, answer_to, begun, pid_of, answer_gets, serving_gets, landing_gets, child_links, links_in, at_hand-is, AskedBy, MoveNote, Outcome, with_note, without_note, ends_move-is, option_map_or, cond_some}
-use Rattle.dm_onekernel.specs.Kernel.{Ended}
+use Rattle.dm_rule.proofs.Names.{Ended}
 use Rattle.dm_rule.proofs.Homes.{place_as, pid_as, acts_at, HomeProcess, AtHome}
 use Rattle.dm_rule.proofs.Homes.Rows.{SameProcess, SameMessage, SameServers, sent_home, at_home_process, at_home_out, home_goes, alive_on, message_same, process_same}
 use Rattle.dm_rule.proofs.Homes.Steps.{OnlySlots, only_none, at_home_ended}

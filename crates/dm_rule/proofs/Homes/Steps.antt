@@ -1,8 +1,7 @@
 -- Each label of a process keeps addresses where they may be.
 use Rattle.dm_rule.proofs.Names.{◌≡◌, ℕ, ◌==◌, ◌&&◌, Bool, true, false, List, [], refl, ap, ◌∙◌, sym, subst, arith, if◌then◌else◌, Option, None, Some, nat_tests, Pid, Place, pid_eq, MsgId, id_eq, Label, Reply, Why, reply_eq, reply_code}
 use Rattle.dm_rule.proofs.Names.{why_eq, bind, PlainProcess, Alive, OneKernel, with_process, with_sent, Replies, Sends, Ends, id_eq-is, bind-is, when-is, View, Addresses, Gets, given, gives, Slot, acting_place, fills, fills_by, call_gets}
-use Rattle.dm_rule.proofs.Names.{sending_gets}
-use Rattle.dm_onekernel.specs.Kernel.{Ended}
+use Rattle.dm_rule.proofs.Names.{sending_gets, Ended}
 use Rattle.dm_rule.proofs.Homes.{AtHome, place_as}
 use Rattle.dm_rule.proofs.Homes.Rows.{SameProcess, SameMessage, SameServers, running_home, at_home_process, home_goes, at_home_goes, alive_on, set_home, sent_home}
 use Rattle.dm_rule.proofs.Homes.Calls.{Nexts, next_home, gives_by}

@@ -1,7 +1,7 @@
 -- A turn keeps all of it.
 use Rattle.dm_rule.proofs.Names.{◌≡◌, ℕ, ◌+◌, ◌==◌, Bool, true, false, List, [], ◌∷◌, refl, ap, ◌∙◌, sym, subst, inl, inr, arith, nat_le, ⊤, if◌then◌else◌, Option, None, Some, nat_tests, Pid, MsgId, PlainMessage, Boot, Label, Says}
 use Rattle.dm_rule.proofs.Names.{OneKernel, after_step, Point, first_point, Part, Routes, Spelled, Homes, is_for_home, are_home, IsStill, LeadHomeAlways, ◌≤◌, false≢true, is_kernels, Step, actor, group_of, pid_of, first_number, Known, Line}
-use Rattle.dm_rule.proofs.Names.{Frozen, Incoming, Forward, AskNone, LeadsStill, and_parts, calls_off}
+use Rattle.dm_rule.proofs.Names.{◌++◌, MessageKind, ends_with, filter, map, preds_of, to_kernel, Frozen, Incoming, Forward, AskNone, LeadsStill, and_parts, calls_off, range_with_len}
 use Rattle.dm_onekernel.specs.Step as kernel
 use Rattle.dm_rule.proofs.Homes.Labels.{SaidAt}
 use Rattle.dm_rule.proofs.Homes.Lists.{stands, all_stand}
@@ -27,9 +27,19 @@ GoodOf s e m (Some ps) = PartsGood s e m ps
 says_first : (s : OneKernel) (e : MsgId → ℕ) (m : ℕ) (l : Label) (ps : List Part) → SaidAt s m l → PartsAnywhere m ps → PartsGood s e m (rule.says l ∷ ps)
 says_first s e m l ps at h = inl (inr (inl (l, refl, at)), h)
 
-drops_good : (m : ℕ) (ids : List MsgId) → PartsAnywhere m (rule.drop_parts ids)
+-- where no machine forwards to another, nobody is told of an end
+drops_good : (m : ℕ) (ids : List MsgId) → PartsAnywhere m (rule.drop_parts ids ++ [])
 drops_good m [] = tt
 drops_good m (i ∷ is) = (tt, drops_good m is)
+
+none_passes : (f : ℕ → Bool) (ns : List ℕ) → ((n : ℕ) → f n ≡ false) → filter f ns ≡ []
+none_passes f [] h = refl
+none_passes f (n ∷ ns) h = ap (λ (c : Bool). if c then n ∷ filter f ns else filter f ns) (h n) ∙ none_passes f ns h
+
+ends_good : (o : Point) (m : ℕ) (p : Pid) → RingsHome o.view → PartsAnywhere m (ends_with o m p)
+ends_good o m p h =
+    let none : [] ≡ preds_of o m p = sym (none_passes (o.view.preds m p) (range_with_len 0 o.kernel.machines) (λ n. h.preds m n p)) in
+    subst (λ (ns : List ℕ). PartsAnywhere m (rule.drop_parts (o.view.queue m p) ++ map (to_kernel MessageKind.Bury) ns)) none (drops_good m (o.view.queue m p))
 
 pub runnable_home : (s : OneKernel) (queue : Pid → List MsgId) (m : ℕ) (ps : List Pid) (q : Pid) → are_home m ps ≡ true → rule.first_runnable s queue ps ≡ Some q → q.home ≡ m
 runnable_home s queue m [] q h is = cc
@@ -45,15 +55,15 @@ some_good : (s : OneKernel) (e : MsgId → ℕ) (m : ℕ) (o : Option (List Part
 some_good s e m None h = tt
 some_good s e m (Some ps) h = h ps refl
 
-round_good : (b : Boot) (e : MsgId → ℕ) (pt : Point) (m : ℕ) (o : Option Pid) → ((p : Pid) → o ≡ Some p → p.home ≡ m) → GoodOf pt.kernel e m (rule.goes_round b pt m o)
-round_good b e pt m o at = some_good pt.kernel e m (rule.goes_round b pt m o) (λ ps. by_round (PartsGood pt.kernel e m) b pt m o ps (inl (inl tt, tt)) (λ p x is alive. record {
+round_good : (b : Boot) (e : MsgId → ℕ) (pt : Point) (m : ℕ) (o : Option Pid) → RingsHome pt.view → ((p : Pid) → o ≡ Some p → p.home ≡ m) → GoodOf pt.kernel e m (rule.goes_round b pt m o)
+round_good b e pt m o h at = some_good pt.kernel e m (rule.goes_round b pt m o) (λ ps. by_round (PartsGood pt.kernel e m) b pt m o ps (inl (inl tt, tt)) (λ p x is alive. record {
   runs = λ k rest stops. says_first pt.kernel e m (Label.Ran p k) rest (at p is) (stops (PartsAnywhere m) (record {
     over = tt;
     replies = λ n r. (at p is, tt);
     sends = λ id. (at p is, (tt, tt));
     waits = (at p is, tt);
     outputs = λ word. (at p is, tt);
-    ends = λ y. (at p is, drops_good m (pt.view.queue m p));
+    ends = λ y. (at p is, ends_good pt m p h);
   }));
   takes = λ mask id first. inl (inl (at p is), tt);
   refuses = λ id r. inl (inl (at p is), tt);
@@ -77,7 +87,7 @@ handles_good b e pt m id (Some k) h there f =
       queued = λ to user. inl (inr (inr (id, refl, f.1)), tt);
       served = λ to mild. says_first s e m (Label.Served id) [] f.0 tt;
       answers = λ to mild i. says_first s e m (Label.Served id) (Routes i ∷ []) f.0 (tt, tt);
-      kills = λ to kills. says_first s e m (Label.Served id) (rule.drop_parts (pt.view.queue m k.to)) f.0 (drops_good m (pt.view.queue m k.to));
+      kills = λ to kills. says_first s e m (Label.Served id) (ends_with pt m k.to) f.0 (ends_good pt m k.to h);
       moved = λ to what. inr (id, refl);
       sets_off = λ machine to what apart. inr (id, refl);
       gone = λ to. says_first s e m (Label.Gone id) (Routes (pieces.answer_id id) ∷ []) f.0 (tt, tt);
@@ -93,7 +103,7 @@ for_home m (Some y) x h is = let f : y ≡ x = cc in let g : y.to.home ≡ m = g
 
 pub turns_good : (b : Boot) (r e : MsgId → ℕ) (pt : Point) (m : ℕ) (is : List MsgId) → ((i : MsgId) (js : List MsgId) → is ≡ i ∷ js → nat_le 1 (e i) ≡ true → pt.kernel.bag i ≡ None → ⊥) → all_stand pt.kernel e m is ≡ true → Home r e pt → GoodOf pt.kernel e m (rule.turns b pt m is)
 turns_good b r e pt m [] there all h =
-    round_good b e pt m (rule.first_runnable pt.kernel (pt.view.queue m) (pt.view.ring m)) (λ p is. runnable_home pt.kernel (pt.view.queue m) m (pt.view.ring m) p (h.rings.ring m) is)
+    round_good b e pt m (rule.first_runnable pt.kernel (pt.view.queue m) (pt.view.ring m)) h.rings (λ p is. runnable_home pt.kernel (pt.view.queue m) m (pt.view.ring m) p (h.rings.ring m) is)
 turns_good b r e pt m (i ∷ is) there all h =
     let k = and_parts (stands pt.kernel e m i) (all_stand pt.kernel e m is) all in
     let home = and_parts (nat_le 1 (e i)) (is_for_home m (pt.kernel.bag i)) k.0 in

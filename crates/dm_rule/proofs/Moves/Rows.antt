@@ -1,9 +1,9 @@
 -- The rows of migration keep that each message stands once.
 use Rattle.dm_rule.proofs.Names.{◌≡◌, ℕ, ◌==◌, Bool, true, false, List, [], ◌∷◌, ◌++◌, refl, ap, ◌∙◌, sym, subst, length, if◌then◌else◌, Option, None, Some, Pid, pid_of, pid_eq, MsgId, MessageKind, Stage, Boot, switchboard, manager}
-use Rattle.dm_rule.proofs.Names.{PlainProcess, Line, View, Told, About, NothingElse, Known, Unknown, Here, Frozen, Forward, Ended, view_after, handled, handled_first, receiver_of, is_kernels, target_of, with_ring, knowing, released}
-use Rattle.dm_rule.proofs.Names.{after_proto, asks_on, held_for, Addresses, Sender, is_told_back, Point, moved, Part, Says, Again, Owns, Spelled, spelled, to_kernel, forwards_on, accepts, takes_chunk, takes_block, gives_piece, sends_on}
-use Rattle.dm_rule.proofs.Names.{leaves, told_step, chunks_of, pieces_of, told_here, told_ended, process_told, told_server, kernel_hears, hears, Spot, Queue, ids_at, bind-is, label_of, Label, MoveNote, Outcome, Target, answer_id}
-use Rattle.dm_rule.proofs.Names.{answers_move, frozen_for, leaves_for, tells_asker, sets_off, sort_of, option_and_then, slice_get, arith, nat_tests, ◌/◌, bind, Of}
+use Rattle.dm_rule.proofs.Names.{PlainProcess, Line, View, Told, About, NothingElse, Known, Unknown, Here, Frozen, Forward, view_after, handled, handled_first, receiver_of, is_kernels, target_of, with_ring, knowing, released, after_proto}
+use Rattle.dm_rule.proofs.Names.{asks_on, held_for, Addresses, Sender, is_told_back, Point, moved, Part, Says, Again, Owns, Spelled, spelled, to_kernel, forwards_on, accepts, takes_chunk, takes_block, gives_piece, sends_on, leaves}
+use Rattle.dm_rule.proofs.Names.{told_step, chunks_of, pieces_of, told_here, told_ended, process_told, told_server, kernel_hears, hears, Spot, Queue, ids_at, bind-is, label_of, Label, MoveNote, Outcome, Target, answer_id, map, buried}
+use Rattle.dm_rule.proofs.Names.{buried_for, forgotten, preds_of, tells_end, answers_move, frozen_for, leaves_for, tells_asker, sets_off, sort_of, option_and_then, slice_get, arith, nat_tests, ◌/◌, bind, Of}
 use Rattle.dm_onekernel.specs.Step as kernel
 use Rattle.dm_rule.specs.Rule as rule
 use Rattle.dm_rule.proofs.Lines.{hidden, Stands-stays}
@@ -14,7 +14,7 @@ use Rattle.dm_rule.proofs.States.{State, State-at, by_line, PairsFit, said}
 use Rattle.dm_rule.proofs.Said.{fits_as, line_and_route}
 use Rattle.dm_rule.proofs.Moves.Lists.{Stands-held, Stands-released, both_lists, first_off}
 use Rattle.dm_rule.proofs.Moves.States.{Between, by_own, front_way, front_kernels}
-use Rattle.dm_rule.proofs.Moves.Sent.{Way, Steady, steadied, line_next, line_ends, line_owns, owns_ends, again_next, all_again, forwarded_way, sent_way}
+use Rattle.dm_rule.proofs.Moves.Sent.{Way, Steady, steadied, line_next, line_ends, line_owns, owns_all, owns_ends, again_next, all_again, forwarded_way, sent_way}
 use Rattle.dm_rule.proofs.Seen.{about_off}
 use Rattle.dm_rule.proofs.Bags.{bag_answered}
 use Rattle.dm_rule.proofs.Turns.{quiet_label}
@@ -211,9 +211,29 @@ due_row b o pt m i is k p false parts w h fit front mine sees e n =
     let (x, alive, steps) = bind-is (kernel.alive (o.kernel.processes p)) (λ (x : PlainProcess). told_step o m i p (rule.fits (rule.free_room b o m) (length x.memory / 256)) x (sort_of k)) parts e in
     told_row o pt m i is p (rule.fits (rule.free_room b o m) (length x.memory / 256)) x k parts w h fit front mine sees steps n
 
+-- a process has ended elsewhere: the machine forgets it, and others are told in turn
+bury_row : (o pt : Point) (m : ℕ) (i : MsgId) (is : List MsgId) (p : Pid) (w : Spelled) → State None pt → PairsFit pt.view → pt.view.inbox pt.view.acting ≡ i ∷ is → is_kernels i ≡ true → spelled pt (buried o m i p) ≡ Some w → State None w.point
+bury_row o pt m i is p w h fit front mine e =
+    let forgotten_off : (v : View) (a : About) (z : Spot) → ids_at (forgotten v a) z ≡ ids_at v z = λ v a z. search arith in
+    let buried_off : (v : View) (t : Option Told) (z : Spot) → ids_at (buried_for v t) z ≡ ids_at v z = λ v t z. search (arith, forgotten_off) in
+    let ms = preds_of o m p in
+    let l = Line.Buried i (length ms) in
+    let next = moved pt l pt.kernel in
+    let n = line_next pt l (map (to_kernel MessageKind.Bury) ms) w refl e in
+    State-at None n.rest.point w.point n.point
+    (owns_all MessageKind.Bury ms next n.rest (record { state = goes_front pt l i is refl h front mine (λ z. buried_off (handled pt.view i) (pt.view.told i) z); fits = fits_as pt.view next.view (pair_same pt.view l refl) fit }) n.more)
+
+over_row : (b : Boot) (o pt : Point) (m : ℕ) (i : MsgId) (is : List MsgId) (k : MessageKind) (p : Pid) (over : Bool) (parts : List Part) (w : Spelled) → State None pt → PairsFit pt.view → pt.view.inbox pt.view.acting ≡ i ∷ is → is_kernels i ≡ true → SeesSame o pt m
+    → (if over then Some (buried o m i p)
+    else if rule.is_stale o m i k p then Some (Says (Line.Stale i) ∷ [])
+    else bind (kernel.alive (o.kernel.processes p)) (λ (x : PlainProcess). told_step o m i p (rule.fits (rule.free_room b o m) (length x.memory / 256)) x (sort_of k))) ≡ Some parts
+    → spelled pt parts ≡ Some w → State None w.point
+over_row b o pt m i is k p true parts w h fit front mine sees e n = bury_row o pt m i is p w h fit front mine (given pt (buried o m i p) parts w e n)
+over_row b o pt m i is k p false parts w h fit front mine sees e n = due_row b o pt m i is k p (rule.is_stale o m i k p) parts w h fit front mine sees e n
+
 kernel_row : (b : Boot) (o pt : Point) (m : ℕ) (i : MsgId) (is : List MsgId) (k : MessageKind) (a : About) (parts : List Part) (w : Spelled) → State None pt → PairsFit pt.view → pt.view.inbox pt.view.acting ≡ i ∷ is → is_kernels i ≡ true → SeesSame o pt m
     → kernel_hears b o m i k a ≡ Some parts → spelled pt parts ≡ Some w → State None w.point
-kernel_row b o pt m i is k (Of p) parts w h fit front mine sees e n = due_row b o pt m i is k p (rule.is_stale o m i k p) parts w h fit front mine sees e n
+kernel_row b o pt m i is k (Of p) parts w h fit front mine sees e n = over_row b o pt m i is k p (tells_end (sort_of k)) parts w h fit front mine sees e n
 kernel_row b o pt m i is k _ parts w h fit front mine sees e n = cc
 
 updated_row : (o pt : Point) (i : MsgId) (is : List MsgId) (n : ℕ) (parts : List Part) (w : Spelled) → State None pt → pt.view.inbox pt.view.acting ≡ i ∷ is → is_kernels i ≡ true → Some (Says (Line.Updated i n) ∷ []) ≡ Some parts → spelled pt parts ≡ Some w → State None w.point
@@ -243,11 +263,10 @@ own_row o pt m i is t false false parts w h fit topic front mine e n = here_row 
 
 process_row : (o pt : Point) (m : ℕ) (i : MsgId) (is : List MsgId) (t : Told) (k : Known) (parts : List Part) (w : Spelled) → State None pt → PairsFit pt.view → pt.view.topic ≡ NothingElse → pt.view.inbox pt.view.acting ≡ i ∷ is → is_kernels i ≡ true
     → process_told o m i t k ≡ Some parts → spelled pt parts ≡ Some w → State None w.point
-process_row o pt m i is t Unknown parts w h fit topic front mine e n = cc
+process_row o pt m i is t Unknown parts w h fit topic front mine e n = ended_row pt i is t.kind parts w h front mine e n
 process_row o pt m i is t Here parts w h fit topic front mine e n = own_row o pt m i is t (pid_eq t.receiver switchboard) (pid_eq t.receiver manager) parts w h fit topic front mine e n
 process_row o pt m i is t (Forward at moves) parts w h fit topic front mine e n =
     forwards_row pt o.addresses i is t.kind manager at w h fit front (given pt (forwards_on o.addresses i t.kind manager at) parts w e n)
-process_row o pt m i is t Ended parts w h fit topic front mine e n = ended_row pt i is t.kind parts w h front mine e n
 process_row o pt m i is t _ parts w h fit topic front mine e n = held_row pt i is w h front (given pt (Says (Line.Held i) ∷ []) parts w e n)
 
 hears_by : (b : Boot) (o pt : Point) (m : ℕ) (i : MsgId) (is : List MsgId) (t : Told) (c : Bool) (parts : List Part) (w : Spelled) → State None pt → PairsFit pt.view → pt.view.topic ≡ NothingElse → pt.view.inbox pt.view.acting ≡ i ∷ is

@@ -1,7 +1,7 @@
 -- Messages that go on: one that is forwarded, and all that stand in the lists of a process that has left.
 use Rattle.dm_rule.proofs.Names.{◌≡◌, ℕ, ◌+◌, ◌≤◌, ◌==◌, ◌&&◌, Bool, true, false, List, [], ◌∷◌, ◌++◌, refl, ap, ◌∙◌, sym, subst, arith, length, ◌⊎◌, inl, inr, if◌then◌else◌, Option, None, Some, nat_tests, Pid, MsgId, MessageKind, id_eq}
 use Rattle.dm_rule.proofs.Names.{bind, Line, Load, View, Pair, Told, view_after, handled, handled_first, receiver_of, is_kernels, own_id, forwarded_for, routed_on, after_put, Point, label_of, moved, seen, after, Part, Says, Again, Owns}
-use Rattle.dm_rule.proofs.Names.{Spelled, lines_of, puts, behind, spelled, sends_on, Spot, Queue, Held, times, ids_at, standing, id_eq-is, bind-is, at_record}
+use Rattle.dm_rule.proofs.Names.{map, pid_of, to_kernel, Spelled, lines_of, puts, behind, spelled, sends_on, Spot, Queue, Held, times, ids_at, standing, id_eq-is, bind-is, at_record}
 use Rattle.dm_rule.proofs.Lines.{Bag, hidden, Stands, Stands-same, Stands-handled, at_record_off, Stands-stays}
 use Rattle.dm_rule.proofs.Letters.{letters}
 use Rattle.dm_rule.proofs.Hushed.{hushed}
@@ -9,6 +9,7 @@ use Rattle.dm_rule.proofs.Pairs.Stand.{set_is, set_other}
 use Rattle.dm_rule.proofs.Pairs.Lines.{touches, pair_same}
 use Rattle.dm_rule.proofs.States.{State, PairsFit, says_next, said, State-at, by_packet, numbered_as, PutNext, puts_next}
 use Rattle.dm_rule.proofs.Said.{fits_as}
+pub use Rattle.dm_rule.proofs.Said.{Steady}
 use Rattle.dm_rule.proofs.Moves.Lists.{without_all, both_lists, both_once, both_times, emptied, under_way, first_off, emptied_kept, without_some}
 use Rattle.dm_rule.proofs.Moves.States.{hidden_letters, front_way, Between, between_packet, again, by_own_put}
 use Rattle.dm_rule.proofs.Pairs.Moves.{one_more}
@@ -31,10 +32,6 @@ pub record Way (gone : List MsgId) (pt : Point) : Type 0 where
   pub between : Between gone pt
   pub fits : PairsFit pt.view
 
-pub record Steady (pt : Point) : Type 0 where
-  pub state : State None pt
-  pub fits : PairsFit pt.view
-
 pub way_packet : (gone : List MsgId) (q : Point) (a b k : ℕ) (l : Load) → Way gone q → Way gone (moved q (Line.Packet a b k l) q.kernel)
 way_packet gone q a b k l h = record { between = between_packet gone q a b k l h.between; fits = fits_packet q.view a b k l h.fits }
 
@@ -52,13 +49,22 @@ line_ends pt l w none h e =
     let k = line_next pt l [] w none e in
     State-at None k.rest.point w.point k.point (State-at None (moved pt l pt.kernel) k.rest.point (said (moved pt l pt.kernel) k.rest k.more) h)
 
-pub owns_ends : (pt : Point) (k : MessageKind) (q : Pid) (b : ℕ) (w : Spelled) → Steady pt → spelled pt (Owns k q b ∷ []) ≡ Some w → State None w.point
-owns_ends pt k q b w h e =
-    -- the next message of the kernel is put
-    let owns_next : (pt : Point) (k : MessageKind) (q : Pid) (b : ℕ) (ps : List Part) (w : Spelled) → Steady pt → spelled pt (Owns k q b ∷ ps) ≡ Some w → PutNext Steady ps w = λ pt k q b ps w h e.
+-- the next message of the kernel is put
+owns_next : (pt : Point) (k : MessageKind) (q : Pid) (b : ℕ) (ps : List Part) (w : Spelled) → Steady pt → spelled pt (Owns k q b ∷ ps) ≡ Some w → PutNext Steady ps w
+owns_next pt k q b ps w h e =
     let steady_packet : (q : Point) (a b k : ℕ) (l : Load) → Steady q → Steady (moved q (Line.Packet a b k l) q.kernel) = λ q a b k l h. record { state = by_packet None q a b k l h.state; fits = fits_packet q.view a b k l h.fits } in
     puts_next Steady steady_packet pt (Owns k q b) b (own_id pt.view) k q ps w refl
-    (record { state = by_own_put pt b k q h.fits h.state; fits = fits_put pt.view pt.view.acting b (own_id pt.view) k q h.fits }) e in
+    (record { state = by_own_put pt b k q h.fits h.state; fits = fits_put pt.view pt.view.acting b (own_id pt.view) k q h.fits }) e
+
+-- the kernels of other machines are told
+pub owns_all : (k : MessageKind) (ms : List ℕ) (pt : Point) (w : Spelled) → Steady pt → spelled pt (map (to_kernel k) ms) ≡ Some w → State None w.point
+owns_all k [] pt w h e = State-at None pt w.point (said pt w e) h.state
+owns_all k (m ∷ ms) pt w h e =
+    let n = owns_next pt k (pid_of m 0) m (map (to_kernel k) ms) w h e in
+    State-at None n.rest.point w.point n.point (owns_all k ms n.next n.rest n.stands n.more)
+
+pub owns_ends : (pt : Point) (k : MessageKind) (q : Pid) (b : ℕ) (w : Spelled) → Steady pt → spelled pt (Owns k q b ∷ []) ≡ Some w → State None w.point
+owns_ends pt k q b w h e =
     let n = owns_next pt k q b [] w h e in
     State-at None n.rest.point w.point n.point (State-at None n.next n.rest.point (said n.next n.rest n.more) n.stands.state)
 

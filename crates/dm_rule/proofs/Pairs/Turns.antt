@@ -7,7 +7,7 @@ use Rattle.dm_rule.proofs.Hearing.{hears_kept, kept_forward}
 use Rattle.dm_rule.proofs.Pairs.Migrating.{fit_kept}
 
 fit_loose : (f : ℕ → ℕ → Pair) → Loose (AllFit f)
-fit_loose f = record { none = tt; label = λ l ps h. (refl, h); routes = λ i ps h. (tt, h) }
+fit_loose f = record { none = tt; label = λ l ps h. (refl, h); routes = λ i ps h. (tt, h); buries = λ to ps h. (tt, h) }
 
 comes_fit : (f : ℕ → ℕ → Pair) (b : Boot) (pt : Point) (m : ℕ) (id : MsgId) (o : Option PlainMessage) (ps : List Part) → comes_to b pt m id o ≡ Some ps → AllFit f ps
 comes_fit f b pt m id None ps e = hears_kept (AllFit f) (fit_kept f) b pt m id (pt.view.told id) ps e

@@ -1,15 +1,18 @@
 -- Wherever the rule leads, each process is in a phase.
 use Rattle.dm_rule.proofs.Names.{◌≡◌, ℕ, ◌<◌, ◌≤◌, ◌==◌, ◌&&◌, ◌||◌, Bool, true, false, List, [], ◌∷◌, ◌++◌, length, refl, ap, ◌∙◌, sym, subst, inl, inr, arith, if◌then◌else◌, map, option_map, None, Some, cases_Bool, slice_get_cases}
 use Rattle.dm_rule.proofs.Names.{nat_tests, Pid, pid_eq, plain_link, BootProcess, Boot, IsValid, processes_are_valid, switchboard, manager, Alive, begun, first_life, life_at, Step, View, first_view, Known, Unknown, Here, known_at, ring_at}
-use Rattle.dm_rule.proofs.Names.{Point, first_point, is_due, IsStep, Leads, PhasesAlways, Spelled, group_of, false_from_ne_true, KernelsInOrderAlways}
+use Rattle.dm_rule.proofs.Names.{Point, first_point, is_due, IsStep, Leads, PhasesAlways, MsgId, MessageKind, Told, Of, is_away, tells_end, sort_of, Phase, IsIn, PlainProcess, Spelled, group_of, false_from_ne_true, KernelsInOrderAlways}
 use Rattle.dm_rule.proofs.Pairs.{Pairs, Pairs-start, Pairs-group}
 use Rattle.dm_rule.proofs.States.{State}
 use Rattle.dm_rule.proofs.Groups.{fits, State-start, State-group}
 use Rattle.dm_rule.proofs.Telling.{Sane, sane_start, sane_group}
+use Rattle.dm_rule.proofs.Hearing.{bury_is}
 use Rattle.dm_rule.proofs.Phases.Stand.{InPhases}
 use Rattle.dm_rule.proofs.Phases.Start.{phases_start}
 use Rattle.dm_rule.proofs.Phases.Groups.{phases_group}
 use Rattle.dm_rule.proofs.Phases.Ranked.{Ranked}
+use Rattle.dm_rule.proofs.Phases.Ends.{IsEnded, HaveEnds, have_ends, ends_in, ended_gone, living_on, is_gone}
+use Rattle.dm_rule.proofs.Phases.Ending.{ends_start, ends_group}
 use Rattle.dm_rule.proofs.Phases.Order.{ranked_start, ranked_group, ranked_order}
 use Rattle.dm_rule.proofs.Rings.{AllHere}
 use Rattle.dm_rule.proofs.Rooted.Groups.{Grounded, rooted, roots_group}
@@ -63,6 +66,7 @@ pub record Phased (pt : Point) : Type 0 where
   pub ground : Grounded pt
   pub phases : InPhases pt.view
   pub ranked : IsRanked pt.view
+  pub ends : HaveEnds pt
 
 is_ranked : (v : View) → Ranked v → IsRanked v
 unfolding IsRanked
@@ -80,24 +84,41 @@ phased_start b valid = record {
   ground = (search (arith, rings_first, known_first));
   phases = phases_start b;
   ranked = is_ranked (first_view b) (ranked_start b);
+  ends = have_ends (first_point b) (ends_start b valid);
 }
 
 pub phased_group : (b : Boot) (pt : Point) (d : Step) (w : Spelled) → IsStep pt.kernel.machines d → group_of b pt d ≡ Some w → Phased pt → Phased w.point
 phased_group b pt d w fit is h =
     let f = fits pt.view h.pairs in
     let ranked = ranked_in pt.view h.ranked in
+    let ends = ends_in pt h.ends in
     record {
       pairs = Pairs-group b pt d w fit is h.pairs;
       state = State-group b pt d w is f h.state;
       sane = sane_group b pt d w is h.sane;
-      ground = roots_group b pt d w is h.phases h.sane h.ground;
-      phases = phases_group b pt d w is h.phases h.state h.sane f (rooted pt h.sane h.ground) ranked;
+      ground = roots_group b pt d w is h.phases h.sane (λ i t p told kind about m. ends.away m p (ends.buries i t p told kind about)) h.ground;
+      phases = phases_group b pt d w is h.phases h.state h.sane f (rooted pt h.sane h.ground) ranked ends;
       ranked = is_ranked w.point.view (ranked_group b pt d w is h.phases h.state h.sane f ranked);
+      ends = have_ends w.point (ends_group b pt d w is h.phases h.state h.sane (rooted pt h.sane h.ground) ends);
     }
 
 pub phased_on : (b : Boot) (es : List Step) (pt end : Point) → Leads b pt es end → Phased pt → Phased end
 phased_on b [] pt end leads h = subst Phased leads h
 phased_on b (d ∷ es) pt end (w, fit, is, rest) h = phased_on b es w.point end rest (phased_group b pt d w fit is h)
+
+-- what a kernel is told to forget has ended, and is on no machine
+pub bury_over : (pt : Point) (i : MsgId) (t : Told) (p : Pid) → Phased pt → pt.view.told i ≡ Some t → t.kind ≡ MessageKind.Bury → t.about ≡ Of p → IsEnded pt.kernel p
+bury_over pt i t p h told k about = (ends_in pt h.ends).buries i t p told k about
+
+pub ended_away : (pt : Point) (p : Pid) → Phased pt → IsEnded pt.kernel p → (m : ℕ) → is_away (pt.view.known m p) ≡ true
+ended_away pt p h over m = (ends_in pt h.ends).away m p over
+
+pub bury_away : (pt : Point) (i : MsgId) (t : Told) (p : Pid) → Phased pt → pt.view.told i ≡ Some t → tells_end (sort_of t.kind) ≡ true → t.about ≡ Of p → (m : ℕ) → is_away (pt.view.known m p) ≡ true
+bury_away pt i t p h told k about m = ended_away pt p h (bury_over pt i t p h told (bury_is t.kind k) about) m
+
+-- of what lives the phase is `Rests` or `Moves`
+pub living_phase : (pt : Point) (p : Pid) (x : PlainProcess) (phase : Phase) → Phased pt → pt.kernel.processes p ≡ Some (Alive x) → IsIn pt.view p phase → is_gone phase ≡ false
+living_phase pt p x phase h alive is = living_on pt p x phase (ends_in pt h.ends) alive is
 
 -- wherever the rule leads
 pub phases_always : PhasesAlways

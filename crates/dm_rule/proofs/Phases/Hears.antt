@@ -1,8 +1,8 @@
 -- A kernel's own message is handled: each process stays in a phase.
 use Rattle.dm_rule.proofs.Names.{◌≡◌, ℕ, ◌==◌, Bool, true, false, List, [], ◌∷◌, ◌++◌, refl, ap, ◌∙◌, sym, subst, length, ◌/◌, if◌then◌else◌, Option, None, Some, false≢true, Pid, pid_eq, MsgId, MessageKind, Line, Stage, Boot, switchboard}
-use Rattle.dm_rule.proofs.Names.{manager, PlainProcess, View, Told, About, Of, Known, Unknown, Here, Forward, Ended, is_kernels, target_of, Addresses, Sender, is_told_back, Point, Part, Says, Owns, Spelled, spelled, forwards_on, accepts}
+use Rattle.dm_rule.proofs.Names.{manager, PlainProcess, View, Told, About, Of, Known, Unknown, Here, Forward, is_kernels, target_of, Addresses, Sender, is_told_back, Point, Part, Says, Owns, Spelled, spelled, forwards_on, accepts}
 use Rattle.dm_rule.proofs.Names.{takes_chunk, takes_block, gives_piece, told_step, chunks_of, pieces_of, updates, told_here, told_ended, process_told, told_server, fits, free_room, kernel_hears, hears, is_between, bind-is, Label, MoveNote}
-use Rattle.dm_rule.proofs.Names.{NothingElse, Outcome, bind, kernel_after, label_of, leaves_for, moved, tells_asker, sort_of, eq-eqb, is_stale, is_waited_from, pulls_piece, brings_piece, inl, inr, not, ◌&&◌}
+use Rattle.dm_rule.proofs.Names.{NothingElse, Outcome, bind, kernel_after, label_of, leaves_for, moved, tells_asker, sort_of, eq-eqb, is_stale, is_waited_from, pulls_piece, brings_piece, inl, inr, not, ◌&&◌, buried, buries, preds_of, tells_end}
 use Rattle.dm_onekernel.specs.Step as kernel
 use Rattle.dm_rule.proofs.Hushed.{is_put}
 use Rattle.dm_rule.proofs.States.{State, State-at}
@@ -11,7 +11,7 @@ use Rattle.dm_rule.proofs.Moves.States.{front_kernels}
 use Rattle.dm_rule.proofs.Moves.Rows.{SeesSame, given, both_same, hears_row}
 use Rattle.dm_rule.proofs.Telling.{Sane, sane_line}
 use Rattle.dm_rule.proofs.Phases.Calm.{calm_same}
-use Rattle.dm_rule.proofs.Phases.Quiet.{Tame, AllQuiet, parts_settle}
+use Rattle.dm_rule.proofs.Phases.Quiet.{Tame, AllQuiet, parts_settle, tame_plain}
 use Rattle.dm_rule.proofs.Phases.Stand.{InPhases, calm_phases, left_receiver}
 use Rattle.dm_rule.proofs.Phases.Answers.{Whole, due, due_or_left, stale_left, remains_whole}
 use Rattle.dm_rule.proofs.Phases.Pieces.{ask_row, pull_state_row, pull_block_row, left_pull_row, chunk_row, block_row}
@@ -22,6 +22,12 @@ use Rattle.dm_rule.proofs.Moves.Lists.{first_off}
 use Rattle.dm_rule.proofs.Moves.Rows.{goes_front}
 use Rattle.dm_rule.proofs.Phases.Leaves.{leaves_row}
 use Rattle.dm_rule.proofs.Phases.Put.{of_same}
+use Rattle.dm_rule.proofs.Phases.Ends.{Ends, ended_gone}
+use Rattle.dm_rule.proofs.Phases.Lives.{buried_phases}
+use Rattle.dm_rule.proofs.Hearing.{bury_is}
+use Rattle.dm_rule.proofs.Serving.{buries_kept}
+use Rattle.dm_rule.proofs.Said.{fits_as}
+use Rattle.dm_rule.proofs.Pairs.Lines.{pair_same}
 
 -- what the rule saw before the head is what stands behind it
 pub record SeesAll (o pt : Point) (m : ℕ) : Type 0 where
@@ -150,11 +156,10 @@ own_row o pt m i is t false false parts w h sane state plain front told mine see
 
 process_row : (o pt : Point) (m : ℕ) (i : MsgId) (is : List MsgId) (t : Told) (k : Known) (parts : List Part) (w : Spelled) (h : Whole pt) → Sane pt → State None w.point → is_between t.kind ≡ false → pt.view.inbox pt.view.acting ≡ i ∷ is → pt.view.told i ≡ Some t → is_kernels i ≡ true → SeesAll o pt m
     → pt.view.known pt.view.acting t.receiver ≡ k → process_told o m i t k ≡ Some parts → spelled pt parts ≡ Some w → Whole w.point
-process_row o pt m i is t Unknown parts w h sane state plain front told mine sees here g n = cc
+process_row o pt m i is t Unknown parts w h sane state plain front told mine sees here g n = ended_row pt i t t.kind parts w h sane state (tame_of pt.view i t told plain) g n
 process_row o pt m i is t Here parts w h sane state plain front told mine sees here g n = own_row o pt m i is t (pid_eq t.receiver switchboard) (pid_eq t.receiver manager) parts w h sane state plain front told mine sees here g n
 process_row o pt m i is t (Forward at moves) parts w h sane state plain front told mine sees here g n =
     one_quiet pt (forwards_on o.addresses i t.kind manager at) parts w h sane state (forwards_quiet pt.view o.addresses i t.kind manager at (tame_of pt.view i t told plain)) g n
-process_row o pt m i is t Ended parts w h sane state plain front told mine sees here g n = ended_row pt i t t.kind parts w h sane state (tame_of pt.view i t told plain) g n
 process_row o pt m i is t _ parts w h sane state plain front told mine sees here g n = one_quiet pt (Says (Line.Held i) ∷ []) parts w h sane state (tame_of pt.view i t told plain, tt) g n
 
 -- a piece that isn't awaited goes
@@ -173,12 +178,36 @@ stale_by b o pt m i is t p false parts w h sane state front told mine sees ranke
     let (x, there, last) = bind-is (kernel.alive (o.kernel.processes p)) (λ x. told_step o m i p (fits (free_room b o m) (length x.memory / 256)) x (sort_of t.kind)) parts g in
     told_row o pt m i is t p (fits (free_room b o m) (length x.memory / 256)) x t.kind parts w h sane state front told mine sees ranked fresh refl about last n
 
-kernel_row : (b : Boot) (o pt : Point) (m : ℕ) (i : MsgId) (is : List MsgId) (t : Told) (a : About) (parts : List Part) (w : Spelled) (h : Whole pt) → Sane pt → State None w.point → pt.view.inbox pt.view.acting ≡ i ∷ is
-    → pt.view.told i ≡ Some t → is_kernels i ≡ true → SeesAll o pt m → Ranked pt.view
-    → t.about ≡ a → kernel_hears b o m i t.kind a ≡ Some parts → spelled pt parts ≡ Some w → Whole w.point
-kernel_row b o pt m i is t (Of p) parts w h sane state front told mine sees ranked about g n =
+pub buries_quiet : (v : View) (o : Point) (m : ℕ) (p : Pid) → AllQuiet v (buries o m p)
+buries_quiet v o m p = buries_kept (AllQuiet v) tt (λ to ps h. (refl, h)) (preds_of o m p)
+
+-- a process that has ended is forgotten, and others are told
+buried_row : (o pt : Point) (m : ℕ) (i : MsgId) (t : Told) (p : Pid) (w : Spelled) (h : Whole pt) → Sane pt → State None w.point → Ends pt → is_between t.kind ≡ false → pt.view.told i ≡ Some t → t.kind ≡ MessageKind.Bury → t.about ≡ Of p
+    → spelled pt (buried o m i p) ≡ Some w → Whole w.point
+buried_row o pt m i t p w h sane state ends plain told bury about e =
+    let l = Line.Buried i (length (preds_of o m p)) in
+    let n = line_next pt l (buries o m p) w refl e in
+    let next = moved pt l pt.kernel in
+    let gone = ended_gone pt p (h.phases.of p) ends (ends.buries i t p told bury about) (h.phases.each p) in
+    let phases : InPhases next.view = buried_phases pt.view i (length (preds_of o m p)) t p h.phases (tame_plain pt.view i (tame_of pt.view i t told plain)) told about gone in
+    let s = parts_settle (buries o m p) next.view next n.rest (buries_quiet next.view o m p) (record { calm = calm_same next.view; sane = sane_line pt next l refl refl sane; fits = fits_as pt.view next.view (pair_same pt.view l refl) h.fits }) n.more in
+    subst Whole n.point (record { state = State-at None w.point n.rest.point (sym n.point) state; fits = s.fits; phases = calm_phases next.view n.rest.point.view s.calm phases })
+
+over_by : (b : Boot) (o pt : Point) (m : ℕ) (i : MsgId) (is : List MsgId) (t : Told) (p : Pid) (over : Bool) (parts : List Part) (w : Spelled) (h : Whole pt) → Sane pt → State None w.point → pt.view.inbox pt.view.acting ≡ i ∷ is
+    → pt.view.told i ≡ Some t → is_kernels i ≡ true → SeesAll o pt m → Ranked pt.view → Ends pt → t.about ≡ Of p → tells_end (sort_of t.kind) ≡ over
+    → (if over then Some (buried o m i p) else if is_stale o m i t.kind p then Some (Says (Line.Stale i) ∷ []) else bind (kernel.alive (o.kernel.processes p)) (λ x. told_step o m i p (fits (free_room b o m) (length x.memory / 256)) x (sort_of t.kind))) ≡ Some parts
+    → spelled pt parts ≡ Some w → Whole w.point
+over_by b o pt m i is t p true parts w h sane state front told mine sees ranked ends about over g n =
+    let bury = bury_is t.kind over in
+    buried_row o pt m i t p w h sane state ends (ap is_between bury) told bury about (given pt (buried o m i p) parts w g n)
+over_by b o pt m i is t p false parts w h sane state front told mine sees ranked ends about over g n =
     stale_by b o pt m i is t p (is_stale o m i t.kind p) parts w h sane state front told mine sees ranked about (ap (λ (k : Known). brings_piece (sort_of t.kind) && not (is_waited_from i.from.home k)) (sym (sees.known p))) g n
-kernel_row b o pt m i is t _ parts w h sane state front told mine sees ranked about g n = cc
+
+kernel_row : (b : Boot) (o pt : Point) (m : ℕ) (i : MsgId) (is : List MsgId) (t : Told) (a : About) (parts : List Part) (w : Spelled) (h : Whole pt) → Sane pt → State None w.point → pt.view.inbox pt.view.acting ≡ i ∷ is
+    → pt.view.told i ≡ Some t → is_kernels i ≡ true → SeesAll o pt m → Ranked pt.view → Ends pt
+    → t.about ≡ a → kernel_hears b o m i t.kind a ≡ Some parts → spelled pt parts ≡ Some w → Whole w.point
+kernel_row b o pt m i is t (Of p) parts w h sane state front told mine sees ranked ends about g n = over_by b o pt m i is t p (tells_end (sort_of t.kind)) parts w h sane state front told mine sees ranked ends about refl g n
+kernel_row b o pt m i is t _ parts w h sane state front told mine sees ranked ends about g n = cc
 
 -- what kernels tell each other of migrations is told to a kernel
 kernel_told : (pt : Point) (i : MsgId) (is : List MsgId) (t : Told) (h : InPhases pt.view) → is_between t.kind ≡ true → pt.view.inbox pt.view.acting ≡ i ∷ is → pt.view.told i ≡ Some t → t.receiver.num ≡ 0
@@ -191,16 +220,16 @@ pub plain_by : (pt : Point) (i : MsgId) (is : List MsgId) (t : Told) (h : InPhas
 plain_by pt i is t h true e front told off = absurd (false≢true (sym off ∙ eq-eqb t.receiver.num 0 (kernel_told pt i is t h e front told)))
 plain_by pt i is t h false e front told off = refl
 
-hears_by : (b : Boot) (o pt : Point) (m : ℕ) (i : MsgId) (is : List MsgId) (t : Told) (c : Bool) (parts : List Part) (w : Spelled) (h : Whole pt) → Sane pt → State None w.point → (t.receiver.num == 0) ≡ c → pt.view.inbox pt.view.acting ≡ i ∷ is → pt.view.told i ≡ Some t → is_kernels i ≡ true → SeesAll o pt m → Ranked pt.view
+hears_by : (b : Boot) (o pt : Point) (m : ℕ) (i : MsgId) (is : List MsgId) (t : Told) (c : Bool) (parts : List Part) (w : Spelled) (h : Whole pt) → Sane pt → State None w.point → (t.receiver.num == 0) ≡ c → pt.view.inbox pt.view.acting ≡ i ∷ is → pt.view.told i ≡ Some t → is_kernels i ≡ true → SeesAll o pt m → Ranked pt.view → Ends pt
     → (if c then kernel_hears b o m i t.kind t.about else process_told o m i t (o.view.known m t.receiver)) ≡ Some parts → spelled pt parts ≡ Some w → Whole w.point
-hears_by b o pt m i is t true parts w h sane state c front told mine sees ranked e n = kernel_row b o pt m i is t t.about parts w h sane state front told mine sees ranked refl e n
-hears_by b o pt m i is t false parts w h sane state c front told mine sees ranked e n =
+hears_by b o pt m i is t true parts w h sane state c front told mine sees ranked ends e n = kernel_row b o pt m i is t t.about parts w h sane state front told mine sees ranked ends refl e n
+hears_by b o pt m i is t false parts w h sane state c front told mine sees ranked ends e n =
     process_row o pt m i is t (o.view.known m t.receiver) parts w h sane state (plain_by pt i is t h.phases (is_between t.kind) refl front told c) front told mine sees (sym (sees.known t.receiver)) e n
 
 -- a kernel's own message at the front of the inbox
-pub phases_hears : (b : Boot) (o pt : Point) (m : ℕ) (i : MsgId) (is : List MsgId) (t : Option Told) (parts : List Part) (w : Spelled) (h : Whole pt) → Sane pt → Ranked pt.view → pt.view.inbox pt.view.acting ≡ i ∷ is → pt.kernel.bag i ≡ None → pt.view.told i ≡ t → SeesAll o pt m
+pub phases_hears : (b : Boot) (o pt : Point) (m : ℕ) (i : MsgId) (is : List MsgId) (t : Option Told) (parts : List Part) (w : Spelled) (h : Whole pt) → Sane pt → Ranked pt.view → Ends pt → pt.view.inbox pt.view.acting ≡ i ∷ is → pt.kernel.bag i ≡ None → pt.view.told i ≡ t → SeesAll o pt m
     → hears b o m i t ≡ Some parts → spelled pt parts ≡ Some w → Whole w.point
-phases_hears b o pt m i is None parts w h sane ranked front none told sees e n = cc
-phases_hears b o pt m i is (Some t) parts w h sane ranked front none told sees e n =
+phases_hears b o pt m i is None parts w h sane ranked ends front none told sees e n = cc
+phases_hears b o pt m i is (Some t) parts w h sane ranked ends front none told sees e n =
     hears_by b o pt m i is t (t.receiver.num == 0) parts w h sane
-    (hears_row b o pt m i is (Some t) parts w h.state h.fits sees.topic front none sees.same e n) refl front told (front_kernels pt i is h.state front none) sees ranked e n
+    (hears_row b o pt m i is (Some t) parts w h.state h.fits sees.topic front none sees.same e n) refl front told (front_kernels pt i is h.state front none) sees ranked ends e n

@@ -54,6 +54,10 @@ pub proto_knows : (v : View) (o : Option Told) → ((view.after_proto v o).known
 proto_knows v None = (refl, refl)
 proto_knows v (Some t) = elim t.kind as (λ k. ((view.follows_by v t.about (sort_of k)).known ≡ v.known) × ((view.follows_by v t.about (sort_of k)).come ≡ v.come)) [ MessageKind.State ↦ come_asks v t.about | MessageKind.Memory ↦ come_asks v t.about | _ ↦ (refl, refl) ]
 
+come_buried : (v : View) (o : Option Told) → (view.buried_for v o).come ≡ v.come
+come_buried v None = refl
+come_buried v (Some t) = elim t.about as (λ a. (view.forgotten v a).come ≡ v.come) [ view.Of p ↦ refl | _ ↦ refl ]
+
 pub come_same : (v : View) (l : Line) → keeps_come l ≡ true → (view_after v l).come ≡ v.come
 come_same v (Line.Head d) h = come_head v d
 come_same v (Line.Label l) h = come_label v l
@@ -61,6 +65,7 @@ come_same v (Line.Taken a b n) h = come_taken (view.with_pair v a b (taken_pair 
 come_same v (Line.Queued i) h = (come_queued (handled v i) i (view.receiver_of (v.told i))).0
 come_same v (Line.Held i) h = (come_queued (handled v i) i (view.receiver_of (v.told i))).1
 come_same v (Line.Forwarded i m) h = (come_queued (handled v i) i (view.receiver_of (v.told i))).2
+come_same v (Line.Buried i n) h = come_buried (handled v i) (v.told i)
 come_same v (Line.Proto i) h = (proto_knows (handled v i) (v.told i)).1
 come_same v (Line.Migration Stage.Accepted p) h = absurd (false≢true h)
 come_same v (Line.Migration Stage.MemoryTaken p) h = absurd (false≢true h)

@@ -3,7 +3,7 @@ use Rattle.dm_rule.proofs.Names.{◌≡◌, ℕ, ◌+◌, ◌≤◌, ◌==◌, B
 use Rattle.dm_rule.proofs.Names.{MsgId, MessageKind, id_eq, id_eq-is, plain_kind, PlainMessage, Load, Stage, Step, Boot, Line, View, Told, own_id, view_after, after_put, after_head, Addresses, Sender, Receiver, is_told_back, at_machine}
 use Rattle.dm_rule.proofs.Names.{Point, moved, seen, after, Part, Says, Routes, Again, Owns, Transmits, Spelled, spelled, lines_of, puts, goes_out, packet_line, forwards_on, sends_on, to_kernel, migrates, is_between, Inbox, Untaken, Queue}
 use Rattle.dm_rule.proofs.Names.{Held, Spot, standing, times, untaken, first_view, manager, pid_eq, option_map_or, and_parts, ne_eqb, nat_tests, ◌&&◌, id_eq-same, group_of, bind-is, append_assoc, KernelsInOrder, is_between_from, ordered}
-use Rattle.dm_rule.proofs.Names.{calls_off}
+use Rattle.dm_rule.proofs.Names.{calls_off, preds_of}
 use Rattle.dm_rule.specs.View as view
 use Rattle.dm_rule.specs.Rule as rule
 use Rattle.dm_rule.proofs.Hushed.{is_put, hushed}
@@ -18,7 +18,7 @@ use Rattle.dm_rule.proofs.Telling.{Sane, Sayable, sane_line, part_sane, plain_no
 use Rattle.dm_rule.proofs.Groups.{group_is, IsNetLine, IsNet, arrives_net, resends_net, early_off, acked_off}
 use Rattle.dm_rule.proofs.Requests.{by_migrates, by_calls_off}
 use Rattle.dm_rule.proofs.Hearing.{by_hears, Heard}
-use Rattle.dm_rule.proofs.Serving.{Loose, loose_round, loose_handles}
+use Rattle.dm_rule.proofs.Serving.{Loose, loose_round, loose_handles, buries_kept}
 use Rattle.dm_rule.proofs.Ordered.{narrower, shorter}
 use Rattle.dm_rule.proofs.Phases.Lines.{put_at, first_kept}
 use Rattle.dm_rule.proofs.Phases.Quiet.{Tame, plain_in_bag, tame_kind}
@@ -67,7 +67,7 @@ record Come (o v : View) : Type 0 where
 come_packet : (o v : View) (a b k : ℕ) (l : Load) → Come o v → Come o (view_after v (Line.Packet a b k l))
 come_packet o v a b k l h = record { ranked = packet_ranked v a b k l h.ranked; fits = fits_packet v a b k l h.fits; kept = h.kept }
 
-put_kept : (v : View) (a b : ℕ) (i : MsgId) (k : MessageKind) (q : Pid) → Keeps v (after_put v a b i k q)
+pub put_kept : (v : View) (a b : ℕ) (i : MsgId) (k : MessageKind) (q : Pid) → Keeps v (after_put v a b i k q)
 put_kept v a b i k q j t told = elim (cases_Bool (id_eq i j)) [
   | inl same ↦
       let is : i ≡ j = id_eq-is i j same in
@@ -106,7 +106,7 @@ other_count v a b i k q e = ap (λ (c : Bool). if c then at_machine v.count i.fr
 -- lines of turns
 line_come : (o v : View) (l : Line) → OrderlyLine o l → Come o v → Ranked (view_after v l)
 line_come o v (Line.Held i) ok h = held_ranked v i (view.receiver_of (v.told i)) (tame_none v i (tame_kept o v i h.kept ok)) h.ranked
-line_come o v (Line.Stays p) ok h = back_ranked v p h.ranked
+line_come o v (Line.Stays p) ok h = let r = h.ranked in back_ranked (view.staying v p) p (record { order = r.order; sent = r.sent; held = r.held })
 line_come o v (Line.Migration Stage.Restarted p) ok h = let r = back_ranked v p h.ranked in record { order = r.order; sent = r.sent; held = r.held }
 line_come o v l ok h = search (arith, less_ranked, h.ranked)
 
@@ -189,7 +189,7 @@ forwards_orderly v a i k sender to tame = (
 )
 
 orderly_loose : (v : View) → Loose (AllOrderly v)
-orderly_loose v = record { none = tt; label = λ l ps h. (tt, h); routes = λ i ps h. (tt, h) }
+orderly_loose v = record { none = tt; label = λ l ps h. (tt, h); routes = λ i ps h. (tt, h); buries = λ to ps h. (tt, h) }
 
 sends_orderly : (v : View) (to : ℕ) (ids : List MsgId) (ps : List Part) → ((i : MsgId) → 1 ≤ times i ids → Tame v i) → AllOrderly v ps → AllOrderly v (sends_on to ids ++ ps)
 sends_orderly v to [] ps tame h = h
@@ -202,6 +202,7 @@ heard_orderly o m i t tame listed =
     let v = o.view in
     record {
       stale = λ p about late. (tt, tt);
+      buried = λ p about kind. (tt, buries_kept (AllOrderly v) tt (λ to ps h. (tt, h)) (preds_of o m p));
       told = λ p x about alive fresh. record {
         accepted = λ ask. (tt, (tt, tt));
         lacks = λ slots blocks. (tt, (tt, tt));
@@ -228,7 +229,7 @@ heard_orderly o m i t tame listed =
     }
 
 -- what stands is told of
-standing_told : (pt : Point) (z : Spot) (i : MsgId) (h : State None pt) → 1 ≤ standing pt.view i z → (t : Told) × (pt.view.told i ≡ Some t)
+pub standing_told : (pt : Point) (z : Spot) (i : MsgId) (h : State None pt) → 1 ≤ standing pt.view i z → (t : Told) × (pt.view.told i ≡ Some t)
 standing_told pt z i h there =
     let (q, way) = under_way (letters h.own pt.kernel.bag i) (standing pt.view i) z there (h.stands.kept i) in
     told_some (pt.view.told i) q (h.stands.told i q way)

@@ -102,7 +102,7 @@ pub plain_in_bag : (pt : Point) (i : MsgId) (x : PlainMessage) → Sane pt → p
 plain_in_bag pt i x h there t told = (elim (is_between t.kind) as (λ b. is_between t.kind ≡ b → b ≡ false)
     [ true ↦ λ is. absurd (false≢true (sym (not_kernels h.r h.e pt.kernel i x there h.sound) ∙ h.tells.own i t told is)) | false ↦ λ is. refl ]) refl
 
-tame_plain : (v : View) (i : MsgId) → Tame v i → Plain v i
+pub tame_plain : (v : View) (i : MsgId) → Tame v i → Plain v i
 tame_plain v i h t told = (let f : Some h.what ≡ Some t = sym h.told ∙ told in let g : h.what ≡ t = cc in subst (λ (s : Told). is_between s.kind ≡ false) g h.plain)
 
 -- a line that tells nothing and moves one message that is none of the protocol
@@ -120,7 +120,7 @@ pub received_spots : (v : View) (p : Pid) (i j : MsgId) → id_eq i j ≡ false 
 received_spots v p i j e (Queue m q) = record_times v.queue v.acting p (without_id i (v.queue v.acting p)) j (without_times i j (v.queue v.acting p) e) m q
 received_spots v p i j e _ = refl
 
-served_known : (v : View) (o : Option Told) (t : Told) → o ≡ Some t → is_kill t.kind ≡ false → (m : ℕ) (q : Pid) → (served_told v o).known m q ≡ v.known m q
+pub served_known : (v : View) (o : Option Told) (t : Told) → o ≡ Some t → is_kill t.kind ≡ false → (m : ℕ) (q : Pid) → (served_told v o).known m q ≡ v.known m q
 served_known v None t e spares m q = refl
 served_known v (Some s) t e spares m q = let f : s ≡ t = cc in (elim s.kind as (λ k. is_kill k ≡ false → (ends_by (sort_of k) v (Some s.receiver)).known m q ≡ v.known m q)
     [ MessageKind.Kill ↦ λ e. absurd (false≢true (sym e)) | _ ↦ λ e. refl ]) (ap (λ (u : Told). is_kill u.kind) f ∙ spares)

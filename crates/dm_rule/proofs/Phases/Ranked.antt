@@ -151,6 +151,10 @@ label_lists v l =
 line_lists : (v : View) (l : Line) → IsLess l → Lists v (view_after v l)
 line_lists v l h =
     let queued : (v : View) (i : MsgId) (o : Option Pid) → Lists v (queued_for (handled v i) i o) = λ v i o. elim o as (λ o_. Lists v (queued_for (handled v i) i o_)) [ None ↦ lists_handled v (handled v i) i refl refl | Some q ↦ lists_handled v (queued_for (handled v i) i (Some q)) i refl refl ] in
+    let buried : (v : View) (i : MsgId) (o : Option Told) → Lists v (view.buried_for (handled v i) o) = λ v i o. elim o as (λ o_. Lists v (view.buried_for (handled v i) o_)) [
+      | None ↦ lists_handled v (handled v i) i refl refl
+      | Some t ↦ elim t.about as (λ a. Lists v (view.forgotten (handled v i) a)) [ view.Of p ↦ lists_handled v (view.forgotten (handled v i) (view.Of p)) i refl refl | _ ↦ lists_handled v (handled v i) i refl refl ]
+    ] in
     let forwarded : (v : View) (i : MsgId) (o : Option Pid) → Lists v (forwarded_for (handled v i) o) = λ v i o. elim o as (λ o_. Lists v (forwarded_for (handled v i) o_)) [ None ↦ lists_handled v (handled v i) i refl refl | Some q ↦ lists_handled v (forwarded_for (handled v i) (Some q)) i refl refl ] in
     let asks : (v : View) (a : About) → ((view.asks_on v a).inbox ≡ v.inbox) × ((view.asks_on v a).held ≡ v.held) = λ v a. elim a as (λ a_. ((view.asks_on v a_).inbox ≡ v.inbox) × ((view.asks_on v a_).held ≡ v.held)) [ NothingElse ↦ (refl, refl) | _ ↦ (refl, refl) ] in
     let follows : (v : View) (a : About) (k : MessageKind) → ((view.follows_by v a (sort_of k)).inbox ≡ v.inbox) × ((view.follows_by v a (sort_of k)).held ≡ v.held) = λ v a k. elim k as (λ k_. ((view.follows_by v a (sort_of k_)).inbox ≡ v.inbox) × ((view.follows_by v a (sort_of k_)).held ≡ v.held))
@@ -181,6 +185,7 @@ line_lists v l h =
       | Line.Queued i ↦ λ h_. queued v i (receiver_of (v.told i))
       | Line.Forwarded i m ↦ λ h_. forwarded v i (receiver_of (v.told i))
       | Line.Updated i n ↦ λ h_. lists_handled v (handled v i) i refl refl
+      | Line.Buried i n ↦ λ h_. buried v i (v.told i)
       | Line.Migration s p ↦ λ h_. stage v p s h_
       | Line.SentOn p n ↦ λ h_. sent v p
       | Line.Lacks p a b ↦ λ h_. lists_first v (view_after v (Line.Lacks p a b)) refl refl

@@ -1,7 +1,7 @@
 -- A turn that handles a message of the bag, or serves a process: each process stays in a phase.
 use Rattle.dm_rule.proofs.Names.{◌≡◌, ℕ, ◌+◌, Bool, true, false, List, [], ◌∷◌, refl, ap, ◌∙◌, subst, if◌then◌else◌, Option, None, Some, Pid, pid_of, MsgId, MessageKind, Label, plain_kind, PlainMessage, Boot, Why, first_number, bind, times}
 use Rattle.dm_rule.proofs.Names.{OneKernel, answer_id, Line, View, Told, Unknown, Here, view_after, Point, label_of, kernel_after, moved, Part, Says, Routes, Spelled, spelled, forwards_on, ◌==◌, Outcome, PlainWhat, answers_move, leaves_for}
-use Rattle.dm_rule.proofs.Names.{seen, move_target, NothingElse, option_map_or}
+use Rattle.dm_rule.proofs.Names.{seen, move_target, NothingElse, option_map_or, ends_with}
 use Rattle.dm_rule.specs.Rule as rule
 use Rattle.dm_rule.proofs.Hushed.{is_put}
 use Rattle.dm_rule.proofs.Pairs.Lines.{touches, pair_same}
@@ -16,7 +16,7 @@ use Rattle.dm_rule.proofs.Handled.{asked_state}
 use Rattle.dm_rule.proofs.Phases.Answers.{Whole}
 use Rattle.dm_rule.proofs.Phases.Rests.{asked_row}
 use Rattle.dm_rule.proofs.Phases.Lives.{killed_phases, made_phases, front_spots, ends_phases}
-use Rattle.dm_rule.proofs.Serving.{by_round, by_handles}
+use Rattle.dm_rule.proofs.Serving.{by_round, by_handles, ends_kept}
 use Rattle.dm_rule.proofs.Turns.{created_off, ended_off}
 
 pub record Fit (pt : Point) : Type 0 where
@@ -39,17 +39,17 @@ line_first pt l ps w h quiet calm phases go e =
     } in
     subst (λ (q : Point). InPhases q.view) k.point (go k.s next k.rest k.more)
 
-drops_quiet : (v : View) (ids : List MsgId) → AllQuiet v (rule.drop_parts ids)
-drops_quiet v [] = tt
-drops_quiet v (i ∷ is) = (tt, drops_quiet v is)
+-- what follows an end
+over_quiet : (v : View) (o : Point) (m : ℕ) (p : Pid) → AllQuiet v (ends_with o m p)
+over_quiet v o m p = ends_kept (AllQuiet v) tt (λ i ps h. (tt, h)) (λ to ps h. (refl, h)) o m p
 
--- a process ends, and its queue is dropped
-ends_row : (pt : Point) (p : Pid) (y : Why) (queue : List MsgId) (w : Spelled) → Fit pt → pt.view.known pt.view.acting p ≡ Here → spelled pt (rule.says (Label.End p y) ∷ rule.drop_parts queue) ≡ Some w → InPhases w.point.view
-ends_row pt p y queue w h here e =
+-- a process ends
+ends_row : (pt : Point) (p : Pid) (y : Why) (o : Point) (m : ℕ) (w : Spelled) → Fit pt → pt.view.known pt.view.acting p ≡ Here → spelled pt (rule.says (Label.End p y) ∷ ends_with o m p) ≡ Some w → InPhases w.point.view
+ends_row pt p y o m w h here e =
     -- an end by a call or a fault
     let end_line_phases : InPhases (view_after pt.view (Line.Label (Label.End p y))) = ends_phases pt.view (view_after pt.view (Line.Label (Label.End p y))) p h.phases here refl refl refl (λ j t e b z. ap (times j) (ended_off pt.view p z)) in
-    line_first pt (Line.Label (Label.End p y)) (rule.drop_parts queue) w h refl refl (λ s k. end_line_phases)
-    (λ s next rest more. quiet_parts (rule.drop_parts queue) (moved pt (Line.Label (Label.End p y)) s) rest next (drops_quiet (view_after pt.view (Line.Label (Label.End p y))) queue) more) e
+    line_first pt (Line.Label (Label.End p y)) (ends_with o m p) w h refl refl (λ s k. end_line_phases)
+    (λ s next rest more. quiet_parts (ends_with o m p) (moved pt (Line.Label (Label.End p y)) s) rest next (over_quiet (view_after pt.view (Line.Label (Label.End p y))) o m p) more) e
 
 -- the phases behind parts
 abbrev Into : Point → List Part → Type 0
@@ -71,14 +71,14 @@ front_mild : (pt : Point) (i : MsgId) (msg : PlainMessage) → Fit pt → Front 
 unfolding front_tame
 front_mild pt i msg h f spares = record { tame = front_tame pt i msg h f; spares = ap is_kill (h.sane.tells.kind i msg f.told f.there f.is) ∙ spares }
 
--- a kill ends its receiver, and the queue is dropped
-killed_row : (pt : Point) (i : MsgId) (msg : PlainMessage) (queue : List MsgId) (w : Spelled) (h : Fit pt) → Front pt i msg → plain_kind msg.what ≡ MessageKind.Kill → pt.view.known pt.view.acting msg.to ≡ Here → spelled pt (rule.says (Label.Served i) ∷ rule.drop_parts queue) ≡ Some w → InPhases w.point.view
-killed_row pt i msg queue w h f k here e =
+-- a kill ends its receiver
+killed_row : (pt : Point) (i : MsgId) (msg : PlainMessage) (o : Point) (m : ℕ) (w : Spelled) (h : Fit pt) → Front pt i msg → plain_kind msg.what ≡ MessageKind.Kill → pt.view.known pt.view.acting msg.to ≡ Here → spelled pt (rule.says (Label.Served i) ∷ ends_with o m msg.to) ≡ Some w → InPhases w.point.view
+killed_row pt i msg o m w h f k here e =
     let l = Line.Label (Label.Served i) in
     let same : f.told.receiver ≡ msg.to = h.sane.tells.receiver i msg f.told f.there f.is in
-    line_first pt l (rule.drop_parts queue) w h refl refl
+    line_first pt l (ends_with o m msg.to) w h refl refl
     (λ s is. killed_phases pt.view i f.told h.phases (plain_in_bag pt i msg h.sane f.there) f.is (h.sane.tells.kind i msg f.told f.there f.is ∙ k) (ap (pt.view.known pt.view.acting) same ∙ here))
-    (λ s next rest more. quiet_parts (rule.drop_parts queue) (moved pt l s) rest next (drops_quiet (view_after pt.view l) queue) more) e
+    (λ s next rest more. quiet_parts (ends_with o m msg.to) (moved pt l s) rest next (over_quiet (view_after pt.view l) o m msg.to) more) e
 
 -- a kernel makes a process, of which nothing is known yet, or has no room
 creates_row : (pt : Point) (i : MsgId) (msg : PlainMessage) (child : Pid) (room : Bool) (slots blocks : ℕ) (w : Spelled) (h : Fit pt) → Front pt i msg → ((m : ℕ) → pt.view.known m child ≡ Unknown)
@@ -117,7 +117,7 @@ phases_handles b o pt m i msg parts w h f unknown known acting is = by_handles (
   queued = λ to user w. quiet_parts (Says (Line.Queued i) ∷ []) pt w h (front_tame pt i msg h f, tt);
   served = λ to mild w. quiet_parts (rule.says (Label.Served i) ∷ []) pt w h (front_mild pt i msg h f mild, tt);
   answers = λ to mild j w. quiet_parts (rule.says (Label.Served i) ∷ Routes j ∷ []) pt w h (front_mild pt i msg h f mild, (tt, tt));
-  kills = λ to kills w. killed_row pt i msg (o.view.queue m msg.to) w h f ((elim (plain_kind msg.what) as (λ k. is_kill k ≡ true → k ≡ MessageKind.Kill)
+  kills = λ to kills w. killed_row pt i msg o m w h f ((elim (plain_kind msg.what) as (λ k. is_kill k ≡ true → k ≡ MessageKind.Kill)
       [ MessageKind.Kill ↦ λ e. refl | _ ↦ λ e. cc ]) kills) (known ∙ to.known);
   moved = λ to what w. quiet_parts (rule.says (Label.Asked i) ∷ answers_move i Outcome.Done) pt w h (tt, (tt, (tt, tt)));
   sets_off = λ machine to what apart w. asks_row pt i msg machine w h f what (known ∙ to.known) (ap (λ (a : ℕ). a == machine) acting ∙ apart);
@@ -140,7 +140,7 @@ phases_round b o pt m p parts w h here is = by_round (Into pt) b o m p parts (λ
         sends = λ id w. quiet_parts (rule.says (Label.Send q id) ∷ Routes id ∷ []) (moved pt l s) w next (tt, (tt, tt));
         waits = λ w. quiet_parts (rule.says (Label.Wait q) ∷ []) (moved pt l s) w next (tt, tt);
         outputs = λ word w. quiet_parts (rule.says (Label.Out q word) ∷ []) (moved pt l s) w next (tt, tt);
-        ends = λ y w. ends_row (moved pt l s) q y (o.view.queue m q) w next (here q at);
+        ends = λ y w. ends_row (moved pt l s) q y o m w next (here q at);
       }) v more)
       );
   takes = λ mask id first w. quiet_parts (rule.says (Label.Receive q id) ∷ []) pt w h (tt, tt);

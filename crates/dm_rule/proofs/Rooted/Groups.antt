@@ -14,7 +14,7 @@ use Rattle.dm_rule.proofs.Lives.{Kept}
 use Rattle.dm_rule.proofs.Rings.{AllHere}
 use Rattle.dm_rule.proofs.Rooted.Lines.{Roots, Needs, kept_by, line_roots}
 use Rattle.dm_rule.proofs.Rooted.Rows.{NeedsPart, First, FirstOf, loose_first, AllLoose}
-use Rattle.dm_rule.proofs.Rooted.Turns.{Asks, turns_first, net_loose, again_loose}
+use Rattle.dm_rule.proofs.Rooted.Turns.{Asks, BuriesAway, turns_first, net_loose, again_loose}
 use Rattle.dm_rule.proofs.Requests.{by_migrates, by_calls_off}
 
 abbrev pub Grounded : Point → Type 0
@@ -99,8 +99,8 @@ group_ground b pt d w e first sane h =
     let g = group_is b pt d w e in
     subst Grounded g.point (parts_ground g.parts (begun pt d) g.rest (outcome_sayable b pt d g.parts g.is) (first g.parts g.is) (begun_sane pt d sane) g.said (begun_ground pt d sane h))
 
-pub roots_group : (b : Boot) (pt : Point) (d : Step) (w : Spelled) → group_of b pt d ≡ Some w → InPhases pt.view → Sane pt → Grounded pt → Grounded w.point
-roots_group b pt (Step.Turn m) w e phases sane h =
+pub roots_group : (b : Boot) (pt : Point) (d : Step) (w : Spelled) → group_of b pt d ≡ Some w → InPhases pt.view → Sane pt → BuriesAway pt.view → Grounded pt → Grounded w.point
+roots_group b pt (Step.Turn m) w e phases sane aways h =
     let asks_by : (pt : Point) (i : MsgId) (is : List MsgId) (t : Told) → InPhases pt.view → pt.view.inbox pt.view.acting ≡ i ∷ is → pt.view.told i ≡ Some t → Asks pt t = λ pt i is t h front told e p about here.
     let v = pt.view in
     let u = due pt i is t h p front told (ap is_between e) about (ap (λ (k : MessageKind). pulls_piece (sort_of k)) e) (ap (λ (k : MessageKind). rule.is_stale pt v.acting i k p) e) in
@@ -109,21 +109,21 @@ roots_group b pt (Step.Turn m) w e phases sane h =
     let there : InPhases start.view = calm_phases pt.view start.view (head_calm pt.view (Step.Turn m)) phases in
     group_ground b pt (Step.Turn m) w e
     (λ ps is. first_some start (rule.turns b pt m (pt.view.inbox m)) ps is
-    (turns_first start b pt m (pt.view.inbox m) refl (begun_ground pt (Step.Turn m) sane h).lives (λ p. refl) (λ p runs. (rooted pt sane h).served m p runs) (λ i is t front told. asks_by start i is t there front told))) sane h
-roots_group b pt (Step.Tick m) w e phases sane h =
+    (turns_first start b pt m (pt.view.inbox m) refl (begun_ground pt (Step.Turn m) sane h).lives (λ p. refl) (λ p runs. (rooted pt sane h).served m p runs) (λ i is t front told. asks_by start i is t there front told) aways refl)) sane h
+roots_group b pt (Step.Tick m) w e phases sane aways h =
     group_ground b pt (Step.Tick m) w e
     (λ ps is. first_some (begun pt (Step.Tick m)) (rule.outcome b pt (Step.Tick m)) ps is (tt, net_loose pt.kernel (rule.resends pt.view m pt.kernel.machines) (resends_net pt.view m pt.kernel.machines))) sane h
-roots_group b pt (Step.Deliver a c k) w e phases sane h =
+roots_group b pt (Step.Deliver a c k) w e phases sane aways h =
     let qs = rule.arrives a c (pt.view.pair a c) (pt.view.pair c a) (slice_get (pt.view.pair a c).wire k) in
     let start = begun pt (Step.Deliver a c k) in
     group_ground b pt (Step.Deliver a c k) w e
     (λ ps is. first_some start (rule.outcome b pt (Step.Deliver a c k)) ps is (loose_first pt.kernel start qs (λ q none. none) (net_loose pt.kernel qs (arrives_net a c (pt.view.pair a c) (pt.view.pair c a) (slice_get (pt.view.pair a c).wire k))))) sane h
-roots_group b pt (Step.Migrate p m) w e phases sane h =
+roots_group b pt (Step.Migrate p m) w e phases sane aways h =
     let start = begun pt (Step.Migrate p m) in
     let migrates_loose : (s : OneKernel) (o : Point) (p : Pid) → AllLoose s (migrates o p) = λ s o p. by_migrates (AllLoose s) o p (λ pt k. tt, tt) (λ pt k. tt, tt) (λ n off is. (λ pt k. tt, tt)) in
     group_ground b pt (Step.Migrate p m) w e
     (λ ps is. first_some start (rule.outcome b pt (Step.Migrate p m)) ps is (loose_first pt.kernel start (migrates pt p) (λ q none. none) (migrates_loose pt.kernel pt p))) sane h
-roots_group b pt (Step.CallOff p m) w e phases sane h =
+roots_group b pt (Step.CallOff p m) w e phases sane aways h =
     let start = begun pt (Step.CallOff p m) in
     let loose : AllLoose pt.kernel (calls_off pt m p (pt.view.known m p)) =
     by_calls_off (AllLoose pt.kernel) pt m p (λ q k. tt, tt) (λ from is come. (λ q k. tt, again_loose pt.kernel from (pt.view.held m p) (to_kernel MessageKind.CallOff from ∷ []) (λ q k. tt, tt))) in

@@ -1,7 +1,7 @@
 -- Rings list what is here, and nothing is known of what was never made: a line after the other.
 use Rattle.dm_rule.proofs.Names.{◌≡◌, ℕ, ◌+◌, ◌≤◌, ◌==◌, not, filter, [], ◌∷◌, ◌++◌, refl, ap, ◌∙◌, sym, subst, ⊤, Option, None, Some, Pid, MsgId, MessageKind, Step, Stage, Label, bind, Life, Alive, OneKernel, Line, at_machine, at_record}
-use Rattle.dm_rule.proofs.Names.{without, moved_back, View, Told, About, Of, Known, Unknown, Here, Frozen, Incoming, Ended, view_after, handled, receiver_of, ends_by, served_told, front_of, gone_to, Point, label_of, kernel_after}
-use Rattle.dm_rule.proofs.Names.{pid_eq-same, bind-is, when-is, nexts, after_step, at_hand-is, seen, sort_of, arith, goes_back}
+use Rattle.dm_rule.proofs.Names.{without, moved_back, View, Told, About, Of, Known, Unknown, Here, Frozen, Incoming, view_after, handled, receiver_of, ends_by, served_told, front_of, gone_to, Point, label_of, kernel_after, pid_eq-same}
+use Rattle.dm_rule.proofs.Names.{bind-is, when-is, nexts, after_step, at_hand-is, seen, sort_of, arith, goes_back}
 use Rattle.dm_rule.proofs.Seen.{aim, sets}
 use Rattle.dm_rule.proofs.Telling.{Sane}
 use Rattle.dm_rule.proofs.Rings.{Rings, all_moved, learnt_without, learnt_last, rings_same, rings_ring, rings_learn, rings_known}
@@ -50,7 +50,16 @@ roots_known s t v w p k kept new known is keeps h = record { rings = rings_known
 served_roots : (s : OneKernel) (v : View) (o : Option Told) → ((t : Told) → o ≡ Some t → Lived s t.receiver) → Roots s v → Roots s (served_told v o)
 served_roots s v None lived h = h
 served_roots s v (Some t) lived h = elim t.kind as (λ k. Roots s (ends_by (sort_of k) v (Some t.receiver)))
-    [ MessageKind.Kill ↦ roots_leaves s s v (view.ended v t.receiver) t.receiver Ended (λ q e. e) (lived t refl) refl refl h | _ ↦ h ]
+    [ MessageKind.Kill ↦ roots_leaves s s v (view.ended v t.receiver) t.receiver Unknown (λ q e. e) (lived t refl) refl refl h | _ ↦ h ]
+
+-- a process that is here nowhere is forgotten
+forgotten_roots : (s : OneKernel) (v : View) (a : About) → ((p : Pid) → a ≡ Of p → v.known v.acting p ≡ Here → ⊥) → Roots s v → Roots s (view.forgotten v a)
+forgotten_roots s v (Of p) off h = roots_known s s v (view.forgotten v (Of p)) p Unknown (λ q e. e) (λ none le. refl) refl refl (λ here. absurd (off p refl here)) h
+forgotten_roots s v _ off h = h
+
+buried_roots : (s : OneKernel) (v : View) (o : Option Told) → ((t : Told) (p : Pid) → o ≡ Some t → t.about ≡ Of p → v.known v.acting p ≡ Here → ⊥) → Roots s v → Roots s (view.buried_for v o)
+buried_roots s v None off h = h
+buried_roots s v (Some t) off h = forgotten_roots s v t.about (λ p. off t p refl) h
 
 -- what steps of the kernel say of the process that they name
 pub kept_by : (s t : OneKernel) (l : Option Label) (pt : Point) → Sane pt → pt.kernel ≡ s → kernel_after s l ≡ Some t → Kept s t
@@ -69,7 +78,8 @@ served_lived pt t id h kept e u told none le =
     let to : u.receiver ≡ m.to = h.tells.receiver id m u there told in
     alive_lived pt.kernel t m.to (Alive x) kept alive (ap t.processes (sym to) ∙ none) (subst (λ (q : Pid). 3 ≤ q.num) to le)
 
--- what a line needs: a process that is served is here, one that migrates was made, and one that is accepted isn't here yet
+-- what a line needs: a process that is served is here, one that migrates was made, and one that is accepted isn't here yet, nor is one
+-- that is forgotten
 abbrev pub NeedsLabel : Point → Label → Type 0
 NeedsLabel pt (Label.Ran p k) = pt.view.known pt.view.acting p ≡ Here
 NeedsLabel pt (Label.Receive p id) = pt.view.known pt.view.acting p ≡ Here
@@ -86,6 +96,7 @@ Needs pt (Line.Migration Stage.MemoryTaken p) = ⊤
 Needs pt (Line.Migration Stage.Left p) = ⊤
 Needs pt (Line.Migration Stage.Restarted p) = Lived pt.kernel p
 Needs pt (Line.Stays p) = Lived pt.kernel p
+Needs pt (Line.Buried id n) = (t : Told) (p : Pid) → pt.view.told id ≡ Some t → t.about ≡ Of p → pt.view.known pt.view.acting p ≡ Here → ⊥
 Needs pt _ = ⊤
 
 label_roots : (pt : Point) (t : OneKernel) (l : Label) → NeedsLabel pt l → Sane pt → Kept pt.kernel t → kernel.step pt.kernel l ≡ Some t → Roots pt.kernel pt.view → Roots t (view_after pt.view (Line.Label l))
@@ -93,7 +104,7 @@ label_roots pt t (Label.Ran p k) need sane kept e h = roots_ring pt.kernel t pt.
 label_roots pt t (Label.End p y) need sane kept e h =
     let (x, next, rest) = bind-is (kernel.next_trap pt.kernel p) (kernel.ends pt.kernel p y) t e in
     let n = nexts pt.kernel p x next in
-    roots_leaves pt.kernel t pt.view (view_after pt.view (Line.Label (Label.End p y))) p Ended kept (alive_lived pt.kernel t p (Alive n.x) kept n.is.alive) refl refl h
+    roots_leaves pt.kernel t pt.view (view_after pt.view (Line.Label (Label.End p y))) p Unknown kept (alive_lived pt.kernel t p (Alive n.x) kept n.is.alive) refl refl h
 label_roots pt t (Label.Receive p id) need sane kept e h = roots_ring pt.kernel t pt.view (view_after pt.view (Line.Label (Label.Receive p id))) p kept refl refl need h
 label_roots pt t (Label.Refuse p id c) need sane kept e h = roots_ring pt.kernel t pt.view (view_after pt.view (Line.Label (Label.Refuse p id c))) p kept refl refl need h
 label_roots pt t (Label.Dropped id) need sane kept e h =
@@ -155,6 +166,7 @@ line_by pt t (Line.Migration Stage.Left p) need sane kept e h = roots_known pt.k
 line_by pt t (Line.Migration Stage.Restarted p) need sane kept e h = roots_comes pt.kernel t pt.view (view_after pt.view (Line.Migration Stage.Restarted p)) p kept (λ none le. need (kept p none) le) refl refl h
 line_by pt t (Line.Called p n) need sane kept e h = roots_known pt.kernel t pt.view (view_after pt.view (Line.Called p n)) p (goes_back (pt.view.known pt.view.acting p) (pt.view.moves p)) kept (λ none le. ap (λ (x : Known). goes_back x (pt.view.moves p)) (h.lives.none p (kept p none) le pt.view.acting)) refl refl (back_here (pt.view.known pt.view.acting p) (pt.view.moves p)) h
 line_by pt t (Line.Stays p) need sane kept e h = roots_comes pt.kernel t pt.view (view_after pt.view (Line.Stays p)) p kept (λ none le. need (kept p none) le) refl refl h
+line_by pt t (Line.Buried id n) need sane kept e h = buried_roots t (handled pt.view id) (pt.view.told id) need (roots_idle pt.kernel t pt.view (handled pt.view id) kept (record { known = refl; ring = refl }) h)
 line_by pt t any_ need sane kept e h = roots_idle pt.kernel t pt.view (view_after pt.view any_) kept (record { known = refl; ring = refl }) h
 
 pub line_roots : (pt : Point) (t : OneKernel) (l : Line) → Needs pt l → Sane pt → kernel_after pt.kernel (label_of l) ≡ Some t → Roots pt.kernel pt.view → Roots t (seen pt.kernel pt.view l)

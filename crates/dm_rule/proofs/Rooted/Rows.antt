@@ -1,9 +1,9 @@
 -- What the first line of a group needs, and that the others need nothing.
-use Rattle.dm_rule.proofs.Names.{◌≡◌, ℕ, List, [], ◌∷◌, refl, ⊤, Option, None, Some, Pid, MsgId, MessageKind, plain_kind, PlainMessage, Boot, Here, Addresses, Point, Part, Says, forwards_on, OneKernel, ◌∙◌}
+use Rattle.dm_rule.proofs.Names.{◌≡◌, ℕ, List, [], ◌∷◌, refl, ⊤, Option, None, Some, Pid, MsgId, MessageKind, plain_kind, PlainMessage, Boot, Here, Addresses, Point, Part, Says, forwards_on, OneKernel, ◌∙◌, ends_with}
 use Rattle.dm_rule.specs.Rule as rule
 use Rattle.dm_rule.proofs.Lives.{Kept, Lives, lived_here}
 use Rattle.dm_rule.proofs.Rooted.Lines.{Needs}
-use Rattle.dm_rule.proofs.Serving.{by_round, by_handles, by_forwards}
+use Rattle.dm_rule.proofs.Serving.{by_round, by_handles, by_forwards, ends_kept}
 
 abbrev pub NeedsPart : Point → Part → Type 0
 NeedsPart pt (Says l) = Needs pt l
@@ -35,9 +35,8 @@ first_of pt None h = tt
 first_of pt (Some ps) h = h ps refl
 
 -- a process is served
-drops_loose : (s : OneKernel) (ids : List MsgId) → AllLoose s (rule.drop_parts ids)
-drops_loose s [] = tt
-drops_loose s (i ∷ is) = (λ pt k. tt, drops_loose s is)
+ends_loose : (s : OneKernel) (o : Point) (m : ℕ) (p : Pid) → AllLoose s (ends_with o m p)
+ends_loose s o m p = ends_kept (AllLoose s) tt (λ i ps h. (λ pt k. tt, h)) (λ to ps h. (λ pt k. tt, h)) o m p
 
 pub round_first : (pt : Point) (b : Boot) (o : Point) (m : ℕ) (q : Option Pid) → ((p : Pid) → q ≡ Some p → pt.view.known pt.view.acting p ≡ Here) → FirstOf pt (rule.goes_round b o m q)
 round_first pt b o m q here = first_of pt (rule.goes_round b o m q) (λ ps. by_round (First pt) b o m q ps (tt, tt) (λ p x is alive. record {
@@ -49,7 +48,7 @@ round_first pt b o m q here = first_of pt (rule.goes_round b o m q) (λ ps. by_r
       sends = λ id. (λ z k. tt, (λ z k. tt, tt));
       waits = (λ z k. tt, tt);
       outputs = λ word. (λ z k. tt, tt);
-      ends = λ y. (λ z k. tt, drops_loose pt.kernel (o.view.queue m p));
+      ends = λ y. (λ z k. tt, ends_loose pt.kernel o m p);
     }),
   );
   takes = λ mask id first. (here p is, tt);
@@ -70,7 +69,7 @@ handles_first pt b o m id msg lives known =
       queued = λ to user. (tt, tt);
       served = λ to mild. (tt, tt);
       answers = λ to mild i. (tt, (λ q k. tt, tt));
-      kills = λ to kills. (tt, drops_loose pt.kernel (o.view.queue m msg.to));
+      kills = λ to kills. (tt, ends_loose pt.kernel o m msg.to);
       moved = λ to what. (tt, (λ q k. tt, (λ q k. tt, tt)));
       sets_off = λ machine to what apart. (tt, (λ q k none le. lived_here pt.kernel pt.view msg.to pt.view.acting lives (known msg.to ∙ to.known) (k msg.to none) le, (λ q k. tt, (λ q k. tt, tt))));
       gone = λ to. (tt, (λ q k. tt, tt));

@@ -1,8 +1,8 @@
 -- Along lines that fit, and along runs whose groups' lines do.
-use Rattle.dm_rule.proofs.Names.{◌≡◌, ℕ, List, [], ◌∷◌, subst, ⊤, Some, Boot, IsValid, Step, bind-is, Line, IsStep, Spelled, Point, after_line, group_of, Trails, Trodden, first_trodden, along, trails_after, LeadsAlong, TrailsAlways, Holder}
-use Rattle.dm_rule.proofs.Names.{Pid, suc, names, ◌≢◌, Unknown, IsOn, leads, true}
+use Rattle.dm_rule.proofs.Names.{◌≡◌, ℕ, List, [], ◌∷◌, subst, ⊤, Some, Boot, IsValid, Step, bind-is, Line, IsStep, Spelled, Point, after_line, group_of, Trails, Trodden, first_trodden, along, trails_after, LeadsAlong, TrailsAlways, Pid}
+use Rattle.dm_rule.proofs.Names.{suc, ◌≢◌, Unknown, true, ◌<◌, ◌∙◌, sym, inl, inr, slice_get, cases_Bool, false≢true, is_alive}
 use Rattle.dm_rule.proofs.Trails.Treads.{Treads, LineFits, line_treads}
-use Rattle.dm_rule.proofs.Trails.Within.{Within, trail_within}
+use Rattle.dm_rule.proofs.Trails.Within.{TrailsIn}
 use Rattle.dm_rule.proofs.Trails.Found.{treads_start}
 use Rattle.dm_rule.proofs.Trails.Leads.{trail_leads}
 
@@ -22,7 +22,9 @@ pub record Carries (Holds : Boot → Trodden → Type 0) : Type 0 where
   pub start : (b : Boot) → IsValid b → Holds b (first_trodden b)
   pub fits : (b : Boot) (x : Trodden) (e : Step) (w : Spelled) → IsStep x.point.kernel.machines e → group_of b x.point e ≡ Some w → Holds b x → Treads x.point x.trails → AllFit x.point x.trails w.lines
   pub keeps : (b : Boot) (x y : Trodden) (e : Step) (w : Spelled) → IsStep x.point.kernel.machines e → group_of b x.point e ≡ Some w → along x w.lines ≡ Some y → Holds b x → Treads x.point x.trails → Holds b y
-  pub within : (b : Boot) (x : Trodden) → Holds b x → Within x.point.kernel.machines x.point.view
+  -- each machine of the trail of what was made is one of those that there are, and a machine knows what lives
+  pub ranges : (b : Boot) (x : Trodden) → Holds b x → TrailsIn x.point.kernel.machines x.point.kernel x.trails
+  pub there : (b : Boot) (x : Trodden) → Holds b x → (p : Pid) → is_alive x.point.kernel p ≡ true → (m : ℕ) × (x.point.view.known m p ≢ Unknown)
 
 run_treads : (Holds : Boot → Trodden → Type 0) → Carries Holds → (b : Boot) (es : List Step) (x end : Trodden) → LeadsAlong b x es end → Holds b x → Treads x.point x.trails → Holds b end × Treads end.point end.trails
 run_treads Holds c b [] x end is g h = (subst (Holds b) is g, subst (λ (z : Trodden). Treads z.point z.trails) is h)
@@ -30,11 +32,13 @@ run_treads Holds c b (e ∷ es) x end (w, y, step, group, comes, rest) g h =
     run_treads Holds c b es y end rest (c.keeps b x y e w step group comes g h) (along_treads w.lines x y comes (c.fits b x e w step group g h) h)
 
 pub trails_always_by : (Holds : Boot → Trodden → Type 0) → Carries Holds → TrailsAlways
-trails_always_by Holds c b es x h q n m valid way named there machines =
+trails_always_by Holds c b es x h q n valid way named made machines =
     let (g, t) = run_treads Holds c b es (first_trodden b) x way (c.start b valid) (treads_start b valid) in
-    -- where no more than so many machines know processes
-    let address_leads : (pt : Point) (t : Trails) (h : Holder) (q : Pid) (n m : ℕ) → Treads pt t → Within (suc n) pt.view → names pt.kernel h ≡ Some q → pt.view.known m q ≢ Unknown
-    → IsOn t q (pt.addresses h) × (leads pt.view q n (pt.addresses h).moves (pt.addresses h).at ≡ true) = λ pt t h q n m x within named there.
-    let on = x.links h q named in
-    (on, trail_leads pt.view t q n m (pt.addresses h) (x.trail q) there (trail_within (suc n) pt.view t q m within (x.trail q) there) on) in
-    address_leads x.point x.trails h q n m t (subst (λ (k : ℕ). Within k x.point.view) machines (c.within b x g)) named there
+    let on = t.links h q named in
+    let most : (k m : ℕ) → slice_get (x.trails q) k ≡ Some m → m < suc n = λ k m at. subst (λ (most : ℕ). m < most) machines ((c.ranges b x g).within q made k m at) in (
+      on,
+      elim (cases_Bool (is_alive x.point.kernel q)) [
+        | inl alive ↦ let (i, knows) = c.there b x g q alive in trail_leads (is_alive x.point.kernel q) x.point.view x.trails q n i (x.point.addresses h) (t.trail q) (λ e. knows) most on
+        | inr over ↦ trail_leads (is_alive x.point.kernel q) x.point.view x.trails q n 0 (x.point.addresses h) (t.trail q) (λ e. absurd (false≢true (sym over ∙ e))) most on
+      ],
+    )

@@ -1,6 +1,6 @@
 -- From each place of a trail the forwards lead to the process, in fewer steps than there are machines.
 use Rattle.dm_rule.proofs.Names.{◌≡◌, ◌≢◌, ℕ, zero, suc, ◌+◌, ◌≤◌, ◌<◌, ◌==◌, ◌||◌, Bool, true, false, List, [], ◌∷◌, refl, ap, ◌∙◌, sym, inl, inr, arith, slice_get, Some, cases_eq, or_cases, or_left, or_right, false≢true, Pid, Place, View}
-use Rattle.dm_rule.proofs.Names.{Known, Unknown, Forward, Trails, Trail, IsOn, leads_on, leads, both_true, false_from_ne_true, lt-ltb}
+use Rattle.dm_rule.proofs.Names.{not, nat_lt, Known, Unknown, Here, Frozen, Incoming, Forward, Trails, Trail, IsOn, leads_on, leads, both_true, false_from_ne_true, lt-ltb}
 use Rattle.std.proofs.Common.{eqb-true, eq-eqb}
 pub use Rattle.std.proofs.lemmas.Bool.{lt-ltb as less_test}
 
@@ -75,7 +75,7 @@ left_at : List ℕ → ℕ → ℕ → ℕ
 left_at xs machines c = passing (ahead xs c) machines
 
 -- a forward leads to a place behind which fewer machines stand: the forwarding machine stands there no more
-fewer : (v : View) (t : Trails) (p : Pid) (machines c m k j : ℕ) → Trail v t p → m < machines → slice_get (t p) c ≡ Some m → v.known m p ≡ Forward k j → left_at (t p) machines j < left_at (t p) machines c
+fewer : {lives : Bool} (v : View) (t : Trails) (p : Pid) (machines c m k j : ℕ) → Trail lives v t p → m < machines → slice_get (t p) c ≡ Some m → v.known m p ≡ Forward k j → left_at (t p) machines j < left_at (t p) machines c
 unfolding left_at
 fewer v t p machines c m k j h within at e =
     passing_more (ahead (t p) j) (ahead (t p) c) machines m within
@@ -84,29 +84,38 @@ fewer v t p machines c m k j h within at e =
     (is_ahead (t p) c c m (omega arith) at)
 
 -- a step
-goes_on : (x : Known) (c : ℕ) (next : ℕ → ℕ → Bool) → x ≢ Unknown → ((k j : ℕ) → x ≡ Forward k j → (c < j) × (next j k ≡ true)) → leads_on x c next ≡ true
-goes_on x c next h1 h2 = search (arith, both_true, lt-ltb)
+goes_on : (over : Bool) (x : Known) (c : ℕ) (next : ℕ → ℕ → Bool) → (x ≡ Unknown → over ≡ true) → ((k j : ℕ) → x ≡ Forward k j → (c < j) × (next j k ≡ true)) → leads_on over x c next ≡ true
+goes_on over Unknown c next none on = none refl
+goes_on over Here c next none on = refl
+goes_on over (Frozen to) c next none on = refl
+goes_on over (Incoming from) c next none on = refl
+goes_on over (Forward at moves) c next none on = let (less, more) = on at moves refl in both_true (nat_lt c moves) (next moves at) (lt-ltb c moves less) more
 
 left_some : (xs : List ℕ) (machines j k : ℕ) → k < machines → slice_get xs j ≡ Some k → 0 < left_at xs machines j
 unfolding left_at
 left_some xs machines j k less at = passing_some (ahead xs j) machines k less (is_ahead xs j j k (omega arith) at)
 
-walk : (v : View) (t : Trails) (p : Pid) (machines n c m : ℕ) → Trail v t p → ((c m : ℕ) → slice_get (t p) c ≡ Some m → v.known m p ≢ Unknown) → ((c m : ℕ) → slice_get (t p) c ≡ Some m → m < machines) → slice_get (t p) c ≡ Some m
-    → left_at (t p) machines c ≤ suc n → leads v p n c m ≡ true
-walk v t p machines zero c m h there most at le =
-    goes_on (v.known m p) c (λ d k. false) (there c m at)
+walk : (lives : Bool) (v : View) (t : Trails) (p : Pid) (machines n c m : ℕ) → Trail lives v t p → ((c m : ℕ) → slice_get (t p) c ≡ Some m → v.known m p ≡ Unknown → not lives ≡ true) → ((c m : ℕ) → slice_get (t p) c ≡ Some m → m < machines)
+    → slice_get (t p) c ≡ Some m → left_at (t p) machines c ≤ suc n → leads (not lives) v p n c m ≡ true
+walk lives v t p machines zero c m h there most at le =
+    goes_on (not lives) (v.known m p) c (λ d k. false) (there c m at)
     (λ k j e.
     let next = h.named m k j e in
     let some = left_some (t p) machines j k (most j k next) next in absurd (omega (arith, le, fewer v t p machines c m k j h (most c m at) at e, some)))
-walk v t p machines (suc n) c m h there most at le =
-    goes_on (v.known m p) c (leads v p n) (there c m at)
+walk lives v t p machines (suc n) c m h there most at le =
+    goes_on (not lives) (v.known m p) c (leads (not lives) v p n) (there c m at)
     (λ k j e.
-    let next = h.named m k j e in (h.behind m k j c e at, walk v t p machines n j k h there most next (omega (arith, le, fewer v t p machines c m k j h (most c m at) at e))))
+    let next = h.named m k j e in (h.behind m k j c e at, walk lives v t p machines n j k h there most next (omega (arith, le, fewer v t p machines c m k j h (most c m at) at e))))
 
 left_most : (xs : List ℕ) (machines c : ℕ) → left_at xs machines c ≤ machines
 unfolding left_at
 left_most xs machines c = passing_most (ahead xs c) machines
 
--- in fewer steps than there are machines
-pub trail_leads : (v : View) (t : Trails) (p : Pid) (n i : ℕ) (place : Place) → Trail v t p → v.known i p ≢ Unknown → ((c m : ℕ) → slice_get (t p) c ≡ Some m → m < suc n) → IsOn t p place → leads v p n place.moves place.at ≡ true
-trail_leads v t p n i place h there most on = walk v t p (suc n) n place.moves place.at h (λ c m e. h.kept m i c there e) most on (left_most (t p) (suc n) place.moves)
+-- in fewer steps than there are machines; where it has ended, to a machine that knows nothing of it
+pub trail_leads : (lives : Bool) (v : View) (t : Trails) (p : Pid) (n i : ℕ) (place : Place) → Trail lives v t p → (lives ≡ true → v.known i p ≢ Unknown) → ((c m : ℕ) → slice_get (t p) c ≡ Some m → m < suc n) → IsOn t p place
+    → leads (not lives) v p n place.moves place.at ≡ true
+trail_leads lives v t p n i place h there most on = walk lives v t p (suc n) n place.moves place.at h (λ c m at none. off lives (λ e. h.kept e m i c (there e) at none)) most on (left_most (t p) (suc n) place.moves)
+  where
+    off : (b : Bool) → (b ≡ true → ⊥) → not b ≡ true
+    off true e = absurd (e refl)
+    off false e = refl

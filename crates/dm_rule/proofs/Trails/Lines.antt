@@ -25,8 +25,8 @@ unnamed_receiver s v i q h1 h2 h3 = search arith
 pub unnamed_sender : (s : OneKernel) (v : View) (i : MsgId) (q : Pid) → s.bag i ≡ None → v.told i ≡ None → Named s v (Sender i) q → ⊥
 unnamed_sender s v i q h1 h2 h3 = search arith
 
-pub forwarded_all : (s : OneKernel) (v : View) (a : Addresses) (t : Trails) (id : MsgId) (u : Told) (d n : ℕ) → v.told id ≡ Some u → v.known v.acting u.receiver ≡ Forward d n → ((q : Pid) → Named s v (Receiver id) q → q ≡ u.receiver)
-    → s.bag (own_id v) ≡ None → v.told (own_id v) ≡ None → Trail v t u.receiver → AllAre s v a t → AllAre s v (given a (forwards v a id (v.told id))) t
+pub forwarded_all : {lives : Bool} (s : OneKernel) (v : View) (a : Addresses) (t : Trails) (id : MsgId) (u : Told) (d n : ℕ) → v.told id ≡ Some u → v.known v.acting u.receiver ≡ Forward d n → ((q : Pid) → Named s v (Receiver id) q → q ≡ u.receiver)
+    → s.bag (own_id v) ≡ None → v.told (own_id v) ≡ None → Trail lives v t u.receiver → AllAre s v a t → AllAre s v (given a (forwards v a id (v.told id))) t
 forwarded_all s v a t id u d n told at for bag fresh trail h =
     subst (λ (o : Option Told). AllAre s v (given a (forwards v a id o)) t) (sym told)
     (given_on s v a t (forwards v a id (Some u)) h (

@@ -73,7 +73,7 @@ abbrev pub is_own_sort : Sort → Bool
 is_own_sort Sort.Request = true
 is_own_sort Sort.Notice = true
 is_own_sort (Sort.Between passage) = true
-is_own_sort Sort.Unsent = true
+is_own_sort Sort.Buries = true
 is_own_sort _ = false
 
 abbrev pub is_own : MessageKind → Bool
@@ -119,5 +119,5 @@ about_put v t x y id k q about topic i u p m c told e = elim (cases_Bool (id_eq 
 pub migrate_to : (s : OneKernel) (v : View) (a : Addresses) (t : Trails) (id : MsgId) (q : Pid) (n : ℕ) → child_number s q ≡ Some n → IsOn t q (a (Child n)) → IsOn t q (given a (own_given s v a id q (sort_of MessageKind.Migrate)) (Receiver id))
 migrate_to s v a t id q n child on = subst (IsOn t q) (sym (ap (λ (c : Bool). if c then option_map_or (λ c. a (Child c)) (child_number s q) (unmoved 0) else a (Receiver id)) (id_eq-same id) ∙ ap (λ (o : Option ℕ). option_map_or (λ c. a (Child c)) o (unmoved 0)) child)) on
 
-pub migrate_from : (s : OneKernel) (v : View) (a : Addresses) (t : Trails) (id : MsgId) (q : Pid) → v.acting ≡ 0 → Trail v t manager → IsOn t manager (given a (own_given s v a id q (sort_of MessageKind.Migrate)) (Sender id))
+pub migrate_from : {lives : Bool} (s : OneKernel) (v : View) (a : Addresses) (t : Trails) (id : MsgId) (q : Pid) → v.acting ≡ 0 → Trail lives v t manager → IsOn t manager (given a (own_given s v a id q (sort_of MessageKind.Migrate)) (Sender id))
 migrate_from s v a t id q first trail = subst (IsOn t manager) (sym (ap (λ (c : Bool). if c then unmoved v.acting else a (Sender id)) (id_eq-same id) ∙ ap unmoved first)) trail.begins

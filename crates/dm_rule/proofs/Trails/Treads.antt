@@ -2,13 +2,15 @@
 use Rattle.dm_rule.proofs.Names.{◌≡◌, ◌≢◌, ℕ, ◌+◌, ◌≤◌, Bool, true, false, List, ◌++◌, length, refl, ap, ◌∙◌, sym, subst, ⊤, ◌==◌, not, filter, slice_get, Option, None, Some, Pid, MsgId, MessageKind, manager, Label, OneKernel, Step, act_of}
 use Rattle.dm_rule.proofs.Names.{bind-is, Line, Stage, View, Told, Known, Unknown, Here, Frozen, Forward, is_kernels, own_id, view_after, after_label, after_head, after_put, after_proto, handled, taken_id, queued_for, held_for, Incoming}
 use Rattle.dm_rule.proofs.Names.{forwarded_for, forward_about, served_told, ends_by, receiver_of, Addresses, Receiver, Sender, given, forwards, all_follow, own_given, first_gives, ascends, Nowhere, Moves, IsIn, is_restart, addresses_by}
-use Rattle.dm_rule.proofs.Names.{is_early, Point, moved, after_line, times, Trails, Trail, StoodOnTrail, IsOn, AddressesOn, OwnOn, trails_after, gives, seen, sort_of, arith}
+use Rattle.dm_rule.proofs.Names.{is_early, Point, moved, after_line, times, Trails, Trail, StoodOnTrail, IsOn, AddressesOn, OwnOn, trails_after, gives, seen, sort_of, arith, is_server, is_alive, About, PlainMessage, PlainWhat, pid_eq}
+use Rattle.dm_rule.proofs.Names.{pid_eq-is}
 use Rattle.dm_rule.proofs.Hushed.{hushed}
 use Rattle.dm_rule.proofs.Seen.{sets}
 use Rattle.dm_rule.proofs.Homes.Labels.{SaidOn}
 use Rattle.dm_rule.proofs.Phases.Lines.{queued_known, held_known, dropped_known, forwarded_known}
 use Rattle.dm_rule.proofs.Phases.Pieces.{proto_known}
-use Rattle.dm_rule.proofs.Trails.Known.{get_at_end, trail_same}
+use Rattle.dm_rule.proofs.Trails.Known.{get_at_end, trail_same, trail_less}
+use Rattle.dm_rule.proofs.Trails.Alive.{alive_before, end_over, kill_over}
 use Rattle.dm_rule.proofs.Trails.Places.{Named, AllAre, on_grown, Links, Goes, Comes, Owns}
 use Rattle.dm_rule.proofs.Trails.Lines.{all_are, links_are, receivers_are, senders_are, forwarded_all, sent_on_all, called_all, updated_all}
 use Rattle.dm_rule.proofs.Trails.Puts.{is_own, put_all, put_routed, told_again, about_put}
@@ -21,16 +23,17 @@ use Rattle.dm_rule.proofs.Homes.Serves as serves
 
 -- what each line keeps
 pub record Treads (pt : Point) (t : Trails) : Type 0 where
-  pub trail : (q : Pid) → Trail pt.view t q
+  pub trail : (q : Pid) → Trail (is_alive pt.kernel q) pt.view t q
   pub links : AddressesOn pt.kernel pt.addresses t
   pub own : OwnOn pt.view pt.addresses t
   pub pending : ascends 0 pt.kernel.manager.pending pt.kernel.manager.sent ≡ true
 
 -- where a line fits: a label
 abbrev pub KnownFits : Point → Trails → Label → Type 0
-KnownFits pt t (Label.End p y) = pt.view.known pt.view.acting p ≡ Here
+KnownFits pt t (Label.End p y) = is_server p ≡ false
 KnownFits pt t (Label.Created id p) = ((m : ℕ) → pt.view.known m p ≡ Unknown) × (p.home ≡ pt.view.acting) × StoodOnTrail pt.view t p Nowhere
-KnownFits pt t (Label.Served id) = (u : Told) → pt.view.told id ≡ Some u → u.kind ≡ MessageKind.Kill → pt.view.known pt.view.acting u.receiver ≡ Here
+KnownFits pt t (Label.Served id) =
+    (u : Told) → pt.view.told id ≡ Some u → u.kind ≡ MessageKind.Kill → (is_server u.receiver ≡ false) × ((m : PlainMessage) → pt.kernel.bag id ≡ Some m → (m.to ≡ u.receiver) × (m.what ≡ PlainWhat.Kill))
 KnownFits pt t _ = ⊤
 
 pub record LabelFits (pt : Point) (t : Trails) (l : Label) : Type 0 where
@@ -99,6 +102,10 @@ StageFits pt t p Stage.Left = LeftFits pt t p
 StageFits pt t p Stage.Restarted = MovesFits pt p is_early
 StageFits pt t p _ = ⊤
 
+-- only what has ended is forgotten
+abbrev pub BuriedFits : Point → MsgId → Type 0
+BuriedFits pt id = (u : Told) (p : Pid) → pt.view.told id ≡ Some u → u.about ≡ view.Of p → is_alive pt.kernel p ≡ false
+
 abbrev pub LineFits : Point → Trails → Line → Type 0
 LineFits pt t (Line.Label l) = LabelFits pt t l
 LineFits pt t (Line.Put a b id k q) = PutFits pt t id k q
@@ -107,6 +114,7 @@ LineFits pt t (Line.SentOn p n) = SentOnFits pt t p
 LineFits pt t (Line.Called p n) = CalledFits pt t p
 LineFits pt t (Line.Migration s p) = StageFits pt t p s
 LineFits pt t (Line.Stays p) = MovesFits pt p is_restart
+LineFits pt t (Line.Buried id n) = BuriedFits pt id
 LineFits pt t _ = ⊤
 
 -- addresses that stay
@@ -123,7 +131,7 @@ same_topic v w a t same h p m c e = h.topic p m c (sym same ∙ e)
 abbrev pub at_view : Point → View → Point
 at_view pt w = record { kernel = pt.kernel; view = w; addresses = pt.addresses }
 
-learns_treads : (pt : Point) (w : View) (t : Trails) → ((q : Pid) → Trail w t q) → w.told ≡ pt.view.told → ((p : Pid) (m c : ℕ) → w.topic ≡ view.Place p m c → slice_get (t p) c ≡ Some m) → Treads pt t → Treads (at_view pt w) t
+learns_treads : (pt : Point) (w : View) (t : Trails) → ((q : Pid) → Trail (is_alive pt.kernel q) w t q) → w.told ≡ pt.view.told → ((p : Pid) (m c : ℕ) → w.topic ≡ view.Place p m c → slice_get (t p) c ≡ Some m) → Treads pt t → Treads (at_view pt w) t
 learns_treads pt w t trail told topic h = record { trail = trail; links = h.links; own = own_as pt.view w pt.addresses t told topic h.own; pending = h.pending }
 
 quiet_treads : (pt : Point) (w : View) (t : Trails) → ((m : ℕ) (q : Pid) → w.known m q ≡ pt.view.known m q) → w.told ≡ pt.view.told → ((p : Pid) (m c : ℕ) → w.topic ≡ view.Place p m c → slice_get (t p) c ≡ Some m) → Treads pt t → Treads (at_view pt w) t
@@ -157,27 +165,38 @@ proto_place : (v w : View) (a : Addresses) (t : Trails) (id : MsgId) (o : Option
 proto_place v w a t id None told h p m c e = cc
 proto_place v w a t id (Some u) told h p m c e = h.about id u p m c told e
 
-served_trail : (v : View) (t : Trails) (q : Pid) (o : Option Told) → ((u : Told) → o ≡ Some u → u.kind ≡ MessageKind.Kill → v.known v.acting u.receiver ≡ Here) → Trail v t q → Trail (served_told v o) t q
-served_trail v t q None here h = h
-served_trail v t q (Some u) here h = (elim u.kind as (λ k. ((k ≡ MessageKind.Kill → v.known v.acting u.receiver ≡ Here)) → Trail (ends_by (sort_of k) v (Some u.receiver)) t q)
-    [ MessageKind.Kill ↦ λ here_. ended_trail v (ends_by (sort_of MessageKind.Kill) v (Some u.receiver)) t u.receiver q refl (here_ refl) h | _ ↦ λ here_. h ]) (here u refl)
+-- a kill ends the receiver, which doesn't live behind it
+served_trail : (lived lives : Bool) (v : View) (t : Trails) (q : Pid) (o : Option Told) → (lives ≡ true → lived ≡ true) → ((u : Told) → o ≡ Some u → u.kind ≡ MessageKind.Kill → pid_eq u.receiver q ≡ true → lives ≡ false) → Trail lived v t q → Trail lives (served_told v o) t q
+served_trail lived lives v t q None before over h = trail_less lived lives v t q before h
+served_trail lived lives v t q (Some u) before over h =
+    (elim u.kind as (λ k. (k ≡ MessageKind.Kill → pid_eq u.receiver q ≡ true → lives ≡ false) → Trail lives (ends_by (sort_of k) v (Some u.receiver)) t q)
+    [ MessageKind.Kill ↦ λ off. ended_trail lived lives v (ends_by (sort_of MessageKind.Kill) v (Some u.receiver)) t u.receiver q refl before (off refl) h | _ ↦ λ off. trail_less lived lives v t q before h ]) (over u refl)
 
-handled_trail : (v : View) (t : Trails) (id : MsgId) (q : Pid) → Trail v t q → Trail (handled v id) t q
+handled_trail : {lives : Bool} (v : View) (t : Trails) (id : MsgId) (q : Pid) → Trail lives v t q → Trail lives (handled v id) t q
 handled_trail v t id q h = trail_same v (handled v id) t t q (λ m. refl) refl h
 
-label_trail : (pt : Point) (t : Trails) (l : Label) (q : Pid) → KnownFits pt t l → Trail pt.view t q → Trail (after_label pt.view l) t q
-label_trail pt t (Label.End p y) q here h = ended_trail pt.view (after_label pt.view (Label.End p y)) t p q refl here h
-label_trail pt t (Label.Created id p) q fits h = born_trail pt.view (after_label pt.view (Label.Created id p)) t p q refl fits.0 fits.1 fits.2 h
-label_trail pt t (Label.Served id) q fits h = served_trail (handled pt.view id) t q (pt.view.told id) fits (handled_trail pt.view t id q h)
-label_trail pt t (Label.Dropped id) q fits h = trail_same pt.view (after_label pt.view (Label.Dropped id)) t t q (λ m. dropped_known (handled pt.view id) id (receiver_of (pt.view.told id)) m q) refl h
-label_trail pt t any_ q fits h = trail_same pt.view (after_label pt.view any_) t t q (λ m. refl) refl h
+label_trail : (pt : Point) (s : OneKernel) (t : Trails) (l : Label) (q : Pid) → kernel.step pt.kernel l ≡ Some s → KnownFits pt t l → Trail (is_alive pt.kernel q) pt.view t q → Trail (is_alive s q) (after_label pt.view l) t q
+label_trail pt s t (Label.End p y) q is off h =
+    let over : is_alive s p ≡ false = end_over pt.kernel s p y is off in
+    ended_trail (is_alive pt.kernel q) (is_alive s q) pt.view (after_label pt.view (Label.End p y)) t p q refl (alive_before pt.kernel s (Label.End p y) is q refl) (λ same. subst (λ (r : Pid). is_alive s r ≡ false) (pid_eq-is p q same) over) h
+label_trail pt s t (Label.Created id p) q is fits h =
+    born_trail (is_alive pt.kernel q) (is_alive s q) pt.view (after_label pt.view (Label.Created id p)) t p q refl fits.0 fits.1 fits.2 (alive_before pt.kernel s (Label.Created id p) is q) h
+label_trail pt s t (Label.Served id) q is fits h =
+    served_trail (is_alive pt.kernel q) (is_alive s q) (handled pt.view id) t q (pt.view.told id) (alive_before pt.kernel s (Label.Served id) is q refl)
+    (λ u told kill same. let (off, kills) = fits u told kill in subst (λ (r : Pid). is_alive s r ≡ false) (pid_eq-is u.receiver q same) (kill_over pt.kernel s id u.receiver is kills off))
+    (handled_trail pt.view t id q h)
+label_trail pt s t (Label.Dropped id) q is fits h =
+    trail_same pt.view (after_label pt.view (Label.Dropped id)) t t q (λ m. dropped_known (handled pt.view id) id (receiver_of (pt.view.told id)) m q) refl
+    (trail_less (is_alive pt.kernel q) (is_alive s q) pt.view t q (alive_before pt.kernel s (Label.Dropped id) is q refl) h)
+label_trail pt s t any_ q is fits h =
+    trail_same pt.view (after_label pt.view any_) t t q (λ m. refl) refl (trail_less (is_alive pt.kernel q) (is_alive s q) pt.view t q (alive_before pt.kernel s any_ is q refl) h)
 
 label_place : (s : OneKernel) (v : View) (l : Label) (p : Pid) (m c : ℕ) → (seen s v (Line.Label l)).topic ≡ view.Place p m c → (after_label v l).topic ≡ view.Place p m c
 label_place s v l p m c h1 = search arith
 
 label_treads : (pt : Point) (s : OneKernel) (t : Trails) (l : Label) → kernel.step pt.kernel l ≡ Some s → LabelFits pt t l → Treads pt t → Treads (moved pt (Line.Label l) s) t
 label_treads pt s t l is fits h = record {
-  trail = λ q. trail_same (after_label pt.view l) (seen pt.kernel pt.view (Line.Label l)) t t q (λ m. refl) refl (label_trail pt t l q fits.known (h.trail q));
+  trail = λ q. trail_same (after_label pt.view l) (seen pt.kernel pt.view (Line.Label l)) t t q (λ m. refl) refl (label_trail pt s t l q is fits.known (h.trail q));
   links = label_links pt.kernel s pt.view pt.addresses t l is fits.named fits.said h.trail h.pending h.links;
   own =
       (let own = label_own pt.kernel s pt.view pt.addresses t l is (fits.outside s is) h.own in
@@ -253,6 +272,27 @@ updated_treads pt t id n h =
       pending = h.pending;
     }
 
+-- a kernel forgets what has ended
+buried_treads : (pt : Point) (t : Trails) (id : MsgId) (n : ℕ) → BuriedFits pt id → Treads pt t → Treads (moved pt (Line.Buried id n) pt.kernel) t
+buried_treads pt t id n fits h = forgets_by (pt.view.told id) (λ u p told about. fits u p told about)
+  where
+    v : View
+    v = handled pt.view id
+
+    quiet : Treads (at_view pt v) t
+    quiet = quiet_treads pt v t (λ m q. refl) refl h.own.topic h
+
+    forgets_about : (a : About) → ((p : Pid) → a ≡ view.Of p → is_alive pt.kernel p ≡ false) → Treads (at_view pt (view.forgotten v a)) t
+    forgets_about (view.Of p) off =
+        learns_treads pt (view.forgotten v (view.Of p)) t
+        (λ q. ended_trail (is_alive pt.kernel q) (is_alive pt.kernel q) pt.view (view.forgotten v (view.Of p)) t p q refl (λ e. e) (λ same. subst (λ (r : Pid). is_alive pt.kernel r ≡ false) (pid_eq-is p q same) (off p refl)) (h.trail q))
+        refl (λ r m c e. let f : view.Of p ≡ view.Place r m c = e in cc) h
+    forgets_about _ off = quiet
+
+    forgets_by : (o : Option Told) → ((u : Told) (p : Pid) → o ≡ Some u → u.about ≡ view.Of p → is_alive pt.kernel p ≡ false) → Treads (at_view pt (view.buried_for v o)) t
+    forgets_by None off = quiet
+    forgets_by (Some u) off = forgets_about u.about (λ p e. off u p refl e)
+
 -- a put
 -- what was told stays
 put_are : (pt : Point) (t : Trails) (x y : ℕ) (id : MsgId) (k : MessageKind) (q : Pid) → PutFits pt t id k q → AllAre pt.kernel pt.view pt.addresses t
@@ -287,9 +327,9 @@ stage_treads pt t p Stage.Asked fits h = quiet_treads pt (view_after pt.view (Li
 stage_treads pt t p Stage.Accepted fits h = learns_treads pt (view_after pt.view (Line.Migration Stage.Accepted p)) t (λ q. accepted_trail pt.view t p q fits.k fits.s fits.d fits.o fits.phase fits.off (h.trail q)) refl (λ r m c e. cc) h
 stage_treads pt t p Stage.Left fits h = learns_treads pt (view_after pt.view (Line.Migration Stage.Left p)) t (λ q. left_line_trail pt.view t p q fits.d fits.holds fits.at fits.long fits.apart (h.trail q)) refl (λ r m c e. cc) h
 stage_treads pt t p Stage.Restarted fits h =
-    let restarted_trail : (v : View) (t : Trails) (p q : Pid) (k : MessageKind) (s d : ℕ) (o : Option MsgId) → IsIn v p (Moves k s d o) → is_early k ≡ false → Trail v t q → Trail (view_after v (Line.Migration Stage.Restarted p)) t q =
-    λ v t p q k s d o phase e h. back_trail v (view_after v (Line.Migration Stage.Restarted p)) t p q d refl (destination_knows v p k s d o phase e) h in
-    learns_treads pt (view_after pt.view (Line.Migration Stage.Restarted p)) t (λ q. restarted_trail pt.view t p q fits.k fits.s fits.d fits.o fits.phase fits.off (h.trail q)) refl h.own.topic h
+    let restarted_trail : (lives : Bool) (v : View) (t : Trails) (p q : Pid) (k : MessageKind) (s d : ℕ) (o : Option MsgId) → IsIn v p (Moves k s d o) → is_early k ≡ false → Trail lives v t q → Trail lives (view_after v (Line.Migration Stage.Restarted p)) t q =
+    λ lives v t p q k s d o phase e h. back_trail v (view_after v (Line.Migration Stage.Restarted p)) t p q d refl (destination_knows v p k s d o phase e) h in
+    learns_treads pt (view_after pt.view (Line.Migration Stage.Restarted p)) t (λ q. restarted_trail (is_alive pt.kernel q) pt.view t p q fits.k fits.s fits.d fits.o fits.phase fits.off (h.trail q)) refl h.own.topic h
 stage_treads pt t p any_ fits h = quiet_treads pt (view_after pt.view (Line.Migration any_ p)) t (λ m q. refl) refl (λ r m c e. cc) h
 
 -- each line
@@ -308,6 +348,7 @@ line_treads pt next t (Line.Forwarded i m) is fits h = let f : moved pt (Line.Fo
 line_treads pt next t (Line.SentOn p n) is fits h = let f : moved pt (Line.SentOn p n) pt.kernel ≡ next = cc in subst (λ (z : Point). Treads z (trails_after pt.view t (Line.SentOn p n))) f (sent_on_treads pt t p n fits h)
 line_treads pt next t (Line.Called p n) is fits h = let f : moved pt (Line.Called p n) pt.kernel ≡ next = cc in subst (λ (z : Point). Treads z (trails_after pt.view t (Line.Called p n))) f (called_treads pt t p n fits h)
 line_treads pt next t (Line.Updated i n) is fits h = let f : moved pt (Line.Updated i n) pt.kernel ≡ next = cc in subst (λ (z : Point). Treads z (trails_after pt.view t (Line.Updated i n))) f (updated_treads pt t i n h)
+line_treads pt next t (Line.Buried i n) is fits h = let f : moved pt (Line.Buried i n) pt.kernel ≡ next = cc in subst (λ (z : Point). Treads z (trails_after pt.view t (Line.Buried i n))) f (buried_treads pt t i n fits h)
 line_treads pt next t (Line.Put x y i k q) is fits h = let f : moved pt (Line.Put x y i k q) pt.kernel ≡ next = cc in subst (λ (z : Point). Treads z (trails_after pt.view t (Line.Put x y i k q))) f (put_treads pt t x y i k q fits h)
 line_treads pt next t (Line.Migration s p) is fits h = let f : moved pt (Line.Migration s p) pt.kernel ≡ next = cc in subst (λ (z : Point). Treads z (trails_after pt.view t (Line.Migration s p))) f (stage_treads pt t p s fits h)
 line_treads pt next t any_ is fits h = let f : moved pt any_ pt.kernel ≡ next = cc in subst (λ (z : Point). Treads z (trails_after pt.view t any_)) f (quiet_treads pt (view_after pt.view any_) t (λ m q. refl) (hushed pt.view any_ refl).told (h.own.topic) h)

@@ -1,6 +1,6 @@
 -- Only machines that act know processes, and so all machines of a trail are among those of the boot file.
 use Rattle.dm_rule.proofs.Names.{◌≡◌, ◌≢◌, ℕ, ◌+◌, ◌<◌, ◌==◌, refl, ◌∙◌, sym, subst, ⊤, not, filter, slice_get, Option, None, Some, Pid, MsgId, Label, Step, Line, at_record, View, Told, Known, Unknown, Here, actor, view_after, after_label}
-use Rattle.dm_rule.proofs.Names.{after_head, handled, taken_id, queued_for, held_for, forwarded_for, served_told, receiver_of, Trails, Trail, arith, and_parts, eqb-true}
+use Rattle.dm_rule.proofs.Names.{after_head, handled, taken_id, queued_for, held_for, forwarded_for, served_told, receiver_of, Trails, Trail, arith, and_parts, eqb-true, is_made, true, OneKernel}
 use Rattle.dm_rule.proofs.Seen.{sets}
 use Rattle.dm_rule.proofs.Homes.Lines.{acting_label}
 use Rattle.dm_rule.proofs.Phases.Lines.{queued_known, held_known, dropped_known, forwarded_known}
@@ -10,6 +10,10 @@ use Rattle.dm_rule.specs.View as view
 pub record Within (n : ℕ) (v : View) : Type 0 where
   pub known : (m : ℕ) (q : Pid) → v.known m q ≢ Unknown → m < n
   pub acting : v.acting < n
+
+-- all machines of the trails of what was made are among so many
+pub record TrailsIn (n : ℕ) (s : OneKernel) (t : Trails) : Type 0 where
+  pub within : (p : Pid) → is_made s p ≡ true → (c m : ℕ) → slice_get (t p) c ≡ Some m → m < n
 
 -- a head names one of so many machines
 abbrev pub HeadIn : ℕ → Line → Type 0
@@ -52,6 +56,12 @@ line_within n v (Line.Queued i) e h = within_same n v (view_after v (Line.Queued
 line_within n v (Line.Held i) e h = within_same n v (view_after v (Line.Held i)) (λ m q. held_known (handled v i) i (receiver_of (v.told i)) m q) (held_acting (handled v i) i (receiver_of (v.told i))) h
 line_within n v (Line.Forwarded i k) e h = within_same n v (view_after v (Line.Forwarded i k)) (λ m q. forwarded_known (handled v i) (receiver_of (v.told i)) m q) (forwarded_acting (handled v i) (receiver_of (v.told i))) h
 line_within n v (Line.Proto i) e h = within_same n v (view_after v (Line.Proto i)) (λ m q. proto_known (handled v i) (v.told i) m q) (proto_acting (handled v i) (v.told i)) h
+line_within n v (Line.Buried i k) e h =
+    let forgotten_within : (a : view.About) → Within n (view.forgotten (handled v i) a) = λ a. elim a as (λ a_. Within n (view.forgotten (handled v i) a_)) [
+      | view.Of p ↦ within_set n v (view.forgotten (handled v i) (view.Of p)) p Unknown refl refl h
+      | _ ↦ record { known = h.known; acting = h.acting }
+    ] in
+    elim (v.told i) as (λ o. Within n (view.buried_for (handled v i) o)) [ None ↦ record { known = h.known; acting = h.acting } | Some u ↦ forgotten_within u.about ]
 line_within n v (Line.Taken a b k) e h =
     let taken_within : (n : ℕ) (v : View) (b : ℕ) (o : Option MsgId) → Within n v → Within n (taken_id v b o) =
     λ n v b o h. elim o as (λ o_. Within n (taken_id v b o_)) [ None ↦ h | Some i' ↦ record { known = h.known; acting = h.acting } ] in
@@ -64,7 +74,3 @@ line_within n v (Line.NoCall p) e h = h
 line_within n v (Line.Pinned p) e h = h
 line_within n v Line.Nothing e h = h
 line_within n v _ e h = record { known = h.known; acting = h.acting }
-
--- each machine of the trail of a process that some machine knows
-pub trail_within : (n : ℕ) (v : View) (t : Trails) (q : Pid) (i : ℕ) → Within n v → Trail v t q → v.known i q ≢ Unknown → (c m : ℕ) → slice_get (t q) c ≡ Some m → m < n
-trail_within n v t q i h trail there c m e = h.known m q (trail.kept m i c there e)

@@ -1,6 +1,6 @@
 -- A worked migration: the trail of a process that moves, and the addresses that name it.
-use Rattle.dm_rule.proofs.Names.{◌≡◌, ◌&&◌, ℕ, zero, suc, Bool, true, List, [], ◌∷◌, refl, Option, None, Some, Place, pid_of, id_of, instruction, Boot, bind, Step, Directive, Known, Here, Incoming, Forward, Slot, Receiver, Child, Todo}
-use Rattle.dm_rule.proofs.Names.{Next, all_of, next_step, group_of, Trodden, first_trodden, along, leads}
+use Rattle.dm_rule.proofs.Names.{◌≡◌, ◌&&◌, ℕ, zero, suc, Bool, true, false, List, [], ◌∷◌, refl, Option, None, Some, Place, pid_of, id_of, instruction, Boot, bind, Step, Directive, Known, Here, Incoming, Forward, Slot, Receiver, Child}
+use Rattle.dm_rule.proofs.Names.{Todo, Next, all_of, next_step, group_of, Trodden, first_trodden, along, leads}
 use Rattle.dm_rule.proofs.Worked.{hi}
 
 -- so many elementary directives of a schedule, one group after the other
@@ -25,7 +25,7 @@ record Seen : Type 0 where
   found : Bool
 
 abbrev found_from : Trodden → Place → Bool
-found_from x place = leads x.point.view (pid_of 1 3) 1 place.moves place.at
+found_from x place = leads false x.point.view (pid_of 1 3) 1 place.moves place.at
 
 abbrev seen : Option Trodden → Option Seen
 seen None = None
