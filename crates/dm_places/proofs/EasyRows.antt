@@ -1,6 +1,6 @@
 -- Rows of the rule whose parts need nothing beside, so that a kernel with places goes along.
 use Rattle.dm_places.proofs.Names.{◌≡◌, ℕ, zero, suc, ◌-◌, ◌==◌, Bool, List, [], ◌∷◌, ◌++◌, ⊤, if◌then◌else◌, Option, None, Some, Pid, MsgId, Line, PlainMessage, PlainWhat, Boot, manager, OneKernel, bind, PlainProcess, PlainStatus, Load}
-use Rattle.dm_places.proofs.Names.{Known, Pair, SentLoad, Told, View, Part, Point, by_migrates, IsHeardLine, hears_kept, id_of, arith, Kept, calls_off_kept, plain_kind}
+use Rattle.dm_places.proofs.Names.{Known, Pair, SentLoad, Told, View, Part, Point, by_migrates, IsHeardLine, hears_kept, id_of, arith, Kept, calls_off_kept, plain_kind, MessageKind, buries, ends_with, map, preds_of, to_kernel}
 use Rattle.dm_onekernel.specs.Pieces as pieces
 use Rattle.dm_onekernel.specs.Receiving as receiving
 use Rattle.dm_onekernel.specs.Step as kernel
@@ -27,8 +27,16 @@ drops_easy (i ∷ is) = (tt, drops_easy is)
 pub routes_easy : (o : Option PlainMessage) → EasyParts (rule.routes o)
 routes_easy o = search arith
 
-stops_easy : (p : Pid) (queue : List MsgId) (o : Option kernel.Trap) → EasyParts (rule.stops p queue o)
-stops_easy p queue o = search (arith, drops_easy)
+buries_easy : (ms : List ℕ) → EasyParts (map (to_kernel MessageKind.Bury) ms)
+buries_easy [] = tt
+buries_easy (m ∷ ms) = (tt, buries_easy ms)
+
+-- what follows an end
+ends_easy : (pt : Point) (m : ℕ) (p : Pid) → EasyParts (ends_with pt m p)
+ends_easy pt m p = easy_append (rule.drop_parts (pt.view.queue m p)) (buries pt m p) (drops_easy (pt.view.queue m p)) (buries_easy (preds_of pt m p))
+
+stops_easy : (p : Pid) (over : List Part) (o : Option kernel.Trap) → EasyParts over → EasyParts (rule.stops p over o)
+stops_easy p over o h = search arith
 
 completes_easy : (p : Pid) (id : MsgId) (o : Option receiving.Completed) → Easy (bind o (λ (c : receiving.Completed). Some (rule.completion_parts p id c)))
 completes_easy p id o = search arith
@@ -36,15 +44,15 @@ completes_easy p id o = search arith
 received_easy : (p : Pid) (x : PlainProcess) (id : MsgId) (o : Option PlainMessage) → Easy (bind o (λ (k : PlainMessage). bind (receiving.completes_with p x k) (λ (c : receiving.Completed). Some (rule.completion_parts p id c))))
 received_easy p x id o = search (arith, completes_easy)
 
-status_easy : (s : OneKernel) (quantum : ℕ) (p : Pid) (queue : List MsgId) (x : PlainProcess) (st : PlainStatus) → Easy (rule.serves_status quantum s p queue x st)
-status_easy s quantum p queue x st = search (arith, if_parts, stops_easy, received_easy)
+status_easy : (s : OneKernel) (quantum : ℕ) (p : Pid) (queue : List MsgId) (over : List Part) (x : PlainProcess) (st : PlainStatus) → EasyParts over → Easy (rule.serves_status quantum s p queue over x st)
+status_easy s quantum p queue over x st h = search (arith, if_parts, stops_easy, received_easy)
 
-alive_easy : (s : OneKernel) (quantum : ℕ) (p : Pid) (queue : List MsgId) (o : Option PlainProcess) → Easy (bind o (λ (x : PlainProcess). rule.serves_status quantum s p queue x x.status))
-alive_easy s quantum p queue o = search (arith, status_easy)
+alive_easy : (s : OneKernel) (quantum : ℕ) (p : Pid) (queue : List MsgId) (over : List Part) (o : Option PlainProcess) → EasyParts over → Easy (bind o (λ (x : PlainProcess). rule.serves_status quantum s p queue over x x.status))
+alive_easy s quantum p queue over o h = search (arith, status_easy)
 
 pub round_easy : (b : Boot) (pt : Point) (m : ℕ) (o : Option Pid) → Easy (rule.goes_round b pt m o)
 round_easy b pt m None = (tt, tt)
-round_easy b pt m (Some p) = alive_easy pt.kernel b.quantum p (pt.view.queue m p) (kernel.alive (pt.kernel.processes p))
+round_easy b pt m (Some p) = alive_easy pt.kernel b.quantum p (pt.view.queue m p) (ends_with pt m p) (kernel.alive (pt.kernel.processes p)) (ends_easy pt m p)
 
 -- a message for a process
 lands_easy : (id : MsgId) (o : Option pieces.Landed) → Easy (rule.landing_parts id o)
@@ -55,7 +63,7 @@ abbrev pub AsksEasily : MsgId → PlainWhat → Type 0
 AsksEasily id w = (machine : ℕ) → w ≡ PlainWhat.Move machine → id ≡ id_of manager id.n
 
 here_easy : (pt : Point) (m : ℕ) (id : MsgId) (k : PlainMessage) (x : PlainProcess) (w : PlainWhat) → AsksEasily id w → Easy (rule.here_handles pt m id k x w)
-here_easy pt m id k x w h1 = search (arith, drops_easy, lands_easy, if_parts)
+here_easy pt m id k x w h1 = search (arith, ends_easy, lands_easy, if_parts)
 
 ended_easy : (id : MsgId) (w : PlainWhat) → Easy (rule.ended_handles id w)
 ended_easy id w = search arith

@@ -22,6 +22,12 @@ moves_queued v id o = search arith
 moves_held : (v : View) (id : MsgId) (o : Option Pid) → (view.held_for v id o).moves ≡ v.moves
 moves_held v id o = search arith
 
+moves_forgotten : (v : View) (a : About) → (view.forgotten v a).moves ≡ v.moves
+moves_forgotten v a = search arith
+
+moves_buried : (v : View) (o : Option Told) → (view.buried_for v o).moves ≡ v.moves
+moves_buried v o = search (arith, moves_forgotten)
+
 moves_on : (v : View) (a : About) → (view.asks_on v a).moves ≡ v.moves
 moves_on v a = search arith
 
@@ -55,6 +61,7 @@ lines_keep pt pt' l (Line.Queued id) keeps h e = says pt pt' l (Line.Queued id) 
 lines_keep pt pt' l (Line.Held id) keeps h e = says pt pt' l (Line.Held id) (moves_held (handled pt.view id) id (view.receiver_of (pt.view.told id))) h (cc)
 lines_keep pt pt' l (Line.Forwarded id m) keeps h e = absurd keeps
 lines_keep pt pt' l (Line.Updated id n) keeps h e = absurd keeps
+lines_keep pt pt' l (Line.Buried id n) keeps h e = says pt pt' l (Line.Buried id n) (moves_buried (handled pt.view id) (pt.view.told id)) h (cc)
 lines_keep pt pt' l (Line.Migration Stage.Frozen p) keeps h e = says pt pt' l (Line.Migration Stage.Frozen p) (moves_sets pt.view p pt.view.topic) h (cc)
 lines_keep pt pt' l (Line.Migration Stage.Asked p) keeps h e = says pt pt' l (Line.Migration Stage.Asked p) refl h (cc)
 lines_keep pt pt' l (Line.Migration Stage.Accepted p) keeps h e = says pt pt' l (Line.Migration Stage.Accepted p) refl h (cc)

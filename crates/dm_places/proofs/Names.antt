@@ -20,7 +20,7 @@ pub use Rattle.dm_procman.proofs.Plain.{plain_bear, plain_numbered, plain_pendin
 pub use Rattle.dm_procman.specs.Managing.{answer_is_behind}
 pub use Rattle.dm_procman.specs.declared.pending.Pending.{Pending}
 pub use Rattle.dm_laws.proofs.Equal.{pid_eq-swap}
-pub use Rattle.dm_laws.proofs.Names.{Ended, Switchboard}
+pub use Rattle.dm_laws.proofs.Names.{Switchboard}
 pub use Rattle.dm_laws.proofs.Servers.{note-is}
 pub use Rattle.dm_datamove.proofs.Landings.{ends_plainly, goes_on_plainly}
 pub use Rattle.dm_datamove.proofs.Names.{Landing, after_serving, answer, answer_of, answer_with, begun_process, gone_answer, landing, piece_of, plain_landed, serving_answer}
@@ -43,18 +43,18 @@ pub use Rattle.dm_rule.proofs.Homes.Serves.{child_at, gone_lands, nothing_lands,
 pub use Rattle.dm_rule.proofs.Homes.Slots.{emptied_link, past_call, set_link}
 pub use Rattle.dm_rule.proofs.Homes.Steps.{OnlySlots, gives_same, made_is, only_gives_by}
 pub use Rattle.dm_rule.proofs.Letters.{not_kernels}
-pub use Rattle.dm_rule.proofs.Names.{About, Addresses, Again, Alive, Answer, AskedBy, Bool, Boot, BootImage, BootProcess, CallNumber, Child, Direction, Enclosed, Fault, Forward, Frozen, Gets, Holder, Inbox, Incoming, IsStep, IsValid, Known}
-pub use Rattle.dm_rule.proofs.Names.{Label, Leads, Life, Line, Link, List, Load, Manager, MessageKind, MoveNote, MsgId, Name, NamedLink, None, One, OneKernel, Option, Outcome, Owner, Owns, Pair, Part, PendingKind, Pid, Place, PlainLink}
-pub use Rattle.dm_rule.proofs.Names.{PlainMessage, PlainProcess, PlainStatus, PlainWhat, Point, Receiver, Regs, Reply, Routes, Row, Says, Sender, SentLoad, Slot, Some, Sort, Sound, Spelled, Spot, Stage, Step, TellsRight, Told, Transmits}
-pub use Rattle.dm_rule.proofs.Names.{View, Why, [], act_of, acting_place, addresses_by, after, after_head, after_label, after_line, after_step, all_follow, answer_gets, answer_id, answer_to, ap, arith, ascends, at_hand-is, at_pid, behind}
-pub use Rattle.dm_rule.proofs.Names.{behind_count, belongs_to, bind, bind-is, board_finds, board_gets, board_keeps, bytes_eq, call_gets, cases_Bool, child_links, child_number, code_of_outcome, cond, cons_option, drop, enclosed_from}
-pub use Rattle.dm_rule.proofs.Names.{encloses, ends_move-is, false, false≢true, fills, fills_by, filter, filter_map, first_addresses, first_empty, first_failed, first_gives, first_number, first_point, first_view, forwarded_for, forwards}
-pub use Rattle.dm_rule.proofs.Names.{gets, given, gives, group_of, handled, id_eq, id_eq-is, id_eq-same, id_eq-swap, id_of, if◌then◌else◌, inl, inr, is_general, is_kernels, is_none, is_some, is_told_back, kernel_after, label_of}
-pub use Rattle.dm_rule.proofs.Names.{landing_gets, leads_to, length, lines_of, link_at, link_target, links_at, manager, manager_answers, manager_gets, manager_sends, map, moved, nat_le, nat_lt, nat_tests, not, on_mask, option_map}
-pub use Rattle.dm_rule.proofs.Names.{option_map_or, outcome, own_given, own_id, owner_in, past, pid_eq, pid_eq-is, pid_eq-same, pid_of, place_known, place_named, place_of, place_told, plain_kind, plain_link, position_from, puts}
-pub use Rattle.dm_rule.proofs.Names.{receiver_of, receives_links, receiving_gets, refl, reg, replicate, reply_eq, seen, sending_gets, serving_gets, slice_get, slice_set, slot_after, slots_of, slots_with, sort_of, spelled, standing}
-pub use Rattle.dm_rule.proofs.Names.{start-sound, subst, suc, switchboard, sym, take, times, told_back_gets, true, unmoved, updated, updated_to, view_after, when-is, why_eq, zero, ℕ, ⊤, ◌&&◌, ◌++◌, ◌+◌, ◌-◌, ◌==◌, ◌||◌, ◌∙◌, ◌∷◌, ◌≡◌, ◌≤◌}
-pub use Rattle.dm_rule.proofs.Names.{◌⊎◌}
+pub use Rattle.dm_rule.proofs.Names.{About, Addresses, Again, Alive, Answer, AskedBy, Bool, Boot, BootImage, BootProcess, CallNumber, Child, Direction, Enclosed, Ended, Fault, Forward, Frozen, Gets, Holder, Inbox, Incoming, IsStep, IsValid}
+pub use Rattle.dm_rule.proofs.Names.{Known, Label, Leads, Life, Line, Link, List, Load, Manager, MessageKind, MoveNote, MsgId, Name, NamedLink, None, One, OneKernel, Option, Outcome, Owner, Owns, Pair, Part, PendingKind, Pid, Place}
+pub use Rattle.dm_rule.proofs.Names.{PlainLink, PlainMessage, PlainProcess, PlainStatus, PlainWhat, Point, Receiver, Regs, Reply, Routes, Row, Says, Sender, SentLoad, Slot, Some, Sort, Sound, Spelled, Spot, Stage, Step, TellsRight, Told}
+pub use Rattle.dm_rule.proofs.Names.{Transmits, View, Why, [], act_of, acting_place, addresses_by, after, after_head, after_label, after_line, after_step, all_follow, answer_gets, answer_id, answer_to, ap, arith, ascends, at_hand-is}
+pub use Rattle.dm_rule.proofs.Names.{at_pid, behind, behind_count, belongs_to, bind, bind-is, board_finds, board_gets, board_keeps, buries, bytes_eq, call_gets, cases_Bool, child_links, child_number, code_of_outcome, cond, cons_option}
+pub use Rattle.dm_rule.proofs.Names.{drop, enclosed_from, encloses, ends_move-is, ends_with, false, false≢true, fills, fills_by, filter, filter_map, first_addresses, first_empty, first_failed, first_gives, first_number, first_point}
+pub use Rattle.dm_rule.proofs.Names.{first_view, forwarded_for, forwards, gets, given, gives, group_of, handled, id_eq, id_eq-is, id_eq-same, id_eq-swap, id_of, if◌then◌else◌, inl, inr, is_general, is_kernels, is_none, is_some}
+pub use Rattle.dm_rule.proofs.Names.{is_told_back, kernel_after, label_of, landing_gets, leads_to, length, lines_of, link_at, link_target, links_at, manager, manager_answers, manager_gets, manager_sends, map, moved, nat_le, nat_lt}
+pub use Rattle.dm_rule.proofs.Names.{nat_tests, not, on_mask, option_map, option_map_or, outcome, own_given, own_id, owner_in, past, pid_eq, pid_eq-is, pid_eq-same, pid_of, place_known, place_named, place_of, place_told, plain_kind}
+pub use Rattle.dm_rule.proofs.Names.{plain_link, position_from, preds_of, puts, receiver_of, receives_links, receiving_gets, refl, reg, replicate, reply_eq, seen, sending_gets, serving_gets, slice_get, slice_set, slot_after, slots_of}
+pub use Rattle.dm_rule.proofs.Names.{slots_with, sort_of, spelled, standing, start-sound, subst, suc, switchboard, sym, take, times, to_kernel, told_back_gets, true, unmoved, updated, updated_to, view_after, when-is, why_eq, zero, ℕ, ⊤}
+pub use Rattle.dm_rule.proofs.Names.{◌&&◌, ◌++◌, ◌+◌, ◌-◌, ◌==◌, ◌||◌, ◌∙◌, ◌∷◌, ◌≡◌, ◌≤◌, ◌⊎◌}
 pub use Rattle.dm_rule.proofs.Pairs.Moves.{or_first, or_first as or_second}
 pub use Rattle.dm_rule.proofs.Requests.{by_migrates}
 pub use Rattle.dm_rule.proofs.Worked.{hi}

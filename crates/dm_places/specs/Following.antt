@@ -42,6 +42,7 @@ LineNeeds pt (line.Label e) = StepNeeds pt.kernel pt.view e
 LineNeeds pt (line.Put from to id k q) = KeepsPlaces pt (line.Put from to id k q) ⊎ (pt.kernel.bag id ≡ None)
 LineNeeds pt (line.Forwarded id m) = pt.kernel.bag (own_id pt.view) ≡ None
 LineNeeds pt (line.Updated id n) = ServersApart pt.kernel
+LineNeeds pt (line.Buried id n) = ⊤
 LineNeeds pt (line.Head d) = ⊤
 LineNeeds pt (line.Idle m) = ⊤
 LineNeeds pt (line.Packet from to k l) = ⊤

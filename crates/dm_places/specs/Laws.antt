@@ -74,6 +74,7 @@ KeepsPlaces pt (line.Queued id) = ⊤
 KeepsPlaces pt (line.Held id) = ⊤
 KeepsPlaces pt (line.Forwarded id m) = ⊥
 KeepsPlaces pt (line.Updated id n) = ⊥
+KeepsPlaces pt (line.Buried id n) = ⊤
 KeepsPlaces pt (line.Migration stage.Frozen p) = ⊤
 KeepsPlaces pt (line.Migration stage.Asked p) = ⊤
 KeepsPlaces pt (line.Migration stage.Accepted p) = ⊤

@@ -4,6 +4,7 @@ pub mod Takes
 pub mod Calling
 pub mod Fits
 pub mod Tables
+pub mod Below
 pub mod Found
 pub mod RunLabels
 pub mod Runs

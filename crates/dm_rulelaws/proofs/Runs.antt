@@ -1,6 +1,7 @@
 -- All that holds wherever the rule leads, migrations included.
-use Rattle.dm_rulelaws.proofs.Names.{◌≡◌, ℕ, ◌≤◌, true, length, None, Some, Pid, MsgId, Boot, ascends, Point, times, Told, Phased, KernelFits, Found, ListsStand, KnownStands}
+use Rattle.dm_rulelaws.proofs.Names.{◌≡◌, ℕ, ◌≤◌, true, length, None, Some, Pid, MsgId, Boot, ascends, Point, times, Told, Phased, KernelFits, Found, KnownStands}
 use Rattle.dm_rulelaws.proofs.Based.Noted.{Away}
+use Rattle.dm_rulelaws.proofs.Based.Queues.{LiveLists}
 use Rattle.dm_rulelaws.proofs.Queued.{IsQueued}
 use Rattle.dm_rulelaws.proofs.Found.Always.{FoundBy}
 
@@ -15,7 +16,8 @@ pub record Based (b : Boot) (pt : Point) : Type 0 where
   -- a queue has user messages for its process, and a held list has messages for it
   pub queued : (n : ℕ) (p : Pid) (i : MsgId) → 1 ≤ times i (pt.view.queue n p) → IsQueued (phased.state.e i) p (pt.kernel.bag i)
   pub held : (n : ℕ) (p : Pid) (i : MsgId) → 1 ≤ times i (pt.view.held n p) → (t : Told) × (pt.view.told i ≡ Some t) × (t.receiver ≡ p)
-  pub lists : ListsStand pt.view
+  -- a queue only where a process is or leaves, of those that haven't ended; held messages only where it leaves or comes
+  pub lists : LiveLists pt.kernel pt.view
   pub known : KnownStands pt.kernel pt.view
   -- what follows a request to move is here on no machine
   pub noted : Away None pt.kernel pt.view

@@ -5,20 +5,20 @@ use Rattle.std.specs.declared.option.Option.{Option}
 use Rattle.std.specs.declared.option.Option.TheVariants.{None, Some}
 use Rattle.dm_link.specs.declared.Area.{Area}
 use Rattle.dm_link.specs.declared.Pid.{Pid}
-use Rattle.dm_link.specs.Names.{pid_eq}
 use Rattle.dm_link.specs.Plain.{PlainLink}
 use Rattle.dm_message.specs.declared.MsgId.{MsgId}
 use Rattle.dm_message.specs.Plain as what
 use Rattle.dm_message.specs.Plain.{PlainMessage, PlainWhat}
 use Rattle.dm_process.specs.declared.process.Direction.{Direction}
 use Rattle.dm_process.specs.declared.process.Direction.TheVariants as direction
-use Rattle.dm_onekernel.specs.Boot.{switchboard, manager}
+use Rattle.dm_onekernel.specs.Boot.{manager}
 use Rattle.dm_onekernel.specs.PlainProcess.{PlainProcess, PlainStatus, Ready, Waiting, Moving}
 use Rattle.dm_onekernel.specs.declared.request.PendingKind.{PendingKind}
 use Rattle.dm_onekernel.specs.declared.request.PendingKind.TheVariants as wanted
 use Rattle.dm_onekernel.specs.Kernel.{Alive, Ended, Life, MoveNote, NamedLink, OneKernel, Pending}
 use Rattle.dm_onekernel.specs.Manager as manage
 use Rattle.dm_onekernel.specs.Pieces.{piece_of}
+pub use Rattle.dm_rule.specs.Trails.{is_server}
 
 -- each element is one of these
 abbrev pub Each : {X : Type 0} → (X → Type 0) → List X → Type 0
@@ -34,9 +34,6 @@ abbrev pub has_bytes : ℕ → Option Life → Bool
 has_bytes n None = false
 has_bytes n (Some (Alive x)) = nat_le n (length x.memory)
 has_bytes n (Some (Ended because)) = true
-
-abbrev pub is_server : Pid → Bool
-is_server p = pid_eq p switchboard || pid_eq p manager
 
 -- user messages are for servers and for processes that were made
 abbrev pub takes_users : Lives → Pid → Bool

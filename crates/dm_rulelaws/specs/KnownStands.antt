@@ -1,5 +1,5 @@
 -- What the lines say of processes, as the kernel without machines has them.
-use Rattle.std.specs.Prelude.{◌≡◌, ◌≢◌, ℕ, ◌+◌, ◌==◌, Bool, true, false, if◌then◌else◌, is_some, List, [], ◌∷◌}
+use Rattle.std.specs.Prelude.{◌≡◌, ◌≢◌, ℕ, ◌+◌, ◌==◌, Bool, true, false, if◌then◌else◌, List, [], ◌∷◌}
 use Rattle.std.specs.declared.option.Option.{Option}
 use Rattle.std.specs.declared.option.Option.TheVariants.{None, Some}
 use Rattle.dm_link.specs.declared.Pid.{Pid}
@@ -8,9 +8,10 @@ use Rattle.dm_onekernel.specs.Kernel.{Life, Alive, Ended, OneKernel}
 use Rattle.dm_rule.specs.View.{View, Known}
 use Rattle.dm_rule.specs.View as view
 use Rattle.dm_rule.specs.Phases.{is_here}
+use Rattle.dm_rule.specs.Trails.{is_alive}
 use Rattle.dm_rulelaws.specs.Fits.{is_server}
 
--- a process that a machine has, expects or holds back is alive, one that has ended there has ended, and one that was sent on from there was made
+-- a process that a machine has, expects or holds back is alive, and one that was sent on from there was made
 abbrev pub agrees : Known → Option Life → Bool
 agrees view.Unknown o = true
 agrees view.Here (Some (Alive x)) = true
@@ -24,9 +25,6 @@ agrees (view.Incoming from) (Some (Ended because)) = false
 agrees (view.Incoming from) None = false
 agrees (view.Forward at moves) (Some life) = true
 agrees (view.Forward at moves) None = false
-agrees view.Ended (Some (Alive x)) = false
-agrees view.Ended (Some (Ended because)) = true
-agrees view.Ended None = false
 
 -- the servers are on machine 0, and never move
 abbrev pub server_at : ℕ → Known
@@ -41,10 +39,10 @@ abbrev pub turns_here : Bool → Known → ℕ
 turns_here true k = 0
 turns_here false k = if is_here k then 1 else 0
 
--- what each machine knows agrees with the kernel without machines; the home of a process that was made knows it; and a process
+-- what each machine knows agrees with the kernel without machines; the home of a process that lives knows it; and a process
 -- stands once in the ring of the machine that has it, and in no other ring
 pub record KnownStands (s : OneKernel) (v : View) : Type 0 where
   pub server : (m : ℕ) (p : Pid) → is_server p ≡ true → v.known m p ≡ server_at m
   pub agree : (m : ℕ) (p : Pid) → is_server p ≡ false → agrees (v.known m p) (s.processes p) ≡ true
-  pub home : (p : Pid) → is_server p ≡ false → is_some (s.processes p) ≡ true → v.known p.home p ≢ view.Unknown
+  pub home : (p : Pid) → is_server p ≡ false → is_alive s p ≡ true → v.known p.home p ≢ view.Unknown
   pub ring : (m : ℕ) (p : Pid) → rings p (v.ring m) ≡ turns_here (is_server p) (v.known m p)

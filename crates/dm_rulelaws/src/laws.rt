@@ -14,14 +14,14 @@ pub fn fits_always()
 {}
 
 /// Wherever the rule leads from a boot file, what each machine knows of processes agrees with the kernel without machines: what it
-/// has, holds back or expects is alive, and what has ended there has ended. The home of a process knows it, and a process stands
-/// once in the ring of the machine that has it, and in no other ring.
+/// has, holds back or expects is alive. The home of a process that lives knows it, and a process stands once in the ring of the machine
+/// that has it, and in no other ring.
 pub fn known_always()
     ensures { KnownAlways }
 {}
 
 /// Wherever the rule leads from a boot file, each message, the kernels' own included, stands where its address leads, and there
-/// its receiver is known: it is here, leaves, comes, has ended, or a forwarding address leads on.
+/// its receiver is known, if it lives: it is here, leaves, comes, or a forwarding address leads on.
 pub fn found_always()
     ensures { FoundAlways }
 {}

@@ -5,7 +5,7 @@ use Rattle.dm_rulelaws.proofs.Fits.Start.{start_fits}
 use Rattle.dm_rulelaws.proofs.RunLabels.{group_replay, replay_fits}
 use Rattle.dm_rulelaws.proofs.Runs.{Based}
 use Rattle.dm_rulelaws.proofs.Based.Constants.{constant_group}
-use Rattle.dm_rulelaws.proofs.Based.Queues.{lists_group, waits_start, waits_group, waits_by, queued_of, held_of}
+use Rattle.dm_rulelaws.proofs.Based.Queues.{lists_start, lists_group, waits_start, waits_group, waits_by, queued_of, held_of}
 use Rattle.dm_rulelaws.proofs.Based.Start.{known_start}
 use Rattle.dm_rulelaws.proofs.Based.Unmoved.{unmoved_group, known_group}
 
@@ -13,7 +13,7 @@ pub based_start : (b : Boot) → IsValid b → Based b (first_point b)
 based_start b valid =
     let phased = phased_start b valid in
     let waits = waits_start b in
-    search (arith, start_fits b valid, queued_of (first_point b) phased waits, held_of (first_point b) waits, known_start b valid, noted_start)
+    search (arith, start_fits b valid, queued_of (first_point b) phased waits, held_of (first_point b) waits, known_start b valid, noted_start, lists_start b)
 
 pub based_group : (b : Boot) (pt : Point) (d : Step) (w : Spelled) → IsStep pt.kernel.machines d → group_of b pt d ≡ Some w → Based b pt → Based b w.point
 based_group b pt d w fit is h =

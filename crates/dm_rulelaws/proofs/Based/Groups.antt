@@ -2,10 +2,11 @@
 use Rattle.dm_rulelaws.proofs.Names.{◌≡◌, ℕ, ◌==◌, Bool, true, false, not, List, [], ◌∷◌, ◌++◌, length, refl, ap, ◌∙◌, sym, subst, Option, None, Some, arith, Pid, MsgId, MessageKind, Stage, Boot, manager, Step, Line, View, Told, Of, Known}
 use Rattle.dm_rulelaws.proofs.Names.{Frozen, Incoming, after_head, Point, moved, Says, Spelled, is_between, is_apart, is_away, is_here, Phase, Moves, knows, receiver_in, to_kernel, sends_on, updates, migrates, group_of, at_record_at}
 use Rattle.dm_rulelaws.proofs.Names.{front_way, Sane, InPhases, calm_phases, due, head_calm, told_some, Rooted, Phased, rooted, moves_away, State, is_server, has_nothing_held, KnownStands, right_true, by_migrates, by_hears, left_parts}
-use Rattle.dm_rulelaws.proofs.Names.{by_net, by_outcome, answers_move, Outcome, calls_off, pulls_piece, TurnsBack, sort_of, inl, inr, Here, Unknown, by_calls_off, server_at, false_from_ne_true, if◌then◌else◌, Part}
+use Rattle.dm_rulelaws.proofs.Names.{by_net, by_outcome, answers_move, Outcome, calls_off, pulls_piece, TurnsBack, sort_of, inl, inr, Here, Unknown, by_calls_off, server_at, false_from_ne_true, if◌then◌else◌, Part, about_same, agrees}
+use Rattle.dm_rulelaws.proofs.Names.{buries, bury_over, is_some, preds_of, turn_off, Ended, Made, Why, OneKernel, begun_state}
 use Rattle.dm_rule.specs.Rule as rule
-use Rattle.dm_rulelaws.proofs.Based.Needs.{Leaving, Calling, Keeps, Walks, WalksOf, AllLoose, loose_walks, first_walks, said_by, again_rides, begun, begun_sane, outcome_keeps}
-use Rattle.dm_rulelaws.proofs.Based.Rows.{walks_of, known_living, turned, resting, living, round_walks, handles_walks, forwards_walks}
+use Rattle.dm_rulelaws.proofs.Based.Needs.{Buries, TellsEnd, life_sort, Leaving, Calling, Keeps, Walks, WalksOf, AllLoose, loose_walks, first_walks, said_by, again_rides, begun, begun_sane, outcome_keeps}
+use Rattle.dm_rulelaws.proofs.Based.Rows.{buries_loose, made_server, walks_of, known_living, turned, resting, living, round_walks, handles_walks, forwards_walks}
 
 again_walks : (p : Pid) (to : ℕ) (id : MsgId) (ids : List MsgId) (pt : Point) → Leaving pt.view p → Walks pt (sends_on to ids ++ Says (Line.Migration Stage.Left p) ∷ to_kernel MessageKind.Restart id.from.home ∷ [])
 again_walks p to id [] pt h = first_walks (Says (Line.Migration Stage.Left p)) (to_kernel MessageKind.Restart id.from.home ∷ []) pt h (λ q. tt, tt)
@@ -66,6 +67,13 @@ moving pt i is t p h front told about fresh =
           not_here u.k u.s u.d v.acting (Some i) (v.known v.acting p) (ap (λ (x : Phase). knows x v.acting (v.known v.acting p)) (sym f.0) ∙ (h.each p).known v.acting));
     }
 
+-- the message at the front is the one that was told of
+pub buries_here : (o : Point) (m : ℕ) (i : MsgId) (t : Told) (p : Pid) → o.view.told i ≡ Some t → Buries o.kernel o.view p → t.about ≡ Of p → TellsEnd (turned o m).kernel (turned o m).view i
+buries_here o m i t p told h about u q is of =
+    let f : Some t ≡ Some u = sym told ∙ is in
+    let same : t ≡ u = cc in
+    subst (Buries (turned o m).kernel (turned o m).view) (about_same p q (sym about ∙ ap (λ (x : Told). x.about) same ∙ of)) (record { over = h.over; away = h.away; server = h.server })
+
 -- all that stands where a turn begins
 pub record Begins (o : Point) (m : ℕ) : Type 0 where
   pub sane : Sane (turned o m)
@@ -73,6 +81,7 @@ pub record Begins (o : Point) (m : ℕ) : Type 0 where
   pub known : KnownStands o.kernel o.view
   pub rooted : Rooted o
   pub state : State None (turned o m)
+  pub over : (i : MsgId) (is : List MsgId) (t : Told) (p : Pid) → o.view.inbox m ≡ i ∷ is → o.view.told i ≡ Some t → t.about ≡ Of p → t.kind ≡ MessageKind.Bury → Buries o.kernel o.view p
 
 hears_walks : (b : Boot) (o : Point) (m : ℕ) (i : MsgId) (is : List MsgId) (q : Option Told) → Begins o m → o.view.inbox m ≡ i ∷ is → o.view.told i ≡ q → WalksOf (turned o m) (rule.hears b o m i q)
 hears_walks b o m i is q h front told = walks_of (turned o m) (rule.hears b o m i q) (λ ps. by_hears (Walks (turned o m)) b o m i q ps (λ t there. (
@@ -81,6 +90,7 @@ hears_walks b o m i is q h front told = walks_of (turned o m) (rule.hears b o m 
     let held : (k : Known) → o.view.known m t.receiver ≡ k → has_nothing_held k ≡ false → Walks pt (Says (Line.Held i) ∷ []) =
     λ k known none. first_walks (Says (Line.Held i)) [] pt (held_own pt i t found (ap has_nothing_held known ∙ none)) tt in
     record {
+      buried = λ p about kind. first_walks (Says (Line.Buried i (length (preds_of o m p)))) (buries o m p) pt (buries_here o m i t p found (h.over i is t p front found about kind) about) (buries_loose (preds_of o m p));
       stale = λ p about late. loose_walks (Says (Line.Stale i) ∷ []) pt (λ q. tt, tt);
       told = λ p x about alive due_. (
           let lived = living pt p x h.sane alive in
@@ -134,8 +144,24 @@ calls_walks pt m p known =
     first_walks (Says (Line.Called p (length ids))) (sends_on from ids ++ end) start calling (sends_loose from ids end (λ q. tt, tt))
     ))
 
+-- a message that tells of an end tells of one that has ended: no machine has it
+over_away : (s : OneKernel) (v : View) (p : Pid) (y : Why) → KnownStands s v → s.processes p ≡ Some (Ended y) → Made s → Buries s v p
+over_away s v p y h over made =
+    let server : is_server p ≡ false = made_server s p made (ap is_some over) in
+    record { over = ap life_sort over; away = λ n. away_by (v.known n p) (sym (ap (agrees (v.known n p)) over) ∙ h.agree n p server); server = server }
+  where
+    away_by : (k : Known) → agrees k (Some (Ended y)) ≡ true → is_away k ≡ true
+    away_by k e = search arith
+
 pub begins : (o : Point) (m : ℕ) → Phased o → KnownStands o.kernel o.view → Begins o m
-begins o m h known = search (arith, begun_sane o (Step.Turn m) h.sane, calm_phases o.view (after_head o.view (Step.Turn m)) (head_calm o.view (Step.Turn m)) h.phases, rooted o h.sane h.ground, h.state)
+begins o m h known = record {
+  sane = begun_sane o (Step.Turn m) h.sane;
+  phases = calm_phases o.view (after_head o.view (Step.Turn m)) (head_calm o.view (Step.Turn m)) h.phases;
+  known = known;
+  rooted = rooted o h.sane h.ground;
+  state = begun_state o (Step.Turn m) h.state (λ z. turn_off o.view m z) (λ i. refl);
+  over = λ i is t p front told about kind. let (y, over) = bury_over o i t p h told kind about in over_away o.kernel o.view p y known over h.sane.sound.made;
+}
 
 outcome_walks : (b : Boot) (pt : Point) (d : Step) → Phased pt → KnownStands pt.kernel pt.view → WalksOf (begun pt d) (rule.outcome b pt d)
 outcome_walks b pt d h known = walks_of (begun pt d) (rule.outcome b pt d) (λ ps. by_outcome (λ x. Walks (begun pt x)) b pt d ps (record {

@@ -1,26 +1,41 @@
 -- Most lines change nothing of what machines know, of rings, queues and held lists: what must be shown of the others.
 use Rattle.dm_rulelaws.proofs.Names.{◌≡◌, ℕ, ◌+◌, ◌==◌, true, false, not, filter, refl, subst, Option, None, Some, Pid, MsgId, Step, Stage, Label, Reply, Why, OneKernel, Line, View, Told, About, Here, view_after, handled, receiver_of}
 use Rattle.dm_rulelaws.proofs.Names.{is_away, is_here, Point, label_of, kernel_after, moved, hushed, Sane, has_nothing_held, Bool, ap, ◌∙◌, sym, inl, inr, if◌then◌else◌, cases_Bool, false≢true, pid_eq, plain_kind, PlainMessage, PlainWhat}
-use Rattle.dm_rulelaws.proofs.Names.{Alive, Ended, Life, PlainProcess, answer_to, without_message, begun, pid_eq-is, pid_eq-same, is_kill, take, drop, by_step, is_some, seen, arith}
+use Rattle.dm_rulelaws.proofs.Names.{Alive, Ended, Life, PlainProcess, answer_to, without_message, begun, pid_eq-is, pid_eq-same, is_kill, take, drop, by_step, is_some, seen, arith, LifeGrows}
 use Rattle.dm_rule.proofs.Changes.{Lives}
-use Rattle.dm_rulelaws.proofs.Based.Needs.{Resting, Serves, Unborn, Living, Queues, Leaving, Calling, Needs, Rides, Keeps}
+use Rattle.dm_rulelaws.proofs.Based.Needs.{Resting, Serves, Unborn, Living, Queues, Leaving, Calling, Needs, Rides, Keeps, TellsEnd}
+pub use Rattle.dm_rulelaws.proofs.Based.Needs.{life_sort, is_over}
 use Rattle.dm_onekernel.specs.Step as kernel
 use Rattle.dm_rule.specs.View as view
 use Rattle.dm_onekernel.specs.Kernel as kernels
 use Rattle.dm_onekernel.specs.Pieces as pieces
 use Rattle.dm_onekernel.specs.Service as service
 
--- nobody was made, alive or ended
-abbrev pub life_sort : Option Life → Option Bool
-life_sort None = None
-life_sort (Some (Alive x)) = Some true
-life_sort (Some (Ended y)) = Some false
-
 abbrev pub Alike : OneKernel → OneKernel → Type 0
 Alike s t = (q : Pid) → life_sort (t.processes q) ≡ life_sort (s.processes q)
 
 pub some_alike : (a b : Option Life) → life_sort a ≡ life_sort b → is_some a ≡ is_some b
 some_alike a b e = search arith
+
+pub over_alike : (a b : Option Life) → life_sort a ≡ life_sort b → is_over a ≡ is_over b
+over_alike a b e = search arith
+
+pub over_is : (o : Option Life) → life_sort o ≡ Some false → is_over o ≡ true
+over_is o e = search arith
+
+-- what has ended stays so
+pub ended_stays : (a b : Option Life) → LifeGrows a b → life_sort a ≡ Some false → life_sort b ≡ Some false
+ended_stays None b grows e = cc
+ended_stays (Some (Alive x)) b grows e = cc
+ended_stays (Some (Ended y)) b grows e = ap life_sort grows
+
+pub stays_over : (a b : Option Life) → LifeGrows a b → is_over a ≡ true → is_over b ≡ true
+stays_over None b grows e = absurd (false≢true e)
+stays_over (Some (Alive x)) b grows e = absurd (false≢true e)
+stays_over (Some (Ended y)) b grows e = ap is_over grows
+
+pub living_alike : (a b : Option Life) → life_sort a ≡ life_sort b → is_some (kernel.alive a) ≡ is_some (kernel.alive b)
+living_alike a b e = search arith
 
 -- one life is set, and the others stay
 pub record SetLife (s t : OneKernel) (p : Pid) (sort : Option Bool) : Type 0 where
@@ -177,6 +192,7 @@ pub record Loud (P : Point → Type 0) : Type 0 where
   pub stays_ : (pt : Point) (p : Pid) → Living pt.kernel p → is_here (pt.view.known pt.view.acting p) ≡ false → P pt → P (moved pt (Line.Stays p) pt.kernel)
   pub sent_on : (pt : Point) (p : Pid) (n : ℕ) → P pt → P (moved pt (Line.SentOn p n) pt.kernel)
   pub called : (pt : Point) (p : Pid) (n : ℕ) → Calling pt.view p → P pt → P (moved pt (Line.Called p n) pt.kernel)
+  pub buried : (pt : Point) (id : MsgId) (n : ℕ) → TellsEnd pt.kernel pt.view id → Sane pt → P pt → P (moved pt (Line.Buried id n) pt.kernel)
 
 -- a line that is no step
 unmoved_kernel : (P : Point → Type 0) (pt : Point) (t : OneKernel) (l : Line) → Some pt.kernel ≡ Some t → P (moved pt l pt.kernel) → P (moved pt l t)
@@ -225,6 +241,7 @@ line_keeps P loud pt t (Line.Migration Stage.Restarted p) need sane is h = unmov
 line_keeps P loud pt t (Line.Stays p) need sane is h = unmoved_kernel P pt t (Line.Stays p) is (loud.stays_ pt p need.0 need.1 h)
 line_keeps P loud pt t (Line.SentOn p n) need sane is h = unmoved_kernel P pt t (Line.SentOn p n) is (loud.sent_on pt p n h)
 line_keeps P loud pt t (Line.Called p n) need sane is h = unmoved_kernel P pt t (Line.Called p n) is (loud.called pt p n need h)
+line_keeps P loud pt t (Line.Buried id n) need sane is h = unmoved_kernel P pt t (Line.Buried id n) is (loud.buried pt id n need sane h)
 line_keeps P loud pt t any_ need sane is h = unmoved_kernel P pt t any_ is (quiet_line P loud pt any_ refl (record { known = refl; ring = refl; queue = refl; held = refl; moves = refl }) refl sane h)
 
 pub keeps_by : (P : Point → Type 0) → Loud P → Keeps P

@@ -1,8 +1,19 @@
 -- What a line of a group needs, so that each line keeps what is known of processes; and a walk over a group's parts.
-use Rattle.dm_rulelaws.proofs.Names.{◌≡◌, ℕ, ◌==◌, Bool, true, false, List, [], ◌∷◌, length, refl, ap, ◌∙◌, subst, ⊤, if◌then◌else◌, Option, None, Some, Pid, MsgId, MessageKind, Stage, plain_kind, Boot, Label, PlainProcess, Alive}
+use Rattle.dm_rulelaws.proofs.Names.{◌≡◌, ℕ, ◌==◌, Bool, true, false, List, [], ◌∷◌, length, refl, ap, ◌∙◌, subst, ⊤, if◌then◌else◌, Option, None, Some, Pid, MsgId, MessageKind, Stage, plain_kind, Boot, Label, PlainProcess, Alive, Ended, Life, Of}
 use Rattle.dm_rulelaws.proofs.Names.{OneKernel, bind-is, Step, Line, Load, View, Told, Unknown, Here, Frozen, Incoming, is_kernels, own_id, Receiver, Point, label_of, kernel_after, moved, after_line, after, Part, Says, Routes, Again, Owns, Transmits}
 use Rattle.dm_rulelaws.proofs.Names.{Spelled, lines_of, puts, goes_out, packet_line, spelled, is_away, is_here, group_of, group_is, is_kill, Sane, AllSayable, sane_line, part_sane, outcome_sayable, is_server, has_nothing_held, by_parts}
 use Rattle.dm_rule.specs.Rule as rule
+
+-- nobody was made, alive or ended
+abbrev pub life_sort : Option Life → Option Bool
+life_sort None = None
+life_sort (Some (Alive x)) = Some true
+life_sort (Some (Ended y)) = Some false
+
+abbrev pub is_over : Option Life → Bool
+is_over None = false
+is_over (Some (Alive x)) = false
+is_over (Some (Ended y)) = true
 
 -- a process is here, and away from every other machine
 pub record Resting (v : View) (p : Pid) : Type 0 where
@@ -46,6 +57,16 @@ pub record Calling (v : View) (p : Pid) : Type 0 where
   pub comes : v.known v.acting p ≡ Incoming from
   pub server : is_server p ≡ false
 
+-- a process has ended, and no machine has it
+pub record Buries (s : OneKernel) (v : View) (p : Pid) : Type 0 where
+  pub over : life_sort (s.processes p) ≡ Some false
+  pub away : (n : ℕ) → is_away (v.known n p) ≡ true
+  pub server : is_server p ≡ false
+
+-- a message tells of the end of a process
+abbrev pub TellsEnd : OneKernel → View → MsgId → Type 0
+TellsEnd s v id = (t : Told) (p : Pid) → v.told id ≡ Some t → t.about ≡ Of p → Buries s v p
+
 abbrev pub NeedsLabel : Point → Label → Type 0
 NeedsLabel pt (Label.Ran p k) = pt.view.known pt.view.acting p ≡ Here
 NeedsLabel pt (Label.End p y) = Resting pt.view p
@@ -69,6 +90,7 @@ Needs pt (Line.Migration Stage.MemoryTaken p) = ⊤
 Needs pt (Line.Migration Stage.Left p) = Leaving pt.view p
 Needs pt (Line.Migration Stage.Restarted p) = Living pt.kernel p × (is_here (pt.view.known pt.view.acting p) ≡ false)
 Needs pt (Line.Called p n) = Calling pt.view p
+Needs pt (Line.Buried id n) = TellsEnd pt.kernel pt.view id
 Needs pt (Line.Stays p) = Living pt.kernel p × (is_here (pt.view.known pt.view.acting p) ≡ false)
 Needs pt _ = ⊤
 

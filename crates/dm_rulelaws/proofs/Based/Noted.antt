@@ -4,7 +4,7 @@ use Rattle.dm_rulelaws.proofs.Names.{None, Some, Pid, pid_of, pid_eq, MsgId, Mes
 use Rattle.dm_rulelaws.proofs.Names.{Here, Frozen, Incoming, front_of, gone_to, handled, receiver_of, oldest, view_after, is_here, is_away, at_record, Point, label_of, kernel_after, after_line, after, moved, Part, Says, Routes, Spelled}
 use Rattle.dm_rulelaws.proofs.Names.{lines_of, puts, behind, spelled, group_of, group_is, sends_on, to_kernel, IsNetLine, queued_known, held_known, dropped_known, forwarded_known, proto_known, by_step, by_parts, by_outcome, by_round}
 use Rattle.dm_rulelaws.proofs.Names.{ends_move-is, by_handles, by_hears, by_net, by_migrates, by_forwards, Phased, KnownStands, pid_eq-is, pid_eq-same, left_parts, served_told, migrates, filter, not, ◌+◌, answers_move, leaves_for, aim}
-use Rattle.dm_rulelaws.proofs.Names.{sets, arith, calls_off, by_calls_off}
+use Rattle.dm_rulelaws.proofs.Names.{sets, arith, calls_off, by_calls_off, ◌||◌, buries, ends_with, is_server, length, map, preds_of, Life, Unknown}
 use Rattle.dm_onekernel.specs.Pieces as pieces
 use Rattle.dm_onekernel.specs.Step as kernel
 use Rattle.dm_rule.specs.Rule as rule
@@ -75,6 +75,14 @@ back_here k n h1 = search arith
 served_here : (v : View) (o : Option Told) (m : ℕ) (q : Pid) → is_here ((served_told v o).known m q) ≡ true → is_here (v.known m q) ≡ true
 served_here v o m q h1 = search (arith, killed_or, v.known, set_here)
 
+buried_here : (v : View) (o : Option Told) (m : ℕ) (q : Pid) → is_here ((view.buried_for v o).known m q) ≡ true → is_here (v.known m q) ≡ true
+buried_here v None m q e = e
+buried_here v (Some t) m q e = by t.about e
+  where
+    by : (a : view.About) → is_here ((view.forgotten v a).known m q) ≡ true → is_here (v.known m q) ≡ true
+    by (view.Of p) e_ = set_here v (view.forgotten v (view.Of p)) p Unknown refl (λ f. absurd (false≢true f)) m q e_
+    by _ e_ = e_
+
 taken_here : (v : View) (b : ℕ) (o : Option MsgId) (m : ℕ) (p : Pid) → (view.taken_id v b o).known m p ≡ v.known m p
 taken_here v b o m p = search arith
 
@@ -95,6 +103,7 @@ line_here v (Line.Taken a b n) calm =
 line_here v (Line.Migration Stage.Frozen p) calm = let set = sets v p v.topic in set_here v (view_after v (Line.Migration Stage.Frozen p)) p (Frozen (aim v v.topic)) set.known (λ e. absurd (false≢true e))
 line_here v (Line.Migration Stage.Accepted p) calm = set_here v (view_after v (Line.Migration Stage.Accepted p)) p (Incoming (front_of (v.inbox v.acting))) refl (λ e. absurd (false≢true e))
 line_here v (Line.Migration Stage.Left p) calm = set_here v (view_after v (Line.Migration Stage.Left p)) p (gone_to (v.known v.acting p) (v.moves p + 1)) refl (gone_here (v.known v.acting p) (v.moves p + 1))
+line_here v (Line.Buried i n) calm = buried_here (handled v i) (v.told i)
 line_here v (Line.Called p n) calm = set_here v (view_after v (Line.Called p n)) p (view.goes_back (v.known v.acting p) (v.moves p)) refl (back_here (v.known v.acting p) (v.moves p))
 line_here v (Line.Migration Stage.Restarted p) calm = absurd calm
 line_here v (Line.Stays p) calm = absurd calm
@@ -249,10 +258,20 @@ sets_keeps pt id m to there rests w is h =
     let on = leaves_away mid m.to (record { here = rests.here; away = rests.away }) (asked_away pt g.kernel id m there g.step h) in
     subst (At None) (k.point ∙ g.point) (parts_away None ps (moved mid f k.kernel) k.rest (tt, (tt, tt)) k.is (subst (λ (u : OneKernel). At None (moved mid f u)) same on))
 
+or_true : (c : Bool) → (c || true) ≡ true
+or_true c = search arith
+
 -- rows of a turn
-drops_calm : (ids : List MsgId) → AllCalm (rule.drop_parts ids)
-drops_calm [] = tt
-drops_calm (i ∷ is) = (tt, drops_calm is)
+drops_calm : (ids : List MsgId) (ps : List Part) → AllCalm ps → AllCalm (rule.drop_parts ids ++ ps)
+drops_calm [] ps h = h
+drops_calm (i ∷ is) ps h = (tt, drops_calm is ps h)
+
+buries_calm : (ms : List ℕ) → AllCalm (map (to_kernel MessageKind.Bury) ms)
+buries_calm [] = tt
+buries_calm (m ∷ ms) = (tt, buries_calm ms)
+
+ends_calm : (o : Point) (m : ℕ) (p : Pid) → AllCalm (ends_with o m p)
+ends_calm o m p = drops_calm (o.view.queue m p) (buries o m p) (buries_calm (preds_of o m p))
 
 routes_calm : (o : Option PlainMessage) → AllCalm (rule.routes o)
 routes_calm o = search arith
@@ -261,7 +280,14 @@ round_calm : (b : Boot) (o : Point) (m : ℕ) (q : Option Pid) (ps : List Part) 
 round_calm b o m q ps = by_round AllCalm b o m q ps (tt, tt) (λ p x is alive. record {
   runs = λ k rest stops. (
     tt,
-    stops AllCalm (search (arith, drops_calm)),
+    stops AllCalm (record {
+      over = tt;
+      replies = λ n r. (tt, tt);
+      sends = λ id. (tt, (tt, tt));
+      waits = (tt, tt);
+      outputs = λ word. (tt, tt);
+      ends = λ y. (tt, ends_calm o m p);
+    }),
   );
   takes = λ mask id first. (tt, tt);
   refuses = λ id r. (tt, tt);
@@ -279,13 +305,13 @@ handles_keeps b o m id msg ps begins there =
           (let child = pid_of m (first_number + o.kernel.made m) in
           let born = unborn o m begins.rooted in
           comes_keeps pt (Line.Label (Label.Created id child)) child (Routes (pieces.answer_id id) ∷ []) refl (λ t step. step_notes pt.kernel t (Label.Created id child) step)
-          (λ n noted. (let (x, alive) = begins.sane.sound.notes.lives child n noted in begins.known.home child born.server (ap is_some alive) (born.unknown child.home))) (tt, tt));
+          (λ n noted. (let (x, alive) = begins.sane.sound.notes.lives child n noted in begins.known.home child born.server (ap (λ (c : Bool). is_server child || c) (ap (λ (l : Option Life). is_some (kernel.alive l)) alive) ∙ or_true (is_server child)) (born.unknown child.home))) (tt, tt));
       no_space = λ fixed slots blocks. calm (rule.says (Label.NoSpace id slots blocks) ∷ Routes (pieces.answer_id id) ∷ []) (tt, (tt, tt));
       took = λ fixed sent. calm (rule.says (Label.Took id) ∷ rule.routes sent) (tt, routes_calm sent);
       queued = λ to user. calm (Says (Line.Queued id) ∷ []) (tt, tt);
       served = λ to mild. calm (rule.says (Label.Served id) ∷ []) (tt, tt);
       answers = λ to mild i. calm (rule.says (Label.Served id) ∷ Routes i ∷ []) (tt, (tt, tt));
-      kills = λ to kills. calm (rule.says (Label.Served id) ∷ rule.drop_parts (o.view.queue m msg.to)) (tt, drops_calm (o.view.queue m msg.to));
+      kills = λ to kills. calm (rule.says (Label.Served id) ∷ ends_with o m msg.to) (tt, ends_calm o m msg.to);
       moved = λ to what. moved_keeps pt id msg there;
       sets_off = λ x to what apart. sets_keeps pt id msg x there (resting pt.view msg.to begins.phases to.known);
       gone = λ to. calm (rule.says (Label.Gone id) ∷ Routes (pieces.answer_id id) ∷ []) (tt, (tt, tt));
@@ -304,6 +330,7 @@ hears_keeps b o m i q ps begins =
     let pt = turned o m in
     let calm : (qs : List Part) → AllCalm qs → Keeps pt qs = λ qs c. calm_keeps pt qs c in
     by_hears (Keeps pt) b o m i q ps (λ t there. record {
+      buried = λ p about kind. calm (Says (Line.Buried i (length (preds_of o m p))) ∷ buries o m p) (tt, buries_calm (preds_of o m p));
       stale = λ p about late. calm (Says (Line.Stale i) ∷ []) (tt, tt);
       told = λ p x about alive due. record {
         accepted = λ ask. calm (Says (Line.Migration Stage.Accepted p) ∷ to_kernel MessageKind.PullState i.from.home ∷ []) (tt, (tt, tt));

@@ -1,7 +1,8 @@
 -- What a turn says of a message of the bag, and of a process that is served, has what its lines need.
 use Rattle.dm_rulelaws.proofs.Names.{◌≡◌, ℕ, ◌+◌, ◌==◌, Bool, true, false, List, [], ◌∷◌, ap, ◌∙◌, sym, subst, if◌then◌else◌, Option, Some, arith, Pid, pid_of, MsgId, MessageKind, Label, Step, Line, plain_kind, PlainMessage, Boot}
 use Rattle.dm_rulelaws.proofs.Names.{first_number, PlainProcess, not_server, alive-is, View, Told, Known, Here, Addresses, Point, moved, Part, Says, Routes, is_away, is_here, Phase, Rests, knows, forwards_on, not_kernels, Sane, InPhases}
-use Rattle.dm_rulelaws.proofs.Names.{rests_here, Rooted, has_nothing_held, Stops, by_round, by_handles, by_forwards, answers_move, leaves_for, Outcome, OneKernel, KnownStands, is_server}
+use Rattle.dm_rulelaws.proofs.Names.{rests_here, Rooted, has_nothing_held, Stops, by_round, by_handles, by_forwards, answers_move, leaves_for, Outcome, OneKernel, KnownStands, is_server, ◌++◌, ◌||◌, map, to_kernel, buries, ends_with}
+use Rattle.dm_rulelaws.proofs.Names.{is_some, manager, nat_tests, pid_eq, preds_of, switchboard, Made}
 use Rattle.dm_onekernel.specs.Pieces as pieces
 use Rattle.dm_onekernel.specs.Step as kernel
 use Rattle.dm_rule.specs.Rule as rule
@@ -26,16 +27,38 @@ resting v p h here =
 pub living : (pt : Point) (p : Pid) (x : PlainProcess) → Sane pt → kernel.alive (pt.kernel.processes p) ≡ Some x → Living pt.kernel p
 living pt p x h e = search (arith, pt.kernel.processes, alive-is, not_server, pt.kernel, h.sound.made)
 
+pub made_server : (s : OneKernel) (p : Pid) → Made s → is_some (s.processes p) ≡ true → is_server p ≡ false
+made_server s p made some =
+    let least = made.least p some in
+    let e : pid_eq p switchboard ≡ false = grind (arith, nat_tests) in
+    let d : pid_eq p manager ≡ false = grind (arith, nat_tests) in
+    ap (λ (c : Bool). c || pid_eq p manager) e ∙ d
+
 pub walks_of : (pt : Point) (x : Option (List Part)) → ((ps : List Part) → x ≡ Some ps → Walks pt ps) → WalksOf pt x
 walks_of pt x h1 = search arith
 
 -- a process is served
-drops_loose : (ids : List MsgId) → AllLoose (rule.drop_parts ids)
-drops_loose [] = tt
-drops_loose (i ∷ is) = (λ pt. tt, drops_loose is)
+drops_loose : (ids : List MsgId) (ps : List Part) → AllLoose ps → AllLoose (rule.drop_parts ids ++ ps)
+drops_loose [] ps h = h
+drops_loose (i ∷ is) ps h = (λ pt. tt, drops_loose is ps h)
 
-runs_stops : (pt : Point) (p : Pid) (queue : List MsgId) → Resting pt.view p → Stops (Walks pt) p queue
-runs_stops pt p queue h = search (arith, loose_walks, first_walks, drops_loose)
+pub buries_loose : (ms : List ℕ) → AllLoose (map (to_kernel MessageKind.Bury) ms)
+buries_loose [] = tt
+buries_loose (m ∷ ms) = (λ pt. tt, buries_loose ms)
+
+-- what follows an end
+ends_loose : (o : Point) (m : ℕ) (p : Pid) → AllLoose (ends_with o m p)
+ends_loose o m p = drops_loose (o.view.queue m p) (buries o m p) (buries_loose (preds_of o m p))
+
+runs_stops : (pt : Point) (p : Pid) (after : List Part) → AllLoose after → Resting pt.view p → Stops (Walks pt) p after
+runs_stops pt p after loose h = record {
+  over = tt;
+  replies = λ n r. loose_walks (rule.says (Label.Call p n r) ∷ []) pt (λ q. tt, tt);
+  sends = λ id. loose_walks (rule.says (Label.Send p id) ∷ Routes id ∷ []) pt (λ q. tt, (λ q. tt, tt));
+  waits = loose_walks (rule.says (Label.Wait p) ∷ []) pt (λ q. tt, tt);
+  outputs = λ word. loose_walks (rule.says (Label.Out p word) ∷ []) pt (λ q. tt, tt);
+  ends = λ y. first_walks (rule.says (Label.End p y)) after pt h loose;
+}
 
 pub round_walks : (pt : Point) (b : Boot) (o : Point) (m : ℕ) (q : Option Pid) → ((p : Pid) → q ≡ Some p → Resting pt.view p) → WalksOf pt (rule.goes_round b o m q)
 round_walks pt b o m q h = walks_of pt (rule.goes_round b o m q) (λ ps. by_round (Walks pt) b o m q ps (loose_walks (Says (Line.Idle m) ∷ []) pt (λ q. tt, tt)) (λ p x is alive. (
@@ -46,7 +69,7 @@ round_walks pt b o m q h = walks_of pt (rule.goes_round b o m q) (λ ps. by_roun
         (λ next s.
             let g = said_by pt next (Line.Label (Label.Ran p k)) s in
             let mid = moved pt (Line.Label (Label.Ran p k)) g.kernel in
-            subst (λ (z : Point). Walks z rest) g.is (stops (Walks mid) (runs_stops mid p (o.view.queue m p) (record { here = rests.here; away = rests.away })))),
+            subst (λ (z : Point). Walks z rest) g.is (stops (Walks mid) (runs_stops mid p (ends_with o m p) (ends_loose o m p) (record { here = rests.here; away = rests.away })))),
       );
       takes = λ mask id first. first_walks (rule.says (Label.Receive p id)) [] pt rests.here tt;
       refuses = λ id r. first_walks (rule.says (Label.Refuse p id r)) [] pt rests.here tt;
@@ -99,7 +122,7 @@ handles_walks b o m id msg sane phases rooted known f =
       queued = λ to user. first_walks (Says (Line.Queued id)) [] pt (front_queues pt id msg sane f user to.known) tt;
       served = λ to mild. first_walks (rule.says (Label.Served id)) [] pt (front_serves pt id msg sane phases f to.known) tt;
       answers = λ to mild i. first_walks (rule.says (Label.Served id)) (Routes i ∷ []) pt (front_serves pt id msg sane phases f to.known) (λ q. tt, tt);
-      kills = λ to kills. first_walks (rule.says (Label.Served id)) (rule.drop_parts (o.view.queue m msg.to)) pt (front_serves pt id msg sane phases f to.known) (drops_loose (o.view.queue m msg.to));
+      kills = λ to kills. first_walks (rule.says (Label.Served id)) (ends_with o m msg.to) pt (front_serves pt id msg sane phases f to.known) (ends_loose o m msg.to);
       moved = λ to what. loose_walks (rule.says (Label.Asked id) ∷ answers_move id Outcome.Done) pt (λ q. tt, (λ q. tt, (λ q. tt, tt)));
       sets_off = λ n to what apart. asks_walks pt msg.to id n (known_living o.kernel o.view m msg.to known to.process to.known) to.known;
       gone = λ to. loose_walks (rule.says (Label.Gone id) ∷ Routes (pieces.answer_id id) ∷ []) pt (λ q. tt, (λ q. tt, tt));

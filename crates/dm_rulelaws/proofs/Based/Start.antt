@@ -2,6 +2,7 @@
 use Rattle.dm_rulelaws.proofs.Names.{◌≡◌, ℕ, ◌+◌, ◌==◌, ◌&&◌, ◌||◌, Bool, true, false, List, [], ◌∷◌, ◌++◌, map, refl, ap, ◌∙◌, sym, ◌≢◌, is_some, nat_lt, inl, inr, arith, if◌then◌else◌, slice_get, option_map, Option, None, Some}
 use Rattle.dm_rulelaws.proofs.Names.{cases_Bool, false≢true, nat_tests, Pid, pid_eq, plain_link, BootImage, BootProcess, Boot, IsValid, switchboard, manager, starting_at, processes_are_valid, Life, Alive, begun, first_life, life_at}
 use Rattle.dm_rulelaws.proofs.Names.{pid_eq-is, pid_eq-same, pid_eq-swap, first_point, Known, known_at, ring_at, is_server, KnownStands, agrees, server_at, rings, turns_here, eq_self}
+use Rattle.dm_onekernel.specs.Step as kernel
 use Rattle.dm_rulelaws.proofs.Fits.Rises.{both}
 use Rattle.dm_rulelaws.proofs.Fits.Start.{get_some}
 
@@ -12,7 +13,7 @@ one_if c = if c then 1 else 0
 abbrev pub known_of_life : Option Life → Known
 known_of_life None = Known.Unknown
 known_of_life (Some (Alive x)) = Known.Here
-known_of_life (Some (Life.Ended y)) = Known.Ended
+known_of_life (Some (Life.Ended y)) = Known.Unknown
 
 abbrev is_alive : Option Life → Bool
 is_alive (Some (Alive x)) = true
@@ -149,14 +150,16 @@ ring_by b m q false valid e =
 agrees_first : (c : Bool) (o : Option Life) → agrees (if c then known_of_life o else Known.Unknown) o ≡ true
 agrees_first c o = search arith
 
-some_first : (o : Option Life) → is_some o ≡ true → known_of_life o ≢ Known.Unknown
-some_first o h1 = search arith
+some_first : (o : Option Life) → is_some (kernel.alive o) ≡ true → known_of_life o ≢ Known.Unknown
+some_first (Some (Alive x)) lives e = cc
+some_first (Some (Life.Ended y)) lives e = false≢true lives
+some_first None lives e = false≢true lives
 
 pub known_start : (b : Boot) → IsValid b → KnownStands (first_point b).kernel (first_point b).view
 known_start b valid = record {
   server = λ m q e. server_first b m q valid e;
   agree = λ m q e. ap (λ (k : Known). agrees k (life_at b b.processes q)) (is_first b m q false valid e) ∙ agrees_first (q.home == m) (life_at b b.processes q);
-  home = λ q e some unknown. some_first (life_at b b.processes q) some
+  home = λ q e lives unknown. some_first (life_at b b.processes q) (sym (ap (λ (c : Bool). c || is_some (kernel.alive (life_at b b.processes q))) e) ∙ lives)
       (sym (is_first b q.home q false valid e ∙ ap (λ (c : Bool). if c then known_of_life (life_at b b.processes q) else Known.Unknown) (eq_self q.home)) ∙ unknown);
   ring = λ m q. ring_by b m q (is_server q) valid refl;
 }

@@ -1,15 +1,14 @@
 -- What was never made has never moved: each group keeps it.
 use Rattle.dm_rulelaws.proofs.Names.{sets, ◌≡◌, ℕ, ◌+◌, Bool, refl, ap, ◌∙◌, sym, subst, inl, inr, if◌then◌else◌, cases_Bool, Option, None, Some, Pid, pid_eq, MsgId, Boot, Label, Line, Stage, PlainProcess, Alive, OneKernel, Step, pid_eq-is}
 use Rattle.dm_rulelaws.proofs.Names.{after_step, Spelled, Point, kernel_after, label_of, group_of, View, Told, handled, receiver_of, served_told, view_after, Kept, grown_none, Phased, Sane, KnownStands, ◌≢◌, ◌==◌, ◌&&◌, true, false, List}
-use Rattle.dm_rulelaws.proofs.Names.{[], ◌∷◌, ◌++◌, is_some, arith, false≢true, nat_tests, Life, bind-is, completing, at_machine, at_record, without, moved_back, Known, Unknown, Here, Frozen, Incoming, Forward, handled_first, front_of}
-use Rattle.dm_rulelaws.proofs.Names.{gone_to, rejoins, is_away, is_here, at_machine_at, is_kill, is_server, agrees, server_at, rings, turns_here, aim, at_hand-is, goes_back}
-use Rattle.dm_rule.specs.View.{Ended}
+use Rattle.dm_rulelaws.proofs.Names.{[], ◌∷◌, ◌++◌, is_some, arith, false≢true, nat_tests, Life, bind-is, completing, at_machine, at_record, without, moved_back, Known, Unknown, Here, Frozen, Incoming, Forward, front_of, gone_to, is_away}
+use Rattle.dm_rulelaws.proofs.Names.{is_here, at_machine_at, is_kill, is_server, agrees, server_at, rings, turns_here, aim, at_hand-is, goes_back, is_alive, plain_kind, ◌||◌}
 use Rattle.dm_onekernel.specs.Step as kernel
 use Rattle.dm_rule.specs.View as view
 use Rattle.dm_rulelaws.proofs.Based.Groups.{group_keeps}
-use Rattle.dm_rulelaws.proofs.Based.Loud.{Loud, keeps_by, Alike, SetLife, life_sort, some_alike, step_ends, step_serves, step_creates}
+use Rattle.dm_rulelaws.proofs.Based.Loud.{Loud, keeps_by, Alike, SetLife, life_sort, living_alike, step_ends, step_serves, step_creates}
 use Rattle.dm_rulelaws.proofs.Based.Sets.{killed_or, rings_without, rings_others, back_self, back_others, last_self, last_others, ring_set, set_all}
-use Rattle.dm_rulelaws.proofs.Based.Needs.{Resting, Serves}
+use Rattle.dm_rulelaws.proofs.Based.Needs.{Buries, Resting, Serves}
 use Rattle.dm_rulelaws.proofs.Based.Rows.{living}
 
 pub record Unmoved (s : OneKernel) (v : View) : Type 0 where
@@ -38,6 +37,14 @@ queued_moves v id o = search arith
 
 pub held_moves : (v : View) (id : MsgId) (o : Option Pid) → (view.held_for v id o).moves ≡ v.moves
 held_moves v id o = search arith
+
+buried_moves : (v : View) (o : Option Told) → (view.buried_for v o).moves ≡ v.moves
+buried_moves v None = refl
+buried_moves v (Some t) = by t.about
+  where
+    by : (a : view.About) → (view.forgotten v a).moves ≡ v.moves
+    by (view.Of p) = refl
+    by _ = refl
 
 served_moves : (v : View) (o : Option Told) → (served_told v o).moves ≡ v.moves
 served_moves v o = search (arith, killed_or, v.moves)
@@ -71,6 +78,7 @@ unmoved_loud = record {
   stays_ = λ pt p lives off h. record { none = h.none };
   sent_on = λ pt p n h. record { none = h.none };
   called = λ pt p n calls h. record { none = h.none };
+  buried = λ pt id n tells sane h. unmoved_as pt.kernel pt.kernel pt.view (view_after pt.view (Line.Buried id n)) (λ p e. e) (buried_moves (handled pt.view id) (pt.view.told id)) h;
 }
 
 pub unmoved_group : (b : Boot) (pt : Point) (d : Step) (w : Spelled) → group_of b pt d ≡ Some w → Phased pt → KnownStands pt.kernel pt.view → Unmoved pt.kernel pt.view → Unmoved w.point.kernel w.point.view
@@ -82,8 +90,6 @@ unmoved_group b pt d w is phased known h = group_keeps (λ q. Unmoved q.kernel q
 agrees_by : Known → Option Bool → Bool
 agrees_by Unknown o = true
 agrees_by (Forward at moves) (Some b) = true
-agrees_by Ended (Some true) = false
-agrees_by Ended (Some false) = true
 agrees_by _ None = false
 agrees_by _ (Some true) = true
 agrees_by _ (Some false) = false
@@ -104,18 +110,24 @@ coming_some from o h1 = search arith
 forward_agrees : (at moves : ℕ) (o : Option Life) → is_some o ≡ true → agrees (Forward at moves) o ≡ true
 forward_agrees at moves o h1 = search arith
 
-frozen_some : (d : ℕ) (o : Option Life) → agrees (Frozen d) o ≡ true → is_some o ≡ true
-frozen_some d o h1 = search arith
-
 turns_off : (c : Bool) (k : Known) → is_here k ≡ false → turns_here c k ≡ 0
 turns_off c k h1 = search arith
 
 away_off : (k : Known) → is_away k ≡ true → is_here k ≡ false
 away_off k h1 = search arith
 
+-- who lives lived before
+alive_back : (s t : OneKernel) (q : Pid) → life_sort (t.processes q) ≡ life_sort (s.processes q) → is_alive t q ≡ true → is_alive s q ≡ true
+alive_back s t q e lives = ap (λ (c : Bool). is_server q || c) (sym (living_alike (t.processes q) (s.processes q) e)) ∙ lives
+
 -- nothing is learnt, and nobody ends
 known_same : (s t : OneKernel) (v w : View) → Alike s t → w.known ≡ v.known → ((m : ℕ) (q : Pid) → rings q (w.ring m) ≡ rings q (v.ring m)) → KnownStands s v → KnownStands t w
-known_same s t v w alike known ring h = search (arith, h.server, t.processes, agrees_alike, v.known, s.processes, h.agree, h.home, some_alike, h.ring)
+known_same s t v w alike known ring h = record {
+  server = λ m q e. ap (λ (f : ℕ → Pid → Known). f m q) known ∙ h.server m q e;
+  agree = λ m q e. ap (λ (f : ℕ → Pid → Known). agrees (f m q) (t.processes q)) known ∙ agrees_alike (v.known m q) (t.processes q) (s.processes q) (alike q) ∙ h.agree m q e;
+  home = λ q e lives unknown. h.home q e (alive_back s t q (alike q) lives) (sym (ap (λ (f : ℕ → Pid → Known). f q.home q) known) ∙ unknown);
+  ring = λ m q. ring m q ∙ h.ring m q ∙ ap (λ (f : ℕ → Pid → Known). turns_here (is_server q) (f m q)) (sym known);
+}
 
 known_as : (s t : OneKernel) (v w : View) → Alike s t → w.known ≡ v.known → w.ring ≡ v.ring → KnownStands s v → KnownStands t w
 known_as s t v w alike known ring h = known_same s t v w alike known (λ m q. ap (λ (f : ℕ → List Pid). rings q (f m)) ring) h
@@ -127,8 +139,8 @@ record Learnt (s t : OneKernel) (v w : View) (p : Pid) (k : Known) : Type 0 wher
   others : (q : Pid) → pid_eq p q ≡ false → life_sort (t.processes q) ≡ life_sort (s.processes q)
   mine : agrees k (t.processes p) ≡ true
   away : (n : ℕ) → (v.acting == n) ≡ false → agrees (v.known n p) (t.processes p) ≡ true
-  some : k ≢ Unknown
-  far : (v.acting == p.home) ≡ false → is_some (s.processes p) ≡ true
+  some : is_alive t p ≡ true → k ≢ Unknown
+  far : (v.acting == p.home) ≡ false → is_alive t p ≡ true → is_alive s p ≡ true
   ring : rings p (w.ring v.acting) ≡ turns_here false k
   rings_ : (m : ℕ) (q : Pid) → ((v.acting == m) && pid_eq p q) ≡ false → rings q (w.ring m) ≡ rings q (v.ring m)
 
@@ -145,15 +157,15 @@ known_learns s t v w p k l h = record {
         | inl same ↦ subst (λ (x : Pid). agrees (v.known n x) (t.processes x) ≡ true) (pid_eq-is p r same) (l.away n (off_first (v.acting == n) (pid_eq p r) off same))
         | inr apart ↦ agrees_alike (v.known n r) (t.processes r) (s.processes r) (l.others r apart) ∙ h.agree n r e_
       ]) m q e;
-  home = λ q e some unknown. set_all (λ n r x. n ≡ r.home → is_server r ≡ false → is_some (t.processes r) ≡ true → x ≢ Unknown) v.known v.acting p k (λ at e_ some_. l.some)
+  home = λ q e some unknown. set_all (λ n r x. n ≡ r.home → is_server r ≡ false → is_alive t r ≡ true → x ≢ Unknown) v.known v.acting p k (λ at e_ some_. l.some some_)
       (λ n r off at e_ some_. elim (cases_Bool (pid_eq p r)) [
         | inl same ↦
             let is = pid_eq-is p r same in
             let home : n ≡ p.home = at ∙ ap (λ (x : Pid). x.home) (sym is) in
-            let there : is_some (s.processes p) ≡ true = l.far (ap (λ (i : ℕ). v.acting == i) (sym home) ∙ off_first (v.acting == n) (pid_eq p r) off same) in
+            let there : is_alive s p ≡ true = l.far (ap (λ (i : ℕ). v.acting == i) (sym home) ∙ off_first (v.acting == n) (pid_eq p r) off same) (ap (is_alive t) is ∙ some_) in
             (λ z. h.home p l.server there (ap (λ (i : ℕ). v.known i p) (sym home) ∙ ap (v.known n) is ∙ z))
         | inr apart ↦
-            let there : is_some (s.processes r) ≡ true = sym (some_alike (t.processes r) (s.processes r) (l.others r apart)) ∙ some_ in
+            let there : is_alive s r ≡ true = alive_back s t r (l.others r apart) some_ in
             (λ z. h.home r e_ there (ap (λ (i : ℕ). v.known i r) (sym at) ∙ z))
       ]) q.home q refl e some (sym (ap (λ (f : ℕ → Pid → Known). f q.home q) l.known) ∙ unknown);
   ring = λ m q. set_all (λ n r x. rings r (w.ring n) ≡ turns_here (is_server r) x) v.known v.acting p k (l.ring ∙ ap (λ (c : Bool). turns_here c k) (sym l.server)) (λ n r off. l.rings_ n r off ∙ h.ring n r) m q
@@ -178,27 +190,47 @@ serving_ring s v p h server here m q =
       | inr apart ↦ ring_set f a (moved_back p (f a)) q (back_others p q (f a) apart) m
     ]
 
+-- what is away agrees with an end
+away_over : (k : Known) (o : Option Life) → is_away k ≡ true → life_sort o ≡ Some false → agrees k o ≡ true
+away_over k o h1 h2 = search arith
+
 -- a process ends
-ends_known : (s t : OneKernel) (v : View) (p : Pid) → is_server p ≡ false → is_some (s.processes p) ≡ true → SetLife s t p (Some false) → Resting v p → KnownStands s v → KnownStands t (view.ended v p)
-ends_known s t v p server some set rests h = known_learns s t v (view.ended v p) p Ended (record {
+over_dead : (s : OneKernel) (p : Pid) → is_server p ≡ false → life_sort (s.processes p) ≡ Some false → is_alive s p ≡ false
+over_dead s p server over = ap (λ (c : Bool). c || is_some (kernel.alive (s.processes p))) server ∙ dead (s.processes p) over
+  where
+    dead : (o : Option Life) → life_sort o ≡ Some false → is_some (kernel.alive o) ≡ false
+    dead o e = search arith
+
+ends_known : (s t : OneKernel) (v : View) (p : Pid) → is_server p ≡ false → SetLife s t p (Some false) → Resting v p → KnownStands s v → KnownStands t (view.ended v p)
+ends_known s t v p server set rests h = known_learns s t v (view.ended v p) p Unknown (record {
   server = server;
   known = refl;
   others = set.off;
-  mine = search arith;
-  away = λ n off. search arith;
-  some = λ e. cc;
-  far = λ e. some;
+  mine = refl;
+  away = λ n off. away_over (v.known n p) (t.processes p) (rests.away n off) set.at_;
+  some = λ lives. absurd (false≢true (sym (over_dead t p server set.at_) ∙ lives));
+  far = λ e lives. absurd (false≢true (sym (over_dead t p server set.at_) ∙ lives));
   ring = ring_there v.ring v.acting p (without p (v.ring v.acting)) ∙ rings_without p (v.ring v.acting);
   rings_ = ring_off v.ring v.acting p (without p (v.ring v.acting)) (λ q apart. rings_others p q (v.ring v.acting) apart);
 }) h
 
 -- a process is here, at its ring's back
 comes_known : (s t : OneKernel) (v w : View) (p : Pid) → is_server p ≡ false → w.known ≡ at_record v.known v.acting p Here → w.ring ≡ at_machine v.ring v.acting (v.ring v.acting ++ p ∷ []) → SetLife s t p (Some true)
-    → ((n : ℕ) → (v.acting == n) ≡ false → agrees (v.known n p) (t.processes p) ≡ true) → ((v.acting == p.home) ≡ false → is_some (s.processes p) ≡ true) → is_here (v.known v.acting p) ≡ false → KnownStands s v → KnownStands t w
+    → ((n : ℕ) → (v.acting == n) ≡ false → agrees (v.known n p) (t.processes p) ≡ true) → ((v.acting == p.home) ≡ false → is_alive t p ≡ true → is_alive s p ≡ true) → is_here (v.known v.acting p) ≡ false → KnownStands s v → KnownStands t w
 comes_known s t v w p server known ring set away far off h =
     let zs = v.ring v.acting ++ p ∷ [] in
     let none : rings p (v.ring v.acting) ≡ 0 = h.ring v.acting p ∙ turns_off (is_server p) (v.known v.acting p) off in
-    known_learns s t v w p Here (search (arith, set.off, here_agrees, t.processes, set.at_, v.acting, ring_there, v.ring, last_self, ring_off, last_others)) h
+    known_learns s t v w p Here (record {
+      server = server;
+      known = known;
+      others = set.off;
+      mine = here_agrees (t.processes p) set.at_;
+      away = away;
+      some = λ lives e. cc;
+      far = far;
+      ring = ap (λ (f : ℕ → List Pid). rings p (f v.acting)) ring ∙ ring_there v.ring v.acting p zs ∙ last_self p (v.ring v.acting) none;
+      rings_ = λ m q o. ap (λ (f : ℕ → List Pid). rings q (f m)) ring ∙ ring_off v.ring v.acting p zs (λ r apart. last_others p r (v.ring v.acting) apart) m q o;
+    }) h
 
 alive_set : (s : OneKernel) (p : Pid) (x : PlainProcess) → s.processes p ≡ Some (Alive x) → SetLife s s p (Some true)
 alive_set s p x e = record { at_ = ap life_sort e; off = λ q apart. refl }
@@ -207,10 +239,10 @@ alive_set s p x e = record { at_ = ap life_sort e; off = λ q apart. refl }
 ran_living : (s t : OneKernel) (p : Pid) (k : ℕ) → kernel.step s (Label.Ran p k) ≡ Some t → (x : PlainProcess) × (kernel.alive (s.processes p) ≡ Some x)
 ran_living s t p k is = search (arith, bind-is, at_hand-is)
 
-served_known : (s t : OneKernel) (v : View) (told : Told) → is_server told.receiver ≡ false → is_some (s.processes told.receiver) ≡ true → (is_kill told.kind ≡ true → SetLife s t told.receiver (Some false)) → (is_kill told.kind ≡ false → Alike s t)
+served_known : (s t : OneKernel) (v : View) (told : Told) → is_server told.receiver ≡ false → (is_kill told.kind ≡ true → SetLife s t told.receiver (Some false)) → (is_kill told.kind ≡ false → Alike s t)
     → (is_kill told.kind ≡ true → Resting v told.receiver) → KnownStands s v → KnownStands t (served_told v (Some told))
-served_known s t v told server some kill other rests h =
-    killed_or (KnownStands t) told.kind v told.receiver (λ k. ends_known s t v told.receiver server some (kill k) (rests k) h) (λ k. known_as s t v v (other k) refl refl h)
+served_known s t v told server kill other rests h =
+    killed_or (KnownStands t) told.kind v told.receiver (λ k. ends_known s t v told.receiver server (kill k) (rests k) h) (λ k. known_as s t v v (other k) refl refl h)
 
 served_line : (pt : Point) (t : OneKernel) (id : MsgId) → Serves pt.view id → Sane pt → kernel.step pt.kernel (Label.Served id) ≡ Some t → KnownStands pt.kernel pt.view → KnownStands t (view_after pt.view (Line.Label (Label.Served id)))
 served_line pt t id serves sane is h =
@@ -218,11 +250,13 @@ served_line pt t id serves sane is h =
     let v = handled pt.view id in
     let l = step_serves s t id is in
     let told = serves.told in
-    let kind : told.kind ≡ _ = sane.tells.kind id l.message told l.there serves.is in
+    let kind : told.kind ≡ plain_kind l.message.what = sane.tells.kind id l.message told l.there serves.is in
     let to : told.receiver ≡ l.message.to = sane.tells.receiver id l.message told l.there serves.is in
     let lives = living pt l.message.to l.process sane (ap kernel.alive l.alive) in
     let k : KnownStands s v = record { server = h.server; agree = h.agree; home = h.home; ring = h.ring } in
-    search (arith, serves.is, served_known, lives.server, s.processes, l.alive, l.served.kill, l.served.other, serves.rests)
+    subst (λ (o : Option Told). KnownStands t (served_told v o)) (sym serves.is)
+    (served_known s t v told (ap is_server to ∙ lives.server) (λ kill. subst (λ (q : Pid). SetLife s t q (Some false)) (sym to) (l.served.kill (sym (ap is_kill kind) ∙ kill))) (λ mild. l.served.other (sym (ap is_kill kind) ∙ mild))
+    (λ kill. let r = serves.rests kill in record { here = r.here; away = r.away }) k)
 
 dropped_known : (s t : OneKernel) (v : View) (id : MsgId) (o : Option Pid) → Alike s t → KnownStands s v → KnownStands t (view.dropped_for v id o)
 dropped_known s t v id o h1 h2 = search (arith, known_as)
@@ -235,6 +269,28 @@ held_known s v id o h1 = search arith
 
 handled_known : (s : OneKernel) (v : View) (id : MsgId) → KnownStands s v → KnownStands s (handled v id)
 handled_known s v id h = record { server = h.server; agree = h.agree; home = h.home; ring = h.ring }
+
+-- a process is forgotten that has ended
+forgets_known : (s : OneKernel) (v : View) (p : Pid) → Buries s v p → KnownStands s v → KnownStands s (view.forgotten v (view.Of p))
+forgets_known s v p b h = known_learns s s v (view.forgotten v (view.Of p)) p Unknown (record {
+  server = b.server;
+  known = refl;
+  others = λ q apart. refl;
+  mine = refl;
+  away = λ n off. h.agree n p b.server;
+  some = λ lives. absurd (false≢true (sym (over_dead s p b.server b.over) ∙ lives));
+  far = λ e lives. lives;
+  ring = h.ring v.acting p ∙ turns_off (is_server p) (v.known v.acting p) (away_off (v.known v.acting p) (b.away v.acting));
+  rings_ = λ m q off. refl;
+}) h
+
+buried_known : (s : OneKernel) (v : View) (o : Option Told) → ((u : Told) (p : Pid) → o ≡ Some u → u.about ≡ view.Of p → Buries s v p) → KnownStands s v → KnownStands s (view.buried_for v o)
+buried_known s v None tells h = h
+buried_known s v (Some u) tells h = by u.about (λ p e. tells u p refl e)
+  where
+    by : (a : view.About) → ((p : Pid) → a ≡ view.Of p → Buries s v p) → KnownStands s (view.forgotten v a)
+    by (view.Of p) k = forgets_known s v p (k p refl) h
+    by _ k = h
 
 home_apart : (a b : ℕ) → b ≡ a → (a == b) ≡ false → ⊥
 home_apart a b e off = let k : (a == b) ≡ true = grind (arith, nat_tests) in false≢true (sym off ∙ k)
@@ -256,12 +312,12 @@ known_loud = record {
       known_same pt.kernel t pt.view (view_after pt.view (Line.Label (Label.Refuse p id r))) alike refl (serving_ring pt.kernel pt.view p h (living pt p x.x sane (ap kernel.alive x.alive)).server here) h;
   end = λ pt t p y rests sane is h.
       let l = step_ends pt.kernel t p y is in
-      ends_known pt.kernel t pt.view p (living pt p l.process sane (ap kernel.alive l.alive)).server (ap is_some l.alive) l.set rests h;
+      ends_known pt.kernel t pt.view p (living pt p l.process sane (ap kernel.alive l.alive)).server l.set rests h;
   dropped = λ pt t id alike sane is h. dropped_known pt.kernel t (handled pt.view id) id (receiver_of (pt.view.told id)) alike (handled_known pt.kernel pt.view id h);
   served = λ pt t id serves sane is h. served_line pt t id serves sane is h;
   created = λ pt t id p unborn sane is h.
       comes_known pt.kernel t pt.view (view_after pt.view (Line.Label (Label.Created id p))) p unborn.server refl refl (step_creates pt.kernel t id p is)
-      (λ n off. ap (λ (k : Known). agrees k (t.processes p)) (unborn.unknown n)) (λ off. absurd (home_apart pt.view.acting p.home unborn.home off)) (ap is_here (unborn.unknown pt.view.acting)) h;
+      (λ n off. ap (λ (k : Known). agrees k (t.processes p)) (unborn.unknown n)) (λ off lives. absurd (home_apart pt.view.acting p.home unborn.home off)) (ap is_here (unborn.unknown pt.view.acting)) h;
   queued = λ pt id need sane h. queued_known pt.kernel (handled pt.view id) id (receiver_of (pt.view.told id)) (handled_known pt.kernel pt.view id h);
   held = λ pt id need sane h. held_known pt.kernel (handled pt.view id) id (receiver_of (pt.view.told id)) (handled_known pt.kernel pt.view id h);
   frozen = λ pt p lives here h.
@@ -274,8 +330,8 @@ known_loud = record {
         others = λ q apart. refl;
         mine = ap (agrees (Frozen to)) lives.alive;
         away = λ n off. h.agree n p lives.server;
-        some = λ e. cc;
-        far = λ e. ap is_some lives.alive;
+        some = λ lives_ e. cc;
+        far = λ e lives_. lives_;
         ring = ap (λ (f : ℕ → List Pid). rings p (f v.acting)) set.ring ∙ ring_there v.ring v.acting p (without p (v.ring v.acting)) ∙ rings_without p (v.ring v.acting);
         rings_ = λ m q off. ap (λ (f : ℕ → List Pid). rings q (f m)) set.ring ∙ ring_off v.ring v.acting p (without p (v.ring v.acting)) (λ r apart. rings_others p r (v.ring v.acting) apart) m q off;
       }) h;
@@ -293,17 +349,17 @@ known_loud = record {
         others = λ q apart. refl;
         mine = search arith;
         away = λ m off. h.agree m p leaves.server;
-        some = λ e. (let f : Forward leaves.to n ≡ Unknown = sym k ∙ e in cc);
-        far = λ e. frozen_some leaves.to (pt.kernel.processes p) (sym (ap (λ (x : Known). agrees x (pt.kernel.processes p)) leaves.frozen) ∙ agree);
+        some = λ lives e. (let f : Forward leaves.to n ≡ Unknown = sym k ∙ e in cc);
+        far = λ e lives. lives;
         ring = h.ring v.acting p ∙ turns_off (is_server p) (v.known v.acting p) (ap is_here leaves.frozen) ∙ sym (turns_off false (gone_to (v.known v.acting p) n) (ap is_here k));
         rings_ = λ m q off. refl;
       }) h;
   restarted = λ pt p lives off h.
       comes_known pt.kernel pt.kernel pt.view (view_after pt.view (Line.Migration Stage.Restarted p)) p lives.server refl refl (alive_set pt.kernel p lives.process lives.alive)
-      (λ n o. h.agree n p lives.server) (λ e. ap is_some lives.alive) off h;
+      (λ n o. h.agree n p lives.server) (λ e l. l) off h;
   stays_ = λ pt p lives off h.
-      comes_known pt.kernel pt.kernel pt.view (rejoins (handled_first pt.view) p) p lives.server refl refl (alive_set pt.kernel p lives.process lives.alive)
-      (λ n o. h.agree n p lives.server) (λ e. ap is_some lives.alive) off h;
+      comes_known pt.kernel pt.kernel pt.view (view_after pt.view (Line.Stays p)) p lives.server refl refl (alive_set pt.kernel p lives.process lives.alive)
+      (λ n o. h.agree n p lives.server) (λ e l. l) off h;
   sent_on = λ pt p n h. record { server = h.server; agree = h.agree; home = h.home; ring = h.ring };
   called = λ pt p n calls h.
       let v = pt.view in
@@ -316,11 +372,12 @@ known_loud = record {
         others = λ q apart. refl;
         mine = ap (λ (x : Known). agrees x (pt.kernel.processes p)) k ∙ forward_agrees calls.from at (pt.kernel.processes p) some;
         away = λ m off. h.agree m p calls.server;
-        some = λ e. (let f : Forward calls.from at ≡ Unknown = sym k ∙ e in cc);
-        far = λ e. some;
+        some = λ lives e. (let f : Forward calls.from at ≡ Unknown = sym k ∙ e in cc);
+        far = λ e lives. lives;
         ring = h.ring v.acting p ∙ turns_off (is_server p) (v.known v.acting p) (ap is_here calls.comes) ∙ sym (turns_off false (goes_back (v.known v.acting p) at) (ap is_here k));
         rings_ = λ m q off. refl;
       }) h;
+  buried = λ pt id n tells sane h. buried_known pt.kernel (handled pt.view id) (pt.view.told id) (λ u p told about. let b = tells u p told about in record { over = b.over; away = b.away; server = b.server }) (handled_known pt.kernel pt.view id h);
 }
 
 pub known_group : (b : Boot) (pt : Point) (d : Step) (w : Spelled) → group_of b pt d ≡ Some w → Phased pt → KnownStands pt.kernel pt.view → KnownStands w.point.kernel w.point.view

@@ -2,9 +2,9 @@
 use Rattle.dm_rulelaws.proofs.Names.{◌≡◌, ℕ, ◌<◌, ◌≤◌, Bool, true, false, is_some, List, ◌∷◌, refl, ap, ◌∙◌, sym, subst, inl, inr, arith, if◌then◌else◌, Option, None, Some, Pid, MsgId, plain_kind, PlainMessage, MessageKind, Boot, manager}
 use Rattle.dm_rulelaws.proofs.Names.{Step, id_eq-same, alive-is, Line, View, Told, About, Of, Unknown, Here, Frozen, Incoming, Forward, is_kernels, receiver_of, target_in, target_of, front_of, Child, Receiver, Sender, names, sender_of}
 use Rattle.dm_rulelaws.proofs.Names.{IsStep, forwards_on, migrates, Part, Owns, Spelled, Moves, is_between, is_restart, is_early, knows, receiver_in, tells_onward, Point, moved, group_of, Inbox, Queue, Held, times, standing, group_is}
-use Rattle.dm_rulelaws.proofs.Names.{turn_off, letters, eq_is, parts, both_lists, both_times, under_way, front_kernels, Phased, head_calm, InPhases, calm_phases, rooted, State, Sane, sane_line, outcome_sayable, Comes, Named, Links}
-use Rattle.dm_rulelaws.proofs.Names.{child_is, source_holds, destination_expects, is_fixed, eq_self, about_same, front_one, least_of, by_migrates, by_net, by_outcome, sort_of, slice_get, option_and_then, call_off, by_calls_off, coming_is}
-use Rattle.dm_rulelaws.proofs.Names.{source_knows, calls_off, is_calloff, pulls_piece, Due, due_or_left, Pulled, pulled, false≢true, Says, []}
+use Rattle.dm_rulelaws.proofs.Names.{turn_off, letters, eq_is, both_lists, both_times, under_way, front_kernels, Phased, head_calm, InPhases, calm_phases, rooted, State, Sane, sane_line, outcome_sayable, Comes, Named, Links, child_is}
+use Rattle.dm_rulelaws.proofs.Names.{source_holds, destination_expects, is_fixed, eq_self, about_same, front_one, least_of, by_migrates, by_net, by_outcome, sort_of, slice_get, option_and_then, call_off, by_calls_off, coming_is}
+use Rattle.dm_rulelaws.proofs.Names.{source_knows, calls_off, is_calloff, pulls_piece, Due, due_or_left, Pulled, pulled, false≢true, Says, [], ◌≢◌, ◌==◌, Known, Lives, bury_over, is_away, kind_comes, kind_leaves, not, right_true}
 use Rattle.dm_rule.proofs.Groups.{begun}
 use Rattle.dm_rule.proofs.Trails.Places.{Owns}
 use Rattle.dm_rulelaws.proofs.Found.Labels.{there_known, line_core}
@@ -12,6 +12,8 @@ use Rattle.dm_rulelaws.proofs.Found.Core.{IsReal, AboutIs, KnownIs, LineCore, kn
 use Rattle.dm_rulelaws.proofs.Found.Forward.{forwards_need, moves_back, leaves_need, calls_need, named_for}
 use Rattle.dm_rulelaws.proofs.Found.Parts.{AllNeed, NeedOf, AllLoose, loose_need, first_need, parts_core, Heard, told_by_need, round_need, handles_need, Moves as MovesTo}
 use Rattle.dm_rulelaws.proofs.Found.Real.{made_free, child_real, sends_real, has_some}
+use Rattle.dm_rulelaws.proofs.Based.Needs.{is_over}
+use Rattle.dm_rulelaws.proofs.Found.Core.{NeedsOver, There}
 use Rattle.dm_rule.specs.Phases as phases
 use Rattle.dm_rule.specs.Rule as rule
 
@@ -28,25 +30,34 @@ group_core n b pt d w fit e needs sane h =
     let start = line_core n pt pt.kernel (Line.Head d) (search arith) sane refl h in
     subst (LineCore n) g.point (parts_core n g.parts (headed pt d) g.rest (outcome_sayable b pt d g.parts g.is) (needs g.parts g.is start) (head_sane pt d sane) g.said start)
 
-migrates_need : (n : ℕ) (pt : Point) (p : Pid) → pt.view.acting ≡ 0 → LineCore n pt → ((k : ℕ) → names pt.kernel (Child k) ≡ Some p → IsReal n pt.view p) → AllNeed n pt (migrates pt p)
+migrates_need : (n : ℕ) (pt : Point) (p : Pid) → pt.view.acting ≡ 0 → LineCore n pt → ((k : ℕ) → names pt.kernel (Child k) ≡ Some p → IsReal n pt.kernel.processes pt.view p) → AllNeed n pt (migrates pt p)
 migrates_need n pt p first h real = search (arith, by_migrates, first_need, child_is, id_eq-same)
 
 pub told_there : (o : Option Told) → is_some o ≡ true → (t : Told) × (o ≡ Some t)
 told_there o h1 = search arith
 
 -- the machines of a migration
-abbrev AllKnown : ℕ → View → Type 0
-AllKnown n v = (m : ℕ) (p : Pid) → KnownIs n v m p (v.known m p)
+abbrev AllKnown : ℕ → Lives → View → Type 0
+AllKnown n l v = (m : ℕ) (p : Pid) → KnownIs n l v m p (v.known m p)
 
-moves_within : (n : ℕ) (v : View) (p : Pid) (k : MessageKind) (s d : ℕ) (o : Option MsgId) → knows (Moves k s d o) s (v.known s p) ≡ true → AllKnown n v → (s < n) × (d < n) × (is_fixed p ≡ false)
-moves_within n v p k s d o e h = search (arith, eq_self, parts, eq_is, known_within)
+moves_by : (n : ℕ) (l : Lives) (v : View) (p : Pid) (k : MessageKind) (s d : ℕ) (x : Known) → kind_leaves k d x ≡ true → KnownIs n l v s p x → (s < n) × (d < n) × (is_fixed p ≡ false)
+moves_by n l v p k s d (Frozen to) e h = let f : (d == to) ≡ true = right_true (not (is_restart k)) (d == to) e in (h.0, subst (λ (m : ℕ). m < n) (sym (eq_is d to f)) h.1, h.2)
+moves_by n l v p k s d (Forward to c) e h = let f : (d == to) ≡ true = right_true (is_restart k) (d == to) e in (h.0, subst (λ (m : ℕ). m < n) (sym (eq_is d to f)) h.1.0, h.2)
+moves_by n l v p k s d (Incoming from) e h = absurd (false≢true e)
+moves_by n l v p k s d Here e h = absurd (false≢true e)
+moves_by n l v p k s d Unknown e h = absurd (false≢true e)
+
+moves_within : (n : ℕ) (l : Lives) (v : View) (p : Pid) (k : MessageKind) (s d : ℕ) (o : Option MsgId) → knows (Moves k s d o) s (v.known s p) ≡ true → AllKnown n l v → (s < n) × (d < n) × (is_fixed p ≡ false)
+moves_within n l v p k s d o e h =
+    let leaves : kind_leaves k d (v.known s p) ≡ true = sym (ap (λ (c : Bool). if c then kind_leaves k d (v.known s p) else if d == s then kind_comes k s (v.known s p) else is_away (v.known s p)) (eq_self s)) ∙ e in
+    moves_by n l v p k s d (v.known s p) leaves (h s p)
 
 sender_within : (n s d : ℕ) (c : Bool) → s < n → d < n → (if c then s else d) < n
 sender_within n s d c h1 h2 = search arith
 
 -- the message is the one of a migration that is under way
-target_within : (n : ℕ) (v : View) (a : About) → 0 < n → AboutIs n v a → target_in a < n
-target_within n v a h1 h2 = search arith
+target_within : (n : ℕ) (l : Lives) (v : View) (a : About) → 0 < n → AboutIs n l v a → target_in a < n
+target_within n l v a h1 h2 = search arith
 
 -- what waits for a process is for it
 pub queued_for : (pt : Point) (p : Pid) (i : MsgId) → State None pt → 1 ≤ times i (pt.view.queue pt.view.acting p) → receiver_of (pt.view.told i) ≡ Some p
@@ -76,7 +87,7 @@ heard_due n pt m i is t p in_ h holds sane state front own about u =
     let v = start.view in
     let pq : p ≡ u.p = about_same p u.p (sym about ∙ ap (λ (x : Told). x.about) u.told) in
     let isin : phases.IsIn v u.p (Moves u.k u.s u.d (Some i)) = subst (phases.IsIn v u.p) u.phase (in_.each u.p) in
-    let within = moves_within n v u.p u.k u.s u.d (Some i) (isin.known u.s) h.known in
+    let within = moves_within n start.kernel.processes v u.p u.k u.s u.d (Some i) (isin.known u.s) h.known in
     let free : is_fixed p ≡ false = ap is_fixed pq ∙ within.2 in
     let from : i.from.home < n = subst (λ (x : ℕ). x < n) (sym (ap (λ (x : Pid). x.home) u.from)) (sender_within n u.s u.d (tells_onward (sort_of u.k)) within.0 within.1) in (
       from,
@@ -89,8 +100,8 @@ heard_due n pt m i is t p in_ h holds sane state front own about u =
           let held : pt.view.known m p ≡ Frozen u.d = ap (pt.view.known m) pq ∙ ap (λ (x : ℕ). pt.view.known x u.p) at ∙ source_holds v u.p u.k u.s u.d (Some i) isin late in
           let comes_ : pt.view.known u.d p ≡ Incoming u.s = ap (pt.view.known u.d) pq ∙ destination_expects v u.p u.k u.s u.d (Some i) isin (ap is_early kind_) (ap is_calloff kind_) in
           leaves_need n start i is p (pt.view.known m p) front state h own refl
-          (λ to e f. let g : u.d ≡ to = cc (sym held ∙ e) in
-          let z : Incoming u.s ≡ Unknown = sym comes_ ∙ ap (λ (x : ℕ). pt.view.known x p) g ∙ f in cc)
+          (λ to e. let g : u.d ≡ to = cc (sym held ∙ e) in
+          subst (λ (x : ℕ). There n start.kernel.processes v x p) g (within.1, λ lives f. let z : Incoming u.s ≡ Unknown = sym comes_ ∙ f in cc))
           free
           (λ j q least named. waits_for start p j q holds state sane least named) from),
     )
@@ -101,7 +112,7 @@ heard_left : (n : ℕ) (pt : Point) (m : ℕ) (i : MsgId) (is : List MsgId) (t :
 heard_left n pt m i is t p in_ h sane front u =
     let v = (headed pt (Step.Turn m)).view in
     let isin : phases.IsIn v p (Moves MessageKind.CallOff u.s u.d u.id) = subst (phases.IsIn v p) u.is (in_.each p) in
-    let within = moves_within n v p MessageKind.CallOff u.s u.d u.id (isin.known u.s) h.known in
+    let within = moves_within n pt.kernel.processes v p MessageKind.CallOff u.s u.d u.id (isin.known u.s) h.known in
     let from : i.from.home < n = subst (λ (x : ℕ). x < n) (sym (ap (λ (x : Pid). x.home) u.from)) within.1 in (
       from,
       (subst (λ (x : ℕ). x < n) (sym (ap front_of front)) from, within.2),
@@ -123,8 +134,8 @@ heard n pt m i is t p h holds sane state in_ front told own about between fresh 
     ]
 
 -- a turn
-forward_free : (n : ℕ) (v : View) (m : ℕ) (p : Pid) (to c : ℕ) → v.known m p ≡ Forward to c → AllKnown n v → is_fixed p ≡ false
-forward_free n v m p to c e h = (subst (KnownIs n v m p) e (h m p)).2
+forward_free : (n : ℕ) (l : Lives) (v : View) (m : ℕ) (p : Pid) (to c : ℕ) → v.known m p ≡ Forward to c → AllKnown n l v → is_fixed p ≡ false
+forward_free n l v m p to c e h = (subst (KnownIs n l v m p) e (h m p)).2
 
 asked_to : (n : ℕ) (pt : Point) (i : MsgId) (k : PlainMessage) → pt.kernel.bag i ≡ Some k → Sane pt → LineCore n pt → MovesTo n k
 asked_to n pt i k there sane h to e = search (arith, k.what, made_free, has_some)
@@ -139,25 +150,33 @@ front_need n b pt m i is k ps h sane state front there =
     let kind_same : t.kind ≡ plain_kind k.what = sane.tells.kind i k t there told in
     let knows = there_known n start i k there at.0 h in
     let moves = asked_to n start i k there sane h in
-    handles_need n start b pt m i k ps at there knows moves
+    handles_need n start b pt m i k ps h.machines at there knows moves
     (λ to c e. subst (λ (x : MessageKind). AllNeed n start (forwards_on pt.addresses i x k.sender to)) kind_same
-    (forwards_need n start i is t k.sender to c front state sane h told (ap (pt.view.known m) to_same ∙ e) (subst (λ (x : Pid). is_fixed x ≡ false) (sym to_same) (forward_free n start.view m k.to to c e h.known))
+    (forwards_need n start i is t k.sender to c front state sane h told (ap (pt.view.known m) to_same ∙ e) (subst (λ (x : Pid). is_fixed x ≡ false) (sym to_same) (forward_free n pt.kernel.processes start.view m k.to to c e h.known))
     (λ back. (h.all (Sender i) k.sender (Links (ap sender_of there)), sends_real start n k.sender h (h.senders i k there)))))
 
-own_need : (n : ℕ) (b : Boot) (pt : Point) (m : ℕ) (i : MsgId) (is : List MsgId) (ps : List Part) → LineCore n (headed pt (Step.Turn m)) → HeldFor pt.view → Sane (headed pt (Step.Turn m)) → State None (headed pt (Step.Turn m)) → InPhases (headed pt (Step.Turn m)).view
+-- a message that tells of an end tells of one that has ended
+told_over : (pt : Point) (m : ℕ) (i : MsgId) (t : Told) → Phased pt → pt.view.told i ≡ Some t → t.kind ≡ MessageKind.Bury → NeedsOver (headed pt (Step.Turn m)) i
+told_over pt m i t base told kind u p is about =
+    let f : Some t ≡ Some u = sym told ∙ is in
+    let same : t ≡ u = cc in
+    let (y, over) = bury_over pt i t p base told kind (ap (λ (x : Told). x.about) same ∙ about) in
+    ap is_over over
+
+own_need : (n : ℕ) (b : Boot) (pt : Point) (m : ℕ) (i : MsgId) (is : List MsgId) (ps : List Part) → Phased pt → LineCore n (headed pt (Step.Turn m)) → HeldFor pt.view → Sane (headed pt (Step.Turn m)) → State None (headed pt (Step.Turn m)) → InPhases (headed pt (Step.Turn m)).view
     → pt.view.inbox m ≡ i ∷ is → pt.kernel.bag i ≡ None → rule.hears b pt m i (pt.view.told i) ≡ Some ps → AllNeed n (headed pt (Step.Turn m)) ps
-own_need n b pt m i is ps h holds sane state in_ front there e =
+own_need n b pt m i is ps base h holds sane state in_ front there e =
     let start = headed pt (Step.Turn m) in
     let at = h.places i (Inbox m) (front_one start.view m i is front) in
     let (t, told) = told_there (start.view.told i) at.1 in
     let own : is_kernels i ≡ true = front_kernels start i is state front there in
     let some : 0 < n = let le = h.acting in omega (arith, le) in
-    let le : target_of (Some t) < n = target_within n start.view t.about some (h.tells i t told) in
+    let le : target_of (Some t) < n = target_within n pt.kernel.processes start.view t.about some (h.tells i t told) in
     let front_is : option_and_then start.view.told (slice_get (start.view.inbox m) 0) ≡ Some t = ap (λ (ids : List MsgId). option_and_then start.view.told (slice_get ids 0)) front ∙ told in
     subst (NeedOf n start) (ap (rule.hears b pt m i) (sym told) ∙ e)
-    (told_by_need n start b pt m i t at le (subst (λ (x : Option Told). target_of x < n) (sym front_is) le)
+    (told_by_need n start b pt m i t h.machines h.acting (told_over pt m i t base told) at le (subst (λ (x : Option Told). target_of x < n) (sym front_is) le)
     (λ p about between fresh. heard n pt m i is t p h holds sane state in_ front told own about between fresh)
-    (λ to c f. forwards_need n start i is t manager to c front state sane h told f (forward_free n start.view m t.receiver to c f h.known)
+    (λ to c f. forwards_need n start i is t manager to c front state sane h told f (forward_free n pt.kernel.processes start.view m t.receiver to c f h.known)
     (λ back. (h.all (Sender i) manager (Owns (Comes i t refl own told (moves_back t.kind (h.real i t told own).1 back) refl)), inl (refl, some)))))
 
 -- a migration is called off
@@ -167,26 +186,27 @@ held_for pt p i q holds sane least named = let (t, told, to) = holds pt.view.act
 calls_off_need : (n : ℕ) (pt : Point) (p : Pid) (m : ℕ) → Phased pt → HeldFor pt.view → LineCore n (headed pt (Step.CallOff p m)) → AllNeed n (headed pt (Step.CallOff p m)) (calls_off pt m p (pt.view.known m p))
 calls_off_need n pt p m base holds h =
     let start = headed pt (Step.CallOff p m) in
+    let within_there : (k : ℕ) (q : Pid) → pt.view.known k q ≢ Unknown → There n pt.kernel.processes start.view k q = λ k q some. (known_within n pt.kernel.processes start.view k q (pt.view.known k q) some (h.known k q), λ lives. some) in
     let state = begun pt (Step.CallOff p m) base.state (λ z. call_off pt.view p m z) (λ i. refl) in
     by_calls_off (AllNeed n start) pt m p (first_need n start (Says (Line.NoCall p)) [] tt tt) (λ from is come. (
     let phase = base.phases.of p in
     let c = coming_is phase m from (sym (ap (knows phase m) is) ∙ (base.phases.each p).known m) in
     let there = source_knows pt.view p c.kind from m c.id (subst (phases.IsIn pt.view p) c.is (base.phases.each p)) in
-    calls_need n start p from state h is there (λ i q least named. held_for start p i q holds (head_sane pt (Step.CallOff p m) base.sane) least named)
+    calls_need n start p from state h is (within_there from p there) (λ i q least named. held_for start p i q holds (head_sane pt (Step.CallOff p m) base.sane) least named)
     ))
 
 outcome_need : (n : ℕ) (b : Boot) (pt : Point) (d : Step) (ps : List Part) → Phased pt → HeldFor pt.view → LineCore n pt → rule.outcome b pt d ≡ Some ps → LineCore n (headed pt d) → AllNeed n (headed pt d) ps
 outcome_need n b pt d ps base holds core =
     let state : (m : ℕ) → State None (headed pt (Step.Turn m)) = λ m. begun pt (Step.Turn m) base.state (λ z. turn_off pt.view m z) (λ i. refl) in
     by_outcome (λ x xs. LineCore n (headed pt x) → AllNeed n (headed pt x) xs) b pt d ps (record {
-      round = λ m xs box e h. round_need n (headed pt (Step.Turn m)) b pt m (rule.first_runnable pt.kernel (pt.view.queue m) (pt.view.ring m)) xs
+      round = λ m xs box e h. round_need n (headed pt (Step.Turn m)) b pt m (rule.first_runnable pt.kernel (pt.view.queue m) (pt.view.ring m)) xs h.machines
           (λ p x runs alive. inr (
             made_free pt p base.sane.sound.made (ap is_some (alive-is (pt.kernel.processes p) x alive)),
-            (λ f. let g : Here ≡ Unknown = sym ((rooted pt base.sane base.ground).served m p runs) ∙ f in cc),
+            (h.acting, λ lives f. (let g : Here ≡ Unknown = sym ((rooted pt base.sane base.ground).served m p runs) ∙ f in cc)),
           )) e;
       handles = λ m i is k xs box there e h. front_need n b pt m i is k xs h (head_sane pt (Step.Turn m) base.sane) (state m) box there e;
       hears = λ m i is xs box none e h.
-          own_need n b pt m i is xs h holds (head_sane pt (Step.Turn m) base.sane) (state m) (calm_phases pt.view (headed pt (Step.Turn m)).view (head_calm pt.view (Step.Turn m)) base.phases) box none e;
+          own_need n b pt m i is xs base h holds (head_sane pt (Step.Turn m) base.sane) (state m) (calm_phases pt.view (headed pt (Step.Turn m)).view (head_calm pt.view (Step.Turn m)) base.phases) box none e;
       ticks = λ m xs net h. loose_need n (headed pt (Step.Tick m)) xs ((by_net (AllLoose n) tt (λ l ps net h. ((λ pt. search arith), h)) (λ a b l ps h. (λ pt. tt, h))) xs net);
       delivers = λ a c k xs net h. loose_need n (headed pt (Step.Deliver a c k)) xs ((by_net (AllLoose n) tt (λ l ps net h. ((λ pt. search arith), h)) (λ a b l ps h. (λ pt. tt, h))) xs net);
       calls = λ p m h. calls_off_need n pt p m base holds h;

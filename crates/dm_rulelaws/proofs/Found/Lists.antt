@@ -183,6 +183,17 @@ pub places_forwarded : (G : MsgId → ℕ → Type 0) (v : View) (o : Option Pid
 places_forwarded G v None h = h
 places_forwarded G v (Some p) h = places_as G v (forwarded_for v (Some p)) refl refl refl (λ a b. refl) h
 
+-- a process is forgotten
+pub places_forgotten : (G : MsgId → ℕ → Type 0) (v : View) (a : About) → Places G v → Places G (view.forgotten v a)
+places_forgotten G v (view.Of p) h = places_as G v (view.forgotten v (view.Of p)) refl refl refl (λ b c. refl) h
+places_forgotten G v (view.Target m) h = h
+places_forgotten G v (view.Place p m c) h = h
+places_forgotten G v view.NothingElse h = h
+
+places_buried : (G : MsgId → ℕ → Type 0) (v : View) (o : Option Told) → Places G v → Places G (view.buried_for v o)
+places_buried G v None h = h
+places_buried G v (Some t) h = places_forgotten G v t.about h
+
 -- what a line brings
 abbrev pub Brings : (MsgId → ℕ → Type 0) → View → Line → Type 0
 Brings G v (Line.Put a b id k q) = G id b
@@ -202,12 +213,13 @@ places_line G v (Line.Queued id) new h = places_queued G (handled v id) id (rece
 places_line G v (Line.Held id) new h = places_held G (handled v id) id (receiver_of (v.told id)) new (places_handled G v id h)
 places_line G v (Line.Forwarded id m) new h = places_forwarded G (handled v id) (receiver_of (v.told id)) (places_handled G v id h)
 places_line G v (Line.Updated id n) new h = places_handled G v id h
+places_line G v (Line.Buried id n) new h = places_buried G (handled v id) (v.told id) (places_handled G v id h)
 places_line G v (Line.Migration s p) new h = places_stage G v p s h
 places_line G v (Line.SentOn p n) new h = search (arith, places_of, set_record, (handled_first v).queue, (handled_first v).acting, (handled_first v).held, (places_first G v h))
 places_line G v (Line.Called p n) new h =
     places_of G (view_after v (Line.Called p n)) (λ m q i e. h i (Queue m q) e) (λ m q i e. set_record G v.held v.acting p [] (λ j f. absurd (omega (arith, f))) (λ r s j f. h j (Held r s) f) m q i e) (λ m i e. h i (Inbox m) e) (λ a b i e. h i (Untaken a b) e)
 places_line G v (Line.Lacks p a b) new h = places_as G (handled_first v) (view_after v (Line.Lacks p a b)) refl refl refl (λ c d. refl) (places_first G v h)
-places_line G v (Line.Stays p) new h = places_rejoins G (handled_first v) p (places_first G v h)
+places_line G v (Line.Stays p) new h = let w = view.staying v p in places_rejoins G (handled_first w) p (places_first G w (places_as G v w refl refl refl (λ a b. refl) h))
 places_line G v (Line.Here id) new h = places_handled G v id h
 places_line G v (Line.NoMove id) new h = places_handled G v id h
 places_line G v (Line.Stale id) new h = places_handled G v id h

@@ -10,7 +10,7 @@ use Rattle.dm_rulelaws.proofs.Runs.{Run}
 use Rattle.dm_rulelaws.proofs.Own.Told.{OwnTold, own_sort, OwnsFit, NoOwns, FirstOwns, ThenOwns, sends_own}
 use Rattle.dm_rulelaws.proofs.Goes.Parts.{ArePlain, Can, Shape, Goes, goes, can_plain, can_line, can_net}
 use Rattle.dm_rulelaws.proofs.Goes.Serves.{can_turn}
-use Rattle.dm_rulelaws.proofs.Goes.Turns.{queue_drops}
+use Rattle.dm_rulelaws.proofs.Goes.Turns.{no_preds, queue_drops}
 use Rattle.dm_rulelaws.proofs.Goes.Front.{here_free, begun, begun_sane, Calm, CanTurn, Front}
 use Rattle.dm_rulelaws.proofs.Goes.Servers.{can_handle}
 use Rattle.dm_rulelaws.proofs.Goes.Own.{FrontOwn, can_hear, sends_plain}
@@ -61,7 +61,7 @@ can_front b m o i is (Some x) there box h own = can_handle b m o i x (front b m 
 can_front b m o i is None none box h own = can_hear b m o i is box (front_own b m o i is box none h own) none
 
 can_turn_by : (b : Boot) (m : ℕ) (o : Point) (box : List MsgId) → o.view.inbox m ≡ box → Run b o → OwnTold o → CanTurn m o (rule.turns b o m box)
-can_turn_by b m o [] is h own = can_turn (Calm m o) b m o (begun o m) refl (λ q. refl) (λ q e. here_free o.kernel o.view m q h.based.noted ((rooted o h.based.phased.sane h.based.phased.ground).served m q e)) (λ q. queue_drops b m o q h.based) (λ c. c.ring) refl (begun_sane o m h.based.phased.sane)
+can_turn_by b m o [] is h own = can_turn (Calm m o) b m o (begun o m) refl (λ q. refl) (λ q e. here_free o.kernel o.view m q h.based.noted ((rooted o h.based.phased.sane h.based.phased.ground).served m q e)) (λ q. queue_drops b m o q h.based) (λ c q. no_preds o m q (λ n. c.preds n q)) (λ c. c.ring) refl (begun_sane o m h.based.phased.sane)
 can_turn_by b m o (i ∷ is) box h own = can_front b m o i is (o.kernel.bag i) refl box h own
 
 -- the manager's children are processes

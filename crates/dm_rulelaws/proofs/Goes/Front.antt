@@ -20,6 +20,7 @@ begun o m = moved o (Line.Head (Step.Turn m)) o.kernel
 -- nothing has moved: on this machine nothing moves now, what it has is at home here, and no message is a kernel's own
 pub record Calm (m : ℕ) (o : Point) : Type 0 where
   pub known : (p : Pid) → is_still (o.view.known m p) ≡ true
+  pub preds : (n : ℕ) (p : Pid) → o.view.preds m p n ≡ false
   pub ring : are_home m (o.view.ring m) ≡ true
   pub front : (i : MsgId) (is : List MsgId) (x : PlainMessage) → o.view.inbox m ≡ i ∷ is → o.kernel.bag i ≡ Some x → x.to.home ≡ m
   pub none : (i : MsgId) (is : List MsgId) → o.view.inbox m ≡ i ∷ is → o.kernel.bag i ≡ None → ⊥

@@ -1,13 +1,13 @@
 -- A kernel's own message at the front of the inbox can be handled.
-use Rattle.dm_rulelaws.proofs.Names.{◌≡◌, ◌≢◌, ℕ, ◌/◌, ◌≤◌, ◌==◌, ◌&&◌, ◌||◌, Bool, true, false, not, List, [], ◌∷◌, ◌++◌, length, refl, ap, ◌∙◌, sym, subst, is_some, arith, if◌then◌else◌, Option, None, Some, false≢true, nat_tests, Pid}
-use Rattle.dm_rulelaws.proofs.Names.{pid_eq, MsgId, MessageKind, Line, Stage, Boot, switchboard, manager, bind, PlainProcess, Life, Alive, View, Told, Of, Known, Unknown, Here, Frozen, Forward, is_kernels, target_of, to_kernel, forwards_on}
+use Rattle.dm_rulelaws.proofs.Names.{◌≡◌, ℕ, ◌/◌, ◌≤◌, ◌==◌, ◌&&◌, ◌||◌, Bool, true, false, not, List, [], ◌∷◌, ◌++◌, length, refl, ap, ◌∙◌, sym, subst, is_some, arith, if◌then◌else◌, Option, None, Some, false≢true, nat_tests, Pid, pid_eq}
+use Rattle.dm_rulelaws.proofs.Names.{MsgId, MessageKind, Line, Stage, Boot, switchboard, manager, bind, PlainProcess, Life, Alive, View, Told, Of, Known, Unknown, Here, Frozen, Forward, is_kernels, target_of, to_kernel, forwards_on}
 use Rattle.dm_rulelaws.proofs.Names.{accepts, takes_chunk, takes_block, gives_piece, told_step, chunks_of, pieces_of, updates, told_here, told_ended, process_told, told_server, sends_on, fits, free_room, kernel_hears, hears, is_between}
 use Rattle.dm_rulelaws.proofs.Names.{is_restart, kind_comes, knows, is_away, Moves, sender_in, receiver_in, told_between, IsIn, Point, Part, Says, Spot, Queue, Held, Inbox, times, standing, token_is, token_at, is_server, is_fixed, first_of}
 use Rattle.dm_rulelaws.proofs.Names.{eq_self, inbox_is, about_same, kind_leaves, Label, MoveNote, Outcome, label_of, with_label, is_put, moved, answers_move, tells_asker, agrees, sort_of, leaves_for, pulls_piece, IsLeft, Token, LeftOver}
-use Rattle.dm_rulelaws.proofs.Names.{pulled, hears_here}
+use Rattle.dm_rulelaws.proofs.Names.{pulled, hears_here, Sort, buried, buries, inl, inr, preds_of, tells_between, tells_end}
 use Rattle.dm_rulelaws.proofs.Runs.{Run}
-use Rattle.dm_rulelaws.proofs.Own.Told.{OwnTold, own_sort, own_between, own_server, NoOwns, ThenOwns, forwarded_place, forwards_own, accepts_own, piece_own, chunk_own, block_own, moves_own, sends_own}
-use Rattle.dm_rulelaws.proofs.Goes.Parts.{ArePlain, Can, can_as, can_plain, does_line, Quiet, no_receive}
+use Rattle.dm_rulelaws.proofs.Own.Told.{Later, buries_later, OwnTold, own_sort, own_between, own_server, NoOwns, ThenOwns, forwarded_place, forwards_own, accepts_own, piece_own, chunk_own, block_own, moves_own, sends_own}
+use Rattle.dm_rulelaws.proofs.Goes.Parts.{buries_plain, ArePlain, Can, can_as, can_plain, does_line, Quiet, no_receive}
 use Rattle.dm_rulelaws.proofs.Goes.Front.{begun, Calm, CanTurn, does_answers, server_here}
 use Rattle.dm_rulelaws.proofs.Goes.Process.{forwards_plain, no_server}
 use Rattle.dm_rulelaws.proofs.Goes.Servers.{server_fixed}
@@ -15,6 +15,7 @@ use Rattle.dm_onekernel.specs.Service as service
 use Rattle.dm_onekernel.specs.Step as kernel
 use Rattle.dm_rule.specs.Migrating as migrating
 use Rattle.dm_rule.specs.Rule as rule
+use Rattle.dm_rule.specs.View as view
 
 -- it was told of
 pub record FrontOwn (b : Boot) (m : ℕ) (o : Point) (i : MsgId) : Type 0 where
@@ -182,11 +183,32 @@ can_hear_of C never b m o i t p false told about between h run =
     (ap (λ (l : Option Life). bind (kernel.alive l) (λ (x : PlainProcess). told_step o m i p (fits (free_room b o m) (length x.memory / 256)) x (sort_of t.kind))) alive)
     (can_told C never b m o i p (fits (free_room b o m) (length y.memory / 256)) y t.kind t told about between k.all run)
 
+-- a message that tells of an end: the process is forgotten, and its predecessors are told
+can_bury : (C : Type 0) (never : C → ⊥) (m : ℕ) (o : Point) (i : MsgId) (t : Told) (p : Pid) → o.view.told i ≡ Some t → t.about ≡ Of p → Can C m (begun o m) (Some (buried o m i p))
+can_bury C never m o i t p told about =
+    let v = (begun o m).view in
+    let l = Line.Buried i (length (preds_of o m p)) in
+    let topic : (view.view_after v l).topic ≡ Of p = ap (λ (q : Option Told). (view.buried_for (view.handled v i) q).topic) told ∙ ap (λ (a : view.About). (view.forgotten (view.handled v i) a).topic) about in
+    can_plain C m (begun o m) (buried o m i p) never (refl, buries_plain v (preds_of o m p)) (ThenOwns l (buries o m p) refl refl (subst (λ (a : view.About). Later a (buries o m p)) (sym topic) (buries_later p (preds_of o m p))))
+
+between_on : (s : Sort) → tells_between s ≡ true → tells_end s ≡ false
+between_on (Sort.Between passage) e = refl
+between_on _ e = absurd (false≢true e)
+
 can_kernel : (C : Type 0) (never : C → ⊥) (b : Boot) (m : ℕ) (o : Point) (i : MsgId) (f : FrontOwn b m o i) → (f.told.receiver.num == 0) ≡ true → Can C m (begun o m) (kernel_hears b o m i f.told.kind f.told.about)
 can_kernel C never b m o i f num =
-    let (between, p, about) = own_between f.told.kind f.told.receiver f.told.about (own_sorted b m o i f) num in
-    can_as C m (begun o m) (kernel_hears b o m i f.told.kind f.told.about) (kernel_hears b o m i f.told.kind (Of p)) (ap (kernel_hears b o m i f.told.kind) about)
-    (can_hear_of C never b m o i f.told p (rule.is_stale o m i f.told.kind p) f.told_is about between (λ fresh. hearing b m o i p f between about fresh) f.run)
+    let (which, p, about) = own_between f.told.kind f.told.receiver f.told.about (own_sorted b m o i f) num in
+    let k = f.told.kind in
+    let stale = rule.is_stale o m i k p in
+    let steps = if stale then Some (Says (Line.Stale i) ∷ []) else bind (kernel.alive (o.kernel.processes p)) (λ (x : PlainProcess). told_step o m i p (fits (free_room b o m) (length x.memory / 256)) x (sort_of k)) in
+    elim which [
+      | inl between ↦
+          can_as C m (begun o m) (kernel_hears b o m i k f.told.about) steps (ap (kernel_hears b o m i k) about ∙ ap (λ (c : Bool). if c then Some (buried o m i p) else steps) (between_on (sort_of k) between))
+          (can_hear_of C never b m o i f.told p stale f.told_is about between (λ fresh. hearing b m o i p f between about fresh) f.run)
+      | inr bury ↦
+          can_as C m (begun o m) (kernel_hears b o m i k f.told.about) (Some (buried o m i p)) (ap (kernel_hears b o m i k) about ∙ ap (λ (j : MessageKind). if tells_end (sort_of j) then Some (buried o m i p) else steps) bury)
+          (can_bury C never m o i f.told p f.told_is about)
+    ]
 
 -- a server
 can_server : (C : Type 0) (never : C → ⊥) (m : ℕ) (o : Point) (i : MsgId) (t : Told) (k : MessageKind) → k ≡ MessageKind.Update → Can C m (begun o m) (told_server o i t (sort_of k))
@@ -201,14 +223,13 @@ can_here C never m o i t _ e num = absurd (grind (arith, nat_tests))
 can_over : (C : Type 0) (never : C → ⊥) (m : ℕ) (o : Point) (i : MsgId) (t : Told) (k : MessageKind) → own_sort k t.receiver t.about ≡ true → (t.receiver.num == 0) ≡ false → Can C m (begun o m) (told_ended i (sort_of k))
 can_over C never m o i t k h1 h2 = search (arith, can_plain)
 
-can_known : (C : Type 0) (never : C → ⊥) (b : Boot) (m : ℕ) (o : Point) (i : MsgId) (f : FrontOwn b m o i) (n : Known) → o.view.known m f.told.receiver ≡ n → n ≢ Unknown → (f.told.receiver.num == 0) ≡ false → pid_eq f.told.receiver switchboard ≡ false → pid_eq f.told.receiver manager ≡ false → Can C m (begun o m) (process_told o m i f.told n)
-can_known C never b m o i f Unknown is there num one two = absurd (there refl)
-can_known C never b m o i f Here is there num one two =
+can_known : (C : Type 0) (never : C → ⊥) (b : Boot) (m : ℕ) (o : Point) (i : MsgId) (f : FrontOwn b m o i) (n : Known) → o.view.known m f.told.receiver ≡ n → (f.told.receiver.num == 0) ≡ false → pid_eq f.told.receiver switchboard ≡ false → pid_eq f.told.receiver manager ≡ false → Can C m (begun o m) (process_told o m i f.told n)
+can_known C never b m o i f Unknown is num one two = can_over C never m o i f.told f.told.kind (own_sorted b m o i f) num
+can_known C never b m o i f Here is num one two =
     can_as C m (begun o m) (process_told o m i f.told Here) (told_here o m i f.told (sort_of f.told.kind)) (no_server (pid_eq f.told.receiver switchboard) (pid_eq f.told.receiver manager) _ _ _ one two) (can_here C never m o i f.told f.told.kind (own_sorted b m o i f) num)
-can_known C never b m o i f (Forward at_ moves) is there num one two = can_plain C m (begun o m) (forwards_on o.addresses i f.told.kind manager at_) never (forwards_plain (begun o m).view o.addresses i f.told.kind manager at_ (ap is_some f.told_is))
+can_known C never b m o i f (Forward at_ moves) is num one two = can_plain C m (begun o m) (forwards_on o.addresses i f.told.kind manager at_) never (forwards_plain (begun o m).view o.addresses i f.told.kind manager at_ (ap is_some f.told_is))
     (forwards_own (begun o m).view o.addresses i f.told.kind manager at_ (forwarded_place (begun o m).view i at_ f.told at_ moves f.told_is is) (λ e. refl))
-can_known C never b m o i f Known.Ended is there num one two = can_over C never m o i f.told f.told.kind (own_sorted b m o i f) num
-can_known C never b m o i f _ is there num one two = can_plain C m (begun o m) (Says (Line.Held i) ∷ []) never (refl, tt) (NoOwns (tt, tt))
+can_known C never b m o i f _ is num one two = can_plain C m (begun o m) (Says (Line.Held i) ∷ []) never (refl, tt) (NoOwns (tt, tt))
 
 can_told_server : (C : Type 0) (never : C → ⊥) (b : Boot) (m : ℕ) (o : Point) (i : MsgId) (f : FrontOwn b m o i) → (f.told.receiver.num == 0) ≡ false → is_server f.told.receiver ≡ true → hears_here o m i f.told ≡ told_server o i f.told (sort_of f.told.kind)
     → Can C m (begun o m) (process_told o m i f.told (o.view.known m f.told.receiver))
@@ -221,7 +242,7 @@ can_other : (C : Type 0) (never : C → ⊥) (b : Boot) (m : ℕ) (o : Point) (i
 can_other C never b m o i f false false num one two =
     let server : is_server f.told.receiver ≡ false = ap (λ (c : Bool). c || pid_eq f.told.receiver manager) one ∙ two in
     let loose : is_fixed f.told.receiver ≡ false = ap (λ (c : Bool). c || is_server f.told.receiver) num ∙ server in
-    can_known C never b m o i f (o.view.known m f.told.receiver) refl (f.run.found.process i (Inbox m) f.told f.first f.told_is loose) num one two
+    can_known C never b m o i f (o.view.known m f.told.receiver) refl num one two
 can_other C never b m o i f true e num one two = can_told_server C never b m o i f num (ap (λ (c : Bool). c || pid_eq f.told.receiver manager) one) (ap (λ (c : Bool). if c then told_server o i f.told (sort_of f.told.kind) else if pid_eq f.told.receiver manager then told_server o i f.told (sort_of f.told.kind) else told_here o m i f.told (sort_of f.told.kind)) one)
 can_other C never b m o i f false true num one two =
     can_told_server C never b m o i f num (ap (λ (c : Bool). c || pid_eq f.told.receiver manager) one ∙ two)

@@ -2,7 +2,7 @@
 use Rattle.dm_rulelaws.proofs.Names.{after_line, ◌≡◌, ℕ, ◌==◌, not, filter, arith, Bool, true, false, List, [], ◌∷◌, ◌++◌, length, refl, ap, ◌∙◌, sym, subst, is_some, ⊤, if◌then◌else◌, Option, None, Some, Pid, MsgId, MessageKind}
 use Rattle.dm_rulelaws.proofs.Names.{plain_kind, PlainMessage, Boot, Label, OneKernel, bind, Step, Line, Load, View, Told, view_after, own_id, Receiver, Point, labels, with_label, label_of, kernel_after, after, moved, Part, Says, Routes}
 use Rattle.dm_rulelaws.proofs.Names.{Again, Owns, Transmits, Spelled, lines_of, puts, packet_line, behind, spelled, group_of, outcome, Pair, counts, IsNetLine, IsNet, is_put, hushed, Sane, sane_line, part_sane, AskNone, seen, topic_by}
-use Rattle.dm_rulelaws.proofs.Names.{seen_none}
+use Rattle.dm_rulelaws.proofs.Names.{seen_none, map, to_kernel}
 use Rattle.dm_rulelaws.proofs.Order.Lines.{thin_same, box_same, Which, Ord, ord_view, ord_label, Last}
 use Rattle.dm_rulelaws.proofs.Queued.{is_user}
 use Rattle.dm_rulelaws.proofs.Order.Puts.{thin_pair, ord_put, ord_taken}
@@ -269,6 +269,23 @@ can_as C m pt o q e c = record { ps = c.ps; is = e ∙ c.is; does = c.does; shap
 -- a label and then parts
 pub can_say : (C : Type 0) (m : ℕ) (pt : Point) (l : Label) (t : OneKernel) (ps : List Part) → kernel.step pt.kernel l ≡ Some t → no_receive (said (rule.says l ∷ ps)) ≡ true → HaveNoOwn ps → Does C (moved pt (Line.Label l) t) ps → Can C m pt (Some (rule.says l ∷ ps))
 can_say C m pt l t ps is quiet none d = record { ps = rule.says l ∷ ps; is = refl; does = does_label C pt l t ps is d; shape = Quiet quiet; owns = NoOwns (tt, none) }
+
+-- a label and then parts, of which some may be kernels' own messages
+pub can_ends : (C : Type 0) (m : ℕ) (pt : Point) (l : Label) (t : OneKernel) (ps : List Part) → kernel.step pt.kernel l ≡ Some t → no_receive (said (rule.says l ∷ ps)) ≡ true → OwnsFit pt.view (rule.says l ∷ ps) → Does C (moved pt (Line.Label l) t) ps → Can C m pt (Some (rule.says l ∷ ps))
+can_ends C m pt l t ps is quiet owns d = record { ps = rule.says l ∷ ps; is = refl; does = does_label C pt l t ps is d; shape = Quiet quiet; owns = owns }
+
+-- predecessors are told of an end; where nothing moves there are none
+pub buries_plain : (v : View) (ms : List ℕ) → ArePlain v (map (to_kernel MessageKind.Bury) ms)
+buries_plain v [] = tt
+buries_plain v (m ∷ ms) = (tt, buries_plain v ms)
+
+pub does_buries : (C : Type 0) (ms : List ℕ) (pt : Point) → (C → ms ≡ []) → Does C pt (map (to_kernel MessageKind.Bury) ms)
+does_buries C [] pt none = does_nothing C pt
+does_buries C (m ∷ ms) pt none = does_plain C (map (to_kernel MessageKind.Bury) (m ∷ ms)) pt (λ c. let f : m ∷ ms ≡ [] = none c in cc) (buries_plain pt.view (m ∷ ms))
+
+pub buries_quiet : (ms : List ℕ) → no_receive (said (map (to_kernel MessageKind.Bury) ms)) ≡ true
+buries_quiet [] = refl
+buries_quiet (m ∷ ms) = buries_quiet ms
 
 -- a line
 pub can_line : (C : Type 0) (m : ℕ) (pt : Point) (l : Line) → label_of l ≡ None → is_put l ≡ false → (C → (k : Which) → Ord k pt.kernel pt.view → Ord k pt.kernel (view_after pt.view l)) → Can C m pt (Some (Says l ∷ []))

@@ -1,21 +1,23 @@
 -- A message for a process at the front of the inbox can be handled.
-use Rattle.dm_rulelaws.proofs.Names.{◌≡◌, ◌≢◌, ℕ, ◌+◌, ◌≤◌, ◌==◌, ◌&&◌, ◌||◌, Bool, true, false, ◌∷◌, length, refl, ap, ◌∙◌, sym, subst, is_some, nat_le, arith, if◌then◌else◌, take, drop, Option, None, Some, false≢true, Pid, pid_eq, MsgId}
+use Rattle.dm_rulelaws.proofs.Names.{◌≡◌, ℕ, ◌+◌, ◌≤◌, ◌==◌, ◌&&◌, ◌||◌, Bool, true, false, ◌∷◌, length, refl, ap, ◌∙◌, sym, subst, is_some, nat_le, arith, if◌then◌else◌, take, drop, Option, None, Some, false≢true, Pid, pid_eq, MsgId}
 use Rattle.dm_rulelaws.proofs.Names.{MessageKind, Label, Reply, Line, id_eq, plain_kind, PlainMessage, PlainWhat, Direction, Boot, Why, switchboard, manager, bind, PlainProcess, PlainStatus, Moving, Life, Alive, Ended, OneKernel}
 use Rattle.dm_rulelaws.proofs.Names.{with_process, with_sent, answer_id, answer_to, without_message, is_dropped, is_of_memory, id_eq-is, out_off, LandsSo, lands-is, Addresses, forwards_on, Point, moved, Says, Routes, times, View, Known}
 use Rattle.dm_rulelaws.proofs.Names.{has_bytes, is_server, awaits, status_awaits, move_fits, piece_fits, WhatFits, is_fixed, agrees, is_still, handled, MoveNote, Outcome, with_note, id_eq-same, pid_eq-same, answers_move, leaves_for, []}
+use Rattle.dm_rulelaws.proofs.Names.{Inbox, ends_with}
 use Rattle.dm_onekernel.specs.Pieces as pieces
 use Rattle.dm_onekernel.specs.Service as service
 use Rattle.dm_onekernel.specs.Step as kernel
 use Rattle.dm_rule.specs.Rule as rule
 use Rattle.dm_rule.specs.View as view
 use Rattle.dm_rulelaws.proofs.Fits.Rises.{both, set_at}
-use Rattle.dm_rulelaws.proofs.Own.Told.{AnyOwns, OwnTold, NoOwns, forwarded_place, forwards_own}
-use Rattle.dm_rulelaws.proofs.Goes.Parts.{does_nothing, does_route, can_as, can_say, can_line, can_plain, ArePlain, does_asks, does_plain, Quiet}
+use Rattle.dm_rulelaws.proofs.Found.Always.{unknown_over}
+use Rattle.dm_rulelaws.proofs.Own.Told.{AnyOwns, EndsOwns, Later, OwnTold, NoOwns, ends_later, forwarded_place, forwards_own}
+use Rattle.dm_rulelaws.proofs.Goes.Parts.{does_nothing, does_route, can_as, can_ends, can_say, can_line, can_plain, ArePlain, does_asks, does_plain, Quiet}
 use Rattle.dm_rulelaws.proofs.Queued.{is_user}
 use Rattle.dm_rulelaws.proofs.Order.Lines.{Which, Ord}
 use Rattle.dm_rulelaws.proofs.Order.Puts.{ord_queued}
-use Rattle.dm_rulelaws.proofs.Goes.Turns.{drops_quiet, drops_own, droppable_on, does_drops, dropped_is}
-use Rattle.dm_rulelaws.proofs.Goes.Front.{begun, Calm, CanTurn, Front, name_of, told_receiver, is_manager, answer_there, sent_there, does_answers, here_free}
+use Rattle.dm_rulelaws.proofs.Goes.Turns.{droppable_on, does_ends, dropped_is, ends_quiet, no_preds}
+use Rattle.dm_rulelaws.proofs.Goes.Front.{begun, Calm, CanTurn, Front, name_of, served_is, told_receiver, is_manager, answer_there, sent_there, does_answers, here_free}
 
 -- a served message's step
 served_step_is : (s : OneKernel) (i : MsgId) (x : PlainMessage) (y : PlainProcess) (w : PlainWhat) (t : OneKernel) → s.bag i ≡ Some x → s.processes x.to ≡ Some (Alive y) → s.notes x.to ≡ None → x.what ≡ w → service.serves s i x y w ≡ Some t → kernel.step s (Label.Served i) ≡ Some t
@@ -38,15 +40,17 @@ can_answer b m o i x y z w k j is alive free f serves there other =
     let step = served_step_is o.kernel i x y w t f.there alive free is serves in
     can_say (Calm m o) m (begun o m) (Label.Served i) t (Routes j ∷ []) step refl (tt, tt) (does_route (Calm m o) (moved (begun o m) (Line.Label (Label.Served i)) t) j k there (λ c s user. absurd (false≢true (sym other ∙ user))))
 
--- a kill takes the queue with it
-can_kill : (b : Boot) (m : ℕ) (o : Point) (i : MsgId) (x : PlainMessage) (y : PlainProcess) → x.what ≡ PlainWhat.Kill → o.kernel.processes x.to ≡ Some (Alive y) → o.kernel.notes x.to ≡ None → Front b m o i x → CanTurn m o (Some (rule.says (Label.Served i) ∷ rule.drop_parts (o.view.queue m x.to)))
+-- a kill takes the queue with it, and the predecessors are told
+can_kill : (b : Boot) (m : ℕ) (o : Point) (i : MsgId) (x : PlainMessage) (y : PlainProcess) → x.what ≡ PlainWhat.Kill → o.kernel.processes x.to ≡ Some (Alive y) → o.kernel.notes x.to ≡ None → Front b m o i x → CanTurn m o (Some (rule.says (Label.Served i) ∷ ends_with o m x.to))
 can_kill b m o i x y is alive free f =
     let s = o.kernel in
+    let v = (begun o m).view in
     let t = with_process (without_message s i) x.to (Ended Why.Killed) in
     let step = served_step_is s i x y PlainWhat.Kill t f.there alive free is refl in
-    can_say (Calm m o) m (begun o m) (Label.Served i) t (rule.drop_parts (o.view.queue m x.to)) step (drops_quiet (o.view.queue m x.to)) (drops_own (o.view.queue m x.to))
-    (does_drops (Calm m o) x.to Why.Killed (o.view.queue m x.to) (moved (begun o m) (Line.Label (Label.Served i)) t) (set_at (without_message s i) x.to (Ended Why.Killed))
-    (droppable_on s t x.to (o.view.queue m x.to) (λ j least. out_off s i j (apart j least (id_eq i j) refl)) (f.drops x.to)))
+    can_ends (Calm m o) m (begun o m) (Label.Served i) t (ends_with o m x.to) step (ends_quiet o m x.to)
+    (EndsOwns (Label.Served i) (ends_with o m x.to) refl (λ u a. refl) (subst (λ (w : View). Later w.topic (ends_with o m x.to)) (sym (served_is b m o i x (handled v i) PlainWhat.Kill is f)) (ends_later o m x.to)))
+    (does_ends (Calm m o) x.to Why.Killed o m (moved (begun o m) (Line.Label (Label.Served i)) t) (set_at (without_message s i) x.to (Ended Why.Killed))
+    (droppable_on s t x.to (o.view.queue m x.to) (λ j least. out_off s i j (apart j least (id_eq i j) refl)) (f.drops x.to)) (λ c. no_preds o m x.to (λ n. c.preds n x.to)))
   where
     apart : (j : MsgId) → 1 ≤ times j (o.view.queue m x.to) → (c : Bool) → id_eq i j ≡ c → id_eq i j ≡ false
     apart j least false e = e
@@ -201,10 +205,6 @@ pub alive_of : (l : Option Life) → agrees view.Here l ≡ true → (y : PlainP
 alive_of (Some (Alive y)) e = (y, refl)
 alive_of _ e = cc
 
-pub ended_of : (l : Option Life) → agrees view.Ended l ≡ true → (y : Why) × (l ≡ Some (Ended y))
-ended_of (Some (Ended y)) e = (y, refl)
-ended_of _ e = cc
-
 -- a message goes on
 pub forwards_plain : (v : View) (a : Addresses) (i : MsgId) (k : MessageKind) (sender : Pid) (to : ℕ) → is_some (v.told i) ≡ true → ArePlain v (forwards_on a i k sender to)
 forwards_plain v a i k sender to told = search arith
@@ -213,24 +213,33 @@ forwards_plain v a i k sender to told = search arith
 pub no_server : {X : Type 0} (d e : Bool) (x y z : X) → d ≡ false → e ≡ false → (if d then x else if e then y else z) ≡ z
 no_server d e x y z h k = ap (λ (c : Bool). if c then x else if e then y else z) h ∙ ap (λ (c : Bool). if c then y else z) k
 
-can_known : (b : Boot) (m : ℕ) (o : Point) (i : MsgId) (x : PlainMessage) (k : Known) → o.view.known m x.to ≡ k → k ≢ view.Unknown → agrees k (o.kernel.processes x.to) ≡ true → (x.to.num == 0) ≡ false → pid_eq x.to switchboard ≡ false → pid_eq x.to manager ≡ false → Front b m o i x → OwnTold o → CanTurn m o (rule.process_handles o m i x k)
-can_known b m o i x view.Unknown is there agree num one other f own = absurd (there refl)
-can_known b m o i x view.Here is there agree num one other f own =
+-- neither a kernel nor a server
+process_free : (x : PlainMessage) → (x.to.num == 0) ≡ false → pid_eq x.to switchboard ≡ false → pid_eq x.to manager ≡ false → is_fixed x.to ≡ false
+process_free x num one other = ap (λ (c : Bool). c || is_server x.to) num ∙ ap (λ (c : Bool). c || pid_eq x.to manager) one ∙ other
+
+-- a receiver that nothing is known of where its message comes has ended
+pub front_over : (b : Boot) (m : ℕ) (o : Point) (i : MsgId) (x : PlainMessage) → is_fixed x.to ≡ false → Front b m o i x → o.view.known m x.to ≡ view.Unknown → (y : Why) × (o.kernel.processes x.to ≡ Some (Ended y))
+front_over b m o i x free f none =
+    let to = told_receiver b m o i x f in
+    let (y, over) = unknown_over o i (Inbox m) f.told f.run.based.phased f.run.kept f.first f.told_is (ap is_fixed to ∙ free) (ap (o.view.known m) to ∙ none) in
+    (y, ap o.kernel.processes (sym to) ∙ over)
+
+can_known : (b : Boot) (m : ℕ) (o : Point) (i : MsgId) (x : PlainMessage) (k : Known) → o.view.known m x.to ≡ k → agrees k (o.kernel.processes x.to) ≡ true → (x.to.num == 0) ≡ false → pid_eq x.to switchboard ≡ false → pid_eq x.to manager ≡ false → Front b m o i x → OwnTold o → CanTurn m o (rule.process_handles o m i x k)
+can_known b m o i x view.Unknown is agree num one other f own =
+    let (y, over) = front_over b m o i x (process_free x num one other) f is in
+    can_ended b m o i x y x.what refl num other over f (f.run.based.fits.messages i x f.there)
+can_known b m o i x view.Here is agree num one other f own =
     let (y, alive) = alive_of (o.kernel.processes x.to) agree in
     can_as (Calm m o) m (begun o m) (rule.process_handles o m i x view.Here) (rule.here_handles o m i x y x.what) (no_server (pid_eq x.to switchboard) (pid_eq x.to manager) _ _ _ one other ∙ ap (λ (l : Option Life). bind (kernel.alive l) (λ (p : PlainProcess). rule.here_handles o m i x p x.what)) alive)
     (can_here b m o i x y x.what refl num other alive (here_free o.kernel o.view m x.to f.run.based.noted is) f (f.run.based.fits.messages i x f.there))
-can_known b m o i x (view.Frozen to) is there agree num one other f own = can_plain (Calm m o) m (begun o m) (Says (Line.Held i) ∷ []) (λ c. false≢true (sym (ap is_still is) ∙ c.known x.to)) (refl, tt) (NoOwns (tt, tt))
-can_known b m o i x (view.Incoming from) is there agree num one other f own = can_plain (Calm m o) m (begun o m) (Says (Line.Held i) ∷ []) (λ c. false≢true (sym (ap is_still is) ∙ c.known x.to)) (refl, tt) (NoOwns (tt, tt))
-can_known b m o i x (view.Forward at_ moves) is there agree num one other f own =
+can_known b m o i x (view.Frozen to) is agree num one other f own = can_plain (Calm m o) m (begun o m) (Says (Line.Held i) ∷ []) (λ c. false≢true (sym (ap is_still is) ∙ c.known x.to)) (refl, tt) (NoOwns (tt, tt))
+can_known b m o i x (view.Incoming from) is agree num one other f own = can_plain (Calm m o) m (begun o m) (Says (Line.Held i) ∷ []) (λ c. false≢true (sym (ap is_still is) ∙ c.known x.to)) (refl, tt) (NoOwns (tt, tt))
+can_known b m o i x (view.Forward at_ moves) is agree num one other f own =
     let v = (begun o m).view in
     can_plain (Calm m o) m (begun o m) (forwards_on o.addresses i (plain_kind x.what) x.sender at_) (λ c. false≢true (sym (ap is_still is) ∙ c.known x.to)) (forwards_plain v o.addresses i (plain_kind x.what) x.sender at_ (ap is_some f.told_is))
     (forwards_own v o.addresses i (plain_kind x.what) x.sender at_ (forwarded_place v i at_ f.told at_ moves f.told_is (ap (o.view.known m) (told_receiver b m o i x f) ∙ is)) (λ e. own.sender i x f.there e))
-can_known b m o i x view.Ended is there agree num one other f own =
-    let (y, over) = ended_of (o.kernel.processes x.to) agree in
-    can_ended b m o i x y x.what refl num other over f (f.run.based.fits.messages i x f.there)
 
 pub can_process : (b : Boot) (m : ℕ) (o : Point) (i : MsgId) (x : PlainMessage) → (x.to.num == 0) ≡ false → pid_eq x.to switchboard ≡ false → pid_eq x.to manager ≡ false → Front b m o i x → OwnTold o → CanTurn m o (rule.process_handles o m i x (o.view.known m x.to))
 can_process b m o i x num one other f own =
     let server : is_server x.to ≡ false = ap (λ (c : Bool). c || pid_eq x.to manager) one ∙ other in
-    let loose : is_fixed x.to ≡ false = ap (λ (c : Bool). c || is_server x.to) num ∙ server in
-    search (arith, told_receiver, can_known, o.view.known, x.to, f.run.found.process, f.told, f.first, f.told_is, f.run.based.known.agree)
+    can_known b m o i x (o.view.known m x.to) refl (f.run.based.known.agree m x.to server) num one other f own

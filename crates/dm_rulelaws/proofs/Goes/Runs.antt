@@ -69,6 +69,7 @@ not_own b pt m i is h box none =
 calm_turn : (b : Boot) (pt : Point) (m : ℕ) → Stays b pt → Calm m pt
 calm_turn b pt m h = record {
   known = λ p. h.home.rings.known m p;
+  preds = λ n p. h.home.rings.preds m n p;
   ring = h.home.rings.ring m;
   front = λ i is x box there. for_home m (pt.kernel.bag i) x (both (nat_le 1 (h.e i)) (is_for_home m (pt.kernel.bag i)) (front_stands b pt m i is h box)).1 there;
   none = λ i is box none. not_own b pt m i is h box none;

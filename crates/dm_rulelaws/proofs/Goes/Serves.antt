@@ -2,11 +2,11 @@
 use Rattle.dm_rulelaws.proofs.Names.{◌≡◌, ℕ, zero, suc, ◌+◌, ◌≤◌, ◌==◌, ◌&&◌, Bool, true, false, List, [], ◌∷◌, refl, ap, ◌∙◌, sym, is_some, nat_lt, inl, inr, arith, if◌then◌else◌, Option, None, Some, cases_Bool, false≢true, nat_tests, Pid}
 use Rattle.dm_rulelaws.proofs.Names.{pid_eq, MsgId, id_eq, Label, Why, Line, PlainMessage, PlainWhat, on_mask, instruction, Boot, Reply, reply_eq, reply_code, why_code, bind, when, PlainProcess, PlainStatus, Ready, Waiting, Alive, Ended}
 use Rattle.dm_rulelaws.proofs.Names.{OneKernel, with_process, with_sent, without_message, id_eq-is, id_eq-same, pid_eq-same, sent_at, bind-is, alive-is, counts, Point, moved, Part, Routes, times, is_kernels, not_kernels, switchboard}
-use Rattle.dm_rulelaws.proofs.Names.{manager, not_server, nexts, are_home, Sane, eq_self, not_is, zero_if, runnable_home, option_map_or}
+use Rattle.dm_rulelaws.proofs.Names.{manager, not_server, nexts, are_home, Sane, eq_self, not_is, zero_if, runnable_home, option_map_or, Life, Moving, View, ends_with, preds_of}
 use Rattle.dm_rulelaws.proofs.Fits.Rises.{set_at, both}
-use Rattle.dm_rulelaws.proofs.Goes.Parts.{said, no_receive, Shape, Quiet, Takes, Does, does_nothing, does_label, does_route, sane_by, Can, can_line}
-use Rattle.dm_rulelaws.proofs.Own.Told.{HaveNoOwn}
-use Rattle.dm_rulelaws.proofs.Goes.Turns.{times_self, times_more, Droppable, droppable_on, does_drops, drops_quiet, drops_own, at_hand_of}
+use Rattle.dm_rulelaws.proofs.Goes.Parts.{said, no_receive, Shape, Quiet, Takes, Does, does_nothing, does_label, does_route, sane_by, Can, can_as, can_line}
+use Rattle.dm_rulelaws.proofs.Own.Told.{EndsOwns, NoOwns, OwnsFit, ends_later}
+use Rattle.dm_rulelaws.proofs.Goes.Turns.{times_self, times_more, Droppable, droppable_on, does_ends, ends_quiet, at_hand_of}
 use Rattle.dm_rulelaws.proofs.Order.Lines.{Last}
 use Rattle.dm_onekernel.specs.Calls as calls
 use Rattle.dm_onekernel.specs.Receiving as receiving
@@ -48,52 +48,61 @@ sent_last pt p n k y next home other h =
     let w = nexts s p (kernel.Calls n (calls.Sends k y)) next in
     grind (arith, nat_tests, w.counts, not_server, w.x, w.is.alive, h.sound.made, k.id.from, k.id.n, k.id, counts_alive, w.x.sent, set_at, y.sent, never_counted)
 
+-- a process may end, with these parts behind it
+abbrev MayEnd : Type 0 → Point → Pid → List Part → Type 0
+MayEnd C pt p over = (y : Why) → Does C (moved pt (Line.Label (Label.End p y)) (with_process pt.kernel p (Ended y))) over
+
 -- what a call comes to
-does_called : (C : Type 0) (pt : Point) (p : Pid) (n : ℕ) (queue : List MsgId) (c : calls.Called) → kernel.next_trap pt.kernel p ≡ Some (kernel.Calls n c) → Droppable pt.kernel p queue → (C → p.home ≡ pt.view.acting) → Sane pt → Does C pt (rule.called p n queue c)
-does_called C pt p n queue (calls.Replies reply y) next drops home h =
+does_called : (C : Type 0) (pt : Point) (p : Pid) (n : ℕ) (over : List Part) (c : calls.Called) → kernel.next_trap pt.kernel p ≡ Some (kernel.Calls n c) → MayEnd C pt p over → (C → p.home ≡ pt.view.acting) → Sane pt → Does C pt (rule.called p n over c)
+does_called C pt p n over (calls.Replies reply y) next ends home h =
     let s = pt.kernel in
     let step : kernel.step s (Label.Call p n reply) ≡ Some (kernel.goes_on s p y) = ap (λ (o : Option kernel.Trap). bind o (kernel.replies s p n reply)) next ∙ ap (λ (d : Bool). when d (kernel.goes_on s p y)) (reply_same n reply) in
     does_label C pt (Label.Call p n reply) (kernel.goes_on s p y) [] step (does_nothing C (moved pt (Line.Label (Label.Call p n reply)) (kernel.goes_on s p y)))
-does_called C pt p n queue (calls.Sends k y) next drops home h =
+does_called C pt p n over (calls.Sends k y) next ends home h =
     let s = pt.kernel in
     let t = with_sent (kernel.goes_on s p y) (Some k) in
     let step : kernel.step s (Label.Send p k.id) ≡ Some t = ap (λ (o : Option kernel.Trap). bind o (kernel.sends s p k.id)) next ∙ ap (λ (d : Bool). when d t) (id_eq-same k.id) in
     let there : t.bag k.id ≡ Some k = sent_at (kernel.goes_on s p y) k k.id (id_eq-same k.id) in
     does_label C pt (Label.Send p k.id) t (Routes k.id ∷ []) step
     (does_route C (moved pt (Line.Label (Label.Send p k.id)) t) k.id k there (λ c sane user. sent_last pt p n k y next (home c) (not_kernels sane.r sane.e t k.id k there sane.sound) h))
-does_called C pt p n queue (calls.Waits y) next drops home h =
+does_called C pt p n over (calls.Waits y) next ends home h =
     let s = pt.kernel in
     let step : kernel.step s (Label.Wait p) ≡ Some (kernel.goes_on s p y) = ap (λ (o : Option kernel.Trap). bind o (kernel.waits s p)) next in
     does_label C pt (Label.Wait p) (kernel.goes_on s p y) [] step (does_nothing C (moved pt (Line.Label (Label.Wait p)) (kernel.goes_on s p y)))
-does_called C pt p n queue (calls.Outputs word y) next drops home h =
+does_called C pt p n over (calls.Outputs word y) next ends home h =
     let s = pt.kernel in
     let step : kernel.step s (Label.Out p word) ≡ Some (kernel.goes_on s p y) = ap (λ (o : Option kernel.Trap). bind o (kernel.outputs s p word)) next ∙ ap (λ (d : Bool). when d (kernel.goes_on s p y)) (eq_self word) in
     does_label C pt (Label.Out p word) (kernel.goes_on s p y) [] step (does_nothing C (moved pt (Line.Label (Label.Out p word)) (kernel.goes_on s p y)))
-does_called C pt p n queue (calls.Ends because) next drops home h =
+does_called C pt p n over (calls.Ends because) next ends home h =
     let s = pt.kernel in
     let t = with_process s p (Ended because) in
     let step : kernel.step s (Label.End p because) ≡ Some t = ap (λ (o : Option kernel.Trap). bind o (kernel.ends s p because)) next ∙ ap (λ (d : Bool). when d t) (eq_self (why_code because)) in
-    does_label C pt (Label.End p because) t (rule.drop_parts queue) step
-    (does_drops C p because queue (moved pt (Line.Label (Label.End p because)) t) (set_at s p (Ended because)) (droppable_on s t p queue (λ i least. refl) drops))
+    does_label C pt (Label.End p because) t over step (ends because)
 
-does_stops : (C : Type 0) (pt : Point) (p : Pid) (queue : List MsgId) (o : Option kernel.Trap) → kernel.next_trap pt.kernel p ≡ o → Droppable pt.kernel p queue → (C → p.home ≡ pt.view.acting) → Sane pt → Does C pt (rule.stops p queue o)
-does_stops C pt p queue None next drops home h = does_nothing C pt
-does_stops C pt p queue (Some (kernel.Calls n c)) next drops home h = does_called C pt p n queue c next drops home h
-does_stops C pt p queue (Some (kernel.Faults fault)) next drops home h =
+does_stops : (C : Type 0) (pt : Point) (p : Pid) (over : List Part) (o : Option kernel.Trap) → kernel.next_trap pt.kernel p ≡ o → MayEnd C pt p over → (C → p.home ≡ pt.view.acting) → Sane pt → Does C pt (rule.stops p over o)
+does_stops C pt p over None next ends home h = does_nothing C pt
+does_stops C pt p over (Some (kernel.Calls n c)) next ends home h = does_called C pt p n over c next ends home h
+does_stops C pt p over (Some (kernel.Faults fault)) next ends home h =
     let s = pt.kernel in
     let because = Why.Fault fault in
     let t = with_process s p (Ended because) in
     let step : kernel.step s (Label.End p because) ≡ Some t = ap (λ (o : Option kernel.Trap). bind o (kernel.ends s p because)) next ∙ ap (λ (d : Bool). when d t) (eq_self (why_code because)) in
-    does_label C pt (Label.End p because) t (rule.drop_parts queue) step
-    (does_drops C p because queue (moved pt (Line.Label (Label.End p because)) t) (set_at s p (Ended because)) (droppable_on s t p queue (λ i least. refl) drops))
+    does_label C pt (Label.End p because) t over step (ends because)
 
 does_rest : (C : Type 0) (pt : Point) (c : Bool) (ps : List Part) → Does C pt ps → Does C pt (if c then [] else ps)
 does_rest C pt true ps d = does_nothing C pt
 does_rest C pt false ps d = d
 
-does_executes : (C : Type 0) (b : Boot) (pt : Point) (p : Pid) (queue : List MsgId) (x : PlainProcess) → pt.kernel.processes p ≡ Some (Alive x) → pt.kernel.notes p ≡ None → x.stopped ≡ false → x.status ≡ Ready → Droppable pt.kernel p queue → (C → p.home ≡ pt.view.acting) → Sane pt
-    → Does C pt (rule.executes b.quantum p queue x (rule.ran b.quantum (kernel.machine_of x)))
-does_executes C b pt p queue x is free going ready drops home h =
+-- what follows an end can be said
+may_end : (C : Type 0) (o : Point) (m : ℕ) (pt : Point) (p : Pid) → Droppable pt.kernel p (o.view.queue m p) → (C → preds_of o m p ≡ []) → MayEnd C pt p (ends_with o m p)
+may_end C o m pt p drops none y =
+    let s = pt.kernel in
+    let t = with_process s p (Ended y) in
+    does_ends C p y o m (moved pt (Line.Label (Label.End p y)) t) (set_at s p (Ended y)) (droppable_on s t p (o.view.queue m p) (λ i least. refl) drops) none
+
+does_executes : (C : Type 0) (b : Boot) (o : Point) (m : ℕ) (pt : Point) (p : Pid) (x : PlainProcess) → pt.kernel.processes p ≡ Some (Alive x) → pt.kernel.notes p ≡ None → x.stopped ≡ false → x.status ≡ Ready → Droppable pt.kernel p (o.view.queue m p) → (C → preds_of o m p ≡ [])
+    → (C → p.home ≡ pt.view.acting) → Sane pt → Does C pt (rule.executes b.quantum p (ends_with o m p) x (rule.ran b.quantum (kernel.machine_of x)))
+does_executes C b o m pt p x is free going ready drops none home h =
     let s = pt.kernel in
     let r = rule.ran b.quantum (kernel.machine_of x) in
     let y = kernel.with_machine x r.machine in
@@ -101,9 +110,13 @@ does_executes C b pt p queue x is free going ready drops home h =
     let step : kernel.step s (Label.Ran p r.count) ≡ Some t =
     ap (λ (o : Option PlainProcess). bind o (λ (v : PlainProcess). bind (kernel.plain_steps r.count (kernel.machine_of v)) (λ (z : kernel.Machine). Some (kernel.goes_on s p (kernel.with_machine v z))))) (running_of s p x is free going ready)
     ∙ ap (λ (o : Option kernel.Machine). bind o (λ (z : kernel.Machine). Some (kernel.goes_on s p (kernel.with_machine x z)))) (ran_steps b.quantum (kernel.machine_of x)) in
-    let o = kernel.next_row p y (instruction r.machine.regs r.machine.bytes) in
-    let next : kernel.next_trap t p ≡ o = ap (λ (v : Option PlainProcess). bind v (λ (z : PlainProcess). kernel.next_row p z (instruction z.regs z.memory))) (running_of t p y (set_at s p (Alive y)) free going ready) in
-    search (arith, does_label, does_rest, does_stops, droppable_on, sane_by)
+    let trap = kernel.next_row p y (instruction r.machine.regs r.machine.bytes) in
+    let next : kernel.next_trap t p ≡ trap = ap (λ (v : Option PlainProcess). bind v (λ (z : PlainProcess). kernel.next_row p z (instruction z.regs z.memory))) (running_of t p y (set_at s p (Alive y)) free going ready) in
+    let mid = moved pt (Line.Label (Label.Ran p r.count)) t in
+    let over = ends_with o m p in
+    does_label C pt (Label.Ran p r.count) t (if r.count == b.quantum then [] else rule.stops p over trap) step
+    (does_rest C mid (r.count == b.quantum) (rule.stops p over trap)
+    (does_stops C mid p over trap next (may_end C o m mid p (droppable_on s t p (o.view.queue m p) (λ i least. refl) drops) none) home (sane_by pt (Line.Label (Label.Ran p r.count)) t refl step h)))
 
 -- a waiting process takes a message
 pub record Awaited (s : OneKernel) (mask : ℕ) (ids : List MsgId) (i : MsgId) : Type 0 where
@@ -119,15 +132,35 @@ pub first_is : (s : OneKernel) (mask : ℕ) (ids : List MsgId) (i : MsgId) → r
 first_is s mask [] i e = cc
 first_is s mask (j ∷ js) i e = awaited_if s mask j js i (rule.is_awaited mask (s.bag j)) refl e (first_is s mask js i)
 
-stops_quiet : (p : Pid) (queue : List MsgId) (o : Option kernel.Trap) → no_receive (said (rule.stops p queue o)) ≡ true
-stops_quiet p queue o = search (arith, drops_quiet)
+called_quiet : (p : Pid) (n : ℕ) (over : List Part) (c : calls.Called) → no_receive (said over) ≡ true → no_receive (said (rule.called p n over c)) ≡ true
+called_quiet p n over (calls.Ends because) h = h
+called_quiet p n over _ h = refl
 
-stops_own : (p : Pid) (queue : List MsgId) (o : Option kernel.Trap) → HaveNoOwn (rule.stops p queue o)
-stops_own p queue o = search (arith, drops_own)
+stops_quiet : (p : Pid) (over : List Part) (o : Option kernel.Trap) → no_receive (said over) ≡ true → no_receive (said (rule.stops p over o)) ≡ true
+stops_quiet p over None h = refl
+stops_quiet p over (Some (kernel.Calls n c)) h = called_quiet p n over c h
+stops_quiet p over (Some (kernel.Faults fault)) h = h
 
-rest_own : (c : Bool) (ps : List Part) → HaveNoOwn ps → HaveNoOwn (if c then [] else ps)
-rest_own true ps h = tt
-rest_own false ps h = h
+rest_quiet : (c : Bool) (ps : List Part) → no_receive (said ps) ≡ true → no_receive (said (if c then [] else ps)) ≡ true
+rest_quiet true ps h = refl
+rest_quiet false ps h = h
+
+-- behind an end kernels are told of the process that has ended
+ends_fit : (v : View) (p : Pid) (k : ℕ) (y : Why) (o : Point) (m : ℕ) → OwnsFit v (rule.says (Label.Ran p k) ∷ rule.says (Label.End p y) ∷ ends_with o m p)
+ends_fit v p k y o m = EndsOwns (Label.Ran p k) (rule.says (Label.End p y) ∷ ends_with o m p) refl (λ s b. refl) (ends_later o m p)
+
+called_fit : (v : View) (p : Pid) (k n : ℕ) (o : Point) (m : ℕ) (c : calls.Called) → OwnsFit v (rule.says (Label.Ran p k) ∷ rule.called p n (ends_with o m p) c)
+called_fit v p k n o m (calls.Replies reply y) = NoOwns (tt, (tt, tt))
+called_fit v p k n o m (calls.Sends x y) = NoOwns (tt, (tt, (tt, tt)))
+called_fit v p k n o m (calls.Waits y) = NoOwns (tt, (tt, tt))
+called_fit v p k n o m (calls.Outputs word y) = NoOwns (tt, (tt, tt))
+called_fit v p k n o m (calls.Ends because) = ends_fit v p k because o m
+
+stops_fit : (v : View) (p : Pid) (k : ℕ) (o : Point) (m : ℕ) (c : Bool) (t : Option kernel.Trap) → OwnsFit v (rule.says (Label.Ran p k) ∷ (if c then [] else rule.stops p (ends_with o m p) t))
+stops_fit v p k o m true t = NoOwns (tt, tt)
+stops_fit v p k o m false None = NoOwns (tt, tt)
+stops_fit v p k o m false (Some (kernel.Calls n c)) = called_fit v p k n o m c
+stops_fit v p k o m false (Some (kernel.Faults fault)) = ends_fit v p k (Why.Fault fault) o m
 
 completes_what : (p : Pid) (x : PlainProcess) (k : PlainMessage) (mask base size : ℕ) (w : PlainWhat) → rule.what_is_awaited mask w ≡ true → k.to ≡ p → (c : receiving.Completed) × (receiving.completes_what p x k mask base size w ≡ Some c)
 completes_what p x k mask base size (PlainWhat.User code channel body links) e to =
@@ -182,9 +215,22 @@ can_receive C m pt p queue x mask base size (Some i) status first some is free g
     let to = droppable_to s p queue i k a.there a.stands drops in
     search (arith, completes_what, k.what, a.what, x.status, s.bag, at_hand_of, a.there, does_completes, completes_shape)
 
-can_serve : (C : Type 0) (b : Boot) (m : ℕ) (pt : Point) (p : Pid) (queue : List MsgId) (x : PlainProcess) (st : PlainStatus) → x.status ≡ st → rule.status_can_go pt.kernel queue st ≡ true → pt.kernel.processes p ≡ Some (Alive x) → pt.kernel.notes p ≡ None → x.stopped ≡ false → queue ≡ pt.view.queue m p → Droppable pt.kernel p queue → (C → p.home ≡ pt.view.acting) → Sane pt
-    → Can C m pt (rule.serves_status b.quantum pt.kernel p queue x st)
-can_serve C b m pt p queue x st h1 h2 h3 h4 h5 h6 h7 h8 h9 = search (arith, b.quantum, does_executes, stops_quiet, rest_own, stops_own, can_receive, pt.kernel)
+can_serve : (C : Type 0) (b : Boot) (m : ℕ) (o pt : Point) (p : Pid) (x : PlainProcess) (st : PlainStatus) → x.status ≡ st → rule.status_can_go pt.kernel (o.view.queue m p) st ≡ true → pt.kernel.processes p ≡ Some (Alive x) → pt.kernel.notes p ≡ None → x.stopped ≡ false → o.view.queue m p ≡ pt.view.queue m p
+    → Droppable pt.kernel p (o.view.queue m p) → (C → preds_of o m p ≡ []) → (C → p.home ≡ pt.view.acting) → Sane pt → Can C m pt (rule.serves_status b.quantum pt.kernel p (o.view.queue m p) (ends_with o m p) x st)
+can_serve C b m o pt p x Ready status go is free going same drops none home h =
+    let r = rule.ran b.quantum (kernel.machine_of x) in
+    let trap = kernel.next_row p (kernel.with_machine x r.machine) (instruction r.machine.regs r.machine.bytes) in
+    let over = ends_with o m p in
+    record {
+      ps = rule.executes b.quantum p over x r;
+      is = refl;
+      does = does_executes C b o m pt p x is free going status drops none home h;
+      shape = Quiet (rest_quiet (r.count == b.quantum) (rule.stops p over trap) (stops_quiet p over trap (ends_quiet o m p)));
+      owns = stops_fit pt.view p r.count o m (r.count == b.quantum) trap;
+    }
+can_serve C b m o pt p x (Waiting mask base size) status go is free going same drops none home h =
+    can_receive C m pt p (o.view.queue m p) x mask base size (rule.first_awaited pt.kernel mask (o.view.queue m p)) status refl go is free going same drops
+can_serve C b m o pt p x (Moving dir owner base own left pending) status go is free going same drops none home h = absurd (false≢true go)
 
 -- the first of the ring that can be served
 pub record Runnable (s : OneKernel) (queue : Pid → List MsgId) (p : Pid) : Type 0 where
@@ -197,14 +243,18 @@ runnable_is : (s : OneKernel) (queue : Pid → List MsgId) (ps : List Pid) (q : 
 runnable_is s queue [] q e = cc
 runnable_is s queue (p ∷ ps) q e = search (arith, rule.can_go s (queue p) (kernel.alive (s.processes p)), runnable_is s queue ps q, both, alive-is, not_is)
 
-can_go_round : (C : Type 0) (b : Boot) (m : ℕ) (o pt : Point) (p : Option Pid) → o.kernel ≡ pt.kernel → ((q : Pid) → o.view.queue m q ≡ pt.view.queue m q) → ((q : Pid) → p ≡ Some q → Runnable pt.kernel (o.view.queue m) q) → ((q : Pid) → p ≡ Some q → pt.kernel.notes q ≡ None) → ((q : Pid) → Droppable pt.kernel q (o.view.queue m q))
+can_go_round : (C : Type 0) (b : Boot) (m : ℕ) (o pt : Point) (p : Option Pid) → o.kernel ≡ pt.kernel → ((q : Pid) → o.view.queue m q ≡ pt.view.queue m q) → ((q : Pid) → p ≡ Some q → Runnable pt.kernel (o.view.queue m) q) → ((q : Pid) → p ≡ Some q → pt.kernel.notes q ≡ None) → ((q : Pid) → Droppable pt.kernel q (o.view.queue m q)) → (C → (q : Pid) → preds_of o m q ≡ [])
     → (C → (q : Pid) → p ≡ Some q → q.home ≡ pt.view.acting) → Sane pt → Can C m pt (rule.goes_round b o m p)
-can_go_round C b m o pt None same boxes run free drops home h = can_line C m pt (Line.Idle m) refl refl (λ c k o_. o_)
-can_go_round C b m o pt (Some p) same boxes run free drops home h =
+can_go_round C b m o pt None same boxes run free drops none home h = can_line C m pt (Line.Idle m) refl refl (λ c k o_. o_)
+can_go_round C b m o pt (Some p) same boxes run free drops none home h =
     let r = run p refl in
-    let k = can_serve C b m pt p (o.view.queue m p) r.x r.x.status refl r.go r.is (free p refl) r.going (boxes p) (drops p) (λ c. home c p refl) h in
-    search (arith, k.ps, b.quantum, o.view.queue, pt.kernel, r.is, k.is, k.does, k.shape, k.owns)
+    let queue = o.view.queue m p in
+    let over = ends_with o m p in
+    can_as C m pt (rule.goes_round b o m (Some p)) (rule.serves_status b.quantum pt.kernel p queue over r.x r.x.status)
+    (ap (λ (s : OneKernel). bind (kernel.alive (s.processes p)) (λ (x : PlainProcess). rule.serves_status b.quantum s p queue over x x.status)) same
+    ∙ ap (λ (l : Option Life). bind (kernel.alive l) (λ (x : PlainProcess). rule.serves_status b.quantum pt.kernel p queue over x x.status)) r.is)
+    (can_serve C b m o pt p r.x r.x.status refl r.go r.is (free p refl) r.going (boxes p) (drops p) (λ c. none c p) (λ c. home c p refl) h)
 
-pub can_turn : (C : Type 0) (b : Boot) (m : ℕ) (o pt : Point) → o.kernel ≡ pt.kernel → ((q : Pid) → o.view.queue m q ≡ pt.view.queue m q) → ((q : Pid) → rule.first_runnable o.kernel (o.view.queue m) (o.view.ring m) ≡ Some q → pt.kernel.notes q ≡ None) → ((q : Pid) → Droppable pt.kernel q (o.view.queue m q)) → (C → are_home m (o.view.ring m) ≡ true) → pt.view.acting ≡ m → Sane pt
+pub can_turn : (C : Type 0) (b : Boot) (m : ℕ) (o pt : Point) → o.kernel ≡ pt.kernel → ((q : Pid) → o.view.queue m q ≡ pt.view.queue m q) → ((q : Pid) → rule.first_runnable o.kernel (o.view.queue m) (o.view.ring m) ≡ Some q → pt.kernel.notes q ≡ None) → ((q : Pid) → Droppable pt.kernel q (o.view.queue m q)) → (C → (q : Pid) → preds_of o m q ≡ []) → (C → are_home m (o.view.ring m) ≡ true) → pt.view.acting ≡ m → Sane pt
     → Can C m pt (rule.goes_round b o m (rule.first_runnable o.kernel (o.view.queue m) (o.view.ring m)))
-can_turn C b m o pt same boxes free drops home acting h = search (arith, can_go_round, o.kernel, o.view.queue, o.view.ring, runnable_is, pt.kernel, runnable_home)
+can_turn C b m o pt same boxes free drops none home acting h = search (arith, can_go_round, o.kernel, o.view.queue, o.view.ring, runnable_is, pt.kernel, runnable_home)

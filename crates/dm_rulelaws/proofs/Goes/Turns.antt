@@ -1,14 +1,13 @@
 -- What is queued for a process can go with it.
 use Rattle.dm_rulelaws.proofs.Names.{◌≡◌, ℕ, ◌+◌, ◌≤◌, Bool, true, false, List, [], ◌∷◌, refl, ap, ◌∙◌, sym, subst, arith, ⊤, if◌then◌else◌, Option, None, Some, Pid, MsgId, id_eq, Label, Line, PlainMessage, PlainWhat, Boot, Why, Ended}
 use Rattle.dm_rulelaws.proofs.Names.{OneKernel, without_message, is_dropped, id_eq-is, id_eq-same, out_off, Point, moved, Spot, Queue, times, standing, StandsNowhere, StandsOutside, StandsRight, is_kernels, stands_right, kernels_fresh}
-use Rattle.dm_rulelaws.proofs.Names.{not_true, StandsAsBag-one, MoveNote, PlainProcess, Alive, option_map_or}
+use Rattle.dm_rulelaws.proofs.Names.{not_true, StandsAsBag-one, MoveNote, PlainProcess, Alive, option_map_or, ◌++◌, Part, buries, ends_with, filter, preds_of, range_with_len}
 pub use Rattle.dm_rule.proofs.Phases.Leaves.{first_of as times_self}
 use Rattle.dm_onekernel.specs.Step as kernel
 use Rattle.dm_rule.specs.Rule as rule
 use Rattle.dm_rulelaws.proofs.Queued.{is_user}
 use Rattle.dm_rulelaws.proofs.Runs.{Based}
-use Rattle.dm_rulelaws.proofs.Goes.Parts.{said, no_receive, Does, does_nothing, does_label}
-use Rattle.dm_rulelaws.proofs.Own.Told.{HaveNoOwn}
+use Rattle.dm_rulelaws.proofs.Goes.Parts.{said, no_receive, Does, does_label, does_buries, buries_quiet}
 
 -- a user message of the bag for a process
 pub record IsFor (s : OneKernel) (p : Pid) (i : MsgId) : Type 0 where
@@ -63,28 +62,39 @@ user_dropped _ e = cc
 pub dropped_is : (s : OneKernel) (i : MsgId) (x : PlainMessage) (y : Why) → s.bag i ≡ Some x → s.processes x.to ≡ Some (Ended y) → is_dropped x.what ≡ true → kernel.step s (Label.Dropped i) ≡ Some (without_message s i)
 dropped_is s i x y there ended drops = search arith
 
-pub does_drops : (C : Type 0) (p : Pid) (y : Why) (ids : List MsgId) (pt : Point) → pt.kernel.processes p ≡ Some (Ended y) → Droppable pt.kernel p ids → Does C pt (rule.drop_parts ids)
-does_drops C p y [] pt ended h = does_nothing C pt
-does_drops C p y (i ∷ is) pt ended h =
+pub does_drops : (C : Type 0) (p : Pid) (y : Why) (ids : List MsgId) (ps : List Part) (pt : Point) → pt.kernel.processes p ≡ Some (Ended y) → Droppable pt.kernel p ids → ((q : Point) → Does C q ps) → Does C pt (rule.drop_parts ids ++ ps)
+does_drops C p y [] ps pt ended h rest = rest pt
+does_drops C p y (i ∷ is) ps pt ended h rest =
     let s = pt.kernel in
     let x = h.0.x in
     let step = dropped_is s i x y h.0.there (ap s.processes h.0.to ∙ ended) (user_dropped x.what h.0.user) in
-    does_label C pt (Label.Dropped i) (without_message s i) (rule.drop_parts is) step
-    (does_drops C p y is (moved pt (Line.Label (Label.Dropped i)) (without_message s i)) ended
-    (droppable_on s (without_message s i) p is (λ j least. out_off s i j (apart j least (id_eq i j) refl)) h.2))
+    does_label C pt (Label.Dropped i) (without_message s i) (rule.drop_parts is ++ ps) step
+    (does_drops C p y is ps (moved pt (Line.Label (Label.Dropped i)) (without_message s i)) ended
+    (droppable_on s (without_message s i) p is (λ j least. out_off s i j (apart j least (id_eq i j) refl)) h.2) rest)
   where
     apart : (j : MsgId) → 1 ≤ times j is → (c : Bool) → id_eq i j ≡ c → id_eq i j ≡ false
     apart j least false e = e
     apart j least true e = absurd (let k : times j is ≡ 0 = sym (ap (λ v. times v is) (id_eq-is i j e)) ∙ h.1 in omega (arith, least, k))
 
--- none of it is received, or a kernel's own
-pub drops_quiet : (ids : List MsgId) → no_receive (said (rule.drop_parts ids)) ≡ true
-drops_quiet [] = refl
-drops_quiet (i ∷ is) = drops_quiet is
+-- what follows an end: the queue goes, and the predecessors are told
+pub does_ends : (C : Type 0) (p : Pid) (y : Why) (o : Point) (m : ℕ) (pt : Point) → pt.kernel.processes p ≡ Some (Ended y) → Droppable pt.kernel p (o.view.queue m p) → (C → preds_of o m p ≡ []) → Does C pt (ends_with o m p)
+does_ends C p y o m pt ended h none = does_drops C p y (o.view.queue m p) (buries o m p) pt ended h (λ q. does_buries C (preds_of o m p) q none)
 
-pub drops_own : (ids : List MsgId) → HaveNoOwn (rule.drop_parts ids)
-drops_own [] = tt
-drops_own (i ∷ is) = (tt, drops_own is)
+-- none of it is received
+drops_quiet : (ids : List MsgId) (ps : List Part) → no_receive (said ps) ≡ true → no_receive (said (rule.drop_parts ids ++ ps)) ≡ true
+drops_quiet [] ps h = h
+drops_quiet (i ∷ is) ps h = drops_quiet is ps h
+
+pub ends_quiet : (o : Point) (m : ℕ) (p : Pid) → no_receive (said (ends_with o m p)) ≡ true
+ends_quiet o m p = drops_quiet (o.view.queue m p) (buries o m p) (buries_quiet (preds_of o m p))
+
+-- where nothing moved there is no predecessor
+pub no_preds : (o : Point) (m : ℕ) (p : Pid) → ((n : ℕ) → o.view.preds m p n ≡ false) → preds_of o m p ≡ []
+no_preds o m p none = none_kept (o.view.preds m p) (range_with_len 0 o.kernel.machines) none
+  where
+    none_kept : (f : ℕ → Bool) (ms : List ℕ) → ((n : ℕ) → f n ≡ false) → filter f ms ≡ []
+    none_kept f [] off = refl
+    none_kept f (n ∷ ms) off = ap (λ (c : Bool). if c then n ∷ filter f ms else filter f ms) (off n) ∙ none_kept f ms off
 
 -- a process that lives and follows no request to move
 pub at_hand_of : (s : OneKernel) (p : Pid) (x : PlainProcess) → s.notes p ≡ None → s.processes p ≡ Some (Alive x) → kernel.at_hand s p ≡ Some x

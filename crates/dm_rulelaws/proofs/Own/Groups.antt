@@ -2,10 +2,10 @@
 use Rattle.dm_rulelaws.proofs.Names.{◌≡◌, ℕ, Bool, true, false, List, [], ◌∷◌, refl, ap, ◌∙◌, sym, subst, inl, inr, ⊤, if◌then◌else◌, Option, None, Some, cases_Bool, false≢true, Pid, MsgId, MessageKind, id_eq, plain_kind, Boot, Label}
 use Rattle.dm_rulelaws.proofs.Names.{OneKernel, bind, id_eq-is, bind-is, Step, Line, Stage, Receiver, Point, label_of, kernel_after, after_line, after, moved, Part, Says, Routes, Again, Owns, Transmits, Spelled, lines_of, puts, packet_line}
 use Rattle.dm_rulelaws.proofs.Names.{behind, spelled, group_of, View, About, Told, view_after, is_kernels, own_id, is_put, hushed, not_kernels, put_told_off, Sane, sane_line, part_sane, Sayable, AllSayable, outcome_sayable, seen_none, sets}
-use Rattle.dm_rulelaws.proofs.Names.{arith}
+use Rattle.dm_rulelaws.proofs.Names.{arith, handled, receiver_of, seen, topic_by}
 use Rattle.dm_rule.specs.View as view
 use Rattle.dm_rulelaws.proofs.Runs.{Run}
-use Rattle.dm_rulelaws.proofs.Own.Told.{OwnTold, own_sort, HasNoOwn, HaveNoOwn, topic_stage, Later, OwnsFit, senders_step, NoOwns, FirstOwns, ThenOwns, AnyOwns}
+use Rattle.dm_rulelaws.proofs.Own.Told.{OwnTold, own_sort, HasNoOwn, HaveNoOwn, topic_stage, Later, OwnsFit, senders_step, NoOwns, FirstOwns, ThenOwns, AnyOwns, EndsOwns}
 use Rattle.dm_rulelaws.proofs.Goes.Parts.{put_lines}
 use Rattle.dm_rulelaws.proofs.Goes.Always.{group_on}
 use Rattle.dm_rulelaws.proofs.Based.Needs.{by_puts}
@@ -107,6 +107,20 @@ stage_topic : (v : View) (p : Pid) (s : Stage) → (view_after v (Line.Migration
 stage_topic v p Stage.Frozen = (sets v p v.topic).topic
 stage_topic v p _ = refl
 
+-- and a label
+label_seen : (pt next : Point) (l : Label) (ls : List Line) → Some (Line.Label l ∷ []) ≡ Some ls → after pt ls ≡ Some next → next.view ≡ seen pt.kernel pt.view (Line.Label l)
+label_seen pt next l ls is leads =
+    let f : Line.Label l ∷ [] ≡ ls = cc in
+    let (mid, first, last) = bind-is (after_line pt (Line.Label l)) (λ q. after q []) next (ap (after pt) f ∙ leads) in
+    let (s, step_, then_) = bind-is (kernel_after pt.kernel (Some l)) (λ s. Some (moved pt (Line.Label l) s)) mid first in
+    let g : moved pt (Line.Label l) s ≡ mid = cc in
+    let e : mid ≡ next = cc in
+    ap (λ (q : Point). q.view) (sym (g ∙ e))
+
+dropped_topic : (v : View) (id : MsgId) (o : Option Pid) → (view.dropped_for v id o).topic ≡ v.topic
+dropped_topic v id None = refl
+dropped_topic v id (Some p) = refl
+
 later_own : (a : About) (ps : List Part) (pt : Point) (w : Spelled) → AllSayable ps → Later a ps → pt.view.topic ≡ a → spelled pt ps ≡ Some w → Sane pt → OwnTold pt → OwnTold w.point
 later_own a [] pt w ok fit topic is sane h = let f : record { lines = []; point = pt } ≡ w = cc in subst (λ (x : Spelled). OwnTold x.point) f h
 later_own a (Again i b ∷ ps) pt w ok fit topic is sane h =
@@ -122,6 +136,16 @@ later_own a (Says (Line.Migration s p) ∷ ps) pt w ok fit topic is sane h =
     let n = next_of pt (Says l) ps w is in
     subst OwnTold n.point (later_own (topic_stage a p s) ps n.next n.rest ok.1 fit (ap (λ (v : View). v.topic) (line_topic pt n.next l n.ls refl n.lines n.leads) ∙ stage_topic pt.view p s ∙ ap (λ (b : About). topic_stage b p s) topic) n.more
     (part_sane pt n.next (Says l) n.ls ok.0 n.lines n.leads sane) (own_part pt n.next (Says l) n.ls ok.0 tt n.lines n.leads sane h))
+later_own a (Says (Line.Label (Label.End p y)) ∷ ps) pt w ok fit topic is sane h =
+    let l = Label.End p y in
+    let n = next_of pt (Says (Line.Label l)) ps w is in
+    subst OwnTold n.point (later_own (About.Of p) ps n.next n.rest ok.1 fit (ap (λ (v : View). v.topic) (label_seen pt n.next l n.ls n.lines n.leads)) n.more
+    (part_sane pt n.next (Says (Line.Label l)) n.ls ok.0 n.lines n.leads sane) (own_part pt n.next (Says (Line.Label l)) n.ls ok.0 tt n.lines n.leads sane h))
+later_own a (Says (Line.Label (Label.Dropped i)) ∷ ps) pt w ok fit topic is sane h =
+    let l = Label.Dropped i in
+    let n = next_of pt (Says (Line.Label l)) ps w is in
+    subst OwnTold n.point (later_own a ps n.next n.rest ok.1 fit (ap (λ (v : View). v.topic) (label_seen pt n.next l n.ls n.lines n.leads) ∙ dropped_topic (handled pt.view i) i (receiver_of (pt.view.told i)) ∙ topic) n.more
+    (part_sane pt n.next (Says (Line.Label l)) n.ls ok.0 n.lines n.leads sane) (own_part pt n.next (Says (Line.Label l)) n.ls ok.0 tt n.lines n.leads sane h))
 later_own a _ pt w ok fit topic is sane h = absurd fit
 
 -- behind a first line
@@ -137,10 +161,20 @@ any_own l qs pt w ok fit is sane h =
     let n = next_of pt (Says l) qs w is in
     subst OwnTold n.point (later_own n.next.view.topic qs n.next n.rest ok.1 (fit n.next.view.topic) refl n.more (part_sane pt n.next (Says l) n.ls ok.0 n.lines n.leads sane) (own_part pt n.next (Says l) n.ls ok.0 tt n.lines n.leads sane h))
 
+-- behind a label that asks nothing to move
+label_own : (l : Label) (qs : List Part) (pt : Point) (w : Spelled) → ((s : OneKernel) (b : About) → topic_by s b (Some l) ≡ b) → AllSayable (Says (Line.Label l) ∷ qs) → Later (view_after pt.view (Line.Label l)).topic qs → spelled pt (Says (Line.Label l) ∷ qs) ≡ Some w → Sane pt → OwnTold pt
+    → OwnTold w.point
+label_own l qs pt w kept ok fit is sane h =
+    let n = next_of pt (Says (Line.Label l)) qs w is in
+    let topic = (view_after pt.view (Line.Label l)).topic in
+    subst OwnTold n.point (later_own topic qs n.next n.rest ok.1 fit (ap (λ (v : View). v.topic) (label_seen pt n.next l n.ls n.lines n.leads) ∙ kept pt.kernel topic) n.more
+    (part_sane pt n.next (Says (Line.Label l)) n.ls ok.0 n.lines n.leads sane) (own_part pt n.next (Says (Line.Label l)) n.ls ok.0 tt n.lines n.leads sane h))
+
 fits_own : (ps : List Part) (pt : Point) (w : Spelled) → AllSayable ps → OwnsFit pt.view ps → spelled pt ps ≡ Some w → Sane pt → OwnTold pt → OwnTold w.point
 fits_own ps pt w ok (NoOwns none) is sane h = none_own ps pt w ok none is sane h
 fits_own ps pt w ok (FirstOwns fit) is sane h = later_own pt.view.topic ps pt w ok fit refl is sane h
 fits_own ps pt w ok (AnyOwns l qs same fit) is sane h = any_own l qs pt w (subst AllSayable same ok) fit (ap (spelled pt) (sym same) ∙ is) sane h
+fits_own ps pt w ok (EndsOwns l qs same kept fit) is sane h = label_own l qs pt w kept (subst AllSayable same ok) fit (ap (spelled pt) (sym same) ∙ is) sane h
 fits_own ps pt w ok (ThenOwns l qs same none fit) is sane h = then_own l qs pt w none (subst AllSayable same ok) fit (ap (spelled pt) (sym same) ∙ is) sane h
 
 pub own_told_group : (b : Boot) (pt : Point) (d : Step) (w : Spelled) → group_of b pt d ≡ Some w → Run b pt → OwnTold pt → OwnTold w.point

@@ -1,8 +1,9 @@
 -- What was told of kernels' own messages, and who sends what is told back.
 use Rattle.dm_rulelaws.proofs.Names.{◌≡◌, ◌==◌, ◌&&◌, Bool, true, false, not, refl, ap, ◌∙◌, sym, Some, false≢true, Pid, MsgId, MessageKind, plain_kind, PlainMessage, is_told_back, is_between, Point, About, Target, Of, Told, is_kernels}
-use Rattle.dm_rulelaws.proofs.Names.{is_server, is_fixed, second, Sort, sort_of, arith, ℕ, List, [], ◌∷◌, ◌++◌, ⊤, if◌then◌else◌, Option, None, pid_of, Line, Stage, Addresses, Sender, to_kernel, forwards_on, accepts, takes_chunk}
-use Rattle.dm_rulelaws.proofs.Names.{takes_block, gives_piece, sends_on, label_of, Part, Says, Routes, Again, Owns, Transmits, View, Known, Forward, view_after, handled, receiver_of, Label, ◌⊎◌, subst, is_some, length, inl, inr, take, drop}
-use Rattle.dm_rulelaws.proofs.Names.{PlainWhat, switchboard, manager, Switchboard, Manager, OneKernel, with_sent, answer_to, without_message, Made, came, stayed, lands-is, Sound, by_step, answer_id, without_note, MoveNote}
+use Rattle.dm_rulelaws.proofs.Names.{is_server, is_fixed, Sort, sort_of, arith, ℕ, List, [], ◌∷◌, ◌++◌, ⊤, if◌then◌else◌, Option, None, pid_of, Line, Stage, Addresses, Sender, to_kernel, forwards_on, accepts, takes_chunk, takes_block}
+use Rattle.dm_rulelaws.proofs.Names.{gives_piece, sends_on, label_of, Part, Says, Routes, Again, Owns, Transmits, View, Known, Forward, view_after, handled, receiver_of, Label, ◌⊎◌, subst, is_some, length, inl, inr, take, drop, PlainWhat}
+use Rattle.dm_rulelaws.proofs.Names.{switchboard, manager, Switchboard, Manager, OneKernel, with_sent, answer_to, without_message, Made, came, stayed, lands-is, Sound, by_step, answer_id, without_note, MoveNote, ◌||◌, buries, bury_is}
+use Rattle.dm_rulelaws.proofs.Names.{ends_with, map, preds_of, right_true, tells_between, tells_end, topic_by}
 use Rattle.dm_rule.specs.View.{Place}
 use Rattle.dm_rule.specs.View as view
 use Rattle.dm_onekernel.specs.Pieces as pieces
@@ -10,6 +11,7 @@ use Rattle.dm_onekernel.specs.Switchboard as board
 use Rattle.dm_onekernel.specs.Manager as manage
 use Rattle.dm_onekernel.specs.Service as service
 use Rattle.dm_onekernel.specs.Step as step
+use Rattle.dm_rule.specs.Rule as rule
 use Rattle.dm_rulelaws.proofs.Takes.{by_manager, by_over}
 
 abbrev pub is_process : About → Bool
@@ -30,6 +32,7 @@ to_kernels q a = (q.num == 0) && is_process a
 
 abbrev pub sort_fits : Sort → Pid → About → Bool
 sort_fits (Sort.Between passage) q a = to_kernels q a
+sort_fits Sort.Buries q a = to_kernels q a
 sort_fits Sort.Notice q a = not (q.num == 0) && is_place a
 sort_fits Sort.Request q a = not (is_fixed q) && is_target a
 sort_fits _ q a = false
@@ -47,8 +50,16 @@ about_of : (a : About) → is_process a ≡ true → (p : Pid) × (a ≡ Of p)
 about_of (Of p) e = (p, refl)
 about_of _ e = absurd (false≢true e)
 
-pub own_between : (k : MessageKind) (q : Pid) (a : About) → own_sort k q a ≡ true → (q.num == 0) ≡ true → (is_between k ≡ true) × (p : Pid) × (a ≡ Of p)
-own_between k = search (arith, about_of, second)
+by_sort : (k : MessageKind) (s : Sort) (q : Pid) (a : About) → sort_of k ≡ s → sort_fits s q a ≡ true → (q.num == 0) ≡ true → ((is_between k ≡ true) ⊎ (k ≡ MessageKind.Bury)) × (p : Pid) × (a ≡ Of p)
+by_sort k (Sort.Between passage) q a is fits num = let (p, of) = about_of a (right_true (q.num == 0) (is_process a) fits) in (inl (ap tells_between is), p, of)
+by_sort k Sort.Buries q a is fits num = let (p, of) = about_of a (right_true (q.num == 0) (is_process a) fits) in (inr (bury_is k (ap tells_end is)), p, of)
+by_sort k Sort.Notice q a is fits num = absurd (false≢true (sym (ap (λ (c : Bool). not c && is_place a) num) ∙ fits))
+by_sort k Sort.Request q a is fits num = absurd (false≢true (sym (ap (λ (c : Bool). not (c || is_server q) && is_target a) num) ∙ fits))
+by_sort k _ q a is fits num = absurd (false≢true fits)
+
+-- a migration's step, or a burial
+pub own_between : (k : MessageKind) (q : Pid) (a : About) → own_sort k q a ≡ true → (q.num == 0) ≡ true → ((is_between k ≡ true) ⊎ (k ≡ MessageKind.Bury)) × (p : Pid) × (a ≡ Of p)
+own_between k q a fits num = by_sort k (sort_of k) q a refl fits num
 
 pub own_server : (k : MessageKind) (q : Pid) (a : About) → own_sort k q a ≡ true → (q.num == 0) ≡ false → is_server q ≡ true → k ≡ MessageKind.Update
 own_server k q a h1 h2 h3 = search arith
@@ -74,6 +85,8 @@ topic_stage a p _ = Of p
 abbrev pub Later : About → List Part → Type 0
 Later a [] = ⊤
 Later a (Says (Line.Migration s p) ∷ ps) = Later (topic_stage a p s) ps
+Later a (Says (Line.Label (Label.End p y)) ∷ ps) = Later (Of p) ps
+Later a (Says (Line.Label (Label.Dropped i)) ∷ ps) = Later a ps
 Later a (Says l ∷ ps) = ⊥
 Later a (Routes i ∷ ps) = ⊥
 Later a (Again i b ∷ ps) = Later a ps
@@ -84,7 +97,20 @@ pub data OwnsFit (v : View) (ps : List Part) : Type 0 where
   NoOwns : (none : HaveNoOwn ps) → OwnsFit v ps
   FirstOwns : (fit : Later v.topic ps) → OwnsFit v ps
   AnyOwns : (l : Line) → (qs : List Part) → (is : ps ≡ Says l ∷ qs) → (fit : (a : About) → Later a qs) → OwnsFit v ps
+  EndsOwns : (l : Label) → (qs : List Part) → (is : ps ≡ Says (Line.Label l) ∷ qs) → (kept : (s : OneKernel) (b : About) → topic_by s b (Some l) ≡ b) → (fit : Later (view_after v (Line.Label l)).topic qs) → OwnsFit v ps
   ThenOwns : (l : Line) → (qs : List Part) → (is : ps ≡ Says l ∷ qs) → (none : label_of l ≡ None) → (fit : Later (view_after v l).topic qs) → OwnsFit v ps
+
+-- predecessors are told of the process that has ended
+pub buries_later : (p : Pid) (ms : List ℕ) → Later (Of p) (map (to_kernel MessageKind.Bury) ms)
+buries_later p [] = tt
+buries_later p (m ∷ ms) = (refl, buries_later p ms)
+
+drops_later : (p : Pid) (ids : List MsgId) (ps : List Part) → Later (Of p) ps → Later (Of p) (rule.drop_parts ids ++ ps)
+drops_later p [] ps h = h
+drops_later p (i ∷ is) ps h = drops_later p is ps h
+
+pub ends_later : (o : Point) (m : ℕ) (p : Pid) → Later (Of p) (ends_with o m p)
+ends_later o m p = drops_later p (o.view.queue m p) (buries o m p) (buries_later p (preds_of o m p))
 
 -- a message goes on: the update is about the place of its receiver
 pub forwarded_place : (v : View) (i : MsgId) (n : ℕ) (t : Told) (at_ moves : ℕ) → v.told i ≡ Some t → v.known v.acting t.receiver ≡ Forward at_ moves → is_place (view_after v (Line.Forwarded i n)).topic ≡ true
