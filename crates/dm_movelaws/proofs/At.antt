@@ -3,3 +3,4 @@ pub mod RestPairs
 pub mod RestOnly
 pub mod RestQueues
 pub mod RestAlways
+pub mod Always

@@ -1,6 +1,7 @@
 pub mod Names
 pub mod After
 pub mod Leading
+pub mod Burials
 pub mod Trail
 pub mod Lists
 pub mod Stages
@@ -21,3 +22,4 @@ pub mod Movers
 pub mod Routed
 pub mod ProtocolMoves
 pub mod LifeLines
+pub mod Preds

@@ -3,11 +3,9 @@ use Rattle.dm_movelaws.proofs.Names.{◌≡◌, ◌≢◌, ◌⊎◌, ℕ, zero,
 use Rattle.dm_movelaws.proofs.Names.{nat_tests, append-nil, filter-append, Pid, pid_of, pid_eq, PlainLink, MsgId, Boot, first_number, switchboard, manager, PlainProcess, Life, Alive, NamedLink, Pending, pid_eq-is, pid_eq-same, EndLine}
 use Rattle.dm_movelaws.proofs.Names.{block_line, memory_lines, home_with, joined_below, list_line, Addresses, Stood, standing_of, first_with, stood, doing_of, slot_line, link_lines, state_lines, alive_lines, process_lines, homes_with}
 use Rattle.dm_movelaws.proofs.Names.{each_process, name_lines, child_lines, pending_lines, queue_at, queue_lines, holding_lines, inbox_lines, stream_lines, server_lines, end_lines, Point, View, is_server, Run, run_always, tells_life}
-use Rattle.dm_movelaws.proofs.Names.{life_lines, IsSaid, LivesAreSaid, not, ◌&&◌, false≢true, MessageKind, Standing, or, Phase, Nowhere, Rests, Over, Moves, IsIn, knows, is_here, is_restart, is_early, Known, Unknown, agrees, living}
-use Rattle.dm_movelaws.proofs.Names.{stands_by, IsPlace, awaits}
-use Rattle.dm_movelaws.proofs.At.RestAlways.{is_unknown_is as unknown_by}
+use Rattle.dm_movelaws.proofs.Names.{life_lines, IsSaid, LivesAreSaid, not, ◌&&◌, false≢true, MessageKind, Standing, or, Phase, Nowhere, Rests, Over, Moves, IsIn, knows, is_here, is_restart, is_early, Known, stands_by, IsPlace, awaits}
+use Rattle.dm_movelaws.proofs.Names.{living_phase, is_gone}
 use Rattle.dm_movelaws.proofs.Stages.Spares.{restart_late, restart_goes}
-use Rattle.dm_onekernel.specs.Step as kernel
 use Rattle.dm_rule.specs.Phases as phases
 
 -- the first of so many machines that is looked for
@@ -90,21 +88,16 @@ moves_stands v p k s d id h =
     other false true e = absurd (false≢true e)
 
 -- a living process is in none of the other phases
-somewhere : (v : View) (p : Pid) (phase : Phase) (l : Option Life) (x : PlainProcess) → IsIn v p phase → l ≡ Some (Alive x) → ((m : ℕ) → agrees (v.known m p) l ≡ true) → v.known p.home p ≢ Unknown → Somewhere v p
-somewhere v p Nowhere l x h alive agree home = absurd (home (unknown_by (v.known p.home p) (h.known p.home)))
-somewhere v p (Rests at) l x h alive agree home = rests_stands v p at (h.known at)
-somewhere v p (Over at) l x h alive agree home =
-    let same : (at == at) ≡ true = grind (arith, nat_tests) in
-    grind (arith, nat_tests)
-somewhere v p (Moves k s d id) l x h alive agree home = moves_stands v p k s d id h
+somewhere : (v : View) (p : Pid) (phase : Phase) → IsIn v p phase → is_gone phase ≡ false → Somewhere v p
+somewhere v p Nowhere h there = absurd (false≢true (sym there))
+somewhere v p (Rests at) h there = rests_stands v p at (h.known at)
+somewhere v p (Over at) h there = absurd (false≢true (sym there))
+somewhere v p (Moves k s d id) h there = moves_stands v p k s d id h
 
 pub alive_placed : (b : Boot) (pt : Point) (p : Pid) (x : PlainProcess) → Run b pt → pt.kernel.processes p ≡ Some (Alive x) → Placed pt p
 alive_placed b pt p x run alive =
-    let known = run.based.known in
-    let sane = run.based.phased.sane in
-    let server = (living pt p x sane (ap kernel.alive alive)).server in
     let phases_ = run.based.phased.phases in
-    let at = somewhere pt.view p (phases_.of p) (pt.kernel.processes p) x (phases_.each p) alive (λ m. known.agree m p server) (known.home p server (ap is_some alive)) in
+    let at = somewhere pt.view p (phases_.of p) (phases_.each p) (living_phase pt p x (phases_.of p) run.based.phased alive (phases_.each p)) in
     placed pt p at.machine at.standing (run.found.known_within at.machine p (λ e. let f : None ≡ Some at.standing = sym (ap stands_by e) ∙ at.stands in cc)) at.stands
 
 -- lines that say of no process whether it lives
@@ -270,7 +263,7 @@ made_among b pt p run made =
     let least = sane.sound.made.least p made in
     let most = sane.sound.made.most p made in
     let server : is_server p ≡ false = no_server p least in
-    let home = run.found.known_within p.home p (run.based.known.home p server made) in
+    let home = (run.kept.home p made).0 in
     among_homes p pt (of_processes pt) pt.kernel.machines (λ q off. other_life p pt q (pt.kernel.processes q) off) home (grind (arith, nat_tests)) (grind (arith, nat_tests))
   where
     no_server : (q : Pid) → nat_le 3 q.num ≡ true → is_server q ≡ false

@@ -5,6 +5,7 @@ pub use Rattle.std.specs.Option.{option_and_then}
 unfoldable pub use Rattle.dm_processor.specs.Instructions.{instruction}
 pub use Rattle.dm_onekernel.specs.Pieces.{piece_of}
 pub use Rattle.dm_onekernel.specs.Service.{manager_took}
+pub use Rattle.dm_onekernel.specs.Start.{begun as started}
 pub use Rattle.dm_laws.proofs.Counted.{Sent}
 pub use Rattle.dm_laws.proofs.Names.{bool_eq, receptions}
 pub use Rattle.dm_laws.proofs.Notes.{Notes-agree}
@@ -21,7 +22,7 @@ pub use Rattle.dm_rule.proofs.Apart.Turns.{calls_off_apart, migrates_apart, net_
 pub use Rattle.dm_rule.proofs.Bags.{bag_asked, cases_zero, out_of}
 pub use Rattle.dm_rule.proofs.Changes.{Follows, Lives, is_served}
 pub use Rattle.dm_rule.proofs.Groups.{GroupIs, acked_off, deliver_off, early_off, fits, migrate_off, tick_off}
-pub use Rattle.dm_rule.proofs.Hearing.{IsHeardLine, Kept, calls_off_kept, hears_kept, kept_forward}
+pub use Rattle.dm_rule.proofs.Hearing.{IsHeardLine, Kept, calls_off_kept, hears_kept, kept_forward, neither as neither_}
 pub use Rattle.dm_rule.proofs.Homes.{HomesAre}
 pub use Rattle.dm_rule.proofs.Homes.Lines.{acting_label}
 pub use Rattle.dm_rule.proofs.Homes.Parts.{acting_taken}
@@ -33,18 +34,19 @@ pub use Rattle.dm_rule.proofs.Moves.Lists.{emptied}
 pub use Rattle.dm_rule.proofs.Moves.Rows.{accepted_off, asked_off, frozen_off, home_again, home_off, lacks_off, left_off, memory_off, proto_off, restarted_off, state_off}
 pub use Rattle.dm_rule.proofs.Moves.Sent.{least_of as either, fits_packet, fits_put, line_next}
 pub use Rattle.dm_rule.proofs.Moves.States.{kernels_by}
-pub use Rattle.dm_rule.proofs.Names.{AddressesOn, Asks, Comes, ComesIn, Ended, IsOn, IsQuiet, IsToken, Nowhere, One, Over, Spares, StoodOnTrail, Trail, Trails, TrailsAlways, Trodden, act_of, actor, addresses_by, along, append-nil}
-pub use Rattle.dm_rule.proofs.Names.{append_assoc, behind_count, belongs_to, both_true, brings_piece, child_links, counts_process, destination, drop-length, enclosed_from, encloses, first_trails, first_trodden, goes_round, ids_at, is_due}
-pub use Rattle.dm_rule.proofs.Names.{is_over, is_stale, is_waited_from, knowing, leads_to, left_true, manager_sends, receives_links, receiving_gets, released, sending_gets, sent_off, slice_get_cases, slice_get_within, slot_after, token_in}
-pub use Rattle.dm_rule.proofs.Names.{trails_after, unmoved, why_ended-is, with_pair, with_ring}
+pub use Rattle.dm_rule.proofs.Names.{AddressesOn, Asks, Comes, ComesIn, IsOn, IsQuiet, IsToken, Nowhere, One, Over, Spares, StoodOnTrail, Trail, Trails, TrailsAlways, Trodden, act_of, actor, addresses_by, along, append-nil, append_assoc}
+pub use Rattle.dm_rule.proofs.Names.{behind_count, belongs_to, both_true, brings_piece, child_links, counts_process, destination, drop-length, enclosed_from, encloses, first_trails, first_trodden, goes_round, ids_at, is_due, is_made}
+pub use Rattle.dm_rule.proofs.Names.{is_stale, is_unknown, is_waited_from, knowing, leads, leads_on, leads_to, left_true, manager_sends, next_is_new, numbers_from, receives_links, receiving_gets, released, sending_gets, sent_off}
+pub use Rattle.dm_rule.proofs.Names.{slice_get_cases, slice_get_within, slot_after, token_in, trails_after, unmoved, why_ended-is, with_pair, with_ring}
 pub use Rattle.dm_rule.proofs.Once.{one_of-same}
 pub use Rattle.dm_rule.proofs.Pairs.Lines.{AllFit, line_view, onward, pair_same, taken_pair, touches}
 pub use Rattle.dm_rule.proofs.Pairs.Migrating.{calls_off_fit, migrates_fit}
 pub use Rattle.dm_rule.proofs.Pairs.Stand.{set_is, set_other}
 pub use Rattle.dm_rule.proofs.Pairs.Turns.{turns_fit}
-pub use Rattle.dm_rule.proofs.Phases.Always.{phases_always}
+pub use Rattle.dm_rule.proofs.Phases.Always.{bury_away, ended_away, living_phase, phases_always}
 pub use Rattle.dm_rule.proofs.Phases.Answers.{Remains, stale_left}
 pub use Rattle.dm_rule.proofs.Phases.Calm.{Calm, Plain, between_of, calm_about, calm_in, calm_same, other_than}
+pub use Rattle.dm_rule.proofs.Phases.Ends.{is_gone, moves_there}
 pub use Rattle.dm_rule.proofs.Phases.Hears.{plain_by}
 pub use Rattle.dm_rule.proofs.Phases.Leaves.{fewer_record}
 pub use Rattle.dm_rule.proofs.Phases.Lines.{dropped_spots, first_kept, forwarded_spots, handled_spots, held_spots, off_zero, packet_calm, put_calm, put_spots, queued_spots}
@@ -58,30 +60,29 @@ pub use Rattle.dm_rule.proofs.Phases.Stand.{called_known, comes_known, held_plai
 pub use Rattle.dm_rule.proofs.Phases.Start.{start_known}
 pub use Rattle.dm_rule.proofs.Said.{fits_as}
 pub use Rattle.dm_rule.proofs.Seen.{about_off}
-pub use Rattle.dm_rule.proofs.Serving.{Loose, loose_handles, loose_round}
+pub use Rattle.dm_rule.proofs.Serving.{Loose, buries_kept, ends_kept, loose_handles, loose_round}
 pub use Rattle.dm_rule.proofs.States.{PacketsKeep, PairsFit, said as last_point, packet_off, puts_next, said, says_next}
 pub use Rattle.dm_rule.proofs.Telling.{plain_not}
 pub use Rattle.dm_rule.proofs.Trails.Along.{Carries, along_treads, trails_always_by}
 pub use Rattle.dm_rule.proofs.Trails.Found.{treads_start}
 pub use Rattle.dm_rule.proofs.Trails.Known.{get_at_end}
-pub use Rattle.dm_rule.proofs.Trails.Labels.{ended_on}
+pub use Rattle.dm_rule.proofs.Trails.Labels.{ended_on, label_no_place}
 pub use Rattle.dm_rule.proofs.Trails.Leads.{less_test, trail_leads}
 pub use Rattle.dm_rule.proofs.Trails.Lines.{pid_there}
 pub use Rattle.dm_rule.proofs.Trails.Puts.{migrate_from, migrate_to}
 pub use Rattle.dm_rule.proofs.Trails.Steps.{holds_on, sent_on_at, set_off, two_apart}
 pub use Rattle.dm_rule.proofs.Trails.Treads.{KnownFits, LabelFits, LineFits, PutFits, Treads, held_topic, line_treads, queued_topic, taken_topic}
-pub use Rattle.dm_rule.proofs.Trails.Within.{HeadIn, Within, forwarded_acting, held_acting, line_within, queued_acting, trail_within}
+pub use Rattle.dm_rule.proofs.Trails.Within.{HeadIn, TrailsIn, Within, forwarded_acting, held_acting, line_within, queued_acting}
 pub use Rattle.dm_rule.proofs.Turns.{created_off, ended_off, serving_off}
 pub use Rattle.dm_rule.specs.Addresses.{child_gets}
 pub use Rattle.dm_rule.specs.Ends.{Stood, alive_lines, awaits, child_lines, doing_of, each_process, end_lines, first_with, holding_lines, homes_with, inbox_lines, link_lines, name_lines, pending_lines, process_lines, queue_at, queue_lines}
 pub use Rattle.dm_rule.specs.Ends.{server_lines, slot_line, standing_of, state_lines, stood, stood_at, stream_lines}
 pub use Rattle.dm_rule.specs.Migrating.{answers_in, behind_among, by_known, holders_numbered, holders_of, slot_holders}
-pub use Rattle.dm_rule.specs.Phases.{is_unknown}
 pub use Rattle.dm_rule.specs.Rule.{handles, landing_parts}
 pub use Rattle.dm_rulelaws.proofs.Based.Always.{based_always, based_group}
-pub use Rattle.dm_rulelaws.proofs.Based.Groups.{Begins, begins, group_keeps}
-pub use Rattle.dm_rulelaws.proofs.Based.Loud.{Loud, keeps_by}
-pub use Rattle.dm_rulelaws.proofs.Based.Needs.{AllLoose, Needs, NeedsLabel, NeedsPart, Rides, Said, Steps, Unborn, Walks, WalksOf, again_rides, begun, begun_sane, loose_walks, said_by}
+pub use Rattle.dm_rulelaws.proofs.Based.Groups.{Begins, begins, buries_here, group_keeps}
+pub use Rattle.dm_rulelaws.proofs.Based.Loud.{Loud, SetLife, keeps_by, life_sort, some_alike, step_alike, step_creates, step_ends, step_serves}
+pub use Rattle.dm_rulelaws.proofs.Based.Needs.{AllLoose, Needs, NeedsLabel, NeedsPart, Resting, Rides, Said, Steps, TellsEnd, Unborn, Walks, WalksOf, again_rides, begun, begun_sane, first_walks, is_over, loose_walks, said_by}
 pub use Rattle.dm_rulelaws.proofs.Based.Queues.{told_kept, user_kind}
 pub use Rattle.dm_rulelaws.proofs.Based.Rows.{handles_walks, living, resting, round_walks, turned, unborn}
 pub use Rattle.dm_rulelaws.proofs.Based.Sets.{killed_or, set_all}
@@ -104,35 +105,37 @@ pub use Rattle.dm_rulelaws.proofs.Goes.Parts.{some_is}
 pub use Rattle.dm_rulelaws.proofs.Goes.Runs.{Both, both_group, both_start}
 pub use Rattle.dm_rulelaws.proofs.Goes.Serves.{first_is}
 pub use Rattle.dm_rulelaws.proofs.Goes.Turns.{times_more, times_self}
-pub use Rattle.dm_rulelaws.proofs.Names.{About, Addresses, Again, Alive, AllSayable, Answer, AskedBy, AtHome, BagStep, Bool, Boot, BootProcess, Called, Child, Direction, Due, Enclosed, Forward, Frozen, Gets, Grown, Held, Here, Holder}
-pub use Rattle.dm_rulelaws.proofs.Names.{InPhases, Inbox, Incoming, IsIn, IsLeft, IsNet, IsNetLine, IsPending, IsStep, IsValid, KernelFits, Known, KnownStands, Label, Leads, LeadsBy, LeftOver, Life, LifeGrows, Line, Links, List, Load}
-pub use Rattle.dm_rulelaws.proofs.Names.{Manager, MessageKind, MoveNote, Moves, Moving, MsgId, Name, Named, NamedLink, None, NothingElse, Of, OneKernel, Option, Outcome, Outside, Owner, Owns, Pair, Part, Pending, PendingKind, Phase, Phased}
-pub use Rattle.dm_rulelaws.proofs.Names.{Pid, Place, PlainLink, PlainMessage, PlainProcess, PlainStatus, PlainWhat, Point, Queue, Ready, ReceivedAt, Receiver, Reply, Rests, Rooted, Routes, SaidOn, Sane, Sayable, Says, Sender, Sends}
-pub use Rattle.dm_rulelaws.proofs.Names.{ServerSends, Slot, Some, Sort, Sound, Spelled, Spot, Stage, StandsOutside, StandsRight, State, Step, Stops, Switchboard, Target, Token, Told, Transmits, Unknown, Untaken, View, Waiting, WhatFits}
-pub use Rattle.dm_rulelaws.proofs.Names.{Why, [], about_same, accepts, acting_place, after, after_head, after_line, after_put, after_step, agrees, aim, alive-is, all_follow, answer_id, answer_to, answers_move, ap, arith, arrives_net}
-pub use Rattle.dm_rulelaws.proofs.Names.{ascends, at_home, at_machine, at_machine_at, at_pair, at_place, at_record, at_record_at, bag_answered, bag_call, bag_created, bag_dropped, bag_end, bag_gone, bag_no_space, bag_out, bag_ran}
-pub use Rattle.dm_rulelaws.proofs.Names.{bag_receive, bag_refuse, bag_sends, bag_served, bag_took, bag_wait, behind, bind, bind-is, board_takes_lem, both_lists, both_times, by_calls_off, by_forwards, by_group, by_handles, by_hears}
-pub use Rattle.dm_rulelaws.proofs.Names.{by_migrates, by_net, by_outcome, by_parts, by_round, by_step, call_off, called_parts, calls_off, calm_phases, came, cases_Bool, child_is, chunks_of, coming_is, counts, destination_expects, drop}
-pub use Rattle.dm_rulelaws.proofs.Names.{dropped_known, due, due_or_left, ends_by, ends_move-is, entry, eq_is, eq_self, false, false_from_ne_true, false≢true, filter, first_empty, first_failed, first_gives, first_number, first_off}
-pub use Rattle.dm_rulelaws.proofs.Names.{first_point, first_view, forwarded_back, forwarded_for, forwarded_known, forwards, forwards_on, front_gone, front_kernels, front_of, front_way, gets, given, gives, gives_piece, goes_back}
-pub use Rattle.dm_rulelaws.proofs.Names.{goes_between, goes_out, gone_to, group_is, group_of, grown_none, handled, handled_first, has_bytes, has_no_queue, has_nothing_held, head_calm, hears, held_for, held_known, hidden, holder_eq}
-pub use Rattle.dm_rulelaws.proofs.Names.{homes_are, hushed, id_eq, id_eq-is, id_eq-same, id_of, if◌then◌else◌, in_bag, inl, inr, is_away, is_behind, is_between, is_calloff, is_counted, is_early, is_fixed, is_here, is_kernels, is_kill}
-pub use Rattle.dm_rulelaws.proofs.Names.{is_of_memory, is_piece, is_put, is_restart, is_server, is_some, is_told_back, kernel_after, kernel_hears, kernels_fresh, kind_comes, kind_leaves, knows, label_of, label_on, label_topic, labels}
-pub use Rattle.dm_rulelaws.proofs.Names.{lands-is, leaves, leaves_for, left_parts, length, length-append, length-drop, length-take, letters, life_at, lines_of, link_at, link_target, machine_of, manager, manager_gets, manager_takes_lem, map}
-pub use Rattle.dm_rulelaws.proofs.Names.{migrates, move_fits, move_target, moved, moves_away, nat_le, nat_lt, nat_tests, not, not_false, not_kernels, not_server, not_true, note-is, numbered_from, one_of, option_map_or, or_first, out_off}
-pub use Rattle.dm_rulelaws.proofs.Names.{outcome, outcome_sayable, own_given, own_id, packet_line, pair_keeps, part_sane, parts, pending_of, phased_group, phased_start, pid_eq, pid_eq-is, pid_eq-same, pid_eq-swap, pid_of, piece_fits}
-pub use Rattle.dm_rulelaws.proofs.Names.{pieces_of, place_told, plain_kind, process_told, proto_acting, proto_known, pulls_piece, put_at, put_told_off, puts, queued_known, receiver_in, receiver_of, reception, refl, rejoins, replay}
-pub use Rattle.dm_rulelaws.proofs.Names.{resends_net, rests_here, right_true, rooted, sane_line, second, seen, seen_none, sender_in, sender_of, sends_on, sent_at, served_keeps, served_told, sets, slice_get, sort_of, source_holds, spelled}
-pub use Rattle.dm_rulelaws.proofs.Names.{standing, stands_right, start, start-sound, status_awaits, stayed, subst, suc, switchboard, sym, take, taken_id, takes_block, takes_chunk, target_of, tells_asker, tells_between, tells_onward, times}
-pub use Rattle.dm_rulelaws.proofs.Names.{times-append, to_kernel, to_of, token_at, token_is, told_between, told_ended, told_here, told_server, told_some, told_step, topic_by, true, turn_off, under_way, untaken, updated, updates, view_after}
-pub use Rattle.dm_rulelaws.proofs.Names.{with_label, with_note, with_process, with_sent, without_front, without_id, without_message, without_note, zero, ℕ, ⊤, ◌&&◌, ◌++◌, ◌+◌, ◌-◌, ◌/◌, ◌<◌, ◌==◌, ◌||◌, ◌∙◌, ◌∷◌, ◌≡◌, ◌≢◌, ◌≤◌, ◌⊎◌}
+pub use Rattle.dm_rulelaws.proofs.Names.{About, Addresses, Again, Alive, AllSayable, Answer, AskedBy, AtHome, BagStep, Bool, Boot, BootImage, BootProcess, Called, Child, Direction, Due, Enclosed, Ended, Forward, Frozen, Gets, Grown, Held}
+pub use Rattle.dm_rulelaws.proofs.Names.{Here, Holder, InPhases, Inbox, Incoming, IsIn, IsLeft, IsNet, IsNetLine, IsPending, IsStep, IsValid, KernelFits, Known, KnownStands, Label, Leads, LeadsBy, LeftOver, Life, LifeGrows, Line, Links}
+pub use Rattle.dm_rulelaws.proofs.Names.{List, Load, Manager, MessageKind, MoveNote, Moves, Moving, MsgId, Name, Named, NamedLink, None, NothingElse, Of, OneKernel, Option, Outcome, Outside, Owner, Owns, Pair, Part, Pending, PendingKind}
+pub use Rattle.dm_rulelaws.proofs.Names.{Phase, Phased, Pid, Place, PlainLink, PlainMessage, PlainProcess, PlainStatus, PlainWhat, Point, Queue, Ready, ReceivedAt, Receiver, Reply, Rests, Rooted, Routes, SaidOn, Sane, Sayable, Says, Sender}
+pub use Rattle.dm_rulelaws.proofs.Names.{Sends, ServerSends, Slot, Some, Sort, Sound, Spelled, Spot, Stage, StandsOutside, StandsRight, State, Step, Stops, Switchboard, Target, Token, Told, Transmits, Unknown, Untaken, View, Waiting}
+pub use Rattle.dm_rulelaws.proofs.Names.{WhatFits, Why, [], about_same, accepts, acting_place, after, after_head, after_line, after_put, after_step, agrees, aim, alive-is, all_follow, answer_id, answer_to, answers_move, ap, arith}
+pub use Rattle.dm_rulelaws.proofs.Names.{arrives_net, ascends, at_home, at_machine, at_machine_at, at_pair, at_place, at_record, at_record_at, bag_answered, bag_call, bag_created, bag_dropped, bag_end, bag_gone, bag_no_space, bag_out}
+pub use Rattle.dm_rulelaws.proofs.Names.{bag_ran, bag_receive, bag_refuse, bag_sends, bag_served, bag_took, bag_wait, behind, bind, bind-is, board_takes_lem, both_lists, both_times, buried, buries, bury_is, bury_over, by_calls_off}
+pub use Rattle.dm_rulelaws.proofs.Names.{by_forwards, by_group, by_handles, by_hears, by_migrates, by_net, by_outcome, by_parts, by_round, by_step, call_off, called_parts, calls_off, calm_phases, came, cases_Bool, child_is, chunks_of}
+pub use Rattle.dm_rulelaws.proofs.Names.{coming_is, counts, destination_expects, drop, dropped_known, due, due_or_left, ends_by, ends_move-is, ends_with, entry, eq_is, eq_self, false, false_from_ne_true, false≢true, filter, first_empty}
+pub use Rattle.dm_rulelaws.proofs.Names.{first_failed, first_gives, first_life, first_number, first_off, first_point, first_view, forwarded_back, forwarded_for, forwarded_known, forwards, forwards_on, front_gone, front_kernels, front_of}
+pub use Rattle.dm_rulelaws.proofs.Names.{front_way, gets, given, gives, gives_piece, goes_back, goes_between, goes_out, gone_to, group_is, group_of, grown_none, handled, handled_first, has_bytes, has_no_queue, has_nothing_held, head_calm}
+pub use Rattle.dm_rulelaws.proofs.Names.{hears, held_for, held_known, hidden, holder_eq, homes_are, hushed, id_eq, id_eq-is, id_eq-same, id_of, if◌then◌else◌, in_bag, inl, inr, is_alive, is_away, is_behind, is_between, is_calloff}
+pub use Rattle.dm_rulelaws.proofs.Names.{is_counted, is_early, is_fixed, is_here, is_kernels, is_kill, is_of_memory, is_piece, is_put, is_restart, is_server, is_some, is_told_back, kernel_after, kernel_hears, kernels_fresh, kind_comes}
+pub use Rattle.dm_rulelaws.proofs.Names.{kind_leaves, known_at, knows, label_of, label_on, label_topic, labels, lands-is, leaves, leaves_for, left_parts, length, length-append, length-drop, length-take, letters, life_at, lines_of, link_at}
+pub use Rattle.dm_rulelaws.proofs.Names.{link_target, machine_of, manager, manager_gets, manager_takes_lem, map, migrates, move_fits, move_target, moved, moves_away, nat_le, nat_lt, nat_tests, not, not_false, not_kernels, not_server}
+pub use Rattle.dm_rulelaws.proofs.Names.{not_true, note-is, numbered_from, one_of, option_map, option_map_or, or_first, out_off, outcome, outcome_sayable, own_given, own_id, packet_line, pair_keeps, part_sane, parts, pending_of}
+pub use Rattle.dm_rulelaws.proofs.Names.{phased_group, phased_start, pid_eq, pid_eq-is, pid_eq-same, pid_eq-swap, pid_of, piece_fits, pieces_of, place_told, plain_kind, plain_link, preds_of, process_told, proto_acting, proto_known}
+pub use Rattle.dm_rulelaws.proofs.Names.{pulls_piece, put_at, put_told_off, puts, queued_known, receiver_in, receiver_of, reception, refl, rejoins, replay, resends_net, rests_here, right_true, rooted, sane_line, second, seen, seen_none}
+pub use Rattle.dm_rulelaws.proofs.Names.{sender_in, sender_of, sends_on, sent_at, served_keeps, served_told, sets, slice_get, sort_of, source_holds, spelled, standing, stands_right, start, start-sound, status_awaits, stayed, subst, suc}
+pub use Rattle.dm_rulelaws.proofs.Names.{switchboard, sym, take, taken_id, takes_block, takes_chunk, target_of, tells_asker, tells_between, tells_end, tells_onward, times, times-append, to_kernel, to_of, token_at, token_is, told_between}
+pub use Rattle.dm_rulelaws.proofs.Names.{told_ended, told_here, told_server, told_some, told_step, topic_by, true, turn_off, under_way, untaken, updated, updates, view_after, with_label, with_note, with_process, with_sent, without_front}
+pub use Rattle.dm_rulelaws.proofs.Names.{without_id, without_message, without_note, zero, ℕ, ⊤, ◌&&◌, ◌++◌, ◌+◌, ◌-◌, ◌/◌, ◌<◌, ◌==◌, ◌||◌, ◌∙◌, ◌∷◌, ◌≡◌, ◌≢◌, ◌≤◌, ◌⊎◌}
 pub use Rattle.dm_rulelaws.proofs.Own.Told.{is_place, own_sort}
 pub use Rattle.dm_rulelaws.proofs.Queued.{IsQueued}
 pub use Rattle.dm_rulelaws.proofs.RunLabels.{after_replay, group_replay, labels-append, replay-append}
 pub use Rattle.dm_rulelaws.proofs.Runs.{Based, Run}
 pub use Rattle.dm_rulelaws.proofs.RunsAlways.{run_always, run_group, run_start}
+pub use Rattle.dm_rulelaws.specs.Found.{ListsStand}
 pub use Rattle.dm_movelaws.specs.Asked.{AnsweredAlways, AnswersHaveCauses, FollowsWhileMoving, HasCause, IsCause, IsSaidOf, MovedIsSaid, asks_move}
-pub use Rattle.dm_movelaws.specs.AtRest.{AtRest, AtRestAlways, DropsAlways, IsAt, IsWaiting, is_moving}
+pub use Rattle.dm_movelaws.specs.AtRest.{AllForgotten, AtRest, AtRestAlways, DropsAlways, IsAt, IsWaiting, is_moving}
 pub use Rattle.dm_movelaws.specs.Counts.{CountsKept, CountsStay, gives_to, in_next, is_filled, is_owned, refilled}
 pub use Rattle.dm_movelaws.specs.Ends.{EndsAlways, asks, count, ends, is_answer_by, is_answered_next, is_for, own_ends}
 pub use Rattle.dm_movelaws.specs.Forwards.{ForwardsTell, RequestsTell, Tells}
@@ -143,11 +146,12 @@ pub use Rattle.dm_movelaws.specs.Movers.{HasEnded, HasPiece, MoversHavePieces, a
 pub use Rattle.dm_movelaws.specs.Numbers.{IsBelow, NumbersAlways}
 pub use Rattle.dm_movelaws.specs.Open.{AllOpen, IsAnothers, IsAnothersIf, IsSpared, OpenKeeps, OpenMoves, OpenSpares, OpenStays, is_open, mark_while, open_mark}
 pub use Rattle.dm_movelaws.specs.Pending.{HasOne, IsOfPending, PendingAscends, PendingHasOne, answered_by, asked_by, is_pending, requests}
+pub use Rattle.dm_movelaws.specs.Predecessors.{ByBury, ByCallOff, ByPreds, IsHeldBack, PredecessorsAlways, is_way_to}
 pub use Rattle.dm_movelaws.specs.Promise.{IsUnderWay, Promised, PromisesAlways, Unfilled, fills, update_of}
 pub use Rattle.dm_movelaws.specs.Protocol.{ProtocolMoves}
 pub use Rattle.dm_movelaws.specs.Real.{IsAboutReal, IsReal, Kernel, Made, RealAlways, Server}
 pub use Rattle.dm_movelaws.specs.Routed.{AreRouted, RoutedAlways, routed, with_put}
 pub use Rattle.dm_movelaws.specs.Stages.{Calling, Lacking, Mark, Reached, Staying, StepsInOrder, follows, in_order, left_open, mark_for, marks, step_number, with_mark}
 pub use Rattle.dm_movelaws.specs.Stales.{StalesAlways, calls, is_about, stales}
-pub use Rattle.dm_movelaws.specs.Trail.{AddressesLead, ByForward, ByHolder, ByOwn, ByRequest, ByUpdate, IsLast, IsLed, IsNamed, Reaches, TrailStands, TrailsStand, ends_walk, has_it, is_made}
+pub use Rattle.dm_movelaws.specs.Trail.{AddressesLead, ByForward, ByHolder, ByOwn, ByRequest, ByUpdate, IsLast, IsLed, IsNamed, Reaches, TrailStands, TrailsStand, ends_walk, has_it}
 pub use Rattle.dm_movelaws.specs.Updates.{Updated, UpdatesAlways, is_owner, listings}

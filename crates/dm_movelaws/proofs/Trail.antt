@@ -3,4 +3,5 @@ pub mod Placed
 pub mod Loose
 pub mod Rows
 pub mod Standing
+pub mod Ranges
 pub mod Known

@@ -1,4 +1,5 @@
--- Where nothing is on its way between machines, all messages are queued, and each request to move has come to its end.
+-- Where nothing is on its way between machines, all messages are queued, each request to move has come to its end, and no machine knows
+-- of a process that has ended.
 use Rattle.std.specs.Prelude.{◌≡◌, ◌≢◌, ◌==◌, ℕ, Bool, true, false, List, []}
 use Rattle.std.specs.declared.option.Option.TheVariants.{None, Some}
 use Rattle.dm_link.specs.declared.Pid.{Pid}
@@ -16,7 +17,8 @@ use Rattle.dm_rule.specs.Phases.{is_away}
 use Rattle.dm_rule.specs.Point.{Point, first_point}
 use Rattle.dm_rule.specs.Quiet.{IsQuiet}
 use Rattle.dm_rule.specs.Spots.{Spot, Queue, standing, untaken}
-use Rattle.dm_rule.specs.View.{View, Known, Unknown, Here, Frozen, Incoming, Forward, Ended, is_kernels}
+use Rattle.dm_rule.specs.View.{View, Known, Unknown, Here, Frozen, Incoming, Forward, is_kernels}
+use Rattle.dm_movelaws.specs.Movers.{HasEnded}
 
 -- a machine waits for a process to leave or to come
 abbrev pub is_moving : Known → Bool
@@ -25,7 +27,6 @@ is_moving Here = false
 is_moving (Frozen to) = true
 is_moving (Incoming from) = true
 is_moving (Forward at moves) = false
-is_moving Ended = false
 
 -- a message in the queue of the process that it is for, where that is, and in no other place
 pub record IsWaiting (pt : Point) (i : MsgId) (m : PlainMessage) : Type 0 where
@@ -41,9 +42,14 @@ pub record IsAt (v : View) (p : Pid) : Type 0 where
   pub here : v.known machine p ≡ Here
   pub away : (n : ℕ) → (machine == n) ≡ false → is_away (v.known n p) ≡ true
 
+-- no machine has a record of a process that has ended
+abbrev pub AllForgotten : Point → Type 0
+AllForgotten pt = (m : ℕ) (p : Pid) → HasEnded pt.kernel p → pt.view.known m p ≡ Unknown
+
 pub record AtRest (pt : Point) : Type 0 where
   -- each living process is on one machine
   pub lives : (p : Pid) (x : PlainProcess) → pt.kernel.processes p ≡ Some (Alive x) → IsAt pt.view p
+  pub forgotten : AllForgotten pt
   -- no process is leaving or coming, and nothing is held back for one
   pub still : (m : ℕ) (p : Pid) → is_moving (pt.view.known m p) ≡ false
   pub held : (m : ℕ) (p : Pid) → pt.view.held m p ≡ []
@@ -63,4 +69,4 @@ AtRestAlways = (b : Boot) (es : List Step) (pt : Point) → IsValid b → Leads 
 
 -- wherever the rule leads, where a process has ended no message is queued for it
 abbrev pub DropsAlways : Type 0
-DropsAlways = (b : Boot) (es : List Step) (pt : Point) (n : ℕ) (q : Pid) → IsValid b → Leads b (first_point b) es pt → pt.view.known n q ≡ Ended → pt.view.queue n q ≡ []
+DropsAlways = (b : Boot) (es : List Step) (pt : Point) (n : ℕ) (q : Pid) → IsValid b → Leads b (first_point b) es pt → HasEnded pt.kernel q → pt.view.queue n q ≡ []

@@ -18,3 +18,4 @@ pub mod Routed
 pub mod Protocol
 pub mod Stales
 pub mod LifeLines
+pub mod Predecessors

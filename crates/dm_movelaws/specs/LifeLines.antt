@@ -16,7 +16,6 @@ use Rattle.dm_rule.specs.Ends.{Stood, doing_of, end_lines}
 use Rattle.dm_rule.specs.Laws.{Leads}
 use Rattle.dm_rule.specs.Point.{Point, first_point}
 use Rattle.dm_rule.specs.View.{Known, Unknown, Here, Frozen, Incoming, Forward}
-use Rattle.dm_rule.specs.View as view
 
 -- a line that says of this process that it lives, or has ended; a row a line
 abbrev pub tells_life : Pid → EndLine → Bool
@@ -46,7 +45,6 @@ stands_by Here = Some standing.Here
 stands_by (Frozen to) = Some standing.Leaving
 stands_by (Incoming from) = Some standing.Arriving
 stands_by (Forward at moves) = None
-stands_by view.Ended = None
 
 -- a process is on a machine that there is, leaves it or comes to it
 pub record IsPlace (pt : Point) (p : Pid) (s : Stood) : Type 0 where

@@ -13,14 +13,15 @@ use Rattle.dm_rule.specs.Parts.{Spelled}
 use Rattle.dm_rule.specs.Phases.{is_away}
 use Rattle.dm_rule.specs.Point.{Point, first_point}
 use Rattle.dm_rule.specs.Quiet.{IsQuiet}
-use Rattle.dm_rule.specs.View.{View, Here, Forward, Ended, actor}
+use Rattle.dm_rule.specs.View.{Here, Forward, actor}
 use Rattle.dm_movelaws.specs.Forwards.{Forwards}
+use Rattle.dm_movelaws.specs.Movers.{HasEnded}
 use Rattle.dm_movelaws.specs.Promise.{IsUnderWay, Promised, Unfilled}
 
--- a process is on a machine, or has ended there, and no other machine has it
-pub record IsThere (v : View) (q : Pid) (machine : ℕ) : Type 0 where
-  pub now : (v.known machine q ≡ Here) ⊎ (v.known machine q ≡ Ended)
-  pub away : (n : ℕ) → (machine == n) ≡ false → is_away (v.known n q) ≡ true
+-- a process is on a machine, or has ended, and no other machine has it
+pub record IsThere (pt : Point) (q : Pid) (machine : ℕ) : Type 0 where
+  pub now : (pt.view.known machine q ≡ Here) ⊎ HasEnded pt.kernel q
+  pub away : (n : ℕ) → (machine == n) ≡ false → is_away (pt.view.known n q) ≡ true
 
 -- p was told this place of q; where q hasn't moved since, it is there, and p's links lead there that it hasn't filled since
 pub record LeadsThere (b : Boot) (sent pt : Point) (between : List Step) (p q : Pid) (place : Place) : Type 0 where
@@ -31,7 +32,7 @@ pub record LeadsThere (b : Boot) (sent pt : Point) (between : List Step) (p q : 
   -- q has moved so often, or more often since
   pub least : place.moves ≤ pt.view.moves q
   -- where it hasn't moved since, q is at that place
-  pub there : pt.view.moves q ≡ place.moves → IsThere pt.view q place.at
+  pub there : pt.view.moves q ≡ place.moves → IsThere pt q place.at
   -- and each slot of p's that leads to q, and that no line filled since the update was handled, names that place
   pub links : pt.view.moves q ≡ place.moves → (k : ℕ) → Unfilled handled.group.point (Slot p k) handled.lines → leads_to pt.kernel (Slot p k) ≡ Some q → pt.addresses (Slot p k) ≡ place
 

@@ -41,7 +41,7 @@ pub record Real (pt : Point) : Type 0 where
   pub about : (i : MsgId) (t : Told) → pt.view.told i ≡ Some t → IsAboutReal pt.kernel t.about
   -- the child that a message says was made
   pub child : (i : MsgId) (m : PlainMessage) (p : Pid) → pt.kernel.bag i ≡ Some m → m.what ≡ what.Created p → IsReal pt.kernel p
-  -- whom a machine has, expects, holds back, sends on or has seen end
+  -- whom a machine has, expects, holds back or sends on
   pub known : (n : ℕ) (p : Pid) → pt.view.known n p ≢ Unknown → IsReal pt.kernel p
 
 -- wherever the rule leads

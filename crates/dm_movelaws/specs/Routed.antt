@@ -32,6 +32,7 @@ with_put (line.Queued id) ids = ids
 with_put (line.Held id) ids = ids
 with_put (line.Forwarded id m) ids = ids
 with_put (line.Updated id n) ids = ids
+with_put (line.Buried id n) ids = ids
 with_put (line.Migration s q) ids = ids
 with_put (line.SentOn q n) ids = ids
 with_put (line.Called q n) ids = ids

@@ -1,6 +1,6 @@
 -- Trails as the printed lines lay them: each place that is named for a process is on its trail, the trail ends where the process is, and
--- from each place of it the forwarding addresses lead there.
-use Rattle.std.specs.Prelude.{◌≡◌, ℕ, ◌+◌, ◌-◌, ◌<◌, ◌==◌, Bool, true, false, ◌||◌, is_some, List, [], ◌∷◌, length}
+-- from each place of it the forwarding addresses lead there; or, where the process has ended, to a machine without a record.
+use Rattle.std.specs.Prelude.{◌≡◌, ℕ, ◌+◌, ◌-◌, ◌<◌, ◌==◌, Bool, true, false, not, List, [], ◌∷◌, length}
 use Rattle.std.specs.declared.option.Option.TheVariants.{None, Some}
 use Rattle.dm_link.specs.declared.Pid.{Pid}
 use Rattle.dm_link.specs.Names.{Place}
@@ -8,41 +8,34 @@ use Rattle.dm_message.specs.declared.MsgId.{MsgId}
 use Rattle.dm_message.specs.declared.kind.MessageKind.TheVariants as kind
 use Rattle.dm_onekernel.specs.declared.boot.Boot.{Boot}
 use Rattle.dm_onekernel.specs.Boot.{IsValid, manager}
-use Rattle.dm_onekernel.specs.Kernel.{OneKernel}
 use Rattle.dm_schedule.specs.declared.Step.{Step}
 use Rattle.dm_line.specs.declared.line.Line.{Line}
 use Rattle.dm_rule.specs.Addresses.{Holder, Receiver, Sender, unmoved}
 use Rattle.dm_rule.specs.Homes.{names}
 use Rattle.dm_rule.specs.Laws.{Leads}
 use Rattle.dm_rule.specs.Point.{Point, first_point}
-use Rattle.dm_rule.specs.Trails.{Trails, IsOn, first_trodden, along, leads}
-use Rattle.dm_rule.specs.View.{Known, Unknown, Here, Frozen, Incoming, Forward, Ended, Told, is_kernels}
+use Rattle.dm_rule.specs.Trails.{Trails, IsOn, first_trodden, along, is_alive, leads}
+pub use Rattle.dm_rule.specs.Trails.{is_made}
+use Rattle.dm_rule.specs.View.{Known, Unknown, Here, Frozen, Incoming, Forward, Told, is_kernels}
 use Rattle.dm_rule.specs.View as view
-use Rattle.dm_rulelaws.specs.Fits.{is_server}
 use Rattle.dm_rulelaws.specs.Found.{is_fixed}
 use Rattle.dm_rulelaws.specs.Order.{LeadsBy}
 
--- a server, or a process that was made
-abbrev pub is_made : OneKernel → Pid → Bool
-is_made s p = is_server p || is_some (s.processes p)
-
--- a machine has a process, holds it while it leaves, or had it when it ended
+-- a machine has a process, or holds it while it leaves
 abbrev pub has_it : Known → Bool
 has_it Unknown = false
 has_it Here = true
 has_it (Frozen to) = true
 has_it (Incoming from) = false
 has_it (Forward at moves) = false
-has_it Ended = true
 
--- a machine has a process, holds it while it leaves, waits until it comes, or had it when it ended
+-- a machine has a process, holds it while it leaves, or waits until it comes
 abbrev pub ends_walk : Known → Bool
 ends_walk Unknown = false
 ends_walk Here = true
 ends_walk (Frozen to) = true
 ends_walk (Incoming from) = true
 ends_walk (Forward at moves) = false
-ends_walk Ended = true
 
 -- a place, a machine with a count, is named for a process
 pub data IsNamed (pt : Point) (q : Pid) (place : Place) : Type 0 where
@@ -58,9 +51,9 @@ pub data IsNamed (pt : Point) (q : Pid) (place : Place) : Type 0 where
   ByForward : (m : ℕ) → pt.view.known m q ≡ Forward place.at place.moves → IsNamed pt q place
 
 -- from a place the forwarding addresses lead, each with a higher count and in fewer steps than there are machines, to a machine that
--- has the process, holds it while it leaves, waits until it comes, or had it when it ended
+-- has the process, holds it while it leaves or waits until it comes; or, where it has ended, to one without a record of it
 abbrev pub Reaches : Point → Pid → Place → Type 0
-Reaches pt p place = leads pt.view p (pt.kernel.machines - 1) place.moves place.at ≡ true
+Reaches pt p place = leads (not (is_alive pt.kernel p)) pt.view p (pt.kernel.machines - 1) place.moves place.at ≡ true
 
 -- a place is the last of the trail of a process
 pub record IsLast (t : Trails) (p : Pid) (place : Place) : Type 0 where
@@ -77,15 +70,15 @@ pub record TrailStands (pt : Point) (t : Trails) : Type 0 where
   pub unmade : (p : Pid) → pt.kernel.processes p ≡ None → t p ≡ p.home ∷ []
   -- each place that is named for a process is on its trail
   pub named : (q : Pid) (place : Place) → IsNamed pt q place → IsOn t q place
-  -- a machine that has a process, holds it while it leaves, or had it when it ended is the last of its trail, after as many moves
+  -- a machine that has a process, or holds it while it leaves, is the last of its trail, after as many moves
   pub last : (m : ℕ) (p : Pid) → has_it (pt.view.known m p) ≡ true → IsLast t p (record { at = m; moves = pt.view.moves p })
   -- while one machine forwards to another that waits for the process, this other is, after one move more
   pub coming : (m k c : ℕ) (p : Pid) → pt.view.known m p ≡ Forward k c → pt.view.known k p ≡ Incoming m → IsLast t p (record { at = k; moves = pt.view.moves p + 1 })
-  -- the last machine of a trail has the process, holds it, waits for it, or had it when it ended
-  pub ends : (p : Pid) (place : Place) → is_made pt.kernel p ≡ true → IsLast t p place → ends_walk (pt.view.known place.at p) ≡ true
+  -- the last machine of the trail of a process that lives has it, holds it or waits for it
+  pub ends : (p : Pid) (place : Place) → is_alive pt.kernel p ≡ true → IsLast t p place → ends_walk (pt.view.known place.at p) ≡ true
   -- each machine of a trail is one that there is
   pub within : (p : Pid) (place : Place) → is_made pt.kernel p ≡ true → IsOn t p place → place.at < pt.kernel.machines
-  -- and from each the forwarding addresses lead to the process
+  -- and from each the forwarding addresses lead to the process, or to where it ended
   pub reached : (p : Pid) (place : Place) → is_made pt.kernel p ≡ true → IsOn t p place → Reaches pt p place
 
 -- wherever the rule leads, the trails that the lines lay stand
@@ -95,7 +88,7 @@ TrailsStand =
 
 -- from a place that is named for it a process is found
 pub record IsLed (pt : Point) (q : Pid) (place : Place) : Type 0 where
-  -- the forwarding addresses lead to it, if it is no kernel
+  -- the forwarding addresses lead to it, if it is no kernel, or to where it ended
   pub led : (q.num == 0) ≡ false → Reaches pt q place
   -- a kernel is named at home, and so is a server
   pub home : is_fixed q ≡ true → place ≡ unmoved q.home

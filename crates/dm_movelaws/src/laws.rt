@@ -12,6 +12,7 @@ ghost use Rattle.dm_movelaws.specs.Links.{CountsPromise};
 ghost use Rattle.dm_movelaws.specs.Movers.{MoversHavePieces};
 ghost use Rattle.dm_movelaws.specs.Pending.{PendingAscends, PendingHasOne};
 ghost use Rattle.dm_movelaws.specs.Open.{OpenMoves, OpenSpares, OpenStays, OpenKeeps};
+ghost use Rattle.dm_movelaws.specs.Predecessors.{PredecessorsAlways};
 ghost use Rattle.dm_movelaws.specs.Promise.{PromisesAlways};
 ghost use Rattle.dm_movelaws.specs.Protocol.{ProtocolMoves};
 ghost use Rattle.dm_movelaws.specs.Real.{RealAlways};
@@ -21,24 +22,25 @@ ghost use Rattle.dm_movelaws.specs.Stales.{StalesAlways};
 ghost use Rattle.dm_movelaws.specs.Trail.{TrailsStand, AddressesLead};
 ghost use Rattle.dm_movelaws.specs.Updates.{UpdatesAlways};
 
-/// Wherever the rule leads from a boot file, each address of a process that some machine knows names a machine where the process was,
-/// at its place of the list of all of them; and from there the forwarding addresses lead on, each with a higher count, to where the
-/// process is here, leaves, comes or has ended, in fewer steps than there are machines.
+/// Wherever the rule leads from a boot file, each address of a process that was made names a machine where the process was, at its
+/// place of the list of all of them; and from there the forwarding addresses lead on, each with a higher count, to where the process
+/// is here, leaves or comes, in fewer steps than there are machines; or, if it has ended, to a machine without a record of it.
 pub fn trails_always()
     ensures { TrailsAlways }
 {}
 
 /// Wherever the rule leads from a boot file, the lines lay a trail for each process: the machines that it has been on, in order. Each
 /// place that a link, a message, a data move, a list of a server's, an update or a forwarding address names for a process is on its
-/// trail, which begins at home, where a kernel or a server stays, and ends where the process is, leaves, comes or has ended. From each
-/// place of it the forwarding addresses lead there, each with a higher count, in fewer steps than there are machines.
+/// trail, which begins at home, where a kernel or a server stays, and ends where the process is, leaves or comes, if it lives. From each
+/// place of it the forwarding addresses lead there, or, if it has ended, to a machine without a record of it: each with a higher count,
+/// in fewer steps than there are machines.
 pub fn trails_stand()
     ensures { TrailsStand }
 {}
 
 /// Wherever the rule leads from a boot file, from each place that a link, a message, a data move, a list of a server's, an update or a
-/// forwarding address names for a process, the forwarding addresses lead to the process, each with a higher count, in fewer steps
-/// than there are machines. Whoever is named is a kernel or a server, at home, or a process that was made.
+/// forwarding address names for a process, the forwarding addresses lead to the process, or, if it has ended, to a machine without a
+/// record of it: each with a higher count, in fewer steps than there are machines. Whoever is named is a kernel or a server, at home, or a process that was made.
 pub fn addresses_lead()
     ensures { AddressesLead }
 {}
@@ -68,15 +70,23 @@ pub fn updates_always()
     ensures { UpdatesAlways }
 {}
 
-/// Wherever the rule leads from a boot file, a process that has ended has left no message in its queue.
+/// Wherever the rule leads from a boot file, a process that has ended has left no message in a queue.
 pub fn drops_always()
     ensures { DropsAlways }
 {}
 
+/// Wherever the rule leads from a boot file, each forwarding address of a process, whether that lives or has ended, is held back: the
+/// machine that it leads to has this one for a predecessor of the process, or a burial is on its way here, or the process's migration to
+/// this machine was called off, and the other is still to hear of that. Only machines with a record have predecessors, and never
+/// themselves.
+pub fn predecessors_always()
+    ensures { PredecessorsAlways }
+{}
+
 /// Wherever the rule leads from a boot file, where all messages that were routed are taken, and acknowledged between different
 /// machines, and all inboxes are empty: each living process is on one machine and none moves, no message is held back, each
-/// message that there is waits in the queue of the process that it is for, and no kernel's own message stands anywhere. So each
-/// request to move has come to its end.
+/// message that there is waits in the queue of the process that it is for, no machine has a record of a process that has ended, and no
+/// kernel's own message stands anywhere. So each request to move has come to its end.
 pub fn at_rest_always()
     ensures { AtRestAlways }
 {}
@@ -143,7 +153,7 @@ pub fn forwards_tell()
 
 /// Wherever the rule leads from a boot file and beyond: where all is at rest, a process that sent along a stale link and was told of
 /// it has, in the slots it hasn't filled since, links that name where the other now is. The update of the forward was handled by then;
-/// and the other is at the place that it told, or has ended there, or has moved more often since.
+/// and the other is at the place that it told, or has ended, or has moved more often since.
 pub fn counts_promise()
     ensures { CountsPromise }
 {}

@@ -2,7 +2,7 @@
 use Rattle.dm_movelaws.proofs.Names.{◌≡◌, ℕ, ◌+◌, List, [], ◌∷◌, refl, ap, ◌∙◌, sym, arith, Option, None, Some, Pid, MsgId, Label, Line, first_point, labels, label_of, with_label, after_replay, start, start-sound, in_bag, OneKernel}
 use Rattle.dm_movelaws.proofs.Names.{notes_always_agree, count, AnsweredAlways, asks_move}
 use Rattle.dm_movelaws.specs.Asked.{answers_move}
-use Rattle.dm_movelaws.proofs.At.RestAlways.{at_rest_always}
+use Rattle.dm_movelaws.proofs.At.Always.{at_rest_always}
 use Rattle.dm_movelaws.proofs.Open.Moves.{leads_of, run_after}
 use Rattle.dm_movelaws.proofs.Asked.Following.{asked_by, answered_by, of_labels, one_for, run_counts, Counted}
 

@@ -1,9 +1,9 @@
 -- A process follows a request to move only while it moves.
-use Rattle.dm_movelaws.proofs.Names.{◌≡◌, ℕ, ◌==◌, Bool, true, false, refl, ap, ◌∙◌, sym, if◌then◌else◌, Option, Some, is_some, false≢true, Pid, MsgId, MessageKind, Boot, Alive, PlainProcess, Point, View, Known, Phase, Nowhere, Rests, Over}
-use Rattle.dm_movelaws.proofs.Names.{Moves, knows, is_here, is_over, IsIn, first_point, is_server, eq_self, run_always, nat_tests, arith, FollowsWhileMoving, MoveNote, Based, List, [], ◌∷◌, ◌++◌, None, pid_eq, Stage, Outcome, manager}
-use Rattle.dm_movelaws.proofs.Names.{Label, OneKernel, PlainMessage, PlainWhat, with_sent, Step, Line, Told, Here, Addresses, label_of, Part, Says, Spelled, spelled, outcome, sends_on, to_kernel, forwards_on, answers_move, leaves_for}
-use Rattle.dm_movelaws.proofs.Names.{IsNetLine, by_round, by_handles, by_hears, by_forwards, by_migrates, by_outcome, by_step, bind-is, said_by, plain_kind, asked_noted, ends_move-is, begun, asks, ◌+◌, ◌≤◌, id_eq, id_eq-is, id_eq-same}
-use Rattle.dm_movelaws.proofs.Names.{in_bag, entry, reception, replay, Sound, after_step, not_true, by_calls_off}
+use Rattle.dm_movelaws.proofs.Names.{◌≡◌, ℕ, ◌==◌, Bool, true, false, refl, ap, ◌∙◌, sym, if◌then◌else◌, Option, Some, false≢true, Pid, MsgId, MessageKind, Boot, Point, View, Known, Phase, Nowhere, Rests, Over, Moves, knows, is_here, IsIn}
+use Rattle.dm_movelaws.proofs.Names.{first_point, is_server, eq_self, run_always, nat_tests, arith, FollowsWhileMoving, MoveNote, Based, List, [], ◌∷◌, ◌++◌, None, pid_eq, Stage, Outcome, manager, Label, OneKernel, PlainMessage, PlainWhat}
+use Rattle.dm_movelaws.proofs.Names.{with_sent, Step, Line, Told, Here, Addresses, label_of, Part, Says, Spelled, spelled, outcome, sends_on, to_kernel, forwards_on, answers_move, leaves_for, IsNetLine, by_round, by_handles, by_hears}
+use Rattle.dm_movelaws.proofs.Names.{by_forwards, by_migrates, by_outcome, by_step, bind-is, said_by, plain_kind, asked_noted, ends_move-is, begun, asks, ◌+◌, ◌≤◌, id_eq, id_eq-is, id_eq-same, in_bag, entry, reception, replay, Sound}
+use Rattle.dm_movelaws.proofs.Names.{after_step, not_true, by_calls_off, ends_with, ends_kept, buries_kept, preds_of, living_phase, is_gone}
 use Rattle.dm_onekernel.specs.Step as kernel
 use Rattle.dm_rule.specs.Rule as rule
 use Rattle.dm_movelaws.proofs.Open.Moves.{leads_of}
@@ -14,24 +14,18 @@ use Rattle.dm_movelaws.proofs.Pending.Pairs.{unnoted_in}
 at_here : (m : ℕ) (k : Known) (c d : Bool) → (if m == m then c else d) ≡ true → c ≡ true
 at_here m k c d e = sym (ap (λ (x : Bool). if x then c else d) (eq_self m)) ∙ e
 
--- a server is always here
-server_here : (b : Boot) (pt : Point) → Based b pt → (p : Pid) (n : MoveNote) → pt.kernel.notes p ≡ Some n → is_server p ≡ false
-server_here b pt h p n noted = search (arith, h.noted.away, h.known.server)
-
 pub noted_moves : (b : Boot) (pt : Point) (h : Based b pt) (p : Pid) (n : MoveNote) → pt.kernel.notes p ≡ Some n → moving_in (h.phased.phases.of p) ≡ 1
 noted_moves b pt h p n noted =
     let (x, alive) = h.phased.sane.sound.notes.lives p n noted in
-    by_phase (h.phased.phases.of p) (h.phased.phases.each p).known x alive
+    by_phase (h.phased.phases.of p) (h.phased.phases.each p).known (living_phase pt p x (h.phased.phases.of p) h.phased alive (h.phased.phases.each p))
   where
-    by_phase : (y : Phase) → ((m : ℕ) → knows y m (pt.view.known m p) ≡ true) → (x : PlainProcess) → pt.kernel.processes p ≡ Some (Alive x) → moving_in y ≡ 1
-    by_phase Nowhere known x alive = absurd (h.known.home p (server_here b pt h p n noted) (ap is_some alive) (grind (arith, nat_tests, (known p.home))))
-    by_phase (Rests at_) known x alive =
+    by_phase : (y : Phase) → ((m : ℕ) → knows y m (pt.view.known m p) ≡ true) → is_gone y ≡ false → moving_in y ≡ 1
+    by_phase Nowhere known there = absurd (false≢true (sym there))
+    by_phase (Rests at_) known there =
         let k = pt.view.known at_ p in
         absurd (false≢true (sym (h.noted.away p n noted tt at_) ∙ at_here at_ k (is_here k) _ (known at_)))
-    by_phase (Over at_) known x alive =
-        let k = pt.view.known at_ p in
-        absurd (grind (arith, nat_tests, (at_here at_ k (is_over k) _ (known at_)), (h.known.agree at_ p (server_here b pt h p n noted))))
-    by_phase (Moves k s d o) known x alive = refl
+    by_phase (Over at_) known there = absurd (false≢true (sym there))
+    by_phase (Moves k s d o) known there = refl
 
 is_moves : (v : View) (p : Pid) (y : Phase) → IsIn v p y → moving_in y ≡ 1 → (kind : MessageKind) × (source : ℕ) × (destination : ℕ) × (id : Option MsgId) × IsIn v p (Moves kind source destination id)
 is_moves v p (Moves k s d o) is e = (k, s, d, o, is)
@@ -70,9 +64,8 @@ pub data Row (o : Point) (d : Step) (ps : List Part) : Type 0 where
   Leaves : (id : MsgId) → (msg : PlainMessage) → (to : ℕ) → ((p : Pid) → asks p (Line.Head d) ≡ false) → o.kernel.bag id ≡ Some msg → (begun o d).view.known (begun o d).view.acting msg.to ≡ Here → msg.what ≡ PlainWhat.Move to → ps ≡ rule.says (Label.Asked id) ∷ leaves_for msg.to to → Row o d ps
 
 -- rows of a turn
-drops_unmarked : (ids : List MsgId) → AllUnmarked (rule.drop_parts ids)
-drops_unmarked [] = tt
-drops_unmarked (i ∷ is) = (refl, drops_unmarked is)
+ends_unmarked : (o : Point) (m : ℕ) (p : Pid) → AllUnmarked (ends_with o m p)
+ends_unmarked o m p = ends_kept AllUnmarked tt (λ i xs h. (refl, h)) (λ to xs h. (tt, h)) o m p
 
 routes_unmarked : (o : Option PlainMessage) → AllUnmarked (rule.routes o)
 routes_unmarked None = tt
@@ -82,7 +75,7 @@ round_unmarked : (b : Boot) (o : Point) (m : ℕ) (q : Option Pid) (ps : List Pa
 round_unmarked b o m q ps = by_round AllUnmarked b o m q ps (refl, tt) (λ p x is alive. record {
   runs = λ k rest stops. (
     refl,
-    stops AllUnmarked (search (arith, drops_unmarked)),
+    stops AllUnmarked (search (arith, ends_unmarked)),
   );
   takes = λ mask id first. (refl, tt);
   refuses = λ id r. (refl, tt);
@@ -99,7 +92,7 @@ handles_row b o m id msg ps there = by_handles (Row o (Step.Turn m)) b o m id ms
   queued = λ to user. Plain (refl, tt);
   served = λ to mild. Plain (refl, tt);
   answers = λ to mild i. Plain (refl, (tt, tt));
-  kills = λ to kills. Plain (refl, drops_unmarked (o.view.queue m msg.to));
+  kills = λ to kills. Plain (refl, ends_unmarked o m msg.to);
   moved = λ to what. IsHere id msg there to.known refl;
   sets_off = λ n to what apart. Leaves id msg n (λ p. refl) there to.known what refl;
   gone = λ to. Plain (refl, (tt, tt));
@@ -116,6 +109,7 @@ sends_unmarked to (i ∷ is) ps h = (tt, sends_unmarked to is ps h)
 hears_row : (b : Boot) (o : Point) (m : ℕ) (id : MsgId) (q : Option Told) (ps : List Part) → rule.hears b o m id q ≡ Some ps → Row o (Step.Turn m) ps
 hears_row b o m id q ps = by_hears (Row o (Step.Turn m)) b o m id q ps (λ t is. record {
   stale = λ p about late. Plain (refl, tt);
+  buried = λ p about kind. Plain (refl, buries_kept AllUnmarked tt (λ to xs h. (tt, h)) (preds_of o m p));
   told = λ p x about alive due. record {
     accepted = λ ask. Plain (refl, (tt, tt));
     lacks = λ slots blocks. Plain (refl, (tt, tt));

@@ -4,7 +4,8 @@ use Rattle.dm_movelaws.proofs.Names.{View, Told, after_head, after_put, view_aft
 use Rattle.dm_movelaws.proofs.Names.{PacketsKeep, said, Sane, KnownStands, Begins, begins, WalksOf, loose_walks, begun, begun_sane, turned, resting, round_walks, handles_walks, asks, ends, count, by_migrates, by_outcome, group_is, None}
 use Rattle.dm_movelaws.proofs.Names.{false, label_of, nat_tests, seen_none, MoveNote, Outcome, PlainMessage, PlainWhat, Label, Stage, Target, Frozen, Known, Here, to_kernel, leaves_for, answers_move, said_by, part_sane, move_target, sets}
 use Rattle.dm_movelaws.proofs.Names.{aim, asked_off, moved, is_moving, Walks, pid_eq-is, pid_eq-same, own_ends, ◌&&◌, not, ◌++◌, lines_of, LeadsBy, by_parts, NothingElse, is_answered_next, is_answer_by, act_of, hears, line_next}
-use Rattle.dm_movelaws.proofs.Names.{loose_round, loose_handles, by_forwards, plain_kind, turn_off, tick_off, deliver_off, migrate_off, option_map_or, calls_off, by_calls_off, call_off, not_true, is_due}
+use Rattle.dm_movelaws.proofs.Names.{loose_round, loose_handles, by_forwards, plain_kind, turn_off, tick_off, deliver_off, migrate_off, option_map_or, calls_off, by_calls_off, call_off, not_true, is_due, TellsEnd, buries_here, Of}
+use Rattle.dm_movelaws.proofs.Names.{kernel_hears, process_told, ◌==◌}
 use Rattle.dm_movelaws.proofs.Ends.Parts.{packet_smooth, one_if, zero_if, Rest, rest_packet, rest_behind, Handled, Quiets, SetsOff, part_count, unit_if, is_migrate, Extends, Still, plain_in_bag, AllQuiet, quiet_loose, Silent, count-append}
 use Rattle.dm_movelaws.proofs.Ends.Parts.{smooth_same, Tame, still_same, Smooth, smooth_trans, moves_none, lines_count, smooth_still, asks_for}
 use Rattle.dm_movelaws.proofs.Ends.Open.{Opens, Balance, level_balance, smooth_opens, add_opens, moving_in, still_moves, here_stays, Turn, Comes, quiet_row, and_off, line_then, other_still, pid_swap, Neither, net_none, net_level, own_adds}
@@ -273,9 +274,9 @@ handled_own p pt m id msg h ps w sane fits there row walks e (SetsOff to here wh
 directed : (p : Pid) (b : Boot) (pt : Point) (d : Step) (parts : List Part) (w : Spelled) (h : InPhases pt.view) → Phased pt → KnownStands pt.kernel pt.view → PairsFit pt.view → rule.outcome b pt d ≡ Some parts
     → spelled (begun pt d) parts ≡ Some w → OwnDirected p d (begun pt d) (begun_phases pt d h) parts w
 directed p b pt d parts w h phased known fits is =
-    let hears_comes : (p : Pid) (b : Boot) (o : Point) (m : ℕ) (i : MsgId) (is : List MsgId) (t : Told) (h : Turn (turned o m) i is t) → ComesOf p (turned o m) h.phases (hears b o m i (Some t)) = λ p b o m i is t h.
+    let hears_comes : (p : Pid) (b : Boot) (o : Point) (m : ℕ) (i : MsgId) (is : List MsgId) (t : Told) (h : Turn (turned o m) i is t) → ((q : Pid) → t.about ≡ Of q → t.kind ≡ MessageKind.Bury → TellsEnd (turned o m).kernel (turned o m).view i) → ComesOf p (turned o m) h.phases (hears b o m i (Some t)) = λ p b o m i is t h ends.
     let of_if : (p : Pid) (pt : Point) (h : InPhases pt.view) (c : Bool) (x y : Option (List Part)) → ComesOf p pt h x → ComesOf p pt h y → ComesOf p pt h (if c then x else y) = λ p pt h c x y k l. grind (arith, nat_tests) in
-    search (of_if, kernel_comes, process_comes) in
+    of_if p (turned o m) h.phases (t.receiver.num == 0) (kernel_hears b o m i t.kind t.about) (process_told o m i t (o.view.known m t.receiver)) (kernel_comes p b o m i is t t.about h refl ends) (process_comes p o m i is t (o.view.known m t.receiver) h refl) in
     by_outcome (λ x ps. (u : Spelled) → Row pt x ps → spelled (begun pt x) ps ≡ Some u → OwnDirected p x (begun pt x) (begun_phases pt x h) ps u) b pt d parts (record {
       round = λ m ps box e u row said.
           (let s = begins pt m phased known in
@@ -297,7 +298,7 @@ directed p b pt d parts w h phased known fits is =
       hears = λ m i is ps box none e u row said.
           (let s = begins pt m phased known in
           let (t, turn) = front_turn pt m i is h s fits box in
-          let comes = subst (ComesOf p (turned pt m) turn.phases) (ap (rule.hears b pt m i) (sym turn.told) ∙ e) (hears_comes p b pt m i is t turn) in
+          let comes = subst (ComesOf p (turned pt m) turn.phases) (ap (rule.hears b pt m i) (sym turn.told) ∙ e) (hears_comes p b pt m i is t turn (λ q about kind. buries_here pt m i t q turn.told (s.over i is t q box turn.told about kind) about)) in
           own_of p pt (Step.Turn m) (begun_phases pt (Step.Turn m) h) ps u s.sane turn.fits row said (comes u said));
       ticks = λ m ps net u row said.
           (let x = Step.Tick m in

@@ -1,12 +1,12 @@
 -- A turn that handles a kernel's own message: a request to move ends where it finds its process, and else goes on.
 use Rattle.dm_movelaws.proofs.Names.{◌≡◌, ℕ, ◌==◌, ◌&&◌, Bool, true, false, List, [], ◌∷◌, length, refl, ap, ◌∙◌, sym, subst, inl, inr, arith, if◌then◌else◌, Option, None, Some, cases_Bool, Pid, pid_eq, MsgId, MessageKind, Stage, Boot}
 use Rattle.dm_movelaws.proofs.Names.{manager, bind, pid_eq-is, Line, Addresses, Sender, is_told_back, to_kernel, forwards_on, told_step, told_here, told_ended, process_told, told_server, View, Told, About, Of, Known, Unknown, Here, Frozen}
-use Rattle.dm_movelaws.proofs.Names.{Forward, Ended, view_after, handled, handled_first, receiver_of, target_of, Point, moved, Part, Says, Again, Owns, Spelled, spelled, kernel_hears, Spot, Inbox, ids_at, first_off, line_next, fits_put}
-use Rattle.dm_movelaws.proofs.Names.{pair_same, handled_spots, held_known, forwarded_spots, forwarded_known, put_spots, put_there, put_spot, InPhases, fits_as, PairsFit, sane_line, part_sane, AllLoose, loose_walks, turned, is_moving}
-use Rattle.dm_movelaws.proofs.Names.{is_for, frozen_off, ◌+◌, ◌++◌, ⊤, pid_of, PlainProcess, accepts, takes_chunk, takes_block, sends_on, chunks_of, pieces_of, Incoming, rejoins, front_of, gone_to, is_between, parts, at_record_off, due}
-use Rattle.dm_movelaws.proofs.Names.{Walks, asks, ends, accepted_off, state_off, memory_off, lacks_off, left_off, leaves, label_of, is_put, touches, nat_tests, sets, aim, at_record, MoveNote, Outcome, tells_asker, restarted_off, times}
-use Rattle.dm_movelaws.proofs.Names.{sort_of, ◌⊎◌, ◌/◌, not, Phase, Moves, IsIn, is_due, is_restart, kind_leaves, ◌≤◌, standing, Queue, Held, Untaken, not_true, false≢true, eq_is, left_true, ComesIn, goes_back, is_stale, is_waited_from}
-use Rattle.dm_movelaws.proofs.Names.{brings_piece, called_parts, source_knows, Sane, switchboard}
+use Rattle.dm_movelaws.proofs.Names.{Forward, view_after, handled, handled_first, receiver_of, target_of, Point, moved, Part, Says, Again, Owns, Spelled, spelled, kernel_hears, Spot, Inbox, ids_at, first_off, line_next, fits_put, pair_same}
+use Rattle.dm_movelaws.proofs.Names.{handled_spots, held_known, forwarded_spots, forwarded_known, put_spots, put_there, put_spot, InPhases, fits_as, PairsFit, sane_line, part_sane, AllLoose, loose_walks, turned, is_moving, is_for}
+use Rattle.dm_movelaws.proofs.Names.{frozen_off, ◌+◌, ◌++◌, ⊤, pid_of, PlainProcess, accepts, takes_chunk, takes_block, sends_on, chunks_of, pieces_of, Incoming, rejoins, front_of, gone_to, is_between, parts, at_record_off, due, Walks}
+use Rattle.dm_movelaws.proofs.Names.{asks, ends, accepted_off, state_off, memory_off, lacks_off, left_off, leaves, label_of, is_put, touches, nat_tests, sets, aim, at_record, MoveNote, Outcome, tells_asker, restarted_off, times, sort_of}
+use Rattle.dm_movelaws.proofs.Names.{◌⊎◌, ◌/◌, not, Phase, Moves, IsIn, is_due, is_restart, kind_leaves, ◌≤◌, standing, Queue, Held, Untaken, not_true, false≢true, eq_is, left_true, ComesIn, goes_back, is_stale, is_waited_from}
+use Rattle.dm_movelaws.proofs.Names.{brings_piece, called_parts, source_knows, Sane, switchboard, TellsEnd, first_walks, tells_end, buried, preds_of, buries_kept, bury_is, map}
 use Rattle.dm_movelaws.proofs.Ends.Parts.{AllQuiet, Rest, rest_packet, Settled, parts_settle, quiet_count, quiet_asks, zero_if, first_off as first_off_and, is_migrate, asks_for, kind_not, Smooth, Still, smooth_trans, told_by, Plain}
 use Rattle.dm_movelaws.proofs.Ends.Parts.{Tame, Foreign, still_by, smooth_still, moves_none, smooth_others}
 use Rattle.dm_movelaws.proofs.Ends.Open.{IsOpen, level_balance, close_opens, smooth_opens, moving_in, waits_moves, here_stays, still_moves, not_false, target_waits, Turn, plain_one, front_one, stands_front, first_smooth, first_closes}
@@ -301,10 +301,9 @@ own_comes p o m i is t false true h known = server_comes p o (turned o m) i is t
 own_comes p o m i is t false false h known = here_comes p o m i is t t.kind h refl known
 
 pub process_comes : (p : Pid) (o : Point) (m : ℕ) (i : MsgId) (is : List MsgId) (t : Told) (k : Known) (h : Turn (turned o m) i is t) → o.view.known m t.receiver ≡ k → ComesOf p (turned o m) h.phases (process_told o m i t k)
-process_comes p o m i is t Unknown h known = tt
+process_comes p o m i is t Unknown h known = over_comes p (turned o m) i is t t.kind h refl
 process_comes p o m i is t Here h known = own_comes p o m i is t (pid_eq t.receiver switchboard) (pid_eq t.receiver manager) h known
 process_comes p o m i is t (Forward at moves) h known = forwards_comes p (turned o m) i is t o.addresses t.kind manager at h
-process_comes p o m i is t Ended h known = over_comes p (turned o m) i is t t.kind h refl
 process_comes p o m i is t _ h known = held_comes p (turned o m) i is t h
 
 of_bind : {X : Type 0} (p : Pid) (pt : Point) (h : InPhases pt.view) (x : Option X) (f : X → Option (List Part)) → ((y : X) → ComesOf p pt h (f y)) → ComesOf p pt h (bind x f)
@@ -319,14 +318,27 @@ stale_comes p pt i is t h between w e =
     let ps = Says (Line.Stale i) ∷ [] in
     quiet_row p pt h.phases ps w h.sane h.fits (record { what = t; told = h.told; plain = between_plain p pt.view i t h.told between t h.told }, tt) (loose_walks ps pt (λ q. tt, tt)) e
 
-pub kernel_comes : (p : Pid) (b : Boot) (o : Point) (m : ℕ) (i : MsgId) (is : List MsgId) (t : Told) (a : About) (h : Turn (turned o m) i is t) → t.about ≡ a → ComesOf p (turned o m) h.phases (kernel_hears b o m i t.kind a)
-kernel_comes p b o m i is t (Of q) h about = of_stale (is_stale o m i t.kind q) refl
+-- a machine forgets a process that has ended
+buried_comes : (p : Pid) (pt : Point) (i : MsgId) (is : List MsgId) (t : Told) (n : ℕ) (ms : List ℕ) (h : Turn pt i is t) → t.kind ≡ MessageKind.Bury → TellsEnd pt.kernel pt.view i → ComesOf p pt h.phases (Some (Says (Line.Buried i n) ∷ map (to_kernel MessageKind.Bury) ms))
+buried_comes p pt i is t n ms h kind need w e =
+    let tame : Tame p pt.view i = record { what = t; told = h.told; plain = kind_not p t (ap is_migrate kind) } in
+    quiet_row p pt h.phases (Says (Line.Buried i n) ∷ map (to_kernel MessageKind.Bury) ms) w h.sane h.fits (tame, buries_kept (AllQuiet p pt.view) tt (λ to xs k. (refl, k)) ms)
+    (first_walks (Says (Line.Buried i n)) (map (to_kernel MessageKind.Bury) ms) pt need (buries_kept AllLoose tt (λ to xs k. ((λ q. tt), k)) ms)) e
+
+pub kernel_comes : (p : Pid) (b : Boot) (o : Point) (m : ℕ) (i : MsgId) (is : List MsgId) (t : Told) (a : About) (h : Turn (turned o m) i is t) → t.about ≡ a → ((q : Pid) → a ≡ Of q → t.kind ≡ MessageKind.Bury → TellsEnd (turned o m).kernel (turned o m).view i)
+    → ComesOf p (turned o m) h.phases (kernel_hears b o m i t.kind a)
+kernel_comes p b o m i is t (Of q) h about ends = of_over (tells_end (sort_of t.kind)) refl
   where
     of_stale : (c : Bool) → is_stale o m i t.kind q ≡ c
         → ComesOf p (turned o m) h.phases (if c then Some (Says (Line.Stale i) ∷ []) else bind (kernel.alive (o.kernel.processes q)) (λ x. told_step o m i q (rule.fits (rule.free_room b o m) (length x.memory / 256)) x (sort_of t.kind)))
     of_stale true stale = stale_comes p (turned o m) i is t h (brings_between t.kind (left_true (brings_piece (sort_of t.kind)) (not (is_waited_from i.from.home (o.view.known m q))) stale))
     of_stale false fresh = search (of_bind, told_comes)
-kernel_comes p b o m i is t _ h about = tt
+
+    of_over : (c : Bool) → tells_end (sort_of t.kind) ≡ c
+        → ComesOf p (turned o m) h.phases (if c then Some (buried o m i q) else if is_stale o m i t.kind q then Some (Says (Line.Stale i) ∷ []) else bind (kernel.alive (o.kernel.processes q)) (λ x. told_step o m i q (rule.fits (rule.free_room b o m) (length x.memory / 256)) x (sort_of t.kind)))
+    of_over true over = let kind = bury_is t.kind over in buried_comes p (turned o m) i is t (length (preds_of o m q)) (preds_of o m q) h kind (ends q refl kind)
+    of_over false off = of_stale (is_stale o m i t.kind q) refl
+kernel_comes p b o m i is t _ h about ends = tt
 
 -- a migration is called off: its source holds the process still
 called_on : (v : View) (q : Pid) (n : ℕ) (i : MsgId) (z : Spot) → 1 ≤ standing v i z → Somewhere (view_after v (Line.Called q n)) i ⊎ (1 ≤ times i (v.held v.acting q))

@@ -85,7 +85,7 @@ taken_by picks v a b n (Some i) is =
     let front : untaken (v.pair a b) ≡ i ∷ untaken (one_taken (v.pair a b) n) = grind (arith, nat_tests, at_place) in
     record { kept = λ j t e. e; fresh = λ j t e c. e; on = λ j t e c s. taken_on v a b n i j front s.0 s.1; back = λ j t e c s. taken_back v a b n i j front s.0 s.1 }
 
-net_smooth : (picks : Told → Bool) (v : View) (l : Line) → IsNetLine l → Smooth picks v (view_after v l)
+pub net_smooth : (picks : Told → Bool) (v : View) (l : Line) → IsNetLine l → Smooth picks v (view_after v l)
 net_smooth picks v (Line.Taken a b n) h = taken_by picks v a b n (slice_get (v.pair a b).ids (v.pair a b).taken) refl
 net_smooth picks v (Line.Old a b n) h = smooth_same picks v
 net_smooth picks v (Line.Early a b n) h = moves_none picks v (Line.Early a b n) refl (λ z. early_off v a b n z)

@@ -3,14 +3,15 @@ use Rattle.dm_movelaws.proofs.Names.{◌≡◌, ℕ, ◌+◌, ◌&&◌, Bool, fa
 use Rattle.dm_movelaws.proofs.Names.{view_after, own_id, after_put, Point, Part, Says, Routes, Again, Owns, Transmits, Spelled, lines_of, spelled, touches, pair_same, PairsFit, put_told_off, fits_as, fits_put, fits_packet, Sane, Sayable}
 use Rattle.dm_movelaws.proofs.Names.{part_sane, put_spots, put_at, Needs, NeedsPart, Walks, Steps, asks, ends, count, packet_off, by_parts, PacketsKeep, OneKernel, label_of, kernel_after, nat_tests, PlainMessage, Loose, moved, About}
 use Rattle.dm_movelaws.proofs.Names.{PlainWhat, Label, Here, leaves_for, Stage, handled, receiver_of, times, out_of, gone_in, served_keeps, ended_off, serving_off, created_off, handled_spots, queued_spots, held_spots, dropped_spots}
-use Rattle.dm_movelaws.proofs.Names.{forwarded_spots, received_spots, and_false, at_record, Known, Ended, pid_eq-is, parts, eq_is, queued_known, held_known, dropped_known, forwarded_known, NeedsLabel, killed_or, is_moving, ◌≤◌, true}
-use Rattle.dm_movelaws.proofs.Names.{false≢true, id_eq, id_eq-is, Spot, ids_at, standing, is_put, hushed, not_true, about_off}
+use Rattle.dm_movelaws.proofs.Names.{forwarded_spots, received_spots, and_false, at_record, Known, Unknown, pid_eq-is, parts, eq_is, queued_known, held_known, dropped_known, forwarded_known, NeedsLabel, killed_or, is_moving, ◌≤◌, true}
+use Rattle.dm_movelaws.proofs.Names.{false≢true, id_eq, id_eq-is, Spot, ids_at, standing, is_put, hushed, not_true, about_off, is_away}
 pub use Rattle.dm_rule.proofs.Phases.Lines.{first_kept}
 pub use Rattle.dm_rule.proofs.Moves.Rows.{proto_off}
 pub use Rattle.dm_rulelaws.proofs.Found.Parts.{own_fresh as own_untold}
 use Rattle.dm_rule.specs.View as view
 use Rattle.dm_rule.specs.Rule as rule
 use Rattle.dm_onekernel.specs.Step as kernel
+use Rattle.dm_movelaws.proofs.Burials.{buried_spots, buried_same}
 use Rattle.dm_movelaws.proofs.Leading.{All, Behind, part_leads, lines_are, fits_about}
 
 abbrev pub is_migrate : MessageKind → Bool
@@ -112,6 +113,7 @@ QuietLine p v (Line.Queued i) = Tame p v i
 QuietLine p v (Line.Held i) = Tame p v i
 QuietLine p v (Line.Forwarded i m) = Tame p v i
 QuietLine p v (Line.Updated i n) = Tame p v i
+QuietLine p v (Line.Buried i n) = Tame p v i
 QuietLine p v (Line.Proto i) = Tame p v i
 QuietLine p v (Line.Here i) = Foreign p v i
 QuietLine p v (Line.NoMove i) = Foreign p v i
@@ -173,6 +175,7 @@ line_smooth p pt s (Line.Held i) h quiet is = (let o = receiver_of (pt.view.told
 line_smooth p pt s (Line.Forwarded i m) h quiet is =
     (let o = receiver_of (pt.view.told i) in hushed_smooth (asks_for p) pt.view (Line.Forwarded i m) i refl (tame_plain p pt.view i quiet) (λ j e z. forwarded_spots (handled pt.view i) j o z ∙ handled_spots pt.view i j e z))
 line_smooth p pt s (Line.Updated i n) h quiet is = hushed_smooth (asks_for p) pt.view (Line.Updated i n) i refl (tame_plain p pt.view i quiet) (λ j e z. handled_spots pt.view i j e z)
+line_smooth p pt s (Line.Buried i n) h quiet is = hushed_smooth (asks_for p) pt.view (Line.Buried i n) i refl (tame_plain p pt.view i quiet) (λ j e z. buried_spots pt.view i j n e z)
 line_smooth p pt s (Line.Here i) h quiet is = hushed_smooth (asks_for p) pt.view (Line.Here i) i refl (foreign_plain p pt.view i quiet) (λ j e z. handled_spots pt.view i j e z)
 line_smooth p pt s (Line.NoMove i) h quiet is = hushed_smooth (asks_for p) pt.view (Line.NoMove i) i refl (foreign_plain p pt.view i quiet) (λ j e z. handled_spots pt.view i j e z)
 line_smooth p pt s (Line.Stale i) h quiet is = hushed_smooth (asks_for p) pt.view (Line.Stale i) i refl (tame_plain p pt.view i quiet) (λ j e z. handled_spots pt.view i j e z)
@@ -197,7 +200,7 @@ pub set_still : (f : ℕ → Pid → Known) (a : ℕ) (q : Pid) (x : Known) → 
 set_still f a q x e m p = grind (arith, nat_tests, parts, eq_is, pid_eq-is)
 
 ended_still : (p : Pid) (v : View) (q : Pid) → v.known v.acting q ≡ Here → Still p v (view.ended v q)
-ended_still p v q here m = set_still v.known v.acting q Ended (sym (ap is_moving here)) m p
+ended_still p v q here m = set_still v.known v.acting q Unknown (sym (ap is_moving here)) m p
 
 label_still : (p : Pid) (pt : Point) (l : Label) → NeedsLabel pt l → Still p pt.view (view_after pt.view (Line.Label l))
 label_still p pt (Label.End q y) need = ended_still p pt.view q need.here
@@ -205,6 +208,10 @@ label_still p pt (Label.Dropped id) need = still_by p pt.view (view_after pt.vie
 label_still p pt (Label.Served id) need = grind (arith, nat_tests, killed_or, ended_still, still_same)
 label_still p pt (Label.Created id q) need = λ m. set_still pt.view.known pt.view.acting q Here (sym (ap is_moving (need.unknown pt.view.acting))) m p
 label_still p pt _ need = λ m. refl
+
+-- what is away waits for nothing
+away_still : (k : Known) → is_away k ≡ true → is_moving k ≡ false
+away_still k e = grind (arith, nat_tests)
 
 pub line_still : (p : Pid) (pt : Point) (l : Line) → QuietLine p pt.view l → Needs pt l → Still p pt.view (view_after pt.view l)
 line_still p pt (Line.Idle m) quiet need = λ n. refl
@@ -216,6 +223,7 @@ line_still p pt (Line.Queued i) quiet need = still_by p pt.view (view_after pt.v
 line_still p pt (Line.Held i) quiet need = still_by p pt.view (view_after pt.view (Line.Held i)) (λ m q. held_known (handled pt.view i) i (receiver_of (pt.view.told i)) m q)
 line_still p pt (Line.Forwarded i n) quiet need = still_by p pt.view (view_after pt.view (Line.Forwarded i n)) (λ m q. forwarded_known (handled pt.view i) (receiver_of (pt.view.told i)) m q)
 line_still p pt (Line.Updated i n) quiet need = λ m. refl
+line_still p pt (Line.Buried i n) quiet need = λ m. buried_same is_moving pt.view i n (λ t q told about. away_still (pt.view.known pt.view.acting q) ((need t q told about).away pt.view.acting)) m p
 line_still p pt (Line.Proto i) quiet need = λ m. grind (arith, nat_tests)
 line_still p pt (Line.Here i) quiet need = λ m. refl
 line_still p pt (Line.NoMove i) quiet need = λ m. refl
@@ -346,7 +354,7 @@ pub quiet_asks : (p : Pid) (v : View) (ps : List Part) → AllQuiet p v ps → p
 quiet_asks p v = let line_asks : (p : Pid) (v : View) (l : Line) → QuietLine p v l → asks p l ≡ false = λ p v l h. grind (arith, nat_tests) in none_count (asks p) (Quiet p v) (line_asks p v)
 
 pub quiet_loose : (p : Pid) (v : View) → Loose (AllQuiet p v)
-quiet_loose p v = record { none = tt; label = λ l ps h. (tt, h); routes = λ i ps h. (tt, h) }
+quiet_loose p v = record { none = tt; label = λ l ps h. (tt, h); routes = λ i ps h. (tt, h); buries = λ to ps h. (refl, h) }
 
 -- a message of the bag, at the front of the inbox
 pub data Handled (p : Pid) (v : View) (o : Point) (m : ℕ) (id : MsgId) (msg : PlainMessage) (ps : List Part) : Type 0 where

@@ -1,7 +1,7 @@
 -- Where all is at rest, a process that was told of a forward has links that lead to where the other is.
 use Rattle.dm_movelaws.proofs.Names.{◌≡◌, ◌≢◌, ℕ, ◌+◌, ◌≤◌, true, false, List, [], ◌∷◌, ◌++◌, is_some, refl, ap, ◌∙◌, sym, subst, arith, slice_get, slice_get_within, Some, Pid, Place, MsgId, Boot, OneKernel, receptions, reached, Sound}
-use Rattle.dm_movelaws.proofs.Names.{Step, IsStep, Leads, Point, first_point, labels, Trails, View, Unknown, Forward, actor, is_server, KnownStands, group_replay, run_always, AtRest, IsThere, CountsPromise, update_of, IsUnderWay, nat_tests}
-use Rattle.dm_movelaws.proofs.At.RestAlways.{at_rest_always}
+use Rattle.dm_movelaws.proofs.Names.{Step, IsStep, Leads, Point, first_point, labels, Trails, View, Unknown, Forward, actor, is_server, KnownStands, group_replay, run_always, AtRest, IsThere, CountsPromise, update_of, IsUnderWay, is_made, or_first, nat_tests}
+use Rattle.dm_movelaws.proofs.At.Always.{at_rest_always}
 use Rattle.dm_movelaws.proofs.Forwards.Told.{forwards_tell}
 use Rattle.dm_movelaws.proofs.Promise.Always.{promises_always, same_some}
 use Rattle.dm_movelaws.proofs.Promise.Finds.{lines_by, leads_append}
@@ -19,17 +19,17 @@ made_on b (d ∷ es) pt end q r e (w, fit, is, rest) h there =
 -- what a machine forwards for is a process that was made
 
 -- where all is at rest, a process is where the update tells, or has moved on
-record AtPlace (v : View) (q : Pid) (place : Place) : Type 0 where
-  least : place.moves ≤ v.moves q
-  there : v.moves q ≡ place.moves → IsThere v q place.at
+record AtPlace (pt : Point) (q : Pid) (place : Place) : Type 0 where
+  least : place.moves ≤ pt.view.moves q
+  there : pt.view.moves q ≡ place.moves → IsThere pt q place.at
 
-at_place : (pt : Point) (t : Trails) (id : MsgId) (p q : Pid) (place : Place) → OnTrail pt t → AtRest pt → pt.view.told id ≡ Some (update_of p q place) → pt.view.known q.home q ≢ Unknown → AtPlace pt.view q place
-at_place pt t id p q place on rest told known =
-    let (m, now, there) = on.there q q.home (λ n. rest.still n q) known in
+at_place : (pt : Point) (t : Trails) (id : MsgId) (p q : Pid) (place : Place) → OnTrail pt t → AtRest pt → pt.view.told id ≡ Some (update_of p q place) → is_made pt.kernel q ≡ true → AtPlace pt q place
+at_place pt t id p q place on rest told made =
+    let (m, now, there) = on.there q made (λ n. rest.still n q) in
     let said : slice_get (t q) place.moves ≡ Some place.at = on.about id (update_of p q place) q place.at place.moves told refl in
     let within = slice_get_within (t q) place.moves place.at said in
     let long = on.long q (λ n. rest.still n q) in
-    record { least = omega (arith, within, long); there = λ same. subst (IsThere pt.view q) (same_some m place.at (sym now ∙ ap (slice_get (t q)) same ∙ said)) there }
+    record { least = omega (arith, within, long); there = λ same. subst (IsThere pt q) (same_some m place.at (sym now ∙ ap (slice_get (t q)) same ∙ said)) there }
 
 -- wherever the rule leads
 pub counts_promise : CountsPromise
@@ -47,11 +47,11 @@ counts_promise b before between start pt d sent p q place valid comes forwards k
     let all : Leads b (first_point b) (first ++ between) pt = leads_append b first between (first_point b) sent.point pt told goes in
     let (server, made) = forwarded_made start.kernel start.view (actor d) q place.at place.moves run.based.known known in
     let sane = run.based.phased.sane in
-    let home = (run_always b (first ++ between) pt valid all).run.based.known.home q server (made_on b (d ∷ between) start pt q sane.r sane.e (sent, fit, forwards.is, goes) sane.sound made) in
+    let still = or_first (is_server q) (is_some (pt.kernel.processes q)) (made_on b (d ∷ between) start pt q sane.r sane.e (sent, fit, forwards.is, goes) sane.sound made) in
     let (trails, on) = trail_known b (first ++ between) pt valid all in
     let lines = lines_by b between sent.point pt goes in
     let told_end = lines_told lines.lines sent.point pt t.update (update_of p q place) lines.leads way.told in
-    let at = at_place pt trails t.update p q place on (at_rest_always b (first ++ between) pt valid all quiet) told_end home in
+    let at = at_place pt trails t.update p q place on (at_rest_always b (first ++ between) pt valid all quiet) told_end still in
     let promised = promises_always b first between sent.point pt t.update p q place valid told way goes quiet in
     record {
       update = t.update;

@@ -2,7 +2,7 @@
 use Rattle.dm_movelaws.proofs.Names.{◌≡◌, ℕ, Bool, true, List, [], ◌∷◌, ◌++◌, refl, ap, ◌∙◌, sym, subst, if◌then◌else◌, None, Some, Pid, Place, MsgId, MessageKind, plain_kind, PlainMessage, Boot, manager, Step, Line, Sender, is_told_back}
 use Rattle.dm_movelaws.proofs.Names.{Part, Says, Again, Owns, Spelled, lines_of, spelled, Point, View, Told, About, Forward, own_id, actor, fits, fits_put, fits_packet, pair_same, put_at, fits_as, PairsFit, Sane, part_sane, Steps, begun}
 use Rattle.dm_movelaws.proofs.Names.{begun_sane, said_by, again_rides, again_same, own_fresh, front, Run, Tells, ForwardsTell, RequestsTell, update_of, IsUnderWay, run_always, last_point, first_none, forwarded_own, GroupIs, group_is}
-use Rattle.dm_movelaws.proofs.Names.{by_parts, Addresses, forwards_on, sends_on, by_migrates, Loose, loose_round, loose_handles, by_forwards, by_net, by_outcome, by_hears, nat_tests, arith, by_calls_off, to_kernel}
+use Rattle.dm_movelaws.proofs.Names.{by_parts, Addresses, forwards_on, sends_on, by_migrates, Loose, loose_round, loose_handles, by_forwards, by_net, by_outcome, by_hears, nat_tests, arith, by_calls_off, to_kernel, preds_of, buries_kept}
 use Rattle.dm_rule.specs.View as view
 use Rattle.dm_rule.specs.Rule as rule
 use Rattle.dm_movelaws.proofs.Leading.{next_of, puts_lead, lines_are}
@@ -26,7 +26,7 @@ forwards_of [] = []
 forwards_of (p ∷ ps) = part_forwards p (forwards_of ps)
 
 quiet_loose : Loose (λ ps. forwards_of ps ≡ [])
-quiet_loose = record { none = refl; label = λ l ps h. h; routes = λ i ps h. h }
+quiet_loose = record { none = refl; label = λ l ps h. h; routes = λ i ps h. h; buries = λ to ps h. h }
 
 -- a kernel's own message
 sends_none : (to : ℕ) (ids : List MsgId) (ps : List Part) → forwards_of (sends_on to ids ++ ps) ≡ forwards_of ps
@@ -80,6 +80,7 @@ handles_form b o m id is msg ps box there = loose_handles (Form o (Step.Turn m))
 hears_form : (b : Boot) (o : Point) (m : ℕ) (id : MsgId) (ps : List Part) → o.kernel.bag id ≡ None → rule.hears b o m id (o.view.told id) ≡ Some ps → Form o (Step.Turn m) ps
 hears_form b o m id ps none = by_hears (Form o (Step.Turn m)) b o m id (o.view.told id) ps (λ t told. record {
   stale = λ p about late. Nothing refl;
+  buried = λ p about kind. Nothing (buries_kept (λ xs. forwards_of xs ≡ []) refl (λ to xs h. h) (preds_of o m p));
   told = λ p x about alive due. grind (arith, nat_tests, sends_none);
   updated = λ kind. Nothing refl;
   updated_none = λ kind at_. Nothing refl;

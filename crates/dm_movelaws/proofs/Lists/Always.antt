@@ -6,7 +6,7 @@ use Rattle.dm_movelaws.proofs.Names.{receiver_of, IsNetLine, IsNet, is_put, hush
 use Rattle.dm_movelaws.proofs.Names.{loose_round, loose_handles, sets, seen, calls_off, calls_off_kept}
 use Rattle.dm_rule.specs.Rule as rule
 use Rattle.dm_rule.specs.View as view
-use Rattle.dm_movelaws.proofs.At.RestQueues.{drops_always}
+use Rattle.dm_movelaws.proofs.At.RestQueues.{dropped_always, lists_stand}
 use Rattle.dm_movelaws.proofs.After.{keeps_always}
 use Rattle.dm_movelaws.proofs.Leading.{All, lines_are, Saying, net_says}
 
@@ -50,6 +50,10 @@ stage_queue : (v : View) (p : Pid) (s : Stage) → (view.after_stage v p s).queu
 stage_queue v p Stage.Frozen = (sets v p v.topic).queue
 stage_queue v p _ = refl
 
+-- a machine forgets a process
+buried_queue : (v : View) (o : Option Told) → (view.buried_for v o).queue ≡ v.queue
+buried_queue v o = grind (arith, nat_tests)
+
 -- and lines that do
 dropped_queues : (before v : View) (i : MsgId) (o : Option Pid) → (view.dropped_for (handled v i) i o).told ≡ v.told → NoQueues before v → NoQueues before (view.dropped_for (handled v i) i o)
 dropped_queues before v i None told h = same_queues before v (handled v i) told refl h
@@ -74,6 +78,7 @@ line_queues before v (Line.Taken a b k) e h = let taken_queue : (v : View) (b : 
 line_queues before v (Line.Held id) e h = quiet_queues before v (Line.Held id) refl (grind (arith, nat_tests)) h
 line_queues before v (Line.Forwarded id m) e h = quiet_queues before v (Line.Forwarded id m) refl (grind (arith, nat_tests)) h
 line_queues before v (Line.Proto id) e h = quiet_queues before v (Line.Proto id) refl (grind (arith, nat_tests)) h
+line_queues before v (Line.Buried id n) e h = quiet_queues before v (Line.Buried id n) refl (buried_queue (handled v id) (v.told id)) h
 line_queues before v (Line.Migration s p) e h = quiet_queues before v (Line.Migration s p) refl (stage_queue v p s) h
 line_queues before v any_ e h = quiet_queues before v any_ refl refl h
 
@@ -101,7 +106,7 @@ ok_kept : (ok : MsgId → Type 0) → Kept (AllOk ok)
 ok_kept ok = record { none = tt; says = λ l ps h k. (ok_line ok l h, k); again = λ i to ps k. (tt, k); owns = λ k q to ps h. (tt, h); answers = λ i r. (tt, (tt, tt)) }
 
 ok_loose : (ok : MsgId → Type 0) → Loose (AllOk ok)
-ok_loose ok = record { none = tt; label = λ l ps h. (tt, h); routes = λ i ps h. (tt, h) }
+ok_loose ok = record { none = tt; label = λ l ps h. (tt, h); routes = λ i ps h. (tt, h); buries = λ to ps h. (tt, h) }
 
 -- Messages wait only where a machine has a list for them.
 
@@ -139,7 +144,7 @@ queues_group b pt d w e h none = by_group (λ v. NoneQueued v.point.view) b pt d
 pub lists_always : ListsAlways
 lists_always b es pt valid way =
     let none = keeps_always b (λ q. NoneQueued q.view) (λ q d w fit is run h. queues_group b q d w is run h) valid (λ m p e. refl) es pt way in
-    record { stand = (run_always b es pt valid way).run.based.lists; ended = λ m p e. drops_always b es pt m p valid way e; server = none }
+    record { stand = lists_stand b pt (run_always b es pt valid way).run (dropped_always b es pt valid way); server = none }
 
 -- a message that stands and has entered is in the bag
 queued_by : (b : Boot) (pt : Point) (p : Pid) (i : MsgId) (z : Spot) (o : Option PlainMessage) (h : Run b pt) → pt.kernel.bag i ≡ o → IsQueued (h.based.phased.state.e i) p o → 1 ≤ standing pt.view i z → IsUserFor pt p i

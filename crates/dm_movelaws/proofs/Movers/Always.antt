@@ -3,11 +3,10 @@ use Rattle.dm_movelaws.proofs.Names.{◌≡◌, ℕ, ◌+◌, ◌==◌, true, fa
 use Rattle.dm_movelaws.proofs.Names.{PlainStatus, Moving, Life, Alive, OneKernel, answer_id, is_of_memory, replay, Step, Point, labels, entry, reception, is_piece, pending_of, after_step, Sound, bind-is, piece_fits, status_awaits, WhatFits}
 use Rattle.dm_movelaws.proofs.Names.{KernelFits, based_always, both, fits_step, group_replay, Based, HasEnded, HasPiece, MoversHavePieces, Spelled, group_of, InOrder, step_constant, ◌⊎◌, Bool, length, take, drop, inl, inr, ⊤, if◌then◌else◌}
 use Rattle.dm_movelaws.proofs.Names.{PlainLink, switchboard, manager, Reply, Why, with_process, with_sent, Called, Sends, answer_to, first_failed, without_message, ServerSends, board_takes_lem, manager_takes_lem, lands-is, by_step, Lives}
-use Rattle.dm_movelaws.proofs.Names.{Grown, stayed, came, Outcome, without_note, answers_piece, asks_piece, plain_kind}
+use Rattle.dm_movelaws.proofs.Names.{Grown, stayed, came, Outcome, without_note, answers_piece, asks_piece, plain_kind, Ended}
 use Rattle.dm_rulelaws.proofs.Names.{awaits}
 use Rattle.dm_movelaws.specs.Movers.{Moves}
 use Rattle.dm_rule.proofs.Names.{begun}
-use Rattle.dm_onekernel.specs.Kernel.{Ended}
 use Rattle.dm_movelaws.proofs.Movers.Says.{other_end, Begins, StatusSays, Says, AllSay, fresh_says, out_says, other_says, answer_says, Requests, request_says, set_says, unawaited_says}
 use Rattle.dm_movelaws.proofs.After.{keeps_always}
 use Rattle.dm_onekernel.specs.Step as kernel

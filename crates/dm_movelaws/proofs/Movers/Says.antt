@@ -1,9 +1,8 @@
 -- What a message of a data move says of the mover's status: the ways in which that stays.
 use Rattle.dm_movelaws.proofs.Names.{◌≡◌, ℕ, ◌+◌, ◌≤◌, true, false, length, take, drop, refl, ap, ◌∙◌, sym, subst, nat_le, nat_lt, arith, ⊤, Option, None, Some, nat_tests, length-take, length-drop, Pid, MsgId, PlainMessage, PlainWhat}
 use Rattle.dm_movelaws.proofs.Names.{Direction, PlainProcess, PlainStatus, Ready, Waiting, Moving, Life, Alive, OneKernel, with_process, with_sent, piece_of, answer_to, without_message, pending_of, counts, is_counted, stayed, came, Sound}
-use Rattle.dm_movelaws.proofs.Names.{not_server, counts_process, not_counted, has_bytes, move_fits, KernelFits, both, set_if, set_at}
+use Rattle.dm_movelaws.proofs.Names.{not_server, counts_process, not_counted, has_bytes, move_fits, KernelFits, both, set_if, set_at, Ended}
 use Rattle.dm_rulelaws.proofs.Names.{Lives}
-use Rattle.dm_onekernel.specs.Kernel.{Ended}
 use Rattle.dm_onekernel.specs.Pieces as pieces
 
 -- whom a message of a data move names as the area's owner

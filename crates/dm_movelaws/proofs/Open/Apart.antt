@@ -3,8 +3,7 @@ use Rattle.dm_movelaws.proofs.Names.{◌≡◌, ◌≢◌, ℕ, ◌+◌, ◌==�
 use Rattle.dm_movelaws.proofs.Names.{OneKernel, bind, bind-is, Step, Line, Spares, migrates, Part, Spelled, spelled, Moves, knows, IsIn, Point, label_of, kernel_after, moved, after_line, after, group_of, Here, FirstApart, ApartOf}
 use Rattle.dm_movelaws.proofs.Names.{apart_first, turns_apart, net_apart, migrates_apart, arrives_net, resends_net, Rooted, nowhere_known, moves_away, is_fixed, IsAnothersIf, moves_known, by_parts, by_group, is_some, IsValid, start, replay}
 use Rattle.dm_movelaws.proofs.Names.{ended_stays, Phase, is_between, is_restart, kind_comes, first_point, labels, moving_stays_always, is_server, LeadsBy, after_replay, Run, run_always, mark_while, IsSpared, OpenSpares, apart_is}
-use Rattle.dm_movelaws.proofs.Names.{destination_knows, server_leaves, why_ended-is, kind_leaves, nat_tests, arith, calls_off, calls_off_apart}
-use Rattle.dm_onekernel.specs.Kernel.{Ended}
+use Rattle.dm_movelaws.proofs.Names.{destination_knows, server_leaves, why_ended-is, kind_leaves, nat_tests, arith, calls_off, calls_off_apart, Ended}
 pub use Rattle.dm_rule.proofs.Apart.Groups.{kernel_same}
 pub use Rattle.dm_rulelaws.proofs.Goes.Own.{source_knows}
 use Rattle.dm_rule.specs.Rule as rule
@@ -101,7 +100,7 @@ moving_alone b pt d w y k s t o h phase e =
     group_alone b pt d w y
     (outcome_apart b pt d y h
     (λ m is. moves_known k s t o (nowhere_known (Moves k s t o)
-    (λ j. sym (ap (knows (Moves k s t o) j) (ap (pt.view.known j) (sym is) ∙ h.unborn m j)) ∙ phase.known j)))
+    (λ j. sym (ap (knows (Moves k s t o) j) (ap (pt.view.known j) (sym is) ∙ h.unborn m j)) ∙ phase.known j) (λ at over. cc)))
     (moving_off pt y k s t o phase)) e
 
 -- somewhere among the lines

@@ -2,7 +2,7 @@
 use Rattle.dm_movelaws.proofs.Names.{◌≡◌, ◌≢◌, ℕ, Bool, true, false, List, [], ◌∷◌, ◌++◌, refl, ap, ◌∙◌, sym, subst, ⊤, is_some, if◌then◌else◌, Option, None, Some, false≢true, Pid, pid_eq, pid_eq-same, MsgId, MessageKind, Boot, manager}
 use Rattle.dm_movelaws.proofs.Names.{Label, OneKernel, PlainMessage, MoveNote, bind-is, Step, Line, Stage, Point, label_of, kernel_after, after_line, after, moved, Part, Says, Routes, Again, Owns, Transmits, Spelled, lines_of, puts}
 use Rattle.dm_movelaws.proofs.Names.{spelled, group_of, Told, Here, Sane, sends_on, to_kernel, gives_piece, forwards_on, updates, migrates, left_parts, Mark, Reached, Staying, with_mark, mark_for, marks, left_open, IsNet, IsNetLine, by_net}
-use Rattle.dm_movelaws.proofs.Names.{by_hears, by_forwards, by_migrates, by_outcome, by_parts, by_group, begun, said_by, Outcome, answers_move, leaves_for, asked_noted, arith, by_calls_off, calls_off}
+use Rattle.dm_movelaws.proofs.Names.{by_hears, by_forwards, by_migrates, by_outcome, by_parts, by_group, begun, said_by, Outcome, answers_move, leaves_for, asked_noted, arith, by_calls_off, calls_off, buried, preds_of, buries_kept}
 use Rattle.dm_onekernel.specs.Pieces as pieces
 use Rattle.dm_rule.specs.Rule as rule
 use Rattle.dm_movelaws.proofs.Leading.{AllLines, parts_say, next_of}
@@ -167,6 +167,7 @@ hears_shut p b o m i q ps =
     let forwards : (k : MessageKind) (to : ℕ) → ShutParts p None (forwards_on o.addresses i k manager to) = λ k to. quiet (forwards_on o.addresses i k manager to) (by_forwards QuietParts o.addresses i k manager to (refl, (tt, tt)) (refl, (tt, (tt, tt)))) in
     by_hears (ShutParts p None) b o m i q ps (λ t there. record {
       stale = λ r about late. quiet (Says (Line.Stale i) ∷ []) (refl, tt);
+      buried = λ r about kind. quiet (buried o m i r) (refl, buries_kept QuietParts tt (λ to xs h. (tt, h)) (preds_of o m r));
       told = λ r x about alive due. record {
         accepted = λ ask. quiet (Says (Line.Migration Stage.Accepted r) ∷ to_kernel MessageKind.PullState i.from.home ∷ []) (refl, (tt, tt));
         lacks = λ slots blocks. quiet (Says (Line.Lacks r slots blocks) ∷ to_kernel MessageKind.Refuse i.from.home ∷ []) (refl, (tt, tt));

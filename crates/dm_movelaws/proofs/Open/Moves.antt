@@ -37,7 +37,7 @@ run_open b (d ∷ ds) ls pt end p (w, rest, fit, is, split, more) h =
     let k = phased_group b pt d w fit is h in
     let o = mark_in (h.phases.of p) in
     let g = group_marked b pt d w is h p (h.phases.of p) (k.phases.of p) (h.phases.each p) (k.phases.each p) (none_due pt.view h.phases p) (none_due w.point.view k.phases p)
-    (group_waits b pt d w p (h.phases.of p) h.sane (rooted pt h.sane h.ground) (h.phases.each p) (none_due pt.view h.phases p) is) in
+    (group_waits b pt d w p (h.phases.of p) h (rooted pt h.sane h.ground) (h.phases.each p) (none_due pt.view h.phases p) is) in
     let later = run_open b ds rest w.point end p more k in
     record {
       phased = later.phased;

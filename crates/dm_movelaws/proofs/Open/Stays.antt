@@ -40,13 +40,13 @@ moving_at : (b : Boot) (pt : Point) (d : Step) (w : Spelled) (p : Pid) (k : Mess
     → w.lines ≡ earlier ++ l ∷ g → is_some (open_after (mark_in (Moves k s t id)) (marks p earlier)) ≡ true → At pt earlier l p
 moving_at b pt d w p k s t id earlier g l run phase e split begun =
     -- a group of a process that moves
-    let leaves_free : (n : ℕ) (v : View) (m : ℕ) (p : Pid) (k : MessageKind) (d : ℕ) (x : Known) → kind_leaves k d x ≡ true → KnownIs n v m p x → is_fixed p ≡ false = λ n v m p k d x e h. grind (arith, nat_tests) in
+    let leaves_free : (n : ℕ) (u : OneKernel) (v : View) (m : ℕ) (p : Pid) (k : MessageKind) (d : ℕ) (x : Known) → kind_leaves k d x ≡ true → KnownIs n u.processes v m p x → is_fixed p ≡ false = λ n u v m p k d x e h. grind (arith, nat_tests) in
     let m = meets earlier g l pt w.point (ap (after pt) (sym split) ∙ group_after b pt d w e) in
     let phased = run.based.phased in
     let alone = moving_alone b pt d w p k s t id (rooted pt phased.sane phased.ground) phase e in
     let rest = alone_rest p earlier (l ∷ g) pt m.mid (subst (AllAlone p pt) split alone) m.comes in
     let fine = fine_at p (mark_in (Moves k s t id)) earlier g l pt m.mid (subst (Fine p pt (mark_in (Moves k s t id))) split (group_fine p (mark_in (Moves k s t id)) b pt d w phased.sane (moving_off pt p k s t id phase) e)) m.comes begun in
-    let free = leaves_free pt.kernel.machines pt.view s p k t (pt.view.known s p) (source_knows k s t id (pt.view.known s p) (phase.known s)) (run.kept.known s p) in
+    let free = leaves_free pt.kernel.machines pt.kernel pt.view s p k t (pt.view.known s p) (source_knows k s t id (pt.view.known s p) (phase.known s)) (run.kept.known s p) in
     record {
       mid = m.mid;
       comes = m.comes;
@@ -94,7 +94,7 @@ by_lies b ds pt end d w rest earlier later l p h k e begun go (Later between are
     let c = k.run.based.phased in
     let o = mark_in (a.phases.of p) in
     let g = group_marked b pt d w e a p (a.phases.of p) (c.phases.of p) (a.phases.each p) (c.phases.each p) (none_due pt.view a.phases p) (none_due w.point.view c.phases p)
-    (group_waits b pt d w p (a.phases.of p) a.sane (rooted pt a.sane a.ground) (a.phases.each p) (none_due pt.view a.phases p) e) in
+    (group_waits b pt d w p (a.phases.of p) a (rooted pt a.sane a.ground) (a.phases.each p) (none_due pt.view a.phases p) e) in
     let same : open_after o (marks p earlier) ≡ open_after (mark_in (c.phases.of p)) (marks p between) =
     ap (λ (xs : List Line). open_after o (marks p xs)) are ∙ ap (open_after o) (marks-append p w.lines between) ∙ open-append o (marks p w.lines) (marks p between) ∙ ap (λ (x : Option Mark). open_after x (marks p between)) g.1 in
     let at = go between others (ap is_some (sym same) ∙ begun) in

@@ -3,9 +3,9 @@ use Rattle.dm_movelaws.proofs.Names.{◌≡◌, ℕ, List, [], ◌∷◌, ◌++�
 use Rattle.dm_movelaws.proofs.Names.{LeadsBy, update_of, nat_tests, ◌⊎◌, ◌≤◌, ◌&&◌, Bool, true, false, ◌∙◌, ⊤, Option, None, cases_Bool, MessageKind, plain_kind, id_eq, id_eq-is, id_eq-same, Stage, View, Told, is_kernels, view_after}
 use Rattle.dm_movelaws.proofs.Names.{label_of, kernel_after, Part, Says, Again, Owns, spelled, times, sends_on, is_put, not_true, parts, touches, pair_same, fits_as, PairsFit, fits_put, fits_packet, Sane, Sayable, part_sane, Steps, said_by}
 use Rattle.dm_movelaws.proofs.Names.{OneKernel, PlainMessage, Addresses, Sender, forwards_on, Loose, loose_round, loose_handles, by_forwards, seen, Label, PlainWhat, to_kernel, moved, leaves_for, move_target, Target, length, NothingElse}
-use Rattle.dm_movelaws.proofs.Names.{if◌then◌else◌, manager, Known, Unknown, Here, Forward, Ended, process_told, both_lists, last_point, by_hears, behind_count, place_told, answers_move, Outcome, false≢true, migrates, not_kernels, IsNet}
-use Rattle.dm_movelaws.proofs.Names.{fits, under_way, kernels_by, begun, begun_sane, by_migrates, by_outcome, group_is, topic_by, deliver_off, migrate_off, tick_off, turn_off, option_map_or, called_parts, by_calls_off, told_server, pid_eq}
-use Rattle.dm_movelaws.proofs.Names.{switchboard, sort_of, updates}
+use Rattle.dm_movelaws.proofs.Names.{if◌then◌else◌, manager, Known, Unknown, Here, Forward, process_told, both_lists, last_point, by_hears, behind_count, place_told, answers_move, Outcome, false≢true, migrates, not_kernels, IsNet, fits}
+use Rattle.dm_movelaws.proofs.Names.{under_way, kernels_by, begun, begun_sane, by_migrates, by_outcome, group_is, topic_by, deliver_off, migrate_off, tick_off, turn_off, option_map_or, called_parts, by_calls_off, told_server, pid_eq}
+use Rattle.dm_movelaws.proofs.Names.{switchboard, sort_of, updates, preds_of, buries, buries_kept}
 use Rattle.dm_rule.specs.Rule as rule
 use Rattle.dm_movelaws.proofs.After.{after-append, group_after}
 use Rattle.dm_movelaws.proofs.Promise.Spots.{Stands, Spares, line_stands, label_stands, put_this, put_stands, packet_stands, Fronts, about_stands, Front, sent_stands, held_this, fronts, net_stands, stands_off, lines_told}
@@ -134,7 +134,7 @@ pub loose_row : (j : MsgId) (t : Told) (pt : Point) (ps : List Part) → Waits j
 loose_row j t pt ps h e = (λ w is. inl (loose_stands ps j t pt w e h.base h.stands is))
 
 quiet_loose : Loose (λ ps. all_loose ps ≡ true)
-quiet_loose = record { none = refl; label = λ l ps h. h; routes = λ i ps h. h }
+quiet_loose = record { none = refl; label = λ l ps h. h; routes = λ i ps h. h; buries = λ to ps h. h }
 
 -- a process is served
 pub round_goes : (j : MsgId) (t : Told) (pt : Point) (b : Boot) (o : Point) (m : ℕ) (q : Option Pid) (ps : List Part) → Waits j t pt → rule.goes_round b o m q ≡ Some ps → Goes j pt ps
@@ -189,6 +189,7 @@ hears_goes j t pt b o m i q ps are h k =
     let about : (l : Line) → Spares j pt.view l → Goes j pt (Says l ∷ []) = λ l spares. first_row j t pt (Says l) [] h spares refl in
     by_hears (Goes j pt) b o m i q ps (λ u is. record {
       stale = λ p is_about late. about (Line.Stale i) k.apart;
+      buried = λ p is_about kind. first_row j t pt (Says (Line.Buried i (length (preds_of o m p)))) (buries o m p) h k.apart (buries_kept (λ xs. all_loose xs ≡ true) refl (λ to xs e. e) (preds_of o m p));
       told = λ p x is_about alive due. record {
         accepted = λ ask. first_row j t pt (Says (Line.Migration Stage.Accepted p)) (to_kernel MessageKind.PullState home ∷ []) h k.front refl;
         lacks = λ slots blocks. first_row j t pt (Says (Line.Lacks p slots blocks)) (to_kernel MessageKind.Refuse home ∷ []) h k.front refl;
@@ -250,10 +251,9 @@ own_this j pt o p q place false true = updates_this j pt _
 own_this j pt o p q place false false = updates_this j pt _
 
 process_this : (j : MsgId) (pt o : Point) (m : ℕ) (p q : Pid) (place : Place) (c : Known) → Waits j (update_of p q place) pt → GoesOf j pt (process_told o m j (update_of p q place) c)
-process_this j pt o m p q place Unknown h = tt
+process_this j pt o m p q place Unknown h = updates_this j pt 0
 process_this j pt o m p q place Here h = own_this j pt o p q place (pid_eq p switchboard) (pid_eq p manager)
 process_this j pt o m p q place (Forward at moves) h = forwarded_goes j (update_of p q place) pt at h
-process_this j pt o m p q place Ended h = updates_this j pt 0
 process_this j pt o m p q place _ h = search (arith, next_of, said_by, held_this, loose_stands, base_says)
 
 -- Each group leaves an update that is under way standing somewhere, or says that it was handled, and nothing else.

@@ -5,12 +5,13 @@ use Rattle.dm_movelaws.proofs.Names.{home_off, proto_off, accepted_off, state_of
 use Rattle.dm_movelaws.proofs.Names.{Option, None, Some, false≢true, MessageKind, OneKernel, id_eq-is, id_eq-same, Step, Load, Told, NothingElse, is_kernels, taken_id, held_for, Point, out_of, not_kernels, gone_in, at_record_at, not_true}
 use Rattle.dm_movelaws.proofs.Names.{one_of, PairsFit, served_keeps, serving_off, created_off, IsNetLine, early_off, acked_off, emptied, both_lists, both_times, dropped_spots, put_spots, taken_calm, put_spot, put_there, Sane, packet_off}
 use Rattle.dm_movelaws.proofs.Names.{received_spots, ended_off, nat_tests, About, Target, aim, about_off, after_step, Sound, bind-is, Addresses, Holder, Slot, Gets, gives, all_follow, first_gives, leads_to, updated, addresses_by, ascends}
-use Rattle.dm_movelaws.proofs.Names.{label_of, kernel_after, after_line, after, moved, hushed, put_at, put_told_off, gives_to, fills, Unfilled, first_kept, ◌≢◌, length, slice_get, Boot, IsValid, Leads, first_point, Trails, AddressesOn}
-use Rattle.dm_movelaws.proofs.Names.{Unknown, is_moving, IsThere, unheld, called_off}
+use Rattle.dm_movelaws.proofs.Names.{label_of, kernel_after, after_line, after, moved, hushed, put_at, put_told_off, gives_to, fills, Unfilled, first_kept, length, slice_get, Boot, IsValid, Leads, first_point, Trails, AddressesOn, is_made}
+use Rattle.dm_movelaws.proofs.Names.{is_moving, IsThere, unheld, called_off}
 use Rattle.dm_rule.proofs.Moves.Sent.{sent_off}
 use Rattle.dm_movelaws.proofs.Promise.Slots.{not_given, step_pending, led_before}
 use Rattle.dm_onekernel.specs.Step as kernel
 use Rattle.dm_rule.specs.View as view
+use Rattle.dm_movelaws.proofs.Burials.{buried_spots}
 use Rattle.dm_laws.proofs.Equal as equal
 
 pub record Stands (v : View) (j : MsgId) : Type 0 where
@@ -62,6 +63,7 @@ Spares j v (Line.Queued i) = id_eq i j ≡ false
 Spares j v (Line.Held i) = id_eq i j ≡ false
 Spares j v (Line.Forwarded i m) = id_eq i j ≡ false
 Spares j v (Line.Updated i n) = id_eq i j ≡ false
+Spares j v (Line.Buried i n) = id_eq i j ≡ false
 Spares j v (Line.Here i) = id_eq i j ≡ false
 Spares j v (Line.NoMove i) = id_eq i j ≡ false
 Spares j v (Line.Stale i) = id_eq i j ≡ false
@@ -120,6 +122,13 @@ back_stands v p j f h =
     let k = stands_off (handled_first v) u j (home_off (handled_first v) p) (first_stands v j f h) in
     released_at u p j k.spot k.least
 
+-- and another machine is a predecessor, behind a calling off
+stays_off : (v : View) (p : Pid) (z : Spot) → ids_at (view_after v (Line.Stays p)) z ≡ ids_at (released (home_again (handled_first v) p) p) z
+stays_off v p (Queue m q) = refl
+stays_off v p (Held m q) = refl
+stays_off v p (Inbox m) = refl
+stays_off v p (Untaken a b) = refl
+
 -- lines that are no steps
 pub line_stands : (v : View) (j : MsgId) (l : Line) → Spares j v l → ((x : Label) → l ≡ Line.Label x → Stands (view_after v l) j) → Stands v j → Stands (view_after v l) j
 line_stands v j (Line.Label x) e step_ h = step_ x refl
@@ -136,6 +145,7 @@ line_stands v j (Line.Queued i) e step_ h = stands_as (handled v i) (view_after 
 line_stands v j (Line.Held i) e step_ h = stands_as (handled v i) (view_after v (Line.Held i)) j (λ z. held_spots (handled v i) i j (receiver_of (v.told i)) e z) (stands_as v (handled v i) j (λ z. handled_spots v i j e z) h)
 line_stands v j (Line.Forwarded i m) e step_ h = stands_as (handled v i) (view_after v (Line.Forwarded i m)) j (λ z. forwarded_spots (handled v i) j (receiver_of (v.told i)) z) (stands_as v (handled v i) j (λ z. handled_spots v i j e z) h)
 line_stands v j (Line.Updated i n) e step_ h = stands_as v (handled v i) j (λ z. handled_spots v i j e z) h
+line_stands v j (Line.Buried i n) e step_ h = stands_as v (view_after v (Line.Buried i n)) j (λ z. buried_spots v i j n e z) h
 line_stands v j (Line.Here i) e step_ h = stands_as v (handled v i) j (λ z. handled_spots v i j e z) h
 line_stands v j (Line.NoMove i) e step_ h = stands_as v (handled v i) j (λ z. handled_spots v i j e z) h
 line_stands v j (Line.Stale i) e step_ h = stands_as v (handled v i) j (λ z. handled_spots v i j e z) h
@@ -146,7 +156,7 @@ line_stands v j (Line.Migration Stage.StateTaken p) e step_ h = stands_off (hand
 line_stands v j (Line.Migration Stage.MemoryTaken p) e step_ h = stands_off (handled_first v) (view_after v (Line.Migration Stage.MemoryTaken p)) j (λ z. memory_off v p z) (first_stands v j e h)
 line_stands v j (Line.Migration Stage.Restarted p) e step_ h = stands_off (released (home_again (handled_first v) p) p) (view_after v (Line.Migration Stage.Restarted p)) j (λ z. restarted_off v p z) (back_stands v p j e h)
 line_stands v j (Line.Lacks p a b) e step_ h = stands_off (handled_first v) (view_after v (Line.Lacks p a b)) j (λ z. lacks_off v p a b z) (first_stands v j e h)
-line_stands v j (Line.Stays p) e step_ h = back_stands v p j e h
+line_stands v j (Line.Stays p) e step_ h = stands_off (released (home_again (handled_first v) p) p) (view_after v (Line.Stays p)) j (λ z. stays_off v p z) (back_stands v p j e h)
 line_stands v j _ e step_ h = absurd e
 
 -- a label takes a message of the bag, which is no kernel's own
@@ -330,12 +340,12 @@ lines_told (l ∷ ls) pt end j t is e =
 -- What trails say of addresses and updates.
 
 -- addresses are on the trails of their processes, and so is what updates tell; where no machine waits for a process, its trail ends
--- where it is, and so it is there, if some machine knows it
+-- where it is, and so it is there, if it was made
 pub record OnTrail (pt : Point) (t : Trails) : Type 0 where
   pub addresses : AddressesOn pt.kernel pt.addresses t
   pub about : (i : MsgId) (u : Told) (p : Pid) (m c : ℕ) → pt.view.told i ≡ Some u → u.about ≡ About.Place p m c → slice_get (t p) c ≡ Some m
   pub long : (p : Pid) → ((m : ℕ) → is_moving (pt.view.known m p) ≡ false) → length (t p) ≡ pt.view.moves p + 1
-  pub there : (p : Pid) (n : ℕ) → ((m : ℕ) → is_moving (pt.view.known m p) ≡ false) → pt.view.known n p ≢ Unknown → (m : ℕ) × (slice_get (t p) (pt.view.moves p) ≡ Some m) × IsThere pt.view p m
+  pub there : (p : Pid) → is_made pt.kernel p ≡ true → ((m : ℕ) → is_moving (pt.view.known m p) ≡ false) → (m : ℕ) × (slice_get (t p) (pt.view.moves p) ≡ Some m) × IsThere pt p m
 
 abbrev pub TrailKnown : Type 0
 TrailKnown = (b : Boot) (es : List Step) (pt : Point) → IsValid b → Leads b (first_point b) es pt → (t : Trails) × OnTrail pt t

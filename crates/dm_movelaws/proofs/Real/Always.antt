@@ -5,9 +5,10 @@ use Rattle.dm_movelaws.proofs.Names.{named_real, times_self, Run, IsReal, Kernel
 use Rattle.dm_movelaws.proofs.Names.{LifeGrows, after_step, Sound, Receiver, Part, Says, Routes, Again, Owns, Transmits, spelled, label_of, kernel_after, moved, About, view_after, handled, receiver_of, own_id, not_kernels, grown_none}
 use Rattle.dm_movelaws.proofs.Names.{put_at, PacketsKeep, put_told_off, Sane, AllSayable, label_topic, Within, has_bytes, KernelFits, step_constant, fits_step, queued_topic, held_topic, taken_topic, told_kept, [], ◌++◌, ⊤, pid_eq-same}
 use Rattle.dm_movelaws.proofs.Names.{alive-is, to_kernel, sends_on, IsNetLine, by_migrates, by_outcome, by_forwards, by_hears, topic_by, sets, InOrder, Loose, loose_handles, HeadIn, counts, first_point, is_put, NothingElse, move_target}
-use Rattle.dm_movelaws.proofs.Names.{option_map_or, by_calls_off, Incoming}
+use Rattle.dm_movelaws.proofs.Names.{option_map_or, by_calls_off, Incoming, preds_of, buries_kept, Of, step_ends, step_serves, served_told, killed_or, is_over}
 use Rattle.dm_rulelaws.proofs.Found.Core as core
 use Rattle.dm_rule.specs.View as view
+use Rattle.dm_onekernel.specs.Step as kernel
 use Rattle.dm_rule.specs.Rule as rule
 use Rattle.dm_movelaws.proofs.After.{keeps_always}
 use Rattle.dm_movelaws.proofs.Ends.Parts.{told_by}
@@ -76,6 +77,7 @@ KnownReal o = (m : ℕ) (q : Pid) → o.view.known m q ≢ Unknown → IsReal o.
 hears_real : (b : Boot) (o : Point) (m : ℕ) (i : MsgId) (q : Option Told) (ps : List Part) → FrontTold o (Some i) → KnownReal o → rule.hears b o m i q ≡ Some ps → AllReal o ps
 hears_real b o m i q ps told here = by_hears (AllReal o) b o m i q ps (λ t is. record {
   stale = λ p about late. (tt, tt);
+  buried = λ p about kind. (tt, buries_kept (AllReal o) tt (λ to xs h. (tt, h)) (preds_of o m p));
   told = λ p x about alive due. (
       let h : IsReal o.kernel p = Made (ap is_some (alive-is (o.kernel.processes p) x alive)) in
       record {
@@ -107,7 +109,7 @@ hears_real b o m i q ps told here = by_hears (AllReal o) b o m i q ps (λ t is. 
 handles_real : (b : Boot) (o : Point) (m : ℕ) (i : MsgId) (msg : PlainMessage) (ps : List Part) → FrontTold o (Some i) → KnownReal o → rule.handles b o m i msg ≡ Some ps → AllReal o ps
 handles_real b o m i msg ps told here e =
     -- what a turn says of a message of the bag
-    let real_loose : Loose (AllReal o) = record { none = tt; label = λ l ps h. (tt, h); routes = λ i ps h. (tt, h) } in
+    let real_loose : Loose (AllReal o) = record { none = tt; label = λ l ps h. (tt, h); routes = λ i ps h. (tt, h); buries = λ to ps h. (tt, h) } in
     loose_handles (AllReal o) (AllReal o) real_loose (λ qs h. h) b o m i msg ps (λ at_. (tt, tt)) (tt, tt) (λ to at_ what apart. (let h = here m msg.to (λ e. let f : Here ≡ Unknown = sym at_.known ∙ e in cc) in (tt, (h, (h, (tt, tt))))))
     (λ to moves at_. by_forwards (AllReal o) o.addresses i (plain_kind msg.what) msg.sender to (told i refl, (tt, tt)) (told i refl, (tt, (tt, tt)))) e
 
@@ -165,26 +167,48 @@ pub record Reals (o pt : Point) : Type 0 where
 abbrev pub Receivers : Point → Type 0
 Receivers o = (i : MsgId) (t : Told) → o.view.told i ≡ Some t → IsReal o.kernel t.receiver
 
-line_topic : (o pt : Point) (l : Line) → Receivers o → LineReal o l → Reals o pt → IsAboutReal pt.kernel (view_after pt.view l).topic
-line_topic o pt (Line.Migration Stage.Frozen p) known need h = subst (IsAboutReal pt.kernel) (sym (sets pt.view p pt.view.topic).topic) (real_rises o.kernel pt.kernel p h.rises need)
-line_topic o pt (Line.Migration Stage.Accepted p) known need h = real_rises o.kernel pt.kernel p h.rises need
-line_topic o pt (Line.Migration Stage.StateTaken p) known need h = real_rises o.kernel pt.kernel p h.rises need
-line_topic o pt (Line.Migration Stage.MemoryTaken p) known need h = real_rises o.kernel pt.kernel p h.rises need
-line_topic o pt (Line.Migration Stage.Left p) known need h = real_rises o.kernel pt.kernel p h.rises need
-line_topic o pt (Line.SentOn p n) known need h = real_rises o.kernel pt.kernel p h.rises need
-line_topic o pt (Line.Called p n) known need h = real_rises o.kernel pt.kernel p h.rises need
-line_topic o pt (Line.Lacks p a b) known need h = real_rises o.kernel pt.kernel p h.rises need
-line_topic o pt (Line.Forwarded i m) known need h = search (arith, pt.kernel, real_rises, o.kernel, h.rises, h.topic)
-line_topic o pt (Line.Proto i) known need h =
+-- who ends was made
+label_real : (pt : Point) (t : OneKernel) (l : Label) → Sane pt → kernel.step pt.kernel l ≡ Some t → IsAboutReal pt.kernel pt.view.topic → IsAboutReal pt.kernel (view_after pt.view (Line.Label l)).topic
+label_real pt t (Label.End p y) sane is h = Made (ap is_some (step_ends pt.kernel t p y is).alive)
+label_real pt t (Label.Served i) sane is h = served (pt.view.told i) refl
+  where
+    served : (o : Option Told) → pt.view.told i ≡ o → IsAboutReal pt.kernel (served_told (handled pt.view i) o).topic
+    served None e = h
+    served (Some u) e =
+        let k = step_serves pt.kernel t i is in
+        killed_or (λ w. IsAboutReal pt.kernel w.topic) u.kind (handled pt.view i) u.receiver (λ kills. subst (IsReal pt.kernel) (sym (sane.tells.receiver i k.message u k.there e)) (Made (ap is_some k.alive))) (λ mild. h)
+label_real pt t l sane is h = subst (IsAboutReal pt.kernel) (sym (label_topic pt.view l)) h
+
+-- and so was what a burial is about
+buried_real : (o pt : Point) (i : MsgId) (q : Option Told) → pt.view.told i ≡ q → Reals o pt → IsAboutReal pt.kernel (view.buried_for (handled pt.view i) q).topic
+buried_real o pt i None e h = h.topic
+buried_real o pt i (Some u) e h = by_about u.about refl
+  where
+    by_about : (a : About) → u.about ≡ a → IsAboutReal pt.kernel (view.forgotten (handled pt.view i) a).topic
+    by_about (Of p) is = subst (IsAboutReal pt.kernel) is (h.about i u e)
+    by_about _ is = h.topic
+
+line_topic : (o pt : Point) (t : OneKernel) (l : Line) → Receivers o → LineReal o l → Sane pt → kernel_after pt.kernel (label_of l) ≡ Some t → Reals o pt → IsAboutReal pt.kernel (view_after pt.view l).topic
+line_topic o pt t (Line.Migration Stage.Frozen p) known need sane is h = subst (IsAboutReal pt.kernel) (sym (sets pt.view p pt.view.topic).topic) (real_rises o.kernel pt.kernel p h.rises need)
+line_topic o pt t (Line.Migration Stage.Accepted p) known need sane is h = real_rises o.kernel pt.kernel p h.rises need
+line_topic o pt t (Line.Migration Stage.StateTaken p) known need sane is h = real_rises o.kernel pt.kernel p h.rises need
+line_topic o pt t (Line.Migration Stage.MemoryTaken p) known need sane is h = real_rises o.kernel pt.kernel p h.rises need
+line_topic o pt t (Line.Migration Stage.Left p) known need sane is h = real_rises o.kernel pt.kernel p h.rises need
+line_topic o pt t (Line.SentOn p n) known need sane is h = real_rises o.kernel pt.kernel p h.rises need
+line_topic o pt t (Line.Called p n) known need sane is h = real_rises o.kernel pt.kernel p h.rises need
+line_topic o pt t (Line.Lacks p a b) known need sane is h = real_rises o.kernel pt.kernel p h.rises need
+line_topic o pt t (Line.Forwarded i m) known need sane is h = search (arith, pt.kernel, real_rises, o.kernel, h.rises, h.topic)
+line_topic o pt t (Line.Proto i) known need sane is h =
     let proto_real : (s : OneKernel) (v : View) (q : Option Told) → ((t : Told) → q ≡ Some t → IsAboutReal s t.about) → IsAboutReal s (view.after_proto v q).topic = λ s v q h. grind (arith, nat_tests) in
     proto_real pt.kernel (handled pt.view i) (pt.view.told i) (λ t e. h.about i t e)
-line_topic o pt (Line.Label l) known need h = subst (IsAboutReal pt.kernel) (sym (label_topic pt.view l)) h.topic
-line_topic o pt (Line.Queued i) known need h = subst (IsAboutReal pt.kernel) (sym (queued_topic (handled pt.view i) i (receiver_of (pt.view.told i)))) h.topic
-line_topic o pt (Line.Held i) known need h = subst (IsAboutReal pt.kernel) (sym (held_topic (handled pt.view i) i (receiver_of (pt.view.told i)))) h.topic
-line_topic o pt (Line.Taken a b n) known need h = subst (IsAboutReal pt.kernel) (sym (taken_topic (view.with_pair pt.view a b _) b (view.oldest (pt.view.pair a b)))) h.topic
-line_topic o pt (Line.Head d) known need h = absurd need
-line_topic o pt (Line.Put a b i k q) known need h = absurd need
-line_topic o pt _ known need h = h.topic
+line_topic o pt t (Line.Label l) known need sane is h = label_real pt t l sane is h.topic
+line_topic o pt t (Line.Buried i n) known need sane is h = buried_real o pt i (pt.view.told i) refl h
+line_topic o pt t (Line.Queued i) known need sane is h = subst (IsAboutReal pt.kernel) (sym (queued_topic (handled pt.view i) i (receiver_of (pt.view.told i)))) h.topic
+line_topic o pt t (Line.Held i) known need sane is h = subst (IsAboutReal pt.kernel) (sym (held_topic (handled pt.view i) i (receiver_of (pt.view.told i)))) h.topic
+line_topic o pt t (Line.Taken a b n) known need sane is h = subst (IsAboutReal pt.kernel) (sym (taken_topic (view.with_pair pt.view a b _) b (view.oldest (pt.view.pair a b)))) h.topic
+line_topic o pt t (Line.Head d) known need sane is h = absurd need
+line_topic o pt t (Line.Put a b i k q) known need sane is h = absurd need
+line_topic o pt t _ known need sane is h = h.topic
 
 asked_real : (s : OneKernel) (o : Option PlainMessage) → IsAboutReal s (option_map_or (λ (m : PlainMessage). move_target m.what) o NothingElse)
 asked_real s None = tt
@@ -215,7 +239,7 @@ line_reals o pt t l known need is sane h =
       own = λ i u e mine. subst (λ (k : ℕ). i.from.home < k) (sym rises.machines) (h.own i u (sym (same i) ∙ e) mine);
       receiver = λ i u e other. real_rises s t u.receiver rises (h.receiver i u (sym (same i) ∙ e) other);
       about = λ i u e. about_rises s t u.about rises (h.about i u (sym (same i) ∙ e));
-      topic = about_rises s t (moved pt l t).view.topic rises (topic_real s w.topic (label_of l) (line_topic o pt l known need h));
+      topic = about_rises s t (moved pt l t).view.topic rises (topic_real s w.topic (label_of l) (line_topic o pt t l known need sane is h));
     }
 
 -- a put
@@ -277,10 +301,17 @@ known_real b pt n p run some = elim (cases_Bool (is_server p)) [
   | inr other ↦ Made (grind (arith, nat_tests, (run.based.known.agree n p other)))
 ]
 
-core_real : (b : Boot) (pt : Point) (q : Pid) → Run b pt → core.IsReal pt.kernel.machines pt.view q → IsReal pt.kernel q
+pub over_made : (o : Option Life) → is_over o ≡ true → is_some o ≡ true
+over_made (Some l) e = refl
+over_made None e = absurd (false≢true e)
+
+core_real : (b : Boot) (pt : Point) (q : Pid) → Run b pt → core.IsReal pt.kernel.machines pt.kernel.processes pt.view q → IsReal pt.kernel q
 core_real b pt q run h = elim h [
   | inl fixed ↦ grind (arith, nat_tests, or_cases)
-  | inr some ↦ known_real b pt q.home q run some
+  | inr there ↦ elim (cases_Bool (is_over (pt.kernel.processes q))) [
+    | inl over ↦ Made (over_made (pt.kernel.processes q) over)
+    | inr lives ↦ known_real b pt q.home q run (there.1 lives)
+  ]
 ]
 
 -- what stands between groups

@@ -6,8 +6,7 @@ use Rattle.dm_movelaws.proofs.Names.{plain_kind, PlainMessage, Label, Sound, Par
 use Rattle.dm_movelaws.proofs.Names.{bag_receive, bag_dropped, bag_gone, bag_no_space, bag_created, bag_served, bag_took, group_is, stands_right, is_put, hidden, Sane, outcome_sayable, Rides, begun, begun_sane, Run, Sayable, ⊤, IsNetLine}
 use Rattle.dm_movelaws.proofs.Names.{first_is, times_self, by_migrates, IsHeardLine, hears_kept, by_round, by_handles, by_forwards, by_outcome, bag_asked, bag_answered, answer_id, ◌+◌, Bool, if◌then◌else◌, take, drop, PlainWhat, Why, Life}
 use Rattle.dm_movelaws.proofs.Names.{with_process, with_sent, answer_to, without_message, pid_eq-is, id_eq-same, Sent, sent_at, ServerSends, board_takes_lem, manager_takes_lem, lands-is, Sent-from, name_is, by_step, with_note, Kept}
-use Rattle.dm_movelaws.proofs.Names.{calls_off_kept}
-use Rattle.dm_onekernel.specs.Kernel.{Ended}
+use Rattle.dm_movelaws.proofs.Names.{calls_off_kept, ends_with, buries, preds_of, buries_kept, Ended}
 use Rattle.dm_onekernel.specs.Step as kernel
 use Rattle.dm_rule.specs.Rule as rule
 use Rattle.dm_onekernel.specs.Kernel as kernels
@@ -147,9 +146,13 @@ just P j h i e = let f : j ≡ i = cc in subst P f h
 abbrev pub In : (MsgId → Type 0) → List MsgId → Type 0
 In P ids = (i : MsgId) → 1 ≤ times i ids → P i
 
-drops_outs : (P : MsgId → Type 0) (ids : List MsgId) → In P ids → AllOuts P (rule.drop_parts ids)
-drops_outs P [] h = tt
-drops_outs P (j ∷ js) h = (just P j (h j (times_self j js)), drops_outs P js (λ i least. h i (let m = times_more i j js in omega (arith, least, m))))
+drops_outs : (P : MsgId → Type 0) (ids : List MsgId) (ps : List Part) → In P ids → AllOuts P ps → AllOuts P (rule.drop_parts ids ++ ps)
+drops_outs P [] ps h k = k
+drops_outs P (j ∷ js) ps h k = (just P j (h j (times_self j js)), drops_outs P js ps (λ i least. h i (let m = times_more i j js in omega (arith, least, m))) k)
+
+-- what follows an end: the queue goes, and others are told
+ends_outs : (P : MsgId → Type 0) (o : Point) (m : ℕ) (p : Pid) → In P (o.view.queue m p) → AllOuts P (ends_with o m p)
+ends_outs P o m p h = drops_outs P (o.view.queue m p) (buries o m p) h (buries_kept (AllOuts P) tt (λ to xs k. (tt, k)) (preds_of o m p))
 
 -- each queue of the machine has some of these
 abbrev pub Queues : (MsgId → Type 0) → Point → ℕ → Type 0
@@ -166,7 +169,7 @@ round_outs P b o m q ps h = by_round (AllOuts P) b o m q ps (tt, tt) (λ p x is 
       sends = λ id. (nothing P, (tt, tt));
       waits = (nothing P, tt);
       outputs = λ word. (nothing P, tt);
-      ends = λ y. (nothing P, drops_outs P (o.view.queue m p) (h p));
+      ends = λ y. (nothing P, ends_outs P o m p (h p));
     }),
   );
   takes = λ mask id first. (just P id (h p id (first_is o.kernel mask (o.view.queue m p) id first).stands), tt);
@@ -181,7 +184,7 @@ handles_outs P b o m id msg ps h q = by_handles (AllOuts P) b o m id msg ps (rec
   queued = λ here user. (tt, tt);
   served = λ here mild. (just P id h, tt);
   answers = λ here mild i. (just P id h, (tt, tt));
-  kills = λ here kills. (just P id h, drops_outs P (o.view.queue m msg.to) (q msg.to));
+  kills = λ here kills. (just P id h, ends_outs P o m msg.to (q msg.to));
   moved = λ here what. (just P id h, (nothing P, (tt, tt)));
   sets_off = λ to here what apart. (just P id h, (tt, (tt, (tt, tt))));
   gone = λ ended. (just P id h, (tt, tt));

@@ -5,7 +5,7 @@ use Rattle.dm_movelaws.proofs.Names.{front_way, Phased, phased_start, phased_gro
 use Rattle.dm_movelaws.proofs.Names.{begun, begun_sane, Mark, marks, in_order, StepsInOrder, plain_by, by_migrates, by_outcome, nat_tests, arith, NothingElse, Label, Says, said_by, moved, calm_about, view_after, line_calm, part_sane}
 use Rattle.dm_movelaws.proofs.Names.{move_target, Target, Here, sort_of, MessageKind, option_map_or, IsValid, inl, inr, cases_Bool, false≢true, PlainProcess, gives_piece, to_kernel, label_of, is_put, touches, Spot, ids_at, handled}
 use Rattle.dm_movelaws.proofs.Names.{proto_off, proto_known, ◌&&◌, not, pulls_piece, brings_piece, is_stale, is_waited_from, Due, Remains, due, due_or_left, stale_left, calm_phases, called_parts, by_calls_off, rooted, bind, told_here}
-use Rattle.dm_movelaws.proofs.Names.{by_known, told_ended}
+use Rattle.dm_movelaws.proofs.Names.{by_known, told_ended, buried, tells_end, bury_is, buries_kept, preds_of}
 use Rattle.dm_onekernel.specs.Step as kernel
 use Rattle.dm_rule.specs.Rule as rule
 use Rattle.dm_rule.proofs.Groups as groups
@@ -87,10 +87,19 @@ piece_marked b o pt m i is t q false ps w h front told about stale e n =
     let (x, there, last) = bind-is (kernel.alive (o.kernel.processes q)) (λ x. told_step o m i q (rule.fits (rule.free_room b o m) (length x.memory / 256)) x (sort_of t.kind)) ps e in
     fresh_marked b o pt m i is t q x ps w h front told about stale last n
 
+-- that a process has ended, or something of its migration
+over_marked : (b : Boot) (o pt : Point) (m : ℕ) (i : MsgId) (is : List MsgId) (t : Told) (q : Pid) (over : Bool) (ps : List Part) (w : Spelled) → Turning o pt m → pt.view.inbox pt.view.acting ≡ i ∷ is → pt.view.told i ≡ Some t → t.about ≡ Of q → is_stale pt pt.view.acting i t.kind q ≡ is_stale o m i t.kind q → tells_end (sort_of t.kind) ≡ over
+    → (if over then Some (buried o m i q) else if is_stale o m i t.kind q then Some (Says (Line.Stale i) ∷ []) else bind (kernel.alive (o.kernel.processes q)) (λ x. told_step o m i q (rule.fits (rule.free_room b o m) (length x.memory / 256)) x (sort_of t.kind))) ≡ Some ps → spelled pt ps ≡ Some w → MarkedBy pt w ps
+over_marked b o pt m i is t q true ps w h front told about same over e n =
+    let f : buried o m i q ≡ ps = cc in
+    subst (MarkedBy pt w) f (mild_marked pt (Some i) (buried o m i q) w h.sane h.fits (tame_front pt.view i (record { what = t; told = told; plain = ap is_between (bury_is t.kind over) }))
+    (λ me. (refl, buries_kept (AllMild me (Some i)) tt (λ to xs k. (tt, k)) (preds_of o m q))) (ap (spelled pt) f ∙ n))
+over_marked b o pt m i is t q false ps w h front told about same over e n = piece_marked b o pt m i is t q (is_stale o m i t.kind q) ps w h front told about same e n
+
 kernel_marked : (b : Boot) (o pt : Point) (m : ℕ) (i : MsgId) (is : List MsgId) (t : Told) (a : About) (ps : List Part) (w : Spelled) → Turning o pt m → pt.view.inbox pt.view.acting ≡ i ∷ is → pt.view.told i ≡ Some t → t.about ≡ a → rule.kernel_hears b o m i t.kind a ≡ Some ps → spelled pt ps ≡ Some w → MarkedBy pt w ps
 kernel_marked b o pt m i is t (Of q) ps w h front told about e n =
     let same : is_stale pt pt.view.acting i t.kind q ≡ is_stale o m i t.kind q = ap (λ (k : Known). brings_piece (sort_of t.kind) && not (is_waited_from i.from.home k)) (h.same q) in
-    piece_marked b o pt m i is t q (is_stale o m i t.kind q) ps w h front told about same e n
+    over_marked b o pt m i is t q (tells_end (sort_of t.kind)) ps w h front told about same refl e n
 kernel_marked b o pt m i is t _ ps w h front told about e n = cc
 
 process_marked : (o pt : Point) (m : ℕ) (i : MsgId) (is : List MsgId) (t : Told) (k : Known) (ps : List Part) (w : Spelled) → Turning o pt m → pt.view.inbox pt.view.acting ≡ i ∷ is → pt.view.told i ≡ Some t → is_between t.kind ≡ false → o.view.known m t.receiver ≡ k → Hears k i t ps → spelled pt ps ≡ Some w → MarkedBy pt w ps
@@ -218,7 +227,7 @@ run_marked b (d ∷ ds) ls pt end p (w, rest, fit, is, split, more) h =
     let k = phased_group b pt d w fit is h in
     let o = mark_in (h.phases.of p) in
     let g = group_marked b pt d w is h p (h.phases.of p) (k.phases.of p) (h.phases.each p) (k.phases.each p) (not_due pt.view h.phases p) (not_due w.point.view k.phases p)
-    (group_waits b pt d w p (h.phases.of p) h.sane (rooted pt h.sane h.ground) (h.phases.each p) (not_due pt.view h.phases p) is) in
+    (group_waits b pt d w p (h.phases.of p) h (rooted pt h.sane h.ground) (h.phases.each p) (not_due pt.view h.phases p) is) in
     let later = run_marked b ds rest w.point end p more k in
     record {
       phased = later.phased;

@@ -4,10 +4,11 @@ use Rattle.dm_movelaws.proofs.Names.{Line, View, Told, Of, own_id, view_after, h
 use Rattle.dm_movelaws.proofs.Names.{pid_eq-is, pid_eq-same, is_put, not_true, line_next, one_of, touches, onward, handled_spots, packet_calm, put_at, put_there, put_spot, PairsFit, puts_next, said, Sane, sane_line, Mark, with_mark}
 use Rattle.dm_movelaws.proofs.Names.{in_order, first_none, nat_tests, seen_none, ⊤, Stage, Label, OneKernel, at_record, Known, served_told, Transmits, standing, pid_eq-swap, out_of, IsNet, hushed, gone_in, Plain, record_off, Tame}
 use Rattle.dm_movelaws.proofs.Names.{line_calm, plain_in_bag, created_off, served_keeps, other_than, fits_put, fits_packet, Sayable, part_sane, by_parts, Steps, PacketsKeep, pid_of, sort_of, sender_in, receiver_in, Incoming, Load, Phase}
-use Rattle.dm_movelaws.proofs.Names.{IsIn, ◌||◌, pulls_piece, brings_piece, IsLeft, piece_ways, pull_ways}
+use Rattle.dm_movelaws.proofs.Names.{IsIn, ◌||◌, pulls_piece, brings_piece, IsLeft, piece_ways, pull_ways, tame_kind}
 pub use Rattle.dm_rule.proofs.Phases.Put.{of_same}
 use Rattle.dm_onekernel.specs.Step as kernel
 use Rattle.dm_movelaws.proofs.Stages.Spares.{is_settled, mark_of, Spares, TokenOf, HasMark, token_mark, Marked, none_marked, some_marked, spares_same, spares_calm, spares_trans, spares_put, spares_about, open_after, mark_other, marks_of}
+use Rattle.dm_movelaws.proofs.Burials.{buried_spots, buried_at}
 use Rattle.dm_movelaws.proofs.Leading.{line_fits, whatever_put, part_leads}
 use Rattle.dm_movelaws.proofs.Stages.Spares.{IsAwaited, SparesBut, but_trans, left_marked}
 
@@ -19,6 +20,7 @@ MildLine p o (Line.Queued i) = o ≡ Some i
 MildLine p o (Line.Held i) = o ≡ Some i
 MildLine p o (Line.Forwarded i m) = o ≡ Some i
 MildLine p o (Line.Updated i n) = o ≡ Some i
+MildLine p o (Line.Buried i n) = o ≡ Some i
 MildLine p o (Line.Here i) = o ≡ Some i
 MildLine p o (Line.NoMove i) = o ≡ Some i
 MildLine p o (Line.Migration Stage.Asked q) = pid_eq q p ≡ false
@@ -86,6 +88,11 @@ line_spares pt s (Line.Queued i) p o h tame mild is = spares_calm pt.view (view_
 line_spares pt s (Line.Held i) p o h tame mild is = spares_calm pt.view (view_after pt.view (Line.Held i)) p (line_calm pt s (Line.Held i) h (tame i mild) is)
 line_spares pt s (Line.Forwarded i m) p o h tame mild is = spares_calm pt.view (view_after pt.view (Line.Forwarded i m)) p (line_calm pt s (Line.Forwarded i m) h (tame i mild) is)
 line_spares pt s (Line.Updated i n) p o h tame mild is = spares_calm pt.view (view_after pt.view (Line.Updated i n)) p (line_calm pt s (Line.Updated i n) h (tame i mild) is)
+line_spares pt s (Line.Buried i n) p o h tame mild is =
+    let v = pt.view in
+    spares_line v (Line.Buried i n) p refl
+    (λ j t z told b a st. same_spot v (view_after v (Line.Buried i n)) j z (buried_spots v i j n (other_than v i j t (λ u is. tame_kind v i u (tame i mild) is) told b) z) st)
+    (λ m e. buried_at is_settled refl v i n m p e)
 line_spares pt s (Line.Here i) p o h tame mild is = spares_calm pt.view (view_after pt.view (Line.Here i)) p (line_calm pt s (Line.Here i) h (tame i mild) is)
 line_spares pt s (Line.NoMove i) p o h tame mild is = spares_calm pt.view (view_after pt.view (Line.NoMove i)) p (line_calm pt s (Line.NoMove i) h (tame i mild) is)
 line_spares pt s (Line.Migration Stage.Asked q) p o h tame mild is = spares_same pt.view p

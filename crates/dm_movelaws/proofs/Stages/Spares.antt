@@ -1,10 +1,10 @@
 -- The marks of lines: of one list after another, and of the lines that parts say.
 use Rattle.dm_movelaws.proofs.Names.{◌≡◌, ℕ, ◌≤◌, ◌==◌, Bool, true, false, List, [], refl, ap, ◌∙◌, sym, subst, inl, inr, if◌then◌else◌, Option, None, Some, cases_Bool, false≢true, Pid, MsgId, MessageKind, id_eq, View, Told, Of, Known}
-use Rattle.dm_movelaws.proofs.Names.{Unknown, Here, Frozen, Incoming, after_put, Spot, standing, is_between, is_restart, is_early, is_away, is_here, is_over, knows, Phase, Nowhere, Rests, Over, Moves, is_due, token_in, told_between, IsIn}
-use Rattle.dm_movelaws.proofs.Names.{id_eq-is, PairsFit, put_told_off, Calm, between_of, put_spots, put_at, put_there, put_spot, rests_here, Mark, Reached, Lacking, in_order, eq_self, not_false, right_true, first_kept, nat_tests, arith}
-use Rattle.dm_movelaws.proofs.Names.{calm_about, calm_same, About, ◌∷◌, ◌++◌, pid_eq, Boot, pid_eq-same, Step, Line, Point, moved, Part, Says, Spelled, lines_of, spelled, sends_on, group_of, outcome, mark_for, with_mark, marks, left_open}
-use Rattle.dm_movelaws.proofs.Names.{left_true, both_true, by_parts, group_is, pid_of, ◌&&◌, kind_comes, sort_of, sender_in, receiver_in, eq_is, tells_onward, is_calloff, Calling, ◌||◌, pulls_piece, brings_piece, IsLeft, Asks, Comes}
-use Rattle.dm_movelaws.proofs.Names.{piece_ways, pull_ways, comes_known, called_known, not_true, Forward}
+use Rattle.dm_movelaws.proofs.Names.{Unknown, Here, Frozen, Incoming, after_put, Spot, standing, is_between, is_restart, is_early, is_away, is_here, is_unknown, knows, Phase, Nowhere, Rests, Over, Moves, is_due, token_in, told_between}
+use Rattle.dm_movelaws.proofs.Names.{IsIn, id_eq-is, PairsFit, put_told_off, Calm, between_of, put_spots, put_at, put_there, put_spot, rests_here, Mark, Reached, Lacking, in_order, eq_self, not_false, right_true, first_kept, nat_tests}
+use Rattle.dm_movelaws.proofs.Names.{arith, calm_about, calm_same, About, ◌∷◌, ◌++◌, pid_eq, Boot, pid_eq-same, Step, Line, Point, moved, Part, Says, Spelled, lines_of, spelled, sends_on, group_of, outcome, mark_for, with_mark, marks}
+use Rattle.dm_movelaws.proofs.Names.{left_open, left_true, both_true, by_parts, group_is, pid_of, ◌&&◌, kind_comes, sort_of, sender_in, receiver_in, eq_is, tells_onward, is_calloff, Calling, ◌||◌, pulls_piece, brings_piece, IsLeft, Asks}
+use Rattle.dm_movelaws.proofs.Names.{Comes, piece_ways, pull_ways, comes_known, called_known, not_true, Forward}
 use Rattle.dm_rule.specs.View as view
 use Rattle.dm_movelaws.proofs.Leading.{lines_are}
 
@@ -132,7 +132,7 @@ rest_settled (Rests at) m k d e h = here_settled (at == m) k h
     here_settled c _ h = refl
 rest_settled (Over at) m k d e h = over_settled (at == m) k h
   where
-    over_settled : (c : Bool) (k : Known) → (if c then is_over k else is_away k) ≡ true → is_settled k ≡ true
+    over_settled : (c : Bool) (k : Known) → (if c then is_unknown k else is_away k) ≡ true → is_settled k ≡ true
     over_settled true (Frozen to) h = absurd (false≢true h)
     over_settled false (Frozen to) h = absurd (false≢true h)
     over_settled true (Incoming from) h = absurd (false≢true h)

@@ -16,7 +16,7 @@ use Rattle.dm_movelaws.proofs.Stages.Spares.{mark_in, rest_settled}
 use Rattle.dm_movelaws.proofs.Leading.{All, Behind, parts_lead}
 
 pub round_mild : (me : Pid) (front : Option MsgId) (b : Boot) (pt : Point) (m : ℕ) (o : Option Pid) (ps : List Part) → goes_round b pt m o ≡ Some ps → AllMild me front ps
-round_mild me front b pt m o ps e = loose_round (AllMild me front) (record { none = tt; label = λ l ps h. (tt, h); routes = λ i ps h. (tt, h) }) b pt m o ps (tt, tt) e
+round_mild me front b pt m o ps e = loose_round (AllMild me front) (record { none = tt; label = λ l ps h. (tt, h); routes = λ i ps h. (tt, h); buries = λ to ps h. (tt, h) }) b pt m o ps (tt, tt) e
 
 pub forwards_mild : (me : Pid) (a : Addresses) (id : MsgId) (k : MessageKind) (sender : Pid) (to : ℕ) → AllMild me (Some id) (forwards_on a id k sender to)
 forwards_mild me a id k sender to = by_forwards (AllMild me (Some id)) a id k sender to (refl, (tt, tt)) (refl, (tt, (tt, tt)))
@@ -32,7 +32,7 @@ pub data Handled (o : Point) (m : ℕ) (id : MsgId) (msg : PlainMessage) (ps : L
 
 pub handles_mild : (b : Boot) (o : Point) (m : ℕ) (id : MsgId) (msg : PlainMessage) (ps : List Part) → handles b o m id msg ≡ Some ps → Handled o m id msg ps
 handles_mild b o m id msg ps e =
-    loose_handles (Handled o m id msg) (λ xs. (me : Pid) → AllMild me (Some id) xs) (record { none = λ me. tt; label = λ l qs h me. (tt, h me); routes = λ i qs h me. (tt, h me) }) (λ qs h. Spared h) b o m id msg ps (λ here. Spared (λ me. (refl, tt))) (Spared (λ me. (refl, tt)))
+    loose_handles (Handled o m id msg) (λ xs. (me : Pid) → AllMild me (Some id) xs) (record { none = λ me. tt; label = λ l qs h me. (tt, h me); routes = λ i qs h me. (tt, h me); buries = λ to qs h me. (tt, h me) }) (λ qs h. Spared h) b o m id msg ps (λ here. Spared (λ me. (refl, tt))) (Spared (λ me. (refl, tt)))
     (λ to here what apart. SetsOff to here.known what refl) (λ to moves at_. Spared (λ me. forwards_mild me o.addresses id (plain_kind msg.what) msg.sender to)) e
 
 pub data Hears (k : Known) (id : MsgId) (t : Told) (ps : List Part) : Type 0 where

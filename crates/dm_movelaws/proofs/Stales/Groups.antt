@@ -14,7 +14,7 @@ use Rattle.dm_movelaws.proofs.Stales.Rows.{Flow, Flows, smooth_flows, slight_flo
 use Rattle.dm_movelaws.proofs.Stales.Hears.{FlowsOf, hears_flows, called_flows, forwards_slight}
 
 slight_loose : (v : View) → Loose (AllSlight v)
-slight_loose v = record { none = tt; label = λ l ps h. (tt, h); routes = λ i ps h. (tt, h) }
+slight_loose v = record { none = tt; label = λ l ps h. (tt, h); routes = λ i ps h. (tt, h); buries = λ to ps h. (refl, h) }
 
 -- a delivery or a tick
 net_flows : (p : Pid) (pt : Point) (ps : List Part) (w : Spelled) → IsNet ps → spelled pt ps ≡ Some w → Flows p pt.view w.point.view ps

@@ -1,9 +1,10 @@
 -- A turn that handles a kernel's own message: what it does with the pieces that stand.
 use Rattle.dm_movelaws.proofs.Names.{◌≡◌, ℕ, ◌+◌, ◌/◌, ◌==◌, ◌&&◌, Bool, true, false, List, [], ◌∷◌, ◌++◌, length, refl, ap, ◌∙◌, sym, subst, arith, nat_tests, ⊤, if◌then◌else◌, not, Option, None, Some, bind, left_true, Pid, pid_eq, MsgId}
-use Rattle.dm_movelaws.proofs.Names.{MessageKind, Boot, Line, Stage, View, Told, About, Of, Known, Unknown, Here, Frozen, Forward, Ended, view_after, handled_first, target_of, Point, moved, Part, Says, Spelled, spelled, to_kernel, sends_on}
+use Rattle.dm_movelaws.proofs.Names.{MessageKind, Boot, Line, Stage, View, Told, About, Of, Known, Unknown, Here, Frozen, Forward, view_after, handled_first, target_of, Point, moved, Part, Says, Spelled, spelled, to_kernel, sends_on}
 use Rattle.dm_movelaws.proofs.Names.{accepts, takes_chunk, takes_block, tells_asker, leaves, told_step, told_here, told_ended, told_server, process_told, kernel_hears, manager, is_between, sort_of, Spot, ids_at, times, PairsFit, Sane}
 use Rattle.dm_movelaws.proofs.Names.{sane_line, Tame, MoveNote, Outcome, PlainProcess, chunks_of, pieces_of, accepted_off, state_off, memory_off, lacks_off, proto_off, restarted_off, frozen_off, first_off, rejoins, is_put, touches}
-use Rattle.dm_movelaws.proofs.Names.{line_next, turned, handled, label_of, by_forwards, Addresses, updates, leaves_for, hears, switchboard, plain_by, forwards_on, is_stale, is_waited_from, brings_piece, stales, called_parts}
+use Rattle.dm_movelaws.proofs.Names.{line_next, turned, handled, label_of, by_forwards, Addresses, updates, leaves_for, hears, switchboard, plain_by, forwards_on, is_stale, is_waited_from, brings_piece, stales, called_parts, tells_end}
+use Rattle.dm_movelaws.proofs.Names.{buried, preds_of, buries_kept, bury_is}
 use Rattle.dm_rule.specs.Rule as rule
 use Rattle.dm_rule.specs.View as view
 use Rattle.dm_onekernel.specs.Step as kernel
@@ -118,19 +119,26 @@ of_bind : {X : Type 0} (p : Pid) (pt : Point) (x : Option X) (f : X → Option (
 of_bind p pt None f k = tt
 of_bind p pt (Some y) f k = k y
 
+one_flows : (p : Pid) (pt : Point) (ps : List Part) → Sane pt → PairsFit pt.view → AllSlight pt.view ps → FlowsOf p pt (Some ps)
+one_flows p pt ps sane fits slight w e = slight_flows p pt ps w sane fits slight e
+
 kernel_flows : (p : Pid) (b : Boot) (o : Point) (m : ℕ) (i : MsgId) (is : List MsgId) (t : Told) (a : About) → Turn (turned o m) i is t → t.about ≡ a → FlowsOf p (turned o m) (kernel_hears b o m i t.kind a)
-kernel_flows p b o m i is t (Of q) h about = of_stale (is_stale o m i t.kind q) refl
+kernel_flows p b o m i is t (Of q) h about = of_over (tells_end (sort_of t.kind)) refl
   where
     of_stale : (c : Bool) → is_stale o m i t.kind q ≡ c
         → FlowsOf p (turned o m) (if c then Some (Says (Line.Stale i) ∷ []) else bind (kernel.alive (o.kernel.processes q)) (λ x. told_step o m i q (rule.fits (rule.free_room b o m) (length x.memory / 256)) x (sort_of t.kind)))
     of_stale true stale = λ w e. stale_flows p (turned o m) i is t q w h about (left_true (brings_piece (sort_of t.kind)) (not (is_waited_from i.from.home (o.view.known m q))) stale) e
     of_stale false fresh = of_bind p (turned o m) (kernel.alive (o.kernel.processes q)) (λ x. told_step o m i q (rule.fits (rule.free_room b o m) (length x.memory / 256)) x (sort_of t.kind)) (λ x. told_flows p o m i is t q (rule.fits (rule.free_room b o m) (length x.memory / 256)) x t.kind h refl about)
+
+    of_over : (c : Bool) → tells_end (sort_of t.kind) ≡ c
+        → FlowsOf p (turned o m) (if c then Some (buried o m i q) else if is_stale o m i t.kind q then Some (Says (Line.Stale i) ∷ []) else bind (kernel.alive (o.kernel.processes q)) (λ x. told_step o m i q (rule.fits (rule.free_room b o m) (length x.memory / 256)) x (sort_of t.kind)))
+    of_over true over =
+        let tame : Tame (turned o m).view i = record { what = t; told = h.told; plain = ap is_between (bury_is t.kind over) } in
+        one_flows p (turned o m) (buried o m i q) h.sane h.fits (tame, buries_kept (AllSlight (turned o m).view) tt (λ to xs k. (refl, k)) (preds_of o m q))
+    of_over false off = of_stale (is_stale o m i t.kind q) refl
 kernel_flows p b o m i is t _ h about = tt
 
 -- at a process or a server
-one_flows : (p : Pid) (pt : Point) (ps : List Part) → Sane pt → PairsFit pt.view → AllSlight pt.view ps → FlowsOf p pt (Some ps)
-one_flows p pt ps sane fits slight w e = slight_flows p pt ps w sane fits slight e
-
 pub forwards_slight : (v : View) (a : Addresses) (i : MsgId) (k : MessageKind) (sender : Pid) (to : ℕ) → Tame v i → AllSlight v (forwards_on a i k sender to)
 forwards_slight v a i k sender to tame = by_forwards (AllSlight v) a i k sender to (tame, (tame, tt)) (tame, (tame, (refl, tt)))
 
@@ -163,10 +171,9 @@ own_flows p o m i is t false true h tame plain = server_flows p o (turned o m) i
 own_flows p o m i is t false false h tame plain = here_flows p o m i is t t.kind h tame plain
 
 process_flows : (p : Pid) (o : Point) (m : ℕ) (i : MsgId) (is : List MsgId) (t : Told) (k : Known) → Turn (turned o m) i is t → Tame (turned o m).view i → is_piece t.kind ≡ false → FlowsOf p (turned o m) (process_told o m i t k)
-process_flows p o m i is t Unknown h tame plain = tt
+process_flows p o m i is t Unknown h tame plain = over_flows p (turned o m) i t.kind h.sane h.fits tame
 process_flows p o m i is t Here h tame plain = own_flows p o m i is t (pid_eq t.receiver switchboard) (pid_eq t.receiver manager) h tame plain
 process_flows p o m i is t (Forward at moves) h tame plain = one_flows p (turned o m) (forwards_on o.addresses i t.kind manager at) h.sane h.fits (forwards_slight (turned o m).view o.addresses i t.kind manager at tame)
-process_flows p o m i is t Ended h tame plain = over_flows p (turned o m) i t.kind h.sane h.fits tame
 process_flows p o m i is t _ h tame plain = one_flows p (turned o m) (Says (Line.Held i) ∷ []) h.sane h.fits (tame, tt)
 
 -- by the receiver

@@ -4,7 +4,8 @@ use Rattle.dm_movelaws.proofs.Names.{view_after, after_put, Point, label_of, ker
 use Rattle.dm_movelaws.proofs.Names.{Sane, Sayable, AllSayable, line_calm, plain_in_bag, left_off, touches, Receiver, is_about, stales, put_calm, tame_kind, plain_not}
 use Rattle.dm_movelaws.proofs.Leading.{All, Behind, sane_lead, line_fits}
 use Rattle.dm_movelaws.proofs.Stages.Spares.{is_piece}
-use Rattle.dm_movelaws.proofs.Ends.Parts.{Smooth, SparesBag, Plain, label_smooth, moves_none, smooth_trans, smooth_about, put_smooth, packet_smooth, own_untold, part_count, none_count}
+use Rattle.dm_movelaws.proofs.Burials.{buried_spots}
+use Rattle.dm_movelaws.proofs.Ends.Parts.{Smooth, hushed_smooth, SparesBag, Plain, label_smooth, moves_none, smooth_trans, smooth_about, put_smooth, packet_smooth, own_untold, part_count, none_count}
 use Rattle.dm_movelaws.proofs.Stales.Weighs.{takes_on, takes_all}
 
 -- a message that asks for a piece of this process, or brings one
@@ -43,6 +44,7 @@ SlightLine v (Line.Queued i) = Tame v i
 SlightLine v (Line.Held i) = Tame v i
 SlightLine v (Line.Forwarded i m) = Tame v i
 SlightLine v (Line.Updated i n) = Tame v i
+SlightLine v (Line.Buried i n) = Tame v i
 SlightLine v (Line.Here i) = Tame v i
 SlightLine v (Line.NoMove i) = Tame v i
 SlightLine v (Line.NoChild q) = ⊤
@@ -64,6 +66,7 @@ slight_smooth p pt s (Line.Queued i) h tame is = calm_smooth p pt.view (view_aft
 slight_smooth p pt s (Line.Held i) h tame is = calm_smooth p pt.view (view_after pt.view (Line.Held i)) (line_calm pt s (Line.Held i) h tame is)
 slight_smooth p pt s (Line.Forwarded i m) h tame is = calm_smooth p pt.view (view_after pt.view (Line.Forwarded i m)) (line_calm pt s (Line.Forwarded i m) h tame is)
 slight_smooth p pt s (Line.Updated i n) h tame is = calm_smooth p pt.view (view_after pt.view (Line.Updated i n)) (line_calm pt s (Line.Updated i n) h tame is)
+slight_smooth p pt s (Line.Buried i n) h tame is = hushed_smooth (piece_for p) pt.view (Line.Buried i n) i refl (λ t told. no_piece_for p t (plain_piece t.kind (tame_kind pt.view i t tame told))) (λ j e z. buried_spots pt.view i j n e z)
 slight_smooth p pt s (Line.Here i) h tame is = calm_smooth p pt.view (view_after pt.view (Line.Here i)) (line_calm pt s (Line.Here i) h tame is)
 slight_smooth p pt s (Line.NoMove i) h tame is = calm_smooth p pt.view (view_after pt.view (Line.NoMove i)) (line_calm pt s (Line.NoMove i) h tame is)
 slight_smooth p pt s _ h slight is = absurd slight

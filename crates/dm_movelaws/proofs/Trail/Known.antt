@@ -1,17 +1,19 @@
 -- Wherever the rule leads there are trails that all addresses are on; where a process doesn't move, its trail ends where it is.
 use Rattle.dm_movelaws.proofs.Names.{◌≡◌, ◌≢◌, ℕ, ◌+◌, ◌==◌, Bool, true, false, List, [], ◌∷◌, length, ap, ◌∙◌, sym, subst, inl, inr, arith, if◌then◌else◌, slice_get, Option, Some, Pid, MsgId, MessageKind, Boot, bind, Step, bind-is, Line}
-use Rattle.dm_movelaws.proofs.Names.{Leads, Phase, Nowhere, Rests, Over, Moves, IsIn, is_away, is_here, is_over, Point, first_point, after, after_line, Trails, Trodden, first_trodden, along, trails_after, View, Known, Unknown, Ended, parts}
-use Rattle.dm_movelaws.proofs.Names.{along_treads, treads_start, Treads, is_moving, IsThere, eq_self, not_false, nat_tests, IsValid, IsStep, Spelled, group_of, first_trails, TrailsAlways, first_view, eq_is, start_known, Carries}
-use Rattle.dm_movelaws.proofs.Names.{trails_always_by, Both, both_start, both_group, run_start, run_group, is_some, refl, cases_Bool, false≢true, None, Place, Label, Life, OneKernel, after_step, Stage, kernel_after, at_record, Told, About}
-use Rattle.dm_movelaws.proofs.Names.{NothingElse, Here, Frozen, Forward, view_after, handled, receiver_of, served_told, hushed, grown_none, Phased, queued_known, held_known, dropped_known, Sane, label_topic, is_server, KnownStands}
-use Rattle.dm_movelaws.proofs.Names.{group_keeps, Loud, keeps_by, set_all, killed_or, named_real, is_made, IsNamed, ByHolder, ByOwn, ByRequest, ByUpdate, ByForward, queued_topic, held_topic, or_first, run_always, sets, seen, label_of, Of}
-use Rattle.dm_movelaws.proofs.Names.{Incoming}
+use Rattle.dm_movelaws.proofs.Names.{Leads, Phase, Nowhere, Rests, Over, Moves, IsIn, is_away, is_here, Point, first_point, after, after_line, Trails, Trodden, first_trodden, along, trails_after, View, Known, Unknown, parts, along_treads}
+use Rattle.dm_movelaws.proofs.Names.{treads_start, Treads, is_moving, IsThere, eq_self, not_false, nat_tests, IsValid, IsStep, Spelled, group_of, first_trails, TrailsAlways, first_view, eq_is, start_known, Carries, trails_always_by, Both}
+use Rattle.dm_movelaws.proofs.Names.{both_start, both_group, run_start, run_group, is_some, refl, cases_Bool, false≢true, None, Place, Label, Life, OneKernel, after_step, Stage, kernel_after, at_record, Told, About, NothingElse, Here}
+use Rattle.dm_movelaws.proofs.Names.{Frozen, Forward, view_after, handled, receiver_of, served_told, hushed, grown_none, Phased, queued_known, held_known, dropped_known, Sane, label_no_place, is_server, KnownStands, group_keeps, Loud}
+use Rattle.dm_movelaws.proofs.Names.{keeps_by, set_all, killed_or, named_real, is_made, IsNamed, ByHolder, ByOwn, ByRequest, ByUpdate, ByForward, queued_topic, held_topic, or_first, run_always, sets, seen, label_of, Of, Incoming, HasEnded}
+use Rattle.dm_movelaws.proofs.Names.{is_unknown, living_phase, suc, ◌||◌, is_alive, is_fixed, zero, server_fixed, is_over, is_gone, TrailsIn}
 use Rattle.dm_rulelaws.proofs.Found.Core.{IsReal}
 use Rattle.dm_onekernel.specs.Step as kernel
 use Rattle.dm_rule.specs.View as view
+use Rattle.dm_movelaws.proofs.Real.Always.{over_made}
 use Rattle.dm_movelaws.proofs.After.{group_after, keeps_always}
 use Rattle.dm_movelaws.proofs.Stages.Spares.{restart_late}
-use Rattle.dm_movelaws.proofs.Trail.Placed.{Placed, Places}
+use Rattle.dm_movelaws.proofs.Trail.Placed.{Placed, Places, is_held}
+use Rattle.dm_movelaws.proofs.Trail.Ranges.{Ranged, group_ranged, start_ranged}
 use Rattle.dm_movelaws.proofs.At.RestAlways.{is_here_is as here_is, is_unknown_is as unknown_is}
 use Rattle.dm_movelaws.proofs.Trail.Loose.{AllGood, good_fit, good_places, along_after}
 use Rattle.dm_movelaws.proofs.Trail.Rows.{group_good}
@@ -25,22 +27,31 @@ pub record Holds (b : Boot) (x : Trodden) : Type 0 where
   pub valid : IsValid b
   pub both : Both b x.point
   pub places : Places x.point.view x.trails
+  pub ranged : Ranged (length b.machines) x.point x.trails
 
 good : (b : Boot) (x : Trodden) (e : Step) (w : Spelled) → group_of b x.point e ≡ Some w → Holds b x → Treads x.point x.trails → AllGood x.point x.trails w.lines
-good b x e w is h on = let run = h.both.run in group_good b x.point x.trails e w is run.based.phased run.based.known run.kept h.places on
+good b x e w is h on = let run = h.both.run in group_good b x.point x.trails e w is run.based.phased run.based.known run.kept run.based.unmoved h.places on
 
 behind_group : (b : Boot) (x y : Trodden) (e : Step) (w : Spelled) → IsStep x.point.kernel.machines e → group_of b x.point e ≡ Some w → along x w.lines ≡ Some y → Holds b x → Treads x.point x.trails → Holds b y
 behind_group b x y e w step is comes h on =
     let f : Some w.point ≡ Some y.point = sym (group_after b x.point e w is) ∙ along_after w.lines x y comes in
     let g : w.point ≡ y.point = cc in
-    record { valid = h.valid; both = subst (Both b) g (both_group run_group b x.point e w h.valid step is h.both); places = good_places w.lines x y comes (good b x e w is h on) }
+    record { valid = h.valid; both = subst (Both b) g (both_group run_group b x.point e w h.valid step is h.both); places = good_places w.lines x y comes (good b x e w is h on); ranged = group_ranged b (length b.machines) x y e w (subst (λ (n : ℕ). IsStep n e) h.both.run.based.machines step) is comes (good_fit w.lines x.point x.trails (good b x e w is h on)) on h.ranged }
+
+pub ranges_in : (b : Boot) (x : Trodden) → Holds b x → TrailsIn x.point.kernel.machines x.point.kernel x.trails
+ranges_in b x h = subst (λ (n : ℕ). TrailsIn n x.point.kernel x.trails) (sym h.both.run.based.machines) h.ranged.ranges
+
+-- what lives is known at home
+pub at_home : (s : OneKernel) (v : View) (p : Pid) → KnownStands s v → is_alive s p ≡ true → v.known p.home p ≢ Unknown
+at_home s v p h lives = grind (arith, nat_tests, server_fixed)
 
 pub carries : Carries Holds
 carries = record {
-  start = λ b valid. record { valid = valid; both = both_start run_start b valid; places = places_start b };
+  start = λ b valid. record { valid = valid; both = both_start run_start b valid; places = places_start b; ranged = subst (λ (n : ℕ). Ranged n (first_point b) (first_trodden b).trails) (both_start run_start b valid).run.based.machines (start_ranged b (both_start run_start b valid)) };
   fits = λ b x e w step is h on. good_fit w.lines x.point x.trails (good b x e w is h on);
   keeps = λ b x y e w step is comes h on. behind_group b x y e w step is comes h on;
-  within = λ b x h. record { known = λ m q some. h.both.run.found.known_within m q some; acting = h.both.run.kept.acting };
+  ranges = λ b x h. ranges_in b x h;
+  there = λ b x h p lives. (p.home, at_home x.point.kernel x.point.view p h.both.run.based.known lives);
 }
 
 pub trails_always : TrailsAlways
@@ -81,21 +92,55 @@ at_self m x y e = sym (ap (λ (c : Bool). if c then x else y) (eq_self m)) ∙ e
 never_moves : (v : View) (p : Pid) (k : MessageKind) (s d : ℕ) (o : Option MsgId) → IsIn v p (Moves k s d o) → ((m : ℕ) → is_moving (v.known m p) ≡ false) → ⊥
 never_moves v p k s d o h still = search (arith, v.known s p, still s, at_self, h.known, not_false, parts, restart_late)
 
+-- nobody has it in such a phase, or expects it
+gone_away : (v : View) (p : Pid) (phase : Phase) → IsIn v p phase → is_gone phase ≡ true → (m : ℕ) → is_away (v.known m p) ≡ true
+gone_away v p Nowhere h gone m = ap is_away (unknown_is (v.known m p) (h.known m))
+gone_away v p (Over at) h gone m = over_away (at == m) (v.known m p) (h.known m)
+  where
+    over_away : (c : Bool) (k : Known) → (if c then is_unknown k else is_away k) ≡ true → is_away k ≡ true
+    over_away true k e = ap is_away (unknown_is k e)
+    over_away false k e = e
+gone_away v p (Rests at) h gone m = absurd (false≢true gone)
+gone_away v p (Moves k s d o) h gone m = absurd (false≢true gone)
+
 long_in : (v : View) (t : Trails) (p : Pid) (phase : Phase) → IsIn v p phase → Placed v t p → ((m : ℕ) → is_moving (v.known m p) ≡ false) → length (t p) ≡ v.moves p + 1
-long_in v t p Nowhere h on still = let k = on.unmade (λ m. unknown_is (v.known m p) (h.known m)) in let none = k.0 in let one = k.1 in omega (arith, none, one)
+long_in v t p Nowhere h on still = on.gone (gone_away v p Nowhere h refl)
 long_in v t p (Rests at) h on still = on.long at (grind (arith, nat_tests, (at_self at (is_here (v.known at p)) (is_away (v.known at p)) (h.known at))))
-long_in v t p (Over at) h on still = on.long at (grind (arith, nat_tests, (at_self at (is_over (v.known at p)) (is_away (v.known at p)) (h.known at))))
+long_in v t p (Over at) h on still = on.gone (gone_away v p (Over at) h refl)
 long_in v t p (Moves k s d o) h on still = absurd (never_moves v p k s d o h still)
 
-there_in : (v : View) (t : Trails) (p : Pid) (phase : Phase) (n : ℕ) → IsIn v p phase → Placed v t p → ((m : ℕ) → is_moving (v.known m p) ≡ false) → v.known n p ≢ Unknown → (m : ℕ) × (slice_get (t p) (v.moves p) ≡ Some m) × IsThere v p m
-there_in v t p Nowhere n h on still some = absurd (some (unknown_is (v.known n p) (h.known n)))
-there_in v t p (Rests at) n h on still some =
-    let here = at_self at (is_here (v.known at p)) (is_away (v.known at p)) (h.known at) in
-    (at, on.now at (grind (arith, nat_tests)), record { now = inl (here_is (v.known at p) here); away = λ m off. (sym (ap (λ (d : Bool). if d then (is_here (v.known m p)) else (is_away (v.known m p))) off) ∙ (h.known m)) })
-there_in v t p (Over at) n h on still some =
-    let over = at_self at (is_over (v.known at p)) (is_away (v.known at p)) (h.known at) in
-    (at, on.now at (grind (arith, nat_tests)), record { now = inr (grind (arith, nat_tests)); away = λ m off. (sym (ap (λ (d : Bool). if d then (is_over (v.known m p)) else (is_away (v.known m p))) off) ∙ (h.known m)) })
-there_in v t p (Moves k s d o) n h on still some = absurd (never_moves v p k s d o h still)
+-- what has ended was last where its trail ends
+last_of : (xs : List ℕ) (n : ℕ) → length xs ≡ n + 1 → (m : ℕ) × (slice_get xs n ≡ Some m)
+last_of [] n long = absurd (omega (arith, long))
+last_of (x ∷ xs) zero long = (x, refl)
+last_of (x ∷ xs) (suc n) long = last_of xs n (omega (arith, long))
+
+-- what was made, and is on no machine, has ended
+ended_if : (b : Boot) (pt : Point) (p : Pid) (phase : Phase) → Both b pt → is_made pt.kernel p ≡ true → IsIn pt.view p phase → is_gone phase ≡ true → HasEnded pt.kernel p
+ended_if b pt p phase h made is gone = elim (cases_Bool (is_server p)) [
+  | inl server ↦ absurd (false≢true (ap is_away (sym (h.run.based.known.server 0 p server)) ∙ gone_away pt.view p phase is gone 0))
+  | inr process ↦ by_life (pt.kernel.processes p) refl (sym (ap (λ (c : Bool). c || is_some (pt.kernel.processes p)) process) ∙ made)
+]
+  where
+    by_life : (o : Option Life) → pt.kernel.processes p ≡ o → is_some o ≡ true → HasEnded pt.kernel p
+    by_life None e some = absurd (false≢true some)
+    by_life (Some (Life.Ended y)) e some = (y, e)
+    by_life (Some (Life.Alive x)) e some = absurd (false≢true (sym (living_phase pt p x phase h.run.based.phased e is) ∙ gone))
+
+gone_there : (b : Boot) (pt : Point) (t : Trails) (p : Pid) (phase : Phase) → Both b pt → is_made pt.kernel p ≡ true → IsIn pt.view p phase → is_gone phase ≡ true → Placed pt.view t p → (m : ℕ) × (slice_get (t p) (pt.view.moves p) ≡ Some m) × IsThere pt p m
+gone_there b pt t p phase h made is gone on =
+    let away = gone_away pt.view p phase is gone in
+    let (m, at) = last_of (t p) (pt.view.moves p) (on.gone away) in
+    (m, at, record { now = inr (ended_if b pt p phase h made is gone); away = λ n off. away n })
+
+there_in : (b : Boot) (pt : Point) (t : Trails) (p : Pid) (phase : Phase) → Both b pt → is_made pt.kernel p ≡ true → IsIn pt.view p phase → Placed pt.view t p → ((m : ℕ) → is_moving (pt.view.known m p) ≡ false) → (m : ℕ) × (slice_get (t p) (pt.view.moves p) ≡ Some m) × IsThere pt p m
+there_in b pt t p Nowhere h made is on still = gone_there b pt t p Nowhere h made is refl on
+there_in b pt t p (Over at) h made is on still = gone_there b pt t p (Over at) h made is refl on
+there_in b pt t p (Rests at) h made is on still =
+    let v = pt.view in
+    let here = at_self at (is_here (v.known at p)) (is_away (v.known at p)) (is.known at) in
+    (at, on.now at (ap is_held (here_is (v.known at p) here)), record { now = inl (here_is (v.known at p) here); away = λ m off. (sym (ap (λ (d : Bool). if d then (is_here (v.known m p)) else (is_away (v.known m p))) off) ∙ (is.known m)) })
+there_in b pt t p (Moves k s d o) h made is on still = absurd (never_moves pt.view p k s d o is still)
 
 -- wherever the rule leads
 pub trail_known : TrailKnown
@@ -108,7 +153,7 @@ trail_known b es pt valid leads =
         addresses = h.treads.links;
         about = h.treads.own.about;
         long = λ p still. long_in pt.view h.trails p (phases.of p) (phases.each p) (h.holds.places p) still;
-        there = λ p n still some. there_in pt.view h.trails p (phases.of p) n (phases.each p) (h.holds.places p) still some;
+        there = λ p made still. there_in b pt h.trails p (phases.of p) h.holds.both made (phases.each p) (h.holds.places p) still;
       },
     )
 
@@ -166,8 +211,9 @@ line_made s v l h1 p m c h2 =
     λ s v i o p m c is h e. grind (arith, nat_tests, no_place) in
     let head_made : (s : OneKernel) (v : View) (d : Step) (p : Pid) (m c : ℕ) → (view.after_head v d).topic ≡ view.Place p m c → WasMade s p = λ s v d p m c e. grind (arith, nat_tests, no_place) in
     let forwarded_made : (s : OneKernel) (v : View) (o : Option Pid) (p : Pid) (m c : ℕ) → Passing s v → (view.forwarded_for v o).topic ≡ view.Place p m c → WasMade s p = λ s v o p m c h e. grind (arith, nat_tests) in
+    let buried_made : (s : OneKernel) (v : View) (i : MsgId) (o : Option Told) (p : Pid) (m c : ℕ) → Passing s v → (view.buried_for (handled v i) o).topic ≡ view.Place p m c → WasMade s p = λ s v i o p m c h e. grind (arith, nat_tests, no_place) in
     let no_of : (T : Type 0) (q p : Pid) (m c : ℕ) → Of q ≡ view.Place p m c → T = λ T q p m c e. cc in
-    search (arith, head_made, label_topic, forwarded_made, proto_made, v.told, stage_made, no_of, queued_topic, held_topic)
+    search (arith, head_made, label_no_place, forwarded_made, proto_made, buried_made, v.told, stage_made, no_of, queued_topic, held_topic)
 
 -- a line after which the same leave
 line_passing : (pt : Point) (t : OneKernel) (l : Line) → Goes pt.kernel t → ((m : ℕ) (p : Pid) → passes ((view_after pt.view l).known m p) ≡ true → WasMade pt.kernel p) → (view_after pt.view l).told ≡ pt.view.told → Passing pt.kernel pt.view
@@ -186,6 +232,15 @@ set_known s v w q k known new h m p e = grind (arith, nat_tests, set_all)
 served_known : (s : OneKernel) (v : View) (i : MsgId) (o : Option Told) → Passing s v → (m : ℕ) (p : Pid) → passes ((served_told (handled v i) o).known m p) ≡ true → WasMade s p
 served_known s v i o h m p e = grind (arith, nat_tests, killed_or, set_known)
 
+-- a machine forgets a process
+forgotten_known : (s : OneKernel) (v : View) (i : MsgId) (a : About) → Passing s v → (m : ℕ) (p : Pid) → passes ((view.forgotten (handled v i) a).known m p) ≡ true → WasMade s p
+forgotten_known s v i (Of q) h m p e = set_known s v (view.forgotten (handled v i) (Of q)) q Unknown refl (λ f. absurd (false≢true f)) h m p e
+forgotten_known s v i _ h m p e = h.known m p e
+
+buried_known : (s : OneKernel) (v : View) (i : MsgId) (o : Option Told) → Passing s v → (m : ℕ) (p : Pid) → passes ((view.buried_for (handled v i) o).known m p) ≡ true → WasMade s p
+buried_known s v i None h m p e = h.known m p e
+buried_known s v i (Some t) h m p e = forgotten_known s v i t.about h m p e
+
 -- a put tells of what the group is about
 put_told : (v : View) (a b : ℕ) (i : MsgId) (k : MessageKind) (q : Pid) (s : OneKernel) (j : MsgId) (u : Told) (p : Pid) (m c : ℕ) → Passing s v → (view.after_put v a b i k q).told j ≡ Some u → u.about ≡ view.Place p m c → WasMade s p
 put_told v a b i k q s j u p m c h e f = grind (arith, nat_tests)
@@ -203,7 +258,7 @@ passing_loud = record {
   refuse = λ pt t p id c here alike sane is h. line_passing pt t (Line.Label (Label.Refuse p id c)) (goes_label pt t (Label.Refuse p id c) sane is) h.known refl h;
   end = λ pt t p y rests sane is h.
       let l = Line.Label (Label.End p y) in
-      line_passing pt t l (goes_label pt t (Label.End p y) sane is) (set_known pt.kernel pt.view (view_after pt.view l) p Ended refl (λ f. absurd (false≢true f)) h) refl h;
+      line_passing pt t l (goes_label pt t (Label.End p y) sane is) (set_known pt.kernel pt.view (view_after pt.view l) p Unknown refl (λ f. absurd (false≢true f)) h) refl h;
   dropped = λ pt t id alike sane is h.
       let l = Line.Label (Label.Dropped id) in
       line_passing pt t l (goes_label pt t (Label.Dropped id) sane is) (point_known pt.kernel pt.view (view_after pt.view l) (λ m q. dropped_known (handled pt.view id) id (receiver_of (pt.view.told id)) m q) h) (hushed pt.view l refl).told h;
@@ -223,6 +278,7 @@ passing_loud = record {
   called = λ pt p n calling h.
       line_passing pt pt.kernel (Line.Called p n) (λ q e. e)
       (set_known pt.kernel pt.view (view_after pt.view (Line.Called p n)) p (view.goes_back (pt.view.known pt.view.acting p) (pt.view.moves p)) refl (λ f. h.known pt.view.acting p (ap passes calling.comes)) h) refl h;
+  buried = λ pt id n need sane h. line_passing pt pt.kernel (Line.Buried id n) (λ q e. e) (buried_known pt.kernel pt.view id (pt.view.told id) h) (hushed pt.view (Line.Buried id n) refl).told h;
   sent_on = λ pt p n h. line_passing pt pt.kernel (Line.SentOn p n) (λ q e. e) h.known refl h;
 }
 
@@ -244,8 +300,20 @@ passed_always b es pt valid way = record {
   passing = keeps_always b (λ q. Passing q.kernel q.view) (λ q d w fit is run h. passing_group b q d w is run.based.phased run.based.known h) valid (passing_start b) es pt way;
 }
 
-real_made : (s : OneKernel) (v : View) (n : ℕ) (q : Pid) → KnownStands s v → (q.num == 0) ≡ false → IsReal n v q → is_made s q ≡ true
-real_made s v n q h other real = grind (arith, nat_tests)
+known_made : (s : OneKernel) (v : View) (q : Pid) → KnownStands s v → v.known q.home q ≢ Unknown → is_made s q ≡ true
+known_made s v q h some = grind (arith, nat_tests)
+
+fixed_made : (s : OneKernel) (q : Pid) → (q.num == 0) ≡ false → is_fixed q ≡ true → is_made s q ≡ true
+fixed_made s q other fixed = grind (arith, nat_tests)
+
+real_made : (s : OneKernel) (v : View) (n : ℕ) (q : Pid) → KnownStands s v → (q.num == 0) ≡ false → IsReal n s.processes v q → is_made s q ≡ true
+real_made s v n q h other real = elim real [
+  | inl fixed ↦ fixed_made s q other fixed.0
+  | inr there ↦ elim (cases_Bool (is_over (s.processes q))) [
+    | inl over ↦ or_first (is_server q) (is_some (s.processes q)) (over_made (s.processes q) over)
+    | inr lives ↦ known_made s v q h (there.1 lives)
+  ]
+]
 
 pub made_by : (b : Boot) (pt : Point) (q : Pid) (place : Place) → Passed b pt → (q.num == 0) ≡ false → IsNamed pt q place → is_made pt.kernel q ≡ true
 made_by b pt q place h other (ByHolder g is at_) = real_made pt.kernel pt.view pt.kernel.machines q h.both.run.based.known other (named_real pt pt.kernel.machines g q h.both.run.kept is)

@@ -5,12 +5,13 @@ use Rattle.dm_movelaws.proofs.Names.{puts, goes_out, packet_line, to_kernel, Tra
 use Rattle.dm_movelaws.proofs.Names.{PutFits, Rides, Steps, said_by, own_outside, own_fresh, queued_moves, held_moves, dropped_moves, nat_tests, arith, ◌++◌, ⊤, PlainMessage, bind, after_line, Again, Spelled, lines_of, spelled, Trodden}
 use Rattle.dm_movelaws.proofs.Names.{along, AllSayable, part_sane, line_treads, Said, plain_own, by_parts, Addresses, Sort, is_between, sort_of, false≢true, tells_between, seen, ◌≢◌, ◌≤◌, length-append, slice_get, pid_eq, Known, Frozen}
 use Rattle.dm_movelaws.proofs.Names.{Incoming, Forward, forwarded_for, gone_to, Sender, is_told_back, forwards_on, sends_on, Moves, IsIn, times, destination, both_lists, forwarded_known, get_at_end, forwarded_back, Named, source_holds}
-use Rattle.dm_movelaws.proofs.Names.{two_apart, sent_on_at, again_rides, named_for, again_same, eq_self, forwarded_own, other_id, leaves}
+use Rattle.dm_movelaws.proofs.Names.{two_apart, sent_on_at, again_rides, named_for, again_same, eq_self, forwarded_own, other_id, leaves, map, is_away, eq_is, inl, inr, cases_Bool, destination_expects}
 use Rattle.dm_rule.proofs.Trails.Along.{AllFit}
-use Rattle.dm_movelaws.proofs.Trail.Placed.{Places, placed_same, is_held, Placed, placed_left, places_set, moves_held, moves_comes}
+use Rattle.dm_movelaws.proofs.Trail.Placed.{Places, placed_same, is_held, Placed, Elsewhere, placed_left, places_set, moves_held, moves_comes}
 use Rattle.dm_movelaws.proofs.Leading.{Behind, whatever_put, part_leads}
 use Rattle.dm_onekernel.specs.Step as kernel
 use Rattle.dm_rule.specs.Rule as rule
+use Rattle.dm_rule.specs.Burying as bury
 
 -- each of these lines fits where the ones before lead, and behind the last each process is placed
 abbrev pub AllGood : Point → Trails → List Line → Type 0
@@ -193,9 +194,17 @@ dropped_loose i =
     (λ v t h. places_same v (view_after v (Line.Label (Label.Dropped i))) t (λ m q. dropped_known (handled v i) i (receiver_of (v.told i)) m q)
     (λ q. at_pid (view_after v (Line.Label (Label.Dropped i))).moves v.moves q (dropped_moves (handled v i) i (receiver_of (v.told i)))) h)
 
-pub drops_loose : (ids : List MsgId) → AllLoose (rule.drop_parts ids)
-drops_loose [] = tt
-drops_loose (i ∷ is) = (dropped_loose i, drops_loose is)
+-- what follows an end: its queue goes, and others are told
+pub buries_loose : (ms : List ℕ) → AllLoose (map (to_kernel MessageKind.Bury) ms)
+buries_loose [] = tt
+buries_loose (m ∷ ms) = (between_loose MessageKind.Bury m (λ pt. refl) (λ e. cc), buries_loose ms)
+
+drops_then : (ids : List MsgId) (ps : List Part) → AllLoose ps → AllLoose (rule.drop_parts ids ++ ps)
+drops_then [] ps h = h
+drops_then (i ∷ is) ps h = (dropped_loose i, drops_then is ps h)
+
+pub ends_loose : (o : Point) (m : ℕ) (p : Pid) → AllLoose (bury.ends_with o m p)
+ends_loose o m p = drops_then (o.view.queue m p) (bury.buries o m p) (buries_loose (bury.preds_of o m p))
 
 -- Where a message goes on, its address is on the trail; and where all is taken of a process that leaves, those of its messages are.
 
@@ -228,6 +237,12 @@ forwards_walks pt t id u sender to c told away h back = λ sane on. (
       ))),
 )
 
+pub apart_off : (m n : ℕ) → m ≢ n → (m == n) ≡ false
+apart_off m n h = elim (cases_Bool (m == n)) [
+  | inl same ↦ absurd (h (eq_is m n same))
+  | inr off ↦ off
+]
+
 -- what came for a process was sent on
 record Sent (q : Point) (u : Trails) (p : Pid) (d : ℕ) : Type 0 where
   holds : q.view.known q.view.acting p ≡ Frozen d
@@ -236,10 +251,29 @@ record Sent (q : Point) (u : Trails) (p : Pid) (d : ℕ) : Type 0 where
   apart : d ≢ q.view.acting
   none : (m : ℕ) → (q.view.acting == m) ≡ false → is_held (q.view.known m p) ≡ true → ⊥
   only : (k s : ℕ) → q.view.known k p ≡ Incoming s → k ≡ d
+  other : Elsewhere q.view p
   others : (r : Pid) → pid_eq p r ≡ false → Placed q.view u r
 
+sent_same : (u : Trails) (p : Pid) (d : ℕ) (q r : Point) → r.view.known ≡ q.view.known → r.view.acting ≡ q.view.acting → r.view.moves ≡ q.view.moves → Sent q u p d → Sent r u p d
+sent_same u p d q r known acting moves h =
+    let at : (m : ℕ) (x : Pid) → r.view.known m x ≡ q.view.known m x = λ m x. ap (λ (f : ℕ → Pid → Known). f m x) known in
+    let same : r.view.moves p ≡ q.view.moves p = ap (λ (f : Pid → ℕ). f p) moves in
+    record {
+      holds = ap (λ (m : ℕ). r.view.known m p) acting ∙ at q.view.acting p ∙ h.holds;
+      at = ap (λ (n : ℕ). slice_get (u p) (n + 1)) same ∙ h.at;
+      long = h.long ∙ ap (λ (n : ℕ). n + 2) (sym same);
+      apart = λ e. h.apart (e ∙ acting);
+      none = λ m off held. h.none m (sym (ap (λ (a : ℕ). a == m) acting) ∙ off) (sym (ap is_held (at m p)) ∙ held);
+      only = λ k s e. h.only k s (sym (at k p) ∙ e);
+      other = record { machine = h.other.machine; off = ap (λ (a : ℕ). a == h.other.machine) acting ∙ h.other.off; there = ap is_away (at h.other.machine p) ∙ h.other.there };
+      others = λ x off. placed_same q.view r.view u u x (λ m. at m x) (ap (λ (f : Pid → ℕ). f x) moves) refl (h.others x off);
+    }
+
 sent_rides : (u : Trails) (p : Pid) (d : ℕ) → Rides (λ (q : Point). Sent q u p d)
-sent_rides u p d = grind (arith, nat_tests, placed_same)
+sent_rides u p d = record {
+  put = λ pt a b i k q h. sent_same u p d pt (moved pt (Line.Put a b i k q) pt.kernel) refl refl refl h;
+  packet = λ pt a b k l h. sent_same u p d pt (moved pt (Line.Packet a b k l) pt.kernel) refl refl refl h;
+}
 
 left_places : (q : Point) (u : Trails) (p : Pid) (d : ℕ) → Sent q u p d → Places (view_after q.view (Line.Migration Stage.Left p)) u
 left_places q u p d h =
@@ -247,7 +281,7 @@ left_places q u p d h =
     let w = view_after v (Line.Migration Stage.Left p) in
     let n = v.moves p + 1 in
     places_set v w u u p (gone_to (v.known v.acting p) n) refl (λ r apart. refl) (λ r apart. refl) h.others
-    (λ learnt. placed_left v w u p d n (λ m. learnt m ∙ ap (λ (x : Known). if v.acting == m then gone_to x n else v.known m p) h.holds) refl h.at h.long h.none h.only)
+    (λ learnt. placed_left v w u p d n (λ m. learnt m ∙ ap (λ (x : Known). if v.acting == m then gone_to x n else v.known m p) h.holds) refl h.at h.long h.none h.only h.other)
 
 agains_walks : (u : Trails) (p : Pid) (d from to : ℕ) (ids : List MsgId) (q : Point) → Sent q u p d → Walks q u (sends_on to ids ++ Says (Line.Migration Stage.Left p) ∷ to_kernel MessageKind.Restart from ∷ [])
 agains_walks u p d from to [] q h =
@@ -273,6 +307,7 @@ sent_first pt t p n s d o next is phase acts h =
       apart = λ e. two_apart v p MessageKind.AllTaken s d o phase (e ∙ acts);
       none = λ m off held. (let k = moves_held v p MessageKind.AllTaken s d m o phase held in false≢true (sym off ∙ ap (λ (i : ℕ). v.acting == i) (sym k.0 ∙ sym acts) ∙ eq_self v.acting));
       only = λ k from at. moves_comes v p MessageKind.AllTaken s d k from o phase at;
+      other = record { machine = d; off = apart_off v.acting d (λ e. two_apart v p MessageKind.AllTaken s d o phase (sym e ∙ acts)); there = ap is_away (destination_expects v p MessageKind.AllTaken s d o phase refl refl) };
       others = λ r apart. placed_same v w t u r (λ m. refl) refl (ap (λ (c : Bool). if c then t p ++ destination (v.known v.acting p) else t r) apart) (h r);
     } in
     subst (λ (z : View). Sent (record { kernel = next.kernel; view = z; addresses = next.addresses }) u p d) (sym is) first

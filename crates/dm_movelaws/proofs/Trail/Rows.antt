@@ -1,17 +1,21 @@
 -- What a turn says of a kernel's own message fits the trails.
 use Rattle.dm_movelaws.proofs.Names.{◌≡◌, ℕ, ◌+◌, Bool, true, false, List, [], ◌∷◌, refl, ap, ◌∙◌, sym, subst, arith, ◌||◌, if◌then◌else◌, slice_get, Option, None, Some, Pid, pid_of, MsgId, MessageKind, Label, Line, plain_kind, proto_known}
-use Rattle.dm_movelaws.proofs.Names.{PlainMessage, Boot, first_number, View, Told, Unknown, Here, Forward, Ended, handled, ends_by, served_told, view_after, Receiver, Point, moved, Part, Says, Routes, Nowhere, forwards_on, Trails, Trail, ReceivedAt}
-use Rattle.dm_movelaws.proofs.Names.{ended_on, is_fixed, Unborn, said_by, Stops, by_round, by_handles, StoodOnTrail, nat_tests, ◌≤◌, inl, inr, PutFits, manager, Step, Of, is_kernels, own_id, after_head, front_of, Child, Sender, to_of, sender_of, Spelled}
-use Rattle.dm_movelaws.proofs.Names.{IsIn, is_between, group_of, Inbox, Queue, Held, times, standing, both_lists, both_times, front_kernels, Phased, outcome_sayable, Named, Links, child_is, parts, migrate_to, migrate_from, Treads, line_treads, KnownStands}
-use Rattle.dm_movelaws.proofs.Names.{Begins, begins, begun, begun_sane, turned, unborn, FoundBy, KnowsAt, moves_back, own_outside, own_fresh, told_there, about_same, stands_first, queued_for, told_for, either, fixed_home, by_migrates, migrates, by_outcome}
-use Rattle.dm_movelaws.proofs.Names.{by_group, answers_move, leaves_for, Outcome, asked_noted, ◌++◌, false≢true, Stage, pid_eq-same, Frozen, Incoming, to_kernel, Moves, receiver_in, sender_in, Sane, source_holds, destination_expects, by_hears, place_told}
-use Rattle.dm_movelaws.proofs.Names.{behind_count, left_parts, MoveNote, OneKernel, Known, label_of, kernel_after, at_record, at_record_at, Said, aim, sets, sort_of, is_restart, kind_leaves, eq_is, eq_self, tells_onward, called_parts, by_calls_off}
-use Rattle.dm_movelaws.proofs.Names.{coming_is, holds_on, two_apart, calm_phases, head_calm, knows, InPhases, sends_on, again_rides, ◌==◌, length, is_server}
+use Rattle.dm_movelaws.proofs.Names.{PlainMessage, Boot, first_number, View, Told, Here, Forward, handled, ends_by, served_told, view_after, Receiver, Point, moved, Part, Says, Routes, Nowhere, forwards_on, Trails, ReceivedAt, ended_on}
+use Rattle.dm_movelaws.proofs.Names.{is_fixed, Unborn, said_by, Stops, by_round, by_handles, StoodOnTrail, nat_tests, ◌≤◌, inl, inr, PutFits, manager, Step, Of, is_kernels, own_id, after_head, front_of, Child, Sender, to_of, sender_of}
+use Rattle.dm_movelaws.proofs.Names.{Spelled, IsIn, is_between, group_of, Inbox, Queue, Held, times, standing, both_lists, both_times, front_kernels, Phased, outcome_sayable, Named, Links, child_is, parts, migrate_to, migrate_from, Treads}
+use Rattle.dm_movelaws.proofs.Names.{line_treads, KnownStands, Begins, begins, begun, begun_sane, turned, unborn, FoundBy, KnowsAt, moves_back, own_outside, own_fresh, told_there, about_same, stands_first, queued_for, told_for, either}
+use Rattle.dm_movelaws.proofs.Names.{fixed_home, by_migrates, migrates, by_outcome, by_group, answers_move, leaves_for, Outcome, asked_noted, ◌++◌, false≢true, Stage, pid_eq-same, Frozen, Incoming, to_kernel, Moves, receiver_in, sender_in}
+use Rattle.dm_movelaws.proofs.Names.{Sane, source_holds, destination_expects, by_hears, place_told, behind_count, left_parts, MoveNote, OneKernel, Known, label_of, kernel_after, at_record, at_record_at, Said, aim, sets, sort_of, is_restart}
+use Rattle.dm_movelaws.proofs.Names.{kind_leaves, eq_is, eq_self, tells_onward, called_parts, by_calls_off, coming_is, holds_on, two_apart, calm_phases, head_calm, knows, InPhases, sends_on, again_rides, ◌==◌, length, is_server, is_away}
+use Rattle.dm_movelaws.proofs.Names.{is_alive, resting, Resting, bury_over, ended_away, map, About, living, PlainWhat, next_is_new}
+use Rattle.dm_movelaws.proofs.At.RestOnly.{ended_alive}
+use Rattle.dm_rule.specs.Burying as bury
 use Rattle.dm_onekernel.specs.Pieces as pieces
+use Rattle.dm_onekernel.specs.Step as kernel
 use Rattle.dm_rule.specs.Rule as rule
 use Rattle.dm_rule.proofs.Hearing as hearing
-use Rattle.dm_movelaws.proofs.Trail.Placed.{is_held, Placed, Places, Learnt, placed_held, places_set, places_held, placed_comes, placed_restarts, moves_held, moves_comes}
-use Rattle.dm_movelaws.proofs.Trail.Loose.{Walks, AllLoose, loose_walks, places_same, label_fits, label_walks, routes_loose, queued_loose, held_loose, dropped_loose, drops_loose, AllGood, parts_good, owns_leave, at_pid}
+use Rattle.dm_movelaws.proofs.Trail.Placed.{is_held, Places, placed_held, places_set, places_held, places_forgets, Elsewhere, placed_comes, placed_restarts, moves_held, moves_comes}
+use Rattle.dm_movelaws.proofs.Trail.Loose.{Walks, AllLoose, loose_walks, places_same, label_fits, label_walks, routes_loose, queued_loose, held_loose, dropped_loose, ends_loose, buries_loose, apart_off, AllGood, parts_good, owns_leave, at_pid}
 use Rattle.dm_movelaws.proofs.Trail.Loose.{net_loose, first_walks, to_between, Loose, quiet, forwards_walks}
 use Rattle.dm_movelaws.proofs.Trail.Loose.{leaves_walks}
 use Rattle.dm_movelaws.proofs.Stages.Spares.{is_piece}
@@ -115,13 +119,28 @@ restarts_asked : (pt : Point) (t : Trails) (p : Pid) (n : MoveNote) → Heard pt
 restarts_asked pt t p n u noted h =
     λ sane on. (record { k = MessageKind.Restart; s = u.s; d = u.d; o = u.o; phase = u.phase; off = refl }, λ next s. answers_at pt t p (Line.Migration Stage.Restarted p) n Outcome.Done refl refl refl noted sane (restarted_places pt t p u h) next (said_by pt next (Line.Migration Stage.Restarted p) s))
 
+-- a machine forgets a process that has ended
+buried_places : (v : View) (t : Trails) (id : MsgId) (o : Option Told) (u : Told) (p : Pid) → o ≡ Some u → u.about ≡ Of p → ((n : ℕ) → is_away (v.known n p) ≡ true) → Places v t → Places (view.buried_for (handled v id) o) t
+buried_places v t id o u p told about away h =
+    subst (λ (x : Option Told). Places (view.buried_for (handled v id) x) t) (sym told)
+    (subst (λ (a : About). Places (view.forgotten (handled v id) a) t) (sym about) (places_forgets v (view.forgotten (handled v id) (Of p)) t p refl refl (λ n off. away n) ((h p).gone away) h))
+
+buried_walks : (pt : Point) (t : Trails) (id : MsgId) (u : Told) (p : Pid) (n : ℕ) (ms : List ℕ) → pt.view.told id ≡ Some u → u.about ≡ Of p → is_alive pt.kernel p ≡ false → ((k : ℕ) → is_away (pt.view.known k p) ≡ true) → Places pt.view t
+    → Walks pt t (Says (Line.Buried id n) ∷ map (to_kernel MessageKind.Bury) ms)
+buried_walks pt t id u p n ms told about dead away h =
+    let one : (y : Told) (q : Pid) → pt.view.told id ≡ Some y → y.about ≡ Of q → is_alive pt.kernel q ≡ false = λ y q is of.
+    (let f : Some u ≡ Some y = sym told ∙ is in let g : u ≡ y = cc in let e : Of p ≡ Of q = sym about ∙ ap (λ (x : Told). x.about) g ∙ of in ap (is_alive pt.kernel) (let k : q ≡ p = cc in k) ∙ dead) in
+    first_walks (Line.Buried id n) (map (to_kernel MessageKind.Bury) ms) pt t
+    (λ sane on. (one, λ next s. subst (λ (z : Point). Places z.view t) s.is (buried_places pt.view t id (pt.view.told id) u p told about away h))) (buries_loose ms)
+
 abbrev AnotherHeard : Point → Point → Trails → ℕ → MsgId → Told → Type 0
 AnotherHeard pt o t m id v = hearing.Heard (Walks pt t) o m id v
 
 pub hears_walks : (pt : Point) (b : Boot) (o : Point) (t : Trails) (m : ℕ) (id : MsgId) (u : Told) (ps : List Part) → ((p : Pid) → both_lists pt.view p ≡ o.view.queue m p ++ o.view.held m p)
     → ((p : Pid) (n : MoveNote) → o.kernel.notes p ≡ Some n → pt.kernel.notes p ≡ Some n) → pt.view.known pt.view.acting u.receiver ≡ o.view.known m u.receiver
-    → ((p : Pid) → u.about ≡ Of p → is_between u.kind ≡ true → is_piece u.kind ≡ false → Heard pt p u.kind) → ((to c : ℕ) → o.view.known m u.receiver ≡ Forward to c → Walks pt t (forwards_on o.addresses id u.kind manager to)) → Places pt.view t → rule.hears b o m id (Some u) ≡ Some ps → Walks pt t ps
-hears_walks pt b o t m id u ps same notes known kernels forwards h =
+    → ((p : Pid) → u.about ≡ Of p → is_between u.kind ≡ true → is_piece u.kind ≡ false → Heard pt p u.kind) → ((to c : ℕ) → o.view.known m u.receiver ≡ Forward to c → Walks pt t (forwards_on o.addresses id u.kind manager to)) → pt.view.told id ≡ Some u
+    → ((p : Pid) → u.about ≡ Of p → u.kind ≡ MessageKind.Bury → (is_alive pt.kernel p ≡ false) × ((n : ℕ) → is_away (pt.view.known n p) ≡ true)) → Places pt.view t → rule.hears b o m id (Some u) ≡ Some ps → Walks pt t ps
+hears_walks pt b o t m id u ps same notes known kernels forwards was over h =
     let proto_loose : (i : MsgId) → Loose (Says (Line.Proto i)) =
     λ i. quiet (Line.Proto i) (λ pt t. tt) (λ v t. refl) (λ v n q. proto_known (handled v i) (v.told i) n q) (λ v q. at_pid (view_after v (Line.Proto i)).moves v.moves q (grind (arith, nat_tests))) in
     let home = id.from.home in
@@ -132,6 +151,7 @@ hears_walks pt b o t m id u ps same notes known kernels forwards h =
     let updated_loose : (i : MsgId) (k : ℕ) → Loose (Says (Line.Updated i k)) = λ i k. quiet (Line.Updated i k) (λ pt t. tt) (λ v t. refl) (λ v n q. refl) (λ v q. refl) in
     subst (AnotherHeard pt o t m id) e (record {
       stale = λ p about late. one (Line.Stale id) (quiet (Line.Stale id) (λ pt t. tt) (λ v t. refl) (λ v n q. refl) (λ v q. refl));
+      buried = λ p about kind. buried_walks pt t id u p (length (bury.preds_of o m p)) (bury.preds_of o m p) was about (over p about kind).0 (over p about kind).1 h;
       told = λ p x about alive due. (
           let at : (k : MessageKind) → u.kind ≡ k → is_between k ≡ true → is_piece k ≡ false → Heard pt p k = λ k kind between whole. subst (Heard pt p) kind (kernels p about (ap is_between kind ∙ between) (ap is_piece kind ∙ whole)) in
           let lacks_loose : (p : Pid) (a b : ℕ) → Loose (Says (Line.Lacks p a b)) = λ p a b. quiet (Line.Lacks p a b) (λ pt t. tt) (λ v t. refl) (λ v n q. refl) (λ v q. refl) in
@@ -178,24 +198,25 @@ hears_walks pt b o t m id u ps same notes known kernels forwards h =
 -- What each row of a turn says fits the trails: processes that run, and messages of the bag.
 
 -- a process that runs
-runs_stops : (pt : Point) (t : Trails) (p : Pid) (queue : List MsgId) → pt.view.known pt.view.acting p ≡ Here → Places pt.view t → Stops (Walks pt t) p queue
-runs_stops pt t p queue here h = record {
+runs_stops : (pt : Point) (t : Trails) (p : Pid) (o : Point) (m : ℕ) → is_server p ≡ false → Resting pt.view p → Places pt.view t → Stops (Walks pt t) p (bury.ends_with o m p)
+runs_stops pt t p o m server rests h = let here = rests.here in record {
   over = h;
   replies = λ n r. label_walks pt t (Label.Call p n r) [] (λ on. (at_end pt t p here h, tt, places_same pt.view (view_after pt.view (Line.Label (Label.Call p n r))) t (λ m q. refl) (λ q. refl) h)) tt;
   sends = λ id. label_walks pt t (Label.Send p id) (Routes id ∷ []) (λ on. (at_end pt t p here h, tt, places_same pt.view (view_after pt.view (Line.Label (Label.Send p id))) t (λ n q. refl) (λ q. refl) h)) (routes_loose id, tt);
   waits = label_walks pt t (Label.Wait p) [] (λ on. (at_end pt t p here h, tt, places_same pt.view (view_after pt.view (Line.Label (Label.Wait p))) t (λ m q. refl) (λ q. refl) h)) tt;
   outputs = λ word. label_walks pt t (Label.Out p word) [] (λ on. (at_end pt t p here h, tt, places_same pt.view (view_after pt.view (Line.Label (Label.Out p word))) t (λ m q. refl) (λ q. refl) h)) tt;
-  ends = λ y. label_walks pt t (Label.End p y) (rule.drop_parts queue) (λ on. (tt, here, places_held pt.view (view_after pt.view (Line.Label (Label.End p y))) t p Ended refl refl refl (ap is_held here) h)) (drops_loose queue);
+  ends = λ y. label_walks pt t (Label.End p y) (bury.ends_with o m p)
+      (λ on. (tt, server, places_forgets pt.view (view_after pt.view (Line.Label (Label.End p y))) t p refl refl rests.away ((h p).long pt.view.acting (ap is_held here)) h)) (ends_loose o m p);
 }
 
-pub round_walks : (pt : Point) (t : Trails) (b : Boot) (o : Point) (m : ℕ) (q : Option Pid) (ps : List Part) → ((p : Pid) → q ≡ Some p → pt.view.known pt.view.acting p ≡ Here) → Places pt.view t → rule.goes_round b o m q ≡ Some ps → Walks pt t ps
-round_walks pt t b o m q ps here h = by_round (Walks pt t) b o m q ps (loose_walks (Says (Line.Idle m) ∷ []) pt t (quiet (Line.Idle m) (λ pt t. tt) (λ v t. refl) (λ v n q. refl) (λ v q. refl), tt) h) (λ p x is alive. record {
+pub round_walks : (pt : Point) (t : Trails) (b : Boot) (o : Point) (m : ℕ) (q : Option Pid) (ps : List Part) → ((p : Pid) → q ≡ Some p → Resting pt.view p) → o.kernel ≡ pt.kernel → Places pt.view t → rule.goes_round b o m q ≡ Some ps → Walks pt t ps
+round_walks pt t b o m q ps rests same h = by_round (Walks pt t) b o m q ps (loose_walks (Says (Line.Idle m) ∷ []) pt t (quiet (Line.Idle m) (λ pt t. tt) (λ v t. refl) (λ v n q. refl) (λ v q. refl), tt) h) (λ p x is alive. record {
   runs = λ k rest stops sane on. (
     label_fits pt t (Label.Ran p k) sane tt tt,
     (λ next s.
         let g = said_by pt next (Line.Label (Label.Ran p k)) s in
         let mid = moved pt (Line.Label (Label.Ran p k)) g.kernel in
-        subst (λ (z : Point). Walks z t rest) g.is (stops (Walks mid t) (runs_stops mid t p (o.view.queue m p) (here p is) (places_same pt.view mid.view t (λ n r. refl) (λ r. refl) h)))),
+        subst (λ (z : Point). Walks z t rest) g.is (stops (Walks mid t) (runs_stops mid t p o m (living pt p x sane (ap (λ (s : OneKernel). kernel.alive (s.processes p)) (sym same) ∙ alive)).server (record { here = (rests p is).here; away = (rests p is).away }) (places_same pt.view mid.view t (λ n r. refl) (λ r. refl) h)))),
   );
   takes = λ mask id first. label_walks pt t (Label.Receive p id) [] (λ on. (tt, tt, places_same pt.view (view_after pt.view (Line.Label (Label.Receive p id))) t (λ n r. refl) (λ r. refl) h)) tt;
   refuses = λ id r. label_walks pt t (Label.Refuse p id r) [] (λ on. (tt, tt, places_same pt.view (view_after pt.view (Line.Label (Label.Refuse p id r))) t (λ n s. refl) (λ s. refl) h)) tt;
@@ -206,7 +227,9 @@ pub record Front (pt : Point) (t : Trails) (id : MsgId) (k : PlainMessage) : Typ
   pub there : pt.kernel.bag id ≡ Some k
   pub at : (pt.addresses (Receiver id)).at ≡ pt.view.acting
   pub receiver : (u : Told) → pt.view.told id ≡ Some u → u.receiver ≡ k.to
+  pub kind : (u : Told) → pt.view.told id ≡ Some u → u.kind ≡ plain_kind k.what
   pub fixed : is_fixed k.to ≡ true → k.to.home ≡ pt.view.acting
+  pub rests : pt.view.known pt.view.acting k.to ≡ Here → Resting pt.view k.to
   pub places : Places pt.view t
 
 received : (pt : Point) (t : Trails) (id : MsgId) (k : PlainMessage) → Front pt t id k → is_fixed k.to ≡ true → ReceivedAt pt.kernel pt.view.acting id
@@ -217,37 +240,46 @@ gone_walks pt t id k f =
     label_walks pt t (Label.Gone id) (Routes (pieces.answer_id id) ∷ []) (λ on. (ended_on pt.kernel pt.view pt.addresses t id f.at on.links, tt, places_same pt.view (handled pt.view id) t (λ m q. refl) (λ q. refl) f.places)) (routes_loose (pieces.answer_id id), tt)
 
 -- a message that is served may kill
-kills_places : (v : View) (t : Trails) (k : MessageKind) (p : Pid) → (k ≡ MessageKind.Kill → v.known v.acting p ≡ Here) → Places v t → Places (ends_by (sort_of k) v (Some p)) t
-kills_places v t MessageKind.Kill p here h = places_held v (ends_by (sort_of MessageKind.Kill) v (Some p)) t p Ended refl refl refl (ap is_held (here refl)) h
-kills_places v t _ p here h = h
+kill_is : (w : PlainWhat) → plain_kind w ≡ MessageKind.Kill → w ≡ PlainWhat.Kill
+kill_is PlainWhat.Kill e = refl
+kill_is _ e = cc
 
-served_walks : (pt : Point) (t : Trails) (id : MsgId) (k : PlainMessage) (ps : List Part) → Front pt t id k → pt.view.known pt.view.acting k.to ≡ Here → AllLoose ps → Walks pt t (rule.says (Label.Served id) ∷ ps)
-served_walks pt t id k ps f here loose =
-    let served_places : (v : View) (t : Trails) (o : Option Told) → ((u : Told) → o ≡ Some u → u.kind ≡ MessageKind.Kill → v.known v.acting u.receiver ≡ Here) → Places v t → Places (served_told v o) t =
-    λ v t o here h. grind (arith, nat_tests, kills_places) in
-    let known : (u : Told) → pt.view.told id ≡ Some u → u.kind ≡ MessageKind.Kill → pt.view.known pt.view.acting u.receiver ≡ Here = λ u told kill. ap (pt.view.known pt.view.acting) (f.receiver u told) ∙ here in
+kills_places : (v : View) (t : Trails) (k : MessageKind) (p : Pid) → (k ≡ MessageKind.Kill → Resting v p) → Places v t → Places (ends_by (sort_of k) v (Some p)) t
+kills_places v t MessageKind.Kill p rests h =
+    let r = rests refl in
+    places_forgets v (ends_by (sort_of MessageKind.Kill) v (Some p)) t p refl refl r.away ((h p).long v.acting (ap is_held r.here)) h
+kills_places v t _ p rests h = h
+
+served_walks : (pt : Point) (t : Trails) (id : MsgId) (k : PlainMessage) (ps : List Part) → Front pt t id k → pt.view.known pt.view.acting k.to ≡ Here → is_server k.to ≡ false → AllLoose ps → Walks pt t (rule.says (Label.Served id) ∷ ps)
+served_walks pt t id k ps f here server loose =
+    let served_places : (v : View) (t : Trails) (o : Option Told) → ((u : Told) → o ≡ Some u → u.kind ≡ MessageKind.Kill → Resting v u.receiver) → Places v t → Places (served_told v o) t =
+    λ v t o rests h. (elim o as (λ x. ((u : Told) → x ≡ Some u → u.kind ≡ MessageKind.Kill → Resting v u.receiver) → Places (served_told v x) t) [ None ↦ λ r. h | Some u ↦ λ r. kills_places v t u.kind u.receiver (λ e. r u refl e) h ]) rests in
+    let known : (u : Told) → pt.view.told id ≡ Some u → u.kind ≡ MessageKind.Kill → (is_server u.receiver ≡ false) × ((m : PlainMessage) → pt.kernel.bag id ≡ Some m → (m.to ≡ u.receiver) × (m.what ≡ PlainWhat.Kill)) = λ u told kill. (
+      ap is_server (f.receiver u told) ∙ server,
+      (λ m there. let g : Some k ≡ Some m = sym f.there ∙ there in let e : k ≡ m = cc in (ap (λ (x : PlainMessage). x.to) (sym e) ∙ sym (f.receiver u told), ap (λ (x : PlainMessage). x.what) (sym e) ∙ kill_is k.what (sym (f.kind u told) ∙ kill))),
+    ) in
     label_walks pt t (Label.Served id) ps (λ on. (
       (λ m there. let g : Some k ≡ Some m = sym f.there ∙ there in let e : k ≡ m = cc in subst (λ (x : PlainMessage). slice_get (t x.to) (pt.view.moves x.to) ≡ Some pt.view.acting) e (at_end pt t k.to here f.places)),
       known,
-      served_places (handled pt.view id) t (pt.view.told id) known (places_same pt.view (handled pt.view id) t (λ m q. refl) (λ q. refl) f.places),
+      served_places (handled pt.view id) t (pt.view.told id) (λ u told kill. let r = subst (Resting pt.view) (sym (f.receiver u told)) (f.rests here) in record { here = r.here; away = r.away }) (places_same pt.view (handled pt.view id) t (λ m q. refl) (λ q. refl) f.places),
     )) loose
 
-creates_walks : (pt o : Point) (t : Trails) (m : ℕ) (id : MsgId) (k : PlainMessage) (r : rule.Room) (c : Bool) → Front pt t id k → is_fixed k.to ≡ true → Unborn pt.view (pid_of m (first_number + o.kernel.made m))
+creates_walks : (pt o : Point) (t : Trails) (m : ℕ) (id : MsgId) (k : PlainMessage) (r : rule.Room) (c : Bool) → Front pt t id k → is_fixed k.to ≡ true → Unborn pt.view (pid_of m (first_number + o.kernel.made m)) → pt.view.moves (pid_of m (first_number + o.kernel.made m)) ≡ 0
     → Walks pt t ((if c then rule.says (Label.Created id (pid_of m (first_number + o.kernel.made m))) else rule.says (Label.NoSpace id r.slots r.blocks)) ∷ Routes (pieces.answer_id id) ∷ [])
-creates_walks pt o t m id k r true f fixed born =
+creates_walks pt o t m id k r true f fixed born new =
     -- a process is made at home
-    let born_places : (v w : View) (t : Trails) (p : Pid) → Unborn v p → Trail v t p → Places v t → (Learnt v w p Here → w.moves p ≡ v.moves p → Placed w t p) = λ v w t p born trail h learnt moves.
-    let k = (h p).unmade born.unknown in
-    grind (arith, nat_tests, placed_held) in
-    let born_stood : (v : View) (t : Trails) (p : Pid) → ((n : ℕ) → v.known n p ≡ Unknown) → Trail v t p → Placed v t p → StoodOnTrail v t p Nowhere = λ v t p unknown trail h. grind (arith, nat_tests) in
     let child = pid_of m (first_number + o.kernel.made m) in
+    let away : (n : ℕ) → is_away (pt.view.known n child) ≡ true = λ n. ap is_away (born.unknown n) in
+    let long : length (t child) ≡ pt.view.moves child + 1 = (f.places child).gone away in
+    let first : Treads pt t → slice_get (t child) (pt.view.moves child) ≡ Some child.home = λ on. ap (slice_get (t child)) new ∙ (on.trail child).begins in
+    let born_stood : Treads pt t → StoodOnTrail pt.view t child Nowhere = λ on. record { now = first on; next = λ d e. absurd (let g : None ≡ Some d = e in cc); long = long ∙ (let e_ : pt.view.moves child + 1 ≡ pt.view.moves child + 1 + 0 = omega arith in e_); unmade = λ e. new } in
     let w = view_after pt.view (Line.Label (Label.Created id child)) in
     label_walks pt t (Label.Created id child) (Routes (pieces.answer_id id) ∷ []) (λ on. (
       received pt t id k f fixed,
-      (born.unknown, born.home, born_stood pt.view t child born.unknown (on.trail child) (f.places child)),
-      places_set pt.view w t t child Here refl (λ q apart. refl) (λ q apart. refl) (λ q apart. f.places q) (λ learnt. born_places pt.view w t child born (on.trail child) f.places learnt refl),
+      (born.unknown, born.home, born_stood on),
+      places_set pt.view w t t child Here refl (λ q apart. refl) (λ q apart. refl) (λ q apart. f.places q) (λ learnt. placed_held pt.view w t child Here learnt refl refl (first on ∙ ap Some born.home) long (f.places child)),
     )) (routes_loose (pieces.answer_id id), tt)
-creates_walks pt o t m id k r false f fixed born = search (label_walks, received, places_same, routes_loose)
+creates_walks pt o t m id k r false f fixed born new = search (label_walks, received, places_same, routes_loose)
 
 pub or_first : (a b : Bool) → a ≡ true → (a || b) ≡ true
 or_first a b e = grind (arith, nat_tests)
@@ -265,16 +297,16 @@ asks_walks pt t id k ps f here rest = λ sane on. (
       (places_same pt.view mid.view t (λ m q. refl) (λ q. refl) f.places))),
 )
 
-pub handles_walks : (pt : Point) (b : Boot) (o : Point) (t : Trails) (m : ℕ) (id : MsgId) (k : PlainMessage) (ps : List Part) → Front pt t id k → Unborn pt.view (pid_of m (first_number + o.kernel.made m)) → pt.view.known pt.view.acting k.to ≡ o.view.known m k.to
+pub handles_walks : (pt : Point) (b : Boot) (o : Point) (t : Trails) (m : ℕ) (id : MsgId) (k : PlainMessage) (ps : List Part) → Front pt t id k → Unborn pt.view (pid_of m (first_number + o.kernel.made m)) → pt.view.moves (pid_of m (first_number + o.kernel.made m)) ≡ 0 → pt.view.known pt.view.acting k.to ≡ o.view.known m k.to
     → ((to c : ℕ) → o.view.known m k.to ≡ Forward to c → Walks pt t (forwards_on o.addresses id (plain_kind k.what) k.sender to)) → rule.handles b o m id k ≡ Some ps → Walks pt t ps
-handles_walks pt b o t m id k ps f born known forwards = by_handles (Walks pt t) b o m id k ps (record {
-  created = λ kernel_. creates_walks pt o t m id k (record { slots = 0; blocks = 0 }) true f (ap (λ (c : Bool). c || is_server k.to) kernel_) born;
-  no_space = λ kernel_ slots blocks. creates_walks pt o t m id k (record { slots = slots; blocks = blocks }) false f (ap (λ (c : Bool). c || is_server k.to) kernel_) born;
+handles_walks pt b o t m id k ps f born new known forwards = by_handles (Walks pt t) b o m id k ps (record {
+  created = λ kernel_. creates_walks pt o t m id k (record { slots = 0; blocks = 0 }) true f (ap (λ (c : Bool). c || is_server k.to) kernel_) born new;
+  no_space = λ kernel_ slots blocks. creates_walks pt o t m id k (record { slots = slots; blocks = blocks }) false f (ap (λ (c : Bool). c || is_server k.to) kernel_) born new;
   took = λ to sent. label_walks pt t (Label.Took id) (rule.routes sent) (λ on. (received pt t id k f (ap (λ (c : Bool). c || is_server k.to) to.kernel ∙ to.process), tt, places_same pt.view (handled pt.view id) t (λ m q. refl) (λ q. refl) f.places)) (grind (arith, nat_tests, routes_loose));
   queued = λ to user. loose_walks (Says (Line.Queued id) ∷ []) pt t (queued_loose id, tt) f.places;
-  served = λ to mild. served_walks pt t id k [] f (known ∙ to.known) tt;
-  answers = λ to mild i. served_walks pt t id k (Routes i ∷ []) f (known ∙ to.known) (routes_loose i, tt);
-  kills = λ to kills. served_walks pt t id k (rule.drop_parts (o.view.queue m k.to)) f (known ∙ to.known) (drops_loose (o.view.queue m k.to));
+  served = λ to mild. served_walks pt t id k [] f (known ∙ to.known) to.process tt;
+  answers = λ to mild i. served_walks pt t id k (Routes i ∷ []) f (known ∙ to.known) to.process (routes_loose i, tt);
+  kills = λ to kills. served_walks pt t id k (bury.ends_with o m k.to) f (known ∙ to.known) to.process (ends_loose o m k.to);
   moved = λ to what. asks_walks pt t id k (answers_move id Outcome.Done) f (known ∙ to.known) (λ q noted here h. answers_walks q t id Outcome.Done noted h);
   sets_off = λ x to what apart. asks_walks pt t id k (leaves_for k.to x) f (known ∙ to.known) (λ q noted here h. freezes_walks q t k.to x here h);
   gone = λ to. gone_walks pt t id k f;
@@ -309,9 +341,13 @@ heard o m i is u p start h front told about between whole =
     } in
     subst (λ (q : Pid). Heard pt q u.kind) pq (subst (λ (k : MessageKind). Heard pt w.p k) kk first)
 
+-- what was never made has never moved
+abbrev Unmoved : Point → Type 0
+Unmoved pt = (p : Pid) → pt.kernel.processes p ≡ None → pt.view.moves p ≡ 0
+
 -- a message of the bag at the front of the inbox
-front_walks : (b : Boot) (o : Point) (t : Trails) (m : ℕ) (i : MsgId) (is : List MsgId) (k : PlainMessage) (ps : List Part) → Begins o m → FoundBy o → Places o.view t → o.view.inbox m ≡ i ∷ is → o.kernel.bag i ≡ Some k → rule.handles b o m i k ≡ Some ps → Walks (turned o m) t ps
-front_walks b o t m i is k ps start h at front there =
+front_walks : (b : Boot) (o : Point) (t : Trails) (m : ℕ) (i : MsgId) (is : List MsgId) (k : PlainMessage) (ps : List Part) → Begins o m → FoundBy o → Unmoved o → Places o.view t → o.view.inbox m ≡ i ∷ is → o.kernel.bag i ≡ Some k → rule.handles b o m i k ≡ Some ps → Walks (turned o m) t ps
+front_walks b o t m i is k ps start h unmoved at front there =
     let pt = turned o m in
     let stands = h.places i (Inbox m) (stands_first o.view m i is front) in
     let (u, told) = told_there (o.view.told i) stands.1 in
@@ -322,23 +358,26 @@ front_walks b o t m i is k ps start h at front there =
       there = there;
       at = stands.0;
       receiver = λ y e. start.sane.tells.receiver i k y there e;
-      fixed = λ e. fixed_home o.view k.to m e (subst (KnowsAt o.view k.to) stands.0 (h.all (Receiver i) k.to (Links (ap to_of there))));
+      kind = λ y e. start.sane.tells.kind i k y there e;
+      fixed = λ e. fixed_home o.kernel.machines o.kernel.processes o.view k.to m e (subst (KnowsAt o.kernel.machines o.kernel.processes o.view k.to) stands.0 (h.all (Receiver i) k.to (Links (ap to_of there))));
+      rests = λ here. resting pt.view k.to start.phases here;
       places = placed;
     } in
-    handles_walks pt b o t m i k ps f (unborn o m start.rooted) refl
+    handles_walks pt b o t m i k ps f (unborn o m start.rooted) (unmoved (pid_of m (first_number + o.kernel.made m)) (next_is_new o.kernel m start.sane.sound.made)) refl
     (λ to c e. subst (λ (y : MessageKind). Walks pt t (forwards_on o.addresses i y k.sender to)) kind_same
     (forwards_walks pt t i u k.sender to c told (ap (o.view.known m) to_same ∙ e) placed (λ yes_ on. on.links (Sender i) k.sender (ap sender_of there))))
 
 -- one that kernels sent
-own_walks : (b : Boot) (o : Point) (t : Trails) (m : ℕ) (i : MsgId) (is : List MsgId) (ps : List Part) → Begins o m → FoundBy o → Places o.view t → o.view.inbox m ≡ i ∷ is → o.kernel.bag i ≡ None → rule.hears b o m i (o.view.told i) ≡ Some ps → Walks (turned o m) t ps
-own_walks b o t m i is ps start h at front there e =
+own_walks : (b : Boot) (o : Point) (t : Trails) (m : ℕ) (i : MsgId) (is : List MsgId) (ps : List Part) → Phased o → Begins o m → FoundBy o → Places o.view t → o.view.inbox m ≡ i ∷ is → o.kernel.bag i ≡ None → rule.hears b o m i (o.view.told i) ≡ Some ps → Walks (turned o m) t ps
+own_walks b o t m i is ps base start h at front there e =
     let pt = turned o m in
     let stands = h.places i (Inbox m) (stands_first o.view m i is front) in
     let (u, told) = told_there (o.view.told i) stands.1 in
     let own : is_kernels i ≡ true = front_kernels pt i is start.state front there in
     let placed : Places pt.view t = places_same o.view pt.view t (λ n q. refl) (λ q. refl) at in
     hears_walks pt b o t m i u ps (λ p. refl) (λ p n e. e) refl (λ p about between whole. heard o m i is u p start h front told about between whole)
-    (λ to c e. forwards_walks pt t i u manager to c told e placed (λ yes_ on. on.own.sender i u own told (moves_back u.kind (h.real i u told own).1 yes_))) placed (ap (rule.hears b o m i) (sym told) ∙ e)
+    (λ to c e. forwards_walks pt t i u manager to c told e placed (λ yes_ on. on.own.sender i u own told (moves_back u.kind (h.real i u told own).1 yes_))) told
+    (λ p about kind. (ended_alive o p base (bury_over o i u p base told kind about), λ n. ended_away o p base (bury_over o i u p base told kind about) n)) placed (ap (rule.hears b o m i) (sym told) ∙ e)
 
 -- a directive to move a process
 migrates_walks : (pt : Point) (t : Trails) (p : Pid) → pt.view.acting ≡ 0 → Places pt.view t → Walks pt t (migrates pt p)
@@ -352,11 +391,11 @@ migrates_walks pt t p first h =
     ))
 
 -- a migration is called off: what was held goes back to the source, which holds the process
-called_places : (v : View) (t : Trails) (p : Pid) (n from : ℕ) (o : Option MsgId) (c : MessageKind) → IsIn v p (Moves c from v.acting o) → v.known v.acting p ≡ Incoming from → Places v t → Places (view_after v (Line.Called p n)) t
-called_places v t p n from o c phase comes h =
+called_places : (v : View) (t : Trails) (p : Pid) (n from : ℕ) (o : Option MsgId) (c : MessageKind) → IsIn v p (Moves c from v.acting o) → v.known v.acting p ≡ Incoming from → Elsewhere v p → Places v t → Places (view_after v (Line.Called p n)) t
+called_places v t p n from o c phase comes other h =
     let w = view_after v (Line.Called p n) in
     places_set v w t t p (view.goes_back (v.known v.acting p) (v.moves p)) refl (λ r apart. refl) (λ r apart. refl) (λ r apart. h r)
-    (λ learnt. placed_back v w t p from (v.moves p) (λ m. learnt m ∙ ap (λ (x : Known). if v.acting == m then view.goes_back x (v.moves p) else v.known m p) comes) refl (λ m s at. moves_comes v p c from v.acting m s o phase at) (h p))
+    (λ learnt. placed_back v w t p from (v.moves p) (λ m. learnt m ∙ ap (λ (x : Known). if v.acting == m then view.goes_back x (v.moves p) else v.known m p) comes) refl (λ m s at. moves_comes v p c from v.acting m s o phase at) other (h p))
 
 back_walks : (t : Trails) (from to : ℕ) (ids : List MsgId) (q : Point) → Places q.view t → Walks q t (sends_on to ids ++ to_kernel MessageKind.CallOff from ∷ [])
 back_walks t from to [] q h = loose_walks (to_kernel MessageKind.CallOff from ∷ []) q t (to_between MessageKind.CallOff from refl) h
@@ -369,25 +408,26 @@ called_walks pt t p from phases comes off for h = λ sane on.
     let ids = v.held v.acting p in
     let c = coming_is (phases.of p) v.acting from (sym (ap (knows (phases.of p) v.acting) comes) ∙ (phases.each p).known v.acting) in
     let in_ : IsIn v p (Moves c.kind from v.acting c.id) = subst (IsIn v p) c.is (phases.each p) in
-    let holds : v.known from p ≡ Frozen v.acting = source_holds v p c.kind from v.acting c.id in_ (holds_on v p c.kind from v.acting c.id in_ off) in (
+    let holds : v.known from p ≡ Frozen v.acting = source_holds v p c.kind from v.acting c.id in_ (holds_on v p c.kind from v.acting c.id in_ off) in
+    let other : Elsewhere v p = record { machine = from; off = apart_off v.acting from (λ e. two_apart v p c.kind from v.acting c.id in_ e); there = ap is_away holds } in (
       record { from = from; comes = comes; at = (h p).now from (ap is_held holds); long = (h p).long from (ap is_held holds); apart = λ e. two_apart v p c.kind from v.acting c.id in_ (sym e); for_it = for sane },
       (λ next r.
           let k = said_by pt next (Line.Called p (length ids)) r in
-          back_walks t from from ids next (subst (λ (z : Point). Places z.view t) k.is (called_places v t p (length ids) from c.id c.kind in_ comes h))),
+          back_walks t from from ids next (subst (λ (z : Point). Places z.view t) k.is (called_places v t p (length ids) from c.id c.kind in_ comes other h))),
     )
 
 head_places : (v : View) (t : Trails) (d : Step) → Places v t → Places (after_head v d) t
 head_places v t (Step.Turn m) h = places_same v (after_head v (Step.Turn m)) t (λ n q. refl) (λ q. refl) h
 head_places v t any_ h = places_same v (after_head v any_) t (λ n q. refl) (λ q. refl) h
 
-outcome_walks : (b : Boot) (pt : Point) (t : Trails) (d : Step) (ps : List Part) → Phased pt → KnownStands pt.kernel pt.view → FoundBy pt → Places pt.view t → rule.outcome b pt d ≡ Some ps → Walks (begun pt d) t ps
-outcome_walks b pt t d ps base known h at = by_outcome (λ x. Walks (begun pt x) t) b pt d ps (record {
+outcome_walks : (b : Boot) (pt : Point) (t : Trails) (d : Step) (ps : List Part) → Phased pt → KnownStands pt.kernel pt.view → FoundBy pt → Unmoved pt → Places pt.view t → rule.outcome b pt d ≡ Some ps → Walks (begun pt d) t ps
+outcome_walks b pt t d ps base known h unmoved at = by_outcome (λ x. Walks (begun pt x) t) b pt d ps (record {
   round = λ m xs box e. (
       let start = begins pt m base known in
-      round_walks (turned pt m) t b pt m (rule.first_runnable pt.kernel (pt.view.queue m) (pt.view.ring m)) xs (λ p is. start.rooted.served m p is) (head_places pt.view t (Step.Turn m) at) e
+      round_walks (turned pt m) t b pt m (rule.first_runnable pt.kernel (pt.view.queue m) (pt.view.ring m)) xs (λ p is. resting (turned pt m).view p start.phases (start.rooted.served m p is)) refl (head_places pt.view t (Step.Turn m) at) e
       );
-  handles = λ m i is k xs box there e. front_walks b pt t m i is k xs (begins pt m base known) h at box there e;
-  hears = λ m i is xs box none e. own_walks b pt t m i is xs (begins pt m base known) h at box none e;
+  handles = λ m i is k xs box there e. front_walks b pt t m i is k xs (begins pt m base known) h unmoved at box there e;
+  hears = λ m i is xs box none e. own_walks b pt t m i is xs base (begins pt m base known) h at box none e;
   ticks = λ m xs net. loose_walks xs (begun pt (Step.Tick m)) t (net_loose xs net) (head_places pt.view t (Step.Tick m) at);
   delivers = λ a c k xs net. loose_walks xs (begun pt (Step.Deliver a c k)) t (net_loose xs net) (head_places pt.view t (Step.Deliver a c k) at);
   asks = λ p m. migrates_walks (begun pt (Step.Migrate p m)) t p refl (head_places pt.view t (Step.Migrate p m) at);
@@ -402,9 +442,9 @@ outcome_walks b pt t d ps base known h at = by_outcome (λ x. Walks (begun pt x)
 })
 
 -- a group
-pub group_good : (b : Boot) (pt : Point) (t : Trails) (d : Step) (w : Spelled) → group_of b pt d ≡ Some w → Phased pt → KnownStands pt.kernel pt.view → FoundBy pt → Places pt.view t → Treads pt t → AllGood pt t w.lines
-group_good b pt t d w e base known h at on = by_group (λ v. AllGood pt t v.lines) b pt d w (λ ps rest is said. (
-    let walks = outcome_walks b pt t d ps base known h at is in
+pub group_good : (b : Boot) (pt : Point) (t : Trails) (d : Step) (w : Spelled) → group_of b pt d ≡ Some w → Phased pt → KnownStands pt.kernel pt.view → FoundBy pt → Unmoved pt → Places pt.view t → Treads pt t → AllGood pt t w.lines
+group_good b pt t d w e base known h unmoved at on = by_group (λ v. AllGood pt t v.lines) b pt d w (λ ps rest is said. (
+    let walks = outcome_walks b pt t d ps base known h unmoved at is in
     let good : AllGood (begun pt d) t rest.lines = parts_good ps (begun pt d) t rest (outcome_sayable b pt d ps is) walks (begun_sane pt d base.sane) (line_treads pt (begun pt d) t (Line.Head d) refl tt on) said in
     (tt, (λ next comes. let f : begun pt d ≡ next = cc in subst (λ (q : Point). AllGood q t rest.lines) f good))
     )) e

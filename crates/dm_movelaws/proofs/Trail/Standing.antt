@@ -1,10 +1,10 @@
 -- The trails that printed lines lay stand, and from each place that is named for a process the forwarding addresses lead to it.
 use Rattle.dm_movelaws.proofs.Names.{◌≡◌, ◌≢◌, ℕ, suc, ◌-◌, ◌==◌, true, false, List, [], ◌∷◌, ◌++◌, length, refl, ap, ◌∙◌, sym, subst, inl, inr, arith, cases_Bool, slice_get_within, slice_get, Option, None, Some, Pid, Place, Boot, IsValid}
-use Rattle.dm_movelaws.proofs.Names.{OneKernel, bind, Step, bind-is, Line, unmoved, Leads, Point, first_point, after, after_line, Trails, Trail, IsOn, Trodden, first_trodden, along, trails_after, View, Known, Unknown, Here, Forward}
-use Rattle.dm_movelaws.proofs.Names.{along_treads, treads_start, trail_leads, Treads, Within, trail_within, is_server, is_fixed, KnownStands, agrees, LeadsBy, made_free, server_fixed, is_made, ends_walk, IsNamed, Reaches, IsLast}
-use Rattle.dm_movelaws.proofs.Names.{TrailStands, TrailsStand, IsLed, AddressesLead, nat_tests, has_it}
+use Rattle.dm_movelaws.proofs.Names.{bind, Step, bind-is, Line, unmoved, Leads, Point, first_point, after, after_line, Trails, Trail, IsOn, Trodden, first_trodden, along, trails_after, View, Known, Unknown, Here, Forward, along_treads}
+use Rattle.dm_movelaws.proofs.Names.{treads_start, trail_leads, Treads, is_away, is_alive, ◌<◌, Bool, is_server, is_fixed, agrees, LeadsBy, made_free, is_made, ends_walk, IsNamed, Reaches, IsLast, TrailStands, TrailsStand, IsLed}
+use Rattle.dm_movelaws.proofs.Names.{AddressesLead, nat_tests, has_it}
 use Rattle.dm_movelaws.proofs.After.{group_after}
-use Rattle.dm_movelaws.proofs.Trail.Known.{Holds, carries, none_is, made_by, passed_always}
+use Rattle.dm_movelaws.proofs.Trail.Known.{Holds, at_home, carries, ranges_in, none_is, made_by, passed_always}
 use Rattle.dm_movelaws.proofs.Trail.Placed.{is_held}
 
 abbrev trodden : Point → Trails → Trodden
@@ -64,16 +64,16 @@ alone_long b pt t p h none = elim (cases_Bool (is_server p)) [
       let long = (h.places p).long 0 (ap is_held here) in
       let moves = h.both.run.based.unmoved p none in
       omega (arith, long, moves)
-  | inr process ↦ ((h.places p).unmade (λ m. (let e_ : (pt.view.known m p) ≡ Unknown = grind (arith, nat_tests, sym (ap (agrees (pt.view.known m p)) none) ∙ h.both.run.based.known.agree m p process) in e_))).1
+  | inr process ↦
+      let unknown : (m : ℕ) → pt.view.known m p ≡ Unknown = λ m. (let e_ : (pt.view.known m p) ≡ Unknown = grind (arith, nat_tests, sym (ap (agrees (pt.view.known m p)) none) ∙ h.both.run.based.known.agree m p process) in e_) in
+      let long = (h.places p).gone (λ m. ap is_away (unknown m)) in
+      let moves = h.both.run.based.unmoved p none in
+      omega (arith, long, moves)
 ]
 
--- what was made is known at home
-at_home : (s : OneKernel) (v : View) (p : Pid) → KnownStands s v → is_made s p ≡ true → v.known p.home p ≢ Unknown
-at_home s v p h made = grind (arith, nat_tests, server_fixed)
-
 -- a forward leads further along the trail
-no_further : (v : View) (t : Trails) (p : Pid) (place : Place) (m c : ℕ) → Trail v t p → IsLast t p place → v.known place.at p ≡ Forward m c → ⊥
-no_further v t p place m c trail is e =
+no_further : (lives : Bool) (v : View) (t : Trails) (p : Pid) (place : Place) (m c : ℕ) → Trail lives v t p → IsLast t p place → v.known place.at p ≡ Forward m c → ⊥
+no_further lives v t p place m c trail is e =
     let rises = trail.behind place.at m c place.moves e is.on in
     let less = slice_get_within (t p) c m (trail.named place.at m c e) in
     grind (arith, nat_tests)
@@ -81,10 +81,9 @@ no_further v t p place m c trail is e =
 reaches : (b : Boot) (pt : Point) (t : Trails) (p : Pid) (place : Place) → Holds b (trodden pt t) → Treads pt t → is_made pt.kernel p ≡ true → IsOn t p place → Reaches pt p place
 reaches b pt t p place h on made is =
     let n = pt.kernel.machines - 1 in
-    let known = at_home pt.kernel pt.view p h.both.run.based.known made in
-    let all : Within pt.kernel.machines pt.view = carries.within b (trodden pt t) h in
-    let within : Within (suc n) pt.view = subst (λ (k : ℕ). Within k pt.view) (let e_ : pt.kernel.machines ≡ suc (pt.kernel.machines - 1) = omega (arith, all.acting, all.acting) in e_) all in
-    trail_leads pt.view t p n p.home place (on.trail p) known (trail_within (suc n) pt.view t p p.home within (on.trail p) known) is
+    let machines : pt.kernel.machines ≡ suc n = (let some = h.both.run.kept.acting in let e_ : pt.kernel.machines ≡ suc (pt.kernel.machines - 1) = omega (arith, some) in e_) in
+    trail_leads (is_alive pt.kernel p) pt.view t p n p.home place (on.trail p) (λ lives. at_home pt.kernel pt.view p h.both.run.based.known lives)
+    (λ c m e. subst (λ (k : ℕ). m < k) machines ((ranges_in b (trodden pt t) h).within p made c m e)) is
 
 alone : (b : Boot) (pt : Point) (t : Trails) (p : Pid) → Holds b (trodden pt t) → Treads pt t → pt.kernel.processes p ≡ None → t p ≡ p.home ∷ []
 alone b pt t p h on none = one_place (t p) p.home (alone_long b pt t p h none) (on.trail p).begins
@@ -109,9 +108,10 @@ stand_at b pt t h on = record {
   named = λ q place is. named_on pt t q place on is;
   last = λ m p e. record { on = (h.places p).now m (held_it (pt.view.known m p) e); long = (h.places p).long m (held_it (pt.view.known m p) e) };
   coming = λ m k c p e f. record { on = (h.places p).next m k c e f; long = (let long = (h.places p).longer m k c e f in omega (arith, long)) };
-  ends = λ p place made is.
-      walk_ends (pt.view.known place.at p) ((on.trail p).kept place.at p.home place.moves (at_home pt.kernel pt.view p h.both.run.based.known made) is.on) (λ m c e. no_further pt.view t p place m c (on.trail p) is e);
-  within = λ p place made is. trail_within pt.kernel.machines pt.view t p p.home (carries.within b (trodden pt t) h) (on.trail p) (at_home pt.kernel pt.view p h.both.run.based.known made) place.moves place.at is;
+  ends = λ p place lives is.
+      walk_ends (pt.view.known place.at p) ((on.trail p).kept lives place.at p.home place.moves (at_home pt.kernel pt.view p h.both.run.based.known lives) is.on)
+      (λ m c e. no_further (is_alive pt.kernel p) pt.view t p place m c (on.trail p) is e);
+  within = λ p place made is. (ranges_in b (trodden pt t) h).within p made place.moves place.at is;
   reached = λ p place made is. reaches b pt t p place h on made is;
 }
 

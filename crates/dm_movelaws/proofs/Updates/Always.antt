@@ -1,10 +1,11 @@
 -- A group that says that an update was handled says nothing else, and where it leads.
 use Rattle.dm_movelaws.proofs.Names.{◌&&◌, ◌≡◌, ◌⊎◌, ℕ, ◌<◌, ◌≤◌, ◌==◌, Bool, true, false, not, [], ◌++◌, refl, ap, ◌∙◌, sym, inl, inr, nat_lt, arith, if◌then◌else◌, cases_Bool, false≢true, nat_tests, Option, None, Some, Pid, Place, pid_eq}
 use Rattle.dm_movelaws.proofs.Names.{MsgId, Boot, switchboard, manager, OneKernel, pid_eq-same, Step, Addresses, Holder, belongs_to, leads_to, is_behind, place_told, updated, holders_of, behind_among, behind_count, holders_numbered}
-use Rattle.dm_movelaws.proofs.Names.{answers_in, slot_holders, Spelled, Point, View, Told, About, Ended, after_head, is_server, KnownStands, Updated, UpdatesAlways, front_own, Both, is_place, own_sort, run_always, pid_there, second, zero}
+use Rattle.dm_movelaws.proofs.Names.{answers_in, slot_holders, Spelled, Point, View, Told, About, Unknown, after_head, is_server, KnownStands, Updated, UpdatesAlways, front_own, Both, is_place, own_sort, run_always, pid_there, second, zero}
 use Rattle.dm_movelaws.proofs.Names.{suc, ◌+◌, List, ◌∷◌, length, slice_get, slice_get_cases, PlainLink, link_at, NamedLink, Pending, PlainProcess, pid_eq-is, not_server, alive-is, Slot, Owner, Child, Name, Answer, holder_eq, link_target}
 use Rattle.dm_movelaws.proofs.Names.{ascends, listings, is_owner, group_is, ◌||◌, MessageKind, plain_kind, Line, Part, Says, lines_of, spelled, moved, GroupIs, by_parts, sends_on, by_migrates, by_hears, option_and_then, option_map_or}
-use Rattle.dm_movelaws.proofs.Names.{by_net, by_outcome, ⊤, PlainMessage, forwards_on, Loose, loose_round, loose_handles, by_forwards, by_calls_off, to_kernel, false_from_ne_true, Known}
+use Rattle.dm_movelaws.proofs.Names.{by_net, by_outcome, ⊤, PlainMessage, forwards_on, Loose, loose_round, loose_handles, by_forwards, by_calls_off, to_kernel, false_from_ne_true, Known, preds_of, buries_kept, Run, Inbox, standing}
+use Rattle.dm_movelaws.proofs.Names.{server_fixed, is_fixed, is_alive, is_some, stands_first, neither_}
 use Rattle.dm_laws.proofs.Entered.{Made}
 use Rattle.dm_movelaws.proofs.Leading.{lines_are}
 use Rattle.dm_onekernel.specs.Step as kernel
@@ -18,7 +19,7 @@ pub record Handles (o : Point) (m : ℕ) (id : MsgId) (n : ℕ) : Type 0 where
   pub told : Told
   pub is : o.view.told id ≡ Some told
   pub update : told.kind ≡ MessageKind.Update
-  pub counts : (n ≡ behind_count o.kernel o.addresses told.receiver (place_told told.about)) ⊎ ((n ≡ 0) × (o.view.known m told.receiver ≡ Ended))
+  pub counts : (n ≡ behind_count o.kernel o.addresses told.receiver (place_told told.about)) ⊎ ((n ≡ 0) × (o.view.known m told.receiver ≡ Unknown) × ((told.receiver.num == 0) ≡ false))
   pub rest : List MsgId
   pub box : o.view.inbox m ≡ id ∷ rest
   pub none : o.kernel.bag id ≡ None
@@ -42,7 +43,7 @@ pub data Shape (o : Point) (ps : List Part) : Type 0 where
   Updates : (m : ℕ) → (id : MsgId) → (n : ℕ) → ps ≡ Says (Line.Updated id n) ∷ [] → Handles o m id n → Shape o ps
 
 quiet_loose : Loose AllQuiet
-quiet_loose = record { none = tt; label = λ l ps h. (refl, h); routes = λ i ps h. (tt, h) }
+quiet_loose = record { none = tt; label = λ l ps h. (refl, h); routes = λ i ps h. (tt, h); buries = λ to ps h. (tt, h) }
 
 -- a message of the bag
 pub forwards_shape : (o : Point) (c : Addresses) (id : MsgId) (k : MessageKind) (sender : Pid) (to : ℕ) → Shape o (forwards_on c id k sender to)
@@ -69,9 +70,10 @@ hears_shape b o m id is q ps told box none = by_hears (Shape o) b o m id q ps (�
     let f : Front o m id t = record { is = told ∙ there; rest = is; box = box; none = none } in
     record {
       stale = λ p about late. Quiet (refl, tt);
+      buried = λ p about kind. Quiet (refl, buries_kept AllQuiet tt (λ to xs h. (tt, h)) (preds_of o m p));
       told = λ p x about alive due. grind (arith, nat_tests, sends_quiet);
       updated = λ kind. Updates m id (behind_count o.kernel o.addresses t.receiver (place_told t.about)) refl (record { told = t; is = f.is; update = kind; counts = inl refl; rest = f.rest; box = f.box; none = f.none });
-      updated_none = λ kind at_. Updates m id 0 refl (record { told = t; is = f.is; update = kind; counts = inr (refl, at_.known); rest = f.rest; box = f.box; none = f.none });
+      updated_none = λ kind at_. Updates m id 0 refl (record { told = t; is = f.is; update = kind; counts = inr (refl, at_.known, at_.kernel); rest = f.rest; box = f.box; none = f.none });
       no_move = λ at_. Quiet (refl, tt);
       leaving = λ to at_. Quiet (refl, tt);
       coming = λ from at_. Quiet (refl, tt);
@@ -273,10 +275,26 @@ record Kept (v w : View) : Type 0 where
 behind_is : (s : OneKernel) (a : Addresses) (q p : Pid) (c : ℕ) (h : Holder) (x : Bool) → belongs_to q h ≡ true → leads_to s h ≡ Some p → nat_lt (a h).moves c ≡ x → is_behind s a q p c h ≡ x
 behind_is s a q p c h x mine leads e = grind (arith, nat_tests)
 
--- no server ends
-ended_loose : (s : OneKernel) (v : View) (m : ℕ) (q : Pid) → KnownStands s v → v.known m q ≡ Ended → is_server q ≡ false
-ended_loose s v m q known over =
-    false_from_ne_true (is_server q) (λ server. (elim (m == 0) as (λ c. (if c then Known.Here else Known.Unknown) ≡ Ended → ⊥) [ true ↦ λ e. cc | false ↦ λ e. cc ]) (sym (known.server m q server) ∙ over))
+-- who isn't known where a message for it stands is no server, and doesn't live
+record Linkless (s : OneKernel) (q : Pid) : Type 0 where
+  server : is_server q ≡ false
+  lives : kernel.alive (s.processes q) ≡ None
+
+ended_loose : (b : Boot) (pt : Point) (m : ℕ) (id : MsgId) (t : Told) → Run b pt → 1 ≤ standing pt.view id (Inbox m) → pt.view.told id ≡ Some t → pt.view.known m t.receiver ≡ Unknown → (t.receiver.num == 0) ≡ false → Linkless pt.kernel t.receiver
+ended_loose b pt m id t run stands told unknown other =
+    let q = t.receiver in
+    let server : is_server q ≡ false = false_from_ne_true (is_server q) (λ is.
+    let fixed = server_fixed q is in
+    let home : m ≡ 0 = run.found.fixed id (Inbox m) t stands told fixed.0 ∙ fixed.1 in
+    let here : pt.view.known m q ≡ Known.Here = ap (λ (n : ℕ). pt.view.known n q) home ∙ run.based.known.server 0 q is in
+    (let e : Known.Here ≡ Unknown = sym here ∙ unknown in cc)) in
+    let loose : is_fixed q ≡ false = neither_ (q.num == 0) (is_server q) other server in
+    let dead : is_alive pt.kernel q ≡ false = false_from_ne_true (is_alive pt.kernel q) (λ lives. run.found.process id (Inbox m) t stands told loose lives unknown) in
+    record { server = server; lives = dead_none (kernel.alive (pt.kernel.processes q)) (sym (ap (λ (c : Bool). c || is_some (kernel.alive (pt.kernel.processes q))) server) ∙ dead) }
+  where
+    dead_none : {X : Type 0} (o : Option X) → is_some o ≡ false → o ≡ None
+    dead_none None e = refl
+    dead_none (Some x) e = absurd (false≢true (sym e))
 
 updated_by : (b : Boot) (pt : Point) (d : Step) (w : Spelled) (id : MsgId) (n : ℕ) → Both b pt → Handled b pt d w id n → Updated pt w.point id n
 updated_by b pt d w id n both h =
@@ -284,7 +302,7 @@ updated_by b pt d w id n both h =
     -- whether an address is behind
     -- an ended process has no links
     let count_is : (s : OneKernel) (v : View) (a : Addresses) (t : Told) (p : Pid) (at_ : Place) (m n : ℕ) → t.about ≡ view.Place p at_.at at_.moves → KnownStands s v
-    → (n ≡ behind_count s a t.receiver (place_told t.about)) ⊎ ((n ≡ 0) × (is_server t.receiver ≡ false) × (v.known m t.receiver ≡ Ended))
+    → (n ≡ behind_count s a t.receiver (place_told t.about)) ⊎ ((n ≡ 0) × Linkless s t.receiver)
     → behind_among (is_behind s a t.receiver p at_.moves) (holders_of s t.receiver) ≡ n =
     λ s v a t p at_ m n about known counts. grind (arith, nat_tests) in
     let address : (s : OneKernel) (v w : View) (a : Addresses) (id : MsgId) (t : Told) (p : Pid) (at_ : Place) (h : Holder) → w.told ≡ v.told → v.told id ≡ Some t → t.about ≡ view.Place p at_.at at_.moves
@@ -327,7 +345,7 @@ updated_by b pt d w id n both h =
             absurd (omega (arith, f, less))
         | inr e ↦ stay g e
       ];
-      count = count_is s pt.view a t x.process x.place h.machine n x.is both.run.based.known (elim u.counts [ inl e ↦ inl e | inr over ↦ inr (over.0, ended_loose s pt.view h.machine t.receiver both.run.based.known over.1, over.1) ]);
+      count = count_is s pt.view a t x.process x.place h.machine n x.is both.run.based.known (elim u.counts [ inl e ↦ inl e | inr over ↦ inr (over.0, ended_loose b pt h.machine id t both.run (stands_first pt.view h.machine id u.rest u.box) u.is over.1 over.2) ]);
       listed = λ g q mine other leads. listed s t.receiver g q both.run.based.phased.sane.sound.made both.run.based.pending mine other leads;
       kernel = sym (ap (λ (q : Point). q.kernel) h.point);
       known = sym (ap (λ (q : Point). q.view.known) h.point) ∙ (head_kept pt.view d).known;

@@ -1,4 +1,4 @@
-use Rattle.dm_movelaws.proofs.At.RestAlways.{at_rest_always}
+use Rattle.dm_movelaws.proofs.At.Always.{at_rest_always}
 use Rattle.dm_movelaws.proofs.laws.at_rest_always.Goals as goal
 
 pub returns : goal.returns
