@@ -38,6 +38,7 @@ effect (Line.Queued id) = Front id
 effect (Line.Held id) = Front id
 effect (Line.Forwarded id m) = Front id
 effect (Line.Updated id n) = Front id
+effect (Line.Buried id n) = Front id
 effect (Line.Migration s p) = stage_effect p s
 effect (Line.SentOn p n) = First
 effect (Line.Lacks p a b) = First
@@ -106,6 +107,14 @@ proto_inbox : (v : View) (o : Option Told) → (view.after_proto v o).inbox ≡ 
 proto_inbox v None = refl
 proto_inbox v (Some t) = follows_inbox v t.about t.kind
 
+forgotten_inbox : (v : View) (a : About) → (view.forgotten v a).inbox ≡ v.inbox
+forgotten_inbox v NothingElse = refl
+forgotten_inbox v _ = refl
+
+buried_inbox : (v : View) (o : Option Told) → (view.buried_for v o).inbox ≡ v.inbox
+buried_inbox v None = refl
+buried_inbox v (Some t) = forgotten_inbox v t.about
+
 label_inbox : (v : View) (l : Label) → (view.after_label v l).inbox ≡ inbox_by v (label_effect l)
 label_inbox v (Label.Dropped id) = dropped_inbox (handled v id) id (receiver_of (v.told id))
 label_inbox v (Label.Served id) = served_inbox (handled v id) (v.told id)
@@ -131,6 +140,7 @@ line_inbox v (Line.Taken a b n) e = cc
 line_inbox v (Line.Queued id) e = queued_inbox (handled v id) id (receiver_of (v.told id))
 line_inbox v (Line.Held id) e = held_inbox (handled v id) id (receiver_of (v.told id))
 line_inbox v (Line.Forwarded id m) e = forwarded_inbox (handled v id) (receiver_of (v.told id))
+line_inbox v (Line.Buried id n) e = buried_inbox (handled v id) (v.told id)
 line_inbox v (Line.Migration s p) e = stage_inbox v p s
 line_inbox v (Line.Proto id) e = proto_inbox (handled v id) (v.told id)
 line_inbox v _ e = refl
@@ -242,6 +252,7 @@ line_untaken v (Line.Label l) e a c = other_untaken v (Line.Label l) refl a c
 line_untaken v (Line.Queued id) e a c = other_untaken v (Line.Queued id) refl a c
 line_untaken v (Line.Held id) e a c = other_untaken v (Line.Held id) refl a c
 line_untaken v (Line.Forwarded id m) e a c = other_untaken v (Line.Forwarded id m) refl a c
+line_untaken v (Line.Buried id n) e a c = other_untaken v (Line.Buried id n) refl a c
 line_untaken v (Line.Migration s p) e a c = other_untaken v (Line.Migration s p) refl a c
 line_untaken v (Line.Proto id) e a c = other_untaken v (Line.Proto id) refl a c
 line_untaken v _ e a c = refl

@@ -3,7 +3,8 @@ use Rattle.dm_settlelaws.proofs.Names.{◌≡◌, ℕ, ◌+◌, ◌/◌, ◌==�
 use Rattle.dm_settlelaws.proofs.Names.{Stage, plain_kind, PlainMessage, PlainWhat, Boot, BootImage, first_number, switchboard, manager, PlainProcess, answer_id, bind-is, Line, Sender, is_told_back, accepts, chunks_of, told_ended}
 use Rattle.dm_settlelaws.proofs.Names.{forwards_on, told_here, told_step, leaves, pieces_of, process_told, sends_on, told_server, takes_block, takes_chunk, to_kernel, Part, Says, Routes, Again, Owns, Transmits, Point, Room, board_took}
 use Rattle.dm_settlelaws.proofs.Names.{comes_to, creation_parts, drop_parts, ended_handles, fits, free_room, handles, has_room, hears, here_handles, kernel_handles, kernel_hears, landing_parts, manager_parts, process_handles, routes, says}
-use Rattle.dm_settlelaws.proofs.Names.{About, Known, Of, Told, target_of, touches, lets_go, told_lets_go, MoveNote, Outcome, answers_move, leaves_for, tells_asker, sort_of, bind, is_stale}
+use Rattle.dm_settlelaws.proofs.Names.{About, Known, Of, Told, target_of, touches, lets_go, told_lets_go, MoveNote, Outcome, answers_move, leaves_for, tells_asker, sort_of, bind, is_stale, map, buried, buries, ends_with, preds_of}
+use Rattle.dm_settlelaws.proofs.Names.{tells_end}
 use Rattle.dm_onekernel.specs.Pieces as pieces
 use Rattle.dm_onekernel.specs.Switchboard as board
 use Rattle.dm_onekernel.specs.Manager as manage
@@ -54,9 +55,17 @@ drops_calm : (ids : List MsgId) → AllCalm (drop_parts ids)
 drops_calm [] = tt
 drops_calm (i ∷ is) = ((refl, refl), drops_calm is)
 
+buries_calm : (ms : List ℕ) → AllCalm (map (to_kernel MessageKind.Bury) ms)
+buries_calm [] = tt
+buries_calm (m ∷ ms) = (tt, buries_calm ms)
+
 both_calm : (ps qs : List Part) → AllCalm ps → AllCalm qs → AllCalm (ps ++ qs)
 both_calm [] qs h k = k
 both_calm (p ∷ ps) qs h k = (h.0, both_calm ps qs h.1 k)
+
+-- what follows an end
+ends_calm : (pt : Point) (m : ℕ) (p : Pid) → AllCalm (ends_with pt m p)
+ends_calm pt m p = both_calm (drop_parts (pt.view.queue m p)) (buries pt m p) (drops_calm (pt.view.queue m p)) (buries_calm (preds_of pt m p))
 
 sends_calm : (to : ℕ) (ids : List MsgId) → AllCalm (sends_on to ids)
 sends_calm to [] = tt
@@ -105,7 +114,7 @@ here_row : (pt : Point) (m : ℕ) (i : MsgId) (told : Option Told) (msg : PlainM
 here_row pt m i told msg x (PlainWhat.User code channel body links) ps e = quiet_row i told (Line.Queued i) [] ps refl refl refl tt e
 here_row pt m i told msg x PlainWhat.Stop ps e = quiet_row i told (Line.Label (Label.Served i)) [] ps refl refl refl tt e
 here_row pt m i told msg x PlainWhat.Resume ps e = quiet_row i told (Line.Label (Label.Served i)) [] ps refl refl refl tt e
-here_row pt m i told msg x PlainWhat.Kill ps e = quiet_row i told (Line.Label (Label.Served i)) (drop_parts (pt.view.queue m msg.to)) ps refl refl refl (drops_calm (pt.view.queue m msg.to)) e
+here_row pt m i told msg x PlainWhat.Kill ps e = quiet_row i told (Line.Label (Label.Served i)) (ends_with pt m msg.to) ps refl refl refl (ends_calm pt m msg.to) e
 here_row pt m i told msg x (PlainWhat.Read base len) ps e = quiet_row i told (Line.Label (Label.Served i)) (Routes (answer_id i) ∷ []) ps refl refl refl (tt, tt) e
 here_row pt m i told msg x (PlainWhat.Write base bytes) ps e = quiet_row i told (Line.Label (Label.Served i)) (Routes (answer_id i) ∷ []) ps refl refl refl (tt, tt) e
 here_row pt m i told msg x (PlainWhat.Block bytes) ps e = lands_row i told (pieces.lands msg.to x msg x.status) ps e
@@ -143,13 +152,12 @@ own_row pt m i told msg ps e =
     let (x, there, is) = bind-is (kernel.alive (pt.kernel.processes msg.to)) (λ x. here_handles pt m i msg x msg.what) ps e in here_row pt m i told msg x msg.what ps is
 
 process_row : (pt : Point) (m : ℕ) (i : MsgId) (told : Option Told) (msg : PlainMessage) (k : Known) → HandlesBy i told (process_handles pt m i msg k)
-process_row pt m i told msg Known.Unknown ps e = cc
+process_row pt m i told msg Known.Unknown ps e = ended_row i told msg.what ps e
 process_row pt m i told msg Known.Here ps e =
     chosen i told (pid_eq msg.to switchboard) (board_took i (board.board_takes pt.kernel.switchboard msg msg.what)) _ (board_row i told (board.board_takes pt.kernel.switchboard msg msg.what))
     (chosen i told (pid_eq msg.to manager) (manager_parts i (manage.manager_takes pt.kernel.manager pt.kernel.machines (length pt.kernel.images) msg msg.what)) _
     (manager_row i told (manage.manager_takes pt.kernel.manager pt.kernel.machines (length pt.kernel.images) msg msg.what)) (own_row pt m i told msg)) ps e
 process_row pt m i told msg (Known.Forward at moves) ps e = forwards_row pt i told (plain_kind msg.what) msg.sender at ps e
-process_row pt m i told msg Known.Ended ps e = ended_row i told msg.what ps e
 process_row pt m i told msg _ ps e = quiet_row i told (Line.Held i) [] ps refl refl refl tt e
 
 bag_row : (b : Boot) (pt : Point) (m : ℕ) (i : MsgId) (told : Option Told) (msg : PlainMessage) → HandlesBy i told (handles b pt m i msg)
@@ -191,11 +199,13 @@ kernel_told_row pt m i t p room x k is ps e = cc
 
 kernel_hears_row : (b : Boot) (pt : Point) (m : ℕ) (i : MsgId) (t : Told) (a : About) → HandlesBy i (Some t) (kernel_hears b pt m i t.kind a)
 kernel_hears_row b pt m i t (Of p) ps e =
-    chosen i (Some t) (is_stale pt m i t.kind p) (Some (Says (Line.Stale i) ∷ [])) (bind (kernel.alive (pt.kernel.processes p)) (λ x. told_step pt m i p (fits (free_room b pt m) (length x.memory / 256)) x (sort_of t.kind)))
-    (λ ps e. quiet_row i (Some t) (Line.Stale i) [] ps refl refl refl tt e)
+    let steps = bind (kernel.alive (pt.kernel.processes p)) (λ x. told_step pt m i p (fits (free_room b pt m) (length x.memory / 256)) x (sort_of t.kind)) in
+    chosen i (Some t) (tells_end (sort_of t.kind)) (Some (buried pt m i p)) (if is_stale pt m i t.kind p then Some (Says (Line.Stale i) ∷ []) else steps)
+    (λ ps e. quiet_row i (Some t) (Line.Buried i (length (preds_of pt m p))) (buries pt m p) ps refl refl refl (buries_calm (preds_of pt m p)) e)
+    (chosen i (Some t) (is_stale pt m i t.kind p) (Some (Says (Line.Stale i) ∷ [])) steps (λ ps e. quiet_row i (Some t) (Line.Stale i) [] ps refl refl refl tt e)
     (λ ps e.
     let (x, there, is) = bind-is (kernel.alive (pt.kernel.processes p)) (λ x. told_step pt m i p (fits (free_room b pt m) (length x.memory / 256)) x (sort_of t.kind)) ps e in
-    kernel_told_row pt m i t p (fits (free_room b pt m) (length x.memory / 256)) x t.kind refl ps is) ps e
+    kernel_told_row pt m i t p (fits (free_room b pt m) (length x.memory / 256)) x t.kind refl ps is)) ps e
 kernel_hears_row b pt m i t a ps e = cc
 
 server_row : (pt : Point) (i : MsgId) (t : Told) (k : MessageKind) → HandlesBy i (Some t) (told_server pt i t (sort_of k))
@@ -217,12 +227,11 @@ ended_told_row i t MessageKind.Update ps e = quiet_row i (Some t) (Line.Updated 
 ended_told_row i t k ps e = cc
 
 process_told_row : (pt : Point) (m : ℕ) (i : MsgId) (t : Told) (k : Known) → HandlesBy i (Some t) (process_told pt m i t k)
-process_told_row pt m i t Known.Unknown ps e = cc
+process_told_row pt m i t Known.Unknown ps e = ended_told_row i t t.kind ps e
 process_told_row pt m i t Known.Here ps e =
     chosen i (Some t) (pid_eq t.receiver switchboard) (told_server pt i t (sort_of t.kind)) _ (server_row pt i t t.kind)
     (chosen i (Some t) (pid_eq t.receiver manager) (told_server pt i t (sort_of t.kind)) _ (server_row pt i t t.kind) (here_told_row pt m i t t.kind)) ps e
 process_told_row pt m i t (Known.Forward at moves) ps e = forwards_row pt i (Some t) t.kind manager at ps e
-process_told_row pt m i t Known.Ended ps e = ended_told_row i t t.kind ps e
 process_told_row pt m i t _ ps e = quiet_row i (Some t) (Line.Held i) [] ps refl refl refl tt e
 
 hears_row : (b : Boot) (pt : Point) (m : ℕ) (i : MsgId) (told : Option Told) → HandlesBy i told (hears b pt m i told)

@@ -2,8 +2,8 @@
 use Rattle.dm_settlelaws.proofs.Names.{◌≡◌, ℕ, ◌/◌, ◌==◌, ◌||◌, Bool, true, false, not, List, [], ◌∷◌, length, refl, ap, ◌∙◌, sym, if◌then◌else◌, Option, None, Some, false≢true, Pid, pid_eq, MsgId, MessageKind, Label, Step, plain_kind}
 use Rattle.dm_settlelaws.proofs.Names.{PlainMessage, PlainWhat, Boot, manager, switchboard, PlainProcess, bind-is, Line, Sender, is_told_back, behind_count, told_ended, forwards_on, told_here, told_step, process_told, told_server}
 use Rattle.dm_settlelaws.proofs.Names.{place_told, Part, Says, Again, Owns, Point, comes_to, ended_handles, fits, free_room, handles, hears, here_handles, kernel_hears, outcome, process_handles, turns, TellsRight, About, Known, Of, Told}
-use Rattle.dm_settlelaws.proofs.Names.{View, handled, receiver_of, view_after, touches, is_server, is_fixed, is_moving, is_light_kind, says_put, not_is, acting_dropped, or-left, queued_acting, dropped_known, forwarded_acting, sort_of}
-use Rattle.dm_settlelaws.proofs.Names.{handles_here, or-right, bind, kernel_handles}
+use Rattle.dm_settlelaws.proofs.Names.{View, handled, receiver_of, view_after, touches, is_server, is_fixed, is_moving, is_light_kind, says_put, not_is, acting_dropped, or-left, queued_acting, forwarded_acting, sort_of, handles_here}
+use Rattle.dm_settlelaws.proofs.Names.{or-right, bind, kernel_handles}
 use Rattle.dm_onekernel.specs.Step as kernel
 use Rattle.dm_rule.specs.View as view
 use Rattle.dm_settlelaws.proofs.Effects.{effect, takes_front}
@@ -21,6 +21,10 @@ pub record FrontLine (i : MsgId) (l : Line) : Type 0 where
 queued_known : (v : View) (id : MsgId) (o : Option Pid) → (view.queued_for v id o).known ≡ v.known
 queued_known v id None = refl
 queued_known v id (Some p) = refl
+
+dropped_known : (v : View) (id : MsgId) (o : Option Pid) → (view.dropped_for v id o).known ≡ v.known
+dropped_known v id None = refl
+dropped_known v id (Some p) = refl
 
 forwarded_known : (v : View) (o : Option Pid) → (view.forwarded_for v o).known ≡ v.known
 forwarded_known v None = refl
@@ -90,14 +94,13 @@ pick false false y z w e = refl
 
 process_row : (pt : Point) (m : ℕ) (i : MsgId) (t : Told) (msg : PlainMessage) (k : Known) (ps : List Part) → pt.view.known m t.receiver ≡ k → is_moving k ≡ false → plain_kind msg.what ≡ t.kind → plain_kind msg.what ≡ MessageKind.User → (t.receiver.num == 0) ≡ false → is_server msg.to ≡ false
     → process_handles pt m i msg k ≡ Some ps → Shape pt.view m i t ps
-process_row pt m i t msg view.Unknown ps known still same user num free e = cc
+process_row pt m i t msg view.Unknown ps known still same user num free e = ended_row pt m i t msg.what ps user e
 process_row pt m i t msg view.Here ps known still same user num free e =
     let row : handles_here pt m i msg ≡ bind (kernel.alive (pt.kernel.processes msg.to)) (λ x. here_handles pt m i msg x msg.what) = pick (pid_eq msg.to switchboard) (pid_eq msg.to manager) _ _ (bind (kernel.alive (pt.kernel.processes msg.to)) (λ x. here_handles pt m i msg x msg.what)) free in
     let (x, there, is) = bind-is (kernel.alive (pt.kernel.processes msg.to)) (λ x. here_handles pt m i msg x msg.what) ps (sym row ∙ e) in here_row pt m i t msg x msg.what ps user is
 process_row pt m i t msg (view.Forward at moves) ps known still same user num free e =
     let f : forwards_on pt.addresses i (plain_kind msg.what) msg.sender at ≡ ps = cc in
     Goes at moves msg.sender (pt.addresses (Sender i)).at num known (sym f ∙ ap (λ (k : MessageKind). goes_on i at k msg.sender (pt.addresses (Sender i)).at) same)
-process_row pt m i t msg view.Ended ps known still same user num free e = ended_row pt m i t msg.what ps user e
 process_row pt m i t msg _ ps known still same user num free e = absurd (false≢true (sym still))
 
 bag_row : (b : Boot) (pt : Point) (m : ℕ) (i : MsgId) (t : Told) (msg : PlainMessage) (ps : List Part) → is_light_kind t.kind t.receiver ≡ true → t.kind ≡ plain_kind msg.what → t.receiver ≡ msg.to → ((n : ℕ) (p : Pid) → is_moving (pt.view.known n p) ≡ false)
@@ -129,11 +132,10 @@ own_told_row pt m i t false true ps light e = server_row pt m i t t.kind ps e
 own_told_row pt m i t false false ps light e = here_told_row pt m i t t.kind ps light e
 
 told_row : (pt : Point) (m : ℕ) (i : MsgId) (t : Told) (k : Known) (ps : List Part) → pt.view.known m t.receiver ≡ k → is_moving k ≡ false → is_light_kind t.kind t.receiver ≡ true → (t.receiver.num == 0) ≡ false → process_told pt m i t k ≡ Some ps → Shape pt.view m i t ps
-told_row pt m i t view.Unknown ps known still light num e = cc
+told_row pt m i t view.Unknown ps known still light num e = ended_told_row pt m i t t.kind ps light e
 told_row pt m i t view.Here ps known still light num e = own_told_row pt m i t (pid_eq t.receiver switchboard) (pid_eq t.receiver manager) ps light e
 told_row pt m i t (view.Forward at moves) ps known still light num e =
     let f : forwards_on pt.addresses i t.kind manager at ≡ ps = cc in Goes at moves manager (pt.addresses (Sender i)).at num known (sym f)
-told_row pt m i t view.Ended ps known still light num e = ended_told_row pt m i t t.kind ps light e
 told_row pt m i t _ ps known still light num e = absurd (false≢true (sym still))
 
 -- no such message is for a kernel

@@ -3,7 +3,7 @@ use Rattle.dm_settlelaws.proofs.Names.{◌≡◌, ℕ, suc, ◌+◌, ◌-◌, �
 use Rattle.dm_settlelaws.proofs.Names.{MsgId, MessageKind, id_eq, id_of, PlainMessage, Boot, IsValid, id_eq-is, id_eq-same, bind-is, Step, Line, at_machine, Receiver, is_told_back, to_of, Leads, Part, Says, Again, Owns, Spelled, puts}
 use Rattle.dm_settlelaws.proofs.Names.{spelled, Point, first_point, moved, has_mail, group_of, Inbox, Spot, StandsOutside, StandsRight, standing, times, leads, Told, View, first_told, is_kernels, own_id, view_after, group_is}
 use Rattle.dm_settlelaws.proofs.Names.{stands_once_always, hushed, Pairs-always, pair_home, onward, pair_same, says_view, seen, OneKernel, tells_right_always, found_always, run_always, count, ByHolder, ByOwn, IsNamed, addresses_lead}
-use Rattle.dm_settlelaws.proofs.Names.{weight, weight_to, is_light, says_put}
+use Rattle.dm_settlelaws.proofs.Names.{weight, weight_to, is_light, says_put, not, is_alive}
 use Rattle.dm_rule.specs.View as view
 use Rattle.dm_settlelaws.proofs.FewSteps.Distances.{Knows, distance, nearer, within_steps}
 use Rattle.dm_settlelaws.proofs.Effects.{back_in, effect, line_takes_to}
@@ -14,7 +14,7 @@ use Rattle.dm_settlelaws.proofs.Falls.TurnFalls.{some_mail}
 use Rattle.dm_settlelaws.proofs.FewSteps.Ways.{AllLight, Carries, Falls, Gains, LightWay, carries_fall, cost, gained, light_box, told_of, value, worth}
 use Rattle.dm_settlelaws.proofs.Weights.{first_times, spike}
 
--- from the machine where a message stands the forwarding addresses lead to its receiver
+-- from the machine where a message stands the forwarding addresses lead to its receiver, or to where that ended
 own_by : (c : Bool) (f : Spot → ℕ) (z : Spot) → StandsOutside c f → 1 ≤ f z → c ≡ true
 own_by true f z h stands = refl
 own_by false f z h stands = let e = h z in absurd (omega (arith, stands, e))
@@ -29,11 +29,11 @@ named_by b es pt i t z None there valid way told stands =
     ByOwn i t (own_by (is_kernels i) (standing pt.view i) z right stands) told refl refl
 
 leads_here : (b : Boot) (es : List Step) (pt : Point) (m : ℕ) (i : MsgId) (t : Told) → IsValid b → Leads b (first_point b) es pt → pt.view.told i ≡ Some t → 1 ≤ times i (pt.view.inbox m) → (t.receiver.num == 0) ≡ false
-    → leads pt.view t.receiver (pt.kernel.machines - 1) (pt.addresses (Receiver i)).moves m ≡ true
+    → leads (not (is_alive pt.kernel t.receiver)) pt.view t.receiver (pt.kernel.machines - 1) (pt.addresses (Receiver i)).moves m ≡ true
 leads_here b es pt m i t valid way told stands num =
     let at : (pt.addresses (Receiver i)).at ≡ m = (found_always b es pt valid way).at_ i (Inbox m) stands in
     let named = named_by b es pt i t (Inbox m) (pt.kernel.bag i) refl valid way told stands in
-    subst (λ (k : ℕ). leads pt.view t.receiver (pt.kernel.machines - 1) (pt.addresses (Receiver i)).moves k ≡ true) at ((addresses_lead b es pt t.receiver (pt.addresses (Receiver i)) valid way named).led num)
+    subst (λ (k : ℕ). leads (not (is_alive pt.kernel t.receiver)) pt.view t.receiver (pt.kernel.machines - 1) (pt.addresses (Receiver i)).moves k ≡ true) at ((addresses_lead b es pt t.receiver (pt.addresses (Receiver i)) valid way named).led num)
 
 -- the first line: the front goes
 first_carries : (n : ℕ) (s : OneKernel) (v w : View) (m : ℕ) (l : Line) (i : MsgId) (is : List MsgId) → FrontLine i l → v.inbox m ≡ i ∷ is
@@ -156,7 +156,7 @@ goes_falls b es pt m i is t ps rest at moves sender to back valid way h small fr
     let told_two : again.next.view.told i ≡ Some t = put_kept n o.next.view again.next.view at i u.kind u.receiver i t put told_one in
     let second = carries_put n v o.next.view again.next.view m i [] at i u.kind u.receiver first put (ap is_light told_two ∙ light) in
     let stands : 1 ≤ times i (v.inbox m) = subst (λ (xs : List MsgId). 1 ≤ times i xs) (sym front) (first_times i is) in
-    let near = nearer v t.receiver (n - 1) (pt.addresses (Receiver i)).moves m at moves (leads_here b es pt m i t valid way told stands num) known in
+    let near = nearer (not (is_alive pt.kernel t.receiver)) v t.receiver (n - 1) (pt.addresses (Receiver i)).moves m at moves (leads_here b es pt m i t valid way told stands num) known in
     let counted : again.next.view.count ≡ v.count =
     put.count ∙ ap (λ (x : Option Told). if view.is_own i x then at_machine o.next.view.count i.from.home (o.next.view.count i.from.home + 1) else o.next.view.count) told_one ∙ ap (λ (x : View). x.count) first_view ∙ (hushed start.view (Line.Forwarded i at) refl).count in
     let acts : again.next.view.acting ≡ m = put.acting ∙ ap (λ (x : View). x.acting) first_view ∙ f.acting start.view in
