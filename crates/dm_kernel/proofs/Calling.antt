@@ -1,6 +1,6 @@
 -- Where all of a process has come, it isn't called off, and stands as it stood.
-use Rattle.dm_kernel.proofs.Names.{◌≡◌, ◌∙◌, Bool, true, false, if◌then◌else◌, [], ◌∷◌, refl, ap, sym, subst, Some, None, IfOk, Ok, Err, Option, Pid, pid_eq, pid_eq_same, Here, Frozen, Incoming, Forward, Ended, with_record, Arrival}
-use Rattle.dm_kernel.proofs.Names.{KernelKnown, KernelState, Kernel, Part, Says, Answers, IsIn, MeetsSome, Vec, Global, Result, NoMemory, incoming_of, without_record, is_whole, calls_arriving_off, is_not_called, turns_back}
+use Rattle.dm_kernel.proofs.Names.{◌≡◌, ◌∙◌, Bool, true, false, if◌then◌else◌, [], ◌∷◌, refl, ap, sym, subst, Some, None, IfOk, Ok, Err, Option, Pid, pid_eq, pid_eq_same, Here, Frozen, Incoming, Forward, with_record, Arrival, KernelKnown}
+use Rattle.dm_kernel.proofs.Names.{KernelState, Kernel, Part, Says, Answers, IsIn, MeetsSome, Vec, Global, Result, NoMemory, incoming_of, without_record, is_whole, calls_arriving_off, is_not_called, turns_back}
 use Rattle.dm_line.specs.declared.line.Line.TheVariants as line
 
 record_of : (o : Option KernelKnown) (a : Arrival) → incoming_of o ≡ Some a → o ≡ Some (Incoming a)
@@ -9,7 +9,6 @@ record_of (Some (Here x)) a e = absurd (cc)
 record_of (Some (Frozen leaving)) a e = absurd (cc)
 record_of (Some (Incoming b)) a e = let same : b ≡ a = cc in ap (λ (x : Arrival). Some (Incoming x)) same
 record_of (Some (Forward machine moves)) a e = absurd (cc)
-record_of (Some Ended) a e = absurd (cc)
 
 -- a record that was taken out and put back stands as it stood
 put_back_at : (same : Bool) (k : KernelKnown) (n o : Option KernelKnown) → n ≡ (if same then Some k else (if same then None else o)) → (same ≡ true → o ≡ Some k) → n ≡ o

@@ -1,19 +1,19 @@
 -- What the rows of a migration give is lawful.
-use Rattle.dm_kernel.proofs.Names.{◌≡◌, ◌∙◌, ℕ, ◌+◌, ◌-◌, ◌*◌, ◌/◌, min, ◌<◌, ◌≤◌, Bool, true, false, ◌==◌, List, [], ◌∷◌, ◌++◌, length, map, drop, Some, None, refl, sym, subst, ap, arith, All, IfSome, IfOk, Result, Ok, Err}
-use Rattle.dm_kernel.proofs.Names.{length-drop, length-take, All-append, All-cons, All-head, All-nil, All-push, All-tail, Option, Addr, Pid, IsMachine, IsLawfulAddr, is_told_back, kernel_at, update_of, applied_lawful}
-use Rattle.dm_kernel.proofs.Names.{Asker, Message, What, kind_of, IsLawfulMessage, IsLawfulWhat, IsServer, is_answer, Process, IsLawfulProcess, Taken, free_blocks, free_slots, has_room, Here, Frozen, Incoming, Forward, Wanted, Chunk, Block}
-use Rattle.dm_kernel.proofs.Names.{Nothing, Arrival, expected, pull, with_block, with_chunk, with_held_too, with_piece, Departure, all_sent_on, ask_of, frozen, sent_on, with_held, HasChunk, chunk_bytes, chunk_of, lawful_all, Boot, manager}
-use Rattle.dm_kernel.proofs.Names.{slots_of, MoveError, moves_child, moves_lawful, Servers, Part, Routes, asks_manager, asks_move, told_to_move, accepts, answers_ask, holds_arriving, restarts, restarts_as, takes_piece}
-use Rattle.dm_kernel.proofs.Names.{took_piece, freezes, gives_piece, holds_leaving, leaves, migrates, stays, board_follows, forwards, forwards_and, manager_follows, process_follows, AreLawful, IsLawfulArrival, IsLawfulDeparture}
-use Rattle.dm_kernel.proofs.Names.{IsLawfulPair, IsLawfulPart, IsLawfulState, MayRestart, KernelState, own, own_id, Outcome, asker_of, moved_answer, asked_to_move, freezing, tells_asker, with_frozen, IsLawfulAsker, with_sent, state_of}
-use Rattle.dm_kernel.proofs.Names.{incoming_of, all_sent_back, comes_from, is_whole, calling_off, calls_arriving_off, calls_off, hears_piece, is_not_called, says_stale, turns_back, without_arriving, IsLawfulKnown, IsLawfulTurned}
-use Rattle.dm_kernel.proofs.Names.{KernelKnown, Ended}
+use Rattle.dm_kernel.proofs.Names.{◌≡◌, ◌∙◌, ℕ, ◌+◌, ◌-◌, ◌*◌, ◌/◌, min, ◌<◌, ◌≤◌, Bool, true, false, ◌==◌, List, [], ◌∷◌, ◌++◌, length, map, drop, Some, None, refl, sym, subst, ap, arith, All, IfSome, IfOk, Result, Ok, Err, length-drop}
+use Rattle.dm_kernel.proofs.Names.{length-take, All-append, All-cons, All-head, All-nil, All-push, All-tail, Option, Addr, Pid, IsMachine, IsLawfulAddr, is_told_back, kernel_at, update_of, applied_lawful, Asker, Message, What, kind_of}
+use Rattle.dm_kernel.proofs.Names.{IsLawfulMessage, IsLawfulWhat, IsServer, is_answer, Process, IsLawfulProcess, Taken, free_blocks, free_slots, has_room, Here, Frozen, Incoming, Forward, Wanted, Chunk, Block, Nothing, Arrival, expected}
+use Rattle.dm_kernel.proofs.Names.{pull, with_block, with_chunk, with_held_too, with_piece, Departure, all_sent_on, ask_of, frozen, sent_on, with_held, HasChunk, chunk_bytes, chunk_of, lawful_all, Boot, manager, slots_of, MoveError}
+use Rattle.dm_kernel.proofs.Names.{moves_child, moves_lawful, Servers, Part, Routes, asks_manager, asks_move, told_to_move, accepts, answers_ask, holds_arriving, restarts, restarts_as, takes_piece, took_piece, freezes, gives_piece}
+use Rattle.dm_kernel.proofs.Names.{holds_leaving, leaves, migrates, stays, board_follows, forwards, forwards_and, manager_follows, process_follows, AreLawful, IsLawfulArrival, IsLawfulDeparture, IsLawfulPair, IsLawfulPart, IsLawfulState}
+use Rattle.dm_kernel.proofs.Names.{MayRestart, KernelState, own, own_id, Outcome, asker_of, moved_answer, asked_to_move, freezing, tells_asker, with_frozen, IsLawfulAsker, with_sent, state_of, incoming_of, all_sent_back, comes_from}
+use Rattle.dm_kernel.proofs.Names.{is_whole, calling_off, calls_arriving_off, calls_off, hears_piece, is_not_called, says_stale, turns_back, without_arriving, IsLawfulKnown, IsLawfulTurned, KernelKnown, zero, suc, range_with_len}
+use Rattle.dm_kernel.proofs.Names.{All-filter, buries, preds_of, ends_with, after_end, hears_bury, without_process, forgets, preceded, drops, Why, machines_with}
 use Rattle.dm_message.specs.declared.What.TheVariants as what
 use Rattle.dm_message.specs.declared.Outcome.TheVariants as ends
 use Rattle.dm_procman.specs.declared.moving.MoveError.TheVariants as no
 use Rattle.dm_procman.proofs.Lawful as manage
 use Rattle.dm_switchboard.proofs.Lawful as board
-use Rattle.dm_kernel.proofs.LawfulRows.{Lawfully, if_lawfully, knows, none_said, routed, said, same_room, with_process}
+use Rattle.dm_kernel.proofs.LawfulRows.{Lawfully, all_dropped, forgotten, if_lawfully, knows, none_said, routed, said, same_room, with_process, without}
 
 -- messages of the kernel's own, and messages that go on
 pub kernel_address : (here : ℕ) → here < 16 → IsLawfulAddr (kernel_at here)
@@ -38,6 +38,42 @@ all_routed : (ms : List Message) (parts : List Part) → All IsLawfulMessage ms 
 all_routed [] parts h rest = rest
 all_routed (m ∷ ms) parts h rest =
     routed_and m (map Routes ms ++ parts) (All-head IsLawfulMessage m ms h) (all_routed ms parts (All-tail IsLawfulMessage m ms h) rest)
+
+-- a process has ended: its predecessors are told
+all_machines : (a n : ℕ) → a + n ≤ 16 → All IsMachine (range_with_len a n)
+all_machines a zero h = All-nil IsMachine
+all_machines a (suc n) h = All-cons IsMachine a (range_with_len (a + 1) n) (omega arith) (all_machines (a + 1) n (omega arith))
+
+are_machines : (s : KernelState) (p : Pid) → All IsMachine (preds_of s p)
+unfolding machines_with
+are_machines s p = All-filter (s.preds p) IsMachine (range_with_len 0 16) (all_machines 0 16 (omega arith))
+
+all_told : (s : KernelState) (p : Pid) (ms : List ℕ) → s.here < 16 → IsMachine p.home → All IsMachine ms → AreLawful (buries s p ms)
+all_told s p [] here home h = none_said
+all_told s p (m ∷ ms) here home h =
+    let to : IsMachine m = All-head IsMachine m ms h in
+    routed_and (own s (kernel_at m) (what.Bury p)) (buries (with_sent s) p ms) (own_lawfully s (kernel_at m) (what.Bury p) here (kernel_address m (omega arith)) refl home)
+    (all_told (with_sent s) p ms here home (All-tail IsMachine m ms h))
+
+pub over_lawfully : (s : KernelState) (p : Pid) (x : Process) → s.here < 16 → IsMachine p.home → AreLawful (ends_with s p x)
+over_lawfully s p x here home =
+    record { each = All-append IsLawfulPart (drops x.queue) (buries s p (preds_of s p)) (all_dropped x.queue).each (all_told s p (preds_of s p) here home (are_machines s p)).each }
+
+pub after_lawfully : (s : KernelState) (p : Pid) (x : Process) (y : Why) → IsLawfulState s → IsLawfulState (after_end s p x y)
+after_lawfully s p x y h =
+    let gone : IsLawfulState (without_process s p x y) = without s p x y h in record { records = gone.records; room = gone.room; inbox = gone.inbox; servers = gone.servers }
+
+pub buries_lawfully : (s : KernelState) (m : Message) (p : Pid) → s.here < 16 → IsMachine p.home → IsLawfulState s → Lawfully (hears_bury s m p)
+buries_lawfully s m p here home h =
+    let gone : IsLawfulState (forgets s p) = forgotten s p h in
+    record {
+      state = record { records = gone.records; room = gone.room; inbox = gone.inbox; servers = gone.servers };
+      parts = said (all_told s p (preds_of s p) here home (are_machines s p));
+    }
+
+-- a machine more may send on to this one
+pub preceded_lawful : (s : KernelState) (p : Pid) (machine : ℕ) → IsLawfulState s → IsLawfulState (preceded s p machine)
+preceded_lawful s p machine h = record { records = h.records; room = h.room; inbox = h.inbox; servers = h.servers }
 
 -- a message goes on
 forwards_lawfully_and : (s : KernelState) (m : Message) (at moves : ℕ) (told : Bool) → s.here < 16 → IsMachine at → IsLawfulState s → IsLawfulMessage m → Lawfully (forwards_and s m at moves told)
@@ -313,7 +349,6 @@ arriving_known (Some (Here x)) h = tt
 arriving_known (Some (Frozen d)) h = tt
 arriving_known (Some (Incoming a)) h = h
 arriving_known (Some (Forward place moves)) h = tt
-arriving_known (Some Ended) h = tt
 
 pub called_off_lawfully : (s : KernelState) (p : Pid) → s.here < 16 → IsLawfulState s → Lawfully (calls_off s p)
 called_off_lawfully s p here h = arriving_called_off s p (incoming_of (s.records p)) here h (arriving_known (s.records p) (h.records p))

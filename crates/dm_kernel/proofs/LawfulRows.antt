@@ -1,8 +1,8 @@
 -- What the rows of a turn give is lawful.
 use Rattle.dm_kernel.proofs.Names.{◌≡◌, ℕ, ◌-◌, ◌*◌, ◌<◌, ◌≤◌, Bool, true, false, if◌then◌else◌, List, [], ◌∷◌, ◌++◌, length, map, replicate, Some, None, refl, sym, subst, inl, inr, ◌⊎◌, arith, All, IfSome, common_steps, All-append}
 use Rattle.dm_kernel.proofs.Names.{All-cons, All-map, All-nil, All-push, nat_tests, Option, Link, Pid, IsMachine, IsLawfulEnclosed, pid_eq, Message, What, kind_of, IsLawfulMessage, IsLawfulWhat, is_answer, Process, IsLawfulProcess}
-use Rattle.dm_kernel.proofs.Names.{SlotIsLawful, Here, Ended, with_record, Taken, answer, none_lawful, Boot, BootImage, Format, One, Two, Why, image_is_valid, slots_of, memory_of, slots_with, Line, Part, Says, Routes, child_of, with_child}
-use Rattle.dm_kernel.proofs.Names.{routes, AreLawful, IsLawfulKnown, IsLawfulPart, IsLawfulRoom, IsLawfulState, IsLawfulTurned, KernelState, KernelKnown, Turned, drops, with_here, without_process}
+use Rattle.dm_kernel.proofs.Names.{SlotIsLawful, Here, with_record, Taken, answer, none_lawful, Boot, BootImage, Format, One, Two, Why, image_is_valid, slots_of, memory_of, slots_with, Line, Part, Says, Routes, child_of, with_child, routes}
+use Rattle.dm_kernel.proofs.Names.{AreLawful, IsLawfulKnown, IsLawfulPart, IsLawfulRoom, IsLawfulState, IsLawfulTurned, KernelState, KernelKnown, Turned, drops, with_here, without_process, forgets}
 
 -- what there is of a turn is lawful
 abbrev pub Lawfully : Option Turned → Type 0
@@ -51,8 +51,16 @@ same_room r slots blocks h = record { slots = h.slots; blocks = h.blocks }
 pub with_process : (s : KernelState) (p : Pid) (x : Process) → IsLawfulState s → IsLawfulProcess x → IsLawfulState (with_here s p x)
 with_process s p x h lawful = record { records = knows s p (Here x) h lawful; room = h.room; inbox = h.inbox; servers = h.servers }
 
+-- a process is forgotten
+none_or : (same : Bool) (o : Option KernelKnown) → IfSome o IsLawfulKnown → IfSome (if same then None else o) IsLawfulKnown
+none_or true o h = tt
+none_or false o h = h
+
+pub forgotten : (s : KernelState) (p : Pid) → IsLawfulState s → IsLawfulState (forgets s p)
+forgotten s p h = record { records = λ q. none_or (pid_eq p q) (s.records q) (h.records q); room = h.room; inbox = h.inbox; servers = h.servers }
+
 pub without : (s : KernelState) (p : Pid) (x : Process) (w : Why) → IsLawfulState s → IsLawfulState (without_process s p x w)
-without s p x w h = record { records = knows s p Ended h tt; room = same_room s.room _ _ h.room; inbox = h.inbox; servers = h.servers }
+without s p x w h = record { records = (forgotten s p h).records; room = same_room s.room _ _ h.room; inbox = h.inbox; servers = h.servers }
 
 pub with_one_more : (s : KernelState) (p : Pid) (x : Process) (blocks : ℕ) → IsLawfulState s → IsLawfulProcess x → IsLawfulState (with_child s p x blocks)
 with_one_more s p x blocks h lawful =

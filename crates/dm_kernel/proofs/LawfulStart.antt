@@ -1,10 +1,9 @@
 -- A machine as the boot file has it may take a turn, and is lawful.
 use Rattle.dm_kernel.proofs.Names.{◌≡◌, ◌∙◌, ℕ, ◌+◌, ◌*◌, ◌/◌, ◌<◌, ◌≤◌, Bool, true, false, ◌==◌, if◌then◌else◌, List, [], ◌∷◌, ◌++◌, length, Some, None, slice_get, refl, ap, sym, subst, arith, ⊤, ◌&&◌, ◌||◌, nat_le, not, All, IfSome}
 use Rattle.dm_kernel.proofs.Names.{common_steps, All-cons, All-nil, and_parts, nat_tests, Option, Ok, Link, Pid, IsLawfulEnclosed, pid_eq, pid_eq_same, IsLawfulMessage, Process, IsLawfulProcess, HasTaken, Taken, with_reserved, Here, Frozen}
-use Rattle.dm_kernel.proofs.Names.{Incoming, Forward, Ended, Boot, BootImage, BootMachine, BootProcess, IsValid, blocks_at, blocks_of_image, controls_child, image_is_valid, images_are_valid, leads_somewhere, leads_to_process}
-use Rattle.dm_kernel.proofs.Names.{leads_to_server, link_is_valid, links_are_valid, machine_is_valid, manager, memory_size, process_is_valid, process_named, processes_are_valid, slots_of, starting_at, switchboard, memory_of, started_lawful}
-use Rattle.dm_kernel.proofs.Names.{starting, IsLawfulNamed, begins_process, child_of, empty, opened, room_of, with_all, with_child, IsLawfulKnown, IsLawfulPair, IsLawfulRoom, IsLawfulState, FrontMay, MayTurn, KernelState, KernelKnown}
-use Rattle.dm_kernel.proofs.Names.{blocks_of}
+use Rattle.dm_kernel.proofs.Names.{Incoming, Forward, Boot, BootImage, BootMachine, BootProcess, IsValid, blocks_at, blocks_of_image, controls_child, image_is_valid, images_are_valid, leads_somewhere, leads_to_process, leads_to_server}
+use Rattle.dm_kernel.proofs.Names.{link_is_valid, links_are_valid, machine_is_valid, manager, memory_size, process_is_valid, process_named, processes_are_valid, slots_of, starting_at, switchboard, memory_of, started_lawful, starting}
+use Rattle.dm_kernel.proofs.Names.{IsLawfulNamed, begins_process, child_of, empty, opened, room_of, with_all, with_child, IsLawfulKnown, IsLawfulPair, IsLawfulRoom, IsLawfulState, FrontMay, MayTurn, KernelState, KernelKnown, blocks_of}
 use Rattle.dm_kernel.proofs.Making.{image_fits}
 use Rattle.dm_kernel.proofs.LawfulRows.{child_lawfully, same_room}
 use Rattle.dm_kernel.proofs.Opening.{machine_fits}
@@ -120,6 +119,7 @@ record Fresh (s : KernelState) (p : Pid) (x : Process) : Type 0 where
 record AreFresh (s : KernelState) : Type 0 where
   processes : (p : Pid) (x : Process) → s.records p ≡ Some (Here x) → Fresh s p x
   inbox : s.inbox ≡ []
+  sent : s.sent ≡ 0
   servers : IfSome s.servers IsLawfulPair
 
 grown : (r : Taken) (n blocks : ℕ) → HasTaken r n → HasTaken (with_reserved r blocks) n
@@ -151,6 +151,7 @@ child_fresh b s p i home valid few lawful h =
           (h.processes q x)
           e;
       inbox = h.inbox;
+      sent = h.sent;
       servers = h.servers;
     }
 
@@ -199,7 +200,7 @@ few_machines n h = grind (arith, nat_tests)
 fresh_at_first : (b : Boot) (m : ℕ) → IsValid b → AreFresh (opened b m)
 fresh_at_first b m valid =
     all_fresh b [] b.processes (empty b m) valid (few_machines (length b.machines) valid.few_machines) valid.processes
-    (record { processes = λ p x e. absurd (cc); inbox = refl; servers = servers_lawfully b (m == 0) valid })
+    (record { processes = λ p x e. absurd (cc); inbox = refl; sent = refl; servers = servers_lawfully b (m == 0) valid })
 
 -- what a machine opens with: no process leaves, comes or has gone, and it has no more than packets can tell of
 abbrev NoneMoves : Option KernelKnown → Type 0
@@ -208,7 +209,6 @@ NoneMoves (Some (Here x)) = ⊤
 NoneMoves (Some (Frozen leaving)) = ⊥
 NoneMoves (Some (Incoming arriving)) = ⊥
 NoneMoves (Some (Forward machine moves)) = ⊥
-NoneMoves (Some Ended) = ⊥
 
 record Opens (s : KernelState) : Type 0 where
   known : (p : Pid) → NoneMoves (s.records p)
@@ -254,7 +254,6 @@ known_lawful (Some (Here x)) h k = k x refl
 known_lawful (Some (Frozen leaving)) h k = absurd h
 known_lawful (Some (Incoming arriving)) h k = absurd h
 known_lawful (Some (Forward machine moves)) h k = absurd h
-known_lawful (Some Ended) h k = absurd h
 
 -- a machine that opens may take a turn
 pub opened_may : (b : Boot) (m : ℕ) → IsValid b → m < length b.machines → MayTurn b (opened b m)
@@ -264,6 +263,7 @@ opened_may b m valid h =
     let here : (opened b m).here ≡ m = here_always b (empty b m) b.processes in
     record {
       here = subst (λ (k : ℕ). k < 16) (sym here) (omega arith);
+      sent = subst (λ (n : ℕ). n + 16 ≤ 4294967295) (sym fresh.sent) (omega arith);
       processes =
           λ p x e.
           let f : Fresh (opened b m) p x = fresh.processes p x e in

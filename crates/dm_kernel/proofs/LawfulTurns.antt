@@ -1,14 +1,14 @@
 -- What a turn gives is lawful.
 use Rattle.dm_kernel.proofs.Names.{◌≡◌, ◌∙◌, ℕ, suc, ◌<◌, ◌≤◌, Bool, true, false, ◌==◌, if◌then◌else◌, List, [], ◌∷◌, length, map, remove, slice_get, Some, None, refl, sym, subst, ap, arith, All, IfSome, common_steps, All-tail, Option, Ok}
 use Rattle.dm_kernel.proofs.Names.{Addr, Link, Pid, IsLawfulEnclosed, IsMachine, pid_eq, plain_link, Message, What, IsLawfulMessage, IsLawfulWhat, IsServer, Process, Status, IsLawfulProcess, first_on, is_on, without_first_on, Here, Frozen}
-use Rattle.dm_kernel.proofs.Names.{Incoming, Forward, Ended, frozen_of, incoming_of, Arrival, Departure, HasChunk, block_of, chunk_of, bind, Landed, Landing, IsAwaited, IsLawfulLanded, landing, IsWithin, after_serving, gone_answer}
-use Rattle.dm_kernel.proofs.Names.{serving_answer, IsLawfulLanding, lands_lawfully, answers_lawfully, serves_lawfully, Boot, BootImage, Reply, Why, image_is_valid, images_are_valid, manager, slots_of, switchboard, plain_process}
-use Rattle.dm_kernel.proofs.Names.{receive_refusals, first_failed, heard, manager_after, message_after, moved_back, answer_after, board_after, Called, calls, Completion, completes, completes_unless, completion, refusal, IsLawfulCalled}
-use Rattle.dm_kernel.proofs.Names.{completes_lawfully, IsLawfulDone, call_lawfully, Servers, Halt, asks_move, child_of, restarts, gives_piece, leaves, stays, answers_with, board_handles, board_took, ended_handles, handles, here_handles}
-use Rattle.dm_kernel.proofs.Names.{kernel_handles, lands, lands_as, makes, makes_of, manager_handles, manager_took, next_pid, process_handles, told_board, told_manager, IsLawfulArrival, IsLawfulDeparture, IsLawfulKnown, IsLawfulPair}
-use Rattle.dm_kernel.proofs.Names.{IsLawfulState, IsLawfulTurned, FitsEnded, FitsHere, FitsKernel, FrontMay, FitsKnown, FitsManager, FitsManagerWhat, IsSuch, MayHandle, MayRestart, MayTurn, called_with, ends, halts, processor_of, ran}
-use Rattle.dm_kernel.proofs.Names.{received_by, receives, serves, serves_status, with_machine, KernelState, KernelKnown, Turned, with_here, first_runnable, goes_round, turn, turns, answer, gone_what, state_of, calls_off, FitsServer}
-use Rattle.dm_kernel.proofs.Names.{server_handles, before_turn}
+use Rattle.dm_kernel.proofs.Names.{Incoming, Forward, frozen_of, incoming_of, Arrival, Departure, HasChunk, block_of, chunk_of, bind, Landed, Landing, IsAwaited, IsLawfulLanded, landing, IsWithin, after_serving, gone_answer, serving_answer}
+use Rattle.dm_kernel.proofs.Names.{IsLawfulLanding, lands_lawfully, answers_lawfully, serves_lawfully, Boot, BootImage, Reply, Why, image_is_valid, images_are_valid, manager, slots_of, switchboard, plain_process, receive_refusals}
+use Rattle.dm_kernel.proofs.Names.{first_failed, heard, manager_after, message_after, moved_back, answer_after, board_after, Called, calls, Completion, completes, completes_unless, completion, refusal, IsLawfulCalled, completes_lawfully}
+use Rattle.dm_kernel.proofs.Names.{IsLawfulDone, call_lawfully, Servers, Halt, asks_move, child_of, restarts, gives_piece, leaves, stays, answers_with, board_handles, board_took, ended_handles, handles, here_handles, kernel_handles, lands}
+use Rattle.dm_kernel.proofs.Names.{lands_as, makes, makes_of, manager_handles, manager_took, next_pid, process_handles, told_board, told_manager, IsLawfulArrival, IsLawfulDeparture, IsLawfulKnown, IsLawfulPair, IsLawfulState}
+use Rattle.dm_kernel.proofs.Names.{IsLawfulTurned, FitsEnded, FitsHere, FitsKernel, FrontMay, FitsKnown, FitsUnknown, FitsManager, FitsManagerWhat, IsSuch, MayHandle, MayRestart, MayTurn, called_with, ends, halts, processor_of, ran}
+use Rattle.dm_kernel.proofs.Names.{received_by, receives, serves, serves_status, with_machine, KernelState, KernelKnown, Turned, with_here, first_runnable, goes_round, turn, turns, answer, gone_what, state_of, calls_off, preceded}
+use Rattle.dm_kernel.proofs.Names.{unknown_handles, before_turn, ◌||◌}
 use Rattle.dm_message.specs.declared.What.TheVariants as what
 use Rattle.dm_message.specs.declared.Outcome.TheVariants as ends
 use Rattle.dm_process.specs.declared.process.Status.TheVariants as status
@@ -24,28 +24,28 @@ use Rattle.dm_kernel.proofs.Making.{image_fits}
 use Rattle.dm_kernel.proofs.Serving.{first_is_on, has_run, runs_lawfully}
 use Rattle.dm_kernel.proofs.LawfulMoves.{asked_lawfully, asks_lawfully, asks_move_lawfully, board_follows_lawfully, chunk_lawfully, forwards_lawfully, gives_lawfully}
 use Rattle.dm_kernel.proofs.LawfulMoves.{holds_arriving_lawfully, holds_leaving_lawfully, leaves_lawfully, manager_follows_lawfully, migrates_lawfully, process_follows_lawfully, restarts_lawfully, stays_lawfully, arriving_known}
-use Rattle.dm_kernel.proofs.LawfulMoves.{called_off_lawfully, hears_lawfully}
-use Rattle.dm_kernel.proofs.LawfulRows.{Lawfully, all_dropped, answer_lawfully, child_lawfully, enough, if_lawfully, none_said, of_known, routed, routes_lawfully, said, with_one_more, with_process, with_queued, with_stopped, without}
+use Rattle.dm_kernel.proofs.LawfulMoves.{after_lawfully, buries_lawfully, called_off_lawfully, hears_lawfully, over_lawfully, preceded_lawful}
+use Rattle.dm_kernel.proofs.LawfulRows.{Lawfully, answer_lawfully, child_lawfully, enough, if_lawfully, none_said, of_known, routed, routes_lawfully, said, with_one_more, with_process, with_queued, with_stopped}
 
 -- a process that executes
-ends_lawfully : (s : KernelState) (p : Pid) (k : ℕ) (x : Process) (y : Why) → IsLawfulState s → Lawfully (ends s p k x y)
-ends_lawfully s p k x y h =
-    record { state = without s p x y h; parts = said (said (all_dropped x.queue)) }
+ends_lawfully : (s : KernelState) (p : Pid) (k : ℕ) (x : Process) (y : Why) → s.here < 16 → IsMachine p.home → IsLawfulState s → Lawfully (ends s p k x y)
+ends_lawfully s p k x y machine home h =
+    record { state = after_lawfully s p x y h; parts = said (said (over_lawfully s p x machine home)) }
 
-called_lawfully : (s : KernelState) (p : Pid) (k n : ℕ) (x : Process) (c : Called) → IsLawfulState s → IsLawfulCalled c → Lawfully (called_with s p k n x c)
-called_lawfully s p k n x (called.Replied c) h lawful = record { state = h; parts = said (said none_said) }
-called_lawfully s p k n x (called.Sent m) h lawful = record { state = h; parts = said (said (routed m lawful)) }
-called_lawfully s p k n x (called.Moving m) h lawful = record { state = h; parts = said (said (routed m lawful)) }
-called_lawfully s p k n x called.Waits h lawful = record { state = h; parts = said (said none_said) }
-called_lawfully s p k n x (called.Out w) h lawful = record { state = h; parts = said (said none_said) }
-called_lawfully s p k n x (called.Ended y) h lawful = ends_lawfully s p k x y h
+called_lawfully : (s : KernelState) (p : Pid) (k n : ℕ) (x : Process) (c : Called) → s.here < 16 → IsMachine p.home → IsLawfulState s → IsLawfulCalled c → Lawfully (called_with s p k n x c)
+called_lawfully s p k n x (called.Replied c) machine home h lawful = record { state = h; parts = said (said none_said) }
+called_lawfully s p k n x (called.Sent m) machine home h lawful = record { state = h; parts = said (said (routed m lawful)) }
+called_lawfully s p k n x (called.Moving m) machine home h lawful = record { state = h; parts = said (said (routed m lawful)) }
+called_lawfully s p k n x called.Waits machine home h lawful = record { state = h; parts = said (said none_said) }
+called_lawfully s p k n x (called.Out w) machine home h lawful = record { state = h; parts = said (said none_said) }
+called_lawfully s p k n x (called.Ended y) machine home h lawful = ends_lawfully s p k x y machine home h
 
-halts_lawfully : (s : KernelState) (p : Pid) (k : ℕ) (x : Process) (o : Option Halt) → s.here < 16 → IsLawfulState s → IsLawfulProcess x → Lawfully (halts s p k x o)
-halts_lawfully s p k x None machine h lawful = record { state = with_process s p x h lawful; parts = said none_said }
-halts_lawfully s p k x (Some (halt.Call n)) machine h lawful =
+halts_lawfully : (s : KernelState) (p : Pid) (k : ℕ) (x : Process) (o : Option Halt) → s.here < 16 → IsMachine p.home → IsLawfulState s → IsLawfulProcess x → Lawfully (halts s p k x o)
+halts_lawfully s p k x None machine home h lawful = record { state = with_process s p x h lawful; parts = said none_said }
+halts_lawfully s p k x (Some (halt.Call n)) machine home h lawful =
     let d : IsLawfulDone (calls s.here x n) = call_lawfully s.here x n machine lawful in
-    called_lawfully (with_here s p (calls s.here x n).process) p k n (calls s.here x n).process (calls s.here x n).called (with_process s p (calls s.here x n).process h d.process) d.called
-halts_lawfully s p k x (Some (halt.Fault f)) machine h lawful = ends_lawfully (with_here s p x) p k x (why.Fault f) (with_process s p x h lawful)
+    called_lawfully (with_here s p (calls s.here x n).process) p k n (calls s.here x n).process (calls s.here x n).called machine home (with_process s p (calls s.here x n).process h d.process) d.called
+halts_lawfully s p k x (Some (halt.Fault f)) machine home h lawful = ends_lawfully (with_here s p x) p k x (why.Fault f) machine home (with_process s p x h lawful)
 
 -- a process that takes a message: the first on the mask stands at a place
 place_or : (b : Bool) (mask : ℕ) (x m : Message) (xs : List Message) → (if b then Some x else first_on mask xs) ≡ Some m
@@ -104,21 +104,26 @@ receives_lawfully s p x mask base size (Some m) h lawful waits first =
     (λ d e. completed x there.0 mask base size m d lawful waits there.1 (first_is_on mask x.queue m first) e))
 
 -- a process that is served
-status_lawfully : (quantum : ℕ) (s : KernelState) (p : Pid) (x : Process) (t : Status) → s.here < 16 → IsLawfulState s → IsLawfulProcess x → x.status ≡ t
+status_lawfully : (quantum : ℕ) (s : KernelState) (p : Pid) (x : Process) (t : Status) → s.here < 16 → IsMachine p.home → IsLawfulState s → IsLawfulProcess x → x.status ≡ t
     → Lawfully (serves_status quantum s p x t)
-status_lawfully quantum s p x status.Ready machine h lawful is =
-    halts_lawfully s p (ran quantum (processor_of x)).count (with_machine x (ran quantum (processor_of x)).machine) (ran quantum (processor_of x)).halt machine h
+status_lawfully quantum s p x status.Ready machine home h lawful is =
+    halts_lawfully s p (ran quantum (processor_of x)).count (with_machine x (ran quantum (processor_of x)).machine) (ran quantum (processor_of x)).halt machine home h
     (runs_lawfully x (ran quantum (processor_of x)).machine (has_run quantum x (ran quantum (processor_of x)) refl) is lawful)
-status_lawfully quantum s p x (status.Waiting mask base size) machine h lawful is = receives_lawfully s p x mask base size (first_on mask x.queue) h lawful is refl
-status_lawfully quantum s p x (status.Moving dir owner base own left pending) machine h lawful is = tt
+status_lawfully quantum s p x (status.Waiting mask base size) machine home h lawful is = receives_lawfully s p x mask base size (first_on mask x.queue) h lawful is refl
+status_lawfully quantum s p x (status.Moving dir owner base own left pending) machine home h lawful is = tt
 
-serves_known : (quantum : ℕ) (s : KernelState) (p : Pid) (o : Option KernelKnown) → s.here < 16 → IsLawfulState s → s.records p ≡ o → Lawfully (serves quantum s p o)
-serves_known quantum s p None machine h e = tt
-serves_known quantum s p (Some (Here x)) machine h e = status_lawfully quantum s p x x.status machine h (of_known s p (Some (Here x)) h e) refl
-serves_known quantum s p (Some (Frozen leaving)) machine h e = tt
-serves_known quantum s p (Some (Incoming arriving)) machine h e = tt
-serves_known quantum s p (Some (Forward place moves)) machine h e = tt
-serves_known quantum s p (Some Ended) machine h e = tt
+-- each process that is here bears its name
+abbrev AreNamed : KernelState → Type 0
+AreNamed s = (p : Pid) (x : Process) → s.records p ≡ Some (Here x) → x.pid ≡ p
+
+serves_known : (quantum : ℕ) (s : KernelState) (p : Pid) (o : Option KernelKnown) → s.here < 16 → IsLawfulState s → AreNamed s → s.records p ≡ o → Lawfully (serves quantum s p o)
+serves_known quantum s p None machine h named e = tt
+serves_known quantum s p (Some (Here x)) machine h named e =
+    let lawful : IsLawfulProcess x = of_known s p (Some (Here x)) h e in
+    status_lawfully quantum s p x x.status machine (subst (λ (q : Pid). IsMachine q.home) (named p x e) lawful.home) h lawful refl
+serves_known quantum s p (Some (Frozen leaving)) machine h named e = tt
+serves_known quantum s p (Some (Incoming arriving)) machine h named e = tt
+serves_known quantum s p (Some (Forward place moves)) machine h named e = tt
 
 -- a message for a process
 answers_with_lawfully : (s : KernelState) (m : Message) (x : Process) (o : Option Message) → s.here < 16 → IsLawfulState s → IsLawfulMessage m → IsLawfulProcess x → IsWithin (length x.memory) m.what
@@ -150,7 +155,7 @@ here_lawfully s m x what.Stop machine h message what lawful none fits =
 here_lawfully s m x what.Resume machine h message what lawful none fits =
     record { state = with_process s m.to.pid _ h (with_stopped x false lawful); parts = said none_said }
 here_lawfully s m x what.Kill machine h message what lawful none fits =
-    record { state = without s m.to.pid x why.Killed h; parts = said (all_dropped x.queue) }
+    record { state = after_lawfully s m.to.pid x why.Killed h; parts = said (over_lawfully s m.to.pid x machine message.to.home) }
 here_lawfully s m x (what.Read base len) machine h message what lawful none fits = answers_with_lawfully s m x (serving_answer s.here x m) machine h message lawful fits refl
 here_lawfully s m x (what.Write base bytes) machine h message what lawful none fits = answers_with_lawfully s m x (serving_answer s.here x m) machine h message lawful fits refl
 here_lawfully s m x (what.Block bytes) machine h message what lawful none fits = lands_here s m x (landing s.here x m.what x.status) machine h lawful fits refl
@@ -208,7 +213,6 @@ each_leaving (Some (Here x)) go h k = tt
 each_leaving (Some (Frozen d)) go h k = k d refl h
 each_leaving (Some (Incoming a)) go h k = tt
 each_leaving (Some (Forward place moves)) go h k = tt
-each_leaving (Some Ended) go h k = tt
 
 each_arriving : (o : Option KernelKnown) (go : Arrival → Option Turned) → IfSome o IsLawfulKnown → ((a : Arrival) → incoming_of o ≡ Some a → IsLawfulArrival a → Lawfully (go a)) → Lawfully (bind (incoming_of o) go)
 each_arriving None go h k = tt
@@ -216,7 +220,6 @@ each_arriving (Some (Here x)) go h k = tt
 each_arriving (Some (Frozen d)) go h k = tt
 each_arriving (Some (Incoming a)) go h k = k a refl h
 each_arriving (Some (Forward place moves)) go h k = tt
-each_arriving (Some Ended) go h k = tt
 
 such : {X : Type 0} (P : X → Type 0) (o : Option X) (x : X) → o ≡ Some x → IsSuch P o → P x
 such P None x e h = absurd h
@@ -245,7 +248,10 @@ kernel_lawfully b s m (what.AllTaken pid) machine images h message lawful fits =
 kernel_lawfully b s m (what.Restart pid) machine images h message lawful fits =
     each_arriving (s.records pid) (restarts s pid) (h.records pid)
     (λ a e arriving. restarts_lawfully s pid a machine h arriving (such MayRestart (incoming_of (s.records pid)) a e fits))
-kernel_lawfully b s m (what.CallOff pid) machine images h message lawful fits = each_leaving (s.records pid) (stays s pid) (h.records pid) (λ d e leaving. stays_lawfully s pid d machine h leaving)
+kernel_lawfully b s m (what.CallOff pid) machine images h message lawful fits =
+    let t = preceded s pid m.id.from.home in
+    each_leaving (s.records pid) (stays t pid) (h.records pid) (λ d e leaving. stays_lawfully t pid d machine (preceded_lawful s pid m.id.from.home h) leaving)
+kernel_lawfully b s m (what.Bury pid) machine images h message lawful fits = buries_lawfully s m pid machine lawful h
 kernel_lawfully b s m w machine images h message lawful fits = absurd fits
 
 -- a message for a server
@@ -307,11 +313,12 @@ manager_lawfully : (s : KernelState) (m : Message) (o : Option Servers) → s.he
 manager_lawfully s m None machine h pair message fits = tt
 manager_lawfully s m (Some v) machine h pair message fits = manager_told_lawfully s m v m.what machine h pair message message.what fits refl
 
-server_lawfully : (s : KernelState) (m : Message) → s.here < 16 → IsLawfulState s → IsLawfulMessage m → FitsServer s m → Lawfully (server_handles s m)
+server_lawfully : (s : KernelState) (m : Message) → s.here < 16 → IsLawfulState s → IsLawfulMessage m → FitsUnknown s m → Lawfully (unknown_handles s m)
 server_lawfully s m machine h message fits =
-    if_lawfully (pid_eq m.to.pid switchboard) (board_handles s m s.servers) (if pid_eq m.to.pid manager then manager_handles s m s.servers else None)
+    if_lawfully (pid_eq m.to.pid switchboard) (board_handles s m s.servers) (if pid_eq m.to.pid manager then manager_handles s m s.servers else ended_handles s m m.what)
     (λ is. board_lawfully s m s.servers machine h h.servers message)
-    (λ off. if_lawfully (pid_eq m.to.pid manager) (manager_handles s m s.servers) None (λ is. manager_lawfully s m s.servers machine h h.servers message (fits.manager is)) (λ none. tt))
+    (λ off. if_lawfully (pid_eq m.to.pid manager) (manager_handles s m s.servers) (ended_handles s m m.what) (λ is. manager_lawfully s m s.servers machine h h.servers message (fits.manager is))
+    (λ none. ended_lawfully s m m.what machine h message (fits.ended (ap (λ (c : Bool). c || pid_eq m.to.pid manager) off ∙ none))))
 
 known_lawfully : (s : KernelState) (m : Message) (o : Option KernelKnown) → s.here < 16 → IsLawfulState s → IsLawfulMessage m → ((x : Process) → o ≡ Some (Here x) → ¬ IsServer x.pid) → FitsKnown s m o
     → s.records m.to.pid ≡ o → Lawfully (process_handles s m o)
@@ -320,11 +327,6 @@ known_lawfully s m (Some (Here x)) machine h message none fits e = here_lawfully
 known_lawfully s m (Some (Frozen d)) machine h message none fits e = holds_leaving_lawfully s m d h (of_known s m.to.pid (Some (Frozen d)) h e) message
 known_lawfully s m (Some (Incoming a)) machine h message none fits e = holds_arriving_lawfully s m a h (of_known s m.to.pid (Some (Incoming a)) h e) message
 known_lawfully s m (Some (Forward place moves)) machine h message none fits e = forwards_lawfully s m place moves machine (of_known s m.to.pid (Some (Forward place moves)) h e) h message
-known_lawfully s m (Some Ended) machine h message none fits e = ended_lawfully s m m.what machine h message fits
-
--- each process that is here bears its name
-abbrev AreNamed : KernelState → Type 0
-AreNamed s = (p : Pid) (x : Process) → s.records p ≡ Some (Here x) → x.pid ≡ p
 
 no_server_here : (s : KernelState) (p : Pid) → AreNamed s → (IsServer p → s.records p ≡ None) → (x : Process) → s.records p ≡ Some (Here x) → ¬ IsServer x.pid
 no_server_here s p named none x e server = let f : None ≡ Some (Here x) = sym (none (subst IsServer (named p x e) server)) ∙ e in cc
@@ -352,7 +354,7 @@ fits_still b s m rest (what.Create image links) h = h
 fits_still b s m rest w h = h
 
 known_still : (s : KernelState) (m : Message) (rest : List Message) (o : Option KernelKnown) → FitsKnown s m o → FitsKnown (record (before_turn s) { inbox = rest }) m o
-known_still s m rest None h = record { server = h.server; board = h.board; manager = h.manager }
+known_still s m rest None h = record { board = h.board; manager = h.manager; ended = h.ended }
 known_still s m rest (Some (Here x)) h = here_still s m x rest m.what h
   where
     here_still : (s : KernelState) (m : Message) (x : Process) (rest : List Message) (w : What) → FitsHere s m x w → FitsHere (record (before_turn s) { inbox = rest }) m x w
@@ -362,20 +364,19 @@ known_still s m rest (Some (Here x)) h = here_still s m x rest m.what h
 known_still s m rest (Some (Frozen d)) h = h
 known_still s m rest (Some (Incoming a)) h = h
 known_still s m rest (Some (Forward place moves)) h = h
-known_still s m rest (Some Ended) h = h
 
 may_front : (b : Boot) (s : KernelState) (m : Message) (rest : List Message) → MayHandle b s m → MayHandle b (record (before_turn s) { inbox = rest }) m
 may_front b s m rest h =
     record { lawful = h.lawful; for_kernel = λ is. fits_still b s m rest m.what (h.for_kernel is); for_process = λ no. known_still s m rest (s.records m.to.pid) (h.for_process no); for_server = h.for_server }
 
-round_lawfully : (b : Boot) (s : KernelState) (o : Option Pid) → s.here < 16 → IsLawfulState s → Lawfully (goes_round b s o)
-round_lawfully b s None machine h = record { state = h; parts = said none_said }
-round_lawfully b s (Some p) machine h =
-    serves_known b.quantum (record s { ring = moved_back p s.ring }) p (s.records p) machine (with_ring s (moved_back p s.ring) h) refl
+round_lawfully : (b : Boot) (s : KernelState) (o : Option Pid) → s.here < 16 → IsLawfulState s → AreNamed s → Lawfully (goes_round b s o)
+round_lawfully b s None machine h named = record { state = h; parts = said none_said }
+round_lawfully b s (Some p) machine h named =
+    serves_known b.quantum (record s { ring = moved_back p s.ring }) p (s.records p) machine (with_ring s (moved_back p s.ring) h) named refl
 
 turns_lawfully : (b : Boot) (s : KernelState) (inbox : List Message) → s.inbox ≡ inbox → s.here < 16 → images_are_valid b.images ≡ true → IsLawfulState s → AreNamed s
     → FrontMay b s inbox → Lawfully (turns b (before_turn s) inbox)
-turns_lawfully b s [] e machine images h named may = round_lawfully b (before_turn s) (first_runnable s.records s.ring) machine (before_lawful s h)
+turns_lawfully b s [] e machine images h named may = round_lawfully b (before_turn s) (first_runnable s.records s.ring) machine (before_lawful s h) named
 turns_lawfully b s (m ∷ rest) e machine images h named may =
     handles_lawfully b (record (before_turn s) { inbox = rest }) m machine images (without_front (before_turn s) m rest e (before_lawful s h)) named (may_front b s m rest may)
 

@@ -8,6 +8,9 @@ pub mod Serving
 pub mod Receiving
 pub mod Making
 pub mod Opening
+pub mod Places
+pub mod Burying
+pub mod Pieces
 pub mod Fitting
 pub mod LawfulRows
 pub mod LawfulMoves

@@ -1,26 +1,32 @@
 -- What the proofs of this crate name of what lies below it.
-pub use Rattle.std.proofs.Common.{IfErr, IsOk, MatchResult}
+pub use Rattle.std.proofs.Common.{IfErr, IsOk, MatchResult, append-nil}
 pub use Rattle.std.proofs.Math.Seq.{set-append_seam}
 pub use Rattle.std.proofs.lemmas.Bool.{and_parts}
 pub use Rattle.std.proofs.lemmas.Fn.{filter_same}
 pub use Rattle.std.proofs.lemmas.List.{take_more}
-pub use Rattle.std.proofs.lemmas.List.Elements.{All-head, All-tail}
+pub use Rattle.std.proofs.lemmas.List.Elements.{All-filter, All-head, All-tail}
 pub use Rattle.std.proofs.lemmas.Option.{slice_get_read}
 pub use Rattle.std.specs.Option.{option_copied, option_copied_mut}
-pub use Rattle.std.specs.Prelude.{Vec, fold, ⊤}
+pub use Rattle.std.specs.Prelude.{Vec, fold, option_and_then, ⊤}
 pub use Rattle.std.specs.declared.alloc.Global.{Global}
 pub use Rattle.dm_link.specs.Names.{pid_of}
-pub use Rattle.dm_records.proofs.Names.{at}
-pub use Rattle.dm_records.specs.Records.{frozen_of, here_of, incoming_of, with_record, without_record}
-pub use Rattle.dm_records.specs.declared.record.Record.TheVariants.{Ended, Forward, Frozen, Here, Incoming}
+pub use Rattle.dm_records.proofs.Names.{filter, get, has, pred_at, range_with_len}
+unfoldable pub use Rattle.dm_records.specs.Machines.{machines_with}
+pub use Rattle.dm_records.specs.Records.{frozen_of, here_of, incoming_of, known_in, with_pred, with_record, without_preds, without_record}
+unfoldable pub use Rattle.dm_records.specs.Records.{HasPlace, at}
+pub use Rattle.dm_records.specs.declared.record.Record.{Record}
+pub use Rattle.dm_records.specs.declared.record.Record.TheVariants.{Forward, Frozen, Here, Incoming}
+pub use Rattle.dm_records.specs.declared.records.Place.{Place}
+pub use Rattle.dm_records.specs.declared.records.Records.{Records}
 pub use Rattle.dm_processor.proofs.Lengths.{instruction-lengths}
 pub use Rattle.dm_processor.proofs.Names.{KeepsLengths, Row}
 pub use Rattle.dm_processor.specs.Instructions.{DoesRow}
 unfoldable pub use Rattle.dm_processor.specs.Instructions.{instruction}
 pub use Rattle.dm_room.proofs.Names.{HasTaken}
-pub use Rattle.dm_room.specs.Room.{Taken, free_blocks, free_slots, has_room, with_reserved}
+pub use Rattle.dm_room.specs.Room.{Taken, free_blocks, free_slots, has_room, with_released, with_reserved}
 pub use Rattle.dm_message.specs.Ids.{id_of}
 pub use Rattle.dm_message.specs.Lawful.{IsServer}
+pub use Rattle.dm_linktable.proofs.Names.{cond, pid_cmp}
 pub use Rattle.dm_linktable.proofs.ReceiverOrder.{pid_eq_same}
 pub use Rattle.dm_schedule.proofs.Names.{not}
 pub use Rattle.dm_process.proofs.Names.{first_on, is_on, remove, without_first_on}
@@ -30,7 +36,7 @@ pub use Rattle.dm_process.specs.declared.process.Service.{Service}
 pub use Rattle.dm_process.specs.declared.process.Service.TheVariants.{Execute}
 pub use Rattle.dm_linkupdate.proofs.Lawful.{applied_lawful}
 pub use Rattle.dm_linkupdate.specs.Notice.{is_told_back, update_of}
-pub use Rattle.dm_statebytes.proofs.Names.{Ready}
+pub use Rattle.dm_statebytes.proofs.Names.{OnOk, Ready, append_assoc}
 unfoldable pub use Rattle.dm_statebytes.specs.Shell.{registers, shell_of_bytes, shell_spelling}
 pub use Rattle.dm_migrate.proofs.Messages.{lawful_all}
 pub use Rattle.dm_migrate.proofs.Names.{All, All-append, All-cons, All-map, Arrival, Asker, Departure, Err, HasChunk, IfOk, IsLawfulMessage, IsLawfulProcess, IsLawfulStatus, IsMachine, List, Message, None, Ok, Process, Result, Some, What}
@@ -77,17 +83,19 @@ pub use Rattle.dm_line.specs.declared.line.Line.{Line}
 pub use Rattle.dm_kernel.proofs.All.{with_all}
 pub use Rattle.dm_kernel.specs.Asking.{asks_manager, asks_move, told_to_move}
 pub use Rattle.dm_kernel.specs.Begun.{begins_process, child_of, empty, opened, room_of, with_child}
-pub use Rattle.dm_kernel.specs.Coming.{accepts, answers_ask, calling_off, calls_arriving_off, calls_off, hears_piece, holds_arriving, is_not_called, restarts, restarts_as, says_stale, takes_piece, took_piece, turns_back, without_arriving}
+pub use Rattle.dm_kernel.specs.Burying.{after_end, buries, ends_with, hears_bury, preds_of, with_told}
+pub use Rattle.dm_kernel.specs.Coming.{accepts, answers_ask, calling_off, calls_arriving_off, calls_off, hears_piece, holds_arriving, if_expected, is_expected, is_not_called, piece_line, restarts, restarts_as, says_stale, takes_piece}
+pub use Rattle.dm_kernel.specs.Coming.{took_piece, turns_back, without_arriving}
 pub use Rattle.dm_kernel.specs.Departing.{asked_to_move, freezes, freezing, gives_piece, holds_leaving, leaves, migrates, stays, tells_asker, with_frozen}
 pub use Rattle.dm_kernel.specs.Following.{board_follows, forwards, forwards_and, manager_follows, process_follows}
 pub use Rattle.dm_kernel.specs.Handle.{answers_with, board_handles, board_took, ended_handles, handles, here_handles, kernel_handles, lands, lands_as, makes, makes_of, manager_handles, manager_took, next_pid, process_handles, routes}
-pub use Rattle.dm_kernel.specs.Handle.{server_handles, told_board, told_manager}
+pub use Rattle.dm_kernel.specs.Handle.{told_board, told_manager, unknown_handles}
 pub use Rattle.dm_kernel.specs.Lawful.{AreLawful, IsLawfulArrival, IsLawfulAsker, IsLawfulDeparture, IsLawfulKnown, IsLawfulPair, IsLawfulPart, IsLawfulRoom, IsLawfulState, IsLawfulTurned}
-pub use Rattle.dm_kernel.specs.May.{FitsBoardWhat, FitsEnded, FitsHere, FitsKernel, FitsKnown, FitsManager, FitsManagerWhat, FitsServer, FrontMay, IsSuch, MayAct, MayHandle, MayRestart, MayTurn, most}
-pub use Rattle.dm_kernel.specs.Meets.{Answers, IsIn, MeetsSome, kernel_state}
+pub use Rattle.dm_kernel.specs.May.{CanTellAll, FitsBoardWhat, FitsEnded, FitsHere, FitsKernel, FitsKnown, FitsManager, FitsManagerWhat, FitsUnknown, FrontMay, IsSuch, MayAct, MayHandle, MayRestart, MayTurn, most}
+pub use Rattle.dm_kernel.specs.Meets.{Answers, IsIn, Meets, MeetsSome, kernel_state}
 pub use Rattle.dm_kernel.specs.Serve.{Ran, after_row, called_with, completed_label, does, ends, executes, halts, one_more, processor_of, ran, received, received_by, receives, serves, serves_status, with_machine}
-pub use Rattle.dm_kernel.specs.Served.{Executes, HasPlace, IsHere, Receives, Serves}
-pub use Rattle.dm_kernel.specs.State.{KernelKnown, KernelState, Turned, before_turn, blocks_of, drops, own, own_id, says, turned, with_here, with_sent, without_process}
+pub use Rattle.dm_kernel.specs.Served.{Executes, IsHere, Receives, Serves}
+pub use Rattle.dm_kernel.specs.State.{KernelKnown, KernelState, Turned, before_turn, blocks_of, drops, forgets, own, own_id, preceded, says, turned, with_here, with_known, with_sent, without_process}
 pub use Rattle.dm_kernel.specs.Turn.{first_runnable, goes_round, known_is_runnable, turn, turns}
 pub use Rattle.dm_kernel.specs.declared.kernel.Kernel.{Kernel}
 pub use Rattle.dm_kernel.specs.declared.kernel.Servers.{Servers}

@@ -9,6 +9,7 @@ is_state k s h =
     λ i. record {
       here = h.here i;
       records = λ q. h.records q i;
+      preds = λ q n. h.preds q n i;
       ring = h.ring i;
       inbox = h.inbox i;
       made = h.made i;

@@ -43,11 +43,12 @@ received_at s p x mask place m d t at e =
     ∙ ap (receives s p x mask) (sym at ∙ t.first)
 
 -- a kernel that is in a state, and says one thing
-is_in : (k : Kernel) (s : KernelState) → kernel_state k ≡ s → IsIn k s
+pub is_in : (k : Kernel) (s : KernelState) → kernel_state k ≡ s → IsIn k s
 is_in k s e =
     record {
       here = ap (λ (t : KernelState). t.here) e;
       records = λ q. ap (λ (t : KernelState). t.records q) e;
+      preds = λ q n. ap (λ (t : KernelState). t.preds q n) e;
       ring = ap (λ (t : KernelState). t.ring) e;
       inbox = ap (λ (t : KernelState). t.inbox) e;
       made = ap (λ (t : KernelState). t.made) e;

@@ -1,5 +1,6 @@
 -- A worked case, computed: what one machine's kernel says in eight turns, where all that it routes comes to itself.
 use Rattle.dm_kernel.proofs.Names.{◌≡◌, ℕ, zero, suc, List, [], ◌∷◌, ◌++◌, map, refl, false, Option, General, pid_of, Message, id_of, kind_of, instruction, Boot, One, bind, Line, Part, Says, Routes, opened, KernelState, Turned, turn}
+use Rattle.dm_kernel.proofs.Names.{machines_with}
 use Rattle.std.specs.declared.option.Option.TheVariants.{Some}
 use Rattle.dm_message.specs.declared.kind.MessageKind.TheVariants as kind
 use Rattle.dm_onekernel.specs.declared.label.Label.TheVariants as label
@@ -54,5 +55,5 @@ said =
     ∷ []
 
 pub eight_turns : groups 8 hi (opened hi 0) ≡ Some said
-unfolding instruction
+unfolding instruction machines_with
 eight_turns = refl

@@ -1,5 +1,5 @@
 -- A machine as the boot file has it, and the processes that begin on it.
-use Rattle.std.specs.Prelude.{ℕ, ◌+◌, ◌==◌, if◌then◌else◌, List, [], ◌∷◌, ◌++◌, fold, slice_get}
+use Rattle.std.specs.Prelude.{ℕ, ◌+◌, ◌==◌, false, if◌then◌else◌, List, [], ◌∷◌, ◌++◌, fold, slice_get}
 use Rattle.std.specs.declared.option.Option.{Option}
 use Rattle.std.specs.declared.option.Option.TheVariants.{None, Some}
 use Rattle.dm_link.specs.declared.Link.{Link}
@@ -51,6 +51,7 @@ empty b m =
     record {
       here = m;
       records = λ p. None;
+      preds = λ p n. false;
       ring = [];
       inbox = [];
       made = 0;

@@ -6,7 +6,7 @@ use Rattle.dm_link.specs.Names.{pid_eq}
 use Rattle.dm_message.specs.declared.Message.{Message}
 use Rattle.dm_message.specs.declared.What.{What}
 use Rattle.dm_message.specs.declared.What.TheVariants as what
-use Rattle.dm_records.specs.declared.record.Record.TheVariants.{Here, Frozen, Incoming, Forward, Ended}
+use Rattle.dm_records.specs.declared.record.Record.TheVariants.{Here, Frozen, Incoming, Forward}
 use Rattle.dm_migrate.specs.Departure.{CanMove}
 use Rattle.dm_onekernel.specs.Boot.{switchboard, manager}
 use Rattle.dm_kernel.specs.State.{KernelState, KernelKnown}
@@ -47,7 +47,6 @@ KnownIsWhole here w (Some (Here x)) = WhereSentOff here w (CanMove x)
 KnownIsWhole here w (Some (Frozen leaving)) = ⊤
 KnownIsWhole here w (Some (Incoming arriving)) = ⊤
 KnownIsWhole here w (Some (Forward machine moves)) = ⊤
-KnownIsWhole here w (Some Ended) = ⊤
 
 -- so it is with the receiver of a message, if that is no kernel and no server
 abbrev pub FreezesReceiverWhole : KernelState → Message → Type 0

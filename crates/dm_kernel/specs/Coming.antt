@@ -24,13 +24,14 @@ use Rattle.dm_line.specs.declared.line.Line.TheVariants as line
 use Rattle.dm_line.specs.declared.line.Stage.TheVariants as stage
 use Rattle.dm_kernel.specs.declared.part.Part.{Part}
 use Rattle.dm_kernel.specs.declared.part.Part.TheVariants.{Says, Routes}
-use Rattle.dm_kernel.specs.State.{KernelState, Turned, own, turned, with_known, with_sent}
+use Rattle.dm_kernel.specs.State.{KernelState, Turned, own, preceded, turned, with_known, with_sent}
 use Rattle.dm_kernel.specs.Departing.{takes_step, tells_asker}
 
--- a process asks to come: its slot and its blocks are taken, and its first chunk is asked for; or what is free is said
+-- a process asks to come: its slot and its blocks are taken, the machine that it comes from is a predecessor, and its first chunk is
+-- asked for; or what is free is said
 abbrev pub with_expected : Boot → KernelState → Pid → ℕ → ℕ → ℕ → ℕ → Option Asker → KernelState
 with_expected b s p source blocks moves size asker =
-    record s { records = with_record s.records p (Incoming (expected p source blocks moves size asker (slots_of b.format))); room = with_reserved s.room blocks }
+    record (preceded s p source) { records = with_record s.records p (Incoming (expected p source blocks moves size asker (slots_of b.format))); room = with_reserved s.room blocks }
 
 abbrev pub accepts : Boot → KernelState → Message → Pid → ℕ → ℕ → ℕ → Option Asker → Bool → Option Turned
 accepts b s m p blocks moves size asker true =

@@ -10,7 +10,7 @@ use Rattle.dm_message.specs.declared.What.{What}
 use Rattle.dm_message.specs.declared.What.TheVariants as what
 use Rattle.dm_process.specs.declared.process.Process.{Process}
 use Rattle.dm_room.specs.Room.{Taken, free_slots, free_blocks}
-use Rattle.dm_records.specs.declared.record.Record.TheVariants.{Here, Frozen, Incoming, Forward, Ended}
+use Rattle.dm_records.specs.declared.record.Record.TheVariants.{Here, Frozen, Incoming, Forward}
 use Rattle.dm_records.specs.Records.{frozen_of, incoming_of}
 use Rattle.dm_migrate.specs.Pieces.{block_of, chunk_of, state_of}
 use Rattle.dm_datamove.specs.declared.Landed.{Landed}
@@ -33,7 +33,8 @@ use Rattle.dm_kernel.specs.declared.kernel.Servers.{Servers}
 use Rattle.dm_kernel.specs.Coming.{answers_ask, hears_piece, holds_arriving, restarts}
 use Rattle.dm_kernel.specs.Departing.{asked_to_move, gives_piece, holds_leaving, leaves, migrates, stays}
 use Rattle.dm_kernel.specs.Following.{board_follows, forwards, manager_follows, process_follows, updated}
-use Rattle.dm_kernel.specs.State.{KernelState, KernelKnown, Turned, turned, says, with_here, without_process, drops}
+use Rattle.dm_kernel.specs.State.{KernelState, KernelKnown, Turned, preceded, turned, says, with_here}
+use Rattle.dm_kernel.specs.Burying.{after_end, ends_with, hears_bury}
 
 -- a process that is here: its queue takes user messages
 abbrev pub queued : Process → Message → Process
@@ -44,7 +45,7 @@ abbrev pub served_as : KernelState → Message → Process → Option Turned
 served_as s m x = turned (with_here s m.to.pid x) (says (label.Served m.id) ∷ [])
 
 abbrev pub killed : KernelState → Message → Process → Option Turned
-killed s m x = turned (without_process s m.to.pid x why.Killed) (says (label.Served m.id) ∷ drops x.queue)
+killed s m x = turned (after_end s m.to.pid x why.Killed) (says (label.Served m.id) ∷ ends_with s m.to.pid x)
 
 -- a piece of its memory is read or written, and that is answered
 abbrev pub answers_with : KernelState → Message → Process → Option Message → Option Turned
@@ -143,7 +144,7 @@ abbrev pub makes_of : Boot → KernelState → Message → List Link → Option 
 makes_of b s m links None = None
 makes_of b s m links (Some i) = makes b s m links i (has_room s.room i.blocks)
 
--- a message for the kernel itself, a row a kind
+-- a message for the kernel itself, a row a kind; who calls a migration off sends on to this machine from now on
 abbrev pub kernel_handles : Boot → KernelState → Message → What → Option Turned
 kernel_handles b s m (what.Create image links) = makes_of b s m links.items (slice_get b.images image)
 kernel_handles b s m (what.User code channel body links) = None
@@ -169,8 +170,8 @@ kernel_handles b s m (what.AllTaken pid) = bind (frozen_of (s.records pid)) (lea
 kernel_handles b s m (what.Restart pid) = bind (incoming_of (s.records pid)) (restarts s pid)
 kernel_handles b s m (what.Move machine) = None
 kernel_handles b s m (what.Moved outcome) = None
-kernel_handles b s m (what.CallOff pid) = bind (frozen_of (s.records pid)) (stays s pid)
-kernel_handles b s m (what.Bury pid) = None
+kernel_handles b s m (what.CallOff pid) = bind (frozen_of (s.records pid)) (stays (preceded s pid m.id.from.home) pid)
+kernel_handles b s m (what.Bury pid) = hears_bury s m pid
 
 -- a server takes a message, and sends at most one; what it doesn't take is an update, and its links follow a process
 abbrev pub routes : Option Message → List Part
@@ -201,21 +202,20 @@ abbrev pub manager_handles : KernelState → Message → Option Servers → Opti
 manager_handles s m None = None
 manager_handles s m (Some v) = manager_took s m v (manage.takes s.here v.manager m.id.n m.what)
 
--- a server has no record where it is
-abbrev pub server_handles : KernelState → Message → Option Turned
-server_handles s m =
+-- without a record the receiver is a server, which has none where it is, or has ended
+abbrev pub unknown_handles : KernelState → Message → Option Turned
+unknown_handles s m =
     if pid_eq m.to.pid switchboard then board_handles s m s.servers
     else if pid_eq m.to.pid manager then manager_handles s m s.servers
-    else None
+    else ended_handles s m m.what
 
 -- by what is known of the receiver
 abbrev pub process_handles : KernelState → Message → Option KernelKnown → Option Turned
-process_handles s m None = server_handles s m
+process_handles s m None = unknown_handles s m
 process_handles s m (Some (Here x)) = here_handles s m x m.what
 process_handles s m (Some (Frozen leaving)) = holds_leaving s m leaving
 process_handles s m (Some (Incoming arriving)) = holds_arriving s m arriving
 process_handles s m (Some (Forward machine moves)) = forwards s m machine moves
-process_handles s m (Some Ended) = ended_handles s m m.what
 
 -- the receiver is a kernel, or a server or another process
 abbrev pub handles : Boot → KernelState → Message → Option Turned

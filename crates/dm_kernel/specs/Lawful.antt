@@ -9,7 +9,7 @@ use Rattle.dm_message.specs.declared.Asker.{Asker}
 use Rattle.dm_message.specs.Lawful.{IsLawfulMessage}
 use Rattle.dm_process.specs.Lawful.{IsLawfulProcess}
 use Rattle.dm_room.specs.Room.{Taken}
-use Rattle.dm_records.specs.declared.record.Record.TheVariants.{Here, Frozen, Incoming, Forward, Ended}
+use Rattle.dm_records.specs.declared.record.Record.TheVariants.{Here, Frozen, Incoming, Forward}
 use Rattle.dm_migrate.specs.Arrival.{Arrival}
 use Rattle.dm_migrate.specs.Departure.{Departure}
 use Rattle.dm_switchboard.specs.Lawful.{IsLawfulBoard}
@@ -47,7 +47,6 @@ IsLawfulKnown (Here x) = IsLawfulProcess x
 IsLawfulKnown (Frozen d) = IsLawfulDeparture d
 IsLawfulKnown (Incoming a) = IsLawfulArrival a
 IsLawfulKnown (Forward machine moves) = IsMachine machine
-IsLawfulKnown Ended = Unit {0}
 
 -- no machine has more than packets can tell of
 pub record IsLawfulRoom (r : Taken) : Type 0 where

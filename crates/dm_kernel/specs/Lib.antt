@@ -1,5 +1,6 @@
 pub mod State
 pub mod Begun
+pub mod Burying
 pub mod Serve
 pub mod Departing
 pub mod Coming

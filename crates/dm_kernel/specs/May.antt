@@ -1,5 +1,5 @@
 -- What a machine's turn counts on, as every machine of a good run has it.
-use Rattle.std.specs.Prelude.{◌≡◌, ⊤, ℕ, ◌+◌, ◌^◌, ◌<◌, ◌==◌, ◌||◌, true, false, List, [], ◌∷◌, length, IsSome}
+use Rattle.std.specs.Prelude.{◌≡◌, ⊤, ℕ, ◌+◌, ◌^◌, ◌<◌, ◌≤◌, ◌==◌, ◌||◌, true, false, List, [], ◌∷◌, length, IsSome}
 use Rattle.std.specs.Option.{IfSome}
 use Rattle.std.specs.declared.option.Option.{Option}
 use Rattle.std.specs.declared.option.Option.TheVariants.{None, Some}
@@ -12,7 +12,7 @@ use Rattle.dm_message.specs.Lawful.{IsLawfulMessage, IsServer}
 use Rattle.dm_process.specs.declared.process.Process.{Process}
 use Rattle.dm_process.specs.Lawful.{IsLawfulProcess}
 use Rattle.dm_room.specs.Room.{HasTaken, Taken}
-use Rattle.dm_records.specs.declared.record.Record.TheVariants.{Here, Frozen, Incoming, Forward, Ended}
+use Rattle.dm_records.specs.declared.record.Record.TheVariants.{Here, Frozen, Incoming, Forward}
 use Rattle.dm_records.specs.Records.{frozen_of, incoming_of}
 use Rattle.dm_migrate.specs.declared.arriving.Wanted.TheVariants.{Nothing}
 use Rattle.dm_migrate.specs.Answer.{IsAskOfProcess}
@@ -32,6 +32,10 @@ use Rattle.dm_kernel.specs.State.{KernelKnown, KernelState, blocks_of}
 abbrev pub most : ℕ
 most = 4294967295
 
+-- the kernel can send a message to each machine
+abbrev pub CanTellAll : KernelState → Type 0
+CanTellAll s = s.sent + 16 ≤ most
+
 -- a process that is here bears its name, can be carried, can count one more message, and has its slot and its blocks
 pub record MayAct (s : KernelState) (p : Pid) (x : Process) : Type 0 where
   pub pid : x.pid ≡ p
@@ -39,13 +43,13 @@ pub record MayAct (s : KernelState) (p : Pid) (x : Process) : Type 0 where
   pub sent : x.sent < most
   pub room : HasTaken s.room (blocks_of x)
 
--- a message for a process that is here, a row a kind: a piece lies in its memory, an answer is the one that it waits for,
--- it can move once more; a message that the kernel sends itself can be counted
+-- a message for a process that is here, a row a kind: others can be told where it is killed, a piece lies in its memory, an answer is the
+-- one that it waits for, it can move once more; a message that the kernel sends itself can be counted
 abbrev pub FitsHere : KernelState → Message → Process → What → Type 0
 FitsHere s m x (what.User code channel body links) = ⊤
 FitsHere s m x what.Stop = ⊤
 FitsHere s m x what.Resume = ⊤
-FitsHere s m x what.Kill = ⊤
+FitsHere s m x what.Kill = CanTellAll s
 FitsHere s m x (what.Read base len) = IsWithin (length x.memory) m.what
 FitsHere s m x (what.Write base bytes) = IsWithin (length x.memory) m.what
 FitsHere s m x (what.Block bytes) = IsAwaited x.status m
@@ -95,7 +99,8 @@ FitsPiece s m w a = is_expected a m.id.from.home ≡ true → IsSuch (λ x. IsNe
 
 -- a kernel is asked for a process of an image that there is; a process that can move once more asks to come; and of a
 -- migration that is under way the next message comes: to where the process leaves, an answer to the ask, or a piece is asked
--- for that there is, or the migration is called off; to where it comes, the piece that was asked for, or it may go on
+-- for that there is, or the migration is called off; to where it comes, the piece that was asked for, or it may go on. Where a process
+-- has ended others can be told
 abbrev pub FitsKernel : Boot → KernelState → Message → What → Type 0
 FitsKernel b s m (what.Create image links) = (image < length b.images) × (first_number + s.made < most)
 FitsKernel b s m (what.Ask pid blocks moves size asker) = IsAskOfProcess (what.Ask pid blocks moves size asker) × (s.sent < most)
@@ -107,6 +112,7 @@ FitsKernel b s m (what.Memory pid block bytes) = FitsPiece s m (what.Memory pid 
 FitsKernel b s m (what.AllTaken pid) = IsSuch (MayLeave s.room) (frozen_of (s.records pid)) × (s.sent < most)
 FitsKernel b s m (what.Restart pid) = IsSuch MayRestart (incoming_of (s.records pid))
 FitsKernel b s m (what.CallOff pid) = IsSome (frozen_of (s.records pid))
+FitsKernel b s m (what.Bury pid) = CanTellAll s
 FitsKernel b s m w = ⊥
 
 -- a server takes a message that is one for it, and can send one more; the addresses that it keeps can be counted
@@ -127,20 +133,19 @@ abbrev pub FitsManager : Message → Option Servers → Type 0
 FitsManager m None = ⊥
 FitsManager m (Some v) = FitsManagerWhat v m.id.n m.what
 
--- a message for a server, which has no record where it is
-pub record FitsServer (s : KernelState) (m : Message) : Type 0 where
-  pub server : (pid_eq m.to.pid switchboard || pid_eq m.to.pid manager) ≡ true
+-- a message whose receiver has no record: a server, which has none where it is, or a process that has ended
+pub record FitsUnknown (s : KernelState) (m : Message) : Type 0 where
+  pub ended : (pid_eq m.to.pid switchboard || pid_eq m.to.pid manager) ≡ false → FitsEnded m.what
   pub board : pid_eq m.to.pid switchboard ≡ true → FitsBoard m s.servers
   pub manager : pid_eq m.to.pid manager ≡ true → FitsManager m s.servers
 
--- something is known of the receiver, or it is a server; what it may get waits or goes on where it leaves, comes or has gone
+-- what the receiver may get waits or goes on where it leaves, comes or has gone
 abbrev pub FitsKnown : KernelState → Message → Option KernelKnown → Type 0
-FitsKnown s m None = FitsServer s m
+FitsKnown s m None = FitsUnknown s m
 FitsKnown s m (Some (Here x)) = FitsHere s m x m.what
 FitsKnown s m (Some (Frozen leaving)) = ⊤
 FitsKnown s m (Some (Incoming arriving)) = ⊤
 FitsKnown s m (Some (Forward machine moves)) = s.sent < most
-FitsKnown s m (Some Ended) = FitsEnded m.what
 
 pub record MayHandle (b : Boot) (s : KernelState) (m : Message) : Type 0 where
   pub lawful : IsLawfulMessage m
@@ -155,6 +160,7 @@ FrontMay b s (m ∷ rest) = MayHandle b s m
 
 pub record MayTurn (b : Boot) (s : KernelState) : Type 0 where
   pub here : s.here < 16
+  pub sent : CanTellAll s
   pub processes : (p : Pid) (x : Process) → s.records p ≡ Some (Here x) → MayAct s p x
   pub front : FrontMay b s s.inbox
 

@@ -1,5 +1,5 @@
 -- The kernel of the code, over the plain one.
-use Rattle.std.specs.Prelude.{◌≡◌, ⊤, List, Vec}
+use Rattle.std.specs.Prelude.{◌≡◌, ℕ, ⊤, List, Vec}
 use Rattle.std.specs.declared.alloc.Global.{Global}
 use Rattle.std.specs.declared.option.Option.{Option}
 use Rattle.std.specs.declared.option.Option.TheVariants.{None, Some}
@@ -7,7 +7,7 @@ use Rattle.std.specs.declared.result.Result.{Result}
 use Rattle.std.specs.declared.result.Result.TheVariants.{Ok, Err}
 use Rattle.dm_link.specs.declared.Pid.{Pid}
 use Rattle.dm_memory.specs.declared.NoMemory.{NoMemory}
-use Rattle.dm_records.specs.Records.{at}
+use Rattle.dm_records.specs.Records.{at, pred_at}
 use Rattle.dm_kernel.specs.declared.kernel.Kernel.{Kernel}
 use Rattle.dm_kernel.specs.declared.part.Part.{Part}
 use Rattle.dm_kernel.specs.State.{KernelState, Turned}
@@ -17,6 +17,7 @@ pub use Rattle.dm_kernel.specs.Code.{kernel_state}
 pub record IsIn (k : Kernel) (s : KernelState) : Type 0 where
   pub here : k.here ≡ s.here
   pub records : (q : Pid) → at k.records q ≡ s.records q
+  pub preds : (q : Pid) (n : ℕ) → pred_at k.records q n ≡ s.preds q n
   pub ring : k.ring ≡ s.ring
   pub inbox : k.inbox ≡ s.inbox
   pub made : k.made ≡ s.made

@@ -25,8 +25,9 @@ use Rattle.dm_syscall.specs.Completing.{Completion, completion}
 use Rattle.dm_kernel.specs.declared.part.Part.TheVariants.{Routes}
 use Rattle.dm_kernel.specs.declared.run.Halt.{Halt}
 use Rattle.dm_kernel.specs.declared.run.Halt.TheVariants as halt
-use Rattle.dm_records.specs.declared.record.Record.TheVariants.{Here, Frozen, Incoming, Forward, Ended}
-use Rattle.dm_kernel.specs.State.{KernelState, KernelKnown, Turned, turned, says, with_here, without_process, drops}
+use Rattle.dm_records.specs.declared.record.Record.TheVariants.{Here, Frozen, Incoming, Forward}
+use Rattle.dm_kernel.specs.State.{KernelState, KernelKnown, Turned, turned, says, with_here}
+use Rattle.dm_kernel.specs.Burying.{after_end, ends_with}
 
 -- how far a process comes in a turn, and why it comes no further
 pub record Ran : Type 0 where
@@ -55,7 +56,7 @@ with_machine x m = record x { regs = m.regs; memory = m.bytes }
 
 -- the process x of a kernel that has it here ends
 abbrev pub ends : KernelState → Pid → ℕ → Process → Why → Option Turned
-ends s p k x y = turned (without_process s p x y) (says (label.Ran p k) ∷ says (label.End p y) ∷ drops x.queue)
+ends s p k x y = turned (after_end s p x y) (says (label.Ran p k) ∷ says (label.End p y) ∷ ends_with s p x)
 
 -- what a call came to, a row an outcome; the kernel has the process as it is after the call
 abbrev pub called_with : KernelState → Pid → ℕ → ℕ → Process → Called → Option Turned
@@ -108,4 +109,3 @@ serves quantum s p (Some (Here x)) = serves_status quantum s p x x.status
 serves quantum s p (Some (Frozen leaving)) = None
 serves quantum s p (Some (Incoming arriving)) = None
 serves quantum s p (Some (Forward machine moves)) = None
-serves quantum s p (Some Ended) = None

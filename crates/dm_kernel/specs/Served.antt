@@ -8,14 +8,14 @@ use Rattle.dm_process.specs.declared.process.Process.{Process}
 use Rattle.dm_process.specs.Service.{IsServiceOf, Takes}
 use Rattle.dm_process.specs.declared.process.Service.{Service}
 use Rattle.dm_process.specs.declared.process.Status.TheVariants.{Ready}
-use Rattle.dm_records.specs.declared.record.Record.TheVariants.{Here, Frozen, Incoming, Forward, Ended}
+use Rattle.dm_records.specs.declared.record.Record.TheVariants.{Here, Frozen, Incoming, Forward}
 use Rattle.dm_room.specs.Room.{HasTaken, Taken}
 use Rattle.dm_kernel.specs.State.{KernelKnown, KernelState, blocks_of}
 use Rattle.dm_process.specs.Lawful.{IsLawfulProcess}
 use Rattle.dm_datamove.specs.Serving.{IsWithin}
 use Rattle.dm_datamove.specs.Landing.{IsAwaited}
 use Rattle.dm_migrate.specs.Departure.{Departure}
-use Rattle.dm_kernel.specs.May.{MayAct, MayLeave, FitsHere, most}
+use Rattle.dm_kernel.specs.May.{CanTellAll, MayAct, MayLeave, FitsHere, most}
 
 -- it is here, and this holds of it
 abbrev pub IsHere : (Process → Type 0) → Option KernelKnown → Type 0
@@ -24,20 +24,22 @@ IsHere P (Some (Here x)) = P x
 IsHere P (Some (Frozen leaving)) = ⊥
 IsHere P (Some (Incoming arriving)) = ⊥
 IsHere P (Some (Forward machine moves)) = ⊥
-IsHere P (Some Ended) = ⊥
 
--- it is here, and has its slot and its blocks
+-- it is here, and has its slot and its blocks; where it ends others can be told
 pub record HasPlace (s : KernelState) (x : Process) : Type 0 where
+  pub sent : CanTellAll s
   pub room : HasTaken s.room (blocks_of x)
 
 -- it is here, and can be served so
 pub record Serves (s : KernelState) (p : Pid) (service : Service) (x : Process) : Type 0 where
   pub acts : MayAct s p x
+  pub sent : CanTellAll s
   pub does : IsServiceOf x service
 
 -- it is here, and ready
 pub record Executes (s : KernelState) (p : Pid) (x : Process) : Type 0 where
   pub acts : MayAct s p x
+  pub sent : CanTellAll s
   pub ready : x.status ≡ Ready
 
 -- it is here, and waits for the message at this place of its queue

@@ -1,5 +1,5 @@
 -- The kernel of one machine over plain functions and lists, and what an event gives.
-use Rattle.std.specs.Prelude.{ℕ, ◌+◌, ◌/◌, false, List, length, map}
+use Rattle.std.specs.Prelude.{ℕ, ◌+◌, ◌/◌, Bool, false, List, length, map}
 use Rattle.std.specs.declared.option.Option.{Option}
 use Rattle.std.specs.declared.option.Option.TheVariants.{None, Some}
 use Rattle.dm_link.specs.declared.Addr.{Addr}
@@ -12,8 +12,8 @@ use Rattle.dm_message.specs.declared.What.{What}
 use Rattle.dm_process.specs.declared.process.Process.{Process}
 use Rattle.dm_room.specs.Room.{Taken, with_released}
 use Rattle.dm_records.specs.declared.record.Record as record_
-use Rattle.dm_records.specs.declared.record.Record.TheVariants.{Here, Ended}
-use Rattle.dm_records.specs.Records.{with_record}
+use Rattle.dm_records.specs.declared.record.Record.TheVariants.{Here}
+use Rattle.dm_records.specs.Records.{with_pred, with_record, without_preds, without_record}
 use Rattle.dm_migrate.specs.Departure.{Departure}
 use Rattle.dm_migrate.specs.Arrival.{Arrival}
 use Rattle.dm_onekernel.specs.declared.label.Label.{Label}
@@ -32,6 +32,8 @@ KernelKnown = record_.Record Process Departure Arrival
 pub record KernelState : Type 0 where
   pub here : ℕ
   pub records : Pid → Option KernelKnown
+  -- the predecessors of each process: the machines that may send on to this one what comes for it
+  pub preds : Pid → ℕ → Bool
   -- the processes that are served, in order
   pub ring : List Pid
   -- the messages that have come and wait to be handled
@@ -63,17 +65,21 @@ with_here s p x = record s { records = with_record s.records p (Here x) }
 abbrev pub blocks_of : Process → ℕ
 blocks_of x = length x.memory / 256
 
--- a process that ends leaves the ring, its slot and its blocks, and its queue goes message by message; the kernel says why
+-- the queue of a process that ends goes message by message
 abbrev pub dropped : Message → Part
 dropped m = says (label.Dropped m.id)
 
 abbrev pub drops : List Message → List Part
 drops ms = map dropped ms
 
+-- nothing is known of a process any more
+abbrev pub forgets : KernelState → Pid → KernelState
+forgets s p = record s { records = without_record s.records p; preds = without_preds s.preds p }
+
+-- a process that ends leaves the ring, its slot and its blocks, and is forgotten; the kernel says why it ended
 abbrev pub without_process : KernelState → Pid → Process → Why → KernelState
 without_process s p x y =
-    record s {
-      records = with_record s.records p Ended;
+    record (forgets s p) {
       ring = without p s.ring;
       room = with_released s.room (blocks_of x);
       over = Some (p, y);
@@ -82,6 +88,10 @@ without_process s p x y =
 -- nobody has ended yet, as it is before a turn
 abbrev pub before_turn : KernelState → KernelState
 before_turn s = record s { over = None }
+
+-- one machine more may send on to this one what comes for a process
+abbrev pub preceded : KernelState → Pid → ℕ → KernelState
+preceded s p machine = record s { preds = with_pred s.preds p machine }
 
 -- what is known of a process is set
 abbrev pub with_known : KernelState → Pid → KernelKnown → KernelState

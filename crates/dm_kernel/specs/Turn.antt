@@ -6,7 +6,7 @@ use Rattle.std.specs.declared.option.Option.TheVariants.{None, Some}
 use Rattle.dm_link.specs.declared.Pid.{Pid}
 use Rattle.dm_message.specs.declared.Message.{Message}
 use Rattle.dm_process.specs.Process.{is_runnable}
-use Rattle.dm_records.specs.declared.record.Record.TheVariants.{Here, Frozen, Incoming, Forward, Ended}
+use Rattle.dm_records.specs.declared.record.Record.TheVariants.{Here, Frozen, Incoming, Forward}
 use Rattle.dm_onekernel.specs.declared.boot.Boot.{Boot}
 use Rattle.dm_line.specs.declared.line.Line.TheVariants as line
 use Rattle.dm_line.specs.Sets.{moved_back}
@@ -15,14 +15,13 @@ use Rattle.dm_kernel.specs.State.{KernelKnown, KernelState, Turned, before_turn,
 use Rattle.dm_kernel.specs.Serve.{serves}
 use Rattle.dm_kernel.specs.Handle.{handles}
 
--- a process that leaves, comes, has gone or has ended isn't served
+-- a process that leaves, comes or has gone isn't served
 abbrev pub known_is_runnable : Option KernelKnown → Bool
 known_is_runnable None = false
 known_is_runnable (Some (Here x)) = is_runnable x
 known_is_runnable (Some (Frozen leaving)) = false
 known_is_runnable (Some (Incoming arriving)) = false
 known_is_runnable (Some (Forward machine moves)) = false
-known_is_runnable (Some Ended) = false
 
 abbrev pub first_runnable : (Pid → Option KernelKnown) → List Pid → Option Pid
 first_runnable records [] = None

@@ -8,14 +8,14 @@ ghost use Rattle.dm_kernel.specs.Coming.{answers_ask, holds_arriving, if_expecte
 ghost use Rattle.dm_kernel.specs.Departing.{takes_step};
 ghost use Rattle.dm_kernel.specs.May.{IsSuch, MayRestart};
 ghost use Rattle.dm_kernel.specs.Meets.{Answers, IsIn, kernel_state};
-ghost use Rattle.dm_kernel.specs.State.{own, turned, with_known, with_sent};
+ghost use Rattle.dm_kernel.specs.State.{own, preceded, turned, with_known, with_sent};
 ghost use Rattle.dm_line.specs.declared.line.Line.TheVariants as line_;
 ghost use Rattle.dm_line.specs.declared.line.Stage.TheVariants as stage_;
 
 use crate::kernel::Kernel;
 use crate::part::Part;
 use dm_line::line::{Line, Stage};
-use dm_link::Pid;
+use dm_link::{MACHINES, Pid};
 use dm_lists::put_before;
 use dm_memory::{NoMemory, Parcel};
 use dm_message::{Message, MsgId, Outcome, What};
@@ -42,6 +42,7 @@ impl Kernel {
         requires moves { ask.moves < u32.MAX }
         requires size { ask.size ≤ MOST_STATE }
         requires source { ask.source ≡ message.now.id.from.home }
+        requires from { message.now.id.from.home < MACHINES }
         ensures { Answers result self.new (answers_ask boot.now (kernel_state self.old) message.now ask.pid ask.blocks ask.moves ask.size ask.asker) }
     {
         match answer_ask(self.alloc, ask, &mut self.room, boot.format.slots()) {
@@ -51,7 +52,7 @@ impl Kernel {
         }
     }
 
-    /// Lets a process come: its first chunk is asked for.
+    /// Lets a process come: the machine that asked is a predecessor, and the first chunk is asked for.
     fn accept(
         &mut self,
         message: &Message,
@@ -59,11 +60,13 @@ impl Kernel {
         arriving: Arriving,
         pull: What,
     ) -> Result<Vec<Part>, NoMemory>
-        requires { self.old.sent < u32.MAX }
-        ensures { Answers result self.new (turned (with_sent (with_known (kernel_state self.old) pid (Incoming arriving)))
+        requires sent { self.old.sent < u32.MAX }
+        requires from { message.now.id.from.home < MACHINES }
+        ensures { Answers result self.new (turned (with_sent (with_known (preceded (kernel_state self.old) pid message.now.id.from.home) pid (Incoming arriving)))
             (takes_step stage_.Accepted pid ∷ Part.Routes (own (kernel_state self.old) message.now.sender pull) ∷ [])) }
     {
         self.set_known(pid, Record::Incoming(arriving))?;
+        self.records.add_predecessor(pid, message.id.from.home);
         let said = Line::Migration {
             step: Stage::Accepted,
             pid,

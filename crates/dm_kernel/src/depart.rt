@@ -8,7 +8,7 @@ ghost use Rattle.dm_kernel.specs.Departing.{asked_to_move, freezing, gives_piece
 ghost use Rattle.dm_kernel.specs.May.{IsSuch, MayLeave};
 ghost use Rattle.dm_kernel.specs.Meets.{Answers, kernel_state};
 ghost use Rattle.dm_kernel.specs.Served.{CanFreeze, IsHere};
-ghost use Rattle.dm_kernel.specs.State.{turned, with_sent};
+ghost use Rattle.dm_kernel.specs.State.{preceded, turned, with_sent};
 ghost use Rattle.dm_line.specs.declared.line.Line.TheVariants as line_;
 ghost use Rattle.dm_line.specs.declared.line.Stage.TheVariants as stage_;
 
@@ -16,7 +16,7 @@ use crate::kernel::Kernel;
 use crate::part::Part;
 use crate::ring::remove;
 use dm_line::line::{Line, Stage};
-use dm_link::{Addr, Pid};
+use dm_link::{Addr, MACHINES, Pid};
 use dm_memory::{NoMemory, Parcel, list_of, push};
 use dm_message::{Asker, Message, Outcome, What};
 use dm_migrate::{asker_of, freeze, moved_answer, request_of};
@@ -142,6 +142,18 @@ impl Kernel {
         let going = self.records.take_frozen(pid).stay();
         self.go_on(pid, going)?;
         Ok(parts)
+    }
+
+    /// Lets a process that was to leave stay, where the other machine has called its migration off: that one sends on to this one from
+    /// now on.
+    pub(crate) fn stay_behind(&mut self, message: &Message, pid: Pid) -> Result<Vec<Part>, NoMemory>
+        requires leaves { IsSome (frozen_of (at self.old.records pid)) }
+        requires caller { message.now.id.from.home < MACHINES }
+        ensures { Answers result self.new (bind (frozen_of (at self.old.records pid))
+            (stays (preceded (kernel_state self.old) pid message.now.id.from.home) pid)) }
+    {
+        self.records.add_predecessor(pid, message.id.from.home);
+        self.stay(pid)
     }
 
     /// Gives a chunk of the state bytes of a process that leaves.

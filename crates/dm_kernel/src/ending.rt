@@ -1,4 +1,4 @@
-//! How a process ends: it leaves the ring, its slot and its blocks, and its queue goes message by message.
+//! How a process ends: it leaves the ring, its slot and its blocks, its queue goes message by message, and it is forgotten.
 ghost use Rattle.std.specs.Prelude.{◌≡◌, ◌++◌, OnOk};
 ghost use Rattle.dm_records.specs.Records.{at, here_of};
 ghost use Rattle.dm_onekernel.specs.Options.{bind};
@@ -7,7 +7,8 @@ ghost use Rattle.std.specs.Prelude.{Some};
 ghost use Rattle.dm_kernel.specs.Meets.{Answers, IsIn, kernel_state};
 ghost use Rattle.dm_kernel.specs.Serve.{ends};
 ghost use Rattle.dm_kernel.specs.Served.{HasPlace, IsHere};
-ghost use Rattle.dm_kernel.specs.State.{drops, without_process};
+ghost use Rattle.dm_kernel.specs.Burying.{after_end, ends_with};
+ghost use Rattle.dm_kernel.specs.State.{drops};
 
 use crate::kernel::Kernel;
 use crate::part::Part;
@@ -19,7 +20,6 @@ use dm_memory::{NoMemory, list_of, push};
 use dm_message::Message;
 use dm_onekernel::{Label, Why};
 use dm_process::Process;
-use dm_records::Record;
 
 impl Kernel {
     /// Ends a process that has executed so many instructions.
@@ -30,24 +30,29 @@ impl Kernel {
         let ran = Part::Says(Line::Label(Label::Ran { pid, count }));
         let end = Part::Says(Line::Label(Label::End { pid, why }));
         let mut parts = list_of(self.alloc, [ran, end])?;
-        let queue = self.take_out(pid, why);
-        drop_all(queue, &mut parts)?;
+        self.end_behind(pid, why, &mut parts)?;
         Ok(parts)
     }
 
-    /// Takes a process out of the machine, which says that it ended, and why; what waited for it.
-    pub(crate) fn take_out(&mut self, pid: Pid, why: Why) -> Queue<Message>
+    /// Ends a process: behind what is said so far its queue goes message by message, and then its predecessors are told.
+    pub(crate) fn end_behind(
+        &mut self,
+        pid: Pid,
+        why: Why,
+        parts: &mut Vec<Part>,
+    ) -> Result<(), NoMemory>
         requires { IsHere (HasPlace (kernel_state self.old)) (at self.old.records pid) }
-        ensures state { (x : Process) → here_of (at self.old.records pid) ≡ Some x → IsIn self.new (without_process (kernel_state self.old) pid x why) }
-        ensures queue { (x : Process) → here_of (at self.old.records pid) ≡ Some x → result ≡ x.queue }
+        ensures state { (x : Process) → here_of (at self.old.records pid) ≡ Some x → OnOk result (IsIn self.new (after_end (kernel_state self.old) pid x why)) }
+        ensures parts { (x : Process) → here_of (at self.old.records pid) ≡ Some x → OnOk result (parts.new.items ≡ parts.old.items ++ ends_with (kernel_state self.old) pid x) }
     {
-        let process = self.records.take_here(pid);
-        self.records.put_back(pid, Record::Ended);
+        let predecessors = self.records.predecessors(pid);
+        let process = self.records.remove(pid).unwrap().into_here().unwrap();
         self.over = Some((pid, why));
         self.room.release(process.memory.blocks());
         remove(&mut self.ring, pid);
         let Process { queue, .. } = process;
-        queue.into_queue()
+        drop_all(queue.into_queue(), parts)?;
+        self.tell_end(pid, predecessors, parts)
     }
 }
 

@@ -7,8 +7,8 @@ ghost use Rattle.dm_migrate.specs.Departure.{CanMove};
 ghost use Rattle.dm_onekernel.specs.Boot.{images_are_valid};
 ghost use Rattle.dm_onekernel.specs.Options.{bind};
 ghost use Rattle.dm_kernel.specs.Carried.{FreezesReceiverWhole, KnownIsWhole, WhereSentOff};
-ghost use Rattle.dm_kernel.specs.Handle.{ended_handles, handles, here_handles, process_handles, server_handles};
-ghost use Rattle.dm_kernel.specs.May.{FitsEnded, FitsKnown, FitsServer, MayAct, MayHandle};
+ghost use Rattle.dm_kernel.specs.Handle.{ended_handles, handles, here_handles, process_handles, unknown_handles};
+ghost use Rattle.dm_kernel.specs.May.{FitsEnded, FitsKnown, FitsUnknown, MayAct, MayHandle};
 ghost use Rattle.dm_kernel.specs.Meets.{Answers, kernel_state};
 ghost use Rattle.dm_kernel.specs.Served.{Handles, IsHere};
 
@@ -52,7 +52,7 @@ impl Kernel {
         ensures whole { OnOk result (KnownIsWhole self.old.here message.what (at self.old.records message.to.pid)) }
     {
         match self.records.get(message.get().to.pid) {
-            None => self.for_server(message.get()),
+            None => self.for_unknown(message.get()),
             Some(Record::Here(_)) => self.for_here(message),
             Some(Record::Frozen(_)) => self.hold_leaving(message),
             Some(Record::Incoming(_)) => self.hold_arriving(message),
@@ -60,15 +60,15 @@ impl Kernel {
                 let (at, moves) = (*at, *moves);
                 self.forward(message, at, moves)
             }
-            Some(Record::Ended) => self.for_ended(message.get()),
         }
     }
 
-    /// Handles a message for a server, which has no record where it is.
-    fn for_server(&mut self, message: &Message) -> Result<Vec<Part>, NoMemory>
-        requires fits { FitsServer (kernel_state self.old) message.now }
+    /// Handles a message whose receiver has no record: a server, which has none where it is, or a process that has ended.
+    fn for_unknown(&mut self, message: &Message) -> Result<Vec<Part>, NoMemory>
+        requires lawful { IsLawfulMessage message.now }
+        requires fits { FitsUnknown (kernel_state self.old) message.now }
         requires here { self.old.here < MACHINES }
-        ensures { Answers result self.new (server_handles (kernel_state self.old) message.now) }
+        ensures { Answers result self.new (unknown_handles (kernel_state self.old) message.now) }
     {
         let to = message.to.pid;
         if to == SWITCHBOARD {
@@ -76,7 +76,7 @@ impl Kernel {
         } else if to == MANAGER {
             self.for_manager(message)
         } else {
-            unreachable!()
+            self.for_ended(message)
         }
     }
 
@@ -105,7 +105,7 @@ impl Kernel {
         }
     }
 
-    /// Handles a message for a process that has ended here.
+    /// Handles a message for a process that has ended.
     fn for_ended(&self, message: &Message) -> Result<Vec<Part>, NoMemory>
         requires lawful { IsLawfulMessage message.now }
         requires here { self.now.here < MACHINES }

@@ -5,6 +5,7 @@
 mod arrive;
 mod ask;
 mod begin;
+mod bury;
 mod call_off;
 mod depart;
 mod ending;

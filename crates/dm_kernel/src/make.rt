@@ -30,7 +30,7 @@ use dm_room::Lacks;
 use std::alloc::Global;
 
 impl Kernel {
-    /// Handles a message for the machine's kernel: it makes a process, or lets one leave or come.
+    /// Handles a message for the machine's kernel: it makes a process, lets one leave or come, or forgets one.
     pub(crate) fn for_kernel(
         &mut self,
         boot: &Boot,
@@ -74,7 +74,8 @@ impl Kernel {
             What::Memory { pid, block, bytes } => { self.take_block(message, *pid, *block, bytes) }
             What::AllTaken { pid } => self.let_go(*pid),
             What::Restart { pid } => self.restart(*pid),
-            What::CallOff { pid } => self.stay(*pid),
+            What::CallOff { pid } => self.stay_behind(message, *pid),
+            What::Bury { pid } => self.bury(message, *pid),
             // No other kind is sent to a kernel: what a message must fit says so.
             _ => unreachable!(),
         }

@@ -12,7 +12,6 @@ ghost use Rattle.dm_kernel.specs.Meets.{Answers, kernel_state};
 ghost use Rattle.dm_kernel.specs.Served.{AwaitsPiece, HasPlace, IsHere, OwnsPiece};
 ghost use Rattle.dm_kernel.specs.State.{says, turned, with_here};
 
-use crate::ending::drop_all;
 use crate::kernel::Kernel;
 use crate::part::Part;
 use dm_datamove::{Landed, gone, land, serve};
@@ -57,8 +56,7 @@ impl Kernel {
         ensures { Answers result self.new (bind (here_of (at self.old.records message.now.to.pid)) (λ x. killed (kernel_state self.old) message.now x)) }
     {
         let mut parts = self.say_served(message.id)?;
-        let queue = self.take_out(message.to.pid, Why::Killed);
-        drop_all(queue, &mut parts)?;
+        self.end_behind(message.to.pid, Why::Killed, &mut parts)?;
         Ok(parts)
     }
 

@@ -6,7 +6,7 @@ ghost use Rattle.dm_onekernel.specs.Boot.{images_are_valid};
 ghost use Rattle.dm_onekernel.specs.Options.{bind};
 ghost use Rattle.dm_process.specs.Service.{IsServiceOf};
 ghost use Rattle.dm_kernel.specs.Carried.{FreezesWhole};
-ghost use Rattle.dm_kernel.specs.May.{MayAct, MayTurn};
+ghost use Rattle.dm_kernel.specs.May.{CanTellAll, MayAct, MayTurn};
 ghost use Rattle.dm_kernel.specs.Meets.{Answers, kernel_state};
 ghost use Rattle.dm_kernel.specs.Served.{IsHere};
 ghost use Rattle.dm_kernel.specs.Turn.{first_runnable, goes_round, known_is_runnable, turn};
@@ -40,6 +40,7 @@ impl Kernel {
     /// Serves the first process of the ring that can be served, which goes to the ring's back.
     fn go_round(&mut self, boot: &Boot) -> Result<Vec<Part>, NoMemory>
         requires here { self.old.here < MACHINES }
+        requires sent { CanTellAll (kernel_state self.old) }
         requires processes { (p : _) (x : _) → at self.old.records p ≡ Some (Here x) → MayAct (kernel_state self.old) p x }
         ensures { Answers result self.new (goes_round boot.now (kernel_state self.old) (first_runnable (at self.old.records) self.old.ring)) }
     {

@@ -1,10 +1,10 @@
 -- A kernel stays on its machine, whatever a turn gives.
 use Rattle.dm_node.proofs.Names.{before_turn, ◌≡◌, ℕ, ◌==◌, Bool, true, false, List, [], ◌∷◌, refl, ◌∙◌, ⊤, if◌then◌else◌, slice_get, Option, None, Some, Ok, Err, Link, Pid, pid_eq, Message, What, Process, Status, first_on, Here, Frozen}
-use Rattle.dm_node.proofs.Names.{Incoming, Forward, Ended, frozen_of, incoming_of, is_told_back, Asker, kind_of, Arrival, restarted, with_piece, Departure, block_of, chunk_of, bind, has_room_for, Landed, Landing, landing, after_serving}
+use Rattle.dm_node.proofs.Names.{Incoming, Forward, frozen_of, incoming_of, is_told_back, Asker, kind_of, Arrival, restarted, with_piece, Departure, block_of, chunk_of, bind, has_room_for, Landed, Landing, landing, after_serving}
 use Rattle.dm_node.proofs.Names.{serving_answer, Boot, BootImage, BootProcess, manager, switchboard, MoveError, moves_child, moved_back, Called, Completed, calls, Completion, completion, Servers, asks_manager, asks_move, told_to_move}
 use Rattle.dm_node.proofs.Names.{begins_process, child_of, empty, with_all, with_child, accepts, restarts, restarts_as, takes_piece, took_piece, gives_piece, leaves, stays, forwards_and, Halt, answers_with, board_handles, board_took}
 use Rattle.dm_node.proofs.Names.{ended_handles, handles, has_room, here_handles, kernel_handles, lands, lands_as, makes, makes_of, manager_handles, manager_took, process_handles, told_board, told_manager, called_with, halts, processor_of}
-use Rattle.dm_node.proofs.Names.{server_handles, ran, received, received_by, receives, serves, serves_status, with_machine, KernelState, KernelKnown, Turned, own_id, with_here, first_runnable, goes_round, turn, here, node_opened, state_of}
+use Rattle.dm_node.proofs.Names.{preceded, unknown_handles, ran, received, received_by, receives, serves, serves_status, with_machine, KernelState, KernelKnown, Turned, own_id, with_here, first_runnable, goes_round, turn, here, node_opened, state_of}
 use Rattle.dm_node.proofs.Names.{calls_arriving_off, calls_off, hears_piece, is_not_called, says_stale, turns_back, comes_from, is_whole}
 use Rattle.std.specs.declared.result.Result.{Result}
 use Rattle.dm_message.specs.declared.What.TheVariants as what
@@ -65,7 +65,6 @@ serves_stays quantum s p (Some (Here x)) = status_stays quantum s p x x.status
 serves_stays quantum s p (Some (Frozen leaving)) = tt
 serves_stays quantum s p (Some (Incoming arriving)) = tt
 serves_stays quantum s p (Some (Forward place moves)) = tt
-serves_stays quantum s p (Some Ended) = tt
 
 -- a message is handled
 answers_stays : (s : KernelState) (m : Message) (x : Process) (o : Option Message) → StaysAt s.here (answers_with s m x o)
@@ -157,7 +156,8 @@ kernel_stays b s m (what.PullBlock p block) = leaving_stays s (frozen_of (s.reco
 kernel_stays b s m (what.Memory p block bytes) = hears_stays s m p (incoming_of (s.records p))
 kernel_stays b s m (what.AllTaken p) = leaving_stays s (frozen_of (s.records p)) (leaves s p) (λ d. refl)
 kernel_stays b s m (what.Restart p) = arriving_stays s (incoming_of (s.records p)) (restarts s p) (λ a. restart_stays s p a (restarted a))
-kernel_stays b s m (what.CallOff p) = leaving_stays s (frozen_of (s.records p)) (stays s p) (λ d. refl)
+kernel_stays b s m (what.CallOff p) = leaving_stays s (frozen_of (s.records p)) (stays (preceded s p m.id.from.home) p) (λ d. refl)
+kernel_stays b s m (what.Bury p) = refl
 kernel_stays b s m w = tt
 
 told_board_stays : (s : KernelState) (m : Message) (v : Servers) (w : What) → StaysAt s.here (told_board s m v w)
@@ -184,18 +184,17 @@ manager_stays : (s : KernelState) (m : Message) (o : Option Servers) → StaysAt
 manager_stays s m None = tt
 manager_stays s m (Some v) = manager_took_stays s m v (manage.takes s.here v.manager m.id.n m.what)
 
-server_stays : (s : KernelState) (m : Message) → StaysAt s.here (server_handles s m)
-server_stays s m =
-    either s.here (pid_eq m.to.pid switchboard) (board_handles s m s.servers) (if pid_eq m.to.pid manager then manager_handles s m s.servers else None) (board_stays s m s.servers)
-    (either s.here (pid_eq m.to.pid manager) (manager_handles s m s.servers) None (manager_stays s m s.servers) tt)
+unknown_stays : (s : KernelState) (m : Message) → StaysAt s.here (unknown_handles s m)
+unknown_stays s m =
+    either s.here (pid_eq m.to.pid switchboard) (board_handles s m s.servers) (if pid_eq m.to.pid manager then manager_handles s m s.servers else ended_handles s m m.what) (board_stays s m s.servers)
+    (either s.here (pid_eq m.to.pid manager) (manager_handles s m s.servers) (ended_handles s m m.what) (manager_stays s m s.servers) (ended_stays s m m.what))
 
 known_stays : (s : KernelState) (m : Message) (o : Option KernelKnown) → StaysAt s.here (process_handles s m o)
-known_stays s m None = server_stays s m
+known_stays s m None = unknown_stays s m
 known_stays s m (Some (Here x)) = here_stays s m x m.what
 known_stays s m (Some (Frozen leaving)) = refl
 known_stays s m (Some (Incoming arriving)) = refl
 known_stays s m (Some (Forward place moves)) = forwards_stays s m place moves (is_told_back (kind_of m.what))
-known_stays s m (Some Ended) = ended_stays s m m.what
 
 handles_stays : (b : Boot) (s : KernelState) (m : Message) → StaysAt s.here (handles b s m)
 handles_stays b s m = either s.here (m.to.pid.num == 0) (kernel_handles b s m m.what) (process_handles s m (s.records m.to.pid)) (kernel_stays b s m m.what) (known_stays s m (s.records m.to.pid))

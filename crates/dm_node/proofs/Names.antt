@@ -23,13 +23,13 @@ pub use Rattle.dm_syscall.proofs.Names.{All-drop}
 pub use Rattle.dm_line.proofs.Names.{eqb_tells, ◌≢◌}
 pub use Rattle.dm_line.specs.Sets.{at_machine}
 pub use Rattle.dm_kernel.proofs.LawfulTurns.{asked_lawful, called_off_lawful, turn_lawful}
-pub use Rattle.dm_kernel.proofs.Names.{All, All-append, All-cons, All-head, All-nil, All-push, All-tail, Arrival, Asker, Bool, Boot, BootImage, BootProcess, Called, Completed, Completion, Departure, Ended, Err, Forward, Frozen, Here}
+pub use Rattle.dm_kernel.proofs.Names.{All, All-append, All-cons, All-head, All-nil, All-push, All-tail, Arrival, Asker, Bool, Boot, BootImage, BootProcess, Called, Completed, Completion, Departure, Err, Forward, Frozen, Here}
 pub use Rattle.dm_kernel.proofs.Names.{Incoming, IsLawfulMessage, IsLawfulPart, IsLawfulState, IsLawfulTurned, IsMachine, KernelKnown, KernelState, Landed, Landing, Line, Link, List, MeetsSome, Message, MoveError, NoMemory, Ok, Option, Pid}
 pub use Rattle.dm_kernel.proofs.Names.{Process, Status, Turned, What, [], accepts, after_serving, answers_with, ap, arith, asks_manager, asks_move, before_turn, begins_process, bind, block_of, board_handles, board_took, called_with, calls}
 pub use Rattle.dm_kernel.proofs.Names.{calls_arriving_off, calls_off, child_of, chunk_of, comes_from, completion, empty, ended_handles, false, first_on, first_runnable, forwards_and, frozen_of, gives_piece, goes_round, halts, handles}
 pub use Rattle.dm_kernel.proofs.Names.{hears_piece, here_handles, if◌then◌else◌, images_are_valid, incoming_of, inl, inr, into_iter_items, is_not_called, is_some, is_told_back, is_whole, kernel_handles, kind_of, landing, lands, lands_as}
 pub use Rattle.dm_kernel.proofs.Names.{leaves, length, makes, makes_of, manager, manager_handles, manager_took, moved_back, moves_child, own_id, pid_eq, process_handles, processor_of, ran, received, received_by, receives, refl, replicate}
-pub use Rattle.dm_kernel.proofs.Names.{restarts, restarts_as, says_stale, server_handles, serves, serves_status, serving_answer, slice_get, state_of, stays, subst, suc, switchboard, sym, takes_piece, told_board, told_manager, told_to_move}
+pub use Rattle.dm_kernel.proofs.Names.{restarts, restarts_as, says_stale, serves, serves_status, serving_answer, slice_get, state_of, stays, subst, suc, switchboard, sym, takes_piece, told_board, told_manager, told_to_move, preceded, unknown_handles}
 pub use Rattle.dm_kernel.proofs.Names.{took_piece, true, turn, turns_back, with_all, with_child, with_here, with_machine, with_piece, zero, ℕ, ⊤, ◌*◌, ◌++◌, ◌+◌, ◌-◌, ◌<◌, ◌==◌, ◌∙◌, ◌∷◌, ◌≡◌, ◌≤◌}
 pub use Rattle.dm_kernel.specs.Carried.{FreezesWhole}
 pub use Rattle.dm_kernel.specs.Handle.{has_room}

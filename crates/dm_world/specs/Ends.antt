@@ -13,7 +13,7 @@ use Rattle.dm_processor.specs.declared.registers.Regs.{Regs}
 use Rattle.dm_process.specs.declared.process.Process.{Process}
 use Rattle.dm_process.specs.declared.process.Status.{Status}
 use Rattle.dm_process.specs.declared.process.Status.TheVariants as status
-use Rattle.dm_records.specs.declared.record.Record.TheVariants.{Here, Frozen, Incoming, Forward, Ended}
+use Rattle.dm_records.specs.declared.record.Record.TheVariants.{Here, Frozen, Incoming, Forward}
 use Rattle.dm_migrate.specs.Arrival.{Arrival, restarted}
 use Rattle.dm_migrate.specs.declared.arriving.Wanted.{Wanted}
 use Rattle.dm_migrate.specs.declared.arriving.Wanted.TheVariants.{Chunk, Block, Nothing}
@@ -65,7 +65,6 @@ record_lines m p (Some (Here x)) = Some (alive_lines m p standing.Here x)
 record_lines m p (Some (Frozen leaving)) = Some (alive_lines m p standing.Leaving leaving.process)
 record_lines m p (Some (Incoming arriving)) = None
 record_lines m p (Some (Forward machine moves)) = None
-record_lines m p (Some Ended) = None
 
 -- a process that comes is what its pieces make, once all of them have come
 abbrev pub come_whole : Arrival → Wanted → Option Process
@@ -84,7 +83,6 @@ awaited_lines m p (Some (Here x)) = None
 awaited_lines m p (Some (Frozen leaving)) = None
 awaited_lines m p (Some (Incoming arriving)) = come_lines m p (come_whole arriving arriving.wanted)
 awaited_lines m p (Some (Forward machine moves)) = None
-awaited_lines m p (Some Ended) = None
 
 abbrev pub names_of : List Message → List MsgId
 names_of ms = map (λ (m : Message). m.id) ms
@@ -95,7 +93,6 @@ record_queue p (Some (Here x)) = Some (list_line (end.Queue p) (names_of x.queue
 record_queue p (Some (Frozen leaving)) = Some (list_line (end.Queue p) (names_of leaving.process.queue))
 record_queue p (Some (Incoming arriving)) = None
 record_queue p (Some (Forward machine moves)) = None
-record_queue p (Some Ended) = None
 
 -- the messages that a machine holds for a process that leaves or comes
 abbrev pub held_for : Option KernelKnown → List Message
@@ -104,7 +101,6 @@ held_for (Some (Here x)) = []
 held_for (Some (Frozen leaving)) = leaving.held
 held_for (Some (Incoming arriving)) = arriving.held
 held_for (Some (Forward machine moves)) = []
-held_for (Some Ended) = []
 
 abbrev pub held_line : WorldState → ℕ → Pid → List EndLine
 held_line w m p = list_line (end.Holding m p) (names_of (held_for ((w.nodes m).kernel.records p)))

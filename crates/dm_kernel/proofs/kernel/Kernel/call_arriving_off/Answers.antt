@@ -1,4 +1,4 @@
-use Rattle.dm_kernel.proofs.Names.{refl, kernel_state, at, incoming_of}
+use Rattle.dm_kernel.proofs.Names.{◌∙◌, refl, kernel_state, at, incoming_of}
 use Rattle.dm_kernel.proofs.Calling.{not_called, put_back}
 use Rattle.dm_kernel.proofs.kernel.Kernel.call_arriving_off.Goals as goal
 
@@ -9,7 +9,8 @@ returns-in-Err c =
     (record {
       here = refl;
       records = put_back (at old.records) (at c.take_incoming-arriving.new.self) (at c.put_back-in-Err.new.self) c.args.pid c.take_incoming-arriving.result c.in-Err.arriving c.take_incoming-arriving.ensures.before c.in-Err.ensures.returned
-          c.take_incoming-arriving.ensures.after c.put_back-in-Err.ensures;
+          c.take_incoming-arriving.ensures.after c.put_back-in-Err.ensures.records;
+      preds = λ q n. c.put_back-in-Err.ensures.preds q n ∙ c.take_incoming-arriving.ensures.preds q n;
       ring = refl;
       inbox = refl;
       made = refl;

@@ -10,7 +10,7 @@ run-requires-clause-process c =
     let s = kernel_state c.args.self.now in
     let o = at c.args.self.now.records c.args.pid in
     let h : IsHere (Serves s c.args.pid Execute) o = subst (λ (v : Service). IsHere (Serves s c.args.pid v) o) c.in-Execute.is c.requires.process in
-    here_as (Serves s c.args.pid Execute) (Executes s c.args.pid) o (λ x m. record { acts = m.acts; ready = m.does }) h
+    here_as (Serves s c.args.pid Execute) (Executes s c.args.pid) o (λ x m. record { acts = m.acts; sent = m.sent; ready = m.does }) h
 
 pub returns-in-Execute : goal.returns-in-Execute
 returns-in-Execute c =

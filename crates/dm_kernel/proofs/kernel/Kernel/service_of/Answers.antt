@@ -8,10 +8,11 @@ pub returns-in-Some-clause-unchanged : goal.returns-in-Some-clause-unchanged
 returns-in-Some-clause-unchanged c =
     let x = c.in-Some.process.now in
     let was : here_of (at c.args.self.now.records c.args.pid) ≡ Some x = sym c.in-Some.ensures.value in
-    same_state (kernel_state c.args.self.now) _ (λ q.
-    c.here_mut.follows.holds c.service.new.self (has_some _ x was) q
+    let set = c.here_mut.follows.holds c.service.new.self (has_some _ x was) in
+    same_state (kernel_state c.args.self.now) _ _ (λ q.
+    set.0 q
     ∙ ap (λ (y : Process). with_record (at c.args.self.now.records) c.args.pid (Here y) q) c.service.ensures.unchanged
-    ∙ set_again (at c.args.self.now.records) c.args.pid x was q)
+    ∙ set_again (at c.args.self.now.records) c.args.pid x was q) set.1
 
 pub returns-in-Some-clause-runnable : goal.returns-in-Some-clause-runnable
 returns-in-Some-clause-runnable c =
@@ -20,7 +21,7 @@ returns-in-Some-clause-runnable c =
     c.service.ensures.runnable
     ∙ sym (here_runs (at c.args.self.now.records c.args.pid) x was)
     ∙ sym (ap known_is_runnable (
-    c.here_mut.follows.holds c.service.new.self (has_some _ x was) c.args.pid
+    (c.here_mut.follows.holds c.service.new.self (has_some _ x was)).0 c.args.pid
     ∙ ap (λ (y : Process). with_record (at c.args.self.now.records) c.args.pid (Here y) c.args.pid) c.service.ensures.unchanged
     ∙ set_again (at c.args.self.now.records) c.args.pid x was c.args.pid
     ))
@@ -30,14 +31,14 @@ returns-in-Some-clause-service c =
     let x = c.in-Some.process.now in
     let was : here_of (at c.args.self.now.records c.args.pid) ≡ Some x = sym c.in-Some.ensures.value in
     here_does (at c.args.self.now.records c.args.pid) _ x c.service.result was (
-    c.here_mut.follows.holds c.service.new.self (has_some _ x was) c.args.pid
+    (c.here_mut.follows.holds c.service.new.self (has_some _ x was)).0 c.args.pid
     ∙ ap (λ (y : Process). with_record (at c.args.self.now.records) c.args.pid (Here y) c.args.pid) c.service.ensures.unchanged
     ∙ set_again (at c.args.self.now.records) c.args.pid x was c.args.pid
     ) c.service.ensures.service
 
 pub returns-in-None-clause-unchanged : goal.returns-in-None-clause-unchanged
-returns-in-None-clause-unchanged c = same_state (kernel_state c.args.self.now) _ c.here_mut.follows.holds-at-none
+returns-in-None-clause-unchanged c = same_state (kernel_state c.args.self.now) _ _ c.here_mut.follows.holds-at-none.0 c.here_mut.follows.holds-at-none.1
 
 pub returns-in-None-clause-runnable : goal.returns-in-None-clause-runnable
 returns-in-None-clause-runnable c =
-    sym (ap known_is_runnable (c.here_mut.follows.holds-at-none c.args.pid) ∙ none_runs (at c.args.self.now.records c.args.pid) (sym c.in-None.ensures.value))
+    sym (ap known_is_runnable (c.here_mut.follows.holds-at-none.0 c.args.pid) ∙ none_runs (at c.args.self.now.records c.args.pid) (sym c.in-None.ensures.value))
