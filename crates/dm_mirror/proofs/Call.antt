@@ -4,7 +4,7 @@ use Rattle.dm_mirror.proofs.Names.{false≢true, nat_tests, Pid, pid_eq, pid_eq-
 use Rattle.dm_mirror.proofs.Names.{to_kernel, sends_on, Point, moved, Room, blocks_of, taken_at, taken_by, takes_room, at_machine, at_record, Spot, Queue, Held, Inbox, Untaken, standing, times, Known, Incoming, Forward, Of, own_id, Run}
 use Rattle.dm_mirror.proofs.Names.{Placed, Mirrors, MirrorsPoint, MadeStands, mirrors_view, sent_all, sent_on, AllOwnStand, ComesStand, KnownStands, KernelStands, AllRecords, is_server, is_among, among_times, letters, held_plain}
 use Rattle.dm_mirror.proofs.Names.{StandsAsBag-elsewhere, eq_self, Part, calls_arriving_off, calls_off, is_not_called, turns_back, without_arriving, all_sent_back, is_whole, called_mirrors, goes_back, times-append, is_waited_from}
-use Rattle.dm_kernel.specs.State.{with_sent}
+use Rattle.dm_mirror.proofs.Names.{with_sent}
 use Rattle.dm_mirror.proofs.Cargoes.{is_cargo_of}
 use Rattle.dm_mirror.proofs.Recorded.{recorded}
 use Rattle.dm_mirror.proofs.LeftOver.{cargo_named, come_is, record_apart, record_kept, tokens_called, tokens_less}
@@ -47,9 +47,9 @@ coming_fits pt l p from held a mirrors h =
     }
 
 -- what a machine has of a process that comes, it is said to expect
-pub coming_by : (pt : Point) (l : Placed) (p : Pid) (queue held : List MsgId) (n : Known) (a : Arrival) → KnownStands pt l p queue held n (Some (Record.Incoming a)) → (from : ℕ) × (n ≡ Incoming from) × ComesStand l p from held a
-coming_by pt l p queue held (Incoming from) a h = (from, refl, h)
-coming_by pt l p queue held _ a h = absurd h
+pub coming_by : (l : Placed) (p : Pid) (queue held : List MsgId) (n : Known) (a : Arrival) → KnownStands l p queue held n (Some (Record.Incoming a)) → (from : ℕ) × (n ≡ Incoming from) × ComesStand l p from held a
+coming_by l p queue held (Incoming from) a h = (from, refl, h)
+coming_by l p queue held _ a h = absurd h
 
 abbrev expects : Known → Bool
 expects (Incoming from) = true
@@ -187,9 +187,9 @@ called b m pt l records k p made h c less come =
     let forward_is : forward ≡ Forward from (v.moves p) = ap (λ (r : Known). goes_back r (v.moves p)) c.known in
     let forward_known : next.view.known m p ≡ Forward from (v.moves p) = record_self v.known m p forward (pid_eq-same p) ∙ forward_is in
     let forward_record : state.records p ≡ Some (Record.Forward a.source a.moves) = ap (λ (e : Bool). if e then Some (Record.Forward a.source a.moves) else k.records p) (pid_eq-same p) in
-    let mine : KnownStands next placed p (next.view.queue m p) (next.view.held m p) (next.view.known m p) (state.records p) =
-    subst (KnownStands next placed p (next.view.queue m p) (next.view.held m p) (next.view.known m p)) (sym forward_record)
-    (subst (λ (r : Known). KnownStands next placed p (next.view.queue m p) (next.view.held m p) r (Some (Record.Forward a.source a.moves))) (sym forward_known) (stands.source, fits.moves)) in
+    let mine : KnownStands placed p (next.view.queue m p) (next.view.held m p) (next.view.known m p) (state.records p) =
+    subst (KnownStands placed p (next.view.queue m p) (next.view.held m p) (next.view.known m p)) (sym forward_record)
+    (subst (λ (r : Known). KnownStands placed p (next.view.queue m p) (next.view.held m p) r (Some (Record.Forward a.source a.moves))) (sym forward_known) (stands.source, fits.moves)) in
     let stays : (z : Spot) (j : MsgId) → z ≢ Held m p → 1 ≤ standing v j z → placed.bag j ≡ l.bag j = λ z j off least. bag_kept b pt m p l a.source a.moves z j h.run off least in
     let alive : kernel.alive (pt.kernel.processes p) ≡ Some (plain_process x) = h.mirrors.plain.processes p ∙ ap (option_map plain_process) fits.there in
     let some = life_some (pt.kernel.processes p) (plain_process x) alive in
@@ -245,13 +245,12 @@ called b m pt l records k p made h c less come =
             known = others_known;
             processes = λ q off. refl;
             notes = λ q off. refl;
-            lives = λ q off. refl;
             bag = λ q j off least. stays (Queue m q) j (λ e. cc) least;
             holds = λ q j off least. stays (Held m q) j (other_held q off) least;
             mine = λ loose. mine;
             keeps = λ server. absurd (false≢true (sym c.server ∙ server));
           }) h.stands h.stands.ring (map_same l.bag placed.bag (v.inbox m) (λ j least. stays (Inbox m) j (λ e. cc) least) ∙ h.stands.inbox) h.stands.made
-          (room_released k.room _ before now a.blocks h.stands.room slots blocks) h.stands.servers;
+          (room_released k.room _ before now a.blocks h.stands.room slots blocks) h.stands.servers h.stands.preds;
       sent = λ e. (let f : k.sent + 1 ≡ v.count m + (turning.owns routes + 0) = omega (arith, e, owned) in f);
       over = NoneEnds refl (λ q. refl);
       topic = tt;
@@ -264,13 +263,13 @@ called b m pt l records k p made h c less come =
         known = λ r q off. record_off v.known m r p q forward off;
         queue = λ r q off. refl;
         held = λ r q off. record_off v.held m r p q [] off;
+        preds = λ r q off. refl;
         count = λ r. refl;
         told = refl;
         machines = refl;
         made = λ r off. refl;
         process = λ r q off has. refl;
         notes = λ r q off has. refl;
-        ended = λ r q off e. refl;
         life = λ r q off has. refl;
         bag = λ i z away least. stays z i (off_here z away) (begun_was pt m p i z least);
         board = λ off. refl;
@@ -317,14 +316,14 @@ called b m pt l records k p made h c less come =
 -- A directive to call a process off, whatever the machine knows of it.
 
 -- what doesn't come isn't expected
-not_coming : (pt : Point) (l : Placed) (p : Pid) (queue held : List MsgId) (n : Known) (r : Option machine.KernelKnown) → expects n ≡ false → KnownStands pt l p queue held n r → incoming_of r ≡ None
-not_coming pt l p queue held n (Some (Record.Incoming a)) off h = (let (from, is, stands) = coming_by pt l p queue held n a h in absurd (false≢true (sym off ∙ ap expects is)))
-not_coming pt l p queue held n _ off h = refl
+not_coming : (l : Placed) (p : Pid) (queue held : List MsgId) (n : Known) (r : Option machine.KernelKnown) → expects n ≡ false → KnownStands l p queue held n r → incoming_of r ≡ None
+not_coming l p queue held n (Some (Record.Incoming a)) off h = (let (from, is, stands) = coming_by l p queue held n a h in absurd (false≢true (sym off ∙ ap expects is)))
+not_coming l p queue held n _ off h = refl
 
 none_comes : (b : Boot) (pt : Point) (l : Placed) (m : ℕ) (k : KernelState) (p : Pid) → KernelStands b pt l m k → expects (pt.view.known m p) ≡ false → incoming_of (k.records p) ≡ None
 none_comes b pt l m k p h off = elim (cases_Bool (is_server p)) [
   | inl server ↦ ap incoming_of (h.no_server p server)
-  | inr loose ↦ not_coming pt l p (pt.view.queue m p) (pt.view.held m p) (pt.view.known m p) (k.records p) off (h.known p loose)
+  | inr loose ↦ not_coming l p (pt.view.queue m p) (pt.view.held m p) (pt.view.known m p) (k.records p) off (h.known p loose)
 ]
 
 by_whole : (b : Boot) (m : ℕ) (pt : Point) (l : Placed) (records : AllRecords) (k : KernelState) (p : Pid) (whole : Bool) → MadeStands pt.kernel → Present b m pt l records k → (c : IsComing pt l m k p) → is_whole c.arrival.wanted ≡ whole → pt.view.come p ≡ whole → Calls b m pt l records k p

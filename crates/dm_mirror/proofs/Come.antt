@@ -5,3 +5,4 @@ pub mod Pieces
 pub mod Answers
 pub mod Restarts
 pub mod Stale
+pub mod Bury

@@ -1,6 +1,5 @@
 -- Good groups are those of the rule, directive by directive.
-use Rattle.dm_mirror.proofs.Names.{◌≡◌, ℕ, List, [], ◌∷◌, ◌++◌, length, refl, ap, ◌∙◌, sym, subst, All-nil, Boot, Step, Line, Todo, all_of, next_step, undelivered, IsRun, IsStep, Point, first_point, has_mail, is_quiet, LeadsBy, IsTwo}
-use Rattle.dm_mirror.proofs.Names.{IsTodo, joined, GoodLeads, seen_at}
+use Rattle.dm_mirror.proofs.Names.{◌≡◌, ℕ, List, [], ◌∷◌, ◌++◌, length, refl, ap, ◌∙◌, sym, subst, All-nil, Boot, Step, Line, Todo, all_of, next_step, IsRun, IsStep, Point, first_point, LeadsBy, IsTwo, IsTodo, joined, GoodLeads, seen_at}
 use Rattle.dm_mirror.proofs.Machines.{machines_group}
 use Rattle.dm_mirror.proofs.Next.{next_fits}
 

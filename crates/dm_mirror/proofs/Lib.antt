@@ -16,6 +16,9 @@ pub mod Follow
 pub mod TurnAll
 pub mod Streams
 pub mod Puts
+pub mod Preds
+pub mod Buries
+pub mod Gone
 pub mod Route
 pub mod Giving
 pub mod Home

@@ -71,7 +71,7 @@ MayCall r k = IfSome (incoming_of r) (λ (a : Arrival). HasTaken k.room a.blocks
 
 may_call_by : (b : Boot) (pt : Point) (l : Placed) (m : ℕ) (k : KernelState) (p : Pid) (r : Option state.KernelKnown) → k.records p ≡ r → MadeStands pt.kernel → CountsFew pt → Mirrors pt.kernel pt.view pt.addresses l → KernelStands b pt l m k → is_server p ≡ false → MayCall r k
 may_call_by b pt l m k p (Some (Record.Incoming a)) is made counts mirrors h loose =
-    let (from, known, stands) = coming_by pt l p (pt.view.queue m p) (pt.view.held m p) (pt.view.known m p) a (subst (KnownStands pt l p (pt.view.queue m p) (pt.view.held m p) (pt.view.known m p)) is (h.known p loose)) in
+    let (from, known, stands) = coming_by l p (pt.view.queue m p) (pt.view.held m p) (pt.view.known m p) a (subst (KnownStands l p (pt.view.queue m p) (pt.view.held m p) (pt.view.known m p)) is (h.known p loose)) in
     let fits = coming_fits pt l p from (pt.view.held m p) a mirrors stands in
     let held_ = sym (length-map a.held Some) ∙ ap length (sym stands.held) ∙ length-map (pt.view.held m p) l.bag in
     let few = counts.waiting m p in (

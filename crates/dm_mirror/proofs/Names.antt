@@ -1,8 +1,8 @@
 -- What the proofs of this crate name of what lies below it.
 pub use Rattle.std.proofs.lemmas.List.{drop-drop, drop-map}
 pub use Rattle.std.proofs.lemmas.Option.{cond_some as some_is}
+unfoldable pub use Rattle.dm_records.specs.Machines.{machines_with}
 pub use Rattle.dm_records.specs.declared.record.Record.{Record}
-pub use Rattle.dm_room.specs.Room.{with_released}
 pub use Rattle.dm_wire.proofs.Cursor.{length_marked}
 pub use Rattle.dm_stream.proofs.Follows.{MayCome-stands}
 pub use Rattle.dm_stream.proofs.Lists.{drop-more, get-drop}
@@ -45,18 +45,19 @@ pub use Rattle.dm_rule.proofs.Groups.{GroupIs, stands_once_always}
 pub use Rattle.dm_rule.proofs.Homes.Lines.{acting_label}
 pub use Rattle.dm_rule.proofs.Letters.{letter_of}
 pub use Rattle.dm_rule.proofs.Moves.Sent.{fits_packet, fits_put}
-pub use Rattle.dm_rule.proofs.Names.{Asks, Comes, Completing, Ended, HasCome, HomeStands, IsToken, Nexts, Nowhere, Over, Room, StandsOnce, actor, after_packet, all_of, append-nil, at_least, brings_piece, comes_to, counts_process, eq-eqb}
-pub use Rattle.dm_rule.proofs.Names.{eqb-true, gone_after, has, has_mail, ids_at, is_due, is_quiet, is_stale, is_waited_from, kept_from, knowing, left_true, less, migrates_child, next_step, numbers_from, pair_is_quiet, repeats, resends}
-pub use Rattle.dm_rule.proofs.Names.{seen_at, serves_some, taking_parts, tells_come, token_in}
+pub use Rattle.dm_rule.proofs.Names.{Asks, Comes, Completing, HasCome, HomeStands, IsToken, Nexts, Room, StandsOnce, actor, after_packet, all_of, append-nil, at_least, brings_piece, comes_to, counts_process, eq-eqb, eqb-true, gone_after}
+pub use Rattle.dm_rule.proofs.Names.{has, has_mail, ids_at, is_due, is_quiet, is_stale, is_waited_from, kept_from, knowing, left_true, less, migrates_child, next_step, nobody, numbers_from, pair_is_quiet, repeats, resends, seen_at}
+pub use Rattle.dm_rule.proofs.Names.{serves_some, taking_parts, tells_come, token_in}
 pub use Rattle.dm_rule.proofs.Pairs.{Pairs, pair_home, pair_stands, pairs_stand_always}
 pub use Rattle.dm_rule.proofs.Pairs.Comes.{less-right}
 pub use Rattle.dm_rule.proofs.Pairs.Lines.{AllFit, onward, pair_same, taken_pair}
 pub use Rattle.dm_rule.proofs.Pairs.Migrating.{calls_off_fit, migrates_fit}
 pub use Rattle.dm_rule.proofs.Pairs.Stand.{two_of}
 pub use Rattle.dm_rule.proofs.Pairs.Turns.{turns_fit}
-pub use Rattle.dm_rule.proofs.Phases.Always.{ranked_in}
+pub use Rattle.dm_rule.proofs.Phases.Always.{bury_away, ended_away, living_phase, ranked_in}
 pub use Rattle.dm_rule.proofs.Phases.Answers.{waited_is}
 pub use Rattle.dm_rule.proofs.Phases.Behind.{never_behind}
+pub use Rattle.dm_rule.proofs.Phases.Ends.{is_gone}
 pub use Rattle.dm_rule.proofs.Phases.Lines.{home_full, put_spots, queued_spots}
 pub use Rattle.dm_rule.proofs.Phases.Pieces.{and_false}
 pub use Rattle.dm_rule.proofs.Phases.Put.{first_none, last_there, put_spot, put_there}
@@ -65,6 +66,7 @@ pub use Rattle.dm_rule.proofs.Phases.Stand.{TokenOrLeft, held_plain, queued_plai
 pub use Rattle.dm_rule.proofs.QuietTests.{eq_not, passes_quiet, quiet_passes}
 pub use Rattle.dm_rule.proofs.RestTests.{passes_rest, rest_passes}
 pub use Rattle.dm_rule.proofs.Seen.{about_off}
+pub use Rattle.dm_rule.proofs.Serving.{buries_kept, ends_kept}
 pub use Rattle.dm_rule.proofs.Standing.{once_at, spot_cases}
 pub use Rattle.dm_rule.proofs.States.{PairsFit, said, says_next, transmits_next}
 pub use Rattle.dm_rule.proofs.Telling.{plain_not, tells_right_always}
@@ -72,11 +74,11 @@ pub use Rattle.dm_rule.proofs.Trails.Steps.{destination_comes, expects_is, holds
 pub use Rattle.dm_rule.proofs.Trails.Within.{forwarded_acting, held_acting, queued_acting}
 pub use Rattle.dm_rule.specs.Acts.{Act}
 pub use Rattle.dm_rule.specs.Ends.{Stood, first_with, standing_of, stood_at}
-pub use Rattle.dm_rule.specs.Good.{IsKept, first_undelivered, undelivered}
-pub use Rattle.dm_rule.specs.Migrating.{links_size, status_size}
+pub use Rattle.dm_rule.specs.Good.{IsKept, first_undelivered}
+pub use Rattle.dm_rule.specs.Migrating.{links_size, to_kernel as rule_to_kernels, status_size}
 pub use Rattle.dm_rule.specs.Phases.{Comes as Brought}
 pub use Rattle.dm_rule.specs.Rule.{and, blocks_of, taken_at, taken_by, taken_of_home, takes_room}
-pub use Rattle.dm_rule.specs.View.{serving}
+pub use Rattle.dm_rule.specs.View.{added, calls_back, forgetting, front_told, serving, with_caller}
 pub use Rattle.dm_rule.specs.Worn.{full_route, is_full, worn_in}
 pub use Rattle.dm_places.proofs.Any.AnyLine.{no_process}
 pub use Rattle.dm_places.proofs.Any.AnyRun.{group_needs, places_follow_by}
@@ -88,17 +90,17 @@ pub use Rattle.dm_places.proofs.Keeps.{of_map, parts, there_of}
 pub use Rattle.dm_places.proofs.Labels.Serves.{plainly, plainly_is}
 pub use Rattle.dm_places.proofs.Lines.{lines_keep, mirrors_view, moves_label, routed_keeps, told_keeps}
 pub use Rattle.dm_places.proofs.Matches.{Ends, acted_with, answers_match, call_matches, completed_matches, fault_matches, lands_match, ran_matches}
-pub use Rattle.dm_places.proofs.Names.{About, Addr, Addresses, Again, Alive, ArrayVec, Child, Direction, Fault, Forward, Frozen, Gets, GroupNeeds, Holder, Inbox, Incoming, IsStep, KeepsPlaces, Known, Label, Leads, Life, Load, Machine}
-pub use Rattle.dm_places.proofs.Names.{Manager, Managing, MessageKind, Mirrors, MirrorsKernel, MirrorsPoint, MoveNote, Name, NamedLink, OneKernel, Outcome, Owns, Pair, Pending, PendingKind, Place, Placed, PlainLink, PlainMessage}
+pub use Rattle.dm_places.proofs.Names.{About, Addr, Addresses, Again, Alive, ArrayVec, Child, Direction, Ended, Fault, Forward, Frozen, Gets, GroupNeeds, Holder, Inbox, Incoming, IsStep, KeepsPlaces, Known, Label, Leads, Life, Load}
+pub use Rattle.dm_places.proofs.Names.{Machine, Manager, Managing, MessageKind, Mirrors, MirrorsKernel, MirrorsPoint, MoveNote, Name, NamedLink, OneKernel, Outcome, Owns, Pair, Pending, PendingKind, Place, Placed, PlainLink, PlainMessage}
 pub use Rattle.dm_places.proofs.Names.{PlainProcess, PlainStatus, PlainWhat, Point, Receiver, Regs, Reply, Rest, Routes, Row, Says, Sender, SentLoad, Slot, Sort, Sound, Spelled, Spot, Stage, StepNeeds, Switchboard, Told, Transmits, View}
 pub use Rattle.dm_places.proofs.Names.{act_of, addresses_by, after, after_label, after_landing, after_line, after_step, and-both, answer, answer_id, answer_of, answer_to, answer_with, applied, ascends, asker_of, at_hand-is, at_home, at_pid}
 pub use Rattle.dm_places.proofs.Names.{begun_process, behind, behind_count, bind-is, board_took, by_migrates, call_plainly, cases_Bool, child_named, child_number, code_of_outcome, control_link, count_by, enclosed, ends_move, ends_move-is}
-pub use Rattle.dm_places.proofs.Names.{ends_plainly, filter, first_failed, first_gives, first_point, first_told, first_view, forwarded_for, gets, given, goes_on_plainly, gone_answer, group_of, handled, id_eq, id_eq-is, id_eq-same}
-pub use Rattle.dm_places.proofs.Names.{id_eq-swap, id_of, instruction, is_among, is_kernels, is_own, kernel_after, kernel_at, label_of, length-map, lines_of, manager_request, manager_took, memory_of, moved, moved_answer, named_is_behind}
-pub use Rattle.dm_places.proofs.Names.{nat_le, not_kernels, or-left, or-right, or_second, outcome, own_given, own_id, pending_is_behind, pending_request, pid_eq-is, pid_eq-same, piece_of, place_of, place_told, placed_start, placed_step}
-pub use Rattle.dm_places.proofs.Names.{plain_board, plain_called, plain_child, plain_completed, plain_kind, plain_landed, plain_link, plain_manager, plain_message, plain_named, plain_note, plain_pending, plain_pending_numbered}
-pub use Rattle.dm_places.proofs.Names.{plain_process, plain_status, plain_what, puts, receiver_of, seen, sent_all, sent_on, slice_get-map, slot_is_behind, slots_of, slots_with, sort_of, spelled, standing, started, started_at}
-pub use Rattle.dm_places.proofs.Names.{status_plainly, times, unmoved, view_after, what_is_on, when-is, with_note, with_what, without_note, written_at}
+pub use Rattle.dm_places.proofs.Names.{ends_plainly, ends_with, filter, first_failed, first_gives, first_point, first_told, first_view, forwarded_for, gets, given, goes_on_plainly, gone_answer, group_of, handled, id_eq, id_eq-is}
+pub use Rattle.dm_places.proofs.Names.{id_eq-same, id_eq-swap, id_of, instruction, is_among, is_kernels, is_own, kernel_after, kernel_at, label_of, length-map, lines_of, manager_request, manager_took, memory_of, moved, moved_answer}
+pub use Rattle.dm_places.proofs.Names.{named_is_behind, nat_le, not_kernels, or-left, or-right, or_second, outcome, own_given, own_id, pending_is_behind, pending_request, pid_eq-is, pid_eq-same, piece_of, place_of, place_told, placed_start}
+pub use Rattle.dm_places.proofs.Names.{placed_step, plain_board, plain_called, plain_child, plain_completed, plain_kind, plain_landed, plain_link, plain_manager, plain_message, plain_named, plain_note, plain_pending, plain_pending_numbered}
+pub use Rattle.dm_places.proofs.Names.{plain_process, plain_status, plain_what, preds_of, puts, receiver_of, seen, sent_all, sent_on, slice_get-map, slot_is_behind, slots_of, slots_with, sort_of, spelled, standing, started, started_at}
+pub use Rattle.dm_places.proofs.Names.{status_plainly, times, to_kernel, unmoved, view_after, what_is_on, when-is, with_note, with_what, without_note, written_at}
 pub use Rattle.dm_places.proofs.OwnPuts.{child_place, no_child, own_put_mirrors}
 pub use Rattle.dm_places.proofs.Queues.{calls_with, with_queue}
 pub use Rattle.dm_places.proofs.Starts.{start_mirrors}
@@ -109,10 +111,11 @@ pub use Rattle.dm_kernel.proofs.LawfulRows.{of_known}
 pub use Rattle.dm_kernel.proofs.LawfulStart.{opened_lawful, opened_may}
 pub use Rattle.dm_kernel.proofs.LawfulTurns.{before_lawful}
 pub use Rattle.dm_kernel.proofs.Making.{image_fits}
-pub use Rattle.dm_kernel.proofs.Names.{Block, BootMachine, Chunk, FitsBoardWhat, FitsHere, FitsKernel, FitsKnown, FitsManager, FitsManagerWhat, FrontMay, HasChunk, HasTaken, IfSome, IsAwaited, IsForManager, IsLawfulPair, IsLawfulProcess}
-pub use Rattle.dm_kernel.proofs.Names.{IsLawfulStatus, IsServer, IsSuch, IsWithin, MayHandle, MayRestart, MayTurn, Nothing, Result, Taken, Wanted, all_sent_back, all_sent_on, ask_of, blocks_at, blocks_of_image, expected, free_blocks}
-pub use Rattle.dm_kernel.proofs.Names.{free_slots, freezes, freezing, frozen, image_is_valid, is_on, length-drop, links_are_valid, next_pid, opened, own, process_is_valid, process_named, processes_are_valid, pull, receive_refusals, room_of}
-pub use Rattle.dm_kernel.proofs.Names.{starting_at, tells_asker, turned, turns, update_of, with_frozen, with_record, with_reserved, without, without_arriving, without_first_on, without_process, ◌/◌}
+pub use Rattle.dm_kernel.proofs.Names.{Block, BootMachine, Chunk, FitsBoardWhat, FitsEnded, FitsHere, FitsKernel, FitsKnown, FitsManager, FitsManagerWhat, FrontMay, HasChunk, HasTaken, IfSome, IsAwaited, IsForManager, IsLawfulPair}
+pub use Rattle.dm_kernel.proofs.Names.{IsLawfulProcess, IsLawfulStatus, IsServer, IsSuch, IsWithin, MayHandle, MayRestart, MayTurn, Nothing, Result, Taken, Wanted, all_sent_back, all_sent_on, ask_of, blocks_at, blocks_of_image, expected}
+pub use Rattle.dm_kernel.proofs.Names.{free_blocks, free_slots, freezes, freezing, frozen, image_is_valid, is_on, length-drop, links_are_valid, next_pid, opened, own, process_is_valid, process_named, processes_are_valid, pull}
+pub use Rattle.dm_kernel.proofs.Names.{range_with_len, receive_refusals, room_of, starting_at, tells_asker, turned, turns, update_of, with_frozen, with_pred, with_record, with_released, with_reserved, with_sent, without, without_arriving}
+pub use Rattle.dm_kernel.proofs.Names.{without_first_on, without_preds, ◌/◌}
 pub use Rattle.dm_kernel.proofs.Opening.{room_from}
 pub use Rattle.dm_kernel.proofs.Serving.{call_keeps, ran_keeps}
 pub use Rattle.dm_kernel.specs.Carried.{FreezesReceiverWhole, KnownIsWhole}
@@ -124,7 +127,7 @@ pub use Rattle.dm_kernel.specs.State.{with_known}
 pub use Rattle.dm_rulelaws.proofs.Based.Always.{based_always}
 pub use Rattle.dm_rulelaws.proofs.Based.Constants.{constant_group}
 pub use Rattle.dm_rulelaws.proofs.Based.Groups.{Begins}
-pub use Rattle.dm_rulelaws.proofs.Based.Needs.{Needs, NeedsLabel, Resting, Walks, WalksOf}
+pub use Rattle.dm_rulelaws.proofs.Based.Needs.{Needs, NeedsLabel, Resting, Walks, WalksOf, life_sort}
 pub use Rattle.dm_rulelaws.proofs.Based.Rows.{handles_walks, resting, round_walks}
 pub use Rattle.dm_rulelaws.proofs.Fits.Creates.{fresh_child}
 pub use Rattle.dm_rulelaws.proofs.Fits.Rises.{both, set_at}
@@ -135,7 +138,7 @@ pub use Rattle.dm_rulelaws.proofs.Found.Real.{each_pending}
 pub use Rattle.dm_rulelaws.proofs.Goes.Always.{front, goes_on, own_by, stands_first}
 pub use Rattle.dm_rulelaws.proofs.Goes.Front.{ForWhom, Front, begun, for_whom, here_free, home_of, is_manager, served_is, told_receiver}
 pub use Rattle.dm_rulelaws.proofs.Goes.Own.{apart_is, is_it, source_knows}
-pub use Rattle.dm_rulelaws.proofs.Goes.Process.{alive_of, ended_of, gone_is}
+pub use Rattle.dm_rulelaws.proofs.Goes.Process.{alive_of, gone_is}
 pub use Rattle.dm_rulelaws.proofs.Goes.Runs.{Both, RunGoes, RunStarts, both_group, both_start}
 pub use Rattle.dm_rulelaws.proofs.Goes.Servers.{can_handle, pending_is, server_fixed}
 pub use Rattle.dm_rulelaws.proofs.Goes.Serves.{reply_same, running_of}
@@ -143,14 +146,14 @@ pub use Rattle.dm_rulelaws.proofs.Goes.Turns.{Droppable, IsFor, at_hand_of, drop
 pub use Rattle.dm_rulelaws.proofs.Names.{AllSayable, Called, Held, Here, InPhases, IsIn, IsLeft, IsNet, IsNetLine, IsPending, IsRun, LandsSo, LeadsBy, LeftOver, Moves, Moving, NothingElse, Of, PendingFits, Phase, Phased, Queue, Ready}
 pub use Rattle.dm_rulelaws.proofs.Names.{Rests, Sane, Sayable, ServerSends, StandsAsBag, StandsAsBag-elsewhere, StandsAsBag-one, StandsNowhere, StandsOutside, StandsRight, Target, Token, Unknown, Untaken, Waiting, WhatFits, about_same}
 pub use Rattle.dm_rulelaws.proofs.Names.{after_proto, after_put, agrees, alive-is, answers_move, arrives_net, at_id, at_pair, at_record, at_record_at, awaits, bag_answered, bag_created, bag_gone, bag_no_space, bag_served, begins}
-pub use Rattle.dm_rulelaws.proofs.Names.{board_takes_lem, by_calls_off, by_hears, chunks_of, coming_is, completing, counts, destination_expects, dropped_for, ended, entry, eq_is, eq_self, false_from_ne_true, first_life, fits, forward_about}
-pub use Rattle.dm_rulelaws.proofs.Names.{forwards_on, free_room, front_of, goes_back, goes_between, goes_out, gone_to, group_is, has_bytes, has_no_queue, has_nothing_held, hears, holder_eq, hushed, if_some-is, inbox_is, is_apart, is_away}
-pub use Rattle.dm_rulelaws.proofs.Names.{is_between, is_calloff, is_counted, is_dropped, is_early, is_fixed, is_for, is_here, is_kill, is_put, is_restart, is_server, kernel_hears, kernels_fresh, kind_comes, kind_eq, kind_leaves, known_at}
-pub use Rattle.dm_rulelaws.proofs.Names.{knows, labels, lands-is, least_of, leaves_for, length-append, letters, life_at, machine_of, manager_takes_lem, migrates, move_target, nexts, not_false, not_first, not_server, not_true, oldest}
-pub use Rattle.dm_rulelaws.proofs.Names.{option_and_then, out_off, outcome_sayable, packet_line, pair_keeps, part_sane, piece_fits, pieces_of, process_told, proto_acting, pulled, pulls_piece, put_at, put_told_off, queued_for, receiver_in}
-pub use Rattle.dm_rulelaws.proofs.Names.{reception, replay, reply_code, resends_net, rests_here, ring_at, rings, routed_on, sane_line, sender_in, sends_on, served_id, server_at, source_holds, stands_right, start, status_awaits, takes_block}
-pub use Rattle.dm_rulelaws.proofs.Names.{takes_chunk, target_of, tells_onward, times-append, to_kernel, to_of, token_at, token_is, told_between, told_ended, told_here, told_server, told_some, told_step, unentered, untaken, updates, when}
-pub use Rattle.dm_rulelaws.proofs.Names.{why_code, with_process, with_sent, without_front, without_id, without_message, zero_if}
+pub use Rattle.dm_rulelaws.proofs.Names.{board_takes_lem, buried, by_calls_off, by_hears, chunks_of, coming_is, completing, counts, destination_expects, dropped_for, ended, entry, eq_is, eq_self, false_from_ne_true, first_life, fits}
+pub use Rattle.dm_rulelaws.proofs.Names.{forward_about, forwards_on, free_room, front_of, goes_back, goes_between, goes_out, gone_to, group_is, has_bytes, has_no_queue, has_nothing_held, hears, holder_eq, hushed, if_some-is, inbox_is}
+pub use Rattle.dm_rulelaws.proofs.Names.{is_alive, is_apart, is_away, is_between, is_calloff, is_counted, is_dropped, is_early, is_fixed, is_for, is_here, is_kill, is_put, is_restart, is_server, kernel_hears, kernels_fresh, kind_comes}
+pub use Rattle.dm_rulelaws.proofs.Names.{kind_eq, kind_leaves, known_at, knows, labels, lands-is, least_of, leaves_for, length-append, letters, life_at, machine_of, manager_takes_lem, migrates, move_target, nexts, not_false, not_first}
+pub use Rattle.dm_rulelaws.proofs.Names.{not_server, not_true, oldest, option_and_then, out_off, outcome_sayable, packet_line, pair_keeps, part_sane, piece_fits, pieces_of, process_told, proto_acting, pulled, pulls_piece, put_at}
+pub use Rattle.dm_rulelaws.proofs.Names.{put_told_off, queued_for, receiver_in, reception, replay, reply_code, resends_net, rests_here, ring_at, rings, routed_on, sane_line, sender_in, sends_on, served_id, server_at, source_holds}
+pub use Rattle.dm_rulelaws.proofs.Names.{stands_right, start, status_awaits, takes_block, takes_chunk, target_of, tells_end, tells_onward, times-append, to_of, token_at, token_is, told_between, told_ended, told_here, told_server, told_some}
+pub use Rattle.dm_rulelaws.proofs.Names.{told_step, unentered, untaken, updates, when, why_code, with_process, without_front, without_id, without_message, zero_if}
 pub use Rattle.dm_rulelaws.proofs.Own.Told.{OwnTold, is_place, is_process, is_target, own_server, own_sort}
 pub use Rattle.dm_rulelaws.proofs.Queued.{IsQueued}
 pub use Rattle.dm_rulelaws.proofs.RunLabels.{after_replay, group_replay, labels-append, replay-append}
@@ -190,7 +193,7 @@ pub use Rattle.dm_mirror.specs.Made.{MadeStands}
 pub use Rattle.dm_mirror.specs.Own.{AllOwnStand, OwnStands, about_of, told_of}
 pub use Rattle.dm_mirror.specs.Ran.{Ran, RanBegins, RanGoesOn, RunIsRan, ones}
 pub use Rattle.dm_mirror.specs.Run.{GoesOn, RunStands, Steps, StopsWorn, joined}
-pub use Rattle.dm_mirror.specs.Stands.{AreMessages, CanBeCarried, ComesStand, CountsStand, HereStands, History, KernelStands, KnownStands, LeavesStand, NodeStands, PairStands, RoomStands, Stands, StandsWith, bytes_of, line_of, load_of}
-pub use Rattle.dm_mirror.specs.Stands.{message_id, servers_at, stream_of}
+pub use Rattle.dm_mirror.specs.Stands.{AreMessages, CanBeCarried, ComesStand, CountsStand, HereStands, History, KernelStands, KnownStands, LeavesStand, NodeStands, PairStands, PredsStand, RoomStands, Stands, StandsWith, bytes_of, line_of}
+pub use Rattle.dm_mirror.specs.Stands.{load_of, message_id, servers_at, stream_of}
 pub use Rattle.dm_mirror.specs.Todo.{IsDirective, IsTodo, IsTwo}
 pub use Rattle.dm_mirror.specs.Tokens.{AllRecords, Carries, IsAsked, LeftCarries, LeftStands, TokenStands, TokensStand, Wants, cargo_at, destination_of, is_due_piece, is_piece, source_of}

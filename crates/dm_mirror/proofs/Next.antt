@@ -1,8 +1,8 @@
 -- Which directive comes next is what the printed lines say; it is for the machines that there are.
 use Rattle.dm_mirror.proofs.Names.{◌≡◌, ◌≢◌, ℕ, zero, suc, ◌+◌, ◌<◌, ◌≤◌, ◌==◌, Bool, true, false, List, [], ◌∷◌, map, length, refl, ap, ◌∙◌, sym, subst, arith, ⊤, if◌then◌else◌, All, Option, None, Some, nat_tests, All-nil, All-cons}
 use Rattle.dm_mirror.proofs.Names.{All-head, All-tail, All-append, All-push, Message, Boot, IsValid, Step, Directive, Pass, Two, Todo, Next, below, pairs_with, pairs_of, pass_begun, here_or_later, next_delivery, takes_turn, next_turn}
-use Rattle.dm_mirror.proofs.Names.{in_pass, or, begin_pass, settles, next_directive, next_pass, following, first_undelivered, IsStep, Leads, Point, first_point, has_mail, is_quiet, based_always, Placed, WorldState, first_unseen, History}
-use Rattle.dm_mirror.proofs.Names.{PairStands, Stands, bytes_of, line_of, IsTwo, IsDirective, IsTodo, NextIsSaid, next_and_left, is_over, ◌&&◌, ◌||◌, not, each_below, Seen, at_rest, all_same, passes_rest, rest_passes, RestIsSaid}
+use Rattle.dm_mirror.proofs.Names.{in_pass, or, begin_pass, settles, next_directive, next_pass, following, first_undelivered, IsStep, Leads, Point, first_point, based_always, Placed, WorldState, first_unseen, History, PairStands, Stands}
+use Rattle.dm_mirror.proofs.Names.{bytes_of, line_of, IsTwo, IsDirective, IsTodo, NextIsSaid, next_and_left, is_over, ◌&&◌, ◌||◌, not, each_below, Seen, at_rest, all_same, passes_rest, rest_passes, RestIsSaid}
 use Rattle.dm_stream.specs.Packets as stream
 use Rattle.dm_rule.specs.Good as rule
 use Rattle.dm_world.specs.Next as world

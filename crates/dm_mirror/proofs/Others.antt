@@ -61,12 +61,13 @@ kernel_stays b m n pt next l placed k apart made e h =
     record {
       here = h.here;
       known = λ p server.
-          subst (λ (ids : List MsgId). KnownStands next placed p ids (next.view.held n p) (next.view.known n p) (k.records p)) (sym (e.queue n p apart))
-          (subst (λ (js : List MsgId). KnownStands next placed p (pt.view.queue n p) js (next.view.known n p) (k.records p)) (sym (e.held n p apart))
-          (subst (λ (c : view.Known). KnownStands next placed p (pt.view.queue n p) (pt.view.held n p) c (k.records p)) (sym (e.known n p apart))
-          (known_same pt next l placed p (pt.view.queue n p) (pt.view.held n p) (λ i stands. e.bag i (Queue n p) other stands) (λ i stands. e.bag i (Held n p) other stands) (pt.view.known n p) (k.records p)
-          (λ is. e.process n p apart is) (λ is. e.notes n p apart is) (λ is. e.ended n p apart is) (h.known p server))));
+          subst (λ (ids : List MsgId). KnownStands placed p ids (next.view.held n p) (next.view.known n p) (k.records p)) (sym (e.queue n p apart))
+          (subst (λ (js : List MsgId). KnownStands placed p (pt.view.queue n p) js (next.view.known n p) (k.records p)) (sym (e.held n p apart))
+          (subst (λ (c : view.Known). KnownStands placed p (pt.view.queue n p) (pt.view.held n p) c (k.records p)) (sym (e.known n p apart))
+          (known_same l placed p (pt.view.queue n p) (pt.view.held n p) (λ i stands. e.bag i (Queue n p) other stands) (λ i stands. e.bag i (Held n p) other stands) (pt.view.known n p) (k.records p)
+          (λ is. e.process n p apart is) (λ is. e.notes n p apart is) (h.known p server))));
       no_server = h.no_server;
+      preds = record { same = λ p. h.preds.same p ∙ sym (e.preds n p apart); within = h.preds.within };
       ring = h.ring ∙ sym (e.ring n apart);
       inbox = subst (λ (ids : List MsgId). AreMessages placed.bag ids k.inbox) (sym (e.inbox n apart)) (messages_stay l.bag placed.bag (pt.view.inbox n) k.inbox (λ i stands. e.bag i (Inbox n) other stands) h.inbox);
       made = h.made ∙ sym (e.made n apart);

@@ -1,7 +1,7 @@
 -- Who has ended behind a turn: the machine's kernel says it before messages are routed, and the world keeps it.
 use Rattle.dm_mirror.proofs.Names.{◌≡◌, ℕ, Bool, true, false, List, [], ◌∷◌, refl, ap, ◌∙◌, sym, subst, ⊤, if◌then◌else◌, ◌==◌, Option, None, Some, Pid, pid_eq, Message, Boot, Why, Step, OneKernel, Point, Placed, KernelState, KernelStands}
-use Rattle.dm_mirror.proofs.Names.{FreezesWhole, NodeState, here, Out, Acts, Goes, Worn, acts, sends_due, gives, routes, routes_away, routes_home, is_worn, none_waits, Sending, with_given, with_sender, due, Part, then_, before_turn}
-use Rattle.dm_mirror.proofs.Names.{why_ended, with_over}
+use Rattle.dm_mirror.proofs.Names.{FreezesWhole, NodeState, here, Out, Acts, Goes, Worn, acts, sends_due, gives, routes, routes_away, routes_home, is_worn, none_waits, with_given, with_sender, due, Part, then_, before_turn, why_ended}
+use Rattle.dm_mirror.proofs.Names.{with_over}
 use Rattle.dm_node.proofs.Names.{behind}
 use Rattle.dm_node.specs.declared.out.Out.TheVariants as out
 use Rattle.dm_mirror.proofs.Turning.{EndsSo, NoneEnds, OneEnds}
@@ -64,7 +64,7 @@ still_over ended d s t before now none same (OneEnds m q y turn is ends) p = abs
 
 -- before a turn the kernel says nothing of it
 pub before_stands : (b : Boot) (pt : Point) (l : Placed) (m : ℕ) (k : KernelState) → KernelStands b pt l m k → KernelStands b pt l m (before_turn k)
-before_stands b pt l m k h = record { here = h.here; known = h.known; no_server = h.no_server; ring = h.ring; inbox = h.inbox; made = h.made; room = h.room; servers = h.servers }
+before_stands b pt l m k h = record { here = h.here; known = h.known; no_server = h.no_server; ring = h.ring; inbox = h.inbox; made = h.made; room = h.room; servers = h.servers; preds = h.preds }
 
 pub before_whole : (k : KernelState) (ms : List Message) → FreezesWhole k ms → FreezesWhole (before_turn k) ms
 before_whole k [] h = tt

@@ -2,7 +2,7 @@
 use Rattle.dm_mirror.proofs.Names.{Run, ◌≡◌, ◌⊎◌, inl, inr, ℕ, ◌+◌, ◌==◌, Bool, true, false, List, [], ◌∷◌, length, refl, ap, ◌∙◌, sym, subst, arith, ⊤, if◌then◌else◌, slice_get, Option, None, Some, Pid, pid_eq, pid_of, MsgId, Why}
 use Rattle.dm_mirror.proofs.Names.{PlainMessage, PlainWhat, Boot, Label, first_number, switchboard, manager, bind, PlainProcess, PlainStatus, Ready, Waiting, Moving, OneKernel, answer_id, Point, label_of, kernel_after, Says, Routes, Again}
 use Rattle.dm_mirror.proofs.Names.{Owns, Transmits, IsNet, Addresses, Sender, is_told_back, forwards_on, plain_kind, MessageKind, nat_tests, Outcome, PendingKind, MoveNote, PendingFits, WhatFits, is_for, kind_eq, answers_move, leaves_for}
-use Rattle.dm_mirror.proofs.Names.{option_map, each_pending}
+use Rattle.dm_mirror.proofs.Names.{option_map, each_pending, ends_with, ends_kept, instruction}
 use Rattle.dm_rule.proofs.Names.{Part}
 use Rattle.dm_onekernel.specs.Calls as calls
 use Rattle.dm_onekernel.specs.Pieces as pieces
@@ -41,23 +41,26 @@ pub line_within : (s t : OneKernel) (o : Option Label) → o ≡ None → kernel
 line_within s t None e f = let k : s ≡ t = cc in subst (Within 0 s) k (same_within s)
 line_within s t (Some l) e f = cc
 
--- a queue goes
-drops_paid : (ids : List MsgId) (s : OneKernel) → Paid s (rule.drop_parts ids)
-drops_paid [] s = tt
-drops_paid (i ∷ is) s = (refl, λ t e. inl ((dropped_raises s t i e).within, drops_paid is t))
+-- whatever the kernel is then
+abbrev pub AllPaid : List Part → Type 0
+AllPaid ps = (s : OneKernel) → Paid s ps
+
+-- a queue goes, and others are told
+ends_paid : (pt : Point) (m : ℕ) (p : Pid) → AllPaid (ends_with pt m p)
+ends_paid pt m p = ends_kept AllPaid (λ s. tt) (λ i ps h s. (refl, λ t e. inl ((dropped_raises s t i e).within, h t))) (λ to ps h s. h s) pt m p
 
 -- a process is served
-called_paid : (s : OneKernel) (p : Pid) (n : ℕ) (queue : List MsgId) (c : calls.Called) → Paid s (rule.called p n queue c)
-called_paid s p n queue (calls.Replies reply x) = (refl, λ t e. inl ((call_raises s t p n reply e).within, tt))
-called_paid s p n queue (calls.Sends m x) = (refl, λ t e. inr ((send_raises s t p m.id e).within, (m.id, refl)))
-called_paid s p n queue (calls.Waits x) = (refl, λ t e. inl ((wait_raises s t p e).within, tt))
-called_paid s p n queue (calls.Outputs word x) = (refl, λ t e. inl ((out_raises s t p word e).within, tt))
-called_paid s p n queue (calls.Ends because) = (refl, λ t e. inl ((end_raises s t p because e).within, drops_paid queue t))
+called_paid : (s : OneKernel) (p : Pid) (n : ℕ) (over : List Part) (c : calls.Called) → AllPaid over → Paid s (rule.called p n over c)
+called_paid s p n over (calls.Replies reply x) ends = (refl, λ t e. inl ((call_raises s t p n reply e).within, tt))
+called_paid s p n over (calls.Sends m x) ends = (refl, λ t e. inr ((send_raises s t p m.id e).within, (m.id, refl)))
+called_paid s p n over (calls.Waits x) ends = (refl, λ t e. inl ((wait_raises s t p e).within, tt))
+called_paid s p n over (calls.Outputs word x) ends = (refl, λ t e. inl ((out_raises s t p word e).within, tt))
+called_paid s p n over (calls.Ends because) ends = (refl, λ t e. inl ((end_raises s t p because e).within, ends t))
 
-stops_paid : (s : OneKernel) (p : Pid) (queue : List MsgId) (o : Option kernel.Trap) → Paid s (rule.stops p queue o)
-stops_paid s p queue None = tt
-stops_paid s p queue (Some (kernel.Calls n c)) = called_paid s p n queue c
-stops_paid s p queue (Some (kernel.Faults fault)) = (refl, λ t e. inl ((end_raises s t p (Why.Fault fault) e).within, drops_paid queue t))
+stops_paid : (s : OneKernel) (p : Pid) (over : List Part) (o : Option kernel.Trap) → AllPaid over → Paid s (rule.stops p over o)
+stops_paid s p over None ends = tt
+stops_paid s p over (Some (kernel.Calls n c)) ends = called_paid s p n over c ends
+stops_paid s p over (Some (kernel.Faults fault)) ends = (refl, λ t e. inl ((end_raises s t p (Why.Fault fault) e).within, ends t))
 
 unless_paid : (s : OneKernel) (c : Bool) (ps : List Part) → Paid s ps → Paid s (if c then [] else ps)
 unless_paid s c ps h = grind (arith, nat_tests)
@@ -71,16 +74,19 @@ paid_map : {A : Type 0} (s : OneKernel) (o : Option A) (go : A → List Part) �
 paid_map s None go h = tt
 paid_map s (Some x) go h = h x refl
 
-status_paid : (quantum : ℕ) (s : OneKernel) (p : Pid) (queue : List MsgId) (x : PlainProcess) (st : PlainStatus) → PaidIf s (rule.serves_status quantum s p queue x st)
-status_paid quantum s p queue x Ready = grind (arith, nat_tests, ran_raises, unless_paid, stops_paid)
-status_paid quantum s p queue x (Waiting mask base size) =
+status_paid : (quantum : ℕ) (s : OneKernel) (p : Pid) (queue : List MsgId) (over : List Part) (x : PlainProcess) (st : PlainStatus) → AllPaid over → PaidIf s (rule.serves_status quantum s p queue over x st)
+status_paid quantum s p queue over x Ready ends =
+    let r = rule.ran quantum (kernel.machine_of x) in
+    let trap = kernel.next_row p (kernel.with_machine x r.machine) (instruction r.machine.regs r.machine.bytes) in
+    (refl, λ t e. inl ((ran_raises s t p r.count e).within, unless_paid t (r.count == quantum) (rule.stops p over trap) (stops_paid t p over trap ends)))
+status_paid quantum s p queue over x (Waiting mask base size) ends =
     let completes_paid : (s : OneKernel) (p : Pid) (i : MsgId) (c : receiving.Completed) → Paid s (rule.completion_parts p i c) = λ s p i c. grind (arith, nat_tests, receive_raises, refuse_raises) in
     paid_if s (rule.first_awaited s mask queue) _ (λ i is. paid_if s (s.bag i) _ (λ m there. paid_if s (receiving.completes_with p x m) _ (λ c done. completes_paid s p i c)))
-status_paid quantum s p queue x (Moving dir owner base own left pending) = tt
+status_paid quantum s p queue over x (Moving dir owner base own left pending) ends = tt
 
 pub round_paid : (b : Boot) (pt : Point) (m : ℕ) (o : Option Pid) → PaidIf pt.kernel (rule.goes_round b pt m o)
 round_paid b pt m None = (refl, λ t e. inl (line_within pt.kernel t None refl e, tt))
-round_paid b pt m (Some p) = paid_if pt.kernel (kernel.alive (pt.kernel.processes p)) _ (λ x is. status_paid b.quantum pt.kernel p (pt.view.queue m p) x x.status)
+round_paid b pt m (Some p) = paid_if pt.kernel (kernel.alive (pt.kernel.processes p)) _ (λ x is. status_paid b.quantum pt.kernel p (pt.view.queue m p) (ends_with pt m p) x x.status (ends_paid pt m p))
 
 -- a kernel makes a process, or has no room
 created_paid : (s : OneKernel) (i : MsgId) (child : Pid) (slots blocks : ℕ) (c : Bool) (j : MsgId) → Paid s ((if c then rule.says (Label.Created i child) else rule.says (Label.NoSpace i slots blocks)) ∷ Routes j ∷ [])
@@ -133,7 +139,7 @@ here_paid : (pt : Point) (m : ℕ) (i : MsgId) (msg : PlainMessage) (x : PlainPr
 here_paid pt m i msg x (PlainWhat.User code channel body links) w there alive = (refl, λ t e. inl (line_within pt.kernel t None refl e, tt))
 here_paid pt m i msg x PlainWhat.Stop w there alive = (refl, λ t e. inl (subst (λ v. Within (served_raise msg x v) pt.kernel t) w (serves_paid pt.kernel i msg x t there alive e), tt))
 here_paid pt m i msg x PlainWhat.Resume w there alive = (refl, λ t e. inl (subst (λ v. Within (served_raise msg x v) pt.kernel t) w (serves_paid pt.kernel i msg x t there alive e), tt))
-here_paid pt m i msg x PlainWhat.Kill w there alive = (refl, λ t e. inl (subst (λ v. Within (served_raise msg x v) pt.kernel t) w (serves_paid pt.kernel i msg x t there alive e), drops_paid (pt.view.queue m msg.to) t))
+here_paid pt m i msg x PlainWhat.Kill w there alive = (refl, λ t e. inl (subst (λ v. Within (served_raise msg x v) pt.kernel t) w (serves_paid pt.kernel i msg x t there alive e), ends_paid pt m msg.to t))
 here_paid pt m i msg x (PlainWhat.Read base len) w there alive = (refl, λ t e. inl (subst (λ v. Within (served_raise msg x v) pt.kernel t) w (serves_paid pt.kernel i msg x t there alive e), tt))
 here_paid pt m i msg x (PlainWhat.Write base bytes) w there alive = (refl, λ t e. inl (subst (λ v. Within (served_raise msg x v) pt.kernel t) w (serves_paid pt.kernel i msg x t there alive e), tt))
 here_paid pt m i msg x (PlainWhat.Block bytes) w there alive = lands_paid pt.kernel i (pieces.lands msg.to x msg x.status) (λ t e. subst (λ v. Within (served_raise msg x v) pt.kernel t) w (serves_paid pt.kernel i msg x t there alive e))
@@ -174,10 +180,9 @@ own_paid pt m i msg false true is has there =
 own_paid pt m i msg false false is has there = paid_if pt.kernel (kernel.alive (pt.kernel.processes msg.to)) _ (λ x alive. here_paid pt m i msg x msg.what refl there alive)
 
 process_paid : (pt : Point) (m : ℕ) (i : MsgId) (msg : PlainMessage) (k : view.Known) → HasAnswer pt.kernel.manager msg.id.n msg.what → pt.kernel.bag i ≡ Some msg → PaidIf pt.kernel (rule.process_handles pt m i msg k)
-process_paid pt m i msg view.Unknown has there = tt
+process_paid pt m i msg view.Unknown has there = ended_paid pt.kernel i msg.what
 process_paid pt m i msg view.Here has there = own_paid pt m i msg (pid_eq msg.to switchboard) (pid_eq msg.to manager) refl has there
 process_paid pt m i msg (view.Forward at moves) has there = forwards_paid pt.kernel pt.addresses i (plain_kind msg.what) msg.sender at
-process_paid pt m i msg view.Ended has there = ended_paid pt.kernel i msg.what
 process_paid pt m i msg _ has there = (refl, λ t e. inl (line_within pt.kernel t None refl e, tt))
 
 handles_paid : (b : Boot) (pt : Point) (m : ℕ) (i : MsgId) (msg : PlainMessage) (c : Bool) → HasAnswer pt.kernel.manager msg.id.n msg.what → pt.kernel.bag i ≡ Some msg

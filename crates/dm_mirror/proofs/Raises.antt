@@ -1,7 +1,7 @@
 -- How much a step of the kernel without machines raises its counts, and which processes there are behind it: what processes say.
 use Rattle.dm_mirror.proofs.Names.{◌≡◌, ℕ, ◌+◌, ◌≤◌, Bool, true, refl, ap, ◌∙◌, subst, is_some, arith, length, if◌then◌else◌, Option, Some, Pid, pid_eq, MsgId, Label, Called, Reply, Why, bind, PlainProcess, nat_tests, Life, Alive}
-use Rattle.dm_mirror.proofs.Names.{Switchboard, Manager, OneKernel, with_process, without_message, pid_eq-is, bind-is, when-is, Nexts, nexts, Completing, completing, at_hand-is, with_sent}
-use Rattle.dm_onekernel.specs.Kernel.{Ended}
+use Rattle.dm_mirror.proofs.Names.{Switchboard, Manager, OneKernel, with_process, without_message, pid_eq-is, bind-is, when-is, Nexts, nexts, Completing, completing, at_hand-is, Ended}
+use Rattle.dm_rulelaws.proofs.Names.{with_sent}
 use Rattle.dm_onekernel.specs.Receiving as receiving
 use Rattle.dm_onekernel.specs.Step as step
 

@@ -1,12 +1,11 @@
 -- How much a step raises counts: what kernels and servers say.
 use Rattle.dm_mirror.proofs.Names.{◌≡◌, ◌≢◌, ◌⊎◌, inl, inr, ℕ, ◌+◌, ◌<◌, ◌≤◌, Bool, true, false, List, [], ◌∷◌, ◌++◌, refl, ap, ◌∙◌, sym, subst, is_some, arith, length, if◌then◌else◌, slice_get, Option, None, Some, nat_tests, Pid, pid_eq}
 use Rattle.dm_mirror.proofs.Names.{pid_of, PlainLink, MsgId, PlainMessage, PlainWhat, BootImage, Label, first_number, switchboard, manager, bind, Life, Alive, Manager, OneKernel, answer_to, without_message, pid_eq-is, pid_eq-same, bind-is}
-use Rattle.dm_mirror.proofs.Names.{when-is, manager_takes_lem, take, drop, Why, PlainProcess, NamedLink, Switchboard, with_process, is_dropped, LandsSo, lands-is, board_takes_lem, if_some-is, ends_move-is, at_hand-is, Outcome, ◌==◌}
-use Rattle.dm_mirror.proofs.Names.{with_sent}
-use Rattle.dm_rulelaws.proofs.Names.{Pending}
+use Rattle.dm_mirror.proofs.Names.{when-is, manager_takes_lem, take, drop, Why, PlainProcess, NamedLink, Switchboard, with_process, is_dropped, LandsSo, lands-is, board_takes_lem, if_some-is, ends_move-is, at_hand-is, Outcome, ◌==◌, Ended}
+use Rattle.dm_rulelaws.proofs.Names.{Pending, with_sent}
 use Rattle.dm_laws.proofs.Names.{begun}
 pub use Rattle.std.proofs.lemmas.List.{length_push as append-longer}
-use Rattle.dm_onekernel.specs.Kernel.{with_note, Ended}
+use Rattle.dm_onekernel.specs.Kernel.{with_note}
 use Rattle.dm_onekernel.specs.Switchboard as board
 use Rattle.dm_onekernel.specs.Manager as manage
 use Rattle.dm_onekernel.specs.Service as service

@@ -1,10 +1,12 @@
 -- The process that a turn serves, and what serving it gives by the machine and by the rule.
 use Rattle.dm_mirror.proofs.Names.{◌≡◌, ◌≢◌, ℕ, ◌+◌, ◌≤◌, ◌&&◌, Bool, true, false, List, [], ◌∷◌, ◌++◌, map, length, refl, ap, ◌∙◌, sym, subst, inl, inr, arith, if◌then◌else◌, Option, Some, cases_Bool, false≢true, Pid, pid_eq, nat_tests}
 use Rattle.dm_mirror.proofs.Names.{Message, MsgId, id_eq, PlainMessage, Process, Record, Boot, Alive, OneKernel, plain_process, id_eq-is, pid_eq-same, Sound, Line, Point, after, moved_back, Spot, Queue, times, standing, StandsRight, View}
-use Rattle.dm_mirror.proofs.Names.{receiver_of, once_at, Droppable, IsFor, Placed, Mirrors, with_queue, KernelState, Turned, with_here, AllOwnStand, MadeStands, AreMessages, KernelStands, Part, Step}
+use Rattle.dm_mirror.proofs.Names.{receiver_of, once_at, Droppable, IsFor, Placed, Mirrors, with_queue, KernelState, Turned, with_here, AllOwnStand, MadeStands, AreMessages, KernelStands, Part, Step, None, id_of, pid_of}
 use Rattle.dm_onekernel.specs.Step as kernel
 use Rattle.dm_rule.specs.Parts as rule
-use Rattle.dm_mirror.proofs.Turning.{EndsSo, NoneEnds, spared, routed, rule_routed, are_still, IsSent}
+use Rattle.dm_rule.specs.Burying as burying
+use Rattle.dm_kernel.specs.Burying as machine
+use Rattle.dm_mirror.proofs.Turning.{EndsSo, NoneEnds, spared, given_parts, rule_given, routed, rule_routed, are_still, AreCounted, AreGiven, Gives, IsSent, Sends}
 use Rattle.dm_mirror.proofs.Kernel.Sets.{Leaves, is_queue_of, off_if, on_if, eq_self, queue_of_others, inbox_stands, LivesHere, goes_stands}
 use Rattle.dm_mirror.proofs.Serve.Runs.{AreAlone}
 
@@ -23,24 +25,28 @@ pub record Served (b : Boot) (m : ℕ) (pt : Point) (l : Placed) (k : KernelStat
   pub e : MsgId → ℕ
   pub sound : Sound r e pt.kernel
   pub own : AllOwnStand pt.view l
+  -- no name that the kernel hasn't used was told, or stands in the bag; and its predecessors are those of the lines
+  pub untold : (n : ℕ) → pt.view.count m ≤ n → pt.view.told (id_of (pid_of m 0) n) ≡ None
+  pub absent : (n : ℕ) → pt.view.count m ≤ n → l.bag (id_of (pid_of m 0) n) ≡ None
+  pub preds : machine.preds_of k p ≡ burying.preds_of pt m p
 
 -- what serving it gives
 pub record Acts (b : Boot) (m : ℕ) (pt : Point) (l : Placed) (k : KernelState) (p : Pid) (turned : Option Turned) (parts : Option (List rule.Part)) : Type 0 where
   pub state : KernelState
   pub says : List Line
-  pub route : Option Message
-  pub turn : turned ≡ Some (record { state = state; parts = map Part.Says says ++ routed route })
-  pub outcome : parts ≡ Some (map rule.Says says ++ rule_routed route)
+  pub route : Gives
+  pub turn : turned ≡ Some (record { state = state; parts = map Part.Says says ++ given_parts route })
+  pub outcome : parts ≡ Some (map rule.Says says ++ rule_given route)
   pub next : Point
   pub after : after pt says ≡ Some next
   pub placed : Placed
   pub mirrors : Mirrors next.kernel next.view next.addresses placed
   pub kernel : KernelStands b next placed m state
   pub leaves : Leaves m (is_queue_of m p) p pt l next placed
-  pub sent : IsSent placed route
+  pub sent : AreGiven k.sent (pt.view.count m) next placed route
   pub still : are_still says ≡ true
   pub over : EndsSo (Step.Turn m) pt.kernel next.kernel k.over state.over
-  pub count : state.sent ≡ k.sent
+  pub count : AreCounted k.sent state.sent route
   pub records : (q : Pid) → pid_eq p q ≡ false → state.records q ≡ k.records q
 
 pub acts_as : (b : Boot) (m : ℕ) (pt : Point) (l : Placed) (k : KernelState) (p : Pid) (t u : Option Turned) (ps qs : Option (List rule.Part)) → t ≡ u → ps ≡ qs → Acts b m pt l k p u qs → Acts b m pt l k p t ps
@@ -52,25 +58,25 @@ moved_round k p = record k { ring = moved_back p k.ring }
 
 -- the process goes on as y behind these lines, is at the ring's back, and sends at most one message
 pub goes_on_acts : (b : Boot) (m : ℕ) (pt next : Point) (l placed : Placed) (k : KernelState) (p : Pid) (x y : Process) (queue : List Message) (says : List Line) (route : Option Message) → Served b m pt l k p x → after pt says ≡ Some next
-    → Mirrors next.kernel next.view next.addresses placed → Leaves m (is_queue_of m p) p pt l next placed → next.view.known m p ≡ pt.view.known m p → next.view.ring m ≡ moved_back p (pt.view.ring m)
+    → Mirrors next.kernel next.view next.addresses placed → Leaves m (is_queue_of m p) p pt l next placed → next.view.known m p ≡ pt.view.known m p → next.view.preds m p ≡ pt.view.preds m p → next.view.ring m ≡ moved_back p (pt.view.ring m)
     → next.kernel.processes p ≡ Some (Alive (plain_process y)) → placed.processes p ≡ Some (with_queue y queue) → AreMessages placed.bag (next.view.queue m p) y.queue
     → length y.memory ≡ length x.memory → IsSent placed route → are_still says ≡ true
     → Acts b m pt l k p (Some (record { state = with_here (moved_round k p) p y; parts = map Part.Says says ++ routed route })) (Some (map rule.Says says ++ rule_routed route))
-goes_on_acts b m pt next l placed k p x y queue says route s leads mirrors leaves known ring alive there messages memory sent still =
+goes_on_acts b m pt next l placed k p x y queue says route s leads mirrors leaves known preds ring alive there messages memory sent still =
     let records : (q : Pid) → pid_eq p q ≡ false → (with_here (moved_round k p) p y).records q ≡ k.records q = λ q off. off_if (pid_eq p q) (Some (Record.Here y)) (k.records q) off in
     record {
       state = with_here (moved_round k p) p y;
       says = says;
-      route = route;
+      route = Sends route;
       turn = refl;
       outcome = refl;
       next = next;
       after = leads;
       placed = placed;
       mirrors = mirrors;
-      kernel = goes_stands b m (is_queue_of m p) p pt next l placed k (with_here (moved_round k p) p y) x y queue s.at leaves (record { here = refl; records = records; made = refl; servers = refl })
+      kernel = goes_stands b m (is_queue_of m p) p pt next l placed k (with_here (moved_round k p) p y) x y queue s.at leaves (record { here = refl; records = records; made = refl; servers = refl; preds = λ q off. refl })
           (λ q off. queue_of_others m p q off) (λ q. refl) (on_if (pid_eq p p) (Some (Record.Here y)) (k.records p) (pid_eq-same p)) refl (ap (moved_back p) s.stands.ring ∙ sym ring)
-          (inbox_stands m (is_queue_of m p) p pt next l placed k.inbox leaves refl s.stands.inbox) known alive there messages memory s.stands;
+          (inbox_stands m (is_queue_of m p) p pt next l placed k.inbox leaves refl s.stands.inbox) known preds refl alive there messages memory s.stands;
       leaves = leaves;
       sent = sent;
       still = still;

@@ -104,7 +104,7 @@ first_said b o = known_of_life (bind o (first_life b))
 started_is : (o : Option Process) (x : Process) → first_here o ≡ Some (Record.Here x) → o ≡ Some x
 started_is o x e = grind (arith, nat_tests)
 
-known_named : (b : Boot) (m : ℕ) (q : Pid) (o : Option BootProcess) → (q.home == m) ≡ true → process_named q b.processes ≡ o → IsValid b → KnownStands (first_point b) (placed_start b) q [] [] (first_said b o) (first_record b m q o None)
+known_named : (b : Boot) (m : ℕ) (q : Pid) (o : Option BootProcess) → (q.home == m) ≡ true → process_named q b.processes ≡ o → IsValid b → KnownStands (placed_start b) q [] [] (first_said b o) (first_record b m q o None)
 known_named b m q None on e valid = tt
 known_named b m q (Some p) on e valid =
     let n = named_is b [] b.processes q p valid.processes e in
@@ -112,20 +112,28 @@ known_named b m q (Some p) on e valid =
     let here : first_record b m q (Some p) None ≡ Some (Record.Here x) = ap (λ (c : Bool). if c then first_here (started b p) else None) on ∙ first_started b p n.image n.there in
     let said : first_said b (Some p) ≡ Known.Here = ap known_of_life (first_alive b p n.image n.there) in
     let there : (placed_start b).processes q ≡ Some x = started_named b b.processes q ∙ ap (λ (o : Option BootProcess). bind o (started b)) e ∙ started_is (started b p) x (first_started b p n.image n.there) in
-    subst (λ k. KnownStands (first_point b) (placed_start b) q [] [] k (first_record b m q (Some p) None)) (sym said)
-    (subst (λ r. KnownStands (first_point b) (placed_start b) q [] [] Known.Here r) (sym here) (([], there), refl))
+    subst (λ k. KnownStands (placed_start b) q [] [] k (first_record b m q (Some p) None)) (sym said)
+    (subst (λ r. KnownStands (placed_start b) q [] [] Known.Here r) (sym here) (([], there), refl))
 
 apart_record : (b : Boot) (m : ℕ) (q : Pid) (o : Option BootProcess) → (q.home == m) ≡ false → first_record b m q o None ≡ None
 apart_record b m q o off = grind (arith, nat_tests)
 
 known_first : (b : Boot) (m : ℕ) (q : Pid) (c : Bool) → (q.home == m) ≡ c → is_server q ≡ false → IsValid b
-    → KnownStands (first_point b) (placed_start b) q [] [] ((first_point b).view.known m q) (first_record b m q (process_named q b.processes) None)
+    → KnownStands (placed_start b) q [] [] ((first_point b).view.known m q) (first_record b m q (process_named q b.processes) None)
 known_first b m q true on server valid = grind (arith, nat_tests, first_known, known_named, b.processes)
 known_first b m q false off server valid = grind (arith, nat_tests, first_known, apart_record, b.processes)
 
 -- servers aren't named
 no_server_named : (b : Boot) (m : ℕ) (q : Pid) → IsValid b → is_server q ≡ true → first_record b m q (process_named q b.processes) None ≡ None
 no_server_named b m q valid server = ap (λ o. first_record b m q o None) (none_below b [] b.processes q valid.processes (let low : q.num < 3 = grind (arith, nat_tests) in omega (arith, low)))
+
+-- and there are no predecessors
+preds_one : (b : Boot) (p : BootProcess) (s : KernelState) (o : Option BootImage) → (begins_process b s p o).preds ≡ s.preds
+preds_one b p s o = grind (arith, nat_tests)
+
+preds_all : (b : Boot) (ps : List BootProcess) (s : KernelState) → (with_all b s ps).preds ≡ s.preds
+preds_all b [] s = refl
+preds_all b (p ∷ ps) s = preds_all b ps (begins_process b s p (slice_get b.images p.image)) ∙ preds_one b p s (slice_get b.images p.image)
 
 -- the room
 kernel_first : (b : Boot) (m : ℕ) → IsValid b → m < length b.machines → KernelStands b (first_point b) (placed_start b) m (opened b m)
@@ -135,15 +143,17 @@ kernel_first b m valid lt =
     let slots = o.taken_slots in let slots_ = t.slots in let none : (room_of (slice_get b.machines m)).taken_slots ≡ 0 = grind (arith, nat_tests) in
     let blocks = o.taken_blocks in let blocks_ = t.blocks in let none_ : (room_of (slice_get b.machines m)).taken_blocks ≡ 0 = grind (arith, nat_tests) in
     let made = o.made in
+    let none_preceded : (opened b m).preds ≡ (empty b m).preds = preds_all b b.processes (empty b m) in
     record {
       here = o.here;
-      known = λ q server. subst (KnownStands (first_point b) (placed_start b) q [] [] ((first_point b).view.known m q)) (sym (o.records q)) (known_first b m q (q.home == m) refl server valid);
+      known = λ q server. subst (KnownStands (placed_start b) q [] [] ((first_point b).view.known m q)) (sym (o.records q)) (known_first b m q (q.home == m) refl server valid);
       no_server = λ q server. o.records q ∙ no_server_named b m q valid server;
       ring = o.ring;
       inbox = sym (ap (map Some) o.inbox);
       made = omega (arith, made);
       room = record { slots = o.slots; blocks = o.blocks; taken_slots = omega (arith, slots, slots_, none); taken_blocks = omega (arith, blocks, blocks_, none_) };
       servers = o.servers;
+      preds = record { same = λ q. ap (λ (f : Pid → ℕ → Bool). f q) none_preceded; within = λ q j far. ap (λ (f : Pid → ℕ → Bool). f q j) none_preceded };
     }
 
 sent_one : (b : Boot) (p : BootProcess) (s : KernelState) (o : Option BootImage) → (begins_process b s p o).sent ≡ s.sent

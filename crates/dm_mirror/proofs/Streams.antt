@@ -155,9 +155,9 @@ module _ {X : Type 0} where
   pub pair_other : (f : ℕ → ℕ → X) (a c : ℕ) (x : X) (d e : ℕ) → ((a == d) && (c == e)) ≡ false → at_pair f a c x d e ≡ f d e
   pair_other f a c x d e is = ap (λ (t : Bool). if t then x else f d e) is
 
--- the point with this view, but for what machines know of processes, rings, queues and held messages
+-- the point with this view, but for what machines know of processes and predecessors, rings, queues and held messages
 abbrev pub with_view : Point → View → Point
-with_view pt v = record pt { view = record v { known = pt.view.known; ring = pt.view.ring; queue = pt.view.queue; held = pt.view.held; moves = pt.view.moves } }
+with_view pt v = record pt { view = record v { known = pt.view.known; ring = pt.view.ring; queue = pt.view.queue; held = pt.view.held; preds = pt.view.preds; moves = pt.view.moves } }
 
 module _ (b : Boot) (pt : Point) (l : Placed) (v : View) where
   -- the kernel with this inbox

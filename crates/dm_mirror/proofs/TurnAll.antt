@@ -1,6 +1,6 @@
 -- A turn with a kernel's own message at the inbox's front, a row a kind.
 use Rattle.dm_mirror.proofs.Names.{◌≡◌, ℕ, ◌<◌, false, List, [], ◌∷◌, refl, ap, ◌∙◌, sym, inl, inr, Option, None, Some, cases_Bool, Message, MsgId, PlainMessage, plain_message, Boot, IsValid, bind, FreezesWhole, IsLawfulState, KernelState}
-use Rattle.dm_mirror.proofs.Names.{Point, Known, Unknown, Here, Ended, is_fixed, OwnTold, Run, Placed, Mirrors, parts, MadeStands, AllOwnStand, KernelStands, AllRecords, TokensStand, true, subst, false≢true, Pid, What, kind_of, PlainWhat}
+use Rattle.dm_mirror.proofs.Names.{Point, Known, Unknown, Here, is_fixed, OwnTold, Run, Placed, Mirrors, parts, MadeStands, AllOwnStand, KernelStands, AllRecords, TokensStand, true, subst, false≢true, Pid, What, kind_of, PlainWhat}
 use Rattle.dm_mirror.proofs.Names.{plain_what, with_what, is_between, tells_onward, Of, own_sort, about_of, told_of, ◌==◌, manager, pid_eq, switchboard, sort_of, Inbox, MessageKind, incoming_of, kernel_handles, left_true, is_due_piece}
 use Rattle.dm_mirror.proofs.Names.{is_piece, hears_piece, brings_piece, is_stale, pulled, is_process}
 use Rattle.dm_mirror.proofs.Follow.Fronts.{fronted, Fronts}
@@ -13,14 +13,15 @@ use Rattle.dm_mirror.proofs.Leave.Asks.{gives_block, gives_chunk, hears_migrate}
 use Rattle.dm_mirror.proofs.Leave.Goes.{goes}
 use Rattle.dm_mirror.proofs.Leave.Stays.{called_off, refuses}
 use Rattle.dm_mirror.proofs.Row.Tokens.{row_turns, serve_turns}
-use Rattle.dm_mirror.proofs.Handle.Created.{BagFor, ForFixed, ForHere, ForEnded, bag_row}
+use Rattle.dm_mirror.proofs.Handle.Created.{BagFor, ForFixed, ForHere, ForUnknown, bag_row}
 use Rattle.dm_mirror.proofs.Come.Answers.{Around, turns_come}
 use Rattle.dm_mirror.proofs.Come.Stale.{turns_stale}
+use Rattle.dm_mirror.proofs.Come.Bury.{hears_bury}
 use Rattle.dm_mirror.proofs.LeftOver.{brings_on, over_of, plainly_due}
 use Rattle.dm_rule.specs.View as view
-use Rattle.dm_mirror.proofs.Follow.Asks.{apart_turn, front_known, migrate_apart, update_turn}
+use Rattle.dm_mirror.proofs.Follow.Asks.{apart_turn, migrate_apart, update_turn}
 
-module _ (b : Boot) (m : ℕ) (pt : Point) (l : Placed) (records : AllRecords) (k : KernelState) (y : Message) (h : Hearing b m pt l records k y) (plain : plain_message y ≡ None) (below : m < pt.kernel.machines) (made : MadeStands pt.kernel) (around : Around b pt l) (whole : FreezesWhole k k.inbox) where
+module _ (b : Boot) (m : ℕ) (pt : Point) (l : Placed) (records : AllRecords) (k : KernelState) (y : Message) (h : Hearing b m pt l records k y) (plain : plain_message y ≡ None) (valid : IsValid b) (below : m < pt.kernel.machines) (made : MadeStands pt.kernel) (around : Around b pt l) (whole : FreezesWhole k k.inbox) where
   fronts : Fronts b m pt l records k y
   fronts = search
 
@@ -69,11 +70,6 @@ module _ (b : Boot) (m : ℕ) (pt : Point) (l : Placed) (records : AllRecords) (
   not_plain : (w : What) (p : PlainWhat) → y.what ≡ w → plain_what w ≡ Some p → TurnsAt b m pt l records k
   not_plain w p e is = absurd (let f : Some (record { id = y.id; to = y.to.pid; sender = y.sender.pid; what = p }) ≡ None = sym (ap (with_what y) (ap plain_what e ∙ is)) ∙ plain in cc)
 
-  -- nor are messages that no machine sends
-  not_sent : (w : What) → y.what ≡ w → own_sort (kind_of w) y.to.pid (about_of w) ≡ false → TurnsAt b m pt l records k
-  not_sent w e none =
-      absurd (false≢true (sym none ∙ ap (λ (x : What). own_sort (kind_of x) y.to.pid (about_of x)) (sym e) ∙ h.sorts.own y.id (told_of y) h.told h.mine))
-
   as_is : (w : What) → y.what ≡ w → Hearing b m pt l records k (record y { what = w })
   as_is w e = subst (Hearing b m pt l records k) (ap (λ (x : What). record y { what = x }) e) h
 
@@ -89,7 +85,7 @@ module _ (b : Boot) (m : ℕ) (pt : Point) (l : Placed) (records : AllRecords) (
   by_what (What.AllTaken pid) e = goes b m pt l records k y pid (as_is _ e) made
   by_what (What.Restart pid) e = comes pid (What.Restart pid) e refl refl refl (plainly pid (What.Restart pid) e refl)
   by_what (What.CallOff pid) e = called_off b m pt l records k y pid (as_is _ e)
-  by_what (What.Bury pid) e = not_sent (What.Bury pid) e refl
+  by_what (What.Bury pid) e = hears_bury b m pt l records k y pid valid (as_is _ e)
   by_what any_ e = not_plain any_ _ e refl
 
 -- Each turn of a machine, whatever its inbox has at the front.
@@ -114,7 +110,7 @@ pub record About (b : Boot) (m : ℕ) (pt : Point) (l : Placed) (records : AllRe
 module _ (b : Boot) (m : ℕ) (pt : Point) (l : Placed) (records : AllRecords) (k : KernelState) (h : About b m pt l records k) where
   -- a message of the bag that is for a kernel, a server, or a process that is here or has ended
   bag_turn : (i : MsgId) (is : List MsgId) (x : PlainMessage) → pt.view.inbox m ≡ i ∷ is → pt.kernel.bag i ≡ Some x → BagFor m pt x.to x.what → TurnsAt b m pt l records k
-  bag_turn i is x box there whom = row_turns b m pt l records k h.run h.own h.tokens h.mine (bag_row b m pt l k i is x h.valid h.below h.run h.told h.made h.mirrors h.stands h.own box there whom)
+  bag_turn i is x box there whom = row_turns b m pt l records k h.run h.own h.tokens h.mine h.counted (bag_row b m pt l k i is x h.valid h.below h.run h.told h.made h.mirrors h.stands h.own box there whom)
 
   -- and one for a process that is here: it may be asked to move
   here_turn : (y : Message) (c : Fronts b m pt l records k y) (x : PlainMessage) (w : PlainWhat) → x.what ≡ w → pt.kernel.bag y.id ≡ Some x → y.to.pid ≡ x.to → is_fixed y.to.pid ≡ false → pt.view.known m y.to.pid ≡ Here
@@ -132,15 +128,14 @@ module _ (b : Boot) (m : ℕ) (pt : Point) (l : Placed) (records : AllRecords) (
 
   -- and by what the machine knows of it
   process_turn : (y : Message) (c : Fronts b m pt l records k y) (x : PlainMessage) (w : Known) → pt.kernel.bag y.id ≡ Some x → y.to.pid ≡ x.to → is_fixed y.to.pid ≡ false → pt.view.known m y.to.pid ≡ w → TurnsAt b m pt l records k
-  process_turn y c x Unknown there to fixed knows = absurd (front_known b m pt l records k y c fixed knows)
+  process_turn y c x Unknown there to fixed knows = bag_turn y.id c.ids x c.box there (ForUnknown (ap (pt.view.known m) (sym to) ∙ knows))
   process_turn y c x Here there to fixed knows = here_turn y c x x.what refl there to fixed knows
-  process_turn y c x Ended there to fixed knows = bag_turn y.id c.ids x c.box there (ForEnded (ap (pt.view.known m) (sym to) ∙ knows))
   process_turn y c x any_ there to fixed knows = apart_turn b m pt l records k y c any_ fixed knows refl
 
   front_turn : (y : Message) (c : Fronts b m pt l records k y) (o : Option PlainMessage) → pt.kernel.bag y.id ≡ o → TurnsAt b m pt l records k
   front_turn y c None none =
       let f = heard b m pt l records k y.id c.ids h.run h.told h.mirrors h.stands h.own h.tokens h.mine h.counted c.box none in
-      by_what b m pt l records k f.message f.hearing f.plain h.below h.made h.around h.whole f.message.what refl
+      by_what b m pt l records k f.message f.hearing f.plain h.valid h.below h.made h.around h.whole f.message.what refl
   front_turn y c (Some x) there =
       let plain : plain_message y ≡ Some x = sym (ap (λ (o : Option Message). bind o plain_message) c.there) ∙ h.mirrors.plain.bag y.id ∙ there in
       let to : y.to.pid ≡ x.to = (parts y x plain).to in
@@ -150,7 +145,7 @@ module _ (b : Boot) (m : ℕ) (pt : Point) (l : Placed) (records : AllRecords) (
       ]
 
   box_turn : (box : List MsgId) → pt.view.inbox m ≡ box → TurnsAt b m pt l records k
-  box_turn [] box = serve_turns b m pt l records k (record { run = h.run; made = h.made; mirrors = h.mirrors; own = h.own; stands = h.stands; lawful = h.lawful }) h.tokens h.mine box
+  box_turn [] box = serve_turns b m pt l records k (record { run = h.run; made = h.made; mirrors = h.mirrors; own = h.own; stands = h.stands; lawful = h.lawful; valid = h.valid }) h.tokens h.mine h.counted box
   box_turn (i ∷ is) box =
       let f = fronted b m pt l records k i is h.below h.run h.told h.mirrors h.stands h.own h.tokens h.mine h.counted box in
       front_turn f.message f.fronts (pt.kernel.bag f.message.id) refl

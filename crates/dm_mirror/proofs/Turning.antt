@@ -1,8 +1,8 @@
 -- What a turn says before the messages that it sends are routed.
-use Rattle.dm_mirror.proofs.Names.{◌≡◌, ◌≢◌, ℕ, ◌+◌, ◌≤◌, Bool, true, false, not, ◌==◌, ◌&&◌, List, [], ◌∷◌, ◌++◌, map, is_some, ⊤, Option, None, Some, Pid, place_of, kernel_at, Message, MsgId, MessageKind, Stage, kind_of, plain_message}
-use Rattle.dm_mirror.proofs.Names.{Cargo, cargo_at, incoming_of, Boot, manager, Step, Line, Receiver, Sender, given, own_given, is_between, Point, after, moved, outcome, at_machine, Spot, Queue, Held, Inbox, Untaken, standing, Known, Here}
-use Rattle.dm_mirror.proofs.Names.{Frozen, Incoming, Ended, Of, Told, own_id, id_of, pid_of, ap, arith, Placed, Mirrors, enclosed, KernelState, Turned, AllOwnStand, about_of, told_of, KernelStands, AllRecords, Carries, TokensStand}
-use Rattle.dm_mirror.proofs.Names.{destination_of, Part, sort_of, ◌⊎◌, View, LeftCarries, is_due_piece, OneKernel, Why, pid_eq, if◌then◌else◌, turns, ◌∙◌, sym, subst, inl, inr, cases_Bool, pid_eq-is, why_ended}
+use Rattle.dm_mirror.proofs.Names.{◌≡◌, ◌≢◌, ℕ, ◌+◌, ◌≤◌, Bool, true, false, not, ◌==◌, ◌&&◌, List, [], ◌∷◌, ◌++◌, length, map, is_some, ⊤, Option, None, Some, Pid, place_of, kernel_at, Message, MsgId, MessageKind, Stage, kind_of}
+use Rattle.dm_mirror.proofs.Names.{plain_message, Cargo, cargo_at, incoming_of, Boot, manager, Step, Line, Receiver, Sender, given, own_given, is_between, Point, after, moved, outcome, at_machine, Spot, Queue, Held, Inbox, Untaken}
+use Rattle.dm_mirror.proofs.Names.{standing, Known, Here, Frozen, Incoming, Of, Told, own_id, id_of, pid_of, ap, arith, Placed, Mirrors, enclosed, KernelState, Turned, AllOwnStand, about_of, told_of, KernelStands, AllRecords, Carries}
+use Rattle.dm_mirror.proofs.Names.{TokensStand, destination_of, Part, sort_of, ◌⊎◌, View, LeftCarries, is_due_piece, OneKernel, Why, pid_eq, if◌then◌else◌, turns, ◌∙◌, sym, subst, inl, inr, cases_Bool, pid_eq-is, why_ended}
 use Rattle.dm_onekernel.specs.Kernel as kernels
 use Rattle.dm_rule.specs.Parts as rule
 
@@ -34,14 +34,14 @@ pub record Elsewhere (m : ℕ) (pt : Point) (l : Placed) (next : Point) (placed 
   pub known : (n : ℕ) (p : Pid) → n ≢ m → next.view.known n p ≡ pt.view.known n p
   pub queue : (n : ℕ) (p : Pid) → n ≢ m → next.view.queue n p ≡ pt.view.queue n p
   pub held : (n : ℕ) (p : Pid) → n ≢ m → next.view.held n p ≡ pt.view.held n p
+  pub preds : (n : ℕ) (p : Pid) → n ≢ m → next.view.preds n p ≡ pt.view.preds n p
   pub count : (n : ℕ) → next.view.count n ≡ pt.view.count n
   pub told : next.view.told ≡ pt.view.told
   pub machines : next.kernel.machines ≡ pt.kernel.machines
   pub made : (n : ℕ) → n ≢ m → next.kernel.made n ≡ pt.kernel.made n
-  -- what another machine has, holds back or expects stays, and so do who waits to hear of it and what has ended there
+  -- what another machine has, holds back or expects stays, and so does who waits to hear of it
   pub process : (n : ℕ) (p : Pid) → n ≢ m → has_process (pt.view.known n p) ≡ true → placed.processes p ≡ l.processes p
   pub notes : (n : ℕ) (p : Pid) → n ≢ m → has_process (pt.view.known n p) ≡ true → placed.notes p ≡ l.notes p
-  pub ended : (n : ℕ) (p : Pid) → n ≢ m → pt.view.known n p ≡ Ended → next.kernel.processes p ≡ pt.kernel.processes p
   -- the blocks of what another machine knows stay
   pub life : (n : ℕ) (p : Pid) → n ≢ m → has_process (pt.view.known n p) ≡ true → next.kernel.processes p ≡ pt.kernel.processes p
   -- a message that stands elsewhere stays
@@ -197,7 +197,7 @@ pub record Turns (b : Boot) (m : ℕ) (d : Step) (turned : Option Turned) (pt st
   pub tokens : TokensStand (late_point next late).view placed (at_machine records m state.records)
 
 -- a row of a turn that is no migration's: it says labels, or that a message is queued or that the machine idles, and routes at most one
--- message of the bag; what moves stays as it is
+-- message of the bag, or tells predecessors that a process has ended; what moves stays as it is
 abbrev pub is_moving : Known → Bool
 is_moving (Frozen to) = true
 is_moving (Incoming from) = true
@@ -225,23 +225,50 @@ abbrev pub IsSent : Placed → Option Message → Type 0
 IsSent placed None = ⊤
 IsSent placed (Some x) = (placed.bag x.id ≡ Some x) × (is_some (plain_message x) ≡ true)
 
+-- what a row routes behind its lines: at most one message of the bag; or, where a process has ended, the kernel's own messages to its
+-- predecessors
+pub data Gives : Type 0 where
+  Sends : (message : Option Message) → Gives
+  Tells : (messages : List Message) → Gives
+
+abbrev pub given_parts : Gives → List Part
+given_parts (Sends o) = routed o
+given_parts (Tells xs) = map Part.Routes xs
+
+abbrev pub rule_own : Message → rule.Part
+rule_own x = rule_part_of (Own x)
+
+abbrev pub rule_given : Gives → List rule.Part
+rule_given (Sends o) = rule_routed o
+rule_given (Tells xs) = map rule_own xs
+
+-- they may be put, where the kernel has counted its own messages as the lines have
+abbrev pub AreGiven : ℕ → ℕ → Point → Placed → Gives → Type 0
+AreGiven counted said next placed (Sends o) = IsSent placed o
+AreGiven counted said next placed (Tells xs) = counted ≡ said → (records : AllRecords) → AllMayPut next placed records 0 (map Own xs)
+
+-- and then it has counted these, too
+abbrev pub AreCounted : ℕ → ℕ → Gives → Type 0
+AreCounted before now (Sends o) = now ≡ before
+AreCounted before now (Tells xs) = now ≡ before + length xs
+
 pub record Row (b : Boot) (m : ℕ) (pt : Point) (l : Placed) (k : KernelState) : Type 0 where
   pub state : KernelState
   pub says : List Line
-  pub route : Option Message
-  pub turn : turns b k k.inbox ≡ Some (record { state = state; parts = map Part.Says says ++ routed route })
-  pub outcome : outcome b pt (Step.Turn m) ≡ Some (map rule.Says says ++ rule_routed route)
+  pub route : Gives
+  pub turn : turns b k k.inbox ≡ Some (record { state = state; parts = map Part.Says says ++ given_parts route })
+  pub outcome : outcome b pt (Step.Turn m) ≡ Some (map rule.Says says ++ rule_given route)
   pub next : Point
   pub after : after (begun pt m) says ≡ Some next
   pub placed : Placed
   pub mirrors : Mirrors next.kernel next.view next.addresses placed
   pub kernel : KernelStands b next placed m state
   pub elsewhere : Elsewhere m (begun pt m) l next placed
-  pub sent : IsSent placed route
+  pub sent : AreGiven k.sent (pt.view.count m) next placed route
   pub still : are_still says ≡ true
   pub over : EndsSo (Step.Turn m) pt.kernel next.kernel k.over state.over
-  -- it counts no message of the kernel's own, and what leaves or comes here stays
-  pub count : state.sent ≡ k.sent
+  -- it counts the kernel's own messages, and what leaves or comes here stays
+  pub count : AreCounted k.sent state.sent route
   pub moving : (p : Pid) → is_moving (pt.view.known m p) ≡ true → (placed.processes p ≡ l.processes p) × (state.records p ≡ k.records p) × (placed.notes p ≡ l.notes p)
   -- the kernels' own messages stay
   pub own : (i : MsgId) (x : Message) → plain_message x ≡ None → l.bag i ≡ Some x → placed.bag i ≡ Some x

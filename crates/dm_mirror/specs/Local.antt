@@ -65,6 +65,7 @@ unnumbered (line.Queued id) = line.Queued id
 unnumbered (line.Held id) = line.Held id
 unnumbered (line.Forwarded id m) = line.Forwarded id m
 unnumbered (line.Updated id n) = line.Updated id n
+unnumbered (line.Buried id n) = line.Buried id n
 unnumbered (line.Migration s q) = line.Migration s q
 unnumbered (line.SentOn q n) = line.SentOn q n
 unnumbered (line.Called q n) = line.Called q n

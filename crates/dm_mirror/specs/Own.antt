@@ -25,6 +25,7 @@ about_of (what.Memory pid block bytes) = Of pid
 about_of (what.AllTaken pid) = Of pid
 about_of (what.Restart pid) = Of pid
 about_of (what.CallOff pid) = Of pid
+about_of (what.Bury pid) = Of pid
 about_of w = NothingElse
 
 -- what was told of a message when it was first put

@@ -1,6 +1,6 @@
 -- The world stands for a point: each machine has exactly what the printed lines say of it, with the plain values of the kernel
 -- without machines and the places of the addresses.
-use Rattle.std.specs.Prelude.{◌≡◌, ◌≢◌, ⊤, ℕ, ◌<◌, ◌≤◌, ◌==◌, true, false, if◌then◌else◌, is_some, List, [], length, map, take, drop, slice_get}
+use Rattle.std.specs.Prelude.{◌≡◌, ◌≢◌, ⊤, ℕ, ◌<◌, ◌≤◌, ◌==◌, Bool, true, false, if◌then◌else◌, is_some, List, [], length, map, take, drop, slice_get}
 use Rattle.std.specs.List.{All}
 use Rattle.std.specs.declared.option.Option.{Option}
 use Rattle.std.specs.declared.option.Option.TheVariants.{None, Some}
@@ -33,7 +33,7 @@ use Rattle.dm_node.specs.State.{NodeState}
 use Rattle.dm_node.specs.Out.{packet_of_load}
 use Rattle.dm_line.specs.declared.line.Load.{Load}
 use Rattle.dm_line.specs.declared.line.Load.TheVariants as load
-use Rattle.dm_rule.specs.View.{SentLoad, Known, Unknown, Here, Frozen, Incoming, Forward, Ended}
+use Rattle.dm_rule.specs.View.{SentLoad, Known, Unknown, Here, Frozen, Incoming, Forward}
 use Rattle.dm_rule.specs.Point.{Point}
 use Rattle.dm_rule.specs.Rule.{Room, taken_at, has}
 use Rattle.dm_rulelaws.specs.Fits.{is_server}
@@ -73,14 +73,13 @@ pub record ComesStand (l : Placed) (p : Pid) (from : ℕ) (held_ : List MsgId) (
   pub held : AreMessages l.bag held_ a.held
 
 -- what a machine knows of a process is what the lines say
-abbrev pub KnownStands : Point → Placed → Pid → List MsgId → List MsgId → Known → Option machine.KernelKnown → Type 0
-KnownStands pt l p queue held Unknown None = ⊤
-KnownStands pt l p queue held Here (Some (record_.Here x)) = HereStands l p queue x
-KnownStands pt l p queue held (Frozen to) (Some (record_.Frozen d)) = LeavesStand l p queue held to d
-KnownStands pt l p queue held (Incoming from) (Some (record_.Incoming a)) = ComesStand l p from held a
-KnownStands pt l p queue held (Forward at moves) (Some (record_.Forward to count)) = (to ≡ at) × (count ≡ moves)
-KnownStands pt l p queue held Ended (Some record_.Ended) = ⊤
-KnownStands pt l p queue held k r = ⊥
+abbrev pub KnownStands : Placed → Pid → List MsgId → List MsgId → Known → Option machine.KernelKnown → Type 0
+KnownStands l p queue held Unknown None = ⊤
+KnownStands l p queue held Here (Some (record_.Here x)) = HereStands l p queue x
+KnownStands l p queue held (Frozen to) (Some (record_.Frozen d)) = LeavesStand l p queue held to d
+KnownStands l p queue held (Incoming from) (Some (record_.Incoming a)) = ComesStand l p from held a
+KnownStands l p queue held (Forward at moves) (Some (record_.Forward to count)) = (to ≡ at) × (count ≡ moves)
+KnownStands l p queue held k r = ⊥
 
 -- the room is the boot file's, and what is taken is what the processes of the lines take
 pub record RoomStands (t given : Taken) (r : Room) : Type 0 where
@@ -92,12 +91,18 @@ pub record RoomStands (t given : Taken) (r : Room) : Type 0 where
 abbrev pub servers_at : Placed → ℕ → Option Servers
 servers_at l m = if m == 0 then Some (record { board = l.board; manager = l.manager }) else None
 
+-- the predecessors of each process are those of the lines, and machines that there are
+pub record PredsStand (b : Boot) (said kept : Pid → ℕ → Bool) : Type 0 where
+  pub same : (p : Pid) → kept p ≡ said p
+  pub within : (p : Pid) (n : ℕ) → length b.machines ≤ n → kept p n ≡ false
+
 -- the kernel of machine m
 pub record KernelStands (b : Boot) (pt : Point) (l : Placed) (m : ℕ) (k : KernelState) : Type 0 where
   pub here : k.here ≡ m
   -- the servers have no records
-  pub known : (p : Pid) → is_server p ≡ false → KnownStands pt l p (pt.view.queue m p) (pt.view.held m p) (pt.view.known m p) (k.records p)
+  pub known : (p : Pid) → is_server p ≡ false → KnownStands l p (pt.view.queue m p) (pt.view.held m p) (pt.view.known m p) (k.records p)
   pub no_server : (p : Pid) → is_server p ≡ true → k.records p ≡ None
+  pub preds : PredsStand b (pt.view.preds m) k.preds
   pub ring : k.ring ≡ pt.view.ring m
   pub inbox : AreMessages l.bag (pt.view.inbox m) k.inbox
   pub made : k.made ≡ pt.kernel.made m

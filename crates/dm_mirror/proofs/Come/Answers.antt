@@ -4,7 +4,7 @@ use Rattle.dm_mirror.proofs.Names.{Message, MsgId, What, Record, Line, Stage, Me
 use Rattle.dm_mirror.proofs.Names.{slots_of, plain_process, PlainProcess, pid_eq-same, told_step, Moves, kind_comes, knows, kind_leaves, Point, Room, fits, free_room, taken_at, taken_by, at_pid, at_record, Known, Unknown, Frozen, ◌∷◌}
 use Rattle.dm_mirror.proofs.Names.{Incoming, Forward, front_of, is_server, has_nothing_held, Placed, room_of, accepts, with_expected, kernel_handles, KernelState, KnownStands, KernelStands, RoomStands, AllRecords, Carries, source_knows}
 use Rattle.dm_mirror.proofs.Names.{and_false, tells_onward, nat_tests, sort_of, drop, IsReadAgain, Cargo, CanBeCarried, ask_for, IsSuch, ◌⊎◌, ◌≤◌, Of, Spot, Told, View, apart_is, cases_Bool, eqb-true, inl, inr, is_between, pid_of, standing}
-use Rattle.dm_mirror.proofs.Names.{told_of, is_due_piece, pulls_piece, Asks, Brought, IsLeft, is_calloff, ranked_in, never_behind, Ranked}
+use Rattle.dm_mirror.proofs.Names.{told_of, is_due_piece, pulls_piece, Asks, Brought, IsLeft, is_calloff, ranked_in, never_behind, Ranked, added, PredsStand}
 use Rattle.dm_room.specs.Room as room_
 use Rattle.dm_onekernel.specs.Step as kernel
 use Rattle.dm_rule.specs.Migrating as rule_moves
@@ -21,6 +21,7 @@ use Rattle.dm_mirror.proofs.Handle.Taking.{pid_apart as pid_off, some_same}
 use Rattle.dm_mirror.proofs.Come.Restarts.{turns_restart}
 use Rattle.dm_mirror.proofs.Handle.Kills.{free_of as free_as}
 use Rattle.dm_mirror.proofs.LeftOver.{brings_on, piece_only, piece_over}
+use Rattle.dm_mirror.proofs.Preds.{added_stand}
 
 -- the machine that it leaves holds it back
 frozen_is : (d : ℕ) (n : Known) → kind_leaves MessageKind.Ask d n ≡ true → (to : ℕ) × (n ≡ Frozen to)
@@ -78,18 +79,18 @@ lacks_row b m pt l records k y p c a is handles none =
     let r = free_room b pt m in
     let free = free_as k.room (slice_get b.machines m) (taken_at pt m pt.kernel.machines) c.stands.room in
     let box = drop 1 (v.inbox m) in
-    let next = come_point pt (come_view v m p box v.known v.asked v.come) in
-    let over : (i : MsgId) (t : Told) (z : Spot) → v.told i ≡ Some t → is_between t.kind ≡ true → t.about ≡ Of p → 1 ≤ standing v i z → is_due_piece v p i t ≡ false → is_due_piece (come_view v m p box v.known v.asked v.come) p i t ≡ false =
+    let next = come_point pt (come_view v m p box v.known v.asked v.come v.preds) in
+    let over : (i : MsgId) (t : Told) (z : Spot) → v.told i ≡ Some t → is_between t.kind ≡ true → t.about ≡ Of p → 1 ≤ standing v i z → is_due_piece v p i t ≡ false → is_due_piece (come_view v m p box v.known v.asked v.come v.preds) p i t ≡ false =
     λ i t z told between about st off. off in
     turns_answer b m pt l records k y p c a (search (
       over,
-      v.come,
+      c.stands.preds,
       turn_kernel b m pt l records k y p c a (accepts b s y p (length a.process.memory / 256) a.process.moves (length (state_of a.process)) (l.notes p) false) handles,
       outcome_kernel b m pt l records k y p c a _ (ap (λ (k : MessageKind). told_step pt m y.id p (fits r (length a.process.memory / 256)) (plain_process a.process) (sort_of k)) is ∙ ap (λ (d : Bool). Some (rule_moves.accepts y.id.from.home p d r.slots r.blocks)) none ∙ (λ i. Some (rule_moves.accepts y.id.from.home p false (sym free.0 i) (sym free.1 i)))),
-      (let e_ : after (begun pt m) (Line.Lacks p (free_slots k.room) (free_blocks k.room) ∷ []) ≡ Some (come_point pt (come_view pt.view m p (drop 1 (pt.view.inbox m)) pt.view.known pt.view.asked pt.view.come)) = refl in e_),
+      (let e_ : after (begun pt m) (Line.Lacks p (free_slots k.room) (free_blocks k.room) ∷ []) ≡ Some (come_point pt (come_view pt.view m p (drop 1 (pt.view.inbox m)) pt.view.known pt.view.asked pt.view.come pt.view.preds)) = refl in e_),
       first_gone y.id c.ids (v.inbox m) c.box,
       room_kept b pt m p box v.asked v.come l records k y c,
-      known_on pt next l l p (v.queue m p) (v.held m p) (v.known m p) (k.records p) refl refl refl (λ j least. refl) (λ j least. refl) (c.stands.known p a.server),
+      known_on l l p (v.queue m p) (v.held m p) (v.known m p) (k.records p) refl refl (λ j least. refl) (λ j least. refl) (c.stands.known p a.server),
     ))
 
 -- there is
@@ -100,11 +101,11 @@ record_off : (f : ℕ → Pid → Known) (m n : ℕ) (p q : Pid) (x : Known) →
 record_off f m n p q x off = ap (λ (d : Bool). if d then x else f n q) (and_false (m == n) (pid_eq p q) off)
 
 -- what the process takes here then
-taken_then : (b : Boot) (m : ℕ) (pt : Point) (l : Placed) (records : AllRecords) (k : KernelState) (y : Message) (p : Pid) (c : Comes b m pt l records k y p) (a : Arrives b m pt l k y p) (box : List MsgId) (from : ℕ) (asked : Pid → ℕ) (come : Pid → Bool) → Absent (pt.view.known m p)
-    → RoomStands (with_reserved k.room (length a.process.memory / 256)) (room_of (slice_get b.machines m)) (taken_at (come_point pt (come_view pt.view m p box (at_record pt.view.known m p (Incoming from)) asked come)) m pt.kernel.machines)
-taken_then b m pt l records k y p c a box from asked come none =
+taken_then : (b : Boot) (m : ℕ) (pt : Point) (l : Placed) (records : AllRecords) (k : KernelState) (y : Message) (p : Pid) (c : Comes b m pt l records k y p) (a : Arrives b m pt l k y p) (box : List MsgId) (from : ℕ) (asked : Pid → ℕ) (come : Pid → Bool) (preds : ℕ → Pid → ℕ → Bool) → Absent (pt.view.known m p)
+    → RoomStands (with_reserved k.room (length a.process.memory / 256)) (room_of (slice_get b.machines m)) (taken_at (come_point pt (come_view pt.view m p box (at_record pt.view.known m p (Incoming from)) asked come preds)) m pt.kernel.machines)
+taken_then b m pt l records k y p c a box from asked come preds none =
     let v = pt.view in
-    let next = come_point pt (come_view v m p box (at_record v.known m p (Incoming from)) asked come) in
+    let next = come_point pt (come_view v m p box (at_record v.known m p (Incoming from)) asked come preds) in
     let changed = taken_changed pt next m p refl (λ h. refl) (c.made.home p a.is_made) (c.made.first p a.is_made) (c.made.below p a.is_made)
     (λ q apart. ap (λ (n : Known). takes_as n (rule.blocks_of (kernel.alive (pt.kernel.processes q)))) (record_off v.known m m p q (Incoming from) (pid_off p q apart))) in
     let before : taken_by pt m p ≡ record { slots = 0; blocks = 0 } = ap (λ (n : ℕ). record { slots = n; blocks = if n == 0 then 0 else rule.blocks_of (kernel.alive (pt.kernel.processes p)) }) none.room in
@@ -132,13 +133,13 @@ taken_then b m pt l records k y p c a box from asked come none =
     reserve new old none_ some_ taken more e f g h = omega (arith, e, f, g, h)
 
 -- what is left over of an earlier move from there stands before the request, and so nowhere
-accepted_over : (b : Boot) (m : ℕ) (pt : Point) (l : Placed) (records : AllRecords) (k : KernelState) (y : Message) (p : Pid) (c : Comes b m pt l records k y p) (a : Arrives b m pt l k y p) → kind_of y.what ≡ MessageKind.Ask → (box : List MsgId) (asked : Pid → ℕ) (come : Pid → Bool)
+accepted_over : (b : Boot) (m : ℕ) (pt : Point) (l : Placed) (records : AllRecords) (k : KernelState) (y : Message) (p : Pid) (c : Comes b m pt l records k y p) (a : Arrives b m pt l k y p) → kind_of y.what ≡ MessageKind.Ask → (box : List MsgId) (asked : Pid → ℕ) (come : Pid → Bool) (preds : ℕ → Pid → ℕ → Bool)
     → (i : MsgId) (t : Told) (z : Spot) → pt.view.told i ≡ Some t → is_between t.kind ≡ true → t.about ≡ Of p → 1 ≤ standing pt.view i z → is_due_piece pt.view p i t ≡ false
-    → is_due_piece (come_view pt.view m p box (at_record pt.view.known m p (Incoming (front_of (pt.view.inbox m)))) asked come) p i t ≡ false
-accepted_over b m pt l records k y p c a is box asked come i t z told between about st off =
+    → is_due_piece (come_view pt.view m p box (at_record pt.view.known m p (Incoming (front_of (pt.view.inbox m)))) asked come preds) p i t ≡ false
+accepted_over b m pt l records k y p c a is box asked come preds i t z told between about st off =
     let v = pt.view in
     let from = front_of (v.inbox m) in
-    let w = come_view v m p box (at_record v.known m p (Incoming from)) asked come in
+    let w = come_view v m p box (at_record v.known m p (Incoming from)) asked come preds in
     let source : from ≡ a.source = ap front_of c.box ∙ ap (λ (q : Pid). q.home) a.from in
     elim (a.phase.alone i t z told between about st) [
       | inl mine ↦
@@ -189,7 +190,13 @@ accepts_row b m pt l records k y p c a is handles some_ whole table =
     let now = at_record v.known m p (Incoming from) in
     let asked = at_pid v.asked p 1 in
     let come = at_pid v.come p false in
-    let next = come_point pt (come_view v m p box now asked come) in
+    let preds = at_record v.preds m p (added from (v.preds m p)) in
+    let next = come_point pt (come_view v m p box now asked come preds) in
+    -- the source is a machine that there is
+    let (to, frozen) = leaves_where b m pt l k y p a is in
+    let source : y.id.from.home ≡ a.source = ap (λ (q : Pid). q.home) a.from in
+    let there_is : y.id.from.home < length b.machines =
+    subst (λ (n : ℕ). n < length b.machines) (sym source) (subst (λ (n : ℕ). a.source < n) c.run.based.machines (c.run.found.known_within a.source p (λ e. frozen_unknown to (sym frozen ∙ e)))) in
     let new = expected p y.id.from.home (length x.memory / 256) x.moves (length (state_of x)) (l.notes p) (slots_of b.format) in
     let state = machine.with_sent (with_expected b s p y.id.from.home (length x.memory / 256) x.moves (length (state_of x)) (l.notes p)) in
     let named : x.pid ≡ p = ap (λ (z : Cargo). z.pid) a.is_cargo ∙ a.named in
@@ -208,6 +215,9 @@ accepts_row b m pt l records k y p c a is handles some_ whole table =
       known = now;
       asked = asked;
       come = come;
+      preds = preds;
+      kept = subst (λ (n : ℕ). PredsStand b (at_record v.preds m p (added n (v.preds m p)) m) state.preds) (sym (ap front_of c.box)) (added_stand b v.preds k.preds m y.id.from.home p there_is c.stands.preds);
+      preds_away = λ n q off. ap (λ (d : Bool). if d && pid_eq p q then added from (v.preds m p) else v.preds n q) (eq_off m n off);
       turn = turn_kernel b m pt l records k y p c a (accepts b s y p (length x.memory / 256) x.moves (length (state_of x)) (l.notes p) true) handles;
       outcome = outcome_kernel b m pt l records k y p c a _ (ap (λ (k : MessageKind). told_step pt m y.id p (fits r (length x.memory / 256)) (plain_process x) (sort_of k)) is
           ∙ ap (λ (d : Bool). Some (rule_moves.accepts y.id.from.home p d r.slots r.blocks)) some_);
@@ -216,7 +226,7 @@ accepts_row b m pt l records k y p c a is handles some_ whole table =
       known_off = λ n q off. record_off v.known m n p q (Incoming from) off;
       known_away = λ n q off. ap (λ (d : Bool). if d && pid_eq p q then (Incoming from) else v.known n q) (eq_off m n off);
       asked_off = λ q off. ap (λ (d : Bool). if d then 1 else v.asked q) off;
-      over = accepted_over b m pt l records k y p c a is box asked come;
+      over = accepted_over b m pt l records k y p c a is box asked come preds;
       here = refl;
       records_off = λ q off. ap (λ (d : Bool). if d then Some (Record.Incoming new) else k.records q) off;
       ring = refl;
@@ -224,10 +234,10 @@ accepts_row b m pt l records k y p c a is handles some_ whole table =
       made = refl;
       sent = refl;
       servers = refl;
-      room = taken_then b m pt l records k y p c a box from asked come none;
+      room = taken_then b m pt l records k y p c a box from asked come preds none;
       mine =
-          subst (λ (n : Known). KnownStands next l p (v.queue m p) (v.held m p) n (state.records p)) (sym (record_self v.known m p (Incoming from)))
-          (subst (KnownStands next l p (v.queue m p) (v.held m p) (Incoming from)) (sym there)
+          subst (λ (n : Known). KnownStands l p (v.queue m p) (v.held m p) n (state.records p)) (sym (record_self v.known m p (Incoming from)))
+          (subst (KnownStands l p (v.queue m p) (v.held m p) (Incoming from)) (sym there)
           (record { source = sym (ap front_of c.box); cargo = a.cargo; there = a.there; whole = subst (IsSuch (CanBeCarried (slots_of b.format))) (sym a.is_process) (whole, sym table); pieces = pieces; held = ap (map l.bag) held }));
       between = refl;
       is_reply = refl;

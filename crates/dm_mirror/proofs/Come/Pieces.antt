@@ -2,13 +2,14 @@
 use Rattle.dm_mirror.proofs.Names.{turns, ◌≡◌, ℕ, ◌/◌, Bool, true, false, List, [], ◌∷◌, length, refl, ap, ◌∙◌, sym, subst, if◌then◌else◌, slice_get, Option, Some, Pid, pid_eq, Message, MsgId, kind_of, Record, incoming_of, Wanted, Chunk}
 use Rattle.dm_mirror.proofs.Names.{Nothing, Arrival, pull, with_piece, coming, Boot, bind, plain_process, pid_eq-same, Line, told_step, to_kernel, is_early, Point, after, fits, free_room, taken_at, Incoming, Known, Of, Placed, room_of}
 use Rattle.dm_mirror.proofs.Names.{piece_line, takes_piece, took_piece, kernel_handles, KernelState, about_of, ComesStand, KnownStands, RoomStands, AllRecords, Carries, IsAsked, ◌+◌, ◌==◌, MessageKind, Step, Stage, arith, nat_tests}
-use Rattle.dm_mirror.proofs.Names.{kind_comes, outcome, at_pid, without_front, About, Turned, turn, apart_is, expects_is, not, nat_lt, What, Block, after_chunk, is_last, ComesByPieces, by_pieces, chunks_of, pieces_of, takes_block}
-use Rattle.dm_mirror.proofs.Names.{takes_chunk, Wants, sort_of, drop, Cargo, CanCome, CanBeCarried, IsSuch, PlainProcess, comes_to, hears, kernel_hears, told_of, Addresses, None, OneKernel, View, enclosed, goes_between, is_between}
-use Rattle.dm_mirror.proofs.Names.{own_given, plain_what, tells_onward, hears_piece, says_stale}
+use Rattle.dm_mirror.proofs.Names.{kind_comes, outcome, at_pid, without_front, About, Turned, apart_is, expects_is, not, nat_lt, What, Block, after_chunk, is_last, ComesByPieces, by_pieces, chunks_of, pieces_of, takes_block, takes_chunk}
+use Rattle.dm_mirror.proofs.Names.{Wants, sort_of, drop, Cargo, CanCome, CanBeCarried, IsSuch, PlainProcess, comes_to, hears, kernel_hears, told_of, Addresses, None, OneKernel, View, enclosed, goes_between, is_between, own_given}
+use Rattle.dm_mirror.proofs.Names.{plain_what, tells_onward, hears_piece, says_stale, buried}
 use Rattle.dm_rule.proofs.Names.{Part}
 use Rattle.dm_kernel.specs.declared.part.Part.TheVariants as part
 use Rattle.dm_kernel.specs.State as machine
 use Rattle.dm_mirror.proofs.Come.Frames.{Arrives, Comes, arrives, asked_after_block, block_last, chunk_last, chunk_next, chunks_same, pieces_same}
+use Rattle.dm_mirror.proofs.Leave.Asks.{between_goes_on}
 use Rattle.dm_mirror.proofs.Come.Turns.{come_point, come_view, turns_answer, eq_self}
 use Rattle.dm_mirror.proofs.Recorded.{recorded}
 use Rattle.dm_mirror.proofs.Rooms.{taken_same}
@@ -28,7 +29,9 @@ pub outcome_kernel : (b : Boot) (m : ℕ) (pt : Point) (l : Placed) (records : A
 outcome_kernel b m pt l records k y p c a o e =
     let step : PlainProcess → Option (List Part) = λ x. told_step pt m y.id p (fits (free_room b pt m) (length x.memory / 256)) x (sort_of (kind_of y.what)) in
     ap (ruled.turns b pt m) c.box ∙ ap (comes_to b pt m y.id) a.unplain ∙ ap (hears b pt m y.id) a.told ∙ to_kernel_hears b pt m y.id (told_of y) (ap (λ (q : Pid). q.num == 0) a.to)
-    ∙ ap (kernel_hears b pt m y.id (kind_of y.what)) c.about ∙ ap (λ (d : Bool). if d then Some (Part.Says (Line.Stale y.id) ∷ []) else bind (kernel.alive (pt.kernel.processes p)) step) a.fresh ∙ ap (λ (q : Option PlainProcess). bind q step) a.alive ∙ e
+    ∙ ap (kernel_hears b pt m y.id (kind_of y.what)) c.about
+    ∙ ap (λ (d : Bool). if d then Some (buried pt m y.id p) else if ruled.is_stale pt m y.id (kind_of y.what) p then Some (Part.Says (Line.Stale y.id) ∷ []) else bind (kernel.alive (pt.kernel.processes p)) step) (between_goes_on (kind_of y.what) c.between)
+    ∙ ap (λ (d : Bool). if d then Some (Part.Says (Line.Stale y.id) ∷ []) else bind (kernel.alive (pt.kernel.processes p)) step) a.fresh ∙ ap (λ (q : Option PlainProcess). bind q step) a.alive ∙ e
 
 pub comes_known : (b : Boot) (m : ℕ) (pt : Point) (l : Placed) (k : KernelState) (y : Message) (p : Pid) (a : Arrives b m pt l k y p) → kind_comes (kind_of y.what) a.source (pt.view.known m p) ≡ true
 comes_known b m pt l k y p a = grind (arith, nat_tests, apart_is, eq_self)
@@ -41,11 +44,11 @@ first_gone i is xs e = ap (drop 1) e
 
 -- a piece that isn't the last
 pub after_piece : (pt : Point) (m : ℕ) (p q : Pid) (i : MsgId) (k : MessageKind) → (k ≡ MessageKind.State) → pt.view.told i ≡ Some (record { kind = k; receiver = q; about = Of p })
-    → after (begun pt m) (Line.Proto i ∷ []) ≡ Some (come_point pt (come_view pt.view m p (without_front i (pt.view.inbox m)) pt.view.known (at_pid pt.view.asked p (pt.view.asked p + 1)) pt.view.come))
+    → after (begun pt m) (Line.Proto i ∷ []) ≡ Some (come_point pt (come_view pt.view m p (without_front i (pt.view.inbox m)) pt.view.known (at_pid pt.view.asked p (pt.view.asked p + 1)) pt.view.come pt.view.preds))
 after_piece pt m p q i k is told = grind (arith, nat_tests)
 
 pub after_block : (pt : Point) (m : ℕ) (p q : Pid) (i : MsgId) (k : MessageKind) → (k ≡ MessageKind.Memory) → pt.view.told i ≡ Some (record { kind = k; receiver = q; about = Of p })
-    → after (begun pt m) (Line.Proto i ∷ []) ≡ Some (come_point pt (come_view pt.view m p (without_front i (pt.view.inbox m)) pt.view.known (at_pid pt.view.asked p (pt.view.asked p + 1)) pt.view.come))
+    → after (begun pt m) (Line.Proto i ∷ []) ≡ Some (come_point pt (come_view pt.view m p (without_front i (pt.view.inbox m)) pt.view.known (at_pid pt.view.asked p (pt.view.asked p + 1)) pt.view.come pt.view.preds))
 after_block pt m p q i k is told = grind (arith, nat_tests)
 
 -- what was told of it
@@ -75,9 +78,9 @@ asks_for p Nothing = record { between = refl; back = refl; about = refl; plain =
 
 -- where other records are, a machine's room is as it was
 pub room_kept : (b : Boot) (pt : Point) (m : ℕ) (p : Pid) (box : List MsgId) (asked : Pid → ℕ) (come : Pid → Bool) (l : Placed) (records : AllRecords) (k : KernelState) (y : Message) (c : Comes b m pt l records k y p)
-    → RoomStands k.room (room_of (slice_get b.machines m)) (taken_at (come_point pt (come_view pt.view m p box pt.view.known asked come)) m pt.kernel.machines)
+    → RoomStands k.room (room_of (slice_get b.machines m)) (taken_at (come_point pt (come_view pt.view m p box pt.view.known asked come pt.view.preds)) m pt.kernel.machines)
 room_kept b pt m p box asked come l records k y c =
-    subst (RoomStands k.room (room_of (slice_get b.machines m))) (sym (taken_same pt (come_point pt (come_view pt.view m p box pt.view.known asked come)) m refl (λ h. refl) (λ q. refl))) c.stands.room
+    subst (RoomStands k.room (room_of (slice_get b.machines m))) (sym (taken_same pt (come_point pt (come_view pt.view m p box pt.view.known asked come pt.view.preds)) m refl (λ h. refl) (λ q. refl))) c.stands.room
 
 -- a piece has come, and this is asked for then
 pub record Piece (b : Boot) (m : ℕ) (pt : Point) (l : Placed) (records : AllRecords) (k : KernelState) (y : Message) (p : Pid) (c : Comes b m pt l records k y p) (a : Arrives b m pt l k y p) : Type 0 where
@@ -94,7 +97,7 @@ pub record Piece (b : Boot) (m : ℕ) (pt : Point) (l : Placed) (records : AllRe
   pub took : with_piece arrival y.what ≡ Some (coming a.cargo arrival.source arrival.cap arrival.held wanted)
   pub says : piece_line y.id p wanted ≡ line
   pub told : told_step pt m y.id p (fits (free_room b pt m) (length a.process.memory / 256)) (plain_process a.process) (sort_of (kind_of y.what)) ≡ Some (Part.Says line ∷ to_kernel (kind_of (pull a.cargo.pid wanted)) y.id.from.home ∷ [])
-  pub after : after (begun pt m) (line ∷ []) ≡ Some (come_point pt (come_view pt.view m p box pt.view.known asked come))
+  pub after : after (begun pt m) (line ∷ []) ≡ Some (come_point pt (come_view pt.view m p box pt.view.known asked come pt.view.preds))
   pub is_box : box ≡ c.ids
   pub asked_off : (q : Pid) → pid_eq p q ≡ false → asked q ≡ pt.view.asked q
   pub is_asked : IsAsked a.cargo (asked p) wanted
@@ -104,7 +107,7 @@ turns_piece b m pt l records k y p c a h =
     let s = record k { inbox = c.rest } in
     let now = coming a.cargo h.arrival.source h.arrival.cap h.arrival.held h.wanted in
     let state : KernelState = machine.with_sent (machine.with_known s p (Record.Incoming now)) in
-    let next = come_point pt (come_view pt.view m p h.box pt.view.known h.asked h.come) in
+    let next = come_point pt (come_view pt.view m p h.box pt.view.known h.asked h.come pt.view.preds) in
     let asks = asks_for a.cargo.pid h.wanted in
     let expected : (y.id.from.home == h.arrival.source) ≡ true = ap (λ (n : ℕ). n == h.arrival.source) (ap (λ (q : Pid). q.home) a.from ∙ sym h.held.source) ∙ eq_self h.arrival.source in
     turns_answer b m pt l records k y p c a (record {
@@ -116,6 +119,9 @@ turns_piece b m pt l records k y p c a h =
       known = pt.view.known;
       asked = h.asked;
       come = h.come;
+      preds = pt.view.preds;
+      kept = c.stands.preds;
+      preds_away = λ n q off. refl;
       turn = turn_kernel b m pt l records k y p c a (Some (record { state = state; parts = part.Says h.line ∷ part.Routes (machine.own k y.sender (pull a.cargo.pid h.wanted)) ∷ [] }))
           (h.takes ∙ ap (λ (o : Option machine.KernelKnown). hears_piece s y p (incoming_of o)) h.is ∙ ap (λ (d : Bool). if d then takes_piece s y p h.arrival else says_stale s y) expected ∙ ap (took_piece s y p) h.took
           ∙ ap (λ (x : Line). Some (record { state = state; parts = part.Says x ∷ part.Routes (machine.own k y.sender (pull a.cargo.pid h.wanted)) ∷ [] })) h.says);
@@ -135,8 +141,8 @@ turns_piece b m pt l records k y p c a h =
       servers = refl;
       room = room_kept b pt m p h.box h.asked h.come l records k y c;
       mine =
-          subst (λ (n : Known). KnownStands next l p (pt.view.queue m p) (pt.view.held m p) n (state.records p)) (sym (known_incoming b m pt l k y p a h.late))
-          (subst (KnownStands next l p (pt.view.queue m p) (pt.view.held m p) (Incoming a.source)) (sym (set_self k.records p (Record.Incoming now)))
+          subst (λ (n : Known). KnownStands l p (pt.view.queue m p) (pt.view.held m p) n (state.records p)) (sym (known_incoming b m pt l k y p a h.late))
+          (subst (KnownStands l p (pt.view.queue m p) (pt.view.held m p) (Incoming a.source)) (sym (set_self k.records p (Record.Incoming now)))
           (record { source = h.held.source; cargo = a.cargo; there = a.there; whole = h.held.whole; pieces = refl; held = h.held.held }));
       between = asks.between;
       is_reply = asks.back;
@@ -186,7 +192,7 @@ state_by b m pt l records k y p c a chunk h true is takes took asked test =
       at_pid v.asked p (v.asked p + 1),
       v.come,
       ap (λ (k : MessageKind). told_step pt m y.id p (fits (free_room b pt m) (length a.process.memory / 256)) (plain_process a.process) (sort_of k)) is ∙ ap (λ (e : Bool). Some (takes_chunk y.id p e)) test,
-      (let e_ : after (begun pt m) (Line.Migration Stage.StateTaken p ∷ []) ≡ Some (come_point pt (come_view pt.view m p (drop 1 (pt.view.inbox m)) pt.view.known (at_pid pt.view.asked p (pt.view.asked p + 1)) pt.view.come)) = refl in e_),
+      (let e_ : after (begun pt m) (Line.Migration Stage.StateTaken p ∷ []) ≡ Some (come_point pt (come_view pt.view m p (drop 1 (pt.view.inbox m)) pt.view.known (at_pid pt.view.asked p (pt.view.asked p + 1)) pt.view.come pt.view.preds)) = refl in e_),
       first_gone y.id c.ids (v.inbox m) c.box,
       asked_others,
       subst (λ (n : ℕ). IsAsked a.cargo n (Block 0)) (sym (ap (λ (d : Bool). if d then (v.asked p + 1) else v.asked p) (pid_eq-same p))) asked,
@@ -244,7 +250,7 @@ memory_by b m pt l records k y p c a block h false is takes took asked test late
     turns_piece b m pt l records k y p c a (search (
       ap is_early is,
       ap (λ (k : MessageKind). told_step pt m y.id p (fits (free_room b pt m) (length a.process.memory / 256)) (plain_process a.process) (sort_of k)) is ∙ ap (λ (e : Bool). Some (takes_block y.id p e)) test,
-      (let e_ : after (begun pt m) (Line.Migration Stage.MemoryTaken p ∷ []) ≡ Some (come_point pt (come_view pt.view m p (drop 1 (pt.view.inbox m)) pt.view.known pt.view.asked (at_pid pt.view.come p true))) = refl in e_),
+      (let e_ : after (begun pt m) (Line.Migration Stage.MemoryTaken p ∷ []) ≡ Some (come_point pt (come_view pt.view m p (drop 1 (pt.view.inbox m)) pt.view.known pt.view.asked (at_pid pt.view.come p true) pt.view.preds)) = refl in e_),
       first_gone y.id c.ids (pt.view.inbox m) c.box,
     ))
 

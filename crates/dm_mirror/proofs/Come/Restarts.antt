@@ -21,6 +21,7 @@ use Rattle.dm_kernel.specs.declared.part.Part.TheVariants as part
 use Rattle.dm_kernel.specs.State as machine
 use Rattle.dm_rule.specs.Migrating as migrating
 use Rattle.dm_mirror.proofs.Cargoes.{comes_again}
+use Rattle.dm_mirror.proofs.Gone.{living_sort}
 use Rattle.dm_mirror.proofs.Handle.Taking.{some_same}
 use Rattle.dm_mirror.proofs.LeftOver.{brings_on, left_keeps, left_told, over_is, piece_only, record_apart, record_kept, still_over}
 
@@ -47,7 +48,7 @@ inbox_back : (v : View) (m n : ℕ) (p : Pid) (j : MsgId) (d : Bool) → (m == n
 inbox_back v m n p j d e = grind (arith, nat_tests, times-append, machine_self)
 
 back_standing : (pt : Point) (m : ℕ) (p : Pid) (j : MsgId) (z : Spot)
-    → standing (back_point pt m p).view j z ≤ standing (come_view pt.view m p (drop 1 (pt.view.inbox m)) pt.view.known pt.view.asked pt.view.come) j z + standing pt.view j (Held m p)
+    → standing (back_point pt m p).view j z ≤ standing (come_view pt.view m p (drop 1 (pt.view.inbox m)) pt.view.known pt.view.asked pt.view.come pt.view.preds) j z + standing pt.view j (Held m p)
 back_standing pt m p j z = grind (arith, nat_tests, held_fewer, inbox_back)
 
 -- what stands then stood before, and no message of its migration stands
@@ -56,8 +57,8 @@ back_stood : (b : Boot) (m : ℕ) (pt : Point) (l : Placed) (records : AllRecord
 back_stood b m pt l records k y p c i z st =
     let v = pt.view in
     let box = drop 1 (v.inbox m) in
-    elim (least_of (standing (come_view v m p box v.known v.asked v.come) i z) (standing v i (Held m p)) (omega (arith, back_standing pt m p i z, st))) [
-      | inl e ↦ (z, (let f = fewer v m p c.ids box v.known v.asked v.come y.id i z c.box (first_gone y.id c.ids (v.inbox m) c.box) in omega (arith, e, f)))
+    elim (least_of (standing (come_view v m p box v.known v.asked v.come v.preds) i z) (standing v i (Held m p)) (omega (arith, back_standing pt m p i z, st))) [
+      | inl e ↦ (z, (let f = fewer v m p c.ids box v.known v.asked v.come v.preds y.id i z c.box (first_gone y.id c.ids (v.inbox m) c.box) in omega (arith, e, f)))
       | inr e ↦ (Held m p, e)
     ]
 
@@ -72,8 +73,8 @@ left_back b m pt l placed records k y p c a i t z told between about st bag =
       | inl mine ↦
           let is : y.id ≡ i = some_same y.id i mine in
           let one = once_at (standing v y.id) (Inbox m) (own_once b pt y.id (Inbox m) c.run a.unplain a.mine a.first) a.first in
-          let none : standing (come_view v m p box v.known v.asked v.come) i z ≡ 0 =
-          ap (λ (j : MsgId). standing (come_view v m p box v.known v.asked v.come) j z) (sym is) ∙ gone v m p c.ids box v.known v.asked v.come y.id z c.box (first_gone y.id c.ids (v.inbox m) c.box) one.0 one.1 in
+          let none : standing (come_view v m p box v.known v.asked v.come v.preds) i z ≡ 0 =
+          ap (λ (j : MsgId). standing (come_view v m p box v.known v.asked v.come v.preds) j z) (sym is) ∙ gone v m p c.ids box v.known v.asked v.come v.preds y.id z c.box (first_gone y.id c.ids (v.inbox m) c.box) one.0 one.1 in
           let held : standing v i (Held m p) ≡ 0 = ap (λ (j : MsgId). standing v j (Held m p)) (sym is) ∙ one.1 (Held m p) (λ x. cc) in
           absurd (omega (arith, back_standing pt m p i z, none, held, st))
       | inr left ↦
@@ -105,10 +106,10 @@ turns_restart b m pt l records k y p q c e =
     let there : state.records p ≡ Some (Record.Here (way.moved x)) = set_self k.records p (Some (Record.Here (way.moved x))) in
     let others : (r : Pid) → pid_eq p r ≡ false → state.records r ≡ k.records r = λ r off. set_off k.records p r (Some (Record.Here (way.moved x))) off in
     let set : (r : Pid) → pid_eq p r ≡ false → placed.processes r ≡ l.processes r = λ r off. set_off l.processes p r (Some (way.moved x)) off in
-    let mine : KnownStands next placed p (v.queue m p) (next.view.held m p) (next.view.known m p) (state.records p) =
-    subst (KnownStands next placed p (v.queue m p) (next.view.held m p) (next.view.known m p)) (sym there)
-    (subst (λ (n : Known). KnownStands next placed p (v.queue m p) (next.view.held m p) n (Some (Record.Here (way.moved x)))) (sym (at_record_at v.known m p Here))
-    (([], set_self l.processes p (Some (way.moved x))), ap (map l.bag) (c.run.based.lists.queue m p (ap has_no_queue incoming)))) in
+    let mine : KnownStands placed p (v.queue m p) (next.view.held m p) (next.view.known m p) (state.records p) =
+    subst (KnownStands placed p (v.queue m p) (next.view.held m p) (next.view.known m p)) (sym there)
+    (subst (λ (n : Known). KnownStands placed p (v.queue m p) (next.view.held m p) n (Some (Record.Here (way.moved x)))) (sym (at_record_at v.known m p Here))
+    (([], set_self l.processes p (Some (way.moved x))), ap (map l.bag) (c.run.based.lists.queue m p (ap has_no_queue incoming) (living_sort (pt.kernel.processes p) (plain_process x) a.alive)))) in
     let keeps : is_server p ≡ true → state.records p ≡ k.records p = λ is. absurd (false≢true (sym a.server ∙ is)) in
     let boxes : (n : ℕ) → n ≢ m → at_machine front m (v.held m p ++ front m) n ≡ v.inbox n = λ n off. machine_off front m n (v.held m p ++ front m) off ∙ machine_off v.inbox m n (drop 1 (v.inbox m)) off in
     let processes : (n : ℕ) (r : Pid) → n ≢ m → has_process (v.known n r) ≡ true → placed.processes r ≡ l.processes r = λ n r off has. elim (cases_Bool (pid_eq p r)) [
@@ -127,7 +128,7 @@ turns_restart b m pt l records k y p q c e =
           (ap (λ ring. ring ++ p ∷ []) stands.ring ∙ sym (machine_self v.ring m (v.ring m ++ p ∷ [])))
           (subst (λ (is : List MsgId). AreMessages l.bag is (h.arrival.held ++ c.rest)) (sym (machine_self front m (v.held m p ++ front m) ∙ back_box))
           (are_both l.bag (v.held m p) c.ids h.arrival.held c.rest h.comes_.held c.others))
-          stands.made (room_stays k.room _ _ _ (taken_same pt next m refl (λ n. refl) (λ q. taken_at_record pt next m p q Here refl refl (sym (ap takes_room incoming)))) stands.room) stands.servers;
+          stands.made (room_stays k.room _ _ _ (taken_same pt next m refl (λ n. refl) (λ q. taken_at_record pt next m p q Here refl refl (sym (ap takes_room incoming)))) stands.room) stands.servers stands.preds;
       sent = λ count. count;
       over = refl;
       elsewhere = search (boxes, machine_off, record_away, processes);

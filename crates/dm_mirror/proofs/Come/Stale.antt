@@ -1,7 +1,7 @@
 -- A piece comes that isn't awaited: a line says so, and nothing else changes.
 use Rattle.dm_mirror.proofs.Names.{◌≡◌, ℕ, ◌+◌, ◌/◌, ◌==◌, ◌&&◌, not, Bool, true, false, List, [], ◌∷◌, length, map, refl, ap, ◌∙◌, sym, arith, if◌then◌else◌, Option, Some, false≢true, Pid, Message, PlainProcess, kind_of, Line, Boot, bind}
 use Rattle.dm_mirror.proofs.Names.{Point, moved, incoming_of, kernel_handles, KernelState, Part, turned, told_step, fits, free_room, sort_of, kernel_hears, Of, about_of, told_of, Placed, AllRecords, is_server, at_machine, without_front}
-use Rattle.dm_mirror.proofs.Names.{mirrors_view, hears_piece, is_expected, says_stale, takes_piece, is_stale, is_waited_from, brings_piece, false_from_ne_true}
+use Rattle.dm_mirror.proofs.Names.{mirrors_view, hears_piece, is_expected, says_stale, takes_piece, is_stale, is_waited_from, brings_piece, false_from_ne_true, left_true, buried}
 use Rattle.dm_onekernel.specs.Step as kernel
 use Rattle.dm_rule.specs.Parts as rule
 use Rattle.dm_mirror.proofs.Turning.{NoneEnds, Nothing, TurnsAt, begun}
@@ -10,7 +10,7 @@ use Rattle.dm_mirror.proofs.Recorded.{expected_waits}
 use Rattle.dm_mirror.proofs.Rooms.{taken_same}
 use Rattle.dm_mirror.proofs.Follow.Fronts.{front_gone}
 use Rattle.dm_mirror.proofs.Handle.Taking.{machine_self, machine_off}
-use Rattle.dm_mirror.proofs.Leave.Asks.{room_stays}
+use Rattle.dm_mirror.proofs.Leave.Asks.{piece_goes_on, room_stays}
 use Rattle.dm_mirror.proofs.Leave.Fronts.{FrontGone, Hearing, front_rest, outcome_hears, own_stays, records_as, stood, to_kernel, to_kernel_hears, turn_hears}
 
 waits_not : (brings waits : Bool) → (brings && not waits) ≡ true → waits ≡ false
@@ -39,7 +39,10 @@ turns_stale b m pt l records k y p h about number handles stale =
       turn = turn_hears b m pt l records k y h (turned s (Part.Says (Line.Stale y.id) ∷ []))
           (to_kernel b s y number ∙ handles s ∙ ap (λ (d : Bool). if d then bind (incoming_of (k.records p)) (takes_piece s y p) else says_stale s y) unexpected);
       outcome = outcome_hears b m pt l records k y h (Some (rule.Says (Line.Stale y.id) ∷ []))
-          (to_kernel_hears b pt m y.id (told_of y) number ∙ ap (kernel_hears b pt m y.id (kind_of y.what)) about ∙ ap (λ (d : Bool). if d then Some (rule.Says (Line.Stale y.id) ∷ []) else bind (kernel.alive (pt.kernel.processes p)) step) stale);
+          (to_kernel_hears b pt m y.id (told_of y) number ∙ ap (kernel_hears b pt m y.id (kind_of y.what)) about
+          ∙ ap (λ (d : Bool). if d then Some (buried pt m y.id p) else if is_stale pt m y.id (kind_of y.what) p then Some (rule.Says (Line.Stale y.id) ∷ []) else bind (kernel.alive (pt.kernel.processes p)) step)
+          (piece_goes_on (kind_of y.what) (left_true (brings_piece (sort_of (kind_of y.what))) (not (is_waited_from y.id.from.home (v.known m p))) stale))
+          ∙ ap (λ (d : Bool). if d then Some (rule.Says (Line.Stale y.id) ∷ []) else bind (kernel.alive (pt.kernel.processes p)) step) stale);
       next = next;
       after = refl;
       placed = l;

@@ -2,7 +2,7 @@
 use Rattle.dm_mirror.proofs.Names.{turns, ◌≡◌, ◌≢◌, ℕ, ◌+◌, ◌≤◌, ◌==◌, Bool, true, false, List, [], ◌∷◌, map, refl, ap, ◌∙◌, sym, subst, arith, if◌then◌else◌, slice_get, Option, None, Some, false≢true, nat_tests, Addr, Pid, pid_eq, pid_of}
 use Rattle.dm_mirror.proofs.Names.{place_of, kernel_at, Message, MsgId, What, id_of, kind_of, plain_what, with_what, Step, incoming_of, Boot, id_eq-same, Line, Addresses, Gets, Receiver, Sender, given, goes_between, own_given, unmoved}
 use Rattle.dm_mirror.proofs.Names.{to_kernel, is_between, tells_onward, Point, after, outcome, taken_at, at_machine, Spot, Inbox, standing, times, Known, Of, View, once_at, is_server, Placed, enclosed, mirrors_view, room_of, KernelState}
-use Rattle.dm_mirror.proofs.Names.{own, turn, about_of, told_of, KnownStands, RoomStands, AllRecords, Carries, TokensStand, destination_of, eq_is, sort_of, ◌⊎◌, inl, inr, Moves, Told, is_due_piece}
+use Rattle.dm_mirror.proofs.Names.{own, about_of, told_of, KnownStands, RoomStands, AllRecords, Carries, TokensStand, destination_of, eq_is, sort_of, ◌⊎◌, inl, inr, Moves, Told, is_due_piece, PredsStand}
 use Rattle.dm_rule.proofs.Names.{Part}
 pub use Rattle.dm_rule.proofs.Lines.{eq_self, at_machine_at as machine_self}
 pub use Rattle.dm_mirror.proofs.Leave.Answered.{with_view as come_point}
@@ -17,12 +17,13 @@ use Rattle.dm_mirror.proofs.Handle.Taking.{some_same}
 use Rattle.dm_mirror.proofs.LeftOver.{over_is}
 use Rattle.dm_mirror.proofs.Turning.{IsLeftOver}
 
--- the view behind the line: the message is handled, and what is known of p here, how much of it was asked for, and whether all of it has come, may be new
-abbrev pub come_view : View → ℕ → Pid → List MsgId → (ℕ → Pid → Known) → (Pid → ℕ) → (Pid → Bool) → View
-come_view v m p box known asked come = record v { acting = m; groups = v.groups + 1; topic = Of p; inbox = at_machine v.inbox m box; known = known; asked = asked; come = come }
+-- the view behind the line: the message is handled, and what is known of p here and of its predecessors, how much of it was asked for, and
+-- whether all of it has come, may be new
+abbrev pub come_view : View → ℕ → Pid → List MsgId → (ℕ → Pid → Known) → (Pid → ℕ) → (Pid → Bool) → (ℕ → Pid → ℕ → Bool) → View
+come_view v m p box known asked come preds = record v { acting = m; groups = v.groups + 1; topic = Of p; inbox = at_machine v.inbox m box; known = known; asked = asked; come = come; preds = preds }
 
-pub fewer : (v : View) (m : ℕ) (p : Pid) (is box : List MsgId) (known : ℕ → Pid → Known) (asked : Pid → ℕ) (come : Pid → Bool) (i j : MsgId) (z : Spot) → v.inbox m ≡ i ∷ is → box ≡ is → standing (come_view v m p box known asked come) j z ≤ standing v j z
-fewer v m p is box known asked come i j z e b = grind (arith, nat_tests, eq_is)
+pub fewer : (v : View) (m : ℕ) (p : Pid) (is box : List MsgId) (known : ℕ → Pid → Known) (asked : Pid → ℕ) (come : Pid → Bool) (preds : ℕ → Pid → ℕ → Bool) (i j : MsgId) (z : Spot) → v.inbox m ≡ i ∷ is → box ≡ is → standing (come_view v m p box known asked come preds) j z ≤ standing v j z
+fewer v m p is box known asked come preds i j z e b = grind (arith, nat_tests, eq_is)
 
 gone_at : (v : View) (m n : ℕ) (i : MsgId) (is box : List MsgId) → v.inbox m ≡ i ∷ is → box ≡ is → standing v i (Inbox m) ≡ 1 → ((z : Spot) → z ≢ Inbox m → standing v i z ≡ 0) → (c : Bool) → (m == n) ≡ c → times i (if c then box else v.inbox n) ≡ 0
 gone_at v m n i is box e b one others true same = ap (times i) b ∙ (let f = times_self i is in omega (arith, ap (times i) (sym e) ∙ one, f))
@@ -31,9 +32,9 @@ gone_at v m n i is box e b one others false off = others (Inbox n) (λ s. let f 
     inbox_same : (a d : ℕ) → Inbox a ≡ Inbox d → a ≡ d
     inbox_same a d s = cc
 
-pub gone : (v : View) (m : ℕ) (p : Pid) (is box : List MsgId) (known : ℕ → Pid → Known) (asked : Pid → ℕ) (come : Pid → Bool) (i : MsgId) (z : Spot) → v.inbox m ≡ i ∷ is → box ≡ is → standing v i (Inbox m) ≡ 1 → ((x : Spot) → x ≢ Inbox m → standing v i x ≡ 0) → standing (come_view v m p box known asked come) i z ≡ 0
-gone v m p is box known asked come i (Inbox n) e b one others = gone_at v m n i is box e b one others (m == n) refl
-gone v m p is box known asked come i any_ e b one others = others any_ (λ s. cc)
+pub gone : (v : View) (m : ℕ) (p : Pid) (is box : List MsgId) (known : ℕ → Pid → Known) (asked : Pid → ℕ) (come : Pid → Bool) (preds : ℕ → Pid → ℕ → Bool) (i : MsgId) (z : Spot) → v.inbox m ≡ i ∷ is → box ≡ is → standing v i (Inbox m) ≡ 1 → ((x : Spot) → x ≢ Inbox m → standing v i x ≡ 0) → standing (come_view v m p box known asked come preds) i z ≡ 0
+gone v m p is box known asked come preds i (Inbox n) e b one others = gone_at v m n i is box e b one others (m == n) refl
+gone v m p is box known asked come preds i any_ e b one others = others any_ (λ s. cc)
 
 -- what the next message of the kernel gets
 gets_receiver : (a : Addresses) (v : View) (id : MsgId) (q : Pid) (gs : List Gets) → gs ≡ goes_between v id q → given a gs (Receiver id) ≡ unmoved q.home
@@ -51,14 +52,15 @@ pub record Answer (b : Boot) (m : ℕ) (pt : Point) (l : Placed) (records : AllR
   pub known : ℕ → Pid → Known
   pub asked : Pid → ℕ
   pub come : Pid → Bool
+  pub preds : ℕ → Pid → ℕ → Bool
   pub turn : turns b k k.inbox ≡ Some (record { state = state; parts = part.Says line ∷ part.Routes (own k y.sender what) ∷ [] })
   pub outcome : outcome b pt (Step.Turn m) ≡ Some (Part.Says line ∷ to_kernel (kind_of what) y.id.from.home ∷ [])
-  pub after : after (begun pt m) (line ∷ []) ≡ Some (come_point pt (come_view pt.view m p box known asked come))
+  pub after : after (begun pt m) (line ∷ []) ≡ Some (come_point pt (come_view pt.view m p box known asked come preds))
   pub is_box : box ≡ c.ids
   pub known_off : (n : ℕ) (q : Pid) → pid_eq p q ≡ false → known n q ≡ pt.view.known n q
   pub known_away : (n : ℕ) (q : Pid) → n ≢ m → known n q ≡ pt.view.known n q
   -- what is left over stays so
-  pub over : (i : MsgId) (t : Told) (z : Spot) → pt.view.told i ≡ Some t → is_between t.kind ≡ true → t.about ≡ Of p → 1 ≤ standing pt.view i z → is_due_piece pt.view p i t ≡ false → is_due_piece (come_view pt.view m p box known asked come) p i t ≡ false
+  pub over : (i : MsgId) (t : Told) (z : Spot) → pt.view.told i ≡ Some t → is_between t.kind ≡ true → t.about ≡ Of p → 1 ≤ standing pt.view i z → is_due_piece pt.view p i t ≡ false → is_due_piece (come_view pt.view m p box known asked come preds) p i t ≡ false
   pub asked_off : (q : Pid) → pid_eq p q ≡ false → asked q ≡ pt.view.asked q
   -- the machine's
   pub here : state.here ≡ k.here
@@ -68,9 +70,11 @@ pub record Answer (b : Boot) (m : ℕ) (pt : Point) (l : Placed) (records : AllR
   pub made : state.made ≡ k.made
   pub sent : state.sent ≡ k.sent + 1
   pub servers : state.servers ≡ k.servers
+  pub kept : PredsStand b (preds m) state.preds
+  pub preds_away : (n : ℕ) (q : Pid) → n ≢ m → preds n q ≡ pt.view.preds n q
   pub over_is : state.over ≡ k.over
-  pub room : RoomStands state.room (room_of (slice_get b.machines m)) (taken_at (come_point pt (come_view pt.view m p box known asked come)) m pt.kernel.machines)
-  pub mine : KnownStands (come_point pt (come_view pt.view m p box known asked come)) l p (pt.view.queue m p) (pt.view.held m p) (known m p) (state.records p)
+  pub room : RoomStands state.room (room_of (slice_get b.machines m)) (taken_at (come_point pt (come_view pt.view m p box known asked come preds)) m pt.kernel.machines)
+  pub mine : KnownStands l p (pt.view.queue m p) (pt.view.held m p) (known m p) (state.records p)
   -- the answer
   pub between : is_between (kind_of what) ≡ true
   pub is_reply : tells_onward (sort_of (kind_of what)) ≡ false
@@ -81,13 +85,13 @@ pub record Answer (b : Boot) (m : ℕ) (pt : Point) (l : Placed) (records : AllR
   pub carries : Carries p a.cargo (asked p) (incoming_of (state.records p)) what
 
 -- the token that was handled was the only one of its process, and those of others carry what they carried
-pub tokens_kept : (b : Boot) (m : ℕ) (pt : Point) (l : Placed) (records : AllRecords) (k : KernelState) (y : Message) (p : Pid) (c : Comes b m pt l records k y p) (a : Arrives b m pt l k y p) (box : List MsgId) (known : ℕ → Pid → Known) (asked : Pid → ℕ) (come : Pid → Bool) (s : KernelState)
+pub tokens_kept : (b : Boot) (m : ℕ) (pt : Point) (l : Placed) (records : AllRecords) (k : KernelState) (y : Message) (p : Pid) (c : Comes b m pt l records k y p) (a : Arrives b m pt l k y p) (box : List MsgId) (known : ℕ → Pid → Known) (asked : Pid → ℕ) (come : Pid → Bool) (preds : ℕ → Pid → ℕ → Bool) (s : KernelState)
     → box ≡ c.ids → ((q : Pid) → pid_eq p q ≡ false → asked q ≡ pt.view.asked q) → ((q : Pid) → pid_eq p q ≡ false → s.records q ≡ k.records q) → ((n : ℕ) (q : Pid) → pid_eq p q ≡ false → known n q ≡ pt.view.known n q)
-    → ((i : MsgId) (t : Told) (z : Spot) → pt.view.told i ≡ Some t → is_between t.kind ≡ true → t.about ≡ Of p → 1 ≤ standing pt.view i z → is_due_piece pt.view p i t ≡ false → is_due_piece (come_view pt.view m p box known asked come) p i t ≡ false)
-    → TokensStand (come_view pt.view m p box known asked come) l (at_machine records m s.records)
-tokens_kept b m pt l records k y p c a box known asked come s is_box asked_off records_off known_off over =
-    let w = come_view pt.view m p box known asked come in
-    let before : (i : MsgId) (z : Spot) → 1 ≤ standing w i z → 1 ≤ standing pt.view i z = λ i z st. (let f = fewer pt.view m p c.ids box known asked come y.id i z c.box is_box in omega (arith, f, st)) in
+    → ((i : MsgId) (t : Told) (z : Spot) → pt.view.told i ≡ Some t → is_between t.kind ≡ true → t.about ≡ Of p → 1 ≤ standing pt.view i z → is_due_piece pt.view p i t ≡ false → is_due_piece (come_view pt.view m p box known asked come preds) p i t ≡ false)
+    → TokensStand (come_view pt.view m p box known asked come preds) l (at_machine records m s.records)
+tokens_kept b m pt l records k y p c a box known asked come preds s is_box asked_off records_off known_off over =
+    let w = come_view pt.view m p box known asked come preds in
+    let before : (i : MsgId) (z : Spot) → 1 ≤ standing w i z → 1 ≤ standing pt.view i z = λ i z st. (let f = fewer pt.view m p c.ids box known asked come preds y.id i z c.box is_box in omega (arith, f, st)) in
     tokens_one pt.view w l l records (at_machine records m s.records) p (record {
       stays = record {
         told = refl;
@@ -102,7 +106,7 @@ tokens_kept b m pt l records k y p c a box known asked come s is_box asked_off r
         | inl mine ↦
             let is : y.id ≡ i = some_same y.id i mine in
             let one = once_at (standing pt.view y.id) (Inbox m) (own_once b pt y.id (Inbox m) c.run a.unplain a.mine a.first) a.first in
-            absurd (omega (arith, ap (λ (j : MsgId). standing w j z) (sym is) ∙ gone pt.view m p c.ids box known asked come y.id z c.box is_box one.0 one.1, st))
+            absurd (omega (arith, ap (λ (j : MsgId). standing w j z) (sym is) ∙ gone pt.view m p c.ids box known asked come preds y.id z c.box is_box one.0 one.1, st))
         | inr left ↦
             let off = over_is pt.view p (Moves (kind_of y.what) a.source m (Some y.id)) i t a.phase left in
             (over i t z told between about (before i z st) off, (c.tokens p i t z told between about (before i z st)).1 off)
@@ -111,9 +115,9 @@ tokens_kept b m pt l records k y p c a box known asked come s is_box asked_off r
 
 -- the next message of the kernel may be put
 may_answer : (b : Boot) (m : ℕ) (pt : Point) (l : Placed) (records : AllRecords) (k : KernelState) (y : Message) (p : Pid) (c : Comes b m pt l records k y p) (a : Arrives b m pt l k y p) (h : Answer b m pt l records k y p c a)
-    → MayOwn (come_point pt (come_view pt.view m p h.box h.known h.asked h.come)) l (at_machine records m h.state.records) 0 (own k y.sender h.what)
+    → MayOwn (come_point pt (come_view pt.view m p h.box h.known h.asked h.come h.preds)) l (at_machine records m h.state.records) 0 (own k y.sender h.what)
 may_answer b m pt l records k y p c a h =
-    let v = come_view pt.view m p h.box h.known h.asked h.come in
+    let v = come_view pt.view m p h.box h.known h.asked h.come h.preds in
     let x = own k y.sender h.what in
     let here = c.stands.here in
     let id : x.id ≡ id_of (pid_of m 0) (pt.view.count m) = λ i. id_of (pid_of (here i) 0) (c.count i) in
@@ -141,7 +145,7 @@ may_answer b m pt l records k y p c a h =
 
 pub turns_answer : (b : Boot) (m : ℕ) (pt : Point) (l : Placed) (records : AllRecords) (k : KernelState) (y : Message) (p : Pid) (c : Comes b m pt l records k y p) (a : Arrives b m pt l k y p) → Answer b m pt l records k y p c a → TurnsAt b m pt l records k
 turns_answer b m pt l records k y p c a h =
-    let v = come_view pt.view m p h.box h.known h.asked h.come in
+    let v = come_view pt.view m p h.box h.known h.asked h.come h.preds in
     let next = come_point pt v in
     let stands = c.stands in
     let sender : y.sender ≡ kernel_at y.id.from.home = a.sender in
@@ -158,13 +162,13 @@ turns_answer b m pt l records k y p c a h =
       placed = l;
       mirrors = mirrors_view pt.kernel pt.view v pt.addresses l refl c.mirrors;
       kernel = stands_set b pt next l l m k h.state p (search (h.here, h.records_off, h.known_off, h.mine, keeps)) stands (h.ring ∙ stands.ring)
-          (ap (map l.bag) (machine_self pt.view.inbox m h.box ∙ h.is_box) ∙ c.others ∙ ap (map Some) (sym h.inbox)) (h.made ∙ stands.made) h.room (h.servers ∙ stands.servers);
+          (ap (map l.bag) (machine_self pt.view.inbox m h.box ∙ h.is_box) ∙ c.others ∙ ap (map Some) (sym h.inbox)) (h.made ∙ stands.made) h.room (h.servers ∙ stands.servers) h.kept;
       sent = λ e. let f = h.sent in omega (arith, e, f);
-      elsewhere = search (machine_off, h.known_away);
+      elsewhere = search (machine_off, h.known_away, h.preds_away);
       may = (may_answer b m pt l records k y p c a h, tt);
       late_may = tt;
       over = NoneEnds h.over_is (λ q. refl);
       topic = tt;
       own = λ i z there plain. let s = c.own i z there plain in record { told = s.told; mine = s.mine; sender = s.sender };
-      tokens = tokens_kept b m pt l records k y p c a h.box h.known h.asked h.come h.state h.is_box h.asked_off h.records_off h.known_off h.over;
+      tokens = tokens_kept b m pt l records k y p c a h.box h.known h.asked h.come h.preds h.state h.is_box h.asked_off h.records_off h.known_off h.over;
     }

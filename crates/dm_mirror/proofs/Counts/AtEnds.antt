@@ -2,7 +2,7 @@
 use Rattle.dm_mirror.proofs.Names.{false≢true, Run, ◌≡◌, ◌⊎◌, inl, inr, ℕ, ◌+◌, ◌≤◌, ◌==◌, Bool, true, false, List, [], ◌∷◌, length, refl, ap, ◌∙◌, sym, subst, arith, if◌then◌else◌, Option, None, Some, Pid, MsgId, MessageKind, plain_kind}
 use Rattle.dm_mirror.proofs.Names.{Label, OneKernel, bind-is, Line, Stage, Load, Receiver, Says, Routes, Again, Owns, Transmits, Spelled, goes_out, packet_line, puts, spelled, Point, after, kernel_after, label_of, moved, View, own_id}
 use Rattle.dm_mirror.proofs.Names.{view_after, onward, said, says_next, transmits_next, ◌++◌, ⊤, slice_get, PlainMessage, Boot, manager, Step, migrates, sends_on, to_kernel, updates, outcome, About, Told, actor, arrives_net, resends_net}
-use Rattle.dm_mirror.proofs.Names.{by_migrates, by_hears, nat_tests, Outcome, MoveNote, leaves_for, seen, by_calls_off}
+use Rattle.dm_mirror.proofs.Names.{by_migrates, by_hears, nat_tests, Outcome, MoveNote, leaves_for, seen, by_calls_off, buried, preds_of, buries_kept}
 use Rattle.dm_rule.proofs.Names.{Part}
 use Rattle.dm_rule.specs.Migrating.{tells_asker}
 use Rattle.dm_rule.specs.Rule as rule
@@ -65,6 +65,7 @@ sort_of pt m (Some ps) h = h ps refl
 hears_sort : (b : Boot) (pt : Point) (m : ℕ) (i : MsgId) (is : List MsgId) (o : Option Told) → pt.view.inbox m ≡ i ∷ is → pt.view.told i ≡ o → SortIf pt m (rule.hears b pt m i o)
 hears_sort b pt m i is o box told = sort_of pt m (rule.hears b pt m i o) (λ ps. by_hears (Sort pt m) b pt m i o ps (λ t there. record {
   stale = λ p about late. mute pt m (Says (Line.Stale i) ∷ []) (refl, refl, tt);
+  buried = λ p about kind. mute pt m (buried pt m i p) (refl, refl, buries_kept AreMute tt (λ to ps h. h) (preds_of pt m p));
   told = λ p x about alive due. record {
     accepted = λ ask. Bears (refl, tt) tt;
     lacks = λ slots blocks. mute pt m (Says (Line.Lacks p slots blocks) ∷ to_kernel MessageKind.Refuse i.from.home ∷ []) (refl, refl, tt);

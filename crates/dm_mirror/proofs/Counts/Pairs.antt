@@ -54,8 +54,8 @@ pub record CountsFew (pt : Point) : Type 0 where
   -- what an update looks through
   pub names : length pt.kernel.switchboard.names < 2147483648
   pub managed : length pt.kernel.manager.children + length pt.kernel.manager.pending < 2147483648
-  -- the messages of a machine's own kernel, how often a process has moved, and what waits for one
-  pub own : (m : ℕ) → pt.view.count m < 4294967295
+  -- the messages of a machine's own kernel, and one more to each machine, how often a process has moved, and what waits for one
+  pub own : (m : ℕ) → pt.view.count m + 16 ≤ 4294967295
   pub moves : (p : Pid) → pt.view.moves p < 4294967295
   pub waiting : (m : ℕ) (p : Pid) → length (pt.view.queue m p) + length (pt.view.held m p) < 4294967295
 

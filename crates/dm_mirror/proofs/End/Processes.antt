@@ -1,16 +1,16 @@
 -- What a machine has of a process at the end, by what the lines say that it knows.
 use Rattle.dm_mirror.proofs.Names.{View, ◌≡◌, ◌≢◌, ◌⊎◌, ℕ, ◌<◌, true, false, is_some, List, refl, ap, ◌∙◌, sym, subst, inl, inr, arith, option_map, Option, None, Some, nat_tests, Pid, pid_of, MessageKind, Record, About, with_what, Process}
-use Rattle.dm_mirror.proofs.Names.{incoming_of, Arrival, Nothing, Boot, Alive, plain_process, EndLine, Standing, or, list_line, Stood, stood_at, first_with, is_away, is_due, Point, Known, Unknown, Incoming, Ended, Told, not_true, is_server}
-use Rattle.dm_mirror.proofs.Names.{Run, Placed, WorldState, alive_lines, awaited_lines, come_lines, first_awaited, first_had, first_says, lines_in, record_lines, record_queue, told_of, History, KnownStands, StandsWith, Wants, alive-is, []}
+use Rattle.dm_mirror.proofs.Names.{incoming_of, Arrival, Nothing, Boot, Alive, plain_process, EndLine, Standing, or, list_line, Stood, stood_at, first_with, is_away, is_due, Point, Known, Unknown, Incoming, Told, not_true, is_server, Run}
+use Rattle.dm_mirror.proofs.Names.{Placed, WorldState, alive_lines, awaited_lines, come_lines, first_awaited, first_had, first_says, lines_in, record_lines, record_queue, told_of, History, KnownStands, StandsWith, Wants, alive-is, []}
 use Rattle.dm_mirror.proofs.Names.{Message, MsgId, What, kind_of, Here, Frozen, Forward, come_whole, held_for, names_of, has_nothing_held, AreMessages, ComesStand, Carries, ◌≤◌, ◌∷◌, length, map, IfSome, IsValid, Manager, plain_child}
-use Rattle.dm_mirror.proofs.Names.{IsLawfulPair, Servers, Step, Leads, first_point, HasPlainEnd, EndMay, servers_at, Cargo, PlainProcess, agrees, ended_of}
+use Rattle.dm_mirror.proofs.Names.{IsLawfulPair, Servers, Step, Leads, first_point, HasPlainEnd, EndMay, servers_at, Cargo, PlainProcess, Ended, ended_away, living_phase, Life, Why, false≢true}
 use Rattle.dm_migrate.specs.Way.{moved}
 use Rattle.dm_onekernel.specs.Step as kernel
 use Rattle.dm_rule.specs.Ends as rule
 use Rattle.dm_kernel.specs.State as machine
 use Rattle.dm_world.specs.Ends as world
 pub use Rattle.dm_mirror.proofs.LeftOver.{carries_plain as carried_own}
-use Rattle.dm_mirror.proofs.End.Servers.{first_at, first_none, names_are, alive_same, ComesTo, HasIt, OverAt, is_silent, where_is}
+use Rattle.dm_mirror.proofs.End.Servers.{first_at, first_none, names_are, alive_same, ComesTo, HasIt, is_silent, where_is}
 use Rattle.dm_mirror.proofs.Handle.Taking.{some_same}
 pub use Rattle.dm_mirror.proofs.Handle.Kills.{child_off as no_server}
 use Rattle.dm_mirror.proofs.Recorded.{Recorded, recorded}
@@ -22,6 +22,9 @@ use Rattle.dm_mirror.proofs.Cargoes.{is_cargo_of, comes_again}
 -- a machine that says nothing
 pub silent_has : (k : Known) → is_silent k ≡ true → rule.standing_of k ≡ None
 silent_has k e = grind (arith, nat_tests)
+
+away_silent : (k : Known) → is_away k ≡ true → is_silent k ≡ true
+away_silent k e = grind (arith, nat_tests)
 
 pub away_awaits : (k : Known) → is_away k ≡ true → rule.awaits k ≡ None
 away_awaits k e = grind (arith, nat_tests)
@@ -38,14 +41,13 @@ pub record IsAt (l : Placed) (p : Pid) (q : List MsgId) (m : ℕ) (s : Standing)
 here_at : (l : Placed) (p : Pid) (q : List MsgId) (m : ℕ) (x : Process) (rest : List Message) → l.processes p ≡ Some (record x { queue = rest }) → AreMessages l.bag q x.queue → IsAt l p q m Standing.Here (Some (Record.Here x))
 here_at l p q m x rest placed waits = record { process = x; lines = refl; queue = refl; rest = rest; placed = placed; waits = waits }
 
-pub is_at : (pt : Point) (l : Placed) (p : Pid) (q held : List MsgId) (m : ℕ) (s : Standing) (k : Known) (r : Option machine.KernelKnown) → rule.standing_of k ≡ Some s → KnownStands pt l p q held k r → IsAt l p q m s r
-is_at pt l p q held m s Here (Some (Record.Here x)) e h = let f : Standing.Here ≡ s = cc in subst (λ (t : Standing). IsAt l p q m t (Some (Record.Here x))) f (here_at l p q m x h.0.0 h.0.1 h.1)
-is_at pt l p q held m s (Frozen to) (Some (Record.Frozen x)) e h = grind (arith, nat_tests, h.here, x.process)
-is_at pt l p q held m s Unknown None e h = cc
-is_at pt l p q held m s (Incoming from) (Some (Record.Incoming x)) e h = cc
-is_at pt l p q held m s (Forward at moves) (Some (Record.Forward x y)) e h = cc
-is_at pt l p q held m s Ended (Some Record.Ended) e h = cc
-is_at pt l p q held m s k r e h = absurd h
+pub is_at : (l : Placed) (p : Pid) (q held : List MsgId) (m : ℕ) (s : Standing) (k : Known) (r : Option machine.KernelKnown) → rule.standing_of k ≡ Some s → KnownStands l p q held k r → IsAt l p q m s r
+is_at l p q held m s Here (Some (Record.Here x)) e h = let f : Standing.Here ≡ s = cc in subst (λ (t : Standing). IsAt l p q m t (Some (Record.Here x))) f (here_at l p q m x h.0.0 h.0.1 h.1)
+is_at l p q held m s (Frozen to) (Some (Record.Frozen x)) e h = grind (arith, nat_tests, h.here, x.process)
+is_at l p q held m s Unknown None e h = cc
+is_at l p q held m s (Incoming from) (Some (Record.Incoming x)) e h = cc
+is_at l p q held m s (Forward at moves) (Some (Record.Forward x y)) e h = cc
+is_at l p q held m s k r e h = absurd h
 
 -- the message that lets a process restart tells that all of it has come
 pub restart_wants : (p : Pid) (x : Cargo) (n : ℕ) (o : Option Arrival) (w : What) → kind_of w ≡ MessageKind.Restart → Carries p x n o w → Wants o Nothing
@@ -57,10 +59,10 @@ pub come_all : (l : Placed) (p : Pid) (from : ℕ) (held : List MsgId) (a : Arri
 come_all l p from held a c x there wanted = ap (come_whole a) wanted ∙ comes_again l p from held a x there wanted c
 
 -- the messages that are held
-pub held_said : (pt : Point) (l : Placed) (p : Pid) (q held : List MsgId) (k : Known) (r : Option machine.KernelKnown) → ((i : MsgId) (m : Message) → l.bag i ≡ Some m → m.id ≡ i) → (has_nothing_held k ≡ true → held ≡ []) → KnownStands pt l p q held k r → names_of (held_for r) ≡ held
-held_said pt l p q held k r named none h = grind (arith, nat_tests, names_are)
+pub held_said : (l : Placed) (p : Pid) (q held : List MsgId) (k : Known) (r : Option machine.KernelKnown) → ((i : MsgId) (m : Message) → l.bag i ≡ Some m → m.id ≡ i) → (has_nothing_held k ≡ true → held ≡ []) → KnownStands l p q held k r → names_of (held_for r) ≡ held
+held_said l p q held k r named none h = grind (arith, nat_tests, names_are)
 
--- What is said of each process at the end: the machine that has it says it, or where it has ended, or where it comes to.
+-- What is said of each process at the end: the machine that has it says it, or where it comes to; or it has ended.
 
 -- a process that is no server, where the world stands for the point
 pub record IsOfHome (b : Boot) (w : WorldState) (pt : Point) (l : Placed) (h : History) (p : Pid) : Type 0 where
@@ -75,7 +77,7 @@ none_has v p a m = grind (arith, nat_tests)
 module _ (b : Boot) (w : WorldState) (pt : Point) (l : Placed) (h : History) (p : Pid) (g : IsOfHome b w pt l h p) where
   -- what machine m knows
   abbrev Stood_ : ℕ → Type 0
-  Stood_ m = KnownStands pt l p (pt.view.queue m p) (pt.view.held m p) (pt.view.known m p) ((w.nodes m).kernel.records p)
+  Stood_ m = KnownStands l p (pt.view.queue m p) (pt.view.held m p) (pt.view.known m p) ((w.nodes m).kernel.records p)
 
   knows_ : (m : ℕ) → m < pt.kernel.machines → Stood_ m
   knows_ m below = (g.stands.nodes m below).kernel.known p g.server
@@ -116,9 +118,6 @@ module _ (b : Boot) (w : WorldState) (pt : Point) (l : Placed) (h : History) (p 
   within_has : (a : HasIt pt.view p) → a.at < pt.kernel.machines
   within_has a = g.run.found.known_within a.at p (has_known (pt.view.known a.at p) a.standing a.known)
 
-  within_over : (a : OverAt pt.view p) → a.at < pt.kernel.machines
-  within_over a = g.run.found.known_within a.at p (λ is. let f : Ended ≡ Unknown = sym a.known ∙ is in cc)
-
   within_to : (a : ComesTo pt.view p) → a.to < pt.kernel.machines
   within_to a = g.run.found.known_within a.to p (λ is. let f : Incoming a.from ≡ Unknown = sym a.known ∙ is in cc)
 
@@ -132,7 +131,7 @@ module _ (b : Boot) (w : WorldState) (pt : Point) (l : Placed) (h : History) (p 
   -- a process that a machine has
   at_machine : (a : HasIt pt.view p) → IsAt l p (pt.view.queue a.at p) a.at a.standing ((w.nodes a.at).kernel.records p)
   at_machine a =
-      is_at pt l p (pt.view.queue a.at p) (pt.view.held a.at p) a.at a.standing (pt.view.known a.at p) ((w.nodes a.at).kernel.records p) a.known (knows_ a.at (within_has a))
+      is_at l p (pt.view.queue a.at p) (pt.view.held a.at p) a.at a.standing (pt.view.known a.at p) ((w.nodes a.at).kernel.records p) a.known (knows_ a.at (within_has a))
 
   has_said : (a : HasIt pt.view p) → world.process_lines pt.kernel.machines w p ≡ rule.process_lines pt p (pt.kernel.processes p)
   has_said a =
@@ -156,22 +155,10 @@ module _ (b : Boot) (w : WorldState) (pt : Point) (l : Placed) (h : History) (p 
       ∙ ap (rule.queue_at pt.view p) (sym (with_at a.at below a.others ∙ ap (stood_at a.at) a.known))))
 
   -- a process that has ended
-  over_machine : (a : OverAt pt.view p) → Recorded pt l p (pt.view.queue a.at p) (pt.view.held a.at p) Ended ((w.nodes a.at).kernel.records p)
-  over_machine a = recorded b pt l a.at (w.nodes a.at).kernel p Ended (g.stands.nodes a.at (within_over a)).kernel g.server a.known
+  over_said : (y : Why) → pt.kernel.processes p ≡ Some (Ended y) → world.process_lines pt.kernel.machines w p ≡ rule.process_lines pt p (pt.kernel.processes p)
+  over_said y life = ap (world.lines_by pt.kernel.machines w p) (g.stands.ended p ∙ ap kernel.why_ended life) ∙ ap (rule.process_lines pt p) (sym life)
 
-  over_said : (a : OverAt pt.view p) → world.process_lines pt.kernel.machines w p ≡ rule.process_lines pt p (pt.kernel.processes p)
-  over_said a =
-      let (y, life) = ended_of (pt.kernel.processes p) (sym (ap (λ (n : Known). agrees n (pt.kernel.processes p)) a.known) ∙ g.run.based.known.agree a.at p g.server) in
-      ap (world.lines_by pt.kernel.machines w p) (g.stands.ended p ∙ ap kernel.why_ended life) ∙ ap (rule.process_lines pt p) (sym life)
-
-  over_queue : (a : OverAt pt.view p) → world.queue_of pt.kernel.machines w p ≡ rule.queue_at pt.view p (first_with rule.standing_of pt.view p pt.kernel.machines)
-  over_queue a =
-      let below = within_over a in
-      queue_by a.at below a.others
-      ∙ (ap (λ (r : Option machine.KernelKnown). lines_in (record_queue p r)) (over_machine a)
-      ∙ ap (rule.queue_at pt.view p) (sym (with_at a.at below a.others ∙ ap (λ (k : Known). stood_at a.at (rule.standing_of k)) a.known)))
-
-  to_machine : (a : ComesTo pt.view p) → Recorded pt l p (pt.view.queue a.to p) (pt.view.held a.to p) (Incoming a.from) ((w.nodes a.to).kernel.records p)
+  to_machine : (a : ComesTo pt.view p) → Recorded l p (pt.view.queue a.to p) (pt.view.held a.to p) (Incoming a.from) ((w.nodes a.to).kernel.records p)
   to_machine a = recorded b pt l a.to (w.nodes a.to).kernel p (Incoming a.from) (g.stands.nodes a.to (within_to a)).kernel g.server a.known
 
   -- all of it has come
@@ -212,37 +199,44 @@ module _ (b : Boot) (w : WorldState) (pt : Point) (l : Placed) (h : History) (p 
       ∙ (alive_same pt.addresses a.to p Standing.Arriving (moved x) (g.stands.mirrors.places.process p x there_).slots
       ∙ (ap (rule.alive_lines pt.addresses p (plain_process x)) (sym stood) ∙ ap (rule.process_lines pt p) (sym (alive_of x there_)))))
 
-  to_queue : (a : ComesTo pt.view p) → world.queue_of pt.kernel.machines w p ≡ rule.queue_at pt.view p (first_with rule.standing_of pt.view p pt.kernel.machines)
-  to_queue a =
+  -- no machine has it
+  none_queue : ((m : ℕ) → is_silent (pt.view.known m p) ≡ true) → world.queue_of pt.kernel.machines w p ≡ rule.queue_at pt.view p (first_with rule.standing_of pt.view p pt.kernel.machines)
+  none_queue none =
       let n = pt.kernel.machines in
       let f : ℕ → Option (List EndLine) = λ m. record_queue p ((w.nodes m).kernel.records p) in
       let has : first_with rule.standing_of pt.view p n ≡ None =
-      first_none (first_with rule.standing_of pt.view p) (λ m. stood_at m (rule.standing_of (pt.view.known m p))) n refl (λ m. refl) (λ m less. ap (stood_at m) (silent_has (pt.view.known m p) (none_has pt.view p a m))) in
-      ap lines_in (first_none (first_says f) f n refl (λ m. refl) (λ m less. no_queue m (none_has pt.view p a m) less)) ∙ ap (rule.queue_at pt.view p) (sym has)
+      first_none (first_with rule.standing_of pt.view p) (λ m. stood_at m (rule.standing_of (pt.view.known m p))) n refl (λ m. refl) (λ m less. ap (stood_at m) (silent_has (pt.view.known m p) (none m))) in
+      ap lines_in (first_none (first_says f) f n refl (λ m. refl) (λ m less. no_queue m (none m) less)) ∙ ap (rule.queue_at pt.view p) (sym has)
 
-  -- each process that was made is somewhere
-  somewhere : is_some (pt.kernel.processes p) ≡ true → HasIt pt.view p ⊎ (OverAt pt.view p ⊎ ComesTo pt.view p)
-  somewhere made =
-      let phases = g.run.based.phased.phases in
-      where_is pt.view p (phases.of p) (phases.each p) (not_true (is_due (phases.of p)) (λ e. let f : None ≡ Some p = phases.put p e in cc)) (g.run.based.known.home p g.server made)
+  -- each process that lives is somewhere
+  somewhere : (x : PlainProcess) → pt.kernel.processes p ≡ Some (Alive x) → HasIt pt.view p ⊎ ComesTo pt.view p
+  somewhere x alive =
+      let phased = g.run.based.phased in
+      let phases = phased.phases in
+      where_is pt.view p (phases.of p) (phases.each p) (not_true (is_due (phases.of p)) (λ e. let f : None ≡ Some p = phases.put p e in cc)) (living_phase pt p x (phases.of p) phased alive (phases.each p))
+
+  -- and each that was made lives or has ended
+  process_by : (o : Option Life) → pt.kernel.processes p ≡ o → is_some o ≡ true → world.process_lines pt.kernel.machines w p ≡ rule.process_lines pt p (pt.kernel.processes p)
+  process_by None life made = absurd (false≢true made)
+  process_by (Some (Alive x)) life made = elim (somewhere x life) [ inl a ↦ has_said a | inr a ↦ to_said a ]
+  process_by (Some (Ended y)) life made = over_said y life
+
+  queue_by_life : (o : Option Life) → pt.kernel.processes p ≡ o → is_some o ≡ true → world.queue_of pt.kernel.machines w p ≡ rule.queue_at pt.view p (first_with rule.standing_of pt.view p pt.kernel.machines)
+  queue_by_life None life made = absurd (false≢true made)
+  queue_by_life (Some (Alive x)) life made = elim (somewhere x life) [ inl a ↦ has_queue a | inr a ↦ none_queue (none_has pt.view p a) ]
+  queue_by_life (Some (Ended y)) life made = none_queue (λ m. away_silent (pt.view.known m p) (ended_away pt p g.run.based.phased (y, life) m))
 
   pub process_said : is_some (pt.kernel.processes p) ≡ true → world.process_lines pt.kernel.machines w p ≡ rule.process_lines pt p (pt.kernel.processes p)
-  process_said made = elim (somewhere made) [
-    | inl a ↦ has_said a
-    | inr c ↦ elim c [ inl a ↦ over_said a | inr a ↦ to_said a ]
-  ]
+  process_said made = process_by (pt.kernel.processes p) refl made
 
   pub queue_said : is_some (pt.kernel.processes p) ≡ true → world.queue_of pt.kernel.machines w p ≡ rule.queue_at pt.view p (first_with rule.standing_of pt.view p pt.kernel.machines)
-  queue_said made = elim (somewhere made) [
-    | inl a ↦ has_queue a
-    | inr c ↦ elim c [ inl a ↦ over_queue a | inr a ↦ to_queue a ]
-  ]
+  queue_said made = queue_by_life (pt.kernel.processes p) refl made
 
   -- what a machine holds for it
   pub holding_said : (m : ℕ) → m < pt.kernel.machines → world.held_line w m p ≡ list_line (EndLine.Holding m p) (pt.view.held m p)
   holding_said m below =
       ap (list_line (EndLine.Holding m p))
-      (held_said pt l p (pt.view.queue m p) (pt.view.held m p) (pt.view.known m p) ((w.nodes m).kernel.records p) (λ i x there. (g.stands.mirrors.places.message i x there).id) (λ e. g.run.based.lists.held m p e) (knows_ m below))
+      (held_said l p (pt.view.queue m p) (pt.view.held m p) (pt.view.known m p) ((w.nodes m).kernel.records p) (λ i x there. (g.stands.mirrors.places.message i x there).id) (λ e. g.run.based.lists.held m p e) (knows_ m below))
 
 -- Where the world stands, its lines at the end can be said.
 

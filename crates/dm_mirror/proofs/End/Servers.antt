@@ -2,8 +2,8 @@
 use Rattle.dm_mirror.proofs.Names.{◌≡◌, ◌≢◌, ℕ, suc, ◌+◌, ◌-◌, ◌==◌, Bool, true, false, List, [], ◌∷◌, ◌++◌, map, drop, refl, ap, ◌∙◌, sym, arith, if◌then◌else◌, slice_get, Some, nat_tests, drop-drop, drop-map, drop_all, Addr, place_of}
 use Rattle.dm_mirror.proofs.Names.{Place, plain_link, Message, Boot, switchboard, manager, Switchboard, Manager, Named, plain_named, plain_child, plain_pending, plain_manager, EndLine, Addresses, Child, Name, list_line, HomeStands, Point}
 use Rattle.dm_mirror.proofs.Names.{Placed, Mirrors, WorldState, History, PairStands, zero, ◌<◌, Option, None, Pid, pid_of, MsgId, first_number, or, home_with, joined_below, AreMessages, option_map, Link, link_at, Process, plain_process}
-use Rattle.dm_mirror.proofs.Names.{Standing, Slot, ◌⊎◌, subst, inl, inr, cases_Bool, false≢true, MessageKind, Phase, Nowhere, Rests, Over, Moves, IsIn, IsToken, kind_comes, is_away, is_due, is_restart, kind_leaves, View, Known, Unknown}
-use Rattle.dm_mirror.proofs.Names.{Here, Frozen, Incoming, Ended, eq_self, is_it, left_true, not_false, message_id, Pending}
+use Rattle.dm_mirror.proofs.Names.{Standing, Slot, ◌⊎◌, subst, inl, inr, cases_Bool, false≢true, MessageKind, Phase, Rests, Moves, IsIn, IsToken, kind_comes, is_away, is_due, is_restart, kind_leaves, View, Known, is_gone, Here, Frozen}
+use Rattle.dm_mirror.proofs.Names.{Incoming, eq_self, is_it, left_true, not_false, message_id, Pending}
 use Rattle.dm_message.specs.Ids as message
 use Rattle.dm_rule.specs.Ends as rule
 use Rattle.dm_rule.specs.Spots as spots
@@ -147,13 +147,12 @@ pub alive_same : (a : Addresses) (m : ℕ) (p : Pid) (s : Standing) (x : Process
     → world.alive_lines m p s x ≡ rule.alive_lines a p (plain_process x) (Some (record { at = m; standing = s }))
 alive_same a m p s x leads = grind (arith, nat_tests, links_same)
 
--- Where a process is, by its phase: one machine has it, or it has ended on one, or it comes to one and nobody has it.
+-- Where a process that lives is, by its phase: one machine has it, or it comes to one and nobody has it.
 
 -- what says nothing of a process at the end
 abbrev pub is_silent : Known → Bool
 is_silent Here = false
 is_silent (Frozen to) = false
-is_silent Ended = false
 is_silent _ = true
 
 -- a machine has it
@@ -161,12 +160,6 @@ pub record HasIt (v : View) (p : Pid) : Type 0 where
   pub at : ℕ
   pub standing : Standing
   pub known : rule.standing_of (v.known at p) ≡ Some standing
-  pub others : (m : ℕ) → m ≢ at → is_silent (v.known m p) ≡ true
-
--- it has ended on one
-pub record OverAt (v : View) (p : Pid) : Type 0 where
-  pub at : ℕ
-  pub known : v.known at p ≡ Ended
   pub others : (m : ℕ) → m ≢ at → is_silent (v.known m p) ≡ true
 
 -- it comes to one, which may restart it
@@ -208,12 +201,11 @@ restart_to v p s d id h =
     record { source = s; to = d; id = id; from = from; known = is; others = λ m other. grind (arith, nat_tests, off); token = h.token }
 
 -- by the phase
-pub where_is : (v : View) (p : Pid) (phase : Phase) → IsIn v p phase → is_due phase ≡ false → v.known p.home p ≢ Unknown → HasIt v p ⊎ (OverAt v p ⊎ ComesTo v p)
-where_is v p Nowhere h put home = absurd (home (grind (arith, nat_tests)))
-where_is v p (Rests at) h put home = inl (let e_ : HasIt v p = record { at = at; standing = Standing.Here; known = grind (arith, nat_tests); others = λ m apart. grind (arith, nat_tests) } in e_)
-where_is v p (Over at) h put home = inr (inl (let e_ : OverAt v p = record { at = at; known = grind (arith, nat_tests); others = λ m apart. grind (arith, nat_tests) } in e_))
-where_is v p (Moves k s d None) h put home = absurd (false≢true (sym put))
-where_is v p (Moves k s d (Some id)) h put home = elim (cases_Bool (is_restart k)) [
-  | inl last ↦ inr (inr (restart_to v p s d id (subst (λ (x : MessageKind). IsIn v p (Moves x s d (Some id))) (is_it k last) h)))
+pub where_is : (v : View) (p : Pid) (phase : Phase) → IsIn v p phase → is_due phase ≡ false → is_gone phase ≡ false → HasIt v p ⊎ ComesTo v p
+where_is v p (Rests at) h put lives = inl (let e_ : HasIt v p = record { at = at; standing = Standing.Here; known = grind (arith, nat_tests); others = λ m apart. grind (arith, nat_tests) } in e_)
+where_is v p (Moves k s d None) h put lives = absurd (false≢true (sym put))
+where_is v p (Moves k s d (Some id)) h put lives = elim (cases_Bool (is_restart k)) [
+  | inl last ↦ inr (restart_to v p s d id (subst (λ (x : MessageKind). IsIn v p (Moves x s d (Some id))) (is_it k last) h))
   | inr early ↦ inl (moves_has v p k s d (Some id) early h)
 ]
+where_is v p _ h put lives = absurd (false≢true (sym lives))

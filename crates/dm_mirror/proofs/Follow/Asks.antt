@@ -2,13 +2,12 @@
 use Rattle.dm_mirror.proofs.Names.{Child, ◌≡◌, ℕ, ◌+◌, ◌≤◌, ◌==◌, ◌||◌, Bool, true, false, List, [], ◌∷◌, refl, ap, ◌∙◌, sym, inl, inr, arith, if◌then◌else◌, cond, Option, None, Some, Err, cases_Bool, false≢true, nat_tests, Addr, Pid}
 use Rattle.dm_mirror.proofs.Names.{pid_eq, pid_of, place_of, Message, What, MessageKind, MoveError, Step, id_of, Boot, manager, switchboard, address_at, child_named, moves_child, tells_to_move, asks_manager, asks_move, told_to_move}
 use Rattle.dm_mirror.proofs.Names.{KernelState, id_eq-same, pid_eq-is, Line, Receiver, Sender, child_number, unmoved, migrates, migrates_child, Point, after, moved, at_machine, standing, Run, Placed, Mirrors, mirrors_view, child_place}
-use Rattle.dm_mirror.proofs.Names.{no_child, AllOwnStand, KernelStands, AllRecords, TokensStand, ◌≢◌, ◌&&◌, not, kind_of, plain_what, Known, Unknown, Here, Frozen, Incoming, Forward, Ended, is_server, is_fixed, is_place, is_target}
-use Rattle.dm_mirror.proofs.Names.{own_sort, Part, option_map_or}
-use Rattle.dm_kernel.specs.State.{with_sent}
+use Rattle.dm_mirror.proofs.Names.{no_child, AllOwnStand, KernelStands, AllRecords, TokensStand, ◌≢◌, ◌&&◌, not, kind_of, plain_what, Known, Unknown, Here, Frozen, Incoming, Forward, is_server, is_fixed, is_place, is_target, own_sort, Part}
+use Rattle.dm_mirror.proofs.Names.{option_map_or, with_sent}
 use Rattle.dm_mirror.proofs.Follow.Forwards.{next_free, next_untold, forwards_turn, held_coming, held_leaving}
 use Rattle.dm_mirror.proofs.Turning.{NoneEnds, own_first, MayOwn, Nothing, Own, Turns, TurnsAt}
 use Rattle.dm_mirror.proofs.Follow.Updates.{updated_board_turn, updated_here_turn, updated_manager_turn, no_move_turn, updated_ended_turn}
-use Rattle.dm_mirror.proofs.Follow.Fronts.{Fronts, at_front}
+use Rattle.dm_mirror.proofs.Follow.Fronts.{Fronts}
 use Rattle.dm_mirror.proofs.LeftOver.{tokens_less}
 use Rattle.dm_kernel.specs.State as machine
 use Rattle.dm_rule.specs.Parts as rule
@@ -41,7 +40,7 @@ kernel_asked : (b : Boot) (pt : Point) (l : Placed) (records : AllRecords) (k : 
 kernel_asked b pt l records k c p to = search c.stands.known
 
 sent_asked : (b : Boot) (pt : Point) (l : Placed) (k : KernelState) → KernelStands b pt l 0 k → KernelStands b pt l 0 (with_sent k)
-sent_asked b pt l k h = record { here = h.here; known = h.known; no_server = h.no_server; ring = h.ring; inbox = h.inbox; made = h.made; room = h.room; servers = h.servers }
+sent_asked b pt l k h = record { here = h.here; known = h.known; no_server = h.no_server; ring = h.ring; inbox = h.inbox; made = h.made; room = h.room; servers = h.servers; preds = h.preds }
 
 -- a line that changes nothing says why there is no message
 pub asked_line : (b : Boot) (pt : Point) (l : Placed) (records : AllRecords) (k : KernelState) (c : Asks b pt l records k) (p : Pid) (to : ℕ) (said : Line) → asks_move k p to ≡ Some (record { state = k; parts = Part.Says said ∷ [] }) → migrates pt p ≡ rule.Says said ∷ []
@@ -174,22 +173,17 @@ apart_turn b m pt l records k y c (Incoming from) fixed knows e = held_coming b 
 apart_turn b m pt l records k y c (Forward at moves) fixed knows e = forwards_turn b m pt l records k y c at moves fixed knows
 apart_turn b m pt l records k y c _ fixed knows e = absurd (false≢true e)
 
--- its receiver is known here
-pub front_known : (b : Boot) (m : ℕ) (pt : Point) (l : Placed) (records : AllRecords) (k : KernelState) (y : Message) (c : Fronts b m pt l records k y) → is_fixed y.to.pid ≡ false → pt.view.known m y.to.pid ≢ Unknown
-front_known b m pt l records k y c fixed e = search (at_front, c.run.found.process, y.id, c.told, c.told_is, c.receiver, pt.view.known)
-
 -- an own message is of a sort
 pub front_sort : (b : Boot) (m : ℕ) (pt : Point) (l : Placed) (records : AllRecords) (k : KernelState) (y : Message) (c : Fronts b m pt l records k y) → plain_what y.what ≡ None → own_sort (kind_of y.what) y.to.pid c.told.about ≡ true
 front_sort b m pt l records k y c none = grind (arith, nat_tests)
 
 -- an update, at a process
 update_known : (b : Boot) (m : ℕ) (pt : Point) (l : Placed) (records : AllRecords) (k : KernelState) (y : Message) (c : Fronts b m pt l records k y) (about : Addr) (w : Known) → is_fixed y.to.pid ≡ false → y.what ≡ What.Update about → pt.view.known m y.to.pid ≡ w → TurnsAt b m pt l records k
-update_known b m pt l records k y c about Unknown fixed e knows = absurd (front_known b m pt l records k y c fixed knows)
+update_known b m pt l records k y c about Unknown fixed e knows = updated_ended_turn b m pt l records k y c about fixed knows e
 update_known b m pt l records k y c about Here fixed e knows = updated_here_turn b m pt l records k y c about fixed knows e
 update_known b m pt l records k y c about (Frozen to) fixed e knows = held_leaving b m pt l records k y c to fixed knows
 update_known b m pt l records k y c about (Incoming from) fixed e knows = held_coming b m pt l records k y c from fixed knows
 update_known b m pt l records k y c about (Forward at moves) fixed e knows = forwards_turn b m pt l records k y c at moves fixed knows
-update_known b m pt l records k y c about Ended fixed e knows = updated_ended_turn b m pt l records k y c about fixed knows e
 
 update_server : (b : Boot) (m : ℕ) (pt : Point) (l : Placed) (records : AllRecords) (k : KernelState) (y : Message) (c : Fronts b m pt l records k y) (about : Addr) (s : Bool) → is_server y.to.pid ≡ true → y.what ≡ What.Update about → pid_eq y.to.pid switchboard ≡ s → TurnsAt b m pt l records k
 update_server b m pt l records k y c about true server e is = updated_board_turn b m pt l records k y c about (pid_eq-is y.to.pid switchboard is) e
@@ -215,9 +209,8 @@ migrate_process b m pt l records k y c to e =
 
 -- where the process isn't here
 pub migrate_apart : (b : Boot) (m : ℕ) (pt : Point) (l : Placed) (records : AllRecords) (k : KernelState) (y : Message) (c : Fronts b m pt l records k y) (to : ℕ) (w : Known) → y.what ≡ What.Migrate to → pt.view.known m y.to.pid ≡ w → w ≢ Here → TurnsAt b m pt l records k
-migrate_apart b m pt l records k y c to Unknown e knows off = absurd (front_known b m pt l records k y c (migrate_process b m pt l records k y c to e) knows)
+migrate_apart b m pt l records k y c to Unknown e knows off = no_move_turn b m pt l records k y c to (migrate_process b m pt l records k y c to e) knows e
 migrate_apart b m pt l records k y c to Here e knows off = absurd (off refl)
 migrate_apart b m pt l records k y c to (Frozen d) e knows off = held_leaving b m pt l records k y c d (migrate_process b m pt l records k y c to e) knows
 migrate_apart b m pt l records k y c to (Incoming s) e knows off = held_coming b m pt l records k y c s (migrate_process b m pt l records k y c to e) knows
 migrate_apart b m pt l records k y c to (Forward at moves) e knows off = forwards_turn b m pt l records k y c at moves (migrate_process b m pt l records k y c to e) knows
-migrate_apart b m pt l records k y c to Ended e knows off = no_move_turn b m pt l records k y c to (migrate_process b m pt l records k y c to e) knows e

@@ -3,8 +3,7 @@ use Rattle.dm_mirror.proofs.Names.{◌≡◌, ℕ, ◌+◌, Bool, true, false, L
 use Rattle.dm_mirror.proofs.Names.{Record, Line, MessageKind, id_eq, id_of, kind_of, plain_kind, PlainMessage, plain_message, plain_what, with_what, incoming_of, sent_on, Boot, manager, forwards_and, KernelState, id_eq-same, id_eq-swap}
 use Rattle.dm_mirror.proofs.Names.{Addresses, Receiver, Sender, is_told_back, unmoved, forwards_on, process_told, Point, moved, at_machine, Queue, Held, About, Known, Forward, forward_about, forwarded_for, handled, own_id, receiver_of}
 use Rattle.dm_mirror.proofs.Names.{is_fixed, Run, Placed, Mirrors, free_off, plain_sent_on, forwarded_mirrors, moves_forwarded, update_gets, parts, mirrors_view, AllOwnStand, OwnStands, KnownStands, AllRecords, Wants, ◌++◌, Wanted, Arrival}
-use Rattle.dm_mirror.proofs.Names.{with_known, pid_eq-is, at_record, times, Frozen, Incoming, is_server, Part}
-use Rattle.dm_kernel.specs.State.{with_sent}
+use Rattle.dm_mirror.proofs.Names.{with_known, pid_eq-is, at_record, times, Frozen, Incoming, is_server, Part, with_sent}
 use Rattle.dm_rule.specs.Rule.{process_handles}
 use Rattle.dm_places.specs.PlacedStep.{with_message}
 use Rattle.dm_rule.specs.View.{held_for}
@@ -118,12 +117,13 @@ record Sent (k s : KernelState) (routes : List Route) : Type 0 where
   made : s.made ≡ k.made
   room : s.room ≡ k.room
   servers : s.servers ≡ k.servers
+  preds : s.preds ≡ k.preds
   over : s.over ≡ k.over
   sent : s.sent ≡ k.sent + owns routes
 
 sent_is : (k : KernelState) (rest : List Message) (y : Message) (id : MsgId) (here at moves : ℕ) (back : Bool) → Sent k (sent_by (record k { inbox = rest }) back) (routes_of y id here at moves back)
-sent_is k rest y id here at moves true = record { here = refl; records = refl; ring = refl; made = refl; room = refl; servers = refl; over = refl; sent = (let e : k.sent + 1 ≡ k.sent + (0 + (1 + 0)) = omega arith in e) }
-sent_is k rest y id here at moves false = record { here = refl; records = refl; ring = refl; made = refl; room = refl; servers = refl; over = refl; sent = (let e : k.sent ≡ k.sent + (0 + 0) = omega arith in e) }
+sent_is k rest y id here at moves true = record { here = refl; records = refl; ring = refl; made = refl; room = refl; servers = refl; preds = refl; over = refl; sent = (let e : k.sent + 1 ≡ k.sent + (0 + (1 + 0)) = omega arith in e) }
+sent_is k rest y id here at moves false = record { here = refl; records = refl; ring = refl; made = refl; room = refl; servers = refl; preds = refl; over = refl; sent = (let e : k.sent ≡ k.sent + (0 + 0) = omega arith in e) }
 
 forward_row : (b : Boot) (m : ℕ) (pt : Point) (l : Placed) (records : AllRecords) (k : KernelState) (y : Message) (c : Fronts b m pt l records k y) (at moves : ℕ) (back : Bool) → IsProcess y.to.pid → pt.view.known m y.to.pid ≡ Forward at moves → is_told_back (kind_of y.what) ≡ back → TurnsAt b m pt l records k
 forward_row b m pt l records k y c at moves back is knows has =
@@ -160,12 +160,12 @@ forward_row b m pt l records k y c at moves back is knows has =
           let o = c.own y.id y c.there (sym (plain_sent_on at moves y) ∙ ap plain_message w ∙ plain) in
           subst (OwnStands pt.view y.id) w (record { told = o.told; mine = o.mine; sender = o.sender }));
       sent = same.sent;
-      known = λ server. subst (KnownStands (handled_point pt m y.id pt.view.held topic next.addresses) placed p (pt.view.queue m p) (pt.view.held m p) (pt.view.known m p)) (ap (λ (f : Pid → Option machine.KernelKnown). f p) (sym same.records))
-          (known_on pt (handled_point pt m y.id pt.view.held topic next.addresses) l placed p (pt.view.queue m p) (pt.view.held m p) (pt.view.known m p) (k.records p) refl refl refl
+      known = λ server. subst (KnownStands placed p (pt.view.queue m p) (pt.view.held m p) (pt.view.known m p)) (ap (λ (f : Pid → Option machine.KernelKnown). f p) (sym same.records))
+          (known_on l placed p (pt.view.queue m p) (pt.view.held m p) (pt.view.known m p) (k.records p) refl refl
           (λ j least. bag_off j (apart_at b m pt l records k y c (Queue m p) j (queue_apart m m p) least)) (λ j least. bag_off j (apart_at b m pt l records k y c (Held m p) j (held_apart m m p) least)) (c.stands.known p server));
       still = front_still b m pt l records k y c is.number;
       may = all_may b m pt l records (at_machine records m state.records) k y c at moves back is knows has;
-      leaves = search (bag_off, same.here, kept, same.ring, (let e_ : (sent_by (record k { inbox = c.rest }) back).inbox ≡ c.rest = grind (arith, nat_tests) in e_), same.made, same.room, same.servers ∙ c.stands.servers, same.over, wants);
+      leaves = search (bag_off, same.here, kept, same.ring, (let e_ : (sent_by (record k { inbox = c.rest }) back).inbox ≡ c.rest = grind (arith, nat_tests) in e_), same.made, same.room, same.preds, same.servers ∙ c.stands.servers, same.over, wants);
     })
 
 -- where the process has gone on
@@ -188,7 +188,7 @@ held_list pt m p i = at_record pt.view.held m p (pt.view.held m p ++ i ∷ [])
 held_row : (b : Boot) (m : ℕ) (pt : Point) (l : Placed) (records : AllRecords) (k : KernelState) (y : Message) (c : Fronts b m pt l records k y) (w : Known) (r new : machine.KernelKnown) → IsProcess y.to.pid → pt.view.known m y.to.pid ≡ w → k.records y.to.pid ≡ Some r
     → machine_handle.process_handles (record k { inbox = c.rest }) y (Some r) ≡ Some (record { state = with_known (record k { inbox = c.rest }) y.to.pid new; parts = Part.Says (Line.Held y.id) ∷ [] })
     → ((x : PlainMessage) → process_handles pt m y.id x w ≡ Some (rule.Says (Line.Held y.id) ∷ [])) → process_told pt m y.id c.told w ≡ Some (rule.Says (Line.Held y.id) ∷ [])
-    → KnownStands (handled_point pt m y.id (held_list pt m y.to.pid y.id) (begun pt m).view.topic pt.addresses) l y.to.pid (pt.view.queue m y.to.pid) (pt.view.held m y.to.pid ++ y.id ∷ []) w (Some new)
+    → KnownStands l y.to.pid (pt.view.queue m y.to.pid) (pt.view.held m y.to.pid ++ y.id ∷ []) w (Some new)
     → ((u : Wanted) → Wants (incoming_of (Some r)) u → Wants (incoming_of (Some new)) u) → TurnsAt b m pt l records k
 held_row b m pt l records k y c w r new is knows there turn bag own known wants =
     let p = y.to.pid in
@@ -213,9 +213,9 @@ held_row b m pt l records k y c w r new is knows there turn bag own known wants 
       mirrors = mirrors_view pt.kernel pt.view (handled_view pt m y.id held topic) pt.addresses l refl c.mirrors;
       own_front = λ z e plain. c.own y.id z e plain;
       sent = (let e : k.sent ≡ k.sent + 0 = omega arith in e);
-      known = λ server. subst (KnownStands (handled_point pt m y.id held topic pt.addresses) l p (pt.view.queue m p) (held m p) (pt.view.known m p)) (sym (set_self k.records p new))
-          (subst (λ (j : Known). KnownStands (handled_point pt m y.id held topic pt.addresses) l p (pt.view.queue m p) (held m p) j (Some new)) (sym knows)
-          (subst (λ (h : List MsgId). KnownStands (handled_point pt m y.id held topic pt.addresses) l p (pt.view.queue m p) h w (Some new)) (sym (record_self pt.view.held m p (pt.view.held m p ++ y.id ∷ []))) known));
+      known = λ server. subst (KnownStands l p (pt.view.queue m p) (held m p) (pt.view.known m p)) (sym (set_self k.records p new))
+          (subst (λ (j : Known). KnownStands l p (pt.view.queue m p) (held m p) j (Some new)) (sym knows)
+          (subst (λ (h : List MsgId). KnownStands l p (pt.view.queue m p) h w (Some new)) (sym (record_self pt.view.held m p (pt.view.held m p ++ y.id ∷ []))) known));
       still = front_still b m pt l records k y c is.number;
       may = tt;
       leaves = search (record_off, record_others, more, set_other, c.stands.servers, keeps, asked);

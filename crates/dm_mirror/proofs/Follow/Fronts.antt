@@ -4,7 +4,7 @@ use Rattle.dm_mirror.proofs.Names.{PlainWhat, plain_message, plain_what, with_wh
 use Rattle.dm_mirror.proofs.Names.{Mirrors, parts, AllOwnStand, told_of, AreMessages, KernelStands, AllRecords, TokensStand, told_there, ◌≢◌, ◌+◌, inl, inr, arith, if◌then◌else◌, cases_Bool, nat_tests, id_eq, id_eq-is, id_eq-same}
 use Rattle.dm_mirror.proofs.Names.{at_machine, without_front, Spot, Held, StandsOnce, StandsOutside, StandsRight, Known, is_kernels, stands_right, once_at, KnownStands, with_record, handles, Turned, pid_eq-same, process_told, comes_to, not}
 use Rattle.dm_mirror.proofs.Names.{slice_get, incoming_of, Taken, Wanted, Arrival, room_of, turns, pid_eq-is, Line, Addresses, after, after_line, taken_at, Queue, Of, View, handled, OwnStands, RoomStands, servers_at, Carries, Wants}
-use Rattle.dm_mirror.proofs.Names.{destination_of, Part, Cargo, ◌⊎◌, cargo_at, sort_of, is_due_piece, pulls_piece, hears, kernel_hears}
+use Rattle.dm_mirror.proofs.Names.{destination_of, Part, Cargo, ◌⊎◌, cargo_at, sort_of, is_due_piece, pulls_piece, hears, kernel_hears, PredsStand}
 pub use Rattle.dm_rulelaws.proofs.Goes.Turns.{times_self, times_more}
 pub use Rattle.dm_rule.proofs.Lines.{eq_self, at_machine_at as machine_self}
 pub use Rattle.dm_rulelaws.proofs.Goes.Always.{queue_apart}
@@ -237,6 +237,7 @@ pub record FollowLeaves (m : ℕ) (pt : Point) (l : Placed) (k : KernelState) (r
   pub ring : state.ring ≡ k.ring
   pub inbox : state.inbox ≡ rest
   pub made : state.made ≡ k.made
+  pub preds : state.preds ≡ k.preds
   pub room : state.room ≡ k.room
   pub servers : state.servers ≡ servers_at placed m
   pub over : state.over ≡ k.over
@@ -259,7 +260,7 @@ pub record Follows (b : Boot) (m : ℕ) (pt : Point) (l : Placed) (records : All
   pub mirrors : Mirrors pt.kernel (handled_view pt m y.id held topic) addresses placed
   pub own_front : (z : Message) → placed.bag y.id ≡ Some z → plain_message z ≡ None → OwnStands pt.view y.id z
   pub sent : state.sent ≡ k.sent + owns routes
-  pub known : is_server process ≡ false → KnownStands (handled_point pt m y.id held topic addresses) placed process (pt.view.queue m process) (held m process) (pt.view.known m process) (state.records process)
+  pub known : is_server process ≡ false → KnownStands placed process (pt.view.queue m process) (held m process) (pt.view.known m process) (state.records process)
   -- it is no message of a migration under way
   pub still : is_between (kind_of y.what) ≡ false
   pub may : AllMayPut (handled_point pt m y.id held topic addresses) placed (at_machine records m state.records) 0 routes
@@ -363,7 +364,7 @@ kernel_follows b m pt l records k y c h =
     (ap (map h.placed.bag) (machine_self pt.view.inbox m (without_front y.id (pt.view.inbox m)) ∙ front_gone y.id c.ids (pt.view.inbox m) c.box)
     ∙ map_same l.bag h.placed.bag c.ids (λ j least. h.leaves.bag j (apart_behind b m pt l records k y c j least)) ∙ c.others ∙ ap (map Some) (sym h.leaves.inbox))
     (h.leaves.made ∙ stands.made)
-    (subst (λ (t : Taken). RoomStands t (room_of (slice_get b.machines m)) (taken_at pt m pt.kernel.machines)) (sym h.leaves.room) stands.room) h.leaves.servers
+    (subst (λ (t : Taken). RoomStands t (room_of (slice_get b.machines m)) (taken_at pt m pt.kernel.machines)) (sym h.leaves.room) stands.room) h.leaves.servers (subst (PredsStand b (pt.view.preds m)) (sym h.leaves.preds) stands.preds)
 
 elsewhere_follows : (b : Boot) (m : ℕ) (pt : Point) (l : Placed) (records : AllRecords) (k : KernelState) (y : Message) (c : Fronts b m pt l records k y) (h : Follows b m pt l records k y c)
     → Elsewhere m (begun pt m) l (handled_point pt m y.id h.held h.topic h.addresses) h.placed

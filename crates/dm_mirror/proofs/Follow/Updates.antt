@@ -4,7 +4,7 @@ use Rattle.dm_mirror.proofs.Names.{slot_is_behind, applied, Message, MsgId, What
 use Rattle.dm_mirror.proofs.Names.{Servers, handles, KernelState, with_here, pid_eq-same, place_told, behind_count, told_here, told_server, updates, Phase, Rests, is_away, is_between, is_here, knows, Point, moved, comes_to, hears, Inbox}
 use Rattle.dm_mirror.proofs.Names.{Spot, standing, Known, Here, Of, Told, rests_here, is_fixed, Run, Placed, Mirrors, mirrors_view, board_told, manager_told, updated_board_mirrors, updated_manager_mirrors, updated_mirrors}
 use Rattle.dm_mirror.proofs.Names.{updated_board_count, updated_count, updated_manager_count, about_of, told_of, KnownStands, servers_at, AllRecords, Wants, MessageKind, PlainMessage, Managing, Board, Addresses, told_ended, after_line}
-use Rattle.dm_mirror.proofs.Names.{agrees, ended_of, Ended, updated_ended_mirrors, no_process, Wanted, is_server, Part, sort_of, ◌⊎◌, inl, inr, Moves, View, is_due_piece, pulls_piece, Asks, Comes, kernel_hears, process_told}
+use Rattle.dm_mirror.proofs.Names.{updated_ended_mirrors, no_process, Wanted, is_server, Part, sort_of, ◌⊎◌, inl, inr, Moves, View, is_due_piece, pulls_piece, Asks, Comes, kernel_hears, process_told, is_alive, ◌||◌, Unknown, is_some}
 use Rattle.dm_places.specs.PlacedStep.{with_process}
 use Rattle.dm_mirror.proofs.Recorded.{recorded}
 use Rattle.dm_mirror.proofs.Follow.Fronts.{front_still, is_process_of, plain_there, Fronts, at_front, eq_off, known_on, machine_process, rule_process, set_other, set_self, handled_point, turns_follow, handled_view}
@@ -17,6 +17,7 @@ use Rattle.dm_mirror.proofs.LeftOver.{IsDue, IsOver, Which, brings_on, which}
 use Rattle.dm_kernel.specs.State as machine
 use Rattle.dm_rule.specs.Parts as rule
 use Rattle.dm_mirror.proofs.Handle.Taking.{no_server, server_here, to_board, to_manager}
+use Rattle.dm_mirror.proofs.Gone.{alive_none, not_alive}
 
 -- the servers may change, and addresses
 abbrev pub with_servers : Placed → Board → Managing → Placed
@@ -60,8 +61,8 @@ turns_quiet b m pt l records k y c h =
       mirrors = h.mirrors;
       own_front = λ z e plain. c.own y.id z e plain;
       sent = (let e : k.sent ≡ k.sent + 0 = omega arith in e);
-      known = λ server. known_on pt (handled_point pt m y.id pt.view.held topic h.addresses) l placed p (pt.view.queue m p) (pt.view.held m p) (pt.view.known m p) (k.records p)
-          refl refl refl (λ j least. refl) (λ j least. refl) (c.stands.known p server);
+      known = λ server. known_on l placed p (pt.view.queue m p) (pt.view.held m p) (pt.view.known m p) (k.records p)
+          refl refl (λ j least. refl) (λ j least. refl) (c.stands.known p server);
       still = front_still b m pt l records k y c h.number;
       may = tt;
       leaves = search (h.board_stays, h.manager_stays, h.same);
@@ -72,25 +73,29 @@ pub no_plain : (y : Message) (x : PlainMessage) → plain_what y.what ≡ None �
 no_plain y x none e = let f : None ≡ Some x = sym (ap (with_what y) none) ∙ e in cc
 
 -- at a process that has ended
-pub ended_quiet : (b : Boot) (m : ℕ) (pt : Point) (l : Placed) (records : AllRecords) (k : KernelState) (y : Message) (c : Fronts b m pt l records k y) (said : Line) (a : Addresses) → is_fixed y.to.pid ≡ false → pt.view.known m y.to.pid ≡ Ended → plain_what y.what ≡ None
+pub ended_quiet : (b : Boot) (m : ℕ) (pt : Point) (l : Placed) (records : AllRecords) (k : KernelState) (y : Message) (c : Fronts b m pt l records k y) (said : Line) (a : Addresses) → is_fixed y.to.pid ≡ false → pt.view.known m y.to.pid ≡ Unknown → plain_what y.what ≡ None
     → machine_handle.ended_handles (record k { inbox = c.rest }) y y.what ≡ Some (record { state = record k { inbox = c.rest }; parts = Part.Says said ∷ [] }) → told_ended y.id (sort_of (kind_of y.what)) ≡ Some (rule.Says said ∷ [])
     → after_line (begun pt m) said ≡ Some (handled_point pt m y.id pt.view.held (begun pt m).view.topic a) → (l.processes y.to.pid ≡ None → Mirrors pt.kernel (handled_view pt m y.id pt.view.held (begun pt m).view.topic) a l) → TurnsAt b m pt l records k
 ended_quiet b m pt l records k y c said a fixed knows none turn told after mirrors =
     let p = y.to.pid in
     let is = is_process_of p fixed in
     let s = record k { inbox = c.rest } in
-    let there = recorded b pt l m k p Ended c.stands is.server knows in
-    let (because, over) = ended_of (pt.kernel.processes p) (sym (ap (λ (n : Known). agrees n (pt.kernel.processes p)) knows) ∙ c.run.based.known.agree m p is.server) in
+    let there = recorded b pt l m k p Unknown c.stands is.server knows in
+    let gone : is_alive pt.kernel p ≡ false =
+    subst (λ (q : Pid). is_alive pt.kernel q ≡ false) c.receiver
+    (not_alive b pt y.id (Inbox m) c.told c.run (at_front b m pt l records k y c) c.told_is (ap is_fixed c.receiver ∙ fixed) (ap (pt.view.known m) c.receiver ∙ knows)) in
+    let over : kernel.alive (pt.kernel.processes p) ≡ None = alive_none (pt.kernel.processes p) (sym (ap (λ (d : Bool). d || is_some (kernel.alive (pt.kernel.processes p))) is.server) ∙ gone) in
     turns_quiet b m pt l records k y c (record {
       said = said;
       addresses = a;
       board = l.board;
       manager = l.manager;
       servers = k.servers;
-      turn = machine_process b s y (Some Record.Ended) (Some (record { state = s; parts = Part.Says said ∷ [] })) is there turn;
-      outcome = rule_process b m pt l records k y c Ended (Some (rule.Says said ∷ [])) (plain_message y) is knows refl (λ x e. absurd (no_plain y x none e)) (λ e. ap (λ (t : MessageKind). told_ended y.id (sort_of t)) c.kind ∙ told);
+      turn = machine_process b s y None (Some (record { state = s; parts = Part.Says said ∷ [] })) is there
+          (no_server (pid_eq y.to.pid switchboard) (pid_eq y.to.pid manager) _ _ _ is.board is.manager_ ∙ turn);
+      outcome = rule_process b m pt l records k y c Unknown (Some (rule.Says said ∷ [])) (plain_message y) is knows refl (λ x e. absurd (no_plain y x none e)) (λ e. ap (λ (t : MessageKind). told_ended y.id (sort_of t)) c.kind ∙ told);
       after = after;
-      mirrors = mirrors (no_process (l.processes p) (sym (c.mirrors.plain.processes p) ∙ ap kernel.alive over));
+      mirrors = mirrors (no_process (l.processes p) (sym (c.mirrors.plain.processes p) ∙ over));
       board_stays = λ off. refl;
       manager_stays = λ off. refl;
       same = c.stands.servers;
@@ -98,13 +103,13 @@ ended_quiet b m pt l records k y c said a fixed knows none turn told after mirro
     })
 
 -- a request to move a process that has ended
-pub no_move_turn : (b : Boot) (m : ℕ) (pt : Point) (l : Placed) (records : AllRecords) (k : KernelState) (y : Message) (c : Fronts b m pt l records k y) (to : ℕ) → is_fixed y.to.pid ≡ false → pt.view.known m y.to.pid ≡ Ended → y.what ≡ What.Migrate to → TurnsAt b m pt l records k
+pub no_move_turn : (b : Boot) (m : ℕ) (pt : Point) (l : Placed) (records : AllRecords) (k : KernelState) (y : Message) (c : Fronts b m pt l records k y) (to : ℕ) → is_fixed y.to.pid ≡ false → pt.view.known m y.to.pid ≡ Unknown → y.what ≡ What.Migrate to → TurnsAt b m pt l records k
 no_move_turn b m pt l records k y c to fixed knows e =
     ended_quiet b m pt l records k y c (Line.NoMove y.id) pt.addresses fixed knows (ap plain_what e) (ap (machine_handle.ended_handles (record k { inbox = c.rest }) y) e) (ap (λ (w : What). told_ended y.id (sort_of (kind_of w))) e) refl
     (λ none. mirrors_view pt.kernel pt.view (handled_view pt m y.id pt.view.held (begun pt m).view.topic) pt.addresses l refl c.mirrors)
 
 -- an update of one that has ended
-pub updated_ended_turn : (b : Boot) (m : ℕ) (pt : Point) (l : Placed) (records : AllRecords) (k : KernelState) (y : Message) (c : Fronts b m pt l records k y) (about : Addr) → is_fixed y.to.pid ≡ false → pt.view.known m y.to.pid ≡ Ended → y.what ≡ What.Update about → TurnsAt b m pt l records k
+pub updated_ended_turn : (b : Boot) (m : ℕ) (pt : Point) (l : Placed) (records : AllRecords) (k : KernelState) (y : Message) (c : Fronts b m pt l records k y) (about : Addr) → is_fixed y.to.pid ≡ false → pt.view.known m y.to.pid ≡ Unknown → y.what ≡ What.Update about → TurnsAt b m pt l records k
 updated_ended_turn b m pt l records k y c about fixed knows e =
     let is = is_process_of y.to.pid fixed in
     let told = (c.own y.id y c.there (ap (λ (w : What). with_what y (plain_what w)) e)).told in
@@ -186,8 +191,8 @@ updated_here_turn b m pt l records k y c about fixed knows e =
       mirrors = updated_mirrors (begun pt m) l y.id n (told_of y) r about.at about.moves z start told (ap about_of e) is.board is.manager_ there;
       own_front = λ w f plain. c.own y.id w f plain;
       sent = (let f : k.sent ≡ k.sent + 0 = omega arith in f);
-      known = λ server. subst (KnownStands (handled_point pt m y.id held topic a) placed p (pt.view.queue m p) (pt.view.held m p) (pt.view.known m p)) (sym (set_self k.records p (Record.Here next)))
-          (subst (λ (j : Known). KnownStands (handled_point pt m y.id held topic a) placed p (pt.view.queue m p) (pt.view.held m p) j (Some (Record.Here next))) (sym knows)
+      known = λ server. subst (KnownStands placed p (pt.view.queue m p) (pt.view.held m p) (pt.view.known m p)) (sym (set_self k.records p (Record.Here next)))
+          (subst (λ (j : Known). KnownStands placed p (pt.view.queue m p) (pt.view.held m p) j (Some (Record.Here next))) (sym knows)
           ((here.2.0.0, ap (λ (t : Bool). if t then Some (applied r about.at about.moves z) else l.processes p) (pid_eq-same p)), here.2.1));
       still = front_still b m pt l records k y c is.number;
       may = tt;

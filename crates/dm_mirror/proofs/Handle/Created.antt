@@ -3,8 +3,9 @@ use Rattle.dm_mirror.proofs.Names.{◌≡◌, ◌≢◌, ℕ, ◌+◌, ◌≤◌
 use Rattle.dm_mirror.proofs.Names.{pid_eq, PlainLink, MsgId, Message, What, Record, Label, Line, PlainMessage, PlainWhat, plain_message, Process, begun_process, answer, Boot, BootImage, first_number, image_is_valid, slots_of, Alive}
 use Rattle.dm_mirror.proofs.Names.{OneKernel, bind, answer_id, answer_to, without_message, memory_of, slots_with, pid_eq-same, Routes, Point, Room, and, taken_at, taken_by, at_record, without_front, Spot, Queue, Held, Inbox, standing}
 use Rattle.dm_mirror.proofs.Names.{Known, after_label, is_kernels, bag_none, bag_created, has_no_queue, fresh_child, Placed, plainly, create_what, child_of, with_child, next_pid, KernelState, turned, KnownStands, ◌<◌, ◌||◌, IsValid}
-use Rattle.dm_mirror.proofs.Names.{manager, switchboard, plain_process, is_server, WhatFits, is_fixed, can_handle, OwnTold, Run, Mirrors, plainly_is, MadeStands, AllOwnStand, KernelStands, nat_le, times, begun, Unknown, with_sent, home_of}
-use Rattle.dm_mirror.proofs.Names.{server_fixed}
+use Rattle.dm_mirror.proofs.Names.{manager, switchboard, plain_process, is_server, WhatFits, is_fixed, can_handle, OwnTold, Run, Mirrors, plainly_is, MadeStands, AllOwnStand, KernelStands, nat_le, times, begun, Unknown, home_of}
+use Rattle.dm_mirror.proofs.Names.{server_fixed, life_sort}
+use Rattle.dm_rulelaws.proofs.Names.{with_sent}
 use Rattle.dm_rule.proofs.Names.{Part}
 use Rattle.dm_onekernel.specs.Service as service
 use Rattle.dm_onekernel.specs.Start as one
@@ -13,10 +14,10 @@ use Rattle.dm_rule.specs.Rule as rule
 use Rattle.dm_places.specs.PlacedStep as placed
 use Rattle.dm_kernel.specs.declared.part.Part.TheVariants as part
 use Rattle.dm_kernel.specs.State as state
-use Rattle.dm_mirror.proofs.Handle.Rows.{IsLeft, Elsewhere, Over, Moves, after_one, kept_at, kept_behind, mirrors_one, own_back, own_kept, seen_point, standing_begun, other_than}
+use Rattle.dm_mirror.proofs.Handle.Rows.{IsLeft, Elsewhere, Moves, after_one, kept_at, kept_behind, mirrors_one, own_back, own_kept, seen_point, standing_begun, other_than}
 use Rattle.dm_mirror.proofs.Handle.Taking.{Taking, outcome_is, sane_of, sent_other, sent_there, turn_is, held_apart, queue_apart, eq_off, eq_self, machine_off, machine_self, map_same, pid_apart, record_off, record_others, record_self}
 use Rattle.dm_mirror.proofs.Handle.Taking.{stands_set, took, IsProcess, not_server, server_here, rule_to_board, rule_to_kernel, rule_to_manager}
-use Rattle.dm_mirror.proofs.Turning.{NoneEnds, spared, Row, has_process, is_elsewhere}
+use Rattle.dm_mirror.proofs.Turning.{NoneEnds, spared, Row, Sends, has_process, is_elsewhere}
 use Rattle.dm_mirror.proofs.Handle.Ended.{ended_row, is_ended, IsHere, here_outcome, is_here}
 use Rattle.dm_mirror.proofs.Handle.Kills.{kill_row, no_room_row, valid_at, free_of, kernel_is, create_turn, kernel_home, child_off, user_row}
 use Rattle.dm_mirror.proofs.Handle.Landings.{block_row, gone_row, written_row, read_row, resume_row, stop_row, write_row}
@@ -29,12 +30,12 @@ use Rattle.dm_mirror.proofs.Rooms.{made_homes}
 abbrev made_point : Point → ℕ → MsgId → Pid → OneKernel → Point
 made_point pt m i child next = seen_point pt m (Label.Created i child) next (after_label (begun pt m).view (Label.Created i child))
 
-made_known : (b : Boot) (m : ℕ) (pt : Point) (l : Placed) (k : KernelState) (y : Message) (w : PlainWhat) (c : Taking b m pt l k y w) (next : Point) (on : Placed) (p : Pid) (held : List MsgId) (x : Process) (r : Option state.KernelKnown) → pt.view.known m p ≡ Known.Unknown → r ≡ Some (Record.Here x) → x.queue ≡ [] → on.processes p ≡ Some x
-    → (known : Known) → known ≡ Known.Here → KnownStands next on p (pt.view.queue m p) held known r
-made_known b m pt l k y w c next on p held x r none is empty there known here =
-    subst (λ (z : Known). KnownStands next on p (pt.view.queue m p) held z r) (sym here)
-    (subst (KnownStands next on p (pt.view.queue m p) held Known.Here) (sym is)
-    ((x.queue, there), ap (map on.bag) (c.run.based.lists.queue m p (ap has_no_queue none)) ∙ ap (map Some) (sym empty)))
+made_known : (b : Boot) (m : ℕ) (pt : Point) (l : Placed) (k : KernelState) (y : Message) (w : PlainWhat) (c : Taking b m pt l k y w) (next : Point) (on : Placed) (p : Pid) (held : List MsgId) (x : Process) (r : Option state.KernelKnown) → pt.view.known m p ≡ Known.Unknown → pt.kernel.processes p ≡ None → r ≡ Some (Record.Here x) → x.queue ≡ [] → on.processes p ≡ Some x
+    → (known : Known) → known ≡ Known.Here → KnownStands on p (pt.view.queue m p) held known r
+made_known b m pt l k y w c next on p held x r none unmade is empty there known here =
+    subst (λ (z : Known). KnownStands on p (pt.view.queue m p) held z r) (sym here)
+    (subst (KnownStands on p (pt.view.queue m p) held Known.Here) (sym is)
+    ((x.queue, there), ap (map on.bag) (c.run.based.lists.queue m p (ap has_no_queue none) (λ ended. (let e : None ≡ Some false = sym (ap life_sort unmade) ∙ ended in cc))) ∙ ap (map Some) (sym empty)))
 
 pub created_row : (b : Boot) (m : ℕ) (pt : Point) (l : Placed) (k : KernelState) (y : Message) (image : ℕ) (ls : List PlainLink) (g : BootImage) → Taking b m pt l k y (PlainWhat.Create image ls) → (y.to.pid.num == 0) ≡ true → slice_get b.images image ≡ Some g
     → rule.has_room (rule.free_room b pt m) g.blocks ≡ true → image_is_valid g ≡ true → Row b m pt l k
@@ -102,13 +103,13 @@ created_row b m pt l k y image ls g c num found some valid =
     let sets : (q : Pid) → pid_eq child q ≡ false → (with_child k0 child z g.blocks).records q ≡ k.records q = λ q off. ap (λ (c : Bool). if c then Some (Record.Here z) else k.records q) off in
     let queues : (q : Pid) (j : MsgId) → pid_eq child q ≡ false → 1 ≤ times j (pt.view.queue m q) → on.bag j ≡ l.bag j = λ q j o least. kept (Queue m q) j (queue_apart m m q) least in
     let holds : (q : Pid) (j : MsgId) → pid_eq child q ≡ false → 1 ≤ times j (pt.view.held m q) → on.bag j ≡ l.bag j = λ q j o least. kept (Held m q) j (held_apart m m q) least in
-    let mine : KnownStands goal on child (goal.view.queue m child) (goal.view.held m child) (goal.view.known m child) ((with_child k0 child z g.blocks).records child) =
+    let mine : KnownStands on child (goal.view.queue m child) (goal.view.held m child) (goal.view.known m child) ((with_child k0 child z g.blocks).records child) =
     grind (arith, nat_tests, made_known, pid_eq-same, pt.view.held, k.records, pt.view.known) in
     let keeps : is_server child ≡ true → (with_child k0 child z g.blocks).records child ≡ k.records child = λ is. absurd (false≢true (sym off ∙ is)) in
     record {
       state = with_child k0 child z g.blocks;
       says = Line.Label e ∷ [];
-      route = Some a;
+      route = Sends (Some a);
       turn = turn_is b m pt l k y (PlainWhat.Create image ls) c (turned (with_child k0 child z g.blocks) (state.says e ∷ part.Routes a ∷ []))
           (create_turn b k0 y image w.links g true num w.is found ((λ i. nat_le 1 (free.0 i) && nat_le g.blocks (free.1 i)) ∙ some)
           ∙ (λ i. turned (with_child k0 (name i) (child_of b (name i) g links) g.blocks) (state.says (Label.Created y.id (name i)) ∷ part.Routes (answer (c.stands.here i) 0 y (What.Created (name i))) ∷ [])));
@@ -118,7 +119,7 @@ created_row b m pt l k y image ls g c num found some valid =
       placed = on;
       mirrors = mirrors;
       kernel = stands_set b pt goal l on m k (with_child k0 child z g.blocks) child
-          (search (sets, record_others, others_placed, others_live, queues, holds, mine, keeps)) c.stands
+          (search (sets, record_others, others_placed, queues, holds, mine, keeps)) c.stands
           (ap (λ (ps : List Pid). ps ++ child ∷ []) c.stands.ring ∙ sym (machine_self pt.view.ring m (pt.view.ring m ++ child ∷ [])))
           (ap (map on.bag) (machine_self pt.view.inbox m (without_front y.id (pt.view.inbox m)) ∙ front_gone y.id c.ids (pt.view.inbox m) c.box)
           ∙ map_same l.bag on.bag c.ids (kept_behind b m pt l k y (PlainWhat.Create image ls) c on (Some a) bag_is both) ∙ c.others)
@@ -128,12 +129,11 @@ created_row b m pt l k y image ls g c num found some valid =
             blocks = c.stands.room.blocks;
             taken_slots = ap (λ (n : ℕ). n + 1) c.stands.room.taken_slots ∙ ap (λ (r : Room). r.slots) (sym all);
             taken_blocks = ap (λ (n : ℕ). n + g.blocks) c.stands.room.taken_blocks ∙ ap (λ (r : Room). r.blocks) (sym all);
-          }) c.stands.servers;
+          }) c.stands.servers c.stands.preds;
       elsewhere = search (
         machine_off,
         record_off,
         λ (n : ℕ) (q : Pid) (o : n ≢ m) (has : has_process (pt.view.known n q) ≡ true). others_placed q (left q (Elsewhere n o has)),
-        λ (n : ℕ) (q : Pid) (o : n ≢ m) (over : pt.view.known n q ≡ Known.Ended). others_live q (left q (Over n o over)),
         λ (n : ℕ) (q : Pid) (o : n ≢ m) (has : has_process (pt.view.known n q) ≡ true). others_live q (left q (Elsewhere n o has)),
         λ (i : MsgId) (q : Spot) (is : is_elsewhere m q ≡ true) (least : 1 ≤ standing (begun pt m).view i q). kept q i (elsewhere_apart m q is) (subst (λ (n : ℕ). 1 ≤ n) (standing_begun pt m i q) least),
       );
@@ -162,14 +162,15 @@ pub kernel_row : (b : Boot) (m : ℕ) (pt : Point) (l : Placed) (k : KernelState
 kernel_row b m pt l k y (PlainWhat.Create image ls) ps c num goes = asks_row b m pt l k y image ls ps (slice_get b.images image) (room_for (rule.free_room b pt m) (slice_get b.images image)) c num refl refl goes
 kernel_row b m pt l k y w ps c num goes = absurd (let f : None ≡ Some ps = goes in cc)
 
--- A message of the bag at the inbox's front, for a kernel, a server, or a process that is here or has ended here.
+-- A message of the bag at the inbox's front, for a kernel, a server, or a process that is here or has ended.
 
 -- whom the message is for
 pub data BagFor (m : ℕ) (pt : Point) (p : Pid) (w : PlainWhat) : Type 0 where
   ForFixed : (fixed : is_fixed p ≡ true) → BagFor m pt p w
   -- a process that isn't asked to move
   ForHere : (here : pt.view.known m p ≡ Known.Here) → (stays : (machine : ℕ) → w ≡ PlainWhat.Move machine → ⊥) → BagFor m pt p w
-  ForEnded : (over : pt.view.known m p ≡ Known.Ended) → BagFor m pt p w
+  -- one that has ended
+  ForUnknown : (unknown : pt.view.known m p ≡ Known.Unknown) → BagFor m pt p w
 
 -- the receiver is here, a row a kind
 here_row : (b : Boot) (m : ℕ) (pt : Point) (l : Placed) (k : KernelState) (y : Message) (w : PlainWhat) (ps : List Part) (c : Taking b m pt l k y w) (h : IsHere b m pt l k y.to.pid)
@@ -195,7 +196,7 @@ process_row b m pt l k y w ps c process (ForFixed fixed) fits goes =
 process_row b m pt l k y w ps c process (ForHere here stays) fits goes =
     let h = is_here b m pt l k y w c process here in
     here_row b m pt l k y w ps c h stays fits (sym (here_outcome b m pt l k y w h (rule.here_handles pt m y.id (plainly y w) (plain_process h.x) w) refl) ∙ goes)
-process_row b m pt l k y w ps c process (ForEnded over) fits goes = ended_row b m pt l k y w c (is_ended b m pt l k y w c process over) fits
+process_row b m pt l k y w ps c process (ForUnknown unknown) fits goes = ended_row b m pt l k y w c (is_ended b m pt l k y w c process unknown fits) fits
 
 -- a server is here
 here_of : (b : Boot) (m : ℕ) (pt : Point) (l : Placed) (k : KernelState) (y : Message) (w : PlainWhat) (c : Taking b m pt l k y w) → is_server y.to.pid ≡ true → pt.view.known m y.to.pid ≡ Known.Here

@@ -1,16 +1,16 @@
--- Messages for a process that has ended here: dropped, or answered that it is gone.
+-- Messages for a process that has ended, of which nothing is known here: dropped, or answered that it is gone.
 use Rattle.dm_mirror.proofs.Names.{◌≡◌, ℕ, true, List, [], ◌∷◌, refl, ap, ◌∙◌, sym, is_some, Option, None, Some, false≢true, Pid, MsgId, Message, Record, Label, PlainWhat, plain_message, gone_answer, Boot, Why, bind, answer_id, answer_to}
-use Rattle.dm_mirror.proofs.Names.{without_message, is_dropped, Point, times, Known, View, handled, bag_none, bag_gone, agrees, ended_of, WhatFits, is_manager, dropped_is, Placed, plainly, user_what, read_what, write_what, block_what}
-use Rattle.dm_mirror.proofs.Names.{stop_what, resume_what, kill_what, written_what, gone_what, What, handles, process_handles, ended_handles, KernelState, Turned, turned, KnownStands, gone_is, ◌/◌, Bool, length, map, if◌then◌else◌}
-use Rattle.dm_mirror.proofs.Names.{plain_kind, PlainMessage, arith, nat_tests, Process, Alive, Life, OneKernel, plain_process, PlainProcess, pid_eq-same, blocks_of, alive_of, served_is, of_map, with_queue, here_handles, with_here}
-use Rattle.dm_mirror.proofs.Names.{AreMessages, is_server, pid_eq, false, begun, Outcome, move_what, here_free, sort_of, with_sent}
+use Rattle.dm_mirror.proofs.Names.{without_message, is_dropped, Point, times, Known, View, handled, bag_none, bag_gone, agrees, WhatFits, is_manager, dropped_is, Placed, plainly, user_what, read_what, write_what, block_what, stop_what}
+use Rattle.dm_mirror.proofs.Names.{resume_what, kill_what, written_what, gone_what, What, handles, process_handles, ended_handles, KernelState, Turned, turned, KnownStands, gone_is, ◌/◌, Bool, length, map, if◌then◌else◌, plain_kind}
+use Rattle.dm_mirror.proofs.Names.{PlainMessage, arith, nat_tests, Process, Alive, Life, OneKernel, plain_process, PlainProcess, pid_eq-same, blocks_of, alive_of, served_is, of_map, with_queue, here_handles, with_here, AreMessages}
+use Rattle.dm_mirror.proofs.Names.{is_server, pid_eq, false, begun, Outcome, move_what, here_free, sort_of, Ended, is_alive, ◌||◌, Inbox, is_fixed, subst, told_receiver}
+use Rattle.dm_rulelaws.proofs.Names.{with_sent}
 use Rattle.dm_mirror.proofs.Recorded.{recorded}
 use Rattle.dm_rule.proofs.Names.{Part}
-use Rattle.dm_onekernel.specs.Kernel.{Ended}
 use Rattle.dm_kernel.specs.declared.part.Part.TheVariants.{Routes}
 pub use Rattle.dm_rule.proofs.Turns.{without_front_none as front_none, at_record_same as queue_same}
-use Rattle.dm_mirror.proofs.Handle.Rows.{IsLeft, turns_row, handled_point, here_left}
-use Rattle.dm_mirror.proofs.Handle.Taking.{Taking, sane_of, known_on, map_same, IsProcess, no_kernel, not_server, to_process, rule_to_process, rule_to_here}
+use Rattle.dm_mirror.proofs.Handle.Rows.{IsLeft, turns_row, here_left}
+use Rattle.dm_mirror.proofs.Handle.Taking.{Taking, sane_of, known_on, map_same, IsProcess, no_kernel, not_server, to_process, rule_to_process, rule_to_here, to_ended}
 use Rattle.dm_mirror.proofs.Turning.{Row, routed, rule_routed}
 use Rattle.dm_mirror.proofs.Handle.Servers.{placed_bag, placed_leaves, placed_processes, sent_leaves}
 use Rattle.dm_rule.specs.Rule as rule
@@ -21,25 +21,31 @@ use Rattle.dm_kernel.specs.State as state
 use Rattle.dm_onekernel.specs.Kernel as kernels
 use Rattle.dm_onekernel.specs.Service as service
 use Rattle.dm_onekernel.specs.Step as kernel
+use Rattle.dm_mirror.proofs.Gone.{ended_by, not_alive, receiver_made}
 
--- what the machine knows of a process that has ended here
+-- the machine knows nothing of a process that has ended
 pub record IsEnded (b : Boot) (m : ℕ) (pt : Point) (l : Placed) (k : KernelState) (p : Pid) : Type 0 where
   pub process : IsProcess p
   pub because : Why
   pub life : pt.kernel.processes p ≡ Some (Ended because)
-  pub known : pt.view.known m p ≡ view.Ended
-  pub there : k.records p ≡ Some Record.Ended
+  pub known : pt.view.known m p ≡ view.Unknown
+  pub there : k.records p ≡ None
 
-pub is_ended : (b : Boot) (m : ℕ) (pt : Point) (l : Placed) (k : KernelState) (y : Message) (w : PlainWhat) → Taking b m pt l k y w → IsProcess y.to.pid → pt.view.known m y.to.pid ≡ view.Ended → IsEnded b m pt l k y.to.pid
-is_ended b m pt l k y w c h known =
+pub is_ended : (b : Boot) (m : ℕ) (pt : Point) (l : Placed) (k : KernelState) (y : Message) (w : PlainWhat) → Taking b m pt l k y w → IsProcess y.to.pid → pt.view.known m y.to.pid ≡ view.Unknown → WhatFits pt.kernel y.id (plainly y w) w → IsEnded b m pt l k y.to.pid
+is_ended b m pt l k y w c h known fits =
     let p = y.to.pid in
     let server = not_server p h in
-    let (z, life) = ended_of (pt.kernel.processes p) (sym (ap (λ (n : Known). agrees n (pt.kernel.processes p)) known) ∙ c.run.based.known.agree m p server) in
-    record { process = h; because = z; life = life; known = known; there = recorded b pt l m k p view.Ended c.stands server known }
+    let to : c.front.told.receiver ≡ p = told_receiver b m pt y.id (plainly y w) c.front in
+    let loose : is_fixed p ≡ false = ap (λ (d : Bool). d || is_server p) h.number ∙ server in
+    let gone : is_alive pt.kernel p ≡ false =
+    subst (λ (q : Pid). is_alive pt.kernel q ≡ false) to
+    (not_alive b pt y.id (Inbox m) c.front.told c.run c.front.first c.front.told_is (ap is_fixed to ∙ loose) (ap (pt.view.known m) to ∙ known)) in
+    let (z, life) = ended_by (pt.kernel.processes p) (receiver_made pt.kernel y.id (plainly y w) w fits h.number server) (sym (ap (λ (d : Bool). d || is_some (kernel.alive (pt.kernel.processes p))) server) ∙ gone) in
+    record { process = h; because = z; life = life; known = known; there = recorded b pt l m k p view.Unknown c.stands server known }
 
 -- the rows' parts
 ended_turn : (b : Boot) (m : ℕ) (pt : Point) (l : Placed) (k : KernelState) (y : Message) (w : PlainWhat) (c : Taking b m pt l k y w) (o : Option Turned) → IsEnded b m pt l k y.to.pid → ended_handles (record k { inbox = c.rest }) y y.what ≡ o → handles b (record k { inbox = c.rest }) y ≡ o
-ended_turn b m pt l k y w c o h e = to_process b (record k { inbox = c.rest }) y h.process ∙ ap (process_handles (record k { inbox = c.rest }) y) h.there ∙ e
+ended_turn b m pt l k y w c o h e = to_ended b (record k { inbox = c.rest }) y h.process h.there ∙ e
 
 dropped_view : (v : View) (i : MsgId) (o : Option Pid) → ((n : ℕ) (p : Pid) → times i (v.queue n p) ≡ 0) → view.dropped_for (handled v i) i o ≡ handled v i
 dropped_view v i None none = refl
@@ -66,8 +72,8 @@ drop_row b m pt l k y w c h drops turn outcome =
       outcome = rule_to_process b pt m y.id (plainly y w) h.process ∙ ap (rule.process_handles pt m y.id (plainly y w)) h.known ∙ outcome;
       fresh = λ a is. cc;
       plain = λ a is. cc;
-      mine = λ off bag holds. known_on pt (handled_point pt m y.id (Label.Dropped y.id) next) l (placed.without_message l y.id) p (pt.view.queue m p) (pt.view.held m p) (pt.view.known m p) (k.records p)
-          refl refl refl bag holds (c.stands.known p off);
+      mine = λ off bag holds. known_on l (placed.without_message l y.id) p (pt.view.queue m p) (pt.view.held m p) (pt.view.known m p) (k.records p)
+          refl refl bag holds (c.stands.known p off);
       leaves = search (c.stands.servers);
     })
 
@@ -101,8 +107,8 @@ gone_row b m pt l k y w c h u says plain turn outcome =
       outcome = rule_to_process b pt m y.id (plainly y w) h.process ∙ ap (rule.process_handles pt m y.id (plainly y w)) h.known ∙ outcome;
       fresh = λ z is. let same : a ≡ z = cc in ap (λ (n : Message). s.bag n.id) (sym same) ∙ bag_none seen.r seen.e s (answer_id y.id) (bag.fresh (answer_id y.id) refl) seen.sound.entered;
       plain = λ z is. let same : a ≡ z = cc in ap (λ (n : Message). is_some (plain_message n)) (sym same) ∙ plain;
-      mine = λ off same holds. known_on pt (handled_point pt m y.id (Label.Gone y.id) next) l on p (pt.view.queue m p) (pt.view.held m p) (pt.view.known m p) (k.records p)
-          refl refl refl same holds (c.stands.known p off);
+      mine = λ off same holds. known_on l on p (pt.view.queue m p) (pt.view.held m p) (pt.view.known m p) (k.records p)
+          refl refl same holds (c.stands.known p off);
       leaves = search (c.stands.servers);
     })
 
@@ -189,8 +195,8 @@ pub record Served (b : Boot) (m : ℕ) (pt : Point) (l : Placed) (k : KernelStat
   pub plain : (a : Message) → o ≡ Some a → is_some (plain_message a) ≡ true
   pub quiet : (v : View) (p : Pid) → view.ends_by (sort_of (plain_kind w)) v (Some p) ≡ v
 
-pub here_known : (next : Point) (on : Placed) (p : Pid) (queue held : List MsgId) (z : Process) (q : List Message) (r : Option state.KernelKnown) (n : Known) → r ≡ Some (Record.Here z) → n ≡ view.Here → on.processes p ≡ Some (with_queue z q) → AreMessages on.bag queue z.queue → KnownStands next on p queue held n r
-here_known next on p queue held z q r n is here there waits = grind (arith, nat_tests)
+pub here_known : (on : Placed) (p : Pid) (queue held : List MsgId) (z : Process) (q : List Message) (r : Option state.KernelKnown) (n : Known) → r ≡ Some (Record.Here z) → n ≡ view.Here → on.processes p ≡ Some (with_queue z q) → AreMessages on.bag queue z.queue → KnownStands on p queue held n r
+here_known on p queue held z q r n is here there waits = grind (arith, nat_tests)
 
 pub served_row : (b : Boot) (m : ℕ) (pt : Point) (l : Placed) (k : KernelState) (y : Message) (w : PlainWhat) (c : Taking b m pt l k y w) (h : IsHere b m pt l k y.to.pid) → Served b m pt l k y w c h → Row b m pt l k
 served_row b m pt l k y w c h d =
@@ -224,7 +230,7 @@ served_row b m pt l k y w c h d =
       outcome = here_outcome b m pt l k y w h (Some (rule.says e ∷ rule_routed d.o)) d.outcome;
       fresh = d.fresh;
       plain = d.plain;
-      mine = λ off same holds. here_known (handled_point pt m y.id e next) on p (pt.view.queue m p) (pt.view.held m p) d.z h.queue ((with_here k0 p d.z).records p) (pt.view.known m p)
+      mine = λ off same holds. here_known on p (pt.view.queue m p) (pt.view.held m p) d.z h.queue ((with_here k0 p d.z).records p) (pt.view.known m p)
           (ap (λ (g : Bool). if g then Some (Record.Here d.z) else k.records p) (pid_eq-same p)) h.known
           (placed_processes set d.o p ∙ ap (λ (g : Bool). if g then Some (with_queue d.z h.queue) else l.processes p) (pid_eq-same p))
           (map_same l.bag on.bag (pt.view.queue m p) same ∙ h.waits ∙ ap (map Some) (sym d.queue));

@@ -1,35 +1,37 @@
--- The queue of a process that has ended is dropped, message by message.
+-- A process that is here is killed: its queue is dropped, message by message, and its predecessors are told.
 use Rattle.dm_mirror.proofs.Names.{◌≡◌, ◌≢◌, ℕ, ◌+◌, ◌/◌, ◌≤◌, ◌<◌, ◌==◌, ◌&&◌, Bool, true, false, List, [], ◌∷◌, ◌++◌, length, map, refl, ap, ◌∙◌, sym, subst, is_some, arith, if◌then◌else◌, slice_get, Option, None, Some, false≢true}
 use Rattle.dm_mirror.proofs.Names.{nat_tests, Pid, pid_eq, MsgId, Message, plain_message, Record, Label, Line, Taken, Boot, Why, OneKernel, with_process, bind, plain_process, without_message, pid_eq-same, out_off, Point, after, moved, Room}
 use Rattle.dm_mirror.proofs.Names.{blocks_of, taken_at, taken_by, takes_room, without, without_front, Spot, Queue, Held, Inbox, times, standing, Known, View, after_label, handled, stands_right, served_is, droppable_on, Placed, with_queue}
-use Rattle.dm_mirror.proofs.Names.{plainly, kill_what, room_of, here_handles, KernelState, turned, without_process, KnownStands, RoomStands, told_there, mirrors_view, zero, suc, ◌||◌, nat_le, nat_lt, pid_of, PlainLink, What, PlainMessage}
-use Rattle.dm_mirror.proofs.Names.{PlainWhat, free_slots, free_blocks, answer, BootImage, BootMachine, first_number, images_are_valid, image_is_valid, when, answer_id, answer_to, bag_none, bag_no_space, is_server, home_of, create_what}
-use Rattle.dm_mirror.proofs.Names.{handles, makes, and-both, Says, told_receiver, user_what, queued, with_here, begun, Part, append-nil, StandsRight, with_sent}
+use Rattle.dm_mirror.proofs.Names.{plainly, kill_what, room_of, here_handles, KernelState, turned, KnownStands, RoomStands, told_there, mirrors_view, zero, suc, ◌||◌, nat_le, nat_lt, pid_of, PlainLink, What, PlainMessage, PlainWhat}
+use Rattle.dm_mirror.proofs.Names.{free_slots, free_blocks, answer, BootImage, BootMachine, first_number, images_are_valid, image_is_valid, when, answer_id, answer_to, bag_none, bag_no_space, is_server, home_of, create_what, handles, makes}
+use Rattle.dm_mirror.proofs.Names.{and-both, Says, told_receiver, user_what, queued, with_here, begun, Part, StandsRight, Ended, without_preds, rule_to_kernels, nobody, MessageKind, cases_Bool, id_eq, id_of, inl, inr, pid_eq-is}
+use Rattle.dm_rulelaws.proofs.Names.{with_sent}
 use Rattle.dm_mirror.proofs.Leave.Asks.{room_stays}
-use Rattle.dm_onekernel.specs.Kernel.{Ended}
 use Rattle.dm_message.specs.Plain as said
 use Rattle.dm_onekernel.specs.Step as kernel
 use Rattle.dm_rule.specs.Parts as rule_part
 use Rattle.dm_rule.specs.Rule as rule
 use Rattle.dm_rule.specs.View as view
 use Rattle.dm_places.specs.PlacedStep as placed
-use Rattle.dm_kernel.specs.declared.part.Part as part_
 use Rattle.dm_kernel.specs.State as state
 use Rattle.dm_onekernel.specs.Service as service
 use Rattle.dm_kernel.specs.Handle as machine
-use Rattle.dm_mirror.proofs.Handle.Rows.{IsLeft, Elsewhere, Over, Moves, here_left, kept_at, kept_behind, mirrors_one, own_back, own_kept, seen_point, standing_begun, handled_point, turns_row}
+use Rattle.dm_mirror.proofs.Handle.Rows.{IsLeft, Elsewhere, Moves, here_left, kept_at, kept_behind, mirrors_one, own_back, own_kept, seen_point, standing_begun, turns_row}
 use Rattle.dm_mirror.proofs.Handle.Taking.{Taking, apart_at, outcome_is, sane_of, turn_is, held_apart, queue_apart, waits, eq_off, machine_off, machine_self, map_same, pid_apart, record_off, record_others}
 use Rattle.dm_mirror.proofs.Handle.Taking.{record_self, stands_set, not_server, known_on, to_kernel, rule_to_kernel}
 use Rattle.dm_mirror.proofs.Rooms.{taken_changed, taken_same}
 use Rattle.dm_mirror.proofs.Kernel.Sets.{is_queue_of, left_off, queue_not_elsewhere, queue_of_others, right_off}
 use Rattle.dm_mirror.proofs.Row.Lines.{ended_fewer, handled_fewer}
-use Rattle.dm_mirror.proofs.Serve.Runs.{AreAlone, Drops, drop_lines, drops_stand, drops_still, machine_drops, rule_drops}
+use Rattle.dm_mirror.proofs.Serve.Runs.{AreAlone, Drops, drop_lines, drops_stand, drops_still, gone_none, machine_drops, rule_drops}
 use Rattle.dm_mirror.proofs.Serving.{queue_alone}
-use Rattle.dm_mirror.proofs.Turning.{NoneEnds, OneEnds, one_ends, is_elsewhere, Row, has_process}
+use Rattle.dm_mirror.proofs.Turning.{NoneEnds, OneEnds, Sends, Tells, one_ends, is_elsewhere, Row, has_process, rule_own}
 use Rattle.dm_mirror.proofs.Leave.Goes.{room_released}
 use Rattle.dm_mirror.proofs.Handle.Ended.{IsHere, here_outcome, here_turn, served_placed, served_step, here_known}
 use Rattle.dm_mirror.proofs.Follow.Fronts.{front_gone, elsewhere_apart}
 pub use Rattle.dm_mirror.proofs.Deliver.Moves.{messages_push as last_message}
+use Rattle.dm_kernel.specs.Burying as burying
+use Rattle.dm_mirror.proofs.Preds.{forgotten_stand, none_kept, others_kept}
+use Rattle.dm_mirror.proofs.Buries.{absent_from, bury_messages, buries_may, machine_buries, many_buries, preds_are, rule_buries, untold_from}
 
 -- A process that is here is killed: it ends, and its queue is dropped.
 
@@ -52,8 +54,8 @@ ended_stands pt m i p j (Inbox n) off = grind (arith, nat_tests)
 ended_stands pt m i p j z off = refl
 
 -- what is known of it then
-ended_known : (next : Point) (on : Placed) (p : Pid) (queue held : List MsgId) (r : Option state.KernelKnown) (n : Known) → r ≡ Some Record.Ended → n ≡ view.Ended → KnownStands next on p queue held n r
-ended_known next on p queue held r n is gone = subst (λ (v : Known). KnownStands next on p queue held v r) (sym gone) (subst (KnownStands next on p queue held view.Ended) (sym is) tt)
+ended_known : (on : Placed) (p : Pid) (queue held : List MsgId) (r : Option state.KernelKnown) (n : Known) → r ≡ None → n ≡ view.Unknown → KnownStands on p queue held n r
+ended_known on p queue held r n is gone = subst (λ (v : Known). KnownStands on p queue held v r) (sym gone) (subst (KnownStands on p queue held view.Unknown) (sym is) tt)
 
 queued_told : (b : Boot) (m : ℕ) (pt : Point) (l : Placed) (k : KernelState) (y : Message) (w : said.PlainWhat) → Taking b m pt l k y w → (p : Pid) (j : MsgId) → 1 ≤ times j (pt.view.queue m p) → view.receiver_of (pt.view.told j) ≡ Some p
 queued_told b m pt l k y w c p j least =
@@ -109,16 +111,21 @@ kill_row b m pt l k y c h =
     let views = g.leaves.view in
     let kernels = g.leaves.kernel in
     let bags = g.leaves.placed_ in
-    let end = without_process k0 p h.x Why.Killed in
+    let tos = burying.preds_of k p in
+    let end = burying.after_end k0 p h.x Why.Killed in
+    let tells = bury_messages k0 p tos in
+    let to_preds = preds_are b pt l m k p c.valid c.run.based.machines c.stands in
     let says = Line.Label e ∷ drop_lines ids in
-    let drops = machine_drops l ids h.x.queue (λ j z there. (c.mirrors.places.message j z there).id) h.waits ∙ sym (append-nil (map Part.Says (drop_lines ids))) in
+    let drops = machine_drops l ids h.x.queue (λ j z there. (c.mirrors.places.message j z there).id) h.waits in
+    let parts : List Part = map Part.Says says ++ map Part.Routes tells in
+    let rule_parts : List rule_part.Part = map rule_part.Says says ++ map rule_own tells in
     let kept : (q : Spot) (j : MsgId) → q ≢ Inbox m → 1 ≤ standing pt.view j q → on.bag j ≡ l.bag j = kept_at b m pt l k y w c on None (λ j. refl) (λ a f. absurd (cc)) in
     let box : mid.view.inbox m ≡ c.ids = machine_self pt.view.inbox m (without_front i (pt.view.inbox m)) ∙ front_gone i c.ids (pt.view.inbox m) c.box in
     let behind : (j : MsgId) → 1 ≤ times j c.ids → g.placed.bag j ≡ l.bag j =
     λ j least. bags.bag j (Inbox m) refl (subst (λ (js : List MsgId). 1 ≤ times j js) (sym box) least) ∙ kept_behind b m pt l k y w c on None (λ n. refl) (λ a f. absurd (cc)) j least in
-    let known : g.next.view.known m p ≡ view.Ended = g.known ∙ record_self pt.view.known m p view.Ended (pid_eq-same p) in
+    let known : g.next.view.known m p ≡ view.Unknown = g.known ∙ record_self pt.view.known m p view.Unknown (pid_eq-same p) in
     let life : g.next.kernel.processes p ≡ Some (Ended Why.Killed) = g.process ∙ ap (λ (d : Bool). if d then Some (Ended Why.Killed) else s.processes p) (pid_eq-same p) in
-    let others_known : (q : Pid) → pid_eq p q ≡ false → g.next.view.known m q ≡ pt.view.known m q = λ q off. views.known m q (right_off (m == m) (pid_eq p q) off) ∙ record_others pt.view.known m p q view.Ended off in
+    let others_known : (q : Pid) → pid_eq p q ≡ false → g.next.view.known m q ≡ pt.view.known m q = λ q off. views.known m q (right_off (m == m) (pid_eq p q) off) ∙ record_others pt.view.known m p q view.Unknown off in
     let others_live : (q : Pid) → pid_eq p q ≡ false → g.next.kernel.processes q ≡ s.processes q = λ q off. kernels.life q off ∙ ap (λ (d : Bool). if d then Some (Ended Why.Killed) else s.processes q) off in
     let others_placed : (q : Pid) → pid_eq p q ≡ false → g.placed.processes q ≡ l.processes q = λ q off. bags.process q off ∙ ap (λ (d : Bool). if d then None else l.processes q) off in
     let left : (q : Pid) → IsLeft m pt q → pid_eq p q ≡ false = λ q is. here_left pt m p q c.run.based.phased.phases h.known is in
@@ -143,11 +150,11 @@ kill_row b m pt l k y c h =
     record {
       state = end;
       says = says;
-      route = None;
-      turn = turn_is b m pt l k y w c (turned end (map Part.Says says ++ [])) (here_turn b m pt l k y w c h (turned end (map Part.Says says ++ []))
-          (ap (here_handles k0 y h.x) (kill_what y.what c.says) ∙ ap (λ (ps : List part_.Part). turned end (state.says e ∷ ps)) drops));
-      outcome = outcome_is b m pt l k y w c (Some (map rule_part.Says says ++ [])) (here_outcome b m pt l k y w h (Some (map rule_part.Says says ++ []))
-          (ap (λ (ps : List rule_part.Part). Some (rule.says e ∷ ps)) (rule_drops ids ∙ sym (append-nil (map rule_part.Says (drop_lines ids))))));
+      route = Tells tells;
+      turn = turn_is b m pt l k y w c (turned end parts) (here_turn b m pt l k y w c h (turned end parts)
+          (ap (here_handles k0 y h.x) (kill_what y.what c.says) ∙ (λ i. turned end (state.says e ∷ drops i ++ machine_buries k0 p tos i))));
+      outcome = outcome_is b m pt l k y w c (Some rule_parts) (here_outcome b m pt l k y w h (Some rule_parts)
+          (λ i. Some (rule.says e ∷ rule_drops ids i ++ (ap (map (rule_to_kernels MessageKind.Bury)) (sym to_preds) ∙ rule_buries k0 p tos) i)));
       next = g.next;
       after = ap (λ (o : Option OneKernel). bind (bind o (λ (z : OneKernel). Some (moved (begun pt m) (Line.Label e) z))) (λ (n : Point). after n (drop_lines ids))) all.step
           ∙ ap (λ (u : View). after (seen_point pt m e (ended_kernel pt i p) u) (drop_lines ids)) all.view ∙ g.after;
@@ -156,43 +163,56 @@ kill_row b m pt l k y c h =
       kernel = stands_set b pt g.next l g.placed m k end p
           (record {
             here = refl;
-            records = λ q off. ap (λ (d : Bool). if d then Some Record.Ended else k.records q) off;
+            records = λ q off. ap (λ (d : Bool). if d then None else k.records q) off;
             queue = λ q off. views.lists (Queue m q) (queue_of_others m p q off);
             held = λ q off. views.held m q;
             known = others_known;
             processes = others_placed;
             notes = λ q off. bags.notes q;
-            lives = others_live;
             bag = λ q j off least. bags.bag j (Queue m q) (queue_of_others m p q off) least ∙ kept (Queue m q) j (queue_apart m m q) least;
             holds = λ q j off least. bags.bag j (Held m q) refl least ∙ kept (Held m q) j (held_apart m m q) least;
-            mine = λ off. ended_known g.next g.placed p (g.next.view.queue m p) (g.next.view.held m p) (end.records p) (g.next.view.known m p)
-                (ap (λ (d : Bool). if d then Some Record.Ended else k.records p) (pid_eq-same p)) known;
+            mine = λ off. ended_known g.placed p (g.next.view.queue m p) (g.next.view.held m p) (end.records p) (g.next.view.known m p)
+                (ap (λ (d : Bool). if d then None else k.records p) (pid_eq-same p)) known;
             keeps = λ server. absurd (false≢true (sym (not_server p h.process) ∙ server));
           }) c.stands
           (ap (without p) c.stands.ring ∙ sym (g.ring ∙ machine_self pt.view.ring m (without p (pt.view.ring m))))
           (ap (map g.placed.bag) (views.lists (Inbox m) refl ∙ box) ∙ map_same l.bag g.placed.bag c.ids behind ∙ c.others)
           (c.stands.made ∙ sym (kernels.made m))
           (room_released k.room (room_of (slice_get b.machines m)) before now (length h.x.memory / 256) c.stands.room slots blocks)
-          (c.stands.servers ∙ (λ n. if m == 0 then Some (record { board = sym bags.board n; manager = sym bags.manager n }) else None));
+          (c.stands.servers ∙ (λ n. if m == 0 then Some (record { board = sym bags.board n; manager = sym bags.manager n }) else None))
+          (record {
+            same = λ q. elim (cases_Bool (pid_eq p q)) [
+              | inl same ↦ subst (λ (r : Pid). without_preds k.preds p r ≡ g.next.view.preds m r) (pid_eq-is p q same) (none_kept k.preds p p (pid_eq-same p) ∙ sym (g.preds ∙ record_self pt.view.preds m p nobody (pid_eq-same p)))
+              | inr off ↦ others_kept k.preds p q off ∙ c.stands.preds.same q ∙ sym (views.preds m q (right_off (m == m) (pid_eq p q) off) ∙ record_others pt.view.preds m p q nobody off)
+            ];
+            within = (forgotten_stand b pt.view.preds k.preds m p c.stands.preds).within;
+          });
       elsewhere = search (
         views.held,
         kernels.made,
         bags.notes,
         λ (n : ℕ) (off : n ≢ m). views.lists (Inbox n) refl ∙ machine_off pt.view.inbox m n (without_front i (pt.view.inbox m)) off,
         λ (n : ℕ) (off : n ≢ m). views.ring n off ∙ machine_off pt.view.ring m n (without p (pt.view.ring m)) off,
-        λ (n : ℕ) (q : Pid) (off : n ≢ m). views.known n q (left_off (m == n) (pid_eq p q) (eq_off m n off)) ∙ record_off pt.view.known m n p q view.Ended off,
+        λ (n : ℕ) (q : Pid) (off : n ≢ m). views.known n q (left_off (m == n) (pid_eq p q) (eq_off m n off)) ∙ record_off pt.view.known m n p q view.Unknown off,
+        λ (n : ℕ) (q : Pid) (off : n ≢ m). views.preds n q (left_off (m == n) (pid_eq p q) (eq_off m n off)) ∙ record_off pt.view.preds m n p q nobody off,
         λ (n : ℕ) (q : Pid) (off : n ≢ m). views.lists (Queue n q) (left_off (m == n) (pid_eq p q) (eq_off m n off)),
         λ (n : ℕ) (q : Pid) (off : n ≢ m) (has : has_process (pt.view.known n q) ≡ true). left q (Elsewhere n off has),
-        λ (n : ℕ) (q : Pid) (off : n ≢ m) (over : pt.view.known n q ≡ view.Ended). left q (Over n off over),
         others_placed,
         others_live,
         stays,
       );
-      sent = tt;
+      sent = λ counted records. buries_may g.next g.placed records m (pt.view.count m) 0 p k0 tos
+          (record {
+            acting = views.acting;
+            count = views.count m;
+            topic = g.topic;
+            untold = λ j le. ap (λ (f : MsgId → Option view.Told). f (id_of (pid_of m 0) j)) views.told ∙ untold_from b pt m j c.run le;
+            absent = λ j le. g.fewer (id_of (pid_of m 0) j) (gone_none (id_eq i (id_of (pid_of m 0) j)) (l.bag (id_of (pid_of m 0) j)) (absent_from b pt l m j c.run c.mirrors c.own le));
+          }) c.stands.here (let same : pt.view.count m ≡ pt.view.count m + 0 = omega arith in counted ∙ same);
       still = drops_still ids;
       over = OneEnds m p Why.Killed refl refl (one_ends s g.next.kernel p Why.Killed others_live life);
-      count = refl;
-      moving = λ q is. let off = left q (Moves is) in (others_placed q off, ap (λ (d : Bool). if d then Some Record.Ended else k.records q) off, bags.notes q);
+      count = ap (λ (j : ℕ). k.sent + j) (sym (many_buries k0 p tos));
+      moving = λ q is. let off = left q (Moves is) in (others_placed q off, ap (λ (d : Bool). if d then None else k.records q) off, bags.notes q);
       own = λ j a none there. bags.own j a none (own_kept b m pt l k y w c on None (λ n. refl) (λ z f. absurd (cc)) j a none there);
       own_back = λ j a none there. own_back l on i None (λ n. refl) (λ z f. absurd (cc)) j a none (bags.own_back j a none there);
     }
@@ -249,7 +269,7 @@ no_room_row b m pt l k y image ls g c num found none =
       outcome = grind (arith, nat_tests, rule_to_kernel);
       fresh = λ z is. let same : a ≡ z = cc in ap (λ (n : Message). s.bag n.id) (sym same) ∙ bag_none seen.r seen.e s (answer_id y.id) (bag.fresh (answer_id y.id) refl) seen.sound.entered;
       plain = λ z is. let same : a ≡ z = cc in ap (λ (n : Message). is_some (plain_message n)) (sym same);
-      mine = λ off same holds. known_on pt (handled_point pt m y.id e next) l on p (pt.view.queue m p) (pt.view.held m p) (pt.view.known m p) (k.records p) refl refl refl same holds (c.stands.known p off);
+      mine = λ off same holds. known_on l on p (pt.view.queue m p) (pt.view.held m p) (pt.view.known m p) (k.records p) refl refl same holds (c.stands.known p off);
       leaves = search (c.stands.servers);
     })
 
@@ -279,7 +299,7 @@ user_row b m pt l k y code channel bytes ls c h =
     let taken = taken_same pt next m refl (λ n. refl) (λ q. refl) in
     let sets : (q : Pid) → pid_eq p q ≡ false → (with_here k0 p z).records q ≡ k.records q = λ q off. ap (λ (c : Bool). if c then Some (Record.Here z) else k.records q) off in
     let queues : (q : Pid) → pid_eq p q ≡ false → next.view.queue m q ≡ pt.view.queue m q = λ q off. record_others pt.view.queue m p q xs off in
-    let mine : KnownStands next l p (next.view.queue m p) (next.view.held m p) (next.view.known m p) ((with_here k0 p z).records p) =
+    let mine : KnownStands l p (next.view.queue m p) (next.view.held m p) (next.view.known m p) ((with_here k0 p z).records p) =
     grind (arith, nat_tests, here_known, pid_eq-same, record_self, last_message) in
     let keeps : is_server p ≡ true → (with_here k0 p z).records p ≡ k.records p = λ server. absurd (false≢true (sym (not_server p h.process) ∙ server)) in
     -- the view's queue
@@ -287,7 +307,7 @@ user_row b m pt l k y code channel bytes ls c h =
     record {
       state = with_here k0 p z;
       says = Line.Queued i ∷ [];
-      route = None;
+      route = Sends None;
       turn = turn_is b m pt l k y w c (turned (with_here k0 p z) (Part.Says (Line.Queued i) ∷ [])) (here_turn b m pt l k y w c h (turned (with_here k0 p z) (Part.Says (Line.Queued i) ∷ [])) (ap (here_handles k0 y h.x) is));
       outcome = outcome_is b m pt l k y w c (Some (Says (Line.Queued i) ∷ [])) (here_outcome b m pt l k y w h (Some (Says (Line.Queued i) ∷ [])) refl);
       next = next;
@@ -299,7 +319,7 @@ user_row b m pt l k y code channel bytes ls c h =
           c.stands.ring
           (ap (map l.bag) (machine_self pt.view.inbox m (without_front i (pt.view.inbox m)) ∙ front_gone i c.ids (pt.view.inbox m) c.box) ∙ c.others)
           c.stands.made
-          (room_stays k.room _ _ _ taken c.stands.room) c.stands.servers;
+          (room_stays k.room _ _ _ taken c.stands.room) c.stands.servers c.stands.preds;
       elsewhere = search (machine_off, pt.view.inbox, record_off);
       sent = tt;
       still = refl;

@@ -1,8 +1,8 @@
 -- A row of a turn that says one label, by which one process may go on, and sends at most one message.
 use Rattle.dm_mirror.proofs.Names.{◌≡◌, ◌≢◌, ℕ, ◌≤◌, ◌==◌, Bool, true, false, List, [], ◌∷◌, map, refl, ap, ◌∙◌, sym, subst, inl, inr, is_some, arith, if◌then◌else◌, Option, None, Some, cases_Bool, false≢true, Pid, pid_eq, MsgId, nat_tests}
 use Rattle.dm_mirror.proofs.Names.{Message, id_eq, PlainWhat, plain_message, Boot, Label, Life, OneKernel, id_eq-is, pid_eq-is, Line, Point, after, Taken, blocks_of, taken_by, takes_room, without_front, Spot, Queue, act_of, Held, Inbox}
-use Rattle.dm_mirror.proofs.Names.{times, standing, View, Here, Ended, handled, is_kernels, Phase, Rests, is_away, is_here, knows, rests_here, InPhases, is_server, StepNeeds, Placed, Mirrors, placed_step, mirrors_view, moves_label, plainly}
-use Rattle.dm_mirror.proofs.Names.{placed_follows, handles, KernelState, KnownStands, servers_at, begun, seen, RoomStands, room_of, slice_get, taken_at, addresses_by}
+use Rattle.dm_mirror.proofs.Names.{times, standing, View, Here, handled, is_kernels, Phase, Rests, is_away, is_here, knows, rests_here, InPhases, is_server, StepNeeds, Placed, Mirrors, placed_step, mirrors_view, moves_label, plainly}
+use Rattle.dm_mirror.proofs.Names.{placed_follows, handles, KernelState, KnownStands, servers_at, begun, seen, RoomStands, room_of, slice_get, taken_at, addresses_by, PredsStand}
 use Rattle.dm_places.specs.PlacedStep.{with_sent, without_message}
 use Rattle.dm_onekernel.specs.Step as kernel
 use Rattle.dm_rule.specs.Rule as rule
@@ -10,7 +10,7 @@ use Rattle.dm_kernel.specs.State as machine
 use Rattle.dm_mirror.proofs.Handle.Taking.{Taking, turn_is, outcome_is, sane_of, apart_at, apart_behind, fresh_at, sent_other, bag_kept, queue_apart, held_apart, sent_there, times_more, map_same, stands_set, eq_off, machine_self}
 use Rattle.dm_mirror.proofs.Handle.Taking.{machine_off}
 use Rattle.dm_mirror.proofs.Rooms.{taken_same}
-use Rattle.dm_mirror.proofs.Turning.{NoneEnds, spared, is_elsewhere, has_process, is_moving, routed, rule_routed, IsSent, Row}
+use Rattle.dm_mirror.proofs.Turning.{NoneEnds, spared, is_elsewhere, has_process, is_moving, routed, rule_routed, IsSent, Row, Sends}
 use Rattle.dm_mirror.proofs.Kernel.Sets.{away_process as has_none}
 use Rattle.dm_mirror.proofs.Follow.Fronts.{front_gone, elsewhere_apart}
 
@@ -38,11 +38,10 @@ mirrors_one pt m e s v l placed step is needs placed_is h =
 pub standing_begun : (pt : Point) (m : ℕ) (i : MsgId) (s : Spot) → standing (begun pt m).view i s ≡ standing pt.view i s
 standing_begun pt m i s = grind (arith, nat_tests)
 
--- a process that a turn on machine m leaves as it is: another machine has it, holds it back, expects it or saw it end, or it leaves
--- or comes on machine m
+-- a process that a turn on machine m leaves as it is: another machine has it, holds it back or expects it, or it leaves or comes on
+-- machine m
 pub data IsLeft (m : ℕ) (pt : Point) (q : Pid) : Type 0 where
   Elsewhere : (n : ℕ) → (apart : n ≢ m) → (has : has_process (pt.view.known n q) ≡ true) → IsLeft m pt q
-  Over : (n : ℕ) → (apart : n ≢ m) → (ended : pt.view.known n q ≡ Ended) → IsLeft m pt q
   Moves : (moving : is_moving (pt.view.known m q) ≡ true) → IsLeft m pt q
 
 -- a process that is here is known nowhere else
@@ -56,7 +55,6 @@ away_elsewhere pt m n p h here apart =
 
 here_not : (pt : Point) (m : ℕ) (p : Pid) → InPhases pt.view → pt.view.known m p ≡ Here → IsLeft m pt p → ⊥
 here_not pt m p h here (Elsewhere n apart has) = has_none (pt.view.known n p) (away_elsewhere pt m n p h here apart) has
-here_not pt m p h here (Over n apart ended) = false≢true (sym (ap is_away ended) ∙ away_elsewhere pt m n p h here apart)
 here_not pt m p h here (Moves moving) = false≢true (sym (ap is_moving here) ∙ moving)
 
 pub other_than : (p q : Pid) → (p ≡ q → ⊥) → pid_eq p q ≡ false
@@ -89,6 +87,7 @@ pub record RowLeaves (m : ℕ) (pt : Point) (l : Placed) (k : KernelState) (rest
   pub sent : state.sent ≡ k.sent
   pub room : state.room ≡ k.room
   pub servers : state.servers ≡ servers_at placed m
+  pub preds : state.preds ≡ k.preds
   pub over : state.over ≡ k.over
   pub keeps : is_server process ≡ true → state.records process ≡ k.records process
   -- the others stay
@@ -111,7 +110,7 @@ pub record Labelled (b : Boot) (m : ℕ) (pt : Point) (l : Placed) (k : KernelSt
   pub fresh : (a : Message) → route ≡ Some a → pt.kernel.bag a.id ≡ None
   pub plain : (a : Message) → route ≡ Some a → is_some (plain_message a) ≡ true
   pub mine : is_server process ≡ false → ((j : MsgId) → 1 ≤ times j (pt.view.queue m process) → placed.bag j ≡ l.bag j) → ((j : MsgId) → 1 ≤ times j (pt.view.held m process) → placed.bag j ≡ l.bag j)
-      → KnownStands (handled_point pt m y.id label next) placed process (pt.view.queue m process) (pt.view.held m process) (pt.view.known m process) (state.records process)
+      → KnownStands placed process (pt.view.queue m process) (pt.view.held m process) (pt.view.known m process) (state.records process)
   pub leaves : RowLeaves m pt l k c.rest y.id process next placed state route
 
 -- a message that stands elsewhere in the bag stays
@@ -174,7 +173,7 @@ turns_row b m pt l k y w c h =
     record {
       state = h.state;
       says = Line.Label h.label ∷ [];
-      route = h.route;
+      route = Sends h.route;
       turn = turn_is b m pt l k y w c (Some (record { state = h.state; parts = machine.says h.label ∷ routed h.route })) h.turn;
       outcome = outcome_is b m pt l k y w c (Some (rule.says h.label ∷ rule_routed h.route)) h.outcome;
       next = next;
@@ -182,20 +181,19 @@ turns_row b m pt l k y w c h =
       placed = h.placed;
       mirrors = mirrors;
       kernel = stands_set b pt next l h.placed m k h.state h.process
-          (search (h.leaves.here, h.leaves.records, h.leaves.processes, h.leaves.notes, h.leaves.lives, waits, holds, mine, h.leaves.keeps)) stands
+          (search (h.leaves.here, h.leaves.records, h.leaves.processes, h.leaves.notes, waits, holds, mine, h.leaves.keeps)) stands
           (h.leaves.ring ∙ stands.ring)
           (ap (map h.placed.bag) (machine_self pt.view.inbox m (without_front y.id (pt.view.inbox m)) ∙ front_gone y.id c.ids (pt.view.inbox m) c.box)
           ∙ map_same l.bag h.placed.bag c.ids behind ∙ c.others ∙ ap (map Some) (sym h.leaves.inbox))
           (h.leaves.count ∙ stands.made ∙ sym (h.leaves.made m))
           (subst (λ (t : Taken). RoomStands t (room_of (slice_get b.machines m)) (taken_at next m next.kernel.machines)) (sym h.leaves.room) (subst (RoomStands k.room (room_of (slice_get b.machines m))) (sym taken) stands.room))
-          h.leaves.servers;
+          h.leaves.servers (subst (PredsStand b (pt.view.preds m)) (sym h.leaves.preds) stands.preds);
       elsewhere = search (
         machine_off,
         h.leaves.made,
         h.leaves.notes,
         λ (n : ℕ) (q : Pid) (off : n ≢ m) (has : has_process (pt.view.known n q) ≡ true). (h.leaves.left q (Elsewhere n off has)).0,
         λ (n : ℕ) (q : Pid) (off : n ≢ m) (has : has_process (pt.view.known n q) ≡ true). (h.leaves.left q (Elsewhere n off has)).1,
-        λ (n : ℕ) (q : Pid) (off : n ≢ m) (over : pt.view.known n q ≡ Ended). (h.leaves.left q (Over n off over)).1,
         λ (i : MsgId) (s : Spot) (is : is_elsewhere m s ≡ true) (least : 1 ≤ standing (begun pt m).view i s). kept s i (elsewhere_apart m s is) (subst (λ (n : ℕ). 1 ≤ n) (standing_begun pt m i s) least),
       );
       sent = sent;

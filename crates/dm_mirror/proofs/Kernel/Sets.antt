@@ -1,11 +1,10 @@
 -- What labels about one process leave of view, kernel and kernel with places, and when a machine's kernel stands for the point
 -- behind them.
-use Rattle.dm_mirror.proofs.Names.{◌≡◌, ◌≢◌, ℕ, ◌≤◌, ◌==◌, ◌&&◌, not, Bool, true, false, List, [], ◌∷◌, map, refl, ap, ◌∙◌, sym, subst, inl, inr, arith, is_some, if◌then◌else◌, slice_get, Option, None, Some, cases_Bool, false≢true}
-use Rattle.dm_mirror.proofs.Names.{nat_tests, Pid, pid_eq, Message, MsgId, plain_message, Taken, with_released, Record, Boot, Life, OneKernel, KernelState, room_of, pid_eq-is, Point, Room, taken_at, taken_by, takes_room, blocks_of, Spot}
-use Rattle.dm_mirror.proofs.Names.{Queue, Held, Inbox, times, ids_at, standing, View, Known, Unknown, Here, Frozen, Incoming, Forward, Ended, is_away, is_server, Placed, MadeStands, AreMessages, KnownStands, KernelStands, RoomStands}
-use Rattle.dm_mirror.proofs.Names.{servers_at, ◌/◌, length, Process, Why, Alive, plain_process, with_queue, id_eq, PlainMessage, Label, bind, id_eq-is, pid_eq-same, Line, moved, after, at_machine, at_record, without, without_front}
-use Rattle.dm_mirror.proofs.Names.{moved_back, StandsNowhere, StandsOutside, StandsRight, serving, handled, is_kernels, Mirrors, MirrorsKernel, placed_step, StepNeeds, mirrors_view, moves_label, placed_follows, ended, HereStands}
-use Rattle.dm_mirror.proofs.Names.{CanBeCarried, IsSuch}
+use Rattle.dm_mirror.proofs.Names.{◌≡◌, ◌≢◌, ℕ, ◌≤◌, ◌==◌, ◌&&◌, not, Bool, true, false, List, [], ◌∷◌, map, refl, ap, ◌∙◌, sym, subst, inl, inr, arith, is_some, if◌then◌else◌, slice_get, Option, None, Some, cases_Bool, nat_tests, Pid}
+use Rattle.dm_mirror.proofs.Names.{pid_eq, Message, MsgId, plain_message, Taken, with_released, Record, Boot, Life, OneKernel, KernelState, room_of, pid_eq-is, Point, Room, taken_at, taken_by, takes_room, blocks_of, Spot, Queue, Held}
+use Rattle.dm_mirror.proofs.Names.{Inbox, times, ids_at, standing, View, Known, Unknown, Here, Frozen, Incoming, Forward, is_away, is_server, Placed, MadeStands, AreMessages, KnownStands, KernelStands, RoomStands, servers_at, ◌/◌, length}
+use Rattle.dm_mirror.proofs.Names.{Process, Why, Alive, plain_process, with_queue, id_eq, PlainMessage, Label, bind, id_eq-is, pid_eq-same, Line, moved, after, at_machine, at_record, without, without_front, moved_back, StandsNowhere}
+use Rattle.dm_mirror.proofs.Names.{StandsOutside, StandsRight, serving, handled, is_kernels, Mirrors, MirrorsKernel, placed_step, StepNeeds, mirrors_view, moves_label, placed_follows, ended, HereStands, CanBeCarried, IsSuch, nobody}
 pub use Rattle.dm_rulelaws.proofs.Goes.Turns.{times_self, times_more}
 pub use Rattle.dm_rule.proofs.Lines.{eq_self}
 pub use Rattle.std.proofs.lemmas.Bool.{and_left as left_off, cond-false as off_if, cond-true as on_if}
@@ -27,7 +26,8 @@ abbrev pub is_queue_of : ℕ → Pid → Spot → Bool
 is_queue_of m p (Queue n q) = (m == n) && pid_eq p q
 is_queue_of m p _ = false
 
--- labels about process p on machine m change at most the spots at which t is true, what machine m knows of p, and its ring
+-- labels about process p on machine m change at most the spots at which t is true, what machine m knows of p and of its predecessors, and
+-- its ring
 pub record ViewLeaves (m : ℕ) (t : Spot → Bool) (p : Pid) (v w : View) : Type 0 where
   pub acting : w.acting ≡ v.acting
   pub groups : w.groups ≡ v.groups
@@ -36,6 +36,7 @@ pub record ViewLeaves (m : ℕ) (t : Spot → Bool) (p : Pid) (v w : View) : Typ
   pub ring : (n : ℕ) → n ≢ m → w.ring n ≡ v.ring n
   pub known : (n : ℕ) (q : Pid) → ((m == n) && pid_eq p q) ≡ false → w.known n q ≡ v.known n q
   pub held : (n : ℕ) (q : Pid) → w.held n q ≡ v.held n q
+  pub preds : (n : ℕ) (q : Pid) → ((m == n) && pid_eq p q) ≡ false → w.preds n q ≡ v.preds n q
   pub count : (n : ℕ) → w.count n ≡ v.count n
   pub told : w.told ≡ v.told
 
@@ -70,6 +71,7 @@ view_leaves_on m t p u v w g h = record {
   ring = λ n apart. h.ring n apart ∙ g.ring n apart;
   known = λ n q off. h.known n q off ∙ g.known n q off;
   held = λ n q. h.held n q ∙ g.held n q;
+  preds = λ n q off. h.preds n q off ∙ g.preds n q off;
   count = λ n. h.count n ∙ g.count n;
   told = h.told ∙ g.told;
 }
@@ -116,13 +118,13 @@ elsewhere_of m t p pt next l placed away at off h = record {
   known = λ n q apart. h.view.known n q (left_off (m == n) (pid_eq p q) (eq_apart m n apart));
   queue = λ n q apart. h.view.lists (Queue n q) (off (Queue n q) (ap not (eq_apart n m (λ e. apart (sym e)))));
   held = λ n q apart. h.view.held n q;
+  preds = λ n q apart. h.view.preds n q (left_off (m == n) (pid_eq p q) (eq_apart m n apart));
   count = h.view.count;
   told = h.view.told;
   machines = h.kernel.machines;
   made = λ n apart. h.kernel.made n;
   process = λ n q apart has. h.placed_.process q (others n q apart (λ a. away_process (pt.view.known n q) a has));
   notes = λ n q apart has. h.placed_.notes q;
-  ended = λ n q apart is. h.kernel.life q (others n q apart (λ a. false≢true (sym (ap is_away is) ∙ a)));
   life = λ n q apart has. h.kernel.life q (others n q apart (λ a. away_process (pt.view.known n q) a has));
   bag = λ i s away least. h.placed_.bag i s (off s away) least;
   board = λ apart. h.placed_.board;
@@ -149,28 +151,26 @@ pub messages_on : (f g : MsgId → Option Message) (ids : List MsgId) (ms : List
 messages_on f g ids ms same h = map_same f g ids same ∙ h
 
 -- a process stays with its messages, and what is known of it
-module _ (pt next : Point) (l placed : Placed) (p : Pid) (ids js : List MsgId) (queue : (i : MsgId) → 1 ≤ times i ids → placed.bag i ≡ l.bag i) (held : (i : MsgId) → 1 ≤ times i js → placed.bag i ≡ l.bag i) where
+module _ (l placed : Placed) (p : Pid) (ids js : List MsgId) (queue : (i : MsgId) → 1 ≤ times i ids → placed.bag i ≡ l.bag i) (held : (i : MsgId) → 1 ≤ times i js → placed.bag i ≡ l.bag i) where
   here_stays : (x : Process) → placed.processes p ≡ l.processes p → HereStands l p ids x → HereStands placed p ids x
   here_stays x process h = ((h.0.0, process ∙ h.0.1), messages_on l.bag placed.bag ids x.queue queue h.1)
 
   pub known_same : (k : Known) (r : Option machine.KernelKnown) → (has_process k ≡ true → placed.processes p ≡ l.processes p) → (has_process k ≡ true → placed.notes p ≡ l.notes p)
-      → (k ≡ Ended → next.kernel.processes p ≡ pt.kernel.processes p)
-      → KnownStands pt l p ids js k r → KnownStands next placed p ids js k r
-  known_same Unknown None process notes ended h = tt
-  known_same Here (Some (Record.Here x)) process notes ended h = here_stays x (process refl) h
-  known_same (Frozen to) (Some (Record.Frozen d)) process notes ended h =
+      → KnownStands l p ids js k r → KnownStands placed p ids js k r
+  known_same Unknown None process notes h = tt
+  known_same Here (Some (Record.Here x)) process notes h = here_stays x (process refl) h
+  known_same (Frozen to) (Some (Record.Frozen d)) process notes h =
       record { to = h.to; cargo = cargo_same l placed p (process refl) (notes refl) ∙ h.cargo; here = here_stays d.process (process refl) h.here; held = messages_on l.bag placed.bag js d.held held h.held; whole = h.whole }
-  known_same (Incoming from) (Some (Record.Incoming a)) process notes ended h =
+  known_same (Incoming from) (Some (Record.Incoming a)) process notes h =
       let whole = subst (IsSuch (CanBeCarried a.cap)) (sym (process refl)) h.whole in
       record { source = h.source; cargo = h.cargo; there = cargo_same l placed p (process refl) (notes refl) ∙ h.there; whole = whole; pieces = h.pieces; held = messages_on l.bag placed.bag js a.held held h.held }
-  known_same (Forward at_ moves) (Some (Record.Forward to n)) process notes ended h = h
-  known_same Ended (Some Record.Ended) process notes ended h = tt
-  known_same k r process notes ended h = h
+  known_same (Forward at_ moves) (Some (Record.Forward to n)) process notes h = h
+  known_same k r process notes h = h
 
 -- what a machine knows of a process that stays
-pub known_at : (pt next : Point) (l placed : Placed) (q : Pid) (ids held_ : List MsgId) (w : Known) (r : Option machine.KernelKnown) → placed.processes q ≡ l.processes q → placed.notes q ≡ l.notes q
-    → next.kernel.processes q ≡ pt.kernel.processes q → ((i : MsgId) → 1 ≤ times i ids → placed.bag i ≡ l.bag i) → ((i : MsgId) → 1 ≤ times i held_ → placed.bag i ≡ l.bag i) → KnownStands pt l q ids held_ w r → KnownStands next placed q ids held_ w r
-known_at pt next l placed q ids held_ w r p n e b c h = known_same pt next l placed q ids held_ b c w r (λ is. p) (λ is. n) (λ is. e) h
+pub known_at : (l placed : Placed) (q : Pid) (ids held_ : List MsgId) (w : Known) (r : Option machine.KernelKnown) → placed.processes q ≡ l.processes q → placed.notes q ≡ l.notes q
+    → ((i : MsgId) → 1 ≤ times i ids → placed.bag i ≡ l.bag i) → ((i : MsgId) → 1 ≤ times i held_ → placed.bag i ≡ l.bag i) → KnownStands l q ids held_ w r → KnownStands placed q ids held_ w r
+known_at l placed q ids held_ w r p n b c h = known_same l placed q ids held_ b c w r (λ is. p) (λ is. n) h
 
 -- what a machine keeps where process p changes
 pub record Stays (k n : KernelState) (p : Pid) : Type 0 where
@@ -178,30 +178,41 @@ pub record Stays (k n : KernelState) (p : Pid) : Type 0 where
   pub records : (q : Pid) → pid_eq p q ≡ false → n.records q ≡ k.records q
   pub made : n.made ≡ k.made
   pub servers : n.servers ≡ k.servers
+  pub preds : (q : Pid) → pid_eq p q ≡ false → n.preds q ≡ k.preds q
 
 server_apart : (p q : Pid) → is_server p ≡ false → is_server q ≡ true → pid_eq p q ≡ false
 server_apart p q off on = grind (arith, nat_tests, pid_eq-is)
 
 -- process p of the machine is set: where what is known of p, the ring, the inbox and the room stand, the kernel stands
 pub set_stands : (b : Boot) (m : ℕ) (t : Spot → Bool) (p : Pid) (pt next : Point) (l placed : Placed) (k n : KernelState) → Leaves m t p pt l next placed → Stays k n p → ((q : Pid) → pid_eq p q ≡ false → t (Queue m q) ≡ false) → ((q : Pid) → t (Held m q) ≡ false) → is_server p ≡ false
-    → KnownStands next placed p (next.view.queue m p) (next.view.held m p) (next.view.known m p) (n.records p) → n.ring ≡ next.view.ring m → AreMessages placed.bag (next.view.inbox m) n.inbox
+    → KnownStands placed p (next.view.queue m p) (next.view.held m p) (next.view.known m p) (n.records p) → n.preds p ≡ next.view.preds m p → ((j : ℕ) → length b.machines ≤ j → n.preds p j ≡ false) → n.ring ≡ next.view.ring m → AreMessages placed.bag (next.view.inbox m) n.inbox
     → RoomStands n.room (room_of (slice_get b.machines m)) (taken_at next m next.kernel.machines) → KernelStands b pt l m k → KernelStands b next placed m n
-set_stands b m t p pt next l placed k n g s queues helds server known ring inbox room h = record {
+set_stands b m t p pt next l placed k n g s queues helds server known mine within ring inbox room h = record {
   here = s.here ∙ h.here;
   known = λ q off. elim (cases_Bool (pid_eq p q)) [
-    | inl same ↦ subst (λ (z : Pid). KnownStands next placed z (next.view.queue m z) (next.view.held m z) (next.view.known m z) (n.records z)) (pid_eq-is p q same) known
+    | inl same ↦ subst (λ (z : Pid). KnownStands placed z (next.view.queue m z) (next.view.held m z) (next.view.known m z) (n.records z)) (pid_eq-is p q same) known
     | inr apart ↦
-        let w : KnownStands next placed q (pt.view.queue m q) (pt.view.held m q) (pt.view.known m q) (k.records q) =
-        known_at pt next l placed q (pt.view.queue m q) (pt.view.held m q) (pt.view.known m q) (k.records q) (g.placed_.process q apart) (g.placed_.notes q) (g.kernel.life q apart)
+        let w : KnownStands placed q (pt.view.queue m q) (pt.view.held m q) (pt.view.known m q) (k.records q) =
+        known_at l placed q (pt.view.queue m q) (pt.view.held m q) (pt.view.known m q) (k.records q) (g.placed_.process q apart) (g.placed_.notes q)
         (λ i least. g.placed_.bag i (Queue m q) (queues q apart) least) (λ i least. g.placed_.bag i (Held m q) (helds q) least) (h.known q off) in
         let ids : next.view.queue m q ≡ pt.view.queue m q = g.view.lists (Queue m q) (queues q apart) in
         let same : next.view.known m q ≡ pt.view.known m q = g.view.known m q (right_off (m == m) (pid_eq p q) apart) in
-        subst (λ (r : Option machine.KernelKnown). KnownStands next placed q (next.view.queue m q) (next.view.held m q) (next.view.known m q) r) (sym (s.records q apart))
-        (subst (λ (z : Known). KnownStands next placed q (next.view.queue m q) (next.view.held m q) z (k.records q)) (sym same)
-        (subst (λ (z : List MsgId). KnownStands next placed q (next.view.queue m q) z (pt.view.known m q) (k.records q)) (sym (g.view.held m q))
-        (subst (λ (z : List MsgId). KnownStands next placed q z (pt.view.held m q) (pt.view.known m q) (k.records q)) (sym ids) w)))
+        subst (λ (r : Option machine.KernelKnown). KnownStands placed q (next.view.queue m q) (next.view.held m q) (next.view.known m q) r) (sym (s.records q apart))
+        (subst (λ (z : Known). KnownStands placed q (next.view.queue m q) (next.view.held m q) z (k.records q)) (sym same)
+        (subst (λ (z : List MsgId). KnownStands placed q (next.view.queue m q) z (pt.view.known m q) (k.records q)) (sym (g.view.held m q))
+        (subst (λ (z : List MsgId). KnownStands placed q z (pt.view.held m q) (pt.view.known m q) (k.records q)) (sym ids) w)))
   ];
   no_server = λ q on. s.records q (server_apart p q server on) ∙ h.no_server q on;
+  preds = record {
+    same = λ q. elim (cases_Bool (pid_eq p q)) [
+      | inl same ↦ subst (λ (z : Pid). n.preds z ≡ next.view.preds m z) (pid_eq-is p q same) mine
+      | inr apart ↦ s.preds q apart ∙ h.preds.same q ∙ sym (g.view.preds m q (right_off (m == m) (pid_eq p q) apart))
+    ];
+    within = λ q j far. elim (cases_Bool (pid_eq p q)) [
+      | inl same ↦ subst (λ (z : Pid). n.preds z j ≡ false) (pid_eq-is p q same) (within j far)
+      | inr apart ↦ ap (λ (f : ℕ → Bool). f j) (s.preds q apart) ∙ h.preds.within q j far
+    ];
+  };
   ring = ring;
   inbox = inbox;
   made = s.made ∙ h.made ∙ sym (g.kernel.made m);
@@ -271,23 +282,23 @@ pub record LivesHere (m : ℕ) (pt : Point) (l : Placed) (k : KernelState) (p : 
 
 -- it goes on, with as much memory
 pub goes_stands : (b : Boot) (m : ℕ) (t : Spot → Bool) (p : Pid) (pt next : Point) (l placed : Placed) (k n : KernelState) (x y : Process) (queue : List Message) → LivesHere m pt l k p x → Leaves m t p pt l next placed → Stays k n p
-    → ((q : Pid) → pid_eq p q ≡ false → t (Queue m q) ≡ false) → ((q : Pid) → t (Held m q) ≡ false) → n.records p ≡ Some (Record.Here y) → n.room ≡ k.room → n.ring ≡ next.view.ring m → AreMessages placed.bag (next.view.inbox m) n.inbox → next.view.known m p ≡ pt.view.known m p
+    → ((q : Pid) → pid_eq p q ≡ false → t (Queue m q) ≡ false) → ((q : Pid) → t (Held m q) ≡ false) → n.records p ≡ Some (Record.Here y) → n.room ≡ k.room → n.ring ≡ next.view.ring m → AreMessages placed.bag (next.view.inbox m) n.inbox → next.view.known m p ≡ pt.view.known m p → next.view.preds m p ≡ pt.view.preds m p → n.preds p ≡ k.preds p
     → next.kernel.processes p ≡ Some (Alive (plain_process y)) → placed.processes p ≡ Some (with_queue y queue) → AreMessages placed.bag (next.view.queue m p) y.queue → length y.memory ≡ length x.memory → KernelStands b pt l m k → KernelStands b next placed m n
-goes_stands b m t p pt next l placed k n x y queue at g s queues helds e room ring inbox known alive there messages memory h =
+goes_stands b m t p pt next l placed k n x y queue at g s queues helds e room ring inbox known said mine alive there messages memory h =
     let blocks_same : (x y : Process) → length y.memory ≡ length x.memory → blocks_of (Some (plain_process y)) ≡ blocks_of (Some (plain_process x)) = λ x y e. ap (λ (n : ℕ). n / 256) e in
     let takes : taken_by next m p ≡ taken_by pt m p = grind (arith, nat_tests, takes_as, blocks_same) in
     -- what is known of it
-    let known_here : KnownStands next placed p (next.view.queue m p) (next.view.held m p) (next.view.known m p) (n.records p) = grind (arith, nat_tests, next.view.queue, next.view.held, next.view.known, known ∙ at.known) in
-    set_stands b m t p pt next l placed k n g s queues helds at.server known_here ring inbox (room_same b m t p pt next l placed k n g room takes h.room) h
+    let known_here : KnownStands placed p (next.view.queue m p) (next.view.held m p) (next.view.known m p) (n.records p) = grind (arith, nat_tests, next.view.queue, next.view.held, next.view.known, known ∙ at.known) in
+    set_stands b m t p pt next l placed k n g s queues helds at.server known_here (mine ∙ h.preds.same p ∙ sym said) (λ j far. ap (λ (f : ℕ → Bool). f j) mine ∙ h.preds.within p j far) ring inbox (room_same b m t p pt next l placed k n g room takes h.room) h
 
--- it ends, and its slot and its blocks are free again
+-- it ends and is forgotten, and its slot and its blocks are free again
 pub ends_stands : (b : Boot) (m : ℕ) (t : Spot → Bool) (p : Pid) (pt next : Point) (l placed : Placed) (k n : KernelState) (x y : Process) (because : Why) → LivesHere m pt l k p x → Leaves m t p pt l next placed → Stays k n p
-    → ((q : Pid) → pid_eq p q ≡ false → t (Queue m q) ≡ false) → ((q : Pid) → t (Held m q) ≡ false) → n.records p ≡ Some Record.Ended → n.room ≡ with_released k.room (machine.blocks_of y) → n.ring ≡ next.view.ring m → AreMessages placed.bag (next.view.inbox m) n.inbox
-    → next.view.known m p ≡ view.Ended → next.kernel.processes p ≡ Some (Life.Ended because) → length y.memory ≡ length x.memory → MadeStands pt.kernel → KernelStands b pt l m k → KernelStands b next placed m n
-ends_stands b m t p pt next l placed k n x y because at g s queues helds e room ring inbox known ended memory made h =
+    → ((q : Pid) → pid_eq p q ≡ false → t (Queue m q) ≡ false) → ((q : Pid) → t (Held m q) ≡ false) → n.records p ≡ None → n.preds p ≡ nobody → next.view.preds m p ≡ nobody → n.room ≡ with_released k.room (machine.blocks_of y) → n.ring ≡ next.view.ring m → AreMessages placed.bag (next.view.inbox m) n.inbox
+    → next.view.known m p ≡ view.Unknown → next.kernel.processes p ≡ Some (Life.Ended because) → length y.memory ≡ length x.memory → MadeStands pt.kernel → KernelStands b pt l m k → KernelStands b next placed m n
+ends_stands b m t p pt next l placed k n x y because at g s queues helds e none said room ring inbox known ended memory made h =
     let after : taken_by next m p ≡ record { slots = 0; blocks = 0 } = grind (arith, nat_tests) in
-    let known_ended : KnownStands next placed p (next.view.queue m p) (next.view.held m p) (next.view.known m p) (n.records p) = grind (arith, nat_tests, next.view.queue, next.view.held, next.view.known) in
-    set_stands b m t p pt next l placed k n g s queues helds at.server known_ended ring inbox
+    let known_ended : KnownStands placed p (next.view.queue m p) (next.view.held m p) (next.view.known m p) (n.records p) = grind (arith, nat_tests, next.view.queue, next.view.held, next.view.known) in
+    set_stands b m t p pt next l placed k n g s queues helds at.server known_ended (none ∙ sym said) (λ j far. ap (λ (f : ℕ → Bool). f j) none) ring inbox
     (room_released b m t p pt next l placed k n (machine.blocks_of y) g room (grind (arith, nat_tests)) after (ap is_some at.alive) made h.room) h
 
 -- What each way in which a label changes view, kernel and kernel with places leaves; and a label as a step with places.
@@ -308,7 +319,7 @@ record_on f a m p x e = on_if ((a == m) && pid_eq p p) x (f m p) (ap (λ (k : �
 
 -- the view: nothing, a process is served, it ends, it receives, a message of its queue is dropped
 pub view_same : (m : ℕ) (t : Spot → Bool) (p : Pid) (v : View) → ViewLeaves m t p v v
-view_same m t p v = record { acting = refl; groups = refl; pair = λ a c. refl; lists = λ s off. refl; ring = λ n apart. refl; known = λ n q off. refl; held = λ n q. refl; count = λ n. refl; told = refl }
+view_same m t p v = record { acting = refl; groups = refl; pair = λ a c. refl; lists = λ s off. refl; ring = λ n apart. refl; known = λ n q off. refl; held = λ n q. refl; preds = λ n q off. refl; count = λ n. refl; told = refl }
 
 pub view_serving : (m : ℕ) (t : Spot → Bool) (p : Pid) (v : View) → v.acting ≡ m → ViewLeaves m t p v (serving v p)
 view_serving m t p v at = search (
@@ -320,7 +331,8 @@ pub view_ended : (m : ℕ) (t : Spot → Bool) (p : Pid) (v : View) → v.acting
 view_ended m t p v at = search (
   lists_same t v (ended v p) (λ n q off. refl) (λ n q. refl) (λ n off. refl) (λ a c. refl),
   λ (n : ℕ) (apart : n ≢ m). off_if (v.acting == n) (without p (v.ring v.acting)) (v.ring n) (ap (λ (k : ℕ). k == n) at ∙ eq_apart m n apart),
-  λ (n : ℕ) (q : Pid) (off : ((m == n) && pid_eq p q) ≡ false). record_off v.known v.acting m n p q Known.Ended at off,
+  λ (n : ℕ) (q : Pid) (off : ((m == n) && pid_eq p q) ≡ false). record_off v.known v.acting m n p q Known.Unknown at off,
+  λ (n : ℕ) (q : Pid) (off : ((m == n) && pid_eq p q) ≡ false). record_off v.preds v.acting m n p q nobody at off,
 )
 
 -- the queue of the process is set

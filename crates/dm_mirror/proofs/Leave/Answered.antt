@@ -1,7 +1,7 @@
 -- A move has ended: whoever asked for it is told.
 use Rattle.dm_mirror.proofs.Names.{turns, ◌≡◌, ◌≢◌, ℕ, ◌+◌, ◌≤◌, true, false, [], ◌∷◌, refl, ap, ◌∙◌, sym, subst, inl, inr, arith, Option, None, Some, option_map, cases_Bool, false≢true, Pid, pid_eq, pid_eq-is, Message, MsgId, id_eq}
 use Rattle.dm_mirror.proofs.Names.{plain_message, Record, Label, Line, Process, Boot, OneKernel, Step, bind, answer_id, bag_none, Point, View, Told, Of, Here, Known, Spot, Queue, Held, Inbox, standing, times, is_between, is_server, after}
-use Rattle.dm_mirror.proofs.Names.{after_line, moved, at_machine, outcome, Run, Placed, Mirrors, placed_step, StepNeeds, KernelState, turn, AllOwnStand, KernelStands, KnownStands, HereStands, RoomStands, AllRecords, TokensStand, room_of}
+use Rattle.dm_mirror.proofs.Names.{after_line, moved, at_machine, outcome, Run, Placed, Mirrors, placed_step, StepNeeds, KernelState, AllOwnStand, KernelStands, KnownStands, HereStands, RoomStands, AllRecords, TokensStand, room_of}
 use Rattle.dm_mirror.proofs.Names.{slice_get, Asker, Outcome, manager_request, moved_answer, MoveNote, bag_answered, plain_note, ends_move, without_note, Part, tells_asker, LeftStands, is_due_piece}
 use Rattle.dm_onekernel.specs.Service as service
 use Rattle.dm_onekernel.specs.Step as kernel
@@ -101,8 +101,8 @@ module _ (b : Boot) (m : ℕ) (pt : Point) (l : Placed) (records : AllRecords) (
       let bag = bag_answered sane.r sane.e s t id o step sane.sound in
       let free : s.bag a.id ≡ None = bag_none sane.r sane.e s (answer_id id) (bag.fresh (answer_id id) refl) sane.sound.entered in
       let mine : HereStands placed p (v.queue m p) h.process =
-      subst (λ (r : Option machine.KernelKnown). KnownStands mid placed p (v.queue m p) (v.held m p) Here r) h.is
-      (subst (λ (w : Known). KnownStands mid placed p (v.queue m p) (v.held m p) w (state.records p)) h.known (h.kernel.known p h.server)) in
+      subst (λ (r : Option machine.KernelKnown). KnownStands placed p (v.queue m p) (v.held m p) Here r) h.is
+      (subst (λ (w : Known). KnownStands placed p (v.queue m p) (v.held m p) w (state.records p)) h.known (h.kernel.known p h.server)) in
       let there : placed.processes p ≡ Some (record h.process { queue = mine.0.0 }) = mine.0.1 in
       let needs : StepNeeds s v e = λ q w noted_ notes_. (
       let f = sane.sound.notes.follows id q noted_ in
@@ -117,9 +117,9 @@ module _ (b : Boot) (m : ℕ) (pt : Point) (l : Placed) (records : AllRecords) (
       let same : (j : MsgId) (z : Spot) → 1 ≤ standing v j z → on.bag j ≡ placed.bag j =
       λ j z least. (let f = h.stood j z least in off_if (id_eq a.id j) (Some a) (placed.bag j) (apart j f.0 f.1)) in
       let others : (q : Pid) → pid_eq p q ≡ false → on.notes q ≡ placed.notes q = λ q off. off_if (pid_eq p q) None (placed.notes q) off in
-      let here : KnownStands next on p (v.queue m p) (v.held m p) (v.known m p) (state.records p) =
-      subst (λ (w : Known). KnownStands next on p (v.queue m p) (v.held m p) w (state.records p)) (sym h.known)
-      (subst (KnownStands next on p (v.queue m p) (v.held m p) Here) (sym h.is)
+      let here : KnownStands on p (v.queue m p) (v.held m p) (v.known m p) (state.records p) =
+      subst (λ (w : Known). KnownStands on p (v.queue m p) (v.held m p) w (state.records p)) (sym h.known)
+      (subst (KnownStands on p (v.queue m p) (v.held m p) Here) (sym h.is)
       ((mine.0.0, there), map_same placed.bag on.bag (v.queue m p) (λ j least. same j (Queue m p) least) ∙ mine.1)) in
       let queues : (q : Pid) (j : MsgId) → pid_eq p q ≡ false → 1 ≤ times j (v.queue m q) → on.bag j ≡ placed.bag j =
       λ q j off least. same j (Queue m q) least in
@@ -138,7 +138,7 @@ module _ (b : Boot) (m : ℕ) (pt : Point) (l : Placed) (records : AllRecords) (
         mirrors = label_mirrors mid placed on m e t h.mirrors g.acting needs step placed_is;
         kernel = stands_set b mid next placed on m state state p (search (others, queues, holds, here)) h.kernel h.kernel.ring
             (map_same placed.bag on.bag (v.inbox m) (λ j least. same j (Inbox m) least) ∙ h.kernel.inbox) h.kernel.made
-            (subst (RoomStands state.room (room_of (slice_get b.machines m))) (sym (taken_same mid next m refl (λ w. refl) (λ q. refl))) h.kernel.room) h.kernel.servers;
+            (subst (RoomStands state.room (room_of (slice_get b.machines m))) (sym (taken_same mid next m refl (λ w. refl) (λ q. refl))) h.kernel.room) h.kernel.servers h.kernel.preds;
         sent = λ f. h.sent f ∙ (let z : (w : ℕ) → w ≡ w + 0 = λ w. omega arith in z (v.count m));
         over = NoneEnds h.over (λ q. refl);
         topic = tt;

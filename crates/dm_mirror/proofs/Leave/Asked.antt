@@ -13,7 +13,7 @@ use Rattle.dm_rule.specs.View as view
 use Rattle.dm_places.specs.PlacedStep as placed
 use Rattle.dm_places.specs.PlacedStep.{with_sent}
 use Rattle.dm_kernel.specs.State as kernels
-use Rattle.dm_mirror.proofs.Turning.{NoneEnds, Row, TurnsAt, has_process, is_elsewhere}
+use Rattle.dm_mirror.proofs.Turning.{NoneEnds, Row, Sends, TurnsAt, has_process, is_elsewhere}
 use Rattle.dm_mirror.proofs.Kernel.Sets.{after_label, label_mirrors, off_if, on_if}
 use Rattle.dm_mirror.proofs.Handle.Taking.{Taking, eq_self, held_apart, machine_off, machine_self, map_same, not_server, outcome_is, queue_apart, sane_of, sent_there, some_same, stands_set, turn_is}
 use Rattle.dm_mirror.proofs.Handle.Rows.{Elsewhere, Moves, here_left, kept_at, kept_behind, mirrors_one, own_back, own_kept, standing_begun}
@@ -175,9 +175,9 @@ asked_here b m pt l k y machine c h is =
     let holds : (q : Pid) (j : MsgId) → 1 ≤ times j (pt.view.held m q) → on.bag j ≡ l.bag j = λ q j least. kept (Held m q) j (held_apart m m q) least in
     let others : (q : Pid) → pid_eq p q ≡ false → on.notes q ≡ l.notes q =
     λ q off. off_if (pid_eq p q) None (mid_placed.notes q) off ∙ off_if (pid_eq p q) (Some asker) (l.notes q) off in
-    let here : KnownStands next on p (pt.view.queue m p) (pt.view.held m p) (pt.view.known m p) (k.records p) =
-    subst (λ (z : view.Known). KnownStands next on p (pt.view.queue m p) (pt.view.held m p) z (k.records p)) (sym h.known)
-    (subst (KnownStands next on p (pt.view.queue m p) (pt.view.held m p) Here) (sym h.there)
+    let here : KnownStands on p (pt.view.queue m p) (pt.view.held m p) (pt.view.known m p) (k.records p) =
+    subst (λ (z : view.Known). KnownStands on p (pt.view.queue m p) (pt.view.held m p) z (k.records p)) (sym h.known)
+    (subst (KnownStands on p (pt.view.queue m p) (pt.view.held m p) Here) (sym h.there)
     ((h.queue, h.placed), map_same l.bag on.bag (pt.view.queue m p) (queues p) ∙ h.waits)) in
     let taken = taken_same pt next m refl (λ n. refl) (λ q. refl) in
     let to_here : (machine == k.here) ≡ true = ap (λ (n : ℕ). n == k.here) (sym is ∙ sym c.stands.here) ∙ eq_self k.here in
@@ -189,7 +189,7 @@ asked_here b m pt l k y machine c h is =
     record {
       state = k0;
       says = Line.Label (Label.Asked i) ∷ Line.Label e ∷ [];
-      route = Some a;
+      route = Sends (Some a);
       turn = turn_is b m pt l k y w c (turned k0 (parts i m)) (here_turn b m pt l k y w c h (turned k0 (parts i m))
           (ap (here_handles k0 y h.x) (move_what y.what machine c.says) ∙ ap (λ (d : Bool). if d then turned k0 (parts (manager_request asker) k.here) else sent_off) to_here ∙ (λ j. turned k0 (parts (sym f.named j) (c.stands.here j)))));
       outcome = outcome_is b m pt l k y w c (Some (rule.Says (Line.Label (Label.Asked i)) ∷ rule.Says (Line.Label e) ∷ rule.Routes a.id ∷ []))
@@ -204,7 +204,7 @@ asked_here b m pt l k y machine c h is =
           c.stands.ring
           (ap (map on.bag) (machine_self pt.view.inbox m (without_front i (pt.view.inbox m)) ∙ front_gone i c.ids (pt.view.inbox m) c.box) ∙ map_same l.bag on.bag c.ids behind ∙ c.others)
           c.stands.made (room_stays k.room _ _ _ taken c.stands.room)
-          c.stands.servers;
+          c.stands.servers c.stands.preds;
       elsewhere = search (
         machine_off,
         λ (n : ℕ) (q : Pid) (off : n ≢ m) (has : has_process (pt.view.known n q) ≡ true). others q (here_left pt m p q c.run.based.phased.phases h.known (Elsewhere n off has)),
@@ -224,7 +224,7 @@ pub asked_turn : (b : Boot) (m : ℕ) (pt : Point) (l : Placed) (records : AllRe
     → Taking b m pt l k y (PlainWhat.Move machine) → IsHere b m pt l k y.to.pid → TokensStand pt.view l records → records m ≡ k.records
     → k.sent ≡ pt.view.count m → FreezesReceiverWhole k y → TurnsAt b m pt l records k
 asked_turn b m pt l records k y machine c h tokens mine counted whole = elim (eqb_tells m machine) [
-  | inl is ↦ row_turns b m pt l records k c.run c.own tokens mine (asked_here b m pt l k y machine c h is.1)
+  | inl is ↦ row_turns b m pt l records k c.run c.own tokens mine counted (asked_here b m pt l k y machine c h is.1)
   | inr off ↦
       asked_other b m pt l records k y machine c h tokens mine counted off.1
       (subst (λ (w : What). KnownIsWhole k.here w (Some (Record.Here h.x))) (move_what y.what machine c.says)

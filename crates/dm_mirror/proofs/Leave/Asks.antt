@@ -6,9 +6,8 @@ use Rattle.dm_mirror.proofs.Names.{has_nothing_held, is_fixed, Placed, mirrors_v
 use Rattle.dm_mirror.proofs.Names.{frozen_of, incoming_of, Departure, block_of, chunk_of, state_of, OneKernel, bind, plain_process, gives_piece, kernel_handles, Addresses, Receiver, Sender, gets, own_given, unmoved, told_step, is_between}
 use Rattle.dm_mirror.proofs.Names.{tells_onward, fits, free_room, kernel_hears, Inbox, standing, Told, View, after_proto, handled, Run, enclosed, about_of, Carries, destination_of, false≢true, ◌++◌, turn, outcome, after, Step}
 use Rattle.dm_mirror.proofs.Names.{plain_message, HereStands, Mirrors, AreMessages, Spot, Queue, Held, spot_cases, Asker, leaves_for, here_free, Part, sort_of, drop, slice_get, option_and_then, Cargo, cargo_at, cargo_of, ◌⊎◌, ◌||◌}
-use Rattle.dm_mirror.proofs.Names.{cases_Bool, PlainProcess, receiver_in, LeftCarries, is_due_piece, is_piece, brings_piece, pulls_piece, is_waited_from}
+use Rattle.dm_mirror.proofs.Names.{cases_Bool, PlainProcess, receiver_in, LeftCarries, is_due_piece, is_piece, brings_piece, pulls_piece, is_waited_from, with_sent, buried, tells_end, is_stale}
 use Rattle.dm_mirror.proofs.Recorded.{Recorded, recorded}
-use Rattle.dm_kernel.specs.State.{with_sent}
 use Rattle.dm_mirror.proofs.Rooms.{taken_same}
 use Rattle.dm_mirror.proofs.Leave.Fronts.{FrontGone, Hearing, Present, rests_over, outcome_hears, stood, turn_hears, Leaving, leaving, stands_first, absent_next, may_between, own_is, records_as, three_off, to_process, here_hears}
 use Rattle.dm_mirror.proofs.Leave.Fronts.{untold_next, to_kernel_hears, own_stays, tokens_one, front_rest}
@@ -151,9 +150,9 @@ sets_off b m pt l records k p machine asker says t a box to on h =
     let cargo : cargo_at on p ≡ Some (cargo_of x asker) = λ i. option_map (λ (z : Process). cargo_of z (h.note i)) (queued.0.1 i) in
     let leaves : LeavesStand on p (v.queue m p) (v.held m p) machine (frozen x machine asker) =
     search (cargo, queued, ap (map on.bag) none_held, h.whole) in
-    let mine : KnownStands next on p (v.queue m p) (v.held m p) (next.view.known m p) (state.records p) =
-    subst (KnownStands next on p (v.queue m p) (v.held m p) (next.view.known m p)) (sym frozen_record)
-    (subst (λ (n : Known). KnownStands next on p (v.queue m p) (v.held m p) n (Some (Record.Frozen (frozen x machine asker)))) (sym frozen_known) leaves) in
+    let mine : KnownStands on p (v.queue m p) (v.held m p) (next.view.known m p) (state.records p) =
+    subst (KnownStands on p (v.queue m p) (v.held m p) (next.view.known m p)) (sym frozen_record)
+    (subst (λ (n : Known). KnownStands on p (v.queue m p) (v.held m p) n (Some (Record.Frozen (frozen x machine asker)))) (sym frozen_known) leaves) in
     let taken = taken_same pt next m h.machines h.made (λ q. taken_at_record pt next m p q (Frozen to) (h.lives q) refl (sym (ap takes_room h.at_m))) in
     let id_is : ask.id ≡ own_id next.view = λ i. record { from = record { home = h.stands.here i; num = 0 }; n = h.sent i; answer = false } in
     let id_first : ask.id ≡ own_behind next.view 0 = id_is ∙ own_first next.view in
@@ -164,7 +163,6 @@ sets_off b m pt l records k p machine asker says t a box to on h =
     λ q j off least. h.kept (Queue m q) j (queue_apart m m q) least in
     let holds : (q : Pid) (j : MsgId) → pid_eq p q ≡ false → 1 ≤ times j (v.held m q) → on.bag j ≡ l.bag j =
     λ q j off least. h.kept (Held m q) j (held_apart m m q) least in
-    let lives : (q : Pid) → pid_eq p q ≡ false → t.processes q ≡ pt.kernel.processes q = λ q off. h.lives q in
     let asks : IsCarried on (v.asked p) after_records p ask = record { cargo = cargo_of x asker; there = cargo; sender = refl; carries = refl } in
     let asked_as : IsCarried on (next.view.asked p) after_records p ask ⊎ IsLeftOver next.view on p ask = inl asks in
     let same : (i : MsgId) (z : Spot) → 1 ≤ standing next.view i z → on.bag i ≡ l.bag i = λ i z least. (
@@ -183,11 +181,11 @@ sets_off b m pt l records k p machine asker says t a box to on h =
       after = h.after;
       placed = on;
       mirrors = h.on_mirrors;
-      kernel = stands_set b pt next l on m k state p (search (sets, record_others, processes, h.notes, lives, queues, holds, mine, keeps)) h.stands
+      kernel = stands_set b pt next l on m k state p (search (sets, record_others, processes, h.notes, queues, holds, mine, keeps)) h.stands
           (ap (without p) h.stands.ring ∙ sym (machine_self v.ring m (without p (v.ring m))))
           (ap (map on.bag) box_is ∙ map_same l.bag on.bag h.ids h.behind ∙ h.others) (h.stands.made ∙ sym (h.made m))
           (room_stays k.room _ _ _ taken h.stands.room)
-          (h.stands.servers ∙ (λ i. if m == 0 then Some (record { board = sym h.board i; manager = sym h.manager i }) else None));
+          (h.stands.servers ∙ (λ i. if m == 0 then Some (record { board = sym h.board i; manager = sym h.manager i }) else None)) h.stands.preds;
       sent = λ e. ap (λ (n : ℕ). n + 1) e;
       elsewhere = search (
         machine_off,
@@ -297,7 +295,7 @@ leaves_no_server b pt m to p run known = grind (arith, nat_tests)
 
 -- the record of a process that leaves
 pub departing : (b : Boot) (m : ℕ) (pt : Point) (l : Placed) (records : AllRecords) (k : KernelState) (y : Message) (p : Pid) → Hearing b m pt l records k y → (g : Leaving m pt y p)
-    → Recorded pt l p (pt.view.queue m p) (pt.view.held m p) (Frozen g.to) (k.records p)
+    → Recorded l p (pt.view.queue m p) (pt.view.held m p) (Frozen g.to) (k.records p)
 departing b m pt l records k y p h g = recorded b pt l m k p (Frozen g.to) h.stands (leaves_no_server b pt m g.to p h.run g.known) g.known
 
 -- what is heard carries what it was sent with
@@ -391,11 +389,21 @@ no_piece k e = or_second (pulls_piece (sort_of k)) (brings_piece (sort_of k)) e
     or_second true c e = absurd (false≢true (sym e))
     or_second false c e = e
 
-pub leaves_alive : (b : Boot) (m : ℕ) (pt : Point) (l : Placed) (p : Pid) (x : Process) (i : MsgId) (k : MessageKind) (o : Option (List rule.Part)) → l.processes p ≡ Some x → kernel.alive (pt.kernel.processes p) ≡ option_map plain_process (l.processes p) → brings_piece (sort_of k) ≡ false
+-- what is said of a migration tells of no end
+pub between_goes_on : (k : MessageKind) → is_between k ≡ true → tells_end (sort_of k) ≡ false
+between_goes_on MessageKind.Bury e = absurd (false≢true e)
+between_goes_on _ e = refl
+
+pub piece_goes_on : (k : MessageKind) → brings_piece (sort_of k) ≡ true → tells_end (sort_of k) ≡ false
+piece_goes_on MessageKind.Bury e = absurd (false≢true e)
+piece_goes_on _ e = refl
+
+pub leaves_alive : (b : Boot) (m : ℕ) (pt : Point) (l : Placed) (p : Pid) (x : Process) (i : MsgId) (k : MessageKind) (o : Option (List rule.Part)) → l.processes p ≡ Some x → kernel.alive (pt.kernel.processes p) ≡ option_map plain_process (l.processes p) → tells_end (sort_of k) ≡ false → brings_piece (sort_of k) ≡ false
     → told_step pt m i p (fits (free_room b pt m) (length x.memory / 256)) (plain_process x) (sort_of k) ≡ o → kernel_hears b pt m i k (Of p) ≡ o
-leaves_alive b m pt l p x i k o there plain none told =
+leaves_alive b m pt l p x i k o there plain lives none told =
     let step : PlainProcess → Option (List rule.Part) = λ z. told_step pt m i p (fits (free_room b pt m) (length z.memory / 256)) z (sort_of k) in
-    ap (λ (d : Bool). if d && not (is_waited_from i.from.home (pt.view.known m p)) then Some (rule.Says (Line.Stale i) ∷ []) else bind (kernel.alive (pt.kernel.processes p)) step) none
+    ap (λ (d : Bool). if d then Some (buried pt m i p) else if is_stale pt m i k p then Some (rule.Says (Line.Stale i) ∷ []) else bind (kernel.alive (pt.kernel.processes p)) step) lives
+    ∙ ap (λ (d : Bool). if d && not (is_waited_from i.from.home (pt.view.known m p)) then Some (rule.Says (Line.Stale i) ∷ []) else bind (kernel.alive (pt.kernel.processes p)) step) none
     ∙ ap (λ (q : Option PlainProcess). bind q step) (plain ∙ ap (option_map plain_process) there) ∙ told
 
 -- a piece that is due carries what it is to
@@ -466,7 +474,7 @@ chunk_due b m pt l records k y p chunk h due =
     let piece = chunk_piece p x.pid (state_of x) chunk name in
     gives b m pt l records k z p (chunk_of x.pid (state_of x) chunk) h g.receiver c.sender piece
     (ap (λ (r : Option machine.KernelKnown). bind (frozen_of r) (λ (e : Departure). gives_piece s z (chunk_of e.process.pid (state_of e.process) chunk))) record_is)
-    (leaves_alive b m pt l p (record x { queue = stands.here.0.0 }) y.id MessageKind.PullState (Some (migrating.gives_piece y.id MessageKind.State)) stands.here.0.1 (h.mirrors.plain.processes p) refl refl)
+    (leaves_alive b m pt l p (record x { queue = stands.here.0.0 }) y.id MessageKind.PullState (Some (migrating.gives_piece y.id MessageKind.State)) stands.here.0.1 (h.mirrors.plain.processes p) refl refl refl)
     refl (inl (due_carried m pt l records k s z p (chunk_of x.pid (state_of x) chunk) h.records_here piece c (ap (λ (u : Cargo). chunk_of u.pid u.state chunk) same, c.carries.1, c.carries.2)))
 
 chunk_left : (b : Boot) (m : ℕ) (pt : Point) (l : Placed) (records : AllRecords) (k : KernelState) (y : Message) (p : Pid) (chunk : ℕ) → Hearing b m pt l records k (record y { what = What.PullState p chunk }) → is_due_piece pt.view p y.id (told_of (record y { what = What.PullState p chunk })) ≡ false
@@ -481,7 +489,7 @@ chunk_left b m pt l records k y p chunk h off =
     let piece = chunk_piece p x.pid (state_of x) chunk name in
     gives b m pt l records k z p (chunk_of x.pid (state_of x) chunk) h g.here.receiver g.sender piece
     (ap (λ (r : Option machine.KernelKnown). bind (frozen_of r) (λ (e : Departure). gives_piece s z (chunk_of e.process.pid (state_of e.process) chunk))) g.is)
-    (leaves_alive b m pt l p (record x { queue = g.stands.here.0.0 }) y.id MessageKind.PullState (Some (migrating.gives_piece y.id MessageKind.State)) there (h.mirrors.plain.processes p) refl refl)
+    (leaves_alive b m pt l p (record x { queue = g.stands.here.0.0 }) y.id MessageKind.PullState (Some (migrating.gives_piece y.id MessageKind.State)) there (h.mirrors.plain.processes p) refl refl refl)
     refl (inr (left_carried m pt.view l s z p (chunk_of x.pid (state_of x) chunk) (told_of z) g.here h.stands.here g.sender piece refl name))
 
 pub gives_chunk : (b : Boot) (m : ℕ) (pt : Point) (l : Placed) (records : AllRecords) (k : KernelState) (y : Message) (p : Pid) (chunk : ℕ) → Hearing b m pt l records k (record y { what = What.PullState p chunk })
@@ -505,7 +513,7 @@ block_due b m pt l records k y p block h due =
     let piece = block_piece p x.pid x.memory block name in
     gives b m pt l records k z p (block_of x.pid x.memory block) h g.receiver c.sender piece
     (ap (λ (r : Option machine.KernelKnown). bind (frozen_of r) (λ (e : Departure). gives_piece s z (block_of e.process.pid e.process.memory block))) record_is)
-    (leaves_alive b m pt l p (record x { queue = stands.here.0.0 }) y.id MessageKind.PullBlock (Some (migrating.gives_piece y.id MessageKind.Memory)) stands.here.0.1 (h.mirrors.plain.processes p) refl refl)
+    (leaves_alive b m pt l p (record x { queue = stands.here.0.0 }) y.id MessageKind.PullBlock (Some (migrating.gives_piece y.id MessageKind.Memory)) stands.here.0.1 (h.mirrors.plain.processes p) refl refl refl)
     refl (inl (due_carried m pt l records k s z p (block_of x.pid x.memory block) h.records_here piece c (ap (λ (u : Cargo). block_of u.pid u.memory block) same, c.carries.1, c.carries.2)))
 
 block_left : (b : Boot) (m : ℕ) (pt : Point) (l : Placed) (records : AllRecords) (k : KernelState) (y : Message) (p : Pid) (block : ℕ) → Hearing b m pt l records k (record y { what = What.PullBlock p block }) → is_due_piece pt.view p y.id (told_of (record y { what = What.PullBlock p block })) ≡ false
@@ -520,7 +528,7 @@ block_left b m pt l records k y p block h off =
     let piece = block_piece p x.pid x.memory block name in
     gives b m pt l records k z p (block_of x.pid x.memory block) h g.here.receiver g.sender piece
     (ap (λ (r : Option machine.KernelKnown). bind (frozen_of r) (λ (e : Departure). gives_piece s z (block_of e.process.pid e.process.memory block))) g.is)
-    (leaves_alive b m pt l p (record x { queue = g.stands.here.0.0 }) y.id MessageKind.PullBlock (Some (migrating.gives_piece y.id MessageKind.Memory)) there (h.mirrors.plain.processes p) refl refl)
+    (leaves_alive b m pt l p (record x { queue = g.stands.here.0.0 }) y.id MessageKind.PullBlock (Some (migrating.gives_piece y.id MessageKind.Memory)) there (h.mirrors.plain.processes p) refl refl refl)
     refl (inr (left_carried m pt.view l s z p (block_of x.pid x.memory block) (told_of z) g.here h.stands.here g.sender piece refl name))
 
 pub gives_block : (b : Boot) (m : ℕ) (pt : Point) (l : Placed) (records : AllRecords) (k : KernelState) (y : Message) (p : Pid) (block : ℕ) → Hearing b m pt l records k (record y { what = What.PullBlock p block })

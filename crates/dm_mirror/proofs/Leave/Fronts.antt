@@ -1,10 +1,10 @@
 -- A machine hears a kernel's own message at its inbox's front: what holds then, and what stands where once the message is handled.
 use Rattle.dm_mirror.proofs.Names.{◌≡◌, ◌≢◌, ◌⊎◌, ℕ, ◌+◌, ◌≤◌, ◌==◌, Bool, true, false, List, ◌∷◌, ap, ◌∙◌, sym, subst, inl, inr, arith, if◌then◌else◌, Option, None, Some, eqb_tells, Pid, pid_of, Message, MsgId, kind_of, plain_message}
-use Rattle.dm_mirror.proofs.Names.{bind, Boot, Step, handles, KernelState, Turned, turn, turns, id_eq-same, is_apart, is_between, tells_onward, is_restart, knows, Moves, Phase, Rests, receiver_in, sender_in, token_in, Point, comes_to}
-use Rattle.dm_mirror.proofs.Names.{hears, outcome, Spot, Queue, Held, Inbox, Untaken, standing, times, Here, Frozen, Of, Told, View, is_kernels, letters, rests_here, token_at, StandsAsBag-one, StandsAsBag-elsewhere, spot_cases, OwnTold}
-use Rattle.dm_mirror.proofs.Names.{Run, Placed, Mirrors, AllOwnStand, about_of, told_of, AreMessages, KernelStands, AllRecords, TokensStand, eq_self, source_knows, inbox_is, more_front, holds_is, ◌||◌, [], refl, Addr, pid_eq, place_of}
-use Rattle.dm_mirror.proofs.Names.{nat_tests, kernel_at, id_of, MessageKind, PlainMessage, process_handles, Gets, Receiver, Sender, gets, given, own_given, unmoved, process_told, kernel_hears, at_machine, Known, own_id, not_kernels}
-use Rattle.dm_mirror.proofs.Names.{is_fixed, enclosed, about_same, cases_Bool, pid_eq-is, sort_of, What, false≢true, LeftStands, is_due_piece, is_waited_from, is_server, manager, switchboard, told_here, or-left}
+use Rattle.dm_mirror.proofs.Names.{bind, Boot, Step, handles, KernelState, Turned, turns, id_eq-same, is_apart, is_between, tells_onward, is_restart, knows, Moves, Phase, Rests, receiver_in, sender_in, token_in, Point, comes_to, hears}
+use Rattle.dm_mirror.proofs.Names.{outcome, Spot, Queue, Held, Inbox, Untaken, standing, times, Here, Frozen, Of, Told, View, is_kernels, letters, rests_here, token_at, StandsAsBag-one, StandsAsBag-elsewhere, spot_cases, OwnTold, Run}
+use Rattle.dm_mirror.proofs.Names.{Placed, Mirrors, AllOwnStand, about_of, told_of, AreMessages, KernelStands, AllRecords, TokensStand, eq_self, source_knows, inbox_is, more_front, holds_is, ◌||◌, [], refl, Addr, pid_eq, place_of}
+use Rattle.dm_mirror.proofs.Names.{nat_tests, kernel_at, id_of, MessageKind, PlainMessage, process_handles, Gets, Receiver, Sender, gets, given, own_given, unmoved, process_told, kernel_hears, at_machine, Known, not_kernels, is_fixed}
+use Rattle.dm_mirror.proofs.Names.{enclosed, about_same, cases_Bool, pid_eq-is, sort_of, What, false≢true, LeftStands, is_due_piece, is_waited_from, is_server, manager, switchboard, told_here, or-left}
 use Rattle.dm_mirror.proofs.Handle.Taking.{front_of, times_self, machine_self, machine_off, some_same}
 use Rattle.dm_mirror.proofs.Turning.{IsCarried, IsLeftOver, MayOwn, own_behind}
 pub use Rattle.dm_mirror.proofs.Handle.Taking.{to_kernel}
@@ -196,7 +196,7 @@ leaving_left b m pt l records k y p h g w placed gone kept same i t z told betwe
 -- The next message of a machine's kernel, where it goes to another kernel and is about a process that leaves.
 
 -- what a kernel has not counted was not told, and isn't in the bag
-absent_by : (b : Boot) (pt : Point) (l : Placed) (i : MsgId) (o : Option Message) (p : Option PlainMessage) → Run b pt → Mirrors pt.kernel pt.view pt.addresses l → AllOwnStand pt.view l → is_kernels i ≡ true → pt.view.told i ≡ None → l.bag i ≡ o → bind o plain_message ≡ p → o ≡ None
+pub absent_by : (b : Boot) (pt : Point) (l : Placed) (i : MsgId) (o : Option Message) (p : Option PlainMessage) → Run b pt → Mirrors pt.kernel pt.view pt.addresses l → AllOwnStand pt.view l → is_kernels i ≡ true → pt.view.told i ≡ None → l.bag i ≡ o → bind o plain_message ≡ p → o ≡ None
 absent_by b pt l i None p run mirrors own mine untold is plain = refl
 absent_by b pt l i (Some x) None run mirrors own mine untold is plain = absurd (let e : Some (told_of x) ≡ None = sym (own i x is plain).told ∙ untold in cc)
 absent_by b pt l i (Some x) (Some w) run mirrors own mine untold is plain = grind (arith, nat_tests, not_kernels)

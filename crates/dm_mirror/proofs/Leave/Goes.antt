@@ -4,8 +4,7 @@ use Rattle.dm_mirror.proofs.Names.{nat_tests, pid_eq, kernel_at, Message, MsgId,
 use Rattle.dm_mirror.proofs.Names.{PlainProcess, without_leaving, KernelState, own, turned, pid_eq-same, sends_on, to_kernel, Point, moved, Room, blocks_of, taken_at, taken_by, takes_room, at_machine, Spot, Held, Inbox, Queue, standing}
 use Rattle.dm_mirror.proofs.Names.{times, Forward, Frozen, Known, gone_to, own_id, MirrorsPoint, sent_all, Placed, sent_on_mirrors, mirrors_view, MadeStands, told_of, AreMessages, KnownStands, RoomStands, AllRecords, Wants, ◌||◌, inr, None}
 use Rattle.dm_mirror.proofs.Names.{cases_Bool, id_eq, IsKindOfPlain, kind_of, PlainMessage, plain_message, plain_what, with_what, sent_on, id_eq-swap, is_between, Told, View, letters, held_plain, queued_plain, StandsAsBag-elsewhere, Run}
-use Rattle.dm_mirror.proofs.Names.{Mirrors, is_among, among_times, parts, AllOwnStand, told_there, more_front, leaves, is_server, Part, drop, ◌⊎◌, is_waited_from}
-use Rattle.dm_kernel.specs.State.{with_sent}
+use Rattle.dm_mirror.proofs.Names.{Mirrors, is_among, among_times, parts, AllOwnStand, told_there, more_front, leaves, is_server, Part, drop, ◌⊎◌, is_waited_from, with_sent}
 use Rattle.dm_mirror.proofs.Join.{kind_plain}
 use Rattle.dm_mirror.proofs.Handle.Rows.{standing_begun}
 use Rattle.dm_mirror.proofs.Rooms.{taken_changed}
@@ -183,9 +182,9 @@ goes b m pt l records k y p h made =
     } in
     let forward_known : end.view.known m p ≡ Forward to (v.moves p + 1) = record_self v.known m p forward (pid_eq-same p) ∙ forward_is in
     let forward_record : state.records p ≡ Some (Record.Forward to moves) = ap (λ (e : Bool). if e then Some (Record.Forward to moves) else k.records p) (pid_eq-same p) in
-    let mine : KnownStands end placed p (end.view.queue m p) (end.view.held m p) (end.view.known m p) (state.records p) =
-    subst (KnownStands end placed p (end.view.queue m p) (end.view.held m p) (end.view.known m p)) (sym forward_record)
-    (subst (λ (r : Known). KnownStands end placed p (end.view.queue m p) (end.view.held m p) r (Some (Record.Forward to moves))) (sym forward_known) (refl, ap (λ (r : ℕ). r + 1) moves_is)) in
+    let mine : KnownStands placed p (end.view.queue m p) (end.view.held m p) (end.view.known m p) (state.records p) =
+    subst (KnownStands placed p (end.view.queue m p) (end.view.held m p) (end.view.known m p)) (sym forward_record)
+    (subst (λ (r : Known). KnownStands placed p (end.view.queue m p) (end.view.held m p) r (Some (Record.Forward to moves))) (sym forward_known) (refl, ap (λ (r : ℕ). r + 1) moves_is)) in
     let stays : (q : Spot) (j : MsgId) → q ≢ Queue m p → q ≢ Held m p → 1 ≤ standing v j q → placed.bag j ≡ l.bag j = λ q j queue held least. bag_off b pt m p l to moves q j h.run queue held least in
     let behind : (j : MsgId) → 1 ≤ times j h.ids → placed.bag j ≡ l.bag j =
     λ j least. (let more = times_more j y.id h.ids in stays (Inbox m) j (λ e. cc) (λ e. cc) (subst (λ (is : List MsgId). 1 ≤ times j is) (sym h.box) (omega (arith, least, more)))) in
@@ -242,7 +241,7 @@ goes b m pt l records k y p h made =
           (owns.to_kernel b s z num ∙ ap (λ (r : Option machine.KernelKnown). bind (frozen_of r) (leaves s p)) record_is ∙ ap (λ (ps : List Part). turned state (Part.Says (Line.SentOn p n) ∷ ps ++ sends)) (sym (on_parts on)));
       outcome = outcome_hears b m pt l records k z h (Some (rule.Says (Line.SentOn p n) ∷ map rule_part_of (map On on) ++ last))
           (to_kernel_hears b pt m y.id (told_of z) num
-          ∙ leaves_alive b m pt l p (record x { queue = stands.here.0.0 }) y.id MessageKind.AllTaken (Some (rule.Says (Line.SentOn p n) ∷ map rule_part_of (map On on) ++ last)) there (h.mirrors.plain.processes p) refl
+          ∙ leaves_alive b m pt l p (record x { queue = stands.here.0.0 }) y.id MessageKind.AllTaken (Some (rule.Says (Line.SentOn p n) ∷ map rule_part_of (map On on) ++ last)) there (h.mirrors.plain.processes p) refl refl
           (ap (migrating.leaves y.id p ids) known_is
           ∙ ap (λ (r : ℕ). Some (rule.Says (Line.SentOn p (length ids)) ∷ sends_on to ids ++ rule.Says (Line.Migration Stage.Left p) ∷ to_kernel MessageKind.Restart r ∷ [])) from_is
           ∙ ap (λ (r : ℕ). Some (rule.Says (Line.SentOn p r) ∷ sends_on to ids ++ last)) (sym (on_length l.bag to moves ids ms lists))
@@ -254,7 +253,7 @@ goes b m pt l records k y p h made =
       kernel = stands_set b pt end l placed m k state p (search (sets, record_others, others_known, waits, holds, mine, keeps)) h.stands
           h.stands.ring (ap (map placed.bag) box ∙ map_same l.bag placed.bag h.ids behind ∙ h.others)
           h.stands.made (room_released k.room _ before now (length x.memory / 256) h.stands.room slots blocks)
-          h.stands.servers;
+          h.stands.servers h.stands.preds;
       sent = λ e. omega (arith, e, owned);
       elsewhere = search (
         record_off,

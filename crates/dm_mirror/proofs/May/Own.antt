@@ -1,12 +1,12 @@
 -- The message at the front of a machine's inbox is one that the machine can handle: for a kernel, a server, or a process.
-use Rattle.dm_mirror.proofs.Names.{◌≡◌, ◌≢◌, ℕ, ◌+◌, ◌<◌, ◌≤◌, ◌==◌, ◌||◌, Bool, true, false, List, ◌∷◌, length, refl, ap, ◌∙◌, sym, subst, arith, length-map, Option, None, Some, false≢true, Pid, Message, MsgId, What, MessageKind, Record}
-use Rattle.dm_mirror.proofs.Names.{kind_of, plain_message, Process, plain_child, plain_pending, plain_named, Boot, switchboard, manager, Manager, Switchboard, Point, Inbox, standing, Unknown, is_server, is_fixed, stands_first, OwnTold}
-use Rattle.dm_mirror.proofs.Names.{own_sort, own_server, Run, Placed, Mirrors, Servers, FitsBoard, FitsBoardWhat, FitsHere, FitsKnown, FitsManager, FitsManagerWhat, KernelState, AllOwnStand, about_of, told_of, KernelStands, KnownStands}
-use Rattle.dm_mirror.proofs.Names.{servers_at, nat_tests, pid_eq, PlainMessage, PlainWhat, plain_what, Direction, Status, IsAnswerOf, IsAwaited, IsWithin, Life, Alive, piece_of, plain_process, plain_status, pid_eq-same, Known, WhatFits}
-use Rattle.dm_mirror.proofs.Names.{awaits, has_bytes, piece_fits, status_awaits, both, block_what, gone_what, kill_what, read_what, resume_what, stop_what, user_what, write_what, written_what, inl, inr, zero, suc, ◌/◌, is_some}
-use Rattle.dm_mirror.proofs.Names.{if◌then◌else◌, option_map, cases_Bool, pid_of, HasTaken, first_number, alive-is, blocks_of, taken_at, taken_by, taken_of_home, takes_room, IsLawfulState, of_known, MadeStands, [], map, plain_manager}
-use Rattle.dm_mirror.proofs.Names.{IsForManager, pending_request, OneKernel, front, ForWhom, for_whom, home_of, told_receiver, create_what, created_what, no_room_what, FitsKernel, managed_fits, user_fits, PendingKind, move_what, moved_what}
-use Rattle.dm_mirror.proofs.Names.{IsPending, Pending}
+use Rattle.dm_mirror.proofs.Names.{◌≡◌, ℕ, ◌+◌, ◌<◌, ◌≤◌, ◌==◌, Bool, true, false, List, ◌∷◌, length, refl, ap, ◌∙◌, sym, subst, arith, length-map, Option, None, Some, false≢true, Pid, Message, MsgId, What, MessageKind, Record, kind_of}
+use Rattle.dm_mirror.proofs.Names.{plain_message, Process, plain_child, plain_pending, plain_named, Boot, switchboard, manager, Manager, Switchboard, Point, Inbox, standing, is_server, is_fixed, stands_first, OwnTold, own_sort, own_server}
+use Rattle.dm_mirror.proofs.Names.{Run, Placed, Mirrors, Servers, FitsBoard, FitsBoardWhat, FitsHere, FitsKnown, FitsManager, FitsManagerWhat, KernelState, AllOwnStand, about_of, told_of, KernelStands, KnownStands, servers_at, nat_tests}
+use Rattle.dm_mirror.proofs.Names.{pid_eq, PlainMessage, PlainWhat, plain_what, Direction, Status, IsAnswerOf, IsAwaited, IsWithin, Life, Alive, piece_of, plain_process, plain_status, pid_eq-same, Known, WhatFits, awaits, has_bytes}
+use Rattle.dm_mirror.proofs.Names.{piece_fits, status_awaits, both, block_what, gone_what, kill_what, read_what, resume_what, stop_what, user_what, write_what, written_what, inl, inr, zero, suc, ◌/◌, is_some, if◌then◌else◌, option_map}
+use Rattle.dm_mirror.proofs.Names.{cases_Bool, pid_of, HasTaken, first_number, alive-is, blocks_of, taken_at, taken_by, taken_of_home, takes_room, IsLawfulState, of_known, MadeStands, [], map, plain_manager, IsForManager, pending_request}
+use Rattle.dm_mirror.proofs.Names.{OneKernel, front, ForWhom, for_whom, home_of, create_what, created_what, no_room_what, FitsKernel, managed_fits, user_fits, PendingKind, move_what, moved_what, IsPending, Pending, FitsEnded, or-left}
+use Rattle.dm_mirror.proofs.Names.{or-right}
 use Rattle.dm_kernel.specs.May.{MayAct}
 pub use Rattle.dm_rulelaws.proofs.Goes.Servers.{server_fixed as fixed_server}
 use Rattle.dm_kernel.specs.State as machine
@@ -22,9 +22,8 @@ pub record FrontSo (pt : Point) (m : ℕ) (i : MsgId) (x : Message) (p : PlainMe
   pub id : x.id ≡ i
   pub to : x.to.pid ≡ p.to
   pub what_is : plain_what x.what ≡ Some p.what
-  -- a kernel or a server is at home here, and of a process something is known
+  -- a kernel or a server is at home here
   pub home : is_fixed p.to ≡ true → p.to.home ≡ m
-  pub known : is_fixed p.to ≡ false → pt.view.known m p.to ≢ Unknown
   pub fits : WhatFits pt.kernel i p p.what
 
 pub front_so : (b : Boot) (pt : Point) (l : Placed) (m : ℕ) (i : MsgId) (is : List MsgId) (x : Message) (p : PlainMessage) → Run b pt → Mirrors pt.kernel pt.view pt.addresses l → pt.view.inbox m ≡ i ∷ is → l.bag i ≡ Some x → plain_message x ≡ Some p → FrontSo pt m i x p
@@ -32,14 +31,12 @@ front_so b pt l m i is x p run mirrors box there plainly =
     let is_ : pt.kernel.bag i ≡ Some p = sym (plainly_is pt.kernel l i x (mirrors.plain.bag i) there) ∙ plainly in
     let k : (x.to.pid ≡ p.to) × ((plain_what x.what) ≡ Some p.what) = grind (arith, nat_tests) in
     let f = front b m pt i is p box is_ run in
-    let to = told_receiver b m pt i p f in
     record {
       there = is_;
       id = (mirrors.places.message i x there).id;
       to = k.0;
       what_is = k.1;
       home = λ fixed. home_of b m pt i p fixed f;
-      known = λ loose none. run.found.process i (Inbox m) f.told f.first f.told_is (ap is_fixed to ∙ loose) (ap (pt.view.known m) to ∙ none);
       fits = run.based.fits.messages i p is_;
     }
 
@@ -167,8 +164,8 @@ pub record HereSo (pt : Point) (l : Placed) (m : ℕ) (p : Pid) (x : Process) : 
   pub there : l.processes p ≡ Some (record x { queue = queue })
   pub life : pt.kernel.processes p ≡ Some (Alive (plain_process x))
 
-here_of : (pt : Point) (l : Placed) (p : Pid) (ids held_ : List MsgId) (k : Known) (x : Process) → KnownStands pt l p ids held_ k (Some (Record.Here x)) → (k ≡ Known.Here) × ((q : List Message) × (l.processes p ≡ Some (record x { queue = q })))
-here_of pt l p ids held_ k x h = grind (arith, nat_tests)
+here_of : (l : Placed) (p : Pid) (ids held_ : List MsgId) (k : Known) (x : Process) → KnownStands l p ids held_ k (Some (Record.Here x)) → (k ≡ Known.Here) × ((q : List Message) × (l.processes p ≡ Some (record x { queue = q })))
+here_of l p ids held_ k x h = grind (arith, nat_tests)
 
 -- what a process of the kernel with places is without them
 pub life_is : (pt : Point) (l : Placed) (p : Pid) (x : Process) → Mirrors pt.kernel pt.view pt.addresses l → l.processes p ≡ Some x → pt.kernel.processes p ≡ Some (Alive (plain_process x))
@@ -176,7 +173,7 @@ life_is pt l p x mirrors there = alive-is (pt.kernel.processes p) (plain_process
 
 pub here_so : (b : Boot) (pt : Point) (l : Placed) (m : ℕ) (k : KernelState) (p : Pid) (x : Process) → Mirrors pt.kernel pt.view pt.addresses l → KernelStands b pt l m k → is_server p ≡ false → k.records p ≡ Some (Record.Here x) → HereSo pt l m p x
 here_so b pt l m k p x mirrors h server is =
-    let (known, (q, there)) = here_of pt l p (pt.view.queue m p) (pt.view.held m p) (pt.view.known m p) x (subst (KnownStands pt l p (pt.view.queue m p) (pt.view.held m p) (pt.view.known m p)) is (h.known p server)) in
+    let (known, (q, there)) = here_of l p (pt.view.queue m p) (pt.view.held m p) (pt.view.known m p) x (subst (KnownStands l p (pt.view.queue m p) (pt.view.held m p) (pt.view.known m p)) is (h.known p server)) in
     record { known = known; queue = q; there = there; life = life_is pt l p (record x { queue = q }) mirrors there }
 
 -- what takes room on a machine has its slot and its blocks
@@ -199,7 +196,7 @@ may_act b pt l m k made counts mirrors h lawful p x is =
       has_taken b pt l m k p x made h (ap takes_room so.known) so.life,
     )
 
--- A message for a process, where the process is here or has ended here: a piece lies in its memory, an answer is the one that it
+-- A message for a process, where the process is here or has ended: a piece lies in its memory, an answer is the one that it
 -- waits for.
 
 -- a piece within the memory
@@ -234,51 +231,53 @@ awaits_alive pt y i p w to life e = sym (ap (λ (o : Option Life). awaits o i.n 
 
 -- it is here, a row a kind
 here_row : (k : KernelState) (pt : Point) (y : Process) (i : MsgId) (x : Message) (p : PlainMessage) (w : PlainWhat) → plain_what x.what ≡ Some w → WhatFits pt.kernel i p w → pt.kernel.processes p.to ≡ Some (Alive (plain_process y)) → x.id ≡ i
-    → (p.to.num == 0) ≡ false → pid_eq p.to manager ≡ false → (y.moves < 4294967295) × (k.sent < 4294967295) → FitsHere k x y x.what
-here_row k pt y i x p (PlainWhat.User code channel body links) e fits life id num other few = subst (FitsHere k x y) (sym (user_what x.what code channel body links e).is) tt
-here_row k pt y i x p PlainWhat.Stop e fits life id num other few = subst (FitsHere k x y) (sym (stop_what x.what e)) tt
-here_row k pt y i x p PlainWhat.Resume e fits life id num other few = subst (FitsHere k x y) (sym (resume_what x.what e)) tt
-here_row k pt y i x p PlainWhat.Kill e fits life id num other few = subst (FitsHere k x y) (sym (kill_what x.what e)) tt
-here_row k pt y i x p (PlainWhat.Read base len) e fits life id num other few =
+    → (p.to.num == 0) ≡ false → pid_eq p.to manager ≡ false → (y.moves < 4294967295) × (k.sent < 4294967295) → k.sent + 16 ≤ 4294967295 → FitsHere k x y x.what
+here_row k pt y i x p (PlainWhat.User code channel body links) e fits life id num other few all = subst (FitsHere k x y) (sym (user_what x.what code channel body links e).is) tt
+here_row k pt y i x p PlainWhat.Stop e fits life id num other few all = subst (FitsHere k x y) (sym (stop_what x.what e)) tt
+here_row k pt y i x p PlainWhat.Resume e fits life id num other few all = subst (FitsHere k x y) (sym (resume_what x.what e)) tt
+here_row k pt y i x p PlainWhat.Kill e fits life id num other few all = subst (FitsHere k x y) (sym (kill_what x.what e)) all
+here_row k pt y i x p (PlainWhat.Read base len) e fits life id num other few all =
     let is = read_what x.what base len e in
     subst (FitsHere k x y) (sym is) (subst (IsWithin (length y.memory)) (sym is) (within_memory (base + len) y (pt.kernel.processes p.to) life fits.0))
-here_row k pt y i x p (PlainWhat.Write base bytes) e fits life id num other few =
+here_row k pt y i x p (PlainWhat.Write base bytes) e fits life id num other few all =
     let q = write_what x.what base bytes e in
     let long : length q.body.items ≡ length bytes = ap length q.bytes_are in
     let le = within_memory (base + length bytes) y (pt.kernel.processes p.to) life fits.0 in
     subst (FitsHere k x y) (sym q.is) (subst (IsWithin (length y.memory)) (sym q.is) (let h : base + length q.body.items ≤ length y.memory = omega (arith, long, le) in h))
-here_row k pt y i x p (PlainWhat.Block bytes) e fits life id num other few =
+here_row k pt y i x p (PlainWhat.Block bytes) e fits life id num other few all =
     subst (FitsHere k x y) (sym (block_what x.what bytes e).is)
     (awaited_by y.status i.n x (PlainWhat.Block bytes) (ap (λ (j : MsgId). j.n) id) e (awaits_alive pt y i p.to (PlainWhat.Block bytes) fits.0 life fits.1) (block_answer x bytes e))
-here_row k pt y i x p PlainWhat.Written e fits life id num other few =
+here_row k pt y i x p PlainWhat.Written e fits life id num other few all =
     subst (FitsHere k x y) (sym (written_what x.what e))
     (awaited_by y.status i.n x PlainWhat.Written (ap (λ (j : MsgId). j.n) id) e (awaits_alive pt y i p.to PlainWhat.Written fits.0 life fits.1) (written_answer x e))
-here_row k pt y i x p PlainWhat.Gone e fits life id num other few =
+here_row k pt y i x p PlainWhat.Gone e fits life id num other few all =
     subst (FitsHere k x y) (sym (gone_what x.what e))
     (awaited_by y.status i.n x PlainWhat.Gone (ap (λ (j : MsgId). j.n) id) e (awaits_alive pt y i p.to PlainWhat.Gone fits.0 life fits.1) (gone_answer x e))
-here_row k pt y i x p (PlainWhat.Create image links) e fits life id num other few = absurd (let z : p.to.num ≡ 0 = fits.0 in let t : (p.to.num == 0) ≡ true = grind (arith, nat_tests) in false≢true (sym num ∙ t))
-here_row k pt y i x p (PlainWhat.Move machine_) e fits life id num other few = subst (FitsHere k x y) (sym (move_what x.what machine_ e)) few
-here_row k pt y i x p _ e fits life id num other few = absurd (false≢true (sym other ∙ (ap (λ (q : Pid). pid_eq q manager) fits.0 ∙ pid_eq-same manager)))
+here_row k pt y i x p (PlainWhat.Create image links) e fits life id num other few all = absurd (let z : p.to.num ≡ 0 = fits.0 in let t : (p.to.num == 0) ≡ true = grind (arith, nat_tests) in false≢true (sym num ∙ t))
+here_row k pt y i x p (PlainWhat.Move machine_) e fits life id num other few all = subst (FitsHere k x y) (sym (move_what x.what machine_ e)) few
+here_row k pt y i x p _ e fits life id num other few all = absurd (false≢true (sym other ∙ (ap (λ (q : Pid). pid_eq q manager) fits.0 ∙ pid_eq-same manager)))
 
--- where nothing is known of a process there is no record of it, and only there
-pub known_some : (pt : Point) (l : Placed) (p : Pid) (ids held_ : List MsgId) (k : Known) → KnownStands pt l p ids held_ k None → k ≡ Known.Unknown
-known_some pt l p ids held_ k h = grind (arith, nat_tests)
+-- a process without a record, which has ended, may get this
+unknown_fits : (k : KernelState) (x : Message) → is_server x.to.pid ≡ false → FitsEnded x.what → FitsKnown k x None
+unknown_fits k x server fits = record {
+  board = λ is. absurd (false≢true (sym (or-left (pid_eq x.to.pid switchboard) (pid_eq x.to.pid manager) server) ∙ is));
+  manager = λ is. absurd (false≢true (sym (or-right (pid_eq x.to.pid switchboard) (pid_eq x.to.pid manager) server) ∙ is));
+  ended = λ off. fits;
+}
 
 -- what the machine knows of it
 -- it has ended
 pub process_row : (b : Boot) (pt : Point) (l : Placed) (m : ℕ) (k : KernelState) (i : MsgId) (x : Message) (p : PlainMessage) (o : Option machine.KernelKnown) → Mirrors pt.kernel pt.view pt.addresses l → KernelStands b pt l m k
     → CountsFew pt
-    → k.sent < 4294967295 → FrontSo pt m i x p
+    → k.sent < 4294967295 → k.sent + 16 ≤ 4294967295 → FrontSo pt m i x p
     → (p.to.num == 0) ≡ false → pid_eq p.to manager ≡ false → is_server p.to ≡ false → k.records p.to ≡ o → FitsKnown k x o
-process_row b pt l m k i x p None mirrors h counts sent f num other server is =
-    absurd (f.known (ap (λ (c : Bool). c || is_server p.to) num ∙ server) (known_some pt l p.to (pt.view.queue m p.to) (pt.view.held m p.to) (pt.view.known m p.to) (subst (KnownStands pt l p.to (pt.view.queue m p.to) (pt.view.held m p.to) (pt.view.known m p.to)) is (h.known p.to server))))
-process_row b pt l m k i x p (Some (Record.Here y)) mirrors h counts sent f num other server is =
+process_row b pt l m k i x p None mirrors h counts sent all f num other server is = unknown_fits k x (ap is_server f.to ∙ server) (let fits : FitsEnded x.what = grind (arith, nat_tests, pid_eq-same, f.what_is, f.fits) in fits)
+process_row b pt l m k i x p (Some (Record.Here y)) mirrors h counts sent all f num other server is =
     let so = here_so b pt l m k p.to y mirrors h server is in
     let moves = (mirrors.places.process p.to (record y { queue = so.queue }) so.there).moves in
-    here_row k pt y i x p p.what f.what_is f.fits so.life f.id num other (omega (arith, moves, counts.moves p.to), sent)
-process_row b pt l m k i x p (Some (Record.Forward place moves)) mirrors h counts sent f num other server is = sent
-process_row b pt l m k i x p (Some Record.Ended) mirrors h counts sent f num other server is = grind (arith, nat_tests, pid_eq-same, f.what_is, f.fits)
-process_row b pt l m k i x p _ mirrors h counts sent f num other server is = tt
+    here_row k pt y i x p p.what f.what_is f.fits so.life f.id num other (omega (arith, moves, counts.moves p.to), sent) all
+process_row b pt l m k i x p (Some (Record.Forward place moves)) mirrors h counts sent all f num other server is = sent
+process_row b pt l m k i x p _ mirrors h counts sent all f num other server is = tt
 
 -- A kernel's own message at the front of a machine's inbox is one that the machine can handle: for a process or a server.
 
@@ -288,15 +287,14 @@ pub record OwnFront (pt : Point) (l : Placed) (m : ℕ) (i : MsgId) (x : Message
   pub told : pt.view.told i ≡ Some (told_of x)
   pub sort : own_sort (kind_of x.what) x.to.pid (about_of x.what) ≡ true
   pub first : 1 ≤ standing pt.view i (Inbox m)
-  -- a kernel or a server is at home here, and of a process something is known
+  -- a kernel or a server is at home here
   pub home : is_fixed x.to.pid ≡ true → m ≡ x.to.pid.home
-  pub known : is_fixed x.to.pid ≡ false → pt.view.known m x.to.pid ≢ Unknown
 
 pub own_front : (b : Boot) (pt : Point) (l : Placed) (m : ℕ) (i : MsgId) (is : List MsgId) (x : Message) → Run b pt → OwnTold pt → AllOwnStand pt.view l → pt.view.inbox m ≡ i ∷ is → l.bag i ≡ Some x → plain_message x ≡ None → OwnFront pt l m i x
 own_front b pt l m i is x run own stand box there plain =
     let s = stand i x there plain in
     let first = stands_first pt.view m i is box in
-    search (own.own i (told_of x) s.told s.mine, run.found.fixed i (Inbox m) (told_of x) first s.told, run.found.process i (Inbox m) (told_of x) first s.told)
+    search (own.own i (told_of x) s.told s.mine, run.found.fixed i (Inbox m) (told_of x) first s.told)
 
 own_here : (k : KernelState) (x : Message) (y : Process) (q : Pid) (w : What) → own_sort (kind_of w) q (about_of w) ≡ true → (q.num == 0) ≡ false → y.moves < 4294967295 → k.sent < 4294967295 → FitsHere k x y w
 own_here k x y q (What.Migrate m) e num few sent = (few, sent)
@@ -307,16 +305,13 @@ own_here k x y q _ e num few sent = absurd (grind (arith, nat_tests))
 pub own_row : (b : Boot) (pt : Point) (l : Placed) (m : ℕ) (k : KernelState) (i : MsgId) (x : Message) (o : Option machine.KernelKnown) → Mirrors pt.kernel pt.view pt.addresses l → KernelStands b pt l m k → CountsFew pt
     → k.sent < 4294967295 → OwnFront pt l m i x
     → (x.to.pid.num == 0) ≡ false → is_server x.to.pid ≡ false → k.records x.to.pid ≡ o → FitsKnown k x o
-own_row b pt l m k i x None mirrors h counts sent f num server is =
-    let p = x.to.pid in
-    absurd (f.known (ap (λ (c : Bool). c || is_server p) num ∙ server) (known_some pt l p (pt.view.queue m p) (pt.view.held m p) (pt.view.known m p) (subst (KnownStands pt l p (pt.view.queue m p) (pt.view.held m p) (pt.view.known m p)) is (h.known p server))))
+own_row b pt l m k i x None mirrors h counts sent f num server is = unknown_fits k x server (let fits : FitsEnded x.what = grind (arith, nat_tests, f.sort) in fits)
 own_row b pt l m k i x (Some (Record.Here y)) mirrors h counts sent f num server is =
     let p = x.to.pid in
     let so = here_so b pt l m k p y mirrors h server is in
     let moves = (mirrors.places.process p (record y { queue = so.queue }) so.there).moves in
     own_here k x y p x.what f.sort num (omega (arith, moves, counts.moves p)) sent
 own_row b pt l m k i x (Some (Record.Forward place moves)) mirrors h counts sent f num server is = sent
-own_row b pt l m k i x (Some Record.Ended) mirrors h counts sent f num server is = grind (arith, nat_tests, f.sort)
 own_row b pt l m k i x _ mirrors h counts sent f num server is = tt
 
 -- at a server: the places that it keeps can be counted

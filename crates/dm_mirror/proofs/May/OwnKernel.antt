@@ -5,7 +5,7 @@ use Rattle.dm_mirror.proofs.Names.{kind_of, IsLawfulMessage, Process, IsLawfulPr
 use Rattle.dm_mirror.proofs.Names.{is_early, tells_onward, is_restart, kind_leaves, receiver_in, sender_in, Point, Inbox, standing, Known, Frozen, Incoming, Of, Told, token_at, is_server, Run, Placed, IsSuch, KernelState, about_of}
 use Rattle.dm_mirror.proofs.Names.{ComesStand, KernelStands, LeavesStand, Carries, TokensStand, Wants, destination_of, eq_self, apart_is, inbox_is, ◌<◌, ◌||◌, [], IsSome, Chunk, Block, Nothing, IsNextPiece, block_of, chunk_of, coming}
 use Rattle.dm_mirror.proofs.Names.{by_pieces, takes_room, own_sort, Mirrors, FitsKernel, MayLeave, MayRestart, MadeStands, nat_tests, Asker, sort_of, List, Cargo, CanBeCarried, cargo_at, cargo_of, ask_for, IsIn, cases_Bool, inl, inr}
-use Rattle.dm_mirror.proofs.Names.{LeftCarries, is_due_piece, is_expected, pulls_piece, is_calloff, is_waited_from}
+use Rattle.dm_mirror.proofs.Names.{LeftCarries, is_due_piece, is_expected, pulls_piece, is_calloff, is_waited_from, ◌+◌}
 use Rattle.dm_migrate.specs.Way.{moved}
 use Rattle.dm_mirror.proofs.May.Own.{OwnFront, has_taken, life_is}
 use Rattle.dm_mirror.proofs.Turning.{is_moving}
@@ -241,39 +241,39 @@ awaited_due b pt l ks m i x p h num expected =
     let waits = expected_waits b pt l m (ks m) p x.id.from.home (is_server p) refl (h.nodes m h.within) expected in
     (λ j. is_waited_from (sym (ap (λ (q : MsgId). q.from.home) (h.mirrors.places.message i x h.front.there).id) j) (pt.view.known (home_is b pt l ks m i x h num j) p)) ∙ waits
 
-kernel_row : (b : Boot) (pt : Point) (l : Placed) (ks : ℕ → KernelState) (m : ℕ) (i : MsgId) (x : Message) (w : What) → x.what ≡ w → Around b pt l ks m i x → (x.to.pid.num == 0) ≡ true → (ks m).sent < 4294967295 → FitsKernel b (ks m) x w
-kernel_row b pt l ks m i x (What.Ask pid blocks moves size asker) e h num sent =
+kernel_row : (b : Boot) (pt : Point) (l : Placed) (ks : ℕ → KernelState) (m : ℕ) (i : MsgId) (x : Message) (w : What) → x.what ≡ w → Around b pt l ks m i x → (x.to.pid.num == 0) ≡ true → (ks m).sent < 4294967295 → (ks m).sent + 16 ≤ 4294967295 → FitsKernel b (ks m) x w
+kernel_row b pt l ks m i x (What.Ask pid blocks moves size asker) e h num sent all =
     let t = token_of b pt l ks m i x (What.Ask pid blocks moves size asker) pid e h.run h.tokens h.front refl refl refl in
     (asks_to_come b pt l ks m i x (What.Ask pid blocks moves size asker) pid h t refl t.carries, sent)
-kernel_row b pt l ks m i x (What.Refuse pid slots blocks) e h num sent =
+kernel_row b pt l ks m i x (What.Refuse pid slots blocks) e h num sent all =
     let t = token_of b pt l ks m i x (What.Refuse pid slots blocks) pid e h.run h.tokens h.front refl refl refl in
     let d = source_leaves b pt l m (ks m) pid MessageKind.Refuse h.run (h.nodes m h.within) t.moved refl refl in
     subst (λ (o : Option Departure). IsSome o) (sym (ap frozen_of d.is)) refl
-kernel_row b pt l ks m i x (What.PullState pid chunk) e h num sent = elim (cases_Bool (is_due_piece pt.view pid i (own_told x (What.PullState pid chunk)))) [
+kernel_row b pt l ks m i x (What.PullState pid chunk) e h num sent all = elim (cases_Bool (is_due_piece pt.view pid i (own_told x (What.PullState pid chunk)))) [
   | inl due ↦ chunk_due b pt l ks m i x pid chunk e h num sent due
   | inr off ↦ chunk_left b pt l ks m i x pid chunk e h num sent off
 ]
-kernel_row b pt l ks m i x (What.State pid chunk last bytes) e h num sent = λ expected.
+kernel_row b pt l ks m i x (What.State pid chunk last bytes) e h num sent all = λ expected.
     let w = What.State pid chunk last bytes in
     let t = token_of b pt l ks m i x w pid e h.run h.tokens h.front refl refl (awaited_due b pt l ks m i x pid h num expected) in
     let c = destination_comes b pt l m (ks m) pid MessageKind.State h.run (h.nodes m h.within) t.moved refl refl refl in
     let wanted = subst (λ (v : Option Arrival). Wants v (Chunk chunk)) (ap (λ (n : ℕ). incoming_of ((ks n).records pid)) (home_is b pt l ks m i x h num) ∙ ap incoming_of c.is) t.carries.2 in
     (incoming_is (ks m) pid c.arrival (λ (a : Arrival). IsNextPiece a w) c.is (next_chunk l pid c.from (pt.view.held m pid) t.cargo c.arrival w chunk t.there c.stands wanted t.carries.0 t.carries.1.1), sent)
-kernel_row b pt l ks m i x (What.PullBlock pid block) e h num sent = elim (cases_Bool (is_due_piece pt.view pid i (own_told x (What.PullBlock pid block)))) [
+kernel_row b pt l ks m i x (What.PullBlock pid block) e h num sent all = elim (cases_Bool (is_due_piece pt.view pid i (own_told x (What.PullBlock pid block)))) [
   | inl due ↦ block_due b pt l ks m i x pid block e h num sent due
   | inr off ↦ block_left b pt l ks m i x pid block e h num sent off
 ]
-kernel_row b pt l ks m i x (What.Memory pid block bytes) e h num sent = λ expected.
+kernel_row b pt l ks m i x (What.Memory pid block bytes) e h num sent all = λ expected.
     let w = What.Memory pid block bytes in
     let t = token_of b pt l ks m i x w pid e h.run h.tokens h.front refl refl (awaited_due b pt l ks m i x pid h num expected) in
     let c = destination_comes b pt l m (ks m) pid MessageKind.Memory h.run (h.nodes m h.within) t.moved refl refl refl in
     let wanted = subst (λ (v : Option Arrival). Wants v (Block block)) (ap (λ (n : ℕ). incoming_of ((ks n).records pid)) (home_is b pt l ks m i x h num) ∙ ap incoming_of c.is) t.carries.2 in
     (incoming_is (ks m) pid c.arrival (λ (a : Arrival). IsNextPiece a w) c.is (next_block l pid c.from (pt.view.held m pid) t.cargo c.arrival w block t.there c.stands wanted t.carries.0 t.carries.1.1), sent)
-kernel_row b pt l ks m i x (What.AllTaken pid) e h num sent =
+kernel_row b pt l ks m i x (What.AllTaken pid) e h num sent all =
     let t = token_of b pt l ks m i x (What.AllTaken pid) pid e h.run h.tokens h.front refl refl refl in
     let d = source_leaves b pt l m (ks m) pid MessageKind.AllTaken h.run (h.nodes m h.within) t.moved refl refl in
     (frozen_is (ks m) pid d.departure (MayLeave (ks m).room) d.is (leaves_here b pt l ks m i x pid h d), sent)
-kernel_row b pt l ks m i x (What.Restart pid) e h num sent =
+kernel_row b pt l ks m i x (What.Restart pid) e h num sent all =
     let t = token_of b pt l ks m i x (What.Restart pid) pid e h.run h.tokens h.front refl refl refl in
     let c = destination_comes b pt l m (ks m) pid MessageKind.Restart h.run (h.nodes m h.within) t.moved refl refl refl in
     let wanted = subst (λ (v : Option Arrival). Wants v Nothing) (ap (λ (n : ℕ). incoming_of ((ks n).records pid)) (home_is b pt l ks m i x h num) ∙ ap incoming_of c.is) t.carries.1 in
@@ -286,13 +286,14 @@ kernel_row b pt l ks m i x (What.Restart pid) e h num sent =
       restarts = comes_again l pid c.from (pt.view.held m pid) c.arrival z of.there wanted c.stands;
       lawful = moved_lawful (record z { queue = [] }) carried.0.lawful;
     })
-kernel_row b pt l ks m i x (What.CallOff pid) e h num sent =
+kernel_row b pt l ks m i x (What.CallOff pid) e h num sent all =
     let t = token_of b pt l ks m i x (What.CallOff pid) pid e h.run h.tokens h.front refl refl refl in
     let d = source_leaves b pt l m (ks m) pid MessageKind.CallOff h.run (h.nodes m h.within) t.moved refl refl in
     subst (λ (o : Option Departure). IsSome o) (sym (ap frozen_of d.is)) refl
-kernel_row b pt l ks m i x (What.Migrate machine_) e h num sent = absurd (false≢true (sym (ap (λ (c : Bool). not (c || is_server x.to.pid) && true) num) ∙ sorted_of b pt l ks m i x (What.Migrate machine_) e h))
-kernel_row b pt l ks m i x (What.Update about) e h num sent = absurd (false≢true (sym (ap (λ (c : Bool). not c && true) num) ∙ sorted_of b pt l ks m i x (What.Update about) e h))
-kernel_row b pt l ks m i x any_ e h num sent = absurd (false≢true (sorted_of b pt l ks m i x any_ e h))
+kernel_row b pt l ks m i x (What.Bury pid) e h num sent all = all
+kernel_row b pt l ks m i x (What.Migrate machine_) e h num sent all = absurd (false≢true (sym (ap (λ (c : Bool). not (c || is_server x.to.pid) && true) num) ∙ sorted_of b pt l ks m i x (What.Migrate machine_) e h))
+kernel_row b pt l ks m i x (What.Update about) e h num sent all = absurd (false≢true (sym (ap (λ (c : Bool). not c && true) num) ∙ sorted_of b pt l ks m i x (What.Update about) e h))
+kernel_row b pt l ks m i x any_ e h num sent all = absurd (false≢true (sorted_of b pt l ks m i x any_ e h))
 
-pub own_kernel : (b : Boot) (pt : Point) (l : Placed) (ks : ℕ → KernelState) (m : ℕ) (i : MsgId) (x : Message) → Around b pt l ks m i x → (x.to.pid.num == 0) ≡ true → (ks m).sent < 4294967295 → FitsKernel b (ks m) x x.what
-own_kernel b pt l ks m i x h num sent = kernel_row b pt l ks m i x x.what refl h num sent
+pub own_kernel : (b : Boot) (pt : Point) (l : Placed) (ks : ℕ → KernelState) (m : ℕ) (i : MsgId) (x : Message) → Around b pt l ks m i x → (x.to.pid.num == 0) ≡ true → (ks m).sent < 4294967295 → (ks m).sent + 16 ≤ 4294967295 → FitsKernel b (ks m) x x.what
+own_kernel b pt l ks m i x h num sent all = kernel_row b pt l ks m i x x.what refl h num sent all

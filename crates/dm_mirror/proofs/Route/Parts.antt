@@ -184,7 +184,7 @@ both_apart a id x y h e f = ap (λ (t : Bool). if t then x else if holder_eq (Se
 gives_apart : (a : Addresses) (s : OneKernel) (v : View) (c : Addresses) (id : MsgId) (q : Pid) (k : Sort) (h : Holder) → holder_eq (Receiver id) h ≡ false → holder_eq (Sender id) h ≡ false → given a (own_given s v c id q k) h ≡ a h
 gives_apart a s v c id q Sort.Request h e f = both_apart a id (option_map_or (λ n. c (Child n)) (child_number s q) (unmoved 0)) (unmoved v.acting) h e f
 gives_apart a s v c id q (Sort.Between passage) h e f = both_apart a id (unmoved q.home) (unmoved v.acting) h e f
-gives_apart a s v c id q Sort.Unsent h e f = both_apart a id (unmoved q.home) (unmoved v.acting) h e f
+gives_apart a s v c id q Sort.Buries h e f = both_apart a id (unmoved q.home) (unmoved v.acting) h e f
 gives_apart a s v c id q k h e f = refl
 
 -- a put of one of the kernel's own

@@ -4,8 +4,8 @@ use Rattle.dm_mirror.proofs.Names.{◌≡◌, ℕ, ◌≤◌, Bool, true, false,
 use Rattle.dm_mirror.proofs.Names.{nat_tests, plain_message, incoming_of, Boot, bind, id_eq-is, id_eq-same, first_gives, own_given, is_between, Point, Spot, standing, Of, Told, View, after_put, first_told, is_kernels, put_at, put_spots}
 use Rattle.dm_mirror.proofs.Names.{PairsFit, put_told_off, Sane, plain_not, Placed, Mirrors, KeepsPlaces, lines_keep, routed_keeps, told_keeps, own_put_mirrors, WorldState, AllOwnStand, OwnStands, told_of, History, StandsWith, AllRecords}
 use Rattle.dm_mirror.proofs.Names.{Carries, TokensStand, destination_of, first_none, length, ◌⊎◌, at_machine, is_full, routes, Acted, Goes, Worn, spoken, Line, Load, Stage, OneKernel, Addresses, given, moved, at_id, About, sort_of, ◌≢◌}
-use Rattle.dm_mirror.proofs.Names.{◌<◌, ◌==◌, List, ◌∷◌, map, drop, slice_get, Record, Process, Departure, Arrival, KernelState, room_of, NodeState, Known, Unknown, Here, Frozen, Incoming, Forward, Ended, AreMessages, ComesStand}
-use Rattle.dm_mirror.proofs.Names.{HereStands, KernelStands, KnownStands, LeavesStand, NodeStands, PairStands, RoomStands, servers_at, CanBeCarried, IsSuch, cargo_at}
+use Rattle.dm_mirror.proofs.Names.{◌<◌, ◌==◌, List, ◌∷◌, map, drop, slice_get, Record, Process, Departure, Arrival, KernelState, room_of, NodeState, Known, Unknown, Here, Frozen, Incoming, Forward, AreMessages, ComesStand, HereStands}
+use Rattle.dm_mirror.proofs.Names.{KernelStands, KnownStands, LeavesStand, NodeStands, PairStands, RoomStands, servers_at, CanBeCarried, IsSuch, cargo_at}
 use Rattle.dm_places.specs.PlacedStep.{with_message}
 pub use Rattle.dm_rulelaws.proofs.Based.Queues.{told_kept as told_stays}
 use Rattle.dm_mirror.proofs.Turning.{Route, First, On, Own, MayOwn, MayPut, IsCarried, message_of, rule_part_of, Late, Nothing, Leaves, LateTopic, late_point}
@@ -67,13 +67,12 @@ module _ (b : Boot) (pt : Point) (l u : Placed) (a : Addresses) (e : MoreBag l u
     held = messages_more l.bag u.bag e.bag held x.held h.held;
   }
 
-  known_more : (p : Pid) (queue held : List MsgId) (k : Known) (r : Option machine.KernelKnown) → KnownStands pt l p queue held k r → KnownStands next u p queue held k r
+  known_more : (p : Pid) (queue held : List MsgId) (k : Known) (r : Option machine.KernelKnown) → KnownStands l p queue held k r → KnownStands u p queue held k r
   known_more p queue held Unknown None h = h
   known_more p queue held Here (Some (Record.Here x)) h = here_more p queue x h
   known_more p queue held (Frozen to) (Some (Record.Frozen d)) h = leaves_more p queue held to d h
   known_more p queue held (Incoming from) (Some (Record.Incoming x)) h = comes_more p from held x h
   known_more p queue held (Forward to moves) (Some (Record.Forward at n)) h = h
-  known_more p queue held Ended (Some Record.Ended) h = h
   known_more p queue held k r h = h
 
   servers_more : (m : ℕ) → servers_at u m ≡ servers_at l m

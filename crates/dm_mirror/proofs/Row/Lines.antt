@@ -1,14 +1,14 @@
 -- Behind the lines of a still row as many pieces were asked for as before, and a kernel's own message that stands somewhere stood there before.
 use Rattle.dm_mirror.proofs.Names.{◌≡◌, ℕ, ◌≤◌, ◌&&◌, Bool, true, false, List, [], ◌∷◌, ◌++◌, map, refl, ap, ◌∙◌, subst, arith, Option, None, Some, false≢true, Pid, MsgId, nat_tests, MessageKind, Label, OneKernel, bind, id_eq-is, pid_eq-is}
 use Rattle.dm_mirror.proofs.Names.{bind-is, Line, Says, Point, after, after_line, kernel_after, label_of, moved, without_front, without_id, Spot, times, standing, View, Told, after_label, view_after, handled, queued_for, dropped_for}
-use Rattle.dm_mirror.proofs.Names.{receiver_of, is_kernels, eq_is, queued_spots, Needs, Walks, not, ⊤, Message, PlainMessage, Step, Boot, letter_of, Phased, told_some, Begins, WalksOf, resting, round_walks, handles_walks, by_hears}
-use Rattle.dm_mirror.proofs.Names.{about_off, seen, sort_of, is_waited_from, knowing, NeedsLabel, Resting, is_kill, ◌==◌, if◌then◌else◌, sym, Known, Here, Ended, pid_eq, eqb-true}
+use Rattle.dm_mirror.proofs.Names.{receiver_of, is_kernels, eq_is, queued_spots, Needs, Walks, not, ⊤, PlainMessage, Step, Boot, letter_of, Phased, told_some, Begins, WalksOf, resting, round_walks, handles_walks, by_hears, about_off, seen}
+use Rattle.dm_mirror.proofs.Names.{sort_of, is_waited_from, knowing, NeedsLabel, Resting, is_kill, ◌==◌, if◌then◌else◌, sym, Known, Here, Unknown, pid_eq, eqb-true}
 use Rattle.dm_rule.proofs.Names.{Part}
 use Rattle.dm_rule.proofs.Lines.{parts}
 use Rattle.dm_rulelaws.specs.KnownStands.{KnownStands}
 use Rattle.dm_rulelaws.proofs.Based.Groups.{begins}
 use Rattle.dm_rulelaws.proofs.Based.Rows.{turned}
-use Rattle.dm_mirror.proofs.Turning.{is_still, are_still, rule_routed}
+use Rattle.dm_mirror.proofs.Turning.{is_still, are_still, rule_given, Gives, Sends, Tells}
 use Rattle.dm_rule.specs.View as view
 use Rattle.dm_rule.specs.Rule as rule
 
@@ -23,7 +23,7 @@ id_fewer i j (x ∷ xs) = grind (arith, nat_tests, (id_fewer i j xs))
 abbrev pub Fewer : View → View → Type 0
 Fewer v w = (j : MsgId) (z : Spot) → standing w j z ≤ standing v j z
 
-fewer_on : (u v w : View) → Fewer u v → Fewer v w → Fewer u w
+pub fewer_on : (u v w : View) → Fewer u v → Fewer v w → Fewer u w
 fewer_on u v w g h j z = let a = g j z in let b = h j z in omega (arith, a, b)
 
 pub handled_fewer : (v : View) (i : MsgId) → Fewer v (handled v i)
@@ -72,13 +72,13 @@ set_by : (c : Bool) (x y : Known) (from : ℕ) → is_waited_from from x ≡ fal
 set_by true x y from e f = e ∙ sym (f refl)
 set_by false x y from e f = refl
 
-awaits_set : (v : View) (p : Pid) (x : Known) → ((from : ℕ) → is_waited_from from x ≡ false) → ((from : ℕ) → is_waited_from from (v.known v.acting p) ≡ false) → AwaitsAs v (knowing v p x)
+pub awaits_set : (v : View) (p : Pid) (x : Known) → ((from : ℕ) → is_waited_from from x ≡ false) → ((from : ℕ) → is_waited_from from (v.known v.acting p) ≡ false) → AwaitsAs v (knowing v p x)
 awaits_set v p x off was n q from = set_by ((v.acting == n) && pid_eq p q) x (v.known n q) from (off from) (λ e.
     let both = parts (v.acting == n) (pid_eq p q) e in
     ap (λ (a : ℕ). is_waited_from from (v.known a q)) (sym (eqb-true v.acting n both.0)) ∙ ap (λ (r : Pid). is_waited_from from (v.known v.acting r)) (sym (pid_eq-is p q both.1)) ∙ was from)
 
-rests_awaits : (v : View) (p : Pid) → Resting v p → AwaitsAs v (knowing v p Ended)
-rests_awaits v p h = awaits_set v p Ended (λ from. refl) (λ from. ap (is_waited_from from) h.here)
+rests_awaits : (v : View) (p : Pid) → Resting v p → AwaitsAs v (knowing v p Unknown)
+rests_awaits v p h = awaits_set v p Unknown (λ from. refl) (λ from. ap (is_waited_from from) h.here)
 
 kind_awaits : (v : View) (p : Pid) (k : MessageKind) → (is_kill k ≡ true → Resting v p) → AwaitsAs v (view.ends_by (sort_of k) v (Some p))
 kind_awaits v p MessageKind.Kill rests = rests_awaits v p (rests refl)
@@ -165,17 +165,19 @@ loud_of (Some ps) h = h ps refl
 pub hears_loud : (b : Boot) (pt : Point) (m : ℕ) (id : MsgId) (o : Option Told) → LoudOf (rule.hears b pt m id o)
 hears_loud b pt m id o = loud_of (rule.hears b pt m id o) (λ ps. by_hears Loud b pt m id o ps (λ t is. search))
 
--- a row that says only still lines, and may route a message
-abbrev pub still_parts : List Line → Option Message → List Part
-still_parts says route = map Part.Says says ++ rule_routed route
+-- a row that says only still lines, and may route messages
+abbrev pub still_parts : List Line → Gives → List Part
+still_parts says route = map Part.Says says ++ rule_given route
 
-still_not_loud : (says : List Line) (route : Option Message) → are_still says ≡ true → Loud (still_parts says route) → ⊥
-still_not_loud [] None e h = h
-still_not_loud [] (Some x) e h = false≢true h
+still_not_loud : (says : List Line) (route : Gives) → are_still says ≡ true → Loud (still_parts says route) → ⊥
+still_not_loud [] (Sends None) e h = h
+still_not_loud [] (Sends (Some x)) e h = false≢true h
+still_not_loud [] (Tells []) e h = h
+still_not_loud [] (Tells (x ∷ xs)) e h = false≢true h
 still_not_loud (l ∷ ls) route e h = grind (arith, nat_tests)
 
 -- each line of it has what it needs
-comes_walk : (b : Boot) (pt : Point) (m : ℕ) (i : MsgId) (o : Option PlainMessage) (says : List Line) (route : Option Message) → Begins pt m → pt.kernel.bag i ≡ o → are_still says ≡ true → rule.comes_to b pt m i o ≡ Some (still_parts says route)
+comes_walk : (b : Boot) (pt : Point) (m : ℕ) (i : MsgId) (o : Option PlainMessage) (says : List Line) (route : Gives) → Begins pt m → pt.kernel.bag i ≡ o → are_still says ≡ true → rule.comes_to b pt m i o ≡ Some (still_parts says route)
     → Walks (turned pt m) (still_parts says route)
 comes_walk b pt m i None says route h there still e = absurd (still_not_loud says route still (subst LoudOf e (hears_loud b pt m i (pt.view.told i))))
 comes_walk b pt m i (Some msg) says route h there still e =
@@ -183,11 +185,11 @@ comes_walk b pt m i (Some msg) says route h there still e =
     let (t, told) = told_some (pt.view.told i) msg.to (s.stands.told i msg.to (letter_of s.r s.e s.own pt.kernel i msg there s.sound)) in
     subst (WalksOf (turned pt m)) e (handles_walks b pt m i msg h.sane h.phases h.rooted h.known (record { there = there; told = t; is = told }))
 
-turn_walk : (b : Boot) (pt : Point) (m : ℕ) (inbox : List MsgId) (says : List Line) (route : Option Message) → Begins pt m → are_still says ≡ true → rule.turns b pt m inbox ≡ Some (still_parts says route) → Walks (turned pt m) (still_parts says route)
+turn_walk : (b : Boot) (pt : Point) (m : ℕ) (inbox : List MsgId) (says : List Line) (route : Gives) → Begins pt m → are_still says ≡ true → rule.turns b pt m inbox ≡ Some (still_parts says route) → Walks (turned pt m) (still_parts says route)
 turn_walk b pt m [] says route h still e =
     subst (WalksOf (turned pt m)) e
     (round_walks (turned pt m) b pt m (rule.first_runnable pt.kernel (pt.view.queue m) (pt.view.ring m)) (λ p is. resting (turned pt m).view p h.phases (h.rooted.served m p is)))
 turn_walk b pt m (i ∷ is) says route h still e = comes_walk b pt m i (pt.kernel.bag i) says route h refl still e
 
-pub row_walks : (b : Boot) (pt : Point) (m : ℕ) (says : List Line) (route : Option Message) → Phased pt → KnownStands pt.kernel pt.view → are_still says ≡ true → rule.outcome b pt (Step.Turn m) ≡ Some (still_parts says route) → Walks (turned pt m) (still_parts says route)
+pub row_walks : (b : Boot) (pt : Point) (m : ℕ) (says : List Line) (route : Gives) → Phased pt → KnownStands pt.kernel pt.view → are_still says ≡ true → rule.outcome b pt (Step.Turn m) ≡ Some (still_parts says route) → Walks (turned pt m) (still_parts says route)
 row_walks b pt m says route phased known still e = turn_walk b pt m (pt.view.inbox m) says route (begins pt m phased known) still e

@@ -2,8 +2,8 @@
 use Rattle.dm_mirror.proofs.Names.{◌≡◌, ℕ, ◌==◌, Bool, true, false, refl, ap, ◌∙◌, sym, subst, Option, None, Some, false≢true, Pid, pid_of, Message, MsgId, What, MessageKind, kind_of, plain_message, with_what, incoming_of, Arrival, Phase}
 use Rattle.dm_mirror.proofs.Names.{Moves, is_between, is_early, sender_in, told_between, Point, View, Told, is_kernels, InPhases, Placed, AllOwnStand, told_of, AllRecords, Carries, TokenStands, TokensStand, destination_of, List, [], ◌∷◌}
 use Rattle.dm_mirror.proofs.Names.{◌++◌, map, inl, inr, arith, eqb_tells, Boot, at_machine, Run, KernelState, nat_tests, Part, sort_of, Cargo, ◌||◌, is_restart, cargo_at, Wanted, IsIn, Wants, LeftStands, pulls_piece, IsLeft, is_calloff}
-use Rattle.dm_mirror.proofs.Names.{destination_expects, source_holds}
-use Rattle.dm_mirror.proofs.Turning.{is_moving, First, Nothing, Route, Row, TurnsAt, begun, owns, part_of, routed, rule_part_of, rule_routed}
+use Rattle.dm_mirror.proofs.Names.{destination_expects, source_holds, ◌+◌, length}
+use Rattle.dm_mirror.proofs.Turning.{is_moving, AllMayPut, AreCounted, AreGiven, First, Gives, Nothing, Own, Route, Row, Sends, Tells, TurnsAt, begun, given_parts, owns, part_of, rule_given, rule_own, rule_part_of}
 use Rattle.dm_mirror.proofs.Kernel.Sets.{eq_self, off_if, on_if, eq_apart}
 use Rattle.dm_mirror.proofs.Row.Lines.{StillKeeps, still_keeps, row_walks}
 use Rattle.dm_mirror.proofs.Serve.Stops.{nothing_more}
@@ -111,19 +111,43 @@ tokens_keep pt l records next placed after phases mine g own h p i t z told b ab
 
 -- A row that is no migration's is a turn: it leaves what moves, and the kernels' own messages, as they are.
 
--- the message that the row routes, as a route
-abbrev pub first_route : Option Message → List Route
-first_route None = []
-first_route (Some x) = First x ∷ []
+-- the messages that the row routes, as routes
+abbrev pub row_routes : Gives → List Route
+row_routes (Sends None) = []
+row_routes (Sends (Some x)) = First x ∷ []
+row_routes (Tells xs) = map Own xs
 
-routes_parts : (o : Option Message) → routed o ≡ map part_of (first_route o)
-routes_parts o = grind (arith, nat_tests)
+pub tells_parts : (xs : List Message) → map Part.Routes xs ≡ map part_of (map Own xs)
+tells_parts [] = refl
+tells_parts (x ∷ xs) = ap (λ (ps : List Part). Part.Routes x ∷ ps) (tells_parts xs)
 
-routes_rule_parts : (o : Option Message) → rule_routed o ≡ map rule_part_of (first_route o)
-routes_rule_parts o = grind (arith, nat_tests)
+routes_parts : (g : Gives) → given_parts g ≡ map part_of (row_routes g)
+routes_parts (Sends None) = refl
+routes_parts (Sends (Some x)) = refl
+routes_parts (Tells xs) = tells_parts xs
 
-routes_owns : (o : Option Message) → owns (first_route o) ≡ 0
-routes_owns o = grind (arith, nat_tests)
+pub tells_rule_parts : (xs : List Message) → map rule_own xs ≡ map rule_part_of (map Own xs)
+tells_rule_parts [] = refl
+tells_rule_parts (x ∷ xs) = ap (λ (ps : List rule.Part). rule_own x ∷ ps) (tells_rule_parts xs)
+
+routes_rule_parts : (g : Gives) → rule_given g ≡ map rule_part_of (row_routes g)
+routes_rule_parts (Sends None) = refl
+routes_rule_parts (Sends (Some x)) = refl
+routes_rule_parts (Tells xs) = tells_rule_parts xs
+
+pub tells_owns : (xs : List Message) → owns (map Own xs) ≡ length xs
+tells_owns [] = refl
+tells_owns (x ∷ xs) = let e = tells_owns xs in omega (arith, e)
+
+routes_counted : (g : Gives) (before now : ℕ) → AreCounted before now g → now ≡ before + owns (row_routes g)
+routes_counted (Sends None) before now e = omega (arith, e)
+routes_counted (Sends (Some x)) before now e = omega (arith, e)
+routes_counted (Tells xs) before now e = let f = tells_owns xs in omega (arith, e, f)
+
+routes_may : (g : Gives) (counted said : ℕ) (next : Point) (placed : Placed) (records : AllRecords) → counted ≡ said → AreGiven counted said next placed g → AllMayPut next placed records 0 (row_routes g)
+routes_may (Sends None) counted said next placed records e h = tt
+routes_may (Sends (Some x)) counted said next placed records e h = (h, tt)
+routes_may (Tells xs) counted said next placed records e h = h e records
 
 -- what it leaves of what moves, on its machine and elsewhere
 row_leaves : (b : Boot) (m : ℕ) (pt : Point) (l : Placed) (records : AllRecords) (k : KernelState) → Run b pt → records m ≡ k.records → (r : Row b m pt l k) → LeavesMoving pt l records r.next r.placed (at_machine records m r.state.records)
@@ -146,26 +170,26 @@ row_leaves b m pt l records k run same r = record {
     | inr e ↦ ap (λ (f : Pid → Option machine.KernelKnown). f p) (sym (off_if (m == n) r.state.records (records n) (eq_apart m n e.1)))
   ];
   told = r.elsewhere.told;
-  lines = (let h = still_keeps (rule_routed r.route) r.says (begun pt m) r.next r.still (row_walks b pt m r.says r.route run.based.phased run.based.known r.still r.outcome) r.after in record { asked = h.asked; awaits = h.awaits; stood = h.stood });
+  lines = (let h = still_keeps (rule_given r.route) r.says (begun pt m) r.next r.still (row_walks b pt m r.says r.route run.based.phased run.based.known r.still r.outcome) r.after in record { asked = h.asked; awaits = h.awaits; stood = h.stood });
   own = r.own;
 }
 
-pub row_turns : (b : Boot) (m : ℕ) (pt : Point) (l : Placed) (records : AllRecords) (k : KernelState) → Run b pt → AllOwnStand pt.view l → TokensStand pt.view l records → records m ≡ k.records → Row b m pt l k → TurnsAt b m pt l records k
-row_turns b m pt l records k run own tokens same r = record {
+pub row_turns : (b : Boot) (m : ℕ) (pt : Point) (l : Placed) (records : AllRecords) (k : KernelState) → Run b pt → AllOwnStand pt.view l → TokensStand pt.view l records → records m ≡ k.records → k.sent ≡ pt.view.count m → Row b m pt l k → TurnsAt b m pt l records k
+row_turns b m pt l records k run own tokens same counted r = record {
   state = r.state;
   says = r.says;
-  routes = first_route r.route;
+  routes = row_routes r.route;
   late = Nothing;
-  turn = r.turn ∙ ap (λ (ps : List Part). Some (record { state = r.state; parts = ps })) (ap (λ (ps : List Part). map Part.Says r.says ++ ps) (routes_parts r.route) ∙ sym (nothing_more (map Part.Says r.says ++ map part_of (first_route r.route))));
-  outcome = r.outcome ∙ ap (λ (ps : List rule.Part). Some ps) (ap (λ (ps : List rule.Part). map rule.Says r.says ++ ps) (routes_rule_parts r.route) ∙ sym (nothing_more (map rule.Says r.says ++ map rule_part_of (first_route r.route))));
+  turn = r.turn ∙ ap (λ (ps : List Part). Some (record { state = r.state; parts = ps })) (ap (λ (ps : List Part). map Part.Says r.says ++ ps) (routes_parts r.route) ∙ sym (nothing_more (map Part.Says r.says ++ map part_of (row_routes r.route))));
+  outcome = r.outcome ∙ ap (λ (ps : List rule.Part). Some ps) (ap (λ (ps : List rule.Part). map rule.Says r.says ++ ps) (routes_rule_parts r.route) ∙ sym (nothing_more (map rule.Says r.says ++ map rule_part_of (row_routes r.route))));
   next = r.next;
   after = r.after;
   placed = r.placed;
   mirrors = r.mirrors;
   kernel = r.kernel;
-  sent = λ e. (let a = r.count in let c : r.next.view.count m ≡ pt.view.count m = r.elsewhere.count m in let z = routes_owns r.route in omega (arith, e, a, c, z));
+  sent = λ e. (let a = routes_counted r.route k.sent r.state.sent r.count in let c : r.next.view.count m ≡ pt.view.count m = r.elsewhere.count m in omega (arith, e, a, c));
   elsewhere = r.elsewhere;
-  may = grind (arith, nat_tests, r.sent);
+  may = routes_may r.route k.sent (pt.view.count m) r.next r.placed (at_machine records m r.state.records) counted r.sent;
   late_may = tt;
   over = r.over;
   topic = tt;
@@ -174,5 +198,5 @@ row_turns b m pt l records k run own tokens same r = record {
 }
 
 -- a turn with an empty inbox
-pub serve_turns : (b : Boot) (m : ℕ) (pt : Point) (l : Placed) (records : AllRecords) (k : KernelState) → Ready b m pt l k → TokensStand pt.view l records → records m ≡ k.records → pt.view.inbox m ≡ [] → TurnsAt b m pt l records k
-serve_turns b m pt l records k h tokens same box = row_turns b m pt l records k h.run h.own tokens same (serve_row b m pt l k h box)
+pub serve_turns : (b : Boot) (m : ℕ) (pt : Point) (l : Placed) (records : AllRecords) (k : KernelState) → Ready b m pt l k → TokensStand pt.view l records → records m ≡ k.records → k.sent ≡ pt.view.count m → pt.view.inbox m ≡ [] → TurnsAt b m pt l records k
+serve_turns b m pt l records k h tokens same counted box = row_turns b m pt l records k h.run h.own tokens same counted (serve_row b m pt l k h box)

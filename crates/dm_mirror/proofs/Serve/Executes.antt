@@ -1,14 +1,14 @@
 -- A ready process is served: all that it can come to.
 use Rattle.dm_mirror.proofs.Names.{◌≡◌, ℕ, ◌<◌, ◌==◌, Bool, true, false, List, [], ◌∷◌, length, refl, ap, ◌∙◌, sym, arith, if◌then◌else◌, Option, Some, nat_tests, Pid, Message, PlainMessage, plain_message, Regs, Fault, Row, instruction}
 use Rattle.dm_mirror.proofs.Names.{Status, Label, Why, Process, Boot, why_code, bind, when, with_process, plain_process, Machine, plain_called, plain_sent, call_plainly, bind-is, Point, Placed, acted_with, call_matches, fault_matches}
-use Rattle.dm_mirror.proofs.Names.{with_queue, calls_with, KernelState, turned, with_here, call_keeps, ran_keeps, reply_same, Part, subst}
-use Rattle.dm_onekernel.specs.Kernel.{Ended}
+use Rattle.dm_mirror.proofs.Names.{with_queue, calls_with, KernelState, turned, with_here, call_keeps, ran_keeps, reply_same, Part, subst, Ended}
 use Rattle.dm_syscall.specs.declared.Called.{Called}
 use Rattle.dm_onekernel.specs.Calls as calls
 use Rattle.dm_onekernel.specs.Step as kernel
 use Rattle.dm_syscall.specs.Calls as syscall
 use Rattle.dm_rule.specs.Parts as rule_part
 use Rattle.dm_rule.specs.Rule as rule
+use Rattle.dm_rule.specs.Burying as burying
 use Rattle.dm_places.specs.PlacedStep as placed
 use Rattle.dm_kernel.specs.State as machine
 use Rattle.dm_kernel.specs.Serve as serve
@@ -19,17 +19,17 @@ use Rattle.dm_mirror.proofs.Serve.Stops.{sends_acts, ends_acts, Ran, ran_kernel,
 
 -- a call by the process y, as it is behind its plain instructions, that came to w and left z
 abbrev ActsCalled : (b : Boot) (m : ℕ) (pt : Point) (l : Placed) (k : KernelState) (p : Pid) (z : Process) (c n : ℕ) → Called → calls.Called → Type 0
-ActsCalled b m pt l k p z c n w cl = Acts b m pt l k p (serve.called_with (with_here (moved_round k p) p z) p c n z w) (Some (rule.says (Label.Ran p c) ∷ rule.called p n (pt.view.queue m p) cl))
+ActsCalled b m pt l k p z c n w cl = Acts b m pt l k p (serve.called_with (with_here (moved_round k p) p z) p c n z w) (Some (rule.says (Label.Ran p c) ∷ rule.called p n (burying.ends_with pt m p) cl))
 
 message_acts : (b : Boot) (m : ℕ) (pt : Point) (l : Placed) (k : KernelState) (p : Pid) (x y z : Process) (c n : ℕ) (w : Message) (cl : calls.Called) (s : Served b m pt l k p x) → Ran m pt l p x s.at.queue c y → plain_sent (plain_message w) z ≡ Some cl
     → kernel.next_trap (ran_kernel pt p y) p ≡ Some (kernel.Calls n cl) → placed.acts m (ran_placed l p y s.at.queue) p ≡ Some (placed.with_sent (placed.with_process (ran_placed l p y s.at.queue) p (Some (with_queue z s.at.queue))) (Some w))
     → z.queue ≡ x.queue → length z.memory ≡ length x.memory
-    → Acts b m pt l k p (turned (with_here (moved_round k p) p z) (machine.says (Label.Ran p c) ∷ machine.says (Label.Send p w.id) ∷ Part.Routes w ∷ [])) (Some (rule.says (Label.Ran p c) ∷ rule.called p n (pt.view.queue m p) cl))
+    → Acts b m pt l k p (turned (with_here (moved_round k p) p z) (machine.says (Label.Ran p c) ∷ machine.says (Label.Send p w.id) ∷ Part.Routes w ∷ [])) (Some (rule.says (Label.Ran p c) ∷ rule.called p n (burying.ends_with pt m p) cl))
 message_acts b m pt l k p x y z c n w cl s r plain next with_ queue memory =
     let (u, says, last) = bind-is (plain_message w) (λ (v : PlainMessage). Some (calls.Sends v (plain_process z))) cl plain in
     let f : cl ≡ calls.Sends u (plain_process z) = cc in
     let sent = turned (with_here (moved_round k p) p z) (machine.says (Label.Ran p c) ∷ machine.says (Label.Send p w.id) ∷ Part.Routes w ∷ []) in
-    subst (λ (v : calls.Called). Acts b m pt l k p sent (Some (rule.says (Label.Ran p c) ∷ rule.called p n (pt.view.queue m p) v))) (sym f)
+    subst (λ (v : calls.Called). Acts b m pt l k p sent (Some (rule.says (Label.Ran p c) ∷ rule.called p n (burying.ends_with pt m p) v))) (sym f)
     (sends_acts b m pt l k p x y z c n w u s r says (next ∙ ap (λ (v : calls.Called). Some (kernel.Calls n v)) f) with_ queue memory)
 
 called_acts : (b : Boot) (m : ℕ) (pt : Point) (l : Placed) (k : KernelState) (p : Pid) (x y z : Process) (c n : ℕ) (w : Called) (cl : calls.Called) (s : Served b m pt l k p x) → Ran m pt l p x s.at.queue c y → plain_called w z ≡ Some cl
@@ -85,7 +85,7 @@ call_acts b m pt l k p x y c n regs s r is =
 
 -- a fault
 fault_acts : (b : Boot) (m : ℕ) (pt : Point) (l : Placed) (k : KernelState) (p : Pid) (x y : Process) (c : ℕ) (f : Fault) (s : Served b m pt l k p x) → Ran m pt l p x s.at.queue c y → instruction y.regs y.memory ≡ Row.Faults f
-    → Acts b m pt l k p (serve.ends (with_here (moved_round k p) p y) p c y (Why.Fault f)) (Some (rule.says (Label.Ran p c) ∷ rule.says (Label.End p (Why.Fault f)) ∷ rule.drop_parts (pt.view.queue m p)))
+    → Acts b m pt l k p (serve.ends (with_here (moved_round k p) p y) p c y (Why.Fault f)) (Some (rule.says (Label.Ran p c) ∷ rule.says (Label.End p (Why.Fault f)) ∷ burying.ends_with pt m p))
 fault_acts b m pt l k p x y c f s r is =
     let u = ran_kernel pt p y in
     let gone = with_process u p (Ended (Why.Fault f)) in
@@ -95,36 +95,36 @@ fault_acts b m pt l k p x y c f s r is =
 
 -- as far as the quantum allows
 executes_by : (b : Boot) (m : ℕ) (pt : Point) (l : Placed) (k : KernelState) (p : Pid) (x : Process) (q : ℕ) (u : rule.Ran) (v : serve.Ran) (s : Served b m pt l k p x) → x.status ≡ Status.Ready → Comes q u v → kernel.plain_steps u.count (kernel.machine_of (plain_process x)) ≡ Some u.machine
-    → length v.machine.bytes ≡ length x.memory → Acts b m pt l k p (serve.executes (moved_round k p) p x v) (Some (rule.executes q p (pt.view.queue m p) (plain_process x) u))
+    → length v.machine.bytes ≡ length x.memory → Acts b m pt l k p (serve.executes (moved_round k p) p x v) (Some (rule.executes q p (burying.ends_with pt m p) (plain_process x) u))
 executes_by b m pt l k p x q u v s ready (Whole all is) steps memory =
     let y = serve.with_machine x u.machine in
     let size : length u.machine.bytes ≡ length x.memory = ap (λ (w : serve.Ran). length w.machine.bytes) (sym is) ∙ memory in
-    acts_as b m pt l k p (serve.executes (moved_round k p) p x v) (turned (with_here (moved_round k p) p y) (machine.says (Label.Ran p u.count) ∷ [])) (Some (rule.executes q p (pt.view.queue m p) (plain_process x) u)) (Some (rule.says (Label.Ran p u.count) ∷ [])) (ap (serve.executes (moved_round k p) p x) is)
-    (ap (λ (d : Bool). Some (rule.says (Label.Ran p u.count) ∷ (if d then [] else rule.stops p (pt.view.queue m p) (kernel.next_row p (kernel.with_machine (plain_process x) u.machine) (instruction u.machine.regs u.machine.bytes)))))
+    acts_as b m pt l k p (serve.executes (moved_round k p) p x v) (turned (with_here (moved_round k p) p y) (machine.says (Label.Ran p u.count) ∷ [])) (Some (rule.executes q p (burying.ends_with pt m p) (plain_process x) u)) (Some (rule.says (Label.Ran p u.count) ∷ [])) (ap (serve.executes (moved_round k p) p x) is)
+    (ap (λ (d : Bool). Some (rule.says (Label.Ran p u.count) ∷ (if d then [] else rule.stops p (burying.ends_with pt m p) (kernel.next_row p (kernel.with_machine (plain_process x) u.machine) (instruction u.machine.regs u.machine.bytes)))))
     (let on : (u.count == q) ≡ true = grind (arith, nat_tests) in on)) (whole_acts b m pt l k p x y u.count s (ran_of b m pt l k p x u.count u.machine s ready steps size))
 executes_by b m pt l k p x q u v s ready (Comes.Called n regs less stops is) steps memory =
     let y = serve.with_machine x u.machine in
     let y2 = record y { regs = regs } in
     let d = syscall.calls m y2 n in
     let size : length u.machine.bytes ≡ length x.memory = ap (λ (w : serve.Ran). length w.machine.bytes) (sym is) ∙ memory in
-    let ids = pt.view.queue m p in
-    acts_as b m pt l k p (serve.executes (moved_round k p) p x v) (serve.called_with (with_here (moved_round k p) p d.process) p u.count n d.process d.called) (Some (rule.executes q p ids (plain_process x) u))
-    (Some (rule.says (Label.Ran p u.count) ∷ rule.called p n ids (calls.call p (plain_process y2) n))) (ap (serve.executes (moved_round k p) p x) is ∙ ap (λ (h : ℕ). serve.does (moved_round k p) p u.count n (syscall.calls h y2 n)) s.stands.here)
-    (rest_less u.count q (rule.stops p ids (kernel.next_row p (plain_process y) (instruction u.machine.regs u.machine.bytes))) (rule.says (Label.Ran p u.count)) less
-    ∙ ap (λ (w : Row). Some (rule.says (Label.Ran p u.count) ∷ rule.stops p ids (kernel.next_row p (plain_process y) w))) stops)
+    let over = burying.ends_with pt m p in
+    acts_as b m pt l k p (serve.executes (moved_round k p) p x v) (serve.called_with (with_here (moved_round k p) p d.process) p u.count n d.process d.called) (Some (rule.executes q p over (plain_process x) u))
+    (Some (rule.says (Label.Ran p u.count) ∷ rule.called p n over (calls.call p (plain_process y2) n))) (ap (serve.executes (moved_round k p) p x) is ∙ ap (λ (h : ℕ). serve.does (moved_round k p) p u.count n (syscall.calls h y2 n)) s.stands.here)
+    (rest_less u.count q (rule.stops p over (kernel.next_row p (plain_process y) (instruction u.machine.regs u.machine.bytes))) (rule.says (Label.Ran p u.count)) less
+    ∙ ap (λ (w : Row). Some (rule.says (Label.Ran p u.count) ∷ rule.stops p over (kernel.next_row p (plain_process y) w))) stops)
     (call_acts b m pt l k p x y u.count n regs s (ran_of b m pt l k p x u.count u.machine s ready steps size) stops)
 executes_by b m pt l k p x q u v s ready (Faulted f less stops is) steps memory =
     let y = serve.with_machine x u.machine in
     let size : length u.machine.bytes ≡ length x.memory = ap (λ (w : serve.Ran). length w.machine.bytes) (sym is) ∙ memory in
-    let ids = pt.view.queue m p in
-    acts_as b m pt l k p (serve.executes (moved_round k p) p x v) (serve.ends (with_here (moved_round k p) p y) p u.count y (Why.Fault f)) (Some (rule.executes q p ids (plain_process x) u))
-    (Some (rule.says (Label.Ran p u.count) ∷ rule.says (Label.End p (Why.Fault f)) ∷ rule.drop_parts ids)) (ap (serve.executes (moved_round k p) p x) is)
-    (rest_less u.count q (rule.stops p ids (kernel.next_row p (plain_process y) (instruction u.machine.regs u.machine.bytes))) (rule.says (Label.Ran p u.count)) less
-    ∙ ap (λ (w : Row). Some (rule.says (Label.Ran p u.count) ∷ rule.stops p ids (kernel.next_row p (plain_process y) w))) stops)
+    let over = burying.ends_with pt m p in
+    acts_as b m pt l k p (serve.executes (moved_round k p) p x v) (serve.ends (with_here (moved_round k p) p y) p u.count y (Why.Fault f)) (Some (rule.executes q p over (plain_process x) u))
+    (Some (rule.says (Label.Ran p u.count) ∷ rule.says (Label.End p (Why.Fault f)) ∷ over)) (ap (serve.executes (moved_round k p) p x) is)
+    (rest_less u.count q (rule.stops p over (kernel.next_row p (plain_process y) (instruction u.machine.regs u.machine.bytes))) (rule.says (Label.Ran p u.count)) less
+    ∙ ap (λ (w : Row). Some (rule.says (Label.Ran p u.count) ∷ rule.stops p over (kernel.next_row p (plain_process y) w))) stops)
     (fault_acts b m pt l k p x y u.count f s (ran_of b m pt l k p x u.count u.machine s ready steps size) stops)
 
 pub executes_acts : (b : Boot) (m : ℕ) (pt : Point) (l : Placed) (k : KernelState) (p : Pid) (x : Process) (q : ℕ) (s : Served b m pt l k p x) → x.status ≡ Status.Ready
-    → Acts b m pt l k p (serve.executes (moved_round k p) p x (serve.ran q (serve.processor_of x))) (Some (rule.executes q p (pt.view.queue m p) (plain_process x) (rule.ran q (kernel.machine_of (plain_process x)))))
+    → Acts b m pt l k p (serve.executes (moved_round k p) p x (serve.ran q (serve.processor_of x))) (Some (rule.executes q p (burying.ends_with pt m p) (plain_process x) (rule.ran q (kernel.machine_of (plain_process x)))))
 executes_acts b m pt l k p x q s ready =
     let n : Machine = serve.processor_of x in
     executes_by b m pt l k p x q (rule.ran q n) (serve.ran q n) s ready (comes q n) (ran_steps q n) (ran_keeps q n).memory

@@ -1,10 +1,10 @@
 -- A waiting process is served: it receives the first message that it waits for, or is refused it.
-use Rattle.dm_mirror.proofs.Names.{◌≡◌, ℕ, ◌+◌, ◌≤◌, Bool, true, false, List, [], ◌∷◌, map, length, refl, ap, ◌∙◌, sym, subst, inl, inr, arith, if◌then◌else◌, Option, None, Some, cases_Bool, nat_tests, ArrayVec, Link, Pid, pid_eq}
-use Rattle.dm_mirror.proofs.Names.{plain_link, Message, MsgId, What, Record, Label, Line, id_eq, PlainMessage, plain_message, IsLawfulProcess, IsLawfulStatus, first_on, without_first_on, Process, Status, Boot, Reply, reply_code, bind, when}
-use Rattle.dm_mirror.proofs.Names.{Life, Alive, OneKernel, plain_process, plain_status, PlainProcess, receive_refusals, first_failed, length-written, Completion, plain_completed, status_plainly, id_eq-is, pid_eq-same, Point, moved}
-use Rattle.dm_mirror.proofs.Names.{moved_back, without_id, Spot, Queue, times, standing, StandsRight, View, serving, once_at, set_at, Placed, Ends, completed_matches, with_queue, KernelState, turned, with_here, AreMessages, not, is_some}
-use Rattle.dm_mirror.proofs.Names.{option_map, pid_of, status_is_runnable, pid_eq-is, Phase, Rests, knows, stands_right, letter_of, InPhases, rests_here, rings, both, Run, queue_drops, Mirrors, mirrors_view, IsLawfulState, of_known}
-use Rattle.dm_mirror.proofs.Names.{AllOwnStand, MadeStands, KernelStands, Part, here_free, at_hand_of}
+use Rattle.dm_mirror.proofs.Names.{false≢true, ◌≡◌, ℕ, ◌+◌, ◌≤◌, Bool, true, false, List, [], ◌∷◌, map, length, refl, ap, ◌∙◌, sym, subst, inl, inr, arith, if◌then◌else◌, Option, None, Some, cases_Bool, nat_tests, ArrayVec, Link, Pid}
+use Rattle.dm_mirror.proofs.Names.{pid_eq, plain_link, Message, MsgId, What, Record, Label, Line, id_eq, PlainMessage, plain_message, IsLawfulProcess, IsLawfulStatus, first_on, without_first_on, Process, Status, Boot, Reply, reply_code}
+use Rattle.dm_mirror.proofs.Names.{bind, when, Life, Alive, OneKernel, plain_process, plain_status, PlainProcess, receive_refusals, first_failed, length-written, Completion, plain_completed, status_plainly, id_eq-is, pid_eq-same, Point}
+use Rattle.dm_mirror.proofs.Names.{moved, moved_back, without_id, Spot, Queue, times, standing, StandsRight, View, serving, once_at, set_at, Placed, Ends, completed_matches, with_queue, KernelState, turned, with_here, AreMessages, not}
+use Rattle.dm_mirror.proofs.Names.{is_some, option_map, pid_of, status_is_runnable, pid_eq-is, Phase, Rests, knows, stands_right, letter_of, InPhases, rests_here, rings, both, Run, queue_drops, Mirrors, mirrors_view, IsLawfulState}
+use Rattle.dm_mirror.proofs.Names.{of_known, AllOwnStand, MadeStands, KernelStands, Part, here_free, at_hand_of, IsValid}
 use Rattle.dm_syscall.specs.Completing.{IsAwaited}
 use Rattle.dm_onekernel.specs.Receiving as receiving
 use Rattle.dm_onekernel.specs.Service as service
@@ -20,8 +20,10 @@ use Rattle.dm_mirror.proofs.Kernel.Sets.{Leaves, view_leaves_on, kernel_leaves_o
 use Rattle.dm_mirror.proofs.Kernel.Sets.{kernel_sets, kernel_out, placed_sets, placed_out, NotOwn, not_own_some, machine_on, record_on, label_mirrors, after_label, view_same, kernel_same, placed_same}
 use Rattle.dm_mirror.proofs.Serve.Runs.{Found, found, here_of, in_ring, first_runs, first_same}
 use Rattle.dm_mirror.proofs.Serving.{Served, Acts, acts_as, moved_round, goes_on_acts, is_for, queue_alone}
-use Rattle.dm_mirror.proofs.Turning.{NoneEnds, Elsewhere, Row, begun, is_moving}
+use Rattle.dm_mirror.proofs.Turning.{NoneEnds, Elsewhere, Row, Sends, begun, is_moving}
 use Rattle.dm_mirror.proofs.Serve.Executes.{executes_acts}
+use Rattle.dm_mirror.proofs.Buries.{absent_from, preds_are, untold_from}
+use Rattle.dm_rule.specs.Burying as burying
 use Rattle.dm_mirror.proofs.Follow.Updates.{rests_away as away_of}
 
 -- a message on the mask is a user message
@@ -119,7 +121,7 @@ receive_row b m pt l k p x mask base size w code channel body links None s lawfu
     (ap (serve.received_by (moved_round k p) p x mask w) e) c.parts
     (goes_on_acts b m pt next l on k p x z c.ends.queue (Line.Label (Label.Receive p id) ∷ []) None s (after_label pt (Label.Receive p id) u [] next step refl)
     (label_mirrors pt l on m (Label.Receive p id) u s.mirrors s.acting tt step (ap (λ (v : Option Completion). bind v (λ (q : Completion). Some (placed.with_process lm p (Some q.process)))) c.ends.is))
-    leaves refl (ring_on m p pt.view s.acting)
+    leaves refl refl (ring_on m p pt.view s.acting)
     (set_at out p (Alive (plain_process z))) (on_if (pid_eq p p) (Some (with_queue z c.ends.queue)) (lm.processes p) (pid_eq-same p)) messages (length-written x.memory base body (omega (arith, reach, short))) tt refl)
   where
     apart : (i : MsgId) (js : List MsgId) → times w.id js ≡ 0 → 1 ≤ times i js → id_eq w.id i ≡ false
@@ -142,7 +144,7 @@ receive_row b m pt l k p x mask base size w code channel body links (Some reply)
     (ap (serve.received_by (moved_round k p) p x mask w) e) c.parts
     (goes_on_acts b m pt next l on k p x z c.ends.queue (Line.Label (Label.Refuse p id reply) ∷ []) None s (after_label pt (Label.Refuse p id reply) u [] next step refl)
     (label_mirrors pt l on m (Label.Refuse p id reply) u s.mirrors s.acting tt step (ap (λ (v : Option Completion). bind v (λ (q : Completion). Some (placed.with_process l p (Some q.process)))) c.ends.is))
-    leaves refl (ring_on m p pt.view s.acting)
+    leaves refl refl (ring_on m p pt.view s.acting)
     (set_at pt.kernel p (Alive (plain_process z))) (on_if (pid_eq p p) (Some (with_queue z c.ends.queue)) (l.processes p) (pid_eq-same p)) s.at.messages refl tt refl)
 
 pub receives_acts : (b : Boot) (m : ℕ) (pt : Point) (l : Placed) (k : KernelState) (p : Pid) (x : Process) (mask base size : ℕ) (w : Message) → Served b m pt l k p x → IsLawfulProcess x → x.status ≡ Status.Waiting mask base size → first_on mask x.queue ≡ Some w
@@ -201,6 +203,7 @@ pub record Ready (b : Boot) (m : ℕ) (pt : Point) (l : Placed) (k : KernelState
   pub own : AllOwnStand pt.view l
   pub stands : KernelStands b pt l m k
   pub lawful : IsLawfulState k
+  pub valid : IsValid b
 
 chosen : (b : Boot) (m : ℕ) (pt : Point) (l : Placed) (k : KernelState) (p : Pid) → Ready b m pt l k → turn.first_runnable k.records k.ring ≡ Some p → Chosen b m pt l k p
 chosen b m pt l k p h first =
@@ -225,6 +228,9 @@ chosen b m pt l k p h first =
         e = state.e;
         sound = state.sound;
         own = λ i x there none. (let o = h.own i x there none in record { told = o.told; mine = o.mine; sender = o.sender });
+        untold = λ n le. untold_from b pt m n h.run le;
+        absent = λ n le. absent_from b pt l m n h.run h.mirrors h.own le;
+        preds = preds_are b pt l m k p h.valid h.run.based.machines h.stands;
       };
       goes = two.1;
     }
@@ -240,7 +246,7 @@ waits_acts b m pt l k p x mask base size (Some w) s lawful waits first some =
     (receives_acts b m pt l k p x mask base size w s lawful waits first)
 
 status_acts : (b : Boot) (m : ℕ) (pt : Point) (l : Placed) (k : KernelState) (p : Pid) (x : Process) (st : Status) → Served b m pt l k p x → IsLawfulProcess x → x.status ≡ st → status_is_runnable st x.queue ≡ true
-    → Acts b m pt l k p (serve.serves_status b.quantum (moved_round k p) p x st) (rule.serves_status b.quantum pt.kernel p (pt.view.queue m p) (plain_process x) (plain_status st))
+    → Acts b m pt l k p (serve.serves_status b.quantum (moved_round k p) p x st) (rule.serves_status b.quantum pt.kernel p (pt.view.queue m p) (burying.ends_with pt m p) (plain_process x) (plain_status st))
 status_acts b m pt l k p x Status.Ready s lawful is goes = executes_acts b m pt l k p x b.quantum s is
 status_acts b m pt l k p x (Status.Waiting mask base size) s lawful is goes = waits_acts b m pt l k p x mask base size (first_on mask x.queue) s lawful is refl goes
 status_acts b m pt l k p x (Status.Moving dir owner base own left pending) s lawful is goes = cc
@@ -249,8 +255,8 @@ serves_acts : (b : Boot) (m : ℕ) (pt : Point) (l : Placed) (k : KernelState) (
 serves_acts b m pt l k p lawful c =
     let x = c.x in
     let s = c.served in
-    acts_as b m (begun pt m) l k p (turn.goes_round b k (Some p)) (serve.serves_status b.quantum (moved_round k p) p x x.status) (rule.goes_round b pt m (Some p)) (rule.serves_status b.quantum pt.kernel p (pt.view.queue m p) (plain_process x) (plain_status x.status))
-    (ap (serve.serves b.quantum (moved_round k p) p) s.at.record_is) (ap (λ (o : Option Life). bind (kernel.alive o) (λ (z : PlainProcess). rule.serves_status b.quantum pt.kernel p (pt.view.queue m p) z z.status)) s.at.alive)
+    acts_as b m (begun pt m) l k p (turn.goes_round b k (Some p)) (serve.serves_status b.quantum (moved_round k p) p x x.status) (rule.goes_round b pt m (Some p)) (rule.serves_status b.quantum pt.kernel p (pt.view.queue m p) (burying.ends_with pt m p) (plain_process x) (plain_status x.status))
+    (ap (serve.serves b.quantum (moved_round k p) p) s.at.record_is) (ap (λ (o : Option Life). bind (kernel.alive o) (λ (z : PlainProcess). rule.serves_status b.quantum pt.kernel p (pt.view.queue m p) (burying.ends_with pt m p) z z.status)) s.at.alive)
     (status_acts b m (begun pt m) l k p x x.status s (of_known k p (Some (Record.Here x)) lawful s.at.record_is) refl c.goes)
 
 -- what a served process gives is a row, and so is a turn in which the machine idles
@@ -264,7 +270,7 @@ abbrev idle_acts : (b : Boot) (m : ℕ) (pt : Point) (l : Placed) (k : KernelSta
 idle_acts b m pt l k p mirrors stands = record {
   state = k;
   says = Line.Idle m ∷ [];
-  route = None;
+  route = Sends None;
   turn = ap (λ (n : ℕ). turned k (Part.Says (Line.Idle n) ∷ [])) stands.here;
   outcome = refl;
   next = begun pt m;
@@ -280,6 +286,13 @@ idle_acts b m pt l k p mirrors stands = record {
   records = λ q off. refl;
 }
 
+-- a process that is here doesn't move
+here_apart : (v : View) (m : ℕ) (p q : Pid) → v.known m p ≡ view.Here → is_moving (v.known m q) ≡ true → pid_eq p q ≡ false
+here_apart v m p q here is = elim (cases_Bool (pid_eq p q)) [
+  | inl same ↦ absurd (false≢true (sym (ap is_moving here) ∙ ap (λ (r : Pid). is_moving (v.known m r)) (pid_eq-is p q same) ∙ is))
+  | inr off ↦ off
+]
+
 round_of : (b : Boot) (m : ℕ) (pt : Point) (l : Placed) (k : KernelState) (o : Option Pid) → turn.first_runnable k.records k.ring ≡ o → Ready b m pt l k → Round b m pt l k o
 round_of b m pt l k None first h = record {
   p = pid_of m 0;
@@ -288,8 +301,6 @@ round_of b m pt l k None first h = record {
   moving = λ q is. (refl, refl, refl);
 }
 round_of b m pt l k (Some p) first h =
-    -- a process that is here doesn't move
-    let here_apart : (v : View) (m : ℕ) (p q : Pid) → v.known m p ≡ view.Here → is_moving (v.known m q) ≡ true → pid_eq p q ≡ false = λ v m p q here is. grind (arith, nat_tests, pid_eq-is) in
     let c = chosen b m pt l k p h first in
     let s = c.served in
     let a = serves_acts b m pt l k p h.lawful c in

@@ -3,8 +3,7 @@ use Rattle.dm_mirror.proofs.Names.{◌≡◌, ℕ, zero, suc, ◌+◌, ◌<◌, 
 use Rattle.dm_mirror.proofs.Names.{false≢true, Pid, Message, MsgId, Record, Halt, id_eq, plain_message, plain_what, with_what, Regs, Fault, Row, instruction, first_on, is_on, what_is_on, without_first_on, status_is_runnable, Process}
 use Rattle.dm_mirror.proofs.Names.{Status, Boot, bind, Life, Alive, OneKernel, plain_process, plain_status, PlainProcess, Machine, pid_eq-same, id_eq-is, id_eq-same, Point, without_id, times, is_server, rings, Placed, MirrorsKernel}
 use Rattle.dm_mirror.proofs.Names.{with_queue, KernelState, AreMessages, KnownStands, KernelStands, ◌==◌, pid_eq, Label, Why, out_off, Line, moved, after, without_front, Spot, Queue, Inbox, standing, View, handled, dropped_for, receiver_of}
-use Rattle.dm_mirror.proofs.Names.{Droppable, droppable_on, dropped_is, Mirrors, user_dropped, Part, option_map_or, drop}
-use Rattle.dm_onekernel.specs.Kernel.{Ended}
+use Rattle.dm_mirror.proofs.Names.{Droppable, droppable_on, dropped_is, Mirrors, user_dropped, Part, option_map_or, drop, Ended}
 use Rattle.dm_places.specs.PlacedStep.{without_message}
 use Rattle.dm_mirror.proofs.Kernel.Sets.{times_self, times_more, ViewLeaves, Leaves, view_leaves_on, leaves_on, view_same, view_queue, view_not_handled, kernel_same, kernel_out, placed_same, placed_out, not_own_there, label_mirrors}
 use Rattle.dm_mirror.proofs.Kernel.Sets.{after_label}
@@ -95,7 +94,7 @@ pub record IsHere (pt : Point) (l : Placed) (m : ℕ) (k : KernelState) (p : Pid
   pub plain : z ≡ plain_process x
   pub known : pt.view.known m p ≡ view.Here
 
-here_at : (pt : Point) (l : Placed) (m : ℕ) (k : KernelState) (p : Pid) (z : PlainProcess) (r : Option machine.KernelKnown) → k.records p ≡ r → pt.view.known m p ≡ view.Here → KnownStands pt l p (pt.view.queue m p) (pt.view.held m p) view.Here r
+here_at : (pt : Point) (l : Placed) (m : ℕ) (k : KernelState) (p : Pid) (z : PlainProcess) (r : Option machine.KernelKnown) → k.records p ≡ r → pt.view.known m p ≡ view.Here → KnownStands l p (pt.view.queue m p) (pt.view.held m p) view.Here r
     → MirrorsKernel pt.kernel l → pt.kernel.processes p ≡ Some (Alive z) → IsHere pt l m k p z
 here_at pt l m k p z (Some (Record.Here x)) e known h mirrors alive = grind (arith, nat_tests, h.0.1, h.0.0, h.1)
 here_at pt l m k p z r e known h mirrors alive = absurd h
@@ -203,16 +202,23 @@ pub record DropKeeps (v w : View) : Type 0 where
   pub ring : (m : ℕ) → w.ring m ≡ v.ring m
   pub known : (m : ℕ) (p : Pid) → w.known m p ≡ v.known m p
   pub told : (i : MsgId) → w.told i ≡ v.told i
+  pub preds : (m : ℕ) (p : Pid) → w.preds m p ≡ v.preds m p
+  pub topic : w.topic ≡ v.topic
 
 drop_keeps : (v : View) (id : MsgId) (o : Option Pid) → DropKeeps v (dropped_for (handled v id) id o)
-drop_keeps v id None = record { acting = refl; ring = λ m. refl; known = λ m p. refl; told = λ i. refl }
-drop_keeps v id (Some p) = record { acting = refl; ring = λ m. refl; known = λ m p. refl; told = λ i. refl }
+drop_keeps v id None = record { acting = refl; ring = λ m. refl; known = λ m p. refl; told = λ i. refl; preds = λ m p. refl; topic = refl }
+drop_keeps v id (Some p) = record { acting = refl; ring = λ m. refl; known = λ m p. refl; told = λ i. refl; preds = λ m p. refl; topic = refl }
 
 view_dropped : (m : ℕ) (t : Spot → Bool) (p : Pid) (v : View) (id : MsgId) (o : Option Pid) → o ≡ Some p → v.acting ≡ m → ((n : ℕ) (q : Pid) → t (Queue n q) ≡ false → ((m == n) && pid_eq p q) ≡ false) → without_front id (v.inbox v.acting) ≡ v.inbox v.acting
     → ViewLeaves m t p v (dropped_for (handled v id) id o)
 view_dropped m t p v id o e at covers same =
     subst (λ (z : Option Pid). ViewLeaves m t p v (dropped_for (handled v id) id z)) (sym e)
     (view_leaves_on m t p v (handled v id) (dropped_for (handled v id) id (Some p)) (view_not_handled m t p v id same) (view_queue m t p (handled v id) (without_front id (v.queue v.acting p)) at covers))
+
+-- a message that leaves the bag
+pub gone_none : (c : Bool) (o : Option Message) → o ≡ None → (if c then None else o) ≡ None
+gone_none true o e = refl
+gone_none false o e = e
 
 -- all of them, behind the end of process p
 pub record Drops (m : ℕ) (t : Spot → Bool) (p : Pid) (pt : Point) (l : Placed) (ids : List MsgId) : Type 0 where
@@ -224,6 +230,10 @@ pub record Drops (m : ℕ) (t : Spot → Bool) (p : Pid) (pt : Point) (l : Place
   pub process : next.kernel.processes p ≡ pt.kernel.processes p
   pub ring : next.view.ring m ≡ pt.view.ring m
   pub known : next.view.known m p ≡ pt.view.known m p
+  pub preds : next.view.preds m p ≡ pt.view.preds m p
+  pub topic : next.view.topic ≡ pt.view.topic
+  -- nothing comes into the bag
+  pub fewer : (i : MsgId) → l.bag i ≡ None → placed.bag i ≡ None
 
 pub drops_still : (ids : List MsgId) → are_still (drop_lines ids) ≡ true
 drops_still [] = refl
@@ -232,7 +242,7 @@ drops_still (i ∷ is) = drops_still is
 pub drops_stand : (m : ℕ) (t : Spot → Bool) (p : Pid) (y : Why) (ids : List MsgId) (pt : Point) (l : Placed) → ((n : ℕ) (q : Pid) → t (Queue n q) ≡ false → ((m == n) && pid_eq p q) ≡ false) → ((n : ℕ) → t (Inbox n) ≡ false) → Mirrors pt.kernel pt.view pt.addresses l → pt.view.acting ≡ m
     → pt.kernel.processes p ≡ Some (Ended y) → Droppable pt.kernel p ids → AreAlone t pt.view ids → ((i : MsgId) → 1 ≤ times i ids → receiver_of (pt.view.told i) ≡ Some p) → Drops m t p pt l ids
 drops_stand m t p y [] pt l covers boxes mirrors at ended drop alone told =
-    record { next = pt; after = refl; placed = l; mirrors = mirrors; leaves = record { view = view_same m t p pt.view; kernel = kernel_same p pt.kernel; placed_ = placed_same t p pt.view l }; process = refl; ring = refl; known = refl }
+    record { next = pt; after = refl; placed = l; mirrors = mirrors; leaves = record { view = view_same m t p pt.view; kernel = kernel_same p pt.kernel; placed_ = placed_same t p pt.view l }; process = refl; ring = refl; known = refl; preds = refl; topic = refl; fewer = λ i e. e }
 drops_stand m t p y (i ∷ is) pt l covers boxes mirrors at ended drop alone told =
     let s = pt.kernel in
     let x = drop.0.x in
@@ -256,6 +266,9 @@ drops_stand m t p y (i ∷ is) pt l covers boxes mirrors at ended drop alone tol
       leaves_on m t p pt mid rest.next l lm rest.placed leaves rest.leaves,
       rest.ring ∙ keeps.ring m,
       rest.known ∙ keeps.known m p,
+      rest.preds ∙ keeps.preds m p,
+      rest.topic ∙ keeps.topic,
+      λ (j : MsgId) (e : l.bag j ≡ None). rest.fewer j (gone_none (id_eq i j) (l.bag j) e),
     )
   where
     apart : (j : MsgId) → 1 ≤ times j is → (c : Bool) → id_eq i j ≡ c → id_eq i j ≡ false

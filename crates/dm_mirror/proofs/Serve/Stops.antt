@@ -1,12 +1,12 @@
 -- A ready process is served: it uses up its quantum, or stops at a call or a fault.
 use Rattle.dm_mirror.proofs.Names.{◌≡◌, ℕ, ◌+◌, ◌≤◌, Bool, false, List, [], ◌∷◌, map, length, refl, ap, ◌∙◌, sym, subst, arith, nat_le, is_some, true, not, ◌==◌, ◌&&◌, None, Some, false≢true, nat_tests, Pid, pid_eq, Message, MsgId, id_eq}
 use Rattle.dm_mirror.proofs.Names.{PlainMessage, plain_message, Process, Record, Label, Called, Line, Known, Boot, Why, Alive, OneKernel, with_process, plain_process, PlainProcess, id_eq-same, pid_eq-same, not_counted, counts_process}
-use Rattle.dm_mirror.proofs.Names.{not_server, after_ran, nexts, Point, moved, moved_back, Spot, Queue, times, standing, View, is_kernels, set_at, droppable_on, Placed, parts, with_queue, KernelState, turned, with_here, without_process}
-use Rattle.dm_mirror.proofs.Names.{AllOwnStand, AreMessages, if◌then◌else◌, Status, plain_status, Machine, Mirrors, StepNeeds, ran_matches, running_of, Part, seen, with_sent}
-use Rattle.dm_onekernel.specs.Kernel.{Ended}
+use Rattle.dm_mirror.proofs.Names.{not_server, after_ran, nexts, Point, moved, moved_back, Spot, Queue, times, standing, View, is_kernels, set_at, droppable_on, Placed, parts, with_queue, KernelState, turned, with_here, AllOwnStand}
+use Rattle.dm_mirror.proofs.Names.{AreMessages, if◌then◌else◌, Status, plain_status, Machine, Mirrors, StepNeeds, ran_matches, running_of, Part, seen, Ended, ◌++◌, MessageKind, Option, Told, id_of, pid_of, to_kernel, nobody}
+use Rattle.dm_rulelaws.proofs.Names.{with_sent}
 pub use Rattle.dm_rulelaws.proofs.Goes.Serves.{ran_steps}
 use Rattle.dm_onekernel.specs.Step as kernel
-use Rattle.dm_mirror.proofs.Turning.{OneEnds, one_ends}
+use Rattle.dm_mirror.proofs.Turning.{OneEnds, Tells, one_ends}
 use Rattle.dm_rule.specs.Parts as rule_part
 use Rattle.dm_rule.specs.Rule as rule
 use Rattle.dm_places.specs.PlacedStep as placed
@@ -17,6 +17,10 @@ use Rattle.dm_mirror.proofs.Kernel.Sets.{placed_sets, placed_puts, NotOwn, machi
 use Rattle.dm_mirror.proofs.Serving.{Served, Acts, moved_round, goes_on_acts, is_for, queue_alone}
 use Rattle.dm_mirror.proofs.Serve.Runs.{drop_lines, drops_stand, drops_still, rule_drops, machine_drops}
 pub use Rattle.dm_mirror.proofs.Follow.Fronts.{append_none as nothing_more}
+use Rattle.dm_rule.specs.Burying as burying
+use Rattle.dm_kernel.specs.Burying as machine_burying
+use Rattle.dm_mirror.proofs.Preds.{none_kept, others_kept}
+use Rattle.dm_mirror.proofs.Buries.{bury_messages, buries_may, machine_buries, many_buries, rule_buries}
 
 -- behind the plain instructions: the process is y, and at the ring's back
 abbrev pub ran_kernel : Point → Pid → Process → OneKernel
@@ -63,7 +67,7 @@ pub whole_acts : (b : Boot) (m : ℕ) (pt : Point) (l : Placed) (k : KernelState
     → Acts b m pt l k p (turned (with_here (moved_round k p) p y) (machine.says (Label.Ran p c) ∷ [])) (Some (rule.says (Label.Ran p c) ∷ []))
 whole_acts b m pt l k p x y c s r =
     goes_on_acts b m pt (ran_point pt p c y) l (ran_placed l p y s.at.queue) k p x y s.at.queue (Line.Label (Label.Ran p c) ∷ []) None s
-    (after_label pt (Label.Ran p c) (ran_kernel pt p y) [] (ran_point pt p c y) r.step refl) r.mirrors r.leaves refl r.ring
+    (after_label pt (Label.Ran p c) (ran_kernel pt p y) [] (ran_point pt p c y) r.step refl) r.mirrors r.leaves refl refl r.ring
     (set_at pt.kernel p (Alive (plain_process y))) r.there (subst (AreMessages l.bag (pt.view.queue m p)) (sym r.same_queue) s.at.messages) r.memory tt refl
 
 -- a call after which it goes on, and sends nothing
@@ -83,7 +87,7 @@ goes_acts b m pt l k p x y z c e s r still needs step with_ queue_is memory =
     let same : next.view ≡ o.view = still (ran_kernel pt p y) o.view in
     let second : Leaves m t p o lm next on = record { view = subst (λ (v : View). ViewLeaves m t p o.view v) (sym same) (view_same m t p o.view); kernel = kernel_sets p (ran_kernel pt p y) (Alive (plain_process z)); placed_ = placed_sets t p o.view lm (Some (with_queue z queue)) } in
     goes_on_acts b m pt next l on k p x z queue (Line.Label (Label.Ran p c) ∷ Line.Label e ∷ []) None s (after_label pt (Label.Ran p c) (ran_kernel pt p y) (Line.Label e ∷ []) next r.step (after_label o e u [] next step refl))
-    (label_mirrors o lm on m e u r.mirrors s.acting needs step with_) (leaves_on m t p pt o next l lm on r.leaves second) (ap (λ (v : View). v.known m p) same) (ap (λ (v : View). v.ring m) same ∙ r.ring)
+    (label_mirrors o lm on m e u r.mirrors s.acting needs step with_) (leaves_on m t p pt o next l lm on r.leaves second) (ap (λ (v : View). v.known m p) same) (ap (λ (v : View). v.preds m p) same) (ap (λ (v : View). v.ring m) same ∙ r.ring)
     (set_at (ran_kernel pt p y) p (Alive (plain_process z))) (on_if (pid_eq p p) (Some (with_queue z queue)) (lm.processes p) (pid_eq-same p))
     (subst (λ (v : View). AreMessages l.bag (v.queue m p) z.queue) (sym same) (subst (AreMessages l.bag (pt.view.queue m p)) (sym queue_is) s.at.messages)) memory tt refl
 
@@ -141,13 +145,13 @@ sends_acts b m pt l k p x y z c n w u s r says next with_ queue_is memory =
     subst (λ (i : MsgId). Acts b m pt l k p (turned (with_here (moved_round k p) p z) (machine.says (Label.Ran p c) ∷ machine.says e ∷ Part.Routes w ∷ []))
     (Some (rule.says (Label.Ran p c) ∷ rule.says (Label.Send p i) ∷ rule_part.Routes i ∷ []))) name
     (goes_on_acts b m pt next_ l on k p x z queue (Line.Label (Label.Ran p c) ∷ Line.Label e ∷ []) (Some w) s (after_label pt (Label.Ran p c) (ran_kernel pt p y) (Line.Label e ∷ []) next_ r.step (after_label o e after_ [] next_ step refl))
-    (label_mirrors o lm on m e after_ r.mirrors s.acting tt step with_) (leaves_on m t p pt o next_ l lm on r.leaves second) refl r.ring (set_at (ran_kernel pt p y) p (Alive (plain_process z)))
+    (label_mirrors o lm on m e after_ r.mirrors s.acting tt step with_) (leaves_on m t p pt o next_ l lm on r.leaves second) refl refl r.ring (set_at (ran_kernel pt p y) p (Alive (plain_process z)))
     (on_if (pid_eq p p) (Some (with_queue z queue)) (lm.processes p) (pid_eq-same p)) messages memory (on_if (id_eq w.id w.id) (Some w) (mid.bag w.id) (id_eq-same w.id), ap is_some says) refl)
 
 pub ends_acts : (b : Boot) (m : ℕ) (pt : Point) (l : Placed) (k : KernelState) (p : Pid) (x y z : Process) (c : ℕ) (because : Why) (s : Served b m pt l k p x) → Ran m pt l p x s.at.queue c y
     → kernel.step (ran_kernel pt p y) (Label.End p because) ≡ Some (with_process (ran_kernel pt p y) p (Ended because)) → placed.acts m (ran_placed l p y s.at.queue) p ≡ Some (placed.with_process (ran_placed l p y s.at.queue) p None)
     → z.queue ≡ x.queue → length z.memory ≡ length x.memory
-    → Acts b m pt l k p (serve.ends (with_here (moved_round k p) p z) p c z because) (Some (rule.says (Label.Ran p c) ∷ rule.says (Label.End p because) ∷ rule.drop_parts (pt.view.queue m p)))
+    → Acts b m pt l k p (serve.ends (with_here (moved_round k p) p z) p c z because) (Some (rule.says (Label.Ran p c) ∷ rule.says (Label.End p because) ∷ burying.ends_with pt m p))
 ends_acts b m pt l k p x y z c because s r step with_ queue_is memory =
     let t = is_queue_of m p in
     let ids = pt.view.queue m p in
@@ -164,16 +168,19 @@ ends_acts b m pt l k p x y z c because s r step with_ queue_is memory =
     (λ j least i spot off there. queue_alone m p pt.kernel pt.view s.kept j least i spot off (subst (λ (v : ℕ). 1 ≤ v) (ap (times i) (first.view.lists spot off)) there))
     (λ i least. let f = is_for pt.kernel p ids i s.drops least in s.told i f.x f.there ∙ ap Some f.to) in
     let leaves = leaves_on m t p pt o2 d.next l l2 d.placed first d.leaves in
-    let n = without_process (with_here (moved_round k p) p z) p z because in
+    let k1 = with_here (moved_round k p) p z in
+    let tos = machine_burying.preds_of k p in
+    let n = machine_burying.after_end k1 p z because in
+    let tells = bury_messages k1 p tos in
     let messages : AreMessages l.bag ids z.queue = subst (AreMessages l.bag ids) (sym queue_is) s.at.messages in
     let names = λ (i : MsgId) (w : Message) (there : l.bag i ≡ Some w). (s.mirrors.places.message i w there).id in
     let ring : n.ring ≡ d.next.view.ring m = grind (arith, nat_tests, machine_on) in
     record {
       state = n;
       says = Line.Label (Label.Ran p c) ∷ Line.Label e ∷ drop_lines ids;
-      route = None;
-      turn = ap (λ (ps : List Part). Some (record { state = n; parts = machine.says (Label.Ran p c) ∷ machine.says e ∷ ps })) (machine_drops l ids z.queue names messages ∙ sym (nothing_more (map Part.Says (drop_lines ids))));
-      outcome = ap (λ (ps : List rule_part.Part). Some (rule.says (Label.Ran p c) ∷ rule.says e ∷ ps)) (rule_drops ids ∙ sym (nothing_more (map rule_part.Says (drop_lines ids))));
+      route = Tells tells;
+      turn = λ i. Some (record { state = n; parts = machine.says (Label.Ran p c) ∷ machine.says e ∷ machine_drops l ids z.queue names messages i ++ machine_buries k1 p tos i });
+      outcome = λ i. Some (rule.says (Label.Ran p c) ∷ rule.says e ∷ rule_drops ids i ++ (ap (map (to_kernel MessageKind.Bury)) (sym s.preds) ∙ rule_buries k1 p tos) i);
       next = d.next;
       after = after_label pt (Label.Ran p c) (ran_kernel pt p y) (Line.Label e ∷ drop_lines ids) d.next r.step (after_label o e u (drop_lines ids) d.next step d.after);
       placed = d.placed;
@@ -181,16 +188,24 @@ ends_acts b m pt l k p x y z c because s r step with_ queue_is memory =
       kernel = ends_stands b m t p pt d.next l d.placed k n x z because s.at leaves
           (record {
             here = refl;
-            records = λ q off. off_if (pid_eq p q) (Some Record.Ended) ((with_here (moved_round k p) p z).records q) off ∙ off_if (pid_eq p q) (Some (Record.Here z)) (k.records q) off;
+            records = λ q off. off_if (pid_eq p q) None ((with_here (moved_round k p) p z).records q) off ∙ off_if (pid_eq p q) (Some (Record.Here z)) (k.records q) off;
             made = refl;
             servers = refl;
+            preds = λ q off. others_kept k.preds p q off;
           })
-          (λ q off. queue_of_others m p q off) (λ q. refl) (on_if (pid_eq p p) (Some Record.Ended) ((with_here (moved_round k p) p z).records p) (pid_eq-same p)) refl ring
-          (inbox_stands m t p pt d.next l d.placed k.inbox leaves refl s.stands.inbox) (d.known ∙ record_on o.view.known o.view.acting m p Known.Ended s.acting) (d.process ∙ ended) memory s.made s.stands;
+          (λ q off. queue_of_others m p q off) (λ q. refl) (on_if (pid_eq p p) None ((with_here (moved_round k p) p z).records p) (pid_eq-same p)) (none_kept k.preds p p (pid_eq-same p)) (d.preds ∙ record_on o.view.preds o.view.acting m p nobody s.acting) refl ring
+          (inbox_stands m t p pt d.next l d.placed k.inbox leaves refl s.stands.inbox) (d.known ∙ record_on o.view.known o.view.acting m p Known.Unknown s.acting) (d.process ∙ ended) memory s.made s.stands;
       leaves = leaves;
-      sent = tt;
+      sent = λ counted records. buries_may d.next d.placed records m (pt.view.count m) 0 p k1 tos
+          (record {
+            acting = leaves.view.acting ∙ s.acting;
+            count = leaves.view.count m;
+            topic = d.topic;
+            untold = λ j le. ap (λ (f : MsgId → Option Told). f (id_of (pid_of m 0) j)) leaves.view.told ∙ s.untold j le;
+            absent = λ j le. d.fewer (id_of (pid_of m 0) j) (s.absent j le);
+          }) s.stands.here (let same : pt.view.count m ≡ pt.view.count m + 0 = omega arith in counted ∙ same);
       still = drops_still ids;
       over = OneEnds m p because refl refl (one_ends pt.kernel d.next.kernel p because leaves.kernel.life (d.process ∙ ended));
-      count = refl;
-      records = λ q off. off_if (pid_eq p q) (Some Record.Ended) ((with_here (moved_round k p) p z).records q) off ∙ off_if (pid_eq p q) (Some (Record.Here z)) (k.records q) off;
+      count = ap (λ (j : ℕ). k.sent + j) (sym (many_buries k1 p tos));
+      records = λ q off. off_if (pid_eq p q) None ((with_here (moved_round k p) p z).records q) off ∙ off_if (pid_eq p q) (Some (Record.Here z)) (k.records q) off;
     }
