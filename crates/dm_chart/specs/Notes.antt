@@ -86,6 +86,7 @@ note_of before (line.Queued id) = no_note
 note_of before (line.Held id) = note (codes "c2") (codes "held: " ∷ id_word id ∷ [])
 note_of before (line.Forwarded id m) = note (codes "c2") (codes "forwarded to machine " ∷ decimal m ∷ codes ": " ∷ id_word id ∷ [])
 note_of before (line.Updated id n) = follow_note id n (news_of id before)
+note_of before (line.Buried id n) = note (codes "c2") (codes "a process is forgotten, others told: " ∷ decimal n ∷ [])
 note_of before (line.Migration s p) = note (codes "c3") (stage_words s ∷ pid_word p ∷ [])
 note_of before (line.SentOn p n) = note (codes "c3") (codes "6 sends on " ∷ decimal n ∷ codes ": " ∷ pid_word p ∷ [])
 note_of before (line.Called p n) = note (codes "c3") (codes "called off, sends back " ∷ decimal n ∷ codes ": " ∷ pid_word p ∷ [])

@@ -80,6 +80,7 @@ role_of (line.Queued id) = role.Unseen
 role_of (line.Held id) = role.Note life.Same
 role_of (line.Forwarded id m) = role.Note life.Same
 role_of (line.Updated id n) = role.Note life.Same
+role_of (line.Buried id n) = role.Note life.Same
 role_of (line.Migration s p) = stage_role s p
 role_of (line.SentOn p n) = role.Note life.Same
 role_of (line.Called p n) = role.Note life.Same

@@ -144,6 +144,15 @@ pub fn put_note(
         Line::Held(id) => note_message(into, place, HELD, "held: ", id),
         Line::Forwarded { id, to } => put_forwarded(into, place, id, to),
         Line::Updated { id, count } => put_follow(into, place, id, count, news_of(before, id)),
+        Line::Buried { count, .. } => {
+            note_number(
+                into,
+                place,
+                HELD,
+                "a process is forgotten, others told: ",
+                count,
+            )
+        }
         Line::Migration { step, pid } => { note_process(into, place, STEP, stage_name(step), pid) }
         Line::SentOn { pid, count } => put_sent_on(into, place, pid, count),
         Line::Called { pid, count } => put_called(into, place, pid, count),

@@ -91,6 +91,7 @@ pub fn role_of(line: &Line) -> Role
         Line::Held(_)
         | Line::Forwarded { .. }
         | Line::Updated { .. }
+        | Line::Buried { .. }
         | Line::SentOn { .. }
         | Line::Called { .. }
         | Line::Lacks { .. }

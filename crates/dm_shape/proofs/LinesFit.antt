@@ -59,6 +59,7 @@ line_has_row (line.Queued i) h = listed (λ x. is_row (row_of x) (line_words (li
 line_has_row (line.Held i) h = listed (λ x. is_row (row_of x) (line_words (line.Held i))) (shape.Group group_shape.Held) (rw (message_fits i h.1.0) refl)
 line_has_row (line.Forwarded i m) h = listed (λ x. is_row (row_of x) (line_words (line.Forwarded i m))) (shape.Group group_shape.Forwarded) (rw (message_fits i h.1.0, machine_fits m h.1.1.0) refl)
 line_has_row (line.Updated i n) h = listed (λ x. is_row (row_of x) (line_words (line.Updated i n))) (shape.Group group_shape.Updated) (rw (message_fits i h.1.0, number_fits n h.1.1.0) refl)
+line_has_row (line.Buried i n) h = listed (λ x. is_row (row_of x) (line_words (line.Buried i n))) (shape.Group group_shape.Buried) (rw (message_fits i h.1.0, number_fits n h.1.1.0) refl)
 line_has_row (line.Migration s p) h = listed (λ x. is_row (row_of x) (line_words (line.Migration s p))) (shape.Group group_shape.Stage) (rw (stage_fits s, process_fits p h.1.1.0) refl)
 line_has_row (line.SentOn p n) h = listed (λ x. is_row (row_of x) (line_words (line.SentOn p n))) (shape.Group group_shape.SentOn) (rw (six_fits, process_fits p h.1.1.0, number_fits n h.1.1.1.0) refl)
 line_has_row (line.Called p n) h = listed (λ x. is_row (row_of x) (line_words (line.Called p n))) (shape.Group group_shape.Called) (rw (process_fits p h.1.0, number_fits n h.1.1.0) refl)

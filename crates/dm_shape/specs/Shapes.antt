@@ -87,6 +87,7 @@ group_row group_shape.Queued = row (codes "queued") (sort.Message ∷ [])
 group_row group_shape.Held = row (codes "held") (sort.Message ∷ [])
 group_row group_shape.Forwarded = row (codes "forwarded") (sort.Message ∷ sort.Machine ∷ [])
 group_row group_shape.Updated = row (codes "updated") (sort.Message ∷ sort.Number ∷ [])
+group_row group_shape.Buried = row (codes "buried") (sort.Message ∷ sort.Number ∷ [])
 group_row group_shape.Stage = row (codes "step") (choose choice.Stage ∷ sort.Process ∷ [])
 group_row group_shape.SentOn = row (codes "step") (choose choice.Six ∷ sort.Process ∷ sort.Number ∷ [])
 group_row group_shape.Lacks = row (codes "lacks") (sort.Process ∷ sort.Number ∷ sort.Number ∷ [])
@@ -136,7 +137,7 @@ all_shapes =
     ∷ shape.Kernel kernel_shape.Ran ∷ shape.Kernel kernel_shape.Call ∷ shape.Kernel kernel_shape.Send ∷ shape.Kernel kernel_shape.Wait ∷ shape.Kernel kernel_shape.Out ∷ shape.Kernel kernel_shape.End ∷ shape.Kernel kernel_shape.Receive ∷ shape.Kernel kernel_shape.Refuse
     ∷ shape.Kernel kernel_shape.Dropped ∷ shape.Kernel kernel_shape.Served ∷ shape.Kernel kernel_shape.Gone ∷ shape.Kernel kernel_shape.Took ∷ shape.Kernel kernel_shape.Created ∷ shape.Kernel kernel_shape.NoSpace ∷ shape.Kernel kernel_shape.Asked ∷ shape.Kernel kernel_shape.Answered
     ∷ shape.Group group_shape.Idle ∷ shape.Group group_shape.Put ∷ shape.Group group_shape.Packet ∷ shape.Group group_shape.Taken ∷ shape.Group group_shape.Old ∷ shape.Group group_shape.Early ∷ shape.Group group_shape.Acked ∷ shape.Group group_shape.Nothing
-    ∷ shape.Group group_shape.Resent ∷ shape.Group group_shape.Queued ∷ shape.Group group_shape.Held ∷ shape.Group group_shape.Forwarded ∷ shape.Group group_shape.Updated ∷ shape.Group group_shape.Stage ∷ shape.Group group_shape.SentOn ∷ shape.Group group_shape.Lacks ∷ shape.Group group_shape.Called
+    ∷ shape.Group group_shape.Resent ∷ shape.Group group_shape.Queued ∷ shape.Group group_shape.Held ∷ shape.Group group_shape.Forwarded ∷ shape.Group group_shape.Updated ∷ shape.Group group_shape.Buried ∷ shape.Group group_shape.Stage ∷ shape.Group group_shape.SentOn ∷ shape.Group group_shape.Lacks ∷ shape.Group group_shape.Called
     ∷ shape.Group group_shape.Stays ∷ shape.Group group_shape.Here ∷ shape.Group group_shape.NoMove ∷ shape.Group group_shape.Stale ∷ shape.Group group_shape.Proto ∷ shape.Group group_shape.NoChild ∷ shape.Group group_shape.Pinned ∷ shape.Group group_shape.NoCall
     ∷ shape.End end_shape.Final ∷ shape.End end_shape.Ended ∷ shape.End end_shape.Ready ∷ shape.End end_shape.Waiting ∷ shape.End end_shape.Moving ∷ shape.End end_shape.Registers ∷ shape.End end_shape.Memory ∷ shape.End end_shape.Link
     ∷ shape.End end_shape.Server ∷ shape.End end_shape.Name ∷ shape.End end_shape.Child ∷ shape.End end_shape.Pending ∷ shape.End end_shape.Queue ∷ shape.End end_shape.Holding ∷ shape.End end_shape.Inbox ∷ shape.End end_shape.Stream

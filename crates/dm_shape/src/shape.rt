@@ -70,6 +70,7 @@ pub enum GroupShape {
     Held,
     Forwarded,
     Updated,
+    Buried,
     Stage,
     SentOn,
     Lacks,
@@ -107,7 +108,7 @@ pub enum EndShape {
 }
 
 /// All shapes.
-const SHAPES: [Shape; 63] = [
+const SHAPES: [Shape; 64] = [
     Shape::Head(HeadShape::Turn),
     Shape::Head(HeadShape::Tick),
     Shape::Head(HeadShape::Deliver),
@@ -142,6 +143,7 @@ const SHAPES: [Shape; 63] = [
     Shape::Group(GroupShape::Held),
     Shape::Group(GroupShape::Forwarded),
     Shape::Group(GroupShape::Updated),
+    Shape::Group(GroupShape::Buried),
     Shape::Group(GroupShape::Stage),
     Shape::Group(GroupShape::SentOn),
     Shape::Group(GroupShape::Lacks),

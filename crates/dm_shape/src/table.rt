@@ -155,6 +155,7 @@ impl GroupShape {
             GroupShape::Held => plain("held", &[Message]),
             GroupShape::Forwarded => plain("forwarded", &[Message, Machine]),
             GroupShape::Updated => plain("updated", &[Message, Number]),
+            GroupShape::Buried => plain("buried", &[Message, Number]),
             GroupShape::Stage => plain("step", &[STAGE, Process]),
             GroupShape::SentOn => plain("step", &[SIX, Process, Number]),
             GroupShape::Lacks => plain("lacks", &[Process, Number, Number]),

@@ -57,6 +57,7 @@ group_named w ws =
     else if is w (codes "held") then of1 read_id line.Held ws
     else if is w (codes "forwarded") then of2 read_id read_u8 line.Forwarded ws
     else if is w (codes "updated") then of2 read_id read_u32 line.Updated ws
+    else if is w (codes "buried") then of2 read_id read_u32 line.Buried ws
     else if is w (codes "step") then step_of ws
     else if is w (codes "called") then of2 read_pid read_u32 line.Called ws
     else if is w (codes "lacks") then of3 read_pid read_u8 read_u16 line.Lacks ws

@@ -226,6 +226,7 @@ pub fn line_fits(line: &Line)
         | Line::Proto(id) => message_fits(id, 0, 0),
         Line::Forwarded { id, to } => message_fits(id, to, 0),
         Line::Updated { id, count } => message_fits(id, 0, count),
+        Line::Buried { id, count } => message_fits(id, 0, count),
         Line::Migration { pid, .. }
         | Line::Stays(pid)
         | Line::NoChild(pid)

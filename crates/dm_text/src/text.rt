@@ -104,6 +104,7 @@ fn put_text(into: &mut Vec<u8>, line: &Line)
         Line::Held(id) => put_message(into, b"held", id),
         Line::Forwarded { id, to } => put_message_number(into, b"forwarded", id, u32::from(to)),
         Line::Updated { id, count } => put_message_number(into, b"updated", id, count),
+        Line::Buried { id, count } => put_message_number(into, b"buried", id, count),
         Line::Migration { step, pid } => put_stage(into, step, pid),
         Line::SentOn { pid, count } => put_sent_on(into, pid, count),
         Line::Called { pid, count } => put_process_number(into, b"called", pid, count),

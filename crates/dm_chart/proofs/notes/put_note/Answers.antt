@@ -9,6 +9,10 @@ pub returns-in-Early : goal.returns-in-Early
 returns-in-Early c =
     subst (λ (l : Line). OnOk c.note_packet-in-Early.result (c.note_packet-in-Early.new.into.items ≡ c.args.into.now.items ++ draw_note c.args.place.now.frame.now c.args.place.now.m c.args.place.now.row (note_of c.args.before.now l))) (sym c.in-Early.is) c.note_packet-in-Early.ensures
 
+pub returns-in-Buried : goal.returns-in-Buried
+returns-in-Buried c =
+    subst (λ (l : Line). OnOk c.note_number.result (c.note_number.new.into.items ≡ c.args.into.now.items ++ draw_note c.args.place.now.frame.now c.args.place.now.m c.args.place.now.row (note_of c.args.before.now l))) (sym c.in-Buried.is) c.note_number.ensures
+
 pub returns-in-Here : goal.returns-in-Here
 returns-in-Here c =
     subst (λ (l : Line). OnOk c.note_message-in-Here.result (c.note_message-in-Here.new.into.items ≡ c.args.into.now.items ++ draw_note c.args.place.now.frame.now c.args.place.now.m c.args.place.now.row (note_of c.args.before.now l))) (sym c.in-Here.is) c.note_message-in-Here.ensures
