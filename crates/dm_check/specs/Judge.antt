@@ -112,6 +112,7 @@ told quantum (line.Queued i) ws = Falls NotDue
 told quantum (line.Held i) ws = Falls NotDue
 told quantum (line.Forwarded i m) ws = Falls NotDue
 told quantum (line.Updated i n) ws = Falls NotDue
+told quantum (line.Buried i n) ws = Falls NotDue
 told quantum (line.Migration s p) ws = Falls NotDue
 told quantum (line.SentOn p n) ws = Falls NotDue
 told quantum (line.Called p n) ws = Falls NotDue

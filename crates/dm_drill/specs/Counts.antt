@@ -54,6 +54,7 @@ counted_as (line.Queued id) = None
 counted_as (line.Held id) = Some counted_.Held
 counted_as (line.Forwarded id m) = Some counted_.Forwarded
 counted_as (line.Updated id n) = None
+counted_as (line.Buried id n) = None
 counted_as (line.Migration s p) = sort_of_step s
 counted_as (line.SentOn p n) = None
 counted_as (line.Called p n) = None

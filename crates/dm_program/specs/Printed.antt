@@ -13,6 +13,7 @@ use Rattle.dm_rule.specs.Point.{Point}
 use Rattle.dm_rule.specs.Quiet.{IsQuiet}
 use Rattle.dm_rule.specs.Rest.{IsAtRest}
 use Rattle.dm_rule.specs.Worn as rule
+use Rattle.dm_movelaws.specs.AtRest.{AllForgotten}
 use Rattle.dm_settlelaws.specs.Passes.{AreGoneThrough, ends_rested, ends_settled, is_at_rest}
 use Rattle.dm_settlelaws.specs.Still.{is_still}
 use Rattle.dm_world.specs.Meets.{world_state}
@@ -54,10 +55,11 @@ pub record RuleWears (b : Boot) (p : RulePlace) (from to : ℕ) : Type 0 where
   pub worn : rule.IsWorn b p.end next.step from to
 
 -- all is at rest, and the lines at the end show so: nothing is on its way, held back or pending, and each living process is where it is,
--- and waits or is stopped
+-- and waits or is stopped; and of those that have ended nothing is left
 pub record RestsAtEnd (end : Point) : Type 0 where
   pub rest : IsAtRest end.kernel.machines end
   pub lines : All (λ (l : EndLine). is_still l ≡ true) (end_lines end)
+  pub forgotten : AllForgotten end
 
 -- nothing is on its way, acknowledgements too, and the lines at the end show what they can of it: no message is in an inbox or a stream or
 -- held back, and no process leaves or comes
@@ -65,11 +67,12 @@ pub record QuietAtEnd (end : Point) : Type 0 where
   pub quiet : IsQuiet end.kernel.machines end.view
   pub lines : All (λ (l : EndLine). is_at_rest l ≡ true) (end_lines end)
 
--- no run of these directives wears a pair; behind a last settle nothing is on its way; and behind a last rest its passes were gone through
--- whole, or all is at rest
+-- no run of these directives wears a pair; behind a last settle nothing is on its way, and no machine has a record of a process that has
+-- ended; and behind a last rest its passes were gone through whole, or all is at rest
 pub record EndsWell (b : Boot) (ds : List Directive) (p : RulePlace) : Type 0 where
   pub lasts : Lasts b ds
   pub rests : ends_settled ds ≡ true → QuietAtEnd p.end
+  pub forgotten : ends_settled ds ≡ true → AllForgotten p.end
   pub rested : ends_rested ds ≡ true → AreGoneThrough p.end.kernel.machines p.end p.left ⊎ RestsAtEnd p.end
 
 -- by the rule

@@ -1,6 +1,6 @@
 -- What is said of a run of the world is so by the rule.
 use Rattle.dm_program.proofs.Runs.Names.{◌≡◌, ℕ, true, List, [], length, drop, drop_all, refl, ap, ◌∙◌, sym, subst, inl, inr, arith, All, None, Some, Boot, IsValid, Step, Directive, EndLine, Line, Next, Todo, first_point, all_of, IsWorn, ends_settled, is_at_rest}
-use Rattle.dm_program.proofs.Runs.Names.{ends_at_rest, ends_quiet, Says, WornOut, todo_of, world_next_step, next_step, end_is_said, next_is_said, quiet_is_said, world_state, World, Stands, WorldState, IsFor, Carried, Carries, IsDone, WorldPlace, WorldWears}
+use Rattle.dm_program.proofs.Runs.Names.{at_rest_always, ends_at_rest, ends_quiet, Says, WornOut, todo_of, world_next_step, next_step, end_is_said, next_is_said, quiet_is_said, world_state, World, Stands, WorldState, IsFor, Carried, Carries, IsDone, WorldPlace, WorldWears}
 use Rattle.dm_program.proofs.Runs.Names.{by_world, EndsWell, IsGood, Lasts, RulePlace, RuleWears, WearsAfter}
 use Rattle.dm_settlelaws.proofs.Rests.EndsRested.{ends_rested_so}
 use Rattle.dm_settlelaws.proofs.Rests.EndsStill.{ends_still}
@@ -31,9 +31,10 @@ rests b ds p gs valid h over = record {
   rests = λ settled.
       let quiet = ends_quiet b h.stands.steps ds gs h.end h.left valid h.stands.leads h.stands.good.run over settled in
       record { quiet = quiet; lines = ends_at_rest b h.stands.steps h.end valid h.stands.leads quiet };
+  forgotten = λ settled. (at_rest_always b h.stands.steps h.end valid h.stands.leads (ends_quiet b h.stands.steps ds gs h.end h.left valid h.stands.leads h.stands.good.run over settled)).forgotten;
   rested = λ last. elim (ends_rested_so b h.stands.steps ds gs h.end h.left valid h.stands.leads h.stands.good.run over last) [
     | inl gone ↦ inl gone
-    | inr all ↦ inr (record { rest = all; lines = ends_still b h.stands.steps h.end valid h.stands.leads all })
+    | inr all ↦ inr (record { rest = all; lines = ends_still b h.stands.steps h.end valid h.stands.leads all; forgotten = (at_rest_always b h.stands.steps h.end valid h.stands.leads all.quiet).forgotten })
   ];
 }
 

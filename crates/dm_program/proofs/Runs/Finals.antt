@@ -3,7 +3,6 @@ use Rattle.dm_program.proofs.Runs.Names.{◌≡◌, ◌<◌, ℕ, zero, suc, ◌
 use Rattle.dm_program.proofs.Runs.Names.{None, Some, Addr, Link, Pid, pid_of, MsgId, Process, SlotIsLawful, Regs, Here, Frozen, Incoming, Forward, Named, IsLawfulNamed, Pending, first_number, switchboard, manager, KernelKnown, Servers}
 use Rattle.dm_program.proofs.Runs.Names.{IsLawfulKnown, IsLawfulPair, IsLawfulState, Arrival, restarted, Wanted, Chunk, Block, Nothing, EndLine, Standing, or, trimmed, block_line, memory_lines, joined_below, home_with, list_line, HidesNothing}
 use Rattle.dm_program.proofs.Runs.Names.{WorldState, of_known}
-use Rattle.dm_records.specs.declared.record.Record.TheVariants.{Ended}
 use Rattle.dm_line.specs.declared.end_line.EndLine.TheVariants as end
 use Rattle.dm_line.specs.declared.end_line.Standing.TheVariants as standing
 use Rattle.dm_onekernel.specs.declared.label.Why.{Why}
@@ -61,7 +60,6 @@ record_hides m p (Some (Here x)) h = alive_hides m p standing.Here x (lawful_hid
 record_hides m p (Some (Frozen leaving)) h = alive_hides m p standing.Leaving leaving.process (lawful_hides leaving.process.table (h (Frozen leaving) refl).process.links)
 record_hides m p (Some (Incoming arriving)) h = tt
 record_hides m p (Some (Forward machine moves)) h = tt
-record_hides m p (Some Ended) h = tt
 
 come_hides : (m : ℕ) (p : Pid) (o : Option Process) → ((x : Process) → o ≡ Some x → TableHides x.table) → SomeHide (ends.come_lines m p o)
 come_hides m p None h = tt
@@ -78,7 +76,6 @@ awaited_hides m p (Some (Here x)) = tt
 awaited_hides m p (Some (Frozen leaving)) = tt
 awaited_hides m p (Some (Incoming arriving)) = whole_hides m p arriving arriving.wanted
 awaited_hides m p (Some (Forward machine moves)) = tt
-awaited_hides m p (Some Ended) = tt
 
 listed_hides : (f : List MsgId → EndLine) (ids : List MsgId) → ((is : List MsgId) → HidesNothing (f is)) → Hide (list_line f ids)
 listed_hides f [] h = none_hide
@@ -90,7 +87,6 @@ queue_hides p (Some (Here x)) = listed_hides (end.Queue p) (ends.names_of x.queu
 queue_hides p (Some (Frozen leaving)) = listed_hides (end.Queue p) (ends.names_of leaving.process.queue) (λ is. tt)
 queue_hides p (Some (Incoming arriving)) = tt
 queue_hides p (Some (Forward machine moves)) = tt
-queue_hides p (Some Ended) = tt
 
 or_hides : (a b : Option (List EndLine)) → SomeHide a → SomeHide b → SomeHide (or a b)
 or_hides None b h k = k

@@ -32,7 +32,7 @@ pub use Rattle.dm_rulelaws.proofs.Names.{IsRun}
 pub use Rattle.dm_movelaws.proofs.Names.{EndLine, Standing, act_of, block_line, joined_below, home_with, list_line, memory_lines, or, trimmed}
 pub use Rattle.dm_settlelaws.proofs.Falls.TurnsFall.{turns_fall}
 pub use Rattle.dm_settlelaws.proofs.FewSteps.Few.{turns_left_few}
-pub use Rattle.dm_settlelaws.proofs.Names.{IsKept, IsSettleStep, Settle, Two, ends_settled, group_after, is_at_rest, stands_once_always, sum_below, turns_left}
+pub use Rattle.dm_settlelaws.proofs.Names.{IsKept, IsSettleStep, Settle, Two, at_rest_always, ends_settled, group_after, is_at_rest, stands_once_always, sum_below, turns_left}
 pub use Rattle.dm_settlelaws.proofs.Rests.EndsAtRest.{ends_at_rest}
 pub use Rattle.dm_settlelaws.proofs.Rests.EndsQuiet.{ends_quiet}
 pub use Rattle.dm_settlelaws.specs.Passes.{turns_in}
