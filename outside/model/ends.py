@@ -1,9 +1,18 @@
 """The lines at the end (docs/FORMATS.md, "Printed lines")."""
 
+from dataclasses import dataclass
+
 from values import MANAGER, SERVERS, SWITCHBOARD
-from world import Ended, Frozen, Here, Incoming
+from world import Frozen, Here, Incoming
 
 BLOCK = 256
+
+
+@dataclass
+class Ended:
+    """What the world keeps of a process that no machine knows of any more."""
+
+    why: int
 
 
 def list_line(*words, messages):
@@ -12,12 +21,12 @@ def list_line(*words, messages):
 
 def standings(world):
     """Where each process and each server is, in the order of their names: its record, and its machine. Of a process that has ended
-    the world knows why, where no machine knows of it any more."""
+    the world knows why."""
     found = {pid: (Ended(why), 0) for pid, why in world.ended.items()}
     for machine in world.machines:
         for pid, record in machine.records.items():
             # what leaves is there until it has gone; only then what comes is it
-            if isinstance(record, (Here, Frozen, Ended)) or isinstance(record, Incoming) and pid not in found:
+            if isinstance(record, (Here, Frozen)) or isinstance(record, Incoming) and pid not in found:
                 found[pid] = (record, machine.number)
     return sorted(found.items())
 

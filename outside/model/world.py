@@ -64,11 +64,6 @@ class Forward:
     moves: int
 
 
-@dataclass
-class Ended:
-    why: int
-
-
 class Machine:
     def __init__(self, number, slots, blocks):
         self.number = number
@@ -295,14 +290,12 @@ class World:
             self.end(machine, process, done[1])
 
     def end(self, machine, process, why):
-        """A process has ended: its queue goes with it, and where forwarding addresses are removed those that lead to it."""
+        """A process has ended: its queue goes with it, and the forwarding addresses that lead to it."""
         machine.ring.remove(process.pid)
-        machine.records[process.pid] = Ended(why)
         self.ended[process.pid] = why
         for message in process.queue:
             self.say("dropped", message.name)
-        if standing.BURYING:
-            self.forget(machine, process.pid, [])
+        self.forget(machine, process.pid, [])
 
     def forget(self, machine, pid, said):
         """A machine forgets a process that has ended, says this of it, and tells those that send on to it."""
