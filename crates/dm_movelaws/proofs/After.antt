@@ -8,7 +8,7 @@ after-append (x ∷ xs) ys pt mid end e f =
     let (next, first, rest) = bind-is (after_line pt x) (λ (q : Point). after q xs) mid e in
     ap (λ (o : Option Point). bind o (λ (q : Point). after q (xs ++ ys))) first ∙ after-append xs ys next mid end rest f
 
-spelled_after : (ps : List Part) (pt : Point) (w : Spelled) → spelled pt ps ≡ Some w → after pt w.lines ≡ Some w.point
+pub spelled_after : (ps : List Part) (pt : Point) (w : Spelled) → spelled pt ps ≡ Some w → after pt w.lines ≡ Some w.point
 spelled_after = by_parts (λ ps pt w. after pt w.lines ≡ Some w.point) (λ pt. refl) (λ p ps pt next ls z lines leads rest. after-append ls z.lines pt next z.point leads rest)
 
 pub group_after : (b : Boot) (pt : Point) (d : Step) (w : Spelled) → group_of b pt d ≡ Some w → after pt w.lines ≡ Some w.point

@@ -10,6 +10,7 @@ pub mod At
 pub mod CountsStay
 pub mod Promise
 pub mod Asked
+pub mod Requested
 pub mod Ends
 pub mod Stales
 pub mod Forwards

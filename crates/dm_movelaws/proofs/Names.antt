@@ -58,6 +58,7 @@ pub use Rattle.dm_rule.proofs.Phases.Quiet.{Tame, line_calm, parts_settle, plain
 pub use Rattle.dm_rule.proofs.Phases.Rests.{released_on}
 pub use Rattle.dm_rule.proofs.Phases.Stand.{called_known, comes_known, held_plain, piece_ways, pull_ways, queued_plain}
 pub use Rattle.dm_rule.proofs.Phases.Start.{start_known}
+pub use Rattle.dm_rule.proofs.Requests.{by_test}
 pub use Rattle.dm_rule.proofs.Said.{fits_as}
 pub use Rattle.dm_rule.proofs.Seen.{about_off}
 pub use Rattle.dm_rule.proofs.Serving.{Loose, buries_kept, ends_kept, loose_handles, loose_round}
@@ -74,6 +75,7 @@ pub use Rattle.dm_rule.proofs.Trails.Steps.{holds_on, sent_on_at, set_off, two_a
 pub use Rattle.dm_rule.proofs.Trails.Treads.{KnownFits, LabelFits, LineFits, PutFits, Treads, held_topic, line_treads, queued_topic, taken_topic}
 pub use Rattle.dm_rule.proofs.Trails.Within.{HeadIn, TrailsIn, Within, forwarded_acting, held_acting, line_within, queued_acting}
 pub use Rattle.dm_rule.proofs.Turns.{created_off, ended_off, serving_off}
+pub use Rattle.dm_rule.specs.Acts.{Act}
 pub use Rattle.dm_rule.specs.Addresses.{child_gets}
 pub use Rattle.dm_rule.specs.Ends.{Stood, alive_lines, awaits, child_lines, doing_of, each_process, end_lines, first_with, holding_lines, homes_with, inbox_lines, link_lines, name_lines, pending_lines, process_lines, queue_at, queue_lines}
 pub use Rattle.dm_rule.specs.Ends.{server_lines, slot_line, standing_of, state_lines, stood, stood_at, stream_lines}
@@ -100,6 +102,7 @@ pub use Rattle.dm_rulelaws.proofs.Found.Lists.{more_front}
 pub use Rattle.dm_rulelaws.proofs.Found.Parts.{again_same, own_fresh, own_outside, plain_own}
 pub use Rattle.dm_rulelaws.proofs.Found.Real.{made_free, named_real, or_cases, server_fixed}
 pub use Rattle.dm_rulelaws.proofs.Goes.Always.{front, front_own, own_by, stands_first, told_of}
+pub use Rattle.dm_rulelaws.proofs.Goes.Front.{here_free}
 pub use Rattle.dm_rulelaws.proofs.Goes.Own.{apart_is, destination_knows, server_leaves, source_knows}
 pub use Rattle.dm_rulelaws.proofs.Goes.Parts.{some_is}
 pub use Rattle.dm_rulelaws.proofs.Goes.Runs.{Both, both_group, both_start}
@@ -109,25 +112,25 @@ pub use Rattle.dm_rulelaws.proofs.Names.{About, Addresses, Again, Alive, AllSaya
 pub use Rattle.dm_rulelaws.proofs.Names.{Here, Holder, InPhases, Inbox, Incoming, IsIn, IsLeft, IsNet, IsNetLine, IsPending, IsStep, IsValid, KernelFits, Known, KnownStands, Label, Leads, LeadsBy, LeftOver, Life, LifeGrows, Line, Links}
 pub use Rattle.dm_rulelaws.proofs.Names.{List, Load, Manager, MessageKind, MoveNote, Moves, Moving, MsgId, Name, Named, NamedLink, None, NothingElse, Of, OneKernel, Option, Outcome, Outside, Owner, Owns, Pair, Part, Pending, PendingKind}
 pub use Rattle.dm_rulelaws.proofs.Names.{Phase, Phased, Pid, Place, PlainLink, PlainMessage, PlainProcess, PlainStatus, PlainWhat, Point, Queue, Ready, ReceivedAt, Receiver, Reply, Rests, Rooted, Routes, SaidOn, Sane, Sayable, Says, Sender}
-pub use Rattle.dm_rulelaws.proofs.Names.{Sends, ServerSends, Slot, Some, Sort, Sound, Spelled, Spot, Stage, StandsOutside, StandsRight, State, Step, Stops, Switchboard, Target, Token, Told, Transmits, Unknown, Untaken, View, Waiting}
-pub use Rattle.dm_rulelaws.proofs.Names.{WhatFits, Why, [], about_same, accepts, acting_place, after, after_head, after_line, after_put, after_step, agrees, aim, alive-is, all_follow, answer_id, answer_to, answers_move, ap, arith}
+pub use Rattle.dm_rulelaws.proofs.Names.{Sends, ServerSends, Slot, Some, Sort, Sound, Spelled, Spot, Stage, StandsOutside, StandsRight, State, Step, Stops, Switchboard, Target, Token, Told, Transmits, TurnsBack, Unknown, Untaken, View}
+pub use Rattle.dm_rulelaws.proofs.Names.{Waiting, WhatFits, Why, [], about_same, accepts, acting_place, after, after_head, after_line, after_put, after_step, agrees, aim, alive-is, all_follow, answer_id, answer_to, answers_move, ap, arith}
 pub use Rattle.dm_rulelaws.proofs.Names.{arrives_net, ascends, at_home, at_machine, at_machine_at, at_pair, at_place, at_record, at_record_at, bag_answered, bag_call, bag_created, bag_dropped, bag_end, bag_gone, bag_no_space, bag_out}
 pub use Rattle.dm_rulelaws.proofs.Names.{bag_ran, bag_receive, bag_refuse, bag_sends, bag_served, bag_took, bag_wait, behind, bind, bind-is, board_takes_lem, both_lists, both_times, buried, buries, bury_is, bury_over, by_calls_off}
 pub use Rattle.dm_rulelaws.proofs.Names.{by_forwards, by_group, by_handles, by_hears, by_migrates, by_net, by_outcome, by_parts, by_round, by_step, call_off, called_parts, calls_off, calm_phases, came, cases_Bool, child_is, chunks_of}
 pub use Rattle.dm_rulelaws.proofs.Names.{coming_is, counts, destination_expects, drop, dropped_known, due, due_or_left, ends_by, ends_move-is, ends_with, entry, eq_is, eq_self, false, false_from_ne_true, false≢true, filter, first_empty}
-pub use Rattle.dm_rulelaws.proofs.Names.{first_failed, first_gives, first_life, first_number, first_off, first_point, first_view, forwarded_back, forwarded_for, forwarded_known, forwards, forwards_on, front_gone, front_kernels, front_of}
-pub use Rattle.dm_rulelaws.proofs.Names.{front_way, gets, given, gives, gives_piece, goes_back, goes_between, goes_out, gone_to, group_is, group_of, grown_none, handled, handled_first, has_bytes, has_no_queue, has_nothing_held, head_calm}
-pub use Rattle.dm_rulelaws.proofs.Names.{hears, held_for, held_known, hidden, holder_eq, homes_are, hushed, id_eq, id_eq-is, id_eq-same, id_of, if◌then◌else◌, in_bag, inl, inr, is_alive, is_away, is_behind, is_between, is_calloff}
-pub use Rattle.dm_rulelaws.proofs.Names.{is_counted, is_early, is_fixed, is_here, is_kernels, is_kill, is_of_memory, is_piece, is_put, is_restart, is_server, is_some, is_told_back, kernel_after, kernel_hears, kernels_fresh, kind_comes}
-pub use Rattle.dm_rulelaws.proofs.Names.{kind_leaves, known_at, knows, label_of, label_on, label_topic, labels, lands-is, leaves, leaves_for, left_parts, length, length-append, length-drop, length-take, letters, life_at, lines_of, link_at}
-pub use Rattle.dm_rulelaws.proofs.Names.{link_target, machine_of, manager, manager_gets, manager_takes_lem, map, migrates, move_fits, move_target, moved, moves_away, nat_le, nat_lt, nat_tests, not, not_false, not_kernels, not_server}
-pub use Rattle.dm_rulelaws.proofs.Names.{not_true, note-is, numbered_from, one_of, option_map, option_map_or, or_first, out_off, outcome, outcome_sayable, own_given, own_id, packet_line, pair_keeps, part_sane, parts, pending_of}
-pub use Rattle.dm_rulelaws.proofs.Names.{phased_group, phased_start, pid_eq, pid_eq-is, pid_eq-same, pid_eq-swap, pid_of, piece_fits, pieces_of, place_told, plain_kind, plain_link, preds_of, process_told, proto_acting, proto_known}
-pub use Rattle.dm_rulelaws.proofs.Names.{pulls_piece, put_at, put_told_off, puts, queued_known, receiver_in, receiver_of, reception, refl, rejoins, replay, resends_net, rests_here, right_true, rooted, sane_line, second, seen, seen_none}
-pub use Rattle.dm_rulelaws.proofs.Names.{sender_in, sender_of, sends_on, sent_at, served_keeps, served_told, sets, slice_get, sort_of, source_holds, spelled, standing, stands_right, start, start-sound, status_awaits, stayed, subst, suc}
-pub use Rattle.dm_rulelaws.proofs.Names.{switchboard, sym, take, taken_id, takes_block, takes_chunk, target_of, tells_asker, tells_between, tells_end, tells_onward, times, times-append, to_kernel, to_of, token_at, token_is, told_between}
-pub use Rattle.dm_rulelaws.proofs.Names.{told_ended, told_here, told_server, told_some, told_step, topic_by, true, turn_off, under_way, untaken, updated, updates, view_after, with_label, with_note, with_process, with_sent, without_front}
-pub use Rattle.dm_rulelaws.proofs.Names.{without_id, without_message, without_note, zero, ℕ, ⊤, ◌&&◌, ◌++◌, ◌+◌, ◌-◌, ◌/◌, ◌<◌, ◌==◌, ◌||◌, ◌∙◌, ◌∷◌, ◌≡◌, ◌≢◌, ◌≤◌, ◌⊎◌}
+pub use Rattle.dm_rulelaws.proofs.Names.{first_failed, first_gives, first_life, first_number, first_off, first_point, first_told, first_view, forwarded_back, forwarded_for, forwarded_known, forwards, forwards_on, front_gone, front_kernels}
+pub use Rattle.dm_rulelaws.proofs.Names.{front_of, front_one, front_way, gets, given, gives, gives_piece, goes_back, goes_between, goes_out, gone_to, group_is, group_of, grown_none, handled, handled_first, has_bytes, has_no_queue}
+pub use Rattle.dm_rulelaws.proofs.Names.{has_nothing_held, head_calm, hears, held_for, held_known, hidden, holder_eq, homes_are, hushed, id_eq, id_eq-is, id_eq-same, id_of, if◌then◌else◌, in_bag, inl, inr, is_alive, is_away, is_behind}
+pub use Rattle.dm_rulelaws.proofs.Names.{is_between, is_calloff, is_counted, is_early, is_fixed, is_here, is_kernels, is_kill, is_of_memory, is_piece, is_put, is_restart, is_server, is_some, is_told_back, kernel_after, kernel_hears}
+pub use Rattle.dm_rulelaws.proofs.Names.{kernels_fresh, kind_comes, kind_leaves, known_at, knows, label_of, label_on, label_topic, labels, lands-is, leaves, leaves_for, left_parts, length, length-append, length-drop, length-take, letters}
+pub use Rattle.dm_rulelaws.proofs.Names.{life_at, lines_of, link_at, link_target, machine_of, manager, manager_gets, manager_takes_lem, map, migrates, move_fits, move_target, moved, moves_away, nat_le, nat_lt, nat_tests, not, not_false}
+pub use Rattle.dm_rulelaws.proofs.Names.{not_kernels, not_server, not_true, note-is, numbered_from, one_of, option_map, option_map_or, or_first, out_off, outcome, outcome_sayable, own_given, own_id, packet_line, pair_keeps, part_sane}
+pub use Rattle.dm_rulelaws.proofs.Names.{parts, pending_of, phased_group, phased_start, pid_eq, pid_eq-is, pid_eq-same, pid_eq-swap, pid_of, piece_fits, pieces_of, place_told, plain_kind, plain_link, preds_of, process_told, proto_acting}
+pub use Rattle.dm_rulelaws.proofs.Names.{proto_known, pulls_piece, put_at, put_told_off, puts, queued_known, receiver_in, receiver_of, reception, refl, rejoins, replay, resends_net, rests_here, right_true, rooted, sane_line, second, seen}
+pub use Rattle.dm_rulelaws.proofs.Names.{seen_none, sender_in, sender_of, sends_on, sent_at, served_keeps, served_told, sets, slice_get, sort_of, source_holds, spelled, standing, stands_right, start, start-sound, status_awaits, stayed}
+pub use Rattle.dm_rulelaws.proofs.Names.{subst, suc, switchboard, sym, take, taken_id, takes_block, takes_chunk, target_in, target_of, tells_asker, tells_between, tells_end, tells_onward, times, times-append, to_kernel, to_of, token_at}
+pub use Rattle.dm_rulelaws.proofs.Names.{token_is, told_between, told_ended, told_here, told_server, told_some, told_step, topic_by, true, turn_off, under_way, untaken, updated, updates, view_after, with_label, with_note, with_process}
+pub use Rattle.dm_rulelaws.proofs.Names.{with_sent, without_front, without_id, without_message, without_note, zero, ℕ, ⊤, ◌&&◌, ◌++◌, ◌+◌, ◌-◌, ◌/◌, ◌<◌, ◌==◌, ◌||◌, ◌∙◌, ◌∷◌, ◌≡◌, ◌≢◌, ◌≤◌, ◌⊎◌}
 pub use Rattle.dm_rulelaws.proofs.Own.Told.{is_place, own_sort}
 pub use Rattle.dm_rulelaws.proofs.Queued.{IsQueued}
 pub use Rattle.dm_rulelaws.proofs.RunLabels.{after_replay, group_replay, labels-append, replay-append}
@@ -150,8 +153,9 @@ pub use Rattle.dm_movelaws.specs.Predecessors.{ByBury, ByCallOff, ByPreds, IsHel
 pub use Rattle.dm_movelaws.specs.Promise.{IsUnderWay, Promised, PromisesAlways, Unfilled, fills, update_of}
 pub use Rattle.dm_movelaws.specs.Protocol.{ProtocolMoves}
 pub use Rattle.dm_movelaws.specs.Real.{IsAboutReal, IsReal, Kernel, Made, RealAlways, Server}
+pub use Rattle.dm_movelaws.specs.Requested.{AnswersAreSo, AnswersSo, Directive, IsAsked, IsDirected, IsNamedMachine, IsRefused, IsSo, MovesAsNamed, Request, starts, takes_in}
 pub use Rattle.dm_movelaws.specs.Routed.{AreRouted, RoutedAlways, routed, with_put}
-pub use Rattle.dm_movelaws.specs.Stages.{Calling, Lacking, Mark, Reached, Staying, StepsInOrder, follows, in_order, left_open, mark_for, marks, step_number, with_mark}
+pub use Rattle.dm_movelaws.specs.Stages.{Calling, Lacking, Mark, Reached, Staying, StepsInOrder, follows, in_order, left_open, mark_for, mark_in, marks, step_number, with_mark}
 pub use Rattle.dm_movelaws.specs.Stales.{StalesAlways, calls, is_about, stales}
 pub use Rattle.dm_movelaws.specs.Trail.{AddressesLead, ByForward, ByHolder, ByOwn, ByRequest, ByUpdate, IsLast, IsLed, IsNamed, Reaches, TrailStands, TrailsStand, ends_walk, has_it}
 pub use Rattle.dm_movelaws.specs.Updates.{Updated, UpdatesAlways, is_owner, listings}

@@ -4,6 +4,7 @@ pub mod Counts
 pub mod Stages
 pub mod Ends
 pub mod Asked
+pub mod Requested
 pub mod Promise
 pub mod Trail
 pub mod Lists

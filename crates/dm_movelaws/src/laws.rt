@@ -16,6 +16,7 @@ ghost use Rattle.dm_movelaws.specs.Predecessors.{PredecessorsAlways};
 ghost use Rattle.dm_movelaws.specs.Promise.{PromisesAlways};
 ghost use Rattle.dm_movelaws.specs.Protocol.{ProtocolMoves};
 ghost use Rattle.dm_movelaws.specs.Real.{RealAlways};
+ghost use Rattle.dm_movelaws.specs.Requested.{AnswersAreSo, MovesAsNamed};
 ghost use Rattle.dm_movelaws.specs.Routed.{RoutedAlways};
 ghost use Rattle.dm_movelaws.specs.Stages.{StepsInOrder};
 ghost use Rattle.dm_movelaws.specs.Stales.{StalesAlways};
@@ -247,4 +248,17 @@ pub fn moved_is_said()
 /// Wherever the rule leads from a boot file, a process follows a request to move only while it moves.
 pub fn follows_while_moving()
     ensures { FollowsWhileMoving }
+{}
+
+/// Wherever the rule leads from a boot file, what the answer to a request to move says holds where it is said. That it has moved: the
+/// process is on the machine that says so, and that is the one which the request named. That it stays: it is on the machine where it was
+/// asked, and since then a machine had no room for it, or called its move off.
+pub fn answers_are_so()
+    ensures { AnswersAreSo }
+{}
+
+/// Wherever the rule leads from a boot file, a process moves to the machine that was named: its steps 3 and 8, and the lines that it
+/// lacks room or is called off, are said on the machine that the request named which its last step 1 followed, or the directive.
+pub fn moves_as_named()
+    ensures { MovesAsNamed }
 {}

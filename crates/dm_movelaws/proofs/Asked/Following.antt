@@ -1,9 +1,9 @@
 -- A process follows a request to move only while it moves.
 use Rattle.dm_movelaws.proofs.Names.{◌≡◌, ℕ, ◌==◌, Bool, true, false, refl, ap, ◌∙◌, sym, if◌then◌else◌, Option, Some, false≢true, Pid, MsgId, MessageKind, Boot, Point, View, Known, Phase, Nowhere, Rests, Over, Moves, knows, is_here, IsIn}
-use Rattle.dm_movelaws.proofs.Names.{first_point, is_server, eq_self, run_always, nat_tests, arith, FollowsWhileMoving, MoveNote, Based, List, [], ◌∷◌, ◌++◌, None, pid_eq, Stage, Outcome, manager, Label, OneKernel, PlainMessage, PlainWhat}
-use Rattle.dm_movelaws.proofs.Names.{with_sent, Step, Line, Told, Here, Addresses, label_of, Part, Says, Spelled, spelled, outcome, sends_on, to_kernel, forwards_on, answers_move, leaves_for, IsNetLine, by_round, by_handles, by_hears}
-use Rattle.dm_movelaws.proofs.Names.{by_forwards, by_migrates, by_outcome, by_step, bind-is, said_by, plain_kind, asked_noted, ends_move-is, begun, asks, ◌+◌, ◌≤◌, id_eq, id_eq-is, id_eq-same, in_bag, entry, reception, replay, Sound}
-use Rattle.dm_movelaws.proofs.Names.{after_step, not_true, by_calls_off, ends_with, ends_kept, buries_kept, preds_of, living_phase, is_gone}
+use Rattle.dm_movelaws.proofs.Names.{first_point, eq_self, run_always, nat_tests, arith, FollowsWhileMoving, MoveNote, Based, List, [], ◌∷◌, ◌++◌, None, pid_eq, Stage, Outcome, manager, Label, OneKernel, PlainMessage, PlainWhat, with_sent}
+use Rattle.dm_movelaws.proofs.Names.{Step, Line, Told, Here, Addresses, label_of, Part, Says, Spelled, spelled, outcome, sends_on, to_kernel, forwards_on, answers_move, leaves_for, IsNetLine, by_round, by_handles, by_hears, by_forwards}
+use Rattle.dm_movelaws.proofs.Names.{by_migrates, by_outcome, by_step, bind-is, said_by, plain_kind, asked_noted, ends_move-is, begun, asks, ◌+◌, ◌≤◌, id_eq, id_eq-is, id_eq-same, in_bag, entry, reception, replay, Sound, after_step}
+use Rattle.dm_movelaws.proofs.Names.{not_true, by_calls_off, ends_with, ends_kept, buries_kept, preds_of, living_phase, is_gone}
 use Rattle.dm_onekernel.specs.Step as kernel
 use Rattle.dm_rule.specs.Rule as rule
 use Rattle.dm_movelaws.proofs.Open.Moves.{leads_of}

@@ -63,7 +63,7 @@ asker_mild : (p : Pid) (o : Option MoveNote) (r : Outcome) → AllMild p None (t
 asker_mild p None r = tt
 asker_mild p (Some n) r = (tt, (tt, tt))
 
-home_known : (pt : Point) (l : Line) (o : Option MoveNote) (r : Outcome) (w : Spelled) (q : Pid) → label_of l ≡ None → (view_after pt.view l).known ≡ at_record pt.view.known pt.view.acting q Here
+pub home_known : (pt : Point) (l : Line) (o : Option MoveNote) (r : Outcome) (w : Spelled) (q : Pid) → label_of l ≡ None → (view_after pt.view l).known ≡ at_record pt.view.known pt.view.acting q Here
     → spelled pt (Says l ∷ tells_asker o r) ≡ Some w → w.point.view.known pt.view.acting q ≡ Here
 home_known pt l o r w q none known e = search (arith, line_next, pt.view.acting, asker_known, pt.kernel, at_record_at, pt.view.known)
 
