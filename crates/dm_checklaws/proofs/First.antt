@@ -23,7 +23,7 @@ end_from number n f (judge.Nothing p) is = cc
 end_from number n f (End [] k) is = cc
 end_from number n f (End (e ∷ es) k) is = cc
 
-last_from : (number n : ℕ) (f : TraceFault) (due : Due) (t : Bool) → (if t then text_ended due number else Refused number NotALine) ≡ Refused n f → number ≡ n
+pub last_from : (number n : ℕ) (f : TraceFault) (due : Due) (t : Bool) → (if t then text_ended due number else Refused number NotALine) ≡ Refused n f → number ≡ n
 last_from number n f due true is = end_from number n f due is
 last_from number n f due false is = cc
 

@@ -7,3 +7,6 @@ pub mod Led
 pub mod Runs
 pub mod Printed
 pub mod First
+pub mod Counts
+pub mod Going
+pub mod Before

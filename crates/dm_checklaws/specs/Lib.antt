@@ -2,3 +2,4 @@ pub mod Verdict
 pub mod Good
 pub mod Laws
 pub mod First
+pub mod Before

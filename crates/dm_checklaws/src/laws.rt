@@ -1,4 +1,5 @@
 //! What the verdict is on what the system prints, whoever asks.
+ghost use Rattle.dm_checklaws.specs.Before.{LinesBeforeArePrinted};
 ghost use Rattle.dm_checklaws.specs.First.{RefusalsAreFirst};
 ghost use Rattle.dm_checklaws.specs.Laws.{BeginningsAreOpen, RunsAreEnded, TracesAreGood};
 
@@ -22,4 +23,10 @@ pub fn runs_are_ended()
 /// for the same reason. That it is no line is said exactly where the line has no shape, or no line feed.
 pub fn refusals_are_first()
     ensures { RefusalsAreFirst }
+{}
+
+/// And the lines before that one begin what the system prints for some directives; but where the last of them says of a process that it
+/// ran fewer instructions than it does, the others do.
+pub fn lines_before_are_printed()
+    ensures { LinesBeforeArePrinted }
 {}
