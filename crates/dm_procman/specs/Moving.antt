@@ -20,12 +20,12 @@ use Rattle.dm_procman.specs.Making.{address_at}
 abbrev pub child_named : Pid → List Addr → Option Addr
 child_named p children = find (λ a. pid_eq a.pid p) children
 
--- the message that tells it to move
-abbrev pub tells_to_move : MsgId → ℕ → Option Addr → Result Message MoveError
-tells_to_move id machine None = Err no.Unknown
-tells_to_move id machine (Some child) = Ok (record { id = id; to = child; sender = address_at 0; what = what.Migrate machine })
+-- the message that tells it to move, from a manager that has moved so often
+abbrev pub tells_to_move : ℕ → MsgId → ℕ → Option Addr → Result Message MoveError
+tells_to_move moves id machine None = Err no.Unknown
+tells_to_move moves id machine (Some child) = Ok (record { id = id; to = child; sender = address_at 0 moves; what = what.Migrate machine })
 
 -- the servers don't move, and others that aren't children are unknown
-abbrev pub moves_child : List Addr → Pid → ℕ → MsgId → Result Message MoveError
-moves_child children p machine id =
-    if pid_eq p switchboard || pid_eq p manager then Err no.Pinned else tells_to_move id machine (child_named p children)
+abbrev pub moves_child : ℕ → List Addr → Pid → ℕ → MsgId → Result Message MoveError
+moves_child moves children p machine id =
+    if pid_eq p switchboard || pid_eq p manager then Err no.Pinned else tells_to_move moves id machine (child_named p children)

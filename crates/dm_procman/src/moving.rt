@@ -20,9 +20,15 @@ pub enum MoveError {
     Pinned,
 }
 
-/// The message that tells a child to move to machine `to`, under the name `id`.
-pub fn move_child(children: &Children, pid: Pid, to: u8, id: MsgId) -> Result<Message, MoveError>
-    ensures { result ≡ moves_child children.now pid to id }
+/// The message that tells a child to move to machine `to`, under the name `id`, from a manager that has moved so often.
+pub fn move_child(
+    children: &Children,
+    moves: u32,
+    pid: Pid,
+    to: u8,
+    id: MsgId,
+) -> Result<Message, MoveError>
+    ensures { result ≡ moves_child moves children.now pid to id }
 {
     if pid == SWITCHBOARD || pid == MANAGER {
         return Err(MoveError::Pinned);
@@ -31,7 +37,7 @@ pub fn move_child(children: &Children, pid: Pid, to: u8, id: MsgId) -> Result<Me
         Some(child) => Ok(Message {
             id,
             to: child,
-            sender: address_at(0),
+            sender: address_at(0, moves),
             what: What::Migrate { machine: to },
         }),
         None => Err(MoveError::Unknown),

@@ -9,6 +9,7 @@ ghost use Rattle.dm_statebytes.specs.Shell.{shell, shell_of, shell_of_bytes, she
 ghost use Rattle.dm_statebytes.specs.Widths.{FitsShell};
 
 mod reading;
+pub mod server;
 mod status;
 mod writing;
 
