@@ -2,22 +2,32 @@
 //! system's tables: both tables, `runs` and `rows`, lie in data/ beside the files that they name. Then what no run shows.
 #![tactic(auto)]
 
+mod failing;
+mod memory;
+mod once;
 mod others;
 mod program;
 mod real;
 mod row;
 mod run;
+mod sized;
 
 use anyhow::{Context, Result};
-use others::{fail_writes, say_errors, step_flat};
+use failing::{fail_in_turn, fail_once};
+use memory::take_memory;
+use others::{say_errors, step_flat};
 use real::{read_files, write_out};
 use row::Row;
 use run::{Ending, Run};
+use sized::run_large;
 use std::{fs, io};
 
 fn main(rt: HostRuntime) -> Result<()> {
     show_tables(&rt)?;
-    fail_writes(&rt)?;
+    fail_in_turn(&rt)?;
+    fail_once(&rt)?;
+    run_large(&rt)?;
+    take_memory(&rt)?;
     read_files(&rt)?;
     write_out(&rt)?;
     step_flat(&rt)?;

@@ -1,7 +1,5 @@
-//! What no run of the table shows: each write of a run and of a drill that fails, a flat memory, and what errors say of
-//! themselves.
+//! What no run of the table shows: a flat memory, and what errors say of themselves.
 
-use crate::program::{run_over_files, sink_of};
 use anyhow::Result;
 use dm_boot::{BootError, BootRule};
 use dm_check::{CheckError, TraceFault};
@@ -51,48 +49,6 @@ const TRACE_FAULTS: [TraceFault; 4] = [
     TraceFault::NotAStep,
     TraceFault::NotTheEnd,
 ];
-
-/// What writes more than once: a name, the words, and how many writes there are.
-const WRITERS: [(&str, &str, u64); 2] = [
-    ("run", "run --boot hi.boot --schedule hi.schedule", 10),
-    ("drill", "drill --seed 0 --machines 2 --lines 1 --trace", 4),
-];
-
-/// Lets each write fail in turn, and none at last: each group is written when it has come, and none behind a write that failed.
-pub fn fail_writes(rt: &HostRuntime) -> Result<()> {
-    for (name, words, tries) in &WRITERS {
-        fail_each(rt, name, words, *tries)?;
-    }
-    Ok(())
-}
-
-/// Runs the program so often, each time with one more write before the one that fails.
-fn fail_each(rt: &HostRuntime, name: &str, words: &str, tries: u64) -> Result<()> {
-    for before in 0..tries {
-        fail_write(rt, name, words, before)?;
-    }
-    Ok(())
-}
-
-/// Runs the program with a write that fails behind so many, and says what it came to.
-fn fail_write(rt: &HostRuntime, name: &str, words: &str, before: u64) -> Result<()> {
-    let alloc = rt.alloc();
-    let fails = Vec::from_slice(alloc, &[before.saturating_add(1)])?;
-    let done = run_over_files(rt, words, sink_of(alloc, 4_096, fails)?)?;
-    say_done(rt, name, before, done.line(), done.out.bytes().len())?;
-    Ok(())
-}
-
-/// Says what a run came to whose write failed behind so many.
-fn say_done(
-    rt: &HostRuntime,
-    name: &str,
-    before: u64,
-    line: &str,
-    written: usize,
-) -> io::Result<()> {
-    println!(rt; "{name}, write fails behind {before}: {line:?}, {written} bytes")
-}
 
 /// Four instructions over a flat memory.
 pub fn step_flat(rt: &HostRuntime) -> Result<()> {

@@ -1,10 +1,9 @@
 //! The program on some words, over a shelf, and what it comes to.
 
-use dm_outside::{MemSink, RealShelf, Shelf};
+use dm_outside::{MemSink, RealShelf, Shelf, Sink};
 use dm_program::finish;
 use std::alloc::{AllocError, Global};
 use std::process::ExitCode;
-use std::str;
 
 /// The most bytes of a line on standard error.
 const LONGEST_LINE: usize = 96;
@@ -17,34 +16,38 @@ pub struct Done {
     pub errors: MemSink,
 }
 
-impl Done {
-    /// The line on standard error, without its line feed: empty for none.
-    pub fn line(&self) -> &str {
-        str::from_utf8(self.errors.bytes()).unwrap_or("").trim_end()
-    }
-}
-
 /// Runs the program over real files, into this standard output. Between its words stands a space, and its name isn't among them.
 pub fn run_over_files(rt: &HostRuntime, words: &str, out: MemSink) -> Result<Done, AllocError> {
     let mut shelf = RealShelf::new(rt);
-    run_program(rt.alloc(), words, &mut shelf, out)
+    run_over(rt.alloc(), words, &mut shelf, out)
 }
 
 /// Runs the program over a shelf, into this standard output.
-fn run_program<F: Shelf>(
+pub fn run_over<F: Shelf>(
     alloc: Global,
     words: &str,
     shelf: &mut F,
     mut out: MemSink,
 ) -> Result<Done, AllocError> {
-    let words = given(alloc, words)?;
-    let mut errors = sink_of(alloc, LONGEST_LINE, Vec::new(alloc))?;
-    let status = finish(alloc, Ok(words), shelf, &mut out, &mut errors);
+    let (status, errors) = run_into(alloc, words, shelf, &mut out)?;
     Ok(Done {
         status,
         out,
         errors,
     })
+}
+
+/// Runs the program over a shelf, into any standard output: its status, and what it wrote on standard error.
+pub fn run_into<F: Shelf, K: Sink>(
+    alloc: Global,
+    words: &str,
+    shelf: &mut F,
+    out: &mut K,
+) -> Result<(ExitCode, MemSink), AllocError> {
+    let words = given(alloc, words)?;
+    let mut errors = sink_of(alloc, LONGEST_LINE, Vec::new(alloc))?;
+    let status = finish(alloc, Ok(words), shelf, out, &mut errors);
+    Ok((status, errors))
 }
 
 /// A sink that takes so many bytes, and fails at the writes of these numbers, counted from 1.

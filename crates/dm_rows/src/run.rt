@@ -102,7 +102,7 @@ impl<'a> Expected<'a> {
 }
 
 /// Whether the bytes are this line with its line feed, or nothing where it is empty.
-fn is_line(bytes: &[u8], line: &str) -> bool {
+pub fn is_line(bytes: &[u8], line: &str) -> bool {
     match bytes.split_last() {
         Some((last, text)) => *last == b'\n' && text == line.as_bytes() && !line.is_empty(),
         None => line.is_empty(),

@@ -1,0 +1,178 @@
+//! The calls that may lack memory, each at a size: more than 65,536 values in a list, as many keys in a map, as many zeros as one may
+//! ask for. Whether a call lacks memory depends on the allocator alone, so here none does.
+
+use anyhow::Result;
+use dm_memory::{
+    NoMemory, append_zeros, extend_from_slice, from_slice, insert, insert_or_return, push,
+    push_back, push_back_or_return, push_front, push_or_return, repeated, reserve_for,
+    room_for_both, with_room, zeros,
+};
+use std::alloc::Global;
+use std::collections::{BTreeMap, VecDeque};
+use std::io;
+
+/// More values than two bytes can count.
+const MANY: u32 = 70_000;
+
+/// As many zeros as one may ask for at once.
+const MOST_ZEROS: u32 = 65_536;
+
+/// As many of the same value as one may ask for at once.
+const MOST_REPEATED: usize = 256;
+
+/// More room than any list of the program is given at once.
+const ROOM: usize = 1_048_576;
+
+/// Makes each call at its size, and says how many values came of it.
+pub fn take_memory(rt: &HostRuntime) -> Result<()> {
+    let alloc = rt.alloc();
+    say_taken(rt, "push", pushed(alloc))?;
+    say_taken(rt, "push_or_return", pushed_or_returned(alloc))?;
+    say_taken(rt, "reserve_for", reserved(alloc))?;
+    say_taken(rt, "extend_from_slice", extended(alloc))?;
+    say_taken(rt, "append_zeros", zeros_appended(alloc))?;
+    say_taken(rt, "with_room", roomy(alloc))?;
+    say_taken(rt, "from_slice", copied(alloc))?;
+    say_taken(rt, "zeros", zeroed(alloc))?;
+    say_taken(rt, "repeated", same(alloc))?;
+    say_taken(rt, "push_back", pushed_back(alloc))?;
+    say_taken(rt, "push_back_or_return", pushed_back_or_returned(alloc))?;
+    say_taken(rt, "push_front", pushed_front(alloc))?;
+    say_taken(rt, "room_for_both", roomy_for_both(alloc))?;
+    say_taken(rt, "insert", inserted(alloc))?;
+    say_taken(rt, "insert_or_return", inserted_or_returned(alloc))?;
+    Ok(())
+}
+
+/// Says how many values came of a call, or that memory lacked.
+fn say_taken(rt: &HostRuntime, call: &str, taken: Result<usize, NoMemory>) -> io::Result<()> {
+    match taken {
+        Ok(count) => println!(rt; "memory, {call}: {count}"),
+        Err(no) => println!(rt; "memory, {call}: WRONG, {no}"),
+    }
+}
+
+/// Many values, added at the end of a list.
+fn pushed(alloc: Global) -> Result<usize, NoMemory> {
+    let mut list = Vec::new(alloc);
+    for number in 0..MANY {
+        push(&mut list, number)?;
+    }
+    Ok(list.len())
+}
+
+/// The same, by the call that hands back.
+fn pushed_or_returned(alloc: Global) -> Result<usize, NoMemory> {
+    let mut list = Vec::new(alloc);
+    for number in 0..MANY {
+        if let Err((_, no)) = push_or_return(&mut list, number) {
+            return Err(no);
+        }
+    }
+    Ok(list.len())
+}
+
+/// A list with room for one value more.
+fn reserved(alloc: Global) -> Result<usize, NoMemory> {
+    let mut list = zeros(alloc, MOST_ZEROS)?;
+    reserve_for(&mut list, &0)?;
+    Ok(list.len())
+}
+
+/// Bytes, added at the end of as many.
+fn extended(alloc: Global) -> Result<usize, NoMemory> {
+    let more = zeros(alloc, MOST_ZEROS)?;
+    let mut list = zeros(alloc, MOST_ZEROS)?;
+    extend_from_slice(&mut list, more.as_slice())?;
+    Ok(list.len())
+}
+
+/// Zeros, added at the end of as many.
+fn zeros_appended(alloc: Global) -> Result<usize, NoMemory> {
+    let mut list = zeros(alloc, MOST_ZEROS)?;
+    append_zeros(&mut list, MOST_ZEROS)?;
+    Ok(list.len())
+}
+
+/// The room of an empty list.
+fn roomy(alloc: Global) -> Result<usize, NoMemory> {
+    let list: Vec<u64> = with_room(alloc, ROOM)?;
+    Ok(list.capacity())
+}
+
+/// The bytes of a slice.
+fn copied(alloc: Global) -> Result<usize, NoMemory> {
+    let bytes = zeros(alloc, MOST_ZEROS)?;
+    let list = from_slice(alloc, bytes.as_slice())?;
+    Ok(list.len())
+}
+
+/// Zeros.
+fn zeroed(alloc: Global) -> Result<usize, NoMemory> {
+    let list = zeros(alloc, MOST_ZEROS)?;
+    Ok(list.len())
+}
+
+/// A value again and again.
+fn same(alloc: Global) -> Result<usize, NoMemory> {
+    let list = repeated(alloc, 7u64, MOST_REPEATED)?;
+    Ok(list.len())
+}
+
+/// Many values, added at the back of a list.
+fn pushed_back(alloc: Global) -> Result<usize, NoMemory> {
+    let mut list = VecDeque::new(alloc);
+    for number in 0..MANY {
+        push_back(&mut list, number)?;
+    }
+    Ok(list.len())
+}
+
+/// The same, by the call that hands back.
+fn pushed_back_or_returned(alloc: Global) -> Result<usize, NoMemory> {
+    let mut list = VecDeque::new(alloc);
+    for number in 0..MANY {
+        if let Err((_, no)) = push_back_or_return(&mut list, number) {
+            return Err(no);
+        }
+    }
+    Ok(list.len())
+}
+
+/// Many values, put before the front of a list.
+fn pushed_front(alloc: Global) -> Result<usize, NoMemory> {
+    let mut list = VecDeque::new(alloc);
+    for number in 0..MANY {
+        push_front(&mut list, number)?;
+    }
+    Ok(list.len())
+}
+
+/// The room of a list for two others together.
+fn roomy_for_both(alloc: Global) -> Result<usize, NoMemory> {
+    let mut front = VecDeque::new(alloc);
+    push_back(&mut front, 0u8)?;
+    let back = zeros(alloc, MOST_ZEROS)?;
+    let list = room_for_both(alloc, &front, &back)?;
+    Ok(list.capacity())
+}
+
+/// Many values, each under a key of its own.
+fn inserted(alloc: Global) -> Result<usize, NoMemory> {
+    let mut map = BTreeMap::new(alloc);
+    for number in 0..MANY {
+        insert(&mut map, number, number)?;
+    }
+    Ok(map.len())
+}
+
+/// The same, by the call that hands back.
+fn inserted_or_returned(alloc: Global) -> Result<usize, NoMemory> {
+    let mut map = BTreeMap::new(alloc);
+    for number in 0..MANY {
+        if let Err((_, no)) = insert_or_return(&mut map, number, number) {
+            return Err(no);
+        }
+    }
+    Ok(map.len())
+}
