@@ -434,3 +434,10 @@ def drawn_drill(number):
     chance = Random(f"drill {number}")
     seed, machines, count = chance.randrange(2**32), chance.randint(2, 16), chance.choice([1, 10, 40, 100, 200])
     return ["drill", "--seed", str(seed), "--machines", str(machines), "--lines", str(count), *["--trace"] * chance.randrange(2)]
+
+
+def drawn_own_drill(number, boot):
+    """A drill of the system of this boot file."""
+    chance = Random(f"own drill {number}")
+    seed, count = chance.randrange(2**32), chance.choice([1, 10, 40, 100, 200])
+    return ["drill", "--boot", boot, "--seed", str(seed), "--lines", str(count), *chance.choice([[], ["--trace"], ["--schedule"]])]

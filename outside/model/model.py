@@ -4,6 +4,7 @@
     python3 outside/model/model.py run --boot FILE --schedule FILE
     python3 outside/model/model.py check --boot FILE --trace FILE
     python3 outside/model/model.py drill --seed N --machines M --lines L [--trace]
+    python3 outside/model/model.py drill --boot FILE --seed N --lines L [--trace | --schedule]
     python3 outside/model/model.py count --boot FILE --schedule FILE
 
 writes what the program writes, and ends with its status and its line on standard error. It was written from the rules
@@ -116,7 +117,7 @@ def do_explain(words, write):
 
 
 def do_drill(words, write):
-    own = standing.COMMANDS and any(word.partition("=")[0] == "--boot" for word in words)
+    own = any(word.partition("=")[0] == "--boot" for word in words)
     wanted = ["--seed", "--lines", "--boot" if own else "--machines"]
     options = options_of(words, wanted, *(["--trace", "--schedule"] if own else ["--trace"]))
     if "--trace" in options and "--schedule" in options:

@@ -1,7 +1,10 @@
 -- What is said in some terms is said in others to which they are carried.
-use Rattle.dm_commands.proofs.Names.{◌≡◌, inl, inr, ℕ, Bool, false, List, length, Option, Some, None, Boot, Directive, IsValid, All, IsFor, World, Verdict, good_verdict, Drill as TheDrill, boot_of_machines, directives_of_drill, IsWithin}
+use Rattle.dm_commands.proofs.Names.{◌≡◌, inl, inr, ℕ, Bool, true, false, List, length, Option, Some, None, Boot, Directive, IsValid, All, IsFor, World, Verdict, good_verdict, Drill as TheDrill, boot_of_machines, directives_of_drill, IsWithin}
 use Rattle.dm_commands.proofs.Names.{Status, Done, Usage, ReadFault, NoMemory, WriteFault, BootRefused, ScheduleRefused, TooLong, Worn, TraceRefused, Request, Chart, Check, Count, Explain, Run}
-use Rattle.dm_words.specs.Request.{Drill}
+use Rattle.dm_draw.specs.declared.drill.OwnDrill.{OwnDrill as TheOwnDrill}
+use Rattle.dm_draw.specs.declared.drill.Shows.{Shows}
+use Rattle.dm_draw.specs.declared.drill.Shows.TheVariants as shows
+use Rattle.dm_words.specs.Request.{Drill, OwnDrill}
 use Rattle.dm_run.proofs.Carried.{Carries, carried_before_worn, carried_begun, carried_first, carried_picture, carried_run_wears, carried_whole}
 use Rattle.dm_run.specs.Notion.{Notion}
 use Rattle.dm_drill.proofs.Carried as drill
@@ -11,6 +14,8 @@ use Rattle.dm_commands.specs.Charts.{BeginsPicture, ChartSays, IsPicture, ShowsB
 use Rattle.dm_commands.specs.Checks.{CheckMeets, CheckSaying, CheckSays, IsGoodTrace, RefusesTrace, TraceMeans}
 use Rattle.dm_commands.specs.Commands.{CommandMeets, Terms}
 use Rattle.dm_commands.specs.Drills.{CountSays, CountedSays, report_of}
+use Rattle.dm_commands.proofs.OwnDrilling.{own_for}
+use Rattle.dm_commands.specs.OwnDrills.{OwnMeets, OwnSays, ShownSays, directives_for, own_report}
 use Rattle.dm_commands.specs.Outside.{Around}
 use Rattle.dm_commands.specs.Runs.{RunMeets, RunSaying, RunSays}
 
@@ -104,6 +109,23 @@ check_met Says More boot trace a world s more h = record {
   met = h.met;
 }
 
+-- what is shown of a drill of a boot file's system
+shown_said : (r q : Notion) (d : TheOwnDrill) (shown : Shows) (b : Boot) (ds : List Directive) (before after : Option (List ℕ)) (world : Option World) (s : Status) → Carries r q b ds → ShownSays r d shown b ds before after world s → ShownSays q d shown b ds before after world s
+shown_said r q d shows.Summary b ds before after world s c h = counted_said r q false (own_report b d) b ds before after world s c h
+shown_said r q d shows.Groups b ds before after world s c h = counted_said r q true (own_report b d) b ds before after world s c h
+shown_said r q d shows.Directives b ds before after world s c h = h
+
+own_met : {F K : Type 0} (Says More : RunSaying) (boot : List ℕ) (d : TheOwnDrill) (a : Around F K) (world : Option World) (s : Status)
+    → ((b : Boot) (before after : Option (List ℕ)) → IsValid b → Says b (directives_for b d) before after world s → More b (directives_for b d) before after world s) → OwnMeets Says boot d a world s → OwnMeets More boot d a world s
+own_met Says More boot d a world s more h = record {
+  says = elim h.says [
+    | inl r ↦ inl (record { system = r.system; says_boot = r.says_boot; valid = r.valid; says = more r.system _ _ r.valid r.says })
+    | inr n ↦ inr n
+  ];
+  refuses = h.refuses;
+  met = h.met;
+}
+
 -- terms are carried to others
 pub record CarriesTerms (t u : Terms) : Type 0 where
   pub runs : (b : Boot) (ds : List Directive) → IsValid b → All (IsFor (length b.machines)) ds → Carries t.run u.run b ds
@@ -126,3 +148,5 @@ carried t u (Some (Drill d)) a world s c h = record {
   meets = record { says = counted_said t.run u.run d.trace (report_of d) (boot_of_machines d.machines) (directives_of_drill d) _ _ world s (c.drills d h.within) h.meets.says; sink = h.meets.sink };
   shelf = h.shelf;
 }
+carried t u (Some (OwnDrill boot d)) a world s c h =
+    own_met (OwnSays t.run d) (OwnSays u.run d) boot d a world s (λ b before after valid says. shown_said t.run u.run d d.shows b (directives_for b d) before after world s (c.runs b (directives_for b d) valid (own_for b d valid)) says) h

@@ -6,6 +6,7 @@ pub mod Meets
 pub mod Runs
 pub mod Checks
 pub mod Drills
+pub mod OwnDrills
 pub mod Charts
 pub mod Explains
 pub mod Commands

@@ -92,7 +92,7 @@ fn read_trace<F: Shelf>(alloc: Global, name: &str, shelf: &mut F) -> Result<Vec<
 }
 
 /// The system that the boot file of this name says.
-fn read_system<F: Shelf>(alloc: Global, name: &str, shelf: &mut F) -> Result<Boot, Status>
+pub(crate) fn read_system<F: Shelf>(alloc: Global, name: &str, shelf: &mut F) -> Result<Boot, Status>
     ensures says { IfOk result (λ b. SaysBoot (F.told shelf.old) name.now b) }
     ensures valid { IfOk result (λ b. IsValid b) }
     ensures none { IfErr result (λ s. NoBoot (F.told shelf.old) name.now (F.faults shelf.old) (F.faults shelf.new) s) }

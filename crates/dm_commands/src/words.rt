@@ -11,6 +11,7 @@ use crate::check::check_files;
 use crate::count::count_files;
 use crate::drill::drill;
 use crate::explain::explain_files;
+use crate::own_drill::drill_file;
 use crate::run::run_files;
 use dm_ending::status::Status;
 use dm_outside::{Shelf, Sink};
@@ -46,6 +47,9 @@ pub fn do_words<F: Shelf, K: Sink>(
             count_files(alloc, boot, schedule, shelf, out, world)
         }
         Ok(Request::Drill(drawn)) => drill(alloc, &drawn, out, world),
+        Ok(Request::OwnDrill { boot, drill: drawn }) => {
+            drill_file(alloc, boot, &drawn, shelf, out, world)
+        }
         Err(no) => no.status(),
     }
 }

@@ -2,6 +2,7 @@
 use Rattle.std.specs.Prelude.{ℕ, List}
 use Rattle.std.specs.declared.option.Option.{Option}
 use Rattle.dm_draw.specs.declared.drill.Drill.{Drill as TheDrill}
+use Rattle.dm_draw.specs.declared.drill.OwnDrill.{OwnDrill as TheOwnDrill}
 
 -- a row a command
 pub data Request : Type 0 where
@@ -17,3 +18,5 @@ pub data Request : Type 0 where
   Count : (boot : List ℕ) → (schedule : List ℕ) → Request
   -- to do the drill that is drawn from these numbers
   Drill : (drill : TheDrill) → Request
+  -- to do the drill of the system of the boot file of this name that is drawn from these numbers, or to write its directives
+  OwnDrill : (boot : List ℕ) → (drill : TheOwnDrill) → Request

@@ -5,7 +5,7 @@ ghost use Rattle.clap.specs.Simple.{Shape};
 ghost use Rattle.dm_words.specs.Refused.{status_of_no};
 ghost use Rattle.dm_words.specs.CheckWords.{check_request as check_asked};
 ghost use Rattle.clap.specs.Walk.{first_of};
-ghost use Rattle.dm_words.specs.DrillWords.{drill_command as drill_shape, drill_request as drill_asked, flag_option, lines_in, lines_asked, machines_in, machines_asked, number_option, seed_of, trace_of};
+ghost use Rattle.dm_words.specs.DrillWords.{drill_command as drill_shape, drill_request as drill_asked, flag_option, lines_in, lines_asked, machines_in, machines_asked, number_option, own_by, run_by, schedule_of, seed_of, shows_by, trace_of};
 ghost use Rattle.dm_words.specs.ChartWords.{chart_request as chart_asked};
 ghost use Rattle.dm_words.specs.CountWords.{count_request as count_asked};
 ghost use Rattle.dm_words.specs.ExplainWords.{explain_command as explain_shape, explain_request as explain_asked};
@@ -14,7 +14,7 @@ ghost use Rattle.dm_words.specs.RunWords.{run_request as run_asked};
 ghost use Rattle.dm_words.specs.Words.{HasShape, IsInRange, IsTaken, bare, demosmp, request_at, request_of, request_said};
 
 use clap::{Arg, ArgAction, ArgMatches, Command};
-use dm_draw::drill::Drill;
+use dm_draw::drill::{Drill, OwnDrill, Shows};
 use dm_ending::status::Status;
 use dm_link::MACHINES;
 use dm_memory::NoMemory;
@@ -76,6 +76,8 @@ pub enum Request<'a> {
     },
     /// To do a drill: its machines are 2 to 16, its directives 1 to 10,000.
     Drill(Drill),
+    /// To do a drill of the system of a boot file, or to write its directives, which are 1 to 10,000.
+    OwnDrill { boot: &'a str, drill: OwnDrill },
 }
 
 /// What the words ask for, where they are those of a command.
@@ -159,9 +161,11 @@ fn drill_command<'a>(alloc: Global) -> Result<Command<'a>, NoMemory>
     ensures { IfOk result (HasShape drill_shape) }
 {
     let drill = with_arg(Command::new(alloc, "drill"), number(alloc, "seed"))?;
-    let drill = with_arg(drill, number(alloc, "machines"))?;
     let drill = with_arg(drill, number(alloc, "lines"))?;
-    with_arg(drill, flag(alloc, "trace"))
+    let drill = with_arg(drill, free(alloc, "machines"))?;
+    let drill = with_arg(drill, free(alloc, "boot"))?;
+    let drill = with_arg(drill, flag(alloc, "trace"))?;
+    with_arg(drill, flag(alloc, "schedule"))
 }
 
 /// The option `--name FILE`, which has to be there.
@@ -286,6 +290,24 @@ fn drill_request<'a>(matches: &ArgMatches<'a>) -> Option<Request<'a>>
     ensures asked { option_map request_said result ≡ drill_asked (rows_of (found_of matches.now)) }
     ensures within { IfSome result IsInRange }
 {
+    match value(matches, "boot") {
+        Some(boot) => match value(matches, "machines") {
+            Some(_) => None,
+            None => own_request(boot, matches),
+        },
+        None => drawn_request(matches),
+    }
+}
+
+/// The drill of a system that is drawn; its directives aren't written alone.
+fn drawn_request<'a>(matches: &ArgMatches<'a>) -> Option<Request<'a>>
+    ensures asked { option_map request_said result ≡ run_by (schedule_of (rows_of (found_of matches.now))) (trace_of (rows_of (found_of matches.now)))
+        (seed_of (rows_of (found_of matches.now))) (machines_asked (rows_of (found_of matches.now))) (lines_asked (rows_of (found_of matches.now))) }
+    ensures within { IfSome result IsInRange }
+{
+    if has_schedule(matches) {
+        return None;
+    }
     let seed = seed(matches)?;
     let machines = machines(matches)?;
     let lines = lines(matches)?;
@@ -296,6 +318,36 @@ fn drill_request<'a>(matches: &ArgMatches<'a>) -> Option<Request<'a>>
         lines,
         trace,
     }))
+}
+
+/// The drill of the system of this boot file.
+fn own_request<'a>(boot: &'a str, matches: &ArgMatches<'a>) -> Option<Request<'a>>
+    ensures asked { option_map request_said result ≡ own_by boot.now (shows_by (trace_of (rows_of (found_of matches.now))) (schedule_of (rows_of (found_of matches.now))))
+        (seed_of (rows_of (found_of matches.now))) (lines_asked (rows_of (found_of matches.now))) }
+    ensures within { IfSome result IsInRange }
+{
+    let shows = shows(has_trace(matches), has_schedule(matches))?;
+    let seed = seed(matches)?;
+    let lines = lines(matches)?;
+    Some(Request::OwnDrill {
+        boot,
+        drill: OwnDrill { seed, lines, shows },
+    })
+}
+
+/// What is written of a drill, by the two flags, of which one may be there.
+fn shows(trace: bool, schedule: bool) -> Option<Shows>
+    ensures { result ≡ shows_by trace schedule }
+{
+    if !trace && !schedule {
+        Some(Shows::Summary)
+    } else if !schedule {
+        Some(Shows::Groups)
+    } else if !trace {
+        Some(Shows::Directives)
+    } else {
+        None
+    }
 }
 
 /// The number of the option `--seed`.
@@ -363,6 +415,16 @@ fn has_trace(matches: &ArgMatches<'_>) -> bool
     ensures { result ≡ trace_of (rows_of (found_of matches.now)) }
 {
     match value(matches, "trace") {
+        Some(word) => word == "true",
+        None => false,
+    }
+}
+
+/// Whether the option `--schedule` is there.
+fn has_schedule(matches: &ArgMatches<'_>) -> bool
+    ensures { result ≡ schedule_of (rows_of (found_of matches.now)) }
+{
+    match value(matches, "schedule") {
         Some(word) => word == "true",
         None => false,
     }
