@@ -99,7 +99,12 @@ fn put_link(into: &mut Vec<u8>, link: &Link) -> Result<(), NoMemory>
 }
 
 /// Writes a line of a name, further words and a link.
-fn put_linked(into: &mut Vec<u8>, name: &str, words: &[Word], link: &Link) -> Result<(), NoMemory>
+pub fn put_linked(
+    into: &mut Vec<u8>,
+    name: &str,
+    words: &[Word],
+    link: &Link,
+) -> Result<(), NoMemory>
     ensures ok { OnOk result (into.new.items ≡ into.old.items ++ spelled_line (name.now ∷ (map word_text words.now ++ link_words link.now))) }
     ensures err { OnErr result (Keeps into.old.items into.new.items) }
 {

@@ -2,7 +2,7 @@
 #![tactic(auto)]
 
 pub mod back;
-mod ends;
+pub mod ends;
 mod labels;
 mod rows;
 pub mod text;

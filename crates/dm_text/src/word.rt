@@ -123,7 +123,7 @@ fn put_word(into: &mut Vec<u8>, word: &Word) -> Result<(), NoMemory>
 }
 
 /// Writes words, each behind a space.
-pub(crate) fn put_words(into: &mut Vec<u8>, words: &[Word]) -> Result<(), NoMemory>
+pub fn put_words(into: &mut Vec<u8>, words: &[Word]) -> Result<(), NoMemory>
     ensures ok { OnOk result (into.new.items ≡ into.old.items ++ spaced (map word_text words.now)) }
     ensures err { OnErr result (Keeps into.old.items into.new.items) }
 {

@@ -41,7 +41,7 @@ impl World {
     }
 
     /// A machine.
-    pub(crate) fn machine(&self, m: u8) -> &Node
+    pub fn machine(&self, m: u8) -> &Node
         requires world { IsWorld self.now }
         requires within { m < length self.now.boot.machines }
         ensures state { node.node_state result.now ≡ (world_state self.now).nodes m }
@@ -51,7 +51,7 @@ impl World {
     }
 
     /// How many processes a machine made.
-    pub(crate) fn made(&self, home: u8) -> u32
+    pub fn made(&self, home: u8) -> u32
         requires world { IsWorld self.now }
         requires may { MayEnd (length self.now.boot.machines) (world_state self.now) }
         requires within { home < length self.now.boot.machines }

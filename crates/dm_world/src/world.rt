@@ -67,7 +67,7 @@ impl World {
     }
 
     /// How many machines there are.
-    pub(crate) fn machines(&self) -> u8
+    pub fn machines(&self) -> u8
         requires { IsWorld self.now }
         ensures all { result ≡ length self.now.boot.machines }
         ensures few { result ≤ MACHINES }
