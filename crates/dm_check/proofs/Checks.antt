@@ -1,13 +1,16 @@
 -- How far a text has been checked, group by group.
 use Rattle.dm_check.proofs.Names.{◌≡◌, ◌<◌, ℕ, ◌+◌, Bool, true, if◌then◌else◌, List, [], ◌∷◌, ◌++◌, length, refl, ap, sym, ◌∙◌, subst, append_assoc, append-nil, length-append, arith, Some, All, All-nil, All-cons}
-use Rattle.dm_check.proofs.Names.{All-append, Boot, Step, Line, LineFits, pieces, text_of_lines, WorldState, joined, Stop, Went, goes, Does, WearsBy, StopsWorn, NotDue, CheckError, HasChecked, NoGroup, RefusedSo, ComesTo, RefusedBy, SaysAs}
-use Rattle.dm_check.proofs.Names.{first_line, head_of_line, AllHeld, AreHeads, Course, Verdict, Refused, Falls, behind_line, begins_group, can_hold, judged_from, verdict_by}
+use Rattle.dm_check.proofs.Names.{All-append, Boot, Step, Line, LineFits, pieces, text_of_lines, WorldState, joined, Stop, Went, goes, Does, WearsBy, StopsWorn, NotDue, suc, HasChecked, JudgedBy, JudgedThere, NoGroup, IsStray, JudgeError, Wearing, due_behind, ComesTo, SaysAs}
+use Rattle.dm_check.proofs.Names.{first_line, head_of_line, AllHeld, AreHeads, Course, Verdict, behind_line, can_hold, judged_from, verdict_by}
 use Rattle.dm_line.specs.declared.line.Line.TheVariants as line
 use Rattle.dm_node.specs.declared.stop.Stop.TheVariants as stop
-use Rattle.dm_check.specs.declared.stop.CheckError.TheVariants as no
+use Rattle.dm_check.specs.declared.refusal.JudgeError.TheVariants as error
+use Rattle.dm_check.specs.declared.refusal.WasDue.TheVariants as was
 use Rattle.dm_check.specs.Judge as judge
 use Rattle.dm_check.proofs.Heads.{IsHeaded, headed}
-use Rattle.dm_check.proofs.Judging.{due_group, lines_append, no_group}
+use Rattle.dm_check.proofs.Dues.{front_due, head_due}
+use Rattle.dm_check.proofs.Judging.{due_group, lines_append}
+use Rattle.dm_check.proofs.Straying.{judged_on, stray_judged, worn_judged}
 
 pub joined_last : (gs : List (List Line)) (g : List Line) → joined (gs ++ g ∷ []) ≡ joined gs ++ g
 joined_last [] g = append-nil g
@@ -36,6 +39,9 @@ checks_begin b bytes w went = record {
   done = refl;
   read = refl;
   goes = λ k s. refl;
+  before = 0;
+  counted = refl;
+  due = λ k wears n s. let same : 0 + n ≡ n = omega arith in ap (λ (j : ℕ). due_behind k wears (judge.Head []) 1 j (pieces 10 bytes)) same;
 }
 
 -- the lines of a group begin with its head
@@ -50,6 +56,22 @@ group_due k b es gs w v e lines number ps s went head held d =
     let can : can_hold k.machines e ≡ true = ap (λ (n : ℕ). can_hold n e) s.machines ∙ held in
     due_group k es number ps e (line.Head e) rest head can (s.goes es gs w e lines v went d ∙ ap (λ (ls : List Line). Some ls) begins)
     ∙ ap (λ ls. judged_from k (behind_line ls (es ++ e ∷ [])) number ps) (sym begins)
+
+-- so is what was due behind them
+due_over : (k : Course) (b : Boot) (wears : Wearing) (es : List Step) (gs : List (List Line)) (w v : WorldState) (e : Step) (lines behind : List Line) (number n : ℕ) (rest others : List ℕ) → SaysAs b k → Went b es gs w → head_of_line (first_line (pieces 10 rest)) ≡ Some e
+    → can_hold (length b.machines) e ≡ true → Does b w e lines v → lines ≡ line.Head e ∷ behind → All LineFits lines → rest ≡ text_of_lines lines ++ others
+    → due_behind k wears (judge.Head es) number (length lines + n) (pieces 10 rest) ≡ due_behind k wears (judge.Head (es ++ e ∷ [])) (number + length lines) n (pieces 10 others)
+due_over k b wears es gs w v e lines behind number n rest others s went head held d begins fits read =
+    let can : can_hold k.machines e ≡ true = ap (λ (m : ℕ). can_hold m e) s.machines ∙ held in
+    let group : k.group es e ≡ Some (line.Head e ∷ behind) = s.goes es gs w e lines v went d ∙ ap (λ (ls : List Line). Some ls) begins in
+    let size : length lines ≡ suc (length behind) = ap (λ (ls : List Line). length ls) begins in
+    let count : length lines + n ≡ suc (length behind + n) = omega (arith, size) in
+    ap (λ (j : ℕ). due_behind k wears (judge.Head es) number j (pieces 10 rest)) count
+    ∙ head_due k wears es number (length behind + n) (pieces 10 rest) e behind head can group
+    ∙ ap (λ (j : ℕ). due_behind k wears (judge.InGroup (line.Head e) behind (es ++ e ∷ [])) number j (pieces 10 rest)) (sym count)
+    ∙ ap (λ (ls : List Line). due_behind k wears (behind_line ls (es ++ e ∷ [])) number (length lines + n) (pieces 10 rest)) (sym begins ∙ sym (append-nil lines))
+    ∙ ap (λ (t : List ℕ). due_behind k wears (behind_line (lines ++ []) (es ++ e ∷ [])) number (length lines + n) (pieces 10 t)) read
+    ∙ front_due k wears lines [] (es ++ e ∷ []) number n others fits
 
 -- the group of a head is due, and its lines stand
 pub checks_on : (b : Boot) (bytes rest others : List ℕ) (number groups : ℕ) (w v : WorldState) (e : Step) (lines : List Line) → HasChecked b bytes rest number groups w
@@ -73,28 +95,27 @@ checks_on b bytes rest others number groups w v e lines h head held d fits read 
           h.read ∙ ap (λ t. text_of_lines (joined h.lines) ++ t) read ∙ sym (append_assoc (text_of_lines (joined h.lines)) (text_of_lines lines) others)
           ∙ ap (λ t. t ++ others) (sym (lines_append (joined h.lines) lines)) ∙ ap (λ ls. text_of_lines ls ++ others) (sym (joined_last h.lines lines));
       goes = λ k s. h.goes k s ∙ group_due k b h.steps h.lines w v e lines number (pieces 10 rest) s h.went head held d ∙ stand k (h.steps ++ e ∷ []);
+      before = h.before + length lines;
+      counted = omega (arith, h.counted);
+      due = λ k wears n s.
+          let more : h.before + length lines + n ≡ h.before + (length lines + n) = omega arith in
+          ap (λ (j : ℕ). due_behind k wears (judge.Head []) 1 j (pieces 10 bytes)) more ∙ h.due k wears (length lines + n) s
+          ∙ due_over k b wears h.steps h.lines w v e lines behind number n rest others s h.went head held d begins fits read;
     }
 
--- a refusal on what is left is that of the whole text
-pub refused_on : (v u : Verdict) (x : CheckError) → v ≡ u → RefusedSo u x → RefusedSo v x
-refused_on v u x e h = subst (λ t. RefusedSo t x) (sym e) h
-
 -- its lines don't stand
-pub checks_fall : (b : Boot) (bytes rest : List ℕ) (number groups : ℕ) (w v : WorldState) (e : Step) (lines : List Line) (x : CheckError) → HasChecked b bytes rest number groups w
-    → head_of_line (first_line (pieces 10 rest)) ≡ Some e → can_hold (length b.machines) e ≡ true → Does b w e lines v
-    → ((k : Course) (es : List Step) → k.quantum ≡ b.quantum → RefusedSo (judged_from k (behind_line lines es) number (pieces 10 rest)) x) → RefusedBy b bytes x
-checks_fall b bytes rest number groups w v e lines x h head held d falls k s =
-    refused_on (verdict_by k bytes) (judged_from k (behind_line lines (h.steps ++ e ∷ [])) number (pieces 10 rest)) x
-    (h.goes k s ∙ group_due k b h.steps h.lines w v e lines number (pieces 10 rest) s h.went head held d)
-    (falls k (h.steps ++ e ∷ []) s.quantum)
+pub checks_fall : (b : Boot) (bytes rest : List ℕ) (number groups : ℕ) (w v : WorldState) (e : Step) (lines : List Line) (x : JudgeError) → HasChecked b bytes rest number groups w
+    → head_of_line (first_line (pieces 10 rest)) ≡ Some e → can_hold (length b.machines) e ≡ true → Does b w e lines v → All LineFits lines → IsStray b.quantum e lines rest number x → JudgedBy b bytes x
+checks_fall b bytes rest number groups w v e lines x h head held d fits strays =
+    judged_on b bytes rest number groups w x h (λ k es gs s went.
+    let (more, begins) = does_head b w v e lines d in
+    stray_judged b k es e lines more rest number x begins fits head (ap (λ (n : ℕ). can_hold n e) s.machines ∙ held) (s.goes es gs w e lines v went d)
+    (subst (λ (q : ℕ). IsStray q e lines rest number x) (sym s.quantum) strays))
 
 -- no group is due
-pub checks_stop : (b : Boot) (bytes rest : List ℕ) (number groups : ℕ) (w : WorldState) (e : Step) (x : CheckError) → HasChecked b bytes rest number groups w
-    → head_of_line (first_line (pieces 10 rest)) ≡ Some e → NoGroup b w e number x → RefusedBy b bytes x
-checks_stop b bytes rest number groups w e (no.NoMemory lack) h head none k s = tt
-checks_stop b bytes rest number groups w e (no.Refused line fault) h head (at, is, falls) k s =
-    h.goes k s ∙ no_group k h.steps number (pieces 10 rest) e head (λ l. falls k h.steps h.lines l s h.went)
-    ∙ ap (λ (n : ℕ). Refused n NotDue) (sym at) ∙ ap (λ f. Refused line f) (sym is)
+pub checks_stop : (b : Boot) (bytes rest : List ℕ) (number groups : ℕ) (w : WorldState) (e : Step) (x : JudgeError) → HasChecked b bytes rest number groups w
+    → head_of_line (first_line (pieces 10 rest)) ≡ Some e → NoGroup b w e number x → JudgedBy b bytes x
+checks_stop b bytes rest number groups w e x h head none = judged_on b bytes rest number groups w x h (none (pieces 10 rest) head)
 
 -- the same of a world of this boot file, and of the lines as a slice
 pub checks_more : (b c : Boot) (bytes rest others : List ℕ) (number groups : ℕ) (w v : WorldState) (e : Step) (lines slice : List Line) → c ≡ b → slice ≡ lines → HasChecked b bytes rest number groups w
@@ -106,27 +127,15 @@ checks_more b c bytes rest others number groups w v e lines slice same is h head
     (subst (λ (ls : List Line). rest ≡ text_of_lines ls ++ others) is read)
     (subst (λ (ls : List Line). (k : Course) (es : List Step) → judged_from k (behind_line ls es) number (pieces 10 rest) ≡ judged_from k (judge.Head es) (number + length ls) (pieces 10 others)) is stand)
 
-pub checks_less : (b c : Boot) (quantum : ℕ) (bytes rest : List ℕ) (number groups : ℕ) (w v : WorldState) (e : Step) (lines slice : List Line) (x : CheckError) → c ≡ b → b.quantum ≡ quantum → slice ≡ lines → HasChecked b bytes rest number groups w
-    → head_of_line (first_line (pieces 10 rest)) ≡ Some e → can_hold (length c.machines) e ≡ true → Does c w e lines v
-    → ((k : Course) (es : List Step) → k.quantum ≡ quantum → RefusedSo (judged_from k (behind_line slice es) number (pieces 10 rest)) x) → RefusedBy b bytes x
-checks_less b c quantum bytes rest number groups w v e lines slice x same equal is h head held d falls =
-    checks_fall b bytes rest number groups w v e lines x h head (subst (λ (y : Boot). can_hold (length y.machines) e ≡ true) same held) (subst (λ (y : Boot). Does y w e lines v) same d)
-    (subst (λ (ls : List Line). (k : Course) (es : List Step) → k.quantum ≡ b.quantum → RefusedSo (judged_from k (behind_line ls es) number (pieces 10 rest)) x) is (λ k es q. falls k es (q ∙ equal)))
+pub checks_less : (b c : Boot) (quantum : ℕ) (bytes rest : List ℕ) (number groups : ℕ) (w v : WorldState) (e : Step) (lines slice : List Line) (x : JudgeError) → c ≡ b → b.quantum ≡ quantum → slice ≡ lines → HasChecked b bytes rest number groups w
+    → head_of_line (first_line (pieces 10 rest)) ≡ Some e → can_hold (length c.machines) e ≡ true → Does c w e lines v → All LineFits lines → IsStray quantum e slice rest number x → JudgedBy b bytes x
+checks_less b c quantum bytes rest number groups w v e lines slice x same equal is h head held d fits strays =
+    checks_fall b bytes rest number groups w v e lines x h head (subst (λ (y : Boot). can_hold (length y.machines) e ≡ true) same held) (subst (λ (y : Boot). Does y w e lines v) same d) fits
+    (subst (λ (ls : List Line). IsStray b.quantum e ls rest number x) is (subst (λ (q : ℕ). IsStray q e slice rest number x) (sym equal) strays))
 
--- nor is a group that would route a message between two machines that count as many as they may
-none_worn : (b : Boot) (w : WorldState) (e : Step) (number from to : ℕ) (x : CheckError) → x ≡ no.Refused number NotDue → can_hold (length b.machines) e ≡ true → WearsBy b w e from to → NoGroup b w e number x
-none_worn b w e number from to x is held wears =
-    subst (NoGroup b w e number) (sym is) (
-      refl,
-      refl,
-      λ k es gs bytes s went.
-          ap (λ (t : Bool). if t then begins_group k.quantum (k.group es e) (es ++ e ∷ []) bytes else Falls NotDue) (ap (λ (n : ℕ). can_hold n e) s.machines ∙ held)
-          ∙ ap (λ o. begins_group k.quantum o (es ++ e ∷ []) bytes) (s.worn es gs w e from to went wears),
-    )
-
--- where its stop is that
-pub none_stopped : (b : Boot) (w : WorldState) (e : Step) (number from to : ℕ) (s : Stop) (x : CheckError) → s ≡ stop.Worn from to → x ≡ no.Refused number NotDue → can_hold (length b.machines) e ≡ true → StopsWorn b w e s → NoGroup b w e number x
-none_stopped b w e number from to s x stopped is held worn = none_worn b w e number from to x is held (subst (StopsWorn b w e) stopped worn)
+-- nor is a group that would route a message between two machines that count as many as they may, where its stop is that
+pub none_stopped : (b : Boot) (w : WorldState) (e : Step) (number from to : ℕ) (s : Stop) (x : JudgeError) → s ≡ stop.Worn from to → x ≡ error.Refused (record { line = number; fault = NotDue; due = was.Worn from to e }) → can_hold (length b.machines) e ≡ true → StopsWorn b w e s → NoGroup b w e number x
+none_stopped b w e number from to s x stopped is held worn = worn_judged b w e number from to x is held (subst (StopsWorn b w e) stopped worn)
 
 -- a group has a line
 pub some_lines : (b : Boot) (w v : WorldState) (e : Step) (lines : List Line) → Does b w e lines v → 0 < length lines
@@ -140,11 +149,8 @@ abbrev pub StandsBehind : Boot → WorldState → ℕ → List ℕ → (ℕ → 
 StandsBehind b w number rest P = (k : Course) (es : List Step) (gs : List (List Line)) → SaysAs b k → Went b es gs w → P (length es) (judged_from k (judge.Head es) number (pieces 10 rest))
 
 -- no head is left, and what is left is refused
-pub checks_refused : (b c : Boot) (bytes rest : List ℕ) (number groups : ℕ) (w : WorldState) (x : CheckError) → c ≡ b → HasChecked b bytes rest number groups w
-    → StandsBehind c w number rest (λ n v. RefusedSo v x) → RefusedBy b bytes x
-checks_refused b c bytes rest number groups w x same h refused k s =
-    let here : StandsBehind b w number rest (λ n v. RefusedSo v x) = subst (λ (d : Boot). StandsBehind d w number rest (λ n v. RefusedSo v x)) same refused in
-    refused_on (verdict_by k bytes) (judged_from k (judge.Head h.steps) number (pieces 10 rest)) x (h.goes k s) (here k h.steps h.lines s h.went)
+pub checks_refused : (b c : Boot) (bytes rest : List ℕ) (number groups : ℕ) (w : WorldState) (x : JudgeError) → c ≡ b → HasChecked b bytes rest number groups w → JudgedThere c w number (pieces 10 rest) x → JudgedBy b bytes x
+checks_refused b c bytes rest number groups w x same h refused = judged_on b bytes rest number groups w x h (subst (λ (d : Boot). JudgedThere d w number (pieces 10 rest) x) same refused)
 
 -- or it is good
 pub checks_good : (b c : Boot) (bytes rest : List ℕ) (number groups : ℕ) (w : WorldState) (good : ℕ → Verdict) → c ≡ b → HasChecked b bytes rest number groups w

@@ -1,7 +1,7 @@
 -- Lines that are due, one after another.
 use Rattle.dm_check.proofs.Names.{◌≡◌, ◌<◌, ◌≤◌, ℕ, suc, ◌+◌, List, [], ◌∷◌, ◌++◌, length, take, drop, get_or, drop-cons, refl, ap, sym, ◌∙◌, subst, append_assoc, append-nil, length-append, arith}
 use Rattle.dm_check.proofs.Names.{All, codes, take_more, drop-length, Step, Line, EndLine, Course, end_words, EndFits, pieces, line_words, spaced, spelled_line, text, end_text, text_of_ends}
-use Rattle.dm_check.proofs.Names.{text_of_lines, IsFull, CheckError, RefusedSo, Ended, behind_line, judged_from}
+use Rattle.dm_check.proofs.Names.{text_of_lines, IsFull, CheckError, RefusedSo, Stray, StrayedSo, Ended, behind_line, judged_from}
 use Rattle.dm_check.specs.Judge as judge
 use Rattle.dm_check.proofs.Judging.{at_text_end, end_stands, lines_append}
 
@@ -18,12 +18,12 @@ line_on c lines i d es first number all bytes rest h so_far on =
     so_far ∙ ap (λ ls. judged_from c (behind_line ls es) number (pieces 10 bytes)) (from_here lines i d h) ∙ on
 
 -- it doesn't
-pub line_off : (c : Course) (lines : List Line) (i : ℕ) (d : Line) (es : List Step) (first number : ℕ) (all bytes : List ℕ) (x : CheckError) → i < length lines
+pub line_off : (c : Course) (lines : List Line) (i : ℕ) (d : Line) (es : List Step) (first number : ℕ) (all bytes : List ℕ) (x : Stray) → i < length lines
     → judged_from c (behind_line lines es) first (pieces 10 all) ≡ judged_from c (behind_line (drop i lines) es) number (pieces 10 bytes)
-    → RefusedSo (judged_from c (judge.InGroup (get_or lines i d) (drop (i + 1) lines) es) number (pieces 10 bytes)) x
-    → RefusedSo (judged_from c (behind_line lines es) first (pieces 10 all)) x
+    → StrayedSo (judged_from c (judge.InGroup (get_or lines i d) (drop (i + 1) lines) es) number (pieces 10 bytes)) x
+    → StrayedSo (judged_from c (behind_line lines es) first (pieces 10 all)) x
 line_off c lines i d es first number all bytes x h so_far off =
-    subst (λ v. RefusedSo v x) (sym (so_far ∙ ap (λ ls. judged_from c (behind_line ls es) number (pieces 10 bytes)) (from_here lines i d h))) off
+    subst (λ v. StrayedSo v x) (sym (so_far ∙ ap (λ ls. judged_from c (behind_line ls es) number (pieces 10 bytes)) (from_here lines i d h))) off
 
 one_line : (l : Line) → text_of_lines (l ∷ []) ≡ text l
 unfolding text_of_lines

@@ -3,9 +3,10 @@ use Rattle.dm_check.proofs.Names.{◌≡◌, ◌<◌, ℕ, suc, ◌+◌, ◌==�
 use Rattle.dm_check.proofs.Names.{IfErr, IsErr, IsErrAnd, Result, Ok, Err, false≢true, nat_tests, bytes_eq-Decides, Step, Line, EndLine, end_words, EndFits, LineFits, Course}
 use Rattle.dm_check.proofs.Names.{pieces, line_words, text, end_text, text_of_ends, text_of_lines, end_words_are, line_words-are, line_bytes, spelled_bytes, pieces_of_line, IsFull, head_step, has_shape, some_piece, cut_is}
 use Rattle.dm_check.proofs.Names.{first_is, lines_have, ends_have, heads_have, TraceFault, NotALine, NotDue, NotTheEnd, CheckError, FallsBy, RefusedSo, first_line, head_of_line, is_final, Verdict, Ended, Refused, Due}
-use Rattle.dm_check.proofs.Names.{Stands, Falls, is_line_text, behind_line, told, at_end, at_head, begins_group, can_hold, taken, text_ended, judged_from}
+use Rattle.dm_check.proofs.Names.{Stands, Falls, is_line_text, behind_line, told, at_end, at_head, begins_group, can_hold, taken, text_ended, judged_from, Stray, StrayedSo}
 use Rattle.dm_check.specs.declared.stop.CheckError.TheVariants as stop
 use Rattle.dm_check.specs.Judge as judge
+use Rattle.dm_check.specs.declared.follow.Stray.TheVariants as stray
 
 -- what holds of the one error holds of the error there is
 pub if_err : {A E : Type 0} (r : Result A E) (e : E) (P : E → Type 0) → IsErr r × IsErrAnd r (λ y. y ≡ e) → P e → IfErr r P
@@ -15,6 +16,10 @@ if_err (Err y) e P h p = subst P (sym h.1) p
 -- a refusal is the verdict
 pub refused_as : (v : Verdict) (x : CheckError) (line : ℕ) (f : TraceFault) → x ≡ stop.Refused line f → v ≡ Refused line f → RefusedSo v x
 refused_as v x line f e h = subst (RefusedSo v) (sym e) h
+
+-- so is a stray
+pub strayed_as : (v : Verdict) (x : Stray) (line : ℕ) (f : TraceFault) (due : Line) → x ≡ stray.Here line f due → v ≡ Refused line f → StrayedSo v x
+strayed_as v x line f due e h = subst (StrayedSo v) (sym e) h
 
 -- nothing is left
 pub none_left : (xs : List ℕ) → (length xs == 0) ≡ true → xs ≡ []
@@ -115,13 +120,16 @@ ends_stand c (l ∷ ls) n number h f =
     end_stands c l ls n number (end_text l ++ text_of_ends ls) (text_of_ends ls) here full refl
     ∙ ends_stand c ls n (number + 1) (λ i d x. h (suc i) d (omega arith)) (λ i d x. f (suc i) d (omega arith))
 
--- where a text doesn't begin with the line that is due, its first line is told as another one
+-- where a text doesn't begin with the line that is due, its first line is another one
+pub other_line : (l : Line) (bytes w rest : List ℕ) → ((others : List ℕ) → bytes ≡ text l ++ others → ⊥) → pieces 10 bytes ≡ w ∷ pieces 10 rest → is_line_text w (text l) ≡ false
+other_line l bytes w rest other cut =
+    let is : bytes ≡ w ++ 10 ∷ rest = cut_is 10 bytes w rest cut in
+    text_other w (text l) (λ e. other rest (is ∙ sym (append_assoc w (codes "\n") rest) ∙ ap (λ t. t ++ rest) e))
+
+-- so it is told as that
 pub told_other : (c : Course) (l : Line) (ls : List Line) (es : List Step) (bytes w rest : List ℕ) → ((others : List ℕ) → bytes ≡ text l ++ others → ⊥) → pieces 10 bytes ≡ w ∷ pieces 10 rest
     → taken c (judge.InGroup l ls es) w ≡ told c.quantum l (pieces 32 w)
-told_other c l ls es bytes w rest other cut =
-    let is : bytes ≡ w ++ 10 ∷ rest = cut_is 10 bytes w rest cut in
-    let apart = text_other w (text l) (λ e. other rest (is ∙ sym (append_assoc w (codes "\n") rest) ∙ ap (λ t. t ++ rest) e)) in
-    ap (λ (t : Bool). if t then Stands (behind_line ls es) else told c.quantum l (pieces 32 w)) apart
+told_other c l ls es bytes w rest other cut = ap (λ (t : Bool). if t then Stands (behind_line ls es) else told c.quantum l (pieces 32 w)) (other_line l bytes w rest other cut)
 
 -- so it falls at the end
 pub falls_at_end : (c : Course) (l : EndLine) (ls : List EndLine) (n number : ℕ) (bytes : List ℕ) → ((others : List ℕ) → bytes ≡ end_text l ++ others → ⊥) → FallsBy c (judge.End (l ∷ ls) n) number bytes NotTheEnd
@@ -150,7 +158,7 @@ pub falls_over : (c : Course) (due : Due) (number : ℕ) (bytes : List ℕ) (f :
 falls_over c due number bytes f h e = ap (λ t. judged_from c due number (pieces 10 t)) e ∙ at_text_end c due number ∙ h.ends e
 
 -- the group of a head is due
-taken_group : (c : Course) (es : List Step) (l : List ℕ) (e : Step) (first : Line) (others : List Line) → head_step l ≡ Some e → can_hold c.machines e ≡ true → c.group es e ≡ Some (first ∷ others)
+pub taken_group : (c : Course) (es : List Step) (l : List ℕ) (e : Step) (first : Line) (others : List Line) → head_step l ≡ Some e → can_hold c.machines e ≡ true → c.group es e ≡ Some (first ∷ others)
     → taken c (judge.Head es) l ≡ taken c (behind_line (first ∷ others) (es ++ e ∷ [])) l
 taken_group c es l e first others head held due =
     ap (at_head c es l) head
@@ -170,7 +178,7 @@ no_group c es number (l ∷ []) e head none = absurd (cc)
 no_group c es number (l ∷ q ∷ ps) e head none = falls_from c (judge.Head es) NotDue number l (q ∷ ps) (λ x. cc) (heads_have l e head) (ap (at_head c es l) head ∙ none l)
 
 -- the lines at the end are due
-taken_ends : (c : Course) (es : List Step) (l : List ℕ) → head_step l ≡ None → bytes_eq l (codes "final") ≡ true → taken c (judge.Head es) l ≡ taken c (judge.End (c.ends es) (length es)) l
+pub taken_ends : (c : Course) (es : List Step) (l : List ℕ) → head_step l ≡ None → bytes_eq l (codes "final") ≡ true → taken c (judge.Head es) l ≡ taken c (judge.End (c.ends es) (length es)) l
 taken_ends c es l head is = ap (at_head c es l) head ∙ ap (λ (t : Bool). if t then at_end (c.ends es) (length es) l else Falls NotDue) is
 
 pub due_ends : (c : Course) (es : List Step) (number : ℕ) (ps : List (List ℕ)) → head_of_line (first_line ps) ≡ None → is_final (first_line ps) ≡ true → judged_from c (judge.Head es) number ps ≡ judged_from c (judge.End (c.ends es) (length es)) number ps

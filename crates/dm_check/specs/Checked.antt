@@ -1,7 +1,6 @@
 -- How far a text has been checked.
-use Rattle.std.specs.Prelude.{◌≡◌, ⊤, ℕ, List, ◌++◌, length}
+use Rattle.std.specs.Prelude.{◌≡◌, ℕ, ◌+◌, List, [], ◌++◌, length}
 use Rattle.std.specs.List.{All}
-use Rattle.std.specs.declared.option.Option.TheVariants.{Some}
 use Rattle.dm_onekernel.specs.declared.boot.Boot.{Boot}
 use Rattle.dm_schedule.specs.declared.Step.{Step}
 use Rattle.dm_line.specs.declared.line.Line.{Line}
@@ -11,15 +10,13 @@ use Rattle.dm_text.specs.Text.{text_of_lines}
 use Rattle.dm_world.specs.World.{WorldState}
 use Rattle.dm_run.specs.Runs.{joined}
 use Rattle.dm_run.specs.Went.{Went}
-use Rattle.dm_check.specs.declared.fault.TraceFault.TheVariants.{NotDue}
-use Rattle.dm_check.specs.declared.stop.CheckError.{CheckError}
-use Rattle.dm_check.specs.declared.stop.CheckError.TheVariants as no
 use Rattle.dm_check.specs.Good.{AllHeld, AreHeads}
-use Rattle.dm_check.specs.Judge.{Course, Head, Falls, at_head, judged_from, verdict_by}
+use Rattle.dm_check.specs.DueThere.{Wearing, due_behind}
+use Rattle.dm_check.specs.Judge.{Course, Head, judged_from, verdict_by}
 use Rattle.dm_check.specs.Says.{SaysAs}
 
 -- the text begins with that of the groups of a run, the machines stand behind them, and the verdict is that on what is left,
--- from a head on
+-- from a head on; so is what was due in a line of it
 pub record HasChecked (b : Boot) (bytes rest : List ℕ) (line groups : ℕ) (w : WorldState) : Type 0 where
   pub steps : List Step
   pub lines : List (List Line)
@@ -31,10 +28,6 @@ pub record HasChecked (b : Boot) (bytes rest : List ℕ) (line groups : ℕ) (w 
   pub done : length steps ≡ groups
   pub read : bytes ≡ text_of_lines (joined lines) ++ rest
   pub goes : (c : Course) → SaysAs b c → verdict_by c bytes ≡ judged_from c (Head steps) line (pieces 10 rest)
-
--- no group is due behind this head
-abbrev pub NoGroup : Boot → WorldState → Step → ℕ → CheckError → Type 0
-NoGroup b old e number (no.Refused line fault) =
-    (line ≡ number) × (fault ≡ NotDue)
-    × ((c : Course) (es : List Step) (gs : List (List Line)) (bytes : List ℕ) → SaysAs b c → Went b es gs old → at_head c es bytes (Some e) ≡ Falls NotDue)
-NoGroup b old e number (no.NoMemory lack) = ⊤
+  pub before : ℕ
+  pub counted : line ≡ before + 1
+  pub due : (c : Course) (wears : Wearing) (n : ℕ) → SaysAs b c → due_behind c wears (Head []) 1 (before + n) (pieces 10 bytes) ≡ due_behind c wears (Head steps) line n (pieces 10 rest)

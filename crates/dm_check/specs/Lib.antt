@@ -4,4 +4,6 @@ pub mod Judge
 pub mod Checking
 pub mod Says
 pub mod Good
+pub mod DueThere
+pub mod Judged
 pub mod Checked

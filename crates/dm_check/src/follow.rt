@@ -11,27 +11,75 @@ ghost use Rattle.dm_shape.specs.Full.{IsFull};
 ghost use Rattle.dm_check.specs.Checking.{FallsBy, RefusedSo, StandsAs};
 ghost use Rattle.dm_check.specs.Judge as judge;
 ghost use Rattle.dm_check.specs.Judge.{Course, Due, Ended, Refused, behind_line, judged_from};
+ghost use Rattle.dm_check.specs.Judged.{EndsStray, GroupStrays, IsAt, IsStray, LineStrays, StrayedSo};
 
 use crate::classes::tells_call;
 use crate::fault::TraceFault;
+use crate::refusal::{Group, JudgeError, strayed};
 use crate::stop::CheckError;
 use crate::told::{Other, step_fault, told};
 use dm_line::end_line::EndLine;
 use dm_line::line::Line;
 use dm_link::Pid;
+use dm_memory::NoMemory;
 use dm_reading::split;
+use dm_schedule::Step;
 use dm_shape::has_shape;
 use dm_text::text::{write_end, write_line, write_lines};
 
+/// Why a text strays from the lines of a group.
+#[derive(Clone, Copy)]
+pub(crate) enum Stray {
+    /// It is refused at this line, where this one was due.
+    Here {
+        line: u64,
+        fault: TraceFault,
+        due: Line,
+    },
+    /// It is refused at this line, since the one before, where this one was due, says that the process ran fewer instructions.
+    Behind {
+        line: u64,
+        fault: TraceFault,
+        due: Line,
+    },
+    NoMemory(NoMemory),
+}
+
+/// Follows the group of a head through a text that begins with that head, in the line of this number.
+pub(crate) fn follow_head<'a>(
+    quantum: u32,
+    head: Step,
+    lines: &[Line],
+    text: &'a [u8],
+    number: u64,
+    page: &mut Vec<u8>,
+) -> Result<&'a [u8], JudgeError>
+    requires fits { All LineFits lines.now }
+    requires room { number + length text.now < 2 ^ 62 }
+    ensures read { IfOk result (λ rest. text.now ≡ text_of_lines lines.now ++ rest.now) }
+    ensures goes { (c : Course) (es : List TheStep) → IfOk result (λ rest.
+        judged_from c (behind_line lines.now es) number (pieces 10 text.now)
+        ≡ judged_from c (judge.Head es) (number + length lines.now) (pieces 10 rest.now)) }
+    ensures stray { IfErr result (IsStray quantum head lines.now text.now number) }
+{
+    match follow_group(quantum, lines, text, number, page) {
+        Ok(rest) => Ok(rest),
+        Err(stray) => {
+            let group = Group { line: number, head };
+            Err(strayed(stray, group))
+        }
+    }
+}
+
 /// Follows a group through a text whose first line has this number, and gives the text behind it: all its lines at once, and
 /// where the text doesn't begin so, line by line. The page holds what is compared.
-pub(crate) fn follow_group<'a>(
+fn follow_group<'a>(
     quantum: u32,
     lines: &[Line],
     text: &'a [u8],
     number: u64,
     page: &mut Vec<u8>,
-) -> Result<&'a [u8], CheckError>
+) -> Result<&'a [u8], Stray>
     requires fits { All LineFits lines.now }
     requires room { number + length text.now < 2 ^ 62 }
     ensures read { IfOk result (λ rest. text.now ≡ text_of_lines lines.now ++ rest.now) }
@@ -39,11 +87,12 @@ pub(crate) fn follow_group<'a>(
         judged_from c (behind_line lines.now es) number (pieces 10 text.now)
         ≡ judged_from c (judge.Head es) (number + length lines.now) (pieces 10 rest.now)) }
     ensures refused { (c : Course) (es : List TheStep) → c.quantum ≡ quantum →
-        IfErr result (RefusedSo (judged_from c (behind_line lines.now es) number (pieces 10 text.now))) }
+        IfErr result (StrayedSo (judged_from c (behind_line lines.now es) number (pieces 10 text.now))) }
+    ensures stray { IfErr result (GroupStrays quantum lines.now text.now number) }
 {
     page.clear();
     if let Err(no) = write_lines(lines, page) {
-        return Err(CheckError::NoMemory(no));
+        return Err(Stray::NoMemory(no));
     }
     match behind(text, page.as_slice()) {
         Some(rest) => Ok(rest),
@@ -58,7 +107,7 @@ fn follow_lines<'a>(
     text: &'a [u8],
     number: u64,
     page: &mut Vec<u8>,
-) -> Result<&'a [u8], CheckError>
+) -> Result<&'a [u8], Stray>
     requires fits { All LineFits lines.now }
     requires room { number + length text.now < 2 ^ 62 }
     ensures read { IfOk result (λ rest. text.now ≡ text_of_lines lines.now ++ rest.now) }
@@ -66,7 +115,8 @@ fn follow_lines<'a>(
         judged_from c (behind_line lines.now es) number (pieces 10 text.now)
         ≡ judged_from c (judge.Head es) (number + length lines.now) (pieces 10 rest.now)) }
     ensures refused { (c : Course) (es : List TheStep) → c.quantum ≡ quantum →
-        IfErr result (RefusedSo (judged_from c (behind_line lines.now es) number (pieces 10 text.now))) }
+        IfErr result (StrayedSo (judged_from c (behind_line lines.now es) number (pieces 10 text.now))) }
+    ensures stray { IfErr result (GroupStrays quantum lines.now text.now number) }
 {
     let mut rest = text;
     let mut at = number;
@@ -84,17 +134,18 @@ fn follow_line<'a>(
     text: &'a [u8],
     number: u64,
     page: &mut Vec<u8>,
-) -> Result<&'a [u8], CheckError>
+) -> Result<&'a [u8], Stray>
     requires { number + length text.now < 2 ^ 62 }
     ensures read { IfOk result (λ rest. text.now ≡ line_text due.now ++ rest.now) }
     ensures goes { (c : Course) (ls : List TheLine) (es : List TheStep) → LineFits due.now → IfOk result (λ rest.
         judged_from c (judge.InGroup due.now ls es) number (pieces 10 text.now) ≡ judged_from c (behind_line ls es) (number + 1) (pieces 10 rest.now)) }
     ensures refused { (c : Course) (ls : List TheLine) (es : List TheStep) → c.quantum ≡ quantum →
-        IfErr result (RefusedSo (judged_from c (judge.InGroup due.now ls es) number (pieces 10 text.now))) }
+        IfErr result (StrayedSo (judged_from c (judge.InGroup due.now ls es) number (pieces 10 text.now))) }
+    ensures stray { IfErr result (LineStrays quantum due.now text.now number) }
 {
     page.clear();
     if let Err(no) = write_line(due, page) {
-        return Err(CheckError::NoMemory(no));
+        return Err(Stray::NoMemory(no));
     }
     match behind(text, page.as_slice()) {
         Some(rest) => Ok(rest),
@@ -114,6 +165,7 @@ pub(crate) fn follow_ends(
     ensures read { OnOk result (text.now ≡ text_of_ends ends.now) }
     ensures ended { (c : Course) (n : ℕ) → All IsFull ends.now → OnOk result (judged_from c (judge.End ends.now n) number (pieces 10 text.now) ≡ Ended n) }
     ensures refused { (c : Course) (n : ℕ) → All IsFull ends.now → IfErr result (RefusedSo (judged_from c (judge.End ends.now n) number (pieces 10 text.now))) }
+    ensures stray { IfErr result (EndsStray ends.now text.now number) }
 {
     let mut rest = text;
     let mut at = number;
@@ -138,6 +190,7 @@ fn follow_end<'a>(
     ensures read { IfOk result (λ rest. text.now ≡ end_text due.now ++ rest.now) }
     ensures refused { (c : Course) (others : List TheEndLine) (n : ℕ) →
         IfErr result (RefusedSo (judged_from c (judge.End (due.now ∷ others) n) number (pieces 10 text.now))) }
+    ensures there { IfErr result (IsAt number) }
 {
     page.clear();
     if let Err(no) = write_end(due, page) {
@@ -211,21 +264,33 @@ fn stands(text: &[u8]) -> Standing<'_>
     }
 }
 
-/// What a text is refused for that doesn't begin with the line that is due.
-fn otherwise(quantum: u32, due: &Line, text: &[u8], number: u64) -> CheckError
+/// How a text strays that doesn't begin with the line that is due.
+fn otherwise(quantum: u32, due: &Line, text: &[u8], number: u64) -> Stray
     requires other { (rest : List ℕ) → text.now ≡ line_text due.now ++ rest → ⊥ }
     requires room { number < 2 ^ 62 }
-    ensures { (c : Course) (ls : List TheLine) (es : List TheStep) → c.quantum ≡ quantum →
-        RefusedSo (judged_from c (judge.InGroup due.now ls es) number (pieces 10 text.now)) result }
+    ensures refused { (c : Course) (ls : List TheLine) (es : List TheStep) → c.quantum ≡ quantum →
+        StrayedSo (judged_from c (judge.InGroup due.now ls es) number (pieces 10 text.now)) result }
+    ensures stray { LineStrays quantum due.now text.now number result }
 {
     match stands(text) {
-        Standing::Nothing => refused(number, TraceFault::NotDue),
-        Standing::NoLine => refused(number, TraceFault::NotALine),
+        Standing::Nothing => here(number, TraceFault::NotDue, *due),
+        Standing::NoLine => here(number, TraceFault::NotALine, *due),
         Standing::Line(line, others) => match told(quantum, due, line) {
-            Other::Falls(fault) => refused(number, fault),
-            Other::Fewer(pid) => refused(number + 1, behind_fewer(pid, others)),
+            Other::Falls(fault) => here(number, fault, *due),
+            Other::Fewer(pid) => Stray::Behind {
+                line: number + 1,
+                fault: behind_fewer(pid, others),
+                due: *due,
+            },
         },
     }
+}
+
+/// It strays at this line.
+fn here(line: u64, fault: TraceFault, due: Line) -> Stray
+    ensures { result ≡ Stray.Here line fault due }
+{
+    Stray::Here { line, fault, due }
 }
 
 /// What is wrong behind a line that tells of fewer instructions of a process than are due.

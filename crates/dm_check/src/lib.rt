@@ -7,13 +7,15 @@
 mod classes;
 pub mod fault;
 mod follow;
+pub mod refusal;
 mod stop;
 mod told;
 pub mod trace;
 
 pub use fault::TraceFault;
+pub use refusal::{Group, JudgeError, Refusal, WasDue};
 pub use stop::CheckError;
-pub use trace::{Good, check_trace};
+pub use trace::{Good, check_trace, judge_trace};
 
 /// The most bytes of a trace.
 pub const MOST_TRACE: u32 = 16_777_216;

@@ -10,16 +10,18 @@ ghost use Rattle.dm_world.specs.Ends.{end_lines as ends_of};
 ghost use Rattle.dm_world.specs.Meets.{world_state};
 ghost use Rattle.dm_run.specs.Running.{IsRunning};
 ghost use Rattle.dm_run.specs.Went.{Does, RunsGo, Went};
-ghost use Rattle.dm_check.specs.Checked.{HasChecked, NoGroup};
-ghost use Rattle.dm_check.specs.Checking.{RefusedSo, first_line, head_of_line, is_final};
+ghost use Rattle.dm_check.specs.Checked.{HasChecked};
+ghost use Rattle.dm_check.specs.Checking.{first_line, head_of_line, is_final};
 ghost use Rattle.dm_check.specs.Good.{EndsFit, IsPrinted, good_verdict, text_behind};
 ghost use Rattle.dm_check.specs.Judge as judge;
 ghost use Rattle.dm_check.specs.Judge.{Course, can_hold, judged_from};
+ghost use Rattle.dm_check.specs.Judged.{JudgedBy, JudgedThere, NoGroup};
 ghost use Rattle.dm_check.specs.Says.{ComesTo, RefusedBy, SaysAs};
 
 use crate::MOST_TRACE;
 use crate::fault::TraceFault;
-use crate::follow::{follow_ends, follow_group, refused, unless_none};
+use crate::follow::{follow_ends, follow_head, unless_none};
+use crate::refusal::{JudgeError, Refusal, WasDue, due_end, refuse};
 use crate::stop::CheckError;
 use dm_line::line::Line;
 use dm_onekernel::Boot;
@@ -49,22 +51,40 @@ pub fn check_trace(alloc: Global, boot: Boot, trace: &[u8]) -> Result<Good, Chec
     ensures good { IfOk result (λ g. IsPrinted boot trace.now g.groups g.ended) }
     ensures refused { IfErr result (RefusedBy boot trace.now) }
 {
-    let quantum = boot.quantum;
-    let machines = boot.machines.len() as u8;
-    match begin(alloc, boot) {
-        Ok(mut world) => check_on(alloc, quantum, machines, &mut world, trace),
-        Err(no) => Err(CheckError::NoMemory(no)),
+    match judge_trace(alloc, boot, trace) {
+        Ok(good) => Ok(good),
+        Err(JudgeError::Refused(Refusal { line, fault, .. })) => {
+            Err(CheckError::Refused { line, fault })
+        }
+        Err(JudgeError::NoMemory(no)) => Err(CheckError::NoMemory(no)),
     }
 }
 
-/// Checks a text from its beginning on, with a world that has done nothing yet.
-fn check_on(
+/// The same, with what was due where a text is refused.
+pub fn judge_trace(alloc: Global, boot: Boot, trace: &[u8]) -> Result<Good, JudgeError>
+    requires law { RunsGo }
+    requires valid { IsValid boot }
+    requires short { length trace.now ≤ MOST_TRACE }
+    ensures verdict { IfOk result (λ g. ComesTo boot trace.now (good_verdict g.groups g.ended)) }
+    ensures good { IfOk result (λ g. IsPrinted boot trace.now g.groups g.ended) }
+    ensures refused { IfErr result (JudgedBy boot trace.now) }
+{
+    let quantum = boot.quantum;
+    let machines = boot.machines.len() as u8;
+    match begin(alloc, boot) {
+        Ok(mut world) => judge_on(alloc, quantum, machines, &mut world, trace),
+        Err(no) => Err(JudgeError::NoMemory(no)),
+    }
+}
+
+/// Judges a text from its beginning on, with a world that has done nothing yet.
+fn judge_on(
     alloc: Global,
     quantum: u32,
     machines: u8,
     world: &mut World,
     trace: &[u8],
-) -> Result<Good, CheckError>
+) -> Result<Good, JudgeError>
     requires law { RunsGo }
     requires running { IsRunning world.old }
     requires begun { HasChecked world.old.boot trace.now trace.now 1 0 (world_state world.old) }
@@ -74,7 +94,7 @@ fn check_on(
     requires short { length trace.now ≤ MOST_TRACE }
     ensures verdict { IfOk result (λ g. ComesTo world.old.boot trace.now (good_verdict g.groups g.ended)) }
     ensures good { IfOk result (λ g. IsPrinted world.old.boot trace.now g.groups g.ended) }
-    ensures refused { IfErr result (RefusedBy world.old.boot trace.now) }
+    ensures refused { IfErr result (JudgedBy world.old.boot trace.now) }
 {
     let mut page = Vec::new(alloc);
     let mut rest = trace;
@@ -82,7 +102,7 @@ fn check_on(
     let mut groups: u64 = 0;
     'groups: while let Some(step) = first_head(rest) {
         let lines = group(machines, &step, number, world)?;
-        rest = follow_group(quantum, lines.as_slice(), rest, number, &mut page)?;
+        rest = follow_head(quantum, step, lines.as_slice(), rest, number, &mut page)?;
         number += lines.len() as u64;
         groups += 1;
         world.keep(lines);
@@ -103,7 +123,7 @@ fn first_head(text: &[u8]) -> Option<Step>
 }
 
 /// The group of a head that stands in the line of this number, if one is due.
-fn group(machines: u8, step: &Step, number: u64, world: &mut World) -> Result<Vec<Line>, CheckError>
+fn group(machines: u8, step: &Step, number: u64, world: &mut World) -> Result<Vec<Line>, JudgeError>
     requires law { RunsGo }
     requires running { IsRunning world.old }
     requires groups { world.old.groups < 2 ^ 127 }
@@ -117,12 +137,19 @@ fn group(machines: u8, step: &Step, number: u64, world: &mut World) -> Result<Ve
     ensures none { IfErr result (NoGroup world.old.boot (world_state world.old) step.now number) }
 {
     if !can_hold(machines, step) {
-        return Err(refused(number, TraceFault::NotDue));
+        return Err(refuse(number, TraceFault::NotDue, WasDue::Head));
     }
     match step_on(world, step) {
         Ok(lines) => Ok(lines),
-        Err(Stop::NoMemory(no)) => Err(CheckError::NoMemory(no)),
-        Err(Stop::Worn { .. }) => Err(refused(number, TraceFault::NotDue)),
+        Err(Stop::NoMemory(no)) => Err(JudgeError::NoMemory(no)),
+        Err(Stop::Worn { from, to }) => {
+            let worn = WasDue::Worn {
+                from,
+                to,
+                head: *step,
+            };
+            Err(refuse(number, TraceFault::NotDue, worn))
+        }
     }
 }
 
@@ -140,7 +167,7 @@ fn can_hold(machines: u8, step: &Step) -> bool
 }
 
 /// Whether the lines at the end stand behind whole groups, where a text isn't over. No head begins it.
-fn is_ended(world: &World, text: &[u8], number: u64, page: &mut Vec<u8>) -> Result<bool, CheckError>
+fn is_ended(world: &World, text: &[u8], number: u64, page: &mut Vec<u8>) -> Result<bool, JudgeError>
     requires law { RunsGo }
     requires running { IsRunning world.now }
     requires no_head { head_of_line (first_line (pieces 10 text.now)) ≡ None }
@@ -149,21 +176,24 @@ fn is_ended(world: &World, text: &[u8], number: u64, page: &mut Vec<u8>) -> Resu
         IfOk result (λ ended. judged_from k (judge.Head es) number (pieces 10 text.now) ≡ good_verdict (length es) ended) }
     ensures text { IfOk result (λ ended. text.now ≡ text_behind ended (ends_of (length world.now.boot.machines) (world_state world.now))) }
     ensures fits { IfOk result (λ ended. EndsFit ended (ends_of (length world.now.boot.machines) (world_state world.now))) }
-    ensures refused { (k : Course) (es : List TheStep) (gs : List (List TheLine)) → SaysAs world.now.boot k → Went world.now.boot es gs (world_state world.now) →
-        IfErr result (RefusedSo (judged_from k (judge.Head es) number (pieces 10 text.now))) }
+    ensures refused { IfErr result (JudgedThere world.now.boot (world_state world.now) number (pieces 10 text.now)) }
 {
     if text.is_empty() {
         return Ok(false);
     }
     if !begins_end(text) {
-        return Err(refused(number, unless_none(text, TraceFault::NotDue)));
+        return Err(refuse(number, unless_none(text, TraceFault::NotDue), WasDue::Head));
     }
     match end_lines(world) {
         Ok(ends) => match follow_ends(ends.as_slice(), text, number, page) {
             Ok(()) => Ok(true),
-            Err(no) => Err(no),
+            Err(CheckError::Refused { line, fault }) => {
+                let index = (line - number) as usize;
+                Err(refuse(line, fault, due_end(ends, index)))
+            }
+            Err(CheckError::NoMemory(no)) => Err(JudgeError::NoMemory(no)),
         },
-        Err(no) => Err(CheckError::NoMemory(no)),
+        Err(no) => Err(JudgeError::NoMemory(no)),
     }
 }
 

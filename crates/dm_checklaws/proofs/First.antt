@@ -27,7 +27,7 @@ pub last_from : (number n : ℕ) (f : TraceFault) (due : Due) (t : Bool) → (if
 last_from number n f due true is = end_from number n f due is
 last_from number n f due false is = cc
 
-from_here : (c : Course) (due : Due) (number n : ℕ) (f : TraceFault) (p : List ℕ) (ps : List (List ℕ)) → judged c due number p ps ≡ Refused n f → number ≤ n
+pub from_here : (c : Course) (due : Due) (number n : ℕ) (f : TraceFault) (p : List ℕ) (ps : List (List ℕ)) → judged c due number p ps ≡ Refused n f → number ≤ n
 from_here c due number n f p [] is = let e = last_from number n f due (length p == 0) is in omega (arith, e)
 from_here c due number n f p (q ∷ ps) is =
     line_from number n f (has_shape p) (taken c due p) (λ d. judged c d (number + 1) q ps) (λ d e. let k = from_here c d (number + 1) n f q ps e in omega (arith, k)) is

@@ -10,3 +10,4 @@ pub mod First
 pub mod Counts
 pub mod Going
 pub mod Before
+pub mod DueLines

@@ -8,6 +8,11 @@ use Rattle.dm_checklaws.proofs.Fulls.{ends_full}
 use Rattle.dm_checklaws.proofs.Groups.{fresh_group, kept_last}
 use Rattle.dm_checklaws.proofs.KeptNames.{names_always}
 use Rattle.dm_checklaws.proofs.Led.{ends_there, group_there, led_of, worn_there}
+use Rattle.dm_check.specs.Judged.{DueIn, WearsAs}
+use Rattle.dm_check.specs.declared.refusal.WasDue.{WasDue}
+use Rattle.dm_checklaws.proofs.Names.{Option, bind, worn_in}
+use Rattle.dm_checklaws.specs.DueStands.{worn_by_rule}
+unfoldable use Rattle.dm_checklaws.specs.DueStands.{due_by_rule}
 
 joined_same : (gs : List (List Line)) → run.joined gs ≡ joined gs
 joined_same [] = refl
@@ -83,6 +88,19 @@ rule_says b valid = record {
       let h = ran_of b es gs w valid went in
       subst (All IsFull) (sym (ends_there b es h.point (led_of b es (first_point b) h.point h.ran.leads))) (ends_full h.point (names_always b (labels (joined gs)) h.point.kernel h.ran.good.replays));
 }
+
+-- and which pair wears
+rule_wears : (b : Boot) → IsValid b → WearsAs b (worn_by_rule b)
+rule_wears b valid es gs w e from to went d =
+    let h = ran_of b es gs w valid went in
+    let r = wears_there b es gs h.point w e from to valid h.ran d in
+    ap (λ (o : Option Point). bind o (λ (pt : Point). bind (group_of b pt e) (λ (v : Spelled). worn_in b.numbers pt.view v.lines))) (led_of b es (first_point b) h.point h.ran.leads)
+    ∙ ap (λ (o : Option Spelled). bind o (λ (v : Spelled). worn_in b.numbers h.point.view v.lines)) r.due ∙ r.first
+
+-- so what was due by whatever says so was due by the rule
+pub due_is : (b : Boot) (bytes : List ℕ) (line : ℕ) (due : WasDue) → IsValid b → DueIn b bytes line due → due_by_rule b bytes line ≡ Some due
+unfolding due_by_rule
+due_is b bytes line due valid h = h (by_rule b) (worn_by_rule b) (rule_says b valid) (rule_wears b valid)
 
 -- so a verdict by whatever says so is that by the rule
 pub verdict_is : (b : Boot) (bytes : List ℕ) (v : Verdict) → IsValid b → ComesTo b bytes v → verdict b bytes ≡ v

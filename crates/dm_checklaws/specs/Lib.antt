@@ -3,3 +3,4 @@ pub mod Good
 pub mod Laws
 pub mod First
 pub mod Before
+pub mod DueStands

@@ -1,5 +1,6 @@
 //! What the verdict is on what the system prints, whoever asks.
 ghost use Rattle.dm_checklaws.specs.Before.{LinesBeforeArePrinted};
+ghost use Rattle.dm_checklaws.specs.DueStands.{DueLinesStand};
 ghost use Rattle.dm_checklaws.specs.First.{RefusalsAreFirst};
 ghost use Rattle.dm_checklaws.specs.Laws.{BeginningsAreOpen, RunsAreEnded, TracesAreGood};
 
@@ -29,4 +30,9 @@ pub fn refusals_are_first()
 /// ran fewer instructions than it does, the others do.
 pub fn lines_before_are_printed()
     ensures { LinesBeforeArePrinted }
+{}
+
+/// And with the line that was due in its place, no line up to it is refused.
+pub fn due_lines_stand()
+    ensures { DueLinesStand }
 {}

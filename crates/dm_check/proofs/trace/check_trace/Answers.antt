@@ -1,17 +1,5 @@
-use Rattle.dm_check.proofs.Names.{[], sym, subst, world_state, Boot, Went, begins, ComesTo, IfErr, RefusedBy, good_verdict}
-use Rattle.std.specs.Result.{IfOk}
-use Rattle.dm_check.specs.declared.trace.Good.{Good}
-use Rattle.dm_check.proofs.Checks.{checks_begin}
+use Rattle.dm_check.proofs.Straying.{refused_by}
 use Rattle.dm_check.proofs.trace.check_trace.Goals as goal
 
-pub check_on-requires-clause-begun : goal.check_on-requires-clause-begun
-check_on-requires-clause-begun c =
-    let w = c.in-Ok.world in
-    checks_begin w.boot c.args.trace.now (world_state w) (subst (Went w.boot [] []) (sym c.in-Ok.ensures.fresh.first) begins)
-
-pub returns-in-Ok-clause-verdict : goal.returns-in-Ok-clause-verdict
-returns-in-Ok-clause-verdict c =
-    subst (λ (b : Boot). IfOk c.check_on.result (λ (g : Good). ComesTo b c.args.trace.now (good_verdict g.groups g.ended))) c.in-Ok.ensures.boot c.check_on.ensures.verdict
-
-pub returns-in-Ok-clause-refused : goal.returns-in-Ok-clause-refused
-returns-in-Ok-clause-refused c = subst (λ (b : Boot). IfErr c.check_on.result (RefusedBy b c.args.trace.now)) c.in-Ok.ensures.boot c.check_on.ensures.refused
+pub returns-in-Err-Refused-clause-refused : goal.returns-in-Err-Refused-clause-refused
+returns-in-Err-Refused-clause-refused c = refused_by c.args.boot c.args.trace.now _ _ c.in-Err-Refused.field-0-is c.in-Err-Refused.ensures.refused

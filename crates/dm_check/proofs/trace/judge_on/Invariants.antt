@@ -1,5 +1,5 @@
 use Rattle.dm_check.proofs.Names.{◌≡◌, ◌≤◌, ◌+◌, length, world_state, IsRunning, HasChecked}
-use Rattle.dm_check.proofs.trace.check_on.Given as goal
+use Rattle.dm_check.proofs.trace.judge_on.Given as goal
 
 abbrev pub invariant-groups : goal.invariant-groups
 invariant-groups l = record {

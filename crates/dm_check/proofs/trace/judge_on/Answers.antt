@@ -1,9 +1,9 @@
-use Rattle.dm_check.proofs.Names.{◌≡◌, ◌<◌, ◌≤◌, ◌+◌, ◌∙◌, ℕ, List, length, ap, sym, subst, arith, true, Boot, Line, pieces, world_state, HasChecked, NoGroup, RefusedBy, first_line, head_of_line, can_hold, good_verdict, World, Vec, Global, IsRunning}
+use Rattle.dm_check.proofs.Names.{◌≡◌, ◌<◌, ◌≤◌, ◌+◌, ◌∙◌, ℕ, List, length, ap, sym, subst, arith, true, Boot, Line, pieces, world_state, HasChecked, NoGroup, JudgedBy, first_line, head_of_line, can_hold, good_verdict, World, Vec, Global, IsRunning}
 use Rattle.std.specs.declared.option.Option.TheVariants.{Some}
 use Rattle.dm_check.proofs.Checks.{checks_good, checks_less, checks_more, checks_refused, checks_stop, some_lines}
 use Rattle.dm_check.proofs.Following.{shorter_lines}
 use Rattle.dm_check.proofs.Judging.{if_err}
-use Rattle.dm_check.proofs.trace.check_on.Goals as goal
+use Rattle.dm_check.proofs.trace.judge_on.Goals as goal
 
 -- the memory of the lines is no part of what a world stands for
 still : (w : World) (lines : Vec Line Global) → IsRunning w → IsRunning (record w { lines = lines })
@@ -14,7 +14,7 @@ returns-in_err-lines-clause-refused c =
     let b = c.args.world.now.boot in
     let w = world_state c.groups.world in
     let head : head_of_line (first_line (pieces 10 c.groups.rest.now)) ≡ Some c.in-Some.step = sym c.first_head.ensures ∙ c.in-Some.is in
-    if_err c.from_residual.result c.in_err-lines.field-0.0 (RefusedBy c.args.world.now.boot c.args.trace.now) c.from_residual.ensures
+    if_err c.from_residual.result c.in_err-lines.field-0.0 (JudgedBy c.args.world.now.boot c.args.trace.now) c.from_residual.ensures
     (checks_stop b c.args.trace.now c.groups.rest.now c.groups.number c.groups.groups w c.in-Some.step c.in_err-lines.field-0.0 c.groups.invariant.checked head
     (subst (λ (d : Boot). NoGroup d w c.in-Some.step c.groups.number c.in_err-lines.field-0.0) c.groups.invariant.boot c.in_err-lines.ensures.none))
 
@@ -24,9 +24,9 @@ returns-in_err-rest-clause-refused c =
     let head : head_of_line (first_line (pieces 10 c.groups.rest.now)) ≡ Some c.in-Some.step = sym c.first_head.ensures ∙ c.in-Some.is in
     let machines : length c.groups.world.boot.machines ≡ c.args.machines = ap (λ (d : Boot). length d.machines) c.groups.invariant.boot ∙ c.requires.machines in
     let held : can_hold (length c.groups.world.boot.machines) c.in-Some.step ≡ true = ap (λ (n : ℕ). can_hold n c.in-Some.step) machines ∙ c.in_ok-lines.ensures.held in
-    if_err c.from_residual-in_err-rest.result c.in_err-rest.field-0.0 (RefusedBy c.args.world.now.boot c.args.trace.now) c.from_residual-in_err-rest.ensures
+    if_err c.from_residual-in_err-rest.result c.in_err-rest.field-0.0 (JudgedBy c.args.world.now.boot c.args.trace.now) c.from_residual-in_err-rest.ensures
     (checks_less b c.groups.world.boot c.args.quantum c.args.trace.now c.groups.rest.now c.groups.number c.groups.groups (world_state c.groups.world) (world_state c.group.new.world) c.in-Some.step c.in_ok-lines.lines.items c.as_slice.result.now c.in_err-rest.field-0.0
-    c.groups.invariant.boot c.requires.quantum c.as_slice.ensures.value c.groups.invariant.checked head held c.in_ok-lines.ensures.does c.in_err-rest.ensures.refused)
+    c.groups.invariant.boot c.requires.quantum c.as_slice.ensures.value c.groups.invariant.checked head held c.in_ok-lines.ensures.does c.in_ok-lines.ensures.fits c.in_err-rest.ensures.stray)
 
 pub groups-smaller : goal.groups-smaller
 groups-smaller c =
@@ -64,7 +64,7 @@ groups-preserved c =
 
 pub returns-in_err-ended-clause-refused : goal.returns-in_err-ended-clause-refused
 returns-in_err-ended-clause-refused c =
-    if_err c.from_residual-in_err-ended.result c.in_err-ended.field-0.0 (RefusedBy c.args.world.now.boot c.args.trace.now) c.from_residual-in_err-ended.ensures
+    if_err c.from_residual-in_err-ended.result c.in_err-ended.field-0.0 (JudgedBy c.args.world.now.boot c.args.trace.now) c.from_residual-in_err-ended.ensures
     (checks_refused c.args.world.now.boot c.groups.world.boot c.args.trace.now c.groups.rest.now c.groups.number c.groups.groups (world_state c.groups.world) c.in_err-ended.field-0.0 c.groups.invariant.boot c.groups.invariant.checked
     c.in_err-ended.ensures.refused)
 
