@@ -1,24 +1,25 @@
 -- Directives, one more at a time.
-use Rattle.dm_draw.proofs.Names.{◌≡◌, ℕ, suc, ◌+◌, [], ◌∷◌, ◌++◌, refl, ap, ◌∙◌, arith, directive_drawn, directives_drawn, state_behind}
+use Rattle.dm_draw.proofs.Names.{◌≡◌, ℕ, suc, ◌+◌, [], ◌∷◌, ◌++◌, refl, ap, ◌∙◌, arith, Drawn, directives_by, state_behind}
 
-pub drawn_none : (machines x : ℕ) → directives_drawn machines x 0 ≡ []
-unfolding directives_drawn
-drawn_none machines x = refl
+module _ (draw : ℕ → Drawn) (x : ℕ) where
+  pub drawn_none : directives_by draw x 0 ≡ []
+  unfolding directives_by
+  drawn_none = refl
 
-pub state_none : (machines x : ℕ) → state_behind machines x 0 ≡ x
-unfolding state_behind
-state_none machines x = refl
+  pub state_none : state_behind draw x 0 ≡ x
+  unfolding state_behind
+  state_none = refl
 
-pub drawn_next : (machines x n : ℕ) → directives_drawn machines x (suc n) ≡ directives_drawn machines x n ++ (directive_drawn machines (state_behind machines x n)).directive ∷ []
-unfolding directives_drawn
-drawn_next machines x n = refl
+  pub drawn_next : (n : ℕ) → directives_by draw x (suc n) ≡ directives_by draw x n ++ (draw (state_behind draw x n)).directive ∷ []
+  unfolding directives_by
+  drawn_next n = refl
 
-state_next : (machines x n : ℕ) → state_behind machines x (suc n) ≡ (directive_drawn machines (state_behind machines x n)).state
-unfolding state_behind
-state_next machines x n = refl
+  state_next : (n : ℕ) → state_behind draw x (suc n) ≡ (draw (state_behind draw x n)).state
+  unfolding state_behind
+  state_next n = refl
 
-pub drawn_more : (machines x n : ℕ) → directives_drawn machines x (n + 1) ≡ directives_drawn machines x n ++ (directive_drawn machines (state_behind machines x n)).directive ∷ []
-drawn_more machines x n = ap (directives_drawn machines x) (omega arith) ∙ drawn_next machines x n
+  pub drawn_more : (n : ℕ) → directives_by draw x (n + 1) ≡ directives_by draw x n ++ (draw (state_behind draw x n)).directive ∷ []
+  drawn_more n = ap (directives_by draw x) (omega arith) ∙ drawn_next n
 
-pub state_more : (machines x n : ℕ) → state_behind machines x (n + 1) ≡ (directive_drawn machines (state_behind machines x n)).state
-state_more machines x n = ap (state_behind machines x) (omega arith) ∙ state_next machines x n
+  pub state_more : (n : ℕ) → state_behind draw x (n + 1) ≡ (draw (state_behind draw x n)).state
+  state_more n = ap (state_behind draw x) (omega arith) ∙ state_next n

@@ -9,8 +9,14 @@ pub use Rattle.dm_schedule.proofs.Names.{if◌then◌else◌, nat_lt}
 pub use Rattle.dm_schedule.specs.declared.Directive.{Directive}
 pub use Rattle.dm_draw.specs.Boot.{first_processes, small_machine, small_machines}
 unfoldable pub use Rattle.dm_draw.specs.Boot.{boot_of_machines}
-pub use Rattle.dm_draw.specs.Directives.{Drawn, IsDrawn, deliver_drawn, migrate_drawn, round_drawn, tick_drawn, turn_drawn}
-unfoldable pub use Rattle.dm_draw.specs.Directives.{directive_drawn, directives_drawn, state_behind}
+pub use Rattle.dm_draw.specs.Directives.{Drawn, IsDrawn, deliver_drawn, directives_drawn, migrate_drawn, round_drawn, tick_drawn, turn_drawn}
+unfoldable pub use Rattle.dm_draw.specs.Directives.{directive_drawn, directives_by, state_behind}
 unfoldable pub use Rattle.dm_draw.specs.Draw.{drawn, stepped}
 pub use Rattle.dm_onekernel.specs.Boot.{IsValid, images_are_valid, machines_are_valid, processes_are_valid}
 pub use Rattle.dm_onekernel.specs.declared.boot.Boot.{Boot}
+pub use Rattle.dm_onekernel.specs.declared.boot.BootProcess.{BootProcess}
+pub use Rattle.dm_link.specs.declared.Pid.{Pid}
+pub use Rattle.std.specs.declared.option.Option.{Option}
+pub use Rattle.std.specs.declared.option.Option.TheVariants.{None, Some}
+pub use Rattle.dm_draw.specs.Own.{arrival_drawn, behind_process, calloff_drawn, move_drawn, own_directives_drawn, process_drawn}
+unfoldable pub use Rattle.dm_draw.specs.Own.{own_drawn}

@@ -1,7 +1,9 @@
 -- What is drawn for so many machines is for machines that are there.
 use Rattle.dm_draw.proofs.Names.{◌≡◌, ◌≢◌, ◌⊎◌, inl, inr, ℕ, zero, suc, ◌+◌, ◌-◌, ◌*◌, ◌/◌, ◌%◌, ◌^◌, ◌<◌, ◌≤◌, ◌==◌, nat_lt, Bool, true, false, if◌then◌else◌, List, [], ◌∷◌, ◌++◌, length, length-append, refl, ap, ◌∙◌, sym, subst, arith}
-use Rattle.dm_draw.proofs.Names.{All, All-nil, All-cons, All-append, mod_below, mod-mul-add, Directive, boot_of_machines, small_machines, small_machine, Drawn, IsDrawn, deliver_drawn, directive_drawn, directives_drawn, migrate_drawn}
+use Rattle.dm_draw.proofs.Names.{All, All-nil, All-cons, All-append, mod_below, mod-mul-add, Directive, boot_of_machines, small_machines, small_machine, Drawn, IsDrawn, deliver_drawn, directive_drawn, directives_by, migrate_drawn, nat_tests, Option, None, Some, Pid, BootProcess, arrival_drawn, behind_process, calloff_drawn, move_drawn, own_drawn, process_drawn}
 use Rattle.dm_draw.proofs.Names.{round_drawn, state_behind, tick_drawn, turn_drawn, drawn, stepped}
+use Rattle.dm_schedule.specs.declared.Step.TheVariants as step
+use Rattle.dm_schedule.specs.declared.Directive.TheVariants as directive
 use Rattle.dm_draw.proofs.Drawing.{drawn_next, drawn_none}
 
 pub drawn_below : (n x : ℕ) → 0 < n → drawn n x < n
@@ -53,19 +55,60 @@ directive_fits n x least = go (nat_lt (drawn 8 x) 3) (drawn 8 x == 3) (drawn 8 x
     go false false false true = delivers n (stepped x) least
     go false false false false = tt
 
-pub directives_fit : (n x k : ℕ) → 2 ≤ n → All (IsDrawn n) (directives_drawn n x k)
-directives_fit n x zero least = subst (All (IsDrawn n)) (sym (drawn_none n x)) (All-nil (IsDrawn n))
-directives_fit n x (suc k) least =
-    let d : Directive = (directive_drawn n (state_behind n x k)).directive in
-    subst (All (IsDrawn n)) (sym (drawn_next n x k)) (All-append (IsDrawn n) (directives_drawn n x k) (d ∷ []) (directives_fit n x k least) (All-cons (IsDrawn n) d [] (directive_fits n (state_behind n x k) least) (All-nil (IsDrawn n))))
+-- a machine that is alone takes a turn
+arrives : (n x : ℕ) (b : Bool) → (n == 1) ≡ b → 1 ≤ n → IsDrawn n (if b then record { directive = directive.One (step.Turn 0); state = x } else deliver_drawn n x).directive
+arrives n x true e least = omega (arith, least)
+arrives n x false e least = delivers n x (more n e least)
+  where
+    more : (n : ℕ) → (n == 1) ≡ false → 1 ≤ n → 2 ≤ n
+    more n e least = grind (arith, nat_tests)
 
-pub directives_count : (n x k : ℕ) → length (directives_drawn n x k) ≡ k
-directives_count n x zero = ap (λ (ds : List Directive). length ds) (drawn_none n x)
-directives_count n x (suc k) =
-    let d : Directive = (directive_drawn n (state_behind n x k)).directive in
-    let e : length (directives_drawn n x (suc k)) ≡ length (directives_drawn n x k ++ d ∷ []) = ap (λ (ds : List Directive). length ds) (drawn_next n x k) in
-    let f = length-append (directives_drawn n x k) (d ∷ []) in
-    let g = directives_count n x k in
+moves : (n : ℕ) (p : Option Pid) (x : ℕ) → 0 < n → IsDrawn n (move_drawn n p x).directive
+moves n None x some = drawn_below n x some
+moves n (Some p) x some = drawn_below n x some
+
+calls : (n : ℕ) (p : Option Pid) (x : ℕ) → 0 < n → IsDrawn n (calloff_drawn n p x).directive
+calls n None x some = drawn_below n x some
+calls n (Some p) x some = drawn_below n x some
+
+pub own_fits : (n : ℕ) (ps : List BootProcess) (x : ℕ) → 1 ≤ n → IsDrawn n (own_drawn n ps x).directive
+unfolding own_drawn
+own_fits n ps x least = go (nat_lt (drawn 9 x) 3) (drawn 9 x == 3) (drawn 9 x == 4) (drawn 9 x == 5) (drawn 9 x == 8)
+  where
+    some : 0 < n
+    some = omega (arith, least)
+
+    y : ℕ
+    y = stepped x
+
+    p : Option Pid
+    p = process_drawn ps y
+
+    z : ℕ
+    z = behind_process p y
+
+    go : (a b c d e : Bool) → IsDrawn n (if a then turn_drawn n y else if b then tick_drawn n y else if c then move_drawn n p z else if d then arrival_drawn n y else if e then calloff_drawn n p z else round_drawn y).directive
+    go true b c d e = drawn_below n y some
+    go false true c d e = drawn_below n y some
+    go false false true d e = moves n p z some
+    go false false false true e = arrives n y (n == 1) refl least
+    go false false false false true = calls n p z some
+    go false false false false false = tt
+
+-- so each of those that are drawn is
+pub directives_fit : (n : ℕ) (draw : ℕ → Drawn) (x k : ℕ) → ((s : ℕ) → IsDrawn n (draw s).directive) → All (IsDrawn n) (directives_by draw x k)
+directives_fit n draw x zero each = subst (All (IsDrawn n)) (sym (drawn_none draw x)) (All-nil (IsDrawn n))
+directives_fit n draw x (suc k) each =
+    let d : Directive = (draw (state_behind draw x k)).directive in
+    subst (All (IsDrawn n)) (sym (drawn_next draw x k)) (All-append (IsDrawn n) (directives_by draw x k) (d ∷ []) (directives_fit n draw x k each) (All-cons (IsDrawn n) d [] (each (state_behind draw x k)) (All-nil (IsDrawn n))))
+
+pub directives_count : (draw : ℕ → Drawn) (x k : ℕ) → length (directives_by draw x k) ≡ k
+directives_count draw x zero = ap (λ (ds : List Directive). length ds) (drawn_none draw x)
+directives_count draw x (suc k) =
+    let d : Directive = (draw (state_behind draw x k)).directive in
+    let e : length (directives_by draw x (suc k)) ≡ length (directives_by draw x k ++ d ∷ []) = ap (λ (ds : List Directive). length ds) (drawn_next draw x k) in
+    let f = length-append (directives_by draw x k) (d ∷ []) in
+    let g = directives_count draw x k in
     omega (arith, e, f, g)
 
 machines_count : (n : ℕ) → length (small_machines n) ≡ n

@@ -48,15 +48,19 @@ of_eight machines d x =
 unfoldable pub directive_drawn : ℕ → ℕ → Drawn
 directive_drawn machines x = of_eight machines (drawn 8 x) (stepped x)
 
--- the state of the generator behind so many directives
-unfoldable pub state_behind : ℕ → ℕ → ℕ → ℕ
-state_behind machines x zero = x
-state_behind machines x (suc n) = (directive_drawn machines (state_behind machines x n)).state
+-- the state of the generator behind so many directives, where each is drawn so
+unfoldable pub state_behind : (ℕ → Drawn) → ℕ → ℕ → ℕ
+state_behind draw x zero = x
+state_behind draw x (suc n) = (draw (state_behind draw x n)).state
 
--- so many directives
-unfoldable pub directives_drawn : ℕ → ℕ → ℕ → List Directive
-directives_drawn machines x zero = []
-directives_drawn machines x (suc n) = directives_drawn machines x n ++ (directive_drawn machines (state_behind machines x n)).directive ∷ []
+-- so many directives, where each is drawn so
+unfoldable pub directives_by : (ℕ → Drawn) → ℕ → ℕ → List Directive
+directives_by draw x zero = []
+directives_by draw x (suc n) = directives_by draw x n ++ (draw (state_behind draw x n)).directive ∷ []
+
+-- so many directives of a drill whose system is drawn too
+abbrev pub directives_drawn : ℕ → ℕ → ℕ → List Directive
+directives_drawn machines x n = directives_by (directive_drawn machines) x n
 
 -- a directive for so many machines, an elementary one or a round
 abbrev pub IsDrawn : ℕ → Directive → Type 0

@@ -1,3 +1,4 @@
 pub mod Draw
 pub mod Boot
 pub mod Directives
+pub mod Own

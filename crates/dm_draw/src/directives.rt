@@ -52,8 +52,8 @@ fn draw_directive(machines: u8, generator: &mut Generator) -> Directive
 }
 
 /// A machine's turn.
-fn draw_turn(machines: u8, generator: &mut Generator) -> Directive
-    requires { (2 ≤ machines) × (machines ≤ MACHINES) }
+pub(crate) fn draw_turn(machines: u8, generator: &mut Generator) -> Directive
+    requires { 0 < machines }
     ensures directive { result ≡ (turn_drawn machines generator.old.state).directive }
     ensures state { generator.new.state ≡ (turn_drawn machines generator.old.state).state }
 {
@@ -61,8 +61,8 @@ fn draw_turn(machines: u8, generator: &mut Generator) -> Directive
 }
 
 /// A machine's tick.
-fn draw_tick(machines: u8, generator: &mut Generator) -> Directive
-    requires { (2 ≤ machines) × (machines ≤ MACHINES) }
+pub(crate) fn draw_tick(machines: u8, generator: &mut Generator) -> Directive
+    requires { 0 < machines }
     ensures directive { result ≡ (tick_drawn machines generator.old.state).directive }
     ensures state { generator.new.state ≡ (tick_drawn machines generator.old.state).state }
 {
@@ -85,7 +85,7 @@ fn draw_migrate(machines: u8, generator: &mut Generator) -> Directive
 }
 
 /// The arrival of a packet, if there is one with its number.
-fn draw_deliver(machines: u8, generator: &mut Generator) -> Directive
+pub(crate) fn draw_deliver(machines: u8, generator: &mut Generator) -> Directive
     requires { (2 ≤ machines) × (machines ≤ MACHINES) }
     ensures directive { result ≡ (deliver_drawn machines generator.old.state).directive }
     ensures state { generator.new.state ≡ (deliver_drawn machines generator.old.state).state }

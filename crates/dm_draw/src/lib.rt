@@ -5,3 +5,4 @@ pub mod boot;
 pub mod directives;
 pub mod draw;
 pub mod drill;
+pub mod own;

@@ -19,3 +19,5 @@ pub use Rattle.dm_drill.specs.Reported.{told}
 pub use Rattle.dm_drill.specs.Totals.{Totals}
 pub use Rattle.dm_drill.specs.declared.counts.Counted.{Counted}
 pub use Rattle.dm_drill.specs.declared.report.Report.{Report}
+pub use Rattle.dm_drill.specs.Schedules.{directive_text}
+unfoldable pub use Rattle.dm_drill.specs.Schedules.{schedule_text}

@@ -4,3 +4,4 @@ pub mod Counts
 pub mod Summary
 pub mod Reported
 pub mod Drilled
+pub mod Schedules

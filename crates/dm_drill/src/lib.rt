@@ -5,5 +5,6 @@ pub mod counts;
 pub mod drill;
 pub mod kinds;
 pub mod report;
+pub mod schedule;
 pub mod summary;
 pub mod tally;
